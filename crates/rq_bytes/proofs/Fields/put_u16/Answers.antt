@@ -1,0 +1,6 @@
+use Rattle.std.proofs.Common.{rules}
+use Rattle.rq_bytes.proofs.Placed.{put_number}
+use Rattle.rq_bytes.proofs.Fields.put_u16.Goals as goal
+
+pub returns-then-fits-clause-written : goal.returns-then-fits-clause-written
+returns-then-fits-clause-written c = search (rules, put_number 2 c.args.at c.args.n c.args.out.now c.write_u16.new.buf c.write_u16.ensures)

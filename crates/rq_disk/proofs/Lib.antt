@@ -1,0 +1,5 @@
+pub mod KeptCalls
+pub mod KeptLog
+pub mod KeptPages
+pub mod Records
+pub mod Replays

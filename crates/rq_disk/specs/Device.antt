@@ -1,0 +1,42 @@
+-- What the calls of the two devices do, and what a crash may leave.
+use Rattle.std.specs.Prelude.{◌≡◌, ◌⊎◌, ℕ, ◌+◌, ◌≤◌, ◌%◌, ◌^◌, ◌++◌, List, Result, OnOk, OnErr, if◌then◌else◌, ◌==◌}
+use Rattle.rq_disk.specs.Records.{front}
+
+-- a store of pages: the image of each
+abbrev pub Images : Type 0
+Images = ℕ → List ℕ
+
+-- what a crash leaves of all pages, where each page by itself has one of its images
+abbrev pub Leaves : (ℕ → List ℕ → Type 0) → Images → Type 0
+Leaves may_be images = (page : ℕ) → may_be page (images page)
+
+-- new is old with this image at this page
+abbrev pub Holds : Images → ℕ → List ℕ → Images → Type 0
+Holds old page image new = (p : ℕ) → new p ≡ (if p == page then image else old p)
+
+-- each image that a page may have is one that it might have had, or the one written
+abbrev pub Written : ℕ → List ℕ → (ℕ → List ℕ → Type 0) → (ℕ → List ℕ → Type 0) → Type 0
+Written page image old new = (p : ℕ) (c : List ℕ) → new p c → old p c ⊎ ((p ≡ page) × (c ≡ image))
+
+-- each image that a page may have is one that it might have had
+abbrev pub NoMore : (ℕ → List ℕ → Type 0) → (ℕ → List ℕ → Type 0) → Type 0
+NoMore old new = (p : ℕ) (c : List ℕ) → new p c → old p c
+
+-- a log that may be left is one that might have been, or all that was there and the first of the new records
+abbrev pub Appended : List ℕ → List ℕ → (List ℕ → Type 0) → (List ℕ → Type 0) → Type 0
+Appended seen bytes old new = (c : List ℕ) → new c → old c ⊎ ((k : ℕ) × (c ≡ seen ++ front k bytes))
+
+-- nothing else may be left
+abbrev pub Only : List ℕ → (List ℕ → Type 0) → Type 0
+Only bytes may_leave = (c : List ℕ) → may_leave c → c ≡ bytes
+
+-- Time goes on: a crash since t may have left what it might have left before, or what it may leave now.
+pub record Elapses {C : Type 0} (before now : ℕ) (past since : ℕ → C → Type 0) (may_leave : C → Type 0) : Type 0 where
+  pub later : before ≤ now
+  pub nothing_else : (t : ℕ) (c : C) → t ≤ before → since t c → past t c ⊎ may_leave c
+  pub keeps : (t : ℕ) (c : C) → t ≤ before → past t c → since t c
+
+-- an error counts one failure, and nothing else does
+pub record HasCause {T E : Type 0} (before now : ℕ) (result : Result T E) : Type 0 where
+  pub ok : OnOk result (now ≡ before)
+  pub err : OnErr result (now ≡ (before + 1) % 2 ^ 64)

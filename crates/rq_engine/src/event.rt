@@ -1,0 +1,138 @@
+//! What is asked of the engine, and what it answers.
+ghost use Rattle.std.specs.Prelude.{◌≡◌};
+
+use rq_model::message::Message;
+use rq_model::refusal::Refusal;
+use rq_model::txn::{Lsn, Sub, Txn};
+
+/// The number of a commit: its transaction, and the LSN of its Commit record. Only `commit` makes one.
+#[derive(Clone, Copy, Debug, PartialEq, Eq)]
+pub struct CommitNo {
+    txn: Txn,
+    lsn: Lsn,
+}
+
+impl CommitNo {
+    pub(crate) fn new(txn: Txn, lsn: Lsn) -> Self
+        ensures txn { result.txn ≡ txn }
+        ensures lsn { result.lsn ≡ lsn }
+    {
+        CommitNo { txn, lsn }
+    }
+
+    /// The transaction that was committed.
+    pub fn txn(&self) -> Txn
+        ensures { result ≡ self.now.txn }
+    {
+        self.txn
+    }
+
+    /// The LSN of its Commit record.
+    pub fn lsn(&self) -> Lsn
+        ensures { result ≡ self.now.lsn }
+    {
+        self.lsn
+    }
+}
+
+/// That a commit is durable. Only `acknowledged` makes one.
+#[derive(Clone, Copy, Debug, PartialEq, Eq)]
+pub struct Receipt {
+    number: CommitNo,
+}
+
+impl Receipt {
+    pub(crate) fn new(number: CommitNo) -> Self
+        ensures { result.number ≡ number }
+    {
+        Receipt { number }
+    }
+
+    /// The commit that is durable.
+    pub fn number(&self) -> CommitNo
+        ensures { result ≡ self.now.number }
+    {
+        self.number
+    }
+}
+
+/// What a step of an operation did.
+#[derive(Clone, Copy, Debug, PartialEq, Eq)]
+pub enum Progress {
+    /// One slot was written; its record has this LSN.
+    Done(Lsn),
+    /// All slots are written: the operation may be finished.
+    Ready,
+}
+
+/// What a finished operation did.
+#[derive(Clone, Copy, Debug, PartialEq, Eq)]
+pub enum Outcome {
+    /// A message was sent.
+    Sent,
+    /// This message was received.
+    Message(Message),
+    /// A group was closed.
+    Closed,
+    /// An earlier operation was undone.
+    Undone,
+}
+
+/// The committed content of a sender's group.
+#[derive(Clone, Debug, Drop)]
+pub struct GroupContent {
+    /// How many messages committed transactions sent.
+    pub sent: u64,
+    /// The tag of the last of them, 0 where there is none.
+    pub last_tag: u64,
+    /// How many messages committed transactions received.
+    pub received: u64,
+    /// Whether a committed transaction closed the group.
+    pub closed: bool,
+    /// What was sent and not received, in order.
+    pub rest: Vec<Message>,
+}
+
+/// One call of the engine.
+#[derive(Clone, Debug, Drop)]
+pub enum Event {
+    Begin,
+    StartSend {
+        txn: Txn,
+        sender: u32,
+        tag: u64,
+        body: Vec<u8>,
+    },
+    Step(Sub),
+    Finish(Sub),
+    Commit(Txn),
+    Acknowledged(CommitNo),
+    HandOver,
+    Force,
+    Content,
+}
+
+/// The answer to an event.
+#[derive(Clone, Debug, Drop)]
+pub enum Reply {
+    /// The transaction that was begun.
+    Begun(Txn),
+    /// The operation that was started.
+    Started(Sub),
+    /// What a step did.
+    Stepped(Progress),
+    /// What the finished operation did.
+    Finished(Outcome),
+    /// The number of the commit.
+    Committed(CommitNo),
+    /// The receipt, where the commit is durable.
+    Acknowledged(Option<Receipt>),
+    /// The buffered records were handed over.
+    HandedOver,
+    /// Every record up to this LSN is forced.
+    Forced(Lsn),
+    /// The committed content, by sender.
+    Content(Vec<GroupContent>),
+    /// The call was refused.
+    Refused(Refusal),
+}

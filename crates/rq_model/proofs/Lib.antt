@@ -1,0 +1,13 @@
+pub mod Lists
+pub mod Keeps
+pub mod Each
+pub mod Same
+pub mod Ends
+pub mod Clears
+pub mod Commits
+pub mod Shown
+pub mod Told
+pub mod Rules
+pub mod Histories
+pub mod LogRows
+pub mod Within

@@ -1,0 +1,256 @@
+-- Which entry may come next.
+use Rattle.std.specs.Prelude.{◌≡◌, ℕ, zero, suc, ◌+◌, ◌-◌, ◌^◌, ◌<◌, ◌≤◌, Bool, true, false, cond, List, [], ◌∷◌, ◌++◌, Option, Some, None, nat_eq, nat_lt, ◌&&◌, ◌||◌, length, map, not, IsTrue, slice_get}
+use Rattle.std.specs.List.{filter, sum_by}
+use Rattle.rq_model.specs.declared.txn.Txn.{Txn}
+use Rattle.rq_model.specs.declared.refusal.Refusal.{Refusal}
+use Rattle.rq_model.specs.declared.refusal.Refusal.TheVariants.{NoMemory, Failed, DiskRead, UnknownTransaction, NotOpen, Unfinished, UnknownSender, TooLong, SenderBusy, Closed, ReceiverBusy, Full, Latched, PoolFull, DiskWrite, Damaged, TooManyTransactions, NotForced, LogFull, UnknownOperation}
+use Rattle.rq_model.specs.Words.{Op, same_txn, has_number, first, last, is_some}
+use Rattle.rq_model.specs.Words.Op.{Send, Take, End}
+use Rattle.rq_model.specs.History.{Job, Entry, Call}
+use Rattle.rq_model.specs.History.Call.{Begin, Start_send, Start_receive, Start_receive_from, Start_close, Step, Finish, Commit, Acknowledge, Start_abort, Undo_next, End_abort, Hand_over, Force, Write_page, Last_tag, Show}
+use Rattle.rq_model.specs.History.Job.{Sending, Taking, Ending, Undoing}
+use Rattle.rq_model.specs.History.Entry.{Begun, Started, None_free, None_from, Stepped, Ready, Did, Undid, Committed, Acknowledged, Aborting, None_left, Aborted, Handed_over, Forced, Wrote, Told, Shown, Refused, Crash, Restarted}
+use Rattle.rq_model.specs.Ledger.{Open, Done, Ledger, ledger, group_in, sent_in, rest_in, ended_in, any_ends, found, tag_of, own_takes}
+
+-- the numbers of a store that stay
+pub record Size : Type 0 where
+  pub senders : ℕ
+  pub cells : ℕ
+
+-- below n: 0, 1, .. in order
+abbrev pub below : ℕ → List ℕ
+below zero = []
+below (suc n) = below n ++ n ∷ []
+
+-- how many messages are committed and not taken, over these senders
+abbrev pub count_rest : List ℕ → List Done → ℕ
+count_rest [] c = 0
+count_rest (s ∷ ss) c = length (rest_in c s) + count_rest ss c
+
+abbrev pub is_sent : Op → Bool
+is_sent (Send m) = true
+is_sent _ = false
+
+abbrev pub is_sending : Option Job → Bool
+is_sending (Some (Sending m)) = true
+is_sending _ = false
+
+-- the cells of a transaction's sends: those finished and not undone, and one under way
+abbrev pub pending : Open → ℕ
+pending o = length (filter is_sent o.ops) + cond (is_sending o.under) 1 0
+
+-- held, taken and appending: a message taken keeps its cell until its taker commits
+abbrev pub cells_in_use : Size → Ledger → ℕ
+cells_in_use z l = count_rest (below z.senders) l.committed + sum_by pending l.open_ones
+
+-- no transaction but t holds the end
+abbrev pub free_of : (Open → List ℕ) → Txn → ℕ → List Open → Bool
+free_of held t s [] = true
+free_of held t s (o ∷ os) = (same_txn o.txn t || not (has_number s (held o))) && free_of held t s os
+
+abbrev pub free_to_send : Txn → ℕ → List Open → Bool
+free_to_send t s os = free_of (λ o. o.sending) t s os
+
+abbrev pub free_to_receive : Txn → ℕ → List Open → Bool
+free_to_receive t s os = free_of (λ o. o.receiving) t s os
+
+abbrev pub holds_for : Ledger → Open → ℕ → Bool
+holds_for l o s = nat_lt (length (own_takes s o)) (length (rest_in l.committed s))
+
+abbrev pub is_aborting : Option Open → Bool
+is_aborting None = false
+is_aborting (Some o) = o.aborting
+
+abbrev pub is_busy : Option Open → Bool
+is_busy None = false
+is_busy (Some o) = is_some o.under
+
+abbrev pub has_done : Option Open → Bool
+has_done None = false
+has_done (Some o) = is_some (first o.ops)
+
+abbrev pub has_closed : ℕ → Option Open → Bool
+has_closed s None = false
+has_closed s (Some o) = any_ends s o.ops
+
+-- what t did last and has not undone
+abbrev pub newest : Option Open → Option Op
+newest None = None
+newest (Some o) = last o.ops
+
+-- the records that the operation under way has yet to log
+abbrev pub owed : Open → ℕ
+owed o = cond (is_some o.under) (o.left + 1) 0
+
+-- n more records, with those that operations under way have yet to log, would pass the greatest log
+abbrev pub log_full : Ledger → ℕ → Bool
+log_full l n = nat_lt (2 ^ 50) (l.records + sum_by owed l.open_ones + n)
+
+-- what the inverse of an operation is counted as where it starts
+abbrev pub undo_cost : Option Op → ℕ
+undo_cost None = 0
+undo_cost (Some (Send m)) = 4
+undo_cost (Some (Take m)) = 4
+undo_cost (Some (End s)) = 2
+
+-- s is free for t, and holds a message for it
+abbrev pub gives : Ledger → Txn → Option Open → ℕ → Bool
+gives l t None s = false
+gives l t (Some o) s = free_to_receive t s l.open_ones && holds_for l o s
+
+abbrev pub any_gives : List ℕ → Ledger → Txn → Option Open → Bool
+any_gives [] l t o = false
+any_gives (s ∷ ss) l t o = gives l t o s || any_gives ss l t o
+
+abbrev pub steps_left : Option Open → Bool
+steps_left None = false
+steps_left (Some o) = nat_lt 0 o.left
+
+abbrev pub has_under : ℕ → Option Open → Bool
+has_under n None = false
+has_under n (Some o) = is_some o.under && nat_eq o.number n
+
+abbrev pub any_busy : List Open → Bool
+any_busy [] = false
+any_busy (o ∷ os) = is_some o.under || any_busy os
+
+-- the first refusal whose test is true
+abbrev pub first_of : List (Bool × Refusal) → Option Refusal
+first_of [] = None
+first_of (c ∷ cs) = cond c.0 (Some c.1) (first_of cs)
+
+-- the tests of each call, in order
+abbrev pub tests : Size → Ledger → Call → List (Bool × Refusal)
+tests z l Begin = (not l.running, Failed) ∷ (not (nat_lt (length l.open_ones) 4096) || nat_eq l.begins (2 ^ 64 - 1), TooManyTransactions) ∷ []
+tests z l (Start_send t m) =
+    let o = found t l.open_ones in
+    (not l.running, Failed) ∷ (not (is_some o), UnknownTransaction) ∷ (is_aborting o, NotOpen) ∷ (is_busy o, Unfinished)
+    ∷ (not (nat_lt m.sender z.senders), UnknownSender) ∷ (nat_lt 216 (length m.body), TooLong)
+    ∷ (not (free_to_send t m.sender l.open_ones), SenderBusy) ∷ (ended_in l.committed m.sender || has_closed m.sender o, Closed)
+    ∷ (nat_eq (cells_in_use z l) z.cells, Full) ∷ (log_full l 4, LogFull) ∷ []
+tests z l (Start_receive t) =
+    let o = found t l.open_ones in
+    (not l.running, Failed) ∷ (not (is_some o), UnknownTransaction) ∷ (is_aborting o, NotOpen) ∷ (is_busy o, Unfinished)
+    ∷ (any_gives (below z.senders) l t o && log_full l 4, LogFull) ∷ []
+tests z l (Start_receive_from t s) =
+    let o = found t l.open_ones in
+    (not l.running, Failed) ∷ (not (is_some o), UnknownTransaction) ∷ (is_aborting o, NotOpen) ∷ (is_busy o, Unfinished)
+    ∷ (not (nat_lt s z.senders), UnknownSender) ∷ (not (free_to_receive t s l.open_ones), ReceiverBusy)
+    ∷ (gives l t o s && log_full l 4, LogFull) ∷ []
+tests z l (Start_close t s) =
+    let o = found t l.open_ones in
+    (not l.running, Failed) ∷ (not (is_some o), UnknownTransaction) ∷ (is_aborting o, NotOpen) ∷ (is_busy o, Unfinished)
+    ∷ (not (nat_lt s z.senders), UnknownSender) ∷ (not (free_to_send t s l.open_ones), SenderBusy)
+    ∷ (ended_in l.committed s || has_closed s o, Closed) ∷ (log_full l 2, LogFull) ∷ []
+tests z l (Step t n) = (not l.running, Failed) ∷ (not (has_under n (found t l.open_ones)), UnknownOperation) ∷ []
+tests z l (Finish t n) =
+    (not l.running, Failed) ∷ (not (has_under n (found t l.open_ones)), UnknownOperation) ∷ (steps_left (found t l.open_ones), Unfinished) ∷ []
+tests z l (Commit t) =
+    let o = found t l.open_ones in
+    (not l.running, Failed) ∷ (not (is_some o), UnknownTransaction) ∷ (is_aborting o, NotOpen) ∷ (is_busy o, Unfinished) ∷ (log_full l 1, LogFull) ∷ []
+tests z l (Start_abort t) =
+    let o = found t l.open_ones in
+    (not l.running, Failed) ∷ (not (is_some o), UnknownTransaction) ∷ (is_aborting o, NotOpen) ∷ (is_busy o, Unfinished) ∷ []
+tests z l (Undo_next t) =
+    let o = found t l.open_ones in
+    (not l.running, Failed) ∷ (not (is_some o), UnknownTransaction) ∷ (not (is_aborting o), NotOpen) ∷ (is_busy o, Unfinished)
+    ∷ (is_some (newest o) && log_full l (undo_cost (newest o)), LogFull) ∷ []
+tests z l (End_abort t) =
+    let o = found t l.open_ones in
+    (not l.running, Failed) ∷ (not (is_some o), UnknownTransaction) ∷ (not (is_aborting o), NotOpen) ∷ (is_busy o || has_done o, Unfinished) ∷ (log_full l 1, LogFull) ∷ []
+tests z l (Last_tag s) = (not l.running, Failed) ∷ (not (nat_lt s z.senders), UnknownSender) ∷ []
+tests z l Show = (not l.running, Failed) ∷ (any_busy l.open_ones, Unfinished) ∷ []
+tests z l (Acknowledge t lsn) = (not l.running, Failed) ∷ []
+tests z l Hand_over = (not l.running, Failed) ∷ []
+tests z l Force = (not l.running, Failed) ∷ []
+tests z l (Write_page p) = (not l.running, Failed) ∷ []
+
+-- no test is true
+abbrev pub NoneHolds : List (Bool × Refusal) → Type 0
+NoneHolds [] = Unit {0}
+NoneHolds (c ∷ cs) = (c.0 ≡ false) × NoneHolds cs
+
+-- the call is answered and not refused
+abbrev pub Passes : Size → Ledger → Call → Type 0
+Passes z l c = NoneHolds (tests z l c)
+
+-- the call passes its tests, and there is an operation for it to start
+abbrev pub starts : Size → Ledger → Call → Bool
+starts z l (Start_send t m) = true
+starts z l (Start_receive t) = any_gives (below z.senders) l t (found t l.open_ones)
+starts z l (Start_receive_from t s) = gives l t (found t l.open_ones) s
+starts z l (Start_close t s) = true
+starts z l (Undo_next t) = is_some (newest (found t l.open_ones))
+starts z l _ = false
+
+abbrev pub writes_page : Call → Bool
+writes_page (Write_page p) = true
+writes_page _ = false
+
+-- Where each refusal may come: memory's and the disk's own anywhere, latches and frames where an operation would start, a page
+-- that is not forced where the store runs, and each of the others exactly where its test is the first that is true.
+abbrev pub LegalRefusal : Size → Ledger → Call → Refusal → Type 0
+LegalRefusal z l c NoMemory = Unit {0}
+LegalRefusal z l c DiskRead = Unit {0}
+LegalRefusal z l c DiskWrite = Unit {0}
+LegalRefusal z l c (Damaged d) = Unit {0}
+LegalRefusal z l c Latched = Passes z l c × (starts z l c ≡ true)
+LegalRefusal z l c PoolFull = Passes z l c × (starts z l c ≡ true)
+LegalRefusal z l c NotForced = Passes z l c × (writes_page c ≡ true)
+LegalRefusal z l c r = first_of (tests z l c) ≡ Some r
+
+-- what a transaction that has not ended is, and what holds of it
+abbrev pub OnFound : Option Open → (Open → Type 0) → Type 0
+OnFound None P = ⊥
+OnFound (Some o) P = P o
+
+abbrev pub At : Ledger → Txn → (Open → Type 0) → Type 0
+At l t P = OnFound (found t l.open_ones) P
+
+-- the operation under way is done by op
+abbrev pub Answers : Ledger → Open → Option Job → Op → Type 0
+Answers l o (Some (Sending m)) (Send n) = n ≡ m
+Answers l o (Some (Taking s)) (Take m) = (m.sender ≡ s) × (slice_get (rest_in l.committed s) (length (own_takes s o)) ≡ Some m)
+Answers l o (Some (Ending s)) (End r) = r ≡ s
+Answers l o _ _ = ⊥
+
+abbrev pub call_of : Txn → Job → Call
+call_of t (Sending m) = Start_send t m
+call_of t (Taking s) = Start_receive_from t s
+call_of t (Ending s) = Start_close t s
+call_of t Undoing = Undo_next t
+
+-- what more a start needs
+abbrev pub CanStart : Ledger → Open → Job → Type 0
+CanStart l o (Taking s) = IsTrue (holds_for l o s)
+CanStart l o Undoing = IsTrue (is_some (last o.ops))
+CanStart l o _ = Unit {0}
+
+-- the entry may come next
+abbrev pub Legal : Size → Ledger → Entry → Type 0
+Legal z l (Begun t) = Passes z l Begin × (t.incarnation ≡ l.incarnation) × (t.count ≡ l.begins + 1)
+Legal z l (Started t n job) = Passes z l (call_of t job) × At l t (λ o. (n ≡ o.number + 1) × CanStart l o job)
+Legal z l (None_free t) = Passes z l (Start_receive t) × At l t (λ o. (s : ℕ) → s < z.senders → free_to_receive t s l.open_ones ≡ true → holds_for l o s ≡ false)
+Legal z l (None_from t s) = Passes z l (Start_receive_from t s) × At l t (λ o. holds_for l o s ≡ false)
+Legal z l (Stepped t n lsn) = Passes z l (Step t n) × At l t (λ o. 0 < o.left) × (lsn ≡ l.records + 1)
+Legal z l (Ready t n) = Passes z l (Step t n) × At l t (λ o. o.left ≡ 0)
+Legal z l (Did t n op) = Passes z l (Finish t n) × At l t (λ o. Answers l o o.under op)
+Legal z l (Undid t n) = Passes z l (Finish t n) × At l t (λ o. o.under ≡ Some Undoing)
+Legal z l (Committed t lsn) = Passes z l (Commit t) × (lsn ≡ l.records + 1)
+Legal z l (Acknowledged t lsn given) = Passes z l (Acknowledge t lsn) × (given ≡ (nat_eq t.incarnation l.incarnation && not (nat_lt l.forced lsn)))
+Legal z l (Aborting t) = Passes z l (Start_abort t)
+Legal z l (None_left t) = Passes z l (Undo_next t) × At l t (λ o. last o.ops ≡ None)
+Legal z l (Aborted t) = Passes z l (End_abort t)
+Legal z l Handed_over = Passes z l Hand_over
+Legal z l (Forced lsn) = Passes z l Force × (lsn ≡ l.records)
+Legal z l (Wrote page done) = Passes z l (Write_page page)
+Legal z l (Told s sent tag) = Passes z l (Last_tag s) × (sent ≡ length (sent_in l.committed s)) × (tag ≡ tag_of (sent_in l.committed s))
+Legal z l (Shown groups) = Passes z l Show × (groups ≡ map (group_in l.committed) (below z.senders))
+Legal z l (Refused c r) = LegalRefusal z l c r
+Legal z l (Crash kept records) = (l.durable ≤ kept) × (l.forced ≤ records)
+Legal z l (Restarted i records) = (l.incarnation < i) × (l.running ≡ false)
+
+-- every entry may come where it stands. The newest comes first
+abbrev pub IsLegal : Size → List Entry → Type 0
+IsLegal z [] = Unit {0}
+IsLegal z (e ∷ h) = Legal z (ledger h) e × IsLegal z h

@@ -1,0 +1,9 @@
+pub mod Numbers
+pub mod Words
+pub mod History
+pub mod Ledger
+pub mod Legal
+pub mod Deeds
+pub mod Content
+pub mod Groups
+pub mod Replay

@@ -1,0 +1,63 @@
+-- Which entry an event and its reply may stand for, and what a list of them leads to.
+use Rattle.std.specs.Prelude.{◌≡◌, ℕ, Bool, List, [], ◌∷◌}
+use Rattle.rq_model.specs.declared.txn.Txn.{Txn}
+use Rattle.rq_model.specs.declared.refusal.Refusal.{Refusal}
+use Rattle.rq_model.specs.declared.message.Message.{Message}
+use Rattle.rq_model.specs.Words.Op.{Send, Take, End}
+use Rattle.rq_model.specs.History.{Group, Entry, Call}
+use Rattle.rq_model.specs.History.Call.{Begin, Start_send, Start_receive, Start_receive_from, Start_close, Step, Finish, Commit, Acknowledge, Start_abort, Undo_next, End_abort, Hand_over, Force, Write_page, Last_tag, Show}
+use Rattle.rq_model.specs.History.Job.{Sending, Taking, Ending, Undoing}
+use Rattle.rq_model.specs.History.Entry.{Begun, Started, None_free, None_from, Stepped, Ready, Did, Undid, Committed, Acknowledged, Aborting, None_left, Aborted, Handed_over, Forced, Wrote, Told, Shown, Refused}
+use Rattle.rq_model.specs.Ledger.{Ledger, after}
+use Rattle.rq_model.specs.Legal.{Size, Legal}
+
+pub data Reply : Type 0 where
+  Gave_txn : (t : Txn) → Reply
+  Gave_sub : (number : ℕ) → Reply
+  Gave_none : Reply
+  Gave_lsn : (lsn : ℕ) → Reply
+  Gave_ready : Reply
+  Gave_sent : Reply
+  Gave_message : (message : Message) → Reply
+  Gave_closed : Reply
+  Gave_undone : Reply
+  Gave_nothing : Reply
+  Gave_receipt : (given : Bool) → Reply
+  Gave_written : (done : Bool) → Reply
+  Gave_tag : (sent tag : ℕ) → Reply
+  Gave_content : (groups : List Group) → Reply
+  Gave_refusal : (refusal : Refusal) → Reply
+
+-- The entry that an event and its reply may stand for. No reply shows the group that was picked, and Sent does not show the message.
+abbrev pub Says : Call → Reply → Entry → Type 0
+Says c (Gave_refusal r) e = e ≡ Refused c r
+Says Begin (Gave_txn t) e = e ≡ Begun t
+Says (Start_send t m) (Gave_sub n) e = e ≡ Started t n (Sending m)
+Says (Start_receive t) (Gave_sub n) e = (s : ℕ) × (e ≡ Started t n (Taking s))
+Says (Start_receive t) Gave_none e = e ≡ None_free t
+Says (Start_receive_from t s) (Gave_sub n) e = e ≡ Started t n (Taking s)
+Says (Start_receive_from t s) Gave_none e = e ≡ None_from t s
+Says (Start_close t s) (Gave_sub n) e = e ≡ Started t n (Ending s)
+Says (Step t n) (Gave_lsn lsn) e = e ≡ Stepped t n lsn
+Says (Step t n) Gave_ready e = e ≡ Ready t n
+Says (Finish t n) Gave_sent e = (m : Message) × (e ≡ Did t n (Send m))
+Says (Finish t n) (Gave_message m) e = e ≡ Did t n (Take m)
+Says (Finish t n) Gave_closed e = (s : ℕ) × (e ≡ Did t n (End s))
+Says (Finish t n) Gave_undone e = e ≡ Undid t n
+Says (Commit t) (Gave_lsn lsn) e = e ≡ Committed t lsn
+Says (Start_abort t) Gave_nothing e = e ≡ Aborting t
+Says (Undo_next t) (Gave_sub n) e = e ≡ Started t n Undoing
+Says (Undo_next t) Gave_none e = e ≡ None_left t
+Says (End_abort t) Gave_nothing e = e ≡ Aborted t
+Says (Acknowledge t lsn) (Gave_receipt given) e = e ≡ Acknowledged t lsn given
+Says Hand_over Gave_nothing e = e ≡ Handed_over
+Says Force (Gave_lsn lsn) e = e ≡ Forced lsn
+Says (Write_page page) (Gave_written done) e = e ≡ Wrote page done
+Says (Last_tag s) (Gave_tag sent tag) e = e ≡ Told s sent tag
+Says Show (Gave_content groups) e = e ≡ Shown groups
+Says _ _ e = ⊥
+
+-- from base, these events with these replies, newest first, may lead to l
+abbrev pub Replays : Size → Ledger → List (Call × Reply) → Ledger → Type 0
+Replays z base [] l = l ≡ base
+Replays z base (a ∷ audit) l = (mid : Ledger) × (e : Entry) × Replays z base audit mid × Says a.0 a.1 e × Legal z mid e × (l ≡ after e mid)

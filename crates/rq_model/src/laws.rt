@@ -1,0 +1,38 @@
+//! What holds of every history with legal replies, and of every log that keeps its rules.
+ghost use Rattle.std.specs.Prelude.{◌≡◌, ◌∷◌, ◌++◌, ℕ, List, take};
+ghost use Rattle.rq_model.specs.declared.txn.Txn.{Txn};
+ghost use Rattle.rq_model.specs.declared.record.Record.{Record};
+ghost use Rattle.rq_model.specs.declared.record.Record.TheVariants.{Commit};
+ghost use Rattle.rq_model.specs.Words.{same_txn};
+ghost use Rattle.rq_model.specs.Groups.{group, Survives, left_by};
+ghost use Rattle.rq_model.specs.Content.{KeepsRules, content, with_own, deeds, committed_of};
+ghost use Rattle.rq_model.specs.Ledger.{ledger, group_in};
+ghost use Rattle.rq_model.specs.History.{Entry, Fifo};
+ghost use Rattle.rq_model.specs.Legal.{Size, IsLegal};
+
+/// Over every history with legal replies, and crashes that keep what was forced: what committed
+/// transactions received from a sender is a beginning of what they sent for it, in order, each once;
+/// nothing that is committed was sent after a committed close.
+pub fn first_in_first_out()
+    ensures { (size : Size) (history : List Entry) → IsLegal size history → Fifo history }
+{}
+
+/// The commits that a force or a restart has followed stay in every history that goes on from there.
+pub fn acknowledged_stay()
+    ensures { (size : Size) (newer history : List Entry) → IsLegal size (newer ++ history) → Survives newer history }
+{}
+
+/// What the ledger of a legal history shows of a group is what the filters of the history say.
+pub fn shown_is_committed()
+    ensures { (size : Size) (history : List Entry) (s : ℕ) → IsLegal size history → group history s ≡ group_in (ledger history).committed s }
+{}
+
+/// A Commit record adds to the content what its own transaction did, and changes nothing else.
+pub fn commit_adds_its_own()
+    ensures { (s : ℕ) (t : Txn) (log : List Record) → KeepsRules (Commit t ∷ log) → content (Commit t ∷ log) s ≡ with_own s (deeds (λ u. same_txn u t) log) (content log s) }
+{}
+
+/// The content of what a cut leaves of a log is that of the beginning of its commit list.
+pub fn cut_leaves_a_beginning()
+    ensures { (s : ℕ) (newer older : List Record) → KeepsRules (newer ++ older) → content older s ≡ group_in (take (left_by older) (committed_of (newer ++ older))) s }
+{}

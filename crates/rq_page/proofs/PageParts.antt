@@ -1,0 +1,98 @@
+-- The parts of a page, and what a write leaves of them.
+use Rattle.std.proofs.Common.{◌≡◌, ◌≢◌, ℕ, zero, suc, ◌+◌, ◌*◌, ◌^◌, ◌<◌, ◌≤◌, List, ◌++◌, length, take, drop, replicate, refl, sym, ap, ◌∙◌, arith, subst, inl, inr}
+use Rattle.std.proofs.lemmas.List.{drop-drop, drop-take, take-append-drop, drop_all}
+use Rattle.std.proofs.lemmas.Bool.{cases_lt, cases_eq}
+use Rattle.byteorder.specs.Endian.{big_bytes, big_number}
+use Rattle.byteorder.specs.Numbers.{big_number-reads_back, big_from-take}
+use Rattle.rq_bytes.specs.Number.{bytes_at, overlaid}
+use Rattle.rq_bytes.proofs.Overlaid.{bytes_at-overlaid, bytes_at-overlaid_before, bytes_at-overlaid_behind}
+use Rattle.rq_page.specs.Pages.{lsn_of, header_of, rest_of_header, slot_of, header_front, header_bytes, AreSamePages}
+
+-- what the header tells
+pub lsn_of_header : (p : List ℕ) → lsn_of p ≡ big_number 8 (header_of p)
+unfolding lsn_of header_of
+lsn_of_header p = sym (big_from-take 0 8 256 p (omega arith))
+
+pub rest_of_header_of : (p : List ℕ) → rest_of_header p ≡ drop 8 (header_of p)
+unfolding rest_of_header header_of
+rest_of_header_of p = sym (drop-take 8 248 p)
+
+-- what a slot written over a page leaves
+pub header-put : (n : ℕ) (image p : List ℕ) → 1 ≤ n → n ≤ 15 → length image ≡ 256 → length p ≡ 4096
+    → header_of (overlaid (n * 256) image p) ≡ header_of p
+unfolding header_of
+header-put n image p low high i l = bytes_at-overlaid_before (n * 256) image p 0 256 (omega arith) (omega arith)
+
+pub slot-put : (n : ℕ) (image p : List ℕ) → 1 ≤ n → n ≤ 15 → length image ≡ 256 → length p ≡ 4096
+    → slot_of n (overlaid (n * 256) image p) ≡ image
+unfolding slot_of
+slot-put n image p low high i l =
+    let there : 256 * n ≡ n * 256 = omega arith in
+    ap (λ at. bytes_at 256 at (overlaid (n * 256) image p)) there
+    ∙ ap (λ k. bytes_at k (n * 256) (overlaid (n * 256) image p)) (sym i)
+    ∙ bytes_at-overlaid (n * 256) image p (omega arith)
+
+pub others-put : (n : ℕ) (image p : List ℕ) → 1 ≤ n → n ≤ 15 → length image ≡ 256 → length p ≡ 4096
+    → (k : ℕ) → 1 ≤ k → k ≤ 15 → k ≢ n → slot_of k (overlaid (n * 256) image p) ≡ slot_of k p
+unfolding slot_of
+others-put n image p low high i l k k_low k_high other =
+    elim (cases_lt k n) [
+      | inl below ↦ bytes_at-overlaid_before (n * 256) image p (256 * k) 256 (omega arith) (omega arith)
+      | inr above ↦ bytes_at-overlaid_behind (n * 256) image p (256 * k) 256 (omega arith) (omega arith)
+    ]
+
+-- what a header written over a page leaves
+pub header-set : (header p : List ℕ) → length header ≡ 256 → length p ≡ 4096 → header_of (overlaid 0 header p) ≡ header
+unfolding header_of
+header-set header p h l =
+    ap (λ k. bytes_at k 0 (overlaid 0 header p)) (sym h) ∙ bytes_at-overlaid 0 header p (omega arith)
+
+pub slots-set : (header p : List ℕ) → length header ≤ 256 → length p ≡ 4096
+    → (k : ℕ) → 1 ≤ k → k ≤ 15 → slot_of k (overlaid 0 header p) ≡ slot_of k p
+unfolding slot_of
+slots-set header p h l k low high = bytes_at-overlaid_behind 0 header p (256 * k) 256 (omega arith) (omega arith)
+
+-- what an LSN written over a page leaves
+pub lsn-set : (lsn : ℕ) (p : List ℕ) → lsn < 2 ^ 64 → lsn_of (big_bytes 8 lsn ++ drop 8 p) ≡ lsn
+unfolding lsn_of
+lsn-set lsn p fits = big_number-reads_back 8 lsn (drop 8 p) fits
+
+pub rest-set : (lsn : ℕ) (p : List ℕ) → rest_of_header (big_bytes 8 lsn ++ drop 8 p) ≡ rest_of_header p
+unfolding rest_of_header
+rest-set lsn p = refl
+
+pub slots-lsn_set : (lsn : ℕ) (p : List ℕ) → length p ≡ 4096
+    → (k : ℕ) → 1 ≤ k → k ≤ 15 → slot_of k (big_bytes 8 lsn ++ drop 8 p) ≡ slot_of k p
+slots-lsn_set lsn p l k low high = slots-set (big_bytes 8 lsn) p (omega arith) l k low high
+
+-- the header is laid over zeros
+pub header_made : (lsn number kind : ℕ) → overlaid 0 (header_front lsn number kind) (replicate 256 0) ≡ header_bytes lsn number kind
+unfolding header_front header_bytes
+header_made lsn number kind = refl
+
+pub length-header_bytes : (lsn number kind : ℕ) → length (header_bytes lsn number kind) ≡ 256
+unfolding header_front header_bytes
+length-header_bytes lsn number kind = refl
+
+-- lists of so many parts, the same from one part on
+same_from : (n k : ℕ) (p q : List ℕ) → length p ≡ 256 * (k + n) → length q ≡ 256 * (k + n)
+    → ((i : ℕ) → k ≤ i → i < k + n → bytes_at 256 (256 * i) p ≡ bytes_at 256 (256 * i) q)
+    → drop (256 * k) p ≡ drop (256 * k) q
+same_from zero k p q pl ql same = drop_all (256 * k) p (omega arith) ∙ sym (drop_all (256 * k) q (omega arith))
+same_from (suc n) k p q pl ql same =
+    let more : drop (256 * (k + 1)) p ≡ drop (256 * (k + 1)) q =
+    same_from n (k + 1) p q (omega (arith, pl)) (omega (arith, ql)) (λ i low high. same i (omega (arith, low)) (omega (arith, high))) in
+    let behind : (r : List ℕ) → drop 256 (drop (256 * k) r) ≡ drop (256 * (k + 1)) r =
+    λ r. drop-drop 256 (256 * k) r ∙ ap (λ j. drop j r) (let there : 256 * k + 256 ≡ 256 * (k + 1) = omega arith in there) in
+    sym (take-append-drop 256 (drop (256 * k) p))
+    ∙ ap (λ r. r ++ drop 256 (drop (256 * k) p)) (same k (omega arith) (omega arith))
+    ∙ ap (λ r. take 256 (drop (256 * k) q) ++ r) (behind p ∙ more ∙ sym (behind q))
+    ∙ take-append-drop 256 (drop (256 * k) q)
+
+pub are_same_pages : AreSamePages
+unfolding header_of slot_of
+are_same_pages p q pl ql header slots =
+    same_from 16 0 p q (omega arith) (omega arith) (λ i low high. elim (cases_eq i 0) [
+      | inl first ↦ subst (λ (j : ℕ). bytes_at 256 (256 * j) p ≡ bytes_at 256 (256 * j) q) (sym first) header
+      | inr later ↦ slots i (omega (arith, later)) (omega (arith, high))
+    ])

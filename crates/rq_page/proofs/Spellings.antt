@@ -1,0 +1,99 @@
+-- A slot is the one spelling of what it holds.
+use Rattle.std.proofs.Common.{◌≡◌, ℕ, ◌≤◌, List, length, Option, Some, None, refl, sym, ap, ◌∙◌, subst}
+use Rattle.rq_page.specs.Sizes.{Sizes, sender_at}
+use Rattle.rq_page.specs.Kinds.{kind_of}
+use Rattle.rq_page.specs.Cells.{cell_slot_bytes, cell_slot_in, cell_bytes, free_bytes, IsCellSlot}
+use Rattle.rq_page.specs.Directories.{directory_bytes, directory_in, IsDirectorySlot}
+use Rattle.rq_page.specs.Slots.{Slot, Free, Used, Sender, of_cell_slot, of_directory_slot, spelled, held_for, held_in, IsDirectoryOf, MayStand, HoldsCell, HoldsDirectory, IsSlotFor, IsSlotOf, MayHold, SpellingTells, SlotIsSpelling}
+use Rattle.rq_page.specs.declared.cell.CellSlot.{CellSlot}
+use Rattle.rq_page.specs.declared.cell.CellSlot.TheVariants as cells
+use Rattle.rq_page.specs.declared.directory.DirectorySlot.{DirectorySlot}
+use Rattle.rq_page.specs.declared.layout.PageKind.{PageKind}
+use Rattle.rq_page.specs.declared.layout.PageKind.TheVariants as kind
+use Rattle.rq_page.proofs.CellBytes.{cell_slot_in-cell_slot_bytes, length-cell_slot_bytes}
+use Rattle.rq_page.proofs.DirectoryBytes.{directory_in-directory_bytes, length-directory_bytes}
+
+-- what may stand in a store has its numbers in range
+pub numbers_of : (l : Sizes) (x : CellSlot) → MayStand l x → IsCellSlot x
+numbers_of l cells.Free is = tt
+numbers_of l (cells.Used c) is = is.numbers
+
+-- bytes that spell what may stand in a cell's slot hold it
+pub holds_cell : (l : Sizes) (x : CellSlot) (bytes : List ℕ) → IsCellSlot x → cell_slot_bytes x ≡ bytes → MayStand l x → HoldsCell l bytes
+holds_cell l x bytes is e may =
+    let read : cell_slot_in bytes ≡ x = ap cell_slot_in (sym e) ∙ cell_slot_in-cell_slot_bytes x is in
+    record { held = subst (MayStand l) (sym read) may; spelled_so = ap cell_slot_bytes read ∙ e }
+
+-- and they hold nothing else
+pub held_cell : (l : Sizes) (x : CellSlot) (bytes : List ℕ) → IsCellSlot x → cell_slot_bytes x ≡ bytes → HoldsCell l bytes → MayStand l x
+held_cell l x bytes is e holds =
+    let read : cell_slot_in bytes ≡ x = ap cell_slot_in (sym e) ∙ cell_slot_in-cell_slot_bytes x is in
+    subst (MayStand l) read holds.held
+
+pub holds_directory : (l : Sizes) (sender : ℕ) (x : DirectorySlot) (bytes : List ℕ) → directory_bytes x ≡ bytes → IsDirectoryOf l sender x → HoldsDirectory l sender bytes
+holds_directory l sender x bytes e may =
+    let read : directory_in bytes ≡ x = ap directory_in (sym e) ∙ directory_in-directory_bytes x may.numbers in
+    record { held = subst (IsDirectoryOf l sender) (sym read) may; spelled_so = ap directory_bytes read ∙ e }
+
+pub held_directory : (l : Sizes) (sender : ℕ) (x : DirectorySlot) (bytes : List ℕ) → IsDirectorySlot x → directory_bytes x ≡ bytes → HoldsDirectory l sender bytes → IsDirectoryOf l sender x
+held_directory l sender x bytes is e holds =
+    let read : directory_in bytes ≡ x = ap directory_in (sym e) ∙ directory_in-directory_bytes x is in
+    subst (IsDirectoryOf l sender) read holds.held
+
+-- the spelling of what a slot may hold, by the page's kind
+tells_for : (k : Option PageKind) (l : Sizes) (page slot : ℕ) (x : Slot) → MayHold k l page slot x
+    → (held_for k (spelled x) ≡ x) × IsSlotFor k l page slot (spelled x)
+tells_for None l page slot x may = absurd may
+tells_for (Some kind.Superblock) l page slot x may = absurd may
+tells_for (Some kind.Directory) l page slot Free may = absurd may
+tells_for (Some kind.Directory) l page slot (Used c) may = absurd may
+tells_for (Some kind.Directory) l page slot (Sender s d) may =
+    let x : DirectorySlot = record { sender = s; directory = d } in
+    (ap of_directory_slot (directory_in-directory_bytes x may.numbers), holds_directory l (sender_at page slot) x (directory_bytes x) refl may)
+tells_for (Some kind.Cells) l page slot Free may =
+    (ap of_cell_slot (cell_slot_in-cell_slot_bytes cells.Free tt), holds_cell l cells.Free free_bytes tt refl tt)
+tells_for (Some kind.Cells) l page slot (Used c) may =
+    (ap of_cell_slot (cell_slot_in-cell_slot_bytes (cells.Used c) may.numbers), holds_cell l (cells.Used c) (cell_bytes c) may.numbers refl may)
+tells_for (Some kind.Cells) l page slot (Sender s d) may = absurd may
+
+pub spelling_tells : SpellingTells
+spelling_tells l page slot x low high may =
+    let told = tells_for (kind_of l page) l page slot x may in
+    (told.0, record { low = low; high = high; held = told.1 })
+
+-- what stands in a cell's slot, as a slot of the store
+may_hold_cell : (l : Sizes) (page slot : ℕ) (x : CellSlot) → MayStand l x → MayHold (Some kind.Cells) l page slot (of_cell_slot x)
+may_hold_cell l page slot cells.Free may = tt
+may_hold_cell l page slot (cells.Used c) may = may
+
+spelled_cell : (x : CellSlot) → spelled (of_cell_slot x) ≡ cell_slot_bytes x
+spelled_cell cells.Free = refl
+spelled_cell (cells.Used c) = refl
+
+is_spelling_for : (k : Option PageKind) (l : Sizes) (page slot : ℕ) (bytes : List ℕ) → IsSlotFor k l page slot bytes
+    → MayHold k l page slot (held_for k bytes) × (spelled (held_for k bytes) ≡ bytes)
+is_spelling_for None l page slot bytes is = absurd is
+is_spelling_for (Some kind.Superblock) l page slot bytes is = absurd is
+is_spelling_for (Some kind.Directory) l page slot bytes is = (is.held, is.spelled_so)
+is_spelling_for (Some kind.Cells) l page slot bytes is =
+    (may_hold_cell l page slot (cell_slot_in bytes) is.held, spelled_cell (cell_slot_in bytes) ∙ is.spelled_so)
+
+pub slot_is_spelling : SlotIsSpelling
+slot_is_spelling l page slot bytes is = is_spelling_for (kind_of l page) l page slot bytes is.held
+
+-- what a slot may hold has one spelling each
+pub spelled_same : (l : Sizes) (page slot : ℕ) (x y : Slot) → 1 ≤ slot → slot ≤ 15
+    → MayHold (kind_of l page) l page slot x → MayHold (kind_of l page) l page slot y → spelled x ≡ spelled y → x ≡ y
+spelled_same l page slot x y low high may also same =
+    sym ((spelling_tells l page slot x low high may).0) ∙ ap (held_in l page) same ∙ (spelling_tells l page slot y low high also).0
+
+-- slots have 256 bytes
+length_for : (k : Option PageKind) (l : Sizes) (page slot : ℕ) (bytes : List ℕ) → IsSlotFor k l page slot bytes → length bytes ≡ 256
+length_for None l page slot bytes is = absurd is
+length_for (Some kind.Superblock) l page slot bytes is = absurd is
+length_for (Some kind.Directory) l page slot bytes is = ap length (sym is.spelled_so) ∙ length-directory_bytes (directory_in bytes)
+length_for (Some kind.Cells) l page slot bytes is =
+    ap length (sym is.spelled_so) ∙ length-cell_slot_bytes (cell_slot_in bytes) (numbers_of l (cell_slot_in bytes) is.held)
+
+pub length_of_slot : (l : Sizes) (page slot : ℕ) (bytes : List ℕ) → IsSlotOf l page slot bytes → length bytes ≡ 256
+length_of_slot l page slot bytes is = length_for (kind_of l page) l page slot bytes is.held

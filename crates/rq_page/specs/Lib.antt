@@ -1,0 +1,9 @@
+pub mod Sizes
+pub mod Kinds
+pub mod Places
+pub mod Cells
+pub mod Directories
+pub mod Pages
+pub mod Slots
+pub mod Formatted
+pub mod Lending

@@ -1,0 +1,31 @@
+-- The addresses of cells and directory slots are the slots of their pages, each once.
+use Rattle.std.specs.Prelude.{◌≡◌, ℕ, ◌/◌, ◌%◌, ◌<◌, ◌≤◌}
+use Rattle.rq_page.specs.Sizes.{Sizes, IsCellAddress, cell_count, sender_count, address, directory_at, sender_at, cell_at, place_of}
+
+-- each place among the cells has its own address
+abbrev pub CellsHavePlaces : Type 0
+CellsHavePlaces =
+    (l : Sizes) (place : ℕ) → place < cell_count l
+    → IsCellAddress l (cell_at l place) × (place_of l (cell_at l place) ≡ place)
+
+-- each address of a cell is that of a place
+abbrev pub PlacesAreCells : Type 0
+PlacesAreCells =
+    (l : Sizes) (a : ℕ) → IsCellAddress l a → (place_of l a < cell_count l) × (cell_at l (place_of l a) ≡ a)
+
+-- later places have higher addresses
+abbrev pub CellsRise : Type 0
+CellsRise = (l : Sizes) (i j : ℕ) → i < j → cell_at l i < cell_at l j
+
+-- each sender has its own directory slot
+abbrev pub SendersHaveSlots : Type 0
+SendersHaveSlots =
+    (l : Sizes) (sender : ℕ) → sender < sender_count l
+    → (1 ≤ directory_at sender / 16) × (directory_at sender / 16 ≤ l.directory) × (1 ≤ directory_at sender % 16)
+    × (sender_at (directory_at sender / 16) (directory_at sender % 16) ≡ sender)
+
+-- each slot of a directory page is that of a sender
+abbrev pub SlotsAreSenders : Type 0
+SlotsAreSenders =
+    (l : Sizes) (page slot : ℕ) → 1 ≤ page → page ≤ l.directory → 1 ≤ slot → slot ≤ 15
+    → (sender_at page slot < sender_count l) × (directory_at (sender_at page slot) ≡ address page slot)

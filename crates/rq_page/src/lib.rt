@@ -1,0 +1,13 @@
+//! Pages: a header with an LSN, and fifteen slots that hold the cells and the directory of a store.
+#![tactic(auto)]
+
+pub mod addr;
+pub mod cell;
+pub mod check;
+pub mod directory;
+pub mod formatted;
+pub mod layout;
+mod numbers;
+pub mod page;
+#[cfg(test)]
+mod tests;

@@ -1,0 +1,34 @@
+-- How a deed of the chain level is spelled.
+use Rattle.std.specs.Prelude.{◌≡◌, ℕ, ◌<◌, ◌≤◌, ◌^◌, List, ◌∷◌, ◌++◌, length}
+use Rattle.rq_model.specs.declared.record.Deed.{Deed}
+use Rattle.rq_model.specs.declared.record.Deed.TheVariants.{Append, UnlinkHead, Close}
+use Rattle.rq_record.specs.Spelling.{number, AreBytes}
+
+-- the one spelling of a deed: its kind, its numbers, and the body to the end
+unfoldable pub spelled_deed : Deed → List ℕ
+spelled_deed (Append sender sequence tag previous body) = 1 ∷ (number 4 sender ++ (number 8 sequence ++ (number 8 tag ++ (number 8 previous ++ body))))
+spelled_deed (UnlinkHead sender sequence tag body) = 2 ∷ (number 4 sender ++ (number 8 sequence ++ (number 8 tag ++ body)))
+spelled_deed (Close sender) = 3 ∷ number 4 sender
+
+-- what a deed may say: sequences begin at 1
+abbrev pub IsDeedInRange : Deed → Type 0
+IsDeedInRange (Append sender sequence tag previous body) = 0 < sequence
+IsDeedInRange (UnlinkHead sender sequence tag body) = 0 < sequence
+IsDeedInRange (Close sender) = Unit {0}
+
+abbrev pub IsBody : List ℕ → Type 0
+IsBody body = (length body ≤ 216) × AreBytes body
+
+-- what is so of each deed that a program holds: its fields are of their types
+abbrev pub DeedFits : Deed → Type 0
+DeedFits (Append sender sequence tag previous body) = (sender < 2 ^ 32) × (sequence < 2 ^ 64) × (tag < 2 ^ 64) × (previous < 2 ^ 64) × IsBody body
+DeedFits (UnlinkHead sender sequence tag body) = (sender < 2 ^ 32) × (sequence < 2 ^ 64) × (tag < 2 ^ 64) × IsBody body
+DeedFits (Close sender) = sender < 2 ^ 32
+
+-- what has a spelling
+abbrev pub IsDeed : Deed → Type 0
+IsDeed d = IsDeedInRange d × DeedFits d
+
+-- no two deeds have one spelling
+abbrev pub EachDeedHasItsSpelling : Type 0
+EachDeedHasItsSpelling = (d e : Deed) → IsDeed d → IsDeed e → spelled_deed d ≡ spelled_deed e → d ≡ e

@@ -1,0 +1,5 @@
+pub mod Spelling
+pub mod Reading
+pub mod Decoding
+pub mod Deeds
+pub mod DeedReading

@@ -1,0 +1,229 @@
+//! Deeds of the chain level as bytes.
+ghost use Rattle.std.specs.Prelude.{◌≡◌, ◌+◌, ◌≤◌, ◌<◌, ◌++◌, [], ◌∷◌, length, take, drop, IfSome, Some};
+ghost use Rattle.rq_model.specs.declared.record.Deed.{Deed};
+ghost use Rattle.rq_record.specs.Spelling.{number, AreBytes};
+ghost use Rattle.rq_record.specs.Deeds.{spelled_deed, IsDeed, IsBody, DeedFits};
+ghost use Rattle.rq_record.specs.Reading.{Gives};
+ghost use Rattle.rq_record.specs.DeedReading.{append_at, unlink_head_at, close_at, deed_at, deed_of};
+
+use crate::reading::{Stop, take_positive, take_u32, take_u64};
+use crate::writing::bytes_fit;
+use byteorder::{BigEndian, ByteOrder};
+use rq_model::message::Body;
+use rq_model::record::{DEED_LIMIT, Deed, DeedBytes};
+
+// A deed without its first byte.
+
+#[tactic(auto, unfolding(crate::specs::DeedReading::append_at))]
+fn append(bytes: &[u8]) -> Result<Deed, Stop>
+    ensures { Gives (λ x. x) result (append_at bytes.now) }
+{
+    let (sender, rest) = take_u32(bytes)?;
+    let (sequence, rest) = take_positive(rest)?;
+    let (tag, rest) = take_u64(rest)?;
+    let (previous, rest) = take_u64(rest)?;
+    let Some(body) = Body::new(rest) else {
+        return Err(Stop::Bad);
+    };
+    Ok(Deed::Append {
+        sender,
+        sequence,
+        tag,
+        previous,
+        body,
+    })
+}
+
+#[tactic(auto, unfolding(crate::specs::DeedReading::unlink_head_at))]
+fn unlink_head(bytes: &[u8]) -> Result<Deed, Stop>
+    ensures { Gives (λ x. x) result (unlink_head_at bytes.now) }
+{
+    let (sender, rest) = take_u32(bytes)?;
+    let (sequence, rest) = take_positive(rest)?;
+    let (tag, rest) = take_u64(rest)?;
+    let Some(body) = Body::new(rest) else {
+        return Err(Stop::Bad);
+    };
+    Ok(Deed::UnlinkHead {
+        sender,
+        sequence,
+        tag,
+        body,
+    })
+}
+
+#[tactic(auto, unfolding(crate::specs::DeedReading::close_at))]
+fn close(bytes: &[u8]) -> Result<Deed, Stop>
+    ensures { Gives (λ x. x) result (close_at bytes.now) }
+{
+    let (sender, rest) = take_u32(bytes)?;
+    if rest.is_empty() {
+        Ok(Deed::Close { sender })
+    } else {
+        Err(Stop::Bad)
+    }
+}
+
+// A deed, all of the bytes.
+#[tactic(auto, unfolding(crate::specs::DeedReading::deed_at))]
+fn deed_in(bytes: &[u8]) -> Result<Deed, Stop>
+    ensures { Gives (λ x. x) result (deed_at bytes.now) }
+{
+    match bytes {
+        [] => Err(Stop::Short),
+        [1, rest @ ..] => append(rest),
+        [2, rest @ ..] => unlink_head(rest),
+        [3, rest @ ..] => close(rest),
+        [_, ..] => Err(Stop::Bad),
+    }
+}
+
+// The deed that the bytes are.
+fn deed_if_any(bytes: &[u8]) -> Option<Deed>
+    ensures { result ≡ deed_of (deed_at bytes.now) }
+{
+    match deed_in(bytes) {
+        Ok(deed) => Some(deed),
+        Err(_) => None,
+    }
+}
+
+/// The deed whose spelling the bytes are, all of them; none where they are no deed's.
+pub fn decode_deed(bytes: &[u8]) -> Option<Deed>
+    ensures some { IfSome result (λ deed. IsDeed deed × (bytes.now ≡ spelled_deed deed)) }
+    ensures only { (deed : Deed) → IsDeed deed → bytes.now ≡ spelled_deed deed → result ≡ Some deed }
+{
+    deed_if_any(bytes)
+}
+
+/// Each deed that a program holds has fields of their types.
+pub fn deed_fits(deed: &Deed)
+    ensures { DeedFits deed.now }
+{
+    match deed {
+        Deed::Append {
+            sender,
+            sequence,
+            tag,
+            previous,
+            body,
+        } => {
+            let _numbers = (*sender, *sequence, *tag, *previous);
+            body_fits(body);
+        }
+        Deed::UnlinkHead {
+            sender,
+            sequence,
+            tag,
+            body,
+        } => {
+            let _numbers = (*sender, *sequence, *tag);
+            body_fits(body);
+        }
+        Deed::Close { sender } => {
+            let _number = *sender;
+        }
+    }
+}
+
+// A body has 216 bytes at most.
+fn body_fits(body: &Body)
+    ensures { IsBody body.now }
+{
+    bytes_fit(body.as_slice());
+}
+
+// What stands before the body.
+
+#[tactic(auto, unfolding(crate::specs::Spelling::number))]
+fn append_front(sender: u32, sequence: u64, tag: u64, previous: u64) -> [u8; 29]
+    ensures { result
+        ≡ 1 ∷ (number 4 sender ++ (number 8 sequence ++ (number 8 tag ++ number 8 previous))) }
+{
+    let mut front = [0; 29];
+    front[0] = 1;
+    BigEndian::write_u32(&mut front[1..], sender);
+    BigEndian::write_u64(&mut front[5..], sequence);
+    BigEndian::write_u64(&mut front[13..], tag);
+    BigEndian::write_u64(&mut front[21..], previous);
+    front
+}
+
+#[tactic(auto, unfolding(crate::specs::Spelling::number))]
+fn unlink_head_front(sender: u32, sequence: u64, tag: u64) -> [u8; 21]
+    ensures { result ≡ 2 ∷ (number 4 sender ++ (number 8 sequence ++ number 8 tag)) }
+{
+    let mut front = [0; 21];
+    front[0] = 2;
+    BigEndian::write_u32(&mut front[1..], sender);
+    BigEndian::write_u64(&mut front[5..], sequence);
+    BigEndian::write_u64(&mut front[13..], tag);
+    front
+}
+
+#[tactic(auto, unfolding(crate::specs::Spelling::number))]
+fn close_front(sender: u32) -> [u8; 5]
+    ensures { result ≡ 3 ∷ number 4 sender }
+{
+    let mut front = [0; 5];
+    front[0] = 3;
+    BigEndian::write_u32(&mut front[1..], sender);
+    front
+}
+
+// Writes bytes over those from a place.
+fn place(out: &mut [u8], at: usize, bytes: &[u8])
+    requires { at + length bytes.now ≤ length out.old }
+    ensures { out.new ≡ take at out.old ++ (bytes.now ++ drop (at + length bytes.now) out.old) }
+{
+    out[at..at + bytes.len()].copy_from_slice(bytes);
+}
+
+// The bytes in place.
+fn deed_bytes(bytes: &[u8]) -> DeedBytes
+    requires { length bytes.now ≤ 256 }
+    ensures { result ≡ bytes.now }
+{
+    DeedBytes::new(bytes).unwrap()
+}
+
+// The bytes of the one and then those of the other.
+fn joined(front: &[u8], body: &[u8]) -> DeedBytes
+    requires { length front.now + length body.now ≤ 256 }
+    ensures { result ≡ front.now ++ body.now }
+{
+    let mut bytes = [0; DEED_LIMIT];
+    place(&mut bytes, 0, front);
+    place(&mut bytes, front.len(), body);
+    deed_bytes(&bytes[..front.len() + body.len()])
+}
+
+/// The spelling of a deed, which is short enough to stand in an operation's end.
+#[tactic(auto, unfolding(crate::specs::Deeds::spelled_deed))]
+pub fn encode_deed(deed: &Deed) -> DeedBytes
+    ensures spelled { result ≡ spelled_deed deed.now }
+    ensures size { (1 ≤ length result) × (length result ≤ 256) }
+{
+    match deed {
+        Deed::Append {
+            sender,
+            sequence,
+            tag,
+            previous,
+            body,
+        } => joined(
+            &append_front(*sender, *sequence, *tag, *previous),
+            body.as_slice(),
+        ),
+        Deed::UnlinkHead {
+            sender,
+            sequence,
+            tag,
+            body,
+        } => joined(
+            &unlink_head_front(*sender, *sequence, *tag),
+            body.as_slice(),
+        ),
+        Deed::Close { sender } => joined(&close_front(*sender), &[]),
+    }
+}

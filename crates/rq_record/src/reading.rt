@@ -1,0 +1,363 @@
+//! From bytes to records.
+ghost use Rattle.std.specs.Prelude.{◌≡◌, ◌+◌, ◌-◌, ◌≤◌, ◌<◌, ◌^◌, length, IfOk, IfSome, List, ℕ, ◌++◌, ◌↔◌};
+ghost use Rattle.rq_model.specs.declared.record.Record.{Record};
+ghost use Rattle.rq_record.specs.Spelling.{IsRecord, spelling, BeginsRecord, HoldsRecord};
+ghost use Rattle.rq_record.specs.Decoding.{IfRecord, IsFront, step_of};
+ghost use Rattle.rq_record.specs.declared.reading.Kind.TheVariants as kinds;
+ghost use Rattle.rq_record.specs.Reading.{Gives, bytes_at, number_at, positive_at, byte_between, txn_at, page_op_at, page_undo_at, op_end_at, op_void_at, comp_end_at, commit_at, restart_at, abort_end_at, kind_of, is_size, begins_size, size_at, kind_at, IsDeedSize, fields_at, record_at};
+
+use crate::step::Step;
+use byteorder::{BigEndian, ByteOrder};
+use rq_model::record::{DeedBytes, Record, SLOT_BYTES, Slot};
+use rq_model::txn::Txn;
+
+/// Why no record is read.
+#[derive(Clone, Copy)]
+pub enum Stop {
+    /// The bytes are a proper beginning.
+    Short,
+    /// Nothing begins with these bytes.
+    Bad,
+}
+
+/// The kinds of records.
+#[derive(Clone, Copy)]
+pub enum Kind {
+    PageOp,
+    PageUndo,
+    OpEnd,
+    OpVoid,
+    CompEnd,
+    Commit,
+    Restart,
+    AbortEnd,
+}
+
+// So many bytes, and the bytes after them.
+#[tactic(auto, unfolding(crate::specs::Reading::bytes_at))]
+fn take_bytes(size: usize, bytes: &[u8]) -> Result<(&[u8], &[u8]), Stop>
+    ensures gives { Gives (λ x. (x.0.now, x.1.now)) result (bytes_at size bytes.now) }
+    ensures size { IfOk result (λ x. length x.0.now ≡ size) }
+{
+    if bytes.len() < size {
+        return Err(Stop::Short);
+    }
+    Ok(bytes.split_at(size))
+}
+
+// A number of four bytes.
+#[tactic(auto, unfolding(crate::specs::Reading::number_at))]
+pub fn take_u32(bytes: &[u8]) -> Result<(u32, &[u8]), Stop>
+    ensures { Gives (λ x. (x.0, x.1.now)) result (number_at 4 bytes.now) }
+{
+    if bytes.len() < 4 {
+        return Err(Stop::Short);
+    }
+    Ok((BigEndian::read_u32(bytes), &bytes[4..]))
+}
+
+// A number of eight bytes.
+#[tactic(auto, unfolding(crate::specs::Reading::number_at))]
+pub fn take_u64(bytes: &[u8]) -> Result<(u64, &[u8]), Stop>
+    ensures { Gives (λ x. (x.0, x.1.now)) result (number_at 8 bytes.now) }
+{
+    if bytes.len() < 8 {
+        return Err(Stop::Short);
+    }
+    Ok((BigEndian::read_u64(bytes), &bytes[8..]))
+}
+
+// A number of eight bytes that is not 0.
+#[tactic(auto, unfolding(crate::specs::Reading::positive_at))]
+pub fn take_positive(bytes: &[u8]) -> Result<(u64, &[u8]), Stop>
+    ensures { Gives (λ x. (x.0, x.1.now)) result (positive_at 8 bytes.now) }
+{
+    let (n, rest) = take_u64(bytes)?;
+    if n == 0 {
+        return Err(Stop::Bad);
+    }
+    Ok((n, rest))
+}
+
+// A byte from `low` to `high`.
+#[tactic(auto, unfolding(crate::specs::Reading::byte_between))]
+fn take_byte(low: u8, high: u8, bytes: &[u8]) -> Result<(u8, &[u8]), Stop>
+    ensures { Gives (λ x. (x.0, x.1.now)) result (byte_between low high bytes.now) }
+{
+    match bytes {
+        [] => Err(Stop::Short),
+        [byte, rest @ ..] => {
+            if low <= *byte && *byte <= high {
+                Ok((*byte, rest))
+            } else {
+                Err(Stop::Bad)
+            }
+        }
+    }
+}
+
+// The number of a slot.
+fn take_slot_number(bytes: &[u8]) -> Result<(u8, &[u8]), Stop>
+    ensures { Gives (λ x. (x.0, x.1.now)) result (byte_between 1 15 bytes.now) }
+{
+    take_byte(1, 15, bytes)
+}
+
+// The number of a transaction.
+#[tactic(auto, unfolding(crate::specs::Reading::txn_at))]
+fn take_txn(bytes: &[u8]) -> Result<(Txn, &[u8]), Stop>
+    ensures { Gives (λ x. (x.0, x.1.now)) result (txn_at bytes.now) }
+{
+    let (incarnation, rest) = take_positive(bytes)?;
+    let (count, rest) = take_positive(rest)?;
+    Ok((Txn { incarnation, count }, rest))
+}
+
+// The image of a slot.
+fn take_image(bytes: &[u8]) -> Result<(Slot, &[u8]), Stop>
+    ensures { Gives (λ x. (x.0, x.1.now)) result (bytes_at 256 bytes.now) }
+{
+    let (image, rest) = take_bytes(SLOT_BYTES, bytes)?;
+    let mut slot = [0; SLOT_BYTES];
+    slot.copy_from_slice(image);
+    Ok((slot, rest))
+}
+
+// The fields of each kind.
+
+#[tactic(auto, unfolding(crate::specs::Reading::page_op_at))]
+fn page_op(bytes: &[u8]) -> Result<(Record, &[u8]), Stop>
+    ensures { Gives (λ x. (x.0, x.1.now)) result (page_op_at bytes.now) }
+{
+    let (txn, rest) = take_txn(bytes)?;
+    let (operation, rest) = take_positive(rest)?;
+    let (page, rest) = take_u32(rest)?;
+    let (slot, rest) = take_slot_number(rest)?;
+    let (before, rest) = take_image(rest)?;
+    let (after, rest) = take_image(rest)?;
+    let record = Record::PageOp {
+        txn,
+        operation,
+        page,
+        slot,
+        before,
+        after,
+    };
+    Ok((record, rest))
+}
+
+#[tactic(auto, unfolding(crate::specs::Reading::page_undo_at))]
+fn page_undo(bytes: &[u8]) -> Result<(Record, &[u8]), Stop>
+    ensures { Gives (λ x. (x.0, x.1.now)) result (page_undo_at bytes.now) }
+{
+    let (txn, rest) = take_txn(bytes)?;
+    let (operation, rest) = take_positive(rest)?;
+    let (undone, rest) = take_positive(rest)?;
+    let (page, rest) = take_u32(rest)?;
+    let (slot, rest) = take_slot_number(rest)?;
+    let (after, rest) = take_image(rest)?;
+    let record = Record::PageUndo {
+        txn,
+        operation,
+        undone,
+        page,
+        slot,
+        after,
+    };
+    Ok((record, rest))
+}
+
+#[tactic(auto, unfolding(crate::specs::Reading::op_end_at))]
+fn op_end(size: usize, bytes: &[u8]) -> Result<(Record, &[u8]), Stop>
+    requires { size ≤ 256 }
+    ensures { Gives (λ x. (x.0, x.1.now)) result (op_end_at size bytes.now) }
+{
+    let (txn, rest) = take_txn(bytes)?;
+    let (operation, rest) = take_positive(rest)?;
+    let (level, rest) = take_byte(1, 255, rest)?;
+    let (bytes, rest) = take_bytes(size, rest)?;
+    let Some(deed) = DeedBytes::new(bytes) else {
+        return Err(Stop::Bad);
+    };
+    let record = Record::OpEnd {
+        txn,
+        operation,
+        level,
+        deed,
+    };
+    Ok((record, rest))
+}
+
+#[tactic(auto, unfolding(crate::specs::Reading::op_void_at))]
+fn op_void(bytes: &[u8]) -> Result<(Record, &[u8]), Stop>
+    ensures { Gives (λ x. (x.0, x.1.now)) result (op_void_at bytes.now) }
+{
+    let (txn, rest) = take_txn(bytes)?;
+    let (operation, rest) = take_positive(rest)?;
+    Ok((Record::OpVoid { txn, operation }, rest))
+}
+
+#[tactic(auto, unfolding(crate::specs::Reading::comp_end_at))]
+fn comp_end(bytes: &[u8]) -> Result<(Record, &[u8]), Stop>
+    ensures { Gives (λ x. (x.0, x.1.now)) result (comp_end_at bytes.now) }
+{
+    let (txn, rest) = take_txn(bytes)?;
+    let (operation, rest) = take_positive(rest)?;
+    let (undone, rest) = take_positive(rest)?;
+    let record = Record::CompEnd {
+        txn,
+        operation,
+        undone,
+    };
+    Ok((record, rest))
+}
+
+#[tactic(auto, unfolding(crate::specs::Reading::commit_at))]
+fn commit(bytes: &[u8]) -> Result<(Record, &[u8]), Stop>
+    ensures { Gives (λ x. (x.0, x.1.now)) result (commit_at bytes.now) }
+{
+    let (txn, rest) = take_txn(bytes)?;
+    Ok((Record::Commit { txn }, rest))
+}
+
+#[tactic(auto, unfolding(crate::specs::Reading::restart_at))]
+fn restart(bytes: &[u8]) -> Result<(Record, &[u8]), Stop>
+    ensures { Gives (λ x. (x.0, x.1.now)) result (restart_at bytes.now) }
+{
+    let (incarnation, rest) = take_positive(bytes)?;
+    Ok((Record::Restart { incarnation }, rest))
+}
+
+#[tactic(auto, unfolding(crate::specs::Reading::abort_end_at))]
+fn abort_end(bytes: &[u8]) -> Result<(Record, &[u8]), Stop>
+    ensures { Gives (λ x. (x.0, x.1.now)) result (abort_end_at bytes.now) }
+{
+    let (txn, rest) = take_txn(bytes)?;
+    Ok((Record::AbortEnd { txn }, rest))
+}
+
+// The kind with this number, where a record of it may be so long.
+#[tactic(auto, unfolding(crate::specs::Reading::kind_of))]
+fn kind_named(number: u8, size: u32) -> Option<Kind>
+    ensures kind { result ≡ kind_of number size }
+    ensures size { IfSome result (IsDeedSize size) }
+{
+    match (number, size) {
+        (1, 542) => Some(Kind::PageOp),
+        (2, 294) => Some(Kind::PageUndo),
+        (3, 27..=282) => Some(Kind::OpEnd),
+        (4, 25) => Some(Kind::OpVoid),
+        (5, 33) => Some(Kind::CompEnd),
+        (6, 17) => Some(Kind::Commit),
+        (7, 9) => Some(Kind::Restart),
+        (8, 17) => Some(Kind::AbortEnd),
+        _ => None,
+    }
+}
+
+// Whether fewer than four bytes begin the length of some kind.
+#[tactic(auto, unfolding(crate::specs::Reading::begins_size))]
+fn begins_length(bytes: &[u8]) -> bool
+    ensures { result ≡ begins_size bytes.now }
+{
+    match bytes {
+        [] => true,
+        [a] => *a == 0,
+        [a, b] => *a == 0 && *b == 0,
+        [a, b, c] => *a == 0 && *b == 0 && *c <= 2,
+        _ => false,
+    }
+}
+
+// Whether a record of some kind is so long.
+#[tactic(auto, unfolding(crate::specs::Reading::is_size))]
+fn is_length(size: u32) -> bool
+    ensures { result ≡ is_size size }
+{
+    matches!(size, 27..=282 | 9 | 17 | 25 | 294 | 542)
+}
+
+// The length of what follows it.
+#[tactic(auto, unfolding(crate::specs::Reading::size_at))]
+fn take_length(bytes: &[u8]) -> Result<(u32, &[u8]), Stop>
+    ensures { Gives (λ x. (x.0, x.1.now)) result (size_at bytes.now) }
+{
+    if bytes.len() < 4 {
+        return Err(if begins_length(bytes) {
+            Stop::Short
+        } else {
+            Stop::Bad
+        });
+    }
+    let size = BigEndian::read_u32(bytes);
+    if is_length(size) {
+        Ok((size, &bytes[4..]))
+    } else {
+        Err(Stop::Bad)
+    }
+}
+
+// The kind of a record that is so long.
+#[tactic(auto, unfolding(crate::specs::Reading::kind_at))]
+fn take_kind(size: u32, bytes: &[u8]) -> Result<(Kind, &[u8]), Stop>
+    ensures gives { Gives (λ x. (x.0, x.1.now)) result (kind_at size bytes.now) }
+    ensures size { IfOk result (λ x. IsDeedSize size x.0) }
+{
+    match bytes {
+        [] => Err(Stop::Short),
+        [number, rest @ ..] => match kind_named(*number, size) {
+            Some(kind) => Ok((kind, rest)),
+            None => Err(Stop::Bad),
+        },
+    }
+}
+
+// The fields of a record of this kind and length.
+fn take_fields(size: u32, kind: Kind, bytes: &[u8]) -> Result<(Record, &[u8]), Stop>
+    requires { IsDeedSize size kind }
+    ensures { Gives (λ x. (x.0, x.1.now)) result (fields_at size kind bytes.now) }
+{
+    match kind {
+        Kind::PageOp => page_op(bytes),
+        Kind::PageUndo => page_undo(bytes),
+        Kind::OpEnd => op_end(size as usize - 26, bytes),
+        Kind::OpVoid => op_void(bytes),
+        Kind::CompEnd => comp_end(bytes),
+        Kind::Commit => commit(bytes),
+        Kind::Restart => restart(bytes),
+        Kind::AbortEnd => abort_end(bytes),
+    }
+}
+
+// A record.
+#[tactic(auto, unfolding(crate::specs::Reading::record_at))]
+fn take_record(bytes: &[u8]) -> Result<(Record, &[u8]), Stop>
+    ensures { Gives (λ x. (x.0, x.1.now)) result (record_at bytes.now) }
+{
+    let (size, rest) = take_length(bytes)?;
+    let (kind, rest) = take_kind(size, rest)?;
+    take_fields(size, kind, rest)
+}
+
+// What stands at the front of the bytes.
+fn front_of(input: &[u8]) -> Step
+    ensures { result ≡ step_of input.now (record_at input.now) }
+{
+    match take_record(input) {
+        Ok((record, rest)) => Step::Record(record, input.len() - rest.len()),
+        Err(Stop::Short) => Step::Short,
+        Err(Stop::Bad) => Step::Bad,
+    }
+}
+
+/// What stands at the front of the bytes: a record with bytes behind it or none, a proper beginning of
+/// a record, or neither.
+pub fn decode(input: &[u8]) -> Step
+    ensures front { IfRecord result (λ r used. IsFront r used input.now) }
+    ensures found { (r : Record) (rest : List ℕ) → IsRecord r → input.now ≡ spelling r ++ rest
+        → result ≡ Step.Record r (length (spelling r)) }
+    ensures short { (result ≡ Step.Short) ↔ (BeginsRecord input.now) }
+    ensures bad { (result ≡ Step.Bad) ↔ ((¬ HoldsRecord input.now) × (¬ BeginsRecord input.now)) }
+{
+    front_of(input)
+}

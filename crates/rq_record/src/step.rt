@@ -1,0 +1,13 @@
+//! What decoding answers.
+use rq_model::record::Record;
+
+/// What stands at the front of some bytes.
+#[derive(Clone, Copy, Debug, PartialEq, Eq)]
+pub enum Step {
+    /// A record, and how many bytes it takes. Bytes may follow it.
+    Record(Record, usize),
+    /// A proper beginning of some record.
+    Short,
+    /// No record, nor the beginning of one.
+    Bad,
+}

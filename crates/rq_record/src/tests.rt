@@ -1,0 +1,201 @@
+ghost use Rattle.rq_record.specs.Spelling.{IsInRange};
+
+use super::*;
+use rq_model::message::Body;
+use rq_model::record::DeedBytes;
+use rq_model::txn::Txn;
+use std::alloc::Global;
+use std::process::Abort;
+use std::test::Fail;
+
+const FIRST: Txn = Txn {
+    incarnation: 1,
+    count: 1,
+};
+
+const SECOND: Txn = Txn {
+    incarnation: 1,
+    count: 2,
+};
+
+// The record is written as these bytes, and read from them, also where others follow.
+fn stands_so(rt: &impl Abort, alloc: Global, record: &Record, bytes: &[u8]) -> Result<(), Fail>
+    requires { IsInRange «record».now }
+{
+    let mut out = Vec::new(alloc);
+    encode(record, &mut out)?;
+    assert_eq!(rt; out.as_slice(), bytes);
+    assert_eq!(rt; spelled_len(record), bytes.len());
+    assert_eq!(rt; decode(&out), Step::Record(*record, bytes.len()));
+    out.extend_from_slice(b"more")?;
+    assert_eq!(rt; decode(&out), Step::Record(*record, bytes.len()));
+    Ok(())
+}
+
+#[test]
+fn vectors(rt: HostRuntime) -> Result<(), Fail> {
+    let restart = Record::Restart { incarnation: 1 };
+    stands_so(
+        &rt,
+        rt.alloc(),
+        &restart,
+        b"\x00\x00\x00\x09\x07\x00\x00\x00\x00\x00\x00\x00\x01",
+    )?;
+    let commit = Record::Commit { txn: FIRST };
+    stands_so(
+        &rt,
+        rt.alloc(),
+        &commit,
+        b"\x00\x00\x00\x11\x06\x00\x00\x00\x00\x00\x00\x00\x01\x00\x00\x00\x00\x00\x00\x00\x01",
+    )?;
+    let abort_end = Record::AbortEnd { txn: SECOND };
+    stands_so(
+        &rt,
+        rt.alloc(),
+        &abort_end,
+        b"\x00\x00\x00\x11\x08\x00\x00\x00\x00\x00\x00\x00\x01\x00\x00\x00\x00\x00\x00\x00\x02",
+    )?;
+    let op_void = Record::OpVoid {
+        txn: FIRST,
+        operation: 1,
+    };
+    stands_so(
+        &rt,
+        rt.alloc(),
+        &op_void,
+        b"\x00\x00\x00\x19\x04\x00\x00\x00\x00\x00\x00\x00\x01\x00\x00\x00\x00\x00\x00\x00\x01\
+          \x00\x00\x00\x00\x00\x00\x00\x01",
+    )?;
+    let comp_end = Record::CompEnd {
+        txn: SECOND,
+        operation: 5,
+        undone: 13,
+    };
+    stands_so(
+        &rt,
+        rt.alloc(),
+        &comp_end,
+        b"\x00\x00\x00\x21\x05\x00\x00\x00\x00\x00\x00\x00\x01\x00\x00\x00\x00\x00\x00\x00\x02\
+          \x00\x00\x00\x00\x00\x00\x00\x05\x00\x00\x00\x00\x00\x00\x00\x0d",
+    )
+}
+
+#[test]
+fn op_end_with_its_deed(rt: HostRuntime) -> Result<(), Fail> {
+    let body = Body::new(b"hello").ok_or("a short body")?;
+    let append = Deed::Append {
+        sender: 0,
+        sequence: 1,
+        tag: 7,
+        previous: 0,
+        body,
+    };
+    let deed = encode_deed(&append);
+    let bytes =
+        b"\x01\x00\x00\x00\x00\x00\x00\x00\x00\x00\x00\x00\x01\x00\x00\x00\x00\x00\x00\x00\x07\
+          \x00\x00\x00\x00\x00\x00\x00\x00hello";
+    assert_eq!(rt; deed.as_slice(), bytes.as_slice());
+    assert_eq!(rt; decode_deed(bytes), Some(append));
+    let op_end = Record::OpEnd {
+        txn: FIRST,
+        operation: 1,
+        level: 1,
+        deed,
+    };
+    stands_so(
+        &rt,
+        rt.alloc(),
+        &op_end,
+        b"\x00\x00\x00\x3c\x03\x00\x00\x00\x00\x00\x00\x00\x01\x00\x00\x00\x00\x00\x00\x00\x01\
+          \x00\x00\x00\x00\x00\x00\x00\x01\x01\
+          \x01\x00\x00\x00\x00\x00\x00\x00\x00\x00\x00\x00\x01\x00\x00\x00\x00\x00\x00\x00\x07\
+          \x00\x00\x00\x00\x00\x00\x00\x00hello",
+    )
+}
+
+#[test]
+fn other_deeds(rt: HostRuntime) -> Result<(), Fail> {
+    let body = Body::new(b"hello").ok_or("a short body")?;
+    let unlink_head = Deed::UnlinkHead {
+        sender: 0,
+        sequence: 1,
+        tag: 7,
+        body,
+    };
+    let bytes =
+        b"\x02\x00\x00\x00\x00\x00\x00\x00\x00\x00\x00\x00\x01\x00\x00\x00\x00\x00\x00\x00\x07hello";
+    assert_eq!(rt; encode_deed(&unlink_head).as_slice(), bytes.as_slice());
+    assert_eq!(rt; decode_deed(bytes), Some(unlink_head));
+    let close = Deed::Close { sender: 15 };
+    let bytes = b"\x03\x00\x00\x00\x0f";
+    assert_eq!(rt; encode_deed(&close).as_slice(), bytes.as_slice());
+    assert_eq!(rt; decode_deed(bytes), Some(close));
+    assert_eq!(rt; decode_deed(&[3, 0, 0, 0]), None);
+    assert_eq!(rt; decode_deed(&[3, 0, 0, 0, 15, 0]), None);
+    assert_eq!(rt; decode_deed(&[4, 0, 0, 0, 15]), None);
+    Ok(())
+}
+
+// The record is so long, begins so, and is read again.
+fn begins_so(
+    rt: &impl Abort,
+    alloc: Global,
+    record: &Record,
+    size: usize,
+    head: &[u8],
+) -> Result<(), Fail>
+    requires { IsInRange «record».now }
+{
+    let mut out = Vec::new(alloc);
+    encode(record, &mut out)?;
+    assert_eq!(rt; out.len(), size);
+    assert!(rt; out.starts_with(head));
+    assert_eq!(rt; decode(&out), Step::Record(*record, size));
+    Ok(())
+}
+
+#[test]
+fn page_records(rt: HostRuntime) -> Result<(), Fail> {
+    let page_op = Record::PageOp {
+        txn: FIRST,
+        operation: 1,
+        page: 2,
+        slot: 1,
+        before: [0; 256],
+        after: [9; 256],
+    };
+    begins_so(&rt, rt.alloc(), &page_op, 546, b"\x00\x00\x02\x1e\x01")?;
+    let page_undo = Record::PageUndo {
+        txn: FIRST,
+        operation: 1,
+        undone: 2,
+        page: 2,
+        slot: 15,
+        after: [0; 256],
+    };
+    begins_so(&rt, rt.alloc(), &page_undo, 298, b"\x00\x00\x01\x26\x02")
+}
+
+#[test]
+fn short_and_bad(rt: HostRuntime) {
+    let short: [&[u8]; 5] = [
+        &[],
+        &[0, 0, 0, 9, 7, 0],
+        &[0, 0, 0, 9, 7, 0, 0, 0, 0, 0, 0, 0],
+        &[0, 0, 2],
+        &[0, 0, 0, 17],
+    ];
+    for bytes in short {
+        assert_eq!(rt; decode(bytes), Step::Short);
+    }
+    let bad: [&[u8]; 5] = [
+        &[0, 0, 0, 9, 6],
+        &[0, 0, 0, 9, 7, 0, 0, 0, 0, 0, 0, 0, 0],
+        &[0, 0, 0, 18],
+        &[0, 0, 3],
+        &[1],
+    ];
+    for bytes in bad {
+        assert_eq!(rt; decode(bytes), Step::Bad);
+    }
+}

@@ -1,0 +1,361 @@
+//! From records to bytes.
+ghost use Rattle.std.specs.Prelude.{◌≡◌, ◌+◌, ◌≤◌, ◌<◌, ◌^◌, ◌++◌, [], ◌∷◌, length, vec_len, vec_capacity, OnOk, OnErr, IsOk};
+ghost use Rattle.rq_model.specs.declared.record.Record.{Record};
+ghost use Rattle.rq_record.specs.Spelling.{IsInRange, Fits, FitsTxn, IsImage, AreBytes, number, txn_bytes, fields, spelling};
+
+use byteorder::{BigEndian, ByteOrder};
+use rq_model::record::{DeedBytes, Record, Slot};
+use rq_model::refusal::NoMemory;
+use rq_model::txn::Txn;
+
+// The elements of a slice of bytes are bytes.
+pub fn bytes_fit(bytes: &[u8])
+    ensures { AreBytes bytes.now }
+{}
+
+// An image is 256 bytes.
+fn image_fits(image: &Slot)
+    ensures { IsImage image.now }
+{
+    bytes_fit(image.as_slice());
+}
+
+// Both parts are numbers of eight bytes.
+fn txn_fits(txn: &Txn)
+    ensures { FitsTxn txn.now }
+{
+    let _incarnation = txn.incarnation;
+    let _count = txn.count;
+}
+
+// There are 256 bytes at most.
+fn deed_bytes_fit(deed: &DeedBytes)
+    ensures short { length deed.now ≤ 256 }
+    ensures bytes { AreBytes deed.now }
+{
+    bytes_fit(deed.as_slice());
+}
+
+/// Each record that a program holds has fields of their types.
+pub fn fits(record: &Record)
+    ensures { Fits «record».now }
+{
+    match record {
+        Record::PageOp {
+            txn,
+            operation,
+            page,
+            slot,
+            before,
+            after,
+        } => {
+            txn_fits(txn);
+            let _numbers = (*operation, *page, *slot);
+            image_fits(before);
+            image_fits(after);
+        }
+        Record::PageUndo {
+            txn,
+            operation,
+            undone,
+            page,
+            slot,
+            after,
+        } => {
+            txn_fits(txn);
+            let _numbers = (*operation, *undone, *page, *slot);
+            image_fits(after);
+        }
+        Record::OpEnd {
+            txn,
+            operation,
+            level,
+            deed,
+        } => {
+            txn_fits(txn);
+            let _numbers = (*operation, *level);
+            deed_bytes_fit(deed);
+        }
+        Record::OpVoid { txn, operation } => {
+            txn_fits(txn);
+            let _number = *operation;
+        }
+        Record::CompEnd {
+            txn,
+            operation,
+            undone,
+        } => {
+            txn_fits(txn);
+            let _numbers = (*operation, *undone);
+        }
+        Record::Commit { txn } => txn_fits(txn),
+        Record::Restart { incarnation } => {
+            let _number = *incarnation;
+        }
+        Record::AbortEnd { txn } => txn_fits(txn),
+    }
+}
+
+// Puts bytes at the end, in room that is reserved.
+fn put(out: &mut Vec<u8>, bytes: &[u8])
+    requires { vec_len out.old + length bytes.now ≤ vec_capacity out.old }
+    ensures items { out.new.items ≡ out.old.items ++ bytes.now }
+    ensures len { vec_len out.new ≡ vec_len out.old + length bytes.now }
+    ensures capacity { vec_capacity out.old ≤ vec_capacity out.new }
+{
+    let _ = out.extend_from_slice(bytes);
+}
+
+// Puts a number of eight bytes at the end.
+#[tactic(auto, unfolding(crate::specs::Spelling::number))]
+fn put_u64(out: &mut Vec<u8>, n: u64)
+    requires { vec_len out.old + 8 ≤ vec_capacity out.old }
+    ensures items { out.new.items ≡ out.old.items ++ number 8 n }
+    ensures len { vec_len out.new ≡ vec_len out.old + 8 }
+    ensures capacity { vec_capacity out.old ≤ vec_capacity out.new }
+{
+    let mut bytes = [0; 8];
+    BigEndian::write_u64(&mut bytes, n);
+    put(out, &bytes);
+}
+
+// Puts a byte at the end.
+fn put_byte(out: &mut Vec<u8>, byte: u8)
+    requires { vec_len out.old + 1 ≤ vec_capacity out.old }
+    ensures items { out.new.items ≡ out.old.items ++ byte ∷ [] }
+    ensures len { vec_len out.new ≡ vec_len out.old + 1 }
+    ensures capacity { vec_capacity out.old ≤ vec_capacity out.new }
+{
+    put(out, &[byte]);
+}
+
+// Puts a number of four bytes at the end.
+#[tactic(auto, unfolding(crate::specs::Spelling::number))]
+fn put_u32(out: &mut Vec<u8>, n: u32)
+    requires { vec_len out.old + 4 ≤ vec_capacity out.old }
+    ensures items { out.new.items ≡ out.old.items ++ number 4 n }
+    ensures len { vec_len out.new ≡ vec_len out.old + 4 }
+    ensures capacity { vec_capacity out.old ≤ vec_capacity out.new }
+{
+    let mut bytes = [0; 4];
+    BigEndian::write_u32(&mut bytes, n);
+    put(out, &bytes);
+}
+
+// The length, the kind and the transaction, with which all records but a restart begin.
+#[tactic(auto, unfolding(crate::specs::Spelling::number, crate::specs::Spelling::txn_bytes))]
+fn head_of(size: u32, kind: u8, txn: &Txn) -> [u8; 21]
+    ensures { result ≡ number 4 size ++ (kind ∷ txn_bytes txn.now) }
+{
+    let mut head = [0; 21];
+    BigEndian::write_u32(&mut head, size);
+    head[4] = kind;
+    BigEndian::write_u64(&mut head[5..], txn.incarnation);
+    BigEndian::write_u64(&mut head[13..], txn.count);
+    head
+}
+
+// Puts that at the end.
+fn put_head(out: &mut Vec<u8>, size: u32, kind: u8, txn: &Txn)
+    requires { vec_len out.old + 21 ≤ vec_capacity out.old }
+    ensures items { out.new.items ≡ out.old.items ++ (number 4 size ++ (kind ∷ txn_bytes txn.now)) }
+    ensures len { vec_len out.new ≡ vec_len out.old + 21 }
+    ensures capacity { vec_capacity out.old ≤ vec_capacity out.new }
+{
+    put(out, &head_of(size, kind, txn));
+}
+
+// A record of each kind, put at the end.
+
+#[tactic(auto, using(crate::proofs::Spelled::spellings))]
+fn put_page_op(
+    out: &mut Vec<u8>,
+    txn: &Txn,
+    operation: u64,
+    page: u32,
+    slot: u8,
+    before: &Slot,
+    after: &Slot,
+)
+    requires { vec_len out.old + (34 + length before.now + length after.now) ≤ vec_capacity out.old }
+    ensures items { out.new.items
+        ≡ out.old.items ++ spelling (Record.PageOp txn.now operation page slot before.now after.now) }
+    ensures capacity { vec_capacity out.old ≤ vec_capacity out.new }
+{
+    put_head(out, 542, 1, txn);
+    put_u64(out, operation);
+    put_u32(out, page);
+    put_byte(out, slot);
+    put(out, before.as_slice());
+    put(out, after.as_slice());
+}
+
+#[tactic(auto, using(crate::proofs::Spelled::spellings))]
+fn put_page_undo(
+    out: &mut Vec<u8>,
+    txn: &Txn,
+    operation: u64,
+    undone: u64,
+    page: u32,
+    slot: u8,
+    after: &Slot,
+)
+    requires { vec_len out.old + (42 + length after.now) ≤ vec_capacity out.old }
+    ensures items { out.new.items
+        ≡ out.old.items ++ spelling (Record.PageUndo txn.now operation undone page slot after.now) }
+    ensures capacity { vec_capacity out.old ≤ vec_capacity out.new }
+{
+    put_head(out, 294, 2, txn);
+    put_u64(out, operation);
+    put_u64(out, undone);
+    put_u32(out, page);
+    put_byte(out, slot);
+    put(out, after.as_slice());
+}
+
+#[tactic(auto, using(crate::proofs::Spelled::spellings))]
+fn put_op_end(out: &mut Vec<u8>, txn: &Txn, operation: u64, level: u8, deed: &DeedBytes)
+    requires { vec_len out.old + (30 + length deed.now) ≤ vec_capacity out.old }
+    ensures items { out.new.items
+        ≡ out.old.items ++ spelling (Record.OpEnd txn.now operation level deed.now) }
+    ensures capacity { vec_capacity out.old ≤ vec_capacity out.new }
+{
+    let deed = deed.as_slice();
+    put_head(out, 26 + deed.len() as u32, 3, txn);
+    put_u64(out, operation);
+    put_byte(out, level);
+    put(out, deed);
+}
+
+#[tactic(auto, using(crate::proofs::Spelled::spellings))]
+fn put_op_void(out: &mut Vec<u8>, txn: &Txn, operation: u64)
+    requires { vec_len out.old + 29 ≤ vec_capacity out.old }
+    ensures items { out.new.items ≡ out.old.items ++ spelling (Record.OpVoid txn.now operation) }
+    ensures capacity { vec_capacity out.old ≤ vec_capacity out.new }
+{
+    put_head(out, 25, 4, txn);
+    put_u64(out, operation);
+}
+
+#[tactic(auto, using(crate::proofs::Spelled::spellings))]
+fn put_comp_end(out: &mut Vec<u8>, txn: &Txn, operation: u64, undone: u64)
+    requires { vec_len out.old + 37 ≤ vec_capacity out.old }
+    ensures items { out.new.items
+        ≡ out.old.items ++ spelling (Record.CompEnd txn.now operation undone) }
+    ensures capacity { vec_capacity out.old ≤ vec_capacity out.new }
+{
+    put_head(out, 33, 5, txn);
+    put_u64(out, operation);
+    put_u64(out, undone);
+}
+
+#[tactic(auto, using(crate::proofs::Spelled::spellings))]
+fn put_commit(out: &mut Vec<u8>, txn: &Txn)
+    requires { vec_len out.old + 21 ≤ vec_capacity out.old }
+    ensures items { out.new.items ≡ out.old.items ++ spelling (Record.Commit txn.now) }
+    ensures capacity { vec_capacity out.old ≤ vec_capacity out.new }
+{
+    put_head(out, 17, 6, txn);
+}
+
+#[tactic(auto, using(crate::proofs::Spelled::spellings))]
+fn put_restart(out: &mut Vec<u8>, incarnation: u64)
+    requires { vec_len out.old + 13 ≤ vec_capacity out.old }
+    ensures items { out.new.items ≡ out.old.items ++ spelling (Record.Restart incarnation) }
+    ensures capacity { vec_capacity out.old ≤ vec_capacity out.new }
+{
+    put_u32(out, 9);
+    put_byte(out, 7);
+    put_u64(out, incarnation);
+}
+
+#[tactic(auto, using(crate::proofs::Spelled::spellings))]
+fn put_abort_end(out: &mut Vec<u8>, txn: &Txn)
+    requires { vec_len out.old + 21 ≤ vec_capacity out.old }
+    ensures items { out.new.items ≡ out.old.items ++ spelling (Record.AbortEnd txn.now) }
+    ensures capacity { vec_capacity out.old ≤ vec_capacity out.new }
+{
+    put_head(out, 17, 8, txn);
+}
+
+// The number of bytes of an image.
+fn image_len(image: &Slot) -> usize
+    ensures len { result ≡ length image.now }
+    ensures size { result ≡ 256 }
+{
+    image.as_slice().len()
+}
+
+/// The number of bytes of a record's spelling.
+#[tactic(auto, using(crate::proofs::Spelled::lengths))]
+pub fn spelled_len(record: &Record) -> usize
+    ensures { result ≡ length (spelling «record».now) }
+{
+    match record {
+        Record::PageOp { before, after, .. } => 34 + image_len(before) + image_len(after),
+        Record::PageUndo { after, .. } => 42 + image_len(after),
+        Record::OpEnd { deed, .. } => 30 + deed.as_slice().len(),
+        Record::OpVoid { .. } => 29,
+        Record::CompEnd { .. } => 37,
+        Record::Commit { .. } | Record::AbortEnd { .. } => 21,
+        Record::Restart { .. } => 13,
+    }
+}
+
+// Puts a record at the end, in room that is reserved.
+#[tactic(auto, using(crate::proofs::Spelled::lengths))]
+fn put_record(out: &mut Vec<u8>, record: &Record)
+    requires { vec_len out.old + length (spelling «record».now) ≤ vec_capacity out.old }
+    ensures items { out.new.items ≡ out.old.items ++ spelling «record».now }
+    ensures capacity { vec_capacity out.old ≤ vec_capacity out.new }
+{
+    match record {
+        Record::PageOp {
+            txn,
+            operation,
+            page,
+            slot,
+            before,
+            after,
+        } => put_page_op(out, txn, *operation, *page, *slot, before, after),
+        Record::PageUndo {
+            txn,
+            operation,
+            undone,
+            page,
+            slot,
+            after,
+        } => put_page_undo(out, txn, *operation, *undone, *page, *slot, after),
+        Record::OpEnd {
+            txn,
+            operation,
+            level,
+            deed,
+        } => put_op_end(out, txn, *operation, *level, deed),
+        Record::OpVoid { txn, operation } => put_op_void(out, txn, *operation),
+        Record::CompEnd {
+            txn,
+            operation,
+            undone,
+        } => put_comp_end(out, txn, *operation, *undone),
+        Record::Commit { txn } => put_commit(out, txn),
+        Record::Restart { incarnation } => put_restart(out, *incarnation),
+        Record::AbortEnd { txn } => put_abort_end(out, txn),
+    }
+}
+
+/// Puts the spelling of a record at the end: all of it, or nothing where memory is wanting. Where the
+/// room is reserved, it succeeds.
+pub fn encode(record: &Record, out: &mut Vec<u8>) -> Result<(), NoMemory>
+    requires { IsInRange «record».now }
+    ensures ok { OnOk result (out.new.items ≡ out.old.items ++ spelling «record».now) }
+    ensures err { OnErr result (out.new.items ≡ out.old.items) }
+    ensures room { vec_len out.old + length (spelling «record».now) ≤ vec_capacity out.old → IsOk result }
+    ensures capacity { vec_capacity out.old ≤ vec_capacity out.new }
+{
+    if out.reserve(spelled_len(record)).is_err() {
+        return Err(NoMemory);
+    }
+    put_record(out, record);
+    Ok(())
+}
