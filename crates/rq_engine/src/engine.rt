@@ -1,5 +1,6 @@
 //! The engine's calls.
-ghost use Rattle.std.specs.Prelude.{◌≡◌, ◌+◌, ◌<◌, ◌≤◌, ◌/◌, ◌%◌, ◌^◌, ◌↔◌, IfOk, IfErr, OnOk, OnErr, IsErr, IfSome, IsSome, true, false};
+ghost use Rattle.std.specs.Prelude.{◌≡◌, ◌+◌, ◌<◌, ◌≤◌, ◌/◌, ◌%◌, ◌^◌, ◌↔◌, ◌⊎◌, IfOk, IfErr, OnOk, OnErr, IsErr, IfSome, IsSome, true, false};
+ghost use Rattle.rq_engine.specs.Says.{IsContent};
 ghost use Rattle.rq_page.specs.Sizes.{sender_count};
 ghost use Rattle.rq_record.specs.Spelling.{IsInRange};
 
@@ -232,6 +233,7 @@ impl<P: PageDevice + Drop, L: LogDevice + Drop> Engine<P, L> {
 
     /// Appends the buffered records to the log device, without forcing it.
     pub fn hand_over(&mut self) -> Result<(), Refusal>
+        ensures refusal { IfErr result (λ r. (r ≡ Refusal.Failed) ⊎ (r ≡ Refusal.DiskWrite)) }
         ensures refused { self.old.failed ≡ true → self.new ≡ self.old }
         ensures failed { OnErr result (self.new.failed ≡ true) }
         ensures forced { self.new.forced ≡ self.old.forced }
@@ -246,6 +248,7 @@ impl<P: PageDevice + Drop, L: LogDevice + Drop> Engine<P, L> {
     /// Hands over what is buffered and forces the log device: every record is then durable.
     pub fn force(&mut self) -> Result<Lsn, Refusal>
         ensures forced { IfOk result (λ lsn. (lsn ≡ self.old.records) × (self.new.forced ≡ self.old.records)) }
+        ensures refusal { IfErr result (λ r. (r ≡ Refusal.Failed) ⊎ (r ≡ Refusal.DiskWrite)) }
         ensures refused { self.old.failed ≡ true → self.new ≡ self.old }
         ensures failed { OnErr result (self.new.failed ≡ true) }
         ensures records { self.new.records ≡ self.old.records }
@@ -294,25 +297,52 @@ impl<P: PageDevice + Drop, L: LogDevice + Drop> Engine<P, L> {
     }
 
     /// Makes the call that an event stands for.
-    pub fn apply(&mut self, event: &Event) -> Reply {
+    pub fn apply(&mut self, event: &Event) -> Reply
+        ensures no_memory { result ≡ Reply.Refused Refusal.NoMemory → self.new ≡ self.old }
+        ensures content { IsContent result → self.new ≡ self.old }
+    {
         match event {
-            Event::Begin => reply(self.begin(), Reply::Begun),
+            Event::Begin => match self.begin() {
+                Ok(txn) => Reply::Begun(txn),
+                Err(refusal) => Reply::Refused(refusal),
+            },
             Event::StartSend {
                 txn,
                 sender,
                 tag,
                 body,
-            } => reply(self.start_send(*txn, *sender, *tag, body), Reply::Started),
-            Event::Step(sub) => reply(self.step(*sub), Reply::Stepped),
-            Event::Finish(sub) => reply(self.finish(*sub), Reply::Finished),
-            Event::Commit(txn) => reply(self.commit(*txn), Reply::Committed),
-            Event::Acknowledged(number) => reply(self.acknowledged(*number), Reply::Acknowledged),
+            } => match self.start_send(*txn, *sender, *tag, body) {
+                Ok(sub) => Reply::Started(sub),
+                Err(refusal) => Reply::Refused(refusal),
+            },
+            Event::Step(sub) => match self.step(*sub) {
+                Ok(progress) => Reply::Stepped(progress),
+                Err(refusal) => Reply::Refused(refusal),
+            },
+            Event::Finish(sub) => match self.finish(*sub) {
+                Ok(outcome) => Reply::Finished(outcome),
+                Err(refusal) => Reply::Refused(refusal),
+            },
+            Event::Commit(txn) => match self.commit(*txn) {
+                Ok(number) => Reply::Committed(number),
+                Err(refusal) => Reply::Refused(refusal),
+            },
+            Event::Acknowledged(number) => match self.acknowledged(*number) {
+                Ok(given) => Reply::Acknowledged(given),
+                Err(refusal) => Reply::Refused(refusal),
+            },
             Event::HandOver => match self.hand_over() {
                 Ok(()) => Reply::HandedOver,
                 Err(refusal) => Reply::Refused(refusal),
             },
-            Event::Force => reply(self.force(), Reply::Forced),
-            Event::Content => reply(self.content(), Reply::Content),
+            Event::Force => match self.force() {
+                Ok(lsn) => Reply::Forced(lsn),
+                Err(refusal) => Reply::Refused(refusal),
+            },
+            Event::Content => match self.content() {
+                Ok(groups) => Reply::Content(groups),
+                Err(refusal) => Reply::Refused(refusal),
+            },
         }
     }
 
@@ -612,14 +642,5 @@ fn outcome_of(deed: &Deed) -> Outcome {
             body: *body,
         }),
         Deed::Close { sender: _ } => Outcome::Closed,
-    }
-}
-
-fn reply<T, F: FnOnce(T) -> Reply>(answer: Result<T, Refusal>, make: F) -> Reply
-    requires { F.IsAlwaysCallable make }
-{
-    match answer {
-        Ok(value) => make(value),
-        Err(refusal) => Reply::Refused(refusal),
     }
 }

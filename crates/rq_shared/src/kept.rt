@@ -1,9 +1,10 @@
 //! The kept engine: each call leaves one entry, and answers a stamp that says the same.
-ghost use Rattle.std.specs.Prelude.{◌≡◌};
+ghost use Rattle.std.specs.Prelude.{◌≡◌, ◌≢◌, ◌<◌, [], ◌↔◌, IfOk, OnOk, OnErr, IsTrue, map, vec_len, vec_capacity};
+ghost use Rattle.rq_engine.specs.Says.{call_of, gave, group_of, IsContent};
 
 use rq_disk::{LogDevice, PageDevice};
 use rq_engine::engine::Engine;
-use rq_engine::event::{Event, Reply};
+use rq_engine::event::{Event, GroupContent, Reply};
 use rq_model::refusal::Refusal;
 use std::alloc::{AllocError, Global};
 
@@ -68,8 +69,13 @@ pub struct Kept<P: PageDevice, L: LogDevice> {
 }
 
 impl<P: PageDevice + Drop, L: LogDevice + Drop> Kept<P, L> {
+    ghost use Rattle.rq_shared.specs.Entries.{OneMore, noted};
+
     /// Keeps an engine. The audit is empty.
-    pub fn new(alloc: Global, engine: Engine<P, L>) -> Self {
+    pub fn new(alloc: Global, engine: Engine<P, L>) -> Self
+        ensures engine { result.engine ≡ engine }
+        ensures audit { result.audit.items ≡ [] }
+    {
         Kept {
             alloc,
             engine,
@@ -77,41 +83,46 @@ impl<P: PageDevice + Drop, L: LogDevice + Drop> Kept<P, L> {
         }
     }
 
-    /// Makes the call that the event stands for. It leaves one entry, but where it is answered `NoMemory`:
-    /// then it leaves none, and no change.
-    pub fn step(&mut self, pass: u64, event: Event) -> Stamped {
+    /// Makes the call that the event stands for, and answers a stamp of it. It leaves one entry, which says
+    /// what the stamp says; where it is answered `NoMemory` it leaves none, and no change.
+    pub fn step(&mut self, pass: u64, event: Event) -> Stamped
+        ensures pass { result.pass ≡ pass }
+        ensures event { result.event ≡ event }
+        ensures entry { result.reply ≢ Reply.Refused Refusal.NoMemory → OneMore self.old.audit.items self.new.audit.items (noted pass event result.reply) }
+        ensures no_entry { result.reply ≡ Reply.Refused Refusal.NoMemory → self.new.audit.items ≡ self.old.audit.items }
+        ensures no_change { result.reply ≡ Reply.Refused Refusal.NoMemory → self.new.engine ≡ self.old.engine }
+    {
         let Ok(noted_event) = self.room_for(&event) else {
-            return Stamped {
-                pass,
-                event,
-                reply: Reply::Refused(Refusal::NoMemory),
-            };
+            return refused(pass, event);
         };
         let reply = self.engine.apply(&event);
-        let Ok(noted_reply) = reply.clone() else {
-            return Stamped {
-                pass,
-                event,
-                reply: Reply::Refused(Refusal::NoMemory),
-            };
+        let Ok(noted_reply) = copy_of(self.alloc, &reply) else {
+            return refused(pass, event);
         };
-        if !is_no_memory(&reply) {
-            let _ = self.audit.push(AuditEntry {
-                pass,
-                event: noted_event,
-                reply: noted_reply,
-            });
+        if is_no_memory(&reply) {
+            return refused(pass, event);
         }
+        let _ = self.audit.push(AuditEntry {
+            pass,
+            event: noted_event,
+            reply: noted_reply,
+        });
         Stamped { pass, event, reply }
     }
 
     /// The entries since the audit was last taken, in order. It is empty afterwards.
-    pub fn take(&mut self) -> Vec<AuditEntry> {
+    pub fn take(&mut self) -> Vec<AuditEntry>
+        ensures taken { result.items ≡ self.old.audit.items }
+        ensures emptied { self.new.audit.items ≡ [] }
+        ensures engine { self.new.engine ≡ self.old.engine }
+    {
         std::mem::replace(&mut self.audit, Vec::new(self.alloc))
     }
 
     /// The engine, as it is.
-    pub fn give_back(self) -> Engine<P, L> {
+    pub fn give_back(self) -> Engine<P, L>
+        ensures { result ≡ self.engine }
+    {
         let Kept {
             alloc: _,
             engine,
@@ -121,14 +132,69 @@ impl<P: PageDevice + Drop, L: LogDevice + Drop> Kept<P, L> {
     }
 
     // A copy of the event, and room for one more entry.
-    fn room_for(&mut self, event: &Event) -> Result<Event, AllocError> {
+    fn room_for(&mut self, event: &Event) -> Result<Event, AllocError>
+        ensures copy { IfOk result (λ copy. call_of copy ≡ call_of event.now) }
+        ensures room { OnOk result (vec_len self.new.audit < vec_capacity self.new.audit) }
+        ensures audit { self.new.audit.items ≡ self.old.audit.items }
+        ensures engine { self.new.engine ≡ self.old.engine }
+    {
         let copy = event.clone()?;
         self.audit.try_reserve(1)?;
         Ok(copy)
     }
 }
 
-fn is_no_memory(reply: &Reply) -> bool {
+// The stamp of a call that memory was wanting for.
+fn refused(pass: u64, event: Event) -> Stamped
+    ensures pass { result.pass ≡ pass }
+    ensures event { result.event ≡ event }
+    ensures reply { result.reply ≡ Reply.Refused Refusal.NoMemory }
+{
+    Stamped {
+        pass,
+        event,
+        reply: Reply::Refused(Refusal::NoMemory),
+    }
+}
+
+// The same reply. Only a content takes memory.
+fn copy_of(alloc: Global, reply: &Reply) -> Result<Reply, AllocError>
+    ensures same { IfOk result (λ copy. gave copy ≡ gave reply.now) }
+    ensures content { OnErr result (IsContent reply.now) }
+{
+    Ok(match reply {
+        Reply::Begun(txn) => Reply::Begun(*txn),
+        Reply::Started(sub) => Reply::Started(*sub),
+        Reply::Stepped(progress) => Reply::Stepped(*progress),
+        Reply::Finished(outcome) => Reply::Finished(*outcome),
+        Reply::Committed(number) => Reply::Committed(*number),
+        Reply::Acknowledged(given) => Reply::Acknowledged(*given),
+        Reply::HandedOver => Reply::HandedOver,
+        Reply::Forced(lsn) => Reply::Forced(*lsn),
+        Reply::Content(groups) => Reply::Content(copy_of_groups(alloc, groups)?),
+        Reply::Refused(refusal) => Reply::Refused(*refusal),
+    })
+}
+
+fn copy_of_groups(alloc: Global, groups: &[GroupContent]) -> Result<Vec<GroupContent>, AllocError>
+    ensures { IfOk result (λ copy. map group_of copy.items ≡ map group_of groups.now) }
+{
+    let mut copy = Vec::with_capacity(alloc, groups.len())?;
+    for group in groups {
+        copy.push(GroupContent {
+            sent: group.sent,
+            last_tag: group.last_tag,
+            received: group.received,
+            closed: group.closed,
+            rest: Vec::from_slice(alloc, &group.rest)?,
+        })?;
+    }
+    Ok(copy)
+}
+
+fn is_no_memory(reply: &Reply) -> bool
+    ensures { IsTrue result ↔ (reply.now ≡ Reply.Refused Refusal.NoMemory) }
+{
     match reply {
         Reply::Refused(Refusal::NoMemory) => true,
         _ => false,

@@ -15,6 +15,9 @@ use std::{io, mem};
 /// The pass under which a script's calls are kept.
 const PASS: u64 = 1;
 
+/// How many calls are made to carry an operation through, those that memory was wanting for among them.
+const ATTEMPTS: u32 = 1000;
+
 /// Runs a script to its end, or to a fault, and answers the exit status: 0, or 1 after a fault. What its
 /// commands print is written as they are carried out. A script's refusals are lines like any other.
 pub fn run_script<R: Read, W: Write>(
@@ -140,22 +143,28 @@ impl Script {
         }
     }
 
-    // Makes a call, and keeps the number of a commit.
-    fn ask(&mut self, event: Event) -> io::Result<Reply> {
+    // Makes a call, and keeps the number of a commit. Room for that number is made first, so that no commit
+    // is answered and forgotten.
+    fn ask(&mut self, event: Event) -> Reply {
         let Store::Open(kept) = &mut self.store else {
-            return Ok(Reply::Refused(Refusal::Failed));
+            return Reply::Refused(Refusal::Failed);
         };
+        if self.commits.try_reserve(1).is_err() {
+            return Reply::Refused(Refusal::NoMemory);
+        }
         let reply = kept.step(PASS, event).into_reply();
         match &reply {
-            Reply::Committed(number) => self.commits.push(*number)?,
+            Reply::Committed(number) => {
+                let _ = self.commits.push(*number);
+            }
             Reply::Refused(Refusal::DiskWrite) => self.failed = true,
             _ => {}
         }
-        Ok(reply)
+        reply
     }
 
     fn call<W: Write>(&mut self, writer: &mut W, event: Event) -> io::Result<()> {
-        let reply = self.ask(event)?;
+        let reply = self.ask(event);
         print_reply(writer, &reply)
     }
 
@@ -168,30 +177,40 @@ impl Script {
         tag: u64,
         body: &[u8],
     ) -> io::Result<()> {
+        let Ok(body) = body.to_vec(self.alloc) else {
+            return print_refusal(writer, Refusal::NoMemory);
+        };
         let event = Event::StartSend {
             txn,
             sender,
             tag,
-            body: body.to_vec(self.alloc)?,
+            body,
         };
-        let started = self.ask(event)?;
+        let started = self.ask(event);
         let Reply::Started(sub) = started else {
             return print_reply(writer, &started);
         };
-        let finished = self.finish(sub)?;
+        let finished = self.finish(sub);
         print_reply(writer, &finished)
     }
 
-    // Takes the steps that an operation has left, and ends it.
-    fn finish(&mut self, sub: Sub) -> io::Result<Reply> {
-        for _ in 0..u64::MAX {
-            match self.ask(Event::Step(sub))? {
+    // Takes the steps that an operation has left, and ends it. What memory was wanting for is tried again.
+    fn finish(&mut self, sub: Sub) -> Reply {
+        let mut is_ready = false;
+        for _ in 0..ATTEMPTS {
+            let event = if is_ready {
+                Event::Finish(sub)
+            } else {
+                Event::Step(sub)
+            };
+            match self.ask(event) {
                 Reply::Stepped(Progress::Done(_)) => {}
-                Reply::Stepped(Progress::Ready) => break,
-                refused => return Ok(refused),
+                Reply::Stepped(Progress::Ready) => is_ready = true,
+                Reply::Refused(Refusal::NoMemory) => {}
+                reply => return reply,
             }
         }
-        self.ask(Event::Finish(sub))
+        Reply::Refused(Refusal::NoMemory)
     }
 
     fn ack<W: Write>(&mut self, writer: &mut W, txn: Txn) -> io::Result<()> {

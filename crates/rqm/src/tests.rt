@@ -1,5 +1,10 @@
 use crate::script::run_script;
+use rq_disk::{MemLog, MemPages, Switch};
+use rq_engine::event::{Event, Reply};
+use rq_engine::format::format;
+use rq_engine::restart::restart;
 use rq_page::layout::Layout;
+use rq_shared::kept::Kept;
 use std::process::Abort;
 use std::test::Fail;
 
@@ -124,4 +129,28 @@ fn a_sending_end_has_one_holder(rt: HostRuntime) -> Result<(), Fail> {
         "begun 1.1\nbegun 1.2\nsent\nrefused 9 SenderBusy\nsent\ncommit 8\nsent\ncommit 13\n0 open sent 2 received 0: a b\n1 open sent 1 received 0: c\n",
         0,
     )
+}
+
+#[test]
+fn the_audit_keeps_each_call_until_it_is_taken(rt: HostRuntime) -> Result<(), Fail> {
+    let layout = Layout::new(1, 1).ok_or("a small store")?;
+    let switch = Switch::new(rt.alloc())?;
+    let mut pages = MemPages::zeroed(rt.alloc(), layout.pages(), switch.share()?)?;
+    let log = MemLog::new(rt.alloc(), Vec::new(rt.alloc()), switch);
+    assert!(rt; format(&mut pages, &layout).is_ok());
+    let Ok((engine, report)) = restart(rt.alloc(), pages, log) else {
+        return Err(Fail::from("restart"));
+    };
+    assert_eq!(rt; report.incarnation, 1);
+    assert_eq!(rt; report.records, 1);
+    let mut kept = Kept::new(rt.alloc(), engine);
+    let begun = kept.step(3, Event::Begin);
+    assert_eq!(rt; begun.pass(), 3);
+    let handed = kept.step(4, Event::HandOver);
+    assert!(rt; matches!(handed.reply(), Reply::HandedOver));
+    assert!(rt; matches!(handed.event(), Event::HandOver));
+    let audit = kept.take();
+    assert_eq!(rt; audit.len(), 2);
+    assert_eq!(rt; kept.take().len(), 0);
+    Ok(())
 }

@@ -1,0 +1,65 @@
+-- Events and replies as the model's words: calls, and what they gave.
+use Rattle.std.specs.Prelude.{ℕ, Bool, true, false, List, map, Option, Some, None, Vec}
+use Rattle.rq_model.specs.declared.txn.Txn.{Txn}
+use Rattle.rq_model.specs.declared.refusal.Refusal.{Refusal}
+use Rattle.rq_model.specs.History.{Group, Call}
+use Rattle.rq_model.specs.History.Call.{Begin as Call_begin, Start_send as Call_start_send, Step as Call_step, Finish as Call_finish, Commit as Call_commit, Acknowledge as Call_acknowledge, Hand_over as Call_hand_over, Force as Call_force, Show as Call_show}
+use Rattle.rq_model.specs.Replay.{Reply as Gave}
+use Rattle.rq_model.specs.Replay.Reply.{Gave_txn, Gave_sub, Gave_lsn, Gave_ready, Gave_sent, Gave_message, Gave_closed, Gave_undone, Gave_nothing, Gave_receipt, Gave_content, Gave_refusal}
+use Rattle.rq_engine.specs.declared.event.GroupContent.{GroupContent}
+use Rattle.rq_engine.specs.declared.event.Progress.{Progress}
+use Rattle.rq_engine.specs.declared.event.Progress.TheVariants as progress
+use Rattle.rq_engine.specs.declared.event.Outcome.{Outcome}
+use Rattle.rq_engine.specs.declared.event.Outcome.TheVariants as outcome
+use Rattle.rq_engine.specs.declared.event.Event.{Event}
+use Rattle.rq_engine.specs.declared.event.Event.TheVariants as event
+use Rattle.rq_engine.specs.declared.event.Receipt.{Receipt}
+use Rattle.rq_engine.specs.declared.event.Reply.{Reply}
+use Rattle.rq_engine.specs.declared.event.Reply.TheVariants as reply
+
+-- the call that an event stands for
+abbrev pub call_of : Event → Call
+call_of event.Begin = Call_begin
+call_of (event.StartSend txn sender tag body) = Call_start_send txn (record { sender = sender; tag = tag; body = body.items })
+call_of (event.Step sub) = Call_step sub.txn sub.number
+call_of (event.Finish sub) = Call_finish sub.txn sub.number
+call_of (event.Commit txn) = Call_commit txn
+call_of (event.Acknowledged number) = Call_acknowledge number.txn number.lsn
+call_of event.HandOver = Call_hand_over
+call_of event.Force = Call_force
+call_of event.Content = Call_show
+
+abbrev pub group_of : GroupContent → Group
+group_of g = record { sent = g.sent; last_tag = g.last_tag; received = g.received; closed = g.closed; rest = g.rest.items }
+
+abbrev pub progress_of : Progress → Gave
+progress_of (progress.Done lsn) = Gave_lsn lsn
+progress_of progress.Ready = Gave_ready
+
+abbrev pub outcome_of : Outcome → Gave
+outcome_of outcome.Sent = Gave_sent
+outcome_of (outcome.Message m) = Gave_message m
+outcome_of outcome.Closed = Gave_closed
+outcome_of outcome.Undone = Gave_undone
+
+abbrev pub is_given : Option Receipt → Bool
+is_given None = false
+is_given (Some r) = true
+
+-- what a reply gave
+abbrev pub gave : Reply → Gave
+gave (reply.Begun t) = Gave_txn t
+gave (reply.Started sub) = Gave_sub sub.number
+gave (reply.Stepped p) = progress_of p
+gave (reply.Finished o) = outcome_of o
+gave (reply.Committed number) = Gave_lsn number.lsn
+gave (reply.Acknowledged given) = Gave_receipt (is_given given)
+gave reply.HandedOver = Gave_nothing
+gave (reply.Forced lsn) = Gave_lsn lsn
+gave (reply.Content groups) = Gave_content (map group_of groups.items)
+gave (reply.Refused r) = Gave_refusal r
+
+-- the reply shows a content
+abbrev pub IsContent : Reply → Type 0
+IsContent (reply.Content groups) = Unit {0}
+IsContent _ = ⊥
