@@ -2,6 +2,7 @@
 use Rattle.std.specs.Prelude.{ℕ, Bool, List, Option, Some, None}
 use Rattle.rq_model.specs.declared.txn.Txn.{Txn}
 use Rattle.rq_model.specs.declared.record.Deed.{Deed}
+use Rattle.rq_model.specs.declared.record.Record.{Record}
 use Rattle.rq_page.specs.Sizes.{Sizes}
 use Rattle.rq_engine.specs.declared.chain.SlotWrite.{SlotWrite}
 use Rattle.rq_engine.specs.declared.ends.Held.{Held}
@@ -34,14 +35,13 @@ under_way_of (Some o) = Some (under_of o)
 abbrev pub row_of : Transaction → Row
 row_of t = record { txn = t.txn; aborting = t.aborting; finished = t.finished.items; number = t.number; under = under_way_of t.under_way }
 
--- the engine: its transactions and ends, its pages, the records that are not handed over and how many there are
+-- the engine: its transactions and ends, its pages, and the records of its log, the newest first
 pub record State : Type 0 where
   pub layout : Sizes
   pub rows : List Row
   pub held : List Held
   pub pages : List (List ℕ)
-  pub buffered : List ℕ
-  pub records : ℕ
+  pub records : List Record
   pub forced : ℕ
   pub failed : Bool
   pub busy : Bool

@@ -1,5 +1,6 @@
 //! The engine's calls.
-ghost use Rattle.std.specs.Prelude.{◌≡◌, ◌+◌, ◌<◌, ◌≤◌, ◌/◌, ◌%◌, ◌^◌, ◌↔◌, ◌⊎◌, IfOk, IfErr, OnOk, OnErr, IsErr, IfSome, IsSome, true, false};
+ghost use Rattle.std.specs.Prelude.{◌≡◌, ◌+◌, ◌<◌, ◌≤◌, ◌/◌, ◌%◌, ◌^◌, ◌↔◌, ◌⊎◌, IfOk, IfErr, OnOk, OnErr, IsErr, IfSome, IsSome, true, false, length, ◌∷◌};
+ghost use Rattle.rq_model.specs.declared.record.Record.TheVariants.{Commit};
 ghost use Rattle.rq_engine.specs.Says.{IsContent};
 ghost use Rattle.rq_page.specs.Sizes.{sender_count};
 ghost use Rattle.rq_record.specs.Spelling.{IsInRange};
@@ -53,7 +54,7 @@ pub struct Engine<P: PageDevice, L: LogDevice> {
 }
 
 impl<P: PageDevice, L: LogDevice> Model for Engine<P, L> {
-    ghost use Rattle.std.specs.Prelude.{◌≤◌, map};
+    ghost use Rattle.std.specs.Prelude.{◌≡◌, ◌≤◌, map};
     ghost use Rattle.rq_engine.specs.State.{State, row_of};
 
     ghost Value = { State };
@@ -63,8 +64,7 @@ impl<P: PageDevice, L: LogDevice> Model for Engine<P, L> {
       rows = map row_of e.transactions.rows.items;
       held = e.ends.sending.items;
       pages = map (λ f. f.page) e.pages.frames.items;
-      buffered = e.log.buffer.items;
-      records = e.log.last;
+      records = e.log.records;
       forced = e.log.forced;
       failed = e.failed;
       busy = e.latches.taken;
@@ -74,7 +74,7 @@ impl<P: PageDevice, L: LogDevice> Model for Engine<P, L> {
       owed = e.owed;
     } };
 
-    ghost invariant = { λ e. 1 ≤ e.incarnation };
+    ghost invariant = { λ e. (1 ≤ e.incarnation) × (e.log.failed ≡ e.failed) };
 }
 
 impl<P: PageDevice + Drop, L: LogDevice + Drop> Engine<P, L> {
@@ -87,7 +87,8 @@ impl<P: PageDevice + Drop, L: LogDevice + Drop> Engine<P, L> {
         incarnation: u64,
         cells_in_use: u64,
     ) -> Self
-        requires { 1 ≤ incarnation }
+        requires begun { 1 ≤ incarnation }
+        requires running { log.failed ≡ false }
     {
         Engine {
             alloc,
@@ -201,8 +202,8 @@ impl<P: PageDevice + Drop, L: LogDevice + Drop> Engine<P, L> {
     /// Commits a transaction: writes its Commit record, releases its ends and ends it. The commit is
     /// durable once that record is forced.
     pub fn commit(&mut self, txn: Txn) -> Result<CommitNo, Refusal>
-        ensures number { IfOk result (λ no. (no.txn ≡ txn) × (no.lsn ≡ self.old.records + 1)) }
-        ensures records { OnOk result (self.new.records ≡ self.old.records + 1) }
+        ensures number { IfOk result (λ no. (no.txn ≡ txn) × (no.lsn ≡ length self.new.records)) }
+        ensures records { OnOk result (self.new.records ≡ Commit txn ∷ self.old.records) }
         ensures forced { self.new.forced ≡ self.old.forced }
         ensures refused { OnErr result (self.new ≡ self.old) }
     {
@@ -247,7 +248,7 @@ impl<P: PageDevice + Drop, L: LogDevice + Drop> Engine<P, L> {
 
     /// Hands over what is buffered and forces the log device: every record is then durable.
     pub fn force(&mut self) -> Result<Lsn, Refusal>
-        ensures forced { IfOk result (λ lsn. (lsn ≡ self.old.records) × (self.new.forced ≡ self.old.records)) }
+        ensures forced { IfOk result (λ lsn. (lsn ≡ length self.old.records) × (self.new.forced ≡ lsn)) }
         ensures refusal { IfErr result (λ r. (r ≡ Refusal.Failed) ⊎ (r ≡ Refusal.DiskWrite)) }
         ensures refused { self.old.failed ≡ true → self.new ≡ self.old }
         ensures failed { OnErr result (self.new.failed ≡ true) }
@@ -363,6 +364,7 @@ impl<P: PageDevice + Drop, L: LogDevice + Drop> Engine<P, L> {
         ensures number { IfOk result (λ n. 1 ≤ n) }
         ensures incarnation { OnOk result (1 ≤ txn.incarnation) }
         ensures count { OnOk result (1 ≤ txn.count) }
+        ensures running { OnOk result (self.now.failed ≡ false) }
     {
         self.check_running()?;
         let Some(row) = self.transactions.get(txn) else {
@@ -478,6 +480,7 @@ impl<P: PageDevice + Drop, L: LogDevice + Drop> Engine<P, L> {
         requires number { 1 ≤ sub.number }
         requires incarnation { 1 ≤ sub.txn.incarnation }
         requires count { 1 ≤ sub.txn.count }
+        requires running { self.old.failed ≡ false }
         ensures refused { OnErr result (self.new ≡ self.old) }
     {
         self.log_record(&Record::PageOp {
@@ -495,6 +498,7 @@ impl<P: PageDevice + Drop, L: LogDevice + Drop> Engine<P, L> {
         requires number { 1 ≤ sub.number }
         requires incarnation { 1 ≤ sub.txn.incarnation }
         requires count { 1 ≤ sub.txn.count }
+        requires running { self.old.failed ≡ false }
         ensures refused { OnErr result (self.new ≡ self.old) }
     {
         self.log_record(&Record::OpEnd {
@@ -507,8 +511,10 @@ impl<P: PageDevice + Drop, L: LogDevice + Drop> Engine<P, L> {
 
     // Logs a record.
     fn log_record(&mut self, record: &Record) -> Result<Lsn, Refusal>
-        requires { IsInRange «record».now }
-        ensures lsn { IfOk result (λ lsn. (lsn ≡ self.old.records + 1) × (self.new.records ≡ lsn)) }
+        requires range { IsInRange «record».now }
+        requires running { self.old.failed ≡ false }
+        ensures lsn { IfOk result (λ lsn. lsn ≡ length self.new.records) }
+        ensures records { OnOk result (self.new.records ≡ «record».now ∷ self.old.records) }
         ensures forced { self.new.forced ≡ self.old.forced }
         ensures refused { OnErr result (self.new ≡ self.old) }
     {

@@ -1,5 +1,5 @@
 //! Opening a store that a crash, or nothing at all, left behind.
-ghost use Rattle.std.specs.Prelude.{◌≤◌, IfOk, IsTrue};
+ghost use Rattle.std.specs.Prelude.{◌≡◌, ◌≤◌, IfOk, OnOk, IsTrue, false};
 
 use crate::engine::{Engine, LOG_LIMIT};
 use crate::history::History;
@@ -153,7 +153,9 @@ fn settle<L: LogDevice + Drop>(
     miscounted: Option<u32>,
     log: &mut Log<L>,
 ) -> Result<Report, Refusal>
-    ensures { IfOk result (λ report. 1 ≤ report.incarnation) }
+    requires { log.old.failed ≡ false }
+    ensures begun { IfOk result (λ report. 1 ≤ report.incarnation) }
+    ensures running { OnOk result (log.new.failed ≡ false) }
 {
     let repeated = repeated?;
     if let Some(page) = miscounted {
@@ -258,7 +260,9 @@ impl Written<'_> {
 }
 
 fn begin_incarnation<L: LogDevice + Drop>(log: &mut Log<L>, last: u64) -> Result<Report, Refusal>
-    ensures { IfOk result (λ report. 1 ≤ report.incarnation) }
+    requires { log.old.failed ≡ false }
+    ensures begun { IfOk result (λ report. 1 ≤ report.incarnation) }
+    ensures running { OnOk result (log.new.failed ≡ false) }
 {
     if log.last() >= LOG_LIMIT {
         return Err(Refusal::LogFull);

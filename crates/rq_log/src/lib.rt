@@ -1,27 +1,50 @@
 //! The log: a list of records with a forced beginning, over a device.
 #![tactic(auto)]
 
-ghost use Rattle.std.specs.Prelude.{◌≡◌, ◌+◌, ◌-◌, ◌^◌, ◌<◌, ◌≤◌, OnOk, OnErr, IfOk, IfErr, ℕ, length, vec_len, vec_capacity};
-ghost use Rattle.rq_disk.specs.Records.{AreRecords, some_records-prop};
+ghost use Rattle.std.specs.Prelude.{◌≡◌, ◌+◌, ◌-◌, ◌^◌, ◌<◌, ◌≤◌, ◌∷◌, OnOk, OnErr, IfOk, IfErr, IsErrOf, ℕ, List, Bool, true, false, length, reverse};
+ghost use Rattle.rq_disk.specs.Device.{Only, HasCause};
 ghost use Rattle.rq_record.specs.Spelling.{IsInRange, spelling};
+ghost use Rattle.rq_log.specs.Crash.{LeavesOnly};
+ghost use Rattle.rq_log.specs.Logged.{IsLog, WasDurable};
+ghost use Rattle.rq_log.specs.Spelled.{spelled, AreSpelled, IsBeginning};
 
+mod past;
+mod reading;
+
+use crate::past::Past;
+use crate::reading::read_records;
 use rq_disk::LogDevice;
 use rq_model::record::Record;
-use rq_model::refusal::{Damage, NoMemory, Refusal};
+use rq_model::refusal::{NoMemory, Refusal};
 use rq_model::txn::Lsn;
-use rq_record::{Step, decode, encode, fits, framed, spelled_len};
+use rq_record::{encode, fits, spelled_len};
 use std::alloc::Global;
+use std::marker::Model;
+use std::snapshot::Snapshot;
 
 /// The log: what its device holds, and records that are not handed over yet.
 #[derive(Drop)]
 pub struct Log<L: LogDevice> {
     device: L,
+    // the device as it was when its records were read, or when they were last forced
+    settled: Snapshot<L>,
+    past: Snapshot<Past>,
     buffer: Vec<u8>,
     reserved: usize,
     last: Lsn,
     forced: Lsn,
-    ghost room: { vec_len buffer + reserved ≤ vec_capacity buffer },
-    ghost whole: { (n : ℕ) × AreRecords n buffer.items } by { some_records-prop buffer.items },
+    failed: bool,
+}
+
+impl<L: LogDevice> Model for Log<L> {
+    ghost use Rattle.std.specs.Prelude.{vec_capacity};
+    ghost use Rattle.rq_log.specs.Logged.{Logged, Keeps};
+
+    ghost Value = { Logged L };
+
+    ghost view = { λ l. record { records = l.past.value; forced = l.forced; reserved = l.reserved; failed = l.failed; device = l.device; settled = l.settled.value } };
+
+    ghost invariant = { λ l. Keeps L.seen L.may_leave (record { records = l.past.value; forced = l.forced; reserved = l.reserved; failed = l.failed; device = l.device; settled = l.settled.value }) l.last l.buffer.items (vec_capacity l.buffer) };
 }
 
 /// A log that could not be read: why, and its device.
@@ -34,23 +57,43 @@ pub struct Stopped<L> {
 /// What was read of a device: the whole records at its front, and the log, where there is nothing else.
 #[derive(Drop)]
 pub struct Scan<L: LogDevice> {
+    /// The records, the oldest first.
     pub records: Vec<Record>,
     pub log: Result<Log<L>, Stopped<L>>,
 }
 
 impl<L: LogDevice + Drop> Log<L> {
-    /// Reads a device from its front.
-    pub fn scan(alloc: Global, mut device: L) -> Scan<L> {
+    ghost use Rattle.rq_log.specs.Scanned.{BeginsWith, StopsFor, device_of};
+
+    /// Reads a device from its front: the whole records there, and the log, where there is nothing behind
+    /// them. All of them count as forced. Else it is stopped: by `DiskRead`, `NoMemory`, or `Damaged` with the
+    /// number of the first record that is none.
+    pub fn scan(alloc: Global, mut device: L) -> Scan<L>
+        ensures spelled { AreSpelled (reverse result.records.items) }
+        ensures front { BeginsWith (reverse result.records.items) (L.seen device) }
+        ensures read { IfOk result.log (λ log. (log.records ≡ reverse result.records.items) × (L.seen device ≡ spelled log.records)) }
+        ensures log { IfOk result.log (λ log. (log.forced ≡ length log.records) × (log.reserved ≡ 0) × (log.failed ≡ false) × (log.settled ≡ device)) }
+        ensures stopped { IfErr result.log (λ stopped. StopsFor stopped.refusal (reverse result.records.items) (L.seen device) (L.faults device) (L.faults stopped.device)) }
+        ensures cause { OnOk result.log (L.faults (device_of result.log) ≡ L.faults device) }
+        ensures seen { L.seen (device_of result.log) ≡ L.seen device }
+        ensures crash { (c : List ℕ) → L.may_leave (device_of result.log) c → L.may_leave device c }
+        ensures any_moment { LeavesOnly L.moment L.left_since device (device_of result.log) (L.may_leave device) }
+    {
+        let settled = Snapshot::of(&device);
         let mut records = Vec::new(alloc);
-        match read_records(alloc, &mut device, &mut records) {
+        let mut past = Past::empty();
+        match read_records(alloc, &mut device, &mut records, &mut past) {
             Ok(()) => {
                 let last = records.len() as u64;
                 let log = Log {
                     device,
+                    settled,
+                    past,
                     buffer: Vec::new(alloc),
                     reserved: 0,
                     last,
                     forced: last,
+                    failed: false,
                 };
                 Scan {
                     records,
@@ -65,20 +108,36 @@ impl<L: LogDevice + Drop> Log<L> {
     }
 
     /// The device, as it is. Buffered records are gone.
-    pub fn give_back(self) -> L {
+    pub fn give_back(self) -> L
+        ensures { result ≡ self.device }
+    {
         let Log {
             device,
+            settled: _,
+            past: _,
             buffer: _,
             reserved: _,
             last: _,
             forced: _,
+            failed: _,
         } = self;
         device
+    }
+}
+
+impl<L: LogDevice> Log<L> {
+    /// What is so of each log, for proofs: it runs no code.
+    pub fn keeps(&self)
+        ensures log { IsLog L.seen L.may_leave self.now }
+        ensures count { length self.now.records < 2 ^ 64 }
+        ensures reads { self.now.failed ≡ false → IsBeginning self.now.records self.now.forced (L.seen self.now.device) }
+    {
+        let _last = self.last;
     }
 
     /// The LSN of the last record, buffered ones included: how many records there are.
     pub fn last(&self) -> Lsn
-        ensures { result ≡ self.now.last }
+        ensures { result ≡ length self.now.records }
     {
         self.last
     }
@@ -92,12 +151,8 @@ impl<L: LogDevice + Drop> Log<L> {
 
     /// Makes room for so many bytes more of records.
     pub fn reserve(&mut self, bytes: usize) -> Result<(), NoMemory>
-        ensures ok { OnOk result (self.new.reserved ≡ self.old.reserved + bytes) }
-        ensures err { OnErr result (self.new.reserved ≡ self.old.reserved) }
-        ensures bytes { self.new.buffer.items ≡ self.old.buffer.items }
-        ensures last { self.new.last ≡ self.old.last }
-        ensures forced { self.new.forced ≡ self.old.forced }
-        ensures device { self.new.device ≡ self.old.device }
+        ensures ok { OnOk result (self.new ≡ record self.old { reserved = self.old.reserved + bytes }) }
+        ensures err { OnErr result (self.new ≡ self.old) }
     {
         let Some(wanted) = self.reserved.checked_add(bytes) else {
             return Err(NoMemory);
@@ -111,30 +166,52 @@ impl<L: LogDevice + Drop> Log<L> {
         }
     }
 
-    /// Adds a record, into reserved room. It is neither handed over nor forced.
-    pub fn append(&mut self, record: &Record) -> Lsn
-        requires record { IsInRange «record».now }
-        requires room { length (spelling «record».now) ≤ self.old.reserved }
-        requires count { self.old.last < 2 ^ 64 - 1 }
-        ensures lsn { result ≡ self.old.last + 1 }
-        ensures last { self.new.last ≡ self.old.last + 1 }
-        ensures forced { self.new.forced ≡ self.old.forced }
-        ensures device { self.new.device ≡ self.old.device }
+    /// Gives so many bytes of reserved room back.
+    pub fn release(&mut self, bytes: usize)
+        requires { bytes ≤ self.old.reserved }
+        ensures { self.new ≡ record self.old { reserved = self.old.reserved - bytes } }
     {
-        fits(record);
-        framed();
-        self.reserved -= spelled_len(record);
-        encode(record, &mut self.buffer).unwrap();
+        self.reserved -= bytes;
+    }
+
+    /// Adds a record, into reserved room, and answers its LSN. It is neither handed over nor forced.
+    pub fn append(&mut self, added: &Record) -> Lsn
+        requires record { IsInRange added.now }
+        requires room { length (spelling added.now) ≤ self.old.reserved }
+        requires count { length self.old.records < 2 ^ 64 - 1 }
+        requires running { self.old.failed ≡ false }
+        ensures lsn { result ≡ length self.new.records }
+        ensures records { self.new.records ≡ added.now ∷ self.old.records }
+        ensures reserved { self.new.reserved + length (spelling added.now) ≡ self.old.reserved }
+        ensures forced { self.new.forced ≡ self.old.forced }
+        ensures failed { self.new.failed ≡ false }
+        ensures device { self.new.device ≡ self.old.device }
+        ensures settled { self.new.settled ≡ self.old.settled }
+    {
+        fits(added);
+        self.reserved -= spelled_len(added);
+        encode(added, &mut self.buffer).unwrap();
+        Past::note(&mut self.past, added);
         self.last += 1;
         self.last
     }
 
     /// Appends the buffered records to the device.
     pub fn hand_over(&mut self) -> Result<(), Refusal>
-        ensures err { IfErr result (λ r. r ≡ Refusal.DiskWrite) }
-        ensures last { self.new.last ≡ self.old.last }
+        ensures records { self.new.records ≡ self.old.records }
         ensures forced { self.new.forced ≡ self.old.forced }
+        ensures reserved { self.new.reserved ≡ self.old.reserved }
+        ensures settled { self.new.settled ≡ self.old.settled }
+        ensures failed { self.old.failed ≡ true → (IsErrOf result Refusal.Failed) × (self.new ≡ self.old) }
+        ensures ok { OnOk result ((self.new.failed ≡ false) × (L.seen self.new.device ≡ spelled self.new.records)) }
+        ensures err { self.old.failed ≡ false → IfErr result (λ e. (e ≡ Refusal.DiskWrite) × (self.new.failed ≡ true)) }
+        ensures cause { self.old.failed ≡ false → HasCause (L.faults self.old.device) (L.faults self.new.device) result }
+        ensures idle { self.old.failed ≡ false → L.seen self.old.device ≡ spelled self.old.records → self.new ≡ self.old }
+        ensures any_moment { WasDurable L.seen L.may_leave self.old → LeavesOnly L.moment L.left_since self.old.device self.new.device (IsBeginning self.old.records self.old.forced) }
     {
+        if self.failed {
+            return Err(Refusal::Failed);
+        }
         if self.buffer.is_empty() {
             return Ok(());
         }
@@ -143,62 +220,42 @@ impl<L: LogDevice + Drop> Log<L> {
                 self.buffer.clear();
                 Ok(())
             }
-            Err(_) => Err(Refusal::DiskWrite),
+            Err(_) => {
+                self.failed = true;
+                Err(Refusal::DiskWrite)
+            }
         }
     }
 
-    /// Hands over what is buffered, and forces the device.
+    /// Hands over what is buffered, and forces the device. Answers the LSN of the last record.
     pub fn force(&mut self) -> Result<Lsn, Refusal>
-        ensures ok { IfOk result (λ lsn. (lsn ≡ self.old.last) × (self.new.forced ≡ self.old.last)) }
-        ensures err { IfErr result (λ r. r ≡ Refusal.DiskWrite) }
-        ensures last { self.new.last ≡ self.old.last }
+        ensures records { self.new.records ≡ self.old.records }
+        ensures reserved { self.new.reserved ≡ self.old.reserved }
+        ensures failed { self.old.failed ≡ true → (IsErrOf result Refusal.Failed) × (self.new ≡ self.old) }
+        ensures ok { IfOk result (λ lsn. (lsn ≡ length self.new.records) × (self.new.forced ≡ lsn) × (self.new.failed ≡ false)) }
+        ensures reads { OnOk result (L.seen self.new.device ≡ spelled self.new.records) }
+        ensures durable { OnOk result (Only (spelled self.new.records) (L.may_leave self.new.device)) }
+        ensures settled { OnOk result (WasDurable L.seen L.may_leave self.new) }
+        ensures err { self.old.failed ≡ false → IfErr result (λ e. (e ≡ Refusal.DiskWrite) × (self.new.failed ≡ true)) }
+        ensures as_before { OnErr result ((self.new.forced ≡ self.old.forced) × (self.new.settled ≡ self.old.settled)) }
+        ensures cause { self.old.failed ≡ false → HasCause (L.faults self.old.device) (L.faults self.new.device) result }
+        ensures any_moment { WasDurable L.seen L.may_leave self.old → LeavesOnly L.moment L.left_since self.old.device self.new.device (IsBeginning self.old.records self.old.forced) }
+        ensures idle { L.seen self.old.device ≡ spelled self.old.records → LeavesOnly L.moment L.left_since self.old.device self.new.device (L.may_leave self.old.device) }
     {
         self.hand_over()?;
         match self.device.force() {
             Ok(()) => {
                 self.forced = self.last;
+                self.settled = Snapshot::of(&self.device);
                 Ok(self.last)
             }
-            Err(_) => Err(Refusal::DiskWrite),
+            Err(_) => {
+                self.failed = true;
+                Err(Refusal::DiskWrite)
+            }
         }
     }
 }
 
-fn read_records<L: LogDevice>(
-    alloc: Global,
-    device: &mut L,
-    records: &mut Vec<Record>,
-) -> Result<(), Refusal> {
-    let bytes = read_all(alloc, device)?;
-    let mut rest = bytes.as_slice();
-    for count in 0..u64::MAX {
-        if rest.is_empty() {
-            break;
-        }
-        let Step::Record(record, used) = decode(rest) else {
-            return Err(Refusal::Damaged(Damage::Record(count + 1)));
-        };
-        if records.push(record).is_err() {
-            return Err(Refusal::NoMemory);
-        }
-        rest = &rest[used..];
-    }
-    Ok(())
-}
-
-fn read_all<L: LogDevice>(alloc: Global, device: &mut L) -> Result<Vec<u8>, Refusal> {
-    let mut bytes = Vec::new(alloc);
-    let mut chunk = [0; 4096];
-    for _ in 0..u64::MAX {
-        let Ok(count) = device.read(bytes.len() as u64, &mut chunk) else {
-            return Err(Refusal::DiskRead);
-        };
-        if count == 0 {
-            return Ok(bytes);
-        }
-        if bytes.extend_from_slice(&chunk[..count]).is_err() {
-            return Err(Refusal::NoMemory);
-        }
-    }
-    Ok(bytes)
-}
+#[cfg(test)]
+mod tests;

@@ -11,3 +11,4 @@ pub mod Rules
 pub mod Histories
 pub mod LogRows
 pub mod Within
+pub mod Plainly

@@ -7,3 +7,4 @@ pub mod Deeds
 pub mod Content
 pub mod Groups
 pub mod Replay
+pub mod Reference

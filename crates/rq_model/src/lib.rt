@@ -5,5 +5,6 @@ pub mod in_place;
 pub mod laws;
 pub mod message;
 pub mod record;
+pub mod reference;
 pub mod refusal;
 pub mod txn;

@@ -1,0 +1,145 @@
+-- The queue as plain lists: what its rows stand for in the ledger, and what its calls answer.
+use Rattle.std.specs.Prelude.{◌≡◌, ℕ, ◌+◌, ◌-◌, ◌<◌, ◌≤◌, Bool, true, false, cond, List, [], ◌∷◌, Option, Some, None, nat_lt, map, length, IsTrue, not, slice_index_or}
+use Rattle.rq_model.specs.declared.txn.Txn.{Txn}
+use Rattle.rq_model.specs.declared.refusal.Refusal.{Refusal}
+use Rattle.rq_model.specs.declared.refusal.Refusal.TheVariants.{Failed, UnknownTransaction, UnknownOperation, NotOpen, Unfinished, DiskRead, Latched, PoolFull, DiskWrite, Damaged, NotForced}
+use Rattle.rq_model.specs.declared.reference.rows.Act.{Act}
+use Rattle.rq_model.specs.declared.reference.rows.Act.TheVariants.{Sent, Taken, Closed}
+use Rattle.rq_model.specs.declared.reference.rows.Work.{Work}
+use Rattle.rq_model.specs.declared.reference.rows.Work.TheVariants.{Sending as Sending_work}
+use Rattle.rq_model.specs.declared.reference.rows.OpenTxn.{OpenTxn}
+use Rattle.rq_model.specs.declared.reference.rows.CommittedTxn.{CommittedTxn}
+use Rattle.rq_model.specs.declared.message.Message.{Message}
+use Rattle.rq_model.specs.Words.{Op, is_some}
+use Rattle.rq_model.specs.Words.Op.{Send, Take, End}
+use Rattle.rq_model.specs.History.{Job, Call, Entry}
+use Rattle.rq_model.specs.History.Job.{Sending}
+use Rattle.rq_model.specs.History.Entry.{Refused, Ready, Stepped}
+use Rattle.rq_model.specs.Ledger.{Open, Done, Ledger, after, found}
+use Rattle.rq_model.specs.Legal.{Size, Legal, is_aborting, is_busy, NoneHolds, first_of, has_under}
+
+-- what a reference is: the numbers that stay, and the ledger
+pub record Stand : Type 0 where
+  pub size : Size
+  pub ledger : Ledger
+
+-- the entry may come next, and what it makes of the reference
+abbrev pub May : Stand → Entry → Type 0
+May s e = Legal s.size s.ledger e
+
+abbrev pub next : Entry → Stand → Stand
+next e s = record { size = s.size; ledger = after e s.ledger }
+
+-- pages and devices refuse nothing here: there are none
+abbrev pub without_pages : Refusal → Bool
+without_pages DiskRead = false
+without_pages Latched = false
+without_pages PoolFull = false
+without_pages DiskWrite = false
+without_pages (Damaged d) = false
+without_pages NotForced = false
+without_pages _ = true
+
+-- the call may be refused so
+abbrev pub Refuses : Stand → Call → Refusal → Type 0
+Refuses s c r = May s (Refused c r) × IsTrue (without_pages r)
+
+abbrev pub op_of : Act → Op
+op_of (Sent m) = Send m
+op_of (Taken m) = Take m
+op_of (Closed s) = End s
+
+abbrev pub job_of : Work → Job
+job_of (Sending_work m) = Sending m
+
+-- what is done once the work is
+abbrev pub op_done : Work → Op
+op_done (Sending_work m) = Send m
+
+abbrev pub under_of : Option Work → Option Job
+under_of None = None
+under_of (Some w) = Some (job_of w)
+
+abbrev pub open_of : OpenTxn → Open
+open_of o = record { txn = o.txn; aborting = o.aborting; ops = map op_of o.acts.items; sending = o.sending.items; receiving = o.receiving.items; number = o.number; under = under_of o.work; left = o.left }
+
+abbrev pub done_of : CommittedTxn → Done
+done_of d = record { txn = d.txn; lsn = d.lsn; ops = map op_of d.acts.items }
+
+-- the numbers of those that have not ended are of incarnation i, and their counts fall from at most b
+abbrev pub Numbered : ℕ → ℕ → List Open → Type 0
+Numbered i b [] = Unit {0}
+Numbered i b (o ∷ os) = (o.txn.incarnation ≡ i) × (0 < o.txn.count) × (o.txn.count ≤ b) × Numbered i (o.txn.count - 1) os
+
+-- the LSNs of commits rise, over low and up to high
+abbrev pub Rising : ℕ → List Done → ℕ → Type 0
+Rising low [] high = low ≤ high
+Rising low (d ∷ c) high = (low < d.lsn) × Rising d.lsn c high
+
+-- how many commits stand in the first n records
+abbrev pub kept_in : ℕ → List Done → ℕ
+kept_in n [] = 0
+kept_in n (d ∷ c) = cond (nat_lt n d.lsn) 0 1 + kept_in n c
+
+-- what holds of every ledger that a reference keeps
+pub record Sound (l : Ledger) : Type 0 where
+  pub numbered : Numbered l.incarnation l.begins l.open_ones
+  pub rising : Rising 0 l.committed l.records
+  pub forced : l.forced ≤ l.records
+  pub durable : l.durable ≤ kept_in l.forced l.committed
+
+-- where the transaction stands
+abbrev pub PlaceOf : List OpenTxn → Txn → Option ℕ → Type 0
+PlaceOf rows t None = found t (map open_of rows) ≡ None
+PlaceOf rows t (Some i) = (i < length rows) × ((d : OpenTxn) → (slice_index_or rows i d).txn ≡ t) × ((d : OpenTxn) → found t (map open_of rows) ≡ Some (open_of (slice_index_or rows i d)))
+
+-- a transaction that aborts where the call needs one that does not, or the other way round
+abbrev pub turned : Bool → Option Open → Bool
+turned false o = is_aborting o
+turned true o = not (is_aborting o)
+
+-- the tests of a call on a transaction that needs no operation under way
+abbrev pub ready_tests : Ledger → Txn → Bool → List (Bool × Refusal)
+ready_tests l t aborting =
+    let o = found t l.open_ones in
+    (not l.running, Failed) ∷ (not (is_some o), UnknownTransaction) ∷ (turned aborting o, NotOpen) ∷ (is_busy o, Unfinished) ∷ []
+
+-- the transaction's place among those that have not ended
+pub record StandsAt (l : Ledger) (t : Txn) (i : ℕ) : Type 0 where
+  pub within : i < length l.open_ones
+  pub numbered : (d : Open) → (slice_index_or l.open_ones i d).txn ≡ t
+  pub found : (d : Open) → found t l.open_ones ≡ Some (slice_index_or l.open_ones i d)
+
+-- the store runs, and the transaction stands at the place, with no operation under way
+pub record IsReady (l : Ledger) (t : Txn) (aborting : Bool) (i : ℕ) : Type 0 where
+  pub stands : StandsAt l t i
+  pub passes : NoneHolds (ready_tests l t aborting)
+
+-- why it is not so
+pub record IsUnready (l : Ledger) (t : Txn) (aborting : Bool) (r : Refusal) : Type 0 where
+  pub first : first_of (ready_tests l t aborting) ≡ Some r
+  pub plain : IsTrue (without_pages r)
+
+-- the tests of a call on an operation under way
+abbrev pub busy_tests : Ledger → Txn → ℕ → List (Bool × Refusal)
+busy_tests l t n = (not l.running, Failed) ∷ (not (has_under n (found t l.open_ones)), UnknownOperation) ∷ []
+
+-- the store runs, and the transaction stands at the place, with this work under way under the number
+pub record IsBusy (l : Ledger) (t : Txn) (n i : ℕ) (w : Work) : Type 0 where
+  pub stands : StandsAt l t i
+  pub under : (d : Open) → (slice_index_or l.open_ones i d).under ≡ Some (job_of w)
+  pub passes : NoneHolds (busy_tests l t n)
+
+-- why it is not so
+pub record IsIdle (l : Ledger) (t : Txn) (n : ℕ) (r : Refusal) : Type 0 where
+  pub first : first_of (busy_tests l t n) ≡ Some r
+  pub plain : IsTrue (without_pages r)
+
+-- a message with this body
+abbrev pub message_of : ℕ → ℕ → List ℕ → Message
+message_of sender tag body = record { sender = sender; tag = tag; body = body }
+
+-- a step's answer: the LSN of the record that it made, or none where none is left to make
+abbrev pub step_entry : Txn → ℕ → Option ℕ → Entry
+step_entry t n None = Ready t n
+step_entry t n (Some lsn) = Stepped t n lsn
