@@ -1,0 +1,16 @@
+pub mod Chains
+pub mod Overlay
+pub mod Laws
+pub mod Takes
+pub mod Views
+pub mod Owes
+pub mod Undo
+pub mod Rows
+pub mod Deeds
+pub mod Holders
+pub mod GroupRule
+pub mod Tells
+pub mod CanUndo
+pub mod CanPlan
+pub mod Committed
+pub mod Content

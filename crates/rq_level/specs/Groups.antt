@@ -1,0 +1,62 @@
+-- What committed transactions leave of each sender, and what those that hold its ends add.
+use Rattle.rq_model.specs.declared.record.Deed.{Deed}
+use Rattle.rq_model.specs.declared.txn.Txn.{Txn}
+use Rattle.std.specs.Prelude.{◌≡◌, ◌≢◌, ℕ, ◌+◌, ◌<◌, ◌==◌, List, [], ◌∷◌, length, Bool, true, false, cond}
+use Rattle.rq_level.specs.Chain.{View}
+use Rattle.rq_level.specs.Log.{Item}
+use Rattle.rq_model.specs.declared.record.Deed.TheVariants.{Append, UnlinkHead, Close}
+use Rattle.rq_level.specs.Log.Item.{OpEnd, CompEnd, Commit}
+use Rattle.rq_level.specs.Plans.{with_turn}
+use Rattle.rq_level.specs.Plans.Turn.{Did}
+use Rattle.rq_level.specs.Legal.{Placed, open_deeds, no_view, view}
+
+abbrev pub is_sending : ℕ → Deed → Bool
+is_sending s (Append r n tag previous body) = r == s
+is_sending s (UnlinkHead r n tag body) = false
+is_sending s (Close r) = r == s
+
+abbrev pub is_taking : ℕ → Deed → Bool
+is_taking s (Append r n tag previous body) = false
+is_taking s (UnlinkHead r n tag body) = r == s
+is_taking s (Close r) = false
+
+abbrev pub side : (Deed → Bool) → List Placed → List Deed
+side f [] = []
+side f (p ∷ ps) = cond (f p.deed) (p.deed ∷ side f ps) (side f ps)
+
+abbrev pub with_all : List Deed → View → View
+with_all [] v = v
+with_all (d ∷ ds) v = with_turn (Did d) (with_all ds v)
+
+abbrev pub committed_after : ℕ → Item → List Item → View → View
+committed_after s (Commit t) log v = with_all (side (is_sending s) (open_deeds t log)) (with_all (side (is_taking s) (open_deeds t log)) v)
+committed_after s _ log v = v
+
+-- what committed transactions leave of s
+abbrev pub committed : List Item → ℕ → View
+committed [] s = no_view
+committed (r ∷ log) s = committed_after s r log (committed log s)
+
+-- no transaction but t holds the end
+abbrev pub Alone : (Deed → Bool) → Txn → List Item → Type 0
+Alone f t log = (u : Txn) → u ≢ t → side f (open_deeds u log) ≡ []
+
+-- the view that the deed was done over
+abbrev pub Told : Deed → View → Type 0
+Told (Append s n tag previous body) v = (previous ≡ v.last_tag) × (n ≡ v.received + length v.messages + 1)
+Told (UnlinkHead s n tag body) v = (rest : List (ℕ × List ℕ)) × (v.messages ≡ (tag, body) ∷ rest) × (n ≡ v.received + 1)
+Told (Close s) v = v.closed ≡ false
+
+-- the rule of groups and receives for a record
+pub record MayTurn (log : List Item) (t : Txn) (d : Deed) (s : ℕ) : Type 0 where
+  pub sends : is_sending s d ≡ true → Alone (is_sending s) t log × Told d (view log s)
+  pub takes : is_taking s d ≡ true → Alone (is_taking s) t log × Told d (view log s) × (0 < length (with_all (side (is_taking s) (open_deeds t log)) (committed log s)).messages)
+
+abbrev pub MayGroup : List Item → Item → Type 0
+MayGroup log (OpEnd o d) = (s : ℕ) → MayTurn log o.txn d s
+MayGroup log (CompEnd o u) = open_deeds o.txn log ≢ []
+MayGroup log _ = Unit {0}
+
+abbrev pub KeepsGroups : List Item → Type 0
+KeepsGroups [] = Unit {0}
+KeepsGroups (r ∷ log) = MayGroup log r × KeepsGroups log

@@ -1,0 +1,9 @@
+pub mod Chain
+pub mod Log
+pub mod Plans
+pub mod Legal
+pub mod Row
+pub mod Groups
+pub mod Committed
+pub mod Theorems
+pub mod Items
