@@ -8,7 +8,7 @@ use rq_model::refusal::Refusal;
 use rq_model::txn::{Sub, Txn};
 use rq_page::layout::Layout;
 use rq_shared::kept::Kept;
-use std::alloc::Global;
+use std::alloc::{AllocError, Global};
 use std::io::{Read, Write};
 use std::{io, mem};
 
@@ -94,9 +94,10 @@ struct Script {
 impl Script {
     // A formatted store, opened. None after a fault, which was printed.
     fn open<W: Write>(alloc: Global, writer: &mut W, layout: Layout) -> io::Result<Option<Script>> {
-        let switch = Switch::new(alloc)?;
-        let mut pages = MemPages::zeroed(alloc, layout.pages(), switch.share()?)?;
-        let log = MemLog::new(alloc, Vec::new(alloc), switch.share()?);
+        let Ok((switch, mut pages, log)) = devices(alloc, &layout) else {
+            print_fault(writer, Refusal::NoMemory)?;
+            return Ok(None);
+        };
         if let Err(refusal) = format(&mut pages, &layout) {
             print_fault(writer, refusal)?;
             return Ok(None);
@@ -275,6 +276,14 @@ impl Script {
             }
         }
     }
+}
+
+// Devices in memory for a store, both under one switch.
+fn devices(alloc: Global, layout: &Layout) -> Result<(Switch, MemPages, MemLog), AllocError> {
+    let switch = Switch::new(alloc)?;
+    let pages = MemPages::zeroed(alloc, layout.pages(), switch.share()?)?;
+    let log = MemLog::new(alloc, Vec::new(alloc), switch.share()?);
+    Ok((switch, pages, log))
 }
 
 fn print_reply<W: Write>(writer: &mut W, reply: &Reply) -> io::Result<()> {
