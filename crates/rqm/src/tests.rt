@@ -1,8 +1,9 @@
 use crate::script::run_script;
-use rq_disk::{MemLog, MemPages, Switch};
+use rq_disk::{CallKind, MemLog, MemPages, Mishap, Switch};
 use rq_engine::event::{Event, Reply};
 use rq_engine::format::format;
 use rq_engine::restart::restart;
+use rq_model::refusal::Refusal;
 use rq_page::layout::Layout;
 use rq_shared::kept::Kept;
 use std::process::Abort;
@@ -152,5 +153,26 @@ fn the_audit_keeps_each_call_until_it_is_taken(rt: HostRuntime) -> Result<(), Fa
     let audit = kept.take();
     assert_eq!(rt; audit.len(), 2);
     assert_eq!(rt; kept.take().len(), 0);
+    Ok(())
+}
+
+#[test]
+fn a_failed_force_stops_the_store(rt: HostRuntime) -> Result<(), Fail> {
+    let layout = Layout::new(1, 1).ok_or("a small store")?;
+    let switch = Switch::new(rt.alloc())?;
+    let mut pages = MemPages::zeroed(rt.alloc(), layout.pages(), switch.share()?)?;
+    let log = MemLog::new(rt.alloc(), Vec::new(rt.alloc()), switch.share()?);
+    assert!(rt; format(&mut pages, &layout).is_ok());
+    let Ok((engine, _)) = restart(rt.alloc(), pages, log) else {
+        return Err(Fail::from("restart"));
+    };
+    let mut kept = Kept::new(rt.alloc(), engine);
+    switch.arm_kind(CallKind::Force, Mishap::Fail);
+    let forced = kept.step(1, Event::Force);
+    assert!(rt; matches!(forced.reply(), Reply::Refused(Refusal::DiskWrite)));
+    let begun = kept.step(1, Event::Begin);
+    assert!(rt; matches!(begun.reply(), Reply::Refused(Refusal::Failed)));
+    let content = kept.step(1, Event::Content);
+    assert!(rt; matches!(content.reply(), Reply::Refused(Refusal::Failed)));
     Ok(())
 }
