@@ -1,0 +1,4 @@
+pub mod Keeping
+pub mod Refusals
+pub mod Calls
+pub mod SendCalls

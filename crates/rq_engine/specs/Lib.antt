@@ -1,2 +1,4 @@
-pub mod State
 pub mod Says
+pub mod Kept
+pub mod Answers
+pub mod Sends

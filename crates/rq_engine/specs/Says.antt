@@ -2,11 +2,11 @@
 use Rattle.std.specs.Prelude.{ℕ, Bool, true, false, List, map, Option, Some, None, Vec}
 use Rattle.rq_model.specs.declared.txn.Txn.{Txn}
 use Rattle.rq_model.specs.declared.refusal.Refusal.{Refusal}
-use Rattle.rq_model.specs.History.{Group, Call}
+use Rattle.rq_model.specs.History.{Call}
 use Rattle.rq_model.specs.History.Call.{Begin as Call_begin, Start_send as Call_start_send, Step as Call_step, Finish as Call_finish, Commit as Call_commit, Acknowledge as Call_acknowledge, Hand_over as Call_hand_over, Force as Call_force, Show as Call_show}
 use Rattle.rq_model.specs.Replay.{Reply as Gave}
 use Rattle.rq_model.specs.Replay.Reply.{Gave_txn, Gave_sub, Gave_lsn, Gave_ready, Gave_sent, Gave_message, Gave_closed, Gave_undone, Gave_nothing, Gave_receipt, Gave_content, Gave_refusal}
-use Rattle.rq_engine.specs.declared.event.GroupContent.{GroupContent}
+use Rattle.rq_content.specs.Read.{group_of}
 use Rattle.rq_engine.specs.declared.event.Progress.{Progress}
 use Rattle.rq_engine.specs.declared.event.Progress.TheVariants as progress
 use Rattle.rq_engine.specs.declared.event.Outcome.{Outcome}
@@ -28,9 +28,6 @@ call_of (event.Acknowledged number) = Call_acknowledge number.txn number.lsn
 call_of event.HandOver = Call_hand_over
 call_of event.Force = Call_force
 call_of event.Content = Call_show
-
-abbrev pub group_of : GroupContent → Group
-group_of g = record { sent = g.sent; last_tag = g.last_tag; received = g.received; closed = g.closed; rest = g.rest.items }
 
 abbrev pub progress_of : Progress → Gave
 progress_of (progress.Done lsn) = Gave_lsn lsn

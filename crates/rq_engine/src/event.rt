@@ -1,6 +1,7 @@
 //! What is asked of the engine, and what it answers.
 ghost use Rattle.std.specs.Prelude.{◌≡◌};
 
+pub use rq_content::GroupContent;
 use rq_model::message::Message;
 use rq_model::refusal::Refusal;
 use rq_model::txn::{Lsn, Sub, Txn};
@@ -76,21 +77,6 @@ pub enum Outcome {
     Closed,
     /// An earlier operation was undone.
     Undone,
-}
-
-/// The committed content of a sender's group.
-#[derive(Clone, Debug, Drop)]
-pub struct GroupContent {
-    /// How many messages committed transactions sent.
-    pub sent: u64,
-    /// The tag of the last of them, 0 where there is none.
-    pub last_tag: u64,
-    /// How many messages committed transactions received.
-    pub received: u64,
-    /// Whether a committed transaction closed the group.
-    pub closed: bool,
-    /// What was sent and not received, in order.
-    pub rest: Vec<Message>,
 }
 
 /// One call of the engine.

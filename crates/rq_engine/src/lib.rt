@@ -1,14 +1,8 @@
-//! The engine: one call is one atomic event. It turns calls into records of the log and writes of slots,
-//! and restart turns what a crash left back into the same state.
+//! The engine: one call is one atomic event. It turns calls into records of the log and writes of slots.
 #![tactic(auto)]
 
-pub mod chain;
-pub mod ends;
 pub mod engine;
 pub mod event;
-pub mod format;
-pub mod history;
-pub mod latches;
-pub mod pages;
-pub mod restart;
-pub mod transactions;
+mod events;
+mod operations;
+mod sends;

@@ -28,7 +28,7 @@ told_end t u n level bytes d ps ds l e h =
     let one : nat_eq level 1 ≡ true = eq-eqb level 1 l in
     rw (one, e) (elim (cases_Bool (same_txn u t)) [ inl y ↦ rw y (ap (λ x. said d ∷ x) h) | inr k ↦ rw k h ])
 
-own_deeds : (z : Sizes) (t : Txn) (log : List Record) → Reads log → has_end log t ≡ false → has_undone log t ≡ false → say (open_deeds t (items z log)) ≡ deeds (only t) log
+pub own_deeds : (z : Sizes) (t : Txn) (log : List Record) → Reads log → has_end log t ≡ false → has_undone log t ≡ false → say (open_deeds t (items z log)) ≡ deeds (only t) log
 own_deeds z t [] g e n = refl
 own_deeds z t (PageOp u k page slot before after ∷ log) g e n = own_deeds z t log g.1 e n
 own_deeds z t (PageUndo u k undone page slot after ∷ log) g e n = own_deeds z t log g.1 e n

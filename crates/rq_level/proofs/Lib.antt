@@ -14,3 +14,11 @@ pub mod CanUndo
 pub mod CanPlan
 pub mod Committed
 pub mod Content
+pub mod Stands
+pub mod Idle
+pub mod Totals
+pub mod Strangers
+pub mod Counting
+pub mod Holding
+pub mod Settled
+pub mod OpenCounts

@@ -5,14 +5,9 @@ use Rattle.std.proofs.lemmas.Bool.{cases_Bool, cases_eq, cond-true, cond-false, 
 use Rattle.rq_level.specs.Log.{Slots, Write, applied, Fits, Untouched, same_op, Act, State, rest_of, writes_after, after_act, MayWrite}
 use Rattle.rq_level.specs.Log.Act.{Wrote, Unwrote, Done, Voided, Nothing}
 use Rattle.rq_level.specs.Legal.{onto}
+use Rattle.rq_level.specs.Owed.{Owes}
 use Rattle.rq_level.proofs.Chains.{no_eq}
 use Rattle.rq_level.proofs.Overlay.{same_is, same_self, untouched, fits_agree, Good, own}
-
--- o, which has latched these pages, owes these writes, the next one first
-pub record Owes (page : ℕ → ℕ) (z : State) (o : Sub) (latched : ℕ → Bool) (owed : List Write) : Type 0 where
-  pub fits : Fits (onto owed (z.writes o)) z.quiet
-  pub within : (a : ℕ) → latched (page a) ≡ false → Untouched a (onto owed (z.writes o))
-  pub alone : (p : ℕ) → latched p ≡ true → (u : Sub) → same_op o u ≡ false → z.stands u p ≡ false
 
 part_fits : (owed ws : List Write) (q : Slots) → Fits (onto owed ws) q → Fits ws q
 part_fits [] ws q h = h

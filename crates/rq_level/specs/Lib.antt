@@ -7,3 +7,7 @@ pub mod Groups
 pub mod Committed
 pub mod Theorems
 pub mod Items
+pub mod Stored
+pub mod InStore
+pub mod Owed
+pub mod StoreTheorems

@@ -4,6 +4,7 @@
 //! The definitions stand in specs/, the theorems are the contracts of the functions here.
 #![tactic(auto)]
 
+ghost use Rattle.rq_level.specs.StoreTheorems.{SlotsStandWhereTheyMay, UsedCellsAreMessages, IdleSlotsAreWhole, ChainsAreBounded, SettledCellsAreCommitted};
 ghost use Rattle.rq_level.specs.Theorems.{QuietSlotsShowTheFold, IdleSlotsShowTheFold, SettledFoldIsCommitted, CommittedIsContent};
 
 /// Over every legal log, with any operations interleaved at single slot writes: the slots that whole
@@ -25,4 +26,30 @@ pub fn settled_fold_is_committed()
 /// What the chains of committed transactions hold is the content of the log.
 pub fn committed_is_content()
     ensures { CommittedIsContent }
+{}
+
+/// Of a log of a store only cells hold messages, and only a sender's directory slot tells of it.
+pub fn slots_stand_where_they_may()
+    ensures { SlotsStandWhereTheyMay }
+{}
+
+/// Of every legal log of a store, the cells that whole operations use are as many as the messages of all chains.
+pub fn used_cells_are_messages()
+    ensures { UsedCellsAreMessages }
+{}
+
+/// Where no operation is under way, the slots are those that whole operations have written.
+pub fn idle_slots_are_whole()
+    ensures { IdleSlotsAreWhole }
+{}
+
+/// No chain has held more messages, taken or not, than the log has records.
+pub fn chains_are_bounded()
+    ensures { ChainsAreBounded }
+{}
+
+/// Where every transaction that did something has ended, as many cells are used as messages are committed and
+/// not taken.
+pub fn settled_cells_are_committed()
+    ensures { SettledCellsAreCommitted }
 {}

@@ -12,3 +12,4 @@ pub mod Histories
 pub mod LogRows
 pub mod Within
 pub mod Plainly
+pub mod Counts

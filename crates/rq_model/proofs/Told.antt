@@ -23,7 +23,7 @@ sent_one s (Added m) ms = elim (cases_Bool (nat_eq m.sender s)) [ inl y ↦ rw y
 sent_one s (Removed m) ms = append-nil ms
 sent_one s (Ended r) ms = append-nil ms
 
-told_sent : (s : ℕ) (ds : List Said) → filter_map (sent_for s) (ops_told ds) ≡ added s ds
+pub told_sent : (s : ℕ) (ds : List Said) → filter_map (sent_for s) (ops_told ds) ≡ added s ds
 told_sent s [] = refl
 told_sent s (d ∷ ds) = filter_map-append (sent_for s) (ops_told ds) (op_of d ∷ []) ∙ ap (λ l. l ++ filter_map (sent_for s) (op_of d ∷ [])) (told_sent s ds) ∙ sent_one s d (added s ds)
 
@@ -49,7 +49,7 @@ or_turn true false = refl
 or_turn false true = refl
 or_turn false false = refl
 
-told_ends : (s : ℕ) (ds : List Said) → any_ends s (ops_told ds) ≡ closed s ds
+pub told_ends : (s : ℕ) (ds : List Said) → any_ends s (ops_told ds) ≡ closed s ds
 told_ends s [] = refl
 told_ends s (d ∷ ds) = any_ends_more s (ops_told ds) (op_of d) ∙ ap (λ b. b || ends s (op_of d)) (told_ends s ds) ∙ or_turn (closed s ds) (ends s (op_of d)) ∙ ap (λ b. b || closed s ds) (ends_one s d)
 

@@ -8,3 +8,4 @@ pub mod Content
 pub mod Groups
 pub mod Replay
 pub mod Reference
+pub mod Counts

@@ -8,10 +8,12 @@ use Rattle.rq_model.specs.declared.record.Deed.TheVariants.{Append, UnlinkHead, 
 use Rattle.rq_record.specs.declared.reading.Stop.{Stop}
 use Rattle.rq_record.specs.declared.reading.Stop.TheVariants.{Bad}
 use Rattle.rq_record.specs.Spelling.{AreBytes, number}
-use Rattle.rq_record.specs.Deeds.{spelled_deed, IsBody, IsDeed}
+use Rattle.rq_model.specs.Deeds.{spelled_deed, deed_in}
+use Rattle.rq_record.specs.Deeds.{IsBody, IsDeed}
 use Rattle.rq_record.specs.Reading.{◌>>=◌, number_at, positive_at}
 use Rattle.rq_record.specs.DeedReading.{append_at, unlink_head_at, close_at, deed_at, deed_of}
 use Rattle.rq_record.proofs.Bytes.{AreBytes-right, AreBytes-tail}
+use Rattle.rq_record.proofs.DeedIn.{read_is}
 use Rattle.rq_record.proofs.Readers.{Field, Field-number, Field-positive, done, done_is, then_done, chosen, also, both}
 
 -- a reader of all the bytes
@@ -128,7 +130,7 @@ IsRead : List ℕ → Deed → Type 0
 IsRead bytes d = IsDeed d × (bytes ≡ spelled_deed d)
 
 append_found : (kind : ℕ) (bytes : List ℕ) (d : Deed) → AreBytes bytes → kind ≡ 1 → append_at bytes ≡ Ok d → IsRead (kind ∷ bytes) d
-unfolding IsRead spelled_deed
+unfolding IsRead number
 append_found kind bytes d fits k e =
     let x = Reader-append.found bytes d fits e in
     let a = x.0 in
@@ -137,7 +139,7 @@ append_found kind bytes d fits k e =
     subst P (sym x.1) ((v.1.0.0, (v.0, v.1.0.1, v.1.1.0, v.1.1.1.0, v.1.1.1.1)), ap (λ (b : ℕ). b ∷ bytes) k ∙ ap (λ (t : List ℕ). 1 ∷ t) x.3)
 
 unlink_head_found : (kind : ℕ) (bytes : List ℕ) (d : Deed) → AreBytes bytes → kind ≡ 2 → unlink_head_at bytes ≡ Ok d → IsRead (kind ∷ bytes) d
-unfolding IsRead spelled_deed
+unfolding IsRead number
 unlink_head_found kind bytes d fits k e =
     let x = Reader-unlink_head.found bytes d fits e in
     let v = x.2 in
@@ -145,7 +147,7 @@ unlink_head_found kind bytes d fits k e =
     subst P (sym x.1) ((v.1.0.0, (v.0, v.1.0.1, v.1.1.0, v.1.1.1)), ap (λ (b : ℕ). b ∷ bytes) k ∙ ap (λ (t : List ℕ). 2 ∷ t) x.3)
 
 close_found : (kind : ℕ) (bytes : List ℕ) (d : Deed) → AreBytes bytes → kind ≡ 3 → close_at bytes ≡ Ok d → IsRead (kind ∷ bytes) d
-unfolding IsRead spelled_deed
+unfolding IsRead number
 close_found kind bytes d fits k e =
     let x = Reader-close.found bytes d fits e in
     let P : Deed → Type 0 = λ d. IsDeed d × (kind ∷ bytes ≡ spelled_deed d) in
@@ -168,7 +170,7 @@ deed_found (kind ∷ bytes) d fits e =
     ]
 
 deed_again : (d : Deed) → IsDeed d → deed_at (spelled_deed d) ≡ Ok d
-unfolding deed_at spelled_deed
+unfolding deed_at number
 deed_again (Append sender sequence tag previous body) is =
     let f = is.1 in
     Reader-append.again (sender, (sequence, (tag, (previous, body)))) (f.0, ((is.0, f.1), (f.2, (f.3, f.4))))
@@ -190,6 +192,20 @@ decoded_some bytes o fits e =
 
 pub decoded_only : (bytes : List ℕ) (o : Option Deed) → o ≡ deed_of (deed_at bytes) → (d : Deed) → IsDeed d → bytes ≡ spelled_deed d → o ≡ Some d
 decoded_only bytes o e d is h = e ∙ ap (λ (b : List ℕ). deed_of (deed_at b)) h ∙ ap deed_of (deed_again d is)
+
+-- what is read is the deed that the bytes are
+pub decoded_told : (bytes : List ℕ) (o : Option Deed) → o ≡ deed_of (deed_at bytes) → o ≡ deed_in bytes
+decoded_told bytes o e = e ∙ read_is bytes
+
+-- bytes that are a deed are its spelling
+pub told_is_spelled : (bytes : List ℕ) (d : Deed) → AreBytes bytes → deed_in bytes ≡ Some d → IsDeed d × (bytes ≡ spelled_deed d)
+told_is_spelled bytes d fits e =
+    let P : Option Deed → Type 0 = λ o. IfSome o (λ d. IsDeed d × (bytes ≡ spelled_deed d)) in
+    subst P e (decoded_some bytes (deed_in bytes) fits (sym (read_is bytes)))
+
+-- the spelling of a deed tells that deed
+pub deeds_are_told : (d : Deed) → IsDeed d → deed_in (spelled_deed d) ≡ Some d
+deeds_are_told d is = sym (read_is (spelled_deed d)) ∙ ap deed_of (deed_again d is)
 
 abbrev some : Deed → Option Deed
 some d = Some d

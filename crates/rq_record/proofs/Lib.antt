@@ -6,3 +6,5 @@ pub mod Decoded
 pub mod Spelled
 pub mod DeedParts
 pub mod Placed
+pub mod DeedIn
+pub mod Sizes

@@ -1,14 +1,9 @@
--- How a deed of the chain level is spelled.
-use Rattle.std.specs.Prelude.{◌≡◌, ℕ, ◌<◌, ◌≤◌, ◌^◌, List, ◌∷◌, ◌++◌, length}
+-- Which deeds have a spelling.
+use Rattle.std.specs.Prelude.{◌≡◌, ℕ, ◌<◌, ◌≤◌, ◌^◌, List, length, Some}
 use Rattle.rq_model.specs.declared.record.Deed.{Deed}
 use Rattle.rq_model.specs.declared.record.Deed.TheVariants.{Append, UnlinkHead, Close}
-use Rattle.rq_record.specs.Spelling.{number, AreBytes}
-
--- the one spelling of a deed: its kind, its numbers, and the body to the end
-unfoldable pub spelled_deed : Deed → List ℕ
-spelled_deed (Append sender sequence tag previous body) = 1 ∷ (number 4 sender ++ (number 8 sequence ++ (number 8 tag ++ (number 8 previous ++ body))))
-spelled_deed (UnlinkHead sender sequence tag body) = 2 ∷ (number 4 sender ++ (number 8 sequence ++ (number 8 tag ++ body)))
-spelled_deed (Close sender) = 3 ∷ number 4 sender
+use Rattle.rq_model.specs.Deeds.{spelled_deed, deed_in}
+use Rattle.rq_record.specs.Spelling.{AreBytes}
 
 -- what a deed may say: sequences begin at 1
 abbrev pub IsDeedInRange : Deed → Type 0
@@ -32,3 +27,7 @@ IsDeed d = IsDeedInRange d × DeedFits d
 -- no two deeds have one spelling
 abbrev pub EachDeedHasItsSpelling : Type 0
 EachDeedHasItsSpelling = (d e : Deed) → IsDeed d → IsDeed e → spelled_deed d ≡ spelled_deed e → d ≡ e
+
+-- the spelling of a deed tells that deed
+abbrev pub DeedsAreTold : Type 0
+DeedsAreTold = (d : Deed) → IsDeed d → deed_in (spelled_deed d) ≡ Some d

@@ -3,3 +3,4 @@ pub mod Reading
 pub mod Decoding
 pub mod Deeds
 pub mod DeedReading
+pub mod Sizes

@@ -2,7 +2,8 @@
 ghost use Rattle.std.specs.Prelude.{◌≡◌, ◌+◌, ◌≤◌, ◌<◌, ◌++◌, [], ◌∷◌, length, take, drop, IfSome, Some};
 ghost use Rattle.rq_model.specs.declared.record.Deed.{Deed};
 ghost use Rattle.rq_record.specs.Spelling.{number, AreBytes};
-ghost use Rattle.rq_record.specs.Deeds.{spelled_deed, IsDeed, IsBody, DeedFits};
+ghost use Rattle.rq_model.specs.Deeds.{spelled_deed, deed_in};
+ghost use Rattle.rq_record.specs.Deeds.{IsDeed, IsDeedInRange, IsBody, DeedFits};
 ghost use Rattle.rq_record.specs.Reading.{Gives};
 ghost use Rattle.rq_record.specs.DeedReading.{append_at, unlink_head_at, close_at, deed_at, deed_of};
 
@@ -92,6 +93,7 @@ fn deed_if_any(bytes: &[u8]) -> Option<Deed>
 pub fn decode_deed(bytes: &[u8]) -> Option<Deed>
     ensures some { IfSome result (λ deed. IsDeed deed × (bytes.now ≡ spelled_deed deed)) }
     ensures only { (deed : Deed) → IsDeed deed → bytes.now ≡ spelled_deed deed → result ≡ Some deed }
+    ensures told { result ≡ deed_in bytes.now }
 {
     deed_if_any(bytes)
 }
@@ -198,10 +200,10 @@ fn joined(front: &[u8], body: &[u8]) -> DeedBytes
     deed_bytes(&bytes[..front.len() + body.len()])
 }
 
-/// The spelling of a deed, which is short enough to stand in an operation's end.
-#[tactic(auto, unfolding(crate::specs::Deeds::spelled_deed))]
-pub fn encode_deed(deed: &Deed) -> DeedBytes
-    ensures spelled { result ≡ spelled_deed deed.now }
+// The spelling of a deed.
+#[tactic(auto, unfolding(crate::specs::Spelling::number))]
+fn spelled(deed: &Deed) -> DeedBytes
+    ensures same { result ≡ spelled_deed deed.now }
     ensures size { (1 ≤ length result) × (length result ≤ 256) }
 {
     match deed {
@@ -226,4 +228,15 @@ pub fn encode_deed(deed: &Deed) -> DeedBytes
         ),
         Deed::Close { sender } => joined(&close_front(*sender), &[]),
     }
+}
+
+/// The spelling of a deed, which is short enough to stand in an operation's end. It tells the deed, where
+/// its sequence, if it has one, is not 0.
+pub fn encode_deed(deed: &Deed) -> DeedBytes
+    ensures spelled { result ≡ spelled_deed deed.now }
+    ensures told { IsDeedInRange deed.now → deed_in result ≡ Some deed.now }
+    ensures size { (1 ≤ length result) × (length result ≤ 256) }
+{
+    deed_fits(deed);
+    spelled(deed)
 }

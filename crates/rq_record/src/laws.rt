@@ -1,6 +1,7 @@
 //! Laws of spellings, for proofs.
 ghost use Rattle.rq_record.specs.Spelling.{EachHasItsSpelling, BeginsWithItsLength, ShowsItsLength, SpellingsAreBounded};
-ghost use Rattle.rq_record.specs.Deeds.{EachDeedHasItsSpelling};
+ghost use Rattle.rq_record.specs.Sizes.{EachHasItsLength};
+ghost use Rattle.rq_record.specs.Deeds.{EachDeedHasItsSpelling, DeedsAreTold};
 
 /// No spelling begins another, and no two records have one spelling.
 pub fn one_spelling()
@@ -15,7 +16,17 @@ pub fn framed()
     ensures bounded { SpellingsAreBounded }
 {}
 
+/// The spelling of each record that a program holds is as long as its kind says.
+pub fn lengths()
+    ensures { EachHasItsLength }
+{}
+
 /// No two deeds have one spelling.
 pub fn one_deed()
     ensures { EachDeedHasItsSpelling }
+{}
+
+/// The spelling of a deed tells that deed.
+pub fn deeds_are_told()
+    ensures { DeedsAreTold }
 {}

@@ -8,11 +8,20 @@ mod step;
 mod writing;
 
 pub use deed::{decode_deed, deed_fits, encode_deed};
-pub use laws::{framed, one_deed, one_spelling};
+pub use laws::{deeds_are_told, framed, lengths, one_deed, one_spelling};
 pub use reading::decode;
 pub use rq_model::record::{Deed, Record};
 pub use step::Step;
-pub use writing::{encode, fits, spelled_len};
+pub use writing::{encode, fits, sized, spelled_len};
+
+/// The bytes of a PageOp record.
+pub const PAGE_OP_BYTES: usize = 546;
+
+/// The bytes of an OpEnd record without those of its deed.
+pub const OP_END_BYTES: usize = 30;
+
+/// The bytes of a Commit record.
+pub const COMMIT_BYTES: usize = 21;
 
 #[cfg(test)]
 mod tests;

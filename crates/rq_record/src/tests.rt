@@ -1,8 +1,11 @@
-ghost use Rattle.rq_record.specs.Spelling.{IsInRange};
+ghost use Rattle.std.specs.Prelude.{◌≡◌, ◌≤◌, ◌+◌, ◌*◌, ◌<◌, length, Some};
+ghost use Rattle.rq_model.specs.Deeds.{deed_in};
+ghost use Rattle.rq_model.specs.declared.record.Deed.{Deed};
+ghost use Rattle.rq_record.specs.Spelling.{IsInRange, spelling};
 
 use super::*;
 use rq_model::message::Body;
-use rq_model::record::DeedBytes;
+use rq_model::record::{DeedBytes, Slot};
 use rq_model::txn::Txn;
 use std::alloc::Global;
 use std::process::Abort;
@@ -198,4 +201,68 @@ fn short_and_bad(rt: HostRuntime) {
     for bytes in bad {
         assert_eq!(rt; decode(bytes), Step::Bad);
     }
+}
+
+// Stands for a log with so much room reserved: what is left of it.
+fn room_after(reserved: usize, added: &Record) -> usize
+    requires { length (spelling added.now) ≤ reserved }
+    ensures { result + length (spelling added.now) ≡ reserved }
+{
+    reserved - spelled_len(added)
+}
+
+// A slot write as its record.
+fn write_of(txn: Txn, before: Slot, after: Slot) -> Record
+    ensures { length (spelling result) ≡ 546 }
+{
+    let record = Record::PageOp {
+        txn,
+        operation: 1,
+        page: 1,
+        slot: 1,
+        before,
+        after,
+    };
+    sized(&record);
+    record
+}
+
+// An operation with two slot writes fits into the room of their records, its end and a commit.
+fn room_left(reserved: usize, images: &[Slot; 2], deed: &Deed) -> Option<usize> {
+    let end = Record::OpEnd {
+        txn: FIRST,
+        operation: 1,
+        level: 1,
+        deed: encode_deed(deed),
+    };
+    let wanted = 2 * PAGE_OP_BYTES
+        + OP_END_BYTES
+        + encode_deed(deed).as_slice().len()
+        + COMMIT_BYTES;
+    if reserved < wanted {
+        return None;
+    }
+    let left = room_after(reserved, &write_of(FIRST, images[0], images[1]));
+    let left = room_after(left, &write_of(FIRST, images[1], images[0]));
+    sized(&end);
+    let left = room_after(left, &end);
+    let commit = Record::Commit { txn: FIRST };
+    sized(&commit);
+    Some(room_after(left, &commit))
+}
+
+// The end that says a group was closed, which tells that deed.
+fn told(sender: u32) -> DeedBytes
+    ensures { deed_in result ≡ Some (Deed.Close sender) }
+{
+    encode_deed(&Deed::Close { sender })
+}
+
+#[test]
+fn room_for_an_operation(rt: HostRuntime) {
+    let images = [[0; 256], [7; 256]];
+    let deed = Deed::Close { sender: 3 };
+    assert_eq!(rt; told(3).as_slice(), b"\x03\0\0\0\x03".as_slice());
+    assert_eq!(rt; room_left(1148, &images, &deed), Some(0));
+    assert_eq!(rt; room_left(1147, &images, &deed), None);
 }

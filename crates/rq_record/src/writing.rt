@@ -1,8 +1,10 @@
 //! From records to bytes.
 ghost use Rattle.std.specs.Prelude.{◌≡◌, ◌+◌, ◌≤◌, ◌<◌, ◌^◌, ◌++◌, [], ◌∷◌, length, vec_len, vec_capacity, OnOk, OnErr, IsOk};
 ghost use Rattle.rq_model.specs.declared.record.Record.{Record};
+ghost use Rattle.rq_record.specs.Sizes.{length_of};
 ghost use Rattle.rq_record.specs.Spelling.{IsInRange, Fits, FitsTxn, IsImage, AreBytes, number, txn_bytes, fields, spelling};
 
+use crate::{COMMIT_BYTES, OP_END_BYTES, PAGE_OP_BYTES};
 use byteorder::{BigEndian, ByteOrder};
 use rq_model::record::{DeedBytes, Record, Slot};
 use rq_model::refusal::NoMemory;
@@ -278,26 +280,27 @@ fn put_abort_end(out: &mut Vec<u8>, txn: &Txn)
     put_head(out, 17, 8, txn);
 }
 
-// The number of bytes of an image.
-fn image_len(image: &Slot) -> usize
-    ensures len { result ≡ length image.now }
-    ensures size { result ≡ 256 }
+/// The spelling of a record that a program holds is as long as its kind says, for proofs: a call at a
+/// record of a known kind says the number of its bytes.
+pub fn sized(record: &Record)
+    ensures { length (spelling «record».now) ≡ length_of «record».now }
 {
-    image.as_slice().len()
+    fits(record);
 }
 
 /// The number of bytes of a record's spelling.
-#[tactic(auto, using(crate::proofs::Spelled::lengths))]
 pub fn spelled_len(record: &Record) -> usize
     ensures { result ≡ length (spelling «record».now) }
 {
+    sized(record);
     match record {
-        Record::PageOp { before, after, .. } => 34 + image_len(before) + image_len(after),
-        Record::PageUndo { after, .. } => 42 + image_len(after),
-        Record::OpEnd { deed, .. } => 30 + deed.as_slice().len(),
+        Record::PageOp { .. } => PAGE_OP_BYTES,
+        Record::PageUndo { .. } => 298,
+        Record::OpEnd { deed, .. } => OP_END_BYTES + deed.as_slice().len(),
         Record::OpVoid { .. } => 29,
         Record::CompEnd { .. } => 37,
-        Record::Commit { .. } | Record::AbortEnd { .. } => 21,
+        Record::Commit { .. } => COMMIT_BYTES,
+        Record::AbortEnd { .. } => 21,
         Record::Restart { .. } => 13,
     }
 }

@@ -1,11 +1,13 @@
 -- What an entry of the audit says.
-use Rattle.std.specs.Prelude.{◌≡◌, ℕ, Bool, true, false, List, [], ◌∷◌, ◌++◌, map}
+use Rattle.std.specs.Prelude.{◌≡◌, ℕ, List, [], ◌∷◌, ◌++◌, map, reverse}
 use Rattle.rq_model.specs.History.{Call}
-use Rattle.rq_model.specs.Replay.{Reply as Gave}
+use Rattle.rq_model.specs.Replay.{Reply as Gave, Replays}
 use Rattle.rq_model.specs.declared.refusal.Refusal.TheVariants.{NoMemory}
 use Rattle.rq_engine.specs.declared.event.Event.{Event}
 use Rattle.rq_engine.specs.declared.event.Reply.{Reply}
 use Rattle.rq_engine.specs.declared.event.Reply.TheVariants.{Refused}
+use Rattle.rq_store.specs.State.{State, ledger_of, size_of}
+use Rattle.rq_store.specs.Sound.{IsSound}
 use Rattle.rq_engine.specs.Says.{call_of, gave}
 use Rattle.rq_shared.specs.declared.kept.AuditEntry.{AuditEntry}
 
@@ -25,5 +27,25 @@ abbrev pub entries : List AuditEntry → List Noted
 entries es = map entry_of es
 
 -- the audit has this one entry more
-abbrev pub OneMore : List AuditEntry → List AuditEntry → Noted → Type 0
-OneMore old new n = entries new ≡ entries old ++ n ∷ []
+abbrev pub OneMore : List Noted → List Noted → Noted → Type 0
+OneMore old new n = new ≡ old ++ n ∷ []
+
+-- what was asked and what that gave
+abbrev pub answer_of : Noted → Call × Gave
+answer_of n = (n.call, n.gave)
+
+-- the calls with what they gave, the newest first
+abbrev pub answers : List Noted → List (Call × Gave)
+answers ns = reverse (map answer_of ns)
+
+-- The engine is of the size of the base, and where the base goes back to a legal log, so does the engine, and the audit's calls with what they gave
+-- lead from the one's ledger to the other's.
+pub record Follows (base : State) (audit : List Noted) (engine : State) : Type 0 where
+  pub sizes : engine.sizes ≡ base.sizes
+  pub replays : IsSound base → IsSound engine × Replays (size_of base.sizes) (ledger_of base) (answers audit) (ledger_of engine)
+
+-- an engine, the entries since its audit was last taken, and the engine as it was then
+pub record Audited : Type 0 where
+  pub engine : State
+  pub audit : List Noted
+  pub base : State

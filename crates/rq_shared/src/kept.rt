@@ -1,12 +1,18 @@
 //! The kept engine: each call leaves one entry, and answers a stamp that says the same.
-ghost use Rattle.std.specs.Prelude.{◌≡◌, ◌≢◌, ◌<◌, [], ◌↔◌, IfOk, OnOk, OnErr, IsTrue, map, vec_len, vec_capacity};
-ghost use Rattle.rq_engine.specs.Says.{call_of, gave, group_of, IsContent};
+ghost use Rattle.std.specs.Prelude.{◌≡◌, ◌≢◌, ◌<◌, [], ◌∷◌, ◌++◌, ◌↔◌, IfOk, OnOk, OnErr, IsTrue, map, vec_len, vec_capacity};
+ghost use Rattle.rq_store.specs.Sound.{IsSound};
+ghost use Rattle.rq_store.specs.Steps.{Steps};
+ghost use Rattle.rq_content.specs.Read.{group_of};
+ghost use Rattle.rq_engine.specs.Says.{call_of, gave, IsContent};
 
+use rq_content::GroupContent;
 use rq_disk::{LogDevice, PageDevice};
 use rq_engine::engine::Engine;
-use rq_engine::event::{Event, GroupContent, Reply};
+use rq_engine::event::{Event, Reply};
 use rq_model::refusal::Refusal;
 use std::alloc::{AllocError, Global};
+use std::marker::Model;
+use std::snapshot::Snapshot;
 
 /// Who asked what, and the answer, as the audit keeps it.
 #[derive(Debug, Drop)]
@@ -60,26 +66,46 @@ impl Stamped {
     }
 }
 
-/// An engine, and an entry for each of its calls since the audit was last taken.
+/// An engine, and an entry for each of its calls since the audit was last taken. Contracts see the engine, the
+/// entries, and the engine as it was then: from that one, the entries replay to the engine.
 #[derive(Drop)]
 pub struct Kept<P: PageDevice, L: LogDevice> {
     alloc: Global,
     engine: Engine<P, L>,
     audit: Vec<AuditEntry>,
+    // the engine as it was when the audit was last taken
+    base: Snapshot<Engine<P, L>>,
+}
+
+impl<P: PageDevice, L: LogDevice> Model for Kept<P, L> {
+    ghost use Rattle.rq_shared.specs.Entries.{Audited, Follows, entries};
+
+    ghost Value = { Audited };
+
+    ghost view = { λ k. record {
+      engine = k.engine;
+      audit = entries k.audit.items;
+      base = k.base.value;
+    } };
+
+    ghost invariant = { λ k. Follows k.base.value (entries k.audit.items) k.engine };
 }
 
 impl<P: PageDevice + Drop, L: LogDevice + Drop> Kept<P, L> {
-    ghost use Rattle.rq_shared.specs.Entries.{OneMore, noted};
+    ghost use Rattle.rq_shared.specs.Entries.{Follows, OneMore, entries, noted};
 
     /// Keeps an engine. The audit is empty.
     pub fn new(alloc: Global, engine: Engine<P, L>) -> Self
         ensures engine { result.engine ≡ engine }
-        ensures audit { result.audit.items ≡ [] }
+        ensures audit { result.audit ≡ [] }
+        ensures base { result.base ≡ engine }
     {
+        let base = Snapshot::of(&engine);
         Kept {
             alloc,
             engine,
             audit: Vec::new(alloc),
+            base,
         }
     }
 
@@ -88,11 +114,12 @@ impl<P: PageDevice + Drop, L: LogDevice + Drop> Kept<P, L> {
     pub fn step(&mut self, pass: u64, event: Event) -> Stamped
         ensures pass { result.pass ≡ pass }
         ensures event { result.event ≡ event }
-        ensures entry { result.reply ≢ Reply.Refused Refusal.NoMemory → OneMore self.old.audit.items self.new.audit.items (noted pass event result.reply) }
-        ensures no_entry { result.reply ≡ Reply.Refused Refusal.NoMemory → self.new.audit.items ≡ self.old.audit.items }
-        ensures no_change { result.reply ≡ Reply.Refused Refusal.NoMemory → self.new.engine ≡ self.old.engine }
+        ensures entry { result.reply ≢ Reply.Refused Refusal.NoMemory → OneMore self.old.audit self.new.audit (noted pass event result.reply) }
+        ensures answered { result.reply ≢ Reply.Refused Refusal.NoMemory → IsSound self.old.engine → Steps self.old.engine (call_of event) (gave result.reply) self.new.engine }
+        ensures no_change { result.reply ≡ Reply.Refused Refusal.NoMemory → self.new ≡ self.old }
+        ensures base { self.new.base ≡ self.old.base }
     {
-        let Ok(noted_event) = self.room_for(&event) else {
+        let Ok(noted_event) = room_for(&mut self.audit, &event) else {
             return refused(pass, event);
         };
         let reply = self.engine.apply(&event);
@@ -102,20 +129,25 @@ impl<P: PageDevice + Drop, L: LogDevice + Drop> Kept<P, L> {
         if is_no_memory(&reply) {
             return refused(pass, event);
         }
-        let _ = self.audit.push(AuditEntry {
+        let entry = AuditEntry {
             pass,
             event: noted_event,
             reply: noted_reply,
-        });
+        };
+        note(&mut self.audit, entry);
         Stamped { pass, event, reply }
     }
 
-    /// The entries since the audit was last taken, in order. It is empty afterwards.
+    /// The entries since the audit was last taken, in order. They replay from the engine as it was then to the engine
+    /// as it is. The audit is empty afterwards.
     pub fn take(&mut self) -> Vec<AuditEntry>
-        ensures taken { result.items ≡ self.old.audit.items }
-        ensures emptied { self.new.audit.items ≡ [] }
+        ensures taken { entries result.items ≡ self.old.audit }
+        ensures replays { Follows self.old.base (entries result.items) self.old.engine }
+        ensures emptied { self.new.audit ≡ [] }
         ensures engine { self.new.engine ≡ self.old.engine }
+        ensures base { self.new.base ≡ self.old.engine }
     {
+        self.base = Snapshot::of(&self.engine);
         std::mem::replace(&mut self.audit, Vec::new(self.alloc))
     }
 
@@ -127,21 +159,29 @@ impl<P: PageDevice + Drop, L: LogDevice + Drop> Kept<P, L> {
             alloc: _,
             engine,
             audit: _,
+            base: _,
         } = self;
         engine
     }
+}
 
-    // A copy of the event, and room for one more entry.
-    fn room_for(&mut self, event: &Event) -> Result<Event, AllocError>
-        ensures copy { IfOk result (λ copy. call_of copy ≡ call_of event.now) }
-        ensures room { OnOk result (vec_len self.new.audit < vec_capacity self.new.audit) }
-        ensures audit { self.new.audit.items ≡ self.old.audit.items }
-        ensures engine { self.new.engine ≡ self.old.engine }
-    {
-        let copy = event.clone()?;
-        self.audit.try_reserve(1)?;
-        Ok(copy)
-    }
+// A copy of the event, and room for one more entry.
+fn room_for(audit: &mut Vec<AuditEntry>, event: &Event) -> Result<Event, AllocError>
+    ensures copy { IfOk result (λ copy. call_of copy ≡ call_of event.now) }
+    ensures room { OnOk result (vec_len audit.new < vec_capacity audit.new) }
+    ensures audit { audit.new.items ≡ audit.old.items }
+{
+    let copy = event.clone()?;
+    audit.try_reserve(1)?;
+    Ok(copy)
+}
+
+// One entry more, where there is room for it.
+fn note(audit: &mut Vec<AuditEntry>, entry: AuditEntry)
+    requires { vec_len audit.old < vec_capacity audit.old }
+    ensures { audit.new.items ≡ audit.old.items ++ entry ∷ [] }
+{
+    let _ = audit.push(entry);
 }
 
 // The stamp of a call that memory was wanting for.

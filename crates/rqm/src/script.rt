@@ -2,11 +2,11 @@
 use crate::command::{Command, Keep};
 use rq_disk::{MemLog, MemPages, PageChoice, Switch};
 use rq_engine::event::{CommitNo, Event, GroupContent, Outcome, Progress, Reply};
-use rq_engine::format::format;
-use rq_engine::restart::{Report, restart};
 use rq_model::refusal::Refusal;
 use rq_model::txn::{Sub, Txn};
 use rq_page::layout::Layout;
+use rq_restart::format::format;
+use rq_restart::restart::{Report, restart};
 use rq_shared::kept::Kept;
 use std::alloc::{AllocError, Global};
 use std::io::{Read, Write};

@@ -1,10 +1,10 @@
 use crate::script::run_script;
 use rq_disk::{CallKind, MemLog, MemPages, Mishap, Switch};
 use rq_engine::event::{Event, Reply};
-use rq_engine::format::format;
-use rq_engine::restart::restart;
 use rq_model::refusal::Refusal;
 use rq_page::layout::Layout;
+use rq_restart::format::format;
+use rq_restart::restart::restart;
 use rq_shared::kept::Kept;
 use std::process::Abort;
 use std::test::Fail;

@@ -1,5 +1,5 @@
 use Rattle.std.proofs.Common.{◌≡◌, map, take}
-use Rattle.rq_engine.specs.Says.{group_of}
+use Rattle.rq_content.specs.Read.{group_of}
 use Rattle.rq_shared.proofs.kept.copy_of_groups.Given as goal
 
 -- the groups so far are copied

@@ -1,0 +1,5 @@
+pub mod Walks
+pub mod LeftOut
+pub mod OneRead
+pub mod Shown
+pub mod StartedRow

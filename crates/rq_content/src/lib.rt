@@ -1,0 +1,114 @@
+//! The committed content of each sender's group, read from its chain and from what transactions that have not ended did.
+#![tactic(auto)]
+
+ghost use Rattle.std.specs.Prelude.{◌≡◌, ◌<◌, false, IfErr, IfOk, map};
+ghost use Rattle.rq_model.specs.Legal.{below};
+ghost use Rattle.rq_model.specs.Ledger.{group_in};
+ghost use Rattle.rq_model.specs.Content.{committed_of};
+ghost use Rattle.rq_page.specs.Sizes.{sender_count};
+ghost use Rattle.rq_txn.specs.Rows.{any_under};
+ghost use Rattle.rq_store.specs.State.{State};
+ghost use Rattle.rq_store.specs.Sound.{IsSound};
+ghost use Rattle.rq_content.specs.Read.{group_of, read_group, StopsFor, IsNoMemory};
+
+mod chain;
+mod earlier;
+#[cfg(test)]
+mod tests;
+
+use crate::chain::add_chain;
+use crate::earlier::Earlier;
+use rq_disk::PageDevice;
+use rq_model::message::Message;
+use rq_model::refusal::Refusal;
+use rq_pool::Pages;
+use rq_txn::Transactions;
+use std::alloc::Global;
+
+/// The committed content of a sender's group.
+#[derive(Clone, Debug, Drop)]
+pub struct GroupContent {
+    /// How many messages committed transactions sent.
+    pub sent: u64,
+    /// The tag of the last of them, 0 where there is none.
+    pub last_tag: u64,
+    /// How many messages committed transactions received.
+    pub received: u64,
+    /// Whether a committed transaction closed the group.
+    pub closed: bool,
+    /// What was sent and not received, in order.
+    pub rest: Vec<Message>,
+}
+
+/// The committed content of each sender's group, by rising number: what its chain holds, without what transactions
+/// that have not ended did. It is so while none of them has an operation under way.
+///
+/// # Errors
+/// `NoMemory`, or `Damaged` with the page of a sender's directory slot where its chain has fewer cells than that
+/// slot says.
+pub fn content<P: PageDevice>(
+    alloc: Global,
+    pages: &Pages<P>,
+    transactions: &Transactions,
+) -> Result<Vec<GroupContent>, Refusal>
+    ensures shown { (s : State) → IsSound s → s.sizes ≡ pages.now.sizes → s.images ≡ pages.now.images → s.rows ≡ transactions.now → any_under s.rows ≡ false → IfOk result (λ groups. map group_of groups.items ≡ map (group_in (committed_of s.records)) (below (sender_count s.sizes))) }
+    ensures sound { (s : State) → IsSound s → s.sizes ≡ pages.now.sizes → s.images ≡ pages.now.images → s.rows ≡ transactions.now → any_under s.rows ≡ false → IfErr result (λ refusal. IsNoMemory refusal) }
+    ensures read { IfOk result (λ groups. map group_of groups.items ≡ map (read_group pages.now.sizes pages.now.images transactions.now) (below (sender_count pages.now.sizes))) }
+    ensures refused { IfErr result (λ refusal. StopsFor pages.now.sizes pages.now.images transactions.now refusal) }
+{
+    read_groups(alloc, pages, transactions)
+}
+
+// What the slots and the open transactions say of each sender.
+fn read_groups<P: PageDevice>(
+    alloc: Global,
+    pages: &Pages<P>,
+    transactions: &Transactions,
+) -> Result<Vec<GroupContent>, Refusal>
+    ensures read { IfOk result (λ groups. map group_of groups.items ≡ map (read_group pages.now.sizes pages.now.images transactions.now) (below (sender_count pages.now.sizes))) }
+    ensures refused { IfErr result (λ refusal. StopsFor pages.now.sizes pages.now.images transactions.now refusal) }
+{
+    let senders = pages.layout().senders();
+    let Ok(mut groups) = Vec::with_capacity(alloc, senders as usize) else {
+        return Err(Refusal::NoMemory);
+    };
+    for sender in 0..senders {
+        let group = group_content(alloc, pages, transactions, sender)?;
+        if groups.push(group).is_err() {
+            return Err(Refusal::NoMemory);
+        }
+    }
+    Ok(groups)
+}
+
+// What they say of one sender.
+fn group_content<P: PageDevice>(
+    alloc: Global,
+    pages: &Pages<P>,
+    transactions: &Transactions,
+    sender: u32,
+) -> Result<GroupContent, Refusal>
+    requires { sender < sender_count pages.now.sizes }
+    ensures read { IfOk result (λ group. group_of group ≡ read_group pages.now.sizes pages.now.images transactions.now sender) }
+    ensures refused { IfErr result (λ refusal. StopsFor pages.now.sizes pages.now.images transactions.now refusal) }
+{
+    let directory = pages.group(sender);
+    let mut earlier = Earlier::of(alloc, &directory);
+    earlier.leave_out_rows(sender, transactions.rows())?;
+    let Earlier {
+        sent,
+        previous,
+        closed,
+        taken: mut rest,
+    } = earlier;
+    let received = directory.received.saturating_sub(rest.len() as u64);
+    let count = sent.saturating_sub(directory.received);
+    add_chain(pages, sender, directory.head, count, &mut rest)?;
+    Ok(GroupContent {
+        sent,
+        last_tag: previous.unwrap_or(directory.last_tag),
+        received,
+        closed,
+        rest,
+    })
+}

@@ -1,0 +1,323 @@
+-- What the calls answer, from what their bodies found and made.
+use Rattle.std.proofs.Common.{◌≡◌, ◌≢◌, ℕ, zero, suc, ◌+◌, ◌-◌, ◌*◌, ◌/◌, ◌%◌, ◌^◌, ◌<◌, ◌≤◌, ◌&&◌, ◌||◌, List, [], ◌∷◌, length, map, refl, sym, ◌∙◌, ap, subst, Bool, true, false, not, cond, nat_eq, nat_lt, Option, Some, None, IfSome, arith, inl, inr, ◌⊎◌}
+use Rattle.std.specs.List.{sum_by, slice_get, slice_index_or}
+use Rattle.std.proofs.lemmas.Bool.{cases_Bool, false≢true, true≢false, false_from_ne_true, eqb-true, eq-eqb, and_from, lt-ltb, le-ltb}
+use Rattle.std.proofs.lemmas.List.Sums.{sum_by-cons}
+use Rattle.std.proofs.lemmas.Option.{slice_get_within, slice_get-get_or, same_Some}
+use Rattle.rq_model.specs.declared.txn.Txn.{Txn}
+use Rattle.rq_model.specs.declared.txn.Sub.{Sub}
+use Rattle.rq_model.specs.declared.record.Deed.{Deed}
+use Rattle.rq_model.specs.declared.record.Record.{Record}
+use Rattle.rq_model.specs.declared.record.Record.TheVariants as records
+use Rattle.rq_model.specs.declared.refusal.Refusal.{Refusal}
+use Rattle.rq_model.specs.declared.refusal.Refusal.TheVariants as why
+use Rattle.rq_model.specs.Words.{In, is_some, same_txn}
+use Rattle.rq_model.specs.Deeds.{spelled_deed}
+use Rattle.rq_model.specs.History.{Call}
+use Rattle.rq_model.specs.History.Call.{Commit, Step, Finish, Force, Hand_over, Show}
+use Rattle.rq_model.specs.History.Entry.{Ready, Shown}
+use Rattle.rq_model.specs.Ledger.{Open, found}
+use Rattle.rq_model.specs.Legal.{has_under, steps_left, log_full, tests, first_of, OnFound as Open_found}
+use Rattle.rq_model.specs.Replay.{Reply as Gave}
+use Rattle.rq_model.specs.Replay.Reply.{Gave_lsn, Gave_ready, Gave_content}
+use Rattle.rq_model.proofs.Lists.{same_is}
+use Rattle.rq_page.specs.Sizes.{Sizes}
+use Rattle.rq_page.specs.Slots.{IsSlotOf}
+use Rattle.rq_chain.specs.declared.SlotWrite.{SlotWrite}
+use Rattle.rq_chain.specs.Writes.{IsSlotWrite, AreSlotWrites}
+use Rattle.rq_txn.specs.declared.Finished.{Finished}
+use Rattle.rq_txn.specs.Rows.{Row, Under, found_row, any_under, change_row, without_row, row_stepped, row_finished}
+use Rattle.rq_groups.specs.Ends.{HeldEnds}
+use Rattle.rq_store.specs.State.{State, ledger_of, size_of, open_of, open_ones_of, owed_by, owed_one, owed_under, job_under, left_under}
+use Rattle.rq_store.specs.Sound.{IsSound}
+use Rattle.rq_store.specs.Steps.{Steps, page_op, op_end, gave_done}
+use Rattle.rq_store.proofs.RowLists.{found_in}
+use Rattle.rq_store.proofs.Opens.{found_open, open_found, busy_is}
+use Rattle.rq_model.specs.Ledger.{group_in}
+use Rattle.rq_model.specs.History.{Group}
+use Rattle.rq_model.specs.Legal.{any_busy, below}
+use Rattle.rq_model.specs.Content.{committed_of}
+use Rattle.rq_page.specs.Sizes.{sender_count}
+use Rattle.rq_store.proofs.Releases.{without_ends}
+use Rattle.rq_store.proofs.Working.{going_at}
+use Rattle.rq_store.proofs.Stepping.{step_steps}
+use Rattle.rq_store.proofs.Finishing.{finish_steps}
+use Rattle.rq_store.proofs.Committing.{commit_steps}
+use Rattle.rq_engine.specs.Kept.{IsKept, IsRowKept, IsUnderKept, room_one, room_of, total_of}
+use Rattle.rq_engine.specs.Answers.{HasCause, Refuses, OnFound, OnUnder, IsGoing, NotGoing, NotFound, IsOther, Idle, CannotFinish, IsMade, IsReady}
+use Rattle.rq_engine.proofs.Keeping.{kept_at, under_at, kept_stepped, kept_finished, kept_committed}
+use Rattle.rq_engine.proofs.Refusals.{refuse, refuse_failed, found_of, found_some, found_none, not_full}
+
+-- from what is inside an engine to what is seen of it
+pub from_inside : {a b new : State} {c : Call} {gave : Gave} → a ≡ b → (IsSound a → Steps a c gave new) → IsSound b → Steps b c gave new
+from_inside {a} {b} {new} {c} {gave} e h k = subst (λ (s : State). Steps s c gave new) e (h (subst IsSound (sym e) k))
+
+pub refused_inside : {a b : State} {c : Call} {r : Refusal} (m d : Bool) → a ≡ b → Refuses m d a c r → Refuses m d b c r
+refused_inside {a} {b} {c} {r} m d e h = subst (λ (s : State). Refuses m d s c r) e h
+
+-- the row and the operation that are going
+pub record Going (s : State) (sub : Sub) (P : Row → Under → Type 0) : Type 0 where
+  pub row : Row
+  pub under : Under
+  pub found : found_row sub.txn s.rows ≡ Some row
+  pub is : row.under ≡ Some under
+  pub number : under.number ≡ sub.number
+  pub so : P row under
+
+on_under : (n : ℕ) (P : Row → Under → Type 0) (r : Row) (o : Option Under) → OnUnder n P r o → (u : Under) × (o ≡ Some u) × (u.number ≡ n) × P r u
+on_under n P r None h = absurd h
+on_under n P r (Some u) h = (u, refl, h.0, h.1)
+
+pub going_of : (s : State) (sub : Sub) (P : Row → Under → Type 0) → IsGoing s sub P → Going s sub P
+going_of s sub P h =
+    let f = found_of (λ r. OnUnder sub.number P r r.under) (found_row sub.txn s.rows) h in
+    let u = on_under sub.number P f.0 f.0.under f.2 in
+    record { row = f.0; under = u.0; found = f.1; is = u.1; number = u.2; so = u.3 }
+
+pub is_going : (s : State) (sub : Sub) (P : Row → Under → Type 0) → Going s sub P → IsGoing s sub P
+is_going s sub P g = subst (OnFound (λ r. OnUnder sub.number P r r.under)) (sym g.found) (subst (OnUnder sub.number P g.row) (sym g.is) (g.number, g.so))
+
+pub going_more : (s : State) (sub : Sub) (P Q : Row → Under → Type 0) → ((r : Row) (u : Under) → P r u → Q r u) → IsGoing s sub P → IsGoing s sub Q
+going_more s sub P Q f h = let g = going_of s sub P h in is_going s sub Q (record { row = g.row; under = g.under; found = g.found; is = g.is; number = g.number; so = f g.row g.under g.so })
+
+-- one row's part of a sum
+sum_at : (f : Row → ℕ) (t : Txn) (rows : List Row) (r : Row) → found_row t rows ≡ Some r → f r ≤ sum_by f rows
+sum_at f t [] r e = cc
+sum_at f t (q ∷ rows) r e = elim (cases_Bool (same_txn q.txn t)) [
+  | inl y ↦ let s : q ≡ r = same_Some q r (rw y at e) in let a = sum_by-cons f q rows in let b : f q ≡ f r = ap f s in omega (arith, a, b)
+  | inr n ↦ let h = sum_at f t rows r (rw n at e) in let a = sum_by-cons f q rows in omega (arith, a, h)
+]
+
+module _ (s : State) (f : Bool) (o res : ℕ) (k : IsKept s f o res) (sub : Sub) (P : Row → Under → Type 0) (h : IsGoing s sub P) where
+  abbrev g : Going s sub P
+  g = going_of s sub P h
+
+  -- its numbers are in range
+  pub going_range : ((0 < sub.txn.incarnation) × (0 < sub.txn.count)) × (0 < sub.number)
+  going_range =
+      let row = kept_at s f o res sub.txn g.row k g.found in
+      let u = under_at s f o res sub.txn g.row g.under k g.found g.is in
+      let i = (found_in sub.txn s.rows g.row g.found).1 in
+      let a : sub.txn.incarnation ≡ s.incarnation = ap (λ (t : Txn). t.incarnation) (sym i) ∙ row.mine in
+      let b : g.row.txn.count ≡ sub.txn.count = ap (λ (t : Txn). t.count) i in
+      let c = k.incarnation in
+      let d = row.low in
+      let n = u.number in
+      let m = g.number in
+      ((omega (arith, a, c), omega (arith, b, d)), omega (arith, n, m))
+
+  -- it is owed records, and the room for them
+  pub going_owed : 1 ≤ o
+  going_owed =
+      let a = sum_at owed_one sub.txn s.rows g.row g.found in
+      let b : owed_one g.row ≡ length g.under.writes - g.under.made + 1 = ap owed_under g.is in
+      let c = k.owes in
+      omega (arith, a, b, c)
+
+  pub going_count : length s.records < 2 ^ 64 - 1
+  going_count = let a = k.count in omega (arith, a)
+
+  pub going_room : 546 * (length g.under.writes - g.under.made) + (30 + length (spelled_deed g.under.deed)) ≤ res
+  going_room =
+      let a = sum_at room_one sub.txn s.rows g.row g.found in
+      let b : room_one g.row ≡ 546 * (length g.under.writes - g.under.made) + (30 + length (spelled_deed g.under.deed)) = ap room_of g.is in
+      let c = k.room in
+      omega (arith, a, b, c)
+
+  pub going_deed : (1 ≤ length (spelled_deed g.under.deed)) × (length (spelled_deed g.under.deed) ≤ 256)
+  going_deed = let u = under_at s f o res sub.txn g.row g.under k g.found g.is in (u.deed_low, u.deed_high)
+
+  pub going_slots : AreSlotWrites s.sizes g.under.writes
+  going_slots = (under_at s f o res sub.txn g.row g.under k g.found g.is).slots
+
+write_at : (z : Sizes) (ws : List SlotWrite) (i : ℕ) (w : SlotWrite) → AreSlotWrites z ws → slice_get ws i ≡ Some w → IsSlotWrite z w
+write_at z ws i w h e =
+    let lt = slice_get_within ws i w e in
+    let at : slice_index_or ws i w ≡ w = same_Some (slice_index_or ws i w) w (sym (slice_get-get_or ws i w lt) ∙ e) in
+    subst (IsSlotWrite z) at (h i w lt)
+
+abbrev pub Next : SlotWrite → Row → Under → Type 0
+Next w r u = slice_get u.writes u.made ≡ Some w
+
+abbrev pub AllMade : Deed → Row → Under → Type 0
+AllMade d r u = (length u.writes ≤ u.made) × (u.deed ≡ d)
+
+module _ (s : State) (f : Bool) (o res : ℕ) (k : IsKept s f o res) (sub : Sub) (w : SlotWrite) (h : IsGoing s sub (Next w)) where
+  abbrev gw : Going s sub (Next w)
+  gw = going_of s sub (Next w) h
+
+  more : gw.under.made < length gw.under.writes
+  more = slice_get_within gw.under.writes gw.under.made w gw.so
+
+  pub next_slot : IsSlotWrite s.sizes w
+  next_slot = write_at s.sizes gw.under.writes gw.under.made w (going_slots s f o res k sub (Next w) h) gw.so
+
+  pub next_room : 546 ≤ res
+  next_room = let a = going_room s f o res k sub (Next w) h in let b = more in omega (arith, a, b)
+
+  pub next_more : IfSome (found_row sub.txn s.rows) (λ (r : Row). IfSome r.under (λ (u : Under). u.made < length u.writes))
+  next_more = subst (λ (q : Option Row). IfSome q (λ (r : Row). IfSome r.under (λ (u : Under). u.made < length u.writes))) (sym gw.found) (subst (λ (q : Option Under). IfSome q (λ (u : Under). u.made < length u.writes)) (sym gw.is) more)
+
+  pub next_kept : (x : Record) (images : List (List ℕ)) (left : ℕ) → left + 546 ≡ res → IsKept (record s { rows = change_row sub.txn row_stepped s.rows; images = images; records = x ∷ s.records }) f (o - 1) left
+  next_kept x images left e = kept_stepped s f o res k sub.txn gw.row gw.found gw.under x images left gw.is more e
+
+module _ (s : State) (f : Bool) (o res : ℕ) (k : IsKept s f o res) (sub : Sub) (d : Deed) (h : IsGoing s sub (AllMade d)) where
+  abbrev gd : Going s sub (AllMade d)
+  gd = going_of s sub (AllMade d) h
+
+  pub end_room : 30 + length (spelled_deed d) ≤ res
+  end_room = let a = going_room s f o res k sub (AllMade d) h in let c : length (spelled_deed gd.under.deed) ≡ length (spelled_deed d) = ap (λ (x : Deed). length (spelled_deed x)) gd.so.1 in omega (arith, a, c)
+
+  all_made : gd.under.made ≡ length gd.under.writes
+  all_made = let a = (under_at s f o res sub.txn gd.row gd.under k gd.found gd.is).made in let b = gd.so.0 in omega (arith, a, b)
+
+  pub end_kept : (x : Record) (end : Finished) (left : ℕ) → left + (30 + length (spelled_deed d)) ≡ res → IsKept (record s { rows = change_row sub.txn (row_finished end) s.rows; records = x ∷ s.records }) f (o - 1) left
+  end_kept x end left e = kept_finished s f o res k sub.txn gd.row gd.found gd.under x end left gd.is all_made (let c : length (spelled_deed gd.under.deed) ≡ length (spelled_deed d) = ap (λ (x : Deed). length (spelled_deed x)) gd.so.1 in omega (arith, c, e))
+
+-- one more write
+pub step_done : (s new : State) (sub : Sub) (w : SlotWrite) (lsn : ℕ) → s.failed ≡ false → IsGoing s sub (Next w) → IsMade s sub w new → lsn ≡ length s.records + 1 → IsSound s → Steps s (Step sub.txn sub.number) (Gave_lsn lsn) new
+step_done s new sub w lsn running h m at k =
+    let g = going_of s sub (Next w) h in
+    let more = slice_get_within g.under.writes g.under.made w g.so in
+    let a = step_steps s k sub.txn g.row g.under w new.images g.found g.is g.so m.slots m.before m.slot more running in
+    let b = subst (λ (n : ℕ). Steps s (Step sub.txn n) (Gave_lsn (length s.records + 1)) (record s { rows = change_row sub.txn row_stepped s.rows; images = new.images; records = page_op sub.txn n w ∷ s.records })) g.number a in
+    subst (λ (n : ℕ). Steps s (Step sub.txn sub.number) (Gave_lsn n) new) (sym at) (subst (λ (x : State). Steps s (Step sub.txn sub.number) (Gave_lsn (length s.records + 1)) x) (sym m.state) b)
+
+-- the ledger finds what is going, and what is not
+ledger_going : (s : State) (k : IsSound s) (sub : Sub) (P : Row → Under → Type 0) (g : Going s sub P) → has_under sub.number (found sub.txn (ledger_of s).open_ones) ≡ true
+ledger_going s k sub P g =
+    let n = (going_at s k sub.txn g.row g.under g.found g.is).1 in
+    ap (has_under sub.number) (found_some s sub.txn g.row g.found) ∙ and_from _ _ (ap (λ (y : Option Under). is_some (job_under y)) g.is) (eq-eqb g.row.number sub.number (n ∙ g.number))
+
+not_under : (s : State) (k : IsSound s) (sub : Sub) → NotGoing s sub → has_under sub.number (found sub.txn (ledger_of s).open_ones) ≡ false
+not_under s k sub h = at (found_row sub.txn s.rows) refl h where
+  under : (r : Row) (o : Option Under) → found_row sub.txn s.rows ≡ Some r → r.under ≡ o → IsOther sub.number o → (is_some (job_under o) && nat_eq r.number sub.number) ≡ false
+  under r None e u h = refl
+  under r (Some v) e u h = false_from_ne_true (nat_eq r.number sub.number) (λ y. h (sym (going_at s k sub.txn r v e u).1 ∙ eqb-true r.number sub.number y))
+
+  at : (o : Option Row) → found_row sub.txn s.rows ≡ o → NotFound (λ r. IsOther sub.number r.under) o → has_under sub.number (found sub.txn (ledger_of s).open_ones) ≡ false
+  at None e h = ap (has_under sub.number) (found_none s sub.txn e)
+  at (Some r) e h = ap (has_under sub.number) (found_some s sub.txn r e) ∙ under r r.under e refl h
+
+-- no write is left
+pub step_ready : (s : State) (sub : Sub) → s.failed ≡ false → IsGoing s sub (λ r u. slice_get u.writes u.made ≡ None) → IsSound s → Steps s (Step sub.txn sub.number) Gave_ready s
+step_ready s sub running h k =
+    let g = going_of s sub (λ r u. slice_get u.writes u.made ≡ None) h in
+    let left : left_under g.row.under ≡ 0 = ap left_under g.is ∙ (let e = none_left g.under.writes g.under.made g.so in omega (arith, e)) in
+    record {
+      entry = Ready sub.txn sub.number;
+      says = refl;
+      legal = (
+        (ap (λ b. not (not b)) running, (ap not (ledger_going s k sub (λ r u. slice_get u.writes u.made ≡ None) g), tt)),
+        subst (λ (y : Option Open). Open_found y (λ (q : Open). q.left ≡ 0)) (sym (found_some s sub.txn g.row g.found)) left,
+      );
+      after = refl;
+      sound = k;
+    }
+  where
+    none_left : (ws : List SlotWrite) (i : ℕ) → slice_get ws i ≡ None → length ws ≤ i
+    none_left [] i e = omega arith
+    none_left (w ∷ ws) zero e = cc
+    none_left (w ∷ ws) (suc i) e = let h = none_left ws i e in omega (arith, h)
+
+unknown_operation : (s : State) (sub : Sub) (c : Call) → s.failed ≡ false → NotGoing s sub → (c ≡ Step sub.txn sub.number) ⊎ (c ≡ Finish sub.txn sub.number) → Refuses false false s c why.UnknownOperation
+unknown_operation s sub c running h w k = elim w [
+  | inl e ↦ refuse false false s c why.UnknownOperation refl tt (ap (λ x. first_of (tests (size_of s.sizes) (ledger_of s) x)) e ∙ (rw (running, not_under s k sub h) refl)) k
+  | inr e ↦ refuse false false s c why.UnknownOperation refl tt (ap (λ x. first_of (tests (size_of s.sizes) (ledger_of s) x)) e ∙ (rw (running, not_under s k sub h) refl)) k
+]
+
+pub step_idle : (s : State) (sub : Sub) (r : Refusal) → Idle s sub r → Refuses false false s (Step sub.txn sub.number) r
+step_idle s sub why.Failed h = refuse_failed false false s (Step sub.txn sub.number) h
+step_idle s sub why.UnknownOperation h = unknown_operation s sub (Step sub.txn sub.number) h.0 h.1 (inl refl)
+step_idle s sub why.NoMemory h = absurd h
+step_idle s sub why.DiskRead h = absurd h
+step_idle s sub why.UnknownTransaction h = absurd h
+step_idle s sub why.NotOpen h = absurd h
+step_idle s sub why.Unfinished h = absurd h
+step_idle s sub why.UnknownSender h = absurd h
+step_idle s sub why.TooLong h = absurd h
+step_idle s sub why.SenderBusy h = absurd h
+step_idle s sub why.Closed h = absurd h
+step_idle s sub why.ReceiverBusy h = absurd h
+step_idle s sub why.Full h = absurd h
+step_idle s sub why.Latched h = absurd h
+step_idle s sub why.PoolFull h = absurd h
+step_idle s sub why.DiskWrite h = absurd h
+step_idle s sub (why.Damaged d) h = absurd h
+step_idle s sub why.TooManyTransactions h = absurd h
+step_idle s sub why.NotForced h = absurd h
+step_idle s sub why.LogFull h = absurd h
+
+pub finish_done : (s new : State) (sub : Sub) (d : Deed) → s.failed ≡ false → IsGoing s sub (AllMade d) → new ≡ record s { rows = change_row sub.txn (row_finished (record { lsn = length s.records + 1; deed = d })) s.rows; records = op_end sub.txn sub.number d ∷ s.records } → IsSound s → Steps s (Finish sub.txn sub.number) (gave_done d) new
+finish_done s new sub d running h e k =
+    let g = going_of s sub (AllMade d) h in
+    let made = (going_at s k sub.txn g.row g.under g.found g.is).0.made in
+    let all = g.so.0 in
+    let a = finish_steps s k sub.txn g.row g.under g.found g.is (omega (arith, made, all)) running in
+    let b = subst (λ (n : ℕ). Steps s (Finish sub.txn n) (gave_done g.under.deed) (record s { rows = change_row sub.txn (row_finished (record { lsn = length s.records + 1; deed = g.under.deed })) s.rows; records = op_end sub.txn n g.under.deed ∷ s.records })) g.number a in
+    let c = subst (λ (x : Deed). Steps s (Finish sub.txn sub.number) (gave_done x) (record s { rows = change_row sub.txn (row_finished (record { lsn = length s.records + 1; deed = x })) s.rows; records = op_end sub.txn sub.number x ∷ s.records })) g.so.1 b in
+    subst (λ (x : State). Steps s (Finish sub.txn sub.number) (gave_done d) x) (sym e) c
+
+steps_are_left : (s : State) (sub : Sub) → s.failed ≡ false → IsGoing s sub (λ r u. u.made < length u.writes) → Refuses false false s (Finish sub.txn sub.number) why.Unfinished
+steps_are_left s sub running h k =
+    let g = going_of s sub (λ r u. u.made < length u.writes) h in
+    let more : steps_left (found sub.txn (ledger_of s).open_ones) ≡ true = ap steps_left (found_some s sub.txn g.row g.found) ∙ ap (λ (y : Option Under). nat_lt 0 (left_under y)) g.is ∙ lt-ltb 0 (length g.under.writes - g.under.made) (let m = g.so in omega (arith, m)) in
+    refuse false false s (Finish sub.txn sub.number) why.Unfinished refl tt (rw (running, ledger_going s k sub (λ r u. u.made < length u.writes) g, more) refl) k
+
+pub finish_idle : (s : State) (sub : Sub) (r : Refusal) → CannotFinish s sub r → Refuses false false s (Finish sub.txn sub.number) r
+finish_idle s sub why.Failed h = refuse_failed false false s (Finish sub.txn sub.number) h
+finish_idle s sub why.UnknownOperation h = unknown_operation s sub (Finish sub.txn sub.number) h.0 h.1 (inr refl)
+finish_idle s sub why.Unfinished h = steps_are_left s sub h.0 h.1
+finish_idle s sub why.NoMemory h = absurd h
+finish_idle s sub why.DiskRead h = absurd h
+finish_idle s sub why.UnknownTransaction h = absurd h
+finish_idle s sub why.NotOpen h = absurd h
+finish_idle s sub why.UnknownSender h = absurd h
+finish_idle s sub why.TooLong h = absurd h
+finish_idle s sub why.SenderBusy h = absurd h
+finish_idle s sub why.Closed h = absurd h
+finish_idle s sub why.ReceiverBusy h = absurd h
+finish_idle s sub why.Full h = absurd h
+finish_idle s sub why.Latched h = absurd h
+finish_idle s sub why.PoolFull h = absurd h
+finish_idle s sub why.DiskWrite h = absurd h
+finish_idle s sub (why.Damaged d) h = absurd h
+finish_idle s sub why.TooManyTransactions h = absurd h
+finish_idle s sub why.NotForced h = absurd h
+finish_idle s sub why.LogFull h = absurd h
+
+-- a commit
+pub commit_range : (s : State) (f : Bool) (o res n : ℕ) (t : Txn) → IsKept s f o res → IsReady s t n → (0 < t.incarnation) × (0 < t.count)
+commit_range s f o res n t k h =
+    let r = found_of (λ r. (r.under ≡ None) × (n ≡ r.number + 1)) (found_row t s.rows) h in
+    let row = kept_at s f o res t r.0 k r.1 in
+    let i = (found_in t s.rows r.0 r.1).1 in
+    let a : t.incarnation ≡ s.incarnation = ap (λ (x : Txn). x.incarnation) (sym i) ∙ row.mine in
+    let b : r.0.txn.count ≡ t.count = ap (λ (x : Txn). x.count) i in
+    let c = k.incarnation in
+    let d = row.low in
+    (omega (arith, a, c), omega (arith, b, d))
+
+pub commit_kept : (s : State) (f : Bool) (o res n : ℕ) (t : Txn) (x : Record) (ends : HeldEnds) → IsKept s f o res → IsReady s t n → log_full (ledger_of s) 1 ≡ false → IsKept (record s { rows = without_row t s.rows; ends = ends; records = x ∷ s.records }) f o res
+commit_kept s f o res n t x ends k h room =
+    let r = found_of (λ r. (r.under ≡ None) × (n ≡ r.number + 1)) (found_row t s.rows) h in
+    kept_committed s f o res k t r.0 r.1 x ends r.2.0 (not_full s 1 room)
+
+pub commit_done : (s : State) (n lsn : ℕ) (t : Txn) → s.failed ≡ false → IsReady s t n → log_full (ledger_of s) 1 ≡ false → lsn ≡ length s.records + 1 → IsSound s
+    → Steps s (Commit t) (Gave_lsn lsn) (record s { rows = without_row t s.rows; ends = without_ends t s.ends; records = records.Commit t ∷ s.records })
+commit_done s n lsn t running h room at k =
+    let r = found_of (λ r. (r.under ≡ None) × (n ≡ r.number + 1)) (found_row t s.rows) h in
+    subst (λ (m : ℕ). Steps s (Commit t) (Gave_lsn m) (record s { rows = without_row t s.rows; ends = without_ends t s.ends; records = records.Commit t ∷ s.records })) (sym at) (commit_steps s k t r.0 r.1 r.2.0 running room)
+
+-- the content
+pub content_done : (s : State) (groups : List Group) → s.failed ≡ false → any_under s.rows ≡ false → groups ≡ map (group_in (committed_of s.records)) (below (sender_count s.sizes)) → IsSound s → Steps s Show (Gave_content groups) s
+content_done s groups running idle e k = record {
+  entry = Shown groups;
+  says = refl;
+  legal = ((ap (λ b. not (not b)) running, (busy_is s.ends s.rows ∙ idle, tt)), e);
+  after = refl;
+  sound = k;
+}
+
+pub content_busy : (s : State) → s.failed ≡ false → any_under s.rows ≡ true → Refuses true false s Show why.Unfinished
+content_busy s running busy = refuse true false s Show why.Unfinished refl tt (let b : any_busy (ledger_of s).open_ones ≡ true = busy_is s.ends s.rows ∙ busy in rw (running, b) refl)

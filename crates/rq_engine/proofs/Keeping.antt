@@ -1,0 +1,165 @@
+-- What is so of the fields of every engine stays so.
+use Rattle.std.proofs.Common.{◌≡◌, ◌≢◌, ℕ, ◌+◌, ◌-◌, ◌*◌, ◌^◌, ◌<◌, ◌≤◌, List, [], ◌∷◌, length, refl, sym, ◌∙◌, ap, subst, Bool, true, false, Option, Some, None, inl, inr, arith, ◌⊎◌}
+use Rattle.std.specs.List.{sum_by, slice_get}
+use Rattle.std.proofs.lemmas.List.Sums.{sum_by-cons}
+use Rattle.rq_model.specs.declared.txn.Txn.{Txn}
+use Rattle.rq_model.specs.declared.record.Record.{Record}
+use Rattle.rq_model.specs.Words.{In, same_txn, is_some}
+use Rattle.rq_model.specs.Deeds.{spelled_deed}
+use Rattle.rq_page.specs.Sizes.{Sizes}
+use Rattle.rq_txn.specs.declared.Finished.{Finished}
+use Rattle.rq_txn.specs.Rows.{Row, Under, found_row, change_row, without_row, fresh_row, row_started, row_stepped, row_finished, under_stepped, AreDistinct}
+use Rattle.rq_groups.specs.Ends.{HeldEnds}
+use Rattle.rq_store.specs.State.{State, owed_by, owed_one, owed_under}
+use Rattle.rq_store.proofs.RowLists.{found_in, changed, distinct_change, distinct_gone, gone}
+use Rattle.rq_store.proofs.Others.{rows_one}
+use Rattle.rq_store.proofs.Committing.{rows_without}
+use Rattle.rq_engine.specs.Kept.{IsKept, IsRowKept, IsUnderKept, UnderKept, room_one, room_of, total_of}
+
+-- of rows that are kept, the one that is found
+pub kept_at : (s : State) (f : Bool) (o res : ℕ) (t : Txn) (r : Row) → IsKept s f o res → found_row t s.rows ≡ Some r → IsRowKept s.sizes s.incarnation s.begins (total_of s) r
+kept_at s f o res t r k e = k.rows r (found_in t s.rows r e).0
+
+-- and its operation under way
+pub under_at : (s : State) (f : Bool) (o res : ℕ) (t : Txn) (r : Row) (u : Under) → IsKept s f o res → found_row t s.rows ≡ Some r → r.under ≡ Some u → IsUnderKept s.sizes u
+under_at s f o res t r u k e under = subst (UnderKept s.sizes) under (kept_at s f o res t r k e).under
+
+-- the next number has no row
+pub new_number : (s : State) (f : Bool) (o res : ℕ) → IsKept s f o res → found_row (record { incarnation = s.incarnation; count = s.begins + 1 }) s.rows ≡ None
+new_number s f o res k = at (found_row (record { incarnation = s.incarnation; count = s.begins + 1 }) s.rows) refl where
+  at : (q : Option Row) → found_row (record { incarnation = s.incarnation; count = s.begins + 1 }) s.rows ≡ q → q ≡ None
+  at None e = refl
+  at (Some r) e =
+      let i = found_in (record { incarnation = s.incarnation; count = s.begins + 1 }) s.rows r e in
+      let c : r.txn.count ≤ s.begins = (k.rows r i.0).high in
+      let v : r.txn.count ≡ s.begins + 1 = ap (λ (y : Txn). y.count) i.1 in
+      absurd (omega (arith, c, v))
+
+row_more : (z : Sizes) (i b c m n : ℕ) (r : Row) → b ≤ c → m ≤ n → IsRowKept z i b m r → IsRowKept z i c n r
+row_more z i b c m n r le more h = record { mine = h.mine; low = h.low; high = omega (arith, le, h.high); number = omega (arith, more, h.number); under = h.under }
+
+pub kept_begun : (s : State) (f : Bool) (o res : ℕ) → IsKept s f o res → IsKept (record s { rows = fresh_row (record { incarnation = s.incarnation; count = s.begins + 1 }) ∷ s.rows; begins = s.begins + 1 }) f o res
+kept_begun s f o res k =
+    let t : Txn = record { incarnation = s.incarnation; count = s.begins + 1 } in
+    let a : owed_by (fresh_row t ∷ s.rows) ≡ owed_by s.rows = sum_by-cons owed_one (fresh_row t) s.rows ∙ omega arith in
+    let b = sum_by-cons room_one (fresh_row t) s.rows in
+    record {
+      incarnation = k.incarnation;
+      fails = k.fails;
+      owes = k.owes ∙ sym a;
+      room = omega (arith, b, k.room);
+      count = omega (arith, a, k.count);
+      distinct = (new_number s f o res k, k.distinct);
+      rows = λ r i. elim i [
+        | inl e ↦ subst (λ (q : Row). IsRowKept s.sizes s.incarnation (s.begins + 1) (length s.records + owed_by (fresh_row t ∷ s.rows)) q) (sym e) (record { mine = refl; low = omega arith; high = omega arith; number = omega arith; under = tt })
+        | inr j ↦ row_more s.sizes s.incarnation s.begins (s.begins + 1) (total_of s) (length s.records + owed_by (fresh_row t ∷ s.rows)) r (omega arith) (omega (arith, a)) (k.rows r j)
+      ];
+    }
+
+module _ (s : State) (f : Bool) (o res : ℕ) (k : IsKept s f o res) (t : Txn) (r : Row) (at_row : found_row t s.rows ≡ Some r) where
+  -- a change of one row
+  changed_rows : (g : Row → Row) (total : ℕ) → ((q : Row) → (g q).txn ≡ q.txn) → total_of s ≤ total → IsRowKept s.sizes s.incarnation s.begins total (g r)
+      → (q : Row) → In q (change_row t g s.rows) → IsRowKept s.sizes s.incarnation s.begins total q
+  changed_rows g total keeps more own q i = elim (changed t g s.rows r q k.distinct at_row i) [
+    | inl e ↦ subst (λ (y : Row). IsRowKept s.sizes s.incarnation s.begins total y) (sym e) own
+    | inr h ↦ row_more s.sizes s.incarnation s.begins s.begins (total_of s) total q (omega arith) more (k.rows q h.0)
+  ]
+
+  pub kept_started : (u : Under) (ends : HeldEnds) (cells : ℕ) → r.under ≡ None → IsUnderKept s.sizes u → u.number ≡ r.number + 1 → u.made ≡ 0 → total_of s + (length u.writes + 1) ≤ 2 ^ 50
+      → IsKept (record s { rows = change_row t (row_started u) s.rows; ends = ends; cells_in_use = cells }) f (o + (length u.writes + 1)) (res + (546 * length u.writes + (30 + length (spelled_deed u.deed))))
+  kept_started u ends cells none h number made fits =
+      let a = rows_one owed_one t (row_started u) s.rows r k.distinct at_row in
+      let b = rows_one room_one t (row_started u) s.rows r k.distinct at_row in
+      let c : owed_one r ≡ 0 = ap owed_under none in
+      let d : room_one r ≡ 0 = ap room_of none in
+      let e : owed_one (row_started u r) ≡ length u.writes + 1 = (let m = made in omega arith) in
+      let v : room_one (row_started u r) ≡ 546 * length u.writes + (30 + length (spelled_deed u.deed)) = ap (λ (m : ℕ). 546 * (length u.writes - m) + (30 + length (spelled_deed u.deed))) made ∙ omega arith in
+      let row = kept_at s f o res t r k at_row in
+      let total : owed_by (change_row t (row_started u) s.rows) ≡ owed_by s.rows + (length u.writes + 1) = omega (arith, a, c, e) in
+      record {
+        incarnation = k.incarnation;
+        fails = k.fails;
+        owes = (let w = k.owes in omega (arith, total, w));
+        room = (let w = k.room in omega (arith, b, d, v, w));
+        count = omega (arith, total, fits);
+        distinct = distinct_change t (row_started u) s.rows (λ q. refl) k.distinct;
+        rows = changed_rows (row_started u) (length s.records + owed_by (change_row t (row_started u) s.rows)) (λ q. refl) (omega (arith, total)) (record { mine = row.mine; low = row.low; high = row.high; number = (let n = row.number in omega (arith, n, number, total)); under = h });
+      }
+
+  pub kept_stepped : (u : Under) (x : Record) (images : List (List ℕ)) (left : ℕ) → r.under ≡ Some u → u.made < length u.writes → left + 546 ≡ res
+      → IsKept (record s { rows = change_row t row_stepped s.rows; images = images; records = x ∷ s.records }) f (o - 1) left
+  kept_stepped u x images left under more fits =
+      let a = rows_one owed_one t row_stepped s.rows r k.distinct at_row in
+      let b = rows_one room_one t row_stepped s.rows r k.distinct at_row in
+      let c : owed_one r ≡ length u.writes - u.made + 1 = ap owed_under under in
+      let d : room_one r ≡ 546 * (length u.writes - u.made) + (30 + length (spelled_deed u.deed)) = ap room_of under in
+      let e : owed_one (row_stepped r) ≡ length u.writes - (u.made + 1) + 1 = ap (λ (y : Option Under). owed_under (under_stepped y)) under in
+      let v : room_one (row_stepped r) ≡ 546 * (length u.writes - (u.made + 1)) + (30 + length (spelled_deed u.deed)) = ap (λ (y : Option Under). room_of (under_stepped y)) under in
+      let row = kept_at s f o res t r k at_row in
+      let h = under_at s f o res t r u k at_row under in
+      let total : owed_by (change_row t row_stepped s.rows) + 1 ≡ owed_by s.rows = omega (arith, a, c, e, more) in
+      let same : length (x ∷ s.records) + owed_by (change_row t row_stepped s.rows) ≡ total_of s = omega (arith, total) in
+      record {
+        incarnation = k.incarnation;
+        fails = k.fails;
+        owes = (let w = k.owes in omega (arith, total, w));
+        room = (let w = k.room in omega (arith, b, d, v, w, fits, more));
+        count = (let w = k.count in omega (arith, same, w));
+        distinct = distinct_change t row_stepped s.rows (λ q. refl) k.distinct;
+        rows = changed_rows row_stepped (length (x ∷ s.records) + owed_by (change_row t row_stepped s.rows)) (λ q. refl) (omega (arith, same)) (record { mine = row.mine; low = row.low; high = row.high; number = (let n = row.number in omega (arith, n, same)); under = subst (λ (y : Option Under). UnderKept s.sizes (under_stepped y)) (sym under) (record { number = h.number; made = omega (arith, more); slots = h.slots; deed_low = h.deed_low; deed_high = h.deed_high }) });
+      }
+
+  pub kept_finished : (u : Under) (x : Record) (end : Finished) (left : ℕ) → r.under ≡ Some u → u.made ≡ length u.writes → left + (30 + length (spelled_deed u.deed)) ≡ res
+      → IsKept (record s { rows = change_row t (row_finished end) s.rows; records = x ∷ s.records }) f (o - 1) left
+  kept_finished u x end left under made fits =
+      let a = rows_one owed_one t (row_finished end) s.rows r k.distinct at_row in
+      let b = rows_one room_one t (row_finished end) s.rows r k.distinct at_row in
+      let c : owed_one r ≡ length u.writes - u.made + 1 = ap owed_under under in
+      let d : room_one r ≡ 546 * (length u.writes - u.made) + (30 + length (spelled_deed u.deed)) = ap room_of under in
+      let e : owed_one (row_finished end r) ≡ 0 = refl in
+      let v : room_one (row_finished end r) ≡ 0 = refl in
+      let row = kept_at s f o res t r k at_row in
+      let total : owed_by (change_row t (row_finished end) s.rows) + 1 ≡ owed_by s.rows = omega (arith, a, c, e, made) in
+      let same : length (x ∷ s.records) + owed_by (change_row t (row_finished end) s.rows) ≡ total_of s = omega (arith, total) in
+      record {
+        incarnation = k.incarnation;
+        fails = k.fails;
+        owes = (let w = k.owes in omega (arith, total, w));
+        room = (let w = k.room in omega (arith, b, d, v, w, fits, made));
+        count = (let w = k.count in omega (arith, same, w));
+        distinct = distinct_change t (row_finished end) s.rows (λ q. refl) k.distinct;
+        rows = changed_rows (row_finished end) (length (x ∷ s.records) + owed_by (change_row t (row_finished end) s.rows)) (λ q. refl) (omega (arith, same)) (record { mine = row.mine; low = row.low; high = row.high; number = (let n = row.number in omega (arith, n, same)); under = tt });
+      }
+
+  pub kept_committed : (x : Record) (ends : HeldEnds) → r.under ≡ None → total_of s + 1 ≤ 2 ^ 50
+      → IsKept (record s { rows = without_row t s.rows; ends = ends; records = x ∷ s.records }) f o res
+  kept_committed x ends none fits =
+      let a = rows_without owed_one t s.rows r k.distinct at_row in
+      let b = rows_without room_one t s.rows r k.distinct at_row in
+      let c : owed_one r ≡ 0 = ap owed_under none in
+      let d : room_one r ≡ 0 = ap room_of none in
+      record {
+        incarnation = k.incarnation;
+        fails = k.fails;
+        owes = (let w = k.owes in omega (arith, a, c, w));
+        room = (let w = k.room in omega (arith, b, d, w));
+        count = omega (arith, a, c, fits);
+        distinct = distinct_gone t s.rows k.distinct;
+        rows = λ q i. row_more s.sizes s.incarnation s.begins s.begins (total_of s) (length (x ∷ s.records) + owed_by (without_row t s.rows)) q (omega arith) (omega (arith, a, c)) (k.rows q (gone t s.rows q i).0);
+      }
+
+-- what a device did, and whether it failed, is all that changed
+pub kept_device : (s : State) (f g : Bool) (o res left forced : ℕ) (failed : Bool) (log : List Record) → IsKept s f o res → log ≡ s.records → left ≡ res → g ≡ failed → IsKept (record s { records = log; forced = forced; failed = failed }) g o left
+kept_device s f g o res left forced failed log k same room fails = record {
+  incarnation = k.incarnation;
+  fails = fails;
+  owes = k.owes;
+  room = (let a = k.room in omega (arith, a, room));
+  count = subst (λ (l : List Record). length l + owed_by s.rows ≤ 2 ^ 50) (sym same) k.count;
+  distinct = k.distinct;
+  rows = λ r i. subst (λ (l : List Record). IsRowKept s.sizes s.incarnation s.begins (length l + owed_by s.rows) r) (sym same) (k.rows r i);
+}
+
+-- the ends are of no account to it, nor is room that was taken and given back
+pub kept_back : (s : State) (f : Bool) (o res left : ℕ) (ends : HeldEnds) → IsKept s f o res → left ≡ res → IsKept (record s { ends = ends }) f o left
+kept_back s f o res left ends k e = record { incarnation = k.incarnation; fails = k.fails; owes = k.owes; room = (let a = k.room in omega (arith, a, e)); count = k.count; distinct = k.distinct; rows = k.rows }

@@ -1,0 +1,188 @@
+-- Refusals are the first test that holds, with their causes.
+use Rattle.std.proofs.Common.{◌≡◌, ◌≢◌, ℕ, ◌+◌, ◌-◌, ◌^◌, ◌<◌, ◌≤◌, ◌&&◌, ◌||◌, List, [], ◌∷◌, ◌++◌, length, refl, sym, ◌∙◌, ap, subst, Bool, true, false, not, cond, nat_eq, nat_lt, Option, Some, None, arith, IsTrue, inl, inr}
+use Rattle.std.proofs.lemmas.Bool.{cases_Bool, false≢true, false_from_ne_true, eqb-true, or_from, ltb-false}
+use Rattle.rq_model.specs.declared.txn.Txn.{Txn}
+use Rattle.rq_model.specs.declared.txn.Sub.{Sub}
+use Rattle.rq_model.specs.declared.refusal.Refusal.{Refusal}
+use Rattle.rq_model.specs.declared.refusal.Refusal.TheVariants as why
+use Rattle.rq_model.specs.Words.{is_some}
+use Rattle.rq_model.specs.History.{Call}
+use Rattle.rq_model.specs.History.Call.{Begin, Commit, Start_send, Step, Finish, Acknowledge, Force, Hand_over, Show, Start_receive, Start_receive_from, Start_close, Start_abort, Undo_next, End_abort, Write_page, Last_tag}
+use Rattle.rq_model.specs.History.Entry.{Refused}
+use Rattle.rq_model.specs.Ledger.{Ledger, after, found}
+use Rattle.rq_model.specs.Legal.{Size, tests, first_of, LegalRefusal, NoneHolds, is_aborting, is_busy, log_full, has_under}
+use Rattle.rq_model.specs.Reference.{without_pages, ready_tests, IsUnready}
+use Rattle.rq_model.specs.Replay.Reply.{Gave_refusal}
+use Rattle.std.specs.Option.{is_some as option_is_some}
+use Rattle.rq_txn.specs.declared.Operation.{Operation}
+use Rattle.rq_txn.specs.Rows.{Row, Under, found_row, under_way_of}
+use Rattle.rq_store.specs.State.{State, owed_by, ledger_of, size_of, open_of, open_ones_of, job_under}
+use Rattle.rq_store.specs.Sound.{IsSound}
+use Rattle.rq_store.specs.Steps.{Steps}
+use Rattle.rq_store.proofs.Opens.{found_open, open_found, owed_is, count_is}
+use Rattle.rq_store.proofs.Forcing.{refused_steps}
+use Rattle.rq_store.proofs.Working.{going_at}
+use Rattle.rq_engine.specs.Answers.{HasCause, Refuses, OnFound, Idle, NotGoing, NotFound, IsOther}
+
+legal_first : (z : Size) (l : Ledger) (c : Call) (r : Refusal) → IsTrue (without_pages r) → first_of (tests z l c) ≡ Some r → LegalRefusal z l c r
+legal_first z l c why.NoMemory p e = tt
+legal_first z l c why.Failed p e = e
+legal_first z l c why.DiskRead p e = tt
+legal_first z l c why.UnknownTransaction p e = e
+legal_first z l c why.NotOpen p e = e
+legal_first z l c why.Unfinished p e = e
+legal_first z l c why.UnknownSender p e = e
+legal_first z l c why.TooLong p e = e
+legal_first z l c why.SenderBusy p e = e
+legal_first z l c why.Closed p e = e
+legal_first z l c why.ReceiverBusy p e = e
+legal_first z l c why.Full p e = e
+legal_first z l c why.Latched p e = absurd (false≢true p)
+legal_first z l c why.PoolFull p e = absurd (false≢true p)
+legal_first z l c why.DiskWrite p e = tt
+legal_first z l c (why.Damaged d) p e = tt
+legal_first z l c why.TooManyTransactions p e = e
+legal_first z l c why.NotForced p e = absurd (false≢true p)
+legal_first z l c why.LogFull p e = e
+legal_first z l c why.UnknownOperation p e = e
+
+same_after : (l : Ledger) (c : Call) (r : Refusal) → IsTrue (without_pages r) → after (Refused c r) l ≡ l
+same_after l c why.NoMemory p = refl
+same_after l c why.Failed p = refl
+same_after l c why.DiskRead p = refl
+same_after l c why.UnknownTransaction p = refl
+same_after l c why.NotOpen p = refl
+same_after l c why.Unfinished p = refl
+same_after l c why.UnknownSender p = refl
+same_after l c why.TooLong p = refl
+same_after l c why.SenderBusy p = refl
+same_after l c why.Closed p = refl
+same_after l c why.ReceiverBusy p = refl
+same_after l c why.Full p = refl
+same_after l c why.Latched p = refl
+same_after l c why.PoolFull p = refl
+same_after l c why.DiskWrite p = absurd (false≢true p)
+same_after l c (why.Damaged d) p = refl
+same_after l c why.TooManyTransactions p = refl
+same_after l c why.NotForced p = refl
+same_after l c why.LogFull p = refl
+same_after l c why.UnknownOperation p = refl
+
+-- a refusal that some test decides has no other cause
+plain_cause : (d : Bool) (s : State) (r : Refusal) → IsTrue (without_pages r) → HasCause true d s r
+plain_cause d s why.NoMemory p = refl
+plain_cause d s why.Failed p = tt
+plain_cause d s why.DiskRead p = absurd (false≢true p)
+plain_cause d s why.UnknownTransaction p = tt
+plain_cause d s why.NotOpen p = tt
+plain_cause d s why.Unfinished p = tt
+plain_cause d s why.UnknownSender p = tt
+plain_cause d s why.TooLong p = tt
+plain_cause d s why.SenderBusy p = tt
+plain_cause d s why.Closed p = tt
+plain_cause d s why.ReceiverBusy p = tt
+plain_cause d s why.Full p = tt
+plain_cause d s why.Latched p = absurd (false≢true p)
+plain_cause d s why.PoolFull p = absurd (false≢true p)
+plain_cause d s why.DiskWrite p = absurd (false≢true p)
+plain_cause d s (why.Damaged x) p = absurd (false≢true p)
+plain_cause d s why.TooManyTransactions p = tt
+plain_cause d s why.NotForced p = absurd (false≢true p)
+plain_cause d s why.LogFull p = tt
+plain_cause d s why.UnknownOperation p = tt
+
+-- the first test that holds is the refusal
+pub refuse : (memory disk : Bool) (s : State) (c : Call) (r : Refusal) → IsTrue (without_pages r) → HasCause memory disk s r → first_of (tests (size_of s.sizes) (ledger_of s) c) ≡ Some r → Refuses memory disk s c r
+refuse m d s c r p cause e k = (refused_steps s k c r (legal_first (size_of s.sizes) (ledger_of s) c r p e) (same_after (ledger_of s) c r p), cause)
+
+-- want of memory may come anywhere
+pub no_memory : (disk : Bool) (s : State) (c : Call) → Refuses true disk s c why.NoMemory
+no_memory d s c k = (refused_steps s k c why.NoMemory tt refl, refl)
+
+first_front : (xs ys : List (Bool × Refusal)) (r : Refusal) → first_of xs ≡ Some r → first_of (xs ++ ys) ≡ Some r
+first_front [] ys r e = cc
+first_front (x ∷ xs) ys r e = elim (cases_Bool x.0) [ inl y ↦ rw y (rw y at e) | inr n ↦ rw n (first_front xs ys r (rw n at e)) ]
+
+failed_first : (z : Size) (l : Ledger) (c : Call) → l.running ≡ false → first_of (tests z l c) ≡ Some why.Failed
+failed_first z l Begin e = rw e refl
+failed_first z l (Commit t) e = rw e refl
+failed_first z l (Start_send t m) e = rw e refl
+failed_first z l (Step t n) e = rw e refl
+failed_first z l (Finish t n) e = rw e refl
+failed_first z l (Acknowledge t n) e = rw e refl
+failed_first z l Force e = rw e refl
+failed_first z l Hand_over e = rw e refl
+failed_first z l Show e = rw e refl
+failed_first z l (Start_receive t) e = rw e refl
+failed_first z l (Start_receive_from t s) e = rw e refl
+failed_first z l (Start_close t s) e = rw e refl
+failed_first z l (Start_abort t) e = rw e refl
+failed_first z l (Undo_next t) e = rw e refl
+failed_first z l (End_abort t) e = rw e refl
+failed_first z l (Write_page p) e = rw e refl
+failed_first z l (Last_tag s) e = rw e refl
+
+-- a store that has failed refuses every call
+pub refuse_failed : (memory disk : Bool) (s : State) (c : Call) → s.failed ≡ true → Refuses memory disk s c why.Failed
+refuse_failed m d s c e = refuse m d s c why.Failed refl tt (failed_first (size_of s.sizes) (ledger_of s) c (ap not e))
+
+-- a transaction that is not ready is refused so by a commit and by a send
+pub refuse_commit : (disk : Bool) (s : State) (t : Txn) (r : Refusal) → IsUnready (ledger_of s) t false r → Refuses true disk s (Commit t) r
+refuse_commit d s t r u = refuse true d s (Commit t) r u.plain (plain_cause d s r u.plain) (first_front (ready_tests (ledger_of s) t false) ((log_full (ledger_of s) 1, why.LogFull) ∷ []) r u.first)
+
+-- what the tests of a transaction find
+pub found_none : (s : State) (t : Txn) → found_row t s.rows ≡ None → found t (ledger_of s).open_ones ≡ None
+found_none s t e = found_open s.ends t s.rows ∙ ap (open_found s.ends) e
+
+pub found_some : (s : State) (t : Txn) (r : Row) → found_row t s.rows ≡ Some r → found t (ledger_of s).open_ones ≡ Some (open_of s.ends r)
+found_some s t r e = found_open s.ends t s.rows ∙ ap (open_found s.ends) e
+
+pub unknown : (s : State) (t : Txn) → s.failed ≡ false → found_row t s.rows ≡ None → IsUnready (ledger_of s) t false why.UnknownTransaction
+unknown s t e f = record { first = rw (e, found_none s t f) refl; plain = refl }
+
+pub not_open : (s : State) (t : Txn) (r : Row) → s.failed ≡ false → found_row t s.rows ≡ Some r → r.aborting ≡ true → IsUnready (ledger_of s) t false why.NotOpen
+not_open s t r e f a = record { first = rw (e, found_some s t r f, a) refl; plain = refl }
+
+busy_job : (o : Option Under) → is_some o ≡ true → is_some (job_under o) ≡ true
+busy_job None e = e
+busy_job (Some u) e = refl
+
+pub unfinished : (s : State) (t : Txn) (r : Row) → s.failed ≡ false → found_row t s.rows ≡ Some r → r.aborting ≡ false → is_some r.under ≡ true → IsUnready (ledger_of s) t false why.Unfinished
+unfinished s t r e f a b = record { first = rw (e, found_some s t r f, a, busy_job r.under b) refl; plain = refl }
+
+pub ready : (s : State) (t : Txn) (r : Row) → s.failed ≡ false → found_row t s.rows ≡ Some r → r.aborting ≡ false → r.under ≡ None → NoneHolds (ready_tests (ledger_of s) t false)
+ready s t r e f a b = (ap (λ x. not (not x)) e, (ap (λ o. not (is_some o)) (found_some s t r f), (ap is_aborting (found_some s t r f) ∙ a, (ap is_busy (found_some s t r f) ∙ ap (λ o. is_some (job_under o)) b, tt))))
+
+-- what a row's field says of its operation under way
+pub some_way : (o : Option Operation) → option_is_some o ≡ true → is_some (under_way_of o) ≡ true
+some_way None e = absurd (false≢true e)
+some_way (Some x) e = refl
+
+pub no_way : (o : Option Operation) → option_is_some o ≡ false → under_way_of o ≡ None
+no_way None e = refl
+no_way (Some x) e = cc
+
+-- too many transactions, or not
+pub few : (s : State) (m : ℕ) → not (nat_lt (length s.rows) 4096) ≡ false → s.begins ≢ m → (not (nat_lt (length (ledger_of s).open_ones) 4096) || nat_eq s.begins m) ≡ false
+few s m e n = or_from _ _ (ap (λ k. not (nat_lt k 4096)) (count_is s.ends s.rows) ∙ e) (false_from_ne_true (nat_eq s.begins m) (λ y. n (eqb-true s.begins m y)))
+
+pub full_is : (s : State) (o more : ℕ) → o ≡ owed_by s.rows → nat_lt (2 ^ 50) (length s.records + o + more) ≡ log_full (ledger_of s) more
+full_is s o more e = ap (λ n. nat_lt (2 ^ 50) (length s.records + n + more)) (e ∙ sym (owed_is s.ends s.rows))
+
+-- room for so many more records
+pub not_full : (s : State) (more : ℕ) → log_full (ledger_of s) more ≡ false → length s.records + owed_by s.rows + more ≤ 2 ^ 50
+not_full s more e = ltb-false (2 ^ 50) (length s.records + owed_by s.rows + more) (ap (λ n. nat_lt (2 ^ 50) (length s.records + n + more)) (sym (owed_is s.ends s.rows)) ∙ e)
+
+pub refuse_full : (disk : Bool) (s : State) (t : Txn) → NoneHolds (ready_tests (ledger_of s) t false) → log_full (ledger_of s) 1 ≡ true → Refuses true disk s (Commit t) why.LogFull
+refuse_full d s t h e = refuse true d s (Commit t) why.LogFull refl tt (rw (h.0, h.1.0, h.1.1.0, h.1.1.1.0, e) refl)
+
+pub refuse_begins : (disk : Bool) (s : State) → s.failed ≡ false → (not (nat_lt (length (ledger_of s).open_ones) 4096) || nat_eq s.begins (2 ^ 64 - 1)) ≡ true → Refuses true disk s Begin why.TooManyTransactions
+refuse_begins d s e h = refuse true d s Begin why.TooManyTransactions refl tt (rw (e, h) refl)
+
+-- what is so of the row that is found
+pub found_of : (P : Row → Type 0) (o : Option Row) → OnFound P o → (r : Row) × (o ≡ Some r) × P r
+found_of P None h = absurd h
+found_of P (Some r) h = (r, refl, h)
+
+pub on_found : (P : Row → Type 0) (o : Option Row) (r : Row) → o ≡ Some r → P r → OnFound P o
+on_found P o r e h = subst (OnFound P) (sym e) h

@@ -1,0 +1,87 @@
+-- What a call answers, and what it finds of the operation that it names.
+use Rattle.std.specs.Prelude.{◌≡◌, ◌≢◌, ℕ, ◌+◌, ◌/◌, ◌%◌, ◌<◌, length, Bool, true, false, List, ◌∷◌, Option, Some, None, Result, Ok, Err}
+use Rattle.rq_model.specs.declared.txn.Sub.{Sub}
+use Rattle.rq_model.specs.declared.txn.Txn.{Txn}
+use Rattle.rq_model.specs.declared.refusal.Refusal.{Refusal}
+use Rattle.rq_model.specs.declared.refusal.Refusal.TheVariants as why
+use Rattle.rq_model.specs.History.{Call}
+use Rattle.rq_model.specs.Replay.{Reply as Gave}
+use Rattle.rq_model.specs.Replay.Reply.{Gave_refusal}
+use Rattle.rq_page.specs.Slots.{held_in, IsSlotOf}
+use Rattle.rq_level.specs.Log.{put}
+use Rattle.rq_level.specs.Stored.{slots_in}
+use Rattle.rq_chain.specs.declared.SlotWrite.{SlotWrite}
+use Rattle.rq_txn.specs.Rows.{Row, Under, found_row, change_row, row_stepped, any_under}
+use Rattle.rq_store.specs.State.{State}
+use Rattle.rq_store.specs.Sound.{IsSound}
+use Rattle.rq_store.specs.Steps.{Steps, page_op}
+
+-- A refusal comes only with its cause: memory's where the call takes memory, the disk's where it writes, Latched where an operation is under way, and
+-- damage never.
+abbrev pub HasCause : (memory disk : Bool) → State → Refusal → Type 0
+HasCause memory disk s why.NoMemory = memory ≡ true
+HasCause memory disk s why.DiskWrite = disk ≡ true
+HasCause memory disk s why.Latched = any_under s.rows ≡ true
+HasCause memory disk s why.DiskRead = ⊥
+HasCause memory disk s (why.Damaged d) = ⊥
+HasCause memory disk s why.PoolFull = ⊥
+HasCause memory disk s why.NotForced = ⊥
+HasCause memory disk s _ = Unit {0}
+
+-- the call may be refused so, and that changes nothing
+abbrev pub Refuses : (memory disk : Bool) → State → Call → Refusal → Type 0
+Refuses memory disk s call r = IsSound s → Steps s call (Gave_refusal r) s × HasCause memory disk s r
+
+-- The call with its answer is an entry that may come next where the store goes back to a legal log, and the store after it is what that entry makes of it.
+abbrev pub Answers : {X : Type 0} → (memory disk : Bool) → State → Call → (X → Gave) → Result X Refusal → State → Type 0
+Answers memory disk old call gave (Ok x) new = IsSound old → Steps old call (gave x) new
+Answers memory disk old call gave (Err r) new = IsSound old → Steps old call (Gave_refusal r) new × HasCause memory disk old r
+
+-- what is so of a transaction's operation under way, if it has this number
+abbrev pub OnUnder : ℕ → (Row → Under → Type 0) → Row → Option Under → Type 0
+OnUnder n P r None = ⊥
+OnUnder n P r (Some u) = (u.number ≡ n) × P r u
+
+abbrev pub OnFound : (Row → Type 0) → Option Row → Type 0
+OnFound P None = ⊥
+OnFound P (Some r) = P r
+
+-- the operation is under way, and this is so of its row and of it
+abbrev pub IsGoing : State → Sub → (Row → Under → Type 0) → Type 0
+IsGoing s sub P = OnFound (λ r. OnUnder sub.number P r r.under) (found_row sub.txn s.rows)
+
+abbrev pub IsOther : ℕ → Option Under → Type 0
+IsOther n None = Unit {0}
+IsOther n (Some u) = u.number ≢ n
+
+abbrev pub NotFound : (Row → Type 0) → Option Row → Type 0
+NotFound P None = Unit {0}
+NotFound P (Some r) = P r
+
+-- it is not
+abbrev pub NotGoing : State → Sub → Type 0
+NotGoing s sub = NotFound (λ r. IsOther sub.number r.under) (found_row sub.txn s.rows)
+
+-- why an operation cannot be stepped or finished
+abbrev pub Idle : State → Sub → Refusal → Type 0
+Idle s sub why.Failed = s.failed ≡ true
+Idle s sub why.UnknownOperation = (s.failed ≡ false) × NotGoing s sub
+Idle s sub _ = ⊥
+
+-- why it cannot be finished
+abbrev pub CannotFinish : State → Sub → Refusal → Type 0
+CannotFinish s sub why.Failed = s.failed ≡ true
+CannotFinish s sub why.UnknownOperation = (s.failed ≡ false) × NotGoing s sub
+CannotFinish s sub why.Unfinished = (s.failed ≡ false) × IsGoing s sub (λ r u. u.made < length u.writes)
+CannotFinish s sub _ = ⊥
+
+-- a slot write was made, with its record
+pub record IsMade (old : State) (sub : Sub) (w : SlotWrite) (new : State) : Type 0 where
+  pub state : new ≡ record old { rows = change_row sub.txn row_stepped old.rows; images = new.images; records = page_op sub.txn sub.number w ∷ old.records }
+  pub before : IsSlotOf old.sizes (w.at / 16) (w.at % 16) w.before
+  pub slot : IsSlotOf old.sizes (w.at / 16) (w.at % 16) w.after
+  pub slots : (a : ℕ) → slots_in old.sizes new.images a ≡ put (slots_in old.sizes old.images) w.at (held_in old.sizes (w.at / 16) w.after) a
+
+-- the transaction is open with nothing under way, and this is the number of its next operation
+abbrev pub IsReady : State → Txn → ℕ → Type 0
+IsReady s t n = OnFound (λ r. (r.under ≡ None) × (n ≡ r.number + 1)) (found_row t s.rows)

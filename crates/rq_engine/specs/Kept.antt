@@ -1,0 +1,51 @@
+-- What is so of the fields of every engine, whatever log it was opened over.
+use Rattle.std.specs.Prelude.{◌≡◌, ℕ, ◌+◌, ◌-◌, ◌*◌, ◌^◌, ◌≤◌, Bool, length, Option, Some, None}
+use Rattle.std.specs.List.{sum_by}
+use Rattle.rq_model.specs.Words.{In}
+use Rattle.rq_model.specs.Deeds.{spelled_deed}
+use Rattle.rq_page.specs.Sizes.{Sizes}
+use Rattle.rq_chain.specs.Writes.{AreSlotWrites}
+use Rattle.rq_txn.specs.Rows.{Row, Under, AreDistinct}
+use Rattle.rq_store.specs.State.{State, owed_by}
+
+-- the bytes of the records that an operation under way has yet to log
+abbrev pub room_of : Option Under → ℕ
+room_of None = 0
+room_of (Some u) = 546 * (length u.writes - u.made) + (30 + length (spelled_deed u.deed))
+
+abbrev pub room_one : Row → ℕ
+room_one r = room_of r.under
+
+-- what is so of an operation under way
+pub record IsUnderKept (z : Sizes) (u : Under) : Type 0 where
+  pub number : 1 ≤ u.number
+  pub made : u.made ≤ length u.writes
+  pub slots : AreSlotWrites z u.writes
+  pub deed_low : 1 ≤ length (spelled_deed u.deed)
+  pub deed_high : length (spelled_deed u.deed) ≤ 256
+
+abbrev pub UnderKept : Sizes → Option Under → Type 0
+UnderKept z None = Unit {0}
+UnderKept z (Some u) = IsUnderKept z u
+
+-- what is so of a transaction that has not ended, where no more than so many records are logged or owed
+pub record IsRowKept (z : Sizes) (incarnation begins total : ℕ) (r : Row) : Type 0 where
+  pub mine : r.txn.incarnation ≡ incarnation
+  pub low : 1 ≤ r.txn.count
+  pub high : r.txn.count ≤ begins
+  pub number : r.number ≤ total
+  pub under : UnderKept z r.under
+
+-- the records that are logged or owed
+abbrev pub total_of : State → ℕ
+total_of s = length s.records + owed_by s.rows
+
+-- The room in the log for what operations under way have yet to log is reserved, and with it the log is not over its greatest length.
+pub record IsKept (s : State) (failed : Bool) (owed reserved : ℕ) : Type 0 where
+  pub incarnation : 1 ≤ s.incarnation
+  pub fails : failed ≡ s.failed
+  pub owes : owed ≡ owed_by s.rows
+  pub room : sum_by room_one s.rows ≤ reserved
+  pub count : total_of s ≤ 2 ^ 50
+  pub distinct : AreDistinct s.rows
+  pub rows : (r : Row) → In r s.rows → IsRowKept s.sizes s.incarnation s.begins (total_of s) r

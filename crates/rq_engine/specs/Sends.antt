@@ -1,0 +1,19 @@
+-- A planned send as an operation that is under way, and the room that it takes.
+use Rattle.std.specs.Prelude.{◌≡◌, ℕ, ◌+◌, ◌*◌, ◌≤◌, length}
+use Rattle.rq_model.specs.Deeds.{spelled_deed}
+use Rattle.rq_page.specs.Sizes.{Sizes}
+use Rattle.rq_chain.specs.declared.Plan.{Plan}
+use Rattle.rq_chain.specs.Writes.{AreSlotWrites}
+use Rattle.rq_txn.specs.Rows.{Under}
+
+-- the operation that a plan begins as
+abbrev pub under_plan : ℕ → Plan → Under
+under_plan number plan = record { number = number; writes = plan.writes.items; made = 0; deed = plan.deed }
+
+-- the plan writes slots of the store, three at most, and its records take so many bytes
+pub record FitsPlan (z : Sizes) (plan : Plan) (room : ℕ) : Type 0 where
+  pub slots : AreSlotWrites z plan.writes.items
+  pub count : length plan.writes.items ≤ 3
+  pub deed_low : 1 ≤ length (spelled_deed plan.deed)
+  pub deed_high : length (spelled_deed plan.deed) ≤ 256
+  pub room_is : room ≡ length plan.writes.items * 546 + (30 + length (spelled_deed plan.deed))

@@ -1,0 +1,160 @@
+//! The calls of an operation under way.
+ghost use Rattle.std.specs.Prelude.{◌≡◌, ◌+◌, ◌≤◌, IfOk, IfErr, OnOk, OnErr, MatchOption, Some, false, length, ◌∷◌};
+ghost use Rattle.std.specs.List.{slice_get};
+ghost use Rattle.rq_model.specs.History.Call.{Step, Finish};
+ghost use Rattle.rq_txn.specs.Rows.{change_row, row_finished, under_of};
+ghost use Rattle.rq_store.specs.Steps.{op_end, gave_done};
+ghost use Rattle.rq_engine.specs.Answers.{Answers, IsGoing, NotGoing, Idle, CannotFinish, IsMade};
+ghost use Rattle.rq_engine.specs.Says.{progress_of, outcome_of};
+
+use crate::engine::Engine;
+use crate::event::{Outcome, Progress};
+use rq_chain::SlotWrite;
+use rq_disk::{LogDevice, PageDevice};
+use rq_model::message::Message;
+use rq_model::record::{Deed, Record};
+use rq_model::refusal::Refusal;
+use rq_model::txn::{Lsn, Sub};
+use rq_record::{encode_deed, sized};
+use rq_txn::{Finished, Operation};
+
+/// The level of the chain operations.
+const CHAIN_LEVEL: u8 = 1;
+
+impl<P: PageDevice, L: LogDevice> Engine<P, L> {
+    /// Makes the next slot write of an operation, with its record. Takes no memory and touches no device.
+    ///
+    /// # Errors
+    /// `Failed`, `UnknownOperation`.
+    pub fn step(&mut self, sub: Sub) -> Result<Progress, Refusal>
+        ensures answered { Answers false false self.old (Step sub.txn sub.number) progress_of result self.new }
+        ensures sizes { self.new.sizes ≡ self.old.sizes }
+        ensures refused { OnErr result (self.new ≡ self.old) }
+    {
+        match self.next_write(sub) {
+            Ok(Some(write)) => Ok(Progress::Done(self.make(sub, &write))),
+            Ok(None) => Ok(Progress::Ready),
+            Err(refusal) => Err(refusal),
+        }
+    }
+
+    /// Ends an operation whose steps are made. Takes no memory and touches no device.
+    ///
+    /// # Errors
+    /// `Failed`, `UnknownOperation`, `Unfinished`.
+    pub fn finish(&mut self, sub: Sub) -> Result<Outcome, Refusal>
+        ensures answered { Answers false false self.old (Finish sub.txn sub.number) outcome_of result self.new }
+        ensures sizes { self.new.sizes ≡ self.old.sizes }
+        ensures refused { OnErr result (self.new ≡ self.old) }
+    {
+        match self.ready_deed(sub) {
+            Ok(deed) => {
+                self.end(sub, &deed);
+                Ok(done(&deed))
+            }
+            Err(refusal) => Err(refusal),
+        }
+    }
+
+    // The operation, if it is under way.
+    fn operation(&self, sub: Sub) -> Option<&Operation>
+        ensures { MatchOption result (NotGoing self.now sub) (λ o. IsGoing self.now sub (λ r u. u ≡ under_of o.now)) }
+    {
+        let row = self.transactions.get(sub.txn)?;
+        match &row.under_way {
+            Some(operation) if operation.number == sub.number => Some(operation),
+            _ => None,
+        }
+    }
+
+    // The next slot write of the operation; none where all are made.
+    fn next_write(&self, sub: Sub) -> Result<Option<SlotWrite>, Refusal>
+        ensures next { IfOk result (λ w. IsGoing self.now sub (λ r u. slice_get u.writes u.made ≡ w)) }
+        ensures running { OnOk result (self.now.failed ≡ false) }
+        ensures idle { IfErr result (λ r. Idle self.now sub r) }
+    {
+        self.check_running()?;
+        match self.operation(sub) {
+            Some(operation) => Ok(operation.writes.get(operation.made).copied()),
+            None => Err(Refusal::UnknownOperation),
+        }
+    }
+
+    // What the end of the operation will say, where all its writes are made.
+    fn ready_deed(&self, sub: Sub) -> Result<Deed, Refusal>
+        ensures ready { IfOk result (λ d. IsGoing self.now sub (λ r u. (length u.writes ≤ u.made) × (u.deed ≡ d))) }
+        ensures running { OnOk result (self.now.failed ≡ false) }
+        ensures refused { IfErr result (λ r. CannotFinish self.now sub r) }
+    {
+        self.check_running()?;
+        let Some(operation) = self.operation(sub) else {
+            return Err(Refusal::UnknownOperation);
+        };
+        if operation.made < operation.writes.len() {
+            return Err(Refusal::Unfinished);
+        }
+        Ok(operation.deed)
+    }
+
+    // Makes a slot write, with its record.
+    fn make(&mut self, sub: Sub, write: &SlotWrite) -> Lsn
+        requires running { self.old.failed ≡ false }
+        requires next { IsGoing self.old sub (λ r u. slice_get u.writes u.made ≡ Some write.now) }
+        ensures lsn { result ≡ length self.old.records + 1 }
+        ensures made { IsMade self.old sub write.now self.new }
+    {
+        let record = Record::PageOp {
+            txn: sub.txn,
+            operation: sub.number,
+            page: write.at.page() as u32,
+            slot: write.at.slot(),
+            before: write.before,
+            after: write.after,
+        };
+        sized(&record);
+        let lsn = self.log.append(&record);
+        self.pages.set_slot(write.at, &write.after, lsn);
+        self.transactions.step(sub.txn);
+        self.owed -= 1;
+        lsn
+    }
+
+    // Ends an operation, with its record.
+    fn end(&mut self, sub: Sub, deed: &Deed)
+        requires running { self.old.failed ≡ false }
+        requires ready { IsGoing self.old sub (λ r u. (length u.writes ≤ u.made) × (u.deed ≡ deed.now)) }
+        ensures ended { self.new ≡ record self.old { rows = change_row sub.txn (row_finished (record { lsn = length self.old.records + 1; deed = deed.now })) self.old.rows; records = op_end sub.txn sub.number deed.now ∷ self.old.records } }
+    {
+        let record = Record::OpEnd {
+            txn: sub.txn,
+            operation: sub.number,
+            level: CHAIN_LEVEL,
+            deed: encode_deed(deed),
+        };
+        sized(&record);
+        let lsn = self.log.append(&record);
+        let finished = Finished { lsn, deed: *deed };
+        self.transactions.finish(sub.txn, finished);
+        self.owed -= 1;
+    }
+}
+
+// What the end of an operation answers.
+fn done(deed: &Deed) -> Outcome
+    ensures { outcome_of result ≡ gave_done deed.now }
+{
+    match deed {
+        Deed::Append { .. } => Outcome::Sent,
+        Deed::UnlinkHead {
+            sender,
+            sequence: _,
+            tag,
+            body,
+        } => Outcome::Message(Message {
+            sender: *sender,
+            tag: *tag,
+            body: *body,
+        }),
+        Deed::Close { sender: _ } => Outcome::Closed,
+    }
+}

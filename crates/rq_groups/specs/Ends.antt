@@ -1,0 +1,34 @@
+-- Who holds which ends of groups.
+use Rattle.std.specs.Prelude.{ℕ, Bool, true, false, cond, not, nat_eq, ◌&&◌, ◌||◌, List, [], ◌∷◌}
+use Rattle.std.specs.List.{filter}
+use Rattle.rq_model.specs.declared.txn.Txn.{Txn}
+use Rattle.rq_model.specs.Words.{same_txn}
+use Rattle.rq_groups.specs.declared.Held.{Held}
+
+-- the ends held, the newest first
+pub record HeldEnds : Type 0 where
+  pub sending : List Held
+  pub receiving : List Held
+
+-- t holds the end of s
+abbrev pub has_held : Txn → ℕ → List Held → Bool
+has_held t s [] = false
+has_held t s (h ∷ hs) = (same_txn h.txn t && nat_eq h.sender s) || has_held t s hs
+
+-- no transaction but t holds the end of s
+abbrev pub is_free_for : Txn → ℕ → List Held → Bool
+is_free_for t s [] = true
+is_free_for t s (h ∷ hs) = (same_txn h.txn t || not (nat_eq h.sender s)) && is_free_for t s hs
+
+-- t holds the end of s too
+abbrev pub with_held : Txn → ℕ → List Held → List Held
+with_held t s hs = cond (has_held t s hs) hs (record { txn = t; sender = s } ∷ hs)
+
+-- the senders whose end t holds
+abbrev pub held_by : Txn → List Held → List ℕ
+held_by t [] = []
+held_by t (h ∷ hs) = cond (same_txn h.txn t) (h.sender ∷ held_by t hs) (held_by t hs)
+
+-- the ends that others hold
+abbrev pub released : Txn → List Held → List Held
+released t hs = filter (λ h. not (same_txn h.txn t)) hs

@@ -1,0 +1,5 @@
+pub mod Readings
+pub mod Counts
+pub mod Framed
+pub mod Slots
+pub mod Stands

@@ -1,0 +1,14 @@
+-- The images of pages in frames.
+use Rattle.std.specs.Prelude.{ℕ, List, map}
+use Rattle.rq_pool.specs.declared.Frame.{Frame}
+use Rattle.rq_pool.specs.Pooled.{image_at}
+
+abbrev pub image_of : Frame → List ℕ
+image_of frame = frame.page
+
+abbrev pub images_of : List Frame → List (List ℕ)
+images_of frames = map image_of frames
+
+-- the image of the page in a frame, by its number
+abbrev pub framed_at : List Frame → ℕ → List ℕ
+framed_at frames page = image_at (images_of frames) page

@@ -1,0 +1,20 @@
+-- What contracts see of the pages of a store.
+use Rattle.std.specs.Prelude.{◌≡◌, ℕ, List, [], length, slice_index_or}
+use Rattle.rq_page.specs.Sizes.{Sizes, IsInRange, page_count}
+use Rattle.rq_level.specs.Stored.{AreSlots}
+
+pub record Pooled (P : Type 0) : Type 0 where
+  pub device : P
+  pub sizes : Sizes
+  -- the images of the pages, page 0 first
+  pub images : List (List ℕ)
+
+-- the image of a page
+abbrev pub image_at : List (List ℕ) → ℕ → List ℕ
+image_at images page = slice_index_or images page []
+
+-- what is so of the pages of a store: they are all there, and each slot is one of the store
+pub record IsPool (z : Sizes) (images : List (List ℕ)) : Type 0 where
+  pub range : IsInRange z
+  pub count : length images ≡ page_count z
+  pub slots : AreSlots z images

@@ -1,0 +1,214 @@
+//! The pages of the store, all of them in memory, over their device.
+#![tactic(auto)]
+
+ghost use Rattle.std.specs.Prelude.{◌≡◌, ◌≢◌, ◌↔◌, ◌<◌, ◌/◌, ◌%◌, ℕ, true, IsSome, IfSome, IfNone, IfErr, IfOk, OnOk, length};
+ghost use Rattle.rq_page.specs.Sizes.{IsCellAddress, page_count, sender_count, cell_count, directory_at};
+ghost use Rattle.rq_page.specs.Pages.{IsWritten};
+ghost use Rattle.rq_page.specs.Slots.{Free, Sender, held_in, IsSlotOf, IsCellOf, IsDirectoryOf};
+ghost use Rattle.rq_level.specs.Log.{cell_in, put};
+ghost use Rattle.rq_level.specs.Stored.{IsStoreSlot, slot_at, slots_in, is_used, count_used};
+ghost use Rattle.rq_pool.specs.Pooled.{IsPool, image_at};
+
+mod frames;
+mod reading;
+#[cfg(test)]
+mod tests;
+
+use crate::frames::write_slot;
+use crate::reading::{read_frames, read_superblock};
+use rq_disk::PageDevice;
+use rq_model::record::Slot;
+use rq_model::refusal::Refusal;
+use rq_model::txn::Lsn;
+use rq_page::addr::Addr;
+use rq_page::cell::{Cell, CellSlot};
+use rq_page::directory::{Directory, DirectorySlot};
+use rq_page::layout::Layout;
+use rq_page::page::Page;
+use std::alloc::Global;
+use std::marker::Model;
+
+/// A page, and whether it was changed since it was read or written.
+#[derive(Drop)]
+pub struct Frame {
+    pub page: Page,
+    pub changed: bool,
+}
+
+/// Every page of the store, by number. Contracts see the device, the sizes and the images.
+#[derive(Drop)]
+pub struct Pages<P: PageDevice> {
+    device: P,
+    layout: Layout,
+    frames: Vec<Frame>,
+}
+
+impl<P: PageDevice> Model for Pages<P> {
+    ghost use Rattle.rq_pool.specs.Pooled.{Pooled, IsPool};
+    ghost use Rattle.rq_pool.specs.Frames.{images_of};
+
+    ghost Value = { Pooled P };
+
+    ghost view = { λ p. record { device = p.device; sizes = p.layout; images = images_of p.frames.items } };
+
+    ghost invariant = { λ p. IsPool p.layout (images_of p.frames.items) };
+}
+
+/// Pages that could not be had: why, and their device.
+#[derive(Drop)]
+pub struct Stopped<P> {
+    pub refusal: Refusal,
+    pub device: P,
+}
+
+impl<P: PageDevice + Drop> Pages<P> {
+    ghost use Rattle.rq_pool.specs.Reading.{ArePages, OnlyRead, StopsFor, device_of};
+
+    /// Reads every page, and checks each as it is read: the superblock, then each page's header and slots.
+    /// It stops by `DiskRead`, by `NoMemory`, or by `Damaged` with the number of the first page that is none
+    /// of a store's.
+    pub fn load(alloc: Global, mut device: P) -> Result<Pages<P>, Stopped<P>>
+        ensures pages { IfOk result (λ pages. ArePages pages.sizes (P.seen device) pages.images) }
+        ensures stopped { IfErr result (λ stopped. StopsFor stopped.refusal (P.seen device) (P.faults device) (P.faults stopped.device)) }
+        ensures cause { OnOk result (P.faults (device_of result) ≡ P.faults device) }
+        ensures device { OnlyRead P.seen P.may_be P.moment P.left_since device (device_of result) }
+    {
+        let (superblock, layout) = match read_superblock(&mut device) {
+            Ok(first) => first,
+            Err(refusal) => return Err(Stopped { refusal, device }),
+        };
+        match read_frames(alloc, &mut device, &layout, superblock) {
+            Ok(frames) => Ok(Pages {
+                device,
+                layout,
+                frames,
+            }),
+            Err(refusal) => Err(Stopped { refusal, device }),
+        }
+    }
+
+    /// The device, as it is.
+    pub fn give_back(self) -> P
+        ensures { result ≡ self.device }
+    {
+        let Pages {
+            device,
+            layout: _,
+            frames: _,
+        } = self;
+        device
+    }
+}
+
+impl<P: PageDevice> Pages<P> {
+    /// The layout of the store.
+    pub fn layout(&self) -> Layout
+        ensures sizes { result ≡ self.now.sizes }
+        ensures pool { IsPool self.now.sizes self.now.images }
+    {
+        self.layout
+    }
+
+    /// A page of the store; none where it has no such page.
+    pub fn page(&self, number: u32) -> Option<&Page>
+        ensures known { IsSome result ↔ (number < page_count self.now.sizes) }
+        ensures image { IfSome result (λ page. page.now ≡ image_at self.now.images number) }
+    {
+        match self.frames.get(number as usize) {
+            Some(frame) => Some(&frame.page),
+            None => None,
+        }
+    }
+
+    /// What stands at an address of a directory or cell page; none where the store has no such slot.
+    pub fn slot(&self, at: Addr) -> Option<&Slot>
+        ensures known { IsSome result ↔ IsStoreSlot self.now.sizes at }
+        ensures bytes { IfSome result (λ slot. slot.now ≡ slot_at self.now.images at) }
+        ensures slot { IfSome result (λ slot. IsSlotOf self.now.sizes (at / 16) (at % 16) slot.now) }
+    {
+        let page = at.page();
+        if page == 0 || page >= self.layout().pages() as u64 || at.slot() == 0 {
+            return None;
+        }
+        Some(self.slot_bytes(at))
+    }
+
+    /// Writes a slot, by the record of this LSN.
+    pub fn set_slot(&mut self, at: Addr, image: &Slot, lsn: Lsn)
+        requires place { IsStoreSlot self.old.sizes at }
+        requires image { IsSlotOf self.old.sizes (at / 16) (at % 16) image.now }
+        ensures slots { (a : ℕ) → slots_in self.old.sizes self.new.images a ≡ put (slots_in self.old.sizes self.old.images) at (held_in self.old.sizes (at / 16) image.now) a }
+        ensures page { IsWritten (image_at self.old.images (at / 16)) (image_at self.new.images (at / 16)) (at % 16) image.now lsn }
+        ensures others { (p : ℕ) → p ≢ at / 16 → image_at self.new.images p ≡ image_at self.old.images p }
+        ensures sizes { self.new.sizes ≡ self.old.sizes }
+        ensures device { self.new.device ≡ self.old.device }
+        ensures pool { IsPool self.new.sizes self.new.images }
+    {
+        write_slot(&mut self.frames, at, image, lsn);
+    }
+
+    /// What the directory says of a sender.
+    pub fn group(&self, sender: u32) -> Directory
+        requires { sender < sender_count self.now.sizes }
+        ensures held { slots_in self.now.sizes self.now.images (directory_at sender) ≡ Sender sender result }
+        ensures fits { IsDirectoryOf self.now.sizes sender (record { sender = sender; directory = result }) }
+    {
+        let at = self.layout().directory_of(sender);
+        DirectorySlot::decode(self.slot_bytes(at))
+            .unwrap()
+            .directory
+    }
+
+    /// The cell at an address; none where it is free.
+    pub fn cell(&self, at: Addr) -> Option<Cell>
+        requires { IsCellAddress self.now.sizes at }
+        ensures held { cell_in (slots_in self.now.sizes self.now.images at) ≡ result }
+        ensures fits { IfSome result (λ cell. IsCellOf self.now.sizes cell) }
+    {
+        match CellSlot::decode(self.slot_bytes(at)) {
+            Some(CellSlot::Used(cell)) => Some(cell),
+            _ => None,
+        }
+    }
+
+    /// The free cell with the lowest address; none where every cell is used.
+    pub fn free_cell(&self) -> Option<Addr>
+        ensures cell { IfSome result (λ a. IsCellAddress self.now.sizes a) }
+        ensures free { IfSome result (λ a. slots_in self.now.sizes self.now.images a ≡ Free) }
+        ensures lowest { IfSome result (λ a. (b : ℕ) → IsCellAddress self.now.sizes b → b < a → is_used (slots_in self.now.sizes self.now.images b) ≡ true) }
+        ensures full { IfNone result (count_used self.now.sizes (slots_in self.now.sizes self.now.images) ≡ cell_count self.now.sizes) }
+    {
+        let layout = self.layout();
+        for place in 0..layout.cell_slots() {
+            let at = layout.cell_addr(place);
+            if self.cell(at).is_none() {
+                return Some(at);
+            }
+        }
+        None
+    }
+
+    /// How many cells are used.
+    pub fn used_cells(&self) -> u32
+        ensures { result ≡ count_used self.now.sizes (slots_in self.now.sizes self.now.images) }
+    {
+        let layout = self.layout();
+        let mut used = 0;
+        for place in 0..layout.cell_slots() {
+            if self.cell(layout.cell_addr(place)).is_some() {
+                used += 1;
+            }
+        }
+        used
+    }
+
+    // The bytes of a slot.
+    fn slot_bytes(&self, at: Addr) -> &Slot
+        requires { IsStoreSlot self.now.sizes at }
+        ensures bytes { result.now ≡ slot_at self.now.images at }
+        ensures slot { IsSlotOf self.now.sizes (at / 16) (at % 16) result.now }
+    {
+        let frame = &self.frames[at.page() as usize];
+        frame.page.slot(at.slot())
+    }
+}

@@ -1,0 +1,116 @@
+//! Reads the pages of a device.
+ghost use Rattle.std.specs.Prelude.{◌≡◌, ◌↔◌, ◌<◌, ◌+◌, ◌%◌, ◌^◌, ◌++◌, ◌∷◌, [], IsTrue, IfOk, IfErr, OnOk};
+ghost use Rattle.rq_page.specs.Sizes.{page_count};
+ghost use Rattle.rq_pool.specs.Frames.{images_of};
+ghost use Rattle.rq_pool.specs.Reading.{OnlyRead, IsSuperblock, IsSound, ArePages, StopsFor};
+
+use crate::Frame;
+use rq_disk::{PAGE, PageDevice};
+use rq_model::refusal::{Damage, Refusal};
+use rq_page::layout::{Layout, SLOTS};
+use rq_page::page::Page;
+use std::alloc::Global;
+
+/// Reads the first page, and the sizes that it tells.
+pub(crate) fn read_superblock<P: PageDevice>(device: &mut P) -> Result<(Page, Layout), Refusal>
+    ensures ok { IfOk result (λ first. (first.0 ≡ P.seen device.old 0) × IsSuperblock first.1 (P.seen device.old 0)) }
+    ensures cause { OnOk result (P.faults device.new ≡ P.faults device.old) }
+    ensures err { IfErr result (λ e. StopsFor e (P.seen device.old) (P.faults device.old) (P.faults device.new)) }
+    ensures device { OnlyRead P.seen P.may_be P.moment P.left_since device.old device.new }
+{
+    let superblock = read_page(device, 0)?;
+    match Layout::check_superblock(&superblock) {
+        Some(layout) => Ok((superblock, layout)),
+        None => Err(Refusal::Damaged(Damage::Page(0))),
+    }
+}
+
+/// Reads the pages behind the first, and checks each as it is read.
+pub(crate) fn read_frames<P: PageDevice>(
+    alloc: Global,
+    device: &mut P,
+    layout: &Layout,
+    superblock: Page,
+) -> Result<Vec<Frame>, Refusal>
+    requires superblock { IsSuperblock layout.now (P.seen device.old 0) }
+    requires first { superblock ≡ P.seen device.old 0 }
+    ensures ok { IfOk result (λ frames. ArePages layout.now (P.seen device.old) (images_of frames.items)) }
+    ensures cause { OnOk result (P.faults device.new ≡ P.faults device.old) }
+    ensures err { IfErr result (λ e. StopsFor e (P.seen device.old) (P.faults device.old) (P.faults device.new)) }
+    ensures device { OnlyRead P.seen P.may_be P.moment P.left_since device.old device.new }
+{
+    let count = layout.pages();
+    let Ok(mut frames) = Vec::with_capacity(alloc, count as usize) else {
+        return Err(Refusal::NoMemory);
+    };
+    add_frame(&mut frames, superblock)?;
+    for number in 1..count {
+        let page = read_sound_page(device, layout, number)?;
+        add_frame(&mut frames, page)?;
+    }
+    Ok(frames)
+}
+
+// Reads a page behind the first, and checks it.
+fn read_sound_page<P: PageDevice>(
+    device: &mut P,
+    layout: &Layout,
+    number: u32,
+) -> Result<Page, Refusal>
+    requires superblock { IsSuperblock layout.now (P.seen device.old 0) }
+    requires low { 0 < number }
+    requires high { number < page_count layout.now }
+    ensures ok { IfOk result (λ page. (page ≡ P.seen device.old number) × IsSound layout.now number (P.seen device.old number)) }
+    ensures cause { OnOk result (P.faults device.new ≡ P.faults device.old) }
+    ensures err { IfErr result (λ e. StopsFor e (P.seen device.old) (P.faults device.old) (P.faults device.new)) }
+    ensures device { OnlyRead P.seen P.may_be P.moment P.left_since device.old device.new }
+{
+    let page = read_page(device, number)?;
+    if is_sound(layout, number, &page) {
+        Ok(page)
+    } else {
+        Err(Refusal::Damaged(Damage::Page(number)))
+    }
+}
+
+fn add_frame(frames: &mut Vec<Frame>, page: Page) -> Result<(), Refusal>
+    ensures ok { OnOk result (images_of frames.new.items ≡ images_of frames.old.items ++ page ∷ []) }
+    ensures err { IfErr result (λ e. e ≡ Refusal.NoMemory) }
+{
+    let frame = Frame {
+        page,
+        changed: false,
+    };
+    match frames.push(frame) {
+        Ok(()) => Ok(()),
+        Err(_) => Err(Refusal::NoMemory),
+    }
+}
+
+fn read_page<P: PageDevice>(device: &mut P, number: u32) -> Result<Page, Refusal>
+    ensures ok { IfOk result (λ page. page ≡ P.seen device.old number) }
+    ensures cause { OnOk result (P.faults device.new ≡ P.faults device.old) }
+    ensures err { IfErr result (λ e. (e ≡ Refusal.DiskRead) × (P.faults device.new ≡ (P.faults device.old + 1) % 2 ^ 64)) }
+    ensures device { OnlyRead P.seen P.may_be P.moment P.left_since device.old device.new }
+{
+    let mut image = [0; PAGE];
+    match device.read(number, &mut image) {
+        Ok(()) => Ok(Page::from_image(&image)),
+        Err(_) => Err(Refusal::DiskRead),
+    }
+}
+
+// Whether a page's header and slots are those of its place.
+fn is_sound(layout: &Layout, number: u32, page: &Page) -> bool
+    ensures { IsTrue result ↔ IsSound layout.now number page.now }
+{
+    if !layout.check_header(number, page) {
+        return false;
+    }
+    for slot in 1..SLOTS as u8 + 1 {
+        if !layout.check_slot(number, slot, page.slot(slot)) {
+            return false;
+        }
+    }
+    true
+}

@@ -1,0 +1,60 @@
+-- Going through a log, one record after the other.
+use Rattle.std.proofs.Common.{◌≡◌, ℕ, zero, suc, ◌+◌, ◌-◌, ◌<◌, ◌≤◌, List, [], ◌∷◌, ◌++◌, length, take, drop, reverse, get_or, sym, ◌∙◌, ap, subst, arith}
+use Rattle.std.proofs.lemmas.List.{reverse-append, take-append-drop, drop_at, length-reverse, length-drop, take_more}
+use Rattle.rq_model.specs.declared.record.Record.{Record}
+use Rattle.rq_page.specs.Sizes.{Sizes}
+use Rattle.rq_level.specs.InStore.{InStore}
+use Rattle.rq_store.specs.Sound.{InOrder, IsNext}
+use Rattle.rq_store.specs.Opening.{oldest, told_by, FitsUpTo, Redoes, MayRedo}
+use Rattle.rq_store.proofs.Redoing.{oldest_all, oldest_store, redo_one}
+use Rattle.rq_store.proofs.Bounds.{may_redo}
+use Rattle.rq_restart.specs.Noted.{Noted, noted, noted_after}
+use Rattle.rq_restart.specs.Restarting.{IsLeft}
+use Rattle.rq_restart.proofs.Noting.{noted_incarnation}
+
+oldest_first : (xs : List Record) (n : ℕ) → oldest n (reverse xs) ≡ reverse (take n xs)
+oldest_first xs n =
+    let a : length (reverse xs) ≡ length xs = length-reverse xs in
+    let b : length (reverse (drop n xs)) ≡ length (drop n xs) = length-reverse (drop n xs) in
+    let c : length (drop n xs) ≡ length xs - n = length-drop n xs in
+    let d : length (reverse (drop n xs)) ≡ length (reverse xs) - n = omega (arith, a, b, c) in
+    let e : reverse xs ≡ reverse (drop n xs) ++ reverse (take n xs) = ap reverse (sym (take-append-drop n xs)) ∙ reverse-append (take n xs) (drop n xs) in
+    ap (drop (length (reverse xs) - n)) e ∙ drop_at (reverse (drop n xs)) (reverse (take n xs)) (length (reverse xs) - n) d
+
+-- the next record
+pub oldest_next : (xs : List Record) (i : ℕ) (d : Record) → i < length xs → oldest (i + 1) (reverse xs) ≡ get_or xs i d ∷ oldest i (reverse xs)
+oldest_next xs i d lt = oldest_first xs (i + 1) ∙ ap reverse (take_more xs i d lt) ∙ reverse-append (take i xs) (get_or xs i d ∷ []) ∙ ap (λ l. get_or xs i d ∷ l) (sym (oldest_first xs i))
+
+-- as a loop finds it
+pub oldest_item : (xs : List Record) (i : ℕ) (r : Record) → i < length xs → r ≡ get_or xs i r → oldest (i + 1) (reverse xs) ≡ r ∷ oldest i (reverse xs)
+oldest_item xs i r lt e = oldest_next xs i r lt ∙ ap (λ q. q ∷ oldest i (reverse xs)) (sym e)
+
+pub at_end : (xs : List Record) → oldest (length xs) (reverse xs) ≡ reverse xs
+at_end xs = ap (λ n. oldest n (reverse xs)) (sym (length-reverse xs)) ∙ oldest_all (reverse xs)
+
+module _ (z : Sizes) (image : ℕ → List ℕ) (xs : List Record) (i : ℕ) (r : Record) (lt : i < length xs) (grows : oldest (i + 1) (reverse xs) ≡ r ∷ oldest i (reverse xs)) where
+  abbrev log : List Record
+  log = reverse xs
+
+  within : i + 1 ≤ length log
+  within = let a : length (reverse xs) ≡ length xs = length-reverse xs in omega (arith, a, lt)
+
+  pub noted_more : (h k : Noted) → h ≡ noted (oldest i log) → k ≡ noted_after r h → k ≡ noted (oldest (i + 1) log)
+  noted_more h k e f = f ∙ ap (noted_after r) e ∙ ap noted (sym grows)
+
+  pub redone_more : (old new : ℕ → List ℕ) → Redoes (told_by r) (i + 1) old new → (IsLeft z image log → FitsUpTo z old log i) → IsLeft z image log → FitsUpTo z new log (i + 1)
+  redone_more old new redo h left =
+      let store : InStore z (r ∷ oldest i log) = subst (λ l. InStore z l) grows (oldest_store z log (i + 1) left.whole.in_store) in
+      redo_one z log i r grows within store.0 old new redo (h left)
+
+  pub in_order : (h : Noted) → h ≡ noted (oldest i log) → IsLeft z image log → IsNext h.incarnation r
+  in_order h e left =
+      let order : InOrder (r ∷ oldest i log) = subst InOrder grows (dropped (length log - (i + 1)) log left.whole.order) in
+      subst (λ n. IsNext n r) (sym (ap (λ (k : Noted). k.incarnation) e ∙ noted_incarnation (oldest i log))) order.0 where
+        dropped : (k : ℕ) (l : List Record) → InOrder l → InOrder (drop k l)
+        dropped zero l o = o
+        dropped (suc k) [] o = o
+        dropped (suc k) (q ∷ l) o = dropped k l o.1
+
+  pub may_be_redone : (old : ℕ → List ℕ) → (IsLeft z image log → FitsUpTo z old log i) → IsLeft z image log → MayRedo z old (i + 1) r
+  may_be_redone old h left = may_redo z log old i r left.whole.legal left.whole.in_store left.whole.befores within grows (h left)

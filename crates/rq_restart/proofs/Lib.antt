@@ -1,0 +1,6 @@
+pub mod Noting
+pub mod Going
+pub mod Restarts
+pub mod Parsing
+pub mod Formats
+pub mod Loading

@@ -1,0 +1,42 @@
+-- The pages of a store that was left as a crash may leave one are read, unless the device fails or memory is wanting.
+use Rattle.std.proofs.Common.{◌≡◌, ℕ, List, sym, ◌∙◌, ap, subst, inl, inr}
+use Rattle.rq_model.specs.declared.record.Record.{Record}
+use Rattle.rq_model.specs.declared.refusal.Refusal.{Refusal}
+use Rattle.rq_model.specs.declared.refusal.Refusal.TheVariants as why
+use Rattle.rq_model.specs.declared.refusal.Damage.TheVariants as damage
+use Rattle.rq_page.specs.Sizes.{Sizes}
+use Rattle.rq_page.proofs.Formats.{told_sizes}
+use Rattle.rq_pool.specs.Reading.{IsSuperblock, IsDamaged, StopsFor}
+use Rattle.rq_restart.specs.Restarting.{IsLeft, StaysShut, Stops}
+
+-- a superblock tells one size
+pub one_size : (y z : Sizes) (image : List ℕ) → IsSuperblock y image → IsSuperblock z image → y ≡ z
+one_size y z image h k =
+    let a = told_sizes y image h.range h.formatted in
+    let b = told_sizes z image k.range k.formatted in
+    let d : y.directory ≡ z.directory = sym a.0 ∙ b.0 in
+    let c : y.cells ≡ z.cells = sym a.1 ∙ b.1 in
+    ap (λ n. record { directory = n; cells = y.cells }) d ∙ ap (λ n. record { directory = z.directory; cells = n }) c
+
+sound : (z : Sizes) (seen : ℕ → List ℕ) (older : List Record) (page : ℕ) → IsSuperblock z (seen 0) → IsLeft z seen older → IsDamaged seen page → ⊥
+sound z seen older page block left (inl first) = first.1 z block
+sound z seen older page block left (inr (y, bad)) =
+    let e : z ≡ y = one_size z y (seen 0) block bad.superblock in
+    let there : IsLeft y seen older = subst (λ x. IsLeft x seen older) e left in
+    bad.bad (record { header = there.fits.headers page bad.low bad.high; slots = (there.fits.pages page bad.low bad.high).slots })
+
+-- why the pages were not read is why the store stays shut
+pub load_shut : (z : Sizes) (seen : ℕ → List ℕ) (older : List Record) (e : Refusal) (before now log : ℕ) → IsSuperblock z (seen 0) → StopsFor e seen before now → Stops (IsLeft z seen older) older e before now log log
+load_shut z seen older why.NoMemory before now log block h = tt
+load_shut z seen older why.DiskRead before now log block h = inl h
+load_shut z seen older (why.Damaged (damage.Page page)) before now log block h = λ left. sound z seen older page block left h.0
+load_shut z seen older _ before now log block h = absurd h
+
+pub shut_log : (left there : Type 0) → (left → there) → (older : List Record) (e : Refusal) (before now old new : ℕ) → StaysShut there older e old new → Stops left older e before now old new
+shut_log left there f older why.NoMemory before now old new h = tt
+shut_log left there f older why.DiskRead before now old new h = inr h
+shut_log left there f older why.DiskWrite before now old new h = h
+shut_log left there f older why.LogFull before now old new h = λ l. h (f l)
+shut_log left there f older why.Unfinished before now old new h = λ l. h (f l)
+shut_log left there f older (why.Damaged d) before now old new h = λ l. h (f l)
+shut_log left there f older _ before now old new h = absurd h

@@ -1,0 +1,99 @@
+-- What a restart makes of a store that was left as a crash may leave one.
+use Rattle.std.proofs.Common.{◌≡◌, ℕ, ◌+◌, ◌<◌, ◌≤◌, List, [], ◌∷◌, length, reverse, false, sym, ◌∙◌, ap, subst, inl, inr, arith, Result, Ok, Err, OnOk, IfOk, IfErr}
+use Rattle.std.proofs.lemmas.List.{length-reverse}
+use Rattle.rq_model.specs.declared.record.Record.{Record}
+use Rattle.rq_model.specs.declared.record.Record.TheVariants as records
+use Rattle.rq_model.specs.declared.refusal.Refusal.{Refusal}
+use Rattle.rq_model.specs.declared.refusal.Refusal.TheVariants as why
+use Rattle.rq_model.specs.Content.{unfinished, lost}
+use Rattle.rq_page.specs.Sizes.{Sizes, IsInRange, page_count}
+use Rattle.rq_page.specs.Formatted.{IsHeaderOf}
+use Rattle.rq_pool.specs.Reading.{ArePages}
+use Rattle.rq_log.specs.Logged.{Logged}
+use Rattle.rq_store.specs.Sound.{IsSound, incarnation_of}
+use Rattle.rq_store.specs.Opening.{FitsPage, FitsUpTo, IsCounted, image_in, opened}
+use Rattle.rq_store.proofs.Opening.{opened_sound}
+use Rattle.rq_store.proofs.Redoing.{redone_slots}
+use Rattle.rq_store.proofs.Bounds.{fits_counted}
+use Rattle.rq_restart.specs.Noted.{Noted, noted}
+use Rattle.rq_restart.specs.Restarting.{IsLeft, BeginsNot, StaysShut, IsBegun}
+use Rattle.rq_restart.proofs.Noting.{noted_incarnation, noted_unfinished, noted_working, no_pairs, pairs_of, few_incarnations}
+
+-- what follows from what an Ok says
+pub on_ok : {T E A B : Type 0} (r : Result T E) → (A → B) → OnOk r A → OnOk r B
+on_ok (Ok x) f h = f h
+on_ok (Err e) f h = h
+
+pub on_ok_both : {T E A B C : Type 0} (r : Result T E) → (A → B → C) → OnOk r A → OnOk r B → OnOk r C
+on_ok_both (Ok x) f h k = f h k
+on_ok_both (Err e) f h k = h
+
+pub if_ok : {T E : Type 0} {A B : T → Type 0} (r : Result T E) → ((x : T) → A x → B x) → IfOk r A → IfOk r B
+if_ok (Ok x) f h = f x h
+if_ok (Err e) f h = h
+
+pub if_ok_both : {T E : Type 0} {A B C : T → Type 0} (r : Result T E) → ((x : T) → A x → B x → C x) → IfOk r A → IfOk r B → IfOk r C
+if_ok_both (Ok x) f h k = f x h k
+if_ok_both (Err e) f h k = h
+
+pub if_ok_with : {T E B : Type 0} {A C : T → Type 0} (r : Result T E) → ((x : T) → A x → B → C x) → IfOk r A → OnOk r B → IfOk r C
+if_ok_with (Ok x) f h k = f x h k
+if_ok_with (Err e) f h k = h
+
+pub one_more : {r : Record} {log older : List Record} (n : ℕ) → n ≡ length log → log ≡ r ∷ older → n ≡ length older + 1
+one_more {r} {log} {older} n e f = let g : length log ≡ length (r ∷ older) = ap length f in omega (arith, e, g)
+
+pub if_err : {T E : Type 0} {A B : E → Type 0} (r : Result T E) → ((x : E) → A x → B x) → IfErr r A → IfErr r B
+if_err (Ok x) f h = h
+if_err (Err e) f h = f e h
+
+module _ (older : List Record) (xs : List Record) (same : older ≡ reverse xs) (h : Noted) (k : h ≡ noted (reverse xs)) where
+  noted_is : h ≡ noted older
+  noted_is = k ∙ ap noted (sym same)
+
+  pub last_is : (last : ℕ) → last ≡ h.incarnation → last ≡ incarnation_of older
+  last_is last e = e ∙ ap (λ (n : Noted). n.incarnation) noted_is ∙ noted_incarnation older
+
+  pub begun_is : {L : Type 0} (log : Logged L) (last : ℕ) → last ≡ h.incarnation → log.records ≡ records.Restart (last + 1) ∷ older → (log.forced ≡ length log.records) × (log.failed ≡ false) → IsBegun older log
+  begun_is log last e r f = record { records = r ∙ ap (λ n. records.Restart (n + 1) ∷ older) (last_is last e); forced = f.0; running = f.1 }
+
+  -- everything has ended exactly where nothing is noted
+  pub settled_left : (z : Sizes) (image : ℕ → List ℕ) → IsLeft z image older → unfinished older ≡ [] → lost older ≡ [] → (h.unfinished ≡ []) × (h.working ≡ [])
+  settled_left z image left u l = (
+    ap (λ (n : Noted). n.unfinished) noted_is ∙ no_pairs (noted older).unfinished (noted_unfinished z older left.whole.legal ∙ u),
+    ap (λ (n : Noted). n.working) noted_is ∙ noted_working z older left.whole.legal left.whole.reads ∙ l,
+  )
+
+  pub sound_is : (z : Sizes) (image : ℕ → List ℕ) (images : List (List ℕ)) → IsInRange z → (h.unfinished ≡ []) × (h.working ≡ []) → (IsLeft z image (reverse xs) → FitsUpTo z (image_in images) (reverse xs) (length xs)) → IsLeft z image older → IsSound (opened z images older)
+  sound_is z image images range ended redone left =
+      let there : IsLeft z image (reverse xs) = subst (λ l. IsLeft z image l) same left in
+      let count : length xs ≡ length older = sym (length-reverse xs) ∙ ap length (sym same) in
+      let fits : FitsUpTo z (image_in images) older (length older) = subst (λ n. FitsUpTo z (image_in images) older n) count (subst (λ l. FitsUpTo z (image_in images) l (length xs)) (sym same) (redone there)) in
+      let none_unfinished : unfinished older ≡ [] = sym (noted_unfinished z older left.whole.legal) ∙ ap pairs_of (ap (λ (n : Noted). n.unfinished) (sym noted_is) ∙ ended.0) in
+      let none_lost : lost older ≡ [] = sym (noted_working z older left.whole.legal left.whole.reads) ∙ ap (λ (n : Noted). n.working) (sym noted_is) ∙ ended.1 in
+      opened_sound z images older range left.whole none_unfinished none_lost (redone_slots z older images left.whole.in_store fits)
+
+  pub shut_is : (z : Sizes) (image : ℕ → List ℕ) (e : Refusal) (last before now : ℕ) → last ≡ h.incarnation → BeginsNot e (length older) last before now → StaysShut (IsLeft z image older) older e before now
+  shut_is z image why.NoMemory last before now is b = b
+  shut_is z image why.DiskWrite last before now is b = b
+  shut_is z image why.LogFull last before now is b = λ left. elim b [
+    | inl full ↦ full
+    | inr many ↦ let few = few_incarnations older left.whole.order in let e = last_is last is in omega (arith, few, e, many)
+  ]
+  shut_is z image _ last before now is b = absurd b
+
+-- the numbers of pages that were left so are within the log
+pub counted_left : (z : Sizes) (image : ℕ → List ℕ) (older xs : List Record) (p : ℕ) → older ≡ reverse xs → IsLeft z image older → 1 ≤ p → p < page_count z → IsCounted z (length xs) p (image p)
+counted_left z image older xs p same left low high =
+    let count : length older ≡ length xs = ap length same ∙ length-reverse xs in
+    subst (λ n. IsCounted z n p (image p)) count (fits_counted z older p (image p) left.whole.legal (left.fits.pages p low high))
+
+-- what was left on a device was left in the pages that are read of it
+pub left_read : (z : Sizes) (seen : ℕ → List ℕ) (images : List (List ℕ)) (older : List Record) → ArePages z seen images → IsLeft z seen older → IsLeft z (image_in images) older
+left_read z seen images older are left = record {
+  whole = left.whole;
+  fits = record {
+    headers = λ p low high. subst (λ b. IsHeaderOf z p b) (sym (are.read p high)) (left.fits.headers p low high);
+    pages = λ p low high. subst (λ b. FitsPage z older p b) (sym (are.read p high)) (left.fits.pages p low high);
+  };
+}

@@ -1,0 +1,67 @@
+-- What a restart finds.
+use Rattle.std.specs.Prelude.{◌≡◌, ◌⊎◌, ℕ, ◌+◌, ◌%◌, ◌^◌, ◌≤◌, false, List, [], ◌∷◌, length}
+use Rattle.rq_model.specs.declared.record.Record.{Record}
+use Rattle.rq_model.specs.declared.refusal.Refusal.{Refusal}
+use Rattle.rq_model.specs.declared.refusal.Refusal.TheVariants as why
+use Rattle.rq_page.specs.Sizes.{Sizes}
+use Rattle.rq_store.specs.Sound.{IsWhole, incarnation_of}
+use Rattle.rq_model.specs.Content.{unfinished, lost}
+use Rattle.rq_log.specs.Logged.{Logged}
+use Rattle.rq_store.specs.Opening.{FitsLog, next_restart}
+
+-- the pages and the log of a store that was left as a crash may leave one
+pub record IsLeft (z : Sizes) (image : ℕ → List ℕ) (log : List Record) : Type 0 where
+  pub whole : IsWhole z log
+  pub fits : FitsLog z image log
+
+-- going through a log stops where memory is wanting, or where the store was not left so
+abbrev pub StopsIn : Type 0 → Refusal → Type 0
+StopsIn left why.NoMemory = Unit {0}
+StopsIn left (why.Damaged d) = left → ⊥
+StopsIn left _ = ⊥
+
+-- why no incarnation was begun over a log, with the failures of its device before and after it
+abbrev pub BeginsNot : Refusal → ℕ → ℕ → ℕ → ℕ → Type 0
+BeginsNot why.NoMemory records last before now = now ≡ before
+BeginsNot why.LogFull records last before now = (2 ^ 50 ≤ records) ⊎ (2 ^ 64 ≤ last + 1)
+BeginsNot why.DiskWrite records last before now = now ≡ (before + 1) % 2 ^ 64
+BeginsNot _ records last before now = ⊥
+
+-- why a store over this log was not opened, with the failures of the log's device before and after it
+abbrev pub StaysShut : Type 0 → List Record → Refusal → ℕ → ℕ → Type 0
+StaysShut left log why.NoMemory before now = now ≡ before
+StaysShut left log why.LogFull before now = left → 2 ^ 50 ≤ length log
+StaysShut left log why.DiskRead before now = now ≡ (before + 1) % 2 ^ 64
+StaysShut left log why.DiskWrite before now = now ≡ (before + 1) % 2 ^ 64
+StaysShut left log why.Unfinished before now = left → unfinished log ≡ [] → lost log ≡ [] → ⊥
+StaysShut left log (why.Damaged d) before now = left → ⊥
+StaysShut left log _ before now = ⊥
+
+-- the log has one record more, which begins the incarnation after the last, and all its records are forced
+pub record IsBegun {L : Type 0} (older : List Record) (log : Logged L) : Type 0 where
+  pub records : log.records ≡ next_restart older ∷ older
+  pub forced : log.forced ≡ length log.records
+  pub running : log.failed ≡ false
+
+-- what is reported: the next incarnation, one record more, and nothing that was undone
+pub record Reports (older : List Record) (incarnation count undone gone : ℕ) : Type 0 where
+  pub incarnation_is : incarnation ≡ incarnation_of older + 1
+  pub records_are : count ≡ length older + 1
+  pub unfinished_are : undone ≡ 0
+  pub lost_are : gone ≡ 0
+
+-- why a restart was refused, with the failures of the pages' device before and after it, and those of the log's
+abbrev pub Stops : Type 0 → List Record → Refusal → ℕ → ℕ → ℕ → ℕ → Type 0
+Stops left log why.NoMemory before now old new = Unit {0}
+Stops left log why.DiskRead before now old new = (now ≡ (before + 1) % 2 ^ 64) ⊎ (new ≡ (old + 1) % 2 ^ 64)
+Stops left log why.DiskWrite before now old new = new ≡ (old + 1) % 2 ^ 64
+Stops left log why.LogFull before now old new = left → 2 ^ 50 ≤ length log
+Stops left log why.Unfinished before now old new = left → unfinished log ≡ [] → lost log ≡ [] → ⊥
+Stops left log (why.Damaged d) before now old new = left → ⊥
+Stops left log _ before now old new = ⊥
+
+-- an engine may be opened over the log: incarnations are counted from 1 on, it is not over the greatest length, and it has not failed
+pub record IsReady {L : Type 0} (incarnation : ℕ) (log : Logged L) : Type 0 where
+  pub begun : 1 ≤ incarnation
+  pub running : log.failed ≡ false
+  pub count : length log.records ≤ 2 ^ 50

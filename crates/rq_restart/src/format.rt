@@ -1,0 +1,59 @@
+//! A new store.
+ghost use Rattle.std.specs.Prelude.{◌≡◌, ◌<◌, ◌+◌, ◌%◌, ◌^◌, ℕ, [], OnOk, IfErr};
+ghost use Rattle.rq_disk.specs.Device.{Holds};
+ghost use Rattle.rq_page.specs.Sizes.{page_count};
+ghost use Rattle.rq_page.specs.Formatted.{IsFormatted};
+ghost use Rattle.rq_store.specs.Opening.{FitsLog};
+
+use rq_disk::{PAGE, PageDevice};
+use rq_model::refusal::Refusal;
+use rq_page::layout::Layout;
+use rq_page::page::Page;
+
+/// Writes the pages of an empty store with so many directory and cell pages, and syncs them; the
+/// superblock last, so that a store that was not formatted to its end does not open.
+///
+/// `DiskWrite` where the device fails: format again.
+pub fn format<P: PageDevice>(pages: &mut P, layout: &Layout) -> Result<(), Refusal>
+    ensures formatted { OnOk result ((p : ℕ) → p < page_count layout.now → IsFormatted layout.now p (P.seen pages.new p)) }
+    ensures fits { OnOk result (FitsLog layout.now (P.seen pages.new) []) }
+    ensures err { IfErr result (λ e. (e ≡ Refusal.DiskWrite) × (P.faults pages.new ≡ (P.faults pages.old + 1) % 2 ^ 64)) }
+{
+    let mut page = Page::from_image(&[0; PAGE]);
+    for number in 1..layout.pages() {
+        write_formatted(pages, layout, number, &mut page)?;
+    }
+    sync(pages)?;
+    write_formatted(pages, layout, 0, &mut page)?;
+    sync(pages)
+}
+
+fn write_formatted<P: PageDevice>(
+    pages: &mut P,
+    layout: &Layout,
+    number: u32,
+    page: &mut Page,
+) -> Result<(), Refusal>
+    requires { number < page_count layout.now }
+    ensures formatted { OnOk result (IsFormatted layout.now number page.new) }
+    ensures written { OnOk result (Holds (P.seen pages.old) number page.new (P.seen pages.new)) }
+    ensures cause { OnOk result (P.faults pages.new ≡ P.faults pages.old) }
+    ensures err { IfErr result (λ e. (e ≡ Refusal.DiskWrite) × (P.faults pages.new ≡ (P.faults pages.old + 1) % 2 ^ 64)) }
+{
+    layout.format(number, page);
+    match pages.write(number, page.image()) {
+        Ok(()) => Ok(()),
+        Err(_) => Err(Refusal::DiskWrite),
+    }
+}
+
+fn sync<P: PageDevice>(pages: &mut P) -> Result<(), Refusal>
+    ensures seen { P.seen pages.new ≡ P.seen pages.old }
+    ensures cause { OnOk result (P.faults pages.new ≡ P.faults pages.old) }
+    ensures err { IfErr result (λ e. (e ≡ Refusal.DiskWrite) × (P.faults pages.new ≡ (P.faults pages.old + 1) % 2 ^ 64)) }
+{
+    match pages.sync() {
+        Ok(()) => Ok(()),
+        Err(_) => Err(Refusal::DiskWrite),
+    }
+}

@@ -1,0 +1,206 @@
+//! Opening a store that a crash, or nothing at all, left behind.
+ghost use Rattle.std.specs.Prelude.{◌≡◌, ◌+◌, ◌≤◌, ◌<◌, ◌∷◌, IfOk, IfErr, OnOk, false, length, reverse, drop, List, ℕ};
+ghost use Rattle.rq_model.specs.declared.record.Record.TheVariants as records;
+ghost use Rattle.rq_model.specs.declared.record.Record.{Record};
+ghost use Rattle.rq_level.specs.Stored.{slots_in, count_used};
+ghost use Rattle.rq_log.specs.Spelled.{spelled, AreSpelled};
+ghost use Rattle.rq_page.specs.Sizes.{Sizes};
+ghost use Rattle.rq_pool.specs.Reading.{IsSuperblock};
+ghost use Rattle.rq_model.specs.Content.{committed_of};
+ghost use Rattle.rq_store.specs.State.{ledger_of};
+ghost use Rattle.rq_store.specs.Sound.{IsSound};
+ghost use Rattle.rq_store.specs.Opening.{opened, image_in};
+ghost use Rattle.rq_restart.specs.Restarting.{IsLeft, IsReady, BeginsNot, StaysShut, IsBegun, Reports, Stops};
+
+use crate::redo::{miscounted_page, repeat_history};
+use rq_disk::{LogDevice, PageDevice};
+use rq_engine::engine::{Engine, LOG_LIMIT};
+use rq_log::{Log, Scan};
+use rq_model::record::Record;
+use rq_model::refusal::{Damage, Refusal};
+use rq_pool::Pages;
+use rq_record::spelled_len;
+use std::alloc::Global;
+
+/// What a restart found and did.
+#[derive(Clone, Copy, Debug, PartialEq, Eq)]
+pub struct Report {
+    /// The incarnation that begins.
+    pub incarnation: u64,
+    /// How many operations had no end, and are undone.
+    pub unfinished: u64,
+    /// How many transactions had neither Commit nor AbortEnd, and are undone.
+    pub lost: u64,
+    /// How many records are now in the log.
+    pub records: u64,
+}
+
+// A store whose log was gone through: its pages, with every slot as the log says, and its log, with the record
+// that begins the incarnation.
+#[derive(Drop)]
+struct Opened<P: PageDevice, L: LogDevice> {
+    pages: Pages<P>,
+    log: Log<L>,
+    // How many cells hold a message.
+    cells: u32,
+    report: Report,
+}
+
+/// A restart that was refused: why, and both devices.
+#[derive(Drop)]
+pub struct Stopped<P, L> {
+    pub refusal: Refusal,
+    pub pages: P,
+    pub log: L,
+}
+
+/// Opens a store: reads and checks its pages and its log, repeats history on the pages, and forces the
+/// Restart record of a new incarnation.
+///
+/// Refused with `DiskRead` or `DiskWrite` where a device fails, with `Damaged` where a page or a record
+/// breaks the format, with `Unfinished` where the log holds an operation or a transaction that has not
+/// ended, with `LogFull` where there is no room for the Restart record.
+pub fn restart<P: PageDevice + Drop, L: LogDevice + Drop>(
+    alloc: Global,
+    pages: P,
+    log: L,
+) -> Result<(Engine<P, L>, Report), Stopped<P, L>>
+    ensures report { IfOk result (λ o. (older : List Record) → AreSpelled older → L.seen log ≡ spelled older → Reports older o.1.incarnation o.1.records o.1.unfinished o.1.lost) }
+    ensures sizes { IfOk result (λ o. IsSuperblock o.0.sizes (P.seen pages 0)) }
+    ensures value { IfOk result (λ o. (older : List Record) → AreSpelled older → L.seen log ≡ spelled older → o.0 ≡ opened o.0.sizes o.0.images older) }
+    ensures sound { IfOk result (λ o. (older : List Record) → AreSpelled older → L.seen log ≡ spelled older → IsLeft o.0.sizes (P.seen pages) older → IsSound o.0) }
+    ensures committed { IfOk result (λ o. (older : List Record) → AreSpelled older → L.seen log ≡ spelled older → (ledger_of o.0).committed ≡ committed_of older) }
+    ensures err { IfErr result (λ stopped. (z : Sizes) → IsSuperblock z (P.seen pages 0) → (older : List Record) → AreSpelled older → L.seen log ≡ spelled older → Stops (IsLeft z (P.seen pages) older) older stopped.refusal (P.faults pages) (P.faults stopped.pages) (L.faults log) (L.faults stopped.log)) }
+{
+    let Opened {
+        pages,
+        log,
+        cells,
+        report,
+    } = open(alloc, pages, log)?;
+    let engine = Engine::open(alloc, pages, log, report.incarnation, u64::from(cells));
+    Ok((engine, report))
+}
+
+// Goes through the log of a store and begins the next incarnation.
+fn open<P: PageDevice + Drop, L: LogDevice + Drop>(
+    alloc: Global,
+    pages: P,
+    log: L,
+) -> Result<Opened<P, L>, Stopped<P, L>>
+    ensures begun { IfOk result (λ opened. (older : List Record) → AreSpelled older → L.seen log ≡ spelled older → IsBegun older opened.log) }
+    ensures report { IfOk result (λ opened. (older : List Record) → AreSpelled older → L.seen log ≡ spelled older → Reports older opened.report.incarnation opened.report.records opened.report.unfinished opened.report.lost) }
+    ensures sizes { IfOk result (λ opened. IsSuperblock opened.pages.sizes (P.seen pages 0)) }
+    ensures cells { IfOk result (λ opened. opened.cells ≡ count_used opened.pages.sizes (slots_in opened.pages.sizes opened.pages.images)) }
+    ensures sound { IfOk result (λ o. (older : List Record) → AreSpelled older → L.seen log ≡ spelled older → IsLeft o.pages.sizes (P.seen pages) older → IsSound (opened o.pages.sizes o.pages.images older)) }
+    ensures ready { IfOk result (λ o. IsReady o.report.incarnation o.log) }
+    ensures err { IfErr result (λ stopped. (z : Sizes) → IsSuperblock z (P.seen pages 0) → (older : List Record) → AreSpelled older → L.seen log ≡ spelled older → Stops (IsLeft z (P.seen pages) older) older stopped.refusal (P.faults pages) (P.faults stopped.pages) (L.faults log) (L.faults stopped.log)) }
+{
+    match Pages::load(alloc, pages) {
+        Ok(pages) => restart_log(alloc, pages, log),
+        Err(stopped) => {
+            let rq_pool::Stopped { refusal, device } = stopped;
+            Err(Stopped {
+                refusal,
+                pages: device,
+                log,
+            })
+        }
+    }
+}
+
+// Reads the log, and opens the store whose pages these are.
+fn restart_log<P: PageDevice + Drop, L: LogDevice + Drop>(
+    alloc: Global,
+    mut pages: Pages<P>,
+    log: L,
+) -> Result<Opened<P, L>, Stopped<P, L>>
+    ensures begun { IfOk result (λ opened. (older : List Record) → AreSpelled older → L.seen log ≡ spelled older → IsBegun older opened.log) }
+    ensures report { IfOk result (λ opened. (older : List Record) → AreSpelled older → L.seen log ≡ spelled older → Reports older opened.report.incarnation opened.report.records opened.report.unfinished opened.report.lost) }
+    ensures sizes { IfOk result (λ opened. opened.pages.sizes ≡ pages.sizes) }
+    ensures cells { IfOk result (λ opened. opened.cells ≡ count_used opened.pages.sizes (slots_in opened.pages.sizes opened.pages.images)) }
+    ensures sound { IfOk result (λ o. (older : List Record) → AreSpelled older → L.seen log ≡ spelled older → IsLeft pages.sizes (image_in pages.images) older → IsSound (opened pages.sizes o.pages.images older)) }
+    ensures ready { IfOk result (λ o. IsReady o.report.incarnation o.log) }
+    ensures err { IfErr result (λ stopped. (older : List Record) → AreSpelled older → L.seen log ≡ spelled older → StaysShut (IsLeft pages.sizes (image_in pages.images) older) older stopped.refusal (L.faults log) (L.faults stopped.log)) }
+{
+    let Scan { records, log } = Log::scan(alloc, log);
+    match log {
+        Ok(mut log) => match go_on(alloc, &mut pages, &mut log, &records) {
+            Ok(report) => {
+                let cells = pages.used_cells();
+                Ok(Opened {
+                    pages,
+                    log,
+                    cells,
+                    report,
+                })
+            }
+            Err(refusal) => Err(Stopped {
+                refusal,
+                pages: pages.give_back(),
+                log: log.give_back(),
+            }),
+        },
+        Err(stopped) => {
+            let rq_log::Stopped { refusal, device } = stopped;
+            Err(Stopped {
+                refusal,
+                pages: pages.give_back(),
+                log: device,
+            })
+        }
+    }
+}
+
+// Goes through the log, whose records these are, and begins the next incarnation. The pages are as it says then.
+fn go_on<P: PageDevice + Drop, L: LogDevice + Drop>(
+    alloc: Global,
+    pages: &mut Pages<P>,
+    log: &mut Log<L>,
+    records: &[Record],
+) -> Result<Report, Refusal>
+    requires records { log.old.records ≡ reverse records.now }
+    requires running { log.old.failed ≡ false }
+    ensures begun { OnOk result (IsBegun log.old.records log.new) }
+    ensures sizes { pages.new.sizes ≡ pages.old.sizes }
+    ensures report { IfOk result (λ report. Reports log.old.records report.incarnation report.records report.unfinished report.lost) }
+    ensures sound { OnOk result (IsLeft pages.old.sizes (image_in pages.old.images) log.old.records → IsSound (opened pages.old.sizes pages.new.images log.old.records)) }
+    ensures ready { IfOk result (λ report. IsReady report.incarnation log.new) }
+    ensures err { IfErr result (λ e. StaysShut (IsLeft pages.old.sizes (image_in pages.old.images) log.old.records) log.old.records e (L.faults log.old.device) (L.faults log.new.device)) }
+{
+    let miscounted = miscounted_page(pages, records.len() as u64);
+    let history = repeat_history(alloc, pages, records)?;
+    if let Some(page) = miscounted {
+        return Err(Refusal::Damaged(Damage::Page(page)));
+    }
+    if !history.is_settled() {
+        return Err(Refusal::Unfinished);
+    }
+    begin_incarnation(log, history.incarnation())
+}
+
+fn begin_incarnation<L: LogDevice + Drop>(log: &mut Log<L>, last: u64) -> Result<Report, Refusal>
+    requires { log.old.failed ≡ false }
+    ensures records { OnOk result (log.new.records ≡ records.Restart (last + 1) ∷ log.old.records) }
+    ensures forced { OnOk result ((log.new.forced ≡ length log.new.records) × (log.new.failed ≡ false)) }
+    ensures report { IfOk result (λ report. (report.incarnation ≡ last + 1) × (report.records ≡ length log.new.records) × (report.unfinished ≡ 0) × (report.lost ≡ 0)) }
+    ensures ready { IfOk result (λ report. IsReady report.incarnation log.new) }
+    ensures err { IfErr result (λ e. BeginsNot e (length log.old.records) last (L.faults log.old.device) (L.faults log.new.device)) }
+{
+    if log.last() >= LOG_LIMIT {
+        return Err(Refusal::LogFull);
+    }
+    let Some(incarnation) = last.checked_add(1) else {
+        return Err(Refusal::LogFull);
+    };
+    let restart = Record::Restart { incarnation };
+    log.reserve(spelled_len(&restart))?;
+    log.append(&restart);
+    let records = log.force()?;
+    Ok(Report {
+        incarnation,
+        unfinished: 0,
+        lost: 0,
+        records,
+    })
+}

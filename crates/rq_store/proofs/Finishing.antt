@@ -1,0 +1,329 @@
+-- The end of an operation whose writes are all made.
+use Rattle.std.proofs.Common.{◌≡◌, ◌≢◌, ℕ, ◌+◌, ◌-◌, ◌<◌, ◌≤◌, ◌==◌, ◌&&◌, ◌||◌, List, [], ◌∷◌, ◌++◌, length, map, take, drop, reverse, refl, sym, ◌∙◌, ap, subst, Bool, true, false, not, Option, Some, None, inl, inr, nat_eq, nat_lt, cond, arith}
+use Rattle.std.specs.List.{sum_by, filter}
+use Rattle.std.proofs.lemmas.Bool.{cases_Bool, cond-true, cond-false, eqb-true, false≢true, true≢false, or_from, or_left, and_from, eq-eqb}
+use Rattle.std.proofs.lemmas.List.Sums.{sum_by_push}
+use Rattle.std.proofs.lemmas.List.{length-append, length-map, take_all}
+use Rattle.rq_model.specs.declared.txn.Txn.{Txn}
+use Rattle.rq_model.specs.declared.txn.Sub.{Sub}
+use Rattle.rq_model.specs.declared.record.Deed.{Deed}
+use Rattle.rq_model.specs.declared.record.Deed.TheVariants.{Append, UnlinkHead, Close}
+use Rattle.rq_model.specs.declared.record.Record.{Record}
+use Rattle.rq_model.specs.Words.{In, Op, same_txn, is_some}
+use Rattle.rq_model.specs.Words.Op.{Send}
+use Rattle.rq_model.specs.Deeds.{deed_in, spelled_deed}
+use Rattle.rq_model.specs.History.{Job}
+use Rattle.rq_model.specs.Ledger.{Open, Ledger, after, done_more, change, found}
+use Rattle.rq_model.specs.Legal.{Legal, count_rest, below, pending, is_sent, is_sending, has_under, steps_left, OnFound, Answers}
+use Rattle.rq_model.specs.Legal as legal
+use Rattle.rq_model.specs.Content.{Said, said, kept, op_of, has_end, deeds, holds, uses_send, uses_receive, MayEnd, EndingMay, Ending, ending_by, committed_of}
+use Rattle.rq_model.specs.History.Entry.{Did}
+use Rattle.rq_model.specs.History.Call.{Finish}
+use Rattle.rq_model.specs.Replay.{Says}
+use Rattle.rq_model.proofs.Lists.{same_self}
+use Rattle.rq_page.specs.Sizes.{Sizes, sender_count}
+use Rattle.rq_level.specs.Log.{Item, Write, same_op}
+use Rattle.rq_level.specs.Log.Item.{OpEnd}
+use Rattle.rq_level.specs.Legal.{Placed, May, open_deeds, began, over, under_way, view, view_after}
+use Rattle.rq_level.specs.Plans.{IsPlan, deed_sender}
+use Rattle.rq_level.specs.Plans.Turn.{Did as Did_turn}
+use Rattle.rq_level.specs.Groups.{MayTurn, is_taking, Alone, Told}
+use Rattle.rq_level.specs.Items.{items, item_of, layout_of, operation, told_deed}
+use Rattle.rq_level.specs.Stored.{count_used}
+use Rattle.rq_level.proofs.Overlay.{same_self as same_op_self}
+use Rattle.rq_level.proofs.Strangers.{has_end_same}
+use Rattle.rq_level.proofs.Counting.{quiet_counts, turn_sums, lost, gained}
+use Rattle.rq_chain.specs.Writes.{write_of, writes_of}
+use Rattle.rq_txn.specs.declared.Finished.{Finished}
+use Rattle.rq_txn.specs.Rows.{Row, Under, found_row, change_row, row_finished}
+use Rattle.rq_groups.specs.Ends.{HeldEnds, has_held}
+use Rattle.rq_store.specs.State.{State, ledger_of, size_of, open_of, open_ones_of, job_of, job_under, left_under, op_done}
+use Rattle.rq_store.specs.Sound.{IsSound, IsWhole, IsRow, IsGoing, IsGoingOf, IsSettled, HoldsFor, AllHeld, AllSends, IsSend, placed, placed_one, is_under, left_by, apart, appending, appends_of, takes_one, takes_of}
+use Rattle.rq_store.specs.Steps.{Steps, op_end, gave_done}
+use Rattle.rq_store.proofs.RowLists.{found_in, unique, found_other, found_still, changed, distinct_change, not_txn}
+use Rattle.rq_store.proofs.Opens.{found_open, open_found, opens_change}
+use Rattle.rq_store.proofs.Working.{going_at, alone_going, not_found}
+use Rattle.rq_store.proofs.Others.{SaysSame, row_over, not_going, other_op, other_number, rows_sum, rows_one, opens_as_rows}
+use Rattle.rq_store.proofs.Holders.{map_join, placed_more, alone_sending, used_by_holder}
+use Rattle.rq_store.proofs.Stepping.{one_longer}
+
+turn_of : (s : State) (k : IsSound s) (t : Txn) (d : Deed) → IsSend d → HoldsFor s.ends t d → Told d (view (items s.sizes s.records) (deed_sender d)) → (e : ℕ) → MayTurn (items s.sizes s.records) t d e
+turn_of s k t (Append q n tag previous body) is h told e = record {
+  sends = λ y. let same : q ≡ e = eqb-true q e y in
+      (alone_sending s k e t (subst (λ p. has_held t p s.ends.sending ≡ true) same h), subst (λ p. Told (Append q n tag previous body) (view (items s.sizes s.records) p)) same told);
+  takes = λ y. absurd (false≢true y);
+}
+turn_of s k t (UnlinkHead q n tag body) is h told e = absurd is
+turn_of s k t (Close q) is h told e = absurd is
+
+ends_of : (s : State) (k : IsSound s) (t : Txn) → has_end s.records t ≡ false → (d : Deed) → IsSend d → HoldsFor s.ends t d → (e : ℕ) → MayEnd s.records e t (said d)
+ends_of s k t running (Append q n tag previous body) is h e = record {
+  not_ended = running;
+  alone_send = λ y v used. used_by_holder s k e t v (subst (λ p. has_held t p s.ends.sending ≡ true) (eqb-true q e y) h) used;
+  alone_receive = λ y. absurd (false≢true y);
+  has_more = λ y. absurd (false≢true y);
+}
+ends_of s k t running (UnlinkHead q n tag body) is h e = absurd is
+ends_of s k t running (Close q) is h e = absurd is
+
+lost_gained : (d : Deed) → IsSend d → (lost (Did_turn d) ≡ 0) × (gained (Did_turn d) ≡ 1)
+lost_gained (Append q n tag previous body) is = (refl, refl)
+lost_gained (UnlinkHead q n tag body) is = absurd is
+lost_gained (Close q) is = absurd is
+
+one_send : (d : Deed) → IsSend d → (takes_of d ≡ 0) × (appends_of d ≡ 1)
+one_send (Append q n tag previous body) is = (refl, refl)
+one_send (UnlinkHead q n tag body) is = absurd is
+one_send (Close q) is = absurd is
+
+send_job : (d : Deed) → IsSend d → (is_sent (op_of (said d)) ≡ true) × (is_sending (Some (job_of d)) ≡ true)
+send_job (Append q n tag previous body) is = (refl, refl)
+send_job (UnlinkHead q n tag body) is = absurd is
+send_job (Close q) is = absurd is
+
+sent_more : (fs : List Finished) (f : Finished) → length (filter is_sent (map op_done (fs ++ f ∷ []))) ≡ length (filter is_sent (map op_done fs)) + cond (is_sent (op_done f)) 1 0
+sent_more [] f = elim (cases_Bool (is_sent (op_done f))) [ inl y ↦ rw y refl | inr n ↦ rw n refl ]
+sent_more (x ∷ fs) f = elim (cases_Bool (is_sent (op_done x))) [
+  | inl y ↦ rw y (let h = sent_more fs f in omega arith)
+  | inr n ↦ rw n (sent_more fs f)
+]
+
+-- the cell of a send that is finished is its chain's
+apart_now : (q : Row) (f : Finished) (u : Under) → q.under ≡ Some u → f.deed ≡ u.deed → IsSend u.deed → apart (row_finished f q) + 1 ≡ apart q
+apart_now q f u e d is =
+    let a : sum_by takes_one (q.finished ++ f ∷ []) ≡ sum_by takes_one q.finished + takes_one f = sum_by_push takes_one q.finished f in
+    let b : takes_one f ≡ 0 = ap takes_of d ∙ (one_send u.deed is).0 in
+    let c : appending q.under ≡ 1 = ap appending e ∙ (one_send u.deed is).1 in
+    omega arith
+
+pending_now : (ends : HeldEnds) (q : Row) (f : Finished) (u : Under) → q.under ≡ Some u → f.deed ≡ u.deed → IsSend u.deed → pending (open_of ends (row_finished f q)) ≡ pending (open_of ends q)
+pending_now ends q f u e d is =
+    let a : length (filter is_sent (map op_done (q.finished ++ f ∷ []))) ≡ length (filter is_sent (map op_done q.finished)) + cond (is_sent (op_done f)) 1 0 = sent_more q.finished f in
+    let b : is_sent (op_done f) ≡ true = ap (λ x. is_sent (op_of (said x))) d ∙ (send_job u.deed is).0 in
+    let c : is_sending (job_under q.under) ≡ true = ap (λ x. is_sending (job_under x)) e ∙ (send_job u.deed is).1 in
+    ap (λ n. n + 0) a ∙ rw (b, c) (omega arith)
+
+finished_open : (ends : HeldEnds) (q : Row) (f : Finished) → left_under q.under ≡ 0 → open_of ends (row_finished f q) ≡ done_more (op_done f) (open_of ends q)
+finished_open ends q f e =
+    ap (λ (ops : List Op). record (open_of ends q) { ops = ops; under = None; left = 0 }) (map_join op_done q.finished (f ∷ []))
+    ∙ ap (λ (n : ℕ). record (open_of ends q) { ops = map op_done q.finished ++ op_done f ∷ []; under = None; left = n }) (sym e)
+
+says_done : (t : Txn) (n : ℕ) (d : Deed) → IsSend d → Says (Finish t n) (gave_done d) (Did t n (op_of (said d)))
+says_done t n (Append q m tag previous body) is = (record { sender = q; tag = tag; body = body }, refl)
+says_done t n (UnlinkHead q m tag body) is = absurd is
+says_done t n (Close q) is = absurd is
+
+answers_done : (l : Ledger) (o : Open) (d : Deed) → IsSend d → Answers l o (Some (job_of d)) (op_of (said d))
+answers_done l o (Append q m tag previous body) is = refl
+answers_done l o (UnlinkHead q m tag body) is = absurd is
+answers_done l o (Close q) is = absurd is
+
+held_more : (ends : HeldEnds) (t : Txn) (fs : List Finished) (f : Finished) → AllHeld ends t fs → HoldsFor ends t f.deed → AllHeld ends t (fs ++ f ∷ [])
+held_more ends t [] f h g = (g, tt)
+held_more ends t (x ∷ fs) f h g = (h.0, held_more ends t fs f h.1 g)
+
+sends_more : (fs : List Finished) (f : Finished) → AllSends fs → IsSend f.deed → AllSends (fs ++ f ∷ [])
+sends_more [] f h g = (g, tt)
+sends_more (x ∷ fs) f h g = (h.0, sends_more fs f h.1 g)
+
+over_ended : (a b : Bool) → (a && not (true || b)) ≡ false
+over_ended true b = refl
+over_ended false b = refl
+
+module _ (s : State) (k : IsSound s) (t : Txn) (r : Row) (u : Under) (at_row : found_row t s.rows ≡ Some r) (under : r.under ≡ Some u) (made : u.made ≡ length u.writes) where
+  abbrev z : Sizes
+  z = s.sizes
+
+  abbrev log : List Record
+  log = s.records
+
+  abbrev x : Record
+  x = op_end t u.number u.deed
+
+  abbrev o : Sub
+  o = operation t u.number
+
+  abbrev f : Finished
+  f = record { lsn = length log + 1; deed = u.deed }
+
+  abbrev said_deed : Deed
+  said_deed = told_deed (deed_in (spelled_deed u.deed))
+
+  place : In r s.rows × (r.txn ≡ t)
+  place = found_in t s.rows r at_row
+
+  row : IsRow z log s.ends s.incarnation s.begins r
+  row = k.rows r place.0
+
+  going : IsGoing z log s.ends t u × (r.number ≡ u.number)
+  going = going_at s k t r u at_row under
+
+  g : IsGoing z log s.ends t u
+  g = going.0
+
+  deed_is : said_deed ≡ u.deed
+  deed_is = ap told_deed g.reads
+
+  running : has_end log t ≡ false
+  running = ap (has_end log) (sym place.1) ∙ row.running
+
+  all_made : reverse (writes_of z u.writes) ≡ (left_by z log).writes o
+  all_made = sym (g.written ∙ ap reverse (ap (λ n. take n (writes_of z u.writes)) (made ∙ sym (length-map u.writes (write_of z))) ∙ take_all (length (writes_of z u.writes)) (writes_of z u.writes) (omega arith)))
+
+  may : May (layout_of z) (items z log) (OpEnd o said_deed)
+  may = record {
+    plan = subst (λ ws. IsPlan (layout_of z) (Did_turn said_deed) ws) all_made (subst (λ d. IsPlan (layout_of z) (Did_turn d) (reverse (writes_of z u.writes))) (sym deed_is) g.plan);
+    going = g.going;
+    forward = g.forward;
+    running = has_end_same z t log ∙ running;
+  }
+
+  turn : (e : ℕ) → MayTurn (items z log) t said_deed e
+  turn e = subst (λ d. MayTurn (items z log) t d e) (sym deed_is) (turn_of s k t u.deed g.send g.held g.told e)
+
+  ends : EndingMay log (Some (record { txn = t; said = said u.deed }))
+  ends e = ends_of s k t running u.deed g.send g.held e
+
+  log_whole : IsWhole z (x ∷ log)
+  log_whole = record {
+    legal = (may, k.log.legal);
+    groups = (turn, k.log.groups);
+    rules = (subst (EndingMay log) (sym (ap (λ (y : Option Deed). ending_by t (cond (nat_eq 1 1) y None)) g.reads)) ends, (λ v e. absurd (false≢true e)), k.log.rules);
+    reads = ((refl, (u.deed, g.reads)), k.log.reads);
+    in_store = (subst (λ d. deed_sender d < sender_count z) (sym deed_is) g.sender, k.log.in_store);
+    befores = (tt, k.log.befores);
+    order = ((subst (λ n. 1 ≤ n) (sym k.incarnation) k.some, (ap (λ (y : Txn). y.incarnation) (sym place.1) ∙ row.of_incarnation) ∙ sym k.incarnation), k.log.order);
+  }
+
+  abbrev rows : List Row
+  rows = change_row t (row_finished f) s.rows
+
+  abbrev new : State
+  new = record s { rows = rows; records = x ∷ log }
+
+  keeps : (q : Row) → (row_finished f q).txn ≡ q.txn
+  keeps q = refl
+
+  other_idle : (q : Row) → In q s.rows → q.txn ≢ t → q.under ≡ None
+  other_idle = alone_going s k t r u at_row under
+
+  other_row : (q : Row) → In q s.rows → q.txn ≢ t → IsRow z (x ∷ log) s.ends s.incarnation s.begins q
+  other_row q i n =
+      let e : same_txn t q.txn ≡ false = not_txn t q.txn (λ e. n (sym e)) in
+      row_over z log (x ∷ log) s.ends s.ends s.incarnation s.begins s.begins q (omega arith) (record {
+        running = refl;
+        undone = refl;
+        done = rw e refl;
+        began = λ n. ap (λ b. b || began (operation q.txn n) (items z log)) (other_op t q.txn u.number n e);
+        under_way = λ n. ap (λ b. (b || began (operation q.txn n) (items z log)) && not (b || over (operation q.txn n) (items z log))) (other_op t q.txn u.number n e);
+        held = λ h. h;
+      }) (not_going z (x ∷ log) s.ends q q.under (other_idle q i n)) (k.rows q i)
+
+  own_idle : (n : ℕ) → under_way (operation r.txn n) (items z (x ∷ log)) ≡ false
+  own_idle n = elim (cases_Bool (nat_eq u.number n)) [
+    | inl y ↦
+        let same : same_op (operation t u.number) (operation r.txn n) ≡ true = ap (λ (m : ℕ). same_op (operation t u.number) (operation r.txn m)) (sym (eqb-true u.number n y)) ∙ ap (λ (q : Txn). same_op (operation t u.number) (operation q u.number)) place.1 ∙ same_op_self (operation t u.number) in
+        ap (λ b. (b || began (operation r.txn n) (items z log)) && not (b || over (operation r.txn n) (items z log))) same ∙ over_ended (true || began (operation r.txn n) (items z log)) (over (operation r.txn n) (items z log))
+    | inr m ↦
+        let other : same_op (operation t u.number) (operation r.txn n) ≡ false = other_number t r.txn u.number n (λ e. true≢false (sym (eq-eqb u.number n e) ∙ m)) in
+        ap (λ b. (b || began (operation r.txn n) (items z log)) && not (b || over (operation r.txn n) (items z log))) other ∙ row.idle n (ap (is_under n) under ∙ m)
+  ]
+
+  placed_now : open_deeds r.txn (items z (x ∷ log)) ≡ placed (r.finished ++ f ∷ [])
+  placed_now =
+      cond-true (same_txn t r.txn) _ _ (ap (λ q. same_txn t q) place.1 ∙ same_self t)
+      ∙ ap (λ (n : ℕ). record { lsn = n + 1; deed = said_deed } ∷ open_deeds r.txn (items z log)) (length-map log (item_of z))
+      ∙ ap (λ (d : Deed). record { lsn = length log + 1; deed = d } ∷ open_deeds r.txn (items z log)) deed_is
+      ∙ ap (λ ps. placed_one f ∷ ps) row.done
+      ∙ sym (placed_more r.finished f)
+
+  own_row : IsRow z (x ∷ log) s.ends s.incarnation s.begins (row_finished f r)
+  own_row = record {
+    of_incarnation = row.of_incarnation;
+    counted = row.counted;
+    forward = row.forward;
+    running = row.running;
+    undid_nothing = row.undid_nothing;
+    done = placed_now;
+    held = held_more s.ends r.txn r.finished f row.held (subst (λ (q : Txn). HoldsFor s.ends q u.deed) (sym place.1) g.held);
+    sends = sends_more r.finished f row.sends g.send;
+    numbered = λ n m. or_from _ _ (other_number t r.txn u.number n (λ e. absurd (omega (arith, e, m, going.1)))) (row.numbered n m);
+    idle = λ n m. own_idle n;
+    going = tt;
+  }
+
+  settled_other : (q : Txn) → q ≢ t → IsSettled z log q → IsSettled z (x ∷ log) q
+  settled_other q n h =
+      let e : same_txn t q ≡ false = not_txn t q (λ e. n (sym e)) in
+      record {
+        settled = cond-false (same_txn t q) _ _ e ∙ h.settled;
+        unused = λ live. ap (λ (y : Option Deed). kept (λ v. same_txn v q) (ending_by t y) (deeds (λ v. same_txn v q) log)) g.reads ∙ cond-false (same_txn t q) _ _ e ∙ h.unused live;
+        idle = λ m. ap (λ b. (b || began (operation q m) (items z log)) && not (b || over (operation q m) (items z log))) (other_op t q u.number m e) ∙ h.idle m;
+      }
+
+  every_row : (q : Row) → In q rows → IsRow z (x ∷ log) s.ends s.incarnation s.begins q
+  every_row q i = elim (changed t (row_finished f) s.rows r q k.distinct at_row i) [
+    | inl e ↦ subst (λ (y : Row). IsRow z (x ∷ log) s.ends s.incarnation s.begins y) (sym e) own_row
+    | inr h ↦ other_row q h.0 h.1
+  ]
+
+  none_now : (p : Row) → In p rows → is_some p.under ≡ true → ⊥
+  none_now p i a = elim (changed t (row_finished f) s.rows r p k.distinct at_row i) [
+    | inl e ↦ false≢true (sym (ap (λ (y : Row). is_some y.under) e) ∙ a)
+    | inr h ↦ true≢false (sym a ∙ ap (λ (y : Option Under). is_some y) (other_idle p h.0 h.1))
+  ]
+
+  none_left : left_under r.under ≡ 0
+  none_left = ap left_under under ∙ omega (arith, made)
+
+  opens_now : open_ones_of s.ends rows ≡ change t (done_more (op_done f)) (open_ones_of s.ends s.rows)
+  opens_now = opens_change t s.ends s.ends (row_finished f) (done_more (op_done f)) s.rows (λ q i e. finished_open s.ends q f (ap (λ (y : Row). left_under y.under) (unique s.rows q r k.distinct i place.0 (e ∙ sym place.1)) ∙ none_left)) (λ q i n. refl)
+
+  after_is : ledger_of new ≡ after (Did t u.number (op_done f)) (ledger_of s)
+  after_is =
+      ap (λ (os : List Open). record (ledger_of s) { open_ones = os; records = length (x ∷ log) }) opens_now
+      ∙ ap (λ (n : ℕ). record (ledger_of s) { open_ones = change t (done_more (op_done f)) (open_ones_of s.ends s.rows); records = n }) (one_longer x log)
+
+  at_open : found t (open_ones_of s.ends s.rows) ≡ Some (open_of s.ends r)
+  at_open = found_open s.ends t s.rows ∙ ap (open_found s.ends) at_row
+
+  used_one_more : count_used z (left_by z (x ∷ log)).quiet ≡ count_used z (left_by z log).quiet + 1
+  used_one_more =
+      let a = quiet_counts z (x ∷ log) log_whole.legal log_whole.in_store in
+      let b = quiet_counts z log k.log.legal k.log.in_store in
+      let c : lost (Did_turn said_deed) ≡ 0 = ap (λ d. lost (Did_turn d)) deed_is ∙ (lost_gained u.deed g.send).0 in
+      let d : gained (Did_turn said_deed) ≡ 1 = ap (λ d. gained (Did_turn d)) deed_is ∙ (lost_gained u.deed g.send).1 in
+      let e = turn_sums (sender_count z) (Did_turn said_deed) (view (items z log)) log_whole.in_store.0 (omega (arith, c)) in
+      omega (arith, a, b, c, d, e)
+
+  pub finish_sound : IsSound new
+  finish_sound = record {
+    range = k.range;
+    log = log_whole;
+    incarnation = k.incarnation;
+    some = k.some;
+    strangers = λ q e m. or_from _ _ (not_txn t q (λ f. let c : r.txn.count ≤ s.begins = row.counted in let v : r.txn.count ≡ q.count = ap (λ (y : Txn). y.count) (place.1 ∙ f) in omega (arith, c, v, m))) (k.strangers q e m);
+    pages = k.pages;
+    rows = every_row;
+    distinct = distinct_change t (row_finished f) s.rows keeps k.distinct;
+    others = λ q e. let was = found_other t q (row_finished f) s.rows keeps e in settled_other q (not_found t s.rows r at_row q was) (k.others q was);
+    one_going = λ p q i j a b. absurd (none_now p i a);
+    sending = record { one = k.sending.one; living = λ q n h. found_still t q (row_finished f) s.rows keeps (k.sending.living q n h) };
+    receiving = record { one = k.receiving.one; living = λ q n h. found_still t q (row_finished f) s.rows keeps (k.receiving.living q n h) };
+    cells = k.cells ∙ ap (λ n. count_rest (below (sender_count z)) (committed_of log) + n) (opens_as_rows pending s.ends s.rows ∙ sym (rows_sum (λ q. pending (open_of s.ends q)) t (row_finished f) s.rows (λ q i e. pending_now s.ends q f u (ap (λ (y : Row). y.under) (unique s.rows q r k.distinct i place.0 (e ∙ sym place.1)) ∙ under) refl g.send)) ∙ sym (opens_as_rows pending s.ends rows));
+    bound = k.bound;
+    used = let a = used_one_more in let b = rows_one apart t (row_finished f) s.rows r k.distinct at_row in let c = apart_now r f u under refl g.send in omega (arith, a, b, c, k.used);
+    forced = let f = k.forced in omega arith;
+  }
+
+  pub finish_steps : s.failed ≡ false → Steps s (Finish t u.number) (gave_done u.deed) new
+  finish_steps running = record {
+    entry = Did t u.number (op_done f);
+    says = says_done t u.number u.deed g.send;
+    legal = (
+      (ap (λ b. not (not b)) running, (ap not (ap (has_under u.number) at_open ∙ and_from _ _ (ap (λ (y : Option Under). is_some (job_under y)) under) (eq-eqb r.number u.number going.1)), (ap steps_left at_open ∙ ap (nat_lt 0) none_left, tt))),
+      subst (λ (y : Option Open). OnFound y (λ (q : Open). Answers (ledger_of s) q q.under (op_done f))) (sym at_open) (subst (λ (y : Option Under). Answers (ledger_of s) (open_of s.ends r) (job_under y) (op_done f)) (sym under) (answers_done (ledger_of s) (open_of s.ends r) u.deed g.send)),
+    );
+    after = after_is;
+    sound = finish_sound;
+  }

@@ -1,0 +1,62 @@
+-- The pages of a formatted store fit the empty log.
+use Rattle.std.proofs.Common.{◌≡◌, ℕ, ◌/◌, ◌%◌, ◌<◌, ◌≤◌, ◌++◌, ◌∷◌, List, [], replicate, refl, sym, ◌∙◌, ap, subst, Bool, true, false, cond, Option, Some, None, nat_lt, nat_le, ◌&&◌, arith}
+use Rattle.std.proofs.lemmas.Bool.{lt-ltb}
+use Rattle.std.proofs.lemmas.List.{append_assoc}
+use Rattle.byteorder.specs.Endian.{big_bytes, big_number}
+use Rattle.byteorder.specs.Numbers.{big_number-reads_back}
+use Rattle.rq_page.specs.declared.layout.PageKind.{PageKind}
+use Rattle.rq_page.specs.Sizes.{Sizes, IsInRange, page_count, address, sender_at}
+use Rattle.rq_page.specs.Kinds.{kind_of, kind_byte}
+use Rattle.rq_page.specs.Directories.{new_directory}
+use Rattle.rq_page.specs.Pages.{lsn_of, header_bytes, header_front}
+use Rattle.rq_page.specs.Slots.{Slot, held_in, IsSlotOf}
+use Rattle.rq_page.specs.Slots.Slot.{Free, Sender}
+use Rattle.rq_page.specs.Formatted.{IsFormatted, IsHeaderFor, formatted_content, formatted_slot}
+use Rattle.rq_page.proofs.FormattedSlots.{formatted_holds}
+use Rattle.rq_page.proofs.PageParts.{lsn_of_header}
+use Rattle.rq_level.specs.Items.{formatted_at}
+use Rattle.rq_store.specs.Opening.{oldest, FitsPage, FitsLog, IsStamp, HoldsPage}
+
+header_lsn : (page kind : ℕ) → big_number 8 (header_bytes 0 page kind) ≡ 0
+unfolding header_bytes header_front
+header_lsn page kind =
+    ap (big_number 8) (append_assoc (big_bytes 8 0) (big_bytes 4 page ++ kind ∷ []) (replicate 243 0))
+    ∙ big_number-reads_back 8 0 ((big_bytes 4 page ++ kind ∷ []) ++ replicate 243 0) (omega arith)
+
+no_lsn : (k : Option PageKind) (page : ℕ) (image : List ℕ) → IsHeaderFor k page 0 image → lsn_of image ≡ 0
+no_lsn None page image h = absurd h
+no_lsn (Some k) page image h = lsn_of_header image ∙ ap (big_number 8) h ∙ header_lsn page (kind_byte k)
+
+abbrev by_place : Sizes → ℕ → ℕ → Slot
+by_place z page slot = cond (nat_lt 0 page && nat_le page z.directory && nat_lt 0 slot) (Sender (sender_at page slot) new_directory) Free
+
+-- what stands there by address is what stands there by page and slot
+formatted_there : (z : Sizes) (page slot : ℕ) → 1 ≤ page → 1 ≤ slot → slot ≤ 15 → formatted_at z (address page slot) ≡ formatted_content z page slot
+formatted_there z page slot low slot_low slot_high =
+    let p : address page slot / 16 ≡ page = omega arith in
+    let n : address page slot % 16 ≡ slot = omega arith in
+    let x : nat_lt 0 page ≡ true = lt-ltb 0 page low in
+    let y : nat_lt 0 slot ≡ true = lt-ltb 0 slot slot_low in
+    ap (λ i. by_place z i (address page slot % 16)) p ∙ ap (by_place z page) n ∙ rw x (rw y (and_true (nat_le page z.directory))) where
+      and_true : (b : Bool) → cond (b && true) (Sender (sender_at page slot) new_directory) Free ≡ cond b (Sender (sender_at page slot) new_directory) Free
+      and_true true = refl
+      and_true false = refl
+
+-- a formatted page fits
+pub formatted_page : (z : Sizes) (page : ℕ) (image : List ℕ) → IsInRange z → 1 ≤ page → page < page_count z → IsFormatted z page image → FitsPage z [] page image
+formatted_page z page image range low high h =
+    let none : lsn_of image ≡ 0 = no_lsn (kind_of z page) page image h.header in
+    let holds : (n : ℕ) → 1 ≤ n → n ≤ 15 → IsSlotOf z page n (formatted_slot z page n) × (held_in z page (formatted_slot z page n) ≡ formatted_content z page n) = (λ n a b. formatted_holds z page n range low high a b) in
+    record {
+      slots = λ n a b. subst (IsSlotOf z page n) (sym (h.slots n a b)) (holds n a b).0;
+      within = omega (arith, none);
+      stamped = subst (λ n. IsStamp page (oldest n [])) (sym none) tt;
+      held = subst (λ n. HoldsPage z page image (oldest n [])) (sym none) (λ n a b. ap (held_in z page) (h.slots n a b) ∙ (holds n a b).1 ∙ sym (formatted_there z page n low a b));
+    }
+
+-- so do the pages of a formatted store
+pub formatted_fits : (z : Sizes) (image : ℕ → List ℕ) → IsInRange z → ((p : ℕ) → p < page_count z → IsFormatted z p (image p)) → FitsLog z image []
+formatted_fits z image range h = record {
+  headers = λ p low high. let f = h p high in subst (λ n. IsHeaderFor (kind_of z p) p n (image p)) (sym (no_lsn (kind_of z p) p (image p) f.header)) f.header;
+  pages = λ p low high. formatted_page z p (image p) range low high (h p high);
+}

@@ -1,0 +1,5 @@
+pub mod State
+pub mod Sound
+pub mod Steps
+pub mod Plans
+pub mod Opening

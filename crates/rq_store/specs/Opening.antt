@@ -1,0 +1,114 @@
+-- Opening a store: pages that fit a log, what going through the log makes of them, and the store that is open then.
+use Rattle.std.specs.Prelude.{◌≡◌, ◌≢◌, ℕ, ◌+◌, ◌-◌, ◌<◌, ◌≤◌, false, List, [], ◌∷◌, length, drop, slice_index_or, Option, Some, None}
+use Rattle.rq_model.specs.declared.record.Record.{Record}
+use Rattle.rq_model.specs.declared.record.Record.TheVariants.{PageOp, PageUndo, Restart}
+use Rattle.rq_page.specs.Sizes.{Sizes, page_count, address}
+use Rattle.rq_page.specs.Pages.{lsn_of, slot_of, IsWritten}
+use Rattle.rq_page.specs.Slots.{held_in, IsSlotOf}
+use Rattle.rq_page.specs.Formatted.{IsHeaderOf, count_in}
+use Rattle.rq_level.specs.Stored.{slots_in, count_used}
+use Rattle.rq_store.specs.State.{State}
+use Rattle.rq_store.specs.Sound.{incarnation_of, left_by}
+
+-- the first n records of a log
+abbrev pub oldest : ℕ → List Record → List Record
+oldest n log = drop (length log - n) log
+
+-- a slot write that a record tells: its page and slot, and what it leaves there
+pub record Told : Type 0 where
+  pub page : ℕ
+  pub slot : ℕ
+  pub after : List ℕ
+
+abbrev pub told_by : Record → Option Told
+told_by (PageOp t n page slot before after) = Some (record { page = page; slot = slot; after = after })
+told_by (PageUndo t n undone page slot after) = Some (record { page = page; slot = slot; after = after })
+told_by _ = None
+
+-- the write is of this page
+abbrev pub IsOfPage : ℕ → Option Told → Type 0
+IsOfPage p None = ⊥
+IsOfPage p (Some w) = w.page ≡ p
+
+-- the newest of these records, where there is one, writes the page
+abbrev pub IsStamp : ℕ → List Record → Type 0
+IsStamp p [] = Unit {0}
+IsStamp p (r ∷ log) = IsOfPage p (told_by r)
+
+-- each slot of the page holds what the log leaves there
+abbrev pub HoldsPage : Sizes → ℕ → List ℕ → List Record → Type 0
+HoldsPage z p image log = (n : ℕ) → 1 ≤ n → n ≤ 15 → held_in z p (slot_of n image) ≡ (left_by z log).slots (address p n)
+
+-- A page of the store, as the first records of the log leave it: as many of them as its LSN says, and the last of these wrote it.
+pub record FitsPage (z : Sizes) (log : List Record) (p : ℕ) (image : List ℕ) : Type 0 where
+  pub slots : (n : ℕ) → 1 ≤ n → n ≤ 15 → IsSlotOf z p n (slot_of n image)
+  pub within : lsn_of image ≤ length log
+  pub stamped : IsStamp p (oldest (lsn_of image) log)
+  pub held : HoldsPage z p image (oldest (lsn_of image) log)
+
+-- the directory and cell pages fit the log
+pub record FitsLog (z : Sizes) (image : ℕ → List ℕ) (log : List Record) : Type 0 where
+  pub headers : (p : ℕ) → 1 ≤ p → p < page_count z → IsHeaderOf z p (image p)
+  pub pages : (p : ℕ) → 1 ≤ p → p < page_count z → FitsPage z log p (image p)
+
+-- the page once the first k records are gone through: it fits, and where it was older it is as these leave it
+pub record FitsPageUpTo (z : Sizes) (log : List Record) (k p : ℕ) (image : List ℕ) : Type 0 where
+  pub fits : FitsPage z log p image
+  pub caught_up : lsn_of image ≤ k → HoldsPage z p image (oldest k log)
+
+abbrev pub FitsUpTo : Sizes → (ℕ → List ℕ) → List Record → ℕ → Type 0
+FitsUpTo z image log k = (p : ℕ) → 1 ≤ p → p < page_count z → FitsPageUpTo z log k p (image p)
+
+-- what the write of the record with this LSN makes of the pages: it is made where its page is older
+pub record IsRedone (w : Told) (lsn : ℕ) (old new : ℕ → List ℕ) : Type 0 where
+  pub made : lsn_of (old w.page) < lsn → IsWritten (old w.page) (new w.page) w.slot w.after lsn
+  pub kept : lsn ≤ lsn_of (old w.page) → new w.page ≡ old w.page
+  pub others : (p : ℕ) → p ≢ w.page → new p ≡ old p
+
+abbrev pub Redoes : Option Told → ℕ → (ℕ → List ℕ) → (ℕ → List ℕ) → Type 0
+Redoes None lsn old new = (p : ℕ) → new p ≡ old p
+Redoes (Some w) lsn old new = IsRedone w lsn old new
+
+abbrev pub image_in : List (List ℕ) → ℕ → List ℕ
+image_in images page = slice_index_or images page []
+
+-- the record that opens a store over this log
+abbrev pub next_restart : List Record → Record
+next_restart log = Restart (incarnation_of log + 1)
+
+-- the open store: of the next incarnation, with nothing begun and all records forced
+abbrev pub opened : Sizes → List (List ℕ) → List Record → State
+opened z images log = record {
+  sizes = z;
+  rows = [];
+  ends = record { sending = []; receiving = [] };
+  images = images;
+  records = next_restart log ∷ log;
+  forced = length (next_restart log ∷ log);
+  failed = false;
+  incarnation = incarnation_of log + 1;
+  begins = 0;
+  cells_in_use = count_used z (slots_in z images);
+}
+
+-- a record that tells a write of a slot of the store, no number of whose slot is beyond the record's LSN, and whose before-image stands there where the page is older
+abbrev pub IsBeforeIn : Record → ℕ → (ℕ → List ℕ) → Type 0
+IsBeforeIn (PageOp t n page slot before after) lsn image = lsn_of (image page) < lsn → slot_of slot (image page) ≡ before
+IsBeforeIn _ lsn image = Unit {0}
+
+pub record IsSoundTold (z : Sizes) (lsn : ℕ) (w : Told) : Type 0 where
+  pub slot : IsSlotOf z w.page w.slot w.after
+  pub count : count_in z w.page w.after ≤ lsn
+
+abbrev pub IsSoundWrite : Sizes → ℕ → Option Told → Type 0
+IsSoundWrite z lsn None = Unit {0}
+IsSoundWrite z lsn (Some w) = IsSoundTold z lsn w
+
+pub record MayRedo (z : Sizes) (image : ℕ → List ℕ) (lsn : ℕ) (r : Record) : Type 0 where
+  pub write : IsSoundWrite z lsn (told_by r)
+  pub before : IsBeforeIn r lsn image
+
+-- no page's LSN, and no number of its slots, is beyond the end of a log with so many records
+pub record IsCounted (z : Sizes) (count p : ℕ) (image : List ℕ) : Type 0 where
+  pub lsn : lsn_of image ≤ count
+  pub slots : (n : ℕ) → 1 ≤ n → n ≤ 15 → count_in z p (slot_of n image) ≤ count

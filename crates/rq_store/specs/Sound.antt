@@ -1,0 +1,204 @@
+-- What is so of a store that goes back to a legal log: the log is whole, the pages hold what it says, and each transaction
+-- that has not ended is as its records say.
+use Rattle.std.specs.Prelude.{◌≡◌, ◌≢◌, ℕ, ◌+◌, ◌<◌, ◌≤◌, Bool, true, false, cond, nat_eq, not, List, [], ◌∷◌, length, map, take, drop, reverse, Option, Some, None}
+use Rattle.std.specs.List.{sum_by}
+use Rattle.rq_model.specs.declared.txn.Txn.{Txn}
+use Rattle.rq_model.specs.declared.record.Deed.{Deed}
+use Rattle.rq_model.specs.declared.record.Deed.TheVariants.{Append, UnlinkHead, Close}
+use Rattle.rq_model.specs.declared.record.Record.{Record}
+use Rattle.rq_model.specs.declared.record.Record.TheVariants.{PageOp, PageUndo, OpEnd, OpVoid, CompEnd, Commit, Restart, AbortEnd}
+use Rattle.rq_model.specs.Words.{In, same_txn, is_some}
+use Rattle.rq_model.specs.Deeds.{spelled_deed, deed_in}
+use Rattle.rq_model.specs.Content.{has_end, deeds, KeepsRules}
+use Rattle.rq_model.specs.Legal as legal
+use Rattle.rq_page.specs.Sizes.{Sizes, IsInRange, cell_count, sender_count}
+use Rattle.rq_page.specs.Slots.{IsSlotOf}
+use Rattle.rq_level.specs.Log.{Layout, Item, State as Slots_state, state_of}
+use Rattle.rq_level.specs.Items.{items, layout_of, operation, Reads, has_undone}
+use Rattle.rq_level.specs.Legal.{Placed, Legal, open_deeds, began, over, under_way, turned_back, crossed, view}
+use Rattle.rq_level.specs.Groups.{KeepsGroups, Told}
+use Rattle.rq_level.specs.Plans.{IsPlan, deed_sender}
+use Rattle.rq_level.specs.Plans.Turn.{Did}
+use Rattle.rq_level.specs.InStore.{InStore, IsStranger}
+use Rattle.rq_level.specs.Stored.{slots_in, count_used, AreSlots}
+use Rattle.rq_level.specs.Owed.{Owes}
+use Rattle.rq_chain.specs.Writes.{writes_of}
+use Rattle.rq_txn.specs.declared.Finished.{Finished}
+use Rattle.rq_txn.specs.Rows.{Row, Under, found_row, AreDistinct}
+use Rattle.rq_groups.specs.declared.Held.{Held}
+use Rattle.rq_groups.specs.Ends.{HeldEnds, has_held}
+use Rattle.rq_store.specs.State.{State, ledger_of, size_of}
+
+-- the incarnation that the log's records are of, 0 where it has none
+abbrev pub incarnation_one : Record → ℕ → ℕ
+incarnation_one (Restart i) n = i
+incarnation_one _ n = n
+
+abbrev pub incarnation_of : List Record → ℕ
+incarnation_of [] = 0
+incarnation_of (r ∷ log) = incarnation_one r (incarnation_of log)
+
+-- whose record it is
+abbrev pub txn_of : Record → Option Txn
+txn_of (PageOp t n page slot before after) = Some t
+txn_of (PageUndo t n undone page slot after) = Some t
+txn_of (OpEnd t n level deed) = Some t
+txn_of (OpVoid t n) = Some t
+txn_of (CompEnd t n undone) = Some t
+txn_of (Commit t) = Some t
+txn_of (Restart i) = None
+txn_of (AbortEnd t) = Some t
+
+-- incarnations are counted from 1 on, and each record is of the running one
+abbrev pub IsOf : ℕ → Option Txn → Type 0
+IsOf i None = Unit {0}
+IsOf i (Some t) = (1 ≤ i) × (t.incarnation ≡ i)
+
+abbrev pub IsNext : ℕ → Record → Type 0
+IsNext i (Restart j) = j ≡ i + 1
+IsNext i r = IsOf i (txn_of r)
+
+abbrev pub InOrder : List Record → Type 0
+InOrder [] = Unit {0}
+InOrder (r ∷ log) = IsNext (incarnation_of log) r × InOrder log
+
+-- each before-image of the log is a slot of the store
+abbrev pub IsBefore : Sizes → Record → Type 0
+IsBefore z (PageOp t n page slot before after) = IsSlotOf z page slot before
+IsBefore z _ = Unit {0}
+
+abbrev pub BeforesAreSlots : Sizes → List Record → Type 0
+BeforesAreSlots z [] = Unit {0}
+BeforesAreSlots z (r ∷ log) = IsBefore z r × BeforesAreSlots z log
+
+-- a legal log of the store
+pub record IsWhole (z : Sizes) (log : List Record) : Type 0 where
+  pub legal : Legal (layout_of z) (items z log)
+  pub groups : KeepsGroups (items z log)
+  pub rules : KeepsRules log
+  pub reads : Reads log
+  pub in_store : InStore z log
+  pub befores : BeforesAreSlots z log
+  pub order : InOrder log
+
+-- the slots that a log leaves
+abbrev pub left_by : Sizes → List Record → Slots_state
+left_by z log = state_of (layout_of z) (items z log)
+
+-- what is finished, the newest first
+abbrev pub placed_one : Finished → Placed
+placed_one f = record { lsn = f.lsn; deed = f.deed }
+
+abbrev pub placed : List Finished → List Placed
+placed fs = reverse (map placed_one fs)
+
+-- t holds the end that the deed needs
+abbrev pub HoldsFor : HeldEnds → Txn → Deed → Type 0
+HoldsFor ends t (Append sender sequence tag previous body) = has_held t sender ends.sending ≡ true
+HoldsFor ends t (UnlinkHead sender sequence tag body) = has_held t sender ends.receiving ≡ true
+HoldsFor ends t (Close sender) = has_held t sender ends.sending ≡ true
+
+abbrev pub AllHeld : HeldEnds → Txn → List Finished → Type 0
+AllHeld ends t [] = Unit {0}
+AllHeld ends t (f ∷ fs) = HoldsFor ends t f.deed × AllHeld ends t fs
+
+-- a send: for now no other operation is started
+abbrev pub IsSend : Deed → Type 0
+IsSend (Append sender sequence tag previous body) = Unit {0}
+IsSend _ = ⊥
+
+abbrev pub AllSends : List Finished → Type 0
+AllSends [] = Unit {0}
+AllSends (f ∷ fs) = IsSend f.deed × AllSends fs
+
+-- every page is latched by the one operation under way
+abbrev pub everywhere : ℕ → Bool
+everywhere page = true
+
+-- What is so of the operation under way: its plan fits the slots as they were at its start, and what is made of it is a beginning of the plan.
+pub record IsGoing (z : Sizes) (log : List Record) (ends : HeldEnds) (t : Txn) (u : Under) : Type 0 where
+  pub made : u.made ≤ length u.writes
+  pub going : over (operation t u.number) (items z log) ≡ false
+  pub forward : turned_back (operation t u.number) (items z log) ≡ false
+  pub uncrossed : (p : ℕ) → crossed (layout_of z).page (operation t u.number) p (items z log) ≡ false
+  pub written : (left_by z log).writes (operation t u.number) ≡ reverse (take u.made (writes_of z u.writes))
+  pub owes : Owes (layout_of z).page (left_by z log) (operation t u.number) everywhere (drop u.made (writes_of z u.writes))
+  pub plan : IsPlan (layout_of z) (Did u.deed) (reverse (writes_of z u.writes))
+  pub told : Told u.deed (view (items z log) (deed_sender u.deed))
+  pub held : HoldsFor ends t u.deed
+  pub send : IsSend u.deed
+  pub sender : deed_sender u.deed < sender_count z
+  pub reads : deed_in (spelled_deed u.deed) ≡ Some u.deed
+
+abbrev pub IsGoingOf : Sizes → List Record → HeldEnds → Row → Option Under → Type 0
+IsGoingOf z log ends r None = Unit {0}
+IsGoingOf z log ends r (Some u) = IsGoing z log ends r.txn u × (r.number ≡ u.number)
+
+-- the operation of this number is under way
+abbrev pub is_under : ℕ → Option Under → Bool
+is_under n None = false
+is_under n (Some u) = nat_eq u.number n
+
+-- what is so of a transaction that has not ended
+pub record IsRow (z : Sizes) (log : List Record) (ends : HeldEnds) (incarnation begins : ℕ) (r : Row) : Type 0 where
+  pub of_incarnation : r.txn.incarnation ≡ incarnation
+  pub counted : r.txn.count ≤ begins
+  pub forward : r.aborting ≡ false
+  pub running : has_end log r.txn ≡ false
+  pub undid_nothing : has_undone log r.txn ≡ false
+  pub done : open_deeds r.txn (items z log) ≡ placed r.finished
+  pub held : AllHeld ends r.txn r.finished
+  pub sends : AllSends r.finished
+  pub numbered : (n : ℕ) → r.number < n → began (operation r.txn n) (items z log) ≡ false
+  pub idle : (n : ℕ) → is_under n r.under ≡ false → under_way (operation r.txn n) (items z log) ≡ false
+  pub going : IsGoingOf z log ends r r.under
+
+-- no two transactions hold an end, and each that holds one has not ended
+pub record AreEnds (rows : List Row) (hs : List Held) : Type 0 where
+  pub one : (t u : Txn) (s : ℕ) → has_held t s hs ≡ true → has_held u s hs ≡ true → t ≡ u
+  pub living : (t : Txn) (s : ℕ) → has_held t s hs ≡ true → is_some (found_row t rows) ≡ true
+
+-- t has nothing open in the log
+pub record IsSettled (z : Sizes) (log : List Record) (t : Txn) : Type 0 where
+  pub settled : open_deeds t (items z log) ≡ []
+  pub unused : has_end log t ≡ false → deeds (λ u. same_txn u t) log ≡ []
+  pub idle : (n : ℕ) → under_way (operation t n) (items z log) ≡ false
+
+-- the messages that finished operations took
+abbrev pub takes_of : Deed → ℕ
+takes_of (UnlinkHead sender sequence tag body) = 1
+takes_of _ = 0
+
+abbrev pub takes_one : Finished → ℕ
+takes_one f = takes_of f.deed
+
+abbrev pub appends_of : Deed → ℕ
+appends_of (Append sender sequence tag previous body) = 1
+appends_of _ = 0
+
+abbrev pub appending : Option Under → ℕ
+appending None = 0
+appending (Some u) = appends_of u.deed
+
+-- the cells of its messages that no chain holds: those that it took, and that of a send under way
+abbrev pub apart : Row → ℕ
+apart r = sum_by takes_one r.finished + appending r.under
+
+-- The store goes back to a legal log.
+pub record IsSound (s : State) : Type 0 where
+  pub range : IsInRange s.sizes
+  pub log : IsWhole s.sizes s.records
+  pub incarnation : incarnation_of s.records ≡ s.incarnation
+  pub some : 1 ≤ s.incarnation
+  pub strangers : (t : Txn) → t.incarnation ≡ s.incarnation → s.begins < t.count → IsStranger t s.records
+  pub pages : (a : ℕ) → slots_in s.sizes s.images a ≡ (left_by s.sizes s.records).slots a
+  pub rows : (r : Row) → In r s.rows → IsRow s.sizes s.records s.ends s.incarnation s.begins r
+  pub distinct : AreDistinct s.rows
+  pub others : (t : Txn) → found_row t s.rows ≡ None → IsSettled s.sizes s.records t
+  pub one_going : (r q : Row) → In r s.rows → In q s.rows → is_some r.under ≡ true → is_some q.under ≡ true → r ≡ q
+  pub sending : AreEnds s.rows s.ends.sending
+  pub receiving : AreEnds s.rows s.ends.receiving
+  pub cells : s.cells_in_use ≡ legal.cells_in_use (size_of s.sizes) (ledger_of s)
+  pub bound : s.cells_in_use ≤ cell_count s.sizes
+  pub used : count_used s.sizes (left_by s.sizes s.records).quiet + sum_by apart s.rows ≡ s.cells_in_use
+  pub forced : s.forced ≤ length s.records

@@ -1,0 +1,19 @@
+use Rattle.std.proofs.Common.{refl}
+use Rattle.rq_txn.specs.Rows.{row_stepped}
+use Rattle.rq_txn.proofs.Standing.{left_found, seen_at, seen_absent, seen_changed, distinct_changed}
+use Rattle.rq_txn.proofs.Transactions.step.Goals as goal
+
+pub step-requires : goal.step-requires
+step-requires c =
+    let i = c.self.inside in
+    let m = c.index_mut.result.now in
+    left_found c.args.txn c.args.self.now m (seen_at c.args.txn i.rows.items c.deref.result.now c.args.self.now c.in-Some.place m c.deref.ensures.value c.in-Some.ensures c.index_mut.ensures.value c.self.view_is c.self.invariant) c.requires
+
+pub invariant_of-self : goal.invariant_of-self
+invariant_of-self c = distinct_changed c.args.txn row_stepped c.self.inside.rows.items c.deref.result.now c.in-Some.place c.index_mut.result.now c.step.new.self (λ r. refl) c.deref.ensures.value c.in-Some.ensures c.index_mut.ensures.value c.self.invariant c.step.ensures
+
+pub returns-in-Some : goal.returns-in-Some
+returns-in-Some c = seen_changed c.args.txn row_stepped c.self.inside.rows.items c.deref.result.now c.args.self.now c.in-Some.place c.index_mut.result.now c.step.new.self c.deref.ensures.value c.in-Some.ensures c.index_mut.ensures.value c.self.view_is c.self.invariant c.step.ensures
+
+pub returns-in_default : goal.returns-in_default
+returns-in_default c = seen_absent c.args.txn row_stepped c.self.inside.rows.items c.deref.result.now c.args.self.now c.deref.ensures.value c.self.view_is c.self.invariant c.in_default.ensures

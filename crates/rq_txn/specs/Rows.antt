@@ -1,0 +1,84 @@
+-- The transactions that have not ended, the newest first.
+use Rattle.std.specs.Prelude.{◌≡◌, ℕ, ◌+◌, ◌<◌, Bool, false, cond, not, ◌||◌, List, [], ◌∷◌, ◌++◌, Option, Some, None, map, length, slice_index_or}
+use Rattle.std.specs.List.{filter}
+use Rattle.rq_model.specs.declared.txn.Txn.{Txn}
+use Rattle.rq_model.specs.declared.record.Deed.{Deed}
+use Rattle.rq_model.specs.Words.{same_txn, is_some}
+use Rattle.rq_chain.specs.declared.SlotWrite.{SlotWrite}
+use Rattle.rq_txn.specs.declared.Finished.{Finished}
+use Rattle.rq_txn.specs.declared.Operation.{Operation}
+use Rattle.rq_txn.specs.declared.Transaction.{Transaction}
+
+-- an operation under way: its slot writes in order, and how many of them are made
+pub record Under : Type 0 where
+  pub number : ℕ
+  pub writes : List SlotWrite
+  pub made : ℕ
+  pub deed : Deed
+
+-- a transaction that has not ended, with what it has finished, in order
+pub record Row : Type 0 where
+  pub txn : Txn
+  pub aborting : Bool
+  pub finished : List Finished
+  pub number : ℕ
+  pub under : Option Under
+
+abbrev pub under_of : Operation → Under
+under_of o = record { number = o.number; writes = o.writes.items; made = o.made; deed = o.deed }
+
+abbrev pub under_way_of : Option Operation → Option Under
+under_way_of None = None
+under_way_of (Some o) = Some (under_of o)
+
+abbrev pub row_of : Transaction → Row
+row_of t = record { txn = t.txn; aborting = t.aborting; finished = t.finished.items; number = t.number; under = under_way_of t.under_way }
+
+abbrev pub fresh_row : Txn → Row
+fresh_row t = record { txn = t; aborting = false; finished = []; number = 0; under = None }
+
+-- the transaction's row
+abbrev pub found_row : Txn → List Row → Option Row
+found_row t [] = None
+found_row t (r ∷ rows) = cond (same_txn r.txn t) (Some r) (found_row t rows)
+
+abbrev pub change_row_one : Txn → (Row → Row) → Row → Row
+change_row_one t f r = cond (same_txn r.txn t) (f r) r
+
+-- the rows with the transaction's changed
+abbrev pub change_row : Txn → (Row → Row) → List Row → List Row
+change_row t f rows = map (change_row_one t f) rows
+
+abbrev pub without_row : Txn → List Row → List Row
+without_row t rows = filter (λ r. not (same_txn r.txn t)) rows
+
+-- no transaction has two rows
+abbrev pub AreDistinct : List Row → Type 0
+AreDistinct [] = Unit {0}
+AreDistinct (r ∷ rows) = (found_row r.txn rows ≡ None) × AreDistinct rows
+
+-- the operation is under way
+abbrev pub row_started : Under → Row → Row
+row_started u r = record r { number = u.number; under = Some u }
+
+-- one more of its writes is made
+abbrev pub under_stepped : Option Under → Option Under
+under_stepped None = None
+under_stepped (Some u) = Some (record u { made = u.made + 1 })
+
+abbrev pub row_stepped : Row → Row
+row_stepped r = record r { under = under_stepped r.under }
+
+-- it is finished
+abbrev pub row_finished : Finished → Row → Row
+row_finished f r = record r { finished = r.finished ++ f ∷ []; under = None }
+
+-- some operation is under way
+abbrev pub any_under : List Row → Bool
+any_under [] = false
+any_under (r ∷ rows) = is_some r.under || any_under rows
+
+-- where the transaction's row stands
+abbrev pub PlaceOf : List Transaction → Txn → Option ℕ → Type 0
+PlaceOf rows t None = found_row t (map row_of rows) ≡ None
+PlaceOf rows t (Some i) = (i < length rows) × ((d : Transaction) → (slice_index_or rows i d).txn ≡ t) × ((d : Transaction) → found_row t (map row_of rows) ≡ Some (row_of (slice_index_or rows i d)))

@@ -1,0 +1,228 @@
+//! The transactions that have not ended.
+#![tactic(auto)]
+
+ghost use Rattle.std.specs.Prelude.{◌<◌, ◌≤◌, IsSome, vec_capacity, vec_len};
+
+use rq_chain::SlotWrite;
+use rq_model::record::Deed;
+use rq_model::refusal::NoMemory;
+use rq_model::txn::{Lsn, Txn};
+use std::alloc::Global;
+use std::marker::Model;
+
+mod scans;
+
+/// The most transactions that have not ended.
+pub const TRANSACTIONS: usize = 4096;
+
+/// An operation that is finished and not undone.
+#[derive(Clone, Copy)]
+pub struct Finished {
+    /// The LSN of its OpEnd.
+    pub lsn: Lsn,
+    /// What that says was done.
+    pub deed: Deed,
+}
+
+/// An operation under way.
+#[derive(Drop)]
+pub struct Operation {
+    /// Its number, from 1.
+    pub number: u64,
+    /// Its slot writes, in order.
+    pub writes: Vec<SlotWrite>,
+    /// How many of them are made.
+    pub made: usize,
+    /// What its end will say was done.
+    pub deed: Deed,
+    ghost numbered: { 1 ≤ number },
+}
+
+/// A transaction that has not ended. While it has an operation under way there is room for one more that is
+/// finished.
+#[derive(Drop)]
+pub struct Transaction {
+    /// Its number.
+    pub txn: Txn,
+    /// Whether it is aborting.
+    pub aborting: bool,
+    /// Its operations that are finished and not undone, in order.
+    pub finished: Vec<Finished>,
+    /// The greatest number of its operations, 0 where it has none.
+    pub number: u64,
+    /// Its operation under way, if there is one.
+    pub under_way: Option<Operation>,
+    ghost incarnation: { 1 ≤ txn.incarnation },
+    ghost count: { 1 ≤ txn.count },
+    ghost room: { IsSome under_way → vec_len finished < vec_capacity finished },
+}
+
+impl Transaction {
+    ghost use Rattle.std.specs.Prelude.{◌≡◌, ◌<◌, IfSome, IsSome, OnErr, OnOk, length};
+    ghost use Rattle.rq_txn.specs.Rows.{row_finished, row_of, row_started, row_stepped, under_of};
+
+    // The operation is under way.
+    fn start(&mut self, operation: Operation) -> Result<(), NoMemory>
+        ensures ok { OnOk result (row_of self.new ≡ row_started (under_of operation) (row_of self.old)) }
+        ensures err { OnErr result (row_of self.new ≡ row_of self.old) }
+    {
+        if self.finished.try_reserve(1).is_err() {
+            return Err(NoMemory);
+        }
+        self.number = operation.number;
+        self.under_way = Some(operation);
+        Ok(())
+    }
+
+    // One more write of the operation under way is made.
+    fn step(&mut self)
+        requires { IfSome self.old.under_way (λ operation. operation.made < length operation.writes.items) }
+        ensures { row_of self.new ≡ row_stepped (row_of self.old) }
+    {
+        if let Some(operation) = &mut self.under_way {
+            operation.made += 1;
+        }
+    }
+
+    // The operation under way is finished.
+    fn finish(&mut self, finished: Finished)
+        requires { IsSome self.old.under_way }
+        ensures { row_of self.new ≡ row_finished finished (row_of self.old) }
+    {
+        self.finished.push(finished).unwrap();
+        self.under_way = None;
+    }
+}
+
+/// The transactions that have not ended. Contracts see their rows, the newest first.
+#[derive(Drop)]
+pub struct Transactions {
+    alloc: Global,
+    rows: Vec<Transaction>,
+}
+
+impl Model for Transactions {
+    ghost use Rattle.std.specs.Prelude.{List, map, reverse};
+    ghost use Rattle.rq_txn.specs.Rows.{AreDistinct, Row, row_of};
+
+    ghost Value = { List Row };
+
+    ghost view = { λ t. reverse (map row_of t.rows.items) };
+
+    ghost invariant = { λ t. AreDistinct (map row_of t.rows.items) };
+}
+
+impl Transactions {
+    ghost use Rattle.std.specs.Prelude.{◌≡◌, ◌<◌, ◌≤◌, [], ◌∷◌, IfSome, IsSome, MatchOption, OnErr, OnOk, length, map, nat_lt, not, reverse};
+    ghost use Rattle.rq_txn.specs.Rows.{AreDistinct, any_under, change_row, found_row, fresh_row, row_finished, row_of, row_started, row_stepped, under_of, without_row};
+
+    /// No transaction.
+    pub fn new(alloc: Global) -> Self
+        ensures { result ≡ [] }
+    {
+        Transactions {
+            alloc,
+            rows: Vec::new(alloc),
+        }
+    }
+
+    /// Whether there are as many as there may be.
+    pub fn is_full(&self) -> bool
+        ensures { result ≡ not (nat_lt (length self.now) 4096) }
+    {
+        self.rows.len() >= TRANSACTIONS
+    }
+
+    /// Adds a transaction that has done nothing.
+    ///
+    /// # Errors
+    /// `NoMemory`: nothing changed.
+    pub fn begin(&mut self, txn: Txn) -> Result<(), NoMemory>
+        requires incarnation { 1 ≤ txn.incarnation }
+        requires count { 1 ≤ txn.count }
+        requires new { found_row txn self.old ≡ None }
+        ensures ok { OnOk result (self.new ≡ fresh_row txn ∷ self.old) }
+        ensures err { OnErr result (self.new ≡ self.old) }
+    {
+        let fresh = Transaction {
+            txn,
+            aborting: false,
+            finished: Vec::new(self.alloc),
+            number: 0,
+            under_way: None,
+        };
+        match self.rows.push(fresh) {
+            Ok(()) => Ok(()),
+            Err(_) => Err(NoMemory),
+        }
+    }
+
+    /// The transaction of this number, if it has not ended.
+    pub fn get(&self, txn: Txn) -> Option<&Transaction>
+        ensures found { MatchOption result (found_row txn self.now ≡ None) (λ row. found_row txn self.now ≡ Some (row_of row.now)) }
+        ensures named { IfSome result (λ row. row.now.txn ≡ txn) }
+        ensures incarnation { IfSome result (λ row. 1 ≤ row.now.txn.incarnation) }
+        ensures count { IfSome result (λ row. 1 ≤ row.now.txn.count) }
+        ensures numbered { IfSome result (λ row. IfSome row.now.under_way (λ operation. 1 ≤ operation.number)) }
+        ensures distinct { AreDistinct self.now }
+    {
+        let place = scans::place_of(&self.rows, txn)?;
+        Some(&self.rows[place])
+    }
+
+    /// Puts an operation of the transaction under way, with room for its end.
+    ///
+    /// # Errors
+    /// `NoMemory`: nothing changed.
+    pub fn start(&mut self, txn: Txn, operation: Operation) -> Result<(), NoMemory>
+        ensures ok { OnOk result (self.new ≡ change_row txn (row_started (under_of operation)) self.old) }
+        ensures err { OnErr result (self.new ≡ self.old) }
+    {
+        let Some(place) = scans::place_of(&self.rows, txn) else {
+            return Ok(());
+        };
+        self.rows[place].start(operation)
+    }
+
+    /// One more write of the transaction's operation under way is made.
+    pub fn step(&mut self, txn: Txn)
+        requires { IfSome (found_row txn self.old) (λ row. IfSome row.under (λ under. under.made < length under.writes)) }
+        ensures { self.new ≡ change_row txn row_stepped self.old }
+    {
+        if let Some(place) = scans::place_of(&self.rows, txn) {
+            self.rows[place].step();
+        }
+    }
+
+    /// The transaction's operation under way is finished.
+    pub fn finish(&mut self, txn: Txn, finished: Finished)
+        requires { IfSome (found_row txn self.old) (λ row. IsSome row.under) }
+        ensures { self.new ≡ change_row txn (row_finished finished) self.old }
+    {
+        if let Some(place) = scans::place_of(&self.rows, txn) {
+            self.rows[place].finish(finished);
+        }
+    }
+
+    /// Takes the transaction out.
+    pub fn end(&mut self, txn: Txn)
+        ensures { self.new ≡ without_row txn self.old }
+    {
+        self.rows.retain(|row| row.txn != txn);
+    }
+
+    /// Whether some transaction has an operation under way.
+    pub fn any_under_way(&self) -> bool
+        ensures { result ≡ any_under self.now }
+    {
+        scans::any_under_way(&self.rows)
+    }
+
+    /// The transactions, in the order of their begins.
+    pub fn rows(&self) -> &[Transaction]
+        ensures rows { reverse (map row_of result.now) ≡ self.now }
+        ensures distinct { AreDistinct self.now }
+    {
+        &self.rows
+    }
+}
