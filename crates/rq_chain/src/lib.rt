@@ -11,7 +11,7 @@ mod plans;
 mod tests;
 mod writes;
 
-pub use plans::append;
+pub use plans::{append, unlink_head};
 use rq_model::record::{Deed, Slot};
 use rq_page::addr::Addr;
 use rq_page::cell::Cell;

@@ -4,7 +4,7 @@ ghost use Rattle.rq_page.specs.Sizes.{IsCellAddress};
 ghost use Rattle.rq_page.specs.Slots.{IsCellOf, IsDirectoryOf, Used};
 ghost use Rattle.rq_level.specs.Chain.{directory_appended};
 ghost use Rattle.rq_level.specs.Items.{layout_of};
-ghost use Rattle.rq_level.specs.Plans.{append_writes, with_next};
+ghost use Rattle.rq_level.specs.Plans.{append_writes, unlink_head_writes, directory_head_unlinked, with_next, with_prev};
 ghost use Rattle.rq_chain.specs.Writes.{write_of, writes_of, cell_beside, IsSlotWrite, AreSlotWrites, IsNeighbour, IsNeighbourAt, IsGroupOf};
 
 use crate::writes::{cell_write, group_write, listed};
@@ -54,6 +54,38 @@ pub fn append(
     Ok(Plan { writes, deed })
 }
 
+/// Takes the first message off a chain: frees its cell, and has the next one, if there is one, come first.
+pub fn unlink_head(
+    alloc: Global,
+    layout: &Layout,
+    group: &Group,
+    head: &Neighbour,
+    next: Option<Neighbour>,
+) -> Result<Plan, NoMemory>
+    requires some { group.now.directory.received < group.now.directory.sent }
+    requires group { IsGroupOf layout.now group.now }
+    requires head { IsNeighbourAt layout.now group.now.directory.head head.now }
+    requires next { IsNeighbour layout.now head.now.cell.next next }
+    ensures writes { IfOk result (λ plan. reverse (writes_of layout.now plan.writes.items) ≡ unlink_head_writes (layout_of layout.now) group.now.sender group.now.directory head.now.cell (cell_beside next)) }
+    ensures slots { IfOk result (λ plan. AreSlotWrites layout.now plan.writes.items) }
+    ensures count { IfOk result (λ plan. MatchOption next (length plan.writes.items ≡ 2) (λ _. length plan.writes.items ≡ 3)) }
+    ensures deed { IfOk result (λ plan. plan.deed ≡ Deed.UnlinkHead group.now.sender (group.now.directory.received + 1) head.now.cell.tag head.now.cell.body) }
+{
+    let first = cell_write(layout, head.at, &CellSlot::Used(head.cell), &CellSlot::Free);
+    let last = group_write(layout, group, &head_unlinked(layout, group, &head.cell));
+    let writes = match &next {
+        None => listed(alloc, &[first, last])?,
+        Some(after) => listed(alloc, &[first, unlink_write(layout, after), last])?,
+    };
+    let deed = Deed::UnlinkHead {
+        sender: group.sender,
+        sequence: group.directory.received + 1,
+        tag: head.cell.tag,
+        body: head.cell.body,
+    };
+    Ok(Plan { writes, deed })
+}
+
 // The cell of a group's next message.
 fn next_cell(layout: &Layout, group: &Group, tag: u64, body: Body) -> Cell
     requires room { group.now.directory.sent < 2 ^ 64 - 1 }
@@ -93,6 +125,26 @@ fn appended(layout: &Layout, group: &Group, cell: Addr, tag: u64) -> Directory
     }
 }
 
+// What the directory says of a group without its first message, which stands in this cell.
+fn head_unlinked(layout: &Layout, group: &Group, head: &Cell) -> Directory
+    requires some { group.now.directory.received < group.now.directory.sent }
+    requires group { IsGroupOf layout.now group.now }
+    requires head { IsCellOf layout.now head.now }
+    ensures directory { result ≡ directory_head_unlinked group.now.directory head.now }
+    ensures fits { IsDirectoryOf layout.now group.now.sender (record { sender = group.now.sender; directory = result }) }
+{
+    let old = &group.directory;
+    let next = head.next;
+    Directory {
+        closed: old.closed,
+        sent: old.sent,
+        received: old.received + 1,
+        last_tag: old.last_tag,
+        head: next,
+        tail: if next.is_none() { Addr::NONE } else { old.tail },
+    }
+}
+
 // The write that has a cell followed by another one.
 fn link_write(layout: &Layout, before: &Neighbour, next: Addr) -> SlotWrite
     requires before { IsNeighbourAt layout.now before.now.at before.now }
@@ -105,6 +157,16 @@ fn link_write(layout: &Layout, before: &Neighbour, next: Addr) -> SlotWrite
     cell_write(layout, before.at, &CellSlot::Used(before.cell), &linked)
 }
 
+// The write that has no cell before a cell.
+fn unlink_write(layout: &Layout, after: &Neighbour) -> SlotWrite
+    requires after { IsNeighbourAt layout.now after.now.at after.now }
+    ensures write { write_of layout.now result ≡ record { at = after.now.at; before = Used after.now.cell; after = Used (with_prev 0 after.now.cell) } }
+    ensures slots { IsSlotWrite layout.now result }
+{
+    let unlinked = CellSlot::Used(preceded(&after.cell, Addr::NONE));
+    cell_write(layout, after.at, &CellSlot::Used(after.cell), &unlinked)
+}
+
 // The cell, followed by another one.
 fn followed(cell: &Cell, next: Addr) -> Cell
     ensures { result ≡ with_next next cell.now }
@@ -115,6 +177,20 @@ fn followed(cell: &Cell, next: Addr) -> Cell
         tag: cell.tag,
         next,
         prev: cell.prev,
+        body: cell.body,
+    }
+}
+
+// The cell, preceded by another one.
+fn preceded(cell: &Cell, prev: Addr) -> Cell
+    ensures { result ≡ with_prev prev cell.now }
+{
+    Cell {
+        sender: cell.sender,
+        sequence: cell.sequence,
+        tag: cell.tag,
+        next: cell.next,
+        prev,
         body: cell.body,
     }
 }

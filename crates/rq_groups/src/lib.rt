@@ -1,13 +1,19 @@
-//! Who holds which ends of groups.
+//! Who holds which ends of groups, and how many messages of each wait.
 #![tactic(auto)]
 
 ghost use Rattle.std.specs.Prelude.{◌≡◌, [], cond, drop, not, IfOk, OnErr, reverse};
 ghost use Rattle.rq_groups.specs.Ends.{has_held, is_free_for, with_held, released};
+ghost use Rattle.rq_groups.specs.Sides.{with_end, holds_end, without_newest};
+
+#[cfg(test)]
+mod tests;
+mod waiting;
 
 use rq_model::refusal::NoMemory;
 use rq_model::txn::Txn;
 use std::alloc::Global;
 use std::marker::Model;
+pub use waiting::Waiting;
 
 /// An end that a transaction holds.
 #[derive(Clone, Copy, Debug, PartialEq, Eq)]
@@ -16,6 +22,15 @@ pub struct Held {
     pub txn: Txn,
     /// The sender whose group it is of.
     pub sender: u32,
+}
+
+/// One of the two ends of a sender's group.
+#[derive(Clone, Copy, Debug, PartialEq, Eq)]
+pub enum End {
+    /// The end that messages are put in at, or the group is closed at.
+    Sending(u32),
+    /// The end that messages are taken out at.
+    Receiving(u32),
 }
 
 /// The ends that transactions hold. Contracts see the lists of them, the newest first.
@@ -82,6 +97,31 @@ impl Ends {
         ensures same { OnErr result (self.new ≡ self.old) }
     {
         take(&mut self.receiving, txn, sender)
+    }
+
+    /// Gives an end to the transaction, and answers whether it did not hold it before.
+    ///
+    /// # Errors
+    /// `NoMemory`: nothing changed.
+    pub fn take(&mut self, txn: Txn, end: End) -> Result<bool, NoMemory>
+        ensures taken { IfOk result (λ _. self.new ≡ with_end txn end self.old) }
+        ensures newly { IfOk result (λ new. new ≡ not (holds_end txn end self.old)) }
+        ensures same { OnErr result (self.new ≡ self.old) }
+    {
+        match end {
+            End::Sending(sender) => self.take_send(txn, sender),
+            End::Receiving(sender) => self.take_receive(txn, sender),
+        }
+    }
+
+    /// Undoes the last `take`, which was of this end, and whose answer says whether the end was newly held.
+    pub fn undo_take(&mut self, end: End, newly: bool)
+        ensures { self.new ≡ without_newest end newly self.old }
+    {
+        match end {
+            End::Sending(_) => self.undo_take_send(newly),
+            End::Receiving(_) => self.undo_take_receive(newly),
+        }
     }
 
     /// Undoes the last `take_send`, whose answer says whether the end was newly held.

@@ -1,9 +1,10 @@
 -- Pages in frames.
-use Rattle.std.proofs.Common.{◌≡◌, ◌≢◌, ℕ, ◌<◌, List, [], length, slice_set, slice_index_or, sym, ap, subst, arith, ◌∙◌}
+use Rattle.std.proofs.Common.{◌≡◌, ◌≢◌, ℕ, Bool, ◌<◌, List, [], length, slice_set, slice_index_or, sym, ap, subst, arith, ◌∙◌}
 use Rattle.std.proofs.lemmas.List.{map-set, get_or-map, get_or-set_same, get_or-set_other, length-map}
+use Rattle.std.proofs.Math.Seq.{map-set_same}
 use Rattle.rq_page.specs.Pages.{IsWritten}
 use Rattle.rq_pool.specs.declared.Frame.{Frame}
-use Rattle.rq_pool.specs.Frames.{image_of, images_of, framed_at}
+use Rattle.rq_pool.specs.Frames.{image_of, images_of, framed_at, was_changed, changed_of}
 
 -- the page in a frame
 pub framed_read : (fs : List Frame) (i : ℕ) (d : Frame) → i < length fs → framed_at fs i ≡ image_of (slice_index_or fs i d)
@@ -29,3 +30,12 @@ written_frame fs i j f g m n image lsn lt at slot read is =
     subst (λ (p : List ℕ). IsWritten p (framed_at (slice_set fs j g) i) n image lsn) (sym old)
     (subst (λ (p : List ℕ). IsWritten (image_of f) p n image lsn) (sym new)
     (subst (λ (k : ℕ). IsWritten (image_of f) (image_of g) k image lsn) slot is))
+
+-- which pages count as changed once a frame was set
+pub changed_set : (fs : List Frame) (i j : ℕ) (f : Frame) (b : Bool) → j ≡ i → f.changed ≡ b → changed_of (slice_set fs j f) ≡ slice_set (changed_of fs) i b
+changed_set fs i j f b at is =
+    map-set was_changed fs j f ∙ ap (λ k. slice_set (changed_of fs) k f.changed) at ∙ ap (slice_set (changed_of fs) i) is
+
+-- a frame with the same page
+pub images_kept : (fs : List Frame) (j : ℕ) (f g : Frame) → f ≡ slice_index_or fs j f → image_of g ≡ image_of f → images_of (slice_set fs j g) ≡ images_of fs
+images_kept fs j f g read same = map-set_same image_of fs j g f (same ∙ ap image_of read)

@@ -3,3 +3,4 @@ pub mod Counts
 pub mod Framed
 pub mod Slots
 pub mod Stands
+pub mod Writings

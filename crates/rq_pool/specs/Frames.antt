@@ -1,5 +1,5 @@
--- The images of pages in frames.
-use Rattle.std.specs.Prelude.{ℕ, List, map}
+-- The images of pages in frames, and which of them were changed.
+use Rattle.std.specs.Prelude.{ℕ, Bool, List, map}
 use Rattle.rq_pool.specs.declared.Frame.{Frame}
 use Rattle.rq_pool.specs.Pooled.{image_at}
 
@@ -12,3 +12,9 @@ images_of frames = map image_of frames
 -- the image of the page in a frame, by its number
 abbrev pub framed_at : List Frame → ℕ → List ℕ
 framed_at frames page = image_at (images_of frames) page
+
+abbrev pub was_changed : Frame → Bool
+was_changed frame = frame.changed
+
+abbrev pub changed_of : List Frame → List Bool
+changed_of frames = map was_changed frames

@@ -1,5 +1,5 @@
 -- What contracts see of the pages of a store.
-use Rattle.std.specs.Prelude.{◌≡◌, ℕ, List, [], length, slice_index_or}
+use Rattle.std.specs.Prelude.{◌≡◌, ℕ, Bool, false, List, [], length, slice_index_or}
 use Rattle.rq_page.specs.Sizes.{Sizes, IsInRange, page_count}
 use Rattle.rq_level.specs.Stored.{AreSlots}
 
@@ -8,10 +8,16 @@ pub record Pooled (P : Type 0) : Type 0 where
   pub sizes : Sizes
   -- the images of the pages, page 0 first
   pub images : List (List ℕ)
+  -- whether each page was changed since it was read or written
+  pub changed : List Bool
 
 -- the image of a page
 abbrev pub image_at : List (List ℕ) → ℕ → List ℕ
 image_at images page = slice_index_or images page []
+
+-- whether a page was changed since it was read or written
+abbrev pub is_changed : List Bool → ℕ → Bool
+is_changed changed page = slice_index_or changed page false
 
 -- what is so of the pages of a store: they are all there, and each slot is one of the store
 pub record IsPool (z : Sizes) (images : List (List ℕ)) : Type 0 where

@@ -1,7 +1,7 @@
 //! Pages in frames.
-ghost use Rattle.std.specs.Prelude.{◌≡◌, ◌≢◌, ◌/◌, ◌%◌, ◌<◌, ◌≤◌, ℕ, length};
+ghost use Rattle.std.specs.Prelude.{◌≡◌, ◌≢◌, ◌/◌, ◌%◌, ◌<◌, ◌≤◌, ℕ, true, false, length, slice_set};
 ghost use Rattle.rq_page.specs.Pages.{IsWritten};
-ghost use Rattle.rq_pool.specs.Frames.{framed_at};
+ghost use Rattle.rq_pool.specs.Frames.{framed_at, images_of, changed_of};
 
 use crate::Frame;
 use rq_model::record::Slot;
@@ -15,8 +15,19 @@ pub(crate) fn write_slot(frames: &mut Vec<Frame>, at: Addr, image: &Slot, lsn: L
     ensures count { length frames.new.items ≡ length frames.old.items }
     ensures page { IsWritten (framed_at frames.old.items (at / 16)) (framed_at frames.new.items (at / 16)) (at % 16) image.now lsn }
     ensures others { (p : ℕ) → p ≢ at / 16 → framed_at frames.new.items p ≡ framed_at frames.old.items p }
+    ensures changed { changed_of frames.new.items ≡ slice_set (changed_of frames.old.items) (at / 16) true }
 {
     let frame = &mut frames[at.page() as usize];
     frame.page.set_slot(at.slot(), image, lsn);
     frame.changed = true;
+}
+
+/// Has a page count as written.
+pub(crate) fn mark_written(frames: &mut Vec<Frame>, page: u32)
+    requires { page < length frames.old.items }
+    ensures images { images_of frames.new.items ≡ images_of frames.old.items }
+    ensures changed { changed_of frames.new.items ≡ slice_set (changed_of frames.old.items) page false }
+{
+    let frame = &mut frames[page as usize];
+    frame.changed = false;
 }

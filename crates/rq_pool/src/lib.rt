@@ -1,7 +1,7 @@
 //! The pages of the store, all of them in memory, over their device.
 #![tactic(auto)]
 
-ghost use Rattle.std.specs.Prelude.{◌≡◌, ◌≢◌, ◌↔◌, ◌<◌, ◌/◌, ◌%◌, ℕ, true, IsSome, IfSome, IfNone, IfErr, IfOk, OnOk, length};
+ghost use Rattle.std.specs.Prelude.{◌≡◌, ◌≢◌, ◌↔◌, ◌<◌, ◌/◌, ◌%◌, ℕ, true, false, IsSome, IfSome, IfNone, IfErr, IfOk, OnOk, length, replicate, slice_set};
 ghost use Rattle.rq_page.specs.Sizes.{IsCellAddress, page_count, sender_count, cell_count, directory_at};
 ghost use Rattle.rq_page.specs.Pages.{IsWritten};
 ghost use Rattle.rq_page.specs.Slots.{Free, Sender, held_in, IsSlotOf, IsCellOf, IsDirectoryOf};
@@ -14,7 +14,7 @@ mod reading;
 #[cfg(test)]
 mod tests;
 
-use crate::frames::write_slot;
+use crate::frames::{mark_written, write_slot};
 use crate::reading::{read_frames, read_superblock};
 use rq_disk::PageDevice;
 use rq_model::record::Slot;
@@ -35,7 +35,17 @@ pub struct Frame {
     pub changed: bool,
 }
 
-/// Every page of the store, by number. Contracts see the device, the sizes and the images.
+/// What was done for a page that was to be written.
+#[derive(Clone, Copy, Debug, PartialEq, Eq)]
+pub enum Written {
+    /// It was written.
+    Done,
+    /// It has no change that was not written.
+    Nothing,
+}
+
+/// Every page of the store, by number. Contracts see the device, the sizes, the images, and of each page
+/// whether it was changed since it was read or written.
 #[derive(Drop)]
 pub struct Pages<P: PageDevice> {
     device: P,
@@ -45,11 +55,11 @@ pub struct Pages<P: PageDevice> {
 
 impl<P: PageDevice> Model for Pages<P> {
     ghost use Rattle.rq_pool.specs.Pooled.{Pooled, IsPool};
-    ghost use Rattle.rq_pool.specs.Frames.{images_of};
+    ghost use Rattle.rq_pool.specs.Frames.{images_of, changed_of};
 
     ghost Value = { Pooled P };
 
-    ghost view = { λ p. record { device = p.device; sizes = p.layout; images = images_of p.frames.items } };
+    ghost view = { λ p. record { device = p.device; sizes = p.layout; images = images_of p.frames.items; changed = changed_of p.frames.items } };
 
     ghost invariant = { λ p. IsPool p.layout (images_of p.frames.items) };
 }
@@ -69,6 +79,7 @@ impl<P: PageDevice + Drop> Pages<P> {
     /// of a store's.
     pub fn load(alloc: Global, mut device: P) -> Result<Pages<P>, Stopped<P>>
         ensures pages { IfOk result (λ pages. ArePages pages.sizes (P.seen device) pages.images) }
+        ensures changed { IfOk result (λ pages. pages.changed ≡ replicate (page_count pages.sizes) false) }
         ensures stopped { IfErr result (λ stopped. StopsFor stopped.refusal (P.seen device) (P.faults device) (P.faults stopped.device)) }
         ensures cause { OnOk result (P.faults (device_of result) ≡ P.faults device) }
         ensures device { OnlyRead P.seen P.may_be P.moment P.left_since device (device_of result) }
@@ -101,6 +112,8 @@ impl<P: PageDevice + Drop> Pages<P> {
 }
 
 impl<P: PageDevice> Pages<P> {
+    ghost use Rattle.rq_pool.specs.Writing.{AnswersWhen, DeviceAfter, changed_after};
+
     /// The layout of the store.
     pub fn layout(&self) -> Layout
         ensures sizes { result ≡ self.now.sizes }
@@ -140,11 +153,41 @@ impl<P: PageDevice> Pages<P> {
         ensures slots { (a : ℕ) → slots_in self.old.sizes self.new.images a ≡ put (slots_in self.old.sizes self.old.images) at (held_in self.old.sizes (at / 16) image.now) a }
         ensures page { IsWritten (image_at self.old.images (at / 16)) (image_at self.new.images (at / 16)) (at % 16) image.now lsn }
         ensures others { (p : ℕ) → p ≢ at / 16 → image_at self.new.images p ≡ image_at self.old.images p }
+        ensures changed { self.new.changed ≡ slice_set self.old.changed (at / 16) true }
         ensures sizes { self.new.sizes ≡ self.old.sizes }
         ensures device { self.new.device ≡ self.old.device }
         ensures pool { IsPool self.new.sizes self.new.images }
     {
         write_slot(&mut self.frames, at, image, lsn);
+    }
+
+    /// Writes a page to the device, where it has a change that was not written and the log is forced up to its
+    /// LSN. What was written is durable only after a sync.
+    ///
+    /// # Errors
+    /// `NotForced` where the page's LSN is over `forced`: nothing changed. `DiskWrite` where the device failed:
+    /// the page still counts as changed.
+    pub fn write_back(&mut self, page: u32, forced: Lsn) -> Result<Written, Refusal>
+        ensures answer { AnswersWhen self.old page forced result }
+        ensures changed { self.new.changed ≡ changed_after self.old.changed page result }
+        ensures images { self.new.images ≡ self.old.images }
+        ensures sizes { self.new.sizes ≡ self.old.sizes }
+        ensures device { DeviceAfter P.seen P.may_be P.moment P.left_since P.faults page (image_at self.old.images page) self.old.device self.new.device result }
+    {
+        let Some(frame) = self.frames.get(page as usize) else {
+            return Ok(Written::Nothing);
+        };
+        if !frame.changed {
+            return Ok(Written::Nothing);
+        }
+        if frame.page.lsn() > forced {
+            return Err(Refusal::NotForced);
+        }
+        if self.device.write(page, frame.page.image()).is_err() {
+            return Err(Refusal::DiskWrite);
+        }
+        mark_written(&mut self.frames, page);
+        Ok(Written::Done)
     }
 
     /// What the directory says of a sender.

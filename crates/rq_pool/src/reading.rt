@@ -1,7 +1,7 @@
 //! Reads the pages of a device.
-ghost use Rattle.std.specs.Prelude.{◌≡◌, ◌↔◌, ◌<◌, ◌+◌, ◌%◌, ◌^◌, ◌++◌, ◌∷◌, [], IsTrue, IfOk, IfErr, OnOk};
+ghost use Rattle.std.specs.Prelude.{◌≡◌, ◌↔◌, ◌<◌, ◌+◌, ◌%◌, ◌^◌, ◌++◌, ◌∷◌, [], false, replicate, IsTrue, IfOk, IfErr, OnOk};
 ghost use Rattle.rq_page.specs.Sizes.{page_count};
-ghost use Rattle.rq_pool.specs.Frames.{images_of};
+ghost use Rattle.rq_pool.specs.Frames.{images_of, changed_of};
 ghost use Rattle.rq_pool.specs.Reading.{OnlyRead, IsSuperblock, IsSound, ArePages, StopsFor};
 
 use crate::Frame;
@@ -35,6 +35,7 @@ pub(crate) fn read_frames<P: PageDevice>(
     requires superblock { IsSuperblock layout.now (P.seen device.old 0) }
     requires first { superblock ≡ P.seen device.old 0 }
     ensures ok { IfOk result (λ frames. ArePages layout.now (P.seen device.old) (images_of frames.items)) }
+    ensures changed { IfOk result (λ frames. changed_of frames.items ≡ replicate (page_count layout.now) false) }
     ensures cause { OnOk result (P.faults device.new ≡ P.faults device.old) }
     ensures err { IfErr result (λ e. StopsFor e (P.seen device.old) (P.faults device.old) (P.faults device.new)) }
     ensures device { OnlyRead P.seen P.may_be P.moment P.left_since device.old device.new }
@@ -75,6 +76,7 @@ fn read_sound_page<P: PageDevice>(
 
 fn add_frame(frames: &mut Vec<Frame>, page: Page) -> Result<(), Refusal>
     ensures ok { OnOk result (images_of frames.new.items ≡ images_of frames.old.items ++ page ∷ []) }
+    ensures changed { OnOk result (changed_of frames.new.items ≡ changed_of frames.old.items ++ false ∷ []) }
     ensures err { IfErr result (λ e. e ≡ Refusal.NoMemory) }
 {
     let frame = Frame {

@@ -1,4 +1,4 @@
-use crate::Pages;
+use crate::{Pages, Written};
 use rq_disk::{CallKind, MemPages, Mishap, PAGE, PageDevice, Switch};
 use rq_model::message::Body;
 use rq_model::refusal::{Damage, Refusal};
@@ -78,5 +78,45 @@ fn a_failed_read_stops(rt: HostRuntime) -> Result<(), Fail> {
         return Err(Fail::from("the failure was not seen"));
     };
     assert_eq!(rt; stopped.refusal, Refusal::DiskRead);
+    Ok(())
+}
+
+#[test]
+fn a_page_waits_for_its_record(rt: HostRuntime) -> Result<(), Fail> {
+    let layout = Layout::new(1, 1).ok_or("a small store")?;
+    let switch = Switch::new(rt.alloc())?;
+    let device = formatted(rt.alloc(), &layout, switch.share()?)?;
+    let Ok(mut pages) = Pages::load(rt.alloc(), device) else {
+        return Err(Fail::from("load"));
+    };
+    assert_eq!(rt; pages.layout(), layout);
+    let free = layout.cell_addr(0);
+    let image = CellSlot::Free.encode();
+    assert!(rt; layout.check_slot(free.page() as u32, free.slot(), &image));
+    pages.set_slot(free, &image, 5);
+    // the next write fails, but a page that is not forced is not written
+    switch.arm_kind(CallKind::Write, Mishap::Fail);
+    assert_eq!(rt; pages.write_back(2, 4), Err(Refusal::NotForced));
+    assert_eq!(rt; pages.write_back(2, 5), Err(Refusal::DiskWrite));
+    assert_eq!(rt; pages.write_back(2, 5), Ok(Written::Done));
+    assert_eq!(rt; pages.write_back(2, 5), Ok(Written::Nothing));
+    let mut device = pages.give_back();
+    let mut seen = [0; PAGE];
+    assert!(rt; device.read(2, &mut seen).is_ok());
+    assert_eq!(rt; Page::from_image(&seen).lsn(), 5);
+    Ok(())
+}
+
+#[test]
+fn only_changes_are_written(rt: HostRuntime) -> Result<(), Fail> {
+    let layout = Layout::new(1, 1).ok_or("a small store")?;
+    let switch = Switch::new(rt.alloc())?;
+    let device = formatted(rt.alloc(), &layout, switch)?;
+    let Ok(mut pages) = Pages::load(rt.alloc(), device) else {
+        return Err(Fail::from("load"));
+    };
+    // a page as it was read, and one that the store has not
+    assert_eq!(rt; pages.write_back(2, 9), Ok(Written::Nothing));
+    assert_eq!(rt; pages.write_back(3, 9), Ok(Written::Nothing));
     Ok(())
 }

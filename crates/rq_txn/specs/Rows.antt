@@ -82,3 +82,8 @@ any_under (r ∷ rows) = is_some r.under || any_under rows
 abbrev pub PlaceOf : List Transaction → Txn → Option ℕ → Type 0
 PlaceOf rows t None = found_row t (map row_of rows) ≡ None
 PlaceOf rows t (Some i) = (i < length rows) × ((d : Transaction) → (slice_index_or rows i d).txn ≡ t) × ((d : Transaction) → found_row t (map row_of rows) ≡ Some (row_of (slice_index_or rows i d)))
+
+-- what a transaction has finished and not undone: nothing where it has no row
+abbrev pub finished_of : Option Row → List Finished
+finished_of None = []
+finished_of (Some r) = r.finished

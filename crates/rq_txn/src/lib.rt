@@ -114,7 +114,7 @@ impl Model for Transactions {
 
 impl Transactions {
     ghost use Rattle.std.specs.Prelude.{◌≡◌, ◌<◌, ◌≤◌, [], ◌∷◌, IfSome, IsSome, MatchOption, OnErr, OnOk, length, map, nat_lt, not, reverse};
-    ghost use Rattle.rq_txn.specs.Rows.{AreDistinct, any_under, change_row, found_row, fresh_row, row_finished, row_of, row_started, row_stepped, under_of, without_row};
+    ghost use Rattle.rq_txn.specs.Rows.{AreDistinct, any_under, change_row, finished_of, found_row, fresh_row, row_finished, row_of, row_started, row_stepped, under_of, without_row};
 
     /// No transaction.
     pub fn new(alloc: Global) -> Self
@@ -168,6 +168,16 @@ impl Transactions {
     {
         let place = scans::place_of(&self.rows, txn)?;
         Some(&self.rows[place])
+    }
+
+    /// The operations of a transaction that are finished and not undone: none where it has ended.
+    pub fn finished(&self, txn: Txn) -> &[Finished]
+        ensures { result.now ≡ finished_of (found_row txn self.now) }
+    {
+        match self.get(txn) {
+            Some(row) => &row.finished,
+            None => &[],
+        }
     }
 
     /// Puts an operation of the transaction under way, with room for its end.

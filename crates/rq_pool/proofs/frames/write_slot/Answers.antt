@@ -1,5 +1,5 @@
-use Rattle.std.proofs.Common.{◌∙◌}
-use Rattle.rq_pool.proofs.Framed.{written_frame, framed_other}
+use Rattle.std.proofs.Common.{◌∙◌, refl}
+use Rattle.rq_pool.proofs.Framed.{written_frame, framed_other, changed_set}
 use Rattle.rq_pool.proofs.frames.write_slot.Goals as goal
 
 pub returns-clause-page : goal.returns-clause-page
@@ -8,3 +8,6 @@ returns-clause-page c =
 
 pub returns-clause-others : goal.returns-clause-others
 returns-clause-others c = λ p ne. framed_other _ _ p _ (λ e. ne (e ∙ c.page.ensures))
+
+pub returns-clause-changed : goal.returns-clause-changed
+returns-clause-changed c = changed_set _ _ _ _ _ c.page.ensures refl

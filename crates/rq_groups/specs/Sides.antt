@@ -1,0 +1,21 @@
+-- Either end of a group, as one that is held.
+use Rattle.std.specs.Prelude.{Bool, cond, drop}
+use Rattle.rq_model.specs.declared.txn.Txn.{Txn}
+use Rattle.rq_groups.specs.declared.End.{End}
+use Rattle.rq_groups.specs.declared.End.TheVariants.{Sending, Receiving}
+use Rattle.rq_groups.specs.Ends.{HeldEnds, has_held, with_held}
+
+-- t holds the end
+abbrev pub holds_end : Txn → End → HeldEnds → Bool
+holds_end t (Sending s) ends = has_held t s ends.sending
+holds_end t (Receiving s) ends = has_held t s ends.receiving
+
+-- t holds the end too
+abbrev pub with_end : Txn → End → HeldEnds → HeldEnds
+with_end t (Sending s) ends = record { sending = with_held t s ends.sending; receiving = ends.receiving }
+with_end t (Receiving s) ends = record { sending = ends.sending; receiving = with_held t s ends.receiving }
+
+-- without what was newly taken last on that side
+abbrev pub without_newest : End → Bool → HeldEnds → HeldEnds
+without_newest (Sending s) newly ends = record { sending = cond newly (drop 1 ends.sending) ends.sending; receiving = ends.receiving }
+without_newest (Receiving s) newly ends = record { sending = ends.sending; receiving = cond newly (drop 1 ends.receiving) ends.receiving }

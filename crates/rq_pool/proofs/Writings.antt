@@ -1,0 +1,52 @@
+-- What every answer of a page that was to be written says.
+use Rattle.std.proofs.Common.{◌≡◌, ℕ, ◌<◌, ◌≤◌, List, Result, Ok, Err, true, false, refl, sym, subst, ◌∙◌, arith, inl}
+use Rattle.rq_model.specs.declared.refusal.Refusal.{Refusal}
+use Rattle.rq_model.specs.declared.refusal.Refusal.TheVariants as why
+use Rattle.rq_disk.specs.Device.{Images}
+use Rattle.rq_page.specs.Sizes.{page_count}
+use Rattle.rq_page.specs.Pages.{lsn_of}
+use Rattle.rq_pool.specs.declared.Written.{Written}
+use Rattle.rq_pool.specs.declared.Written.TheVariants.{Done, Nothing}
+use Rattle.rq_pool.specs.Pooled.{Pooled, image_at, is_changed}
+use Rattle.rq_pool.specs.Writing.{AnswersWhen, MayHaveWritten, DeviceAfter}
+
+module _ {D : Type 0} (seen : D → Images) (may_be : D → ℕ → List ℕ → Type 0) (moment : D → ℕ) (left_since : D → ℕ → Images → Type 0) (faults : D → ℕ) (page : ℕ) (image : List ℕ) where
+  -- a device that was left alone
+  left_alone : (old new : D) → new ≡ old → MayHaveWritten may_be moment left_since page image old new
+  left_alone old new same =
+      subst (MayHaveWritten may_be moment left_since page image old) (sym same) (record {
+        crash = λ p c may. inl may;
+        time = record { later = omega arith; nothing_else = λ t c before since. inl since; keeps = λ t c before past. past };
+      })
+
+  -- after each answer a crash leaves the image at most, and time went on
+  pub after_any : (old new : D) (r : Result Written Refusal) → DeviceAfter seen may_be moment left_since faults page image old new r → MayHaveWritten may_be moment left_since page image old new
+  after_any old new (Ok Done) after = after.1
+  after_any old new (Ok Nothing) after = left_alone old new after
+  after_any old new (Err why.DiskWrite) after = after.0
+  after_any old new (Err _) after = left_alone old new after
+
+-- of a page that the store has not, nothing is written
+pub nothing_past : {P : Type 0} (pages : Pooled P) (page forced : ℕ) (r : Result Written Refusal) → page_count pages.sizes ≤ page → AnswersWhen pages page forced r → r ≡ Ok Nothing
+nothing_past pages page forced (Ok Done) past when = absurd (omega (arith, when.0.of_store))
+nothing_past pages page forced (Ok Nothing) past when = refl
+nothing_past pages page forced (Err why.NotForced) past when = absurd (omega (arith, when.0.of_store))
+nothing_past pages page forced (Err why.DiskWrite) past when = absurd (omega (arith, when.0.of_store))
+nothing_past pages page forced (Err _) past when = absurd when
+
+-- of a page with no change, nothing is written
+pub nothing_new : {P : Type 0} (pages : Pooled P) (page forced : ℕ) (r : Result Written Refusal) → is_changed pages.changed page ≡ false → AnswersWhen pages page forced r → r ≡ Ok Nothing
+nothing_new pages page forced (Ok Done) same when = let no : true ≡ false = sym when.0.changed ∙ same in cc
+nothing_new pages page forced (Ok Nothing) same when = refl
+nothing_new pages page forced (Err why.NotForced) same when = let no : true ≡ false = sym when.0.changed ∙ same in cc
+nothing_new pages page forced (Err why.DiskWrite) same when = let no : true ≡ false = sym when.0.changed ∙ same in cc
+nothing_new pages page forced (Err _) same when = absurd when
+
+-- a change is not written before the log is forced so far
+pub not_forced : {P : Type 0} (pages : Pooled P) (page forced : ℕ) (r : Result Written Refusal) → is_changed pages.changed page ≡ true → forced < lsn_of (image_at pages.images page)
+    → AnswersWhen pages page forced r → r ≡ Err why.NotForced
+not_forced pages page forced (Ok Done) changed over when = absurd (omega (arith, when.1))
+not_forced pages page forced (Ok Nothing) changed over when = let no : true ≡ false = sym changed ∙ when in cc
+not_forced pages page forced (Err why.NotForced) changed over when = refl
+not_forced pages page forced (Err why.DiskWrite) changed over when = absurd (omega (arith, when.1))
+not_forced pages page forced (Err _) changed over when = absurd when
