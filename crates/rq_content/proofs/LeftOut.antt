@@ -1,55 +1,96 @@
--- What is left of a directory slot where a transaction's sends are left out.
-use Rattle.std.proofs.Common.{◌≡◌, ◌⊎◌, ℕ, ◌+◌, ◌-◌, List, [], ◌∷◌, ◌++◌, length, map, refl, sym, ◌∙◌, ap, subst, Bool, true, false, nat_eq, arith, inl, inr, Some, None}
+-- What is left of a directory slot where what a transaction sent and took is left out.
+use Rattle.std.proofs.Common.{◌≡◌, ◌⊎◌, ℕ, ◌+◌, ◌-◌, ◌≤◌, List, [], ◌∷◌, ◌++◌, length, map, take, drop, refl, sym, ◌∙◌, ap, subst, Bool, true, false, nat_eq, arith, inl, inr, Some, None}
 use Rattle.std.specs.List.{filter_map}
-use Rattle.std.proofs.lemmas.Bool.{cases_Bool}
-use Rattle.std.proofs.lemmas.List.{append-nil}
+use Rattle.std.proofs.lemmas.Bool.{cases_Bool, eqb-true}
+use Rattle.std.proofs.lemmas.List.{append-nil, append_assoc}
 use Rattle.rq_model.specs.declared.message.Message.{Message}
 use Rattle.rq_model.specs.declared.record.Deed.{Deed}
 use Rattle.rq_model.specs.declared.record.Deed.TheVariants.{Append, UnlinkHead, Close}
-use Rattle.rq_model.specs.Words.{sent_for}
+use Rattle.rq_model.specs.Words.{sent_for, taken_from}
 use Rattle.rq_model.specs.Content.{said, op_of, tag_after}
 use Rattle.rq_level.specs.Chain.{View}
+use Rattle.rq_level.specs.Committed.{message_of}
+use Rattle.rq_level.specs.Plans.{with_turn}
+use Rattle.rq_level.specs.Plans.Turn.{Did}
 use Rattle.rq_level.specs.Legal.{Placed}
-use Rattle.rq_level.specs.Groups.{is_sending, side, Told}
+use Rattle.rq_level.specs.Groups.{is_sending, is_taking, side, with_all, Told}
 use Rattle.rq_level.proofs.Deeds.{Sound}
 use Rattle.rq_txn.specs.declared.Finished.{Finished}
 use Rattle.rq_store.specs.State.{op_done}
-use Rattle.rq_store.specs.Sound.{IsSend, AllSends, placed, placed_one}
+use Rattle.rq_store.specs.Sound.{Moves, AllMove, placed, placed_one}
 use Rattle.rq_store.proofs.Holders.{placed_first}
-use Rattle.rq_content.specs.Read.{Before, without_deed, without_send, without_all, or_else}
+use Rattle.rq_content.specs.Read.{Before, without_deed, without_send, without_take, without_all, or_else}
 
 -- the deed does nothing for g
 record NotFor (g : ℕ) (d : Deed) : Type 0 where
-  none : sent_for g (op_of (said d)) ≡ None
+  unsent : sent_for g (op_of (said d)) ≡ None
+  untaken : taken_from g (op_of (said d)) ≡ None
   same : (b : Before) → without_deed g d b ≡ b
   off : is_sending g d ≡ false
+  free : is_taking g d ≡ false
 
 -- it sends for g, behind this tag
 record SendFor (g : ℕ) (d : Deed) : Type 0 where
   message : Message
   tag : ℕ
   some : sent_for g (op_of (said d)) ≡ Some message
+  untaken : taken_from g (op_of (said d)) ≡ None
   less : (b : Before) → without_deed g d b ≡ without_send tag b
   on : is_sending g d ≡ true
+  free : is_taking g d ≡ false
   told : (v : View) → Told d v → tag ≡ v.last_tag
 
-cases_deed : (g : ℕ) (d : Deed) → IsSend d → NotFor g d ⊎ SendFor g d
+-- it takes this message from g
+record TakeFor (g : ℕ) (d : Deed) : Type 0 where
+  tag : ℕ
+  body : List ℕ
+  unsent : sent_for g (op_of (said d)) ≡ None
+  some : taken_from g (op_of (said d)) ≡ Some (record { sender = g; tag = tag; body = body })
+  less : (b : Before) → without_deed g d b ≡ without_take (record { sender = g; tag = tag; body = body }) b
+  off : is_sending g d ≡ false
+  on : is_taking g d ≡ true
+  told : (v : View) → Told d v → (rest : List (ℕ × List ℕ)) × (v.messages ≡ (tag, body) ∷ rest)
+  next : (v : View) → (with_turn (Did d) v).messages ≡ drop 1 v.messages
+
+cases_deed : (g : ℕ) (d : Deed) → Moves d → NotFor g d ⊎ (SendFor g d ⊎ TakeFor g d)
 cases_deed g (Append r n tag previous body) is = elim (cases_Bool (nat_eq r g)) [
-  | inl y ↦ inr (record { message = record { sender = r; tag = tag; body = body }; tag = previous; some = rw y refl; less = λ b. rw y refl; on = y; told = λ v h. h.0 })
-  | inr k ↦ inl (record { none = rw k refl; same = λ b. rw k refl; off = k })
+  | inl y ↦ inr (inl (record { message = record { sender = r; tag = tag; body = body }; tag = previous; some = rw y refl; untaken = refl; less = λ b. rw y refl; on = y; free = refl; told = λ v h. h.0 }))
+  | inr k ↦ inl (record { unsent = rw k refl; untaken = refl; same = λ b. rw k refl; off = k; free = refl })
 ]
-cases_deed g (UnlinkHead r n tag body) is = absurd is
+cases_deed g (UnlinkHead r n tag body) is = elim (cases_Bool (nat_eq r g)) [
+  | inl y ↦ inr (inr (record {
+    tag = tag;
+    body = body;
+    unsent = refl;
+    some = rw y (ap (λ (s : ℕ). Some (record { sender = s; tag = tag; body = body })) (eqb-true r g y));
+    less = λ b. rw y refl;
+    off = refl;
+    on = y;
+    told = λ v h. (h.0, h.1);
+    next = λ v. refl;
+  }))
+  | inr k ↦ inl (record { unsent = refl; untaken = rw k refl; same = λ b. rw k refl; off = refl; free = k })
+]
 cases_deed g (Close r) is = absurd is
 
--- what was sent for g
+-- what was sent for g, and what was taken from it
 abbrev pub own : ℕ → List Finished → List Message
 own g fs = filter_map (sent_for g) (map op_done fs)
+
+abbrev pub own_taken : ℕ → List Finished → List Message
+own_taken g fs = filter_map (taken_from g) (map op_done fs)
 
 own_none : (g : ℕ) (f : Finished) (fs : List Finished) → sent_for g (op_of (said f.deed)) ≡ None → own g (f ∷ fs) ≡ own g fs
 own_none g f fs e = rw e refl
 
 own_some : (g : ℕ) (f : Finished) (fs : List Finished) (m : Message) → sent_for g (op_of (said f.deed)) ≡ Some m → own g (f ∷ fs) ≡ m ∷ own g fs
 own_some g f fs m e = rw e refl
+
+taken_none : (g : ℕ) (f : Finished) (fs : List Finished) → taken_from g (op_of (said f.deed)) ≡ None → own_taken g (f ∷ fs) ≡ own_taken g fs
+taken_none g f fs e = rw e refl
+
+taken_some : (g : ℕ) (f : Finished) (fs : List Finished) (m : Message) → taken_from g (op_of (said f.deed)) ≡ Some m → own_taken g (f ∷ fs) ≡ m ∷ own_taken g fs
+taken_some g f fs m e = rw e refl
 
 side_join : (p : Deed → Bool) (xs ys : List Placed) → side p (xs ++ ys) ≡ side p xs ++ side p ys
 side_join p [] ys = refl
@@ -68,41 +109,106 @@ not_nil : {X : Type 0} (xs : List X) (x : X) → xs ++ x ∷ [] ≡ [] → ⊥
 not_nil [] x e = cc
 not_nil (y ∷ ys) x e = cc
 
--- where nothing was sent for g, nothing is left out
-pub quiet : (g : ℕ) (fs : List Finished) (b : Before) → AllSends fs → side (is_sending g) (placed fs) ≡ [] → without_all g fs b ≡ b
-quiet g [] b h e = refl
-quiet g (f ∷ fs) b h e = elim (cases_deed g f.deed h.0) [
-  | inl k ↦ ap (without_all g fs) (k.same b) ∙ quiet g fs b h.1 (sym (side_off (is_sending g) f fs k.off) ∙ e)
-  | inr k ↦ absurd (not_nil (side (is_sending g) (placed fs)) f.deed (sym (side_on (is_sending g) f fs k.on) ∙ e))
+-- what sends change is the same
+pub record SameSends (a b : Before) : Type 0 where
+  pub sent : a.sent ≡ b.sent
+  pub previous : a.previous ≡ b.previous
+  pub closed : a.closed ≡ b.closed
+
+pub sends_same : (a : Before) → SameSends a a
+sends_same a = record { sent = refl; previous = refl; closed = refl }
+
+pub sends_through : (a b c : Before) → SameSends a b → SameSends b c → SameSends a c
+sends_through a b c h k = record { sent = h.sent ∙ k.sent; previous = h.previous ∙ k.previous; closed = h.closed ∙ k.closed }
+
+sends_are : (a b c d : Before) → a ≡ c → b ≡ d → SameSends c d → SameSends a b
+sends_are a b c d e f h = subst (λ (x : Before). SameSends x b) (sym e) (subst (λ (y : Before). SameSends c y) (sym f) h)
+
+-- what is left out is the same from what is the same
+pub respects : (g : ℕ) (fs : List Finished) (a b : Before) → AllMove fs → SameSends a b → SameSends (without_all g fs a) (without_all g fs b)
+respects g [] a b h s = s
+respects g (f ∷ fs) a b h s = respects g fs (without_deed g f.deed a) (without_deed g f.deed b) h.1 (elim (cases_deed g f.deed h.0) [
+  | inl k ↦ sends_are _ _ a b (k.same a) (k.same b) s
+  | inr l ↦ elim l [
+    | inl k ↦ sends_are _ _ (without_send k.tag a) (without_send k.tag b) (k.less a) (k.less b) (record { sent = ap (λ n. n - 1) s.sent; previous = ap (λ o. Some (or_else o k.tag)) s.previous; closed = s.closed })
+    | inr k ↦ let m : Message = record { sender = g; tag = k.tag; body = k.body } in sends_are _ _ (without_take m a) (without_take m b) (k.less a) (k.less b) (record { sent = s.sent; previous = s.previous; closed = s.closed })
+  ]
+])
+
+-- where nothing was sent for g, nothing of its sends is left out
+pub quiet_sends : (g : ℕ) (fs : List Finished) (b : Before) → AllMove fs → side (is_sending g) (placed fs) ≡ [] → SameSends (without_all g fs b) b
+quiet_sends g [] b h e = sends_same b
+quiet_sends g (f ∷ fs) b h e = elim (cases_deed g f.deed h.0) [
+  | inl k ↦ sends_are _ _ (without_all g fs b) b (ap (without_all g fs) (k.same b)) refl (quiet_sends g fs b h.1 (sym (side_off (is_sending g) f fs k.off) ∙ e))
+  | inr l ↦ elim l [
+    | inl k ↦ absurd (not_nil (side (is_sending g) (placed fs)) f.deed (sym (side_on (is_sending g) f fs k.on) ∙ e))
+    | inr k ↦
+        let m : Message = record { sender = g; tag = k.tag; body = k.body } in
+        let i = quiet_sends g fs (without_take m b) h.1 (sym (side_off (is_sending g) f fs k.off) ∙ e) in
+        sends_are _ _ (without_all g fs (without_take m b)) b (ap (without_all g fs) (k.less b)) refl (record { sent = i.sent; previous = i.previous; closed = i.closed })
+  ]
 ]
 
--- what is left where sends are left out
+-- what is left where these are left out
 pub record Left (g : ℕ) (fs : List Finished) (b a : Before) : Type 0 where
   pub sent : a.sent ≡ b.sent - length (own g fs)
   pub closed : a.closed ≡ b.closed
-  pub taken : a.taken ≡ b.taken
+  pub taken : a.taken ≡ b.taken ++ own_taken g fs
 
-pub own_left : (g : ℕ) (fs : List Finished) (b : Before) → AllSends fs → Left g fs b (without_all g fs b)
-own_left g [] b h = record { sent = omega arith; closed = refl; taken = refl }
+pub own_left : (g : ℕ) (fs : List Finished) (b : Before) → AllMove fs → Left g fs b (without_all g fs b)
+own_left g [] b h = record { sent = omega arith; closed = refl; taken = sym (append-nil b.taken) }
 own_left g (f ∷ fs) b h = elim (cases_deed g f.deed h.0) [
   | inl k ↦
       let i = own_left g fs b h.1 in
       let a : without_all g fs (without_deed g f.deed b) ≡ without_all g fs b = ap (without_all g fs) (k.same b) in
-      let n : length (own g (f ∷ fs)) ≡ length (own g fs) = ap length (own_none g f fs k.none) in
-      record { sent = ap (λ (x : Before). x.sent) a ∙ i.sent ∙ ap (λ k. b.sent - k) (sym n); closed = ap (λ (x : Before). x.closed) a ∙ i.closed; taken = ap (λ (x : Before). x.taken) a ∙ i.taken }
-  | inr k ↦
-      let i = own_left g fs (without_send k.tag b) h.1 in
-      let a : without_all g fs (without_deed g f.deed b) ≡ without_all g fs (without_send k.tag b) = ap (without_all g fs) (k.less b) in
-      let n : length (own g (f ∷ fs)) ≡ length (own g fs) + 1 = ap length (own_some g f fs k.message k.some) ∙ (omega arith) in
-      let m : b.sent - 1 - length (own g fs) ≡ b.sent - length (own g (f ∷ fs)) = omega (arith, n) in
-      record { sent = ap (λ (x : Before). x.sent) a ∙ i.sent ∙ m; closed = ap (λ (x : Before). x.closed) a ∙ i.closed; taken = ap (λ (x : Before). x.taken) a ∙ i.taken }
+      let n : length (own g (f ∷ fs)) ≡ length (own g fs) = ap length (own_none g f fs k.unsent) in record {
+        sent = ap (λ (x : Before). x.sent) a ∙ i.sent ∙ ap (λ k. b.sent - k) (sym n);
+        closed = ap (λ (x : Before). x.closed) a ∙ i.closed;
+        taken = ap (λ (x : Before). x.taken) a ∙ i.taken ∙ ap (λ l. b.taken ++ l) (sym (taken_none g f fs k.untaken));
+      }
+  | inr l ↦ elim l [
+    | inl k ↦
+        let i = own_left g fs (without_send k.tag b) h.1 in
+        let a : without_all g fs (without_deed g f.deed b) ≡ without_all g fs (without_send k.tag b) = ap (without_all g fs) (k.less b) in
+        let n : length (own g (f ∷ fs)) ≡ length (own g fs) + 1 = ap length (own_some g f fs k.message k.some) ∙ (omega arith) in
+        let m : b.sent - 1 - length (own g fs) ≡ b.sent - length (own g (f ∷ fs)) = omega (arith, n) in record {
+          sent = ap (λ (x : Before). x.sent) a ∙ i.sent ∙ m;
+          closed = ap (λ (x : Before). x.closed) a ∙ i.closed;
+          taken = ap (λ (x : Before). x.taken) a ∙ i.taken ∙ ap (λ l. b.taken ++ l) (sym (taken_none g f fs k.untaken));
+        }
+    | inr k ↦
+        let m : Message = record { sender = g; tag = k.tag; body = k.body } in
+        let i = own_left g fs (without_take m b) h.1 in
+        let a : without_all g fs (without_deed g f.deed b) ≡ without_all g fs (without_take m b) = ap (without_all g fs) (k.less b) in
+        let n : length (own g (f ∷ fs)) ≡ length (own g fs) = ap length (own_none g f fs k.unsent) in record {
+          sent = ap (λ (x : Before). x.sent) a ∙ i.sent ∙ ap (λ k. b.sent - k) (sym n);
+          closed = ap (λ (x : Before). x.closed) a ∙ i.closed;
+          taken = ap (λ (x : Before). x.taken) a ∙ i.taken ∙ append_assoc b.taken (m ∷ []) (own_taken g fs) ∙ ap (λ l. b.taken ++ l) (sym (taken_some g f fs m k.some));
+        }
+  ]
 ]
 
-kept_tag : (g : ℕ) (fs : List Finished) (b : Before) (p : ℕ) → AllSends fs → b.previous ≡ Some p → (without_all g fs b).previous ≡ Some p
+-- where nothing was taken from g, nothing of it is put back
+pub quiet_takes : (g : ℕ) (fs : List Finished) (b : Before) → AllMove fs → side (is_taking g) (placed fs) ≡ [] → (without_all g fs b).taken ≡ b.taken
+quiet_takes g fs b h e = (own_left g fs b h).taken ∙ ap (λ l. b.taken ++ l) (none fs h e) ∙ append-nil b.taken where
+  none : (fs : List Finished) → AllMove fs → side (is_taking g) (placed fs) ≡ [] → own_taken g fs ≡ []
+  none [] h e = refl
+  none (f ∷ fs) h e = elim (cases_deed g f.deed h.0) [
+    | inl k ↦ taken_none g f fs k.untaken ∙ none fs h.1 (sym (side_off (is_taking g) f fs k.free) ∙ e)
+    | inr l ↦ elim l [
+      | inl k ↦ taken_none g f fs k.untaken ∙ none fs h.1 (sym (side_off (is_taking g) f fs k.free) ∙ e)
+      | inr k ↦ absurd (not_nil (side (is_taking g) (placed fs)) f.deed (sym (side_on (is_taking g) f fs k.on) ∙ e))
+    ]
+  ]
+
+kept_tag : (g : ℕ) (fs : List Finished) (b : Before) (p : ℕ) → AllMove fs → b.previous ≡ Some p → (without_all g fs b).previous ≡ Some p
 kept_tag g [] b p h e = e
 kept_tag g (f ∷ fs) b p h e = elim (cases_deed g f.deed h.0) [
   | inl k ↦ ap (λ x. (without_all g fs x).previous) (k.same b) ∙ kept_tag g fs b p h.1 e
-  | inr k ↦ ap (λ x. (without_all g fs x).previous) (k.less b) ∙ kept_tag g fs (without_send k.tag b) p h.1 (ap (λ o. Some (or_else o k.tag)) e)
+  | inr l ↦ elim l [
+    | inl k ↦ ap (λ x. (without_all g fs x).previous) (k.less b) ∙ kept_tag g fs (without_send k.tag b) p h.1 (ap (λ o. Some (or_else o k.tag)) e)
+    | inr k ↦ ap (λ x. (without_all g fs x).previous) (k.less b) ∙ kept_tag g fs (without_take (record { sender = g; tag = k.tag; body = k.body }) b) p h.1 e
+  ]
 ]
 
 sound_last : (ds : List Deed) (d : Deed) (v : View) → Sound (ds ++ d ∷ []) v → Told d v
@@ -110,17 +216,55 @@ sound_last [] d v h = h.0
 sound_last (x ∷ ds) d v h = sound_last ds d v h.1
 
 -- the first send tells the tag that stood there before
-pub first_tag : (g : ℕ) (fs : List Finished) (b : Before) (v : View) → AllSends fs → b.previous ≡ None → Sound (side (is_sending g) (placed fs)) v → or_else (without_all g fs b).previous (tag_after v.last_tag (own g fs)) ≡ v.last_tag
+pub first_tag : (g : ℕ) (fs : List Finished) (b : Before) (v : View) → AllMove fs → b.previous ≡ None → Sound (side (is_sending g) (placed fs)) v → or_else (without_all g fs b).previous (tag_after v.last_tag (own g fs)) ≡ v.last_tag
 first_tag g [] b v h e k = ap (λ o. or_else o v.last_tag) e
 first_tag g (f ∷ fs) b v h e k = elim (cases_deed g f.deed h.0) [
   | inl n ↦
       ap (λ x. or_else (without_all g fs x).previous (tag_after v.last_tag (own g (f ∷ fs)))) (n.same b)
-      ∙ ap (λ l. or_else (without_all g fs b).previous (tag_after v.last_tag l)) (own_none g f fs n.none)
+      ∙ ap (λ l. or_else (without_all g fs b).previous (tag_after v.last_tag l)) (own_none g f fs n.unsent)
       ∙ first_tag g fs b v h.1 e (subst (λ ds. Sound ds v) (side_off (is_sending g) f fs n.off) k)
-  | inr s ↦
-      let last : Told f.deed v = sound_last (side (is_sending g) (placed fs)) f.deed v (subst (λ ds. Sound ds v) (side_on (is_sending g) f fs s.on) k) in
-      let kept : (without_all g fs (without_send s.tag b)).previous ≡ Some s.tag = kept_tag g fs (without_send s.tag b) s.tag h.1 (ap (λ o. Some (or_else o s.tag)) e) in
-      ap (λ x. or_else (without_all g fs x).previous (tag_after v.last_tag (own g (f ∷ fs)))) (s.less b)
-      ∙ ap (λ o. or_else o (tag_after v.last_tag (own g (f ∷ fs)))) kept
-      ∙ s.told v last
+  | inr l ↦ elim l [
+    | inl s ↦
+        let last : Told f.deed v = sound_last (side (is_sending g) (placed fs)) f.deed v (subst (λ ds. Sound ds v) (side_on (is_sending g) f fs s.on) k) in
+        let kept : (without_all g fs (without_send s.tag b)).previous ≡ Some s.tag = kept_tag g fs (without_send s.tag b) s.tag h.1 (ap (λ o. Some (or_else o s.tag)) e) in
+        ap (λ x. or_else (without_all g fs x).previous (tag_after v.last_tag (own g (f ∷ fs)))) (s.less b)
+        ∙ ap (λ o. or_else o (tag_after v.last_tag (own g (f ∷ fs)))) kept
+        ∙ s.told v last
+    | inr n ↦
+        let c = without_take (record { sender = g; tag = n.tag; body = n.body }) b in
+        ap (λ x. or_else (without_all g fs x).previous (tag_after v.last_tag (own g (f ∷ fs)))) (n.less b)
+        ∙ ap (λ l. or_else (without_all g fs c).previous (tag_after v.last_tag l)) (own_none g f fs n.unsent)
+        ∙ first_tag g fs c v h.1 e (subst (λ ds. Sound ds v) (side_off (is_sending g) f fs n.off) k)
+  ]
+]
+
+with_last : (ds : List Deed) (d : Deed) (v : View) → with_all (ds ++ d ∷ []) v ≡ with_all ds (with_turn (Did d) v)
+with_last [] d v = refl
+with_last (x ∷ ds) d v = ap (with_turn (Did x)) (with_last ds d v)
+
+-- what came first told the view, and the others that which it left
+sound_first : (ds : List Deed) (d : Deed) (v : View) → Sound (ds ++ d ∷ []) v → Sound ds (with_turn (Did d) v)
+sound_first [] d v h = tt
+sound_first (x ∷ ds) d v h = (subst (Told x) (with_last ds d v) h.0, sound_first ds d v h.1)
+
+-- what was taken are the first messages of the view
+pub record AreFirst (g : ℕ) (taken : List Message) (messages : List (ℕ × List ℕ)) : Type 0 where
+  pub within : length taken ≤ length messages
+  pub are : map (message_of g) (take (length taken) messages) ≡ taken
+
+pub takes_first : (g : ℕ) (fs : List Finished) (v : View) → AllMove fs → Sound (side (is_taking g) (placed fs)) v → AreFirst g (own_taken g fs) v.messages
+takes_first g [] v h k = record { within = omega arith; are = refl }
+takes_first g (f ∷ fs) v h k = elim (cases_deed g f.deed h.0) [
+  | inl n ↦ subst (λ l. AreFirst g l v.messages) (sym (taken_none g f fs n.untaken)) (takes_first g fs v h.1 (subst (λ ds. Sound ds v) (side_off (is_taking g) f fs n.free) k))
+  | inr l ↦ elim l [
+    | inl n ↦ subst (λ l. AreFirst g l v.messages) (sym (taken_none g f fs n.untaken)) (takes_first g fs v h.1 (subst (λ ds. Sound ds v) (side_off (is_taking g) f fs n.free) k))
+    | inr n ↦
+        let m : Message = record { sender = g; tag = n.tag; body = n.body } in
+        let k2 = subst (λ ds. Sound ds v) (side_on (is_taking g) f fs n.on) k in
+        let here = n.told v (sound_last (side (is_taking g) (placed fs)) f.deed v k2) in
+        let i = takes_first g fs (with_turn (Did f.deed) v) h.1 (sound_first (side (is_taking g) (placed fs)) f.deed v k2) in
+        let rest : (with_turn (Did f.deed) v).messages ≡ here.0 = n.next v ∙ ap (λ (l : List (ℕ × List ℕ)). drop 1 l) here.1 in
+        let j = subst (AreFirst g (own_taken g fs)) rest i in
+        subst (λ l. AreFirst g l v.messages) (sym (taken_some g f fs m n.some)) (subst (AreFirst g (m ∷ own_taken g fs)) (sym here.1) (record { within = (let w = j.within in omega (arith, w)); are = ap (λ l. m ∷ l) j.are }))
+  ]
 ]

@@ -6,7 +6,7 @@ use Rattle.std.specs.List.{filter_map}
 use Rattle.std.proofs.Math.Seq.{take-append_seam}
 use Rattle.std.proofs.lemmas.Bool.{cases_Bool}
 use Rattle.std.proofs.lemmas.Option.{same_Some}
-use Rattle.std.proofs.lemmas.List.{length-append, length-map, map-append}
+use Rattle.std.proofs.lemmas.List.{length-append, length-map, length-drop, map-append, append-nil, take-append-drop}
 use Rattle.rq_model.specs.declared.message.Message.{Message}
 use Rattle.rq_model.specs.declared.txn.Txn.{Txn}
 use Rattle.rq_model.specs.declared.refusal.Refusal.{Refusal}
@@ -24,7 +24,7 @@ use Rattle.rq_page.specs.declared.directory.Directory.{Directory}
 use Rattle.rq_page.specs.Sizes.{Sizes, directory_at, sender_count}
 use Rattle.rq_level.specs.Chain.{View, Cells, Node, Linked, first, message}
 use Rattle.rq_level.specs.Committed.{IsViewOf, message_of}
-use Rattle.rq_level.specs.Groups.{is_sending, side, committed}
+use Rattle.rq_level.specs.Groups.{is_sending, is_taking, side, committed}
 use Rattle.rq_level.specs.Items.{items}
 use Rattle.rq_level.specs.Legal.{open_deeds, view}
 use Rattle.rq_level.specs.Log.{cell_in, cells_of}
@@ -34,103 +34,150 @@ use Rattle.rq_level.proofs.GroupRule.{held}
 use Rattle.rq_level.proofs.Holders.{Held}
 use Rattle.rq_level.proofs.Holding.{Holds, view_holds, committed_is_group, tag_and_body}
 use Rattle.rq_store.specs.State.{State}
-use Rattle.rq_store.specs.Sound.{IsSound, AllSends, placed, left_by}
+use Rattle.rq_store.specs.Sound.{IsSound, AllMove, placed, left_by}
 use Rattle.rq_store.proofs.Chains as Chains
 use Rattle.rq_store.proofs.Chains.{closed_is}
 use Rattle.rq_store.proofs.RowLists.{found_in}
-use Rattle.rq_store.proofs.Telling.{told_placed, no_takes}
+use Rattle.rq_store.proofs.Telling.{told_placed}
 use Rattle.rq_content.specs.declared.GroupContent.{GroupContent}
 use Rattle.rq_content.specs.Read.{group_of, IsBroken, StopsFor, IsNoMemory, Before, start, without_all, without_rows, or_else, met, cells_in, shown_group, read_group}
 use Rattle.rq_content.proofs.Walks.{linked_over, met_linked}
-use Rattle.rq_content.proofs.LeftOut.{own, quiet, own_left, first_tag}
+use Rattle.rq_content.proofs.LeftOut.{own, own_taken, SameSends, sends_same, sends_through, respects, quiet_sends, quiet_takes, own_left, first_tag, AreFirst, takes_first}
 use Rattle.rq_content.proofs.OneRead.{Has, fields_are, read_is}
 
--- nothing is left out of these rows for g, but of that of t
-abbrev QuietBut : ℕ → Txn → List Row → Type 0
-QuietBut g t rows = (r : Row) → In r rows → same_txn r.txn t ≡ false → (b : Before) → without_all g r.finished b ≡ b
+-- of these rows none but t's sends for g
+abbrev NoneSends : ℕ → Txn → List Row → Type 0
+NoneSends g t rows = (r : Row) → In r rows → AllMove r.finished × (same_txn r.txn t ≡ false → side (is_sending g) (placed r.finished) ≡ [])
 
-rows_quiet : (g : ℕ) (t : Txn) (rows : List Row) (b : Before) → QuietBut g t rows → found_row t rows ≡ None → without_rows g rows b ≡ b
-rows_quiet g t [] b q e = refl
-rows_quiet g t (r ∷ rows) b q e = elim (cases_Bool (same_txn r.txn t)) [
+-- and none but t's takes from it
+abbrev NoneTakes : ℕ → Txn → List Row → Type 0
+NoneTakes g t rows = (r : Row) → In r rows → AllMove r.finished × (same_txn r.txn t ≡ false → side (is_taking g) (placed r.finished) ≡ [])
+
+sends_quiet : (g : ℕ) (t : Txn) (rows : List Row) (b : Before) → NoneSends g t rows → found_row t rows ≡ None → SameSends (without_rows g rows b) b
+sends_quiet g t [] b q e = sends_same b
+sends_quiet g t (r ∷ rows) b q e = elim (cases_Bool (same_txn r.txn t)) [
   | inl y ↦ let bad : Some r ≡ None = rw y at e in cc
-  | inr n ↦ q r (inl refl) n (without_rows g rows b) ∙ rows_quiet g t rows b (λ p i. q p (inr i)) (rw n at e)
+  | inr n ↦ let k = q r (inl refl) in sends_through _ (without_rows g rows b) b (quiet_sends g r.finished (without_rows g rows b) k.0 (k.1 n)) (sends_quiet g t rows b (λ p i. q p (inr i)) (rw n at e))
 ]
 
--- what is left out of all rows is what is left out of one
-rows_one : (g : ℕ) (t : Txn) (rows : List Row) (b : Before) (r : Row) → AreDistinct rows → QuietBut g t rows → found_row t rows ≡ Some r → without_rows g rows b ≡ without_all g r.finished b
-rows_one g t [] b r d q e = cc
-rows_one g t (p ∷ rows) b r d q e = elim (cases_Bool (same_txn p.txn t)) [
+-- what sends leave out of all rows is what they leave out of one
+sends_one : (g : ℕ) (t : Txn) (rows : List Row) (b : Before) (r : Row) → AreDistinct rows → NoneSends g t rows → found_row t rows ≡ Some r → SameSends (without_rows g rows b) (without_all g r.finished b)
+sends_one g t [] b r d q e = cc
+sends_one g t (p ∷ rows) b r d q e = elim (cases_Bool (same_txn p.txn t)) [
   | inl y ↦
       let same : p ≡ r = same_Some p r (rw y at e) in
       let none : found_row t rows ≡ None = ap (λ u. found_row u rows) (sym (same_is p.txn t y)) ∙ d.0 in
-      ap (without_all g p.finished) (rows_quiet g t rows b (λ x i. q x (inr i)) none) ∙ ap (λ (x : Row). without_all g x.finished b) same
-  | inr n ↦ q p (inl refl) n (without_rows g rows b) ∙ rows_one g t rows b r d.1 (λ x i. q x (inr i)) (rw n at e)
+      let k = respects g p.finished (without_rows g rows b) b (q p (inl refl)).0 (sends_quiet g t rows b (λ x i. q x (inr i)) none) in
+      subst (λ (x : Row). SameSends (without_all g p.finished (without_rows g rows b)) (without_all g x.finished b)) same k
+  | inr n ↦
+      let k = q p (inl refl) in
+      sends_through _ (without_rows g rows b) _ (quiet_sends g p.finished (without_rows g rows b) k.0 (k.1 n)) (sends_one g t rows b r d.1 (λ x i. q x (inr i)) (rw n at e))
 ]
 
--- what t has done and not ended, where all of it is sends
+takes_quiet : (g : ℕ) (t : Txn) (rows : List Row) (b : Before) → NoneTakes g t rows → found_row t rows ≡ None → (without_rows g rows b).taken ≡ b.taken
+takes_quiet g t [] b q e = refl
+takes_quiet g t (r ∷ rows) b q e = elim (cases_Bool (same_txn r.txn t)) [
+  | inl y ↦ let bad : Some r ≡ None = rw y at e in cc
+  | inr n ↦ let k = q r (inl refl) in quiet_takes g r.finished (without_rows g rows b) k.0 (k.1 n) ∙ takes_quiet g t rows b (λ p i. q p (inr i)) (rw n at e)
+]
+
+-- and so it is with takes
+takes_one : (g : ℕ) (t : Txn) (rows : List Row) (b : Before) (r : Row) → AreDistinct rows → NoneTakes g t rows → found_row t rows ≡ Some r → (without_rows g rows b).taken ≡ b.taken ++ own_taken g r.finished
+takes_one g t [] b r d q e = cc
+takes_one g t (p ∷ rows) b r d q e = elim (cases_Bool (same_txn p.txn t)) [
+  | inl y ↦
+      let same : p ≡ r = same_Some p r (rw y at e) in
+      let none : found_row t rows ≡ None = ap (λ u. found_row u rows) (sym (same_is p.txn t y)) ∙ d.0 in
+      (own_left g p.finished (without_rows g rows b) (q p (inl refl)).0).taken ∙ ap (λ l. l ++ own_taken g p.finished) (takes_quiet g t rows b (λ x i. q x (inr i)) none) ∙ ap (λ (x : Row). b.taken ++ own_taken g x.finished) same
+  | inr n ↦
+      let k = q p (inl refl) in
+      quiet_takes g p.finished (without_rows g rows b) k.0 (k.1 n) ∙ takes_one g t rows b r d.1 (λ x i. q x (inr i)) (rw n at e)
+]
+
+-- what t has done and not ended: messages sent and taken
 record DoneBy (s : State) (g : ℕ) (t : Txn) : Type 0 where
   finished : List Finished
-  sends : AllSends finished
+  moves : AllMove finished
   open_is : open_deeds t (items s.sizes s.records) ≡ placed finished
-  left_out : (b : Before) → QuietBut g t s.rows → without_rows g s.rows b ≡ without_all g finished b
+  sends_left : (b : Before) → NoneSends g t s.rows → SameSends (without_rows g s.rows b) (without_all g finished b)
+  takes_left : (b : Before) → NoneTakes g t s.rows → (without_rows g s.rows b).taken ≡ b.taken ++ own_taken g finished
 
 done_by : (s : State) (k : IsSound s) (g : ℕ) (t : Txn) → DoneBy s g t
 done_by s k g t = at (found_row t s.rows) refl where
   at : (o : Option Row) → found_row t s.rows ≡ o → DoneBy s g t
-  at None e = record { finished = []; sends = tt; open_is = (k.others t e).settled; left_out = λ b q. rows_quiet g t s.rows b q e }
+  at None e = record { finished = []; moves = tt; open_is = (k.others t e).settled; sends_left = λ b q. sends_quiet g t s.rows b q e; takes_left = λ b q. takes_quiet g t s.rows b q e ∙ sym (append-nil b.taken) }
   at (Some r) e =
       let i = found_in t s.rows r e in
       record {
         finished = r.finished;
-        sends = (k.rows r i.0).sends;
+        moves = (k.rows r i.0).moves;
         open_is = ap (λ u. open_deeds u (items s.sizes s.records)) (sym i.1) ∙ (k.rows r i.0).done;
-        left_out = λ b q. rows_one g t s.rows b r k.distinct q e;
+        sends_left = λ b q. sends_one g t s.rows b r k.distinct q e;
+        takes_left = λ b q. takes_one g t s.rows b r k.distinct q e;
       }
 
--- what t sent for g, and that it took nothing
+-- what t sent for g, and how many messages it took from it
 added_own : (s : State) (g : ℕ) (t : Txn) (d : DoneBy s g t) → added g (say (open_deeds t (items s.sizes s.records))) ≡ own g d.finished
 added_own s g t d = ap (λ ps. added g (say ps)) d.open_is ∙ sym (told_sent g (say (placed d.finished))) ∙ ap (filter_map (sent_for g)) (told_placed d.finished)
 
-removed_none : (s : State) (g : ℕ) (t : Txn) (d : DoneBy s g t) → removed g (say (open_deeds t (items s.sizes s.records))) ≡ 0
-removed_none s g t d = ap (λ ps. removed g (say ps)) d.open_is ∙ sym (told_taken g (say (placed d.finished))) ∙ ap (λ l. length (filter_map (taken_from g) l)) (told_placed d.finished) ∙ ap length (no_takes g d.finished d.sends)
+removed_own : (s : State) (g : ℕ) (t : Txn) (d : DoneBy s g t) → removed g (say (open_deeds t (items s.sizes s.records))) ≡ length (own_taken g d.finished)
+removed_own s g t d = ap (λ ps. removed g (say ps)) d.open_is ∙ sym (told_taken g (say (placed d.finished))) ∙ ap (λ l. length (filter_map (taken_from g) l)) (told_placed d.finished)
 
--- A chain that holds what is committed and then what its sender's holder sent, with the directory slot without those sends.
+-- A chain that holds what is committed without what its receiving holder took, and then what its sending holder sent, with the directory
+-- slot without those sends.
 record Shown (m : Cells) (g : ℕ) (d : Directory) (c : View) (a : Before) (sent : List Message) (nodes : List Node) : Type 0 where
   linked : Linked m g 0 (d.received + 1) nodes 0
   head : d.head ≡ first nodes 0
   count : d.sent ≡ d.received + length nodes
-  messages : map message nodes ≡ c.messages ++ map tag_and_body sent
-  received : d.received ≡ c.received
+  messages : map message nodes ≡ drop (length a.taken) c.messages ++ map tag_and_body sent
+  received : d.received ≡ c.received + length a.taken
   left : a.sent ≡ d.sent - length sent
-  taken : a.taken ≡ []
+  taken : AreFirst g a.taken c.messages
 
-many : (m : Cells) (g : ℕ) (d : Directory) (c : View) (a : Before) (sent : List Message) (nodes : List Node) → Shown m g d c a sent nodes → length nodes ≡ length c.messages + length sent
+many : (m : Cells) (g : ℕ) (d : Directory) (c : View) (a : Before) (sent : List Message) (nodes : List Node) → Shown m g d c a sent nodes → length nodes + length a.taken ≡ length c.messages + length sent
 many m g d c a sent nodes h =
-    sym (length-map nodes message) ∙ ap length h.messages ∙ length-append c.messages (map tag_and_body sent) ∙ ap (λ n. length c.messages + n) (length-map sent tag_and_body)
+    let e : length nodes ≡ length (drop (length a.taken) c.messages ++ map tag_and_body sent) = sym (length-map nodes message) ∙ ap length h.messages in
+    let f = length-append (drop (length a.taken) c.messages) (map tag_and_body sent) in
+    let k = length-drop (length a.taken) c.messages in
+    let n = length-map sent tag_and_body in
+    let w = h.taken.within in
+    omega (arith, e, f, k, n, w)
 
 -- what is met of it is committed
-met_committed : (m : Cells) (g : ℕ) (d : Directory) (c : View) (a : Before) (sent : List Message) (nodes : List Node) → Shown m g d c a sent nodes → met m g d.head (a.sent - d.received) ≡ map (message_of g) c.messages
+met_committed : (m : Cells) (g : ℕ) (d : Directory) (c : View) (a : Before) (sent : List Message) (nodes : List Node) → Shown m g d c a sent nodes → met m g d.head (a.sent - d.received) ≡ map (message_of g) (drop (length a.taken) c.messages)
 met_committed m g d c a sent nodes h =
     let n = many m g d c a sent nodes h in
-    let k : a.sent - d.received ≡ length c.messages = omega (arith, n, h.left, h.count) in
-    let le : length c.messages ≤ length nodes = omega (arith, n) in
-    ap (met m g d.head) k ∙ ap (λ x. met m g x (length c.messages)) h.head ∙ met_linked m g 0 (d.received + 1) nodes 0 (length c.messages) h.linked le
-    ∙ ap (λ l. map (message_of g) (take (length c.messages) l)) h.messages ∙ ap (map (message_of g)) (take-append_seam c.messages (map tag_and_body sent))
+    let rest = drop (length a.taken) c.messages in
+    let r : length rest ≡ length c.messages - length a.taken = length-drop (length a.taken) c.messages in
+    let w = h.taken.within in
+    let k : a.sent - d.received ≡ length rest = omega (arith, n, r, w, h.left, h.count) in
+    let le : length rest ≤ length nodes = omega (arith, n, r, w) in
+    ap (met m g d.head) k ∙ ap (λ x. met m g x (length rest)) h.head ∙ met_linked m g 0 (d.received + 1) nodes 0 (length rest) h.linked le
+    ∙ ap (λ l. map (message_of g) (take (length rest) l)) h.messages ∙ ap (map (message_of g)) (take-append_seam rest (map tag_and_body sent))
 
 -- so many are met
 met_many : (m : Cells) (g : ℕ) (d : Directory) (c : View) (a : Before) (sent : List Message) (nodes : List Node) → Shown m g d c a sent nodes → length (met m g d.head (a.sent - d.received)) ≡ a.sent - d.received
 met_many m g d c a sent nodes h =
     let n = many m g d c a sent nodes h in
-    ap length (met_committed m g d c a sent nodes h) ∙ length-map c.messages (message_of g) ∙ (omega (arith, n, h.left, h.count))
+    let rest = drop (length a.taken) c.messages in
+    let r : length rest ≡ length c.messages - length a.taken = length-drop (length a.taken) c.messages in
+    let w = h.taken.within in
+    ap length (met_committed m g d c a sent nodes h) ∙ length-map rest (message_of g) ∙ (omega (arith, n, r, w, h.left, h.count))
+
+-- with what was taken in front it is all that is committed
+taken_and_met : (m : Cells) (g : ℕ) (d : Directory) (c : View) (a : Before) (sent : List Message) (nodes : List Node) → Shown m g d c a sent nodes → map (message_of g) c.messages ≡ a.taken ++ met m g d.head (a.sent - d.received)
+taken_and_met m g d c a sent nodes h =
+    let k = length a.taken in
+    ap (map (message_of g)) (sym (take-append-drop k c.messages)) ∙ map-append (message_of g) (take k c.messages) (drop k c.messages) ∙ ap (λ l. l ++ map (message_of g) (drop k c.messages)) h.taken.are ∙ ap (λ l. a.taken ++ l) (sym (met_committed m g d c a sent nodes h))
 
 shows_group : (m : Cells) (g : ℕ) (d : Directory) (c : View) (a : Before) (sent : List Message) (nodes : List Node) (group : Group) → Shown m g d c a sent nodes → IsViewOf g group c
     → or_else a.previous d.last_tag ≡ c.last_tag → a.closed ≡ group.closed → shown_group m g d a ≡ group
 shows_group m g d c a sent nodes group h is tag closed =
     let n = many m g d c a sent nodes h in
-    let total : group.sent ≡ a.sent = omega (arith, n, h.left, h.count, h.received, is.received, is.sent) in
-    let none : length a.taken ≡ 0 = ap length h.taken in
-    let received : group.received ≡ d.received - length a.taken = omega (arith, h.received, is.received, none) in
-    let rest : group.rest ≡ a.taken ++ met m g d.head (a.sent - d.received) = is.rest ∙ sym (met_committed m g d c a sent nodes h) ∙ ap (λ l. l ++ met m g d.head (a.sent - d.received)) (sym h.taken) in
+    let w = h.taken.within in
+    let total : group.sent ≡ a.sent = omega (arith, n, w, h.left, h.count, h.received, is.received, is.sent) in
+    let received : group.received ≡ d.received - length a.taken = omega (arith, h.received, is.received) in
+    let rest : group.rest ≡ a.taken ++ met m g d.head (a.sent - d.received) = is.rest ∙ taken_and_met m g d c a sent nodes h in
     sym (fields_are group.sent group.last_tag group.received 0 group.closed group.rest m g d a total (sym is.last_tag ∙ sym tag) received (sym closed) rest)
 
 -- what a sound store shows of g
@@ -150,34 +197,40 @@ finds s k e g below =
     let c = committed its g in
     let h : Held g (λ u. open_deeds u its) (view its g) c = held g its k.log.groups in
     let t = h.sender in
-    let w : Holds g (say (open_deeds t its)) (say (open_deeds h.taker its)) c (view its g) = view_holds g its t h.taker k.log.groups h.sender_alone h.taker_alone in
+    let u = h.taker in
+    let w : Holds g (say (open_deeds t its)) (say (open_deeds u its)) c (view its g) = view_holds g its t u k.log.groups h.sender_alone h.taker_alone in
     let dt = done_by s k g t in
-    let none : removed g (say (open_deeds h.taker its)) ≡ 0 = removed_none s g h.taker (done_by s k g h.taker) in
+    let du = done_by s k g u in
     let own_is : added g (say (open_deeds t its)) ≡ own g dt.finished = added_own s g t dt in
     let x = Chains.shown s k e g below in
     let d = x.directory in
-    let quiets : QuietBut g t s.rows = λ r i n b. quiet g r.finished b (k.rows r i).sends (ap (side (is_sending g)) (sym (k.rows r i).done) ∙ h.sender_alone r.txn (not_same r.txn t n)) in
-    let left = own_left g dt.finished (start d) dt.sends in
-    let received : (view its g).received ≡ c.received = w.received ∙ ap (λ n. c.received + n) none ∙ (omega arith) in
+    let nobody_sends : NoneSends g t s.rows = λ r i. ((k.rows r i).moves, λ n. ap (side (is_sending g)) (sym (k.rows r i).done) ∙ h.sender_alone r.txn (not_same r.txn t n)) in
+    let nobody_takes : NoneTakes g u s.rows = λ r i. ((k.rows r i).moves, λ n. ap (side (is_taking g)) (sym (k.rows r i).done) ∙ h.taker_alone r.txn (not_same r.txn u n)) in
+    let a : Before = without_rows g s.rows (start d) in
+    let sends = dt.sends_left (start d) nobody_sends in
+    let left = own_left g dt.finished (start d) dt.moves in
+    let taken : a.taken ≡ own_taken g du.finished = du.takes_left (start d) nobody_takes in
+    let count : removed g (say (open_deeds u its)) ≡ length a.taken = removed_own s g u du ∙ ap length (sym taken) in
     record {
       directory = d;
       nodes = x.shows.nodes;
-      before = without_all g dt.finished (start d);
+      before = a;
       sent = own g dt.finished;
-      has = record { held = k.pages (directory_at g) ∙ x.at; before = sym (dt.left_out (start d) quiets) };
+      has = record { held = k.pages (directory_at g) ∙ x.at; before = refl };
       shows = record {
         linked = linked_over (cells_in s.sizes s.images) (cells_of (left_by s.sizes s.records).slots) (λ a. ap cell_in (k.pages a)) g 0 (d.received + 1) x.shows.nodes 0 x.shows.linked;
         head = x.shows.head;
         count = x.shows.sent;
-        messages = sym x.shows.messages ∙ w.messages ∙ ap (λ n. drop n c.messages ++ map tag_and_body (added g (say (open_deeds t its)))) none ∙ ap (λ l. c.messages ++ map tag_and_body l) own_is;
-        received = sym x.shows.received ∙ received;
-        left = left.sent;
-        taken = left.taken;
+        messages = sym x.shows.messages ∙ w.messages ∙ ap (λ n. drop n c.messages ++ map tag_and_body (added g (say (open_deeds t its)))) count ∙ ap (λ l. drop (length a.taken) c.messages ++ map tag_and_body l) own_is;
+        received = sym x.shows.received ∙ w.received ∙ ap (λ n. c.received + n) count;
+        left = sends.sent ∙ left.sent;
+        taken = subst (λ l. AreFirst g l c.messages) (sym taken) (takes_first g du.finished c du.moves (subst (λ ps. Sound (side (is_taking g) ps) c) du.open_is (h.takes u)));
       };
       tag =
-          ap (or_else (without_all g dt.finished (start d)).previous) (sym x.shows.last_tag ∙ w.last_tag ∙ ap (tag_after c.last_tag) own_is)
-          ∙ first_tag g dt.finished (start d) c dt.sends refl (subst (λ ps. Sound (side (is_sending g) ps) c) dt.open_is (h.sends t));
-      closed = left.closed ∙ sym x.shows.closed ∙ closed_is s k g;
+          ap (λ o. or_else o d.last_tag) sends.previous
+          ∙ ap (or_else (without_all g dt.finished (start d)).previous) (sym x.shows.last_tag ∙ w.last_tag ∙ ap (tag_after c.last_tag) own_is)
+          ∙ first_tag g dt.finished (start d) c dt.moves refl (subst (λ ps. Sound (side (is_sending g) ps) c) dt.open_is (h.sends t));
+      closed = sends.closed ∙ left.closed ∙ sym x.shows.closed ∙ closed_is s k g;
     }
 
 -- the committed content of a sender is what is read of it

@@ -1,32 +1,28 @@
 -- A transaction begins.
-use Rattle.std.proofs.Common.{◌≡◌, ◌≢◌, ℕ, ◌+◌, ◌-◌, ◌^◌, ◌<◌, ◌≤◌, ◌&&◌, ◌||◌, List, [], ◌∷◌, length, refl, sym, ◌∙◌, ap, subst, Bool, true, false, not, Option, Some, None, inl, inr, nat_eq, nat_lt, cond, arith}
-use Rattle.std.specs.List.{sum_by}
+use Rattle.std.proofs.Common.{◌≡◌, ℕ, ◌+◌, ◌-◌, ◌^◌, ◌≤◌, ◌&&◌, ◌||◌, List, [], ◌∷◌, length, refl, sym, ◌∙◌, ap, subst, true, false, not, Option, Some, None, inl, inr, nat_eq, nat_lt, arith}
 use Rattle.std.proofs.lemmas.Bool.{cases_Bool, true≢false, false_from_ne_true, or_parts, eq-eqb}
 use Rattle.std.proofs.lemmas.List.Sums.{sum_by-cons}
 use Rattle.rq_model.specs.declared.txn.Txn.{Txn}
 use Rattle.rq_model.specs.declared.record.Record.{Record}
 use Rattle.rq_model.specs.Words.{In, same_txn, is_some}
-use Rattle.rq_model.specs.Ledger.{Open, Ledger, after, fresh_one}
-use Rattle.rq_model.specs.Legal.{Legal, count_rest, below, pending}
-use Rattle.rq_model.specs.Content.{committed_of}
+use Rattle.rq_model.specs.Ledger.{Open, after, fresh_one}
+use Rattle.rq_model.specs.Legal.{pending}
 use Rattle.rq_model.specs.History.Entry.{Begun}
 use Rattle.rq_model.specs.History.Call.{Begin}
 use Rattle.rq_model.specs.Replay.Reply.{Gave_txn}
-use Rattle.rq_model.proofs.Lists.{same_is, same_self}
-use Rattle.rq_page.specs.Sizes.{Sizes, sender_count}
-use Rattle.rq_level.specs.Legal.{over, under_way}
+use Rattle.rq_page.specs.Sizes.{Sizes}
+use Rattle.rq_level.specs.Legal.{over}
 use Rattle.rq_level.specs.Items.{items, operation}
 use Rattle.rq_level.specs.InStore.{IsStranger}
-use Rattle.rq_level.specs.Stored.{count_used}
 use Rattle.rq_level.proofs.Strangers.{stranger_deeds, stranger_end, stranger_undone, stranger_began}
-use Rattle.rq_txn.specs.Rows.{Row, Under, found_row, fresh_row}
+use Rattle.rq_txn.specs.Rows.{Row, found_row, fresh_row}
 use Rattle.rq_groups.specs.declared.Held.{Held}
-use Rattle.rq_groups.specs.Ends.{HeldEnds, has_held, held_by}
-use Rattle.rq_store.specs.State.{State, ledger_of, size_of, open_of, open_ones_of}
-use Rattle.rq_store.specs.Sound.{IsSound, IsRow, IsGoing, IsGoingOf, AreEnds, left_by, apart}
+use Rattle.rq_groups.specs.Ends.{has_held, held_by}
+use Rattle.rq_store.specs.State.{State, ledger_of, open_of, open_ones_of}
+use Rattle.rq_store.specs.Sound.{IsSound, IsRow, AreEnds, apart, takes_in, IsCovered}
 use Rattle.rq_store.specs.Steps.{Steps}
 use Rattle.rq_store.proofs.RowLists.{found_in, some_not_none}
-use Rattle.rq_store.proofs.Others.{SaysSame, row_over}
+use Rattle.rq_store.proofs.Others.{row_over}
 
 -- who holds no end has none
 pub none_held : (t : Txn) (hs : List Held) → ((s : ℕ) → has_held t s hs ≡ false) → held_by t hs ≡ []
@@ -68,7 +64,7 @@ module _ (s : State) (k : IsSound s) where
     undid_nothing = stranger_undone t log stranger;
     done = stranger_deeds z t log stranger;
     held = tt;
-    sends = tt;
+    moves = tt;
     numbered = λ n m. stranger_began z t n log stranger;
     idle = λ n m. ap (λ b. b && not (over (operation t n) (items z log))) (stranger_began z t n log stranger);
     going = tt;
@@ -121,6 +117,8 @@ module _ (s : State) (k : IsSound s) where
     bound = k.bound;
     used = (let a = sum_by-cons apart (fresh_row t) s.rows in let b = k.used in omega (arith, a, b));
     forced = k.forced;
+    waiting = λ g m. (let a = sum_by-cons (takes_in g) (fresh_row t) s.rows in let b = k.waiting g m in omega (arith, a, b));
+    covered = λ q i. elim i [ inl e ↦ subst (λ (y : Row). IsCovered s.waiting y.under) (sym e) tt | inr j ↦ k.covered q j ];
   }
 
   pub begin_steps : s.failed ≡ false → (not (nat_lt (length (open_ones_of s.ends s.rows)) 4096) || nat_eq s.begins (2 ^ 64 - 1)) ≡ false → Steps s Begin (Gave_txn t) new

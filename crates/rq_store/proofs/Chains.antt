@@ -1,41 +1,35 @@
 -- What stands in a sender's chain, from the rows and from the slots.
-use Rattle.std.proofs.Common.{◌≡◌, ◌≢◌, ℕ, ◌+◌, ◌-◌, ◌<◌, ◌≤◌, ◌&&◌, ◌||◌, List, [], ◌∷◌, ◌++◌, map, length, refl, sym, ◌∙◌, ap, subst, Bool, true, false, not, cond, nat_eq, arith, inl, inr, Option, Some, None}
+use Rattle.std.proofs.Common.{◌≡◌, ℕ, ◌<◌, ◌||◌, List, [], ◌∷◌, map, length, refl, sym, ◌∙◌, ap, subst, false, arith, inl, inr, Option, Some, None}
 use Rattle.std.specs.List.{sum_by, filter_map}
-use Rattle.std.proofs.lemmas.Bool.{cases_Bool, or_parts, or_from, false≢true}
-use Rattle.std.proofs.lemmas.List.{length-map}
+use Rattle.std.proofs.lemmas.Bool.{cases_Bool, or_parts, or_from}
 use Rattle.std.proofs.lemmas.List.Sums.{sum_by-cons}
 use Rattle.rq_model.specs.declared.txn.Txn.{Txn}
 use Rattle.rq_model.specs.declared.txn.Sub.{Sub}
 use Rattle.rq_model.specs.declared.record.Deed.{Deed}
 use Rattle.rq_model.specs.declared.record.Deed.TheVariants.{Append, UnlinkHead, Close}
-use Rattle.rq_model.specs.declared.record.Record.{Record}
-use Rattle.rq_model.specs.Words.{In, same_txn, has_txn, is_some, sent_for, taken_from, ends}
-use Rattle.rq_model.specs.Ledger.{Open, Ledger, in_chain, own_sends, own_takes, ended_in, any_ends, group_in, rest_in, found}
+use Rattle.rq_model.specs.Words.{In, same_txn, has_txn, sent_for, taken_from, ends}
+use Rattle.rq_model.specs.Ledger.{Open, in_chain, own_sends, own_takes, ended_in, any_ends}
 use Rattle.rq_model.specs.Legal.{has_closed}
-use Rattle.rq_model.specs.History.{Group}
-use Rattle.rq_model.specs.Content.{Said, said, op_of, ops_told, added, removed, closed, closed_one, committed_of}
+use Rattle.rq_model.specs.Content.{said, op_of, ops_told, added, removed, closed, committed_of}
 use Rattle.rq_model.proofs.Told.{told_taken, told_ends}
-use Rattle.rq_page.specs.Sizes.{Sizes, sender_count}
-use Rattle.rq_level.specs.Log.{State as Slots_state}
-use Rattle.rq_level.specs.Chain.{View}
-use Rattle.rq_level.specs.Legal.{Placed, open_deeds, view, under_way}
+use Rattle.rq_page.specs.Sizes.{sender_count}
+use Rattle.rq_level.specs.Legal.{open_deeds, view, under_way}
 use Rattle.rq_level.specs.Groups.{committed}
 use Rattle.rq_level.specs.Items.{items, layout_of, operation}
 use Rattle.rq_level.specs.Plans.{ShowsAt, Spares}
 use Rattle.rq_level.proofs.Committed.{say}
-use Rattle.rq_level.proofs.Holding.{Holders, holders, committed_is_group}
+use Rattle.rq_level.proofs.Holding.{holders, committed_is_group}
 use Rattle.rq_level.proofs.OpenCounts.{chain_count, AreApart, AllOpenIn, told_sends}
 use Rattle.rq_level.proofs.Settled.{rest_shown}
 use Rattle.rq_level.proofs.Idle.{idle_writes}
 use Rattle.rq_level.proofs.Stands.{store_is_layout}
 use Rattle.rq_level.proofs.Views.{views}
 use Rattle.rq_txn.specs.declared.Finished.{Finished}
-use Rattle.rq_txn.specs.Rows.{Row, Under, found_row, AreDistinct, any_under}
-use Rattle.rq_groups.specs.Ends.{HeldEnds}
+use Rattle.rq_txn.specs.Rows.{Row, found_row, AreDistinct, any_under}
 use Rattle.rq_store.specs.State.{State, ledger_of, open_of, open_ones_of, op_done}
-use Rattle.rq_store.specs.Sound.{IsSound, IsRow, IsSend, AllSends, is_under, left_by, placed}
-use Rattle.rq_store.proofs.RowLists.{found_in, none_under, some_not_none}
-use Rattle.rq_store.proofs.Others.{none_of, opens_as_rows}
+use Rattle.rq_store.specs.Sound.{IsSound, Moves, AllMove, is_under, left_by}
+use Rattle.rq_store.proofs.RowLists.{found_in, none_under}
+use Rattle.rq_store.proofs.Others.{none_of}
 use Rattle.rq_store.proofs.Telling.{told_placed}
 
 -- where no row has an operation under way, the log has none
@@ -73,7 +67,7 @@ all_open : (s : State) (k : IsSound s) → AllOpenIn (txns s.rows) (items s.size
 all_open s k t e = (k.others t (none_apart s.rows t e)).settled
 
 -- what is told of a row
-told_here : (s : State) (k : IsSound s) (r : Row) → In r s.rows → ops_told (say (open_deeds r.txn (items s.sizes s.records))) ≡ map op_done r.finished
+pub told_here : (s : State) (k : IsSound s) (r : Row) → In r s.rows → ops_told (say (open_deeds r.txn (items s.sizes s.records))) ≡ map op_done r.finished
 told_here s k r i = ap (λ ps. ops_told (say ps)) (k.rows r i).done ∙ told_placed r.finished
 
 sums_sent : (s : State) (k : IsSound s) (g : ℕ) (rows : List Row) → ((r : Row) → In r rows → In r s.rows)
@@ -105,15 +99,15 @@ chain_is s k g =
     let d = rest_shown s.sizes g s.records k.log.rules k.log.reads in
     omega (arith, a, b, c, d)
 
-sends_close_nothing : (g : ℕ) (fs : List Finished) → AllSends fs → any_ends g (map op_done fs) ≡ false
-sends_close_nothing g [] h = refl
-sends_close_nothing g (f ∷ fs) h = or_from _ _ (one g f.deed h.0) (sends_close_nothing g fs h.1) where
-  one : (g : ℕ) (d : Deed) → IsSend d → ends g (op_of (said d)) ≡ false
+moves_close_nothing : (g : ℕ) (fs : List Finished) → AllMove fs → any_ends g (map op_done fs) ≡ false
+moves_close_nothing g [] h = refl
+moves_close_nothing g (f ∷ fs) h = or_from _ _ (one g f.deed h.0) (moves_close_nothing g fs h.1) where
+  one : (g : ℕ) (d : Deed) → Moves d → ends g (op_of (said d)) ≡ false
   one g (Append q n tag previous body) is = refl
-  one g (UnlinkHead q n tag body) is = absurd is
+  one g (UnlinkHead q n tag body) is = refl
   one g (Close q) is = absurd is
 
--- while every open transaction only sends, what is closed is closed by a commit
+-- while no open transaction closes a group, what is closed is closed by a commit
 pub closed_is : (s : State) (k : IsSound s) (g : ℕ) → (view (items s.sizes s.records) g).closed ≡ ended_in (committed_of s.records) g
 closed_is s k g =
     let h = holders g (items s.sizes s.records) k.log.groups in
@@ -124,8 +118,8 @@ closed_is s k g =
     at t None e = ap (λ ps. closed g (say ps)) (k.others t e).settled
     at t (Some r) e =
         let i = found_in t s.rows r e in
-        ap (λ (q : Txn). closed g (say (open_deeds q (items s.sizes s.records)))) (sym i.1) ∙ sym (told_ends g (say (open_deeds r.txn (items s.sizes s.records)))) ∙ ap (any_ends g) (told_here s k r i.0) ∙ sends_close_nothing g r.finished (k.rows r i.0).sends
+        ap (λ (q : Txn). closed g (say (open_deeds q (items s.sizes s.records)))) (sym i.1) ∙ sym (told_ends g (say (open_deeds r.txn (items s.sizes s.records)))) ∙ ap (any_ends g) (told_here s k r i.0) ∙ moves_close_nothing g r.finished (k.rows r i.0).moves
 
 -- and has been closed by none of them
 pub closed_by_none : (s : State) (k : IsSound s) (g : ℕ) (r : Row) → In r s.rows → has_closed g (Some (open_of s.ends r)) ≡ false
-closed_by_none s k g r i = sends_close_nothing g r.finished (k.rows r i).sends
+closed_by_none s k g r i = moves_close_nothing g r.finished (k.rows r i).moves

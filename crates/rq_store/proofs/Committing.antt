@@ -1,44 +1,51 @@
 -- A commit of a transaction with nothing under way.
-use Rattle.std.proofs.Common.{◌≡◌, ◌≢◌, ℕ, ◌+◌, ◌-◌, ◌<◌, ◌≤◌, ◌==◌, ◌&&◌, ◌||◌, List, [], ◌∷◌, ◌++◌, length, map, refl, sym, ◌∙◌, ap, subst, Bool, true, false, not, Option, Some, None, inl, inr, nat_eq, nat_lt, cond, arith}
-use Rattle.std.specs.List.{sum_by, filter}
-use Rattle.std.proofs.lemmas.Bool.{cases_Bool, cond-true, cond-false, false≢true, true≢false, or_from, or_left, or_cases, or_parts, lt-ltb}
+use Rattle.std.proofs.Common.{◌≡◌, ◌≢◌, ℕ, ◌+◌, ◌<◌, ◌≤◌, ◌&&◌, ◌||◌, List, [], ◌∷◌, ◌++◌, length, map, refl, sym, ◌∙◌, ap, subst, Bool, true, false, not, Option, Some, None, inl, inr, nat_eq, nat_lt, cond, arith}
+use Rattle.std.specs.List.{sum_by, filter, filter_map}
+use Rattle.std.proofs.lemmas.Bool.{cases_Bool, cond-true, cond-false, false≢true, true≢false, or_from, or_left, or_cases, or_parts, lt-ltb, false_from_ne_true, eqb-true, cases_lt}
 use Rattle.std.proofs.lemmas.List.Sums.{sum_by-cons}
 use Rattle.std.proofs.lemmas.Option.{same_Some}
 use Rattle.rq_model.specs.declared.txn.Txn.{Txn}
-use Rattle.rq_model.specs.declared.txn.Sub.{Sub}
 use Rattle.rq_model.specs.declared.record.Record.{Record}
 use Rattle.rq_model.specs.declared.record.Record.TheVariants.{Commit as Commit_record}
-use Rattle.rq_model.specs.Words.{In, Op, same_txn, is_some}
-use Rattle.rq_model.specs.Counts.{is_taken}
-use Rattle.rq_model.specs.declared.message.Message.{Message}
-use Rattle.rq_model.specs.Ledger.{rest_in, Open, Done, Ledger, after, found, without, ops_of}
-use Rattle.rq_model.specs.Legal.{Legal, count_rest, below, pending, is_sent, is_sending, is_aborting, is_busy, log_full}
-use Rattle.rq_model.specs.Legal as legal
+use Rattle.rq_model.specs.Words.{In, Op, same_txn, is_some, sent_for, taken_from}
+use Rattle.rq_model.specs.Words.Op.{Send, Take, End}
+use Rattle.rq_model.specs.Counts.{is_taken, AllBelow}
+use Rattle.rq_model.specs.declared.record.Deed.{Deed}
+use Rattle.rq_model.specs.declared.record.Deed.TheVariants.{Append, UnlinkHead, Close}
+use Rattle.rq_model.specs.Ledger.{rest_in, Open, Done, after, found, without, ops_of}
+use Rattle.rq_model.specs.Legal.{count_rest, below, pending, is_sent, is_sending, is_aborting, is_busy, log_full}
 use Rattle.rq_model.specs.Reference.{kept_in}
-use Rattle.rq_model.specs.Content.{has_end, deeds, committed_of, told}
+use Rattle.rq_model.specs.Content.{has_end, committed_of, told}
 use Rattle.rq_model.specs.History.Entry.{Committed}
 use Rattle.rq_model.specs.History.Call.{Commit}
 use Rattle.rq_model.specs.Replay.Reply.{Gave_lsn}
 use Rattle.rq_model.proofs.Lists.{same_is, same_self, not_same}
-use Rattle.rq_model.proofs.Counts.{commit_counts, taken_within}
+use Rattle.rq_model.proofs.Counts.{commit_counts, taken_within, rest_more}
 use Rattle.rq_page.specs.Sizes.{Sizes, sender_count}
 use Rattle.rq_level.specs.Log.Item.{Commit as Commit_item}
-use Rattle.rq_level.specs.Legal.{May, MayCommit, open_deeds, began, over, under_way, crossed}
+use Rattle.rq_level.specs.Legal.{May, began, under_way}
+use Rattle.rq_level.specs.Plans.{deed_sender}
 use Rattle.rq_level.specs.Items.{items, layout_of, operation, has_undone}
-use Rattle.rq_level.specs.Stored.{count_used}
 use Rattle.rq_level.proofs.Strangers.{has_end_same}
 use Rattle.rq_txn.specs.Rows.{Row, Under, found_row, without_row, AreDistinct}
 use Rattle.rq_groups.specs.Ends.{HeldEnds}
-use Rattle.rq_store.specs.State.{State, ledger_of, size_of, open_of, open_ones_of, job_under, op_done}
-use Rattle.rq_store.specs.Sound.{IsSound, IsWhole, IsRow, IsGoing, IsGoingOf, IsSettled, is_under, left_by, apart, appending, takes_one}
+use Rattle.rq_groups.specs.Waiting.{waits}
+use Rattle.rq_store.specs.State.{State, ledger_of, open_of, open_ones_of, job_under, op_done}
+use Rattle.rq_store.specs.Sound.{IsSound, IsWhole, IsRow, IsGoing, IsGoingOf, IsSettled, is_under, apart, appending, takes_one, takes_in, sends_in, HasWaiting, IsCovered}
 use Rattle.rq_store.specs.Steps.{Steps}
-use Rattle.rq_store.proofs.RowLists.{found_in, found_gone, none_gone, distinct_gone, gone, not_txn}
+use Rattle.rq_store.proofs.RowLists.{found_in, found_gone, distinct_gone, gone, not_txn}
 use Rattle.rq_store.proofs.Opens.{found_open, open_found, opens_without}
-use Rattle.rq_store.proofs.Working.{not_found}
-use Rattle.rq_store.proofs.Others.{SaysSame, row_over, other_op, opens_as_rows, kept_without}
+use Rattle.rq_store.proofs.Others.{row_over, opens_as_rows, kept_without}
 use Rattle.rq_store.proofs.Stepping.{one_longer}
 use Rattle.rq_store.proofs.Releases.{without_ends, open_other, ends_left, for_other, all_other}
-use Rattle.rq_store.proofs.Telling.{told_is, ops_below, no_takes, takes_none, sum_takes}
+use Rattle.rq_store.proofs.Telling.{told_is, ops_below, count_takes}
+use Rattle.rq_store.proofs.Waiting.{takes_below}
+
+none_beyond : (n g : ℕ) (ops : List Op) → AllBelow n ops → n ≤ g → length (filter_map (taken_from g) ops) ≡ 0
+none_beyond n g [] h m = refl
+none_beyond n g (Send x ∷ ops) h m = none_beyond n g ops h.1 m
+none_beyond n g (Take x ∷ ops) h m = rw (false_from_ne_true (nat_eq x.sender g) (λ y. let e = eqb-true x.sender g y in let b = h.0 in absurd (omega (arith, e, b, m)))) (none_beyond n g ops h.1 m)
+none_beyond n g (End x ∷ ops) h m = none_beyond n g ops h.1 m
 
 never : (b : Bool) → (b && false) ≡ false
 never true = refl
@@ -60,7 +67,8 @@ rows_without f t (q ∷ rows) r d e = elim (cases_Bool (same_txn q.txn t)) [
   | inr n ↦ rw n (let a = sum_by-cons f q (without_row t rows) in let b = sum_by-cons f q rows in let ih = rows_without f t rows r d.1 (rw n at e) in omega (arith, a, b, ih))
 ]
 
-module _ (s : State) (k : IsSound s) (t : Txn) (r : Row) (at_row : found_row t s.rows ≡ Some r) (idle : r.under ≡ None) where
+module _ (s : State) (k : IsSound s) (t : Txn) (r : Row) (cells : ℕ) (ws : List ℕ) (at_row : found_row t s.rows ≡ Some r) (idle : r.under ≡ None)
+    (freed : cells + sum_by takes_one r.finished ≡ s.cells_in_use) (waited : (g : ℕ) → g < sender_count s.sizes → waits ws g ≡ waits s.waiting g + sends_in g r) where
   abbrev z : Sizes
   z = s.sizes
 
@@ -106,7 +114,7 @@ module _ (s : State) (k : IsSound s) (t : Txn) (r : Row) (at_row : found_row t s
   ends = without_ends t s.ends
 
   abbrev new : State
-  new = record s { rows = rows; ends = ends; records = x ∷ log }
+  new = record s { rows = rows; ends = ends; records = x ∷ log; cells_in_use = cells; waiting = ws }
 
   going_over : (q : Txn) (u : Under) → q ≢ t → IsGoing z log s.ends q u → IsGoing z (x ∷ log) ends q u
   going_over q u n g = record {
@@ -119,7 +127,7 @@ module _ (s : State) (k : IsSound s) (t : Txn) (r : Row) (at_row : found_row t s
     plan = g.plan;
     told = g.told;
     held = for_other t q s.ends u.deed n g.held;
-    send = g.send;
+    moves = g.moves;
     sender = g.sender;
     reads = g.reads;
   }
@@ -182,14 +190,19 @@ module _ (s : State) (k : IsSound s) (t : Txn) (r : Row) (at_row : found_row t s
       ∙ ap (λ (n : ℕ). record (after (Committed t (length log + 1)) (ledger_of s)) { records = n; durable = kept_in s.forced (committed_of log ++ done ∷ []) }) (one_longer x log)
       ∙ ap (λ (n : ℕ). record (after (Committed t (length log + 1)) (ledger_of s)) { durable = n }) (kept_more s.forced (committed_of log) done (let f = k.forced in lt-ltb s.forced (length log + 1) (omega arith)))
 
-  -- what was to come of its sends is committed
-  counts : count_rest (below (sender_count z)) (committed_of log ++ done ∷ []) ≡ count_rest (below (sender_count z)) (committed_of log) + length (filter is_sent (map op_done r.finished))
+  takes_within : (g : ℕ) → length (filter_map (taken_from g) (map op_done r.finished)) ≤ length (rest_in (committed_of log) g)
+  takes_within g = elim (cases_lt g (sender_count z)) [
+    | inl m ↦ let a = takes_below s k g r m place.0 in omega (arith, a)
+    | inr m ↦ let a = none_beyond (sender_count z) g (map op_done r.finished) (ops_below z log s.ends s.incarnation s.begins r k.log row) m in omega (arith, a)
+  ]
+
+  -- what was to come of its sends is committed, and what it took is gone
+  counts : count_rest (below (sender_count z)) (committed_of log ++ done ∷ []) + length (filter is_taken (map op_done r.finished)) ≡ count_rest (below (sender_count z)) (committed_of log) + length (filter is_sent (map op_done r.finished))
   counts =
       let ops = map op_done r.finished in
-      let a = commit_counts (sender_count z) (committed_of log) t (length log + 1) ops (ops_below z log s.ends s.incarnation s.begins r k.log row) (taken_within log k.log.rules) (λ e. subst (λ (l : List Message). length l ≤ length (rest_in (committed_of log) e)) (sym (no_takes e r.finished row.sends)) (omega arith)) in
-      let b : length (filter is_taken ops) ≡ 0 = ap length (takes_none r.finished row.sends) in
+      let a = commit_counts (sender_count z) (committed_of log) t (length log + 1) ops (ops_below z log s.ends s.incarnation s.begins r k.log row) (taken_within log k.log.rules) takes_within in
       let c = ap (λ (ops : List Op). count_rest (below (sender_count z)) (committed_of log ++ record { txn = t; lsn = length log + 1; ops = ops } ∷ [])) ops_are in
-      omega (arith, a, b, c)
+      omega (arith, a, c)
 
   open_counts : sum_by pending (open_ones_of ends rows) + length (filter is_sent (map op_done r.finished)) ≡ sum_by pending (open_ones_of s.ends s.rows)
   open_counts =
@@ -198,6 +211,27 @@ module _ (s : State) (k : IsSound s) (t : Txn) (r : Row) (at_row : found_row t s
       let c = rows_without (λ q. pending (open_of s.ends q)) t s.rows r k.distinct at_row in
       let d : pending (open_of s.ends r) ≡ length (filter is_sent (map op_done r.finished)) + 0 = ap (λ (o : Option Under). length (filter is_sent (map op_done r.finished)) + cond (is_sending (job_under o)) 1 0) idle in
       omega (arith, a, b, c, d)
+
+  now_waiting : (g : ℕ) → g < sender_count z → waits ws g + sum_by (takes_in g) rows ≡ length (rest_in (committed_of log ++ done ∷ []) g)
+  now_waiting g m =
+      let own : Done = record { txn = t; lsn = length log + 1; ops = map op_done r.finished } in
+      let a = rest_more (committed_of log) own g (taken_within log k.log.rules g) (takes_within g) in
+      let b = rows_without (takes_in g) t s.rows r k.distinct at_row in
+      let c = k.waiting g m in
+      let d = waited g m in
+      let e : length (rest_in (committed_of log ++ done ∷ []) g) ≡ length (rest_in (committed_of log ++ own ∷ []) g) = ap (λ (ops : List Op). length (rest_in (committed_of log ++ record { txn = t; lsn = length log + 1; ops = ops } ∷ []) g)) ops_are in
+      let f : takes_in g r ≡ length (filter_map (taken_from g) own.ops) = refl in
+      let h : sends_in g r ≡ length (filter_map (sent_for g) own.ops) = refl in
+      omega (arith, a, b, c, d, e, f, h)
+
+  still_waiting : (d : Deed) → deed_sender d < sender_count z → HasWaiting s.waiting d → HasWaiting ws d
+  still_waiting (Append g n tag previous body) m h = tt
+  still_waiting (UnlinkHead g n tag body) m h = let a = waited g m in omega (arith, a, h)
+  still_waiting (Close g) m h = tt
+
+  covered_now : (q : Row) (o : Option Under) → IsGoingOf z log s.ends q o → IsCovered s.waiting o → IsCovered ws o
+  covered_now q None g h = tt
+  covered_now q (Some u) g h = still_waiting u.deed g.0.sender h
 
   pub commit_sound : IsSound new
   commit_sound = record {
@@ -213,10 +247,12 @@ module _ (s : State) (k : IsSound s) (t : Txn) (r : Row) (at_row : found_row t s
     one_going = λ p q i j a b. k.one_going p q (gone t s.rows p i).0 (gone t s.rows q j).0 a b;
     sending = ends_left t s.rows s.ends.sending k.sending;
     receiving = ends_left t s.rows s.ends.receiving k.receiving;
-    cells = let a = counts in let b = open_counts in let c = k.cells in omega (arith, a, b, c);
-    bound = k.bound;
-    used = let a = rows_without apart t s.rows r k.distinct at_row in let b : apart r ≡ 0 = ap (λ (o : Option Under). sum_by takes_one r.finished + appending o) idle ∙ (let d = sum_takes r.finished row.sends in omega (arith, d)) in let c = k.used in omega (arith, a, b, c);
+    cells = let a = counts in let b = open_counts in let c = k.cells in let d = count_takes r.finished in omega (arith, a, b, c, d, freed);
+    bound = let b = k.bound in omega (arith, b, freed);
+    used = let a = rows_without apart t s.rows r k.distinct at_row in let b : apart r ≡ sum_by takes_one r.finished + 0 = ap (λ (o : Option Under). sum_by takes_one r.finished + appending o) idle in let c = k.used in omega (arith, a, b, c, freed);
     forced = let f = k.forced in omega arith;
+    waiting = now_waiting;
+    covered = λ q i. let g = gone t s.rows q i in covered_now q q.under (k.rows q g.0).going (k.covered q g.0);
   }
 
   pub commit_steps : s.failed ≡ false → log_full (ledger_of s) 1 ≡ false → Steps s (Commit t) (Gave_lsn (length log + 1)) new

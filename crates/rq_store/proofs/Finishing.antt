@@ -1,33 +1,32 @@
 -- The end of an operation whose writes are all made.
-use Rattle.std.proofs.Common.{◌≡◌, ◌≢◌, ℕ, ◌+◌, ◌-◌, ◌<◌, ◌≤◌, ◌==◌, ◌&&◌, ◌||◌, List, [], ◌∷◌, ◌++◌, length, map, take, drop, reverse, refl, sym, ◌∙◌, ap, subst, Bool, true, false, not, Option, Some, None, inl, inr, nat_eq, nat_lt, cond, arith}
-use Rattle.std.specs.List.{sum_by, filter}
-use Rattle.std.proofs.lemmas.Bool.{cases_Bool, cond-true, cond-false, eqb-true, false≢true, true≢false, or_from, or_left, and_from, eq-eqb}
+use Rattle.std.proofs.Common.{◌≡◌, ◌≢◌, ℕ, ◌+◌, ◌-◌, ◌<◌, ◌≤◌, ◌&&◌, ◌||◌, ◌⊎◌, List, [], ◌∷◌, ◌++◌, length, map, take, reverse, refl, sym, ◌∙◌, ap, subst, Bool, true, false, not, Option, Some, None, inl, inr, nat_eq, nat_lt, cond, arith}
+use Rattle.std.specs.List.{sum_by, filter, filter_map}
+use Rattle.std.proofs.lemmas.Bool.{cases_Bool, cond-true, cond-false, eqb-true, false≢true, true≢false, or_from, and_from, eq-eqb}
 use Rattle.std.proofs.lemmas.List.Sums.{sum_by_push}
-use Rattle.std.proofs.lemmas.List.{length-append, length-map, take_all}
+use Rattle.std.proofs.lemmas.List.{length-map, take_all}
 use Rattle.rq_model.specs.declared.txn.Txn.{Txn}
 use Rattle.rq_model.specs.declared.txn.Sub.{Sub}
 use Rattle.rq_model.specs.declared.record.Deed.{Deed}
 use Rattle.rq_model.specs.declared.record.Deed.TheVariants.{Append, UnlinkHead, Close}
 use Rattle.rq_model.specs.declared.record.Record.{Record}
-use Rattle.rq_model.specs.Words.{In, Op, same_txn, is_some}
-use Rattle.rq_model.specs.Words.Op.{Send}
+use Rattle.rq_model.specs.declared.message.Message.{Message}
+use Rattle.rq_model.specs.Words.{In, Op, same_txn, is_some, taken_from}
 use Rattle.rq_model.specs.Deeds.{deed_in, spelled_deed}
-use Rattle.rq_model.specs.History.{Job}
-use Rattle.rq_model.specs.Ledger.{Open, Ledger, after, done_more, change, found}
-use Rattle.rq_model.specs.Legal.{Legal, count_rest, below, pending, is_sent, is_sending, has_under, steps_left, OnFound, Answers}
-use Rattle.rq_model.specs.Legal as legal
-use Rattle.rq_model.specs.Content.{Said, said, kept, op_of, has_end, deeds, holds, uses_send, uses_receive, MayEnd, EndingMay, Ending, ending_by, committed_of}
+use Rattle.rq_model.specs.Ledger.{Open, after, done_more, change, found, rest_in}
+use Rattle.rq_model.specs.Legal.{count_rest, below, pending, is_sent, is_sending, has_under, steps_left, OnFound, Answers}
+use Rattle.rq_model.specs.Content.{said, kept, op_of, has_end, has_commit, added, removed, deeds, MayEnd, EndingMay, ending_by, committed_of}
 use Rattle.rq_model.specs.History.Entry.{Did}
 use Rattle.rq_model.specs.History.Call.{Finish}
 use Rattle.rq_model.specs.Replay.{Says}
 use Rattle.rq_model.proofs.Lists.{same_self}
 use Rattle.rq_page.specs.Sizes.{Sizes, sender_count}
-use Rattle.rq_level.specs.Log.{Item, Write, same_op}
+use Rattle.rq_level.specs.Log.{same_op}
 use Rattle.rq_level.specs.Log.Item.{OpEnd}
-use Rattle.rq_level.specs.Legal.{Placed, May, open_deeds, began, over, under_way, view, view_after}
+use Rattle.rq_level.specs.Legal.{May, open_deeds, began, over, under_way, view}
 use Rattle.rq_level.specs.Plans.{IsPlan, deed_sender}
 use Rattle.rq_level.specs.Plans.Turn.{Did as Did_turn}
-use Rattle.rq_level.specs.Groups.{MayTurn, is_taking, Alone, Told}
+use Rattle.rq_level.specs.Chain.{View}
+use Rattle.rq_level.specs.Groups.{MayTurn, is_taking, side, with_all, committed, Told}
 use Rattle.rq_level.specs.Items.{items, item_of, layout_of, operation, told_deed}
 use Rattle.rq_level.specs.Stored.{count_used}
 use Rattle.rq_level.proofs.Overlay.{same_self as same_op_self}
@@ -37,49 +36,66 @@ use Rattle.rq_chain.specs.Writes.{write_of, writes_of}
 use Rattle.rq_txn.specs.declared.Finished.{Finished}
 use Rattle.rq_txn.specs.Rows.{Row, Under, found_row, change_row, row_finished}
 use Rattle.rq_groups.specs.Ends.{HeldEnds, has_held}
-use Rattle.rq_store.specs.State.{State, ledger_of, size_of, open_of, open_ones_of, job_of, job_under, left_under, op_done}
-use Rattle.rq_store.specs.Sound.{IsSound, IsWhole, IsRow, IsGoing, IsGoingOf, IsSettled, HoldsFor, AllHeld, AllSends, IsSend, placed, placed_one, is_under, left_by, apart, appending, appends_of, takes_one, takes_of}
-use Rattle.rq_store.specs.Steps.{Steps, op_end, gave_done}
+use Rattle.rq_groups.specs.Waiting.{waits}
+use Rattle.rq_store.specs.State.{State, ledger_of, open_of, open_ones_of, job_of, job_under, left_under, op_done}
+use Rattle.rq_store.specs.Sound.{IsSound, IsWhole, IsRow, IsGoing, IsSettled, HoldsFor, AllHeld, AllMove, Moves, HasWaiting, IsCovered, placed, placed_one, is_under, left_by, apart, appending, appends_of, takes_one, takes_of, takes_in}
+use Rattle.rq_store.specs.Steps.{Steps, op_end, gave_done, took}
 use Rattle.rq_store.proofs.RowLists.{found_in, unique, found_other, found_still, changed, distinct_change, not_txn}
 use Rattle.rq_store.proofs.Opens.{found_open, open_found, opens_change}
 use Rattle.rq_store.proofs.Working.{going_at, alone_going, not_found}
-use Rattle.rq_store.proofs.Others.{SaysSame, row_over, not_going, other_op, other_number, rows_sum, rows_one, opens_as_rows}
-use Rattle.rq_store.proofs.Holders.{map_join, placed_more, alone_sending, used_by_holder}
+use Rattle.rq_store.proofs.Others.{row_over, not_going, other_op, other_number, rows_sum, rows_one, opens_as_rows}
+use Rattle.rq_store.proofs.Holders.{map_join, placed_more, alone_sending, alone_taking, used_by_holder, taken_by_holder}
+use Rattle.rq_store.proofs.Waiting.{takes_below, left_is, first_is_next, more_left}
 use Rattle.rq_store.proofs.Stepping.{one_longer}
 
-turn_of : (s : State) (k : IsSound s) (t : Txn) (d : Deed) → IsSend d → HoldsFor s.ends t d → Told d (view (items s.sizes s.records) (deed_sender d)) → (e : ℕ) → MayTurn (items s.sizes s.records) t d e
-turn_of s k t (Append q n tag previous body) is h told e = record {
+turn_of : (s : State) (k : IsSound s) (r : Row) → In r s.rows → (d : Deed) → Moves d → HoldsFor s.ends r.txn d → deed_sender d < sender_count s.sizes → HasWaiting s.waiting d → Told d (view (items s.sizes s.records) (deed_sender d)) → (e : ℕ) → MayTurn (items s.sizes s.records) r.txn d e
+turn_of s k r i (Append q n tag previous body) is h m w told e = record {
   sends = λ y. let same : q ≡ e = eqb-true q e y in
-      (alone_sending s k e t (subst (λ p. has_held t p s.ends.sending ≡ true) same h), subst (λ p. Told (Append q n tag previous body) (view (items s.sizes s.records) p)) same told);
+      (alone_sending s k e r.txn (subst (λ p. has_held r.txn p s.ends.sending ≡ true) same h), subst (λ p. Told (Append q n tag previous body) (view (items s.sizes s.records) p)) same told);
   takes = λ y. absurd (false≢true y);
 }
-turn_of s k t (UnlinkHead q n tag body) is h told e = absurd is
-turn_of s k t (Close q) is h told e = absurd is
+turn_of s k r i (UnlinkHead q n tag body) is h m w told e = record {
+  sends = λ y. absurd (false≢true y);
+  takes = λ y. let same : q ≡ e = eqb-true q e y in (
+    alone_taking s k e r.txn (subst (λ p. has_held r.txn p s.ends.receiving ≡ true) same h),
+    subst (λ p. Told (UnlinkHead q n tag body) (view (items s.sizes s.records) p)) same told,
+    subst (λ p. 0 < length (with_all (side (is_taking p) (open_deeds r.txn (items s.sizes s.records))) (committed (items s.sizes s.records) p)).messages) same
+        (let a = left_is s k q r i in let b = takes_below s k q r m i in let c : 1 ≤ waits s.waiting q = w in omega (arith, a, b, c)),
+  );
+}
+turn_of s k r i (Close q) is h m w told e = absurd is
 
-ends_of : (s : State) (k : IsSound s) (t : Txn) → has_end s.records t ≡ false → (d : Deed) → IsSend d → HoldsFor s.ends t d → (e : ℕ) → MayEnd s.records e t (said d)
-ends_of s k t running (Append q n tag previous body) is h e = record {
-  not_ended = running;
-  alone_send = λ y v used. used_by_holder s k e t v (subst (λ p. has_held t p s.ends.sending ≡ true) (eqb-true q e y) h) used;
+ends_of : (s : State) (k : IsSound s) (r : Row) → In r s.rows → (d : Deed) → Moves d → HoldsFor s.ends r.txn d → deed_sender d < sender_count s.sizes → HasWaiting s.waiting d → (e : ℕ) → MayEnd s.records e r.txn (said d)
+ends_of s k r i (Append q n tag previous body) is h m w e = record {
+  not_ended = (k.rows r i).running;
+  alone_send = λ y v used. used_by_holder s k e r.txn v (subst (λ p. has_held r.txn p s.ends.sending ≡ true) (eqb-true q e y) h) used;
   alone_receive = λ y. absurd (false≢true y);
   has_more = λ y. absurd (false≢true y);
 }
-ends_of s k t running (UnlinkHead q n tag body) is h e = absurd is
-ends_of s k t running (Close q) is h e = absurd is
+ends_of s k r i (UnlinkHead q n tag body) is h m w e = record {
+  not_ended = (k.rows r i).running;
+  alone_send = λ y. absurd (false≢true y);
+  alone_receive = λ y v used. taken_by_holder s k e r.txn v (subst (λ p. has_held r.txn p s.ends.receiving ≡ true) (eqb-true q e y) h) used;
+  has_more = λ y. subst (λ p. removed p (deeds (λ u. has_commit s.records u || same_txn u r.txn) s.records) < length (added p (deeds (has_commit s.records) s.records))) (eqb-true q e y)
+      (more_left s k q r m i (let b = takes_below s k q r m i in let c : 1 ≤ waits s.waiting q = w in omega (arith, b, c)));
+}
+ends_of s k r i (Close q) is h m w e = absurd is
 
-lost_gained : (d : Deed) → IsSend d → (lost (Did_turn d) ≡ 0) × (gained (Did_turn d) ≡ 1)
+lost_gained : (d : Deed) → Moves d → (lost (Did_turn d) ≡ takes_of d) × (gained (Did_turn d) ≡ appends_of d)
 lost_gained (Append q n tag previous body) is = (refl, refl)
-lost_gained (UnlinkHead q n tag body) is = absurd is
+lost_gained (UnlinkHead q n tag body) is = (refl, refl)
 lost_gained (Close q) is = absurd is
 
-one_send : (d : Deed) → IsSend d → (takes_of d ≡ 0) × (appends_of d ≡ 1)
-one_send (Append q n tag previous body) is = (refl, refl)
-one_send (UnlinkHead q n tag body) is = absurd is
-one_send (Close q) is = absurd is
+-- there is a message where one is taken
+told_there : (d : Deed) (v : View) → Told d v → takes_of d ≤ length v.messages
+told_there (Append q n tag previous body) v h = omega arith
+told_there (UnlinkHead q n tag body) v h = let e : length v.messages ≡ length ((tag, body) ∷ h.0) = ap (λ (l : List (ℕ × List ℕ)). length l) h.1 in omega (arith, e)
+told_there (Close q) v h = omega arith
 
-send_job : (d : Deed) → IsSend d → (is_sent (op_of (said d)) ≡ true) × (is_sending (Some (job_of d)) ≡ true)
-send_job (Append q n tag previous body) is = (refl, refl)
-send_job (UnlinkHead q n tag body) is = absurd is
-send_job (Close q) is = absurd is
+move_job : (d : Deed) → Moves d → is_sent (op_of (said d)) ≡ is_sending (Some (job_of d))
+move_job (Append q n tag previous body) is = refl
+move_job (UnlinkHead q n tag body) is = refl
+move_job (Close q) is = absurd is
 
 sent_more : (fs : List Finished) (f : Finished) → length (filter is_sent (map op_done (fs ++ f ∷ []))) ≡ length (filter is_sent (map op_done fs)) + cond (is_sent (op_done f)) 1 0
 sent_more [] f = elim (cases_Bool (is_sent (op_done f))) [ inl y ↦ rw y refl | inr n ↦ rw n refl ]
@@ -88,49 +104,67 @@ sent_more (x ∷ fs) f = elim (cases_Bool (is_sent (op_done x))) [
   | inr n ↦ rw n (sent_more fs f)
 ]
 
--- the cell of a send that is finished is its chain's
-apart_now : (q : Row) (f : Finished) (u : Under) → q.under ≡ Some u → f.deed ≡ u.deed → IsSend u.deed → apart (row_finished f q) + 1 ≡ apart q
-apart_now q f u e d is =
+-- the cell of a send that is finished is its chain's, and that of a take is nobody's
+apart_now : (q : Row) (f : Finished) (u : Under) → q.under ≡ Some u → f.deed ≡ u.deed → apart (row_finished f q) + appends_of u.deed ≡ apart q + takes_of u.deed
+apart_now q f u e d =
     let a : sum_by takes_one (q.finished ++ f ∷ []) ≡ sum_by takes_one q.finished + takes_one f = sum_by_push takes_one q.finished f in
-    let b : takes_one f ≡ 0 = ap takes_of d ∙ (one_send u.deed is).0 in
-    let c : appending q.under ≡ 1 = ap appending e ∙ (one_send u.deed is).1 in
+    let b : takes_one f ≡ takes_of u.deed = ap takes_of d in
+    let c : appending q.under ≡ appends_of u.deed = ap appending e in
     omega arith
 
-pending_now : (ends : HeldEnds) (q : Row) (f : Finished) (u : Under) → q.under ≡ Some u → f.deed ≡ u.deed → IsSend u.deed → pending (open_of ends (row_finished f q)) ≡ pending (open_of ends q)
+pending_now : (ends : HeldEnds) (q : Row) (f : Finished) (u : Under) → q.under ≡ Some u → f.deed ≡ u.deed → Moves u.deed → pending (open_of ends (row_finished f q)) ≡ pending (open_of ends q)
 pending_now ends q f u e d is =
     let a : length (filter is_sent (map op_done (q.finished ++ f ∷ []))) ≡ length (filter is_sent (map op_done q.finished)) + cond (is_sent (op_done f)) 1 0 = sent_more q.finished f in
-    let b : is_sent (op_done f) ≡ true = ap (λ x. is_sent (op_of (said x))) d ∙ (send_job u.deed is).0 in
-    let c : is_sending (job_under q.under) ≡ true = ap (λ x. is_sending (job_under x)) e ∙ (send_job u.deed is).1 in
-    ap (λ n. n + 0) a ∙ rw (b, c) (omega arith)
+    let b : is_sent (op_done f) ≡ is_sending (job_under q.under) = ap (λ x. is_sent (op_of (said x))) d ∙ move_job u.deed is ∙ sym (ap (λ x. is_sending (job_under x)) e) in
+    let one : Bool → ℕ = (λ y. cond y 1 0) in
+    let c : one (is_sent (op_done f)) ≡ one (is_sending (job_under q.under)) = ap one b in
+    ap (λ n. n + 0) a ∙ omega (arith, c)
 
 finished_open : (ends : HeldEnds) (q : Row) (f : Finished) → left_under q.under ≡ 0 → open_of ends (row_finished f q) ≡ done_more (op_done f) (open_of ends q)
 finished_open ends q f e =
     ap (λ (ops : List Op). record (open_of ends q) { ops = ops; under = None; left = 0 }) (map_join op_done q.finished (f ∷ []))
     ∙ ap (λ (n : ℕ). record (open_of ends q) { ops = map op_done q.finished ++ op_done f ∷ []; under = None; left = n }) (sym e)
 
-says_done : (t : Txn) (n : ℕ) (d : Deed) → IsSend d → Says (Finish t n) (gave_done d) (Did t n (op_of (said d)))
+says_done : (t : Txn) (n : ℕ) (d : Deed) → Moves d → Says (Finish t n) (gave_done d) (Did t n (op_of (said d)))
 says_done t n (Append q m tag previous body) is = (record { sender = q; tag = tag; body = body }, refl)
-says_done t n (UnlinkHead q m tag body) is = absurd is
+says_done t n (UnlinkHead q m tag body) is = refl
 says_done t n (Close q) is = absurd is
 
-answers_done : (l : Ledger) (o : Open) (d : Deed) → IsSend d → Answers l o (Some (job_of d)) (op_of (said d))
-answers_done l o (Append q m tag previous body) is = refl
-answers_done l o (UnlinkHead q m tag body) is = absurd is
-answers_done l o (Close q) is = absurd is
+answers_done : (s : State) (k : IsSound s) (r : Row) → In r s.rows → (d : Deed) → Moves d → HoldsFor s.ends r.txn d → deed_sender d < sender_count s.sizes → HasWaiting s.waiting d → Told d (view (items s.sizes s.records) (deed_sender d))
+    → Answers (ledger_of s) (open_of s.ends r) (Some (job_of d)) (op_of (said d))
+answers_done s k r i (Append q m tag previous body) is h n w told = refl
+answers_done s k r i (UnlinkHead q m tag body) is h n w told = (refl, first_is_next s k q tag body r told.0 i h (let b = takes_below s k q r n i in let c : 1 ≤ waits s.waiting q = w in omega (arith, b, c)) told.1)
+answers_done s k r i (Close q) is h n w told = absurd is
 
 held_more : (ends : HeldEnds) (t : Txn) (fs : List Finished) (f : Finished) → AllHeld ends t fs → HoldsFor ends t f.deed → AllHeld ends t (fs ++ f ∷ [])
 held_more ends t [] f h g = (g, tt)
 held_more ends t (x ∷ fs) f h g = (h.0, held_more ends t fs f h.1 g)
 
-sends_more : (fs : List Finished) (f : Finished) → AllSends fs → IsSend f.deed → AllSends (fs ++ f ∷ [])
-sends_more [] f h g = (g, tt)
-sends_more (x ∷ fs) f h g = (h.0, sends_more fs f h.1 g)
+move_more : (fs : List Finished) (f : Finished) → AllMove fs → Moves f.deed → AllMove (fs ++ f ∷ [])
+move_more [] f h g = (g, tt)
+move_more (x ∷ fs) f h g = (h.0, move_more fs f h.1 g)
+
+-- one more message taken from g
+took_more : (g : ℕ) (fs : List Finished) (f : Finished) → length (filter_map (taken_from g) (map op_done (fs ++ f ∷ []))) ≡ length (filter_map (taken_from g) (map op_done fs)) + took g f.deed
+took_more g [] f = (let h = one g f.deed in omega (arith, h)) where
+  one : (g : ℕ) (d : Deed) → length (filter_map (taken_from g) (op_of (said d) ∷ [])) ≡ took g d
+  one g (Append q n tag previous body) = refl
+  one g (UnlinkHead q n tag body) = elim (cases_Bool (nat_eq q g)) [ inl y ↦ rw y refl | inr n ↦ rw n refl ]
+  one g (Close q) = refl
+took_more g (x ∷ fs) f = elim (cases_some (taken_from g (op_done x))) [
+  | inl y ↦ rw y.1 (let h = took_more g fs f in omega (arith, h))
+  | inr n ↦ rw n (took_more g fs f)
+] where
+  cases_some : (o : Option Message) → ((m : Message) × (o ≡ Some m)) ⊎ (o ≡ None)
+  cases_some None = inr refl
+  cases_some (Some m) = inl (m, refl)
 
 over_ended : (a b : Bool) → (a && not (true || b)) ≡ false
 over_ended true b = refl
 over_ended false b = refl
 
-module _ (s : State) (k : IsSound s) (t : Txn) (r : Row) (u : Under) (at_row : found_row t s.rows ≡ Some r) (under : r.under ≡ Some u) (made : u.made ≡ length u.writes) where
+module _ (s : State) (k : IsSound s) (t : Txn) (r : Row) (u : Under) (ws : List ℕ) (at_row : found_row t s.rows ≡ Some r) (under : r.under ≡ Some u) (made : u.made ≡ length u.writes)
+    (waited : (g : ℕ) → waits ws g ≡ waits s.waiting g - took g u.deed) where
   abbrev z : Sizes
   z = s.sizes
 
@@ -164,6 +198,13 @@ module _ (s : State) (k : IsSound s) (t : Txn) (r : Row) (u : Under) (at_row : f
   deed_is : said_deed ≡ u.deed
   deed_is = ap told_deed g.reads
 
+  -- its row holds the end, and where it takes a message one waits
+  held_here : HoldsFor s.ends r.txn u.deed
+  held_here = subst (λ (q : Txn). HoldsFor s.ends q u.deed) (sym place.1) g.held
+
+  waits_here : HasWaiting s.waiting u.deed
+  waits_here = subst (IsCovered s.waiting) under (k.covered r place.0)
+
   running : has_end log t ≡ false
   running = ap (has_end log) (sym place.1) ∙ row.running
 
@@ -179,10 +220,10 @@ module _ (s : State) (k : IsSound s) (t : Txn) (r : Row) (u : Under) (at_row : f
   }
 
   turn : (e : ℕ) → MayTurn (items z log) t said_deed e
-  turn e = subst (λ d. MayTurn (items z log) t d e) (sym deed_is) (turn_of s k t u.deed g.send g.held g.told e)
+  turn e = subst (λ d. MayTurn (items z log) t d e) (sym deed_is) (subst (λ (q : Txn). MayTurn (items z log) q u.deed e) place.1 (turn_of s k r place.0 u.deed g.moves held_here g.sender waits_here g.told e))
 
   ends : EndingMay log (Some (record { txn = t; said = said u.deed }))
-  ends e = ends_of s k t running u.deed g.send g.held e
+  ends e = subst (λ (q : Txn). MayEnd log e q (said u.deed)) place.1 (ends_of s k r place.0 u.deed g.moves held_here g.sender waits_here e)
 
   log_whole : IsWhole z (x ∷ log)
   log_whole = record {
@@ -199,7 +240,7 @@ module _ (s : State) (k : IsSound s) (t : Txn) (r : Row) (u : Under) (at_row : f
   rows = change_row t (row_finished f) s.rows
 
   abbrev new : State
-  new = record s { rows = rows; records = x ∷ log }
+  new = record s { rows = rows; records = x ∷ log; waiting = ws }
 
   keeps : (q : Row) → (row_finished f q).txn ≡ q.txn
   keeps q = refl
@@ -246,7 +287,7 @@ module _ (s : State) (k : IsSound s) (t : Txn) (r : Row) (u : Under) (at_row : f
     undid_nothing = row.undid_nothing;
     done = placed_now;
     held = held_more s.ends r.txn r.finished f row.held (subst (λ (q : Txn). HoldsFor s.ends q u.deed) (sym place.1) g.held);
-    sends = sends_more r.finished f row.sends g.send;
+    moves = move_more r.finished f row.moves g.moves;
     numbered = λ n m. or_from _ _ (other_number t r.txn u.number n (λ e. absurd (omega (arith, e, m, going.1)))) (row.numbered n m);
     idle = λ n m. own_idle n;
     going = tt;
@@ -287,13 +328,32 @@ module _ (s : State) (k : IsSound s) (t : Txn) (r : Row) (u : Under) (at_row : f
   at_open : found t (open_ones_of s.ends s.rows) ≡ Some (open_of s.ends r)
   at_open = found_open s.ends t s.rows ∙ ap (open_found s.ends) at_row
 
-  used_one_more : count_used z (left_by z (x ∷ log)).quiet ≡ count_used z (left_by z log).quiet + 1
-  used_one_more =
+  used_now : count_used z (left_by z (x ∷ log)).quiet + takes_of u.deed ≡ count_used z (left_by z log).quiet + appends_of u.deed
+  used_now =
       let a = quiet_counts z (x ∷ log) log_whole.legal log_whole.in_store in
       let b = quiet_counts z log k.log.legal k.log.in_store in
-      let c : lost (Did_turn said_deed) ≡ 0 = ap (λ d. lost (Did_turn d)) deed_is ∙ (lost_gained u.deed g.send).0 in
-      let d : gained (Did_turn said_deed) ≡ 1 = ap (λ d. gained (Did_turn d)) deed_is ∙ (lost_gained u.deed g.send).1 in
-      let e = turn_sums (sender_count z) (Did_turn said_deed) (view (items z log)) log_whole.in_store.0 (omega (arith, c)) in
+      let c : lost (Did_turn said_deed) ≡ takes_of u.deed = ap (λ d. lost (Did_turn d)) deed_is ∙ (lost_gained u.deed g.moves).0 in
+      let d : gained (Did_turn said_deed) ≡ appends_of u.deed = ap (λ d. gained (Did_turn d)) deed_is ∙ (lost_gained u.deed g.moves).1 in
+      let there : takes_of u.deed ≤ length (view (items z log) (deed_sender said_deed)).messages = subst (λ (y : Deed). takes_of u.deed ≤ length (view (items z log) (deed_sender y)).messages) (sym deed_is) (told_there u.deed (view (items z log) (deed_sender u.deed)) g.told) in
+      let e = turn_sums (sender_count z) (Did_turn said_deed) (view (items z log)) log_whole.in_store.0 (omega (arith, c, there)) in
+      omega (arith, a, b, c, d, e)
+
+  -- what it took waits no more
+  enough : (g : ℕ) (d : Deed) → HasWaiting s.waiting d → took g d ≤ waits s.waiting g
+  enough g (Append q n tag previous body) h = omega arith
+  enough g (UnlinkHead q n tag body) h = elim (cases_Bool (nat_eq q g)) [
+    | inl y ↦ rw y (let e = eqb-true q g y in let w : waits s.waiting q ≡ waits s.waiting g = ap (waits s.waiting) e in omega (arith, h, w))
+    | inr n ↦ rw n (omega arith)
+  ]
+  enough g (Close q) h = omega arith
+
+  now_waiting : (p : ℕ) → p < sender_count z → waits ws p + sum_by (takes_in p) rows ≡ length (rest_in (committed_of log) p)
+  now_waiting p m =
+      let a = rows_one (takes_in p) t (row_finished f) s.rows r k.distinct at_row in
+      let b : takes_in p (row_finished f r) ≡ takes_in p r + took p u.deed = took_more p r.finished f in
+      let c = k.waiting p m in
+      let d = waited p in
+      let e = enough p u.deed waits_here in
       omega (arith, a, b, c, d, e)
 
   pub finish_sound : IsSound new
@@ -310,19 +370,24 @@ module _ (s : State) (k : IsSound s) (t : Txn) (r : Row) (u : Under) (at_row : f
     one_going = λ p q i j a b. absurd (none_now p i a);
     sending = record { one = k.sending.one; living = λ q n h. found_still t q (row_finished f) s.rows keeps (k.sending.living q n h) };
     receiving = record { one = k.receiving.one; living = λ q n h. found_still t q (row_finished f) s.rows keeps (k.receiving.living q n h) };
-    cells = k.cells ∙ ap (λ n. count_rest (below (sender_count z)) (committed_of log) + n) (opens_as_rows pending s.ends s.rows ∙ sym (rows_sum (λ q. pending (open_of s.ends q)) t (row_finished f) s.rows (λ q i e. pending_now s.ends q f u (ap (λ (y : Row). y.under) (unique s.rows q r k.distinct i place.0 (e ∙ sym place.1)) ∙ under) refl g.send)) ∙ sym (opens_as_rows pending s.ends rows));
+    cells = k.cells ∙ ap (λ n. count_rest (below (sender_count z)) (committed_of log) + n) (opens_as_rows pending s.ends s.rows ∙ sym (rows_sum (λ q. pending (open_of s.ends q)) t (row_finished f) s.rows (λ q i e. pending_now s.ends q f u (ap (λ (y : Row). y.under) (unique s.rows q r k.distinct i place.0 (e ∙ sym place.1)) ∙ under) refl g.moves)) ∙ sym (opens_as_rows pending s.ends rows));
     bound = k.bound;
-    used = let a = used_one_more in let b = rows_one apart t (row_finished f) s.rows r k.distinct at_row in let c = apart_now r f u under refl g.send in omega (arith, a, b, c, k.used);
+    used = let a = used_now in let b = rows_one apart t (row_finished f) s.rows r k.distinct at_row in let c = apart_now r f u under refl in let d = k.used in omega (arith, a, b, c, d);
     forced = let f = k.forced in omega arith;
+    waiting = now_waiting;
+    covered = λ q i. elim (changed t (row_finished f) s.rows r q k.distinct at_row i) [
+      | inl e ↦ subst (λ (y : Row). IsCovered ws y.under) (sym e) tt
+      | inr h ↦ subst (IsCovered ws) (sym (other_idle q h.0 h.1)) tt
+    ];
   }
 
   pub finish_steps : s.failed ≡ false → Steps s (Finish t u.number) (gave_done u.deed) new
   finish_steps running = record {
     entry = Did t u.number (op_done f);
-    says = says_done t u.number u.deed g.send;
+    says = says_done t u.number u.deed g.moves;
     legal = (
       (ap (λ b. not (not b)) running, (ap not (ap (has_under u.number) at_open ∙ and_from _ _ (ap (λ (y : Option Under). is_some (job_under y)) under) (eq-eqb r.number u.number going.1)), (ap steps_left at_open ∙ ap (nat_lt 0) none_left, tt))),
-      subst (λ (y : Option Open). OnFound y (λ (q : Open). Answers (ledger_of s) q q.under (op_done f))) (sym at_open) (subst (λ (y : Option Under). Answers (ledger_of s) (open_of s.ends r) (job_under y) (op_done f)) (sym under) (answers_done (ledger_of s) (open_of s.ends r) u.deed g.send)),
+      subst (λ (y : Option Open). OnFound y (λ (q : Open). Answers (ledger_of s) q q.under (op_done f))) (sym at_open) (subst (λ (y : Option Under). Answers (ledger_of s) (open_of s.ends r) (job_under y) (op_done f)) (sym under) (answers_done s k r place.0 u.deed g.moves held_here g.sender waits_here g.told)),
     );
     after = after_is;
     sound = finish_sound;

@@ -1,14 +1,14 @@
 -- Forces, and devices that fail: the log's records stay, and so does all that was done.
-use Rattle.std.proofs.Common.{◌≡◌, ℕ, ◌+◌, ◌<◌, ◌≤◌, inl, inr, List, [], ◌∷◌, ◌++◌, length, refl, sym, ◌∙◌, ap, subst, Bool, true, false, not, nat_lt, nat_eq, ◌&&◌, cond, arith}
-use Rattle.std.proofs.lemmas.Bool.{cases_Bool, true≢false, ltb-true}
+use Rattle.std.proofs.Common.{◌≡◌, ℕ, ◌+◌, ◌<◌, ◌≤◌, inl, inr, List, [], ◌∷◌, ◌++◌, length, refl, sym, ap, true, false, not, nat_lt, nat_eq, ◌&&◌, arith}
+use Rattle.std.proofs.lemmas.Bool.{cases_Bool, ltb-true}
 use Rattle.std.proofs.lemmas.List.{length-append}
 use Rattle.rq_model.specs.declared.txn.Txn.{Txn}
 use Rattle.rq_model.specs.declared.record.Record.{Record}
 use Rattle.rq_model.specs.declared.record.Record.TheVariants as records
 use Rattle.rq_model.specs.declared.refusal.Refusal.{Refusal}
-use Rattle.rq_model.specs.declared.refusal.Refusal.TheVariants.{DiskWrite, Failed}
-use Rattle.rq_model.specs.Ledger.{Done, Ledger, after}
-use Rattle.rq_model.specs.Legal.{Legal, LegalRefusal}
+use Rattle.rq_model.specs.declared.refusal.Refusal.TheVariants.{DiskWrite}
+use Rattle.rq_model.specs.Ledger.{Done, after}
+use Rattle.rq_model.specs.Legal.{LegalRefusal}
 use Rattle.rq_model.specs.Reference.{kept_in}
 use Rattle.rq_model.specs.Content.{committed_of, told}
 use Rattle.rq_model.specs.History.{Call}
@@ -66,6 +66,8 @@ force_steps s k running = record {
     bound = k.bound;
     used = k.used;
     forced = omega arith;
+    waiting = k.waiting;
+    covered = k.covered;
   };
 }
 
@@ -103,5 +105,7 @@ failed_steps s k c = record {
     bound = k.bound;
     used = k.used;
     forced = k.forced;
+    waiting = k.waiting;
+    covered = k.covered;
   };
 }

@@ -1,23 +1,22 @@
 -- Who holds an end is alone in the log with what the end is needed for.
-use Rattle.std.proofs.Common.{◌≡◌, ◌≢◌, ℕ, List, [], ◌∷◌, ◌++◌, map, reverse, refl, sym, ◌∙◌, ap, subst, Bool, true, false, not, ◌&&◌, ◌||◌, Option, Some, None, inl, inr, cond, nat_eq}
-use Rattle.std.proofs.lemmas.Bool.{cases_Bool, false≢true, true≢false, eqb-true, eq-eqb, and_parts, or_from, false_from_ne_true, not-true}
+use Rattle.std.proofs.Common.{◌≡◌, ℕ, List, [], ◌∷◌, ◌++◌, map, reverse, refl, sym, ◌∙◌, ap, Bool, true, false, not, Option, Some, None, inl, inr, nat_eq}
+use Rattle.std.proofs.lemmas.Bool.{cases_Bool, false≢true, true≢false, eqb-true, and_parts, or_from, false_from_ne_true, not-true}
 use Rattle.std.proofs.lemmas.List.{reverse-append}
 use Rattle.rq_model.specs.declared.txn.Txn.{Txn}
 use Rattle.rq_model.specs.declared.record.Deed.{Deed}
 use Rattle.rq_model.specs.declared.record.Deed.TheVariants.{Append, UnlinkHead, Close}
-use Rattle.rq_model.specs.declared.record.Record.{Record}
-use Rattle.rq_model.specs.Words.{In, same_txn, is_some}
-use Rattle.rq_model.specs.Content.{Said, said, deeds, has_end, holds, any_use, uses_send, uses_receive}
+use Rattle.rq_model.specs.Words.{same_txn}
+use Rattle.rq_model.specs.Content.{said, deeds, has_end, holds, any_use, uses_send, uses_receive}
 use Rattle.rq_level.specs.Legal.{Placed, open_deeds}
 use Rattle.rq_level.specs.Groups.{is_sending, is_taking, side, Alone}
 use Rattle.rq_level.specs.Items.{items, has_undone}
 use Rattle.rq_level.proofs.Committed.{say}
 use Rattle.rq_level.proofs.Content.{own_deeds}
 use Rattle.rq_txn.specs.declared.Finished.{Finished}
-use Rattle.rq_txn.specs.Rows.{Row, Under, found_row}
+use Rattle.rq_txn.specs.Rows.{Row, found_row}
 use Rattle.rq_groups.specs.Ends.{HeldEnds, has_held}
 use Rattle.rq_store.specs.State.{State}
-use Rattle.rq_store.specs.Sound.{IsSound, IsRow, IsSettled, HoldsFor, AllHeld, placed, placed_one}
+use Rattle.rq_store.specs.Sound.{IsSound, HoldsFor, AllHeld, placed, placed_one}
 use Rattle.rq_store.proofs.RowLists.{found_in}
 
 pub map_join : {X Y : Type 0} (g : X → Y) (xs ys : List X) → map g (xs ++ ys) ≡ map g xs ++ map g ys
@@ -117,4 +116,34 @@ used_by_holder s k g t u h used = at (found_row u s.rows) refl where
         | inr n ↦
             let own = own_deeds s.sizes u s.records k.log.reads parts.1 (ap (λ v. has_undone s.records v) (sym i.1) ∙ row.undid_nothing) in
             absurd (false≢true (sym (unused g (open_deeds u (items s.sizes s.records)) (none_sending s k g u n)) ∙ ap (any_use (uses_send g)) own ∙ parts.0))
+      ]
+
+takes_is : (g : ℕ) (d : Deed) → uses_receive g (said d) ≡ is_taking g d
+takes_is g (Append r n tag previous body) = refl
+takes_is g (UnlinkHead r n tag body) = refl
+takes_is g (Close r) = refl
+
+untaken : (g : ℕ) (ps : List Placed) → side (is_taking g) ps ≡ [] → any_use (uses_receive g) (say ps) ≡ false
+untaken g [] e = refl
+untaken g (p ∷ ps) e = elim (cases_Bool (is_taking g p.deed)) [
+  | inl y ↦ let bad : p.deed ∷ side (is_taking g) ps ≡ [] = rw y at e in cc
+  | inr n ↦ or_from (uses_receive g (said p.deed)) (any_use (uses_receive g) (say ps)) (takes_is g p.deed ∙ n) (untaken g ps (rw n at e))
+]
+
+-- whoever has used the receiving end and has not ended is its holder
+pub taken_by_holder : (s : State) (k : IsSound s) (g : ℕ) (t u : Txn) → has_held t g s.ends.receiving ≡ true → holds (uses_receive g) s.records u ≡ true → u ≡ t
+taken_by_holder s k g t u h used = at (found_row u s.rows) refl where
+  parts : (any_use (uses_receive g) (deeds (λ v. same_txn v u) s.records) ≡ true) × (has_end s.records u ≡ false)
+  parts = let p = and_parts (any_use (uses_receive g) (deeds (λ v. same_txn v u) s.records)) (not (has_end s.records u)) used in (p.0, not-true (has_end s.records u) p.1)
+
+  at : (o : Option Row) → found_row u s.rows ≡ o → u ≡ t
+  at None e = absurd (false≢true (sym (ap (any_use (uses_receive g)) ((k.others u e).unused parts.1)) ∙ parts.0))
+  at (Some r) e =
+      let i = found_in u s.rows r e in
+      let row = k.rows r i.0 in
+      elim (cases_Bool (has_held u g s.ends.receiving)) [
+        | inl y ↦ k.receiving.one u t g y h
+        | inr n ↦
+            let own = own_deeds s.sizes u s.records k.log.reads parts.1 (ap (λ v. has_undone s.records v) (sym i.1) ∙ row.undid_nothing) in
+            absurd (false≢true (sym (untaken g (open_deeds u (items s.sizes s.records)) (none_taking s k g u n)) ∙ ap (any_use (uses_receive g)) own ∙ parts.0))
       ]

@@ -1,8 +1,9 @@
 -- A store that is opened over a legal log in which everything has ended.
-use Rattle.std.proofs.Common.{◌≡◌, ℕ, zero, suc, ◌+◌, ◌<◌, ◌≤◌, ◌&&◌, ◌||◌, List, [], ◌∷◌, ◌++◌, length, refl, sym, ◌∙◌, ap, subst, Bool, true, false, not, Option, Some, None, inl, inr, nat_eq, cond, arith}
+use Rattle.std.proofs.Common.{◌≡◌, ℕ, zero, suc, ◌+◌, ◌<◌, ◌≤◌, ◌-◌, ◌&&◌, ◌||◌, List, [], ◌∷◌, ◌++◌, length, map, refl, sym, ◌∙◌, ap, subst, Bool, true, false, not, Option, Some, None, inl, inr, nat_eq, cond, arith}
 use Rattle.std.specs.List.{filter}
-use Rattle.std.proofs.lemmas.Bool.{cases_Bool, true≢false, false≢true, or_parts, or_from, and_parts, and_left, and_right, eqb-true, not-false}
-use Rattle.std.proofs.lemmas.List.{length-append}
+use Rattle.std.specs.Prelude.{slice_index_or}
+use Rattle.std.proofs.lemmas.Bool.{cases_Bool, true≢false, false≢true, or_parts, or_from, and_parts, and_left, and_right, eqb-true, not-false, cases_eq}
+use Rattle.std.proofs.lemmas.List.{length-append, length-map}
 use Rattle.std.proofs.lemmas.List.Sums.{length-filter, count_by-le-length}
 use Rattle.rq_model.specs.declared.txn.Txn.{Txn}
 use Rattle.rq_model.specs.declared.txn.Sub.{Sub}
@@ -11,27 +12,35 @@ use Rattle.rq_model.specs.declared.record.Record.TheVariants as records
 use Rattle.rq_model.specs.declared.record.Deed.{Deed}
 use Rattle.rq_model.specs.Words.{same_txn, has_txn}
 use Rattle.rq_model.specs.Deeds.{deed_in}
-use Rattle.rq_model.specs.Ledger.{Done, Ledger, after}
+use Rattle.rq_model.specs.Ledger.{Done, Ledger, after, rest_in}
 use Rattle.rq_model.specs.History.Entry.{Restarted}
 use Rattle.rq_model.specs.Legal.{below, count_rest}
 use Rattle.rq_model.specs.Reference.{kept_in}
 use Rattle.rq_model.specs.Content.{Ending, ending, ending_by, kept, deeds, has_end, any_record, operation_ended, has_pair, add_pair, operations, unfinished, add_txn, workers, lost, committed_of}
 use Rattle.rq_model.proofs.Lists.{same_is}
-use Rattle.rq_page.specs.Sizes.{Sizes, IsInRange, address, cell_count, cell_at, sender_count}
+use Rattle.rq_page.specs.Sizes.{Sizes, IsInRange, address, cell_count, cell_at, sender_count, directory_at}
 use Rattle.rq_page.specs.Slots.{held_in}
 use Rattle.rq_level.specs.Log.{Slots, IsNewest, same_op}
-use Rattle.rq_level.specs.Legal.{Legal, open_deeds, of_op, is_of, is_end, began, over, under_way, rest_placed}
+use Rattle.rq_level.specs.Chain.{View, message}
+use Rattle.rq_level.specs.Groups.{committed}
+use Rattle.rq_level.specs.Plans.{Spares}
+use Rattle.rq_level.specs.Legal.{Legal, view, open_deeds, of_op, is_of, is_end, began, over, under_way, rest_placed}
 use Rattle.rq_level.specs.Items.{items, item_of, layout_of, operation, Reads}
 use Rattle.rq_level.specs.InStore.{IsStranger, mentions}
 use Rattle.rq_level.specs.Stored.{slots_in, count_used, is_used}
-use Rattle.rq_level.proofs.Idle.{idle_quiet}
+use Rattle.rq_level.proofs.Idle.{idle_quiet, idle_writes}
+use Rattle.rq_level.proofs.Stands.{store_is_layout}
+use Rattle.rq_level.proofs.Views.{views}
+use Rattle.rq_level.proofs.GroupRule.{settled_view}
 use Rattle.rq_level.proofs.Overlay.{same_is as same_op_is}
 use Rattle.rq_level.proofs.Strangers.{has_end_same}
-use Rattle.rq_level.proofs.Settled.{settled_counts}
+use Rattle.rq_level.proofs.Settled.{settled_counts, rest_shown}
+use Rattle.rq_groups.specs.Waiting.{waits}
 use Rattle.rq_store.specs.State.{ledger_of}
 use Rattle.rq_store.specs.Sound.{IsSound, IsWhole, IsSettled, InOrder, IsNext, incarnation_of, incarnation_one, left_by}
-use Rattle.rq_store.specs.Opening.{next_restart, opened}
+use Rattle.rq_store.specs.Opening.{next_restart, opened, messages_told, waiting_in}
 use Rattle.rq_store.proofs.Forcing.{all_within}
+use Rattle.rq_store.proofs.Holders.{map_join}
 
 -- the item of a record ends the operations that the record ends
 ends_operation : (z : Sizes) (t : Txn) (n : ℕ) (r : Record) → operation_ended t n r ≡ (is_end (item_of z r) && is_of (operation t n) (of_op (item_of z r)))
@@ -284,6 +293,26 @@ count_bound z q =
     let c = length_below (cell_count z) in
     omega (arith, a, b, c)
 
+-- a list of what each sender has, read at one
+told_below : (f : ℕ → ℕ) (n g : ℕ) → g < n → slice_index_or (map f (below n)) g 0 ≡ f g
+told_below f zero g m = absurd (omega (arith, m))
+told_below f (suc n) g m =
+    let a = map_join f (below n) (n ∷ []) in
+    let b : length (map f (below n)) ≡ n = length-map (below n) f ∙ length_below n in
+    elim (cases_eq g n) [
+      | inl e ↦ ap (λ l. slice_index_or l g 0) a ∙ ap (λ i. slice_index_or (map f (below n) ++ f n ∷ []) i 0) (e ∙ sym b) ∙ read_end (map f (below n)) (f n) ∙ ap f (sym e)
+      | inr ne ↦ ap (λ l. slice_index_or l g 0) a ∙ read_front (map f (below n)) (f n) g (omega (arith, b, m, ne)) ∙ told_below f n g (omega (arith, m, ne))
+    ]
+  where
+    read_end : (xs : List ℕ) (x : ℕ) → slice_index_or (xs ++ x ∷ []) (length xs) 0 ≡ x
+    read_end [] x = refl
+    read_end (y ∷ xs) x = read_end xs x
+
+    read_front : (xs : List ℕ) (x g : ℕ) → g < length xs → slice_index_or (xs ++ x ∷ []) g 0 ≡ slice_index_or xs g 0
+    read_front [] x g m = absurd (omega (arith, m))
+    read_front (y ∷ xs) x zero m = refl
+    read_front (y ∷ xs) x (suc g) m = read_front xs x g (omega (arith, m))
+
 module _ (z : Sizes) (images : List (List ℕ)) (log : List Record) (range : IsInRange z) (w : IsWhole z log) (none_unfinished : unfinished log ≡ []) (none_lost : lost log ≡ [])
     (pages : (a : ℕ) → slots_in z images a ≡ (left_by z log).slots a) where
   abbrev new_log : List Record
@@ -320,6 +349,19 @@ module _ (z : Sizes) (images : List (List ℕ)) (log : List Record) (range : IsI
   counted : count_used z (slots_in z images) ≡ count_rest (below (sender_count z)) (committed_of log)
   counted = sym used_is ∙ settled_counts z log w.legal w.in_store w.groups w.rules w.reads settled
 
+  -- what waits is what the directory slots tell
+  waits_here : (g : ℕ) → g < sender_count z → waits (waiting_in z images) g ≡ length (rest_in (committed_of log) g)
+  waits_here g m =
+      let v = views (layout_of z) (items z log) g (store_is_layout z) w.legal m (λ o. subst (Spares g) (sym (idle_writes (layout_of z) (items z log) o w.legal (idle o))) tt) in
+      let d = v.directory in
+      let a : waits (waiting_in z images) g ≡ messages_told (slots_in z images (directory_at g)) = told_below (λ s. messages_told (slots_in z images (directory_at s))) (sender_count z) g m in
+      let b : messages_told (slots_in z images (directory_at g)) ≡ d.sent - d.received = ap messages_told (pages (directory_at g) ∙ v.at) in
+      let c : length (view (items z log) g).messages ≡ length v.shows.nodes = ap (λ (l : List (ℕ × List ℕ)). length l) v.shows.messages ∙ length-map v.shows.nodes message in
+      let e : length (view (items z log) g).messages ≡ length (committed (items z log) g).messages = ap (λ (x : View). length x.messages) (settled_view g (items z log) w.groups settled) in
+      let f = rest_shown z g log w.rules w.reads in
+      let h = v.shows.sent in
+      omega (arith, a, b, c, e, f, h)
+
   -- the open store goes back to it
   pub opened_sound : IsSound (opened z images log)
   opened_sound = record {
@@ -339,6 +381,8 @@ module _ (z : Sizes) (images : List (List ℕ)) (log : List Record) (range : IsI
     bound = count_bound z (slots_in z images);
     used = (let e = used_is in omega (arith, e));
     forced = omega arith;
+    waiting = λ g m. (let e = waits_here g m in omega (arith, e));
+    covered = λ r i. absurd i;
   }
 
   -- it shows the content of the log that was read

@@ -1,14 +1,14 @@
 -- The ledger's open transactions are the rows.
-use Rattle.std.proofs.Common.{◌≡◌, ◌≢◌, ℕ, List, [], ◌∷◌, map, refl, sym, ◌∙◌, ap, suc, ◌+◌, Bool, true, false, not, cond, ◌&&◌, ◌||◌, nat_eq, Option, Some, None, inl, inr, length}
-use Rattle.std.specs.List.{filter, sum_by}
+use Rattle.std.proofs.Common.{◌≡◌, ◌≢◌, List, [], ◌∷◌, refl, sym, ◌∙◌, ap, suc, ◌+◌, ◌||◌, Option, Some, None, inl, inr, length}
+use Rattle.std.specs.List.{sum_by}
 use Rattle.std.proofs.lemmas.Bool.{cases_Bool}
 use Rattle.std.proofs.lemmas.List.Sums.{sum_by-cons}
 use Rattle.rq_model.specs.declared.txn.Txn.{Txn}
 use Rattle.rq_model.proofs.Lists.{same_is, not_same}
 use Rattle.rq_model.specs.Words.{In, same_txn, is_some}
-use Rattle.rq_model.specs.Ledger.{Open, found, change, change_one, without}
+use Rattle.rq_model.specs.Ledger.{Open, found, change, without}
 use Rattle.rq_model.specs.Legal.{any_busy, owed}
-use Rattle.rq_txn.specs.Rows.{Row, Under, found_row, change_row, change_row_one, without_row, any_under}
+use Rattle.rq_txn.specs.Rows.{Row, Under, found_row, change_row, without_row, any_under}
 use Rattle.rq_groups.specs.Ends.{HeldEnds}
 use Rattle.rq_store.specs.State.{open_of, open_ones_of, job_under, owed_one, owed_by, owed_under}
 

@@ -1,5 +1,5 @@
 -- What a record of one transaction leaves of the rows of the others.
-use Rattle.std.proofs.Common.{◌≡◌, ◌≢◌, ℕ, ◌+◌, ◌≤◌, ◌==◌, ◌&&◌, ◌||◌, List, [], ◌∷◌, refl, sym, ◌∙◌, ap, subst, Bool, true, false, not, Option, Some, None, inl, inr, nat_eq, cond, arith}
+use Rattle.std.proofs.Common.{◌≡◌, ◌≢◌, ℕ, ◌+◌, ◌≤◌, ◌==◌, ◌&&◌, List, [], ◌∷◌, refl, sym, ◌∙◌, ap, subst, Bool, true, false, Option, Some, None, inl, inr, arith}
 use Rattle.std.specs.List.{sum_by}
 use Rattle.std.proofs.lemmas.Bool.{cases_Bool, eqb-true}
 use Rattle.std.proofs.lemmas.List.Sums.{sum_by-cons}
@@ -10,9 +10,8 @@ use Rattle.rq_model.specs.Words.{In, same_txn, is_some}
 use Rattle.rq_model.specs.Ledger.{Open, change, change_one}
 use Rattle.rq_model.specs.Content.{has_end}
 use Rattle.rq_page.specs.Sizes.{Sizes}
-use Rattle.rq_level.specs.Log.{Item, Write, same_op}
-use Rattle.rq_level.specs.Log.Item.{PageOp, OpEnd, Commit}
-use Rattle.rq_level.specs.Legal.{open_deeds, began, over, under_way}
+use Rattle.rq_level.specs.Log.{same_op}
+use Rattle.rq_level.specs.Legal.{open_deeds, began, under_way}
 use Rattle.rq_level.specs.Items.{items, operation, has_undone}
 use Rattle.rq_txn.specs.Rows.{Row, Under, found_row, AreDistinct, change_row, change_row_one, without_row}
 use Rattle.rq_store.specs.State.{open_of, open_ones_of}
@@ -38,7 +37,7 @@ row_over z log new ends after i b c r le s g h = record {
   undid_nothing = s.undone ∙ h.undid_nothing;
   done = s.done ∙ h.done;
   held = s.held h.held;
-  sends = h.sends;
+  moves = h.moves;
   numbered = λ n m. s.began n ∙ h.numbered n m;
   idle = λ n m. s.under_way n ∙ h.idle n m;
   going = g;

@@ -1,13 +1,13 @@
 -- The ends that are left when a transaction ends.
-use Rattle.std.proofs.Common.{◌≡◌, ◌≢◌, ℕ, List, [], ◌∷◌, refl, sym, ◌∙◌, ap, Bool, true, false, not, ◌&&◌, ◌||◌, nat_eq, cond, inl, inr}
-use Rattle.std.proofs.lemmas.Bool.{cases_Bool, false≢true, true≢false, or_cases, and_parts, or_left, or_right}
+use Rattle.std.proofs.Common.{◌≡◌, ◌≢◌, ℕ, List, [], ◌∷◌, refl, sym, ◌∙◌, ap, true, false, ◌&&◌, ◌||◌, nat_eq, cond, inl, inr}
+use Rattle.std.proofs.lemmas.Bool.{cases_Bool, false≢true, or_cases, and_parts, or_left, or_right}
 use Rattle.rq_model.specs.declared.txn.Txn.{Txn}
 use Rattle.rq_model.specs.declared.record.Deed.{Deed}
 use Rattle.rq_model.specs.declared.record.Deed.TheVariants.{Append, UnlinkHead, Close}
 use Rattle.rq_model.specs.Words.{same_txn, is_some}
-use Rattle.rq_model.proofs.Lists.{same_is, same_self, not_same}
+use Rattle.rq_model.proofs.Lists.{same_is, not_same}
 use Rattle.rq_txn.specs.declared.Finished.{Finished}
-use Rattle.rq_txn.specs.Rows.{Row, found_row, without_row}
+use Rattle.rq_txn.specs.Rows.{Row, without_row}
 use Rattle.rq_groups.specs.declared.Held.{Held}
 use Rattle.rq_groups.specs.Ends.{HeldEnds, has_held, held_by, released}
 use Rattle.rq_store.specs.State.{open_of}

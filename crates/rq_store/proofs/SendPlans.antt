@@ -1,16 +1,14 @@
 -- A planned send fits the slots that it is planned from.
-use Rattle.std.proofs.Common.{◌≡◌, ◌≢◌, ℕ, ◌+◌, ◌<◌, ◌≤◌, List, [], ◌∷◌, length, reverse, map, refl, sym, ◌∙◌, ap, subst, true, false, cond, nat_eq, nat_lt, Option, Some, None, arith, inl, inr}
+use Rattle.std.proofs.Common.{◌≡◌, ◌≢◌, ℕ, ◌+◌, ◌<◌, List, [], ◌∷◌, length, refl, sym, ◌∙◌, ap, subst, true, false, cond, nat_eq, Option, Some, None, arith}
 use Rattle.std.proofs.lemmas.List.{length-map}
 use Rattle.std.proofs.lemmas.Bool.{eq-eqb, eqb-true, false_from_ne_true}
 use Rattle.rq_page.specs.declared.cell.Cell.{Cell}
 use Rattle.rq_page.specs.declared.directory.Directory.{Directory}
-use Rattle.rq_page.specs.Sizes.{Sizes, IsCellAddress, directory_at, sender_count}
 use Rattle.rq_page.specs.Slots.{Slot}
 use Rattle.rq_page.specs.Slots.Slot.{Free, Used, Sender}
 use Rattle.rq_level.specs.Chain.{Node, last, Linked, View, Shows, message}
 use Rattle.rq_level.specs.Log.{Slots, Write, Fits, Layout, cells_of, cell_in, put}
 use Rattle.rq_level.specs.Plans.{ShowsAt, IsLink, append_writes, with_next, IsAppend}
-use Rattle.rq_level.specs.Items.{layout_of}
 use Rattle.rq_level.proofs.Chains.{last_is, last_pos}
 use Rattle.rq_level.proofs.Laws.{shows_here}
 use Rattle.rq_level.proofs.Overlay.{put_off}

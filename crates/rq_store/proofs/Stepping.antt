@@ -1,27 +1,23 @@
 -- One more slot write of the operation under way, with its record.
-use Rattle.std.proofs.Common.{◌≡◌, ◌≢◌, ℕ, zero, suc, ◌+◌, ◌-◌, ◌*◌, ◌/◌, ◌%◌, ◌<◌, ◌≤◌, ◌==◌, ◌&&◌, ◌||◌, List, [], ◌∷◌, ◌++◌, length, map, take, drop, reverse, refl, sym, ◌∙◌, ap, subst, Bool, true, false, not, Option, Some, None, inl, inr, nat_eq, nat_lt, cond, arith}
+use Rattle.std.proofs.Common.{◌≡◌, ◌≢◌, ℕ, zero, suc, ◌+◌, ◌-◌, ◌/◌, ◌%◌, ◌<◌, ◌≤◌, ◌==◌, ◌&&◌, ◌||◌, List, [], ◌∷◌, ◌++◌, length, map, take, drop, reverse, refl, sym, ◌∙◌, ap, subst, Bool, true, false, not, Option, Some, None, inl, inr, nat_eq, cond, arith}
 use Rattle.std.specs.List.{sum_by, slice_get}
-use Rattle.std.proofs.lemmas.Bool.{cases_Bool, false≢true, true≢false, or_from, and_from, eq-eqb}
+use Rattle.std.proofs.lemmas.Bool.{false≢true, true≢false, or_from, and_from, eq-eqb}
 use Rattle.std.proofs.lemmas.List.{reverse-append, take-append-drop}
 use Rattle.rq_model.specs.declared.txn.Txn.{Txn}
 use Rattle.rq_model.specs.declared.record.Record.{Record}
-use Rattle.rq_model.specs.declared.record.Record.TheVariants as records
 use Rattle.rq_model.specs.Words.{In, same_txn, is_some}
 use Rattle.rq_model.specs.History.{Job}
-use Rattle.rq_model.specs.Ledger.{Open, Ledger, after, stepped, change, found}
-use Rattle.rq_model.specs.Legal.{Legal, count_rest, below, pending, has_under, OnFound}
-use Rattle.rq_model.specs.Legal as legal
+use Rattle.rq_model.specs.Ledger.{Open, after, stepped, change, found}
+use Rattle.rq_model.specs.Legal.{count_rest, below, pending, has_under, OnFound}
 use Rattle.rq_model.specs.Content.{has_end, committed_of}
 use Rattle.rq_model.specs.History.Entry.{Stepped}
 use Rattle.rq_model.specs.History.Call.{Step}
 use Rattle.rq_model.specs.Replay.Reply.{Gave_lsn}
-use Rattle.rq_model.proofs.Lists.{same_is, same_self, not_same}
 use Rattle.rq_page.specs.Sizes.{Sizes, address, sender_count}
 use Rattle.rq_page.specs.Slots.{held_in, IsSlotOf}
-use Rattle.rq_level.specs.Log.{Item, Write, put, same_op, Act, after_act}
+use Rattle.rq_level.specs.Log.{Write, put, same_op}
 use Rattle.rq_level.specs.Log.Item.{PageOp}
-use Rattle.rq_level.specs.Log.Act.{Wrote}
-use Rattle.rq_level.specs.Legal.{onto, May, MayPageOp, began, over, under_way, crossed, is_of}
+use Rattle.rq_level.specs.Legal.{onto, May, began, over, crossed}
 use Rattle.rq_level.specs.Plans.{IsPlan}
 use Rattle.rq_level.specs.Plans.Turn.{Did}
 use Rattle.rq_model.specs.declared.txn.Sub.{Sub}
@@ -36,13 +32,14 @@ use Rattle.rq_chain.specs.declared.SlotWrite.{SlotWrite}
 use Rattle.rq_chain.specs.Writes.{write_of, writes_of}
 use Rattle.rq_txn.specs.Rows.{Row, Under, found_row, change_row, row_stepped, under_stepped}
 use Rattle.rq_groups.specs.Ends.{HeldEnds}
-use Rattle.rq_store.specs.State.{State, ledger_of, size_of, open_of, open_ones_of, job_under, left_under}
-use Rattle.rq_store.specs.Sound.{IsSound, IsWhole, IsRow, IsGoing, IsGoingOf, IsSettled, AreEnds, is_under, left_by, everywhere, apart, appending, takes_one, InOrder}
+use Rattle.rq_groups.specs.Waiting.{waits}
+use Rattle.rq_store.specs.State.{State, ledger_of, open_of, open_ones_of, job_under, left_under}
+use Rattle.rq_store.specs.Sound.{IsSound, IsWhole, IsRow, IsGoing, IsGoingOf, IsSettled, is_under, left_by, everywhere, apart, appending, takes_one, takes_in, IsCovered}
 use Rattle.rq_store.specs.Steps.{Steps, page_op}
 use Rattle.rq_store.proofs.RowLists.{found_in, found_other, found_still, changed, distinct_change, not_txn}
 use Rattle.rq_store.proofs.Opens.{found_open, open_found, opens_change}
 use Rattle.rq_store.proofs.Working.{going_at, alone_going, not_found}
-use Rattle.rq_store.proofs.Others.{SaysSame, row_over, not_going, other_op, other_number, rows_sum, opens_sum}
+use Rattle.rq_store.proofs.Others.{row_over, not_going, other_op, other_number, rows_sum, opens_sum}
 
 drop_cons : {X : Type 0} (xs : List X) (k : ℕ) (x : X) → slice_get xs k ≡ Some x → drop k xs ≡ x ∷ drop (k + 1) xs
 drop_cons [] k x e = cc
@@ -94,6 +91,10 @@ stepped_left (Some u) = omega arith
 stepped_appending : (o : Option Under) → appending (under_stepped o) ≡ appending o
 stepped_appending None = refl
 stepped_appending (Some u) = refl
+
+stepped_covered : (ws : List ℕ) (o : Option Under) → IsCovered ws o → IsCovered ws (under_stepped o)
+stepped_covered ws None h = h
+stepped_covered ws (Some u) h = h
 
 stepped_open : (ends : HeldEnds) (q : Row) → open_of ends (row_stepped q) ≡ stepped (open_of ends q)
 stepped_open ends q =
@@ -216,7 +217,7 @@ module _ (s : State) (k : IsSound s) (t : Txn) (r : Row) (u : Under) (w : SlotWr
     plan = g.plan;
     told = g.told;
     held = g.held;
-    send = g.send;
+    moves = g.moves;
     sender = g.sender;
     reads = g.reads;
   } where
@@ -232,7 +233,7 @@ module _ (s : State) (k : IsSound s) (t : Txn) (r : Row) (u : Under) (w : SlotWr
     undid_nothing = row.undid_nothing;
     done = row.done;
     held = row.held;
-    sends = row.sends;
+    moves = row.moves;
     numbered = λ n m. or_from _ _ (other_number t r.txn u.number n (λ e. absurd (omega (arith, e, m, going.1)))) (row.numbered n m);
     idle = λ n m.
         let was : is_under n r.under ≡ false = ap (is_under n) under ∙ sym (ap (λ (y : Option Under). is_under n (under_stepped y)) under) ∙ m in
@@ -293,6 +294,11 @@ module _ (s : State) (k : IsSound s) (t : Txn) (r : Row) (u : Under) (w : SlotWr
     bound = k.bound;
     used = ap (λ n. count_used z (left_by z log).quiet + n) (rows_sum apart t row_stepped s.rows (λ q i e. ap (λ n. sum_by takes_one q.finished + n) (stepped_appending q.under))) ∙ k.used;
     forced = let f = k.forced in omega arith;
+    waiting = λ g m. ap (λ n. waits s.waiting g + n) (rows_sum (takes_in g) t row_stepped s.rows (λ q i e. refl)) ∙ k.waiting g m;
+    covered = λ q i. elim (changed t row_stepped s.rows r q k.distinct at_row i) [
+      | inl e ↦ subst (λ (y : Row). IsCovered s.waiting y.under) (sym e) (stepped_covered s.waiting r.under (k.covered r place.0))
+      | inr h ↦ k.covered q h.0
+    ];
   }
 
   pub step_steps : s.failed ≡ false → Steps s (Step t u.number) (Gave_lsn (length log + 1)) new

@@ -1,15 +1,14 @@
 -- What the log tells of a transaction that has not ended is what it has finished.
-use Rattle.std.proofs.Common.{◌≡◌, ℕ, ◌+◌, ◌<◌, List, [], ◌∷◌, ◌++◌, map, length, refl, sym, ◌∙◌, ap, subst, Bool, true, false, cond, arith, inl, inr, Option, Some, None}
-use Rattle.std.specs.List.{sum_by, filter, filter_map}
+use Rattle.std.proofs.Common.{◌≡◌, ℕ, ◌<◌, List, [], ◌∷◌, ◌++◌, map, length, refl, sym, ◌∙◌, ap, subst, cond, arith, inl, inr}
+use Rattle.std.specs.List.{sum_by, filter}
 use Rattle.std.proofs.lemmas.Bool.{cases_Bool}
 use Rattle.std.proofs.lemmas.List.Sums.{sum_by-cons}
-use Rattle.rq_model.specs.declared.txn.Txn.{Txn}
 use Rattle.rq_model.specs.declared.record.Deed.{Deed}
 use Rattle.rq_model.specs.declared.record.Deed.TheVariants.{Append, UnlinkHead, Close}
 use Rattle.rq_model.specs.declared.record.Record.{Record}
-use Rattle.rq_model.specs.Words.{Op, taken_from}
+use Rattle.rq_model.specs.Words.{Op}
 use Rattle.rq_model.specs.Counts.{AllBelow, op_sender, is_taken}
-use Rattle.rq_model.specs.Content.{Said, said, op_of, ops_told, told, deeds}
+use Rattle.rq_model.specs.Content.{Said, said, op_of, ops_told, told}
 use Rattle.rq_page.specs.Sizes.{Sizes, sender_count}
 use Rattle.rq_level.specs.Legal.{Placed, open_deeds}
 use Rattle.rq_level.specs.Plans.{deed_sender}
@@ -21,7 +20,7 @@ use Rattle.rq_txn.specs.declared.Finished.{Finished}
 use Rattle.rq_txn.specs.Rows.{Row}
 use Rattle.rq_groups.specs.Ends.{HeldEnds}
 use Rattle.rq_store.specs.State.{op_done}
-use Rattle.rq_store.specs.Sound.{IsWhole, IsRow, IsSend, AllSends, placed, placed_one, takes_one, takes_of}
+use Rattle.rq_store.specs.Sound.{IsWhole, IsRow, placed, placed_one, takes_one, takes_of}
 use Rattle.rq_store.proofs.Holders.{placed_first}
 
 say_join : (ps qs : List Placed) → say (ps ++ qs) ≡ say ps ++ say qs
@@ -57,29 +56,19 @@ told_below z (p ∷ ps) h = below_more (sender_count z) (ops_told (say ps)) (op_
 pub ops_below : (z : Sizes) (log : List Record) (ends : HeldEnds) (i b : ℕ) (r : Row) → IsWhole z log → IsRow z log ends i b r → AllBelow (sender_count z) (map op_done r.finished)
 ops_below z log ends i b r w h = subst (AllBelow (sender_count z)) (ap (λ ps. ops_told (say ps)) h.done ∙ told_placed r.finished) (told_below z (open_deeds r.txn (items z log)) (deeds_in_store z r.txn log w.in_store))
 
-none_taken : (s : ℕ) (d : Deed) → IsSend d → taken_from s (op_of (said d)) ≡ None
-none_taken s (Append q n tag previous body) is = refl
-none_taken s (UnlinkHead q n tag body) is = absurd is
-none_taken s (Close q) is = absurd is
+takes_many : (d : Deed) → cond (is_taken (op_of (said d))) 1 0 ≡ takes_of d
+takes_many (Append q n tag previous body) = refl
+takes_many (UnlinkHead q n tag body) = refl
+takes_many (Close q) = refl
 
-pub no_takes : (s : ℕ) (fs : List Finished) → AllSends fs → filter_map (taken_from s) (map op_done fs) ≡ []
-no_takes s [] h = refl
-no_takes s (f ∷ fs) h = rw (none_taken s f.deed h.0) (no_takes s fs h.1)
-
-is_no_take : (d : Deed) → IsSend d → is_taken (op_of (said d)) ≡ false
-is_no_take (Append q n tag previous body) is = refl
-is_no_take (UnlinkHead q n tag body) is = absurd is
-is_no_take (Close q) is = absurd is
-
-pub takes_none : (fs : List Finished) → AllSends fs → filter is_taken (map op_done fs) ≡ []
-takes_none [] h = refl
-takes_none (f ∷ fs) h = rw (is_no_take f.deed h.0) (takes_none fs h.1)
-
-takes_zero : (d : Deed) → IsSend d → takes_of d ≡ 0
-takes_zero (Append q n tag previous body) is = refl
-takes_zero (UnlinkHead q n tag body) is = absurd is
-takes_zero (Close q) is = absurd is
-
-pub sum_takes : (fs : List Finished) → AllSends fs → sum_by takes_one fs ≡ 0
-sum_takes [] h = refl
-sum_takes (f ∷ fs) h = let a = sum_by-cons takes_one f fs in let b = takes_zero f.deed h.0 in let c = sum_takes fs h.1 in omega (arith, a, b, c)
+-- how many messages finished operations took
+pub count_takes : (fs : List Finished) → length (filter is_taken (map op_done fs)) ≡ sum_by takes_one fs
+count_takes [] = refl
+count_takes (f ∷ fs) =
+    let a = sum_by-cons takes_one f fs in
+    let b = takes_many f.deed in
+    let c = count_takes fs in
+    elim (cases_Bool (is_taken (op_done f))) [
+      | inl y ↦ let d : 1 ≡ takes_one f = sym (rw y refl) ∙ b in rw y (omega (arith, a, c, d))
+      | inr n ↦ let d : 0 ≡ takes_one f = sym (rw n refl) ∙ b in rw n (omega (arith, a, c, d))
+    ]

@@ -1,10 +1,12 @@
 -- Opening a store: pages that fit a log, what going through the log makes of them, and the store that is open then.
-use Rattle.std.specs.Prelude.{◌≡◌, ◌≢◌, ℕ, ◌+◌, ◌-◌, ◌<◌, ◌≤◌, false, List, [], ◌∷◌, length, drop, slice_index_or, Option, Some, None}
+use Rattle.std.specs.Prelude.{◌≡◌, ◌≢◌, ℕ, ◌+◌, ◌-◌, ◌<◌, ◌≤◌, false, List, [], ◌∷◌, length, map, drop, slice_index_or, Option, Some, None}
 use Rattle.rq_model.specs.declared.record.Record.{Record}
 use Rattle.rq_model.specs.declared.record.Record.TheVariants.{PageOp, PageUndo, Restart}
-use Rattle.rq_page.specs.Sizes.{Sizes, page_count, address}
+use Rattle.rq_model.specs.Legal.{below}
+use Rattle.rq_page.specs.Sizes.{Sizes, page_count, address, directory_at, sender_count}
 use Rattle.rq_page.specs.Pages.{lsn_of, slot_of, IsWritten}
-use Rattle.rq_page.specs.Slots.{held_in, IsSlotOf}
+use Rattle.rq_page.specs.Slots.{Slot, held_in, IsSlotOf}
+use Rattle.rq_page.specs.Slots.Slot.{Free, Used, Sender}
 use Rattle.rq_page.specs.Formatted.{IsHeaderOf, count_in}
 use Rattle.rq_level.specs.Stored.{slots_in, count_used}
 use Rattle.rq_store.specs.State.{State}
@@ -76,6 +78,16 @@ image_in images page = slice_index_or images page []
 abbrev pub next_restart : List Record → Record
 next_restart log = Restart (incarnation_of log + 1)
 
+-- how many messages a directory slot tells of
+abbrev pub messages_told : Slot → ℕ
+messages_told Free = 0
+messages_told (Used c) = 0
+messages_told (Sender s d) = d.sent - d.received
+
+-- by sender, how many messages wait where nothing is open
+abbrev pub waiting_in : Sizes → List (List ℕ) → List ℕ
+waiting_in z images = map (λ s. messages_told (slots_in z images (directory_at s))) (below (sender_count z))
+
 -- the open store: of the next incarnation, with nothing begun and all records forced
 abbrev pub opened : Sizes → List (List ℕ) → List Record → State
 opened z images log = record {
@@ -89,6 +101,7 @@ opened z images log = record {
   incarnation = incarnation_of log + 1;
   begins = 0;
   cells_in_use = count_used z (slots_in z images);
+  waiting = waiting_in z images;
 }
 
 -- a record that tells a write of a slot of the store, no number of whose slot is beyond the record's LSN, and whose before-image stands there where the page is older

@@ -1,33 +1,35 @@
 -- What is so of a store that goes back to a legal log: the log is whole, the pages hold what it says, and each transaction
 -- that has not ended is as its records say.
-use Rattle.std.specs.Prelude.{◌≡◌, ◌≢◌, ℕ, ◌+◌, ◌<◌, ◌≤◌, Bool, true, false, cond, nat_eq, not, List, [], ◌∷◌, length, map, take, drop, reverse, Option, Some, None}
-use Rattle.std.specs.List.{sum_by}
+use Rattle.std.specs.Prelude.{◌≡◌, ℕ, ◌+◌, ◌<◌, ◌≤◌, Bool, true, false, nat_eq, List, [], ◌∷◌, length, map, take, drop, reverse, Option, Some, None}
+use Rattle.std.specs.List.{sum_by, filter_map}
 use Rattle.rq_model.specs.declared.txn.Txn.{Txn}
 use Rattle.rq_model.specs.declared.record.Deed.{Deed}
 use Rattle.rq_model.specs.declared.record.Deed.TheVariants.{Append, UnlinkHead, Close}
 use Rattle.rq_model.specs.declared.record.Record.{Record}
 use Rattle.rq_model.specs.declared.record.Record.TheVariants.{PageOp, PageUndo, OpEnd, OpVoid, CompEnd, Commit, Restart, AbortEnd}
-use Rattle.rq_model.specs.Words.{In, same_txn, is_some}
+use Rattle.rq_model.specs.Words.{In, same_txn, is_some, sent_for, taken_from}
 use Rattle.rq_model.specs.Deeds.{spelled_deed, deed_in}
-use Rattle.rq_model.specs.Content.{has_end, deeds, KeepsRules}
+use Rattle.rq_model.specs.Ledger.{rest_in}
+use Rattle.rq_model.specs.Content.{has_end, deeds, committed_of, KeepsRules}
 use Rattle.rq_model.specs.Legal as legal
 use Rattle.rq_page.specs.Sizes.{Sizes, IsInRange, cell_count, sender_count}
 use Rattle.rq_page.specs.Slots.{IsSlotOf}
-use Rattle.rq_level.specs.Log.{Layout, Item, State as Slots_state, state_of}
+use Rattle.rq_level.specs.Log.{State as Slots_state, state_of}
 use Rattle.rq_level.specs.Items.{items, layout_of, operation, Reads, has_undone}
 use Rattle.rq_level.specs.Legal.{Placed, Legal, open_deeds, began, over, under_way, turned_back, crossed, view}
 use Rattle.rq_level.specs.Groups.{KeepsGroups, Told}
 use Rattle.rq_level.specs.Plans.{IsPlan, deed_sender}
 use Rattle.rq_level.specs.Plans.Turn.{Did}
 use Rattle.rq_level.specs.InStore.{InStore, IsStranger}
-use Rattle.rq_level.specs.Stored.{slots_in, count_used, AreSlots}
+use Rattle.rq_level.specs.Stored.{slots_in, count_used}
 use Rattle.rq_level.specs.Owed.{Owes}
 use Rattle.rq_chain.specs.Writes.{writes_of}
 use Rattle.rq_txn.specs.declared.Finished.{Finished}
 use Rattle.rq_txn.specs.Rows.{Row, Under, found_row, AreDistinct}
 use Rattle.rq_groups.specs.declared.Held.{Held}
 use Rattle.rq_groups.specs.Ends.{HeldEnds, has_held}
-use Rattle.rq_store.specs.State.{State, ledger_of, size_of}
+use Rattle.rq_groups.specs.Waiting.{waits}
+use Rattle.rq_store.specs.State.{State, ledger_of, size_of, op_done}
 
 -- the incarnation that the log's records are of, 0 where it has none
 abbrev pub incarnation_one : Record → ℕ → ℕ
@@ -102,14 +104,25 @@ abbrev pub AllHeld : HeldEnds → Txn → List Finished → Type 0
 AllHeld ends t [] = Unit {0}
 AllHeld ends t (f ∷ fs) = HoldsFor ends t f.deed × AllHeld ends t fs
 
--- a send: for now no other operation is started
-abbrev pub IsSend : Deed → Type 0
-IsSend (Append sender sequence tag previous body) = Unit {0}
-IsSend _ = ⊥
+-- a message is sent or taken: for now no group is closed
+abbrev pub Moves : Deed → Type 0
+Moves (Append sender sequence tag previous body) = Unit {0}
+Moves (UnlinkHead sender sequence tag body) = Unit {0}
+Moves (Close sender) = ⊥
 
-abbrev pub AllSends : List Finished → Type 0
-AllSends [] = Unit {0}
-AllSends (f ∷ fs) = IsSend f.deed × AllSends fs
+abbrev pub AllMove : List Finished → Type 0
+AllMove [] = Unit {0}
+AllMove (f ∷ fs) = Moves f.deed × AllMove fs
+
+-- where a message is taken, one waits
+abbrev pub HasWaiting : List ℕ → Deed → Type 0
+HasWaiting ws (Append sender sequence tag previous body) = Unit {0}
+HasWaiting ws (UnlinkHead sender sequence tag body) = 1 ≤ waits ws sender
+HasWaiting ws (Close sender) = Unit {0}
+
+abbrev pub IsCovered : List ℕ → Option Under → Type 0
+IsCovered ws None = Unit {0}
+IsCovered ws (Some u) = HasWaiting ws u.deed
 
 -- every page is latched by the one operation under way
 abbrev pub everywhere : ℕ → Bool
@@ -126,7 +139,7 @@ pub record IsGoing (z : Sizes) (log : List Record) (ends : HeldEnds) (t : Txn) (
   pub plan : IsPlan (layout_of z) (Did u.deed) (reverse (writes_of z u.writes))
   pub told : Told u.deed (view (items z log) (deed_sender u.deed))
   pub held : HoldsFor ends t u.deed
-  pub send : IsSend u.deed
+  pub moves : Moves u.deed
   pub sender : deed_sender u.deed < sender_count z
   pub reads : deed_in (spelled_deed u.deed) ≡ Some u.deed
 
@@ -148,7 +161,7 @@ pub record IsRow (z : Sizes) (log : List Record) (ends : HeldEnds) (incarnation 
   pub undid_nothing : has_undone log r.txn ≡ false
   pub done : open_deeds r.txn (items z log) ≡ placed r.finished
   pub held : AllHeld ends r.txn r.finished
-  pub sends : AllSends r.finished
+  pub moves : AllMove r.finished
   pub numbered : (n : ℕ) → r.number < n → began (operation r.txn n) (items z log) ≡ false
   pub idle : (n : ℕ) → is_under n r.under ≡ false → under_way (operation r.txn n) (items z log) ≡ false
   pub going : IsGoingOf z log ends r r.under
@@ -184,6 +197,13 @@ appending (Some u) = appends_of u.deed
 abbrev pub apart : Row → ℕ
 apart r = sum_by takes_one r.finished + appending r.under
 
+-- how many messages it sent for g and took from g
+abbrev pub sends_in : ℕ → Row → ℕ
+sends_in g r = length (filter_map (sent_for g) (map op_done r.finished))
+
+abbrev pub takes_in : ℕ → Row → ℕ
+takes_in g r = length (filter_map (taken_from g) (map op_done r.finished))
+
 -- The store goes back to a legal log.
 pub record IsSound (s : State) : Type 0 where
   pub range : IsInRange s.sizes
@@ -201,4 +221,6 @@ pub record IsSound (s : State) : Type 0 where
   pub cells : s.cells_in_use ≡ legal.cells_in_use (size_of s.sizes) (ledger_of s)
   pub bound : s.cells_in_use ≤ cell_count s.sizes
   pub used : count_used s.sizes (left_by s.sizes s.records).quiet + sum_by apart s.rows ≡ s.cells_in_use
+  pub waiting : (g : ℕ) → g < sender_count s.sizes → waits s.waiting g + sum_by (takes_in g) s.rows ≡ length (rest_in (committed_of s.records) g)
+  pub covered : (r : Row) → In r s.rows → IsCovered s.waiting r.under
   pub forced : s.forced ≤ length s.records

@@ -1,7 +1,6 @@
 -- An open store as plain lists, and the ledger that it comes to.
-use Rattle.std.specs.Prelude.{ℕ, ◌+◌, ◌-◌, Bool, not, cond, nat_lt, List, [], Option, Some, None, map, length}
+use Rattle.std.specs.Prelude.{ℕ, ◌+◌, ◌-◌, Bool, not, List, Option, Some, None, map, length}
 use Rattle.std.specs.List.{sum_by}
-use Rattle.rq_model.specs.declared.txn.Txn.{Txn}
 use Rattle.rq_model.specs.declared.record.Deed.{Deed}
 use Rattle.rq_model.specs.declared.record.Deed.TheVariants.{Append, UnlinkHead, Close}
 use Rattle.rq_model.specs.declared.record.Record.{Record}
@@ -29,6 +28,8 @@ pub record State : Type 0 where
   pub incarnation : ℕ
   pub begins : ℕ
   pub cells_in_use : ℕ
+  -- by sender, how many messages wait: they are committed, and nobody has taken them
+  pub waiting : List ℕ
 
 abbrev pub size_of : Sizes → Size
 size_of z = record { senders = sender_count z; cells = cell_count z }

@@ -1,5 +1,5 @@
 -- One call of a store: what it was, what it gave, and what that makes of the ledger.
-use Rattle.std.specs.Prelude.{◌≡◌, ℕ, ◌/◌, ◌%◌}
+use Rattle.std.specs.Prelude.{◌≡◌, ℕ, ◌/◌, ◌%◌, cond, nat_eq}
 use Rattle.rq_model.specs.declared.txn.Txn.{Txn}
 use Rattle.rq_model.specs.declared.record.Record.{Record}
 use Rattle.rq_model.specs.declared.record.Record.TheVariants.{PageOp, OpEnd}
@@ -36,3 +36,9 @@ abbrev pub gave_done : Deed → Reply
 gave_done (Append sender sequence tag previous body) = Gave_sent
 gave_done (UnlinkHead sender sequence tag body) = Gave_message (record { sender = sender; tag = tag; body = body })
 gave_done (Close sender) = Gave_closed
+
+-- how many messages the deed takes from g
+abbrev pub took : ℕ → Deed → ℕ
+took g (Append sender sequence tag previous body) = 0
+took g (UnlinkHead sender sequence tag body) = cond (nat_eq sender g) 1 0
+took g (Close sender) = 0

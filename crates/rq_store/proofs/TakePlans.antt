@@ -1,0 +1,106 @@
+-- A planned receive fits the slots that it is planned from.
+use Rattle.std.proofs.Common.{◌≡◌, ◌≢◌, ℕ, ◌+◌, ◌<◌, List, [], ◌∷◌, length, map, refl, sym, ◌∙◌, ap, cond, nat_lt, Option, Some, None, arith}
+use Rattle.std.proofs.lemmas.List.{length-map}
+use Rattle.std.proofs.lemmas.Bool.{lt-ltb}
+use Rattle.rq_page.specs.declared.cell.Cell.{Cell}
+use Rattle.rq_page.specs.declared.directory.Directory.{Directory}
+use Rattle.rq_page.specs.Slots.{Slot}
+use Rattle.rq_page.specs.Slots.Slot.{Free, Used, Sender}
+use Rattle.rq_level.specs.Chain.{Node, first, Linked, View, Shows, message}
+use Rattle.rq_level.specs.Log.{Slots, Write, Fits, Layout, cells_of, cell_in, put}
+use Rattle.rq_level.specs.Plans.{ShowsAt, IsLink, unlink_head_writes, with_prev, IsUnlinkHead}
+use Rattle.rq_level.proofs.Chains.{other_place}
+use Rattle.rq_level.proofs.Laws.{shows_here}
+use Rattle.rq_level.proofs.Overlay.{put_off}
+use Rattle.rq_store.specs.Plans.{Stands_at}
+
+same_some : (a b : Cell) → Some a ≡ Some b → a ≡ b
+same_some a b e = cc
+
+-- what the first cell of a chain says, and the one behind it
+record FirstCells (q : Slots) (s : ℕ) (d : Directory) (c : Cell) (next : Option Cell) (count : ℕ) : Type 0 where
+  sender : c.sender ≡ s
+  link : IsLink s c.next next
+  apart : (x : Cell) → next ≡ Some x → c.sequence < x.sequence
+  one : next ≡ None → count ≡ 1
+  more : (x : Cell) → next ≡ Some x → 1 < count
+
+first_cells : (q : Slots) (s : ℕ) (d : Directory) (v : View) (c : Cell) (next : Option Cell) → q 0 ≡ Free → 0 < d.head → q d.head ≡ Used c → Stands_at q c.next next → Shows (cells_of q) s d v → FirstCells q s d c next (length v.messages)
+first_cells q s d v c next zero pos here beside k = at k.nodes k.linked k.head k.messages where
+  at : (ns : List Node) → Linked (cells_of q) s 0 (d.received + 1) ns 0 → d.head ≡ first ns 0 → v.messages ≡ map message ns → FirstCells q s d c next (length v.messages)
+  at [] l h m = absurd (omega (arith, pos, h))
+  at (n ∷ ns) l h m =
+      let is : c ≡ record { sender = s; sequence = d.received + 1; tag = n.tag; body = n.body; next = first ns 0; prev = 0 } = same_some c _ (ap cell_in (sym here) ∙ ap (cells_of q) h ∙ l.1) in
+      let count : length v.messages ≡ length (n ∷ ns) = ap (λ (x : List (ℕ × List ℕ)). length x) m ∙ length-map (n ∷ ns) message in
+      behind ns l.2 (ap (λ (x : Cell). x.next) is) (ap (λ (x : Cell). x.sender) is) (ap (λ (x : Cell). x.sequence) is) count next beside
+    where
+      behind : (ns : List Node) → Linked (cells_of q) s n.at (d.received + 1 + 1) ns 0 → c.next ≡ first ns 0 → c.sender ≡ s → c.sequence ≡ d.received + 1 → length v.messages ≡ length (n ∷ ns) → (o : Option Cell) → Stands_at q c.next o → FirstCells q s d c o (length v.messages)
+      behind [] l e sender number count None b = record { sender = sender; link = b; apart = λ x f. cc; one = λ f. (omega (arith, count)); more = λ x f. cc }
+      behind [] l e sender number count (Some x) b = let bad : Used x ≡ Free = sym b ∙ ap q e ∙ zero in cc
+      behind (m ∷ ms) l e sender number count None b = absurd (let p = l.0 in omega (arith, p, e, b))
+      behind (m ∷ ms) l e sender number count (Some x) b =
+          let is : x ≡ record { sender = s; sequence = d.received + 1 + 1; tag = m.tag; body = m.body; next = first ms 0; prev = n.at } = same_some x _ (ap cell_in (sym b) ∙ ap (cells_of q) e ∙ l.1) in
+          let there : 0 < c.next = (let p = l.0 in omega (arith, p, e)) in
+          let second : x.sequence ≡ d.received + 1 + 1 = ap (λ (y : Cell). y.sequence) is in record {
+            sender = sender;
+            link = (there, ap (λ (y : Cell). y.sender) is);
+            apart = λ y f. (let g : x.sequence ≡ y.sequence = ap (λ (z : Cell). z.sequence) (same_some x y f) in omega (arith, number, second, g));
+            one = λ f. cc;
+            more = λ y f. omega (arith, count);
+          }
+
+pub is_unlink_head : (l : Layout) (q : Slots) (s : ℕ) (d : Directory) (c : Cell) (next : Option Cell) (v : View) (ws : List Write) → q 0 ≡ Free → q (l.directory_at s) ≡ Sender s d → ShowsAt l q s v → 0 < d.head → q d.head ≡ Used c → Stands_at q c.next next
+    → ws ≡ unlink_head_writes l s d c next → IsUnlinkHead l s (d.received + 1) c.tag c.body ws
+is_unlink_head l q s d c next v ws zero at shows pos here beside e =
+    let f = first_cells q s d v c next zero pos here beside (shows_here l q s v d (sym at) shows) in
+    record { directory = d; cell = c; next = next; used = pos; sender = f.sender; sequence = refl; tag_is = refl; body_is = refl; next_is = f.link; writes = e }
+
+pub unlink_head_fits : (l : Layout) (q : Slots) (s : ℕ) (d : Directory) (c : Cell) (next : Option Cell) (v : View) → q 0 ≡ Free → q (l.directory_at s) ≡ Sender s d → ShowsAt l q s v → 0 < d.head → q d.head ≡ Used c → Stands_at q c.next next
+    → Fits (unlink_head_writes l s d c next) q
+unlink_head_fits l q s d c None v zero at shows pos here beside =
+    let off : l.directory_at s ≢ d.head = λ e. (let bad : Sender s d ≡ Used c = sym at ∙ ap q e ∙ here in cc) in
+    (sym (put_off q d.head Free (l.directory_at s) off ∙ at), (sym here, tt))
+unlink_head_fits l q s d c (Some x) v zero at shows pos here beside =
+    let f = first_cells q s d v c (Some x) zero pos here beside (shows_here l q s v d (sym at) shows) in
+    let off : l.directory_at s ≢ d.head = λ e. (let bad : Sender s d ≡ Used c = sym at ∙ ap q e ∙ here in cc) in
+    let off_next : l.directory_at s ≢ c.next = λ e. (let bad : Sender s d ≡ Used x = sym at ∙ ap q e ∙ beside in cc) in
+    let apart : c.next ≢ d.head = λ e. other_place (cells_of q) d.head c.next c x (ap cell_in here) (ap cell_in beside) (f.apart x refl) (sym e) in
+    (sym (put_off (put q d.head Free) c.next (Used (with_prev 0 x)) (l.directory_at s) off_next ∙ put_off q d.head Free (l.directory_at s) off ∙ at), (sym (put_off q d.head Free c.next apart ∙ beside), (sym here, tt)))
+
+-- how many slots a receive writes where its chain has so many messages
+abbrev pub takes_for : ℕ → ℕ
+takes_for n = cond (nat_lt 1 n) 3 2
+
+pub unlink_head_count : (l : Layout) (q : Slots) (s : ℕ) (d : Directory) (c : Cell) (next : Option Cell) (v : View) → q 0 ≡ Free → q (l.directory_at s) ≡ Sender s d → ShowsAt l q s v → 0 < d.head → q d.head ≡ Used c → Stands_at q c.next next
+    → length (unlink_head_writes l s d c next) ≡ takes_for (length v.messages)
+unlink_head_count l q s d c None v zero at shows pos here beside =
+    let f = first_cells q s d v c None zero pos here beside (shows_here l q s v d (sym at) shows) in
+    ap takes_for (sym (f.one refl))
+unlink_head_count l q s d c (Some x) v zero at shows pos here beside =
+    let f = first_cells q s d v c (Some x) zero pos here beside (shows_here l q s v d (sym at) shows) in
+    sym (rw (lt-ltb 1 (length v.messages) (f.more x refl)) refl)
+
+-- where a chain holds a message, its first cell stands where the directory says
+pub head_stands : (q : Slots) (s : ℕ) (d : Directory) (v : View) → Shows (cells_of q) s d v → 0 < length v.messages → (0 < d.head) × ((c : Cell) × (q d.head ≡ Used c))
+head_stands q s d v k more = at k.nodes k.linked k.head k.messages where
+  used_is : (x : Slot) (c : Cell) → cell_in x ≡ Some c → x ≡ Used c
+  used_is Free c e = cc
+  used_is (Used b) c e = ap (λ y. Used y) (same_some b c e)
+  used_is (Sender r f) c e = cc
+
+  at : (ns : List Node) → Linked (cells_of q) s 0 (d.received + 1) ns 0 → d.head ≡ first ns 0 → v.messages ≡ map message ns → (0 < d.head) × ((c : Cell) × (q d.head ≡ Used c))
+  at [] l h m = absurd (let n : length v.messages ≡ 0 = ap (λ (x : List (ℕ × List ℕ)). length x) m in omega (arith, more, n))
+  at (n ∷ ns) l h m = ((let p = l.0 in omega (arith, p, h)), (record { sender = s; sequence = d.received + 1; tag = n.tag; body = n.body; next = first ns 0; prev = 0 }, ap q h ∙ used_is (q n.at) _ l.1))
+
+-- and the cell that it names stands too
+pub next_stands : (q : Slots) (s : ℕ) (d : Directory) (v : View) (c : Cell) → Shows (cells_of q) s d v → 0 < d.head → q d.head ≡ Used c → 0 < c.next → (x : Cell) × (cell_in (q c.next) ≡ Some x)
+next_stands q s d v c k pos here more = at k.nodes k.linked k.head where
+  at : (ns : List Node) → Linked (cells_of q) s 0 (d.received + 1) ns 0 → d.head ≡ first ns 0 → (x : Cell) × (cell_in (q c.next) ≡ Some x)
+  at [] l h = absurd (omega (arith, pos, h))
+  at (n ∷ ns) l h =
+      let is : c ≡ record { sender = s; sequence = d.received + 1; tag = n.tag; body = n.body; next = first ns 0; prev = 0 } = same_some c _ (ap cell_in (sym here) ∙ ap (cells_of q) h ∙ l.1) in
+      behind ns l.2 (ap (λ (x : Cell). x.next) is)
+    where
+      behind : (ns : List Node) → Linked (cells_of q) s n.at (d.received + 1 + 1) ns 0 → c.next ≡ first ns 0 → (x : Cell) × (cell_in (q c.next) ≡ Some x)
+      behind [] l e = absurd (omega (arith, more, e))
+      behind (m ∷ ms) l e = (record { sender = s; sequence = d.received + 1 + 1; tag = m.tag; body = m.body; next = first ms 0; prev = n.at }, ap (cells_of q) e ∙ l.1)
