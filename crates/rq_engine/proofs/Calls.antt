@@ -1,7 +1,7 @@
 -- What the calls answer, from what their bodies found and made.
-use Rattle.std.proofs.Common.{◌≡◌, ◌≢◌, ℕ, zero, suc, ◌+◌, ◌-◌, ◌*◌, ◌/◌, ◌%◌, ◌^◌, ◌<◌, ◌≤◌, ◌&&◌, ◌||◌, List, [], ◌∷◌, length, map, refl, sym, ◌∙◌, ap, subst, Bool, true, false, not, cond, nat_eq, nat_lt, Option, Some, None, IfSome, arith, inl, inr, ◌⊎◌}
+use Rattle.std.proofs.Common.{◌≡◌, ℕ, zero, suc, ◌+◌, ◌-◌, ◌*◌, ◌^◌, ◌<◌, ◌≤◌, ◌&&◌, List, [], ◌∷◌, length, map, refl, sym, ◌∙◌, ap, subst, Bool, true, false, not, nat_eq, nat_lt, Option, Some, None, IfSome, arith, inl, inr, ◌⊎◌}
 use Rattle.std.specs.List.{sum_by, slice_get, slice_index_or}
-use Rattle.std.proofs.lemmas.Bool.{cases_Bool, false≢true, true≢false, false_from_ne_true, eqb-true, eq-eqb, and_from, lt-ltb, le-ltb}
+use Rattle.std.proofs.lemmas.Bool.{cases_Bool, false_from_ne_true, eqb-true, eq-eqb, and_from, lt-ltb}
 use Rattle.std.proofs.lemmas.List.Sums.{sum_by-cons}
 use Rattle.std.proofs.lemmas.Option.{slice_get_within, slice_get-get_or, same_Some}
 use Rattle.rq_model.specs.declared.txn.Txn.{Txn}
@@ -11,28 +11,28 @@ use Rattle.rq_model.specs.declared.record.Record.{Record}
 use Rattle.rq_model.specs.declared.record.Record.TheVariants as records
 use Rattle.rq_model.specs.declared.refusal.Refusal.{Refusal}
 use Rattle.rq_model.specs.declared.refusal.Refusal.TheVariants as why
-use Rattle.rq_model.specs.Words.{In, is_some, same_txn}
+use Rattle.rq_model.specs.Words.{is_some, same_txn}
 use Rattle.rq_model.specs.Deeds.{spelled_deed}
 use Rattle.rq_model.specs.History.{Call}
-use Rattle.rq_model.specs.History.Call.{Commit, Step, Finish, Force, Hand_over, Show}
+use Rattle.rq_model.specs.History.Call.{Commit, Step, Finish, Show}
 use Rattle.rq_model.specs.History.Entry.{Ready, Shown}
 use Rattle.rq_model.specs.Ledger.{Open, found}
 use Rattle.rq_model.specs.Legal.{has_under, steps_left, log_full, tests, first_of, OnFound as Open_found}
 use Rattle.rq_model.specs.Replay.{Reply as Gave}
 use Rattle.rq_model.specs.Replay.Reply.{Gave_lsn, Gave_ready, Gave_content}
-use Rattle.rq_model.proofs.Lists.{same_is}
 use Rattle.rq_page.specs.Sizes.{Sizes}
-use Rattle.rq_page.specs.Slots.{IsSlotOf}
 use Rattle.rq_chain.specs.declared.SlotWrite.{SlotWrite}
 use Rattle.rq_chain.specs.Writes.{IsSlotWrite, AreSlotWrites}
 use Rattle.rq_txn.specs.declared.Finished.{Finished}
-use Rattle.rq_txn.specs.Rows.{Row, Under, found_row, any_under, change_row, without_row, row_stepped, row_finished}
+use Rattle.rq_txn.specs.Rows.{Row, Under, found_row, finished_of, any_under, change_row, without_row, row_stepped, row_finished}
 use Rattle.rq_groups.specs.Ends.{HeldEnds}
-use Rattle.rq_store.specs.State.{State, ledger_of, size_of, open_of, open_ones_of, owed_by, owed_one, owed_under, job_under, left_under}
-use Rattle.rq_store.specs.Sound.{IsSound}
+use Rattle.rq_store.specs.State.{State, ledger_of, size_of, owed_one, owed_under, job_under, left_under}
+use Rattle.rq_groups.specs.Waiting.{waits}
+use Rattle.rq_store.specs.Sound.{IsSound, apart, takes_one, sends_in}
+use Rattle.rq_store.proofs.Waiting.{one_of_sum}
 use Rattle.rq_store.specs.Steps.{Steps, page_op, op_end, gave_done}
 use Rattle.rq_store.proofs.RowLists.{found_in}
-use Rattle.rq_store.proofs.Opens.{found_open, open_found, busy_is}
+use Rattle.rq_store.proofs.Opens.{busy_is}
 use Rattle.rq_model.specs.Ledger.{group_in}
 use Rattle.rq_model.specs.History.{Group}
 use Rattle.rq_model.specs.Legal.{any_busy, below}
@@ -43,8 +43,10 @@ use Rattle.rq_store.proofs.Working.{going_at}
 use Rattle.rq_store.proofs.Stepping.{step_steps}
 use Rattle.rq_store.proofs.Finishing.{finish_steps}
 use Rattle.rq_store.proofs.Committing.{commit_steps}
-use Rattle.rq_engine.specs.Kept.{IsKept, IsRowKept, IsUnderKept, room_one, room_of, total_of}
-use Rattle.rq_engine.specs.Answers.{HasCause, Refuses, OnFound, OnUnder, IsGoing, NotGoing, NotFound, IsOther, Idle, CannotFinish, IsMade, IsReady}
+use Rattle.rq_engine.specs.Kept.{IsKept, room_one, room_of, done_one}
+use Rattle.rq_engine.specs.Moves.{with_sends, without_taken}
+use Rattle.rq_engine.proofs.Waits.{waits-with_sends, waits-without_taken}
+use Rattle.rq_engine.specs.Answers.{Refuses, OnFound, OnUnder, IsGoing, NotGoing, NotFound, IsOther, Idle, CannotFinish, IsMade, IsReady}
 use Rattle.rq_engine.proofs.Keeping.{kept_at, under_at, kept_stepped, kept_finished, kept_committed}
 use Rattle.rq_engine.proofs.Refusals.{refuse, refuse_failed, found_of, found_some, found_none, not_full}
 
@@ -171,8 +173,8 @@ module _ (s : State) (f : Bool) (o res : ℕ) (k : IsKept s f o res) (sub : Sub)
   all_made : gd.under.made ≡ length gd.under.writes
   all_made = let a = (under_at s f o res sub.txn gd.row gd.under k gd.found gd.is).made in let b = gd.so.0 in omega (arith, a, b)
 
-  pub end_kept : (x : Record) (end : Finished) (left : ℕ) → left + (30 + length (spelled_deed d)) ≡ res → IsKept (record s { rows = change_row sub.txn (row_finished end) s.rows; records = x ∷ s.records }) f (o - 1) left
-  end_kept x end left e = kept_finished s f o res k sub.txn gd.row gd.found gd.under x end left gd.is all_made (let c : length (spelled_deed gd.under.deed) ≡ length (spelled_deed d) = ap (λ (x : Deed). length (spelled_deed x)) gd.so.1 in omega (arith, c, e))
+  pub end_kept : (x : Record) (end : Finished) (left : ℕ) → left + (30 + length (spelled_deed d)) ≡ res → IsKept (record s { rows = change_row sub.txn (row_finished end) s.rows; records = x ∷ s.records; waiting = without_taken d s.waiting }) f (o - 1) left
+  end_kept x end left e = kept_finished s f o res k sub.txn gd.row gd.found gd.under x end left d gd.is all_made (let c : length (spelled_deed gd.under.deed) ≡ length (spelled_deed d) = ap (λ (x : Deed). length (spelled_deed x)) gd.so.1 in omega (arith, c, e))
 
 -- one more write
 pub step_done : (s new : State) (sub : Sub) (w : SlotWrite) (lsn : ℕ) → s.failed ≡ false → IsGoing s sub (Next w) → IsMade s sub w new → lsn ≡ length s.records + 1 → IsSound s → Steps s (Step sub.txn sub.number) (Gave_lsn lsn) new
@@ -248,14 +250,14 @@ step_idle s sub why.TooManyTransactions h = absurd h
 step_idle s sub why.NotForced h = absurd h
 step_idle s sub why.LogFull h = absurd h
 
-pub finish_done : (s new : State) (sub : Sub) (d : Deed) → s.failed ≡ false → IsGoing s sub (AllMade d) → new ≡ record s { rows = change_row sub.txn (row_finished (record { lsn = length s.records + 1; deed = d })) s.rows; records = op_end sub.txn sub.number d ∷ s.records } → IsSound s → Steps s (Finish sub.txn sub.number) (gave_done d) new
+pub finish_done : (s new : State) (sub : Sub) (d : Deed) → s.failed ≡ false → IsGoing s sub (AllMade d) → new ≡ record s { rows = change_row sub.txn (row_finished (record { lsn = length s.records + 1; deed = d })) s.rows; records = op_end sub.txn sub.number d ∷ s.records; waiting = without_taken d s.waiting } → IsSound s → Steps s (Finish sub.txn sub.number) (gave_done d) new
 finish_done s new sub d running h e k =
     let g = going_of s sub (AllMade d) h in
     let made = (going_at s k sub.txn g.row g.under g.found g.is).0.made in
     let all = g.so.0 in
-    let a = finish_steps s k sub.txn g.row g.under g.found g.is (omega (arith, made, all)) running in
-    let b = subst (λ (n : ℕ). Steps s (Finish sub.txn n) (gave_done g.under.deed) (record s { rows = change_row sub.txn (row_finished (record { lsn = length s.records + 1; deed = g.under.deed })) s.rows; records = op_end sub.txn n g.under.deed ∷ s.records })) g.number a in
-    let c = subst (λ (x : Deed). Steps s (Finish sub.txn sub.number) (gave_done x) (record s { rows = change_row sub.txn (row_finished (record { lsn = length s.records + 1; deed = x })) s.rows; records = op_end sub.txn sub.number x ∷ s.records })) g.so.1 b in
+    let a = finish_steps s k sub.txn g.row g.under (without_taken g.under.deed s.waiting) g.found g.is (omega (arith, made, all)) (λ p. waits-without_taken g.under.deed s.waiting p) running in
+    let b = subst (λ (n : ℕ). Steps s (Finish sub.txn n) (gave_done g.under.deed) (record s { rows = change_row sub.txn (row_finished (record { lsn = length s.records + 1; deed = g.under.deed })) s.rows; records = op_end sub.txn n g.under.deed ∷ s.records; waiting = without_taken g.under.deed s.waiting })) g.number a in
+    let c = subst (λ (x : Deed). Steps s (Finish sub.txn sub.number) (gave_done x) (record s { rows = change_row sub.txn (row_finished (record { lsn = length s.records + 1; deed = x })) s.rows; records = op_end sub.txn sub.number x ∷ s.records; waiting = without_taken x s.waiting })) g.so.1 b in
     subst (λ (x : State). Steps s (Finish sub.txn sub.number) (gave_done d) x) (sym e) c
 
 steps_are_left : (s : State) (sub : Sub) → s.failed ≡ false → IsGoing s sub (λ r u. u.made < length u.writes) → Refuses false false s (Finish sub.txn sub.number) why.Unfinished
@@ -298,16 +300,34 @@ commit_range s f o res n t k h =
     let d = row.low in
     (omega (arith, a, c), omega (arith, b, d))
 
-pub commit_kept : (s : State) (f : Bool) (o res n : ℕ) (t : Txn) (x : Record) (ends : HeldEnds) → IsKept s f o res → IsReady s t n → log_full (ledger_of s) 1 ≡ false → IsKept (record s { rows = without_row t s.rows; ends = ends; records = x ∷ s.records }) f o res
-commit_kept s f o res n t x ends k h room =
+pub commit_kept : (s : State) (f : Bool) (o res n : ℕ) (t : Txn) (x : Record) (ends : HeldEnds) (cells : ℕ) → IsKept s f o res → IsReady s t n → log_full (ledger_of s) 1 ≡ false
+    → IsKept (record s { rows = without_row t s.rows; ends = ends; records = x ∷ s.records; cells_in_use = cells; waiting = with_sends (finished_of (found_row t s.rows)) s.waiting }) f o res
+commit_kept s f o res n t x ends cells k h room =
     let r = found_of (λ r. (r.under ≡ None) × (n ≡ r.number + 1)) (found_row t s.rows) h in
-    kept_committed s f o res k t r.0 r.1 x ends r.2.0 (not_full s 1 room)
+    subst (λ (q : Option Row). IsKept (record s { rows = without_row t s.rows; ends = ends; records = x ∷ s.records; cells_in_use = cells; waiting = with_sends (finished_of q) s.waiting }) f o res) (sym r.1)
+    (kept_committed s f o res k t r.0 r.1 x ends cells r.2.0 (not_full s 1 room))
 
-pub commit_done : (s : State) (n lsn : ℕ) (t : Txn) → s.failed ≡ false → IsReady s t n → log_full (ledger_of s) 1 ≡ false → lsn ≡ length s.records + 1 → IsSound s
-    → Steps s (Commit t) (Gave_lsn lsn) (record s { rows = without_row t s.rows; ends = without_ends t s.ends; records = records.Commit t ∷ s.records })
-commit_done s n lsn t running h room at k =
+-- there is room for what it sent
+pub commit_room : (s : State) (f : Bool) (o res : ℕ) (t : Txn) → IsKept s f o res → (g : ℕ) → waits s.waiting g + length (finished_of (found_row t s.rows)) < 2 ^ 64
+commit_room s f o res t k g = at (found_row t s.rows) refl where
+  at : (q : Option Row) → found_row t s.rows ≡ q → waits s.waiting g + length (finished_of q) < 2 ^ 64
+  at None e = let a = k.few g in let b = k.count in omega (arith, a, b)
+  at (Some r) e = let a = k.few g in let b = k.count in let c = sum_at done_one t s.rows r e in omega (arith, a, b, c)
+
+pub commit_done : (s : State) (f : Bool) (o res n lsn cells : ℕ) (t : Txn) → IsKept s f o res → s.failed ≡ false → IsReady s t n → log_full (ledger_of s) 1 ≡ false → lsn ≡ length s.records + 1 → cells ≡ s.cells_in_use - sum_by takes_one (finished_of (found_row t s.rows)) → IsSound s
+    → Steps s (Commit t) (Gave_lsn lsn) (record s { rows = without_row t s.rows; ends = without_ends t s.ends; records = records.Commit t ∷ s.records; cells_in_use = cells; waiting = with_sends (finished_of (found_row t s.rows)) s.waiting })
+commit_done s f o res n lsn cells t c running h room at freed k =
     let r = found_of (λ r. (r.under ≡ None) × (n ≡ r.number + 1)) (found_row t s.rows) h in
-    subst (λ (m : ℕ). Steps s (Commit t) (Gave_lsn m) (record s { rows = without_row t s.rows; ends = without_ends t s.ends; records = records.Commit t ∷ s.records })) (sym at) (commit_steps s k t r.0 r.1 r.2.0 running room)
+    let fs = finished_of (found_row t s.rows) in
+    let own : fs ≡ r.0.finished = ap finished_of r.1 in
+    let taken : sum_by takes_one fs ≡ sum_by takes_one r.0.finished = ap (sum_by takes_one) own in
+    let part = one_of_sum apart s.rows r.0 (found_in t s.rows r.0 r.1).0 in
+    let used = k.used in
+    let enough : sum_by takes_one r.0.finished ≤ s.cells_in_use = omega (arith, part, used) in
+    let waited : (g : ℕ) → g < sender_count s.sizes → waits (with_sends fs s.waiting) g ≡ waits s.waiting g + sends_in g r.0 =
+    (λ g m. ap (λ l. waits (with_sends l s.waiting) g) own ∙ waits-with_sends r.0.finished s.waiting g (let l = c.senders in omega (arith, l, m))) in
+    subst (λ (m : ℕ). Steps s (Commit t) (Gave_lsn m) (record s { rows = without_row t s.rows; ends = without_ends t s.ends; records = records.Commit t ∷ s.records; cells_in_use = cells; waiting = with_sends fs s.waiting })) (sym at)
+    (commit_steps s k t r.0 cells (with_sends fs s.waiting) r.1 r.2.0 (omega (arith, freed, taken, enough)) waited running room)
 
 -- the content
 pub content_done : (s : State) (groups : List Group) → s.failed ≡ false → any_under s.rows ≡ false → groups ≡ map (group_in (committed_of s.records)) (below (sender_count s.sizes)) → IsSound s → Steps s Show (Gave_content groups) s

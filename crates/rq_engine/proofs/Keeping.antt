@@ -1,20 +1,25 @@
 -- What is so of the fields of every engine stays so.
-use Rattle.std.proofs.Common.{◌≡◌, ◌≢◌, ℕ, ◌+◌, ◌-◌, ◌*◌, ◌^◌, ◌<◌, ◌≤◌, List, [], ◌∷◌, length, refl, sym, ◌∙◌, ap, subst, Bool, true, false, Option, Some, None, inl, inr, arith, ◌⊎◌}
-use Rattle.std.specs.List.{sum_by, slice_get}
+use Rattle.std.proofs.Common.{◌≡◌, ℕ, ◌+◌, ◌-◌, ◌*◌, ◌^◌, ◌<◌, ◌≤◌, List, [], ◌∷◌, length, refl, sym, ◌∙◌, ap, subst, Bool, false, Option, Some, None, inl, inr, arith}
+use Rattle.std.specs.List.{sum_by}
+use Rattle.std.proofs.lemmas.List.{length-append}
 use Rattle.std.proofs.lemmas.List.Sums.{sum_by-cons}
 use Rattle.rq_model.specs.declared.txn.Txn.{Txn}
 use Rattle.rq_model.specs.declared.record.Record.{Record}
-use Rattle.rq_model.specs.Words.{In, same_txn, is_some}
+use Rattle.rq_model.specs.declared.record.Deed.{Deed}
+use Rattle.rq_model.specs.Words.{In}
 use Rattle.rq_model.specs.Deeds.{spelled_deed}
 use Rattle.rq_page.specs.Sizes.{Sizes}
 use Rattle.rq_txn.specs.declared.Finished.{Finished}
-use Rattle.rq_txn.specs.Rows.{Row, Under, found_row, change_row, without_row, fresh_row, row_started, row_stepped, row_finished, under_stepped, AreDistinct}
+use Rattle.rq_txn.specs.Rows.{Row, Under, found_row, change_row, without_row, fresh_row, row_started, row_stepped, row_finished, under_stepped}
 use Rattle.rq_groups.specs.Ends.{HeldEnds}
 use Rattle.rq_store.specs.State.{State, owed_by, owed_one, owed_under}
 use Rattle.rq_store.proofs.RowLists.{found_in, changed, distinct_change, distinct_gone, gone}
-use Rattle.rq_store.proofs.Others.{rows_one}
+use Rattle.rq_store.proofs.Others.{rows_one, rows_sum}
 use Rattle.rq_store.proofs.Committing.{rows_without}
-use Rattle.rq_engine.specs.Kept.{IsKept, IsRowKept, IsUnderKept, UnderKept, room_one, room_of, total_of}
+use Rattle.rq_engine.specs.Kept.{IsKept, IsRowKept, IsUnderKept, UnderKept, room_one, room_of, total_of, done_one}
+use Rattle.rq_engine.specs.Moves.{with_sends, without_taken}
+use Rattle.rq_engine.proofs.Waits.{length-with_sends, length-without_taken, few_sends, few_taken}
+use Rattle.rq_groups.specs.Waiting.{waits}
 
 -- of rows that are kept, the one that is found
 pub kept_at : (s : State) (f : Bool) (o res : ℕ) (t : Txn) (r : Row) → IsKept s f o res → found_row t s.rows ≡ Some r → IsRowKept s.sizes s.incarnation s.begins (total_of s) r
@@ -54,6 +59,8 @@ kept_begun s f o res k =
         | inl e ↦ subst (λ (q : Row). IsRowKept s.sizes s.incarnation (s.begins + 1) (length s.records + owed_by (fresh_row t ∷ s.rows)) q) (sym e) (record { mine = refl; low = omega arith; high = omega arith; number = omega arith; under = tt })
         | inr j ↦ row_more s.sizes s.incarnation s.begins (s.begins + 1) (total_of s) (length s.records + owed_by (fresh_row t ∷ s.rows)) r (omega arith) (omega (arith, a)) (k.rows r j)
       ];
+      senders = k.senders;
+      few = λ g. (let c = sum_by-cons done_one (fresh_row t) s.rows in let d = k.few g in omega (arith, c, d));
     }
 
 module _ (s : State) (f : Bool) (o res : ℕ) (k : IsKept s f o res) (t : Txn) (r : Row) (at_row : found_row t s.rows ≡ Some r) where
@@ -84,6 +91,8 @@ module _ (s : State) (f : Bool) (o res : ℕ) (k : IsKept s f o res) (t : Txn) (
         count = omega (arith, total, fits);
         distinct = distinct_change t (row_started u) s.rows (λ q. refl) k.distinct;
         rows = changed_rows (row_started u) (length s.records + owed_by (change_row t (row_started u) s.rows)) (λ q. refl) (omega (arith, total)) (record { mine = row.mine; low = row.low; high = row.high; number = (let n = row.number in omega (arith, n, number, total)); under = h });
+        senders = k.senders;
+        few = λ g. (let c = rows_sum done_one t (row_started u) s.rows (λ q i e. refl) in let d = k.few g in omega (arith, c, d));
       }
 
   pub kept_stepped : (u : Under) (x : Record) (images : List (List ℕ)) (left : ℕ) → r.under ≡ Some u → u.made < length u.writes → left + 546 ≡ res
@@ -107,11 +116,13 @@ module _ (s : State) (f : Bool) (o res : ℕ) (k : IsKept s f o res) (t : Txn) (
         count = (let w = k.count in omega (arith, same, w));
         distinct = distinct_change t row_stepped s.rows (λ q. refl) k.distinct;
         rows = changed_rows row_stepped (length (x ∷ s.records) + owed_by (change_row t row_stepped s.rows)) (λ q. refl) (omega (arith, same)) (record { mine = row.mine; low = row.low; high = row.high; number = (let n = row.number in omega (arith, n, same)); under = subst (λ (y : Option Under). UnderKept s.sizes (under_stepped y)) (sym under) (record { number = h.number; made = omega (arith, more); slots = h.slots; deed_low = h.deed_low; deed_high = h.deed_high }) });
+        senders = k.senders;
+        few = λ g. (let c = rows_sum done_one t row_stepped s.rows (λ q i e. refl) in let d = k.few g in omega (arith, c, d));
       }
 
-  pub kept_finished : (u : Under) (x : Record) (end : Finished) (left : ℕ) → r.under ≡ Some u → u.made ≡ length u.writes → left + (30 + length (spelled_deed u.deed)) ≡ res
-      → IsKept (record s { rows = change_row t (row_finished end) s.rows; records = x ∷ s.records }) f (o - 1) left
-  kept_finished u x end left under made fits =
+  pub kept_finished : (u : Under) (x : Record) (end : Finished) (left : ℕ) (d : Deed) → r.under ≡ Some u → u.made ≡ length u.writes → left + (30 + length (spelled_deed u.deed)) ≡ res
+      → IsKept (record s { rows = change_row t (row_finished end) s.rows; records = x ∷ s.records; waiting = without_taken d s.waiting }) f (o - 1) left
+  kept_finished u x end left d0 under made fits =
       let a = rows_one owed_one t (row_finished end) s.rows r k.distinct at_row in
       let b = rows_one room_one t (row_finished end) s.rows r k.distinct at_row in
       let c : owed_one r ≡ length u.writes - u.made + 1 = ap owed_under under in
@@ -129,11 +140,18 @@ module _ (s : State) (f : Bool) (o res : ℕ) (k : IsKept s f o res) (t : Txn) (
         count = (let w = k.count in omega (arith, same, w));
         distinct = distinct_change t (row_finished end) s.rows (λ q. refl) k.distinct;
         rows = changed_rows (row_finished end) (length (x ∷ s.records) + owed_by (change_row t (row_finished end) s.rows)) (λ q. refl) (omega (arith, same)) (record { mine = row.mine; low = row.low; high = row.high; number = (let n = row.number in omega (arith, n, same)); under = tt });
+        senders = length-without_taken d0 s.waiting ∙ k.senders;
+        few = λ g.
+            (let p = rows_one done_one t (row_finished end) s.rows r k.distinct at_row in
+            let q : done_one (row_finished end r) ≡ done_one r + 1 = length-append r.finished (end ∷ []) in
+            let m = k.few g in
+            let n = few_taken d0 s.waiting g in
+            omega (arith, p, q, m, n));
       }
 
-  pub kept_committed : (x : Record) (ends : HeldEnds) → r.under ≡ None → total_of s + 1 ≤ 2 ^ 50
-      → IsKept (record s { rows = without_row t s.rows; ends = ends; records = x ∷ s.records }) f o res
-  kept_committed x ends none fits =
+  pub kept_committed : (x : Record) (ends : HeldEnds) (cells : ℕ) → r.under ≡ None → total_of s + 1 ≤ 2 ^ 50
+      → IsKept (record s { rows = without_row t s.rows; ends = ends; records = x ∷ s.records; cells_in_use = cells; waiting = with_sends r.finished s.waiting }) f o res
+  kept_committed x ends cells none fits =
       let a = rows_without owed_one t s.rows r k.distinct at_row in
       let b = rows_without room_one t s.rows r k.distinct at_row in
       let c : owed_one r ≡ 0 = ap owed_under none in
@@ -146,10 +164,12 @@ module _ (s : State) (f : Bool) (o res : ℕ) (k : IsKept s f o res) (t : Txn) (
         count = omega (arith, a, c, fits);
         distinct = distinct_gone t s.rows k.distinct;
         rows = λ q i. row_more s.sizes s.incarnation s.begins s.begins (total_of s) (length (x ∷ s.records) + owed_by (without_row t s.rows)) q (omega arith) (omega (arith, a, c)) (k.rows q (gone t s.rows q i).0);
+        senders = length-with_sends r.finished s.waiting ∙ k.senders;
+        few = λ g. (let p = rows_without done_one t s.rows r k.distinct at_row in let m = k.few g in let n = few_sends r.finished s.waiting g in omega (arith, p, m, n));
       }
 
 -- what a device did, and whether it failed, is all that changed
-pub kept_device : (s : State) (f g : Bool) (o res left forced : ℕ) (failed : Bool) (log : List Record) → IsKept s f o res → log ≡ s.records → left ≡ res → g ≡ failed → IsKept (record s { records = log; forced = forced; failed = failed }) g o left
+pub kept_device : (s : State) (f g : Bool) (o res left forced : ℕ) (failed : Bool) (log : List Record) → IsKept s f o res → log ≡ s.records → left ≡ res → (failed ≡ false → g ≡ false) → IsKept (record s { records = log; forced = forced; failed = failed }) g o left
 kept_device s f g o res left forced failed log k same room fails = record {
   incarnation = k.incarnation;
   fails = fails;
@@ -158,8 +178,10 @@ kept_device s f g o res left forced failed log k same room fails = record {
   count = subst (λ (l : List Record). length l + owed_by s.rows ≤ 2 ^ 50) (sym same) k.count;
   distinct = k.distinct;
   rows = λ r i. subst (λ (l : List Record). IsRowKept s.sizes s.incarnation s.begins (length l + owed_by s.rows) r) (sym same) (k.rows r i);
+  senders = k.senders;
+  few = λ g. subst (λ (l : List Record). waits s.waiting g + sum_by done_one s.rows ≤ length l) (sym same) (k.few g);
 }
 
 -- the ends are of no account to it, nor is room that was taken and given back
 pub kept_back : (s : State) (f : Bool) (o res left : ℕ) (ends : HeldEnds) → IsKept s f o res → left ≡ res → IsKept (record s { ends = ends }) f o left
-kept_back s f o res left ends k e = record { incarnation = k.incarnation; fails = k.fails; owes = k.owes; room = (let a = k.room in omega (arith, a, e)); count = k.count; distinct = k.distinct; rows = k.rows }
+kept_back s f o res left ends k e = record { incarnation = k.incarnation; fails = k.fails; owes = k.owes; room = (let a = k.room in omega (arith, a, e)); count = k.count; distinct = k.distinct; rows = k.rows; senders = k.senders; few = k.few }

@@ -1,8 +1,7 @@
 -- Refusals are the first test that holds, with their causes.
-use Rattle.std.proofs.Common.{◌≡◌, ◌≢◌, ℕ, ◌+◌, ◌-◌, ◌^◌, ◌<◌, ◌≤◌, ◌&&◌, ◌||◌, List, [], ◌∷◌, ◌++◌, length, refl, sym, ◌∙◌, ap, subst, Bool, true, false, not, cond, nat_eq, nat_lt, Option, Some, None, arith, IsTrue, inl, inr}
+use Rattle.std.proofs.Common.{◌≡◌, ◌≢◌, ℕ, ◌+◌, ◌-◌, ◌^◌, ◌≤◌, ◌||◌, List, [], ◌∷◌, ◌++◌, length, refl, sym, ◌∙◌, ap, subst, Bool, true, false, not, nat_eq, nat_lt, Option, Some, None, IsTrue, inl, inr}
 use Rattle.std.proofs.lemmas.Bool.{cases_Bool, false≢true, false_from_ne_true, eqb-true, or_from, ltb-false}
 use Rattle.rq_model.specs.declared.txn.Txn.{Txn}
-use Rattle.rq_model.specs.declared.txn.Sub.{Sub}
 use Rattle.rq_model.specs.declared.refusal.Refusal.{Refusal}
 use Rattle.rq_model.specs.declared.refusal.Refusal.TheVariants as why
 use Rattle.rq_model.specs.Words.{is_some}
@@ -10,19 +9,15 @@ use Rattle.rq_model.specs.History.{Call}
 use Rattle.rq_model.specs.History.Call.{Begin, Commit, Start_send, Step, Finish, Acknowledge, Force, Hand_over, Show, Start_receive, Start_receive_from, Start_close, Start_abort, Undo_next, End_abort, Write_page, Last_tag}
 use Rattle.rq_model.specs.History.Entry.{Refused}
 use Rattle.rq_model.specs.Ledger.{Ledger, after, found}
-use Rattle.rq_model.specs.Legal.{Size, tests, first_of, LegalRefusal, NoneHolds, is_aborting, is_busy, log_full, has_under}
+use Rattle.rq_model.specs.Legal.{Size, tests, first_of, LegalRefusal, NoneHolds, is_aborting, is_busy, log_full}
 use Rattle.rq_model.specs.Reference.{without_pages, ready_tests, IsUnready}
-use Rattle.rq_model.specs.Replay.Reply.{Gave_refusal}
 use Rattle.std.specs.Option.{is_some as option_is_some}
 use Rattle.rq_txn.specs.declared.Operation.{Operation}
 use Rattle.rq_txn.specs.Rows.{Row, Under, found_row, under_way_of}
-use Rattle.rq_store.specs.State.{State, owed_by, ledger_of, size_of, open_of, open_ones_of, job_under}
-use Rattle.rq_store.specs.Sound.{IsSound}
-use Rattle.rq_store.specs.Steps.{Steps}
+use Rattle.rq_store.specs.State.{State, owed_by, ledger_of, size_of, open_of, job_under}
 use Rattle.rq_store.proofs.Opens.{found_open, open_found, owed_is, count_is}
 use Rattle.rq_store.proofs.Forcing.{refused_steps}
-use Rattle.rq_store.proofs.Working.{going_at}
-use Rattle.rq_engine.specs.Answers.{HasCause, Refuses, OnFound, Idle, NotGoing, NotFound, IsOther}
+use Rattle.rq_engine.specs.Answers.{HasCause, Refuses, OnFound}
 
 legal_first : (z : Size) (l : Ledger) (c : Call) (r : Refusal) → IsTrue (without_pages r) → first_of (tests z l c) ≡ Some r → LegalRefusal z l c r
 legal_first z l c why.NoMemory p e = tt

@@ -1,5 +1,5 @@
 -- What a call answers, and what it finds of the operation that it names.
-use Rattle.std.specs.Prelude.{◌≡◌, ◌≢◌, ℕ, ◌+◌, ◌/◌, ◌%◌, ◌<◌, length, Bool, true, false, List, ◌∷◌, Option, Some, None, Result, Ok, Err}
+use Rattle.std.specs.Prelude.{◌≡◌, ◌≢◌, ℕ, ◌+◌, ◌/◌, ◌%◌, ◌<◌, length, Bool, true, false, ◌∷◌, Option, Some, None, Result, Ok, Err}
 use Rattle.rq_model.specs.declared.txn.Sub.{Sub}
 use Rattle.rq_model.specs.declared.txn.Txn.{Txn}
 use Rattle.rq_model.specs.declared.refusal.Refusal.{Refusal}
@@ -16,8 +16,8 @@ use Rattle.rq_store.specs.State.{State}
 use Rattle.rq_store.specs.Sound.{IsSound}
 use Rattle.rq_store.specs.Steps.{Steps, page_op}
 
--- A refusal comes only with its cause: memory's where the call takes memory, the disk's where it writes, Latched where an operation is under way, and
--- damage never.
+-- A refusal comes only with its cause: memory's where the call takes memory, the disk's and a page's that is not forced where it writes, Latched where an
+-- operation is under way, and damage never.
 abbrev pub HasCause : (memory disk : Bool) → State → Refusal → Type 0
 HasCause memory disk s why.NoMemory = memory ≡ true
 HasCause memory disk s why.DiskWrite = disk ≡ true
@@ -25,7 +25,7 @@ HasCause memory disk s why.Latched = any_under s.rows ≡ true
 HasCause memory disk s why.DiskRead = ⊥
 HasCause memory disk s (why.Damaged d) = ⊥
 HasCause memory disk s why.PoolFull = ⊥
-HasCause memory disk s why.NotForced = ⊥
+HasCause memory disk s why.NotForced = disk ≡ true
 HasCause memory disk s _ = Unit {0}
 
 -- the call may be refused so, and that changes nothing

@@ -1,11 +1,13 @@
 -- What is so of the fields of every engine, whatever log it was opened over.
-use Rattle.std.specs.Prelude.{◌≡◌, ℕ, ◌+◌, ◌-◌, ◌*◌, ◌^◌, ◌≤◌, Bool, length, Option, Some, None}
+use Rattle.std.specs.Prelude.{◌≡◌, ℕ, ◌+◌, ◌-◌, ◌*◌, ◌^◌, ◌≤◌, Bool, false, List, length, Option, Some, None}
 use Rattle.std.specs.List.{sum_by}
 use Rattle.rq_model.specs.Words.{In}
 use Rattle.rq_model.specs.Deeds.{spelled_deed}
-use Rattle.rq_page.specs.Sizes.{Sizes}
+use Rattle.rq_log.specs.Logged.{Logged, WasDurable}
+use Rattle.rq_page.specs.Sizes.{Sizes, sender_count}
 use Rattle.rq_chain.specs.Writes.{AreSlotWrites}
 use Rattle.rq_txn.specs.Rows.{Row, Under, AreDistinct}
+use Rattle.rq_groups.specs.Waiting.{waits}
 use Rattle.rq_store.specs.State.{State, owed_by}
 
 -- the bytes of the records that an operation under way has yet to log
@@ -40,12 +42,24 @@ pub record IsRowKept (z : Sizes) (incarnation begins total : ℕ) (r : Row) : Ty
 abbrev pub total_of : State → ℕ
 total_of s = length s.records + owed_by s.rows
 
--- The room in the log for what operations under way have yet to log is reserved, and with it the log is not over its greatest length.
+-- how many of its operations are finished
+abbrev pub done_one : Row → ℕ
+done_one r = length r.finished
+
+-- The room in the log for what operations under way have yet to log is reserved, and with it the log is not over its greatest length. No more messages wait, with
+-- those that open transactions may have sent, than there are records.
 pub record IsKept (s : State) (failed : Bool) (owed reserved : ℕ) : Type 0 where
   pub incarnation : 1 ≤ s.incarnation
-  pub fails : failed ≡ s.failed
+  pub fails : s.failed ≡ false → failed ≡ false
   pub owes : owed ≡ owed_by s.rows
   pub room : sum_by room_one s.rows ≤ reserved
   pub count : total_of s ≤ 2 ^ 50
   pub distinct : AreDistinct s.rows
   pub rows : (r : Row) → In r s.rows → IsRowKept s.sizes s.incarnation s.begins (total_of s) r
+  pub senders : length s.waiting ≡ sender_count s.sizes
+  pub few : (g : ℕ) → waits s.waiting g + sum_by done_one s.rows ≤ length s.records
+
+-- and when its log was last forced, a crash would have left that log alone
+pub record IsEngine {L : Type 0} (seen : L → List ℕ) (may_leave : L → List ℕ → Type 0) (s : State) (log : Logged L) (owed : ℕ) : Type 0 where
+  pub kept : IsKept s log.failed owed log.reserved
+  pub durable : WasDurable seen may_leave log

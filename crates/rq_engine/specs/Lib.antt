@@ -1,4 +1,7 @@
+pub mod Opened
 pub mod Says
+pub mod Moves
+pub mod Receives
 pub mod Kept
 pub mod Answers
 pub mod Sends

@@ -1,12 +1,18 @@
 -- Events and replies as the model's words: calls, and what they gave.
-use Rattle.std.specs.Prelude.{ℕ, Bool, true, false, List, map, Option, Some, None, Vec}
-use Rattle.rq_model.specs.declared.txn.Txn.{Txn}
+use Rattle.std.specs.Prelude.{◌≡◌, ℕ, Bool, true, false, List, map, Option, Some, None, Result, Ok, Err}
 use Rattle.rq_model.specs.declared.refusal.Refusal.{Refusal}
 use Rattle.rq_model.specs.History.{Call}
-use Rattle.rq_model.specs.History.Call.{Begin as Call_begin, Start_send as Call_start_send, Step as Call_step, Finish as Call_finish, Commit as Call_commit, Acknowledge as Call_acknowledge, Hand_over as Call_hand_over, Force as Call_force, Show as Call_show}
+use Rattle.rq_model.specs.History.Call.{Begin as Call_begin, Start_send as Call_start_send, Start_receive as Call_start_receive, Start_receive_from as Call_start_receive_from, Write_page as Call_write_page, Step as Call_step, Finish as Call_finish, Commit as Call_commit, Acknowledge as Call_acknowledge, Hand_over as Call_hand_over, Force as Call_force, Show as Call_show}
 use Rattle.rq_model.specs.Replay.{Reply as Gave}
-use Rattle.rq_model.specs.Replay.Reply.{Gave_txn, Gave_sub, Gave_lsn, Gave_ready, Gave_sent, Gave_message, Gave_closed, Gave_undone, Gave_nothing, Gave_receipt, Gave_content, Gave_refusal}
+use Rattle.rq_model.specs.Replay.Reply.{Gave_txn, Gave_sub, Gave_lsn, Gave_ready, Gave_sent, Gave_message, Gave_closed, Gave_undone, Gave_nothing, Gave_receipt, Gave_none, Gave_written, Gave_content, Gave_refusal}
 use Rattle.rq_content.specs.Read.{group_of}
+use Rattle.rq_model.specs.declared.txn.Sub.{Sub}
+use Rattle.rq_disk.specs.Device.{Images}
+use Rattle.rq_pool.specs.declared.Written.{Written}
+use Rattle.rq_pool.specs.declared.Written.TheVariants.{Done, Nothing}
+use Rattle.rq_pool.specs.Pooled.{image_at}
+use Rattle.rq_pool.specs.Writing.{DeviceAfter}
+use Rattle.rq_engine.specs.Opened.{OpenStore, NotWritten}
 use Rattle.rq_engine.specs.declared.event.Progress.{Progress}
 use Rattle.rq_engine.specs.declared.event.Progress.TheVariants as progress
 use Rattle.rq_engine.specs.declared.event.Outcome.{Outcome}
@@ -21,12 +27,15 @@ use Rattle.rq_engine.specs.declared.event.Reply.TheVariants as reply
 abbrev pub call_of : Event → Call
 call_of event.Begin = Call_begin
 call_of (event.StartSend txn sender tag body) = Call_start_send txn (record { sender = sender; tag = tag; body = body.items })
+call_of (event.StartReceive txn) = Call_start_receive txn
+call_of (event.StartReceiveFrom txn sender) = Call_start_receive_from txn sender
 call_of (event.Step sub) = Call_step sub.txn sub.number
 call_of (event.Finish sub) = Call_finish sub.txn sub.number
 call_of (event.Commit txn) = Call_commit txn
 call_of (event.Acknowledged number) = Call_acknowledge number.txn number.lsn
 call_of event.HandOver = Call_hand_over
 call_of event.Force = Call_force
+call_of (event.WritePage page) = Call_write_page page
 call_of event.Content = Call_show
 
 abbrev pub progress_of : Progress → Gave
@@ -43,16 +52,23 @@ abbrev pub is_given : Option Receipt → Bool
 is_given None = false
 is_given (Some r) = true
 
+-- the page was written
+abbrev pub is_done : Written → Bool
+is_done Done = true
+is_done Nothing = false
+
 -- what a reply gave
 abbrev pub gave : Reply → Gave
 gave (reply.Begun t) = Gave_txn t
 gave (reply.Started sub) = Gave_sub sub.number
+gave reply.NoMessage = Gave_none
 gave (reply.Stepped p) = progress_of p
 gave (reply.Finished o) = outcome_of o
 gave (reply.Committed number) = Gave_lsn number.lsn
 gave (reply.Acknowledged given) = Gave_receipt (is_given given)
 gave reply.HandedOver = Gave_nothing
 gave (reply.Forced lsn) = Gave_lsn lsn
+gave (reply.Written w) = Gave_written (is_done w)
 gave (reply.Content groups) = Gave_content (map group_of groups.items)
 gave (reply.Refused r) = Gave_refusal r
 
@@ -60,3 +76,31 @@ gave (reply.Refused r) = Gave_refusal r
 abbrev pub IsContent : Reply → Type 0
 IsContent (reply.Content groups) = Unit {0}
 IsContent _ = ⊥
+
+-- after a call that writes to the log's device: a failure of it is counted where the reply is its refusal, and nowhere else
+abbrev pub HasWritten : {P L : Type 0} → (L → ℕ) → OpenStore P L → OpenStore P L → Reply → Type 0
+HasWritten faults old new (reply.Refused r) = NotWritten faults old new r
+HasWritten faults old new _ = faults new.log ≡ faults old.log
+
+-- what an event and its reply say of the log's device: it stays as it is, but where records are handed over or forced
+abbrev pub LogSays : {P L : Type 0} → (L → ℕ) → OpenStore P L → OpenStore P L → Event → Reply → Type 0
+LogSays faults old new event.HandOver r = HasWritten faults old new r
+LogSays faults old new event.Force r = HasWritten faults old new r
+LogSays faults old new _ r = new.log ≡ old.log
+
+-- the reply to the start of a receive
+abbrev pub begun_reply : Result (Option Sub) Refusal → Reply
+begun_reply (Ok (Some sub)) = reply.Started sub
+begun_reply (Ok None) = reply.NoMessage
+begun_reply (Err r) = reply.Refused r
+
+-- what a reply says of a page that was to be written
+abbrev pub written_by : Reply → Result Written Refusal
+written_by (reply.Written w) = Ok w
+written_by (reply.Refused r) = Err r
+written_by _ = Ok Nothing
+
+-- what an event and its reply say of the pages' device: it stays as it is, but where a page is written
+abbrev pub PagesSay : {P L : Type 0} → (P → Images) → (P → ℕ → List ℕ → Type 0) → (P → ℕ) → (P → ℕ → Images → Type 0) → (P → ℕ) → OpenStore P L → OpenStore P L → Event → Reply → Type 0
+PagesSay seen may_be moment left_since faults old new (event.WritePage page) r = DeviceAfter seen may_be moment left_since faults page (image_at old.state.images page) old.pages new.pages (written_by r)
+PagesSay seen may_be moment left_since faults old new _ r = new.pages ≡ old.pages

@@ -1,16 +1,24 @@
 //! The engine's calls, but those of operations.
-ghost use Rattle.std.specs.Prelude.{◌≡◌, ◌+◌, ◌<◌, ◌≤◌, ◌^◌, ◌↔◌, ◌⊎◌, IfOk, IfErr, OnOk, OnErr, IfSome, true, false, length, ◌∷◌, []};
+ghost use Rattle.std.specs.Prelude.{◌≡◌, ◌+◌, ◌<◌, ◌≤◌, ◌^◌, ◌↔◌, ◌⊎◌, IfOk, IfErr, OnOk, OnErr, IfSome, ℕ, List, true, false, length, ◌∷◌, []};
 ghost use Rattle.rq_model.specs.History.Call.{Begin, Commit, Acknowledge, Hand_over, Force};
 ghost use Rattle.rq_model.specs.Replay.Reply.{Gave_txn, Gave_lsn, Gave_nothing, Gave_receipt};
 ghost use Rattle.rq_model.specs.declared.record.Record.TheVariants.{Commit as Commit_record};
+ghost use Rattle.rq_disk.specs.Device.{Only};
+ghost use Rattle.rq_log.specs.Crash.{LeavesOnly};
+ghost use Rattle.rq_log.specs.Logged.{WasDurable};
+ghost use Rattle.rq_log.specs.Spelled.{spelled, IsBeginning};
 ghost use Rattle.rq_record.specs.Spelling.{IsInRange, spelling};
 ghost use Rattle.rq_txn.specs.Rows.{found_row, fresh_row, without_row};
+ghost use Rattle.rq_page.specs.Sizes.{sender_count};
+ghost use Rattle.rq_groups.specs.Waiting.{waits};
+ghost use Rattle.rq_engine.specs.Opened.{NotWritten};
 ghost use Rattle.rq_engine.specs.Answers.{Answers, IsReady};
 ghost use Rattle.rq_engine.specs.Says.{is_given};
 
 use crate::event::{CommitNo, Receipt};
+use crate::moves::{add_sends, count_takes};
 use rq_disk::{LogDevice, PageDevice};
-use rq_groups::Ends;
+use rq_groups::{Ends, Waiting};
 use rq_log::Log;
 use rq_model::record::Record;
 use rq_model::refusal::Refusal;
@@ -24,9 +32,9 @@ use std::marker::Model;
 /// The most records of a log.
 pub const LOG_LIMIT: u64 = 1 << 50;
 
-/// A store that is open, with what is under way in it. Contracts see its `State`: the sizes of the store, the
-/// rows of transactions that have not ended, the ends that they hold, the images of the pages, the records of
-/// the log and how many are forced, whether the store has failed, and the counts that it keeps.
+/// A store that is open, with what is under way in it. Contracts see its two devices and its `State`: the sizes
+/// of the store, the rows of transactions that have not ended, the ends that they hold, the images of the pages,
+/// the records of the log and how many are forced, whether the store has failed, and the counts that it keeps.
 #[derive(Drop)]
 pub struct Engine<P: PageDevice, L: LogDevice> {
     pub(crate) alloc: Global,
@@ -39,30 +47,38 @@ pub struct Engine<P: PageDevice, L: LogDevice> {
     pub(crate) begins: u64,
     /// Cells of messages that are held, or taken by transactions that have not ended, or meant for sends under way.
     pub(crate) cells_in_use: u64,
+    /// By sender, the committed messages that nobody has taken.
+    pub(crate) waiting: Waiting,
     /// The records that operations under way have yet to log.
     pub(crate) owed: u64,
 }
 
 impl<P: PageDevice, L: LogDevice> Model for Engine<P, L> {
-    ghost use Rattle.rq_store.specs.State.{State};
-    ghost use Rattle.rq_engine.specs.Kept.{IsKept};
+    ghost use Rattle.rq_engine.specs.Opened.{OpenStore};
+    ghost use Rattle.rq_engine.specs.Kept.{IsEngine};
 
-    ghost Value = { State };
+    ghost Value = { OpenStore P L };
 
     ghost view = { λ e. record {
-      sizes = e.pages.sizes;
-      rows = e.transactions;
-      ends = e.ends;
-      images = e.pages.images;
-      records = e.log.records;
-      forced = e.log.forced;
-      failed = e.failed;
-      incarnation = e.incarnation;
-      begins = e.begins;
-      cells_in_use = e.cells_in_use;
+      state = record {
+        sizes = e.pages.sizes;
+        rows = e.transactions;
+        ends = e.ends;
+        images = e.pages.images;
+        records = e.log.records;
+        forced = e.log.forced;
+        failed = e.failed;
+        incarnation = e.incarnation;
+        begins = e.begins;
+        cells_in_use = e.cells_in_use;
+        waiting = e.waiting;
+      };
+      pages = e.pages.device;
+      log = e.log.device;
+      changed = e.pages.changed;
     } };
 
-    ghost invariant = { λ e. IsKept (record {
+    ghost invariant = { λ e. IsEngine L.seen L.may_leave (record {
       sizes = e.pages.sizes;
       rows = e.transactions;
       ends = e.ends;
@@ -73,35 +89,43 @@ impl<P: PageDevice, L: LogDevice> Model for Engine<P, L> {
       incarnation = e.incarnation;
       begins = e.begins;
       cells_in_use = e.cells_in_use;
-    }) e.log.failed e.owed e.log.reserved };
+      waiting = e.waiting;
+    }) e.log e.owed };
 }
 
 impl<P: PageDevice + Drop, L: LogDevice + Drop> Engine<P, L> {
-    ghost use Rattle.rq_store.specs.State.{State};
-    ghost use Rattle.rq_pool.specs.Pooled.{Pooled};
-
     /// The engine of a store whose log ends with the Restart record of this incarnation.
     pub fn open(
         alloc: Global,
         pages: Pages<P>,
         log: Log<L>,
+        waiting: Waiting,
         incarnation: u64,
         cells_in_use: u64,
     ) -> Self
         requires begun { 1 ≤ incarnation }
         requires running { log.failed ≡ false }
         requires count { length log.records ≤ 2 ^ 50 }
+        requires durable { WasDurable L.seen L.may_leave log }
+        requires senders { length waiting ≡ sender_count pages.sizes }
+        requires few { (g : ℕ) → waits waiting g ≤ length log.records }
         ensures { result ≡ record {
-          sizes = pages.sizes;
-          rows = [];
-          ends = record { sending = []; receiving = [] };
-          images = pages.images;
-          records = log.records;
-          forced = log.forced;
-          failed = false;
-          incarnation = incarnation;
-          begins = 0;
-          cells_in_use = cells_in_use;
+          state = record {
+            sizes = pages.sizes;
+            rows = [];
+            ends = record { sending = []; receiving = [] };
+            images = pages.images;
+            records = log.records;
+            forced = log.forced;
+            failed = false;
+            incarnation = incarnation;
+            begins = 0;
+            cells_in_use = cells_in_use;
+            waiting = waiting;
+          };
+          pages = pages.device;
+          log = log.device;
+          changed = pages.changed;
         } }
     {
         Engine {
@@ -114,12 +138,16 @@ impl<P: PageDevice + Drop, L: LogDevice + Drop> Engine<P, L> {
             incarnation,
             begins: 0,
             cells_in_use,
+            waiting,
             owed: 0,
         }
     }
 
     /// The devices, as they are. Nothing is written.
-    pub fn give_back(self) -> (P, L) {
+    pub fn give_back(self) -> (P, L)
+        ensures pages { result.0 ≡ self.pages }
+        ensures log { result.1 ≡ self.log }
+    {
         let Engine {
             alloc: _,
             pages,
@@ -130,6 +158,7 @@ impl<P: PageDevice + Drop, L: LogDevice + Drop> Engine<P, L> {
             incarnation: _,
             begins: _,
             cells_in_use: _,
+            waiting: _,
             owed: _,
         } = self;
         (pages.give_back(), log.give_back())
@@ -142,15 +171,23 @@ impl<P: PageDevice, L: LogDevice> Engine<P, L> {
     ghost use Rattle.rq_model.specs.Reference.{ready_tests, IsUnready};
     ghost use Rattle.rq_model.specs.Legal.{NoneHolds};
 
+    /// What a crash at this moment leaves of the log, for proofs: it runs no code.
+    pub fn keeps(&self)
+        ensures leaves { (c : List ℕ) → L.may_leave self.now.log c → IsBeginning self.now.state.records self.now.state.forced c }
+    {
+        self.log.keeps();
+    }
+
     /// Begins a transaction. Nothing is logged.
     ///
     /// # Errors
     /// `Failed`, `TooManyTransactions`, `NoMemory`.
     pub fn begin(&mut self) -> Result<Txn, Refusal>
-        ensures answered { Answers true false self.old Begin (λ t. Gave_txn t) result self.new }
-        ensures sizes { self.new.sizes ≡ self.old.sizes }
+        ensures answered { Answers true false self.old.state Begin (λ t. Gave_txn t) result self.new.state }
+        ensures sizes { self.new.state.sizes ≡ self.old.state.sizes }
+        ensures devices { (self.new.pages ≡ self.old.pages) × (self.new.log ≡ self.old.log) }
         ensures refused { OnErr result (self.new ≡ self.old) }
-        ensures failed { (result ≡ Err Refusal.Failed) ↔ (self.old.failed ≡ true) }
+        ensures failed { (result ≡ Err Refusal.Failed) ↔ (self.old.state.failed ≡ true) }
     {
         self.check_running()?;
         if self.transactions.is_full() || self.begins == u64::MAX {
@@ -165,16 +202,17 @@ impl<P: PageDevice, L: LogDevice> Engine<P, L> {
         Ok(txn)
     }
 
-    /// Commits a transaction: writes its Commit record, releases its ends and ends it. The commit is
-    /// durable once that record is forced.
+    /// Commits a transaction: writes its Commit record, releases its ends and ends it. What it sent waits from then on, and
+    /// the cells of what it took are free. The commit is durable once that record is forced.
     ///
     /// # Errors
     /// `Failed`, `UnknownTransaction`, `NotOpen`, `Unfinished`, `LogFull`, `NoMemory`.
     pub fn commit(&mut self, txn: Txn) -> Result<CommitNo, Refusal>
-        ensures answered { Answers true false self.old (Commit txn) (λ number. Gave_lsn number.lsn) result self.new }
-        ensures sizes { self.new.sizes ≡ self.old.sizes }
+        ensures answered { Answers true false self.old.state (Commit txn) (λ number. Gave_lsn number.lsn) result self.new.state }
+        ensures sizes { self.new.state.sizes ≡ self.old.state.sizes }
         ensures number { IfOk result (λ number. number.txn ≡ txn) }
-        ensures records { OnOk result (self.new.records ≡ Commit_record txn ∷ self.old.records) }
+        ensures records { OnOk result (self.new.state.records ≡ Commit_record txn ∷ self.old.state.records) }
+        ensures devices { (self.new.pages ≡ self.old.pages) × (self.new.log ≡ self.old.log) }
         ensures refused { OnErr result (self.new ≡ self.old) }
     {
         self.check_open(txn)?;
@@ -184,6 +222,9 @@ impl<P: PageDevice, L: LogDevice> Engine<P, L> {
         let commit = Record::Commit { txn };
         self.log.reserve(spelled_len(&commit))?;
         let lsn = self.log.append(&commit);
+        let finished = self.transactions.finished(txn);
+        add_sends(&mut self.waiting, finished);
+        self.cells_in_use = self.cells_in_use.saturating_sub(count_takes(finished));
         self.ends.release(txn);
         self.transactions.end(txn);
         Ok(CommitNo::new(txn, lsn))
@@ -194,9 +235,9 @@ impl<P: PageDevice, L: LogDevice> Engine<P, L> {
     /// # Errors
     /// `Failed`.
     pub fn acknowledged(&self, number: CommitNo) -> Result<Option<Receipt>, Refusal>
-        ensures answered { Answers false false self.now (Acknowledge number.txn number.lsn) (λ given. Gave_receipt (is_given given)) result self.now }
+        ensures answered { Answers false false self.now.state (Acknowledge number.txn number.lsn) (λ given. Gave_receipt (is_given given)) result self.now.state }
         ensures receipt { IfOk result (λ given. IfSome given (λ r. r.number ≡ number)) }
-        ensures failed { IfErr result (λ r. (r ≡ Refusal.Failed) × (self.now.failed ≡ true)) }
+        ensures failed { IfErr result (λ r. (r ≡ Refusal.Failed) × (self.now.state.failed ≡ true)) }
     {
         self.check_running()?;
         if number.txn().incarnation == self.incarnation && number.lsn() <= self.log.forced() {
@@ -211,12 +252,18 @@ impl<P: PageDevice, L: LogDevice> Engine<P, L> {
     /// # Errors
     /// `Failed`, `DiskWrite`.
     pub fn hand_over(&mut self) -> Result<(), Refusal>
-        ensures answered { Answers false true self.old Hand_over (λ done. Gave_nothing) result self.new }
-        ensures sizes { self.new.sizes ≡ self.old.sizes }
-        ensures refusal { IfErr result (λ r. (r ≡ Refusal.Failed) ⊎ (r ≡ Refusal.DiskWrite)) }
-        ensures refused { self.old.failed ≡ true → self.new ≡ self.old }
-        ensures failed { OnErr result (self.new ≡ record self.old { failed = true }) }
+        ensures answered { Answers false true self.old.state Hand_over (λ done. Gave_nothing) result self.new.state }
+        ensures sizes { self.new.state.sizes ≡ self.old.state.sizes }
+        ensures state { OnOk result (self.new.state ≡ self.old.state) }
+        ensures reads { OnOk result (L.seen self.new.log ≡ spelled self.old.state.records) }
+        ensures cause { OnOk result (L.faults self.new.log ≡ L.faults self.old.log) }
+        ensures refusal { IfErr result (λ r. NotWritten L.faults self.old self.new r) }
+        ensures refused { self.old.state.failed ≡ true → self.new ≡ self.old }
+        ensures failed { OnErr result (self.new.state ≡ record self.old.state { failed = true }) }
+        ensures pages { self.new.pages ≡ self.old.pages }
+        ensures any_moment { LeavesOnly L.moment L.left_since self.old.log self.new.log (IsBeginning self.old.state.records self.old.state.forced) }
     {
+        self.keeps();
         self.check_running()?;
         match self.log.hand_over() {
             Ok(()) => Ok(()),
@@ -232,13 +279,20 @@ impl<P: PageDevice, L: LogDevice> Engine<P, L> {
     /// # Errors
     /// `Failed`, `DiskWrite`.
     pub fn force(&mut self) -> Result<Lsn, Refusal>
-        ensures answered { Answers false true self.old Force (λ lsn. Gave_lsn lsn) result self.new }
-        ensures sizes { self.new.sizes ≡ self.old.sizes }
-        ensures forced { IfOk result (λ lsn. (lsn ≡ length self.old.records) × (self.new.forced ≡ lsn)) }
-        ensures refusal { IfErr result (λ r. (r ≡ Refusal.Failed) ⊎ (r ≡ Refusal.DiskWrite)) }
-        ensures refused { self.old.failed ≡ true → self.new ≡ self.old }
-        ensures failed { OnErr result (self.new ≡ record self.old { failed = true }) }
+        ensures answered { Answers false true self.old.state Force (λ lsn. Gave_lsn lsn) result self.new.state }
+        ensures sizes { self.new.state.sizes ≡ self.old.state.sizes }
+        ensures forced { IfOk result (λ lsn. (lsn ≡ length self.old.state.records) × (self.new.state.forced ≡ lsn)) }
+        ensures state { OnOk result (self.new.state ≡ record self.old.state { forced = length self.old.state.records }) }
+        ensures reads { OnOk result (L.seen self.new.log ≡ spelled self.old.state.records) }
+        ensures durable { OnOk result (Only (spelled self.old.state.records) (L.may_leave self.new.log)) }
+        ensures cause { OnOk result (L.faults self.new.log ≡ L.faults self.old.log) }
+        ensures refusal { IfErr result (λ r. NotWritten L.faults self.old self.new r) }
+        ensures refused { self.old.state.failed ≡ true → self.new ≡ self.old }
+        ensures failed { OnErr result (self.new.state ≡ record self.old.state { failed = true }) }
+        ensures pages { self.new.pages ≡ self.old.pages }
+        ensures any_moment { LeavesOnly L.moment L.left_since self.old.log self.new.log (IsBeginning self.old.state.records self.old.state.forced) }
     {
+        self.keeps();
         self.check_running()?;
         match self.log.force() {
             Ok(lsn) => Ok(lsn),
@@ -250,8 +304,8 @@ impl<P: PageDevice, L: LogDevice> Engine<P, L> {
     }
 
     pub(crate) fn check_running(&self) -> Result<(), Refusal>
-        ensures running { OnOk result (self.now.failed ≡ false) }
-        ensures failed { IfErr result (λ r. (r ≡ Refusal.Failed) × (self.now.failed ≡ true)) }
+        ensures running { OnOk result (self.now.state.failed ≡ false) }
+        ensures failed { IfErr result (λ r. (r ≡ Refusal.Failed) × (self.now.state.failed ≡ true)) }
     {
         if self.failed {
             Err(Refusal::Failed)
@@ -262,10 +316,10 @@ impl<P: PageDevice, L: LogDevice> Engine<P, L> {
 
     // The transaction is open and has no operation under way. Answers the number of its next operation.
     pub(crate) fn check_open(&self, txn: Txn) -> Result<u64, Refusal>
-        ensures ready { IfOk result (λ n. IsReady self.now txn n) }
-        ensures running { OnOk result (self.now.failed ≡ false) }
-        ensures passes { OnOk result (NoneHolds (ready_tests (ledger_of self.now) txn false)) }
-        ensures refused { IfErr result (λ r. IsUnready (ledger_of self.now) txn false r) }
+        ensures ready { IfOk result (λ n. IsReady self.now.state txn n) }
+        ensures running { OnOk result (self.now.state.failed ≡ false) }
+        ensures passes { OnOk result (NoneHolds (ready_tests (ledger_of self.now.state) txn false)) }
+        ensures refused { IfErr result (λ r. IsUnready (ledger_of self.now.state) txn false r) }
     {
         self.check_running()?;
         let Some(row) = self.transactions.get(txn) else {
@@ -283,7 +337,7 @@ impl<P: PageDevice, L: LogDevice> Engine<P, L> {
     // Whether so many more records, with those owed, would pass the greatest log.
     pub(crate) fn is_log_full(&self, more: u64) -> bool
         requires { more < 2 ^ 50 }
-        ensures { result ≡ log_full (ledger_of self.now) more }
+        ensures { result ≡ log_full (ledger_of self.now.state) more }
     {
         self.log.last() + self.owed + more > LOG_LIMIT
     }

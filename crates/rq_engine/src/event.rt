@@ -5,6 +5,7 @@ pub use rq_content::GroupContent;
 use rq_model::message::Message;
 use rq_model::refusal::Refusal;
 use rq_model::txn::{Lsn, Sub, Txn};
+pub use rq_pool::Written;
 
 /// The number of a commit: its transaction, and the LSN of its Commit record. Only `commit` makes one.
 #[derive(Clone, Copy, Debug, PartialEq, Eq)]
@@ -89,12 +90,18 @@ pub enum Event {
         tag: u64,
         body: Vec<u8>,
     },
+    StartReceive(Txn),
+    StartReceiveFrom {
+        txn: Txn,
+        sender: u32,
+    },
     Step(Sub),
     Finish(Sub),
     Commit(Txn),
     Acknowledged(CommitNo),
     HandOver,
     Force,
+    WritePage(u32),
     Content,
 }
 
@@ -105,6 +112,8 @@ pub enum Reply {
     Begun(Txn),
     /// The operation that was started.
     Started(Sub),
+    /// There is no message to receive.
+    NoMessage,
     /// What a step did.
     Stepped(Progress),
     /// What the finished operation did.
@@ -117,6 +126,8 @@ pub enum Reply {
     HandedOver,
     /// Every record up to this LSN is forced.
     Forced(Lsn),
+    /// What was done for the page.
+    Written(Written),
     /// The committed content, by sender.
     Content(Vec<GroupContent>),
     /// The call was refused.

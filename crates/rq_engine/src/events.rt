@@ -2,17 +2,20 @@
 ghost use Rattle.std.specs.Prelude.{◌≡◌, false, map, true};
 ghost use Rattle.rq_model.specs.History.Call.{Show};
 ghost use Rattle.rq_model.specs.Replay.Reply.{Gave_content};
+ghost use Rattle.rq_log.specs.Crash.{LeavesOnly};
+ghost use Rattle.rq_log.specs.Spelled.{IsBeginning};
 ghost use Rattle.rq_store.specs.Sound.{IsSound};
 ghost use Rattle.rq_store.specs.Steps.{Steps};
 ghost use Rattle.rq_content.specs.Read.{group_of};
 ghost use Rattle.rq_engine.specs.Answers.{Answers};
-ghost use Rattle.rq_engine.specs.Says.{IsContent, call_of, gave};
+ghost use Rattle.rq_engine.specs.Says.{IsContent, LogSays, PagesSay, begun_reply, call_of, gave};
 
 use crate::engine::Engine;
 use crate::event::{Event, Reply};
 use rq_content::{GroupContent, content};
 use rq_disk::{LogDevice, PageDevice};
 use rq_model::refusal::Refusal;
+use rq_model::txn::Sub;
 
 impl<P: PageDevice, L: LogDevice> Engine<P, L> {
     /// The committed content of each sender's group, by rising number.
@@ -20,7 +23,7 @@ impl<P: PageDevice, L: LogDevice> Engine<P, L> {
     /// # Errors
     /// `Failed`, `Unfinished` where any operation is under way, `NoMemory`.
     pub fn content(&self) -> Result<Vec<GroupContent>, Refusal>
-        ensures answered { Answers true false self.now Show (λ groups. Gave_content (map group_of groups.items)) result self.now }
+        ensures answered { Answers true false self.now.state Show (λ groups. Gave_content (map group_of groups.items)) result self.now.state }
     {
         self.check_running()?;
         if self.transactions.any_under_way() {
@@ -34,11 +37,15 @@ impl<P: PageDevice, L: LogDevice> Engine<P, L> {
 
     /// Makes the call that an event stands for.
     pub fn apply(&mut self, event: &Event) -> Reply
-        ensures answered { IsSound self.old → Steps self.old (call_of event.now) (gave result) self.new }
-        ensures sizes { self.new.sizes ≡ self.old.sizes }
+        ensures answered { IsSound self.old.state → Steps self.old.state (call_of event.now) (gave result) self.new.state }
+        ensures sizes { self.new.state.sizes ≡ self.old.state.sizes }
         ensures no_memory { result ≡ Reply.Refused Refusal.NoMemory → self.new ≡ self.old }
         ensures content { IsContent result → self.new ≡ self.old }
+        ensures pages { PagesSay P.seen P.may_be P.moment P.left_since P.faults self.old self.new event.now result }
+        ensures log { LogSays L.faults self.old self.new event.now result }
+        ensures any_moment { LeavesOnly L.moment L.left_since self.old.log self.new.log (IsBeginning self.old.state.records self.old.state.forced) }
     {
+        self.keeps();
         match event {
             Event::Begin => match self.begin() {
                 Ok(txn) => Reply::Begun(txn),
@@ -53,6 +60,10 @@ impl<P: PageDevice, L: LogDevice> Engine<P, L> {
                 Ok(sub) => Reply::Started(sub),
                 Err(refusal) => Reply::Refused(refusal),
             },
+            Event::StartReceive(txn) => begun(self.start_receive(*txn)),
+            Event::StartReceiveFrom { txn, sender } => {
+                begun(self.start_receive_from(*txn, *sender))
+            }
             Event::Step(sub) => match self.step(*sub) {
                 Ok(progress) => Reply::Stepped(progress),
                 Err(refusal) => Reply::Refused(refusal),
@@ -77,10 +88,25 @@ impl<P: PageDevice, L: LogDevice> Engine<P, L> {
                 Ok(lsn) => Reply::Forced(lsn),
                 Err(refusal) => Reply::Refused(refusal),
             },
+            Event::WritePage(page) => match self.write_page(*page) {
+                Ok(written) => Reply::Written(written),
+                Err(refusal) => Reply::Refused(refusal),
+            },
             Event::Content => match self.content() {
                 Ok(groups) => Reply::Content(groups),
                 Err(refusal) => Reply::Refused(refusal),
             },
         }
+    }
+}
+
+// The reply to the start of a receive.
+fn begun(started: Result<Option<Sub>, Refusal>) -> Reply
+    ensures { result ≡ begun_reply started }
+{
+    match started {
+        Ok(Some(sub)) => Reply::Started(sub),
+        Ok(None) => Reply::NoMessage,
+        Err(refusal) => Reply::Refused(refusal),
     }
 }

@@ -4,5 +4,9 @@
 pub mod engine;
 pub mod event;
 mod events;
+mod moves;
 mod operations;
+mod pages;
+mod receives;
 mod sends;
+mod starts;

@@ -4,11 +4,13 @@ ghost use Rattle.std.specs.List.{slice_get};
 ghost use Rattle.rq_model.specs.History.Call.{Step, Finish};
 ghost use Rattle.rq_txn.specs.Rows.{change_row, row_finished, under_of};
 ghost use Rattle.rq_store.specs.Steps.{op_end, gave_done};
+ghost use Rattle.rq_engine.specs.Moves.{without_taken};
 ghost use Rattle.rq_engine.specs.Answers.{Answers, IsGoing, NotGoing, Idle, CannotFinish, IsMade};
 ghost use Rattle.rq_engine.specs.Says.{progress_of, outcome_of};
 
 use crate::engine::Engine;
 use crate::event::{Outcome, Progress};
+use crate::moves::leave_out_taken;
 use rq_chain::SlotWrite;
 use rq_disk::{LogDevice, PageDevice};
 use rq_model::message::Message;
@@ -27,8 +29,9 @@ impl<P: PageDevice, L: LogDevice> Engine<P, L> {
     /// # Errors
     /// `Failed`, `UnknownOperation`.
     pub fn step(&mut self, sub: Sub) -> Result<Progress, Refusal>
-        ensures answered { Answers false false self.old (Step sub.txn sub.number) progress_of result self.new }
-        ensures sizes { self.new.sizes ≡ self.old.sizes }
+        ensures answered { Answers false false self.old.state (Step sub.txn sub.number) progress_of result self.new.state }
+        ensures sizes { self.new.state.sizes ≡ self.old.state.sizes }
+        ensures devices { (self.new.pages ≡ self.old.pages) × (self.new.log ≡ self.old.log) }
         ensures refused { OnErr result (self.new ≡ self.old) }
     {
         match self.next_write(sub) {
@@ -43,8 +46,9 @@ impl<P: PageDevice, L: LogDevice> Engine<P, L> {
     /// # Errors
     /// `Failed`, `UnknownOperation`, `Unfinished`.
     pub fn finish(&mut self, sub: Sub) -> Result<Outcome, Refusal>
-        ensures answered { Answers false false self.old (Finish sub.txn sub.number) outcome_of result self.new }
-        ensures sizes { self.new.sizes ≡ self.old.sizes }
+        ensures answered { Answers false false self.old.state (Finish sub.txn sub.number) outcome_of result self.new.state }
+        ensures sizes { self.new.state.sizes ≡ self.old.state.sizes }
+        ensures devices { (self.new.pages ≡ self.old.pages) × (self.new.log ≡ self.old.log) }
         ensures refused { OnErr result (self.new ≡ self.old) }
     {
         match self.ready_deed(sub) {
@@ -58,7 +62,7 @@ impl<P: PageDevice, L: LogDevice> Engine<P, L> {
 
     // The operation, if it is under way.
     fn operation(&self, sub: Sub) -> Option<&Operation>
-        ensures { MatchOption result (NotGoing self.now sub) (λ o. IsGoing self.now sub (λ r u. u ≡ under_of o.now)) }
+        ensures { MatchOption result (NotGoing self.now.state sub) (λ o. IsGoing self.now.state sub (λ r u. u ≡ under_of o.now)) }
     {
         let row = self.transactions.get(sub.txn)?;
         match &row.under_way {
@@ -69,9 +73,9 @@ impl<P: PageDevice, L: LogDevice> Engine<P, L> {
 
     // The next slot write of the operation; none where all are made.
     fn next_write(&self, sub: Sub) -> Result<Option<SlotWrite>, Refusal>
-        ensures next { IfOk result (λ w. IsGoing self.now sub (λ r u. slice_get u.writes u.made ≡ w)) }
-        ensures running { OnOk result (self.now.failed ≡ false) }
-        ensures idle { IfErr result (λ r. Idle self.now sub r) }
+        ensures next { IfOk result (λ w. IsGoing self.now.state sub (λ r u. slice_get u.writes u.made ≡ w)) }
+        ensures running { OnOk result (self.now.state.failed ≡ false) }
+        ensures idle { IfErr result (λ r. Idle self.now.state sub r) }
     {
         self.check_running()?;
         match self.operation(sub) {
@@ -82,9 +86,9 @@ impl<P: PageDevice, L: LogDevice> Engine<P, L> {
 
     // What the end of the operation will say, where all its writes are made.
     fn ready_deed(&self, sub: Sub) -> Result<Deed, Refusal>
-        ensures ready { IfOk result (λ d. IsGoing self.now sub (λ r u. (length u.writes ≤ u.made) × (u.deed ≡ d))) }
-        ensures running { OnOk result (self.now.failed ≡ false) }
-        ensures refused { IfErr result (λ r. CannotFinish self.now sub r) }
+        ensures ready { IfOk result (λ d. IsGoing self.now.state sub (λ r u. (length u.writes ≤ u.made) × (u.deed ≡ d))) }
+        ensures running { OnOk result (self.now.state.failed ≡ false) }
+        ensures refused { IfErr result (λ r. CannotFinish self.now.state sub r) }
     {
         self.check_running()?;
         let Some(operation) = self.operation(sub) else {
@@ -98,10 +102,11 @@ impl<P: PageDevice, L: LogDevice> Engine<P, L> {
 
     // Makes a slot write, with its record.
     fn make(&mut self, sub: Sub, write: &SlotWrite) -> Lsn
-        requires running { self.old.failed ≡ false }
-        requires next { IsGoing self.old sub (λ r u. slice_get u.writes u.made ≡ Some write.now) }
-        ensures lsn { result ≡ length self.old.records + 1 }
-        ensures made { IsMade self.old sub write.now self.new }
+        requires running { self.old.state.failed ≡ false }
+        requires next { IsGoing self.old.state sub (λ r u. slice_get u.writes u.made ≡ Some write.now) }
+        ensures lsn { result ≡ length self.old.state.records + 1 }
+        ensures made { IsMade self.old.state sub write.now self.new.state }
+        ensures devices { (self.new.pages ≡ self.old.pages) × (self.new.log ≡ self.old.log) }
     {
         let record = Record::PageOp {
             txn: sub.txn,
@@ -121,9 +126,10 @@ impl<P: PageDevice, L: LogDevice> Engine<P, L> {
 
     // Ends an operation, with its record.
     fn end(&mut self, sub: Sub, deed: &Deed)
-        requires running { self.old.failed ≡ false }
-        requires ready { IsGoing self.old sub (λ r u. (length u.writes ≤ u.made) × (u.deed ≡ deed.now)) }
-        ensures ended { self.new ≡ record self.old { rows = change_row sub.txn (row_finished (record { lsn = length self.old.records + 1; deed = deed.now })) self.old.rows; records = op_end sub.txn sub.number deed.now ∷ self.old.records } }
+        requires running { self.old.state.failed ≡ false }
+        requires ready { IsGoing self.old.state sub (λ r u. (length u.writes ≤ u.made) × (u.deed ≡ deed.now)) }
+        ensures ended { self.new.state ≡ record self.old.state { rows = change_row sub.txn (row_finished (record { lsn = length self.old.state.records + 1; deed = deed.now })) self.old.state.rows; records = op_end sub.txn sub.number deed.now ∷ self.old.state.records; waiting = without_taken deed.now self.old.state.waiting } }
+        ensures devices { (self.new.pages ≡ self.old.pages) × (self.new.log ≡ self.old.log) }
     {
         let record = Record::OpEnd {
             txn: sub.txn,
@@ -135,6 +141,7 @@ impl<P: PageDevice, L: LogDevice> Engine<P, L> {
         let lsn = self.log.append(&record);
         let finished = Finished { lsn, deed: *deed };
         self.transactions.finish(sub.txn, finished);
+        leave_out_taken(&mut self.waiting, deed);
         self.owed -= 1;
     }
 }

@@ -1,28 +1,29 @@
-use Rattle.std.proofs.Common.{◌≡◌, ◌≢◌, not, ℕ, ◌+◌, ◌≤◌, ◌^◌, sym, ap, ◌∙◌, subst, refl, arith, length, nat_lt, false, true, Some, None, ◌∷◌, Option}
-use Rattle.rq_store.specs.State.{State, owed_by}
+use Rattle.std.proofs.Common.{◌≡◌, ◌≢◌, not, ◌+◌, sym, ap, ◌∙◌, subst, length, nat_lt, false, ◌∷◌}
+use Rattle.rq_store.specs.State.{State}
 use Rattle.rq_model.specs.declared.txn.Txn.{Txn}
 use Rattle.rq_model.specs.History.Call.{Begin}
 use Rattle.rq_model.specs.Replay.Reply.{Gave_txn}
-use Rattle.rq_txn.specs.Rows.{Row, fresh_row}
+use Rattle.rq_txn.specs.Rows.{fresh_row}
 use Rattle.rq_store.specs.Steps.{Steps}
 use Rattle.rq_store.proofs.Beginning.{begin_steps}
 use Rattle.rq_engine.proofs.Keeping.{new_number, kept_begun}
-use Rattle.rq_engine.proofs.Refusals.{few, refuse_begins}
+use Rattle.rq_engine.proofs.Refusals.{few}
+use Rattle.rq_engine.proofs.Opened.{state_is}
 use Rattle.rq_engine.proofs.engine.Engine.begin.Goals as goal
 
 pub begin-requires-clause-new : goal.begin-requires-clause-new
-begin-requires-clause-new g c = new_number _ _ _ _ c.self.invariant
+begin-requires-clause-new g c = new_number _ _ _ _ c.self.invariant.kept
 
 abbrev next : State → Txn
 next s = record { incarnation = s.incarnation; count = s.begins + 1 }
 
 pub returns-clause-answered : goal.returns-clause-answered
 returns-clause-answered g c k =
-    let full : not (nat_lt (length c.args.self.now.rows) 4096) ≡ false = ap (λ (s : State). not (nat_lt (length s.rows) 4096)) (sym c.self.view_is) ∙ sym c.if-is_full.ensures in
-    let max : c.args.self.now.begins ≢ 18446744073709551615 = λ e. c.if-self.false (ap (λ (s : State). s.begins) c.self.view_is ∙ e) in
+    let full : not (nat_lt (length c.args.self.now.state.rows) 4096) ≡ false = ap (λ (s : State). not (nat_lt (length s.rows) 4096)) (sym (state_is c.self.view_is)) ∙ sym c.if-is_full.ensures in
+    let max : c.args.self.now.state.begins ≢ 18446744073709551615 = λ e. c.if-self.false (ap (λ (s : State). s.begins) (state_is c.self.view_is) ∙ e) in
     rw (c.in_ok-begin.ensures.ok)
-    (subst (λ (s : State). Steps c.args.self.now Begin (Gave_txn (next s)) (record s { rows = fresh_row (next s) ∷ s.rows; begins = s.begins + 1 })) (sym c.self.view_is)
-    (begin_steps c.args.self.now k c.in_ok-check_running.ensures.running (few c.args.self.now 18446744073709551615 full max)))
+    (subst (λ (s : State). Steps c.args.self.now.state Begin (Gave_txn (next s)) (record s { rows = fresh_row (next s) ∷ s.rows; begins = s.begins + 1 })) (sym (state_is c.self.view_is))
+    (begin_steps c.args.self.now.state k c.in_ok-check_running.ensures.running (few c.args.self.now.state 18446744073709551615 full max)))
 
 pub invariant_of-self-2 : goal.invariant_of-self-2
-invariant_of-self-2 g c = rw (c.in_ok-begin.ensures.ok) (kept_begun _ _ _ _ c.self.invariant)
+invariant_of-self-2 g c = record { kept = rw (c.in_ok-begin.ensures.ok) (kept_begun _ _ _ _ c.self.invariant.kept); durable = c.self.invariant.durable }

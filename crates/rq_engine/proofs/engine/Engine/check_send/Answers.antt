@@ -1,80 +1,80 @@
-use Rattle.std.proofs.Common.{◌≡◌, ℕ, ◌+◌, ◌<◌, ◌≤◌, ◌^◌, sym, ap, ◌∙◌, subst, refl, arith, length, false, true, Some, None, List, not, Bool}
-use Rattle.rq_page.specs.Sizes.{Sizes, sender_count, cell_count, directory_at}
+use Rattle.std.proofs.Common.{◌≡◌, ◌<◌, ◌≤◌, sym, ap, ◌∙◌, refl, arith, length, true}
+use Rattle.rq_page.specs.Sizes.{sender_count, cell_count, directory_at}
 use Rattle.rq_page.specs.Slots.Slot.{Sender}
 use Rattle.rq_level.specs.Stored.{slots_in}
 use Rattle.rq_groups.specs.Ends.{is_free_for}
 use Rattle.rq_txn.specs.Rows.{any_under}
-use Rattle.rq_model.specs.Legal.{log_full}
-use Rattle.rq_store.specs.State.{State, ledger_of}
+use Rattle.rq_store.specs.State.{State}
 use Rattle.rq_engine.proofs.SendCalls.{busy, closed, full, log_is_full, latched, passes}
+use Rattle.rq_engine.proofs.Opened.{state_is}
 use Rattle.rq_engine.proofs.engine.Engine.check_send.Goals as goal
 
 pub returns-then-not-may_send-clause-refused : goal.returns-then-not-may_send-clause-refused
 returns-then-not-may_send-clause-refused g c h =
-    let n : c.senders.result ≡ sender_count c.args.self.now.sizes = c.senders.ensures.number ∙ ap sender_count (c.layout.ensures.sizes ∙ ap (λ (s : State). s.sizes) c.self.view_is) in
+    let n : c.senders.result ≡ sender_count c.args.self.now.state.sizes = c.senders.ensures.number ∙ ap sender_count (c.layout.ensures.sizes ∙ ap (λ (s : State). s.sizes) (state_is c.self.view_is)) in
     let lt = c.if-sender-senders.false in
-    let below : c.args.sender < sender_count c.args.self.now.sizes = omega (arith, n, lt) in
+    let below : c.args.sender < sender_count c.args.self.now.state.sizes = omega (arith, n, lt) in
     let short : length c.args.body.now ≤ 216 = c.in-Some.ensures.fits.0 refl in
-    busy c.args.self.now c.args.txn c.args.sender c.args.tag c.args.body.now h below short (ap (λ (s : State). is_free_for c.args.txn c.args.sender s.ends.sending) (sym c.self.view_is) ∙ sym c.if-not-may_send.ensures)
+    busy c.args.self.now.state c.args.txn c.args.sender c.args.tag c.args.body.now h below short (ap (λ (s : State). is_free_for c.args.txn c.args.sender s.ends.sending) (sym (state_is c.self.view_is)) ∙ sym c.if-not-may_send.ensures)
 
 pub returns-then-group-clause-refused : goal.returns-then-group-clause-refused
 returns-then-group-clause-refused g c h =
-    let n : c.senders.result ≡ sender_count c.args.self.now.sizes = c.senders.ensures.number ∙ ap sender_count (c.layout.ensures.sizes ∙ ap (λ (s : State). s.sizes) c.self.view_is) in
+    let n : c.senders.result ≡ sender_count c.args.self.now.state.sizes = c.senders.ensures.number ∙ ap sender_count (c.layout.ensures.sizes ∙ ap (λ (s : State). s.sizes) (state_is c.self.view_is)) in
     let lt = c.if-sender-senders.false in
-    let below : c.args.sender < sender_count c.args.self.now.sizes = omega (arith, n, lt) in
+    let below : c.args.sender < sender_count c.args.self.now.state.sizes = omega (arith, n, lt) in
     let short : length c.args.body.now ≤ 216 = c.in-Some.ensures.fits.0 refl in
-    let free : is_free_for c.args.txn c.args.sender c.args.self.now.ends.sending ≡ true = ap (λ (s : State). is_free_for c.args.txn c.args.sender s.ends.sending) (sym c.self.view_is) ∙ sym c.if-not-may_send.ensures in
-    let at : slots_in c.args.self.now.sizes c.args.self.now.images (directory_at c.args.sender) ≡ Sender c.args.sender c.group.result = ap (λ (s : State). slots_in s.sizes s.images (directory_at c.args.sender)) (sym c.self.view_is) ∙ c.group.ensures.held in
-    closed c.args.self.now c.args.txn c.args.sender c.args.tag c.args.body.now h below short free c.group.result at c.if-group.true
+    let free : is_free_for c.args.txn c.args.sender c.args.self.now.state.ends.sending ≡ true = ap (λ (s : State). is_free_for c.args.txn c.args.sender s.ends.sending) (sym (state_is c.self.view_is)) ∙ sym c.if-not-may_send.ensures in
+    let at : slots_in c.args.self.now.state.sizes c.args.self.now.state.images (directory_at c.args.sender) ≡ Sender c.args.sender c.group.result = ap (λ (s : State). slots_in s.sizes s.images (directory_at c.args.sender)) (sym (state_is c.self.view_is)) ∙ c.group.ensures.held in
+    closed c.args.self.now.state c.args.txn c.args.sender c.args.tag c.args.body.now h below short free c.group.result at c.if-group.true
 
 pub returns-then-self-from-clause-refused : goal.returns-then-self-from-clause-refused
 returns-then-self-from-clause-refused g c h =
-    let n : c.senders.result ≡ sender_count c.args.self.now.sizes = c.senders.ensures.number ∙ ap sender_count (c.layout.ensures.sizes ∙ ap (λ (s : State). s.sizes) c.self.view_is) in
+    let n : c.senders.result ≡ sender_count c.args.self.now.state.sizes = c.senders.ensures.number ∙ ap sender_count (c.layout.ensures.sizes ∙ ap (λ (s : State). s.sizes) (state_is c.self.view_is)) in
     let lt = c.if-sender-senders.false in
-    let below : c.args.sender < sender_count c.args.self.now.sizes = omega (arith, n, lt) in
+    let below : c.args.sender < sender_count c.args.self.now.state.sizes = omega (arith, n, lt) in
     let short : length c.args.body.now ≤ 216 = c.in-Some.ensures.fits.0 refl in
-    let free : is_free_for c.args.txn c.args.sender c.args.self.now.ends.sending ≡ true = ap (λ (s : State). is_free_for c.args.txn c.args.sender s.ends.sending) (sym c.self.view_is) ∙ sym c.if-not-may_send.ensures in
-    let cells : c.cell_slots.result ≡ cell_count c.args.self.now.sizes = c.cell_slots.ensures.number ∙ ap cell_count (c.layout-2.ensures.sizes ∙ ap (λ (s : State). s.sizes) c.self.view_is) in
-    let used : c.self.inside.cells_in_use ≡ c.args.self.now.cells_in_use = ap (λ (s : State). s.cells_in_use) c.self.view_is in
+    let free : is_free_for c.args.txn c.args.sender c.args.self.now.state.ends.sending ≡ true = ap (λ (s : State). is_free_for c.args.txn c.args.sender s.ends.sending) (sym (state_is c.self.view_is)) ∙ sym c.if-not-may_send.ensures in
+    let cells : c.cell_slots.result ≡ cell_count c.args.self.now.state.sizes = c.cell_slots.ensures.number ∙ ap cell_count (c.layout-2.ensures.sizes ∙ ap (λ (s : State). s.sizes) (state_is c.self.view_is)) in
+    let used : c.self.inside.cells_in_use ≡ c.args.self.now.state.cells_in_use = ap (λ (s : State). s.cells_in_use) (state_is c.self.view_is) in
     let from : c.from.result ≡ c.cell_slots.result = c.from.ensures in
-    let at : slots_in c.args.self.now.sizes c.args.self.now.images (directory_at c.args.sender) ≡ Sender c.args.sender c.group.result = ap (λ (s : State). slots_in s.sizes s.images (directory_at c.args.sender)) (sym c.self.view_is) ∙ c.group.ensures.held in
-    full c.args.self.now c.args.txn c.args.sender c.args.tag c.args.body.now h below short free c.group.result at c.if-group.false (let t = c.if-self-from.true in omega (arith, t, cells, used, from))
+    let at : slots_in c.args.self.now.state.sizes c.args.self.now.state.images (directory_at c.args.sender) ≡ Sender c.args.sender c.group.result = ap (λ (s : State). slots_in s.sizes s.images (directory_at c.args.sender)) (sym (state_is c.self.view_is)) ∙ c.group.ensures.held in
+    full c.args.self.now.state c.args.txn c.args.sender c.args.tag c.args.body.now h below short free c.group.result at c.if-group.false (let t = c.if-self-from.true in omega (arith, t, cells, used, from))
 
 pub returns-then-is_log_full-clause-refused : goal.returns-then-is_log_full-clause-refused
 returns-then-is_log_full-clause-refused g c h =
-    let n : c.senders.result ≡ sender_count c.args.self.now.sizes = c.senders.ensures.number ∙ ap sender_count (c.layout.ensures.sizes ∙ ap (λ (s : State). s.sizes) c.self.view_is) in
+    let n : c.senders.result ≡ sender_count c.args.self.now.state.sizes = c.senders.ensures.number ∙ ap sender_count (c.layout.ensures.sizes ∙ ap (λ (s : State). s.sizes) (state_is c.self.view_is)) in
     let lt = c.if-sender-senders.false in
-    let below : c.args.sender < sender_count c.args.self.now.sizes = omega (arith, n, lt) in
+    let below : c.args.sender < sender_count c.args.self.now.state.sizes = omega (arith, n, lt) in
     let short : length c.args.body.now ≤ 216 = c.in-Some.ensures.fits.0 refl in
-    let free : is_free_for c.args.txn c.args.sender c.args.self.now.ends.sending ≡ true = ap (λ (s : State). is_free_for c.args.txn c.args.sender s.ends.sending) (sym c.self.view_is) ∙ sym c.if-not-may_send.ensures in
-    let cells : c.cell_slots.result ≡ cell_count c.args.self.now.sizes = c.cell_slots.ensures.number ∙ ap cell_count (c.layout-2.ensures.sizes ∙ ap (λ (s : State). s.sizes) c.self.view_is) in
-    let used : c.self.inside.cells_in_use ≡ c.args.self.now.cells_in_use = ap (λ (s : State). s.cells_in_use) c.self.view_is in
+    let free : is_free_for c.args.txn c.args.sender c.args.self.now.state.ends.sending ≡ true = ap (λ (s : State). is_free_for c.args.txn c.args.sender s.ends.sending) (sym (state_is c.self.view_is)) ∙ sym c.if-not-may_send.ensures in
+    let cells : c.cell_slots.result ≡ cell_count c.args.self.now.state.sizes = c.cell_slots.ensures.number ∙ ap cell_count (c.layout-2.ensures.sizes ∙ ap (λ (s : State). s.sizes) (state_is c.self.view_is)) in
+    let used : c.self.inside.cells_in_use ≡ c.args.self.now.state.cells_in_use = ap (λ (s : State). s.cells_in_use) (state_is c.self.view_is) in
     let from : c.from.result ≡ c.cell_slots.result = c.from.ensures in
-    let at : slots_in c.args.self.now.sizes c.args.self.now.images (directory_at c.args.sender) ≡ Sender c.args.sender c.group.result = ap (λ (s : State). slots_in s.sizes s.images (directory_at c.args.sender)) (sym c.self.view_is) ∙ c.group.ensures.held in
-    log_is_full c.args.self.now c.args.txn c.args.sender c.args.tag c.args.body.now h below short free c.group.result at c.if-group.false (let t = c.if-self-from.false in omega (arith, t, cells, used, from)) (sym c.if-is_log_full.ensures)
+    let at : slots_in c.args.self.now.state.sizes c.args.self.now.state.images (directory_at c.args.sender) ≡ Sender c.args.sender c.group.result = ap (λ (s : State). slots_in s.sizes s.images (directory_at c.args.sender)) (sym (state_is c.self.view_is)) ∙ c.group.ensures.held in
+    log_is_full c.args.self.now.state c.args.txn c.args.sender c.args.tag c.args.body.now h below short free c.group.result at c.if-group.false (let t = c.if-self-from.false in omega (arith, t, cells, used, from)) (sym c.if-is_log_full.ensures)
 
 pub returns-then-any_under_way-clause-refused : goal.returns-then-any_under_way-clause-refused
 returns-then-any_under_way-clause-refused g c h =
-    let n : c.senders.result ≡ sender_count c.args.self.now.sizes = c.senders.ensures.number ∙ ap sender_count (c.layout.ensures.sizes ∙ ap (λ (s : State). s.sizes) c.self.view_is) in
+    let n : c.senders.result ≡ sender_count c.args.self.now.state.sizes = c.senders.ensures.number ∙ ap sender_count (c.layout.ensures.sizes ∙ ap (λ (s : State). s.sizes) (state_is c.self.view_is)) in
     let lt = c.if-sender-senders.false in
-    let below : c.args.sender < sender_count c.args.self.now.sizes = omega (arith, n, lt) in
+    let below : c.args.sender < sender_count c.args.self.now.state.sizes = omega (arith, n, lt) in
     let short : length c.args.body.now ≤ 216 = c.in-Some.ensures.fits.0 refl in
-    let free : is_free_for c.args.txn c.args.sender c.args.self.now.ends.sending ≡ true = ap (λ (s : State). is_free_for c.args.txn c.args.sender s.ends.sending) (sym c.self.view_is) ∙ sym c.if-not-may_send.ensures in
-    let cells : c.cell_slots.result ≡ cell_count c.args.self.now.sizes = c.cell_slots.ensures.number ∙ ap cell_count (c.layout-2.ensures.sizes ∙ ap (λ (s : State). s.sizes) c.self.view_is) in
-    let used : c.self.inside.cells_in_use ≡ c.args.self.now.cells_in_use = ap (λ (s : State). s.cells_in_use) c.self.view_is in
+    let free : is_free_for c.args.txn c.args.sender c.args.self.now.state.ends.sending ≡ true = ap (λ (s : State). is_free_for c.args.txn c.args.sender s.ends.sending) (sym (state_is c.self.view_is)) ∙ sym c.if-not-may_send.ensures in
+    let cells : c.cell_slots.result ≡ cell_count c.args.self.now.state.sizes = c.cell_slots.ensures.number ∙ ap cell_count (c.layout-2.ensures.sizes ∙ ap (λ (s : State). s.sizes) (state_is c.self.view_is)) in
+    let used : c.self.inside.cells_in_use ≡ c.args.self.now.state.cells_in_use = ap (λ (s : State). s.cells_in_use) (state_is c.self.view_is) in
     let from : c.from.result ≡ c.cell_slots.result = c.from.ensures in
-    let at : slots_in c.args.self.now.sizes c.args.self.now.images (directory_at c.args.sender) ≡ Sender c.args.sender c.group.result = ap (λ (s : State). slots_in s.sizes s.images (directory_at c.args.sender)) (sym c.self.view_is) ∙ c.group.ensures.held in
-    latched c.args.self.now c.args.txn c.args.sender c.args.tag c.args.body.now h below short free c.group.result at c.if-group.false (let t = c.if-self-from.false in omega (arith, t, cells, used, from)) (sym c.if-is_log_full.ensures) (ap (λ (s : State). any_under s.rows) (sym c.self.view_is) ∙ sym c.if-any_under_way.ensures)
+    let at : slots_in c.args.self.now.state.sizes c.args.self.now.state.images (directory_at c.args.sender) ≡ Sender c.args.sender c.group.result = ap (λ (s : State). slots_in s.sizes s.images (directory_at c.args.sender)) (sym (state_is c.self.view_is)) ∙ c.group.ensures.held in
+    latched c.args.self.now.state c.args.txn c.args.sender c.args.tag c.args.body.now h below short free c.group.result at c.if-group.false (let t = c.if-self-from.false in omega (arith, t, cells, used, from)) (sym c.if-is_log_full.ensures) (ap (λ (s : State). any_under s.rows) (sym (state_is c.self.view_is)) ∙ sym c.if-any_under_way.ensures)
 
 pub returns-clause-passes : goal.returns-clause-passes
 returns-clause-passes g c k h =
-    let n : c.senders.result ≡ sender_count c.args.self.now.sizes = c.senders.ensures.number ∙ ap sender_count (c.layout.ensures.sizes ∙ ap (λ (s : State). s.sizes) c.self.view_is) in
+    let n : c.senders.result ≡ sender_count c.args.self.now.state.sizes = c.senders.ensures.number ∙ ap sender_count (c.layout.ensures.sizes ∙ ap (λ (s : State). s.sizes) (state_is c.self.view_is)) in
     let lt = c.if-sender-senders.false in
-    let below : c.args.sender < sender_count c.args.self.now.sizes = omega (arith, n, lt) in
+    let below : c.args.sender < sender_count c.args.self.now.state.sizes = omega (arith, n, lt) in
     let short : length c.args.body.now ≤ 216 = c.in-Some.ensures.fits.0 refl in
-    let free : is_free_for c.args.txn c.args.sender c.args.self.now.ends.sending ≡ true = ap (λ (s : State). is_free_for c.args.txn c.args.sender s.ends.sending) (sym c.self.view_is) ∙ sym c.if-not-may_send.ensures in
-    let cells : c.cell_slots.result ≡ cell_count c.args.self.now.sizes = c.cell_slots.ensures.number ∙ ap cell_count (c.layout-2.ensures.sizes ∙ ap (λ (s : State). s.sizes) c.self.view_is) in
-    let used : c.self.inside.cells_in_use ≡ c.args.self.now.cells_in_use = ap (λ (s : State). s.cells_in_use) c.self.view_is in
+    let free : is_free_for c.args.txn c.args.sender c.args.self.now.state.ends.sending ≡ true = ap (λ (s : State). is_free_for c.args.txn c.args.sender s.ends.sending) (sym (state_is c.self.view_is)) ∙ sym c.if-not-may_send.ensures in
+    let cells : c.cell_slots.result ≡ cell_count c.args.self.now.state.sizes = c.cell_slots.ensures.number ∙ ap cell_count (c.layout-2.ensures.sizes ∙ ap (λ (s : State). s.sizes) (state_is c.self.view_is)) in
+    let used : c.self.inside.cells_in_use ≡ c.args.self.now.state.cells_in_use = ap (λ (s : State). s.cells_in_use) (state_is c.self.view_is) in
     let from : c.from.result ≡ c.cell_slots.result = c.from.ensures in
-    let at : slots_in c.args.self.now.sizes c.args.self.now.images (directory_at c.args.sender) ≡ Sender c.args.sender c.group.result = ap (λ (s : State). slots_in s.sizes s.images (directory_at c.args.sender)) (sym c.self.view_is) ∙ c.group.ensures.held in
-    passes c.args.self.now c.args.txn c.args.sender c.args.tag c.args.body.now h below short free c.group.result at c.if-group.false (let t = c.if-self-from.false in omega (arith, t, cells, used, from)) (sym c.if-is_log_full.ensures) k
+    let at : slots_in c.args.self.now.state.sizes c.args.self.now.state.images (directory_at c.args.sender) ≡ Sender c.args.sender c.group.result = ap (λ (s : State). slots_in s.sizes s.images (directory_at c.args.sender)) (sym (state_is c.self.view_is)) ∙ c.group.ensures.held in
+    passes c.args.self.now.state c.args.txn c.args.sender c.args.tag c.args.body.now h below short free c.group.result at c.if-group.false (let t = c.if-self-from.false in omega (arith, t, cells, used, from)) (sym c.if-is_log_full.ensures) k

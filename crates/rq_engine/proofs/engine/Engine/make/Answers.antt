@@ -1,65 +1,68 @@
-use Rattle.std.proofs.Common.{◌≡◌, ℕ, ◌+◌, ◌/◌, ◌%◌, ◌≤◌, ◌<◌, ◌^◌, sym, ap, ◌∙◌, subst, refl, arith, length, nat_lt, false, true, Some, None, ◌∷◌, Option, List}
-use Rattle.rq_store.specs.State.{State, owed_by}
-use Rattle.rq_txn.specs.Rows.{Row, Under, found_row, change_row, row_stepped}
+use Rattle.std.proofs.Common.{◌≡◌, ◌+◌, ◌/◌, ◌%◌, sym, ap, ◌∙◌, subst, arith, ◌∷◌}
+use Rattle.rq_store.specs.State.{State}
+use Rattle.rq_txn.specs.Rows.{change_row, row_stepped}
 use Rattle.rq_page.specs.Slots.{IsSlotOf, held_in}
 use Rattle.rq_level.specs.Log.{put}
 use Rattle.rq_level.specs.Stored.{slots_in}
 use Rattle.rq_store.specs.Steps.{page_op}
-use Rattle.rq_engine.specs.Kept.{IsKept}
-use Rattle.rq_engine.specs.Answers.{IsGoing, IsReady}
-use Rattle.rq_engine.proofs.Calls.{Next, going_range, going_owed, going_count, next_slot, next_room, next_more, next_kept}
+use Rattle.rq_engine.specs.Answers.{IsGoing}
+use Rattle.rq_engine.proofs.Calls.{Next, going_range, going_owed, next_slot, next_room, next_more, next_kept}
+use Rattle.rq_engine.proofs.Opened.{state_is}
 use Rattle.rq_engine.proofs.engine.Engine.make.Goals as goal
 
 pub append-lsn-requires-clause-record : goal.append-lsn-requires-clause-record
 append-lsn-requires-clause-record g c =
-    let h = subst (λ (s : State). IsGoing s c.args.sub (Next c.args.write.now)) (sym c.self.view_is) c.requires.next in
-    let r = going_range _ _ _ _ c.self.invariant c.args.sub (Next c.args.write.now) h in
-    let p = (next_slot _ _ _ _ c.self.invariant c.args.sub c.args.write.now h).place.slot in
+    let h = subst (λ (s : State). IsGoing s c.args.sub (Next c.args.write.now)) (sym (state_is c.self.view_is)) c.requires.next in
+    let r = going_range _ _ _ _ c.self.invariant.kept c.args.sub (Next c.args.write.now) h in
+    let p = (next_slot _ _ _ _ c.self.invariant.kept c.args.sub c.args.write.now h).place.slot in
     let e : c.slot.result ≡ c.args.write.now.at % 16 = c.slot.ensures in
     (r.0, r.1, (omega (arith, p, e), omega (arith, e)))
 
 pub append-lsn-requires-clause-room : goal.append-lsn-requires-clause-room
 append-lsn-requires-clause-room g c =
-    let h = subst (λ (s : State). IsGoing s c.args.sub (Next c.args.write.now)) (sym c.self.view_is) c.requires.next in
-    let r = next_room _ _ _ _ c.self.invariant c.args.sub c.args.write.now h in
+    let h = subst (λ (s : State). IsGoing s c.args.sub (Next c.args.write.now)) (sym (state_is c.self.view_is)) c.requires.next in
+    let r = next_room _ _ _ _ c.self.invariant.kept c.args.sub c.args.write.now h in
     let e = c.sized.ensures in
     omega (arith, r, e)
 
 pub set_slot-requires-clause-place : goal.set_slot-requires-clause-place
 set_slot-requires-clause-place g c =
-    let h = subst (λ (s : State). IsGoing s c.args.sub (Next c.args.write.now)) (sym c.self.view_is) c.requires.next in
-    (next_slot _ _ _ _ c.self.invariant c.args.sub c.args.write.now h).place
+    let h = subst (λ (s : State). IsGoing s c.args.sub (Next c.args.write.now)) (sym (state_is c.self.view_is)) c.requires.next in
+    (next_slot _ _ _ _ c.self.invariant.kept c.args.sub c.args.write.now h).place
 
 pub set_slot-requires-clause-image : goal.set_slot-requires-clause-image
 set_slot-requires-clause-image g c =
-    let h = subst (λ (s : State). IsGoing s c.args.sub (Next c.args.write.now)) (sym c.self.view_is) c.requires.next in
-    (next_slot _ _ _ _ c.self.invariant c.args.sub c.args.write.now h).after
+    let h = subst (λ (s : State). IsGoing s c.args.sub (Next c.args.write.now)) (sym (state_is c.self.view_is)) c.requires.next in
+    (next_slot _ _ _ _ c.self.invariant.kept c.args.sub c.args.write.now h).after
 
 pub step-requires : goal.step-requires
 step-requires g c =
-    let h = subst (λ (s : State). IsGoing s c.args.sub (Next c.args.write.now)) (sym c.self.view_is) c.requires.next in
-    next_more _ _ _ _ c.self.invariant c.args.sub c.args.write.now h
+    let h = subst (λ (s : State). IsGoing s c.args.sub (Next c.args.write.now)) (sym (state_is c.self.view_is)) c.requires.next in
+    next_more _ _ _ _ c.self.invariant.kept c.args.sub c.args.write.now h
 
 pub overflow_sub-self : goal.overflow_sub-self
 overflow_sub-self g c =
-    let h = subst (λ (s : State). IsGoing s c.args.sub (Next c.args.write.now)) (sym c.self.view_is) c.requires.next in
-    going_owed _ _ _ _ c.self.invariant c.args.sub (Next c.args.write.now) h
+    let h = subst (λ (s : State). IsGoing s c.args.sub (Next c.args.write.now)) (sym (state_is c.self.view_is)) c.requires.next in
+    going_owed _ _ _ _ c.self.invariant.kept c.args.sub (Next c.args.write.now) h
 
 pub invariant_of-self : goal.invariant_of-self
 invariant_of-self g c =
-    let h = subst (λ (s : State). IsGoing s c.args.sub (Next c.args.write.now)) (sym c.self.view_is) c.requires.next in
+    let h = subst (λ (s : State). IsGoing s c.args.sub (Next c.args.write.now)) (sym (state_is c.self.view_is)) c.requires.next in
     let room : c.append-lsn.new.self.reserved + 546 ≡ c.self.inside.log.reserved = (let a = c.append-lsn.ensures.reserved in let b = c.sized.ensures in omega (arith, a, b)) in
-    let failed : c.self.inside.log.failed ≡ c.append-lsn.new.self.failed = c.self.invariant.fails ∙ ap (λ (s : State). s.failed) c.self.view_is ∙ c.requires.running ∙ sym c.append-lsn.ensures.failed in
-    rw (c.step.ensures, c.set_slot.ensures.sizes, c.append-lsn.ensures.records, c.append-lsn.ensures.forced, sym failed)
-    (next_kept _ _ _ _ c.self.invariant c.args.sub c.args.write.now h _ c.set_slot.new.self.images c.append-lsn.new.self.reserved room)
+    let failed : c.self.inside.log.failed ≡ c.append-lsn.new.self.failed = c.self.invariant.kept.fails (ap (λ (s : State). s.failed) (state_is c.self.view_is) ∙ c.requires.running) ∙ sym c.append-lsn.ensures.failed in
+    record {
+      kept = rw (c.step.ensures, c.set_slot.ensures.sizes, c.append-lsn.ensures.records, c.append-lsn.ensures.forced, sym failed)
+          (next_kept _ _ _ _ c.self.invariant.kept c.args.sub c.args.write.now h _ c.set_slot.new.self.images c.append-lsn.new.self.reserved room);
+      durable = rw (c.append-lsn.ensures.settled) c.self.invariant.durable;
+    }
 
 pub returns-clause-made : goal.returns-clause-made
 returns-clause-made g c =
-    let h = subst (λ (s : State). IsGoing s c.args.sub (Next c.args.write.now)) (sym c.self.view_is) c.requires.next in
+    let h = subst (λ (s : State). IsGoing s c.args.sub (Next c.args.write.now)) (sym (state_is c.self.view_is)) c.requires.next in
     record {
       state = rw (c.step.ensures, c.set_slot.ensures.sizes, c.append-lsn.ensures.records, c.append-lsn.ensures.forced, c.page.ensures, c.slot.ensures)
-          (ap (λ (s : State). record s { rows = change_row c.args.sub.txn row_stepped s.rows; images = c.set_slot.new.self.images; records = page_op c.args.sub.txn c.args.sub.number c.args.write.now ∷ s.records }) c.self.view_is);
-      before = subst (λ (s : State). IsSlotOf s.sizes (c.args.write.now.at / 16) (c.args.write.now.at % 16) c.args.write.now.before) c.self.view_is (next_slot _ _ _ _ c.self.invariant c.args.sub c.args.write.now h).before;
-      slot = subst (λ (s : State). IsSlotOf s.sizes (c.args.write.now.at / 16) (c.args.write.now.at % 16) c.args.write.now.after) c.self.view_is (next_slot _ _ _ _ c.self.invariant c.args.sub c.args.write.now h).after;
-      slots = λ a. subst (λ (s : State). slots_in s.sizes c.set_slot.new.self.images a ≡ put (slots_in s.sizes s.images) c.args.write.now.at (held_in s.sizes (c.args.write.now.at / 16) c.args.write.now.after) a) c.self.view_is (c.set_slot.ensures.slots a);
+          (ap (λ (s : State). record s { rows = change_row c.args.sub.txn row_stepped s.rows; images = c.set_slot.new.self.images; records = page_op c.args.sub.txn c.args.sub.number c.args.write.now ∷ s.records }) (state_is c.self.view_is));
+      before = subst (λ (s : State). IsSlotOf s.sizes (c.args.write.now.at / 16) (c.args.write.now.at % 16) c.args.write.now.before) (state_is c.self.view_is) (next_slot _ _ _ _ c.self.invariant.kept c.args.sub c.args.write.now h).before;
+      slot = subst (λ (s : State). IsSlotOf s.sizes (c.args.write.now.at / 16) (c.args.write.now.at % 16) c.args.write.now.after) (state_is c.self.view_is) (next_slot _ _ _ _ c.self.invariant.kept c.args.sub c.args.write.now h).after;
+      slots = λ a. subst (λ (s : State). slots_in s.sizes c.set_slot.new.self.images a ≡ put (slots_in s.sizes s.images) c.args.write.now.at (held_in s.sizes (c.args.write.now.at / 16) c.args.write.now.after) a) (state_is c.self.view_is) (c.set_slot.ensures.slots a);
     }

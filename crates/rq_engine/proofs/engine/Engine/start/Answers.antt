@@ -1,4 +1,4 @@
-use Rattle.std.proofs.Common.{rules, ◌≡◌, ℕ, ◌+◌, ◌-◌, ◌≤◌, sym, ap, ◌∙◌, subst, refl, arith, length, false, true, List}
+use Rattle.std.proofs.Common.{rules, ◌≡◌, sym, ap, ◌∙◌, subst, arith, length}
 use Rattle.std.specs.Vec.{vec_len}
 use Rattle.std.specs.Global.{Vec}
 use Rattle.rq_store.specs.State.{State, ledger_of}
@@ -7,6 +7,7 @@ use Rattle.rq_engine.specs.Answers.{IsReady}
 use Rattle.rq_engine.specs.Sends.{FitsPlan}
 use Rattle.rq_engine.proofs.Keeping.{kept_back}
 use Rattle.rq_engine.proofs.SendCalls.{start_kept}
+use Rattle.rq_engine.proofs.Opened.{state_is}
 use Rattle.rq_engine.proofs.engine.Engine.start.Goals as goal
 
 items_count : {X : Type 0} (v : Vec X) → vec_len v ≡ length v.items
@@ -14,17 +15,26 @@ items_count v = search rules
 
 pub invariant_of-self-in_default : goal.invariant_of-self-in_default
 invariant_of-self-in_default g c =
-    rw (c.release.ensures, c.in_ok-reserve.ensures.ok) (kept_back _ _ _ _ _ c.take_send.new.self c.self.invariant (omega arith))
+    record {
+      kept = rw (c.release.ensures, c.in_ok-reserve.ensures.ok) (kept_back _ _ _ _ _ c.take.new.self c.self.invariant.kept (omega arith));
+      durable = rw (c.release.ensures, c.in_ok-reserve.ensures.ok) c.self.invariant.durable;
+    }
 
 pub invariant_of-self-in_default-start : goal.invariant_of-self-in_default-start
 invariant_of-self-in_default-start g c =
-    rw (c.in_default-start.ensures.err, c.release-in_default-start.ensures, c.in_ok-reserve.ensures.ok) (kept_back _ _ _ _ _ c.undo_take_send.new.self c.self.invariant (omega arith))
+    record {
+      kept = rw (c.in_default-start.ensures.err, c.release-in_default-start.ensures, c.in_ok-reserve.ensures.ok) (kept_back _ _ _ _ _ c.undo_take.new.self c.self.invariant.kept (omega arith));
+      durable = rw (c.release-in_default-start.ensures, c.in_ok-reserve.ensures.ok) c.self.invariant.durable;
+    }
 
 pub invariant_of-self-2 : goal.invariant_of-self-2
 invariant_of-self-2 g c =
-    let ready = subst (λ (s : State). IsReady s c.args.txn c.args.number) (sym c.self.view_is) c.requires.ready in
-    let fits = subst (λ (s : State). FitsPlan s.sizes c.args.plan c.args.room) (sym c.self.view_is) c.requires.fits in
-    let full = ap (λ (s : State). log_full (ledger_of s) 4) c.self.view_is ∙ c.requires.log in
+    let ready = subst (λ (s : State). IsReady s c.args.txn c.args.number) (sym (state_is c.self.view_is)) c.requires.ready in
+    let fits = subst (λ (s : State). FitsPlan s.sizes c.args.plan c.args.room) (sym (state_is c.self.view_is)) c.requires.fits in
+    let full = ap (λ (s : State). log_full (ledger_of s) 4) (state_is c.self.view_is) ∙ c.requires.log in
     let count : c.len.result ≡ length c.args.plan.writes.items = c.len.ensures ∙ items_count c.args.plan.writes in
-    rw (c.in-Ok-start.ensures.ok, c.in_ok-reserve.ensures.ok, count)
-    (start_kept _ _ _ _ c.args.number c.args.room c.args.txn c.args.plan c.take_send.new.self c.self.invariant ready full fits)
+    record {
+      kept = rw (c.in-Ok-start.ensures.ok, c.in_ok-reserve.ensures.ok, count)
+          (start_kept _ _ _ _ c.args.number c.args.room c.args.txn c.args.plan c.take.new.self c.self.invariant.kept ready full fits);
+      durable = rw (c.in_ok-reserve.ensures.ok) c.self.invariant.durable;
+    }

@@ -1,5 +1,4 @@
-use Rattle.std.proofs.Common.{◌≡◌, ℕ, sym, ap, ◌∙◌, subst, refl, false, true, Some, None}
-use Rattle.rq_store.specs.State.{State}
+use Rattle.std.proofs.Common.{◌≡◌, subst}
 use Rattle.std.specs.List.{slice_get}
 use Rattle.rq_engine.specs.Answers.{IsGoing}
 use Rattle.rq_engine.proofs.Calls.{step_done, step_ready, step_idle}
@@ -7,13 +6,13 @@ use Rattle.rq_engine.proofs.engine.Engine.step.Goals as goal
 
 pub returns-in-Ok-Some-clause-answered : goal.returns-in-Ok-Some-clause-answered
 returns-in-Ok-Some-clause-answered g c k =
-    let next = subst (λ w. IsGoing c.args.self.now c.args.sub (λ r u. slice_get u.writes u.made ≡ w)) c.in-Ok-Some.field-0-is c.in-Ok-Some.ensures.next in
-    step_done c.args.self.now _ c.args.sub c.in-Ok-Some.write c.make.result c.in-Ok-Some.ensures.running next c.make.ensures.made c.make.ensures.lsn k
+    let next = subst (λ w. IsGoing c.args.self.now.state c.args.sub (λ r u. slice_get u.writes u.made ≡ w)) c.in-Ok-Some.field-0-is c.in-Ok-Some.ensures.next in
+    step_done c.args.self.now.state _ c.args.sub c.in-Ok-Some.write c.make.result c.in-Ok-Some.ensures.running next c.make.ensures.made c.make.ensures.lsn k
 
 pub returns-in-Ok-None-clause-answered : goal.returns-in-Ok-None-clause-answered
 returns-in-Ok-None-clause-answered g c k =
-    let next = subst (λ w. IsGoing c.args.self.now c.args.sub (λ r u. slice_get u.writes u.made ≡ w)) c.in-Ok-None.field-0-is c.in-Ok-None.ensures.next in
-    step_ready c.args.self.now c.args.sub c.in-Ok-None.ensures.running next k
+    let next = subst (λ w. IsGoing c.args.self.now.state c.args.sub (λ r u. slice_get u.writes u.made ≡ w)) c.in-Ok-None.field-0-is c.in-Ok-None.ensures.next in
+    step_ready c.args.self.now.state c.args.sub c.in-Ok-None.ensures.running next k
 
 pub returns-in-Err-clause-answered : goal.returns-in-Err-clause-answered
-returns-in-Err-clause-answered g c = step_idle c.args.self.now c.args.sub _ c.in-Err.ensures.idle
+returns-in-Err-clause-answered g c = step_idle c.args.self.now.state c.args.sub _ c.in-Err.ensures.idle

@@ -1,0 +1,151 @@
+-- What a receive answers, from what its tests found.
+use Rattle.std.proofs.Common.{◌≡◌, ℕ, ◌+◌, ◌<◌, ◌≤◌, ◌&&◌, length, refl, sym, ◌∙◌, ap, subst, Bool, true, false, not, nat_lt, Some, None, arith, inl, inr}
+use Rattle.std.proofs.lemmas.Bool.{lt-ltb, le-ltb}
+use Rattle.std.proofs.lemmas.List.{length-map}
+use Rattle.rq_model.specs.declared.txn.Txn.{Txn}
+use Rattle.rq_model.specs.declared.refusal.Refusal.TheVariants as why
+use Rattle.rq_model.specs.History.{Call}
+use Rattle.rq_model.specs.History.Call.{Start_receive, Start_receive_from}
+use Rattle.rq_model.specs.Ledger.{found}
+use Rattle.rq_model.specs.Legal.{Passes, NoneHolds, below, any_gives, gives, free_to_receive, log_full}
+use Rattle.rq_model.specs.Reference.{ready_tests}
+use Rattle.rq_model.specs.Replay.Reply.{Gave_sub, Gave_none, Gave_refusal}
+use Rattle.rq_page.specs.declared.cell.Cell.{Cell}
+use Rattle.rq_page.specs.declared.directory.Directory.{Directory}
+use Rattle.rq_page.specs.Sizes.{sender_count, directory_at}
+use Rattle.rq_page.specs.Slots.Slot.{Used, Sender}
+use Rattle.rq_level.specs.Chain.{Shows}
+use Rattle.rq_level.specs.Log.{cell_in, cells_of}
+use Rattle.rq_level.specs.Legal.{view}
+use Rattle.rq_level.specs.Items.{items, layout_of}
+use Rattle.rq_level.specs.Stored.{slots_in}
+use Rattle.rq_level.proofs.Laws.{shows_here}
+use Rattle.rq_txn.specs.Rows.{Row, found_row, any_under, change_row, row_started}
+use Rattle.rq_groups.specs.Ends.{is_free_for, with_held}
+use Rattle.rq_groups.specs.Waiting.{waits}
+use Rattle.rq_store.specs.State.{State, ledger_of, size_of}
+use Rattle.rq_store.specs.Sound.{IsSound, left_by}
+use Rattle.rq_store.specs.Plans.{IsTakePlan, NoneWaits}
+use Rattle.rq_store.specs.Steps.{Steps}
+use Rattle.rq_store.proofs.Chains.{shown}
+use Rattle.rq_store.proofs.FreeEnds.{free_to_take}
+use Rattle.rq_store.proofs.Forcing.{refused_steps}
+use Rattle.rq_store.proofs.NoneWaits.{gives_one, gives_none, some_gives, none_gives, none_steps, none_from_steps}
+use Rattle.rq_store.proofs.TakePlans.{head_stands, next_stands}
+use Rattle.rq_store.proofs.TakeStarts.{take_steps, take_from_steps}
+use Rattle.rq_store.proofs.Waiting.{waits_in_chain}
+use Rattle.rq_chain.specs.declared.Plan.{Plan}
+use Rattle.rq_engine.specs.Answers.{Refuses, IsReady, HasCause}
+use Rattle.rq_engine.specs.Receives.{IsTakeCall}
+use Rattle.rq_engine.specs.Sends.{under_plan}
+use Rattle.rq_engine.proofs.Refusals.{refuse, found_of}
+use Rattle.rq_engine.proofs.SendCalls.{ready_row}
+
+-- a transaction that is not ready is refused so
+module _ (s : State) (t : Txn) (h : NoneHolds (ready_tests (ledger_of s) t false)) where
+  -- the row of a transaction that is ready
+  own_row : (r : Row) × (found_row t s.rows ≡ Some r)
+  own_row = let n = ready_row s t h in let f = found_of (λ r. (r.under ≡ None) × (n.0 ≡ r.number + 1)) (found_row t s.rows) n.1 in (f.0, f.1)
+
+  -- none is given where none waits
+  pub none_done : NoneWaits s t → IsSound s → Steps s (Start_receive t) Gave_none s
+  none_done none k =
+      let g = none_gives s k t own_row.0 own_row.1 none in
+      none_steps s k t own_row.0 own_row.1 none (h.0, (h.1.0, (h.1.1.0, (h.1.1.1.0, (ap (λ b. b && log_full (ledger_of s) 4) g, tt)))))
+
+  module _ (e : ℕ) where
+    pub unknown_sender : sender_count s.sizes ≤ e → Refuses true false s (Start_receive_from t e) why.UnknownSender
+    unknown_sender m k = refuse true false s (Start_receive_from t e) why.UnknownSender refl tt (rw (h.0, h.1.0, h.1.1.0, h.1.1.1.0, ap not (le-ltb e (sender_count s.sizes) m)) refl) k
+
+    pub receiver_busy : e < sender_count s.sizes → is_free_for t e s.ends.receiving ≡ false → Refuses true false s (Start_receive_from t e) why.ReceiverBusy
+    receiver_busy m busy k = refuse true false s (Start_receive_from t e) why.ReceiverBusy refl tt (rw (h.0, h.1.0, h.1.1.0, h.1.1.1.0, ap not (lt-ltb e (sender_count s.sizes) m), ap not (free_to_take s k t e ∙ busy)) refl) k
+
+    pub none_from_done : e < sender_count s.sizes → is_free_for t e s.ends.receiving ≡ true → waits s.waiting e ≡ 0 → IsSound s → Steps s (Start_receive_from t e) Gave_none s
+    none_from_done m free none k =
+        let g = gives_none s k t own_row.0 own_row.1 e m free none in
+        none_from_steps s k t own_row.0 own_row.1 e m free none
+        (h.0, (h.1.0, (h.1.1.0, (h.1.1.1.0, (ap not (lt-ltb e (sender_count s.sizes) m), (ap not (free_to_take s k t e ∙ free), (ap (λ b. b && log_full (ledger_of s) 4) g, tt)))))))
+
+    module _ (m : e < sender_count s.sizes) (free : is_free_for t e s.ends.receiving ≡ true) (wait : 1 ≤ waits s.waiting e) where
+      some : (k : IsSound s) → any_gives (below (sender_count s.sizes)) (ledger_of s) t (found t (ledger_of s).open_ones) ≡ true
+      some k = some_gives s k t own_row.0 own_row.1 e (m, free, wait)
+
+      one : (k : IsSound s) → gives (ledger_of s) t (found t (ledger_of s).open_ones) e ≡ true
+      one k = gives_one s k t own_row.0 own_row.1 e (m, free, wait)
+
+      known : not (nat_lt e (sender_count s.sizes)) ≡ false
+      known = ap not (lt-ltb e (sender_count s.sizes) m)
+
+      is_free : (k : IsSound s) → not (free_to_receive t e (ledger_of s).open_ones) ≡ false
+      is_free k = ap not (free_to_take s k t e ∙ free)
+
+      pub log_is_full : log_full (ledger_of s) 4 ≡ true → (call : Call) → IsTakeCall t e call → Refuses true false s call why.LogFull
+      log_is_full c call is k = elim is [
+        | inl x ↦ subst (λ (y : Call). Steps s y (Gave_refusal why.LogFull) s × HasCause true false s why.LogFull) (sym x) (refuse true false s (Start_receive t) why.LogFull refl tt (rw (h.0, h.1.0, h.1.1.0, h.1.1.1.0, some k, c) refl) k)
+        | inr x ↦ subst (λ (y : Call). Steps s y (Gave_refusal why.LogFull) s × HasCause true false s why.LogFull) (sym x) (refuse true false s (Start_receive_from t e) why.LogFull refl tt (rw (h.0, h.1.0, h.1.1.0, h.1.1.1.0, known, is_free k, one k, c) refl) k)
+      ]
+
+      module _ (room : log_full (ledger_of s) 4 ≡ false) where
+        pub passes : (k : IsSound s) → Passes (size_of s.sizes) (ledger_of s) (Start_receive t)
+        passes k = (h.0, (h.1.0, (h.1.1.0, (h.1.1.1.0, (and_none _ _ room, tt)))))
+          where
+            and_none : (a b : Bool) → b ≡ false → (a && b) ≡ false
+            and_none true b e = e
+            and_none false b e = refl
+
+        pub passes_from : (k : IsSound s) → Passes (size_of s.sizes) (ledger_of s) (Start_receive_from t e)
+        passes_from k = (h.0, (h.1.0, (h.1.1.0, (h.1.1.1.0, (known, (is_free k, (and_none _ _ room, tt)))))))
+          where
+            and_none : (a b : Bool) → b ≡ false → (a && b) ≡ false
+            and_none true b e = e
+            and_none false b e = refl
+
+        pub latched : any_under s.rows ≡ true → (call : Call) → IsTakeCall t e call → Refuses true false s call why.Latched
+        latched u call is k = elim is [
+          | inl x ↦ subst (λ (y : Call). Steps s y (Gave_refusal why.Latched) s × HasCause true false s why.Latched) (sym x) (refused_steps s k (Start_receive t) why.Latched (passes k, some k) refl, u)
+          | inr x ↦ subst (λ (y : Call). Steps s y (Gave_refusal why.Latched) s × HasCause true false s why.Latched) (sym x) (refused_steps s k (Start_receive_from t e) why.Latched (passes_from k, one k) refl, u)
+        ]
+
+        -- a receive that has started
+        pub take_done : (new : State) (n : ℕ) (plan : Plan) → IsReady s t n → any_under s.rows ≡ false → IsTakePlan s.sizes (slots_in s.sizes s.images) (under_plan n plan) e
+            → new ≡ record s { rows = change_row t (row_started (under_plan n plan)) s.rows; ends = record { sending = s.ends.sending; receiving = with_held t e s.ends.receiving } }
+            → (call : Call) → IsTakeCall t e call → IsSound s → Steps s call (Gave_sub n) new
+        take_done new n plan ready idle planned is call c k =
+            let r = found_of (λ r. (r.under ≡ None) × (n ≡ r.number + 1)) (found_row t s.rows) ready in
+            subst (λ (x : State). Steps s call (Gave_sub n) x) (sym is) (elim c [
+              | inl x ↦ subst (λ (y : Call). Steps s y (Gave_sub n) after) (sym x) (subst (λ (m : ℕ). Steps s (Start_receive t) (Gave_sub m) after) (sym r.2.1) (take_steps s k t r.0 (under_plan n plan) e r.1 idle r.2.1 planned free wait (passes_from k)))
+              | inr x ↦ subst (λ (y : Call). Steps s y (Gave_sub n) after) (sym x) (subst (λ (m : ℕ). Steps s (Start_receive_from t e) (Gave_sub m) after) (sym r.2.1) (take_from_steps s k t r.0 (under_plan n plan) e r.1 idle r.2.1 planned free wait (passes_from k)))
+            ])
+          where
+            after : State
+            after = record s { rows = change_row t (row_started (under_plan n plan)) s.rows; ends = record { sending = s.ends.sending; receiving = with_held t e s.ends.receiving } }
+
+-- what a sound store shows of a sender of which a message waits
+module _ (s : State) (k : IsSound s) (idle : any_under s.rows ≡ false) (e : ℕ) (d : Directory) (m : e < sender_count s.sizes) (at : slots_in s.sizes s.images (directory_at e) ≡ Sender e d) (wait : 1 ≤ waits s.waiting e) where
+  here : Shows (cells_of (left_by s.sizes s.records).slots) e d (view (items s.sizes s.records) e)
+  here = shows_here (layout_of s.sizes) (left_by s.sizes s.records).slots e (view (items s.sizes s.records) e) d (sym at ∙ k.pages (directory_at e)) (shown s k idle e m)
+
+  more : 0 < length (view (items s.sizes s.records) e).messages
+  more = let a = waits_in_chain s k e m in omega (arith, a, wait)
+
+  head : (0 < d.head) × ((c : Cell) × ((left_by s.sizes s.records).slots d.head ≡ Used c))
+  head = head_stands (left_by s.sizes s.records).slots e d (view (items s.sizes s.records) e) here more
+
+  -- more was sent than received
+  pub sent_more : d.received < d.sent
+  sent_more =
+      let a = here.sent in
+      let b : length (view (items s.sizes s.records) e).messages ≡ length here.nodes = ap length here.messages ∙ length-map here.nodes _ in
+      let c = more in
+      omega (arith, a, b, c)
+
+  -- the first cell is used
+  pub head_there : (0 < d.head) × (cell_in (slots_in s.sizes s.images d.head) ≡ None → ⊥)
+  head_there = (head.0, λ none. (let bad : None ≡ Some head.1.0 = sym none ∙ ap cell_in (k.pages d.head ∙ head.1.1) in cc))
+
+  -- and so is the one that it names
+  pub next_there : (c : Cell) → slots_in s.sizes s.images d.head ≡ Used c → 0 < c.next → cell_in (slots_in s.sizes s.images c.next) ≡ None → ⊥
+  next_there c is pos none =
+      let x = next_stands (left_by s.sizes s.records).slots e d (view (items s.sizes s.records) e) c here head.0 (sym (k.pages d.head) ∙ is) pos in
+      let bad : None ≡ Some x.0 = sym none ∙ ap cell_in (k.pages c.next) ∙ x.1 in
+      cc

@@ -1,0 +1,95 @@
+-- What waits once sends are committed, and once a message is taken.
+use Rattle.std.proofs.Common.{◌≡◌, ℕ, ◌+◌, ◌-◌, ◌<◌, ◌≤◌, List, [], ◌∷◌, length, map, refl, sym, ◌∙◌, ap, nat_eq, arith, inl, inr}
+use Rattle.std.specs.List.{filter_map}
+use Rattle.std.proofs.lemmas.Bool.{cases_Bool, cases_lt, cases_eq, eq-eqb, ne_eqb}
+use Rattle.std.proofs.lemmas.List.{get_or_past}
+use Rattle.rq_model.specs.declared.record.Deed.{Deed}
+use Rattle.rq_model.specs.declared.record.Deed.TheVariants.{Append, UnlinkHead, Close}
+use Rattle.rq_model.specs.Words.{sent_for}
+use Rattle.rq_model.specs.Content.{said, op_of}
+use Rattle.rq_txn.specs.declared.Finished.{Finished}
+use Rattle.rq_groups.specs.Waiting.{waits, more_waiting, fewer_waiting}
+use Rattle.rq_groups.proofs.Waits.{length-more_waiting, length-fewer_waiting, waits-more_waiting_same, waits-more_waiting_other, waits-fewer_waiting_same, waits-fewer_waiting_other}
+use Rattle.rq_store.specs.State.{op_done}
+use Rattle.rq_store.specs.Steps.{took}
+use Rattle.rq_engine.specs.Moves.{with_sent, with_sends, without_taken}
+
+-- how many messages the deed sends for g
+abbrev sent_one : ℕ → Deed → ℕ
+sent_one g d = length (filter_map (sent_for g) (op_of (said d) ∷ []))
+
+length-with_sent : (d : Deed) (ws : List ℕ) → length (with_sent d ws) ≡ length ws
+length-with_sent (Append s n tag previous body) ws = length-more_waiting s 1 ws
+length-with_sent (UnlinkHead s n tag body) ws = refl
+length-with_sent (Close s) ws = refl
+
+pub length-with_sends : (fs : List Finished) (ws : List ℕ) → length (with_sends fs ws) ≡ length ws
+length-with_sends [] ws = refl
+length-with_sends (f ∷ fs) ws = length-with_sends fs (with_sent f.deed ws) ∙ length-with_sent f.deed ws
+
+pub length-without_taken : (d : Deed) (ws : List ℕ) → length (without_taken d ws) ≡ length ws
+length-without_taken (Append s n tag previous body) ws = refl
+length-without_taken (UnlinkHead s n tag body) ws = length-fewer_waiting s ws
+length-without_taken (Close s) ws = refl
+
+waits-with_sent : (d : Deed) (ws : List ℕ) (g : ℕ) → g < length ws → waits (with_sent d ws) g ≡ waits ws g + sent_one g d
+waits-with_sent (Append s n tag previous body) ws g m = elim (cases_eq g s) [
+  | inl e ↦ ap (waits (more_waiting s 1 ws)) e ∙ waits-more_waiting_same s 1 ws (omega (arith, m, e)) ∙ (rw (eq-eqb s g (sym e)) (let w : waits ws s ≡ waits ws g = ap (waits ws) (sym e) in omega (arith, w)))
+  | inr ne ↦ waits-more_waiting_other s 1 ws g ne ∙ (rw (ne_eqb s g (λ e. ne (sym e))) (omega arith))
+]
+waits-with_sent (UnlinkHead s n tag body) ws g m = omega arith
+waits-with_sent (Close s) ws g m = omega arith
+
+sent_more : (g : ℕ) (f : Finished) (fs : List Finished) → length (filter_map (sent_for g) (map op_done (f ∷ fs))) ≡ sent_one g f.deed + length (filter_map (sent_for g) (map op_done fs))
+sent_more g f fs = one g f.deed where
+  one : (g : ℕ) (d : Deed) → length (filter_map (sent_for g) (op_of (said d) ∷ map op_done fs)) ≡ sent_one g d + length (filter_map (sent_for g) (map op_done fs))
+  one g (Append s n tag previous body) = elim (cases_Bool (nat_eq s g)) [ inl y ↦ rw y (omega arith) | inr n ↦ rw n (omega arith) ]
+  one g (UnlinkHead s n tag body) = omega arith
+  one g (Close s) = omega arith
+
+-- what was sent for a sender of the store waits
+pub waits-with_sends : (fs : List Finished) (ws : List ℕ) (g : ℕ) → g < length ws → waits (with_sends fs ws) g ≡ waits ws g + length (filter_map (sent_for g) (map op_done fs))
+waits-with_sends [] ws g m = omega arith
+waits-with_sends (f ∷ fs) ws g m =
+    let a = waits-with_sent f.deed ws g m in
+    let b = waits-with_sends fs (with_sent f.deed ws) g (let l = length-with_sent f.deed ws in omega (arith, l, m)) in
+    let c = sent_more g f fs in
+    omega (arith, a, b, c)
+
+sent_at_most : (d : Deed) (ws : List ℕ) (g : ℕ) → waits (with_sent d ws) g ≤ waits ws g + 1
+sent_at_most (Append s n tag previous body) ws g = elim (cases_eq g s) [
+  | inl e ↦ elim (cases_lt s (length ws)) [
+    | inl m ↦ let a = waits-more_waiting_same s 1 ws m in let b : waits (more_waiting s 1 ws) g ≡ waits (more_waiting s 1 ws) s = ap (waits (more_waiting s 1 ws)) e in let c : waits ws g ≡ waits ws s = ap (waits ws) e in omega (arith, a, b, c)
+    | inr m ↦ let l = length-more_waiting s 1 ws in let a : waits (more_waiting s 1 ws) g ≡ 0 = get_or_past (more_waiting s 1 ws) g 0 (omega (arith, l, m, e)) in omega (arith, a)
+  ]
+  | inr ne ↦ let a = waits-more_waiting_other s 1 ws g ne in omega (arith, a)
+]
+sent_at_most (UnlinkHead s n tag body) ws g = omega arith
+sent_at_most (Close s) ws g = omega arith
+
+-- no more than were finished
+pub few_sends : (fs : List Finished) (ws : List ℕ) (g : ℕ) → waits (with_sends fs ws) g ≤ waits ws g + length fs
+few_sends [] ws g = omega arith
+few_sends (f ∷ fs) ws g = let a = sent_at_most f.deed ws g in let b = few_sends fs (with_sent f.deed ws) g in omega (arith, a, b)
+
+-- what was taken waits no more
+pub waits-without_taken : (d : Deed) (ws : List ℕ) (g : ℕ) → waits (without_taken d ws) g ≡ waits ws g - took g d
+waits-without_taken (Append s n tag previous body) ws g = omega arith
+waits-without_taken (UnlinkHead s n tag body) ws g = elim (cases_eq g s) [
+  | inl e ↦
+      let w : waits ws s ≡ waits ws g = ap (waits ws) (sym e) in
+      let v : waits (fewer_waiting s ws) g ≡ waits (fewer_waiting s ws) s = ap (waits (fewer_waiting s ws)) e in
+      rw (eq-eqb s g (sym e)) (elim (cases_lt s (length ws)) [
+        | inl m ↦ let a = waits-fewer_waiting_same s ws m in omega (arith, a, w, v)
+        | inr m ↦
+            let l = length-fewer_waiting s ws in
+            let a : waits (fewer_waiting s ws) s ≡ 0 = get_or_past (fewer_waiting s ws) s 0 (omega (arith, l, m)) in
+            let b : waits ws s ≡ 0 = get_or_past ws s 0 m in
+            omega (arith, a, b, w, v)
+      ])
+  | inr ne ↦ waits-fewer_waiting_other s ws g ne ∙ (rw (ne_eqb s g (λ e. ne (sym e))) (omega arith))
+]
+waits-without_taken (Close s) ws g = omega arith
+
+pub few_taken : (d : Deed) (ws : List ℕ) (g : ℕ) → waits (without_taken d ws) g ≤ waits ws g
+few_taken d ws g = let a = waits-without_taken d ws g in omega (arith, a)

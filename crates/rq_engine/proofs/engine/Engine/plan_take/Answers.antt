@@ -1,0 +1,57 @@
+use Rattle.std.proofs.Common.{◌≡◌, ℕ, sym, ap, ◌∙◌, subst, refl, reverse, arith, inl, inr}
+use Rattle.rq_page.specs.declared.cell.Cell.{Cell}
+use Rattle.rq_page.specs.Sizes.{Sizes, directory_at}
+use Rattle.rq_page.specs.Slots.Slot.{Sender}
+use Rattle.rq_level.specs.Log.{cell_in}
+use Rattle.rq_level.specs.Stored.{slots_in}
+use Rattle.rq_store.specs.State.{State}
+use Rattle.rq_store.specs.Plans.{Stands_at}
+use Rattle.rq_level.specs.Plans.{unlink_head_writes}
+use Rattle.rq_level.specs.Items.{layout_of}
+use Rattle.rq_record.specs.Deeds.{IsDeedInRange}
+use Rattle.rq_chain.specs.Writes.{cell_beside, writes_of}
+use Rattle.rq_engine.proofs.TakeCalls.{sent_more, head_there, next_there}
+use Rattle.rq_engine.proofs.Opened.{state_is}
+use Rattle.rq_engine.proofs.engine.Engine.plan_take.Goals as goal
+
+pub returns-then-directory-clause-refused : goal.returns-then-directory-clause-refused
+returns-then-directory-clause-refused g c k wait idle =
+    let at : slots_in c.args.self.now.state.sizes c.args.self.now.state.images (directory_at c.args.sender) ≡ Sender c.args.sender c.group-directory.result = ap (λ (s : State). slots_in s.sizes s.images (directory_at c.args.sender)) (sym (state_is c.self.view_is)) ∙ c.group-directory.ensures.held in
+    let more = sent_more c.args.self.now.state k idle c.args.sender c.group-directory.result c.requires at wait in
+    let less = c.if-directory.true in
+    absurd (omega (arith, more, less))
+
+pub returns-in_default-clause-refused : goal.returns-in_default-clause-refused
+returns-in_default-clause-refused g c k wait idle =
+    let at : slots_in c.args.self.now.state.sizes c.args.self.now.state.images (directory_at c.args.sender) ≡ Sender c.args.sender c.group-directory.result = ap (λ (s : State). slots_in s.sizes s.images (directory_at c.args.sender)) (sym (state_is c.self.view_is)) ∙ c.group-directory.ensures.held in
+    let there = head_there c.args.self.now.state k idle c.args.sender c.group-directory.result c.requires at wait in
+    elim c.in_default.ensures.none [
+      | inl none ↦ absurd (let pos = there.0 in omega (arith, none, pos))
+      | inr free ↦ absurd (there.1 free)
+    ]
+
+pub returns-in_default-neighbour-clause-refused : goal.returns-in_default-neighbour-clause-refused
+returns-in_default-neighbour-clause-refused g c k wait idle =
+    let at : slots_in c.args.self.now.state.sizes c.args.self.now.state.images (directory_at c.args.sender) ≡ Sender c.args.sender c.group-directory.result = ap (λ (s : State). slots_in s.sizes s.images (directory_at c.args.sender)) (sym (state_is c.self.view_is)) ∙ c.group-directory.ensures.held in
+    let cell : Cell = c.in-Some.head.cell in
+    let next : c.following.result ≡ cell.next = c.following.ensures in
+    let free = c.in_default-neighbour.ensures.free in
+    let pos = free.0 in
+    absurd (next_there c.args.self.now.state k idle c.args.sender c.group-directory.result c.requires at wait cell c.in-Some.ensures.stands (omega (arith, pos, next))
+    (ap (λ (a : ℕ). cell_in (slots_in c.args.self.now.state.sizes c.args.self.now.state.images a)) (sym next) ∙ free.1))
+
+pub returns-clause-plan : goal.returns-clause-plan
+returns-clause-plan g c number = record {
+  directory = c.group-directory.result;
+  cell = c.in-Some.head.cell;
+  next = cell_beside c.in-Some-neighbour.next;
+  made = refl;
+  below = c.requires;
+  directory_is = ap (λ (s : State). slots_in s.sizes s.images (directory_at c.args.sender)) (sym (state_is c.self.view_is)) ∙ c.group-directory.ensures.held;
+  head = c.in-Some.ensures.place.address;
+  head_is = c.in-Some.ensures.stands;
+  beside = subst (λ (a : ℕ). Stands_at (slots_in c.args.self.now.state.sizes c.args.self.now.state.images) a (cell_beside c.in-Some-neighbour.next)) c.following.ensures c.in-Some-neighbour.ensures.stands;
+  deed = c.in_ok-plan.ensures.deed;
+  writes = subst (λ (z : Sizes). reverse (writes_of z c.in_ok-plan.plan.writes.items) ≡ unlink_head_writes (layout_of z) c.args.sender c.group-directory.result c.in-Some.head.cell (cell_beside c.in-Some-neighbour.next)) (c.layout-layout.ensures.sizes ∙ ap (λ (s : State). s.sizes) (state_is c.self.view_is)) c.in_ok-plan.ensures.writes;
+  reads = c.room_of-room.ensures.reads (subst IsDeedInRange (sym c.in_ok-plan.ensures.deed) (omega arith));
+}

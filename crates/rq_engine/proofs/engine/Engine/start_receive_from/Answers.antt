@@ -1,0 +1,30 @@
+use Rattle.std.proofs.Common.{◌≡◌, sym, ap, ◌∙◌, refl, arith, inr}
+use Rattle.rq_model.specs.History.Call.{Start_receive_from}
+use Rattle.rq_page.specs.Sizes.{sender_count}
+use Rattle.rq_groups.specs.Ends.{is_free_for}
+use Rattle.rq_groups.specs.Waiting.{waits}
+use Rattle.rq_store.specs.State.{State}
+use Rattle.rq_engine.proofs.TakeCalls.{receiver_busy, none_from_done}
+use Rattle.rq_engine.proofs.Opened.{state_is}
+use Rattle.rq_engine.proofs.engine.Engine.start_receive_from.Goals as goal
+
+pub returns-then-not-may_receive-clause-answered : goal.returns-then-not-may_receive-clause-answered
+returns-then-not-may_receive-clause-answered g c =
+    let n : c.senders.result ≡ sender_count c.args.self.now.state.sizes = c.senders.ensures.number ∙ ap sender_count (c.layout.ensures.sizes ∙ ap (λ (s : State). s.sizes) (state_is c.self.view_is)) in
+    let lt = c.if-sender-senders.false in
+    receiver_busy c.args.self.now.state c.args.txn c.in_ok-number.ensures.passes c.args.sender (omega (arith, n, lt))
+    (ap (λ (s : State). is_free_for c.args.txn c.args.sender s.ends.receiving) (sym (state_is c.self.view_is)) ∙ sym c.if-not-may_receive.ensures)
+
+pub returns-then-count-eq0-clause-answered : goal.returns-then-count-eq0-clause-answered
+returns-then-count-eq0-clause-answered g c =
+    let n : c.senders.result ≡ sender_count c.args.self.now.state.sizes = c.senders.ensures.number ∙ ap sender_count (c.layout.ensures.sizes ∙ ap (λ (s : State). s.sizes) (state_is c.self.view_is)) in
+    let lt = c.if-sender-senders.false in
+    none_from_done c.args.self.now.state c.args.txn c.in_ok-number.ensures.passes c.args.sender (omega (arith, n, lt))
+    (ap (λ (s : State). is_free_for c.args.txn c.args.sender s.ends.receiving) (sym (state_is c.self.view_is)) ∙ sym c.if-not-may_receive.ensures)
+    (ap (λ (s : State). waits s.waiting c.args.sender) (sym (state_is c.self.view_is)) ∙ sym c.count.ensures ∙ c.if-count-eq0.true)
+
+pub returns-in-Ok-clause-answered : goal.returns-in-Ok-clause-answered
+returns-in-Ok-clause-answered g c = c.in-Ok.ensures.answered (Start_receive_from c.args.txn c.args.sender) (inr refl)
+
+pub returns-in-Err-clause-answered : goal.returns-in-Err-clause-answered
+returns-in-Err-clause-answered g c = c.in-Err.ensures.answered (Start_receive_from c.args.txn c.args.sender) (inr refl)

@@ -1,0 +1,21 @@
+-- What sends and takes make of what waits.
+use Rattle.std.specs.Prelude.{ℕ, List, [], ◌∷◌}
+use Rattle.rq_model.specs.declared.record.Deed.{Deed}
+use Rattle.rq_model.specs.declared.record.Deed.TheVariants.{Append, UnlinkHead}
+use Rattle.rq_txn.specs.declared.Finished.{Finished}
+use Rattle.rq_groups.specs.Waiting.{more_waiting, fewer_waiting}
+
+-- a message that was sent waits
+abbrev pub with_sent : Deed → List ℕ → List ℕ
+with_sent (Append s n tag previous body) ws = more_waiting s 1 ws
+with_sent _ ws = ws
+
+-- so do those that these operations sent
+abbrev pub with_sends : List Finished → List ℕ → List ℕ
+with_sends [] ws = ws
+with_sends (f ∷ fs) ws = with_sends fs (with_sent f.deed ws)
+
+-- a message that was taken waits no more
+abbrev pub without_taken : Deed → List ℕ → List ℕ
+without_taken (UnlinkHead s n tag body) ws = fewer_waiting s ws
+without_taken _ ws = ws

@@ -1,0 +1,40 @@
+-- What contracts see of an engine.
+use Rattle.std.specs.Prelude.{◌≡◌, ℕ, ◌+◌, ◌%◌, ◌^◌, Bool, true, false, List, Result, Ok, Err}
+use Rattle.rq_model.specs.declared.refusal.Refusal.{Refusal}
+use Rattle.rq_model.specs.declared.refusal.Refusal.TheVariants as why
+use Rattle.rq_pool.specs.declared.Written.{Written}
+use Rattle.rq_pool.specs.Pooled.{Pooled}
+use Rattle.rq_pool.specs.Writing.{AnswersWhen}
+use Rattle.rq_store.specs.State.{State}
+
+-- an open store: its lists, its devices, and of each page whether it was changed since it was read or written
+pub record OpenStore (P L : Type 0) : Type 0 where
+  pub state : State
+  -- the device of the pages
+  pub pages : P
+  -- the device of the log
+  pub log : L
+  pub changed : List Bool
+
+-- its pages
+abbrev pub pooled : {P L : Type 0} → OpenStore P L → Pooled P
+pooled s = record { device = s.pages; sizes = s.state.sizes; images = s.state.images; changed = s.changed }
+
+-- Why nothing was handed over or forced: the store had failed before, and nothing changes, or the device of the log failed now, as its count of failures
+-- tells.
+abbrev pub NotWritten : {P L : Type 0} → (L → ℕ) → OpenStore P L → OpenStore P L → Refusal → Type 0
+NotWritten faults old new why.Failed = (old.state.failed ≡ true) × (new ≡ old)
+NotWritten faults old new why.DiskWrite = (old.state.failed ≡ false) × (faults new.log ≡ (faults old.log + 1) % 2 ^ 64)
+NotWritten faults old new _ = ⊥
+
+-- When a page that is to be written out is answered so. The store had failed before; or the page has no change that was not written; or it has one, and
+-- the record of its last change is forced, or is not.
+abbrev pub WritesWhen : {P L : Type 0} → OpenStore P L → ℕ → Result Written Refusal → Type 0
+WritesWhen s page (Err why.Failed) = s.state.failed ≡ true
+WritesWhen s page (Err r) = (s.state.failed ≡ false) × AnswersWhen (pooled s) page s.state.forced (Err r)
+WritesWhen s page (Ok w) = (s.state.failed ≡ false) × AnswersWhen (pooled s) page s.state.forced (Ok w)
+
+-- what it makes of the store: a device that failed stops it, and nothing else changes its lists
+abbrev pub state_after : State → Result Written Refusal → State
+state_after s (Err why.DiskWrite) = record s { failed = true }
+state_after s _ = s

@@ -1,0 +1,163 @@
+//! Receives.
+ghost use Rattle.std.specs.Prelude.{◌≡◌, ◌⊎◌, ◌+◌, ◌<◌, ◌≤◌, IfOk, IfErr, IfSome, IfNone, None, OnOk, OnErr, ℕ, Some, true, false};
+ghost use Rattle.rq_model.specs.History.{Call};
+ghost use Rattle.rq_model.specs.History.Call.{Start_receive, Start_receive_from};
+ghost use Rattle.rq_model.specs.Legal.{NoneHolds};
+ghost use Rattle.rq_model.specs.Reference.{ready_tests};
+ghost use Rattle.rq_page.specs.Sizes.{IsLink, sender_count};
+ghost use Rattle.rq_page.specs.Slots.{Used};
+ghost use Rattle.rq_level.specs.Log.{cell_in};
+ghost use Rattle.rq_chain.specs.Writes.{IsNeighbourAt};
+ghost use Rattle.rq_level.specs.Stored.{slots_in};
+ghost use Rattle.rq_txn.specs.Rows.{any_under};
+ghost use Rattle.rq_groups.specs.Ends.{is_free_for};
+ghost use Rattle.rq_groups.specs.Waiting.{waits};
+ghost use Rattle.rq_store.specs.State.{ledger_of};
+ghost use Rattle.rq_store.specs.Sound.{IsSound};
+ghost use Rattle.rq_store.specs.Plans.{IsTakePlan};
+ghost use Rattle.rq_engine.specs.Answers.{Answers, IsReady};
+ghost use Rattle.rq_engine.specs.Receives.{IsTakeCall, started_of};
+ghost use Rattle.rq_engine.specs.Sends.{under_plan, FitsPlan};
+
+use crate::engine::Engine;
+use crate::starts::{CHAIN_OPERATION, room_of};
+use rq_chain::{Group, Neighbour, Plan, unlink_head};
+use rq_disk::{LogDevice, PageDevice};
+use rq_groups::End;
+use rq_model::refusal::{Damage, Refusal};
+use rq_model::txn::{Sub, Txn};
+use rq_page::addr::Addr;
+
+impl<P: PageDevice, L: LogDevice> Engine<P, L> {
+    /// Starts a receive from some group that holds a message for the transaction, and takes everything that its steps and
+    /// its finish will need. None where no free group holds a message. A group is free where no other transaction holds its
+    /// receiving end; it holds a message where more is committed than was taken.
+    ///
+    /// # Errors
+    /// `Failed`, `UnknownTransaction`, `NotOpen`, `Unfinished`, `LogFull`, `Latched`, `NoMemory`.
+    pub fn start_receive(&mut self, txn: Txn) -> Result<Option<Sub>, Refusal>
+        ensures answered { Answers true false self.old.state (Start_receive txn) started_of result self.new.state }
+        ensures sizes { self.new.state.sizes ≡ self.old.state.sizes }
+        ensures sub { IfOk result (λ begun. IfSome begun (λ sub. sub.txn ≡ txn)) }
+        ensures none { IfOk result (λ begun. IfNone begun (self.new ≡ self.old)) }
+        ensures latched { IfOk result (λ begun. IfSome begun (λ _. any_under self.old.state.rows ≡ false)) }
+        ensures devices { (self.new.pages ≡ self.old.pages) × (self.new.log ≡ self.old.log) }
+        ensures refused { OnErr result (self.new ≡ self.old) }
+    {
+        let number = self.check_open(txn)?;
+        let Some(sender) = self.waiting.first_for(&self.ends, txn) else {
+            return Ok(None);
+        };
+        match self.start_take(txn, number, sender) {
+            Ok(sub) => Ok(Some(sub)),
+            Err(refusal) => Err(refusal),
+        }
+    }
+
+    /// Starts a receive from this sender's group, and takes everything that its steps and its finish will need. None where
+    /// the group holds no message for the transaction.
+    ///
+    /// # Errors
+    /// `Failed`, `UnknownTransaction`, `NotOpen`, `Unfinished`, `UnknownSender`, `ReceiverBusy`, `LogFull`, `Latched`, `NoMemory`.
+    pub fn start_receive_from(&mut self, txn: Txn, sender: u32) -> Result<Option<Sub>, Refusal>
+        ensures answered { Answers true false self.old.state (Start_receive_from txn sender) started_of result self.new.state }
+        ensures sizes { self.new.state.sizes ≡ self.old.state.sizes }
+        ensures sub { IfOk result (λ begun. IfSome begun (λ sub. sub.txn ≡ txn)) }
+        ensures none { IfOk result (λ begun. IfNone begun (self.new ≡ self.old)) }
+        ensures latched { IfOk result (λ begun. IfSome begun (λ _. any_under self.old.state.rows ≡ false)) }
+        ensures devices { (self.new.pages ≡ self.old.pages) × (self.new.log ≡ self.old.log) }
+        ensures refused { OnErr result (self.new ≡ self.old) }
+    {
+        let number = self.check_open(txn)?;
+        if sender >= self.pages.layout().senders() {
+            return Err(Refusal::UnknownSender);
+        }
+        if !self.ends.may_receive(txn, sender) {
+            return Err(Refusal::ReceiverBusy);
+        }
+        if self.waiting.count(sender) == 0 {
+            return Ok(None);
+        }
+        match self.start_take(txn, number, sender) {
+            Ok(sub) => Ok(Some(sub)),
+            Err(refusal) => Err(refusal),
+        }
+    }
+
+    // Starts a receive from a group that holds a message for the transaction.
+    fn start_take(&mut self, txn: Txn, number: u64, sender: u32) -> Result<Sub, Refusal>
+        requires ready { IsReady self.old.state txn number }
+        requires passes { NoneHolds (ready_tests (ledger_of self.old.state) txn false) }
+        requires sender { sender < sender_count self.old.state.sizes }
+        requires free { is_free_for txn sender self.old.state.ends.receiving ≡ true }
+        requires waits { 1 ≤ waits self.old.state.waiting sender }
+        ensures answered { (call : Call) → IsTakeCall txn sender call → Answers true false self.old.state call (λ sub. started_of (Some sub)) result self.new.state }
+        ensures sizes { self.new.state.sizes ≡ self.old.state.sizes }
+        ensures sub { IfOk result (λ sub. sub.txn ≡ txn) }
+        ensures latched { OnOk result (any_under self.old.state.rows ≡ false) }
+        ensures devices { (self.new.pages ≡ self.old.pages) × (self.new.log ≡ self.old.log) }
+        ensures refused { OnErr result (self.new ≡ self.old) }
+    {
+        if self.is_log_full(CHAIN_OPERATION) {
+            return Err(Refusal::LogFull);
+        }
+        if self.transactions.any_under_way() {
+            return Err(Refusal::Latched);
+        }
+        let (plan, room) = self.plan_take(sender)?;
+        self.start(txn, number, End::Receiving(sender), plan, room)?;
+        Ok(Sub { txn, number })
+    }
+
+    // The plan of a receive, from the slots as they are, and how many bytes its records take in the log.
+    fn plan_take(&self, sender: u32) -> Result<(Plan, usize), Refusal>
+        requires { sender < sender_count self.now.state.sizes }
+        ensures plan { IfOk result (λ planned. (number : ℕ) → IsTakePlan self.now.state.sizes (slots_in self.now.state.sizes self.now.state.images) (under_plan number planned.0) sender) }
+        ensures fits { IfOk result (λ planned. FitsPlan self.now.state.sizes planned.0 planned.1) }
+        ensures refused { IsSound self.now.state → 1 ≤ waits self.now.state.waiting sender → any_under self.now.state.rows ≡ false → IfErr result (λ r. r ≡ Refusal.NoMemory) }
+    {
+        let layout = self.pages.layout();
+        let directory = self.pages.group(sender);
+        let damaged = Refusal::Damaged(Damage::Page(layout.directory_of(sender).page() as u32));
+        if directory.received >= directory.sent {
+            return Err(damaged);
+        }
+        let Some(head) = self.cell_at(directory.head) else {
+            return Err(damaged);
+        };
+        let Some(next) = self.neighbour(following(&head)) else {
+            return Err(damaged);
+        };
+        let group = Group {
+            at: layout.directory_of(sender),
+            sender,
+            directory,
+        };
+        let plan = unlink_head(self.alloc, &layout, &group, &head, next)?;
+        let room = room_of(&plan);
+        Ok((plan, room))
+    }
+
+    // The cell that a link names. Not there where it names none, or one that is free.
+    fn cell_at(&self, at: Addr) -> Option<Neighbour>
+        requires { IsLink self.now.state.sizes at }
+        ensures place { IfSome result (λ cell. IsNeighbourAt self.now.state.sizes at cell) }
+        ensures stands { IfSome result (λ cell. slots_in self.now.state.sizes self.now.state.images at ≡ Used cell.cell) }
+        ensures none { IfNone result ((at ≡ 0) ⊎ (cell_in (slots_in self.now.state.sizes self.now.state.images at) ≡ None)) }
+    {
+        if at.is_none() {
+            return None;
+        }
+        match self.pages.cell(at) {
+            Some(cell) => Some(Neighbour { at, cell }),
+            None => None,
+        }
+    }
+}
+
+// Where the cell behind this one stands.
+fn following(cell: &Neighbour) -> Addr
+    ensures { result ≡ cell.now.cell.next }
+{
+    cell.cell.next
+}

@@ -1,0 +1,97 @@
+//! What starts of operations have in common.
+ghost use Rattle.std.specs.Prelude.{◌≡◌, ◌+◌, ◌*◌, ◌<◌, ◌≤◌, IfErr, IfSome, IfNone, None, Some, OnOk, OnErr, false, length};
+ghost use Rattle.rq_model.specs.Deeds.{deed_in, spelled_deed};
+ghost use Rattle.rq_record.specs.Deeds.{IsDeedInRange};
+ghost use Rattle.rq_model.specs.Legal.{log_full};
+ghost use Rattle.rq_page.specs.Sizes.{IsLink};
+ghost use Rattle.rq_level.specs.Log.{cell_in};
+ghost use Rattle.rq_level.specs.Stored.{slots_in};
+ghost use Rattle.rq_txn.specs.Rows.{change_row, row_started};
+ghost use Rattle.rq_groups.specs.Sides.{with_end};
+ghost use Rattle.rq_chain.specs.Writes.{IsNeighbour, cell_beside};
+ghost use Rattle.rq_store.specs.State.{ledger_of};
+ghost use Rattle.rq_store.specs.Plans.{Stands_at};
+ghost use Rattle.rq_engine.specs.Answers.{IsReady};
+ghost use Rattle.rq_engine.specs.Sends.{under_plan, FitsPlan};
+
+use crate::engine::Engine;
+use rq_chain::{Neighbour, Plan};
+use rq_disk::{LogDevice, PageDevice};
+use rq_groups::End;
+use rq_model::refusal::Refusal;
+use rq_model::txn::Txn;
+use rq_page::addr::Addr;
+use rq_record::{OP_END_BYTES, PAGE_OP_BYTES, encode_deed};
+use rq_txn::Operation;
+
+/// What a send, a receive or the inverse of one is counted as where it starts: three slots and an end.
+pub(crate) const CHAIN_OPERATION: u64 = 4;
+
+/// How many bytes the records of a planned operation take in the log.
+pub(crate) fn room_of(plan: &Plan) -> usize
+    requires { length plan.now.writes.items ≤ 3 }
+    ensures room { result ≡ length plan.now.writes.items * 546 + (30 + length (spelled_deed plan.now.deed)) }
+    ensures low { 1 ≤ length (spelled_deed plan.now.deed) }
+    ensures high { length (spelled_deed plan.now.deed) ≤ 256 }
+    ensures reads { IsDeedInRange plan.now.deed → deed_in (spelled_deed plan.now.deed) ≡ Some plan.now.deed }
+{
+    let end = OP_END_BYTES + encode_deed(&plan.deed).as_slice().len();
+    plan.writes.len() * PAGE_OP_BYTES + end
+}
+
+impl<P: PageDevice, L: LogDevice> Engine<P, L> {
+    // The cell that a link names: none where it names none. Not there where that cell is free.
+    pub(crate) fn neighbour(&self, at: Addr) -> Option<Option<Neighbour>>
+        requires { IsLink self.now.state.sizes at }
+        ensures neighbour { IfSome result (λ beside. IsNeighbour self.now.state.sizes at beside) }
+        ensures stands { IfSome result (λ beside. Stands_at (slots_in self.now.state.sizes self.now.state.images) at (cell_beside beside)) }
+        ensures free { IfNone result ((0 < at) × (cell_in (slots_in self.now.state.sizes self.now.state.images at) ≡ None)) }
+    {
+        if at.is_none() {
+            return Some(None);
+        }
+        match self.pages.cell(at) {
+            Some(cell) => Some(Some(Neighbour { at, cell })),
+            None => None,
+        }
+    }
+
+    // Takes the room of an operation, and then lets it begin.
+    pub(crate) fn start(
+        &mut self,
+        txn: Txn,
+        number: u64,
+        end: End,
+        plan: Plan,
+        room: usize,
+    ) -> Result<(), Refusal>
+        requires ready { IsReady self.old.state txn number }
+        requires fits { FitsPlan self.old.state.sizes plan room }
+        requires log { log_full (ledger_of self.old.state) 4 ≡ false }
+        ensures started { OnOk result (self.new.state ≡ record self.old.state { rows = change_row txn (row_started (under_plan number plan)) self.old.state.rows; ends = with_end txn end self.old.state.ends }) }
+        ensures devices { (self.new.pages ≡ self.old.pages) × (self.new.log ≡ self.old.log) }
+        ensures refusal { IfErr result (λ r. r ≡ Refusal.NoMemory) }
+        ensures refused { OnErr result (self.new ≡ self.old) }
+    {
+        let Plan { writes, deed } = plan;
+        let owed = writes.len() as u64 + 1;
+        let operation = Operation {
+            number,
+            writes,
+            made: 0,
+            deed,
+        };
+        self.log.reserve(room)?;
+        let Ok(newly) = self.ends.take(txn, end) else {
+            self.log.release(room);
+            return Err(Refusal::NoMemory);
+        };
+        let Ok(()) = self.transactions.start(txn, operation) else {
+            self.ends.undo_take(end, newly);
+            self.log.release(room);
+            return Err(Refusal::NoMemory);
+        };
+        self.owed += owed;
+        Ok(())
+    }
+}
