@@ -4,3 +4,4 @@ pub mod Restarts
 pub mod Parsing
 pub mod Formats
 pub mod Loading
+pub mod Counting

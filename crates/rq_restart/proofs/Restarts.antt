@@ -88,6 +88,13 @@ counted_left z image older xs p same left low high =
     let count : length older ≡ length xs = ap length same ∙ length-reverse xs in
     subst (λ n. IsCounted z n p (image p)) count (fits_counted z older p (image p) left.whole.legal (left.fits.pages p low high))
 
+-- the numbers of pages that history was repeated on are within the log
+pub counted_redone : (z : Sizes) (image : ℕ → List ℕ) (images : List (List ℕ)) (older xs : List Record) (p : ℕ) → older ≡ reverse xs → IsLeft z image older → (IsLeft z image (reverse xs) → FitsUpTo z (image_in images) (reverse xs) (length xs)) → 1 ≤ p → p < page_count z → IsCounted z (length xs) p (image_in images p)
+counted_redone z image images older xs p same left redone low high =
+    let there : IsLeft z image (reverse xs) = subst (λ l. IsLeft z image l) same left in
+    let fits : FitsPage z (reverse xs) p (image_in images p) = (redone there p low high).fits in
+    subst (λ n. IsCounted z n p (image_in images p)) (length-reverse xs) (fits_counted z (reverse xs) p (image_in images p) there.whole.legal fits)
+
 -- what was left on a device was left in the pages that are read of it
 pub left_read : (z : Sizes) (seen : ℕ → List ℕ) (images : List (List ℕ)) (older : List Record) → ArePages z seen images → IsLeft z seen older → IsLeft z (image_in images) older
 left_read z seen images older are left = record {

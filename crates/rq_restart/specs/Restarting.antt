@@ -3,11 +3,14 @@ use Rattle.std.specs.Prelude.{◌≡◌, ◌⊎◌, ℕ, ◌+◌, ◌%◌, ◌^�
 use Rattle.rq_model.specs.declared.record.Record.{Record}
 use Rattle.rq_model.specs.declared.refusal.Refusal.{Refusal}
 use Rattle.rq_model.specs.declared.refusal.Refusal.TheVariants as why
-use Rattle.rq_page.specs.Sizes.{Sizes}
+use Rattle.rq_groups.specs.Waiting.{waits}
+use Rattle.rq_page.specs.Sizes.{Sizes, sender_count}
 use Rattle.rq_store.specs.Sound.{IsWhole, incarnation_of}
 use Rattle.rq_model.specs.Content.{unfinished, lost}
-use Rattle.rq_log.specs.Logged.{Logged}
-use Rattle.rq_store.specs.Opening.{FitsLog, next_restart}
+use Rattle.rq_disk.specs.Device.{Only}
+use Rattle.rq_log.specs.Logged.{Logged, WasDurable}
+use Rattle.rq_log.specs.Spelled.{spelled}
+use Rattle.rq_store.specs.Opening.{FitsLog, next_restart, waiting_in}
 
 -- the pages and the log of a store that was left as a crash may leave one
 pub record IsLeft (z : Sizes) (image : ℕ → List ℕ) (log : List Record) : Type 0 where
@@ -60,8 +63,18 @@ Stops left log why.Unfinished before now old new = left → unfinished log ≡ [
 Stops left log (why.Damaged d) before now old new = left → ⊥
 Stops left log _ before now old new = ⊥
 
--- an engine may be opened over the log: incarnations are counted from 1 on, it is not over the greatest length, and it has not failed
-pub record IsReady {L : Type 0} (incarnation : ℕ) (log : Logged L) : Type 0 where
+-- an engine may be opened over the log: incarnations are counted from 1 on, it is not over the greatest length, it has not failed, all its records stand on
+-- the device, and a crash leaves them, now and when the log was last forced
+pub record IsReady {L : Type 0} (seen : L → List ℕ) (may_leave : L → List ℕ → Type 0) (incarnation : ℕ) (log : Logged L) : Type 0 where
   pub begun : 1 ≤ incarnation
   pub running : log.failed ≡ false
   pub count : length log.records ≤ 2 ^ 50
+  pub reads : seen log.device ≡ spelled log.records
+  pub durable : Only (spelled log.records) (may_leave log.device)
+  pub settled : WasDurable seen may_leave log
+
+-- by sender, how many messages wait, as the directory tells: no more than there are records
+pub record AreWaiting (z : Sizes) (images : List (List ℕ)) (count : ℕ) (waiting : List ℕ) : Type 0 where
+  pub told : waiting ≡ waiting_in z images
+  pub senders : length waiting ≡ sender_count z
+  pub few : (g : ℕ) → waits waiting g ≤ count

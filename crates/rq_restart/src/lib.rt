@@ -5,3 +5,4 @@ pub mod format;
 mod history;
 mod redo;
 pub mod restart;
+mod waiting;

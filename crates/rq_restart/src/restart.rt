@@ -5,16 +5,19 @@ ghost use Rattle.rq_model.specs.declared.record.Record.{Record};
 ghost use Rattle.rq_level.specs.Stored.{slots_in, count_used};
 ghost use Rattle.rq_log.specs.Spelled.{spelled, AreSpelled};
 ghost use Rattle.rq_page.specs.Sizes.{Sizes};
-ghost use Rattle.rq_pool.specs.Reading.{IsSuperblock};
+ghost use Rattle.rq_disk.specs.Device.{Only};
+ghost use Rattle.rq_pool.specs.Reading.{IsSuperblock, OnlyRead};
 ghost use Rattle.rq_model.specs.Content.{committed_of};
 ghost use Rattle.rq_store.specs.State.{ledger_of};
 ghost use Rattle.rq_store.specs.Sound.{IsSound};
 ghost use Rattle.rq_store.specs.Opening.{opened, image_in};
-ghost use Rattle.rq_restart.specs.Restarting.{IsLeft, IsReady, BeginsNot, StaysShut, IsBegun, Reports, Stops};
+ghost use Rattle.rq_restart.specs.Restarting.{IsLeft, IsReady, AreWaiting, BeginsNot, StaysShut, IsBegun, Reports, Stops};
 
 use crate::redo::{miscounted_page, repeat_history};
+use crate::waiting::count_waiting;
 use rq_disk::{LogDevice, PageDevice};
 use rq_engine::engine::{Engine, LOG_LIMIT};
+use rq_groups::Waiting;
 use rq_log::{Log, Scan};
 use rq_model::record::Record;
 use rq_model::refusal::{Damage, Refusal};
@@ -43,6 +46,7 @@ struct Opened<P: PageDevice, L: LogDevice> {
     log: Log<L>,
     // How many cells hold a message.
     cells: u32,
+    waiting: Waiting,
     report: Report,
 }
 
@@ -66,19 +70,31 @@ pub fn restart<P: PageDevice + Drop, L: LogDevice + Drop>(
     log: L,
 ) -> Result<(Engine<P, L>, Report), Stopped<P, L>>
     ensures report { IfOk result (λ o. (older : List Record) → AreSpelled older → L.seen log ≡ spelled older → Reports older o.1.incarnation o.1.records o.1.unfinished o.1.lost) }
-    ensures sizes { IfOk result (λ o. IsSuperblock o.0.sizes (P.seen pages 0)) }
-    ensures value { IfOk result (λ o. (older : List Record) → AreSpelled older → L.seen log ≡ spelled older → o.0 ≡ opened o.0.sizes o.0.images older) }
-    ensures sound { IfOk result (λ o. (older : List Record) → AreSpelled older → L.seen log ≡ spelled older → IsLeft o.0.sizes (P.seen pages) older → IsSound o.0) }
-    ensures committed { IfOk result (λ o. (older : List Record) → AreSpelled older → L.seen log ≡ spelled older → (ledger_of o.0).committed ≡ committed_of older) }
+    ensures sizes { IfOk result (λ o. IsSuperblock o.0.state.sizes (P.seen pages 0)) }
+    ensures value { IfOk result (λ o. (older : List Record) → AreSpelled older → L.seen log ≡ spelled older → o.0.state ≡ opened o.0.state.sizes o.0.state.images older) }
+    ensures sound { IfOk result (λ o. (older : List Record) → AreSpelled older → L.seen log ≡ spelled older → IsLeft o.0.state.sizes (P.seen pages) older → IsSound o.0.state) }
+    ensures committed { IfOk result (λ o. (older : List Record) → AreSpelled older → L.seen log ≡ spelled older → (ledger_of o.0.state).committed ≡ committed_of older) }
+    ensures reads { IfOk result (λ o. L.seen o.0.log ≡ spelled o.0.state.records) }
+    ensures durable { IfOk result (λ o. Only (spelled o.0.state.records) (L.may_leave o.0.log)) }
+    ensures pages { IfOk result (λ o. OnlyRead P.seen P.may_be P.moment P.left_since pages o.0.pages) }
+    ensures cause { IfOk result (λ o. (P.faults o.0.pages ≡ P.faults pages) × (L.faults o.0.log ≡ L.faults log)) }
     ensures err { IfErr result (λ stopped. (z : Sizes) → IsSuperblock z (P.seen pages 0) → (older : List Record) → AreSpelled older → L.seen log ≡ spelled older → Stops (IsLeft z (P.seen pages) older) older stopped.refusal (P.faults pages) (P.faults stopped.pages) (L.faults log) (L.faults stopped.log)) }
 {
     let Opened {
         pages,
         log,
         cells,
+        waiting,
         report,
     } = open(alloc, pages, log)?;
-    let engine = Engine::open(alloc, pages, log, report.incarnation, u64::from(cells));
+    let engine = Engine::open(
+        alloc,
+        pages,
+        log,
+        waiting,
+        report.incarnation,
+        u64::from(cells),
+    );
     Ok((engine, report))
 }
 
@@ -92,8 +108,11 @@ fn open<P: PageDevice + Drop, L: LogDevice + Drop>(
     ensures report { IfOk result (λ opened. (older : List Record) → AreSpelled older → L.seen log ≡ spelled older → Reports older opened.report.incarnation opened.report.records opened.report.unfinished opened.report.lost) }
     ensures sizes { IfOk result (λ opened. IsSuperblock opened.pages.sizes (P.seen pages 0)) }
     ensures cells { IfOk result (λ opened. opened.cells ≡ count_used opened.pages.sizes (slots_in opened.pages.sizes opened.pages.images)) }
+    ensures waiting { IfOk result (λ opened. AreWaiting opened.pages.sizes opened.pages.images (length opened.log.records) opened.waiting) }
     ensures sound { IfOk result (λ o. (older : List Record) → AreSpelled older → L.seen log ≡ spelled older → IsLeft o.pages.sizes (P.seen pages) older → IsSound (opened o.pages.sizes o.pages.images older)) }
-    ensures ready { IfOk result (λ o. IsReady o.report.incarnation o.log) }
+    ensures ready { IfOk result (λ o. IsReady L.seen L.may_leave o.report.incarnation o.log) }
+    ensures pages { IfOk result (λ o. OnlyRead P.seen P.may_be P.moment P.left_since pages o.pages.device) }
+    ensures cause { IfOk result (λ o. (P.faults o.pages.device ≡ P.faults pages) × (L.faults o.log.device ≡ L.faults log)) }
     ensures err { IfErr result (λ stopped. (z : Sizes) → IsSuperblock z (P.seen pages 0) → (older : List Record) → AreSpelled older → L.seen log ≡ spelled older → Stops (IsLeft z (P.seen pages) older) older stopped.refusal (P.faults pages) (P.faults stopped.pages) (L.faults log) (L.faults stopped.log)) }
 {
     match Pages::load(alloc, pages) {
@@ -119,19 +138,23 @@ fn restart_log<P: PageDevice + Drop, L: LogDevice + Drop>(
     ensures report { IfOk result (λ opened. (older : List Record) → AreSpelled older → L.seen log ≡ spelled older → Reports older opened.report.incarnation opened.report.records opened.report.unfinished opened.report.lost) }
     ensures sizes { IfOk result (λ opened. opened.pages.sizes ≡ pages.sizes) }
     ensures cells { IfOk result (λ opened. opened.cells ≡ count_used opened.pages.sizes (slots_in opened.pages.sizes opened.pages.images)) }
+    ensures waiting { IfOk result (λ opened. AreWaiting opened.pages.sizes opened.pages.images (length opened.log.records) opened.waiting) }
     ensures sound { IfOk result (λ o. (older : List Record) → AreSpelled older → L.seen log ≡ spelled older → IsLeft pages.sizes (image_in pages.images) older → IsSound (opened pages.sizes o.pages.images older)) }
-    ensures ready { IfOk result (λ o. IsReady o.report.incarnation o.log) }
+    ensures ready { IfOk result (λ o. IsReady L.seen L.may_leave o.report.incarnation o.log) }
+    ensures pages { IfOk result (λ o. o.pages.device ≡ pages.device) }
+    ensures cause { IfOk result (λ o. L.faults o.log.device ≡ L.faults log) }
     ensures err { IfErr result (λ stopped. (older : List Record) → AreSpelled older → L.seen log ≡ spelled older → StaysShut (IsLeft pages.sizes (image_in pages.images) older) older stopped.refusal (L.faults log) (L.faults stopped.log)) }
 {
     let Scan { records, log } = Log::scan(alloc, log);
     match log {
         Ok(mut log) => match go_on(alloc, &mut pages, &mut log, &records) {
-            Ok(report) => {
+            Ok((waiting, report)) => {
                 let cells = pages.used_cells();
                 Ok(Opened {
                     pages,
                     log,
                     cells,
+                    waiting,
                     report,
                 })
             }
@@ -152,31 +175,42 @@ fn restart_log<P: PageDevice + Drop, L: LogDevice + Drop>(
     }
 }
 
-// Goes through the log, whose records these are, and begins the next incarnation. The pages are as it says then.
+// Goes through the log, whose records these are, and begins the next incarnation. The pages are as it says then. Gives
+// how many messages wait, too.
 fn go_on<P: PageDevice + Drop, L: LogDevice + Drop>(
     alloc: Global,
     pages: &mut Pages<P>,
     log: &mut Log<L>,
     records: &[Record],
-) -> Result<Report, Refusal>
+) -> Result<(Waiting, Report), Refusal>
     requires records { log.old.records ≡ reverse records.now }
     requires running { log.old.failed ≡ false }
     ensures begun { OnOk result (IsBegun log.old.records log.new) }
     ensures sizes { pages.new.sizes ≡ pages.old.sizes }
-    ensures report { IfOk result (λ report. Reports log.old.records report.incarnation report.records report.unfinished report.lost) }
+    ensures report { IfOk result (λ begun. Reports log.old.records begun.1.incarnation begun.1.records begun.1.unfinished begun.1.lost) }
     ensures sound { OnOk result (IsLeft pages.old.sizes (image_in pages.old.images) log.old.records → IsSound (opened pages.old.sizes pages.new.images log.old.records)) }
-    ensures ready { IfOk result (λ report. IsReady report.incarnation log.new) }
+    ensures waiting { IfOk result (λ begun. AreWaiting pages.new.sizes pages.new.images (length log.new.records) begun.0) }
+    ensures ready { IfOk result (λ begun. IsReady L.seen L.may_leave begun.1.incarnation log.new) }
+    ensures pages { pages.new.device ≡ pages.old.device }
+    ensures cause { OnOk result (L.faults log.new.device ≡ L.faults log.old.device) }
     ensures err { IfErr result (λ e. StaysShut (IsLeft pages.old.sizes (image_in pages.old.images) log.old.records) log.old.records e (L.faults log.old.device) (L.faults log.new.device)) }
 {
-    let miscounted = miscounted_page(pages, records.len() as u64);
+    let as_read = miscounted_page(pages, records.len() as u64);
     let history = repeat_history(alloc, pages, records)?;
-    if let Some(page) = miscounted {
+    if let Some(page) = as_read {
         return Err(Refusal::Damaged(Damage::Page(page)));
+    }
+    if let Some(redone) = miscounted_page(pages, records.len() as u64) {
+        return Err(Refusal::Damaged(Damage::Page(redone)));
     }
     if !history.is_settled() {
         return Err(Refusal::Unfinished);
     }
-    begin_incarnation(log, history.incarnation())
+    let waiting = count_waiting(alloc, pages)?;
+    match begin_incarnation(log, history.incarnation()) {
+        Ok(report) => Ok((waiting, report)),
+        Err(refusal) => Err(refusal),
+    }
 }
 
 fn begin_incarnation<L: LogDevice + Drop>(log: &mut Log<L>, last: u64) -> Result<Report, Refusal>
@@ -184,7 +218,8 @@ fn begin_incarnation<L: LogDevice + Drop>(log: &mut Log<L>, last: u64) -> Result
     ensures records { OnOk result (log.new.records ≡ records.Restart (last + 1) ∷ log.old.records) }
     ensures forced { OnOk result ((log.new.forced ≡ length log.new.records) × (log.new.failed ≡ false)) }
     ensures report { IfOk result (λ report. (report.incarnation ≡ last + 1) × (report.records ≡ length log.new.records) × (report.unfinished ≡ 0) × (report.lost ≡ 0)) }
-    ensures ready { IfOk result (λ report. IsReady report.incarnation log.new) }
+    ensures ready { IfOk result (λ report. IsReady L.seen L.may_leave report.incarnation log.new) }
+    ensures cause { OnOk result (L.faults log.new.device ≡ L.faults log.old.device) }
     ensures err { IfErr result (λ e. BeginsNot e (length log.old.records) last (L.faults log.old.device) (L.faults log.new.device)) }
 {
     if log.last() >= LOG_LIMIT {

@@ -8,6 +8,7 @@ use Rattle.rq_engine.specs.declared.event.Reply.{Reply}
 use Rattle.rq_engine.specs.declared.event.Reply.TheVariants.{Refused}
 use Rattle.rq_store.specs.State.{State, ledger_of, size_of}
 use Rattle.rq_store.specs.Sound.{IsSound}
+use Rattle.rq_engine.specs.Opened.{OpenStore}
 use Rattle.rq_engine.specs.Says.{call_of, gave}
 use Rattle.rq_shared.specs.declared.kept.AuditEntry.{AuditEntry}
 
@@ -45,7 +46,7 @@ pub record Follows (base : State) (audit : List Noted) (engine : State) : Type 0
   pub replays : IsSound base → IsSound engine × Replays (size_of base.sizes) (ledger_of base) (answers audit) (ledger_of engine)
 
 -- an engine, the entries since its audit was last taken, and the engine as it was then
-pub record Audited : Type 0 where
-  pub engine : State
+pub record Audited (P L : Type 0) : Type 0 where
+  pub engine : OpenStore P L
   pub audit : List Noted
-  pub base : State
+  pub base : OpenStore P L

@@ -3,7 +3,9 @@ ghost use Rattle.std.specs.Prelude.{◌≡◌, ◌≢◌, ◌<◌, [], ◌∷◌
 ghost use Rattle.rq_store.specs.Sound.{IsSound};
 ghost use Rattle.rq_store.specs.Steps.{Steps};
 ghost use Rattle.rq_content.specs.Read.{group_of};
-ghost use Rattle.rq_engine.specs.Says.{call_of, gave, IsContent};
+ghost use Rattle.rq_log.specs.Crash.{LeavesOnly};
+ghost use Rattle.rq_log.specs.Spelled.{IsBeginning};
+ghost use Rattle.rq_engine.specs.Says.{call_of, gave, IsContent, LogSays, PagesSay};
 
 use rq_content::GroupContent;
 use rq_disk::{LogDevice, PageDevice};
@@ -80,7 +82,7 @@ pub struct Kept<P: PageDevice, L: LogDevice> {
 impl<P: PageDevice, L: LogDevice> Model for Kept<P, L> {
     ghost use Rattle.rq_shared.specs.Entries.{Audited, Follows, entries};
 
-    ghost Value = { Audited };
+    ghost Value = { Audited P L };
 
     ghost view = { λ k. record {
       engine = k.engine;
@@ -88,7 +90,7 @@ impl<P: PageDevice, L: LogDevice> Model for Kept<P, L> {
       base = k.base.value;
     } };
 
-    ghost invariant = { λ k. Follows k.base.value (entries k.audit.items) k.engine };
+    ghost invariant = { λ k. Follows k.base.value.state (entries k.audit.items) k.engine.state };
 }
 
 impl<P: PageDevice + Drop, L: LogDevice + Drop> Kept<P, L> {
@@ -115,10 +117,14 @@ impl<P: PageDevice + Drop, L: LogDevice + Drop> Kept<P, L> {
         ensures pass { result.pass ≡ pass }
         ensures event { result.event ≡ event }
         ensures entry { result.reply ≢ Reply.Refused Refusal.NoMemory → OneMore self.old.audit self.new.audit (noted pass event result.reply) }
-        ensures answered { result.reply ≢ Reply.Refused Refusal.NoMemory → IsSound self.old.engine → Steps self.old.engine (call_of event) (gave result.reply) self.new.engine }
+        ensures answered { result.reply ≢ Reply.Refused Refusal.NoMemory → IsSound self.old.engine.state → Steps self.old.engine.state (call_of event) (gave result.reply) self.new.engine.state }
         ensures no_change { result.reply ≡ Reply.Refused Refusal.NoMemory → self.new ≡ self.old }
         ensures base { self.new.base ≡ self.old.base }
+        ensures pages { result.reply ≢ Reply.Refused Refusal.NoMemory → PagesSay P.seen P.may_be P.moment P.left_since P.faults self.old.engine self.new.engine event result.reply }
+        ensures log { result.reply ≢ Reply.Refused Refusal.NoMemory → LogSays L.faults self.old.engine self.new.engine event result.reply }
+        ensures any_moment { LeavesOnly L.moment L.left_since self.old.engine.log self.new.engine.log (IsBeginning self.old.engine.state.records self.old.engine.state.forced) }
     {
+        self.engine.keeps();
         let Ok(noted_event) = room_for(&mut self.audit, &event) else {
             return refused(pass, event);
         };
@@ -142,7 +148,7 @@ impl<P: PageDevice + Drop, L: LogDevice + Drop> Kept<P, L> {
     /// as it is. The audit is empty afterwards.
     pub fn take(&mut self) -> Vec<AuditEntry>
         ensures taken { entries result.items ≡ self.old.audit }
-        ensures replays { Follows self.old.base (entries result.items) self.old.engine }
+        ensures replays { Follows self.old.base.state (entries result.items) self.old.engine.state }
         ensures emptied { self.new.audit ≡ [] }
         ensures engine { self.new.engine ≡ self.old.engine }
         ensures base { self.new.base ≡ self.old.engine }
@@ -205,12 +211,14 @@ fn copy_of(alloc: Global, reply: &Reply) -> Result<Reply, AllocError>
     Ok(match reply {
         Reply::Begun(txn) => Reply::Begun(*txn),
         Reply::Started(sub) => Reply::Started(*sub),
+        Reply::NoMessage => Reply::NoMessage,
         Reply::Stepped(progress) => Reply::Stepped(*progress),
         Reply::Finished(outcome) => Reply::Finished(*outcome),
         Reply::Committed(number) => Reply::Committed(*number),
         Reply::Acknowledged(given) => Reply::Acknowledged(*given),
         Reply::HandedOver => Reply::HandedOver,
         Reply::Forced(lsn) => Reply::Forced(*lsn),
+        Reply::Written(written) => Reply::Written(*written),
         Reply::Content(groups) => Reply::Content(copy_of_groups(alloc, groups)?),
         Reply::Refused(refusal) => Reply::Refused(*refusal),
     })

@@ -1,4 +1,6 @@
 //! The engine with an audit of every call, as it is kept under one lock.
 #![tactic(auto)]
 
+#[cfg(test)]
+mod agreement;
 pub mod kept;

@@ -1,12 +1,27 @@
-use Rattle.std.proofs.Common.{◌+◌, ap, IsTrue, sym, ◌∙◌}
+use Rattle.std.proofs.Common.{◌≡◌, ◌+◌, ◌≤◌, ◌<◌, ℕ, length, ap, IsTrue, refl, sym, ◌∙◌, subst, arith}
 use Rattle.std.proofs.lemmas.Bool.{false≢true}
-use Rattle.rq_store.specs.Opening.{image_in}
-use Rattle.rq_restart.proofs.Restarts.{on_ok, on_ok_both, if_ok_with, one_more, if_err, last_is, begun_is, settled_left, sound_is, shut_is, counted_left}
+use Rattle.std.proofs.lemmas.List.{length-reverse}
+use Rattle.rq_page.specs.Sizes.{page_count}
+use Rattle.rq_store.specs.Opening.{image_in, IsCounted}
+use Rattle.rq_restart.specs.Restarting.{AreWaiting}
+use Rattle.rq_restart.proofs.Restarts.{one_more, last_is, begun_is, settled_left, sound_is, shut_is, counted_left, counted_redone}
+use Rattle.rq_restart.proofs.Counting.{are_waiting}
 use Rattle.rq_restart.proofs.restart.go_on.Goals as goal
 
 pub returns-in-Some-clause-err : goal.returns-in-Some-clause-err
 returns-in-Some-clause-err g c =
     λ left. c.in-Some.ensures.some (counted_left c.args.pages.now.sizes (image_in c.args.pages.now.images) c.args.log.now.records c.args.records.now c.in-Some.page c.requires.records left c.in-Some.ensures.low c.in-Some.ensures.high)
+
+pub returns-in-Some-miscounted_page-clause-err : goal.returns-in-Some-miscounted_page-clause-err
+returns-in-Some-miscounted_page-clause-err g c =
+    let z = c.args.pages.now.sizes in
+    let images = c.repeat_history.new.pages.images in
+    let same = c.in_ok-history.ensures.sizes in
+    let low = c.in-Some-miscounted_page.ensures.low in
+    let high : c.in-Some-miscounted_page.redone < page_count z = subst (λ y. c.in-Some-miscounted_page.redone < page_count y) same c.in-Some-miscounted_page.ensures.high in
+    λ left. c.in-Some-miscounted_page.ensures.some
+    (subst (λ y. IsCounted y (length c.args.records.now) c.in-Some-miscounted_page.redone (image_in images c.in-Some-miscounted_page.redone)) (sym same)
+    (counted_redone z (image_in c.args.pages.now.images) images c.args.log.now.records c.args.records.now c.in-Some-miscounted_page.redone c.requires.records left c.in_ok-history.ensures.redone low high))
 
 pub returns-then-not-is_settled-clause-err : goal.returns-then-not-is_settled-clause-err
 returns-then-not-is_settled-clause-err g c =
@@ -14,28 +29,37 @@ returns-then-not-is_settled-clause-err g c =
     let k : IsTrue c.is_settled.result = c.is_settled.ensures.1 (settled_left c.args.log.now.records c.args.records.now c.requires.records c.in_ok-history.history c.in_ok-history.ensures.ok c.args.pages.now.sizes (image_in c.args.pages.now.images) left u l) in
     absurd (false≢true (sym c.if-not-is_settled.true ∙ k))
 
-pub returns-clause-begun : goal.returns-clause-begun
-returns-clause-begun g c =
-    on_ok_both c.begin_incarnation.result (begun_is c.args.log.now.records c.args.records.now c.requires.records c.in_ok-history.history c.in_ok-history.ensures.ok c.begin_incarnation.new.log c.incarnation.result c.incarnation.ensures) c.begin_incarnation.ensures.records c.begin_incarnation.ensures.forced
+pub returns-in-Ok-clause-begun : goal.returns-in-Ok-clause-begun
+returns-in-Ok-clause-begun g c =
+    begun_is c.args.log.now.records c.args.records.now c.requires.records c.in_ok-history.history c.in_ok-history.ensures.ok c.begin_incarnation.new.log c.incarnation.result c.incarnation.ensures c.in-Ok.ensures.records c.in-Ok.ensures.forced
 
-pub returns-clause-report : goal.returns-clause-report
-returns-clause-report g c = if_ok_with c.begin_incarnation.result
-    (λ report h r. record {
-      incarnation_is = h.0 ∙ ap (λ n. n + 1) (last_is c.args.log.now.records c.args.records.now c.requires.records c.in_ok-history.history c.in_ok-history.ensures.ok c.incarnation.result c.incarnation.ensures);
-      records_are = one_more report.records h.1 r;
-      unfinished_are = h.2;
-      lost_are = h.3;
-    })
-    c.begin_incarnation.ensures.report c.begin_incarnation.ensures.records
+pub returns-in-Ok-clause-report : goal.returns-in-Ok-clause-report
+returns-in-Ok-clause-report g c =
+    let told = c.in-Ok.ensures.report in
+    record {
+      incarnation_is = told.0 ∙ ap (λ n. n + 1) (last_is c.args.log.now.records c.args.records.now c.requires.records c.in_ok-history.history c.in_ok-history.ensures.ok c.incarnation.result c.incarnation.ensures);
+      records_are = one_more c.in-Ok.report.records told.1 c.in-Ok.ensures.records;
+      unfinished_are = told.2;
+      lost_are = told.3;
+    }
 
-pub returns-clause-sound : goal.returns-clause-sound
-returns-clause-sound g c =
-    on_ok c.begin_incarnation.result
-    (λ _. sound_is c.args.log.now.records c.args.records.now c.requires.records c.in_ok-history.history c.in_ok-history.ensures.ok c.args.pages.now.sizes (image_in c.args.pages.now.images) c.repeat_history.new.pages.images c.miscounted_page-miscounted.ensures.range (c.is_settled.ensures.0 c.if-not-is_settled.false) c.in_ok-history.ensures.redone)
-    c.begin_incarnation.ensures.records
+pub returns-in-Ok-clause-sound : goal.returns-in-Ok-clause-sound
+returns-in-Ok-clause-sound g c =
+    let same = c.in_ok-history.ensures.sizes in
+    sound_is c.args.log.now.records c.args.records.now c.requires.records c.in_ok-history.history c.in_ok-history.ensures.ok c.args.pages.now.sizes (image_in c.args.pages.now.images) c.repeat_history.new.pages.images (rw same at c.miscounted_page.ensures.range) (c.is_settled.ensures.0 c.if-not-is_settled.false) c.in_ok-history.ensures.redone
+
+pub returns-in-Ok-clause-waiting : goal.returns-in-Ok-clause-waiting
+returns-in-Ok-clause-waiting g c =
+    let z = c.repeat_history.new.pages.sizes in
+    let images = c.repeat_history.new.pages.images in
+    let count : ℕ = length c.args.records.now in
+    let counted : (p : ℕ) → 1 ≤ p → p < page_count z → IsCounted z count p (image_in images p) = c.in_default-miscounted_page.ensures.none in
+    let longer : length c.begin_incarnation.new.log.records ≡ length c.args.log.now.records + 1 = one_more (length c.begin_incarnation.new.log.records) refl c.in-Ok.ensures.records in
+    let older = ap length c.requires.records in
+    let reversed = length-reverse c.args.records.now in
+    let records : count + 1 ≡ length c.begin_incarnation.new.log.records = omega (arith, longer, older, reversed) in
+    subst (λ n. AreWaiting z images n c.in_ok-waiting.waiting) records (are_waiting z images count c.in_ok-waiting.waiting c.in_ok-waiting.ensures counted)
 
 pub returns-clause-err : goal.returns-clause-err
 returns-clause-err g c =
-    if_err c.begin_incarnation.result
-    (λ e. shut_is c.args.log.now.records c.args.records.now c.requires.records c.in_ok-history.history c.in_ok-history.ensures.ok c.args.pages.now.sizes (image_in c.args.pages.now.images) e c.incarnation.result _ _ c.incarnation.ensures)
-    c.begin_incarnation.ensures.err
+    shut_is c.args.log.now.records c.args.records.now c.requires.records c.in_ok-history.history c.in_ok-history.ensures.ok c.args.pages.now.sizes (image_in c.args.pages.now.images) c.in-Err.refusal c.incarnation.result _ _ c.incarnation.ensures c.in-Err.ensures.err

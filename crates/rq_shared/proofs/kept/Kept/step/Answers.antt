@@ -6,5 +6,5 @@ pub invariant_of-self-2 : goal.invariant_of-self-2
 invariant_of-self-2 g c =
     let before = c.self.inside in
     let entry : AuditEntry = record { pass = c.args.pass; event = c.in-Ok.noted_event; reply = c.in-Ok-copy_of.noted_reply } in
-    one_noted before.base.value before.engine c.apply-reply.new.self before.audit.items c.note.new.audit.items entry c.args.event c.apply-reply.result
+    one_noted before.base.value.state before.engine.state c.apply-reply.new.self.state before.audit.items c.note.new.audit.items entry c.args.event c.apply-reply.result
     (rw c.in-Ok.ensures.audit at c.note.ensures) c.in-Ok.ensures.copy c.in-Ok-copy_of.ensures.same c.self.invariant c.apply-reply.ensures.sizes c.apply-reply.ensures.answered

@@ -1,0 +1,501 @@
+//! The engine beside the queue as plain lists: each call is made of both, and both answer the same. A call that memory is
+//! wanting for is made once more, and then answers as if nothing had happened.
+ghost use Rattle.std.specs.Prelude.{◌≡◌, IfOk};
+
+use crate::kept::Kept;
+use rq_content::GroupContent;
+use rq_disk::{MemLog, MemPages, PageChoice, Switch};
+use rq_engine::event::{CommitNo, Event, Outcome, Progress, Reply};
+use rq_model::reference::Reference;
+use rq_model::reference::rows::{Act, GroupContent as ListedGroup};
+use rq_model::refusal::Refusal;
+use rq_model::txn::{Lsn, Sub, Txn};
+use rq_page::layout::Layout;
+use rq_restart::format::format;
+use rq_restart::restart::{Report, Stopped, restart};
+use std::alloc::{AllocError, Global};
+use std::test::Fail;
+
+/// Why a test ends before its last call.
+type Trouble = &'static str;
+
+const NO_MEMORY: &str = "memory was wanting twice";
+
+const DEVICE_NO_MEMORY: &str = "the device had no memory";
+
+/// A call of a test, of the transaction that was begun last, or for the commit that was made last.
+#[derive(Clone, Copy, Debug)]
+enum Call {
+    Begin,
+    /// A sender, a tag, and the bytes of a body.
+    Send(u32, u64, &'static [u8]),
+    Commit,
+    Acknowledge,
+    HandOver,
+    Force,
+    Content,
+}
+
+/// What was answered, in words that both have.
+#[derive(Clone, Copy, Debug, PartialEq, Eq)]
+enum Answer {
+    Begun(Txn),
+    Started(u64),
+    Stepped(Lsn),
+    Ready,
+    Sent,
+    Committed(Lsn),
+    Acknowledged(bool),
+    HandedOver,
+    Forced(Lsn),
+    Content,
+    Refused(Refusal),
+    /// The lists have no such call.
+    Unlisted,
+    Other,
+}
+
+/// The engine and the lists, of one directory and one cell page, and what was answered last.
+#[derive(Drop)]
+struct Pair {
+    alloc: Global,
+    engine: Kept<MemPages, MemLog>,
+    lists: Reference,
+    txn: Txn,
+    number: Option<CommitNo>,
+    groups: Vec<GroupContent>,
+}
+
+impl Pair {
+    // A formatted store, opened, and lists of its size.
+    fn open(alloc: Global) -> Result<Pair, Trouble> {
+        let layout = Layout::new(1, 1).ok_or("a small store")?;
+        let (mut pages, log) = devices(alloc, &layout)?;
+        format_twice(&mut pages, &layout)?;
+        let (engine, report) = reopen(alloc, pages, log)?;
+        let lists = listed(alloc, &layout, report)?;
+        Ok(Pair {
+            alloc,
+            engine,
+            lists,
+            txn: Txn {
+                incarnation: 0,
+                count: 0,
+            },
+            number: None,
+            groups: Vec::new(alloc),
+        })
+    }
+
+    // A crash that keeps no record that is not forced, and the restart. All was forced: the lists lose what was not committed.
+    fn crash(self) -> Result<Pair, Trouble> {
+        let Pair {
+            alloc,
+            engine,
+            mut lists,
+            txn,
+            number,
+            groups,
+        } = self;
+        let (pages, log) = engine.give_back().give_back();
+        let (engine, report) = reopen(alloc, pages.crash(PageChoice::Newest), log.crash(0))?;
+        crash_lists(&mut lists, report)?;
+        Ok(Pair {
+            alloc,
+            engine,
+            lists,
+            txn,
+            number,
+            groups,
+        })
+    }
+
+    // Makes the calls of both, and answers as the last one did.
+    fn make_all(&mut self, calls: &[(Call, Answer)]) -> Result<(), Trouble> {
+        for (call, wanted) in calls {
+            if self.make(*call)? != *wanted {
+                return Err("an answer that is not wanted");
+            }
+        }
+        Ok(())
+    }
+
+    fn make(&mut self, call: Call) -> Result<Answer, Trouble> {
+        match call {
+            Call::Begin => self.ask(Event::Begin),
+            Call::Send(sender, tag, body) => self.send(sender, tag, body),
+            Call::Commit => self.ask(Event::Commit(self.txn)),
+            Call::Acknowledge => self.acknowledge(),
+            Call::HandOver => self.ask(Event::HandOver),
+            Call::Force => self.ask(Event::Force),
+            Call::Content => self.content(),
+        }
+    }
+
+    fn acknowledge(&mut self) -> Result<Answer, Trouble> {
+        match self.number {
+            Some(number) => self.ask(Event::Acknowledged(number)),
+            None => Err("no commit"),
+        }
+    }
+
+    // A send from its start to its end.
+    fn send(&mut self, sender: u32, tag: u64, body: &[u8]) -> Result<Answer, Trouble> {
+        let txn = self.txn;
+        let body = copy_of_bytes(self.alloc, body)?;
+        let event = Event::StartSend {
+            txn,
+            sender,
+            tag,
+            body,
+        };
+        match self.ask(event)? {
+            Answer::Started(number) => self.carry_through(Sub { txn, number }),
+            answer => Ok(answer),
+        }
+    }
+
+    // What waits for the operation's end is refused until all of its steps are made.
+    fn carry_through(&mut self, sub: Sub) -> Result<Answer, Trouble> {
+        self.is_refused(Event::Finish(sub))?;
+        self.is_refused(Event::Commit(sub.txn))?;
+        self.is_refused(Event::Content)?;
+        for _ in 0..4 {
+            if self.ask(Event::Step(sub))? == Answer::Ready {
+                return self.ask(Event::Finish(sub));
+            }
+        }
+        Err("a send that does not end")
+    }
+
+    fn is_refused(&mut self, event: Event) -> Result<(), Trouble> {
+        if self.ask(event)? == Answer::Refused(Refusal::Unfinished) {
+            Ok(())
+        } else {
+            Err("a call that does not wait")
+        }
+    }
+
+    // Makes a call of both, and keeps the numbers that are answered.
+    fn ask(&mut self, event: Event) -> Result<Answer, Trouble> {
+        let told = ask_lists(&mut self.lists, &event);
+        let reply = ask_engine(&mut self.engine, event)?;
+        let answer = answer_of(&reply);
+        if answer != told {
+            return Err("the lists answer something else");
+        }
+        match reply {
+            Reply::Begun(txn) => self.txn = txn,
+            Reply::Committed(number) => self.number = Some(number),
+            _ => {}
+        }
+        Ok(answer)
+    }
+
+    // The content of both, which is kept.
+    fn content(&mut self) -> Result<Answer, Trouble> {
+        let listed = self.listed_content()?;
+        let Reply::Content(groups) = ask_engine(&mut self.engine, Event::Content)? else {
+            return Err("no content");
+        };
+        if !agree_on_content(&groups, &listed) {
+            return Err("the lists hold something else");
+        }
+        self.groups = groups;
+        Ok(Answer::Content)
+    }
+
+    // Whether the first sender's group is open, with so many messages sent and received, and this one message at rest.
+    fn is_first(&self, sent: u64, received: u64, body: &[u8]) -> bool {
+        let Some(group) = self.groups.first() else {
+            return false;
+        };
+        let [message] = group.rest.as_slice() else {
+            return false;
+        };
+        !group.closed
+            && group.sent == sent
+            && group.received == received
+            && message.body.as_slice() == body
+    }
+
+    fn listed_content(&self) -> Result<Vec<ListedGroup>, Trouble> {
+        match self.lists.content() {
+            Ok(groups) => Ok(groups),
+            Err(_) => self.lists.content().map_err(|_| NO_MEMORY),
+        }
+    }
+}
+
+fn ask_engine(engine: &mut Kept<MemPages, MemLog>, event: Event) -> Result<Reply, Trouble> {
+    let again = copy_of(&event)?;
+    match engine.step(1, event).into_reply() {
+        Reply::Refused(Refusal::NoMemory) => Ok(engine.step(1, again).into_reply()),
+        Reply::Refused(Refusal::DiskWrite) => Err(DEVICE_NO_MEMORY),
+        reply => Ok(reply),
+    }
+}
+
+fn ask_lists(lists: &mut Reference, event: &Event) -> Answer {
+    match ask_lists_once(lists, event) {
+        Err(Refusal::NoMemory) => told(ask_lists_once(lists, event)),
+        answer => told(answer),
+    }
+}
+
+fn told(answer: Result<Answer, Refusal>) -> Answer {
+    match answer {
+        Ok(answer) => answer,
+        Err(refusal) => Answer::Refused(refusal),
+    }
+}
+
+fn ask_lists_once(lists: &mut Reference, event: &Event) -> Result<Answer, Refusal> {
+    match event {
+        Event::Begin => Ok(Answer::Begun(lists.begin()?)),
+        Event::StartSend {
+            txn,
+            sender,
+            tag,
+            body,
+        } => Ok(Answer::Started(lists.start_send(*txn, *sender, *tag, body)?)),
+        Event::Step(sub) => Ok(stepped(lists.step(sub.txn, sub.number)?)),
+        Event::Finish(sub) => Ok(finished(lists.finish(sub.txn, sub.number)?)),
+        Event::Commit(txn) => Ok(Answer::Committed(lists.commit(*txn)?)),
+        Event::Acknowledged(number) => Ok(Answer::Acknowledged(lists.acknowledged(
+            number.txn(),
+            number.lsn(),
+        )?)),
+        Event::HandOver => {
+            lists.hand_over()?;
+            Ok(Answer::HandedOver)
+        }
+        Event::Force => Ok(Answer::Forced(lists.force()?)),
+        Event::Content => {
+            lists.content()?;
+            Ok(Answer::Content)
+        }
+        Event::StartReceive(_) | Event::StartReceiveFrom { .. } | Event::WritePage(_) => {
+            Ok(Answer::Unlisted)
+        }
+    }
+}
+
+fn stepped(lsn: Option<Lsn>) -> Answer {
+    match lsn {
+        Some(lsn) => Answer::Stepped(lsn),
+        None => Answer::Ready,
+    }
+}
+
+fn finished(act: Act) -> Answer {
+    match act {
+        Act::Sent(_) => Answer::Sent,
+        _ => Answer::Other,
+    }
+}
+
+fn answer_of(reply: &Reply) -> Answer {
+    match reply {
+        Reply::Begun(txn) => Answer::Begun(*txn),
+        Reply::Started(sub) => Answer::Started(sub.number),
+        Reply::Stepped(Progress::Done(lsn)) => Answer::Stepped(*lsn),
+        Reply::Stepped(Progress::Ready) => Answer::Ready,
+        Reply::Finished(Outcome::Sent) => Answer::Sent,
+        Reply::Finished(_) => Answer::Other,
+        Reply::Committed(number) => Answer::Committed(number.lsn()),
+        Reply::Acknowledged(given) => Answer::Acknowledged(given.is_some()),
+        Reply::HandedOver => Answer::HandedOver,
+        Reply::Forced(lsn) => Answer::Forced(*lsn),
+        Reply::NoMessage | Reply::Written(_) => Answer::Other,
+        Reply::Content(_) => Answer::Content,
+        Reply::Refused(refusal) => Answer::Refused(*refusal),
+    }
+}
+
+fn agree_on_content(groups: &[GroupContent], listed: &[ListedGroup]) -> bool {
+    if groups.len() != listed.len() {
+        return false;
+    }
+    for (group, of_lists) in groups.iter().zip(listed.iter()) {
+        if !agree_on_group(group, of_lists) {
+            return false;
+        }
+    }
+    true
+}
+
+fn agree_on_group(group: &GroupContent, listed: &ListedGroup) -> bool {
+    group.sent == listed.sent
+        && group.last_tag == listed.last_tag
+        && group.received == listed.received
+        && group.closed == listed.closed
+        && group.rest.as_slice() == listed.rest.as_slice()
+}
+
+// Lists of the store's size, opened.
+fn listed(alloc: Global, layout: &Layout, report: Report) -> Result<Reference, Trouble> {
+    let mut lists = Reference::new(alloc, layout.senders(), u64::from(layout.cell_slots()));
+    if report.incarnation == 0 {
+        return Err("an incarnation that is no number");
+    }
+    lists.restart(report.incarnation, report.records);
+    Ok(lists)
+}
+
+fn begin_lists(lists: &mut Reference) -> Result<Txn, Refusal>
+    ensures { IfOk result (λ t. t.incarnation ≡ lists.new.ledger.incarnation) }
+{
+    match lists.begin() {
+        Ok(txn) => Ok(txn),
+        Err(_) => lists.begin(),
+    }
+}
+
+// A crash of the lists that keeps all records, as the store that was opened then says that it did. A transaction that has not
+// ended is lost by it.
+fn crash_lists(lists: &mut Reference, report: Report) -> Result<(), Trouble> {
+    let Ok(lost) = begin_lists(lists) else {
+        return Err("begin");
+    };
+    let Ok(records) = lists.force() else {
+        return Err("force");
+    };
+    if report.incarnation <= lost.incarnation {
+        return Err("an incarnation that was there before");
+    }
+    if report.records <= records || report.records - records != 1 {
+        return Err("a record was lost");
+    }
+    lists.crash(records);
+    lists.restart(report.incarnation, report.records);
+    Ok(())
+}
+
+fn devices(alloc: Global, layout: &Layout) -> Result<(MemPages, MemLog), Trouble> {
+    match devices_once(alloc, layout) {
+        Ok(devices) => Ok(devices),
+        Err(_) => devices_once(alloc, layout).map_err(|_| NO_MEMORY),
+    }
+}
+
+fn devices_once(alloc: Global, layout: &Layout) -> Result<(MemPages, MemLog), AllocError> {
+    let switch = Switch::new(alloc)?;
+    let pages = MemPages::zeroed(alloc, layout.pages(), switch.share()?)?;
+    Ok((pages, MemLog::new(alloc, Vec::new(alloc), switch)))
+}
+
+fn format_twice(pages: &mut MemPages, layout: &Layout) -> Result<(), Trouble> {
+    if format(pages, layout).is_ok() || format(pages, layout).is_ok() {
+        Ok(())
+    } else {
+        Err("format")
+    }
+}
+
+// Opens the store, at the second try where memory was wanting at the first.
+fn reopen(
+    alloc: Global,
+    pages: MemPages,
+    log: MemLog,
+) -> Result<(Kept<MemPages, MemLog>, Report), Trouble> {
+    let Stopped {
+        refusal,
+        pages,
+        log,
+    } = match restart(alloc, pages, log) {
+        Ok((engine, report)) => return Ok((Kept::new(alloc, engine), report)),
+        Err(stopped) => stopped,
+    };
+    if refusal != Refusal::NoMemory {
+        return Err(DEVICE_NO_MEMORY);
+    }
+    match restart(alloc, pages, log) {
+        Ok((engine, report)) => Ok((Kept::new(alloc, engine), report)),
+        Err(_) => Err("restart"),
+    }
+}
+
+fn copy_of(event: &Event) -> Result<Event, Trouble> {
+    match event.clone() {
+        Ok(copy) => Ok(copy),
+        Err(_) => event.clone().map_err(|_| NO_MEMORY),
+    }
+}
+
+fn copy_of_bytes(alloc: Global, bytes: &[u8]) -> Result<Vec<u8>, Trouble> {
+    match Vec::from_slice(alloc, bytes) {
+        Ok(copy) => Ok(copy),
+        Err(_) => Vec::from_slice(alloc, bytes).map_err(|_| NO_MEMORY),
+    }
+}
+
+// The number of a transaction.
+fn numbered(incarnation: u64, count: u64) -> Answer {
+    Answer::Begun(Txn { incarnation, count })
+}
+
+#[test]
+fn one_send_through_a_crash(rt: HostRuntime) -> Result<(), Fail> {
+    let mut pair = Pair::open(rt.alloc())?;
+    pair.make_all(&[
+        (Call::Begin, numbered(1, 1)),
+        (Call::Send(0, 7, b"hello"), Answer::Sent),
+        (Call::Commit, Answer::Committed(5)),
+        (Call::Acknowledge, Answer::Acknowledged(false)),
+        (Call::HandOver, Answer::HandedOver),
+        (Call::Acknowledge, Answer::Acknowledged(false)),
+        (Call::Force, Answer::Forced(5)),
+        (Call::Acknowledge, Answer::Acknowledged(true)),
+    ])?;
+    let mut pair = pair.crash()?;
+    pair.make_all(&[
+        (Call::Content, Answer::Content),
+        (Call::Begin, numbered(2, 1)),
+    ])?;
+    assert!(rt; pair.is_first(1, 0, b"hello"));
+    Ok(())
+}
+
+#[test]
+fn the_bounds_of_bodies_and_senders(rt: HostRuntime) -> Result<(), Fail> {
+    let mut pair = Pair::open(rt.alloc())?;
+    pair.make_all(&[
+        (Call::Begin, numbered(1, 1)),
+        (Call::Send(0, 1, &[b'x'; 216]), Answer::Sent),
+        (
+            Call::Send(0, 1, &[b'x'; 217]),
+            Answer::Refused(Refusal::TooLong),
+        ),
+        (
+            Call::Send(15, 1, b"x"),
+            Answer::Refused(Refusal::UnknownSender),
+        ),
+        (
+            Call::Send(15, 1, &[b'x'; 217]),
+            Answer::Refused(Refusal::UnknownSender),
+        ),
+        (Call::Send(0, u64::MAX, b""), Answer::Sent),
+        (Call::Begin, numbered(1, 2)),
+        (Call::Send(0, 1, b"x"), Answer::Refused(Refusal::SenderBusy)),
+    ])?;
+    Ok(())
+}
+
+#[test]
+fn a_store_filled_to_its_last_cell(rt: HostRuntime) -> Result<(), Fail> {
+    let mut pair = Pair::open(rt.alloc())?;
+    pair.make_all(&[(Call::Begin, numbered(1, 1))])?;
+    for tag in 1..16 {
+        pair.make_all(&[(Call::Send(0, tag, b"m"), Answer::Sent)])?;
+    }
+    pair.make_all(&[
+        (Call::Commit, Answer::Committed(61)),
+        (Call::Commit, Answer::Refused(Refusal::UnknownTransaction)),
+        (Call::Begin, numbered(1, 2)),
+        (Call::Send(0, 16, b"p"), Answer::Refused(Refusal::Full)),
+        (Call::Commit, Answer::Committed(62)),
+        (Call::Content, Answer::Content),
+    ])?;
+    Ok(())
+}
