@@ -1,50 +1,91 @@
 //! The commands of a script, one a line.
-use rq_model::txn::Txn;
+use rq_model::txn::{Sub, Txn};
 
 /// A line of a script.
-#[derive(Clone, Copy, Debug, PartialEq, Eq)]
+#[derive(Clone, Copy)]
 pub enum Command<'a> {
     Begin,
-    Send {
-        txn: Txn,
-        sender: u32,
-        tag: u64,
-        body: &'a [u8],
-    },
+    Send(Post<'a>),
+    OpenSend(Post<'a>),
+    Step(Sub),
+    Finish(Sub),
+    Recv(Txn),
+    RecvFrom(Txn, u32),
     Commit(Txn),
     Ack(Txn),
     Force,
-    Crash(Keep),
+    Write(u32),
+    Crash(Keep, Images),
     Restart,
     Dump,
 }
 
+/// A message that a transaction is to send.
+#[derive(Clone, Copy)]
+pub struct Post<'a> {
+    pub txn: Txn,
+    pub sender: u32,
+    pub tag: u64,
+    pub body: &'a [u8],
+}
+
 /// How many of the records that are not forced outlive a crash.
-#[derive(Clone, Copy, Debug, PartialEq, Eq)]
+#[derive(Clone, Copy)]
 pub enum Keep {
     First(u64),
     All,
+}
+
+/// Which image of each page outlives a crash.
+#[derive(Clone, Copy)]
+pub enum Images {
+    /// The newest.
+    Newest,
+    /// The one at the last sync.
+    Synced,
 }
 
 impl<'a> Command<'a> {
     /// The command that the line is; none where it is no command.
     pub fn parse(line: &'a [u8]) -> Option<Command<'a>> {
         let (name, rest) = first_word(line);
-        match (name, rest) {
-            (b"begin", None) => Some(Command::Begin),
-            (b"force", None) => Some(Command::Force),
-            (b"restart", None) => Some(Command::Restart),
-            (b"dump", None) => Some(Command::Dump),
-            (b"send", Some(rest)) => send(rest),
-            (b"commit", Some(rest)) => Some(Command::Commit(txn(rest)?)),
-            (b"ack", Some(rest)) => Some(Command::Ack(txn(rest)?)),
-            (b"crash", Some(rest)) => Some(Command::Crash(outliving(rest)?)),
-            _ => None,
+        match rest {
+            None => plain(name),
+            Some(rest) => with_words(name, rest),
         }
     }
 }
 
-fn send(rest: &[u8]) -> Option<Command<'_>> {
+// A command that is one word.
+fn plain(name: &[u8]) -> Option<Command<'static>> {
+    match name {
+        b"begin" => Some(Command::Begin),
+        b"force" => Some(Command::Force),
+        b"restart" => Some(Command::Restart),
+        b"dump" => Some(Command::Dump),
+        _ => None,
+    }
+}
+
+// A command with words behind its name.
+fn with_words<'a>(name: &[u8], rest: &'a [u8]) -> Option<Command<'a>> {
+    match name {
+        b"send" => Some(Command::Send(post_of(rest)?)),
+        b"open-send" => Some(Command::OpenSend(post_of(rest)?)),
+        b"step" => Some(Command::Step(operation(rest)?)),
+        b"finish" => Some(Command::Finish(operation(rest)?)),
+        b"recv" => Some(Command::Recv(txn(rest)?)),
+        b"recv-from" => recv_from(rest),
+        b"commit" => Some(Command::Commit(txn(rest)?)),
+        b"ack" => Some(Command::Ack(txn(rest)?)),
+        b"write" => Some(Command::Write(short_number(rest)?)),
+        b"crash" => crash(rest),
+        _ => None,
+    }
+}
+
+// `2.1 0 7 hello`
+fn post_of(rest: &[u8]) -> Option<Post<'_>> {
     let (word, rest) = first_word(rest);
     let txn = txn(word)?;
     let (word, rest) = first_word(rest?);
@@ -52,7 +93,7 @@ fn send(rest: &[u8]) -> Option<Command<'_>> {
     let (word, rest) = first_word(rest?);
     let tag = number(word)?;
     let body = rest.unwrap_or(&[]);
-    Some(Command::Send {
+    Some(Post {
         txn,
         sender,
         tag,
@@ -60,11 +101,38 @@ fn send(rest: &[u8]) -> Option<Command<'_>> {
     })
 }
 
-fn outliving(word: &[u8]) -> Option<Keep> {
-    if word == b"all".as_slice() {
-        return Some(Keep::All);
+// `2.1 3`
+fn operation(rest: &[u8]) -> Option<Sub> {
+    let (word, rest) = first_word(rest);
+    let txn = txn(word)?;
+    let number = number(rest?)?;
+    Some(Sub { txn, number })
+}
+
+// `2.1 0`
+fn recv_from(rest: &[u8]) -> Option<Command<'static>> {
+    let (word, rest) = first_word(rest);
+    let txn = txn(word)?;
+    let sender = short_number(rest?)?;
+    Some(Command::RecvFrom(txn, sender))
+}
+
+// `7`, `all`, or either with `old` behind it
+fn crash(rest: &[u8]) -> Option<Command<'static>> {
+    let (word, rest) = first_word(rest);
+    let keep = outliving(word)?;
+    match rest {
+        None => Some(Command::Crash(keep, Images::Newest)),
+        Some(b"old") => Some(Command::Crash(keep, Images::Synced)),
+        Some(_) => None,
     }
-    Some(Keep::First(number(word)?))
+}
+
+fn outliving(word: &[u8]) -> Option<Keep> {
+    match word {
+        b"all" => Some(Keep::All),
+        _ => Some(Keep::First(number(word)?)),
+    }
 }
 
 // What stands before the first blank, and what stands behind it, where there is one.

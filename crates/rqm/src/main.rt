@@ -5,6 +5,7 @@ mod command;
 mod script;
 #[cfg(test)]
 mod tests;
+mod told;
 mod words;
 
 use std::io;

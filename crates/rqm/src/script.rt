@@ -1,7 +1,8 @@
 //! Scripts: a store over memory devices, driven by one command a line.
-use crate::command::{Command, Keep};
+use crate::command::{Command, Images, Keep, Post};
+use crate::told::{LINE_ROOM, Told};
 use rq_disk::{MemLog, MemPages, PageChoice, Switch};
-use rq_engine::event::{CommitNo, Event, GroupContent, Outcome, Progress, Reply};
+use rq_engine::event::{CommitNo, Event, Progress, Reply};
 use rq_model::refusal::Refusal;
 use rq_model::txn::{Sub, Txn};
 use rq_page::layout::Layout;
@@ -28,7 +29,7 @@ pub fn run_script<R: Read, W: Write>(
 ) -> u8 {
     let mut input = Vec::new(alloc);
     if reader.read_to_end(&mut input).is_err() {
-        let _ = writeln!(writer, "fault input");
+        let _ = writer.write_all(b"fault input\n");
         return 1;
     }
     match run_lines(alloc, &input, writer, layout) {
@@ -37,14 +38,26 @@ pub fn run_script<R: Read, W: Write>(
     }
 }
 
+// Opens the store, and writes what each line prints before the next one.
 fn run_lines<W: Write>(
     alloc: Global,
     input: &[u8],
     writer: &mut W,
     layout: Layout,
 ) -> io::Result<u8> {
-    let Some(mut script) = Script::open(alloc, writer, layout)? else {
+    let Ok(mut output) = Vec::with_capacity(alloc, LINE_ROOM) else {
+        writer.write_all(b"fault 1 NoMemory\n")?;
         return Ok(1);
+    };
+    let mut script = match Script::open(alloc, layout) {
+        Ok((script, report)) => {
+            write_told(writer, &mut output, &Told::Restarted(report))?;
+            script
+        }
+        Err(refusal) => {
+            write_told(writer, &mut output, &Told::Fault(refusal))?;
+            return Ok(1);
+        }
     };
     let mut rest = input;
     for number in 1..u64::MAX {
@@ -53,15 +66,18 @@ fn run_lines<W: Write>(
         }
         let (line, behind) = first_line(rest);
         rest = behind;
-        let Some(command) = Command::parse(line) else {
-            writeln!(writer, "fault line {number}")?;
-            return Ok(1);
-        };
-        if !script.carry_out(writer, command)? {
+        let told = script.run_line(number, line);
+        write_told(writer, &mut output, &told)?;
+        if told.is_fault() {
             return Ok(1);
         }
     }
     Ok(0)
+}
+
+fn write_told<W: Write>(writer: &mut W, output: &mut Vec<u8>, told: &Told) -> io::Result<()> {
+    told.print(output)?;
+    writer.write_all(output)
 }
 
 // What stands before the first newline, and what stands behind it.
@@ -92,55 +108,57 @@ struct Script {
 }
 
 impl Script {
-    // A formatted store, opened. None after a fault, which was printed.
-    fn open<W: Write>(alloc: Global, writer: &mut W, layout: Layout) -> io::Result<Option<Script>> {
+    // A formatted store, opened.
+    fn open(alloc: Global, layout: Layout) -> Result<(Script, Report), Refusal> {
         let Ok((switch, mut pages, log)) = devices(alloc, &layout) else {
-            print_fault(writer, Refusal::NoMemory)?;
-            return Ok(None);
+            return Err(Refusal::NoMemory);
         };
-        if let Err(refusal) = format(&mut pages, &layout) {
-            print_fault(writer, refusal)?;
-            return Ok(None);
-        }
+        format(&mut pages, &layout)?;
         let mut script = Script {
             alloc,
             switch,
-            store: Store::Crashed { pages, log },
+            store: Store::Lost,
             failed: false,
             commits: Vec::new(alloc),
         };
-        if script.restart(writer)? {
-            Ok(Some(script))
-        } else {
-            Ok(None)
-        }
+        let report = script.reopen(pages, log)?;
+        Ok((script, report))
     }
 
-    // Carries out a command and prints what it answers. False after a fault.
-    fn carry_out<W: Write>(&mut self, writer: &mut W, command: Command<'_>) -> io::Result<bool> {
-        match command {
-            Command::Restart => return self.restart(writer),
-            _ if !self.is_open() => print_refusal(writer, Refusal::Failed)?,
-            Command::Begin => self.call(writer, Event::Begin)?,
-            Command::Send {
-                txn,
-                sender,
-                tag,
-                body,
-            } => self.send(writer, txn, sender, tag, body)?,
-            Command::Commit(txn) => self.call(writer, Event::Commit(txn))?,
-            Command::Ack(txn) => self.ack(writer, txn)?,
-            Command::Force => self.call(writer, Event::Force)?,
-            Command::Crash(keep) => self.crash(writer, keep)?,
-            Command::Dump => self.call(writer, Event::Content)?,
+    // Carries out the command that the line is.
+    fn run_line(&mut self, number: u64, line: &[u8]) -> Told {
+        match Command::parse(line) {
+            Some(Command::Restart) => self.restart(),
+            Some(_) if !self.is_open() => Told::refused(Refusal::Failed),
+            Some(Command::Crash(keep, images)) => self.crash(keep, images),
+            Some(command) => Told::Reply(self.call(command)),
+            None => Told::NoCommand(number),
         }
-        Ok(true)
     }
 
     fn is_open(&self) -> bool {
         match &self.store {
             Store::Open(_) => true,
             _ => false,
+        }
+    }
+
+    // Makes the calls that a command stands for, and answers as the last one did.
+    fn call(&mut self, command: Command<'_>) -> Reply {
+        match command {
+            Command::Begin => self.ask(Event::Begin),
+            Command::Send(post) => self.send(post),
+            Command::OpenSend(post) => self.open_send(post),
+            Command::Recv(txn) => self.whole(Event::StartReceive(txn)),
+            Command::RecvFrom(txn, sender) => self.whole(Event::StartReceiveFrom { txn, sender }),
+            Command::Step(sub) => self.ask(Event::Step(sub)),
+            Command::Finish(sub) => self.ask(Event::Finish(sub)),
+            Command::Commit(txn) => self.ask(Event::Commit(txn)),
+            Command::Ack(txn) => self.ack(txn),
+            Command::Force => self.ask(Event::Force),
+            Command::Write(page) => self.ask(Event::WritePage(page)),
+            Command::Dump => self.ask(Event::Content),
+            Command::Crash(..) | Command::Restart => Reply::Refused(Refusal::Failed),
         }
     }
 
@@ -164,39 +182,30 @@ impl Script {
         reply
     }
 
-    fn call<W: Write>(&mut self, writer: &mut W, event: Event) -> io::Result<()> {
-        let reply = self.ask(event);
-        print_reply(writer, &reply)
+    fn open_send(&mut self, post: Post<'_>) -> Reply {
+        match start_of(self.alloc, post) {
+            Ok(event) => self.ask(event),
+            Err(_) => Reply::Refused(Refusal::NoMemory),
+        }
     }
 
-    // A start, all its steps, and its finish: one line.
-    fn send<W: Write>(
-        &mut self,
-        writer: &mut W,
-        txn: Txn,
-        sender: u32,
-        tag: u64,
-        body: &[u8],
-    ) -> io::Result<()> {
-        let Ok(body) = body.to_vec(self.alloc) else {
-            return print_refusal(writer, Refusal::NoMemory);
-        };
-        let event = Event::StartSend {
-            txn,
-            sender,
-            tag,
-            body,
-        };
-        let started = self.ask(event);
-        let Reply::Started(sub) = started else {
-            return print_reply(writer, &started);
-        };
-        let finished = self.finish(sub);
-        print_reply(writer, &finished)
+    fn send(&mut self, post: Post<'_>) -> Reply {
+        match start_of(self.alloc, post) {
+            Ok(event) => self.whole(event),
+            Err(_) => Reply::Refused(Refusal::NoMemory),
+        }
+    }
+
+    // A start, all its steps, and its finish.
+    fn whole(&mut self, start: Event) -> Reply {
+        match self.ask(start) {
+            Reply::Started(sub) => self.carry_through(sub),
+            reply => reply,
+        }
     }
 
     // Takes the steps that an operation has left, and ends it. What memory was wanting for is tried again.
-    fn finish(&mut self, sub: Sub) -> Reply {
+    fn carry_through(&mut self, sub: Sub) -> Reply {
         let mut is_ready = false;
         for _ in 0..ATTEMPTS {
             let event = if is_ready {
@@ -214,67 +223,82 @@ impl Script {
         Reply::Refused(Refusal::NoMemory)
     }
 
-    fn ack<W: Write>(&mut self, writer: &mut W, txn: Txn) -> io::Result<()> {
+    fn ack(&mut self, txn: Txn) -> Reply {
         let found = self.commits.iter().find(|number| number.txn() == txn);
         match found.copied() {
-            Some(number) => self.call(writer, Event::Acknowledged(number)),
-            None if self.failed => print_refusal(writer, Refusal::Failed),
-            None => print_refusal(writer, Refusal::UnknownTransaction),
+            Some(number) => self.ask(Event::Acknowledged(number)),
+            None if self.failed => Reply::Refused(Refusal::Failed),
+            None => Reply::Refused(Refusal::UnknownTransaction),
         }
     }
 
     // Buffered records are handed over, and then the devices are left as a crash leaves them.
-    fn crash<W: Write>(&mut self, writer: &mut W, keep: Keep) -> io::Result<()> {
+    fn crash(&mut self, keep: Keep, images: Images) -> Told {
         let Store::Open(kept) = mem::replace(&mut self.store, Store::Lost) else {
-            return print_refusal(writer, Refusal::Failed);
+            return Told::refused(Refusal::Failed);
         };
         let mut engine = kept.give_back();
         self.switch.suspend();
         let _ = engine.hand_over();
         self.switch.resume();
         let (pages, log) = engine.give_back();
-        let log = log.crash(match keep {
-            Keep::First(count) => count,
-            Keep::All => u64::MAX,
-        });
-        let pages = pages.crash(PageChoice::Newest);
+        let log = log.crash(outliving_records(keep));
+        let pages = pages.crash(outliving_images(images));
         let records = log.records();
         self.store = Store::Crashed { pages, log };
-        writeln!(writer, "crashed {records}")
+        Told::Crashed(records)
     }
 
-    // Opens the store after a crash. False after a fault.
-    fn restart<W: Write>(&mut self, writer: &mut W) -> io::Result<bool> {
+    // Opens the store after a crash.
+    fn restart(&mut self) -> Told {
         match mem::replace(&mut self.store, Store::Lost) {
             Store::Open(kept) => {
                 self.store = Store::Open(kept);
-                writeln!(writer, "running")?;
-                Ok(true)
+                Told::Running
             }
-            Store::Crashed { pages, log } => self.reopen(writer, pages, log),
-            Store::Lost => Ok(false),
+            Store::Crashed { pages, log } => match self.reopen(pages, log) {
+                Ok(report) => Told::Restarted(report),
+                Err(refusal) => Told::Fault(refusal),
+            },
+            Store::Lost => Told::Fault(Refusal::Failed),
         }
     }
 
-    fn reopen<W: Write>(
-        &mut self,
-        writer: &mut W,
-        pages: MemPages,
-        log: MemLog,
-    ) -> io::Result<bool> {
+    fn reopen(&mut self, pages: MemPages, log: MemLog) -> Result<Report, Refusal> {
         match restart(self.alloc, pages, log) {
             Ok((engine, report)) => {
                 self.store = Store::Open(Kept::new(self.alloc, engine));
                 self.commits.clear();
                 self.failed = false;
-                print_report(writer, report)?;
-                Ok(true)
+                Ok(report)
             }
-            Err(stopped) => {
-                print_fault(writer, stopped.refusal)?;
-                Ok(false)
-            }
+            Err(stopped) => Err(stopped.refusal),
         }
+    }
+}
+
+// The start of a send.
+fn start_of(alloc: Global, post: Post<'_>) -> Result<Event, AllocError> {
+    let body = post.body.to_vec(alloc)?;
+    Ok(Event::StartSend {
+        txn: post.txn,
+        sender: post.sender,
+        tag: post.tag,
+        body,
+    })
+}
+
+fn outliving_records(keep: Keep) -> u64 {
+    match keep {
+        Keep::First(count) => count,
+        Keep::All => u64::MAX,
+    }
+}
+
+fn outliving_images(images: Images) -> PageChoice {
+    match images {
+        Images::Newest => PageChoice::Newest,
+        Images::Synced => PageChoice::Synced,
     }
 }
 
@@ -284,97 +308,4 @@ fn devices(alloc: Global, layout: &Layout) -> Result<(Switch, MemPages, MemLog),
     let pages = MemPages::zeroed(alloc, layout.pages(), switch.share()?)?;
     let log = MemLog::new(alloc, Vec::new(alloc), switch.share()?);
     Ok((switch, pages, log))
-}
-
-fn print_reply<W: Write>(writer: &mut W, reply: &Reply) -> io::Result<()> {
-    match reply {
-        Reply::Begun(txn) => writeln!(writer, "begun {txn}"),
-        Reply::Started(sub) => print_operation(writer, *sub),
-        Reply::Stepped(Progress::Done(lsn)) => writeln!(writer, "lsn {lsn}"),
-        Reply::Stepped(Progress::Ready) => writeln!(writer, "ready"),
-        Reply::Finished(outcome) => print_outcome(writer, outcome),
-        Reply::Committed(number) => {
-            let lsn = number.lsn();
-            writeln!(writer, "commit {lsn}")
-        }
-        Reply::Acknowledged(Some(_)) => writeln!(writer, "yes"),
-        Reply::Acknowledged(None) => writeln!(writer, "no"),
-        Reply::HandedOver => Ok(()),
-        Reply::Forced(lsn) => writeln!(writer, "forced {lsn}"),
-        Reply::Content(groups) => print_content(writer, groups),
-        Reply::Refused(refusal) => print_refusal(writer, *refusal),
-    }
-}
-
-fn print_operation<W: Write>(writer: &mut W, sub: Sub) -> io::Result<()> {
-    let txn = sub.txn;
-    let number = sub.number;
-    writeln!(writer, "op {txn} {number}")
-}
-
-fn print_outcome<W: Write>(writer: &mut W, outcome: &Outcome) -> io::Result<()> {
-    match outcome {
-        Outcome::Sent => writeln!(writer, "sent"),
-        Outcome::Message(message) => {
-            let sender = message.sender;
-            let tag = message.tag;
-            write!(writer, "msg {sender} {tag}")?;
-            if !message.body.as_slice().is_empty() {
-                writer.write_all(b" ")?;
-                writer.write_all(message.body.as_slice())?;
-            }
-            writer.write_all(b"\n")
-        }
-        Outcome::Closed => writeln!(writer, "closed"),
-        Outcome::Undone => writeln!(writer, "undone"),
-    }
-}
-
-// A line for each sender with a committed send or close.
-fn print_content<W: Write>(writer: &mut W, groups: &[GroupContent]) -> io::Result<()> {
-    let mut is_empty = true;
-    for (sender, group) in groups.iter().enumerate() {
-        if group.sent > 0 || group.closed {
-            is_empty = false;
-            print_group(writer, sender, group)?;
-        }
-    }
-    if is_empty {
-        writeln!(writer, "empty")?;
-    }
-    Ok(())
-}
-
-fn print_group<W: Write>(writer: &mut W, sender: usize, group: &GroupContent) -> io::Result<()> {
-    let state = if group.closed { "closed" } else { "open" };
-    let sent = group.sent;
-    let received = group.received;
-    write!(writer, "{sender} {state} sent {sent} received {received}:")?;
-    for message in &group.rest {
-        writer.write_all(b" ")?;
-        writer.write_all(message.body.as_slice())?;
-    }
-    writer.write_all(b"\n")
-}
-
-fn print_report<W: Write>(writer: &mut W, report: Report) -> io::Result<()> {
-    let incarnation = report.incarnation;
-    let unfinished = report.unfinished;
-    let lost = report.lost;
-    writeln!(
-        writer,
-        "restarted {incarnation} unfinished {unfinished} lost {lost}"
-    )
-}
-
-fn print_refusal<W: Write>(writer: &mut W, refusal: Refusal) -> io::Result<()> {
-    let number = refusal.number();
-    let name = refusal.name();
-    writeln!(writer, "refused {number} {name}")
-}
-
-fn print_fault<W: Write>(writer: &mut W, refusal: Refusal) -> io::Result<()> {
-    let number = refusal.number();
-    let name = refusal.name();
-    writeln!(writer, "fault {number} {name}")
 }

@@ -1,81 +1,151 @@
 use crate::script::run_script;
-use rq_disk::{CallKind, MemLog, MemPages, Mishap, Switch};
-use rq_engine::event::{Event, Reply};
-use rq_model::refusal::Refusal;
 use rq_page::layout::Layout;
-use rq_restart::format::format;
-use rq_restart::restart::restart;
-use rq_shared::kept::Kept;
 use std::process::Abort;
 use std::test::Fail;
 
-// Runs a script over a store of one directory and one cell page, and compares what it prints behind the
-// line of its opening.
-fn small(
+/// The line of the first opening.
+const OPENED: &str = "restarted 1 unfinished 0 lost 0\n";
+
+// Runs a script over a store of one directory page and so many cell pages, and compares what it prints behind the line of its
+// opening.
+fn check(
     rt: &(impl Abort + AllocGlobal),
+    cells: u32,
     script: &str,
     wanted: &str,
     status: u8,
 ) -> Result<(), Fail> {
-    let layout = Layout::new(1, 1).ok_or("a small store")?;
+    let layout = Layout::new(1, cells).ok_or("a small store")?;
     let mut output = Vec::new(rt.alloc());
     let mut input = script.as_bytes();
-    assert_eq!(rt;
-        run_script(rt.alloc(), &mut input, &mut output, layout),
-        status
-    );
-    let mut all = String::from_str(rt.alloc(), "restarted 1 unfinished 0 lost 0\n")?;
-    all.push_str(wanted)?;
-    assert_eq!(rt; output.as_slice(), all.as_bytes());
+    let ended = run_script(rt.alloc(), &mut input, &mut output, layout);
+    let opened = output
+        .as_slice()
+        .strip_prefix(OPENED.as_bytes())
+        .ok_or("an opening")?;
+    assert_eq!(rt; opened, wanted.as_bytes());
+    assert_eq!(rt; ended, status);
     Ok(())
 }
 
 #[test]
 fn a_send_outlives_a_crash(rt: HostRuntime) -> Result<(), Fail> {
-    small(
+    check(
         &rt,
-        "begin\nsend 1.1 0 7 hello\ncommit 1.1\nack 1.1\nforce\nack 1.1\ncrash 0\nrestart\ndump\n",
-        "begun 1.1\nsent\ncommit 5\nno\nforced 5\nyes\ncrashed 5\nrestarted 2 unfinished 0 lost 0\n0 open sent 1 received 0: hello\n",
+        1,
+        "begin\nsend 1.1 0 7 hello\ncommit 1.1\nack 1.1\nforce\nack 1.1\ncrash 0\nrestart\ndump\nbegin\nrecv 2.1\n",
+        "begun 1.1\nsent\ncommit 5\nno\nforced 5\nyes\ncrashed 5\nrestarted 2 unfinished 0 lost 0\n0 open sent 1 received 0: hello\nbegun 2.1\nmsg 0 7 hello\n",
         0,
     )
 }
 
 #[test]
 fn bodies_and_senders_have_bounds(rt: HostRuntime) -> Result<(), Fail> {
-    let mut script = String::from_str(rt.alloc(), "begin\nsend 1.1 0 1 ")?;
-    add_letters(&mut script, 216)?;
-    script.push_str("\nsend 1.1 0 1 ")?;
-    add_letters(&mut script, 217)?;
-    script.push_str("\nsend 1.1 15 1 x\nsend 1.1 15 1 ")?;
-    add_letters(&mut script, 217)?;
-    script.push_str("\nsend 1.1 0 18446744073709551615\n")?;
-    small(
+    let none = "";
+    let script = format!(in rt.alloc();
+        "begin\nsend 1.1 0 1 {none:x>216}\nsend 1.1 0 1 {none:x>217}\nsend 1.1 15 1 x\nsend 1.1 15 1 {none:x>217}\nsend 1.1 0 18446744073709551615\n"
+    )?;
+    check(
         &rt,
+        1,
         script.as_str(),
         "begun 1.1\nsent\nrefused 8 TooLong\nrefused 7 UnknownSender\nrefused 7 UnknownSender\nsent\n",
         0,
     )
 }
 
-fn add_letters(script: &mut String, count: u32) -> Result<(), Fail> {
-    for _ in 0..count {
-        script.push_str("x")?;
+#[test]
+fn fifteen_messages_fill_the_store(rt: HostRuntime) -> Result<(), Fail> {
+    check(
+        &rt,
+        1,
+        "begin\nsend 1.1 0 1 a\nsend 1.1 0 2 b\nsend 1.1 0 3 c\nsend 1.1 0 4 d\nsend 1.1 0 5 e\nsend 1.1 0 6 f\nsend 1.1 0 7 g\nsend 1.1 0 8 h\nsend 1.1 0 9 i\nsend 1.1 0 10 j\nsend 1.1 0 11 k\nsend 1.1 0 12 l\nsend 1.1 0 13 m\nsend 1.1 0 14 n\nsend 1.1 0 15 o\ncommit 1.1\nbegin\nsend 1.2 0 16 p\nbegin\nrecv 1.3\nsend 1.2 0 16 p\ncommit 1.3\nsend 1.2 0 16 p\n",
+        "begun 1.1\nsent\nsent\nsent\nsent\nsent\nsent\nsent\nsent\nsent\nsent\nsent\nsent\nsent\nsent\nsent\ncommit 61\nbegun 1.2\nrefused 12 Full\nbegun 1.3\nmsg 0 1 a\nrefused 12 Full\ncommit 66\nsent\n",
+        0,
+    )
+}
+
+#[test]
+fn a_receive_shows_committed_messages_alone(rt: HostRuntime) -> Result<(), Fail> {
+    check(
+        &rt,
+        1,
+        "begin\nrecv 1.1\nsend 1.1 0 3\nrecv 1.1\ncommit 1.1\nbegin\nrecv 1.2\n",
+        "begun 1.1\nnone\nsent\nnone\ncommit 5\nbegun 1.2\nmsg 0 3\n",
+        0,
+    )
+}
+
+// One message is sent and received; what a crash keeps of that decides what is left.
+#[test]
+fn a_crash_takes_back_a_receive_that_is_not_forced(rt: HostRuntime) -> Result<(), Fail> {
+    for (end, wanted) in [
+        (
+            "crash 0",
+            "crashed 1\nrestarted 2 unfinished 0 lost 0\nempty\n",
+        ),
+        (
+            "force\ncrash 0",
+            "forced 9\ncrashed 9\nrestarted 2 unfinished 0 lost 0\n0 open sent 1 received 1:\n",
+        ),
+        (
+            "crash 4",
+            "crashed 5\nrestarted 2 unfinished 0 lost 0\n0 open sent 1 received 0: a\n",
+        ),
+    ] {
+        let script = format!(in rt.alloc();
+            "begin\nsend 1.1 0 1 a\ncommit 1.1\nbegin\nrecv 1.2\ncommit 1.2\n{end}\nrestart\ndump\n"
+        )?;
+        let printed = format!(in rt.alloc();
+            "begun 1.1\nsent\ncommit 5\nbegun 1.2\nmsg 0 1 a\ncommit 9\n{wanted}"
+        )?;
+        check(&rt, 1, script.as_str(), printed.as_str(), 0)?;
     }
     Ok(())
 }
 
 #[test]
-fn fifteen_messages_fill_the_store(rt: HostRuntime) -> Result<(), Fail> {
-    let mut script = String::from_str(rt.alloc(), "begin\n")?;
-    let mut wanted = String::from_str(rt.alloc(), "begun 1.1\n")?;
-    for (tag, letter) in "abcdefghijklmno".chars().enumerate() {
-        let number = tag.saturating_add(1);
-        script.push_str(format!(in rt.alloc(); "send 1.1 0 {number} {letter}\n")?.as_str())?;
-        wanted.push_str("sent\n")?;
-    }
-    script.push_str("commit 1.1\nbegin\nsend 1.2 0 16 p\n")?;
-    wanted.push_str("commit 61\nbegun 1.2\nrefused 12 Full\n")?;
-    small(&rt, script.as_str(), wanted.as_str(), 0)
+fn each_end_has_one_holder(rt: HostRuntime) -> Result<(), Fail> {
+    check(
+        &rt,
+        1,
+        "begin\nbegin\nbegin\nbegin\nbegin\nsend 1.1 0 1 a\nsend 1.2 0 1 b\nsend 1.2 1 5 c\ncommit 1.1\ncommit 1.2\nrecv-from 1.3 0\nrecv-from 1.4 0\nrecv 1.4\nopen-send 1.5 2 1 d\ncommit 1.5\nfinish 1.5 1\nstep 1.5 9\ncrash 0\nrestart\ncommit 1.3\n",
+        "begun 1.1\nbegun 1.2\nbegun 1.3\nbegun 1.4\nbegun 1.5\nsent\nrefused 9 SenderBusy\nsent\ncommit 8\ncommit 9\nmsg 0 1 a\nrefused 11 ReceiverBusy\nmsg 1 5 c\nop 1.5 1\nrefused 6 Unfinished\nrefused 6 Unfinished\nrefused 20 UnknownOperation\ncrashed 1\nrestarted 2 unfinished 0 lost 0\nrefused 4 UnknownTransaction\n",
+        0,
+    )
+}
+
+#[test]
+fn a_page_goes_out_once_its_last_record_is_forced(rt: HostRuntime) -> Result<(), Fail> {
+    check(
+        &rt,
+        1,
+        "begin\nsend 1.1 0 1 a\nwrite 1\nforce\nwrite 1\nwrite 1\nwrite 9\n",
+        "begun 1.1\nsent\nrefused 18 NotForced\nforced 4\nwritten\nnothing\nnothing\n",
+        0,
+    )
+}
+
+#[test]
+fn a_receive_waits_for_latched_pages(rt: HostRuntime) -> Result<(), Fail> {
+    check(
+        &rt,
+        1,
+        "begin\nsend 1.1 1 4 m\ncommit 1.1\nbegin\nopen-send 1.2 0 1 x\nbegin\nrecv 1.3\nstep 1.2 1\nstep 1.2 1\nstep 1.2 1\nfinish 1.2 1\nrecv 1.3\nrecv 1.3\n",
+        "begun 1.1\nsent\ncommit 5\nbegun 1.2\nop 1.2 1\nbegun 1.3\nrefused 13 Latched\nlsn 6\nlsn 7\nready\nsent\nmsg 1 4 m\nnone\n",
+        0,
+    )
+}
+
+#[test]
+fn written_pages_that_a_crash_took_back_are_made_again(rt: HostRuntime) -> Result<(), Fail> {
+    check(
+        &rt,
+        1,
+        "begin\nsend 1.1 0 7 a\ncommit 1.1\nforce\nwrite 1\nwrite 2\ncrash 0 old\nrestart\ndump\n",
+        "begun 1.1\nsent\ncommit 5\nforced 5\nwritten\nwritten\ncrashed 5\nrestarted 2 unfinished 0 lost 0\n0 open sent 1 received 0: a\n",
+        0,
+    )
 }
 
 #[test]
@@ -89,23 +159,38 @@ fn a_line_that_is_no_command_is_a_fault(rt: HostRuntime) -> Result<(), Fail> {
         "send 1 0 1 x",
         "send 1.1 4294967296 1 x",
         "send 1.1 0 18446744073709551616 x",
+        "open-send 1.1 0",
+        "open-send 1.1  0 1 x",
+        "step 1.1",
+        "step 1.1 1 ",
+        "finish 1.1 x",
+        "finish 1.1 1 1",
         "commit",
         "ack 1.1.1",
         "crash",
-        "crash 0 old",
-        "recv 1.1",
+        "crash old",
+        "crash 0 new",
+        "crash all old ",
+        "recv",
+        "recv 1",
+        "recv 1.1 0",
+        "recv-from 1.1",
+        "recv-from 1.1 4294967296",
+        "write",
+        "write 1 ",
         "dump\r",
     ] {
         let script = format!(in rt.alloc(); "begin\n{line}\nbegin\n")?;
-        small(&rt, script.as_str(), "begun 1.1\nfault line 2\n", 1)?;
+        check(&rt, 1, script.as_str(), "begun 1.1\nfault line 2\n", 1)?;
     }
     Ok(())
 }
 
 #[test]
 fn a_crashed_store_waits_for_its_restart(rt: HostRuntime) -> Result<(), Fail> {
-    small(
+    check(
         &rt,
+        1,
         "restart\nbegin\nack 1.1\ncrash 0\nbegin\ncrash 0\nrestart\ncommit 1.1\nbegin\nsend 2.1 0 1\ncommit 2.1\ndump\n",
         "running\nbegun 1.1\nrefused 4 UnknownTransaction\ncrashed 1\nrefused 2 Failed\nrefused 2 Failed\nrestarted 2 unfinished 0 lost 0\nrefused 4 UnknownTransaction\nbegun 2.1\nsent\ncommit 6\n0 open sent 1 received 0: \n",
         0,
@@ -114,8 +199,9 @@ fn a_crashed_store_waits_for_its_restart(rt: HostRuntime) -> Result<(), Fail> {
 
 #[test]
 fn an_unfinished_transaction_is_not_opened_yet(rt: HostRuntime) -> Result<(), Fail> {
-    small(
+    check(
         &rt,
+        1,
         "begin\nsend 1.1 0 1 x\ncrash all\nrestart\n",
         "begun 1.1\nsent\ncrashed 4\nfault 6 Unfinished\n",
         1,
@@ -124,8 +210,9 @@ fn an_unfinished_transaction_is_not_opened_yet(rt: HostRuntime) -> Result<(), Fa
 
 #[test]
 fn a_sending_end_has_one_holder(rt: HostRuntime) -> Result<(), Fail> {
-    small(
+    check(
         &rt,
+        1,
         "begin\nbegin\nsend 1.1 0 1 a\nsend 1.2 0 1 b\nsend 1.2 1 5 c\ncommit 1.1\nsend 1.2 0 2 b\ncommit 1.2\ndump\n",
         "begun 1.1\nbegun 1.2\nsent\nrefused 9 SenderBusy\nsent\ncommit 8\nsent\ncommit 13\n0 open sent 2 received 0: a b\n1 open sent 1 received 0: c\n",
         0,
@@ -133,46 +220,42 @@ fn a_sending_end_has_one_holder(rt: HostRuntime) -> Result<(), Fail> {
 }
 
 #[test]
-fn the_audit_keeps_each_call_until_it_is_taken(rt: HostRuntime) -> Result<(), Fail> {
-    let layout = Layout::new(1, 1).ok_or("a small store")?;
-    let switch = Switch::new(rt.alloc())?;
-    let mut pages = MemPages::zeroed(rt.alloc(), layout.pages(), switch.share()?)?;
-    let log = MemLog::new(rt.alloc(), Vec::new(rt.alloc()), switch);
-    assert!(rt; format(&mut pages, &layout).is_ok());
-    let Ok((engine, report)) = restart(rt.alloc(), pages, log) else {
-        return Err(Fail::from("restart"));
-    };
-    assert_eq!(rt; report.incarnation, 1);
-    assert_eq!(rt; report.records, 1);
-    let mut kept = Kept::new(rt.alloc(), engine);
-    let begun = kept.step(3, Event::Begin);
-    assert_eq!(rt; begun.pass(), 3);
-    let handed = kept.step(4, Event::HandOver);
-    assert!(rt; matches!(handed.reply(), Reply::HandedOver));
-    assert!(rt; matches!(handed.event(), Event::HandOver));
-    let audit = kept.take();
-    assert_eq!(rt; audit.len(), 2);
-    assert_eq!(rt; kept.take().len(), 0);
-    Ok(())
+fn a_send_step_by_step_keeps_its_pages_from_others(rt: HostRuntime) -> Result<(), Fail> {
+    check(
+        &rt,
+        1,
+        "begin\nbegin\nopen-send 1.1 0 1 x\ncommit 1.1\nfinish 1.1 1\nstep 1.1 9\nsend 1.2 1 1 y\nstep 1.1 1\nstep 1.1 1\nstep 1.1 1\nstep 1.1 1\nfinish 1.1 1\nsend 1.2 1 1 y\n",
+        "begun 1.1\nbegun 1.2\nop 1.1 1\nrefused 6 Unfinished\nrefused 6 Unfinished\nrefused 20 UnknownOperation\nrefused 13 Latched\nlsn 2\nlsn 3\nready\nready\nsent\nsent\n",
+        0,
+    )
 }
 
+// Leading zeros are read over.
 #[test]
-fn a_failed_force_stops_the_store(rt: HostRuntime) -> Result<(), Fail> {
-    let layout = Layout::new(1, 1).ok_or("a small store")?;
-    let switch = Switch::new(rt.alloc())?;
-    let mut pages = MemPages::zeroed(rt.alloc(), layout.pages(), switch.share()?)?;
-    let log = MemLog::new(rt.alloc(), Vec::new(rt.alloc()), switch.share()?);
-    assert!(rt; format(&mut pages, &layout).is_ok());
-    let Ok((engine, _)) = restart(rt.alloc(), pages, log) else {
-        return Err(Fail::from("restart"));
-    };
-    let mut kept = Kept::new(rt.alloc(), engine);
-    switch.arm_kind(CallKind::Force, Mishap::Fail);
-    let forced = kept.step(1, Event::Force);
-    assert!(rt; matches!(forced.reply(), Reply::Refused(Refusal::DiskWrite)));
-    let begun = kept.step(1, Event::Begin);
-    assert!(rt; matches!(begun.reply(), Reply::Refused(Refusal::Failed)));
-    let content = kept.step(1, Event::Content);
-    assert!(rt; matches!(content.reply(), Reply::Refused(Refusal::Failed)));
+fn a_crash_keeps_the_log_whichever_images_are_left(rt: HostRuntime) -> Result<(), Fail> {
+    for (crash, wanted) in [
+        (
+            "crash all",
+            "crashed 5\nrestarted 2 unfinished 0 lost 0\n0 open sent 1 received 0: hello\n",
+        ),
+        (
+            "crash all old",
+            "crashed 5\nrestarted 2 unfinished 0 lost 0\n0 open sent 1 received 0: hello\n",
+        ),
+        (
+            "crash 04 old",
+            "crashed 5\nrestarted 2 unfinished 0 lost 0\n0 open sent 1 received 0: hello\n",
+        ),
+        (
+            "crash 0 old",
+            "crashed 1\nrestarted 2 unfinished 0 lost 0\nempty\n",
+        ),
+    ] {
+        let script = format!(in rt.alloc();
+            "begin\nsend 01.1 000 7 hello\ncommit 1.1\n{crash}\nrestart\ndump\n"
+        )?;
+        let printed = format!(in rt.alloc(); "begun 1.1\nsent\ncommit 5\n{wanted}")?;
+        check(&rt, 1, script.as_str(), printed.as_str(), 0)?;
+    }
     Ok(())
 }
