@@ -2,10 +2,8 @@
 use Rattle.std.specs.Prelude.{◌≡◌, ℕ, List, [], ◌∷◌, ◌++◌, map, reverse}
 use Rattle.rq_model.specs.History.{Call}
 use Rattle.rq_model.specs.Replay.{Reply as Gave, Replays}
-use Rattle.rq_model.specs.declared.refusal.Refusal.TheVariants.{NoMemory}
 use Rattle.rq_engine.specs.declared.event.Event.{Event}
 use Rattle.rq_engine.specs.declared.event.Reply.{Reply}
-use Rattle.rq_engine.specs.declared.event.Reply.TheVariants.{Refused}
 use Rattle.rq_store.specs.State.{State, ledger_of, size_of}
 use Rattle.rq_store.specs.Sound.{IsSound}
 use Rattle.rq_engine.specs.Opened.{OpenStore}

@@ -120,7 +120,7 @@ impl<P: PageDevice + Drop, L: LogDevice + Drop> Kept<P, L> {
         ensures answered { result.reply ≢ Reply.Refused Refusal.NoMemory → IsSound self.old.engine.state → Steps self.old.engine.state (call_of event) (gave result.reply) self.new.engine.state }
         ensures no_change { result.reply ≡ Reply.Refused Refusal.NoMemory → self.new ≡ self.old }
         ensures base { self.new.base ≡ self.old.base }
-        ensures pages { result.reply ≢ Reply.Refused Refusal.NoMemory → PagesSay P.seen P.may_be P.moment P.left_since P.faults self.old.engine self.new.engine event result.reply }
+        ensures pages { PagesSay P.seen P.may_be P.moment P.left_since P.faults self.old.engine self.new.engine event result.reply }
         ensures log { result.reply ≢ Reply.Refused Refusal.NoMemory → LogSays L.faults self.old.engine self.new.engine event result.reply }
         ensures any_moment { LeavesOnly L.moment L.left_since self.old.engine.log self.new.engine.log (IsBeginning self.old.engine.state.records self.old.engine.state.forced) }
     {

@@ -3,4 +3,6 @@
 
 #[cfg(test)]
 mod agreement;
+#[cfg(test)]
+mod failing;
 pub mod kept;
