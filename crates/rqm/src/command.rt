@@ -1,4 +1,5 @@
 //! The commands of a script, one a line.
+use rq_disk::CallKind;
 use rq_model::txn::{Sub, Txn};
 
 /// A line of a script.
@@ -15,6 +16,7 @@ pub enum Command<'a> {
     Ack(Txn),
     Force,
     Write(u32),
+    Fail(CallKind),
     Crash(Keep, Images),
     Restart,
     Dump,
@@ -79,6 +81,7 @@ fn with_words<'a>(name: &[u8], rest: &'a [u8]) -> Option<Command<'a>> {
         b"commit" => Some(Command::Commit(txn(rest)?)),
         b"ack" => Some(Command::Ack(txn(rest)?)),
         b"write" => Some(Command::Write(short_number(rest)?)),
+        b"fail" => Some(Command::Fail(device_call(rest)?)),
         b"crash" => crash(rest),
         _ => None,
     }
@@ -115,6 +118,15 @@ fn recv_from(rest: &[u8]) -> Option<Command<'static>> {
     let txn = txn(word)?;
     let sender = short_number(rest?)?;
     Some(Command::RecvFrom(txn, sender))
+}
+
+fn device_call(word: &[u8]) -> Option<CallKind> {
+    match word {
+        b"read" => Some(CallKind::Read),
+        b"write" => Some(CallKind::Write),
+        b"force" => Some(CallKind::Force),
+        _ => None,
+    }
 }
 
 // `7`, `all`, or either with `old` behind it

@@ -1,7 +1,7 @@
 //! Scripts: a store over memory devices, driven by one command a line.
 use crate::command::{Command, Images, Keep, Post};
 use crate::told::{LINE_ROOM, Told};
-use rq_disk::{MemLog, MemPages, PageChoice, Switch};
+use rq_disk::{CallKind, MemLog, MemPages, Mishap, PageChoice, Switch};
 use rq_engine::event::{CommitNo, Event, Progress, Reply};
 use rq_model::refusal::Refusal;
 use rq_model::txn::{Sub, Txn};
@@ -131,6 +131,7 @@ impl Script {
             Some(Command::Restart) => self.restart(),
             Some(_) if !self.is_open() => Told::refused(Refusal::Failed),
             Some(Command::Crash(keep, images)) => self.crash(keep, images),
+            Some(Command::Fail(kind)) => self.arm(kind),
             Some(command) => Told::Reply(self.call(command)),
             None => Told::NoCommand(number),
         }
@@ -158,7 +159,9 @@ impl Script {
             Command::Force => self.ask(Event::Force),
             Command::Write(page) => self.ask(Event::WritePage(page)),
             Command::Dump => self.ask(Event::Content),
-            Command::Crash(..) | Command::Restart => Reply::Refused(Refusal::Failed),
+            Command::Fail(_) | Command::Crash(..) | Command::Restart => {
+                Reply::Refused(Refusal::Failed)
+            }
         }
     }
 
@@ -230,6 +233,12 @@ impl Script {
             None if self.failed => Reply::Refused(Refusal::Failed),
             None => Reply::Refused(Refusal::UnknownTransaction),
         }
+    }
+
+    // Makes the next device call of a kind fail, once, whether the store has failed or not.
+    fn arm(&mut self, kind: CallKind) -> Told {
+        self.switch.arm_kind(kind, Mishap::Fail);
+        Told::Armed
     }
 
     // Buffered records are handed over, and then the devices are left as a crash leaves them.

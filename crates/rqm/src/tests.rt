@@ -178,6 +178,9 @@ fn a_line_that_is_no_command_is_a_fault(rt: HostRuntime) -> Result<(), Fail> {
         "recv-from 1.1 4294967296",
         "write",
         "write 1 ",
+        "fail",
+        "fail sync",
+        "fail read ",
         "dump\r",
     ] {
         let script = format!(in rt.alloc(); "begin\n{line}\nbegin\n")?;
@@ -195,6 +198,58 @@ fn a_crashed_store_waits_for_its_restart(rt: HostRuntime) -> Result<(), Fail> {
         "running\nbegun 1.1\nrefused 4 UnknownTransaction\ncrashed 1\nrefused 2 Failed\nrefused 2 Failed\nrestarted 2 unfinished 0 lost 0\nrefused 4 UnknownTransaction\nbegun 2.1\nsent\ncommit 6\n0 open sent 1 received 0: \n",
         0,
     )
+}
+
+// A commit whose force failed is acknowledged by nobody; what the crash keeps decides.
+#[test]
+fn a_failed_force_closes_the_store_until_a_restart(rt: HostRuntime) -> Result<(), Fail> {
+    for (end, wanted) in [
+        (
+            "crash all",
+            "crashed 5\nrestarted 2 unfinished 0 lost 0\n0 open sent 1 received 0: a\n",
+        ),
+        (
+            "crash 0",
+            "crashed 1\nrestarted 2 unfinished 0 lost 0\nempty\n",
+        ),
+    ] {
+        let script = format!(in rt.alloc();
+            "begin\nsend 1.1 0 1 a\ncommit 1.1\nfail force\nforce\nack 1.1\n{end}\nrestart\ndump\n"
+        )?;
+        let printed = format!(in rt.alloc();
+            "begun 1.1\nsent\ncommit 5\narmed\nrefused 15 DiskWrite\nrefused 2 Failed\n{wanted}"
+        )?;
+        check(&rt, 1, script.as_str(), printed.as_str(), 0)?;
+    }
+    Ok(())
+}
+
+#[test]
+fn a_page_write_that_fails_loses_nothing(rt: HostRuntime) -> Result<(), Fail> {
+    check(
+        &rt,
+        1,
+        "begin\nsend 1.1 0 1 a\ncommit 1.1\nforce\nfail write\nwrite 2\nwrite 1\ncrash 0\nfail read\nrestart\ndump\n",
+        "begun 1.1\nsent\ncommit 5\nforced 5\narmed\nrefused 15 DiskWrite\nrefused 2 Failed\ncrashed 5\nrefused 2 Failed\nrestarted 2 unfinished 0 lost 0\n0 open sent 1 received 0: a\n",
+        0,
+    )
+}
+
+#[test]
+fn a_store_that_cannot_be_read_is_not_opened(rt: HostRuntime) -> Result<(), Fail> {
+    for (script, printed) in [
+        (
+            "fail read\ncrash 0\nrestart\ndump\n",
+            "armed\ncrashed 1\nfault 3 DiskRead\n",
+        ),
+        (
+            "begin\nsend 1.1 0 1 a\nfail write\nforce\nfail read\ncrash 0\nrestart\ndump\n",
+            "begun 1.1\nsent\narmed\nrefused 15 DiskWrite\narmed\ncrashed 1\nfault 3 DiskRead\n",
+        ),
+    ] {
+        check(&rt, 1, script, printed, 1)?;
+    }
+    Ok(())
 }
 
 #[test]

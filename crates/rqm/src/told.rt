@@ -15,6 +15,8 @@ pub const LINE_ROOM: usize = 512;
 pub enum Told {
     /// What a call answered.
     Reply(Reply),
+    /// A device call was set to fail.
+    Armed,
     /// A crash, after which this many records are left.
     Crashed(u64),
     /// The store was open.
@@ -56,6 +58,7 @@ impl Told {
     fn print_whole(&self, output: &mut Vec<u8>) -> io::Result<()> {
         match self {
             Told::Reply(reply) => print_reply(output, reply),
+            Told::Armed => print_word(output, "armed"),
             Told::Crashed(records) => print_number(output, "crashed", *records),
             Told::Running => print_word(output, "running"),
             Told::Restarted(report) => print_report(output, *report),
