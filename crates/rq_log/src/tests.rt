@@ -97,6 +97,24 @@ fn written_is_read(rt: HostRuntime) -> Result<(), Fail> {
     Ok(())
 }
 
+// However many records wait, a force hands them over in one append.
+#[test]
+fn a_force_makes_one_append_and_one_force(rt: HostRuntime) -> Result<(), Fail> {
+    let alloc = rt.alloc();
+    let switch = Switch::new(alloc)?;
+    let (_, mut log) = read(alloc, device_of(alloc, &[], &switch)?)?;
+    add(&mut log, &RESTART)?;
+    add(&mut log, &COMMIT)?;
+    add(&mut log, &COMMIT)?;
+    let calls = switch.calls();
+    assert_eq!(rt; log.force()?, 3);
+    assert_eq!(rt; switch.calls().wrapping_sub(calls), 2);
+    switch.arm_kind(CallKind::Write, Mishap::Fail);
+    assert_eq!(rt; log.force()?, 3);
+    assert_eq!(rt; switch.calls().wrapping_sub(calls), 3);
+    Ok(())
+}
+
 #[test]
 fn damaged(rt: HostRuntime) -> Result<(), Fail> {
     let alloc = rt.alloc();
