@@ -32,9 +32,10 @@ use std::marker::Model;
 /// The most records of a log.
 pub const LOG_LIMIT: u64 = 1 << 50;
 
-/// A store that is open, with what is under way in it. Contracts see its two devices and its `State`: the sizes
-/// of the store, the rows of transactions that have not ended, the ends that they hold, the images of the pages,
-/// the records of the log and how many are forced, whether the store has failed, and the counts that it keeps.
+/// A store that is open, with what is under way in it. Contracts see its two devices, which pages have a change that
+/// was not written, and its `State`: the sizes of the store, the rows of transactions that have not ended, the ends that
+/// they hold, the images of the pages, the records of the log and how many are forced, whether the store has failed, and
+/// the counts that it keeps.
 #[derive(Drop)]
 pub struct Engine<P: PageDevice, L: LogDevice> {
     pub(crate) alloc: Global,
