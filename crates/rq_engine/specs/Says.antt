@@ -12,7 +12,9 @@ use Rattle.rq_pool.specs.declared.Written.{Written}
 use Rattle.rq_pool.specs.declared.Written.TheVariants.{Done, Nothing}
 use Rattle.rq_pool.specs.Pooled.{image_at}
 use Rattle.rq_pool.specs.Writing.{DeviceAfter}
+use Rattle.rq_store.specs.State.{State}
 use Rattle.rq_engine.specs.Opened.{OpenStore, NotWritten}
+use Rattle.rq_engine.specs.Answers.{HasCause}
 use Rattle.rq_engine.specs.declared.event.Progress.{Progress}
 use Rattle.rq_engine.specs.declared.event.Progress.TheVariants as progress
 use Rattle.rq_engine.specs.declared.event.Outcome.{Outcome}
@@ -76,6 +78,28 @@ gave (reply.Refused r) = Gave_refusal r
 abbrev pub IsContent : Reply → Type 0
 IsContent (reply.Content groups) = Unit {0}
 IsContent _ = ⊥
+
+-- the call of an event takes memory
+abbrev pub takes_memory : Event → Bool
+takes_memory (event.Step sub) = false
+takes_memory (event.Finish sub) = false
+takes_memory (event.Acknowledged number) = false
+takes_memory event.HandOver = false
+takes_memory event.Force = false
+takes_memory (event.WritePage page) = false
+takes_memory _ = true
+
+-- it writes to a device
+abbrev pub writes_out : Event → Bool
+writes_out event.HandOver = true
+writes_out event.Force = true
+writes_out (event.WritePage page) = true
+writes_out _ = false
+
+-- a refusal comes with its cause
+abbrev pub IsCaused : State → Event → Reply → Type 0
+IsCaused s e (reply.Refused r) = HasCause (takes_memory e) (writes_out e) s r
+IsCaused s e _ = Unit {0}
 
 -- after a call that writes to the log's device: a failure of it is counted where the reply is its refusal, and nowhere else
 abbrev pub HasWritten : {P L : Type 0} → (L → ℕ) → OpenStore P L → OpenStore P L → Reply → Type 0

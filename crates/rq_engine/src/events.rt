@@ -8,7 +8,7 @@ ghost use Rattle.rq_store.specs.Sound.{IsSound};
 ghost use Rattle.rq_store.specs.Steps.{Steps};
 ghost use Rattle.rq_content.specs.Read.{group_of};
 ghost use Rattle.rq_engine.specs.Answers.{Answers};
-ghost use Rattle.rq_engine.specs.Says.{IsContent, LogSays, PagesSay, begun_reply, call_of, gave};
+ghost use Rattle.rq_engine.specs.Says.{IsCaused, IsContent, LogSays, PagesSay, begun_reply, call_of, gave};
 
 use crate::engine::Engine;
 use crate::event::{Event, Reply};
@@ -38,6 +38,7 @@ impl<P: PageDevice, L: LogDevice> Engine<P, L> {
     /// Makes the call that an event stands for.
     pub fn apply(&mut self, event: &Event) -> Reply
         ensures answered { IsSound self.old.state → Steps self.old.state (call_of event.now) (gave result) self.new.state }
+        ensures cause { IsSound self.old.state → IsCaused self.old.state event.now result }
         ensures sizes { self.new.state.sizes ≡ self.old.state.sizes }
         ensures no_memory { result ≡ Reply.Refused Refusal.NoMemory → self.new ≡ self.old }
         ensures content { IsContent result → self.new ≡ self.old }

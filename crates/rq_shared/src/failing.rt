@@ -1,6 +1,7 @@
-//! Each device call of a run fails once, in turn: it is answered as a failure of the device, and what was acknowledged outlives
-//! the crash that follows.
+//! Each device call of a run fails once, in turn: it is answered as a failure of the device, every call behind it as of a failed
+//! store, and what was acknowledged outlives the crash that follows.
 use crate::kept::Kept;
+use rq_content::GroupContent;
 use rq_disk::{MemLog, MemPages, Mishap, PageChoice, Switch};
 use rq_engine::event::{CommitNo, Event, Progress, Reply};
 use rq_model::refusal::Refusal;
@@ -16,17 +17,62 @@ type Trouble = &'static str;
 
 type Store = Kept<MemPages, MemLog>;
 
+/// A call of a run, of the transaction that was begun last, or for the commit that was made last.
+#[derive(Clone, Copy, Debug)]
+enum Call {
+    Begin,
+    Send(&'static [u8]),
+    Receive,
+    Commit,
+    Acknowledge,
+    HandOver,
+    Force,
+    Write(u32),
+}
+
+/// The calls of a run up to its crash, the unforced records that outlive it, and what the first sender's group holds then: messages
+/// sent and received by committed transactions, and the bodies of the rest. Of a run with a failed call that is so where its last
+/// commit was acknowledged.
+#[derive(Clone, Copy, Debug)]
+struct Plan {
+    calls: &'static [Call],
+    keep: u64,
+    sent: u64,
+    received: u64,
+    rest: &'static [&'static [u8]],
+}
+
 /// A run over devices of which one call fails.
 #[derive(Drop)]
 struct Run {
     alloc: Global,
+    switch: Switch,
     /// How often a call was answered as a failure of the device.
     failures: u32,
-    /// Whether the first commit was acknowledged.
+    /// Whether a call of the plan was.
+    is_cut: bool,
+    /// Whether the last commit was acknowledged.
     is_acknowledged: bool,
+    txn: Txn,
+    number: Option<CommitNo>,
 }
 
 impl Run {
+    fn new(alloc: Global, switch: Switch) -> Run {
+        Run {
+            alloc,
+            switch,
+            failures: 0,
+            is_cut: false,
+            is_acknowledged: false,
+            txn: Txn {
+                incarnation: 0,
+                count: 0,
+            },
+            number: None,
+        }
+    }
+
     // Counts a refusal, which has to be the device's.
     fn count(&mut self, refusal: Refusal) -> Result<(), Trouble> {
         match refusal {
@@ -66,38 +112,75 @@ impl Run {
         }
     }
 
-    // A message is sent, forced and acknowledged, and taken by another transaction; the pages go out.
-    fn use_store(&mut self, store: &mut Store) -> Result<(), Refusal> {
-        let sender = begin(store)?;
-        let Ok(body) = Vec::from_slice(self.alloc, b"hello") else {
+    // Makes the calls, up to the first that is refused, which the device has to be the cause of. The store has failed then.
+    fn make_all(&mut self, store: &mut Store, calls: &[Call]) -> Result<(), Trouble> {
+        for call in calls {
+            if let Err(refusal) = self.make(store, *call) {
+                self.is_cut = true;
+                self.count(refusal)?;
+                return is_failed(store);
+            }
+        }
+        Ok(())
+    }
+
+    fn make(&mut self, store: &mut Store, call: Call) -> Result<(), Refusal> {
+        match call {
+            Call::Begin => self.ask(store, Event::Begin),
+            Call::Send(body) => self.send(store, body),
+            Call::Receive => carry_out(store, Event::StartReceive(self.txn)),
+            Call::Commit => self.ask(store, Event::Commit(self.txn)),
+            Call::Acknowledge => self.acknowledge(store),
+            Call::HandOver => self.ask(store, Event::HandOver),
+            Call::Force => self.ask(store, Event::Force),
+            Call::Write(page) => self.ask(store, Event::WritePage(page)),
+        }
+    }
+
+    // Makes a call, and keeps the number that it answers.
+    fn ask(&mut self, store: &mut Store, event: Event) -> Result<(), Refusal> {
+        match ask(store, event)? {
+            Reply::Begun(txn) => self.txn = txn,
+            Reply::Committed(number) => self.number = Some(number),
+            _ => {}
+        }
+        Ok(())
+    }
+
+    fn send(&mut self, store: &mut Store, body: &[u8]) -> Result<(), Refusal> {
+        let Ok(body) = Vec::from_slice(self.alloc, body) else {
             return Err(Refusal::NoMemory);
         };
-        let send = Event::StartSend {
-            txn: sender,
+        let start = Event::StartSend {
+            txn: self.txn,
             sender: 0,
             tag: 7,
             body,
         };
-        carry_out(store, send)?;
-        let number = commit(store, sender)?;
-        ask(store, Event::Force)?;
-        self.is_acknowledged = is_given(&ask(store, Event::Acknowledged(number))?);
-        let taker = begin(store)?;
-        carry_out(store, Event::StartReceive(taker))?;
-        commit(store, taker)?;
-        ask(store, Event::HandOver)?;
-        write_pages(store)
+        carry_out(store, start)
     }
 
-    // What is left after a crash that keeps no more than it must.
-    fn crash(&mut self, store: Store) -> Result<(), Trouble> {
-        let (pages, log) = store.give_back().give_back();
-        let mut store = self.open(pages.crash(PageChoice::Synced), log.crash(0))?;
-        let sent = sent_by_first(&mut store).map_err(|_| "content")?;
-        if self.is_acknowledged && sent != 1 {
-            return Err("an acknowledged commit is gone");
-        }
+    fn acknowledge(&mut self, store: &mut Store) -> Result<(), Refusal> {
+        let Some(number) = self.number else {
+            return Err(Refusal::UnknownTransaction);
+        };
+        let reply = ask(store, Event::Acknowledged(number))?;
+        self.is_acknowledged = is_given(&reply);
         Ok(())
+    }
+
+    // What is left after a crash: buffered records are handed over, which no failure meets, and so many of the unforced ones outlive it.
+    fn crash(&mut self, store: Store, plan: &Plan) -> Result<(), Trouble> {
+        let mut engine = store.give_back();
+        self.switch.suspend();
+        let _ = engine.hand_over();
+        self.switch.resume();
+        let (pages, log) = engine.give_back();
+        let mut store = self.open(pages.crash(PageChoice::Synced), log.crash(plan.keep))?;
+        if self.is_cut && !self.is_acknowledged {
+            return Ok(());
+        }
+        is_left(&mut store, plan)
     }
 }
 
@@ -105,20 +188,6 @@ fn ask(store: &mut Store, event: Event) -> Result<Reply, Refusal> {
     match store.step(1, event).into_reply() {
         Reply::Refused(refusal) => Err(refusal),
         reply => Ok(reply),
-    }
-}
-
-fn begin(store: &mut Store) -> Result<Txn, Refusal> {
-    match ask(store, Event::Begin)? {
-        Reply::Begun(txn) => Ok(txn),
-        _ => Err(Refusal::UnknownTransaction),
-    }
-}
-
-fn commit(store: &mut Store, txn: Txn) -> Result<CommitNo, Refusal> {
-    match ask(store, Event::Commit(txn))? {
-        Reply::Committed(number) => Ok(number),
-        _ => Err(Refusal::UnknownTransaction),
     }
 }
 
@@ -136,14 +205,6 @@ fn carry_out(store: &mut Store, start: Event) -> Result<(), Refusal> {
     Err(Refusal::Unfinished)
 }
 
-fn write_pages(store: &mut Store) -> Result<(), Refusal> {
-    ask(store, Event::Force)?;
-    for page in 1..3 {
-        ask(store, Event::WritePage(page))?;
-    }
-    Ok(())
-}
-
 fn is_given(reply: &Reply) -> bool {
     match reply {
         Reply::Acknowledged(Some(_)) => true,
@@ -151,12 +212,32 @@ fn is_given(reply: &Reply) -> bool {
     }
 }
 
-// How many messages the first sender's committed transactions sent.
-fn sent_by_first(store: &mut Store) -> Result<u64, Refusal> {
-    match ask(store, Event::Content)? {
-        Reply::Content(groups) => Ok(groups.first().map_or(0, |group| group.sent)),
-        _ => Err(Refusal::Unfinished),
+fn is_failed(store: &mut Store) -> Result<(), Trouble> {
+    match ask(store, Event::Begin) {
+        Err(Refusal::Failed) => Ok(()),
+        _ => Err("a call of a failed store"),
     }
+}
+
+fn is_left(store: &mut Store, plan: &Plan) -> Result<(), Trouble> {
+    let Ok(Reply::Content(groups)) = ask(store, Event::Content) else {
+        return Err("no content");
+    };
+    match groups.first() {
+        Some(group) if holds(group, plan) => Ok(()),
+        _ => Err("something else is left"),
+    }
+}
+
+fn holds(group: &GroupContent, plan: &Plan) -> bool {
+    group.sent == plan.sent
+        && group.received == plan.received
+        && group.rest.len() == plan.rest.len()
+        && group
+            .rest
+            .iter()
+            .zip(plan.rest.iter())
+            .all(|(message, body)| message.body.as_slice() == *body)
 }
 
 fn devices(alloc: Global, layout: &Layout) -> Result<(Switch, MemPages, MemLog), AllocError> {
@@ -167,36 +248,96 @@ fn devices(alloc: Global, layout: &Layout) -> Result<(Switch, MemPages, MemLog),
 }
 
 // A run whose nth device call fails, through a crash; whether it made so many.
-fn run_failing(alloc: Global, n: u64) -> Result<bool, Trouble> {
+fn run_failing(alloc: Global, plan: &Plan, n: u64) -> Result<bool, Trouble> {
     let layout = Layout::new(1, 1).ok_or("a small store")?;
     let (switch, mut pages, log) = devices(alloc, &layout).map_err(|_| "memory")?;
     switch.arm_call(n, Mishap::Fail);
-    let mut run = Run {
-        alloc,
-        failures: 0,
-        is_acknowledged: false,
-    };
+    let mut run = Run::new(alloc, switch);
     run.format(&mut pages, &layout)?;
     let mut store = run.open(pages, log)?;
-    if let Err(refusal) = run.use_store(&mut store) {
-        run.count(refusal)?;
-    }
-    run.crash(store)?;
-    let is_met = switch.calls() >= n;
+    run.make_all(&mut store, plan.calls)?;
+    run.crash(store, plan)?;
+    let is_met = run.switch.calls() >= n;
     if run.failures != u32::from(is_met) {
         return Err("a failure that nobody told, or one too many");
     }
     Ok(is_met)
 }
 
-#[test]
-fn each_device_call_fails_in_turn(rt: HostRuntime) -> Result<(), Fail> {
+// Each device call of the plan fails in turn; how many there are.
+fn calls_failing(alloc: Global, plan: &Plan) -> Result<u64, Trouble> {
     for n in 1..100 {
-        if !run_failing(rt.alloc(), n)? {
-            assert!(rt; n > 20);
-            return Ok(());
+        if !run_failing(alloc, plan, n)? {
+            return Ok(n - 1);
         }
     }
-    Err("a run that does not end")?;
+    Err("a run that does not end")
+}
+
+// A format writes three pages and syncs; each of two restarts reads three pages and the log, appends and forces; a force appends and
+// forces.
+#[test]
+fn a_message_that_is_forced(rt: HostRuntime) -> Result<(), Fail> {
+    let plan = Plan {
+        calls: &[
+            Call::Begin,
+            Call::Send(b"hello"),
+            Call::Commit,
+            Call::Acknowledge,
+            Call::Force,
+            Call::Acknowledge,
+        ],
+        keep: 0,
+        sent: 1,
+        received: 0,
+        rest: &[b"hello"],
+    };
+    assert!(rt; calls_failing(rt.alloc(), &plan)? >= 18);
+    Ok(())
+}
+
+#[test]
+fn a_receive_that_is_not_forced(rt: HostRuntime) -> Result<(), Fail> {
+    let plan = Plan {
+        calls: &[
+            Call::Begin,
+            Call::Send(b"a"),
+            Call::Commit,
+            Call::Begin,
+            Call::Receive,
+            Call::Commit,
+        ],
+        keep: 4,
+        sent: 1,
+        received: 0,
+        rest: &[b"a"],
+    };
+    assert!(rt; calls_failing(rt.alloc(), &plan)? >= 16);
+    Ok(())
+}
+
+// Beside the calls above, a hand-over, a force and two writes of pages.
+#[test]
+fn a_receive_that_is_forced_and_its_pages(rt: HostRuntime) -> Result<(), Fail> {
+    let plan = Plan {
+        calls: &[
+            Call::Begin,
+            Call::Send(b"a"),
+            Call::Commit,
+            Call::Begin,
+            Call::Receive,
+            Call::HandOver,
+            Call::Commit,
+            Call::Force,
+            Call::Acknowledge,
+            Call::Write(1),
+            Call::Write(2),
+        ],
+        keep: 0,
+        sent: 1,
+        received: 1,
+        rest: &[],
+    };
+    assert!(rt; calls_failing(rt.alloc(), &plan)? >= 21);
     Ok(())
 }

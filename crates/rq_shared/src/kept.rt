@@ -5,7 +5,7 @@ ghost use Rattle.rq_store.specs.Steps.{Steps};
 ghost use Rattle.rq_content.specs.Read.{group_of};
 ghost use Rattle.rq_log.specs.Crash.{LeavesOnly};
 ghost use Rattle.rq_log.specs.Spelled.{IsBeginning};
-ghost use Rattle.rq_engine.specs.Says.{call_of, gave, IsContent, LogSays, PagesSay};
+ghost use Rattle.rq_engine.specs.Says.{call_of, gave, IsCaused, IsContent, LogSays, PagesSay};
 
 use rq_content::GroupContent;
 use rq_disk::{LogDevice, PageDevice};
@@ -118,6 +118,7 @@ impl<P: PageDevice + Drop, L: LogDevice + Drop> Kept<P, L> {
         ensures event { result.event ≡ event }
         ensures entry { result.reply ≢ Reply.Refused Refusal.NoMemory → OneMore self.old.audit self.new.audit (noted pass event result.reply) }
         ensures answered { result.reply ≢ Reply.Refused Refusal.NoMemory → IsSound self.old.engine.state → Steps self.old.engine.state (call_of event) (gave result.reply) self.new.engine.state }
+        ensures cause { result.reply ≢ Reply.Refused Refusal.NoMemory → IsSound self.old.engine.state → IsCaused self.old.engine.state event result.reply }
         ensures no_change { result.reply ≡ Reply.Refused Refusal.NoMemory → self.new ≡ self.old }
         ensures base { self.new.base ≡ self.old.base }
         ensures pages { PagesSay P.seen P.may_be P.moment P.left_since P.faults self.old.engine self.new.engine event result.reply }

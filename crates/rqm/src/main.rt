@@ -1,13 +1,11 @@
 //! `rqm`, a recoverable queue manager.
 #![tactic(auto)]
 
-mod command;
-mod script;
 #[cfg(test)]
 mod tests;
-mod told;
 mod words;
 
+use rq_script::run_script;
 use std::io;
 use std::process::ExitCode;
 use words::Words;
@@ -25,7 +23,7 @@ fn run<R: Print + Eprint + Input + AllocGlobal + std::rt::Env>(rt: &R) -> io::Re
         Words::Run(layout) => {
             let mut reader = rt.reader();
             let mut writer = io::writer(rt);
-            Ok(script::run_script(alloc, &mut reader, &mut writer, layout))
+            Ok(run_script(alloc, &mut reader, &mut writer, layout))
         }
         Words::Answered(status) => Ok(status),
     }

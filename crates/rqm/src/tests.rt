@@ -1,5 +1,5 @@
-use crate::script::run_script;
 use rq_page::layout::Layout;
+use rq_script::run_script;
 use std::process::Abort;
 use std::test::Fail;
 

@@ -1,4 +1,4 @@
-//! Scripts: a store over memory devices, driven by one command a line.
+//! The lines of a script, carried out over a store.
 use crate::command::{Command, Images, Keep, Post};
 use crate::told::{LINE_ROOM, Told};
 use rq_disk::{CallKind, MemLog, MemPages, Mishap, PageChoice, Switch};
@@ -38,7 +38,7 @@ pub fn run_script<R: Read, W: Write>(
     }
 }
 
-// Opens the store, and writes what each line prints before the next one.
+// Opens the store, and carries out the lines.
 fn run_lines<W: Write>(
     alloc: Global,
     input: &[u8],
@@ -49,35 +49,12 @@ fn run_lines<W: Write>(
         writer.write_all(b"fault 1 NoMemory\n")?;
         return Ok(1);
     };
-    let mut script = match Script::open(alloc, layout) {
-        Ok((script, report)) => {
-            write_told(writer, &mut output, &Told::Restarted(report))?;
-            script
-        }
-        Err(refusal) => {
-            write_told(writer, &mut output, &Told::Fault(refusal))?;
-            return Ok(1);
-        }
-    };
-    let mut rest = input;
-    for number in 1..u64::MAX {
-        if rest.is_empty() {
-            break;
-        }
-        let (line, behind) = first_line(rest);
-        rest = behind;
-        let told = script.run_line(number, line);
-        write_told(writer, &mut output, &told)?;
-        if told.is_fault() {
-            return Ok(1);
-        }
+    let opened = Script::open(alloc, layout, &mut output);
+    writer.write_all(&output)?;
+    match opened {
+        Some(mut script) => script.run(input, writer, &mut output),
+        None => Ok(1),
     }
-    Ok(0)
-}
-
-fn write_told<W: Write>(writer: &mut W, output: &mut Vec<u8>, told: &Told) -> io::Result<()> {
-    told.print(output)?;
-    writer.write_all(output)
 }
 
 // What stands before the first newline, and what stands behind it.
@@ -108,8 +85,21 @@ struct Script {
 }
 
 impl Script {
-    // A formatted store, opened.
-    fn open(alloc: Global, layout: Layout) -> Result<(Script, Report), Refusal> {
+    // A formatted store, opened. What that came to is printed.
+    fn open(alloc: Global, layout: Layout, output: &mut Vec<u8>) -> Option<Script> {
+        match Script::formatted(alloc, layout) {
+            Ok((script, report)) => {
+                Told::Restarted(report).print(output);
+                Some(script)
+            }
+            Err(refusal) => {
+                Told::Fault(refusal).print(output);
+                None
+            }
+        }
+    }
+
+    fn formatted(alloc: Global, layout: Layout) -> Result<(Script, Report), Refusal> {
         let Ok((switch, mut pages, log)) = devices(alloc, &layout) else {
             return Err(Refusal::NoMemory);
         };
@@ -125,8 +115,37 @@ impl Script {
         Ok((script, report))
     }
 
-    // Carries out the command that the line is.
-    fn run_line(&mut self, number: u64, line: &[u8]) -> Told {
+    // Carries out the lines, to the end of the script or to a fault, and writes what each prints before the next one.
+    fn run<W: Write>(
+        &mut self,
+        input: &[u8],
+        writer: &mut W,
+        output: &mut Vec<u8>,
+    ) -> io::Result<u8> {
+        let mut rest = input;
+        for number in 1..u64::MAX {
+            if rest.is_empty() {
+                break;
+            }
+            let (line, behind) = first_line(rest);
+            rest = behind;
+            let goes_on = self.run_line(number, line, output);
+            writer.write_all(output)?;
+            if !goes_on {
+                return Ok(1);
+            }
+        }
+        Ok(0)
+    }
+
+    // Carries out the command that the line is, prints what it came to, and answers whether the script goes on.
+    fn run_line(&mut self, number: u64, line: &[u8], output: &mut Vec<u8>) -> bool {
+        let told = self.carry_out(number, line);
+        told.print(output);
+        !told.is_fault()
+    }
+
+    fn carry_out(&mut self, number: u64, line: &[u8]) -> Told {
         match Command::parse(line) {
             Some(Command::Restart) => self.restart(),
             Some(_) if !self.is_open() => Told::refused(Refusal::Failed),

@@ -44,14 +44,11 @@ impl Told {
     }
 
     /// Prints it, in the place of what the output held. A content that memory is wanting for is printed as refused.
-    pub fn print(&self, output: &mut Vec<u8>) -> io::Result<()> {
+    pub fn print(&self, output: &mut Vec<u8>) {
         output.clear();
-        match self.print_whole(output) {
-            Ok(()) => Ok(()),
-            Err(_) => {
-                output.clear();
-                print_refusal(output, Refusal::NoMemory)
-            }
+        if self.print_whole(output).is_err() {
+            output.clear();
+            let _ = print_refusal(output, Refusal::NoMemory);
         }
     }
 
