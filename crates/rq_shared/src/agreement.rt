@@ -2,9 +2,10 @@
 //! wanting for is made once more, and then answers as if nothing had happened.
 ghost use Rattle.std.specs.Prelude.{◌≡◌, IfOk};
 
+use crate::devices::devices;
 use crate::kept::Kept;
 use rq_content::GroupContent;
-use rq_disk::{MemLog, MemPages, PageChoice, Switch};
+use rq_disk::{MemLog, MemPages, PageChoice};
 use rq_engine::event::{CommitNo, Event, Outcome, Progress, Reply};
 use rq_model::reference::Reference;
 use rq_model::reference::rows::{Act, GroupContent as ListedGroup};
@@ -13,7 +14,7 @@ use rq_model::txn::{Lsn, Sub, Txn};
 use rq_page::layout::Layout;
 use rq_restart::format::format;
 use rq_restart::restart::{Report, Stopped, restart};
-use std::alloc::{AllocError, Global};
+use std::alloc::Global;
 use std::test::Fail;
 
 /// Why a test ends before its last call.
@@ -21,14 +22,18 @@ type Trouble = &'static str;
 
 const NO_MEMORY: &str = "memory was wanting twice";
 
+const NO_ENGINE: &str = "a restart was refused";
+
 const DEVICE_NO_MEMORY: &str = "the device had no memory";
 
 /// A call of a test, of the transaction that was begun last, or for the commit that was made last.
-#[derive(Clone, Copy, Debug)]
+#[derive(Clone, Copy)]
 enum Call {
     Begin,
     /// A sender, a tag, and the bytes of a body.
     Send(u32, u64, &'static [u8]),
+    /// So many sends for the first sender, tagged from 1.
+    SendMany(u64),
     Commit,
     Acknowledge,
     HandOver,
@@ -37,7 +42,7 @@ enum Call {
 }
 
 /// What was answered, in words that both have.
-#[derive(Clone, Copy, Debug, PartialEq, Eq)]
+#[derive(Clone, Copy, PartialEq, Eq)]
 enum Answer {
     Begun(Txn),
     Started(u64),
@@ -49,69 +54,71 @@ enum Answer {
     HandedOver,
     Forced(Lsn),
     Content,
+    /// How many messages of the first sender's group were sent and received, and how many are left.
+    Group(u64, u64, usize),
     Refused(Refusal),
     /// The lists have no such call.
     Unlisted,
     Other,
 }
 
-/// The engine and the lists, of one directory and one cell page, and what was answered last.
+/// A call, and what is answered to it.
+type Answered = (Call, Answer);
+
+/// The engine and the lists, of one directory and one cell page.
 #[derive(Drop)]
 struct Pair {
     alloc: Global,
-    engine: Kept<MemPages, MemLog>,
+    /// None where a crash could not be followed by a restart.
+    engine: Option<Kept<MemPages, MemLog>>,
     lists: Reference,
     txn: Txn,
     number: Option<CommitNo>,
-    groups: Vec<GroupContent>,
 }
 
 impl Pair {
     // A formatted store, opened, and lists of its size.
     fn open(alloc: Global) -> Result<Pair, Trouble> {
         let layout = Layout::new(1, 1).ok_or("a small store")?;
-        let (mut pages, log) = devices(alloc, &layout)?;
+        let (mut pages, log) = devices_at_second_try(alloc, &layout)?;
         format_twice(&mut pages, &layout)?;
         let (engine, report) = reopen(alloc, pages, log)?;
         let lists = listed(alloc, &layout, report)?;
         Ok(Pair {
             alloc,
-            engine,
+            engine: Some(engine),
             lists,
             txn: Txn {
                 incarnation: 0,
                 count: 0,
             },
             number: None,
-            groups: Vec::new(alloc),
         })
+    }
+
+    // Makes the calls up to a crash, and those behind the restart that follows. Where there are none behind it, there is no crash.
+    fn make_both(&mut self, calls: &[Answered], behind: &[Answered]) -> Result<(), Trouble> {
+        self.make_all(calls)?;
+        if behind.is_empty() {
+            return Ok(());
+        }
+        self.crash()?;
+        self.make_all(behind)
     }
 
     // A crash that keeps no record that is not forced, and the restart. All was forced: the lists lose what was not committed.
-    fn crash(self) -> Result<Pair, Trouble> {
-        let Pair {
-            alloc,
-            engine,
-            mut lists,
-            txn,
-            number,
-            groups,
-        } = self;
+    fn crash(&mut self) -> Result<(), Trouble> {
+        let Some(engine) = self.engine.take() else {
+            return Err(NO_ENGINE);
+        };
         let (pages, log) = engine.give_back().give_back();
-        let (engine, report) = reopen(alloc, pages.crash(PageChoice::Newest), log.crash(0))?;
-        crash_lists(&mut lists, report)?;
-        Ok(Pair {
-            alloc,
-            engine,
-            lists,
-            txn,
-            number,
-            groups,
-        })
+        let (engine, report) = reopen(self.alloc, pages.crash(PageChoice::Newest), log.crash(0))?;
+        self.engine = Some(engine);
+        crash_lists(&mut self.lists, report)
     }
 
-    // Makes the calls of both, and answers as the last one did.
-    fn make_all(&mut self, calls: &[(Call, Answer)]) -> Result<(), Trouble> {
+    // Makes the calls of both.
+    fn make_all(&mut self, calls: &[Answered]) -> Result<(), Trouble> {
         for (call, wanted) in calls {
             if self.make(*call)? != *wanted {
                 return Err("an answer that is not wanted");
@@ -124,6 +131,7 @@ impl Pair {
         match call {
             Call::Begin => self.ask(Event::Begin),
             Call::Send(sender, tag, body) => self.send(sender, tag, body),
+            Call::SendMany(count) => self.send_many(count),
             Call::Commit => self.ask(Event::Commit(self.txn)),
             Call::Acknowledge => self.acknowledge(),
             Call::HandOver => self.ask(Event::HandOver),
@@ -155,6 +163,15 @@ impl Pair {
         }
     }
 
+    fn send_many(&mut self, count: u64) -> Result<Answer, Trouble> {
+        for tag in 1..count {
+            if self.send(0, tag, b"m")? != Answer::Sent {
+                return Err("a send that is refused");
+            }
+        }
+        self.send(0, count, b"m")
+    }
+
     // What waits for the operation's end is refused until all of its steps are made.
     fn carry_through(&mut self, sub: Sub) -> Result<Answer, Trouble> {
         self.is_refused(Event::Finish(sub))?;
@@ -179,7 +196,7 @@ impl Pair {
     // Makes a call of both, and keeps the numbers that are answered.
     fn ask(&mut self, event: Event) -> Result<Answer, Trouble> {
         let told = ask_lists(&mut self.lists, &event);
-        let reply = ask_engine(&mut self.engine, event)?;
+        let reply = self.ask_engine(event)?;
         let answer = answer_of(&reply);
         if answer != told {
             return Err("the lists answer something else");
@@ -192,31 +209,32 @@ impl Pair {
         Ok(answer)
     }
 
-    // The content of both, which is kept.
+    // Makes a call of the engine, once more where memory was wanting for it.
+    fn ask_engine(&mut self, event: Event) -> Result<Reply, Trouble> {
+        let Some(engine) = &mut self.engine else {
+            return Err(NO_ENGINE);
+        };
+        let again = copy_of(&event)?;
+        match engine.step(1, event).into_reply() {
+            Reply::Refused(Refusal::NoMemory) => Ok(engine.step(1, again).into_reply()),
+            Reply::Refused(Refusal::DiskWrite) => Err(DEVICE_NO_MEMORY),
+            reply => Ok(reply),
+        }
+    }
+
+    // The content of both, and what the first sender's group holds.
     fn content(&mut self) -> Result<Answer, Trouble> {
         let listed = self.listed_content()?;
-        let Reply::Content(groups) = ask_engine(&mut self.engine, Event::Content)? else {
+        let Reply::Content(groups) = self.ask_engine(Event::Content)? else {
             return Err("no content");
         };
         if !agree_on_content(&groups, &listed) {
             return Err("the lists hold something else");
         }
-        self.groups = groups;
-        Ok(Answer::Content)
-    }
-
-    // Whether the first sender's group is open, with so many messages sent and received, and this one message at rest.
-    fn is_first(&self, sent: u64, received: u64, body: &[u8]) -> bool {
-        let Some(group) = self.groups.first() else {
-            return false;
-        };
-        let [message] = group.rest.as_slice() else {
-            return false;
-        };
-        !group.closed
-            && group.sent == sent
-            && group.received == received
-            && message.body.as_slice() == body
+        match groups.first() {
+            Some(group) => Ok(Answer::Group(group.sent, group.received, group.rest.len())),
+            None => Err("no group"),
+        }
     }
 
     fn listed_content(&self) -> Result<Vec<ListedGroup>, Trouble> {
@@ -224,15 +242,6 @@ impl Pair {
             Ok(groups) => Ok(groups),
             Err(_) => self.lists.content().map_err(|_| NO_MEMORY),
         }
-    }
-}
-
-fn ask_engine(engine: &mut Kept<MemPages, MemLog>, event: Event) -> Result<Reply, Trouble> {
-    let again = copy_of(&event)?;
-    match engine.step(1, event).into_reply() {
-        Reply::Refused(Refusal::NoMemory) => Ok(engine.step(1, again).into_reply()),
-        Reply::Refused(Refusal::DiskWrite) => Err(DEVICE_NO_MEMORY),
-        reply => Ok(reply),
     }
 }
 
@@ -372,17 +381,13 @@ fn crash_lists(lists: &mut Reference, report: Report) -> Result<(), Trouble> {
     Ok(())
 }
 
-fn devices(alloc: Global, layout: &Layout) -> Result<(MemPages, MemLog), Trouble> {
-    match devices_once(alloc, layout) {
-        Ok(devices) => Ok(devices),
-        Err(_) => devices_once(alloc, layout).map_err(|_| NO_MEMORY),
-    }
-}
-
-fn devices_once(alloc: Global, layout: &Layout) -> Result<(MemPages, MemLog), AllocError> {
-    let switch = Switch::new(alloc)?;
-    let pages = MemPages::zeroed(alloc, layout.pages(), switch.share()?)?;
-    Ok((pages, MemLog::new(alloc, Vec::new(alloc), switch)))
+fn devices_at_second_try(alloc: Global, layout: &Layout) -> Result<(MemPages, MemLog), Trouble> {
+    let made = match devices(alloc, layout) {
+        Ok(made) => Ok(made),
+        Err(_) => devices(alloc, layout),
+    };
+    let (_, pages, log) = made.map_err(|_| NO_MEMORY)?;
+    Ok((pages, log))
 }
 
 fn format_twice(pages: &mut MemPages, layout: &Layout) -> Result<(), Trouble> {
@@ -430,72 +435,82 @@ fn copy_of_bytes(alloc: Global, bytes: &[u8]) -> Result<Vec<u8>, Trouble> {
     }
 }
 
-// The number of a transaction.
-fn numbered(incarnation: u64, count: u64) -> Answer {
+// A test: calls up to a crash, and those behind the restart that follows, each with what is answered to it.
+fn check(alloc: Global, calls: &[Answered], behind: &[Answered]) -> Result<(), Trouble> {
+    let mut pair = Pair::open(alloc)?;
+    pair.make_both(calls, behind)
+}
+
+// The answer to a begin.
+const fn begun(incarnation: u64, count: u64) -> Answer {
     Answer::Begun(Txn { incarnation, count })
 }
 
 #[test]
 fn one_send_through_a_crash(rt: HostRuntime) -> Result<(), Fail> {
-    let mut pair = Pair::open(rt.alloc())?;
-    pair.make_all(&[
-        (Call::Begin, numbered(1, 1)),
-        (Call::Send(0, 7, b"hello"), Answer::Sent),
-        (Call::Commit, Answer::Committed(5)),
-        (Call::Acknowledge, Answer::Acknowledged(false)),
-        (Call::HandOver, Answer::HandedOver),
-        (Call::Acknowledge, Answer::Acknowledged(false)),
-        (Call::Force, Answer::Forced(5)),
-        (Call::Acknowledge, Answer::Acknowledged(true)),
-    ])?;
-    let mut pair = pair.crash()?;
-    pair.make_all(&[
-        (Call::Content, Answer::Content),
-        (Call::Begin, numbered(2, 1)),
-    ])?;
-    assert!(rt; pair.is_first(1, 0, b"hello"));
+    check(
+        rt.alloc(),
+        &[
+            (Call::Begin, begun(1, 1)),
+            (Call::Send(0, 7, b"hello"), Answer::Sent),
+            (Call::Commit, Answer::Committed(5)),
+            (Call::Acknowledge, Answer::Acknowledged(false)),
+            (Call::HandOver, Answer::HandedOver),
+            (Call::Acknowledge, Answer::Acknowledged(false)),
+            (Call::Force, Answer::Forced(5)),
+            (Call::Acknowledge, Answer::Acknowledged(true)),
+        ],
+        &[
+            (Call::Content, Answer::Group(1, 0, 1)),
+            (Call::Begin, begun(2, 1)),
+        ],
+    )?;
     Ok(())
 }
 
 #[test]
 fn the_bounds_of_bodies_and_senders(rt: HostRuntime) -> Result<(), Fail> {
-    let mut pair = Pair::open(rt.alloc())?;
-    pair.make_all(&[
-        (Call::Begin, numbered(1, 1)),
-        (Call::Send(0, 1, &[b'x'; 216]), Answer::Sent),
-        (
-            Call::Send(0, 1, &[b'x'; 217]),
-            Answer::Refused(Refusal::TooLong),
-        ),
-        (
-            Call::Send(15, 1, b"x"),
-            Answer::Refused(Refusal::UnknownSender),
-        ),
-        (
-            Call::Send(15, 1, &[b'x'; 217]),
-            Answer::Refused(Refusal::UnknownSender),
-        ),
-        (Call::Send(0, u64::MAX, b""), Answer::Sent),
-        (Call::Begin, numbered(1, 2)),
-        (Call::Send(0, 1, b"x"), Answer::Refused(Refusal::SenderBusy)),
-    ])?;
+    check(
+        rt.alloc(),
+        &[
+            (Call::Begin, begun(1, 1)),
+            (Call::Send(0, 1, &[b'x'; 216]), Answer::Sent),
+            (
+                Call::Send(0, 1, &[b'x'; 217]),
+                Answer::Refused(Refusal::TooLong),
+            ),
+            (
+                Call::Send(15, 1, b"x"),
+                Answer::Refused(Refusal::UnknownSender),
+            ),
+            (
+                Call::Send(15, 1, &[b'x'; 217]),
+                Answer::Refused(Refusal::UnknownSender),
+            ),
+            (Call::Send(0, u64::MAX, b""), Answer::Sent),
+            (Call::Begin, begun(1, 2)),
+            (Call::Send(0, 1, b"x"), Answer::Refused(Refusal::SenderBusy)),
+        ],
+        &[],
+    )?;
     Ok(())
 }
 
 #[test]
 fn a_store_filled_to_its_last_cell(rt: HostRuntime) -> Result<(), Fail> {
-    let mut pair = Pair::open(rt.alloc())?;
-    pair.make_all(&[(Call::Begin, numbered(1, 1))])?;
-    for tag in 1..16 {
-        pair.make_all(&[(Call::Send(0, tag, b"m"), Answer::Sent)])?;
-    }
-    pair.make_all(&[
-        (Call::Commit, Answer::Committed(61)),
-        (Call::Commit, Answer::Refused(Refusal::UnknownTransaction)),
-        (Call::Begin, numbered(1, 2)),
-        (Call::Send(0, 16, b"p"), Answer::Refused(Refusal::Full)),
-        (Call::Commit, Answer::Committed(62)),
-        (Call::Content, Answer::Content),
-    ])?;
+    check(
+        rt.alloc(),
+        &[
+            (Call::Begin, begun(1, 1)),
+            (Call::SendMany(15), Answer::Sent),
+            (Call::Commit, Answer::Committed(61)),
+            (Call::Commit, Answer::Refused(Refusal::UnknownTransaction)),
+            (Call::Begin, begun(1, 2)),
+            (Call::Send(0, 16, b"p"), Answer::Refused(Refusal::Full)),
+            (Call::Commit, Answer::Committed(62)),
+            (Call::Content, Answer::Group(15, 0, 15)),
+        ],
+        &[],
+    )?;
     Ok(())
 }

@@ -1,5 +1,6 @@
 //! Each device call of a run fails once, in turn: it is answered as a failure of the device, every call behind it as of a failed
 //! store, and what was acknowledged outlives the crash that follows.
+use crate::devices::devices;
 use crate::kept::Kept;
 use rq_content::GroupContent;
 use rq_disk::{MemLog, MemPages, Mishap, PageChoice, Switch};
@@ -9,7 +10,7 @@ use rq_model::txn::Txn;
 use rq_page::layout::Layout;
 use rq_restart::format::format;
 use rq_restart::restart::{Stopped, restart};
-use std::alloc::{AllocError, Global};
+use std::alloc::Global;
 use std::test::Fail;
 
 /// Why a run ends that should not.
@@ -18,7 +19,7 @@ type Trouble = &'static str;
 type Store = Kept<MemPages, MemLog>;
 
 /// A call of a run, of the transaction that was begun last, or for the commit that was made last.
-#[derive(Clone, Copy, Debug)]
+#[derive(Clone, Copy)]
 enum Call {
     Begin,
     Send(&'static [u8]),
@@ -33,7 +34,7 @@ enum Call {
 /// The calls of a run up to its crash, the unforced records that outlive it, and what the first sender's group holds then: messages
 /// sent and received by committed transactions, and the bodies of the rest. Of a run with a failed call that is so where its last
 /// commit was acknowledged.
-#[derive(Clone, Copy, Debug)]
+#[derive(Drop)]
 struct Plan {
     calls: &'static [Call],
     keep: u64,
@@ -238,13 +239,6 @@ fn holds(group: &GroupContent, plan: &Plan) -> bool {
             .iter()
             .zip(plan.rest.iter())
             .all(|(message, body)| message.body.as_slice() == *body)
-}
-
-fn devices(alloc: Global, layout: &Layout) -> Result<(Switch, MemPages, MemLog), AllocError> {
-    let switch = Switch::new(alloc)?;
-    let pages = MemPages::zeroed(alloc, layout.pages(), switch.share()?)?;
-    let log = MemLog::new(alloc, Vec::new(alloc), switch.share()?);
-    Ok((switch, pages, log))
 }
 
 // A run whose nth device call fails, through a crash; whether it made so many.

@@ -4,5 +4,7 @@
 #[cfg(test)]
 mod agreement;
 #[cfg(test)]
+mod devices;
+#[cfg(test)]
 mod failing;
 pub mod kept;
