@@ -34,7 +34,8 @@ use Rattle.rq_level.proofs.GroupRule.{held}
 use Rattle.rq_level.proofs.Holders.{Held}
 use Rattle.rq_level.proofs.Holding.{Holds, view_holds, committed_is_group, tag_and_body}
 use Rattle.rq_store.specs.State.{State}
-use Rattle.rq_store.specs.Sound.{IsSound, AllMove, placed, left_by}
+use Rattle.rq_store.specs.Sound.{IsSound, AllMove, placed}
+use Rattle.rq_store.specs.Fitting.{left_by}
 use Rattle.rq_store.proofs.Chains as Chains
 use Rattle.rq_store.proofs.Chains.{closed_is}
 use Rattle.rq_store.proofs.RowLists.{found_in}

@@ -136,7 +136,7 @@ fn add_sync(calls: &mut Vec<PageCall>) -> Result<(), AllocError>
 
 impl MemPages {
     ghost use Rattle.rq_disk.specs.Choice.{place_of};
-    ghost use Rattle.rq_disk.specs.Device.{Leaves};
+    ghost use Rattle.rq_disk.specs.Device.{Leaves, Only};
     ghost use Rattle.rq_disk.specs.Memory.{fresh_pages, MayBe, crashed_page};
     ghost use Rattle.rq_disk.specs.Shown.{pages_of, page_count, pages_moment, pages_faults};
 
@@ -181,6 +181,7 @@ impl MemPages {
     pub fn crash(self, choice: PageChoice) -> MemPages
         ensures pages { (p : ℕ) → p < page_count self → reads (pages_of result) p ≡ crashed_page (place_of choice p) (pages_of self) p }
         ensures may_be { Leaves (MayBe (pages_of self)) (reads (pages_of result)) }
+        ensures synced { (p : ℕ) → Only (reads (pages_of result) p) (MayBe (pages_of result) p) }
         ensures count { page_count result ≡ page_count self }
         ensures moment { pages_moment result ≡ 0 }
         ensures failures { pages_faults result ≡ pages_faults self }

@@ -181,7 +181,7 @@ pub step_done : (s new : State) (sub : Sub) (w : SlotWrite) (lsn : ℕ) → s.fa
 step_done s new sub w lsn running h m at k =
     let g = going_of s sub (Next w) h in
     let more = slice_get_within g.under.writes g.under.made w g.so in
-    let a = step_steps s k sub.txn g.row g.under w new.images g.found g.is g.so m.slots m.before m.slot more running in
+    let a = step_steps s k sub.txn g.row g.under w new.images g.found g.is g.so m.slots m.put_in m.before m.slot more running in
     let b = subst (λ (n : ℕ). Steps s (Step sub.txn n) (Gave_lsn (length s.records + 1)) (record s { rows = change_row sub.txn row_stepped s.rows; images = new.images; records = page_op sub.txn n w ∷ s.records })) g.number a in
     subst (λ (n : ℕ). Steps s (Step sub.txn sub.number) (Gave_lsn n) new) (sym at) (subst (λ (x : State). Steps s (Step sub.txn sub.number) (Gave_lsn (length s.records + 1)) x) (sym m.state) b)
 
@@ -215,6 +215,8 @@ step_ready s sub running h k =
       );
       after = refl;
       sound = k;
+      goes_on = (0, refl);
+      stays_forced = omega arith;
     }
   where
     none_left : (ws : List SlotWrite) (i : ℕ) → slice_get ws i ≡ None → length ws ≤ i
@@ -337,6 +339,8 @@ content_done s groups running idle e k = record {
   legal = ((ap (λ b. not (not b)) running, (busy_is s.ends s.rows ∙ idle, tt)), e);
   after = refl;
   sound = k;
+  goes_on = (0, refl);
+  stays_forced = omega arith;
 }
 
 pub content_busy : (s : State) → s.failed ≡ false → any_under s.rows ≡ true → Refuses true false s Show why.Unfinished

@@ -5,3 +5,4 @@ pub mod Refusals
 pub mod Calls
 pub mod SendCalls
 pub mod TakeCalls
+pub mod Crashing

@@ -33,7 +33,8 @@ use Rattle.rq_groups.specs.Sides.{with_end, holds_end, without_newest}
 use Rattle.rq_groups.specs.Ends.{HeldEnds, has_held, with_held, is_free_for}
 use Rattle.rq_store.specs.State.{State, ledger_of, size_of, job_under}
 use Rattle.rq_store.specs.Plans.{Stands_at, IsSendPlan}
-use Rattle.rq_store.specs.Sound.{IsSound, left_by}
+use Rattle.rq_store.specs.Sound.{IsSound}
+use Rattle.rq_store.specs.Fitting.{left_by}
 use Rattle.rq_store.proofs.RowLists.{found_in}
 use Rattle.rq_store.proofs.Chains.{all_idle, shown, closed_is, closed_by_none}
 use Rattle.rq_store.specs.Steps.{Steps}

@@ -24,7 +24,8 @@ use Rattle.rq_txn.specs.Rows.{Row, found_row, any_under, change_row, row_started
 use Rattle.rq_groups.specs.Ends.{is_free_for, with_held}
 use Rattle.rq_groups.specs.Waiting.{waits}
 use Rattle.rq_store.specs.State.{State, ledger_of, size_of}
-use Rattle.rq_store.specs.Sound.{IsSound, left_by}
+use Rattle.rq_store.specs.Sound.{IsSound}
+use Rattle.rq_store.specs.Fitting.{left_by}
 use Rattle.rq_store.specs.Plans.{IsTakePlan, NoneWaits}
 use Rattle.rq_store.specs.Steps.{Steps}
 use Rattle.rq_store.proofs.Chains.{shown}

@@ -14,7 +14,7 @@ use Rattle.rq_chain.specs.declared.SlotWrite.{SlotWrite}
 use Rattle.rq_txn.specs.Rows.{Row, Under, found_row, change_row, row_stepped, any_under}
 use Rattle.rq_store.specs.State.{State}
 use Rattle.rq_store.specs.Sound.{IsSound}
-use Rattle.rq_store.specs.Steps.{Steps, page_op}
+use Rattle.rq_store.specs.Steps.{Steps, IsPutIn, page_op}
 
 -- A refusal comes only with its cause: memory's where the call takes memory, the disk's and a page's that is not forced where it writes, Latched where an
 -- operation is under way, and damage never.
@@ -81,6 +81,7 @@ pub record IsMade (old : State) (sub : Sub) (w : SlotWrite) (new : State) : Type
   pub before : IsSlotOf old.sizes (w.at / 16) (w.at % 16) w.before
   pub slot : IsSlotOf old.sizes (w.at / 16) (w.at % 16) w.after
   pub slots : (a : ℕ) → slots_in old.sizes new.images a ≡ put (slots_in old.sizes old.images) w.at (held_in old.sizes (w.at / 16) w.after) a
+  pub put_in : IsPutIn old w new.images
 
 -- the transaction is open with nothing under way, and this is the number of its next operation
 abbrev pub IsReady : State → Txn → ℕ → Type 0

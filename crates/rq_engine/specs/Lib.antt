@@ -5,3 +5,4 @@ pub mod Receives
 pub mod Kept
 pub mod Answers
 pub mod Sends
+pub mod Crash

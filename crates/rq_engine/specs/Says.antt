@@ -13,7 +13,7 @@ use Rattle.rq_pool.specs.declared.Written.TheVariants.{Done, Nothing}
 use Rattle.rq_pool.specs.Pooled.{image_at}
 use Rattle.rq_pool.specs.Writing.{DeviceAfter}
 use Rattle.rq_store.specs.State.{State}
-use Rattle.rq_engine.specs.Opened.{OpenStore, NotWritten}
+use Rattle.rq_engine.specs.Opened.{OpenStore, NotWritten, WritesWhen}
 use Rattle.rq_engine.specs.Answers.{HasCause}
 use Rattle.rq_engine.specs.declared.event.Progress.{Progress}
 use Rattle.rq_engine.specs.declared.event.Progress.TheVariants as progress
@@ -128,3 +128,8 @@ written_by _ = Ok Nothing
 abbrev pub PagesSay : {P L : Type 0} → (P → Images) → (P → ℕ → List ℕ → Type 0) → (P → ℕ) → (P → ℕ → Images → Type 0) → (P → ℕ) → OpenStore P L → OpenStore P L → Event → Reply → Type 0
 PagesSay seen may_be moment left_since faults old new (event.WritePage page) r = DeviceAfter seen may_be moment left_since faults page (image_at old.state.images page) old.pages new.pages (written_by r)
 PagesSay seen may_be moment left_since faults old new _ r = new.pages ≡ old.pages
+
+-- when a page is written, or is not
+abbrev pub WritesSay : {P L : Type 0} → OpenStore P L → Event → Reply → Type 0
+WritesSay old (event.WritePage page) r = WritesWhen old page (written_by r)
+WritesSay old _ r = Unit {0}

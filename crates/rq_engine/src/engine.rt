@@ -6,12 +6,14 @@ ghost use Rattle.rq_model.specs.declared.record.Record.TheVariants.{Commit as Co
 ghost use Rattle.rq_disk.specs.Device.{Only};
 ghost use Rattle.rq_log.specs.Crash.{LeavesOnly};
 ghost use Rattle.rq_log.specs.Logged.{WasDurable};
-ghost use Rattle.rq_log.specs.Spelled.{spelled, IsBeginning};
+ghost use Rattle.rq_log.specs.Spelled.{spelled, AreSpelled, IsBeginning};
 ghost use Rattle.rq_record.specs.Spelling.{IsInRange, spelling};
 ghost use Rattle.rq_txn.specs.Rows.{found_row, fresh_row, without_row};
 ghost use Rattle.rq_page.specs.Sizes.{sender_count};
 ghost use Rattle.rq_groups.specs.Waiting.{waits};
+ghost use Rattle.rq_store.specs.Sound.{IsSound};
 ghost use Rattle.rq_engine.specs.Opened.{NotWritten};
+ghost use Rattle.rq_engine.specs.Crash.{AreFit, LeavesCut};
 ghost use Rattle.rq_engine.specs.Answers.{Answers, IsReady};
 ghost use Rattle.rq_engine.specs.Says.{is_given};
 
@@ -172,9 +174,12 @@ impl<P: PageDevice, L: LogDevice> Engine<P, L> {
     ghost use Rattle.rq_model.specs.Reference.{ready_tests, IsUnready};
     ghost use Rattle.rq_model.specs.Legal.{NoneHolds};
 
-    /// What a crash at this moment leaves of the log, for proofs: it runs no code.
+    /// What a crash at this moment leaves of the log, and of both devices, and that each record has a spelling, for proofs: it runs
+    /// no code.
     pub fn keeps(&self)
         ensures leaves { (c : List ℕ) → L.may_leave self.now.log c → IsBeginning self.now.state.records self.now.state.forced c }
+        ensures spelled { AreSpelled self.now.state.records }
+        ensures cut { IsSound self.now.state → AreFit P.may_be self.now → LeavesCut P.may_be L.may_leave self.now }
     {
         self.log.keeps();
     }

@@ -1,5 +1,5 @@
 -- The parts of a page, and what a write leaves of them.
-use Rattle.std.proofs.Common.{◌≡◌, ◌≢◌, ℕ, zero, suc, ◌+◌, ◌*◌, ◌^◌, ◌<◌, ◌≤◌, List, ◌++◌, length, take, drop, replicate, refl, sym, ap, ◌∙◌, arith, subst, inl, inr}
+use Rattle.std.proofs.Common.{◌≡◌, ◌≢◌, ℕ, zero, suc, ◌+◌, ◌*◌, ◌^◌, ◌<◌, ◌≤◌, List, ◌++◌, length, take, drop, replicate, Option, Some, None, refl, sym, ap, ◌∙◌, arith, subst, inl, inr}
 use Rattle.std.proofs.lemmas.List.{drop-drop, drop-take, take-append-drop, drop_all}
 use Rattle.std.proofs.lemmas.Bool.{cases_lt, cases_eq}
 use Rattle.byteorder.specs.Endian.{big_bytes, big_number}
@@ -7,6 +7,10 @@ use Rattle.byteorder.specs.Numbers.{big_number-reads_back, big_from-take}
 use Rattle.rq_bytes.specs.Number.{bytes_at, overlaid}
 use Rattle.rq_bytes.proofs.Overlaid.{bytes_at-overlaid, bytes_at-overlaid_before, bytes_at-overlaid_behind}
 use Rattle.rq_page.specs.Pages.{lsn_of, header_of, rest_of_header, slot_of, header_front, header_bytes, AreSamePages}
+use Rattle.rq_page.specs.Sizes.{Sizes}
+use Rattle.rq_page.specs.Kinds.{kind_byte, kind_of}
+use Rattle.rq_page.specs.Formatted.{IsHeaderFor, IsHeaderOf}
+use Rattle.rq_page.specs.declared.layout.PageKind.{PageKind}
 
 -- what the header tells
 pub lsn_of_header : (p : List ℕ) → lsn_of p ≡ big_number 8 (header_of p)
@@ -61,6 +65,10 @@ pub rest-set : (lsn : ℕ) (p : List ℕ) → rest_of_header (big_bytes 8 lsn ++
 unfolding rest_of_header
 rest-set lsn p = refl
 
+pub header-lsn_set : (lsn : ℕ) (p : List ℕ) → header_of (big_bytes 8 lsn ++ drop 8 p) ≡ big_bytes 8 lsn ++ rest_of_header p
+unfolding header_of rest_of_header
+header-lsn_set lsn p = refl
+
 pub slots-lsn_set : (lsn : ℕ) (p : List ℕ) → length p ≡ 4096
     → (k : ℕ) → 1 ≤ k → k ≤ 15 → slot_of k (big_bytes 8 lsn ++ drop 8 p) ≡ slot_of k p
 slots-lsn_set lsn p l k low high = slots-set (big_bytes 8 lsn) p (omega arith) l k low high
@@ -73,6 +81,25 @@ header_made lsn number kind = refl
 pub length-header_bytes : (lsn number kind : ℕ) → length (header_bytes lsn number kind) ≡ 256
 unfolding header_front header_bytes
 length-header_bytes lsn number kind = refl
+
+-- a header in which the LSN alone is another
+header_again : (lsn stamp number kind : ℕ) → big_bytes 8 stamp ++ drop 8 (header_bytes lsn number kind) ≡ header_bytes stamp number kind
+unfolding header_front header_bytes
+header_again lsn stamp number kind = refl
+
+stamped_for : (k : Option PageKind) (page stamp : ℕ) (old new : List ℕ) → lsn_of new ≡ stamp → header_of new ≡ big_bytes 8 stamp ++ rest_of_header old
+    → IsHeaderFor k page (lsn_of old) old → IsHeaderFor k page (lsn_of new) new
+stamped_for None page stamp old new lsn header is = absurd is
+stamped_for (Some k) page stamp old new lsn header is =
+    header
+    ∙ ap (λ (r : List ℕ). big_bytes 8 stamp ++ r) (rest_of_header_of old ∙ ap (drop 8) is)
+    ∙ header_again (lsn_of old) stamp page (kind_byte k)
+    ∙ ap (λ (l : ℕ). header_bytes l page (kind_byte k)) (sym lsn)
+
+-- the header of a place stays the header of that place where its LSN alone is written
+pub header-stamped : (z : Sizes) (page stamp : ℕ) (old new : List ℕ) → lsn_of new ≡ stamp → header_of new ≡ big_bytes 8 stamp ++ rest_of_header old
+    → IsHeaderOf z page old → IsHeaderOf z page new
+header-stamped z page stamp old new lsn header is = stamped_for (kind_of z page) page stamp old new lsn header is
 
 -- lists of so many parts, the same from one part on
 same_from : (n k : ℕ) (p q : List ℕ) → length p ≡ 256 * (k + n) → length q ≡ 256 * (k + n)

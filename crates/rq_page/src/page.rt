@@ -2,6 +2,8 @@
 ghost use Rattle.std.specs.Prelude.{◌≡◌, ◌≢◌, ◌≤◌, ◌↔◌, ℕ, IsTrue, length};
 ghost use Rattle.rq_page.specs.Pages.{lsn_of, header_of, slot_of, header_front, header_bytes, IsWritten, AreSamePages};
 ghost use Rattle.rq_page.specs.Kinds.{kind_byte};
+ghost use Rattle.rq_page.specs.Sizes.{Sizes};
+ghost use Rattle.rq_page.specs.Formatted.{IsHeaderOf};
 
 use crate::layout::PageKind;
 use crate::numbers::u64_at;
@@ -80,11 +82,12 @@ impl Page {
         part
     }
 
-    /// Writes a slot, and the LSN of the record that says so.
+    /// Writes a slot, and the LSN of the record that says so. The header of a place stays the header of that place.
     pub fn set_slot(&mut self, n: u8, image: &Slot, lsn: Lsn)
         requires low { 1 ≤ n }
         requires high { n ≤ 15 }
-        ensures { IsWritten self.old self.new n image.now lsn }
+        ensures written { IsWritten self.old self.new n image.now lsn }
+        ensures header { (z : Sizes) (page : ℕ) → IsHeaderOf z page self.old → IsHeaderOf z page self.new }
     {
         BigEndian::write_u64(&mut self.bytes, lsn);
         self.put_slot(n, image);

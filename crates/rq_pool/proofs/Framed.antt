@@ -2,7 +2,9 @@
 use Rattle.std.proofs.Common.{◌≡◌, ◌≢◌, ℕ, Bool, ◌<◌, List, [], length, slice_set, slice_index_or, sym, ap, subst, arith, ◌∙◌}
 use Rattle.std.proofs.lemmas.List.{map-set, get_or-map, get_or-set_same, get_or-set_other, length-map}
 use Rattle.std.proofs.Math.Seq.{map-set_same}
+use Rattle.rq_page.specs.Sizes.{Sizes}
 use Rattle.rq_page.specs.Pages.{IsWritten}
+use Rattle.rq_page.specs.Formatted.{IsHeaderOf}
 use Rattle.rq_pool.specs.declared.Frame.{Frame}
 use Rattle.rq_pool.specs.Frames.{image_of, images_of, framed_at, was_changed, changed_of}
 
@@ -20,16 +22,28 @@ pub framed_other : (fs : List Frame) (i j : ℕ) (f : Frame) → j ≢ i → fra
 framed_other fs i j f ne =
     ap (λ xs. slice_index_or xs j []) (map-set image_of fs i f) ∙ get_or-set_other (images_of fs) i j (image_of f) [] ne
 
+-- the page that was in a frame, and the one that is
+before_set : (fs : List Frame) (i j : ℕ) (f : Frame) → i < length fs → j ≡ i → f ≡ slice_index_or fs j f → framed_at fs i ≡ image_of f
+before_set fs i j f lt at read = ap (framed_at fs) (sym at) ∙ framed_read fs j f (omega arith) ∙ ap image_of (sym read)
+
+after_set : (fs : List Frame) (i j : ℕ) (g : Frame) → i < length fs → j ≡ i → framed_at (slice_set fs j g) i ≡ image_of g
+after_set fs i j g lt at = ap (framed_at (slice_set fs j g)) (sym at) ∙ framed_same fs j g (omega arith)
+
 -- a page was written in its frame
 pub written_frame : (fs : List Frame) (i j : ℕ) (f g : Frame) (m n : ℕ) (image : List ℕ) (lsn : ℕ) → i < length fs → j ≡ i → m ≡ n → f ≡ slice_index_or fs j f
     → IsWritten (image_of f) (image_of g) m image lsn → IsWritten (framed_at fs i) (framed_at (slice_set fs j g) i) n image lsn
 written_frame fs i j f g m n image lsn lt at slot read is =
-    let low : j < length fs = omega arith in
-    let old : framed_at fs i ≡ image_of f = ap (framed_at fs) (sym at) ∙ framed_read fs j f low ∙ ap image_of (sym read) in
-    let new : framed_at (slice_set fs j g) i ≡ image_of g = ap (framed_at (slice_set fs j g)) (sym at) ∙ framed_same fs j g low in
-    subst (λ (p : List ℕ). IsWritten p (framed_at (slice_set fs j g) i) n image lsn) (sym old)
-    (subst (λ (p : List ℕ). IsWritten (image_of f) p n image lsn) (sym new)
+    subst (λ (p : List ℕ). IsWritten p (framed_at (slice_set fs j g) i) n image lsn) (sym (before_set fs i j f lt at read))
+    (subst (λ (p : List ℕ). IsWritten (image_of f) p n image lsn) (sym (after_set fs i j g lt at))
     (subst (λ (k : ℕ). IsWritten (image_of f) (image_of g) k image lsn) slot is))
+
+-- and has the header of each place whose header it had
+pub header_frame : (fs : List Frame) (i j : ℕ) (f g : Frame) → i < length fs → j ≡ i → f ≡ slice_index_or fs j f
+    → ((z : Sizes) (page : ℕ) → IsHeaderOf z page (image_of f) → IsHeaderOf z page (image_of g))
+    → (z : Sizes) (page : ℕ) → IsHeaderOf z page (framed_at fs i) → IsHeaderOf z page (framed_at (slice_set fs j g) i)
+header_frame fs i j f g lt at read keeps z page is =
+    subst (λ (p : List ℕ). IsHeaderOf z page p) (sym (after_set fs i j g lt at))
+    (keeps z page (subst (λ (p : List ℕ). IsHeaderOf z page p) (before_set fs i j f lt at read) is))
 
 -- which pages count as changed once a frame was set
 pub changed_set : (fs : List Frame) (i j : ℕ) (f : Frame) (b : Bool) → j ≡ i → f.changed ≡ b → changed_of (slice_set fs j f) ≡ slice_set (changed_of fs) i b

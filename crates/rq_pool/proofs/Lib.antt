@@ -4,3 +4,4 @@ pub mod Framed
 pub mod Slots
 pub mod Stands
 pub mod Writings
+pub mod Kept

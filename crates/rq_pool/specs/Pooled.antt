@@ -1,6 +1,7 @@
 -- What contracts see of the pages of a store.
-use Rattle.std.specs.Prelude.{◌≡◌, ℕ, Bool, false, List, [], length, slice_index_or}
+use Rattle.std.specs.Prelude.{◌≡◌, ℕ, ◌<◌, ◌≤◌, Bool, false, List, [], length, slice_index_or}
 use Rattle.rq_page.specs.Sizes.{Sizes, IsInRange, page_count}
+use Rattle.rq_page.specs.Formatted.{IsFormatted, IsHeaderOf}
 use Rattle.rq_level.specs.Stored.{AreSlots}
 
 pub record Pooled (P : Type 0) : Type 0 where
@@ -19,8 +20,11 @@ image_at images page = slice_index_or images page []
 abbrev pub is_changed : List Bool → ℕ → Bool
 is_changed changed page = slice_index_or changed page false
 
--- what is so of the pages of a store: they are all there, and each slot is one of the store
+-- what is so of the pages of a store: they are all there, the first tells the sizes, and behind it each header is the one of its place and each slot is one
+-- of the store
 pub record IsPool (z : Sizes) (images : List (List ℕ)) : Type 0 where
   pub range : IsInRange z
   pub count : length images ≡ page_count z
   pub slots : AreSlots z images
+  pub superblock : IsFormatted z 0 (image_at images 0)
+  pub headers : (p : ℕ) → 1 ≤ p → p < page_count z → IsHeaderOf z p (image_at images p)

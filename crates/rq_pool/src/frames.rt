@@ -1,6 +1,8 @@
 //! Pages in frames.
 ghost use Rattle.std.specs.Prelude.{◌≡◌, ◌≢◌, ◌/◌, ◌%◌, ◌<◌, ◌≤◌, ℕ, true, false, length, slice_set};
+ghost use Rattle.rq_page.specs.Sizes.{Sizes};
 ghost use Rattle.rq_page.specs.Pages.{IsWritten};
+ghost use Rattle.rq_page.specs.Formatted.{IsHeaderOf};
 ghost use Rattle.rq_pool.specs.Frames.{framed_at, images_of, changed_of};
 
 use crate::Frame;
@@ -14,6 +16,7 @@ pub(crate) fn write_slot(frames: &mut Vec<Frame>, at: Addr, image: &Slot, lsn: L
     requires slot { 1 ≤ at % 16 }
     ensures count { length frames.new.items ≡ length frames.old.items }
     ensures page { IsWritten (framed_at frames.old.items (at / 16)) (framed_at frames.new.items (at / 16)) (at % 16) image.now lsn }
+    ensures header { (z : Sizes) (p : ℕ) → IsHeaderOf z p (framed_at frames.old.items (at / 16)) → IsHeaderOf z p (framed_at frames.new.items (at / 16)) }
     ensures others { (p : ℕ) → p ≢ at / 16 → framed_at frames.new.items p ≡ framed_at frames.old.items p }
     ensures changed { changed_of frames.new.items ≡ slice_set (changed_of frames.old.items) (at / 16) true }
 {

@@ -14,7 +14,8 @@ use Rattle.rq_page.specs.Formatted.{count_in}
 use Rattle.rq_page.proofs.Addresses.{senders_have_slots, kind_directory}
 use Rattle.rq_level.specs.Stored.{slot_at, slots_in}
 use Rattle.rq_pool.proofs.Slots.{slots_here}
-use Rattle.rq_store.specs.Opening.{IsCounted, image_in, messages_told, waiting_in}
+use Rattle.rq_store.specs.Opening.{IsCounted, messages_told, waiting_in}
+use Rattle.rq_store.specs.Fitting.{image_in}
 use Rattle.rq_restart.specs.Restarting.{AreWaiting}
 
 length_below : (n : ℕ) → length (below n) ≡ n

@@ -5,11 +5,12 @@ use Rattle.rq_model.specs.declared.record.Record.{Record}
 use Rattle.rq_page.specs.Sizes.{Sizes}
 use Rattle.rq_level.specs.InStore.{InStore}
 use Rattle.rq_store.specs.Sound.{InOrder, IsNext}
-use Rattle.rq_store.specs.Opening.{oldest, told_by, FitsUpTo, Redoes, MayRedo}
-use Rattle.rq_store.proofs.Redoing.{oldest_all, oldest_store, redo_one}
+use Rattle.rq_store.specs.Opening.{FitsUpTo, Redoes, MayRedo, IsLeft}
+use Rattle.rq_store.specs.Fitting.{oldest, told_by}
+use Rattle.rq_store.proofs.Fitting.{oldest_all}
+use Rattle.rq_store.proofs.Redoing.{oldest_store, redo_one}
 use Rattle.rq_store.proofs.Bounds.{may_redo}
 use Rattle.rq_restart.specs.Noted.{Noted, noted, noted_after}
-use Rattle.rq_restart.specs.Restarting.{IsLeft}
 use Rattle.rq_restart.proofs.Noting.{noted_incarnation}
 
 oldest_first : (xs : List Record) (n : ℕ) → oldest n (reverse xs) ≡ reverse (take n xs)

@@ -7,7 +7,8 @@ use Rattle.rq_model.specs.declared.refusal.Damage.TheVariants as damage
 use Rattle.rq_page.specs.Sizes.{Sizes}
 use Rattle.rq_page.proofs.Formats.{told_sizes}
 use Rattle.rq_pool.specs.Reading.{IsSuperblock, IsDamaged, StopsFor}
-use Rattle.rq_restart.specs.Restarting.{IsLeft, StaysShut, Stops}
+use Rattle.rq_store.specs.Opening.{IsLeft}
+use Rattle.rq_restart.specs.Restarting.{StaysShut, Stops}
 
 -- a superblock tells one size
 pub one_size : (y z : Sizes) (image : List ℕ) → IsSuperblock y image → IsSuperblock z image → y ≡ z

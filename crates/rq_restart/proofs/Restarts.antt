@@ -1,22 +1,27 @@
 -- What a restart makes of a store that was left as a crash may leave one.
-use Rattle.std.proofs.Common.{◌≡◌, ℕ, ◌+◌, ◌<◌, ◌≤◌, List, [], ◌∷◌, length, reverse, false, sym, ◌∙◌, ap, subst, inl, inr, arith, Result, Ok, Err, OnOk, IfOk, IfErr}
+use Rattle.std.proofs.Common.{◌≡◌, ℕ, ◌+◌, ◌<◌, ◌≤◌, List, [], ◌∷◌, length, reverse, false, refl, sym, ◌∙◌, ap, subst, inl, inr, arith, Result, Ok, Err, OnOk, IfOk, IfErr}
 use Rattle.std.proofs.lemmas.List.{length-reverse}
 use Rattle.rq_model.specs.declared.record.Record.{Record}
 use Rattle.rq_model.specs.declared.record.Record.TheVariants as records
 use Rattle.rq_model.specs.declared.refusal.Refusal.{Refusal}
 use Rattle.rq_model.specs.declared.refusal.Refusal.TheVariants as why
 use Rattle.rq_model.specs.Content.{unfinished, lost}
-use Rattle.rq_page.specs.Sizes.{Sizes, IsInRange, page_count}
-use Rattle.rq_page.specs.Formatted.{IsHeaderOf}
-use Rattle.rq_pool.specs.Reading.{ArePages}
+use Rattle.rq_page.specs.Sizes.{Sizes, page_count}
+use Rattle.rq_page.specs.Formatted.{IsFormatted, IsHeaderOf}
+use Rattle.rq_disk.specs.Device.{Images}
+use Rattle.rq_pool.specs.Pooled.{IsPool}
+use Rattle.rq_pool.specs.Reading.{ArePages, OnlyRead}
 use Rattle.rq_log.specs.Logged.{Logged}
 use Rattle.rq_store.specs.Sound.{IsSound, incarnation_of}
-use Rattle.rq_store.specs.Opening.{FitsPage, FitsUpTo, IsCounted, image_in, opened}
+use Rattle.rq_store.specs.Opening.{FitsUpTo, IsCounted, opened, next_restart, IsLeft}
+use Rattle.rq_store.specs.Fitting.{FitsPage, AllFit, image_in, oldest}
+use Rattle.rq_store.proofs.Fitting.{oldest_all}
+use Rattle.rq_store.proofs.Cutting.{all_fit_longer, no_more_fit}
 use Rattle.rq_store.proofs.Opening.{opened_sound}
 use Rattle.rq_store.proofs.Redoing.{redone_slots}
 use Rattle.rq_store.proofs.Bounds.{fits_counted}
 use Rattle.rq_restart.specs.Noted.{Noted, noted}
-use Rattle.rq_restart.specs.Restarting.{IsLeft, BeginsNot, StaysShut, IsBegun}
+use Rattle.rq_restart.specs.Restarting.{BeginsNot, StaysShut, IsBegun}
 use Rattle.rq_restart.proofs.Noting.{noted_incarnation, noted_unfinished, noted_working, no_pairs, pairs_of, few_incarnations}
 
 -- what follows from what an Ok says
@@ -64,14 +69,15 @@ module _ (older : List Record) (xs : List Record) (same : older ≡ reverse xs) 
     ap (λ (n : Noted). n.working) noted_is ∙ noted_working z older left.whole.legal left.whole.reads ∙ l,
   )
 
-  pub sound_is : (z : Sizes) (image : ℕ → List ℕ) (images : List (List ℕ)) → IsInRange z → (h.unfinished ≡ []) × (h.working ≡ []) → (IsLeft z image (reverse xs) → FitsUpTo z (image_in images) (reverse xs) (length xs)) → IsLeft z image older → IsSound (opened z images older)
-  sound_is z image images range ended redone left =
+  pub sound_is : (z : Sizes) (image : ℕ → List ℕ) (images : List (List ℕ)) → IsPool z images → (h.unfinished ≡ []) × (h.working ≡ []) → (IsLeft z image (reverse xs) → FitsUpTo z (image_in images) (reverse xs) (length xs)) → IsLeft z image older → IsSound (opened z images older)
+  sound_is z image images pool ended redone left =
       let there : IsLeft z image (reverse xs) = subst (λ l. IsLeft z image l) same left in
       let count : length xs ≡ length older = sym (length-reverse xs) ∙ ap length (sym same) in
       let fits : FitsUpTo z (image_in images) older (length older) = subst (λ n. FitsUpTo z (image_in images) older n) count (subst (λ l. FitsUpTo z (image_in images) l (length xs)) (sym same) (redone there)) in
       let none_unfinished : unfinished older ≡ [] = sym (noted_unfinished z older left.whole.legal) ∙ ap pairs_of (ap (λ (n : Noted). n.unfinished) (sym noted_is) ∙ ended.0) in
       let none_lost : lost older ≡ [] = sym (noted_working z older left.whole.legal left.whole.reads) ∙ ap (λ (n : Noted). n.working) (sym noted_is) ∙ ended.1 in
-      opened_sound z images older range left.whole none_unfinished none_lost (redone_slots z older images left.whole.in_store fits)
+      opened_sound z images older pool.range left.whole none_unfinished none_lost (redone_slots z older images left.whole.in_store fits)
+      (record { superblock = pool.superblock; headers = pool.headers; pages = λ p low high. (fits p low high).fits })
 
   pub shut_is : (z : Sizes) (image : ℕ → List ℕ) (e : Refusal) (last before now : ℕ) → last ≡ h.incarnation → BeginsNot e (length older) last before now → StaysShut (IsLeft z image older) older e before now
   shut_is z image why.NoMemory last before now is b = b
@@ -100,7 +106,15 @@ pub left_read : (z : Sizes) (seen : ℕ → List ℕ) (images : List (List ℕ))
 left_read z seen images older are left = record {
   whole = left.whole;
   fits = record {
+    superblock = subst (λ b. IsFormatted z 0 b) (sym (are.read 0 (omega arith))) left.fits.superblock;
     headers = λ p low high. subst (λ b. IsHeaderOf z p b) (sym (are.read p high)) (left.fits.headers p low high);
     pages = λ p low high. subst (λ b. FitsPage z older p b) (sym (are.read p high)) (left.fits.pages p low high);
   };
 }
+
+-- where all that the pages might be fitted the log that was read, all that they may be fits the forced log
+pub fit_begun : {P L : Type 0} (seen : P → Images) (may_be : P → ℕ → List ℕ → Type 0) (moment : P → ℕ) (left_since : P → ℕ → Images → Type 0) (old new : P) (z : Sizes) (older : List Record) (log : Logged L)
+    → IsBegun older log → OnlyRead seen may_be moment left_since old new → AllFit (may_be old) z older → AllFit (may_be new) z (oldest log.forced log.records)
+fit_begun seen may_be moment left_since old new z older log begun read f =
+    let all : oldest log.forced log.records ≡ next_restart older ∷ older = ap (λ n. oldest n log.records) begun.forced ∙ oldest_all log.records ∙ begun.records in
+    subst (λ l. AllFit (may_be new) z l) (sym all) (all_fit_longer (may_be new) z older (next_restart older ∷ older) (1, refl) (no_more_fit (may_be old) (may_be new) z older read.crash f))

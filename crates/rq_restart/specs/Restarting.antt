@@ -5,17 +5,12 @@ use Rattle.rq_model.specs.declared.refusal.Refusal.{Refusal}
 use Rattle.rq_model.specs.declared.refusal.Refusal.TheVariants as why
 use Rattle.rq_groups.specs.Waiting.{waits}
 use Rattle.rq_page.specs.Sizes.{Sizes, sender_count}
-use Rattle.rq_store.specs.Sound.{IsWhole, incarnation_of}
+use Rattle.rq_store.specs.Sound.{incarnation_of}
 use Rattle.rq_model.specs.Content.{unfinished, lost}
 use Rattle.rq_disk.specs.Device.{Only}
 use Rattle.rq_log.specs.Logged.{Logged, WasDurable}
 use Rattle.rq_log.specs.Spelled.{spelled}
-use Rattle.rq_store.specs.Opening.{FitsLog, next_restart, waiting_in}
-
--- the pages and the log of a store that was left as a crash may leave one
-pub record IsLeft (z : Sizes) (image : ℕ → List ℕ) (log : List Record) : Type 0 where
-  pub whole : IsWhole z log
-  pub fits : FitsLog z image log
+use Rattle.rq_store.specs.Opening.{next_restart, waiting_in}
 
 -- going through a log stops where memory is wanting, or where the store was not left so
 abbrev pub StopsIn : Type 0 → Refusal → Type 0

@@ -1,9 +1,9 @@
 //! A new store.
 ghost use Rattle.std.specs.Prelude.{◌≡◌, ◌<◌, ◌+◌, ◌%◌, ◌^◌, ℕ, [], OnOk, IfErr};
-ghost use Rattle.rq_disk.specs.Device.{Holds};
+ghost use Rattle.rq_disk.specs.Device.{Holds, Only};
 ghost use Rattle.rq_page.specs.Sizes.{page_count};
 ghost use Rattle.rq_page.specs.Formatted.{IsFormatted};
-ghost use Rattle.rq_store.specs.Opening.{FitsLog};
+ghost use Rattle.rq_store.specs.Fitting.{AllFit, FitsLog};
 
 use rq_disk::{PAGE, PageDevice};
 use rq_model::refusal::Refusal;
@@ -17,6 +17,7 @@ use rq_page::page::Page;
 pub fn format<P: PageDevice>(pages: &mut P, layout: &Layout) -> Result<(), Refusal>
     ensures formatted { OnOk result ((p : ℕ) → p < page_count layout.now → IsFormatted layout.now p (P.seen pages.new p)) }
     ensures fits { OnOk result (FitsLog layout.now (P.seen pages.new) []) }
+    ensures durable { OnOk result (AllFit (P.may_be pages.new) layout.now []) }
     ensures err { IfErr result (λ e. (e ≡ Refusal.DiskWrite) × (P.faults pages.new ≡ (P.faults pages.old + 1) % 2 ^ 64)) }
 {
     let mut page = Page::from_image(&[0; PAGE]);
@@ -49,6 +50,7 @@ fn write_formatted<P: PageDevice>(
 
 fn sync<P: PageDevice>(pages: &mut P) -> Result<(), Refusal>
     ensures seen { P.seen pages.new ≡ P.seen pages.old }
+    ensures durable { OnOk result ((p : ℕ) → Only (P.seen pages.old p) (P.may_be pages.new p)) }
     ensures cause { OnOk result (P.faults pages.new ≡ P.faults pages.old) }
     ensures err { IfErr result (λ e. (e ≡ Refusal.DiskWrite) × (P.faults pages.new ≡ (P.faults pages.old + 1) % 2 ^ 64)) }
 {

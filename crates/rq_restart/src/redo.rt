@@ -1,11 +1,13 @@
 //! Going through a log: each slot write that is not on its page yet is made there.
 ghost use Rattle.std.specs.Prelude.{◌≡◌, ◌↔◌, ◌≤◌, ◌<◌, ◌+◌, ℕ, List, IsTrue, false, IfOk, IfErr, IfSome, IfNone, OnOk, length, reverse};
-ghost use Rattle.rq_page.specs.Sizes.{IsInRange, page_count};
+ghost use Rattle.rq_page.specs.Sizes.{page_count};
 ghost use Rattle.rq_page.specs.Pages.{lsn_of, slot_of};
 ghost use Rattle.rq_page.specs.Slots.{IsSlotOf};
-ghost use Rattle.rq_store.specs.Opening.{Told, told_by, IsRedone, Redoes, IsSoundTold, MayRedo, FitsUpTo, IsCounted, image_in};
+ghost use Rattle.rq_pool.specs.Pooled.{IsPool};
+ghost use Rattle.rq_store.specs.Opening.{IsRedone, Redoes, IsSoundTold, MayRedo, FitsUpTo, IsCounted, IsLeft};
+ghost use Rattle.rq_store.specs.Fitting.{Told, told_by, image_in};
 ghost use Rattle.rq_restart.specs.Noted.{noted};
-ghost use Rattle.rq_restart.specs.Restarting.{IsLeft, StopsIn};
+ghost use Rattle.rq_restart.specs.Restarting.{StopsIn};
 
 use crate::history::History;
 use rq_disk::PageDevice;
@@ -20,7 +22,7 @@ use std::alloc::Global;
 
 /// The first page whose LSN, or a number in whose slots, is greater than the number of records.
 pub(crate) fn miscounted_page<P: PageDevice + Drop>(pages: &Pages<P>, records: u64) -> Option<u32>
-    ensures range { IsInRange pages.now.sizes }
+    ensures pool { IsPool pages.now.sizes pages.now.images }
     ensures none { IfNone result ((p : ℕ) → 1 ≤ p → p < page_count pages.now.sizes → IsCounted pages.now.sizes records p (image_in pages.now.images p)) }
     ensures low { IfSome result (λ p. 1 ≤ p) }
     ensures high { IfSome result (λ p. p < page_count pages.now.sizes) }

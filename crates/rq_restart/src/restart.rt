@@ -10,8 +10,10 @@ ghost use Rattle.rq_pool.specs.Reading.{IsSuperblock, OnlyRead};
 ghost use Rattle.rq_model.specs.Content.{committed_of};
 ghost use Rattle.rq_store.specs.State.{ledger_of};
 ghost use Rattle.rq_store.specs.Sound.{IsSound};
-ghost use Rattle.rq_store.specs.Opening.{opened, image_in};
-ghost use Rattle.rq_restart.specs.Restarting.{IsLeft, IsReady, AreWaiting, BeginsNot, StaysShut, IsBegun, Reports, Stops};
+ghost use Rattle.rq_store.specs.Opening.{opened, IsLeft};
+ghost use Rattle.rq_store.specs.Fitting.{AllFit, image_in};
+ghost use Rattle.rq_engine.specs.Crash.{AreFit};
+ghost use Rattle.rq_restart.specs.Restarting.{IsReady, AreWaiting, BeginsNot, StaysShut, IsBegun, Reports, Stops};
 
 use crate::redo::{miscounted_page, repeat_history};
 use crate::waiting::count_waiting;
@@ -77,6 +79,7 @@ pub fn restart<P: PageDevice + Drop, L: LogDevice + Drop>(
     ensures reads { IfOk result (λ o. L.seen o.0.log ≡ spelled o.0.state.records) }
     ensures durable { IfOk result (λ o. Only (spelled o.0.state.records) (L.may_leave o.0.log)) }
     ensures pages { IfOk result (λ o. OnlyRead P.seen P.may_be P.moment P.left_since pages o.0.pages) }
+    ensures fit { IfOk result (λ o. (older : List Record) → AreSpelled older → L.seen log ≡ spelled older → AllFit (P.may_be pages) o.0.state.sizes older → AreFit P.may_be o.0) }
     ensures cause { IfOk result (λ o. (P.faults o.0.pages ≡ P.faults pages) × (L.faults o.0.log ≡ L.faults log)) }
     ensures err { IfErr result (λ stopped. (z : Sizes) → IsSuperblock z (P.seen pages 0) → (older : List Record) → AreSpelled older → L.seen log ≡ spelled older → Stops (IsLeft z (P.seen pages) older) older stopped.refusal (P.faults pages) (P.faults stopped.pages) (L.faults log) (L.faults stopped.log)) }
 {

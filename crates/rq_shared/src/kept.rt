@@ -5,7 +5,8 @@ ghost use Rattle.rq_store.specs.Steps.{Steps};
 ghost use Rattle.rq_content.specs.Read.{group_of};
 ghost use Rattle.rq_log.specs.Crash.{LeavesOnly};
 ghost use Rattle.rq_log.specs.Spelled.{IsBeginning};
-ghost use Rattle.rq_engine.specs.Says.{call_of, gave, IsCaused, IsContent, LogSays, PagesSay};
+ghost use Rattle.rq_engine.specs.Says.{call_of, gave, IsCaused, IsContent, LogSays, PagesSay, WritesSay};
+ghost use Rattle.rq_engine.specs.Crash.{AreFit, LeftCut};
 
 use rq_content::GroupContent;
 use rq_disk::{LogDevice, PageDevice};
@@ -121,9 +122,12 @@ impl<P: PageDevice + Drop, L: LogDevice + Drop> Kept<P, L> {
         ensures cause { result.reply ≢ Reply.Refused Refusal.NoMemory → IsSound self.old.engine.state → IsCaused self.old.engine.state event result.reply }
         ensures no_change { result.reply ≡ Reply.Refused Refusal.NoMemory → self.new ≡ self.old }
         ensures base { self.new.base ≡ self.old.base }
+        ensures writes { result.reply ≢ Reply.Refused Refusal.NoMemory → WritesSay self.old.engine event result.reply }
         ensures pages { PagesSay P.seen P.may_be P.moment P.left_since P.faults self.old.engine self.new.engine event result.reply }
         ensures log { result.reply ≢ Reply.Refused Refusal.NoMemory → LogSays L.faults self.old.engine self.new.engine event result.reply }
         ensures any_moment { LeavesOnly L.moment L.left_since self.old.engine.log self.new.engine.log (IsBeginning self.old.engine.state.records self.old.engine.state.forced) }
+        ensures fit { IsSound self.old.engine.state → AreFit P.may_be self.old.engine → AreFit P.may_be self.new.engine }
+        ensures crash { IsSound self.old.engine.state → AreFit P.may_be self.old.engine → LeftCut P.moment P.left_since L.moment L.left_since self.old.engine self.new.engine }
     {
         self.engine.keeps();
         let Ok(noted_event) = room_for(&mut self.audit, &event) else {

@@ -107,6 +107,7 @@ module _ (s : State) (k : IsSound s) where
     some = k.some;
     strangers = λ q e m. k.strangers q e (omega (arith, m));
     pages = k.pages;
+    fits = k.fits;
     rows = one_row;
     distinct = (not_there, k.distinct);
     others = λ q e. k.others q (other_none q e);
@@ -128,4 +129,6 @@ module _ (s : State) (k : IsSound s) where
     legal = ((ap (λ b. not (not b)) running, (room, tt)), refl, refl);
     after = after_is;
     sound = begin_sound;
+    goes_on = (0, refl);
+    stays_forced = omega arith;
   }

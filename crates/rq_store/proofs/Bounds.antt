@@ -25,9 +25,9 @@ use Rattle.rq_level.specs.Items.{items, item_of, layout_of, formatted_at}
 use Rattle.rq_level.specs.InStore.{InStore, InStoreOne}
 use Rattle.rq_level.proofs.Overlay.{put_at, put_off}
 use Rattle.rq_level.proofs.Stands.{page_of_cells, page_of_directory}
-use Rattle.rq_store.specs.Sound.{left_by}
+use Rattle.rq_store.specs.Fitting.{left_by, oldest, told_by, FitsPage}
 use Rattle.rq_store.specs.Sound.{BeforesAreSlots}
-use Rattle.rq_store.specs.Opening.{oldest, told_by, FitsPage, FitsUpTo, IsBeforeIn, IsSoundTold, IsSoundWrite, MayRedo, IsCounted}
+use Rattle.rq_store.specs.Opening.{FitsUpTo, IsBeforeIn, IsSoundTold, IsSoundWrite, MayRedo, IsCounted}
 use Rattle.rq_store.proofs.Redoing.{oldest_legal, oldest_store, before_is}
 
 -- the sender of the slot, where it is one's directory slot, sent no more than this

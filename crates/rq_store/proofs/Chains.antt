@@ -27,7 +27,8 @@ use Rattle.rq_level.proofs.Views.{views}
 use Rattle.rq_txn.specs.declared.Finished.{Finished}
 use Rattle.rq_txn.specs.Rows.{Row, found_row, AreDistinct, any_under}
 use Rattle.rq_store.specs.State.{State, ledger_of, open_of, open_ones_of, op_done}
-use Rattle.rq_store.specs.Sound.{IsSound, Moves, AllMove, is_under, left_by}
+use Rattle.rq_store.specs.Sound.{IsSound, Moves, AllMove, is_under}
+use Rattle.rq_store.specs.Fitting.{left_by}
 use Rattle.rq_store.proofs.RowLists.{found_in, none_under}
 use Rattle.rq_store.proofs.Others.{none_of}
 use Rattle.rq_store.proofs.Telling.{told_placed}

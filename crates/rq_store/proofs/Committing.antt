@@ -32,7 +32,9 @@ use Rattle.rq_groups.specs.Ends.{HeldEnds}
 use Rattle.rq_groups.specs.Waiting.{waits}
 use Rattle.rq_store.specs.State.{State, ledger_of, open_of, open_ones_of, job_under, op_done}
 use Rattle.rq_store.specs.Sound.{IsSound, IsWhole, IsRow, IsGoing, IsGoingOf, IsSettled, is_under, apart, appending, takes_one, takes_in, sends_in, HasWaiting, IsCovered}
+use Rattle.rq_store.specs.Fitting.{image_in}
 use Rattle.rq_store.specs.Steps.{Steps}
+use Rattle.rq_store.proofs.Fitting.{fits_more}
 use Rattle.rq_store.proofs.RowLists.{found_in, found_gone, distinct_gone, gone, not_txn}
 use Rattle.rq_store.proofs.Opens.{found_open, open_found, opens_without}
 use Rattle.rq_store.proofs.Others.{row_over, opens_as_rows, kept_without}
@@ -241,6 +243,7 @@ module _ (s : State) (k : IsSound s) (t : Txn) (r : Row) (cells : ℕ) (ws : Lis
     some = k.some;
     strangers = λ q e m. or_from _ _ (not_txn t q (λ f. let c : r.txn.count ≤ s.begins = row.counted in let v : r.txn.count ≡ q.count = ap (λ (y : Txn). y.count) (place.1 ∙ f) in omega (arith, c, v, m))) (k.strangers q e m);
     pages = k.pages;
+    fits = fits_more z x log (image_in s.images) k.fits;
     rows = λ q i. let g = gone t s.rows q i in other_row q g.0 g.1;
     distinct = distinct_gone t s.rows k.distinct;
     others = every_settled;
@@ -265,4 +268,6 @@ module _ (s : State) (k : IsSound s) (t : Txn) (r : Row) (cells : ℕ) (ws : Lis
     );
     after = after_is;
     sound = commit_sound;
+    goes_on = (1, refl);
+    stays_forced = omega arith;
   }

@@ -38,8 +38,10 @@ use Rattle.rq_txn.specs.Rows.{Row, Under, found_row, change_row, row_finished}
 use Rattle.rq_groups.specs.Ends.{HeldEnds, has_held}
 use Rattle.rq_groups.specs.Waiting.{waits}
 use Rattle.rq_store.specs.State.{State, ledger_of, open_of, open_ones_of, job_of, job_under, left_under, op_done}
-use Rattle.rq_store.specs.Sound.{IsSound, IsWhole, IsRow, IsGoing, IsSettled, HoldsFor, AllHeld, AllMove, Moves, HasWaiting, IsCovered, placed, placed_one, is_under, left_by, apart, appending, appends_of, takes_one, takes_of, takes_in}
+use Rattle.rq_store.specs.Sound.{IsSound, IsWhole, IsRow, IsGoing, IsSettled, HoldsFor, AllHeld, AllMove, Moves, HasWaiting, IsCovered, placed, placed_one, is_under, apart, appending, appends_of, takes_one, takes_of, takes_in}
+use Rattle.rq_store.specs.Fitting.{left_by, image_in}
 use Rattle.rq_store.specs.Steps.{Steps, op_end, gave_done, took}
+use Rattle.rq_store.proofs.Fitting.{fits_more}
 use Rattle.rq_store.proofs.RowLists.{found_in, unique, found_other, found_still, changed, distinct_change, not_txn}
 use Rattle.rq_store.proofs.Opens.{found_open, open_found, opens_change}
 use Rattle.rq_store.proofs.Working.{going_at, alone_going, not_found}
@@ -364,6 +366,7 @@ module _ (s : State) (k : IsSound s) (t : Txn) (r : Row) (u : Under) (ws : List 
     some = k.some;
     strangers = λ q e m. or_from _ _ (not_txn t q (λ f. let c : r.txn.count ≤ s.begins = row.counted in let v : r.txn.count ≡ q.count = ap (λ (y : Txn). y.count) (place.1 ∙ f) in omega (arith, c, v, m))) (k.strangers q e m);
     pages = k.pages;
+    fits = fits_more z x log (image_in s.images) k.fits;
     rows = every_row;
     distinct = distinct_change t (row_finished f) s.rows keeps k.distinct;
     others = λ q e. let was = found_other t q (row_finished f) s.rows keeps e in settled_other q (not_found t s.rows r at_row q was) (k.others q was);
@@ -391,4 +394,6 @@ module _ (s : State) (k : IsSound s) (t : Txn) (r : Row) (u : Under) (ws : List 
     );
     after = after_is;
     sound = finish_sound;
+    goes_on = (1, refl);
+    stays_forced = omega arith;
   }

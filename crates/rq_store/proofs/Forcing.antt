@@ -56,6 +56,7 @@ force_steps s k running = record {
     some = k.some;
     strangers = k.strangers;
     pages = k.pages;
+    fits = k.fits;
     rows = k.rows;
     distinct = k.distinct;
     others = k.others;
@@ -69,17 +70,19 @@ force_steps s k running = record {
     waiting = k.waiting;
     covered = k.covered;
   };
+  goes_on = (0, refl);
+  stays_forced = k.forced;
 }
 
 pub hand_over_steps : (s : State) → IsSound s → s.failed ≡ false → Steps s Hand_over Gave_nothing s
-hand_over_steps s k running = record { entry = Handed_over; says = refl; legal = (ap (λ b. not (not b)) running, tt); after = refl; sound = k }
+hand_over_steps s k running = record { entry = Handed_over; says = refl; legal = (ap (λ b. not (not b)) running, tt); after = refl; sound = k; goes_on = (0, refl); stays_forced = omega arith }
 
 pub acknowledged_steps : (s : State) → IsSound s → (t : Txn) (lsn : ℕ) → s.failed ≡ false → Steps s (Acknowledge t lsn) (Gave_receipt (nat_eq t.incarnation s.incarnation && not (nat_lt s.forced lsn))) s
-acknowledged_steps s k t lsn running = record { entry = Acknowledged t lsn (nat_eq t.incarnation s.incarnation && not (nat_lt s.forced lsn)); says = refl; legal = ((ap (λ b. not (not b)) running, tt), refl); after = refl; sound = k }
+acknowledged_steps s k t lsn running = record { entry = Acknowledged t lsn (nat_eq t.incarnation s.incarnation && not (nat_lt s.forced lsn)); says = refl; legal = ((ap (λ b. not (not b)) running, tt), refl); after = refl; sound = k; goes_on = (0, refl); stays_forced = omega arith }
 
 -- a refusal that may come and changes nothing
 pub refused_steps : (s : State) → IsSound s → (c : Call) (r : Refusal) → LegalRefusal (size_of s.sizes) (ledger_of s) c r → after (Refused c r) (ledger_of s) ≡ ledger_of s → Steps s c (Gave_refusal r) s
-refused_steps s k c r legal same = record { entry = Refused c r; says = refl; legal = legal; after = sym same; sound = k }
+refused_steps s k c r legal same = record { entry = Refused c r; says = refl; legal = legal; after = sym same; sound = k; goes_on = (0, refl); stays_forced = omega arith }
 
 -- a device that fails stops the store
 pub failed_steps : (s : State) → IsSound s → (c : Call) → Steps s c (Gave_refusal DiskWrite) (record s { failed = true })
@@ -95,6 +98,7 @@ failed_steps s k c = record {
     some = k.some;
     strangers = k.strangers;
     pages = k.pages;
+    fits = k.fits;
     rows = k.rows;
     distinct = k.distinct;
     others = k.others;
@@ -108,4 +112,6 @@ failed_steps s k c = record {
     waiting = k.waiting;
     covered = k.covered;
   };
+  goes_on = (0, refl);
+  stays_forced = omega arith;
 }

@@ -15,7 +15,7 @@ use Rattle.rq_page.specs.Formatted.{IsFormatted, IsHeaderFor, formatted_content,
 use Rattle.rq_page.proofs.FormattedSlots.{formatted_holds}
 use Rattle.rq_page.proofs.PageParts.{lsn_of_header}
 use Rattle.rq_level.specs.Items.{formatted_at}
-use Rattle.rq_store.specs.Opening.{oldest, FitsPage, FitsLog, IsStamp, HoldsPage}
+use Rattle.rq_store.specs.Fitting.{oldest, FitsPage, FitsLog, IsStamp, HoldsPage}
 
 header_lsn : (page kind : ℕ) → big_number 8 (header_bytes 0 page kind) ≡ 0
 unfolding header_bytes header_front
@@ -57,6 +57,7 @@ formatted_page z page image range low high h =
 -- so do the pages of a formatted store
 pub formatted_fits : (z : Sizes) (image : ℕ → List ℕ) → IsInRange z → ((p : ℕ) → p < page_count z → IsFormatted z p (image p)) → FitsLog z image []
 formatted_fits z image range h = record {
+  superblock = h 0 (omega arith);
   headers = λ p low high. let f = h p high in subst (λ n. IsHeaderFor (kind_of z p) p n (image p)) (sym (no_lsn (kind_of z p) p (image p) f.header)) f.header;
   pages = λ p low high. formatted_page z p (image p) range low high (h p high);
 }

@@ -1,3 +1,4 @@
+pub mod Fitting
 pub mod RowLists
 pub mod Opens
 pub mod Others
@@ -24,3 +25,4 @@ pub mod Bounds
 pub mod Redoing
 pub mod Opening
 pub mod Formatting
+pub mod Cutting

@@ -90,6 +90,8 @@ module _ (s : State) (k : IsSound s) (t : Txn) (r : Row) (at_row : found_row t s
     );
     after = refl;
     sound = k;
+    goes_on = (0, refl);
+    stays_forced = omega arith;
   }
 
   pub none_from_steps : (g : ℕ) → g < sender_count s.sizes → is_free_for t g s.ends.receiving ≡ true → waits s.waiting g ≡ 0 → Passes (size_of s.sizes) (ledger_of s) (Start_receive_from t g) → Steps s (Start_receive_from t g) Gave_none s
@@ -99,4 +101,6 @@ module _ (s : State) (k : IsSound s) (t : Txn) (r : Row) (at_row : found_row t s
     legal = (passes, subst (λ (y : Option Open). OnFound y (λ (o : Open). holds_for (ledger_of s) o g ≡ false)) (sym at_open) (holds_free g m free ∙ no_more (waits s.waiting g) none));
     after = refl;
     sound = k;
+    goes_on = (0, refl);
+    stays_forced = omega arith;
   }

@@ -37,8 +37,10 @@ use Rattle.rq_level.proofs.Strangers.{has_end_same}
 use Rattle.rq_level.proofs.Settled.{settled_counts, rest_shown}
 use Rattle.rq_groups.specs.Waiting.{waits}
 use Rattle.rq_store.specs.State.{ledger_of}
-use Rattle.rq_store.specs.Sound.{IsSound, IsWhole, IsSettled, InOrder, IsNext, incarnation_of, incarnation_one, left_by}
+use Rattle.rq_store.specs.Sound.{IsSound, IsWhole, IsSettled, InOrder, IsNext, incarnation_of, incarnation_one}
+use Rattle.rq_store.specs.Fitting.{left_by, image_in, FitsLog}
 use Rattle.rq_store.specs.Opening.{next_restart, opened, messages_told, waiting_in}
+use Rattle.rq_store.proofs.Fitting.{fits_more}
 use Rattle.rq_store.proofs.Forcing.{all_within}
 use Rattle.rq_store.proofs.Holders.{map_join}
 
@@ -363,14 +365,15 @@ module _ (z : Sizes) (images : List (List ℕ)) (log : List Record) (range : IsI
       omega (arith, a, b, c, e, f, h)
 
   -- the open store goes back to it
-  pub opened_sound : IsSound (opened z images log)
-  opened_sound = record {
+  pub opened_sound : FitsLog z (image_in images) log → IsSound (opened z images log)
+  opened_sound fits = record {
     range = range;
     log = restart_whole;
     incarnation = refl;
     some = omega arith;
     strangers = λ t e m. later_stranger t log w.order (omega (arith, e));
     pages = pages;
+    fits = fits_more z (next_restart log) log (image_in images) fits;
     rows = λ r i. absurd i;
     distinct = tt;
     others = λ t e. settled_here t;

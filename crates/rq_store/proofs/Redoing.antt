@@ -1,7 +1,6 @@
 -- Going through a log: pages that fit it become those that the whole log leaves.
 use Rattle.std.proofs.Common.{◌≡◌, ◌≢◌, ℕ, zero, suc, ◌+◌, ◌-◌, ◌/◌, ◌%◌, ◌<◌, ◌≤◌, List, [], ◌∷◌, length, drop, refl, sym, ◌∙◌, ap, subst, Option, Some, None, inl, inr, nat_lt, arith}
 use Rattle.std.proofs.lemmas.Bool.{cases_Bool, cases_eq, cases_lt, cond-true, cond-false, ltb-true, lt-ltb}
-use Rattle.std.proofs.lemmas.List.{drop_all}
 use Rattle.rq_model.specs.declared.txn.Txn.{Txn}
 use Rattle.rq_model.specs.declared.record.Record.{Record}
 use Rattle.rq_model.specs.declared.record.Record.TheVariants as records
@@ -20,21 +19,11 @@ use Rattle.rq_level.specs.InStore.{InStore, InStoreOne, Stands, AllStand}
 use Rattle.rq_level.specs.Stored.{IsStoreSlot, slots_in, slot_at}
 use Rattle.rq_level.proofs.Overlay.{put_at, put_off}
 use Rattle.rq_level.proofs.Stands.{slots_stand, page_of_cells, page_of_directory}
-use Rattle.rq_store.specs.Sound.{left_by}
+use Rattle.rq_store.specs.Fitting.{left_by, oldest, Told, told_by, IsOfPage, IsStamp, HoldsPage, FitsPage, FitsLog, image_in}
 use Rattle.rq_store.specs.Sound.{BeforesAreSlots}
-use Rattle.rq_store.specs.Opening.{oldest, Told, told_by, IsOfPage, IsStamp, HoldsPage, FitsPage, FitsLog, FitsPageUpTo, FitsUpTo, Redoes, image_in, next_restart}
+use Rattle.rq_store.specs.Opening.{FitsPageUpTo, FitsUpTo, Redoes, next_restart}
+use Rattle.rq_store.proofs.Fitting.{oldest_all, page_fits_more}
 use Rattle.rq_store.proofs.Stepping.{address_is}
-
--- the first none, and the first all
-pub oldest_none : (log : List Record) → oldest 0 log ≡ []
-oldest_none log = drop_all (length log - 0) log (omega arith)
-
-pub oldest_all : (log : List Record) → oldest (length log) log ≡ log
-oldest_all log = let e : length log - length log ≡ 0 = omega arith in ap (λ n. drop n log) e
-
--- a newer record is not among the first ones
-pub oldest_older : (r : Record) (log : List Record) (n : ℕ) → n ≤ length log → oldest n (r ∷ log) ≡ oldest n log
-oldest_older r log n h = let e : length (r ∷ log) - n ≡ suc (length log - n) = omega arith in ap (λ k. drop k (r ∷ log)) e
 
 -- what is so of each end of a log is so of the first records
 pub oldest_legal : (z : Sizes) (log : List Record) (n : ℕ) → Legal (layout_of z) (items z log) → Legal (layout_of z) (items z (oldest n log))
@@ -242,12 +231,4 @@ before_is z log k t m page slot before after image legal store befores grows f l
 
 -- pages that went through the whole log fit it, and the log of the store that is opened over them
 pub redo_fits : (z : Sizes) (log : List Record) (image : ℕ → List ℕ) → FitsUpTo z image log (length log) → (p : ℕ) → 1 ≤ p → p < page_count z → FitsPage z (next_restart log ∷ log) p (image p)
-redo_fits z log image h p low high =
-    let f : FitsPage z log p (image p) = (h p low high).fits in
-    let older : oldest (lsn_of (image p)) (next_restart log ∷ log) ≡ oldest (lsn_of (image p)) log = oldest_older (next_restart log) log (lsn_of (image p)) f.within in
-    record {
-      slots = f.slots;
-      within = (let w = f.within in omega (arith, w));
-      stamped = subst (λ l. IsStamp p l) (sym older) f.stamped;
-      held = subst (λ l. HoldsPage z p (image p) l) (sym older) f.held;
-    }
+redo_fits z log image h p low high = page_fits_more z (next_restart log) log p (image p) (h p low high).fits

@@ -29,7 +29,8 @@ use Rattle.rq_txn.specs.Rows.{Row, Under, found_row, change_row, row_started, an
 use Rattle.rq_groups.specs.Ends.{HeldEnds, held_by, with_held, is_free_for}
 use Rattle.rq_groups.proofs.Holders.{held_with_same, held_with_other}
 use Rattle.rq_store.specs.State.{State, ledger_of, size_of, open_of, open_ones_of, job_of, left_under}
-use Rattle.rq_store.specs.Sound.{IsSound, HoldsFor, Moves, HasWaiting, left_by, appends_of}
+use Rattle.rq_store.specs.Sound.{IsSound, HoldsFor, Moves, HasWaiting, appends_of}
+use Rattle.rq_store.specs.Fitting.{left_by}
 use Rattle.rq_store.specs.Plans.{IsSendPlan, Stands_at}
 use Rattle.rq_store.specs.Steps.{Steps}
 use Rattle.rq_store.proofs.RowLists.{found_in, not_txn}
@@ -172,4 +173,6 @@ module _ (s : State) (k : IsSound s) (t : Txn) (r : Row) (u : Under) (e tag : �
     legal = (passes, subst (λ (y : Option Open). OnFound y (λ (p : Open). (r.number + 1 ≡ p.number + 1) × Unit {0})) (sym at_open) (refl, tt));
     after = after_is;
     sound = start_sound s k t r u ends (s.cells_in_use + 1) may has counts (omega (arith, room));
+    goes_on = (0, refl);
+    stays_forced = omega arith;
   }

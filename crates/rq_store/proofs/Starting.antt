@@ -32,7 +32,8 @@ use Rattle.rq_groups.specs.declared.Held.{Held}
 use Rattle.rq_groups.specs.Ends.{HeldEnds, has_held, with_held, is_free_for}
 use Rattle.rq_groups.specs.Waiting.{waits}
 use Rattle.rq_store.specs.State.{State, ledger_of, open_of, open_ones_of, op_done, job_of, job_under}
-use Rattle.rq_store.specs.Sound.{IsSound, IsRow, IsGoing, AreEnds, HoldsFor, AllHeld, Moves, HasWaiting, IsCovered, is_under, left_by, everywhere, apart, appending, appends_of, takes_one, takes_in}
+use Rattle.rq_store.specs.Sound.{IsSound, IsRow, IsGoing, AreEnds, HoldsFor, AllHeld, Moves, HasWaiting, IsCovered, is_under, everywhere, apart, appending, appends_of, takes_one, takes_in}
+use Rattle.rq_store.specs.Fitting.{left_by}
 use Rattle.rq_store.proofs.RowLists.{found_in, found_other, found_still, changed, distinct_change, none_under}
 use Rattle.rq_store.proofs.Opens.{opens_change}
 use Rattle.rq_store.proofs.Others.{row_over, not_going, none_of, rows_sum, rows_one, opens_as_rows}
@@ -219,6 +220,7 @@ module _ (s : State) (k : IsSound s) (t : Txn) (r : Row) (u : Under) (ends : Hel
     some = k.some;
     strangers = k.strangers;
     pages = k.pages;
+    fits = k.fits;
     rows = every_row;
     distinct = distinct_change t (row_started u) s.rows keeps k.distinct;
     others = λ p f. k.others p (found_other t p (row_started u) s.rows keeps f);

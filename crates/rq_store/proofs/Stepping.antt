@@ -34,8 +34,10 @@ use Rattle.rq_txn.specs.Rows.{Row, Under, found_row, change_row, row_stepped, un
 use Rattle.rq_groups.specs.Ends.{HeldEnds}
 use Rattle.rq_groups.specs.Waiting.{waits}
 use Rattle.rq_store.specs.State.{State, ledger_of, open_of, open_ones_of, job_under, left_under}
-use Rattle.rq_store.specs.Sound.{IsSound, IsWhole, IsRow, IsGoing, IsGoingOf, IsSettled, is_under, left_by, everywhere, apart, appending, takes_one, takes_in, IsCovered}
-use Rattle.rq_store.specs.Steps.{Steps, page_op}
+use Rattle.rq_store.specs.Sound.{IsSound, IsWhole, IsRow, IsGoing, IsGoingOf, IsSettled, is_under, everywhere, apart, appending, takes_one, takes_in, IsCovered}
+use Rattle.rq_store.specs.Fitting.{left_by, image_in, FitsLog}
+use Rattle.rq_store.specs.Steps.{Steps, IsPutIn, page_op}
+use Rattle.rq_store.proofs.Fitting.{fits_written}
 use Rattle.rq_store.proofs.RowLists.{found_in, found_other, found_still, changed, distinct_change, not_txn}
 use Rattle.rq_store.proofs.Opens.{found_open, open_found, opens_change}
 use Rattle.rq_store.proofs.Working.{going_at, alone_going, not_found}
@@ -105,7 +107,7 @@ pub one_longer : {X : Type 0} (x : X) (xs : List X) → length (x ∷ xs) ≡ le
 one_longer x xs = omega arith
 
 module _ (s : State) (k : IsSound s) (t : Txn) (r : Row) (u : Under) (w : SlotWrite) (images : List (List ℕ)) (at_row : found_row t s.rows ≡ Some r) (under : r.under ≡ Some u) (next : slice_get u.writes u.made ≡ Some w)
-    (image : (a : ℕ) → slots_in s.sizes images a ≡ put (slots_in s.sizes s.images) w.at (held_in s.sizes (w.at / 16) w.after) a) (old_slot : IsSlotOf s.sizes (w.at / 16) (w.at % 16) w.before) (slot : IsSlotOf s.sizes (w.at / 16) (w.at % 16) w.after) (more : u.made < length u.writes) where
+    (image : (a : ℕ) → slots_in s.sizes images a ≡ put (slots_in s.sizes s.images) w.at (held_in s.sizes (w.at / 16) w.after) a) (put_in : IsPutIn s w images) (old_slot : IsSlotOf s.sizes (w.at / 16) (w.at % 16) w.before) (slot : IsSlotOf s.sizes (w.at / 16) (w.at % 16) w.after) (more : u.made < length u.writes) where
   abbrev z : Sizes
   z = s.sizes
 
@@ -276,6 +278,12 @@ module _ (s : State) (k : IsSound s) (t : Txn) (r : Row) (u : Under) (w : SlotWr
   at_open : found t (open_ones_of s.ends s.rows) ≡ Some (open_of s.ends r)
   at_open = found_open s.ends t s.rows ∙ ap (open_found s.ends) at_row
 
+  slots_now : (a : ℕ) → slots_in z images a ≡ (left_by z (x ∷ log)).slots a
+  slots_now a = image a ∙ put_agree (slots_in z s.images) (left_by z log).slots w.at (held_in z (w.at / 16) w.after) a (k.pages a) ∙ ap (λ b. put (left_by z log).slots b (held_in z (w.at / 16) w.after) a) (sym (address_is w.at))
+
+  fits_now : FitsLog z (image_in images) (x ∷ log)
+  fits_now = fits_written z log x (record { page = w.at / 16; slot = w.at % 16; after = w.after }) refl s.images images k.fits slot put_in.page put_in.others put_in.superblock put_in.headers slots_now
+
   pub step_sound : IsSound new
   step_sound = record {
     range = k.range;
@@ -283,7 +291,8 @@ module _ (s : State) (k : IsSound s) (t : Txn) (r : Row) (u : Under) (w : SlotWr
     incarnation = k.incarnation;
     some = k.some;
     strangers = λ q e m. or_from _ _ (not_txn t q (λ f. let c : r.txn.count ≤ s.begins = row.counted in let v : r.txn.count ≡ q.count = ap (λ (y : Txn). y.count) (place.1 ∙ f) in omega (arith, c, v, m))) (k.strangers q e m);
-    pages = λ a. image a ∙ put_agree (slots_in z s.images) (left_by z log).slots w.at (held_in z (w.at / 16) w.after) a (k.pages a) ∙ ap (λ b. put (left_by z log).slots b (held_in z (w.at / 16) w.after) a) (sym (address_is w.at));
+    pages = slots_now;
+    fits = fits_now;
     rows = every_row;
     distinct = distinct_change t row_stepped s.rows keeps k.distinct;
     others = λ q e. let was = found_other t q row_stepped s.rows keeps e in settled_other q (not_found t s.rows r at_row q was) (k.others q was);
@@ -308,4 +317,6 @@ module _ (s : State) (k : IsSound s) (t : Txn) (r : Row) (u : Under) (w : SlotWr
     legal = ((ap (λ b. not (not b)) running, (ap not (ap (has_under u.number) at_open ∙ and_from _ _ (ap (λ (y : Option Under). is_some (job_under y)) under) (eq-eqb r.number u.number going.1)), tt)), subst (λ (y : Option Open). OnFound y (λ (q : Open). 0 < q.left)) (sym at_open) (subst (λ (y : Option Under). 0 < left_under y) (sym under) (omega (arith, more))), omega arith);
     after = after_is;
     sound = step_sound;
+    goes_on = (1, refl);
+    stays_forced = omega arith;
   }

@@ -30,7 +30,8 @@ use Rattle.rq_groups.specs.Ends.{HeldEnds, has_held, held_by, with_held, is_free
 use Rattle.rq_groups.specs.Waiting.{waits}
 use Rattle.rq_groups.proofs.Holders.{held_with_same, held_with_other}
 use Rattle.rq_store.specs.State.{State, ledger_of, size_of, open_of, open_ones_of, job_of, left_under}
-use Rattle.rq_store.specs.Sound.{IsSound, HoldsFor, Moves, HasWaiting, left_by, appends_of}
+use Rattle.rq_store.specs.Sound.{IsSound, HoldsFor, Moves, HasWaiting, appends_of}
+use Rattle.rq_store.specs.Fitting.{left_by}
 use Rattle.rq_store.specs.Plans.{IsTakePlan, Stands_at}
 use Rattle.rq_store.specs.Steps.{Steps}
 use Rattle.rq_store.proofs.RowLists.{found_in, not_txn}
@@ -178,6 +179,8 @@ module _ (s : State) (k : IsSound s) (t : Txn) (r : Row) (u : Under) (e : ℕ) (
     legal = legal passes;
     after = after_is;
     sound = start_sound s k t r u ends s.cells_in_use may has counts k.bound;
+    goes_on = (0, refl);
+    stays_forced = omega arith;
   }
 
   pub take_from_steps : Passes (size_of z) (ledger_of s) (Start_receive_from t e) → Steps s (Start_receive_from t e) (Gave_sub (r.number + 1)) new
@@ -187,4 +190,6 @@ module _ (s : State) (k : IsSound s) (t : Txn) (r : Row) (u : Under) (e : ℕ) (
     legal = legal passes;
     after = after_is;
     sound = start_sound s k t r u ends s.cells_in_use may has counts k.bound;
+    goes_on = (0, refl);
+    stays_forced = omega arith;
   }

@@ -1,4 +1,5 @@
 pub mod State
+pub mod Fitting
 pub mod Sound
 pub mod Steps
 pub mod Plans

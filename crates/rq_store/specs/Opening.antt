@@ -1,57 +1,22 @@
 -- Opening a store: pages that fit a log, what going through the log makes of them, and the store that is open then.
-use Rattle.std.specs.Prelude.{◌≡◌, ◌≢◌, ℕ, ◌+◌, ◌-◌, ◌<◌, ◌≤◌, false, List, [], ◌∷◌, length, map, drop, slice_index_or, Option, Some, None}
+use Rattle.std.specs.Prelude.{◌≡◌, ◌≢◌, ℕ, ◌+◌, ◌-◌, ◌<◌, ◌≤◌, false, List, [], ◌∷◌, length, map, Option, Some, None}
 use Rattle.rq_model.specs.declared.record.Record.{Record}
-use Rattle.rq_model.specs.declared.record.Record.TheVariants.{PageOp, PageUndo, Restart}
+use Rattle.rq_model.specs.declared.record.Record.TheVariants.{PageOp, Restart}
 use Rattle.rq_model.specs.Legal.{below}
-use Rattle.rq_page.specs.Sizes.{Sizes, page_count, address, directory_at, sender_count}
+use Rattle.rq_page.specs.Sizes.{Sizes, page_count, directory_at, sender_count}
 use Rattle.rq_page.specs.Pages.{lsn_of, slot_of, IsWritten}
-use Rattle.rq_page.specs.Slots.{Slot, held_in, IsSlotOf}
+use Rattle.rq_page.specs.Slots.{Slot, IsSlotOf}
 use Rattle.rq_page.specs.Slots.Slot.{Free, Used, Sender}
-use Rattle.rq_page.specs.Formatted.{IsHeaderOf, count_in}
+use Rattle.rq_page.specs.Formatted.{count_in}
 use Rattle.rq_level.specs.Stored.{slots_in, count_used}
 use Rattle.rq_store.specs.State.{State}
-use Rattle.rq_store.specs.Sound.{incarnation_of, left_by}
+use Rattle.rq_store.specs.Sound.{IsWhole, incarnation_of}
+use Rattle.rq_store.specs.Fitting.{Told, told_by, oldest, HoldsPage, FitsPage, FitsLog}
 
--- the first n records of a log
-abbrev pub oldest : ℕ → List Record → List Record
-oldest n log = drop (length log - n) log
-
--- a slot write that a record tells: its page and slot, and what it leaves there
-pub record Told : Type 0 where
-  pub page : ℕ
-  pub slot : ℕ
-  pub after : List ℕ
-
-abbrev pub told_by : Record → Option Told
-told_by (PageOp t n page slot before after) = Some (record { page = page; slot = slot; after = after })
-told_by (PageUndo t n undone page slot after) = Some (record { page = page; slot = slot; after = after })
-told_by _ = None
-
--- the write is of this page
-abbrev pub IsOfPage : ℕ → Option Told → Type 0
-IsOfPage p None = ⊥
-IsOfPage p (Some w) = w.page ≡ p
-
--- the newest of these records, where there is one, writes the page
-abbrev pub IsStamp : ℕ → List Record → Type 0
-IsStamp p [] = Unit {0}
-IsStamp p (r ∷ log) = IsOfPage p (told_by r)
-
--- each slot of the page holds what the log leaves there
-abbrev pub HoldsPage : Sizes → ℕ → List ℕ → List Record → Type 0
-HoldsPage z p image log = (n : ℕ) → 1 ≤ n → n ≤ 15 → held_in z p (slot_of n image) ≡ (left_by z log).slots (address p n)
-
--- A page of the store, as the first records of the log leave it: as many of them as its LSN says, and the last of these wrote it.
-pub record FitsPage (z : Sizes) (log : List Record) (p : ℕ) (image : List ℕ) : Type 0 where
-  pub slots : (n : ℕ) → 1 ≤ n → n ≤ 15 → IsSlotOf z p n (slot_of n image)
-  pub within : lsn_of image ≤ length log
-  pub stamped : IsStamp p (oldest (lsn_of image) log)
-  pub held : HoldsPage z p image (oldest (lsn_of image) log)
-
--- the directory and cell pages fit the log
-pub record FitsLog (z : Sizes) (image : ℕ → List ℕ) (log : List Record) : Type 0 where
-  pub headers : (p : ℕ) → 1 ≤ p → p < page_count z → IsHeaderOf z p (image p)
-  pub pages : (p : ℕ) → 1 ≤ p → p < page_count z → FitsPage z log p (image p)
+-- the pages and the log of a store that was left as a crash may leave one
+pub record IsLeft (z : Sizes) (image : ℕ → List ℕ) (log : List Record) : Type 0 where
+  pub whole : IsWhole z log
+  pub fits : FitsLog z image log
 
 -- the page once the first k records are gone through: it fits, and where it was older it is as these leave it
 pub record FitsPageUpTo (z : Sizes) (log : List Record) (k p : ℕ) (image : List ℕ) : Type 0 where
@@ -70,9 +35,6 @@ pub record IsRedone (w : Told) (lsn : ℕ) (old new : ℕ → List ℕ) : Type 0
 abbrev pub Redoes : Option Told → ℕ → (ℕ → List ℕ) → (ℕ → List ℕ) → Type 0
 Redoes None lsn old new = (p : ℕ) → new p ≡ old p
 Redoes (Some w) lsn old new = IsRedone w lsn old new
-
-abbrev pub image_in : List (List ℕ) → ℕ → List ℕ
-image_in images page = slice_index_or images page []
 
 -- the record that opens a store over this log
 abbrev pub next_restart : List Record → Record

@@ -14,7 +14,6 @@ use Rattle.rq_model.specs.Content.{has_end, deeds, committed_of, KeepsRules}
 use Rattle.rq_model.specs.Legal as legal
 use Rattle.rq_page.specs.Sizes.{Sizes, IsInRange, cell_count, sender_count}
 use Rattle.rq_page.specs.Slots.{IsSlotOf}
-use Rattle.rq_level.specs.Log.{State as Slots_state, state_of}
 use Rattle.rq_level.specs.Items.{items, layout_of, operation, Reads, has_undone}
 use Rattle.rq_level.specs.Legal.{Placed, Legal, open_deeds, began, over, under_way, turned_back, crossed, view}
 use Rattle.rq_level.specs.Groups.{KeepsGroups, Told}
@@ -30,6 +29,7 @@ use Rattle.rq_groups.specs.declared.Held.{Held}
 use Rattle.rq_groups.specs.Ends.{HeldEnds, has_held}
 use Rattle.rq_groups.specs.Waiting.{waits}
 use Rattle.rq_store.specs.State.{State, ledger_of, size_of, op_done}
+use Rattle.rq_store.specs.Fitting.{left_by, image_in, FitsLog}
 
 -- the incarnation that the log's records are of, 0 where it has none
 abbrev pub incarnation_one : Record → ℕ → ℕ
@@ -82,10 +82,6 @@ pub record IsWhole (z : Sizes) (log : List Record) : Type 0 where
   pub in_store : InStore z log
   pub befores : BeforesAreSlots z log
   pub order : InOrder log
-
--- the slots that a log leaves
-abbrev pub left_by : Sizes → List Record → Slots_state
-left_by z log = state_of (layout_of z) (items z log)
 
 -- what is finished, the newest first
 abbrev pub placed_one : Finished → Placed
@@ -212,6 +208,7 @@ pub record IsSound (s : State) : Type 0 where
   pub some : 1 ≤ s.incarnation
   pub strangers : (t : Txn) → t.incarnation ≡ s.incarnation → s.begins < t.count → IsStranger t s.records
   pub pages : (a : ℕ) → slots_in s.sizes s.images a ≡ (left_by s.sizes s.records).slots a
+  pub fits : FitsLog s.sizes (image_in s.images) s.records
   pub rows : (r : Row) → In r s.rows → IsRow s.sizes s.records s.ends s.incarnation s.begins r
   pub distinct : AreDistinct s.rows
   pub others : (t : Txn) → found_row t s.rows ≡ None → IsSettled s.sizes s.records t

@@ -1,5 +1,5 @@
 -- One call of a store: what it was, what it gave, and what that makes of the ledger.
-use Rattle.std.specs.Prelude.{◌≡◌, ℕ, ◌/◌, ◌%◌, cond, nat_eq}
+use Rattle.std.specs.Prelude.{◌≡◌, ◌≢◌, ℕ, ◌+◌, ◌<◌, ◌≤◌, ◌/◌, ◌%◌, List, length, drop, cond, nat_eq}
 use Rattle.rq_model.specs.declared.txn.Txn.{Txn}
 use Rattle.rq_model.specs.declared.record.Record.{Record}
 use Rattle.rq_model.specs.declared.record.Record.TheVariants.{PageOp, OpEnd}
@@ -11,17 +11,35 @@ use Rattle.rq_model.specs.Legal.{Legal}
 use Rattle.rq_model.specs.declared.record.Deed.TheVariants.{Append, UnlinkHead, Close}
 use Rattle.rq_model.specs.Replay.{Reply, Says}
 use Rattle.rq_model.specs.Replay.Reply.{Gave_sent, Gave_message, Gave_closed}
+use Rattle.rq_page.specs.Sizes.{page_count}
+use Rattle.rq_page.specs.Pages.{IsWritten}
+use Rattle.rq_page.specs.Formatted.{IsFormatted, IsHeaderOf}
 use Rattle.rq_chain.specs.declared.SlotWrite.{SlotWrite}
 use Rattle.rq_store.specs.State.{State, ledger_of, size_of}
+use Rattle.rq_store.specs.Fitting.{image_in}
 use Rattle.rq_store.specs.Sound.{IsSound}
 
--- The call with what it gave is an entry that may come next, and the store after it is what the entry makes of the store before.
+-- the newer log is the older one and what came since
+abbrev pub Continues : List Record → List Record → Type 0
+Continues older newer = (n : ℕ) × (drop n newer ≡ older)
+
+-- The call with what it gave is an entry that may come next, and the store after it is what the entry makes of the store before. Its log goes on, and
+-- what was forced stays forced.
 pub record Steps (old : State) (call : Call) (gave : Reply) (new : State) : Type 0 where
   pub entry : Entry
   pub says : Says call gave entry
   pub legal : Legal (size_of old.sizes) (ledger_of old) entry
   pub after : ledger_of new ≡ after entry (ledger_of old)
   pub sound : IsSound new
+  pub goes_on : Continues old.records new.records
+  pub stays_forced : old.forced ≤ new.forced
+
+-- A slot write is made in the pages: its page has the LSN of the next record, the others stay, and each is of its place.
+pub record IsPutIn (s : State) (w : SlotWrite) (images : List (List ℕ)) : Type 0 where
+  pub page : IsWritten (image_in s.images (w.at / 16)) (image_in images (w.at / 16)) (w.at % 16) w.after (length s.records + 1)
+  pub others : (p : ℕ) → p ≢ w.at / 16 → image_in images p ≡ image_in s.images p
+  pub superblock : IsFormatted s.sizes 0 (image_in images 0)
+  pub headers : (p : ℕ) → 1 ≤ p → p < page_count s.sizes → IsHeaderOf s.sizes p (image_in images p)
 
 -- the record of a slot write
 abbrev pub page_op : Txn → ℕ → SlotWrite → Record

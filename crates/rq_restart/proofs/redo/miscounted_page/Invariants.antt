@@ -1,5 +1,6 @@
 use Rattle.std.proofs.Common.{ℕ, ◌≤◌, ◌<◌}
-use Rattle.rq_store.specs.Opening.{IsCounted, image_in}
+use Rattle.rq_store.specs.Opening.{IsCounted}
+use Rattle.rq_store.specs.Fitting.{image_in}
 use Rattle.rq_restart.proofs.redo.miscounted_page.Given as goal
 
 abbrev pub invariant-loop-number : goal.invariant-loop-number

@@ -1,7 +1,8 @@
 use Rattle.std.proofs.Common.{◌≡◌, ◌+◌, ◌∷◌, ◌∙◌, sym, subst, reverse, IsTrue, refl}
 use Rattle.std.proofs.lemmas.Bool.{false≢true}
 use Rattle.rq_page.specs.Sizes.{Sizes}
-use Rattle.rq_store.specs.Opening.{oldest, image_in, MayRedo}
+use Rattle.rq_store.specs.Opening.{MayRedo}
+use Rattle.rq_store.specs.Fitting.{oldest, image_in}
 use Rattle.rq_restart.proofs.Going.{oldest_item, noted_more, redone_more, in_order, may_be_redone}
 use Rattle.rq_restart.proofs.redo.repeat_history.Goals as goal
 use Rattle.rq_restart.proofs.redo.repeat_history.Goals.{then-not-is_next-via-then-not-is_next, then-not-is_next-via-else-not-is_next+then-not-repeat}

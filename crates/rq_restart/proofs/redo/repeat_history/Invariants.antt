@@ -1,7 +1,7 @@
 use Rattle.std.proofs.Common.{◌≡◌, reverse}
-use Rattle.rq_store.specs.Opening.{oldest, FitsUpTo, image_in}
+use Rattle.rq_store.specs.Opening.{FitsUpTo, IsLeft}
+use Rattle.rq_store.specs.Fitting.{oldest, image_in}
 use Rattle.rq_restart.specs.Noted.{noted}
-use Rattle.rq_restart.specs.Restarting.{IsLeft}
 use Rattle.rq_restart.proofs.redo.repeat_history.Given as goal
 
 abbrev pub invariant-loop-index : goal.invariant-loop-index

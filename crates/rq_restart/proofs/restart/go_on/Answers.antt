@@ -2,7 +2,9 @@ use Rattle.std.proofs.Common.{◌≡◌, ◌+◌, ◌≤◌, ◌<◌, ℕ, lengt
 use Rattle.std.proofs.lemmas.Bool.{false≢true}
 use Rattle.std.proofs.lemmas.List.{length-reverse}
 use Rattle.rq_page.specs.Sizes.{page_count}
-use Rattle.rq_store.specs.Opening.{image_in, IsCounted}
+use Rattle.rq_pool.specs.Pooled.{IsPool}
+use Rattle.rq_store.specs.Opening.{IsCounted}
+use Rattle.rq_store.specs.Fitting.{image_in}
 use Rattle.rq_restart.specs.Restarting.{AreWaiting}
 use Rattle.rq_restart.proofs.Restarts.{one_more, last_is, begun_is, settled_left, sound_is, shut_is, counted_left, counted_redone}
 use Rattle.rq_restart.proofs.Counting.{are_waiting}
@@ -46,7 +48,7 @@ returns-in-Ok-clause-report g c =
 pub returns-in-Ok-clause-sound : goal.returns-in-Ok-clause-sound
 returns-in-Ok-clause-sound g c =
     let same = c.in_ok-history.ensures.sizes in
-    sound_is c.args.log.now.records c.args.records.now c.requires.records c.in_ok-history.history c.in_ok-history.ensures.ok c.args.pages.now.sizes (image_in c.args.pages.now.images) c.repeat_history.new.pages.images (rw same at c.miscounted_page.ensures.range) (c.is_settled.ensures.0 c.if-not-is_settled.false) c.in_ok-history.ensures.redone
+    sound_is c.args.log.now.records c.args.records.now c.requires.records c.in_ok-history.history c.in_ok-history.ensures.ok c.args.pages.now.sizes (image_in c.args.pages.now.images) c.repeat_history.new.pages.images (subst (λ y. IsPool y c.repeat_history.new.pages.images) same c.in_default-miscounted_page.ensures.pool) (c.is_settled.ensures.0 c.if-not-is_settled.false) c.in_ok-history.ensures.redone
 
 pub returns-in-Ok-clause-waiting : goal.returns-in-Ok-clause-waiting
 returns-in-Ok-clause-waiting g c =

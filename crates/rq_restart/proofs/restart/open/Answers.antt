@@ -1,7 +1,7 @@
 use Rattle.std.proofs.Common.{sym, subst}
 use Rattle.rq_store.specs.Sound.{IsSound}
-use Rattle.rq_store.specs.Opening.{opened, image_in}
-use Rattle.rq_restart.specs.Restarting.{IsLeft}
+use Rattle.rq_store.specs.Opening.{opened, IsLeft}
+use Rattle.rq_store.specs.Fitting.{image_in}
 use Rattle.rq_restart.proofs.Restarts.{if_ok_both, if_err, left_read}
 use Rattle.rq_restart.proofs.Loading.{load_shut, shut_log, one_size}
 use Rattle.rq_restart.proofs.restart.open.Goals as goal

@@ -1,7 +1,8 @@
 use Rattle.std.proofs.Common.{◌≡◌, reverse, sym, subst}
 use Rattle.rq_store.specs.Sound.{IsSound}
-use Rattle.rq_store.specs.Opening.{opened, image_in}
-use Rattle.rq_restart.specs.Restarting.{IsLeft, StaysShut, IsBegun, Reports}
+use Rattle.rq_store.specs.Opening.{opened, IsLeft}
+use Rattle.rq_store.specs.Fitting.{image_in}
+use Rattle.rq_restart.specs.Restarting.{StaysShut, IsBegun, Reports}
 use Rattle.rq_restart.proofs.Parsing.{log_is, scan_shut}
 use Rattle.rq_restart.proofs.restart.restart_log.Goals as goal
 

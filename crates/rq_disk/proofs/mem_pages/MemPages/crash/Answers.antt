@@ -1,5 +1,6 @@
-use Rattle.std.proofs.Common.{◌≡◌, ◌<◌, ◌∙◌, ◌++◌, [], ℕ, List, length, take, drop, get_or, ap, sym, subst, arith}
+use Rattle.std.proofs.Common.{◌≡◌, ◌<◌, ◌∙◌, ◌++◌, [], ℕ, List, length, take, drop, get_or, ap, sym, subst, ⊎_elim, arith}
 use Rattle.std.proofs.lemmas.List.{append-nil, drop_all, take_all}
+use Rattle.rq_disk.specs.Device.{Only}
 use Rattle.rq_disk.specs.Memory.{pages_after, reads, MayBe, crashed_page}
 use Rattle.rq_disk.specs.Choice.{place_of}
 use Rattle.rq_disk.specs.declared.mem_pages.PageCall.{PageCall}
@@ -33,3 +34,12 @@ returns-clause-may_be c p =
     let long : length left ≡ length m.first.items = ap length (written_over m.first.len m.first.items c.outlive.new.images same m.first.ok.0) ∙ same in
     subst (MayBe s p) (sym (none p))
     (crash_may m.first.items left m.newest.items s (place_of c.args.choice) long m.count m.cached (λ q lt. sym (none q) ∙ returns-clause-pages c q lt) p)
+
+-- what was only begun with leaves nothing else
+only_fresh : (images : List (List ℕ)) (p : ℕ) → Only (reads (pages_after images []) p) (MayBe (pages_after images []) p)
+only_fresh images p image may = ⊎_elim (λ e. e) (λ w. absurd w) may
+
+pub returns-clause-synced : goal.returns-clause-synced
+returns-clause-synced c p =
+    let left = take c.args.self.first.len (c.outlive.new.images ++ drop (length c.outlive.new.images) c.args.self.first.items) in
+    subst (λ (calls : List PageCall). Only (reads (pages_after left calls) p) (MayBe (pages_after left calls) p)) (sym c.new.ensures.items) (only_fresh left p)

@@ -1,10 +1,14 @@
-use Rattle.std.proofs.Common.{◌≡◌, ◌+◌, ◌/◌, ◌%◌, sym, ap, ◌∙◌, subst, arith, ◌∷◌}
+use Rattle.std.proofs.Common.{ℕ, ◌≤◌, ◌<◌, length, ◌≡◌, ◌+◌, ◌/◌, ◌%◌, sym, ap, ◌∙◌, subst, arith, ◌∷◌}
 use Rattle.rq_store.specs.State.{State}
 use Rattle.rq_txn.specs.Rows.{change_row, row_stepped}
+use Rattle.rq_page.specs.Sizes.{Sizes, page_count}
+use Rattle.rq_page.specs.Pages.{IsWritten}
+use Rattle.rq_page.specs.Formatted.{IsFormatted, IsHeaderOf}
 use Rattle.rq_page.specs.Slots.{IsSlotOf, held_in}
 use Rattle.rq_level.specs.Log.{put}
 use Rattle.rq_level.specs.Stored.{slots_in}
-use Rattle.rq_store.specs.Steps.{page_op}
+use Rattle.rq_store.specs.Fitting.{image_in}
+use Rattle.rq_store.specs.Steps.{IsPutIn, page_op}
 use Rattle.rq_engine.specs.Answers.{IsGoing}
 use Rattle.rq_engine.proofs.Calls.{Next, going_range, going_owed, next_slot, next_room, next_more, next_kept}
 use Rattle.rq_engine.proofs.Opened.{state_is}
@@ -59,10 +63,17 @@ invariant_of-self g c =
 pub returns-clause-made : goal.returns-clause-made
 returns-clause-made g c =
     let h = subst (λ (s : State). IsGoing s c.args.sub (Next c.args.write.now)) (sym (state_is c.self.view_is)) c.requires.next in
+    let stamp : c.append-lsn.result ≡ length c.self.inside.log.records + 1 = (let l = c.append-lsn.ensures.lsn in let r = ap length c.append-lsn.ensures.records in omega (arith, l, r)) in
     record {
       state = rw (c.step.ensures, c.set_slot.ensures.sizes, c.append-lsn.ensures.records, c.append-lsn.ensures.forced, c.page.ensures, c.slot.ensures)
           (ap (λ (s : State). record s { rows = change_row c.args.sub.txn row_stepped s.rows; images = c.set_slot.new.self.images; records = page_op c.args.sub.txn c.args.sub.number c.args.write.now ∷ s.records }) (state_is c.self.view_is));
       before = subst (λ (s : State). IsSlotOf s.sizes (c.args.write.now.at / 16) (c.args.write.now.at % 16) c.args.write.now.before) (state_is c.self.view_is) (next_slot _ _ _ _ c.self.invariant.kept c.args.sub c.args.write.now h).before;
       slot = subst (λ (s : State). IsSlotOf s.sizes (c.args.write.now.at / 16) (c.args.write.now.at % 16) c.args.write.now.after) (state_is c.self.view_is) (next_slot _ _ _ _ c.self.invariant.kept c.args.sub c.args.write.now h).after;
       slots = λ a. subst (λ (s : State). slots_in s.sizes c.set_slot.new.self.images a ≡ put (slots_in s.sizes s.images) c.args.write.now.at (held_in s.sizes (c.args.write.now.at / 16) c.args.write.now.after) a) (state_is c.self.view_is) (c.set_slot.ensures.slots a);
+      put_in = subst (λ (s : State). IsPutIn s c.args.write.now c.set_slot.new.self.images) (state_is c.self.view_is) (record {
+        page = subst (λ n. IsWritten (image_in c.self.inside.pages.images (c.args.write.now.at / 16)) (image_in c.set_slot.new.self.images (c.args.write.now.at / 16)) (c.args.write.now.at % 16) c.args.write.now.after n) stamp c.set_slot.ensures.page;
+        others = c.set_slot.ensures.others;
+        superblock = subst (λ (z : Sizes). IsFormatted z 0 (image_in c.set_slot.new.self.images 0)) c.set_slot.ensures.sizes c.set_slot.ensures.pool.superblock;
+        headers = subst (λ (z : Sizes). (p : ℕ) → 1 ≤ p → p < page_count z → IsHeaderOf z p (image_in c.set_slot.new.self.images p)) c.set_slot.ensures.sizes c.set_slot.ensures.pool.headers;
+      });
     }

@@ -1,0 +1,112 @@
+-- Pages that a crash leaves fit the log that it leaves.
+use Rattle.std.proofs.Common.{◌≡◌, ℕ, zero, suc, [], ◌∷◌, ◌<◌, ◌≤◌, List, drop, sym, subst, Result, Ok, Err, ⊎_elim, arith}
+use Rattle.rq_model.specs.declared.record.Record.{Record}
+use Rattle.rq_model.specs.declared.refusal.Refusal.{Refusal}
+use Rattle.rq_model.specs.declared.refusal.Refusal.TheVariants as why
+use Rattle.rq_model.specs.History.{Call}
+use Rattle.rq_model.specs.Replay.{Reply as Gave}
+use Rattle.rq_page.specs.Sizes.{Sizes, page_count}
+use Rattle.rq_page.specs.Pages.{lsn_of}
+use Rattle.rq_page.specs.Formatted.{IsFormatted, IsHeaderOf}
+use Rattle.rq_disk.specs.Device.{Images, Leaves}
+use Rattle.rq_log.specs.Spelled.{AreSpelled, IsBeginning}
+use Rattle.rq_log.specs.Crash.{LeavesOnly}
+use Rattle.rq_pool.specs.declared.Written.{Written}
+use Rattle.rq_pool.specs.declared.Written.TheVariants as out
+use Rattle.rq_pool.specs.Pooled.{image_at}
+use Rattle.rq_pool.specs.Writing.{DeviceAfter, MayHaveWritten}
+use Rattle.rq_store.specs.State.{State}
+use Rattle.rq_store.specs.Fitting.{oldest, FitsPage, FitsLog, AllFit, image_in}
+use Rattle.rq_store.specs.Sound.{IsSound}
+use Rattle.rq_store.specs.Steps.{Steps}
+use Rattle.rq_store.proofs.Cutting.{whole_dropped, longer_continues, oldest_continues, all_fit_longer, page_fits_oldest, fits_log, fits_log_longer}
+use Rattle.rq_engine.specs.declared.event.Event.{Event}
+use Rattle.rq_engine.specs.declared.event.Event.TheVariants as event
+use Rattle.rq_engine.specs.declared.event.Reply.{Reply}
+use Rattle.rq_engine.specs.Opened.{OpenStore, WritesWhen}
+use Rattle.rq_engine.specs.Says.{PagesSay, WritesSay, written_by}
+use Rattle.rq_engine.specs.Crash.{AreFit, IsCut, LeavesCut, LeftCut}
+
+spelled_dropped : (n : ℕ) (log : List Record) → AreSpelled log → AreSpelled (drop n log)
+spelled_dropped zero log h = h
+spelled_dropped (suc n) [] h = h
+spelled_dropped (suc n) (r ∷ log) h = spelled_dropped n log h.1
+
+-- the log's first records, and pages that fit those that are forced
+cut : (s : State) → IsSound s → AreSpelled s.records → (images : Images) (bytes : List ℕ) → FitsLog s.sizes images (oldest s.forced s.records) → IsBeginning s.records s.forced bytes → IsCut s images bytes
+cut s k told images bytes fits b = (
+  b.0,
+  b.1,
+  spelled_dropped b.0 s.records told,
+  b.2,
+  record {
+    whole = whole_dropped s.sizes b.0 s.records k.log;
+    fits = fits_log_longer s.sizes images (oldest s.forced s.records) (drop b.0 s.records) (longer_continues b.0 s.forced s.records b.1) fits;
+  },
+)
+
+module _ {P L : Type 0} (seen : P → Images) (may_be : P → ℕ → List ℕ → Type 0) (moment : P → ℕ) (left_since : P → ℕ → Images → Type 0) (faults : P → ℕ)
+    (only_now : (d : P) (c : Images) → left_since d (moment d) c → Leaves (may_be d) c) where
+  pub leaves_cut : (may_leave : L → List ℕ → Type 0) (s : OpenStore P L) → ((c : List ℕ) → may_leave s.log c → IsBeginning s.state.records s.state.forced c) → AreSpelled s.state.records → IsSound s.state → AreFit may_be s → LeavesCut may_be may_leave s
+  leaves_cut may_leave s log told k fit images bytes there left = cut s.state k told images bytes (fits_log (may_be s.pages) s.state.sizes (oldest s.state.forced s.state.records) images fit there) (log bytes left)
+
+  -- where no call was made since
+  pub left_now : (may_leave : L → List ℕ → Type 0) (log_moment : L → ℕ) (log_left_since : L → ℕ → List ℕ → Type 0) (log_only_now : (d : L) (c : List ℕ) → log_left_since d (log_moment d) c → may_leave d c) (s : OpenStore P L) → LeavesCut may_be may_leave s → LeftCut moment left_since log_moment log_left_since s s
+  left_now may_leave log_moment log_left_since log_only_now s here images bytes pages log = here images bytes (only_now s.pages images pages) (log_only_now s.log bytes log)
+
+  module _ (old new : OpenStore P L) (k : IsSound old.state) (fit : AreFit may_be old) where
+    abbrev z : Sizes
+    z = old.state.sizes
+
+    abbrev kept : List Record
+    kept = oldest old.state.forced old.state.records
+
+    -- what is so of the pages afterwards, and of them at each moment since
+    abbrev Goes : Type 0
+    Goes = AllFit (may_be new.pages) z kept × ((images : Images) → left_since new.pages (moment old.pages) images → FitsLog z images kept)
+
+    stays : new.pages ≡ old.pages → Goes
+    stays e = subst (λ (d : P). AllFit (may_be d) z kept × ((images : Images) → left_since d (moment old.pages) images → FitsLog z images kept)) (sym e)
+        (fit, λ images left. fits_log (may_be old.pages) z kept images fit (only_now old.pages images left))
+
+    -- the page that is handed to the device
+    module _ (page : ℕ) (within : page < page_count z) (forced : lsn_of (image_at old.state.images page) ≤ old.state.forced) (w : MayHaveWritten may_be moment left_since page (image_at old.state.images page) old.pages new.pages) where
+      abbrev image : List ℕ
+      image = image_at old.state.images page
+
+      fits_now : AllFit (may_be new.pages) z kept
+      fits_now = record {
+        superblock = λ c may. ⊎_elim (fit.superblock c) (λ e. subst (λ b. IsFormatted z 0 b) (sym e.1) (subst (λ p. IsFormatted z 0 (image_in old.state.images p)) e.0 k.fits.superblock)) (w.crash 0 c may);
+        headers = λ p c low high may. ⊎_elim (fit.headers p c low high) (λ e. subst (λ b. IsHeaderOf z p b) (sym e.1) (subst (λ q. IsHeaderOf z p (image_in old.state.images q)) e.0 (k.fits.headers p low high))) (w.crash p c may);
+        pages = λ p c low high may. ⊎_elim (fit.pages p c low high) (λ e. subst (λ b. FitsPage z kept p b) (sym e.1) (subst (λ q. lsn_of (image_in old.state.images q) ≤ old.state.forced → FitsPage z kept p (image_in old.state.images q)) e.0 (λ le. page_fits_oldest z p old.state.forced (image_in old.state.images p) old.state.records le k.forced (k.fits.pages p low high)) forced)) (w.crash p c may);
+      }
+
+      written : Goes
+      written = (
+        fits_now,
+        λ images left. ⊎_elim
+            (λ was. fits_log (may_be old.pages) z kept images fit (only_now old.pages images was))
+            (λ now. fits_log (may_be new.pages) z kept images fits_now now)
+            (w.time.nothing_else (moment old.pages) images (omega arith) left),
+      )
+
+    goes_out : (page : ℕ) (r : Result Written Refusal) → WritesWhen old page r → DeviceAfter seen may_be moment left_since faults page (image_at old.state.images page) old.pages new.pages r → Goes
+    goes_out page (Ok out.Done) when after = written page when.1.0.of_store when.1.1 after.1
+    goes_out page (Ok out.Nothing) when after = stays after
+    goes_out page (Err why.DiskWrite) when after = written page when.1.0.of_store when.1.1 after.0
+    goes_out page (Err _) when after = stays after
+
+    goes : (e : Event) (r : Reply) → WritesSay old e r → PagesSay seen may_be moment left_since faults old new e r → Goes
+    goes (event.WritePage page) r when say = goes_out page (written_by r) when say
+    goes _ r when say = stays say
+
+    pub fit_kept : (e : Event) (r : Reply) (call : Call) (gave : Gave) → new.state.sizes ≡ old.state.sizes → Steps old.state call gave new.state → WritesSay old e r → PagesSay seen may_be moment left_since faults old new e r → AreFit may_be new
+    fit_kept e r call gave sizes steps when say =
+        subst (λ (y : Sizes). AllFit (may_be new.pages) y (oldest new.state.forced new.state.records)) (sym sizes)
+        (all_fit_longer (may_be new.pages) z kept (oldest new.state.forced new.state.records)
+        (oldest_continues old.state.forced new.state.forced old.state.records new.state.records steps.goes_on k.forced steps.stays_forced steps.sound.forced)
+        (goes e r when say).0)
+
+    pub left_cut : (log_moment : L → ℕ) (log_left_since : L → ℕ → List ℕ → Type 0) (e : Event) (r : Reply) → AreSpelled old.state.records → WritesSay old e r → PagesSay seen may_be moment left_since faults old new e r
+        → LeavesOnly log_moment log_left_since old.log new.log (IsBeginning old.state.records old.state.forced) → LeftCut moment left_since log_moment log_left_since old new
+    left_cut log_moment log_left_since e r told when say run images bytes pages log = cut old.state k told images bytes ((goes e r when say).1 images pages) (run.each bytes log)
