@@ -5,3 +5,4 @@ pub mod Parsing
 pub mod Formats
 pub mod Loading
 pub mod Counting
+pub mod Moments

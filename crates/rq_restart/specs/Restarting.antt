@@ -9,7 +9,8 @@ use Rattle.rq_store.specs.Sound.{incarnation_of}
 use Rattle.rq_model.specs.Content.{unfinished, lost}
 use Rattle.rq_disk.specs.Device.{Only}
 use Rattle.rq_log.specs.Logged.{Logged, WasDurable}
-use Rattle.rq_log.specs.Spelled.{spelled}
+use Rattle.rq_log.specs.Crash.{LeavesOnly}
+use Rattle.rq_log.specs.Spelled.{spelled, AreSpelled, IsBeginning}
 use Rattle.rq_store.specs.Opening.{next_restart, waiting_in}
 
 -- going through a log stops where memory is wanting, or where the store was not left so
@@ -73,3 +74,18 @@ pub record AreWaiting (z : Sizes) (images : List (List ℕ)) (count : ℕ) (wait
   pub told : waiting ≡ waiting_in z images
   pub senders : length waiting ≡ sender_count z
   pub few : (g : ℕ) → waits waiting g ≤ count
+
+-- a log as it was read, all of which a crash leaves
+pub record IsFresh {L : Type 0} (seen : L → List ℕ) (may_leave : L → List ℕ → Type 0) (log : Logged L) : Type 0 where
+  pub settled : WasDurable seen may_leave log
+  pub leaves : Only (spelled log.records) (may_leave log.device)
+  pub forced : log.forced ≡ length log.records
+
+-- whatever a crash at any moment leaves of the log: all of these records, and perhaps this one
+abbrev pub AddsOne : {L : Type 0} → (L → ℕ) → (L → ℕ → List ℕ → Type 0) → Record → List Record → L → L → Type 0
+AddsOne moment left_since r older old new = LeavesOnly moment left_since old new (IsBeginning (r ∷ older) (length older))
+
+-- the same of a restart, where a crash before it would have left what is read of the log and nothing else
+abbrev pub BeginsAtMost : {L : Type 0} → (L → List ℕ) → (L → List ℕ → Type 0) → (L → ℕ) → (L → ℕ → List ℕ → Type 0) → L → L → Type 0
+BeginsAtMost seen may_leave moment left_since old new =
+    Only (seen old) (may_leave old) → (older : List Record) → AreSpelled older → seen old ≡ spelled older → AddsOne moment left_since (next_restart older) older old new

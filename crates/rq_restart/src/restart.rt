@@ -10,10 +10,10 @@ ghost use Rattle.rq_pool.specs.Reading.{IsSuperblock, OnlyRead};
 ghost use Rattle.rq_model.specs.Content.{committed_of};
 ghost use Rattle.rq_store.specs.State.{ledger_of};
 ghost use Rattle.rq_store.specs.Sound.{IsSound};
-ghost use Rattle.rq_store.specs.Opening.{opened, IsLeft};
+ghost use Rattle.rq_store.specs.Opening.{opened, next_restart, IsLeft};
 ghost use Rattle.rq_store.specs.Fitting.{AllFit, image_in};
 ghost use Rattle.rq_engine.specs.Crash.{AreFit};
-ghost use Rattle.rq_restart.specs.Restarting.{IsReady, AreWaiting, BeginsNot, StaysShut, IsBegun, Reports, Stops};
+ghost use Rattle.rq_restart.specs.Restarting.{IsReady, AreWaiting, BeginsNot, StaysShut, IsBegun, Reports, Stops, IsFresh, AddsOne, BeginsAtMost};
 
 use crate::redo::{miscounted_page, repeat_history};
 use crate::waiting::count_waiting;
@@ -79,6 +79,9 @@ pub fn restart<P: PageDevice + Drop, L: LogDevice + Drop>(
     ensures reads { IfOk result (λ o. L.seen o.0.log ≡ spelled o.0.state.records) }
     ensures durable { IfOk result (λ o. Only (spelled o.0.state.records) (L.may_leave o.0.log)) }
     ensures pages { IfOk result (λ o. OnlyRead P.seen P.may_be P.moment P.left_since pages o.0.pages) }
+    ensures pages_back { IfErr result (λ stopped. OnlyRead P.seen P.may_be P.moment P.left_since pages stopped.pages) }
+    ensures any_moment { IfOk result (λ o. BeginsAtMost L.seen L.may_leave L.moment L.left_since log o.0.log) }
+    ensures any_moment_back { IfErr result (λ stopped. BeginsAtMost L.seen L.may_leave L.moment L.left_since log stopped.log) }
     ensures fit { IfOk result (λ o. (older : List Record) → AreSpelled older → L.seen log ≡ spelled older → AllFit (P.may_be pages) o.0.state.sizes older → AreFit P.may_be o.0) }
     ensures cause { IfOk result (λ o. (P.faults o.0.pages ≡ P.faults pages) × (L.faults o.0.log ≡ L.faults log)) }
     ensures err { IfErr result (λ stopped. (z : Sizes) → IsSuperblock z (P.seen pages 0) → (older : List Record) → AreSpelled older → L.seen log ≡ spelled older → Stops (IsLeft z (P.seen pages) older) older stopped.refusal (P.faults pages) (P.faults stopped.pages) (L.faults log) (L.faults stopped.log)) }
@@ -115,6 +118,9 @@ fn open<P: PageDevice + Drop, L: LogDevice + Drop>(
     ensures sound { IfOk result (λ o. (older : List Record) → AreSpelled older → L.seen log ≡ spelled older → IsLeft o.pages.sizes (P.seen pages) older → IsSound (opened o.pages.sizes o.pages.images older)) }
     ensures ready { IfOk result (λ o. IsReady L.seen L.may_leave o.report.incarnation o.log) }
     ensures pages { IfOk result (λ o. OnlyRead P.seen P.may_be P.moment P.left_since pages o.pages.device) }
+    ensures pages_back { IfErr result (λ stopped. OnlyRead P.seen P.may_be P.moment P.left_since pages stopped.pages) }
+    ensures any_moment { IfOk result (λ o. BeginsAtMost L.seen L.may_leave L.moment L.left_since log o.log.device) }
+    ensures any_moment_back { IfErr result (λ stopped. BeginsAtMost L.seen L.may_leave L.moment L.left_since log stopped.log) }
     ensures cause { IfOk result (λ o. (P.faults o.pages.device ≡ P.faults pages) × (L.faults o.log.device ≡ L.faults log)) }
     ensures err { IfErr result (λ stopped. (z : Sizes) → IsSuperblock z (P.seen pages 0) → (older : List Record) → AreSpelled older → L.seen log ≡ spelled older → Stops (IsLeft z (P.seen pages) older) older stopped.refusal (P.faults pages) (P.faults stopped.pages) (L.faults log) (L.faults stopped.log)) }
 {
@@ -145,6 +151,9 @@ fn restart_log<P: PageDevice + Drop, L: LogDevice + Drop>(
     ensures sound { IfOk result (λ o. (older : List Record) → AreSpelled older → L.seen log ≡ spelled older → IsLeft pages.sizes (image_in pages.images) older → IsSound (opened pages.sizes o.pages.images older)) }
     ensures ready { IfOk result (λ o. IsReady L.seen L.may_leave o.report.incarnation o.log) }
     ensures pages { IfOk result (λ o. o.pages.device ≡ pages.device) }
+    ensures pages_back { IfErr result (λ stopped. stopped.pages ≡ pages.device) }
+    ensures any_moment { IfOk result (λ o. BeginsAtMost L.seen L.may_leave L.moment L.left_since log o.log.device) }
+    ensures any_moment_back { IfErr result (λ stopped. BeginsAtMost L.seen L.may_leave L.moment L.left_since log stopped.log) }
     ensures cause { IfOk result (λ o. L.faults o.log.device ≡ L.faults log) }
     ensures err { IfErr result (λ stopped. (older : List Record) → AreSpelled older → L.seen log ≡ spelled older → StaysShut (IsLeft pages.sizes (image_in pages.images) older) older stopped.refusal (L.faults log) (L.faults stopped.log)) }
 {
@@ -195,6 +204,7 @@ fn go_on<P: PageDevice + Drop, L: LogDevice + Drop>(
     ensures waiting { IfOk result (λ begun. AreWaiting pages.new.sizes pages.new.images (length log.new.records) begun.0) }
     ensures ready { IfOk result (λ begun. IsReady L.seen L.may_leave begun.1.incarnation log.new) }
     ensures pages { pages.new.device ≡ pages.old.device }
+    ensures any_moment { IsFresh L.seen L.may_leave log.old → AddsOne L.moment L.left_since (next_restart log.old.records) log.old.records log.old.device log.new.device }
     ensures cause { OnOk result (L.faults log.new.device ≡ L.faults log.old.device) }
     ensures err { IfErr result (λ e. StaysShut (IsLeft pages.old.sizes (image_in pages.old.images) log.old.records) log.old.records e (L.faults log.old.device) (L.faults log.new.device)) }
 {
@@ -223,6 +233,7 @@ fn begin_incarnation<L: LogDevice + Drop>(log: &mut Log<L>, last: u64) -> Result
     ensures report { IfOk result (λ report. (report.incarnation ≡ last + 1) × (report.records ≡ length log.new.records) × (report.unfinished ≡ 0) × (report.lost ≡ 0)) }
     ensures ready { IfOk result (λ report. IsReady L.seen L.may_leave report.incarnation log.new) }
     ensures cause { OnOk result (L.faults log.new.device ≡ L.faults log.old.device) }
+    ensures any_moment { IsFresh L.seen L.may_leave log.old → AddsOne L.moment L.left_since (records.Restart (last + 1)) log.old.records log.old.device log.new.device }
     ensures err { IfErr result (λ e. BeginsNot e (length log.old.records) last (L.faults log.old.device) (L.faults log.new.device)) }
 {
     if log.last() >= LOG_LIMIT {

@@ -2,7 +2,8 @@ use Rattle.std.proofs.Common.{◌≡◌, reverse, sym, subst}
 use Rattle.rq_store.specs.Sound.{IsSound}
 use Rattle.rq_store.specs.Opening.{opened, IsLeft}
 use Rattle.rq_store.specs.Fitting.{image_in}
-use Rattle.rq_restart.specs.Restarting.{StaysShut, IsBegun, Reports}
+use Rattle.rq_restart.specs.Restarting.{StaysShut, IsBegun, Reports, BeginsAtMost}
+use Rattle.rq_restart.proofs.Moments.{only_read, read_first}
 use Rattle.rq_restart.proofs.Parsing.{log_is, scan_shut}
 use Rattle.rq_restart.proofs.restart.restart_log.Goals as goal
 
@@ -48,3 +49,27 @@ returns-clause-err g c =
     let h = rw c.in-Err.is at c.scan-records.ensures.stopped in
     let faults = g.L.LogDevice.faults in
     scan_shut (IsLeft c.args.pages.sizes (image_in c.args.pages.images) older) older (reverse c.scan-records.result.records.items) (g.L.LogDevice.seen c.args.log) c.in-Err.stopped.refusal (faults c.args.log) (faults c.in-Err.stopped.device) are e c.scan-records.ensures.spelled h
+
+pub returns-in-Ok-go_on-clause-any_moment : goal.returns-in-Ok-go_on-clause-any_moment
+returns-in-Ok-go_on-clause-any_moment g c =
+    let told = c.scan-records.ensures in
+    let read = rw c.in-Ok.is at told.read in
+    let log = rw c.in-Ok.is at told.log in
+    let d = g.L.LogDevice in
+    read_first d.moment d.left_since d.may_leave g.met.L.LogDevice.only_now d.seen c.args.log c.go_on.new.log.device c.in-Ok.log read.1 (log.0, log.3) (rw c.in-Ok.is at told.crash) (rw c.in-Ok.is at told.any_moment) c.go_on.ensures.any_moment
+    (λ older are e. log_is older c.in-Ok.log.records (reverse c.scan-records.result.records.items) _ are e read.0 told.spelled read.1)
+
+pub returns-in-Ok-clause-any_moment_back : goal.returns-in-Ok-clause-any_moment_back
+returns-in-Ok-clause-any_moment_back g c =
+    let told = c.scan-records.ensures in
+    let read = rw c.in-Ok.is at told.read in
+    let log = rw c.in-Ok.is at told.log in
+    let d = g.L.LogDevice in
+    subst (λ new. BeginsAtMost d.seen d.may_leave d.moment d.left_since c.args.log new) (sym c.give_back-in-Err-go_on.ensures)
+    (read_first d.moment d.left_since d.may_leave g.met.L.LogDevice.only_now d.seen c.args.log c.go_on.new.log.device c.in-Ok.log read.1 (log.0, log.3) (rw c.in-Ok.is at told.crash) (rw c.in-Ok.is at told.any_moment) c.go_on.ensures.any_moment
+    (λ older are e. log_is older c.in-Ok.log.records (reverse c.scan-records.result.records.items) _ are e read.0 told.spelled read.1))
+
+pub returns-clause-any_moment_back : goal.returns-clause-any_moment_back
+returns-clause-any_moment_back g c =
+    let d = g.L.LogDevice in
+    only_read d.moment d.left_since d.may_leave g.met.L.LogDevice.only_now d.seen c.args.log c.in-Err.stopped.device (rw c.in-Err.is at c.scan-records.ensures.any_moment)
