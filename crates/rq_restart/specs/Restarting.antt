@@ -5,13 +5,14 @@ use Rattle.rq_model.specs.declared.refusal.Refusal.{Refusal}
 use Rattle.rq_model.specs.declared.refusal.Refusal.TheVariants as why
 use Rattle.rq_groups.specs.Waiting.{waits}
 use Rattle.rq_page.specs.Sizes.{Sizes, sender_count}
-use Rattle.rq_store.specs.Sound.{incarnation_of}
+use Rattle.rq_store.specs.Sound.{IsWhole, incarnation_of}
+use Rattle.rq_store.specs.Fitting.{AllFit}
 use Rattle.rq_model.specs.Content.{unfinished, lost}
-use Rattle.rq_disk.specs.Device.{Only}
+use Rattle.rq_disk.specs.Device.{Images, Only}
 use Rattle.rq_log.specs.Logged.{Logged, WasDurable}
 use Rattle.rq_log.specs.Crash.{LeavesOnly}
 use Rattle.rq_log.specs.Spelled.{spelled, AreSpelled, IsBeginning}
-use Rattle.rq_store.specs.Opening.{next_restart, waiting_in}
+use Rattle.rq_store.specs.Opening.{IsLeft, next_restart, waiting_in}
 
 -- going through a log stops where memory is wanting, or where the store was not left so
 abbrev pub StopsIn : Type 0 → Refusal → Type 0
@@ -89,3 +90,15 @@ AddsOne moment left_since r older old new = LeavesOnly moment left_since old new
 abbrev pub BeginsAtMost : {L : Type 0} → (L → List ℕ) → (L → List ℕ → Type 0) → (L → ℕ) → (L → ℕ → List ℕ → Type 0) → L → L → Type 0
 BeginsAtMost seen may_leave moment left_since old new =
     Only (seen old) (may_leave old) → (older : List Record) → AreSpelled older → seen old ≡ spelled older → AddsOne moment left_since (next_restart older) older old new
+
+-- These are the pages and the log of a store: the log that was read, or that with the record that begins the next incarnation, and pages that fit it.
+abbrev pub IsReadOrBegun : Sizes → List Record → Images → List ℕ → Type 0
+IsReadOrBegun z older images bytes =
+    (IsLeft z images older × (bytes ≡ spelled older)) ⊎ (IsLeft z images (next_restart older ∷ older) × (bytes ≡ spelled (next_restart older ∷ older)))
+
+-- Whatever a crash at any moment of a restart leaves of both devices, where before it a crash would have left what is read of the log and pages that fit that, and no work
+-- in it is unfinished or lost.
+abbrev pub LeavesReadOrBegun : {P L : Type 0} → (P → ℕ → List ℕ → Type 0) → (P → ℕ) → (P → ℕ → Images → Type 0) → (L → List ℕ) → (L → List ℕ → Type 0) → (L → ℕ) → (L → ℕ → List ℕ → Type 0) → P → L → P → L → Type 0
+LeavesReadOrBegun may_be moment left_since seen may_leave log_moment log_left_since pages log new_pages new_log =
+    Only (seen log) (may_leave log) → (z : Sizes) (older : List Record) → AreSpelled older → seen log ≡ spelled older → IsWhole z older → AllFit (may_be pages) z older → unfinished older ≡ [] → lost older ≡ []
+    → (images : Images) (bytes : List ℕ) → left_since new_pages (moment pages) images → log_left_since new_log (log_moment log) bytes → IsReadOrBegun z older images bytes

@@ -13,7 +13,7 @@ ghost use Rattle.rq_store.specs.Sound.{IsSound};
 ghost use Rattle.rq_store.specs.Opening.{opened, next_restart, IsLeft};
 ghost use Rattle.rq_store.specs.Fitting.{AllFit, image_in};
 ghost use Rattle.rq_engine.specs.Crash.{AreFit};
-ghost use Rattle.rq_restart.specs.Restarting.{IsReady, AreWaiting, BeginsNot, StaysShut, IsBegun, Reports, Stops, IsFresh, AddsOne, BeginsAtMost};
+ghost use Rattle.rq_restart.specs.Restarting.{IsReady, AreWaiting, BeginsNot, StaysShut, IsBegun, Reports, Stops, IsFresh, AddsOne, BeginsAtMost, LeavesReadOrBegun};
 
 use crate::redo::{miscounted_page, repeat_history};
 use crate::waiting::count_waiting;
@@ -67,6 +67,32 @@ pub struct Stopped<P, L> {
 /// breaks the format, with `Unfinished` where the log holds an operation or a transaction that has not
 /// ended, with `LogFull` where there is no room for the Restart record.
 pub fn restart<P: PageDevice + Drop, L: LogDevice + Drop>(
+    alloc: Global,
+    pages: P,
+    log: L,
+) -> Result<(Engine<P, L>, Report), Stopped<P, L>>
+    ensures report { IfOk result (λ o. (older : List Record) → AreSpelled older → L.seen log ≡ spelled older → Reports older o.1.incarnation o.1.records o.1.unfinished o.1.lost) }
+    ensures sizes { IfOk result (λ o. IsSuperblock o.0.state.sizes (P.seen pages 0)) }
+    ensures value { IfOk result (λ o. (older : List Record) → AreSpelled older → L.seen log ≡ spelled older → o.0.state ≡ opened o.0.state.sizes o.0.state.images older) }
+    ensures sound { IfOk result (λ o. (older : List Record) → AreSpelled older → L.seen log ≡ spelled older → IsLeft o.0.state.sizes (P.seen pages) older → IsSound o.0.state) }
+    ensures committed { IfOk result (λ o. (older : List Record) → AreSpelled older → L.seen log ≡ spelled older → (ledger_of o.0.state).committed ≡ committed_of older) }
+    ensures reads { IfOk result (λ o. L.seen o.0.log ≡ spelled o.0.state.records) }
+    ensures durable { IfOk result (λ o. Only (spelled o.0.state.records) (L.may_leave o.0.log)) }
+    ensures pages { IfOk result (λ o. OnlyRead P.seen P.may_be P.moment P.left_since pages o.0.pages) }
+    ensures pages_back { IfErr result (λ stopped. OnlyRead P.seen P.may_be P.moment P.left_since pages stopped.pages) }
+    ensures any_moment { IfOk result (λ o. BeginsAtMost L.seen L.may_leave L.moment L.left_since log o.0.log) }
+    ensures any_moment_back { IfErr result (λ stopped. BeginsAtMost L.seen L.may_leave L.moment L.left_since log stopped.log) }
+    ensures crash { IfOk result (λ o. LeavesReadOrBegun P.may_be P.moment P.left_since L.seen L.may_leave L.moment L.left_since pages log o.0.pages o.0.log) }
+    ensures crash_back { IfErr result (λ stopped. LeavesReadOrBegun P.may_be P.moment P.left_since L.seen L.may_leave L.moment L.left_since pages log stopped.pages stopped.log) }
+    ensures fit { IfOk result (λ o. (older : List Record) → AreSpelled older → L.seen log ≡ spelled older → AllFit (P.may_be pages) o.0.state.sizes older → AreFit P.may_be o.0) }
+    ensures cause { IfOk result (λ o. (P.faults o.0.pages ≡ P.faults pages) × (L.faults o.0.log ≡ L.faults log)) }
+    ensures err { IfErr result (λ stopped. (z : Sizes) → IsSuperblock z (P.seen pages 0) → (older : List Record) → AreSpelled older → L.seen log ≡ spelled older → Stops (IsLeft z (P.seen pages) older) older stopped.refusal (P.faults pages) (P.faults stopped.pages) (L.faults log) (L.faults stopped.log)) }
+{
+    reopen(alloc, pages, log)
+}
+
+// Opens the store; what it says of each device by itself.
+fn reopen<P: PageDevice + Drop, L: LogDevice + Drop>(
     alloc: Global,
     pages: P,
     log: L,

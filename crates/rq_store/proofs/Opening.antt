@@ -315,6 +315,18 @@ told_below f (suc n) g m =
     read_front (y ∷ xs) x zero m = refl
     read_front (y ∷ xs) x (suc g) m = read_front xs x g (omega (arith, m))
 
+-- a log in which everything has ended, with the record that opens the store, is legal
+pub restarted_whole : (z : Sizes) (log : List Record) → IsWhole z log → unfinished log ≡ [] → lost log ≡ [] → IsWhole z (next_restart log ∷ log)
+restarted_whole z log w none_unfinished none_lost = record {
+  legal = (record { idle = idle_log z log w.legal none_unfinished; settled = λ t e. settled_log z log w none_lost t }, w.legal);
+  groups = (tt, w.groups);
+  rules = (tt, (λ t e. absurd (false≢true e)), w.rules);
+  reads = (tt, w.reads);
+  in_store = (tt, w.in_store);
+  befores = (tt, w.befores);
+  order = (refl, w.order);
+}
+
 module _ (z : Sizes) (images : List (List ℕ)) (log : List Record) (range : IsInRange z) (w : IsWhole z log) (none_unfinished : unfinished log ≡ []) (none_lost : lost log ≡ [])
     (pages : (a : ℕ) → slots_in z images a ≡ (left_by z log).slots a) where
   abbrev new_log : List Record
@@ -325,18 +337,6 @@ module _ (z : Sizes) (images : List (List ℕ)) (log : List Record) (range : IsI
 
   settled : (t : Txn) → open_deeds t (items z log) ≡ []
   settled = settled_log z log w none_lost
-
-  -- the log with the record that opens the store is legal
-  pub restart_whole : IsWhole z new_log
-  restart_whole = record {
-    legal = (record { idle = idle; settled = λ t e. settled t }, w.legal);
-    groups = (tt, w.groups);
-    rules = (tt, (λ t e. absurd (false≢true e)), w.rules);
-    reads = (tt, w.reads);
-    in_store = (tt, w.in_store);
-    befores = (tt, w.befores);
-    order = (refl, w.order);
-  }
 
   settled_here : (t : Txn) → IsSettled z new_log t
   settled_here t = record {
@@ -368,7 +368,7 @@ module _ (z : Sizes) (images : List (List ℕ)) (log : List Record) (range : IsI
   pub opened_sound : FitsLog z (image_in images) log → IsSound (opened z images log)
   opened_sound fits = record {
     range = range;
-    log = restart_whole;
+    log = restarted_whole z log w none_unfinished none_lost;
     incarnation = refl;
     some = omega arith;
     strangers = λ t e m. later_stranger t log w.order (omega (arith, e));
