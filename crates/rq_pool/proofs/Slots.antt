@@ -1,10 +1,15 @@
 -- The slots that pages hold.
-use Rattle.std.proofs.Common.{◌≡◌, ℕ, ◌/◌, ◌%◌, ◌<◌, ◌≤◌, Bool, true, cond, nat_lt, List, ap, arith}
+use Rattle.std.proofs.Common.{◌≡◌, ℕ, ◌/◌, ◌%◌, ◌<◌, ◌≤◌, ◌==◌, Bool, true, false, not, cond, if◌then◌else◌, nat_lt, List, refl, sym, ◌∙◌, ap, arith}
+use Rattle.std.specs.Prelude.{slice_index}
+use Rattle.std.proofs.lemmas.Bool.{true≢false}
 use Rattle.std.proofs.lemmas.Bool.Decides.{nat_tests}
 use Rattle.rq_page.specs.Sizes.{Sizes, IsCellAddress, directory_at, sender_count}
-use Rattle.rq_page.specs.Slots.{Free, held_in}
-use Rattle.rq_page.proofs.Addresses.{senders_have_slots}
-use Rattle.rq_level.specs.Stored.{IsStoreSlot, slot_at, slots_in}
+use Rattle.rq_page.specs.Slots.{Free, held_in, held_for, of_cell_slot}
+use Rattle.rq_page.specs.Cells.{cell_in, cell_slot_in}
+use Rattle.rq_page.specs.declared.cell.CellSlot.{CellSlot}
+use Rattle.rq_page.specs.declared.cell.CellSlot.TheVariants as cells
+use Rattle.rq_page.proofs.Addresses.{senders_have_slots, kind_cells}
+use Rattle.rq_level.specs.Stored.{IsStoreSlot, slot_at, slots_in, is_used}
 
 -- what a slot that the pages have holds
 pub slots_here : (z : Sizes) (images : List (List ℕ)) (a : ℕ) → 1 ≤ a % 16 → slots_in z images a ≡ held_in z (a / 16) (slot_at images a)
@@ -20,3 +25,22 @@ pub directory_place : (z : Sizes) (s : ℕ) → s < sender_count z → IsStoreSl
 directory_place z s below =
     let place = senders_have_slots z s below in
     record { page_low = place.0; page_high = omega (arith, place.1); slot = place.2 }
+
+-- a cell's slot tells by its first byte whether the cell is used
+byte_tells : (bytes : List ℕ) (b : Bool) → (slice_index bytes 0 == 0) ≡ b → is_used (of_cell_slot (if b then cells.Free else cells.Used (cell_in bytes))) ≡ not b
+byte_tells bytes true e = refl
+byte_tells bytes false e = refl
+
+pub used_byte : (z : Sizes) (images : List (List ℕ)) (a : ℕ) → IsCellAddress z a → is_used (slots_in z images a) ≡ not (slice_index (slot_at images a) 0 == 0)
+used_byte z images a is =
+    ap is_used (slots_here z images a is.slot ∙ ap (λ k. held_for k (slot_at images a)) (kind_cells z (a / 16) is.above is.below))
+    ∙ byte_tells (slot_at images a) (slice_index (slot_at images a) 0 == 0) refl
+
+-- what is not used is free
+pub unused_free : (z : Sizes) (images : List (List ℕ)) (a : ℕ) → IsCellAddress z a → is_used (slots_in z images a) ≡ false → slots_in z images a ≡ Free
+unused_free z images a is h =
+    let here : slots_in z images a ≡ of_cell_slot (cell_slot_in (slot_at images a)) = slots_here z images a is.slot ∙ ap (λ k. held_for k (slot_at images a)) (kind_cells z (a / 16) is.above is.below) in
+    here ∙ by (cell_slot_in (slot_at images a)) (sym (ap is_used here) ∙ h) where
+      by : (x : CellSlot) → is_used (of_cell_slot x) ≡ false → of_cell_slot x ≡ Free
+      by cells.Free e = refl
+      by (cells.Used c) e = absurd (true≢false e)

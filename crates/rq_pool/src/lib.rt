@@ -2,6 +2,7 @@
 #![tactic(auto)]
 
 ghost use Rattle.std.specs.Prelude.{◌≡◌, ◌≢◌, ◌↔◌, ◌<◌, ◌/◌, ◌%◌, ℕ, true, false, IsSome, IfSome, IfNone, IfErr, IfOk, OnOk, length, replicate, slice_set};
+ghost use Rattle.std.specs.Bool.{OnFalse};
 ghost use Rattle.rq_page.specs.Sizes.{IsCellAddress, page_count, sender_count, cell_count, directory_at};
 ghost use Rattle.rq_page.specs.Pages.{IsWritten};
 ghost use Rattle.rq_page.specs.Slots.{Free, Sender, held_in, IsSlotOf, IsCellOf, IsDirectoryOf};
@@ -224,7 +225,7 @@ impl<P: PageDevice> Pages<P> {
         let layout = self.layout();
         for place in 0..layout.cell_slots() {
             let at = layout.cell_addr(place);
-            if self.cell(at).is_none() {
+            if !self.is_used(at) {
                 return Some(at);
             }
         }
@@ -243,6 +244,15 @@ impl<P: PageDevice> Pages<P> {
             }
         }
         used
+    }
+
+    // Whether a cell is used, as the first byte of its slot tells.
+    fn is_used(&self, at: Addr) -> bool
+        requires { IsCellAddress self.now.sizes at }
+        ensures used { result ≡ is_used (slots_in self.now.sizes self.now.images at) }
+        ensures free { OnFalse result (slots_in self.now.sizes self.now.images at ≡ Free) }
+    {
+        self.slot_bytes(at)[0] != 0
     }
 
     // The bytes of a slot.

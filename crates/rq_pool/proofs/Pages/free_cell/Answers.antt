@@ -4,8 +4,8 @@ use Rattle.rq_level.specs.Stored.{slots_in}
 use Rattle.rq_pool.proofs.Counts.{lower_used, all_used}
 use Rattle.rq_pool.proofs.Pages.free_cell.Goals as goal
 
-pub returns-then-is_none-clause-lowest : goal.returns-then-is_none-clause-lowest
-returns-then-is_none-clause-lowest g c =
+pub returns-then-not-is_used-clause-lowest : goal.returns-then-not-is_used-clause-lowest
+returns-then-not-is_used-clause-lowest g c =
     let pool = c.args.self.now in
     lower_used pool.sizes (slots_in pool.sizes pool.images) c.loop-place.place c.cell_addr-at.result
     (c.cell_addr-at.ensures.value ∙ ap (λ z. cell_at z c.loop-place.place) c.layout-layout.ensures.sizes) c.loop-place.invariant
