@@ -1,4 +1,6 @@
 //! The lines of a script, carried out over a store.
+ghost use Rattle.std.specs.Prelude.{◌≤◌, IfOk};
+
 use crate::command::{Command, Images, Keep, Post};
 use crate::told::{LINE_ROOM, Told};
 use rq_disk::{CallKind, MemLog, MemPages, Mishap, PageChoice, Switch};
@@ -26,7 +28,9 @@ pub fn run_script<R: Read, W: Write>(
     reader: &mut R,
     writer: &mut W,
     layout: Layout,
-) -> u8 {
+) -> u8
+    ensures status { result ≤ 1 }
+{
     let mut input = Vec::new(alloc);
     if reader.read_to_end(&mut input).is_err() {
         let _ = writer.write_all(b"fault input\n");
@@ -44,7 +48,9 @@ fn run_lines<W: Write>(
     input: &[u8],
     writer: &mut W,
     layout: Layout,
-) -> io::Result<u8> {
+) -> io::Result<u8>
+    ensures status { IfOk result (λ status. status ≤ 1) }
+{
     let Ok(mut output) = Vec::with_capacity(alloc, LINE_ROOM) else {
         writer.write_all(b"fault 1 NoMemory\n")?;
         return Ok(1);
@@ -121,7 +127,9 @@ impl Script {
         input: &[u8],
         writer: &mut W,
         output: &mut Vec<u8>,
-    ) -> io::Result<u8> {
+    ) -> io::Result<u8>
+        ensures status { IfOk result (λ status. status ≤ 1) }
+    {
         let mut rest = input;
         for number in 1..u64::MAX {
             if rest.is_empty() {
