@@ -3,7 +3,7 @@
 //!
 //! Callers are generic in both, and reach everything through the ghost members. A call that errs may have
 //! done its work or not: each clause on what a crash leaves stands on every answer.
-ghost use Rattle.std.specs.Prelude.{◌≡◌, ◌≤◌, ◌+◌, ◌-◌, ◌++◌, List, ℕ, length, take, drop, min, IfOk, OnOk, OnErr};
+ghost use Rattle.std.specs.Prelude.{◌≡◌, ◌≢◌, ◌≤◌, ◌+◌, ◌-◌, ◌++◌, List, ℕ, length, take, drop, min, IfOk, OnOk, OnErr};
 ghost use Rattle.rq_disk.specs.Device.{Images, Leaves, Holds, Written, NoMore, Appended, Only, Elapses, HasCause};
 ghost use Rattle.rq_disk.specs.Records.{AreRecords};
 
@@ -21,6 +21,9 @@ pub struct DeviceFailed;
 pub trait PageDevice {
     /// The image that a read of a page gives.
     ghost seen: { Self → Images };
+
+    /// Each answer so far was that of an honest device.
+    ghost honest: { Self → Type 0 };
 
     /// The images that a crash at this moment may leave of a page. Each page has its own by itself.
     ghost may_be: { Self → ℕ → List ℕ → Type 0 };
@@ -40,17 +43,20 @@ pub trait PageDevice {
 
     /// Reads a page.
     fn read(&mut self, page: u32, into: &mut [u8; PAGE]) -> Result<(), DeviceFailed>
-        ensures image { OnOk result (into.new ≡ seen self.old page) }
+        ensures image { OnOk result (honest self.new → into.new ≡ seen self.old page) }
         ensures seen { seen self.new ≡ seen self.old }
         ensures crash { NoMore (may_be self.old) (may_be self.new) }
         ensures time { Elapses (moment self.old) (moment self.new) (left_since self.old) (left_since self.new) (Leaves (may_be self.new)) }
+        ensures honest { honest self.new → honest self.old }
         ensures cause { HasCause (faults self.old) (faults self.new) result };
 
     /// Writes a page. The image is durable only after a sync.
     fn write(&mut self, page: u32, image: &[u8; PAGE]) -> Result<(), DeviceFailed>
+        ensures others { (p : ℕ) → p ≢ page → seen self.new p ≡ seen self.old p }
         ensures written { OnOk result (Holds (seen self.old) page image.now (seen self.new)) }
         ensures crash { Written page image.now (may_be self.old) (may_be self.new) }
         ensures time { Elapses (moment self.old) (moment self.new) (left_since self.old) (left_since self.new) (Leaves (may_be self.new)) }
+        ensures honest { honest self.new → honest self.old }
         ensures cause { HasCause (faults self.old) (faults self.new) result };
 
     /// Makes everything written so far durable.
@@ -59,6 +65,7 @@ pub trait PageDevice {
         ensures seen { seen self.new ≡ seen self.old }
         ensures crash { NoMore (may_be self.old) (may_be self.new) }
         ensures time { Elapses (moment self.old) (moment self.new) (left_since self.old) (left_since self.new) (Leaves (may_be self.new)) }
+        ensures honest { honest self.new → honest self.old }
         ensures cause { HasCause (faults self.old) (faults self.new) result };
 
     /// A crash may leave what reads give.
@@ -76,6 +83,9 @@ pub trait PageDevice {
 pub trait LogDevice {
     /// The bytes that reads give.
     ghost seen: { Self → List ℕ };
+
+    /// Each answer so far was that of an honest device.
+    ghost honest: { Self → Type 0 };
 
     /// The bytes that a crash at this moment may leave.
     ghost may_leave: { Self → List ℕ → Type 0 };
@@ -95,11 +105,13 @@ pub trait LogDevice {
 
     /// Reads from the byte `at` on, as many bytes as there are and fit, and answers how many.
     fn read(&mut self, at: u64, into: &mut [u8]) -> Result<usize, DeviceFailed>
-        ensures count { IfOk result (λ n. n ≡ min (length into.old) (length (seen self.old) - at)) }
-        ensures bytes { IfOk result (λ n. into.new ≡ take n (drop at (seen self.old)) ++ drop n into.old) }
+        ensures within { IfOk result (λ n. n ≤ length into.old) }
+        ensures count { IfOk result (λ n. honest self.new → n ≡ min (length into.old) (length (seen self.old) - at)) }
+        ensures bytes { IfOk result (λ n. honest self.new → into.new ≡ take n (drop at (seen self.old)) ++ drop n into.old) }
         ensures seen { seen self.new ≡ seen self.old }
         ensures crash { (c : List ℕ) → may_leave self.new c → may_leave self.old c }
         ensures time { Elapses (moment self.old) (moment self.new) (left_since self.old) (left_since self.new) (may_leave self.new) }
+        ensures honest { honest self.new → honest self.old }
         ensures cause { HasCause (faults self.old) (faults self.new) result };
 
     /// Appends whole records. They are durable only after a force; a crash before it leaves the first few.
@@ -108,6 +120,7 @@ pub trait LogDevice {
         ensures added { OnOk result (seen self.new ≡ seen self.old ++ bytes.now) }
         ensures crash { Appended (seen self.old) bytes.now (may_leave self.old) (may_leave self.new) }
         ensures time { Elapses (moment self.old) (moment self.new) (left_since self.old) (left_since self.new) (may_leave self.new) }
+        ensures honest { honest self.new → honest self.old }
         ensures cause { HasCause (faults self.old) (faults self.new) result };
 
     /// Makes everything appended so far durable.
@@ -116,6 +129,7 @@ pub trait LogDevice {
         ensures seen { seen self.new ≡ seen self.old }
         ensures crash { (c : List ℕ) → may_leave self.new c → may_leave self.old c }
         ensures time { Elapses (moment self.old) (moment self.new) (left_since self.old) (left_since self.new) (may_leave self.new) }
+        ensures honest { honest self.new → honest self.old }
         ensures cause { HasCause (faults self.old) (faults self.new) result };
 
     /// A crash may leave what reads give.

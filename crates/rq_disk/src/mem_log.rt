@@ -1,5 +1,5 @@
 //! A log in memory. It keeps what it was at first and each call since, so that its past is real data.
-ghost use Rattle.std.specs.Prelude.{◌≡◌, ◌≤◌, ◌-◌, ◌++◌, ◌∷◌, [], ℕ, length, take, drop, min, IfOk, OnOk, OnErr};
+ghost use Rattle.std.specs.Prelude.{⊤, ◌≡◌, ◌≤◌, ◌-◌, ◌++◌, ◌∷◌, [], ℕ, length, take, drop, min, IfOk, OnOk, OnErr};
 ghost use Rattle.rq_disk.specs.Records.{AreRecords, some_records-prop};
 ghost use Rattle.rq_disk.specs.Memory.{log_after};
 
@@ -40,6 +40,8 @@ impl LogDevice for MemLog {
     ghost use Rattle.rq_disk.specs.Memory.{log_reads, MayLeave, LogSince, log_seen, log_count, log_only};
 
     ghost seen = { λ m. log_reads (log_of m) };
+
+    ghost honest = { λ m. ⊤ };
 
     ghost may_leave = { λ m. MayLeave (log_of m) };
 

@@ -1,5 +1,5 @@
 //! Pages in memory. They keep what they were at first and each call since, so that their past is real data.
-ghost use Rattle.std.specs.Prelude.{◌≡◌, ◌≤◌, ◌<◌, ◌==◌, ◌++◌, ◌∷◌, [], ℕ, List, length, take, drop, get_or, slice_set, replicate, if◌then◌else◌, IfOk, OnOk, OnErr};
+ghost use Rattle.std.specs.Prelude.{⊤, ◌≡◌, ◌≤◌, ◌<◌, ◌==◌, ◌++◌, ◌∷◌, [], ℕ, List, length, take, drop, get_or, slice_set, replicate, if◌then◌else◌, IfOk, OnOk, OnErr};
 ghost use Rattle.rq_disk.specs.Memory.{pages_after, reads};
 
 use crate::choice::PageChoice;
@@ -34,6 +34,8 @@ impl PageDevice for MemPages {
     ghost use Rattle.rq_disk.specs.Memory.{MayBe, PagesSince, pages_seen, pages_count, pages_only};
 
     ghost seen = { λ m. reads (pages_of m) };
+
+    ghost honest = { λ m. ⊤ };
 
     ghost may_be = { λ m. MayBe (pages_of m) };
 

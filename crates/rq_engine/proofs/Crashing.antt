@@ -9,6 +9,8 @@ use Rattle.rq_page.specs.Sizes.{Sizes, page_count}
 use Rattle.rq_page.specs.Pages.{lsn_of}
 use Rattle.rq_page.specs.Formatted.{IsFormatted, IsHeaderOf}
 use Rattle.rq_disk.specs.Device.{Images, Leaves}
+use Rattle.rq_disk.specs.declared.device.LogDevice as log_device
+use Rattle.rq_disk.specs.declared.device.PageDevice as page_device
 use Rattle.rq_log.specs.Spelled.{AreSpelled, IsBeginning}
 use Rattle.rq_log.specs.Crash.{LeavesOnly}
 use Rattle.rq_pool.specs.declared.Written.{Written}
@@ -45,16 +47,15 @@ cut s k told images bytes fits b = (
   },
 )
 
-module _ {P L : Type 0} (seen : P → Images) (may_be : P → ℕ → List ℕ → Type 0) (moment : P → ℕ) (left_since : P → ℕ → Images → Type 0) (faults : P → ℕ)
-    (only_now : (d : P) (c : Images) → left_since d (moment d) c → Leaves (may_be d) c) where
-  pub leaves_cut : (may_leave : L → List ℕ → Type 0) (s : OpenStore P L) → ((c : List ℕ) → may_leave s.log c → IsBeginning s.state.records s.state.forced c) → AreSpelled s.state.records → IsSound s.state → AreFit may_be s → LeavesCut may_be may_leave s
-  leaves_cut may_leave s log told k fit images bytes there left = cut s.state k told images bytes (fits_log (may_be s.pages) s.state.sizes (oldest s.state.forced s.state.records) images fit there) (log bytes left)
+module _ {P L : Type 0} (p : page_device.Ghosts P) (l : log_device.Ghosts L) (only_now : (d : P) (c : Images) → p.left_since d (p.moment d) c → Leaves (p.may_be d) c) where
+  pub leaves_cut : (s : OpenStore P L) → (l.honest s.log → (c : List ℕ) → l.may_leave s.log c → IsBeginning s.state.records s.state.forced c) → AreSpelled s.state.records → l.honest s.log → IsSound s.state → AreFit p s → LeavesCut p l s
+  leaves_cut s log told h k fit images bytes there left = cut s.state k told images bytes (fits_log (p.may_be s.pages) s.state.sizes (oldest s.state.forced s.state.records) images fit there) (log h bytes left)
 
   -- where no call was made since
-  pub left_now : (may_leave : L → List ℕ → Type 0) (log_moment : L → ℕ) (log_left_since : L → ℕ → List ℕ → Type 0) (log_only_now : (d : L) (c : List ℕ) → log_left_since d (log_moment d) c → may_leave d c) (s : OpenStore P L) → LeavesCut may_be may_leave s → LeftCut moment left_since log_moment log_left_since s s
-  left_now may_leave log_moment log_left_since log_only_now s here images bytes pages log = here images bytes (only_now s.pages images pages) (log_only_now s.log bytes log)
+  pub left_now : (log_only_now : (d : L) (c : List ℕ) → l.left_since d (l.moment d) c → l.may_leave d c) (s : OpenStore P L) → LeavesCut p l s → LeftCut p l s s
+  left_now log_only_now s here images bytes pages log = here images bytes (only_now s.pages images pages) (log_only_now s.log bytes log)
 
-  module _ (old new : OpenStore P L) (k : IsSound old.state) (fit : AreFit may_be old) where
+  module _ (old new : OpenStore P L) (k : IsSound old.state) (fit : AreFit p old) where
     abbrev z : Sizes
     z = old.state.sizes
 
@@ -63,18 +64,18 @@ module _ {P L : Type 0} (seen : P → Images) (may_be : P → ℕ → List ℕ �
 
     -- what is so of the pages afterwards, and of them at each moment since
     abbrev Goes : Type 0
-    Goes = AllFit (may_be new.pages) z kept × ((images : Images) → left_since new.pages (moment old.pages) images → FitsLog z images kept)
+    Goes = AllFit (p.may_be new.pages) z kept × ((images : Images) → p.left_since new.pages (p.moment old.pages) images → FitsLog z images kept)
 
     stays : new.pages ≡ old.pages → Goes
-    stays e = subst (λ (d : P). AllFit (may_be d) z kept × ((images : Images) → left_since d (moment old.pages) images → FitsLog z images kept)) (sym e)
-        (fit, λ images left. fits_log (may_be old.pages) z kept images fit (only_now old.pages images left))
+    stays e = subst (λ (d : P). AllFit (p.may_be d) z kept × ((images : Images) → p.left_since d (p.moment old.pages) images → FitsLog z images kept)) (sym e)
+        (fit, λ images left. fits_log (p.may_be old.pages) z kept images fit (only_now old.pages images left))
 
     -- the page that is handed to the device
-    module _ (page : ℕ) (within : page < page_count z) (forced : lsn_of (image_at old.state.images page) ≤ old.state.forced) (w : MayHaveWritten may_be moment left_since page (image_at old.state.images page) old.pages new.pages) where
+    module _ (page : ℕ) (within : page < page_count z) (forced : lsn_of (image_at old.state.images page) ≤ old.state.forced) (w : MayHaveWritten p page (image_at old.state.images page) old.pages new.pages) where
       abbrev image : List ℕ
       image = image_at old.state.images page
 
-      fits_now : AllFit (may_be new.pages) z kept
+      fits_now : AllFit (p.may_be new.pages) z kept
       fits_now = record {
         superblock = λ c may. ⊎_elim (fit.superblock c) (λ e. subst (λ b. IsFormatted z 0 b) (sym e.1) (subst (λ p. IsFormatted z 0 (image_in old.state.images p)) e.0 k.fits.superblock)) (w.crash 0 c may);
         headers = λ p c low high may. ⊎_elim (fit.headers p c low high) (λ e. subst (λ b. IsHeaderOf z p b) (sym e.1) (subst (λ q. IsHeaderOf z p (image_in old.state.images q)) e.0 (k.fits.headers p low high))) (w.crash p c may);
@@ -85,28 +86,28 @@ module _ {P L : Type 0} (seen : P → Images) (may_be : P → ℕ → List ℕ �
       written = (
         fits_now,
         λ images left. ⊎_elim
-            (λ was. fits_log (may_be old.pages) z kept images fit (only_now old.pages images was))
-            (λ now. fits_log (may_be new.pages) z kept images fits_now now)
-            (w.time.nothing_else (moment old.pages) images (omega arith) left),
+            (λ was. fits_log (p.may_be old.pages) z kept images fit (only_now old.pages images was))
+            (λ now. fits_log (p.may_be new.pages) z kept images fits_now now)
+            (w.time.nothing_else (p.moment old.pages) images (omega arith) left),
       )
 
-    goes_out : (page : ℕ) (r : Result Written Refusal) → WritesWhen old page r → DeviceAfter seen may_be moment left_since faults page (image_at old.state.images page) old.pages new.pages r → Goes
+    goes_out : (page : ℕ) (r : Result Written Refusal) → WritesWhen old page r → DeviceAfter p page (image_at old.state.images page) old.pages new.pages r → Goes
     goes_out page (Ok out.Done) when after = written page when.1.0.of_store when.1.1 after.1
     goes_out page (Ok out.Nothing) when after = stays after
     goes_out page (Err why.DiskWrite) when after = written page when.1.0.of_store when.1.1 after.0
     goes_out page (Err _) when after = stays after
 
-    goes : (e : Event) (r : Reply) → WritesSay old e r → PagesSay seen may_be moment left_since faults old new e r → Goes
+    goes : (e : Event) (r : Reply) → WritesSay old e r → PagesSay p old new e r → Goes
     goes (event.WritePage page) r when say = goes_out page (written_by r) when say
     goes _ r when say = stays say
 
-    pub fit_kept : (e : Event) (r : Reply) (call : Call) (gave : Gave) → new.state.sizes ≡ old.state.sizes → Steps old.state call gave new.state → WritesSay old e r → PagesSay seen may_be moment left_since faults old new e r → AreFit may_be new
+    pub fit_kept : (e : Event) (r : Reply) (call : Call) (gave : Gave) → new.state.sizes ≡ old.state.sizes → Steps old.state call gave new.state → WritesSay old e r → PagesSay p old new e r → AreFit p new
     fit_kept e r call gave sizes steps when say =
-        subst (λ (y : Sizes). AllFit (may_be new.pages) y (oldest new.state.forced new.state.records)) (sym sizes)
-        (all_fit_longer (may_be new.pages) z kept (oldest new.state.forced new.state.records)
+        subst (λ (y : Sizes). AllFit (p.may_be new.pages) y (oldest new.state.forced new.state.records)) (sym sizes)
+        (all_fit_longer (p.may_be new.pages) z kept (oldest new.state.forced new.state.records)
         (oldest_continues old.state.forced new.state.forced old.state.records new.state.records steps.goes_on k.forced steps.stays_forced steps.sound.forced)
         (goes e r when say).0)
 
-    pub left_cut : (log_moment : L → ℕ) (log_left_since : L → ℕ → List ℕ → Type 0) (e : Event) (r : Reply) → AreSpelled old.state.records → WritesSay old e r → PagesSay seen may_be moment left_since faults old new e r
-        → LeavesOnly log_moment log_left_since old.log new.log (IsBeginning old.state.records old.state.forced) → LeftCut moment left_since log_moment log_left_since old new
-    left_cut log_moment log_left_since e r told when say run images bytes pages log = cut old.state k told images bytes ((goes e r when say).1 images pages) (run.each bytes log)
+    pub left_cut : (e : Event) (r : Reply) → AreSpelled old.state.records → WritesSay old e r → PagesSay p old new e r
+        → LeavesOnly l old.log new.log (IsBeginning old.state.records old.state.forced) → LeftCut p l old new
+    left_cut e r told when say run images bytes pages log = cut old.state k told images bytes ((goes e r when say).1 images pages) (run.each bytes log)

@@ -15,6 +15,9 @@ use Rattle.rq_txn.specs.Rows.{Row, Under, found_row, change_row, row_stepped, an
 use Rattle.rq_store.specs.State.{State}
 use Rattle.rq_store.specs.Sound.{IsSound}
 use Rattle.rq_store.specs.Steps.{Steps, IsPutIn, page_op}
+use Rattle.rq_disk.specs.declared.device.LogDevice as log_device
+use Rattle.rq_disk.specs.declared.device.PageDevice as page_device
+use Rattle.rq_engine.specs.Opened.{OpenStore, AreHonest}
 
 -- A refusal comes only with its cause: memory's where the call takes memory, the disk's and a page's that is not forced where it writes, Latched where an
 -- operation is under way, and damage never.
@@ -32,10 +35,11 @@ HasCause memory disk s _ = Unit {0}
 abbrev pub Refuses : (memory disk : Bool) → State → Call → Refusal → Type 0
 Refuses memory disk s call r = IsSound s → Steps s call (Gave_refusal r) s × HasCause memory disk s r
 
--- The call with its answer is an entry that may come next where the store goes back to a legal log, and the store after it is what that entry makes of it.
-abbrev pub Answers : {X : Type 0} → (memory disk : Bool) → State → Call → (X → Gave) → Result X Refusal → State → Type 0
-Answers memory disk old call gave (Ok x) new = IsSound old → Steps old call (gave x) new
-Answers memory disk old call gave (Err r) new = IsSound old → Steps old call (Gave_refusal r) new × HasCause memory disk old r
+-- The call with its answer is an entry that may come next where the store goes back to a legal log and both devices have been honest up to its end, and the store
+-- after it is what that entry makes of it.
+abbrev pub Answers : {P L X : Type 0} → page_device.Ghosts P → log_device.Ghosts L → (memory disk : Bool) → OpenStore P L → Call → (X → Gave) → Result X Refusal → OpenStore P L → Type 0
+Answers p l memory disk old call gave (Ok x) new = AreHonest p l new → IsSound old.state → Steps old.state call (gave x) new.state
+Answers p l memory disk old call gave (Err r) new = AreHonest p l new → IsSound old.state → Steps old.state call (Gave_refusal r) new.state × HasCause memory disk old.state r
 
 -- what is so of a transaction's operation under way, if it has this number
 abbrev pub OnUnder : ℕ → (Row → Under → Type 0) → Row → Option Under → Type 0

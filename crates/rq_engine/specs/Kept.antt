@@ -3,6 +3,7 @@ use Rattle.std.specs.Prelude.{◌≡◌, ℕ, ◌+◌, ◌-◌, ◌*◌, ◌^◌
 use Rattle.std.specs.List.{sum_by}
 use Rattle.rq_model.specs.Words.{In}
 use Rattle.rq_model.specs.Deeds.{spelled_deed}
+use Rattle.rq_disk.specs.declared.device.LogDevice as log_device
 use Rattle.rq_log.specs.Logged.{Logged, WasDurable}
 use Rattle.rq_page.specs.Sizes.{Sizes, sender_count}
 use Rattle.rq_chain.specs.Writes.{AreSlotWrites}
@@ -60,6 +61,6 @@ pub record IsKept (s : State) (failed : Bool) (owed reserved : ℕ) : Type 0 whe
   pub few : (g : ℕ) → waits s.waiting g + sum_by done_one s.rows ≤ length s.records
 
 -- and when its log was last forced, a crash would have left that log alone
-pub record IsEngine {L : Type 0} (seen : L → List ℕ) (may_leave : L → List ℕ → Type 0) (s : State) (log : Logged L) (owed : ℕ) : Type 0 where
+pub record IsEngine {L : Type 0} (g : log_device.Ghosts L) (s : State) (log : Logged L) (owed : ℕ) : Type 0 where
   pub kept : IsKept s log.failed owed log.reserved
-  pub durable : WasDurable seen may_leave log
+  pub durable : WasDurable g log

@@ -2,6 +2,8 @@
 use Rattle.std.specs.Prelude.{◌≡◌, ℕ, ◌+◌, ◌%◌, ◌^◌, Bool, true, false, List, Result, Ok, Err}
 use Rattle.rq_model.specs.declared.refusal.Refusal.{Refusal}
 use Rattle.rq_model.specs.declared.refusal.Refusal.TheVariants as why
+use Rattle.rq_disk.specs.declared.device.LogDevice as log_device
+use Rattle.rq_disk.specs.declared.device.PageDevice as page_device
 use Rattle.rq_pool.specs.declared.Written.{Written}
 use Rattle.rq_pool.specs.Pooled.{Pooled}
 use Rattle.rq_pool.specs.Writing.{AnswersWhen}
@@ -16,16 +18,20 @@ pub record OpenStore (P L : Type 0) : Type 0 where
   pub log : L
   pub changed : List Bool
 
+-- both devices have been honest
+abbrev pub AreHonest : {P L : Type 0} → page_device.Ghosts P → log_device.Ghosts L → OpenStore P L → Type 0
+AreHonest p l s = p.honest s.pages × l.honest s.log
+
 -- its pages
 abbrev pub pooled : {P L : Type 0} → OpenStore P L → Pooled P
 pooled s = record { device = s.pages; sizes = s.state.sizes; images = s.state.images; changed = s.changed }
 
 -- Why nothing was handed over or forced: the store had failed before, and nothing changes, or the device of the log failed now, as its count of failures
 -- tells.
-abbrev pub NotWritten : {P L : Type 0} → (L → ℕ) → OpenStore P L → OpenStore P L → Refusal → Type 0
-NotWritten faults old new why.Failed = (old.state.failed ≡ true) × (new ≡ old)
-NotWritten faults old new why.DiskWrite = (old.state.failed ≡ false) × (faults new.log ≡ (faults old.log + 1) % 2 ^ 64)
-NotWritten faults old new _ = ⊥
+abbrev pub NotWritten : {P L : Type 0} → log_device.Ghosts L → OpenStore P L → OpenStore P L → Refusal → Type 0
+NotWritten g old new why.Failed = (old.state.failed ≡ true) × (new ≡ old)
+NotWritten g old new why.DiskWrite = (old.state.failed ≡ false) × (g.faults new.log ≡ (g.faults old.log + 1) % 2 ^ 64)
+NotWritten g old new _ = ⊥
 
 -- When a page that is to be written out is answered so. The store had failed before; or the page has no change that was not written; or it has one, and
 -- the record of its last change is forced, or is not.

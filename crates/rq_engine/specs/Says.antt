@@ -7,7 +7,8 @@ use Rattle.rq_model.specs.Replay.{Reply as Gave}
 use Rattle.rq_model.specs.Replay.Reply.{Gave_txn, Gave_sub, Gave_lsn, Gave_ready, Gave_sent, Gave_message, Gave_closed, Gave_undone, Gave_nothing, Gave_receipt, Gave_none, Gave_written, Gave_content, Gave_refusal}
 use Rattle.rq_content.specs.Read.{group_of}
 use Rattle.rq_model.specs.declared.txn.Sub.{Sub}
-use Rattle.rq_disk.specs.Device.{Images}
+use Rattle.rq_disk.specs.declared.device.LogDevice as log_device
+use Rattle.rq_disk.specs.declared.device.PageDevice as page_device
 use Rattle.rq_pool.specs.declared.Written.{Written}
 use Rattle.rq_pool.specs.declared.Written.TheVariants.{Done, Nothing}
 use Rattle.rq_pool.specs.Pooled.{image_at}
@@ -102,15 +103,15 @@ IsCaused s e (reply.Refused r) = HasCause (takes_memory e) (writes_out e) s r
 IsCaused s e _ = Unit {0}
 
 -- after a call that writes to the log's device: a failure of it is counted where the reply is its refusal, and nowhere else
-abbrev pub HasWritten : {P L : Type 0} → (L → ℕ) → OpenStore P L → OpenStore P L → Reply → Type 0
-HasWritten faults old new (reply.Refused r) = NotWritten faults old new r
-HasWritten faults old new _ = faults new.log ≡ faults old.log
+abbrev pub HasWritten : {P L : Type 0} → log_device.Ghosts L → OpenStore P L → OpenStore P L → Reply → Type 0
+HasWritten g old new (reply.Refused r) = NotWritten g old new r
+HasWritten g old new _ = g.faults new.log ≡ g.faults old.log
 
 -- what an event and its reply say of the log's device: it stays as it is, but where records are handed over or forced
-abbrev pub LogSays : {P L : Type 0} → (L → ℕ) → OpenStore P L → OpenStore P L → Event → Reply → Type 0
-LogSays faults old new event.HandOver r = HasWritten faults old new r
-LogSays faults old new event.Force r = HasWritten faults old new r
-LogSays faults old new _ r = new.log ≡ old.log
+abbrev pub LogSays : {P L : Type 0} → log_device.Ghosts L → OpenStore P L → OpenStore P L → Event → Reply → Type 0
+LogSays g old new event.HandOver r = HasWritten g old new r
+LogSays g old new event.Force r = HasWritten g old new r
+LogSays g old new _ r = new.log ≡ old.log
 
 -- the reply to the start of a receive
 abbrev pub begun_reply : Result (Option Sub) Refusal → Reply
@@ -125,9 +126,9 @@ written_by (reply.Refused r) = Err r
 written_by _ = Ok Nothing
 
 -- what an event and its reply say of the pages' device: it stays as it is, but where a page is written
-abbrev pub PagesSay : {P L : Type 0} → (P → Images) → (P → ℕ → List ℕ → Type 0) → (P → ℕ) → (P → ℕ → Images → Type 0) → (P → ℕ) → OpenStore P L → OpenStore P L → Event → Reply → Type 0
-PagesSay seen may_be moment left_since faults old new (event.WritePage page) r = DeviceAfter seen may_be moment left_since faults page (image_at old.state.images page) old.pages new.pages (written_by r)
-PagesSay seen may_be moment left_since faults old new _ r = new.pages ≡ old.pages
+abbrev pub PagesSay : {P L : Type 0} → page_device.Ghosts P → OpenStore P L → OpenStore P L → Event → Reply → Type 0
+PagesSay g old new (event.WritePage page) r = DeviceAfter g page (image_at old.state.images page) old.pages new.pages (written_by r)
+PagesSay g old new _ r = new.pages ≡ old.pages
 
 -- when a page is written, or is not
 abbrev pub WritesSay : {P L : Type 0} → OpenStore P L → Event → Reply → Type 0

@@ -81,7 +81,7 @@ impl<P: PageDevice, L: LogDevice> Model for Engine<P, L> {
       changed = e.pages.changed;
     } };
 
-    ghost invariant = { λ e. IsEngine L.seen L.may_leave (record {
+    ghost invariant = { λ e. IsEngine L.LogDevice (record {
       sizes = e.pages.sizes;
       rows = e.transactions;
       ends = e.ends;
@@ -109,7 +109,7 @@ impl<P: PageDevice + Drop, L: LogDevice + Drop> Engine<P, L> {
         requires begun { 1 ≤ incarnation }
         requires running { log.failed ≡ false }
         requires count { length log.records ≤ 2 ^ 50 }
-        requires durable { WasDurable L.seen L.may_leave log }
+        requires durable { WasDurable L.LogDevice log }
         requires senders { length waiting ≡ sender_count pages.sizes }
         requires few { (g : ℕ) → waits waiting g ≤ length log.records }
         ensures { result ≡ record {
@@ -177,9 +177,9 @@ impl<P: PageDevice, L: LogDevice> Engine<P, L> {
     /// What a crash at this moment leaves of the log, and of both devices, and that each record has a spelling, for proofs: it runs
     /// no code.
     pub fn keeps(&self)
-        ensures leaves { (c : List ℕ) → L.may_leave self.now.log c → IsBeginning self.now.state.records self.now.state.forced c }
+        ensures leaves { L.honest self.now.log → (c : List ℕ) → L.may_leave self.now.log c → IsBeginning self.now.state.records self.now.state.forced c }
         ensures spelled { AreSpelled self.now.state.records }
-        ensures cut { IsSound self.now.state → AreFit P.may_be self.now → LeavesCut P.may_be L.may_leave self.now }
+        ensures cut { L.honest self.now.log → IsSound self.now.state → AreFit P.PageDevice self.now → LeavesCut P.PageDevice L.LogDevice self.now }
     {
         self.log.keeps();
     }
@@ -189,7 +189,7 @@ impl<P: PageDevice, L: LogDevice> Engine<P, L> {
     /// # Errors
     /// `Failed`, `TooManyTransactions`, `NoMemory`.
     pub fn begin(&mut self) -> Result<Txn, Refusal>
-        ensures answered { Answers true false self.old.state Begin (λ t. Gave_txn t) result self.new.state }
+        ensures answered { Answers P.PageDevice L.LogDevice true false self.old Begin (λ t. Gave_txn t) result self.new }
         ensures sizes { self.new.state.sizes ≡ self.old.state.sizes }
         ensures devices { (self.new.pages ≡ self.old.pages) × (self.new.log ≡ self.old.log) }
         ensures refused { OnErr result (self.new ≡ self.old) }
@@ -214,7 +214,7 @@ impl<P: PageDevice, L: LogDevice> Engine<P, L> {
     /// # Errors
     /// `Failed`, `UnknownTransaction`, `NotOpen`, `Unfinished`, `LogFull`, `NoMemory`.
     pub fn commit(&mut self, txn: Txn) -> Result<CommitNo, Refusal>
-        ensures answered { Answers true false self.old.state (Commit txn) (λ number. Gave_lsn number.lsn) result self.new.state }
+        ensures answered { Answers P.PageDevice L.LogDevice true false self.old (Commit txn) (λ number. Gave_lsn number.lsn) result self.new }
         ensures sizes { self.new.state.sizes ≡ self.old.state.sizes }
         ensures number { IfOk result (λ number. number.txn ≡ txn) }
         ensures records { OnOk result (self.new.state.records ≡ Commit_record txn ∷ self.old.state.records) }
@@ -241,7 +241,7 @@ impl<P: PageDevice, L: LogDevice> Engine<P, L> {
     /// # Errors
     /// `Failed`.
     pub fn acknowledged(&self, number: CommitNo) -> Result<Option<Receipt>, Refusal>
-        ensures answered { Answers false false self.now.state (Acknowledge number.txn number.lsn) (λ given. Gave_receipt (is_given given)) result self.now.state }
+        ensures answered { Answers P.PageDevice L.LogDevice false false self.now (Acknowledge number.txn number.lsn) (λ given. Gave_receipt (is_given given)) result self.now }
         ensures receipt { IfOk result (λ given. IfSome given (λ r. r.number ≡ number)) }
         ensures failed { IfErr result (λ r. (r ≡ Refusal.Failed) × (self.now.state.failed ≡ true)) }
     {
@@ -258,16 +258,17 @@ impl<P: PageDevice, L: LogDevice> Engine<P, L> {
     /// # Errors
     /// `Failed`, `DiskWrite`.
     pub fn hand_over(&mut self) -> Result<(), Refusal>
-        ensures answered { Answers false true self.old.state Hand_over (λ done. Gave_nothing) result self.new.state }
+        ensures answered { Answers P.PageDevice L.LogDevice false true self.old Hand_over (λ done. Gave_nothing) result self.new }
         ensures sizes { self.new.state.sizes ≡ self.old.state.sizes }
         ensures state { OnOk result (self.new.state ≡ self.old.state) }
-        ensures reads { OnOk result (L.seen self.new.log ≡ spelled self.old.state.records) }
+        ensures reads { OnOk result (L.honest self.new.log → L.seen self.new.log ≡ spelled self.old.state.records) }
         ensures cause { OnOk result (L.faults self.new.log ≡ L.faults self.old.log) }
-        ensures refusal { IfErr result (λ r. NotWritten L.faults self.old self.new r) }
+        ensures refusal { IfErr result (λ r. NotWritten L.LogDevice self.old self.new r) }
         ensures refused { self.old.state.failed ≡ true → self.new ≡ self.old }
         ensures failed { OnErr result (self.new.state ≡ record self.old.state { failed = true }) }
         ensures pages { self.new.pages ≡ self.old.pages }
-        ensures any_moment { LeavesOnly L.moment L.left_since self.old.log self.new.log (IsBeginning self.old.state.records self.old.state.forced) }
+        ensures honest { L.honest self.new.log → L.honest self.old.log }
+        ensures any_moment { L.honest self.new.log → LeavesOnly L.LogDevice self.old.log self.new.log (IsBeginning self.old.state.records self.old.state.forced) }
     {
         self.keeps();
         self.check_running()?;
@@ -285,18 +286,19 @@ impl<P: PageDevice, L: LogDevice> Engine<P, L> {
     /// # Errors
     /// `Failed`, `DiskWrite`.
     pub fn force(&mut self) -> Result<Lsn, Refusal>
-        ensures answered { Answers false true self.old.state Force (λ lsn. Gave_lsn lsn) result self.new.state }
+        ensures answered { Answers P.PageDevice L.LogDevice false true self.old Force (λ lsn. Gave_lsn lsn) result self.new }
         ensures sizes { self.new.state.sizes ≡ self.old.state.sizes }
         ensures forced { IfOk result (λ lsn. (lsn ≡ length self.old.state.records) × (self.new.state.forced ≡ lsn)) }
         ensures state { OnOk result (self.new.state ≡ record self.old.state { forced = length self.old.state.records }) }
-        ensures reads { OnOk result (L.seen self.new.log ≡ spelled self.old.state.records) }
-        ensures durable { OnOk result (Only (spelled self.old.state.records) (L.may_leave self.new.log)) }
+        ensures reads { OnOk result (L.honest self.new.log → L.seen self.new.log ≡ spelled self.old.state.records) }
+        ensures durable { OnOk result (L.honest self.new.log → Only (spelled self.old.state.records) (L.may_leave self.new.log)) }
         ensures cause { OnOk result (L.faults self.new.log ≡ L.faults self.old.log) }
-        ensures refusal { IfErr result (λ r. NotWritten L.faults self.old self.new r) }
+        ensures refusal { IfErr result (λ r. NotWritten L.LogDevice self.old self.new r) }
         ensures refused { self.old.state.failed ≡ true → self.new ≡ self.old }
         ensures failed { OnErr result (self.new.state ≡ record self.old.state { failed = true }) }
         ensures pages { self.new.pages ≡ self.old.pages }
-        ensures any_moment { LeavesOnly L.moment L.left_since self.old.log self.new.log (IsBeginning self.old.state.records self.old.state.forced) }
+        ensures honest { L.honest self.new.log → L.honest self.old.log }
+        ensures any_moment { L.honest self.new.log → LeavesOnly L.LogDevice self.old.log self.new.log (IsBeginning self.old.state.records self.old.state.forced) }
     {
         self.keeps();
         self.check_running()?;

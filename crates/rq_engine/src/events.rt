@@ -9,6 +9,7 @@ ghost use Rattle.rq_store.specs.Steps.{Steps};
 ghost use Rattle.rq_content.specs.Read.{group_of};
 ghost use Rattle.rq_engine.specs.Answers.{Answers};
 ghost use Rattle.rq_engine.specs.Crash.{AreFit, LeftCut};
+ghost use Rattle.rq_engine.specs.Opened.{AreHonest};
 ghost use Rattle.rq_engine.specs.Says.{IsCaused, IsContent, LogSays, PagesSay, WritesSay, begun_reply, call_of, gave};
 
 use crate::engine::Engine;
@@ -24,7 +25,7 @@ impl<P: PageDevice, L: LogDevice> Engine<P, L> {
     /// # Errors
     /// `Failed`, `Unfinished` where any operation is under way, `NoMemory`.
     pub fn content(&self) -> Result<Vec<GroupContent>, Refusal>
-        ensures answered { Answers true false self.now.state Show (λ groups. Gave_content (map group_of groups.items)) result self.now.state }
+        ensures answered { Answers P.PageDevice L.LogDevice true false self.now Show (λ groups. Gave_content (map group_of groups.items)) result self.now }
     {
         self.check_running()?;
         if self.transactions.any_under_way() {
@@ -39,17 +40,18 @@ impl<P: PageDevice, L: LogDevice> Engine<P, L> {
     /// Makes the call that an event stands for. Whatever a crash leaves of both devices, while the call is made and after it, is a store
     /// that was left so: the first records of the log, with all that are forced, and pages that fit them.
     pub fn apply(&mut self, event: &Event) -> Reply
-        ensures answered { IsSound self.old.state → Steps self.old.state (call_of event.now) (gave result) self.new.state }
-        ensures cause { IsSound self.old.state → IsCaused self.old.state event.now result }
+        ensures answered { AreHonest P.PageDevice L.LogDevice self.new → IsSound self.old.state → Steps self.old.state (call_of event.now) (gave result) self.new.state }
+        ensures cause { AreHonest P.PageDevice L.LogDevice self.new → IsSound self.old.state → IsCaused self.old.state event.now result }
         ensures sizes { self.new.state.sizes ≡ self.old.state.sizes }
         ensures no_memory { result ≡ Reply.Refused Refusal.NoMemory → self.new ≡ self.old }
         ensures content { IsContent result → self.new ≡ self.old }
         ensures writes { WritesSay self.old event.now result }
-        ensures pages { PagesSay P.seen P.may_be P.moment P.left_since P.faults self.old self.new event.now result }
-        ensures log { LogSays L.faults self.old self.new event.now result }
-        ensures any_moment { LeavesOnly L.moment L.left_since self.old.log self.new.log (IsBeginning self.old.state.records self.old.state.forced) }
-        ensures fit { IsSound self.old.state → AreFit P.may_be self.old → AreFit P.may_be self.new }
-        ensures crash { IsSound self.old.state → AreFit P.may_be self.old → LeftCut P.moment P.left_since L.moment L.left_since self.old self.new }
+        ensures pages { PagesSay P.PageDevice self.old self.new event.now result }
+        ensures log { LogSays L.LogDevice self.old self.new event.now result }
+        ensures honest { AreHonest P.PageDevice L.LogDevice self.new → AreHonest P.PageDevice L.LogDevice self.old }
+        ensures any_moment { L.honest self.new.log → LeavesOnly L.LogDevice self.old.log self.new.log (IsBeginning self.old.state.records self.old.state.forced) }
+        ensures fit { AreHonest P.PageDevice L.LogDevice self.new → IsSound self.old.state → AreFit P.PageDevice self.old → AreFit P.PageDevice self.new }
+        ensures crash { AreHonest P.PageDevice L.LogDevice self.new → IsSound self.old.state → AreFit P.PageDevice self.old → LeftCut P.PageDevice L.LogDevice self.old self.new }
     {
         self.keeps();
         self.call(event)
@@ -57,15 +59,16 @@ impl<P: PageDevice, L: LogDevice> Engine<P, L> {
 
     // The call, with what it says of the store and of its devices.
     fn call(&mut self, event: &Event) -> Reply
-        ensures answered { IsSound self.old.state → Steps self.old.state (call_of event.now) (gave result) self.new.state }
-        ensures cause { IsSound self.old.state → IsCaused self.old.state event.now result }
+        ensures answered { AreHonest P.PageDevice L.LogDevice self.new → IsSound self.old.state → Steps self.old.state (call_of event.now) (gave result) self.new.state }
+        ensures cause { AreHonest P.PageDevice L.LogDevice self.new → IsSound self.old.state → IsCaused self.old.state event.now result }
         ensures sizes { self.new.state.sizes ≡ self.old.state.sizes }
         ensures no_memory { result ≡ Reply.Refused Refusal.NoMemory → self.new ≡ self.old }
         ensures content { IsContent result → self.new ≡ self.old }
         ensures writes { WritesSay self.old event.now result }
-        ensures pages { PagesSay P.seen P.may_be P.moment P.left_since P.faults self.old self.new event.now result }
-        ensures log { LogSays L.faults self.old self.new event.now result }
-        ensures any_moment { LeavesOnly L.moment L.left_since self.old.log self.new.log (IsBeginning self.old.state.records self.old.state.forced) }
+        ensures pages { PagesSay P.PageDevice self.old self.new event.now result }
+        ensures log { LogSays L.LogDevice self.old self.new event.now result }
+        ensures honest { AreHonest P.PageDevice L.LogDevice self.new → AreHonest P.PageDevice L.LogDevice self.old }
+        ensures any_moment { L.honest self.new.log → LeavesOnly L.LogDevice self.old.log self.new.log (IsBeginning self.old.state.records self.old.state.forced) }
     {
         self.keeps();
         match event {

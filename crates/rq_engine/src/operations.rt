@@ -29,7 +29,7 @@ impl<P: PageDevice, L: LogDevice> Engine<P, L> {
     /// # Errors
     /// `Failed`, `UnknownOperation`.
     pub fn step(&mut self, sub: Sub) -> Result<Progress, Refusal>
-        ensures answered { Answers false false self.old.state (Step sub.txn sub.number) progress_of result self.new.state }
+        ensures answered { Answers P.PageDevice L.LogDevice false false self.old (Step sub.txn sub.number) progress_of result self.new }
         ensures sizes { self.new.state.sizes ≡ self.old.state.sizes }
         ensures devices { (self.new.pages ≡ self.old.pages) × (self.new.log ≡ self.old.log) }
         ensures refused { OnErr result (self.new ≡ self.old) }
@@ -46,7 +46,7 @@ impl<P: PageDevice, L: LogDevice> Engine<P, L> {
     /// # Errors
     /// `Failed`, `UnknownOperation`, `Unfinished`.
     pub fn finish(&mut self, sub: Sub) -> Result<Outcome, Refusal>
-        ensures answered { Answers false false self.old.state (Finish sub.txn sub.number) outcome_of result self.new.state }
+        ensures answered { Answers P.PageDevice L.LogDevice false false self.old (Finish sub.txn sub.number) outcome_of result self.new }
         ensures sizes { self.new.state.sizes ≡ self.old.state.sizes }
         ensures devices { (self.new.pages ≡ self.old.pages) × (self.new.log ≡ self.old.log) }
         ensures refused { OnErr result (self.new ≡ self.old) }

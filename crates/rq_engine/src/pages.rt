@@ -21,12 +21,13 @@ impl<P: PageDevice, L: LogDevice> Engine<P, L> {
     /// # Errors
     /// `Failed`, `NotForced`, `DiskWrite`.
     pub fn write_page(&mut self, page: u32) -> Result<Written, Refusal>
-        ensures answered { Answers false true self.old.state (Write_page page) (λ written. Gave_written (is_done written)) result self.new.state }
+        ensures answered { Answers P.PageDevice L.LogDevice false true self.old (Write_page page) (λ written. Gave_written (is_done written)) result self.new }
         ensures sizes { self.new.state.sizes ≡ self.old.state.sizes }
         ensures answer { WritesWhen self.old page result }
         ensures state { self.new.state ≡ state_after self.old.state result }
         ensures changed { self.new.changed ≡ changed_after self.old.changed page result }
-        ensures device { DeviceAfter P.seen P.may_be P.moment P.left_since P.faults page (image_at self.old.state.images page) self.old.pages self.new.pages result }
+        ensures device { DeviceAfter P.PageDevice page (image_at self.old.state.images page) self.old.pages self.new.pages result }
+        ensures honest { P.honest self.new.pages → P.honest self.old.pages }
         ensures log { self.new.log ≡ self.old.log }
     {
         self.check_running()?;

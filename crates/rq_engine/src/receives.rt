@@ -36,7 +36,7 @@ impl<P: PageDevice, L: LogDevice> Engine<P, L> {
     /// # Errors
     /// `Failed`, `UnknownTransaction`, `NotOpen`, `Unfinished`, `LogFull`, `Latched`, `NoMemory`.
     pub fn start_receive(&mut self, txn: Txn) -> Result<Option<Sub>, Refusal>
-        ensures answered { Answers true false self.old.state (Start_receive txn) started_of result self.new.state }
+        ensures answered { Answers P.PageDevice L.LogDevice true false self.old (Start_receive txn) started_of result self.new }
         ensures sizes { self.new.state.sizes ≡ self.old.state.sizes }
         ensures sub { IfOk result (λ begun. IfSome begun (λ sub. sub.txn ≡ txn)) }
         ensures none { IfOk result (λ begun. IfNone begun (self.new ≡ self.old)) }
@@ -60,7 +60,7 @@ impl<P: PageDevice, L: LogDevice> Engine<P, L> {
     /// # Errors
     /// `Failed`, `UnknownTransaction`, `NotOpen`, `Unfinished`, `UnknownSender`, `ReceiverBusy`, `LogFull`, `Latched`, `NoMemory`.
     pub fn start_receive_from(&mut self, txn: Txn, sender: u32) -> Result<Option<Sub>, Refusal>
-        ensures answered { Answers true false self.old.state (Start_receive_from txn sender) started_of result self.new.state }
+        ensures answered { Answers P.PageDevice L.LogDevice true false self.old (Start_receive_from txn sender) started_of result self.new }
         ensures sizes { self.new.state.sizes ≡ self.old.state.sizes }
         ensures sub { IfOk result (λ begun. IfSome begun (λ sub. sub.txn ≡ txn)) }
         ensures none { IfOk result (λ begun. IfNone begun (self.new ≡ self.old)) }
@@ -91,7 +91,7 @@ impl<P: PageDevice, L: LogDevice> Engine<P, L> {
         requires sender { sender < sender_count self.old.state.sizes }
         requires free { is_free_for txn sender self.old.state.ends.receiving ≡ true }
         requires waits { 1 ≤ waits self.old.state.waiting sender }
-        ensures answered { (call : Call) → IsTakeCall txn sender call → Answers true false self.old.state call (λ sub. started_of (Some sub)) result self.new.state }
+        ensures answered { (call : Call) → IsTakeCall txn sender call → Answers P.PageDevice L.LogDevice true false self.old call (λ sub. started_of (Some sub)) result self.new }
         ensures sizes { self.new.state.sizes ≡ self.old.state.sizes }
         ensures sub { IfOk result (λ sub. sub.txn ≡ txn) }
         ensures latched { OnOk result (any_under self.old.state.rows ≡ false) }

@@ -2,38 +2,39 @@
 use Rattle.std.proofs.Common.{◌≡◌, ℕ, suc, ◌+◌, ◌-◌, ◌≤◌, true, false, List, [], ◌∷◌, ◌++◌, length, take, drop, refl, sym, ◌∙◌, ap, subst, arith, length-append}
 use Rattle.rq_model.specs.declared.record.Record.{Record}
 use Rattle.rq_disk.specs.Device.{Appended, Only}
+use Rattle.rq_disk.specs.declared.device.LogDevice.{Ghosts}
 use Rattle.rq_disk.specs.Records.{AreRecords}
 use Rattle.rq_record.specs.Spelling.{IsRecord, spelling}
 use Rattle.rq_log.specs.Spelled.{spelled, IsBeginning}
 use Rattle.rq_log.specs.Logged.{Logged, WasDurable, Keeps}
-use Rattle.rq_log.proofs.Runs.{spelled_records, AreSpelled-take, appended, one_newer, all_of, nothing_newer, all_handed, spelled_whole}
+use Rattle.rq_log.proofs.Runs.{spelled_records, AreSpelled-take, appended, one_newer, all_of, nothing_newer, spelled_whole}
 
 no_bytes : (bytes : List ℕ) → length bytes ≡ 0 → bytes ≡ []
 no_bytes [] none = refl
 no_bytes (b ∷ bytes) none = absurd (omega arith)
 
-module _ {L : Type 0} (seen : L → List ℕ) (may_leave : L → List ℕ → Type 0) where
+module _ {L : Type 0} (g : Ghosts L) where
   -- what is buffered is whole records
-  pub whole : (log : Logged L) (last : ℕ) (buffer : List ℕ) (capacity : ℕ) → Keeps seen may_leave log last buffer capacity → log.failed ≡ false → (n : ℕ) × AreRecords n buffer
+  pub whole : (log : Logged L) (last : ℕ) (buffer : List ℕ) (capacity : ℕ) → Keeps g log last buffer capacity → log.failed ≡ false → (n : ℕ) × AreRecords n buffer
   whole log last buffer capacity k running =
       let b = k.buffered running in
       let newer = take b.0 log.records in
       (length newer, subst (AreRecords (length newer)) (sym b.3) (spelled_records newer (AreSpelled-take b.0 log.records k.is_log.spelled)))
 
   -- one record more
-  pub with_record : (log : Logged L) (last : ℕ) (buffer : List ℕ) (capacity : ℕ) → Keeps seen may_leave log last buffer capacity → log.failed ≡ false
+  pub with_record : (log : Logged L) (last : ℕ) (buffer : List ℕ) (capacity : ℕ) → Keeps g log last buffer capacity → log.failed ≡ false
       → (r : Record) → IsRecord r → (size : ℕ) → size ≡ length (spelling r) → size ≤ log.reserved
       → (records : List Record) → records ≡ r ∷ log.records → (bytes : List ℕ) → bytes ≡ buffer ++ spelling r → (room : ℕ) → capacity ≤ room
-      → Keeps seen may_leave (record { records = records; forced = log.forced; reserved = log.reserved - size; failed = log.failed; device = log.device; settled = log.settled }) (last + 1) bytes room
+      → Keeps g (record { records = records; forced = log.forced; pending = length bytes; reserved = log.reserved - size; failed = log.failed; device = log.device; settled = log.settled }) (last + 1) bytes room
   with_record log last buffer capacity k running r is size measured fits records grown bytes longer room le =
       let b = k.buffered running in
       let total : length bytes ≡ length buffer + size = ap length longer ∙ length-append buffer (spelling r) ∙ ap (λ (n : ℕ). length buffer + n) (sym measured) in
-      subst (λ (rs : List Record). Keeps seen may_leave (record { records = rs; forced = log.forced; reserved = log.reserved - size; failed = log.failed; device = log.device; settled = log.settled }) (last + 1) bytes room) (sym grown)
+      subst (λ (rs : List Record). Keeps g (record { records = rs; forced = log.forced; pending = length bytes; reserved = log.reserved - size; failed = log.failed; device = log.device; settled = log.settled }) (last + 1) bytes room) (sym grown)
       (record {
         is_log = record {
           spelled = (is, k.is_log.spelled);
           order = (let o = k.is_log.order in omega arith);
-          leaves = λ was c left. one_newer r log.records log.forced c (k.is_log.leaves was c left);
+          leaves = λ h was c left. one_newer r log.records log.forced c (k.is_log.leaves h was c left);
         };
         count = (let n = k.count in omega arith);
         room = (let n = k.room in omega arith);
@@ -41,45 +42,40 @@ module _ {L : Type 0} (seen : L → List ℕ) (may_leave : L → List ℕ → Ty
       })
 
   -- what an append of the buffer leaves
-  pub append_leaves : (log : Logged L) (last : ℕ) (buffer : List ℕ) (capacity : ℕ) → Keeps seen may_leave log last buffer capacity → log.failed ≡ false
-      → (device : L) → Appended (seen log.device) buffer (may_leave log.device) (may_leave device) → WasDurable seen may_leave log → (c : List ℕ) → may_leave device c → IsBeginning log.records log.forced c
-  append_leaves log last buffer capacity k running device crash was =
+  pub append_leaves : (log : Logged L) (last : ℕ) (buffer : List ℕ) (capacity : ℕ) → Keeps g log last buffer capacity → log.failed ≡ false
+      → (device : L) → Appended (g.seen log.device) buffer (g.may_leave log.device) (g.may_leave device) → g.honest log.device → WasDurable g log → (c : List ℕ) → g.may_leave device c → IsBeginning log.records log.forced c
+  append_leaves log last buffer capacity k running device crash h was =
       let b = k.buffered running in
-      appended log.records log.forced b.0 (seen log.device) buffer (may_leave log.device) (may_leave device) k.is_log.spelled b.1 b.2 b.3 (k.is_log.leaves was) crash
+      appended log.records log.forced b.0 (g.seen log.device) buffer (g.may_leave log.device) (g.may_leave device) k.is_log.spelled b.1 (b.2 h) b.3 (k.is_log.leaves h was) crash
 
-  pub reads_all : (log : Logged L) (last : ℕ) (buffer : List ℕ) (capacity : ℕ) → Keeps seen may_leave log last buffer capacity → log.failed ≡ false → seen log.device ++ buffer ≡ spelled log.records
-  reads_all log last buffer capacity k running =
+  pub reads_all : (log : Logged L) (last : ℕ) (buffer : List ℕ) (capacity : ℕ) → Keeps g log last buffer capacity → log.failed ≡ false → g.honest log.device → g.seen log.device ++ buffer ≡ spelled log.records
+  reads_all log last buffer capacity k running h =
       let b = k.buffered running in
-      ap (λ (l : List ℕ). l ++ buffer) b.2 ∙ ap (λ (l : List ℕ). spelled (drop b.0 log.records) ++ l) b.3 ∙ spelled_whole b.0 log.records
+      ap (λ (l : List ℕ). l ++ buffer) (b.2 h) ∙ ap (λ (l : List ℕ). spelled (drop b.0 log.records) ++ l) b.3 ∙ spelled_whole b.0 log.records
 
-  pub nothing_buffered : (log : Logged L) (last : ℕ) (buffer : List ℕ) (capacity : ℕ) → Keeps seen may_leave log last buffer capacity → log.failed ≡ false → length buffer ≡ 0 → seen log.device ≡ spelled log.records
-  nothing_buffered log last buffer capacity k running none =
+  pub nothing_buffered : (log : Logged L) (last : ℕ) (buffer : List ℕ) (capacity : ℕ) → Keeps g log last buffer capacity → log.failed ≡ false → length buffer ≡ 0 → g.honest log.device → g.seen log.device ≡ spelled log.records
+  nothing_buffered log last buffer capacity k running none h =
       let b = k.buffered running in
-      nothing_newer b.0 log.records (seen log.device) buffer b.2 b.3 none
-
-  pub all_on_device : (log : Logged L) (last : ℕ) (buffer : List ℕ) (capacity : ℕ) → Keeps seen may_leave log last buffer capacity → log.failed ≡ false → seen log.device ≡ spelled log.records → length buffer ≡ 0
-  all_on_device log last buffer capacity k running all =
-      let b = k.buffered running in
-      all_handed b.0 log.records (seen log.device) buffer b.2 b.3 all
+      nothing_newer b.0 log.records (g.seen log.device) buffer (b.2 h) b.3 none
 
   -- the buffer is handed over
-  pub handed : (log : Logged L) (last : ℕ) (buffer : List ℕ) (capacity : ℕ) → Keeps seen may_leave log last buffer capacity → log.failed ≡ false
-      → (device : L) → Appended (seen log.device) buffer (may_leave log.device) (may_leave device) → seen device ≡ seen log.device ++ buffer → (room : ℕ) → log.reserved ≤ room → (bytes : List ℕ) → bytes ≡ []
-      → Keeps seen may_leave (record { records = log.records; forced = log.forced; reserved = log.reserved; failed = log.failed; device = device; settled = log.settled }) last bytes room
-  handed log last buffer capacity k running device crash added room le bytes none = record {
+  pub handed : (log : Logged L) (last : ℕ) (buffer : List ℕ) (capacity : ℕ) → Keeps g log last buffer capacity → log.failed ≡ false
+      → (device : L) → (g.honest device → g.honest log.device) → Appended (g.seen log.device) buffer (g.may_leave log.device) (g.may_leave device) → g.seen device ≡ g.seen log.device ++ buffer → (room : ℕ) → log.reserved ≤ room → (bytes : List ℕ) → bytes ≡ []
+      → Keeps g (record { records = log.records; forced = log.forced; pending = length bytes; reserved = log.reserved; failed = log.failed; device = device; settled = log.settled }) last bytes room
+  handed log last buffer capacity k running device falls crash added room le bytes none = record {
     is_log = record {
       spelled = k.is_log.spelled;
       order = k.is_log.order;
-      leaves = append_leaves log last buffer capacity k running device crash;
+      leaves = λ h. append_leaves log last buffer capacity k running device crash (falls h);
     };
     count = k.count;
     room = omega (arith, le, ap length none);
-    buffered = λ _. (0, (let o = k.is_log.order in omega (arith, o)), added ∙ reads_all log last buffer capacity k running, none);
+    buffered = λ _. (0, (let o = k.is_log.order in omega (arith, o)), λ h. added ∙ reads_all log last buffer capacity k running (falls h), none);
   }
 
   -- an append of the buffer has failed
-  pub broken : (log : Logged L) (last : ℕ) (buffer : List ℕ) (capacity : ℕ) → Keeps seen may_leave log last buffer capacity → (device : L) → (WasDurable seen may_leave log → (c : List ℕ) → may_leave device c → IsBeginning log.records log.forced c)
-      → Keeps seen may_leave (record { records = log.records; forced = log.forced; reserved = log.reserved; failed = true; device = device; settled = log.settled }) last buffer capacity
+  pub broken : (log : Logged L) (last : ℕ) (buffer : List ℕ) (capacity : ℕ) → Keeps g log last buffer capacity → (device : L) → (g.honest device → WasDurable g log → (c : List ℕ) → g.may_leave device c → IsBeginning log.records log.forced c)
+      → Keeps g (record { records = log.records; forced = log.forced; pending = length buffer; reserved = log.reserved; failed = true; device = device; settled = log.settled }) last buffer capacity
   broken log last buffer capacity k device leaves = record {
     is_log = record {
       spelled = k.is_log.spelled;
@@ -92,16 +88,16 @@ module _ {L : Type 0} (seen : L → List ℕ) (may_leave : L → List ℕ → Ty
   }
 
   -- all is forced
-  pub forced_all : (log : Logged L) (last : ℕ) (buffer : List ℕ) (capacity : ℕ) → Keeps seen may_leave log last buffer capacity → log.failed ≡ false → seen log.device ≡ spelled log.records
-      → (device : L) → Only (seen log.device) (may_leave device) → seen device ≡ seen log.device → (settled : L)
-      → Keeps seen may_leave (record { records = log.records; forced = last; reserved = log.reserved; failed = log.failed; device = device; settled = settled }) last buffer capacity
-  forced_all log last buffer capacity k running all device durable same settled = record {
+  pub forced_all : (log : Logged L) (last : ℕ) (buffer : List ℕ) (capacity : ℕ) → Keeps g log last buffer capacity → log.failed ≡ false → length buffer ≡ 0
+      → (device : L) → (g.honest device → g.honest log.device) → Only (g.seen log.device) (g.may_leave device) → g.seen device ≡ g.seen log.device → (settled : L)
+      → Keeps g (record { records = log.records; forced = last; pending = length buffer; reserved = log.reserved; failed = log.failed; device = device; settled = settled }) last buffer capacity
+  forced_all log last buffer capacity k running none device falls durable same settled = record {
     is_log = record {
       spelled = k.is_log.spelled;
       order = (let n = k.count in omega arith);
-      leaves = λ was c left. all_of log.records last c (let n = k.count in omega arith) (durable c left ∙ all);
+      leaves = λ h was c left. all_of log.records last c (let n = k.count in omega arith) (durable c left ∙ nothing_buffered log last buffer capacity k running none (falls h));
     };
     count = k.count;
     room = k.room;
-    buffered = λ _. (0, (let n = k.count in omega arith), same ∙ all, no_bytes buffer (all_on_device log last buffer capacity k running all));
+    buffered = λ _. (0, (let n = k.count in omega arith), λ h. same ∙ nothing_buffered log last buffer capacity k running none (falls h), no_bytes buffer none);
   }

@@ -2,6 +2,7 @@
 use Rattle.std.specs.Prelude.{◌≡◌, ℕ, ◌+◌, ◌≤◌, Bool, false, List, length, drop, take}
 use Rattle.rq_model.specs.declared.record.Record.{Record}
 use Rattle.rq_disk.specs.Device.{Only}
+use Rattle.rq_disk.specs.declared.device.LogDevice.{Ghosts}
 use Rattle.rq_log.specs.Spelled.{spelled, AreSpelled, IsBeginning}
 
 pub record Logged (L : Type 0) : Type 0 where
@@ -9,6 +10,8 @@ pub record Logged (L : Type 0) : Type 0 where
   pub records : List Record
   -- how many of them, from the oldest on, are forced
   pub forced : ℕ
+  -- how many bytes of them are not handed over
+  pub pending : ℕ
   -- the bytes of room for records to come
   pub reserved : ℕ
   -- whether a write or a force has failed
@@ -17,24 +20,24 @@ pub record Logged (L : Type 0) : Type 0 where
   -- the device as it was when the records were read of it, or when they were last forced
   pub settled : L
 
-module _ {L : Type 0} (seen : L → List ℕ) (may_leave : L → List ℕ → Type 0) where
+module _ {L : Type 0} (g : Ghosts L) where
   -- at that moment a crash would have left what the device reads as, and nothing else
   abbrev pub WasDurable : Logged L → Type 0
-  WasDurable log = Only (seen log.settled) (may_leave log.settled)
+  WasDurable log = Only (g.seen log.settled) (g.may_leave log.settled)
 
   -- a crash now leaves the first records, whole ones, with all that are forced
   abbrev pub LeavesBeginnings : Logged L → Type 0
-  LeavesBeginnings log = (c : List ℕ) → may_leave log.device c → IsBeginning log.records log.forced c
+  LeavesBeginnings log = (c : List ℕ) → g.may_leave log.device c → IsBeginning log.records log.forced c
 
   -- what is so of each log
   pub record IsLog (log : Logged L) : Type 0 where
     pub spelled : AreSpelled log.records
     pub order : log.forced ≤ length log.records
-    pub leaves : WasDurable log → LeavesBeginnings log
+    pub leaves : g.honest log.device → WasDurable log → LeavesBeginnings log
 
-  -- the newest records stand in a buffer, and the device reads as the others
+  -- the newest records stand in a buffer, and an honest device reads as the others
   abbrev pub IsBuffered : Logged L → List ℕ → Type 0
-  IsBuffered log buffer = (count : ℕ) × (count + log.forced ≤ length log.records) × (seen log.device ≡ spelled (drop count log.records)) × (buffer ≡ spelled (take count log.records))
+  IsBuffered log buffer = (count : ℕ) × (count + log.forced ≤ length log.records) × (g.honest log.device → g.seen log.device ≡ spelled (drop count log.records)) × (buffer ≡ spelled (take count log.records))
 
   -- what is so of its fields
   pub record Keeps (log : Logged L) (last : ℕ) (buffer : List ℕ) (capacity : ℕ) : Type 0 where

@@ -37,14 +37,14 @@ pub struct Log<L: LogDevice> {
 }
 
 impl<L: LogDevice> Model for Log<L> {
-    ghost use Rattle.std.specs.Prelude.{vec_capacity};
+    ghost use Rattle.std.specs.Prelude.{length, vec_capacity};
     ghost use Rattle.rq_log.specs.Logged.{Logged, Keeps};
 
     ghost Value = { Logged L };
 
-    ghost view = { λ l. record { records = l.past.value; forced = l.forced; reserved = l.reserved; failed = l.failed; device = l.device; settled = l.settled.value } };
+    ghost view = { λ l. record { records = l.past.value; forced = l.forced; pending = length l.buffer.items; reserved = l.reserved; failed = l.failed; device = l.device; settled = l.settled.value } };
 
-    ghost invariant = { λ l. Keeps L.seen L.may_leave (record { records = l.past.value; forced = l.forced; reserved = l.reserved; failed = l.failed; device = l.device; settled = l.settled.value }) l.last l.buffer.items (vec_capacity l.buffer) };
+    ghost invariant = { λ l. Keeps L.LogDevice (record { records = l.past.value; forced = l.forced; pending = length l.buffer.items; reserved = l.reserved; failed = l.failed; device = l.device; settled = l.settled.value }) l.last l.buffer.items (vec_capacity l.buffer) };
 }
 
 /// A log that could not be read: why, and its device.
@@ -70,14 +70,15 @@ impl<L: LogDevice + Drop> Log<L> {
     /// number of the first record that is none.
     pub fn scan(alloc: Global, mut device: L) -> Scan<L>
         ensures spelled { AreSpelled (reverse result.records.items) }
-        ensures front { BeginsWith (reverse result.records.items) (L.seen device) }
-        ensures read { IfOk result.log (λ log. (log.records ≡ reverse result.records.items) × (L.seen device ≡ spelled log.records)) }
-        ensures log { IfOk result.log (λ log. (log.forced ≡ length log.records) × (log.reserved ≡ 0) × (log.failed ≡ false) × (log.settled ≡ device)) }
-        ensures stopped { IfErr result.log (λ stopped. StopsFor stopped.refusal (reverse result.records.items) (L.seen device) (L.faults device) (L.faults stopped.device)) }
+        ensures front { L.honest (device_of result.log) → BeginsWith (reverse result.records.items) (L.seen device) }
+        ensures read { IfOk result.log (λ log. (log.records ≡ reverse result.records.items) × (L.honest log.device → L.seen device ≡ spelled log.records)) }
+        ensures log { IfOk result.log (λ log. (log.forced ≡ length log.records) × (log.pending ≡ 0) × (log.reserved ≡ 0) × (log.failed ≡ false) × (log.settled ≡ device)) }
+        ensures stopped { IfErr result.log (λ stopped. StopsFor L.LogDevice stopped.refusal (reverse result.records.items) device stopped.device) }
         ensures cause { OnOk result.log (L.faults (device_of result.log) ≡ L.faults device) }
         ensures seen { L.seen (device_of result.log) ≡ L.seen device }
+        ensures honest { L.honest (device_of result.log) → L.honest device }
         ensures crash { (c : List ℕ) → L.may_leave (device_of result.log) c → L.may_leave device c }
-        ensures any_moment { LeavesOnly L.moment L.left_since device (device_of result.log) (L.may_leave device) }
+        ensures any_moment { LeavesOnly L.LogDevice device (device_of result.log) (L.may_leave device) }
     {
         let settled = Snapshot::of(&device);
         let mut records = Vec::new(alloc);
@@ -128,9 +129,9 @@ impl<L: LogDevice + Drop> Log<L> {
 impl<L: LogDevice> Log<L> {
     /// What is so of each log, for proofs: it runs no code.
     pub fn keeps(&self)
-        ensures log { IsLog L.seen L.may_leave self.now }
+        ensures log { IsLog L.LogDevice self.now }
         ensures count { length self.now.records < 2 ^ 64 }
-        ensures reads { self.now.failed ≡ false → IsBeginning self.now.records self.now.forced (L.seen self.now.device) }
+        ensures reads { self.now.failed ≡ false → L.honest self.now.device → IsBeginning self.now.records self.now.forced (L.seen self.now.device) }
     {
         let _last = self.last;
     }
@@ -203,11 +204,12 @@ impl<L: LogDevice> Log<L> {
         ensures reserved { self.new.reserved ≡ self.old.reserved }
         ensures settled { self.new.settled ≡ self.old.settled }
         ensures failed { self.old.failed ≡ true → (IsErrOf result Refusal.Failed) × (self.new ≡ self.old) }
-        ensures ok { OnOk result ((self.new.failed ≡ false) × (L.seen self.new.device ≡ spelled self.new.records)) }
+        ensures honest { L.honest self.new.device → L.honest self.old.device }
+        ensures ok { OnOk result ((self.new.failed ≡ false) × (self.new.pending ≡ 0) × (L.honest self.new.device → L.seen self.new.device ≡ spelled self.new.records)) }
         ensures err { self.old.failed ≡ false → IfErr result (λ e. (e ≡ Refusal.DiskWrite) × (self.new.failed ≡ true)) }
         ensures cause { self.old.failed ≡ false → HasCause (L.faults self.old.device) (L.faults self.new.device) result }
-        ensures idle { self.old.failed ≡ false → L.seen self.old.device ≡ spelled self.old.records → self.new ≡ self.old }
-        ensures any_moment { WasDurable L.seen L.may_leave self.old → LeavesOnly L.moment L.left_since self.old.device self.new.device (IsBeginning self.old.records self.old.forced) }
+        ensures idle { self.old.pending ≡ 0 → self.new ≡ self.old }
+        ensures any_moment { L.honest self.new.device → WasDurable L.LogDevice self.old → LeavesOnly L.LogDevice self.old.device self.new.device (IsBeginning self.old.records self.old.forced) }
     {
         if self.failed {
             return Err(Refusal::Failed);
@@ -232,15 +234,16 @@ impl<L: LogDevice> Log<L> {
         ensures records { self.new.records ≡ self.old.records }
         ensures reserved { self.new.reserved ≡ self.old.reserved }
         ensures failed { self.old.failed ≡ true → (IsErrOf result Refusal.Failed) × (self.new ≡ self.old) }
+        ensures honest { L.honest self.new.device → L.honest self.old.device }
         ensures ok { IfOk result (λ lsn. (lsn ≡ length self.new.records) × (self.new.forced ≡ lsn) × (self.new.failed ≡ false)) }
-        ensures reads { OnOk result (L.seen self.new.device ≡ spelled self.new.records) }
-        ensures durable { OnOk result (Only (spelled self.new.records) (L.may_leave self.new.device)) }
-        ensures settled { OnOk result (WasDurable L.seen L.may_leave self.new) }
+        ensures reads { OnOk result (L.honest self.new.device → L.seen self.new.device ≡ spelled self.new.records) }
+        ensures durable { OnOk result (L.honest self.new.device → Only (spelled self.new.records) (L.may_leave self.new.device)) }
+        ensures settled { OnOk result (WasDurable L.LogDevice self.new) }
         ensures err { self.old.failed ≡ false → IfErr result (λ e. (e ≡ Refusal.DiskWrite) × (self.new.failed ≡ true)) }
         ensures as_before { OnErr result ((self.new.forced ≡ self.old.forced) × (self.new.settled ≡ self.old.settled)) }
         ensures cause { self.old.failed ≡ false → HasCause (L.faults self.old.device) (L.faults self.new.device) result }
-        ensures any_moment { WasDurable L.seen L.may_leave self.old → LeavesOnly L.moment L.left_since self.old.device self.new.device (IsBeginning self.old.records self.old.forced) }
-        ensures idle { L.seen self.old.device ≡ spelled self.old.records → LeavesOnly L.moment L.left_since self.old.device self.new.device (L.may_leave self.old.device) }
+        ensures any_moment { L.honest self.new.device → WasDurable L.LogDevice self.old → LeavesOnly L.LogDevice self.old.device self.new.device (IsBeginning self.old.records self.old.forced) }
+        ensures idle { self.old.pending ≡ 0 → LeavesOnly L.LogDevice self.old.device self.new.device (L.may_leave self.old.device) }
     {
         self.hand_over()?;
         match self.device.force() {

@@ -1,7 +1,7 @@
 //! Reads the records of a device.
 ghost use Rattle.std.specs.Prelude.{◌≡◌, ◌+◌, ◌%◌, ◌^◌, OnOk, IfOk, IfErr, ℕ, List, [], reverse};
 ghost use Rattle.rq_log.specs.Crash.{LeavesOnly};
-ghost use Rattle.rq_log.specs.Scanned.{BeginsWith, StopsFor, IsDamagedBehind};
+ghost use Rattle.rq_log.specs.Scanned.{BeginsWith, StopsAt, StopsFor, IsDamagedBehind};
 ghost use Rattle.rq_log.specs.Spelled.{spelled, AreSpelled};
 
 use crate::past::Past;
@@ -23,12 +23,13 @@ pub(crate) fn read_records<L: LogDevice>(
     requires past { past.old.value ≡ [] }
     ensures past { past.new.value ≡ reverse records.new.items }
     ensures spelled { AreSpelled past.new.value }
-    ensures front { BeginsWith past.new.value (L.seen device.old) }
-    ensures ok { OnOk result ((L.seen device.old ≡ spelled past.new.value) × (L.faults device.new ≡ L.faults device.old)) }
-    ensures err { IfErr result (λ e. StopsFor e past.new.value (L.seen device.old) (L.faults device.old) (L.faults device.new)) }
+    ensures front { L.honest device.new → BeginsWith past.new.value (L.seen device.old) }
+    ensures ok { OnOk result ((L.honest device.new → L.seen device.old ≡ spelled past.new.value) × (L.faults device.new ≡ L.faults device.old)) }
+    ensures err { IfErr result (λ e. StopsFor L.LogDevice e past.new.value device.old device.new) }
     ensures seen { L.seen device.new ≡ L.seen device.old }
+    ensures honest { L.honest device.new → L.honest device.old }
     ensures crash { (c : List ℕ) → L.may_leave device.new c → L.may_leave device.old c }
-    ensures any_moment { LeavesOnly L.moment L.left_since device.old device.new (L.may_leave device.old) }
+    ensures any_moment { LeavesOnly L.LogDevice device.old device.new (L.may_leave device.old) }
 {
     let bytes = read_all(alloc, device)?;
     take_records(&bytes, records, past)
@@ -36,11 +37,12 @@ pub(crate) fn read_records<L: LogDevice>(
 
 // Reads all bytes.
 fn read_all<L: LogDevice>(alloc: Global, device: &mut L) -> Result<Vec<u8>, Refusal>
-    ensures ok { IfOk result (λ bytes. (bytes.items ≡ L.seen device.old) × (L.faults device.new ≡ L.faults device.old)) }
-    ensures err { IfErr result (λ e. StopsFor e [] (L.seen device.old) (L.faults device.old) (L.faults device.new)) }
+    ensures ok { IfOk result (λ bytes. (L.honest device.new → bytes.items ≡ L.seen device.old) × (L.faults device.new ≡ L.faults device.old)) }
+    ensures err { IfErr result (λ e. StopsFor L.LogDevice e [] device.old device.new) }
     ensures seen { L.seen device.new ≡ L.seen device.old }
+    ensures honest { L.honest device.new → L.honest device.old }
     ensures crash { (c : List ℕ) → L.may_leave device.new c → L.may_leave device.old c }
-    ensures any_moment { LeavesOnly L.moment L.left_since device.old device.new (L.may_leave device.old) }
+    ensures any_moment { LeavesOnly L.LogDevice device.old device.new (L.may_leave device.old) }
 {
     let mut bytes = Vec::new(alloc);
     let mut chunk = [0; 4096];
@@ -69,7 +71,7 @@ fn take_records(
     ensures spelled { AreSpelled past.new.value }
     ensures front { BeginsWith past.new.value bytes.now }
     ensures ok { OnOk result (bytes.now ≡ spelled past.new.value) }
-    ensures err { IfErr result (λ e. StopsFor e past.new.value bytes.now 0 0) }
+    ensures err { IfErr result (λ e. StopsAt e past.new.value bytes.now) }
 {
     framed();
     let mut rest = bytes;

@@ -5,3 +5,4 @@ pub mod Slots
 pub mod Stands
 pub mod Writings
 pub mod Kept
+pub mod Over

@@ -3,6 +3,7 @@ use Rattle.std.specs.Prelude.{◌≡◌, ℕ, ◌<◌, ◌≤◌, Bool, false, L
 use Rattle.rq_page.specs.Sizes.{Sizes, IsInRange, page_count}
 use Rattle.rq_page.specs.Formatted.{IsFormatted, IsHeaderOf}
 use Rattle.rq_level.specs.Stored.{AreSlots}
+use Rattle.rq_disk.specs.declared.device.PageDevice.{Ghosts}
 
 pub record Pooled (P : Type 0) : Type 0 where
   pub device : P
@@ -28,3 +29,9 @@ pub record IsPool (z : Sizes) (images : List (List ℕ)) : Type 0 where
   pub slots : AreSlots z images
   pub superblock : IsFormatted z 0 (image_at images 0)
   pub headers : (p : ℕ) → 1 ≤ p → p < page_count z → IsHeaderOf z p (image_at images p)
+
+-- Pages over their device: each is one of a store's, and where the device has been honest it reads as those that were not changed.
+pub record AreOver {P : Type 0} (g : Ghosts P) (device : P) (z : Sizes) (images : List (List ℕ)) (changed : List Bool) : Type 0 where
+  pub pool : IsPool z images
+  pub flags : length changed ≡ page_count z
+  pub clean : g.honest device → (p : ℕ) → p < page_count z → is_changed changed p ≡ false → image_at images p ≡ g.seen device p

@@ -4,6 +4,7 @@ use Rattle.rq_model.specs.declared.refusal.Refusal.{Refusal}
 use Rattle.rq_model.specs.declared.refusal.Refusal.TheVariants as why
 use Rattle.rq_model.specs.declared.refusal.Damage.TheVariants as damage
 use Rattle.rq_disk.specs.Device.{Images, Leaves, NoMore, Elapses}
+use Rattle.rq_disk.specs.declared.device.PageDevice.{Ghosts}
 use Rattle.rq_page.specs.Sizes.{Sizes, IsInRange, page_count}
 use Rattle.rq_page.specs.Pages.{slot_of}
 use Rattle.rq_page.specs.Slots.{IsSlotOf}
@@ -12,10 +13,11 @@ use Rattle.rq_pool.specs.declared.Stopped.{Stopped}
 use Rattle.rq_pool.specs.Pooled.{Pooled, image_at}
 
 -- a device was only read: it reads the same, a crash leaves no more than before, and time goes on
-pub record OnlyRead {D : Type 0} (seen : D → Images) (may_be : D → ℕ → List ℕ → Type 0) (moment : D → ℕ) (left_since : D → ℕ → Images → Type 0) (old new : D) : Type 0 where
-  pub same : seen new ≡ seen old
-  pub crash : NoMore (may_be old) (may_be new)
-  pub time : Elapses (moment old) (moment new) (left_since old) (left_since new) (Leaves (may_be old))
+pub record OnlyRead {P : Type 0} (g : Ghosts P) (old new : P) : Type 0 where
+  pub same : g.seen new ≡ g.seen old
+  pub honest : g.honest new → g.honest old
+  pub crash : NoMore (g.may_be old) (g.may_be new)
+  pub time : Elapses (g.moment old) (g.moment new) (g.left_since old) (g.left_since new) (Leaves (g.may_be old))
 
 -- the superblock tells the sizes of the store
 pub record IsSuperblock (z : Sizes) (image : List ℕ) : Type 0 where
@@ -27,12 +29,15 @@ pub record IsSound (z : Sizes) (page : ℕ) (image : List ℕ) : Type 0 where
   pub header : IsHeaderOf z page image
   pub slots : (n : ℕ) → 1 ≤ n → n ≤ 15 → IsSlotOf z page n (slot_of n image)
 
--- the images are the pages of a store, as they are read
-pub record ArePages (z : Sizes) (seen : Images) (images : List (List ℕ)) : Type 0 where
-  pub superblock : IsSuperblock z (seen 0)
+-- the images are the pages of a store
+pub record ArePages (z : Sizes) (images : List (List ℕ)) : Type 0 where
+  pub superblock : IsSuperblock z (image_at images 0)
   pub count : length images ≡ page_count z
-  pub read : (p : ℕ) → p < page_count z → image_at images p ≡ seen p
-  pub sound : (p : ℕ) → 1 ≤ p → p < page_count z → IsSound z p (seen p)
+  pub sound : (p : ℕ) → 1 ≤ p → p < page_count z → IsSound z p (image_at images p)
+
+-- the first n images are those that are seen
+abbrev pub AreSeen : Images → List (List ℕ) → ℕ → Type 0
+AreSeen seen images n = (p : ℕ) → p < n → image_at images p ≡ seen p
 
 -- a page behind the superblock is not sound
 pub record IsDamagedPage (z : Sizes) (seen : Images) (page : ℕ) : Type 0 where
@@ -46,12 +51,12 @@ abbrev pub IsDamaged : Images → ℕ → Type 0
 IsDamaged seen page =
     ((page ≡ 0) × ((z : Sizes) → IsSuperblock z (seen 0) → ⊥)) ⊎ ((z : Sizes) × IsDamagedPage z seen page)
 
--- why reading the pages stopped, with the failures of the device before and after it
-abbrev pub StopsFor : Refusal → Images → ℕ → ℕ → Type 0
-StopsFor why.NoMemory seen before now = now ≡ before
-StopsFor why.DiskRead seen before now = now ≡ (before + 1) % 2 ^ 64
-StopsFor (why.Damaged (damage.Page page)) seen before now = IsDamaged seen page × (now ≡ before)
-StopsFor _ seen before now = ⊥
+-- why reading the pages of a device stopped
+abbrev pub StopsFor : {P : Type 0} → Ghosts P → Refusal → P → P → Type 0
+StopsFor g why.NoMemory old new = g.faults new ≡ g.faults old
+StopsFor g why.DiskRead old new = g.faults new ≡ (g.faults old + 1) % 2 ^ 64
+StopsFor g (why.Damaged (damage.Page page)) old new = (g.honest new → IsDamaged (g.seen old) page) × (g.faults new ≡ g.faults old)
+StopsFor g _ old new = ⊥
 
 -- the device as it is afterwards
 abbrev pub device_of : {P : Type 0} → Result (Pooled P) (Stopped P) → P

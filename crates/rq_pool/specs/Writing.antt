@@ -2,7 +2,8 @@
 use Rattle.std.specs.Prelude.{◌≡◌, ℕ, ◌+◌, ◌%◌, ◌^◌, ◌<◌, ◌≤◌, true, false, Bool, List, Result, Ok, Err, slice_set}
 use Rattle.rq_model.specs.declared.refusal.Refusal.{Refusal}
 use Rattle.rq_model.specs.declared.refusal.Refusal.TheVariants as why
-use Rattle.rq_disk.specs.Device.{Images, Leaves, Holds, Written as OrWritten, Elapses}
+use Rattle.rq_disk.specs.Device.{Leaves, Holds, Written as OrWritten, Elapses}
+use Rattle.rq_disk.specs.declared.device.PageDevice.{Ghosts}
 use Rattle.rq_page.specs.Sizes.{page_count}
 use Rattle.rq_page.specs.Pages.{lsn_of}
 use Rattle.rq_pool.specs.declared.Written.{Written}
@@ -29,15 +30,16 @@ changed_after changed page (Ok Nothing) = changed
 changed_after changed page (Err _) = changed
 
 -- a page was handed to the device, which may have failed: a crash may leave that image of it too, and time goes on
-pub record MayHaveWritten {D : Type 0} (may_be : D → ℕ → List ℕ → Type 0) (moment : D → ℕ) (left_since : D → ℕ → Images → Type 0) (page : ℕ) (image : List ℕ) (old new : D) : Type 0 where
-  pub crash : OrWritten page image (may_be old) (may_be new)
-  pub time : Elapses (moment old) (moment new) (left_since old) (left_since new) (Leaves (may_be new))
+pub record MayHaveWritten {P : Type 0} (g : Ghosts P) (page : ℕ) (image : List ℕ) (old new : P) : Type 0 where
+  pub honest : g.honest new → g.honest old
+  pub crash : OrWritten page image (g.may_be old) (g.may_be new)
+  pub time : Elapses (g.moment old) (g.moment new) (g.left_since old) (g.left_since new) (Leaves (g.may_be new))
 
 -- what each answer says of the device: that it reads the new image, that it failed once more, or that it was left alone
-abbrev pub DeviceAfter : {D : Type 0} → (D → Images) → (D → ℕ → List ℕ → Type 0) → (D → ℕ) → (D → ℕ → Images → Type 0) → (D → ℕ) → ℕ → List ℕ → D → D → Result Written Refusal → Type 0
-DeviceAfter seen may_be moment left_since faults page image old new (Ok Done) =
-    Holds (seen old) page image (seen new) × MayHaveWritten may_be moment left_since page image old new × (faults new ≡ faults old)
-DeviceAfter seen may_be moment left_since faults page image old new (Ok Nothing) = new ≡ old
-DeviceAfter seen may_be moment left_since faults page image old new (Err why.DiskWrite) =
-    MayHaveWritten may_be moment left_since page image old new × (faults new ≡ (faults old + 1) % 2 ^ 64)
-DeviceAfter seen may_be moment left_since faults page image old new (Err _) = new ≡ old
+abbrev pub DeviceAfter : {P : Type 0} → Ghosts P → ℕ → List ℕ → P → P → Result Written Refusal → Type 0
+DeviceAfter g page image old new (Ok Done) =
+    Holds (g.seen old) page image (g.seen new) × MayHaveWritten g page image old new × (g.faults new ≡ g.faults old)
+DeviceAfter g page image old new (Ok Nothing) = new ≡ old
+DeviceAfter g page image old new (Err why.DiskWrite) =
+    MayHaveWritten g page image old new × (g.faults new ≡ (g.faults old + 1) % 2 ^ 64)
+DeviceAfter g page image old new (Err _) = new ≡ old

@@ -1,22 +1,23 @@
 //! The pages of the store, all of them in memory, over their device.
 #![tactic(auto)]
 
-ghost use Rattle.std.specs.Prelude.{◌≡◌, ◌≢◌, ◌↔◌, ◌<◌, ◌/◌, ◌%◌, ℕ, true, false, IsSome, IfSome, IfNone, IfErr, IfOk, OnOk, length, replicate, slice_set};
+ghost use Rattle.std.specs.Prelude.{◌≡◌, ◌≢◌, ◌↔◌, ◌<◌, ◌≤◌, ◌+◌, ◌^◌, ◌/◌, ◌%◌, ℕ, true, false, IsSome, IfSome, IfNone, IfErr, IfOk, OnOk, length, replicate, slice_set};
 ghost use Rattle.std.specs.Bool.{OnFalse};
 ghost use Rattle.rq_page.specs.Sizes.{IsCellAddress, page_count, sender_count, cell_count, directory_at};
 ghost use Rattle.rq_page.specs.Pages.{IsWritten};
 ghost use Rattle.rq_page.specs.Slots.{Free, Sender, held_in, IsSlotOf, IsCellOf, IsDirectoryOf};
 ghost use Rattle.rq_level.specs.Log.{cell_in, put};
 ghost use Rattle.rq_level.specs.Stored.{IsStoreSlot, slot_at, slots_in, is_used, count_used};
-ghost use Rattle.rq_pool.specs.Pooled.{IsPool, image_at};
+ghost use Rattle.rq_pool.specs.Pooled.{IsPool, image_at, is_changed};
+ghost use Rattle.rq_pool.specs.Reading.{OnlyRead as WasRead};
 
 mod frames;
 mod reading;
 #[cfg(test)]
 mod tests;
 
-use crate::frames::{mark_written, write_slot};
-use crate::reading::{read_frames, read_superblock};
+use crate::frames::{mark_written, set_page, write_slot};
+use crate::reading::{read_again, read_frames, read_superblock};
 use rq_disk::PageDevice;
 use rq_model::record::Slot;
 use rq_model::refusal::Refusal;
@@ -55,14 +56,14 @@ pub struct Pages<P: PageDevice> {
 }
 
 impl<P: PageDevice> Model for Pages<P> {
-    ghost use Rattle.rq_pool.specs.Pooled.{Pooled, IsPool};
+    ghost use Rattle.rq_pool.specs.Pooled.{Pooled, AreOver};
     ghost use Rattle.rq_pool.specs.Frames.{images_of, changed_of};
 
     ghost Value = { Pooled P };
 
     ghost view = { λ p. record { device = p.device; sizes = p.layout; images = images_of p.frames.items; changed = changed_of p.frames.items } };
 
-    ghost invariant = { λ p. IsPool p.layout (images_of p.frames.items) };
+    ghost invariant = { λ p. AreOver P.PageDevice p.device p.layout (images_of p.frames.items) (changed_of p.frames.items) };
 }
 
 /// Pages that could not be had: why, and their device.
@@ -73,17 +74,19 @@ pub struct Stopped<P> {
 }
 
 impl<P: PageDevice + Drop> Pages<P> {
-    ghost use Rattle.rq_pool.specs.Reading.{ArePages, OnlyRead, StopsFor, device_of};
+    ghost use Rattle.rq_pool.specs.Reading.{ArePages, AreSeen, OnlyRead, StopsFor, device_of};
 
     /// Reads every page, and checks each as it is read: the superblock, then each page's header and slots.
     /// It stops by `DiskRead`, by `NoMemory`, or by `Damaged` with the number of the first page that is none
     /// of a store's.
+    #[tactic(auto, using(crate::proofs::Over::over_loaded))]
     pub fn load(alloc: Global, mut device: P) -> Result<Pages<P>, Stopped<P>>
-        ensures pages { IfOk result (λ pages. ArePages pages.sizes (P.seen device) pages.images) }
+        ensures pages { IfOk result (λ pages. ArePages pages.sizes pages.images) }
+        ensures seen { IfOk result (λ pages. P.honest pages.device → AreSeen (P.seen device) pages.images (page_count pages.sizes)) }
         ensures changed { IfOk result (λ pages. pages.changed ≡ replicate (page_count pages.sizes) false) }
-        ensures stopped { IfErr result (λ stopped. StopsFor stopped.refusal (P.seen device) (P.faults device) (P.faults stopped.device)) }
+        ensures stopped { IfErr result (λ stopped. StopsFor P.PageDevice stopped.refusal device stopped.device) }
         ensures cause { OnOk result (P.faults (device_of result) ≡ P.faults device) }
-        ensures device { OnlyRead P.seen P.may_be P.moment P.left_since device (device_of result) }
+        ensures device { OnlyRead P.PageDevice device (device_of result) }
     {
         let (superblock, layout) = match read_superblock(&mut device) {
             Ok(first) => first,
@@ -168,12 +171,13 @@ impl<P: PageDevice> Pages<P> {
     /// # Errors
     /// `NotForced` where the page's LSN is over `forced`: nothing changed. `DiskWrite` where the device failed:
     /// the page still counts as changed.
+    #[tactic(auto, using(crate::proofs::Over::over_written, crate::proofs::Over::over_failed))]
     pub fn write_back(&mut self, page: u32, forced: Lsn) -> Result<Written, Refusal>
         ensures answer { AnswersWhen self.old page forced result }
         ensures changed { self.new.changed ≡ changed_after self.old.changed page result }
         ensures images { self.new.images ≡ self.old.images }
         ensures sizes { self.new.sizes ≡ self.old.sizes }
-        ensures device { DeviceAfter P.seen P.may_be P.moment P.left_since P.faults page (image_at self.old.images page) self.old.device self.new.device result }
+        ensures device { DeviceAfter P.PageDevice page (image_at self.old.images page) self.old.device self.new.device result }
     {
         let Some(frame) = self.frames.get(page as usize) else {
             return Ok(Written::Nothing);
@@ -189,6 +193,33 @@ impl<P: PageDevice> Pages<P> {
         }
         mark_written(&mut self.frames, page);
         Ok(Written::Done)
+    }
+
+    /// Reads a page back into its frame, where it has no change that was not written. The pages stay as they are where
+    /// the device has been honest; and whatever it answered, they are pages of a store.
+    ///
+    /// # Errors
+    /// `DiskRead`, `Damaged` where what was read is no page of a store: nothing changed.
+    #[tactic(auto, using(crate::proofs::Over::over_read, crate::proofs::Over::over_fixed, crate::proofs::Over::page_fixed, crate::proofs::Over::pool_set))]
+    pub fn fix(&mut self, number: u32) -> Result<(), Refusal>
+        requires low { 1 ≤ number }
+        requires high { number < page_count self.old.sizes }
+        requires clean { is_changed self.old.changed number ≡ false }
+        ensures images { P.honest self.new.device → self.new.images ≡ self.old.images }
+        ensures others { (p : ℕ) → p ≢ number → image_at self.new.images p ≡ image_at self.old.images p }
+        ensures pool { IsPool self.new.sizes self.new.images }
+        ensures sizes { self.new.sizes ≡ self.old.sizes }
+        ensures changed { self.new.changed ≡ self.old.changed }
+        ensures device { WasRead P.PageDevice self.old.device self.new.device }
+        ensures err { IfErr result (λ e. P.honest self.new.device → (e ≡ Refusal.DiskRead) × (P.faults self.new.device ≡ (P.faults self.old.device + 1) % 2 ^ 64)) }
+    {
+        match read_again(&mut self.device, &self.layout, number) {
+            Ok(page) => {
+                set_page(&mut self.frames, number, page);
+                Ok(())
+            }
+            Err(refusal) => Err(refusal),
+        }
     }
 
     /// What the directory says of a sender.

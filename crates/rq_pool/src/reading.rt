@@ -2,7 +2,7 @@
 ghost use Rattle.std.specs.Prelude.{◌≡◌, ◌↔◌, ◌<◌, ◌+◌, ◌%◌, ◌^◌, ◌++◌, ◌∷◌, [], false, replicate, IsTrue, IfOk, IfErr, OnOk};
 ghost use Rattle.rq_page.specs.Sizes.{page_count};
 ghost use Rattle.rq_pool.specs.Frames.{images_of, changed_of};
-ghost use Rattle.rq_pool.specs.Reading.{OnlyRead, IsSuperblock, IsSound, ArePages, StopsFor};
+ghost use Rattle.rq_pool.specs.Reading.{OnlyRead, IsSuperblock, IsSound, ArePages, AreSeen, StopsFor};
 
 use crate::Frame;
 use rq_disk::{PAGE, PageDevice};
@@ -13,10 +13,10 @@ use std::alloc::Global;
 
 /// Reads the first page, and the sizes that it tells.
 pub(crate) fn read_superblock<P: PageDevice>(device: &mut P) -> Result<(Page, Layout), Refusal>
-    ensures ok { IfOk result (λ first. (first.0 ≡ P.seen device.old 0) × IsSuperblock first.1 (P.seen device.old 0)) }
+    ensures ok { IfOk result (λ first. (P.honest device.new → first.0 ≡ P.seen device.old 0) × IsSuperblock first.1 first.0) }
     ensures cause { OnOk result (P.faults device.new ≡ P.faults device.old) }
-    ensures err { IfErr result (λ e. StopsFor e (P.seen device.old) (P.faults device.old) (P.faults device.new)) }
-    ensures device { OnlyRead P.seen P.may_be P.moment P.left_since device.old device.new }
+    ensures err { IfErr result (λ e. StopsFor P.PageDevice e device.old device.new) }
+    ensures device { OnlyRead P.PageDevice device.old device.new }
 {
     let superblock = read_page(device, 0)?;
     match Layout::check_superblock(&superblock) {
@@ -26,19 +26,21 @@ pub(crate) fn read_superblock<P: PageDevice>(device: &mut P) -> Result<(Page, La
 }
 
 /// Reads the pages behind the first, and checks each as it is read.
+#[tactic(auto, using(crate::proofs::Readings::stops_later))]
 pub(crate) fn read_frames<P: PageDevice>(
     alloc: Global,
     device: &mut P,
     layout: &Layout,
     superblock: Page,
 ) -> Result<Vec<Frame>, Refusal>
-    requires superblock { IsSuperblock layout.now (P.seen device.old 0) }
-    requires first { superblock ≡ P.seen device.old 0 }
-    ensures ok { IfOk result (λ frames. ArePages layout.now (P.seen device.old) (images_of frames.items)) }
+    requires superblock { IsSuperblock layout.now superblock }
+    requires first { P.honest device.old → superblock ≡ P.seen device.old 0 }
+    ensures ok { IfOk result (λ frames. ArePages layout.now (images_of frames.items)) }
+    ensures seen { IfOk result (λ frames. P.honest device.new → AreSeen (P.seen device.old) (images_of frames.items) (page_count layout.now)) }
     ensures changed { IfOk result (λ frames. changed_of frames.items ≡ replicate (page_count layout.now) false) }
     ensures cause { OnOk result (P.faults device.new ≡ P.faults device.old) }
-    ensures err { IfErr result (λ e. StopsFor e (P.seen device.old) (P.faults device.old) (P.faults device.new)) }
-    ensures device { OnlyRead P.seen P.may_be P.moment P.left_since device.old device.new }
+    ensures err { IfErr result (λ e. StopsFor P.PageDevice e device.old device.new) }
+    ensures device { OnlyRead P.PageDevice device.old device.new }
 {
     let count = layout.pages();
     let Ok(mut frames) = Vec::with_capacity(alloc, count as usize) else {
@@ -52,19 +54,38 @@ pub(crate) fn read_frames<P: PageDevice>(
     Ok(frames)
 }
 
+/// Reads a page behind the first once more, and checks it.
+pub(crate) fn read_again<P: PageDevice>(
+    device: &mut P,
+    layout: &Layout,
+    number: u32,
+) -> Result<Page, Refusal>
+    ensures ok { IfOk result (λ page. (P.honest device.new → page ≡ P.seen device.old number) × IsSound layout.now number page) }
+    ensures cause { OnOk result (P.faults device.new ≡ P.faults device.old) }
+    ensures err { IfErr result (λ e. P.honest device.new → IsSound layout.now number (P.seen device.old number) → (e ≡ Refusal.DiskRead) × (P.faults device.new ≡ (P.faults device.old + 1) % 2 ^ 64)) }
+    ensures device { OnlyRead P.PageDevice device.old device.new }
+{
+    let page = read_page(device, number)?;
+    if is_sound(layout, number, &page) {
+        Ok(page)
+    } else {
+        Err(Refusal::Damaged(Damage::Page(number)))
+    }
+}
+
 // Reads a page behind the first, and checks it.
 fn read_sound_page<P: PageDevice>(
     device: &mut P,
     layout: &Layout,
     number: u32,
 ) -> Result<Page, Refusal>
-    requires superblock { IsSuperblock layout.now (P.seen device.old 0) }
+    requires superblock { P.honest device.old → IsSuperblock layout.now (P.seen device.old 0) }
     requires low { 0 < number }
     requires high { number < page_count layout.now }
-    ensures ok { IfOk result (λ page. (page ≡ P.seen device.old number) × IsSound layout.now number (P.seen device.old number)) }
+    ensures ok { IfOk result (λ page. (P.honest device.new → page ≡ P.seen device.old number) × IsSound layout.now number page) }
     ensures cause { OnOk result (P.faults device.new ≡ P.faults device.old) }
-    ensures err { IfErr result (λ e. StopsFor e (P.seen device.old) (P.faults device.old) (P.faults device.new)) }
-    ensures device { OnlyRead P.seen P.may_be P.moment P.left_since device.old device.new }
+    ensures err { IfErr result (λ e. StopsFor P.PageDevice e device.old device.new) }
+    ensures device { OnlyRead P.PageDevice device.old device.new }
 {
     let page = read_page(device, number)?;
     if is_sound(layout, number, &page) {
@@ -90,10 +111,10 @@ fn add_frame(frames: &mut Vec<Frame>, page: Page) -> Result<(), Refusal>
 }
 
 fn read_page<P: PageDevice>(device: &mut P, number: u32) -> Result<Page, Refusal>
-    ensures ok { IfOk result (λ page. page ≡ P.seen device.old number) }
+    ensures ok { IfOk result (λ page. P.honest device.new → page ≡ P.seen device.old number) }
     ensures cause { OnOk result (P.faults device.new ≡ P.faults device.old) }
     ensures err { IfErr result (λ e. (e ≡ Refusal.DiskRead) × (P.faults device.new ≡ (P.faults device.old + 1) % 2 ^ 64)) }
-    ensures device { OnlyRead P.seen P.may_be P.moment P.left_since device.old device.new }
+    ensures device { OnlyRead P.PageDevice device.old device.new }
 {
     let mut image = [0; PAGE];
     match device.read(number, &mut image) {

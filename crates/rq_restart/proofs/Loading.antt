@@ -6,9 +6,10 @@ use Rattle.rq_model.specs.declared.refusal.Refusal.TheVariants as why
 use Rattle.rq_model.specs.declared.refusal.Damage.TheVariants as damage
 use Rattle.rq_page.specs.Sizes.{Sizes}
 use Rattle.rq_page.proofs.Formats.{told_sizes}
+use Rattle.rq_disk.specs.declared.device.PageDevice.{Ghosts}
 use Rattle.rq_pool.specs.Reading.{IsSuperblock, IsDamaged, StopsFor}
 use Rattle.rq_store.specs.Opening.{IsLeft}
-use Rattle.rq_restart.specs.Restarting.{StaysShut, Stops}
+use Rattle.rq_restart.specs.Restarting.{IsLeftOn, StaysShut, Stops}
 
 -- a superblock tells one size
 pub one_size : (y z : Sizes) (image : List ℕ) → IsSuperblock y image → IsSuperblock z image → y ≡ z
@@ -27,11 +28,11 @@ sound z seen older page block left (inr (y, bad)) =
     bad.bad (record { header = there.fits.headers page bad.low bad.high; slots = (there.fits.pages page bad.low bad.high).slots })
 
 -- why the pages were not read is why the store stays shut
-pub load_shut : (z : Sizes) (seen : ℕ → List ℕ) (older : List Record) (e : Refusal) (before now log : ℕ) → IsSuperblock z (seen 0) → StopsFor e seen before now → Stops (IsLeft z seen older) older e before now log log
-load_shut z seen older why.NoMemory before now log block h = tt
-load_shut z seen older why.DiskRead before now log block h = inl h
-load_shut z seen older (why.Damaged (damage.Page page)) before now log block h = λ left. sound z seen older page block left h.0
-load_shut z seen older _ before now log block h = absurd h
+pub load_shut : {P : Type 0} (g : Ghosts P) (z : Sizes) (old new : P) (older : List Record) (e : Refusal) (log : ℕ) → IsSuperblock z (g.seen old 0) → StopsFor g e old new → Stops (IsLeftOn g z old new older) older e (g.faults old) (g.faults new) log log
+load_shut g z old new older why.NoMemory log block h = tt
+load_shut g z old new older why.DiskRead log block h = inl h
+load_shut g z old new older (why.Damaged (damage.Page page)) log block h = λ on. sound z (g.seen old) older page block on.left (h.0 on.honest)
+load_shut g z old new older _ log block h = absurd h
 
 pub shut_log : (left there : Type 0) → (left → there) → (older : List Record) (e : Refusal) (before now old new : ℕ) → StaysShut there older e old new → Stops left older e before now old new
 shut_log left there f older why.NoMemory before now old new h = tt

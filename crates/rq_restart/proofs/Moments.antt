@@ -3,6 +3,8 @@ use Rattle.std.proofs.Common.{zero, suc, ◌≤◌, drop, inl, inr, ⊎_elim, Re
 use Rattle.rq_model.specs.declared.record.Record.{Record}
 use Rattle.rq_model.specs.declared.record.Record.TheVariants as records
 use Rattle.rq_disk.specs.Device.{Images, Leaves, Only}
+use Rattle.rq_disk.specs.declared.device.LogDevice.{Ghosts}
+use Rattle.rq_disk.specs.declared.device.PageDevice as page_device
 use Rattle.rq_pool.specs.Reading.{OnlyRead}
 use Rattle.rq_store.specs.Fitting.{FitsLog}
 use Rattle.rq_store.proofs.Fitting.{fits_more}
@@ -15,46 +17,51 @@ use Rattle.rq_log.proofs.Moments.{started, weaker, joined}
 use Rattle.rq_store.specs.Opening.{next_restart}
 use Rattle.rq_restart.specs.Noted.{Noted, noted}
 use Rattle.rq_restart.proofs.Restarts.{last_is}
-use Rattle.rq_restart.specs.Restarting.{IsFresh, AddsOne, BeginsAtMost, IsReadOrBegun, LeavesReadOrBegun}
+use Rattle.rq_restart.specs.Restarting.{IsReadAs, IsFresh, AddsOne, BeginsAtMost, IsReadOrBegun, LeavesReadOrBegun}
 
-module _ {L : Type 0} (moment : L → ℕ) (left_since : L → ℕ → List ℕ → Type 0) (may_leave : L → List ℕ → Type 0) (only_now : (d : L) (c : List ℕ) → left_since d (moment d) c → may_leave d c) where
+module _ {L : Type 0} (g : Ghosts L) (only_now : (d : L) (c : List ℕ) → g.left_since d (g.moment d) c → g.may_leave d c) where
   -- nothing is written
-  pub untouched : (r : Record) (older : List Record) (d : L) → Only (spelled older) (may_leave d) → AddsOne moment left_since r older d d
-  untouched r older d only = started moment left_since d (IsBeginning (r ∷ older) (length older)) (λ c left. (1, omega arith, only c (only_now d c left)))
+  pub untouched : (r : Record) (older : List Record) (d : L) → Only (spelled older) (g.may_leave d) → AddsOne g r older d d
+  untouched r older d only = started g d (IsBeginning (r ∷ older) (length older)) (λ c left. (1, omega arith, only c (only_now d c left)))
+
+  -- the log was only read, and then perhaps more
+  read_on : (d read new : L) → LeavesOnly g d read (g.may_leave d) → Only (g.seen d) (g.may_leave d) → (older : List Record) → IsReadAs g d new older → AddsOne g (next_restart older) older d read
+  read_on d read new run only older r =
+      weaker g d read (g.may_leave d) (IsBeginning (next_restart older ∷ older) (length older)) run (λ c left. (1, omega arith, only c left ∙ r.reads))
 
   -- the log was only read
-  pub only_read : (seen : L → List ℕ) (d read : L) → LeavesOnly moment left_since d read (may_leave d) → BeginsAtMost seen may_leave moment left_since d read
-  only_read seen d read run only older are e =
-      weaker moment left_since d read (may_leave d) (IsBeginning (next_restart older ∷ older) (length older)) run (λ c left. (1, omega arith, only c left ∙ e))
+  pub only_read : (d read : L) → LeavesOnly g d read (g.may_leave d) → BeginsAtMost g d read
+  only_read d read run only older r = read_on d read read run only older r
 
   -- It was read whole, and then gone on with.
-  pub read_first : (seen : L → List ℕ) (d new : L) (log : Logged L) → seen d ≡ spelled log.records → (log.forced ≡ length log.records) × (log.settled ≡ d) → ((c : List ℕ) → may_leave log.device c → may_leave d c)
-      → LeavesOnly moment left_since d log.device (may_leave d) → (IsFresh seen may_leave log → AddsOne moment left_since (next_restart log.records) log.records log.device new)
-      → ((older : List Record) → AreSpelled older → seen d ≡ spelled older → log.records ≡ older) → BeginsAtMost seen may_leave moment left_since d new
-  read_first seen d new log reads at crash run rest same only older are e =
-      joined moment left_since d log.device new (IsBeginning (next_restart older ∷ older) (length older)) (only_read seen d log.device run only older are e)
-      (subst (λ l. AddsOne moment left_since (next_restart l) l log.device new) (same older are e) (rest fresh)) where
-        fresh : IsFresh seen may_leave log
+  pub read_first : (d new : L) (log : Logged L) → (g.honest log.device → g.seen d ≡ spelled log.records) → (log.forced ≡ length log.records) × (log.settled ≡ d) → ((c : List ℕ) → g.may_leave log.device c → g.may_leave d c)
+      → LeavesOnly g d log.device (g.may_leave d) → (g.honest new → g.honest log.device) → (g.honest new → IsFresh g log → AddsOne g (next_restart log.records) log.records log.device new)
+      → (g.honest log.device → (older : List Record) → AreSpelled older → g.seen d ≡ spelled older → log.records ≡ older) → BeginsAtMost g d new
+  read_first d new log reads at crash run falls rest same only older r =
+      joined g d log.device new (IsBeginning (next_restart older ∷ older) (length older)) (read_on d log.device new run only older r)
+      (subst (λ l. AddsOne g (next_restart l) l log.device new) (same h older r.are_spelled r.reads) (rest r.honest fresh)) where
+        h : g.honest log.device
+        h = falls r.honest
+
+        fresh : IsFresh g log
         fresh = record {
-          settled = subst (λ x. Only (seen x) (may_leave x)) (sym at.1) only;
-          leaves = λ c left. only c (crash c left) ∙ reads;
+          settled = subst (λ x. Only (g.seen x) (g.may_leave x)) (sym at.1) only;
+          leaves = λ c left. only c (crash c left) ∙ reads h;
           forced = at.0;
         }
 
 -- the record that begins the incarnation after the last
-pub begun_moment : {L : Type 0} (moment : L → ℕ) (left_since : L → ℕ → List ℕ → Type 0) (older : List Record) (xs : List Record) (same : older ≡ reverse xs) (h : Noted) → h ≡ noted (reverse xs) → (last : ℕ) → last ≡ h.incarnation → (d new : L)
-    → AddsOne moment left_since (records.Restart (last + 1)) older d new → AddsOne moment left_since (next_restart older) older d new
-begun_moment moment left_since older xs same h k last e d new run = subst (λ n. AddsOne moment left_since (records.Restart (n + 1)) older d new) (last_is older xs same h k last e) run
+pub begun_moment : {L : Type 0} (g : Ghosts L) (older : List Record) (xs : List Record) (same : older ≡ reverse xs) (h : Noted) → h ≡ noted (reverse xs) → (last : ℕ) → last ≡ h.incarnation → (d new : L)
+    → AddsOne g (records.Restart (last + 1)) older d new → AddsOne g (next_restart older) older d new
+begun_moment g older xs same h k last e d new run = subst (λ n. AddsOne g (records.Restart (n + 1)) older d new) (last_is older xs same h k last e) run
 
 -- a restart whose pages are only read, and whose log has at most one record more
-pub read_or_begun : {P L : Type 0} (page_seen : P → Images) (may_be : P → ℕ → List ℕ → Type 0) (moment : P → ℕ) (left_since : P → ℕ → Images → Type 0) (only_now : (d : P) (c : Images) → left_since d (moment d) c → Leaves (may_be d) c)
-    (seen : L → List ℕ) (may_leave : L → List ℕ → Type 0) (log_moment : L → ℕ) (log_left_since : L → ℕ → List ℕ → Type 0) (pages : P) (log : L) (new_pages : P) (new_log : L)
-    → OnlyRead page_seen may_be moment left_since pages new_pages → BeginsAtMost seen may_leave log_moment log_left_since log new_log
-    → LeavesReadOrBegun may_be moment left_since seen may_leave log_moment log_left_since pages log new_pages new_log
-read_or_begun page_seen may_be moment left_since only_now seen may_leave log_moment log_left_since pages log new_pages new_log read run only z older are e whole fit none_unfinished none_lost images bytes page_left log_left =
-    let b = (run only older are e).each bytes log_left in by b.0 b.1 b.2 where
+pub read_or_begun : {P L : Type 0} (p : page_device.Ghosts P) (only_now : (d : P) (c : Images) → p.left_since d (p.moment d) c → Leaves (p.may_be d) c) (l : Ghosts L) (pages : P) (log : L) (new_pages : P) (new_log : L)
+    → OnlyRead p pages new_pages → BeginsAtMost l log new_log → LeavesReadOrBegun p l pages log new_pages new_log
+read_or_begun p only_now l pages log new_pages new_log read run only z older r whole fit none_unfinished none_lost images bytes page_left log_left =
+    let b = (run only older r).each bytes log_left in by b.0 b.1 b.2 where
       fits : FitsLog z images older
-      fits = fits_log (may_be pages) z older images fit (⊎_elim (only_now pages images) (λ h. h) (read.time.nothing_else (moment pages) images (omega arith) page_left))
+      fits = fits_log (p.may_be pages) z older images fit (⊎_elim (only_now pages images) (λ h. h) (read.time.nothing_else (p.moment pages) images (omega arith) page_left))
 
       by : (n : ℕ) → n + length older ≤ length (next_restart older ∷ older) → bytes ≡ spelled (drop n (next_restart older ∷ older)) → IsReadOrBegun z older images bytes
       by zero within is = inr (record { whole = restarted_whole z older whole none_unfinished none_lost; fits = fits_more z (next_restart older) older images fits }, is)

@@ -4,12 +4,13 @@ use Rattle.std.proofs.lemmas.List.{append-nil, reverse-append, reverse-reverse}
 use Rattle.rq_model.specs.declared.record.Record.{Record}
 use Rattle.rq_record.specs.Spelling.{IsRecord, spelling}
 use Rattle.rq_record.proofs.Whole.{one_spelling, long_spelling}
+use Rattle.rq_disk.specs.declared.device.LogDevice.{Ghosts}
 use Rattle.rq_log.specs.Spelled.{spelled, AreSpelled}
 use Rattle.rq_log.specs.Scanned.{IsDamagedBehind, StopsFor}
 use Rattle.rq_model.specs.declared.refusal.Refusal.{Refusal}
 use Rattle.rq_model.specs.declared.refusal.Refusal.TheVariants as why
 use Rattle.rq_model.specs.declared.refusal.Damage.TheVariants as damage
-use Rattle.rq_restart.specs.Restarting.{StaysShut}
+use Rattle.rq_restart.specs.Restarting.{IsReadAs, StaysShut}
 
 -- the spellings, the first record's first
 abbrev in_row : List Record → List ℕ
@@ -85,8 +86,8 @@ pub log_is : (older log rs : List Record) (bytes : List ℕ) → AreSpelled olde
 log_is older log rs bytes are e same k f = one_log log older (subst AreSpelled (sym same) k) are (sym f ∙ e)
 
 -- why the log was not read is why the store stays shut
-pub scan_shut : (left : Type 0) (older rs : List Record) (bytes : List ℕ) (e : Refusal) (before now : ℕ) → AreSpelled older → bytes ≡ spelled older → AreSpelled rs → StopsFor e rs bytes before now → StaysShut left older e before now
-scan_shut left older rs bytes why.NoMemory before now are is k h = h
-scan_shut left older rs bytes why.DiskRead before now are is k h = h
-scan_shut left older rs bytes (why.Damaged (damage.Record lsn)) before now are is k h = λ l. no_damage older rs are k (subst (λ b. IsDamagedBehind rs b) is h.1)
-scan_shut left older rs bytes _ before now are is k h = absurd h
+pub scan_shut : {L : Type 0} (g : Ghosts L) (left : Type 0) (older rs : List Record) (old new : L) (e : Refusal) → IsReadAs g old new older → AreSpelled rs → StopsFor g e rs old new → StaysShut left older e (g.faults old) (g.faults new)
+scan_shut g left older rs old new why.NoMemory r k h = h
+scan_shut g left older rs old new why.DiskRead r k h = h
+scan_shut g left older rs old new (why.Damaged (damage.Record lsn)) r k h = λ l. no_damage older rs r.are_spelled k (subst (λ b. IsDamagedBehind rs b) r.reads (h.1 r.honest))
+scan_shut g left older rs old new _ r k h = absurd h

@@ -8,9 +8,9 @@ use Rattle.rq_model.specs.declared.refusal.Refusal.TheVariants as why
 use Rattle.rq_model.specs.Content.{unfinished, lost}
 use Rattle.rq_page.specs.Sizes.{Sizes, page_count}
 use Rattle.rq_page.specs.Formatted.{IsFormatted, IsHeaderOf}
-use Rattle.rq_disk.specs.Device.{Images}
+use Rattle.rq_disk.specs.declared.device.PageDevice.{Ghosts}
 use Rattle.rq_pool.specs.Pooled.{IsPool}
-use Rattle.rq_pool.specs.Reading.{ArePages, OnlyRead}
+use Rattle.rq_pool.specs.Reading.{IsSuperblock, ArePages, AreSeen, OnlyRead}
 use Rattle.rq_log.specs.Logged.{Logged}
 use Rattle.rq_store.specs.Sound.{IsSound, incarnation_of}
 use Rattle.rq_store.specs.Opening.{FitsUpTo, IsCounted, opened, next_restart, IsLeft}
@@ -40,6 +40,10 @@ if_ok (Err e) f h = h
 pub if_ok_both : {T E : Type 0} {A B C : T → Type 0} (r : Result T E) → ((x : T) → A x → B x → C x) → IfOk r A → IfOk r B → IfOk r C
 if_ok_both (Ok x) f h k = f x h k
 if_ok_both (Err e) f h k = h
+
+pub if_ok_all : {T E : Type 0} {A B C D : T → Type 0} (r : Result T E) → ((x : T) → A x → B x → C x → D x) → IfOk r A → IfOk r B → IfOk r C → IfOk r D
+if_ok_all (Ok x) f h k l = f x h k l
+if_ok_all (Err e) f h k l = h
 
 pub if_ok_with : {T E B : Type 0} {A C : T → Type 0} (r : Result T E) → ((x : T) → A x → B → C x) → IfOk r A → OnOk r B → IfOk r C
 if_ok_with (Ok x) f h k = f x h k
@@ -102,19 +106,23 @@ counted_redone z image images older xs p same left redone low high =
     subst (λ n. IsCounted z n p (image_in images p)) (length-reverse xs) (fits_counted z (reverse xs) p (image_in images p) there.whole.legal fits)
 
 -- what was left on a device was left in the pages that are read of it
-pub left_read : (z : Sizes) (seen : ℕ → List ℕ) (images : List (List ℕ)) (older : List Record) → ArePages z seen images → IsLeft z seen older → IsLeft z (image_in images) older
-left_read z seen images older are left = record {
+pub left_read : (z : Sizes) (seen : ℕ → List ℕ) (images : List (List ℕ)) (older : List Record) → AreSeen seen images (page_count z) → IsLeft z seen older → IsLeft z (image_in images) older
+left_read z seen images older read left = record {
   whole = left.whole;
   fits = record {
-    superblock = subst (λ b. IsFormatted z 0 b) (sym (are.read 0 (omega arith))) left.fits.superblock;
-    headers = λ p low high. subst (λ b. IsHeaderOf z p b) (sym (are.read p high)) (left.fits.headers p low high);
-    pages = λ p low high. subst (λ b. FitsPage z older p b) (sym (are.read p high)) (left.fits.pages p low high);
+    superblock = subst (λ b. IsFormatted z 0 b) (sym (read 0 (omega arith))) left.fits.superblock;
+    headers = λ p low high. subst (λ b. IsHeaderOf z p b) (sym (read p high)) (left.fits.headers p low high);
+    pages = λ p low high. subst (λ b. FitsPage z older p b) (sym (read p high)) (left.fits.pages p low high);
   };
 }
 
+-- the sizes are those that the superblock told
+pub told_on : (z : Sizes) (seen : ℕ → List ℕ) (images : List (List ℕ)) → ArePages z images → AreSeen seen images (page_count z) → IsSuperblock z (seen 0)
+told_on z seen images are read = subst (λ b. IsSuperblock z b) (read 0 (omega arith)) are.superblock
+
 -- where all that the pages might be fitted the log that was read, all that they may be fits the forced log
-pub fit_begun : {P L : Type 0} (seen : P → Images) (may_be : P → ℕ → List ℕ → Type 0) (moment : P → ℕ) (left_since : P → ℕ → Images → Type 0) (old new : P) (z : Sizes) (older : List Record) (log : Logged L)
-    → IsBegun older log → OnlyRead seen may_be moment left_since old new → AllFit (may_be old) z older → AllFit (may_be new) z (oldest log.forced log.records)
-fit_begun seen may_be moment left_since old new z older log begun read f =
+pub fit_begun : {P L : Type 0} (g : Ghosts P) (old new : P) (z : Sizes) (older : List Record) (log : Logged L)
+    → IsBegun older log → OnlyRead g old new → AllFit (g.may_be old) z older → AllFit (g.may_be new) z (oldest log.forced log.records)
+fit_begun g old new z older log begun read f =
     let all : oldest log.forced log.records ≡ next_restart older ∷ older = ap (λ n. oldest n log.records) begun.forced ∙ oldest_all log.records ∙ begun.records in
-    subst (λ l. AllFit (may_be new) z l) (sym all) (all_fit_longer (may_be new) z older (next_restart older ∷ older) (1, refl) (no_more_fit (may_be old) (may_be new) z older read.crash f))
+    subst (λ l. AllFit (g.may_be new) z l) (sym all) (all_fit_longer (g.may_be new) z older (next_restart older ∷ older) (1, refl) (no_more_fit (g.may_be old) (g.may_be new) z older read.crash f))

@@ -9,6 +9,8 @@ use Rattle.rq_store.specs.Sound.{IsWhole, incarnation_of}
 use Rattle.rq_store.specs.Fitting.{AllFit}
 use Rattle.rq_model.specs.Content.{unfinished, lost}
 use Rattle.rq_disk.specs.Device.{Images, Only}
+use Rattle.rq_disk.specs.declared.device.LogDevice as log_device
+use Rattle.rq_disk.specs.declared.device.PageDevice as page_device
 use Rattle.rq_log.specs.Logged.{Logged, WasDurable}
 use Rattle.rq_log.specs.Crash.{LeavesOnly}
 use Rattle.rq_log.specs.Spelled.{spelled, AreSpelled, IsBeginning}
@@ -60,15 +62,26 @@ Stops left log why.Unfinished before now old new = left → unfinished log ≡ [
 Stops left log (why.Damaged d) before now old new = left → ⊥
 Stops left log _ before now old new = ⊥
 
+-- an honest device held these records as it was read
+pub record IsReadAs {L : Type 0} (g : log_device.Ghosts L) (old new : L) (older : List Record) : Type 0 where
+  pub honest : g.honest new
+  pub are_spelled : AreSpelled older
+  pub reads : g.seen old ≡ spelled older
+
+-- an honest device held the pages of a store that was left so
+pub record IsLeftOn {P : Type 0} (g : page_device.Ghosts P) (z : Sizes) (old new : P) (older : List Record) : Type 0 where
+  pub honest : g.honest new
+  pub left : IsLeft z (g.seen old) older
+
 -- an engine may be opened over the log: incarnations are counted from 1 on, it is not over the greatest length, it has not failed, all its records stand on
 -- the device, and a crash leaves them, now and when the log was last forced
-pub record IsReady {L : Type 0} (seen : L → List ℕ) (may_leave : L → List ℕ → Type 0) (incarnation : ℕ) (log : Logged L) : Type 0 where
+pub record IsReady {L : Type 0} (g : log_device.Ghosts L) (incarnation : ℕ) (log : Logged L) : Type 0 where
   pub begun : 1 ≤ incarnation
   pub running : log.failed ≡ false
   pub count : length log.records ≤ 2 ^ 50
-  pub reads : seen log.device ≡ spelled log.records
-  pub durable : Only (spelled log.records) (may_leave log.device)
-  pub settled : WasDurable seen may_leave log
+  pub reads : g.honest log.device → g.seen log.device ≡ spelled log.records
+  pub durable : g.honest log.device → Only (spelled log.records) (g.may_leave log.device)
+  pub settled : WasDurable g log
 
 -- by sender, how many messages wait, as the directory tells: no more than there are records
 pub record AreWaiting (z : Sizes) (images : List (List ℕ)) (count : ℕ) (waiting : List ℕ) : Type 0 where
@@ -77,19 +90,19 @@ pub record AreWaiting (z : Sizes) (images : List (List ℕ)) (count : ℕ) (wait
   pub few : (g : ℕ) → waits waiting g ≤ count
 
 -- a log as it was read, all of which a crash leaves
-pub record IsFresh {L : Type 0} (seen : L → List ℕ) (may_leave : L → List ℕ → Type 0) (log : Logged L) : Type 0 where
-  pub settled : WasDurable seen may_leave log
-  pub leaves : Only (spelled log.records) (may_leave log.device)
+pub record IsFresh {L : Type 0} (g : log_device.Ghosts L) (log : Logged L) : Type 0 where
+  pub settled : WasDurable g log
+  pub leaves : Only (spelled log.records) (g.may_leave log.device)
   pub forced : log.forced ≡ length log.records
 
 -- whatever a crash at any moment leaves of the log: all of these records, and perhaps this one
-abbrev pub AddsOne : {L : Type 0} → (L → ℕ) → (L → ℕ → List ℕ → Type 0) → Record → List Record → L → L → Type 0
-AddsOne moment left_since r older old new = LeavesOnly moment left_since old new (IsBeginning (r ∷ older) (length older))
+abbrev pub AddsOne : {L : Type 0} → log_device.Ghosts L → Record → List Record → L → L → Type 0
+AddsOne g r older old new = LeavesOnly g old new (IsBeginning (r ∷ older) (length older))
 
 -- the same of a restart, where a crash before it would have left what is read of the log and nothing else
-abbrev pub BeginsAtMost : {L : Type 0} → (L → List ℕ) → (L → List ℕ → Type 0) → (L → ℕ) → (L → ℕ → List ℕ → Type 0) → L → L → Type 0
-BeginsAtMost seen may_leave moment left_since old new =
-    Only (seen old) (may_leave old) → (older : List Record) → AreSpelled older → seen old ≡ spelled older → AddsOne moment left_since (next_restart older) older old new
+abbrev pub BeginsAtMost : {L : Type 0} → log_device.Ghosts L → L → L → Type 0
+BeginsAtMost g old new =
+    Only (g.seen old) (g.may_leave old) → (older : List Record) → IsReadAs g old new older → AddsOne g (next_restart older) older old new
 
 -- These are the pages and the log of a store: the log that was read, or that with the record that begins the next incarnation, and pages that fit it.
 abbrev pub IsReadOrBegun : Sizes → List Record → Images → List ℕ → Type 0
@@ -98,7 +111,7 @@ IsReadOrBegun z older images bytes =
 
 -- Whatever a crash at any moment of a restart leaves of both devices, where before it a crash would have left what is read of the log and pages that fit that, and no work
 -- in it is unfinished or lost.
-abbrev pub LeavesReadOrBegun : {P L : Type 0} → (P → ℕ → List ℕ → Type 0) → (P → ℕ) → (P → ℕ → Images → Type 0) → (L → List ℕ) → (L → List ℕ → Type 0) → (L → ℕ) → (L → ℕ → List ℕ → Type 0) → P → L → P → L → Type 0
-LeavesReadOrBegun may_be moment left_since seen may_leave log_moment log_left_since pages log new_pages new_log =
-    Only (seen log) (may_leave log) → (z : Sizes) (older : List Record) → AreSpelled older → seen log ≡ spelled older → IsWhole z older → AllFit (may_be pages) z older → unfinished older ≡ [] → lost older ≡ []
-    → (images : Images) (bytes : List ℕ) → left_since new_pages (moment pages) images → log_left_since new_log (log_moment log) bytes → IsReadOrBegun z older images bytes
+abbrev pub LeavesReadOrBegun : {P L : Type 0} → page_device.Ghosts P → log_device.Ghosts L → P → L → P → L → Type 0
+LeavesReadOrBegun p l pages log new_pages new_log =
+    Only (l.seen log) (l.may_leave log) → (z : Sizes) (older : List Record) → IsReadAs l log new_log older → IsWhole z older → AllFit (p.may_be pages) z older → unfinished older ≡ [] → lost older ≡ []
+    → (images : Images) (bytes : List ℕ) → p.left_since new_pages (p.moment pages) images → l.left_since new_log (l.moment log) bytes → IsReadOrBegun z older images bytes

@@ -13,7 +13,7 @@ ghost use Rattle.rq_store.specs.Sound.{IsSound};
 ghost use Rattle.rq_store.specs.Opening.{opened, next_restart, IsLeft};
 ghost use Rattle.rq_store.specs.Fitting.{AllFit, image_in};
 ghost use Rattle.rq_engine.specs.Crash.{AreFit};
-ghost use Rattle.rq_restart.specs.Restarting.{IsReady, AreWaiting, BeginsNot, StaysShut, IsBegun, Reports, Stops, IsFresh, AddsOne, BeginsAtMost, LeavesReadOrBegun};
+ghost use Rattle.rq_restart.specs.Restarting.{IsReadAs, IsLeftOn, IsReady, AreWaiting, BeginsNot, StaysShut, IsBegun, Reports, Stops, IsFresh, AddsOne, BeginsAtMost, LeavesReadOrBegun};
 
 use crate::redo::{miscounted_page, repeat_history};
 use crate::waiting::count_waiting;
@@ -71,22 +71,22 @@ pub fn restart<P: PageDevice + Drop, L: LogDevice + Drop>(
     pages: P,
     log: L,
 ) -> Result<(Engine<P, L>, Report), Stopped<P, L>>
-    ensures report { IfOk result (λ o. (older : List Record) → AreSpelled older → L.seen log ≡ spelled older → Reports older o.1.incarnation o.1.records o.1.unfinished o.1.lost) }
-    ensures sizes { IfOk result (λ o. IsSuperblock o.0.state.sizes (P.seen pages 0)) }
-    ensures value { IfOk result (λ o. (older : List Record) → AreSpelled older → L.seen log ≡ spelled older → o.0.state ≡ opened o.0.state.sizes o.0.state.images older) }
-    ensures sound { IfOk result (λ o. (older : List Record) → AreSpelled older → L.seen log ≡ spelled older → IsLeft o.0.state.sizes (P.seen pages) older → IsSound o.0.state) }
-    ensures committed { IfOk result (λ o. (older : List Record) → AreSpelled older → L.seen log ≡ spelled older → (ledger_of o.0.state).committed ≡ committed_of older) }
-    ensures reads { IfOk result (λ o. L.seen o.0.log ≡ spelled o.0.state.records) }
-    ensures durable { IfOk result (λ o. Only (spelled o.0.state.records) (L.may_leave o.0.log)) }
-    ensures pages { IfOk result (λ o. OnlyRead P.seen P.may_be P.moment P.left_since pages o.0.pages) }
-    ensures pages_back { IfErr result (λ stopped. OnlyRead P.seen P.may_be P.moment P.left_since pages stopped.pages) }
-    ensures any_moment { IfOk result (λ o. BeginsAtMost L.seen L.may_leave L.moment L.left_since log o.0.log) }
-    ensures any_moment_back { IfErr result (λ stopped. BeginsAtMost L.seen L.may_leave L.moment L.left_since log stopped.log) }
-    ensures crash { IfOk result (λ o. LeavesReadOrBegun P.may_be P.moment P.left_since L.seen L.may_leave L.moment L.left_since pages log o.0.pages o.0.log) }
-    ensures crash_back { IfErr result (λ stopped. LeavesReadOrBegun P.may_be P.moment P.left_since L.seen L.may_leave L.moment L.left_since pages log stopped.pages stopped.log) }
-    ensures fit { IfOk result (λ o. (older : List Record) → AreSpelled older → L.seen log ≡ spelled older → AllFit (P.may_be pages) o.0.state.sizes older → AreFit P.may_be o.0) }
+    ensures report { IfOk result (λ o. (older : List Record) → IsReadAs L.LogDevice log o.0.log older → Reports older o.1.incarnation o.1.records o.1.unfinished o.1.lost) }
+    ensures sizes { IfOk result (λ o. P.honest o.0.pages → IsSuperblock o.0.state.sizes (P.seen pages 0)) }
+    ensures value { IfOk result (λ o. (older : List Record) → IsReadAs L.LogDevice log o.0.log older → o.0.state ≡ opened o.0.state.sizes o.0.state.images older) }
+    ensures sound { IfOk result (λ o. (older : List Record) → IsReadAs L.LogDevice log o.0.log older → IsLeftOn P.PageDevice o.0.state.sizes pages o.0.pages older → IsSound o.0.state) }
+    ensures committed { IfOk result (λ o. (older : List Record) → IsReadAs L.LogDevice log o.0.log older → (ledger_of o.0.state).committed ≡ committed_of older) }
+    ensures reads { IfOk result (λ o. L.honest o.0.log → L.seen o.0.log ≡ spelled o.0.state.records) }
+    ensures durable { IfOk result (λ o. L.honest o.0.log → Only (spelled o.0.state.records) (L.may_leave o.0.log)) }
+    ensures pages { IfOk result (λ o. OnlyRead P.PageDevice pages o.0.pages) }
+    ensures pages_back { IfErr result (λ stopped. OnlyRead P.PageDevice pages stopped.pages) }
+    ensures any_moment { IfOk result (λ o. BeginsAtMost L.LogDevice log o.0.log) }
+    ensures any_moment_back { IfErr result (λ stopped. BeginsAtMost L.LogDevice log stopped.log) }
+    ensures crash { IfOk result (λ o. LeavesReadOrBegun P.PageDevice L.LogDevice pages log o.0.pages o.0.log) }
+    ensures crash_back { IfErr result (λ stopped. LeavesReadOrBegun P.PageDevice L.LogDevice pages log stopped.pages stopped.log) }
+    ensures fit { IfOk result (λ o. (older : List Record) → IsReadAs L.LogDevice log o.0.log older → AllFit (P.may_be pages) o.0.state.sizes older → AreFit P.PageDevice o.0) }
     ensures cause { IfOk result (λ o. (P.faults o.0.pages ≡ P.faults pages) × (L.faults o.0.log ≡ L.faults log)) }
-    ensures err { IfErr result (λ stopped. (z : Sizes) → IsSuperblock z (P.seen pages 0) → (older : List Record) → AreSpelled older → L.seen log ≡ spelled older → Stops (IsLeft z (P.seen pages) older) older stopped.refusal (P.faults pages) (P.faults stopped.pages) (L.faults log) (L.faults stopped.log)) }
+    ensures err { IfErr result (λ stopped. (z : Sizes) → IsSuperblock z (P.seen pages 0) → (older : List Record) → IsReadAs L.LogDevice log stopped.log older → Stops (IsLeftOn P.PageDevice z pages stopped.pages older) older stopped.refusal (P.faults pages) (P.faults stopped.pages) (L.faults log) (L.faults stopped.log)) }
 {
     reopen(alloc, pages, log)
 }
@@ -97,20 +97,20 @@ fn reopen<P: PageDevice + Drop, L: LogDevice + Drop>(
     pages: P,
     log: L,
 ) -> Result<(Engine<P, L>, Report), Stopped<P, L>>
-    ensures report { IfOk result (λ o. (older : List Record) → AreSpelled older → L.seen log ≡ spelled older → Reports older o.1.incarnation o.1.records o.1.unfinished o.1.lost) }
-    ensures sizes { IfOk result (λ o. IsSuperblock o.0.state.sizes (P.seen pages 0)) }
-    ensures value { IfOk result (λ o. (older : List Record) → AreSpelled older → L.seen log ≡ spelled older → o.0.state ≡ opened o.0.state.sizes o.0.state.images older) }
-    ensures sound { IfOk result (λ o. (older : List Record) → AreSpelled older → L.seen log ≡ spelled older → IsLeft o.0.state.sizes (P.seen pages) older → IsSound o.0.state) }
-    ensures committed { IfOk result (λ o. (older : List Record) → AreSpelled older → L.seen log ≡ spelled older → (ledger_of o.0.state).committed ≡ committed_of older) }
-    ensures reads { IfOk result (λ o. L.seen o.0.log ≡ spelled o.0.state.records) }
-    ensures durable { IfOk result (λ o. Only (spelled o.0.state.records) (L.may_leave o.0.log)) }
-    ensures pages { IfOk result (λ o. OnlyRead P.seen P.may_be P.moment P.left_since pages o.0.pages) }
-    ensures pages_back { IfErr result (λ stopped. OnlyRead P.seen P.may_be P.moment P.left_since pages stopped.pages) }
-    ensures any_moment { IfOk result (λ o. BeginsAtMost L.seen L.may_leave L.moment L.left_since log o.0.log) }
-    ensures any_moment_back { IfErr result (λ stopped. BeginsAtMost L.seen L.may_leave L.moment L.left_since log stopped.log) }
-    ensures fit { IfOk result (λ o. (older : List Record) → AreSpelled older → L.seen log ≡ spelled older → AllFit (P.may_be pages) o.0.state.sizes older → AreFit P.may_be o.0) }
+    ensures report { IfOk result (λ o. (older : List Record) → IsReadAs L.LogDevice log o.0.log older → Reports older o.1.incarnation o.1.records o.1.unfinished o.1.lost) }
+    ensures sizes { IfOk result (λ o. P.honest o.0.pages → IsSuperblock o.0.state.sizes (P.seen pages 0)) }
+    ensures value { IfOk result (λ o. (older : List Record) → IsReadAs L.LogDevice log o.0.log older → o.0.state ≡ opened o.0.state.sizes o.0.state.images older) }
+    ensures sound { IfOk result (λ o. (older : List Record) → IsReadAs L.LogDevice log o.0.log older → IsLeftOn P.PageDevice o.0.state.sizes pages o.0.pages older → IsSound o.0.state) }
+    ensures committed { IfOk result (λ o. (older : List Record) → IsReadAs L.LogDevice log o.0.log older → (ledger_of o.0.state).committed ≡ committed_of older) }
+    ensures reads { IfOk result (λ o. L.honest o.0.log → L.seen o.0.log ≡ spelled o.0.state.records) }
+    ensures durable { IfOk result (λ o. L.honest o.0.log → Only (spelled o.0.state.records) (L.may_leave o.0.log)) }
+    ensures pages { IfOk result (λ o. OnlyRead P.PageDevice pages o.0.pages) }
+    ensures pages_back { IfErr result (λ stopped. OnlyRead P.PageDevice pages stopped.pages) }
+    ensures any_moment { IfOk result (λ o. BeginsAtMost L.LogDevice log o.0.log) }
+    ensures any_moment_back { IfErr result (λ stopped. BeginsAtMost L.LogDevice log stopped.log) }
+    ensures fit { IfOk result (λ o. (older : List Record) → IsReadAs L.LogDevice log o.0.log older → AllFit (P.may_be pages) o.0.state.sizes older → AreFit P.PageDevice o.0) }
     ensures cause { IfOk result (λ o. (P.faults o.0.pages ≡ P.faults pages) × (L.faults o.0.log ≡ L.faults log)) }
-    ensures err { IfErr result (λ stopped. (z : Sizes) → IsSuperblock z (P.seen pages 0) → (older : List Record) → AreSpelled older → L.seen log ≡ spelled older → Stops (IsLeft z (P.seen pages) older) older stopped.refusal (P.faults pages) (P.faults stopped.pages) (L.faults log) (L.faults stopped.log)) }
+    ensures err { IfErr result (λ stopped. (z : Sizes) → IsSuperblock z (P.seen pages 0) → (older : List Record) → IsReadAs L.LogDevice log stopped.log older → Stops (IsLeftOn P.PageDevice z pages stopped.pages older) older stopped.refusal (P.faults pages) (P.faults stopped.pages) (L.faults log) (L.faults stopped.log)) }
 {
     let Opened {
         pages,
@@ -136,19 +136,19 @@ fn open<P: PageDevice + Drop, L: LogDevice + Drop>(
     pages: P,
     log: L,
 ) -> Result<Opened<P, L>, Stopped<P, L>>
-    ensures begun { IfOk result (λ opened. (older : List Record) → AreSpelled older → L.seen log ≡ spelled older → IsBegun older opened.log) }
-    ensures report { IfOk result (λ opened. (older : List Record) → AreSpelled older → L.seen log ≡ spelled older → Reports older opened.report.incarnation opened.report.records opened.report.unfinished opened.report.lost) }
-    ensures sizes { IfOk result (λ opened. IsSuperblock opened.pages.sizes (P.seen pages 0)) }
+    ensures begun { IfOk result (λ opened. (older : List Record) → IsReadAs L.LogDevice log opened.log.device older → IsBegun older opened.log) }
+    ensures report { IfOk result (λ opened. (older : List Record) → IsReadAs L.LogDevice log opened.log.device older → Reports older opened.report.incarnation opened.report.records opened.report.unfinished opened.report.lost) }
+    ensures sizes { IfOk result (λ opened. P.honest opened.pages.device → IsSuperblock opened.pages.sizes (P.seen pages 0)) }
     ensures cells { IfOk result (λ opened. opened.cells ≡ count_used opened.pages.sizes (slots_in opened.pages.sizes opened.pages.images)) }
     ensures waiting { IfOk result (λ opened. AreWaiting opened.pages.sizes opened.pages.images (length opened.log.records) opened.waiting) }
-    ensures sound { IfOk result (λ o. (older : List Record) → AreSpelled older → L.seen log ≡ spelled older → IsLeft o.pages.sizes (P.seen pages) older → IsSound (opened o.pages.sizes o.pages.images older)) }
-    ensures ready { IfOk result (λ o. IsReady L.seen L.may_leave o.report.incarnation o.log) }
-    ensures pages { IfOk result (λ o. OnlyRead P.seen P.may_be P.moment P.left_since pages o.pages.device) }
-    ensures pages_back { IfErr result (λ stopped. OnlyRead P.seen P.may_be P.moment P.left_since pages stopped.pages) }
-    ensures any_moment { IfOk result (λ o. BeginsAtMost L.seen L.may_leave L.moment L.left_since log o.log.device) }
-    ensures any_moment_back { IfErr result (λ stopped. BeginsAtMost L.seen L.may_leave L.moment L.left_since log stopped.log) }
+    ensures sound { IfOk result (λ o. (older : List Record) → IsReadAs L.LogDevice log o.log.device older → IsLeftOn P.PageDevice o.pages.sizes pages o.pages.device older → IsSound (opened o.pages.sizes o.pages.images older)) }
+    ensures ready { IfOk result (λ o. IsReady L.LogDevice o.report.incarnation o.log) }
+    ensures pages { IfOk result (λ o. OnlyRead P.PageDevice pages o.pages.device) }
+    ensures pages_back { IfErr result (λ stopped. OnlyRead P.PageDevice pages stopped.pages) }
+    ensures any_moment { IfOk result (λ o. BeginsAtMost L.LogDevice log o.log.device) }
+    ensures any_moment_back { IfErr result (λ stopped. BeginsAtMost L.LogDevice log stopped.log) }
     ensures cause { IfOk result (λ o. (P.faults o.pages.device ≡ P.faults pages) × (L.faults o.log.device ≡ L.faults log)) }
-    ensures err { IfErr result (λ stopped. (z : Sizes) → IsSuperblock z (P.seen pages 0) → (older : List Record) → AreSpelled older → L.seen log ≡ spelled older → Stops (IsLeft z (P.seen pages) older) older stopped.refusal (P.faults pages) (P.faults stopped.pages) (L.faults log) (L.faults stopped.log)) }
+    ensures err { IfErr result (λ stopped. (z : Sizes) → IsSuperblock z (P.seen pages 0) → (older : List Record) → IsReadAs L.LogDevice log stopped.log older → Stops (IsLeftOn P.PageDevice z pages stopped.pages older) older stopped.refusal (P.faults pages) (P.faults stopped.pages) (L.faults log) (L.faults stopped.log)) }
 {
     match Pages::load(alloc, pages) {
         Ok(pages) => restart_log(alloc, pages, log),
@@ -169,19 +169,19 @@ fn restart_log<P: PageDevice + Drop, L: LogDevice + Drop>(
     mut pages: Pages<P>,
     log: L,
 ) -> Result<Opened<P, L>, Stopped<P, L>>
-    ensures begun { IfOk result (λ opened. (older : List Record) → AreSpelled older → L.seen log ≡ spelled older → IsBegun older opened.log) }
-    ensures report { IfOk result (λ opened. (older : List Record) → AreSpelled older → L.seen log ≡ spelled older → Reports older opened.report.incarnation opened.report.records opened.report.unfinished opened.report.lost) }
+    ensures begun { IfOk result (λ opened. (older : List Record) → IsReadAs L.LogDevice log opened.log.device older → IsBegun older opened.log) }
+    ensures report { IfOk result (λ opened. (older : List Record) → IsReadAs L.LogDevice log opened.log.device older → Reports older opened.report.incarnation opened.report.records opened.report.unfinished opened.report.lost) }
     ensures sizes { IfOk result (λ opened. opened.pages.sizes ≡ pages.sizes) }
     ensures cells { IfOk result (λ opened. opened.cells ≡ count_used opened.pages.sizes (slots_in opened.pages.sizes opened.pages.images)) }
     ensures waiting { IfOk result (λ opened. AreWaiting opened.pages.sizes opened.pages.images (length opened.log.records) opened.waiting) }
-    ensures sound { IfOk result (λ o. (older : List Record) → AreSpelled older → L.seen log ≡ spelled older → IsLeft pages.sizes (image_in pages.images) older → IsSound (opened pages.sizes o.pages.images older)) }
-    ensures ready { IfOk result (λ o. IsReady L.seen L.may_leave o.report.incarnation o.log) }
+    ensures sound { IfOk result (λ o. (older : List Record) → IsReadAs L.LogDevice log o.log.device older → IsLeft pages.sizes (image_in pages.images) older → IsSound (opened pages.sizes o.pages.images older)) }
+    ensures ready { IfOk result (λ o. IsReady L.LogDevice o.report.incarnation o.log) }
     ensures pages { IfOk result (λ o. o.pages.device ≡ pages.device) }
     ensures pages_back { IfErr result (λ stopped. stopped.pages ≡ pages.device) }
-    ensures any_moment { IfOk result (λ o. BeginsAtMost L.seen L.may_leave L.moment L.left_since log o.log.device) }
-    ensures any_moment_back { IfErr result (λ stopped. BeginsAtMost L.seen L.may_leave L.moment L.left_since log stopped.log) }
+    ensures any_moment { IfOk result (λ o. BeginsAtMost L.LogDevice log o.log.device) }
+    ensures any_moment_back { IfErr result (λ stopped. BeginsAtMost L.LogDevice log stopped.log) }
     ensures cause { IfOk result (λ o. L.faults o.log.device ≡ L.faults log) }
-    ensures err { IfErr result (λ stopped. (older : List Record) → AreSpelled older → L.seen log ≡ spelled older → StaysShut (IsLeft pages.sizes (image_in pages.images) older) older stopped.refusal (L.faults log) (L.faults stopped.log)) }
+    ensures err { IfErr result (λ stopped. (older : List Record) → IsReadAs L.LogDevice log stopped.log older → StaysShut (IsLeft pages.sizes (image_in pages.images) older) older stopped.refusal (L.faults log) (L.faults stopped.log)) }
 {
     let Scan { records, log } = Log::scan(alloc, log);
     match log {
@@ -228,9 +228,10 @@ fn go_on<P: PageDevice + Drop, L: LogDevice + Drop>(
     ensures report { IfOk result (λ begun. Reports log.old.records begun.1.incarnation begun.1.records begun.1.unfinished begun.1.lost) }
     ensures sound { OnOk result (IsLeft pages.old.sizes (image_in pages.old.images) log.old.records → IsSound (opened pages.old.sizes pages.new.images log.old.records)) }
     ensures waiting { IfOk result (λ begun. AreWaiting pages.new.sizes pages.new.images (length log.new.records) begun.0) }
-    ensures ready { IfOk result (λ begun. IsReady L.seen L.may_leave begun.1.incarnation log.new) }
+    ensures ready { IfOk result (λ begun. IsReady L.LogDevice begun.1.incarnation log.new) }
     ensures pages { pages.new.device ≡ pages.old.device }
-    ensures any_moment { IsFresh L.seen L.may_leave log.old → AddsOne L.moment L.left_since (next_restart log.old.records) log.old.records log.old.device log.new.device }
+    ensures honest { L.honest log.new.device → L.honest log.old.device }
+    ensures any_moment { L.honest log.new.device → IsFresh L.LogDevice log.old → AddsOne L.LogDevice (next_restart log.old.records) log.old.records log.old.device log.new.device }
     ensures cause { OnOk result (L.faults log.new.device ≡ L.faults log.old.device) }
     ensures err { IfErr result (λ e. StaysShut (IsLeft pages.old.sizes (image_in pages.old.images) log.old.records) log.old.records e (L.faults log.old.device) (L.faults log.new.device)) }
 {
@@ -257,9 +258,10 @@ fn begin_incarnation<L: LogDevice + Drop>(log: &mut Log<L>, last: u64) -> Result
     ensures records { OnOk result (log.new.records ≡ records.Restart (last + 1) ∷ log.old.records) }
     ensures forced { OnOk result ((log.new.forced ≡ length log.new.records) × (log.new.failed ≡ false)) }
     ensures report { IfOk result (λ report. (report.incarnation ≡ last + 1) × (report.records ≡ length log.new.records) × (report.unfinished ≡ 0) × (report.lost ≡ 0)) }
-    ensures ready { IfOk result (λ report. IsReady L.seen L.may_leave report.incarnation log.new) }
+    ensures ready { IfOk result (λ report. IsReady L.LogDevice report.incarnation log.new) }
     ensures cause { OnOk result (L.faults log.new.device ≡ L.faults log.old.device) }
-    ensures any_moment { IsFresh L.seen L.may_leave log.old → AddsOne L.moment L.left_since (records.Restart (last + 1)) log.old.records log.old.device log.new.device }
+    ensures honest { L.honest log.new.device → L.honest log.old.device }
+    ensures any_moment { L.honest log.new.device → IsFresh L.LogDevice log.old → AddsOne L.LogDevice (records.Restart (last + 1)) log.old.records log.old.device log.new.device }
     ensures err { IfErr result (λ e. BeginsNot e (length log.old.records) last (L.faults log.old.device) (L.faults log.new.device)) }
 {
     if log.last() >= LOG_LIMIT {

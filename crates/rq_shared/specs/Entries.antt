@@ -4,9 +4,11 @@ use Rattle.rq_model.specs.History.{Call}
 use Rattle.rq_model.specs.Replay.{Reply as Gave, Replays}
 use Rattle.rq_engine.specs.declared.event.Event.{Event}
 use Rattle.rq_engine.specs.declared.event.Reply.{Reply}
-use Rattle.rq_store.specs.State.{State, ledger_of, size_of}
+use Rattle.rq_store.specs.State.{ledger_of, size_of}
 use Rattle.rq_store.specs.Sound.{IsSound}
-use Rattle.rq_engine.specs.Opened.{OpenStore}
+use Rattle.rq_disk.specs.declared.device.LogDevice as log_device
+use Rattle.rq_disk.specs.declared.device.PageDevice as page_device
+use Rattle.rq_engine.specs.Opened.{OpenStore, AreHonest}
 use Rattle.rq_engine.specs.Says.{call_of, gave}
 use Rattle.rq_shared.specs.declared.kept.AuditEntry.{AuditEntry}
 
@@ -37,11 +39,11 @@ answer_of n = (n.call, n.gave)
 abbrev pub answers : List Noted → List (Call × Gave)
 answers ns = reverse (map answer_of ns)
 
--- The engine is of the size of the base, and where the base goes back to a legal log, so does the engine, and the audit's calls with what they gave
--- lead from the one's ledger to the other's.
-pub record Follows (base : State) (audit : List Noted) (engine : State) : Type 0 where
-  pub sizes : engine.sizes ≡ base.sizes
-  pub replays : IsSound base → IsSound engine × Replays (size_of base.sizes) (ledger_of base) (answers audit) (ledger_of engine)
+-- The engine is of the size of the base, and where its devices have been honest and the base goes back to a legal log, so does the engine, and the audit's calls
+-- with what they gave lead from the one's ledger to the other's.
+pub record Follows {P L : Type 0} (p : page_device.Ghosts P) (l : log_device.Ghosts L) (base : OpenStore P L) (audit : List Noted) (engine : OpenStore P L) : Type 0 where
+  pub sizes : engine.state.sizes ≡ base.state.sizes
+  pub replays : AreHonest p l engine → IsSound base.state → IsSound engine.state × Replays (size_of base.state.sizes) (ledger_of base.state) (answers audit) (ledger_of engine.state)
 
 -- an engine, the entries since its audit was last taken, and the engine as it was then
 pub record Audited (P L : Type 0) : Type 0 where

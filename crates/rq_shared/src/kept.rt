@@ -7,6 +7,7 @@ ghost use Rattle.rq_log.specs.Crash.{LeavesOnly};
 ghost use Rattle.rq_log.specs.Spelled.{IsBeginning};
 ghost use Rattle.rq_engine.specs.Says.{call_of, gave, IsCaused, IsContent, LogSays, PagesSay, WritesSay};
 ghost use Rattle.rq_engine.specs.Crash.{AreFit, LeftCut};
+ghost use Rattle.rq_engine.specs.Opened.{AreHonest};
 
 use rq_content::GroupContent;
 use rq_disk::{LogDevice, PageDevice};
@@ -91,7 +92,7 @@ impl<P: PageDevice, L: LogDevice> Model for Kept<P, L> {
       base = k.base.value;
     } };
 
-    ghost invariant = { λ k. Follows k.base.value.state (entries k.audit.items) k.engine.state };
+    ghost invariant = { λ k. Follows P.PageDevice L.LogDevice k.base.value (entries k.audit.items) k.engine };
 }
 
 impl<P: PageDevice + Drop, L: LogDevice + Drop> Kept<P, L> {
@@ -118,16 +119,17 @@ impl<P: PageDevice + Drop, L: LogDevice + Drop> Kept<P, L> {
         ensures pass { result.pass ≡ pass }
         ensures event { result.event ≡ event }
         ensures entry { result.reply ≢ Reply.Refused Refusal.NoMemory → OneMore self.old.audit self.new.audit (noted pass event result.reply) }
-        ensures answered { result.reply ≢ Reply.Refused Refusal.NoMemory → IsSound self.old.engine.state → Steps self.old.engine.state (call_of event) (gave result.reply) self.new.engine.state }
-        ensures cause { result.reply ≢ Reply.Refused Refusal.NoMemory → IsSound self.old.engine.state → IsCaused self.old.engine.state event result.reply }
+        ensures answered { result.reply ≢ Reply.Refused Refusal.NoMemory → AreHonest P.PageDevice L.LogDevice self.new.engine → IsSound self.old.engine.state → Steps self.old.engine.state (call_of event) (gave result.reply) self.new.engine.state }
+        ensures cause { result.reply ≢ Reply.Refused Refusal.NoMemory → AreHonest P.PageDevice L.LogDevice self.new.engine → IsSound self.old.engine.state → IsCaused self.old.engine.state event result.reply }
         ensures no_change { result.reply ≡ Reply.Refused Refusal.NoMemory → self.new ≡ self.old }
         ensures base { self.new.base ≡ self.old.base }
         ensures writes { result.reply ≢ Reply.Refused Refusal.NoMemory → WritesSay self.old.engine event result.reply }
-        ensures pages { PagesSay P.seen P.may_be P.moment P.left_since P.faults self.old.engine self.new.engine event result.reply }
-        ensures log { result.reply ≢ Reply.Refused Refusal.NoMemory → LogSays L.faults self.old.engine self.new.engine event result.reply }
-        ensures any_moment { LeavesOnly L.moment L.left_since self.old.engine.log self.new.engine.log (IsBeginning self.old.engine.state.records self.old.engine.state.forced) }
-        ensures fit { IsSound self.old.engine.state → AreFit P.may_be self.old.engine → AreFit P.may_be self.new.engine }
-        ensures crash { IsSound self.old.engine.state → AreFit P.may_be self.old.engine → LeftCut P.moment P.left_since L.moment L.left_since self.old.engine self.new.engine }
+        ensures pages { PagesSay P.PageDevice self.old.engine self.new.engine event result.reply }
+        ensures log { result.reply ≢ Reply.Refused Refusal.NoMemory → LogSays L.LogDevice self.old.engine self.new.engine event result.reply }
+        ensures honest { AreHonest P.PageDevice L.LogDevice self.new.engine → AreHonest P.PageDevice L.LogDevice self.old.engine }
+        ensures any_moment { L.honest self.new.engine.log → LeavesOnly L.LogDevice self.old.engine.log self.new.engine.log (IsBeginning self.old.engine.state.records self.old.engine.state.forced) }
+        ensures fit { AreHonest P.PageDevice L.LogDevice self.new.engine → IsSound self.old.engine.state → AreFit P.PageDevice self.old.engine → AreFit P.PageDevice self.new.engine }
+        ensures crash { AreHonest P.PageDevice L.LogDevice self.new.engine → IsSound self.old.engine.state → AreFit P.PageDevice self.old.engine → LeftCut P.PageDevice L.LogDevice self.old.engine self.new.engine }
     {
         self.engine.keeps();
         let Ok(noted_event) = room_for(&mut self.audit, &event) else {
@@ -153,7 +155,7 @@ impl<P: PageDevice + Drop, L: LogDevice + Drop> Kept<P, L> {
     /// as it is. The audit is empty afterwards.
     pub fn take(&mut self) -> Vec<AuditEntry>
         ensures taken { entries result.items ≡ self.old.audit }
-        ensures replays { Follows self.old.base.state (entries result.items) self.old.engine.state }
+        ensures replays { Follows P.PageDevice L.LogDevice self.old.base (entries result.items) self.old.engine }
         ensures emptied { self.new.audit ≡ [] }
         ensures engine { self.new.engine ≡ self.old.engine }
         ensures base { self.new.base ≡ self.old.engine }

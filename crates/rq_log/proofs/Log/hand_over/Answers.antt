@@ -1,5 +1,5 @@
-use Rattle.std.proofs.Common.{arith, sym, ◌∙◌}
-use Rattle.rq_log.proofs.Kept.{whole, handed, broken, append_leaves, reads_all, nothing_buffered, all_on_device}
+use Rattle.std.proofs.Common.{arith, sym, ap, length, ◌∙◌}
+use Rattle.rq_log.proofs.Kept.{whole, handed, broken, append_leaves, reads_all, nothing_buffered}
 use Rattle.rq_log.proofs.Runs.{is_none, is_some}
 use Rattle.rq_log.proofs.Moments.{started, one_call}
 use Rattle.rq_log.proofs.Log.hand_over.Goals as goal
@@ -8,48 +8,49 @@ pub returns-then-self-clause-any_moment : goal.returns-then-self-clause-any_mome
 returns-then-self-clause-any_moment g c =
     let L = g.L.LogDevice in
     let d = c.self.inside.device in
-    rw (← c.self.view_is) (λ was. started L.moment L.left_since d _ (λ b left. c.self.invariant.is_log.leaves was b (g.met.L.LogDevice.only_now d b left)))
+    rw (← c.self.view_is) (λ h was. started L d _ (λ b left. c.self.invariant.is_log.leaves h was b (g.met.L.LogDevice.only_now d b left)))
 
 pub returns-then-is_empty-clause-ok : goal.returns-then-is_empty-clause-ok
 returns-then-is_empty-clause-ok g c =
     let L = g.L.LogDevice in
-    rw (← c.self.view_is) (c.if-self.false, nothing_buffered L.seen L.may_leave _ _ c.self.inside.buffer.items _ c.self.invariant c.if-self.false (sym c.self.inside.buffer.ok.0 ∙ is_none _ _ c.is_empty.ensures c.if-is_empty.true))
+    let none = sym c.self.inside.buffer.ok.0 ∙ is_none _ _ c.is_empty.ensures c.if-is_empty.true in
+    rw (← c.self.view_is) (c.if-self.false, none, nothing_buffered L _ _ c.self.inside.buffer.items _ c.self.invariant c.if-self.false none)
 
 pub returns-then-is_empty-clause-any_moment : goal.returns-then-is_empty-clause-any_moment
 returns-then-is_empty-clause-any_moment g c =
     let L = g.L.LogDevice in
     let d = c.self.inside.device in
-    rw (← c.self.view_is) (λ was. started L.moment L.left_since d _ (λ b left. c.self.invariant.is_log.leaves was b (g.met.L.LogDevice.only_now d b left)))
+    rw (← c.self.view_is) (λ h was. started L d _ (λ b left. c.self.invariant.is_log.leaves h was b (g.met.L.LogDevice.only_now d b left)))
 
 pub append-requires : goal.append-requires
 append-requires g c =
     let L = g.L.LogDevice in
-    rw c.deref.ensures.value (whole L.seen L.may_leave _ _ c.self.inside.buffer.items _ c.self.invariant c.if-self.false)
+    rw c.deref.ensures.value (whole L _ _ c.self.inside.buffer.items _ c.self.invariant c.if-self.false)
 
 pub invariant_of-self : goal.invariant_of-self
 invariant_of-self g c =
     let L = g.L.LogDevice in
     let crash = rw c.deref.ensures.value at c.append.ensures.crash in
     let added = rw c.deref.ensures.value at c.in-Ok.ensures.added in
-    handed L.seen L.may_leave _ _ c.self.inside.buffer.items _ c.self.invariant c.if-self.false c.append.new.self crash added _ (let room = c.self.invariant.room in omega (arith, room, c.clear.ensures.capacity)) _ c.clear.ensures.items
+    handed L _ _ c.self.inside.buffer.items _ c.self.invariant c.if-self.false c.append.new.self c.append.ensures.honest crash added _ (let room = c.self.invariant.room in omega (arith, room, c.clear.ensures.capacity)) _ c.clear.ensures.items
 
 pub invariant_of-self-in-Err : goal.invariant_of-self-in-Err
 invariant_of-self-in-Err g c =
     let L = g.L.LogDevice in
     let crash = rw c.deref.ensures.value at c.append.ensures.crash in
-    broken L.seen L.may_leave _ _ c.self.inside.buffer.items _ c.self.invariant c.append.new.self
-    (append_leaves L.seen L.may_leave _ _ c.self.inside.buffer.items _ c.self.invariant c.if-self.false c.append.new.self crash)
+    broken L _ _ c.self.inside.buffer.items _ c.self.invariant c.append.new.self
+    (λ h. append_leaves L _ _ c.self.inside.buffer.items _ c.self.invariant c.if-self.false c.append.new.self crash (c.append.ensures.honest h))
 
 pub returns-in-Ok-clause-ok : goal.returns-in-Ok-clause-ok
 returns-in-Ok-clause-ok g c =
     let L = g.L.LogDevice in
     let added = rw c.deref.ensures.value at c.in-Ok.ensures.added in
-    (c.if-self.false, added ∙ reads_all L.seen L.may_leave _ _ c.self.inside.buffer.items _ c.self.invariant c.if-self.false)
+    (c.if-self.false, ap length c.clear.ensures.items, λ h. added ∙ reads_all L _ _ c.self.inside.buffer.items _ c.self.invariant c.if-self.false (c.append.ensures.honest h))
 
 pub returns-in-Ok-clause-idle : goal.returns-in-Ok-clause-idle
 returns-in-Ok-clause-idle g c =
     let L = g.L.LogDevice in
-    rw (← c.self.view_is) (λ running all. absurd (is_some _ _ c.is_empty.ensures c.if-is_empty.false (c.self.inside.buffer.ok.0 ∙ all_on_device L.seen L.may_leave _ _ c.self.inside.buffer.items _ c.self.invariant running all)))
+    rw (← c.self.view_is) (λ none. absurd (is_some _ _ c.is_empty.ensures c.if-is_empty.false (c.self.inside.buffer.ok.0 ∙ none)))
 
 pub returns-in-Ok-clause-any_moment : goal.returns-in-Ok-clause-any_moment
 returns-in-Ok-clause-any_moment g c =
@@ -57,14 +58,14 @@ returns-in-Ok-clause-any_moment g c =
     let d = c.self.inside.device in
     let crash = rw c.deref.ensures.value at c.append.ensures.crash in
     rw (← c.self.view_is)
-    (λ was. one_call L.moment L.left_since d c.append.new.self _ (L.may_leave d) (L.may_leave c.append.new.self) (g.met.L.LogDevice.only_now d) c.append.ensures.time
-    (c.self.invariant.is_log.leaves was)
-    (append_leaves L.seen L.may_leave _ _ c.self.inside.buffer.items _ c.self.invariant c.if-self.false c.append.new.self crash was))
+    (λ h was. one_call L d c.append.new.self _ (L.may_leave d) (L.may_leave c.append.new.self) (g.met.L.LogDevice.only_now d) c.append.ensures.time
+    (c.self.invariant.is_log.leaves (c.append.ensures.honest h) was)
+    (append_leaves L _ _ c.self.inside.buffer.items _ c.self.invariant c.if-self.false c.append.new.self crash (c.append.ensures.honest h) was))
 
 pub returns-in-Err-clause-idle : goal.returns-in-Err-clause-idle
 returns-in-Err-clause-idle g c =
     let L = g.L.LogDevice in
-    rw (← c.self.view_is) (λ running all. absurd (is_some _ _ c.is_empty.ensures c.if-is_empty.false (c.self.inside.buffer.ok.0 ∙ all_on_device L.seen L.may_leave _ _ c.self.inside.buffer.items _ c.self.invariant running all)))
+    rw (← c.self.view_is) (λ none. absurd (is_some _ _ c.is_empty.ensures c.if-is_empty.false (c.self.inside.buffer.ok.0 ∙ none)))
 
 pub returns-in-Err-clause-any_moment : goal.returns-in-Err-clause-any_moment
 returns-in-Err-clause-any_moment g c =
@@ -72,6 +73,6 @@ returns-in-Err-clause-any_moment g c =
     let d = c.self.inside.device in
     let crash = rw c.deref.ensures.value at c.append.ensures.crash in
     rw (← c.self.view_is)
-    (λ was. one_call L.moment L.left_since d c.append.new.self _ (L.may_leave d) (L.may_leave c.append.new.self) (g.met.L.LogDevice.only_now d) c.append.ensures.time
-    (c.self.invariant.is_log.leaves was)
-    (append_leaves L.seen L.may_leave _ _ c.self.inside.buffer.items _ c.self.invariant c.if-self.false c.append.new.self crash was))
+    (λ h was. one_call L d c.append.new.self _ (L.may_leave d) (L.may_leave c.append.new.self) (g.met.L.LogDevice.only_now d) c.append.ensures.time
+    (c.self.invariant.is_log.leaves (c.append.ensures.honest h) was)
+    (append_leaves L _ _ c.self.inside.buffer.items _ c.self.invariant c.if-self.false c.append.new.self crash (c.append.ensures.honest h) was))

@@ -68,20 +68,20 @@ returns-clause-err g c =
     shut_is c.args.log.now.records c.args.records.now c.requires.records c.in_ok-history.history c.in_ok-history.ensures.ok c.args.pages.now.sizes (image_in c.args.pages.now.images) c.in-Err.refusal c.incarnation.result _ _ c.incarnation.ensures c.in-Err.ensures.err
 
 pub returns-in-Some-clause-any_moment : goal.returns-in-Some-clause-any_moment
-returns-in-Some-clause-any_moment g c = λ fresh. untouched g.L.LogDevice.moment g.L.LogDevice.left_since g.L.LogDevice.may_leave g.met.L.LogDevice.only_now _ c.args.log.now.records c.args.log.now.device fresh.leaves
+returns-in-Some-clause-any_moment g c = λ h fresh. untouched g.L.LogDevice g.met.L.LogDevice.only_now _ c.args.log.now.records c.args.log.now.device fresh.leaves
 
 pub returns-in-Some-miscounted_page-clause-any_moment : goal.returns-in-Some-miscounted_page-clause-any_moment
-returns-in-Some-miscounted_page-clause-any_moment g c = λ fresh. untouched g.L.LogDevice.moment g.L.LogDevice.left_since g.L.LogDevice.may_leave g.met.L.LogDevice.only_now _ c.args.log.now.records c.args.log.now.device fresh.leaves
+returns-in-Some-miscounted_page-clause-any_moment g c = λ h fresh. untouched g.L.LogDevice g.met.L.LogDevice.only_now _ c.args.log.now.records c.args.log.now.device fresh.leaves
 
 pub returns-in_err-waiting-clause-any_moment : goal.returns-in_err-waiting-clause-any_moment
-returns-in_err-waiting-clause-any_moment g c = λ fresh. untouched g.L.LogDevice.moment g.L.LogDevice.left_since g.L.LogDevice.may_leave g.met.L.LogDevice.only_now _ c.args.log.now.records c.args.log.now.device fresh.leaves
+returns-in_err-waiting-clause-any_moment g c = λ h fresh. untouched g.L.LogDevice g.met.L.LogDevice.only_now _ c.args.log.now.records c.args.log.now.device fresh.leaves
 
 pub returns-in-Ok-clause-any_moment : goal.returns-in-Ok-clause-any_moment
-returns-in-Ok-clause-any_moment g c = λ fresh.
-    begun_moment g.L.LogDevice.moment g.L.LogDevice.left_since c.args.log.now.records c.args.records.now c.requires.records c.in_ok-history.history c.in_ok-history.ensures.ok c.incarnation.result c.incarnation.ensures
-    c.args.log.now.device c.begin_incarnation.new.log.device (c.begin_incarnation.ensures.any_moment fresh)
+returns-in-Ok-clause-any_moment g c = λ h fresh.
+    begun_moment g.L.LogDevice c.args.log.now.records c.args.records.now c.requires.records c.in_ok-history.history c.in_ok-history.ensures.ok c.incarnation.result c.incarnation.ensures
+    c.args.log.now.device c.begin_incarnation.new.log.device (c.begin_incarnation.ensures.any_moment h fresh)
 
 pub returns-clause-any_moment : goal.returns-clause-any_moment
-returns-clause-any_moment g c = λ fresh.
-    begun_moment g.L.LogDevice.moment g.L.LogDevice.left_since c.args.log.now.records c.args.records.now c.requires.records c.in_ok-history.history c.in_ok-history.ensures.ok c.incarnation.result c.incarnation.ensures
-    c.args.log.now.device c.begin_incarnation.new.log.device (c.begin_incarnation.ensures.any_moment fresh)
+returns-clause-any_moment g c = λ h fresh.
+    begun_moment g.L.LogDevice c.args.log.now.records c.args.records.now c.requires.records c.in_ok-history.history c.in_ok-history.ensures.ok c.incarnation.result c.incarnation.ensures
+    c.args.log.now.device c.begin_incarnation.new.log.device (c.begin_incarnation.ensures.any_moment h fresh)

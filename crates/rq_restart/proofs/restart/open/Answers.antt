@@ -2,33 +2,49 @@ use Rattle.std.proofs.Common.{sym, subst}
 use Rattle.rq_store.specs.Sound.{IsSound}
 use Rattle.rq_store.specs.Opening.{opened, IsLeft}
 use Rattle.rq_store.specs.Fitting.{image_in}
-use Rattle.rq_restart.proofs.Restarts.{if_ok_both, if_err, left_read}
+use Rattle.rq_pool.specs.Reading.{IsSuperblock}
+use Rattle.rq_restart.specs.Restarting.{IsLeftOn}
+use Rattle.rq_restart.proofs.Restarts.{if_ok_all, if_ok_both, left_read, told_on}
+use Rattle.rq_restart.proofs.Moments.{if_err_both}
 use Rattle.rq_restart.proofs.Loading.{load_shut, shut_log, one_size}
 use Rattle.rq_restart.proofs.restart.open.Goals as goal
 
+pub returns-in-Ok-clause-sizes : goal.returns-in-Ok-clause-sizes
+returns-in-Ok-clause-sizes g c =
+    let P = g.P.PageDevice in
+    let seen = P.seen c.args.pages in
+    if_ok_both c.restart_log.result
+    (λ o s d. λ h.
+    subst (λ z. IsSuperblock z (seen 0)) (sym s)
+    (told_on c.in-Ok.pages.sizes seen c.in-Ok.pages.images c.in-Ok.ensures.pages (c.in-Ok.ensures.seen (subst P.honest d h))))
+    c.restart_log.ensures.sizes c.restart_log.ensures.pages
+
 pub returns-in-Ok-clause-sound : goal.returns-in-Ok-clause-sound
 returns-in-Ok-clause-sound g c =
-    let seen = g.P.PageDevice.seen c.args.pages in
-    if_ok_both c.restart_log.result
-    (λ o s h. λ older are e left.
+    let P = g.P.PageDevice in
+    let seen = P.seen c.args.pages in
+    if_ok_all c.restart_log.result
+    (λ o s d h. λ older r on.
     subst (λ z. IsSound (opened z o.pages.images older)) (sym s)
-    (h older are e (left_read c.in-Ok.pages.sizes seen c.in-Ok.pages.images older c.in-Ok.ensures.pages (subst (λ z. IsLeft z seen older) s left))))
-    c.restart_log.ensures.sizes c.restart_log.ensures.sound
+    (h older r (left_read c.in-Ok.pages.sizes seen c.in-Ok.pages.images older (c.in-Ok.ensures.seen (subst P.honest d on.honest)) (subst (λ z. IsLeft z seen older) s on.left))))
+    c.restart_log.ensures.sizes c.restart_log.ensures.pages c.restart_log.ensures.sound
 
 pub returns-in-Ok-clause-err : goal.returns-in-Ok-clause-err
 returns-in-Ok-clause-err g c =
-    let seen = g.P.PageDevice.seen c.args.pages in
+    let P = g.P.PageDevice in
+    let seen = P.seen c.args.pages in
     let y = c.in-Ok.pages.sizes in
     let images = c.in-Ok.pages.images in
-    if_err c.restart_log.result
-    (λ s h. λ z block older are e.
-    shut_log (IsLeft z seen older) (IsLeft y (image_in images) older)
-    (λ left. left_read y seen images older c.in-Ok.ensures.pages (subst (λ x. IsLeft x seen older) (one_size z y (seen 0) block c.in-Ok.ensures.pages.superblock) left))
-    older s.refusal (g.P.PageDevice.faults c.args.pages) (g.P.PageDevice.faults s.pages) (g.L.LogDevice.faults c.args.log) (g.L.LogDevice.faults s.log) (h older are e))
-    c.restart_log.ensures.err
+    if_err_both c.restart_log.result
+    (λ s d h. λ z block older r.
+    shut_log (IsLeftOn P z c.args.pages s.pages older) (IsLeft y (image_in images) older)
+    (λ on.
+    let read = c.in-Ok.ensures.seen (subst P.honest d on.honest) in
+    left_read y seen images older read (subst (λ x. IsLeft x seen older) (one_size z y (seen 0) block (told_on y seen images c.in-Ok.ensures.pages read)) on.left))
+    older s.refusal (P.faults c.args.pages) (P.faults s.pages) (g.L.LogDevice.faults c.args.log) (g.L.LogDevice.faults s.log) (h older r))
+    c.restart_log.ensures.pages_back c.restart_log.ensures.err
 
 pub returns-in-Err-clause-err : goal.returns-in-Err-clause-err
 returns-in-Err-clause-err g c =
-    let seen = g.P.PageDevice.seen c.args.pages in
-    λ z block older are e.
-    load_shut z seen older c.in-Err.stopped.refusal (g.P.PageDevice.faults c.args.pages) (g.P.PageDevice.faults c.in-Err.stopped.device) (g.L.LogDevice.faults c.args.log) block c.in-Err.ensures.stopped
+    λ z block older r.
+    load_shut g.P.PageDevice z c.args.pages c.in-Err.stopped.device older c.in-Err.stopped.refusal (g.L.LogDevice.faults c.args.log) block c.in-Err.ensures.stopped

@@ -6,6 +6,6 @@ returns-clause-fit g c =
     let device = g.P.PageDevice in
     let opened = c.in_ok-pages in
     rw c.open-engine.ensures
-    (λ older are e.
-    fit_begun device.seen device.may_be device.moment device.left_since c.args.pages opened.field-0.pages.device opened.field-0.pages.sizes older opened.field-0.log
-    (opened.ensures.begun older are e) opened.ensures.pages)
+    (λ older r.
+    fit_begun device c.args.pages opened.field-0.pages.device opened.field-0.pages.sizes older opened.field-0.log
+    (opened.ensures.begun older r) opened.ensures.pages)

@@ -7,7 +7,7 @@ returns-clause-crash g c =
     let d = g.P.PageDevice in
     let l = g.L.LogDevice in
     if_ok_both c.reopen.result
-    (λ o read run. read_or_begun d.seen d.may_be d.moment d.left_since g.met.P.PageDevice.only_now l.seen l.may_leave l.moment l.left_since c.args.pages c.args.log o.0.pages o.0.log read run)
+    (λ o read run. read_or_begun d g.met.P.PageDevice.only_now l c.args.pages c.args.log o.0.pages o.0.log read run)
     c.reopen.ensures.pages c.reopen.ensures.any_moment
 
 pub returns-clause-crash_back : goal.returns-clause-crash_back
@@ -15,5 +15,5 @@ returns-clause-crash_back g c =
     let d = g.P.PageDevice in
     let l = g.L.LogDevice in
     if_err_both c.reopen.result
-    (λ stopped read run. read_or_begun d.seen d.may_be d.moment d.left_since g.met.P.PageDevice.only_now l.seen l.may_leave l.moment l.left_since c.args.pages c.args.log stopped.pages stopped.log read run)
+    (λ stopped read run. read_or_begun d g.met.P.PageDevice.only_now l c.args.pages c.args.log stopped.pages stopped.log read run)
     c.reopen.ensures.pages_back c.reopen.ensures.any_moment_back

@@ -9,31 +9,31 @@ use Rattle.rq_restart.proofs.restart.restart_log.Goals as goal
 
 pub returns-in-Ok-go_on-clause-begun : goal.returns-in-Ok-go_on-clause-begun
 returns-in-Ok-go_on-clause-begun g c =
-    λ older are e.
+    λ older r.
     let read = rw c.in-Ok.is at c.scan-records.ensures.read in
-    let same : c.in-Ok.log.records ≡ older = log_is older c.in-Ok.log.records (reverse c.scan-records.result.records.items) _ are e read.0 c.scan-records.ensures.spelled read.1 in
+    let same : c.in-Ok.log.records ≡ older = log_is older c.in-Ok.log.records (reverse c.scan-records.result.records.items) _ r.are_spelled r.reads read.0 c.scan-records.ensures.spelled (read.1 (c.go_on.ensures.honest r.honest)) in
     subst (λ l. IsBegun l c.go_on.new.log) same c.in-Ok-go_on.ensures.begun
 
 pub returns-in-Ok-go_on-clause-report : goal.returns-in-Ok-go_on-clause-report
 returns-in-Ok-go_on-clause-report g c =
-    λ older are e.
+    λ older r.
     let read = rw c.in-Ok.is at c.scan-records.ensures.read in
-    let same : c.in-Ok.log.records ≡ older = log_is older c.in-Ok.log.records (reverse c.scan-records.result.records.items) _ are e read.0 c.scan-records.ensures.spelled read.1 in
-    let r = c.in-Ok-go_on.report in
-    subst (λ l. Reports l r.incarnation r.records r.unfinished r.lost) same c.in-Ok-go_on.ensures.report
+    let same : c.in-Ok.log.records ≡ older = log_is older c.in-Ok.log.records (reverse c.scan-records.result.records.items) _ r.are_spelled r.reads read.0 c.scan-records.ensures.spelled (read.1 (c.go_on.ensures.honest r.honest)) in
+    let t = c.in-Ok-go_on.report in
+    subst (λ l. Reports l t.incarnation t.records t.unfinished t.lost) same c.in-Ok-go_on.ensures.report
 
 pub returns-in-Ok-go_on-clause-sound : goal.returns-in-Ok-go_on-clause-sound
 returns-in-Ok-go_on-clause-sound g c =
-    λ older are e.
+    λ older r.
     let read = rw c.in-Ok.is at c.scan-records.ensures.read in
-    let same : c.in-Ok.log.records ≡ older = log_is older c.in-Ok.log.records (reverse c.scan-records.result.records.items) _ are e read.0 c.scan-records.ensures.spelled read.1 in
+    let same : c.in-Ok.log.records ≡ older = log_is older c.in-Ok.log.records (reverse c.scan-records.result.records.items) _ r.are_spelled r.reads read.0 c.scan-records.ensures.spelled (read.1 (c.go_on.ensures.honest r.honest)) in
     subst (λ l. IsLeft c.args.pages.sizes (image_in c.args.pages.images) l → IsSound (opened c.args.pages.sizes c.go_on.new.pages.images l)) same c.in-Ok-go_on.ensures.sound
 
 pub returns-in-Ok-clause-err : goal.returns-in-Ok-clause-err
 returns-in-Ok-clause-err g c =
-    λ older are e.
+    λ older r.
     let read = rw c.in-Ok.is at c.scan-records.ensures.read in
-    let same : c.in-Ok.log.records ≡ older = log_is older c.in-Ok.log.records (reverse c.scan-records.result.records.items) _ are e read.0 c.scan-records.ensures.spelled read.1 in
+    let same : c.in-Ok.log.records ≡ older = log_is older c.in-Ok.log.records (reverse c.scan-records.result.records.items) _ r.are_spelled r.reads read.0 c.scan-records.ensures.spelled (read.1 (c.go_on.ensures.honest (subst g.L.LogDevice.honest c.give_back-in-Err-go_on.ensures r.honest))) in
     let faults = g.L.LogDevice.faults in
     let cause : faults c.in-Ok.log.device ≡ faults c.args.log = rw c.in-Ok.is at c.scan-records.ensures.cause in
     let image = image_in c.args.pages.images in
@@ -45,10 +45,9 @@ returns-in-Ok-clause-err g c =
 
 pub returns-clause-err : goal.returns-clause-err
 returns-clause-err g c =
-    λ older are e.
+    λ older r.
     let h = rw c.in-Err.is at c.scan-records.ensures.stopped in
-    let faults = g.L.LogDevice.faults in
-    scan_shut (IsLeft c.args.pages.sizes (image_in c.args.pages.images) older) older (reverse c.scan-records.result.records.items) (g.L.LogDevice.seen c.args.log) c.in-Err.stopped.refusal (faults c.args.log) (faults c.in-Err.stopped.device) are e c.scan-records.ensures.spelled h
+    scan_shut g.L.LogDevice (IsLeft c.args.pages.sizes (image_in c.args.pages.images) older) older (reverse c.scan-records.result.records.items) c.args.log c.in-Err.stopped.device c.in-Err.stopped.refusal r c.scan-records.ensures.spelled h
 
 pub returns-in-Ok-go_on-clause-any_moment : goal.returns-in-Ok-go_on-clause-any_moment
 returns-in-Ok-go_on-clause-any_moment g c =
@@ -56,8 +55,8 @@ returns-in-Ok-go_on-clause-any_moment g c =
     let read = rw c.in-Ok.is at told.read in
     let log = rw c.in-Ok.is at told.log in
     let d = g.L.LogDevice in
-    read_first d.moment d.left_since d.may_leave g.met.L.LogDevice.only_now d.seen c.args.log c.go_on.new.log.device c.in-Ok.log read.1 (log.0, log.3) (rw c.in-Ok.is at told.crash) (rw c.in-Ok.is at told.any_moment) c.go_on.ensures.any_moment
-    (λ older are e. log_is older c.in-Ok.log.records (reverse c.scan-records.result.records.items) _ are e read.0 told.spelled read.1)
+    read_first d g.met.L.LogDevice.only_now c.args.log c.go_on.new.log.device c.in-Ok.log read.1 (log.0, log.4) (rw c.in-Ok.is at told.crash) (rw c.in-Ok.is at told.any_moment) c.go_on.ensures.honest c.go_on.ensures.any_moment
+    (λ h older are e. log_is older c.in-Ok.log.records (reverse c.scan-records.result.records.items) _ are e read.0 told.spelled (read.1 h))
 
 pub returns-in-Ok-clause-any_moment_back : goal.returns-in-Ok-clause-any_moment_back
 returns-in-Ok-clause-any_moment_back g c =
@@ -65,11 +64,11 @@ returns-in-Ok-clause-any_moment_back g c =
     let read = rw c.in-Ok.is at told.read in
     let log = rw c.in-Ok.is at told.log in
     let d = g.L.LogDevice in
-    subst (λ new. BeginsAtMost d.seen d.may_leave d.moment d.left_since c.args.log new) (sym c.give_back-in-Err-go_on.ensures)
-    (read_first d.moment d.left_since d.may_leave g.met.L.LogDevice.only_now d.seen c.args.log c.go_on.new.log.device c.in-Ok.log read.1 (log.0, log.3) (rw c.in-Ok.is at told.crash) (rw c.in-Ok.is at told.any_moment) c.go_on.ensures.any_moment
-    (λ older are e. log_is older c.in-Ok.log.records (reverse c.scan-records.result.records.items) _ are e read.0 told.spelled read.1))
+    subst (λ new. BeginsAtMost d c.args.log new) (sym c.give_back-in-Err-go_on.ensures)
+    (read_first d g.met.L.LogDevice.only_now c.args.log c.go_on.new.log.device c.in-Ok.log read.1 (log.0, log.4) (rw c.in-Ok.is at told.crash) (rw c.in-Ok.is at told.any_moment) c.go_on.ensures.honest c.go_on.ensures.any_moment
+    (λ h older are e. log_is older c.in-Ok.log.records (reverse c.scan-records.result.records.items) _ are e read.0 told.spelled (read.1 h)))
 
 pub returns-clause-any_moment_back : goal.returns-clause-any_moment_back
 returns-clause-any_moment_back g c =
     let d = g.L.LogDevice in
-    only_read d.moment d.left_since d.may_leave g.met.L.LogDevice.only_now d.seen c.args.log c.in-Err.stopped.device (rw c.in-Err.is at c.scan-records.ensures.any_moment)
+    only_read d g.met.L.LogDevice.only_now c.args.log c.in-Err.stopped.device (rw c.in-Err.is at c.scan-records.ensures.any_moment)

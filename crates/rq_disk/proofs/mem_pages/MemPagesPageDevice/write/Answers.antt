@@ -1,7 +1,8 @@
 use Rattle.std.proofs.Common.{◌≡◌, ◌<◌, ◌∙◌, sym, length, arith, rules}
 use Rattle.std.proofs.lemmas.List.{length-set}
 use Rattle.rq_disk.specs.declared.mem_pages.PageCall.TheVariants.{Write}
-use Rattle.rq_disk.proofs.KeptPages.{written_to, write_cached, pages_elapses, pages_stay}
+use Rattle.rq_disk.proofs.KeptPages.{written_to, write_reads, write_cached, pages_elapses, pages_stay}
+use Rattle.rq_disk.specs.Memory.{if_no}
 use Rattle.rq_disk.proofs.mem_pages.MemPagesPageDevice.write.Goals as goal
 
 pub invariant_of-self-then-cuts_off : goal.invariant_of-self-then-cuts_off
@@ -48,3 +49,15 @@ returns-else-cuts_off-clause-time c =
 
 pub returns-in-Err-clause-time : goal.returns-in-Err-clause-time
 returns-in-Err-clause-time c = pages_stay c.args.self.now.first.items c.args.self.now.calls.items c.add_write.new.calls.items c.in-Err.ensures.err
+
+pub returns-then-cuts_off-clause-others : goal.returns-then-cuts_off-clause-others
+returns-then-cuts_off-clause-others c =
+    let m = c.args.self.now in
+    let done = c.in-Ok.ensures.ok in
+    λ p other. write_reads m.first.items m.calls.items c.add_write.new.calls.items c.args.page done.0 c.args.image.now done.1 done.2 p ∙ if_no p c.args.page c.args.image.now _ other
+
+pub returns-else-cuts_off-clause-others : goal.returns-else-cuts_off-clause-others
+returns-else-cuts_off-clause-others c =
+    let m = c.args.self.now in
+    let done = c.in-Ok.ensures.ok in
+    λ p other. write_reads m.first.items m.calls.items c.add_write.new.calls.items c.args.page done.0 c.args.image.now done.1 done.2 p ∙ if_no p c.args.page c.args.image.now _ other

@@ -18,7 +18,7 @@ abbrev next : State → Txn
 next s = record { incarnation = s.incarnation; count = s.begins + 1 }
 
 pub returns-clause-answered : goal.returns-clause-answered
-returns-clause-answered g c k =
+returns-clause-answered g c h k =
     let full : not (nat_lt (length c.args.self.now.state.rows) 4096) ≡ false = ap (λ (s : State). not (nat_lt (length s.rows) 4096)) (sym (state_is c.self.view_is)) ∙ sym c.if-is_full.ensures in
     let max : c.args.self.now.state.begins ≢ 18446744073709551615 = λ e. c.if-self.false (ap (λ (s : State). s.begins) (state_is c.self.view_is) ∙ e) in
     rw (c.in_ok-begin.ensures.ok)

@@ -8,12 +8,12 @@ use Rattle.rq_engine.proofs.engine.Engine.content.Goals as goal
 
 pub returns-then-any_under_way : goal.returns-then-any_under_way
 returns-then-any_under_way g c = record {
-  answered = content_busy c.args.self.now.state c.in_ok-check_running.ensures.running (ap (λ (s : State). any_under s.rows) (sym (state_is c.self.view_is)) ∙ sym c.if-any_under_way.ensures);
+  answered = λ h. content_busy c.args.self.now.state c.in_ok-check_running.ensures.running (ap (λ (s : State). any_under s.rows) (sym (state_is c.self.view_is)) ∙ sym c.if-any_under_way.ensures);
 }
 
 pub returns-in-Ok : goal.returns-in-Ok
 returns-in-Ok g c = record {
-  answered = λ k.
+  answered = λ h k.
       let idle = ap (λ (s : State). any_under s.rows) (sym (state_is c.self.view_is)) ∙ sym c.if-any_under_way.ensures in
       content_done c.args.self.now.state _ c.in_ok-check_running.ensures.running idle
       (c.in-Ok.ensures.shown c.args.self.now.state k (ap (λ (s : State). s.sizes) (sym (state_is c.self.view_is))) (ap (λ (s : State). s.images) (sym (state_is c.self.view_is))) (ap (λ (s : State). s.rows) (sym (state_is c.self.view_is))) idle) k;
@@ -21,7 +21,7 @@ returns-in-Ok g c = record {
 
 pub returns-in-Err : goal.returns-in-Err
 returns-in-Err g c = record {
-  answered = λ k.
+  answered = λ h k.
       let idle = ap (λ (s : State). any_under s.rows) (sym (state_is c.self.view_is)) ∙ sym c.if-any_under_way.ensures in
       let why = c.in-Err.ensures.sound c.args.self.now.state k (ap (λ (s : State). s.sizes) (sym (state_is c.self.view_is))) (ap (λ (s : State). s.images) (sym (state_is c.self.view_is))) (ap (λ (s : State). s.rows) (sym (state_is c.self.view_is))) idle in
       rw why (no_memory false c.args.self.now.state _ k);

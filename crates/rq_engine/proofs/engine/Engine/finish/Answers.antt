@@ -2,7 +2,7 @@ use Rattle.rq_engine.proofs.Calls.{finish_done, finish_idle}
 use Rattle.rq_engine.proofs.engine.Engine.finish.Goals as goal
 
 pub returns-in-Ok-clause-answered : goal.returns-in-Ok-clause-answered
-returns-in-Ok-clause-answered g c k = rw c.done.ensures (finish_done c.args.self.now.state _ c.args.sub _ c.in-Ok.ensures.running c.in-Ok.ensures.ready c.end.ensures.ended k)
+returns-in-Ok-clause-answered g c h k = rw c.done.ensures (finish_done c.args.self.now.state _ c.args.sub _ c.in-Ok.ensures.running c.in-Ok.ensures.ready c.end.ensures.ended k)
 
 pub returns-in-Err-clause-answered : goal.returns-in-Err-clause-answered
-returns-in-Err-clause-answered g c = finish_idle c.args.self.now.state c.args.sub _ c.in-Err.ensures.refused
+returns-in-Err-clause-answered g c h = finish_idle c.args.self.now.state c.args.sub _ c.in-Err.ensures.refused

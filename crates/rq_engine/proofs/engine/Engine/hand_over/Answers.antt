@@ -18,12 +18,12 @@ invariant_of-self-in-Err g c =
     record { kept = kept_device _ _ c.hand_over.new.self.failed _ _ c.hand_over.new.self.reserved c.hand_over.new.self.forced true c.hand_over.new.self.records c.self.invariant.kept c.in-Err.ensures.records c.in-Err.ensures.reserved (λ e. absurd (true≢false e)); durable = rw (c.in-Err.ensures.settled) c.self.invariant.durable }
 
 pub returns-in-Ok-clause-answered : goal.returns-in-Ok-clause-answered
-returns-in-Ok-clause-answered g c =
+returns-in-Ok-clause-answered g c h =
     let running = ap (λ (s : State). s.failed) (state_is c.self.view_is) ∙ c.in_ok-check_running.ensures.running in
     from_inside (state_is c.self.view_is) (λ k. rw (c.in-Ok.ensures.records, c.in-Ok.ensures.forced) (hand_over_steps _ k running))
 
 pub returns-in-Err-clause-answered : goal.returns-in-Err-clause-answered
-returns-in-Err-clause-answered g c k =
+returns-in-Err-clause-answered g c h k =
     let running = c.self.invariant.kept.fails (ap (λ (s : State). s.failed) (state_is c.self.view_is) ∙ c.in_ok-check_running.ensures.running) in
     let why = (c.in-Err.ensures.err running).0 in
     (rw why (from_inside (state_is c.self.view_is) (λ k. rw (c.in-Err.ensures.records, c.in-Err.ensures.forced) (failed_steps _ k _)) k), rw why refl)

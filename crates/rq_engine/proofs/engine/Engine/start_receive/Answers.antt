@@ -7,7 +7,7 @@ use Rattle.rq_engine.proofs.Opened.{state_is}
 use Rattle.rq_engine.proofs.engine.Engine.start_receive.Goals as goal
 
 pub returns-in_default-clause-answered : goal.returns-in_default-clause-answered
-returns-in_default-clause-answered g c =
+returns-in_default-clause-answered g c h =
     none_done c.args.self.now.state c.args.txn c.in_ok-number.ensures.passes
     (subst (λ (s : State). NoneWaits s c.args.txn) (state_is c.self.view_is) (λ e m free. c.in_default.ensures.none e (let n = c.self.invariant.kept.senders in omega (arith, m, n)) free))
 

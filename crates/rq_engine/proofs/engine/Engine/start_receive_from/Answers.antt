@@ -9,14 +9,14 @@ use Rattle.rq_engine.proofs.Opened.{state_is}
 use Rattle.rq_engine.proofs.engine.Engine.start_receive_from.Goals as goal
 
 pub returns-then-not-may_receive-clause-answered : goal.returns-then-not-may_receive-clause-answered
-returns-then-not-may_receive-clause-answered g c =
+returns-then-not-may_receive-clause-answered g c h =
     let n : c.senders.result ≡ sender_count c.args.self.now.state.sizes = c.senders.ensures.number ∙ ap sender_count (c.layout.ensures.sizes ∙ ap (λ (s : State). s.sizes) (state_is c.self.view_is)) in
     let lt = c.if-sender-senders.false in
     receiver_busy c.args.self.now.state c.args.txn c.in_ok-number.ensures.passes c.args.sender (omega (arith, n, lt))
     (ap (λ (s : State). is_free_for c.args.txn c.args.sender s.ends.receiving) (sym (state_is c.self.view_is)) ∙ sym c.if-not-may_receive.ensures)
 
 pub returns-then-count-eq0-clause-answered : goal.returns-then-count-eq0-clause-answered
-returns-then-count-eq0-clause-answered g c =
+returns-then-count-eq0-clause-answered g c h =
     let n : c.senders.result ≡ sender_count c.args.self.now.state.sizes = c.senders.ensures.number ∙ ap sender_count (c.layout.ensures.sizes ∙ ap (λ (s : State). s.sizes) (state_is c.self.view_is)) in
     let lt = c.if-sender-senders.false in
     none_from_done c.args.self.now.state c.args.txn c.in_ok-number.ensures.passes c.args.sender (omega (arith, n, lt))

@@ -5,7 +5,7 @@ use Rattle.rq_engine.proofs.Opened.{state_is}
 use Rattle.rq_engine.proofs.engine.Engine.start_send.Goals as goal
 
 pub returns-clause-answered : goal.returns-clause-answered
-returns-clause-answered g c =
+returns-clause-answered g c h =
     send_done c.args.self.now.state _ c.args.txn c.in_ok-number.number c.args.sender c.args.tag c.args.body.now c.in_ok-body.body c.in_ok-plan.plan
     c.in_ok-number.ensures.ready c.in_ok-number.ensures.passes c.in_ok-body.ensures.idle c.in_ok-body.ensures.body (c.in_ok-plan.ensures.plan c.in_ok-number.number) c.in_ok-body.ensures.free c.in_ok-body.ensures.room
     (λ k. c.in_ok-body.ensures.passes k c.in_ok-number.ensures.passes)

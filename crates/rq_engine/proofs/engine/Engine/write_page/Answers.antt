@@ -15,5 +15,5 @@ invariant_of-self-in-Err-DiskWrite g c =
     }
 
 pub returns-in-Err-DiskWrite-clause-answered : goal.returns-in-Err-DiskWrite-clause-answered
-returns-in-Err-DiskWrite-clause-answered g c k =
+returns-in-Err-DiskWrite-clause-answered g c h k =
     (from_inside (state_is c.self.view_is) (λ k. rw (c.in-Err-DiskWrite.ensures.sizes, c.in-Err-DiskWrite.ensures.images) (failed_steps _ k (Write_page c.args.page))) k, refl)
