@@ -16,17 +16,17 @@ use Rattle.rq_model.specs.Deeds.{spelled_deed}
 use Rattle.rq_model.specs.History.{Call}
 use Rattle.rq_model.specs.History.Call.{Commit, Step, Finish, Show}
 use Rattle.rq_model.specs.History.Entry.{Ready, Shown}
-use Rattle.rq_model.specs.Ledger.{Open, found}
+use Rattle.rq_model.specs.Ledger.{Open, found, runs}
 use Rattle.rq_model.specs.Legal.{has_under, steps_left, log_full, tests, first_of, OnFound as Open_found}
 use Rattle.rq_model.specs.Replay.{Reply as Gave}
-use Rattle.rq_model.specs.Replay.Reply.{Gave_lsn, Gave_ready, Gave_content}
+use Rattle.rq_model.specs.Replay.Reply.{Gave_lsn, Gave_commit, Gave_ready, Gave_content}
 use Rattle.rq_page.specs.Sizes.{Sizes}
 use Rattle.rq_chain.specs.declared.SlotWrite.{SlotWrite}
 use Rattle.rq_chain.specs.Writes.{IsSlotWrite, AreSlotWrites}
 use Rattle.rq_txn.specs.declared.Finished.{Finished}
 use Rattle.rq_txn.specs.Rows.{Row, Under, found_row, finished_of, any_under, change_row, without_row, row_stepped, row_finished}
 use Rattle.rq_groups.specs.Ends.{HeldEnds}
-use Rattle.rq_store.specs.State.{State, ledger_of, size_of, owed_one, owed_under, job_under, left_under}
+use Rattle.rq_store.specs.State.{State, ledger_of, size_of, owed_one, owed_under, job_under, left_under, phase_of}
 use Rattle.rq_groups.specs.Waiting.{waits}
 use Rattle.rq_store.specs.Sound.{IsSound, apart, takes_one, sends_in}
 use Rattle.rq_store.proofs.Waiting.{one_of_sum}
@@ -210,7 +210,7 @@ step_ready s sub running h k =
       entry = Ready sub.txn sub.number;
       says = refl;
       legal = (
-        (ap (λ b. not (not b)) running, (ap not (ledger_going s k sub (λ r u. slice_get u.writes u.made ≡ None) g), tt)),
+        (ap (λ b. not (runs (phase_of b))) running, (ap not (ledger_going s k sub (λ r u. slice_get u.writes u.made ≡ None) g), tt)),
         subst (λ (y : Option Open). Open_found y (λ (q : Open). q.left ≡ 0)) (sym (found_some s sub.txn g.row g.found)) left,
       );
       after = refl;
@@ -317,7 +317,7 @@ commit_room s f o res t k g = at (found_row t s.rows) refl where
   at (Some r) e = let a = k.few g in let b = k.count in let c = sum_at done_one t s.rows r e in omega (arith, a, b, c)
 
 pub commit_done : (s : State) (f : Bool) (o res n lsn cells : ℕ) (t : Txn) → IsKept s f o res → s.failed ≡ false → IsReady s t n → log_full (ledger_of s) 1 ≡ false → lsn ≡ length s.records + 1 → cells ≡ s.cells_in_use - sum_by takes_one (finished_of (found_row t s.rows)) → IsSound s
-    → Steps s (Commit t) (Gave_lsn lsn) (record s { rows = without_row t s.rows; ends = without_ends t s.ends; records = records.Commit t ∷ s.records; cells_in_use = cells; waiting = with_sends (finished_of (found_row t s.rows)) s.waiting })
+    → Steps s (Commit t) (Gave_commit (record { txn = t; lsn = lsn })) (record s { rows = without_row t s.rows; ends = without_ends t s.ends; records = records.Commit t ∷ s.records; cells_in_use = cells; waiting = with_sends (finished_of (found_row t s.rows)) s.waiting })
 commit_done s f o res n lsn cells t c running h room at freed k =
     let r = found_of (λ r. (r.under ≡ None) × (n ≡ r.number + 1)) (found_row t s.rows) h in
     let fs = finished_of (found_row t s.rows) in
@@ -328,7 +328,7 @@ commit_done s f o res n lsn cells t c running h room at freed k =
     let enough : sum_by takes_one r.0.finished ≤ s.cells_in_use = omega (arith, part, used) in
     let waited : (g : ℕ) → g < sender_count s.sizes → waits (with_sends fs s.waiting) g ≡ waits s.waiting g + sends_in g r.0 =
     (λ g m. ap (λ l. waits (with_sends l s.waiting) g) own ∙ waits-with_sends r.0.finished s.waiting g (let l = c.senders in omega (arith, l, m))) in
-    subst (λ (m : ℕ). Steps s (Commit t) (Gave_lsn m) (record s { rows = without_row t s.rows; ends = without_ends t s.ends; records = records.Commit t ∷ s.records; cells_in_use = cells; waiting = with_sends fs s.waiting })) (sym at)
+    subst (λ (m : ℕ). Steps s (Commit t) (Gave_commit (record { txn = t; lsn = m })) (record s { rows = without_row t s.rows; ends = without_ends t s.ends; records = records.Commit t ∷ s.records; cells_in_use = cells; waiting = with_sends fs s.waiting })) (sym at)
     (commit_steps s k t r.0 cells (with_sends fs s.waiting) r.1 r.2.0 (omega (arith, freed, taken, enough)) waited running room)
 
 -- the content
@@ -336,7 +336,7 @@ pub content_done : (s : State) (groups : List Group) → s.failed ≡ false → 
 content_done s groups running idle e k = record {
   entry = Shown groups;
   says = refl;
-  legal = ((ap (λ b. not (not b)) running, (busy_is s.ends s.rows ∙ idle, tt)), e);
+  legal = ((ap (λ b. not (runs (phase_of b))) running, (busy_is s.ends s.rows ∙ idle, tt)), e);
   after = refl;
   sound = k;
   goes_on = (0, refl);

@@ -8,21 +8,44 @@ use Rattle.rq_model.specs.Words.{is_some}
 use Rattle.rq_model.specs.History.{Call}
 use Rattle.rq_model.specs.History.Call.{Begin, Commit, Start_send, Step, Finish, Acknowledge, Force, Hand_over, Show, Start_receive, Start_receive_from, Start_close, Start_abort, Undo_next, End_abort, Write_page, Last_tag}
 use Rattle.rq_model.specs.History.Entry.{Refused}
-use Rattle.rq_model.specs.Ledger.{Ledger, after, found}
+use Rattle.rq_model.specs.Ledger.{Ledger, runs, after, found}
 use Rattle.rq_model.specs.Legal.{Size, tests, first_of, LegalRefusal, NoneHolds, is_aborting, is_busy, log_full}
 use Rattle.rq_model.specs.Reference.{without_pages, ready_tests, IsUnready}
 use Rattle.std.specs.Option.{is_some as option_is_some}
 use Rattle.rq_txn.specs.declared.Operation.{Operation}
 use Rattle.rq_txn.specs.Rows.{Row, Under, found_row, under_way_of}
-use Rattle.rq_store.specs.State.{State, owed_by, ledger_of, size_of, open_of, job_under}
+use Rattle.rq_store.specs.State.{State, owed_by, ledger_of, size_of, open_of, job_under, phase_of}
 use Rattle.rq_store.proofs.Opens.{found_open, open_found, owed_is, count_is}
 use Rattle.rq_store.proofs.Forcing.{refused_steps}
 use Rattle.rq_engine.specs.Answers.{HasCause, Refuses, OnFound}
 
+failed_first : (z : Size) (l : Ledger) (c : Call) → runs l.phase ≡ false → first_of (tests z l c) ≡ Some why.Failed
+failed_first z l Begin e = rw e refl
+failed_first z l (Commit t) e = rw e refl
+failed_first z l (Start_send t m) e = rw e refl
+failed_first z l (Step t n) e = rw e refl
+failed_first z l (Finish t n) e = rw e refl
+failed_first z l (Acknowledge t n) e = rw e refl
+failed_first z l Force e = rw e refl
+failed_first z l Hand_over e = rw e refl
+failed_first z l Show e = rw e refl
+failed_first z l (Start_receive t) e = rw e refl
+failed_first z l (Start_receive_from t s) e = rw e refl
+failed_first z l (Start_close t s) e = rw e refl
+failed_first z l (Start_abort t) e = rw e refl
+failed_first z l (Undo_next t) e = rw e refl
+failed_first z l (End_abort t) e = rw e refl
+failed_first z l (Write_page p) e = rw e refl
+failed_first z l (Last_tag s) e = rw e refl
+
+-- want of memory, and a device's failure, are no test's
+runs_first : (z : Size) (l : Ledger) (c : Call) (r : Refusal) → (why.Failed ≡ r → ⊥) → first_of (tests z l c) ≡ Some r → runs l.phase ≡ true
+runs_first z l c r other e = elim (cases_Bool (runs l.phase)) [ inl y ↦ y | inr n ↦ absurd (let w : Some why.Failed ≡ Some r = sym (failed_first z l c n) ∙ e in other (cc w)) ]
+
 legal_first : (z : Size) (l : Ledger) (c : Call) (r : Refusal) → IsTrue (without_pages r) → first_of (tests z l c) ≡ Some r → LegalRefusal z l c r
-legal_first z l c why.NoMemory p e = tt
+legal_first z l c why.NoMemory p e = runs_first z l c why.NoMemory (λ x. cc x) e
 legal_first z l c why.Failed p e = e
-legal_first z l c why.DiskRead p e = tt
+legal_first z l c why.DiskRead p e = runs_first z l c why.DiskRead (λ x. cc x) e
 legal_first z l c why.UnknownTransaction p e = e
 legal_first z l c why.NotOpen p e = e
 legal_first z l c why.Unfinished p e = e
@@ -34,8 +57,8 @@ legal_first z l c why.ReceiverBusy p e = e
 legal_first z l c why.Full p e = e
 legal_first z l c why.Latched p e = absurd (false≢true p)
 legal_first z l c why.PoolFull p e = absurd (false≢true p)
-legal_first z l c why.DiskWrite p e = tt
-legal_first z l c (why.Damaged d) p e = tt
+legal_first z l c why.DiskWrite p e = runs_first z l c why.DiskWrite (λ x. cc x) e
+legal_first z l c (why.Damaged d) p e = runs_first z l c (why.Damaged d) (λ x. cc x) e
 legal_first z l c why.TooManyTransactions p e = e
 legal_first z l c why.NotForced p e = absurd (false≢true p)
 legal_first z l c why.LogFull p e = e
@@ -90,36 +113,17 @@ plain_cause d s why.UnknownOperation p = tt
 pub refuse : (memory disk : Bool) (s : State) (c : Call) (r : Refusal) → IsTrue (without_pages r) → HasCause memory disk s r → first_of (tests (size_of s.sizes) (ledger_of s) c) ≡ Some r → Refuses memory disk s c r
 refuse m d s c r p cause e k = (refused_steps s k c r (legal_first (size_of s.sizes) (ledger_of s) c r p e) (same_after (ledger_of s) c r p), cause)
 
--- want of memory may come anywhere
-pub no_memory : (disk : Bool) (s : State) (c : Call) → Refuses true disk s c why.NoMemory
-no_memory d s c k = (refused_steps s k c why.NoMemory tt refl, refl)
+-- want of memory may come wherever the store runs
+pub no_memory : (disk : Bool) (s : State) (c : Call) → s.failed ≡ false → Refuses true disk s c why.NoMemory
+no_memory d s c running k = (refused_steps s k c why.NoMemory (ap (λ b. runs (phase_of b)) running) refl, refl)
 
 first_front : (xs ys : List (Bool × Refusal)) (r : Refusal) → first_of xs ≡ Some r → first_of (xs ++ ys) ≡ Some r
 first_front [] ys r e = cc
 first_front (x ∷ xs) ys r e = elim (cases_Bool x.0) [ inl y ↦ rw y (rw y at e) | inr n ↦ rw n (first_front xs ys r (rw n at e)) ]
 
-failed_first : (z : Size) (l : Ledger) (c : Call) → l.running ≡ false → first_of (tests z l c) ≡ Some why.Failed
-failed_first z l Begin e = rw e refl
-failed_first z l (Commit t) e = rw e refl
-failed_first z l (Start_send t m) e = rw e refl
-failed_first z l (Step t n) e = rw e refl
-failed_first z l (Finish t n) e = rw e refl
-failed_first z l (Acknowledge t n) e = rw e refl
-failed_first z l Force e = rw e refl
-failed_first z l Hand_over e = rw e refl
-failed_first z l Show e = rw e refl
-failed_first z l (Start_receive t) e = rw e refl
-failed_first z l (Start_receive_from t s) e = rw e refl
-failed_first z l (Start_close t s) e = rw e refl
-failed_first z l (Start_abort t) e = rw e refl
-failed_first z l (Undo_next t) e = rw e refl
-failed_first z l (End_abort t) e = rw e refl
-failed_first z l (Write_page p) e = rw e refl
-failed_first z l (Last_tag s) e = rw e refl
-
 -- a store that has failed refuses every call
 pub refuse_failed : (memory disk : Bool) (s : State) (c : Call) → s.failed ≡ true → Refuses memory disk s c why.Failed
-refuse_failed m d s c e = refuse m d s c why.Failed refl tt (failed_first (size_of s.sizes) (ledger_of s) c (ap not e))
+refuse_failed m d s c e = refuse m d s c why.Failed refl tt (failed_first (size_of s.sizes) (ledger_of s) c (ap (λ b. runs (phase_of b)) e))
 
 -- a transaction that is not ready is refused so by a commit and by a send
 pub refuse_commit : (disk : Bool) (s : State) (t : Txn) (r : Refusal) → IsUnready (ledger_of s) t false r → Refuses true disk s (Commit t) r
@@ -146,7 +150,7 @@ pub unfinished : (s : State) (t : Txn) (r : Row) → s.failed ≡ false → foun
 unfinished s t r e f a b = record { first = rw (e, found_some s t r f, a, busy_job r.under b) refl; plain = refl }
 
 pub ready : (s : State) (t : Txn) (r : Row) → s.failed ≡ false → found_row t s.rows ≡ Some r → r.aborting ≡ false → r.under ≡ None → NoneHolds (ready_tests (ledger_of s) t false)
-ready s t r e f a b = (ap (λ x. not (not x)) e, (ap (λ o. not (is_some o)) (found_some s t r f), (ap is_aborting (found_some s t r f) ∙ a, (ap is_busy (found_some s t r f) ∙ ap (λ o. is_some (job_under o)) b, tt))))
+ready s t r e f a b = (ap (λ x. not (runs (phase_of x))) e, (ap (λ o. not (is_some o)) (found_some s t r f), (ap is_aborting (found_some s t r f) ∙ a, (ap is_busy (found_some s t r f) ∙ ap (λ o. is_some (job_under o)) b, tt))))
 
 -- what a row's field says of its operation under way
 pub some_way : (o : Option Operation) → option_is_some o ≡ true → is_some (under_way_of o) ≡ true

@@ -187,10 +187,10 @@ undone_take t (Receiving e) ends newly h = ap (λ (hs : List Held). let x : Held
 pub send_done : (s new : State) (t : Txn) (n e tag : ℕ) (body b : List ℕ) (plan : Plan) → IsReady s t n → NoneHolds (ready_tests (ledger_of s) t false) → any_under s.rows ≡ false → b ≡ body
     → IsSendPlan s.sizes (slots_in s.sizes s.images) (under_plan n plan) e tag b → is_free_for t e s.ends.sending ≡ true → s.cells_in_use < cell_count s.sizes → (IsSound s → Passes (size_of s.sizes) (ledger_of s) (Start_send t (message_of e tag body)))
     → new ≡ record s { rows = change_row t (row_started (under_plan n plan)) s.rows; ends = record { sending = with_held t e s.ends.sending; receiving = s.ends.receiving }; cells_in_use = s.cells_in_use + 1 }
-    → IsSound s → Steps s (Start_send t (message_of e tag body)) (Gave_sub n) new
+    → IsSound s → Steps s (Start_send t (message_of e tag body)) (Gave_sub t n) new
 send_done s new t n e tag body b plan ready h idle same p free room may is k =
     let r = found_of (λ r. (r.under ≡ None) × (n ≡ r.number + 1)) (found_row t s.rows) ready in
     let planned = subst (λ (x : List ℕ). IsSendPlan s.sizes (slots_in s.sizes s.images) (under_plan n plan) e tag x) same p in
     let a = start_steps s k t r.0 (under_plan n plan) e tag body r.1 idle r.2.1 planned free room (may k) in
-    let c = subst (λ (m : ℕ). Steps s (Start_send t (message_of e tag body)) (Gave_sub m) (record s { rows = change_row t (row_started (under_plan n plan)) s.rows; ends = record { sending = with_held t e s.ends.sending; receiving = s.ends.receiving }; cells_in_use = s.cells_in_use + 1 })) (sym r.2.1) a in
-    subst (λ (x : State). Steps s (Start_send t (message_of e tag body)) (Gave_sub n) x) (sym is) c
+    let c = subst (λ (m : ℕ). Steps s (Start_send t (message_of e tag body)) (Gave_sub t m) (record s { rows = change_row t (row_started (under_plan n plan)) s.rows; ends = record { sending = with_held t e s.ends.sending; receiving = s.ends.receiving }; cells_in_use = s.cells_in_use + 1 })) (sym r.2.1) a in
+    subst (λ (x : State). Steps s (Start_send t (message_of e tag body)) (Gave_sub t n) x) (sym is) c

@@ -110,12 +110,12 @@ module _ (s : State) (t : Txn) (h : NoneHolds (ready_tests (ledger_of s) t false
         -- a receive that has started
         pub take_done : (new : State) (n : ℕ) (plan : Plan) → IsReady s t n → any_under s.rows ≡ false → IsTakePlan s.sizes (slots_in s.sizes s.images) (under_plan n plan) e
             → new ≡ record s { rows = change_row t (row_started (under_plan n plan)) s.rows; ends = record { sending = s.ends.sending; receiving = with_held t e s.ends.receiving } }
-            → (call : Call) → IsTakeCall t e call → IsSound s → Steps s call (Gave_sub n) new
+            → (call : Call) → IsTakeCall t e call → IsSound s → Steps s call (Gave_sub t n) new
         take_done new n plan ready idle planned is call c k =
             let r = found_of (λ r. (r.under ≡ None) × (n ≡ r.number + 1)) (found_row t s.rows) ready in
-            subst (λ (x : State). Steps s call (Gave_sub n) x) (sym is) (elim c [
-              | inl x ↦ subst (λ (y : Call). Steps s y (Gave_sub n) after) (sym x) (subst (λ (m : ℕ). Steps s (Start_receive t) (Gave_sub m) after) (sym r.2.1) (take_steps s k t r.0 (under_plan n plan) e r.1 idle r.2.1 planned free wait (passes_from k)))
-              | inr x ↦ subst (λ (y : Call). Steps s y (Gave_sub n) after) (sym x) (subst (λ (m : ℕ). Steps s (Start_receive_from t e) (Gave_sub m) after) (sym r.2.1) (take_from_steps s k t r.0 (under_plan n plan) e r.1 idle r.2.1 planned free wait (passes_from k)))
+            subst (λ (x : State). Steps s call (Gave_sub t n) x) (sym is) (elim c [
+              | inl x ↦ subst (λ (y : Call). Steps s y (Gave_sub t n) after) (sym x) (subst (λ (m : ℕ). Steps s (Start_receive t) (Gave_sub t m) after) (sym r.2.1) (take_steps s k t r.0 (under_plan n plan) e r.1 idle r.2.1 planned free wait (passes_from k)))
+              | inr x ↦ subst (λ (y : Call). Steps s y (Gave_sub t n) after) (sym x) (subst (λ (m : ℕ). Steps s (Start_receive_from t e) (Gave_sub t m) after) (sym r.2.1) (take_from_steps s k t r.0 (under_plan n plan) e r.1 idle r.2.1 planned free wait (passes_from k)))
             ])
           where
             after : State

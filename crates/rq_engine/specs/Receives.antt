@@ -10,7 +10,7 @@ use Rattle.rq_model.specs.Replay.Reply.{Gave_sub, Gave_none}
 -- the operation that was started, or that there is nothing to take
 abbrev pub started_of : Option Sub → Gave
 started_of None = Gave_none
-started_of (Some sub) = Gave_sub sub.number
+started_of (Some sub) = Gave_sub sub.txn sub.number
 
 -- the call may take a message of s for t
 abbrev pub IsTakeCall : Txn → ℕ → Call → Type 0

@@ -3,8 +3,8 @@ use Rattle.std.specs.Prelude.{◌≡◌, ℕ, Bool, true, false, List, map, Opti
 use Rattle.rq_model.specs.declared.refusal.Refusal.{Refusal}
 use Rattle.rq_model.specs.History.{Call}
 use Rattle.rq_model.specs.History.Call.{Begin as Call_begin, Start_send as Call_start_send, Start_receive as Call_start_receive, Start_receive_from as Call_start_receive_from, Write_page as Call_write_page, Step as Call_step, Finish as Call_finish, Commit as Call_commit, Acknowledge as Call_acknowledge, Hand_over as Call_hand_over, Force as Call_force, Show as Call_show}
-use Rattle.rq_model.specs.Replay.{Reply as Gave}
-use Rattle.rq_model.specs.Replay.Reply.{Gave_txn, Gave_sub, Gave_lsn, Gave_ready, Gave_sent, Gave_message, Gave_closed, Gave_undone, Gave_nothing, Gave_receipt, Gave_none, Gave_written, Gave_content, Gave_refusal}
+use Rattle.rq_model.specs.Replay.{Number, Reply as Gave}
+use Rattle.rq_model.specs.Replay.Reply.{Gave_txn, Gave_sub, Gave_lsn, Gave_ready, Gave_sent, Gave_message, Gave_closed, Gave_undone, Gave_nothing, Gave_commit, Gave_receipt, Gave_none, Gave_written, Gave_content, Gave_refusal}
 use Rattle.rq_content.specs.Read.{group_of}
 use Rattle.rq_model.specs.declared.txn.Sub.{Sub}
 use Rattle.rq_disk.specs.declared.device.LogDevice as log_device
@@ -22,6 +22,7 @@ use Rattle.rq_engine.specs.declared.event.Outcome.{Outcome}
 use Rattle.rq_engine.specs.declared.event.Outcome.TheVariants as outcome
 use Rattle.rq_engine.specs.declared.event.Event.{Event}
 use Rattle.rq_engine.specs.declared.event.Event.TheVariants as event
+use Rattle.rq_engine.specs.declared.event.CommitNo.{CommitNo}
 use Rattle.rq_engine.specs.declared.event.Receipt.{Receipt}
 use Rattle.rq_engine.specs.declared.event.Reply.{Reply}
 use Rattle.rq_engine.specs.declared.event.Reply.TheVariants as reply
@@ -51,9 +52,13 @@ outcome_of (outcome.Message m) = Gave_message m
 outcome_of outcome.Closed = Gave_closed
 outcome_of outcome.Undone = Gave_undone
 
-abbrev pub is_given : Option Receipt → Bool
-is_given None = false
-is_given (Some r) = true
+-- a commit's number as the model's word
+abbrev pub number_of : CommitNo → Number
+number_of no = record { txn = no.txn; lsn = no.lsn }
+
+abbrev pub receipt_of : Option Receipt → Option Number
+receipt_of None = None
+receipt_of (Some r) = Some (number_of r.number)
 
 -- the page was written
 abbrev pub is_done : Written → Bool
@@ -63,12 +68,12 @@ is_done Nothing = false
 -- what a reply gave
 abbrev pub gave : Reply → Gave
 gave (reply.Begun t) = Gave_txn t
-gave (reply.Started sub) = Gave_sub sub.number
+gave (reply.Started sub) = Gave_sub sub.txn sub.number
 gave reply.NoMessage = Gave_none
 gave (reply.Stepped p) = progress_of p
 gave (reply.Finished o) = outcome_of o
-gave (reply.Committed number) = Gave_lsn number.lsn
-gave (reply.Acknowledged given) = Gave_receipt (is_given given)
+gave (reply.Committed number) = Gave_commit (number_of number)
+gave (reply.Acknowledged given) = Gave_receipt (receipt_of given)
 gave reply.HandedOver = Gave_nothing
 gave (reply.Forced lsn) = Gave_lsn lsn
 gave (reply.Written w) = Gave_written (is_done w)

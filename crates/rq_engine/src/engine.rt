@@ -1,7 +1,7 @@
 //! The engine's calls, but those of operations.
 ghost use Rattle.std.specs.Prelude.{◌≡◌, ◌+◌, ◌<◌, ◌≤◌, ◌^◌, ◌↔◌, ◌⊎◌, IfOk, IfErr, OnOk, OnErr, IfSome, ℕ, List, true, false, length, ◌∷◌, []};
 ghost use Rattle.rq_model.specs.History.Call.{Begin, Commit, Acknowledge, Hand_over, Force};
-ghost use Rattle.rq_model.specs.Replay.Reply.{Gave_txn, Gave_lsn, Gave_nothing, Gave_receipt};
+ghost use Rattle.rq_model.specs.Replay.Reply.{Gave_txn, Gave_commit, Gave_lsn, Gave_nothing, Gave_receipt};
 ghost use Rattle.rq_model.specs.declared.record.Record.TheVariants.{Commit as Commit_record};
 ghost use Rattle.rq_disk.specs.Device.{Only};
 ghost use Rattle.rq_log.specs.Crash.{LeavesOnly};
@@ -15,7 +15,7 @@ ghost use Rattle.rq_store.specs.Sound.{IsSound};
 ghost use Rattle.rq_engine.specs.Opened.{NotWritten};
 ghost use Rattle.rq_engine.specs.Crash.{AreFit, LeavesCut};
 ghost use Rattle.rq_engine.specs.Answers.{Answers, IsReady};
-ghost use Rattle.rq_engine.specs.Says.{is_given};
+ghost use Rattle.rq_engine.specs.Says.{number_of, receipt_of};
 
 use crate::event::{CommitNo, Receipt};
 use crate::moves::{add_sends, count_takes};
@@ -214,7 +214,7 @@ impl<P: PageDevice, L: LogDevice> Engine<P, L> {
     /// # Errors
     /// `Failed`, `UnknownTransaction`, `NotOpen`, `Unfinished`, `LogFull`, `NoMemory`.
     pub fn commit(&mut self, txn: Txn) -> Result<CommitNo, Refusal>
-        ensures answered { Answers P.PageDevice L.LogDevice true false self.old (Commit txn) (λ number. Gave_lsn number.lsn) result self.new }
+        ensures answered { Answers P.PageDevice L.LogDevice true false self.old (Commit txn) (λ number. Gave_commit (number_of number)) result self.new }
         ensures sizes { self.new.state.sizes ≡ self.old.state.sizes }
         ensures number { IfOk result (λ number. number.txn ≡ txn) }
         ensures records { OnOk result (self.new.state.records ≡ Commit_record txn ∷ self.old.state.records) }
@@ -241,7 +241,7 @@ impl<P: PageDevice, L: LogDevice> Engine<P, L> {
     /// # Errors
     /// `Failed`.
     pub fn acknowledged(&self, number: CommitNo) -> Result<Option<Receipt>, Refusal>
-        ensures answered { Answers P.PageDevice L.LogDevice false false self.now (Acknowledge number.txn number.lsn) (λ given. Gave_receipt (is_given given)) result self.now }
+        ensures answered { Answers P.PageDevice L.LogDevice false false self.now (Acknowledge number.txn number.lsn) (λ given. Gave_receipt (receipt_of given)) result self.now }
         ensures receipt { IfOk result (λ given. IfSome given (λ r. r.number ≡ number)) }
         ensures failed { IfErr result (λ r. (r ≡ Refusal.Failed) × (self.now.state.failed ≡ true)) }
     {

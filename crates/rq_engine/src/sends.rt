@@ -36,7 +36,7 @@ impl<P: PageDevice, L: LogDevice> Engine<P, L> {
         tag: u64,
         body: &[u8],
     ) -> Result<Sub, Refusal>
-        ensures answered { Answers P.PageDevice L.LogDevice true false self.old (Start_send txn (message_of sender tag body.now)) (λ sub. Gave_sub sub.number) result self.new }
+        ensures answered { Answers P.PageDevice L.LogDevice true false self.old (Start_send txn (message_of sender tag body.now)) (λ sub. Gave_sub sub.txn sub.number) result self.new }
         ensures sizes { self.new.state.sizes ≡ self.old.state.sizes }
         ensures sub { IfOk result (λ sub. sub.txn ≡ txn) }
         ensures latched { OnOk result (any_under self.old.state.rows ≡ false) }

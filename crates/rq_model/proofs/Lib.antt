@@ -13,3 +13,9 @@ pub mod LogRows
 pub mod Within
 pub mod Plainly
 pub mod Counts
+pub mod Cuts
+pub mod EntryKinds
+pub mod Placed
+pub mod Replayed
+pub mod Bridges
+pub mod Sent

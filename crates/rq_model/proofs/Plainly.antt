@@ -15,7 +15,8 @@ use Rattle.rq_model.specs.History.{Job}
 use Rattle.rq_model.specs.Legal.{Answers, below, count_rest}
 use Rattle.rq_model.specs.Ledger.{Open, Done, Ledger, change, without, found, tag_of, rest_in}
 use Rattle.rq_model.proofs.Lists.{same_is, same_self}
-use Rattle.rq_model.specs.Reference.{StandsAt, job_of, op_done, op_of, open_of, Numbered, Rising, kept_in}
+use Rattle.rq_model.specs.Reference.{StandsAt, job_of, op_done, op_of, open_of, Numbered, Rising}
+use Rattle.rq_model.specs.Ledger.{kept_in}
 
 pub kept_within : (n : ℕ) (c : List Done) → kept_in n c ≤ length c
 kept_within n [] = omega arith

@@ -53,7 +53,7 @@ not_ended : (c : List Done) (s : ℕ) (d : Done) → ended_in c s ≡ false → 
 not_ended [] s d e j = absurd j
 not_ended (x ∷ c) s d e j = let p = or_parts (any_ends s x.ops) (ended_in c s) e in elim j [ inl w ↦ ap (λ (y : Done). any_ends s y.ops) w ∙ p.0 | inr w ↦ not_ended c s d p.1 w ]
 
-ended_are : (z : Size) (h : List Entry) (s : ℕ) → IsLegal z h → ended (commits h) s h ≡ ended_in (ledger h).committed s
+pub ended_are : (z : Size) (h : List Entry) (s : ℕ) → IsLegal z h → ended (commits h) s h ≡ ended_in (ledger h).committed s
 ended_are z h s a =
     let c = (ledger h).committed in
     let g = Tied-ledger z h a in
@@ -143,7 +143,7 @@ kept_one z l (Shown groups) c m a b w = refl
 kept_one z l (Committed t n) c m a b w = take-append-le m c (t ∷ []) w
 kept_one z l (Forced n) c m a b w = refl
 kept_one z l (Wrote p d) c m a b w = refl
-kept_one z l (Crash k r) c m a b w = take-take m k c (let x : l.durable ≤ k = a.0 in omega arith)
+kept_one z l (Crash k r) c m a b w = take-take m k c (let x : l.durable ≤ k = a.durable in omega arith)
 kept_one z l (Restarted i r) c m a b w = refl
 kept_one z l (Refused c r) d m a b w = refl
 
@@ -166,7 +166,7 @@ bound_one z l (Told s sent tag) c d a e w = (w, omega arith)
 bound_one z l (Shown groups) c d a e w = (w, omega arith)
 bound_one z l (Committed t n) c d a e w = (omega (arith, w, length_push c t), omega arith)
 bound_one z l (Forced n) c d a e w = (omega arith, w)
-bound_one z l (Crash k r) c d a e w = (let x : l.durable ≤ k = a.0 in omega (arith, x, e, w, length-take k c), omega arith)
+bound_one z l (Crash k r) c d a e w = (let x : l.durable ≤ k = a.durable in omega (arith, x, e, w, length-take k c), omega arith)
 bound_one z l (Restarted i r) c d a e w = (omega arith, w)
 bound_one z l (Refused q r) c d a e w = (w, omega arith)
 

@@ -28,15 +28,31 @@ pub record Done : Type 0 where
   pub lsn : ℕ
   pub ops : List Op
 
+-- a store runs; or it has failed, and answers nothing more; or it is not open
+pub data Phase : Type 0 where
+  Running : Phase
+  Stopped : Phase
+  Shut : Phase
+
+abbrev pub runs : Phase → Bool
+runs Running = true
+runs Stopped = false
+runs Shut = false
+
 pub record Ledger : Type 0 where
   pub committed : List Done
   pub open_ones : List Open
-  pub running : Bool
+  pub phase : Phase
   pub incarnation : ℕ
   pub begins : ℕ
   pub records : ℕ
   pub forced : ℕ
   pub durable : ℕ
+
+-- how many commits stand in the first n records
+abbrev pub kept_in : ℕ → List Done → ℕ
+kept_in n [] = 0
+kept_in n (d ∷ c) = cond (nat_lt n d.lsn) 0 1 + kept_in n c
 
 abbrev pub all_ops : List Done → List Op
 all_ops c = flat_map (λ d. d.ops) c
@@ -142,13 +158,14 @@ after (Committed t lsn) l = record l { committed = l.committed ++ record { txn =
 after (Aborting t) l = record l { open_ones = change t (λ o. record o { aborting = true }) l.open_ones }
 after (Aborted t) l = record l { open_ones = without t l.open_ones; records = l.records + 1 }
 after (Forced lsn) l = record l { forced = l.records; durable = length l.committed }
-after (Crash kept records) l = record l { committed = take kept l.committed; open_ones = []; running = false; records = records; forced = records }
-after (Refused c DiskWrite) l = record l { running = false }
-after (Restarted i records) l = record l { open_ones = []; running = true; incarnation = i; begins = 0; records = records; forced = records; durable = length l.committed }
+after (Crash kept records) l = record l { committed = take kept l.committed; open_ones = []; phase = Shut; records = records; forced = records }
+after (Refused c DiskWrite) l = record l { phase = Stopped }
+after (Restarted i records) l = record l { open_ones = []; phase = Running; incarnation = i; begins = 0; records = records; forced = records; durable = length l.committed }
 after _ l = l
 
+-- a formatted store has an empty log, and is not open
 abbrev pub empty : Ledger
-empty = record { committed = []; open_ones = []; running = false; incarnation = 0; begins = 0; records = 0; forced = 0; durable = 0 }
+empty = record { committed = []; open_ones = []; phase = Shut; incarnation = 0; begins = 0; records = 0; forced = 0; durable = 0 }
 
 abbrev pub ledger : List Entry → Ledger
 ledger [] = empty

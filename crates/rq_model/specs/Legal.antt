@@ -10,7 +10,8 @@ use Rattle.rq_model.specs.History.{Job, Entry, Call}
 use Rattle.rq_model.specs.History.Call.{Begin, Start_send, Start_receive, Start_receive_from, Start_close, Step, Finish, Commit, Acknowledge, Start_abort, Undo_next, End_abort, Hand_over, Force, Write_page, Last_tag, Show}
 use Rattle.rq_model.specs.History.Job.{Sending, Taking, Ending, Undoing}
 use Rattle.rq_model.specs.History.Entry.{Begun, Started, None_free, None_from, Stepped, Ready, Did, Undid, Committed, Acknowledged, Aborting, None_left, Aborted, Handed_over, Forced, Wrote, Told, Shown, Refused, Crash, Restarted}
-use Rattle.rq_model.specs.Ledger.{Open, Done, Ledger, ledger, group_in, sent_in, rest_in, ended_in, any_ends, found, tag_of, own_takes}
+use Rattle.rq_model.specs.Ledger.{Open, Done, Ledger, Phase, runs, kept_in, ledger, group_in, sent_in, rest_in, ended_in, any_ends, found, tag_of, own_takes}
+use Rattle.rq_model.specs.Ledger.Phase.{Running, Stopped, Shut as Is_shut}
 
 -- the numbers of a store that stay
 pub record Size : Type 0 where
@@ -121,49 +122,49 @@ first_of (c ∷ cs) = cond c.0 (Some c.1) (first_of cs)
 
 -- the tests of each call, in order
 abbrev pub tests : Size → Ledger → Call → List (Bool × Refusal)
-tests z l Begin = (not l.running, Failed) ∷ (not (nat_lt (length l.open_ones) 4096) || nat_eq l.begins (2 ^ 64 - 1), TooManyTransactions) ∷ []
+tests z l Begin = (not (runs l.phase), Failed) ∷ (not (nat_lt (length l.open_ones) 4096) || nat_eq l.begins (2 ^ 64 - 1), TooManyTransactions) ∷ []
 tests z l (Start_send t m) =
     let o = found t l.open_ones in
-    (not l.running, Failed) ∷ (not (is_some o), UnknownTransaction) ∷ (is_aborting o, NotOpen) ∷ (is_busy o, Unfinished)
+    (not (runs l.phase), Failed) ∷ (not (is_some o), UnknownTransaction) ∷ (is_aborting o, NotOpen) ∷ (is_busy o, Unfinished)
     ∷ (not (nat_lt m.sender z.senders), UnknownSender) ∷ (nat_lt 216 (length m.body), TooLong)
     ∷ (not (free_to_send t m.sender l.open_ones), SenderBusy) ∷ (ended_in l.committed m.sender || has_closed m.sender o, Closed)
     ∷ (nat_eq (cells_in_use z l) z.cells, Full) ∷ (log_full l 4, LogFull) ∷ []
 tests z l (Start_receive t) =
     let o = found t l.open_ones in
-    (not l.running, Failed) ∷ (not (is_some o), UnknownTransaction) ∷ (is_aborting o, NotOpen) ∷ (is_busy o, Unfinished)
+    (not (runs l.phase), Failed) ∷ (not (is_some o), UnknownTransaction) ∷ (is_aborting o, NotOpen) ∷ (is_busy o, Unfinished)
     ∷ (any_gives (below z.senders) l t o && log_full l 4, LogFull) ∷ []
 tests z l (Start_receive_from t s) =
     let o = found t l.open_ones in
-    (not l.running, Failed) ∷ (not (is_some o), UnknownTransaction) ∷ (is_aborting o, NotOpen) ∷ (is_busy o, Unfinished)
+    (not (runs l.phase), Failed) ∷ (not (is_some o), UnknownTransaction) ∷ (is_aborting o, NotOpen) ∷ (is_busy o, Unfinished)
     ∷ (not (nat_lt s z.senders), UnknownSender) ∷ (not (free_to_receive t s l.open_ones), ReceiverBusy)
     ∷ (gives l t o s && log_full l 4, LogFull) ∷ []
 tests z l (Start_close t s) =
     let o = found t l.open_ones in
-    (not l.running, Failed) ∷ (not (is_some o), UnknownTransaction) ∷ (is_aborting o, NotOpen) ∷ (is_busy o, Unfinished)
+    (not (runs l.phase), Failed) ∷ (not (is_some o), UnknownTransaction) ∷ (is_aborting o, NotOpen) ∷ (is_busy o, Unfinished)
     ∷ (not (nat_lt s z.senders), UnknownSender) ∷ (not (free_to_send t s l.open_ones), SenderBusy)
     ∷ (ended_in l.committed s || has_closed s o, Closed) ∷ (log_full l 2, LogFull) ∷ []
-tests z l (Step t n) = (not l.running, Failed) ∷ (not (has_under n (found t l.open_ones)), UnknownOperation) ∷ []
+tests z l (Step t n) = (not (runs l.phase), Failed) ∷ (not (has_under n (found t l.open_ones)), UnknownOperation) ∷ []
 tests z l (Finish t n) =
-    (not l.running, Failed) ∷ (not (has_under n (found t l.open_ones)), UnknownOperation) ∷ (steps_left (found t l.open_ones), Unfinished) ∷ []
+    (not (runs l.phase), Failed) ∷ (not (has_under n (found t l.open_ones)), UnknownOperation) ∷ (steps_left (found t l.open_ones), Unfinished) ∷ []
 tests z l (Commit t) =
     let o = found t l.open_ones in
-    (not l.running, Failed) ∷ (not (is_some o), UnknownTransaction) ∷ (is_aborting o, NotOpen) ∷ (is_busy o, Unfinished) ∷ (log_full l 1, LogFull) ∷ []
+    (not (runs l.phase), Failed) ∷ (not (is_some o), UnknownTransaction) ∷ (is_aborting o, NotOpen) ∷ (is_busy o, Unfinished) ∷ (log_full l 1, LogFull) ∷ []
 tests z l (Start_abort t) =
     let o = found t l.open_ones in
-    (not l.running, Failed) ∷ (not (is_some o), UnknownTransaction) ∷ (is_aborting o, NotOpen) ∷ (is_busy o, Unfinished) ∷ []
+    (not (runs l.phase), Failed) ∷ (not (is_some o), UnknownTransaction) ∷ (is_aborting o, NotOpen) ∷ (is_busy o, Unfinished) ∷ []
 tests z l (Undo_next t) =
     let o = found t l.open_ones in
-    (not l.running, Failed) ∷ (not (is_some o), UnknownTransaction) ∷ (not (is_aborting o), NotOpen) ∷ (is_busy o, Unfinished)
+    (not (runs l.phase), Failed) ∷ (not (is_some o), UnknownTransaction) ∷ (not (is_aborting o), NotOpen) ∷ (is_busy o, Unfinished)
     ∷ (is_some (newest o) && log_full l (undo_cost (newest o)), LogFull) ∷ []
 tests z l (End_abort t) =
     let o = found t l.open_ones in
-    (not l.running, Failed) ∷ (not (is_some o), UnknownTransaction) ∷ (not (is_aborting o), NotOpen) ∷ (is_busy o || has_done o, Unfinished) ∷ (log_full l 1, LogFull) ∷ []
-tests z l (Last_tag s) = (not l.running, Failed) ∷ (not (nat_lt s z.senders), UnknownSender) ∷ []
-tests z l Show = (not l.running, Failed) ∷ (any_busy l.open_ones, Unfinished) ∷ []
-tests z l (Acknowledge t lsn) = (not l.running, Failed) ∷ []
-tests z l Hand_over = (not l.running, Failed) ∷ []
-tests z l Force = (not l.running, Failed) ∷ []
-tests z l (Write_page p) = (not l.running, Failed) ∷ []
+    (not (runs l.phase), Failed) ∷ (not (is_some o), UnknownTransaction) ∷ (not (is_aborting o), NotOpen) ∷ (is_busy o || has_done o, Unfinished) ∷ (log_full l 1, LogFull) ∷ []
+tests z l (Last_tag s) = (not (runs l.phase), Failed) ∷ (not (nat_lt s z.senders), UnknownSender) ∷ []
+tests z l Show = (not (runs l.phase), Failed) ∷ (any_busy l.open_ones, Unfinished) ∷ []
+tests z l (Acknowledge t lsn) = (not (runs l.phase), Failed) ∷ []
+tests z l Hand_over = (not (runs l.phase), Failed) ∷ []
+tests z l Force = (not (runs l.phase), Failed) ∷ []
+tests z l (Write_page p) = (not (runs l.phase), Failed) ∷ []
 
 -- no test is true
 abbrev pub NoneHolds : List (Bool × Refusal) → Type 0
@@ -187,13 +188,13 @@ abbrev pub writes_page : Call → Bool
 writes_page (Write_page p) = true
 writes_page _ = false
 
--- Where each refusal may come: memory's and the disk's own anywhere, latches and frames where an operation would start, a page
--- that is not forced where the store runs, and each of the others exactly where its test is the first that is true.
+-- Where each refusal may come: memory's and the disk's own where the store runs, latches and frames where an operation would start, a page
+-- that is not forced where one is to be written, and each of the others exactly where its test is the first that is true.
 abbrev pub LegalRefusal : Size → Ledger → Call → Refusal → Type 0
-LegalRefusal z l c NoMemory = Unit {0}
-LegalRefusal z l c DiskRead = Unit {0}
-LegalRefusal z l c DiskWrite = Unit {0}
-LegalRefusal z l c (Damaged d) = Unit {0}
+LegalRefusal z l c NoMemory = runs l.phase ≡ true
+LegalRefusal z l c DiskRead = runs l.phase ≡ true
+LegalRefusal z l c DiskWrite = runs l.phase ≡ true
+LegalRefusal z l c (Damaged d) = runs l.phase ≡ true
 LegalRefusal z l c Latched = Passes z l c × (starts z l c ≡ true)
 LegalRefusal z l c PoolFull = Passes z l c × (starts z l c ≡ true)
 LegalRefusal z l c NotForced = Passes z l c × (writes_page c ≡ true)
@@ -226,6 +227,25 @@ CanStart l o (Taking s) = IsTrue (holds_for l o s)
 CanStart l o Undoing = IsTrue (is_some (last o.ops))
 CanStart l o _ = Unit {0}
 
+-- no more records than there are, where the store is open. Where it is not, a restart that was stopped may leave some of its own.
+abbrev pub IsUpTo : ℕ → Phase → ℕ → Type 0
+IsUpTo n Running records = records ≤ n
+IsUpTo n Stopped records = records ≤ n
+IsUpTo n Is_shut records = Unit {0}
+
+-- What a crash may leave: all that is forced, and of the commits those, in their order, whose records it leaves.
+pub record MayCrash (l : Ledger) (kept records : ℕ) : Type 0 where
+  pub durable : l.durable ≤ kept
+  pub forced : l.forced ≤ records
+  pub exact : kept ≡ kept_in records l.committed
+  pub up_to : IsUpTo l.records l.phase records
+
+-- A restart opens a store that is not open. It makes a record, and begins an incarnation that was not there before.
+pub record MayRestart (l : Ledger) (i records : ℕ) : Type 0 where
+  pub later : l.incarnation < i
+  pub shut : l.phase ≡ Is_shut
+  pub more : l.records < records
+
 -- the entry may come next
 abbrev pub Legal : Size → Ledger → Entry → Type 0
 Legal z l (Begun t) = Passes z l Begin × (t.incarnation ≡ l.incarnation) × (t.count ≡ l.begins + 1)
@@ -247,8 +267,8 @@ Legal z l (Wrote page done) = Passes z l (Write_page page)
 Legal z l (Told s sent tag) = Passes z l (Last_tag s) × (sent ≡ length (sent_in l.committed s)) × (tag ≡ tag_of (sent_in l.committed s))
 Legal z l (Shown groups) = Passes z l Show × (groups ≡ map (group_in l.committed) (below z.senders))
 Legal z l (Refused c r) = LegalRefusal z l c r
-Legal z l (Crash kept records) = (l.durable ≤ kept) × (l.forced ≤ records)
-Legal z l (Restarted i records) = (l.incarnation < i) × (l.running ≡ false)
+Legal z l (Crash kept records) = MayCrash l kept records
+Legal z l (Restarted i records) = MayRestart l i records
 
 -- every entry may come where it stands. The newest comes first
 abbrev pub IsLegal : Size → List Entry → Type 0

@@ -9,3 +9,5 @@ pub mod Groups
 pub mod Replay
 pub mod Reference
 pub mod Counts
+pub mod Incarnations
+pub mod Promises

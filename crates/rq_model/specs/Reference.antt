@@ -15,8 +15,14 @@ use Rattle.rq_model.specs.Words.Op.{Send, Take, End}
 use Rattle.rq_model.specs.History.{Job, Call, Entry}
 use Rattle.rq_model.specs.History.Job.{Sending}
 use Rattle.rq_model.specs.History.Entry.{Refused, Ready, Stepped}
-use Rattle.rq_model.specs.Ledger.{Open, Done, Ledger, after, found}
+use Rattle.rq_model.specs.Ledger.{Open, Done, Ledger, Phase, runs, after, found, kept_in}
+use Rattle.rq_model.specs.Ledger.Phase.{Running, Shut}
 use Rattle.rq_model.specs.Legal.{Size, Legal, is_aborting, is_busy, NoneHolds, first_of, has_under}
+
+-- a reference runs, or is not open: it has no device that could fail
+abbrev pub phase_of : Bool → Phase
+phase_of true = Running
+phase_of false = Shut
 
 -- what a reference is: the numbers that stay, and the ledger
 pub record Stand : Type 0 where
@@ -76,11 +82,6 @@ abbrev pub Rising : ℕ → List Done → ℕ → Type 0
 Rising low [] high = low ≤ high
 Rising low (d ∷ c) high = (low < d.lsn) × Rising d.lsn c high
 
--- how many commits stand in the first n records
-abbrev pub kept_in : ℕ → List Done → ℕ
-kept_in n [] = 0
-kept_in n (d ∷ c) = cond (nat_lt n d.lsn) 0 1 + kept_in n c
-
 -- what holds of every ledger that a reference keeps
 pub record Sound (l : Ledger) : Type 0 where
   pub numbered : Numbered l.incarnation l.begins l.open_ones
@@ -102,7 +103,7 @@ turned true o = not (is_aborting o)
 abbrev pub ready_tests : Ledger → Txn → Bool → List (Bool × Refusal)
 ready_tests l t aborting =
     let o = found t l.open_ones in
-    (not l.running, Failed) ∷ (not (is_some o), UnknownTransaction) ∷ (turned aborting o, NotOpen) ∷ (is_busy o, Unfinished) ∷ []
+    (not (runs l.phase), Failed) ∷ (not (is_some o), UnknownTransaction) ∷ (turned aborting o, NotOpen) ∷ (is_busy o, Unfinished) ∷ []
 
 -- the transaction's place among those that have not ended
 pub record StandsAt (l : Ledger) (t : Txn) (i : ℕ) : Type 0 where
@@ -122,7 +123,7 @@ pub record IsUnready (l : Ledger) (t : Txn) (aborting : Bool) (r : Refusal) : Ty
 
 -- the tests of a call on an operation under way
 abbrev pub busy_tests : Ledger → Txn → ℕ → List (Bool × Refusal)
-busy_tests l t n = (not l.running, Failed) ∷ (not (has_under n (found t l.open_ones)), UnknownOperation) ∷ []
+busy_tests l t n = (not (runs l.phase), Failed) ∷ (not (has_under n (found t l.open_ones)), UnknownOperation) ∷ []
 
 -- the store runs, and the transaction stands at the place, with this work under way under the number
 pub record IsBusy (l : Ledger) (t : Txn) (n i : ℕ) (w : Work) : Type 0 where

@@ -1,5 +1,6 @@
--- Which entry an event and its reply may stand for, and what a list of them leads to.
-use Rattle.std.specs.Prelude.{◌≡◌, ℕ, Bool, List, [], ◌∷◌}
+-- Which entry a call and its reply may stand for, and what a list of them leads to. A reply names the transaction, the commit and the
+-- receipt that it speaks of.
+use Rattle.std.specs.Prelude.{◌≡◌, ℕ, Bool, true, false, List, [], ◌∷◌, Option, Some, None}
 use Rattle.rq_model.specs.declared.txn.Txn.{Txn}
 use Rattle.rq_model.specs.declared.refusal.Refusal.{Refusal}
 use Rattle.rq_model.specs.declared.message.Message.{Message}
@@ -11,9 +12,14 @@ use Rattle.rq_model.specs.History.Entry.{Begun, Started, None_free, None_from, S
 use Rattle.rq_model.specs.Ledger.{Ledger, after}
 use Rattle.rq_model.specs.Legal.{Size, Legal}
 
+-- a transaction, and the place of its Commit record
+pub record Number : Type 0 where
+  pub txn : Txn
+  pub lsn : ℕ
+
 pub data Reply : Type 0 where
   Gave_txn : (t : Txn) → Reply
-  Gave_sub : (number : ℕ) → Reply
+  Gave_sub : (t : Txn) (number : ℕ) → Reply
   Gave_none : Reply
   Gave_lsn : (lsn : ℕ) → Reply
   Gave_ready : Reply
@@ -22,34 +28,36 @@ pub data Reply : Type 0 where
   Gave_closed : Reply
   Gave_undone : Reply
   Gave_nothing : Reply
-  Gave_receipt : (given : Bool) → Reply
+  Gave_commit : (number : Number) → Reply
+  Gave_receipt : (given : Option Number) → Reply
   Gave_written : (done : Bool) → Reply
   Gave_tag : (sent tag : ℕ) → Reply
   Gave_content : (groups : List Group) → Reply
   Gave_refusal : (refusal : Refusal) → Reply
 
--- The entry that an event and its reply may stand for. No reply shows the group that was picked, and Sent does not show the message.
+-- No reply shows the group that was picked, and Sent does not show the message.
 abbrev pub Says : Call → Reply → Entry → Type 0
 Says c (Gave_refusal r) e = e ≡ Refused c r
 Says Begin (Gave_txn t) e = e ≡ Begun t
-Says (Start_send t m) (Gave_sub n) e = e ≡ Started t n (Sending m)
-Says (Start_receive t) (Gave_sub n) e = (s : ℕ) × (e ≡ Started t n (Taking s))
+Says (Start_send t m) (Gave_sub u n) e = (u ≡ t) × (e ≡ Started t n (Sending m))
+Says (Start_receive t) (Gave_sub u n) e = (u ≡ t) × (s : ℕ) × (e ≡ Started t n (Taking s))
 Says (Start_receive t) Gave_none e = e ≡ None_free t
-Says (Start_receive_from t s) (Gave_sub n) e = e ≡ Started t n (Taking s)
+Says (Start_receive_from t s) (Gave_sub u n) e = (u ≡ t) × (e ≡ Started t n (Taking s))
 Says (Start_receive_from t s) Gave_none e = e ≡ None_from t s
-Says (Start_close t s) (Gave_sub n) e = e ≡ Started t n (Ending s)
+Says (Start_close t s) (Gave_sub u n) e = (u ≡ t) × (e ≡ Started t n (Ending s))
 Says (Step t n) (Gave_lsn lsn) e = e ≡ Stepped t n lsn
 Says (Step t n) Gave_ready e = e ≡ Ready t n
 Says (Finish t n) Gave_sent e = (m : Message) × (e ≡ Did t n (Send m))
 Says (Finish t n) (Gave_message m) e = e ≡ Did t n (Take m)
 Says (Finish t n) Gave_closed e = (s : ℕ) × (e ≡ Did t n (End s))
 Says (Finish t n) Gave_undone e = e ≡ Undid t n
-Says (Commit t) (Gave_lsn lsn) e = e ≡ Committed t lsn
+Says (Commit t) (Gave_commit c) e = (c.txn ≡ t) × (e ≡ Committed t c.lsn)
 Says (Start_abort t) Gave_nothing e = e ≡ Aborting t
-Says (Undo_next t) (Gave_sub n) e = e ≡ Started t n Undoing
+Says (Undo_next t) (Gave_sub u n) e = (u ≡ t) × (e ≡ Started t n Undoing)
 Says (Undo_next t) Gave_none e = e ≡ None_left t
 Says (End_abort t) Gave_nothing e = e ≡ Aborted t
-Says (Acknowledge t lsn) (Gave_receipt given) e = e ≡ Acknowledged t lsn given
+Says (Acknowledge t lsn) (Gave_receipt None) e = e ≡ Acknowledged t lsn false
+Says (Acknowledge t lsn) (Gave_receipt (Some c)) e = (c ≡ record { txn = t; lsn = lsn }) × (e ≡ Acknowledged t lsn true)
 Says Hand_over Gave_nothing e = e ≡ Handed_over
 Says Force (Gave_lsn lsn) e = e ≡ Forced lsn
 Says (Write_page page) (Gave_written done) e = e ≡ Wrote page done
@@ -57,7 +65,18 @@ Says (Last_tag s) (Gave_tag sent tag) e = e ≡ Told s sent tag
 Says Show (Gave_content groups) e = e ≡ Shown groups
 Says _ _ e = ⊥
 
--- from base, these events with these replies, newest first, may lead to l
+-- the receipt, where one is given
+abbrev pub receipt : Bool → Txn → ℕ → Option Number
+receipt false t lsn = None
+receipt true t lsn = Some (record { txn = t; lsn = lsn })
+
+-- from base, these calls with these replies, newest first, may lead to l
 abbrev pub Replays : Size → Ledger → List (Call × Reply) → Ledger → Type 0
 Replays z base [] l = l ≡ base
 Replays z base (a ∷ audit) l = (mid : Ledger) × (e : Entry) × Replays z base audit mid × Says a.0 a.1 e × Legal z mid e × (l ≡ after e mid)
+
+-- each call with its reply stands for the entry at its place
+abbrev pub AllSay : List (Call × Reply) → List Entry → Type 0
+AllSay [] [] = Unit {0}
+AllSay (a ∷ audit) (e ∷ h) = Says a.0 a.1 e × AllSay audit h
+AllSay _ _ = ⊥

@@ -7,19 +7,45 @@ ghost use Rattle.rq_model.specs.Words.{same_txn};
 ghost use Rattle.rq_model.specs.Groups.{group, Survives, left_by};
 ghost use Rattle.rq_model.specs.Content.{KeepsRules, content, with_own, deeds, committed_of};
 ghost use Rattle.rq_model.specs.Ledger.{ledger, group_in};
-ghost use Rattle.rq_model.specs.History.{Entry, Fifo};
+ghost use Rattle.rq_model.specs.History.{Entry};
+ghost use Rattle.rq_model.specs.Promises.{AcknowledgedStay, CrashGoesOn, FifoThroughout, NothingBehindClose, ReplayGoesOn, RestartGoesOn};
 ghost use Rattle.rq_model.specs.Legal.{Size, IsLegal};
 
-/// Over every history with legal replies, and crashes that keep what was forced: what committed
-/// transactions received from a sender is a beginning of what they sent for it, in order, each once;
-/// nothing that is committed was sent after a committed close.
+/// Over every history with legal replies, at every place of it: what committed transactions received from a sender is a
+/// beginning of what they sent for it, in order, each once; nothing that is committed was sent after a committed close.
 pub fn first_in_first_out()
-    ensures { (size : Size) (history : List Entry) → IsLegal size history → Fifo history }
+    ensures { (size : Size) (history : List Entry) → IsLegal size history → FifoThroughout history }
 {}
 
 /// The commits that a force or a restart has followed stay in every history that goes on from there.
-pub fn acknowledged_stay()
+pub fn forced_stay()
     ensures { (size : Size) (newer history : List Entry) → IsLegal size (newer ++ history) → Survives newer history }
+{}
+
+/// A commit that was acknowledged by a receipt is in the commit list of every history that goes on from there.
+pub fn acknowledged_stay()
+    ensures { (size : Size) → AcknowledgedStay size }
+{}
+
+/// Nothing is sent to a group that a committed transaction has closed.
+pub fn nothing_behind_close()
+    ensures { (size : Size) → NothingBehindClose size }
+{}
+
+/// A replay from the ledger of a legal history is a longer legal history, whose entries are what was asked and answered.
+pub fn replay_goes_on()
+    ensures { (size : Size) → ReplayGoesOn size }
+{}
+
+/// A crash that leaves the first records of the log, with all that are forced, is the next entry of a legal history, and the
+/// commits and the content of what is left are those of the history.
+pub fn crash_goes_on()
+    ensures { (size : Size) → CrashGoesOn size }
+{}
+
+/// A restart over what a crash left, and what the restart itself added, is the next entry of a legal history.
+pub fn restart_goes_on()
+    ensures { (size : Size) → RestartGoesOn size }
 {}
 
 /// What the ledger of a legal history shows of a group is what the filters of the history say.

@@ -3,10 +3,11 @@
 ghost use Rattle.std.specs.Prelude.{◌≡◌, ◌<◌, ◌≤◌, ◌||◌, cond, false, nat_eq, nat_lt, IfOk, IfErr, OnErr, OnOk};
 ghost use Rattle.rq_model.specs.History.Call.{Begin, Commit, Finish, Show, Start_send, Step, Acknowledge, Start_abort, Hand_over, Force};
 ghost use Rattle.rq_model.specs.History.Entry.{Begun, Did, Shown, Started, Committed, Acknowledged, Aborting, Handed_over, Forced, Crash, Restarted};
-ghost use Rattle.rq_model.specs.Ledger.{empty, ended_in, found, in_chain};
-ghost use Rattle.rq_model.specs.Reference.{May, Refuses, next, kept_in, IsReady, IsUnready, IsBusy, IsIdle, StandsAt, message_of, op_of, step_entry};
+ghost use Rattle.rq_model.specs.Ledger.{empty, ended_in, found, in_chain, kept_in};
+ghost use Rattle.rq_model.specs.Ledger.Phase.{Shut};
+ghost use Rattle.rq_model.specs.Reference.{May, Refuses, next, IsReady, IsUnready, IsBusy, IsIdle, StandsAt, message_of, op_of, step_entry};
 ghost use Rattle.rq_model.specs.History.Job.{Sending};
-ghost use Rattle.rq_model.specs.Legal.{Passes, cells_in_use, free_to_send, has_closed, log_full};
+ghost use Rattle.rq_model.specs.Legal.{IsUpTo, Passes, cells_in_use, free_to_send, has_closed, log_full};
 
 use crate::message::{Body, Message};
 use crate::reference::rows::{Act, CommittedTxn, GroupContent, OpenTxn, Work};
@@ -42,13 +43,13 @@ pub struct Reference {
 
 impl Model for Reference {
     ghost use Rattle.std.specs.Prelude.{map};
-    ghost use Rattle.rq_model.specs.Reference.{Stand, Sound, done_of, open_of};
+    ghost use Rattle.rq_model.specs.Reference.{Stand, Sound, done_of, open_of, phase_of};
 
     ghost Value = { Stand };
 
-    ghost view = { λ r. record { size = record { senders = r.senders; cells = r.cells }; ledger = record { committed = map done_of r.committed.items; open_ones = map open_of r.open_txns.items; running = r.running; incarnation = r.incarnation; begins = r.begins; records = r.records; forced = r.forced; durable = r.durable } } };
+    ghost view = { λ r. record { size = record { senders = r.senders; cells = r.cells }; ledger = record { committed = map done_of r.committed.items; open_ones = map open_of r.open_txns.items; phase = phase_of r.running; incarnation = r.incarnation; begins = r.begins; records = r.records; forced = r.forced; durable = r.durable } } };
 
-    ghost invariant = { λ r. Sound (record { committed = map done_of r.committed.items; open_ones = map open_of r.open_txns.items; running = r.running; incarnation = r.incarnation; begins = r.begins; records = r.records; forced = r.forced; durable = r.durable }) };
+    ghost invariant = { λ r. Sound (record { committed = map done_of r.committed.items; open_ones = map open_of r.open_txns.items; phase = phase_of r.running; incarnation = r.incarnation; begins = r.begins; records = r.records; forced = r.forced; durable = r.durable }) };
 }
 
 impl Reference {
@@ -75,9 +76,9 @@ impl Reference {
 
     /// Opens the store in a new incarnation, where the log has this many records behind its opening.
     pub fn restart(&mut self, incarnation: u64, records: u64)
-        requires stopped { self.old.ledger.running ≡ false }
+        requires shut { self.old.ledger.phase ≡ Shut }
         requires newer { self.old.ledger.incarnation < incarnation }
-        requires longer { self.old.ledger.records ≤ records }
+        requires longer { self.old.ledger.records < records }
         ensures ok { May self.old (Restarted incarnation records) }
         ensures step { self.new ≡ next (Restarted incarnation records) self.old }
     {
@@ -93,6 +94,7 @@ impl Reference {
     /// A crash that leaves the first `records` records of the log.
     pub fn crash(&mut self, records: u64)
         requires forced { self.old.ledger.forced ≤ records }
+        requires up_to { IsUpTo self.old.ledger.records self.old.ledger.phase records }
         ensures ok { May self.old (Crash (kept_in records self.old.ledger.committed) records) }
         ensures step { self.new ≡ next (Crash (kept_in records self.old.ledger.committed) records) self.old }
     {

@@ -5,7 +5,7 @@ use Rattle.std.proofs.lemmas.List.Sums.{sum_by-cons}
 use Rattle.rq_model.specs.declared.txn.Txn.{Txn}
 use Rattle.rq_model.specs.declared.record.Record.{Record}
 use Rattle.rq_model.specs.Words.{In, same_txn, is_some}
-use Rattle.rq_model.specs.Ledger.{Open, after, fresh_one}
+use Rattle.rq_model.specs.Ledger.{Open, after, fresh_one, runs}
 use Rattle.rq_model.specs.Legal.{pending}
 use Rattle.rq_model.specs.History.Entry.{Begun}
 use Rattle.rq_model.specs.History.Call.{Begin}
@@ -18,7 +18,7 @@ use Rattle.rq_level.proofs.Strangers.{stranger_deeds, stranger_end, stranger_und
 use Rattle.rq_txn.specs.Rows.{Row, found_row, fresh_row}
 use Rattle.rq_groups.specs.declared.Held.{Held}
 use Rattle.rq_groups.specs.Ends.{has_held, held_by}
-use Rattle.rq_store.specs.State.{State, ledger_of, open_of, open_ones_of}
+use Rattle.rq_store.specs.State.{State, ledger_of, open_of, open_ones_of, phase_of}
 use Rattle.rq_store.specs.Sound.{IsSound, IsRow, AreEnds, apart, takes_in, IsCovered}
 use Rattle.rq_store.specs.Steps.{Steps}
 use Rattle.rq_store.proofs.RowLists.{found_in, some_not_none}
@@ -126,7 +126,7 @@ module _ (s : State) (k : IsSound s) where
   begin_steps running room = record {
     entry = Begun t;
     says = refl;
-    legal = ((ap (λ b. not (not b)) running, (room, tt)), refl, refl);
+    legal = ((ap (λ b. not (runs (phase_of b))) running, (room, tt)), refl, refl);
     after = after_is;
     sound = begin_sound;
     goes_on = (0, refl);

@@ -12,13 +12,12 @@ use Rattle.rq_model.specs.Words.Op.{Send, Take, End}
 use Rattle.rq_model.specs.Counts.{is_taken, AllBelow}
 use Rattle.rq_model.specs.declared.record.Deed.{Deed}
 use Rattle.rq_model.specs.declared.record.Deed.TheVariants.{Append, UnlinkHead, Close}
-use Rattle.rq_model.specs.Ledger.{rest_in, Open, Done, after, found, without, ops_of}
+use Rattle.rq_model.specs.Ledger.{rest_in, Open, Done, after, found, without, ops_of, runs, kept_in}
 use Rattle.rq_model.specs.Legal.{count_rest, below, pending, is_sent, is_sending, is_aborting, is_busy, log_full}
-use Rattle.rq_model.specs.Reference.{kept_in}
 use Rattle.rq_model.specs.Content.{has_end, committed_of, told}
 use Rattle.rq_model.specs.History.Entry.{Committed}
 use Rattle.rq_model.specs.History.Call.{Commit}
-use Rattle.rq_model.specs.Replay.Reply.{Gave_lsn}
+use Rattle.rq_model.specs.Replay.Reply.{Gave_commit}
 use Rattle.rq_model.proofs.Lists.{same_is, same_self, not_same}
 use Rattle.rq_model.proofs.Counts.{commit_counts, taken_within, rest_more}
 use Rattle.rq_page.specs.Sizes.{Sizes, sender_count}
@@ -30,7 +29,7 @@ use Rattle.rq_level.proofs.Strangers.{has_end_same}
 use Rattle.rq_txn.specs.Rows.{Row, Under, found_row, without_row, AreDistinct}
 use Rattle.rq_groups.specs.Ends.{HeldEnds}
 use Rattle.rq_groups.specs.Waiting.{waits}
-use Rattle.rq_store.specs.State.{State, ledger_of, open_of, open_ones_of, job_under, op_done}
+use Rattle.rq_store.specs.State.{State, ledger_of, open_of, open_ones_of, job_under, op_done, phase_of}
 use Rattle.rq_store.specs.Sound.{IsSound, IsWhole, IsRow, IsGoing, IsGoingOf, IsSettled, is_under, apart, appending, takes_one, takes_in, sends_in, HasWaiting, IsCovered}
 use Rattle.rq_store.specs.Fitting.{image_in}
 use Rattle.rq_store.specs.Steps.{Steps}
@@ -258,12 +257,12 @@ module _ (s : State) (k : IsSound s) (t : Txn) (r : Row) (cells : ℕ) (ws : Lis
     covered = λ q i. let g = gone t s.rows q i in covered_now q q.under (k.rows q g.0).going (k.covered q g.0);
   }
 
-  pub commit_steps : s.failed ≡ false → log_full (ledger_of s) 1 ≡ false → Steps s (Commit t) (Gave_lsn (length log + 1)) new
+  pub commit_steps : s.failed ≡ false → log_full (ledger_of s) 1 ≡ false → Steps s (Commit t) (Gave_commit (record { txn = t; lsn = length log + 1 })) new
   commit_steps running room = record {
     entry = Committed t (length log + 1);
-    says = refl;
+    says = (refl, refl);
     legal = (
-      (ap (λ b. not (not b)) running, (ap (λ o. not (is_some o)) at_open, (ap is_aborting at_open ∙ row.forward, (ap is_busy at_open ∙ ap (λ o. is_some (job_under o)) idle, (room, tt))))),
+      (ap (λ b. not (runs (phase_of b))) running, (ap (λ o. not (is_some o)) at_open, (ap is_aborting at_open ∙ row.forward, (ap is_busy at_open ∙ ap (λ o. is_some (job_under o)) idle, (room, tt))))),
       omega arith,
     );
     after = after_is;

@@ -12,7 +12,7 @@ use Rattle.rq_model.specs.declared.record.Record.{Record}
 use Rattle.rq_model.specs.declared.message.Message.{Message}
 use Rattle.rq_model.specs.Words.{In, Op, same_txn, is_some, taken_from}
 use Rattle.rq_model.specs.Deeds.{deed_in, spelled_deed}
-use Rattle.rq_model.specs.Ledger.{Open, after, done_more, change, found, rest_in}
+use Rattle.rq_model.specs.Ledger.{Open, after, done_more, change, found, rest_in, runs}
 use Rattle.rq_model.specs.Legal.{count_rest, below, pending, is_sent, is_sending, has_under, steps_left, OnFound, Answers}
 use Rattle.rq_model.specs.Content.{said, kept, op_of, has_end, has_commit, added, removed, deeds, MayEnd, EndingMay, ending_by, committed_of}
 use Rattle.rq_model.specs.History.Entry.{Did}
@@ -37,7 +37,7 @@ use Rattle.rq_txn.specs.declared.Finished.{Finished}
 use Rattle.rq_txn.specs.Rows.{Row, Under, found_row, change_row, row_finished}
 use Rattle.rq_groups.specs.Ends.{HeldEnds, has_held}
 use Rattle.rq_groups.specs.Waiting.{waits}
-use Rattle.rq_store.specs.State.{State, ledger_of, open_of, open_ones_of, job_of, job_under, left_under, op_done}
+use Rattle.rq_store.specs.State.{State, ledger_of, open_of, open_ones_of, job_of, job_under, left_under, op_done, phase_of}
 use Rattle.rq_store.specs.Sound.{IsSound, IsWhole, IsRow, IsGoing, IsSettled, HoldsFor, AllHeld, AllMove, Moves, HasWaiting, IsCovered, placed, placed_one, is_under, apart, appending, appends_of, takes_one, takes_of, takes_in}
 use Rattle.rq_store.specs.Fitting.{left_by, image_in}
 use Rattle.rq_store.specs.Steps.{Steps, op_end, gave_done, took}
@@ -389,7 +389,7 @@ module _ (s : State) (k : IsSound s) (t : Txn) (r : Row) (u : Under) (ws : List 
     entry = Did t u.number (op_done f);
     says = says_done t u.number u.deed g.moves;
     legal = (
-      (ap (λ b. not (not b)) running, (ap not (ap (has_under u.number) at_open ∙ and_from _ _ (ap (λ (y : Option Under). is_some (job_under y)) under) (eq-eqb r.number u.number going.1)), (ap steps_left at_open ∙ ap (nat_lt 0) none_left, tt))),
+      (ap (λ b. not (runs (phase_of b))) running, (ap not (ap (has_under u.number) at_open ∙ and_from _ _ (ap (λ (y : Option Under). is_some (job_under y)) under) (eq-eqb r.number u.number going.1)), (ap steps_left at_open ∙ ap (nat_lt 0) none_left, tt))),
       subst (λ (y : Option Open). OnFound y (λ (q : Open). Answers (ledger_of s) q q.under (op_done f))) (sym at_open) (subst (λ (y : Option Under). Answers (ledger_of s) (open_of s.ends r) (job_under y) (op_done f)) (sym under) (answers_done s k r place.0 u.deed g.moves held_here g.sender waits_here g.told)),
     );
     after = after_is;

@@ -1,5 +1,5 @@
 -- Forces, and devices that fail: the log's records stay, and so does all that was done.
-use Rattle.std.proofs.Common.{◌≡◌, ℕ, ◌+◌, ◌<◌, ◌≤◌, inl, inr, List, [], ◌∷◌, ◌++◌, length, refl, sym, ap, true, false, not, nat_lt, nat_eq, ◌&&◌, arith}
+use Rattle.std.proofs.Common.{◌≡◌, ℕ, ◌+◌, ◌<◌, ◌≤◌, inl, inr, List, [], ◌∷◌, ◌++◌, length, refl, sym, ap, Bool, true, false, not, nat_lt, nat_eq, ◌&&◌, arith}
 use Rattle.std.proofs.lemmas.Bool.{cases_Bool, ltb-true}
 use Rattle.std.proofs.lemmas.List.{length-append}
 use Rattle.rq_model.specs.declared.txn.Txn.{Txn}
@@ -7,15 +7,15 @@ use Rattle.rq_model.specs.declared.record.Record.{Record}
 use Rattle.rq_model.specs.declared.record.Record.TheVariants as records
 use Rattle.rq_model.specs.declared.refusal.Refusal.{Refusal}
 use Rattle.rq_model.specs.declared.refusal.Refusal.TheVariants.{DiskWrite}
-use Rattle.rq_model.specs.Ledger.{Done, after}
+use Rattle.rq_model.specs.Ledger.{Done, after, runs, kept_in}
 use Rattle.rq_model.specs.Legal.{LegalRefusal}
-use Rattle.rq_model.specs.Reference.{kept_in}
 use Rattle.rq_model.specs.Content.{committed_of, told}
 use Rattle.rq_model.specs.History.{Call}
 use Rattle.rq_model.specs.History.Entry.{Forced, Handed_over, Acknowledged, Refused}
 use Rattle.rq_model.specs.History.Call.{Force, Hand_over, Acknowledge}
+use Rattle.rq_model.specs.Replay.{Says, receipt}
 use Rattle.rq_model.specs.Replay.Reply.{Gave_lsn, Gave_nothing, Gave_receipt, Gave_refusal}
-use Rattle.rq_store.specs.State.{State, ledger_of, size_of}
+use Rattle.rq_store.specs.State.{State, ledger_of, size_of, phase_of}
 use Rattle.rq_store.specs.Sound.{IsSound}
 use Rattle.rq_store.specs.Steps.{Steps}
 
@@ -47,7 +47,7 @@ pub force_steps : (s : State) → IsSound s → s.failed ≡ false → Steps s F
 force_steps s k running = record {
   entry = Forced (length s.records);
   says = refl;
-  legal = ((ap (λ b. not (not b)) running, tt), refl);
+  legal = ((ap (λ b. not (runs (phase_of b))) running, tt), refl);
   after = ap (λ (n : ℕ). record (ledger_of s) { forced = length s.records; durable = n }) (all_within s.records (length s.records) (omega arith));
   sound = record {
     range = k.range;
@@ -75,21 +75,35 @@ force_steps s k running = record {
 }
 
 pub hand_over_steps : (s : State) → IsSound s → s.failed ≡ false → Steps s Hand_over Gave_nothing s
-hand_over_steps s k running = record { entry = Handed_over; says = refl; legal = (ap (λ b. not (not b)) running, tt); after = refl; sound = k; goes_on = (0, refl); stays_forced = omega arith }
+hand_over_steps s k running = record { entry = Handed_over; says = refl; legal = (ap (λ b. not (runs (phase_of b))) running, tt); after = refl; sound = k; goes_on = (0, refl); stays_forced = omega arith }
 
-pub acknowledged_steps : (s : State) → IsSound s → (t : Txn) (lsn : ℕ) → s.failed ≡ false → Steps s (Acknowledge t lsn) (Gave_receipt (nat_eq t.incarnation s.incarnation && not (nat_lt s.forced lsn))) s
-acknowledged_steps s k t lsn running = record { entry = Acknowledged t lsn (nat_eq t.incarnation s.incarnation && not (nat_lt s.forced lsn)); says = refl; legal = ((ap (λ b. not (not b)) running, tt), refl); after = refl; sound = k; goes_on = (0, refl); stays_forced = omega arith }
+-- a receipt is given for the commit that is asked for, or none
+receipt_says : (t : Txn) (lsn : ℕ) (b : Bool) → Says (Acknowledge t lsn) (Gave_receipt (receipt b t lsn)) (Acknowledged t lsn b)
+receipt_says t lsn false = refl
+receipt_says t lsn true = (refl, refl)
+
+pub acknowledged_steps : (s : State) → IsSound s → (t : Txn) (lsn : ℕ) (b : Bool) → s.failed ≡ false → b ≡ (nat_eq t.incarnation s.incarnation && not (nat_lt s.forced lsn))
+    → Steps s (Acknowledge t lsn) (Gave_receipt (receipt b t lsn)) s
+acknowledged_steps s k t lsn b running e = record {
+  entry = Acknowledged t lsn b;
+  says = receipt_says t lsn b;
+  legal = ((ap (λ b. not (runs (phase_of b))) running, tt), e);
+  after = refl;
+  sound = k;
+  goes_on = (0, refl);
+  stays_forced = omega arith;
+}
 
 -- a refusal that may come and changes nothing
 pub refused_steps : (s : State) → IsSound s → (c : Call) (r : Refusal) → LegalRefusal (size_of s.sizes) (ledger_of s) c r → after (Refused c r) (ledger_of s) ≡ ledger_of s → Steps s c (Gave_refusal r) s
 refused_steps s k c r legal same = record { entry = Refused c r; says = refl; legal = legal; after = sym same; sound = k; goes_on = (0, refl); stays_forced = omega arith }
 
 -- a device that fails stops the store
-pub failed_steps : (s : State) → IsSound s → (c : Call) → Steps s c (Gave_refusal DiskWrite) (record s { failed = true })
-failed_steps s k c = record {
+pub failed_steps : (s : State) → IsSound s → s.failed ≡ false → (c : Call) → Steps s c (Gave_refusal DiskWrite) (record s { failed = true })
+failed_steps s k running c = record {
   entry = Refused c DiskWrite;
   says = refl;
-  legal = tt;
+  legal = ap (λ b. runs (phase_of b)) running;
   after = refl;
   sound = record {
     range = k.range;

@@ -12,10 +12,9 @@ use Rattle.rq_model.specs.declared.record.Record.TheVariants as records
 use Rattle.rq_model.specs.declared.record.Deed.{Deed}
 use Rattle.rq_model.specs.Words.{same_txn, has_txn}
 use Rattle.rq_model.specs.Deeds.{deed_in}
-use Rattle.rq_model.specs.Ledger.{Done, Ledger, after, rest_in}
+use Rattle.rq_model.specs.Ledger.{Done, Ledger, after, rest_in, kept_in}
 use Rattle.rq_model.specs.History.Entry.{Restarted}
 use Rattle.rq_model.specs.Legal.{below, count_rest}
-use Rattle.rq_model.specs.Reference.{kept_in}
 use Rattle.rq_model.specs.Content.{Ending, ending, ending_by, kept, deeds, has_end, any_record, operation_ended, has_pair, add_pair, operations, unfinished, add_txn, workers, lost, committed_of}
 use Rattle.rq_model.proofs.Lists.{same_is}
 use Rattle.rq_page.specs.Sizes.{Sizes, IsInRange, address, cell_count, cell_at, sender_count, directory_at}

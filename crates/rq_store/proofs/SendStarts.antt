@@ -166,10 +166,10 @@ module _ (s : State) (k : IsSound s) (t : Txn) (r : Row) (u : Under) (e tag : �
   at_open : found t (open_ones_of s.ends s.rows) ≡ Some (open_of s.ends r)
   at_open = found_open s.ends t s.rows ∙ ap (open_found s.ends) at_row
 
-  pub start_steps : Passes (size_of z) (ledger_of s) (Start_send t message) → Steps s (Start_send t message) (Gave_sub (r.number + 1)) new
+  pub start_steps : Passes (size_of z) (ledger_of s) (Start_send t message) → Steps s (Start_send t message) (Gave_sub t (r.number + 1)) new
   start_steps passes = record {
     entry = Started t (r.number + 1) (Sending message);
-    says = refl;
+    says = (refl, refl);
     legal = (passes, subst (λ (y : Option Open). OnFound y (λ (p : Open). (r.number + 1 ≡ p.number + 1) × Unit {0})) (sym at_open) (refl, tt));
     after = after_is;
     sound = start_sound s k t r u ends (s.cells_in_use + 1) may has counts (omega (arith, room));

@@ -7,7 +7,7 @@ use Rattle.rq_model.specs.declared.txn.Txn.{Txn}
 use Rattle.rq_model.specs.declared.record.Record.{Record}
 use Rattle.rq_model.specs.Words.{In, same_txn, is_some}
 use Rattle.rq_model.specs.History.{Job}
-use Rattle.rq_model.specs.Ledger.{Open, after, stepped, change, found}
+use Rattle.rq_model.specs.Ledger.{Open, after, stepped, change, found, runs}
 use Rattle.rq_model.specs.Legal.{count_rest, below, pending, has_under, OnFound}
 use Rattle.rq_model.specs.Content.{has_end, committed_of}
 use Rattle.rq_model.specs.History.Entry.{Stepped}
@@ -33,7 +33,7 @@ use Rattle.rq_chain.specs.Writes.{write_of, writes_of}
 use Rattle.rq_txn.specs.Rows.{Row, Under, found_row, change_row, row_stepped, under_stepped}
 use Rattle.rq_groups.specs.Ends.{HeldEnds}
 use Rattle.rq_groups.specs.Waiting.{waits}
-use Rattle.rq_store.specs.State.{State, ledger_of, open_of, open_ones_of, job_under, left_under}
+use Rattle.rq_store.specs.State.{State, ledger_of, open_of, open_ones_of, job_under, left_under, phase_of}
 use Rattle.rq_store.specs.Sound.{IsSound, IsWhole, IsRow, IsGoing, IsGoingOf, IsSettled, is_under, everywhere, apart, appending, takes_one, takes_in, IsCovered}
 use Rattle.rq_store.specs.Fitting.{left_by, image_in, FitsLog}
 use Rattle.rq_store.specs.Steps.{Steps, IsPutIn, page_op}
@@ -314,7 +314,7 @@ module _ (s : State) (k : IsSound s) (t : Txn) (r : Row) (u : Under) (w : SlotWr
   step_steps running = record {
     entry = Stepped t u.number (length log + 1);
     says = refl;
-    legal = ((ap (λ b. not (not b)) running, (ap not (ap (has_under u.number) at_open ∙ and_from _ _ (ap (λ (y : Option Under). is_some (job_under y)) under) (eq-eqb r.number u.number going.1)), tt)), subst (λ (y : Option Open). OnFound y (λ (q : Open). 0 < q.left)) (sym at_open) (subst (λ (y : Option Under). 0 < left_under y) (sym under) (omega (arith, more))), omega arith);
+    legal = ((ap (λ b. not (runs (phase_of b))) running, (ap not (ap (has_under u.number) at_open ∙ and_from _ _ (ap (λ (y : Option Under). is_some (job_under y)) under) (eq-eqb r.number u.number going.1)), tt)), subst (λ (y : Option Open). OnFound y (λ (q : Open). 0 < q.left)) (sym at_open) (subst (λ (y : Option Under). 0 < left_under y) (sym under) (omega (arith, more))), omega arith);
     after = after_is;
     sound = step_sound;
     goes_on = (1, refl);

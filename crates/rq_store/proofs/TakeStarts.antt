@@ -172,10 +172,10 @@ module _ (s : State) (k : IsSound s) (t : Txn) (r : Row) (u : Under) (e : ℕ) (
   legal : Passes (size_of z) (ledger_of s) (Start_receive_from t e) → Legal (size_of z) (ledger_of s) (Started t (r.number + 1) (Taking e))
   legal passes = (passes, subst (λ (y : Option Open). OnFound y (λ (p : Open). (r.number + 1 ≡ p.number + 1) × (holds_for (ledger_of s) p e ≡ true))) (sym at_open) (refl, holds))
 
-  pub take_steps : Passes (size_of z) (ledger_of s) (Start_receive_from t e) → Steps s (Start_receive t) (Gave_sub (r.number + 1)) new
+  pub take_steps : Passes (size_of z) (ledger_of s) (Start_receive_from t e) → Steps s (Start_receive t) (Gave_sub t (r.number + 1)) new
   take_steps passes = record {
     entry = Started t (r.number + 1) (Taking e);
-    says = (e, refl);
+    says = (refl, e, refl);
     legal = legal passes;
     after = after_is;
     sound = start_sound s k t r u ends s.cells_in_use may has counts k.bound;
@@ -183,10 +183,10 @@ module _ (s : State) (k : IsSound s) (t : Txn) (r : Row) (u : Under) (e : ℕ) (
     stays_forced = omega arith;
   }
 
-  pub take_from_steps : Passes (size_of z) (ledger_of s) (Start_receive_from t e) → Steps s (Start_receive_from t e) (Gave_sub (r.number + 1)) new
+  pub take_from_steps : Passes (size_of z) (ledger_of s) (Start_receive_from t e) → Steps s (Start_receive_from t e) (Gave_sub t (r.number + 1)) new
   take_from_steps passes = record {
     entry = Started t (r.number + 1) (Taking e);
-    says = refl;
+    says = (refl, refl);
     legal = legal passes;
     after = after_is;
     sound = start_sound s k t r u ends s.cells_in_use may has counts k.bound;

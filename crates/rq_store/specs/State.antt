@@ -1,5 +1,5 @@
 -- An open store as plain lists, and the ledger that it comes to.
-use Rattle.std.specs.Prelude.{ℕ, ◌+◌, ◌-◌, Bool, not, List, Option, Some, None, map, length}
+use Rattle.std.specs.Prelude.{ℕ, ◌+◌, ◌-◌, Bool, true, false, List, Option, Some, None, map, length}
 use Rattle.std.specs.List.{sum_by}
 use Rattle.rq_model.specs.declared.record.Deed.{Deed}
 use Rattle.rq_model.specs.declared.record.Deed.TheVariants.{Append, UnlinkHead, Close}
@@ -7,10 +7,10 @@ use Rattle.rq_model.specs.declared.record.Record.{Record}
 use Rattle.rq_model.specs.Words.{Op}
 use Rattle.rq_model.specs.History.{Job}
 use Rattle.rq_model.specs.History.Job.{Sending, Taking, Ending}
-use Rattle.rq_model.specs.Ledger.{Open, Ledger}
+use Rattle.rq_model.specs.Ledger.{Open, Ledger, Phase, kept_in}
+use Rattle.rq_model.specs.Ledger.Phase.{Running, Stopped}
 use Rattle.rq_model.specs.Legal.{Size}
 use Rattle.rq_model.specs.Content.{said, op_of, committed_of}
-use Rattle.rq_model.specs.Reference.{kept_in}
 use Rattle.rq_page.specs.Sizes.{Sizes, sender_count, cell_count}
 use Rattle.rq_txn.specs.declared.Finished.{Finished}
 use Rattle.rq_txn.specs.Rows.{Row, Under}
@@ -58,11 +58,16 @@ open_of ends r = record { txn = r.txn; aborting = r.aborting; ops = map op_done 
 abbrev pub open_ones_of : HeldEnds → List Row → List Open
 open_ones_of ends rows = map (open_of ends) rows
 
+-- an open store runs, or a device of it has failed
+abbrev pub phase_of : Bool → Phase
+phase_of false = Running
+phase_of true = Stopped
+
 abbrev pub ledger_of : State → Ledger
 ledger_of s = record {
   committed = committed_of s.records;
   open_ones = open_ones_of s.ends s.rows;
-  running = not s.failed;
+  phase = phase_of s.failed;
   incarnation = s.incarnation;
   begins = s.begins;
   records = length s.records;

@@ -1,5 +1,5 @@
-use Rattle.rq_model.proofs.Shown.{survives}
+use Rattle.rq_model.proofs.Placed.{acknowledged_stay}
 use Rattle.rq_model.proofs.laws.acknowledged_stay.Goals as goal
 
 pub returns : goal.returns
-returns c = survives
+returns c = acknowledged_stay

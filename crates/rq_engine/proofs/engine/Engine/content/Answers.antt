@@ -24,5 +24,5 @@ returns-in-Err g c = record {
   answered = λ h k.
       let idle = ap (λ (s : State). any_under s.rows) (sym (state_is c.self.view_is)) ∙ sym c.if-any_under_way.ensures in
       let why = c.in-Err.ensures.sound c.args.self.now.state k (ap (λ (s : State). s.sizes) (sym (state_is c.self.view_is))) (ap (λ (s : State). s.images) (sym (state_is c.self.view_is))) (ap (λ (s : State). s.rows) (sym (state_is c.self.view_is))) idle in
-      rw why (no_memory false c.args.self.now.state _ k);
+      rw why (no_memory false c.args.self.now.state _ c.in_ok-check_running.ensures.running k);
 }

@@ -25,5 +25,6 @@ returns-in-Ok-clause-answered g c h =
 pub returns-in-Err-clause-answered : goal.returns-in-Err-clause-answered
 returns-in-Err-clause-answered g c h k =
     let running = c.self.invariant.kept.fails (ap (λ (s : State). s.failed) (state_is c.self.view_is) ∙ c.in_ok-check_running.ensures.running) in
+    let still = ap (λ (s : State). s.failed) (state_is c.self.view_is) ∙ c.in_ok-check_running.ensures.running in
     let why = (c.in-Err.ensures.err running).0 in
-    (rw why (from_inside (state_is c.self.view_is) (λ k. rw (c.in-Err.ensures.records, c.in-Err.ensures.as_before.0) (failed_steps _ k _)) k), rw why refl)
+    (rw why (from_inside (state_is c.self.view_is) (λ k. rw (c.in-Err.ensures.records, c.in-Err.ensures.as_before.0) (failed_steps _ k still _)) k), rw why refl)

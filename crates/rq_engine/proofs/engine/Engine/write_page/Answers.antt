@@ -1,6 +1,7 @@
-use Rattle.std.proofs.Common.{refl, true}
+use Rattle.std.proofs.Common.{ap, ◌∙◌, refl, true}
 use Rattle.std.proofs.lemmas.Bool.{true≢false}
 use Rattle.rq_model.specs.History.Call.{Write_page}
+use Rattle.rq_store.specs.State.{State}
 use Rattle.rq_store.proofs.Forcing.{failed_steps}
 use Rattle.rq_engine.proofs.Calls.{from_inside}
 use Rattle.rq_engine.proofs.Keeping.{kept_device}
@@ -16,4 +17,5 @@ invariant_of-self-in-Err-DiskWrite g c =
 
 pub returns-in-Err-DiskWrite-clause-answered : goal.returns-in-Err-DiskWrite-clause-answered
 returns-in-Err-DiskWrite-clause-answered g c h k =
-    (from_inside (state_is c.self.view_is) (λ k. rw (c.in-Err-DiskWrite.ensures.sizes, c.in-Err-DiskWrite.ensures.images) (failed_steps _ k (Write_page c.args.page))) k, refl)
+    let running = ap (λ (s : State). s.failed) (state_is c.self.view_is) ∙ c.in_ok-check_running.ensures.running in
+    (from_inside (state_is c.self.view_is) (λ k. rw (c.in-Err-DiskWrite.ensures.sizes, c.in-Err-DiskWrite.ensures.images) (failed_steps _ k running (Write_page c.args.page))) k, refl)

@@ -1,8 +1,9 @@
-use Rattle.std.proofs.Common.{arith, ℕ, ◌≤◌, map, ap, sym, ◌≡◌, ◌∙◌, subst, take, List}
+use Rattle.std.proofs.Common.{arith, refl, ℕ, ◌≤◌, map, ap, sym, ◌≡◌, ◌∙◌, subst, take, List}
 use Rattle.std.proofs.lemmas.List.{take-map}
 use Rattle.rq_model.specs.declared.reference.rows.CommittedTxn.{CommittedTxn}
 use Rattle.rq_model.specs.History.Entry.{Crash}
-use Rattle.rq_model.specs.Reference.{done_of, Stand, kept_in, next}
+use Rattle.rq_model.specs.Reference.{done_of, Stand, next}
+use Rattle.rq_model.specs.Ledger.{kept_in}
 use Rattle.rq_model.proofs.Plainly.{kept_less, kept_cut, rising_cut}
 use Rattle.rq_model.proofs.reference.Reference.crash.Goals as goal
 
@@ -27,7 +28,12 @@ returns-clause-ok c =
     let l : i.forced ≤ n = rw (ap (λ (s : Stand). s.ledger.forced) c.self.view_is) c.requires.forced in
     let k = kept_less i.forced n (map done_of i.committed.items) l in
     let h : i.durable ≤ kept_in n (map done_of i.committed.items) = omega (arith, k, c.self.invariant.durable) in
-    (subst (λ (s : Stand). s.ledger.durable ≤ kept_in n s.ledger.committed) c.self.view_is h, c.requires.forced)
+    record {
+      durable = subst (λ (s : Stand). s.ledger.durable ≤ kept_in n s.ledger.committed) c.self.view_is h;
+      forced = c.requires.forced;
+      exact = refl;
+      up_to = c.requires.up_to;
+    }
 
 pub returns-clause-step : goal.returns-clause-step
 returns-clause-step c =

@@ -1,5 +1,6 @@
 use Rattle.std.proofs.Common.{◌≡◌, ◌+◌, ◌≤◌, map, drop}
-use Rattle.rq_model.specs.Reference.{done_of, kept_in}
+use Rattle.rq_model.specs.Ledger.{kept_in}
+use Rattle.rq_model.specs.Reference.{done_of}
 use Rattle.rq_model.proofs.reference.scans.kept_in.Given as goal
 
 -- what is counted, with what is left to count

@@ -1,0 +1,58 @@
+-- A crash and a restart go on with a legal history, and the ledger still has what the log tells.
+use Rattle.std.proofs.Common.{◌≡◌, ℕ, ◌+◌, ◌≤◌, List, ◌∷◌, ◌++◌, length, take, map, refl, sym, ◌∙◌, ap, subst, false, arith}
+use Rattle.std.proofs.lemmas.List.{length-append}
+use Rattle.rq_model.specs.declared.record.Record.{Record}
+use Rattle.rq_model.specs.declared.record.Record.TheVariants.{Restart as Restart_record}
+use Rattle.rq_model.specs.History.{Entry}
+use Rattle.rq_model.specs.History.Entry.{Crash, Restarted}
+use Rattle.rq_model.specs.Ledger.{Done, Ledger, Phase, ledger, after, group_in, kept_in}
+use Rattle.rq_model.specs.Ledger.Phase.{Running, Stopped, Shut}
+use Rattle.rq_model.specs.Legal.{Size, IsLegal, IsUpTo}
+use Rattle.rq_model.specs.Content.{committed_of, KeepsRules}
+use Rattle.rq_model.specs.Incarnations.{Ties, Extends, incarnation_of, InOrder, opened_ledger}
+use Rattle.rq_model.specs.Promises.{EndsInCrash, EndsInRestart, crash_to}
+use Rattle.rq_model.proofs.Same.{Tied-ledger}
+use Rattle.rq_model.proofs.Shown.{group_are}
+use Rattle.rq_model.proofs.Told.{content_is}
+use Rattle.rq_model.proofs.Plainly.{kept_less}
+use Rattle.rq_model.proofs.Cuts.{cut_commits, extends_commits, extends_incarnation}
+use Rattle.rq_model.proofs.Placed.{placed}
+
+pub up_to : (p : Phase) (n m : ℕ) → n ≤ m → IsUpTo m p n
+up_to Running n m h = h
+up_to Stopped n m h = h
+up_to Shut n m h = tt
+
+pub crash_goes_on : (z : Size) (h : List Entry) (newer older : List Record) → IsLegal z h → Ties (ledger h) (newer ++ older) → KeepsRules older
+    → (ledger h).forced ≤ length older → EndsInCrash z h older
+crash_goes_on z h newer older a t rules f =
+    let l = ledger h in
+    let w = placed z h a in
+    let c : take (kept_in (length older) l.committed) l.committed ≡ committed_of older = subst (λ x. take (kept_in (length older) x) x ≡ committed_of older) (sym t.committed) (cut_commits newer older) in
+    let d = w.durable in
+    let less = kept_less l.forced (length older) l.committed f in
+    let n = length-append newer older in
+    let r = t.records in
+    let legal : IsLegal z (crash_to older h ∷ h) = (record { durable = omega (arith, d, less); forced = f; exact = refl; up_to = up_to l.phase (length older) l.records (omega (arith, n, r)) }, a) in
+    record {
+      legal = legal;
+      ties = record { committed = c; records = refl };
+      commits = ap (map (λ (x : Done). x.txn)) (sym c) ∙ (Tied-ledger z (crash_to older h ∷ h) legal).names;
+      content = λ s. content_is s older rules ∙ ap (λ x. group_in x s) (sym c) ∙ sym (group_are z (crash_to older h ∷ h) s legal);
+    }
+
+opened_is : (l : Ledger) (log : List Record) (i n : ℕ) → committed_of log ≡ l.committed → i ≡ incarnation_of log → n ≡ length log → opened_ledger log ≡ after (Restarted i n) l
+opened_is l log i n c j m = cc (c, j, m)
+
+pub restart_goes_on : (z : Size) (h : List Entry) (older now : List Record) → IsLegal z h → (ledger h).phase ≡ Shut → Ties (ledger h) older
+    → (ledger h).incarnation ≤ incarnation_of older → Extends older now → InOrder now
+    → EndsInRestart z h (Restart_record (incarnation_of now + 1) ∷ now)
+restart_goes_on z h older now a p t i g o =
+    let l = ledger h in
+    let j = extends_incarnation older now g o in
+    let e : length now ≡ length g.0 + length older = ap length (sym g.1) ∙ length-append g.0 older in
+    let r = t.records in
+    record {
+      legal = (record { later = omega (arith, i, j); shut = p; more = omega (arith, e, r) }, a);
+      ledger = opened_is l (Restart_record (incarnation_of now + 1) ∷ now) (incarnation_of now + 1) (length (Restart_record (incarnation_of now + 1) ∷ now)) (extends_commits older now g ∙ sym t.committed) refl refl;
+    }

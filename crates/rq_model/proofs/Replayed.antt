@@ -1,0 +1,46 @@
+-- A replay from the ledger of a legal history goes on with it; so do a crash and a restart.
+use Rattle.std.proofs.Common.{◌≡◌, List, [], ◌∷◌, ◌++◌, refl, sym, ◌∙◌, ap, subst, true, false, Some, None}
+use Rattle.rq_model.specs.declared.refusal.Refusal.{Refusal}
+use Rattle.rq_model.specs.declared.refusal.Refusal.TheVariants.{Failed}
+use Rattle.rq_model.specs.History.{Entry, Call}
+use Rattle.rq_model.specs.History.Call.{Begin, Start_send, Start_receive, Start_receive_from, Start_close, Step, Finish, Commit, Acknowledge, Start_abort, Undo_next, End_abort, Hand_over, Force, Write_page, Last_tag, Show}
+use Rattle.rq_model.specs.History.Entry.{Refused}
+use Rattle.rq_model.specs.Ledger.{Ledger, runs, ledger, after}
+use Rattle.rq_model.specs.Legal.{Size, Legal, IsLegal}
+use Rattle.rq_model.specs.Replay.{Reply, Says, Replays, AllSay}
+use Rattle.rq_model.specs.Replay.Reply.{Gave_txn, Gave_sub, Gave_none, Gave_lsn, Gave_ready, Gave_sent, Gave_message, Gave_closed, Gave_undone, Gave_nothing, Gave_commit, Gave_receipt, Gave_written, Gave_tag, Gave_content, Gave_refusal}
+
+-- a refusal stands for itself
+pub says_refusal : (c : Call) (r : Refusal) (e : Entry) → Says c (Gave_refusal r) e → e ≡ Refused c r
+says_refusal c r e s = s
+
+-- A replay from the ledger of a legal history is a longer legal history.
+pub replays_on : (z : Size) (h : List Entry) (audit : List (Call × Reply)) (l : Ledger) → IsLegal z h → Replays z (ledger h) audit l → (newer : List Entry) × IsLegal z (newer ++ h) × (ledger (newer ++ h) ≡ l) × AllSay audit newer
+replays_on z h [] l a r = ([], a, sym r, tt)
+replays_on z h (x ∷ audit) l a r =
+    let m = r.0 in
+    let e = r.1 in
+    let w = replays_on z h audit m a r.2 in
+    let at : m ≡ ledger (w.0 ++ h) = sym w.2 in
+    let legal : Legal z (ledger (w.0 ++ h)) e = subst (λ k. Legal z k e) at r.4 in
+    (e ∷ w.0, (legal, w.1), ap (after e) w.2 ∙ sym r.5, (r.3, w.3))
+
+-- every call of a store that does not run may be refused so
+pub shut_refuses : (z : Size) (l : Ledger) (c : Call) → runs l.phase ≡ false → Legal z l (Refused c Failed)
+shut_refuses z l Begin e = rw e refl
+shut_refuses z l (Start_send t m) e = rw e refl
+shut_refuses z l (Start_receive t) e = rw e refl
+shut_refuses z l (Start_receive_from t s) e = rw e refl
+shut_refuses z l (Start_close t s) e = rw e refl
+shut_refuses z l (Step t n) e = rw e refl
+shut_refuses z l (Finish t n) e = rw e refl
+shut_refuses z l (Commit t) e = rw e refl
+shut_refuses z l (Acknowledge t n) e = rw e refl
+shut_refuses z l (Start_abort t) e = rw e refl
+shut_refuses z l (Undo_next t) e = rw e refl
+shut_refuses z l (End_abort t) e = rw e refl
+shut_refuses z l Hand_over e = rw e refl
+shut_refuses z l Force e = rw e refl
+shut_refuses z l (Write_page p) e = rw e refl
+shut_refuses z l (Last_tag s) e = rw e refl
+shut_refuses z l Show e = rw e refl

@@ -1,0 +1,67 @@
+-- What holds at every place of every legal history, and how a history goes on.
+use Rattle.std.specs.Prelude.{◌≡◌, ℕ, ◌+◌, ◌≤◌, List, ◌∷◌, ◌++◌, length, true, false, map}
+use Rattle.rq_model.specs.declared.txn.Txn.{Txn}
+use Rattle.rq_model.specs.declared.message.Message.{Message}
+use Rattle.rq_model.specs.declared.record.Record.{Record}
+use Rattle.rq_model.specs.declared.record.Record.TheVariants.{Restart as Restart_record}
+use Rattle.rq_model.specs.Words.{In}
+use Rattle.rq_model.specs.History.{Entry, Call, Fifo, commits, ended}
+use Rattle.rq_model.specs.History.Entry.{Started, Acknowledged, Committed, Crash, Restarted}
+use Rattle.rq_model.specs.History.Job.{Sending}
+use Rattle.rq_model.specs.Ledger.{Done, Ledger, ledger, kept_in}
+use Rattle.rq_model.specs.Ledger.Phase.{Shut}
+use Rattle.rq_model.specs.Legal.{Size, Legal, IsLegal}
+use Rattle.rq_model.specs.Content.{content, committed_of, KeepsRules}
+use Rattle.rq_model.specs.Groups.{group}
+use Rattle.rq_model.specs.Replay.{Reply, Replays, AllSay}
+use Rattle.rq_model.specs.Incarnations.{incarnation_of, InOrder, Extends, Ties, opened_ledger}
+
+-- at every place: what was taken is a beginning of what was sent
+abbrev pub FifoThroughout : List Entry → Type 0
+FifoThroughout h = (newer older : List Entry) → newer ++ older ≡ h → Fifo older
+
+-- every commit that was acknowledged is among the commits, whatever came since
+abbrev pub AcknowledgedStay : Size → Type 0
+AcknowledgedStay z = (newer older : List Entry) (t : Txn) (lsn : ℕ)
+    → IsLegal z (newer ++ (Acknowledged t lsn true ∷ older)) → In (Committed t lsn) older
+    → In t (commits (newer ++ (Acknowledged t lsn true ∷ older)))
+
+-- nothing is sent to a group that a committed transaction closed
+abbrev pub NothingBehindClose : Size → Type 0
+NothingBehindClose z = (h : List Entry) (t : Txn) (n : ℕ) (m : Message) → IsLegal z (Started t n (Sending m) ∷ h) → ended (commits h) m.sender h ≡ false
+
+-- a replay from the ledger of a legal history is a longer legal history, whose entries are what was asked and answered
+abbrev pub ReplayGoesOn : Size → Type 0
+ReplayGoesOn z = (h : List Entry) (audit : List (Call × Reply)) (l : Ledger) → IsLegal z h → Replays z (ledger h) audit l
+    → (newer : List Entry) × IsLegal z (newer ++ h) × (ledger (newer ++ h) ≡ l) × AllSay audit newer
+
+-- the crash that leaves this log
+abbrev pub crash_to : List Record → List Entry → Entry
+crash_to log h = Crash (kept_in (length log) (ledger h).committed) (length log)
+
+-- A history ends with a crash that left this log: the entry may come there, and the commits and the content that the log tells are those of the history.
+pub record EndsInCrash (z : Size) (h : List Entry) (log : List Record) : Type 0 where
+  pub legal : IsLegal z (crash_to log h ∷ h)
+  pub ties : Ties (ledger (crash_to log h ∷ h)) log
+  pub commits : map (λ (d : Done). d.txn) (committed_of log) ≡ commits (crash_to log h ∷ h)
+  pub content : (s : ℕ) → content log s ≡ group (crash_to log h ∷ h) s
+
+-- a crash that leaves the first records of the log, with all that are forced
+abbrev pub CrashGoesOn : Size → Type 0
+CrashGoesOn z = (h : List Entry) (newer older : List Record) → IsLegal z h → Ties (ledger h) (newer ++ older) → KeepsRules older
+    → (ledger h).forced ≤ length older → EndsInCrash z h older
+
+-- the restart that leaves this log
+abbrev pub restart_to : List Record → Entry
+restart_to log = Restarted (incarnation_of log) (length log)
+
+-- A history ends with a restart that left this log: the entry may come there, and the ledger is that of a store opened over the log.
+pub record EndsInRestart (z : Size) (h : List Entry) (log : List Record) : Type 0 where
+  pub legal : IsLegal z (restart_to log ∷ h)
+  pub ledger : opened_ledger log ≡ ledger (restart_to log ∷ h)
+
+-- a restart of a store that is not open, over its log with what the restart added, the newest of which begins the next incarnation
+abbrev pub RestartGoesOn : Size → Type 0
+RestartGoesOn z = (h : List Entry) (older now : List Record) → IsLegal z h → (ledger h).phase ≡ Shut → Ties (ledger h) older
+    → (ledger h).incarnation ≤ incarnation_of older → Extends older now → InOrder now
+    → EndsInRestart z h (Restart_record (incarnation_of now + 1) ∷ now)
