@@ -1,5 +1,11 @@
 -- Pages that a crash leaves fit the log that it leaves.
-use Rattle.std.proofs.Common.{◌≡◌, ℕ, zero, suc, [], ◌∷◌, ◌<◌, ◌≤◌, List, drop, sym, subst, Result, Ok, Err, ⊎_elim, arith}
+use Rattle.std.proofs.Common.{◌≡◌, ℕ, zero, suc, [], ◌∷◌, ◌<◌, ◌≤◌, List, drop, sym, subst, Result, Ok, Err, ⊎_elim, arith, length, take, ap, ◌∙◌, ◌≡◌, ◌+◌}
+use Rattle.std.proofs.lemmas.List.{length-drop, take-append-drop}
+use Rattle.rq_model.specs.Content.{committed_of}
+use Rattle.rq_model.specs.Ledger.{group_in, kept_in}
+use Rattle.rq_model.proofs.Plainly.{kept_less}
+use Rattle.rq_model.proofs.Told.{content_is}
+use Rattle.rq_model.proofs.Cuts.{cut_commits}
 use Rattle.rq_model.specs.declared.record.Record.{Record}
 use Rattle.rq_model.specs.declared.refusal.Refusal.{Refusal}
 use Rattle.rq_model.specs.declared.refusal.Refusal.TheVariants as why
@@ -27,25 +33,31 @@ use Rattle.rq_engine.specs.declared.event.Event.TheVariants as event
 use Rattle.rq_engine.specs.declared.event.Reply.{Reply}
 use Rattle.rq_engine.specs.Opened.{OpenStore, WritesWhen}
 use Rattle.rq_engine.specs.Says.{PagesSay, WritesSay, written_by}
-use Rattle.rq_engine.specs.Crash.{AreFit, IsCut, LeavesCut, LeftCut}
+use Rattle.rq_engine.specs.Crash.{AreFit, IsCut, LeavesCut, LeftCut, commits_left}
 
 spelled_dropped : (n : ℕ) (log : List Record) → AreSpelled log → AreSpelled (drop n log)
 spelled_dropped zero log h = h
 spelled_dropped (suc n) [] h = h
 spelled_dropped (suc n) (r ∷ log) h = spelled_dropped n log h.1
 
+-- the commits that a cut leaves
+commits_of_cut : (lost : ℕ) (log : List Record) → take (commits_left log lost) (committed_of log) ≡ committed_of (drop lost log)
+commits_of_cut lost log =
+    subst (λ l. take (kept_in (length (drop lost log)) (committed_of l)) (committed_of l) ≡ committed_of (drop lost log)) (take-append-drop lost log) (cut_commits (take lost log) (drop lost log))
+
 -- the log's first records, and pages that fit those that are forced
 cut : (s : State) → IsSound s → AreSpelled s.records → (images : Images) (bytes : List ℕ) → FitsLog s.sizes images (oldest s.forced s.records) → IsBeginning s.records s.forced bytes → IsCut s images bytes
-cut s k told images bytes fits b = (
-  b.0,
-  b.1,
-  spelled_dropped b.0 s.records told,
-  b.2,
-  record {
-    whole = whole_dropped s.sizes b.0 s.records k.log;
-    fits = fits_log_longer s.sizes images (oldest s.forced s.records) (drop b.0 s.records) (longer_continues b.0 s.forced s.records b.1) fits;
-  },
-)
+cut s k told images bytes fits b =
+    let whole = whole_dropped s.sizes b.0 s.records k.log in
+    record {
+      lost = b.0;
+      forced = b.1;
+      told = spelled_dropped b.0 s.records told;
+      spells = b.2;
+      store = record { whole = whole; fits = fits_log_longer s.sizes images (oldest s.forced s.records) (drop b.0 s.records) (longer_continues b.0 s.forced s.records b.1) fits };
+      durable = kept_less s.forced (length (drop b.0 s.records)) (committed_of s.records) (let n = length-drop b.0 s.records in let f = b.1 in omega (arith, n, f));
+      content = λ g. content_is g (drop b.0 s.records) whole.rules ∙ ap (λ c. group_in c g) (sym (commits_of_cut b.0 s.records));
+    }
 
 module _ {P L : Type 0} (p : page_device.Ghosts P) (l : log_device.Ghosts L) (only_now : (d : P) (c : Images) → p.left_since d (p.moment d) c → Leaves (p.may_be d) c) where
   pub leaves_cut : (s : OpenStore P L) → (l.honest s.log → (c : List ℕ) → l.may_leave s.log c → IsBeginning s.state.records s.state.forced c) → AreSpelled s.state.records → l.honest s.log → IsSound s.state → AreFit p s → LeavesCut p l s

@@ -6,3 +6,4 @@ pub mod Calls
 pub mod SendCalls
 pub mod TakeCalls
 pub mod Crashing
+pub mod Leaving

@@ -1,10 +1,13 @@
 -- What a crash leaves of an open store.
-use Rattle.std.specs.Prelude.{◌≡◌, ℕ, ◌+◌, ◌≤◌, List, length, drop}
+use Rattle.std.specs.Prelude.{◌≡◌, ℕ, ◌+◌, ◌≤◌, List, length, take, drop}
 use Rattle.rq_disk.specs.Device.{Images, Leaves}
 use Rattle.rq_disk.specs.declared.device.LogDevice as log_device
 use Rattle.rq_disk.specs.declared.device.PageDevice as page_device
 use Rattle.rq_log.specs.Spelled.{spelled, AreSpelled}
-use Rattle.rq_store.specs.State.{State}
+use Rattle.rq_model.specs.declared.record.Record.{Record}
+use Rattle.rq_model.specs.Content.{content, committed_of}
+use Rattle.rq_model.specs.Ledger.{group_in, kept_in}
+use Rattle.rq_store.specs.State.{State, ledger_of}
 use Rattle.rq_store.specs.Fitting.{oldest, AllFit}
 use Rattle.rq_store.specs.Opening.{IsLeft}
 use Rattle.rq_engine.specs.Opened.{OpenStore}
@@ -13,9 +16,20 @@ use Rattle.rq_engine.specs.Opened.{OpenStore}
 abbrev pub AreFit : {P L : Type 0} → page_device.Ghosts P → OpenStore P L → Type 0
 AreFit p s = AllFit (p.may_be s.pages) s.state.sizes (oldest s.state.forced s.state.records)
 
--- These are the pages and the log of a store that was left so: the first records, with all that are forced, and pages that fit them.
-abbrev pub IsCut : State → Images → List ℕ → Type 0
-IsCut s images bytes = (lost : ℕ) × (lost + s.forced ≤ length s.records) × AreSpelled (drop lost s.records) × (bytes ≡ spelled (drop lost s.records)) × IsLeft s.sizes images (drop lost s.records)
+-- how many commits stand in what is left of a log that loses its newest records
+abbrev pub commits_left : List Record → ℕ → ℕ
+commits_left log lost = kept_in (length (drop lost log)) (committed_of log)
+
+-- These are the pages and the log of a store that was left so: the first records, with all that are forced, and pages that fit them. Its content is that of the
+-- first commits, with all that no crash may take.
+pub record IsCut (s : State) (images : Images) (bytes : List ℕ) : Type 0 where
+  pub lost : ℕ
+  pub forced : lost + s.forced ≤ length s.records
+  pub told : AreSpelled (drop lost s.records)
+  pub spells : bytes ≡ spelled (drop lost s.records)
+  pub store : IsLeft s.sizes images (drop lost s.records)
+  pub durable : (ledger_of s).durable ≤ commits_left s.records lost
+  pub content : (g : ℕ) → content (drop lost s.records) g ≡ group_in (take (commits_left s.records lost) (committed_of s.records)) g
 
 -- whatever a crash now leaves of both devices
 abbrev pub LeavesCut : {P L : Type 0} → page_device.Ghosts P → log_device.Ghosts L → OpenStore P L → Type 0

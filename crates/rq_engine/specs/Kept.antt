@@ -47,13 +47,13 @@ total_of s = length s.records + owed_by s.rows
 abbrev pub done_one : Row → ℕ
 done_one r = length r.finished
 
--- The room in the log for what operations under way have yet to log is reserved, and with it the log is not over its greatest length. No more messages wait, with
+-- The room in the log for what operations under way have yet to log is reserved, and no more, and with it the log is not over its greatest length. No more messages wait, with
 -- those that open transactions may have sent, than there are records.
 pub record IsKept (s : State) (failed : Bool) (owed reserved : ℕ) : Type 0 where
   pub incarnation : 1 ≤ s.incarnation
   pub fails : s.failed ≡ false → failed ≡ false
   pub owes : owed ≡ owed_by s.rows
-  pub room : sum_by room_one s.rows ≤ reserved
+  pub room : sum_by room_one s.rows ≡ reserved
   pub count : total_of s ≤ 2 ^ 50
   pub distinct : AreDistinct s.rows
   pub rows : (r : Row) → In r s.rows → IsRowKept s.sizes s.incarnation s.begins (total_of s) r

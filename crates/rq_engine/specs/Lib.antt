@@ -6,3 +6,4 @@ pub mod Kept
 pub mod Answers
 pub mod Sends
 pub mod Crash
+pub mod Applied

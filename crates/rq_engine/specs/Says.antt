@@ -7,6 +7,8 @@ use Rattle.rq_model.specs.Replay.{Number, Reply as Gave}
 use Rattle.rq_model.specs.Replay.Reply.{Gave_txn, Gave_sub, Gave_lsn, Gave_ready, Gave_sent, Gave_message, Gave_closed, Gave_undone, Gave_nothing, Gave_commit, Gave_receipt, Gave_none, Gave_written, Gave_content, Gave_refusal}
 use Rattle.rq_content.specs.Read.{group_of}
 use Rattle.rq_model.specs.declared.txn.Sub.{Sub}
+use Rattle.rq_disk.specs.Device.{Only}
+use Rattle.rq_log.specs.Spelled.{spelled}
 use Rattle.rq_disk.specs.declared.device.LogDevice as log_device
 use Rattle.rq_disk.specs.declared.device.PageDevice as page_device
 use Rattle.rq_pool.specs.declared.Written.{Written}
@@ -54,7 +56,7 @@ outcome_of outcome.Undone = Gave_undone
 
 -- a commit's number as the model's word
 abbrev pub number_of : CommitNo → Number
-number_of no = record { txn = no.txn; lsn = no.lsn }
+number_of number = record { txn = number.txn; lsn = number.lsn }
 
 abbrev pub receipt_of : Option Receipt → Option Number
 receipt_of None = None
@@ -107,15 +109,29 @@ abbrev pub IsCaused : State → Event → Reply → Type 0
 IsCaused s e (reply.Refused r) = HasCause (takes_memory e) (writes_out e) s r
 IsCaused s e _ = Unit {0}
 
--- after a call that writes to the log's device: a failure of it is counted where the reply is its refusal, and nowhere else
-abbrev pub HasWritten : {P L : Type 0} → log_device.Ghosts L → OpenStore P L → OpenStore P L → Reply → Type 0
-HasWritten g old new (reply.Refused r) = NotWritten g old new r
-HasWritten g old new _ = g.faults new.log ≡ g.faults old.log
+-- All records are with the log's device, and it has not failed.
+pub record HasHandedOver {P L : Type 0} (g : log_device.Ghosts L) (old new : OpenStore P L) : Type 0 where
+  pub faults : g.faults new.log ≡ g.faults old.log
+  pub reads : g.honest new.log → g.seen new.log ≡ spelled old.state.records
+
+-- And a crash leaves nothing else.
+pub record HasForced {P L : Type 0} (g : log_device.Ghosts L) (old new : OpenStore P L) : Type 0 where
+  pub handed : HasHandedOver g old new
+  pub durable : g.honest new.log → Only (spelled old.state.records) (g.may_leave new.log)
+
+-- after records were to be handed over, or forced: they are, or the reply is a refusal and says why they are not
+abbrev pub HandedSay : {P L : Type 0} → log_device.Ghosts L → OpenStore P L → OpenStore P L → Reply → Type 0
+HandedSay g old new (reply.Refused r) = NotWritten g old new r
+HandedSay g old new _ = HasHandedOver g old new
+
+abbrev pub ForcedSay : {P L : Type 0} → log_device.Ghosts L → OpenStore P L → OpenStore P L → Reply → Type 0
+ForcedSay g old new (reply.Refused r) = NotWritten g old new r
+ForcedSay g old new _ = HasForced g old new
 
 -- what an event and its reply say of the log's device: it stays as it is, but where records are handed over or forced
 abbrev pub LogSays : {P L : Type 0} → log_device.Ghosts L → OpenStore P L → OpenStore P L → Event → Reply → Type 0
-LogSays g old new event.HandOver r = HasWritten g old new r
-LogSays g old new event.Force r = HasWritten g old new r
+LogSays g old new event.HandOver r = HandedSay g old new r
+LogSays g old new event.Force r = ForcedSay g old new r
 LogSays g old new _ r = new.log ≡ old.log
 
 -- the reply to the start of a receive

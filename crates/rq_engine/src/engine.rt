@@ -1,5 +1,5 @@
 //! The engine's calls, but those of operations.
-ghost use Rattle.std.specs.Prelude.{◌≡◌, ◌+◌, ◌<◌, ◌≤◌, ◌^◌, ◌↔◌, ◌⊎◌, IfOk, IfErr, OnOk, OnErr, IfSome, ℕ, List, true, false, length, ◌∷◌, []};
+ghost use Rattle.std.specs.Prelude.{◌≡◌, ◌+◌, ◌<◌, ◌≤◌, ◌^◌, ◌↔◌, ◌⊎◌, IfOk, IfErr, OnOk, OnErr, IfSome, Err, ℕ, List, true, false, length, ◌∷◌, []};
 ghost use Rattle.rq_model.specs.History.Call.{Begin, Commit, Acknowledge, Hand_over, Force};
 ghost use Rattle.rq_model.specs.Replay.Reply.{Gave_txn, Gave_commit, Gave_lsn, Gave_nothing, Gave_receipt};
 ghost use Rattle.rq_model.specs.declared.record.Record.TheVariants.{Commit as Commit_record};
@@ -109,6 +109,7 @@ impl<P: PageDevice + Drop, L: LogDevice + Drop> Engine<P, L> {
         requires begun { 1 ≤ incarnation }
         requires running { log.failed ≡ false }
         requires count { length log.records ≤ 2 ^ 50 }
+        requires room { log.reserved ≡ 0 }
         requires durable { WasDurable L.LogDevice log }
         requires senders { length waiting ≡ sender_count pages.sizes }
         requires few { (g : ℕ) → waits waiting g ≤ length log.records }
@@ -191,7 +192,7 @@ impl<P: PageDevice, L: LogDevice> Engine<P, L> {
     pub fn begin(&mut self) -> Result<Txn, Refusal>
         ensures answered { Answers P.PageDevice L.LogDevice true false self.old Begin (λ t. Gave_txn t) result self.new }
         ensures sizes { self.new.state.sizes ≡ self.old.state.sizes }
-        ensures devices { (self.new.pages ≡ self.old.pages) × (self.new.log ≡ self.old.log) }
+        ensures devices { (self.new.pages ≡ self.old.pages) × (self.new.log ≡ self.old.log) × (self.new.changed ≡ self.old.changed) }
         ensures refused { OnErr result (self.new ≡ self.old) }
         ensures failed { (result ≡ Err Refusal.Failed) ↔ (self.old.state.failed ≡ true) }
     {
@@ -217,8 +218,9 @@ impl<P: PageDevice, L: LogDevice> Engine<P, L> {
         ensures answered { Answers P.PageDevice L.LogDevice true false self.old (Commit txn) (λ number. Gave_commit (number_of number)) result self.new }
         ensures sizes { self.new.state.sizes ≡ self.old.state.sizes }
         ensures number { IfOk result (λ number. number.txn ≡ txn) }
+        ensures failed { (result ≡ Err Refusal.Failed) ↔ (self.old.state.failed ≡ true) }
         ensures records { OnOk result (self.new.state.records ≡ Commit_record txn ∷ self.old.state.records) }
-        ensures devices { (self.new.pages ≡ self.old.pages) × (self.new.log ≡ self.old.log) }
+        ensures devices { (self.new.pages ≡ self.old.pages) × (self.new.log ≡ self.old.log) × (self.new.changed ≡ self.old.changed) }
         ensures refused { OnErr result (self.new ≡ self.old) }
     {
         self.check_open(txn)?;
@@ -243,7 +245,8 @@ impl<P: PageDevice, L: LogDevice> Engine<P, L> {
     pub fn acknowledged(&self, number: CommitNo) -> Result<Option<Receipt>, Refusal>
         ensures answered { Answers P.PageDevice L.LogDevice false false self.now (Acknowledge number.txn number.lsn) (λ given. Gave_receipt (receipt_of given)) result self.now }
         ensures receipt { IfOk result (λ given. IfSome given (λ r. r.number ≡ number)) }
-        ensures failed { IfErr result (λ r. (r ≡ Refusal.Failed) × (self.now.state.failed ≡ true)) }
+        ensures failed { (result ≡ Err Refusal.Failed) ↔ (self.now.state.failed ≡ true) }
+        ensures refusal { IfErr result (λ r. r ≡ Refusal.Failed) }
     {
         self.check_running()?;
         if number.txn().incarnation == self.incarnation && number.lsn() <= self.log.forced() {
@@ -265,7 +268,9 @@ impl<P: PageDevice, L: LogDevice> Engine<P, L> {
         ensures cause { OnOk result (L.faults self.new.log ≡ L.faults self.old.log) }
         ensures refusal { IfErr result (λ r. NotWritten L.LogDevice self.old self.new r) }
         ensures refused { self.old.state.failed ≡ true → self.new ≡ self.old }
-        ensures failed { OnErr result (self.new.state ≡ record self.old.state { failed = true }) }
+        ensures stops { OnErr result (self.new.state ≡ record self.old.state { failed = true }) }
+        ensures failed { (result ≡ Err Refusal.Failed) ↔ (self.old.state.failed ≡ true) }
+        ensures changed { self.new.changed ≡ self.old.changed }
         ensures pages { self.new.pages ≡ self.old.pages }
         ensures honest { L.honest self.new.log → L.honest self.old.log }
         ensures any_moment { L.honest self.new.log → LeavesOnly L.LogDevice self.old.log self.new.log (IsBeginning self.old.state.records self.old.state.forced) }
@@ -295,7 +300,9 @@ impl<P: PageDevice, L: LogDevice> Engine<P, L> {
         ensures cause { OnOk result (L.faults self.new.log ≡ L.faults self.old.log) }
         ensures refusal { IfErr result (λ r. NotWritten L.LogDevice self.old self.new r) }
         ensures refused { self.old.state.failed ≡ true → self.new ≡ self.old }
-        ensures failed { OnErr result (self.new.state ≡ record self.old.state { failed = true }) }
+        ensures stops { OnErr result (self.new.state ≡ record self.old.state { failed = true }) }
+        ensures failed { (result ≡ Err Refusal.Failed) ↔ (self.old.state.failed ≡ true) }
+        ensures changed { self.new.changed ≡ self.old.changed }
         ensures pages { self.new.pages ≡ self.old.pages }
         ensures honest { L.honest self.new.log → L.honest self.old.log }
         ensures any_moment { L.honest self.new.log → LeavesOnly L.LogDevice self.old.log self.new.log (IsBeginning self.old.state.records self.old.state.forced) }
@@ -327,6 +334,7 @@ impl<P: PageDevice, L: LogDevice> Engine<P, L> {
         ensures ready { IfOk result (λ n. IsReady self.now.state txn n) }
         ensures running { OnOk result (self.now.state.failed ≡ false) }
         ensures passes { OnOk result (NoneHolds (ready_tests (ledger_of self.now.state) txn false)) }
+        ensures failed { (result ≡ Err Refusal.Failed) ↔ (self.now.state.failed ≡ true) }
         ensures refused { IfErr result (λ r. IsUnready (ledger_of self.now.state) txn false r) }
     {
         self.check_running()?;

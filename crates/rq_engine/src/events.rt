@@ -1,5 +1,5 @@
 //! Events and their replies.
-ghost use Rattle.std.specs.Prelude.{◌≡◌, false, map, true};
+ghost use Rattle.std.specs.Prelude.{◌≡◌, ◌↔◌, false, map, true, Err};
 ghost use Rattle.rq_model.specs.History.Call.{Show};
 ghost use Rattle.rq_model.specs.Replay.Reply.{Gave_content};
 ghost use Rattle.rq_log.specs.Crash.{LeavesOnly};
@@ -8,7 +8,7 @@ ghost use Rattle.rq_store.specs.Sound.{IsSound};
 ghost use Rattle.rq_store.specs.Steps.{Steps};
 ghost use Rattle.rq_content.specs.Read.{group_of};
 ghost use Rattle.rq_engine.specs.Answers.{Answers};
-ghost use Rattle.rq_engine.specs.Crash.{AreFit, LeftCut};
+ghost use Rattle.rq_engine.specs.Applied.{Applied, ChangesSay, RefusalLeaves};
 ghost use Rattle.rq_engine.specs.Opened.{AreHonest};
 ghost use Rattle.rq_engine.specs.Says.{IsCaused, IsContent, LogSays, PagesSay, WritesSay, begun_reply, call_of, gave};
 
@@ -26,6 +26,7 @@ impl<P: PageDevice, L: LogDevice> Engine<P, L> {
     /// `Failed`, `Unfinished` where any operation is under way, `NoMemory`.
     pub fn content(&self) -> Result<Vec<GroupContent>, Refusal>
         ensures answered { Answers P.PageDevice L.LogDevice true false self.now Show (λ groups. Gave_content (map group_of groups.items)) result self.now }
+        ensures failed { (result ≡ Err Refusal.Failed) ↔ (self.now.state.failed ≡ true) }
     {
         self.check_running()?;
         if self.transactions.any_under_way() {
@@ -40,18 +41,10 @@ impl<P: PageDevice, L: LogDevice> Engine<P, L> {
     /// Makes the call that an event stands for. Whatever a crash leaves of both devices, while the call is made and after it, is a store
     /// that was left so: the first records of the log, with all that are forced, and pages that fit them.
     pub fn apply(&mut self, event: &Event) -> Reply
-        ensures answered { AreHonest P.PageDevice L.LogDevice self.new → IsSound self.old.state → Steps self.old.state (call_of event.now) (gave result) self.new.state }
-        ensures cause { AreHonest P.PageDevice L.LogDevice self.new → IsSound self.old.state → IsCaused self.old.state event.now result }
-        ensures sizes { self.new.state.sizes ≡ self.old.state.sizes }
+        ensures applied { Applied P.PageDevice L.LogDevice self.old event.now result self.new }
+        // a reply that memory is wanting for, or that shows the content, leaves all as it was
         ensures no_memory { result ≡ Reply.Refused Refusal.NoMemory → self.new ≡ self.old }
         ensures content { IsContent result → self.new ≡ self.old }
-        ensures writes { WritesSay self.old event.now result }
-        ensures pages { PagesSay P.PageDevice self.old self.new event.now result }
-        ensures log { LogSays L.LogDevice self.old self.new event.now result }
-        ensures honest { AreHonest P.PageDevice L.LogDevice self.new → AreHonest P.PageDevice L.LogDevice self.old }
-        ensures any_moment { L.honest self.new.log → LeavesOnly L.LogDevice self.old.log self.new.log (IsBeginning self.old.state.records self.old.state.forced) }
-        ensures fit { AreHonest P.PageDevice L.LogDevice self.new → IsSound self.old.state → AreFit P.PageDevice self.old → AreFit P.PageDevice self.new }
-        ensures crash { AreHonest P.PageDevice L.LogDevice self.new → IsSound self.old.state → AreFit P.PageDevice self.old → LeftCut P.PageDevice L.LogDevice self.old self.new }
     {
         self.keeps();
         self.call(event)
@@ -67,6 +60,9 @@ impl<P: PageDevice, L: LogDevice> Engine<P, L> {
         ensures writes { WritesSay self.old event.now result }
         ensures pages { PagesSay P.PageDevice self.old self.new event.now result }
         ensures log { LogSays L.LogDevice self.old self.new event.now result }
+        ensures failed { (result ≡ Reply.Refused Refusal.Failed) ↔ (self.old.state.failed ≡ true) }
+        ensures refused { RefusalLeaves self.old event.now result self.new }
+        ensures changes { ChangesSay self.old event.now result self.new }
         ensures honest { AreHonest P.PageDevice L.LogDevice self.new → AreHonest P.PageDevice L.LogDevice self.old }
         ensures any_moment { L.honest self.new.log → LeavesOnly L.LogDevice self.old.log self.new.log (IsBeginning self.old.state.records self.old.state.forced) }
     {

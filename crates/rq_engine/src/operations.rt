@@ -1,10 +1,11 @@
 //! The calls of an operation under way.
-ghost use Rattle.std.specs.Prelude.{◌≡◌, ◌+◌, ◌≤◌, IfOk, IfErr, OnOk, OnErr, MatchOption, Some, false, length, ◌∷◌};
+ghost use Rattle.std.specs.Prelude.{◌≡◌, ◌↔◌, Err, ◌+◌, ◌≤◌, IfOk, IfErr, OnOk, OnErr, MatchOption, Some, false, true, length, ◌∷◌};
 ghost use Rattle.std.specs.List.{slice_get};
 ghost use Rattle.rq_model.specs.History.Call.{Step, Finish};
 ghost use Rattle.rq_txn.specs.Rows.{change_row, row_finished, under_of};
 ghost use Rattle.rq_store.specs.Steps.{op_end, gave_done};
 ghost use Rattle.rq_engine.specs.Moves.{without_taken};
+ghost use Rattle.rq_engine.specs.Applied.{IsStamped, StepChanges};
 ghost use Rattle.rq_engine.specs.Answers.{Answers, IsGoing, NotGoing, Idle, CannotFinish, IsMade};
 ghost use Rattle.rq_engine.specs.Says.{progress_of, outcome_of};
 
@@ -33,6 +34,8 @@ impl<P: PageDevice, L: LogDevice> Engine<P, L> {
         ensures sizes { self.new.state.sizes ≡ self.old.state.sizes }
         ensures devices { (self.new.pages ≡ self.old.pages) × (self.new.log ≡ self.old.log) }
         ensures refused { OnErr result (self.new ≡ self.old) }
+        ensures failed { (result ≡ Err Refusal.Failed) ↔ (self.old.state.failed ≡ true) }
+        ensures changed { IfOk result (λ progress. StepChanges self.old progress self.new) }
     {
         match self.next_write(sub) {
             Ok(Some(write)) => Ok(Progress::Done(self.make(sub, &write))),
@@ -48,8 +51,9 @@ impl<P: PageDevice, L: LogDevice> Engine<P, L> {
     pub fn finish(&mut self, sub: Sub) -> Result<Outcome, Refusal>
         ensures answered { Answers P.PageDevice L.LogDevice false false self.old (Finish sub.txn sub.number) outcome_of result self.new }
         ensures sizes { self.new.state.sizes ≡ self.old.state.sizes }
-        ensures devices { (self.new.pages ≡ self.old.pages) × (self.new.log ≡ self.old.log) }
+        ensures devices { (self.new.pages ≡ self.old.pages) × (self.new.log ≡ self.old.log) × (self.new.changed ≡ self.old.changed) }
         ensures refused { OnErr result (self.new ≡ self.old) }
+        ensures failed { (result ≡ Err Refusal.Failed) ↔ (self.old.state.failed ≡ true) }
     {
         match self.ready_deed(sub) {
             Ok(deed) => {
@@ -106,6 +110,7 @@ impl<P: PageDevice, L: LogDevice> Engine<P, L> {
         requires next { IsGoing self.old.state sub (λ r u. slice_get u.writes u.made ≡ Some write.now) }
         ensures lsn { result ≡ length self.old.state.records + 1 }
         ensures made { IsMade self.old.state sub write.now self.new.state }
+        ensures changed { IsStamped self.old result self.new }
         ensures devices { (self.new.pages ≡ self.old.pages) × (self.new.log ≡ self.old.log) }
     {
         let record = Record::PageOp {
@@ -129,7 +134,7 @@ impl<P: PageDevice, L: LogDevice> Engine<P, L> {
         requires running { self.old.state.failed ≡ false }
         requires ready { IsGoing self.old.state sub (λ r u. (length u.writes ≤ u.made) × (u.deed ≡ deed.now)) }
         ensures ended { self.new.state ≡ record self.old.state { rows = change_row sub.txn (row_finished (record { lsn = length self.old.state.records + 1; deed = deed.now })) self.old.state.rows; records = op_end sub.txn sub.number deed.now ∷ self.old.state.records; waiting = without_taken deed.now self.old.state.waiting } }
-        ensures devices { (self.new.pages ≡ self.old.pages) × (self.new.log ≡ self.old.log) }
+        ensures devices { (self.new.pages ≡ self.old.pages) × (self.new.log ≡ self.old.log) × (self.new.changed ≡ self.old.changed) }
     {
         let record = Record::OpEnd {
             txn: sub.txn,

@@ -1,5 +1,5 @@
 //! Pages that go out.
-ghost use Rattle.std.specs.Prelude.{◌≡◌, true, false};
+ghost use Rattle.std.specs.Prelude.{◌≡◌, ◌≢◌, ◌↔◌, IfErr, true, false};
 ghost use Rattle.rq_model.specs.History.Call.{Write_page};
 ghost use Rattle.rq_model.specs.Replay.Reply.{Gave_written};
 ghost use Rattle.rq_pool.specs.Pooled.{image_at};
@@ -29,6 +29,8 @@ impl<P: PageDevice, L: LogDevice> Engine<P, L> {
         ensures device { DeviceAfter P.PageDevice page (image_at self.old.state.images page) self.old.pages self.new.pages result }
         ensures honest { P.honest self.new.pages → P.honest self.old.pages }
         ensures log { self.new.log ≡ self.old.log }
+        ensures refused { IfErr result (λ r. r ≢ Refusal.DiskWrite → self.new ≡ self.old) }
+        ensures failed { (result ≡ Err Refusal.Failed) ↔ (self.old.state.failed ≡ true) }
     {
         self.check_running()?;
         match self.pages.write_back(page, self.log.forced()) {

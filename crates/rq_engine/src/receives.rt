@@ -1,5 +1,5 @@
 //! Receives.
-ghost use Rattle.std.specs.Prelude.{◌≡◌, ◌⊎◌, ◌+◌, ◌<◌, ◌≤◌, IfOk, IfErr, IfSome, IfNone, None, OnOk, OnErr, ℕ, Some, true, false};
+ghost use Rattle.std.specs.Prelude.{◌≡◌, ◌≢◌, ◌↔◌, Err, ◌⊎◌, ◌+◌, ◌<◌, ◌≤◌, IfOk, IfErr, IfSome, IfNone, None, OnOk, OnErr, ℕ, Some, true, false};
 ghost use Rattle.rq_model.specs.History.{Call};
 ghost use Rattle.rq_model.specs.History.Call.{Start_receive, Start_receive_from};
 ghost use Rattle.rq_model.specs.Legal.{NoneHolds};
@@ -41,8 +41,9 @@ impl<P: PageDevice, L: LogDevice> Engine<P, L> {
         ensures sub { IfOk result (λ begun. IfSome begun (λ sub. sub.txn ≡ txn)) }
         ensures none { IfOk result (λ begun. IfNone begun (self.new ≡ self.old)) }
         ensures latched { IfOk result (λ begun. IfSome begun (λ _. any_under self.old.state.rows ≡ false)) }
-        ensures devices { (self.new.pages ≡ self.old.pages) × (self.new.log ≡ self.old.log) }
+        ensures devices { (self.new.pages ≡ self.old.pages) × (self.new.log ≡ self.old.log) × (self.new.changed ≡ self.old.changed) }
         ensures refused { OnErr result (self.new ≡ self.old) }
+        ensures failed { (result ≡ Err Refusal.Failed) ↔ (self.old.state.failed ≡ true) }
     {
         let number = self.check_open(txn)?;
         let Some(sender) = self.waiting.first_for(&self.ends, txn) else {
@@ -65,8 +66,9 @@ impl<P: PageDevice, L: LogDevice> Engine<P, L> {
         ensures sub { IfOk result (λ begun. IfSome begun (λ sub. sub.txn ≡ txn)) }
         ensures none { IfOk result (λ begun. IfNone begun (self.new ≡ self.old)) }
         ensures latched { IfOk result (λ begun. IfSome begun (λ _. any_under self.old.state.rows ≡ false)) }
-        ensures devices { (self.new.pages ≡ self.old.pages) × (self.new.log ≡ self.old.log) }
+        ensures devices { (self.new.pages ≡ self.old.pages) × (self.new.log ≡ self.old.log) × (self.new.changed ≡ self.old.changed) }
         ensures refused { OnErr result (self.new ≡ self.old) }
+        ensures failed { (result ≡ Err Refusal.Failed) ↔ (self.old.state.failed ≡ true) }
     {
         let number = self.check_open(txn)?;
         if sender >= self.pages.layout().senders() {
@@ -95,8 +97,9 @@ impl<P: PageDevice, L: LogDevice> Engine<P, L> {
         ensures sizes { self.new.state.sizes ≡ self.old.state.sizes }
         ensures sub { IfOk result (λ sub. sub.txn ≡ txn) }
         ensures latched { OnOk result (any_under self.old.state.rows ≡ false) }
-        ensures devices { (self.new.pages ≡ self.old.pages) × (self.new.log ≡ self.old.log) }
+        ensures devices { (self.new.pages ≡ self.old.pages) × (self.new.log ≡ self.old.log) × (self.new.changed ≡ self.old.changed) }
         ensures refused { OnErr result (self.new ≡ self.old) }
+        ensures plain { IfErr result (λ r. r ≢ Refusal.Failed) }
     {
         if self.is_log_full(CHAIN_OPERATION) {
             return Err(Refusal::LogFull);
@@ -113,6 +116,7 @@ impl<P: PageDevice, L: LogDevice> Engine<P, L> {
     fn plan_take(&self, sender: u32) -> Result<(Plan, usize), Refusal>
         requires { sender < sender_count self.now.state.sizes }
         ensures plan { IfOk result (λ planned. (number : ℕ) → IsTakePlan self.now.state.sizes (slots_in self.now.state.sizes self.now.state.images) (under_plan number planned.0) sender) }
+        ensures plain { IfErr result (λ r. r ≢ Refusal.Failed) }
         ensures fits { IfOk result (λ planned. FitsPlan self.now.state.sizes planned.0 planned.1) }
         ensures refused { IsSound self.now.state → 1 ≤ waits self.now.state.waiting sender → any_under self.now.state.rows ≡ false → IfErr result (λ r. r ≡ Refusal.NoMemory) }
     {

@@ -1,5 +1,5 @@
 //! Sends.
-ghost use Rattle.std.specs.Prelude.{◌≡◌, ◌+◌, ◌<◌, ◌≤◌, ◌^◌, IfOk, IfErr, IfSome, IfNone, None, OnOk, OnErr, ℕ, Some, true, false, length, ◌∷◌};
+ghost use Rattle.std.specs.Prelude.{◌≡◌, ◌≢◌, ◌↔◌, Err, ◌+◌, ◌<◌, ◌≤◌, ◌^◌, IfOk, IfErr, IfSome, IfNone, None, OnOk, OnErr, ℕ, Some, true, false, length, ◌∷◌};
 ghost use Rattle.rq_model.specs.History.Call.{Start_send};
 ghost use Rattle.rq_model.specs.Replay.Reply.{Gave_sub};
 ghost use Rattle.rq_model.specs.Legal.{NoneHolds, Passes, log_full};
@@ -40,21 +40,27 @@ impl<P: PageDevice, L: LogDevice> Engine<P, L> {
         ensures sizes { self.new.state.sizes ≡ self.old.state.sizes }
         ensures sub { IfOk result (λ sub. sub.txn ≡ txn) }
         ensures latched { OnOk result (any_under self.old.state.rows ≡ false) }
-        ensures devices { (self.new.pages ≡ self.old.pages) × (self.new.log ≡ self.old.log) }
+        ensures devices { (self.new.pages ≡ self.old.pages) × (self.new.log ≡ self.old.log) × (self.new.changed ≡ self.old.changed) }
         ensures refused { OnErr result (self.new ≡ self.old) }
+        ensures failed { (result ≡ Err Refusal.Failed) ↔ (self.old.state.failed ≡ true) }
     {
         let number = self.check_open(txn)?;
         let body = self.check_send(txn, sender, tag, body)?;
         let (plan, room) = self.plan_send(sender, tag, body)?;
-        self.start(txn, number, End::Sending(sender), plan, room)?;
-        self.cells_in_use += 1;
-        Ok(Sub { txn, number })
+        match self.start(txn, number, End::Sending(sender), plan, room) {
+            Ok(()) => {
+                self.cells_in_use += 1;
+                Ok(Sub { txn, number })
+            }
+            Err(refusal) => Err(refusal),
+        }
     }
 
     // The tests of a send behind those of its transaction.
     fn check_send(&self, txn: Txn, sender: u32, tag: u64, body: &[u8]) -> Result<Body, Refusal>
         ensures refused { NoneHolds (ready_tests (ledger_of self.now.state) txn false) → IfErr result (λ r. Refuses true false self.now.state (Start_send txn (message_of sender tag body.now)) r) }
         ensures passes { IsSound self.now.state → NoneHolds (ready_tests (ledger_of self.now.state) txn false) → OnOk result (Passes (size_of self.now.state.sizes) (ledger_of self.now.state) (Start_send txn (message_of sender tag body.now))) }
+        ensures plain { IfErr result (λ r. r ≢ Refusal.Failed) }
         ensures body { IfOk result (λ b. b ≡ body.now) }
         ensures sender { OnOk result (sender < sender_count self.now.state.sizes) }
         ensures free { OnOk result (is_free_for txn sender self.now.state.ends.sending ≡ true) }
@@ -91,6 +97,7 @@ impl<P: PageDevice, L: LogDevice> Engine<P, L> {
     fn plan_send(&self, sender: u32, tag: u64, body: Body) -> Result<(Plan, usize), Refusal>
         requires { sender < sender_count self.now.state.sizes }
         ensures plan { IfOk result (λ planned. (number : ℕ) → IsSendPlan self.now.state.sizes (slots_in self.now.state.sizes self.now.state.images) (under_plan number planned.0) sender tag body) }
+        ensures plain { IfErr result (λ r. r ≢ Refusal.Failed) }
         ensures fits { IfOk result (λ planned. FitsPlan self.now.state.sizes planned.0 planned.1) }
         ensures refused { IsSound self.now.state → self.now.state.cells_in_use < cell_count self.now.state.sizes → any_under self.now.state.rows ≡ false → IfErr result (λ r. r ≡ Refusal.NoMemory) }
     {

@@ -69,7 +69,7 @@ impl<P: PageDevice, L: LogDevice> Engine<P, L> {
         requires fits { FitsPlan self.old.state.sizes plan room }
         requires log { log_full (ledger_of self.old.state) 4 ≡ false }
         ensures started { OnOk result (self.new.state ≡ record self.old.state { rows = change_row txn (row_started (under_plan number plan)) self.old.state.rows; ends = with_end txn end self.old.state.ends }) }
-        ensures devices { (self.new.pages ≡ self.old.pages) × (self.new.log ≡ self.old.log) }
+        ensures devices { (self.new.pages ≡ self.old.pages) × (self.new.log ≡ self.old.log) × (self.new.changed ≡ self.old.changed) }
         ensures refusal { IfErr result (λ r. r ≡ Refusal.NoMemory) }
         ensures refused { OnErr result (self.new ≡ self.old) }
     {

@@ -1,165 +1,50 @@
--- Worked histories on the definitions: that they are legal, and what they come to.
-use Rattle.std.proofs.Common.{◌+◌, ◌-◌, ◌*◌, ◌^◌, rules, ◌≡◌, ℕ, zero, suc, refl, List, [], ◌∷◌, ◌++◌, Some, None, Bool, true, false, map, replicate}
+-- Worked histories: that they are legal, and what they come to; and that others are not.
+use Rattle.std.proofs.Common.{◌+◌, ◌-◌, ◌*◌, ◌^◌, rules, ◌≡◌, ℕ, zero, suc, refl, List, [], ◌∷◌, ◌++◌, Some, None, Bool, true, false, map, replicate, arith}
 use Rattle.rq_model.specs.declared.txn.Txn.{Txn}
 use Rattle.rq_model.specs.declared.message.Message.{Message}
-use Rattle.rq_model.specs.declared.refusal.Refusal.TheVariants.{Full, SenderBusy, ReceiverBusy, TooLong, UnknownSender, Closed, Unfinished, UnknownOperation, UnknownTransaction, NotOpen}
+use Rattle.rq_model.specs.declared.refusal.Refusal.TheVariants.{DiskWrite, Failed, NoMemory, Full, SenderBusy, ReceiverBusy, TooLong, UnknownSender, Closed, Unfinished, UnknownOperation, UnknownTransaction, NotOpen}
 use Rattle.rq_model.specs.Words.Op.{Send, Take, End}
 use Rattle.rq_model.specs.History.{Entry, Group, rest}
-use Rattle.rq_model.specs.History.Call.{Start_send, Start_receive_from, Start_close, Commit, Finish, Step, Start_abort, End_abort}
+use Rattle.rq_model.specs.History.Call.{Begin, Force, Start_send, Start_receive_from, Start_close, Commit, Finish, Step, Start_abort, End_abort}
 use Rattle.rq_model.specs.History.Job.{Sending, Taking, Ending, Undoing}
 use Rattle.rq_model.specs.History.Entry.{Begun, Started, None_free, None_from, Stepped, Ready, Did, Undid, Committed, Acknowledged, Aborting, None_left, Aborted, Forced, Refused, Crash, Restarted, Shown, Told}
 use Rattle.rq_model.specs.Ledger.{ledger, group_in}
 use Rattle.rq_model.specs.Legal.{Size, Legal, IsLegal, tests, first_of, below}
+use Rattle.rq_model.specs.Worked.{txn, small, opened, message, letter, sent, got, sent_behind, got_before, closed, hello, one_send, unseen, long, bounds, both_open, both_undone, a_waits, a_gone, sent_and_got, all_lost, fifteen, filled, closes, begun_five, held_ends, undoing, committed_once, failed_force, AreWorked}
 
-abbrev txn : ℕ → ℕ → Txn
-txn i c = record { incarnation = i; count = c }
-
-abbrev small : Size
-small = record { senders = 15; cells = 15 }
-
-abbrev opened : List Entry
-opened = Restarted 1 1 ∷ []
-
-abbrev message : ℕ → ℕ → List ℕ → Message
-message s tag body = record { sender = s; tag = tag; body = body }
-
--- a message of one byte for sender 0
-abbrev letter : ℕ → ℕ → Message
-letter tag b = message 0 tag (b ∷ [])
-
--- the entries of a send to an empty chain, and of a receive of its only message; the last record made has this LSN
-abbrev sent : Txn → ℕ → Message → ℕ → List Entry
-sent t n m lsn = Did t n (Send m) ∷ Stepped t n (lsn + 1) ∷ Stepped t n lsn ∷ Started t n (Sending m) ∷ []
-
-abbrev got : Txn → ℕ → Message → ℕ → List Entry
-got t n m lsn = Did t n (Take m) ∷ Stepped t n (lsn + 1) ∷ Stepped t n lsn ∷ Started t n (Taking m.sender) ∷ []
-
--- to a chain that is not empty, and from one that holds more
-abbrev sent_behind : Txn → ℕ → Message → ℕ → List Entry
-sent_behind t n m lsn = Did t n (Send m) ∷ Stepped t n (lsn + 2) ∷ Stepped t n (lsn + 1) ∷ Stepped t n lsn ∷ Started t n (Sending m) ∷ []
-
-abbrev got_before : Txn → ℕ → Message → ℕ → List Entry
-got_before t n m lsn = Did t n (Take m) ∷ Stepped t n (lsn + 2) ∷ Stepped t n (lsn + 1) ∷ Stepped t n lsn ∷ Started t n (Taking m.sender) ∷ []
-
-abbrev closed : Txn → ℕ → ℕ → ℕ → List Entry
-closed t n s lsn = Did t n (End s) ∷ Stepped t n lsn ∷ Started t n (Ending s) ∷ []
-
--- one send, committed, acknowledged only behind the force, and there after a crash
-abbrev hello : Message
-hello = message 0 7 (104 ∷ 101 ∷ 108 ∷ 108 ∷ 111 ∷ [])
-
-abbrev one_send : List Entry
-one_send = got (txn 2 1) 1 hello 7 ++ (Begun (txn 2 1) ∷ Restarted 2 6 ∷ Crash 1 5 ∷ Acknowledged (txn 1 1) 5 true ∷ Forced 5 ∷ Acknowledged (txn 1 1) 5 false ∷ Committed (txn 1 1) 5 ∷ (sent (txn 1 1) 1 hello 2 ++ (Begun (txn 1 1) ∷ opened)))
-
-one_send_legal : IsLegal small one_send
-one_send_legal = search rules
-
--- an uncommitted send is not received, not even by its own transaction
-abbrev unseen : List Entry
-unseen = got (txn 1 2) 1 (message 0 3 []) 6 ++ (Begun (txn 1 2) ∷ Committed (txn 1 1) 5 ∷ None_from (txn 1 1) 0 ∷ (sent (txn 1 1) 1 (message 0 3 []) 2 ++ (None_from (txn 1 1) 0 ∷ Begun (txn 1 1) ∷ opened)))
-
-unseen_legal : IsLegal small unseen
-unseen_legal = search rules
-
--- the longest body, and what is refused
-abbrev long : ℕ → ℕ → Message
-long s n = message s 1 (replicate n 120)
-
-abbrev bounds : List Entry
-bounds = Started (txn 1 1) 2 (Sending (message 0 18446744073709551615 [])) ∷ Refused (Start_send (txn 1 1) (long 15 217)) UnknownSender ∷ Refused (Start_send (txn 1 1) (message 15 1 (120 ∷ []))) UnknownSender ∷ Refused (Start_send (txn 1 1) (long 0 217)) TooLong ∷ (sent (txn 1 1) 1 (long 0 216) 2 ++ (Begun (txn 1 1) ∷ opened))
-
-bounds_legal : IsLegal small bounds
-bounds_legal = search rules
-
--- b is sent and not committed, a received and not committed; both are undone
-abbrev both_open : List Entry
-both_open = got_before (txn 1 3) 1 (letter 1 97) 10 ++ (Begun (txn 1 3) ∷ (sent_behind (txn 1 2) 1 (letter 2 98) 6 ++ (Begun (txn 1 2) ∷ Committed (txn 1 1) 5 ∷ (sent (txn 1 1) 1 (letter 1 97) 2 ++ (Begun (txn 1 1) ∷ opened)))))
-
-abbrev both_undone : List Entry
-both_undone = Aborted (txn 1 3) ∷ None_left (txn 1 3) ∷ Undid (txn 1 3) 2 ∷ Stepped (txn 1 3) 2 19 ∷ Stepped (txn 1 3) 2 18 ∷ Started (txn 1 3) 2 Undoing ∷ Aborting (txn 1 3)
-    ∷ Aborted (txn 1 2) ∷ None_left (txn 1 2) ∷ Undid (txn 1 2) 2 ∷ Stepped (txn 1 2) 2 15 ∷ Stepped (txn 1 2) 2 14 ∷ Started (txn 1 2) 2 Undoing ∷ Aborting (txn 1 2) ∷ both_open
-
-both_undone_legal : IsLegal small both_undone
-both_undone_legal = search rules
-
-abbrev a_waits : Group
-a_waits = record { sent = 1; last_tag = 1; received = 0; closed = false; rest = letter 1 97 ∷ [] }
-
-abbrev a_gone : Group
-a_gone = record { sent = 1; last_tag = 1; received = 1; closed = false; rest = [] }
-
-both_undone_content : group_in (ledger both_undone).committed 0 ≡ a_waits
-both_undone_content = refl
-
--- while it is open another may not send for 0
-open_busy : first_of (tests small (ledger (Begun (txn 1 4) ∷ both_open)) (Start_send (txn 1 4) (letter 3 99))) ≡ Some SenderBusy
-open_busy = refl
-
-open_crashed : group_in (ledger (Restarted 2 24 ∷ Crash 1 13 ∷ both_open)).committed 0 ≡ a_waits
-open_crashed = refl
-
-open_committed : group_in (ledger (Restarted 2 19 ∷ Crash 2 14 ∷ Committed (txn 1 3) 14 ∷ both_open)).committed 0 ≡ a_gone
-open_committed = refl
-
--- a receive committed and not forced is gone with the crash, and so is the send
-abbrev sent_and_got : List Entry
-sent_and_got = Committed (txn 1 2) 9 ∷ (got (txn 1 2) 1 (letter 1 97) 6 ++ (Begun (txn 1 2) ∷ Committed (txn 1 1) 5 ∷ (sent (txn 1 1) 1 (letter 1 97) 2 ++ (Begun (txn 1 1) ∷ opened))))
-
-nothing_left : rest sent_and_got 0 ≡ []
-nothing_left = refl
-
-abbrev all_lost : List Entry
-all_lost = Restarted 2 2 ∷ Crash 0 1 ∷ sent_and_got
-
-all_lost_content : group_in (ledger all_lost).committed 0 ≡ record { sent = 0; last_tag = 0; received = 0; closed = false; rest = [] }
-all_lost_content = refl
-
-all_lost_legal : IsLegal small (Shown (map (group_in (ledger all_lost).committed) (below 15)) ∷ all_lost)
-all_lost_legal = search rules
-
-forced_content : group_in (ledger (Restarted 2 10 ∷ Crash 2 9 ∷ Forced 9 ∷ sent_and_got)).committed 0 ≡ a_gone
-forced_content = refl
-
-cut_content : group_in (ledger (Restarted 2 6 ∷ Crash 1 5 ∷ sent_and_got)).committed 0 ≡ a_waits
-cut_content = refl
-
--- fifteen messages fill the store, and a message taken keeps its cell until its taker commits
-abbrev fifteen : ℕ → List Entry
-fifteen zero = sent (txn 1 1) 1 (letter 1 97) 2 ++ (Begun (txn 1 1) ∷ opened)
-fifteen (suc n) = sent_behind (txn 1 1) (suc (suc n)) (letter (suc (suc n)) (98 + n)) (5 + 4 * n) ++ fifteen n
-
-abbrev filled : List Entry
-filled = Started (txn 1 2) 1 (Sending (letter 16 112)) ∷ Committed (txn 1 3) 66 ∷ Refused (Start_send (txn 1 2) (letter 16 112)) Full ∷ (got_before (txn 1 3) 1 (letter 1 97) 62 ++ (Begun (txn 1 3) ∷ Refused (Start_send (txn 1 2) (letter 16 112)) Full ∷ Begun (txn 1 2) ∷ Committed (txn 1 1) 61 ∷ fifteen 14))
-
-filled_legal : IsLegal small filled
-filled_legal = search rules
-
--- a close that is undone, and one that is committed
-abbrev closes : List Entry
-closes = Committed (txn 1 3) 16 ∷ (got (txn 1 3) 1 (letter 1 97) 13 ++ (Refused (Start_send (txn 1 3) (letter 2 98)) Closed ∷ Begun (txn 1 3) ∷ Committed (txn 1 2) 12 ∷ Refused (Start_send (txn 1 2) (letter 2 98)) Closed
-    ∷ (closed (txn 1 2) 2 0 10 ++ (sent (txn 1 2) 1 (letter 1 97) 7 ++ (Begun (txn 1 2) ∷ Aborted (txn 1 1) ∷ Undid (txn 1 1) 2 ∷ Stepped (txn 1 1) 2 4 ∷ Started (txn 1 1) 2 Undoing ∷ Aborting (txn 1 1) ∷ (closed (txn 1 1) 1 0 2 ++ (Begun (txn 1 1) ∷ opened)))))))
-
-closes_legal : IsLegal small closes
-closes_legal = search rules
-
-closes_content : group_in (ledger closes).committed 0 ≡ record { sent = 1; last_tag = 1; received = 1; closed = true; rest = [] }
-closes_content = refl
-
--- ends are held until their transaction ends; an operation under way keeps its transaction from its commit
-abbrev begun_five : List Entry
-begun_five = Begun (txn 1 5) ∷ Begun (txn 1 4) ∷ Begun (txn 1 3) ∷ Begun (txn 1 2) ∷ Begun (txn 1 1) ∷ opened
-
-abbrev held_ends : List Entry
-held_ends = Refused (Commit (txn 1 3)) UnknownTransaction ∷ Restarted 2 2 ∷ Crash 0 1 ∷ Refused (Step (txn 1 5) 9) UnknownOperation ∷ Refused (Finish (txn 1 5) 1) Unfinished ∷ Refused (Commit (txn 1 5)) Unfinished ∷ Started (txn 1 5) 1 (Sending (message 2 1 (100 ∷ [])))
-    ∷ (got (txn 1 4) 1 (message 1 5 (99 ∷ [])) 13 ++ (Refused (Start_receive_from (txn 1 4) 0) ReceiverBusy ∷ (got (txn 1 3) 1 (letter 1 97) 10 ++ (Committed (txn 1 2) 9 ∷ Committed (txn 1 1) 8
-    ∷ (sent (txn 1 2) 1 (message 1 5 (99 ∷ [])) 5 ++ (Refused (Start_send (txn 1 2) (letter 1 98)) SenderBusy ∷ (sent (txn 1 1) 1 (letter 1 97) 2 ++ begun_five)))))))
-
-held_ends_legal : IsLegal small held_ends
-held_ends_legal = search rules
-
--- an aborting transaction starts nothing, and ends once all is undone
-abbrev undoing : List Entry
-undoing = Aborted (txn 1 1) ∷ None_left (txn 1 1) ∷ Undid (txn 1 1) 2 ∷ Ready (txn 1 1) 2 ∷ Stepped (txn 1 1) 2 6 ∷ Stepped (txn 1 1) 2 5 ∷ Started (txn 1 1) 2 Undoing ∷ Refused (End_abort (txn 1 1)) Unfinished ∷ Refused (Start_send (txn 1 1) (letter 2 98)) NotOpen ∷ Aborting (txn 1 1) ∷ (sent (txn 1 1) 1 (letter 1 97) 2 ++ (Begun (txn 1 1) ∷ opened))
-
-undoing_legal : IsLegal small undoing
-undoing_legal = search rules
+pub worked : AreWorked
+worked = record {
+  one_send_legal = search rules;
+  unseen_legal = search rules;
+  bounds_legal = search rules;
+  both_undone_legal = search rules;
+  both_undone_content = refl;
+  open_busy = refl;
+  open_crashed = refl;
+  open_committed = refl;
+  nothing_left = refl;
+  all_lost_content = refl;
+  all_lost_legal = search rules;
+  forced_content = refl;
+  cut_content = refl;
+  filled_legal = search rules;
+  closes_legal = search rules;
+  closes_content = refl;
+  held_ends_legal = search rules;
+  undoing_legal = search rules;
+  crash_twice = search rules;
+  crash_after_failure = search rules;
+  keeps_lost_commit = λ a. (let e = a.0.exact in cc e);
+  loses_kept_commit = λ a. (let e = a.0.exact in cc e);
+  loses_forced_commit = λ a. (let e = a.0.forced in omega (arith, e));
+  leaves_more_than_there_was = λ a. (let e = a.0.up_to in omega (arith, e));
+  takes_what_was_kept = λ a. (let e = a.0.forced in omega (arith, e));
+  opened_twice = λ a. (let e = a.0.shut in cc e);
+  opened_without_crash = λ a. (let e = a.0.shut in cc e);
+  opened_in_the_same = λ a. (let e = a.0.later in omega (arith, e));
+  opened_without_a_record = λ a. (let e = a.0.more in omega (arith, e));
+  answered_after_failure = λ a. (let e = a.0.0.0 in cc e);
+  out_of_memory_after_failure = λ a. (let e = a.0 in cc e);
+  acknowledged_too_early = λ a. (let e = a.0.1 in cc e);
+  never_acknowledged = λ a. (let e = a.0.1 in cc e);
+}

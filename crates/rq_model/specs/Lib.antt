@@ -11,3 +11,4 @@ pub mod Reference
 pub mod Counts
 pub mod Incarnations
 pub mod Promises
+pub mod Worked

@@ -10,6 +10,7 @@ ghost use Rattle.rq_model.specs.Ledger.{ledger, group_in};
 ghost use Rattle.rq_model.specs.History.{Entry};
 ghost use Rattle.rq_model.specs.Promises.{AcknowledgedStay, CrashGoesOn, FifoThroughout, NothingBehindClose, ReplayGoesOn, RestartGoesOn};
 ghost use Rattle.rq_model.specs.Legal.{Size, IsLegal};
+ghost use Rattle.rq_model.specs.Worked.{AreWorked};
 
 /// Over every history with legal replies, at every place of it: what committed transactions received from a sender is a
 /// beginning of what they sent for it, in order, each once; nothing that is committed was sent after a committed close.
@@ -61,4 +62,9 @@ pub fn commit_adds_its_own()
 /// The content of what a cut leaves of a log is that of the beginning of its commit list.
 pub fn cut_leaves_a_beginning()
     ensures { (s : ℕ) (newer older : List Record) → KeepsRules (newer ++ older) → content older s ≡ group_in (take (left_by older) (committed_of (newer ++ older))) s }
+{}
+
+/// Worked histories, each legal or refused as it should be: each rule has one that meets it and one that it refuses.
+pub fn histories_are_judged()
+    ensures { AreWorked }
 {}

@@ -345,7 +345,7 @@ fn agree_on_group(group: &GroupContent, listed: &ListedGroup) -> bool {
 // Lists of the store's size, opened.
 fn listed(alloc: Global, layout: &Layout, report: Report) -> Result<Reference, Trouble> {
     let mut lists = Reference::new(alloc, layout.senders(), u64::from(layout.cell_slots()));
-    if report.incarnation == 0 {
+    if report.incarnation == 0 || report.records == 0 {
         return Err("an incarnation that is no number");
     }
     lists.restart(report.incarnation, report.records);

@@ -1,14 +1,10 @@
 //! The kept engine: each call leaves one entry, and answers a stamp that says the same.
-ghost use Rattle.std.specs.Prelude.{◌≡◌, ◌≢◌, ◌<◌, [], ◌∷◌, ◌++◌, ◌↔◌, IfOk, OnOk, OnErr, IsTrue, map, vec_len, vec_capacity};
-ghost use Rattle.rq_store.specs.Sound.{IsSound};
-ghost use Rattle.rq_store.specs.Steps.{Steps};
+ghost use Rattle.std.specs.Prelude.{◌≡◌, ◌≢◌, ◌+◌, ◌<◌, [], ◌∷◌, ◌++◌, ◌↔◌, IfOk, OnOk, OnErr, IsTrue, map, length, vec_len, vec_capacity};
 ghost use Rattle.rq_content.specs.Read.{group_of};
-ghost use Rattle.rq_log.specs.Crash.{LeavesOnly};
-ghost use Rattle.rq_log.specs.Spelled.{IsBeginning};
-ghost use Rattle.rq_engine.specs.Says.{call_of, gave, IsCaused, IsContent, LogSays, PagesSay, WritesSay};
-ghost use Rattle.rq_engine.specs.Crash.{AreFit, LeftCut};
-ghost use Rattle.rq_engine.specs.Opened.{AreHonest};
+ghost use Rattle.rq_engine.specs.Applied.{Applied};
+ghost use Rattle.rq_engine.specs.Says.{call_of, gave, IsContent};
 
+use crate::count::{Count, same_and_more, zero};
 use rq_content::GroupContent;
 use rq_disk::{LogDevice, PageDevice};
 use rq_engine::engine::Engine;
@@ -16,14 +12,38 @@ use rq_engine::event::{Event, Reply};
 use rq_model::refusal::Refusal;
 use std::alloc::{AllocError, Global};
 use std::marker::Model;
+use std::mem;
 use std::snapshot::Snapshot;
 
 /// Who asked what, and the answer, as the audit keeps it.
 #[derive(Debug, Drop)]
 pub struct AuditEntry {
-    pub pass: u64,
-    pub event: Event,
-    pub reply: Reply,
+    pass: u64,
+    event: Event,
+    reply: Reply,
+}
+
+impl AuditEntry {
+    /// The number of the pass that asked.
+    pub fn pass(&self) -> u64
+        ensures { result ≡ self.now.pass }
+    {
+        self.pass
+    }
+
+    /// What was asked.
+    pub fn event(&self) -> &Event
+        ensures { result.now ≡ self.now.event }
+    {
+        &self.event
+    }
+
+    /// The answer.
+    pub fn reply(&self) -> &Reply
+        ensures { result.now ≡ self.now.reply }
+    {
+        &self.reply
+    }
 }
 
 /// Who asked what, and the answer, as the asker is given it. Only `Kept::step` makes one, and it is never
@@ -71,7 +91,8 @@ impl Stamped {
 }
 
 /// An engine, and an entry for each of its calls since the audit was last taken. Contracts see the engine, the
-/// entries, and the engine as it was then: from that one, the entries replay to the engine.
+/// entries, and the engine as it was then, with the number of entries taken before: from that one, the entries
+/// replay to the engine.
 #[derive(Drop)]
 pub struct Kept<P: PageDevice, L: LogDevice> {
     alloc: Global,
@@ -79,6 +100,8 @@ pub struct Kept<P: PageDevice, L: LogDevice> {
     audit: Vec<AuditEntry>,
     // the engine as it was when the audit was last taken
     base: Snapshot<Engine<P, L>>,
+    // how many entries were taken before
+    taken: Snapshot<Count>,
 }
 
 impl<P: PageDevice, L: LogDevice> Model for Kept<P, L> {
@@ -90,6 +113,7 @@ impl<P: PageDevice, L: LogDevice> Model for Kept<P, L> {
       engine = k.engine;
       audit = entries k.audit.items;
       base = k.base.value;
+      taken = k.taken.value.0;
     } };
 
     ghost invariant = { λ k. Follows P.PageDevice L.LogDevice k.base.value (entries k.audit.items) k.engine };
@@ -103,6 +127,7 @@ impl<P: PageDevice + Drop, L: LogDevice + Drop> Kept<P, L> {
         ensures engine { result.engine ≡ engine }
         ensures audit { result.audit ≡ [] }
         ensures base { result.base ≡ engine }
+        ensures taken { result.taken ≡ 0 }
     {
         let base = Snapshot::of(&engine);
         Kept {
@@ -110,6 +135,7 @@ impl<P: PageDevice + Drop, L: LogDevice + Drop> Kept<P, L> {
             engine,
             audit: Vec::new(alloc),
             base,
+            taken: zero(),
         }
     }
 
@@ -119,19 +145,10 @@ impl<P: PageDevice + Drop, L: LogDevice + Drop> Kept<P, L> {
         ensures pass { result.pass ≡ pass }
         ensures event { result.event ≡ event }
         ensures entry { result.reply ≢ Reply.Refused Refusal.NoMemory → OneMore self.old.audit self.new.audit (noted pass event result.reply) }
-        ensures answered { result.reply ≢ Reply.Refused Refusal.NoMemory → AreHonest P.PageDevice L.LogDevice self.new.engine → IsSound self.old.engine.state → Steps self.old.engine.state (call_of event) (gave result.reply) self.new.engine.state }
-        ensures cause { result.reply ≢ Reply.Refused Refusal.NoMemory → AreHonest P.PageDevice L.LogDevice self.new.engine → IsSound self.old.engine.state → IsCaused self.old.engine.state event result.reply }
+        ensures applied { result.reply ≢ Reply.Refused Refusal.NoMemory → Applied P.PageDevice L.LogDevice self.old.engine event result.reply self.new.engine }
         ensures no_change { result.reply ≡ Reply.Refused Refusal.NoMemory → self.new ≡ self.old }
-        ensures base { self.new.base ≡ self.old.base }
-        ensures writes { result.reply ≢ Reply.Refused Refusal.NoMemory → WritesSay self.old.engine event result.reply }
-        ensures pages { PagesSay P.PageDevice self.old.engine self.new.engine event result.reply }
-        ensures log { result.reply ≢ Reply.Refused Refusal.NoMemory → LogSays L.LogDevice self.old.engine self.new.engine event result.reply }
-        ensures honest { AreHonest P.PageDevice L.LogDevice self.new.engine → AreHonest P.PageDevice L.LogDevice self.old.engine }
-        ensures any_moment { L.honest self.new.engine.log → LeavesOnly L.LogDevice self.old.engine.log self.new.engine.log (IsBeginning self.old.engine.state.records self.old.engine.state.forced) }
-        ensures fit { AreHonest P.PageDevice L.LogDevice self.new.engine → IsSound self.old.engine.state → AreFit P.PageDevice self.old.engine → AreFit P.PageDevice self.new.engine }
-        ensures crash { AreHonest P.PageDevice L.LogDevice self.new.engine → IsSound self.old.engine.state → AreFit P.PageDevice self.old.engine → LeftCut P.PageDevice L.LogDevice self.old.engine self.new.engine }
+        ensures base { (self.new.base ≡ self.old.base) × (self.new.taken ≡ self.old.taken) }
     {
-        self.engine.keeps();
         let Ok(noted_event) = room_for(&mut self.audit, &event) else {
             return refused(pass, event);
         };
@@ -151,17 +168,26 @@ impl<P: PageDevice + Drop, L: LogDevice + Drop> Kept<P, L> {
         Stamped { pass, event, reply }
     }
 
-    /// The entries since the audit was last taken, in order. They replay from the engine as it was then to the engine
-    /// as it is. The audit is empty afterwards.
-    pub fn take(&mut self) -> Vec<AuditEntry>
-        ensures taken { entries result.items ≡ self.old.audit }
-        ensures replays { Follows P.PageDevice L.LogDevice self.old.base (entries result.items) self.old.engine }
+    /// The engine as it was when the audit was last taken, with the number of entries taken before, and the entries
+    /// since, in order: they replay from that engine to the engine as it is. Then nothing is in the audit.
+    pub fn take(&mut self) -> Taken<P, L>
+        ensures base { (result.base ≡ self.old.base) × (result.before ≡ self.old.taken) }
+        ensures entries { result.entries ≡ self.old.audit }
+        ensures replays { Follows P.PageDevice L.LogDevice result.base result.entries self.old.engine }
         ensures emptied { self.new.audit ≡ [] }
         ensures engine { self.new.engine ≡ self.old.engine }
-        ensures base { self.new.base ≡ self.old.engine }
+        ensures begun { (self.new.base ≡ self.old.engine) × (self.new.taken ≡ self.old.taken + length self.old.audit) }
     {
-        self.base = Snapshot::of(&self.engine);
-        std::mem::replace(&mut self.audit, Vec::new(self.alloc))
+        let count = self.audit.len() as u64;
+        let entries = mem::replace(&mut self.audit, Vec::new(self.alloc));
+        let base = mem::replace(&mut self.base, Snapshot::of(&self.engine));
+        let (before, taken) = same_and_more(mem::replace(&mut self.taken, zero()), count);
+        self.taken = taken;
+        Taken {
+            base,
+            before,
+            entries,
+        }
     }
 
     /// The engine, as it is.
@@ -173,8 +199,41 @@ impl<P: PageDevice + Drop, L: LogDevice + Drop> Kept<P, L> {
             engine,
             audit: _,
             base: _,
+            taken: _,
         } = self;
         engine
+    }
+}
+
+/// What `Kept::take` answers. Contracts see the engine as it was when the audit was taken before, how many entries were taken
+/// until then, and the entries since.
+#[derive(Drop)]
+pub struct Taken<P: PageDevice, L: LogDevice> {
+    base: Snapshot<Engine<P, L>>,
+    before: Snapshot<Count>,
+    entries: Vec<AuditEntry>,
+}
+
+impl<P: PageDevice, L: LogDevice> Model for Taken<P, L> {
+    ghost use Rattle.rq_shared.specs.Entries.{TakenAudit, entries};
+
+    ghost Value = { TakenAudit P L };
+
+    ghost view = { λ t. record {
+      base = t.base.value;
+      before = t.before.value.0;
+      entries = entries t.entries.items;
+    } };
+}
+
+impl<P: PageDevice, L: LogDevice> Taken<P, L> {
+    ghost use Rattle.rq_shared.specs.Entries.{entries};
+
+    /// The entries, in order.
+    pub fn entries(&self) -> &[AuditEntry]
+        ensures { entries result.now ≡ self.now.entries }
+    {
+        self.entries.as_slice()
     }
 }
 

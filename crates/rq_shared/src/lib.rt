@@ -3,6 +3,7 @@
 
 #[cfg(test)]
 mod agreement;
+mod count;
 #[cfg(test)]
 mod devices;
 #[cfg(test)]

@@ -1,16 +1,25 @@
 use Rattle.rq_engine.proofs.Crashing.{fit_kept, left_cut}
 use Rattle.rq_engine.proofs.engine.Engine.apply.Goals as goal
 
-pub returns-clause-fit : goal.returns-clause-fit
-returns-clause-fit g c =
+pub returns-clause-applied : goal.returns-clause-applied
+returns-clause-applied g c =
     let told = c.call.ensures in
-    λ h k fit.
-    fit_kept g.P.PageDevice g.L.LogDevice g.met.P.PageDevice.only_now c.args.self.now c.call.new.self k fit
-    c.args.event.now c.call.result _ _ told.sizes (told.answered h k) told.writes told.pages
-
-pub returns-clause-crash : goal.returns-clause-crash
-returns-clause-crash g c =
-    let told = c.call.ensures in
-    λ h k fit.
-    left_cut g.P.PageDevice g.L.LogDevice g.met.P.PageDevice.only_now c.args.self.now c.call.new.self k fit
-    c.args.event.now c.call.result c.keeps.ensures.spelled told.writes told.pages (told.any_moment h.1)
+    record {
+      steps = told.answered;
+      cause = told.cause;
+      sizes = told.sizes;
+      failed = told.failed;
+      refused = told.refused;
+      changes = told.changes;
+      writes = told.writes;
+      pages = told.pages;
+      log = told.log;
+      honest = told.honest;
+      any_moment = told.any_moment;
+      fit = λ h k fit.
+          fit_kept g.P.PageDevice g.L.LogDevice g.met.P.PageDevice.only_now c.args.self.now c.call.new.self k fit
+          c.args.event.now c.call.result _ _ told.sizes (told.answered h k) told.writes told.pages;
+      crash = λ h k fit.
+          left_cut g.P.PageDevice g.L.LogDevice g.met.P.PageDevice.only_now c.args.self.now c.call.new.self k fit
+          c.args.event.now c.call.result c.keeps.ensures.spelled told.writes told.pages (told.any_moment h.1);
+    }

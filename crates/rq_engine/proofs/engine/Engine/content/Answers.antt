@@ -2,27 +2,24 @@ use Rattle.std.proofs.Common.{sym, ap, ◌∙◌, false}
 use Rattle.rq_txn.specs.Rows.{any_under}
 use Rattle.rq_store.specs.State.{State}
 use Rattle.rq_engine.proofs.Calls.{content_done, content_busy}
-use Rattle.rq_engine.proofs.Refusals.{no_memory}
+use Rattle.rq_engine.proofs.Refusals.{no_memory, stops_plainly}
 use Rattle.rq_engine.proofs.Opened.{state_is}
 use Rattle.rq_engine.proofs.engine.Engine.content.Goals as goal
 
-pub returns-then-any_under_way : goal.returns-then-any_under_way
-returns-then-any_under_way g c = record {
-  answered = λ h. content_busy c.args.self.now.state c.in_ok-check_running.ensures.running (ap (λ (s : State). any_under s.rows) (sym (state_is c.self.view_is)) ∙ sym c.if-any_under_way.ensures);
-}
+pub returns-then-any_under_way-clause-answered : goal.returns-then-any_under_way-clause-answered
+returns-then-any_under_way-clause-answered g c h = content_busy c.args.self.now.state c.in_ok-check_running.ensures.running (ap (λ (s : State). any_under s.rows) (sym (state_is c.self.view_is)) ∙ sym c.if-any_under_way.ensures)
 
-pub returns-in-Ok : goal.returns-in-Ok
-returns-in-Ok g c = record {
-  answered = λ h k.
-      let idle = ap (λ (s : State). any_under s.rows) (sym (state_is c.self.view_is)) ∙ sym c.if-any_under_way.ensures in
-      content_done c.args.self.now.state _ c.in_ok-check_running.ensures.running idle
-      (c.in-Ok.ensures.shown c.args.self.now.state k (ap (λ (s : State). s.sizes) (sym (state_is c.self.view_is))) (ap (λ (s : State). s.images) (sym (state_is c.self.view_is))) (ap (λ (s : State). s.rows) (sym (state_is c.self.view_is))) idle) k;
-}
+pub returns-in-Ok-clause-answered : goal.returns-in-Ok-clause-answered
+returns-in-Ok-clause-answered g c h k =
+    let idle = ap (λ (s : State). any_under s.rows) (sym (state_is c.self.view_is)) ∙ sym c.if-any_under_way.ensures in
+    content_done c.args.self.now.state _ c.in_ok-check_running.ensures.running idle
+    (c.in-Ok.ensures.shown c.args.self.now.state k (ap (λ (s : State). s.sizes) (sym (state_is c.self.view_is))) (ap (λ (s : State). s.images) (sym (state_is c.self.view_is))) (ap (λ (s : State). s.rows) (sym (state_is c.self.view_is))) idle) k
 
-pub returns-in-Err : goal.returns-in-Err
-returns-in-Err g c = record {
-  answered = λ h k.
-      let idle = ap (λ (s : State). any_under s.rows) (sym (state_is c.self.view_is)) ∙ sym c.if-any_under_way.ensures in
-      let why = c.in-Err.ensures.sound c.args.self.now.state k (ap (λ (s : State). s.sizes) (sym (state_is c.self.view_is))) (ap (λ (s : State). s.images) (sym (state_is c.self.view_is))) (ap (λ (s : State). s.rows) (sym (state_is c.self.view_is))) idle in
-      rw why (no_memory false c.args.self.now.state _ c.in_ok-check_running.ensures.running k);
-}
+pub returns-in-Err-clause-answered : goal.returns-in-Err-clause-answered
+returns-in-Err-clause-answered g c h k =
+    let idle = ap (λ (s : State). any_under s.rows) (sym (state_is c.self.view_is)) ∙ sym c.if-any_under_way.ensures in
+    let why = c.in-Err.ensures.sound c.args.self.now.state k (ap (λ (s : State). s.sizes) (sym (state_is c.self.view_is))) (ap (λ (s : State). s.images) (sym (state_is c.self.view_is))) (ap (λ (s : State). s.rows) (sym (state_is c.self.view_is))) idle in
+    rw why (no_memory false c.args.self.now.state _ c.in_ok-check_running.ensures.running k)
+
+pub returns-in-Err-clause-failed : goal.returns-in-Err-clause-failed
+returns-in-Err-clause-failed g c = stops_plainly _ _ _ c.args.self.now.state _ c.in-Err.ensures.refused c.in_ok-check_running.ensures.running

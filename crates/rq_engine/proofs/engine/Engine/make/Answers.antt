@@ -1,4 +1,4 @@
-use Rattle.std.proofs.Common.{ℕ, ◌≤◌, ◌<◌, length, ◌≡◌, ◌+◌, ◌/◌, ◌%◌, sym, ap, ◌∙◌, subst, arith, ◌∷◌}
+use Rattle.std.proofs.Common.{ℕ, ◌≤◌, ◌<◌, length, ◌≡◌, ◌+◌, ◌/◌, ◌%◌, sym, ap, ◌∙◌, subst, arith, ◌∷◌, List, Bool, true, slice_set}
 use Rattle.rq_store.specs.State.{State}
 use Rattle.rq_txn.specs.Rows.{change_row, row_stepped}
 use Rattle.rq_page.specs.Sizes.{Sizes, page_count}
@@ -11,7 +11,7 @@ use Rattle.rq_store.specs.Fitting.{image_in}
 use Rattle.rq_store.specs.Steps.{IsPutIn, page_op}
 use Rattle.rq_engine.specs.Answers.{IsGoing}
 use Rattle.rq_engine.proofs.Calls.{Next, going_range, going_owed, next_slot, next_room, next_more, next_kept}
-use Rattle.rq_engine.proofs.Opened.{state_is}
+use Rattle.rq_engine.proofs.Opened.{state_is, changed_is}
 use Rattle.rq_engine.proofs.engine.Engine.make.Goals as goal
 
 pub append-lsn-requires-clause-record : goal.append-lsn-requires-clause-record
@@ -77,3 +77,10 @@ returns-clause-made g c =
         headers = subst (λ (z : Sizes). (p : ℕ) → 1 ≤ p → p < page_count z → IsHeaderOf z p (image_in c.set_slot.new.self.images p)) c.set_slot.ensures.sizes c.set_slot.ensures.pool.headers;
       });
     }
+
+pub returns-clause-changed : goal.returns-clause-changed
+returns-clause-changed g c = (
+  c.args.write.now.at / 16,
+  c.set_slot.ensures.page.lsn,
+  c.set_slot.ensures.changed ∙ ap (λ (b : List Bool). slice_set b (c.args.write.now.at / 16) true) (changed_is c.self.view_is),
+)

@@ -1,12 +1,17 @@
-use Rattle.std.proofs.Common.{◌+◌, ap, ◌∙◌}
+use Rattle.std.proofs.Common.{◌+◌, ap, ◌∙◌, false}
 use Rattle.rq_store.specs.State.{State}
+use Rattle.rq_engine.proofs.Refusals.{no_memory}
 use Rattle.rq_engine.proofs.SendCalls.{send_done}
 use Rattle.rq_engine.proofs.Opened.{state_is}
 use Rattle.rq_engine.proofs.engine.Engine.start_send.Goals as goal
 
-pub returns-clause-answered : goal.returns-clause-answered
-returns-clause-answered g c h =
+pub returns-in-Ok-clause-answered : goal.returns-in-Ok-clause-answered
+returns-in-Ok-clause-answered g c h =
     send_done c.args.self.now.state _ c.args.txn c.in_ok-number.number c.args.sender c.args.tag c.args.body.now c.in_ok-body.body c.in_ok-plan.plan
     c.in_ok-number.ensures.ready c.in_ok-number.ensures.passes c.in_ok-body.ensures.idle c.in_ok-body.ensures.body (c.in_ok-plan.ensures.plan c.in_ok-number.number) c.in_ok-body.ensures.free c.in_ok-body.ensures.room
     (λ k. c.in_ok-body.ensures.passes k c.in_ok-number.ensures.passes)
-    (ap (λ (s : State). record s { cells_in_use = s.cells_in_use + 1 }) ((state_is c.self.view_is) ∙ c.in_ok-start.ensures.started))
+    (ap (λ (s : State). record s { cells_in_use = s.cells_in_use + 1 }) ((state_is c.self.view_is) ∙ c.in-Ok.ensures.started))
+
+pub returns-in-Err-clause-answered : goal.returns-in-Err-clause-answered
+returns-in-Err-clause-answered g c h k =
+    rw (c.in-Err.ensures.refusal, c.in-Err.ensures.refused) (no_memory false c.args.self.now.state _ c.in_ok-number.ensures.running k)

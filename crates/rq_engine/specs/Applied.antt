@@ -1,0 +1,70 @@
+-- What one call makes of an open store: of its lists, of its devices, and of what a crash leaves of them.
+use Rattle.std.specs.Prelude.{◌≡◌, ◌↔◌, ℕ, true, false, Bool, List, slice_set, Ok, Err, Option, Some, None}
+use Rattle.rq_model.specs.declared.refusal.Refusal.TheVariants as why
+use Rattle.rq_disk.specs.Device.{Only}
+use Rattle.rq_disk.specs.declared.device.LogDevice as log_device
+use Rattle.rq_disk.specs.declared.device.PageDevice as page_device
+use Rattle.rq_log.specs.Crash.{LeavesOnly}
+use Rattle.rq_log.specs.Spelled.{spelled, IsBeginning}
+use Rattle.rq_page.specs.Pages.{lsn_of}
+use Rattle.rq_pool.specs.Pooled.{image_at}
+use Rattle.rq_pool.specs.Writing.{DeviceAfter, changed_after}
+use Rattle.rq_store.specs.Sound.{IsSound}
+use Rattle.rq_store.specs.Steps.{Steps}
+use Rattle.rq_engine.specs.declared.event.Event.{Event}
+use Rattle.rq_engine.specs.declared.event.Event.TheVariants as event
+use Rattle.rq_engine.specs.declared.event.Progress.{Progress}
+use Rattle.rq_engine.specs.declared.event.Progress.TheVariants as progress
+use Rattle.rq_engine.specs.declared.event.Reply.{Reply}
+use Rattle.rq_engine.specs.declared.event.Reply.TheVariants as reply
+use Rattle.rq_engine.specs.Opened.{OpenStore, AreHonest, NotWritten, WritesWhen}
+use Rattle.rq_engine.specs.Crash.{AreFit, LeftCut}
+use Rattle.rq_engine.specs.Says.{IsCaused, LogSays, PagesSay, WritesSay, call_of, gave, writes_out, written_by}
+
+-- what a device that fails in a write leaves of the store: it is stopped; no other call meets such a failure
+abbrev pub WriteFails : {P L : Type 0} → Bool → OpenStore P L → OpenStore P L → Type 0
+WriteFails true old new = (new.state ≡ record old.state { failed = true }) × (new.changed ≡ old.changed)
+WriteFails false old new = new ≡ old
+
+-- What a refusal leaves of the store: all as it was, but that a device's failure in a write stops it.
+abbrev pub RefusalLeaves : {P L : Type 0} → OpenStore P L → Event → Reply → OpenStore P L → Type 0
+RefusalLeaves old e (reply.Refused why.DiskWrite) new = WriteFails (writes_out e) old new
+RefusalLeaves old e (reply.Refused r) new = new ≡ old
+RefusalLeaves old e _ new = Unit {0}
+
+-- one page has a change that was not written: that of the record with this LSN
+abbrev pub IsStamped : {P L : Type 0} → OpenStore P L → ℕ → OpenStore P L → Type 0
+IsStamped old lsn new = (page : ℕ) × (lsn_of (image_at new.state.images page) ≡ lsn) × (new.changed ≡ slice_set old.changed page true)
+
+abbrev pub StepChanges : {P L : Type 0} → OpenStore P L → Progress → OpenStore P L → Type 0
+StepChanges old (progress.Done lsn) new = IsStamped old lsn new
+StepChanges old progress.Ready new = new.changed ≡ old.changed
+
+abbrev pub SteppedSay : {P L : Type 0} → OpenStore P L → Reply → OpenStore P L → Type 0
+SteppedSay old (reply.Stepped p) new = StepChanges old p new
+SteppedSay old _ new = new.changed ≡ old.changed
+
+-- which pages count as changed then: a step adds the page that it writes, a page that is written out is taken off
+abbrev pub ChangesSay : {P L : Type 0} → OpenStore P L → Event → Reply → OpenStore P L → Type 0
+ChangesSay old (event.Step sub) r new = SteppedSay old r new
+ChangesSay old (event.WritePage page) r new = new.changed ≡ changed_after old.changed page (written_by r)
+ChangesSay old _ r new = new.changed ≡ old.changed
+
+-- The call was made, and answered so.
+pub record Applied {P L : Type 0} (p : page_device.Ghosts P) (l : log_device.Ghosts L) (old : OpenStore P L) (e : Event) (r : Reply) (new : OpenStore P L) : Type 0 where
+  -- of a sound store over honest devices: the entry that event and reply say may come next, and a refusal has its cause
+  pub steps : AreHonest p l new → IsSound old.state → Steps old.state (call_of e) (gave r) new.state
+  pub cause : AreHonest p l new → IsSound old.state → IsCaused old.state e r
+  -- of every store
+  pub sizes : new.state.sizes ≡ old.state.sizes
+  pub failed : (r ≡ reply.Refused why.Failed) ↔ (old.state.failed ≡ true)
+  pub refused : RefusalLeaves old e r new
+  pub changes : ChangesSay old e r new
+  pub writes : WritesSay old e r
+  pub pages : PagesSay p old new e r
+  pub log : LogSays l old new e r
+  pub honest : AreHonest p l new → AreHonest p l old
+  -- of crashes, at every moment since the call began
+  pub any_moment : l.honest new.log → LeavesOnly l old.log new.log (IsBeginning old.state.records old.state.forced)
+  pub fit : AreHonest p l new → IsSound old.state → AreFit p old → AreFit p new
+  pub crash : AreHonest p l new → IsSound old.state → AreFit p old → LeftCut p l old new
