@@ -96,4 +96,4 @@ settled_view s log k e = let h = held s log k in
 
 -- the row keeps the rule of groups
 row_groups : KeepsGroups row
-row_groups = (tt, (tt, (tt, (λ s. record { sends = λ y. (λ u n. refl, (refl, refl)); takes = λ y. absurd (false≢true y) }, (tt, (tt, (tt, (tt, tt))))))))
+row_groups = (tt, (tt, (tt, (λ s. record { sends = λ y. (λ u n. refl, (refl, refl, refl)); takes = λ y. absurd (false≢true y) }, (tt, (tt, (tt, (tt, tt))))))))

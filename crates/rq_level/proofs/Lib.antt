@@ -22,3 +22,6 @@ pub mod Counting
 pub mod Holding
 pub mod Settled
 pub mod OpenCounts
+pub mod AllOpen
+pub mod Claims
+pub mod Numbers

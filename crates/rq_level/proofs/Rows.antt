@@ -1,6 +1,6 @@
 -- The row is legal, and comes to this.
 use Rattle.std.proofs.Common.{◌≡◌, ◌+◌, inl, inr, [], ◌∷◌, false, refl, None, arith, rules}
-use Rattle.std.proofs.lemmas.Bool.{cases_Bool}
+use Rattle.std.proofs.lemmas.Bool.{cases_Bool, false≢true}
 use Rattle.rq_level.specs.Log.{same_op, state_of}
 use Rattle.rq_page.specs.Slots.Slot.{Free, Sender}
 use Rattle.rq_model.specs.declared.record.Deed.TheVariants.{Append}
@@ -73,4 +73,4 @@ commit_of_a = record {
 }
 
 row_legal : Legal small row
-row_legal = (commit_of_a, (void_of_b, (undo_of_b, (end_of_a, (second_of_a, (first_of_b, (first_of_a, (record { idle = λ o. refl; settled = λ t e. refl }, tt))))))))
+row_legal = (commit_of_a, (void_of_b, (undo_of_b, (end_of_a, (second_of_a, (first_of_b, (first_of_a, (record { idle = λ o. refl; ended = λ t e. absurd (false≢true e) }, tt))))))))

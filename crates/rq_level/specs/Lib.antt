@@ -11,3 +11,5 @@ pub mod Stored
 pub mod InStore
 pub mod Owed
 pub mod StoreTheorems
+pub mod Claims
+pub mod Numbers

@@ -1,5 +1,5 @@
 -- What holds of every legal log.
-use Rattle.std.specs.Prelude.{◌≡◌, ◌≢◌, ℕ, ◌<◌, List, []}
+use Rattle.std.specs.Prelude.{◌≡◌, ℕ, ◌<◌, List, []}
 use Rattle.rq_model.specs.declared.txn.Sub.{Sub}
 use Rattle.rq_model.specs.declared.txn.Txn.{Txn}
 use Rattle.rq_model.specs.declared.record.Record.{Record}
@@ -8,8 +8,8 @@ use Rattle.rq_page.specs.Sizes.{Sizes}
 use Rattle.rq_level.specs.Committed.{IsViewOf}
 use Rattle.rq_level.specs.Items.{items, Reads}
 use Rattle.rq_level.specs.Log.{Item, Layout, state_of}
-use Rattle.rq_level.specs.Plans.{ShowsAt, turn_sender}
-use Rattle.rq_level.specs.Legal.{Legal, IsLayout, Begins, open_deeds, view}
+use Rattle.rq_level.specs.Plans.{ShowsAt, Spares}
+use Rattle.rq_level.specs.Legal.{Legal, IsLayout, open_deeds, view}
 use Rattle.rq_level.specs.Groups.{KeepsGroups, committed}
 
 -- the slots that whole operations alone have written show, of each sender, the fold of what its operations did and undid,
@@ -17,10 +17,10 @@ use Rattle.rq_level.specs.Groups.{KeepsGroups, committed}
 abbrev pub QuietSlotsShowTheFold : Type 0
 QuietSlotsShowTheFold = (l : Layout) (log : List Item) (s : ℕ) → IsLayout l → Legal l log → s < l.senders → ShowsAt l (state_of l log).quiet s (view log s)
 
--- and so do the slots as they are, where no operation is under way on the sender
+-- and so do the slots as they are, of a sender over whose slots no operation under way has written
 abbrev pub IdleSlotsShowTheFold : Type 0
 IdleSlotsShowTheFold = (l : Layout) (log : List Item) (s : ℕ) → IsLayout l → Legal l log → s < l.senders
-    → ((o : Sub) (b : Begins l ((state_of l log).writes o)) → turn_sender b.turn ≢ s) → ShowsAt l (state_of l log).slots s (view log s)
+    → ((o : Sub) → Spares s ((state_of l log).writes o)) → ShowsAt l (state_of l log).slots s (view log s)
 
 -- where every transaction has ended, the fold is what committed transactions leave
 abbrev pub SettledFoldIsCommitted : Type 0

@@ -4,7 +4,7 @@
 //! The definitions stand in specs/, the theorems are the contracts of the functions here.
 #![tactic(auto)]
 
-ghost use Rattle.rq_level.specs.StoreTheorems.{SlotsStandWhereTheyMay, UsedCellsAreMessages, IdleSlotsAreWhole, ChainsAreBounded, SettledCellsAreCommitted};
+ghost use Rattle.rq_level.specs.StoreTheorems.{SlotsStandWhereTheyMay, UsedCellsAreMessages, IdleSlotsAreWhole, ChainsAreBounded, SettledCellsAreCommitted, TakenMessagesHaveCells, NumbersHaveNoGaps};
 ghost use Rattle.rq_level.specs.Theorems.{QuietSlotsShowTheFold, IdleSlotsShowTheFold, SettledFoldIsCommitted, CommittedIsContent};
 
 /// Over every legal log, with any operations interleaved at single slot writes: the slots that whole
@@ -52,4 +52,14 @@ pub fn chains_are_bounded()
 /// not taken.
 pub fn settled_cells_are_committed()
     ensures { SettledCellsAreCommitted }
+{}
+
+/// Over every legal log with room, each message that a transaction took and may put back has a cell for it.
+pub fn taken_messages_have_cells()
+    ensures { TakenMessagesHaveCells }
+{}
+
+/// Of every legal log, the operations of a transaction have the numbers from 1 to its greatest, each.
+pub fn numbers_have_no_gaps()
+    ensures { NumbersHaveNoGaps }
 {}
