@@ -107,6 +107,8 @@ module _ (s : State) (k : IsSound s) (t : Txn) (r : Row) (cells : ℕ) (ws : Lis
     in_store = (tt, k.log.in_store);
     befores = (tt, k.log.befores);
     order = ((subst (λ n. 1 ≤ n) (sym k.incarnation) k.some, (ap (λ (y : Txn). y.incarnation) (sym place.1) ∙ row.of_incarnation) ∙ sym k.incarnation), k.log.order);
+    room = (tt, k.log.room);
+    numbers = (tt, k.log.numbers);
   }
 
   abbrev rows : List Row
@@ -146,7 +148,7 @@ module _ (s : State) (k : IsSound s) (t : Txn) (r : Row) (cells : ℕ) (ws : Lis
         running = rw e refl;
         undone = refl;
         done = rw e refl;
-        began = λ n. refl;
+        numbers = omega arith;
         under_way = λ n. refl;
         held = λ h. all_other t q.txn s.ends q.finished n h;
       }) (going_of q q.under n h.going) h

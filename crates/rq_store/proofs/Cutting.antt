@@ -20,6 +20,8 @@ whole_older z r log w = record {
   in_store = w.in_store.1;
   befores = w.befores.1;
   order = w.order.1;
+  room = w.room.1;
+  numbers = w.numbers.1;
 }
 
 pub whole_dropped : (z : Sizes) (n : ℕ) (log : List Record) → IsWhole z log → IsWhole z (drop n log)

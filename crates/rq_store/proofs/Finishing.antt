@@ -19,7 +19,7 @@ use Rattle.rq_model.specs.History.Entry.{Did}
 use Rattle.rq_model.specs.History.Call.{Finish}
 use Rattle.rq_model.specs.Replay.{Says}
 use Rattle.rq_model.proofs.Lists.{same_self}
-use Rattle.rq_page.specs.Sizes.{Sizes, sender_count}
+use Rattle.rq_page.specs.Sizes.{Sizes, cell_count, sender_count}
 use Rattle.rq_level.specs.Log.{same_op}
 use Rattle.rq_level.specs.Log.Item.{OpEnd}
 use Rattle.rq_level.specs.Legal.{May, open_deeds, began, over, under_way, view}
@@ -27,7 +27,9 @@ use Rattle.rq_level.specs.Plans.{IsPlan, deed_sender}
 use Rattle.rq_level.specs.Plans.Turn.{Did as Did_turn}
 use Rattle.rq_level.specs.Chain.{View}
 use Rattle.rq_level.specs.Groups.{MayTurn, is_taking, side, with_all, committed, Told}
-use Rattle.rq_level.specs.Items.{items, item_of, layout_of, operation, told_deed}
+use Rattle.rq_level.specs.Claims.{takes_of, appends_of, claimed}
+use Rattle.rq_level.specs.Numbers.{greatest}
+use Rattle.rq_level.specs.Items.{items, item_of, layout_of, operation, told_deed, has_undone}
 use Rattle.rq_level.specs.Stored.{count_used}
 use Rattle.rq_level.proofs.Overlay.{same_self as same_op_self}
 use Rattle.rq_level.proofs.Strangers.{has_end_same}
@@ -38,16 +40,17 @@ use Rattle.rq_txn.specs.Rows.{Row, Under, found_row, change_row, row_finished}
 use Rattle.rq_groups.specs.Ends.{HeldEnds, has_held}
 use Rattle.rq_groups.specs.Waiting.{waits}
 use Rattle.rq_store.specs.State.{State, ledger_of, open_of, open_ones_of, job_of, job_under, left_under, op_done}
-use Rattle.rq_store.specs.Sound.{IsSound, IsWhole, IsRow, IsGoing, IsSettled, HoldsFor, AllHeld, AllMove, Moves, HasWaiting, IsCovered, placed, placed_one, is_under, apart, appending, appends_of, takes_one, takes_of, takes_in}
+use Rattle.rq_store.specs.Sound.{IsSound, IsWhole, IsRow, IsGoing, IsSettled, HoldsFor, AllHeld, AllMove, Moves, HasWaiting, IsCovered, placed, placed_one, is_under, apart, appending, takes_one, takes_in}
 use Rattle.rq_store.specs.Fitting.{left_by, image_in}
 use Rattle.rq_store.specs.Steps.{Steps, op_end, gave_done, took}
 use Rattle.rq_store.proofs.Fitting.{fits_more}
 use Rattle.rq_store.proofs.RowLists.{found_in, unique, found_other, found_still, changed, distinct_change, not_txn}
 use Rattle.rq_store.proofs.Opens.{found_open, open_found, opens_change}
 use Rattle.rq_store.proofs.Working.{going_at, alone_going, not_found}
-use Rattle.rq_store.proofs.Others.{row_over, not_going, other_op, other_number, rows_sum, rows_one, opens_as_rows}
+use Rattle.rq_store.proofs.Others.{row_over, not_going, other_op, other_number, other_greatest, own_greatest, rows_sum, rows_one, opens_as_rows}
 use Rattle.rq_store.proofs.Holders.{map_join, placed_more, alone_sending, alone_taking, used_by_holder, taken_by_holder}
 use Rattle.rq_store.proofs.Waiting.{takes_below, left_is, first_is_next, more_left}
+use Rattle.rq_store.proofs.Rooms.{room_here}
 use Rattle.rq_store.proofs.Stepping.{one_longer}
 
 turn_of : (s : State) (k : IsSound s) (r : Row) → In r s.rows → (d : Deed) → Moves d → HoldsFor s.ends r.txn d → deed_sender d < sender_count s.sizes → HasWaiting s.waiting d → Told d (view (items s.sizes s.records) (deed_sender d)) → (e : ℕ) → MayTurn (items s.sizes s.records) r.txn d e
@@ -227,15 +230,24 @@ module _ (s : State) (k : IsSound s) (t : Txn) (r : Row) (u : Under) (ws : List 
   ends : EndingMay log (Some (record { txn = t; said = said u.deed }))
   ends e = subst (λ (q : Txn). MayEnd log e q (said u.deed)) place.1 (ends_of s k r place.0 u.deed g.moves held_here g.sender waits_here e)
 
+  room : claimed (items z log) + appends_of said_deed ≤ cell_count z
+  room =
+      let a = room_here s k r place.0 in
+      let b : appending r.under ≡ appends_of u.deed = ap appending under in
+      let c : appends_of said_deed ≡ appends_of u.deed = ap appends_of deed_is in
+      omega (arith, a, b, c)
+
   log_whole : IsWhole z (x ∷ log)
   log_whole = record {
     legal = (may, k.log.legal);
     groups = (turn, k.log.groups);
     rules = (subst (EndingMay log) (sym (ap (λ (y : Option Deed). ending_by t (cond (nat_eq 1 1) y None)) g.reads)) ends, (λ v e. absurd (false≢true e)), k.log.rules);
-    reads = ((refl, (u.deed, g.reads)), k.log.reads);
+    reads = ((refl, (u.deed, g.reads), ap (has_undone log) (sym place.1) ∙ row.undid_nothing), k.log.reads);
     in_store = (subst (λ d. deed_sender d < sender_count z) (sym deed_is) g.sender, k.log.in_store);
     befores = (tt, k.log.befores);
     order = ((subst (λ n. 1 ≤ n) (sym k.incarnation) k.some, (ap (λ (y : Txn). y.incarnation) (sym place.1) ∙ row.of_incarnation) ∙ sym k.incarnation), k.log.order);
+    room = (room, k.log.room);
+    numbers = (tt, k.log.numbers);
   }
 
   abbrev rows : List Row
@@ -257,7 +269,7 @@ module _ (s : State) (k : IsSound s) (t : Txn) (r : Row) (u : Under) (ws : List 
         running = refl;
         undone = refl;
         done = rw e refl;
-        began = λ n. ap (λ b. b || began (operation q.txn n) (items z log)) (other_op t q.txn u.number n e);
+        numbers = other_greatest t q.txn u.number (greatest q.txn (items z log)) e;
         under_way = λ n. ap (λ b. (b || began (operation q.txn n) (items z log)) && not (b || over (operation q.txn n) (items z log))) (other_op t q.txn u.number n e);
         held = λ h. h;
       }) (not_going z (x ∷ log) s.ends q q.under (other_idle q i n)) (k.rows q i)
@@ -280,6 +292,13 @@ module _ (s : State) (k : IsSound s) (t : Txn) (r : Row) (u : Under) (ws : List 
       ∙ ap (λ ps. placed_one f ∷ ps) row.done
       ∙ sym (placed_more r.finished f)
 
+  number_now : greatest r.txn (items z (x ∷ log)) + 0 ≡ r.number
+  number_now =
+      let e = row.numbered in
+      let c = going.1 in
+      let a : greatest r.txn (items z (x ∷ log)) ≡ u.number = own_greatest t r.txn u.number (greatest r.txn (items z log)) (sym place.1) (omega (arith, e, c)) in
+      omega (arith, a, c)
+
   own_row : IsRow z (x ∷ log) s.ends s.incarnation s.begins (row_finished f r)
   own_row = record {
     of_incarnation = row.of_incarnation;
@@ -290,7 +309,7 @@ module _ (s : State) (k : IsSound s) (t : Txn) (r : Row) (u : Under) (ws : List 
     done = placed_now;
     held = held_more s.ends r.txn r.finished f row.held (subst (λ (q : Txn). HoldsFor s.ends q u.deed) (sym place.1) g.held);
     moves = move_more r.finished f row.moves g.moves;
-    numbered = λ n m. or_from _ _ (other_number t r.txn u.number n (λ e. absurd (omega (arith, e, m, going.1)))) (row.numbered n m);
+    numbered = number_now;
     idle = λ n m. own_idle n;
     going = tt;
   }

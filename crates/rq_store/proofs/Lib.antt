@@ -26,3 +26,4 @@ pub mod Redoing
 pub mod Opening
 pub mod Formatting
 pub mod Cutting
+pub mod Rooms

@@ -24,7 +24,8 @@ use Rattle.rq_level.specs.Log.{Slots, IsNewest, same_op}
 use Rattle.rq_level.specs.Chain.{View, message}
 use Rattle.rq_level.specs.Groups.{committed}
 use Rattle.rq_level.specs.Plans.{Spares}
-use Rattle.rq_level.specs.Legal.{Legal, view, open_deeds, of_op, is_of, is_end, began, over, under_way, rest_placed}
+use Rattle.rq_level.specs.Legal as ends
+use Rattle.rq_level.specs.Legal.{Legal, has_done, view, open_deeds, of_op, is_of, is_end, began, over, under_way, rest_placed}
 use Rattle.rq_level.specs.Items.{items, item_of, layout_of, operation, Reads}
 use Rattle.rq_level.specs.InStore.{IsStranger, mentions}
 use Rattle.rq_level.specs.Stored.{slots_in, count_used, is_used}
@@ -315,16 +316,40 @@ told_below f (suc n) g m =
     read_front (y ∷ xs) x zero m = refl
     read_front (y ∷ xs) x (suc g) m = read_front xs x g (omega (arith, m))
 
+-- a transaction that ended no operation did nothing
+idle_worker : (z : Sizes) (t : Txn) (log : List Record) → Reads log → has_txn t (workers log) ≡ false → has_done t (items z log) ≡ false
+idle_worker z t [] r h = refl
+idle_worker z t (records.PageOp u m page slot before after ∷ log) r h = idle_worker z t log r.1 h
+idle_worker z t (records.PageUndo u m undone page slot after ∷ log) r h = idle_worker z t log r.1 h
+idle_worker z t (records.OpEnd u m level deed ∷ log) r h =
+    let e = ending_is u m level deed r.0.1.0 r.0.0 r.0.1.1 in
+    let p = txn_added t u (workers log) (ap (λ (x : Option Ending). has_txn t (add_txn x (workers log))) (sym e) ∙ h) in
+    or_from (same_txn u t) (has_done t (items z log)) p.1 (idle_worker z t log r.1 p.0)
+idle_worker z t (records.OpVoid u m ∷ log) r h = idle_worker z t log r.1 h
+idle_worker z t (records.CompEnd u m undone ∷ log) r h = idle_worker z t log r.1 h
+idle_worker z t (records.Commit u ∷ log) r h = idle_worker z t log r.1 h
+idle_worker z t (records.AbortEnd u ∷ log) r h = idle_worker z t log r.1 h
+idle_worker z t (records.Restart i ∷ log) r h = idle_worker z t log r.1 h
+
+-- where no transaction is lost, whoever did something has ended
+doers_ended : (z : Sizes) (log : List Record) → Reads log → lost log ≡ [] → (t : Txn) → has_done t (items z log) ≡ true → ends.has_end t (items z log) ≡ true
+doers_ended z log r none t did = elim (cases_Bool (has_end log t)) [
+  | inl y ↦ has_end_same z t log ∙ y
+  | inr n ↦ absurd (true≢false (sym did ∙ idle_worker z t log r (no_worker log t none n)))
+]
+
 -- a log in which everything has ended, with the record that opens the store, is legal
 pub restarted_whole : (z : Sizes) (log : List Record) → IsWhole z log → unfinished log ≡ [] → lost log ≡ [] → IsWhole z (next_restart log ∷ log)
 restarted_whole z log w none_unfinished none_lost = record {
-  legal = (record { idle = idle_log z log w.legal none_unfinished; settled = λ t e. settled_log z log w none_lost t }, w.legal);
+  legal = (record { idle = idle_log z log w.legal none_unfinished; ended = doers_ended z log w.reads none_lost }, w.legal);
   groups = (tt, w.groups);
   rules = (tt, (λ t e. absurd (false≢true e)), w.rules);
   reads = (tt, w.reads);
   in_store = (tt, w.in_store);
   befores = (tt, w.befores);
   order = (refl, w.order);
+  room = (tt, w.room);
+  numbers = (tt, w.numbers);
 }
 
 module _ (z : Sizes) (images : List (List ℕ)) (log : List Record) (range : IsInRange z) (w : IsWhole z log) (none_unfinished : unfinished log ≡ []) (none_lost : lost log ≡ [])
