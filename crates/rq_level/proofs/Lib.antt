@@ -25,3 +25,4 @@ pub mod OpenCounts
 pub mod AllOpen
 pub mod Claims
 pub mod Numbers
+pub mod Inverses

@@ -13,3 +13,4 @@ pub mod Owed
 pub mod StoreTheorems
 pub mod Claims
 pub mod Numbers
+pub mod Inverses

@@ -4,6 +4,7 @@
 //! The definitions stand in specs/, the theorems are the contracts of the functions here.
 #![tactic(auto)]
 
+ghost use Rattle.rq_level.specs.Inverses.{InversesLeaveTheOthers};
 ghost use Rattle.rq_level.specs.StoreTheorems.{SlotsStandWhereTheyMay, UsedCellsAreMessages, IdleSlotsAreWhole, ChainsAreBounded, SettledCellsAreCommitted, TakenMessagesHaveCells, NumbersHaveNoGaps};
 ghost use Rattle.rq_level.specs.Theorems.{QuietSlotsShowTheFold, IdleSlotsShowTheFold, SettledFoldIsCommitted, CommittedIsContent};
 
@@ -62,4 +63,10 @@ pub fn taken_messages_have_cells()
 /// Of every legal log, the operations of a transaction have the numbers from 1 to its greatest, each.
 pub fn numbers_have_no_gaps()
     ensures { NumbersHaveNoGaps }
+{}
+
+/// An operation is done, and then others on the other end of its chain that could be done without it, with the same
+/// replies: its inverse gives the view that these alone would have given.
+pub fn inverses_leave_the_others()
+    ensures { InversesLeaveTheOthers }
 {}
