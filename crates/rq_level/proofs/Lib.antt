@@ -6,6 +6,7 @@ pub mod Views
 pub mod Owes
 pub mod Undo
 pub mod Rows
+pub mod Interleaved
 pub mod Deeds
 pub mod Holders
 pub mod GroupRule
@@ -26,3 +27,4 @@ pub mod AllOpen
 pub mod Claims
 pub mod Numbers
 pub mod Inverses
+pub mod Worked

@@ -14,3 +14,4 @@ pub mod StoreTheorems
 pub mod Claims
 pub mod Numbers
 pub mod Inverses
+pub mod Worked

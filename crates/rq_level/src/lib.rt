@@ -6,6 +6,7 @@
 
 ghost use Rattle.rq_level.specs.Inverses.{InversesLeaveTheOthers};
 ghost use Rattle.rq_level.specs.StoreTheorems.{SlotsStandWhereTheyMay, UsedCellsAreMessages, IdleSlotsAreWhole, ChainsAreBounded, SettledCellsAreCommitted, TakenMessagesHaveCells, NumbersHaveNoGaps};
+ghost use Rattle.rq_level.specs.Worked.{WorkedLogs, RefusedRecords};
 ghost use Rattle.rq_level.specs.Theorems.{QuietSlotsShowTheFold, IdleSlotsShowTheFold, SettledFoldIsCommitted, CommittedIsContent};
 
 /// Over every legal log, with any operations interleaved at single slot writes: the slots that whole
@@ -69,4 +70,14 @@ pub fn numbers_have_no_gaps()
 /// replies: its inverse gives the view that these alone would have given.
 pub fn inverses_leave_the_others()
     ensures { InversesLeaveTheOthers }
+{}
+
+/// Worked logs, with what they come to: two operations interleaved, and an abort that a crash stops and a restart ends.
+pub fn worked_logs()
+    ensures { WorkedLogs }
+{}
+
+/// What may not come next, for each rule, after logs that keep all of them.
+pub fn refused_records()
+    ensures { RefusedRecords }
 {}
