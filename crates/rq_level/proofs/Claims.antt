@@ -1,5 +1,5 @@
 -- The cells that are claimed are those of the messages in chains and of those that are taken by whoever has not committed, and there are as many.
-use Rattle.std.proofs.Common.{◌≡◌, ℕ, ◌+◌, ◌-◌, ◌<◌, ◌≤◌, List, [], ◌∷◌, map, length, Some, refl, sym, ◌∙◌, ap, arith}
+use Rattle.std.proofs.Common.{◌≡◌, ℕ, ◌+◌, ◌<◌, ◌≤◌, List, [], ◌∷◌, map, length, Some, refl, sym, ◌∙◌, ap, arith}
 use Rattle.std.specs.List.{filter, sum_by}
 use Rattle.rq_model.specs.declared.txn.Sub.{Sub}
 use Rattle.rq_model.specs.declared.txn.Txn.{Txn}

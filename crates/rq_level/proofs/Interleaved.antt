@@ -1,5 +1,5 @@
 -- The log of two interleaved operations is legal.
-use Rattle.std.proofs.Common.{◌≡◌, ◌+◌, inl, inr, [], ◌∷◌, false, refl, None, arith, rules}
+use Rattle.std.proofs.Common.{◌+◌, inl, inr, [], ◌∷◌, refl, None, arith, rules}
 use Rattle.std.proofs.lemmas.Bool.{cases_Bool, false≢true}
 use Rattle.rq_level.specs.Log.{same_op}
 use Rattle.rq_page.specs.Slots.Slot.{Free, Sender}

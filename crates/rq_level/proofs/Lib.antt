@@ -28,3 +28,4 @@ pub mod Claims
 pub mod Numbers
 pub mod Inverses
 pub mod Worked
+pub mod Rules

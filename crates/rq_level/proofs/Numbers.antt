@@ -1,5 +1,5 @@
 -- Each number up to a transaction's greatest is that of an operation, and none beyond it is.
-use Rattle.std.proofs.Common.{◌≡◌, ℕ, ◌+◌, ◌<◌, ◌≤◌, ◌||◌, Bool, true, false, cond, max, List, [], ◌∷◌, Option, Some, None, inl, inr, refl, sym, ◌∙◌, ap, subst, nat_eq, arith}
+use Rattle.std.proofs.Common.{◌≡◌, ℕ, ◌+◌, ◌<◌, ◌≤◌, ◌||◌, true, false, max, List, [], ◌∷◌, Option, Some, None, inl, inr, sym, ◌∙◌, ap, subst, nat_eq, arith}
 use Rattle.std.proofs.Math.Nat.{le-max_left, le-max_right}
 use Rattle.std.proofs.lemmas.Bool.{cases_Bool, cases_lt, and_parts, or_cases, or_left, or_right, and_from, eq-eqb, eqb-true, false≢true, false_from_ne_true}
 use Rattle.rq_model.specs.declared.txn.Txn.{Txn}

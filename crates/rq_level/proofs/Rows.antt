@@ -1,21 +1,20 @@
 -- The worked logs are legal, and come to this.
-use Rattle.std.proofs.Common.{◌≡◌, ◌≢◌, ℕ, ◌+◌, List, inl, inr, [], ◌∷◌, ◌++◌, length, true, false, refl, ap, subst, sym, ◌∙◌, None, nat_eq, arith, rules}
-use Rattle.std.proofs.lemmas.Bool.{cases_Bool, false≢true, true≢false, eqb-true}
+use Rattle.std.proofs.Common.{◌≡◌, ℕ, List, inl, inr, [], ◌∷◌, true, false, refl, subst, sym, None, arith}
+use Rattle.std.proofs.lemmas.Bool.{cases_Bool, false≢true}
 use Rattle.rq_model.specs.declared.txn.Sub.{Sub}
 use Rattle.rq_model.specs.declared.txn.Txn.{Txn}
 use Rattle.rq_model.specs.Words.{same_txn}
 use Rattle.rq_page.specs.Directories.{new_directory}
 use Rattle.rq_page.specs.Slots.{Slot}
-use Rattle.rq_page.specs.Slots.Slot.{Free, Used, Sender}
+use Rattle.rq_page.specs.Slots.Slot.{Used}
 use Rattle.rq_model.specs.declared.record.Deed.{Deed}
 use Rattle.rq_model.specs.declared.record.Deed.TheVariants.{Close}
-use Rattle.rq_level.specs.Chain.{directory_appended}
-use Rattle.rq_level.specs.Log.{Item, Write, IsNewest, same_op, state_of}
-use Rattle.rq_level.specs.Log.Item.{PageOp, PageUndo, OpEnd, OpVoid, CompEnd, Commit, AbortEnd, Restart}
+use Rattle.rq_level.specs.Log.{Item, Write, same_op, state_of}
+use Rattle.rq_level.specs.Log.Item.{PageOp, PageUndo, OpEnd, OpVoid, CompEnd, Restart}
 use Rattle.rq_level.specs.Plans.{Turn, IsPlan, IsAppend, IsUnlinkHead, IsUnlinkTail, IsPutBack, IsMark, Spares}
 use Rattle.rq_level.specs.Plans.Turn.{Did, Undid}
-use Rattle.rq_level.specs.Legal.{Begins, Legal, MayPageOp, MayOpEnd, MayCompEnd, MayPageUndo, MayOpVoid, onto, has_done, began, over, under_way, turned_back, has_end, crossed, open_deeds, lsns}
-use Rattle.rq_level.specs.Row.{small, t1, t2, of, a1, b1, cell, new_a, end_a, new_b, end_b, sends, takes, row, taken_a, sent_a, free_a, took_a, back_a, sent_b, free_b, undid_b, committed_one, done_two, stopped, taken_back, restarted, taken_one, mark_a, closed_one}
+use Rattle.rq_level.specs.Legal.{Begins, Legal, MayPageOp, MayOpEnd, MayCompEnd, MayPageUndo, MayOpVoid, onto, has_done, over, under_way, turned_back, has_end, crossed}
+use Rattle.rq_level.specs.Row.{small, t1, t2, of, a1, b1, cell, new_a, end_a, new_b, end_b, sends, takes, taken_a, sent_a, free_a, took_a, back_a, sent_b, free_b, undid_b, committed_one, done_two, stopped, taken_back, restarted, taken_one, mark_a, closed_one}
 use Rattle.rq_level.proofs.Idle.{idle_stands, idle_writes}
 use Rattle.rq_level.proofs.Overlay.{same_is}
 

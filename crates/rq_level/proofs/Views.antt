@@ -1,17 +1,17 @@
 -- For a legal log the slots show, of each sender over whose slots no operation under way has written, the fold of its deeds.
 use Rattle.rq_page.specs.declared.cell.Cell.{Cell}
 use Rattle.rq_model.specs.declared.txn.Sub.{Sub}
-use Rattle.std.proofs.Common.{◌≡◌, ◌≢◌, ℕ, ◌<◌, ◌⊎◌, ◌==◌, inl, inr, List, [], ◌∷◌, true, false, refl, sym, ap, subst, ◌∙◌, Option, None, Some}
-use Rattle.std.proofs.lemmas.Bool.{cases_Bool, cases_eq, cond-true, cond-false, eq-eqb}
+use Rattle.std.proofs.Common.{◌≢◌, ℕ, ◌<◌, ◌==◌, inl, inr, List, [], ◌∷◌, true, false, refl, sym, subst, ◌∙◌, Option, None, Some}
+use Rattle.std.proofs.lemmas.Bool.{cases_eq, cond-true, cond-false, eq-eqb}
 use Rattle.rq_level.specs.Chain.{View}
-use Rattle.rq_level.specs.Log.{Slots, Write, applied, Fits, Layout, Item, act, state_of, MayAct, same_op, rest_of}
+use Rattle.rq_level.specs.Log.{Slots, Write, applied, Fits, Layout, Item, act, state_of, MayAct}
 use Rattle.rq_model.specs.declared.record.Deed.TheVariants.{Append, UnlinkHead, Close}
 use Rattle.rq_level.specs.Log.Item.{PageOp, PageUndo, OpEnd, OpVoid, CompEnd, Commit, AbortEnd, Restart}
 use Rattle.rq_level.specs.Plans.{ShowsAt, Spares, IsLink, relinked, Turn, IsPlan, turn_sender, with_turn}
 use Rattle.rq_level.specs.Plans.Turn.{Did, Undid}
-use Rattle.rq_level.specs.Legal.{Placed, open_deeds, undoing, view_after, view, Undoes, May, Legal, Begins, onto, IsLayout, empty_directory}
+use Rattle.rq_level.specs.Legal.{Placed, open_deeds, undoing, view_after, view, Undoes, May, Legal, IsLayout, empty_directory}
 use Rattle.rq_level.proofs.Chains.{no_eq}
-use Rattle.rq_level.proofs.Overlay.{Good, good_after, good_start, same_is}
+use Rattle.rq_level.proofs.Overlay.{Good, good_after, good_start}
 use Rattle.rq_level.proofs.Laws.{others, spared, shows_frame, append_law}
 use Rattle.rq_level.proofs.Takes.{mark_law, head_law, tail_law, back_law}
 

@@ -1,21 +1,16 @@
 -- The worked logs keep every rule; what each rule refuses is refused.
-use Rattle.std.proofs.Common.{◌≡◌, ◌≢◌, ℕ, ◌+◌, ◌<◌, List, [], ◌∷◌, length, true, false, inl, inr, refl, sym, ◌∙◌, ap, subst, arith}
+use Rattle.std.proofs.Common.{◌≡◌, ℕ, ◌<◌, List, [], ◌∷◌, length, true, false, inl, inr, refl, ◌∙◌, ap, subst, arith}
 use Rattle.std.proofs.lemmas.Bool.{cases_Bool, false≢true, true≢false, eqb-true}
-use Rattle.rq_model.specs.declared.in_place.InPlace.{InPlace}
 use Rattle.rq_model.specs.declared.record.Deed.TheVariants.{Close}
-use Rattle.rq_model.specs.declared.record.Record.{Record}
-use Rattle.rq_model.specs.declared.record.Record.TheVariants as records
 use Rattle.rq_model.specs.declared.txn.Txn.{Txn}
 use Rattle.rq_model.specs.Words.{same_txn}
 use Rattle.rq_model.proofs.Lists.{same_self}
 use Rattle.rq_level.specs.Chain.{View, AreTaken}
 use Rattle.rq_level.specs.Chain.Taking.{Took}
-use Rattle.rq_level.specs.Groups.{is_sending, is_taking, side, with_all, Alone, Told, MayTurn, MayGroup, KeepsGroups, committed}
-use Rattle.rq_level.specs.Items.{ReadsOne, has_undone}
-use Rattle.rq_level.specs.Legal.{MayRestart, open_deeds, view}
+use Rattle.rq_level.specs.Groups.{is_sending, is_taking, side, with_all, Alone, Told, MayTurn, KeepsGroups, committed}
+use Rattle.rq_level.specs.Legal.{open_deeds, view}
 use Rattle.rq_level.specs.Log.{Item}
-use Rattle.rq_level.specs.Log.Item.{OpEnd}
-use Rattle.rq_level.specs.Row.{t1, t2, b1, sends, takes, row, committed_one, done_two, stopped, taken_back, restarted, taken_one, closed_one}
+use Rattle.rq_level.specs.Row.{t1, t2, sends, takes, row, committed_one, done_two, restarted}
 use Rattle.rq_level.specs.Worked.{KeepsAll, WorkedLogs, RefusedRecords, one_waits}
 use Rattle.rq_level.proofs.GroupRule.{row_groups}
 use Rattle.rq_level.proofs.Interleaved.{row_legal}

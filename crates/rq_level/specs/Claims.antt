@@ -2,7 +2,7 @@
 use Rattle.std.specs.Prelude.{ℕ, ◌+◌, ◌-◌, ◌≤◌, List, [], ◌∷◌}
 use Rattle.std.specs.List.{sum_by}
 use Rattle.rq_model.specs.declared.record.Deed.{Deed}
-use Rattle.rq_model.specs.declared.record.Deed.TheVariants.{Append, UnlinkHead, Close}
+use Rattle.rq_model.specs.declared.record.Deed.TheVariants.{Append, UnlinkHead}
 use Rattle.rq_level.specs.Log.{Item}
 use Rattle.rq_level.specs.Log.Item.{OpEnd, CompEnd, Commit}
 use Rattle.rq_level.specs.Legal.{Placed, open_deeds}

@@ -1,6 +1,5 @@
 -- Taking an operation back after operations on the other end of its sender's chain.
 use Rattle.std.specs.Prelude.{◌≡◌, ℕ, ◌<◌, ◌++◌, List, [], ◌∷◌, Bool, true, false}
-use Rattle.rq_model.specs.declared.record.Deed.{Deed}
 use Rattle.rq_model.specs.declared.record.Deed.TheVariants.{Append, UnlinkHead, Close}
 use Rattle.rq_level.specs.Chain.{View, Taking, Sending, AreTaken, AreSent}
 use Rattle.rq_level.specs.Groups.{Told}

@@ -1,5 +1,5 @@
 -- What holds of the worked logs, and which records may not come next.
-use Rattle.std.specs.Prelude.{◌≡◌, ℕ, List, [], ◌∷◌, true, false}
+use Rattle.std.specs.Prelude.{◌≡◌, ℕ, List, [], ◌∷◌, false}
 use Rattle.rq_model.specs.declared.in_place.InPlace.{InPlace}
 use Rattle.rq_model.specs.declared.record.Deed.TheVariants.{Append, Close}
 use Rattle.rq_model.specs.declared.record.Record.{Record}

@@ -7,7 +7,7 @@
 ghost use Rattle.rq_level.specs.Inverses.{InversesLeaveTheOthers};
 ghost use Rattle.rq_level.specs.StoreTheorems.{SlotsStandWhereTheyMay, UsedCellsAreMessages, IdleSlotsAreWhole, ChainsAreBounded, SettledCellsAreCommitted, TakenMessagesHaveCells, NumbersHaveNoGaps};
 ghost use Rattle.rq_level.specs.Worked.{WorkedLogs, RefusedRecords};
-ghost use Rattle.rq_level.specs.Theorems.{QuietSlotsShowTheFold, IdleSlotsShowTheFold, SettledFoldIsCommitted, CommittedIsContent};
+ghost use Rattle.rq_level.specs.Theorems.{QuietSlotsShowTheFold, IdleSlotsShowTheFold, SettledFoldIsCommitted, CommittedIsContent, RulesKeepGroups};
 
 /// Over every legal log, with any operations interleaved at single slot writes: the slots that whole
 /// operations alone have written show each sender's chain as its operations say.
@@ -80,4 +80,10 @@ pub fn worked_logs()
 /// What may not come next, for each rule, after logs that keep all of them.
 pub fn refused_records()
     ensures { RefusedRecords }
+{}
+
+/// Where only the holder of an end uses it, as the rules of receives and groups say of the records, and each deed tells
+/// what it was done over, each sender's view is what its holders make of it.
+pub fn rules_keep_groups()
+    ensures { RulesKeepGroups }
 {}

@@ -101,7 +101,7 @@ module _ (s : State) (k : IsSound s) (t : Txn) (r : Row) (cells : ℕ) (ws : Lis
   log_whole : IsWhole z (x ∷ log)
   log_whole = record {
     legal = (may, k.log.legal);
-    groups = (tt, k.log.groups);
+    told = (tt, k.log.told);
     rules = (tt, (λ v e. elim (or_cases (same_txn t v) false e) [ inl y ↦ ap (has_end log) (sym (same_is t v y)) ∙ running | inr y ↦ absurd (false≢true y) ]), k.log.rules);
     reads = (ap (has_undone log) (sym place.1) ∙ row.undid_nothing, k.log.reads);
     in_store = (tt, k.log.in_store);

@@ -14,7 +14,7 @@ use Rattle.rq_store.proofs.Fitting.{page_fits_more}
 whole_older : (z : Sizes) (r : Record) (log : List Record) → IsWhole z (r ∷ log) → IsWhole z log
 whole_older z r log w = record {
   legal = w.legal.1;
-  groups = w.groups.1;
+  told = w.told.1;
   rules = w.rules.2;
   reads = w.reads.1;
   in_store = w.in_store.1;

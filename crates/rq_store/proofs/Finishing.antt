@@ -26,7 +26,7 @@ use Rattle.rq_level.specs.Legal.{May, open_deeds, began, over, under_way, view}
 use Rattle.rq_level.specs.Plans.{IsPlan, deed_sender}
 use Rattle.rq_level.specs.Plans.Turn.{Did as Did_turn}
 use Rattle.rq_level.specs.Chain.{View}
-use Rattle.rq_level.specs.Groups.{MayTurn, is_taking, side, with_all, committed, Told}
+use Rattle.rq_level.specs.Groups.{Told}
 use Rattle.rq_level.specs.Claims.{takes_of, appends_of, claimed}
 use Rattle.rq_level.specs.Numbers.{greatest}
 use Rattle.rq_level.specs.Items.{items, item_of, layout_of, operation, told_deed, has_undone}
@@ -48,27 +48,10 @@ use Rattle.rq_store.proofs.RowLists.{found_in, unique, found_other, found_still,
 use Rattle.rq_store.proofs.Opens.{found_open, open_found, opens_change}
 use Rattle.rq_store.proofs.Working.{going_at, alone_going, not_found}
 use Rattle.rq_store.proofs.Others.{row_over, not_going, other_op, other_number, other_greatest, own_greatest, rows_sum, rows_one, opens_as_rows}
-use Rattle.rq_store.proofs.Holders.{map_join, placed_more, alone_sending, alone_taking, used_by_holder, taken_by_holder}
-use Rattle.rq_store.proofs.Waiting.{takes_below, left_is, first_is_next, more_left}
+use Rattle.rq_store.proofs.Holders.{map_join, placed_more, used_by_holder, taken_by_holder}
+use Rattle.rq_store.proofs.Waiting.{takes_below, first_is_next, more_left}
 use Rattle.rq_store.proofs.Rooms.{room_here}
 use Rattle.rq_store.proofs.Stepping.{one_longer}
-
-turn_of : (s : State) (k : IsSound s) (r : Row) → In r s.rows → (d : Deed) → Moves d → HoldsFor s.ends r.txn d → deed_sender d < sender_count s.sizes → HasWaiting s.waiting d → Told d (view (items s.sizes s.records) (deed_sender d)) → (e : ℕ) → MayTurn (items s.sizes s.records) r.txn d e
-turn_of s k r i (Append q n tag previous body) is h m w told e = record {
-  sends = λ y. let same : q ≡ e = eqb-true q e y in
-      (alone_sending s k e r.txn (subst (λ p. has_held r.txn p s.ends.sending ≡ true) same h), subst (λ p. Told (Append q n tag previous body) (view (items s.sizes s.records) p)) same told);
-  takes = λ y. absurd (false≢true y);
-}
-turn_of s k r i (UnlinkHead q n tag body) is h m w told e = record {
-  sends = λ y. absurd (false≢true y);
-  takes = λ y. let same : q ≡ e = eqb-true q e y in (
-    alone_taking s k e r.txn (subst (λ p. has_held r.txn p s.ends.receiving ≡ true) same h),
-    subst (λ p. Told (UnlinkHead q n tag body) (view (items s.sizes s.records) p)) same told,
-    subst (λ p. 0 < length (with_all (side (is_taking p) (open_deeds r.txn (items s.sizes s.records))) (committed (items s.sizes s.records) p)).messages) same
-        (let a = left_is s k q r i in let b = takes_below s k q r m i in let c : 1 ≤ waits s.waiting q = w in omega (arith, a, b, c)),
-  );
-}
-turn_of s k r i (Close q) is h m w told e = absurd is
 
 ends_of : (s : State) (k : IsSound s) (r : Row) → In r s.rows → (d : Deed) → Moves d → HoldsFor s.ends r.txn d → deed_sender d < sender_count s.sizes → HasWaiting s.waiting d → (e : ℕ) → MayEnd s.records e r.txn (said d)
 ends_of s k r i (Append q n tag previous body) is h m w e = record {
@@ -224,8 +207,8 @@ module _ (s : State) (k : IsSound s) (t : Txn) (r : Row) (u : Under) (ws : List 
     running = has_end_same z t log ∙ running;
   }
 
-  turn : (e : ℕ) → MayTurn (items z log) t said_deed e
-  turn e = subst (λ d. MayTurn (items z log) t d e) (sym deed_is) (subst (λ (q : Txn). MayTurn (items z log) q u.deed e) place.1 (turn_of s k r place.0 u.deed g.moves held_here g.sender waits_here g.told e))
+  tells : Told said_deed (view (items z log) (deed_sender said_deed))
+  tells = subst (λ d. Told d (view (items z log) (deed_sender d))) (sym deed_is) g.told
 
   ends : EndingMay log (Some (record { txn = t; said = said u.deed }))
   ends e = subst (λ (q : Txn). MayEnd log e q (said u.deed)) place.1 (ends_of s k r place.0 u.deed g.moves held_here g.sender waits_here e)
@@ -240,7 +223,7 @@ module _ (s : State) (k : IsSound s) (t : Txn) (r : Row) (u : Under) (ws : List 
   log_whole : IsWhole z (x ∷ log)
   log_whole = record {
     legal = (may, k.log.legal);
-    groups = (turn, k.log.groups);
+    told = (tells, k.log.told);
     rules = (subst (EndingMay log) (sym (ap (λ (y : Option Deed). ending_by t (cond (nat_eq 1 1) y None)) g.reads)) ends, (λ v e. absurd (false≢true e)), k.log.rules);
     reads = ((refl, (u.deed, g.reads), ap (has_undone log) (sym place.1) ∙ row.undid_nothing), k.log.reads);
     in_store = (subst (λ d. deed_sender d < sender_count z) (sym deed_is) g.sender, k.log.in_store);

@@ -1,3 +1,4 @@
+pub mod Grouping
 pub mod Fitting
 pub mod RowLists
 pub mod Opens

@@ -195,7 +195,7 @@ module _ (s : State) (k : IsSound s) (t : Txn) (r : Row) (u : Under) (w : SlotWr
   log_whole : IsWhole z (x ∷ log)
   log_whole = record {
     legal = (may, k.log.legal);
-    groups = (tt, k.log.groups);
+    told = (tt, k.log.told);
     rules = (tt, (λ v e. absurd (false≢true e)), k.log.rules);
     reads = (tt, k.log.reads);
     in_store = (slot, k.log.in_store);

@@ -18,7 +18,7 @@ use Rattle.rq_level.specs.Items.{items, layout_of, operation, Reads, has_undone}
 use Rattle.rq_level.specs.Claims.{takes_of, appends_of, HasRoom}
 use Rattle.rq_level.specs.Numbers.{greatest, AreNumbered}
 use Rattle.rq_level.specs.Legal.{Placed, Legal, open_deeds, over, under_way, turned_back, crossed, view}
-use Rattle.rq_level.specs.Groups.{KeepsGroups, Told}
+use Rattle.rq_level.specs.Groups.{Told, Tells}
 use Rattle.rq_level.specs.Plans.{IsPlan, deed_sender}
 use Rattle.rq_level.specs.Plans.Turn.{Did}
 use Rattle.rq_level.specs.InStore.{InStore, IsStranger}
@@ -78,7 +78,7 @@ BeforesAreSlots z (r ∷ log) = IsBefore z r × BeforesAreSlots z log
 -- a legal log of the store
 pub record IsWhole (z : Sizes) (log : List Record) : Type 0 where
   pub legal : Legal (layout_of z) (items z log)
-  pub groups : KeepsGroups (items z log)
+  pub told : Tells (items z log)
   pub rules : KeepsRules log
   pub reads : Reads log
   pub in_store : InStore z log
