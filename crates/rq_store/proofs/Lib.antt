@@ -28,3 +28,5 @@ pub mod Opening
 pub mod Formatting
 pub mod Cutting
 pub mod Rooms
+pub mod Spelling
+pub mod Worked

@@ -4,3 +4,4 @@ pub mod Sound
 pub mod Steps
 pub mod Plans
 pub mod Opening
+pub mod Worked
