@@ -5,3 +5,4 @@ pub mod Steps
 pub mod Plans
 pub mod Opening
 pub mod Worked
+pub mod Theorems
