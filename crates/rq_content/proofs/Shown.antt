@@ -36,6 +36,7 @@ use Rattle.rq_level.proofs.Holding.{Holds, view_holds, committed_is_group, tag_a
 use Rattle.rq_store.specs.State.{State}
 use Rattle.rq_store.specs.Sound.{IsSound, AllMove, placed}
 use Rattle.rq_store.specs.Fitting.{left_by}
+use Rattle.rq_store.proofs.Grouping.{groups_of}
 use Rattle.rq_store.proofs.Chains as Chains
 use Rattle.rq_store.proofs.Chains.{closed_is}
 use Rattle.rq_store.proofs.RowLists.{found_in}
@@ -196,10 +197,10 @@ finds : (s : State) (k : IsSound s) → any_under s.rows ≡ false → (g : ℕ)
 finds s k e g below =
     let its = items s.sizes s.records in
     let c = committed its g in
-    let h : Held g (λ u. open_deeds u its) (view its g) c = held g its k.log.groups in
+    let h : Held g (λ u. open_deeds u its) (view its g) c = held g its (groups_of s.sizes s.records k.log) in
     let t = h.sender in
     let u = h.taker in
-    let w : Holds g (say (open_deeds t its)) (say (open_deeds u its)) c (view its g) = view_holds g its t u k.log.groups h.sender_alone h.taker_alone in
+    let w : Holds g (say (open_deeds t its)) (say (open_deeds u its)) c (view its g) = view_holds g its t u (groups_of s.sizes s.records k.log) h.sender_alone h.taker_alone in
     let dt = done_by s k g t in
     let du = done_by s k g u in
     let own_is : added g (say (open_deeds t its)) ≡ own g dt.finished = added_own s g t dt in

@@ -138,14 +138,14 @@ unlink_tail_linked m m' s p q (x ∷ y ∷ ns) n rest end l = (
   unlink_tail_linked m m' s x.at (q + 1) (y ∷ ns) n rest end l.2,
 )
 
--- Law 2 for a send: what the receiving end did meanwhile stays
-append_taken : (ops : List Taking) (v w : View) (tag : ℕ) (body : List ℕ) → AreTaken ops v w → AreTaken ops (view_appended v tag body) (view_appended w tag body)
+-- what the receiving end does is the same behind a message that is sent
+pub append_taken : (ops : List Taking) (v w : View) (tag : ℕ) (body : List ℕ) → AreTaken ops v w → AreTaken ops (view_appended v tag body) (view_appended w tag body)
 append_taken [] v w tag body h = ap (λ u. view_appended u tag body) h
 append_taken (Took t b ∷ ops) v w tag body h = (h.0 ++ (tag, body) ∷ [], ap (λ xs. xs ++ (tag, body) ∷ []) h.1, append_taken ops _ w tag body h.2)
 append_taken (PutBack t b ∷ ops) v w tag body h = (h.0, append_taken ops _ w tag body h.1)
 
 -- which operations of the receiving end with which replies: each leaves one view
-taken_once : (ops : List Taking) (v w u : View) → AreTaken ops v w → AreTaken ops v u → w ≡ u
+pub taken_once : (ops : List Taking) (v w u : View) → AreTaken ops v w → AreTaken ops v u → w ≡ u
 taken_once [] v w u h k = sym h ∙ k
 taken_once (Took t b ∷ ops) v w u h k = let same : h.0 ≡ k.0 = (let e = sym h.1 ∙ k.1 in cc) in taken_once ops _ w u h.2 (let P : List (ℕ × List ℕ) → Type 0 = λ r. AreTaken ops (record v { received = v.received + 1; messages = r }) u in subst P (sym same) k.2)
 taken_once (PutBack t b ∷ ops) v w u h k = taken_once ops _ w u h.1 k.1
@@ -166,7 +166,7 @@ send_law ops v w u tag body alone done =
     let e = taken_once ops _ u _ done (append_taken ops v w tag body alone) in
     ap (λ x. view_tail_unlinked x v.last_tag) e ∙ ap (λ (r : List (ℕ × List ℕ)). let x : View = record w { last_tag = v.last_tag; messages = r } in x) (all_but_last_append w.messages (tag, body)) ∙ ap (λ t. let x : View = record w { last_tag = t } in x) (sym (taken_tag ops v w alone))
 
-take_law_from : (ops : List Sending) (v1 u v w : View) (tag : ℕ) (body : List ℕ) → 0 < v1.received → v ≡ view_put_back v1 tag body → AreSent ops v1 u → AreSent ops v w → view_put_back u tag body ≡ w
+pub take_law_from : (ops : List Sending) (v1 u v w : View) (tag : ℕ) (body : List ℕ) → 0 < v1.received → v ≡ view_put_back v1 tag body → AreSent ops v1 u → AreSent ops v w → view_put_back u tag body ≡ w
 take_law_from [] v1 u v w tag body pos e h k = ap (λ x. view_put_back x tag body) (sym h) ∙ sym e ∙ k
 take_law_from (Sent t b ∷ ops) v1 u v w tag body pos e h k = take_law_from ops _ u _ w tag body pos (ap (λ x. view_appended x t b) e) h k
 take_law_from (TailUnlinked t ∷ ops) v1 u v w tag body pos e h k =
@@ -205,7 +205,7 @@ head_after : (m : Cells) (s q : ℕ) (ns : List Node) (new head : ℕ) (n : Node
 head_after m s q [] new head n e f l = sym e
 head_after m s q (x ∷ ns) new head n e f l = cond-false (last x.at ns == 0) new head (no_eq _ _ (let p = last_pos m s 0 q x ns 0 l in λ g. omega arith)) ∙ f
 
--- Law 1 for a send: the sender's chain
+-- a send: the sender's chain
 pub append_shows : (m : Cells) (s : ℕ) (d : Directory) (v : View) (new tag : ℕ) (body : List ℕ) → 0 < new → m new ≡ None → Shows m s d v
     → Shows (cells_appended m s d new tag body) s (directory_appended d new tag) (view_appended v tag body)
 append_shows m s d v new tag body pos free h =
@@ -234,7 +234,7 @@ append_shows m s d v new tag body pos free h =
       messages = ap (λ r. r ++ (tag, body) ∷ []) h.messages ∙ sym (map-append message h.nodes (n ∷ []));
     }
 
--- Law 1 for a send: every other sender's cells
+-- and every other sender's cells
 pub append_foreign : (m : Cells) (s s' : ℕ) (d : Directory) (v : View) (new tag : ℕ) (body : List ℕ) → s' ≢ s → m new ≡ None → Shows m s d v → (a : ℕ) → (cells_appended m s d new tag body a ≡ m a) ⊎ IsForeign s' (m a)
 append_foreign m s s' d v new tag body ns free h a =
     let one = written m new (Some (record { sender = s; sequence = d.sent + 1; tag = tag; body = body; next = 0; prev = d.tail })) in

@@ -118,7 +118,9 @@ takes_total (Close s ∷ rs) v h k = absurd h
 
 pub sends_sound : (ds : List Deed) (v w : View) → v.last_tag ≡ w.last_tag → v.closed ≡ w.closed → total v ≡ total w → Sends ds → Sound ds v → Sound ds w
 sends_sound [] v w e f g h k = tt
-sends_sound (Append s n t p b ∷ ds) v w e f g h k = ((k.0.0 ∙ (same_marks ds v w e f).0, k.0.1 ∙ ap (λ x. x + 1) (same_total ds v w h g)), sends_sound ds v w e f g h k.1)
+sends_sound (Append s n t p b ∷ ds) v w e f g h k =
+    let m = same_marks ds v w e f in
+    ((k.0.0 ∙ m.0, k.0.1 ∙ ap (λ x. x + 1) (same_total ds v w h g), sym m.1 ∙ k.0.2), sends_sound ds v w e f g h k.1)
 sends_sound (UnlinkHead s n t b ∷ ds) v w e f g h k = absurd h
 sends_sound (Close s ∷ ds) v w e f g h k = (sym (same_marks ds v w e f).1 ∙ k.0, sends_sound ds v w e f g h k.1)
 

@@ -95,5 +95,5 @@ settled_view s log k e = let h = held s log k in
     h.shown ∙ ap (λ ps. with_all (side (is_sending s) ps) (with_all (side (is_taking s) (open_deeds h.taker log)) (committed log s))) (e h.sender) ∙ ap (λ ps. with_all (side (is_taking s) ps) (committed log s)) (e h.taker)
 
 -- the row keeps the rule of groups
-row_groups : KeepsGroups row
-row_groups = (tt, (tt, (tt, (λ s. record { sends = λ y. (λ u n. refl, (refl, refl)); takes = λ y. absurd (false≢true y) }, (tt, (tt, (tt, (tt, tt))))))))
+pub row_groups : KeepsGroups row
+row_groups = (tt, (tt, (tt, (λ s. record { sends = λ y. (λ u n. refl, (refl, refl, refl)); takes = λ y. absurd (false≢true y) }, (tt, (tt, (tt, (tt, tt))))))))

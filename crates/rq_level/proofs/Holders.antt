@@ -64,7 +64,7 @@ push_other : (f : Deed → Bool) (t : Txn) (p : Placed) (os : Txn → List Place
 push_other f t p os u n = rw (not_txn t u n) refl
 
 pub told_marks : (s : ℕ) (d : Deed) (v w : View) → is_sending s d ≡ true → v.last_tag ≡ w.last_tag → v.closed ≡ w.closed → total v ≡ total w → Told d v → Told d w
-told_marks s (Append r n tag p b) v w y e f g h = (h.0 ∙ e, h.1 ∙ ap (λ x. x + 1) g)
+told_marks s (Append r n tag p b) v w y e f g h = (h.0 ∙ e, h.1 ∙ ap (λ x. x + 1) g, sym f ∙ h.2)
 told_marks s (UnlinkHead r n tag b) v w y e f g h = absurd (false≢true y)
 told_marks s (Close r) v w y e f g h = sym f ∙ h
 

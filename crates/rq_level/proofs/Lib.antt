@@ -6,6 +6,7 @@ pub mod Views
 pub mod Owes
 pub mod Undo
 pub mod Rows
+pub mod Interleaved
 pub mod Deeds
 pub mod Holders
 pub mod GroupRule
@@ -22,3 +23,9 @@ pub mod Counting
 pub mod Holding
 pub mod Settled
 pub mod OpenCounts
+pub mod AllOpen
+pub mod Claims
+pub mod Numbers
+pub mod Inverses
+pub mod Worked
+pub mod Rules

@@ -1,21 +1,19 @@
 -- With transactions open: the used cells are what is committed and not taken, without what they took, with what they sent.
-use Rattle.std.proofs.Common.{◌≡◌, ◌≢◌, ℕ, zero, suc, ◌+◌, ◌-◌, ◌<◌, ◌≤◌, ◌||◌, List, [], ◌∷◌, ◌++◌, length, map, drop, true, false, cond, nat_eq, inl, inr, refl, sym, ◌∙◌, ap, subst, arith, Some, None}
+use Rattle.std.proofs.Common.{◌≡◌, ◌≢◌, ℕ, zero, suc, ◌+◌, ◌-◌, ◌<◌, ◌≤◌, List, [], ◌∷◌, ◌++◌, length, map, drop, true, false, cond, nat_eq, inl, inr, refl, sym, ◌∙◌, ap, subst, arith}
 use Rattle.std.specs.List.{sum_by, filter, filter_map}
 use Rattle.std.proofs.lemmas.List.{append-nil, length-append, length-drop, length-map}
 use Rattle.std.proofs.lemmas.List.Elements.{filter_map-append}
 use Rattle.std.proofs.lemmas.List.Sums.{sum_by-cons}
-use Rattle.std.proofs.lemmas.Bool.{cases_Bool, or_parts, eq-eqb}
+use Rattle.std.proofs.lemmas.Bool.{cases_Bool, or_parts}
 use Rattle.rq_model.specs.declared.message.Message.{Message}
 use Rattle.rq_model.specs.declared.record.Deed.{Deed}
 use Rattle.rq_model.specs.declared.record.Deed.TheVariants.{Append, UnlinkHead, Close}
 use Rattle.rq_model.specs.declared.record.Record.{Record}
-use Rattle.rq_model.specs.declared.record.Record.TheVariants.{PageOp, PageUndo, OpEnd, OpVoid, CompEnd, Commit, Restart, AbortEnd}
 use Rattle.rq_model.specs.declared.txn.Txn.{Txn}
 use Rattle.rq_model.specs.Words.{Op, same_txn, has_txn, sent_for, taken_from}
-use Rattle.rq_model.specs.Deeds.{deed_in}
 use Rattle.rq_model.specs.Ledger.{rest_in}
 use Rattle.rq_model.specs.Legal.{below, count_rest, is_sent}
-use Rattle.rq_model.specs.Content.{Said, said, ending_by, kept, deeds, has_end, added, added_one, removed, removed_one, op_of, ops_told, told, KeepsRules, committed_of}
+use Rattle.rq_model.specs.Content.{Said, said, has_end, added, added_one, removed, removed_one, op_of, ops_told, told, KeepsRules, committed_of}
 use Rattle.rq_model.specs.Content.Said.{Added, Removed, Ended}
 use Rattle.rq_model.specs.Counts.{is_taken, op_sender, AllBelow}
 use Rattle.rq_model.proofs.Counts.{sum_more, sum_same, sum_both, sum_none, count_is_sum, sum_sent, sum_taken}
@@ -25,7 +23,7 @@ use Rattle.rq_level.specs.Log.{Item, state_of}
 use Rattle.rq_level.specs.Plans.{deed_sender}
 use Rattle.rq_level.specs.Legal.{Placed, open_deeds, view, Legal}
 use Rattle.rq_level.specs.Groups.{is_sending, is_taking, side, committed, KeepsGroups}
-use Rattle.rq_level.specs.Items.{items, layout_of, told_deed, has_undone, Reads}
+use Rattle.rq_level.specs.Items.{items, layout_of, has_undone, Reads}
 use Rattle.rq_level.specs.Stored.{count_used}
 use Rattle.rq_level.specs.InStore.{InStore}
 use Rattle.rq_level.proofs.Committed.{say}

@@ -1,17 +1,17 @@
 -- For a legal log the slots show, of each sender over whose slots no operation under way has written, the fold of its deeds.
 use Rattle.rq_page.specs.declared.cell.Cell.{Cell}
 use Rattle.rq_model.specs.declared.txn.Sub.{Sub}
-use Rattle.std.proofs.Common.{◌≡◌, ◌≢◌, ℕ, ◌<◌, ◌⊎◌, ◌==◌, inl, inr, List, [], ◌∷◌, true, false, refl, sym, ap, subst, ◌∙◌, Option, None, Some}
-use Rattle.std.proofs.lemmas.Bool.{cases_Bool, cases_eq, cond-true, cond-false, eq-eqb}
+use Rattle.std.proofs.Common.{◌≢◌, ℕ, ◌<◌, ◌==◌, inl, inr, List, [], ◌∷◌, true, false, refl, sym, subst, ◌∙◌, Option, None, Some}
+use Rattle.std.proofs.lemmas.Bool.{cases_eq, cond-true, cond-false, eq-eqb}
 use Rattle.rq_level.specs.Chain.{View}
-use Rattle.rq_level.specs.Log.{Slots, Write, applied, Fits, Layout, Item, act, state_of, MayAct, same_op, rest_of}
+use Rattle.rq_level.specs.Log.{Slots, Write, applied, Fits, Layout, Item, act, state_of, MayAct}
 use Rattle.rq_model.specs.declared.record.Deed.TheVariants.{Append, UnlinkHead, Close}
 use Rattle.rq_level.specs.Log.Item.{PageOp, PageUndo, OpEnd, OpVoid, CompEnd, Commit, AbortEnd, Restart}
 use Rattle.rq_level.specs.Plans.{ShowsAt, Spares, IsLink, relinked, Turn, IsPlan, turn_sender, with_turn}
 use Rattle.rq_level.specs.Plans.Turn.{Did, Undid}
-use Rattle.rq_level.specs.Legal.{Placed, open_deeds, undoing, view_after, view, Undoes, May, Legal, Begins, onto, IsLayout, empty_directory}
+use Rattle.rq_level.specs.Legal.{Placed, open_deeds, undoing, view_after, view, Undoes, May, Legal, IsLayout, empty_directory}
 use Rattle.rq_level.proofs.Chains.{no_eq}
-use Rattle.rq_level.proofs.Overlay.{Good, good_after, good_start, same_is}
+use Rattle.rq_level.proofs.Overlay.{Good, good_after, good_start}
 use Rattle.rq_level.proofs.Laws.{others, spared, shows_frame, append_law}
 use Rattle.rq_level.proofs.Takes.{mark_law, head_law, tail_law, back_law}
 
@@ -95,37 +95,3 @@ views l log s fine h in_range free =
       | inl k ↦ elim (spared s (z.writes k.0) z.quiet (free k.0) (g.fits k.0) a) [ inl e ↦ inl (k.2 ∙ e) | inr f ↦ inr f ]
       | inr k ↦ inl k.1
     ]) (quiet_views l log s fine h in_range)
-
-begun_cut : (l : Layout) (ws : List Write) → (ws ≡ []) ⊎ Begins l ws → (rest_of ws ≡ []) ⊎ Begins l (rest_of ws)
-begun_cut l [] h = inl refl
-begun_cut l (w ∷ ws) (inl e) = inl (ap rest_of e)
-begun_cut l (w ∷ ws) (inr b) = inr (record { turn = b.turn; owed = w ∷ b.owed; plan = b.plan })
-
--- what an operation has written and not undone is a beginning of an operation's writes
-pub begun : (l : Layout) (log : List Item) (o : Sub) → Legal l log → ((state_of l log).writes o ≡ []) ⊎ Begins l ((state_of l log).writes o)
-begun l [] o h = inl refl
-begun l (PageOp p w ∷ log) o h = elim (cases_Bool (same_op p o)) [
-  | inl y ↦ rw y (inr (subst (λ u. Begins l (w ∷ (state_of l log).writes u)) (same_is p o y) h.0.begins))
-  | inr n ↦ rw n (begun l log o h.1)
-]
-begun l (PageUndo p u at after ∷ log) o h = elim (cases_Bool (same_op p o)) [
-  | inl y ↦ rw y (begun_cut l ((state_of l log).writes o) (begun l log o h.1))
-  | inr n ↦ rw n (begun l log o h.1)
-]
-begun l (OpEnd p d ∷ log) o h = elim (cases_Bool (same_op p o)) [ inl y ↦ rw y (inl refl) | inr n ↦ rw n (begun l log o h.1) ]
-begun l (OpVoid p ∷ log) o h = elim (cases_Bool (same_op p o)) [ inl y ↦ rw y (inl refl) | inr n ↦ rw n (begun l log o h.1) ]
-begun l (CompEnd p u ∷ log) o h = elim (cases_Bool (same_op p o)) [ inl y ↦ rw y (inl refl) | inr n ↦ rw n (begun l log o h.1) ]
-begun l (Commit t ∷ log) o h = begun l log o h.1
-begun l (AbortEnd t ∷ log) o h = begun l log o h.1
-begun l (Restart i ∷ log) o h = begun l log o h.1
-
-part_spares : (s : ℕ) (owed ws : List Write) → Spares s (onto owed ws) → Spares s ws
-part_spares s [] ws h = h
-part_spares s (w ∷ owed) ws h = (part_spares s owed (w ∷ ws) h).1
-
--- Views: where no operation under way is on s
-pub views_idle : (l : Layout) (log : List Item) (s : ℕ) → IsLayout l → Legal l log → s < l.senders → ((o : Sub) (b : Begins l ((state_of l log).writes o)) → turn_sender b.turn ≢ s) → ShowsAt l (state_of l log).slots s (view log s)
-views_idle l log s fine h in_range idle = views l log s fine h in_range (λ o. elim (begun l log o h) [
-  | inl e ↦ subst (λ ws. Spares s ws) (sym e) tt
-  | inr b ↦ part_spares s b.owed ((state_of l log).writes o) (plan_spares l s b.turn (onto b.owed ((state_of l log).writes o)) (idle o b) b.plan)
-])

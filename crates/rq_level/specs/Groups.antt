@@ -6,7 +6,7 @@ use Rattle.rq_level.specs.Chain.{View}
 use Rattle.rq_level.specs.Log.{Item}
 use Rattle.rq_model.specs.declared.record.Deed.TheVariants.{Append, UnlinkHead, Close}
 use Rattle.rq_level.specs.Log.Item.{OpEnd, CompEnd, Commit}
-use Rattle.rq_level.specs.Plans.{with_turn}
+use Rattle.rq_level.specs.Plans.{with_turn, deed_sender}
 use Rattle.rq_level.specs.Plans.Turn.{Did}
 use Rattle.rq_level.specs.Legal.{Placed, open_deeds, no_view, view}
 
@@ -41,13 +41,13 @@ committed (r ∷ log) s = committed_after s r log (committed log s)
 abbrev pub Alone : (Deed → Bool) → Txn → List Item → Type 0
 Alone f t log = (u : Txn) → u ≢ t → side f (open_deeds u log) ≡ []
 
--- the view that the deed was done over
+-- the view that the deed was done over: nothing is sent to a closed group, nor is it closed again
 abbrev pub Told : Deed → View → Type 0
-Told (Append s n tag previous body) v = (previous ≡ v.last_tag) × (n ≡ v.received + length v.messages + 1)
+Told (Append s n tag previous body) v = (previous ≡ v.last_tag) × (n ≡ v.received + length v.messages + 1) × (v.closed ≡ false)
 Told (UnlinkHead s n tag body) v = (rest : List (ℕ × List ℕ)) × (v.messages ≡ (tag, body) ∷ rest) × (n ≡ v.received + 1)
 Told (Close s) v = v.closed ≡ false
 
--- the rule of groups and receives for a record
+-- the rule of groups and receives for a record: what it comes to over views
 pub record MayTurn (log : List Item) (t : Txn) (d : Deed) (s : ℕ) : Type 0 where
   pub sends : is_sending s d ≡ true → Alone (is_sending s) t log × Told d (view log s)
   pub takes : is_taking s d ≡ true → Alone (is_taking s) t log × Told d (view log s) × (0 < length (with_all (side (is_taking s) (open_deeds t log)) (committed log s)).messages)
@@ -60,3 +60,12 @@ MayGroup log _ = Unit {0}
 abbrev pub KeepsGroups : List Item → Type 0
 KeepsGroups [] = Unit {0}
 KeepsGroups (r ∷ log) = MayGroup log r × KeepsGroups log
+
+-- each deed tells what it was done over
+abbrev pub TellsOne : List Item → Item → Type 0
+TellsOne log (OpEnd o d) = Told d (view log (deed_sender d))
+TellsOne log _ = Unit {0}
+
+abbrev pub Tells : List Item → Type 0
+Tells [] = Unit {0}
+Tells (r ∷ log) = TellsOne log r × Tells log

@@ -43,17 +43,19 @@ formatted_at z a = cond (nat_lt 0 (a / 16) && nat_le (a / 16) z.directory && nat
 abbrev pub layout_of : Sizes → Layout
 layout_of z = record { page = λ a. a / 16; directory_at = directory_at; senders = sender_count z; formatted = formatted_at z }
 
--- each OpEnd is of the chain level and its deed can be read; no transaction commits that undid something
+-- the record ends an inverse of the transaction's
 abbrev pub compensates : Txn → Record → Bool
 compensates t (records.CompEnd u n undone) = same_txn u t
 compensates t _ = false
 
+-- the transaction undid something
 abbrev pub has_undone : List Record → Txn → Bool
 has_undone [] t = false
 has_undone (r ∷ log) t = cond (compensates t r) true (has_undone log t)
 
+-- an OpEnd is of the chain level and its deed can be read; a transaction that undid something does nothing more and doesn't commit
 abbrev pub ReadsOne : List Record → Record → Type 0
-ReadsOne log (records.OpEnd t n level deed) = (level ≡ 1) × ((d : Deed) × (deed_in deed ≡ Some d))
+ReadsOne log (records.OpEnd t n level deed) = (level ≡ 1) × ((d : Deed) × (deed_in deed ≡ Some d)) × (has_undone log t ≡ false)
 ReadsOne log (records.Commit t) = has_undone log t ≡ false
 ReadsOne log _ = Unit {0}
 

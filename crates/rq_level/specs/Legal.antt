@@ -104,6 +104,15 @@ abbrev pub has_end : Txn → List Item → Bool
 has_end t [] = false
 has_end t (r ∷ log) = ends_txn t r || has_end t log
 
+abbrev pub does : Txn → Item → Bool
+does t (OpEnd o d) = same_txn o.txn t
+does t _ = false
+
+-- the transaction has done something, taken back or not
+abbrev pub has_done : Txn → List Item → Bool
+has_done t [] = false
+has_done t (r ∷ log) = does t r || has_done t log
+
 -- the page of a page record
 abbrev pub on_page : (ℕ → ℕ) → ℕ → Item → Bool
 on_page page p (PageOp o w) = page w.at == p
@@ -188,9 +197,10 @@ pub record MayAbortEnd (log : List Item) (t : Txn) : Type 0 where
   pub running : has_end t log ≡ false
   pub empty : open_deeds t log ≡ []
 
+-- no operation is under way, and whoever did something has its Commit or AbortEnd
 pub record MayRestart (log : List Item) (i : ℕ) : Type 0 where
   pub idle : (o : Sub) → under_way o log ≡ false
-  pub settled : (t : Txn) → has_end t log ≡ false → open_deeds t log ≡ []
+  pub ended : (t : Txn) → has_done t log ≡ true → has_end t log ≡ true
 
 abbrev pub May : Layout → List Item → Item → Type 0
 May l log (PageOp o w) = MayPageOp l log o w

@@ -11,3 +11,7 @@ pub mod Stored
 pub mod InStore
 pub mod Owed
 pub mod StoreTheorems
+pub mod Claims
+pub mod Numbers
+pub mod Inverses
+pub mod Worked

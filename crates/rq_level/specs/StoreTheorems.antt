@@ -1,16 +1,18 @@
 -- What holds of every legal log of a store.
-use Rattle.std.specs.Prelude.{◌≡◌, ℕ, ◌+◌, ◌≤◌, false, List, [], length}
+use Rattle.std.specs.Prelude.{◌≡◌, ℕ, ◌+◌, ◌≤◌, true, false, List, [], length}
 use Rattle.std.specs.List.{sum_by}
 use Rattle.rq_model.specs.declared.txn.Sub.{Sub}
 use Rattle.rq_model.specs.declared.txn.Txn.{Txn}
 use Rattle.rq_model.specs.declared.record.Record.{Record}
 use Rattle.rq_model.specs.Legal.{below, count_rest}
 use Rattle.rq_model.specs.Content.{KeepsRules, committed_of}
-use Rattle.rq_page.specs.Sizes.{Sizes, sender_count}
+use Rattle.rq_page.specs.Sizes.{Sizes, cell_count, sender_count}
+use Rattle.rq_level.specs.Claims.{takes_placed, HasRoom}
 use Rattle.rq_level.specs.Groups.{KeepsGroups}
 use Rattle.rq_level.specs.InStore.{InStore, AllStand}
-use Rattle.rq_level.specs.Items.{items, layout_of, Reads}
-use Rattle.rq_level.specs.Legal.{Legal, open_deeds, under_way, view}
+use Rattle.rq_level.specs.Items.{items, layout_of, operation, Reads}
+use Rattle.rq_level.specs.Legal.{Legal, began, open_deeds, under_way, view}
+use Rattle.rq_level.specs.Numbers.{greatest, AreNumbered}
 use Rattle.rq_level.specs.Log.{Item, Layout, state_of}
 use Rattle.rq_level.specs.Stored.{count_used}
 
@@ -38,3 +40,13 @@ SettledCellsAreCommitted =
     (z : Sizes) (log : List Record) → Legal (layout_of z) (items z log) → InStore z log → KeepsGroups (items z log) → KeepsRules log → Reads log
     → ((t : Txn) → open_deeds t (items z log) ≡ [])
     → count_used z (state_of (layout_of z) (items z log)).quiet ≡ count_rest (below (sender_count z)) (committed_of log)
+
+-- while a transaction may put back what it took, a cell is left for each of these messages
+abbrev pub TakenMessagesHaveCells : Type 0
+TakenMessagesHaveCells =
+    (z : Sizes) (log : List Record) (t : Txn) → Legal (layout_of z) (items z log) → InStore z log → HasRoom (cell_count z) (items z log)
+    → count_used z (state_of (layout_of z) (items z log)).quiet + sum_by takes_placed (open_deeds t (items z log)) ≤ cell_count z
+
+-- the numbers of a transaction's operations go from 1 to the greatest
+abbrev pub NumbersHaveNoGaps : Type 0
+NumbersHaveNoGaps = (l : Layout) (t : Txn) (n : ℕ) (log : List Item) → Legal l log → AreNumbered log → 1 ≤ n → n ≤ greatest t log → began (operation t n) log ≡ true

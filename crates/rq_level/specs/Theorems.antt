@@ -1,26 +1,26 @@
 -- What holds of every legal log.
-use Rattle.std.specs.Prelude.{◌≡◌, ◌≢◌, ℕ, ◌<◌, List, []}
+use Rattle.std.specs.Prelude.{◌≡◌, ℕ, ◌<◌, List, []}
 use Rattle.rq_model.specs.declared.txn.Sub.{Sub}
 use Rattle.rq_model.specs.declared.txn.Txn.{Txn}
 use Rattle.rq_model.specs.declared.record.Record.{Record}
 use Rattle.rq_model.specs.Content.{content, KeepsRules}
 use Rattle.rq_page.specs.Sizes.{Sizes}
 use Rattle.rq_level.specs.Committed.{IsViewOf}
-use Rattle.rq_level.specs.Items.{items, Reads}
+use Rattle.rq_level.specs.Items.{items, layout_of, Reads}
 use Rattle.rq_level.specs.Log.{Item, Layout, state_of}
-use Rattle.rq_level.specs.Plans.{ShowsAt, turn_sender}
-use Rattle.rq_level.specs.Legal.{Legal, IsLayout, Begins, open_deeds, view}
-use Rattle.rq_level.specs.Groups.{KeepsGroups, committed}
+use Rattle.rq_level.specs.Plans.{ShowsAt, Spares}
+use Rattle.rq_level.specs.Legal.{Legal, IsLayout, open_deeds, view}
+use Rattle.rq_level.specs.Groups.{KeepsGroups, Tells, committed}
 
 -- the slots that whole operations alone have written show, of each sender, the fold of what its operations did and undid,
 -- whatever is under way
 abbrev pub QuietSlotsShowTheFold : Type 0
 QuietSlotsShowTheFold = (l : Layout) (log : List Item) (s : ℕ) → IsLayout l → Legal l log → s < l.senders → ShowsAt l (state_of l log).quiet s (view log s)
 
--- and so do the slots as they are, where no operation is under way on the sender
+-- and so do the slots as they are, of a sender over whose slots no operation under way has written
 abbrev pub IdleSlotsShowTheFold : Type 0
 IdleSlotsShowTheFold = (l : Layout) (log : List Item) (s : ℕ) → IsLayout l → Legal l log → s < l.senders
-    → ((o : Sub) (b : Begins l ((state_of l log).writes o)) → turn_sender b.turn ≢ s) → ShowsAt l (state_of l log).slots s (view log s)
+    → ((o : Sub) → Spares s ((state_of l log).writes o)) → ShowsAt l (state_of l log).slots s (view log s)
 
 -- where every transaction has ended, the fold is what committed transactions leave
 abbrev pub SettledFoldIsCommitted : Type 0
@@ -29,3 +29,7 @@ SettledFoldIsCommitted = (s : ℕ) (log : List Item) → KeepsGroups log → ((t
 -- what the chains of committed transactions hold is the content of the log
 abbrev pub CommittedIsContent : Type 0
 CommittedIsContent = (z : Sizes) (s : ℕ) (log : List Record) → KeepsRules log → Reads log → IsViewOf s (content log s) (committed (items z log) s)
+
+-- where only the holder of an end uses it and each deed tells what it was done over, each sender's view is that of its holders
+abbrev pub RulesKeepGroups : Type 0
+RulesKeepGroups = (z : Sizes) (log : List Record) → Legal (layout_of z) (items z log) → KeepsRules log → Reads log → Tells (items z log) → KeepsGroups (items z log)

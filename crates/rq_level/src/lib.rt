@@ -4,8 +4,10 @@
 //! The definitions stand in specs/, the theorems are the contracts of the functions here.
 #![tactic(auto)]
 
-ghost use Rattle.rq_level.specs.StoreTheorems.{SlotsStandWhereTheyMay, UsedCellsAreMessages, IdleSlotsAreWhole, ChainsAreBounded, SettledCellsAreCommitted};
-ghost use Rattle.rq_level.specs.Theorems.{QuietSlotsShowTheFold, IdleSlotsShowTheFold, SettledFoldIsCommitted, CommittedIsContent};
+ghost use Rattle.rq_level.specs.Inverses.{InversesLeaveTheOthers};
+ghost use Rattle.rq_level.specs.StoreTheorems.{SlotsStandWhereTheyMay, UsedCellsAreMessages, IdleSlotsAreWhole, ChainsAreBounded, SettledCellsAreCommitted, TakenMessagesHaveCells, NumbersHaveNoGaps};
+ghost use Rattle.rq_level.specs.Worked.{WorkedLogs, RefusedRecords};
+ghost use Rattle.rq_level.specs.Theorems.{QuietSlotsShowTheFold, IdleSlotsShowTheFold, SettledFoldIsCommitted, CommittedIsContent, RulesKeepGroups};
 
 /// Over every legal log, with any operations interleaved at single slot writes: the slots that whole
 /// operations alone have written show each sender's chain as its operations say.
@@ -52,4 +54,36 @@ pub fn chains_are_bounded()
 /// not taken.
 pub fn settled_cells_are_committed()
     ensures { SettledCellsAreCommitted }
+{}
+
+/// Over every legal log with room, each message that a transaction took and may put back has a cell for it.
+pub fn taken_messages_have_cells()
+    ensures { TakenMessagesHaveCells }
+{}
+
+/// Of every legal log, the operations of a transaction have the numbers from 1 to its greatest, each.
+pub fn numbers_have_no_gaps()
+    ensures { NumbersHaveNoGaps }
+{}
+
+/// An operation is done, and then others on the other end of its chain that could be done without it, with the same
+/// replies: its inverse gives the view that these alone would have given.
+pub fn inverses_leave_the_others()
+    ensures { InversesLeaveTheOthers }
+{}
+
+/// Worked logs, with what they come to: two operations interleaved, and an abort that a crash stops and a restart ends.
+pub fn worked_logs()
+    ensures { WorkedLogs }
+{}
+
+/// What may not come next, for each rule, after logs that keep all of them.
+pub fn refused_records()
+    ensures { RefusedRecords }
+{}
+
+/// Where only the holder of an end uses it, as the rules of receives and groups say of the records, and each deed tells
+/// what it was done over, each sender's view is what its holders make of it.
+pub fn rules_keep_groups()
+    ensures { RulesKeepGroups }
 {}

@@ -1,6 +1,6 @@
 -- A transaction begins.
 use Rattle.std.proofs.Common.{◌≡◌, ℕ, ◌+◌, ◌-◌, ◌^◌, ◌≤◌, ◌&&◌, ◌||◌, List, [], ◌∷◌, length, refl, sym, ◌∙◌, ap, subst, true, false, not, Option, Some, None, inl, inr, nat_eq, nat_lt, arith}
-use Rattle.std.proofs.lemmas.Bool.{cases_Bool, true≢false, false_from_ne_true, or_parts, eq-eqb}
+use Rattle.std.proofs.lemmas.Bool.{cases_Bool, cases_lt, true≢false, false_from_ne_true, or_parts, eq-eqb}
 use Rattle.std.proofs.lemmas.List.Sums.{sum_by-cons}
 use Rattle.rq_model.specs.declared.txn.Txn.{Txn}
 use Rattle.rq_model.specs.declared.record.Record.{Record}
@@ -12,8 +12,10 @@ use Rattle.rq_model.specs.History.Call.{Begin}
 use Rattle.rq_model.specs.Replay.Reply.{Gave_txn}
 use Rattle.rq_page.specs.Sizes.{Sizes}
 use Rattle.rq_level.specs.Legal.{over}
-use Rattle.rq_level.specs.Items.{items, operation}
+use Rattle.rq_level.specs.Items.{items, layout_of, operation}
+use Rattle.rq_level.specs.Numbers.{greatest}
 use Rattle.rq_level.specs.InStore.{IsStranger}
+use Rattle.rq_level.proofs.Numbers.{all_begun}
 use Rattle.rq_level.proofs.Strangers.{stranger_deeds, stranger_end, stranger_undone, stranger_began}
 use Rattle.rq_txn.specs.Rows.{Row, found_row, fresh_row}
 use Rattle.rq_groups.specs.declared.Held.{Held}
@@ -55,6 +57,12 @@ module _ (s : State) (k : IsSound s) where
     at None e = refl
     at (Some r) e = let i = found_in t s.rows r e in let c : r.txn.count ≤ s.begins = (k.rows r i.0).counted in let v : r.txn.count ≡ s.begins + 1 = ap (λ (y : Txn). y.count) i.1 in absurd (omega (arith, c, v))
 
+  no_number : greatest t (items z log) ≡ 0
+  no_number = elim (cases_lt 0 (greatest t (items z log))) [
+    | inl some ↦ absurd (true≢false (sym (all_begun (layout_of z) t (greatest t (items z log)) (items z log) k.log.legal k.log.numbers (omega (arith, some)) (omega arith)) ∙ stranger_began z t (greatest t (items z log)) log stranger))
+    | inr none ↦ omega (arith, none)
+  ]
+
   fresh : IsRow z log s.ends s.incarnation (s.begins + 1) (fresh_row t)
   fresh = record {
     of_incarnation = refl;
@@ -65,13 +73,13 @@ module _ (s : State) (k : IsSound s) where
     done = stranger_deeds z t log stranger;
     held = tt;
     moves = tt;
-    numbered = λ n m. stranger_began z t n log stranger;
+    numbered = (let e = no_number in omega (arith, e));
     idle = λ n m. ap (λ b. b && not (over (operation t n) (items z log))) (stranger_began z t n log stranger);
     going = tt;
   }
 
   old_row : (r : Row) → In r s.rows → IsRow z log s.ends s.incarnation (s.begins + 1) r
-  old_row r i = row_over z log log s.ends s.ends s.incarnation s.begins (s.begins + 1) r (omega arith) (record { running = refl; undone = refl; done = refl; began = λ n. refl; under_way = λ n. refl; held = λ h. h }) (k.rows r i).going (k.rows r i)
+  old_row r i = row_over z log log s.ends s.ends s.incarnation s.begins (s.begins + 1) r (omega arith) (record { running = refl; undone = refl; done = refl; numbers = refl; under_way = λ n. refl; held = λ h. h }) (k.rows r i).going (k.rows r i)
 
   no_end : (hs : List Held) → AreEnds s.rows hs → (e : ℕ) → has_held t e hs ≡ false
   no_end hs a e = false_from_ne_true (has_held t e hs) (λ y. some_not_none (found_row t s.rows) (a.living t e y) not_there)

@@ -29,6 +29,7 @@ use Rattle.rq_txn.specs.Rows.{Row, found_row, AreDistinct, any_under}
 use Rattle.rq_store.specs.State.{State, ledger_of, open_of, open_ones_of, op_done}
 use Rattle.rq_store.specs.Sound.{IsSound, Moves, AllMove, is_under}
 use Rattle.rq_store.specs.Fitting.{left_by}
+use Rattle.rq_store.proofs.Grouping.{groups_of}
 use Rattle.rq_store.proofs.RowLists.{found_in, none_under}
 use Rattle.rq_store.proofs.Others.{none_of}
 use Rattle.rq_store.proofs.Telling.{told_placed}
@@ -94,7 +95,7 @@ sums_taken s k g (r ∷ rows) h =
 -- the ledger's number of messages in a chain is that of its view
 pub chain_is : (s : State) (k : IsSound s) (g : ℕ) → in_chain (ledger_of s) g ≡ length (view (items s.sizes s.records) g).messages
 chain_is s k g =
-    let a = chain_count g (items s.sizes s.records) (txns s.rows) k.log.groups (are_apart s.rows k.distinct) (all_open s k) in
+    let a = chain_count g (items s.sizes s.records) (txns s.rows) (groups_of s.sizes s.records k.log) (are_apart s.rows k.distinct) (all_open s k) in
     let b = sums_sent s k g s.rows (λ r i. i) in
     let c = sums_taken s k g s.rows (λ r i. i) in
     let d = rest_shown s.sizes g s.records k.log.rules k.log.reads in
@@ -111,7 +112,7 @@ moves_close_nothing g (f ∷ fs) h = or_from _ _ (one g f.deed h.0) (moves_close
 -- while no open transaction closes a group, what is closed is closed by a commit
 pub closed_is : (s : State) (k : IsSound s) (g : ℕ) → (view (items s.sizes s.records) g).closed ≡ ended_in (committed_of s.records) g
 closed_is s k g =
-    let h = holders g (items s.sizes s.records) k.log.groups in
+    let h = holders g (items s.sizes s.records) (groups_of s.sizes s.records k.log) in
     let c = committed_is_group s.sizes g s.records k.log.rules k.log.reads in
     h.view.closed ∙ ap (λ b. b || (committed (items s.sizes s.records) g).closed) (at h.sender (found_row h.sender s.rows) refl) ∙ c.closed
   where

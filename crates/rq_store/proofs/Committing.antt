@@ -100,12 +100,14 @@ module _ (s : State) (k : IsSound s) (t : Txn) (r : Row) (cells : ℕ) (ws : Lis
   log_whole : IsWhole z (x ∷ log)
   log_whole = record {
     legal = (may, k.log.legal);
-    groups = (tt, k.log.groups);
+    told = (tt, k.log.told);
     rules = (tt, (λ v e. elim (or_cases (same_txn t v) false e) [ inl y ↦ ap (has_end log) (sym (same_is t v y)) ∙ running | inr y ↦ absurd (false≢true y) ]), k.log.rules);
     reads = (ap (has_undone log) (sym place.1) ∙ row.undid_nothing, k.log.reads);
     in_store = (tt, k.log.in_store);
     befores = (tt, k.log.befores);
     order = ((subst (λ n. 1 ≤ n) (sym k.incarnation) k.some, (ap (λ (y : Txn). y.incarnation) (sym place.1) ∙ row.of_incarnation) ∙ sym k.incarnation), k.log.order);
+    room = (tt, k.log.room);
+    numbers = (tt, k.log.numbers);
   }
 
   abbrev rows : List Row
@@ -145,7 +147,7 @@ module _ (s : State) (k : IsSound s) (t : Txn) (r : Row) (cells : ℕ) (ws : Lis
         running = rw e refl;
         undone = refl;
         done = rw e refl;
-        began = λ n. refl;
+        numbers = omega arith;
         under_way = λ n. refl;
         held = λ h. all_other t q.txn s.ends q.finished n h;
       }) (going_of q q.under n h.going) h

@@ -14,12 +14,14 @@ use Rattle.rq_store.proofs.Fitting.{page_fits_more}
 whole_older : (z : Sizes) (r : Record) (log : List Record) → IsWhole z (r ∷ log) → IsWhole z log
 whole_older z r log w = record {
   legal = w.legal.1;
-  groups = w.groups.1;
+  told = w.told.1;
   rules = w.rules.2;
   reads = w.reads.1;
   in_store = w.in_store.1;
   befores = w.befores.1;
   order = w.order.1;
+  room = w.room.1;
+  numbers = w.numbers.1;
 }
 
 pub whole_dropped : (z : Sizes) (n : ℕ) (log : List Record) → IsWhole z log → IsWhole z (drop n log)

@@ -19,15 +19,17 @@ use Rattle.rq_model.specs.History.Entry.{Did}
 use Rattle.rq_model.specs.History.Call.{Finish}
 use Rattle.rq_model.specs.Replay.{Says}
 use Rattle.rq_model.proofs.Lists.{same_self}
-use Rattle.rq_page.specs.Sizes.{Sizes, sender_count}
+use Rattle.rq_page.specs.Sizes.{Sizes, cell_count, sender_count}
 use Rattle.rq_level.specs.Log.{same_op}
 use Rattle.rq_level.specs.Log.Item.{OpEnd}
 use Rattle.rq_level.specs.Legal.{May, open_deeds, began, over, under_way, view}
 use Rattle.rq_level.specs.Plans.{IsPlan, deed_sender}
 use Rattle.rq_level.specs.Plans.Turn.{Did as Did_turn}
 use Rattle.rq_level.specs.Chain.{View}
-use Rattle.rq_level.specs.Groups.{MayTurn, is_taking, side, with_all, committed, Told}
-use Rattle.rq_level.specs.Items.{items, item_of, layout_of, operation, told_deed}
+use Rattle.rq_level.specs.Groups.{Told}
+use Rattle.rq_level.specs.Claims.{takes_of, appends_of, claimed}
+use Rattle.rq_level.specs.Numbers.{greatest}
+use Rattle.rq_level.specs.Items.{items, item_of, layout_of, operation, told_deed, has_undone}
 use Rattle.rq_level.specs.Stored.{count_used}
 use Rattle.rq_level.proofs.Overlay.{same_self as same_op_self}
 use Rattle.rq_level.proofs.Strangers.{has_end_same}
@@ -38,34 +40,18 @@ use Rattle.rq_txn.specs.Rows.{Row, Under, found_row, change_row, row_finished}
 use Rattle.rq_groups.specs.Ends.{HeldEnds, has_held}
 use Rattle.rq_groups.specs.Waiting.{waits}
 use Rattle.rq_store.specs.State.{State, ledger_of, open_of, open_ones_of, job_of, job_under, left_under, op_done, phase_of}
-use Rattle.rq_store.specs.Sound.{IsSound, IsWhole, IsRow, IsGoing, IsSettled, HoldsFor, AllHeld, AllMove, Moves, HasWaiting, IsCovered, placed, placed_one, is_under, apart, appending, appends_of, takes_one, takes_of, takes_in}
+use Rattle.rq_store.specs.Sound.{IsSound, IsWhole, IsRow, IsGoing, IsSettled, HoldsFor, AllHeld, AllMove, Moves, HasWaiting, IsCovered, placed, placed_one, is_under, apart, appending, takes_one, takes_in}
 use Rattle.rq_store.specs.Fitting.{left_by, image_in}
 use Rattle.rq_store.specs.Steps.{Steps, op_end, gave_done, took}
 use Rattle.rq_store.proofs.Fitting.{fits_more}
 use Rattle.rq_store.proofs.RowLists.{found_in, unique, found_other, found_still, changed, distinct_change, not_txn}
 use Rattle.rq_store.proofs.Opens.{found_open, open_found, opens_change}
 use Rattle.rq_store.proofs.Working.{going_at, alone_going, not_found}
-use Rattle.rq_store.proofs.Others.{row_over, not_going, other_op, other_number, rows_sum, rows_one, opens_as_rows}
-use Rattle.rq_store.proofs.Holders.{map_join, placed_more, alone_sending, alone_taking, used_by_holder, taken_by_holder}
-use Rattle.rq_store.proofs.Waiting.{takes_below, left_is, first_is_next, more_left}
+use Rattle.rq_store.proofs.Others.{row_over, not_going, other_op, other_number, other_greatest, own_greatest, rows_sum, rows_one, opens_as_rows}
+use Rattle.rq_store.proofs.Holders.{map_join, placed_more, used_by_holder, taken_by_holder}
+use Rattle.rq_store.proofs.Waiting.{takes_below, first_is_next, more_left}
+use Rattle.rq_store.proofs.Rooms.{room_here}
 use Rattle.rq_store.proofs.Stepping.{one_longer}
-
-turn_of : (s : State) (k : IsSound s) (r : Row) → In r s.rows → (d : Deed) → Moves d → HoldsFor s.ends r.txn d → deed_sender d < sender_count s.sizes → HasWaiting s.waiting d → Told d (view (items s.sizes s.records) (deed_sender d)) → (e : ℕ) → MayTurn (items s.sizes s.records) r.txn d e
-turn_of s k r i (Append q n tag previous body) is h m w told e = record {
-  sends = λ y. let same : q ≡ e = eqb-true q e y in
-      (alone_sending s k e r.txn (subst (λ p. has_held r.txn p s.ends.sending ≡ true) same h), subst (λ p. Told (Append q n tag previous body) (view (items s.sizes s.records) p)) same told);
-  takes = λ y. absurd (false≢true y);
-}
-turn_of s k r i (UnlinkHead q n tag body) is h m w told e = record {
-  sends = λ y. absurd (false≢true y);
-  takes = λ y. let same : q ≡ e = eqb-true q e y in (
-    alone_taking s k e r.txn (subst (λ p. has_held r.txn p s.ends.receiving ≡ true) same h),
-    subst (λ p. Told (UnlinkHead q n tag body) (view (items s.sizes s.records) p)) same told,
-    subst (λ p. 0 < length (with_all (side (is_taking p) (open_deeds r.txn (items s.sizes s.records))) (committed (items s.sizes s.records) p)).messages) same
-        (let a = left_is s k q r i in let b = takes_below s k q r m i in let c : 1 ≤ waits s.waiting q = w in omega (arith, a, b, c)),
-  );
-}
-turn_of s k r i (Close q) is h m w told e = absurd is
 
 ends_of : (s : State) (k : IsSound s) (r : Row) → In r s.rows → (d : Deed) → Moves d → HoldsFor s.ends r.txn d → deed_sender d < sender_count s.sizes → HasWaiting s.waiting d → (e : ℕ) → MayEnd s.records e r.txn (said d)
 ends_of s k r i (Append q n tag previous body) is h m w e = record {
@@ -221,21 +207,30 @@ module _ (s : State) (k : IsSound s) (t : Txn) (r : Row) (u : Under) (ws : List 
     running = has_end_same z t log ∙ running;
   }
 
-  turn : (e : ℕ) → MayTurn (items z log) t said_deed e
-  turn e = subst (λ d. MayTurn (items z log) t d e) (sym deed_is) (subst (λ (q : Txn). MayTurn (items z log) q u.deed e) place.1 (turn_of s k r place.0 u.deed g.moves held_here g.sender waits_here g.told e))
+  tells : Told said_deed (view (items z log) (deed_sender said_deed))
+  tells = subst (λ d. Told d (view (items z log) (deed_sender d))) (sym deed_is) g.told
 
   ends : EndingMay log (Some (record { txn = t; said = said u.deed }))
   ends e = subst (λ (q : Txn). MayEnd log e q (said u.deed)) place.1 (ends_of s k r place.0 u.deed g.moves held_here g.sender waits_here e)
 
+  room : claimed (items z log) + appends_of said_deed ≤ cell_count z
+  room =
+      let a = room_here s k r place.0 in
+      let b : appending r.under ≡ appends_of u.deed = ap appending under in
+      let c : appends_of said_deed ≡ appends_of u.deed = ap appends_of deed_is in
+      omega (arith, a, b, c)
+
   log_whole : IsWhole z (x ∷ log)
   log_whole = record {
     legal = (may, k.log.legal);
-    groups = (turn, k.log.groups);
+    told = (tells, k.log.told);
     rules = (subst (EndingMay log) (sym (ap (λ (y : Option Deed). ending_by t (cond (nat_eq 1 1) y None)) g.reads)) ends, (λ v e. absurd (false≢true e)), k.log.rules);
-    reads = ((refl, (u.deed, g.reads)), k.log.reads);
+    reads = ((refl, (u.deed, g.reads), ap (has_undone log) (sym place.1) ∙ row.undid_nothing), k.log.reads);
     in_store = (subst (λ d. deed_sender d < sender_count z) (sym deed_is) g.sender, k.log.in_store);
     befores = (tt, k.log.befores);
     order = ((subst (λ n. 1 ≤ n) (sym k.incarnation) k.some, (ap (λ (y : Txn). y.incarnation) (sym place.1) ∙ row.of_incarnation) ∙ sym k.incarnation), k.log.order);
+    room = (room, k.log.room);
+    numbers = (tt, k.log.numbers);
   }
 
   abbrev rows : List Row
@@ -257,7 +252,7 @@ module _ (s : State) (k : IsSound s) (t : Txn) (r : Row) (u : Under) (ws : List 
         running = refl;
         undone = refl;
         done = rw e refl;
-        began = λ n. ap (λ b. b || began (operation q.txn n) (items z log)) (other_op t q.txn u.number n e);
+        numbers = other_greatest t q.txn u.number (greatest q.txn (items z log)) e;
         under_way = λ n. ap (λ b. (b || began (operation q.txn n) (items z log)) && not (b || over (operation q.txn n) (items z log))) (other_op t q.txn u.number n e);
         held = λ h. h;
       }) (not_going z (x ∷ log) s.ends q q.under (other_idle q i n)) (k.rows q i)
@@ -280,6 +275,13 @@ module _ (s : State) (k : IsSound s) (t : Txn) (r : Row) (u : Under) (ws : List 
       ∙ ap (λ ps. placed_one f ∷ ps) row.done
       ∙ sym (placed_more r.finished f)
 
+  number_now : greatest r.txn (items z (x ∷ log)) + 0 ≡ r.number
+  number_now =
+      let e = row.numbered in
+      let c = going.1 in
+      let a : greatest r.txn (items z (x ∷ log)) ≡ u.number = own_greatest t r.txn u.number (greatest r.txn (items z log)) (sym place.1) (omega (arith, e, c)) in
+      omega (arith, a, c)
+
   own_row : IsRow z (x ∷ log) s.ends s.incarnation s.begins (row_finished f r)
   own_row = record {
     of_incarnation = row.of_incarnation;
@@ -290,7 +292,7 @@ module _ (s : State) (k : IsSound s) (t : Txn) (r : Row) (u : Under) (ws : List 
     done = placed_now;
     held = held_more s.ends r.txn r.finished f row.held (subst (λ (q : Txn). HoldsFor s.ends q u.deed) (sym place.1) g.held);
     moves = move_more r.finished f row.moves g.moves;
-    numbered = λ n m. or_from _ _ (other_number t r.txn u.number n (λ e. absurd (omega (arith, e, m, going.1)))) (row.numbered n m);
+    numbered = number_now;
     idle = λ n m. own_idle n;
     going = tt;
   }

@@ -1,3 +1,4 @@
+pub mod Grouping
 pub mod Fitting
 pub mod RowLists
 pub mod Opens
@@ -26,3 +27,6 @@ pub mod Redoing
 pub mod Opening
 pub mod Formatting
 pub mod Cutting
+pub mod Rooms
+pub mod Spelling
+pub mod Worked

@@ -23,7 +23,8 @@ use Rattle.rq_level.specs.Log.{Slots, IsNewest, same_op}
 use Rattle.rq_level.specs.Chain.{View, message}
 use Rattle.rq_level.specs.Groups.{committed}
 use Rattle.rq_level.specs.Plans.{Spares}
-use Rattle.rq_level.specs.Legal.{Legal, view, open_deeds, of_op, is_of, is_end, began, over, under_way, rest_placed}
+use Rattle.rq_level.specs.Legal as ends
+use Rattle.rq_level.specs.Legal.{Legal, has_done, view, open_deeds, of_op, is_of, is_end, began, over, under_way, rest_placed}
 use Rattle.rq_level.specs.Items.{items, item_of, layout_of, operation, Reads}
 use Rattle.rq_level.specs.InStore.{IsStranger, mentions}
 use Rattle.rq_level.specs.Stored.{slots_in, count_used, is_used}
@@ -33,6 +34,7 @@ use Rattle.rq_level.proofs.Views.{views}
 use Rattle.rq_level.proofs.GroupRule.{settled_view}
 use Rattle.rq_level.proofs.Overlay.{same_is as same_op_is}
 use Rattle.rq_level.proofs.Strangers.{has_end_same}
+use Rattle.rq_level.proofs.Rules.{ended}
 use Rattle.rq_level.proofs.Settled.{settled_counts, rest_shown}
 use Rattle.rq_groups.specs.Waiting.{waits}
 use Rattle.rq_store.specs.State.{ledger_of}
@@ -41,6 +43,7 @@ use Rattle.rq_store.specs.Fitting.{left_by, image_in, FitsLog}
 use Rattle.rq_store.specs.Opening.{next_restart, opened, messages_told, waiting_in}
 use Rattle.rq_store.proofs.Fitting.{fits_more}
 use Rattle.rq_store.proofs.Forcing.{all_within}
+use Rattle.rq_store.proofs.Grouping.{groups_of}
 use Rattle.rq_store.proofs.Holders.{map_join}
 
 -- the item of a record ends the operations that the record ends
@@ -201,30 +204,6 @@ idler z t (records.Commit u ∷ log) r h =
 idler z t (records.AbortEnd u ∷ log) r h = idler z t log r.1 h
 idler z t (records.Restart i ∷ log) r h = idler z t log r.1 h
 
--- a transaction that has ended has nothing open
-ended : (z : Sizes) (t : Txn) (log : List Record) → Legal (layout_of z) (items z log) → has_end log t ≡ true → open_deeds t (items z log) ≡ []
-ended z t [] k h = refl
-ended z t (records.PageOp u m page slot before after ∷ log) k h = ended z t log k.1 h
-ended z t (records.PageUndo u m undone page slot after ∷ log) k h = ended z t log k.1 h
-ended z t (records.OpEnd u m level deed ∷ log) k h = elim (cases_Bool (same_txn u t)) [
-  | inl own ↦ absurd (true≢false (sym h ∙ ap (has_end log) (sym (same_is u t own)) ∙ sym (has_end_same z u log) ∙ k.0.running))
-  | inr other ↦ rw other (ended z t log k.1 h)
-]
-ended z t (records.OpVoid u m ∷ log) k h = ended z t log k.1 h
-ended z t (records.CompEnd u m undone ∷ log) k h = elim (cases_Bool (same_txn u t)) [
-  | inl own ↦ absurd (true≢false (sym h ∙ ap (has_end log) (sym (same_is u t own)) ∙ sym (has_end_same z u log) ∙ k.0.running))
-  | inr other ↦ rw other (ended z t log k.1 h)
-]
-ended z t (records.Commit u ∷ log) k h = elim (cases_Bool (same_txn u t)) [
-  | inl own ↦ rw own refl
-  | inr other ↦ let rest : has_end log t ≡ true = rw other at h in rw other (ended z t log k.1 rest)
-]
-ended z t (records.AbortEnd u ∷ log) k h = elim (cases_Bool (same_txn u t)) [
-  | inl own ↦ ap (λ (v : Txn). open_deeds v (items z log)) (sym (same_is u t own)) ∙ k.0.empty
-  | inr other ↦ let rest : has_end log t ≡ true = rw other at h in ended z t log k.1 rest
-]
-ended z t (records.Restart i ∷ log) k h = ended z t log k.1 h
-
 -- where no transaction is lost, one that has not ended ended no operation
 no_worker : (log : List Record) (t : Txn) → lost log ≡ [] → has_end log t ≡ false → has_txn t (workers log) ≡ false
 no_worker log t none running = elim (cases_Bool (has_txn t (workers log))) [
@@ -314,16 +293,40 @@ told_below f (suc n) g m =
     read_front (y ∷ xs) x zero m = refl
     read_front (y ∷ xs) x (suc g) m = read_front xs x g (omega (arith, m))
 
+-- a transaction that ended no operation did nothing
+idle_worker : (z : Sizes) (t : Txn) (log : List Record) → Reads log → has_txn t (workers log) ≡ false → has_done t (items z log) ≡ false
+idle_worker z t [] r h = refl
+idle_worker z t (records.PageOp u m page slot before after ∷ log) r h = idle_worker z t log r.1 h
+idle_worker z t (records.PageUndo u m undone page slot after ∷ log) r h = idle_worker z t log r.1 h
+idle_worker z t (records.OpEnd u m level deed ∷ log) r h =
+    let e = ending_is u m level deed r.0.1.0 r.0.0 r.0.1.1 in
+    let p = txn_added t u (workers log) (ap (λ (x : Option Ending). has_txn t (add_txn x (workers log))) (sym e) ∙ h) in
+    or_from (same_txn u t) (has_done t (items z log)) p.1 (idle_worker z t log r.1 p.0)
+idle_worker z t (records.OpVoid u m ∷ log) r h = idle_worker z t log r.1 h
+idle_worker z t (records.CompEnd u m undone ∷ log) r h = idle_worker z t log r.1 h
+idle_worker z t (records.Commit u ∷ log) r h = idle_worker z t log r.1 h
+idle_worker z t (records.AbortEnd u ∷ log) r h = idle_worker z t log r.1 h
+idle_worker z t (records.Restart i ∷ log) r h = idle_worker z t log r.1 h
+
+-- where no transaction is lost, whoever did something has ended
+doers_ended : (z : Sizes) (log : List Record) → Reads log → lost log ≡ [] → (t : Txn) → has_done t (items z log) ≡ true → ends.has_end t (items z log) ≡ true
+doers_ended z log r none t did = elim (cases_Bool (has_end log t)) [
+  | inl y ↦ has_end_same z t log ∙ y
+  | inr n ↦ absurd (true≢false (sym did ∙ idle_worker z t log r (no_worker log t none n)))
+]
+
 -- a log in which everything has ended, with the record that opens the store, is legal
 pub restarted_whole : (z : Sizes) (log : List Record) → IsWhole z log → unfinished log ≡ [] → lost log ≡ [] → IsWhole z (next_restart log ∷ log)
 restarted_whole z log w none_unfinished none_lost = record {
-  legal = (record { idle = idle_log z log w.legal none_unfinished; settled = λ t e. settled_log z log w none_lost t }, w.legal);
-  groups = (tt, w.groups);
+  legal = (record { idle = idle_log z log w.legal none_unfinished; ended = doers_ended z log w.reads none_lost }, w.legal);
+  told = (tt, w.told);
   rules = (tt, (λ t e. absurd (false≢true e)), w.rules);
   reads = (tt, w.reads);
   in_store = (tt, w.in_store);
   befores = (tt, w.befores);
   order = (refl, w.order);
+  room = (tt, w.room);
+  numbers = (tt, w.numbers);
 }
 
 module _ (z : Sizes) (images : List (List ℕ)) (log : List Record) (range : IsInRange z) (w : IsWhole z log) (none_unfinished : unfinished log ≡ []) (none_lost : lost log ≡ [])
@@ -348,7 +351,7 @@ module _ (z : Sizes) (images : List (List ℕ)) (log : List Record) (range : IsI
   used_is = sym (count_same z (slots_in z images) (left_by z log).quiet (λ a. pages a ∙ idle_quiet (layout_of z) (items z log) w.legal idle a))
 
   counted : count_used z (slots_in z images) ≡ count_rest (below (sender_count z)) (committed_of log)
-  counted = sym used_is ∙ settled_counts z log w.legal w.in_store w.groups w.rules w.reads settled
+  counted = sym used_is ∙ settled_counts z log w.legal w.in_store (groups_of z log w) w.rules w.reads settled
 
   -- what waits is what the directory slots tell
   waits_here : (g : ℕ) → g < sender_count z → waits (waiting_in z images) g ≡ length (rest_in (committed_of log) g)
@@ -358,7 +361,7 @@ module _ (z : Sizes) (images : List (List ℕ)) (log : List Record) (range : IsI
       let a : waits (waiting_in z images) g ≡ messages_told (slots_in z images (directory_at g)) = told_below (λ s. messages_told (slots_in z images (directory_at s))) (sender_count z) g m in
       let b : messages_told (slots_in z images (directory_at g)) ≡ d.sent - d.received = ap messages_told (pages (directory_at g) ∙ v.at) in
       let c : length (view (items z log) g).messages ≡ length v.shows.nodes = ap (λ (l : List (ℕ × List ℕ)). length l) v.shows.messages ∙ length-map v.shows.nodes message in
-      let e : length (view (items z log) g).messages ≡ length (committed (items z log) g).messages = ap (λ (x : View). length x.messages) (settled_view g (items z log) w.groups settled) in
+      let e : length (view (items z log) g).messages ≡ length (committed (items z log) g).messages = ap (λ (x : View). length x.messages) (settled_view g (items z log) (groups_of z log w) settled) in
       let f = rest_shown z g log w.rules w.reads in
       let h = v.shows.sent in
       omega (arith, a, b, c, e, f, h)

@@ -1,30 +1,31 @@
 -- What a record of one transaction leaves of the rows of the others.
-use Rattle.std.proofs.Common.{◌≡◌, ◌≢◌, ℕ, ◌+◌, ◌≤◌, ◌==◌, ◌&&◌, List, [], ◌∷◌, refl, sym, ◌∙◌, ap, subst, Bool, true, false, Option, Some, None, inl, inr, arith}
+use Rattle.std.proofs.Common.{◌≡◌, ◌≢◌, ℕ, ◌+◌, ◌≤◌, ◌==◌, ◌&&◌, max, cond, List, [], ◌∷◌, refl, sym, ◌∙◌, ap, subst, Bool, true, false, Option, Some, None, inl, inr, arith}
 use Rattle.std.specs.List.{sum_by}
 use Rattle.std.proofs.lemmas.Bool.{cases_Bool, eqb-true}
 use Rattle.std.proofs.lemmas.List.Sums.{sum_by-cons}
 use Rattle.rq_model.specs.declared.txn.Txn.{Txn}
 use Rattle.rq_model.specs.declared.record.Record.{Record}
-use Rattle.rq_model.proofs.Lists.{same_is}
+use Rattle.rq_model.proofs.Lists.{same_is, same_self}
 use Rattle.rq_model.specs.Words.{In, same_txn, is_some}
 use Rattle.rq_model.specs.Ledger.{Open, change, change_one}
 use Rattle.rq_model.specs.Content.{has_end}
 use Rattle.rq_page.specs.Sizes.{Sizes}
 use Rattle.rq_level.specs.Log.{same_op}
-use Rattle.rq_level.specs.Legal.{open_deeds, began, under_way}
+use Rattle.rq_level.specs.Legal.{open_deeds, under_way}
+use Rattle.rq_level.specs.Numbers.{greatest}
 use Rattle.rq_level.specs.Items.{items, operation, has_undone}
 use Rattle.rq_txn.specs.Rows.{Row, Under, found_row, AreDistinct, change_row, change_row_one, without_row}
 use Rattle.rq_store.specs.State.{open_of, open_ones_of}
 use Rattle.std.proofs.lemmas.Option.{same_Some}
 use Rattle.rq_groups.specs.Ends.{HeldEnds}
-use Rattle.rq_store.specs.Sound.{IsRow, IsGoingOf, AllHeld}
+use Rattle.rq_store.specs.Sound.{IsRow, IsGoingOf, AllHeld, unmade}
 
 -- a row with nothing under way is sound over any log that says the same of its transaction
 pub record SaysSame (z : Sizes) (log new : List Record) (ends after : HeldEnds) (r : Row) : Type 0 where
   pub running : has_end new r.txn ≡ has_end log r.txn
   pub undone : has_undone new r.txn ≡ has_undone log r.txn
   pub done : open_deeds r.txn (items z new) ≡ open_deeds r.txn (items z log)
-  pub began : (n : ℕ) → began (operation r.txn n) (items z new) ≡ began (operation r.txn n) (items z log)
+  pub numbers : greatest r.txn (items z new) ≡ greatest r.txn (items z log)
   pub under_way : (n : ℕ) → under_way (operation r.txn n) (items z new) ≡ under_way (operation r.txn n) (items z log)
   pub held : AllHeld ends r.txn r.finished → AllHeld after r.txn r.finished
 
@@ -38,7 +39,7 @@ row_over z log new ends after i b c r le s g h = record {
   done = s.done ∙ h.done;
   held = s.held h.held;
   moves = h.moves;
-  numbered = λ n m. s.began n ∙ h.numbered n m;
+  numbered = ap (λ n. n + unmade r.under) s.numbers ∙ h.numbered;
   idle = λ n m. s.under_way n ∙ h.idle n m;
   going = g;
 }
@@ -63,6 +64,14 @@ other_number t u n m e = elim (cases_Bool (n == m)) [
   and_never : (b : Bool) → (b && false) ≡ false
   and_never true = refl
   and_never false = refl
+
+-- the greatest number of a transaction after a record of another's operation
+pub other_greatest : (t u : Txn) (n most : ℕ) → same_txn t u ≡ false → max (cond (same_txn t u) n 0) most ≡ most
+other_greatest t u n most e = rw e (omega arith)
+
+-- and after one of its own, numbered no less
+pub own_greatest : (t u : Txn) (n most : ℕ) → t ≡ u → most ≤ n → max (cond (same_txn t u) n 0) most ≡ n
+own_greatest t u n most e le = let own : same_txn t u ≡ true = ap (same_txn t) (sym e) ∙ same_self t in rw own (omega (arith, le))
 
 -- a change of one row that keeps a number of each keeps their sum
 pub rows_sum : (f : Row → ℕ) (t : Txn) (g : Row → Row) (rows : List Row) → ((r : Row) → In r rows → r.txn ≡ t → f (g r) ≡ f r) → sum_by f (change_row t g rows) ≡ sum_by f rows

@@ -1,5 +1,6 @@
 -- A send starts: its plan fits the slots, and its end is free.
 use Rattle.std.proofs.Common.{◌≡◌, ◌≢◌, ℕ, ◌+◌, ◌<◌, List, length, reverse, refl, sym, ◌∙◌, ap, subst, true, false, Option, Some, None, arith}
+use Rattle.std.proofs.lemmas.Bool.{or_parts}
 use Rattle.std.proofs.lemmas.List.{length-map, length-reverse}
 use Rattle.rq_model.specs.declared.txn.Txn.{Txn}
 use Rattle.rq_model.specs.declared.message.Message.{Message}
@@ -8,8 +9,9 @@ use Rattle.rq_model.specs.declared.record.Deed.TheVariants.{Append, UnlinkHead, 
 use Rattle.rq_model.specs.declared.record.Record.{Record}
 use Rattle.rq_model.specs.Words.{In, is_some}
 use Rattle.rq_model.specs.History.Job.{Sending}
-use Rattle.rq_model.specs.Ledger.{Open, after, started, writes, found, in_chain, add_number}
-use Rattle.rq_model.specs.Legal.{OnFound, Passes}
+use Rattle.rq_model.specs.Content.{committed_of}
+use Rattle.rq_model.specs.Ledger.{ended_in, Open, after, started, writes, found, in_chain, add_number}
+use Rattle.rq_model.specs.Legal.{OnFound, Passes, has_closed}
 use Rattle.rq_model.specs.History.Entry.{Started}
 use Rattle.rq_model.specs.History.Call.{Start_send}
 use Rattle.rq_model.specs.Replay.Reply.{Gave_sub}
@@ -20,6 +22,7 @@ use Rattle.rq_level.specs.Log.{Slots, Write, Fits}
 use Rattle.rq_level.specs.Legal.{view}
 use Rattle.rq_level.specs.Plans.{ShowsAt, IsPlan, IsAppend, append_writes, deed_sender}
 use Rattle.rq_level.specs.Plans.Turn.{Did}
+use Rattle.rq_level.specs.Claims.{appends_of}
 use Rattle.rq_level.specs.Groups.{Told}
 use Rattle.rq_level.specs.Items.{items, layout_of}
 use Rattle.rq_level.specs.Stored.{slots_in}
@@ -29,13 +32,13 @@ use Rattle.rq_txn.specs.Rows.{Row, Under, found_row, change_row, row_started, an
 use Rattle.rq_groups.specs.Ends.{HeldEnds, held_by, with_held, is_free_for}
 use Rattle.rq_groups.proofs.Holders.{held_with_same, held_with_other}
 use Rattle.rq_store.specs.State.{State, ledger_of, size_of, open_of, open_ones_of, job_of, left_under}
-use Rattle.rq_store.specs.Sound.{IsSound, HoldsFor, Moves, HasWaiting, appends_of}
+use Rattle.rq_store.specs.Sound.{IsSound, HoldsFor, Moves, HasWaiting}
 use Rattle.rq_store.specs.Fitting.{left_by}
 use Rattle.rq_store.specs.Plans.{IsSendPlan, Stands_at}
 use Rattle.rq_store.specs.Steps.{Steps}
 use Rattle.rq_store.proofs.RowLists.{found_in, not_txn}
 use Rattle.rq_store.proofs.Opens.{found_open, open_found}
-use Rattle.rq_store.proofs.Chains.{shown, chain_is}
+use Rattle.rq_store.proofs.Chains.{shown, chain_is, closed_is}
 use Rattle.rq_store.proofs.SendPlans.{is_append, append_fits, append_count, writes_for}
 use Rattle.rq_store.proofs.Starting.{held_more, held_now, ends_taken, MayStart, HasEnds, start_sound, started_ledger}
 
@@ -51,7 +54,8 @@ other_taken : (t : Txn) (e : ℕ) (ends : HeldEnds) (r : Row) → r.txn ≢ t �
 other_taken t e ends r n = ap (λ (l : List ℕ). record (open_of ends r) { sending = l }) (held_with_other t r.txn e ends.sending (not_txn t r.txn (λ f. n (sym f))))
 
 module _ (s : State) (k : IsSound s) (t : Txn) (r : Row) (u : Under) (e tag : ℕ) (body : List ℕ) (at_row : found_row t s.rows ≡ Some r) (idle : any_under s.rows ≡ false) (number : u.number ≡ r.number + 1)
-    (plan : IsSendPlan s.sizes (slots_in s.sizes s.images) u e tag body) (free : is_free_for t e s.ends.sending ≡ true) (room : s.cells_in_use < cell_count s.sizes) where
+    (plan : IsSendPlan s.sizes (slots_in s.sizes s.images) u e tag body) (free : is_free_for t e s.ends.sending ≡ true) (room : s.cells_in_use < cell_count s.sizes)
+    (open_still : (view (items s.sizes s.records) e).closed ≡ false) where
   abbrev z : Sizes
   z = s.sizes
 
@@ -102,7 +106,7 @@ module _ (s : State) (k : IsSound s) (t : Txn) (r : Row) (u : Under) (e tag : �
   ends = taken_ends t e s.ends
 
   told : Told deed (view (items z log) e)
-  told = append_tells (layout_of z) q (reverse whole) e (plan.directory.sent + 1) tag plan.directory.last_tag body (view (items z log) e) appends fits shows
+  told = let h = append_tells (layout_of z) q (reverse whole) e (plan.directory.sent + 1) tag plan.directory.last_tag body (view (items z log) e) appends fits shows in (h.0, h.1, open_still)
 
   may : MayStart s t r u
   may = record {
@@ -166,8 +170,8 @@ module _ (s : State) (k : IsSound s) (t : Txn) (r : Row) (u : Under) (e tag : �
   at_open : found t (open_ones_of s.ends s.rows) ≡ Some (open_of s.ends r)
   at_open = found_open s.ends t s.rows ∙ ap (open_found s.ends) at_row
 
-  pub start_steps : Passes (size_of z) (ledger_of s) (Start_send t message) → Steps s (Start_send t message) (Gave_sub t (r.number + 1)) new
-  start_steps passes = record {
+  steps : Passes (size_of z) (ledger_of s) (Start_send t message) → Steps s (Start_send t message) (Gave_sub t (r.number + 1)) new
+  steps passes = record {
     entry = Started t (r.number + 1) (Sending message);
     says = (refl, refl);
     legal = (passes, subst (λ (y : Option Open). OnFound y (λ (p : Open). (r.number + 1 ≡ p.number + 1) × Unit {0})) (sym at_open) (refl, tt));
@@ -176,3 +180,11 @@ module _ (s : State) (k : IsSound s) (t : Txn) (r : Row) (u : Under) (e tag : �
     goes_on = (0, refl);
     stays_forced = omega arith;
   }
+
+pub start_steps : (s : State) (k : IsSound s) (t : Txn) (r : Row) (u : Under) (e tag : ℕ) (body : List ℕ) → found_row t s.rows ≡ Some r → any_under s.rows ≡ false → u.number ≡ r.number + 1
+    → IsSendPlan s.sizes (slots_in s.sizes s.images) u e tag body → is_free_for t e s.ends.sending ≡ true → s.cells_in_use < cell_count s.sizes
+    → Passes (size_of s.sizes) (ledger_of s) (Start_send t (record { sender = e; tag = tag; body = body }))
+    → Steps s (Start_send t (record { sender = e; tag = tag; body = body })) (Gave_sub (r.number + 1)) (record s { rows = change_row t (row_started u) s.rows; ends = taken_ends t e s.ends; cells_in_use = s.cells_in_use + 1 })
+start_steps s k t r u e tag body at_row idle number plan free room passes =
+    let ended : ended_in (committed_of s.records) e ≡ false = (or_parts (ended_in (committed_of s.records) e) (has_closed e (found t (open_ones_of s.ends s.rows))) passes.1.1.1.1.1.1.1.0).0 in
+    steps s k t r u e tag body at_row idle number plan free room (closed_is s k e ∙ ended) passes

@@ -20,8 +20,11 @@ use Rattle.rq_level.specs.Legal.{began, view}
 use Rattle.rq_level.specs.Plans.{IsPlan, deed_sender}
 use Rattle.rq_level.specs.Plans.Turn.{Did}
 use Rattle.rq_level.specs.Groups.{Told}
+use Rattle.rq_level.specs.Claims.{appends_of}
+use Rattle.rq_level.specs.Numbers.{greatest}
 use Rattle.rq_level.specs.Items.{items, layout_of, operation}
 use Rattle.rq_level.specs.Owed.{Owes}
+use Rattle.rq_level.proofs.Numbers.{beyond_unbegun}
 use Rattle.rq_level.proofs.Owes.{owes_start}
 use Rattle.rq_level.proofs.Views.{good}
 use Rattle.rq_level.proofs.Idle.{unbegun_writes, unbegun_over, unbegun_forward, unbegun_uncrossed, idle_stands}
@@ -32,7 +35,7 @@ use Rattle.rq_groups.specs.declared.Held.{Held}
 use Rattle.rq_groups.specs.Ends.{HeldEnds, has_held, with_held, is_free_for}
 use Rattle.rq_groups.specs.Waiting.{waits}
 use Rattle.rq_store.specs.State.{State, ledger_of, open_of, open_ones_of, op_done, job_of, job_under}
-use Rattle.rq_store.specs.Sound.{IsSound, IsRow, IsGoing, AreEnds, HoldsFor, AllHeld, Moves, HasWaiting, IsCovered, is_under, everywhere, apart, appending, appends_of, takes_one, takes_in}
+use Rattle.rq_store.specs.Sound.{IsSound, IsRow, IsGoing, AreEnds, HoldsFor, AllHeld, Moves, HasWaiting, IsCovered, is_under, unmade, everywhere, apart, appending, takes_one, takes_in}
 use Rattle.rq_store.specs.Fitting.{left_by}
 use Rattle.rq_store.proofs.RowLists.{found_in, found_other, found_still, changed, distinct_change, none_under}
 use Rattle.rq_store.proofs.Opens.{opens_change}
@@ -139,7 +142,7 @@ module _ (s : State) (k : IsSound s) (t : Txn) (r : Row) (u : Under) (ends : Hel
   row = k.rows r place.0
 
   not_begun : began o (items z log) ≡ false
-  not_begun = ap (λ (x : Txn). began (operation x u.number) (items z log)) (sym place.1) ∙ row.numbered u.number ((let n = m.number in omega (arith, n)))
+  not_begun = ap (λ (x : Txn). began (operation x u.number) (items z log)) (sym place.1) ∙ beyond_unbegun r.txn u.number (items z log) (let n = m.number in let e = row.numbered in omega (arith, n, e))
 
   own_writes : (left_by z log).writes o ≡ []
   own_writes = unbegun_writes (layout_of z) (items z log) o not_begun
@@ -180,7 +183,15 @@ module _ (s : State) (k : IsSound s) (t : Txn) (r : Row) (u : Under) (ends : Hel
   none_going p i = none_of p.under (none_under s.rows p m.idle i)
 
   other_row : (p : Row) → In p s.rows → IsRow z log ends s.incarnation s.begins p
-  other_row p i = row_over z log log s.ends ends s.incarnation s.begins s.begins p (omega arith) (record { running = refl; undone = refl; done = refl; began = λ n. refl; under_way = λ n. refl; held = all_kept p.txn s.ends ends p.finished (h.kept p.txn) }) (not_going z log ends p p.under (none_going p i)) (k.rows p i)
+  other_row p i = row_over z log log s.ends ends s.incarnation s.begins s.begins p (omega arith) (record { running = refl; undone = refl; done = refl; numbers = refl; under_way = λ n. refl; held = all_kept p.txn s.ends ends p.finished (h.kept p.txn) }) (not_going z log ends p p.under (none_going p i)) (k.rows p i)
+
+  number_now : greatest r.txn (items z log) + unmade (Some u) ≡ u.number
+  number_now =
+      let a = row.numbered in
+      let b : unmade r.under ≡ 0 = ap unmade (none_going r place.0) in
+      let c : unmade (Some u) ≡ 1 = ap (λ n. cond (nat_eq n 0) 1 0) m.made in
+      let d = m.number in
+      omega (arith, a, b, c, d)
 
   own_row : IsRow z log ends s.incarnation s.begins (row_started u r)
   own_row = record {
@@ -192,7 +203,7 @@ module _ (s : State) (k : IsSound s) (t : Txn) (r : Row) (u : Under) (ends : Hel
     done = row.done;
     held = all_kept r.txn s.ends ends r.finished (h.kept r.txn) row.held;
     moves = row.moves;
-    numbered = λ n f. row.numbered n (let e = m.number in omega (arith, f, e));
+    numbered = number_now;
     idle = λ n f. row.idle n (ap (is_under n) (none_going r place.0));
     going = (subst (λ (x : Txn). IsGoing z log ends x u) (sym place.1) going, refl);
   }

@@ -1,8 +1,8 @@
 -- One more slot write of the operation under way, with its record.
 use Rattle.std.proofs.Common.{◌≡◌, ◌≢◌, ℕ, zero, suc, ◌+◌, ◌-◌, ◌/◌, ◌%◌, ◌<◌, ◌≤◌, ◌==◌, ◌&&◌, ◌||◌, List, [], ◌∷◌, ◌++◌, length, map, take, drop, reverse, refl, sym, ◌∙◌, ap, subst, Bool, true, false, not, Option, Some, None, inl, inr, nat_eq, cond, arith}
 use Rattle.std.specs.List.{sum_by, slice_get}
-use Rattle.std.proofs.lemmas.Bool.{false≢true, true≢false, or_from, and_from, eq-eqb}
-use Rattle.std.proofs.lemmas.List.{reverse-append, take-append-drop}
+use Rattle.std.proofs.lemmas.Bool.{cases_eq, false≢true, true≢false, or_from, and_from, eq-eqb}
+use Rattle.std.proofs.lemmas.List.{reverse-append, take-append-drop, length-map, length-reverse, length-take}
 use Rattle.rq_model.specs.declared.txn.Txn.{Txn}
 use Rattle.rq_model.specs.declared.record.Record.{Record}
 use Rattle.rq_model.specs.Words.{In, same_txn, is_some}
@@ -22,8 +22,11 @@ use Rattle.rq_level.specs.Plans.{IsPlan}
 use Rattle.rq_level.specs.Plans.Turn.{Did}
 use Rattle.rq_model.specs.declared.txn.Sub.{Sub}
 use Rattle.rq_level.specs.Items.{items, item_of, layout_of, operation}
+use Rattle.rq_level.specs.Numbers.{greatest}
 use Rattle.rq_level.specs.Owed.{Owes}
 use Rattle.rq_level.specs.Stored.{slots_in, count_used}
+use Rattle.rq_level.proofs.Chains.{no_eq}
+use Rattle.rq_level.proofs.Idle.{unbegun_writes}
 use Rattle.rq_level.proofs.Overlay.{Good, put_agree, same_self as same_op_self}
 use Rattle.rq_level.proofs.Views.{good}
 use Rattle.rq_level.proofs.Owes.{owes_next, owes_rest}
@@ -34,14 +37,14 @@ use Rattle.rq_txn.specs.Rows.{Row, Under, found_row, change_row, row_stepped, un
 use Rattle.rq_groups.specs.Ends.{HeldEnds}
 use Rattle.rq_groups.specs.Waiting.{waits}
 use Rattle.rq_store.specs.State.{State, ledger_of, open_of, open_ones_of, job_under, left_under, phase_of}
-use Rattle.rq_store.specs.Sound.{IsSound, IsWhole, IsRow, IsGoing, IsGoingOf, IsSettled, is_under, everywhere, apart, appending, takes_one, takes_in, IsCovered}
+use Rattle.rq_store.specs.Sound.{IsSound, IsWhole, IsRow, IsGoing, IsGoingOf, IsSettled, is_under, unmade, everywhere, apart, appending, takes_one, takes_in, IsCovered}
 use Rattle.rq_store.specs.Fitting.{left_by, image_in, FitsLog}
 use Rattle.rq_store.specs.Steps.{Steps, IsPutIn, page_op}
 use Rattle.rq_store.proofs.Fitting.{fits_written}
 use Rattle.rq_store.proofs.RowLists.{found_in, found_other, found_still, changed, distinct_change, not_txn}
 use Rattle.rq_store.proofs.Opens.{found_open, open_found, opens_change}
 use Rattle.rq_store.proofs.Working.{going_at, alone_going, not_found}
-use Rattle.rq_store.proofs.Others.{row_over, not_going, other_op, other_number, rows_sum, opens_sum}
+use Rattle.rq_store.proofs.Others.{row_over, not_going, other_op, other_number, other_greatest, own_greatest, rows_sum, opens_sum}
 
 drop_cons : {X : Type 0} (xs : List X) (k : ℕ) (x : X) → slice_get xs k ≡ Some x → drop k xs ≡ x ∷ drop (k + 1) xs
 drop_cons [] k x e = cc
@@ -170,15 +173,36 @@ module _ (s : State) (k : IsSound s) (t : Txn) (r : Row) (u : Under) (w : SlotWr
     running = has_end_same z t log ∙ (ap (has_end log) (sym place.1) ∙ row.running);
   }
 
+  own_number : greatest r.txn (items z log) + unmade (Some u) ≡ u.number
+  own_number = ap (λ (y : Option Under). greatest r.txn (items z log) + unmade y) (sym under) ∙ row.numbered ∙ going.1
+
+  -- where nothing of it is made its number is the next, and where something is it has a record
+  next_number : began o (items z log) ≡ false → u.number ≡ greatest t (items z log) + 1
+  next_number none = elim (cases_eq u.made 0) [
+    | inl first ↦
+        let a : greatest r.txn (items z log) + 1 ≡ u.number = ap (λ n. greatest r.txn (items z log) + cond (nat_eq n 0) 1 0) (sym first) ∙ own_number in
+        let b : greatest r.txn (items z log) ≡ greatest t (items z log) = ap (λ (y : Txn). greatest y (items z log)) place.1 in
+        omega (arith, a, b)
+    | inr some ↦
+        let a : length (reverse (take u.made whole)) ≡ 0 = ap (λ (ws : List Write). length ws) (sym g.written ∙ unbegun_writes (layout_of z) (items z log) o none) in
+        let b : length (reverse (take u.made whole)) ≡ length (take u.made whole) = length-reverse (take u.made whole) in
+        let c = length-take u.made whole in
+        let d : length whole ≡ length u.writes = length-map u.writes (write_of z) in
+        let e = g.made in
+        absurd (omega (arith, a, b, c, d, e, some))
+  ]
+
   log_whole : IsWhole z (x ∷ log)
   log_whole = record {
     legal = (may, k.log.legal);
-    groups = (tt, k.log.groups);
+    told = (tt, k.log.told);
     rules = (tt, (λ v e. absurd (false≢true e)), k.log.rules);
     reads = (tt, k.log.reads);
     in_store = (slot, k.log.in_store);
     befores = (old_slot, k.log.befores);
     order = ((subst (λ n. 1 ≤ n) (sym k.incarnation) k.some, (ap (λ (y : Txn). y.incarnation) (sym place.1) ∙ row.of_incarnation) ∙ sym k.incarnation), k.log.order);
+    room = (tt, k.log.room);
+    numbers = (next_number, k.log.numbers);
   }
 
   abbrev rows : List Row
@@ -200,7 +224,7 @@ module _ (s : State) (k : IsSound s) (t : Txn) (r : Row) (u : Under) (w : SlotWr
         running = refl;
         undone = refl;
         done = refl;
-        began = λ n. ap (λ b. b || began (operation q.txn n) (items z log)) (other_op t q.txn u.number n e);
+        numbers = other_greatest t q.txn u.number (greatest q.txn (items z log)) e;
         under_way = λ n. ap (λ b. (b || began (operation q.txn n) (items z log)) && not (over (operation q.txn n) (items z log))) (other_op t q.txn u.number n e);
         held = λ h. h;
       }) (not_going z (x ∷ log) s.ends q q.under (other_idle q i n)) (k.rows q i)
@@ -226,6 +250,15 @@ module _ (s : State) (k : IsSound s) (t : Txn) (r : Row) (u : Under) (w : SlotWr
     crossed_own : (p : ℕ) → crossed page o p (items z (x ∷ log)) ≡ false
     crossed_own p = rw (same_op_self o) (or_from _ _ (and_false (began o (items z log)) (page wr.at == p)) (g.uncrossed p))
 
+  number_now : greatest r.txn (items z (x ∷ log)) + unmade (under_stepped r.under) ≡ r.number
+  number_now =
+      let e = own_number in
+      let a : greatest r.txn (items z (x ∷ log)) ≡ u.number = own_greatest t r.txn u.number (greatest r.txn (items z log)) (sym place.1) (omega (arith, e)) in
+      let off : nat_eq (u.made + 1) 0 ≡ false = no_eq (u.made + 1) 0 (λ e. absurd (omega (arith, e))) in
+      let b : unmade (under_stepped r.under) ≡ 0 = ap (λ (y : Option Under). unmade (under_stepped y)) under ∙ ap (λ b. cond b 1 0) off in
+      let c = going.1 in
+      omega (arith, a, b, c)
+
   own_row : IsRow z (x ∷ log) s.ends s.incarnation s.begins (row_stepped r)
   own_row = record {
     of_incarnation = row.of_incarnation;
@@ -236,7 +269,7 @@ module _ (s : State) (k : IsSound s) (t : Txn) (r : Row) (u : Under) (w : SlotWr
     done = row.done;
     held = row.held;
     moves = row.moves;
-    numbered = λ n m. or_from _ _ (other_number t r.txn u.number n (λ e. absurd (omega (arith, e, m, going.1)))) (row.numbered n m);
+    numbered = number_now;
     idle = λ n m.
         let was : is_under n r.under ≡ false = ap (is_under n) under ∙ sym (ap (λ (y : Option Under). is_under n (under_stepped y)) under) ∙ m in
         let off : nat_eq u.number n ≡ false = sym (ap (is_under n) under) ∙ was in

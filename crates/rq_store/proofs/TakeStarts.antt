@@ -20,6 +20,7 @@ use Rattle.rq_level.specs.Log.{Slots, Write, Fits}
 use Rattle.rq_level.specs.Legal.{view}
 use Rattle.rq_level.specs.Plans.{ShowsAt, IsPlan, IsUnlinkHead, unlink_head_writes, deed_sender}
 use Rattle.rq_level.specs.Plans.Turn.{Did}
+use Rattle.rq_level.specs.Claims.{appends_of}
 use Rattle.rq_level.specs.Groups.{Told}
 use Rattle.rq_level.specs.Items.{items, layout_of}
 use Rattle.rq_level.specs.Stored.{slots_in}
@@ -30,7 +31,7 @@ use Rattle.rq_groups.specs.Ends.{HeldEnds, has_held, held_by, with_held, is_free
 use Rattle.rq_groups.specs.Waiting.{waits}
 use Rattle.rq_groups.proofs.Holders.{held_with_same, held_with_other}
 use Rattle.rq_store.specs.State.{State, ledger_of, size_of, open_of, open_ones_of, job_of, left_under}
-use Rattle.rq_store.specs.Sound.{IsSound, HoldsFor, Moves, HasWaiting, appends_of}
+use Rattle.rq_store.specs.Sound.{IsSound, HoldsFor, Moves, HasWaiting}
 use Rattle.rq_store.specs.Fitting.{left_by}
 use Rattle.rq_store.specs.Plans.{IsTakePlan, Stands_at}
 use Rattle.rq_store.specs.Steps.{Steps}

@@ -12,6 +12,7 @@ use Rattle.rq_model.specs.Content.{Said, said, op_of, ops_told, told}
 use Rattle.rq_page.specs.Sizes.{Sizes, sender_count}
 use Rattle.rq_level.specs.Legal.{Placed, open_deeds}
 use Rattle.rq_level.specs.Plans.{deed_sender}
+use Rattle.rq_level.specs.Claims.{takes_of}
 use Rattle.rq_level.specs.Items.{items}
 use Rattle.rq_level.proofs.Committed.{say}
 use Rattle.rq_level.proofs.Content.{own_deeds}
@@ -20,7 +21,7 @@ use Rattle.rq_txn.specs.declared.Finished.{Finished}
 use Rattle.rq_txn.specs.Rows.{Row}
 use Rattle.rq_groups.specs.Ends.{HeldEnds}
 use Rattle.rq_store.specs.State.{op_done}
-use Rattle.rq_store.specs.Sound.{IsWhole, IsRow, placed, placed_one, takes_one, takes_of}
+use Rattle.rq_store.specs.Sound.{IsWhole, IsRow, placed, placed_one, takes_one}
 use Rattle.rq_store.proofs.Holders.{placed_first}
 
 say_join : (ps qs : List Placed) → say (ps ++ qs) ≡ say ps ++ say qs

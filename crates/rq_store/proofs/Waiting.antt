@@ -33,6 +33,7 @@ use Rattle.rq_groups.specs.Ends.{HeldEnds, has_held}
 use Rattle.rq_groups.specs.Waiting.{waits}
 use Rattle.rq_store.specs.State.{State, ledger_of, open_of, op_done}
 use Rattle.rq_store.specs.Sound.{IsSound, HoldsFor, AllHeld, takes_in}
+use Rattle.rq_store.proofs.Grouping.{groups_of}
 use Rattle.rq_store.proofs.RowLists.{in_found, some_not_none}
 use Rattle.rq_store.proofs.Chains.{told_here, chain_is}
 use Rattle.rq_store.proofs.Others.{opens_as_rows}
@@ -137,8 +138,8 @@ pub first_is_next : (s : State) (k : IsSound s) (g tag : ℕ) (body : List ℕ) 
 first_is_next s k g tag body r rest i held more shown =
     let log = items s.sizes s.records in
     let c = committed log g in
-    let h = holders g log k.log.groups in
-    let v = view_holds g log h.sender r.txn k.log.groups h.sends (alone_taking s k g r.txn held) in
+    let h = holders g log (groups_of s.sizes s.records k.log) in
+    let v = view_holds g log h.sender r.txn (groups_of s.sizes s.records k.log) h.sends (alone_taking s k g r.txn held) in
     let n = removed_is s k g r i in
     let d = rest_shown s.sizes g s.records k.log.rules k.log.reads in
     let e = length-drop (removed g (say (open_deeds r.txn log))) c.messages in

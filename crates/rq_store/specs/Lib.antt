@@ -4,3 +4,5 @@ pub mod Sound
 pub mod Steps
 pub mod Plans
 pub mod Opening
+pub mod Worked
+pub mod Theorems

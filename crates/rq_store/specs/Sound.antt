@@ -1,6 +1,6 @@
 -- What is so of a store that goes back to a legal log: the log is whole, the pages hold what it says, and each transaction
 -- that has not ended is as its records say.
-use Rattle.std.specs.Prelude.{◌≡◌, ℕ, ◌+◌, ◌<◌, ◌≤◌, Bool, true, false, nat_eq, List, [], ◌∷◌, length, map, take, drop, reverse, Option, Some, None}
+use Rattle.std.specs.Prelude.{◌≡◌, ℕ, ◌+◌, ◌<◌, ◌≤◌, Bool, true, false, cond, nat_eq, List, [], ◌∷◌, length, map, take, drop, reverse, Option, Some, None}
 use Rattle.std.specs.List.{sum_by, filter_map}
 use Rattle.rq_model.specs.declared.txn.Txn.{Txn}
 use Rattle.rq_model.specs.declared.record.Deed.{Deed}
@@ -15,8 +15,10 @@ use Rattle.rq_model.specs.Legal as legal
 use Rattle.rq_page.specs.Sizes.{Sizes, IsInRange, cell_count, sender_count}
 use Rattle.rq_page.specs.Slots.{IsSlotOf}
 use Rattle.rq_level.specs.Items.{items, layout_of, operation, Reads, has_undone}
-use Rattle.rq_level.specs.Legal.{Placed, Legal, open_deeds, began, over, under_way, turned_back, crossed, view}
-use Rattle.rq_level.specs.Groups.{KeepsGroups, Told}
+use Rattle.rq_level.specs.Claims.{takes_of, appends_of, HasRoom}
+use Rattle.rq_level.specs.Numbers.{greatest, AreNumbered}
+use Rattle.rq_level.specs.Legal.{Placed, Legal, open_deeds, over, under_way, turned_back, crossed, view}
+use Rattle.rq_level.specs.Groups.{Told, Tells}
 use Rattle.rq_level.specs.Plans.{IsPlan, deed_sender}
 use Rattle.rq_level.specs.Plans.Turn.{Did}
 use Rattle.rq_level.specs.InStore.{InStore, IsStranger}
@@ -76,12 +78,14 @@ BeforesAreSlots z (r ∷ log) = IsBefore z r × BeforesAreSlots z log
 -- a legal log of the store
 pub record IsWhole (z : Sizes) (log : List Record) : Type 0 where
   pub legal : Legal (layout_of z) (items z log)
-  pub groups : KeepsGroups (items z log)
+  pub told : Tells (items z log)
   pub rules : KeepsRules log
   pub reads : Reads log
   pub in_store : InStore z log
   pub befores : BeforesAreSlots z log
   pub order : InOrder log
+  pub room : HasRoom (cell_count z) (items z log)
+  pub numbers : AreNumbered (items z log)
 
 -- what is finished, the newest first
 abbrev pub placed_one : Finished → Placed
@@ -148,6 +152,11 @@ abbrev pub is_under : ℕ → Option Under → Bool
 is_under n None = false
 is_under n (Some u) = nat_eq u.number n
 
+-- an operation under way has no record and no number in the log until something of it is made
+abbrev pub unmade : Option Under → ℕ
+unmade None = 0
+unmade (Some u) = cond (nat_eq u.made 0) 1 0
+
 -- what is so of a transaction that has not ended
 pub record IsRow (z : Sizes) (log : List Record) (ends : HeldEnds) (incarnation begins : ℕ) (r : Row) : Type 0 where
   pub of_incarnation : r.txn.incarnation ≡ incarnation
@@ -158,7 +167,7 @@ pub record IsRow (z : Sizes) (log : List Record) (ends : HeldEnds) (incarnation 
   pub done : open_deeds r.txn (items z log) ≡ placed r.finished
   pub held : AllHeld ends r.txn r.finished
   pub moves : AllMove r.finished
-  pub numbered : (n : ℕ) → r.number < n → began (operation r.txn n) (items z log) ≡ false
+  pub numbered : greatest r.txn (items z log) + unmade r.under ≡ r.number
   pub idle : (n : ℕ) → is_under n r.under ≡ false → under_way (operation r.txn n) (items z log) ≡ false
   pub going : IsGoingOf z log ends r r.under
 
@@ -174,16 +183,8 @@ pub record IsSettled (z : Sizes) (log : List Record) (t : Txn) : Type 0 where
   pub idle : (n : ℕ) → under_way (operation t n) (items z log) ≡ false
 
 -- the messages that finished operations took
-abbrev pub takes_of : Deed → ℕ
-takes_of (UnlinkHead sender sequence tag body) = 1
-takes_of _ = 0
-
 abbrev pub takes_one : Finished → ℕ
 takes_one f = takes_of f.deed
-
-abbrev pub appends_of : Deed → ℕ
-appends_of (Append sender sequence tag previous body) = 1
-appends_of _ = 0
 
 abbrev pub appending : Option Under → ℕ
 appending None = 0

@@ -1,2 +1,15 @@
 //! An open store as plain lists: what it comes to, what is so of it, and what each call makes of it.
 #![tactic(auto)]
+
+ghost use Rattle.rq_store.specs.Theorems.{BeginningsAreWhole};
+ghost use Rattle.rq_store.specs.Worked.{WorkedStore};
+
+/// Each beginning of a whole log is whole, so that a crash leaves one.
+pub fn beginnings_are_whole()
+    ensures { BeginningsAreWhole }
+{}
+
+/// A worked log in bytes is whole: an abort that a crash stops within an inverse, and the restart after it.
+pub fn worked_store()
+    ensures { WorkedStore }
+{}

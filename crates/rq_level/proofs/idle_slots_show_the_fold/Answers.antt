@@ -1,5 +1,5 @@
-use Rattle.rq_level.proofs.Views.{views_idle}
+use Rattle.rq_level.proofs.Views.{views}
 use Rattle.rq_level.proofs.idle_slots_show_the_fold.Goals as goal
 
 pub returns : goal.returns
-returns c = views_idle
+returns c = views

@@ -1,0 +1,45 @@
+-- A worked log in bytes: an abort that a crash stops within an inverse, and the restart after it.
+use Rattle.std.specs.Prelude.{◌≡◌, ℕ, ◌/◌, ◌%◌, List, [], ◌∷◌, map, false}
+use Rattle.rq_model.specs.declared.record.Record.{Record}
+use Rattle.rq_model.specs.declared.record.Record.TheVariants as records
+use Rattle.rq_model.specs.declared.txn.Txn.{Txn}
+use Rattle.rq_model.specs.Content.{content, unfinished, lost}
+use Rattle.rq_model.specs.Deeds.{spelled_deed}
+use Rattle.rq_model.specs.History.{Group}
+use Rattle.rq_page.specs.Slots.{spelled}
+use Rattle.rq_level.specs.Log.{Item}
+use Rattle.rq_level.specs.Log.Item.{PageOp, PageUndo, OpEnd, OpVoid, CompEnd, Commit, AbortEnd, Restart}
+use Rattle.rq_level.specs.Row.{sizes, t2, stopped, restarted}
+use Rattle.rq_store.specs.Sound.{IsWhole}
+
+-- the record with the bytes of these slots and deeds
+abbrev pub record_of : Item → Record
+record_of (PageOp o w) = records.PageOp o.txn o.number (w.at / 16) (w.at % 16) (spelled w.before) (spelled w.after)
+record_of (PageUndo o u at after) = records.PageUndo o.txn o.number u (at / 16) (at % 16) (spelled after)
+record_of (OpEnd o d) = records.OpEnd o.txn o.number 1 (spelled_deed d)
+record_of (OpVoid o) = records.OpVoid o.txn o.number
+record_of (CompEnd o u) = records.CompEnd o.txn o.number u
+record_of (Commit t) = records.Commit t
+record_of (AbortEnd t) = records.AbortEnd t
+record_of (Restart i) = records.Restart i
+
+abbrev pub spelled_log : List Item → List Record
+spelled_log log = map record_of log
+
+-- the message of sender 0 waits, and that of sender 15 is gone
+abbrev pub one_message : Group
+one_message = record { sent = 1; last_tag = 7; received = 0; closed = false; rest = record { sender = 0; tag = 7; body = 104 ∷ [] } ∷ [] }
+
+abbrev pub no_message : Group
+no_message = record { sent = 0; last_tag = 0; received = 0; closed = false; rest = [] }
+
+pub record WorkedStore : Type 0 where
+  pub stopped_whole : IsWhole sizes (spelled_log stopped)
+  pub stopped_unfinished : unfinished (spelled_log stopped) ≡ (t2, 4) ∷ []
+  pub stopped_lost : lost (spelled_log stopped) ≡ t2 ∷ []
+  pub restarted_whole : IsWhole sizes (spelled_log restarted)
+  pub restarted_unfinished : unfinished (spelled_log restarted) ≡ []
+  pub restarted_lost : lost (spelled_log restarted) ≡ []
+  pub stopped_content : content (spelled_log stopped) 0 ≡ one_message
+  pub restarted_content : content (spelled_log restarted) 0 ≡ one_message
+  pub restarted_other : content (spelled_log restarted) 15 ≡ no_message
