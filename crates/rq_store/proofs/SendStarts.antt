@@ -184,7 +184,7 @@ module _ (s : State) (k : IsSound s) (t : Txn) (r : Row) (u : Under) (e tag : �
 pub start_steps : (s : State) (k : IsSound s) (t : Txn) (r : Row) (u : Under) (e tag : ℕ) (body : List ℕ) → found_row t s.rows ≡ Some r → any_under s.rows ≡ false → u.number ≡ r.number + 1
     → IsSendPlan s.sizes (slots_in s.sizes s.images) u e tag body → is_free_for t e s.ends.sending ≡ true → s.cells_in_use < cell_count s.sizes
     → Passes (size_of s.sizes) (ledger_of s) (Start_send t (record { sender = e; tag = tag; body = body }))
-    → Steps s (Start_send t (record { sender = e; tag = tag; body = body })) (Gave_sub (r.number + 1)) (record s { rows = change_row t (row_started u) s.rows; ends = taken_ends t e s.ends; cells_in_use = s.cells_in_use + 1 })
+    → Steps s (Start_send t (record { sender = e; tag = tag; body = body })) (Gave_sub t (r.number + 1)) (record s { rows = change_row t (row_started u) s.rows; ends = taken_ends t e s.ends; cells_in_use = s.cells_in_use + 1 })
 start_steps s k t r u e tag body at_row idle number plan free room passes =
     let ended : ended_in (committed_of s.records) e ≡ false = (or_parts (ended_in (committed_of s.records) e) (has_closed e (found t (open_ones_of s.ends s.rows))) passes.1.1.1.1.1.1.1.0).0 in
     steps s k t r u e tag body at_row idle number plan free room (closed_is s k e ∙ ended) passes
