@@ -144,7 +144,7 @@ fn failing(rt: HostRuntime) -> Result<(), Fail> {
     add(&mut log, &COMMIT)?;
     switch.arm_kind(CallKind::Force, Mishap::Fail);
     assert_eq!(rt; log.force(), Err(Refusal::DiskWrite));
-    assert_eq!(rt; log.forced(), 2);
+    assert_eq!(rt; log.forced(), 0);
     let calls = switch.calls();
     assert_eq!(rt; log.force(), Err(Refusal::Failed));
     assert_eq!(rt; log.hand_over(), Err(Refusal::Failed));

@@ -117,6 +117,15 @@ impl<P: PageDevice + Drop> Pages<P> {
 
 impl<P: PageDevice> Pages<P> {
     ghost use Rattle.rq_pool.specs.Writing.{AnswersWhen, DeviceAfter, changed_after};
+    ghost use Rattle.rq_pool.specs.Pooled.{AreOver};
+
+    /// What is so of the pages of each store, for proofs: it runs no code. Where the device has been honest, each page
+    /// that doesn't count as changed reads there as its image.
+    pub fn keeps(&self)
+        ensures { AreOver P.PageDevice self.now.device self.now.sizes self.now.images self.now.changed }
+    {
+        let _layout = self.layout;
+    }
 
     /// The layout of the store.
     pub fn layout(&self) -> Layout
