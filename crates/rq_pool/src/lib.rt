@@ -77,8 +77,8 @@ impl<P: PageDevice + Drop> Pages<P> {
     ghost use Rattle.rq_pool.specs.Reading.{ArePages, AreSeen, OnlyRead, StopsFor, device_of};
 
     /// Reads every page, and checks each as it is read: the superblock, then each page's header and slots.
-    /// It stops by `DiskRead`, by `NoMemory`, or by `Damaged` with the number of the first page that is none
-    /// of a store's.
+    /// It stops by `DiskRead`, by `Damaged` with the number of the first page that is none of a store's, or,
+    /// where the superblock tells the sizes, by `NoMemory`.
     #[tactic(auto, using(crate::proofs::Over::over_loaded))]
     pub fn load(alloc: Global, mut device: P) -> Result<Pages<P>, Stopped<P>>
         ensures pages { IfOk result (λ pages. ArePages pages.sizes pages.images) }
