@@ -3,6 +3,7 @@ ghost use Rattle.std.specs.Prelude.{◌≡◌, ◌+◌, ◌≤◌, ◌<◌, ◌�
 ghost use Rattle.rq_model.specs.declared.record.Record.TheVariants as records;
 ghost use Rattle.rq_model.specs.declared.record.Record.{Record};
 ghost use Rattle.rq_level.specs.Stored.{slots_in, count_used};
+ghost use Rattle.rq_log.specs.Crash.{LeavesOnly};
 ghost use Rattle.rq_log.specs.Spelled.{spelled, AreSpelled};
 ghost use Rattle.rq_page.specs.Sizes.{Sizes};
 ghost use Rattle.rq_disk.specs.Device.{Only};
@@ -13,7 +14,9 @@ ghost use Rattle.rq_store.specs.Sound.{IsSound};
 ghost use Rattle.rq_store.specs.Opening.{opened, next_restart, IsLeft};
 ghost use Rattle.rq_store.specs.Fitting.{AllFit, image_in};
 ghost use Rattle.rq_engine.specs.Crash.{AreFit};
-ghost use Rattle.rq_restart.specs.Restarting.{IsReadAs, IsLeftOn, IsReady, AreWaiting, BeginsNot, StaysShut, IsBegun, Reports, Stops, IsFresh, AddsOne, BeginsAtMost, LeavesReadOrBegun};
+ghost use Rattle.rq_engine.specs.Opened.{pooled};
+ghost use Rattle.rq_restart.specs.Repeating.{paged};
+ghost use Rattle.rq_restart.specs.Restarting.{IsReadAs, IsLeftOn, IsReady, AreWaiting, BeginsNot, StaysShut, IsBegun, Reports, Stops, IsEnded, IsGoneThrough, ShutFor, WasLeftOrIs, BeginsAtMost, LogStops, Refuses, WasChecked};
 
 use crate::redo::{miscounted_page, repeat_history};
 use crate::waiting::count_waiting;
@@ -82,8 +85,8 @@ pub fn restart<P: PageDevice + Drop, L: LogDevice + Drop>(
     ensures pages_back { IfErr result (λ stopped. OnlyRead P.PageDevice pages stopped.pages) }
     ensures any_moment { IfOk result (λ o. BeginsAtMost L.LogDevice log o.0.log) }
     ensures any_moment_back { IfErr result (λ stopped. BeginsAtMost L.LogDevice log stopped.log) }
-    ensures crash { IfOk result (λ o. LeavesReadOrBegun P.PageDevice L.LogDevice pages log o.0.pages o.0.log) }
-    ensures crash_back { IfErr result (λ stopped. LeavesReadOrBegun P.PageDevice L.LogDevice pages log stopped.pages stopped.log) }
+    ensures checked { IfOk result (λ o. WasChecked P.PageDevice L.LogDevice pages log o.0.state.sizes (paged (pooled o.0)) o.0.state.records o.0.pages o.0.log) }
+    ensures refused { IfErr result (λ stopped. Refuses P.PageDevice L.LogDevice pages log stopped.refusal stopped.pages stopped.log) }
     ensures fit { IfOk result (λ o. (older : List Record) → IsReadAs L.LogDevice log o.0.log older → AllFit (P.may_be pages) o.0.state.sizes older → AreFit P.PageDevice o.0) }
     ensures cause { IfOk result (λ o. (P.faults o.0.pages ≡ P.faults pages) × (L.faults o.0.log ≡ L.faults log)) }
     ensures err { IfErr result (λ stopped. (z : Sizes) → IsSuperblock z (P.seen pages 0) → (older : List Record) → IsReadAs L.LogDevice log stopped.log older → Stops (IsLeftOn P.PageDevice z pages stopped.pages older) older stopped.refusal (P.faults pages) (P.faults stopped.pages) (L.faults log) (L.faults stopped.log)) }
@@ -108,6 +111,8 @@ fn reopen<P: PageDevice + Drop, L: LogDevice + Drop>(
     ensures pages_back { IfErr result (λ stopped. OnlyRead P.PageDevice pages stopped.pages) }
     ensures any_moment { IfOk result (λ o. BeginsAtMost L.LogDevice log o.0.log) }
     ensures any_moment_back { IfErr result (λ stopped. BeginsAtMost L.LogDevice log stopped.log) }
+    ensures checked { IfOk result (λ o. WasChecked P.PageDevice L.LogDevice pages log o.0.state.sizes (paged (pooled o.0)) o.0.state.records o.0.pages o.0.log) }
+    ensures refused { IfErr result (λ stopped. Refuses P.PageDevice L.LogDevice pages log stopped.refusal stopped.pages stopped.log) }
     ensures fit { IfOk result (λ o. (older : List Record) → IsReadAs L.LogDevice log o.0.log older → AllFit (P.may_be pages) o.0.state.sizes older → AreFit P.PageDevice o.0) }
     ensures cause { IfOk result (λ o. (P.faults o.0.pages ≡ P.faults pages) × (L.faults o.0.log ≡ L.faults log)) }
     ensures err { IfErr result (λ stopped. (z : Sizes) → IsSuperblock z (P.seen pages 0) → (older : List Record) → IsReadAs L.LogDevice log stopped.log older → Stops (IsLeftOn P.PageDevice z pages stopped.pages older) older stopped.refusal (P.faults pages) (P.faults stopped.pages) (L.faults log) (L.faults stopped.log)) }
@@ -147,6 +152,9 @@ fn open<P: PageDevice + Drop, L: LogDevice + Drop>(
     ensures pages_back { IfErr result (λ stopped. OnlyRead P.PageDevice pages stopped.pages) }
     ensures any_moment { IfOk result (λ o. BeginsAtMost L.LogDevice log o.log.device) }
     ensures any_moment_back { IfErr result (λ stopped. BeginsAtMost L.LogDevice log stopped.log) }
+    ensures checked { IfOk result (λ o. WasChecked P.PageDevice L.LogDevice pages log o.pages.sizes (paged o.pages) o.log.records o.pages.device o.log.device) }
+    ensures refused { IfErr result (λ stopped. Refuses P.PageDevice L.LogDevice pages log stopped.refusal stopped.pages stopped.log) }
+    ensures room { IfOk result (λ o. o.log.reserved ≡ 0) }
     ensures cause { IfOk result (λ o. (P.faults o.pages.device ≡ P.faults pages) × (L.faults o.log.device ≡ L.faults log)) }
     ensures err { IfErr result (λ stopped. (z : Sizes) → IsSuperblock z (P.seen pages 0) → (older : List Record) → IsReadAs L.LogDevice log stopped.log older → Stops (IsLeftOn P.PageDevice z pages stopped.pages older) older stopped.refusal (P.faults pages) (P.faults stopped.pages) (L.faults log) (L.faults stopped.log)) }
 {
@@ -180,6 +188,9 @@ fn restart_log<P: PageDevice + Drop, L: LogDevice + Drop>(
     ensures pages_back { IfErr result (λ stopped. stopped.pages ≡ pages.device) }
     ensures any_moment { IfOk result (λ o. BeginsAtMost L.LogDevice log o.log.device) }
     ensures any_moment_back { IfErr result (λ stopped. BeginsAtMost L.LogDevice log stopped.log) }
+    ensures checked { IfOk result (λ o. (older : List Record) × AreSpelled older × (L.honest o.log.device → L.seen log ≡ spelled older) × IsGoneThrough pages.sizes older (paged pages) (paged o.pages) × IsEnded older × (o.log.records ≡ next_restart older ∷ older)) }
+    ensures refused { IfErr result (λ stopped. LogStops L.LogDevice pages.sizes (paged pages) stopped.refusal log stopped.log) }
+    ensures room { IfOk result (λ o. o.log.reserved ≡ 0) }
     ensures cause { IfOk result (λ o. L.faults o.log.device ≡ L.faults log) }
     ensures err { IfErr result (λ stopped. (older : List Record) → IsReadAs L.LogDevice log stopped.log older → StaysShut (IsLeft pages.sizes (image_in pages.images) older) older stopped.refusal (L.faults log) (L.faults stopped.log)) }
 {
@@ -231,7 +242,10 @@ fn go_on<P: PageDevice + Drop, L: LogDevice + Drop>(
     ensures ready { IfOk result (λ begun. IsReady L.LogDevice begun.1.incarnation log.new) }
     ensures pages { pages.new.device ≡ pages.old.device }
     ensures honest { L.honest log.new.device → L.honest log.old.device }
-    ensures any_moment { L.honest log.new.device → IsFresh L.LogDevice log.old → AddsOne L.LogDevice (next_restart log.old.records) log.old.records log.old.device log.new.device }
+    ensures any_moment { L.honest log.new.device → AreSpelled log.old.records → L.seen log.old.device ≡ spelled log.old.records → LeavesOnly L.LogDevice log.old.device log.new.device (WasLeftOrIs L.LogDevice log.old.device (IsEnded log.old.records) (next_restart log.old.records ∷ log.old.records)) }
+    ensures checked { OnOk result (IsGoneThrough pages.old.sizes log.old.records (paged pages.old) (paged pages.new) × IsEnded log.old.records) }
+    ensures shut { IfErr result (λ e. ShutFor pages.old.sizes log.old.records (paged pages.old) e (L.faults log.old.device) (L.faults log.new.device) (log.new.device ≡ log.old.device)) }
+    ensures room { OnOk result (log.new.reserved ≡ log.old.reserved) }
     ensures cause { OnOk result (L.faults log.new.device ≡ L.faults log.old.device) }
     ensures err { IfErr result (λ e. StaysShut (IsLeft pages.old.sizes (image_in pages.old.images) log.old.records) log.old.records e (L.faults log.old.device) (L.faults log.new.device)) }
 {
@@ -261,8 +275,9 @@ fn begin_incarnation<L: LogDevice + Drop>(log: &mut Log<L>, last: u64) -> Result
     ensures ready { IfOk result (λ report. IsReady L.LogDevice report.incarnation log.new) }
     ensures cause { OnOk result (L.faults log.new.device ≡ L.faults log.old.device) }
     ensures honest { L.honest log.new.device → L.honest log.old.device }
-    ensures any_moment { L.honest log.new.device → IsFresh L.LogDevice log.old → AddsOne L.LogDevice (records.Restart (last + 1)) log.old.records log.old.device log.new.device }
-    ensures err { IfErr result (λ e. BeginsNot e (length log.old.records) last (L.faults log.old.device) (L.faults log.new.device)) }
+    ensures any_moment { L.honest log.new.device → AreSpelled log.old.records → L.seen log.old.device ≡ spelled log.old.records → LeavesOnly L.LogDevice log.old.device log.new.device (WasLeftOrIs L.LogDevice log.old.device (Unit {0}) (records.Restart (last + 1) ∷ log.old.records)) }
+    ensures room { OnOk result (log.new.reserved ≡ log.old.reserved) }
+    ensures err { IfErr result (λ e. BeginsNot e (length log.old.records) last (L.faults log.old.device) (L.faults log.new.device) (log.new.device ≡ log.old.device)) }
 {
     if log.last() >= LOG_LIMIT {
         return Err(Refusal::LogFull);
