@@ -4,6 +4,7 @@ use Rattle.std.proofs.lemmas.List.{length-drop}
 use Rattle.rq_model.specs.declared.record.Record.{Record}
 use Rattle.rq_model.specs.declared.record.Record.TheVariants as records
 use Rattle.rq_disk.specs.declared.device.LogDevice.{Ghosts}
+use Rattle.rq_record.specs.Spelling.{IsRecord}
 use Rattle.rq_log.specs.Crash.{LeavesOnly}
 use Rattle.rq_log.specs.Logged.{Logged, WasLeftOrGoesOn}
 use Rattle.rq_log.specs.Spelled.{spelled, AreSpelled, GoesOn}
@@ -47,20 +48,20 @@ module _ {L : Type 0} (g : Ghosts L) (only_now : (d : L) (c : List ℕ) → g.le
 
 -- one record is forced behind what was read
 pub one_forced : {L : Type 0} (g : Ghosts L) → ((d : L) → g.may_leave d (g.seen d)) → (old new : L) (log : Logged L) (older : List Record) (r : Record)
-    → log.device ≡ old → log.records ≡ r ∷ older → AreSpelled older → g.seen old ≡ spelled older
-    → LeavesOnly g log.device new (WasLeftOrGoesOn g log) → LeavesOnly g old new (WasLeftOrIs g old (Unit {0}) (r ∷ older))
-one_forced g may old new log older r same grown are read run =
-    weaker g old new (λ c. g.may_leave old c ⊎ GoesOn (r ∷ older) log.forced (g.seen old) c) (WasLeftOrIs g old (Unit {0}) (r ∷ older)) there
-    (λ c. ⊎_elim (λ was. inl was) (λ on. ⊎_elim (λ e. inl (subst (g.may_leave old) (sym e) (may old))) (λ e. inr (tt, e)) (read_or_one older r log.forced (g.seen old) c are read on))) where
+    → log.device ≡ old → log.records ≡ r ∷ older → IsRecord r → AreSpelled older → g.seen old ≡ spelled older
+    → LeavesOnly g log.device new (WasLeftOrGoesOn g log) → LeavesOnly g old new (WasLeftOrIs g old (IsRecord r) (r ∷ older))
+one_forced g may old new log older r same grown is_record are read run =
+    weaker g old new (λ c. g.may_leave old c ⊎ GoesOn (r ∷ older) log.forced (g.seen old) c) (WasLeftOrIs g old (IsRecord r) (r ∷ older)) there
+    (λ c. ⊎_elim (λ was. inl was) (λ on. ⊎_elim (λ e. inl (subst (g.may_leave old) (sym e) (may old))) (λ e. inr (is_record, e)) (read_or_one older r log.forced (g.seen old) c are read on))) where
       there : LeavesOnly g old new (λ c. g.may_leave old c ⊎ GoesOn (r ∷ older) log.forced (g.seen old) c)
       there = subst (λ rs. LeavesOnly g old new (λ c. g.may_leave old c ⊎ GoesOn rs log.forced (g.seen old) c)) grown (subst (λ d. LeavesOnly g d new (λ c. g.may_leave d c ⊎ GoesOn log.records log.forced (g.seen d) c)) same run)
 
 -- the record that begins the incarnation after the last, where everything has ended
 pub begun_moment : {L : Type 0} (g : Ghosts L) (older : List Record) (xs : List Record) (same : older ≡ reverse xs) (h : Noted) → h ≡ noted (reverse xs) → (last : ℕ) → last ≡ h.incarnation → IsEnded older → (d new : L)
-    → LeavesOnly g d new (WasLeftOrIs g d (Unit {0}) (records.Restart (last + 1) ∷ older)) → LeavesOnly g d new (WasLeftOrIs g d (IsEnded older) (next_restart older ∷ older))
+    → LeavesOnly g d new (WasLeftOrIs g d (IsRecord (records.Restart (last + 1))) (records.Restart (last + 1) ∷ older)) → LeavesOnly g d new (WasLeftOrIs g d (IsEnded older × IsRecord (next_restart older)) (next_restart older ∷ older))
 begun_moment g older xs same h k last e ended d new run =
-    weaker g d new (WasLeftOrIs g d (Unit {0}) (records.Restart (last + 1) ∷ older)) (WasLeftOrIs g d (IsEnded older) (next_restart older ∷ older)) run
-    (λ c. ⊎_elim (λ was. inl was) (λ is. inr (ended, is.1 ∙ ap (λ n. spelled (records.Restart (n + 1) ∷ older)) (last_is older xs same h k last e))))
+    weaker g d new (WasLeftOrIs g d (IsRecord (records.Restart (last + 1))) (records.Restart (last + 1) ∷ older)) (WasLeftOrIs g d (IsEnded older × IsRecord (next_restart older)) (next_restart older ∷ older)) run
+    (λ c. ⊎_elim (λ was. inl was) (λ is. let n = last_is older xs same h k last e in inr ((ended, subst (λ i. IsRecord (records.Restart (i + 1))) n is.0), is.1 ∙ ap (λ i. spelled (records.Restart (i + 1) ∷ older)) n)))
 
 module _ {L : Type 0} (g : Ghosts L) where
   -- the log was only read
@@ -70,13 +71,13 @@ module _ {L : Type 0} (g : Ghosts L) where
   -- it was read whole, and then gone on with
   pub read_first : (old mid new : L) (older : List Record) → (g.honest new → g.honest mid) → (g.honest mid → g.seen old ≡ spelled older) → AreSpelled older → g.seen mid ≡ g.seen old
       → ((c : List ℕ) → g.may_leave mid c → g.may_leave old c) → LeavesOnly g old mid (g.may_leave old)
-      → (g.honest new → AreSpelled older → g.seen mid ≡ spelled older → LeavesOnly g mid new (WasLeftOrIs g mid (IsEnded older) (next_restart older ∷ older))) → BeginsAtMost g old new
+      → (g.honest new → AreSpelled older → g.seen mid ≡ spelled older → LeavesOnly g mid new (WasLeftOrIs g mid (IsEnded older × IsRecord (next_restart older)) (next_restart older ∷ older))) → BeginsAtMost g old new
   read_first old mid new older falls reads are same crash run rest h =
       let read = reads (falls h) in
       joined g old mid new (λ c. g.may_leave old c ⊎ IsBegunOn (g.seen old) c)
       (weaker g old mid (g.may_leave old) (λ c. g.may_leave old c ⊎ IsBegunOn (g.seen old) c) run (λ c was. inl was))
-      (weaker g mid new (WasLeftOrIs g mid (IsEnded older) (next_restart older ∷ older)) (λ c. g.may_leave old c ⊎ IsBegunOn (g.seen old) c) (rest h are (same ∙ read))
-      (λ c. ⊎_elim (λ was. inl (crash c was)) (λ is. inr (record { older = older; are_spelled = are; reads = read; ended = is.0; is = is.1 }))))
+      (weaker g mid new (WasLeftOrIs g mid (IsEnded older × IsRecord (next_restart older)) (next_restart older ∷ older)) (λ c. g.may_leave old c ⊎ IsBegunOn (g.seen old) c) (rest h are (same ∙ read))
+      (λ c. ⊎_elim (λ was. inl (crash c was)) (λ is. inr (record { older = older; are_spelled = (is.0.1, are); reads = read; ended = is.0.0; is = is.1 }))))
 
 pub if_err_both : {T E : Type 0} {A B C : E → Type 0} (r : Result T E) → ((x : E) → A x → B x → C x) → IfErr r A → IfErr r B → IfErr r C
 if_err_both (Ok x) f h k = h

@@ -1,3 +1,4 @@
 pub mod Noted
 pub mod Repeating
 pub mod Restarting
+pub mod Underway

@@ -134,15 +134,15 @@ pub record AreWaiting (z : Sizes) (images : List (List ℕ)) (count : ℕ) (wait
 -- bytes of a log in which everything has ended, with the record that begins the next incarnation behind
 pub record IsBegunOn (read bytes : List ℕ) : Type 0 where
   pub older : List Record
-  pub are_spelled : AreSpelled older
+  pub are_spelled : AreSpelled (next_restart older ∷ older)
   pub reads : read ≡ spelled older
   pub ended : IsEnded older
   pub is : bytes ≡ spelled (next_restart older ∷ older)
 
 module _ {L : Type 0} (g : log_device.Ghosts L) where
-  -- a crash might have left it of the log before, or it is these records
+  -- a crash might have left it of the log before, or it is these records, of which this is so
   abbrev pub WasLeftOrIs : L → Type 0 → List Record → List ℕ → Type 0
-  WasLeftOrIs old ended records c = g.may_leave old c ⊎ (ended × (c ≡ spelled records))
+  WasLeftOrIs old so records c = g.may_leave old c ⊎ (so × (c ≡ spelled records))
 
   -- whatever a crash at any moment leaves of the log: what it might have left before, or what was read and the record that begins the next incarnation
   abbrev pub BeginsAtMost : L → L → Type 0

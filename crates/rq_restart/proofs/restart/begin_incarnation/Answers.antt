@@ -1,5 +1,6 @@
-use Rattle.std.proofs.Common.{rules, ◌≡◌, ◌+◌, ◌∷◌}
+use Rattle.std.proofs.Common.{rules, arith, ◌≡◌, ◌+◌, ◌∷◌}
 use Rattle.rq_model.specs.declared.record.Record.TheVariants as records
+use Rattle.rq_record.specs.Spelling.{IsRecord}
 use Rattle.rq_restart.proofs.Moments.{one_forced}
 use Rattle.rq_restart.proofs.restart.begin_incarnation.Goals as goal
 
@@ -9,7 +10,8 @@ returns-in_err-records-clause-any_moment g c =
     let mid = c.append.new.self in
     let device : mid.device ≡ old.device = search rules in
     let grown : mid.records ≡ records.Restart (c.args.last + 1) ∷ old.records = search rules in
-    λ h are read. one_forced g.L.LogDevice g.met.L.LogDevice.seen_may_be_left old.device c.force.new.self.device mid old.records (records.Restart (c.args.last + 1)) device grown are read (c.force.ensures.left h)
+    let is : IsRecord (records.Restart (c.args.last + 1)) = (omega arith, search rules) in
+    λ h are read. one_forced g.L.LogDevice g.met.L.LogDevice.seen_may_be_left old.device c.force.new.self.device mid old.records (records.Restart (c.args.last + 1)) device grown is are read (c.force.ensures.left h)
 
 pub returns-clause-any_moment : goal.returns-clause-any_moment
 returns-clause-any_moment g c =
@@ -17,4 +19,5 @@ returns-clause-any_moment g c =
     let mid = c.append.new.self in
     let device : mid.device ≡ old.device = search rules in
     let grown : mid.records ≡ records.Restart (c.args.last + 1) ∷ old.records = search rules in
-    λ h are read. one_forced g.L.LogDevice g.met.L.LogDevice.seen_may_be_left old.device c.force.new.self.device mid old.records (records.Restart (c.args.last + 1)) device grown are read (c.force.ensures.left h)
+    let is : IsRecord (records.Restart (c.args.last + 1)) = (omega arith, search rules) in
+    λ h are read. one_forced g.L.LogDevice g.met.L.LogDevice.seen_may_be_left old.device c.force.new.self.device mid old.records (records.Restart (c.args.last + 1)) device grown is are read (c.force.ensures.left h)
