@@ -1,3 +1,4 @@
+pub mod Formatting
 pub mod Noted
 pub mod Repeating
 pub mod Restarting
