@@ -1,7 +1,9 @@
 -- A restart whose pages are only read, and whose log has at most one record more.
-use Rattle.std.proofs.Common.{◌≡◌, ◌⊎◌, ℕ, List, [], ◌∷◌, inl, inr, ⊎_elim, refl, sym, ◌∙◌, ap, subst, arith, ◌≤◌, Result, Ok, Err, IfOk, IfErr}
+use Rattle.std.proofs.Common.{◌≡◌, ◌⊎◌, ℕ, List, [], ◌∷◌, length, inl, inr, ⊎_elim, refl, sym, ◌∙◌, ap, subst, arith, ◌≤◌, Result, Ok, Err, IfOk, IfErr}
 use Rattle.rq_model.specs.declared.record.Record.{Record}
-use Rattle.rq_model.specs.Content.{unfinished, lost}
+use Rattle.rq_model.specs.Content.{unfinished, lost, committed_of}
+use Rattle.rq_model.specs.Ledger.{Ledger, after}
+use Rattle.rq_model.specs.History.Entry.{Restarted}
 use Rattle.rq_disk.specs.Device.{Images, Leaves}
 use Rattle.rq_disk.specs.declared.device.LogDevice as log_device
 use Rattle.rq_disk.specs.declared.device.PageDevice as page_device
@@ -9,15 +11,17 @@ use Rattle.rq_pool.specs.Reading.{OnlyRead}
 use Rattle.rq_log.specs.Spelled.{spelled, AreSpelled}
 use Rattle.rq_log.proofs.Moments.{weaker}
 use Rattle.rq_page.specs.Sizes.{Sizes}
-use Rattle.rq_store.specs.Sound.{IsWhole}
-use Rattle.rq_store.specs.Opening.{IsLeft, next_restart}
+use Rattle.rq_store.specs.Sound.{IsWhole, IsSound}
+use Rattle.rq_store.specs.State.{ledger_of}
+use Rattle.rq_store.specs.Opening.{IsLeft, opened, next_restart}
 use Rattle.rq_store.proofs.Fitting.{fits_more}
-use Rattle.rq_store.proofs.Opening.{restarted_whole}
-use Rattle.rq_engine.specs.Opened.{OpenStore}
+use Rattle.rq_store.proofs.Opening.{restarted_whole, opened_after}
+use Rattle.rq_engine.specs.Opened.{OpenStore, pooled}
 use Rattle.rq_restart.specs.declared.restart.Report.{Report}
 use Rattle.rq_restart.specs.declared.restart.Stopped.{Stopped}
 use Rattle.rq_restart.specs.Noted.{noted}
-use Rattle.rq_restart.specs.Restarting.{IsEnded, IsBegunOn, BeginsAtMost}
+use Rattle.rq_restart.specs.Restarting.{IsReadAs, IsLeftOn, Reports, WasChecked, IsEnded, IsBegunOn, BeginsAtMost}
+use Rattle.rq_restart.specs.Repeating.{paged}
 use Rattle.rq_restart.specs.Underway.{EachPair, Path, IsStore, IsSomeStore, IsLeftOrGoesOn, pages_left, log_left}
 use Rattle.rq_restart.specs.Underway.Path.{Start, Pages, Log}
 use Rattle.rq_restart.proofs.Noting.{noted_unfinished, noted_working, pairs_of}
@@ -81,3 +85,30 @@ answer_read p pages (Err s) h k = k
 pub answer_begins : {P L : Type 0} (l : log_device.Ghosts L) (log : L) (r : Result (OpenStore P L × Report) (Stopped P L)) → IfOk r (λ o. BeginsAtMost l log o.0.log) → IfErr r (λ s. BeginsAtMost l log s.log) → BeginsAtMost l log (log_left r)
 answer_begins l log (Ok o) h k = h
 answer_begins l log (Err s) h k = k
+
+-- the ledger of the store that was opened is what the entry of a restart makes of any with the content of the log
+module _ {P L : Type 0} (p : page_device.Ghosts P) (l : log_device.Ghosts L) (pages : P) (log : L) where
+  opened_entry : (o : OpenStore P L × Report) (older : List Record) → IsReadAs l log o.0.log older → IsLeftOn p o.0.state.sizes pages o.0.pages older
+      → Reports older o.1.incarnation o.1.records o.1.unfinished o.1.lost → o.0.state ≡ opened o.0.state.sizes o.0.state.images older → IsSound o.0.state
+      → WasChecked p l pages log o.0.state.sizes (paged (pooled o.0)) o.0.state.records o.0.pages o.0.log
+      → (ledger : Ledger) → ledger.committed ≡ committed_of older → ledger_of o.0.state ≡ after (Restarted o.1.incarnation o.1.records) ledger
+  opened_entry o older read on reports value sound checked ledger content =
+      let z = o.0.state.sizes in
+      let images = o.0.state.images in
+      let same : checked.older ≡ older = one_log checked.older older checked.are_spelled read.are_spelled (sym (checked.reads read.honest) ∙ read.reads) in
+      let ended : IsEnded older = subst IsEnded same checked.ended in
+      let w = on.left.whole in
+      let there : IsSound (opened z images older) = subst IsSound value sound in
+      ap ledger_of value
+      ∙ opened_after z images older there.range w (none_unfinished z older w ended) (none_lost z older w ended) there.pages ledger content
+      ∙ ap (λ (i : ℕ). after (Restarted i (length (next_restart older ∷ older))) ledger) (sym reports.incarnation_is)
+      ∙ ap (λ (n : ℕ). after (Restarted o.1.incarnation n) ledger) (let n = reports.records_are in omega (arith, n))
+
+  pub answer_entry : (r : Result (OpenStore P L × Report) (Stopped P L))
+      → IfOk r (λ o. (older : List Record) → IsReadAs l log o.0.log older → Reports older o.1.incarnation o.1.records o.1.unfinished o.1.lost)
+      → IfOk r (λ o. (older : List Record) → IsReadAs l log o.0.log older → o.0.state ≡ opened o.0.state.sizes o.0.state.images older)
+      → IfOk r (λ o. (older : List Record) → IsReadAs l log o.0.log older → IsLeftOn p o.0.state.sizes pages o.0.pages older → IsSound o.0.state)
+      → IfOk r (λ o. WasChecked p l pages log o.0.state.sizes (paged (pooled o.0)) o.0.state.records o.0.pages o.0.log)
+      → IfOk r (λ o. (older : List Record) → IsReadAs l log o.0.log older → IsLeftOn p o.0.state.sizes pages o.0.pages older → (ledger : Ledger) → ledger.committed ≡ committed_of older → ledger_of o.0.state ≡ after (Restarted o.1.incarnation o.1.records) ledger)
+  answer_entry (Ok o) report value sound checked = λ older read on. opened_entry o older read on (report older read) (value older read) (sound older read on) checked
+  answer_entry (Err e) report value sound checked = report

@@ -138,7 +138,7 @@ module _ {P L : Type 0} (p : Ghosts P) (l : log_device.Ghosts L) (pages : P) (lo
   first_is = ap (λ (f : List Bool). record { image = image_in loaded.images; changed = f }) unchanged
 
   pub was_checked : (now : Pooled P) (records : List Record) (new : L) → now.sizes ≡ loaded.sizes → now.device ≡ loaded.device
-      → ((older : List Record) × AreSpelled older × (l.honest new → l.seen log ≡ spelled older) × IsGoneThrough loaded.sizes older (paged loaded) (paged now) × IsEnded older × (records ≡ next_restart older ∷ older))
+      → ((older : List Record) × AreSpelled older × (l.honest new → l.seen log ≡ spelled older) × IsGoneThrough loaded.sizes older (paged loaded) (paged now) × IsEnded older × (records ≡ next_restart older ∷ older) × (length older < 2 ^ 50))
       → WasChecked p l pages log now.sizes (paged now) records now.device new
   was_checked now records new same device h =
       subst (λ d. WasChecked p l pages log now.sizes (paged now) records d new) (sym device)
@@ -152,6 +152,7 @@ module _ {P L : Type 0} (p : Ghosts P) (l : log_device.Ghosts L) (pages : P) (lo
         gone_through = subst (λ first. IsGoneThrough loaded.sizes h.0 first (paged now)) first_is h.3;
         ended = h.4;
         begun = h.5;
+        room = h.6;
       }))
 
   pub was_refused : (e : Refusal) (new_pages : P) (new_log : L) → new_pages ≡ loaded.device → p.faults loaded.device ≡ p.faults pages → LogStops l loaded.sizes (paged loaded) e log new_log → Refuses p l pages log e new_pages new_log

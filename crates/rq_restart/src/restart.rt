@@ -1,5 +1,5 @@
 //! Opening a store that a crash, or nothing at all, left behind.
-ghost use Rattle.std.specs.Prelude.{◌≡◌, ◌+◌, ◌≤◌, ◌<◌, ◌∷◌, IfOk, IfErr, OnOk, false, length, reverse, drop, List, ℕ};
+ghost use Rattle.std.specs.Prelude.{◌≡◌, ◌+◌, ◌^◌, ◌≤◌, ◌<◌, ◌∷◌, IfOk, IfErr, OnOk, false, length, reverse, drop, List, ℕ};
 ghost use Rattle.rq_model.specs.declared.record.Record.TheVariants as records;
 ghost use Rattle.rq_model.specs.declared.record.Record.{Record};
 ghost use Rattle.rq_level.specs.Stored.{slots_in, count_used};
@@ -10,6 +10,8 @@ ghost use Rattle.rq_page.specs.Sizes.{Sizes};
 ghost use Rattle.rq_disk.specs.Device.{Only};
 ghost use Rattle.rq_pool.specs.Reading.{IsSuperblock, OnlyRead};
 ghost use Rattle.rq_model.specs.Content.{committed_of};
+ghost use Rattle.rq_model.specs.Ledger.{Ledger, after};
+ghost use Rattle.rq_model.specs.History.Entry.{Restarted};
 ghost use Rattle.rq_store.specs.State.{ledger_of};
 ghost use Rattle.rq_store.specs.Sound.{IsSound};
 ghost use Rattle.rq_store.specs.Opening.{opened, next_restart, IsLeft};
@@ -80,6 +82,7 @@ pub fn restart<P: PageDevice + Drop, L: LogDevice + Drop>(
     ensures sizes { IfOk result (λ o. P.honest o.0.pages → IsSuperblock o.0.state.sizes (P.seen pages 0)) }
     ensures value { IfOk result (λ o. (older : List Record) → IsReadAs L.LogDevice log o.0.log older → o.0.state ≡ opened o.0.state.sizes o.0.state.images older) }
     ensures sound { IfOk result (λ o. (older : List Record) → IsReadAs L.LogDevice log o.0.log older → IsLeftOn P.PageDevice o.0.state.sizes pages o.0.pages older → IsSound o.0.state) }
+    ensures entry { IfOk result (λ o. (older : List Record) → IsReadAs L.LogDevice log o.0.log older → IsLeftOn P.PageDevice o.0.state.sizes pages o.0.pages older → (ledger : Ledger) → ledger.committed ≡ committed_of older → ledger_of o.0.state ≡ after (Restarted o.1.incarnation o.1.records) ledger) }
     ensures committed { IfOk result (λ o. (older : List Record) → IsReadAs L.LogDevice log o.0.log older → (ledger_of o.0.state).committed ≡ committed_of older) }
     ensures reads { IfOk result (λ o. L.honest o.0.log → L.seen o.0.log ≡ spelled o.0.state.records) }
     ensures durable { IfOk result (λ o. L.honest o.0.log → Only (spelled o.0.state.records) (L.may_leave o.0.log)) }
@@ -190,7 +193,7 @@ fn restart_log<P: PageDevice + Drop, L: LogDevice + Drop>(
     ensures pages_back { IfErr result (λ stopped. stopped.pages ≡ pages.device) }
     ensures any_moment { IfOk result (λ o. BeginsAtMost L.LogDevice log o.log.device) }
     ensures any_moment_back { IfErr result (λ stopped. BeginsAtMost L.LogDevice log stopped.log) }
-    ensures checked { IfOk result (λ o. (older : List Record) × AreSpelled older × (L.honest o.log.device → L.seen log ≡ spelled older) × IsGoneThrough pages.sizes older (paged pages) (paged o.pages) × IsEnded older × (o.log.records ≡ next_restart older ∷ older)) }
+    ensures checked { IfOk result (λ o. (older : List Record) × AreSpelled older × (L.honest o.log.device → L.seen log ≡ spelled older) × IsGoneThrough pages.sizes older (paged pages) (paged o.pages) × IsEnded older × (o.log.records ≡ next_restart older ∷ older) × (length older < 2 ^ 50)) }
     ensures refused { IfErr result (λ stopped. LogStops L.LogDevice pages.sizes (paged pages) stopped.refusal log stopped.log) }
     ensures room { IfOk result (λ o. o.log.reserved ≡ 0) }
     ensures cause { IfOk result (λ o. L.faults o.log.device ≡ L.faults log) }

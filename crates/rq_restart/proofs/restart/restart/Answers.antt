@@ -1,4 +1,4 @@
-use Rattle.rq_restart.proofs.Paths.{restart_path, restart_crash, answer_read, answer_begins}
+use Rattle.rq_restart.proofs.Paths.{restart_path, restart_crash, answer_read, answer_begins, answer_entry}
 use Rattle.rq_restart.proofs.restart.restart.Goals as goal
 
 pub returns-clause-pages : goal.returns-clause-pages
@@ -18,3 +18,7 @@ returns-clause-crash g c =
     λ h z read are reads was. restart_crash g.P.PageDevice g.L.LogDevice g.met.P.PageDevice.only_now g.met.L.LogDevice.seen_may_be_left c.args.pages _ c.args.log _
     (answer_read g.P.PageDevice c.args.pages c.reopen.result c.reopen.ensures.pages c.reopen.ensures.pages_back)
     (answer_begins g.L.LogDevice c.args.log c.reopen.result c.reopen.ensures.any_moment c.reopen.ensures.any_moment_back) h z read are reads was g.met.L.LogDevice.counts_now
+
+pub returns-clause-entry : goal.returns-clause-entry
+returns-clause-entry g c =
+    answer_entry g.P.PageDevice g.L.LogDevice c.args.pages c.args.log c.reopen.result c.reopen.ensures.report c.reopen.ensures.value c.reopen.ensures.sound c.reopen.ensures.checked

@@ -1,4 +1,4 @@
-use Rattle.std.proofs.Common.{◌≡◌, reverse, sym, subst, inl, inr}
+use Rattle.std.proofs.Common.{◌≡◌, length, reverse, sym, ap, subst, inl, inr, arith}
 use Rattle.rq_store.specs.Sound.{IsSound}
 use Rattle.rq_store.specs.Opening.{opened, IsLeft}
 use Rattle.rq_store.specs.Fitting.{image_in}
@@ -75,7 +75,7 @@ returns-in-Ok-go_on-clause-checked g c =
     let told = c.scan-records.ensures in
     let read = rw c.in-Ok.is at told.read in
     let went = c.in-Ok-go_on.ensures in
-    (c.in-Ok.log.records, subst AreSpelled (sym read.0) told.spelled, (λ h. read.1 (c.go_on.ensures.honest h)), went.checked.0, went.checked.1, went.begun.records)
+    (c.in-Ok.log.records, subst AreSpelled (sym read.0) told.spelled, (λ h. read.1 (c.go_on.ensures.honest h)), went.checked.0, went.checked.1, went.begun.records, (let n = went.ready.count in let e = ap length went.begun.records in omega (arith, n, e)))
 
 pub returns-in-Ok-clause-refused : goal.returns-in-Ok-clause-refused
 returns-in-Ok-clause-refused g c =
