@@ -40,3 +40,9 @@ pub record Elapses {C : Type 0} (before now : ℕ) (past since : ℕ → C → T
 pub record HasCause {T E : Type 0} (before now : ℕ) (result : Result T E) : Type 0 where
   pub ok : OnOk result (now ≡ before)
   pub err : OnErr result (now ≡ (before + 1) % 2 ^ 64)
+
+-- a device reads the same as before, and a crash leaves the same of it
+pub record Stays {S C : Type 0} (old_seen new_seen : S) (old_may new_may : C → Type 0) : Type 0 where
+  pub reads : new_seen ≡ old_seen
+  pub left : (c : C) → new_may c → old_may c
+  pub still_left : (c : C) → old_may c → new_may c

@@ -1,10 +1,11 @@
 //! What callers may know of a device of pages and of a device of a log: what reads give, what a crash now
 //! may leave, and what a crash at some moment since an earlier one may have left.
 //!
-//! Callers are generic in both, and reach everything through the ghost members. A call that errs may have
-//! done its work or not: each clause on what a crash leaves stands on every answer.
-ghost use Rattle.std.specs.Prelude.{◌≡◌, ◌≢◌, ◌≤◌, ◌+◌, ◌-◌, ◌++◌, List, ℕ, length, take, drop, min, IfOk, OnOk, OnErr};
-ghost use Rattle.rq_disk.specs.Device.{Images, Leaves, Holds, Written, NoMore, Appended, Only, Elapses, HasCause};
+//! Callers are generic in both, and reach everything through the ghost members. A call that errs has done
+//! nothing, or the device has stopped in it, its work done or not: each clause on what a crash leaves stands
+//! on every answer.
+ghost use Rattle.std.specs.Prelude.{◌≡◌, ◌≢◌, ◌⊎◌, ◌≤◌, ◌+◌, ◌-◌, ◌++◌, List, ℕ, length, take, drop, min, IfOk, OnOk, OnErr, IsErr};
+ghost use Rattle.rq_disk.specs.Device.{Images, Leaves, Holds, Written, NoMore, Appended, Only, Elapses, HasCause, Stays};
 ghost use Rattle.rq_disk.specs.Records.{AreRecords};
 
 use thiserror::Error;
@@ -28,6 +29,9 @@ pub trait PageDevice {
     /// The images that a crash at this moment may leave of a page. Each page has its own by itself.
     ghost may_be: { Self → ℕ → List ℕ → Type 0 };
 
+    /// It has stopped: no call does anything any more.
+    ghost stopped: { Self → Type 0 };
+
     /// The moment, as a number that never falls.
     ghost moment: { Self → ℕ };
 
@@ -48,6 +52,8 @@ pub trait PageDevice {
         ensures crash { NoMore (may_be self.old) (may_be self.new) }
         ensures time { Elapses (moment self.old) (moment self.new) (left_since self.old) (left_since self.new) (Leaves (may_be self.new)) }
         ensures honest { honest self.new → honest self.old }
+        ensures failed { honest self.new → OnErr result (stopped self.new ⊎ Stays (seen self.old) (seen self.new) (Leaves (may_be self.old)) (Leaves (may_be self.new))) }
+        ensures still { honest self.new → stopped self.old → IsErr result × stopped self.new × Stays (seen self.old) (seen self.new) (Leaves (may_be self.old)) (Leaves (may_be self.new)) }
         ensures cause { HasCause (faults self.old) (faults self.new) result };
 
     /// Writes a page. The image is durable only after a sync.
@@ -57,6 +63,8 @@ pub trait PageDevice {
         ensures crash { Written page image.now (may_be self.old) (may_be self.new) }
         ensures time { Elapses (moment self.old) (moment self.new) (left_since self.old) (left_since self.new) (Leaves (may_be self.new)) }
         ensures honest { honest self.new → honest self.old }
+        ensures failed { honest self.new → OnErr result (stopped self.new ⊎ Stays (seen self.old) (seen self.new) (Leaves (may_be self.old)) (Leaves (may_be self.new))) }
+        ensures still { honest self.new → stopped self.old → IsErr result × stopped self.new × Stays (seen self.old) (seen self.new) (Leaves (may_be self.old)) (Leaves (may_be self.new)) }
         ensures cause { HasCause (faults self.old) (faults self.new) result };
 
     /// Makes everything written so far durable.
@@ -66,6 +74,8 @@ pub trait PageDevice {
         ensures crash { NoMore (may_be self.old) (may_be self.new) }
         ensures time { Elapses (moment self.old) (moment self.new) (left_since self.old) (left_since self.new) (Leaves (may_be self.new)) }
         ensures honest { honest self.new → honest self.old }
+        ensures failed { honest self.new → OnErr result (stopped self.new ⊎ Stays (seen self.old) (seen self.new) (Leaves (may_be self.old)) (Leaves (may_be self.new))) }
+        ensures still { honest self.new → stopped self.old → IsErr result × stopped self.new × Stays (seen self.old) (seen self.new) (Leaves (may_be self.old)) (Leaves (may_be self.new)) }
         ensures cause { HasCause (faults self.old) (faults self.new) result };
 
     /// A crash may leave what reads give.
@@ -90,6 +100,9 @@ pub trait LogDevice {
     /// The bytes that a crash at this moment may leave.
     ghost may_leave: { Self → List ℕ → Type 0 };
 
+    /// It has stopped: no call does anything any more.
+    ghost stopped: { Self → Type 0 };
+
     /// The moment, as a number that never falls.
     ghost moment: { Self → ℕ };
 
@@ -112,6 +125,8 @@ pub trait LogDevice {
         ensures crash { (c : List ℕ) → may_leave self.new c → may_leave self.old c }
         ensures time { Elapses (moment self.old) (moment self.new) (left_since self.old) (left_since self.new) (may_leave self.new) }
         ensures honest { honest self.new → honest self.old }
+        ensures failed { honest self.new → OnErr result (stopped self.new ⊎ Stays (seen self.old) (seen self.new) (may_leave self.old) (may_leave self.new)) }
+        ensures still { honest self.new → stopped self.old → IsErr result × stopped self.new × Stays (seen self.old) (seen self.new) (may_leave self.old) (may_leave self.new) }
         ensures cause { HasCause (faults self.old) (faults self.new) result };
 
     /// Appends whole records. They are durable only after a force; a crash before it leaves the first few.
@@ -121,6 +136,8 @@ pub trait LogDevice {
         ensures crash { Appended (seen self.old) bytes.now (may_leave self.old) (may_leave self.new) }
         ensures time { Elapses (moment self.old) (moment self.new) (left_since self.old) (left_since self.new) (may_leave self.new) }
         ensures honest { honest self.new → honest self.old }
+        ensures failed { honest self.new → OnErr result (stopped self.new ⊎ Stays (seen self.old) (seen self.new) (may_leave self.old) (may_leave self.new)) }
+        ensures still { honest self.new → stopped self.old → IsErr result × stopped self.new × Stays (seen self.old) (seen self.new) (may_leave self.old) (may_leave self.new) }
         ensures cause { HasCause (faults self.old) (faults self.new) result };
 
     /// Makes everything appended so far durable.
@@ -130,6 +147,8 @@ pub trait LogDevice {
         ensures crash { (c : List ℕ) → may_leave self.new c → may_leave self.old c }
         ensures time { Elapses (moment self.old) (moment self.new) (left_since self.old) (left_since self.new) (may_leave self.new) }
         ensures honest { honest self.new → honest self.old }
+        ensures failed { honest self.new → OnErr result (stopped self.new ⊎ Stays (seen self.old) (seen self.new) (may_leave self.old) (may_leave self.new)) }
+        ensures still { honest self.new → stopped self.old → IsErr result × stopped self.new × Stays (seen self.old) (seen self.new) (may_leave self.old) (may_leave self.new) }
         ensures cause { HasCause (faults self.old) (faults self.new) result };
 
     /// A crash may leave what reads give.

@@ -1,5 +1,5 @@
 //! A log in memory. It keeps what it was at first and each call since, so that its past is real data.
-ghost use Rattle.std.specs.Prelude.{⊤, ◌≡◌, ◌≤◌, ◌-◌, ◌++◌, ◌∷◌, [], ℕ, length, take, drop, min, IfOk, OnOk, OnErr};
+ghost use Rattle.std.specs.Prelude.{⊤, ◌≡◌, ◌≤◌, ◌-◌, ◌++◌, ◌∷◌, [], ℕ, length, take, drop, min, IfOk, OnOk, OnErr, true};
 ghost use Rattle.rq_disk.specs.Records.{AreRecords, some_records-prop};
 ghost use Rattle.rq_disk.specs.Memory.{log_after};
 
@@ -27,6 +27,8 @@ pub struct MemLog {
     forced: usize,
     calls: Vec<LogCall>,
     failures: u64,
+    // the machine stopped in an append, which was made
+    stopped: bool,
     switch: Switch,
     ghost order: { first ≤ forced },
     ghost within: { forced ≤ length bytes.items },
@@ -45,6 +47,8 @@ impl LogDevice for MemLog {
 
     ghost may_leave = { λ m. MayLeave (log_of m) };
 
+    ghost stopped = { λ m. m.stopped ≡ true };
+
     ghost moment = { λ m. log_moment m };
 
     ghost left_since = { λ m. LogSince (take m.first m.bytes.items) m.calls.items };
@@ -62,7 +66,7 @@ impl LogDevice for MemLog {
     }
 
     fn read(&mut self, at: u64, into: &mut [u8]) -> Result<usize, DeviceFailed> {
-        if self.switch.fails(CallKind::Read) {
+        if self.switch.fails(CallKind::Read) || self.stopped {
             self.failures = self.failures.wrapping_add(1);
             return Err(DeviceFailed);
         }
@@ -70,13 +74,14 @@ impl LogDevice for MemLog {
     }
 
     fn append(&mut self, bytes: &[u8]) -> Result<(), DeviceFailed> {
-        if self.switch.fails(CallKind::Write) {
+        if self.switch.fails(CallKind::Write) || self.stopped {
             self.failures = self.failures.wrapping_add(1);
             return Err(DeviceFailed);
         }
         match add_run(self.alloc, &mut self.calls, &mut self.bytes, bytes) {
             Ok(()) => {
                 if self.switch.cuts_off() {
+                    self.stopped = true;
                     self.failures = self.failures.wrapping_add(1);
                     return Err(DeviceFailed);
                 }
@@ -90,7 +95,7 @@ impl LogDevice for MemLog {
     }
 
     fn force(&mut self) -> Result<(), DeviceFailed> {
-        if self.switch.fails(CallKind::Force) {
+        if self.switch.fails(CallKind::Force) || self.stopped {
             self.failures = self.failures.wrapping_add(1);
             return Err(DeviceFailed);
         }
@@ -165,6 +170,7 @@ impl MemLog {
             forced: len,
             calls: Vec::new(alloc),
             failures: 0,
+            stopped: false,
             switch,
         }
     }
@@ -199,6 +205,7 @@ impl MemLog {
             forced,
             calls: _,
             failures,
+            stopped: _,
             switch,
         } = self;
         let (end, _) = first_records(&bytes[forced..], keep);
@@ -211,6 +218,7 @@ impl MemLog {
             forced: len,
             calls: Vec::new(alloc),
             failures,
+            stopped: false,
             switch,
         }
     }

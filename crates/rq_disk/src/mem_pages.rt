@@ -1,5 +1,5 @@
 //! Pages in memory. They keep what they were at first and each call since, so that their past is real data.
-ghost use Rattle.std.specs.Prelude.{⊤, ◌≡◌, ◌≤◌, ◌<◌, ◌==◌, ◌++◌, ◌∷◌, [], ℕ, List, length, take, drop, get_or, slice_set, replicate, if◌then◌else◌, IfOk, OnOk, OnErr};
+ghost use Rattle.std.specs.Prelude.{⊤, ◌≡◌, ◌≤◌, ◌<◌, ◌==◌, ◌++◌, ◌∷◌, [], ℕ, List, length, take, drop, get_or, slice_set, replicate, if◌then◌else◌, IfOk, OnOk, OnErr, true};
 ghost use Rattle.rq_disk.specs.Memory.{pages_after, reads};
 
 use crate::choice::PageChoice;
@@ -24,6 +24,8 @@ pub struct MemPages {
     newest: Vec<[u8; PAGE]>,
     calls: Vec<PageCall>,
     failures: u64,
+    // the machine stopped in a write, which was made
+    stopped: bool,
     switch: Switch,
     ghost count: { length newest.items ≡ length first.items },
     ghost cached: { (p : ℕ) → get_or newest.items p [] ≡ reads (pages_after first.items calls.items) p },
@@ -38,6 +40,8 @@ impl PageDevice for MemPages {
     ghost honest = { λ m. ⊤ };
 
     ghost may_be = { λ m. MayBe (pages_of m) };
+
+    ghost stopped = { λ m. m.stopped ≡ true };
 
     ghost moment = { λ m. pages_moment m };
 
@@ -57,7 +61,7 @@ impl PageDevice for MemPages {
 
     fn read(&mut self, page: u32, into: &mut [u8; PAGE]) -> Result<(), DeviceFailed> {
         let place = page as usize;
-        if self.switch.fails(CallKind::Read) || place >= self.newest.len() {
+        if self.switch.fails(CallKind::Read) || self.stopped || place >= self.newest.len() {
             self.failures = self.failures.wrapping_add(1);
             return Err(DeviceFailed);
         }
@@ -67,7 +71,7 @@ impl PageDevice for MemPages {
 
     fn write(&mut self, page: u32, image: &[u8; PAGE]) -> Result<(), DeviceFailed> {
         let place = page as usize;
-        if self.switch.fails(CallKind::Write) || place >= self.newest.len() {
+        if self.switch.fails(CallKind::Write) || self.stopped || place >= self.newest.len() {
             self.failures = self.failures.wrapping_add(1);
             return Err(DeviceFailed);
         }
@@ -75,6 +79,7 @@ impl PageDevice for MemPages {
             Ok(()) => {
                 self.newest[place].copy_from_slice(image);
                 if self.switch.cuts_off() {
+                    self.stopped = true;
                     self.failures = self.failures.wrapping_add(1);
                     return Err(DeviceFailed);
                 }
@@ -88,7 +93,7 @@ impl PageDevice for MemPages {
     }
 
     fn sync(&mut self) -> Result<(), DeviceFailed> {
-        if self.switch.fails(CallKind::Force) {
+        if self.switch.fails(CallKind::Force) || self.stopped {
             self.failures = self.failures.wrapping_add(1);
             return Err(DeviceFailed);
         }
@@ -156,6 +161,7 @@ impl MemPages {
             newest,
             calls: Vec::new(alloc),
             failures: 0,
+            stopped: false,
             switch,
         })
     }
@@ -194,6 +200,7 @@ impl MemPages {
             mut newest,
             calls,
             failures,
+            stopped: _,
             switch,
         } = self;
         outlive(&mut first, &calls, choice);
@@ -204,6 +211,7 @@ impl MemPages {
             newest,
             calls: Vec::new(alloc),
             failures,
+            stopped: false,
             switch,
         }
     }

@@ -21,7 +21,8 @@ pub enum Mishap {
     /// The call fails, and has done nothing. Later calls are as before.
     Fail,
     /// The machine stops in the call: a page write or an append is made, any other call is not. That call
-    /// fails, and so does each later one, until the switch is reset.
+    /// fails, and so does each later one, until the switch is reset. A device that has made the call in which
+    /// the machine stopped fails until it is left by a crash.
     Stop,
 }
 

@@ -190,13 +190,15 @@ fn stops(rt: HostRuntime) -> Result<(), Fail> {
     let mut pages = pages_of_two(rt.alloc(), &switch)?;
     let mut log = log_of_four(rt.alloc(), &switch)?;
 
-    // a write is made before the machine stops, and nothing after it
+    // a write is made before the machine stops, and nothing after it until a crash
     switch.arm_call(1, Mishap::Stop);
     assert_eq!(rt; pages.write(0, &image(4)), Err(DeviceFailed));
     assert!(rt; switch.is_stopped());
     assert_eq!(rt; pages.write(0, &image(5)), Err(DeviceFailed));
     assert_eq!(rt; append_one(&mut log), Err(DeviceFailed));
     switch.reset();
+    assert_eq!(rt; pages.write(0, &image(6)), Err(DeviceFailed));
+    let mut pages = pages.crash(PageChoice::Newest);
     assert_eq!(rt; byte_of(&mut pages, 0)?, 4);
     assert_eq!(rt; log.records(), 4);
 

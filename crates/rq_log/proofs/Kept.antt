@@ -1,13 +1,13 @@
 -- What is so of a log stays so.
-use Rattle.std.proofs.Common.{◌≡◌, ℕ, suc, ◌+◌, ◌-◌, ◌≤◌, true, false, List, [], ◌∷◌, ◌++◌, length, take, drop, refl, sym, ◌∙◌, ap, subst, arith, length-append}
+use Rattle.std.proofs.Common.{◌≡◌, ℕ, suc, ◌+◌, ◌-◌, ◌≤◌, true, false, List, [], ◌∷◌, ◌++◌, length, take, drop, refl, sym, ◌∙◌, ap, subst, inl, inr, ⊎_elim, arith, length-append}
 use Rattle.rq_model.specs.declared.record.Record.{Record}
 use Rattle.rq_disk.specs.Device.{Appended, Only}
 use Rattle.rq_disk.specs.declared.device.LogDevice.{Ghosts}
 use Rattle.rq_disk.specs.Records.{AreRecords}
 use Rattle.rq_record.specs.Spelling.{IsRecord, spelling}
 use Rattle.rq_log.specs.Spelled.{spelled, IsBeginning}
-use Rattle.rq_log.specs.Logged.{Logged, WasDurable, Keeps}
-use Rattle.rq_log.proofs.Runs.{spelled_records, AreSpelled-take, appended, one_newer, all_of, nothing_newer, spelled_whole}
+use Rattle.rq_log.specs.Logged.{Logged, WasDurable, WasLeftOrGoesOn, Keeps}
+use Rattle.rq_log.proofs.Runs.{spelled_records, AreSpelled-take, appended, one_newer, all_of, nothing_newer, spelled_whole, goes_on}
 
 no_bytes : (bytes : List ℕ) → length bytes ≡ 0 → bytes ≡ []
 no_bytes [] none = refl
@@ -47,6 +47,13 @@ module _ {L : Type 0} (g : Ghosts L) where
   append_leaves log last buffer capacity k running device crash h was =
       let b = k.buffered running in
       appended log.records log.forced b.0 (g.seen log.device) buffer (g.may_leave log.device) (g.may_leave device) k.is_log.spelled b.1 (b.2 h) b.3 (k.is_log.leaves h was) crash
+
+  -- the same, whatever a crash might have left before
+  pub append_adds : (log : Logged L) (last : ℕ) (buffer : List ℕ) (capacity : ℕ) → Keeps g log last buffer capacity → log.failed ≡ false
+      → (device : L) → Appended (g.seen log.device) buffer (g.may_leave log.device) (g.may_leave device) → g.honest log.device → (c : List ℕ) → g.may_leave device c → WasLeftOrGoesOn g log c
+  append_adds log last buffer capacity k running device crash h c left =
+      let b = k.buffered running in
+      ⊎_elim (λ was. inl was) (λ added. inr (goes_on log.records log.forced b.0 added.0 (g.seen log.device) buffer c k.is_log.spelled b.1 (b.2 h) b.3 added.1)) (crash c left)
 
   pub reads_all : (log : Logged L) (last : ℕ) (buffer : List ℕ) (capacity : ℕ) → Keeps g log last buffer capacity → log.failed ≡ false → g.honest log.device → g.seen log.device ++ buffer ≡ spelled log.records
   reads_all log last buffer capacity k running h =

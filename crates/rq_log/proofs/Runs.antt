@@ -9,7 +9,7 @@ use Rattle.rq_disk.specs.Records.{record_size, AreRecords, front}
 use Rattle.rq_disk.proofs.Records.{records-append, front_nil, front-append}
 use Rattle.rq_record.specs.Spelling.{IsRecord, spelling}
 use Rattle.rq_record.proofs.Whole.{framed_whole, long_spelling}
-use Rattle.rq_log.specs.Spelled.{spelled, AreSpelled, IsBeginning}
+use Rattle.rq_log.specs.Spelled.{spelled, AreSpelled, IsBeginning, GoesOn}
 
 one_size : (r : Record) → IsRecord r → record_size (spelling r) ≡ length (spelling r)
 one_size r is = framed_whole r is
@@ -83,6 +83,22 @@ some_newer rs kept count k are le =
       omega (arith, short, le),
       ap (λ (l : List ℕ). spelled (drop count rs) ++ l) f.2 ∙ sym (spelled-append (drop f.0 (take count rs)) (drop count rs)) ∙ ap spelled (drop_joined f.0 count rs short),
     )
+
+-- what was read with a few of the newer records behind it
+pub goes_on : (rs : List Record) (kept count k : ℕ) (seen buffer c : List ℕ) → AreSpelled rs → count + kept ≤ length rs → seen ≡ spelled (drop count rs) → buffer ≡ spelled (take count rs) → c ≡ seen ++ front k buffer → GoesOn rs kept seen c
+goes_on rs kept count k seen buffer c are le reads holds is =
+    let f = front_spelled k (take count rs) (AreSpelled-take count rs are) in
+    let short : f.0 ≤ count = omega (arith, f.1, length-take-le count rs (omega arith)) in
+    record {
+      behind = count;
+      within = le;
+      reads = reads;
+      lost = f.0;
+      some = short;
+      is =
+          is ∙ ap (λ (l : List ℕ). l ++ front k buffer) reads ∙ ap (λ (l : List ℕ). spelled (drop count rs) ++ front k l) holds
+          ∙ ap (λ (l : List ℕ). spelled (drop count rs) ++ l) f.2 ∙ sym (spelled-append (drop f.0 (take count rs)) (drop count rs)) ∙ ap spelled (drop_joined f.0 count rs short);
+    }
 
 -- what an append of the newer records may leave
 pub appended : (rs : List Record) (kept count : ℕ) (seen buffer : List ℕ) (old new : List ℕ → Type 0) → AreSpelled rs → count + kept ≤ length rs → seen ≡ spelled (drop count rs) → buffer ≡ spelled (take count rs)

@@ -1,9 +1,9 @@
 -- What contracts see of a log.
-use Rattle.std.specs.Prelude.{◌≡◌, ℕ, ◌+◌, ◌≤◌, Bool, false, List, length, drop, take}
+use Rattle.std.specs.Prelude.{◌≡◌, ◌⊎◌, ℕ, ◌+◌, ◌≤◌, Bool, false, List, length, drop, take}
 use Rattle.rq_model.specs.declared.record.Record.{Record}
 use Rattle.rq_disk.specs.Device.{Only}
 use Rattle.rq_disk.specs.declared.device.LogDevice.{Ghosts}
-use Rattle.rq_log.specs.Spelled.{spelled, AreSpelled, IsBeginning}
+use Rattle.rq_log.specs.Spelled.{spelled, AreSpelled, IsBeginning, GoesOn}
 
 pub record Logged (L : Type 0) : Type 0 where
   -- the records, the newest first; those that are not handed over yet are among them
@@ -28,6 +28,10 @@ module _ {L : Type 0} (g : Ghosts L) where
   -- a crash now leaves the first records, whole ones, with all that are forced
   abbrev pub LeavesBeginnings : Logged L → Type 0
   LeavesBeginnings log = (c : List ℕ) → g.may_leave log.device c → IsBeginning log.records log.forced c
+
+  -- a crash might have left it of the log before, or it is what was read then with the first of the records that were not handed over
+  abbrev pub WasLeftOrGoesOn : Logged L → List ℕ → Type 0
+  WasLeftOrGoesOn log c = g.may_leave log.device c ⊎ GoesOn log.records log.forced (g.seen log.device) c
 
   -- what is so of each log
   pub record IsLog (log : Logged L) : Type 0 where

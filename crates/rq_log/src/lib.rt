@@ -5,7 +5,7 @@ ghost use Rattle.std.specs.Prelude.{◌≡◌, ◌+◌, ◌-◌, ◌^◌, ◌<�
 ghost use Rattle.rq_disk.specs.Device.{Only, HasCause};
 ghost use Rattle.rq_record.specs.Spelling.{IsInRange, spelling};
 ghost use Rattle.rq_log.specs.Crash.{LeavesOnly};
-ghost use Rattle.rq_log.specs.Logged.{IsLog, WasDurable};
+ghost use Rattle.rq_log.specs.Logged.{IsLog, WasDurable, WasLeftOrGoesOn};
 ghost use Rattle.rq_log.specs.Spelled.{spelled, AreSpelled, IsBeginning};
 
 mod past;
@@ -66,13 +66,13 @@ impl<L: LogDevice + Drop> Log<L> {
     ghost use Rattle.rq_log.specs.Scanned.{BeginsWith, StopsFor, device_of};
 
     /// Reads a device from its front: the whole records there, and the log, where there is nothing behind
-    /// them. All of them count as forced. Else it is stopped: by `DiskRead`, `NoMemory`, or `Damaged` with the
-    /// number of the first record that is none.
+    /// them. None of them counts as forced: a crash may still lose what was read, unless it is forced. Else it
+    /// is stopped: by `DiskRead`, `NoMemory`, or `Damaged` with the number of the first record that is none.
     pub fn scan(alloc: Global, mut device: L) -> Scan<L>
         ensures spelled { AreSpelled (reverse result.records.items) }
         ensures front { L.honest (device_of result.log) → BeginsWith (reverse result.records.items) (L.seen device) }
         ensures read { IfOk result.log (λ log. (log.records ≡ reverse result.records.items) × (L.honest log.device → L.seen device ≡ spelled log.records)) }
-        ensures log { IfOk result.log (λ log. (log.forced ≡ length log.records) × (log.pending ≡ 0) × (log.reserved ≡ 0) × (log.failed ≡ false) × (log.settled ≡ device)) }
+        ensures log { IfOk result.log (λ log. (log.forced ≡ 0) × (log.pending ≡ 0) × (log.reserved ≡ 0) × (log.failed ≡ false) × (log.settled ≡ device)) }
         ensures stopped { IfErr result.log (λ stopped. StopsFor L.LogDevice stopped.refusal (reverse result.records.items) device stopped.device) }
         ensures cause { OnOk result.log (L.faults (device_of result.log) ≡ L.faults device) }
         ensures seen { L.seen (device_of result.log) ≡ L.seen device }
@@ -93,7 +93,7 @@ impl<L: LogDevice + Drop> Log<L> {
                     buffer: Vec::new(alloc),
                     reserved: 0,
                     last,
-                    forced: last,
+                    forced: 0,
                     failed: false,
                 };
                 Scan {
@@ -184,6 +184,7 @@ impl<L: LogDevice> Log<L> {
         ensures lsn { result ≡ length self.new.records }
         ensures records { self.new.records ≡ added.now ∷ self.old.records }
         ensures reserved { self.new.reserved + length (spelling added.now) ≡ self.old.reserved }
+        ensures pending { self.new.pending ≡ self.old.pending + length (spelling added.now) }
         ensures forced { self.new.forced ≡ self.old.forced }
         ensures failed { self.new.failed ≡ false }
         ensures device { self.new.device ≡ self.old.device }
@@ -209,6 +210,7 @@ impl<L: LogDevice> Log<L> {
         ensures err { self.old.failed ≡ false → IfErr result (λ e. (e ≡ Refusal.DiskWrite) × (self.new.failed ≡ true)) }
         ensures cause { self.old.failed ≡ false → HasCause (L.faults self.old.device) (L.faults self.new.device) result }
         ensures idle { self.old.pending ≡ 0 → self.new ≡ self.old }
+        ensures left { L.honest self.new.device → LeavesOnly L.LogDevice self.old.device self.new.device (WasLeftOrGoesOn L.LogDevice self.old) }
         ensures any_moment { L.honest self.new.device → WasDurable L.LogDevice self.old → LeavesOnly L.LogDevice self.old.device self.new.device (IsBeginning self.old.records self.old.forced) }
     {
         if self.failed {
@@ -242,6 +244,7 @@ impl<L: LogDevice> Log<L> {
         ensures err { self.old.failed ≡ false → IfErr result (λ e. (e ≡ Refusal.DiskWrite) × (self.new.failed ≡ true)) }
         ensures as_before { OnErr result ((self.new.forced ≡ self.old.forced) × (self.new.settled ≡ self.old.settled)) }
         ensures cause { self.old.failed ≡ false → HasCause (L.faults self.old.device) (L.faults self.new.device) result }
+        ensures left { L.honest self.new.device → LeavesOnly L.LogDevice self.old.device self.new.device (WasLeftOrGoesOn L.LogDevice self.old) }
         ensures any_moment { L.honest self.new.device → WasDurable L.LogDevice self.old → LeavesOnly L.LogDevice self.old.device self.new.device (IsBeginning self.old.records self.old.forced) }
         ensures idle { self.old.pending ≡ 0 → LeavesOnly L.LogDevice self.old.device self.new.device (L.may_leave self.old.device) }
     {

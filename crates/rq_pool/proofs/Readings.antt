@@ -10,7 +10,7 @@ use Rattle.rq_model.specs.declared.refusal.Refusal.TheVariants as why
 use Rattle.rq_model.specs.declared.refusal.Damage.TheVariants as damage
 use Rattle.rq_page.specs.Sizes.{Sizes}
 use Rattle.rq_pool.specs.Pooled.{image_at}
-use Rattle.rq_pool.specs.Reading.{IsSound, IsDamaged, AreSeen, OnlyRead, StopsFor}
+use Rattle.rq_pool.specs.Reading.{IsSound, IsDamaged, AreSeen, OnlyRead, StopsFor, TellsSizes}
 
 -- the first n pages are read, and those behind the first are sound
 pub record AreRead (z : Sizes) (images : List (List ℕ)) (n : ℕ) : Type 0 where
@@ -42,7 +42,7 @@ module _ (images new : List (List ℕ)) (n : ℕ) (page : List ℕ) (grown : new
 
 -- why reading stopped, of a device that was only read before
 pub stops_later : {P : Type 0} (g : Ghosts P) (old mid new : P) (e : Refusal) → g.seen mid ≡ g.seen old → g.faults mid ≡ g.faults old → StopsFor g e mid new → StopsFor g e old new
-stops_later g old mid new why.NoMemory seen faults h = h ∙ faults
+stops_later g old mid new why.NoMemory seen faults h = (λ honest. subst (λ (s : Images). TellsSizes s) seen (h.0 honest), h.1 ∙ faults)
 stops_later g old mid new why.DiskRead seen faults h = subst (λ (n : ℕ). g.faults new ≡ (n + 1) % 2 ^ 64) faults h
 stops_later g old mid new (why.Damaged (damage.Page page)) seen faults h = (λ honest. subst (λ (s : Images). IsDamaged s page) seen (h.0 honest), h.1 ∙ faults)
 stops_later g old mid new _ seen faults h = absurd h

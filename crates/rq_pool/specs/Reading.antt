@@ -39,21 +39,26 @@ pub record ArePages (z : Sizes) (images : List (List ℕ)) : Type 0 where
 abbrev pub AreSeen : Images → List (List ℕ) → ℕ → Type 0
 AreSeen seen images n = (p : ℕ) → p < n → image_at images p ≡ seen p
 
--- a page behind the superblock is not sound
+-- a page behind the superblock is not sound, and those between are
 pub record IsDamagedPage (z : Sizes) (seen : Images) (page : ℕ) : Type 0 where
   pub superblock : IsSuperblock z (seen 0)
   pub low : 1 ≤ page
   pub high : page < page_count z
   pub bad : IsSound z page (seen page) → ⊥
+  pub first : (p : ℕ) → 1 ≤ p → p < page → IsSound z p (seen p)
 
--- the page is none of a store's: it is the first and tells no sizes, or it is not sound by the sizes that are told
+-- the page is the first that is none of a store's: it is the superblock and tells no sizes, or it is not sound by the sizes that are told
 abbrev pub IsDamaged : Images → ℕ → Type 0
 IsDamaged seen page =
     ((page ≡ 0) × ((z : Sizes) → IsSuperblock z (seen 0) → ⊥)) ⊎ ((z : Sizes) × IsDamagedPage z seen page)
 
+-- the superblock tells sizes of a store
+abbrev pub TellsSizes : Images → Type 0
+TellsSizes seen = (z : Sizes) × IsSuperblock z (seen 0)
+
 -- why reading the pages of a device stopped
 abbrev pub StopsFor : {P : Type 0} → Ghosts P → Refusal → P → P → Type 0
-StopsFor g why.NoMemory old new = g.faults new ≡ g.faults old
+StopsFor g why.NoMemory old new = (g.honest new → TellsSizes (g.seen old)) × (g.faults new ≡ g.faults old)
 StopsFor g why.DiskRead old new = g.faults new ≡ (g.faults old + 1) % 2 ^ 64
 StopsFor g (why.Damaged (damage.Page page)) old new = (g.honest new → IsDamaged (g.seen old) page) × (g.faults new ≡ g.faults old)
 StopsFor g _ old new = ⊥

@@ -77,8 +77,8 @@ impl<P: PageDevice + Drop> Pages<P> {
     ghost use Rattle.rq_pool.specs.Reading.{ArePages, AreSeen, OnlyRead, StopsFor, device_of};
 
     /// Reads every page, and checks each as it is read: the superblock, then each page's header and slots.
-    /// It stops by `DiskRead`, by `NoMemory`, or by `Damaged` with the number of the first page that is none
-    /// of a store's.
+    /// It stops by `DiskRead`, by `Damaged` with the number of the first page that is none of a store's, or,
+    /// where the superblock tells the sizes, by `NoMemory`.
     #[tactic(auto, using(crate::proofs::Over::over_loaded))]
     pub fn load(alloc: Global, mut device: P) -> Result<Pages<P>, Stopped<P>>
         ensures pages { IfOk result (λ pages. ArePages pages.sizes pages.images) }
@@ -117,6 +117,15 @@ impl<P: PageDevice + Drop> Pages<P> {
 
 impl<P: PageDevice> Pages<P> {
     ghost use Rattle.rq_pool.specs.Writing.{AnswersWhen, DeviceAfter, changed_after};
+    ghost use Rattle.rq_pool.specs.Pooled.{AreOver};
+
+    /// What is so of the pages of each store, for proofs: it runs no code. Where the device has been honest, each page
+    /// that doesn't count as changed reads there as its image.
+    pub fn keeps(&self)
+        ensures { AreOver P.PageDevice self.now.device self.now.sizes self.now.images self.now.changed }
+    {
+        let _layout = self.layout;
+    }
 
     /// The layout of the store.
     pub fn layout(&self) -> Layout

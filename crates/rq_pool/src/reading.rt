@@ -1,5 +1,5 @@
 //! Reads the pages of a device.
-ghost use Rattle.std.specs.Prelude.{◌≡◌, ◌↔◌, ◌<◌, ◌+◌, ◌%◌, ◌^◌, ◌++◌, ◌∷◌, [], false, replicate, IsTrue, IfOk, IfErr, OnOk};
+ghost use Rattle.std.specs.Prelude.{ℕ, ◌≡◌, ◌↔◌, ◌<◌, ◌≤◌, ◌+◌, ◌%◌, ◌^◌, ◌++◌, ◌∷◌, [], false, replicate, IsTrue, IfOk, IfErr, OnOk};
 ghost use Rattle.rq_page.specs.Sizes.{page_count};
 ghost use Rattle.rq_pool.specs.Frames.{images_of, changed_of};
 ghost use Rattle.rq_pool.specs.Reading.{OnlyRead, IsSuperblock, IsSound, ArePages, AreSeen, StopsFor};
@@ -82,6 +82,7 @@ fn read_sound_page<P: PageDevice>(
     requires superblock { P.honest device.old → IsSuperblock layout.now (P.seen device.old 0) }
     requires low { 0 < number }
     requires high { number < page_count layout.now }
+    requires earlier { P.honest device.old → (q : ℕ) → 1 ≤ q → q < number → IsSound layout.now q (P.seen device.old q) }
     ensures ok { IfOk result (λ page. (P.honest device.new → page ≡ P.seen device.old number) × IsSound layout.now number page) }
     ensures cause { OnOk result (P.faults device.new ≡ P.faults device.old) }
     ensures err { IfErr result (λ e. StopsFor P.PageDevice e device.old device.new) }

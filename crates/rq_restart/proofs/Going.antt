@@ -11,6 +11,8 @@ use Rattle.rq_store.proofs.Fitting.{oldest_all}
 use Rattle.rq_store.proofs.Redoing.{oldest_store, redo_one}
 use Rattle.rq_store.proofs.Bounds.{may_redo}
 use Rattle.rq_restart.specs.Noted.{Noted, noted, noted_after}
+use Rattle.rq_restart.specs.Repeating.{Paged, Marks, Belongs, Repeats, IsFirstBad}
+use Rattle.rq_store.specs.Sound.{incarnation_of}
 use Rattle.rq_restart.proofs.Noting.{noted_incarnation}
 
 oldest_first : (xs : List Record) (n : ℕ) → oldest n (reverse xs) ≡ reverse (take n xs)
@@ -47,6 +49,42 @@ module _ (z : Sizes) (image : ℕ → List ℕ) (xs : List Record) (i : ℕ) (r 
   redone_more old new redo h left =
       let store : InStore z (r ∷ oldest i log) = subst (λ l. InStore z l) grows (oldest_store z log (i + 1) left.whole.in_store) in
       redo_one z log i r grows within store.0 old new redo (h left)
+
+  count : length (oldest i log) ≡ i
+  count = let a : length (reverse xs) ≡ length xs = length-reverse xs in let b : length (oldest i log) ≡ length log - (length log - i) = length-drop (length log - i) log in omega (arith, a, b, lt)
+
+  belongs : (h : Noted) → h ≡ noted (oldest i log) → (mid : Paged) → (y : Sizes) → y ≡ z → IsNext h.incarnation r → MayRedo y mid.image (i + 1) r → Belongs z (oldest i log) r mid
+  belongs h e mid y sizes next may = record {
+    next = subst (λ n. IsNext n r) (ap (λ (k : Noted). k.incarnation) e ∙ noted_incarnation (oldest i log)) next;
+    may = subst (λ n. MayRedo z mid.image (n + 1) r) (sym count) (subst (λ x. MayRedo x mid.image (i + 1) r) sizes may);
+  }
+
+  -- one record more is repeated
+  pub repeated_more : (h : Noted) → h ≡ noted (oldest i log) → (first mid last : Paged) → (y : Sizes) → y ≡ z → Repeats z (oldest i log) first mid → IsNext h.incarnation r → MayRedo y mid.image (i + 1) r
+      → Redoes (told_by r) (i + 1) mid.image last.image → Marks (told_by r) (i + 1) mid last.changed → Repeats z (oldest (i + 1) log) first last
+  repeated_more h e first mid last y sizes before next may redone marked =
+      subst (λ l. Repeats z l first last) (sym grows) (
+        mid,
+        before,
+        record {
+          belongs = belongs h e mid y sizes next may;
+          redone = subst (λ n. Redoes (told_by r) (n + 1) mid.image last.image) (sym count) redone;
+          marked = subst (λ n. Marks (told_by r) (n + 1) mid last.changed) (sym count) marked;
+        },
+      )
+
+  -- the next record is the first that doesn't belong
+  pub first_bad : (h : Noted) → h ≡ noted (oldest i log) → (first mid : Paged) → (y : Sizes) → y ≡ z → Repeats z (oldest i log) first mid → (IsNext h.incarnation r → MayRedo y mid.image (i + 1) r → ⊥) → IsFirstBad z log first (i + 1)
+  first_bad h e first mid y sizes before bad = record {
+    older = oldest i log;
+    newest = r;
+    are = grows;
+    place = ap (λ n. n + 1) (sym count);
+    mid = mid;
+    repeated = before;
+    bad = λ b. bad (subst (λ n. IsNext n r) (sym (ap (λ (k : Noted). k.incarnation) e ∙ noted_incarnation (oldest i log))) b.next)
+        (subst (λ x. MayRedo x mid.image (i + 1) r) (sym sizes) (subst (λ n. MayRedo z mid.image (n + 1) r) count b.may));
+  }
 
   pub in_order : (h : Noted) → h ≡ noted (oldest i log) → IsLeft z image log → IsNext h.incarnation r
   in_order h e left =

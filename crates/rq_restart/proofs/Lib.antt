@@ -6,3 +6,4 @@ pub mod Formats
 pub mod Loading
 pub mod Counting
 pub mod Moments
+pub mod Paths

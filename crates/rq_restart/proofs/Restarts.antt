@@ -1,18 +1,21 @@
 -- What a restart makes of a store that was left as a crash may leave one.
-use Rattle.std.proofs.Common.{◌≡◌, ℕ, ◌+◌, ◌<◌, ◌≤◌, List, [], ◌∷◌, length, reverse, false, refl, sym, ◌∙◌, ap, subst, inl, inr, arith, Result, Ok, Err, OnOk, IfOk, IfErr}
+use Rattle.std.proofs.Common.{◌≡◌, ℕ, ◌+◌, ◌<◌, ◌≤◌, List, [], ◌∷◌, length, reverse, false, refl, sym, ◌∙◌, ap, subst, inl, inr, arith, ◌^◌, Bool, replicate, Result, Ok, Err, OnOk, IfOk, IfErr}
 use Rattle.std.proofs.lemmas.List.{length-reverse}
 use Rattle.rq_model.specs.declared.record.Record.{Record}
 use Rattle.rq_model.specs.declared.record.Record.TheVariants as records
 use Rattle.rq_model.specs.declared.refusal.Refusal.{Refusal}
 use Rattle.rq_model.specs.declared.refusal.Refusal.TheVariants as why
+use Rattle.rq_model.specs.declared.refusal.Damage.TheVariants as damage
 use Rattle.rq_model.specs.Content.{unfinished, lost}
 use Rattle.rq_page.specs.Sizes.{Sizes, page_count}
 use Rattle.rq_page.specs.Formatted.{IsFormatted, IsHeaderOf}
 use Rattle.rq_disk.specs.declared.device.PageDevice.{Ghosts}
-use Rattle.rq_pool.specs.Pooled.{IsPool}
+use Rattle.rq_disk.specs.declared.device.LogDevice as log_device
+use Rattle.rq_log.specs.Spelled.{spelled, AreSpelled}
+use Rattle.rq_pool.specs.Pooled.{Pooled, IsPool}
 use Rattle.rq_pool.specs.Reading.{IsSuperblock, ArePages, AreSeen, OnlyRead}
 use Rattle.rq_log.specs.Logged.{Logged}
-use Rattle.rq_store.specs.Sound.{IsSound, incarnation_of}
+use Rattle.rq_store.specs.Sound.{IsSound, incarnation_of, InOrder}
 use Rattle.rq_store.specs.Opening.{FitsUpTo, IsCounted, opened, next_restart, IsLeft}
 use Rattle.rq_store.specs.Fitting.{FitsPage, AllFit, image_in, oldest}
 use Rattle.rq_store.proofs.Fitting.{oldest_all}
@@ -21,7 +24,8 @@ use Rattle.rq_store.proofs.Opening.{opened_sound}
 use Rattle.rq_store.proofs.Redoing.{redone_slots}
 use Rattle.rq_store.proofs.Bounds.{fits_counted}
 use Rattle.rq_restart.specs.Noted.{Noted, noted}
-use Rattle.rq_restart.specs.Restarting.{BeginsNot, StaysShut, IsBegun}
+use Rattle.rq_restart.specs.Restarting.{BeginsNot, StaysShut, StopsAt, IsBegun, IsEnded, IsGoneThrough, IsBeyond, ShutFor, LogStops, Refuses, WasChecked, as_read}
+use Rattle.rq_restart.specs.Repeating.{Paged, paged, Repeats, AreCounted, IsFirstBad, IsFirstUncounted}
 use Rattle.rq_restart.proofs.Noting.{noted_incarnation, noted_unfinished, noted_working, no_pairs, pairs_of, few_incarnations}
 
 -- what follows from what an Ok says
@@ -66,6 +70,13 @@ module _ (older : List Record) (xs : List Record) (same : older ≡ reverse xs) 
   pub begun_is : {L : Type 0} (log : Logged L) (last : ℕ) → last ≡ h.incarnation → log.records ≡ records.Restart (last + 1) ∷ older → (log.forced ≡ length log.records) × (log.failed ≡ false) → IsBegun older log
   begun_is log last e r f = record { records = r ∙ ap (λ n. records.Restart (n + 1) ∷ older) (last_is last e); forced = f.0; running = f.1 }
 
+  -- nothing is noted exactly where everything in the log has ended
+  pub ended_is : (h.unfinished ≡ []) × (h.working ≡ []) → IsEnded older
+  ended_is none = (ap (λ (n : Noted). n.unfinished) (sym noted_is) ∙ none.0, ap (λ (n : Noted). n.working) (sym noted_is) ∙ none.1)
+
+  pub ended_not : ((h.unfinished ≡ []) × (h.working ≡ []) → ⊥) → IsEnded older → ⊥
+  ended_not some none = some (ap (λ (n : Noted). n.unfinished) noted_is ∙ none.0, ap (λ (n : Noted). n.working) noted_is ∙ none.1)
+
   -- everything has ended exactly where nothing is noted
   pub settled_left : (z : Sizes) (image : ℕ → List ℕ) → IsLeft z image older → unfinished older ≡ [] → lost older ≡ [] → (h.unfinished ≡ []) × (h.working ≡ [])
   settled_left z image left u l = (
@@ -83,14 +94,120 @@ module _ (older : List Record) (xs : List Record) (same : older ≡ reverse xs) 
       opened_sound z images older pool.range left.whole none_unfinished none_lost (redone_slots z older images left.whole.in_store fits)
       (record { superblock = pool.superblock; headers = pool.headers; pages = λ p low high. (fits p low high).fits })
 
-  pub shut_is : (z : Sizes) (image : ℕ → List ℕ) (e : Refusal) (last before now : ℕ) → last ≡ h.incarnation → BeginsNot e (length older) last before now → StaysShut (IsLeft z image older) older e before now
-  shut_is z image why.NoMemory last before now is b = b
-  shut_is z image why.DiskWrite last before now is b = b
-  shut_is z image why.LogFull last before now is b = λ left. elim b [
+  pub shut_is : (z : Sizes) (image : ℕ → List ℕ) (e : Refusal) (last before now : ℕ) → last ≡ h.incarnation → (untouched : Type 0) → BeginsNot e (length older) last before now untouched → StaysShut (IsLeft z image older) older e before now
+  shut_is z image why.NoMemory last before now is untouched b = b.0
+  shut_is z image why.DiskWrite last before now is untouched b = b
+  shut_is z image why.LogFull last before now is untouched b = λ left. elim b.0 [
     | inl full ↦ full
     | inr many ↦ let few = few_incarnations older left.whole.order in let e = last_is last is in omega (arith, few, e, many)
   ]
-  shut_is z image _ last before now is b = absurd b
+  shut_is z image _ last before now is untouched b = absurd b
+
+  -- why the incarnation was not begun is why the store stays shut
+  pub shut_for : (z : Sizes) (e : Refusal) (last before now : ℕ) → last ≡ h.incarnation → (untouched : Type 0) (first now_paged : Paged) → InOrder older → IsEnded older → IsGoneThrough z older first now_paged
+      → BeginsNot e (length older) last before now untouched → ShutFor z older first e before now untouched
+  shut_for z why.NoMemory last before now is untouched first paged order ended gone b = b
+  shut_for z why.DiskWrite last before now is untouched first paged order ended gone b = (b, ended, (paged, gone))
+  shut_for z why.LogFull last before now is untouched first paged order ended gone b = (full, ended, (paged, gone), b.1) where
+    full : 2 ^ 50 ≤ length older
+    full = elim b.0 [
+      | inl is_full ↦ is_full
+      | inr many ↦ let few = few_incarnations older order in let e = last_is last is in omega (arith, few, e, many)
+    ]
+  shut_for z _ last before now is untouched first paged order ended gone b = absurd b
+
+-- what was gone through is in order
+pub repeated_order : (z : Sizes) (log : List Record) (first last : Paged) → Repeats z log first last → InOrder log
+repeated_order z [] first last r = tt
+repeated_order z (q ∷ log) first last r = (r.2.belongs.next, repeated_order z log first r.0 r.1)
+
+-- of a device that was left alone, what follows from that
+pub shut_by : {U V : Type 0} (z : Sizes) (log : List Record) (first : Paged) (e : Refusal) (before now : ℕ) → (U → V) → ShutFor z log first e before now U → ShutFor z log first e before now V
+shut_by z log first why.NoMemory before now f h = (h.0, f h.1)
+shut_by z log first why.LogFull before now f h = (h.0, h.1, h.2, f h.3)
+shut_by z log first why.DiskWrite before now f h = h
+shut_by z log first why.Unfinished before now f h = (h.0, h.1, f h.2)
+shut_by z log first (why.Damaged (damage.Record lsn)) before now f h = (h.0, f h.1)
+shut_by z log first (why.Damaged (damage.Page page)) before now f h = (h.0, f h.1)
+shut_by z log first _ before now f h = absurd h
+
+-- what was checked, of a store that was read
+module _ {P L : Type 0} (p : Ghosts P) (l : log_device.Ghosts L) (pages : P) (log : L) (loaded : Pooled P) (sound : ArePages loaded.sizes loaded.images) (seen : p.honest loaded.device → AreSeen (p.seen pages) loaded.images (page_count loaded.sizes))
+    (unchanged : loaded.changed ≡ replicate (page_count loaded.sizes) false) where
+  first_is : paged loaded ≡ as_read loaded.sizes loaded.images
+  first_is = ap (λ (f : List Bool). record { image = image_in loaded.images; changed = f }) unchanged
+
+  pub was_checked : (now : Pooled P) (records : List Record) (new : L) → now.sizes ≡ loaded.sizes → now.device ≡ loaded.device
+      → ((older : List Record) × AreSpelled older × (l.honest new → l.seen log ≡ spelled older) × IsGoneThrough loaded.sizes older (paged loaded) (paged now) × IsEnded older × (records ≡ next_restart older ∷ older) × (length older < 2 ^ 50))
+      → WasChecked p l pages log now.sizes (paged now) records now.device new
+  was_checked now records new same device h =
+      subst (λ d. WasChecked p l pages log now.sizes (paged now) records d new) (sym device)
+      (subst (λ z. WasChecked p l pages log z (paged now) records loaded.device new) (sym same) (record {
+        images = loaded.images;
+        sound = sound;
+        seen = seen;
+        older = h.0;
+        are_spelled = h.1;
+        reads = h.2;
+        gone_through = subst (λ first. IsGoneThrough loaded.sizes h.0 first (paged now)) first_is h.3;
+        ended = h.4;
+        begun = h.5;
+        room = h.6;
+      }))
+
+  pub was_refused : (e : Refusal) (new_pages : P) (new_log : L) → new_pages ≡ loaded.device → p.faults loaded.device ≡ p.faults pages → LogStops l loaded.sizes (paged loaded) e log new_log → Refuses p l pages log e new_pages new_log
+  was_refused e new_pages new_log device cause h =
+      inr (
+        loaded.sizes,
+        loaded.images,
+        sound,
+        (λ honest. seen (subst p.honest device honest)),
+        ap p.faults device ∙ cause,
+        subst (λ first. LogStops l loaded.sizes first e log new_log) first_is h,
+      )
+
+-- what going through a log as it was read said, said of the log
+module _ (z : Sizes) (older xs : List Record) (same : older ≡ reverse xs) (first : Paged) where
+  count : length xs ≡ length older
+  count = sym (length-reverse xs) ∙ ap length (sym same)
+
+  -- why going through it stopped is why the store stays shut
+  pub stops_shut : (e : Refusal) (before now : ℕ) (untouched : Type 0) → now ≡ before → untouched → StopsAt z (reverse xs) first e → ShutFor z older first e before now untouched
+  stops_shut why.NoMemory before now untouched equal here h = (equal, here)
+  stops_shut (why.Damaged (damage.Record lsn)) before now untouched equal here h = (subst (λ l. IsFirstBad z l first lsn) (sym same) h, here)
+  stops_shut _ before now untouched equal here h = absurd h
+
+  again : (last : Paged) → Repeats z (reverse xs) first last → Repeats z older first last
+  again last h = subst (λ l. Repeats z l first last) (sym same) h
+
+  -- no number was beyond it
+  pub gone_is : (last : Paged) → Repeats z (reverse xs) first last → AreCounted z (length xs) first → (y : Sizes) → y ≡ z → AreCounted y (length xs) last → IsGoneThrough z older first last
+  gone_is last h as_read y sizes then = record {
+    repeated = again last h;
+    counted_read = subst (λ n. AreCounted z n first) count as_read;
+    counted = subst (λ n. AreCounted z n last) count (subst (λ x. AreCounted x (length xs) last) sizes then);
+  }
+
+  -- a page had one as it was read
+  pub beyond_read : (last : Paged) (page : ℕ) → Repeats z (reverse xs) first last → 1 ≤ page → page < page_count z → (IsCounted z (length xs) page (first.image page) → ⊥)
+      → ((p : ℕ) → 1 ≤ p → p < page → IsCounted z (length xs) p (first.image p)) → IsBeyond z older first page
+  beyond_read last page h low high bad before = record {
+    last = last;
+    repeated = again last h;
+    beyond = inl (subst (λ n. IsFirstUncounted z n first page) count (record { low = low; high = high; bad = bad; first = before }));
+  }
+
+  -- a page has one now
+  pub beyond_then : (last : Paged) (page : ℕ) → Repeats z (reverse xs) first last → AreCounted z (length xs) first → (y : Sizes) → y ≡ z → 1 ≤ page → page < page_count y → (IsCounted y (length xs) page (last.image page) → ⊥)
+      → ((p : ℕ) → 1 ≤ p → p < page → IsCounted y (length xs) p (last.image p)) → IsBeyond z older first page
+  beyond_then last page h as_read y sizes low high bad before = record {
+    last = last;
+    repeated = again last h;
+    beyond = inr (
+      subst (λ n. AreCounted z n first) count as_read,
+      subst (λ n. IsFirstUncounted z n last page) count (subst (λ x. IsFirstUncounted x (length xs) last page) sizes (record { low = low; high = high; bad = bad; first = before })),
+    );
+  }
 
 -- the numbers of pages that were left so are within the log
 pub counted_left : (z : Sizes) (image : ℕ → List ℕ) (older xs : List Record) (p : ℕ) → older ≡ reverse xs → IsLeft z image older → 1 ≤ p → p < page_count z → IsCounted z (length xs) p (image p)

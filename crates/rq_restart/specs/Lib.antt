@@ -1,2 +1,5 @@
+pub mod Formatting
 pub mod Noted
+pub mod Repeating
 pub mod Restarting
+pub mod Underway

@@ -1,20 +1,26 @@
 -- What a restart finds.
-use Rattle.std.specs.Prelude.{◌≡◌, ◌⊎◌, ℕ, ◌+◌, ◌%◌, ◌^◌, ◌≤◌, false, List, [], ◌∷◌, length}
+use Rattle.std.specs.Prelude.{◌≡◌, ◌⊎◌, ℕ, ◌+◌, ◌%◌, ◌^◌, ◌<◌, ◌≤◌, false, List, [], ◌∷◌, length, replicate}
 use Rattle.rq_model.specs.declared.record.Record.{Record}
 use Rattle.rq_model.specs.declared.refusal.Refusal.{Refusal}
 use Rattle.rq_model.specs.declared.refusal.Refusal.TheVariants as why
+use Rattle.rq_model.specs.declared.refusal.Damage.TheVariants as damage
 use Rattle.rq_groups.specs.Waiting.{waits}
-use Rattle.rq_page.specs.Sizes.{Sizes, sender_count}
-use Rattle.rq_store.specs.Sound.{IsWhole, incarnation_of}
-use Rattle.rq_store.specs.Fitting.{AllFit}
+use Rattle.rq_page.specs.Sizes.{Sizes, page_count, sender_count}
+use Rattle.rq_store.specs.Sound.{incarnation_of}
+use Rattle.rq_store.specs.Fitting.{image_in}
 use Rattle.rq_model.specs.Content.{unfinished, lost}
 use Rattle.rq_disk.specs.Device.{Images, Only}
 use Rattle.rq_disk.specs.declared.device.LogDevice as log_device
 use Rattle.rq_disk.specs.declared.device.PageDevice as page_device
+use Rattle.rq_pool.specs.Reading as pages_read
+use Rattle.rq_pool.specs.Reading.{ArePages, AreSeen}
+use Rattle.rq_log.specs.Scanned as log_read
 use Rattle.rq_log.specs.Logged.{Logged, WasDurable}
 use Rattle.rq_log.specs.Crash.{LeavesOnly}
-use Rattle.rq_log.specs.Spelled.{spelled, AreSpelled, IsBeginning}
+use Rattle.rq_log.specs.Spelled.{spelled, AreSpelled}
 use Rattle.rq_store.specs.Opening.{IsLeft, next_restart, waiting_in}
+use Rattle.rq_restart.specs.Noted.{noted}
+use Rattle.rq_restart.specs.Repeating.{Paged, Repeats, AreCounted, IsFirstBad, IsFirstUncounted}
 
 -- going through a log stops where memory is wanting, or where the store was not left so
 abbrev pub StopsIn : Type 0 → Refusal → Type 0
@@ -22,12 +28,48 @@ StopsIn left why.NoMemory = Unit {0}
 StopsIn left (why.Damaged d) = left → ⊥
 StopsIn left _ = ⊥
 
--- why no incarnation was begun over a log, with the failures of its device before and after it
-abbrev pub BeginsNot : Refusal → ℕ → ℕ → ℕ → ℕ → Type 0
-BeginsNot why.NoMemory records last before now = now ≡ before
-BeginsNot why.LogFull records last before now = (2 ^ 50 ≤ records) ⊎ (2 ^ 64 ≤ last + 1)
-BeginsNot why.DiskWrite records last before now = now ≡ (before + 1) % 2 ^ 64
-BeginsNot _ records last before now = ⊥
+-- why going through a log stopped, and at which record
+abbrev pub StopsAt : Sizes → List Record → Paged → Refusal → Type 0
+StopsAt z log first why.NoMemory = Unit {0}
+StopsAt z log first (why.Damaged (damage.Record lsn)) = IsFirstBad z log first lsn
+StopsAt z log first _ = ⊥
+
+-- why no incarnation was begun over a log, with the failures of its device before and after it, and that it was left alone
+abbrev pub BeginsNot : Refusal → ℕ → ℕ → ℕ → ℕ → Type 0 → Type 0
+BeginsNot why.NoMemory records last before now untouched = (now ≡ before) × untouched
+BeginsNot why.LogFull records last before now untouched = ((2 ^ 50 ≤ records) ⊎ (2 ^ 64 ≤ last + 1)) × untouched
+BeginsNot why.DiskWrite records last before now untouched = now ≡ (before + 1) % 2 ^ 64
+BeginsNot _ records last before now untouched = ⊥
+
+-- every operation and every transaction in the log has its end
+abbrev pub IsEnded : List Record → Type 0
+IsEnded log = ((noted log).unfinished ≡ []) × ((noted log).working ≡ [])
+
+-- The log was gone through on the pages: each record belonged where it stood and was repeated, and no number of a page is beyond the log, neither as the pages
+-- were read nor then.
+pub record IsGoneThrough (z : Sizes) (log : List Record) (first last : Paged) : Type 0 where
+  pub repeated : Repeats z log first last
+  pub counted_read : AreCounted z (length log) first
+  pub counted : AreCounted z (length log) last
+
+abbrev pub WasGoneThrough : Sizes → List Record → Paged → Type 0
+WasGoneThrough z log first = (last : Paged) × IsGoneThrough z log first last
+
+-- This page is the first with a number beyond the log as the pages were read, or where none had one then, once history was repeated.
+pub record IsBeyond (z : Sizes) (log : List Record) (first : Paged) (page : ℕ) : Type 0 where
+  pub last : Paged
+  pub repeated : Repeats z log first last
+  pub beyond : IsFirstUncounted z (length log) first page ⊎ (AreCounted z (length log) first × IsFirstUncounted z (length log) last page)
+
+-- Why a store over this log was not opened, and where; with the failures of the log's device before and after it, and that it was left alone.
+abbrev pub ShutFor : Sizes → List Record → Paged → Refusal → ℕ → ℕ → Type 0 → Type 0
+ShutFor z log first why.NoMemory before now untouched = (now ≡ before) × untouched
+ShutFor z log first why.LogFull before now untouched = (2 ^ 50 ≤ length log) × IsEnded log × WasGoneThrough z log first × untouched
+ShutFor z log first why.DiskWrite before now untouched = (now ≡ (before + 1) % 2 ^ 64) × IsEnded log × WasGoneThrough z log first
+ShutFor z log first why.Unfinished before now untouched = (IsEnded log → ⊥) × WasGoneThrough z log first × untouched
+ShutFor z log first (why.Damaged (damage.Record lsn)) before now untouched = IsFirstBad z log first lsn × untouched
+ShutFor z log first (why.Damaged (damage.Page page)) before now untouched = IsBeyond z log first page × untouched
+ShutFor z log first _ before now untouched = ⊥
 
 -- why a store over this log was not opened, with the failures of the log's device before and after it
 abbrev pub StaysShut : Type 0 → List Record → Refusal → ℕ → ℕ → Type 0
@@ -89,29 +131,55 @@ pub record AreWaiting (z : Sizes) (images : List (List ℕ)) (count : ℕ) (wait
   pub senders : length waiting ≡ sender_count z
   pub few : (g : ℕ) → waits waiting g ≤ count
 
--- a log as it was read, all of which a crash leaves
-pub record IsFresh {L : Type 0} (g : log_device.Ghosts L) (log : Logged L) : Type 0 where
-  pub settled : WasDurable g log
-  pub leaves : Only (spelled log.records) (g.may_leave log.device)
-  pub forced : log.forced ≡ length log.records
+-- bytes of a log in which everything has ended, with the record that begins the next incarnation behind
+pub record IsBegunOn (read bytes : List ℕ) : Type 0 where
+  pub older : List Record
+  pub are_spelled : AreSpelled (next_restart older ∷ older)
+  pub reads : read ≡ spelled older
+  pub ended : IsEnded older
+  pub is : bytes ≡ spelled (next_restart older ∷ older)
 
--- whatever a crash at any moment leaves of the log: all of these records, and perhaps this one
-abbrev pub AddsOne : {L : Type 0} → log_device.Ghosts L → Record → List Record → L → L → Type 0
-AddsOne g r older old new = LeavesOnly g old new (IsBeginning (r ∷ older) (length older))
+module _ {L : Type 0} (g : log_device.Ghosts L) where
+  -- a crash might have left it of the log before, or it is these records, of which this is so
+  abbrev pub WasLeftOrIs : L → Type 0 → List Record → List ℕ → Type 0
+  WasLeftOrIs old so records c = g.may_leave old c ⊎ (so × (c ≡ spelled records))
 
--- the same of a restart, where a crash before it would have left what is read of the log and nothing else
-abbrev pub BeginsAtMost : {L : Type 0} → log_device.Ghosts L → L → L → Type 0
-BeginsAtMost g old new =
-    Only (g.seen old) (g.may_leave old) → (older : List Record) → IsReadAs g old new older → AddsOne g (next_restart older) older old new
+  -- whatever a crash at any moment leaves of the log: what it might have left before, or what was read and the record that begins the next incarnation
+  abbrev pub BeginsAtMost : L → L → Type 0
+  BeginsAtMost old new = g.honest new → LeavesOnly g old new (λ c. g.may_leave old c ⊎ IsBegunOn (g.seen old) c)
 
--- These are the pages and the log of a store: the log that was read, or that with the record that begins the next incarnation, and pages that fit it.
-abbrev pub IsReadOrBegun : Sizes → List Record → Images → List ℕ → Type 0
-IsReadOrBegun z older images bytes =
-    (IsLeft z images older × (bytes ≡ spelled older)) ⊎ (IsLeft z images (next_restart older ∷ older) × (bytes ≡ spelled (next_restart older ∷ older)))
+  -- the device of a log was only read
+  pub record IsRead (old new : L) : Type 0 where
+    pub same : g.seen new ≡ g.seen old
+    pub leaves : (c : List ℕ) → g.may_leave new c → g.may_leave old c
+    pub moments : LeavesOnly g old new (g.may_leave old)
 
--- Whatever a crash at any moment of a restart leaves of both devices, where before it a crash would have left what is read of the log and pages that fit that, and no work
--- in it is unfinished or lost.
-abbrev pub LeavesReadOrBegun : {P L : Type 0} → page_device.Ghosts P → log_device.Ghosts L → P → L → P → L → Type 0
-LeavesReadOrBegun p l pages log new_pages new_log =
-    Only (l.seen log) (l.may_leave log) → (z : Sizes) (older : List Record) → IsReadAs l log new_log older → IsWhole z older → AllFit (p.may_be pages) z older → unfinished older ≡ [] → lost older ≡ []
-    → (images : Images) (bytes : List ℕ) → p.left_since new_pages (p.moment pages) images → l.left_since new_log (l.moment log) bytes → IsReadOrBegun z older images bytes
+  -- Why a store with these pages was not opened over a log: its records could not be read, or they were, and then this.
+  abbrev pub LogStops : Sizes → Paged → Refusal → L → L → Type 0
+  LogStops z first e old new =
+      ((front : List Record) × AreSpelled front × log_read.StopsFor g e front old new)
+      ⊎ ((older : List Record) × AreSpelled older × (g.honest new → g.seen old ≡ spelled older) × ShutFor z older first e (g.faults old) (g.faults new) (IsRead old new))
+
+-- the pages as they were read, none of which counts as changed
+abbrev pub as_read : Sizes → List (List ℕ) → Paged
+as_read z images = record { image = image_in images; changed = replicate (page_count z) false }
+
+module _ {P L : Type 0} (p : page_device.Ghosts P) (l : log_device.Ghosts L) (pages : P) (log : L) where
+  -- Why a restart was refused, and where: the pages could not be read, and the log was left alone; or they were all read and are sound, and then this.
+  abbrev pub Refuses : Refusal → P → L → Type 0
+  Refuses e new_pages new_log =
+      (pages_read.StopsFor p e pages new_pages × (new_log ≡ log))
+      ⊎ ((z : Sizes) × (images : List (List ℕ)) × ArePages z images × (p.honest new_pages → AreSeen (p.seen pages) images (page_count z)) × (p.faults new_pages ≡ p.faults pages) × LogStops l z (as_read z images) e log new_log)
+
+  -- what was checked where it was not: every page as it was read, the log, each record of it and each before-image, and the pages that history was repeated on
+  pub record WasChecked (z : Sizes) (last : Paged) (records : List Record) (new_pages : P) (new_log : L) : Type 0 where
+    pub images : List (List ℕ)
+    pub sound : ArePages z images
+    pub seen : p.honest new_pages → AreSeen (p.seen pages) images (page_count z)
+    pub older : List Record
+    pub are_spelled : AreSpelled older
+    pub reads : l.honest new_log → l.seen log ≡ spelled older
+    pub gone_through : IsGoneThrough z older (as_read z images) last
+    pub ended : IsEnded older
+    pub begun : records ≡ next_restart older ∷ older
+    pub room : length older < 2 ^ 50

@@ -7,7 +7,8 @@ ghost use Rattle.rq_pool.specs.Pooled.{IsPool};
 ghost use Rattle.rq_store.specs.Opening.{IsRedone, Redoes, IsSoundTold, MayRedo, FitsUpTo, IsCounted, IsLeft};
 ghost use Rattle.rq_store.specs.Fitting.{Told, told_by, image_in};
 ghost use Rattle.rq_restart.specs.Noted.{noted};
-ghost use Rattle.rq_restart.specs.Restarting.{StopsIn};
+ghost use Rattle.rq_restart.specs.Repeating.{paged, Repeats, Marks, IsMarked};
+ghost use Rattle.rq_restart.specs.Restarting.{StopsIn, StopsAt};
 
 use crate::history::History;
 use rq_disk::PageDevice;
@@ -27,6 +28,7 @@ pub(crate) fn miscounted_page<P: PageDevice + Drop>(pages: &Pages<P>, records: u
     ensures low { IfSome result (λ p. 1 ≤ p) }
     ensures high { IfSome result (λ p. p < page_count pages.now.sizes) }
     ensures some { IfSome result (λ p. IsCounted pages.now.sizes records p (image_in pages.now.images p) → ⊥) }
+    ensures first { IfSome result (λ p. (q : ℕ) → 1 ≤ q → q < p → IsCounted pages.now.sizes records q (image_in pages.now.images q)) }
 {
     let layout = pages.layout();
     for number in 1..layout.pages() {
@@ -61,8 +63,10 @@ pub(crate) fn repeat_history<P: PageDevice + Drop>(
     records: &[Record],
 ) -> Result<History, Refusal>
     ensures ok { IfOk result (λ history. history ≡ noted (reverse records.now)) }
+    ensures repeated { OnOk result (Repeats pages.old.sizes (reverse records.now) (paged pages.old) (paged pages.new)) }
     ensures redone { OnOk result (IsLeft pages.old.sizes (image_in pages.old.images) (reverse records.now) → FitsUpTo pages.old.sizes (image_in pages.new.images) (reverse records.now) (length records.now)) }
     ensures err { IfErr result (λ e. StopsIn (IsLeft pages.old.sizes (image_in pages.old.images) (reverse records.now)) e) }
+    ensures stops { IfErr result (λ e. StopsAt pages.old.sizes (reverse records.now) (paged pages.old) e) }
     ensures sizes { pages.new.sizes ≡ pages.old.sizes }
     ensures device { pages.new.device ≡ pages.old.device }
 {
@@ -81,6 +85,8 @@ pub(crate) fn repeat_history<P: PageDevice + Drop>(
 // Makes what a record writes, where its page is older. False where the record doesn't fit the store.
 fn repeat<P: PageDevice + Drop>(pages: &mut Pages<P>, lsn: Lsn, record: &Record) -> bool
     ensures redone { IsTrue result → Redoes (told_by «record».now) lsn (image_in pages.old.images) (image_in pages.new.images) }
+    ensures marked { IsTrue result → Marks (told_by «record».now) lsn (paged pages.old) pages.new.changed }
+    ensures checked { IsTrue result → MayRedo pages.old.sizes (image_in pages.old.images) lsn «record».now }
     ensures refused { result ≡ false → MayRedo pages.old.sizes (image_in pages.old.images) lsn «record».now → ⊥ }
     ensures sizes { pages.new.sizes ≡ pages.old.sizes }
     ensures device { pages.new.device ≡ pages.old.device }
@@ -144,6 +150,7 @@ fn redo<P: PageDevice + Drop>(
 ) -> bool
     requires { IsSlotOf pages.old.sizes page slot after.now }
     ensures redone { IsRedone (record { page = page; slot = slot; after = after.now }) lsn (image_in pages.old.images) (image_in pages.new.images) }
+    ensures marked { IsMarked (record { page = page; slot = slot; after = after.now }) lsn (paged pages.old) pages.new.changed }
     ensures sizes { pages.new.sizes ≡ pages.old.sizes }
     ensures device { pages.new.device ≡ pages.old.device }
     ensures made { IsTrue result }

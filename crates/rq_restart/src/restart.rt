@@ -1,19 +1,26 @@
 //! Opening a store that a crash, or nothing at all, left behind.
-ghost use Rattle.std.specs.Prelude.{◌≡◌, ◌+◌, ◌≤◌, ◌<◌, ◌∷◌, IfOk, IfErr, OnOk, false, length, reverse, drop, List, ℕ};
+ghost use Rattle.std.specs.Prelude.{◌≡◌, ◌+◌, ◌^◌, ◌≤◌, ◌<◌, ◌∷◌, IfOk, IfErr, OnOk, false, length, reverse, drop, List, ℕ};
 ghost use Rattle.rq_model.specs.declared.record.Record.TheVariants as records;
 ghost use Rattle.rq_model.specs.declared.record.Record.{Record};
 ghost use Rattle.rq_level.specs.Stored.{slots_in, count_used};
+ghost use Rattle.rq_log.specs.Crash.{LeavesOnly};
 ghost use Rattle.rq_log.specs.Spelled.{spelled, AreSpelled};
+ghost use Rattle.rq_record.specs.Spelling.{IsRecord};
 ghost use Rattle.rq_page.specs.Sizes.{Sizes};
 ghost use Rattle.rq_disk.specs.Device.{Only};
 ghost use Rattle.rq_pool.specs.Reading.{IsSuperblock, OnlyRead};
 ghost use Rattle.rq_model.specs.Content.{committed_of};
+ghost use Rattle.rq_model.specs.Ledger.{Ledger, after};
+ghost use Rattle.rq_model.specs.History.Entry.{Restarted};
 ghost use Rattle.rq_store.specs.State.{ledger_of};
 ghost use Rattle.rq_store.specs.Sound.{IsSound};
 ghost use Rattle.rq_store.specs.Opening.{opened, next_restart, IsLeft};
 ghost use Rattle.rq_store.specs.Fitting.{AllFit, image_in};
 ghost use Rattle.rq_engine.specs.Crash.{AreFit};
-ghost use Rattle.rq_restart.specs.Restarting.{IsReadAs, IsLeftOn, IsReady, AreWaiting, BeginsNot, StaysShut, IsBegun, Reports, Stops, IsFresh, AddsOne, BeginsAtMost, LeavesReadOrBegun};
+ghost use Rattle.rq_engine.specs.Opened.{pooled};
+ghost use Rattle.rq_restart.specs.Repeating.{paged};
+ghost use Rattle.rq_restart.specs.Restarting.{IsReadAs, IsLeftOn, IsReady, AreWaiting, BeginsNot, StaysShut, IsBegun, Reports, Stops, IsEnded, IsGoneThrough, ShutFor, WasLeftOrIs, BeginsAtMost, LogStops, Refuses, WasChecked};
+ghost use Rattle.rq_restart.specs.Underway.{OfStores, Path, EachPair, IsLeftOrGoesOn, pages_left, log_left};
 
 use crate::redo::{miscounted_page, repeat_history};
 use crate::waiting::count_waiting;
@@ -24,7 +31,7 @@ use rq_log::{Log, Scan};
 use rq_model::record::Record;
 use rq_model::refusal::{Damage, Refusal};
 use rq_pool::Pages;
-use rq_record::spelled_len;
+use rq_record::{fits, spelled_len};
 use std::alloc::Global;
 
 /// What a restart found and did.
@@ -75,15 +82,16 @@ pub fn restart<P: PageDevice + Drop, L: LogDevice + Drop>(
     ensures sizes { IfOk result (λ o. P.honest o.0.pages → IsSuperblock o.0.state.sizes (P.seen pages 0)) }
     ensures value { IfOk result (λ o. (older : List Record) → IsReadAs L.LogDevice log o.0.log older → o.0.state ≡ opened o.0.state.sizes o.0.state.images older) }
     ensures sound { IfOk result (λ o. (older : List Record) → IsReadAs L.LogDevice log o.0.log older → IsLeftOn P.PageDevice o.0.state.sizes pages o.0.pages older → IsSound o.0.state) }
+    ensures entry { IfOk result (λ o. (older : List Record) → IsReadAs L.LogDevice log o.0.log older → IsLeftOn P.PageDevice o.0.state.sizes pages o.0.pages older → (ledger : Ledger) → ledger.committed ≡ committed_of older → ledger_of o.0.state ≡ after (Restarted o.1.incarnation o.1.records) ledger) }
     ensures committed { IfOk result (λ o. (older : List Record) → IsReadAs L.LogDevice log o.0.log older → (ledger_of o.0.state).committed ≡ committed_of older) }
     ensures reads { IfOk result (λ o. L.honest o.0.log → L.seen o.0.log ≡ spelled o.0.state.records) }
     ensures durable { IfOk result (λ o. L.honest o.0.log → Only (spelled o.0.state.records) (L.may_leave o.0.log)) }
-    ensures pages { IfOk result (λ o. OnlyRead P.PageDevice pages o.0.pages) }
-    ensures pages_back { IfErr result (λ stopped. OnlyRead P.PageDevice pages stopped.pages) }
-    ensures any_moment { IfOk result (λ o. BeginsAtMost L.LogDevice log o.0.log) }
-    ensures any_moment_back { IfErr result (λ stopped. BeginsAtMost L.LogDevice log stopped.log) }
-    ensures crash { IfOk result (λ o. LeavesReadOrBegun P.PageDevice L.LogDevice pages log o.0.pages o.0.log) }
-    ensures crash_back { IfErr result (λ stopped. LeavesReadOrBegun P.PageDevice L.LogDevice pages log stopped.pages stopped.log) }
+    ensures pages { OnlyRead P.PageDevice pages (pages_left result) }
+    ensures any_moment { BeginsAtMost L.LogDevice log (log_left result) }
+    ensures path { OfStores P.PageDevice L.LogDevice pages log (log_left result) (λ z read. Path P.PageDevice L.LogDevice (IsLeftOrGoesOn L.LogDevice log z read) pages log (pages_left result) (log_left result)) }
+    ensures crash { OfStores P.PageDevice L.LogDevice pages log (log_left result) (λ z read. EachPair P.PageDevice L.LogDevice (pages_left result) (log_left result) (IsLeftOrGoesOn L.LogDevice log z read)) }
+    ensures checked { IfOk result (λ o. WasChecked P.PageDevice L.LogDevice pages log o.0.state.sizes (paged (pooled o.0)) o.0.state.records o.0.pages o.0.log) }
+    ensures refused { IfErr result (λ stopped. Refuses P.PageDevice L.LogDevice pages log stopped.refusal stopped.pages stopped.log) }
     ensures fit { IfOk result (λ o. (older : List Record) → IsReadAs L.LogDevice log o.0.log older → AllFit (P.may_be pages) o.0.state.sizes older → AreFit P.PageDevice o.0) }
     ensures cause { IfOk result (λ o. (P.faults o.0.pages ≡ P.faults pages) × (L.faults o.0.log ≡ L.faults log)) }
     ensures err { IfErr result (λ stopped. (z : Sizes) → IsSuperblock z (P.seen pages 0) → (older : List Record) → IsReadAs L.LogDevice log stopped.log older → Stops (IsLeftOn P.PageDevice z pages stopped.pages older) older stopped.refusal (P.faults pages) (P.faults stopped.pages) (L.faults log) (L.faults stopped.log)) }
@@ -108,6 +116,8 @@ fn reopen<P: PageDevice + Drop, L: LogDevice + Drop>(
     ensures pages_back { IfErr result (λ stopped. OnlyRead P.PageDevice pages stopped.pages) }
     ensures any_moment { IfOk result (λ o. BeginsAtMost L.LogDevice log o.0.log) }
     ensures any_moment_back { IfErr result (λ stopped. BeginsAtMost L.LogDevice log stopped.log) }
+    ensures checked { IfOk result (λ o. WasChecked P.PageDevice L.LogDevice pages log o.0.state.sizes (paged (pooled o.0)) o.0.state.records o.0.pages o.0.log) }
+    ensures refused { IfErr result (λ stopped. Refuses P.PageDevice L.LogDevice pages log stopped.refusal stopped.pages stopped.log) }
     ensures fit { IfOk result (λ o. (older : List Record) → IsReadAs L.LogDevice log o.0.log older → AllFit (P.may_be pages) o.0.state.sizes older → AreFit P.PageDevice o.0) }
     ensures cause { IfOk result (λ o. (P.faults o.0.pages ≡ P.faults pages) × (L.faults o.0.log ≡ L.faults log)) }
     ensures err { IfErr result (λ stopped. (z : Sizes) → IsSuperblock z (P.seen pages 0) → (older : List Record) → IsReadAs L.LogDevice log stopped.log older → Stops (IsLeftOn P.PageDevice z pages stopped.pages older) older stopped.refusal (P.faults pages) (P.faults stopped.pages) (L.faults log) (L.faults stopped.log)) }
@@ -147,6 +157,9 @@ fn open<P: PageDevice + Drop, L: LogDevice + Drop>(
     ensures pages_back { IfErr result (λ stopped. OnlyRead P.PageDevice pages stopped.pages) }
     ensures any_moment { IfOk result (λ o. BeginsAtMost L.LogDevice log o.log.device) }
     ensures any_moment_back { IfErr result (λ stopped. BeginsAtMost L.LogDevice log stopped.log) }
+    ensures checked { IfOk result (λ o. WasChecked P.PageDevice L.LogDevice pages log o.pages.sizes (paged o.pages) o.log.records o.pages.device o.log.device) }
+    ensures refused { IfErr result (λ stopped. Refuses P.PageDevice L.LogDevice pages log stopped.refusal stopped.pages stopped.log) }
+    ensures room { IfOk result (λ o. o.log.reserved ≡ 0) }
     ensures cause { IfOk result (λ o. (P.faults o.pages.device ≡ P.faults pages) × (L.faults o.log.device ≡ L.faults log)) }
     ensures err { IfErr result (λ stopped. (z : Sizes) → IsSuperblock z (P.seen pages 0) → (older : List Record) → IsReadAs L.LogDevice log stopped.log older → Stops (IsLeftOn P.PageDevice z pages stopped.pages older) older stopped.refusal (P.faults pages) (P.faults stopped.pages) (L.faults log) (L.faults stopped.log)) }
 {
@@ -180,6 +193,9 @@ fn restart_log<P: PageDevice + Drop, L: LogDevice + Drop>(
     ensures pages_back { IfErr result (λ stopped. stopped.pages ≡ pages.device) }
     ensures any_moment { IfOk result (λ o. BeginsAtMost L.LogDevice log o.log.device) }
     ensures any_moment_back { IfErr result (λ stopped. BeginsAtMost L.LogDevice log stopped.log) }
+    ensures checked { IfOk result (λ o. (older : List Record) × AreSpelled older × (L.honest o.log.device → L.seen log ≡ spelled older) × IsGoneThrough pages.sizes older (paged pages) (paged o.pages) × IsEnded older × (o.log.records ≡ next_restart older ∷ older) × (length older < 2 ^ 50)) }
+    ensures refused { IfErr result (λ stopped. LogStops L.LogDevice pages.sizes (paged pages) stopped.refusal log stopped.log) }
+    ensures room { IfOk result (λ o. o.log.reserved ≡ 0) }
     ensures cause { IfOk result (λ o. L.faults o.log.device ≡ L.faults log) }
     ensures err { IfErr result (λ stopped. (older : List Record) → IsReadAs L.LogDevice log stopped.log older → StaysShut (IsLeft pages.sizes (image_in pages.images) older) older stopped.refusal (L.faults log) (L.faults stopped.log)) }
 {
@@ -231,7 +247,10 @@ fn go_on<P: PageDevice + Drop, L: LogDevice + Drop>(
     ensures ready { IfOk result (λ begun. IsReady L.LogDevice begun.1.incarnation log.new) }
     ensures pages { pages.new.device ≡ pages.old.device }
     ensures honest { L.honest log.new.device → L.honest log.old.device }
-    ensures any_moment { L.honest log.new.device → IsFresh L.LogDevice log.old → AddsOne L.LogDevice (next_restart log.old.records) log.old.records log.old.device log.new.device }
+    ensures any_moment { L.honest log.new.device → AreSpelled log.old.records → L.seen log.old.device ≡ spelled log.old.records → LeavesOnly L.LogDevice log.old.device log.new.device (WasLeftOrIs L.LogDevice log.old.device (IsEnded log.old.records × IsRecord (next_restart log.old.records)) (next_restart log.old.records ∷ log.old.records)) }
+    ensures checked { OnOk result (IsGoneThrough pages.old.sizes log.old.records (paged pages.old) (paged pages.new) × IsEnded log.old.records) }
+    ensures shut { IfErr result (λ e. ShutFor pages.old.sizes log.old.records (paged pages.old) e (L.faults log.old.device) (L.faults log.new.device) (log.new.device ≡ log.old.device)) }
+    ensures room { OnOk result (log.new.reserved ≡ log.old.reserved) }
     ensures cause { OnOk result (L.faults log.new.device ≡ L.faults log.old.device) }
     ensures err { IfErr result (λ e. StaysShut (IsLeft pages.old.sizes (image_in pages.old.images) log.old.records) log.old.records e (L.faults log.old.device) (L.faults log.new.device)) }
 {
@@ -261,8 +280,9 @@ fn begin_incarnation<L: LogDevice + Drop>(log: &mut Log<L>, last: u64) -> Result
     ensures ready { IfOk result (λ report. IsReady L.LogDevice report.incarnation log.new) }
     ensures cause { OnOk result (L.faults log.new.device ≡ L.faults log.old.device) }
     ensures honest { L.honest log.new.device → L.honest log.old.device }
-    ensures any_moment { L.honest log.new.device → IsFresh L.LogDevice log.old → AddsOne L.LogDevice (records.Restart (last + 1)) log.old.records log.old.device log.new.device }
-    ensures err { IfErr result (λ e. BeginsNot e (length log.old.records) last (L.faults log.old.device) (L.faults log.new.device)) }
+    ensures any_moment { L.honest log.new.device → AreSpelled log.old.records → L.seen log.old.device ≡ spelled log.old.records → LeavesOnly L.LogDevice log.old.device log.new.device (WasLeftOrIs L.LogDevice log.old.device (IsRecord (records.Restart (last + 1))) (records.Restart (last + 1) ∷ log.old.records)) }
+    ensures room { OnOk result (log.new.reserved ≡ log.old.reserved) }
+    ensures err { IfErr result (λ e. BeginsNot e (length log.old.records) last (L.faults log.old.device) (L.faults log.new.device) (log.new.device ≡ log.old.device)) }
 {
     if log.last() >= LOG_LIMIT {
         return Err(Refusal::LogFull);
@@ -271,6 +291,7 @@ fn begin_incarnation<L: LogDevice + Drop>(log: &mut Log<L>, last: u64) -> Result
         return Err(Refusal::LogFull);
     };
     let restart = Record::Restart { incarnation };
+    fits(&restart);
     log.reserve(spelled_len(&restart))?;
     log.append(&restart);
     let records = log.force()?;

@@ -1,5 +1,5 @@
-use Rattle.std.proofs.Common.{arith, sym, ap, length, ◌∙◌}
-use Rattle.rq_log.proofs.Kept.{whole, handed, broken, append_leaves, reads_all, nothing_buffered}
+use Rattle.std.proofs.Common.{arith, inl, sym, ap, length, ◌∙◌}
+use Rattle.rq_log.proofs.Kept.{whole, handed, broken, append_leaves, append_adds, reads_all, nothing_buffered}
 use Rattle.rq_log.proofs.Runs.{is_none, is_some}
 use Rattle.rq_log.proofs.Moments.{started, one_call}
 use Rattle.rq_log.proofs.Log.hand_over.Goals as goal
@@ -76,3 +76,33 @@ returns-in-Err-clause-any_moment g c =
     (λ h was. one_call L d c.append.new.self _ (L.may_leave d) (L.may_leave c.append.new.self) (g.met.L.LogDevice.only_now d) c.append.ensures.time
     (c.self.invariant.is_log.leaves (c.append.ensures.honest h) was)
     (append_leaves L _ _ c.self.inside.buffer.items _ c.self.invariant c.if-self.false c.append.new.self crash (c.append.ensures.honest h) was))
+
+pub returns-then-self-clause-left : goal.returns-then-self-clause-left
+returns-then-self-clause-left g c =
+    let d = c.self.inside.device in
+    rw (← c.self.view_is) (λ h. started g.L.LogDevice d _ (λ b left. inl (g.met.L.LogDevice.only_now d b left)))
+
+pub returns-then-is_empty-clause-left : goal.returns-then-is_empty-clause-left
+returns-then-is_empty-clause-left g c =
+    let d = c.self.inside.device in
+    rw (← c.self.view_is) (λ h. started g.L.LogDevice d _ (λ b left. inl (g.met.L.LogDevice.only_now d b left)))
+
+pub returns-in-Ok-clause-left : goal.returns-in-Ok-clause-left
+returns-in-Ok-clause-left g c =
+    let L = g.L.LogDevice in
+    let d = c.self.inside.device in
+    let crash = rw c.deref.ensures.value at c.append.ensures.crash in
+    rw (← c.self.view_is)
+    (λ h. one_call L d c.append.new.self _ (L.may_leave d) (L.may_leave c.append.new.self) (g.met.L.LogDevice.only_now d) c.append.ensures.time
+    (λ b was. inl was)
+    (append_adds L _ _ c.self.inside.buffer.items _ c.self.invariant c.if-self.false c.append.new.self crash (c.append.ensures.honest h)))
+
+pub returns-in-Err-clause-left : goal.returns-in-Err-clause-left
+returns-in-Err-clause-left g c =
+    let L = g.L.LogDevice in
+    let d = c.self.inside.device in
+    let crash = rw c.deref.ensures.value at c.append.ensures.crash in
+    rw (← c.self.view_is)
+    (λ h. one_call L d c.append.new.self _ (L.may_leave d) (L.may_leave c.append.new.self) (g.met.L.LogDevice.only_now d) c.append.ensures.time
+    (λ b was. inl was)
+    (append_adds L _ _ c.self.inside.buffer.items _ c.self.invariant c.if-self.false c.append.new.self crash (c.append.ensures.honest h)))

@@ -4,7 +4,7 @@ use Rattle.rq_disk.specs.Device.{Holds}
 use Rattle.rq_store.specs.Fitting.{FitsLog}
 use Rattle.rq_store.proofs.Formatting.{formatted_fits}
 use Rattle.rq_store.proofs.Cutting.{only_fit}
-use Rattle.rq_restart.proofs.Formats.{formatted_all}
+use Rattle.rq_restart.proofs.Formats.{formatted_all, other_written, others_synced, first_written, first_synced}
 use Rattle.rq_restart.proofs.Restarts.{on_ok}
 use Rattle.rq_restart.proofs.format.format.Goals as goal
 
@@ -18,7 +18,7 @@ returns-clause-fits g c =
     (formatted_fits z (seen c.write_formatted-2.new.pages) c.pages-number-end.ensures.in_range
     (formatted_all z (seen c.loop-number.pages) (seen c.write_formatted-2.new.pages) c.write_formatted-2.new.page behind
     (subst (λ s. Holds s 0 c.write_formatted-2.new.page (seen c.write_formatted-2.new.pages)) c.sync.ensures.seen c.in_ok-write_formatted-2.ensures.written)
-    c.in_ok-write_formatted-2.ensures.formatted)))
+    c.write_formatted-2.ensures.formatted)))
     c.sync-2.ensures.cause
 
 pub returns-clause-durable : goal.returns-clause-durable
@@ -31,5 +31,30 @@ returns-clause-durable g c =
     (formatted_fits z (seen c.write_formatted-2.new.pages) c.pages-number-end.ensures.in_range
     (formatted_all z (seen c.loop-number.pages) (seen c.write_formatted-2.new.pages) c.write_formatted-2.new.page behind
     (subst (λ s. Holds s 0 c.write_formatted-2.new.page (seen c.write_formatted-2.new.pages)) c.sync.ensures.seen c.in_ok-write_formatted-2.ensures.written)
-    c.in_ok-write_formatted-2.ensures.formatted)))
+    c.write_formatted-2.ensures.formatted)))
     c.sync-2.ensures.durable
+
+pub returns-in_err-write_formatted-clause-any_moment : goal.returns-in_err-write_formatted-clause-any_moment
+returns-in_err-write_formatted-clause-any_moment g c =
+    let l = c.loop-number in
+    let low : 1 ≤ l.number = omega (arith, l.auto.number) in
+    (other_written g.P.PageDevice c.args.layout.now c.args.pages.now l.pages c.write_formatted.new.pages l.number c.write_formatted.new.page l.invariant.untold low c.write_formatted.ensures.crash c.write_formatted.ensures.time).run
+
+pub returns-in_err-write_formatted-2-clause-any_moment : goal.returns-in_err-write_formatted-2-clause-any_moment
+returns-in_err-write_formatted-2-clause-any_moment g c =
+    let z : Sizes = c.args.layout.now in
+    let p = g.P.PageDevice in
+    let l = c.loop-number in
+    let behind : (q : ℕ) → 1 ≤ q → q < page_count z → _ = λ q low high. let e = c.pages-number-end.ensures.number in let t = c.loop-number-test.false in l.invariant.formatted q low (omega (arith, e, t, high)) in
+    let synced = others_synced p z c.args.pages.now l.pages c.sync.new.pages l.invariant.untold c.sync.ensures.crash c.sync.ensures.time in
+    (first_written p z c.args.pages.now c.sync.new.pages c.write_formatted-2.new.pages (p.seen l.pages) c.write_formatted-2.new.page synced c.in_ok-sync.ensures.durable behind c.write_formatted-2.ensures.formatted c.write_formatted-2.ensures.crash c.write_formatted-2.ensures.time).run
+
+pub returns-clause-any_moment : goal.returns-clause-any_moment
+returns-clause-any_moment g c =
+    let z : Sizes = c.args.layout.now in
+    let p = g.P.PageDevice in
+    let l = c.loop-number in
+    let behind : (q : ℕ) → 1 ≤ q → q < page_count z → _ = λ q low high. let e = c.pages-number-end.ensures.number in let t = c.loop-number-test.false in l.invariant.formatted q low (omega (arith, e, t, high)) in
+    let synced = others_synced p z c.args.pages.now l.pages c.sync.new.pages l.invariant.untold c.sync.ensures.crash c.sync.ensures.time in
+    let told = first_written p z c.args.pages.now c.sync.new.pages c.write_formatted-2.new.pages (p.seen l.pages) c.write_formatted-2.new.page synced c.in_ok-sync.ensures.durable behind c.write_formatted-2.ensures.formatted c.write_formatted-2.ensures.crash c.write_formatted-2.ensures.time in
+    (first_synced p z c.args.pages.now c.write_formatted-2.new.pages c.sync-2.new.pages told c.sync-2.ensures.crash c.sync-2.ensures.time).run

@@ -1,9 +1,11 @@
 use Rattle.std.proofs.Common.{◌≡◌, ℕ, ◌≤◌, ◌<◌}
 use Rattle.rq_page.specs.Formatted.{IsFormatted}
+use Rattle.rq_restart.proofs.Formats.{IsUntold}
 use Rattle.rq_restart.proofs.format.format.Given as goal
 
 abbrev pub invariant-loop-number : goal.invariant-loop-number
 invariant-loop-number g l = record {
   formatted : (p : ℕ) → 1 ≤ p → p < l.number → IsFormatted l.layout p (g.P.PageDevice.seen l.pages p);
+  untold : IsUntold g.P.PageDevice l.layout l.fn.pages l.pages;
   cause : g.P.PageDevice.faults l.pages ≡ g.P.PageDevice.faults l.fn.pages;
 }

@@ -1,13 +1,14 @@
-use Rattle.std.proofs.Common.{◌≡◌, ◌+◌, ◌≤◌, ◌<◌, ℕ, length, ap, IsTrue, refl, sym, ◌∙◌, subst, arith}
+use Rattle.std.proofs.Common.{rules, ◌≡◌, ◌+◌, ◌≤◌, ◌<◌, ℕ, length, ap, IsTrue, refl, sym, ◌∙◌, subst, arith}
 use Rattle.std.proofs.lemmas.Bool.{false≢true}
 use Rattle.std.proofs.lemmas.List.{length-reverse}
 use Rattle.rq_page.specs.Sizes.{page_count}
 use Rattle.rq_pool.specs.Pooled.{IsPool}
 use Rattle.rq_store.specs.Opening.{IsCounted}
 use Rattle.rq_store.specs.Fitting.{image_in}
-use Rattle.rq_restart.specs.Restarting.{AreWaiting}
+use Rattle.rq_restart.specs.Restarting.{AreWaiting, ShutFor}
+use Rattle.rq_restart.specs.Repeating.{paged}
 use Rattle.rq_restart.proofs.Moments.{untouched, begun_moment}
-use Rattle.rq_restart.proofs.Restarts.{one_more, last_is, begun_is, settled_left, sound_is, shut_is, counted_left, counted_redone}
+use Rattle.rq_restart.proofs.Restarts.{one_more, last_is, begun_is, ended_is, ended_not, shut_for, repeated_order, stops_shut, beyond_read, beyond_then, gone_is, settled_left, sound_is, shut_is, counted_left, counted_redone}
 use Rattle.rq_restart.proofs.Counting.{are_waiting}
 use Rattle.rq_restart.proofs.restart.go_on.Goals as goal
 
@@ -65,23 +66,62 @@ returns-in-Ok-clause-waiting g c =
 
 pub returns-clause-err : goal.returns-clause-err
 returns-clause-err g c =
-    shut_is c.args.log.now.records c.args.records.now c.requires.records c.in_ok-history.history c.in_ok-history.ensures.ok c.args.pages.now.sizes (image_in c.args.pages.now.images) c.in-Err.refusal c.incarnation.result _ _ c.incarnation.ensures c.in-Err.ensures.err
-
-pub returns-in-Some-clause-any_moment : goal.returns-in-Some-clause-any_moment
-returns-in-Some-clause-any_moment g c = λ h fresh. untouched g.L.LogDevice g.met.L.LogDevice.only_now _ c.args.log.now.records c.args.log.now.device fresh.leaves
-
-pub returns-in-Some-miscounted_page-clause-any_moment : goal.returns-in-Some-miscounted_page-clause-any_moment
-returns-in-Some-miscounted_page-clause-any_moment g c = λ h fresh. untouched g.L.LogDevice g.met.L.LogDevice.only_now _ c.args.log.now.records c.args.log.now.device fresh.leaves
-
-pub returns-in_err-waiting-clause-any_moment : goal.returns-in_err-waiting-clause-any_moment
-returns-in_err-waiting-clause-any_moment g c = λ h fresh. untouched g.L.LogDevice g.met.L.LogDevice.only_now _ c.args.log.now.records c.args.log.now.device fresh.leaves
+    shut_is c.args.log.now.records c.args.records.now c.requires.records c.in_ok-history.history c.in_ok-history.ensures.ok c.args.pages.now.sizes (image_in c.args.pages.now.images) c.in-Err.refusal c.incarnation.result _ _ c.incarnation.ensures _ c.in-Err.ensures.err
 
 pub returns-in-Ok-clause-any_moment : goal.returns-in-Ok-clause-any_moment
-returns-in-Ok-clause-any_moment g c = λ h fresh.
+returns-in-Ok-clause-any_moment g c = λ h are read.
     begun_moment g.L.LogDevice c.args.log.now.records c.args.records.now c.requires.records c.in_ok-history.history c.in_ok-history.ensures.ok c.incarnation.result c.incarnation.ensures
-    c.args.log.now.device c.begin_incarnation.new.log.device (c.begin_incarnation.ensures.any_moment h fresh)
+    (ended_is c.args.log.now.records c.args.records.now c.requires.records c.in_ok-history.history c.in_ok-history.ensures.ok (c.is_settled.ensures.0 c.if-not-is_settled.false))
+    c.args.log.now.device c.begin_incarnation.new.log.device (c.begin_incarnation.ensures.any_moment h are read)
 
 pub returns-clause-any_moment : goal.returns-clause-any_moment
-returns-clause-any_moment g c = λ h fresh.
+returns-clause-any_moment g c = λ h are read.
     begun_moment g.L.LogDevice c.args.log.now.records c.args.records.now c.requires.records c.in_ok-history.history c.in_ok-history.ensures.ok c.incarnation.result c.incarnation.ensures
-    c.args.log.now.device c.begin_incarnation.new.log.device (c.begin_incarnation.ensures.any_moment h fresh)
+    (ended_is c.args.log.now.records c.args.records.now c.requires.records c.in_ok-history.history c.in_ok-history.ensures.ok (c.is_settled.ensures.0 c.if-not-is_settled.false))
+    c.args.log.now.device c.begin_incarnation.new.log.device (c.begin_incarnation.ensures.any_moment h are read)
+
+pub returns-in_err-history-clause-shut : goal.returns-in_err-history-clause-shut
+returns-in_err-history-clause-shut g c =
+    let l = g.L.LogDevice in
+    let e = c.in_err-history.field-0.0 in
+    let d = c.args.log.now.device in
+    let h : ShutFor c.args.pages.now.sizes c.args.log.now.records (paged c.args.pages.now) e (l.faults d) (l.faults d) (d ≡ d) =
+    stops_shut c.args.pages.now.sizes c.args.log.now.records c.args.records.now c.requires.records (paged c.args.pages.now) e (l.faults d) (l.faults d) (d ≡ d) refl refl c.in_err-history.ensures.stops in
+    search (rules, h)
+
+pub returns-in-Some-clause-shut : goal.returns-in-Some-clause-shut
+returns-in-Some-clause-shut g c = (
+  beyond_read c.args.pages.now.sizes c.args.log.now.records c.args.records.now c.requires.records (paged c.args.pages.now) (paged c.repeat_history.new.pages) c.in-Some.page c.in_ok-history.ensures.repeated
+      c.in-Some.ensures.low c.in-Some.ensures.high c.in-Some.ensures.some c.in-Some.ensures.first,
+  refl,
+)
+
+pub returns-in-Some-miscounted_page-clause-shut : goal.returns-in-Some-miscounted_page-clause-shut
+returns-in-Some-miscounted_page-clause-shut g c =
+    let same = c.in_ok-history.ensures.sizes in
+    let found = c.in-Some-miscounted_page.ensures in (
+      beyond_then c.args.pages.now.sizes c.args.log.now.records c.args.records.now c.requires.records (paged c.args.pages.now) (paged c.repeat_history.new.pages) c.in-Some-miscounted_page.redone c.in_ok-history.ensures.repeated
+          c.in_default.ensures.none c.repeat_history.new.pages.sizes same found.low found.high found.some found.first,
+      refl,
+    )
+
+pub returns-then-not-is_settled-clause-shut : goal.returns-then-not-is_settled-clause-shut
+returns-then-not-is_settled-clause-shut g c =
+    let gone = gone_is c.args.pages.now.sizes c.args.log.now.records c.args.records.now c.requires.records (paged c.args.pages.now) (paged c.repeat_history.new.pages) c.in_ok-history.ensures.repeated c.in_default.ensures.none
+    c.repeat_history.new.pages.sizes c.in_ok-history.ensures.sizes c.in_default-miscounted_page.ensures.none in
+    (ended_not c.args.log.now.records c.args.records.now c.requires.records c.in_ok-history.history c.in_ok-history.ensures.ok (λ none. false≢true (sym c.if-not-is_settled.true ∙ c.is_settled.ensures.1 none)), (paged c.repeat_history.new.pages, gone), refl)
+
+pub returns-in-Ok-clause-checked : goal.returns-in-Ok-clause-checked
+returns-in-Ok-clause-checked g c = (
+  gone_is c.args.pages.now.sizes c.args.log.now.records c.args.records.now c.requires.records (paged c.args.pages.now) (paged c.repeat_history.new.pages) c.in_ok-history.ensures.repeated c.in_default.ensures.none
+      c.repeat_history.new.pages.sizes c.in_ok-history.ensures.sizes c.in_default-miscounted_page.ensures.none,
+  ended_is c.args.log.now.records c.args.records.now c.requires.records c.in_ok-history.history c.in_ok-history.ensures.ok (c.is_settled.ensures.0 c.if-not-is_settled.false),
+)
+
+pub returns-clause-shut : goal.returns-clause-shut
+returns-clause-shut g c =
+    let gone = gone_is c.args.pages.now.sizes c.args.log.now.records c.args.records.now c.requires.records (paged c.args.pages.now) (paged c.repeat_history.new.pages) c.in_ok-history.ensures.repeated c.in_default.ensures.none
+    c.repeat_history.new.pages.sizes c.in_ok-history.ensures.sizes c.in_default-miscounted_page.ensures.none in
+    shut_for c.args.log.now.records c.args.records.now c.requires.records c.in_ok-history.history c.in_ok-history.ensures.ok c.args.pages.now.sizes c.in-Err.refusal c.incarnation.result _ _ c.incarnation.ensures _ (paged c.args.pages.now) (paged c.repeat_history.new.pages)
+    (repeated_order c.args.pages.now.sizes c.args.log.now.records (paged c.args.pages.now) (paged c.repeat_history.new.pages) gone.repeated)
+    (ended_is c.args.log.now.records c.args.records.now c.requires.records c.in_ok-history.history c.in_ok-history.ensures.ok (c.is_settled.ensures.0 c.if-not-is_settled.false)) gone c.in-Err.ensures.err

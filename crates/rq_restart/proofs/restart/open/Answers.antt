@@ -1,10 +1,10 @@
-use Rattle.std.proofs.Common.{sym, subst}
+use Rattle.std.proofs.Common.{sym, subst, inl, refl}
 use Rattle.rq_store.specs.Sound.{IsSound}
 use Rattle.rq_store.specs.Opening.{opened, IsLeft}
 use Rattle.rq_store.specs.Fitting.{image_in}
 use Rattle.rq_pool.specs.Reading.{IsSuperblock}
 use Rattle.rq_restart.specs.Restarting.{IsLeftOn}
-use Rattle.rq_restart.proofs.Restarts.{if_ok_all, if_ok_both, left_read, told_on}
+use Rattle.rq_restart.proofs.Restarts.{was_checked, was_refused, if_ok_all, if_ok_both, left_read, told_on}
 use Rattle.rq_restart.proofs.Moments.{if_err_both}
 use Rattle.rq_restart.proofs.Loading.{load_shut, shut_log, one_size}
 use Rattle.rq_restart.proofs.restart.open.Goals as goal
@@ -48,3 +48,20 @@ pub returns-in-Err-clause-err : goal.returns-in-Err-clause-err
 returns-in-Err-clause-err g c =
     λ z block older r.
     load_shut g.P.PageDevice z c.args.pages c.in-Err.stopped.device older c.in-Err.stopped.refusal (g.L.LogDevice.faults c.args.log) block c.in-Err.ensures.stopped
+
+pub returns-in-Ok-clause-checked : goal.returns-in-Ok-clause-checked
+returns-in-Ok-clause-checked g c =
+    let loaded = c.in-Ok.ensures in
+    if_ok_all c.restart_log.result
+    (λ o s d h. was_checked g.P.PageDevice g.L.LogDevice c.args.pages c.args.log c.in-Ok.pages loaded.pages loaded.seen loaded.changed o.pages o.log.records o.log.device s d h)
+    c.restart_log.ensures.sizes c.restart_log.ensures.pages c.restart_log.ensures.checked
+
+pub returns-in-Ok-clause-refused : goal.returns-in-Ok-clause-refused
+returns-in-Ok-clause-refused g c =
+    let loaded = c.in-Ok.ensures in
+    if_err_both c.restart_log.result
+    (λ s d h. was_refused g.P.PageDevice g.L.LogDevice c.args.pages c.args.log c.in-Ok.pages loaded.pages loaded.seen loaded.changed s.refusal s.pages s.log d loaded.cause h)
+    c.restart_log.ensures.pages_back c.restart_log.ensures.refused
+
+pub returns-in-Err-clause-refused : goal.returns-in-Err-clause-refused
+returns-in-Err-clause-refused g c = inl (c.in-Err.ensures.stopped, refl)

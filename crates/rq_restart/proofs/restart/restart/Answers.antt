@@ -1,19 +1,24 @@
-use Rattle.rq_restart.proofs.Moments.{read_or_begun, if_err_both}
-use Rattle.rq_restart.proofs.Restarts.{if_ok_both}
+use Rattle.rq_restart.proofs.Paths.{restart_path, restart_crash, answer_read, answer_begins, answer_entry}
 use Rattle.rq_restart.proofs.restart.restart.Goals as goal
+
+pub returns-clause-pages : goal.returns-clause-pages
+returns-clause-pages g c = answer_read g.P.PageDevice c.args.pages c.reopen.result c.reopen.ensures.pages c.reopen.ensures.pages_back
+
+pub returns-clause-any_moment : goal.returns-clause-any_moment
+returns-clause-any_moment g c = answer_begins g.L.LogDevice c.args.log c.reopen.result c.reopen.ensures.any_moment c.reopen.ensures.any_moment_back
+
+pub returns-clause-path : goal.returns-clause-path
+returns-clause-path g c =
+    restart_path g.P.PageDevice g.L.LogDevice g.met.P.PageDevice.only_now g.met.L.LogDevice.seen_may_be_left c.args.pages _ c.args.log _
+    (answer_read g.P.PageDevice c.args.pages c.reopen.result c.reopen.ensures.pages c.reopen.ensures.pages_back)
+    (answer_begins g.L.LogDevice c.args.log c.reopen.result c.reopen.ensures.any_moment c.reopen.ensures.any_moment_back)
 
 pub returns-clause-crash : goal.returns-clause-crash
 returns-clause-crash g c =
-    let d = g.P.PageDevice in
-    let l = g.L.LogDevice in
-    if_ok_both c.reopen.result
-    (λ o read run. read_or_begun d g.met.P.PageDevice.only_now l c.args.pages c.args.log o.0.pages o.0.log read run)
-    c.reopen.ensures.pages c.reopen.ensures.any_moment
+    λ h z read are reads was. restart_crash g.P.PageDevice g.L.LogDevice g.met.P.PageDevice.only_now g.met.L.LogDevice.seen_may_be_left c.args.pages _ c.args.log _
+    (answer_read g.P.PageDevice c.args.pages c.reopen.result c.reopen.ensures.pages c.reopen.ensures.pages_back)
+    (answer_begins g.L.LogDevice c.args.log c.reopen.result c.reopen.ensures.any_moment c.reopen.ensures.any_moment_back) h z read are reads was g.met.L.LogDevice.counts_now
 
-pub returns-clause-crash_back : goal.returns-clause-crash_back
-returns-clause-crash_back g c =
-    let d = g.P.PageDevice in
-    let l = g.L.LogDevice in
-    if_err_both c.reopen.result
-    (λ stopped read run. read_or_begun d g.met.P.PageDevice.only_now l c.args.pages c.args.log stopped.pages stopped.log read run)
-    c.reopen.ensures.pages_back c.reopen.ensures.any_moment_back
+pub returns-clause-entry : goal.returns-clause-entry
+returns-clause-entry g c =
+    answer_entry g.P.PageDevice g.L.LogDevice c.args.pages c.args.log c.reopen.result c.reopen.ensures.report c.reopen.ensures.value c.reopen.ensures.sound c.reopen.ensures.checked

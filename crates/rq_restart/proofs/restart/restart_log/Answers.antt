@@ -1,8 +1,11 @@
-use Rattle.std.proofs.Common.{◌≡◌, reverse, sym, subst}
+use Rattle.std.proofs.Common.{◌≡◌, length, reverse, sym, ap, subst, inl, inr, arith}
 use Rattle.rq_store.specs.Sound.{IsSound}
 use Rattle.rq_store.specs.Opening.{opened, IsLeft}
 use Rattle.rq_store.specs.Fitting.{image_in}
-use Rattle.rq_restart.specs.Restarting.{StaysShut, IsBegun, Reports, BeginsAtMost}
+use Rattle.rq_restart.specs.Restarting.{StaysShut, IsBegun, Reports, BeginsAtMost, IsRead, ShutFor}
+use Rattle.rq_restart.specs.Repeating.{paged}
+use Rattle.rq_log.specs.Spelled.{AreSpelled}
+use Rattle.rq_restart.proofs.Restarts.{shut_by}
 use Rattle.rq_restart.proofs.Moments.{only_read, read_first}
 use Rattle.rq_restart.proofs.Parsing.{log_is, scan_shut}
 use Rattle.rq_restart.proofs.restart.restart_log.Goals as goal
@@ -53,22 +56,44 @@ pub returns-in-Ok-go_on-clause-any_moment : goal.returns-in-Ok-go_on-clause-any_
 returns-in-Ok-go_on-clause-any_moment g c =
     let told = c.scan-records.ensures in
     let read = rw c.in-Ok.is at told.read in
-    let log = rw c.in-Ok.is at told.log in
-    let d = g.L.LogDevice in
-    read_first d g.met.L.LogDevice.only_now c.args.log c.go_on.new.log.device c.in-Ok.log read.1 (log.0, log.4) (rw c.in-Ok.is at told.crash) (rw c.in-Ok.is at told.any_moment) c.go_on.ensures.honest c.go_on.ensures.any_moment
-    (λ h older are e. log_is older c.in-Ok.log.records (reverse c.scan-records.result.records.items) _ are e read.0 told.spelled (read.1 h))
+    read_first g.L.LogDevice c.args.log c.in-Ok.log.device c.go_on.new.log.device c.in-Ok.log.records c.go_on.ensures.honest read.1 (subst AreSpelled (sym read.0) told.spelled) (rw c.in-Ok.is at told.seen) (rw c.in-Ok.is at told.crash)
+    (rw c.in-Ok.is at told.any_moment) c.go_on.ensures.any_moment
 
 pub returns-in-Ok-clause-any_moment_back : goal.returns-in-Ok-clause-any_moment_back
 returns-in-Ok-clause-any_moment_back g c =
     let told = c.scan-records.ensures in
     let read = rw c.in-Ok.is at told.read in
-    let log = rw c.in-Ok.is at told.log in
-    let d = g.L.LogDevice in
-    subst (λ new. BeginsAtMost d c.args.log new) (sym c.give_back-in-Err-go_on.ensures)
-    (read_first d g.met.L.LogDevice.only_now c.args.log c.go_on.new.log.device c.in-Ok.log read.1 (log.0, log.4) (rw c.in-Ok.is at told.crash) (rw c.in-Ok.is at told.any_moment) c.go_on.ensures.honest c.go_on.ensures.any_moment
-    (λ h older are e. log_is older c.in-Ok.log.records (reverse c.scan-records.result.records.items) _ are e read.0 told.spelled (read.1 h)))
+    subst (λ new. BeginsAtMost g.L.LogDevice c.args.log new) (sym c.give_back-in-Err-go_on.ensures)
+    (read_first g.L.LogDevice c.args.log c.in-Ok.log.device c.go_on.new.log.device c.in-Ok.log.records c.go_on.ensures.honest read.1 (subst AreSpelled (sym read.0) told.spelled) (rw c.in-Ok.is at told.seen) (rw c.in-Ok.is at told.crash)
+    (rw c.in-Ok.is at told.any_moment) c.go_on.ensures.any_moment)
 
 pub returns-clause-any_moment_back : goal.returns-clause-any_moment_back
-returns-clause-any_moment_back g c =
-    let d = g.L.LogDevice in
-    only_read d g.met.L.LogDevice.only_now c.args.log c.in-Err.stopped.device (rw c.in-Err.is at c.scan-records.ensures.any_moment)
+returns-clause-any_moment_back g c = only_read g.L.LogDevice c.args.log c.in-Err.stopped.device (rw c.in-Err.is at c.scan-records.ensures.any_moment)
+
+pub returns-in-Ok-go_on-clause-checked : goal.returns-in-Ok-go_on-clause-checked
+returns-in-Ok-go_on-clause-checked g c =
+    let told = c.scan-records.ensures in
+    let read = rw c.in-Ok.is at told.read in
+    let went = c.in-Ok-go_on.ensures in
+    (c.in-Ok.log.records, subst AreSpelled (sym read.0) told.spelled, (λ h. read.1 (c.go_on.ensures.honest h)), went.checked.0, went.checked.1, went.begun.records, (let n = went.ready.count in let e = ap length went.begun.records in omega (arith, n, e)))
+
+pub returns-in-Ok-clause-refused : goal.returns-in-Ok-clause-refused
+returns-in-Ok-clause-refused g c =
+    let l = g.L.LogDevice in
+    let told = c.scan-records.ensures in
+    let read = rw c.in-Ok.is at told.read in
+    let back = c.give_back-in-Err-go_on.ensures in
+    let mid = c.in-Ok.log.device in
+    let last = c.go_on.new.log.device in
+    let only : IsRead l c.args.log mid = record { same = rw c.in-Ok.is at told.seen; leaves = rw c.in-Ok.is at told.crash; moments = rw c.in-Ok.is at told.any_moment } in
+    inr (
+      c.in-Ok.log.records,
+      subst AreSpelled (sym read.0) told.spelled,
+      (λ h. read.1 (c.go_on.ensures.honest (subst l.honest back h))),
+      subst (λ d. ShutFor c.args.pages.sizes c.in-Ok.log.records (paged c.args.pages) c.in-Err-go_on.refusal (l.faults c.args.log) (l.faults d) (IsRead l c.args.log d)) (sym back)
+          (subst (λ n. ShutFor c.args.pages.sizes c.in-Ok.log.records (paged c.args.pages) c.in-Err-go_on.refusal n (l.faults last) (IsRead l c.args.log last)) (rw c.in-Ok.is at told.cause)
+          (shut_by c.args.pages.sizes c.in-Ok.log.records (paged c.args.pages) c.in-Err-go_on.refusal (l.faults mid) (l.faults last) (λ same. subst (IsRead l c.args.log) (sym same) only) c.in-Err-go_on.ensures.shut)),
+    )
+
+pub returns-clause-refused : goal.returns-clause-refused
+returns-clause-refused g c = inl (reverse c.scan-records.result.records.items, c.scan-records.ensures.spelled, rw c.in-Err.is at c.scan-records.ensures.stopped)

@@ -1,0 +1,15 @@
+-- A store that is being formatted.
+use Rattle.std.specs.Prelude.{◌⊎◌, ℕ, ◌<◌, List}
+use Rattle.rq_disk.specs.Device.{Images}
+use Rattle.rq_disk.specs.declared.device.PageDevice.{Ghosts}
+use Rattle.rq_page.specs.Sizes.{Sizes, page_count}
+use Rattle.rq_page.specs.Formatted.{IsFormatted}
+use Rattle.rq_restart.specs.Underway.{PagesLeave}
+
+-- the superblock is one that a crash might have left before, or every page is formatted
+abbrev pub IsBeforeOrFormatted : {P : Type 0} → Ghosts P → Sizes → P → Images → Type 0
+IsBeforeOrFormatted p z old images = p.may_be old 0 (images 0) ⊎ ((q : ℕ) → q < page_count z → IsFormatted z q (images q))
+
+-- So whatever a crash at any moment leaves: a store that was not formatted to its end doesn't open, unless the superblock of an older one still stands.
+abbrev pub SuperblockIsLast : {P : Type 0} → Ghosts P → Sizes → P → P → Type 0
+SuperblockIsLast p z old new = PagesLeave p old new (IsBeforeOrFormatted p z old)

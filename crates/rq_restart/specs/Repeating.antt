@@ -1,0 +1,64 @@
+-- Going through a log: what is made of the pages, one record after the other, and where it stops.
+use Rattle.std.specs.Prelude.{◌≡◌, ℕ, ◌+◌, ◌<◌, ◌≤◌, Bool, true, List, [], ◌∷◌, length, slice_set, Option, Some, None}
+use Rattle.rq_model.specs.declared.record.Record.{Record}
+use Rattle.rq_disk.specs.Device.{Images}
+use Rattle.rq_page.specs.Sizes.{Sizes, page_count}
+use Rattle.rq_page.specs.Pages.{lsn_of}
+use Rattle.rq_pool.specs.Pooled.{Pooled}
+use Rattle.rq_store.specs.Sound.{IsNext, incarnation_of}
+use Rattle.rq_store.specs.Opening.{MayRedo, Redoes, IsCounted}
+use Rattle.rq_store.specs.Fitting.{Told, told_by, oldest, image_in}
+
+-- the image of each page, and which pages count as changed
+pub record Paged : Type 0 where
+  pub image : Images
+  pub changed : List Bool
+
+abbrev pub paged : {P : Type 0} → Pooled P → Paged
+paged pages = record { image = image_in pages.images; changed = pages.changed }
+
+-- a page that is written, as it is older than the record, counts as changed then; nothing else does
+pub record IsMarked (w : Told) (lsn : ℕ) (old : Paged) (changed : List Bool) : Type 0 where
+  pub made : lsn_of (old.image w.page) < lsn → changed ≡ slice_set old.changed w.page true
+  pub kept : lsn ≤ lsn_of (old.image w.page) → changed ≡ old.changed
+
+abbrev pub Marks : Option Told → ℕ → Paged → List Bool → Type 0
+Marks None lsn old changed = changed ≡ old.changed
+Marks (Some w) lsn old changed = IsMarked w lsn old changed
+
+-- the record belongs behind these: it is the next of its incarnation, what it writes may stand there, and where its page is older, its before-image stands there
+pub record Belongs (z : Sizes) (older : List Record) (r : Record) (old : Paged) : Type 0 where
+  pub next : IsNext (incarnation_of older) r
+  pub may : MayRedo z old.image (length older + 1) r
+
+-- it was checked, and its write was made where its page is older
+pub record IsRepeated (z : Sizes) (older : List Record) (r : Record) (old new : Paged) : Type 0 where
+  pub belongs : Belongs z older r old
+  pub redone : Redoes (told_by r) (length older + 1) old.image new.image
+  pub marked : Marks (told_by r) (length older + 1) old new.changed
+
+-- each record was, the oldest first
+abbrev pub Repeats : Sizes → List Record → Paged → Paged → Type 0
+Repeats z [] first last = last ≡ first
+Repeats z (r ∷ older) first last = (mid : Paged) × Repeats z older first mid × IsRepeated z older r mid last
+
+-- the record with this LSN doesn't belong there, and those before it do
+pub record IsFirstBad (z : Sizes) (log : List Record) (first : Paged) (lsn : ℕ) : Type 0 where
+  pub older : List Record
+  pub newest : Record
+  pub are : oldest lsn log ≡ newest ∷ older
+  pub place : lsn ≡ length older + 1
+  pub mid : Paged
+  pub repeated : Repeats z older first mid
+  pub bad : Belongs z older newest mid → ⊥
+
+-- no number of a directory or cell page is beyond a log of so many records
+abbrev pub AreCounted : Sizes → ℕ → Paged → Type 0
+AreCounted z count pages = (p : ℕ) → 1 ≤ p → p < page_count z → IsCounted z count p (pages.image p)
+
+-- a number of this page is, and none of a page before it
+pub record IsFirstUncounted (z : Sizes) (count : ℕ) (pages : Paged) (page : ℕ) : Type 0 where
+  pub low : 1 ≤ page
+  pub high : page < page_count z
+  pub bad : IsCounted z count page (pages.image page) → ⊥
+  pub first : (p : ℕ) → 1 ≤ p → p < page → IsCounted z count p (pages.image p)

@@ -1,0 +1,71 @@
+-- A restart that is under way: what a crash at each moment leaves of both devices, whichever of them its next call changes.
+use Rattle.std.specs.Prelude.{◌≡◌, ◌⊎◌, ℕ, ◌≤◌, Bool, true, false, List, [], ◌∷◌, ◌++◌, Result, Ok, Err}
+use Rattle.rq_model.specs.declared.record.Record.{Record}
+use Rattle.rq_model.specs.declared.record.Record.TheVariants.{OpEnd, Commit}
+use Rattle.rq_disk.specs.Device.{Images, Leaves}
+use Rattle.rq_disk.specs.declared.device.LogDevice as log_device
+use Rattle.rq_disk.specs.declared.device.PageDevice as page_device
+use Rattle.rq_log.specs.Crash.{LeavesOnly}
+use Rattle.rq_log.specs.Spelled.{spelled, AreSpelled}
+use Rattle.rq_page.specs.Sizes.{Sizes}
+use Rattle.rq_store.specs.Opening.{IsLeft}
+use Rattle.rq_engine.specs.Opened.{OpenStore}
+use Rattle.rq_restart.specs.declared.restart.Report.{Report}
+use Rattle.rq_restart.specs.declared.restart.Stopped.{Stopped}
+
+-- A crash at any moment since old leaves pages that have Q.
+pub record PagesLeave {P : Type 0} (p : page_device.Ghosts P) (old new : P) (Q : Images → Type 0) : Type 0 where
+  pub later : p.moment old ≤ p.moment new
+  pub each : (images : Images) → p.left_since new (p.moment old) images → Q images
+
+module _ {P L : Type 0} (p : page_device.Ghosts P) (l : log_device.Ghosts L) where
+  -- each pair that a crash now may leave of both devices
+  abbrev pub EachPair : P → L → (Images → List ℕ → Type 0) → Type 0
+  EachPair pages log Q = (images : Images) (bytes : List ℕ) → Leaves (p.may_be pages) images → l.may_leave log bytes → Q images bytes
+
+-- A run of calls of two devices, one device at a time. At each moment of each part, each pair that a crash may leave has Q.
+pub data Path {P L : Type 0} (p : page_device.Ghosts P) (l : log_device.Ghosts L) (Q : Images → List ℕ → Type 0) : P → L → P → L → Type 0 where
+  Start : {pages : P} {log : L} → EachPair p l pages log Q → Path p l Q pages log pages log
+  Pages : {pages mid new : P} {log now : L} → Path p l Q pages log mid now → PagesLeave p mid new (λ images. (bytes : List ℕ) → l.may_leave now bytes → Q images bytes) → Path p l Q pages log new now
+  Log : {pages now : P} {log mid new : L} → Path p l Q pages log now mid → LeavesOnly l mid new (λ bytes. (images : Images) → Leaves (p.may_be now) images → Q images bytes) → Path p l Q pages log now new
+
+-- what a restart adds: no Commit and no OpEnd
+abbrev pub is_plain : Record → Bool
+is_plain (Commit t) = false
+is_plain (OpEnd t n level deed) = false
+is_plain _ = true
+
+abbrev pub ArePlain : List Record → Type 0
+ArePlain [] = Unit {0}
+ArePlain (r ∷ log) = (is_plain r ≡ true) × ArePlain log
+
+-- the older log, with plain records behind
+abbrev pub GoesOnPlainly : List Record → List Record → Type 0
+GoesOnPlainly older log = (more : List Record) × (more ++ older ≡ log) × ArePlain more
+
+-- these are the pages and the log of a store: a legal log of this spelling, and pages that fit it
+pub record IsStore (z : Sizes) (log : List Record) (images : Images) (bytes : List ℕ) : Type 0 where
+  pub are_spelled : AreSpelled log
+  pub is : bytes ≡ spelled log
+  pub left : IsLeft z images log
+
+abbrev pub IsSomeStore : Sizes → Images → List ℕ → Type 0
+IsSomeStore z images bytes = (log : List Record) × IsStore z log images bytes
+
+-- a store, whose log a crash might have left before, or is what was read with plain records behind
+abbrev pub IsLeftOrGoesOn : {L : Type 0} → log_device.Ghosts L → L → Sizes → List Record → Images → List ℕ → Type 0
+IsLeftOrGoesOn l log z read images bytes = (now : List Record) × IsStore z now images bytes × (l.may_leave log bytes ⊎ GoesOnPlainly read now)
+
+-- where each pair that a crash might have left before is a store, and this was read of the log, then so says Q
+abbrev pub OfStores : {P L : Type 0} → page_device.Ghosts P → log_device.Ghosts L → P → L → L → (Sizes → List Record → Type 0) → Type 0
+OfStores p l pages log new_log Q =
+    l.honest new_log → (z : Sizes) (read : List Record) → AreSpelled read → l.seen log ≡ spelled read → EachPair p l pages log (IsSomeStore z) → Q z read
+
+-- both devices as a restart leaves them
+abbrev pub pages_left : {P L : Type 0} → Result (OpenStore P L × Report) (Stopped P L) → P
+pages_left (Ok opened) = opened.0.pages
+pages_left (Err stopped) = stopped.pages
+
+abbrev pub log_left : {P L : Type 0} → Result (OpenStore P L × Report) (Stopped P L) → L
+log_left (Ok opened) = opened.0.log
+log_left (Err stopped) = stopped.log
