@@ -4,7 +4,7 @@ use Rattle.std.proofs.lemmas.List.{reverse-append, take-append-drop, drop_at, le
 use Rattle.rq_model.specs.declared.record.Record.{Record}
 use Rattle.rq_page.specs.Sizes.{Sizes}
 use Rattle.rq_level.specs.InStore.{InStore}
-use Rattle.rq_store.specs.Sound.{InOrder, IsNext}
+use Rattle.rq_model.specs.Incarnations.{InOrder, IsNext, incarnation_of}
 use Rattle.rq_store.specs.Opening.{FitsUpTo, Redoes, MayRedo, IsLeft}
 use Rattle.rq_store.specs.Fitting.{oldest, told_by}
 use Rattle.rq_store.proofs.Fitting.{oldest_all}
@@ -12,7 +12,6 @@ use Rattle.rq_store.proofs.Redoing.{oldest_store, redo_one}
 use Rattle.rq_store.proofs.Bounds.{may_redo}
 use Rattle.rq_restart.specs.Noted.{Noted, noted, noted_after}
 use Rattle.rq_restart.specs.Repeating.{Paged, Marks, Belongs, Repeats, IsFirstBad}
-use Rattle.rq_store.specs.Sound.{incarnation_of}
 use Rattle.rq_restart.proofs.Noting.{noted_incarnation}
 
 oldest_first : (xs : List Record) (n : ℕ) → oldest n (reverse xs) ≡ reverse (take n xs)

@@ -18,7 +18,7 @@ use Rattle.rq_page.specs.Sizes.{Sizes}
 use Rattle.rq_level.specs.Legal.{Legal}
 use Rattle.rq_level.specs.Items.{items, layout_of, operation, Reads}
 use Rattle.rq_level.proofs.Strangers.{has_end_same}
-use Rattle.rq_store.specs.Sound.{InOrder, incarnation_of}
+use Rattle.rq_model.specs.Incarnations.{InOrder, incarnation_of}
 use Rattle.rq_store.proofs.Opening.{over_same}
 use Rattle.rq_restart.specs.Noted.{Noted, noted, has_sub, with_sub, without_sub, with_txn, without_txn}
 

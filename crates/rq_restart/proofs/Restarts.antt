@@ -15,7 +15,8 @@ use Rattle.rq_log.specs.Spelled.{spelled, AreSpelled}
 use Rattle.rq_pool.specs.Pooled.{Pooled, IsPool}
 use Rattle.rq_pool.specs.Reading.{IsSuperblock, ArePages, AreSeen, OnlyRead}
 use Rattle.rq_log.specs.Logged.{Logged}
-use Rattle.rq_store.specs.Sound.{IsSound, incarnation_of, InOrder}
+use Rattle.rq_model.specs.Incarnations.{incarnation_of, InOrder}
+use Rattle.rq_store.specs.Sound.{IsSound}
 use Rattle.rq_store.specs.Opening.{FitsUpTo, IsCounted, opened, next_restart, IsLeft}
 use Rattle.rq_store.specs.Fitting.{FitsPage, AllFit, image_in, oldest}
 use Rattle.rq_store.proofs.Fitting.{oldest_all}

@@ -8,7 +8,7 @@ use Rattle.rq_model.specs.declared.record.Record.TheVariants.{PageOp, OpEnd, OpV
 use Rattle.rq_model.specs.Words.{same_txn, has_txn}
 use Rattle.rq_level.specs.Log.{same_op}
 use Rattle.rq_level.specs.Items.{operation}
-use Rattle.rq_store.specs.Sound.{incarnation_one}
+use Rattle.rq_model.specs.Incarnations.{incarnation_one}
 
 -- the incarnation, the operations that wrote a slot and have no end, and the transactions that finished an operation and have no end
 pub record Noted : Type 0 where

@@ -5,7 +5,7 @@ use Rattle.rq_disk.specs.Device.{Images}
 use Rattle.rq_page.specs.Sizes.{Sizes, page_count}
 use Rattle.rq_page.specs.Pages.{lsn_of}
 use Rattle.rq_pool.specs.Pooled.{Pooled}
-use Rattle.rq_store.specs.Sound.{IsNext, incarnation_of}
+use Rattle.rq_model.specs.Incarnations.{IsNext, incarnation_of}
 use Rattle.rq_store.specs.Opening.{MayRedo, Redoes, IsCounted}
 use Rattle.rq_store.specs.Fitting.{Told, told_by, oldest, image_in}
 

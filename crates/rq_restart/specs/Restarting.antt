@@ -6,7 +6,7 @@ use Rattle.rq_model.specs.declared.refusal.Refusal.TheVariants as why
 use Rattle.rq_model.specs.declared.refusal.Damage.TheVariants as damage
 use Rattle.rq_groups.specs.Waiting.{waits}
 use Rattle.rq_page.specs.Sizes.{Sizes, page_count, sender_count}
-use Rattle.rq_store.specs.Sound.{incarnation_of}
+use Rattle.rq_model.specs.Incarnations.{incarnation_of}
 use Rattle.rq_store.specs.Fitting.{image_in}
 use Rattle.rq_model.specs.Content.{unfinished, lost}
 use Rattle.rq_disk.specs.Device.{Images, Only}

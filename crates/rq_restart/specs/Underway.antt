@@ -2,6 +2,7 @@
 use Rattle.std.specs.Prelude.{◌≡◌, ◌⊎◌, ℕ, ◌≤◌, Bool, true, false, List, [], ◌∷◌, ◌++◌, Result, Ok, Err}
 use Rattle.rq_model.specs.declared.record.Record.{Record}
 use Rattle.rq_model.specs.declared.record.Record.TheVariants.{OpEnd, Commit}
+use Rattle.rq_model.specs.Incarnations.{Extends}
 use Rattle.rq_disk.specs.Device.{Images, Leaves}
 use Rattle.rq_disk.specs.declared.device.LogDevice as log_device
 use Rattle.rq_disk.specs.declared.device.PageDevice as page_device
@@ -29,20 +30,6 @@ pub data Path {P L : Type 0} (p : page_device.Ghosts P) (l : log_device.Ghosts L
   Pages : {pages mid new : P} {log now : L} → Path p l Q pages log mid now → PagesLeave p mid new (λ images. (bytes : List ℕ) → l.may_leave now bytes → Q images bytes) → Path p l Q pages log new now
   Log : {pages now : P} {log mid new : L} → Path p l Q pages log now mid → LeavesOnly l mid new (λ bytes. (images : Images) → Leaves (p.may_be now) images → Q images bytes) → Path p l Q pages log now new
 
--- what a restart adds: no Commit and no OpEnd
-abbrev pub is_plain : Record → Bool
-is_plain (Commit t) = false
-is_plain (OpEnd t n level deed) = false
-is_plain _ = true
-
-abbrev pub ArePlain : List Record → Type 0
-ArePlain [] = Unit {0}
-ArePlain (r ∷ log) = (is_plain r ≡ true) × ArePlain log
-
--- the older log, with plain records behind
-abbrev pub GoesOnPlainly : List Record → List Record → Type 0
-GoesOnPlainly older log = (more : List Record) × (more ++ older ≡ log) × ArePlain more
-
 -- these are the pages and the log of a store: a legal log of this spelling, and pages that fit it
 pub record IsStore (z : Sizes) (log : List Record) (images : Images) (bytes : List ℕ) : Type 0 where
   pub are_spelled : AreSpelled log
@@ -54,7 +41,7 @@ IsSomeStore z images bytes = (log : List Record) × IsStore z log images bytes
 
 -- a store, whose log a crash might have left before, or is what was read with plain records behind
 abbrev pub IsLeftOrGoesOn : {L : Type 0} → log_device.Ghosts L → L → Sizes → List Record → Images → List ℕ → Type 0
-IsLeftOrGoesOn l log z read images bytes = (now : List Record) × IsStore z now images bytes × (l.may_leave log bytes ⊎ GoesOnPlainly read now)
+IsLeftOrGoesOn l log z read images bytes = (now : List Record) × IsStore z now images bytes × (l.may_leave log bytes ⊎ Extends read now)
 
 -- where each pair that a crash might have left before is a store, and this was read of the log, then so says Q
 abbrev pub OfStores : {P L : Type 0} → page_device.Ghosts P → log_device.Ghosts L → P → L → L → (Sizes → List Record → Type 0) → Type 0

@@ -1,6 +1,6 @@
 //! What the records of a log say of incarnations, operations and transactions.
 ghost use Rattle.std.specs.Prelude.{◌≡◌, ◌↔◌, ◌≤◌, IsTrue, IfOk, IfErr, OnOk, OnErr, [], Some};
-ghost use Rattle.rq_store.specs.Sound.{IsNext, IsOf};
+ghost use Rattle.rq_model.specs.Incarnations.{IsNext, IsOf};
 ghost use Rattle.rq_restart.specs.Noted.{noted, noted_after, with_sub, without_sub, with_txn, without_txn};
 
 use rq_model::record::Record;

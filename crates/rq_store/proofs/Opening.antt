@@ -38,7 +38,8 @@ use Rattle.rq_level.proofs.Rules.{ended}
 use Rattle.rq_level.proofs.Settled.{settled_counts, rest_shown}
 use Rattle.rq_groups.specs.Waiting.{waits}
 use Rattle.rq_store.specs.State.{ledger_of}
-use Rattle.rq_store.specs.Sound.{IsSound, IsWhole, IsSettled, InOrder, IsNext, incarnation_of, incarnation_one}
+use Rattle.rq_model.specs.Incarnations.{InOrder, IsNext, incarnation_of, incarnation_one}
+use Rattle.rq_store.specs.Sound.{IsSound, IsWhole, IsSettled}
 use Rattle.rq_store.specs.Fitting.{left_by, image_in, FitsLog}
 use Rattle.rq_store.specs.Opening.{next_restart, opened, messages_told, waiting_in}
 use Rattle.rq_store.proofs.Fitting.{fits_more}

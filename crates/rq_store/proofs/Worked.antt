@@ -21,7 +21,8 @@ use Rattle.rq_level.specs.Numbers.{AreNumbered}
 use Rattle.rq_level.specs.Plans.{directory_put_back, directory_tail_unlinked}
 use Rattle.rq_level.specs.Row.{sizes, small, t2, cell, sends, takes, sent_a, taken_a, sent_b, committed_one, done_two, stopped, taken_back, restarted}
 use Rattle.rq_level.proofs.Worked.{worked}
-use Rattle.rq_store.specs.Sound.{IsWhole, InOrder}
+use Rattle.rq_model.specs.Incarnations.{InOrder}
+use Rattle.rq_store.specs.Sound.{IsWhole}
 use Rattle.rq_store.specs.Worked.{WorkedStore, spelled_log}
 use Rattle.rq_store.proofs.Cutting.{whole_dropped}
 use Rattle.rq_store.proofs.Spelling.{MayStandAt, AreSpelt, items_back, in_store, befores}

@@ -10,7 +10,8 @@ use Rattle.rq_page.specs.Slots.Slot.{Free, Used, Sender}
 use Rattle.rq_page.specs.Formatted.{count_in}
 use Rattle.rq_level.specs.Stored.{slots_in, count_used}
 use Rattle.rq_store.specs.State.{State}
-use Rattle.rq_store.specs.Sound.{IsWhole, incarnation_of}
+use Rattle.rq_model.specs.Incarnations.{incarnation_of}
+use Rattle.rq_store.specs.Sound.{IsWhole}
 use Rattle.rq_store.specs.Fitting.{Told, told_by, oldest, HoldsPage, FitsPage, FitsLog}
 
 -- the pages and the log of a store that was left as a crash may leave one

@@ -7,6 +7,7 @@ use Rattle.rq_model.specs.declared.record.Deed.{Deed}
 use Rattle.rq_model.specs.declared.record.Deed.TheVariants.{Append, UnlinkHead, Close}
 use Rattle.rq_model.specs.declared.record.Record.{Record}
 use Rattle.rq_model.specs.declared.record.Record.TheVariants.{PageOp, PageUndo, OpEnd, OpVoid, CompEnd, Commit, Restart, AbortEnd}
+use Rattle.rq_model.specs.Incarnations.{incarnation_of, InOrder}
 use Rattle.rq_model.specs.Words.{In, same_txn, is_some, sent_for, taken_from}
 use Rattle.rq_model.specs.Deeds.{spelled_deed, deed_in}
 use Rattle.rq_model.specs.Ledger.{rest_in}
@@ -32,39 +33,6 @@ use Rattle.rq_groups.specs.Ends.{HeldEnds, has_held}
 use Rattle.rq_groups.specs.Waiting.{waits}
 use Rattle.rq_store.specs.State.{State, ledger_of, size_of, op_done}
 use Rattle.rq_store.specs.Fitting.{left_by, image_in, FitsLog}
-
--- the incarnation that the log's records are of, 0 where it has none
-abbrev pub incarnation_one : Record → ℕ → ℕ
-incarnation_one (Restart i) n = i
-incarnation_one _ n = n
-
-abbrev pub incarnation_of : List Record → ℕ
-incarnation_of [] = 0
-incarnation_of (r ∷ log) = incarnation_one r (incarnation_of log)
-
--- whose record it is
-abbrev pub txn_of : Record → Option Txn
-txn_of (PageOp t n page slot before after) = Some t
-txn_of (PageUndo t n undone page slot after) = Some t
-txn_of (OpEnd t n level deed) = Some t
-txn_of (OpVoid t n) = Some t
-txn_of (CompEnd t n undone) = Some t
-txn_of (Commit t) = Some t
-txn_of (Restart i) = None
-txn_of (AbortEnd t) = Some t
-
--- incarnations are counted from 1 on, and each record is of the running one
-abbrev pub IsOf : ℕ → Option Txn → Type 0
-IsOf i None = Unit {0}
-IsOf i (Some t) = (1 ≤ i) × (t.incarnation ≡ i)
-
-abbrev pub IsNext : ℕ → Record → Type 0
-IsNext i (Restart j) = j ≡ i + 1
-IsNext i r = IsOf i (txn_of r)
-
-abbrev pub InOrder : List Record → Type 0
-InOrder [] = Unit {0}
-InOrder (r ∷ log) = IsNext (incarnation_of log) r × InOrder log
 
 -- each before-image of the log is a slot of the store
 abbrev pub IsBefore : Sizes → Record → Type 0
