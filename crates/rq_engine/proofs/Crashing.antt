@@ -33,7 +33,9 @@ use Rattle.rq_engine.specs.declared.event.Event.TheVariants as event
 use Rattle.rq_engine.specs.declared.event.Reply.{Reply}
 use Rattle.rq_engine.specs.Opened.{OpenStore, WritesWhen}
 use Rattle.rq_engine.specs.Says.{PagesSay, WritesSay, written_by}
-use Rattle.rq_engine.specs.Crash.{AreFit, IsCut, LeavesCut, LeftCut, commits_left}
+use Rattle.rq_engine.specs.Crash.{AreFit, IsCut, LeavesCut, RunsThroughCuts, commits_left}
+use Rattle.rq_engine.specs.Devices.Path.{Start, Pages, Log}
+use Rattle.rq_log.proofs.Moments.{weaker}
 
 spelled_dropped : (n : ℕ) (log : List Record) → AreSpelled log → AreSpelled (drop n log)
 spelled_dropped zero log h = h
@@ -63,10 +65,6 @@ module _ {P L : Type 0} (p : page_device.Ghosts P) (l : log_device.Ghosts L) (on
   pub leaves_cut : (s : OpenStore P L) → (l.honest s.log → (c : List ℕ) → l.may_leave s.log c → IsBeginning s.state.records s.state.forced c) → AreSpelled s.state.records → l.honest s.log → IsSound s.state → AreFit p s → LeavesCut p l s
   leaves_cut s log told h k fit images bytes there left = cut s.state k told images bytes (fits_log (p.may_be s.pages) s.state.sizes (oldest s.state.forced s.state.records) images fit there) (log h bytes left)
 
-  -- where no call was made since
-  pub left_now : (log_only_now : (d : L) (c : List ℕ) → l.left_since d (l.moment d) c → l.may_leave d c) (s : OpenStore P L) → LeavesCut p l s → LeftCut p l s s
-  left_now log_only_now s here images bytes pages log = here images bytes (only_now s.pages images pages) (log_only_now s.log bytes log)
-
   module _ (old new : OpenStore P L) (k : IsSound old.state) (fit : AreFit p old) where
     abbrev z : Sizes
     z = old.state.sizes
@@ -75,12 +73,18 @@ module _ {P L : Type 0} (p : page_device.Ghosts P) (l : log_device.Ghosts L) (on
     kept = oldest old.state.forced old.state.records
 
     -- what is so of the pages afterwards, and of them at each moment since
-    abbrev Goes : Type 0
-    Goes = AllFit (p.may_be new.pages) z kept × ((images : Images) → p.left_since new.pages (p.moment old.pages) images → FitsLog z images kept)
+    record Goes : Type 0 where
+      pub now : AllFit (p.may_be new.pages) z kept
+      pub each : (images : Images) → p.left_since new.pages (p.moment old.pages) images → FitsLog z images kept
+      pub later : p.moment old.pages ≤ p.moment new.pages
 
     stays : new.pages ≡ old.pages → Goes
-    stays e = subst (λ (d : P). AllFit (p.may_be d) z kept × ((images : Images) → p.left_since d (p.moment old.pages) images → FitsLog z images kept)) (sym e)
-        (fit, λ images left. fits_log (p.may_be old.pages) z kept images fit (only_now old.pages images left))
+    stays e = record {
+      now = subst (λ (d : P). AllFit (p.may_be d) z kept) (sym e) fit;
+      each = subst (λ (d : P). (images : Images) → p.left_since d (p.moment old.pages) images → FitsLog z images kept) (sym e)
+          (λ images left. fits_log (p.may_be old.pages) z kept images fit (only_now old.pages images left));
+      later = (let same = ap p.moment e in omega (arith, same));
+    }
 
     -- the page that is handed to the device
     module _ (page : ℕ) (within : page < page_count z) (forced : lsn_of (image_at old.state.images page) ≤ old.state.forced) (w : MayHaveWritten p page (image_at old.state.images page) old.pages new.pages) where
@@ -95,13 +99,14 @@ module _ {P L : Type 0} (p : page_device.Ghosts P) (l : log_device.Ghosts L) (on
       }
 
       written : Goes
-      written = (
-        fits_now,
-        λ images left. ⊎_elim
+      written = record {
+        now = fits_now;
+        each = λ images left. ⊎_elim
             (λ was. fits_log (p.may_be old.pages) z kept images fit (only_now old.pages images was))
             (λ now. fits_log (p.may_be new.pages) z kept images fits_now now)
-            (w.time.nothing_else (p.moment old.pages) images (omega arith) left),
-      )
+            (w.time.nothing_else (p.moment old.pages) images (omega arith) left);
+        later = w.time.later;
+      }
 
     goes_out : (page : ℕ) (r : Result Written Refusal) → WritesWhen old page r → DeviceAfter p page (image_at old.state.images page) old.pages new.pages r → Goes
     goes_out page (Ok out.Done) when after = written page when.1.0.of_store when.1.1 after.1
@@ -118,8 +123,17 @@ module _ {P L : Type 0} (p : page_device.Ghosts P) (l : log_device.Ghosts L) (on
         subst (λ (y : Sizes). AllFit (p.may_be new.pages) y (oldest new.state.forced new.state.records)) (sym sizes)
         (all_fit_longer (p.may_be new.pages) z kept (oldest new.state.forced new.state.records)
         (oldest_continues old.state.forced new.state.forced old.state.records new.state.records steps.goes_on k.forced steps.stays_forced steps.sound.forced)
-        (goes e r when say).0)
+        (goes e r when say).now)
 
-    pub left_cut : (e : Event) (r : Reply) → AreSpelled old.state.records → WritesSay old e r → PagesSay p old new e r
-        → LeavesOnly l old.log new.log (IsBeginning old.state.records old.state.forced) → LeftCut p l old new
-    left_cut e r told when say run images bytes pages log = cut old.state k told images bytes ((goes e r when say).1 images pages) (run.each bytes log)
+    -- at each moment a crash leaves a cut of the older records, whichever device the call changes
+    pub runs_through_cuts : (e : Event) (r : Reply) → AreSpelled old.state.records → WritesSay old e r → PagesSay p old new e r
+        → ((c : List ℕ) → l.may_leave old.log c → IsBeginning old.state.records old.state.forced c)
+        → LeavesOnly l old.log new.log (IsBeginning old.state.records old.state.forced) → RunsThroughCuts p l old new
+    runs_through_cuts e r told when say log run =
+        let g = goes e r when say in
+        let cut_of : (images : Images) (bytes : List ℕ) → FitsLog z images kept → IsBeginning old.state.records old.state.forced bytes → IsCut old.state images bytes =
+            (λ images bytes fits b. cut old.state k told images bytes fits b) in
+        Log (Pages (Start (λ images bytes a b. cut_of images bytes (fits_log (p.may_be old.pages) z kept images fit a) (log bytes b)))
+            (record { later = g.later; each = λ images since bytes b. cut_of images bytes (g.each images since) (log bytes b) }))
+            (weaker l old.log new.log (IsBeginning old.state.records old.state.forced) (λ bytes. (images : Images) → Leaves (p.may_be new.pages) images → IsCut old.state images bytes) run
+            (λ bytes b images a. cut_of images bytes (fits_log (p.may_be new.pages) z kept images g.now a) b))

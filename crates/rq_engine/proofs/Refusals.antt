@@ -9,8 +9,8 @@ use Rattle.rq_model.specs.History.{Call}
 use Rattle.rq_model.specs.History.Call.{Begin, Commit, Start_send, Step, Finish, Acknowledge, Force, Hand_over, Show, Start_receive, Start_receive_from, Start_close, Start_abort, Undo_next, End_abort, Write_page, Last_tag}
 use Rattle.rq_model.specs.History.Entry.{Refused}
 use Rattle.rq_model.specs.Ledger.{Ledger, runs, after, found}
-use Rattle.rq_model.specs.Legal.{Size, tests, first_of, LegalRefusal, NoneHolds, is_aborting, is_busy, log_full}
-use Rattle.rq_model.specs.Reference.{without_pages, ready_tests, IsUnready}
+use Rattle.rq_model.specs.Legal.{Size, tests, first_of, LegalRefusal, NoneHolds, is_aborting, is_busy, log_full, ready_tests}
+use Rattle.rq_model.specs.Reference.{without_pages, IsUnready}
 use Rattle.std.specs.Option.{is_some as option_is_some}
 use Rattle.rq_txn.specs.declared.Operation.{Operation}
 use Rattle.rq_txn.specs.Rows.{Row, Under, found_row, under_way_of}

@@ -19,13 +19,17 @@ use Rattle.rq_disk.specs.declared.device.LogDevice as log_device
 use Rattle.rq_disk.specs.declared.device.PageDevice as page_device
 use Rattle.rq_engine.specs.Opened.{OpenStore, AreHonest}
 
+-- No call of an open store reads a device: its pages stand in memory.
+abbrev pub MeetsRead : Type 0
+MeetsRead = ⊥
+
 -- A refusal comes only with its cause: memory's where the call takes memory, the disk's and a page's that is not forced where it writes, Latched where an
 -- operation is under way, and damage never.
 abbrev pub HasCause : (memory disk : Bool) → State → Refusal → Type 0
 HasCause memory disk s why.NoMemory = memory ≡ true
 HasCause memory disk s why.DiskWrite = disk ≡ true
 HasCause memory disk s why.Latched = any_under s.rows ≡ true
-HasCause memory disk s why.DiskRead = ⊥
+HasCause memory disk s why.DiskRead = MeetsRead
 HasCause memory disk s (why.Damaged d) = ⊥
 HasCause memory disk s why.PoolFull = ⊥
 HasCause memory disk s why.NotForced = disk ≡ true

@@ -18,7 +18,7 @@ use Rattle.rq_engine.specs.declared.event.Progress.TheVariants as progress
 use Rattle.rq_engine.specs.declared.event.Reply.{Reply}
 use Rattle.rq_engine.specs.declared.event.Reply.TheVariants as reply
 use Rattle.rq_engine.specs.Opened.{OpenStore, AreHonest, NotWritten, WritesWhen}
-use Rattle.rq_engine.specs.Crash.{AreFit, LeftCut}
+use Rattle.rq_engine.specs.Crash.{AreFit, RunsThroughCuts}
 use Rattle.rq_engine.specs.Says.{IsCaused, LogSays, PagesSay, WritesSay, call_of, gave, writes_out, written_by}
 
 -- what a device that fails in a write leaves of the store: it is stopped; no other call meets such a failure
@@ -67,4 +67,4 @@ pub record Applied {P L : Type 0} (p : page_device.Ghosts P) (l : log_device.Gho
   -- of crashes, at every moment since the call began
   pub any_moment : l.honest new.log → LeavesOnly l old.log new.log (IsBeginning old.state.records old.state.forced)
   pub fit : AreHonest p l new → IsSound old.state → AreFit p old → AreFit p new
-  pub crash : AreHonest p l new → IsSound old.state → AreFit p old → LeftCut p l old new
+  pub crash : AreHonest p l new → IsSound old.state → AreFit p old → RunsThroughCuts p l old new

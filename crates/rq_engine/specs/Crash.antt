@@ -10,6 +10,7 @@ use Rattle.rq_model.specs.Ledger.{group_in, kept_in}
 use Rattle.rq_store.specs.State.{State, ledger_of}
 use Rattle.rq_store.specs.Fitting.{oldest, AllFit}
 use Rattle.rq_store.specs.Opening.{IsLeft}
+use Rattle.rq_engine.specs.Devices.{EachPair, Path}
 use Rattle.rq_engine.specs.Opened.{OpenStore}
 
 -- whatever images a crash now may leave of the pages, they fit the forced records
@@ -33,9 +34,8 @@ pub record IsCut (s : State) (images : Images) (bytes : List ℕ) : Type 0 where
 
 -- whatever a crash now leaves of both devices
 abbrev pub LeavesCut : {P L : Type 0} → page_device.Ghosts P → log_device.Ghosts L → OpenStore P L → Type 0
-LeavesCut p l s = (images : Images) (bytes : List ℕ) → Leaves (p.may_be s.pages) images → l.may_leave s.log bytes → IsCut s.state images bytes
+LeavesCut p l s = EachPair p l s.pages s.log (IsCut s.state)
 
--- whatever a crash at any moment since the older store left of them
-abbrev pub LeftCut : {P L : Type 0} → page_device.Ghosts P → log_device.Ghosts L → OpenStore P L → OpenStore P L → Type 0
-LeftCut p l old new =
-    (images : Images) (bytes : List ℕ) → p.left_since new.pages (p.moment old.pages) images → l.left_since new.log (l.moment old.log) bytes → IsCut old.state images bytes
+-- whatever a crash at any moment from the older store to the newer leaves of them: of the older one's records
+abbrev pub RunsThroughCuts : {P L : Type 0} → page_device.Ghosts P → log_device.Ghosts L → OpenStore P L → OpenStore P L → Type 0
+RunsThroughCuts p l old new = Path p l (IsCut old.state) old.pages old.log new.pages new.log

@@ -7,3 +7,4 @@ pub mod Answers
 pub mod Sends
 pub mod Crash
 pub mod Applied
+pub mod Devices

@@ -12,7 +12,7 @@ ghost use Rattle.rq_txn.specs.Rows.{found_row, fresh_row, without_row};
 ghost use Rattle.rq_page.specs.Sizes.{sender_count};
 ghost use Rattle.rq_groups.specs.Waiting.{waits};
 ghost use Rattle.rq_store.specs.Sound.{IsSound};
-ghost use Rattle.rq_engine.specs.Opened.{NotWritten};
+ghost use Rattle.rq_engine.specs.Opened.{LeavesDevices, NotWritten};
 ghost use Rattle.rq_engine.specs.Crash.{AreFit, LeavesCut};
 ghost use Rattle.rq_engine.specs.Answers.{Answers, IsReady};
 ghost use Rattle.rq_engine.specs.Says.{number_of, receipt_of};
@@ -172,8 +172,8 @@ impl<P: PageDevice + Drop, L: LogDevice + Drop> Engine<P, L> {
 impl<P: PageDevice, L: LogDevice> Engine<P, L> {
     ghost use Rattle.rq_store.specs.State.{ledger_of, open_ones_of};
     ghost use Rattle.rq_model.specs.Legal.{log_full};
-    ghost use Rattle.rq_model.specs.Reference.{ready_tests, IsUnready};
-    ghost use Rattle.rq_model.specs.Legal.{NoneHolds};
+    ghost use Rattle.rq_model.specs.Reference.{IsUnready};
+    ghost use Rattle.rq_model.specs.Legal.{NoneHolds, ready_tests};
 
     /// What a crash at this moment leaves of the log, and of both devices, and that each record has a spelling, for proofs: it runs
     /// no code.
@@ -192,7 +192,7 @@ impl<P: PageDevice, L: LogDevice> Engine<P, L> {
     pub fn begin(&mut self) -> Result<Txn, Refusal>
         ensures answered { Answers P.PageDevice L.LogDevice true false self.old Begin (λ t. Gave_txn t) result self.new }
         ensures sizes { self.new.state.sizes ≡ self.old.state.sizes }
-        ensures devices { (self.new.pages ≡ self.old.pages) × (self.new.log ≡ self.old.log) × (self.new.changed ≡ self.old.changed) }
+        ensures devices { LeavesDevices self.old self.new }
         ensures refused { OnErr result (self.new ≡ self.old) }
         ensures failed { (result ≡ Err Refusal.Failed) ↔ (self.old.state.failed ≡ true) }
     {
@@ -220,7 +220,7 @@ impl<P: PageDevice, L: LogDevice> Engine<P, L> {
         ensures number { IfOk result (λ number. number.txn ≡ txn) }
         ensures failed { (result ≡ Err Refusal.Failed) ↔ (self.old.state.failed ≡ true) }
         ensures records { OnOk result (self.new.state.records ≡ Commit_record txn ∷ self.old.state.records) }
-        ensures devices { (self.new.pages ≡ self.old.pages) × (self.new.log ≡ self.old.log) × (self.new.changed ≡ self.old.changed) }
+        ensures devices { LeavesDevices self.old self.new }
         ensures refused { OnErr result (self.new ≡ self.old) }
     {
         self.check_open(txn)?;

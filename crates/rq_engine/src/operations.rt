@@ -4,6 +4,7 @@ ghost use Rattle.std.specs.List.{slice_get};
 ghost use Rattle.rq_model.specs.History.Call.{Step, Finish};
 ghost use Rattle.rq_txn.specs.Rows.{change_row, row_finished, under_of};
 ghost use Rattle.rq_store.specs.Steps.{op_end, gave_done};
+ghost use Rattle.rq_engine.specs.Opened.{LeavesDevices};
 ghost use Rattle.rq_engine.specs.Moves.{without_taken};
 ghost use Rattle.rq_engine.specs.Applied.{IsStamped, StepChanges};
 ghost use Rattle.rq_engine.specs.Answers.{Answers, IsGoing, NotGoing, Idle, CannotFinish, IsMade};
@@ -51,7 +52,7 @@ impl<P: PageDevice, L: LogDevice> Engine<P, L> {
     pub fn finish(&mut self, sub: Sub) -> Result<Outcome, Refusal>
         ensures answered { Answers P.PageDevice L.LogDevice false false self.old (Finish sub.txn sub.number) outcome_of result self.new }
         ensures sizes { self.new.state.sizes ≡ self.old.state.sizes }
-        ensures devices { (self.new.pages ≡ self.old.pages) × (self.new.log ≡ self.old.log) × (self.new.changed ≡ self.old.changed) }
+        ensures devices { LeavesDevices self.old self.new }
         ensures refused { OnErr result (self.new ≡ self.old) }
         ensures failed { (result ≡ Err Refusal.Failed) ↔ (self.old.state.failed ≡ true) }
     {
@@ -134,7 +135,7 @@ impl<P: PageDevice, L: LogDevice> Engine<P, L> {
         requires running { self.old.state.failed ≡ false }
         requires ready { IsGoing self.old.state sub (λ r u. (length u.writes ≤ u.made) × (u.deed ≡ deed.now)) }
         ensures ended { self.new.state ≡ record self.old.state { rows = change_row sub.txn (row_finished (record { lsn = length self.old.state.records + 1; deed = deed.now })) self.old.state.rows; records = op_end sub.txn sub.number deed.now ∷ self.old.state.records; waiting = without_taken deed.now self.old.state.waiting } }
-        ensures devices { (self.new.pages ≡ self.old.pages) × (self.new.log ≡ self.old.log) × (self.new.changed ≡ self.old.changed) }
+        ensures devices { LeavesDevices self.old self.new }
     {
         let record = Record::OpEnd {
             txn: sub.txn,

@@ -2,8 +2,7 @@
 ghost use Rattle.std.specs.Prelude.{◌≡◌, ◌≢◌, ◌↔◌, Err, ◌⊎◌, ◌+◌, ◌<◌, ◌≤◌, IfOk, IfErr, IfSome, IfNone, None, OnOk, OnErr, ℕ, Some, true, false};
 ghost use Rattle.rq_model.specs.History.{Call};
 ghost use Rattle.rq_model.specs.History.Call.{Start_receive, Start_receive_from};
-ghost use Rattle.rq_model.specs.Legal.{NoneHolds};
-ghost use Rattle.rq_model.specs.Reference.{ready_tests};
+ghost use Rattle.rq_model.specs.Legal.{NoneHolds, ready_tests};
 ghost use Rattle.rq_page.specs.Sizes.{IsLink, sender_count};
 ghost use Rattle.rq_page.specs.Slots.{Used};
 ghost use Rattle.rq_level.specs.Log.{cell_in};
@@ -15,6 +14,7 @@ ghost use Rattle.rq_groups.specs.Waiting.{waits};
 ghost use Rattle.rq_store.specs.State.{ledger_of};
 ghost use Rattle.rq_store.specs.Sound.{IsSound};
 ghost use Rattle.rq_store.specs.Plans.{IsTakePlan};
+ghost use Rattle.rq_engine.specs.Opened.{LeavesDevices};
 ghost use Rattle.rq_engine.specs.Answers.{Answers, IsReady};
 ghost use Rattle.rq_engine.specs.Receives.{IsTakeCall, started_of};
 ghost use Rattle.rq_engine.specs.Sends.{under_plan, FitsPlan};
@@ -41,7 +41,7 @@ impl<P: PageDevice, L: LogDevice> Engine<P, L> {
         ensures sub { IfOk result (λ begun. IfSome begun (λ sub. sub.txn ≡ txn)) }
         ensures none { IfOk result (λ begun. IfNone begun (self.new ≡ self.old)) }
         ensures latched { IfOk result (λ begun. IfSome begun (λ _. any_under self.old.state.rows ≡ false)) }
-        ensures devices { (self.new.pages ≡ self.old.pages) × (self.new.log ≡ self.old.log) × (self.new.changed ≡ self.old.changed) }
+        ensures devices { LeavesDevices self.old self.new }
         ensures refused { OnErr result (self.new ≡ self.old) }
         ensures failed { (result ≡ Err Refusal.Failed) ↔ (self.old.state.failed ≡ true) }
     {
@@ -66,7 +66,7 @@ impl<P: PageDevice, L: LogDevice> Engine<P, L> {
         ensures sub { IfOk result (λ begun. IfSome begun (λ sub. sub.txn ≡ txn)) }
         ensures none { IfOk result (λ begun. IfNone begun (self.new ≡ self.old)) }
         ensures latched { IfOk result (λ begun. IfSome begun (λ _. any_under self.old.state.rows ≡ false)) }
-        ensures devices { (self.new.pages ≡ self.old.pages) × (self.new.log ≡ self.old.log) × (self.new.changed ≡ self.old.changed) }
+        ensures devices { LeavesDevices self.old self.new }
         ensures refused { OnErr result (self.new ≡ self.old) }
         ensures failed { (result ≡ Err Refusal.Failed) ↔ (self.old.state.failed ≡ true) }
     {
@@ -97,7 +97,7 @@ impl<P: PageDevice, L: LogDevice> Engine<P, L> {
         ensures sizes { self.new.state.sizes ≡ self.old.state.sizes }
         ensures sub { IfOk result (λ sub. sub.txn ≡ txn) }
         ensures latched { OnOk result (any_under self.old.state.rows ≡ false) }
-        ensures devices { (self.new.pages ≡ self.old.pages) × (self.new.log ≡ self.old.log) × (self.new.changed ≡ self.old.changed) }
+        ensures devices { LeavesDevices self.old self.new }
         ensures refused { OnErr result (self.new ≡ self.old) }
         ensures plain { IfErr result (λ r. r ≢ Refusal.Failed) }
     {

@@ -2,8 +2,8 @@
 ghost use Rattle.std.specs.Prelude.{◌≡◌, ◌≢◌, ◌↔◌, Err, ◌+◌, ◌<◌, ◌≤◌, ◌^◌, IfOk, IfErr, IfSome, IfNone, None, OnOk, OnErr, ℕ, Some, true, false, length, ◌∷◌};
 ghost use Rattle.rq_model.specs.History.Call.{Start_send};
 ghost use Rattle.rq_model.specs.Replay.Reply.{Gave_sub};
-ghost use Rattle.rq_model.specs.Legal.{NoneHolds, Passes, log_full};
-ghost use Rattle.rq_model.specs.Reference.{ready_tests, message_of};
+ghost use Rattle.rq_model.specs.Legal.{NoneHolds, Passes, log_full, ready_tests};
+ghost use Rattle.rq_model.specs.Reference.{message_of};
 ghost use Rattle.rq_page.specs.Sizes.{sender_count, cell_count};
 ghost use Rattle.rq_level.specs.Stored.{slots_in};
 ghost use Rattle.rq_txn.specs.Rows.{any_under};
@@ -11,6 +11,7 @@ ghost use Rattle.rq_groups.specs.Ends.{is_free_for};
 ghost use Rattle.rq_store.specs.State.{ledger_of, size_of};
 ghost use Rattle.rq_store.specs.Sound.{IsSound};
 ghost use Rattle.rq_store.specs.Plans.{IsSendPlan};
+ghost use Rattle.rq_engine.specs.Opened.{LeavesDevices};
 ghost use Rattle.rq_engine.specs.Answers.{Answers, IsReady, Refuses};
 ghost use Rattle.rq_engine.specs.Sends.{under_plan, FitsPlan};
 
@@ -40,7 +41,7 @@ impl<P: PageDevice, L: LogDevice> Engine<P, L> {
         ensures sizes { self.new.state.sizes ≡ self.old.state.sizes }
         ensures sub { IfOk result (λ sub. sub.txn ≡ txn) }
         ensures latched { OnOk result (any_under self.old.state.rows ≡ false) }
-        ensures devices { (self.new.pages ≡ self.old.pages) × (self.new.log ≡ self.old.log) × (self.new.changed ≡ self.old.changed) }
+        ensures devices { LeavesDevices self.old self.new }
         ensures refused { OnErr result (self.new ≡ self.old) }
         ensures failed { (result ≡ Err Refusal.Failed) ↔ (self.old.state.failed ≡ true) }
     {

@@ -11,6 +11,7 @@ ghost use Rattle.rq_groups.specs.Sides.{with_end};
 ghost use Rattle.rq_chain.specs.Writes.{IsNeighbour, cell_beside};
 ghost use Rattle.rq_store.specs.State.{ledger_of};
 ghost use Rattle.rq_store.specs.Plans.{Stands_at};
+ghost use Rattle.rq_engine.specs.Opened.{LeavesDevices};
 ghost use Rattle.rq_engine.specs.Answers.{IsReady};
 ghost use Rattle.rq_engine.specs.Sends.{under_plan, FitsPlan};
 
@@ -69,7 +70,7 @@ impl<P: PageDevice, L: LogDevice> Engine<P, L> {
         requires fits { FitsPlan self.old.state.sizes plan room }
         requires log { log_full (ledger_of self.old.state) 4 ≡ false }
         ensures started { OnOk result (self.new.state ≡ record self.old.state { rows = change_row txn (row_started (under_plan number plan)) self.old.state.rows; ends = with_end txn end self.old.state.ends }) }
-        ensures devices { (self.new.pages ≡ self.old.pages) × (self.new.log ≡ self.old.log) × (self.new.changed ≡ self.old.changed) }
+        ensures devices { LeavesDevices self.old self.new }
         ensures refusal { IfErr result (λ r. r ≡ Refusal.NoMemory) }
         ensures refused { OnErr result (self.new ≡ self.old) }
     {

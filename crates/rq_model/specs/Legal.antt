@@ -120,42 +120,49 @@ abbrev pub first_of : List (Bool × Refusal) → Option Refusal
 first_of [] = None
 first_of (c ∷ cs) = cond c.0 (Some c.1) (first_of cs)
 
+-- a transaction that aborts where the call needs one that does not, or the other way round
+abbrev pub turned : Bool → Option Open → Bool
+turned false o = is_aborting o
+turned true o = not (is_aborting o)
+
+-- the tests of a call on a transaction that needs no operation under way
+abbrev pub ready_tests : Ledger → Txn → Bool → List (Bool × Refusal)
+ready_tests l t aborting =
+    let o = found t l.open_ones in
+    (not (runs l.phase), Failed) ∷ (not (is_some o), UnknownTransaction) ∷ (turned aborting o, NotOpen) ∷ (is_busy o, Unfinished) ∷ []
+
 -- the tests of each call, in order
 abbrev pub tests : Size → Ledger → Call → List (Bool × Refusal)
 tests z l Begin = (not (runs l.phase), Failed) ∷ (not (nat_lt (length l.open_ones) 4096) || nat_eq l.begins (2 ^ 64 - 1), TooManyTransactions) ∷ []
 tests z l (Start_send t m) =
     let o = found t l.open_ones in
-    (not (runs l.phase), Failed) ∷ (not (is_some o), UnknownTransaction) ∷ (is_aborting o, NotOpen) ∷ (is_busy o, Unfinished)
-    ∷ (not (nat_lt m.sender z.senders), UnknownSender) ∷ (nat_lt 216 (length m.body), TooLong)
+    ready_tests l t false
+    ++ ((not (nat_lt m.sender z.senders), UnknownSender) ∷ (nat_lt 216 (length m.body), TooLong)
     ∷ (not (free_to_send t m.sender l.open_ones), SenderBusy) ∷ (ended_in l.committed m.sender || has_closed m.sender o, Closed)
-    ∷ (nat_eq (cells_in_use z l) z.cells, Full) ∷ (log_full l 4, LogFull) ∷ []
+    ∷ (nat_eq (cells_in_use z l) z.cells, Full) ∷ (log_full l 4, LogFull) ∷ [])
 tests z l (Start_receive t) =
     let o = found t l.open_ones in
-    (not (runs l.phase), Failed) ∷ (not (is_some o), UnknownTransaction) ∷ (is_aborting o, NotOpen) ∷ (is_busy o, Unfinished)
-    ∷ (any_gives (below z.senders) l t o && log_full l 4, LogFull) ∷ []
+    ready_tests l t false
+    ++ ((any_gives (below z.senders) l t o && log_full l 4, LogFull) ∷ [])
 tests z l (Start_receive_from t s) =
     let o = found t l.open_ones in
-    (not (runs l.phase), Failed) ∷ (not (is_some o), UnknownTransaction) ∷ (is_aborting o, NotOpen) ∷ (is_busy o, Unfinished)
-    ∷ (not (nat_lt s z.senders), UnknownSender) ∷ (not (free_to_receive t s l.open_ones), ReceiverBusy)
-    ∷ (gives l t o s && log_full l 4, LogFull) ∷ []
+    ready_tests l t false
+    ++ ((not (nat_lt s z.senders), UnknownSender) ∷ (not (free_to_receive t s l.open_ones), ReceiverBusy)
+    ∷ (gives l t o s && log_full l 4, LogFull) ∷ [])
 tests z l (Start_close t s) =
     let o = found t l.open_ones in
-    (not (runs l.phase), Failed) ∷ (not (is_some o), UnknownTransaction) ∷ (is_aborting o, NotOpen) ∷ (is_busy o, Unfinished)
-    ∷ (not (nat_lt s z.senders), UnknownSender) ∷ (not (free_to_send t s l.open_ones), SenderBusy)
-    ∷ (ended_in l.committed s || has_closed s o, Closed) ∷ (log_full l 2, LogFull) ∷ []
+    ready_tests l t false
+    ++ ((not (nat_lt s z.senders), UnknownSender) ∷ (not (free_to_send t s l.open_ones), SenderBusy)
+    ∷ (ended_in l.committed s || has_closed s o, Closed) ∷ (log_full l 2, LogFull) ∷ [])
 tests z l (Step t n) = (not (runs l.phase), Failed) ∷ (not (has_under n (found t l.open_ones)), UnknownOperation) ∷ []
 tests z l (Finish t n) =
     (not (runs l.phase), Failed) ∷ (not (has_under n (found t l.open_ones)), UnknownOperation) ∷ (steps_left (found t l.open_ones), Unfinished) ∷ []
-tests z l (Commit t) =
-    let o = found t l.open_ones in
-    (not (runs l.phase), Failed) ∷ (not (is_some o), UnknownTransaction) ∷ (is_aborting o, NotOpen) ∷ (is_busy o, Unfinished) ∷ (log_full l 1, LogFull) ∷ []
-tests z l (Start_abort t) =
-    let o = found t l.open_ones in
-    (not (runs l.phase), Failed) ∷ (not (is_some o), UnknownTransaction) ∷ (is_aborting o, NotOpen) ∷ (is_busy o, Unfinished) ∷ []
+tests z l (Commit t) = ready_tests l t false ++ ((log_full l 1, LogFull) ∷ [])
+tests z l (Start_abort t) = ready_tests l t false
 tests z l (Undo_next t) =
     let o = found t l.open_ones in
-    (not (runs l.phase), Failed) ∷ (not (is_some o), UnknownTransaction) ∷ (not (is_aborting o), NotOpen) ∷ (is_busy o, Unfinished)
-    ∷ (is_some (newest o) && log_full l (undo_cost (newest o)), LogFull) ∷ []
+    ready_tests l t true
+    ++ ((is_some (newest o) && log_full l (undo_cost (newest o)), LogFull) ∷ [])
 tests z l (End_abort t) =
     let o = found t l.open_ones in
     (not (runs l.phase), Failed) ∷ (not (is_some o), UnknownTransaction) ∷ (not (is_aborting o), NotOpen) ∷ (is_busy o || has_done o, Unfinished) ∷ (log_full l 1, LogFull) ∷ []

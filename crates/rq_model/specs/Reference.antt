@@ -17,7 +17,7 @@ use Rattle.rq_model.specs.History.Job.{Sending}
 use Rattle.rq_model.specs.History.Entry.{Refused, Ready, Stepped}
 use Rattle.rq_model.specs.Ledger.{Open, Done, Ledger, Phase, runs, after, found, kept_in}
 use Rattle.rq_model.specs.Ledger.Phase.{Running, Shut}
-use Rattle.rq_model.specs.Legal.{Size, Legal, is_aborting, is_busy, NoneHolds, first_of, has_under}
+use Rattle.rq_model.specs.Legal.{Size, Legal, is_aborting, is_busy, NoneHolds, first_of, has_under, ready_tests}
 
 -- a reference runs, or is not open: it has no device that could fail
 abbrev pub phase_of : Bool → Phase
@@ -93,17 +93,6 @@ pub record Sound (l : Ledger) : Type 0 where
 abbrev pub PlaceOf : List OpenTxn → Txn → Option ℕ → Type 0
 PlaceOf rows t None = found t (map open_of rows) ≡ None
 PlaceOf rows t (Some i) = (i < length rows) × ((d : OpenTxn) → (slice_index_or rows i d).txn ≡ t) × ((d : OpenTxn) → found t (map open_of rows) ≡ Some (open_of (slice_index_or rows i d)))
-
--- a transaction that aborts where the call needs one that does not, or the other way round
-abbrev pub turned : Bool → Option Open → Bool
-turned false o = is_aborting o
-turned true o = not (is_aborting o)
-
--- the tests of a call on a transaction that needs no operation under way
-abbrev pub ready_tests : Ledger → Txn → Bool → List (Bool × Refusal)
-ready_tests l t aborting =
-    let o = found t l.open_ones in
-    (not (runs l.phase), Failed) ∷ (not (is_some o), UnknownTransaction) ∷ (turned aborting o, NotOpen) ∷ (is_busy o, Unfinished) ∷ []
 
 -- the transaction's place among those that have not ended
 pub record StandsAt (l : Ledger) (t : Txn) (i : ℕ) : Type 0 where

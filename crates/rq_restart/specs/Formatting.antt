@@ -4,7 +4,7 @@ use Rattle.rq_disk.specs.Device.{Images}
 use Rattle.rq_disk.specs.declared.device.PageDevice.{Ghosts}
 use Rattle.rq_page.specs.Sizes.{Sizes, page_count}
 use Rattle.rq_page.specs.Formatted.{IsFormatted}
-use Rattle.rq_restart.specs.Underway.{PagesLeave}
+use Rattle.rq_engine.specs.Devices.{PagesLeave}
 
 -- the superblock is one that a crash might have left before, or every page is formatted
 abbrev pub IsBeforeOrFormatted : {P : Type 0} → Ghosts P → Sizes → P → Images → Type 0

@@ -11,24 +11,9 @@ use Rattle.rq_log.specs.Spelled.{spelled, AreSpelled}
 use Rattle.rq_page.specs.Sizes.{Sizes}
 use Rattle.rq_store.specs.Opening.{IsLeft}
 use Rattle.rq_engine.specs.Opened.{OpenStore}
+use Rattle.rq_engine.specs.Devices.{EachPair}
 use Rattle.rq_restart.specs.declared.restart.Report.{Report}
 use Rattle.rq_restart.specs.declared.restart.Stopped.{Stopped}
-
--- A crash at any moment since old leaves pages that have Q.
-pub record PagesLeave {P : Type 0} (p : page_device.Ghosts P) (old new : P) (Q : Images → Type 0) : Type 0 where
-  pub later : p.moment old ≤ p.moment new
-  pub each : (images : Images) → p.left_since new (p.moment old) images → Q images
-
-module _ {P L : Type 0} (p : page_device.Ghosts P) (l : log_device.Ghosts L) where
-  -- each pair that a crash now may leave of both devices
-  abbrev pub EachPair : P → L → (Images → List ℕ → Type 0) → Type 0
-  EachPair pages log Q = (images : Images) (bytes : List ℕ) → Leaves (p.may_be pages) images → l.may_leave log bytes → Q images bytes
-
--- A run of calls of two devices, one device at a time. At each moment of each part, each pair that a crash may leave has Q.
-pub data Path {P L : Type 0} (p : page_device.Ghosts P) (l : log_device.Ghosts L) (Q : Images → List ℕ → Type 0) : P → L → P → L → Type 0 where
-  Start : {pages : P} {log : L} → EachPair p l pages log Q → Path p l Q pages log pages log
-  Pages : {pages mid new : P} {log now : L} → Path p l Q pages log mid now → PagesLeave p mid new (λ images. (bytes : List ℕ) → l.may_leave now bytes → Q images bytes) → Path p l Q pages log new now
-  Log : {pages now : P} {log mid new : L} → Path p l Q pages log now mid → LeavesOnly l mid new (λ bytes. (images : Images) → Leaves (p.may_be now) images → Q images bytes) → Path p l Q pages log now new
 
 -- these are the pages and the log of a store: a legal log of this spelling, and pages that fit it
 pub record IsStore (z : Sizes) (log : List Record) (images : Images) (bytes : List ℕ) : Type 0 where

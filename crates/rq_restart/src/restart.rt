@@ -20,7 +20,8 @@ ghost use Rattle.rq_engine.specs.Crash.{AreFit};
 ghost use Rattle.rq_engine.specs.Opened.{pooled};
 ghost use Rattle.rq_restart.specs.Repeating.{paged};
 ghost use Rattle.rq_restart.specs.Restarting.{IsReadAs, IsLeftOn, IsReady, AreWaiting, BeginsNot, StaysShut, IsBegun, Reports, Stops, IsEnded, IsGoneThrough, ShutFor, WasLeftOrIs, BeginsAtMost, LogStops, Refuses, WasChecked};
-ghost use Rattle.rq_restart.specs.Underway.{OfStores, Path, EachPair, IsLeftOrGoesOn, pages_left, log_left};
+ghost use Rattle.rq_engine.specs.Devices.{Path, EachPair};
+ghost use Rattle.rq_restart.specs.Underway.{OfStores, IsLeftOrGoesOn, pages_left, log_left};
 
 use crate::redo::{miscounted_page, repeat_history};
 use crate::waiting::count_waiting;

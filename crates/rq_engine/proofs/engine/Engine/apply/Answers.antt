@@ -1,4 +1,4 @@
-use Rattle.rq_engine.proofs.Crashing.{fit_kept, left_cut}
+use Rattle.rq_engine.proofs.Crashing.{fit_kept, runs_through_cuts}
 use Rattle.rq_engine.proofs.engine.Engine.apply.Goals as goal
 
 pub returns-clause-applied : goal.returns-clause-applied
@@ -20,6 +20,6 @@ returns-clause-applied g c =
           fit_kept g.P.PageDevice g.L.LogDevice g.met.P.PageDevice.only_now c.args.self.now c.call.new.self k fit
           c.args.event.now c.call.result _ _ told.sizes (told.answered h k) told.writes told.pages;
       crash = λ h k fit.
-          left_cut g.P.PageDevice g.L.LogDevice g.met.P.PageDevice.only_now c.args.self.now c.call.new.self k fit
-          c.args.event.now c.call.result c.keeps.ensures.spelled told.writes told.pages (told.any_moment h.1);
+          runs_through_cuts g.P.PageDevice g.L.LogDevice g.met.P.PageDevice.only_now c.args.self.now c.call.new.self k fit
+          c.args.event.now c.call.result c.keeps.ensures.spelled told.writes told.pages (c.keeps.ensures.leaves (told.honest h).1) (told.any_moment h.1);
     }
