@@ -16,16 +16,27 @@ use Rattle.rq_level.proofs.GroupRule.{row_groups}
 use Rattle.rq_level.proofs.Interleaved.{row_legal}
 use Rattle.rq_level.proofs.Rows.{restarted_legal, taken_legal, closed_legal, stopped_spares, stopped_writes}
 
-may_send : (log : List Item) (t : Txn) (q : ℕ) → Alone (is_sending q) t log → Told (sends q) (view log q) → (s : ℕ) → MayTurn log t (sends q) s
-may_send log t q alone told s = record { sends = λ y. subst (λ k. Alone (is_sending k) t log × Told (sends q) (view log k)) (eqb-true q s y) (alone, told); takes = λ y. absurd (false≢true y) }
+may_send : (log : List Item) (t : Txn) (q : ℕ) → Alone (is_sending q) t log → Told (sends q) (view log q) → (s : ℕ)
+    → MayTurn log t (sends q) s
+may_send log t q alone told s = record {
+  sends = λ y. subst (λ k. Alone (is_sending k) t log × Told (sends q) (view log k)) (eqb-true q s y) (alone, told);
+  takes = λ y. absurd (false≢true y);
+}
 
-may_close : (log : List Item) (t : Txn) (q : ℕ) → Alone (is_sending q) t log → (view log q).closed ≡ false → (s : ℕ) → MayTurn log t (Close q) s
-may_close log t q alone told s = record { sends = λ y. subst (λ k. Alone (is_sending k) t log × Told (Close q) (view log k)) (eqb-true q s y) (alone, told); takes = λ y. absurd (false≢true y) }
+may_close : (log : List Item) (t : Txn) (q : ℕ) → Alone (is_sending q) t log → (view log q).closed ≡ false → (s : ℕ)
+    → MayTurn log t (Close q) s
+may_close log t q alone told s = record {
+  sends = λ y. subst (λ k. Alone (is_sending k) t log × Told (Close q) (view log k)) (eqb-true q s y) (alone, told);
+  takes = λ y. absurd (false≢true y);
+}
 
-may_take : (log : List Item) (t : Txn) (q : ℕ) → Alone (is_taking q) t log → Told (takes q) (view log q) → 0 < length (with_all (side (is_taking q) (open_deeds t log)) (committed log q)).messages → (s : ℕ) → MayTurn log t (takes q) s
+may_take : (log : List Item) (t : Txn) (q : ℕ) → Alone (is_taking q) t log → Told (takes q) (view log q)
+    → 0 < length (with_all (side (is_taking q) (open_deeds t log)) (committed log q)).messages → (s : ℕ)
+    → MayTurn log t (takes q) s
 may_take log t q alone told more s = record {
   sends = λ y. absurd (false≢true y);
-  takes = λ y. subst (λ k. Alone (is_taking k) t log × Told (takes q) (view log k) × (0 < length (with_all (side (is_taking k) (open_deeds t log)) (committed log k)).messages)) (eqb-true q s y) (alone, told, more);
+  takes =
+      λ y. subst (λ k. Alone (is_taking k) t log × Told (takes q) (view log k) × (0 < length (with_all (side (is_taking k) (open_deeds t log)) (committed log k)).messages)) (eqb-true q s y) (alone, told, more);
 }
 
 -- whoever committed has nothing open
@@ -62,8 +73,10 @@ worked = record {
   restarted_keeps = record {
     legal = restarted_legal;
     groups = restarted_groups;
-    room = (tt, (tt, (tt, (tt, (tt, (tt, (tt, (tt, (tt, (tt, (tt, (omega arith, (tt, (tt, (omega arith, (tt, (tt, (tt, (omega arith, (tt, (tt, (tt, tt))))))))))))))))))))));
-    numbers = (tt, (tt, (tt, ((λ e. absurd (true≢false e)), ((λ e. refl), (tt, (tt, ((λ e. refl), (tt, ((λ e. absurd (true≢false e)), ((λ e. refl), (tt, ((λ e. absurd (true≢false e)), ((λ e. refl), (tt, ((λ e. absurd (true≢false e)), ((λ e. refl), (tt, (tt, ((λ e. absurd (true≢false e)), ((λ e. refl), (tt, tt))))))))))))))))))))));
+    room =
+        (tt, (tt, (tt, (tt, (tt, (tt, (tt, (tt, (tt, (tt, (tt, (omega arith, (tt, (tt, (omega arith, (tt, (tt, (tt, (omega arith, (tt, (tt, (tt, tt))))))))))))))))))))));
+    numbers =
+        (tt, (tt, (tt, ((λ e. absurd (true≢false e)), ((λ e. refl), (tt, (tt, ((λ e. refl), (tt, ((λ e. absurd (true≢false e)), ((λ e. refl), (tt, ((λ e. absurd (true≢false e)), ((λ e. refl), (tt, ((λ e. absurd (true≢false e)), ((λ e. refl), (tt, (tt, ((λ e. absurd (true≢false e)), ((λ e. refl), (tt, tt))))))))))))))))))))));
   };
   done_view = refl;
   stopped_view = refl;
@@ -89,9 +102,11 @@ pub refused : RefusedRecords
 refused = record {
   taken_keeps = record {
     legal = taken_legal;
-    groups = (may_take _ t2 0 (λ u n. ap (side (is_taking 0)) (none_open u)) ([], refl, refl) (omega arith), (tt, (tt, one_groups)));
+    groups =
+        (may_take _ t2 0 (λ u n. ap (side (is_taking 0)) (none_open u)) ([], refl, refl) (omega arith), (tt, (tt, one_groups)));
     room = (omega arith, (tt, (tt, (tt, (omega arith, (tt, (tt, (tt, tt))))))));
-    numbers = (tt, ((λ e. absurd (true≢false e)), ((λ e. refl), (tt, (tt, ((λ e. absurd (true≢false e)), ((λ e. refl), (tt, tt))))))));
+    numbers =
+        (tt, ((λ e. absurd (true≢false e)), ((λ e. refl), (tt, (tt, ((λ e. absurd (true≢false e)), ((λ e. refl), (tt, tt))))))));
   };
   taken_room = (omega arith, (tt, (tt, (tt, (omega arith, (tt, (tt, (tt, tt))))))));
   full = λ h. omega (arith, h);

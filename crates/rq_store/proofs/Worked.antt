@@ -29,7 +29,8 @@ use Rattle.rq_store.proofs.Spelling.{MayStandAt, AreSpelt, items_back, in_store,
 -- what stands in the slots
 cell_fits : (s : ℕ) → s < 30 → IsCellOf sizes (cell s)
 cell_fits s h = record {
-  numbers = record { sender = omega (arith, h); numbered = omega arith; sequence = omega arith; tag = omega arith; next = omega arith; prev = omega arith; body = omega arith };
+  numbers =
+      record { sender = omega (arith, h); numbered = omega arith; sequence = omega arith; tag = omega arith; next = omega arith; prev = omega arith; body = omega arith };
   sender = h;
   next = inl refl;
   prev = inl refl;
@@ -53,17 +54,34 @@ at_a = inr (record { above = omega arith; below = omega arith; slot = omega arit
 at_b : IsLink sizes 65
 at_b = inr (record { above = omega arith; below = omega arith; slot = omega arith })
 
-few : (s : ℕ) (d : Directory) → s < 30 → d.sent < 2 → d.received < d.sent + 1 → d.last_tag < 8 → d.head < 100 → d.tail < 100 → IsDirectorySlot (record { sender = s; directory = d })
-few s d a b c e f g = record { sender = omega (arith, a); sent = omega (arith, b); received = omega (arith, c); last_tag = omega (arith, e); head = omega (arith, f); tail = omega (arith, g) }
+few : (s : ℕ) (d : Directory) → s < 30 → d.sent < 2 → d.received < d.sent + 1 → d.last_tag < 8 → d.head < 100
+    → d.tail < 100 → IsDirectorySlot (record { sender = s; directory = d })
+few s d a b c e f g = record {
+  sender = omega (arith, a);
+  sent = omega (arith, b);
+  received = omega (arith, c);
+  last_tag = omega (arith, e);
+  head = omega (arith, f);
+  tail = omega (arith, g);
+}
 
-group_a : (d : Directory) → d.sent < 2 → d.received < d.sent + 1 → d.last_tag < 8 → d.head < 100 → d.tail < 100 → IsLink sizes d.head → IsLink sizes d.tail → MayStandAt sizes 17 (Sender 0 d)
-group_a d b c e f g h t = record { low = omega arith; holds = record { numbers = few 0 d (omega arith) b c e f g; own = refl; head = h; tail = t } }
+group_a : (d : Directory) → d.sent < 2 → d.received < d.sent + 1 → d.last_tag < 8 → d.head < 100 → d.tail < 100
+    → IsLink sizes d.head → IsLink sizes d.tail → MayStandAt sizes 17 (Sender 0 d)
+group_a d b c e f g h t = record {
+  low = omega arith;
+  holds = record { numbers = few 0 d (omega arith) b c e f g; own = refl; head = h; tail = t };
+}
 
-group_b : (d : Directory) → d.sent < 2 → d.received < d.sent + 1 → d.last_tag < 8 → d.head < 100 → d.tail < 100 → IsLink sizes d.head → IsLink sizes d.tail → MayStandAt sizes 33 (Sender 15 d)
-group_b d b c e f g h t = record { low = omega arith; holds = record { numbers = few 15 d (omega arith) b c e f g; own = refl; head = h; tail = t } }
+group_b : (d : Directory) → d.sent < 2 → d.received < d.sent + 1 → d.last_tag < 8 → d.head < 100 → d.tail < 100
+    → IsLink sizes d.head → IsLink sizes d.tail → MayStandAt sizes 33 (Sender 15 d)
+group_b d b c e f g h t = record {
+  low = omega arith;
+  holds = record { numbers = few 15 d (omega arith) b c e f g; own = refl; head = h; tail = t };
+}
 
 new_a : MayStandAt sizes 17 (Sender 0 new_directory)
-new_a = group_a new_directory (omega arith) (omega arith) (omega arith) (omega arith) (omega arith) (inl refl) (inl refl)
+new_a =
+    group_a new_directory (omega arith) (omega arith) (omega arith) (omega arith) (omega arith) (inl refl) (inl refl)
 
 has_a : MayStandAt sizes 17 (Sender 0 sent_a)
 has_a = group_a sent_a (omega arith) (omega arith) (omega arith) (omega arith) (omega arith) at_a at_a
@@ -72,32 +90,41 @@ took_a : MayStandAt sizes 17 (Sender 0 taken_a)
 took_a = group_a taken_a (omega arith) (omega arith) (omega arith) (omega arith) (omega arith) (inl refl) (inl refl)
 
 back_a : MayStandAt sizes 17 (Sender 0 (directory_put_back taken_a 49))
-back_a = group_a (directory_put_back taken_a 49) (omega arith) (omega arith) (omega arith) (omega arith) (omega arith) at_a at_a
+back_a =
+    group_a (directory_put_back taken_a 49) (omega arith) (omega arith) (omega arith) (omega arith) (omega arith) at_a
+    at_a
 
 new_b : MayStandAt sizes 33 (Sender 15 new_directory)
-new_b = group_b new_directory (omega arith) (omega arith) (omega arith) (omega arith) (omega arith) (inl refl) (inl refl)
+new_b =
+    group_b new_directory (omega arith) (omega arith) (omega arith) (omega arith) (omega arith) (inl refl) (inl refl)
 
 has_b : MayStandAt sizes 33 (Sender 15 sent_b)
 has_b = group_b sent_b (omega arith) (omega arith) (omega arith) (omega arith) (omega arith) at_b at_b
 
 undid_b : MayStandAt sizes 33 (Sender 15 (directory_tail_unlinked sent_b (cell 15) 0))
-undid_b = group_b (directory_tail_unlinked sent_b (cell 15) 0) (omega arith) (omega arith) (omega arith) (omega arith) (omega arith) (inl refl) (inl refl)
+undid_b =
+    group_b (directory_tail_unlinked sent_b (cell 15) 0) (omega arith) (omega arith) (omega arith) (omega arith)
+    (omega arith) (inl refl) (inl refl)
 
 one_spelt : AreSpelt sizes committed_one
 one_spelt = (tt, ((refl, omega arith), ((new_a, has_a), ((none_a, cell_a), (tt, tt)))))
 
 two_spelt : AreSpelt sizes done_two
-two_spelt = ((refl, omega arith), ((has_a, took_a), ((cell_a, none_a), ((refl, omega arith), ((new_b, has_b), ((none_b, cell_b), one_spelt))))))
+two_spelt =
+    ((refl, omega arith), ((has_a, took_a), ((cell_a, none_a), ((refl, omega arith), ((new_b, has_b), ((none_b, cell_b), one_spelt))))))
 
 spelt : AreSpelt sizes restarted
-spelt = (tt, (tt, (tt, ((has_b, undid_b), ((cell_b, none_b), (tt, (cell_b, ((cell_b, none_b), (tt, ((took_a, back_a), ((none_a, cell_a), two_spelt)))))))))))
+spelt =
+    (tt, (tt, (tt, ((has_b, undid_b), ((cell_b, none_b), (tt, (cell_b, ((cell_b, none_b), (tt, ((took_a, back_a), ((none_a, cell_a), two_spelt)))))))))))
 
 -- what its deeds tell
 reads : Reads (spelled_log restarted)
-reads = (tt, (tt, (tt, (tt, (tt, (tt, (tt, (tt, (tt, (tt, (tt, ((refl, (takes 0, refl), refl), (tt, (tt, ((refl, (sends 15, refl), refl), (tt, (tt, (refl, ((refl, (sends 0, refl), refl), (tt, (tt, (tt, tt))))))))))))))))))))))
+reads =
+    (tt, (tt, (tt, (tt, (tt, (tt, (tt, (tt, (tt, (tt, (tt, ((refl, (takes 0, refl), refl), (tt, (tt, ((refl, (sends 15, refl), refl), (tt, (tt, (refl, ((refl, (sends 0, refl), refl), (tt, (tt, (tt, tt))))))))))))))))))))))
 
 tells : Tells restarted
-tells = (tt, (tt, (tt, (tt, (tt, (tt, (tt, (tt, (tt, (tt, (tt, (([], refl, refl), (tt, (tt, ((refl, refl, refl), (tt, (tt, (tt, ((refl, refl, refl), (tt, (tt, (tt, tt))))))))))))))))))))))
+tells =
+    (tt, (tt, (tt, (tt, (tt, (tt, (tt, (tt, (tt, (tt, (tt, (([], refl, refl), (tt, (tt, ((refl, refl, refl), (tt, (tt, (tt, ((refl, refl, refl), (tt, (tt, (tt, tt))))))))))))))))))))))
 
 -- nobody holds an end once t1 has committed
 none_holds : (f : Said → Bool) (u : Txn) → holds f (spelled_log committed_one) u ≡ true → ⊥
@@ -122,7 +149,9 @@ abbrev before_take : List Record
 before_take = drop 1 (spelled_log done_two)
 
 abbrev Left : ℕ → Type 0
-Left p = removed p (deeds (λ u. has_commit before_take u || same_txn u t2) before_take) < length (added p (deeds (has_commit before_take) before_take))
+Left p =
+    removed p (deeds (λ u. has_commit before_take u || same_txn u t2) before_take) < length
+    (added p (deeds (has_commit before_take) before_take))
 
 only_t2 : (f : Said → Bool) (u : Txn) → holds f before_take u ≡ true → u ≡ t2
 only_t2 f u h = elim (cases_Bool (same_txn t2 u)) [
@@ -155,10 +184,12 @@ two_rules = (
 )
 
 rules : KeepsRules (spelled_log restarted)
-rules = (tt, (λ v e. absurd (false≢true e)), (tt, (λ v e. subst (λ w. has_end (spelled_log taken_back) w ≡ false) (same_is t2 v e) refl), (tt, (λ v e. absurd (false≢true e)), (tt, (λ v e. absurd (false≢true e)), (tt, (λ v e. absurd (false≢true e)), (tt, (λ v e. absurd (false≢true e)), (tt, (λ v e. absurd (false≢true e)), (tt, (λ v e. absurd (false≢true e)), (tt, (λ v e. absurd (false≢true e)), (tt, (λ v e. absurd (false≢true e)), (tt, (λ v e. absurd (false≢true e)), two_rules)))))))))))
+rules =
+    (tt, (λ v e. absurd (false≢true e)), (tt, (λ v e. subst (λ w. has_end (spelled_log taken_back) w ≡ false) (same_is t2 v e) refl), (tt, (λ v e. absurd (false≢true e)), (tt, (λ v e. absurd (false≢true e)), (tt, (λ v e. absurd (false≢true e)), (tt, (λ v e. absurd (false≢true e)), (tt, (λ v e. absurd (false≢true e)), (tt, (λ v e. absurd (false≢true e)), (tt, (λ v e. absurd (false≢true e)), (tt, (λ v e. absurd (false≢true e)), (tt, (λ v e. absurd (false≢true e)), two_rules)))))))))))
 
 order : InOrder (spelled_log restarted)
-order = (refl, ((omega arith, refl), ((omega arith, refl), ((omega arith, refl), ((omega arith, refl), ((omega arith, refl), ((omega arith, refl), ((omega arith, refl), ((omega arith, refl), ((omega arith, refl), ((omega arith, refl), ((omega arith, refl), ((omega arith, refl), ((omega arith, refl), ((omega arith, refl), ((omega arith, refl), ((omega arith, refl), ((omega arith, refl), ((omega arith, refl), ((omega arith, refl), ((omega arith, refl), (refl, tt))))))))))))))))))))))
+order =
+    (refl, ((omega arith, refl), ((omega arith, refl), ((omega arith, refl), ((omega arith, refl), ((omega arith, refl), ((omega arith, refl), ((omega arith, refl), ((omega arith, refl), ((omega arith, refl), ((omega arith, refl), ((omega arith, refl), ((omega arith, refl), ((omega arith, refl), ((omega arith, refl), ((omega arith, refl), ((omega arith, refl), ((omega arith, refl), ((omega arith, refl), ((omega arith, refl), ((omega arith, refl), (refl, tt))))))))))))))))))))))
 
 same : items sizes (spelled_log restarted) ≡ restarted
 same = items_back sizes restarted spelt

@@ -28,7 +28,13 @@ spelled_log log = map record_of log
 
 -- the message of sender 0 waits, and that of sender 15 is gone
 abbrev pub one_message : Group
-one_message = record { sent = 1; last_tag = 7; received = 0; closed = false; rest = record { sender = 0; tag = 7; body = 104 ∷ [] } ∷ [] }
+one_message = record {
+  sent = 1;
+  last_tag = 7;
+  received = 0;
+  closed = false;
+  rest = record { sender = 0; tag = 7; body = 104 ∷ [] } ∷ [];
+}
 
 abbrev pub no_message : Group
 no_message = record { sent = 0; last_tag = 0; received = 0; closed = false; rest = [] }
