@@ -1,15 +1,13 @@
 -- A log spelled in bytes goes back to the slots and deeds that it was spelled from.
-use Rattle.std.proofs.Common.{◌≡◌, ℕ, ◌/◌, ◌%◌, ◌+◌, ◌*◌, ◌<◌, ◌≤◌, List, [], ◌∷◌, map, Some, refl, sym, ◌∙◌, ap, subst, arith}
-use Rattle.rq_model.specs.declared.record.Deed.{Deed}
-use Rattle.rq_model.specs.declared.record.Record.{Record}
+use Rattle.std.proofs.Common.{◌≡◌, ℕ, ◌/◌, ◌%◌, ◌<◌, ◌≤◌, List, [], ◌∷◌, Some, refl, sym, ◌∙◌, ap, subst, arith}
 use Rattle.rq_model.specs.Deeds.{deed_in, spelled_deed}
 use Rattle.rq_page.specs.Kinds.{kind_of}
-use Rattle.rq_page.specs.Sizes.{Sizes, address, sender_count}
+use Rattle.rq_page.specs.Sizes.{Sizes, sender_count}
 use Rattle.rq_page.specs.Slots.{Slot, MayHold, IsSlotOf, held_in, spelled}
 use Rattle.rq_page.proofs.Spellings.{spelling_tells}
 use Rattle.rq_level.specs.InStore.{InStore, InStoreOne}
 use Rattle.rq_level.specs.Items.{items, item_of, told_deed}
-use Rattle.rq_level.specs.Log.{Item, Write}
+use Rattle.rq_level.specs.Log.{Item}
 use Rattle.rq_level.specs.Log.Item.{PageOp, PageUndo, OpEnd, OpVoid, CompEnd, Commit, AbortEnd, Restart}
 use Rattle.rq_level.specs.Plans.{deed_sender}
 use Rattle.rq_store.specs.Sound.{BeforesAreSlots, IsBefore}

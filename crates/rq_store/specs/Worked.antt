@@ -1,8 +1,7 @@
 -- A worked log in bytes: an abort that a crash stops within an inverse, and the restart after it.
-use Rattle.std.specs.Prelude.{◌≡◌, ℕ, ◌/◌, ◌%◌, List, [], ◌∷◌, map, false}
+use Rattle.std.specs.Prelude.{◌≡◌, ◌/◌, ◌%◌, List, [], ◌∷◌, map, false}
 use Rattle.rq_model.specs.declared.record.Record.{Record}
 use Rattle.rq_model.specs.declared.record.Record.TheVariants as records
-use Rattle.rq_model.specs.declared.txn.Txn.{Txn}
 use Rattle.rq_model.specs.Content.{content, unfinished, lost}
 use Rattle.rq_model.specs.Deeds.{spelled_deed}
 use Rattle.rq_model.specs.History.{Group}
