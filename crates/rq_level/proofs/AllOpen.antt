@@ -52,9 +52,11 @@ own_but_first f (y ∷ xs) = elim (cases_Bool (f y)) [ inl t ↦ rw t refl | inr
 
 own_but_all : {X : Type 0} (f : X → Bool) (xs : List X) → filter f (but_all f xs) ≡ []
 own_but_all f [] = refl
-own_but_all f (y ∷ xs) = elim (cases_Bool (f y)) [ inl t ↦ rw t (own_but_all f xs) | inr n ↦ rw n (rw n (own_but_all f xs)) ]
+own_but_all f (y ∷ xs) =
+    elim (cases_Bool (f y)) [ inl t ↦ rw t (own_but_all f xs) | inr n ↦ rw n (rw n (own_but_all f xs)) ]
 
-other_but_first : {X : Type 0} (f g : X → Bool) (xs : List X) → ((x : X) → g x ≡ true → f x ≡ false) → filter f (but_first g xs) ≡ filter f xs
+other_but_first : {X : Type 0} (f g : X → Bool) (xs : List X) → ((x : X) → g x ≡ true → f x ≡ false)
+    → filter f (but_first g xs) ≡ filter f xs
 other_but_first f g [] h = refl
 other_but_first f g (y ∷ xs) h = elim (cases_Bool (g y)) [
   | inl t ↦ rw (t, h y t) refl
@@ -64,7 +66,8 @@ other_but_first f g (y ∷ xs) h = elim (cases_Bool (g y)) [
   ]
 ]
 
-pub other_but_all : {X : Type 0} (f g : X → Bool) (xs : List X) → ((x : X) → g x ≡ true → f x ≡ false) → filter f (but_all g xs) ≡ filter f xs
+pub other_but_all : {X : Type 0} (f g : X → Bool) (xs : List X) → ((x : X) → g x ≡ true → f x ≡ false)
+    → filter f (but_all g xs) ≡ filter f xs
 other_but_all f g [] h = refl
 other_but_all f g (y ∷ xs) h = elim (cases_Bool (g y)) [
   | inl t ↦ rw (t, h y t) (other_but_all f g xs h)
@@ -112,7 +115,8 @@ own_open t (OpEnd o d ∷ log) = elim (cases_Bool (same_txn o.txn t)) [
 ]
 own_open t (CompEnd o u ∷ log) = elim (cases_Bool (same_txn o.txn t)) [
   | inl y ↦
-      let mine : filter (owned_by t) (but_first (owned_by o.txn) (all_open log)) ≡ tail (own t log) = subst (λ v. filter (owned_by t) (but_first (owned_by v) (all_open log)) ≡ tail (own t log)) (sym (same_is o.txn t y)) (own_but_first (owned_by t) (all_open log)) in
+      let mine : filter (owned_by t) (but_first (owned_by o.txn) (all_open log)) ≡ tail (own t log) =
+      subst (λ v. filter (owned_by t) (but_first (owned_by v) (all_open log)) ≡ tail (own t log)) (sym (same_is o.txn t y)) (own_but_first (owned_by t) (all_open log)) in
       ap (map placed_of) mine ∙ tail_placed (own t log) ∙ ap rest_placed (own_open t log) ∙ rw y refl
   | inr n ↦ ap (map placed_of) (other_but_first (owned_by t) (owned_by o.txn) (all_open log) (apart o.txn t n)) ∙ own_open t log ∙ rw n refl
 ]
@@ -127,7 +131,9 @@ none_mapped (y ∷ xs) x e h = cc
 
 -- where a transaction has nothing open, none of them is its own
 pub none_open : (log : List Item) (x : Owned) → In x (all_open log) → open_deeds x.txn log ≡ [] → ⊥
-none_open log x i e = none_mapped (own x.txn log) x (own_open x.txn log ∙ e) (filter_in (owned_by x.txn) (all_open log) x i (same_self x.txn))
+none_open log x i e =
+    none_mapped (own x.txn log) x (own_open x.txn log ∙ e)
+    (filter_in (owned_by x.txn) (all_open log) x i (same_self x.txn))
 
 -- the messages that these took
 abbrev pub taken : List Owned → ℕ
@@ -136,24 +142,31 @@ taken (x ∷ xs) = takes_placed x.placed + taken xs
 
 pub taken_placed : (xs : List Owned) → sum_by takes_placed (map placed_of xs) ≡ taken xs
 taken_placed [] = refl
-taken_placed (x ∷ xs) = sum_by-cons takes_placed x.placed (map placed_of xs) ∙ ap (λ n. takes_placed x.placed + n) (taken_placed xs)
+taken_placed (x ∷ xs) =
+    sum_by-cons takes_placed x.placed (map placed_of xs) ∙ ap (λ n. takes_placed x.placed + n) (taken_placed xs)
 
 pub taken_parts : (f : Owned → Bool) (xs : List Owned) → taken (but_all f xs) + taken (filter f xs) ≡ taken xs
 taken_parts f [] = refl
-taken_parts f (x ∷ xs) = let h = taken_parts f xs in elim (cases_Bool (f x)) [ inl y ↦ rw y (omega (arith, h)) | inr n ↦ rw n (omega (arith, h)) ]
+taken_parts f (x ∷ xs) =
+    let h = taken_parts f xs in
+    elim (cases_Bool (f x)) [ inl y ↦ rw y (omega (arith, h)) | inr n ↦ rw n (omega (arith, h)) ]
 
 -- how many messages the newest of these took
 abbrev pub newest_takes : List Placed → ℕ
 newest_takes [] = 0
 newest_takes (p ∷ ps) = takes_of p.deed
 
-pub taken_first : (f : Owned → Bool) (xs : List Owned) → taken (but_first f xs) + newest_takes (map placed_of (filter f xs)) ≡ taken xs
+pub taken_first : (f : Owned → Bool) (xs : List Owned)
+    → taken (but_first f xs) + newest_takes (map placed_of (filter f xs)) ≡ taken xs
 taken_first f [] = refl
-taken_first f (x ∷ xs) = let h = taken_first f xs in elim (cases_Bool (f x)) [ inl y ↦ rw y (omega arith) | inr n ↦ rw n (omega (arith, h)) ]
+taken_first f (x ∷ xs) =
+    let h = taken_first f xs in
+    elim (cases_Bool (f x)) [ inl y ↦ rw y (omega arith) | inr n ↦ rw n (omega (arith, h)) ]
 
 -- one transaction took no more than all
 pub own_taken : (t : Txn) (log : List Item) → sum_by takes_placed (open_deeds t log) ≤ taken (all_open log)
 own_taken t log =
-    let a : sum_by takes_placed (open_deeds t log) ≡ taken (own t log) = ap (sum_by takes_placed) (sym (own_open t log)) ∙ taken_placed (own t log) in
+    let a : sum_by takes_placed (open_deeds t log) ≡ taken (own t log) =
+    ap (sum_by takes_placed) (sym (own_open t log)) ∙ taken_placed (own t log) in
     let b = taken_parts (owned_by t) (all_open log) in
     omega (arith, a, b)

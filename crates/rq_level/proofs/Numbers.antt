@@ -37,7 +37,8 @@ began_within t n (r ∷ log) e =
 
 -- none beyond it is that of an operation
 pub beyond_unbegun : (t : Txn) (n : ℕ) (log : List Item) → greatest t log < n → began (operation t n) log ≡ false
-beyond_unbegun t n log h = false_from_ne_true (began (operation t n) log) (λ e. let k = began_within t n log e in absurd (omega (arith, h, k)))
+beyond_unbegun t n log h =
+    false_from_ne_true (began (operation t n) log) (λ e. let k = began_within t n log e in absurd (omega (arith, h, k)))
 
 plan_some : (l : Layout) (t : Turn) → IsPlan l t [] → ⊥
 plan_some l (Did (Append s n tag previous body)) p = let e = p.writes in cc
@@ -55,7 +56,8 @@ undoes_some l (p ∷ ps) u h = plan_some l (Undid p.deed) h.1
 written_began : (l : Layout) (log : List Item) (o : Sub) → ((state_of l log).writes o ≡ [] → ⊥) → began o log ≡ true
 written_began l log o h = elim (cases_Bool (began o log)) [ inl y ↦ y | inr n ↦ absurd (h (unbegun_writes l log o n)) ]
 
-one_of : (t : Txn) (n : ℕ) (o : Sub) (log : List Item) → (began o log ≡ false → o.number ≡ greatest o.txn log + 1) → (n ≤ greatest t log → began (operation t n) log ≡ true) → n ≤ max (number_in t (Some o)) (greatest t log)
+one_of : (t : Txn) (n : ℕ) (o : Sub) (log : List Item) → (began o log ≡ false → o.number ≡ greatest o.txn log + 1)
+    → (n ≤ greatest t log → began (operation t n) log ≡ true) → n ≤ max (number_in t (Some o)) (greatest t log)
     → (same_op o (operation t n) || began (operation t n) log) ≡ true
 one_of t n o log new rest le = elim (cases_lt (greatest t log) n) [
   | inr within ↦ or_right (same_op o (operation t n)) (began (operation t n) log) (rest within)
@@ -81,14 +83,16 @@ has_begun : (o : Sub) (log : List Item) (m : ℕ) → began o log ≡ true → b
 has_begun o log m y n = absurd (false≢true (sym n ∙ y))
 
 -- each number up to the greatest is that of an operation
-pub all_begun : (l : Layout) (t : Txn) (n : ℕ) (log : List Item) → Legal l log → AreNumbered log → 1 ≤ n → n ≤ greatest t log → began (operation t n) log ≡ true
+pub all_begun : (l : Layout) (t : Txn) (n : ℕ) (log : List Item) → Legal l log → AreNumbered log → 1 ≤ n
+    → n ≤ greatest t log → began (operation t n) log ≡ true
 all_begun l t n [] g h low le = absurd (omega (arith, low, le))
 all_begun l t n (PageOp o w ∷ log) g h low le = one_of t n o log h.0 (all_begun l t n log g.1 h.1 low) le
 all_begun l t n (PageUndo o u at after ∷ log) g h low le =
     one_of t n o log (has_begun o log (greatest o.txn log + 1) (written_began l log o (λ e. subst (λ ws. IsNewest ws at after) e g.0.newest))) (all_begun l t n log g.1 h.1 low) le
 all_begun l t n (OpEnd o d ∷ log) g h low le =
     one_of t n o log (has_begun o log (greatest o.txn log + 1) (written_began l log o (λ e. plan_some l (Did d) (subst (λ ws. IsPlan l (Did d) ws) e g.0.plan)))) (all_begun l t n log g.1 h.1 low) le
-all_begun l t n (OpVoid o ∷ log) g h low le = one_of t n o log (has_begun o log (greatest o.txn log + 1) g.0.begun) (all_begun l t n log g.1 h.1 low) le
+all_begun l t n (OpVoid o ∷ log) g h low le =
+    one_of t n o log (has_begun o log (greatest o.txn log + 1) g.0.begun) (all_begun l t n log g.1 h.1 low) le
 all_begun l t n (CompEnd o u ∷ log) g h low le =
     one_of t n o log (has_begun o log (greatest o.txn log + 1) (written_began l log o (λ e. undoes_some l (open_deeds o.txn log) u (subst (λ ws. Undoes l (open_deeds o.txn log) u ws) e g.0.plan)))) (all_begun l t n log g.1 h.1 low) le
 all_begun l t n (Commit u ∷ log) g h low le = all_begun l t n log g.1 h.1 low (omega (arith, le))

@@ -27,7 +27,8 @@ use Rattle.rq_level.proofs.Content.{own_deeds, committed_is_content}
 use Rattle.rq_level.proofs.Strangers.{has_end_same}
 
 -- a transaction that has ended has nothing open
-pub ended : (z : Sizes) (t : Txn) (log : List Record) → Legal (layout_of z) (items z log) → has_end log t ≡ true → open_deeds t (items z log) ≡ []
+pub ended : (z : Sizes) (t : Txn) (log : List Record) → Legal (layout_of z) (items z log) → has_end log t ≡ true
+    → open_deeds t (items z log) ≡ []
 ended z t [] k h = refl
 ended z t (records.PageOp u m page slot before after ∷ log) k h = ended z t log k.1 h
 ended z t (records.PageUndo u m undone page slot after ∷ log) k h = ended z t log k.1 h
@@ -50,8 +51,11 @@ ended z t (records.AbortEnd u ∷ log) k h = elim (cases_Bool (same_txn u t)) [
 ]
 ended z t (records.Restart i ∷ log) k h = ended z t log k.1 h
 
-one_unused : (f : Said → Bool) (p : Deed → Bool) → ((d : Deed) → f (said d) ≡ p d) → (t u : Txn) (n level : ℕ) (bytes : List ℕ) (d : Deed) (ps : List Placed) (ds : List Said) → level ≡ 1 → deed_in bytes ≡ Some d
-    → (any_use f ds ≡ false → side p ps ≡ []) → any_use f (kept (λ v. same_txn v t) (ending_by u (cond (nat_eq level 1) (deed_in bytes) None)) ds) ≡ false
+one_unused : (f : Said → Bool) (p : Deed → Bool) → ((d : Deed) → f (said d) ≡ p d)
+    → (t u : Txn) (n level : ℕ) (bytes : List ℕ) (d : Deed) (ps : List Placed) (ds : List Said) → level ≡ 1
+    → deed_in bytes ≡ Some d
+    → (any_use f ds ≡ false → side p ps ≡ [])
+    → any_use f (kept (λ v. same_txn v t) (ending_by u (cond (nat_eq level 1) (deed_in bytes) None)) ds) ≡ false
     → side p (cond (same_txn u t) (record { lsn = n; deed = told_deed (deed_in bytes) } ∷ ps) ps) ≡ []
 one_unused f p same t u n level bytes d ps ds l e k h =
     let one : nat_eq level 1 ≡ true = eq-eqb level 1 l in
@@ -62,10 +66,13 @@ one_unused f p same t u n level bytes d ps ds l e k h =
 
 rest_none : (p : Deed → Bool) (ps : List Placed) → side p ps ≡ [] → side p (rest_placed ps) ≡ []
 rest_none p [] e = refl
-rest_none p (x ∷ ps) e = elim (cases_Bool (p x.deed)) [ inl y ↦ (let bad : x.deed ∷ side p ps ≡ [] = rw y at e in absurd (cc)) | inr n ↦ rw n at e ]
+rest_none p (x ∷ ps) e =
+    elim (cases_Bool (p x.deed)) [ inl y ↦ (let bad : x.deed ∷ side p ps ≡ [] = rw y at e in absurd (cc)) | inr n ↦ rw n at e ]
 
 -- who never used an end has nothing open at it
-pub unused : (f : Said → Bool) (p : Deed → Bool) → ((d : Deed) → f (said d) ≡ p d) → (z : Sizes) (t : Txn) (log : List Record) → Reads log → any_use f (deeds (λ v. same_txn v t) log) ≡ false → side p (open_deeds t (items z log)) ≡ []
+pub unused : (f : Said → Bool) (p : Deed → Bool) → ((d : Deed) → f (said d) ≡ p d)
+    → (z : Sizes) (t : Txn) (log : List Record) → Reads log → any_use f (deeds (λ v. same_txn v t) log) ≡ false
+    → side p (open_deeds t (items z log)) ≡ []
 unused f p same z t [] g e = refl
 unused f p same z t (records.PageOp u k page slot before after ∷ log) g e = unused f p same z t log g.1 e
 unused f p same z t (records.PageUndo u k undone page slot after ∷ log) g e = unused f p same z t log g.1 e
@@ -73,12 +80,14 @@ unused f p same z t (records.OpVoid u k ∷ log) g e = unused f p same z t log g
 unused f p same z t (records.Restart i ∷ log) g e = unused f p same z t log g.1 e
 unused f p same z t (records.AbortEnd u ∷ log) g e = unused f p same z t log g.1 e
 unused f p same z t (records.OpEnd u k level bytes ∷ log) g e =
-    one_unused f p same t u (length (items z log) + 1) level bytes g.0.1.0 (open_deeds t (items z log)) (deeds (λ v. same_txn v t) log) g.0.0 g.0.1.1 (unused f p same z t log g.1) e
+    one_unused f p same t u (length (items z log) + 1) level bytes g.0.1.0 (open_deeds t (items z log))
+    (deeds (λ v. same_txn v t) log) g.0.0 g.0.1.1 (unused f p same z t log g.1) e
 unused f p same z t (records.CompEnd u k undone ∷ log) g e = elim (cases_Bool (same_txn u t)) [
   | inl y ↦ rw y (rest_none p (open_deeds t (items z log)) (unused f p same z t log g.1 e))
   | inr m ↦ rw m (unused f p same z t log g.1 e)
 ]
-unused f p same z t (records.Commit u ∷ log) g e = elim (cases_Bool (same_txn u t)) [ inl y ↦ rw y refl | inr m ↦ rw m (unused f p same z t log g.1 e) ]
+unused f p same z t (records.Commit u ∷ log) g e =
+    elim (cases_Bool (same_txn u t)) [ inl y ↦ rw y refl | inr m ↦ rw m (unused f p same z t log g.1 e) ]
 
 sends_same : (s : ℕ) (d : Deed) → uses_send s (said d) ≡ is_sending s d
 sends_same s (Append r n tag previous body) = refl
@@ -91,7 +100,9 @@ takes_same s (UnlinkHead r n tag body) = refl
 takes_same s (Close r) = refl
 
 -- where only t holds an end, nobody else has anything open there
-alone : (f : Said → Bool) (p : Deed → Bool) → ((d : Deed) → f (said d) ≡ p d) → (z : Sizes) (log : List Record) (t : Txn) → Legal (layout_of z) (items z log) → Reads log → ((u : Txn) → holds f log u ≡ true → u ≡ t)
+alone : (f : Said → Bool) (p : Deed → Bool) → ((d : Deed) → f (said d) ≡ p d)
+    → (z : Sizes) (log : List Record) (t : Txn) → Legal (layout_of z) (items z log) → Reads log
+    → ((u : Txn) → holds f log u ≡ true → u ≡ t)
     → (u : Txn) → u ≢ t → side p (open_deeds u (items z log)) ≡ []
 alone f p same z log t legal reads only_t u n = elim (cases_Bool (has_end log u)) [
   | inl y ↦ ap (side p) (ended z u log legal y)
@@ -102,24 +113,34 @@ alone f p same z log t legal reads only_t u n = elim (cases_Bool (has_end log u)
 ]
 
 -- where a group has more than was taken, a message is left for t
-left : (z : Sizes) (log : List Record) (s : ℕ) (t : Txn) → KeepsRules log → Reads log → has_end log t ≡ false → has_undone log t ≡ false → removed s (deeds (λ u. has_commit log u || same_txn u t) log) < length (added s (deeds (has_commit log) log))
+left : (z : Sizes) (log : List Record) (s : ℕ) (t : Txn) → KeepsRules log → Reads log → has_end log t ≡ false
+    → has_undone log t ≡ false
+    → removed s (deeds (λ u. has_commit log u || same_txn u t) log) < length (added s (deeds (has_commit log) log))
     → 0 < length (with_all (side (is_taking s) (open_deeds t (items z log))) (committed (items z log) s)).messages
 left z log s t rules reads live forward more =
     let ps = open_deeds t (items z log) in
     let c = committed (items z log) s in
     let ds = deeds (has_commit log) log in
     let shown = committed_is_content z s log rules reads in
-    let shaped : content log s ≡ shape s ds = shape_is s ds (covered_log s (has_commit log) log rules (around_itself log)) in
-    let rest : length (content log s).rest ≡ length (added s ds) - removed s ds = ap (λ (x : Group). length x.rest) shaped ∙ length-drop (removed s ds) (added s ds) in
-    let held : length (content log s).rest ≡ length c.messages = ap length shown.rest ∙ length-map c.messages (message_of s) in
+    let shaped : content log s ≡ shape s ds =
+    shape_is s ds (covered_log s (has_commit log) log rules (around_itself log)) in
+    let rest : length (content log s).rest ≡ length (added s ds) - removed s ds =
+    ap (λ (x : Group). length x.rest) shaped ∙ length-drop (removed s ds) (added s ds) in
+    let held : length (content log s).rest ≡ length c.messages =
+    ap length shown.rest ∙ length-map c.messages (message_of s) in
     let both = removed_both s t (has_commit log) log (not_yet log t live) in
-    let own : removed s (say ps) ≡ removed s (deeds (only t) log) = ap (removed s) (own_deeds z t log reads live forward) in
-    let after : length (with_all (side (is_taking s) ps) c).messages ≡ length c.messages - removed s (say ps) = ap (λ (x : View). length x.messages) (takes_form s ps c) ∙ length-drop (removed s (say ps)) c.messages in
+    let own : removed s (say ps) ≡ removed s (deeds (only t) log) =
+    ap (removed s) (own_deeds z t log reads live forward) in
+    let after : length (with_all (side (is_taking s) ps) c).messages ≡ length c.messages - removed s (say ps) =
+    ap (λ (x : View). length x.messages) (takes_form s ps c) ∙ length-drop (removed s (say ps)) c.messages in
     omega (arith, rest, held, both, own, after, more)
 
-turn : (z : Sizes) (log : List Record) (t : Txn) (d : Deed) → Legal (layout_of z) (items z log) → KeepsRules log → Reads log → has_undone log t ≡ false → ((s : ℕ) → MayEnd log s t (said d)) → Told d (view (items z log) (deed_sender d)) → (s : ℕ) → MayTurn (items z log) t d s
+turn : (z : Sizes) (log : List Record) (t : Txn) (d : Deed) → Legal (layout_of z) (items z log) → KeepsRules log
+    → Reads log → has_undone log t ≡ false → ((s : ℕ) → MayEnd log s t (said d))
+    → Told d (view (items z log) (deed_sender d)) → (s : ℕ) → MayTurn (items z log) t d s
 turn z log t (Append q n tag previous body) legal rules reads forward may told s = record {
-  sends = λ y. (alone (uses_send s) (is_sending s) (sends_same s) z log t legal reads ((may s).alone_send y), subst (λ p. Told (Append q n tag previous body) (view (items z log) p)) (eqb-true q s y) told);
+  sends =
+      λ y. (alone (uses_send s) (is_sending s) (sends_same s) z log t legal reads ((may s).alone_send y), subst (λ p. Told (Append q n tag previous body) (view (items z log) p)) (eqb-true q s y) told);
   takes = λ y. absurd (false≢true y);
 }
 turn z log t (UnlinkHead q n tag body) legal rules reads forward may told s = record {
@@ -131,7 +152,8 @@ turn z log t (UnlinkHead q n tag body) legal rules reads forward may told s = re
   );
 }
 turn z log t (Close q) legal rules reads forward may told s = record {
-  sends = λ y. (alone (uses_send s) (is_sending s) (sends_same s) z log t legal reads ((may s).alone_send y), subst (λ p. Told (Close q) (view (items z log) p)) (eqb-true q s y) told);
+  sends =
+      λ y. (alone (uses_send s) (is_sending s) (sends_same s) z log t legal reads ((may s).alone_send y), subst (λ p. Told (Close q) (view (items z log) p)) (eqb-true q s y) told);
   takes = λ y. absurd (false≢true y);
 }
 
@@ -141,8 +163,11 @@ some_open z [] u ws h e = h
 some_open z (p ∷ ps) u ws h e = cc
 
 -- an OpEnd whose deed can be read
-end_turn : (z : Sizes) (log : List Record) (t : Txn) (level : ℕ) (bytes : List ℕ) (d : Deed) → level ≡ 1 → deed_in bytes ≡ Some d → Legal (layout_of z) (items z log) → KeepsRules log → Reads log → has_undone log t ≡ false
-    → EndingMay log (ending_by t (cond (nat_eq level 1) (deed_in bytes) None)) → Told (told_deed (deed_in bytes)) (view (items z log) (deed_sender (told_deed (deed_in bytes)))) → (s : ℕ) → MayTurn (items z log) t (told_deed (deed_in bytes)) s
+end_turn : (z : Sizes) (log : List Record) (t : Txn) (level : ℕ) (bytes : List ℕ) (d : Deed) → level ≡ 1
+    → deed_in bytes ≡ Some d → Legal (layout_of z) (items z log) → KeepsRules log → Reads log → has_undone log t ≡ false
+    → EndingMay log (ending_by t (cond (nat_eq level 1) (deed_in bytes) None))
+    → Told (told_deed (deed_in bytes)) (view (items z log) (deed_sender (told_deed (deed_in bytes)))) → (s : ℕ)
+    → MayTurn (items z log) t (told_deed (deed_in bytes)) s
 end_turn z log t level bytes d l e legal rules reads forward may told s =
     let one : nat_eq level 1 ≡ true = eq-eqb level 1 l in
     let here : (s : ℕ) → MayEnd log s t (said d) = rw (one, e) at may in
@@ -150,7 +175,8 @@ end_turn z log t level bytes d l e legal rules reads forward may told s =
     rw e (turn z log t d legal rules reads forward here tells s)
 
 -- the rule of groups over views
-pub rules_groups : (z : Sizes) (log : List Record) → Legal (layout_of z) (items z log) → KeepsRules log → Reads log → Tells (items z log) → KeepsGroups (items z log)
+pub rules_groups : (z : Sizes) (log : List Record) → Legal (layout_of z) (items z log) → KeepsRules log → Reads log
+    → Tells (items z log) → KeepsGroups (items z log)
 rules_groups z [] g k r h = tt
 rules_groups z (records.PageOp t n page slot before after ∷ log) g k r h = (tt, rules_groups z log g.1 k.2 r.1 h.1)
 rules_groups z (records.PageUndo t n undone page slot after ∷ log) g k r h = (tt, rules_groups z log g.1 k.2 r.1 h.1)
@@ -158,6 +184,7 @@ rules_groups z (records.OpVoid t n ∷ log) g k r h = (tt, rules_groups z log g.
 rules_groups z (records.Commit t ∷ log) g k r h = (tt, rules_groups z log g.1 k.2 r.1 h.1)
 rules_groups z (records.AbortEnd t ∷ log) g k r h = (tt, rules_groups z log g.1 k.2 r.1 h.1)
 rules_groups z (records.Restart i ∷ log) g k r h = (tt, rules_groups z log g.1 k.2 r.1 h.1)
-rules_groups z (records.CompEnd t n u ∷ log) g k r h = (some_open z (open_deeds t (items z log)) u _ g.0.plan, rules_groups z log g.1 k.2 r.1 h.1)
+rules_groups z (records.CompEnd t n u ∷ log) g k r h =
+    (some_open z (open_deeds t (items z log)) u _ g.0.plan, rules_groups z log g.1 k.2 r.1 h.1)
 rules_groups z (records.OpEnd t n level deed ∷ log) g k r h =
     (end_turn z log t level deed r.0.1.0 r.0.0 r.0.1.1 g.1 k.2 r.1 r.0.2 k.0 h.0, rules_groups z log g.1 k.2 r.1 h.1)

@@ -7,26 +7,43 @@ use Rattle.rq_model.specs.Words.{same_txn}
 use Rattle.rq_model.proofs.Lists.{same_self}
 use Rattle.rq_level.specs.Chain.{View, AreTaken}
 use Rattle.rq_level.specs.Chain.Taking.{Took}
+use Rattle.rq_level.specs.Claims.{HasRoom}
+use Rattle.rq_level.specs.Numbers.{AreNumbered}
 use Rattle.rq_level.specs.Groups.{is_sending, is_taking, side, with_all, Alone, Told, MayTurn, KeepsGroups, committed}
 use Rattle.rq_level.specs.Legal.{open_deeds, view}
 use Rattle.rq_level.specs.Log.{Item}
-use Rattle.rq_level.specs.Row.{t1, t2, sends, takes, row, committed_one, done_two, restarted}
+use Rattle.rq_level.specs.Row.{t1, t2, sends, takes, row, committed_one, done_two, stopped, restarted}
 use Rattle.rq_level.specs.Worked.{KeepsAll, WorkedLogs, RefusedRecords, one_waits}
 use Rattle.rq_level.proofs.GroupRule.{row_groups}
 use Rattle.rq_level.proofs.Interleaved.{row_legal}
 use Rattle.rq_level.proofs.Rows.{restarted_legal, taken_legal, closed_legal, stopped_spares, stopped_writes}
 
-may_send : (log : List Item) (t : Txn) (q : ℕ) → Alone (is_sending q) t log → Told (sends q) (view log q) → (s : ℕ) → MayTurn log t (sends q) s
-may_send log t q alone told s = record { sends = λ y. subst (λ k. Alone (is_sending k) t log × Told (sends q) (view log k)) (eqb-true q s y) (alone, told); takes = λ y. absurd (false≢true y) }
+may_send : (log : List Item) (t : Txn) (q : ℕ) → Alone (is_sending q) t log → Told (sends q) (view log q) → (s : ℕ)
+    → MayTurn log t (sends q) s
+may_send log t q alone told s = record {
+  sends = λ y. subst (λ k. Alone (is_sending k) t log × Told (sends q) (view log k)) (eqb-true q s y) (alone, told);
+  takes = λ y. absurd (false≢true y);
+}
 
-may_close : (log : List Item) (t : Txn) (q : ℕ) → Alone (is_sending q) t log → (view log q).closed ≡ false → (s : ℕ) → MayTurn log t (Close q) s
-may_close log t q alone told s = record { sends = λ y. subst (λ k. Alone (is_sending k) t log × Told (Close q) (view log k)) (eqb-true q s y) (alone, told); takes = λ y. absurd (false≢true y) }
+may_close : (log : List Item) (t : Txn) (q : ℕ) → Alone (is_sending q) t log → (view log q).closed ≡ false → (s : ℕ)
+    → MayTurn log t (Close q) s
+may_close log t q alone told s = record {
+  sends = λ y. subst (λ k. Alone (is_sending k) t log × Told (Close q) (view log k)) (eqb-true q s y) (alone, told);
+  takes = λ y. absurd (false≢true y);
+}
 
-may_take : (log : List Item) (t : Txn) (q : ℕ) → Alone (is_taking q) t log → Told (takes q) (view log q) → 0 < length (with_all (side (is_taking q) (open_deeds t log)) (committed log q)).messages → (s : ℕ) → MayTurn log t (takes q) s
+may_take : (log : List Item) (t : Txn) (q : ℕ) → Alone (is_taking q) t log → Told (takes q) (view log q)
+    → 0 < length (with_all (side (is_taking q) (open_deeds t log)) (committed log q)).messages → (s : ℕ)
+    → MayTurn log t (takes q) s
 may_take log t q alone told more s = record {
   sends = λ y. absurd (false≢true y);
-  takes = λ y. subst (λ k. Alone (is_taking k) t log × Told (takes q) (view log k) × (0 < length (with_all (side (is_taking k) (open_deeds t log)) (committed log k)).messages)) (eqb-true q s y) (alone, told, more);
+  takes =
+      λ y. subst (λ k. Alone (is_taking k) t log × Told (takes q) (view log k) × (0 < length (with_all (side (is_taking k) (open_deeds t log)) (committed log k)).messages)) (eqb-true q s y) (alone, told, more);
 }
+
+-- an operation that has a record may be of any number
+again : {n m : ℕ} → true ≡ false → n ≡ m
+again e = absurd (true≢false e)
 
 -- whoever committed has nothing open
 none_open : (u : Txn) → open_deeds u committed_one ≡ []
@@ -51,20 +68,36 @@ row_keeps = record {
   legal = row_legal;
   groups = row_groups;
   room = (tt, (tt, (tt, (omega arith, (tt, (tt, (tt, (tt, tt))))))));
-  numbers = (tt, (tt, (tt, (tt, ((λ e. absurd (true≢false e)), ((λ e. refl), ((λ e. refl), (tt, tt))))))));
+  numbers = (tt, (tt, (tt, (tt, (again, ((λ e. refl), ((λ e. refl), (tt, tt))))))));
 }
+
+one_room : HasRoom 30 committed_one
+one_room = (tt, (omega arith, (tt, (tt, (tt, tt)))))
+
+two_room : HasRoom 30 done_two
+two_room = (omega arith, (tt, (tt, (omega arith, (tt, (tt, one_room))))))
+
+all_room : HasRoom 30 restarted
+all_room = (tt, (tt, (tt, (tt, (tt, (tt, (tt, (tt, (tt, (tt, (tt, two_room)))))))))))
+
+one_numbers : AreNumbered committed_one
+one_numbers = (tt, (tt, (again, ((λ e. refl), (tt, tt)))))
+
+two_numbers : AreNumbered done_two
+two_numbers = (tt, (again, ((λ e. refl), (tt, (again, ((λ e. refl), one_numbers))))))
+
+stopped_numbers : AreNumbered stopped
+stopped_numbers = ((λ e. refl), (tt, (again, ((λ e. refl), two_numbers))))
+
+all_numbers : AreNumbered restarted
+all_numbers = (tt, (tt, (tt, (again, ((λ e. refl), (tt, (tt, stopped_numbers)))))))
 
 pub worked : WorkedLogs
 worked = record {
   interleaved = row_keeps;
   interleaved_view = refl;
   interleaved_slot = refl;
-  restarted_keeps = record {
-    legal = restarted_legal;
-    groups = restarted_groups;
-    room = (tt, (tt, (tt, (tt, (tt, (tt, (tt, (tt, (tt, (tt, (tt, (omega arith, (tt, (tt, (omega arith, (tt, (tt, (tt, (omega arith, (tt, (tt, (tt, tt))))))))))))))))))))));
-    numbers = (tt, (tt, (tt, ((λ e. absurd (true≢false e)), ((λ e. refl), (tt, (tt, ((λ e. refl), (tt, ((λ e. absurd (true≢false e)), ((λ e. refl), (tt, ((λ e. absurd (true≢false e)), ((λ e. refl), (tt, ((λ e. absurd (true≢false e)), ((λ e. refl), (tt, (tt, ((λ e. absurd (true≢false e)), ((λ e. refl), (tt, tt))))))))))))))))))))));
-  };
+  restarted_keeps = record { legal = restarted_legal; groups = restarted_groups; room = all_room; numbers = all_numbers };
   done_view = refl;
   stopped_view = refl;
   restarted_view = refl;
@@ -89,9 +122,11 @@ pub refused : RefusedRecords
 refused = record {
   taken_keeps = record {
     legal = taken_legal;
-    groups = (may_take _ t2 0 (λ u n. ap (side (is_taking 0)) (none_open u)) ([], refl, refl) (omega arith), (tt, (tt, one_groups)));
+    groups =
+        (may_take _ t2 0 (λ u n. ap (side (is_taking 0)) (none_open u)) ([], refl, refl) (omega arith), (tt, (tt, one_groups)));
     room = (omega arith, (tt, (tt, (tt, (omega arith, (tt, (tt, (tt, tt))))))));
-    numbers = (tt, ((λ e. absurd (true≢false e)), ((λ e. refl), (tt, (tt, ((λ e. absurd (true≢false e)), ((λ e. refl), (tt, tt))))))));
+    numbers =
+        (tt, (again, ((λ e. refl), (tt, (tt, (again, ((λ e. refl), (tt, tt))))))));
   };
   taken_room = (omega arith, (tt, (tt, (tt, (omega arith, (tt, (tt, (tt, tt))))))));
   full = λ h. omega (arith, h);

@@ -31,7 +31,8 @@ claimed_after (CompEnd o u) log n = n - newest_appends (open_deeds o.txn log)
 claimed_after (Commit t) log n = n - sum_by takes_placed (open_deeds t log)
 claimed_after _ log n = n
 
--- The cells of messages that are in chains, or that are taken and may be put back: a message claims one from the end of its send until this
+-- The cells of messages that are in chains, or that are taken and may be put back: a message claims one from the end of
+-- its send until this
 -- is undone, or until whoever took it commits.
 abbrev pub claimed : List Item → ℕ
 claimed [] = 0

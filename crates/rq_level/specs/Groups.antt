@@ -43,7 +43,8 @@ Alone f t log = (u : Txn) → u ≢ t → side f (open_deeds u log) ≡ []
 
 -- the view that the deed was done over: nothing is sent to a closed group, nor is it closed again
 abbrev pub Told : Deed → View → Type 0
-Told (Append s n tag previous body) v = (previous ≡ v.last_tag) × (n ≡ v.received + length v.messages + 1) × (v.closed ≡ false)
+Told (Append s n tag previous body) v =
+    (previous ≡ v.last_tag) × (n ≡ v.received + length v.messages + 1) × (v.closed ≡ false)
 Told (UnlinkHead s n tag body) v = (rest : List (ℕ × List ℕ)) × (v.messages ≡ (tag, body) ∷ rest) × (n ≡ v.received + 1)
 Told (Close s) v = v.closed ≡ false
 

@@ -53,9 +53,11 @@ abbrev pub has_undone : List Record → Txn → Bool
 has_undone [] t = false
 has_undone (r ∷ log) t = cond (compensates t r) true (has_undone log t)
 
--- an OpEnd is of the chain level and its deed can be read; a transaction that undid something does nothing more and doesn't commit
+-- an OpEnd is of the chain level and its deed can be read; a transaction that undid something does nothing more and
+-- doesn't commit
 abbrev pub ReadsOne : List Record → Record → Type 0
-ReadsOne log (records.OpEnd t n level deed) = (level ≡ 1) × ((d : Deed) × (deed_in deed ≡ Some d)) × (has_undone log t ≡ false)
+ReadsOne log (records.OpEnd t n level deed) =
+    (level ≡ 1) × ((d : Deed) × (deed_in deed ≡ Some d)) × (has_undone log t ≡ false)
 ReadsOne log (records.Commit t) = has_undone log t ≡ false
 ReadsOne log _ = Unit {0}
 

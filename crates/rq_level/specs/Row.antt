@@ -1,4 +1,5 @@
--- Worked logs, over a store of two directory pages and two cell pages: 30 senders and 30 cells. The newest record comes first.
+-- Worked logs, over a store of two directory pages and two cell pages: 30 senders and 30 cells. The newest record comes
+-- first.
 use Rattle.rq_page.specs.declared.cell.Cell.{Cell}
 use Rattle.rq_page.specs.declared.directory.Directory.{Directory}
 use Rattle.rq_page.specs.Directories.{new_directory}
@@ -60,7 +61,9 @@ takes s = UnlinkHead s 1 7 (104 ∷ [])
 
 -- two operations, interleaved: an append that ends, and one that is undone
 abbrev pub row : List Item
-row = Commit t1 ∷ OpVoid b1 ∷ PageUndo b1 3 65 Free ∷ OpEnd a1 (sends 0) ∷ PageOp a1 end_a ∷ PageOp b1 new_b ∷ PageOp a1 new_a ∷ Restart 1 ∷ []
+row =
+    Commit t1 ∷ OpVoid b1 ∷ PageUndo b1 3 65 Free ∷ OpEnd a1 (sends 0) ∷ PageOp a1 end_a ∷ PageOp b1 new_b
+    ∷ PageOp a1 new_a ∷ Restart 1 ∷ []
 
 -- the slots that taking the message of sender 0 writes, and that putting it back does
 abbrev pub sent_a : Directory
@@ -94,7 +97,9 @@ committed_one = Commit t1 ∷ OpEnd a1 (sends 0) ∷ PageOp a1 end_a ∷ PageOp 
 
 -- then t2 sends for sender 15 and takes the message of sender 0
 abbrev pub done_two : List Item
-done_two = OpEnd (of t2 2) (takes 0) ∷ PageOp (of t2 2) took_a ∷ PageOp (of t2 2) free_a ∷ OpEnd b1 (sends 15) ∷ PageOp b1 end_b ∷ PageOp b1 new_b ∷ committed_one
+done_two =
+    OpEnd (of t2 2) (takes 0) ∷ PageOp (of t2 2) took_a ∷ PageOp (of t2 2) free_a ∷ OpEnd b1 (sends 15)
+    ∷ PageOp b1 end_b ∷ PageOp b1 new_b ∷ committed_one
 
 -- it aborts: the message goes back, and a crash comes while its own is taken back
 abbrev pub stopped : List Item
@@ -102,7 +107,9 @@ stopped = PageOp (of t2 4) free_b ∷ CompEnd (of t2 3) 11 ∷ PageOp (of t2 3) 
 
 -- a restart undoes by its before-image what is not whole, and takes the send back
 abbrev pub taken_back : List Item
-taken_back = CompEnd (of t2 5) 8 ∷ PageOp (of t2 5) undid_b ∷ PageOp (of t2 5) free_b ∷ OpVoid (of t2 4) ∷ PageUndo (of t2 4) 15 65 (Used (cell 15)) ∷ stopped
+taken_back =
+    CompEnd (of t2 5) 8 ∷ PageOp (of t2 5) undid_b ∷ PageOp (of t2 5) free_b ∷ OpVoid (of t2 4)
+    ∷ PageUndo (of t2 4) 15 65 (Used (cell 15)) ∷ stopped
 
 -- then it ends t2, and the store is open again
 abbrev pub restarted : List Item

@@ -45,8 +45,11 @@ SettledCellsAreCommitted =
 abbrev pub TakenMessagesHaveCells : Type 0
 TakenMessagesHaveCells =
     (z : Sizes) (log : List Record) (t : Txn) → Legal (layout_of z) (items z log) → InStore z log → HasRoom (cell_count z) (items z log)
-    → count_used z (state_of (layout_of z) (items z log)).quiet + sum_by takes_placed (open_deeds t (items z log)) ≤ cell_count z
+    → count_used z (state_of (layout_of z) (items z log)).quiet + sum_by takes_placed (open_deeds t (items z log))
+    ≤ cell_count z
 
 -- the numbers of a transaction's operations go from 1 to the greatest
 abbrev pub NumbersHaveNoGaps : Type 0
-NumbersHaveNoGaps = (l : Layout) (t : Txn) (n : ℕ) (log : List Item) → Legal l log → AreNumbered log → 1 ≤ n → n ≤ greatest t log → began (operation t n) log ≡ true
+NumbersHaveNoGaps =
+    (l : Layout) (t : Txn) (n : ℕ) (log : List Item) → Legal l log → AreNumbered log → 1 ≤ n → n ≤ greatest t log
+    → began (operation t n) log ≡ true

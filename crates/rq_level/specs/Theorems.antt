@@ -30,6 +30,9 @@ SettledFoldIsCommitted = (s : ℕ) (log : List Item) → KeepsGroups log → ((t
 abbrev pub CommittedIsContent : Type 0
 CommittedIsContent = (z : Sizes) (s : ℕ) (log : List Record) → KeepsRules log → Reads log → IsViewOf s (content log s) (committed (items z log) s)
 
--- where only the holder of an end uses it and each deed tells what it was done over, each sender's view is that of its holders
+-- where only the holder of an end uses it and each deed tells what it was done over, each sender's view is that of its
+-- holders
 abbrev pub RulesKeepGroups : Type 0
-RulesKeepGroups = (z : Sizes) (log : List Record) → Legal (layout_of z) (items z log) → KeepsRules log → Reads log → Tells (items z log) → KeepsGroups (items z log)
+RulesKeepGroups =
+    (z : Sizes) (log : List Record) → Legal (layout_of z) (items z log) → KeepsRules log → Reads log
+    → Tells (items z log) → KeepsGroups (items z log)

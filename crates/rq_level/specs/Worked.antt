@@ -56,7 +56,8 @@ pub record WorkedLogs : Type 0 where
   pub done_claims : claimed done_two ≡ 2
   pub restarted_claims : claimed restarted ≡ 1
   pub restarted_number : greatest t2 restarted ≡ 5
-  -- while an inverse is under way on sender 15, no operation has written over a slot of sender 0, and one has over a slot of sender 15
+  -- while an inverse is under way on sender 15, no operation has written over a slot of sender 0, and one has over a
+  -- slot of sender 15
   pub spares : (o : Sub) → Spares 0 ((state_of small stopped).writes o)
   pub not_spared : ((o : Sub) → Spares 15 ((state_of small stopped).writes o)) → ⊥
 
@@ -80,8 +81,12 @@ pub record RefusedRecords : Type 0 where
   pub settled : open_deeds t2 taken_back ≡ []
   pub not_ended : MayRestart taken_back 2 → ⊥
   -- a deed or a commit of a transaction that took something back
-  pub deed_after_undo : (log : List Record) (t : Txn) (n m k level : ℕ) (deed : InPlace 256) → ReadsOne (records.CompEnd t m k ∷ log) (records.OpEnd t n level deed) → ⊥
-  pub commit_after_undo : (log : List Record) (t : Txn) (m k : ℕ) → ReadsOne (records.CompEnd t m k ∷ log) (records.Commit t) → ⊥
-  -- A send is taken back around a receive of what stood before it. A receive of the message itself could not be done without the send.
-  pub undo_met : CanBeDone sends_second one_waits × AreTaken (Took 7 (104 ∷ []) ∷ []) one_waits one_taken × AreTaken (Took 7 (104 ∷ []) ∷ []) (with_turn sends_second one_waits) (with_turn sends_second one_taken)
+  pub deed_after_undo : (log : List Record) (t : Txn) (n m k level : ℕ) (deed : InPlace 256)
+      → ReadsOne (records.CompEnd t m k ∷ log) (records.OpEnd t n level deed) → ⊥
+  pub commit_after_undo : (log : List Record) (t : Txn) (m k : ℕ)
+      → ReadsOne (records.CompEnd t m k ∷ log) (records.Commit t) → ⊥
+  -- A send is taken back around a receive of what stood before it. A receive of the message itself could not be done
+  -- without the send.
+  pub undo_met : CanBeDone sends_second one_waits × AreTaken (Took 7 (104 ∷ []) ∷ []) one_waits one_taken
+      × AreTaken (Took 7 (104 ∷ []) ∷ []) (with_turn sends_second one_waits) (with_turn sends_second one_taken)
   pub undo_not_met : (w : View) → AreTaken (Took 7 (104 ∷ []) ∷ Took 8 (105 ∷ []) ∷ []) one_waits w → ⊥

@@ -15,7 +15,8 @@ pub fn quiet_slots_show_the_fold()
     ensures { QuietSlotsShowTheFold }
 {}
 
-/// The slots as they are show it too, of each sender on which no operation is under way.
+/// The slots as they are show it too, of each sender over whose slots no operation under way has written, as
+/// none has of a sender that no operation is on.
 pub fn idle_slots_show_the_fold()
     ensures { IdleSlotsShowTheFold }
 {}

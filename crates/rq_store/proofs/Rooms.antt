@@ -1,4 +1,5 @@
--- In a sound store there is room for the end of each send that is under way: its cell, and those that the log's messages claim, are all there.
+-- In a sound store there is room for the end of each send that is under way: its cell, and those that the log's
+-- messages claim, are all there.
 use Rattle.std.proofs.Common.{◌≡◌, ℕ, ◌+◌, ◌≤◌, false, List, [], ◌∷◌, ◌++◌, map, reverse, None, inl, inr, refl, sym, ◌∙◌, ap, arith}
 use Rattle.std.specs.List.{filter, sum_by}
 use Rattle.std.proofs.lemmas.Bool.{false≢true, false_from_ne_true}
@@ -45,19 +46,25 @@ one_in f (q ∷ rows) r h =
     ]
 
 other_row : (rows : List Row) (r q : Row) → found_row r.txn rows ≡ None → In q rows → same_txn r.txn q.txn ≡ false
-other_row rows r q u i = false_from_ne_true (same_txn r.txn q.txn) (λ y. some_not_none (found_row r.txn rows) (in_found r.txn rows q i (sym (same_is r.txn q.txn y))) u)
+other_row rows r q u i =
+    false_from_ne_true (same_txn r.txn q.txn)
+    (λ y. some_not_none (found_row r.txn rows) (in_found r.txn rows q i (sym (same_is r.txn q.txn y))) u)
 
 other_txn : (a b : Txn) → same_txn a b ≡ false → same_txn b a ≡ false
-other_txn a b n = false_from_ne_true (same_txn b a) (λ e. false≢true (sym n ∙ ap (λ x. same_txn a x) (same_is b a e) ∙ same_self a))
+other_txn a b n =
+    false_from_ne_true (same_txn b a) (λ e. false≢true (sym n ∙ ap (λ x. same_txn a x) (same_is b a e) ∙ same_self a))
 
 -- what all took, row by row
-rows_take : (rows : List Row) (xs : List Owned) → AreDistinct rows → ((x : Owned) → In x xs → found_row x.txn rows ≡ None → ⊥) → taken xs ≡ sum_by (λ r. taken (filter (owned_by r.txn) xs)) rows
+rows_take : (rows : List Row) (xs : List Owned) → AreDistinct rows
+    → ((x : Owned) → In x xs → found_row x.txn rows ≡ None → ⊥)
+    → taken xs ≡ sum_by (λ r. taken (filter (owned_by r.txn) xs)) rows
 rows_take [] xs u h = none_taken xs (λ x i. h x i refl)
 rows_take (r ∷ rows) xs u h =
     let rest = but_all (owned_by r.txn) xs in
     let own : Row → ℕ = λ q. taken (filter (owned_by q.txn) xs) in
     let left : Row → ℕ = λ q. taken (filter (owned_by q.txn) rest) in
-    let ih : taken rest ≡ sum_by left rows = rows_take rows rest u.1 (λ x i n. let k = in_but_all (owned_by r.txn) xs x i in h x k.0 (rw (other_txn x.txn r.txn k.1) n)) in
+    let ih : taken rest ≡ sum_by left rows =
+    rows_take rows rest u.1 (λ x i n. let k = in_but_all (owned_by r.txn) xs x i in h x k.0 (rw (other_txn x.txn r.txn k.1) n)) in
     let same : sum_by left rows ≡ sum_by own rows =
     same_sums left own rows (λ q i. ap taken (other_but_all (owned_by q.txn) (owned_by r.txn) xs (λ x e. ap (λ y. same_txn y q.txn) (same_is x.txn r.txn e) ∙ other_row rows r q u.0 i))) in
     let a = taken_parts (owned_by r.txn) xs in
@@ -75,7 +82,8 @@ takes_append (x ∷ xs) ys =
 takes_reverse : (xs : List Placed) → sum_by takes_placed (reverse xs) ≡ sum_by takes_placed xs
 takes_reverse [] = refl
 takes_reverse (x ∷ xs) =
-    let a : sum_by takes_placed (reverse (x ∷ xs)) ≡ sum_by takes_placed (reverse xs) + sum_by takes_placed (x ∷ []) = ap (sum_by takes_placed) (reverse_onto xs x []) ∙ takes_append (reverse xs) (x ∷ []) in
+    let a : sum_by takes_placed (reverse (x ∷ xs)) ≡ sum_by takes_placed (reverse xs) + sum_by takes_placed (x ∷ []) =
+    ap (sum_by takes_placed) (reverse_onto xs x []) ∙ takes_append (reverse xs) (x ∷ []) in
     let b = sum_by-cons takes_placed x xs in
     let c = sum_by-cons takes_placed x [] in
     let ih = takes_reverse xs in
@@ -89,7 +97,9 @@ takes_finished (f ∷ fs) =
     let ih = takes_finished fs in
     omega (arith, a, b, ih)
 
-apart_is : (rows : List Row) → sum_by apart rows ≡ sum_by (λ (r : Row). sum_by takes_one r.finished) rows + sum_by (λ (r : Row). appending r.under) rows
+apart_is : (rows : List Row)
+    → sum_by apart rows
+    ≡ sum_by (λ (r : Row). sum_by takes_one r.finished) rows + sum_by (λ (r : Row). appending r.under) rows
 apart_is [] = refl
 apart_is (r ∷ rows) =
     let a = sum_by-cons apart r rows in
@@ -99,17 +109,20 @@ apart_is (r ∷ rows) =
     omega (arith, a, b, c, ih)
 
 -- so the end of a send under way finds room
-pub room_here : (s : State) (k : IsSound s) (r : Row) → In r s.rows → claimed (items s.sizes s.records) + appending r.under ≤ cell_count s.sizes
+pub room_here : (s : State) (k : IsSound s) (r : Row) → In r s.rows
+    → claimed (items s.sizes s.records) + appending r.under ≤ cell_count s.sizes
 room_here s k r i =
     let z = s.sizes in
     let log = items z s.records in
     let own : Row → ℕ = λ q. taken (filter (owned_by q.txn) (all_open log)) in
     let took : Row → ℕ = λ q. sum_by takes_one q.finished in
-    let all : taken (all_open log) ≡ sum_by own s.rows = rows_take s.rows (all_open log) k.distinct (λ x j n. none_open log x j (k.others x.txn n).settled) in
+    let all : taken (all_open log) ≡ sum_by own s.rows =
+    rows_take s.rows (all_open log) k.distinct (λ x j n. none_open log x j (k.others x.txn n).settled) in
     let each : sum_by own s.rows ≡ sum_by took s.rows =
     same_sums own took s.rows (λ q j. sym (taken_placed (filter (owned_by q.txn) (all_open log))) ∙ ap (sum_by takes_placed) (own_open q.txn log ∙ (k.rows q j).done) ∙ takes_reverse (map placed_one q.finished) ∙ takes_finished q.finished) in
     let a = claimed_is z s.records k.log.legal k.log.in_store in
-    let b : count_used z (left_by z s.records).quiet ≡ count_messages z s.records = quiet_counts z s.records k.log.legal k.log.in_store in
+    let b : count_used z (left_by z s.records).quiet ≡ count_messages z s.records =
+    quiet_counts z s.records k.log.legal k.log.in_store in
     let c = apart_is s.rows in
     let d = one_in (λ (q : Row). appending q.under) s.rows r i in
     let e = k.used in

@@ -1,15 +1,13 @@
 -- A log spelled in bytes goes back to the slots and deeds that it was spelled from.
-use Rattle.std.proofs.Common.{◌≡◌, ℕ, ◌/◌, ◌%◌, ◌+◌, ◌*◌, ◌<◌, ◌≤◌, List, [], ◌∷◌, map, Some, refl, sym, ◌∙◌, ap, subst, arith}
-use Rattle.rq_model.specs.declared.record.Deed.{Deed}
-use Rattle.rq_model.specs.declared.record.Record.{Record}
+use Rattle.std.proofs.Common.{◌≡◌, ℕ, ◌/◌, ◌%◌, ◌<◌, ◌≤◌, List, [], ◌∷◌, Some, refl, sym, ◌∙◌, ap, subst, arith}
 use Rattle.rq_model.specs.Deeds.{deed_in, spelled_deed}
 use Rattle.rq_page.specs.Kinds.{kind_of}
-use Rattle.rq_page.specs.Sizes.{Sizes, address, sender_count}
+use Rattle.rq_page.specs.Sizes.{Sizes, sender_count}
 use Rattle.rq_page.specs.Slots.{Slot, MayHold, IsSlotOf, held_in, spelled}
 use Rattle.rq_page.proofs.Spellings.{spelling_tells}
 use Rattle.rq_level.specs.InStore.{InStore, InStoreOne}
 use Rattle.rq_level.specs.Items.{items, item_of, told_deed}
-use Rattle.rq_level.specs.Log.{Item, Write}
+use Rattle.rq_level.specs.Log.{Item}
 use Rattle.rq_level.specs.Log.Item.{PageOp, PageUndo, OpEnd, OpVoid, CompEnd, Commit, AbortEnd, Restart}
 use Rattle.rq_level.specs.Plans.{deed_sender}
 use Rattle.rq_store.specs.Sound.{BeforesAreSlots, IsBefore}
@@ -31,7 +29,8 @@ abbrev pub AreSpelt : Sizes → List Item → Type 0
 AreSpelt z [] = Unit {0}
 AreSpelt z (i ∷ log) = IsSpelt z i × AreSpelt z log
 
-told : (z : Sizes) (a : ℕ) (x : Slot) → MayStandAt z a x → (held_in z (a / 16) (spelled x) ≡ x) × IsSlotOf z (a / 16) (a % 16) (spelled x)
+told : (z : Sizes) (a : ℕ) (x : Slot) → MayStandAt z a x
+    → (held_in z (a / 16) (spelled x) ≡ x) × IsSlotOf z (a / 16) (a % 16) (spelled x)
 told z a x h = spelling_tells z (a / 16) (a % 16) x h.low (omega arith) h.holds
 
 one_back : (z : Sizes) (i : Item) → IsSpelt z i → item_of z (record_of i) ≡ i
@@ -40,7 +39,9 @@ one_back z (PageOp o w) h =
     ap (λ a. PageOp o (record { at = a; before = held_in z page (spelled w.before); after = held_in z page (spelled w.after) })) (address_is w.at)
     ∙ ap (λ x. PageOp o (record { at = w.at; before = x; after = held_in z page (spelled w.after) })) (told z w.at w.before h.0).0
     ∙ ap (λ x. PageOp o (record { at = w.at; before = w.before; after = x })) (told z w.at w.after h.1).0
-one_back z (PageUndo o u at after) h = ap (λ a. PageUndo o u a (held_in z (at / 16) (spelled after))) (address_is at) ∙ ap (λ x. PageUndo o u at x) (told z at after h).0
+one_back z (PageUndo o u at after) h =
+    ap (λ a. PageUndo o u a (held_in z (at / 16) (spelled after))) (address_is at)
+    ∙ ap (λ x. PageUndo o u at x) (told z at after h).0
 one_back z (OpEnd o d) h = ap (λ e. OpEnd o (told_deed e)) h.0
 one_back z (OpVoid o) h = refl
 one_back z (CompEnd o u) h = refl
@@ -50,7 +51,8 @@ one_back z (Restart i) h = refl
 
 pub items_back : (z : Sizes) (log : List Item) → AreSpelt z log → items z (spelled_log log) ≡ log
 items_back z [] h = refl
-items_back z (i ∷ log) h = ap (λ x. x ∷ items z (spelled_log log)) (one_back z i h.0) ∙ ap (λ l. i ∷ l) (items_back z log h.1)
+items_back z (i ∷ log) h =
+    ap (λ x. x ∷ items z (spelled_log log)) (one_back z i h.0) ∙ ap (λ l. i ∷ l) (items_back z log h.1)
 
 one_in_store : (z : Sizes) (i : Item) → IsSpelt z i → InStoreOne z (record_of i)
 one_in_store z (PageOp o w) h = (told z w.at w.after h.1).1

@@ -1,22 +1,20 @@
 -- The worked log in bytes is whole, and comes to this.
-use Rattle.std.proofs.Common.{◌≡◌, ℕ, ◌+◌, ◌<◌, ◌^◌, List, [], ◌∷◌, ◌||◌, length, drop, Bool, true, false, inl, inr, refl, sym, ◌∙◌, ap, subst, arith}
+use Rattle.std.proofs.Common.{◌≡◌, ℕ, ◌+◌, ◌<◌, ◌≤◌, List, [], ◌||◌, length, drop, Bool, true, false, inl, inr, refl, sym, subst, arith}
 use Rattle.std.proofs.lemmas.Bool.{cases_Bool, false≢true, eqb-true, and_parts}
 use Rattle.rq_model.specs.declared.record.Record.{Record}
 use Rattle.rq_model.specs.declared.txn.Txn.{Txn}
 use Rattle.rq_model.specs.Content.{Said, holds, has_end, has_commit, deeds, removed, added, uses_send, uses_receive, KeepsRules}
 use Rattle.rq_model.specs.Words.{same_txn}
 use Rattle.rq_model.proofs.Lists.{same_is}
-use Rattle.rq_page.specs.declared.cell.Cell.{Cell}
 use Rattle.rq_page.specs.declared.directory.Directory.{Directory}
 use Rattle.rq_page.specs.Directories.{new_directory, IsDirectorySlot}
-use Rattle.rq_page.specs.Sizes.{IsLink, IsCellAddress, cell_count}
-use Rattle.rq_page.specs.Slots.{Slot, IsCellOf}
+use Rattle.rq_page.specs.Sizes.{IsLink, cell_count}
+use Rattle.rq_page.specs.Slots.{IsCellOf}
 use Rattle.rq_page.specs.Slots.Slot.{Free, Used, Sender}
 use Rattle.rq_level.specs.Claims.{HasRoom}
 use Rattle.rq_level.specs.Groups.{Tells}
 use Rattle.rq_level.specs.Items.{items, Reads}
 use Rattle.rq_level.specs.Legal.{Legal}
-use Rattle.rq_level.specs.Log.{Item}
 use Rattle.rq_level.specs.Numbers.{AreNumbered}
 use Rattle.rq_level.specs.Plans.{directory_put_back, directory_tail_unlinked}
 use Rattle.rq_level.specs.Row.{sizes, small, t2, cell, sends, takes, sent_a, taken_a, sent_b, committed_one, done_two, stopped, taken_back, restarted}
@@ -30,7 +28,16 @@ use Rattle.rq_store.proofs.Spelling.{MayStandAt, AreSpelt, items_back, in_store,
 -- what stands in the slots
 cell_fits : (s : ℕ) → s < 30 → IsCellOf sizes (cell s)
 cell_fits s h = record {
-  numbers = record { sender = omega (arith, h); numbered = omega arith; sequence = omega arith; tag = omega arith; next = omega arith; prev = omega arith; body = omega arith };
+  numbers =
+      record {
+        sender = omega (arith, h);
+        numbered = omega arith;
+        sequence = omega arith;
+        tag = omega arith;
+        next = omega arith;
+        prev = omega arith;
+        body = omega arith;
+      };
   sender = h;
   next = inl refl;
   prev = inl refl;
@@ -54,17 +61,34 @@ at_a = inr (record { above = omega arith; below = omega arith; slot = omega arit
 at_b : IsLink sizes 65
 at_b = inr (record { above = omega arith; below = omega arith; slot = omega arith })
 
-few : (s : ℕ) (d : Directory) → s < 30 → d.sent < 2 → d.received < d.sent + 1 → d.last_tag < 8 → d.head < 100 → d.tail < 100 → IsDirectorySlot (record { sender = s; directory = d })
-few s d a b c e f g = record { sender = omega (arith, a); sent = omega (arith, b); received = omega (arith, c); last_tag = omega (arith, e); head = omega (arith, f); tail = omega (arith, g) }
+few : (s : ℕ) (d : Directory) → s < 30 → d.sent < 2 → d.received < d.sent + 1 → d.last_tag < 8 → d.head < 100
+    → d.tail < 100 → IsDirectorySlot (record { sender = s; directory = d })
+few s d a b c e f g = record {
+  sender = omega (arith, a);
+  sent = omega (arith, b);
+  received = omega (arith, c);
+  last_tag = omega (arith, e);
+  head = omega (arith, f);
+  tail = omega (arith, g);
+}
 
-group_a : (d : Directory) → d.sent < 2 → d.received < d.sent + 1 → d.last_tag < 8 → d.head < 100 → d.tail < 100 → IsLink sizes d.head → IsLink sizes d.tail → MayStandAt sizes 17 (Sender 0 d)
-group_a d b c e f g h t = record { low = omega arith; holds = record { numbers = few 0 d (omega arith) b c e f g; own = refl; head = h; tail = t } }
+group_a : (d : Directory) → d.sent < 2 → d.received < d.sent + 1 → d.last_tag < 8 → d.head < 100 → d.tail < 100
+    → IsLink sizes d.head → IsLink sizes d.tail → MayStandAt sizes 17 (Sender 0 d)
+group_a d b c e f g h t = record {
+  low = omega arith;
+  holds = record { numbers = few 0 d (omega arith) b c e f g; own = refl; head = h; tail = t };
+}
 
-group_b : (d : Directory) → d.sent < 2 → d.received < d.sent + 1 → d.last_tag < 8 → d.head < 100 → d.tail < 100 → IsLink sizes d.head → IsLink sizes d.tail → MayStandAt sizes 33 (Sender 15 d)
-group_b d b c e f g h t = record { low = omega arith; holds = record { numbers = few 15 d (omega arith) b c e f g; own = refl; head = h; tail = t } }
+group_b : (d : Directory) → d.sent < 2 → d.received < d.sent + 1 → d.last_tag < 8 → d.head < 100 → d.tail < 100
+    → IsLink sizes d.head → IsLink sizes d.tail → MayStandAt sizes 33 (Sender 15 d)
+group_b d b c e f g h t = record {
+  low = omega arith;
+  holds = record { numbers = few 15 d (omega arith) b c e f g; own = refl; head = h; tail = t };
+}
 
 new_a : MayStandAt sizes 17 (Sender 0 new_directory)
-new_a = group_a new_directory (omega arith) (omega arith) (omega arith) (omega arith) (omega arith) (inl refl) (inl refl)
+new_a =
+    group_a new_directory (omega arith) (omega arith) (omega arith) (omega arith) (omega arith) (inl refl) (inl refl)
 
 has_a : MayStandAt sizes 17 (Sender 0 sent_a)
 has_a = group_a sent_a (omega arith) (omega arith) (omega arith) (omega arith) (omega arith) at_a at_a
@@ -73,32 +97,60 @@ took_a : MayStandAt sizes 17 (Sender 0 taken_a)
 took_a = group_a taken_a (omega arith) (omega arith) (omega arith) (omega arith) (omega arith) (inl refl) (inl refl)
 
 back_a : MayStandAt sizes 17 (Sender 0 (directory_put_back taken_a 49))
-back_a = group_a (directory_put_back taken_a 49) (omega arith) (omega arith) (omega arith) (omega arith) (omega arith) at_a at_a
+back_a =
+    group_a (directory_put_back taken_a 49) (omega arith) (omega arith) (omega arith) (omega arith) (omega arith) at_a
+    at_a
 
 new_b : MayStandAt sizes 33 (Sender 15 new_directory)
-new_b = group_b new_directory (omega arith) (omega arith) (omega arith) (omega arith) (omega arith) (inl refl) (inl refl)
+new_b =
+    group_b new_directory (omega arith) (omega arith) (omega arith) (omega arith) (omega arith) (inl refl) (inl refl)
 
 has_b : MayStandAt sizes 33 (Sender 15 sent_b)
 has_b = group_b sent_b (omega arith) (omega arith) (omega arith) (omega arith) (omega arith) at_b at_b
 
 undid_b : MayStandAt sizes 33 (Sender 15 (directory_tail_unlinked sent_b (cell 15) 0))
-undid_b = group_b (directory_tail_unlinked sent_b (cell 15) 0) (omega arith) (omega arith) (omega arith) (omega arith) (omega arith) (inl refl) (inl refl)
+undid_b =
+    group_b (directory_tail_unlinked sent_b (cell 15) 0) (omega arith) (omega arith) (omega arith) (omega arith)
+    (omega arith) (inl refl) (inl refl)
 
 one_spelt : AreSpelt sizes committed_one
 one_spelt = (tt, ((refl, omega arith), ((new_a, has_a), ((none_a, cell_a), (tt, tt)))))
 
+sent_spelt : AreSpelt sizes (drop 3 done_two)
+sent_spelt = ((refl, omega arith), ((new_b, has_b), ((none_b, cell_b), one_spelt)))
+
 two_spelt : AreSpelt sizes done_two
-two_spelt = ((refl, omega arith), ((has_a, took_a), ((cell_a, none_a), ((refl, omega arith), ((new_b, has_b), ((none_b, cell_b), one_spelt))))))
+two_spelt =
+    ((refl, omega arith), ((has_a, took_a), ((cell_a, none_a), sent_spelt)))
+
+stopped_spelt : AreSpelt sizes stopped
+stopped_spelt = ((cell_b, none_b), (tt, ((took_a, back_a), ((none_a, cell_a), two_spelt))))
 
 spelt : AreSpelt sizes restarted
-spelt = (tt, (tt, (tt, ((has_b, undid_b), ((cell_b, none_b), (tt, (cell_b, ((cell_b, none_b), (tt, ((took_a, back_a), ((none_a, cell_a), two_spelt)))))))))))
+spelt = (tt, (tt, (tt, ((has_b, undid_b), ((cell_b, none_b), (tt, (cell_b, stopped_spelt)))))))
 
 -- what its deeds tell
+one_reads : Reads (spelled_log committed_one)
+one_reads = (refl, ((refl, (sends 0, refl), refl), (tt, (tt, (tt, tt)))))
+
+two_reads : Reads (spelled_log done_two)
+two_reads = ((refl, (takes 0, refl), refl), (tt, (tt, ((refl, (sends 15, refl), refl), (tt, (tt, one_reads))))))
+
 reads : Reads (spelled_log restarted)
-reads = (tt, (tt, (tt, (tt, (tt, (tt, (tt, (tt, (tt, (tt, (tt, ((refl, (takes 0, refl), refl), (tt, (tt, ((refl, (sends 15, refl), refl), (tt, (tt, (refl, ((refl, (sends 0, refl), refl), (tt, (tt, (tt, tt))))))))))))))))))))))
+reads = (tt, (tt, (tt, (tt, (tt, (tt, (tt, (tt, (tt, (tt, (tt, two_reads)))))))))))
+
+one_tells : Tells committed_one
+one_tells = (tt, ((refl, refl, refl), (tt, (tt, (tt, tt)))))
+
+two_tells : Tells done_two
+two_tells = (([], refl, refl), (tt, (tt, ((refl, refl, refl), (tt, (tt, one_tells))))))
 
 tells : Tells restarted
-tells = (tt, (tt, (tt, (tt, (tt, (tt, (tt, (tt, (tt, (tt, (tt, (([], refl, refl), (tt, (tt, ((refl, refl, refl), (tt, (tt, (tt, ((refl, refl, refl), (tt, (tt, (tt, tt))))))))))))))))))))))
+tells = (tt, (tt, (tt, (tt, (tt, (tt, (tt, (tt, (tt, (tt, (tt, two_tells)))))))))))
+
+-- a record that ends no transaction
+never : {b : Bool} → false ≡ true → b ≡ false
+never e = absurd (false≢true e)
 
 -- nobody holds an end once t1 has committed
 none_holds : (f : Said → Bool) (u : Txn) → holds f (spelled_log committed_one) u ≡ true → ⊥
@@ -112,9 +164,14 @@ one_rules = (
   tt,
   (λ v e. refl),
   (
-    (λ s. record { not_ended = refl; alone_send = λ y u h. absurd (false≢true h); alone_receive = λ y. absurd (false≢true y); has_more = λ y. absurd (false≢true y) }),
-    (λ v e. absurd (false≢true e)),
-    (tt, (λ v e. absurd (false≢true e)), (tt, (λ v e. absurd (false≢true e)), (tt, (λ v e. absurd (false≢true e)), tt))),
+    (λ s. record {
+      not_ended = refl;
+      alone_send = λ y u h. absurd (false≢true h);
+      alone_receive = λ y. absurd (false≢true y);
+      has_more = λ y. absurd (false≢true y);
+    }),
+    (λ v. never),
+    (tt, (λ v. never), (tt, (λ v. never), (tt, (λ v. never), tt))),
   ),
 )
 
@@ -123,7 +180,9 @@ abbrev before_take : List Record
 before_take = drop 1 (spelled_log done_two)
 
 abbrev Left : ℕ → Type 0
-Left p = removed p (deeds (λ u. has_commit before_take u || same_txn u t2) before_take) < length (added p (deeds (has_commit before_take) before_take))
+Left p =
+    removed p (deeds (λ u. has_commit before_take u || same_txn u t2) before_take) < length
+    (added p (deeds (has_commit before_take) before_take))
 
 only_t2 : (f : Said → Bool) (u : Txn) → holds f before_take u ≡ true → u ≡ t2
 only_t2 f u h = elim (cases_Bool (same_txn t2 u)) [
@@ -139,27 +198,58 @@ two_rules = (
     alone_receive = λ y u h. only_t2 (uses_receive s) u h;
     has_more = λ y. subst (λ p. Left p) (eqb-true 0 s y) (omega arith);
   }),
-  (λ v e. absurd (false≢true e)),
+  (λ v. never),
   (
     tt,
-    (λ v e. absurd (false≢true e)),
+    (λ v. never),
     (
       tt,
-      (λ v e. absurd (false≢true e)),
+      (λ v. never),
       (
-        (λ s. record { not_ended = refl; alone_send = λ y u h. absurd (none_holds (uses_send s) u h); alone_receive = λ y. absurd (false≢true y); has_more = λ y. absurd (false≢true y) }),
-        (λ v e. absurd (false≢true e)),
-        (tt, (λ v e. absurd (false≢true e)), (tt, (λ v e. absurd (false≢true e)), one_rules)),
+        (λ s. record {
+          not_ended = refl;
+          alone_send = λ y u h. absurd (none_holds (uses_send s) u h);
+          alone_receive = λ y. absurd (false≢true y);
+          has_more = λ y. absurd (false≢true y);
+        }),
+        (λ v. never),
+        (tt, (λ v. never), (tt, (λ v. never), one_rules)),
       ),
     ),
   ),
 )
 
+stopped_rules : KeepsRules (spelled_log stopped)
+stopped_rules = (tt, (λ v. never), (tt, (λ v. never), (tt, (λ v. never), (tt, (λ v. never), two_rules))))
+
+back_rules : KeepsRules (spelled_log taken_back)
+back_rules = (
+  tt,
+  (λ v. never),
+  (tt, (λ v. never), (tt, (λ v. never), (tt, (λ v. never), (tt, (λ v. never), stopped_rules)))),
+)
+
 rules : KeepsRules (spelled_log restarted)
-rules = (tt, (λ v e. absurd (false≢true e)), (tt, (λ v e. subst (λ w. has_end (spelled_log taken_back) w ≡ false) (same_is t2 v e) refl), (tt, (λ v e. absurd (false≢true e)), (tt, (λ v e. absurd (false≢true e)), (tt, (λ v e. absurd (false≢true e)), (tt, (λ v e. absurd (false≢true e)), (tt, (λ v e. absurd (false≢true e)), (tt, (λ v e. absurd (false≢true e)), (tt, (λ v e. absurd (false≢true e)), (tt, (λ v e. absurd (false≢true e)), (tt, (λ v e. absurd (false≢true e)), two_rules)))))))))))
+rules = (
+  tt,
+  (λ v. never),
+  (tt, (λ v e. subst (λ w. has_end (spelled_log taken_back) w ≡ false) (same_is t2 v e) refl), back_rules),
+)
+
+running : (1 ≤ 1) × ◌≡◌ {A = ℕ} 1 1
+running = (omega arith, refl)
+
+one_order : InOrder (spelled_log committed_one)
+one_order = (running, (running, (running, (running, (refl, tt)))))
+
+two_order : InOrder (spelled_log done_two)
+two_order = (running, (running, (running, (running, (running, (running, one_order))))))
+
+stopped_order : InOrder (spelled_log stopped)
+stopped_order = (running, (running, (running, (running, two_order))))
 
 order : InOrder (spelled_log restarted)
-order = (refl, ((omega arith, refl), ((omega arith, refl), ((omega arith, refl), ((omega arith, refl), ((omega arith, refl), ((omega arith, refl), ((omega arith, refl), ((omega arith, refl), ((omega arith, refl), ((omega arith, refl), ((omega arith, refl), ((omega arith, refl), ((omega arith, refl), ((omega arith, refl), ((omega arith, refl), ((omega arith, refl), ((omega arith, refl), ((omega arith, refl), ((omega arith, refl), ((omega arith, refl), (refl, tt))))))))))))))))))))))
+order = (refl, (running, (running, (running, (running, (running, (running, stopped_order)))))))
 
 same : items sizes (spelled_log restarted) ≡ restarted
 same = items_back sizes restarted spelt

@@ -1,8 +1,7 @@
 -- A worked log in bytes: an abort that a crash stops within an inverse, and the restart after it.
-use Rattle.std.specs.Prelude.{◌≡◌, ℕ, ◌/◌, ◌%◌, List, [], ◌∷◌, map, false}
+use Rattle.std.specs.Prelude.{◌≡◌, ◌/◌, ◌%◌, List, [], ◌∷◌, map, false}
 use Rattle.rq_model.specs.declared.record.Record.{Record}
 use Rattle.rq_model.specs.declared.record.Record.TheVariants as records
-use Rattle.rq_model.specs.declared.txn.Txn.{Txn}
 use Rattle.rq_model.specs.Content.{content, unfinished, lost}
 use Rattle.rq_model.specs.Deeds.{spelled_deed}
 use Rattle.rq_model.specs.History.{Group}
@@ -28,7 +27,13 @@ spelled_log log = map record_of log
 
 -- the message of sender 0 waits, and that of sender 15 is gone
 abbrev pub one_message : Group
-one_message = record { sent = 1; last_tag = 7; received = 0; closed = false; rest = record { sender = 0; tag = 7; body = 104 ∷ [] } ∷ [] }
+one_message = record {
+  sent = 1;
+  last_tag = 7;
+  received = 0;
+  closed = false;
+  rest = record { sender = 0; tag = 7; body = 104 ∷ [] } ∷ [];
+}
 
 abbrev pub no_message : Group
 no_message = record { sent = 0; last_tag = 0; received = 0; closed = false; rest = [] }
