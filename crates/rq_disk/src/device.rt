@@ -52,8 +52,10 @@ pub trait PageDevice {
         ensures crash { NoMore (may_be self.old) (may_be self.new) }
         ensures time { Elapses (moment self.old) (moment self.new) (left_since self.old) (left_since self.new) (Leaves (may_be self.new)) }
         ensures honest { honest self.new → honest self.old }
-        ensures failed { honest self.new → OnErr result (stopped self.new ⊎ Stays (seen self.old) (seen self.new) (Leaves (may_be self.old)) (Leaves (may_be self.new))) }
-        ensures still { honest self.new → stopped self.old → IsErr result × stopped self.new × Stays (seen self.old) (seen self.new) (Leaves (may_be self.old)) (Leaves (may_be self.new)) }
+        ensures failed { honest self.new → OnErr result (stopped self.new ⊎ Stays (seen self.old) (seen self.new) (Leaves (may_be
+            self.old)) (Leaves (may_be self.new))) }
+        ensures still { honest self.new → stopped self.old → IsErr result × stopped self.new ×
+            Stays (seen self.old) (seen self.new) (Leaves (may_be self.old)) (Leaves (may_be self.new)) }
         ensures cause { HasCause (faults self.old) (faults self.new) result };
 
     /// Writes a page. The image is durable only after a sync.
@@ -63,8 +65,10 @@ pub trait PageDevice {
         ensures crash { Written page image.now (may_be self.old) (may_be self.new) }
         ensures time { Elapses (moment self.old) (moment self.new) (left_since self.old) (left_since self.new) (Leaves (may_be self.new)) }
         ensures honest { honest self.new → honest self.old }
-        ensures failed { honest self.new → OnErr result (stopped self.new ⊎ Stays (seen self.old) (seen self.new) (Leaves (may_be self.old)) (Leaves (may_be self.new))) }
-        ensures still { honest self.new → stopped self.old → IsErr result × stopped self.new × Stays (seen self.old) (seen self.new) (Leaves (may_be self.old)) (Leaves (may_be self.new)) }
+        ensures failed { honest self.new → OnErr result (stopped self.new ⊎ Stays (seen self.old) (seen self.new) (Leaves (may_be
+            self.old)) (Leaves (may_be self.new))) }
+        ensures still { honest self.new → stopped self.old → IsErr result × stopped self.new ×
+            Stays (seen self.old) (seen self.new) (Leaves (may_be self.old)) (Leaves (may_be self.new)) }
         ensures cause { HasCause (faults self.old) (faults self.new) result };
 
     /// Makes everything written so far durable.
@@ -74,8 +78,10 @@ pub trait PageDevice {
         ensures crash { NoMore (may_be self.old) (may_be self.new) }
         ensures time { Elapses (moment self.old) (moment self.new) (left_since self.old) (left_since self.new) (Leaves (may_be self.new)) }
         ensures honest { honest self.new → honest self.old }
-        ensures failed { honest self.new → OnErr result (stopped self.new ⊎ Stays (seen self.old) (seen self.new) (Leaves (may_be self.old)) (Leaves (may_be self.new))) }
-        ensures still { honest self.new → stopped self.old → IsErr result × stopped self.new × Stays (seen self.old) (seen self.new) (Leaves (may_be self.old)) (Leaves (may_be self.new)) }
+        ensures failed { honest self.new → OnErr result (stopped self.new ⊎ Stays (seen self.old) (seen self.new) (Leaves (may_be
+            self.old)) (Leaves (may_be self.new))) }
+        ensures still { honest self.new → stopped self.old → IsErr result × stopped self.new ×
+            Stays (seen self.old) (seen self.new) (Leaves (may_be self.old)) (Leaves (may_be self.new)) }
         ensures cause { HasCause (faults self.old) (faults self.new) result };
 
     /// A crash may leave what reads give.
@@ -125,8 +131,10 @@ pub trait LogDevice {
         ensures crash { (c : List ℕ) → may_leave self.new c → may_leave self.old c }
         ensures time { Elapses (moment self.old) (moment self.new) (left_since self.old) (left_since self.new) (may_leave self.new) }
         ensures honest { honest self.new → honest self.old }
-        ensures failed { honest self.new → OnErr result (stopped self.new ⊎ Stays (seen self.old) (seen self.new) (may_leave self.old) (may_leave self.new)) }
-        ensures still { honest self.new → stopped self.old → IsErr result × stopped self.new × Stays (seen self.old) (seen self.new) (may_leave self.old) (may_leave self.new) }
+        ensures failed { honest self.new → OnErr result (stopped self.new ⊎ Stays (seen self.old) (seen self.new) (may_leave
+            self.old) (may_leave self.new)) }
+        ensures still { honest self.new → stopped self.old → IsErr result × stopped self.new ×
+            Stays (seen self.old) (seen self.new) (may_leave self.old) (may_leave self.new) }
         ensures cause { HasCause (faults self.old) (faults self.new) result };
 
     /// Appends whole records. They are durable only after a force; a crash before it leaves the first few.
@@ -136,8 +144,10 @@ pub trait LogDevice {
         ensures crash { Appended (seen self.old) bytes.now (may_leave self.old) (may_leave self.new) }
         ensures time { Elapses (moment self.old) (moment self.new) (left_since self.old) (left_since self.new) (may_leave self.new) }
         ensures honest { honest self.new → honest self.old }
-        ensures failed { honest self.new → OnErr result (stopped self.new ⊎ Stays (seen self.old) (seen self.new) (may_leave self.old) (may_leave self.new)) }
-        ensures still { honest self.new → stopped self.old → IsErr result × stopped self.new × Stays (seen self.old) (seen self.new) (may_leave self.old) (may_leave self.new) }
+        ensures failed { honest self.new → OnErr result (stopped self.new ⊎ Stays (seen self.old) (seen self.new) (may_leave
+            self.old) (may_leave self.new)) }
+        ensures still { honest self.new → stopped self.old → IsErr result × stopped self.new ×
+            Stays (seen self.old) (seen self.new) (may_leave self.old) (may_leave self.new) }
         ensures cause { HasCause (faults self.old) (faults self.new) result };
 
     /// Makes everything appended so far durable.
@@ -147,8 +157,10 @@ pub trait LogDevice {
         ensures crash { (c : List ℕ) → may_leave self.new c → may_leave self.old c }
         ensures time { Elapses (moment self.old) (moment self.new) (left_since self.old) (left_since self.new) (may_leave self.new) }
         ensures honest { honest self.new → honest self.old }
-        ensures failed { honest self.new → OnErr result (stopped self.new ⊎ Stays (seen self.old) (seen self.new) (may_leave self.old) (may_leave self.new)) }
-        ensures still { honest self.new → stopped self.old → IsErr result × stopped self.new × Stays (seen self.old) (seen self.new) (may_leave self.old) (may_leave self.new) }
+        ensures failed { honest self.new → OnErr result (stopped self.new ⊎ Stays (seen self.old) (seen self.new) (may_leave
+            self.old) (may_leave self.new)) }
+        ensures still { honest self.new → stopped self.old → IsErr result × stopped self.new ×
+            Stays (seen self.old) (seen self.new) (may_leave self.old) (may_leave self.new) }
         ensures cause { HasCause (faults self.old) (faults self.new) result };
 
     /// A crash may leave what reads give.

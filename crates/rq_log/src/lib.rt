@@ -72,7 +72,8 @@ impl<L: LogDevice + Drop> Log<L> {
         ensures spelled { AreSpelled (reverse result.records.items) }
         ensures front { L.honest (device_of result.log) → BeginsWith (reverse result.records.items) (L.seen device) }
         ensures read { IfOk result.log (λ log. (log.records ≡ reverse result.records.items) × (L.honest log.device → L.seen device ≡ spelled log.records)) }
-        ensures log { IfOk result.log (λ log. (log.forced ≡ 0) × (log.pending ≡ 0) × (log.reserved ≡ 0) × (log.failed ≡ false) × (log.settled ≡ device)) }
+        ensures log { IfOk result.log (λ log. (log.forced ≡ 0) × (log.pending ≡ 0) × (log.reserved ≡ 0) ×
+            (log.failed ≡ false) × (log.settled ≡ device)) }
         ensures stopped { IfErr result.log (λ stopped. StopsFor L.LogDevice stopped.refusal (reverse result.records.items) device stopped.device) }
         ensures cause { OnOk result.log (L.faults (device_of result.log) ≡ L.faults device) }
         ensures seen { L.seen (device_of result.log) ≡ L.seen device }
@@ -210,7 +211,8 @@ impl<L: LogDevice> Log<L> {
         ensures err { self.old.failed ≡ false → IfErr result (λ e. (e ≡ Refusal.DiskWrite) × (self.new.failed ≡ true)) }
         ensures cause { self.old.failed ≡ false → HasCause (L.faults self.old.device) (L.faults self.new.device) result }
         ensures idle { self.old.pending ≡ 0 → self.new ≡ self.old }
-        ensures left { L.honest self.new.device → LeavesOnly L.LogDevice self.old.device self.new.device (WasLeftOrGoesOn L.LogDevice self.old) }
+        ensures left { L.honest self.new.device → LeavesOnly L.LogDevice self.old.device self.new.device (WasLeftOrGoesOn
+            L.LogDevice self.old) }
         ensures any_moment { L.honest self.new.device → WasDurable L.LogDevice self.old → LeavesOnly L.LogDevice self.old.device self.new.device (IsBeginning self.old.records self.old.forced) }
     {
         if self.failed {
@@ -244,7 +246,8 @@ impl<L: LogDevice> Log<L> {
         ensures err { self.old.failed ≡ false → IfErr result (λ e. (e ≡ Refusal.DiskWrite) × (self.new.failed ≡ true)) }
         ensures as_before { OnErr result ((self.new.forced ≡ self.old.forced) × (self.new.settled ≡ self.old.settled)) }
         ensures cause { self.old.failed ≡ false → HasCause (L.faults self.old.device) (L.faults self.new.device) result }
-        ensures left { L.honest self.new.device → LeavesOnly L.LogDevice self.old.device self.new.device (WasLeftOrGoesOn L.LogDevice self.old) }
+        ensures left { L.honest self.new.device → LeavesOnly L.LogDevice self.old.device self.new.device (WasLeftOrGoesOn
+            L.LogDevice self.old) }
         ensures any_moment { L.honest self.new.device → WasDurable L.LogDevice self.old → LeavesOnly L.LogDevice self.old.device self.new.device (IsBeginning self.old.records self.old.forced) }
         ensures idle { self.old.pending ≡ 0 → LeavesOnly L.LogDevice self.old.device self.new.device (L.may_leave self.old.device) }
     {

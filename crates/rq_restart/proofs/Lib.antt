@@ -7,3 +7,4 @@ pub mod Loading
 pub mod Counting
 pub mod Moments
 pub mod Paths
+pub mod Worked

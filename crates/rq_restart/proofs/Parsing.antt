@@ -1,5 +1,5 @@
 -- Bytes are the spelling of one log at most, and what spells a log has no damage behind its first records.
-use Rattle.std.proofs.Common.{◌≡◌, ℕ, zero, suc, drop, List, [], ◌∷◌, ◌++◌, length, reverse, refl, sym, ◌∙◌, ap, subst, arith, append_assoc, length-append}
+use Rattle.std.proofs.Common.{◌≡◌, ℕ, zero, suc, drop, List, [], ◌∷◌, ◌++◌, length, reverse, refl, sym, ◌∙◌, ap, subst, inl, inr, arith, append_assoc, length-append}
 use Rattle.std.proofs.lemmas.List.{append-nil, reverse-append, reverse-reverse}
 use Rattle.rq_model.specs.declared.record.Record.{Record}
 use Rattle.rq_record.specs.Spelling.{IsRecord, spelling}
@@ -10,7 +10,9 @@ use Rattle.rq_log.specs.Scanned.{IsDamagedBehind, StopsFor}
 use Rattle.rq_model.specs.declared.refusal.Refusal.{Refusal}
 use Rattle.rq_model.specs.declared.refusal.Refusal.TheVariants as why
 use Rattle.rq_model.specs.declared.refusal.Damage.TheVariants as damage
-use Rattle.rq_restart.specs.Restarting.{IsReadAs, StaysShut}
+use Rattle.rq_page.specs.Sizes.{Sizes}
+use Rattle.rq_restart.specs.Repeating.{Paged}
+use Rattle.rq_restart.specs.Restarting.{IsReadAs, StaysShut, TellsDamage, IsFirstFault}
 
 -- the spellings, the first record's first
 abbrev in_row : List Record → List ℕ
@@ -90,9 +92,20 @@ no_damage a b h k d = by r.others r.is r.are where
 pub log_is : (older log rs : List Record) (bytes : List ℕ) → AreSpelled older → bytes ≡ spelled older → log ≡ rs → AreSpelled rs → bytes ≡ spelled log → log ≡ older
 log_is older log rs bytes are e same k f = one_log log older (subst AreSpelled (sym same) k) are (sym f ∙ e)
 
+-- an honest device that held a log is not damaged behind its first records
+not_damaged : {L : Type 0} (g : Ghosts L) (older rs : List Record) (old new : L) (e : Refusal) → IsReadAs g old new older → AreSpelled rs → StopsFor g e rs old new → TellsDamage e → ⊥
+not_damaged g older rs old new (why.Damaged (damage.Record lsn)) r k h told = no_damage older rs r.are_spelled k (subst (λ b. IsDamagedBehind rs b) r.reads (h.1 r.honest))
+not_damaged g older rs old new (why.Damaged (damage.Page page)) r k h told = absurd h
+not_damaged g older rs old new _ r k h told = absurd told
+
+stopped_shut : {L : Type 0} (g : Ghosts L) (left : Type 0) (older rs : List Record) (old new : L) (e : Refusal) → IsReadAs g old new older → AreSpelled rs → StopsFor g e rs old new → StaysShut left older e (g.faults old) (g.faults new)
+stopped_shut g left older rs old new why.NoMemory r k h = h
+stopped_shut g left older rs old new why.DiskRead r k h = h
+stopped_shut g left older rs old new (why.Damaged d) r k h = absurd (not_damaged g older rs old new (why.Damaged d) r k h tt)
+stopped_shut g left older rs old new _ r k h = absurd h
+
 -- why the log was not read is why the store stays shut
-pub scan_shut : {L : Type 0} (g : Ghosts L) (left : Type 0) (older rs : List Record) (old new : L) (e : Refusal) → IsReadAs g old new older → AreSpelled rs → StopsFor g e rs old new → StaysShut left older e (g.faults old) (g.faults new)
-scan_shut g left older rs old new why.NoMemory r k h = h
-scan_shut g left older rs old new why.DiskRead r k h = h
-scan_shut g left older rs old new (why.Damaged (damage.Record lsn)) r k h = λ l. no_damage older rs r.are_spelled k (subst (λ b. IsDamagedBehind rs b) r.reads (h.1 r.honest))
-scan_shut g left older rs old new _ r k h = absurd h
+pub scan_shut : {L : Type 0} (g : Ghosts L) (left : Type 0) (older rs : List Record) (old new : L) (e told : Refusal) (z : Sizes) (first : Paged) → IsReadAs g old new older → AreSpelled rs → StopsFor g e rs old new → IsFirstFault z rs first e told
+    → StaysShut left older told (g.faults old) (g.faults new)
+scan_shut g left older rs old new e told z first r k h (inl same) = subst (λ x. StaysShut left older x (g.faults old) (g.faults new)) (sym same.0) (stopped_shut g left older rs old new e r k h)
+scan_shut g left older rs old new e told z first r k h (inr damaged) = absurd (not_damaged g older rs old new e r k h damaged.0)

@@ -139,6 +139,19 @@ pub record IsBegunOn (read bytes : List ℕ) : Type 0 where
   pub ended : IsEnded older
   pub is : bytes ≡ spelled (next_restart older ∷ older)
 
+-- it is told as damage
+abbrev pub TellsDamage : Refusal → Type 0
+TellsDamage (why.Damaged d) = Unit {0}
+TellsDamage _ = ⊥
+
+abbrev pub WasRepeated : Sizes → List Record → Paged → Type 0
+WasRepeated z log first = (last : Paged) × Repeats z log first last
+
+-- Of a log whose reading stopped for the one refusal behind these records, the other is answered: damage behind them is told only where all of them belong.
+abbrev pub IsFirstFault : Sizes → List Record → Paged → Refusal → Refusal → Type 0
+IsFirstFault z front first stopped told =
+    ((told ≡ stopped) × (TellsDamage stopped → WasRepeated z front first)) ⊎ (TellsDamage stopped × StopsAt z front first told)
+
 module _ {L : Type 0} (g : log_device.Ghosts L) where
   -- a crash might have left it of the log before, or it is these records, of which this is so
   abbrev pub WasLeftOrIs : L → Type 0 → List Record → List ℕ → Type 0
@@ -157,7 +170,7 @@ module _ {L : Type 0} (g : log_device.Ghosts L) where
   -- Why a store with these pages was not opened over a log: its records could not be read, or they were, and then this.
   abbrev pub LogStops : Sizes → Paged → Refusal → L → L → Type 0
   LogStops z first e old new =
-      ((front : List Record) × AreSpelled front × log_read.StopsFor g e front old new)
+      ((front : List Record) × AreSpelled front × (stopped : Refusal) × log_read.StopsFor g stopped front old new × IsFirstFault z front first stopped e)
       ⊎ ((older : List Record) × AreSpelled older × (g.honest new → g.seen old ≡ spelled older) × ShutFor z older first e (g.faults old) (g.faults new) (IsRead old new))
 
 -- the pages as they were read, none of which counts as changed

@@ -41,7 +41,8 @@ fn write_formatted<P: PageDevice>(
     requires { number < page_count layout.now }
     ensures formatted { IsFormatted layout.now number page.new }
     ensures crash { Written number page.new (P.may_be pages.old) (P.may_be pages.new) }
-    ensures time { Elapses (P.moment pages.old) (P.moment pages.new) (P.left_since pages.old) (P.left_since pages.new) (Leaves (P.may_be pages.new)) }
+    ensures time { Elapses (P.moment pages.old) (P.moment pages.new) (P.left_since pages.old) (P.left_since pages.new) (Leaves
+        (P.may_be pages.new)) }
     ensures written { OnOk result (Holds (P.seen pages.old) number page.new (P.seen pages.new)) }
     ensures cause { OnOk result (P.faults pages.new ≡ P.faults pages.old) }
     ensures err { IfErr result (λ e. (e ≡ Refusal.DiskWrite) × (P.faults pages.new ≡ (P.faults pages.old + 1) % 2 ^ 64)) }
@@ -56,7 +57,8 @@ fn write_formatted<P: PageDevice>(
 fn sync<P: PageDevice>(pages: &mut P) -> Result<(), Refusal>
     ensures seen { P.seen pages.new ≡ P.seen pages.old }
     ensures crash { NoMore (P.may_be pages.old) (P.may_be pages.new) }
-    ensures time { Elapses (P.moment pages.old) (P.moment pages.new) (P.left_since pages.old) (P.left_since pages.new) (Leaves (P.may_be pages.new)) }
+    ensures time { Elapses (P.moment pages.old) (P.moment pages.new) (P.left_since pages.old) (P.left_since pages.new) (Leaves
+        (P.may_be pages.new)) }
     ensures durable { OnOk result ((p : ℕ) → Only (P.seen pages.old p) (P.may_be pages.new p)) }
     ensures cause { OnOk result (P.faults pages.new ≡ P.faults pages.old) }
     ensures err { IfErr result (λ e. (e ≡ Refusal.DiskWrite) × (P.faults pages.new ≡ (P.faults pages.old + 1) % 2 ^ 64)) }

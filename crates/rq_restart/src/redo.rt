@@ -8,7 +8,7 @@ ghost use Rattle.rq_store.specs.Opening.{IsRedone, Redoes, IsSoundTold, MayRedo,
 ghost use Rattle.rq_store.specs.Fitting.{Told, told_by, image_in};
 ghost use Rattle.rq_restart.specs.Noted.{noted};
 ghost use Rattle.rq_restart.specs.Repeating.{paged, Repeats, Marks, IsMarked};
-ghost use Rattle.rq_restart.specs.Restarting.{StopsIn, StopsAt};
+ghost use Rattle.rq_restart.specs.Restarting.{StopsIn, StopsAt, IsFirstFault};
 
 use crate::history::History;
 use rq_disk::PageDevice;
@@ -28,7 +28,8 @@ pub(crate) fn miscounted_page<P: PageDevice + Drop>(pages: &Pages<P>, records: u
     ensures low { IfSome result (λ p. 1 ≤ p) }
     ensures high { IfSome result (λ p. p < page_count pages.now.sizes) }
     ensures some { IfSome result (λ p. IsCounted pages.now.sizes records p (image_in pages.now.images p) → ⊥) }
-    ensures first { IfSome result (λ p. (q : ℕ) → 1 ≤ q → q < p → IsCounted pages.now.sizes records q (image_in pages.now.images q)) }
+    ensures first { IfSome result (λ p. (q : ℕ) → 1 ≤ q → q < p →
+        IsCounted pages.now.sizes records q (image_in pages.now.images q)) }
 {
     let layout = pages.layout();
     for number in 1..layout.pages() {
@@ -80,6 +81,26 @@ pub(crate) fn repeat_history<P: PageDevice + Drop>(
         }
     }
     Ok(history)
+}
+
+/// Why a store stays shut over a log whose reading stopped behind these records: the first of them that doesn't
+/// fit, where what is behind them is damaged, or else what stopped the reading.
+pub(crate) fn first_fault<P: PageDevice + Drop>(
+    alloc: Global,
+    pages: &mut Pages<P>,
+    records: &[Record],
+    stopped: Refusal,
+) -> Refusal
+    ensures fault { IsFirstFault pages.old.sizes (reverse records.now) (paged pages.old) stopped result }
+    ensures device { pages.new.device ≡ pages.old.device }
+{
+    match stopped {
+        Refusal::Damaged(_) => match repeat_history(alloc, pages, records) {
+            Ok(_) => stopped,
+            Err(refusal) => refusal,
+        },
+        _ => stopped,
+    }
 }
 
 // Makes what a record writes, where its page is older. False where the record doesn't fit the store.

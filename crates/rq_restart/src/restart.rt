@@ -23,7 +23,7 @@ ghost use Rattle.rq_restart.specs.Restarting.{IsReadAs, IsLeftOn, IsReady, AreWa
 ghost use Rattle.rq_engine.specs.Devices.{Path, EachPair};
 ghost use Rattle.rq_restart.specs.Underway.{OfStores, IsLeftOrGoesOn, pages_left, log_left};
 
-use crate::redo::{miscounted_page, repeat_history};
+use crate::redo::{first_fault, miscounted_page, repeat_history};
 use crate::waiting::count_waiting;
 use rq_disk::{LogDevice, PageDevice};
 use rq_engine::engine::{Engine, LOG_LIMIT};
@@ -83,16 +83,25 @@ pub fn restart<P: PageDevice + Drop, L: LogDevice + Drop>(
     ensures sizes { IfOk result (λ o. P.honest o.0.pages → IsSuperblock o.0.state.sizes (P.seen pages 0)) }
     ensures value { IfOk result (λ o. (older : List Record) → IsReadAs L.LogDevice log o.0.log older → o.0.state ≡ opened o.0.state.sizes o.0.state.images older) }
     ensures sound { IfOk result (λ o. (older : List Record) → IsReadAs L.LogDevice log o.0.log older → IsLeftOn P.PageDevice o.0.state.sizes pages o.0.pages older → IsSound o.0.state) }
-    ensures entry { IfOk result (λ o. (older : List Record) → IsReadAs L.LogDevice log o.0.log older → IsLeftOn P.PageDevice o.0.state.sizes pages o.0.pages older → (ledger : Ledger) → ledger.committed ≡ committed_of older → ledger_of o.0.state ≡ after (Restarted o.1.incarnation o.1.records) ledger) }
+    ensures entry { IfOk result (λ o. (older : List Record) → IsReadAs L.LogDevice log o.0.log older →
+        IsLeftOn P.PageDevice o.0.state.sizes pages o.0.pages older → (ledger : Ledger) →
+        ledger.committed ≡ committed_of older → ledger_of o.0.state ≡ after (Restarted o.1.incarnation o.1.records)
+        ledger) }
     ensures committed { IfOk result (λ o. (older : List Record) → IsReadAs L.LogDevice log o.0.log older → (ledger_of o.0.state).committed ≡ committed_of older) }
     ensures reads { IfOk result (λ o. L.honest o.0.log → L.seen o.0.log ≡ spelled o.0.state.records) }
     ensures durable { IfOk result (λ o. L.honest o.0.log → Only (spelled o.0.state.records) (L.may_leave o.0.log)) }
     ensures pages { OnlyRead P.PageDevice pages (pages_left result) }
     ensures any_moment { BeginsAtMost L.LogDevice log (log_left result) }
-    ensures path { OfStores P.PageDevice L.LogDevice pages log (log_left result) (λ z read. Path P.PageDevice L.LogDevice (IsLeftOrGoesOn L.LogDevice log z read) pages log (pages_left result) (log_left result)) }
-    ensures crash { OfStores P.PageDevice L.LogDevice pages log (log_left result) (λ z read. EachPair P.PageDevice L.LogDevice (pages_left result) (log_left result) (IsLeftOrGoesOn L.LogDevice log z read)) }
-    ensures checked { IfOk result (λ o. WasChecked P.PageDevice L.LogDevice pages log o.0.state.sizes (paged (pooled o.0)) o.0.state.records o.0.pages o.0.log) }
-    ensures refused { IfErr result (λ stopped. Refuses P.PageDevice L.LogDevice pages log stopped.refusal stopped.pages stopped.log) }
+    ensures path { OfStores P.PageDevice L.LogDevice pages log (log_left result) (λ z read.
+        Path P.PageDevice L.LogDevice (IsLeftOrGoesOn L.LogDevice log z read) pages log (pages_left result)
+        (log_left result)) }
+    ensures crash { OfStores P.PageDevice L.LogDevice pages log (log_left result) (λ z read.
+        EachPair P.PageDevice L.LogDevice (pages_left result) (log_left result) (IsLeftOrGoesOn L.LogDevice log z
+        read)) }
+    ensures checked { IfOk result (λ o. WasChecked P.PageDevice L.LogDevice pages log o.0.state.sizes (paged (pooled o.0))
+        o.0.state.records o.0.pages o.0.log) }
+    ensures refused { IfErr result (λ stopped. Refuses P.PageDevice L.LogDevice pages log stopped.refusal stopped.pages
+        stopped.log) }
     ensures fit { IfOk result (λ o. (older : List Record) → IsReadAs L.LogDevice log o.0.log older → AllFit (P.may_be pages) o.0.state.sizes older → AreFit P.PageDevice o.0) }
     ensures cause { IfOk result (λ o. (P.faults o.0.pages ≡ P.faults pages) × (L.faults o.0.log ≡ L.faults log)) }
     ensures err { IfErr result (λ stopped. (z : Sizes) → IsSuperblock z (P.seen pages 0) → (older : List Record) → IsReadAs L.LogDevice log stopped.log older → Stops (IsLeftOn P.PageDevice z pages stopped.pages older) older stopped.refusal (P.faults pages) (P.faults stopped.pages) (L.faults log) (L.faults stopped.log)) }
@@ -117,8 +126,10 @@ fn reopen<P: PageDevice + Drop, L: LogDevice + Drop>(
     ensures pages_back { IfErr result (λ stopped. OnlyRead P.PageDevice pages stopped.pages) }
     ensures any_moment { IfOk result (λ o. BeginsAtMost L.LogDevice log o.0.log) }
     ensures any_moment_back { IfErr result (λ stopped. BeginsAtMost L.LogDevice log stopped.log) }
-    ensures checked { IfOk result (λ o. WasChecked P.PageDevice L.LogDevice pages log o.0.state.sizes (paged (pooled o.0)) o.0.state.records o.0.pages o.0.log) }
-    ensures refused { IfErr result (λ stopped. Refuses P.PageDevice L.LogDevice pages log stopped.refusal stopped.pages stopped.log) }
+    ensures checked { IfOk result (λ o. WasChecked P.PageDevice L.LogDevice pages log o.0.state.sizes (paged (pooled o.0))
+        o.0.state.records o.0.pages o.0.log) }
+    ensures refused { IfErr result (λ stopped. Refuses P.PageDevice L.LogDevice pages log stopped.refusal stopped.pages
+        stopped.log) }
     ensures fit { IfOk result (λ o. (older : List Record) → IsReadAs L.LogDevice log o.0.log older → AllFit (P.may_be pages) o.0.state.sizes older → AreFit P.PageDevice o.0) }
     ensures cause { IfOk result (λ o. (P.faults o.0.pages ≡ P.faults pages) × (L.faults o.0.log ≡ L.faults log)) }
     ensures err { IfErr result (λ stopped. (z : Sizes) → IsSuperblock z (P.seen pages 0) → (older : List Record) → IsReadAs L.LogDevice log stopped.log older → Stops (IsLeftOn P.PageDevice z pages stopped.pages older) older stopped.refusal (P.faults pages) (P.faults stopped.pages) (L.faults log) (L.faults stopped.log)) }
@@ -158,8 +169,10 @@ fn open<P: PageDevice + Drop, L: LogDevice + Drop>(
     ensures pages_back { IfErr result (λ stopped. OnlyRead P.PageDevice pages stopped.pages) }
     ensures any_moment { IfOk result (λ o. BeginsAtMost L.LogDevice log o.log.device) }
     ensures any_moment_back { IfErr result (λ stopped. BeginsAtMost L.LogDevice log stopped.log) }
-    ensures checked { IfOk result (λ o. WasChecked P.PageDevice L.LogDevice pages log o.pages.sizes (paged o.pages) o.log.records o.pages.device o.log.device) }
-    ensures refused { IfErr result (λ stopped. Refuses P.PageDevice L.LogDevice pages log stopped.refusal stopped.pages stopped.log) }
+    ensures checked { IfOk result (λ o. WasChecked P.PageDevice L.LogDevice pages log o.pages.sizes (paged o.pages) o.log.records
+        o.pages.device o.log.device) }
+    ensures refused { IfErr result (λ stopped. Refuses P.PageDevice L.LogDevice pages log stopped.refusal stopped.pages
+        stopped.log) }
     ensures room { IfOk result (λ o. o.log.reserved ≡ 0) }
     ensures cause { IfOk result (λ o. (P.faults o.pages.device ≡ P.faults pages) × (L.faults o.log.device ≡ L.faults log)) }
     ensures err { IfErr result (λ stopped. (z : Sizes) → IsSuperblock z (P.seen pages 0) → (older : List Record) → IsReadAs L.LogDevice log stopped.log older → Stops (IsLeftOn P.PageDevice z pages stopped.pages older) older stopped.refusal (P.faults pages) (P.faults stopped.pages) (L.faults log) (L.faults stopped.log)) }
@@ -194,7 +207,9 @@ fn restart_log<P: PageDevice + Drop, L: LogDevice + Drop>(
     ensures pages_back { IfErr result (λ stopped. stopped.pages ≡ pages.device) }
     ensures any_moment { IfOk result (λ o. BeginsAtMost L.LogDevice log o.log.device) }
     ensures any_moment_back { IfErr result (λ stopped. BeginsAtMost L.LogDevice log stopped.log) }
-    ensures checked { IfOk result (λ o. (older : List Record) × AreSpelled older × (L.honest o.log.device → L.seen log ≡ spelled older) × IsGoneThrough pages.sizes older (paged pages) (paged o.pages) × IsEnded older × (o.log.records ≡ next_restart older ∷ older) × (length older < 2 ^ 50)) }
+    ensures checked { IfOk result (λ o. (older : List Record) × AreSpelled older × (L.honest o.log.device →
+        L.seen log ≡ spelled older) × IsGoneThrough pages.sizes older (paged pages) (paged o.pages) ×
+        IsEnded older × (o.log.records ≡ next_restart older ∷ older) × (length older < 2 ^ 50)) }
     ensures refused { IfErr result (λ stopped. LogStops L.LogDevice pages.sizes (paged pages) stopped.refusal log stopped.log) }
     ensures room { IfOk result (λ o. o.log.reserved ≡ 0) }
     ensures cause { IfOk result (λ o. L.faults o.log.device ≡ L.faults log) }
@@ -221,6 +236,7 @@ fn restart_log<P: PageDevice + Drop, L: LogDevice + Drop>(
         },
         Err(stopped) => {
             let rq_log::Stopped { refusal, device } = stopped;
+            let refusal = first_fault(alloc, &mut pages, &records, refusal);
             Err(Stopped {
                 refusal,
                 pages: pages.give_back(),
@@ -248,9 +264,13 @@ fn go_on<P: PageDevice + Drop, L: LogDevice + Drop>(
     ensures ready { IfOk result (λ begun. IsReady L.LogDevice begun.1.incarnation log.new) }
     ensures pages { pages.new.device ≡ pages.old.device }
     ensures honest { L.honest log.new.device → L.honest log.old.device }
-    ensures any_moment { L.honest log.new.device → AreSpelled log.old.records → L.seen log.old.device ≡ spelled log.old.records → LeavesOnly L.LogDevice log.old.device log.new.device (WasLeftOrIs L.LogDevice log.old.device (IsEnded log.old.records × IsRecord (next_restart log.old.records)) (next_restart log.old.records ∷ log.old.records)) }
-    ensures checked { OnOk result (IsGoneThrough pages.old.sizes log.old.records (paged pages.old) (paged pages.new) × IsEnded log.old.records) }
-    ensures shut { IfErr result (λ e. ShutFor pages.old.sizes log.old.records (paged pages.old) e (L.faults log.old.device) (L.faults log.new.device) (log.new.device ≡ log.old.device)) }
+    ensures any_moment { L.honest log.new.device → AreSpelled log.old.records → L.seen log.old.device ≡ spelled log.old.records →
+        LeavesOnly L.LogDevice log.old.device log.new.device (WasLeftOrIs L.LogDevice log.old.device (IsEnded
+        log.old.records × IsRecord (next_restart log.old.records)) (next_restart log.old.records ∷ log.old.records)) }
+    ensures checked { OnOk result (IsGoneThrough pages.old.sizes log.old.records (paged pages.old) (paged pages.new) ×
+        IsEnded log.old.records) }
+    ensures shut { IfErr result (λ e. ShutFor pages.old.sizes log.old.records (paged pages.old) e (L.faults log.old.device)
+        (L.faults log.new.device) (log.new.device ≡ log.old.device)) }
     ensures room { OnOk result (log.new.reserved ≡ log.old.reserved) }
     ensures cause { OnOk result (L.faults log.new.device ≡ L.faults log.old.device) }
     ensures err { IfErr result (λ e. StaysShut (IsLeft pages.old.sizes (image_in pages.old.images) log.old.records) log.old.records e (L.faults log.old.device) (L.faults log.new.device)) }
@@ -281,9 +301,12 @@ fn begin_incarnation<L: LogDevice + Drop>(log: &mut Log<L>, last: u64) -> Result
     ensures ready { IfOk result (λ report. IsReady L.LogDevice report.incarnation log.new) }
     ensures cause { OnOk result (L.faults log.new.device ≡ L.faults log.old.device) }
     ensures honest { L.honest log.new.device → L.honest log.old.device }
-    ensures any_moment { L.honest log.new.device → AreSpelled log.old.records → L.seen log.old.device ≡ spelled log.old.records → LeavesOnly L.LogDevice log.old.device log.new.device (WasLeftOrIs L.LogDevice log.old.device (IsRecord (records.Restart (last + 1))) (records.Restart (last + 1) ∷ log.old.records)) }
+    ensures any_moment { L.honest log.new.device → AreSpelled log.old.records → L.seen log.old.device ≡ spelled log.old.records →
+        LeavesOnly L.LogDevice log.old.device log.new.device (WasLeftOrIs L.LogDevice log.old.device (IsRecord
+        (records.Restart (last + 1))) (records.Restart (last + 1) ∷ log.old.records)) }
     ensures room { OnOk result (log.new.reserved ≡ log.old.reserved) }
-    ensures err { IfErr result (λ e. BeginsNot e (length log.old.records) last (L.faults log.old.device) (L.faults log.new.device) (log.new.device ≡ log.old.device)) }
+    ensures err { IfErr result (λ e. BeginsNot e (length log.old.records) last (L.faults log.old.device) (L.faults
+        log.new.device) (log.new.device ≡ log.old.device)) }
 {
     if log.last() >= LOG_LIMIT {
         return Err(Refusal::LogFull);

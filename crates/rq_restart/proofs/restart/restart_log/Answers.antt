@@ -50,7 +50,7 @@ pub returns-clause-err : goal.returns-clause-err
 returns-clause-err g c =
     λ older r.
     let h = rw c.in-Err.is at c.scan-records.ensures.stopped in
-    scan_shut g.L.LogDevice (IsLeft c.args.pages.sizes (image_in c.args.pages.images) older) older (reverse c.scan-records.result.records.items) c.args.log c.in-Err.stopped.device c.in-Err.stopped.refusal r c.scan-records.ensures.spelled h
+    scan_shut g.L.LogDevice (IsLeft c.args.pages.sizes (image_in c.args.pages.images) older) older (reverse c.scan-records.result.records.items) c.args.log c.in-Err.stopped.device c.in-Err.stopped.refusal c.first_fault-refusal.result c.args.pages.sizes (paged c.args.pages) r c.scan-records.ensures.spelled h (rw c.deref-in-Err.ensures.value at c.first_fault-refusal.ensures.fault)
 
 pub returns-in-Ok-go_on-clause-any_moment : goal.returns-in-Ok-go_on-clause-any_moment
 returns-in-Ok-go_on-clause-any_moment g c =
@@ -96,4 +96,5 @@ returns-in-Ok-clause-refused g c =
     )
 
 pub returns-clause-refused : goal.returns-clause-refused
-returns-clause-refused g c = inl (reverse c.scan-records.result.records.items, c.scan-records.ensures.spelled, rw c.in-Err.is at c.scan-records.ensures.stopped)
+returns-clause-refused g c =
+    inl (reverse c.scan-records.result.records.items, c.scan-records.ensures.spelled, c.in-Err.stopped.refusal, rw c.in-Err.is at c.scan-records.ensures.stopped, (rw c.deref-in-Err.ensures.value at c.first_fault-refusal.ensures.fault))
