@@ -1,5 +1,5 @@
 -- Slot writes as lists of what the slots hold.
-use Rattle.std.specs.Prelude.{◌≡◌, ℕ, ◌/◌, ◌%◌, ◌<◌, List, Option, Some, None, map, All}
+use Rattle.std.specs.Prelude.{◌≡◌, ℕ, ◌/◌, ◌%◌, ◌<◌, List, [], ◌∷◌, Option, Some, None, map, All}
 use Rattle.rq_page.specs.declared.cell.Cell.{Cell}
 use Rattle.rq_page.specs.Sizes.{Sizes, IsCellAddress, directory_at, sender_count}
 use Rattle.rq_page.specs.Slots.{held_in, IsSlotOf, IsCellOf, IsDirectoryOf}
@@ -29,6 +29,11 @@ pub record IsSlotWrite (z : Sizes) (w : SlotWrite) : Type 0 where
 
 abbrev pub AreSlotWrites : Sizes → List SlotWrite → Type 0
 AreSlotWrites z ws = All (IsSlotWrite z) ws
+
+-- the first of them is at this address
+abbrev pub IsFirstAt : ℕ → List SlotWrite → Type 0
+IsFirstAt a [] = ⊥
+IsFirstAt a (w ∷ ws) = w.at ≡ a
 
 -- the neighbour stands at this address, which is a cell's, and is a cell of the store
 pub record IsNeighbourAt (z : Sizes) (a : ℕ) (n : Neighbour) : Type 0 where

@@ -5,7 +5,7 @@ ghost use Rattle.rq_page.specs.Slots.{IsCellOf, IsDirectoryOf, Used};
 ghost use Rattle.rq_level.specs.Chain.{directory_appended};
 ghost use Rattle.rq_level.specs.Items.{layout_of};
 ghost use Rattle.rq_level.specs.Plans.{append_writes, unlink_head_writes, directory_head_unlinked, with_next, with_prev};
-ghost use Rattle.rq_chain.specs.Writes.{write_of, writes_of, cell_beside, IsSlotWrite, AreSlotWrites, IsNeighbour, IsNeighbourAt, IsGroupOf};
+ghost use Rattle.rq_chain.specs.Writes.{write_of, writes_of, cell_beside, IsSlotWrite, AreSlotWrites, IsFirstAt, IsNeighbour, IsNeighbourAt, IsGroupOf};
 
 use crate::writes::{cell_write, group_write, listed};
 use crate::{Group, Neighbour, Plan, SlotWrite};
@@ -35,6 +35,7 @@ pub fn append(
     ensures writes { IfOk result (λ plan. reverse (writes_of layout.now plan.writes.items) ≡ append_writes (layout_of layout.now) group.now.sender group.now.directory free tag body (cell_beside tail)) }
     ensures slots { IfOk result (λ plan. AreSlotWrites layout.now plan.writes.items) }
     ensures count { IfOk result (λ plan. MatchOption tail (length plan.writes.items ≡ 2) (λ _. length plan.writes.items ≡ 3)) }
+    ensures cell { IfOk result (λ plan. IsFirstAt free plan.writes.items) }
     ensures deed { IfOk result (λ plan. plan.deed ≡ Deed.Append group.now.sender (group.now.directory.sent + 1) tag group.now.directory.last_tag body) }
 {
     let new = next_cell(layout, group, tag, body);

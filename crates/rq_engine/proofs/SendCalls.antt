@@ -1,5 +1,5 @@
 -- What a send answers, from what its tests found.
-use Rattle.std.proofs.Common.{◌≡◌, ℕ, ◌+◌, ◌*◌, ◌<◌, ◌≤◌, ◌||◌, List, [], ◌∷◌, length, drop, refl, sym, ◌∙◌, ap, subst, Bool, true, false, not, cond, nat_eq, nat_lt, Option, Some, None, arith, inl, inr}
+use Rattle.std.proofs.Common.{◌≡◌, ℕ, ◌+◌, ◌*◌, ◌<◌, ◌≤◌, ◌||◌, List, [], ◌∷◌, length, drop, refl, sym, option_map, ◌∙◌, ap, subst, Bool, true, false, not, cond, nat_eq, nat_lt, Option, Some, None, arith, inl, inr}
 use Rattle.std.proofs.lemmas.Bool.{cases_Bool, false_from_ne_true, eqb-true, eq-eqb, lt-ltb, le-ltb}
 use Rattle.std.proofs.lemmas.List.{length-map}
 use Rattle.rq_model.specs.declared.txn.Txn.{Txn}
@@ -11,7 +11,7 @@ use Rattle.rq_model.specs.Ledger.{found, ended_in}
 use Rattle.rq_model.specs.Legal.{Passes, is_busy, NoneHolds, free_to_send, has_closed, log_full, cells_in_use, ready_tests}
 use Rattle.rq_model.specs.Reference.{message_of}
 use Rattle.rq_page.specs.declared.directory.Directory.{Directory}
-use Rattle.rq_page.specs.Sizes.{sender_count, cell_count, directory_at}
+use Rattle.rq_page.specs.Sizes.{sender_count, cell_count, directory_at, IsCellAddress}
 use Rattle.rq_page.specs.declared.cell.Cell.{Cell}
 use Rattle.rq_page.specs.Slots.{Slot}
 use Rattle.rq_page.specs.Slots.Slot.{Free, Used, Sender}
@@ -19,12 +19,15 @@ use Rattle.rq_level.specs.Chain.{Node, last, Linked, message}
 use Rattle.rq_level.specs.Log.{Slots, cell_in, cells_of}
 use Rattle.rq_level.specs.Legal.{view}
 use Rattle.rq_level.specs.Items.{items, layout_of}
-use Rattle.rq_level.specs.Stored.{slots_in, count_used}
+use Rattle.rq_level.specs.Stored.{slots_in, count_used, is_used}
 use Rattle.rq_level.proofs.Chains.{last_is}
 use Rattle.rq_level.proofs.Totals.{log_total}
 use Rattle.rq_pool.proofs.Counts.{count_same}
 use Rattle.rq_level.proofs.Idle.{idle_quiet}
 use Rattle.rq_level.proofs.Laws.{shows_here}
+use Rattle.rq_txn.proofs.Finding.{found_change_same}
+use Rattle.rq_chain.specs.declared.SlotWrite.{SlotWrite}
+use Rattle.rq_chain.specs.Writes.{IsFirstAt}
 use Rattle.rq_txn.specs.Rows.{Row, Under, found_row, any_under, change_row, row_started}
 use Rattle.rq_groups.specs.declared.Held.{Held}
 use Rattle.rq_groups.specs.declared.End.{End}
@@ -43,10 +46,10 @@ use Rattle.rq_store.proofs.Flags.{flag_is}
 use Rattle.rq_store.proofs.SendStarts.{start_steps}
 use Rattle.rq_model.specs.Replay.Reply.{Gave_sub}
 use Rattle.rq_store.proofs.Forcing.{refused_steps}
-use Rattle.rq_engine.specs.Answers.{Refuses, IsReady}
+use Rattle.rq_engine.specs.Answers.{Refuses, IsReady, IsGoing, OnUnder}
 use Rattle.rq_chain.specs.declared.Plan.{Plan}
 use Rattle.rq_engine.specs.Kept.{IsKept, IsUnderKept}
-use Rattle.rq_engine.specs.Sends.{under_plan, FitsPlan}
+use Rattle.rq_engine.specs.Sends.{under_plan, FitsPlan, TakesLowest}
 use Rattle.rq_engine.proofs.Keeping.{kept_started}
 use Rattle.rq_model.specs.Deeds.{spelled_deed}
 use Rattle.rq_engine.proofs.Refusals.{not_full, refuse, found_of, on_found, found_some, found_none}
@@ -194,3 +197,17 @@ send_done s new t n e tag body b plan ready h idle same p free room may is k =
     let a = start_steps s k t r.0 (under_plan n plan) e tag body r.1 idle r.2.1 planned free room (may k) in
     let c = subst (λ (m : ℕ). Steps s (Start_send t (message_of e tag body)) (Gave_sub t m) (record s { rows = change_row t (row_started (under_plan n plan)) s.rows; ends = record { sending = with_held t e s.ends.sending; receiving = s.ends.receiving }; cells_in_use = s.cells_in_use + 1 })) (sym r.2.1) a in
     subst (λ (x : State). Steps s (Start_send t (message_of e tag body)) (Gave_sub t n) x) (sym is) c
+
+-- what was planned is under way
+pub going_started : (s new : State) (t : Txn) (n : ℕ) (plan : Plan) (P : Row → Under → Type 0) → IsReady s t n → new.rows ≡ change_row t (row_started (under_plan n plan)) s.rows
+    → ((r : Row) → P r (under_plan n plan)) → IsGoing new (record { txn = t; number = n }) P
+going_started s new t n plan P ready rows holds =
+    let r = found_of (λ r. (r.under ≡ None) × (n ≡ r.number + 1)) (found_row t s.rows) ready in
+    let found : found_row t new.rows ≡ Some (row_started (under_plan n plan) r.0) =
+        ap (found_row t) rows ∙ found_change_same t (row_started (under_plan n plan)) s.rows (λ q. refl) ∙ ap (option_map (row_started (under_plan n plan))) r.1 in
+    on_found (λ q. OnUnder n P q q.under) (found_row t new.rows) (row_started (under_plan n plan) r.0) found (refl, holds (row_started (under_plan n plan) r.0))
+
+-- the lowest free cell is taken first
+pub takes_lowest : (z : Sizes) (slots : ℕ → Slot) (a : ℕ) (ws : List SlotWrite) → IsFirstAt a ws → ((b : ℕ) → IsCellAddress z b → b < a → is_used (slots b) ≡ true) → TakesLowest z slots ws
+takes_lowest z slots a [] at lowest = absurd at
+takes_lowest z slots a (w ∷ ws) at lowest = λ b cell less. lowest b cell (subst (λ n. b < n) at less)

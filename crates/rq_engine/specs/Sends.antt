@@ -1,10 +1,18 @@
 -- A planned send as an operation that is under way, and the room that it takes.
-use Rattle.std.specs.Prelude.{◌≡◌, ℕ, ◌+◌, ◌*◌, ◌≤◌, length}
+use Rattle.std.specs.Prelude.{◌≡◌, ℕ, ◌+◌, ◌*◌, ◌<◌, ◌≤◌, List, [], ◌∷◌, true, length}
 use Rattle.rq_model.specs.Deeds.{spelled_deed}
-use Rattle.rq_page.specs.Sizes.{Sizes}
+use Rattle.rq_page.specs.Sizes.{Sizes, IsCellAddress}
+use Rattle.rq_page.specs.Slots.{Slot}
+use Rattle.rq_level.specs.Stored.{is_used}
+use Rattle.rq_chain.specs.declared.SlotWrite.{SlotWrite}
 use Rattle.rq_chain.specs.declared.Plan.{Plan}
 use Rattle.rq_chain.specs.Writes.{AreSlotWrites}
 use Rattle.rq_txn.specs.Rows.{Under}
+
+-- the first of the writes is of the lowest free cell
+abbrev pub TakesLowest : Sizes → (ℕ → Slot) → List SlotWrite → Type 0
+TakesLowest z slots [] = ⊥
+TakesLowest z slots (w ∷ ws) = (a : ℕ) → IsCellAddress z a → a < w.at → is_used (slots a) ≡ true
 
 -- the operation that a plan begins as
 abbrev pub under_plan : ℕ → Plan → Under

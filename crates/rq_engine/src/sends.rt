@@ -12,8 +12,8 @@ ghost use Rattle.rq_store.specs.State.{ledger_of, size_of};
 ghost use Rattle.rq_store.specs.Sound.{IsSound};
 ghost use Rattle.rq_store.specs.Plans.{IsSendPlan};
 ghost use Rattle.rq_engine.specs.Opened.{LeavesDevices};
-ghost use Rattle.rq_engine.specs.Answers.{Answers, IsReady, Refuses};
-ghost use Rattle.rq_engine.specs.Sends.{under_plan, FitsPlan};
+ghost use Rattle.rq_engine.specs.Answers.{Answers, IsGoing, IsReady, Refuses};
+ghost use Rattle.rq_engine.specs.Sends.{under_plan, FitsPlan, TakesLowest};
 
 use crate::engine::{Engine, LOG_LIMIT};
 use crate::starts::{CHAIN_OPERATION, room_of};
@@ -40,6 +40,7 @@ impl<P: PageDevice, L: LogDevice> Engine<P, L> {
         ensures answered { Answers P.PageDevice L.LogDevice true false self.old (Start_send txn (message_of sender tag body.now)) (λ sub. Gave_sub sub.txn sub.number) result self.new }
         ensures sizes { self.new.state.sizes ≡ self.old.state.sizes }
         ensures sub { IfOk result (λ sub. sub.txn ≡ txn) }
+        ensures lowest { IfOk result (λ sub. IsGoing self.new.state sub (λ r u. TakesLowest self.old.state.sizes (slots_in self.old.state.sizes self.old.state.images) u.writes)) }
         ensures latched { OnOk result (any_under self.old.state.rows ≡ false) }
         ensures devices { LeavesDevices self.old self.new }
         ensures refused { OnErr result (self.new ≡ self.old) }
@@ -98,6 +99,7 @@ impl<P: PageDevice, L: LogDevice> Engine<P, L> {
     fn plan_send(&self, sender: u32, tag: u64, body: Body) -> Result<(Plan, usize), Refusal>
         requires { sender < sender_count self.now.state.sizes }
         ensures plan { IfOk result (λ planned. (number : ℕ) → IsSendPlan self.now.state.sizes (slots_in self.now.state.sizes self.now.state.images) (under_plan number planned.0) sender tag body) }
+        ensures lowest { IfOk result (λ planned. TakesLowest self.now.state.sizes (slots_in self.now.state.sizes self.now.state.images) planned.0.writes.items) }
         ensures plain { IfErr result (λ r. r ≢ Refusal.Failed) }
         ensures fits { IfOk result (λ planned. FitsPlan self.now.state.sizes planned.0 planned.1) }
         ensures refused { IsSound self.now.state → self.now.state.cells_in_use < cell_count self.now.state.sizes → any_under self.now.state.rows ≡ false → IfErr result (λ r. r ≡ Refusal.NoMemory) }

@@ -15,7 +15,8 @@ use Rattle.rq_store.specs.Sound.{IsWhole}
 use Rattle.rq_store.specs.Fitting.{AllFit}
 use Rattle.rq_store.proofs.Cutting.{fits_log}
 use Rattle.rq_restart.specs.Repeating.{Paged, Repeats}
-use Rattle.rq_restart.specs.Underway.{EachPair, IsSomeStore}
+use Rattle.rq_engine.specs.Devices.{EachPair}
+use Rattle.rq_restart.specs.Underway.{IsSomeStore}
 
 -- a log of one Restart record is gone through on any pages, which stay as they are
 begun : (z : Sizes) (first : Paged) → Repeats z (records.Restart 1 ∷ []) first first
@@ -39,7 +40,7 @@ not_before z first last t n page slot before after older other r =
 
 -- pages that fit the empty log, and an empty log, are a store: as a store that was formatted
 whole_empty : (z : Sizes) → IsWhole z []
-whole_empty z = record { legal = tt; groups = tt; rules = tt; reads = tt; in_store = tt; befores = tt; order = tt }
+whole_empty z = record { legal = tt; told = tt; rules = tt; reads = tt; in_store = tt; befores = tt; order = tt; room = tt; numbers = tt }
 
 formatted_store : {P L : Type 0} (p : page_device.Ghosts P) (l : log_device.Ghosts L) (z : Sizes) (pages : P) (log : L) → AllFit (p.may_be pages) z [] → Only [] (l.may_leave log) → EachPair p l pages log (IsSomeStore z)
 formatted_store p l z pages log fit only images bytes a b = ([], record { are_spelled = tt; is = only bytes b; left = record { whole = whole_empty z; fits = fits_log (p.may_be pages) z [] images fit a } })

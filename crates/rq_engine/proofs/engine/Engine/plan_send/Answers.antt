@@ -1,10 +1,10 @@
-use Rattle.std.proofs.Common.{◌≡◌, ◌≤◌, ◌^◌, sym, ap, ◌∙◌, subst, arith}
-use Rattle.rq_page.specs.Sizes.{cell_count, directory_at}
+use Rattle.std.proofs.Common.{◌≡◌, ℕ, ◌<◌, true, ◌≤◌, ◌^◌, sym, ap, ◌∙◌, subst, arith}
+use Rattle.rq_page.specs.Sizes.{cell_count, directory_at, IsCellAddress}
 use Rattle.rq_page.specs.Slots.Slot.{Sender}
-use Rattle.rq_level.specs.Stored.{slots_in, count_used}
+use Rattle.rq_level.specs.Stored.{slots_in, count_used, is_used}
 use Rattle.rq_store.specs.State.{State}
 use Rattle.rq_engine.specs.Kept.{total_of}
-use Rattle.rq_engine.proofs.SendCalls.{sent_within, tail_there, some_free}
+use Rattle.rq_engine.proofs.SendCalls.{sent_within, tail_there, some_free, takes_lowest}
 use Rattle.rq_engine.proofs.Opened.{state_is}
 use Rattle.rq_engine.proofs.engine.Engine.plan_send.Goals as goal
 
@@ -24,3 +24,8 @@ returns-in_default-clause-refused g c k room idle =
 pub returns-in_default-free_cell-clause-refused : goal.returns-in_default-free_cell-clause-refused
 returns-in_default-free_cell-clause-refused g c k room idle =
     absurd (some_free c.args.self.now.state k idle room (subst (λ (s : State). count_used s.sizes (slots_in s.sizes s.images) ≡ cell_count s.sizes) (state_is c.self.view_is) c.in_default-free_cell.ensures.full))
+
+pub returns-clause-lowest : goal.returns-clause-lowest
+returns-clause-lowest g c =
+    takes_lowest c.args.self.now.state.sizes (slots_in c.args.self.now.state.sizes c.args.self.now.state.images) _ _ c.in_ok-plan.ensures.cell
+    (subst (λ (s : State). (b : ℕ) → IsCellAddress s.sizes b → b < c.in-Some-free_cell.free → is_used (slots_in s.sizes s.images b) ≡ true) (state_is c.self.view_is) c.in-Some-free_cell.ensures.lowest)

@@ -1,7 +1,9 @@
 use Rattle.std.proofs.Common.{◌+◌, ap, ◌∙◌, false}
 use Rattle.rq_store.specs.State.{State}
 use Rattle.rq_engine.proofs.Refusals.{no_memory}
-use Rattle.rq_engine.proofs.SendCalls.{send_done}
+use Rattle.rq_engine.proofs.SendCalls.{send_done, going_started}
+use Rattle.rq_level.specs.Stored.{slots_in}
+use Rattle.rq_engine.specs.Sends.{TakesLowest}
 use Rattle.rq_engine.proofs.Opened.{state_is}
 use Rattle.rq_engine.proofs.engine.Engine.start_send.Goals as goal
 
@@ -15,3 +17,9 @@ returns-in-Ok-clause-answered g c h =
 pub returns-in-Err-clause-answered : goal.returns-in-Err-clause-answered
 returns-in-Err-clause-answered g c h k =
     rw (c.in-Err.ensures.refusal, c.in-Err.ensures.refused) (no_memory false c.args.self.now.state _ c.in_ok-number.ensures.running k)
+
+pub returns-in-Ok-clause-lowest : goal.returns-in-Ok-clause-lowest
+returns-in-Ok-clause-lowest g c =
+    going_started c.args.self.now.state _ c.args.txn c.in_ok-number.number c.in_ok-plan.plan
+    (λ r u. TakesLowest c.args.self.now.state.sizes (slots_in c.args.self.now.state.sizes c.args.self.now.state.images) u.writes)
+    c.in_ok-number.ensures.ready (ap (λ (s : State). s.rows) c.in-Ok.ensures.started) (λ r. c.in_ok-plan.ensures.lowest)
