@@ -11,7 +11,7 @@ use Rattle.rq_model.specs.Ledger.{found, ended_in}
 use Rattle.rq_model.specs.Legal.{Passes, is_busy, NoneHolds, free_to_send, has_closed, log_full, cells_in_use, ready_tests}
 use Rattle.rq_model.specs.Reference.{message_of}
 use Rattle.rq_page.specs.declared.directory.Directory.{Directory}
-use Rattle.rq_page.specs.Sizes.{sender_count, cell_count, directory_at, IsCellAddress}
+use Rattle.rq_page.specs.Sizes.{Sizes, sender_count, cell_count, directory_at, IsCellAddress}
 use Rattle.rq_page.specs.declared.cell.Cell.{Cell}
 use Rattle.rq_page.specs.Slots.{Slot}
 use Rattle.rq_page.specs.Slots.Slot.{Free, Used, Sender}
@@ -46,7 +46,7 @@ use Rattle.rq_store.proofs.Flags.{flag_is}
 use Rattle.rq_store.proofs.SendStarts.{start_steps}
 use Rattle.rq_model.specs.Replay.Reply.{Gave_sub}
 use Rattle.rq_store.proofs.Forcing.{refused_steps}
-use Rattle.rq_engine.specs.Answers.{Refuses, IsReady, IsGoing, OnUnder}
+use Rattle.rq_engine.specs.Answers.{Refuses, IsReady, OnFound, OnUnder}
 use Rattle.rq_chain.specs.declared.Plan.{Plan}
 use Rattle.rq_engine.specs.Kept.{IsKept, IsUnderKept}
 use Rattle.rq_engine.specs.Sends.{under_plan, FitsPlan, TakesLowest}
@@ -199,13 +199,13 @@ send_done s new t n e tag body b plan ready h idle same p free room may is k =
     subst (λ (x : State). Steps s (Start_send t (message_of e tag body)) (Gave_sub t n) x) (sym is) c
 
 -- what was planned is under way
-pub going_started : (s new : State) (t : Txn) (n : ℕ) (plan : Plan) (P : Row → Under → Type 0) → IsReady s t n → new.rows ≡ change_row t (row_started (under_plan n plan)) s.rows
-    → ((r : Row) → P r (under_plan n plan)) → IsGoing new (record { txn = t; number = n }) P
-going_started s new t n plan P ready rows holds =
+pub going_started : (s : State) (rows : List Row) (t : Txn) (n : ℕ) (plan : Plan) (P : Row → Under → Type 0) → IsReady s t n → rows ≡ change_row t (row_started (under_plan n plan)) s.rows
+    → ((r : Row) → P r (under_plan n plan)) → OnFound (λ r. OnUnder n P r r.under) (found_row t rows)
+going_started s rows t n plan P ready is holds =
     let r = found_of (λ r. (r.under ≡ None) × (n ≡ r.number + 1)) (found_row t s.rows) ready in
-    let found : found_row t new.rows ≡ Some (row_started (under_plan n plan) r.0) =
-        ap (found_row t) rows ∙ found_change_same t (row_started (under_plan n plan)) s.rows (λ q. refl) ∙ ap (option_map (row_started (under_plan n plan))) r.1 in
-    on_found (λ q. OnUnder n P q q.under) (found_row t new.rows) (row_started (under_plan n plan) r.0) found (refl, holds (row_started (under_plan n plan) r.0))
+    let found : found_row t rows ≡ Some (row_started (under_plan n plan) r.0) =
+        ap (found_row t) is ∙ found_change_same t (row_started (under_plan n plan)) s.rows (λ q. refl) ∙ ap (option_map (row_started (under_plan n plan))) r.1 in
+    on_found (λ q. OnUnder n P q q.under) (found_row t rows) (row_started (under_plan n plan) r.0) found (refl, holds (row_started (under_plan n plan) r.0))
 
 -- the lowest free cell is taken first
 pub takes_lowest : (z : Sizes) (slots : ℕ → Slot) (a : ℕ) (ws : List SlotWrite) → IsFirstAt a ws → ((b : ℕ) → IsCellAddress z b → b < a → is_used (slots b) ≡ true) → TakesLowest z slots ws

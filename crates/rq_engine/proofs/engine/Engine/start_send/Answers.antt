@@ -22,4 +22,4 @@ pub returns-in-Ok-clause-lowest : goal.returns-in-Ok-clause-lowest
 returns-in-Ok-clause-lowest g c =
     going_started c.args.self.now.state _ c.args.txn c.in_ok-number.number c.in_ok-plan.plan
     (λ r u. TakesLowest c.args.self.now.state.sizes (slots_in c.args.self.now.state.sizes c.args.self.now.state.images) u.writes)
-    c.in_ok-number.ensures.ready (ap (λ (s : State). s.rows) c.in-Ok.ensures.started) (λ r. c.in_ok-plan.ensures.lowest)
+    c.in_ok-number.ensures.ready (ap (λ (s : State). s.rows) (state_is c.self.view_is ∙ c.in-Ok.ensures.started)) (λ r. c.in_ok-plan.ensures.lowest)
