@@ -12,7 +12,6 @@ use Rattle.rq_store.proofs.Redoing.{oldest_store, redo_one}
 use Rattle.rq_store.proofs.Bounds.{may_redo}
 use Rattle.rq_restart.specs.Noted.{Noted, noted, noted_after}
 use Rattle.rq_restart.specs.Repeating.{Paged, Marks, Belongs, Repeats, IsFirstBad}
-use Rattle.rq_store.specs.Sound.{incarnation_of}
 use Rattle.rq_restart.proofs.Noting.{noted_incarnation}
 
 oldest_first : (xs : List Record) (n : ℕ) → oldest n (reverse xs) ≡ reverse (take n xs)
