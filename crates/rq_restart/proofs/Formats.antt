@@ -1,12 +1,11 @@
 -- The pages behind the first, and then the first.
-use Rattle.std.proofs.Common.{◌≡◌, ◌⊎◌, ℕ, ◌≤◌, ◌<◌, ◌==◌, ◌∙◌, List, zero, suc, inl, inr, ⊎_elim, sym, subst, arith}
+use Rattle.std.proofs.Common.{◌⊎◌, ℕ, ◌≤◌, ◌<◌, ◌==◌, ◌∙◌, List, zero, suc, inl, inr, ⊎_elim, sym, subst, arith}
 use Rattle.std.proofs.lemmas.Bool.{cond-false}
 use Rattle.rq_level.proofs.Chains.{no_eq}
 use Rattle.rq_page.specs.Sizes.{Sizes, page_count}
 use Rattle.rq_page.specs.Formatted.{IsFormatted}
 use Rattle.rq_disk.specs.Device.{Images, Holds, Written, NoMore, Leaves, Elapses, Only}
 use Rattle.rq_disk.specs.declared.device.PageDevice.{Ghosts}
-use Rattle.rq_engine.specs.Devices.{PagesLeave}
 use Rattle.rq_restart.specs.Formatting.{IsBeforeOrFormatted, SuperblockIsLast}
 
 pub formatted_all : (z : Sizes) (old new : ℕ → List ℕ) (image : List ℕ) → ((p : ℕ) → 1 ≤ p → p < page_count z → IsFormatted z p (old p)) → Holds old 0 image new → IsFormatted z 0 image → (p : ℕ) → p < page_count z → IsFormatted z p (new p)

@@ -19,11 +19,10 @@ use Rattle.rq_store.proofs.Opening.{restarted_whole, opened_after}
 use Rattle.rq_engine.specs.Opened.{OpenStore, pooled}
 use Rattle.rq_restart.specs.declared.restart.Report.{Report}
 use Rattle.rq_restart.specs.declared.restart.Stopped.{Stopped}
-use Rattle.rq_restart.specs.Noted.{noted}
 use Rattle.rq_restart.specs.Restarting.{IsReadAs, IsLeftOn, Reports, WasChecked, IsEnded, IsBegunOn, BeginsAtMost}
 use Rattle.rq_restart.specs.Repeating.{paged}
 use Rattle.rq_engine.specs.Devices.{EachPair, Path}
-use Rattle.rq_restart.specs.Underway.{IsStore, IsSomeStore, IsLeftOrGoesOn, pages_left, log_left}
+use Rattle.rq_restart.specs.Underway.{IsSomeStore, IsLeftOrGoesOn, pages_left, log_left}
 use Rattle.rq_engine.specs.Devices.Path.{Start, Pages, Log}
 use Rattle.rq_restart.proofs.Noting.{noted_unfinished, noted_working, pairs_of}
 use Rattle.rq_restart.proofs.Parsing.{one_log}

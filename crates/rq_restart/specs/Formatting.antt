@@ -1,5 +1,5 @@
 -- A store that is being formatted.
-use Rattle.std.specs.Prelude.{◌⊎◌, ℕ, ◌<◌, List}
+use Rattle.std.specs.Prelude.{◌⊎◌, ℕ, ◌<◌}
 use Rattle.rq_disk.specs.Device.{Images}
 use Rattle.rq_disk.specs.declared.device.PageDevice.{Ghosts}
 use Rattle.rq_page.specs.Sizes.{Sizes, page_count}

@@ -9,7 +9,7 @@ use Rattle.rq_page.specs.Sizes.{Sizes, page_count, sender_count}
 use Rattle.rq_model.specs.Incarnations.{incarnation_of}
 use Rattle.rq_store.specs.Fitting.{image_in}
 use Rattle.rq_model.specs.Content.{unfinished, lost}
-use Rattle.rq_disk.specs.Device.{Images, Only}
+use Rattle.rq_disk.specs.Device.{Only}
 use Rattle.rq_disk.specs.declared.device.LogDevice as log_device
 use Rattle.rq_disk.specs.declared.device.PageDevice as page_device
 use Rattle.rq_pool.specs.Reading as pages_read
