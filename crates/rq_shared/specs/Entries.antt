@@ -56,4 +56,4 @@ pub record Audited (P L : Type 0) : Type 0 where
 pub record TakenAudit (P L : Type 0) : Type 0 where
   pub base : OpenStore P L
   pub before : ℕ
-  pub entries : List Noted
+  pub audit : List Noted

@@ -172,21 +172,21 @@ impl<P: PageDevice + Drop, L: LogDevice + Drop> Kept<P, L> {
     /// since, in order: they replay from that engine to the engine as it is. Then nothing is in the audit.
     pub fn take(&mut self) -> Taken<P, L>
         ensures base { (result.base ≡ self.old.base) × (result.before ≡ self.old.taken) }
-        ensures entries { result.entries ≡ self.old.audit }
-        ensures replays { Follows P.PageDevice L.LogDevice result.base result.entries self.old.engine }
+        ensures entries { result.audit ≡ self.old.audit }
+        ensures replays { Follows P.PageDevice L.LogDevice result.base result.audit self.old.engine }
         ensures emptied { self.new.audit ≡ [] }
         ensures engine { self.new.engine ≡ self.old.engine }
         ensures begun { (self.new.base ≡ self.old.engine) × (self.new.taken ≡ self.old.taken + length self.old.audit) }
     {
         let count = self.audit.len() as u64;
-        let entries = mem::replace(&mut self.audit, Vec::new(self.alloc));
+        let audit = mem::replace(&mut self.audit, Vec::new(self.alloc));
         let base = mem::replace(&mut self.base, Snapshot::of(&self.engine));
         let (before, taken) = same_and_more(mem::replace(&mut self.taken, zero()), count);
         self.taken = taken;
         Taken {
             base,
             before,
-            entries,
+            audit,
         }
     }
 
@@ -211,7 +211,7 @@ impl<P: PageDevice + Drop, L: LogDevice + Drop> Kept<P, L> {
 pub struct Taken<P: PageDevice, L: LogDevice> {
     base: Snapshot<Engine<P, L>>,
     before: Snapshot<Count>,
-    entries: Vec<AuditEntry>,
+    audit: Vec<AuditEntry>,
 }
 
 impl<P: PageDevice, L: LogDevice> Model for Taken<P, L> {
@@ -222,7 +222,7 @@ impl<P: PageDevice, L: LogDevice> Model for Taken<P, L> {
     ghost view = { λ t. record {
       base = t.base.value;
       before = t.before.value.0;
-      entries = entries t.entries.items;
+      audit = entries t.audit.items;
     } };
 }
 
@@ -231,9 +231,9 @@ impl<P: PageDevice, L: LogDevice> Taken<P, L> {
 
     /// The entries, in order.
     pub fn entries(&self) -> &[AuditEntry]
-        ensures { entries result.now ≡ self.now.entries }
+        ensures { entries result.now ≡ self.now.audit }
     {
-        self.entries.as_slice()
+        self.audit.as_slice()
     }
 }
 
