@@ -1,0 +1,4 @@
+pub mod Fronts
+pub mod NumberBytes
+pub mod Spells
+pub mod Streams
