@@ -33,11 +33,13 @@ fn run<R: Print + Input + AllocGlobal + std::rt::Env>(rt: &R) -> io::Result<u8> 
     for _ in 0..rounds(rt)? {
         totals = totals_of(rt, &bytes);
     }
-    let Some(Totals {
-        requests,
-        tags,
-        bytes,
-    }) = totals
+    let Some(
+        Totals {
+            requests,
+            tags,
+            bytes,
+        },
+    ) = totals
     else {
         writeln!(writer, "fault")?;
         return Ok(1);

@@ -111,12 +111,12 @@ frame_stays a b r n e =
     let f : take (size a - 1) (drop 3 (a ++ b)) ≡ take (size a - 1) (drop 3 a) = fields_same a b (size a) three (omega (arith, all, length-drop 3 a)) in
     let same : behind (a ++ b) ≡ behind a = rw (m, k, f) refl in
     picked (nat_lt (length (a ++ b)) 2) (is_size (size (a ++ b))) (nat_lt (length (a ++ b)) 3) (is_kind (slice_index (a ++ b) 2)) (nat_lt (length (a ++ b)) (2 + size (a ++ b))) (behind (a ++ b)) (Frame r n)
-      (no_lt (length (a ++ b)) 2 (omega (arith, long, two)))
-      (ap is_size m ∙ p.sized)
-      (no_lt (length (a ++ b)) 3 (omega (arith, long, three)))
-      (ap is_kind k ∙ p.known)
-      (no_lt (length (a ++ b)) (2 + size (a ++ b)) (omega (arith, long, all, m)))
-      (same ∙ p.front)
+    (no_lt (length (a ++ b)) 2 (omega (arith, long, two)))
+    (ap is_size m ∙ p.sized)
+    (no_lt (length (a ++ b)) 3 (omega (arith, long, three)))
+    (ap is_kind k ∙ p.known)
+    (no_lt (length (a ++ b)) (2 + size (a ++ b)) (omega (arith, long, all, m)))
+    (same ∙ p.front)
 
 -- requests stay those at the front
 pub begins_longer : (rs : List Request) (a b rest : List ℕ) → Begins rs a rest → Begins rs (a ++ b) (rest ++ b)
@@ -150,14 +150,14 @@ fault_stays a b e =
     let at_least : (k : ℕ) → nat_lt (length a) k ≡ false → k ≤ length a = λ k. lt_no (length a) k in
     let m : nat_lt (length a) 2 ≡ false → size (a ++ b) ≡ size a = λ s. number_same a b (at_least 2 s) in
     stay (nat_lt (length a) 2) (is_size (size a)) (nat_lt (length a) 3) (is_kind (slice_index a 2)) (nat_lt (length a) (2 + size a)) (behind a)
-      (nat_lt (length (a ++ b)) 2) (is_size (size (a ++ b))) (nat_lt (length (a ++ b)) 3) (is_kind (slice_index (a ++ b) 2)) (nat_lt (length (a ++ b)) (2 + size (a ++ b))) (behind (a ++ b))
-      (λ s. let two = at_least 2 s in no_lt (length (a ++ b)) 2 (omega (arith, long, two)))
-      (λ s. ap is_size (m s))
-      (λ s. let three = at_least 3 s in no_lt (length (a ++ b)) 3 (omega (arith, long, three)))
-      (λ s. ap is_kind (kind_same a b (at_least 3 s)))
-      (λ s t. let all = at_least (2 + size a) t in let same = m s in no_lt (length (a ++ b)) (2 + size (a ++ b)) (omega (arith, long, all, same)))
-      (λ s t u. behind_same a b (at_least 2 s) (at_least 3 t) (at_least (2 + size a) u))
-      e
+    (nat_lt (length (a ++ b)) 2) (is_size (size (a ++ b))) (nat_lt (length (a ++ b)) 3) (is_kind (slice_index (a ++ b) 2)) (nat_lt (length (a ++ b)) (2 + size (a ++ b))) (behind (a ++ b))
+    (λ s. let two = at_least 2 s in no_lt (length (a ++ b)) 2 (omega (arith, long, two)))
+    (λ s. ap is_size (m s))
+    (λ s. let three = at_least 3 s in no_lt (length (a ++ b)) 3 (omega (arith, long, three)))
+    (λ s. ap is_kind (kind_same a b (at_least 3 s)))
+    (λ s t. let all = at_least (2 + size a) t in let same = m s in no_lt (length (a ++ b)) (2 + size (a ++ b)) (omega (arith, long, all, same)))
+    (λ s t u. behind_same a b (at_least 2 s) (at_least 3 t) (at_least (2 + size a) u))
+    e
 
 -- what a connection keeps, one piece later
 module _ (bytes : List ℕ) (rs : List Request) (fault : Bool) (unread piece bytes' : List ℕ) (given' : List Request) (keeps : Keeps bytes rs fault unread) (more : bytes' ≡ bytes ++ piece) where

@@ -47,14 +47,14 @@ module _ (kind : ℕ) (fields rest : List ℕ) where
       let long = length-whole in
       let inner : take (1 + length fields - 1) (drop 3 whole) ≡ fields = ap (λ (n : ℕ). take n (drop 3 whole)) (omega arith) ∙ ap (take (length fields)) behind_third ∙ take_front fields rest in
       picked (nat_lt (length whole) 2) (is_size (number_at 2 0 whole)) (nat_lt (length whole) 3) (is_kind (slice_index whole 2)) (nat_lt (length whole) (2 + number_at 2 0 whole))
-        (whole_frame (request_in (slice_index whole 2) (take (number_at 2 0 whole - 1) (drop 3 whole))) (2 + number_at 2 0 whole))
-        (whole_frame (request_in kind fields) (2 + (1 + length fields)))
-        (no_lt (length whole) 2 (omega (arith, long)))
-        (rw size (grind (arith, nat_tests)))
-        (no_lt (length whole) 3 (omega (arith, long)))
-        (rw third (grind (arith, nat_tests)))
-        (rw size (no_lt (length whole) (2 + (1 + length fields)) (omega (arith, long))))
-        (rw (size, third, inner) refl)
+      (whole_frame (request_in (slice_index whole 2) (take (number_at 2 0 whole - 1) (drop 3 whole))) (2 + number_at 2 0 whole))
+      (whole_frame (request_in kind fields) (2 + (1 + length fields)))
+      (no_lt (length whole) 2 (omega (arith, long)))
+      (rw size (grind (arith, nat_tests)))
+      (no_lt (length whole) 3 (omega (arith, long)))
+      (rw third (grind (arith, nat_tests)))
+      (rw size (no_lt (length whole) (2 + (1 + length fields)) (omega (arith, long))))
+      (rw (size, third, inner) refl)
 
 four : (sender : ℕ) → (length (number 4 sender) == 4) ≡ true
 four sender = rw (length-number 4 sender) refl
@@ -130,10 +130,11 @@ pub apart : (kind other : ℕ) (fields others x y : List ℕ) → length fields 
 apart kind other fields others x y short shorts e =
     let sizes : 1 + length fields ≡ 1 + length others = sym (size_told kind fields x short) ∙ ap (number_at 2 0) e ∙ size_told other others y shorts in
     let same : length fields ≡ length others = omega (arith, sizes) in
-    let behinds : fields ++ x ≡ others ++ y = sym (behind_third kind fields x) ∙ ap (drop 3) e ∙ behind_third other others y in
-    ( sym (third kind fields x) ∙ ap (λ (l : List ℕ). slice_index l 2) e ∙ third other others y
-    , sym (take_front fields x) ∙ ap (λ (n : ℕ). take n (fields ++ x)) same ∙ ap (take (length others)) behinds ∙ take_front others y
-    , sym (drop_front fields x) ∙ ap (λ (n : ℕ). drop n (fields ++ x)) same ∙ ap (drop (length others)) behinds ∙ drop_front others y )
+    let behinds : fields ++ x ≡ others ++ y = sym (behind_third kind fields x) ∙ ap (drop 3) e ∙ behind_third other others y in (
+      sym (third kind fields x) ∙ ap (λ (l : List ℕ). slice_index l 2) e ∙ third other others y,
+      sym (take_front fields x) ∙ ap (λ (n : ℕ). take n (fields ++ x)) same ∙ ap (take (length others)) behinds ∙ take_front others y,
+      sym (drop_front fields x) ∙ ap (λ (n : ℕ). drop n (fields ++ x)) same ∙ ap (drop (length others)) behinds ∙ drop_front others y,
+    )
 
 -- ---- from bytes to requests
 
@@ -223,26 +224,26 @@ fields_told kind fields r bytes most known whole =
     elim (chosen (kind == 1) _ _ _ whole) [
       | inl (k, g) ↦ plain kind 1 fields Begin r k g refl refl tt
       | inr (n1, e) ↦ elim (chosen (kind == 2) _ _ _ e) [
-          | inl (k, g) ↦
-              let is = is_number kind 2 k in
-              subst (λ (n : ℕ). Spells n fields r) (sym is) (send_told fields r bytes most (subst (λ (n : ℕ). request_in n fields ≡ Some r) is whole))
-          | inr (n2, e) ↦ elim (chosen (kind == 3) _ _ _ e) [
-              | inl (k, g) ↦ plain kind 3 fields Receive r k g refl refl tt
-              | inr (n3, e) ↦ elim (chosen (kind == 4) _ _ _ e) [
-                  | inl (k, g) ↦ with_sender kind fields ReceiveFrom r bytes g (is_number kind 4 k) refl (λ b. b)
-                  | inr (n4, e) ↦ elim (chosen (kind == 5) _ _ _ e) [
-                      | inl (k, g) ↦ with_sender kind fields Close r bytes g (is_number kind 5 k) refl (λ b. b)
-                      | inr (n5, e) ↦ elim (chosen (kind == 6) _ _ _ e) [
-                          | inl (k, g) ↦ plain kind 6 fields Commit r k g refl refl tt
-                          | inr (n6, e) ↦ elim (chosen (kind == 7) _ _ _ e) [
-                              | inl (k, g) ↦ plain kind 7 fields Abort r k g refl refl tt
-                              | inr (n7, g) ↦ with_sender kind fields LastTag r bytes g (only_eight kind known n1 n2 n3 n4 n5 n6 n7) refl (λ b. b)
-                            ]
-                        ]
-                    ]
+        | inl (k, g) ↦
+            let is = is_number kind 2 k in
+            subst (λ (n : ℕ). Spells n fields r) (sym is) (send_told fields r bytes most (subst (λ (n : ℕ). request_in n fields ≡ Some r) is whole))
+        | inr (n2, e) ↦ elim (chosen (kind == 3) _ _ _ e) [
+          | inl (k, g) ↦ plain kind 3 fields Receive r k g refl refl tt
+          | inr (n3, e) ↦ elim (chosen (kind == 4) _ _ _ e) [
+            | inl (k, g) ↦ with_sender kind fields ReceiveFrom r bytes g (is_number kind 4 k) refl (λ b. b)
+            | inr (n4, e) ↦ elim (chosen (kind == 5) _ _ _ e) [
+              | inl (k, g) ↦ with_sender kind fields Close r bytes g (is_number kind 5 k) refl (λ b. b)
+              | inr (n5, e) ↦ elim (chosen (kind == 6) _ _ _ e) [
+                | inl (k, g) ↦ plain kind 6 fields Commit r k g refl refl tt
+                | inr (n6, e) ↦ elim (chosen (kind == 7) _ _ _ e) [
+                  | inl (k, g) ↦ plain kind 7 fields Abort r k g refl refl tt
+                  | inr (n7, g) ↦ with_sender kind fields LastTag r bytes g (only_eight kind known n1 n2 n3 n4 n5 n6 n7) refl (λ b. b)
                 ]
+              ]
             ]
+          ]
         ]
+      ]
     ]
 
 cut : (a b k : ℕ) (rest : List ℕ) (m : ℕ) → AreBytes (a ∷ b ∷ k ∷ rest) → number_at 2 0 (a ∷ b ∷ k ∷ rest) ≡ 1 + m → 3 + m ≤ length (a ∷ b ∷ k ∷ rest)
@@ -274,7 +275,8 @@ read_is_spelled bytes r n are e =
     let short : length fields ≤ 511 = omega (arith, length-take (size bytes - 1) (drop 3 bytes), sized.1) in
     let s = fields_told kind fields r (AreBytes-take (size bytes - 1) (drop 3 bytes) (AreBytes-drop 3 bytes are)) short p.known read.0 in
     let here : 3 + (size bytes - 1) ≡ n = omega (arith, sized.0, read.1) in
-    let cut = frame_cut bytes (size bytes - 1) are (omega (arith, sized.0)) (omega (arith, sized.0, all)) in
-    ( s.good
-    , cut ∙ ap (λ (k : ℕ). frame k fields ++ drop (3 + (size bytes - 1)) bytes) s.of_kind ∙ ap (λ (f : List ℕ). frame (request_kind r) f ++ drop (3 + (size bytes - 1)) bytes) s.of_fields
-      ∙ ap (λ (k : ℕ). frame (request_kind r) (request_fields r) ++ drop k bytes) here )
+    let cut = frame_cut bytes (size bytes - 1) are (omega (arith, sized.0)) (omega (arith, sized.0, all)) in (
+      s.good,
+      cut ∙ ap (λ (k : ℕ). frame k fields ++ drop (3 + (size bytes - 1)) bytes) s.of_kind ∙ ap (λ (f : List ℕ). frame (request_kind r) f ++ drop (3 + (size bytes - 1)) bytes) s.of_fields
+          ∙ ap (λ (k : ℕ). frame (request_kind r) (request_fields r) ++ drop k bytes) here,
+    )

@@ -20,10 +20,11 @@ to_frames (r ∷ rs) bytes rest are h =
 pub from_frames : (rs : List Request) (bytes rest : List ℕ) → AreRequested rs → bytes ≡ spelled_all rs ++ rest → Begins rs bytes rest
 from_frames [] bytes rest are e = e
 from_frames (r ∷ rs) bytes rest are e =
-    let regrouped : bytes ≡ spelled r ++ (spelled_all rs ++ rest) = e ∙ append_assoc (spelled r) (spelled_all rs) rest in
-    ( length (spelled r)
-    , ap looks regrouped ∙ spelled_is_read r (spelled_all rs ++ rest) are.0
-    , from_frames rs (drop (length (spelled r)) bytes) rest are.1 (ap (drop (length (spelled r))) regrouped ∙ drop_front (spelled r) (spelled_all rs ++ rest)) )
+    let regrouped : bytes ≡ spelled r ++ (spelled_all rs ++ rest) = e ∙ append_assoc (spelled r) (spelled_all rs) rest in (
+      length (spelled r),
+      ap looks regrouped ∙ spelled_is_read r (spelled_all rs ++ rest) are.0,
+      from_frames rs (drop (length (spelled r)) bytes) rest are.1 (ap (drop (length (spelled r))) regrouped ∙ drop_front (spelled r) (spelled_all rs ++ rest)),
+    )
 
 same_stop : (fault other : Bool) → stop fault ≡ stop other → fault ≡ other
 same_stop true true e = refl

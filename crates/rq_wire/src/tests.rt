@@ -1,3 +1,5 @@
+ghost use Rattle.std.specs.Prelude.{◌≤◌};
+
 use crate::{Answer, Fed, Frames, Request, answer};
 use bytes::{BufMut, BytesMut};
 use rq_model::message::{Body, Message};
@@ -136,9 +138,15 @@ fn a_fault_is_told_as_soon_as_it_is_there(rt: HostRuntime) {
     long[24] = 1;
     assert_eq!(rt; one_by_one(rt.alloc(), &long), Some((2, Some(24))));
     assert_eq!(rt; one_by_one(rt.alloc(), &[0, 0, 1, 1]), Some((0, Some(1))));
-    assert_eq!(rt; one_by_one(rt.alloc(), &[0, 1, 12, 0, 1, 1]), Some((0, Some(2))));
+    assert_eq!(rt;
+        one_by_one(rt.alloc(), &[0, 1, 12, 0, 1, 1]),
+        Some((0, Some(2)))
+    );
     assert_eq!(rt; one_by_one(rt.alloc(), &[0, 9, 0]), Some((0, Some(2))));
-    assert_eq!(rt; one_by_one(rt.alloc(), &[0, 2, 1, 0, 0, 1, 1]), Some((0, Some(3))));
+    assert_eq!(rt;
+        one_by_one(rt.alloc(), &[0, 2, 1, 0, 0, 1, 1]),
+        Some((0, Some(3)))
+    );
     let eleven = [0, 12, 2, 0, 0, 0, 0, 0, 0, 0, 0, 0, 0, 0];
     assert_eq!(rt; one_by_one(rt.alloc(), &eleven), Some((0, Some(13))));
     assert_eq!(rt; one_by_one(rt.alloc(), &[0, 5, 4, 0, 0]), Some((0, None)));
@@ -174,7 +182,9 @@ impl Dice {
     }
 
     // A number from 0 to this one.
-    fn up_to(&mut self, most: u16) -> usize {
+    fn up_to(&mut self, most: u16) -> usize
+        ensures { result ≤ most }
+    {
         (self.roll() % (most as u64 + 1)) as usize
     }
 }
@@ -242,7 +252,11 @@ fn random_frames_in_random_pieces(rt: HostRuntime) -> Result<(), Fail> {
         let most = if seed % 3 == 0 { 3 } else { 700 };
         let (asked, fault) = in_pieces(rt.alloc(), stream.as_slice(), most, &mut dice)?;
         assert!(rt; fault == faulty, "seed {seed}");
-        assert_eq!(rt; Some(asked.as_slice()), stream.as_slice().get(..good), "seed {seed}");
+        assert_eq!(rt;
+            Some(asked.as_slice()),
+            stream.as_slice().get(..good),
+            "seed {seed}"
+        );
     }
     Ok(())
 }

@@ -31,9 +31,9 @@ invariant_of-self-in-Ok-take_requests c =
     let piece = added c.len-held.result s.unread.items c.args.piece.now c.extend_from_slice.new.self.items c.len-held.ensures.value c.in-Ok.ensures.ok in
     let rest = drop c.in-Ok-take_requests.taken c.extend_from_slice.new.self.items in
     fed_on (fed_bytes s.notes.items) (given s.notes.items) s.fault s.unread.items c.args.piece.now (fed_bytes c.take_requests.new.notes.items) (given c.take_requests.new.notes.items) c.self.invariant
-      (c.in-Ok-take_requests.ensures.fed ∙ ap (λ (l : List _). fed_bytes s.notes.items ++ l) piece)
-      c.in-Ok-take_requests.fed.requests.items rest c.advance.new.self.items c.in-Ok-take_requests.fed.fault no c.in-Ok-take_requests.ensures.given
-      (subst (λ (l : List _). Begins c.in-Ok-take_requests.fed.requests.items l rest) held c.in-Ok-take_requests.ensures.requests) c.in-Ok-take_requests.ensures.stop c.advance.ensures.items
+    (c.in-Ok-take_requests.ensures.fed ∙ ap (λ (l : List _). fed_bytes s.notes.items ++ l) piece)
+    c.in-Ok-take_requests.fed.requests.items rest c.advance.new.self.items c.in-Ok-take_requests.fed.fault no c.in-Ok-take_requests.ensures.given
+    (subst (λ (l : List _). Begins c.in-Ok-take_requests.fed.requests.items l rest) held c.in-Ok-take_requests.ensures.requests) c.in-Ok-take_requests.ensures.stop c.advance.ensures.items
 
 pub returns-in-Ok-take_requests-clause-exact : goal.returns-in-Ok-take_requests-clause-exact
 returns-in-Ok-take_requests-clause-exact c = exact _ _ _ _ (invariant_of-self-in-Ok-take_requests c)
