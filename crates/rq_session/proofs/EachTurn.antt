@@ -92,7 +92,7 @@ steps lost sub purpose told.Written = calls (stages.Step sub purpose) told.Writt
 steps lost sub purpose told.Ready = calls (stages.Step sub purpose) told.Ready (asks.Finish sub) (stages.Finish sub purpose) refl refl refl refl
 steps lost sub purpose (told.Refused refusal) =
     work_stops lost (stages.Step sub purpose) sub purpose refusal (next (Again (asks.Step sub)) (stages.Step sub purpose)) refl refl
-      (λ e. tries (stages.Step sub purpose) (told.Refused refusal) (asks.Step sub) refl (rw e tt) refl)
+    (λ e. tries (stages.Step sub purpose) (told.Refused refusal) (asks.Step sub) refl (rw e tt) refl)
 steps lost sub purpose what = ends (stages.Step sub purpose) what
 
 dones : (sub : Sub) (purpose : Purpose) (what : Told) (answer : Answer) → CommitFits (stages.Finish sub purpose) what (Answers answer) → Turn (stages.Finish sub purpose) what (rules.done sub purpose answer)
@@ -112,7 +112,7 @@ finishes lost sub purpose told.Closed = dones sub purpose told.Closed answers.Cl
 finishes lost sub purpose told.Undone = undones sub purpose
 finishes lost sub purpose (told.Refused refusal) =
     work_stops lost (stages.Finish sub purpose) sub purpose refusal (next (Again (asks.Finish sub)) (stages.Finish sub purpose)) refl refl
-      (λ e. tries (stages.Finish sub purpose) (told.Refused refusal) (asks.Finish sub) refl (rw e tt) refl)
+    (λ e. tries (stages.Finish sub purpose) (told.Refused refusal) (asks.Finish sub) refl (rw e tt) refl)
 finishes lost sub purpose what = ends (stages.Finish sub purpose) what
 
 commits : (h : Held) (what : Told) → Turn (stages.Commit h) what (rules.after_commit h what)

@@ -1,1 +1,2 @@
 pub mod EachTurn
+pub mod Balances

@@ -19,9 +19,15 @@ pub enum Ask {
     /// Start a receive from any sender.
     StartReceive(Txn),
     /// Start a receive from this sender.
-    StartReceiveFrom { txn: Txn, sender: u32 },
+    StartReceiveFrom {
+        txn: Txn,
+        sender: u32,
+    },
     /// Start the close of this sender's group.
-    StartClose { txn: Txn, sender: u32 },
+    StartClose {
+        txn: Txn,
+        sender: u32,
+    },
     /// Write the next slot of an operation.
     Step(Sub),
     /// Finish an operation whose slots are all written.

@@ -1,5 +1,5 @@
 //! Laws of sessions, for proofs.
-ghost use Rattle.rq_session.specs.Laws.{EachReply, EachMayAgain, EachRequest, EachLoss, LostAnswersNothing};
+ghost use Rattle.rq_session.specs.Laws.{EachReply, EachMayAgain, EachRequest, EachLoss, LostAnswersNothing, OneAnswerEach};
 
 /// At each reply: a call names the session's own transaction, and a begin is asked for only where there is none. That transaction
 /// stays until its commit, the end of its abort or the session's end, and only a begin that was answered gives one. A request
@@ -27,4 +27,10 @@ pub fn each_loss()
 /// A session whose connection is lost answers nothing.
 pub fn lost_answers_nothing()
     ensures { LostAnswersNothing }
+{}
+
+/// Over a whole session: a request is taken only when the one before it is answered, each has one answer, and up to the loss of
+/// the connection or the session's end each request but the one under way has it. So the answers are in the requests' order.
+pub fn one_answer_each()
+    ensures { OneAnswerEach }
 {}

@@ -11,3 +11,5 @@ mod turns;
 
 pub use session::Session;
 
+#[cfg(test)]
+mod tests;
