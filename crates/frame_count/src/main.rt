@@ -1,4 +1,5 @@
-//! Counts the requests of a stream that comes by standard input, fed in pieces of 4 KB, so many times over as its word says.
+//! Counts the requests of a stream that comes by standard input, fed in pieces of 4 KB, so many times over as its
+//! word says.
 #![tactic(auto)]
 
 use rq_wire::{Frames, Request};

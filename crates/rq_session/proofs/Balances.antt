@@ -10,7 +10,8 @@ use Rattle.rq_session.specs.Rules.{ended, taken, after_request, after_told, afte
 use Rattle.rq_session.specs.Laws.{Handed, asked, heard, gone, Standing, Balanced, IsAborting, owed, given, takes, handed, standing}
 use Rattle.rq_session.proofs.EachTurn.{each_reply, each_request, each_loss, lost_answers_nothing}
 
--- what is so of a standing: each request but the one under way is answered; or the connection is lost and the transaction is being
+-- what is so of a standing: each request but the one under way is answered; or the connection is lost and the
+-- transaction is being
 -- aborted; or the session has ended
 data Keeps (s : Stage) (lost : Bool) (requests answers : ℕ) : Type 0 where
   even : answers + owed s ≡ requests → Keeps s lost requests answers
@@ -58,21 +59,27 @@ keeps_heard s lost r a what (even e) =
       | inr one ↦ even (omega (arith, e, one))
     ]
 keeps_heard s lost r a what (silent l is m) = keeps_silent s lost r a what l is m
-keeps_heard s lost r a what (over e m) = keeps_ended (after_told lost s what) lost r a (ap (λ (t : Stage). after_told lost t what) e) m
+keeps_heard s lost r a what (over e m) = keeps_ended (after_told lost s what) lost r a (ap (λ (t : Stage). after_told
+    lost t what) e) m
 
-keeps_gone : (s : Stage) (lost : Bool) (r a : ℕ) → Keeps s lost r a → Keeps (after_loss s).stage true (r + 0) (a + given (after_loss s).action)
+keeps_gone : (s : Stage) (lost : Bool) (r a : ℕ) → Keeps s lost r a
+    → Keeps (after_loss s).stage true (r + 0) (a + given (after_loss s).action)
 keeps_gone s lost r a k =
     let loss = each_loss s in
     let m = most s lost r a k in
     silent refl loss.aborts (omega (arith, loss.silent, m))
 
-keeps : (history : List Handed) → Keeps (standing history).stage (standing history).lost (standing history).requests (standing history).answers
+keeps : (history : List Handed) → Keeps (standing history).stage (standing history).lost (standing history).requests
+    (standing history).answers
 keeps [] = even refl
-keeps (asked request ∷ older) = let st = standing older in keeps_asked st.stage st.lost st.requests st.answers request (keeps older)
-keeps (heard what ∷ older) = let st = standing older in keeps_heard st.stage st.lost st.requests st.answers what (keeps older)
+keeps (asked request ∷ older) = let st = standing older in keeps_asked st.stage st.lost st.requests st.answers
+    request (keeps older)
+keeps (heard what ∷ older) = let st = standing older in keeps_heard st.stage st.lost st.requests st.answers what
+    (keeps older)
 keeps (gone ∷ older) = let st = standing older in keeps_gone st.stage st.lost st.requests st.answers (keeps older)
 
-balanced : (s : Stage) (lost : Bool) (r a : ℕ) → Keeps s lost r a → (a ≤ r) × (lost ≡ false → (s ≡ stages.Ended) ⊎ (a + owed s ≡ r))
+balanced : (s : Stage) (lost : Bool) (r a : ℕ) → Keeps s lost r a → (a ≤ r) × (lost ≡ false
+    → (s ≡ stages.Ended) ⊎ (a + owed s ≡ r))
 balanced s lost r a (even e) = (omega (arith, e), λ f. inr e)
 balanced s lost r a (silent l is m) = (m, λ f. absurd (let bad : true ≡ false = sym l ∙ f in cc))
 balanced s lost r a (over e m) = (m, λ f. inl e)

@@ -1,4 +1,5 @@
--- What a session does next: for a request by the transaction that it has, for what it is told by the call that it asked for last.
+-- What a session does next: for a request by the transaction that it has, for what it is told by the call that it
+-- asked for last.
 use Rattle.std.specs.Prelude.{ℕ, Bool, ◌==◌, ◌&&◌, if◌then◌else◌, Option, Some, None}
 use Rattle.rq_model.specs.declared.txn.Txn.{Txn}
 use Rattle.rq_model.specs.declared.txn.Sub.{Sub}
@@ -44,7 +45,8 @@ abort (Left sub) = next (Do (asks.Step sub)) (stages.Step sub purposes.Clearing)
 abort (Aborting txn) = next (Do (asks.UndoNext txn)) (stages.UndoNext txn)
 abort (Undoing sub) = next (Do (asks.Step sub)) (stages.Step sub purposes.Undoing)
 
--- an abort that was refused is answered so, and may go on at a further abort; where the connection is lost, the session ends
+-- an abort that was refused is answered so, and may go on at a further abort; where the connection is lost, the
+-- session ends
 abbrev pub abort_refused : Bool → Refusal → Held → Next
 abort_refused lost refusal h = if lost then ended else answered (answers.Refused refusal) h
 
@@ -83,7 +85,8 @@ work_refused lost sub purposes.Undoing refusal again = abort_refused lost refusa
 abbrev pub after_step : Bool → Sub → Purpose → Told → Next
 after_step lost sub purpose told.Written = next (Do (asks.Step sub)) (stages.Step sub purpose)
 after_step lost sub purpose told.Ready = next (Do (asks.Finish sub)) (stages.Finish sub purpose)
-after_step lost sub purpose (told.Refused refusal) = work_refused lost sub purpose refusal (next (Again (asks.Step sub)) (stages.Step sub purpose))
+after_step lost sub purpose (told.Refused refusal) = work_refused lost sub purpose refusal (next (Again (asks.Step
+    sub)) (stages.Step sub purpose))
 after_step lost sub purpose _ = ended
 
 -- an operation that a request asked for is done
@@ -101,7 +104,8 @@ after_finish lost sub purpose told.Sent = done sub purpose answers.Sent
 after_finish lost sub purpose (told.Message message) = done sub purpose (answers.Message message)
 after_finish lost sub purpose told.Closed = done sub purpose answers.Closed
 after_finish lost sub purpose told.Undone = undone sub purpose
-after_finish lost sub purpose (told.Refused refusal) = work_refused lost sub purpose refusal (next (Again (asks.Finish sub)) (stages.Finish sub purpose))
+after_finish lost sub purpose (told.Refused refusal) = work_refused lost sub purpose refusal (next (Again
+    (asks.Finish sub)) (stages.Finish sub purpose))
 after_finish lost sub purpose _ = ended
 
 abbrev pub after_commit : Held → Told → Next
@@ -117,7 +121,8 @@ abbrev pub after_await : Commit → Told → Next
 after_await commit told.NotDurable = next (Await commit) (stages.Await commit)
 after_await commit (told.Refused Failed) = answered (answers.Refused Failed) Free
 after_await commit (told.Refused _) = next (Await commit) (stages.Await commit)
-after_await commit (told.Durable other) = if is_commit other commit then answered (answers.Committed commit.lsn) Free else next (Await commit) (stages.Await commit)
+after_await commit (told.Durable other) = if is_commit other commit then answered (answers.Committed commit.lsn) Free
+    else next (Await commit) (stages.Await commit)
 after_await commit _ = ended
 
 abbrev pub after_start_abort : Bool → Txn → Told → Next

@@ -1,10 +1,11 @@
 //! Laws of sessions, for proofs.
 ghost use Rattle.rq_session.specs.Laws.{EachReply, EachMayAgain, EachRequest, EachLoss, LostAnswersNothing, OneAnswerEach};
 
-/// At each reply: a call names the session's own transaction, and a begin is asked for only where there is none. That transaction
-/// stays until its commit, the end of its abort or the session's end, and only a begin that was answered gives one. A request
-/// under way stays under way, or gets its one answer, or the session ends. A call is made again only where memory was wanting in
-/// an operation or an abort under way, or latches or frames for an undo. Committed is answered only at the receipt of that commit.
+/// At each reply: a call names the session's own transaction, and a begin is asked for only where there is none.
+/// That transaction stays until its commit, the end of its abort or the session's end, and only a begin that was
+/// answered gives one. A request under way stays under way, or gets its one answer, or the session ends. A call is
+/// made again only where memory was wanting in an operation or an abort under way, or latches or frames for an
+/// undo. Committed is answered only at the receipt of that commit.
 pub fn each_reply()
     ensures { EachReply }
 {}
@@ -29,8 +30,9 @@ pub fn lost_answers_nothing()
     ensures { LostAnswersNothing }
 {}
 
-/// Over a whole session: a request is taken only when the one before it is answered, each has one answer, and up to the loss of
-/// the connection or the session's end each request but the one under way has it. So the answers are in the requests' order.
+/// Over a whole session: a request is taken only when the one before it is answered, each has one answer, and up
+/// to the loss of the connection or the session's end each request but the one under way has it. So the answers
+/// are in the requests' order.
 pub fn one_answer_each()
     ensures { OneAnswerEach }
 {}

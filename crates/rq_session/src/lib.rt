@@ -1,5 +1,5 @@
-//! One connection's requests as calls of the engine, one after the other, and its answers. A session is a value: it makes no call and
-//! waits for nobody, it says what is to be done next.
+//! One connection's requests as calls of the engine, one after the other, and its answers. A session is a value:
+//! it makes no call and waits for nobody, it says what is to be done next.
 #![tactic(auto)]
 
 pub mod calls;

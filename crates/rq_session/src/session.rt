@@ -8,11 +8,11 @@ use crate::stage::{Held, Stage};
 use crate::turns::{turn, turn_at_loss};
 use rq_wire::{Answer, Request};
 
-/// The session of one connection. It has at most one transaction, takes a request once the one before it is answered, and says
-/// each call that is to be made for it.
+/// The session of one connection. It has at most one transaction, takes a request once the one before it is
+/// answered, and says each call that is to be made for it.
 ///
-/// A request is carried out so: `input` says the first call, or leaves its answer in `answer`; each reply is told to `reply`, which
-/// says what is to be done next, until that is an answer or the session's end.
+/// A request is carried out so: `input` says the first call, or leaves its answer in `answer`; each reply is told
+/// to `reply`, which says what is to be done next, until that is an answer or the session's end.
 #[derive(Drop)]
 pub struct Session {
     stage: Stage,
@@ -32,8 +32,9 @@ impl Session {
         }
     }
 
-    /// The first call that a request asks for. None where it is answered with no call: its answer is then in `answer`. While a
-    /// request is under way, and once the session has ended, no further one is taken: there is no call and no answer.
+    /// The first call that a request asks for. None where it is answered with no call: its answer is then in
+    /// `answer`. While a request is under way, and once the session has ended, no further one is taken: there
+    /// is no call and no answer.
     pub fn input(&mut self, request: Request) -> Option<Ask>
         ensures call { result ≡ call_in (taken self.old.stage request).action }
         ensures answer { self.new.answer ≡ answer_in (taken self.old.stage request).action }
@@ -63,8 +64,8 @@ impl Session {
         self.answer
     }
 
-    /// What is to be done next, once it is told what came of the call that was asked for last. A reply that no call of its kind
-    /// has ends the session.
+    /// What is to be done next, once it is told what came of the call that was asked for last. A reply that no
+    /// call of its kind has ends the session.
     pub fn reply(&mut self, told: &Told) -> Action
         ensures action { result ≡ (after_told self.old.lost self.old.stage told.now).action }
         ensures stage { self.new ≡ record self.old { stage = (after_told self.old.lost self.old.stage told.now).stage } }
@@ -74,8 +75,9 @@ impl Session {
         next.action
     }
 
-    /// What is to be done next, once the connection has ended or was at fault; the call that was asked for last is then not to be
-    /// made. The operation under way is finished, the transaction undone, and the session ends.
+    /// What is to be done next, once the connection has ended or was at fault; the call that was asked for
+    /// last is then not to be made. The operation under way is finished, the transaction undone, and the
+    /// session ends.
     pub fn lost(&mut self) -> Action
         ensures action { result ≡ (after_loss self.old.stage).action }
         ensures stage { self.new.stage ≡ (after_loss self.old.stage).stage }

@@ -31,15 +31,19 @@ AreBytes-big (suc n) x zero = byte_below n x
 AreBytes-big (suc n) x (suc i) = AreBytes-big n x i
 
 -- a number has one spelling of each length
-same_number : (n : ℕ) (xs ys : List ℕ) → AreBytes xs → AreBytes ys → length xs ≡ n → length ys ≡ n → big_from 0 n xs ≡ big_from 0 n ys → xs ≡ ys
+same_number : (n : ℕ) (xs ys : List ℕ) → AreBytes xs → AreBytes ys → length xs ≡ n → length ys ≡ n
+    → big_from 0 n xs ≡ big_from 0 n ys → xs ≡ ys
 same_number zero [] [] f g l m e = refl
 same_number zero [] (y ∷ ys) f g l m e = absurd (omega arith)
 same_number zero (x ∷ xs) ys f g l m e = absurd (omega arith)
 same_number (suc n) [] ys f g l m e = absurd (omega arith)
 same_number (suc n) (x ∷ xs) [] f g l m e = absurd (omega arith)
 same_number (suc n) (x ∷ xs) (y ∷ ys) f g l m e =
-    let whole : x * 256 ^ n + big_from 0 n xs ≡ y * 256 ^ n + big_from 0 n ys = ap (λ (r : ℕ). x * 256 ^ n + r) (sym (big_from-cons 0 n x xs)) ∙ e ∙ ap (λ (r : ℕ). y * 256 ^ n + r) (big_from-cons 0 n y ys) in
-    let parts = same_from_place x (big_from 0 n xs) y (big_from 0 n ys) (256 ^ n) (big_from-lt 0 n xs (AreBytes-tail x xs f)) (big_from-lt 0 n ys (AreBytes-tail y ys g)) whole in
+    let whole : x * 256 ^ n + big_from 0 n xs ≡ y * 256 ^ n + big_from 0 n ys =
+    ap (λ (r : ℕ). x * 256 ^ n + r) (sym (big_from-cons 0 n x xs)) ∙ e
+    ∙ ap (λ (r : ℕ). y * 256 ^ n + r) (big_from-cons 0 n y ys) in
+    let parts = same_from_place x (big_from 0 n xs) y (big_from 0 n ys) (256 ^ n) (big_from-lt 0 n xs (AreBytes-tail
+    x xs f)) (big_from-lt 0 n ys (AreBytes-tail y ys g)) whole in
     let rest = same_number n xs ys (AreBytes-tail x xs f) (AreBytes-tail y ys g) (omega arith) (omega arith) parts.1 in
     ap (λ (b : ℕ). b ∷ xs) parts.0 ∙ ap (λ (t : List ℕ). y ∷ t) rest
 
@@ -53,12 +57,16 @@ unfolding number
 number_read size n rest h = big_number-reads_back size n rest h
 
 -- what is read is written so
-pub number_written : (size : ℕ) (bytes : List ℕ) → AreBytes bytes → size ≤ length bytes → number size (big_number size bytes) ≡ take size bytes
+pub number_written : (size : ℕ) (bytes : List ℕ) → AreBytes bytes → size ≤ length bytes
+    → number size (big_number size bytes) ≡ take size bytes
 unfolding number
 number_written size bytes f h =
     let n = big_number size bytes in
-    let again : big_from 0 size (big_bytes size n) ≡ n = ap (big_from 0 size) (sym (append-nil (big_bytes size n))) ∙ big_number-reads_back size n [] (big_from-lt 0 size bytes f) in
-    same_number size (big_bytes size n) (take size bytes) (AreBytes-big size n) (AreBytes-take size bytes f) (length-bytes_high_first size n) (omega (arith, length-take size bytes)) (again ∙ sym (big_from-take 0 size size bytes (omega arith)))
+    let again : big_from 0 size (big_bytes size n) ≡ n = ap (big_from 0 size) (sym (append-nil (big_bytes size n)))
+    ∙ big_number-reads_back size n [] (big_from-lt 0 size bytes f) in
+    same_number size (big_bytes size n) (take size bytes) (AreBytes-big size n) (AreBytes-take size bytes f)
+    (length-bytes_high_first size n) (omega (arith, length-take size bytes)) (again
+    ∙ sym (big_from-take 0 size size bytes (omega arith)))
 
 -- a number that is read is as great as its bytes let it be
 pub number_below : (size : ℕ) (bytes : List ℕ) → AreBytes bytes → big_number size bytes < 256 ^ size

@@ -10,20 +10,27 @@ use Rattle.rq_wire.proofs.NumberBytes.{AreBytes-drop}
 use Rattle.rq_wire.proofs.Fronts.{drop_front}
 use Rattle.rq_wire.proofs.Spells.{spelled_is_read, read_is_spelled}
 
-pub to_frames : (rs : List Request) (bytes rest : List ℕ) → AreBytes bytes → Begins rs bytes rest → AreRequested rs × (bytes ≡ spelled_all rs ++ rest)
+pub to_frames : (rs : List Request) (bytes rest : List ℕ) → AreBytes bytes → Begins rs bytes rest
+    → AreRequested rs × (bytes ≡ spelled_all rs ++ rest)
 to_frames [] bytes rest are e = (tt, e)
 to_frames (r ∷ rs) bytes rest are h =
     let one = read_is_spelled bytes r h.0 are h.1 in
-    let more = to_frames rs (drop h.0 bytes) rest (AreBytes-drop h.0 bytes are) h.2 in
-    ((one.0, more.0), one.1 ∙ ap (λ (l : List ℕ). spelled r ++ l) more.1 ∙ sym (append_assoc (spelled r) (spelled_all rs) rest))
+    let more = to_frames rs (drop h.0 bytes) rest (AreBytes-drop h.0 bytes are) h.2 in (
+      (one.0, more.0),
+      one.1 ∙ ap (λ (l : List ℕ). spelled r ++ l) more.1
+          ∙ sym (append_assoc (spelled r) (spelled_all rs) rest),
+    )
 
-pub from_frames : (rs : List Request) (bytes rest : List ℕ) → AreRequested rs → bytes ≡ spelled_all rs ++ rest → Begins rs bytes rest
+pub from_frames : (rs : List Request) (bytes rest : List ℕ) → AreRequested rs → bytes ≡ spelled_all rs ++ rest
+    → Begins rs bytes rest
 from_frames [] bytes rest are e = e
 from_frames (r ∷ rs) bytes rest are e =
-    let regrouped : bytes ≡ spelled r ++ (spelled_all rs ++ rest) = e ∙ append_assoc (spelled r) (spelled_all rs) rest in (
+    let regrouped : bytes ≡ spelled r ++ (spelled_all rs ++ rest) = e
+    ∙ append_assoc (spelled r) (spelled_all rs) rest in (
       length (spelled r),
       ap looks regrouped ∙ spelled_is_read r (spelled_all rs ++ rest) are.0,
-      from_frames rs (drop (length (spelled r)) bytes) rest are.1 (ap (drop (length (spelled r))) regrouped ∙ drop_front (spelled r) (spelled_all rs ++ rest)),
+      from_frames rs (drop (length (spelled r)) bytes) rest are.1 (ap (drop (length (spelled r))) regrouped
+          ∙ drop_front (spelled r) (spelled_all rs ++ rest)),
     )
 
 same_stop : (fault other : Bool) → stop fault ≡ stop other → fault ≡ other
@@ -39,7 +46,8 @@ no_frame false r n e = cc
 same_request : (r q : Request) (n m : ℕ) → Frame r n ≡ Frame q m → (r ≡ q) × (n ≡ m)
 same_request r q n m e = (cc, cc)
 
-pub one_answer : (bytes : List ℕ) (rs qs : List Request) (fault other : Bool) → AreRequests bytes rs fault → AreRequests bytes qs other → (rs ≡ qs) × (fault ≡ other)
+pub one_answer : (bytes : List ℕ) (rs qs : List Request) (fault other : Bool) → AreRequests bytes rs fault
+    → AreRequests bytes qs other → (rs ≡ qs) × (fault ≡ other)
 one_answer bytes [] [] fault other a b = (refl, same_stop fault other (sym a.2 ∙ ap looks (sym a.1 ∙ b.1) ∙ b.2))
 one_answer bytes [] (q ∷ qs) fault other a b = absurd (no_frame fault q b.1.0 (sym a.2 ∙ ap looks (sym a.1) ∙ b.1.1))
 one_answer bytes (r ∷ rs) [] fault other a b = absurd (no_frame other r a.1.0 (sym b.2 ∙ ap looks (sym b.1) ∙ a.1.1))

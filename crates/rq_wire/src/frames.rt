@@ -19,7 +19,8 @@ pub struct Fed {
     pub fault: bool,
 }
 
-// A piece, as what it added to the bytes that were not taken, and its requests. Contracts alone see it: it has no bytes.
+// A piece, as what it added to the bytes that were not taken, and its requests. Contracts alone see it: it has no
+// bytes.
 #[derive(Drop)]
 pub(crate) struct Note {
     held: Snapshot<usize>,

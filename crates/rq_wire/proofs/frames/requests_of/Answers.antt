@@ -23,9 +23,12 @@ loop-requests-preserved c =
     let e : looks rest ≡ Frame c.in-Frame.request c.in-Frame.size = search rules in
     let fits = frame_fits rest c.in-Frame.request c.in-Frame.size e in
     let long = length-drop c.loop-requests.taken bytes in
-    let on = begins_one c.loop-requests.requests.items c.in-Frame.request c.in-Frame.size bytes rest c.loop-requests.invariant.begun e in
+    let on = begins_one c.loop-requests.requests.items c.in-Frame.request c.in-Frame.size bytes rest
+    c.loop-requests.invariant.begun e in
     record {
-      begun = subst (λ (rs : List Request). Begins rs bytes (drop (c.loop-requests.taken + c.in-Frame.size) bytes)) (sym c.in_ok-push-in-Frame.ensures.items) (subst (Begins (c.loop-requests.requests.items ++ c.in-Frame.request ∷ []) bytes) (drop-drop c.in-Frame.size c.loop-requests.taken bytes) on);
+      begun = subst (λ (rs : List Request). Begins rs bytes (drop (c.loop-requests.taken + c.in-Frame.size) bytes))
+          (sym c.in_ok-push-in-Frame.ensures.items) (subst (Begins (c.loop-requests.requests.items ++
+          c.in-Frame.request ∷ []) bytes) (drop-drop c.in-Frame.size c.loop-requests.taken bytes) on);
       within = omega (arith, fits.1, long, c.loop-requests.invariant.within);
     }
 

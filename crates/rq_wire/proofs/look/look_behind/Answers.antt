@@ -14,7 +14,10 @@ returns-in-Some c =
     let bare : nat_lt (length bytes) 3 ≡ false = grind (arith, nat_tests) in
     let known : is_kind (slice_index bytes 2) ≡ true = grind (arith, nat_tests) in
     let cut : nat_lt (length bytes) (2 + n) ≡ false = grind (arith, nat_tests) in
-    let found : request_in (slice_index bytes 2) (take (n - 1) (drop 3 bytes)) ≡ Some c.in-Some.request = search rules in
-    sym (picked false (is_size n) (nat_lt (length bytes) 3) (is_kind (slice_index bytes 2)) (nat_lt (length bytes) (2 + n))
-    (whole_frame (request_in (slice_index bytes 2) (take (n - 1) (drop 3 bytes))) (2 + n)) (Frame c.in-Some.request (2 + n))
+    let found : request_in (slice_index bytes 2) (take (n - 1) (drop 3 bytes)) ≡ Some c.in-Some.request =
+    search rules in
+    sym (picked false (is_size n) (nat_lt (length bytes) 3) (is_kind (slice_index bytes 2)) (nat_lt (length bytes) (2
+    + n))
+    (whole_frame (request_in (slice_index bytes 2) (take (n - 1) (drop 3 bytes))) (2 + n)) (Frame c.in-Some.request
+    (2 + n))
     refl sized bare known cut (rw found refl))
