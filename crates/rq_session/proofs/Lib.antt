@@ -1,2 +1,3 @@
 pub mod EachTurn
 pub mod Balances
+pub mod Worked

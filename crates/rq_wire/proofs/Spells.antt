@@ -359,3 +359,11 @@ read_is_spelled bytes r n are e =
           ∙ ap (λ (f : List ℕ). frame (request_kind r) f ++ drop (3 + (size bytes - 1)) bytes) s.of_fields
           ∙ ap (λ (k : ℕ). frame (request_kind r) (request_fields r) ++ drop k bytes) here,
     )
+
+-- a frame begins with its length
+pub frames_count : (kind : ℕ) (fields : List ℕ) → length fields ≤ 511
+    → 2 + number_at 2 0 (frame kind fields) ≡ length (frame kind fields)
+frames_count kind fields short =
+    let told : number_at 2 0 (frame kind fields) ≡ 1 + length fields =
+    ap (number_at 2 0) (sym (append-nil (frame kind fields))) ∙ size_told kind fields [] short in
+    ap (λ (n : ℕ). 2 + n) told ∙ sym (length-frame kind fields)

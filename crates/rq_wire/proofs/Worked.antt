@@ -1,5 +1,5 @@
 -- Worked streams: what the laws say of them, and what they rule out.
-use Rattle.std.proofs.Common.{◌≡◌, ℕ, Bool, true, false, List, [], ◌∷◌, ◌++◌, refl}
+use Rattle.std.proofs.Common.{◌≡◌, ℕ, Bool, true, false, List, [], ◌∷◌, ◌++◌, replicate, refl}
 use Rattle.rq_wire.specs.declared.request.Request.{Request}
 use Rattle.rq_wire.specs.declared.request.Request.TheVariants.{Begin, Send, Receive, Commit, LastTag}
 use Rattle.rq_wire.specs.declared.look.Front.TheVariants.{Frame, Fault, More}
@@ -49,3 +49,16 @@ eleven_bytes = refl
 -- a receive from a sender that has not come whole is no fault
 half_a_receive : looks (0 ∷ 5 ∷ 4 ∷ 0 ∷ 0 ∷ []) ≡ More
 half_a_receive = refl
+
+-- a body of 500 bytes is no request's: its frame is a fault
+too_long : looks (spelled (Send 0 7 (replicate 500 0))) ≡ Fault
+unfolding spelled frame number
+too_long = refl
+
+-- numbers that are no bytes are read, and the frame of what is read is another
+no_bytes : looks (0 ∷ 5 ∷ 8 ∷ 0 ∷ 0 ∷ 0 ∷ 300 ∷ []) ≡ Frame (LastTag 300) 7
+no_bytes = refl
+
+no_bytes_spelled : spelled (LastTag 300) ≡ 0 ∷ 5 ∷ 8 ∷ 0 ∷ 0 ∷ 1 ∷ 44 ∷ []
+unfolding spelled frame number
+no_bytes_spelled = refl

@@ -1,5 +1,6 @@
 -- The requests of a connection's bytes.
-use Rattle.std.specs.Prelude.{◌≡◌, ◌≤◌, ◌↔◌, ℕ, Bool, List, [], ◌∷◌, ◌++◌, length, drop, if◌then◌else◌}
+use Rattle.std.specs.Prelude.{◌≡◌, ◌≤◌, ◌+◌, ◌↔◌, ℕ, Bool, List, [], ◌∷◌, ◌++◌, length, drop, if◌then◌else◌}
+use Rattle.rq_bytes.specs.Number.{number_at}
 use Rattle.rq_wire.specs.declared.request.Request.{Request}
 use Rattle.rq_wire.specs.declared.look.Front.{Front}
 use Rattle.rq_wire.specs.declared.look.Front.TheVariants.{Frame, Fault, More}
@@ -47,3 +48,9 @@ abbrev pub NoneBeginsAnother : Type 0
 NoneBeginsAnother =
     (kind other : ℕ) (fields others x y : List ℕ) → length fields ≤ 511 → length others ≤ 511
     → frame kind fields ++ x ≡ frame other others ++ y → (kind ≡ other) × (fields ≡ others) × (x ≡ y)
+
+-- the first two bytes of a frame, as a number, count the bytes after them
+abbrev pub FramesCount : Type 0
+FramesCount =
+    (kind : ℕ) (fields : List ℕ) → length fields ≤ 511
+    → 2 + number_at 2 0 (frame kind fields) ≡ length (frame kind fields)

@@ -1,5 +1,5 @@
 //! Laws of frames, for proofs.
-ghost use Rattle.rq_wire.specs.Stream.{SpelledIsRead, ReadIsSpelled, FrontsAreSpelled, OneAnswer, NoneBeginsAnother};
+ghost use Rattle.rq_wire.specs.Stream.{SpelledIsRead, ReadIsSpelled, FrontsAreSpelled, OneAnswer, NoneBeginsAnother, FramesCount};
 
 /// The frame of a request is read as that request, whatever stands behind it.
 pub fn spelled_is_read()
@@ -24,4 +24,9 @@ pub fn one_answer()
 /// No frame begins another, and a frame tells its kind and its fields.
 pub fn none_begins_another()
     ensures { NoneBeginsAnother }
+{}
+
+/// The length with which a frame begins counts the bytes after it.
+pub fn frames_count()
+    ensures { FramesCount }
 {}
