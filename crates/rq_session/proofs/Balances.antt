@@ -1,5 +1,5 @@
 -- Each request has one answer, over a whole session.
-use Rattle.std.proofs.Common.{◌≡◌, ◌⊎◌, ℕ, ◌+◌, ◌≤◌, Bool, true, false, List, [], ◌∷◌, refl, sym, ◌∙◌, ap, subst, inl, inr, arith}
+use Rattle.std.proofs.Common.{◌≡◌, ◌⊎◌, ℕ, ◌+◌, ◌≤◌, Bool, true, false, List, [], ◌∷◌, refl, sym, ◌∙◌, ap, inl, inr, arith}
 use Rattle.rq_wire.specs.declared.request.Request.{Request}
 use Rattle.rq_session.specs.declared.calls.Told.{Told}
 use Rattle.rq_session.specs.declared.stage.Stage.{Stage}
@@ -7,7 +7,7 @@ use Rattle.rq_session.specs.declared.stage.Stage.TheVariants as stages
 use Rattle.rq_session.specs.declared.stage.Held.{Held}
 use Rattle.rq_session.specs.declared.stage.Next.{Next}
 use Rattle.rq_session.specs.Rules.{ended, taken, after_request, after_told, after_loss}
-use Rattle.rq_session.specs.Laws.{Handed, asked, heard, gone, Standing, Balanced, IsAborting, owed, given, takes, handed, standing}
+use Rattle.rq_session.specs.Laws.{Handed, asked, heard, gone, Balanced, IsAborting, owed, given, takes, standing}
 use Rattle.rq_session.proofs.EachTurn.{each_reply, each_request, each_loss, lost_answers_nothing}
 
 -- what is so of a standing: each request but the one under way is answered; or the connection is lost and the

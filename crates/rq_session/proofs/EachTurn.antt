@@ -1,5 +1,5 @@
 -- Each turn of a session keeps its laws.
-use Rattle.std.proofs.Common.{zero-add, ◌≡◌, ◌⊎◌, ℕ, ◌+◌, Bool, true, false, cond, refl, sym, ◌∙◌, ap, inl, inr}
+use Rattle.std.proofs.Common.{zero-add, ◌≡◌, ℕ, Bool, true, false, cond, refl, sym, ◌∙◌, inl, inr}
 use Rattle.std.specs.Prelude.{Option, Some, None}
 use Rattle.rq_model.specs.declared.txn.Txn.{Txn}
 use Rattle.rq_model.specs.declared.txn.Sub.{Sub}
@@ -14,8 +14,7 @@ use Rattle.rq_session.specs.declared.calls.Ask.TheVariants as asks
 use Rattle.rq_session.specs.declared.calls.Commit.{Commit}
 use Rattle.rq_session.specs.declared.calls.Told.{Told}
 use Rattle.rq_session.specs.declared.calls.Told.TheVariants as told
-use Rattle.rq_session.specs.declared.calls.Action.{Action}
-use Rattle.rq_session.specs.declared.calls.Action.TheVariants.{Do, Again, Await, Answer as Answers, End}
+use Rattle.rq_session.specs.declared.calls.Action.TheVariants.{Do, Again, Await, Answer as Answers}
 use Rattle.rq_session.specs.declared.stage.Held.{Held}
 use Rattle.rq_session.specs.declared.stage.Held.TheVariants.{Free, Open, Left, Aborting, Undoing}
 use Rattle.rq_session.specs.declared.stage.Purpose.{Purpose}
@@ -26,7 +25,7 @@ use Rattle.rq_session.specs.declared.stage.Next.{Next}
 use Rattle.rq_session.specs.Stages.{txn_held, own}
 use Rattle.rq_session.specs.Rules as rules
 use Rattle.rq_session.specs.Rules.{next, answered, ended, is_commit}
-use Rattle.rq_session.specs.Laws.{NamesOwn, IsOwn, Turn, Takes, Lost, CommitFits, MayAgain, MayAgainAfter, IsAgain, IsAborting, asked_last, owed, given}
+use Rattle.rq_session.specs.Laws.{IsOwn, Turn, Takes, Lost, CommitFits, MayAgain, MayAgainAfter, IsAgain, IsAborting, asked_last, owed, given}
 
 -- ---- turns of each kind
 

@@ -1,18 +1,18 @@
 -- Worked sessions: what the laws say of them, and what they rule out.
-use Rattle.std.proofs.Common.{◌≡◌, ℕ, Bool, true, false, List, [], ◌∷◌, refl}
+use Rattle.std.proofs.Common.{◌≡◌, true, false, List, [], ◌∷◌, refl}
 use Rattle.rq_model.specs.declared.txn.Txn.{Txn}
 use Rattle.rq_model.specs.declared.txn.Sub.{Sub}
-use Rattle.rq_model.specs.declared.refusal.Refusal.TheVariants.{NoMemory, Latched, UnknownSender}
+use Rattle.rq_model.specs.declared.refusal.Refusal.TheVariants.{NoMemory, Latched}
 use Rattle.rq_wire.specs.declared.request.Request.TheVariants as requests
 use Rattle.rq_wire.specs.declared.answers.Answer.TheVariants as answers
 use Rattle.rq_session.specs.declared.calls.Ask.TheVariants as asks
 use Rattle.rq_session.specs.declared.calls.Commit.{Commit}
 use Rattle.rq_session.specs.declared.calls.Told.TheVariants as told
-use Rattle.rq_session.specs.declared.calls.Action.TheVariants.{Do, Again, Await, Answer as Answers, End}
-use Rattle.rq_session.specs.declared.stage.Held.TheVariants.{Free, Open, Left, Aborting, Undoing}
+use Rattle.rq_session.specs.declared.calls.Action.TheVariants.{Do, Again}
+use Rattle.rq_session.specs.declared.stage.Held.TheVariants.{Free, Open}
 use Rattle.rq_session.specs.declared.stage.Purpose.TheVariants as purposes
 use Rattle.rq_session.specs.declared.stage.Stage.TheVariants as stages
-use Rattle.rq_session.specs.Rules.{next, answered, after_told, after_loss, taken}
+use Rattle.rq_session.specs.Rules.{next, answered, after_told}
 use Rattle.rq_session.specs.Laws.{Handed, asked, heard, gone, standing}
 
 abbrev t : Txn

@@ -1,5 +1,5 @@
 -- The transaction that a session has.
-use Rattle.std.specs.Prelude.{ℕ, Option, Some, None}
+use Rattle.std.specs.Prelude.{Option, Some, None}
 use Rattle.rq_model.specs.declared.txn.Txn.{Txn}
 use Rattle.rq_session.specs.declared.stage.Held.{Held}
 use Rattle.rq_session.specs.declared.stage.Held.TheVariants as held

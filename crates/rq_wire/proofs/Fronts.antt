@@ -1,13 +1,13 @@
 -- A frame or a fault that stands at the front stays there when bytes come behind it.
-use Rattle.std.proofs.Common.{◌≡◌, ℕ, ◌+◌, ◌-◌, ◌<◌, ◌≤◌, Bool, true, false, List, [], ◌∷◌, ◌++◌, length, take, drop, refl, sym, ap, ◌∙◌, subst, arith, rules, length-append}
+use Rattle.std.proofs.Common.{◌≡◌, ℕ, ◌+◌, ◌-◌, ◌<◌, ◌≤◌, Bool, true, false, List, [], ◌∷◌, ◌++◌, length, take, drop, refl, sym, ap, ◌∙◌, subst, arith, length-append}
 use Rattle.std.specs.Prelude.{nat_lt, slice_index, Option, Some, None}
 use Rattle.std.proofs.lemmas.Bool.Decides.{nat_tests}
-use Rattle.std.proofs.lemmas.List.{take-append-le, drop-append-le, length-drop, append-nil, drop-drop}
+use Rattle.std.proofs.lemmas.List.{take-append-le, drop-append-le, length-drop, append-nil}
 use Rattle.byteorder.specs.Numbers.{big_from-append}
 use Rattle.rq_bytes.specs.Number.{number_at}
 use Rattle.rq_wire.specs.declared.request.Request.{Request}
 use Rattle.rq_wire.specs.declared.look.Front.{Front}
-use Rattle.rq_wire.specs.declared.look.Front.TheVariants.{Frame, Fault, More}
+use Rattle.rq_wire.specs.declared.look.Front.TheVariants.{Frame, Fault}
 use Rattle.rq_wire.specs.Looks.{pick, is_size, is_kind, whole_frame, request_in, looks}
 use Rattle.rq_wire.specs.Stream.{Begins, AreRequests, stop}
 use Rattle.rq_wire.specs.Notes.{Keeps}

@@ -1,5 +1,5 @@
 -- What is read as a request is that request's frame, and the other way.
-use Rattle.std.proofs.Common.{◌≡◌, ℕ, zero, suc, ◌+◌, ◌-◌, ◌^◌, ◌<◌, ◌≤◌, Bool, true, false, cond, List, [], ◌∷◌, ◌++◌, length, take, drop, refl, sym, ap, ◌∙◌, subst, arith, rules, length-append, append_assoc, inl, inr, ◌⊎◌}
+use Rattle.std.proofs.Common.{◌≡◌, ℕ, suc, ◌+◌, ◌-◌, ◌^◌, ◌<◌, ◌≤◌, Bool, true, false, cond, List, [], ◌∷◌, ◌++◌, length, take, drop, refl, sym, ap, ◌∙◌, subst, arith, length-append, append_assoc, inl, inr, ◌⊎◌}
 use Rattle.std.specs.Prelude.{nat_lt, ◌==◌, slice_index, Option, Some, None}
 use Rattle.std.proofs.lemmas.Bool.Decides.{nat_tests}
 use Rattle.std.proofs.lemmas.List.{take-append-drop, length-take, length-drop, append-nil, drop-drop}
@@ -7,12 +7,11 @@ use Rattle.byteorder.specs.Endian.{big_number}
 use Rattle.rq_bytes.specs.Number.{number_at}
 use Rattle.rq_wire.specs.declared.request.Request.{Request}
 use Rattle.rq_wire.specs.declared.request.Request.TheVariants.{Begin, Send, Receive, ReceiveFrom, Close, Commit, Abort, LastTag}
-use Rattle.rq_wire.specs.declared.look.Front.{Front}
-use Rattle.rq_wire.specs.declared.look.Front.TheVariants.{Frame, Fault, More}
-use Rattle.rq_wire.specs.Looks.{pick, is_size, is_kind, only, whole_frame, request_in, looks}
+use Rattle.rq_wire.specs.declared.look.Front.TheVariants.{Frame}
+use Rattle.rq_wire.specs.Looks.{is_size, is_kind, only, whole_frame, request_in, looks}
 use Rattle.rq_wire.specs.Spelling.{AreBytes, IsRequest, number, frame, request_kind, request_fields, spelled}
 use Rattle.rq_wire.proofs.NumberBytes.{AreBytes-take, AreBytes-drop, length-number, number_read, number_written, number_below}
-use Rattle.rq_wire.proofs.Fronts.{Picks, picked, told, lt_no, no_lt, take_front, drop_front, size}
+use Rattle.rq_wire.proofs.Fronts.{picked, told, lt_no, no_lt, take_front, drop_front, size}
 
 -- ---- from requests to bytes
 

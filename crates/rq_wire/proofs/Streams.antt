@@ -1,10 +1,9 @@
 -- The requests of a stream are those whose frames stand at its front, and there is one list of them.
 use Rattle.std.proofs.Common.{◌≡◌, ℕ, Bool, true, false, List, [], ◌∷◌, ◌++◌, length, drop, refl, sym, ap, ◌∙◌, subst, append_assoc}
 use Rattle.rq_wire.specs.declared.request.Request.{Request}
-use Rattle.rq_wire.specs.declared.look.Front.{Front}
-use Rattle.rq_wire.specs.declared.look.Front.TheVariants.{Frame, Fault, More}
+use Rattle.rq_wire.specs.declared.look.Front.TheVariants.{Frame}
 use Rattle.rq_wire.specs.Looks.{looks}
-use Rattle.rq_wire.specs.Spelling.{AreBytes, IsRequest, AreRequested, spelled, spelled_all}
+use Rattle.rq_wire.specs.Spelling.{AreBytes, AreRequested, spelled, spelled_all}
 use Rattle.rq_wire.specs.Stream.{Begins, AreRequests, stop}
 use Rattle.rq_wire.proofs.NumberBytes.{AreBytes-drop}
 use Rattle.rq_wire.proofs.Fronts.{drop_front}

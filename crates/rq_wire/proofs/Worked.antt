@@ -1,11 +1,10 @@
 -- Worked streams: what the laws say of them, and what they rule out.
-use Rattle.std.proofs.Common.{◌≡◌, ℕ, Bool, true, false, List, [], ◌∷◌, ◌++◌, replicate, refl}
-use Rattle.rq_wire.specs.declared.request.Request.{Request}
-use Rattle.rq_wire.specs.declared.request.Request.TheVariants.{Begin, Send, Receive, Commit, LastTag}
+use Rattle.std.proofs.Common.{◌≡◌, ℕ, true, false, List, [], ◌∷◌, ◌++◌, replicate, refl}
+use Rattle.rq_wire.specs.declared.request.Request.TheVariants.{Begin, Send, LastTag}
 use Rattle.rq_wire.specs.declared.look.Front.TheVariants.{Frame, Fault, More}
 use Rattle.rq_wire.specs.Looks.{looks}
-use Rattle.rq_wire.specs.Spelling.{number, frame, spelled, IsRequest, AreBytes}
-use Rattle.rq_wire.specs.Stream.{Begins, AreRequests}
+use Rattle.rq_wire.specs.Spelling.{number, frame, spelled}
+use Rattle.rq_wire.specs.Stream.{AreRequests}
 
 -- a send of `hello` for sender 0 with tag 7
 abbrev hello : List ℕ

@@ -1,5 +1,5 @@
 -- How requests and answers stand in a stream: a frame is the length of what follows in two bytes, a kind, and fields.
-use Rattle.std.specs.Prelude.{◌≡◌, ℕ, ◌+◌, ◌<◌, ◌≤◌, ◌^◌, List, [], ◌∷◌, ◌++◌, length, slice_index}
+use Rattle.std.specs.Prelude.{ℕ, ◌+◌, ◌<◌, ◌≤◌, ◌^◌, List, [], ◌∷◌, ◌++◌, length, slice_index}
 use Rattle.byteorder.specs.Endian.{big_bytes}
 use Rattle.rq_model.specs.Numbers.{number_of}
 use Rattle.rq_wire.specs.declared.request.Request.{Request}

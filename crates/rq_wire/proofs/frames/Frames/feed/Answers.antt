@@ -1,6 +1,5 @@
-use Rattle.std.proofs.Common.{◌≡◌, true, false, List, ◌++◌, [], drop, length, sym, ap, ◌∙◌, subst, refl, rules}
-use Rattle.rq_wire.specs.Looks.{looks}
-use Rattle.rq_wire.specs.Stream.{Begins, stop}
+use Rattle.std.proofs.Common.{◌≡◌, true, false, List, ◌++◌, [], drop, ap, ◌∙◌, subst, rules}
+use Rattle.rq_wire.specs.Stream.{Begins}
 use Rattle.rq_wire.specs.Notes.{Wire, fed_bytes, given}
 use Rattle.rq_wire.proofs.Fronts.{added, fed_on, fed_after, exact}
 use Rattle.rq_wire.proofs.frames.Frames.feed.Goals as goal
