@@ -1,0 +1,3 @@
+pub mod EachTurn
+pub mod Balances
+pub mod Worked

@@ -1,0 +1,74 @@
+-- Worked sessions: what the laws say of them, and what they rule out.
+use Rattle.std.proofs.Common.{◌≡◌, true, false, List, [], ◌∷◌, refl}
+use Rattle.rq_model.specs.declared.txn.Txn.{Txn}
+use Rattle.rq_model.specs.declared.txn.Sub.{Sub}
+use Rattle.rq_model.specs.declared.refusal.Refusal.TheVariants.{NoMemory, Latched}
+use Rattle.rq_wire.specs.declared.request.Request.TheVariants as requests
+use Rattle.rq_wire.specs.declared.answers.Answer.TheVariants as answers
+use Rattle.rq_session.specs.declared.calls.Ask.TheVariants as asks
+use Rattle.rq_session.specs.declared.calls.Commit.{Commit}
+use Rattle.rq_session.specs.declared.calls.Told.TheVariants as told
+use Rattle.rq_session.specs.declared.calls.Action.TheVariants.{Do, Again}
+use Rattle.rq_session.specs.declared.stage.Held.TheVariants.{Free, Open}
+use Rattle.rq_session.specs.declared.stage.Purpose.TheVariants as purposes
+use Rattle.rq_session.specs.declared.stage.Stage.TheVariants as stages
+use Rattle.rq_session.specs.Rules.{next, answered, after_told}
+use Rattle.rq_session.specs.Laws.{Handed, asked, heard, gone, standing}
+
+abbrev t : Txn
+t = record { incarnation = 1; count = 1 }
+
+abbrev first : Sub
+first = record { txn = t; number = 1 }
+
+abbrev durable : Commit
+durable = record { txn = t; lsn = 5 }
+
+abbrev another : Commit
+another = record { txn = t; lsn = 4 }
+
+-- a begin and a send, the newest first
+abbrev sent : List Handed
+sent =
+    heard told.Sent ∷ heard told.Ready ∷ heard told.Written ∷ heard told.Written ∷ heard (told.Started first)
+    ∷ asked (requests.Send 0 7 []) ∷ heard (told.Begun t) ∷ asked requests.Begin ∷ []
+
+two_answered : standing sent ≡ record { stage = stages.Rest (Open t); lost = false; requests = 2; answers = 2 }
+two_answered = refl
+
+-- a commit is owed its answer until its own receipt is told
+commit_waits : standing (heard (told.Durable another) ∷ heard (told.Committed durable) ∷ asked requests.Commit ∷ sent)
+    ≡ record { stage = stages.Await durable; lost = false; requests = 3; answers = 2 }
+commit_waits = refl
+
+commit_answered : standing (heard (told.Durable durable) ∷ heard (told.Committed durable) ∷ asked requests.Commit ∷ sent)
+    ≡ record { stage = stages.Rest Free; lost = false; requests = 3; answers = 3 }
+commit_answered = refl
+
+-- a request is not taken while another is under way
+not_taken : standing (asked requests.Receive ∷ asked requests.Commit ∷ sent)
+    ≡ record { stage = stages.Commit (Open t); lost = false; requests = 3; answers = 2 }
+not_taken = refl
+
+-- the connection is lost in the midst of a send: that is finished, undone, and nothing is answered
+lost_in_a_send : standing (heard told.Aborted ∷ heard told.Nothing ∷ heard told.Undone ∷ heard told.Ready
+    ∷ heard (told.Started first) ∷ heard (told.Refused Latched) ∷ heard told.Aborting ∷ heard told.Sent ∷ heard told.Ready
+    ∷ gone ∷ heard (told.Started first) ∷ asked (requests.Send 0 7 []) ∷ heard (told.Begun t) ∷ asked requests.Begin ∷ [])
+    ≡ record { stage = stages.Ended; lost = true; requests = 2; answers = 1 }
+lost_in_a_send = refl
+
+-- an undo that meets a latch is tried again; a start that meets one, or has no memory, is answered
+undo_again : after_told false (stages.UndoNext t) (told.Refused Latched) ≡ next (Again (asks.UndoNext t)) (stages.UndoNext t)
+undo_again = refl
+
+start_not_again : after_told false (stages.Start (Open t)) (told.Refused Latched) ≡ answered (answers.Refused Latched) (Open t)
+start_not_again = refl
+
+no_memory_for_a_start : after_told false (stages.Start (Open t)) (told.Refused NoMemory)
+    ≡ answered (answers.Refused NoMemory) (Open t)
+no_memory_for_a_start = refl
+
+-- what was begun for another is not what this session names: a start's operation is numbered in the session's own transaction
+own_number : after_told false (stages.Start (Open t)) (told.Started (record { txn = record { incarnation = 1; count = 9 }; number = 1 }))
+    ≡ next (Do (asks.Step first)) (stages.Step first purposes.Request)
+own_number = refl

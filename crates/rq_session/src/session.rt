@@ -1,0 +1,91 @@
+//! The session of one connection.
+ghost use Rattle.std.specs.Prelude.{◌≡◌, true, false};
+ghost use Rattle.rq_session.specs.Rules.{taken, call_in, answer_in, after_told, after_loss};
+
+use crate::calls::{Action, Ask, Told};
+use crate::held::first;
+use crate::stage::{Held, Stage};
+use crate::turns::{turn, turn_at_loss};
+use rq_wire::{Answer, Request};
+
+/// The session of one connection. It has at most one transaction, takes a request once the one before it is
+/// answered, and says each call that is to be made for it.
+///
+/// A request is carried out so: `input` says the first call, or leaves its answer in `answer`; each reply is told
+/// to `reply`, which says what is to be done next, until that is an answer or the session's end.
+#[derive(Drop)]
+pub struct Session {
+    stage: Stage,
+    lost: bool,
+    answer: Option<Answer>,
+}
+
+impl Session {
+    /// A session that has no transaction.
+    pub fn new() -> Session
+        ensures { result ≡ record { stage = Stage.Rest Held.Free; lost = false; answer = None } }
+    {
+        Session {
+            stage: Stage::Rest(Held::Free),
+            lost: false,
+            answer: None,
+        }
+    }
+
+    /// The first call that a request asks for. None where it is answered with no call: its answer is then in
+    /// `answer`. While a request is under way, and once the session has ended, no further one is taken: there
+    /// is no call and no answer.
+    pub fn input(&mut self, request: Request) -> Option<Ask>
+        ensures call { result ≡ call_in (taken self.old.stage request).action }
+        ensures answer { self.new.answer ≡ answer_in (taken self.old.stage request).action }
+        ensures stage { self.new.stage ≡ (taken self.old.stage request).stage }
+        ensures lost { self.new.lost ≡ self.old.lost }
+    {
+        self.answer = None;
+        let Stage::Rest(held) = self.stage else {
+            return None;
+        };
+        let next = first(held, request);
+        self.stage = next.stage;
+        match next.action {
+            Action::Do(ask) => Some(ask),
+            Action::Answer(answer) => {
+                self.answer = Some(answer);
+                None
+            }
+            _ => None,
+        }
+    }
+
+    /// The answer to a request that needed no call.
+    pub fn answer(&self) -> Option<Answer>
+        ensures { result ≡ self.now.answer }
+    {
+        self.answer
+    }
+
+    /// What is to be done next, once it is told what came of the call that was asked for last. A reply that no
+    /// call of its kind has ends the session.
+    pub fn reply(&mut self, told: &Told) -> Action
+        ensures action { result ≡ (after_told self.old.lost self.old.stage told.now).action }
+        ensures stage { self.new ≡ record self.old { stage = (after_told self.old.lost self.old.stage told.now).stage } }
+    {
+        let next = turn(self.lost, self.stage, told);
+        self.stage = next.stage;
+        next.action
+    }
+
+    /// What is to be done next, once the connection has ended or was at fault; the call that was asked for
+    /// last is then not to be made. The operation under way is finished, the transaction undone, and the
+    /// session ends.
+    pub fn lost(&mut self) -> Action
+        ensures action { result ≡ (after_loss self.old.stage).action }
+        ensures stage { self.new.stage ≡ (after_loss self.old.stage).stage }
+        ensures lost { self.new.lost ≡ true }
+    {
+        self.lost = true;
+        let next = turn_at_loss(self.stage);
+        self.stage = next.stage;
+        next.action
+    }
+}

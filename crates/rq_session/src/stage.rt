@@ -1,0 +1,57 @@
+//! Where a session stands.
+use crate::calls::{Action, Commit};
+use rq_model::txn::{Sub, Txn};
+
+/// The transaction of a session between two requests.
+#[derive(Clone, Copy, Debug, PartialEq, Eq)]
+pub(crate) enum Held {
+    // none
+    Free,
+    // it is open, with no operation under way
+    Open(Txn),
+    // it is open; this operation was refused a step or its finish and is still under way
+    Left(Sub),
+    // it is aborting, with no compensation under way
+    Aborting(Txn),
+    // it is aborting; this compensation was refused a step or its finish and is still under way
+    Undoing(Sub),
+}
+
+/// For what an operation is carried out.
+#[derive(Clone, Copy, Debug, PartialEq, Eq)]
+pub(crate) enum Purpose {
+    // a request
+    Request,
+    // an abort, which has to finish what was left under way
+    Clearing,
+    // an abort, which undoes an earlier operation
+    Undoing,
+}
+
+/// Which call a session asked for last.
+#[derive(Clone, Copy, Debug, PartialEq, Eq)]
+pub(crate) enum Stage {
+    // none: it may be handed a request
+    Rest(Held),
+    Begin,
+    LastTag(Held),
+    // the start of a send, a receive or a close
+    Start(Held),
+    Step(Sub, Purpose),
+    Finish(Sub, Purpose),
+    Commit(Held),
+    // none: it waits for the receipt of a commit
+    Await(Commit),
+    StartAbort(Txn),
+    UndoNext(Txn),
+    EndAbort(Txn),
+    // none, and it has ended
+    Ended,
+}
+
+/// What is to be done, and where the session stands then.
+#[derive(Debug, Drop)]
+pub(crate) struct Next {
+    pub(crate) action: Action,
+    pub(crate) stage: Stage,
+}

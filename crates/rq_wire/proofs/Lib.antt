@@ -1,0 +1,5 @@
+pub mod Fronts
+pub mod NumberBytes
+pub mod Spells
+pub mod Streams
+pub mod Worked

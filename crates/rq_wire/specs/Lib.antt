@@ -1,0 +1,4 @@
+pub mod Spelling
+pub mod Looks
+pub mod Stream
+pub mod Notes

@@ -1,0 +1,27 @@
+//! What a connection is answered.
+use rq_model::message::Message;
+use rq_model::refusal::Refusal;
+use rq_model::txn::{Lsn, Txn};
+
+/// The answer to one request.
+#[derive(Clone, Copy, Debug, PartialEq, Eq)]
+pub enum Answer {
+    /// The transaction that was begun.
+    Begun(Txn),
+    /// The message was sent.
+    Sent,
+    /// This message was received.
+    Message(Message),
+    /// There is no message to receive.
+    NoMessage,
+    /// The group was closed.
+    Closed,
+    /// The transaction is committed, and its Commit record, with this LSN, is forced.
+    Committed(Lsn),
+    /// The transaction is undone.
+    Aborted,
+    /// How many committed messages a sender has sent, and the tag of the last one; 0 where there is none.
+    LastTag { sent: u64, tag: u64 },
+    /// The request was refused.
+    Refused(Refusal),
+}

@@ -1,0 +1,262 @@
+ghost use Rattle.std.specs.Prelude.{◌≤◌};
+
+use crate::{Answer, Fed, Frames, Request, answer};
+use bytes::{BufMut, BytesMut};
+use rq_model::message::{Body, Message};
+use rq_model::refusal::Refusal;
+use rq_model::txn::Txn;
+use std::alloc::{AllocError, Global};
+use std::test::Fail;
+
+// Begin, Send 0 7 hello, Receive, Begin, Commit, Commit, LastTag 0, Begin, ReceiveFrom 0, Close 15, Abort.
+const ASKED: [u8; 62] = [
+    0, 1, 1, 0, 0x12, 2, 0, 0, 0, 0, 0, 0, 0, 0, 0, 0, 0, 7, 0x68, 0x65, 0x6c, 0x6c, 0x6f, 0, 1, 3,
+    0, 1, 1, 0, 1, 6, 0, 1, 6, 0, 5, 8, 0, 0, 0, 0, 0, 1, 1, 0, 5, 4, 0, 0, 0, 0, 0, 5, 5, 0, 0, 0,
+    0xf, 0, 1, 7,
+];
+
+// What a fresh small store answers, and behind it a Closed.
+const ANSWERED: [u8; 112] = [
+    0, 0x11, 0x81, 0, 0, 0, 0, 0, 0, 0, 1, 0, 0, 0, 0, 0, 0, 0, 1, 0, 1, 0x82, 0, 1, 0x84, 0, 2,
+    0xff, 0x11, 0, 9, 0x86, 0, 0, 0, 0, 0, 0, 0, 5, 0, 2, 0xff, 4, 0, 0x11, 0x88, 0, 0, 0, 0, 0, 0,
+    0, 1, 0, 0, 0, 0, 0, 0, 0, 7, 0, 0x11, 0x81, 0, 0, 0, 0, 0, 0, 0, 1, 0, 0, 0, 0, 0, 0, 0, 2, 0,
+    0x12, 0x83, 0, 0, 0, 0, 0, 0, 0, 0, 0, 0, 0, 7, 0x68, 0x65, 0x6c, 0x6c, 0x6f, 0, 2, 0xff, 7, 0,
+    1, 0x87, 0, 1, 0x85,
+];
+
+fn put_head(out: &mut BytesMut, size: u16, kind: u8) -> Result<(), AllocError> {
+    out.put_u16(size)?;
+    out.put_u8(kind)
+}
+
+fn put_with_sender(out: &mut BytesMut, kind: u8, sender: u32) -> Result<(), AllocError> {
+    put_head(out, 5, kind)?;
+    out.put_u32(sender)
+}
+
+// The frame of a request, spelled here a second time.
+fn put_request(out: &mut BytesMut, request: &Request) -> Result<(), AllocError> {
+    match request {
+        Request::Begin => put_head(out, 1, 1),
+        Request::Send { sender, tag, body } => {
+            let bytes = body.as_slice();
+            put_head(out, (bytes.len() % 512 + 13) as u16, 2)?;
+            out.put_u32(*sender)?;
+            out.put_u64(*tag)?;
+            out.put_slice(bytes)
+        }
+        Request::Receive => put_head(out, 1, 3),
+        Request::ReceiveFrom(sender) => put_with_sender(out, 4, *sender),
+        Request::Close(sender) => put_with_sender(out, 5, *sender),
+        Request::Commit => put_head(out, 1, 6),
+        Request::Abort => put_head(out, 1, 7),
+        Request::LastTag(sender) => put_with_sender(out, 8, *sender),
+    }
+}
+
+fn put_fed(out: &mut BytesMut, fed: &Fed) -> Result<(), AllocError> {
+    for request in &fed.requests {
+        put_request(out, request)?;
+    }
+    Ok(())
+}
+
+#[test]
+fn any_cut_gives_the_same(rt: HostRuntime) -> Result<(), Fail> {
+    for cut in 0..=ASKED.len() {
+        let mut frames = Frames::new(rt.alloc());
+        let mut asked = BytesMut::new(rt.alloc());
+        let first = frames.feed(&ASKED[..cut])?;
+        let second = frames.feed(&ASKED[cut..])?;
+        put_fed(&mut asked, &first)?;
+        put_fed(&mut asked, &second)?;
+        assert!(rt; !first.fault && !second.fault, "cut at {cut}");
+        assert_eq!(rt; asked.as_slice(), &ASKED[..], "cut at {cut}");
+    }
+    Ok(())
+}
+
+#[test]
+fn answers_are_spelled(rt: HostRuntime) -> Result<(), Fail> {
+    let Some(body) = Body::new(&[0x68, 0x65, 0x6c, 0x6c, 0x6f]) else {
+        assert!(rt; false);
+        return Ok(());
+    };
+    let message = Message {
+        sender: 0,
+        tag: 7,
+        body,
+    };
+    let answers = [
+        Answer::Begun(Txn {
+            incarnation: 1,
+            count: 1,
+        }),
+        Answer::Sent,
+        Answer::NoMessage,
+        Answer::Refused(Refusal::TooManyTransactions),
+        Answer::Committed(5),
+        Answer::Refused(Refusal::UnknownTransaction),
+        Answer::LastTag { sent: 1, tag: 7 },
+        Answer::Begun(Txn {
+            incarnation: 1,
+            count: 2,
+        }),
+        Answer::Message(message),
+        Answer::Refused(Refusal::UnknownSender),
+        Answer::Aborted,
+    ];
+    let mut out = BytesMut::new(rt.alloc());
+    for one in &answers {
+        answer(one, &mut out)?;
+    }
+    answer(&Answer::Closed, &mut out)?;
+    assert_eq!(rt; out.as_slice(), &ANSWERED[..]);
+    Ok(())
+}
+
+// What some bytes give when they come one by one: how many requests, and how many bytes until the fault.
+fn one_by_one(alloc: Global, bytes: &[u8]) -> Option<(usize, Option<usize>)> {
+    let mut frames = Frames::new(alloc);
+    let mut requests = 0usize;
+    let mut fault = None;
+    for (i, byte) in bytes.iter().enumerate() {
+        let fed = frames.feed(&[*byte]).ok()?;
+        requests = requests.wrapping_add(fed.requests.len());
+        if fed.fault && fault.is_none() {
+            fault = Some(i);
+        }
+    }
+    Some((requests, fault))
+}
+
+#[test]
+fn a_fault_is_told_as_soon_as_it_is_there(rt: HostRuntime) {
+    let mut long = [0; 27];
+    long[..23].copy_from_slice(&ASKED[..23]);
+    long[23] = 2;
+    long[24] = 1;
+    assert_eq!(rt; one_by_one(rt.alloc(), &long), Some((2, Some(24))));
+    assert_eq!(rt; one_by_one(rt.alloc(), &[0, 0, 1, 1]), Some((0, Some(1))));
+    assert_eq!(rt;
+        one_by_one(rt.alloc(), &[0, 1, 12, 0, 1, 1]),
+        Some((0, Some(2)))
+    );
+    assert_eq!(rt; one_by_one(rt.alloc(), &[0, 9, 0]), Some((0, Some(2))));
+    assert_eq!(rt;
+        one_by_one(rt.alloc(), &[0, 2, 1, 0, 0, 1, 1]),
+        Some((0, Some(3)))
+    );
+    let eleven = [0, 12, 2, 0, 0, 0, 0, 0, 0, 0, 0, 0, 0, 0];
+    assert_eq!(rt; one_by_one(rt.alloc(), &eleven), Some((0, Some(13))));
+    assert_eq!(rt; one_by_one(rt.alloc(), &[0, 5, 4, 0, 0]), Some((0, None)));
+}
+
+#[test]
+fn the_longest_send_is_read(rt: HostRuntime) -> Result<(), Fail> {
+    let mut frames = Frames::new(rt.alloc());
+    let mut bytes = BytesMut::new(rt.alloc());
+    put_head(&mut bytes, 512, 2)?;
+    bytes.put_slice(&[7; 511])?;
+    let fed = frames.feed(bytes.as_slice())?;
+    assert!(rt; !fed.fault && fed.requests.len() == 1);
+    let mut again = BytesMut::new(rt.alloc());
+    put_fed(&mut again, &fed)?;
+    assert_eq!(rt; again.as_slice(), bytes.as_slice());
+    Ok(())
+}
+
+// Numbers that look like chance, the same for each seed.
+#[derive(Drop)]
+struct Dice {
+    state: u64,
+}
+
+impl Dice {
+    fn roll(&mut self) -> u64 {
+        self.state = self
+            .state
+            .wrapping_mul(6364136223846793005)
+            .wrapping_add(1442695040888963407);
+        self.state >> 33
+    }
+
+    // A number from 0 to this one.
+    fn up_to(&mut self, most: u16) -> usize
+        ensures { result ≤ most }
+    {
+        (self.roll() % (most as u64 + 1)) as usize
+    }
+}
+
+// A good frame.
+fn put_any_frame(out: &mut BytesMut, dice: &mut Dice) -> Result<(), AllocError> {
+    let sender = dice.up_to(u16::MAX) as u32;
+    match dice.up_to(7) {
+        0 => put_head(out, 1, 1),
+        1 => {
+            let size = dice.up_to(499);
+            put_head(out, (size % 512 + 13) as u16, 2)?;
+            out.put_u32(sender)?;
+            out.put_u64(dice.roll())?;
+            for _ in 0..size {
+                out.put_u8(dice.up_to(255) as u8)?;
+            }
+            Ok(())
+        }
+        2 => put_head(out, 1, 3),
+        3 => put_with_sender(out, 4, sender),
+        4 => put_with_sender(out, 5, sender),
+        5 => put_head(out, 1, 6),
+        6 => put_head(out, 1, 7),
+        _ => put_with_sender(out, 8, sender),
+    }
+}
+
+// The requests of a stream that comes in random pieces, spelled again, and whether there was a fault.
+fn in_pieces(
+    alloc: Global,
+    stream: &[u8],
+    most: u16,
+    dice: &mut Dice,
+) -> Result<(BytesMut, bool), Fail> {
+    let mut frames = Frames::new(alloc);
+    let mut asked = BytesMut::new(alloc);
+    let mut fault = false;
+    let mut rest = stream;
+    for _ in 0..stream.len() {
+        let size = dice.up_to(most).min(rest.len());
+        let (piece, more) = rest.split_at(size);
+        let fed = frames.feed(piece)?;
+        put_fed(&mut asked, &fed)?;
+        fault = fed.fault;
+        rest = more;
+    }
+    let fed = frames.feed(rest)?;
+    put_fed(&mut asked, &fed)?;
+    Ok((asked, fault || fed.fault))
+}
+
+#[test]
+fn random_frames_in_random_pieces(rt: HostRuntime) -> Result<(), Fail> {
+    for seed in 1..=12u64 {
+        let mut dice = Dice { state: seed };
+        let mut stream = BytesMut::new(rt.alloc());
+        for _ in 0..40 {
+            put_any_frame(&mut stream, &mut dice)?;
+        }
+        let good = stream.len();
+        let faulty = seed % 2 == 0;
+        stream.put_u16(if faulty { 513 } else { 5 })?;
+        stream.put_slice(&[1, 1, 1, 1])?;
+        let most = if seed % 3 == 0 { 3 } else { 700 };
+        let (asked, fault) = in_pieces(rt.alloc(), stream.as_slice(), most, &mut dice)?;
+        assert!(rt; fault == faulty, "seed {seed}");
+        assert_eq!(rt;
+            Some(asked.as_slice()),
+            stream.as_slice().get(..good),
+            "seed {seed}"
+        );
+    }
+    Ok(())
+}
