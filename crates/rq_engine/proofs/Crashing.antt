@@ -132,8 +132,8 @@ module _ {P L : Type 0} (p : page_device.Ghosts P) (l : log_device.Ghosts L) (on
     runs_through_cuts e r told when say log run =
         let g = goes e r when say in
         let cut_of : (images : Images) (bytes : List ℕ) → FitsLog z images kept → IsBeginning old.state.records old.state.forced bytes → IsCut old.state images bytes =
-            (λ images bytes fits b. cut old.state k told images bytes fits b) in
+        (λ images bytes fits b. cut old.state k told images bytes fits b) in
         Log (Pages (Start (λ images bytes a b. cut_of images bytes (fits_log (p.may_be old.pages) z kept images fit a) (log bytes b)))
-            (record { later = g.later; each = λ images since bytes b. cut_of images bytes (g.each images since) (log bytes b) }))
-            (weaker l old.log new.log (IsBeginning old.state.records old.state.forced) (λ bytes. (images : Images) → Leaves (p.may_be new.pages) images → IsCut old.state images bytes) run
-            (λ bytes b images a. cut_of images bytes (fits_log (p.may_be new.pages) z kept images g.now a) b))
+        (record { later = g.later; each = λ images since bytes b. cut_of images bytes (g.each images since) (log bytes b) }))
+        (weaker l old.log new.log (IsBeginning old.state.records old.state.forced) (λ bytes. (images : Images) → Leaves (p.may_be new.pages) images → IsCut old.state images bytes) run
+        (λ bytes b images a. cut_of images bytes (fits_log (p.may_be new.pages) z kept images g.now a) b))

@@ -204,7 +204,7 @@ pub going_started : (s : State) (rows : List Row) (t : Txn) (n : ℕ) (plan : Pl
 going_started s rows t n plan P ready is holds =
     let r = found_of (λ r. (r.under ≡ None) × (n ≡ r.number + 1)) (found_row t s.rows) ready in
     let found : found_row t rows ≡ Some (row_started (under_plan n plan) r.0) =
-        ap (found_row t) is ∙ found_change_same t (row_started (under_plan n plan)) s.rows (λ q. refl) ∙ ap (option_map (row_started (under_plan n plan))) r.1 in
+    ap (found_row t) is ∙ found_change_same t (row_started (under_plan n plan)) s.rows (λ q. refl) ∙ ap (option_map (row_started (under_plan n plan))) r.1 in
     on_found (λ q. OnUnder n P q q.under) (found_row t rows) (row_started (under_plan n plan) r.0) found (refl, holds (row_started (under_plan n plan) r.0))
 
 -- the lowest free cell is taken first
