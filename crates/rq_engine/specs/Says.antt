@@ -4,7 +4,7 @@ use Rattle.rq_model.specs.declared.refusal.Refusal.{Refusal}
 use Rattle.rq_model.specs.History.{Call}
 use Rattle.rq_model.specs.History.Call.{Begin as Call_begin, Start_send as Call_start_send, Start_receive as Call_start_receive, Start_receive_from as Call_start_receive_from, Write_page as Call_write_page, Step as Call_step, Finish as Call_finish, Commit as Call_commit, Acknowledge as Call_acknowledge, Hand_over as Call_hand_over, Force as Call_force, Show as Call_show}
 use Rattle.rq_model.specs.Replay.{Number, Reply as Gave}
-use Rattle.rq_model.specs.Replay.Reply.{Gave_txn, Gave_sub, Gave_lsn, Gave_ready, Gave_sent, Gave_message, Gave_closed, Gave_undone, Gave_nothing, Gave_commit, Gave_receipt, Gave_none, Gave_written, Gave_content, Gave_refusal}
+use Rattle.rq_model.specs.Replay.Reply.{Gave_txn, Gave_sub, Gave_lsn, Gave_forced, Gave_ready, Gave_sent, Gave_message, Gave_closed, Gave_undone, Gave_handed_over, Gave_commit, Gave_receipt, Gave_none, Gave_written, Gave_content, Gave_refusal}
 use Rattle.rq_content.specs.Read.{group_of}
 use Rattle.rq_model.specs.declared.txn.Sub.{Sub}
 use Rattle.rq_disk.specs.Device.{Only}
@@ -76,8 +76,8 @@ gave (reply.Stepped p) = progress_of p
 gave (reply.Finished o) = outcome_of o
 gave (reply.Committed number) = Gave_commit (number_of number)
 gave (reply.Acknowledged given) = Gave_receipt (receipt_of given)
-gave reply.HandedOver = Gave_nothing
-gave (reply.Forced lsn) = Gave_lsn lsn
+gave reply.HandedOver = Gave_handed_over
+gave (reply.Forced lsn) = Gave_forced lsn
 gave (reply.Written w) = Gave_written (is_done w)
 gave (reply.Content groups) = Gave_content (map group_of groups.items)
 gave (reply.Refused r) = Gave_refusal r

@@ -1,7 +1,7 @@
 //! The engine's calls, but those of operations.
 ghost use Rattle.std.specs.Prelude.{◌≡◌, ◌+◌, ◌<◌, ◌≤◌, ◌^◌, ◌↔◌, ◌⊎◌, IfOk, IfErr, OnOk, OnErr, IfSome, Err, ℕ, List, true, false, length, ◌∷◌, []};
 ghost use Rattle.rq_model.specs.History.Call.{Begin, Commit, Acknowledge, Hand_over, Force};
-ghost use Rattle.rq_model.specs.Replay.Reply.{Gave_txn, Gave_commit, Gave_lsn, Gave_nothing, Gave_receipt};
+ghost use Rattle.rq_model.specs.Replay.Reply.{Gave_txn, Gave_commit, Gave_forced, Gave_handed_over, Gave_receipt};
 ghost use Rattle.rq_model.specs.declared.record.Record.TheVariants.{Commit as Commit_record};
 ghost use Rattle.rq_disk.specs.Device.{Only};
 ghost use Rattle.rq_log.specs.Crash.{LeavesOnly};
@@ -261,7 +261,7 @@ impl<P: PageDevice, L: LogDevice> Engine<P, L> {
     /// # Errors
     /// `Failed`, `DiskWrite`.
     pub fn hand_over(&mut self) -> Result<(), Refusal>
-        ensures answered { Answers P.PageDevice L.LogDevice false true self.old Hand_over (λ done. Gave_nothing) result self.new }
+        ensures answered { Answers P.PageDevice L.LogDevice false true self.old Hand_over (λ done. Gave_handed_over) result self.new }
         ensures sizes { self.new.state.sizes ≡ self.old.state.sizes }
         ensures state { OnOk result (self.new.state ≡ self.old.state) }
         ensures reads { OnOk result (L.honest self.new.log → L.seen self.new.log ≡ spelled self.old.state.records) }
@@ -291,7 +291,7 @@ impl<P: PageDevice, L: LogDevice> Engine<P, L> {
     /// # Errors
     /// `Failed`, `DiskWrite`.
     pub fn force(&mut self) -> Result<Lsn, Refusal>
-        ensures answered { Answers P.PageDevice L.LogDevice false true self.old Force (λ lsn. Gave_lsn lsn) result self.new }
+        ensures answered { Answers P.PageDevice L.LogDevice false true self.old Force (λ lsn. Gave_forced lsn) result self.new }
         ensures sizes { self.new.state.sizes ≡ self.old.state.sizes }
         ensures forced { IfOk result (λ lsn. (lsn ≡ length self.old.state.records) × (self.new.state.forced ≡ lsn)) }
         ensures state { OnOk result (self.new.state ≡ record self.old.state { forced = length self.old.state.records }) }

@@ -14,7 +14,8 @@ use Rattle.rq_model.specs.Promises.{EndsInCrash, EndsInRestart, crash_to}
 use Rattle.rq_model.proofs.Same.{Tied-ledger}
 use Rattle.rq_model.proofs.Shown.{group_are}
 use Rattle.rq_model.proofs.Told.{content_is}
-use Rattle.rq_model.proofs.Plainly.{kept_less}
+use Rattle.std.proofs.Math.Seq.{take-length}
+use Rattle.rq_model.proofs.Plainly.{kept_less, all_kept}
 use Rattle.rq_model.proofs.Cuts.{cut_commits, extends_commits, extends_incarnation}
 use Rattle.rq_model.proofs.Placed.{placed}
 
@@ -24,8 +25,8 @@ up_to Stopped n m h = h
 up_to Shut n m h = tt
 
 pub crash_goes_on : (z : Size) (h : List Entry) (newer older : List Record) → IsLegal z h → Ties (ledger h) (newer ++ older) → KeepsRules older
-    → (ledger h).forced ≤ length older → EndsInCrash z h older
-crash_goes_on z h newer older a t rules f =
+    → (ledger h).forced ≤ length older → (ledger h).incarnation ≤ incarnation_of older → EndsInCrash z h older
+crash_goes_on z h newer older a t rules f i =
     let l = ledger h in
     let w = placed z h a in
     let c : take (kept_in (length older) l.committed) l.committed ≡ committed_of older = subst (λ x. take (kept_in (length older) x) x ≡ committed_of older) (sym t.committed) (cut_commits newer older) in
@@ -36,23 +37,51 @@ crash_goes_on z h newer older a t rules f =
     let legal : IsLegal z (crash_to older h ∷ h) = (record { durable = omega (arith, d, less); forced = f; exact = refl; up_to = up_to l.phase (length older) l.records (omega (arith, n, r)) }, a) in
     record {
       legal = legal;
-      ties = record { committed = c; records = refl };
+      ties = record { committed = c; records = refl; incarnation = i };
       commits = ap (map (λ (x : Done). x.txn)) (sym c) ∙ (Tied-ledger z (crash_to older h ∷ h) legal).names;
       content = λ s. content_is s older rules ∙ ap (λ x. group_in x s) (sym c) ∙ sym (group_are z (crash_to older h ∷ h) s legal);
+    }
+
+shut_to : (p : Phase) (n m : ℕ) → p ≡ Shut → IsUpTo m p n
+shut_to p n m e = subst (λ q. IsUpTo m q n) (sym e) tt
+
+pub shut_crash_goes_on : (z : Size) (h : List Entry) (older now : List Record) → IsLegal z h → (ledger h).phase ≡ Shut → Ties (ledger h) older
+    → Extends older now → InOrder now → KeepsRules now → EndsInCrash z h now
+shut_crash_goes_on z h older now a p t g o rules =
+    let l = ledger h in
+    let w = placed z h a in
+    let j = extends_incarnation older now g o in
+    let n : length now ≡ length g.0 + length older = ap length (sym g.1) ∙ length-append g.0 older in
+    let r = t.records in
+    let all : kept_in (length now) l.committed ≡ length l.committed = all_kept 0 l.records (length now) l.committed w.rising (omega (arith, n, r)) in
+    let c : take (kept_in (length now) l.committed) l.committed ≡ committed_of now =
+        ap (λ k. take k l.committed) all ∙ take-length l.committed ∙ t.committed ∙ sym (extends_commits older now g) in
+    let f = w.forced in
+    let d = w.durable in
+    let less = kept_less l.forced (length now) l.committed (omega (arith, n, r, f)) in
+    let legal : IsLegal z (crash_to now h ∷ h) =
+        (record { durable = omega (arith, d, less); forced = omega (arith, n, r, f); exact = refl; up_to = shut_to l.phase (length now) l.records p }, a) in
+    record {
+      legal = legal;
+      ties = record { committed = c; records = refl; incarnation = (let i = t.incarnation in omega (arith, i, j)) };
+      commits = ap (map (λ (x : Done). x.txn)) (sym c) ∙ (Tied-ledger z (crash_to now h ∷ h) legal).names;
+      content = λ s. content_is s now rules ∙ ap (λ x. group_in x s) (sym c) ∙ sym (group_are z (crash_to now h ∷ h) s legal);
     }
 
 opened_is : (l : Ledger) (log : List Record) (i n : ℕ) → committed_of log ≡ l.committed → i ≡ incarnation_of log → n ≡ length log → opened_ledger log ≡ after (Restarted i n) l
 opened_is l log i n c j m = cc (c, j, m)
 
 pub restart_goes_on : (z : Size) (h : List Entry) (older now : List Record) → IsLegal z h → (ledger h).phase ≡ Shut → Ties (ledger h) older
-    → (ledger h).incarnation ≤ incarnation_of older → Extends older now → InOrder now
-    → EndsInRestart z h (Restart_record (incarnation_of now + 1) ∷ now)
-restart_goes_on z h older now a p t i g o =
+    → Extends older now → InOrder now → EndsInRestart z h (Restart_record (incarnation_of now + 1) ∷ now)
+restart_goes_on z h older now a p t g o =
     let l = ledger h in
     let j = extends_incarnation older now g o in
     let e : length now ≡ length g.0 + length older = ap length (sym g.1) ∙ length-append g.0 older in
     let r = t.records in
+    let i = t.incarnation in
+    let c : l.committed ≡ committed_of now = t.committed ∙ sym (extends_commits older now g) in
     record {
       legal = (record { later = omega (arith, i, j); shut = p; more = omega (arith, e, r) }, a);
+      ties = record { committed = c; records = refl; incarnation = omega arith };
       ledger = opened_is l (Restart_record (incarnation_of now + 1) ∷ now) (incarnation_of now + 1) (length (Restart_record (incarnation_of now + 1) ∷ now)) (extends_commits older now g ∙ sym t.committed) refl refl;
     }

@@ -1,16 +1,22 @@
 -- Worked histories: that they are legal, and what they come to; and that others are not.
-use Rattle.std.proofs.Common.{◌+◌, ◌-◌, ◌*◌, ◌^◌, rules, ◌≡◌, ℕ, zero, suc, refl, List, [], ◌∷◌, ◌++◌, Some, None, Bool, true, false, map, replicate, arith}
+use Rattle.std.proofs.Common.{◌+◌, ◌-◌, ◌*◌, ◌^◌, rules, ◌≡◌, ℕ, zero, suc, refl, List, [], ◌∷◌, ◌++◌, Some, None, Bool, true, false, map, replicate, arith, ap}
 use Rattle.rq_model.specs.declared.txn.Txn.{Txn}
 use Rattle.rq_model.specs.declared.message.Message.{Message}
-use Rattle.rq_model.specs.declared.refusal.Refusal.TheVariants.{DiskWrite, Failed, NoMemory, Full, SenderBusy, ReceiverBusy, TooLong, UnknownSender, Closed, Unfinished, UnknownOperation, UnknownTransaction, NotOpen}
+use Rattle.rq_model.specs.declared.refusal.Refusal.TheVariants.{DiskWrite, Failed, NoMemory, Full, SenderBusy, ReceiverBusy, TooLong, UnknownSender, Closed, Unfinished, UnknownOperation, UnknownTransaction, NotOpen, Latched, NotForced, LogFull}
 use Rattle.rq_model.specs.Words.Op.{Send, Take, End}
 use Rattle.rq_model.specs.History.{Entry, Group, rest}
-use Rattle.rq_model.specs.History.Call.{Begin, Force, Start_send, Start_receive_from, Start_close, Commit, Finish, Step, Start_abort, End_abort}
+use Rattle.rq_model.specs.History.Call.{Begin, Force, Start_send, Start_receive_from, Start_close, Commit, Finish, Step, Start_abort, End_abort, Start_receive, Write_page}
 use Rattle.rq_model.specs.History.Job.{Sending, Taking, Ending, Undoing}
-use Rattle.rq_model.specs.History.Entry.{Begun, Started, None_free, None_from, Stepped, Ready, Did, Undid, Committed, Acknowledged, Aborting, None_left, Aborted, Forced, Refused, Crash, Restarted, Shown, Told}
+use Rattle.rq_model.specs.History.Entry.{Begun, Started, None_free, None_from, Stepped, Ready, Did, Undid, Committed, Acknowledged, Aborting, None_left, Aborted, Forced, Refused, Crash, Restarted, Shown, Told, Handed_over, Wrote}
 use Rattle.rq_model.specs.Ledger.{ledger, group_in}
+use Rattle.rq_model.specs.declared.record.Record.{Record}
+use Rattle.rq_model.specs.declared.record.Record.TheVariants.{Restart as Restart_record}
+use Rattle.rq_model.specs.Replay.{Reply, Replays}
+use Rattle.rq_model.specs.Replay.Reply.{Gave_txn, Gave_commit}
+use Rattle.rq_model.specs.Promises.{EndsInCrash, EndsInRestart, crash_to}
+use Rattle.rq_model.proofs.Bridges.{crash_goes_on, restart_goes_on}
 use Rattle.rq_model.specs.Legal.{Size, Legal, IsLegal, tests, first_of, below}
-use Rattle.rq_model.specs.Worked.{txn, small, opened, message, letter, sent, got, sent_behind, got_before, closed, hello, one_send, unseen, long, bounds, both_open, both_undone, a_waits, a_gone, sent_and_got, all_lost, fifteen, filled, closes, begun_five, held_ends, undoing, committed_once, failed_force, AreWorked}
+use Rattle.rq_model.specs.Worked.{txn, small, opened, message, letter, sent, got, sent_behind, got_before, closed, hello, one_send, unseen, long, bounds, both_open, both_undone, a_waits, a_gone, sent_and_got, all_lost, fifteen, filled, closes, begun_five, held_ends, undoing, committed_once, failed_force, longest, first_log, begun_and_committed, AreWorked}
 
 pub worked : AreWorked
 worked = record {
@@ -47,4 +53,25 @@ worked = record {
   out_of_memory_after_failure = λ a. (let e = a.0 in cc e);
   acknowledged_too_early = λ a. (let e = a.0.1 in cc e);
   never_acknowledged = λ a. (let e = a.0.1 in cc e);
+  begun_next = λ a. (let e = a.0.2 in omega (arith, e));
+  started_next = λ a. (let e = a.0.1.0 in omega (arith, e));
+  stepped_next = λ a. (let e = a.0.2 in omega (arith, e));
+  committed_next = λ a. (let e = a.0.1 in omega (arith, e));
+  forced_all = λ a. (let e = a.0.1 in omega (arith, e));
+  none_where_one_waits = λ a. (let e = a.0.1 in cc e);
+  another_message = λ a. (let e = ap (λ (m : Message). m.tag) a.0.1 in omega (arith, e));
+  told_last = search rules;
+  told_another = λ a. (let e = a.0.2 in omega (arith, e));
+  latched_where_one_waits = search rules;
+  latched_for_nothing = λ a. (let e = a.0.1 in cc e);
+  not_forced = search rules;
+  not_forced_of_no_page = λ a. (let e = a.0.1 in cc e);
+  log_is_full = search rules;
+  log_is_not_full = λ a. (let e = a.0 in cc e);
+  sent_behind_close = λ a. (let e = a.0.0.1.1.1.1.1.1.1.0 in cc e);
+  replayed = (ledger (Begun (txn 1 1) ∷ opened), Committed (txn 1 1) 2, (ledger opened, Begun (txn 1 1), refl, refl, search rules, refl), (refl, refl), search rules, refl);
+  replayed_wrongly = λ r. (let e = ap (λ (t : Txn). t.count) r.3.0 in omega (arith, e));
+  crash_left = crash_goes_on small opened [] first_log (search rules) (record { committed = refl; records = refl; incarnation = omega arith }) (tt, (λ t e. cc e), tt) (omega arith) (omega arith);
+  crash_left_nothing = λ e. (let f = e.legal.0.forced in omega (arith, f));
+  restart_left = restart_goes_on small (crash_to first_log opened ∷ opened) first_log first_log (search rules) refl (record { committed = refl; records = refl; incarnation = omega arith }) ([], refl, tt) (refl, tt);
 }

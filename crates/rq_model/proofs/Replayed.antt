@@ -8,7 +8,7 @@ use Rattle.rq_model.specs.History.Entry.{Refused}
 use Rattle.rq_model.specs.Ledger.{Ledger, runs, ledger, after}
 use Rattle.rq_model.specs.Legal.{Size, Legal, IsLegal}
 use Rattle.rq_model.specs.Replay.{Reply, Says, Replays, AllSay}
-use Rattle.rq_model.specs.Replay.Reply.{Gave_txn, Gave_sub, Gave_none, Gave_lsn, Gave_ready, Gave_sent, Gave_message, Gave_closed, Gave_undone, Gave_nothing, Gave_commit, Gave_receipt, Gave_written, Gave_tag, Gave_content, Gave_refusal}
+use Rattle.rq_model.specs.Replay.Reply.{Gave_txn, Gave_sub, Gave_none, Gave_lsn, Gave_ready, Gave_sent, Gave_message, Gave_closed, Gave_undone, Gave_handed_over, Gave_forced, Gave_commit, Gave_receipt, Gave_written, Gave_tag, Gave_content, Gave_refusal}
 
 -- a refusal stands for itself
 pub says_refusal : (c : Call) (r : Refusal) (e : Entry) → Says c (Gave_refusal r) e → e ≡ Refused c r

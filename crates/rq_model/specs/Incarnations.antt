@@ -54,10 +54,11 @@ ArePlain (r ∷ log) = (is_plain r ≡ true) × ArePlain log
 abbrev pub Extends : List Record → List Record → Type 0
 Extends older log = (more : List Record) × (more ++ older ≡ log) × ArePlain more
 
--- the ledger has what the log tells
+-- the ledger has what the log tells, which is of no earlier incarnation
 pub record Ties (l : Ledger) (log : List Record) : Type 0 where
   pub committed : l.committed ≡ committed_of log
   pub records : l.records ≡ length log
+  pub incarnation : l.incarnation ≤ incarnation_of log
 
 -- the ledger of a store that was opened over this log
 abbrev pub opened_ledger : List Record → Ledger

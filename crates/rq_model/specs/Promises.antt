@@ -46,10 +46,15 @@ pub record EndsInCrash (z : Size) (h : List Entry) (log : List Record) : Type 0 
   pub commits : map (λ (d : Done). d.txn) (committed_of log) ≡ commits (crash_to log h ∷ h)
   pub content : (s : ℕ) → content log s ≡ group (crash_to log h ∷ h) s
 
--- a crash that leaves the first records of the log, with all that are forced
+-- a crash that leaves the first records of the log, with all that are forced and the one that began the incarnation
 abbrev pub CrashGoesOn : Size → Type 0
 CrashGoesOn z = (h : List Entry) (newer older : List Record) → IsLegal z h → Ties (ledger h) (newer ++ older) → KeepsRules older
-    → (ledger h).forced ≤ length older → EndsInCrash z h older
+    → (ledger h).forced ≤ length older → (ledger h).incarnation ≤ incarnation_of older → EndsInCrash z h older
+
+-- a crash of a store that is not open, which leaves what was left before, with some of what a restart that was stopped has added
+abbrev pub ShutCrashGoesOn : Size → Type 0
+ShutCrashGoesOn z = (h : List Entry) (older now : List Record) → IsLegal z h → (ledger h).phase ≡ Shut → Ties (ledger h) older
+    → Extends older now → InOrder now → KeepsRules now → EndsInCrash z h now
 
 -- the restart that leaves this log
 abbrev pub restart_to : List Record → Entry
@@ -58,10 +63,10 @@ restart_to log = Restarted (incarnation_of log) (length log)
 -- A history ends with a restart that left this log: the entry may come there, and the ledger is that of a store opened over the log.
 pub record EndsInRestart (z : Size) (h : List Entry) (log : List Record) : Type 0 where
   pub legal : IsLegal z (restart_to log ∷ h)
+  pub ties : Ties (ledger (restart_to log ∷ h)) log
   pub ledger : opened_ledger log ≡ ledger (restart_to log ∷ h)
 
 -- a restart of a store that is not open, over its log with what the restart added, the newest of which begins the next incarnation
 abbrev pub RestartGoesOn : Size → Type 0
 RestartGoesOn z = (h : List Entry) (older now : List Record) → IsLegal z h → (ledger h).phase ≡ Shut → Ties (ledger h) older
-    → (ledger h).incarnation ≤ incarnation_of older → Extends older now → InOrder now
-    → EndsInRestart z h (Restart_record (incarnation_of now + 1) ∷ now)
+    → Extends older now → InOrder now → EndsInRestart z h (Restart_record (incarnation_of now + 1) ∷ now)

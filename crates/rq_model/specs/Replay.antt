@@ -27,7 +27,10 @@ pub data Reply : Type 0 where
   Gave_message : (message : Message) → Reply
   Gave_closed : Reply
   Gave_undone : Reply
-  Gave_nothing : Reply
+  Gave_handed_over : Reply
+  Gave_forced : (lsn : ℕ) → Reply
+  Gave_aborting : Reply
+  Gave_aborted : Reply
   Gave_commit : (number : Number) → Reply
   Gave_receipt : (given : Option Number) → Reply
   Gave_written : (done : Bool) → Reply
@@ -52,14 +55,14 @@ Says (Finish t n) (Gave_message m) e = e ≡ Did t n (Take m)
 Says (Finish t n) Gave_closed e = (s : ℕ) × (e ≡ Did t n (End s))
 Says (Finish t n) Gave_undone e = e ≡ Undid t n
 Says (Commit t) (Gave_commit c) e = (c.txn ≡ t) × (e ≡ Committed t c.lsn)
-Says (Start_abort t) Gave_nothing e = e ≡ Aborting t
+Says (Start_abort t) Gave_aborting e = e ≡ Aborting t
 Says (Undo_next t) (Gave_sub u n) e = (u ≡ t) × (e ≡ Started t n Undoing)
 Says (Undo_next t) Gave_none e = e ≡ None_left t
-Says (End_abort t) Gave_nothing e = e ≡ Aborted t
+Says (End_abort t) Gave_aborted e = e ≡ Aborted t
 Says (Acknowledge t lsn) (Gave_receipt None) e = e ≡ Acknowledged t lsn false
 Says (Acknowledge t lsn) (Gave_receipt (Some c)) e = (c ≡ record { txn = t; lsn = lsn }) × (e ≡ Acknowledged t lsn true)
-Says Hand_over Gave_nothing e = e ≡ Handed_over
-Says Force (Gave_lsn lsn) e = e ≡ Forced lsn
+Says Hand_over Gave_handed_over e = e ≡ Handed_over
+Says Force (Gave_forced lsn) e = e ≡ Forced lsn
 Says (Write_page page) (Gave_written done) e = e ≡ Wrote page done
 Says (Last_tag s) (Gave_tag sent tag) e = e ≡ Told s sent tag
 Says Show (Gave_content groups) e = e ≡ Shown groups

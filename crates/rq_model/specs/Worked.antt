@@ -2,13 +2,18 @@
 use Rattle.std.specs.Prelude.{◌≡◌, ◌+◌, ◌-◌, ◌*◌, ◌^◌, ℕ, zero, suc, List, [], ◌∷◌, ◌++◌, Some, None, Bool, true, false, map, replicate}
 use Rattle.rq_model.specs.declared.txn.Txn.{Txn}
 use Rattle.rq_model.specs.declared.message.Message.{Message}
-use Rattle.rq_model.specs.declared.refusal.Refusal.TheVariants.{DiskWrite, Failed, NoMemory, Full, SenderBusy, ReceiverBusy, TooLong, UnknownSender, Closed, Unfinished, UnknownOperation, UnknownTransaction, NotOpen}
+use Rattle.rq_model.specs.declared.refusal.Refusal.TheVariants.{DiskWrite, Failed, NoMemory, Full, SenderBusy, ReceiverBusy, TooLong, UnknownSender, Closed, Unfinished, UnknownOperation, UnknownTransaction, NotOpen, Latched, NotForced, LogFull}
 use Rattle.rq_model.specs.Words.Op.{Send, Take, End}
-use Rattle.rq_model.specs.History.{Entry, Group, rest}
-use Rattle.rq_model.specs.History.Call.{Begin, Force, Start_send, Start_receive_from, Start_close, Commit, Finish, Step, Start_abort, End_abort}
+use Rattle.rq_model.specs.History.{Entry, Call, Group, rest}
+use Rattle.rq_model.specs.History.Call.{Begin, Force, Start_send, Start_receive_from, Start_close, Commit, Finish, Step, Start_abort, End_abort, Start_receive, Write_page}
 use Rattle.rq_model.specs.History.Job.{Sending, Taking, Ending, Undoing}
-use Rattle.rq_model.specs.History.Entry.{Begun, Started, None_free, None_from, Stepped, Ready, Did, Undid, Committed, Acknowledged, Aborting, None_left, Aborted, Forced, Refused, Crash, Restarted, Shown, Told}
+use Rattle.rq_model.specs.History.Entry.{Begun, Started, None_free, None_from, Stepped, Ready, Did, Undid, Committed, Acknowledged, Aborting, None_left, Aborted, Forced, Refused, Crash, Restarted, Shown, Told, Handed_over, Wrote}
 use Rattle.rq_model.specs.Ledger.{ledger, group_in}
+use Rattle.rq_model.specs.declared.record.Record.{Record}
+use Rattle.rq_model.specs.declared.record.Record.TheVariants.{Restart as Restart_record}
+use Rattle.rq_model.specs.Replay.{Reply, Replays}
+use Rattle.rq_model.specs.Replay.Reply.{Gave_txn, Gave_commit}
+use Rattle.rq_model.specs.Promises.{EndsInCrash, EndsInRestart, crash_to}
 use Rattle.rq_model.specs.Legal.{Size, Legal, IsLegal, tests, first_of, below}
 
 abbrev pub txn : ℕ → ℕ → Txn
@@ -118,6 +123,17 @@ committed_once = Committed (txn 1 1) 5 ∷ (sent (txn 1 1) 1 hello 2 ++ (Begun (
 abbrev pub failed_force : List Entry
 failed_force = Refused Force DiskWrite ∷ committed_once
 
+-- a store that was opened over a log of the greatest length, and the logs of stores that were just opened, and opened again
+abbrev pub longest : List Entry
+longest = Begun (txn 1 1) ∷ Restarted 1 (2 ^ 50) ∷ []
+
+abbrev pub first_log : List Record
+first_log = Restart_record 1 ∷ []
+
+-- what a begin and a commit of nothing were asked and answered
+abbrev pub begun_and_committed : List (Call × Reply)
+begun_and_committed = (Commit (txn 1 1), Gave_commit (record { txn = txn 1 1; lsn = 2 })) ∷ (Begin, Gave_txn (txn 1 1)) ∷ []
+
 -- what is so of them
 pub record AreWorked : Type 0 where
   pub one_send_legal : IsLegal small one_send
@@ -153,3 +169,24 @@ pub record AreWorked : Type 0 where
   pub out_of_memory_after_failure : IsLegal small (Refused Begin NoMemory ∷ failed_force) → ⊥
   pub acknowledged_too_early : IsLegal small (Acknowledged (txn 1 1) 5 true ∷ committed_once) → ⊥
   pub never_acknowledged : IsLegal small (Acknowledged (txn 1 1) 5 false ∷ Forced 5 ∷ committed_once) → ⊥
+  pub begun_next : IsLegal small (Begun (txn 1 2) ∷ opened) → ⊥
+  pub started_next : IsLegal small (Started (txn 1 1) 2 (Sending hello) ∷ Begun (txn 1 1) ∷ opened) → ⊥
+  pub stepped_next : IsLegal small (Stepped (txn 1 1) 1 3 ∷ Started (txn 1 1) 1 (Sending hello) ∷ Begun (txn 1 1) ∷ opened) → ⊥
+  pub committed_next : IsLegal small (Committed (txn 1 1) 3 ∷ Begun (txn 1 1) ∷ opened) → ⊥
+  pub forced_all : IsLegal small (Forced 4 ∷ committed_once) → ⊥
+  pub none_where_one_waits : IsLegal small (None_from (txn 1 2) 0 ∷ Begun (txn 1 2) ∷ committed_once) → ⊥
+  pub another_message : IsLegal small (Did (txn 1 1) 1 (Send (message 0 8 [])) ∷ Stepped (txn 1 1) 1 3 ∷ Stepped (txn 1 1) 1 2 ∷ Started (txn 1 1) 1 (Sending hello) ∷ Begun (txn 1 1) ∷ opened) → ⊥
+  pub told_last : IsLegal small (Told 0 1 7 ∷ committed_once)
+  pub told_another : IsLegal small (Told 0 1 8 ∷ committed_once) → ⊥
+  pub latched_where_one_waits : IsLegal small (Refused (Start_receive (txn 1 2)) Latched ∷ Begun (txn 1 2) ∷ committed_once)
+  pub latched_for_nothing : IsLegal small (Refused (Start_receive (txn 1 1)) Latched ∷ Begun (txn 1 1) ∷ opened) → ⊥
+  pub not_forced : IsLegal small (Wrote 1 true ∷ Refused (Write_page 1) NotForced ∷ Handed_over ∷ committed_once)
+  pub not_forced_of_no_page : IsLegal small (Refused Begin NotForced ∷ opened) → ⊥
+  pub log_is_full : IsLegal small (Refused (Commit (txn 1 1)) LogFull ∷ longest)
+  pub log_is_not_full : IsLegal small (Refused (Commit (txn 1 1)) LogFull ∷ Begun (txn 1 1) ∷ opened) → ⊥
+  pub sent_behind_close : IsLegal small (Started (txn 1 3) 2 (Sending (letter 2 98)) ∷ closes) → ⊥
+  pub replayed : Replays small (ledger opened) begun_and_committed (ledger (Committed (txn 1 1) 2 ∷ Begun (txn 1 1) ∷ opened))
+  pub replayed_wrongly : Replays small (ledger opened) ((Commit (txn 1 1), Gave_commit (record { txn = txn 1 2; lsn = 2 })) ∷ []) (ledger (Committed (txn 1 1) 2 ∷ opened)) → ⊥
+  pub crash_left : EndsInCrash small opened first_log
+  pub crash_left_nothing : EndsInCrash small opened [] → ⊥
+  pub restart_left : EndsInRestart small (crash_to first_log opened ∷ opened) (Restart_record 2 ∷ first_log)

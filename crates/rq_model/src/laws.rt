@@ -8,7 +8,7 @@ ghost use Rattle.rq_model.specs.Groups.{group, Survives, left_by};
 ghost use Rattle.rq_model.specs.Content.{KeepsRules, content, with_own, deeds, committed_of};
 ghost use Rattle.rq_model.specs.Ledger.{ledger, group_in};
 ghost use Rattle.rq_model.specs.History.{Entry};
-ghost use Rattle.rq_model.specs.Promises.{AcknowledgedStay, CrashGoesOn, FifoThroughout, NothingBehindClose, ReplayGoesOn, RestartGoesOn};
+ghost use Rattle.rq_model.specs.Promises.{AcknowledgedStay, CrashGoesOn, FifoThroughout, NothingBehindClose, ReplayGoesOn, RestartGoesOn, ShutCrashGoesOn};
 ghost use Rattle.rq_model.specs.Legal.{Size, IsLegal};
 ghost use Rattle.rq_model.specs.Worked.{AreWorked};
 
@@ -44,6 +44,12 @@ pub fn crash_goes_on()
     ensures { (size : Size) → CrashGoesOn size }
 {}
 
+/// A crash of a store that is not open, as in a restart that was stopped, is the next entry of a legal history too: it leaves
+/// what was left before, with some of what that restart has added.
+pub fn shut_crash_goes_on()
+    ensures { (size : Size) → ShutCrashGoesOn size }
+{}
+
 /// A restart over what a crash left, and what the restart itself added, is the next entry of a legal history.
 pub fn restart_goes_on()
     ensures { (size : Size) → RestartGoesOn size }
@@ -64,7 +70,7 @@ pub fn cut_leaves_a_beginning()
     ensures { (s : ℕ) (newer older : List Record) → KeepsRules (newer ++ older) → content older s ≡ group_in (take (left_by older) (committed_of (newer ++ older))) s }
 {}
 
-/// Worked histories, each legal or refused as it should be: each rule has one that meets it and one that it refuses.
+/// Worked histories, each legal or refused as it should be, and what goes on with them.
 pub fn histories_are_judged()
     ensures { AreWorked }
 {}

@@ -14,7 +14,7 @@ use Rattle.rq_model.specs.History.{Call}
 use Rattle.rq_model.specs.History.Entry.{Forced, Handed_over, Acknowledged, Refused}
 use Rattle.rq_model.specs.History.Call.{Force, Hand_over, Acknowledge}
 use Rattle.rq_model.specs.Replay.{Says, receipt}
-use Rattle.rq_model.specs.Replay.Reply.{Gave_lsn, Gave_nothing, Gave_receipt, Gave_refusal}
+use Rattle.rq_model.specs.Replay.Reply.{Gave_forced, Gave_handed_over, Gave_receipt, Gave_refusal}
 use Rattle.rq_store.specs.State.{State, ledger_of, size_of, phase_of}
 use Rattle.rq_store.specs.Sound.{IsSound}
 use Rattle.rq_store.specs.Steps.{Steps}
@@ -43,7 +43,7 @@ all_within (records.CompEnd t m undone ∷ log) n h = all_within log n (omega ar
 all_within (records.Restart i ∷ log) n h = all_within log n (omega arith)
 all_within (records.AbortEnd t ∷ log) n h = all_within log n (omega arith)
 
-pub force_steps : (s : State) → IsSound s → s.failed ≡ false → Steps s Force (Gave_lsn (length s.records)) (record s { forced = length s.records })
+pub force_steps : (s : State) → IsSound s → s.failed ≡ false → Steps s Force (Gave_forced (length s.records)) (record s { forced = length s.records })
 force_steps s k running = record {
   entry = Forced (length s.records);
   says = refl;
@@ -74,7 +74,7 @@ force_steps s k running = record {
   stays_forced = k.forced;
 }
 
-pub hand_over_steps : (s : State) → IsSound s → s.failed ≡ false → Steps s Hand_over Gave_nothing s
+pub hand_over_steps : (s : State) → IsSound s → s.failed ≡ false → Steps s Hand_over Gave_handed_over s
 hand_over_steps s k running = record { entry = Handed_over; says = refl; legal = (ap (λ b. not (runs (phase_of b))) running, tt); after = refl; sound = k; goes_on = (0, refl); stays_forced = omega arith }
 
 -- a receipt is given for the commit that is asked for, or none
