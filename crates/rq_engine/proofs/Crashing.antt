@@ -27,6 +27,7 @@ use Rattle.rq_store.specs.State.{State}
 use Rattle.rq_store.specs.Fitting.{oldest, FitsPage, FitsLog, AllFit, image_in}
 use Rattle.rq_store.specs.Sound.{IsSound}
 use Rattle.rq_store.specs.Steps.{Steps}
+use Rattle.rq_store.proofs.Begun.{begun_cut}
 use Rattle.rq_store.proofs.Cutting.{whole_dropped, longer_continues, oldest_continues, all_fit_longer, page_fits_oldest, fits_log, fits_log_longer}
 use Rattle.rq_engine.specs.declared.event.Event.{Event}
 use Rattle.rq_engine.specs.declared.event.Event.TheVariants as event
@@ -54,6 +55,7 @@ cut s k told images bytes fits b =
     record {
       lost = b.0;
       forced = b.1;
+      incarnation = begun_cut b.0 s.forced s.incarnation s.records b.1 whole.order k.begun;
       told = spelled_dropped b.0 s.records told;
       spells = b.2;
       store = record { whole = whole; fits = fits_log_longer s.sizes images (oldest s.forced s.records) (drop b.0 s.records) (longer_continues b.0 s.forced s.records b.1) fits };

@@ -6,6 +6,7 @@ use Rattle.rq_disk.specs.declared.device.PageDevice as page_device
 use Rattle.rq_log.specs.Spelled.{spelled, AreSpelled}
 use Rattle.rq_model.specs.declared.record.Record.{Record}
 use Rattle.rq_model.specs.Content.{content, committed_of}
+use Rattle.rq_model.specs.Incarnations.{incarnation_of}
 use Rattle.rq_model.specs.Ledger.{group_in, kept_in}
 use Rattle.rq_store.specs.State.{State, ledger_of}
 use Rattle.rq_store.specs.Fitting.{oldest, AllFit}
@@ -21,11 +22,12 @@ AreFit p s = AllFit (p.may_be s.pages) s.state.sizes (oldest s.state.forced s.st
 abbrev pub commits_left : List Record → ℕ → ℕ
 commits_left log lost = kept_in (length (drop lost log)) (committed_of log)
 
--- These are the pages and the log of a store that was left so: the first records, with all that are forced, and pages that fit them. Its content is that of the
--- first commits, with all that no crash may take.
+-- These are the pages and the log of a store that was left so: the first records, with all that are forced and the one that began the incarnation, and pages that
+-- fit them. Its content is that of the first commits, with all that no crash may take.
 pub record IsCut (s : State) (images : Images) (bytes : List ℕ) : Type 0 where
   pub lost : ℕ
   pub forced : lost + s.forced ≤ length s.records
+  pub incarnation : s.incarnation ≤ incarnation_of (drop lost s.records)
   pub told : AreSpelled (drop lost s.records)
   pub spells : bytes ≡ spelled (drop lost s.records)
   pub store : IsLeft s.sizes images (drop lost s.records)

@@ -1,7 +1,8 @@
 -- What holds of every legal log.
-use Rattle.std.specs.Prelude.{◌≡◌, ℕ, ◌<◌, List, []}
+use Rattle.std.specs.Prelude.{◌≡◌, ◌≢◌, Bool, ℕ, ◌<◌, List, []}
 use Rattle.rq_model.specs.declared.txn.Sub.{Sub}
 use Rattle.rq_model.specs.declared.txn.Txn.{Txn}
+use Rattle.rq_model.specs.declared.record.Deed.{Deed}
 use Rattle.rq_model.specs.declared.record.Record.{Record}
 use Rattle.rq_model.specs.Content.{content, KeepsRules}
 use Rattle.rq_page.specs.Sizes.{Sizes}
@@ -10,7 +11,7 @@ use Rattle.rq_level.specs.Items.{items, layout_of, Reads}
 use Rattle.rq_level.specs.Log.{Item, Layout, state_of}
 use Rattle.rq_level.specs.Plans.{ShowsAt, Spares}
 use Rattle.rq_level.specs.Legal.{Legal, IsLayout, open_deeds, view}
-use Rattle.rq_level.specs.Groups.{KeepsGroups, Tells, committed}
+use Rattle.rq_level.specs.Groups.{KeepsGroups, Tells, committed, is_sending, is_taking, side, with_all}
 
 -- the slots that whole operations alone have written show, of each sender, the fold of what its operations did and undid,
 -- whatever is under way
@@ -21,6 +22,21 @@ QuietSlotsShowTheFold = (l : Layout) (log : List Item) (s : ℕ) → IsLayout l 
 abbrev pub IdleSlotsShowTheFold : Type 0
 IdleSlotsShowTheFold = (l : Layout) (log : List Item) (s : ℕ) → IsLayout l → Legal l log → s < l.senders
     → ((o : Sub) → Spares s ((state_of l log).writes o)) → ShowsAt l (state_of l log).slots s (view log s)
+
+-- the deeds of one that holds an end of the sender
+abbrev pub side_of : (Deed → Bool) → List Item → Txn → List Deed
+side_of f log t = side f (open_deeds t log)
+
+-- One transaction at most holds each end, and the view is what is committed, without what the receiving holder took, and then what the sending holder sent.
+pub record IsHeldBy (log : List Item) (s : ℕ) : Type 0 where
+  pub sender : Txn
+  pub taker : Txn
+  pub shown : view log s ≡ with_all (side_of (is_sending s) log sender) (with_all (side_of (is_taking s) log taker) (committed log s))
+  pub send : (u : Txn) → u ≢ sender → side_of (is_sending s) log u ≡ []
+  pub take : (u : Txn) → u ≢ taker → side_of (is_taking s) log u ≡ []
+
+abbrev pub ViewsAreHolders : Type 0
+ViewsAreHolders = (z : Sizes) (s : ℕ) (log : List Record) → Legal (layout_of z) (items z log) → KeepsRules log → Reads log → Tells (items z log) → IsHeldBy (items z log) s
 
 -- where every transaction has ended, the fold is what committed transactions leave
 abbrev pub SettledFoldIsCommitted : Type 0

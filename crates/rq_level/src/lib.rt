@@ -7,7 +7,7 @@
 ghost use Rattle.rq_level.specs.Inverses.{InversesLeaveTheOthers};
 ghost use Rattle.rq_level.specs.StoreTheorems.{SlotsStandWhereTheyMay, UsedCellsAreMessages, IdleSlotsAreWhole, ChainsAreBounded, SettledCellsAreCommitted, TakenMessagesHaveCells, NumbersHaveNoGaps};
 ghost use Rattle.rq_level.specs.Worked.{WorkedLogs, RefusedRecords};
-ghost use Rattle.rq_level.specs.Theorems.{QuietSlotsShowTheFold, IdleSlotsShowTheFold, SettledFoldIsCommitted, CommittedIsContent, RulesKeepGroups};
+ghost use Rattle.rq_level.specs.Theorems.{QuietSlotsShowTheFold, IdleSlotsShowTheFold, SettledFoldIsCommitted, CommittedIsContent, RulesKeepGroups, ViewsAreHolders};
 
 /// Over every legal log, with any operations interleaved at single slot writes: the slots that whole
 /// operations alone have written show each sender's chain as its operations say.
@@ -78,13 +78,19 @@ pub fn worked_logs()
     ensures { WorkedLogs }
 {}
 
-/// What may not come next, for each rule, after logs that keep all of them.
+/// What may not come next, after logs that keep all rules: a record for each rule that a log keeps besides being legal.
 pub fn refused_records()
     ensures { RefusedRecords }
 {}
 
 /// Where only the holder of an end uses it, as the rules of receives and groups say of the records, and each deed tells
-/// what it was done over, each sender's view is what its holders make of it.
+/// what it was done over, the same rules hold of the views.
 pub fn rules_keep_groups()
     ensures { RulesKeepGroups }
+{}
+
+/// Over every legal log that keeps the rules, one transaction at most holds each end of a sender, and the sender's chain, once whole
+/// operations are counted, is what is committed, without what the receiving holder took, and then what the sending holder sent.
+pub fn views_are_holders()
+    ensures { ViewsAreHolders }
 {}

@@ -3,3 +3,4 @@ pub mod Noted
 pub mod Repeating
 pub mod Restarting
 pub mod Underway
+pub mod Ended

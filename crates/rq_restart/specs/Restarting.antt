@@ -170,7 +170,7 @@ module _ {L : Type 0} (g : log_device.Ghosts L) where
   -- Why a store with these pages was not opened over a log: its records could not be read, or they were, and then this.
   abbrev pub LogStops : Sizes → Paged → Refusal → L → L → Type 0
   LogStops z first e old new =
-      ((front : List Record) × AreSpelled front × (stopped : Refusal) × log_read.StopsFor g stopped front old new × IsFirstFault z front first stopped e)
+      ((front : List Record) × AreSpelled front × (stopped : Refusal) × log_read.StopsFor g stopped front old new × IsFirstFault z front first stopped e × IsRead old new)
       ⊎ ((older : List Record) × AreSpelled older × (g.honest new → g.seen old ≡ spelled older) × ShutFor z older first e (g.faults old) (g.faults new) (IsRead old new))
 
 -- the pages as they were read, none of which counts as changed

@@ -3,6 +3,7 @@
 
 pub mod format;
 mod history;
+pub mod laws;
 mod redo;
 pub mod restart;
 mod waiting;

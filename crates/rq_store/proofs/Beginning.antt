@@ -112,6 +112,7 @@ module _ (s : State) (k : IsSound s) where
     range = k.range;
     log = k.log;
     incarnation = k.incarnation;
+    begun = k.begun;
     some = k.some;
     strangers = λ q e m. k.strangers q e (omega (arith, m));
     pages = k.pages;

@@ -29,6 +29,7 @@ use Rattle.rq_level.proofs.Strangers.{has_end_same}
 use Rattle.rq_txn.specs.Rows.{Row, Under, found_row, without_row, AreDistinct}
 use Rattle.rq_groups.specs.Ends.{HeldEnds}
 use Rattle.rq_groups.specs.Waiting.{waits}
+use Rattle.rq_store.proofs.Begun.{begun_more}
 use Rattle.rq_store.specs.State.{State, ledger_of, open_of, open_ones_of, job_under, op_done, phase_of}
 use Rattle.rq_store.specs.Sound.{IsSound, IsWhole, IsRow, IsGoing, IsGoingOf, IsSettled, is_under, apart, appending, takes_one, takes_in, sends_in, HasWaiting, IsCovered}
 use Rattle.rq_store.specs.Fitting.{image_in}
@@ -241,6 +242,7 @@ module _ (s : State) (k : IsSound s) (t : Txn) (r : Row) (cells : ℕ) (ws : Lis
     range = k.range;
     log = log_whole;
     incarnation = k.incarnation;
+    begun = begun_more s.forced s.incarnation _ s.records k.forced k.begun;
     some = k.some;
     strangers = λ q e m. or_from _ _ (not_txn t q (λ f. let c : r.txn.count ≤ s.begins = row.counted in let v : r.txn.count ≡ q.count = ap (λ (y : Txn). y.count) (place.1 ∙ f) in omega (arith, c, v, m))) (k.strangers q e m);
     pages = k.pages;

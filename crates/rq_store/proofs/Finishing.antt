@@ -39,6 +39,7 @@ use Rattle.rq_txn.specs.declared.Finished.{Finished}
 use Rattle.rq_txn.specs.Rows.{Row, Under, found_row, change_row, row_finished}
 use Rattle.rq_groups.specs.Ends.{HeldEnds, has_held}
 use Rattle.rq_groups.specs.Waiting.{waits}
+use Rattle.rq_store.proofs.Begun.{begun_more}
 use Rattle.rq_store.specs.State.{State, ledger_of, open_of, open_ones_of, job_of, job_under, left_under, op_done, phase_of}
 use Rattle.rq_store.specs.Sound.{IsSound, IsWhole, IsRow, IsGoing, IsSettled, HoldsFor, AllHeld, AllMove, Moves, HasWaiting, IsCovered, placed, placed_one, is_under, apart, appending, takes_one, takes_in}
 use Rattle.rq_store.specs.Fitting.{left_by, image_in}
@@ -365,6 +366,7 @@ module _ (s : State) (k : IsSound s) (t : Txn) (r : Row) (u : Under) (ws : List 
     range = k.range;
     log = log_whole;
     incarnation = k.incarnation;
+    begun = begun_more s.forced s.incarnation _ s.records k.forced k.begun;
     some = k.some;
     strangers = λ q e m. or_from _ _ (not_txn t q (λ f. let c : r.txn.count ≤ s.begins = row.counted in let v : r.txn.count ≡ q.count = ap (λ (y : Txn). y.count) (place.1 ∙ f) in omega (arith, c, v, m))) (k.strangers q e m);
     pages = k.pages;

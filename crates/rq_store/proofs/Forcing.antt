@@ -15,6 +15,7 @@ use Rattle.rq_model.specs.History.Entry.{Forced, Handed_over, Acknowledged, Refu
 use Rattle.rq_model.specs.History.Call.{Force, Hand_over, Acknowledge}
 use Rattle.rq_model.specs.Replay.{Says, receipt}
 use Rattle.rq_model.specs.Replay.Reply.{Gave_forced, Gave_handed_over, Gave_receipt, Gave_refusal}
+use Rattle.rq_store.proofs.Begun.{begun_all}
 use Rattle.rq_store.specs.State.{State, ledger_of, size_of, phase_of}
 use Rattle.rq_store.specs.Sound.{IsSound}
 use Rattle.rq_store.specs.Steps.{Steps}
@@ -53,6 +54,7 @@ force_steps s k running = record {
     range = k.range;
     log = k.log;
     incarnation = k.incarnation;
+    begun = begun_all s.incarnation s.records k.incarnation;
     some = k.some;
     strangers = k.strangers;
     pages = k.pages;
@@ -109,6 +111,7 @@ failed_steps s k running c = record {
     range = k.range;
     log = k.log;
     incarnation = k.incarnation;
+    begun = k.begun;
     some = k.some;
     strangers = k.strangers;
     pages = k.pages;

@@ -30,3 +30,4 @@ pub mod Cutting
 pub mod Rooms
 pub mod Spelling
 pub mod Worked
+pub mod Begun

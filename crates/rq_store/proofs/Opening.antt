@@ -37,6 +37,7 @@ use Rattle.rq_level.proofs.Strangers.{has_end_same}
 use Rattle.rq_level.proofs.Rules.{ended}
 use Rattle.rq_level.proofs.Settled.{settled_counts, rest_shown}
 use Rattle.rq_groups.specs.Waiting.{waits}
+use Rattle.rq_store.proofs.Begun.{begun_all}
 use Rattle.rq_store.specs.State.{ledger_of}
 use Rattle.rq_model.specs.Incarnations.{InOrder, IsNext, incarnation_of, incarnation_one}
 use Rattle.rq_store.specs.Sound.{IsSound, IsWhole, IsSettled}
@@ -373,6 +374,7 @@ module _ (z : Sizes) (images : List (List ℕ)) (log : List Record) (range : IsI
     range = range;
     log = restarted_whole z log w none_unfinished none_lost;
     incarnation = refl;
+    begun = begun_all (incarnation_of new_log) new_log refl;
     some = omega arith;
     strangers = λ t e m. later_stranger t log w.order (omega (arith, e));
     pages = pages;

@@ -228,6 +228,7 @@ module _ (s : State) (k : IsSound s) (t : Txn) (r : Row) (u : Under) (ends : Hel
     range = k.range;
     log = k.log;
     incarnation = k.incarnation;
+    begun = k.begun;
     some = k.some;
     strangers = k.strangers;
     pages = k.pages;

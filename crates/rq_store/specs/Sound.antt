@@ -32,7 +32,7 @@ use Rattle.rq_groups.specs.declared.Held.{Held}
 use Rattle.rq_groups.specs.Ends.{HeldEnds, has_held}
 use Rattle.rq_groups.specs.Waiting.{waits}
 use Rattle.rq_store.specs.State.{State, ledger_of, size_of, op_done}
-use Rattle.rq_store.specs.Fitting.{left_by, image_in, FitsLog}
+use Rattle.rq_store.specs.Fitting.{left_by, image_in, oldest, FitsLog}
 
 -- each before-image of the log is a slot of the store
 abbrev pub IsBefore : Sizes → Record → Type 0
@@ -174,6 +174,8 @@ pub record IsSound (s : State) : Type 0 where
   pub range : IsInRange s.sizes
   pub log : IsWhole s.sizes s.records
   pub incarnation : incarnation_of s.records ≡ s.incarnation
+  -- the record that began it is forced
+  pub begun : incarnation_of (oldest s.forced s.records) ≡ s.incarnation
   pub some : 1 ≤ s.incarnation
   pub strangers : (t : Txn) → t.incarnation ≡ s.incarnation → s.begins < t.count → IsStranger t s.records
   pub pages : (a : ℕ) → slots_in s.sizes s.images a ≡ (left_by s.sizes s.records).slots a

@@ -97,4 +97,12 @@ returns-in-Ok-clause-refused g c =
 
 pub returns-clause-refused : goal.returns-clause-refused
 returns-clause-refused g c =
-    inl (reverse c.scan-records.result.records.items, c.scan-records.ensures.spelled, c.in-Err.stopped.refusal, rw c.in-Err.is at c.scan-records.ensures.stopped, (rw c.deref-in-Err.ensures.value at c.first_fault-refusal.ensures.fault))
+    let told = c.scan-records.ensures in
+    inl (
+      reverse c.scan-records.result.records.items,
+      told.spelled,
+      c.in-Err.stopped.refusal,
+      rw c.in-Err.is at told.stopped,
+      (rw c.deref-in-Err.ensures.value at c.first_fault-refusal.ensures.fault),
+      record { same = rw c.in-Err.is at told.seen; leaves = rw c.in-Err.is at told.crash; moments = rw c.in-Err.is at told.any_moment },
+    )
