@@ -9,3 +9,5 @@ mod devices;
 #[cfg(test)]
 mod failing;
 pub mod kept;
+#[cfg(test)]
+mod taken;

@@ -314,3 +314,25 @@ fn a_crash_keeps_the_log_whichever_images_are_left(rt: HostRuntime) -> Result<()
     }
     Ok(())
 }
+
+#[test]
+fn an_acknowledgement_is_of_its_own_commit_and_incarnation(rt: HostRuntime) -> Result<(), Fail> {
+    check(
+        &rt,
+        1,
+        "begin\nbegin\nsend 1.1 0 1 a\ncommit 1.1\nforce\nack 1.1\ncommit 1.2\nack 1.2\nack 1.1\ncrash 0\nrestart\nack 1.1\nbegin\n",
+        "begun 1.1\nbegun 1.2\nsent\ncommit 5\nforced 5\nyes\ncommit 6\nno\nyes\ncrashed 5\nrestarted 2 unfinished 0 lost 0\nrefused 4 UnknownTransaction\nbegun 2.1\n",
+        0,
+    )
+}
+
+#[test]
+fn a_store_that_failed_runs_again_after_a_restart(rt: HostRuntime) -> Result<(), Fail> {
+    check(
+        &rt,
+        1,
+        "fail force\nforce\nack 1.1\nbegin\ncrash 0\nrestart\nbegin\ncommit 2.1\nforce\nack 2.1\n",
+        "armed\nrefused 15 DiskWrite\nrefused 2 Failed\nrefused 2 Failed\ncrashed 1\nrestarted 2 unfinished 0 lost 0\nbegun 2.1\ncommit 3\nforced 3\nyes\n",
+        0,
+    )
+}
