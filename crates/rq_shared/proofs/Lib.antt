@@ -1,1 +1,2 @@
 mod Replaying
+mod Moves

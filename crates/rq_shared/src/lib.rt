@@ -9,3 +9,4 @@ mod devices;
 #[cfg(test)]
 mod failing;
 pub mod kept;
+pub mod mark;
