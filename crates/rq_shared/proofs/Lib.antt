@@ -1,2 +1,3 @@
 mod Replaying
 mod Moves
+mod Ties

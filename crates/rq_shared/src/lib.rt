@@ -10,3 +10,5 @@ mod devices;
 mod failing;
 pub mod kept;
 pub mod mark;
+mod same;
+pub mod tied;
