@@ -185,6 +185,13 @@ impl<P: PageDevice, L: LogDevice> Engine<P, L> {
         self.log.keeps();
     }
 
+    /// The number of records that are forced. No crash loses one of them.
+    pub fn forced(&self) -> Lsn
+        ensures { result ≡ self.now.state.forced }
+    {
+        self.log.forced()
+    }
+
     /// Begins a transaction. Nothing is logged.
     ///
     /// # Errors

@@ -1,1 +1,3 @@
 mod Replaying
+mod Moves
+mod Ties

@@ -1,2 +1,4 @@
 pub mod Entries
 pub mod Counts
+pub mod Marks
+pub mod Tied

@@ -10,6 +10,7 @@ use rq_disk::{LogDevice, PageDevice};
 use rq_engine::engine::Engine;
 use rq_engine::event::{Event, Reply};
 use rq_model::refusal::Refusal;
+use rq_model::txn::Lsn;
 use std::alloc::{AllocError, Global};
 use std::marker::Model;
 use std::mem;
@@ -190,6 +191,21 @@ impl<P: PageDevice + Drop, L: LogDevice + Drop> Kept<P, L> {
         }
     }
 
+    /// The entries since the audit was last taken, in order: they replay from the engine as it was then to the engine as it is.
+    pub fn entries(&self) -> &[AuditEntry]
+        ensures entries { entries result.now ≡ self.now.audit }
+        ensures replays { Follows P.PageDevice L.LogDevice self.now.base self.now.audit self.now.engine }
+    {
+        self.audit.as_slice()
+    }
+
+    /// The number of the engine's records that are forced.
+    pub fn forced(&self) -> Lsn
+        ensures { result ≡ self.now.engine.state.forced }
+    {
+        self.engine.forced()
+    }
+
     /// The engine, as it is.
     pub fn give_back(self) -> Engine<P, L>
         ensures { result ≡ self.engine }
@@ -306,7 +322,7 @@ fn copy_of_groups(alloc: Global, groups: &[GroupContent]) -> Result<Vec<GroupCon
     Ok(copy)
 }
 
-fn is_no_memory(reply: &Reply) -> bool
+pub(crate) fn is_no_memory(reply: &Reply) -> bool
     ensures { IsTrue result ↔ (reply.now ≡ Reply.Refused Refusal.NoMemory) }
 {
     match reply {

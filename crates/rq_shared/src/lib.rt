@@ -9,5 +9,8 @@ mod devices;
 #[cfg(test)]
 mod failing;
 pub mod kept;
+pub mod mark;
+mod same;
+pub mod tied;
 #[cfg(test)]
 mod taken;
