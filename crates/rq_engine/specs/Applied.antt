@@ -17,6 +17,9 @@ use Rattle.rq_engine.specs.declared.event.Progress.{Progress}
 use Rattle.rq_engine.specs.declared.event.Progress.TheVariants as progress
 use Rattle.rq_engine.specs.declared.event.Reply.{Reply}
 use Rattle.rq_engine.specs.declared.event.Reply.TheVariants as reply
+use Rattle.rq_level.specs.Stored.{slots_in}
+use Rattle.rq_engine.specs.Answers.{IsGoing}
+use Rattle.rq_engine.specs.Sends.{TakesLowest}
 use Rattle.rq_engine.specs.Opened.{OpenStore, AreHonest, NotWritten, WritesWhen}
 use Rattle.rq_engine.specs.Crash.{AreFit, RunsThroughCuts}
 use Rattle.rq_engine.specs.Says.{IsCaused, LogSays, PagesSay, WritesSay, call_of, gave, writes_out, written_by}
@@ -50,6 +53,12 @@ ChangesSay old (event.Step sub) r new = SteppedSay old r new
 ChangesSay old (event.WritePage page) r new = new.changed ≡ changed_after old.changed page (written_by r)
 ChangesSay old _ r new = new.changed ≡ old.changed
 
+-- the operation that a send started is under way, and takes the lowest free cell
+abbrev pub StartSays : {P L : Type 0} → OpenStore P L → Event → Reply → OpenStore P L → Type 0
+StartSays old (event.StartSend txn sender tag body) (reply.Started sub) new =
+    IsGoing new.state sub (λ r u. TakesLowest old.state.sizes (slots_in old.state.sizes old.state.images) u.writes)
+StartSays old _ _ new = Unit {0}
+
 -- The call was made, and answered so.
 pub record Applied {P L : Type 0} (p : page_device.Ghosts P) (l : log_device.Ghosts L) (old : OpenStore P L) (e : Event) (r : Reply) (new : OpenStore P L) : Type 0 where
   -- of a sound store over honest devices: the entry that event and reply say may come next, and a refusal has its cause
@@ -60,6 +69,7 @@ pub record Applied {P L : Type 0} (p : page_device.Ghosts P) (l : log_device.Gho
   pub failed : (r ≡ reply.Refused why.Failed) ↔ (old.state.failed ≡ true)
   pub refused : RefusalLeaves old e r new
   pub changes : ChangesSay old e r new
+  pub starts : StartSays old e r new
   pub writes : WritesSay old e r
   pub pages : PagesSay p old new e r
   pub log : LogSays l old new e r

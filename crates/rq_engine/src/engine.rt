@@ -1,6 +1,7 @@
 //! The engine's calls, but those of operations.
-ghost use Rattle.std.specs.Prelude.{◌≡◌, ◌+◌, ◌<◌, ◌≤◌, ◌^◌, ◌↔◌, ◌⊎◌, IfOk, IfErr, OnOk, OnErr, IfSome, Err, ℕ, List, true, false, length, ◌∷◌, []};
+ghost use Rattle.std.specs.Prelude.{◌≡◌, ◌&&◌, nat_eq, nat_lt, not, ◌+◌, ◌<◌, ◌≤◌, ◌^◌, ◌↔◌, ◌⊎◌, IfOk, IfErr, OnOk, OnErr, IfSome, Err, ℕ, List, true, false, length, ◌∷◌, []};
 ghost use Rattle.rq_model.specs.History.Call.{Begin, Commit, Acknowledge, Hand_over, Force};
+ghost use Rattle.rq_model.specs.Replay.{receipt};
 ghost use Rattle.rq_model.specs.Replay.Reply.{Gave_txn, Gave_commit, Gave_forced, Gave_handed_over, Gave_receipt};
 ghost use Rattle.rq_model.specs.declared.record.Record.TheVariants.{Commit as Commit_record};
 ghost use Rattle.rq_disk.specs.Device.{Only};
@@ -201,6 +202,7 @@ impl<P: PageDevice, L: LogDevice> Engine<P, L> {
         ensures sizes { self.new.state.sizes ≡ self.old.state.sizes }
         ensures devices { LeavesDevices self.old self.new }
         ensures refused { OnErr result (self.new ≡ self.old) }
+        ensures number { IfOk result (λ txn. txn ≡ record { incarnation = self.old.state.incarnation; count = self.old.state.begins + 1 }) }
         ensures failed { (result ≡ Err Refusal.Failed) ↔ (self.old.state.failed ≡ true) }
     {
         self.check_running()?;
@@ -252,6 +254,7 @@ impl<P: PageDevice, L: LogDevice> Engine<P, L> {
     pub fn acknowledged(&self, number: CommitNo) -> Result<Option<Receipt>, Refusal>
         ensures answered { Answers P.PageDevice L.LogDevice false false self.now (Acknowledge number.txn number.lsn) (λ given. Gave_receipt (receipt_of given)) result self.now }
         ensures receipt { IfOk result (λ given. IfSome given (λ r. r.number ≡ number)) }
+        ensures given { IfOk result (λ given. receipt_of given ≡ receipt (nat_eq number.txn.incarnation self.now.state.incarnation && not (nat_lt self.now.state.forced number.lsn)) number.txn number.lsn) }
         ensures failed { (result ≡ Err Refusal.Failed) ↔ (self.now.state.failed ≡ true) }
         ensures refusal { IfErr result (λ r. r ≡ Refusal.Failed) }
     {

@@ -8,7 +8,7 @@ ghost use Rattle.rq_store.specs.Sound.{IsSound};
 ghost use Rattle.rq_store.specs.Steps.{Steps};
 ghost use Rattle.rq_content.specs.Read.{group_of};
 ghost use Rattle.rq_engine.specs.Answers.{Answers};
-ghost use Rattle.rq_engine.specs.Applied.{Applied, ChangesSay, RefusalLeaves};
+ghost use Rattle.rq_engine.specs.Applied.{Applied, ChangesSay, RefusalLeaves, StartSays};
 ghost use Rattle.rq_engine.specs.Opened.{AreHonest};
 ghost use Rattle.rq_engine.specs.Says.{IsCaused, IsContent, LogSays, PagesSay, WritesSay, begun_reply, call_of, gave};
 
@@ -63,6 +63,7 @@ impl<P: PageDevice, L: LogDevice> Engine<P, L> {
         ensures failed { (result ≡ Reply.Refused Refusal.Failed) ↔ (self.old.state.failed ≡ true) }
         ensures refused { RefusalLeaves self.old event.now result self.new }
         ensures changes { ChangesSay self.old event.now result self.new }
+        ensures starts { StartSays self.old event.now result self.new }
         ensures honest { AreHonest P.PageDevice L.LogDevice self.new → AreHonest P.PageDevice L.LogDevice self.old }
         ensures any_moment { L.honest self.new.log → LeavesOnly L.LogDevice self.old.log self.new.log (IsBeginning self.old.state.records self.old.state.forced) }
     {

@@ -80,8 +80,7 @@ impl Session {
     /// session ends.
     pub fn lost(&mut self) -> Action
         ensures action { result ≡ (after_loss self.old.stage).action }
-        ensures stage { self.new.stage ≡ (after_loss self.old.stage).stage }
-        ensures lost { self.new.lost ≡ true }
+        ensures lost { self.new ≡ record self.old { stage = (after_loss self.old.stage).stage; lost = true } }
     {
         self.lost = true;
         let next = turn_at_loss(self.stage);

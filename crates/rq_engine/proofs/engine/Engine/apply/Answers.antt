@@ -11,6 +11,7 @@ returns-clause-applied g c =
       failed = told.failed;
       refused = told.refused;
       changes = told.changes;
+      starts = told.starts;
       writes = told.writes;
       pages = told.pages;
       log = told.log;
