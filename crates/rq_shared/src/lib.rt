@@ -10,5 +10,7 @@ mod devices;
 mod failing;
 pub mod kept;
 pub mod mark;
+pub mod room;
 mod same;
+pub mod shared;
 pub mod tied;
