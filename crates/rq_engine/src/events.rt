@@ -1,5 +1,5 @@
 //! Events and their replies.
-ghost use Rattle.std.specs.Prelude.{◌≡◌, ◌↔◌, false, map, true, Err};
+ghost use Rattle.std.specs.Prelude.{◌≡◌, ◌↔◌, ℕ, false, map, true, Err};
 ghost use Rattle.rq_model.specs.History.Call.{Show};
 ghost use Rattle.rq_model.specs.Replay.Reply.{Gave_content};
 ghost use Rattle.rq_log.specs.Crash.{LeavesOnly};
@@ -45,6 +45,7 @@ impl<P: PageDevice, L: LogDevice> Engine<P, L> {
         // a reply that memory is wanting for, or that shows the content, leaves all as it was
         ensures no_memory { result ≡ Reply.Refused Refusal.NoMemory → self.new ≡ self.old }
         ensures content { IsContent result → self.new ≡ self.old }
+        ensures forced { (lsn : ℕ) → result ≡ Reply.Forced lsn → self.new.state.forced ≡ lsn }
     {
         self.keeps();
         self.call(event)
@@ -57,6 +58,7 @@ impl<P: PageDevice, L: LogDevice> Engine<P, L> {
         ensures sizes { self.new.state.sizes ≡ self.old.state.sizes }
         ensures no_memory { result ≡ Reply.Refused Refusal.NoMemory → self.new ≡ self.old }
         ensures content { IsContent result → self.new ≡ self.old }
+        ensures forced { (lsn : ℕ) → result ≡ Reply.Forced lsn → self.new.state.forced ≡ lsn }
         ensures writes { WritesSay self.old event.now result }
         ensures pages { PagesSay P.PageDevice self.old self.new event.now result }
         ensures log { LogSays L.LogDevice self.old self.new event.now result }

@@ -1,4 +1,5 @@
 pub mod Entries
 pub mod Counts
 pub mod Marks
+pub mod Passes
 pub mod Tied

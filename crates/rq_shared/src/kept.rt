@@ -1,5 +1,5 @@
 //! The kept engine: each call leaves one entry, and answers a stamp that says the same.
-ghost use Rattle.std.specs.Prelude.{◌≡◌, ◌≢◌, ◌+◌, ◌<◌, [], ◌∷◌, ◌++◌, ◌↔◌, IfOk, OnOk, OnErr, IsTrue, map, length, vec_len, vec_capacity};
+ghost use Rattle.std.specs.Prelude.{◌≡◌, ◌≢◌, ℕ, ◌+◌, ◌<◌, [], ◌∷◌, ◌++◌, ◌↔◌, IfOk, OnOk, OnErr, IsTrue, map, length, vec_len, vec_capacity};
 ghost use Rattle.rq_content.specs.Read.{group_of};
 ghost use Rattle.rq_engine.specs.Applied.{Applied};
 ghost use Rattle.rq_engine.specs.Says.{call_of, gave, IsContent};
@@ -148,6 +148,7 @@ impl<P: PageDevice + Drop, L: LogDevice + Drop> Kept<P, L> {
         ensures entry { result.reply ≢ Reply.Refused Refusal.NoMemory → OneMore self.old.audit self.new.audit (noted pass event result.reply) }
         ensures applied { result.reply ≢ Reply.Refused Refusal.NoMemory → Applied P.PageDevice L.LogDevice self.old.engine event result.reply self.new.engine }
         ensures no_change { result.reply ≡ Reply.Refused Refusal.NoMemory → self.new ≡ self.old }
+        ensures forced { (lsn : ℕ) → result.reply ≡ Reply.Forced lsn → self.new.engine.state.forced ≡ lsn }
         ensures base { (self.new.base ≡ self.old.base) × (self.new.taken ≡ self.old.taken) }
     {
         let Ok(noted_event) = room_for(&mut self.audit, &event) else {

@@ -10,7 +10,9 @@ mod devices;
 mod failing;
 pub mod kept;
 pub mod mark;
+pub mod room;
 mod same;
+pub mod shared;
 pub mod tied;
 #[cfg(test)]
 mod taken;

@@ -1,0 +1,180 @@
+//! The kept engine under one lock.
+ghost use Rattle.std.specs.Prelude.{◌≡◌, ◌≢◌, ◌+◌, ◌≤◌, ℕ, length, sum_by, IfSome, IfNone};
+ghost use Rattle.rq_shared.specs.Entries.{Follows};
+
+use crate::kept::{Kept, Stamped, Taken};
+use crate::mark::{Mark, MarkPass};
+use crate::room::{Pass, Room, gather, give_pass};
+use rq_disk::{LogDevice, PageDevice};
+use rq_engine::engine::Engine;
+use rq_engine::event::{Event, Reply};
+use rq_model::refusal::Refusal;
+use std::alloc::Global;
+use std::marker::Model;
+use std::sync::ledger::{Blank, Ledger, Share};
+use std::sync::{Mutex, Wait};
+
+/// The most passes of one engine.
+pub const PASS_LIMIT: u64 = 1024;
+
+/// A kept engine that threads call, each under a pass. Contracts see how many passes were given; the shares that were not
+/// given out stand beside the lock.
+#[derive(Drop)]
+pub struct Shared<P: PageDevice, L: LogDevice, G: Ledger> {
+    front: Front<P, L, G>,
+    rest: Share<G>,
+    given: u64,
+}
+
+impl<P: PageDevice, L: LogDevice, G: Ledger> Model for Shared<P, L, G> {
+    ghost use Rattle.std.specs.Prelude.{◌≡◌, ℕ, ◌+◌};
+
+    ghost Value = { ℕ };
+
+    ghost view = { λ s. s.given };
+
+    ghost invariant = { λ s. (s.rest.parts + s.given ≡ 1024) × (s.rest.amount ≡ 0) };
+}
+
+/// The lock, which threads borrow.
+#[derive(Drop)]
+pub struct Front<P: PageDevice, L: LogDevice, G: Ledger> {
+    room: Mutex<Room<P, L, G>>,
+}
+
+/// What is left once all passes are back.
+#[derive(Drop)]
+pub struct Closed<P: PageDevice, L: LogDevice> {
+    pub kept: Kept<P, L>,
+}
+
+impl<P: PageDevice + Drop, L: LogDevice + Drop, G: Ledger> Shared<P, L, G> {
+    /// Shares an engine. No pass is given out, and the audit is empty.
+    pub fn new(alloc: Global, engine: Engine<P, L>, blank: Blank) -> Self
+        requires name { blank.name ≡ G.name }
+        requires parts { (blank.parts ≡ G.parts) × (blank.parts ≡ 1024) }
+        ensures { result ≡ 0 }
+    {
+        let (calls, rest) = blank.open::<G>();
+        Shared {
+            front: Front {
+                room: Mutex::new(Room::new(Kept::new(alloc, engine), calls)),
+            },
+            rest,
+            given: 0,
+        }
+    }
+
+    /// The next pass: its number is one more than the passes given before, and it has counted no call. None where
+    /// `PASS_LIMIT` were given.
+    pub fn pass(&mut self) -> Option<Pass<G>>
+        ensures some { IfSome result (λ p. (p.number ≡ self.new) × (p.calls ≡ 0) × (self.new ≡ self.old + 1)) }
+        ensures none { IfNone result ((self.old ≡ 1024) × (self.new ≡ self.old)) }
+    {
+        if self.given >= PASS_LIMIT {
+            return None;
+        }
+        self.given += 1;
+        let share = self.rest.split_off(1, 0);
+        Some(give_pass(self.given, share))
+    }
+
+    /// The lock, for threads to share.
+    pub fn front(&self) -> &Front<P, L, G> {
+        &self.front
+    }
+
+    /// Makes the call that the event stands for, once the lock is free, and answers its stamp. The pass counts it, but where
+    /// it is answered `NoMemory`.
+    pub fn call<R: Wait>(&self, rt: &R, pass: &mut Pass<G>, event: Event) -> Stamped
+        ensures stamp { (result.pass ≡ pass.old.number) × (result.event ≡ event) }
+        ensures number { pass.new.number ≡ pass.old.number }
+        ensures counted { result.reply ≢ Reply.Refused Refusal.NoMemory → pass.new.calls ≡ pass.old.calls + 1 }
+        ensures refused { result.reply ≡ Reply.Refused Refusal.NoMemory → pass.new.calls ≡ pass.old.calls }
+    {
+        self.front.call(rt, pass, event)
+    }
+
+    /// Forces, and under the same lock publishes how many records are forced.
+    pub fn force<R: Wait>(
+        &self,
+        rt: &R,
+        pass: &mut Pass<G>,
+        mark: &Mark,
+        seat: &mut MarkPass,
+    ) -> Stamped
+        requires { seat.old.table ≡ mark.now }
+        ensures stamp { (result.pass ≡ pass.old.number) × (result.event ≡ Event.Force) }
+        ensures number { pass.new.number ≡ pass.old.number }
+        ensures counted { result.reply ≢ Reply.Refused Refusal.NoMemory → pass.new.calls ≡ pass.old.calls + 1 }
+        ensures refused { result.reply ≡ Reply.Refused Refusal.NoMemory → pass.new.calls ≡ pass.old.calls }
+        ensures table { seat.new.table ≡ seat.old.table }
+        ensures seen { seat.old.saw ≤ seat.new.saw }
+        ensures forced { (lsn : ℕ) → result.reply ≡ Reply.Forced lsn → lsn ≤ seat.new.saw }
+    {
+        self.front.force(rt, pass, mark, seat)
+    }
+
+    /// The entries since the audit was last taken, once the lock is free. Then nothing is in the audit.
+    pub fn take_audit<R: Wait>(&self, rt: &R) -> Taken<P, L> {
+        self.front.take_audit(rt)
+    }
+
+    /// Ends the sharing, once all passes are back: the audit, with the entries that were taken, has as many entries as the
+    /// passes counted calls.
+    pub fn close(self, passes: Vec<Pass<G>>) -> Closed<P, L>
+        requires parts { G.parts ≡ 1024 }
+        requires all { length passes.items ≡ self }
+        ensures count { result.kept.taken + length result.kept.audit ≡ sum_by (λ p. p.calls) passes.items }
+        ensures replays { Follows P.PageDevice L.LogDevice result.kept.base result.kept.audit result.kept.engine }
+    {
+        let Shared {
+            front,
+            rest,
+            given: _,
+        } = self;
+        let Front { room } = front;
+        let mut all = gather(rest, passes);
+        let kept = room.into_inner().close(&mut all);
+        let _entries = kept.entries();
+        Closed { kept }
+    }
+}
+
+impl<P: PageDevice + Drop, L: LogDevice + Drop, G: Ledger> Front<P, L, G> {
+    /// Makes the call that the event stands for, once the lock is free, and answers its stamp. The pass counts it, but where
+    /// it is answered `NoMemory`.
+    pub fn call<R: Wait>(&self, rt: &R, pass: &mut Pass<G>, event: Event) -> Stamped
+        ensures stamp { (result.pass ≡ pass.old.number) × (result.event ≡ event) }
+        ensures number { pass.new.number ≡ pass.old.number }
+        ensures counted { result.reply ≢ Reply.Refused Refusal.NoMemory → pass.new.calls ≡ pass.old.calls + 1 }
+        ensures refused { result.reply ≡ Reply.Refused Refusal.NoMemory → pass.new.calls ≡ pass.old.calls }
+    {
+        self.room.lock(rt).call(pass, event)
+    }
+
+    /// Forces, and under the same lock publishes how many records are forced.
+    pub fn force<R: Wait>(
+        &self,
+        rt: &R,
+        pass: &mut Pass<G>,
+        mark: &Mark,
+        seat: &mut MarkPass,
+    ) -> Stamped
+        requires { seat.old.table ≡ mark.now }
+        ensures stamp { (result.pass ≡ pass.old.number) × (result.event ≡ Event.Force) }
+        ensures number { pass.new.number ≡ pass.old.number }
+        ensures counted { result.reply ≢ Reply.Refused Refusal.NoMemory → pass.new.calls ≡ pass.old.calls + 1 }
+        ensures refused { result.reply ≡ Reply.Refused Refusal.NoMemory → pass.new.calls ≡ pass.old.calls }
+        ensures table { seat.new.table ≡ seat.old.table }
+        ensures seen { seat.old.saw ≤ seat.new.saw }
+        ensures forced { (lsn : ℕ) → result.reply ≡ Reply.Forced lsn → lsn ≤ seat.new.saw }
+    {
+        self.room.lock(rt).force(pass, mark, seat)
+    }
+
+    /// The entries since the audit was last taken, once the lock is free. Then nothing is in the audit.
+    pub fn take_audit<R: Wait>(&self, rt: &R) -> Taken<P, L> {
+        self.room.lock(rt).take()
+    }
+}
