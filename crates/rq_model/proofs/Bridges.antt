@@ -55,12 +55,12 @@ shut_crash_goes_on z h older now a p t g o rules =
     let r = t.records in
     let all : kept_in (length now) l.committed ≡ length l.committed = all_kept 0 l.records (length now) l.committed w.rising (omega (arith, n, r)) in
     let c : take (kept_in (length now) l.committed) l.committed ≡ committed_of now =
-        ap (λ k. take k l.committed) all ∙ take-length l.committed ∙ t.committed ∙ sym (extends_commits older now g) in
+    ap (λ k. take k l.committed) all ∙ take-length l.committed ∙ t.committed ∙ sym (extends_commits older now g) in
     let f = w.forced in
     let d = w.durable in
     let less = kept_less l.forced (length now) l.committed (omega (arith, n, r, f)) in
     let legal : IsLegal z (crash_to now h ∷ h) =
-        (record { durable = omega (arith, d, less); forced = omega (arith, n, r, f); exact = refl; up_to = shut_to l.phase (length now) l.records p }, a) in
+    (record { durable = omega (arith, d, less); forced = omega (arith, n, r, f); exact = refl; up_to = shut_to l.phase (length now) l.records p }, a) in
     record {
       legal = legal;
       ties = record { committed = c; records = refl; incarnation = (let i = t.incarnation in omega (arith, i, j)) };

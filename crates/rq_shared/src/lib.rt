@@ -13,6 +13,6 @@ pub mod mark;
 pub mod room;
 mod same;
 pub mod shared;
-pub mod tied;
 #[cfg(test)]
 mod taken;
+pub mod tied;

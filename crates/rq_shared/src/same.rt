@@ -1,13 +1,11 @@
 //! Whether two events, and two replies, say the same.
-ghost use Rattle.std.specs.Prelude.{◌≡◌, ◌≢◌, ◌↔◌, ℕ, IsTrue, IfSome, IfNone, map};
+ghost use Rattle.std.specs.Prelude.{◌≡◌, ◌↔◌, IsTrue, map};
 ghost use Rattle.rq_content.specs.Read.{group_of};
 ghost use Rattle.rq_engine.specs.Says.{call_of, gave, outcome_of};
-ghost use Rattle.rq_model.specs.Replay.Reply.{Gave_lsn};
 
 use rq_content::GroupContent;
 use rq_engine::event::{Event, Outcome, Progress, Reply};
 use rq_model::message::Message;
-use rq_model::txn::Lsn;
 
 /// Whether they ask the same.
 pub(crate) fn same_event(event: &Event, other: &Event) -> bool
@@ -54,33 +52,8 @@ pub(crate) fn same_event(event: &Event, other: &Event) -> bool
     }
 }
 
-/// Whether they answer the same. A force and a step of an operation may both answer an LSN.
+/// Whether they answer the same.
 pub(crate) fn same_reply(reply: &Reply, other: &Reply) -> bool
-    ensures { IsTrue result ↔ (gave reply.now ≡ gave other.now) }
-{
-    match (lsn_of(reply), lsn_of(other)) {
-        (Some(lsn), Some(other)) => lsn == other,
-        (None, None) => same_but_lsn(reply, other),
-        _ => false,
-    }
-}
-
-// The LSN that is answered.
-fn lsn_of(reply: &Reply) -> Option<Lsn>
-    ensures some { IfSome result (λ lsn. gave reply.now ≡ Gave_lsn lsn) }
-    ensures none { IfNone result ((lsn : ℕ) → gave reply.now ≢ Gave_lsn lsn) }
-{
-    match reply {
-        Reply::Stepped(Progress::Done(lsn)) => Some(*lsn),
-        Reply::Forced(lsn) => Some(*lsn),
-        _ => None,
-    }
-}
-
-// Whether replies that are no LSN answer the same.
-fn same_but_lsn(reply: &Reply, other: &Reply) -> bool
-    requires reply { (lsn : ℕ) → gave reply.now ≢ Gave_lsn lsn }
-    requires other { (lsn : ℕ) → gave other.now ≢ Gave_lsn lsn }
     ensures { IsTrue result ↔ (gave reply.now ≡ gave other.now) }
 {
     match (reply, other) {
@@ -92,6 +65,7 @@ fn same_but_lsn(reply: &Reply, other: &Reply) -> bool
         (Reply::Committed(number), Reply::Committed(other)) => *number == *other,
         (Reply::Acknowledged(given), Reply::Acknowledged(other)) => *given == *other,
         (Reply::HandedOver, Reply::HandedOver) => true,
+        (Reply::Forced(lsn), Reply::Forced(other)) => *lsn == *other,
         (Reply::Written(written), Reply::Written(other)) => *written == *other,
         (Reply::Content(groups), Reply::Content(other)) => same_groups(groups, other),
         (Reply::Refused(refusal), Reply::Refused(other)) => *refusal == *other,

@@ -44,7 +44,8 @@ fn the_audit_holds_what_was_answered(rt: HostRuntime) -> Result<(), Fail> {
     let Reply::Forced(_) = kept.step(1, Event::Force).into_reply() else {
         return Err("force".into());
     };
-    let Reply::Acknowledged(Some(receipt)) = kept.step(2, Event::Acknowledged(number)).into_reply() else {
+    let Reply::Acknowledged(Some(receipt)) = kept.step(2, Event::Acknowledged(number)).into_reply()
+    else {
         return Err("acknowledged".into());
     };
     assert_eq!(rt; receipt.number(), number);
