@@ -135,6 +135,3 @@ fn holds(length: usize, at: usize, width: usize) -> bool
 {
     at <= length && width <= length - at
 }
-
-#[cfg(test)]
-mod tests;

@@ -7,8 +7,6 @@
 ghost use Rattle.std.specs.Prelude.{◌<◌, ◌^◌, ◌/◌, ◌%◌};
 
 mod plans;
-#[cfg(test)]
-mod tests;
 mod writes;
 
 pub use plans::{append, unlink_head};

@@ -13,8 +13,6 @@ ghost use Rattle.rq_content.specs.Read.{group_of, read_group, StopsFor, IsNoMemo
 
 mod chain;
 mod earlier;
-#[cfg(test)]
-mod tests;
 
 use crate::chain::add_chain;
 use crate::earlier::Earlier;

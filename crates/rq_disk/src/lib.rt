@@ -14,6 +14,3 @@ pub use device::{DeviceFailed, LogDevice, PAGE, PageDevice};
 pub use mem_log::MemLog;
 pub use mem_pages::MemPages;
 pub use switch::{CallKind, Mishap, Switch};
-
-#[cfg(test)]
-mod tests;

@@ -265,6 +265,3 @@ impl<L: LogDevice> Log<L> {
         }
     }
 }
-
-#[cfg(test)]
-mod tests;

@@ -18,8 +18,6 @@ use std::marker::Model;
 
 pub mod rows;
 mod scans;
-#[cfg(test)]
-mod tests;
 
 /// The most transactions that have not ended.
 const OPEN_LIMIT: usize = 4096;

@@ -9,5 +9,3 @@ pub mod formatted;
 pub mod layout;
 mod numbers;
 pub mod page;
-#[cfg(test)]
-mod tests;

@@ -13,8 +13,6 @@ ghost use Rattle.rq_pool.specs.Reading.{OnlyRead as WasRead};
 
 mod frames;
 mod reading;
-#[cfg(test)]
-mod tests;
 
 use crate::frames::{mark_written, set_page, write_slot};
 use crate::reading::{read_again, read_frames, read_superblock};

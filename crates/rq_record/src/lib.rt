@@ -22,6 +22,3 @@ pub const OP_END_BYTES: usize = 30;
 
 /// The bytes of a Commit record.
 pub const COMMIT_BYTES: usize = 21;
-
-#[cfg(test)]
-mod tests;

@@ -10,6 +10,3 @@ mod stage;
 mod turns;
 
 pub use session::Session;
-
-#[cfg(test)]
-mod tests;

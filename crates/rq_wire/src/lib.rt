@@ -12,6 +12,3 @@ pub use answers::Answer;
 pub use frames::{Fed, Frames};
 pub use request::{Request, SendBody};
 pub use writing::answer;
-
-#[cfg(test)]
-mod tests;

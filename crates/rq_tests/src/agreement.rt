@@ -2,8 +2,8 @@
 //! wanting for is made once more, and then answers as if nothing had happened.
 ghost use Rattle.std.specs.Prelude.{◌≡◌, IfOk};
 
-use crate::devices::devices;
-use crate::kept::Kept;
+use crate::calls::{answered, crashed, devices, formatted, given_back, opened};
+use crate::lists;
 use rq_content::GroupContent;
 use rq_disk::{MemLog, MemPages, PageChoice};
 use rq_engine::event::{CommitNo, Event, Outcome, Progress, Reply};
@@ -12,8 +12,8 @@ use rq_model::reference::rows::{Act, GroupContent as ListedGroup};
 use rq_model::refusal::Refusal;
 use rq_model::txn::{Lsn, Sub, Txn};
 use rq_page::layout::Layout;
-use rq_restart::format::format;
-use rq_restart::restart::{Report, Stopped, restart};
+use rq_restart::restart::{Report, Stopped};
+use rq_shared::kept::Kept;
 use std::alloc::Global;
 use std::test::Fail;
 
@@ -111,8 +111,9 @@ impl Pair {
         let Some(engine) = self.engine.take() else {
             return Err(NO_ENGINE);
         };
-        let (pages, log) = engine.give_back().give_back();
-        let (engine, report) = reopen(self.alloc, pages.crash(PageChoice::Newest), log.crash(0))?;
+        let (pages, log) = given_back(engine);
+        let (pages, log) = crashed(pages, log, PageChoice::Newest, 0);
+        let (engine, report) = reopen(self.alloc, pages, log)?;
         self.engine = Some(engine);
         crash_lists(&mut self.lists, report)
     }
@@ -215,8 +216,8 @@ impl Pair {
             return Err(NO_ENGINE);
         };
         let again = copy_of(&event)?;
-        match engine.step(1, event).into_reply() {
-            Reply::Refused(Refusal::NoMemory) => Ok(engine.step(1, again).into_reply()),
+        match answered(engine, 1, event) {
+            Reply::Refused(Refusal::NoMemory) => Ok(answered(engine, 1, again)),
             Reply::Refused(Refusal::DiskWrite) => Err(DEVICE_NO_MEMORY),
             reply => Ok(reply),
         }
@@ -238,16 +239,16 @@ impl Pair {
     }
 
     fn listed_content(&self) -> Result<Vec<ListedGroup>, Trouble> {
-        match self.lists.content() {
+        match lists::content(&self.lists) {
             Ok(groups) => Ok(groups),
-            Err(_) => self.lists.content().map_err(|_| NO_MEMORY),
+            Err(_) => lists::content(&self.lists).map_err(|_| NO_MEMORY),
         }
     }
 }
 
-fn ask_lists(lists: &mut Reference, event: &Event) -> Answer {
-    match ask_lists_once(lists, event) {
-        Err(Refusal::NoMemory) => told(ask_lists_once(lists, event)),
+fn ask_lists(queue: &mut Reference, event: &Event) -> Answer {
+    match ask_lists_once(queue, event) {
+        Err(Refusal::NoMemory) => told(ask_lists_once(queue, event)),
         answer => told(answer),
     }
 }
@@ -259,29 +260,30 @@ fn told(answer: Result<Answer, Refusal>) -> Answer {
     }
 }
 
-fn ask_lists_once(lists: &mut Reference, event: &Event) -> Result<Answer, Refusal> {
+fn ask_lists_once(queue: &mut Reference, event: &Event) -> Result<Answer, Refusal> {
     match event {
-        Event::Begin => Ok(Answer::Begun(lists.begin()?)),
+        Event::Begin => Ok(Answer::Begun(lists::begin(queue)?)),
         Event::StartSend {
             txn,
             sender,
             tag,
             body,
-        } => Ok(Answer::Started(lists.start_send(*txn, *sender, *tag, body)?)),
-        Event::Step(sub) => Ok(stepped(lists.step(sub.txn, sub.number)?)),
-        Event::Finish(sub) => Ok(finished(lists.finish(sub.txn, sub.number)?)),
-        Event::Commit(txn) => Ok(Answer::Committed(lists.commit(*txn)?)),
-        Event::Acknowledged(number) => Ok(Answer::Acknowledged(lists.acknowledged(
+        } => Ok(Answer::Started(lists::start_send(queue, *txn, *sender, *tag, body)?)),
+        Event::Step(sub) => Ok(stepped(lists::step(queue, sub.txn, sub.number)?)),
+        Event::Finish(sub) => Ok(finished(lists::finish(queue, sub.txn, sub.number)?)),
+        Event::Commit(txn) => Ok(Answer::Committed(lists::commit(queue, *txn)?)),
+        Event::Acknowledged(number) => Ok(Answer::Acknowledged(lists::acknowledged(
+            queue,
             number.txn(),
             number.lsn(),
         )?)),
         Event::HandOver => {
-            lists.hand_over()?;
+            lists::hand_over(queue)?;
             Ok(Answer::HandedOver)
         }
-        Event::Force => Ok(Answer::Forced(lists.force()?)),
+        Event::Force => Ok(Answer::Forced(lists::force(queue)?)),
         Event::Content => {
-            lists.content()?;
+            lists::content(queue)?;
             Ok(Answer::Content)
         }
         Event::StartReceive(_) | Event::StartReceiveFrom { .. } | Event::WritePage(_) => {
@@ -391,7 +393,7 @@ fn devices_at_second_try(alloc: Global, layout: &Layout) -> Result<(MemPages, Me
 }
 
 fn format_twice(pages: &mut MemPages, layout: &Layout) -> Result<(), Trouble> {
-    if format(pages, layout).is_ok() || format(pages, layout).is_ok() {
+    if formatted(pages, layout).is_ok() || formatted(pages, layout).is_ok() {
         Ok(())
     } else {
         Err("format")
@@ -408,15 +410,15 @@ fn reopen(
         refusal,
         pages,
         log,
-    } = match restart(alloc, pages, log) {
-        Ok((engine, report)) => return Ok((Kept::new(alloc, engine), report)),
+    } = match opened(alloc, pages, log) {
+        Ok(opened) => return Ok(opened),
         Err(stopped) => stopped,
     };
     if refusal != Refusal::NoMemory {
         return Err(DEVICE_NO_MEMORY);
     }
-    match restart(alloc, pages, log) {
-        Ok((engine, report)) => Ok((Kept::new(alloc, engine), report)),
+    match opened(alloc, pages, log) {
+        Ok(opened) => Ok(opened),
         Err(_) => Err("restart"),
     }
 }

@@ -1,15 +1,14 @@
 //! Each device call of a run fails once, in turn: it is answered as a failure of the device, every call behind it as of a failed
 //! store, and what was acknowledged outlives the crash that follows.
-use crate::devices::devices;
-use crate::kept::Kept;
+use crate::calls::{answered, crashed, devices, formatted, handed_over, opened};
 use rq_content::GroupContent;
 use rq_disk::{MemLog, MemPages, Mishap, PageChoice, Switch};
 use rq_engine::event::{CommitNo, Event, Progress, Reply};
 use rq_model::refusal::Refusal;
 use rq_model::txn::Txn;
 use rq_page::layout::Layout;
-use rq_restart::format::format;
-use rq_restart::restart::{Stopped, restart};
+use rq_restart::restart::Stopped;
+use rq_shared::kept::Kept;
 use std::alloc::Global;
 use std::test::Fail;
 
@@ -87,11 +86,11 @@ impl Run {
 
     // A formatted store, at the second try where the first failed.
     fn format(&mut self, pages: &mut MemPages, layout: &Layout) -> Result<(), Trouble> {
-        match format(pages, layout) {
+        match formatted(pages, layout) {
             Ok(()) => Ok(()),
             Err(refusal) => {
                 self.count(refusal)?;
-                format(pages, layout).map_err(|_| "a second failure")
+                formatted(pages, layout).map_err(|_| "a second failure")
             }
         }
     }
@@ -102,13 +101,13 @@ impl Run {
             refusal,
             pages,
             log,
-        } = match restart(self.alloc, pages, log) {
-            Ok((engine, _)) => return Ok(Kept::new(self.alloc, engine)),
+        } = match opened(self.alloc, pages, log) {
+            Ok((store, _)) => return Ok(store),
             Err(stopped) => stopped,
         };
         self.count(refusal)?;
-        match restart(self.alloc, pages, log) {
-            Ok((engine, _)) => Ok(Kept::new(self.alloc, engine)),
+        match opened(self.alloc, pages, log) {
+            Ok((store, _)) => Ok(store),
             Err(_) => Err("a second failure"),
         }
     }
@@ -172,12 +171,9 @@ impl Run {
 
     // What is left after a crash: buffered records are handed over, which no failure meets, and so many of the unforced ones outlive it.
     fn crash(&mut self, store: Store, plan: &Plan) -> Result<(), Trouble> {
-        let mut engine = store.give_back();
-        self.switch.suspend();
-        let _ = engine.hand_over();
-        self.switch.resume();
-        let (pages, log) = engine.give_back();
-        let mut store = self.open(pages.crash(PageChoice::Synced), log.crash(plan.keep))?;
+        let (pages, log) = handed_over(store, &self.switch);
+        let (pages, log) = crashed(pages, log, PageChoice::Synced, plan.keep);
+        let mut store = self.open(pages, log)?;
         if self.is_cut && !self.is_acknowledged {
             return Ok(());
         }
@@ -186,7 +182,7 @@ impl Run {
 }
 
 fn ask(store: &mut Store, event: Event) -> Result<Reply, Refusal> {
-    match store.step(1, event).into_reply() {
+    match answered(store, 1, event) {
         Reply::Refused(refusal) => Err(refusal),
         reply => Ok(reply),
     }

@@ -1,10 +1,10 @@
-use crate::Session;
-use crate::calls::{Action, Ask, Commit, Told};
 use bytes::BytesMut;
 use rq_model::message::{Body, Message};
-use rq_model::refusal::Refusal;
+use rq_model::refusal::{NoMemory, Refusal};
 use rq_model::txn::{Sub, Txn};
-use rq_wire::{Fed, Frames, Request, answer};
+use rq_session::Session;
+use rq_session::calls::{Action, Ask, Commit, Told};
+use rq_wire::{Answer, Fed, Frames, Request, answer};
 use std::test::Fail;
 
 // Begin, Send 0 7 hello, Receive, Begin, Commit, Commit, LastTag 0, Begin, ReceiveFrom 0, Close 15, Abort.
@@ -169,6 +169,32 @@ impl Fake {
     }
 }
 
+// The calls that follow promise nothing, so that a test of many is checked fast.
+
+fn input(session: &mut Session, request: Request) -> Option<Ask> {
+    session.input(request)
+}
+
+fn reply(session: &mut Session, told: &Told) -> Action {
+    session.reply(told)
+}
+
+fn lost(session: &mut Session) -> Action {
+    session.lost()
+}
+
+fn answer_left(session: &Session) -> Option<Answer> {
+    session.answer()
+}
+
+fn feed(frames: &mut Frames, piece: &[u8]) -> Result<Fed, NoMemory> {
+    frames.feed(piece)
+}
+
+fn write(one: &Answer, out: &mut BytesMut) -> Result<(), NoMemory> {
+    answer(one, out)
+}
+
 // Does what is to be done until an answer is written (true) or the session has ended.
 fn carry_out(
     session: &mut Session,
@@ -179,10 +205,10 @@ fn carry_out(
     let mut action = from;
     for _ in 0..100 {
         action = match action {
-            Action::Do(ask) | Action::Again(ask) => session.reply(&store.call(ask)),
-            Action::Await(commit) => session.reply(&Told::Durable(commit)),
+            Action::Do(ask) | Action::Again(ask) => reply(session, &store.call(ask)),
+            Action::Await(commit) => reply(session, &Told::Durable(commit)),
             Action::Answer(one) => {
-                answer(&one, out)?;
+                write(&one, out)?;
                 return Ok(true);
             }
             Action::End => return Ok(false),
@@ -197,12 +223,12 @@ fn serve(
     request: Request,
     out: &mut BytesMut,
 ) -> Result<bool, Fail> {
-    if let Some(ask) = session.input(request) {
+    if let Some(ask) = input(session, request) {
         return carry_out(session, store, Action::Do(ask), out);
     }
-    match session.answer() {
+    match answer_left(session) {
         Some(one) => {
-            answer(&one, out)?;
+            write(&one, out)?;
             Ok(true)
         }
         None => Ok(false),
@@ -222,7 +248,7 @@ fn serve_fed(
         }
     }
     if fed.fault {
-        let action = session.lost();
+        let action = lost(session);
         return carry_out(session, store, action, out);
     }
     Ok(true)
@@ -235,12 +261,12 @@ fn a_session_cut_anywhere_is_answered_the_same(rt: HostRuntime) -> Result<(), Fa
         let mut session = Session::new();
         let mut store = Fake::new();
         let mut out = BytesMut::new(rt.alloc());
-        let first = frames.feed(&ASKED[..cut])?;
+        let first = feed(&mut frames, &ASKED[..cut])?;
         assert!(rt;
             serve_fed(&mut session, &mut store, first, &mut out)?,
             "cut at {cut}"
         );
-        let second = frames.feed(&ASKED[cut..])?;
+        let second = feed(&mut frames, &ASKED[cut..])?;
         assert!(rt;
             serve_fed(&mut session, &mut store, second, &mut out)?,
             "cut at {cut}"
@@ -257,16 +283,16 @@ fn a_fault_aborts_and_is_not_answered(rt: HostRuntime) -> Result<(), Fail> {
     let mut store = Fake::new();
     let mut out = BytesMut::new(rt.alloc());
     store.latched = 2;
-    let fed = frames.feed(&ASKED[..23])?;
+    let fed = feed(&mut frames, &ASKED[..23])?;
     assert!(rt; serve_fed(&mut session, &mut store, fed, &mut out)?);
-    let fed = frames.feed(&[2, 1])?;
+    let fed = feed(&mut frames, &[2, 1])?;
     assert!(rt; !serve_fed(&mut session, &mut store, fed, &mut out)?);
     assert_eq!(rt; out.as_slice(), &ANSWERED[..22]);
     assert_eq!(rt;
         (store.aborted, store.undos_asked, store.to_undo),
         (1, 4, 0)
     );
-    assert!(rt; session.input(Request::Begin).is_none() && session.answer().is_none());
+    assert!(rt; input(&mut session, Request::Begin).is_none() && answer_left(&session).is_none());
     Ok(())
 }
 
@@ -279,20 +305,25 @@ fn an_operation_under_way_is_finished_when_the_connection_is_lost(
     let mut out = BytesMut::new(rt.alloc());
     assert!(rt; serve(&mut session, &mut store, Request::Begin, &mut out)?);
     let mut frames = Frames::new(rt.alloc());
-    let fed = frames.feed(&ASKED[3..23])?;
+    let fed = feed(&mut frames, &ASKED[3..23])?;
     for request in fed.requests {
-        let Some(ask) = session.input(request) else {
+        let Some(ask) = input(&mut session, request) else {
             assert!(rt; false);
             return Ok(());
         };
         // its first slot is written, and the second is asked for
-        let Action::Do(ask) = session.reply(&store.call(ask)) else {
+        let Action::Do(ask) = reply(&mut session, &store.call(ask)) else {
             assert!(rt; false);
             return Ok(());
         };
-        assert!(rt; matches!(session.reply(&store.call(ask)), Action::Do(Ask::Step(_))));
+        assert!(rt;
+            matches!(
+                reply(&mut session, &store.call(ask)),
+                Action::Do(Ask::Step(_))
+            )
+        );
     }
-    let action = session.lost();
+    let action = lost(&mut session);
     assert!(rt; !carry_out(&mut session, &mut store, action, &mut out)?);
     assert_eq!(rt; (store.slots_left, store.aborted, store.to_undo), (0, 1, 0));
     assert_eq!(rt; out.len(), 19);

@@ -1,4 +1,4 @@
-use crate::content;
+use rq_content::content;
 use rq_disk::{MemPages, PAGE, PageDevice, Switch};
 use rq_model::message::Body;
 use rq_model::record::{Deed, Slot};

@@ -1,21 +1,19 @@
 //! What a kept engine's audit holds, read entry by entry.
-use crate::devices::devices;
-use crate::kept::{AuditEntry, Kept};
+use crate::calls::{answered, devices, formatted, opened};
 use rq_disk::{MemLog, MemPages};
 use rq_engine::event::{Event, Reply};
 use rq_page::layout::Layout;
-use rq_restart::format::format;
-use rq_restart::restart::restart;
+use rq_shared::kept::{AuditEntry, Kept};
 use std::alloc::Global;
 use std::test::Fail;
 
 // A formatted store of one directory and one cell page, opened.
-fn opened(alloc: Global) -> Result<Kept<MemPages, MemLog>, &'static str> {
+fn small_store(alloc: Global) -> Result<Kept<MemPages, MemLog>, &'static str> {
     let layout = Layout::new(1, 1).ok_or("a small store")?;
     let (_, mut pages, log) = devices(alloc, &layout).map_err(|_| "devices")?;
-    format(&mut pages, &layout).map_err(|_| "format")?;
-    match restart(alloc, pages, log) {
-        Ok((engine, _)) => Ok(Kept::new(alloc, engine)),
+    formatted(&mut pages, &layout).map_err(|_| "format")?;
+    match opened(alloc, pages, log) {
+        Ok((store, _)) => Ok(store),
         Err(_) => Err("restart"),
     }
 }
@@ -34,17 +32,17 @@ fn is_entry(entry: &AuditEntry, pass: u64) -> bool {
 
 #[test]
 fn the_audit_holds_what_was_answered(rt: HostRuntime) -> Result<(), Fail> {
-    let mut kept = opened(rt.alloc())?;
-    let Reply::Begun(txn) = kept.step(1, Event::Begin).into_reply() else {
+    let mut kept = small_store(rt.alloc())?;
+    let Reply::Begun(txn) = answered(&mut kept, 1, Event::Begin) else {
         return Err("begin".into());
     };
-    let Reply::Committed(number) = kept.step(2, Event::Commit(txn)).into_reply() else {
+    let Reply::Committed(number) = answered(&mut kept, 2, Event::Commit(txn)) else {
         return Err("commit".into());
     };
-    let Reply::Forced(_) = kept.step(1, Event::Force).into_reply() else {
+    let Reply::Forced(_) = answered(&mut kept, 1, Event::Force) else {
         return Err("force".into());
     };
-    let Reply::Acknowledged(Some(receipt)) = kept.step(2, Event::Acknowledged(number)).into_reply()
+    let Reply::Acknowledged(Some(receipt)) = answered(&mut kept, 2, Event::Acknowledged(number))
     else {
         return Err("acknowledged".into());
     };

@@ -3,10 +3,13 @@ ghost use Rattle.rq_model.specs.Deeds.{deed_in};
 ghost use Rattle.rq_model.specs.declared.record.Deed.{Deed};
 ghost use Rattle.rq_record.specs.Spelling.{IsInRange, spelling};
 
-use super::*;
 use rq_model::message::Body;
 use rq_model::record::{DeedBytes, Slot};
 use rq_model::txn::Txn;
+use rq_record::{
+    COMMIT_BYTES, Deed, OP_END_BYTES, PAGE_OP_BYTES, Record, Step, decode, decode_deed, encode,
+    encode_deed, sized, spelled_len,
+};
 use std::alloc::Global;
 use std::process::Abort;
 use std::test::Fail;
@@ -116,6 +119,16 @@ fn op_end_with_its_deed(rt: HostRuntime) -> Result<(), Fail> {
     )
 }
 
+// The deed is written as these bytes, and read from them.
+fn is_spelled(rt: &impl Abort, deed: &Deed, bytes: &[u8]) {
+    assert_eq!(rt; encode_deed(deed).as_slice(), bytes);
+    assert_eq!(rt; decode_deed(bytes), Some(*deed));
+}
+
+fn is_no_deed(bytes: &[u8]) -> bool {
+    decode_deed(bytes).is_none()
+}
+
 #[test]
 fn other_deeds(rt: HostRuntime) -> Result<(), Fail> {
     let body = Body::new(b"hello").ok_or("a short body")?;
@@ -125,17 +138,15 @@ fn other_deeds(rt: HostRuntime) -> Result<(), Fail> {
         tag: 7,
         body,
     };
-    let bytes =
-        b"\x02\x00\x00\x00\x00\x00\x00\x00\x00\x00\x00\x00\x01\x00\x00\x00\x00\x00\x00\x00\x07hello";
-    assert_eq!(rt; encode_deed(&unlink_head).as_slice(), bytes.as_slice());
-    assert_eq!(rt; decode_deed(bytes), Some(unlink_head));
-    let close = Deed::Close { sender: 15 };
-    let bytes = b"\x03\x00\x00\x00\x0f";
-    assert_eq!(rt; encode_deed(&close).as_slice(), bytes.as_slice());
-    assert_eq!(rt; decode_deed(bytes), Some(close));
-    assert_eq!(rt; decode_deed(&[3, 0, 0, 0]), None);
-    assert_eq!(rt; decode_deed(&[3, 0, 0, 0, 15, 0]), None);
-    assert_eq!(rt; decode_deed(&[4, 0, 0, 0, 15]), None);
+    is_spelled(
+        &rt,
+        &unlink_head,
+        b"\x02\x00\x00\x00\x00\x00\x00\x00\x00\x00\x00\x00\x01\x00\x00\x00\x00\x00\x00\x00\x07hello",
+    );
+    is_spelled(&rt, &Deed::Close { sender: 15 }, b"\x03\x00\x00\x00\x0f");
+    assert!(rt; is_no_deed(&[3, 0, 0, 0]));
+    assert!(rt; is_no_deed(&[3, 0, 0, 0, 15, 0]));
+    assert!(rt; is_no_deed(&[4, 0, 0, 0, 15]));
     Ok(())
 }
 

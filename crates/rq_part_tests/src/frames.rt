@@ -1,10 +1,10 @@
 ghost use Rattle.std.specs.Prelude.{◌≤◌};
 
-use crate::{Answer, Fed, Frames, Request, answer};
 use bytes::{BufMut, BytesMut};
 use rq_model::message::{Body, Message};
-use rq_model::refusal::Refusal;
+use rq_model::refusal::{NoMemory, Refusal};
 use rq_model::txn::Txn;
+use rq_wire::{Answer, Fed, Frames, Request, answer};
 use std::alloc::{AllocError, Global};
 use std::test::Fail;
 
@@ -61,13 +61,21 @@ fn put_fed(out: &mut BytesMut, fed: &Fed) -> Result<(), AllocError> {
     Ok(())
 }
 
+fn feed(frames: &mut Frames, piece: &[u8]) -> Result<Fed, NoMemory> {
+    frames.feed(piece)
+}
+
+fn write(one: &Answer, out: &mut BytesMut) -> Result<(), NoMemory> {
+    answer(one, out)
+}
+
 #[test]
 fn any_cut_gives_the_same(rt: HostRuntime) -> Result<(), Fail> {
     for cut in 0..=ASKED.len() {
         let mut frames = Frames::new(rt.alloc());
         let mut asked = BytesMut::new(rt.alloc());
-        let first = frames.feed(&ASKED[..cut])?;
-        let second = frames.feed(&ASKED[cut..])?;
+        let first = feed(&mut frames, &ASKED[..cut])?;
+        let second = feed(&mut frames, &ASKED[cut..])?;
         put_fed(&mut asked, &first)?;
         put_fed(&mut asked, &second)?;
         assert!(rt; !first.fault && !second.fault, "cut at {cut}");
@@ -108,9 +116,9 @@ fn answers_are_spelled(rt: HostRuntime) -> Result<(), Fail> {
     ];
     let mut out = BytesMut::new(rt.alloc());
     for one in &answers {
-        answer(one, &mut out)?;
+        write(one, &mut out)?;
     }
-    answer(&Answer::Closed, &mut out)?;
+    write(&Answer::Closed, &mut out)?;
     assert_eq!(rt; out.as_slice(), &ANSWERED[..]);
     Ok(())
 }
@@ -121,7 +129,7 @@ fn one_by_one(alloc: Global, bytes: &[u8]) -> Option<(usize, Option<usize>)> {
     let mut requests = 0usize;
     let mut fault = None;
     for (i, byte) in bytes.iter().enumerate() {
-        let fed = frames.feed(&[*byte]).ok()?;
+        let fed = feed(&mut frames, &[*byte]).ok()?;
         requests = requests.wrapping_add(fed.requests.len());
         if fed.fault && fault.is_none() {
             fault = Some(i);
@@ -158,7 +166,7 @@ fn the_longest_send_is_read(rt: HostRuntime) -> Result<(), Fail> {
     let mut bytes = BytesMut::new(rt.alloc());
     put_head(&mut bytes, 512, 2)?;
     bytes.put_slice(&[7; 511])?;
-    let fed = frames.feed(bytes.as_slice())?;
+    let fed = feed(&mut frames, bytes.as_slice())?;
     assert!(rt; !fed.fault && fed.requests.len() == 1);
     let mut again = BytesMut::new(rt.alloc());
     put_fed(&mut again, &fed)?;
@@ -227,12 +235,12 @@ fn in_pieces(
     for _ in 0..stream.len() {
         let size = dice.up_to(most).min(rest.len());
         let (piece, more) = rest.split_at(size);
-        let fed = frames.feed(piece)?;
+        let fed = feed(&mut frames, piece)?;
         put_fed(&mut asked, &fed)?;
         fault = fed.fault;
         rest = more;
     }
-    let fed = frames.feed(rest)?;
+    let fed = feed(&mut frames, rest)?;
     put_fed(&mut asked, &fed)?;
     Ok((asked, fault || fed.fault))
 }

@@ -1,13 +1,13 @@
 ghost use Rattle.std.specs.Prelude.{◌≤◌, length};
 
-use crate::addr::Addr;
-use crate::cell::{Cell, CellSlot};
-use crate::directory::{Directory, DirectorySlot};
-use crate::layout::{Layout, PageKind};
-use crate::page::{PAGE_BYTES, Page};
 use rq_bytes::Fields;
 use rq_model::message::Body;
 use rq_model::record::{SLOT_BYTES, Slot};
+use rq_page::addr::Addr;
+use rq_page::cell::{Cell, CellSlot};
+use rq_page::directory::{Directory, DirectorySlot};
+use rq_page::layout::{Layout, PageKind};
+use rq_page::page::{PAGE_BYTES, Page};
 use std::test::Fail;
 
 // These bytes, followed by zeros.
@@ -71,27 +71,93 @@ fn directory_after_a_send(rt: HostRuntime) {
     assert_eq!(rt; DirectorySlot::decode(&[0; SLOT_BYTES]), None);
 }
 
+// The calls that follow promise nothing, so that a test of many is checked fast.
+
+// How many directory pages, cell pages, pages, senders and cells a store has.
+fn sizes(layout: &Layout) -> [u32; 5] {
+    [
+        layout.directory(),
+        layout.cells(),
+        layout.pages(),
+        layout.senders(),
+        layout.cell_slots(),
+    ]
+}
+
+fn kind(layout: &Layout, page: u32) -> Option<PageKind> {
+    layout.kind(page)
+}
+
+fn layout_of(directory: u32, cells: u32) -> Option<Layout> {
+    Layout::new(directory, cells)
+}
+
+fn directory_of(layout: &Layout, sender: u32) -> Option<Addr> {
+    if sender < layout.senders() {
+        Some(layout.directory_of(sender))
+    } else {
+        None
+    }
+}
+
+fn sender_at(layout: &Layout, page: u32, slot: u8) -> Option<u32> {
+    let is_slot = 1 <= page && page <= layout.directory() && 1 <= slot && slot <= 15;
+    if is_slot {
+        Some(layout.sender_at(page, slot))
+    } else {
+        None
+    }
+}
+
+fn cell_addr(layout: &Layout, place: u32) -> Option<Addr> {
+    if place < layout.cell_slots() {
+        Some(layout.cell_addr(place))
+    } else {
+        None
+    }
+}
+
+// The place of a cell among the cells; none where it is no cell.
+fn cell_place(layout: &Layout, at: Addr) -> Option<u32> {
+    if layout.is_cell_address(at) {
+        Some(layout.cell_place(at))
+    } else {
+        None
+    }
+}
+
+fn address(page: u32, slot: u8) -> Option<Addr> {
+    if 1 <= slot && slot <= 15 {
+        Some(Addr::new(page, slot))
+    } else {
+        None
+    }
+}
+
 #[test]
 fn places_in_a_store(rt: HostRuntime) -> Result<(), Fail> {
-    let layout = Layout::new(2, 3).ok_or("sizes")?;
-    assert_eq!(rt;
-        (layout.directory(), layout.cells(), layout.pages()),
-        (2, 3, 6)
-    );
-    assert_eq!(rt; (layout.senders(), layout.cell_slots()), (30, 45));
-    assert_eq!(rt; layout.kind(2), Some(PageKind::Directory));
-    assert_eq!(rt; layout.kind(5), Some(PageKind::Cells));
-    assert_eq!(rt; layout.kind(6), None);
+    let layout = layout_of(2, 3).ok_or("sizes")?;
+    assert_eq!(rt; sizes(&layout), [2, 3, 6, 30, 45]);
+    assert_eq!(rt; kind(&layout, 2), Some(PageKind::Directory));
+    assert_eq!(rt; kind(&layout, 5), Some(PageKind::Cells));
+    assert_eq!(rt; kind(&layout, 6), None);
     assert_eq!(rt; PageKind::Cells.byte(), 2);
-    assert_eq!(rt; layout.directory_of(16), Addr::new(2, 2));
-    assert_eq!(rt; layout.sender_at(2, 2), 16);
-    assert_eq!(rt; layout.cell_addr(15), Addr::new(4, 1));
-    assert!(rt; layout.is_cell_address(Addr::new(5, 15)));
-    assert!(rt; !layout.is_cell_address(Addr::new(2, 1)));
-    let last = layout.cell_addr(44);
-    assert_eq!(rt; (last, layout.cell_place(last)), (Addr::new(5, 15), 44));
-    assert_eq!(rt; Layout::new(0, 1), None);
-    assert_eq!(rt; Layout::new(1, 65537), None);
+    assert_eq!(rt; layout_of(0, 1), None);
+    assert_eq!(rt; layout_of(1, 65537), None);
+    Ok(())
+}
+
+#[test]
+fn addresses_in_a_store(rt: HostRuntime) -> Result<(), Fail> {
+    let layout = layout_of(2, 3).ok_or("sizes")?;
+    assert_eq!(rt; directory_of(&layout, 16), address(2, 2));
+    assert_eq!(rt; sender_at(&layout, 2, 2), Some(16));
+    assert_eq!(rt; cell_addr(&layout, 15), address(4, 1));
+    let last = address(5, 15).ok_or("a slot")?;
+    assert_eq!(rt; cell_addr(&layout, 44), Some(last));
+    assert_eq!(rt; cell_place(&layout, last), Some(44));
+    let no_cell = address(2, 1).ok_or("a slot")?;
+    assert_eq!(rt; cell_place(&layout, no_cell), None);
     Ok(())
 }
 

@@ -1,0 +1,280 @@
+use rq_chain::{Group, Neighbour, Plan, append, unlink_head};
+use rq_model::message::Body;
+use rq_model::record::{Deed, Slot};
+use rq_page::addr::Addr;
+use rq_page::cell::{Cell, CellSlot};
+use rq_page::directory::{Directory, DirectorySlot};
+use rq_page::layout::Layout;
+use std::alloc::{AllocError, Global};
+use std::test::Fail;
+
+// The writes and the deed of a plan are read by calls that promise nothing, so that a test of many is checked fast.
+
+fn hello() -> Result<Body, &'static str> {
+    Body::new(b"hello").ok_or("short")
+}
+
+fn places(alloc: Global, plan: &Plan) -> Result<Vec<u64>, AllocError> {
+    plan.writes
+        .iter()
+        .map(|write| write.at.number())
+        .collect(alloc)
+}
+
+// Where a write of a plan goes, and what it writes.
+fn write_of(plan: &Plan, place: usize) -> Option<(u64, Slot)> {
+    match plan.writes.get(place) {
+        Some(write) => Some((write.at.number(), write.after)),
+        None => None,
+    }
+}
+
+fn cell_in(slot: &Slot) -> Option<CellSlot> {
+    CellSlot::decode(slot)
+}
+
+fn directory_in(slot: &Slot) -> Option<DirectorySlot> {
+    DirectorySlot::decode(slot)
+}
+
+// The plan of the first message of a group.
+fn first_append(alloc: Global) -> Result<Plan, Fail> {
+    let layout = Layout::new(1, 1).ok_or("a small store")?;
+    let group = Group {
+        at: layout.directory_of(3),
+        sender: 3,
+        directory: Directory::new(),
+    };
+    let body = hello()?;
+    let free = layout.cell_addr(0);
+    Ok(append(alloc, &layout, &group, None, free, 7, body)?)
+}
+
+// The plan of the second message of a group.
+fn next_append(alloc: Global) -> Result<Plan, Fail> {
+    let layout = Layout::new(1, 1).ok_or("a small store")?;
+    let body = hello()?;
+    let last = layout.cell_addr(0);
+    let group = Group {
+        at: layout.directory_of(3),
+        sender: 3,
+        directory: Directory {
+            closed: false,
+            sent: 1,
+            received: 0,
+            last_tag: 7,
+            head: last,
+            tail: last,
+        },
+    };
+    let tail = Neighbour {
+        at: last,
+        cell: Cell {
+            sender: 3,
+            sequence: 1,
+            tag: 7,
+            next: Addr::NONE,
+            prev: Addr::NONE,
+            body,
+        },
+    };
+    let free = layout.cell_addr(1);
+    Ok(append(alloc, &layout, &group, Some(tail), free, 8, body)?)
+}
+
+// The plan of a receive of the only message of a group.
+fn only_unlink(alloc: Global) -> Result<Plan, Fail> {
+    let layout = Layout::new(1, 1).ok_or("a small store")?;
+    let body = hello()?;
+    let at = layout.cell_addr(0);
+    let group = Group {
+        at: layout.directory_of(3),
+        sender: 3,
+        directory: Directory {
+            closed: false,
+            sent: 5,
+            received: 4,
+            last_tag: 7,
+            head: at,
+            tail: at,
+        },
+    };
+    let cell = Cell {
+        sender: 3,
+        sequence: 5,
+        tag: 7,
+        next: Addr::NONE,
+        prev: Addr::NONE,
+        body,
+    };
+    Ok(unlink_head(alloc, &layout, &group, &Neighbour { at, cell }, None)?)
+}
+
+// The plan of a receive of the first message of two.
+fn first_unlink(alloc: Global) -> Result<Plan, Fail> {
+    let layout = Layout::new(1, 1).ok_or("a small store")?;
+    let body = hello()?;
+    let first = layout.cell_addr(2);
+    let second = layout.cell_addr(0);
+    let group = Group {
+        at: layout.directory_of(3),
+        sender: 3,
+        directory: Directory {
+            closed: true,
+            sent: 2,
+            received: 0,
+            last_tag: 8,
+            head: first,
+            tail: second,
+        },
+    };
+    let head = Neighbour {
+        at: first,
+        cell: Cell {
+            sender: 3,
+            sequence: 1,
+            tag: 7,
+            next: second,
+            prev: Addr::NONE,
+            body,
+        },
+    };
+    let next = Neighbour {
+        at: second,
+        cell: Cell {
+            sender: 3,
+            sequence: 2,
+            tag: 8,
+            next: Addr::NONE,
+            prev: first,
+            body,
+        },
+    };
+    Ok(unlink_head(alloc, &layout, &group, &head, Some(next))?)
+}
+
+#[test]
+fn the_first_message_takes_two_writes(rt: HostRuntime) -> Result<(), Fail> {
+    let body = hello()?;
+    let plan = first_append(rt.alloc())?;
+    let places = places(rt.alloc(), &plan)?;
+    assert_eq!(rt; places.as_slice(), [33, 20].as_slice());
+    assert_eq!(rt;
+        plan.deed,
+        Deed::Append {
+            sender: 3,
+            sequence: 1,
+            tag: 7,
+            previous: 0,
+            body
+        }
+    );
+    Ok(())
+}
+
+#[test]
+fn the_next_message_is_linked(rt: HostRuntime) -> Result<(), Fail> {
+    let body = hello()?;
+    let plan = next_append(rt.alloc())?;
+    let places = places(rt.alloc(), &plan)?;
+    assert_eq!(rt; places.as_slice(), [34, 33, 20].as_slice());
+    assert_eq!(rt;
+        plan.deed,
+        Deed::Append {
+            sender: 3,
+            sequence: 2,
+            tag: 8,
+            previous: 7,
+            body
+        }
+    );
+    Ok(())
+}
+
+#[test]
+fn the_only_message_leaves_an_empty_group(rt: HostRuntime) -> Result<(), Fail> {
+    let body = hello()?;
+    let plan = only_unlink(rt.alloc())?;
+    assert_eq!(rt; plan.writes.len(), 2);
+    let (place, freed) = write_of(&plan, 0).ok_or("a write")?;
+    assert_eq!(rt; place, 33);
+    assert_eq!(rt; cell_in(&freed), Some(CellSlot::Free));
+    let (place, told) = write_of(&plan, 1).ok_or("a write")?;
+    assert_eq!(rt; place, 20);
+    let after = directory_in(&told).ok_or("a directory slot")?;
+    assert_eq!(rt;
+        after,
+        DirectorySlot {
+            sender: 3,
+            directory: Directory {
+                closed: false,
+                sent: 5,
+                received: 5,
+                last_tag: 7,
+                head: Addr::NONE,
+                tail: Addr::NONE,
+            },
+        }
+    );
+    assert_eq!(rt;
+        plan.deed,
+        Deed::UnlinkHead {
+            sender: 3,
+            sequence: 5,
+            tag: 7,
+            body
+        }
+    );
+    Ok(())
+}
+
+#[test]
+fn the_next_message_comes_first(rt: HostRuntime) -> Result<(), Fail> {
+    let body = hello()?;
+    let second = Addr::from_number(33);
+    let plan = first_unlink(rt.alloc())?;
+    assert_eq!(rt; plan.writes.len(), 3);
+    let (place, freed) = write_of(&plan, 0).ok_or("a write")?;
+    assert_eq!(rt; place, 35);
+    assert_eq!(rt; cell_in(&freed), Some(CellSlot::Free));
+    let (place, unlinked) = write_of(&plan, 1).ok_or("a write")?;
+    assert_eq!(rt; place, 33);
+    assert_eq!(rt;
+        cell_in(&unlinked),
+        Some(CellSlot::Used(Cell {
+            sender: 3,
+            sequence: 2,
+            tag: 8,
+            next: Addr::NONE,
+            prev: Addr::NONE,
+            body,
+        }))
+    );
+    let (place, told) = write_of(&plan, 2).ok_or("a write")?;
+    assert_eq!(rt; place, 20);
+    let after = directory_in(&told).ok_or("a directory slot")?;
+    assert_eq!(rt;
+        after,
+        DirectorySlot {
+            sender: 3,
+            directory: Directory {
+                closed: true,
+                sent: 2,
+                received: 1,
+                last_tag: 8,
+                head: second,
+                tail: second,
+            },
+        }
+    );
+    assert_eq!(rt;
+        plan.deed,
+        Deed::UnlinkHead {
+            sender: 3,
+            sequence: 1,
+            tag: 7,
+            body
+        }
+    );
+    Ok(())
+}
