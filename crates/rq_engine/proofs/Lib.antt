@@ -7,3 +7,4 @@ pub mod SendCalls
 pub mod TakeCalls
 pub mod Crashing
 pub mod Leaving
+pub mod Listing
