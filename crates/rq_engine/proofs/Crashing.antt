@@ -44,7 +44,7 @@ spelled_dropped (suc n) [] h = h
 spelled_dropped (suc n) (r ∷ log) h = spelled_dropped n log h.1
 
 -- the commits that a cut leaves
-commits_of_cut : (lost : ℕ) (log : List Record) → take (commits_left log lost) (committed_of log) ≡ committed_of (drop lost log)
+pub commits_of_cut : (lost : ℕ) (log : List Record) → take (commits_left log lost) (committed_of log) ≡ committed_of (drop lost log)
 commits_of_cut lost log =
     subst (λ l. take (kept_in (length (drop lost log)) (committed_of l)) (committed_of l) ≡ committed_of (drop lost log)) (take-append-drop lost log) (cut_commits (take lost log) (drop lost log))
 

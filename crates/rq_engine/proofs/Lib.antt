@@ -8,3 +8,4 @@ pub mod TakeCalls
 pub mod Crashing
 pub mod Leaving
 pub mod Listing
+pub mod Worked

@@ -38,23 +38,31 @@ pub record IsBegun (old : State) (t : Txn) (new : State) : Type 0 where
   pub number : t ≡ record { incarnation = old.incarnation; count = old.begins + 1 }
   pub lists : new ≡ record old { rows = fresh_row t ∷ old.rows; begins = old.begins + 1 }
 
--- An operation was started by a plan: it is the next of its transaction, which had none under way and now holds the end of the group.
-pub record IsStarted (old : State) (sub : Sub) (end : End) (cells : ℕ) (IsPlan : Under → Type 0) (new : State) : Type 0 where
+-- An operation was started by a plan: it is the next of its transaction, which had none under way and now holds the end
+-- of the group.
+pub record IsStarted (old : State) (sub : Sub) (end : End) (cells : ℕ) (IsPlan : Under → Type 0) (new : State)
+    : Type 0 where
   pub under : Under
   pub number : under.number ≡ sub.number
   pub ready : IsReady old sub.txn sub.number
   pub plan : IsPlan under
-  pub lists : new ≡ record old { rows = change_row sub.txn (row_started under) old.rows; ends = with_end sub.txn end old.ends; cells_in_use = cells }
+  pub lists : new ≡ record old {
+    rows = change_row sub.txn (row_started under) old.rows;
+    ends = with_end sub.txn end old.ends;
+    cells_in_use = cells;
+  }
 
 -- a send was started, which will use a cell more
 abbrev pub IsSendStarted : State → Txn → ℕ → ℕ → List ℕ → Sub → State → Type 0
 IsSendStarted old t sender tag body sub new =
-    (sub.txn ≡ t) × IsStarted old sub (Sending sender) (old.cells_in_use + 1) (λ u. IsSendPlan old.sizes (slots_in old.sizes old.images) u sender tag body) new
+    (sub.txn ≡ t) × IsStarted old sub (Sending sender) (old.cells_in_use + 1)
+    (λ u. IsSendPlan old.sizes (slots_in old.sizes old.images) u sender tag body) new
 
 -- a receive of a message that waits of this sender was started
 abbrev pub IsTakeStarted : State → Txn → ℕ → Sub → State → Type 0
 IsTakeStarted old t sender sub new =
-    (sub.txn ≡ t) × WaitsFor old t sender × IsStarted old sub (Receiving sender) old.cells_in_use (λ u. IsTakePlan old.sizes (slots_in old.sizes old.images) u sender) new
+    (sub.txn ≡ t) × WaitsFor old t sender × IsStarted old sub (Receiving sender) old.cells_in_use
+    (λ u. IsTakePlan old.sizes (slots_in old.sizes old.images) u sender) new
 
 -- a receive was started from some group, or none waits
 abbrev pub TakeSays : State → Txn → Option Sub → State → Type 0
@@ -65,12 +73,14 @@ TakeSays old t None new = NoneWaits old t × (new ≡ old)
 abbrev pub TakeFromSays : State → Txn → ℕ → Option Sub → State → Type 0
 TakeFromSays old t sender (Some sub) new = IsTakeStarted old t sender sub new
 TakeFromSays old t sender None new =
-    (sender < sender_count old.sizes) × (is_free_for t sender old.ends.receiving ≡ true) × (waits old.waiting sender ≡ 0) × (new ≡ old)
+    (sender < sender_count old.sizes) × (is_free_for t sender old.ends.receiving ≡ true) × (waits old.waiting sender ≡ 0)
+    × (new ≡ old)
 
 -- the next write of the operation was made, with its record, or none is left
 abbrev pub StepSays : State → Sub → Progress → State → Type 0
 StepSays old sub (progress.Done lsn) new =
-    (lsn ≡ length old.records + 1) × (w : SlotWrite) × IsGoing old sub (λ r u. slice_get u.writes u.made ≡ Some w) × IsMade old sub w new
+    (lsn ≡ length old.records + 1) × (w : SlotWrite) × IsGoing old sub (λ r u. slice_get u.writes u.made ≡ Some w)
+    × IsMade old sub w new
 StepSays old sub progress.Ready new = IsGoing old sub (λ r u. slice_get u.writes u.made ≡ None) × (new ≡ old)
 
 -- An operation whose writes are made was ended by the record that says what it did.
@@ -88,8 +98,8 @@ pub record IsFinished (old : State) (sub : Sub) (o : Outcome) (new : State) : Ty
 abbrev pub done_by : State → Txn → List Finished
 done_by s t = finished_of (found_row t s.rows)
 
--- A transaction with nothing under way was committed: its record is the newest, its row and its ends are gone, what it sent waits, and the cells of what it
--- took are free.
+-- A transaction with nothing under way was committed: its record is the newest, its row and its ends are gone, what it
+-- sent waits, and the cells of what it took are free.
 pub record IsCommitted (old : State) (t : Txn) (number : CommitNo) (new : State) : Type 0 where
   pub txn : number.txn ≡ t
   pub lsn : number.lsn ≡ length old.records + 1
@@ -105,7 +115,8 @@ pub record IsCommitted (old : State) (t : Txn) (number : CommitNo) (new : State)
 -- a receipt is given where the commit is of this incarnation and its record is forced
 abbrev pub AcknowledgedSays : State → CommitNo → Option Receipt → State → Type 0
 AcknowledgedSays old number given new =
-    (receipt_of given ≡ receipt (nat_eq number.txn.incarnation old.incarnation && not (nat_lt old.forced number.lsn)) number.txn number.lsn) × (new ≡ old)
+    (receipt_of given ≡ receipt (nat_eq number.txn.incarnation old.incarnation && not (nat_lt old.forced number.lsn))
+    number.txn number.lsn) × (new ≡ old)
 
 -- what each reply says that its event made of the lists; of a refusal another clause tells
 abbrev pub AfterBegin : State → Reply → State → Type 0

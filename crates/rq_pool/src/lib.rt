@@ -205,8 +205,8 @@ impl<P: PageDevice> Pages<P> {
     }
 
     /// Reads a page back into its frame, where it has no change that was not written. The pages stay as they are where
-    /// the device has been honest; and whatever it answered, they are pages of a store. Where it is read, the device ran, and
-    /// the frame holds what the device reads there.
+    /// the device has been honest; and whatever it answered, they are pages of a store. Where it is read, the device ran,
+    /// and the frame holds what the device reads there.
     ///
     /// # Errors
     /// `DiskRead` where the read failed, `Damaged` where what was read is no page of a store: nothing changed.

@@ -16,7 +16,8 @@ SuperblockIsLast p z old new = PagesLeave p old new (IsBeforeOrFormatted p z old
 
 -- each page is one that a crash might have left before, or one of the store's, and formatted
 abbrev pub AreBeforeOrFormatted : {P : Type 0} → Ghosts P → Sizes → P → Images → Type 0
-AreBeforeOrFormatted p z old images = (q : ℕ) → p.may_be old q (images q) ⊎ ((q < page_count z) × IsFormatted z q (images q))
+AreBeforeOrFormatted p z old images =
+    (q : ℕ) → p.may_be old q (images q) ⊎ ((q < page_count z) × IsFormatted z q (images q))
 
 -- So whatever a crash at any moment leaves: pages of the store alone are written, and each as it is formatted.
 abbrev pub WritesItsPages : {P : Type 0} → Ghosts P → Sizes → P → P → Type 0

@@ -11,7 +11,8 @@ use Rattle.rq_shared.specs.Entries.{Audited, TakenAudit, Follows}
 use Rattle.rq_shared.specs.Marks.{MarkView}
 use Rattle.rq_shared.specs.Passes.{PassView}
 
--- The call of this event was made under a pass, and answered by this stamp. The pass counts it, but where memory was wanting.
+-- The call of this event was made under a pass, and answered by this stamp. The pass counts it, but where memory was
+-- wanting.
 pub record IsCalled (old : PassView) (e : Event) (s : Stamped) (new : PassView) : Type 0 where
   pub pass : s.pass ≡ old.number
   pub event : s.event ≡ e
@@ -27,7 +28,8 @@ pub record IsForced (old : PassView) (was : MarkView) (s : Stamped) (new : PassV
   pub forced : (lsn : ℕ) → s.reply ≡ Forced lsn → lsn ≤ now.saw
 
 -- The audit of a kept engine was taken: it is handed on as it was, and replays to that engine.
-pub record IsTakenOf {P L : Type 0} (p : page_device.Ghosts P) (l : log_device.Ghosts L) (k : Audited P L) (t : TakenAudit P L) : Type 0 where
+pub record IsTakenOf {P L : Type 0} (p : page_device.Ghosts P) (l : log_device.Ghosts L) (k : Audited P L)
+    (t : TakenAudit P L) : Type 0 where
   pub base : t.base ≡ k.base
   pub before : t.before ≡ k.taken
   pub audit : t.audit ≡ k.audit

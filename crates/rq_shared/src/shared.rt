@@ -106,8 +106,8 @@ impl<P: PageDevice + Drop, L: LogDevice + Drop, G: Ledger> Shared<P, L, G> {
         self.front.force(rt, pass, mark, seat)
     }
 
-    /// The entries since the audit was last taken, once the lock is free, as `Kept::take` answers them: they replay from the
-    /// engine as it was then. Then nothing is in the audit.
+    /// The entries since the audit was last taken, once the lock is free, as `Kept::take` answers them: they replay from
+    /// the engine as it was then. Then nothing is in the audit.
     pub fn take_audit<R: Wait>(&self, rt: &R) -> Taken<P, L>
         ensures { IsTaken P.PageDevice L.LogDevice result }
     {
@@ -158,8 +158,8 @@ impl<P: PageDevice + Drop, L: LogDevice + Drop, G: Ledger> Front<P, L, G> {
         self.room.lock(rt).force(pass, mark, seat)
     }
 
-    /// The entries since the audit was last taken, once the lock is free, as `Kept::take` answers them: they replay from the
-    /// engine as it was then. Then nothing is in the audit.
+    /// The entries since the audit was last taken, once the lock is free, as `Kept::take` answers them: they replay from
+    /// the engine as it was then. Then nothing is in the audit.
     pub fn take_audit<R: Wait>(&self, rt: &R) -> Taken<P, L>
         ensures { IsTaken P.PageDevice L.LogDevice result }
     {
