@@ -1,5 +1,5 @@
 //! A log in memory. It keeps what it was at first and each call since, so that its past is real data.
-ghost use Rattle.std.specs.Prelude.{⊤, ◌≡◌, ◌≤◌, ◌-◌, ◌++◌, ◌∷◌, [], ℕ, length, take, drop, min, IfOk, OnOk, OnErr, true};
+ghost use Rattle.std.specs.Prelude.{⊤, ◌≡◌, ◌≤◌, ◌-◌, ◌++◌, ◌∷◌, [], ℕ, length, take, drop, min, IfOk, OnOk, OnErr, true, false};
 ghost use Rattle.rq_disk.specs.Records.{AreRecords, some_records-prop};
 ghost use Rattle.rq_disk.specs.Memory.{log_after};
 
@@ -152,15 +152,17 @@ fn copied(bytes: &[u8], at: u64, into: &mut [u8]) -> usize
 }
 
 impl MemLog {
-    ghost use Rattle.rq_disk.specs.Shown.{log_of, log_moment, log_faults};
+    ghost use Rattle.rq_disk.specs.Shown.{log_of, log_moment, log_faults, log_stopped, log_switch};
     ghost use Rattle.rq_disk.specs.Memory.{log_reads, fresh_log, MayLeave, crashed_log};
     ghost use Rattle.rq_disk.specs.Records.{HoldsRecords};
 
-    /// A log of these bytes, all of them forced.
+    /// A log of these bytes, all of them forced. It runs.
     pub fn new(alloc: Global, bytes: Vec<u8>, switch: Switch) -> Self
         ensures log { log_of result ≡ fresh_log bytes.items }
         ensures moment { log_moment result ≡ 0 }
         ensures failures { log_faults result ≡ 0 }
+        ensures runs { log_stopped result ≡ false }
+        ensures switch { log_switch result ≡ switch }
     {
         let len = bytes.len();
         MemLog {
@@ -191,12 +193,15 @@ impl MemLog {
     }
 
     /// What a crash leaves where of the records that are not forced the first `keep` outlive it, or all where
-    /// there are fewer. All of it counts as forced from then on. The count of failures and the switch stay.
+    /// there are fewer. All of it counts as forced from then on, and the log runs. The count of failures and the
+    /// switch stay.
     pub fn crash(self, keep: u64) -> MemLog
         ensures log { log_of result ≡ fresh_log (crashed_log keep (log_of self)) }
         ensures may_leave { MayLeave (log_of self) (log_reads (log_of result)) }
         ensures moment { log_moment result ≡ 0 }
         ensures failures { log_faults result ≡ log_faults self }
+        ensures runs { log_stopped result ≡ false }
+        ensures switch { log_switch result ≡ log_switch self }
     {
         let MemLog {
             alloc,

@@ -1,5 +1,5 @@
 //! Pages in memory. They keep what they were at first and each call since, so that their past is real data.
-ghost use Rattle.std.specs.Prelude.{⊤, ◌≡◌, ◌≤◌, ◌<◌, ◌==◌, ◌++◌, ◌∷◌, [], ℕ, List, length, take, drop, get_or, slice_set, replicate, if◌then◌else◌, IfOk, OnOk, OnErr, true};
+ghost use Rattle.std.specs.Prelude.{⊤, ◌≡◌, ◌≤◌, ◌<◌, ◌==◌, ◌++◌, ◌∷◌, [], ℕ, List, length, take, drop, get_or, slice_set, replicate, if◌then◌else◌, IfOk, OnOk, OnErr, true, false};
 ghost use Rattle.rq_disk.specs.Memory.{pages_after, reads};
 
 use crate::choice::PageChoice;
@@ -111,6 +111,7 @@ impl PageDevice for MemPages {
 fn blank_images(alloc: Global, pages: u32) -> Result<Vec<[u8; PAGE]>, AllocError>
     ensures count { IfOk result (λ images. length images.items ≡ pages) }
     ensures blank { IfOk result (λ images. (p : ℕ) → p < pages → get_or images.items p [] ≡ replicate PAGE 0) }
+    ensures all { IfOk result (λ images. images.items ≡ replicate pages (replicate PAGE 0)) }
 {
     let mut images = Vec::with_capacity(alloc, pages as usize)?;
     for _page in 0..pages {
@@ -145,14 +146,16 @@ impl MemPages {
     ghost use Rattle.rq_disk.specs.Choice.{place_of};
     ghost use Rattle.rq_disk.specs.Device.{Leaves, Only};
     ghost use Rattle.rq_disk.specs.Memory.{fresh_pages, MayBe, crashed_page};
-    ghost use Rattle.rq_disk.specs.Shown.{pages_of, page_count, pages_moment, pages_faults};
+    ghost use Rattle.rq_disk.specs.Shown.{pages_of, page_count, pages_moment, pages_faults, pages_stopped, pages_switch};
 
-    /// Pages with these images, all of them synced.
+    /// Pages with these images, all of them synced. They run.
     pub fn new(alloc: Global, images: Vec<[u8; PAGE]>, switch: Switch) -> Result<Self, AllocError>
         ensures pages { IfOk result (λ m. pages_of m ≡ fresh_pages images.items) }
         ensures count { IfOk result (λ m. page_count m ≡ length images.items) }
         ensures moment { IfOk result (λ m. pages_moment m ≡ 0) }
         ensures failures { IfOk result (λ m. pages_faults m ≡ 0) }
+        ensures runs { IfOk result (λ m. pages_stopped m ≡ false) }
+        ensures switch { IfOk result (λ m. pages_switch m ≡ switch) }
     {
         let newest = Vec::from_slice(alloc, &images)?;
         Ok(MemPages {
@@ -166,12 +169,15 @@ impl MemPages {
         })
     }
 
-    /// So many pages of zeros, all of them synced.
+    /// So many pages of zeros, all of them synced. They run.
     pub fn zeroed(alloc: Global, pages: u32, switch: Switch) -> Result<Self, AllocError>
         ensures pages { IfOk result (λ m. (p : ℕ) → p < pages → reads (pages_of m) p ≡ replicate PAGE 0) }
+        ensures fresh { IfOk result (λ m. pages_of m ≡ fresh_pages (replicate pages (replicate PAGE 0))) }
         ensures count { IfOk result (λ m. page_count m ≡ pages) }
         ensures moment { IfOk result (λ m. pages_moment m ≡ 0) }
         ensures failures { IfOk result (λ m. pages_faults m ≡ 0) }
+        ensures runs { IfOk result (λ m. pages_stopped m ≡ false) }
+        ensures switch { IfOk result (λ m. pages_switch m ≡ switch) }
     {
         let images = blank_images(alloc, pages)?;
         MemPages::new(alloc, images, switch)
@@ -185,14 +191,18 @@ impl MemPages {
     }
 
     /// What a crash leaves where of each page the chosen image outlives it. All of it counts as synced from
-    /// then on. The count of failures and the switch stay.
+    /// then on, and the pages run. The count of failures and the switch stay.
     pub fn crash(self, choice: PageChoice) -> MemPages
         ensures pages { (p : ℕ) → p < page_count self → reads (pages_of result) p ≡ crashed_page (place_of choice p) (pages_of self) p }
+        ensures past { (p : ℕ) → page_count self ≤ p → reads (pages_of result) p ≡ [] }
         ensures may_be { Leaves (MayBe (pages_of self)) (reads (pages_of result)) }
         ensures synced { (p : ℕ) → Only (reads (pages_of result) p) (MayBe (pages_of result) p) }
+        ensures since { (pages_of result).since ≡ [] }
         ensures count { page_count result ≡ page_count self }
         ensures moment { pages_moment result ≡ 0 }
         ensures failures { pages_faults result ≡ pages_faults self }
+        ensures runs { pages_stopped result ≡ false }
+        ensures switch { pages_switch result ≡ pages_switch self }
     {
         let MemPages {
             alloc,

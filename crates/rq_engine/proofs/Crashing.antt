@@ -1,5 +1,5 @@
 -- Pages that a crash leaves fit the log that it leaves.
-use Rattle.std.proofs.Common.{◌≡◌, ℕ, zero, suc, [], ◌∷◌, ◌<◌, ◌≤◌, List, drop, sym, subst, Result, Ok, Err, ⊎_elim, arith, length, take, ap, ◌∙◌, ◌≡◌, ◌+◌}
+use Rattle.std.proofs.Common.{◌≡◌, ℕ, zero, suc, [], ◌∷◌, ◌<◌, ◌≤◌, List, drop, sym, subst, Result, Ok, Err, ⊎_elim, arith, length, take, ap, ◌∙◌, ◌≡◌}
 use Rattle.std.proofs.lemmas.List.{length-drop, take-append-drop}
 use Rattle.rq_model.specs.Content.{committed_of}
 use Rattle.rq_model.specs.Ledger.{group_in, kept_in}
@@ -44,7 +44,7 @@ spelled_dropped (suc n) [] h = h
 spelled_dropped (suc n) (r ∷ log) h = spelled_dropped n log h.1
 
 -- the commits that a cut leaves
-commits_of_cut : (lost : ℕ) (log : List Record) → take (commits_left log lost) (committed_of log) ≡ committed_of (drop lost log)
+pub commits_of_cut : (lost : ℕ) (log : List Record) → take (commits_left log lost) (committed_of log) ≡ committed_of (drop lost log)
 commits_of_cut lost log =
     subst (λ l. take (kept_in (length (drop lost log)) (committed_of l)) (committed_of l) ≡ committed_of (drop lost log)) (take-append-drop lost log) (cut_commits (take lost log) (drop lost log))
 

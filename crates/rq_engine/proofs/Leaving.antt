@@ -1,5 +1,5 @@
 -- What a refusal leaves of the store.
-use Rattle.std.proofs.Common.{◌≡◌, ap, sym, ◌∙◌, refl, false, true, List, Bool, OnErr, Option, Some, None, Result, Ok, Err, ◌+◌, ◌%◌, ◌^◌}
+use Rattle.std.proofs.Common.{◌≡◌, false, true, OnErr, Option, Some, None, Result, Ok, Err}
 use Rattle.rq_model.specs.declared.txn.Sub.{Sub}
 use Rattle.rq_model.specs.declared.refusal.Refusal.{Refusal}
 use Rattle.rq_model.specs.declared.refusal.Refusal.TheVariants as why
@@ -8,7 +8,7 @@ use Rattle.rq_engine.specs.declared.event.Event.{Event}
 use Rattle.rq_engine.specs.declared.event.Reply.{Reply}
 use Rattle.rq_engine.specs.declared.event.Reply.TheVariants as reply
 use Rattle.rq_engine.specs.Opened.{OpenStore, NotWritten}
-use Rattle.rq_engine.specs.Applied.{RefusalLeaves, WriteFails}
+use Rattle.rq_engine.specs.Applied.{RefusalLeaves}
 use Rattle.rq_engine.specs.Says.{begun_reply, writes_out}
 
 module _ {P L : Type 0} (old new : OpenStore P L) (e : Event) where

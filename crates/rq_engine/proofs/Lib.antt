@@ -7,3 +7,5 @@ pub mod SendCalls
 pub mod TakeCalls
 pub mod Crashing
 pub mod Leaving
+pub mod Listing
+pub mod Worked

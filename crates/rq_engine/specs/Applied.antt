@@ -1,14 +1,13 @@
 -- What one call makes of an open store: of its lists, of its devices, and of what a crash leaves of them.
-use Rattle.std.specs.Prelude.{◌≡◌, ◌↔◌, ℕ, true, false, Bool, List, slice_set, Ok, Err, Option, Some, None}
+use Rattle.std.specs.Prelude.{◌≡◌, ◌↔◌, ℕ, true, false, Bool, slice_set}
 use Rattle.rq_model.specs.declared.refusal.Refusal.TheVariants as why
-use Rattle.rq_disk.specs.Device.{Only}
 use Rattle.rq_disk.specs.declared.device.LogDevice as log_device
 use Rattle.rq_disk.specs.declared.device.PageDevice as page_device
 use Rattle.rq_log.specs.Crash.{LeavesOnly}
-use Rattle.rq_log.specs.Spelled.{spelled, IsBeginning}
+use Rattle.rq_log.specs.Spelled.{IsBeginning}
 use Rattle.rq_page.specs.Pages.{lsn_of}
 use Rattle.rq_pool.specs.Pooled.{image_at}
-use Rattle.rq_pool.specs.Writing.{DeviceAfter, changed_after}
+use Rattle.rq_pool.specs.Writing.{changed_after}
 use Rattle.rq_store.specs.Sound.{IsSound}
 use Rattle.rq_store.specs.Steps.{Steps}
 use Rattle.rq_engine.specs.declared.event.Event.{Event}
@@ -19,8 +18,9 @@ use Rattle.rq_engine.specs.declared.event.Reply.{Reply}
 use Rattle.rq_engine.specs.declared.event.Reply.TheVariants as reply
 use Rattle.rq_level.specs.Stored.{slots_in}
 use Rattle.rq_engine.specs.Answers.{IsGoing}
+use Rattle.rq_engine.specs.Lists.{ListsSay}
 use Rattle.rq_engine.specs.Sends.{TakesLowest}
-use Rattle.rq_engine.specs.Opened.{OpenStore, AreHonest, NotWritten, WritesWhen}
+use Rattle.rq_engine.specs.Opened.{OpenStore, AreHonest}
 use Rattle.rq_engine.specs.Crash.{AreFit, RunsThroughCuts}
 use Rattle.rq_engine.specs.Says.{IsCaused, LogSays, PagesSay, WritesSay, call_of, gave, writes_out, written_by}
 
@@ -68,6 +68,7 @@ pub record Applied {P L : Type 0} (p : page_device.Ghosts P) (l : log_device.Gho
   pub sizes : new.state.sizes ≡ old.state.sizes
   pub failed : (r ≡ reply.Refused why.Failed) ↔ (old.state.failed ≡ true)
   pub refused : RefusalLeaves old e r new
+  pub lists : ListsSay old.state e r new.state
   pub changes : ChangesSay old e r new
   pub starts : StartSays old e r new
   pub writes : WritesSay old e r

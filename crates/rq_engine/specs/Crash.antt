@@ -1,6 +1,6 @@
 -- What a crash leaves of an open store.
 use Rattle.std.specs.Prelude.{◌≡◌, ℕ, ◌+◌, ◌≤◌, List, length, take, drop}
-use Rattle.rq_disk.specs.Device.{Images, Leaves}
+use Rattle.rq_disk.specs.Device.{Images}
 use Rattle.rq_disk.specs.declared.device.LogDevice as log_device
 use Rattle.rq_disk.specs.declared.device.PageDevice as page_device
 use Rattle.rq_log.specs.Spelled.{spelled, AreSpelled}

@@ -1,5 +1,5 @@
 -- What is so of the fields of every engine, whatever log it was opened over.
-use Rattle.std.specs.Prelude.{◌≡◌, ℕ, ◌+◌, ◌-◌, ◌*◌, ◌^◌, ◌≤◌, Bool, false, List, length, Option, Some, None}
+use Rattle.std.specs.Prelude.{◌≡◌, ℕ, ◌+◌, ◌-◌, ◌*◌, ◌^◌, ◌≤◌, Bool, false, length, Option, Some, None}
 use Rattle.std.specs.List.{sum_by}
 use Rattle.rq_model.specs.Words.{In}
 use Rattle.rq_model.specs.Deeds.{spelled_deed}

@@ -8,3 +8,4 @@ pub mod Sends
 pub mod Crash
 pub mod Applied
 pub mod Devices
+pub mod Lists

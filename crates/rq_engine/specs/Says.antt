@@ -1,5 +1,5 @@
 -- Events and replies as the model's words: calls, and what they gave.
-use Rattle.std.specs.Prelude.{◌≡◌, ℕ, Bool, true, false, List, map, Option, Some, None, Result, Ok, Err}
+use Rattle.std.specs.Prelude.{◌≡◌, Bool, true, false, map, Option, Some, None, Result, Ok, Err}
 use Rattle.rq_model.specs.declared.refusal.Refusal.{Refusal}
 use Rattle.rq_model.specs.History.{Call}
 use Rattle.rq_model.specs.History.Call.{Begin as Call_begin, Start_send as Call_start_send, Start_receive as Call_start_receive, Start_receive_from as Call_start_receive_from, Write_page as Call_write_page, Step as Call_step, Finish as Call_finish, Commit as Call_commit, Acknowledge as Call_acknowledge, Hand_over as Call_hand_over, Force as Call_force, Show as Call_show}

@@ -16,6 +16,7 @@ ghost use Rattle.rq_store.specs.Sound.{IsSound};
 ghost use Rattle.rq_engine.specs.Opened.{LeavesDevices, NotWritten};
 ghost use Rattle.rq_engine.specs.Crash.{AreFit, LeavesCut};
 ghost use Rattle.rq_engine.specs.Answers.{Answers, IsReady};
+ghost use Rattle.rq_engine.specs.Lists.{IsBegun, IsCommitted};
 ghost use Rattle.rq_engine.specs.Says.{number_of, receipt_of};
 
 use crate::event::{CommitNo, Receipt};
@@ -203,6 +204,7 @@ impl<P: PageDevice, L: LogDevice> Engine<P, L> {
         ensures devices { LeavesDevices self.old self.new }
         ensures refused { OnErr result (self.new ≡ self.old) }
         ensures number { IfOk result (λ txn. txn ≡ record { incarnation = self.old.state.incarnation; count = self.old.state.begins + 1 }) }
+        ensures lists { IfOk result (λ txn. IsBegun self.old.state txn self.new.state) }
         ensures failed { (result ≡ Err Refusal.Failed) ↔ (self.old.state.failed ≡ true) }
     {
         self.check_running()?;
@@ -229,6 +231,7 @@ impl<P: PageDevice, L: LogDevice> Engine<P, L> {
         ensures number { IfOk result (λ number. number.txn ≡ txn) }
         ensures failed { (result ≡ Err Refusal.Failed) ↔ (self.old.state.failed ≡ true) }
         ensures records { OnOk result (self.new.state.records ≡ Commit_record txn ∷ self.old.state.records) }
+        ensures lists { IfOk result (λ number. IsCommitted self.old.state txn number self.new.state) }
         ensures devices { LeavesDevices self.old self.new }
         ensures refused { OnErr result (self.new ≡ self.old) }
     {

@@ -9,6 +9,7 @@ ghost use Rattle.rq_store.specs.Steps.{Steps};
 ghost use Rattle.rq_content.specs.Read.{group_of};
 ghost use Rattle.rq_engine.specs.Answers.{Answers};
 ghost use Rattle.rq_engine.specs.Applied.{Applied, ChangesSay, RefusalLeaves, StartSays};
+ghost use Rattle.rq_engine.specs.Lists.{ListsSay};
 ghost use Rattle.rq_engine.specs.Opened.{AreHonest};
 ghost use Rattle.rq_engine.specs.Says.{IsCaused, IsContent, LogSays, PagesSay, WritesSay, begun_reply, call_of, gave};
 
@@ -64,6 +65,7 @@ impl<P: PageDevice, L: LogDevice> Engine<P, L> {
         ensures log { LogSays L.LogDevice self.old self.new event.now result }
         ensures failed { (result ≡ Reply.Refused Refusal.Failed) ↔ (self.old.state.failed ≡ true) }
         ensures refused { RefusalLeaves self.old event.now result self.new }
+        ensures lists { ListsSay self.old.state event.now result self.new.state }
         ensures changes { ChangesSay self.old event.now result self.new }
         ensures starts { StartSays self.old event.now result self.new }
         ensures honest { AreHonest P.PageDevice L.LogDevice self.new → AreHonest P.PageDevice L.LogDevice self.old }

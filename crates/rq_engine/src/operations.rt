@@ -8,6 +8,7 @@ ghost use Rattle.rq_engine.specs.Opened.{LeavesDevices};
 ghost use Rattle.rq_engine.specs.Moves.{without_taken};
 ghost use Rattle.rq_engine.specs.Applied.{IsStamped, StepChanges};
 ghost use Rattle.rq_engine.specs.Answers.{Answers, IsGoing, NotGoing, Idle, CannotFinish, IsMade};
+ghost use Rattle.rq_engine.specs.Lists.{IsFinished, StepSays};
 ghost use Rattle.rq_engine.specs.Says.{progress_of, outcome_of};
 
 use crate::engine::Engine;
@@ -37,6 +38,7 @@ impl<P: PageDevice, L: LogDevice> Engine<P, L> {
         ensures refused { OnErr result (self.new ≡ self.old) }
         ensures failed { (result ≡ Err Refusal.Failed) ↔ (self.old.state.failed ≡ true) }
         ensures changed { IfOk result (λ progress. StepChanges self.old progress self.new) }
+        ensures lists { IfOk result (λ progress. StepSays self.old.state sub progress self.new.state) }
     {
         match self.next_write(sub) {
             Ok(Some(write)) => Ok(Progress::Done(self.make(sub, &write))),
@@ -52,6 +54,7 @@ impl<P: PageDevice, L: LogDevice> Engine<P, L> {
     pub fn finish(&mut self, sub: Sub) -> Result<Outcome, Refusal>
         ensures answered { Answers P.PageDevice L.LogDevice false false self.old (Finish sub.txn sub.number) outcome_of result self.new }
         ensures sizes { self.new.state.sizes ≡ self.old.state.sizes }
+        ensures lists { IfOk result (λ outcome. IsFinished self.old.state sub outcome self.new.state) }
         ensures devices { LeavesDevices self.old self.new }
         ensures refused { OnErr result (self.new ≡ self.old) }
         ensures failed { (result ≡ Err Refusal.Failed) ↔ (self.old.state.failed ≡ true) }

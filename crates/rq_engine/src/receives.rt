@@ -16,6 +16,7 @@ ghost use Rattle.rq_store.specs.Sound.{IsSound};
 ghost use Rattle.rq_store.specs.Plans.{IsTakePlan};
 ghost use Rattle.rq_engine.specs.Opened.{LeavesDevices};
 ghost use Rattle.rq_engine.specs.Answers.{Answers, IsReady};
+ghost use Rattle.rq_engine.specs.Lists.{IsTakeStarted, TakeSays, TakeFromSays};
 ghost use Rattle.rq_engine.specs.Receives.{IsTakeCall, started_of};
 ghost use Rattle.rq_engine.specs.Sends.{under_plan, FitsPlan};
 
@@ -39,6 +40,7 @@ impl<P: PageDevice, L: LogDevice> Engine<P, L> {
         ensures answered { Answers P.PageDevice L.LogDevice true false self.old (Start_receive txn) started_of result self.new }
         ensures sizes { self.new.state.sizes ≡ self.old.state.sizes }
         ensures sub { IfOk result (λ begun. IfSome begun (λ sub. sub.txn ≡ txn)) }
+        ensures lists { IfOk result (λ begun. TakeSays self.old.state txn begun self.new.state) }
         ensures none { IfOk result (λ begun. IfNone begun (self.new ≡ self.old)) }
         ensures latched { IfOk result (λ begun. IfSome begun (λ _. any_under self.old.state.rows ≡ false)) }
         ensures devices { LeavesDevices self.old self.new }
@@ -64,6 +66,7 @@ impl<P: PageDevice, L: LogDevice> Engine<P, L> {
         ensures answered { Answers P.PageDevice L.LogDevice true false self.old (Start_receive_from txn sender) started_of result self.new }
         ensures sizes { self.new.state.sizes ≡ self.old.state.sizes }
         ensures sub { IfOk result (λ begun. IfSome begun (λ sub. sub.txn ≡ txn)) }
+        ensures lists { IfOk result (λ begun. TakeFromSays self.old.state txn sender begun self.new.state) }
         ensures none { IfOk result (λ begun. IfNone begun (self.new ≡ self.old)) }
         ensures latched { IfOk result (λ begun. IfSome begun (λ _. any_under self.old.state.rows ≡ false)) }
         ensures devices { LeavesDevices self.old self.new }
@@ -96,6 +99,7 @@ impl<P: PageDevice, L: LogDevice> Engine<P, L> {
         ensures answered { (call : Call) → IsTakeCall txn sender call → Answers P.PageDevice L.LogDevice true false self.old call (λ sub. started_of (Some sub)) result self.new }
         ensures sizes { self.new.state.sizes ≡ self.old.state.sizes }
         ensures sub { IfOk result (λ sub. sub.txn ≡ txn) }
+        ensures lists { IfOk result (λ sub. IsTakeStarted self.old.state txn sender sub self.new.state) }
         ensures latched { OnOk result (any_under self.old.state.rows ≡ false) }
         ensures devices { LeavesDevices self.old self.new }
         ensures refused { OnErr result (self.new ≡ self.old) }

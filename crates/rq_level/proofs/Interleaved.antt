@@ -15,7 +15,7 @@ use Rattle.rq_level.specs.Row.{small, t1, a1, b1, new_a, new_b, end_a, row}
 plan_a : IsAppend small 0 1 7 0 (104 ∷ []) (end_a ∷ new_a ∷ [])
 plan_a = record { directory = new_directory; new = 49; old = None; used = omega arith; sequence = refl; previous_is = refl; old_is = refl; writes = refl }
 
-first_of_a : May small (Restart 1 ∷ []) (PageOp a1 new_a)
+pub first_of_a : May small (Restart 1 ∷ []) (PageOp a1 new_a)
 first_of_a = record {
   write = record { before = refl; alone = λ u n. refl };
   uncrossed = refl;

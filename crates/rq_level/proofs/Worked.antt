@@ -1,11 +1,12 @@
 -- The worked logs keep every rule; what each rule refuses is refused.
-use Rattle.std.proofs.Common.{◌≡◌, ℕ, ◌<◌, List, [], ◌∷◌, length, true, false, inl, inr, refl, ◌∙◌, ap, subst, arith}
+use Rattle.std.proofs.Common.{◌≡◌, ℕ, ◌<◌, List, [], ◌∷◌, length, true, false, inl, inr, refl, ◌∙◌, ap, subst, arith, length-append}
 use Rattle.std.proofs.lemmas.Bool.{cases_Bool, false≢true, true≢false, eqb-true}
 use Rattle.rq_model.specs.declared.record.Deed.TheVariants.{Close}
 use Rattle.rq_model.specs.declared.txn.Txn.{Txn}
 use Rattle.rq_model.specs.Words.{same_txn}
 use Rattle.rq_model.proofs.Lists.{same_self}
-use Rattle.rq_level.specs.Chain.{View, AreTaken}
+use Rattle.rq_level.specs.Chain.{View, AreTaken, AreSent}
+use Rattle.rq_level.specs.Chain.Sending.{TailUnlinked}
 use Rattle.rq_level.specs.Chain.Taking.{Took}
 use Rattle.rq_level.specs.Claims.{HasRoom}
 use Rattle.rq_level.specs.Numbers.{AreNumbered}
@@ -13,9 +14,9 @@ use Rattle.rq_level.specs.Groups.{is_sending, is_taking, side, with_all, Alone, 
 use Rattle.rq_level.specs.Legal.{open_deeds, view}
 use Rattle.rq_level.specs.Log.{Item}
 use Rattle.rq_level.specs.Row.{t1, t2, sends, takes, row, committed_one, done_two, stopped, restarted}
-use Rattle.rq_level.specs.Worked.{KeepsAll, WorkedLogs, RefusedRecords, one_waits}
+use Rattle.rq_level.specs.Worked.{KeepsAll, WorkedLogs, RefusedRecords, nothing, one_waits}
 use Rattle.rq_level.proofs.GroupRule.{row_groups}
-use Rattle.rq_level.proofs.Interleaved.{row_legal}
+use Rattle.rq_level.proofs.Interleaved.{row_legal, first_of_a}
 use Rattle.rq_level.proofs.Rows.{restarted_legal, taken_legal, closed_legal, stopped_spares, stopped_writes}
 
 may_send : (log : List Item) (t : Txn) (q : ℕ) → Alone (is_sending q) t log → Told (sends q) (view log q) → (s : ℕ)
@@ -118,6 +119,9 @@ two_takes w h = let bad : [] ≡ (8, 105 ∷ []) ∷ h.2.0 = none_left h.0 h.1 �
   none_left : (rest : List (ℕ × List ℕ)) → (7, 104 ∷ []) ∷ [] ≡ (7, 104 ∷ []) ∷ rest → [] ≡ rest
   none_left rest e = cc
 
+no_tail : (w : View) → AreSent (TailUnlinked 0 ∷ []) nothing w → ⊥
+no_tail w h = let n = ap length h.2 in let m = length-append h.0 (h.1 ∷ []) in omega (arith, n, m)
+
 pub refused : RefusedRecords
 refused = record {
   taken_keeps = record {
@@ -145,4 +149,12 @@ refused = record {
   commit_after_undo = λ log t m k h. (let e : true ≡ false = rw (same_self t) at h in true≢false e);
   undo_met = ((refl, refl, refl), ([], refl, refl), ((8, 105 ∷ []) ∷ [], refl, refl));
   undo_not_met = two_takes;
+  put_back_met = (([], refl, refl), refl, refl);
+  put_back_gives = refl;
+  put_back_not_done = λ h. (let e = h.1 in cc e);
+  put_back_not_met = no_tail;
+  page_op_met = first_of_a;
+  page_op_of_another_slot = λ h. (let e = h.write.before in cc e);
+  page_op_after_end = λ w h. true≢false h.going;
+  page_op_after_commit = λ n w h. true≢false h.running;
 }

@@ -9,19 +9,20 @@ use Rattle.rq_model.specs.declared.txn.Txn.{Txn}
 use Rattle.rq_page.specs.Directories.{new_directory}
 use Rattle.rq_page.specs.Sizes.{cell_count}
 use Rattle.rq_page.specs.Slots.Slot.{Free, Used, Sender}
-use Rattle.rq_level.specs.Chain.{View, AreTaken}
+use Rattle.rq_level.specs.Chain.{View, AreTaken, AreSent}
+use Rattle.rq_level.specs.Chain.Sending.{Sent, TailUnlinked}
 use Rattle.rq_level.specs.Chain.Taking.{Took}
 use Rattle.rq_level.specs.Claims.{claimed, MayClaim, HasRoom}
 use Rattle.rq_level.specs.Groups.{MayGroup, KeepsGroups, committed}
-use Rattle.rq_level.specs.Inverses.{CanBeDone}
+use Rattle.rq_level.specs.Inverses.{CanBeDone, inverse}
 use Rattle.rq_level.specs.Items.{ReadsOne}
-use Rattle.rq_level.specs.Legal.{Legal, MayRestart, open_deeds, view}
-use Rattle.rq_level.specs.Log.{Item, state_of}
-use Rattle.rq_level.specs.Log.Item.{PageOp, OpEnd}
+use Rattle.rq_level.specs.Legal.{Legal, MayPageOp, MayRestart, open_deeds, view}
+use Rattle.rq_level.specs.Log.{Item, Write, state_of}
+use Rattle.rq_level.specs.Log.Item.{PageOp, OpEnd, Commit, Restart}
 use Rattle.rq_level.specs.Numbers.{greatest, IsNumbered, AreNumbered}
 use Rattle.rq_level.specs.Plans.{Spares, Turn, with_turn}
 use Rattle.rq_level.specs.Plans.Turn.{Did}
-use Rattle.rq_level.specs.Row.{sizes, small, t2, of, b1, cell, new_b, sends, row, done_two, stopped, taken_back, restarted, taken_one, closed_one}
+use Rattle.rq_level.specs.Row.{sizes, small, t1, t2, of, a1, b1, cell, new_a, new_b, sends, takes, row, committed_one, done_two, stopped, taken_back, restarted, taken_one, closed_one}
 
 -- the log keeps every rule
 pub record KeepsAll (log : List Item) : Type 0 where
@@ -65,6 +66,14 @@ pub record WorkedLogs : Type 0 where
 abbrev pub sends_second : Turn
 sends_second = Did (Append 0 2 8 7 (105 ∷ []))
 
+-- a receive of the first message
+abbrev pub takes_first : Turn
+takes_first = Did (takes 0)
+
+-- a write over a cell that is used
+abbrev pub over_used : Write
+over_used = record { at = 49; before = Used (cell 0); after = Free }
+
 -- what may not come next, each after a log that keeps every rule
 pub record RefusedRecords : Type 0 where
   -- of a store with one cell: a send while a message that was in it is taken and may go back
@@ -90,3 +99,15 @@ pub record RefusedRecords : Type 0 where
   pub undo_met : CanBeDone sends_second one_waits × AreTaken (Took 7 (104 ∷ []) ∷ []) one_waits one_taken
       × AreTaken (Took 7 (104 ∷ []) ∷ []) (with_turn sends_second one_waits) (with_turn sends_second one_taken)
   pub undo_not_met : (w : View) → AreTaken (Took 7 (104 ∷ []) ∷ Took 8 (105 ∷ []) ∷ []) one_waits w → ⊥
+  -- A receive is taken back around a send behind what it took, and that gives what the send alone would have given. None
+  -- can be done where no message waits, and no send can be taken back there.
+  pub put_back_met : CanBeDone takes_first one_waits × AreSent (Sent 8 (105 ∷ []) ∷ []) one_waits (with_turn sends_second one_waits)
+      × AreSent (Sent 8 (105 ∷ []) ∷ []) (with_turn takes_first one_waits) (with_turn sends_second one_taken)
+  pub put_back_gives : with_turn (inverse takes_first) (with_turn sends_second one_taken) ≡ with_turn sends_second one_waits
+  pub put_back_not_done : CanBeDone takes_first nothing → ⊥
+  pub put_back_not_met : (w : View) → AreSent (TailUnlinked 0 ∷ []) nothing w → ⊥
+  -- A slot write may come where its slot holds what it tells, and its operation and its transaction go on.
+  pub page_op_met : MayPageOp small (Restart 1 ∷ []) a1 new_a
+  pub page_op_of_another_slot : MayPageOp small (Restart 1 ∷ []) a1 over_used → ⊥
+  pub page_op_after_end : (w : Write) → MayPageOp small committed_one a1 w → ⊥
+  pub page_op_after_commit : (n : ℕ) (w : Write) → MayPageOp small (Commit t1 ∷ Restart 1 ∷ []) (of t1 n) w → ⊥

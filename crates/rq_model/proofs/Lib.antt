@@ -19,3 +19,5 @@ pub mod Placed
 pub mod Replayed
 pub mod Bridges
 pub mod Sent
+pub mod JudgedRefusals
+pub mod JudgedLogs

@@ -12,3 +12,5 @@ pub mod Counts
 pub mod Incarnations
 pub mod Promises
 pub mod Worked
+pub mod WorkedRefusals
+pub mod WorkedLogs

@@ -11,6 +11,8 @@ ghost use Rattle.rq_model.specs.History.{Entry};
 ghost use Rattle.rq_model.specs.Promises.{AcknowledgedStay, CrashGoesOn, FifoThroughout, NothingBehindClose, ReplayGoesOn, RestartGoesOn, ShutCrashGoesOn};
 ghost use Rattle.rq_model.specs.Legal.{Size, IsLegal};
 ghost use Rattle.rq_model.specs.Worked.{AreWorked};
+ghost use Rattle.rq_model.specs.WorkedLogs.{LogsAreWorked};
+ghost use Rattle.rq_model.specs.WorkedRefusals.{RefusalsAreWorked};
 
 /// Over every history with legal replies, at every place of it: what committed transactions received from a sender is a
 /// beginning of what they sent for it, in order, each once; nothing that is committed was sent after a committed close.
@@ -73,4 +75,14 @@ pub fn cut_leaves_a_beginning()
 /// Worked histories, each legal or refused as it should be, and what goes on with them.
 pub fn histories_are_judged()
     ensures { AreWorked }
+{}
+
+/// Where refusals may come that no other worked history has, and where they may not.
+pub fn refusals_are_judged()
+    ensures { RefusalsAreWorked }
+{}
+
+/// Worked logs: which keep the rules, what they come to, and what those come to that don't.
+pub fn logs_are_judged()
+    ensures { LogsAreWorked }
 {}

@@ -1,7 +1,7 @@
 //! The pages of the store, all of them in memory, over their device.
 #![tactic(auto)]
 
-ghost use Rattle.std.specs.Prelude.{◌≡◌, ◌≢◌, ◌↔◌, ◌<◌, ◌≤◌, ◌+◌, ◌^◌, ◌/◌, ◌%◌, ℕ, true, false, IsSome, IfSome, IfNone, IfErr, IfOk, OnOk, length, replicate, slice_set};
+ghost use Rattle.std.specs.Prelude.{◌≡◌, ◌≢◌, ◌↔◌, ◌<◌, ◌≤◌, ◌+◌, ◌^◌, ◌/◌, ◌%◌, ℕ, true, false, IsSome, IfSome, IfNone, IfErr, IfOk, OnOk, OnErr, length, replicate, slice_set};
 ghost use Rattle.std.specs.Bool.{OnFalse};
 ghost use Rattle.rq_page.specs.Sizes.{IsCellAddress, page_count, sender_count, cell_count, directory_at};
 ghost use Rattle.rq_page.specs.Pages.{IsWritten};
@@ -9,7 +9,7 @@ ghost use Rattle.rq_page.specs.Slots.{Free, Sender, held_in, IsSlotOf, IsCellOf,
 ghost use Rattle.rq_level.specs.Log.{cell_in, put};
 ghost use Rattle.rq_level.specs.Stored.{IsStoreSlot, slot_at, slots_in, is_used, count_used};
 ghost use Rattle.rq_pool.specs.Pooled.{IsPool, image_at, is_changed};
-ghost use Rattle.rq_pool.specs.Reading.{OnlyRead as WasRead};
+ghost use Rattle.rq_pool.specs.Reading.{HasAnswered, NotReadAgain, OnlyRead as WasRead};
 
 mod frames;
 mod reading;
@@ -203,10 +203,11 @@ impl<P: PageDevice> Pages<P> {
     }
 
     /// Reads a page back into its frame, where it has no change that was not written. The pages stay as they are where
-    /// the device has been honest; and whatever it answered, they are pages of a store.
+    /// the device has been honest; and whatever it answered, they are pages of a store. Where it is read, the device ran,
+    /// and the frame holds what the device reads there.
     ///
     /// # Errors
-    /// `DiskRead`, `Damaged` where what was read is no page of a store: nothing changed.
+    /// `DiskRead` where the read failed, `Damaged` where what was read is no page of a store: nothing changed.
     #[tactic(auto, using(crate::proofs::Over::over_read, crate::proofs::Over::over_fixed, crate::proofs::Over::page_fixed, crate::proofs::Over::pool_set))]
     pub fn fix(&mut self, number: u32) -> Result<(), Refusal>
         requires low { 1 ≤ number }
@@ -214,6 +215,10 @@ impl<P: PageDevice> Pages<P> {
         requires clean { is_changed self.old.changed number ≡ false }
         ensures images { P.honest self.new.device → self.new.images ≡ self.old.images }
         ensures others { (p : ℕ) → p ≢ number → image_at self.new.images p ≡ image_at self.old.images p }
+        ensures read { OnOk result (P.honest self.new.device → image_at self.new.images number ≡ P.seen self.old.device number) }
+        ensures answered { OnOk result (HasAnswered P.PageDevice self.old.device self.new.device) }
+        ensures refused { IfErr result (λ e. NotReadAgain P.PageDevice self.old.sizes number e self.old.device self.new.device) }
+        ensures left { OnErr result (self.new.images ≡ self.old.images) }
         ensures pool { IsPool self.new.sizes self.new.images }
         ensures sizes { self.new.sizes ≡ self.old.sizes }
         ensures changed { self.new.changed ≡ self.old.changed }

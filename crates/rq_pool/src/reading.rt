@@ -2,7 +2,7 @@
 ghost use Rattle.std.specs.Prelude.{ℕ, ◌≡◌, ◌↔◌, ◌<◌, ◌≤◌, ◌+◌, ◌%◌, ◌^◌, ◌++◌, ◌∷◌, [], false, replicate, IsTrue, IfOk, IfErr, OnOk};
 ghost use Rattle.rq_page.specs.Sizes.{page_count};
 ghost use Rattle.rq_pool.specs.Frames.{images_of, changed_of};
-ghost use Rattle.rq_pool.specs.Reading.{OnlyRead, IsSuperblock, IsSound, ArePages, AreSeen, StopsFor};
+ghost use Rattle.rq_pool.specs.Reading.{OnlyRead, HasAnswered, IsSuperblock, IsSound, ArePages, AreSeen, NotReadAgain, StopsFor};
 
 use crate::Frame;
 use rq_disk::{PAGE, PageDevice};
@@ -61,8 +61,9 @@ pub(crate) fn read_again<P: PageDevice>(
     number: u32,
 ) -> Result<Page, Refusal>
     ensures ok { IfOk result (λ page. (P.honest device.new → page ≡ P.seen device.old number) × IsSound layout.now number page) }
-    ensures cause { OnOk result (P.faults device.new ≡ P.faults device.old) }
+    ensures answered { OnOk result (HasAnswered P.PageDevice device.old device.new) }
     ensures err { IfErr result (λ e. P.honest device.new → IsSound layout.now number (P.seen device.old number) → (e ≡ Refusal.DiskRead) × (P.faults device.new ≡ (P.faults device.old + 1) % 2 ^ 64)) }
+    ensures refused { IfErr result (λ e. NotReadAgain P.PageDevice layout.now number e device.old device.new) }
     ensures device { OnlyRead P.PageDevice device.old device.new }
 {
     let page = read_page(device, number)?;
@@ -114,6 +115,7 @@ fn add_frame(frames: &mut Vec<Frame>, page: Page) -> Result<(), Refusal>
 fn read_page<P: PageDevice>(device: &mut P, number: u32) -> Result<Page, Refusal>
     ensures ok { IfOk result (λ page. P.honest device.new → page ≡ P.seen device.old number) }
     ensures cause { OnOk result (P.faults device.new ≡ P.faults device.old) }
+    ensures answered { OnOk result (HasAnswered P.PageDevice device.old device.new) }
     ensures err { IfErr result (λ e. (e ≡ Refusal.DiskRead) × (P.faults device.new ≡ (P.faults device.old + 1) % 2 ^ 64)) }
     ensures device { OnlyRead P.PageDevice device.old device.new }
 {

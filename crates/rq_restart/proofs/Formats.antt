@@ -6,7 +6,7 @@ use Rattle.rq_page.specs.Sizes.{Sizes, page_count}
 use Rattle.rq_page.specs.Formatted.{IsFormatted}
 use Rattle.rq_disk.specs.Device.{Images, Holds, Written, NoMore, Leaves, Elapses, Only}
 use Rattle.rq_disk.specs.declared.device.PageDevice.{Ghosts}
-use Rattle.rq_restart.specs.Formatting.{IsBeforeOrFormatted, SuperblockIsLast}
+use Rattle.rq_restart.specs.Formatting.{IsBeforeOrFormatted, SuperblockIsLast, WritesItsPages}
 
 pub formatted_all : (z : Sizes) (old new : ℕ → List ℕ) (image : List ℕ) → ((p : ℕ) → 1 ≤ p → p < page_count z → IsFormatted z p (old p)) → Holds old 0 image new → IsFormatted z 0 image → (p : ℕ) → p < page_count z → IsFormatted z p (new p)
 formatted_all z old new image h holds first zero lt = subst (IsFormatted z 0) (sym (holds 0)) first
@@ -74,3 +74,28 @@ module _ {P : Type 0} (p : Ghosts P) (z : Sizes) (old : P) where
 
     first : (c : List ℕ) → p.may_be new 0 c → p.may_be old 0 c ⊎ IsFormatted z 0 c
     first c may = t.first c (crash 0 c may)
+
+  -- each page is as before or formatted
+  pub record IsWithin (now : P) : Type 0 where
+    pub run : WritesItsPages p z old now
+    pub each : (q : ℕ) (c : List ℕ) → p.may_be now q c → p.may_be old q c ⊎ ((q < page_count z) × IsFormatted z q c)
+
+  pub within_first : ((d : P) (c : Images) → p.left_since d (p.moment d) c → Leaves (p.may_be d) c) → IsWithin old
+  within_first only_now = record { run = record { later = omega arith; each = λ images since q. inl (only_now old images since q) }; each = λ q c may. inl may }
+
+  within_on : (mid new : P) → IsWithin mid → ((q : ℕ) (c : List ℕ) → p.may_be new q c → p.may_be old q c ⊎ ((q < page_count z) × IsFormatted z q c)) → Elapses (p.moment mid) (p.moment new) (p.left_since mid) (p.left_since new) (Leaves (p.may_be new)) → IsWithin new
+  within_on mid new w each time = record {
+    run = record {
+      later = let a = w.run.later in let b = time.later in omega (arith, a, b);
+      each = λ images since. ⊎_elim (w.run.each images) (λ all q. each q (images q) (all q)) (time.nothing_else (p.moment old) images w.run.later since);
+    };
+    each = each;
+  }
+
+  -- a page of the store is written
+  pub within_written : (mid new : P) (n : ℕ) (image : List ℕ) → IsWithin mid → n < page_count z → IsFormatted z n image → Written n image (p.may_be mid) (p.may_be new) → Elapses (p.moment mid) (p.moment new) (p.left_since mid) (p.left_since new) (Leaves (p.may_be new)) → IsWithin new
+  within_written mid new n image w below is crash =
+      within_on mid new w (λ q c may. ⊎_elim (w.each q c) (λ here. inr (subst (λ (k : ℕ). (k < page_count z) × IsFormatted z k c) (sym here.0) (below, subst (IsFormatted z n) (sym here.1) is))) (crash q c may))
+
+  pub within_synced : (mid new : P) → IsWithin mid → NoMore (p.may_be mid) (p.may_be new) → Elapses (p.moment mid) (p.moment new) (p.left_since mid) (p.left_since new) (Leaves (p.may_be new)) → IsWithin new
+  within_synced mid new w crash = within_on mid new w (λ q c may. w.each q c (crash q c may))

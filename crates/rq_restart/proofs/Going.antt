@@ -4,7 +4,7 @@ use Rattle.std.proofs.lemmas.List.{reverse-append, take-append-drop, drop_at, le
 use Rattle.rq_model.specs.declared.record.Record.{Record}
 use Rattle.rq_page.specs.Sizes.{Sizes}
 use Rattle.rq_level.specs.InStore.{InStore}
-use Rattle.rq_model.specs.Incarnations.{InOrder, IsNext, incarnation_of}
+use Rattle.rq_model.specs.Incarnations.{InOrder, IsNext}
 use Rattle.rq_store.specs.Opening.{FitsUpTo, Redoes, MayRedo, IsLeft}
 use Rattle.rq_store.specs.Fitting.{oldest, told_by}
 use Rattle.rq_store.proofs.Fitting.{oldest_all}

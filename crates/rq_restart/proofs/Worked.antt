@@ -1,5 +1,5 @@
 -- Logs that are gone through, and logs that are not; a store that a crash leaves, and what is none.
-use Rattle.std.proofs.Common.{◌≡◌, ℕ, ◌<◌, List, [], ◌∷◌, length, refl, sym, ◌∙◌, ap, subst, arith, length-append}
+use Rattle.std.proofs.Common.{◌≡◌, ℕ, ◌<◌, List, [], ◌∷◌, length, refl, sym, ◌∙◌, ap, subst, arith, length-append, true, false}
 use Rattle.rq_model.specs.declared.txn.Txn.{Txn}
 use Rattle.rq_model.specs.declared.record.Record.{Record}
 use Rattle.rq_model.specs.declared.record.Record.TheVariants as records
@@ -14,6 +14,12 @@ use Rattle.rq_log.specs.Spelled.{spelled, AreSpelled}
 use Rattle.rq_store.specs.Sound.{IsWhole}
 use Rattle.rq_store.specs.Fitting.{AllFit}
 use Rattle.rq_store.proofs.Cutting.{fits_log}
+use Rattle.std.proofs.lemmas.Bool.{true≢false}
+use Rattle.rq_model.specs.Content.{has_end}
+use Rattle.rq_model.proofs.Lists.{same_self}
+use Rattle.rq_level.specs.Row.{stopped, restarted}
+use Rattle.rq_store.specs.Worked.{spelled_log}
+use Rattle.rq_restart.specs.Restarting.{IsEnded}
 use Rattle.rq_restart.specs.Repeating.{Paged, Repeats}
 use Rattle.rq_engine.specs.Devices.{EachPair}
 use Rattle.rq_restart.specs.Underway.{IsSomeStore}
@@ -55,3 +61,18 @@ no_store z images s = by s.0 s.1.are_spelled s.1.is where
       let m = length-append (spelled log) (spelling r) in
       let long = long_spelling r are.0 in
       omega (arith, n, m, long)
+
+-- of a whole log, that everything has ended is that nothing is unfinished or lost: so it is of one that a restart
+-- ended, and not of one that a crash stopped
+restarted_ended : IsEnded (spelled_log restarted)
+restarted_ended = (refl, refl)
+
+stopped_not_ended : IsEnded (spelled_log stopped) → ⊥
+stopped_not_ended e = let none = e.0 in cc none
+
+-- a log in which a transaction is committed twice is not whole
+not_whole : (z : Sizes) (t : Txn) → IsWhole z (records.Commit t ∷ records.Commit t ∷ []) → ⊥
+not_whole z t w =
+    let e : has_end (records.Commit t ∷ []) t ≡ false = w.rules.1 t (rw (same_self t) refl) in
+    let y : has_end (records.Commit t ∷ []) t ≡ true = rw (same_self t) refl in
+    true≢false (sym y ∙ e)

@@ -1,10 +1,10 @@
 //! A new store.
-ghost use Rattle.std.specs.Prelude.{◌≡◌, ◌<◌, ◌+◌, ◌%◌, ◌^◌, ℕ, [], OnOk, IfErr};
+ghost use Rattle.std.specs.Prelude.{◌≡◌, ◌≢◌, ◌<◌, ◌+◌, ◌%◌, ◌^◌, ℕ, [], OnOk, IfErr};
 ghost use Rattle.rq_disk.specs.Device.{Holds, Only, Written, NoMore, Leaves, Elapses};
 ghost use Rattle.rq_page.specs.Sizes.{page_count};
 ghost use Rattle.rq_page.specs.Formatted.{IsFormatted};
 ghost use Rattle.rq_store.specs.Fitting.{AllFit, FitsLog};
-ghost use Rattle.rq_restart.specs.Formatting.{SuperblockIsLast};
+ghost use Rattle.rq_restart.specs.Formatting.{HasRun, KeepsOthers, SuperblockIsLast, WritesItsPages};
 
 use rq_disk::{PAGE, PageDevice};
 use rq_model::refusal::Refusal;
@@ -12,15 +12,21 @@ use rq_page::layout::Layout;
 use rq_page::page::Page;
 
 /// Writes the pages of an empty store with so many directory and cell pages, and syncs them; the
-/// superblock last, behind a sync of the others, so that a store that was not formatted to its end does not open.
+/// superblock last, behind a sync of the others, so that a store that was not formatted to its end does not open. No
+/// other page is touched.
 ///
 /// # Errors
-/// `DiskWrite` where the device fails: format again.
+/// `DiskWrite` exactly where the device fails: format again.
 pub fn format<P: PageDevice>(pages: &mut P, layout: &Layout) -> Result<(), Refusal>
     ensures formatted { OnOk result ((p : ℕ) → p < page_count layout.now → IsFormatted layout.now p (P.seen pages.new p)) }
     ensures fits { OnOk result (FitsLog layout.now (P.seen pages.new) []) }
     ensures durable { OnOk result (AllFit (P.may_be pages.new) layout.now []) }
     ensures any_moment { SuperblockIsLast P.PageDevice layout.now pages.old pages.new }
+    ensures only { WritesItsPages P.PageDevice layout.now pages.old pages.new }
+    ensures others { KeepsOthers P.PageDevice layout.now pages.old pages.new }
+    ensures honest { P.honest pages.new → P.honest pages.old }
+    ensures runs { OnOk result (HasRun P.PageDevice pages.old pages.new) }
+    ensures cause { OnOk result (P.faults pages.new ≡ P.faults pages.old) }
     ensures err { IfErr result (λ e. (e ≡ Refusal.DiskWrite) × (P.faults pages.new ≡ (P.faults pages.old + 1) % 2 ^ 64)) }
 {
     let mut page = Page::from_image(&[0; PAGE]);
@@ -40,6 +46,9 @@ fn write_formatted<P: PageDevice>(
 ) -> Result<(), Refusal>
     requires { number < page_count layout.now }
     ensures formatted { IsFormatted layout.now number page.new }
+    ensures others { (p : ℕ) → p ≢ number → P.seen pages.new p ≡ P.seen pages.old p }
+    ensures honest { P.honest pages.new → P.honest pages.old }
+    ensures runs { OnOk result (HasRun P.PageDevice pages.old pages.new) }
     ensures crash { Written number page.new (P.may_be pages.old) (P.may_be pages.new) }
     ensures time { Elapses (P.moment pages.old) (P.moment pages.new) (P.left_since pages.old) (P.left_since pages.new) (Leaves
         (P.may_be pages.new)) }
@@ -56,6 +65,8 @@ fn write_formatted<P: PageDevice>(
 
 fn sync<P: PageDevice>(pages: &mut P) -> Result<(), Refusal>
     ensures seen { P.seen pages.new ≡ P.seen pages.old }
+    ensures honest { P.honest pages.new → P.honest pages.old }
+    ensures runs { OnOk result (HasRun P.PageDevice pages.old pages.new) }
     ensures crash { NoMore (P.may_be pages.old) (P.may_be pages.new) }
     ensures time { Elapses (P.moment pages.old) (P.moment pages.new) (P.left_since pages.old) (P.left_since pages.new) (Leaves
         (P.may_be pages.new)) }

@@ -1,5 +1,6 @@
 -- Worked sessions: what the laws say of them, and what they rule out.
-use Rattle.std.proofs.Common.{◌≡◌, true, false, List, [], ◌∷◌, refl}
+use Rattle.std.proofs.Common.{◌≡◌, ℕ, ◌+◌, ◌≤◌, Bool, true, false, Option, Some, None, List, [], ◌∷◌, refl, ap, ⊎_elim, arith}
+use Rattle.std.proofs.lemmas.Bool.{false≢true}
 use Rattle.rq_model.specs.declared.txn.Txn.{Txn}
 use Rattle.rq_model.specs.declared.txn.Sub.{Sub}
 use Rattle.rq_model.specs.declared.refusal.Refusal.TheVariants.{NoMemory, Latched}
@@ -9,11 +10,14 @@ use Rattle.rq_session.specs.declared.calls.Ask.TheVariants as asks
 use Rattle.rq_session.specs.declared.calls.Commit.{Commit}
 use Rattle.rq_session.specs.declared.calls.Told.TheVariants as told
 use Rattle.rq_session.specs.declared.calls.Action.TheVariants.{Do, Again}
+use Rattle.rq_session.specs.declared.stage.Held.{Held}
 use Rattle.rq_session.specs.declared.stage.Held.TheVariants.{Free, Open}
+use Rattle.rq_session.specs.declared.stage.Next.{Next}
+use Rattle.rq_session.specs.declared.stage.Stage.{Stage}
 use Rattle.rq_session.specs.declared.stage.Purpose.TheVariants as purposes
 use Rattle.rq_session.specs.declared.stage.Stage.TheVariants as stages
-use Rattle.rq_session.specs.Rules.{next, answered, after_told}
-use Rattle.rq_session.specs.Laws.{Handed, asked, heard, gone, standing}
+use Rattle.rq_session.specs.Rules.{next, answered, after_told, after_loss}
+use Rattle.rq_session.specs.Laws.{Handed, asked, heard, gone, standing, Turn, Takes, Lost, Balanced, MayAgain, IsAgain, IsAborting}
 
 abbrev t : Txn
 t = record { incarnation = 1; count = 1 }
@@ -26,6 +30,18 @@ durable = record { txn = t; lsn = 5 }
 
 abbrev another : Commit
 another = record { txn = t; lsn = 4 }
+
+abbrev count_of : Option Txn → ℕ
+count_of None = 0
+count_of (Some x) = x.count
+
+is_ended : Stage → Bool
+is_ended stages.Ended = true
+is_ended _ = false
+
+rest_not_ended : {h : Held} → stages.Rest h ≡ stages.Ended → ⊥
+unfolding is_ended
+rest_not_ended e = let b : false ≡ true = ap is_ended e in false≢true b
 
 -- a begin and a send, the newest first
 abbrev sent : List Handed
@@ -72,3 +88,44 @@ no_memory_for_a_start = refl
 own_number : after_told false (stages.Start (Open t)) (told.Started (record { txn = record { incarnation = 1; count = 9 }; number = 1 }))
     ≡ next (Do (asks.Step first)) (stages.Step first purposes.Request)
 own_number = refl
+
+abbrev other : Txn
+other = record { incarnation = 1; count = 9 }
+
+-- a turn that names another's transaction, that answers a commit without its own receipt, or that answers twice, is none
+names_another : Turn (stages.Step first purposes.Request) told.Ready (next (Do (asks.Finish (record { txn = other; number = 1 }))) (stages.Finish first purposes.Request)) → ⊥
+names_another turn = let e = turn.own_call in let n = ap count_of e in omega (arith, n)
+
+answers_too_early : Turn (stages.Await durable) (told.Durable another) (answered (answers.Committed 5) Free) → ⊥
+answers_too_early turn = let e = turn.receipt.0 in cc e
+
+answers_at_rest : Turn (stages.Rest (Open t)) told.Sent (answered answers.Sent (Open t)) → ⊥
+answers_at_rest turn = ⊎_elim (λ e. let s = ap (λ (n : Next). n.stage) e in rest_not_ended s) (λ e. omega (arith, e)) turn.once
+
+-- where a call may be made again it is, and where not it is not
+undo_may_again : MayAgain (stages.UndoNext t) Latched × IsAgain (after_told false (stages.UndoNext t) (told.Refused Latched)).action
+undo_may_again = (tt, tt)
+
+start_may_not_again : MayAgain (stages.Start (Open t)) Latched → ⊥
+start_may_not_again may = may
+
+start_is_not_again : IsAgain (after_told false (stages.Start (Open t)) (told.Refused Latched)).action → ⊥
+start_is_not_again is = is
+
+-- a request's first call is of the session's own transaction
+takes_another : Takes (Open t) (next (Do (asks.Commit other)) (stages.Commit (Open t))) → ⊥
+takes_another takes = let n = ap count_of takes.own_call in omega (arith, n)
+
+-- a lost session aborts; one that rests does not
+lost_aborts : IsAborting (after_loss (stages.Rest (Open t))).stage
+lost_aborts = tt
+
+rests_on : Lost (stages.Rest (Open t)) (next (Do (asks.LastTag 0)) (stages.Rest (Open t))) → ⊥
+rests_on lost = lost.aborts
+
+-- an answer more than there were requests is out of balance
+answered_twice : Balanced (record { stage = stages.Rest Free; lost = false; requests = 1; answers = 2 }) → ⊥
+answered_twice b = let e = b.0 in omega (arith, e)
+
+never_answered : Balanced (record { stage = stages.Rest Free; lost = false; requests = 1; answers = 0 }) → ⊥
+never_answered b = ⊎_elim rest_not_ended (λ e. omega (arith, e)) (b.1 refl)

@@ -1,3 +1,4 @@
 mod Replaying
 mod Moves
 mod Ties
+mod Worked

@@ -1,6 +1,6 @@
 -- Steps along entries and stamps.
-use Rattle.std.proofs.Common.{◌≡◌, ◌≢◌, ◌↔◌, ℕ, zero, suc, ◌+◌, ◌<◌, ◌≤◌, true, false, IsTrue, length, drop, get_or, List, [], ◌∷◌, Some, None, refl, sym, ap, ◌∙◌, subst, eq-eqb, add-one, arith, drop-cons}
-use Rattle.std.specs.Prelude.{slice_get, not, nat_eq}
+use Rattle.std.proofs.Common.{◌≡◌, ◌≢◌, ◌↔◌, ℕ, zero, suc, ◌+◌, ◌<◌, ◌≤◌, true, false, IsTrue, length, drop, get_or, List, [], ◌∷◌, Some, refl, ◌∙◌, eq-eqb, add-one, arith, drop-cons}
+use Rattle.std.specs.Prelude.{slice_get, nat_eq}
 use mathlib.Core.Logic.{dite}
 use native.Mathlib.Decide.{ℕ_discrete}
 use Rattle.rq_model.specs.declared.refusal.Refusal.TheVariants.{NoMemory}
@@ -8,8 +8,6 @@ use Rattle.rq_engine.specs.declared.event.Reply.{Reply}
 use Rattle.rq_engine.specs.declared.event.Reply.TheVariants.{Refused, Stepped, Finished}
 use Rattle.rq_engine.specs.declared.event.Progress.TheVariants.{Done, Ready}
 use Rattle.rq_engine.specs.declared.event.Outcome.TheVariants.{Sent, Message, Closed, Undone}
-use Rattle.rq_model.specs.Replay.{Reply as Gave}
-use Rattle.rq_model.specs.Replay.Reply.{Gave_refusal}
 use Rattle.rq_engine.specs.Says.{gave}
 use Rattle.rq_shared.specs.Entries.{Noted, entries, entry_of}
 use Rattle.rq_shared.specs.Tied.{own, told, stamps, stamp_of, lacked_memory}

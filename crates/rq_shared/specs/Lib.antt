@@ -3,3 +3,4 @@ pub mod Counts
 pub mod Marks
 pub mod Passes
 pub mod Tied
+pub mod Calls

@@ -1,7 +1,8 @@
 //! Passes, and what lies under the lock.
-ghost use Rattle.std.specs.Prelude.{◌≡◌, ◌≢◌, ◌+◌, ◌≤◌, ℕ, [], ◌∷◌, ◌++◌, length, sum_by};
+ghost use Rattle.std.specs.Prelude.{◌≡◌, ◌≢◌, ◌+◌, ℕ, [], ◌∷◌, ◌++◌, length, sum_by};
 ghost use Rattle.rq_engine.specs.Applied.{Applied};
-ghost use Rattle.rq_shared.specs.Entries.{Follows, OneMore, noted};
+ghost use Rattle.rq_shared.specs.Calls.{IsCalled, IsForced, IsTakenOf};
+ghost use Rattle.rq_shared.specs.Entries.{OneMore, noted};
 
 use crate::kept::{Kept, Stamped, Taken, is_no_memory};
 use crate::mark::{Mark, MarkPass};
@@ -67,10 +68,7 @@ impl<P: PageDevice + Drop, L: LogDevice + Drop, G: Ledger> Room<P, L, G> {
 
     /// Makes the call of this pass, and counts it where it left an entry.
     pub(crate) fn call(&mut self, pass: &mut Pass<G>, event: Event) -> Stamped
-        ensures stamp { (result.pass ≡ pass.old.number) × (result.event ≡ event) }
-        ensures number { pass.new.number ≡ pass.old.number }
-        ensures counted { result.reply ≢ Reply.Refused Refusal.NoMemory → pass.new.calls ≡ pass.old.calls + 1 }
-        ensures refused { result.reply ≡ Reply.Refused Refusal.NoMemory → pass.new.calls ≡ pass.old.calls }
+        ensures called { IsCalled pass.old event result pass.new }
         ensures entry { result.reply ≢ Reply.Refused Refusal.NoMemory → OneMore self.old.kept.audit self.new.kept.audit (noted pass.old.number event result.reply) }
         ensures applied { result.reply ≢ Reply.Refused Refusal.NoMemory → Applied P.PageDevice L.LogDevice self.old.kept.engine event result.reply self.new.kept.engine }
         ensures no_change { result.reply ≡ Reply.Refused Refusal.NoMemory → self.new.kept ≡ self.old.kept }
@@ -87,14 +85,8 @@ impl<P: PageDevice + Drop, L: LogDevice + Drop, G: Ledger> Room<P, L, G> {
     /// Forces, and then publishes how many records are forced.
     pub(crate) fn force(&mut self, pass: &mut Pass<G>, mark: &Mark, seat: &mut MarkPass) -> Stamped
         requires { seat.old.table ≡ mark.now }
-        ensures stamp { (result.pass ≡ pass.old.number) × (result.event ≡ Event.Force) }
-        ensures number { pass.new.number ≡ pass.old.number }
-        ensures counted { result.reply ≢ Reply.Refused Refusal.NoMemory → pass.new.calls ≡ pass.old.calls + 1 }
-        ensures refused { result.reply ≡ Reply.Refused Refusal.NoMemory → pass.new.calls ≡ pass.old.calls }
-        ensures table { seat.new.table ≡ seat.old.table }
+        ensures forced { IsForced pass.old seat.old result pass.new seat.new }
         ensures published { seat.new.published ≡ seat.old.published ++ self.new.kept.engine.state.forced ∷ [] }
-        ensures seen { seat.old.saw ≤ seat.new.saw }
-        ensures forced { (lsn : ℕ) → result.reply ≡ Reply.Forced lsn → lsn ≤ seat.new.saw }
     {
         let stamped = self.call(pass, Event::Force);
         mark.publish(seat, &self.kept);
@@ -103,9 +95,8 @@ impl<P: PageDevice + Drop, L: LogDevice + Drop, G: Ledger> Room<P, L, G> {
 
     /// Takes the audit. The count goes on.
     pub(crate) fn take(&mut self) -> Taken<P, L>
-        ensures base { (result.base ≡ self.old.kept.base) × (result.before ≡ self.old.kept.taken) }
-        ensures entries { result.audit ≡ self.old.kept.audit }
-        ensures replays { Follows P.PageDevice L.LogDevice result.base result.audit self.old.kept.engine }
+        ensures taken { IsTakenOf P.PageDevice L.LogDevice self.old.kept result }
+        ensures emptied { self.new.kept.audit ≡ [] }
         ensures engine { self.new.kept.engine ≡ self.old.kept.engine }
     {
         self.kept.take()

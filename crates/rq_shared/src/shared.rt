@@ -1,5 +1,6 @@
 //! The kept engine under one lock.
-ghost use Rattle.std.specs.Prelude.{◌≡◌, ◌≢◌, ◌+◌, ◌≤◌, ℕ, length, sum_by, IfSome, IfNone};
+ghost use Rattle.std.specs.Prelude.{◌≡◌, ◌+◌, length, sum_by, IfSome, IfNone};
+ghost use Rattle.rq_shared.specs.Calls.{IsCalled, IsForced, IsTaken};
 ghost use Rattle.rq_shared.specs.Entries.{Follows};
 
 use crate::kept::{Kept, Stamped, Taken};
@@ -7,8 +8,7 @@ use crate::mark::{Mark, MarkPass};
 use crate::room::{Pass, Room, gather, give_pass};
 use rq_disk::{LogDevice, PageDevice};
 use rq_engine::engine::Engine;
-use rq_engine::event::{Event, Reply};
-use rq_model::refusal::Refusal;
+use rq_engine::event::Event;
 use std::alloc::Global;
 use std::marker::Model;
 use std::sync::ledger::{Blank, Ledger, Share};
@@ -87,10 +87,7 @@ impl<P: PageDevice + Drop, L: LogDevice + Drop, G: Ledger> Shared<P, L, G> {
     /// Makes the call that the event stands for, once the lock is free, and answers its stamp. The pass counts it, but where
     /// it is answered `NoMemory`.
     pub fn call<R: Wait>(&self, rt: &R, pass: &mut Pass<G>, event: Event) -> Stamped
-        ensures stamp { (result.pass ≡ pass.old.number) × (result.event ≡ event) }
-        ensures number { pass.new.number ≡ pass.old.number }
-        ensures counted { result.reply ≢ Reply.Refused Refusal.NoMemory → pass.new.calls ≡ pass.old.calls + 1 }
-        ensures refused { result.reply ≡ Reply.Refused Refusal.NoMemory → pass.new.calls ≡ pass.old.calls }
+        ensures { IsCalled pass.old event result pass.new }
     {
         self.front.call(rt, pass, event)
     }
@@ -104,19 +101,16 @@ impl<P: PageDevice + Drop, L: LogDevice + Drop, G: Ledger> Shared<P, L, G> {
         seat: &mut MarkPass,
     ) -> Stamped
         requires { seat.old.table ≡ mark.now }
-        ensures stamp { (result.pass ≡ pass.old.number) × (result.event ≡ Event.Force) }
-        ensures number { pass.new.number ≡ pass.old.number }
-        ensures counted { result.reply ≢ Reply.Refused Refusal.NoMemory → pass.new.calls ≡ pass.old.calls + 1 }
-        ensures refused { result.reply ≡ Reply.Refused Refusal.NoMemory → pass.new.calls ≡ pass.old.calls }
-        ensures table { seat.new.table ≡ seat.old.table }
-        ensures seen { seat.old.saw ≤ seat.new.saw }
-        ensures forced { (lsn : ℕ) → result.reply ≡ Reply.Forced lsn → lsn ≤ seat.new.saw }
+        ensures { IsForced pass.old seat.old result pass.new seat.new }
     {
         self.front.force(rt, pass, mark, seat)
     }
 
-    /// The entries since the audit was last taken, once the lock is free. Then nothing is in the audit.
-    pub fn take_audit<R: Wait>(&self, rt: &R) -> Taken<P, L> {
+    /// The entries since the audit was last taken, once the lock is free, as `Kept::take` answers them: they replay from
+    /// the engine as it was then. Then nothing is in the audit.
+    pub fn take_audit<R: Wait>(&self, rt: &R) -> Taken<P, L>
+        ensures { IsTaken P.PageDevice L.LogDevice result }
+    {
         self.front.take_audit(rt)
     }
 
@@ -145,10 +139,7 @@ impl<P: PageDevice + Drop, L: LogDevice + Drop, G: Ledger> Front<P, L, G> {
     /// Makes the call that the event stands for, once the lock is free, and answers its stamp. The pass counts it, but where
     /// it is answered `NoMemory`.
     pub fn call<R: Wait>(&self, rt: &R, pass: &mut Pass<G>, event: Event) -> Stamped
-        ensures stamp { (result.pass ≡ pass.old.number) × (result.event ≡ event) }
-        ensures number { pass.new.number ≡ pass.old.number }
-        ensures counted { result.reply ≢ Reply.Refused Refusal.NoMemory → pass.new.calls ≡ pass.old.calls + 1 }
-        ensures refused { result.reply ≡ Reply.Refused Refusal.NoMemory → pass.new.calls ≡ pass.old.calls }
+        ensures { IsCalled pass.old event result pass.new }
     {
         self.room.lock(rt).call(pass, event)
     }
@@ -162,19 +153,16 @@ impl<P: PageDevice + Drop, L: LogDevice + Drop, G: Ledger> Front<P, L, G> {
         seat: &mut MarkPass,
     ) -> Stamped
         requires { seat.old.table ≡ mark.now }
-        ensures stamp { (result.pass ≡ pass.old.number) × (result.event ≡ Event.Force) }
-        ensures number { pass.new.number ≡ pass.old.number }
-        ensures counted { result.reply ≢ Reply.Refused Refusal.NoMemory → pass.new.calls ≡ pass.old.calls + 1 }
-        ensures refused { result.reply ≡ Reply.Refused Refusal.NoMemory → pass.new.calls ≡ pass.old.calls }
-        ensures table { seat.new.table ≡ seat.old.table }
-        ensures seen { seat.old.saw ≤ seat.new.saw }
-        ensures forced { (lsn : ℕ) → result.reply ≡ Reply.Forced lsn → lsn ≤ seat.new.saw }
+        ensures { IsForced pass.old seat.old result pass.new seat.new }
     {
         self.room.lock(rt).force(pass, mark, seat)
     }
 
-    /// The entries since the audit was last taken, once the lock is free. Then nothing is in the audit.
-    pub fn take_audit<R: Wait>(&self, rt: &R) -> Taken<P, L> {
+    /// The entries since the audit was last taken, once the lock is free, as `Kept::take` answers them: they replay from
+    /// the engine as it was then. Then nothing is in the audit.
+    pub fn take_audit<R: Wait>(&self, rt: &R) -> Taken<P, L>
+        ensures { IsTaken P.PageDevice L.LogDevice result }
+    {
         self.room.lock(rt).take()
     }
 }

@@ -6,7 +6,7 @@ use Rattle.rq_model.specs.declared.txn.Txn.{Txn}
 use Rattle.rq_model.specs.declared.record.Deed.{Deed}
 use Rattle.rq_model.specs.declared.record.Deed.TheVariants.{Append, UnlinkHead, Close}
 use Rattle.rq_model.specs.declared.record.Record.{Record}
-use Rattle.rq_model.specs.declared.record.Record.TheVariants.{PageOp, PageUndo, OpEnd, OpVoid, CompEnd, Commit, Restart, AbortEnd}
+use Rattle.rq_model.specs.declared.record.Record.TheVariants.{PageOp}
 use Rattle.rq_model.specs.Incarnations.{incarnation_of, InOrder}
 use Rattle.rq_model.specs.Words.{In, same_txn, is_some, sent_for, taken_from}
 use Rattle.rq_model.specs.Deeds.{spelled_deed, deed_in}

@@ -2,7 +2,7 @@
 #![tactic(auto)]
 
 ghost use Rattle.rq_store.specs.Theorems.{BeginningsAreWhole};
-ghost use Rattle.rq_store.specs.Worked.{WorkedStore};
+ghost use Rattle.rq_store.specs.Worked.{WorkedSound, WorkedStore};
 
 /// Each beginning of a whole log is whole, so that a crash leaves one.
 pub fn beginnings_are_whole()
@@ -12,4 +12,9 @@ pub fn beginnings_are_whole()
 /// A worked log in bytes is whole: an abort that a crash stops within an inverse, and the restart after it.
 pub fn worked_store()
     ensures { WorkedStore }
+{}
+
+/// Pages that were formatted fit the empty log, and the store that a restart opens over them is sound; and stores that are not.
+pub fn worked_sound()
+    ensures { WorkedSound }
 {}

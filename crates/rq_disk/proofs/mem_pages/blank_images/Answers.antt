@@ -1,5 +1,6 @@
-use Rattle.std.proofs.Common.{◌≡◌, ◌<◌, ◌+◌, [], ◌∷◌, ◌++◌, ℕ, List, length, get_or, replicate, ap, arith, length-append}
+use Rattle.std.proofs.Common.{◌≡◌, ◌<◌, ◌+◌, [], ◌∷◌, ◌++◌, ℕ, List, length, get_or, replicate, ap, arith, length-append, ◌∙◌}
 use Rattle.std.proofs.lemmas.Grind.{common_steps}
+use Rattle.std.proofs.lemmas.List.{replicate_more}
 use Rattle.rq_disk.specs.declared.device.TheConstants.{PAGE}
 use Rattle.rq_disk.proofs.mem_pages.blank_images.Goals as goal
 
@@ -13,5 +14,6 @@ loop-page-preserved c =
     let pushed : c.push.new.self.items ≡ l.images.items ++ replicate PAGE 0 ∷ [] = c.in_ok-push.ensures.items in
     record {
       count = omega (arith, ap length pushed, length-append l.images.items (replicate PAGE 0 ∷ []), l.invariant.count);
+      all = pushed ∙ ap (λ (images : List (List ℕ)). images ++ replicate PAGE 0 ∷ []) l.invariant.all ∙ replicate_more l._page (replicate PAGE 0);
       blank = one_more l.images.items c.push.new.self.items l._page (replicate PAGE 0) l.invariant.count pushed l.invariant.blank;
     }

@@ -4,7 +4,7 @@ use Rattle.rq_disk.specs.Device.{Holds}
 use Rattle.rq_store.specs.Fitting.{FitsLog}
 use Rattle.rq_store.proofs.Formatting.{formatted_fits}
 use Rattle.rq_store.proofs.Cutting.{only_fit}
-use Rattle.rq_restart.proofs.Formats.{formatted_all, other_written, others_synced, first_written, first_synced}
+use Rattle.rq_restart.proofs.Formats.{formatted_all, other_written, others_synced, first_written, first_synced, within_written, within_synced}
 use Rattle.rq_restart.proofs.Restarts.{on_ok}
 use Rattle.rq_restart.proofs.format.format.Goals as goal
 
@@ -58,3 +58,35 @@ returns-clause-any_moment g c =
     let synced = others_synced p z c.args.pages.now l.pages c.sync.new.pages l.invariant.untold c.sync.ensures.crash c.sync.ensures.time in
     let told = first_written p z c.args.pages.now c.sync.new.pages c.write_formatted-2.new.pages (p.seen l.pages) c.write_formatted-2.new.page synced c.in_ok-sync.ensures.durable behind c.write_formatted-2.ensures.formatted c.write_formatted-2.ensures.crash c.write_formatted-2.ensures.time in
     (first_synced p z c.args.pages.now c.write_formatted-2.new.pages c.sync-2.new.pages told c.sync-2.ensures.crash c.sync-2.ensures.time).run
+
+pub returns-in_err-sync-clause-any_moment : goal.returns-in_err-sync-clause-any_moment
+returns-in_err-sync-clause-any_moment g c =
+    let l = c.loop-number in
+    (others_synced g.P.PageDevice c.args.layout.now c.args.pages.now l.pages c.sync.new.pages l.invariant.untold c.sync.ensures.crash c.sync.ensures.time).run
+
+-- each page by itself
+pub returns-in_err-write_formatted-clause-only : goal.returns-in_err-write_formatted-clause-only
+returns-in_err-write_formatted-clause-only g c =
+    let l = c.loop-number in
+    let below : l.number < page_count c.args.layout.now = let e = c.pages-number-end.ensures.number in let t = c.loop-number-test.true in omega (arith, e, t) in
+    (within_written g.P.PageDevice c.args.layout.now c.args.pages.now l.pages c.write_formatted.new.pages l.number c.write_formatted.new.page l.invariant.within below c.write_formatted.ensures.formatted c.write_formatted.ensures.crash c.write_formatted.ensures.time).run
+
+pub returns-in_err-sync-clause-only : goal.returns-in_err-sync-clause-only
+returns-in_err-sync-clause-only g c =
+    let l = c.loop-number in
+    (within_synced g.P.PageDevice c.args.layout.now c.args.pages.now l.pages c.sync.new.pages l.invariant.within c.sync.ensures.crash c.sync.ensures.time).run
+
+pub returns-in_err-write_formatted-2-clause-only : goal.returns-in_err-write_formatted-2-clause-only
+returns-in_err-write_formatted-2-clause-only g c =
+    let z : Sizes = c.args.layout.now in
+    let p = g.P.PageDevice in
+    let synced = within_synced p z c.args.pages.now c.loop-number.pages c.sync.new.pages c.loop-number.invariant.within c.sync.ensures.crash c.sync.ensures.time in
+    (within_written p z c.args.pages.now c.sync.new.pages c.write_formatted-2.new.pages 0 c.write_formatted-2.new.page synced (omega arith) c.write_formatted-2.ensures.formatted c.write_formatted-2.ensures.crash c.write_formatted-2.ensures.time).run
+
+pub returns-clause-only : goal.returns-clause-only
+returns-clause-only g c =
+    let z : Sizes = c.args.layout.now in
+    let p = g.P.PageDevice in
+    let synced = within_synced p z c.args.pages.now c.loop-number.pages c.sync.new.pages c.loop-number.invariant.within c.sync.ensures.crash c.sync.ensures.time in
+    let first = within_written p z c.args.pages.now c.sync.new.pages c.write_formatted-2.new.pages 0 c.write_formatted-2.new.page synced (omega arith) c.write_formatted-2.ensures.formatted c.write_formatted-2.ensures.crash c.write_formatted-2.ensures.time in
+    (within_synced p z c.args.pages.now c.write_formatted-2.new.pages c.sync-2.new.pages first c.sync-2.ensures.crash c.sync-2.ensures.time).run

@@ -1,4 +1,4 @@
-use Rattle.std.proofs.Common.{◌≡◌, ◌∙◌, List, []}
+use Rattle.std.proofs.Common.{◌∙◌}
 use Rattle.rq_restart.proofs.Noting.{noted_unfinished, noted_working, no_pairs}
 use Rattle.rq_restart.proofs.Paths.{none_unfinished, none_lost}
 use Rattle.rq_restart.specs.Noted.{noted}

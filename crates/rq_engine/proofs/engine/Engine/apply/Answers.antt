@@ -10,6 +10,7 @@ returns-clause-applied g c =
       sizes = told.sizes;
       failed = told.failed;
       refused = told.refused;
+      lists = told.lists;
       changes = told.changes;
       starts = told.starts;
       writes = told.writes;

@@ -9,6 +9,8 @@ use Rattle.rq_store.proofs.Beginning.{begin_steps}
 use Rattle.rq_engine.proofs.Keeping.{new_number, kept_begun}
 use Rattle.rq_engine.proofs.Refusals.{few}
 use Rattle.rq_engine.proofs.Opened.{state_is}
+use Rattle.rq_engine.proofs.Listing.{next_of, begun_lists}
+use Rattle.rq_engine.specs.Lists.{IsBegun}
 use Rattle.rq_engine.proofs.engine.Engine.begin.Goals as goal
 
 pub begin-requires-clause-new : goal.begin-requires-clause-new
@@ -27,3 +29,9 @@ returns-clause-answered g c h k =
 
 pub invariant_of-self-2 : goal.invariant_of-self-2
 invariant_of-self-2 g c = record { kept = rw (c.in_ok-begin.ensures.ok) (kept_begun _ _ _ _ c.self.invariant.kept); durable = c.self.invariant.durable }
+
+pub returns-clause-lists : goal.returns-clause-lists
+returns-clause-lists g c =
+    rw (c.in_ok-begin.ensures.ok)
+    (subst (λ (s : State). IsBegun c.args.self.now.state (next_of s) (record s { rows = fresh_row (next_of s) ∷ s.rows; begins = s.begins + 1 })) (sym (state_is c.self.view_is))
+    (begun_lists c.args.self.now.state))

@@ -1,6 +1,7 @@
 use Rattle.std.proofs.Common.{ap, refl}
 use Rattle.rq_engine.specs.Says.{writes_out}
 use Rattle.rq_engine.proofs.Leaving.{plain_leaves, begun_leaves}
+use Rattle.rq_engine.proofs.Listing.{take_lists, take_from_lists, log_left}
 use Rattle.rq_engine.proofs.engine.Engine.call.Goals as goal
 
 pub returns-in-Err-clause-refused : goal.returns-in-Err-clause-refused
@@ -26,3 +27,13 @@ returns-in-StartReceive-clause-refused g c = begun_leaves c.args.self.now c.star
 
 pub returns-in-StartReceiveFrom-clause-refused : goal.returns-in-StartReceiveFrom-clause-refused
 returns-in-StartReceiveFrom-clause-refused g c = begun_leaves c.args.self.now c.start_receive_from.new.self c.args.event.now c.start_receive_from.result _ (ap writes_out c.in-StartReceiveFrom.is) c.start_receive_from.ensures.refused c.begun-in-StartReceiveFrom.ensures
+
+pub returns-in-StartReceive-clause-lists : goal.returns-in-StartReceive-clause-lists
+returns-in-StartReceive-clause-lists g c = take_lists c.args.self.now.state _ c.start_receive.result _ c.args.event.now c.start_receive.new.self.state c.in-StartReceive.is c.start_receive.ensures.lists c.begun.ensures
+
+pub returns-in-StartReceiveFrom-clause-lists : goal.returns-in-StartReceiveFrom-clause-lists
+returns-in-StartReceiveFrom-clause-lists g c = take_from_lists c.args.self.now.state _ _ c.start_receive_from.result _ c.args.event.now c.start_receive_from.new.self.state c.in-StartReceiveFrom.is c.start_receive_from.ensures.lists c.begun-in-StartReceiveFrom.ensures
+
+pub returns-in-Ok-start_send-clause-any_moment : goal.returns-in-Ok-start_send-clause-any_moment
+returns-in-Ok-start_send-clause-any_moment g c =
+    log_left g.L.LogDevice c.args.self.now.log c.start_send.new.self.log _ c.start_send.ensures.devices.1 g.met.L.LogDevice.only_now c.keeps.ensures.leaves

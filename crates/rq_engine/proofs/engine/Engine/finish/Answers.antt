@@ -6,3 +6,6 @@ returns-in-Ok-clause-answered g c h k = rw c.done.ensures (finish_done c.args.se
 
 pub returns-in-Err-clause-answered : goal.returns-in-Err-clause-answered
 returns-in-Err-clause-answered g c h = finish_idle c.args.self.now.state c.args.sub _ c.in-Err.ensures.refused
+
+pub returns-in-Ok-clause-lists : goal.returns-in-Ok-clause-lists
+returns-in-Ok-clause-lists g c = record { deed = _; going = c.in-Ok.ensures.ready; outcome = c.done.ensures; lists = c.end.ensures.ended }

@@ -1,9 +1,10 @@
-use Rattle.std.proofs.Common.{◌+◌, ap, ◌∙◌, false}
+use Rattle.std.proofs.Common.{◌+◌, ap, ◌∙◌, false, refl, subst, List, ℕ}
 use Rattle.rq_store.specs.State.{State}
 use Rattle.rq_engine.proofs.Refusals.{no_memory}
 use Rattle.rq_engine.proofs.SendCalls.{send_done, going_started}
 use Rattle.rq_level.specs.Stored.{slots_in}
-use Rattle.rq_engine.specs.Sends.{TakesLowest}
+use Rattle.rq_engine.specs.Sends.{TakesLowest, under_plan}
+use Rattle.rq_store.specs.Plans.{IsSendPlan}
 use Rattle.rq_engine.proofs.Opened.{state_is}
 use Rattle.rq_engine.proofs.engine.Engine.start_send.Goals as goal
 
@@ -23,3 +24,16 @@ returns-in-Ok-clause-lowest g c =
     going_started c.args.self.now.state _ c.args.txn c.in_ok-number.number c.in_ok-plan.plan
     (λ r u. TakesLowest c.args.self.now.state.sizes (slots_in c.args.self.now.state.sizes c.args.self.now.state.images) u.writes)
     c.in_ok-number.ensures.ready (ap (λ (s : State). s.rows) (state_is c.self.view_is ∙ c.in-Ok.ensures.started)) (λ r. c.in_ok-plan.ensures.lowest)
+
+pub returns-in-Ok-clause-lists : goal.returns-in-Ok-clause-lists
+returns-in-Ok-clause-lists g c =
+    let s = c.args.self.now.state in (
+      refl,
+      record {
+        under = under_plan c.in_ok-number.number c.in_ok-plan.plan;
+        number = refl;
+        ready = c.in_ok-number.ensures.ready;
+        plan = subst (λ (x : List ℕ). IsSendPlan s.sizes (slots_in s.sizes s.images) (under_plan c.in_ok-number.number c.in_ok-plan.plan) c.args.sender c.args.tag x) c.in_ok-body.ensures.body (c.in_ok-plan.ensures.plan c.in_ok-number.number);
+        lists = ap (λ (s : State). record s { cells_in_use = s.cells_in_use + 1 }) ((state_is c.self.view_is) ∙ c.in-Ok.ensures.started);
+      },
+    )

@@ -1,4 +1,4 @@
-use Rattle.std.proofs.Common.{◌≡◌, subst}
+use Rattle.std.proofs.Common.{◌≡◌, subst, refl}
 use Rattle.std.specs.List.{slice_get}
 use Rattle.rq_engine.specs.Answers.{IsGoing}
 use Rattle.rq_engine.proofs.Calls.{step_done, step_ready, step_idle}
@@ -16,3 +16,12 @@ returns-in-Ok-None-clause-answered g c h k =
 
 pub returns-in-Err-clause-answered : goal.returns-in-Err-clause-answered
 returns-in-Err-clause-answered g c h = step_idle c.args.self.now.state c.args.sub _ c.in-Err.ensures.idle
+
+pub returns-in-Ok-Some-clause-lists : goal.returns-in-Ok-Some-clause-lists
+returns-in-Ok-Some-clause-lists g c =
+    let next = subst (λ w. IsGoing c.args.self.now.state c.args.sub (λ r u. slice_get u.writes u.made ≡ w)) c.in-Ok-Some.field-0-is c.in-Ok-Some.ensures.next in
+    (c.make.ensures.lsn, c.in-Ok-Some.write, next, c.make.ensures.made)
+
+pub returns-in-Ok-None-clause-lists : goal.returns-in-Ok-None-clause-lists
+returns-in-Ok-None-clause-lists g c =
+    (subst (λ w. IsGoing c.args.self.now.state c.args.sub (λ r u. slice_get u.writes u.made ≡ w)) c.in-Ok-None.field-0-is c.in-Ok-None.ensures.next, refl)

@@ -1,0 +1,59 @@
+-- What calls make of the lists.
+use Rattle.std.proofs.Common.{◌≡◌, ℕ, ◌+◌, ◌-◌, length, ◌∷◌, ap, sym, subst, refl, IfOk, Option, Some, None, Result, Ok, Err, List, inl, arith}
+use Rattle.std.specs.List.{sum_by}
+use Rattle.rq_disk.specs.declared.device.LogDevice as log_device
+use Rattle.rq_log.specs.Crash.{LeavesOnly}
+use Rattle.rq_model.specs.declared.record.Record.TheVariants.{Commit}
+use Rattle.rq_model.specs.declared.refusal.Refusal.{Refusal}
+use Rattle.rq_model.specs.declared.txn.Sub.{Sub}
+use Rattle.rq_model.specs.declared.txn.Txn.{Txn}
+use Rattle.rq_groups.specs.Ends.{released}
+use Rattle.rq_txn.specs.Rows.{fresh_row, without_row}
+use Rattle.rq_store.specs.State.{State}
+use Rattle.rq_store.specs.Sound.{takes_one}
+use Rattle.rq_engine.specs.Answers.{IsReady}
+use Rattle.rq_engine.specs.Moves.{with_sends}
+use Rattle.rq_engine.specs.Says.{begun_reply}
+use Rattle.rq_engine.specs.Lists.{IsBegun, IsCommitted, TakeSays, TakeFromSays, ListsSay, done_by}
+use Rattle.rq_engine.specs.declared.event.CommitNo.{CommitNo}
+use Rattle.rq_engine.specs.declared.event.Event.{Event}
+use Rattle.rq_engine.specs.declared.event.Event.TheVariants as event
+use Rattle.rq_engine.specs.declared.event.Reply.{Reply}
+
+-- a transaction that was begun
+abbrev pub next_of : State → Txn
+next_of s = record { incarnation = s.incarnation; count = s.begins + 1 }
+
+pub begun_lists : (s : State) → IsBegun s (next_of s) (record s { rows = fresh_row (next_of s) ∷ s.rows; begins = s.begins + 1 })
+begun_lists s = record { number = refl; lists = refl }
+
+-- one that was committed
+pub committed_lists : (s : State) (t : Txn) (n cells : ℕ) (number : CommitNo) → number.txn ≡ t → number.lsn ≡ length s.records + 1 → IsReady s t n → cells ≡ s.cells_in_use - sum_by takes_one (done_by s t)
+    → IsCommitted s t number (record s { rows = without_row t s.rows; ends = record { sending = released t s.ends.sending; receiving = released t s.ends.receiving }; records = Commit t ∷ s.records; cells_in_use = cells; waiting = with_sends (done_by s t) s.waiting })
+committed_lists s t n cells number txn lsn ready freed = record {
+  txn = txn;
+  lsn = lsn;
+  ready = (n, ready);
+  lists = ap (λ (k : ℕ). let x : State = record s { rows = without_row t s.rows; ends = record { sending = released t s.ends.sending; receiving = released t s.ends.receiving }; records = Commit t ∷ s.records; cells_in_use = k; waiting = with_sends (done_by s t) s.waiting } in x) freed;
+}
+
+pub committed_from : {a b : State} (t : Txn) (number : CommitNo) (new : State) → a ≡ b → IsCommitted a t number new → IsCommitted b t number new
+committed_from t number new e is = subst (λ (s : State). IsCommitted s t number new) e is
+
+-- the start of a receive
+pub take_lists : (old : State) (t : Txn) (x : Result (Option Sub) Refusal) (y : Reply) (e : Event) (new : State) → e ≡ event.StartReceive t → IfOk x (λ b. TakeSays old t b new) → y ≡ begun_reply x → ListsSay old e y new
+take_lists old t (Ok (Some sub)) y e new is says reply = rw (is, reply) says
+take_lists old t (Ok None) y e new is says reply = rw (is, reply) says
+take_lists old t (Err r) y e new is says reply = rw (is, reply) tt
+
+pub take_from_lists : (old : State) (t : Txn) (s : ℕ) (x : Result (Option Sub) Refusal) (y : Reply) (e : Event) (new : State) → e ≡ event.StartReceiveFrom t s → IfOk x (λ b. TakeFromSays old t s b new) → y ≡ begun_reply x → ListsSay old e y new
+take_from_lists old t s (Ok (Some sub)) y e new is says reply = rw (is, reply) says
+take_from_lists old t s (Ok None) y e new is says reply = rw (is, reply) says
+take_from_lists old t s (Err r) y e new is says reply = rw (is, reply) tt
+
+-- a call that leaves the log's device alone leaves what it left
+pub log_left : {L : Type 0} (g : log_device.Ghosts L) (old new : L) (P : List ℕ → Type 0) → new ≡ old → ((d : L) (c : List ℕ) → g.left_since d (g.moment d) c → g.may_leave d c)
+    → (g.honest old → (c : List ℕ) → g.may_leave old c → P c) → g.honest new → LeavesOnly g old new P
+log_left g old new P same only_now leaves h =
+    let k = subst g.honest same h in
+    subst (λ (d : _). LeavesOnly g old d P) (sym same) (record { later = omega arith; each = λ c left. leaves k c (only_now old c left); before = λ t c le left. inl left; keeps = λ t c le left. left })
