@@ -1,0 +1,4 @@
+pub mod Arms
+pub mod Courses
+pub mod Devices
+pub mod Worlds

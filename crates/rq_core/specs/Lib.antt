@@ -1,0 +1,6 @@
+pub mod Devices
+pub mod Happenings
+pub mod Headline
+pub mod Runs
+pub mod Views
+pub mod World

@@ -1,0 +1,1 @@
+//! The headline of every history with legal replies, over definitions alone.
