@@ -17,8 +17,8 @@ use Rattle.rq_restart.specs.Underway.{IsStore}
 use Rattle.rq_core.specs.Happenings.{Course, Tells}
 
 -- each commit that was acknowledged by a receipt anywhere in the history is among its commits
-abbrev pub Acknowledged_are_kept : List Entry → Type 0
-Acknowledged_are_kept h = (newer older : List Entry) (t : Txn) (lsn : ℕ) → newer ++ (Acknowledged t lsn true ∷ older) ≡ h → In (Committed t lsn) older → In t (commits h)
+abbrev pub AcknowledgedAreKept : List Entry → Type 0
+AcknowledgedAreKept h = (newer older : List Entry) (t : Txn) (lsn : ℕ) → newer ++ (Acknowledged t lsn true ∷ older) ≡ h → In (Committed t lsn) older → In t (commits h)
 
 module _ {P L : Type 0} (p : page_device.Ghosts P) (l : log_device.Ghosts L) (z : Sizes) where
   -- Whatever a crash now leaves of both devices is a store, and the crash that leaves it may end the history: its content is that of the commits that it keeps.
@@ -33,5 +33,5 @@ module _ {P L : Type 0} (p : page_device.Ghosts P) (l : log_device.Ghosts L) (z 
     pub tells : Tells course history
     pub legal : IsLegal (size_of z) history
     pub order : FifoThroughout history
-    pub acknowledged : Acknowledged_are_kept history
+    pub acknowledged : AcknowledgedAreKept history
     pub leaves : LeavesStores history pages log

@@ -218,8 +218,8 @@ fn ask(engine: Engine<MemPages, MemLog>, event: &Event) -> (Store, Entry)
     ensures { GoesOn (Makes (call_of event.now)) (Is_open engine) (answers result.1) (world_of result.0) }
 {
     let mut engine = engine;
-    let reply = engine.apply(event);
-    (Store::Open(engine), Entry::Answered(reply))
+    let answer = engine.apply(event);
+    (Store::Open(engine), Entry::Answered(answer))
 }
 
 // The power fails. What was not handed over yet may outlive it too, as if it had been.
