@@ -8,3 +8,4 @@ pub mod Counting
 pub mod Moments
 pub mod Paths
 pub mod Worked
+pub mod Tallying

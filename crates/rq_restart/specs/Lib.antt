@@ -4,3 +4,4 @@ pub mod Repeating
 pub mod Restarting
 pub mod Underway
 pub mod Ended
+pub mod Once

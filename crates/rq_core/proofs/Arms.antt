@@ -1,0 +1,185 @@
+-- Each function of a world, over the devices in memory.
+use Rattle.std.proofs.Common.{◌≡◌, ℕ, List, [], ◌∷◌, arith, refl, sym, ◌∙◌, ap, subst, true, Some, Result, Ok, Err, IfOk, IfErr}
+use Rattle.rq_model.specs.declared.record.Record.{Record}
+use Rattle.rq_model.specs.declared.refusal.Refusal.{Refusal}
+use Rattle.rq_model.specs.declared.refusal.Refusal.TheVariants as why
+use Rattle.rq_model.specs.History.{Entry, Call}
+use Rattle.rq_model.specs.History.Entry.{Restarted as Restarted_entry, Refused as Refused_entry}
+use Rattle.rq_model.specs.Content.{committed_of}
+use Rattle.rq_model.specs.Ledger.{Ledger, Phase, after, ledger}
+use Rattle.rq_model.specs.Ledger.Phase.{Shut}
+use Rattle.rq_model.specs.History.Call.{Begin, Start_send, Start_receive, Start_receive_from, Start_close, Step, Finish, Commit, Acknowledge, Start_abort, Undo_next, End_abort, Hand_over, Force, Write_page, Last_tag, Show}
+use Rattle.rq_model.specs.Legal.{Size, Legal, IsLegal}
+use Rattle.rq_model.specs.Promises.{AcknowledgedStay, CrashGoesOn, FifoThroughout, RestartGoesOn, ShutCrashGoesOn}
+use Rattle.rq_model.specs.Replay.{Says}
+use Rattle.rq_model.specs.Replay.Reply.{Gave_refusal}
+use Rattle.rq_disk.specs.declared.mem_log.MemLog.{MemLog}
+use Rattle.rq_disk.specs.declared.mem_pages.MemPages.{MemPages}
+use Rattle.rq_page.specs.Sizes.{Sizes, IsInRange}
+use Rattle.rq_store.specs.State.{ledger_of, size_of}
+use Rattle.rq_engine.specs.Applied.{Applied}
+use Rattle.rq_engine.specs.Crash.{LeavesCut}
+use Rattle.rq_engine.specs.Opened.{OpenStore}
+use Rattle.rq_engine.specs.Says.{call_of, gave}
+use Rattle.rq_engine.specs.declared.event.Event.{Event}
+use Rattle.rq_engine.specs.declared.event.Reply.{Reply}
+use Rattle.rq_engine.specs.declared.event.Reply.TheVariants as reply
+use Rattle.rq_pool.specs.Reading.{IsSuperblock}
+use Rattle.rq_store.specs.Sound.{IsSound}
+use Rattle.rq_store.specs.Fitting.{AllFit}
+use Rattle.rq_engine.specs.Crash.{AreFit}
+use Rattle.rq_engine.specs.Devices.{EachPair}
+use Rattle.rq_restart.specs.Once.{OneLogEach, OneSizeEach}
+use Rattle.rq_restart.specs.Restarting.{IsReadAs, IsLeftOn, Reports, Stops}
+use Rattle.rq_restart.specs.Underway.{IsLeftOrGoesOn, OfStores, pages_left, log_left}
+use Rattle.rq_restart.specs.declared.restart.Report.{Report as Restart_report}
+use Rattle.rq_restart.specs.declared.restart.Stopped.{Stopped}
+use Rattle.rq_core.specs.Devices.{mem_pages, mem_log}
+use Rattle.rq_core.specs.Happenings.{Happening, Answer, AddsCall, Course, MayCrashIt, Tells, called, is_of_device}
+use Rattle.rq_core.specs.Happenings.Answer.{Answered, Refused, Restarted}
+use Rattle.rq_core.specs.Headline.{LeavesStores}
+use Rattle.rq_core.specs.Runs.{CanCrash, GoesOn, Is, IsFresh, IsHeadline, Ran, StaysShut}
+use Rattle.rq_core.specs.World.{IsOpen, IsShut}
+use Rattle.rq_core.specs.World.World.{Is_open, Is_shut}
+use Rattle.rq_core.specs.Happenings.Happening.{Crashes, Restarts, Stops_in, Stops_restart}
+use Rattle.rq_core.specs.Happenings.{MayRestart, MayStayShut, restarts}
+use Rattle.rq_core.specs.Views.{report_of}
+use Rattle.rq_core.proofs.Devices.{some_page, some_log}
+use Rattle.rq_core.proofs.Worlds.{may_stay, read_of, reopened, stays_shut, IsGivenUp, calls, refused, handed_over, leaves_open, leaves_shut, still, headline}
+
+abbrev Engine : Type 0
+Engine = OpenStore MemPages MemLog
+
+-- a call of an open store
+pub asks : (z : Sizes) (course : Course) (x : Happening) (e : Event) (r : Reply) (old new : Engine) → called course x ≡ Some (call_of e) → Applied mem_pages mem_log old e r new → Ran z course (Is_open old) → Ran z ((x, Answered (gave r)) ∷ course) (Is_open new)
+asks z course x e r old new is a ran = calls mem_pages mem_log (λ d. tt) (λ d. tt) z course x e r old new is a ran
+
+-- an open store that is given up, with its devices
+pub open_crashes : (z : Sizes) (course : Course) (x : Happening) (old new : Engine) (pages : MemPages) (log : MemLog) → CrashGoesOn (size_of z) → (ran : Ran z course (Is_open old)) → IsGivenUp mem_pages mem_log (λ d. tt) (λ d. tt) z ran.history new
+    → LeavesCut mem_pages mem_log new → pages ≡ new.pages → log ≡ new.log → ((p : Phase) → (p ≡ Shut → ⊥) → MayCrashIt x p) → CanCrash z course x pages log
+open_crashes z course x old new pages log law ran g cut e f may = record {
+  range = subst IsInRange g.sizes g.sound.range;
+  history = ran.history;
+  tells = ran.tells;
+  legal = ran.legal;
+  may = may (ledger ran.history).phase g.at.runs;
+  leaves =
+      subst (λ d. LeavesStores mem_pages mem_log z ran.history d log) (sym e) (subst (λ d. LeavesStores mem_pages mem_log z ran.history new.pages d) (sym f) (leaves_open mem_pages mem_log (λ d. tt) (λ d. tt) z law ran.history new ran.legal g cut));
+}
+
+-- a store that is shut, whatever a crash at its end leaves
+pub shut_crashes : (z : Sizes) (course : Course) (x : Happening) (h : List Entry) (pages : MemPages) (log : MemLog) → ShutCrashGoesOn (size_of z) → Tells course h → IsLegal (size_of z) h → (s : IsShut mem_pages mem_log z h pages log)
+    → ((p : Phase) → p ≡ Shut → MayCrashIt x p) → CanCrash z course x pages log
+shut_crashes z course x h pages log law tells legal s may = record {
+  range = s.range;
+  history = h;
+  tells = tells;
+  legal = legal;
+  may = may (ledger h).phase s.phase;
+  leaves = leaves_shut mem_pages mem_log (λ d. tt) (λ d. tt) z law h pages log legal s;
+}
+
+-- a call of a store that is shut
+shut_refuses : (z : Size) (l : Ledger) (c : Call) → l.phase ≡ Shut → Legal z l (Refused_entry c why.Failed)
+shut_refuses z l Begin e = rw e refl
+shut_refuses z l (Start_send t m) e = rw e refl
+shut_refuses z l (Start_receive t) e = rw e refl
+shut_refuses z l (Start_receive_from t s) e = rw e refl
+shut_refuses z l (Start_close t s) e = rw e refl
+shut_refuses z l (Step t n) e = rw e refl
+shut_refuses z l (Finish t n) e = rw e refl
+shut_refuses z l (Commit t) e = rw e refl
+shut_refuses z l (Acknowledge t n) e = rw e refl
+shut_refuses z l (Start_abort t) e = rw e refl
+shut_refuses z l (Undo_next t) e = rw e refl
+shut_refuses z l (End_abort t) e = rw e refl
+shut_refuses z l Hand_over e = rw e refl
+shut_refuses z l Force e = rw e refl
+shut_refuses z l (Write_page p) e = rw e refl
+shut_refuses z l (Last_tag s) e = rw e refl
+shut_refuses z l Show e = rw e refl
+
+pub not_open : (z : Sizes) (course : Course) (x : Happening) (call : Call) (pages : MemPages) (log : MemLog) → called course x ≡ Some call → Ran z course (Is_shut pages log)
+    → Ran z ((x, Answered (Gave_refusal why.Failed)) ∷ course) (Is_shut pages log)
+not_open z course x call pages log is ran =
+    let s : IsShut mem_pages mem_log z ran.history pages log = ran.stands in
+    record {
+      history = Refused_entry call why.Failed ∷ ran.history;
+      tells = (ran.history, ran.tells, subst (λ c. AddsCall c (Gave_refusal why.Failed) ran.history (Refused_entry call why.Failed ∷ ran.history)) (sym is) (Refused_entry call why.Failed, says call, refl));
+      legal = (shut_refuses (size_of z) (ledger ran.history) call s.phase, ran.legal);
+      stands = record { range = s.range; phase = s.phase; older = s.older; ties = s.ties; left = s.left };
+    } where
+      says : (c : Call) → Says c (Gave_refusal why.Failed) (Refused_entry c why.Failed)
+      says c = refl
+
+-- the headline at the end
+pub open_ends : (z : Sizes) (course : Course) (e : Engine) (pages : MemPages) (log : MemLog) → ((h : List Entry) → IsLegal (size_of z) h → FifoThroughout h) → AcknowledgedStay (size_of z) → CrashGoesOn (size_of z) → Ran z course (Is_open e)
+    → LeavesCut mem_pages mem_log e → pages ≡ e.pages → log ≡ e.log → IsHeadline z course pages log
+open_ends z course e pages log fifo stay law ran cut i j =
+    let g = still mem_pages mem_log (λ d. tt) (λ d. tt) z ran.history e ran.stands in
+    headline mem_pages mem_log (λ d. tt) (λ d. tt) z fifo stay course ran.history pages log ran.tells ran.legal
+    (subst (λ d. LeavesStores mem_pages mem_log z ran.history d log) (sym i) (subst (λ d. LeavesStores mem_pages mem_log z ran.history e.pages d) (sym j) (leaves_open mem_pages mem_log (λ d. tt) (λ d. tt) z law ran.history e ran.legal g cut)))
+
+pub shut_ends : (z : Sizes) (course : Course) (pages : MemPages) (log : MemLog) → ((h : List Entry) → IsLegal (size_of z) h → FifoThroughout h) → AcknowledgedStay (size_of z) → ShutCrashGoesOn (size_of z) → Ran z course (Is_shut pages log)
+    → IsHeadline z course pages log
+shut_ends z course pages log fifo stay law ran =
+    headline mem_pages mem_log (λ d. tt) (λ d. tt) z fifo stay course ran.history pages log ran.tells ran.legal
+    (leaves_shut mem_pages mem_log (λ d. tt) (λ d. tt) z law ran.history pages log ran.legal ran.stands)
+
+-- a restart, by its clauses
+module _ (pages : MemPages) (log : MemLog) (one : OneLogEach) where
+  pub opens : (r : Result (Engine × Restart_report) (Stopped MemPages MemLog)) → OneSizeEach → ((size : Size) → RestartGoesOn size)
+      → IfOk r (λ o. (older : List Record) → IsReadAs mem_log log o.0.log older → Reports older o.1.incarnation o.1.records o.1.unfinished o.1.lost)
+      → IfOk r (λ o. mem_pages.honest o.0.pages → IsSuperblock o.0.state.sizes (mem_pages.seen pages 0))
+      → IfOk r (λ o. (older : List Record) → IsReadAs mem_log log o.0.log older → IsLeftOn mem_pages o.0.state.sizes pages o.0.pages older → IsSound o.0.state)
+      → IfOk r (λ o. (older : List Record) → IsReadAs mem_log log o.0.log older → IsLeftOn mem_pages o.0.state.sizes pages o.0.pages older → (ledger : Ledger) → ledger.committed ≡ committed_of older → ledger_of o.0.state ≡ after (Restarted_entry o.1.incarnation o.1.records) ledger)
+      → IfOk r (λ o. (older : List Record) → IsReadAs mem_log log o.0.log older → AllFit (mem_pages.may_be pages) o.0.state.sizes older → AreFit mem_pages o.0)
+      → IfOk r (λ o. GoesOn MayRestart (Is_shut pages log) (Restarted (report_of o.1)) (Is_open o.0))
+  opens (Err e) size_once goes report sizes sound entry fit = tt
+  opens (Ok o) size_once goes report sizes sound entry fit = λ z course x may ran.
+      let w = reopened mem_pages mem_log (λ d. tt) (λ d. tt) z some_page some_log one size_once (goes (size_of z)) ran.history pages log o.1 o.0 ran.legal ran.stands report sizes sound entry fit in
+      record {
+        history = Restarted_entry o.1.incarnation o.1.records ∷ ran.history;
+        tells = (ran.history, ran.tells, (may, w.unfinished, w.lost, refl));
+        legal = w.legal;
+        stands = w.stands;
+      }
+
+  pub stays : (r : Result (Engine × Restart_report) (Stopped MemPages MemLog))
+      → OfStores mem_pages mem_log pages log (log_left r) (λ z read. EachPair mem_pages mem_log (pages_left r) (log_left r) (IsLeftOrGoesOn mem_log log z read))
+      → IfErr r (λ s. (z : Sizes) → IsSuperblock z (mem_pages.seen pages 0) → (older : List Record) → IsReadAs mem_log log s.log older
+      → Stops (IsLeftOn mem_pages z pages s.pages older) older s.refusal (mem_pages.faults pages) (mem_pages.faults s.pages) (mem_log.faults log) (mem_log.faults s.log))
+      → IfErr r (λ s. StaysShut pages log s.pages s.log s.refusal)
+  stays (Ok o) crash err = tt
+  stays (Err s) crash err = λ z course ran.
+      let here : IsShut mem_pages mem_log z ran.history pages log = ran.stands in
+      let read = read_of mem_pages mem_log (λ d. tt) (λ d. tt) z some_page some_log one ran.history pages log here in
+      let leaves = crash tt z read.read read.told read.reads read.each in (
+        stays_shut mem_pages mem_log (λ d. tt) (λ d. tt) z some_page some_log one ran.history pages s.pages log s.log here read leaves,
+        may_stay s.refusal (IsLeftOn mem_pages z pages s.pages read.read) read.read (mem_pages.faults pages) (mem_pages.faults s.pages) (mem_log.faults log) (mem_log.faults s.log)
+            (record { honest = tt; left = read.left })
+            (err z (record { range = here.range; formatted = read.left.fits.superblock }) read.read (record { honest = tt; are_spelled = read.told; reads = read.reads })),
+      )
+
+-- a restart that was refused, as a happening
+pub refuses : (z : Sizes) (course : Course) (x : Happening) (pages new_pages : MemPages) (log new_log : MemLog) (r : Refusal) → MayRestart course x → StaysShut pages log new_pages new_log r → Ran z course (Is_shut pages log)
+    → Ran z ((x, Refused r) ∷ course) (Is_shut new_pages new_log)
+refuses z course x pages new_pages log new_log r may stays ran =
+    let s : IsShut mem_pages mem_log z ran.history pages log = ran.stands in
+    let now = stays z course ran in
+    record { history = ran.history; tells = (ran.history, ran.tells, (may, now.1, s.phase, refl)); legal = ran.legal; stands = now.0 }
+
+-- a store that is formatted, and of which nothing has happened
+pub begins : (z : Sizes) (pages : MemPages) (log : MemLog) → IsFresh z pages log → Ran z [] (Is_shut pages log)
+begins z pages log fresh = record {
+  history = [];
+  tells = refl;
+  legal = tt;
+  stands = record {
+    range = fresh.range;
+    phase = refl;
+    older = [];
+    ties = record { committed = refl; records = refl; incarnation = omega arith };
+    left = λ images bytes a b. ([], ([], refl, tt), fresh.left images bytes a b);
+  };
+}

@@ -1,0 +1,71 @@
+-- What is so of the devices of a world.
+use Rattle.std.proofs.Common.{rules, ◌≡◌, ℕ, zero, suc, ◌+◌, ◌<◌, ◌≤◌, List, [], ◌++◌, length, take, drop, refl, sym, ◌∙◌, ap, subst, arith}
+use Rattle.std.proofs.lemmas.List.{append-nil, take_all, drop_all}
+use Rattle.rq_model.specs.declared.record.Record.{Record}
+use Rattle.rq_disk.specs.Device.{Images, Leaves, Only}
+use Rattle.rq_disk.specs.Memory.{LogState, MayBe, MayLeave, crashed_log, fresh_log, log_reads, log_seen, pages_seen, reads}
+use Rattle.rq_disk.specs.Records.{HoldsRecords, front, record_size}
+use Rattle.rq_disk.specs.Shown.{log_of, pages_of}
+use Rattle.rq_disk.specs.declared.mem_log.MemLog.{MemLog}
+use Rattle.rq_disk.specs.declared.mem_pages.MemPages.{MemPages}
+use Rattle.rq_page.specs.Sizes.{Sizes, IsInRange, page_count}
+use Rattle.rq_store.specs.Fitting.{AllFit, FitsLog}
+use Rattle.rq_store.specs.Sound.{IsWhole}
+use Rattle.rq_core.specs.Devices.{mem_pages, mem_log}
+use Rattle.rq_core.specs.Runs.{IsFresh}
+use Rattle.rq_core.proofs.Worlds.{IsCrashed}
+
+pub some_page : (d : MemPages) (page : ℕ) → MayBe (pages_of d) page (reads (pages_of d) page)
+some_page d page = pages_seen (pages_of d) page
+
+pub some_log : (d : MemLog) → MayLeave (log_of d) (log_reads (log_of d))
+some_log d = log_seen (log_of d)
+
+front_nil : (k : ℕ) → front k [] ≡ []
+front_nil zero = refl
+front_nil (suc k) =
+    let s = record_size [] in
+    ap (λ (l : List ℕ). l ++ front k (drop s [])) (take_all s [] (omega arith)) ∙ ap (front k) (drop_all s [] (omega arith)) ∙ front_nil k
+
+-- of a log that is all forced a crash leaves all
+fresh_only : (s : LogState) (bytes c : List ℕ) → s ≡ fresh_log bytes → MayLeave s c → c ≡ bytes
+fresh_only s bytes c is may =
+    let left = subst (λ t. MayLeave t c) is may in
+    left.1 ∙ ap (λ l. bytes ++ l) (front_nil left.0) ∙ append-nil bytes
+
+fresh_reads : (s : LogState) (bytes : List ℕ) → s ≡ fresh_log bytes → log_reads s ≡ bytes
+fresh_reads s bytes is = ap log_reads is ∙ append-nil bytes
+
+-- a crash of both
+pub crashes : (z : Sizes) (pages new_pages : MemPages) (log new_log : MemLog) (bytes : List ℕ) (n : ℕ) → Leaves (MayBe (pages_of pages)) (reads (pages_of new_pages)) → ((q : ℕ) → Only (reads (pages_of new_pages) q) (MayBe (pages_of new_pages) q))
+    → log_of new_log ≡ fresh_log bytes → MayLeave (log_of log) (log_reads (log_of new_log)) → HoldsRecords (log_reads (log_of new_log)) n → IsCrashed mem_pages mem_log (λ d. tt) (λ d. tt) z pages new_pages log new_log n
+crashes z pages new_pages log new_log bytes n may only is left holds =
+    let all : (c : List ℕ) → MayLeave (log_of new_log) c → c ≡ log_reads (log_of new_log) = λ c b. fresh_only (log_of new_log) bytes c is b ∙ sym (fresh_reads (log_of new_log) bytes is) in
+    record {
+      pages_left = λ images a q. subst (MayBe (pages_of pages) q) (sym (only q (images q) (a q))) (may q);
+      log_left = λ c b. subst (MayLeave (log_of log)) (sym (all c b)) left;
+      log_only = all;
+      holds = holds;
+    }
+
+-- a log with no record
+empty_whole : (z : Sizes) → IsWhole z []
+empty_whole z = search rules
+
+-- a store that was formatted
+pub formatted : (z : Sizes) (pages : MemPages) (log : MemLog) (bytes : List ℕ) → IsInRange z → AllFit (MayBe (pages_of pages)) z [] → log_of log ≡ fresh_log bytes → bytes ≡ [] → IsFresh z pages log
+formatted z pages log bytes range fit is none = record {
+  range = range;
+  left = λ images c a b. record {
+    are_spelled = tt;
+    is = fresh_only (log_of log) bytes c is b ∙ none;
+    left = record {
+      whole = empty_whole z;
+      fits = record {
+        superblock = fit.superblock (images 0) (a 0);
+        headers = λ p low high. fit.headers p (images p) low high (a p);
+        pages = λ p low high. fit.pages p (images p) low high (a p);
+      };
+    };
+  };
+}

@@ -1,0 +1,5 @@
+pub mod Arms
+pub mod Courses
+pub mod Devices
+pub mod Worked
+pub mod Worlds

@@ -1,0 +1,49 @@
+-- Worked courses.
+use Rattle.std.proofs.Common.{rules, ◌≡◌, ℕ, refl, List, [], ◌∷◌, Some, None, true, false, take, ap, arith, ◌≤◌, ◌<◌, sym, ◌∙◌, zero, suc, nat_eq}
+use Rattle.std.proofs.lemmas.Bool.Decides.{nat_tests}
+use Rattle.rq_model.specs.declared.txn.Txn.{Txn}
+use Rattle.rq_model.specs.declared.refusal.Refusal.TheVariants.{Failed}
+use Rattle.rq_model.specs.Words.Op.{Send}
+use Rattle.rq_model.specs.History.{Entry}
+use Rattle.rq_model.specs.History.Call.{Acknowledge}
+use Rattle.rq_model.specs.History.Job.{Sending, Taking}
+use Rattle.rq_model.specs.History.Entry.{Begun, Started, Stepped, Did, Committed, Acknowledged, Forced, Refused as Refused_entry}
+use Rattle.rq_model.specs.Ledger.{fresh_one, ledger}
+use Rattle.rq_model.specs.Legal.{free_to_receive, holds_for}
+use Rattle.rq_model.specs.Replay.{Number}
+use Rattle.rq_core.specs.Happenings.{Tells}
+use Rattle.rq_core.specs.Worked.{AreJudged, course, first_of, hello, history, txn}
+
+told : Tells course history
+told = (first_of 18, (first_of 17, (first_of 16, (first_of 16, (first_of 16, (first_of 15, (first_of 14, (first_of 13, (first_of 12, (first_of 11, (first_of 10, (first_of 10, (first_of 10, (first_of 9, (first_of 8, (first_of 7, (first_of 6, (first_of 5, (first_of 4, (first_of 3, (first_of 2, (first_of 1, (first_of 0, refl, (refl, refl, refl, refl)), (Begun (txn 1 1), refl, refl)), (Started (txn 1 1) 1 (Sending hello), (refl, refl), refl)), (Stepped (txn 1 1) 1 2, refl, refl)), (Stepped (txn 1 1) 1 3, refl, refl)), (Did (txn 1 1) 1 (Send hello), (hello, refl), refl)), (Committed (txn 1 1) 5, (refl, refl), refl)), (Acknowledged (txn 1 1) 5 false, refl, refl)), (Forced 5, refl, refl)), (Acknowledged (txn 1 1) 5 true, (refl, refl), refl)), (tt, refl)), (refl, (λ e. cc e), refl)), (Begun (txn 1 2), refl, refl)), (Started (txn 1 2) 1 (Taking 0), (refl, 0, refl), refl)), (Stepped (txn 1 2) 1 6, refl, refl)), ((λ e. cc e), refl)), (Refused_entry (Acknowledge (txn 1 1) 5) Failed, refl, refl)), (refl, refl)), (tt, refl)), (refl, tt, refl, refl)), (tt, refl)), (refl, refl, refl, refl)), (Acknowledged (txn 1 1) 5 false, refl, refl))
+
+-- where the only message is another's, no free group holds one
+abbrev taken : List Entry
+taken = Begun (txn 1 3) ∷ first_of 13
+
+none_of : (s : ℕ) → s < 15 → free_to_receive (txn 1 3) s (ledger taken).open_ones ≡ true → holds_for (ledger taken) (fresh_one (txn 1 3)) s ≡ false
+none_of zero low free = cc free
+none_of (suc s) low free = (let e : nat_eq 0 (suc s) ≡ false = grind (arith, nat_tests) in rw e refl)
+
+pub judged : AreJudged
+judged = record {
+  told = told;
+  legal = search rules;
+  another_receipt = λ h t. (let e : 4 ≡ 5 = ap (λ (x : Number). x.lsn) t.2.1.0 in omega (arith, e));
+  call_left_out = λ h t. t.2.0;
+  call_that_crashes = λ h t. t.2.0;
+  crash_left_out = λ h t. t.2.0;
+  restart_answered_as_a_call = λ h t. t.2;
+  running_while_shut = λ h t. t.2.1 (ap (λ (k : List Entry). (ledger k).phase) t.1);
+  refused_for_damage = λ h t. t.2.1;
+  refused_while_open = λ h t. cc (sym (ap (λ (k : List Entry). (ledger k).phase) t.1.2.3) ∙ t.2.2);
+  undone_without_work = λ h t. (let e = t.2.2 in omega (arith, e));
+  acknowledged_of_no_commit = λ h t. t.2;
+  answered_before_the_first = λ h t. t.2;
+  loses_what_was_left = λ h a. (let e : 3 ≤ 1 = a.0.forced in omega (arith, e));
+  keeps_a_commit_without_its_record = λ a. (let e : 1 ≡ 0 = a.0.exact in omega (arith, e));
+  opened_while_open = λ a. cc (a.0.shut);
+  none_where_one_waits = λ a. cc (a.0.1 0 (omega arith) refl);
+  none_where_it_is_taken = ((search rules, none_of), search rules);
+  shows_nothing = λ a. cc (a.0.1);
+}

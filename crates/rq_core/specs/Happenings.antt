@@ -1,0 +1,133 @@
+-- What may happen to a store, what is answered, and the history that this tells.
+use Rattle.std.specs.Prelude.{◌≡◌, ℕ, zero, suc, Bool, true, false, IsTrue, List, [], ◌∷◌, Option, Some, None, map, reverse, slice_get}
+use Rattle.rq_model.specs.declared.refusal.Refusal.{Refusal}
+use Rattle.rq_model.specs.declared.refusal.Refusal.TheVariants as why
+use Rattle.rq_model.specs.History.{Entry, Call}
+use Rattle.rq_model.specs.History.Call.{Acknowledge}
+use Rattle.rq_model.specs.History.Entry.{Crash as Crash_entry, Restarted as Restarted_entry}
+use Rattle.rq_model.specs.Ledger.{Phase, ledger, kept_in}
+use Rattle.rq_model.specs.Ledger.Phase.{Shut}
+use Rattle.rq_model.specs.Replay.{Reply, Says}
+use Rattle.rq_model.specs.Replay.Reply.{Gave_commit}
+
+pub data Happening : Type 0 where
+  Asks : (call : Call) → Happening
+  -- a receipt is asked for the commit that the nth happening answered
+  Acknowledges : (n : ℕ) → Happening
+  -- some later device call fails
+  Fails : Happening
+  Crashes : Happening
+  -- a crash at a device call inside a call
+  Stops_in : (call : Call) → Happening
+  Restarts : Happening
+  -- a crash at a device call inside a restart
+  Stops_restart : Happening
+
+pub record Report : Type 0 where
+  pub incarnation : ℕ
+  pub unfinished : ℕ
+  pub lost : ℕ
+  pub records : ℕ
+
+pub data Answer : Type 0 where
+  Answered : (reply : Reply) → Answer
+  -- so many records are left
+  Crashed : (records : ℕ) → Answer
+  Restarted : (report : Report) → Answer
+  -- a restart was refused
+  Refused : (refusal : Refusal) → Answer
+  -- a restart of a store that is open
+  Running : Answer
+  Nothing : Answer
+
+-- the happenings so far with their answers, the newest first
+abbrev pub Course : Type 0
+Course = List (Happening × Answer)
+
+-- those behind a course, in order
+abbrev pub paired : Course → List Happening → List Answer → Course
+paired course (x ∷ xs) (a ∷ answers) = paired ((x, a) ∷ course) xs answers
+paired course _ _ = course
+
+abbrev pub course_of : List Happening → List Answer → Course
+course_of xs answers = paired [] xs answers
+
+-- the answers of a course, in order
+abbrev pub answers_of : Course → List Answer
+answers_of course = reverse (map (λ (a : Happening × Answer). a.1) course)
+
+-- the nth of them, counted from 1
+abbrev pub nth : ℕ → List Answer → Option Answer
+nth zero answers = None
+nth (suc n) answers = slice_get answers n
+
+-- the acknowledgement of the commit that was answered
+abbrev pub acknowledging : Option Answer → Option Call
+acknowledging (Some (Answered (Gave_commit number))) = Some (Acknowledge number.txn number.lsn)
+acknowledging _ = None
+
+-- the call that a happening makes
+abbrev pub called : Course → Happening → Option Call
+called course (Asks call) = Some call
+called course (Stops_in call) = Some call
+called course (Acknowledges n) = acknowledging (nth n (answers_of course))
+called course _ = None
+
+abbrev pub restarts : Happening → Bool
+restarts Restarts = true
+restarts Stops_restart = true
+restarts _ = false
+
+abbrev pub MayRestart : Course → Happening → Type 0
+MayRestart course x = IsTrue (restarts x)
+
+abbrev pub makes_no_call : Option Call → Type 0
+makes_no_call None = Unit {0}
+makes_no_call (Some call) = ⊥
+
+-- nothing happens at the store
+abbrev pub DoesNothing : Course → Happening → Type 0
+DoesNothing course (Acknowledges n) = makes_no_call (acknowledging (nth n (answers_of course)))
+DoesNothing course Fails = Unit {0}
+DoesNothing course _ = ⊥
+
+-- it may crash a store in this phase
+abbrev pub MayCrashIt : Happening → Phase → Type 0
+MayCrashIt Crashes phase = Unit {0}
+MayCrashIt (Stops_in call) phase = phase ≡ Shut → ⊥
+MayCrashIt Stops_restart phase = phase ≡ Shut
+MayCrashIt _ phase = ⊥
+
+-- why a store that a crash left may stay shut: never for what stands on its devices, but for what is not undone yet
+abbrev pub MayStayShut : Refusal → Type 0
+MayStayShut why.NoMemory = Unit {0}
+MayStayShut why.DiskRead = Unit {0}
+MayStayShut why.DiskWrite = Unit {0}
+MayStayShut why.LogFull = Unit {0}
+MayStayShut why.Unfinished = Unit {0}
+MayStayShut _ = ⊥
+
+-- by it a device's failure is told
+abbrev pub is_of_device : Refusal → Bool
+is_of_device why.DiskRead = true
+is_of_device why.DiskWrite = true
+is_of_device _ = false
+
+-- the call with its reply is one entry more
+abbrev pub AddsCall : Option Call → Reply → List Entry → List Entry → Type 0
+AddsCall None reply older h = ⊥
+AddsCall (Some call) reply older h = (e : Entry) × Says call reply e × (h ≡ e ∷ older)
+
+-- what a happening with its answer makes of the history
+abbrev pub Adds : Course → Happening → Answer → List Entry → List Entry → Type 0
+Adds course x (Answered reply) older h = AddsCall (called course x) reply older h
+Adds course x (Crashed records) older h = MayCrashIt x (ledger older).phase × (h ≡ Crash_entry (kept_in records (ledger older).committed) records ∷ older)
+Adds course x (Restarted report) older h = IsTrue (restarts x) × (report.unfinished ≡ 0) × (report.lost ≡ 0) × (h ≡ Restarted_entry report.incarnation report.records ∷ older)
+Adds course x (Refused refusal) older h = IsTrue (restarts x) × MayStayShut refusal × ((ledger older).phase ≡ Shut) × (h ≡ older)
+Adds course x Running older h = IsTrue (restarts x) × ((ledger older).phase ≡ Shut → ⊥) × (h ≡ older)
+Adds course x Nothing older h = DoesNothing course x × (h ≡ older)
+
+-- The happenings with their answers tell this history, for some choice of the groups that were picked.
+abbrev pub Tells : Course → List Entry → Type 0
+Tells [] h = h ≡ []
+Tells (a ∷ course) h = (older : List Entry) × Tells course older × Adds course a.0 a.1 older h

@@ -1,0 +1,65 @@
+-- What is so of a store between two happenings.
+use Rattle.std.specs.Prelude.{◌≡◌, ℕ, List}
+use Rattle.rq_model.specs.declared.record.Record.{Record}
+use Rattle.rq_model.specs.History.{Entry}
+use Rattle.rq_model.specs.Incarnations.{Extends, Ties}
+use Rattle.rq_model.specs.Ledger.{Ledger, Phase, ledger}
+use Rattle.rq_model.specs.Ledger.Phase.{Shut}
+use Rattle.rq_model.specs.Legal.{IsLegal}
+use Rattle.rq_disk.specs.Device.{Images}
+use Rattle.rq_disk.specs.declared.device.LogDevice as log_device
+use Rattle.rq_disk.specs.declared.device.PageDevice as page_device
+use Rattle.rq_page.specs.Sizes.{Sizes, IsInRange}
+use Rattle.rq_store.specs.State.{ledger_of, size_of}
+use Rattle.rq_store.specs.Sound.{IsSound}
+use Rattle.rq_engine.specs.Crash.{AreFit}
+use Rattle.rq_engine.specs.Devices.{EachPair}
+use Rattle.rq_engine.specs.Opened.{OpenStore}
+use Rattle.rq_restart.specs.Underway.{IsStore}
+use Rattle.rq_core.specs.Headline.{LeavesStores}
+use Rattle.rq_core.specs.Happenings.{Happening, Course, Tells, MayCrashIt}
+
+-- a store is shut, with both devices as it was left, or open
+pub data World (P L : Type 0) : Type 0 where
+  Is_shut : (pages : P) (log : L) → World P L
+  Is_open : (engine : OpenStore P L) → World P L
+
+-- the records that were left, with what a restart that was stopped has added behind
+abbrev pub IsOver : Sizes → List Record → Images → List ℕ → Type 0
+IsOver z older images bytes = (now : List Record) × Extends older now × IsStore z now images bytes
+
+module _ {P L : Type 0} (p : page_device.Ghosts P) (l : log_device.Ghosts L) (z : Sizes) where
+  -- whatever a crash leaves of a store that is shut is a store, over the log that the history tells
+  pub record IsShut (h : List Entry) (pages : P) (log : L) : Type 0 where
+    pub range : IsInRange z
+    pub phase : (ledger h).phase ≡ Shut
+    pub older : List Record
+    pub ties : Ties (ledger h) older
+    pub left : EachPair p l pages log (IsOver z older)
+
+  -- an open store goes back to a legal log, stands where the history ends, and has its pages fit what is forced
+  pub record IsOpen (h : List Entry) (engine : OpenStore P L) : Type 0 where
+    pub sizes : engine.state.sizes ≡ z
+    pub ledger : ledger_of engine.state ≡ ledger h
+    pub sound : IsSound engine.state
+    pub fit : AreFit p engine
+
+  abbrev pub Stands : List Entry → World P L → Type 0
+  Stands h (Is_shut pages log) = IsShut h pages log
+  Stands h (Is_open engine) = IsOpen h engine
+
+  -- For some choice of the groups that were picked the course tells a legal history, and the world stands where it ends.
+  pub record Ran (course : Course) (world : World P L) : Type 0 where
+    pub history : List Entry
+    pub tells : Tells course history
+    pub legal : IsLegal (size_of z) history
+    pub stands : Stands history world
+
+  -- The course tells a legal history, which this happening may end with a crash of both devices, whatever that leaves.
+  pub record CanCrash (course : Course) (x : Happening) (pages : P) (log : L) : Type 0 where
+    pub range : IsInRange z
+    pub history : List Entry
+    pub tells : Tells course history
+    pub legal : IsLegal (size_of z) history
+    pub may : MayCrashIt x (ledger history).phase
+    pub leaves : LeavesStores p l z history pages log

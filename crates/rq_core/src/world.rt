@@ -1,0 +1,393 @@
+//! A store over devices in memory, and what happens to it: calls, failures of devices, crashes at any device
+//! call, restarts.
+ghost use Rattle.std.specs.Prelude.{◌≡◌, ◌∷◌, ◌↔◌, IfOk, IfSome, IfNone, IfErr, IsTrue, Some, None, List, length, map, option_map, true};
+ghost use Rattle.rq_model.specs.History.{Call};
+ghost use Rattle.rq_model.specs.History.Call.{Acknowledge};
+ghost use Rattle.rq_page.specs.Sizes.{Sizes};
+ghost use Rattle.rq_engine.specs.Says.{call_of};
+ghost use Rattle.rq_core.specs.Happenings.{Course, DoesNothing, Happening as Happens, MayRestart, acknowledging, answers_of, is_of_device, nth};
+ghost use Rattle.rq_core.specs.Happenings.Answer.{Restarted};
+ghost use Rattle.rq_core.specs.Happenings.Happening.{Crashes, Restarts, Stops_in, Stops_restart};
+ghost use Rattle.rq_core.specs.Runs.{CanCrash, GoesOn, Is, IsFresh, IsHeadline, Makes, Ran, StaysShut};
+ghost use Rattle.rq_core.specs.Views.{answers, commit_told, course, happens, report_of, world_of};
+ghost use Rattle.rq_core.specs.World.World.{Is_open, Is_shut};
+
+use crate::happening::{Choice, Entry, Happening};
+use rq_disk::{MemLog, MemPages, Mishap, PageChoice, Switch};
+use rq_engine::engine::Engine;
+use rq_engine::event::{CommitNo, Event, Reply};
+use rq_model::laws::{
+    acknowledged_stay, crash_goes_on, first_in_first_out, restart_goes_on, shut_crash_goes_on,
+};
+use rq_model::refusal::Refusal;
+use rq_page::layout::Layout;
+use rq_restart::format::format;
+use rq_restart::laws::{one_log, one_size, records_are_the_log};
+use rq_restart::restart::{Report, Stopped, restart};
+use std::alloc::{AllocError, Global};
+use std::marker::Model;
+
+/// A store of which nothing has happened: it is formatted, and not open.
+#[derive(Drop)]
+pub struct World {
+    alloc: Global,
+    switch: Switch,
+    layout: Layout,
+    pages: MemPages,
+    log: MemLog,
+}
+
+impl Model for World {
+    ghost use Rattle.rq_core.specs.Runs.{IsFresh};
+    ghost use Rattle.rq_page.specs.Sizes.{Sizes};
+
+    ghost Value = { Sizes };
+
+    ghost view = { λ w. w.layout };
+
+    ghost invariant = { λ w. IsFresh w.layout w.pages w.log };
+}
+
+/// What a run came to: an entry for each happening, in order, and both devices as they are at its end.
+#[derive(Drop)]
+pub struct Outcome {
+    pub entries: Vec<Entry>,
+    pub pages: MemPages,
+    pub log: MemLog,
+}
+
+#[derive(Drop)]
+enum Store {
+    Shut(MemPages, MemLog),
+    Open(Engine<MemPages, MemLog>),
+}
+
+impl World {
+    /// A formatted store with these pages, over devices in memory. It is not open.
+    ///
+    /// # Errors
+    /// Where memory is wanting.
+    pub fn new(alloc: Global, layout: Layout) -> Result<World, AllocError>
+        ensures { IfOk result (λ w. w ≡ layout) }
+    {
+        let switch = Switch::new(alloc)?;
+        let mut pages = MemPages::zeroed(alloc, layout.pages(), switch.share()?)?;
+        let log = MemLog::new(alloc, Vec::new(alloc), switch.share()?);
+        match format(&mut pages, &layout) {
+            Ok(()) => Ok(World {
+                alloc,
+                switch,
+                layout,
+                pages,
+                log,
+            }),
+            Err(_) => Err(AllocError),
+        }
+    }
+
+    /// All of this happens to the store, one after the other. There is an entry for each, in order; what they
+    /// tell is a history in which each reply is legal, each crash keeps what it must, and each restart opens
+    /// what was left; and whatever a crash at its end leaves is a store with exactly what is committed.
+    ///
+    /// # Errors
+    /// Where memory is wanting.
+    pub fn run(self, happenings: &[Happening]) -> Result<Outcome, AllocError>
+        ensures each { IfOk result (λ o. length o.entries.items ≡ length happenings.now) }
+        ensures headline { IfOk result (λ o. IsHeadline self (course happenings.now o.entries.items) o.pages o.log) }
+    {
+        let World {
+            alloc,
+            switch,
+            layout: _,
+            pages,
+            log,
+        } = self;
+        let mut entries = Vec::with_capacity(alloc, happenings.len())?;
+        let mut store = Store::Shut(pages, log);
+        for happening in happenings {
+            let (next, entry) = happen(alloc, &switch, store, happening, &entries)?;
+            store = next;
+            entries.push(entry)?;
+        }
+        let (pages, log) = given_up(store);
+        Ok(Outcome {
+            entries,
+            pages,
+            log,
+        })
+    }
+}
+
+// One happening, after those that were answered so.
+fn happen(
+    alloc: Global,
+    switch: &Switch,
+    store: Store,
+    happening: &Happening,
+    entries: &[Entry],
+) -> Result<(Store, Entry), AllocError>
+    ensures { IfOk result (λ r. (z : Sizes) (c : Course) → answers_of c ≡ map answers entries.now → Ran z c (world_of store)
+        → Ran z ((happens happening.now, answers r.1) ∷ c) (world_of r.0)) }
+{
+    match store {
+        Store::Open(engine) => happen_to_open(switch, engine, happening, entries),
+        Store::Shut(pages, log) => happen_to_shut(alloc, switch, pages, log, happening, entries),
+    }
+}
+
+fn happen_to_open(
+    switch: &Switch,
+    engine: Engine<MemPages, MemLog>,
+    happening: &Happening,
+    entries: &[Entry],
+) -> Result<(Store, Entry), AllocError>
+    ensures { IfOk result (λ r. (z : Sizes) (c : Course) → answers_of c ≡ map answers entries.now → Ran z c (Is_open engine)
+        → Ran z ((happens happening.now, answers r.1) ∷ c) (world_of r.0)) }
+{
+    match happening {
+        Happening::Call(event) => Ok(ask(engine, event)),
+        Happening::Ack(n) => match committed(entries, *n) {
+            Some(number) => Ok(ask(engine, &Event::Acknowledged(number))),
+            None => Ok((Store::Open(engine), Entry::Nothing)),
+        },
+        Happening::Fail(n) => {
+            switch.arm_call(*n, Mishap::Fail);
+            Ok((Store::Open(engine), Entry::Nothing))
+        }
+        Happening::Crash(choice) => Ok(crash_open(switch, engine, choice.keep, images(choice)?)),
+        Happening::StopIn(event, n, choice) => {
+            let images = images(choice)?;
+            Ok(stop_in(switch, engine, event, *n, choice.keep, images))
+        }
+        Happening::Restart | Happening::RestartStop(..) => {
+            Ok((Store::Open(engine), Entry::Running))
+        }
+    }
+}
+
+fn happen_to_shut(
+    alloc: Global,
+    switch: &Switch,
+    pages: MemPages,
+    log: MemLog,
+    happening: &Happening,
+    entries: &[Entry],
+) -> Result<(Store, Entry), AllocError>
+    ensures { IfOk result (λ r. (z : Sizes) (c : Course) → answers_of c ≡ map answers entries.now → Ran z c (Is_shut pages log)
+        → Ran z ((happens happening.now, answers r.1) ∷ c) (world_of r.0)) }
+{
+    match happening {
+        Happening::Call(_) | Happening::StopIn(..) => Ok(not_open(pages, log)),
+        Happening::Ack(n) => match committed(entries, *n) {
+            Some(_) => Ok(not_open(pages, log)),
+            None => Ok((Store::Shut(pages, log), Entry::Nothing)),
+        },
+        Happening::Fail(n) => {
+            switch.arm_call(*n, Mishap::Fail);
+            Ok((Store::Shut(pages, log), Entry::Nothing))
+        }
+        Happening::Crash(_) => Ok(crash_shut(pages, log)),
+        Happening::Restart => Ok(reopen(alloc, pages, log)),
+        Happening::RestartStop(n, choice) => {
+            let images = images(choice)?;
+            Ok(reopen_stopped(alloc, switch, pages, log, *n, choice.keep, images))
+        }
+    }
+}
+
+// The answer to a call of a store that is not open.
+fn not_open(pages: MemPages, log: MemLog) -> (Store, Entry)
+    ensures { (call : Call) → GoesOn (Makes call) (Is_shut pages log) (answers result.1) (world_of result.0) }
+{
+    (
+        Store::Shut(pages, log),
+        Entry::Answered(Reply::Refused(Refusal::Failed)),
+    )
+}
+
+// The power fails while the store is not open: all that its devices hold outlives it.
+fn crash_shut(pages: MemPages, log: MemLog) -> (Store, Entry)
+    ensures { GoesOn (Is Crashes) (Is_shut pages log) (answers result.1) (world_of result.0) }
+{
+    shut_crash_goes_on();
+    crash(pages, log, u64::MAX, PageChoice::Newest)
+}
+
+// Makes a call of an open store.
+fn ask(engine: Engine<MemPages, MemLog>, event: &Event) -> (Store, Entry)
+    ensures { GoesOn (Makes (call_of event.now)) (Is_open engine) (answers result.1) (world_of result.0) }
+{
+    let mut engine = engine;
+    let answer = engine.apply(event);
+    (Store::Open(engine), Entry::Answered(answer))
+}
+
+// The power fails. What was not handed over yet may outlive it too, as if it had been.
+fn crash_open(
+    switch: &Switch,
+    engine: Engine<MemPages, MemLog>,
+    keep: u64,
+    images: PageChoice,
+) -> (Store, Entry)
+    ensures { GoesOn (Is Crashes) (Is_open engine) (answers result.1) (world_of result.0) }
+{
+    let mut engine = engine;
+    switch.suspend();
+    let _ = engine.apply(&Event::HandOver);
+    switch.resume();
+    engine.keeps();
+    crash_goes_on();
+    let (pages, log) = engine.give_back();
+    crash(pages, log, keep, images)
+}
+
+// Makes a call; the power fails at its nth device call.
+fn stop_in(
+    switch: &Switch,
+    engine: Engine<MemPages, MemLog>,
+    event: &Event,
+    n: u64,
+    keep: u64,
+    images: PageChoice,
+) -> (Store, Entry)
+    ensures { GoesOn (Is (Stops_in (call_of event.now))) (Is_open engine) (answers result.1) (world_of result.0) }
+{
+    let mut engine = engine;
+    switch.arm_call(n, Mishap::Stop);
+    let reply = engine.apply(event);
+    if is_stopped(switch) && is_of_device(&reply) {
+        engine.keeps();
+        crash_goes_on();
+        let (pages, log) = engine.give_back();
+        return crash(pages, log, keep, images);
+    }
+    (Store::Open(engine), Entry::Answered(reply))
+}
+
+// Whether the machine stopped since the switch was armed; it is not armed any more.
+fn is_stopped(switch: &Switch) -> bool {
+    let stopped = switch.is_stopped();
+    switch.arm_call(0, Mishap::Stop);
+    switch.reset();
+    stopped
+}
+
+// Opens the store.
+fn reopen(alloc: Global, pages: MemPages, log: MemLog) -> (Store, Entry)
+    ensures { GoesOn (Is Restarts) (Is_shut pages log) (answers result.1) (world_of result.0) }
+{
+    match try_restart(alloc, pages, log) {
+        Ok((engine, report)) => (Store::Open(engine), Entry::Restarted(report)),
+        Err(stopped) => (
+            Store::Shut(stopped.pages, stopped.log),
+            Entry::Refused(stopped.refusal),
+        ),
+    }
+}
+
+// Opens the store; the power fails at the nth device call of that.
+fn reopen_stopped(
+    alloc: Global,
+    switch: &Switch,
+    pages: MemPages,
+    log: MemLog,
+    n: u64,
+    keep: u64,
+    images: PageChoice,
+) -> (Store, Entry)
+    ensures { GoesOn (Is Stops_restart) (Is_shut pages log) (answers result.1) (world_of result.0) }
+{
+    switch.arm_call(n, Mishap::Stop);
+    let restarted = try_restart(alloc, pages, log);
+    let power_failed = is_stopped(switch);
+    match restarted {
+        Ok((engine, report)) => (Store::Open(engine), Entry::Restarted(report)),
+        Err(stopped) if power_failed => {
+            shut_crash_goes_on();
+            crash(stopped.pages, stopped.log, keep, images)
+        }
+        Err(stopped) => (
+            Store::Shut(stopped.pages, stopped.log),
+            Entry::Refused(stopped.refusal),
+        ),
+    }
+}
+
+// A restart, as it goes on with whatever led to the store.
+fn try_restart(
+    alloc: Global,
+    pages: MemPages,
+    log: MemLog,
+) -> Result<(Engine<MemPages, MemLog>, Report), Stopped<MemPages, MemLog>>
+    ensures opened { IfOk result (λ o. GoesOn MayRestart (Is_shut pages log) (Restarted (report_of o.1)) (Is_open o.0)) }
+    ensures refused { IfErr result (λ s. StaysShut pages log s.pages s.log s.refusal) }
+{
+    one_log();
+    one_size();
+    restart_goes_on();
+    restart(alloc, pages, log)
+}
+
+// Both devices as the crash leaves them.
+fn crash(pages: MemPages, log: MemLog, keep: u64, images: PageChoice) -> (Store, Entry)
+    ensures { (z : Sizes) (c : Course) (x : Happens) → CanCrash z c x pages log → Ran z ((x, answers result.1) ∷ c) (world_of result.0) }
+{
+    one_log();
+    records_are_the_log();
+    let pages = pages.crash(images);
+    let log = log.crash(keep);
+    let records = log.records();
+    (Store::Shut(pages, log), Entry::Crashed(records))
+}
+
+// The devices of a store that is given up.
+fn given_up(store: Store) -> (MemPages, MemLog)
+    ensures { (z : Sizes) (c : Course) → Ran z c (world_of store) → IsHeadline z c result.0 result.1 }
+{
+    first_in_first_out();
+    acknowledged_stay();
+    crash_goes_on();
+    shut_crash_goes_on();
+    match store {
+        Store::Shut(pages, log) => (pages, log),
+        Store::Open(engine) => {
+            engine.keeps();
+            engine.give_back()
+        }
+    }
+}
+
+// A device has failed in the call.
+fn is_of_device(reply: &Reply) -> bool
+    ensures { IsTrue result → (r : _) × (reply.now ≡ Reply.Refused r) × (is_of_device r ≡ true) }
+{
+    match reply {
+        Reply::Refused(Refusal::DiskRead | Refusal::DiskWrite) => true,
+        _ => false,
+    }
+}
+
+// The commit that the nth of these answered.
+fn committed(entries: &[Entry], n: u64) -> Option<CommitNo>
+    ensures { acknowledging (nth n (map answers entries.now)) ≡ option_map (λ number. Acknowledge number.txn number.lsn) result }
+{
+    if n == 0 || n > entries.len() as u64 {
+        return None;
+    }
+    commit_of(&entries[(n - 1) as usize])
+}
+
+// The commit that this answered.
+fn commit_of(entry: &Entry) -> Option<CommitNo>
+    ensures { result ≡ commit_told entry.now }
+{
+    match entry {
+        Entry::Answered(Reply::Committed(number)) => Some(*number),
+        _ => None,
+    }
+}
+
+// Which image of each page outlives the crash.
+fn images(choice: &Choice) -> Result<PageChoice, AllocError> {
+    Ok(PageChoice::Places(choice.pages.clone()?))
+}

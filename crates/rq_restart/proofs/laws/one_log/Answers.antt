@@ -1,0 +1,5 @@
+use Rattle.rq_restart.proofs.Parsing.{one_log}
+use Rattle.rq_restart.proofs.laws.one_log.Goals as goal
+
+pub returns : goal.returns
+returns c = one_log
