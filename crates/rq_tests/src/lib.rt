@@ -1,4 +1,4 @@
-//! Tests of the engine under its audit, of the content that it shows, and of the queue as plain lists.
+//! Tests of scripts, of the engine under its audit, of the content that it shows, and of the queue as plain lists.
 #![tactic(auto)]
 
 #[cfg(test)]
@@ -13,5 +13,7 @@ mod failing;
 mod lists;
 #[cfg(test)]
 mod reference;
+#[cfg(test)]
+mod scripts;
 #[cfg(test)]
 mod taken;

@@ -1,7 +1,8 @@
 //! What a kept engine's audit holds, read entry by entry.
 use crate::calls::{answered, devices, formatted, opened};
-use rq_disk::{MemLog, MemPages};
-use rq_engine::event::{Event, Reply};
+use rq_disk::{LogDevice, MemLog, MemPages, PageDevice};
+use rq_engine::event::{CommitNo, Event, Receipt, Reply};
+use rq_model::txn::Txn;
 use rq_page::layout::Layout;
 use rq_shared::kept::{AuditEntry, Kept};
 use std::alloc::Global;
@@ -30,29 +31,71 @@ fn is_entry(entry: &AuditEntry, pass: u64) -> bool {
     in_kind && entry.pass() == pass
 }
 
+fn begun(reply: Reply) -> Option<Txn> {
+    match reply {
+        Reply::Begun(txn) => Some(txn),
+        _ => None,
+    }
+}
+
+fn committed(reply: Reply) -> Option<CommitNo> {
+    match reply {
+        Reply::Committed(number) => Some(number),
+        _ => None,
+    }
+}
+
+fn is_forced(reply: &Reply) -> bool {
+    matches!(reply, Reply::Forced(_))
+}
+
+fn acknowledged(reply: Reply) -> Option<Receipt> {
+    match reply {
+        Reply::Acknowledged(given) => given,
+        _ => None,
+    }
+}
+
+// A begin, a commit, a force and an acknowledgement, by two passes in turn: the commit, and its receipt.
+fn make_four<P: PageDevice + Drop, L: LogDevice + Drop>(
+    kept: &mut Kept<P, L>,
+) -> Result<(CommitNo, Receipt), &'static str> {
+    let txn = begun(answered(kept, 1, Event::Begin)).ok_or("begin")?;
+    let number = committed(answered(kept, 2, Event::Commit(txn))).ok_or("commit")?;
+    if !is_forced(&answered(kept, 1, Event::Force)) {
+        return Err("force");
+    }
+    let reply = answered(kept, 2, Event::Acknowledged(number));
+    let receipt = acknowledged(reply).ok_or("acknowledged")?;
+    Ok((number, receipt))
+}
+
+// Takes the audit: whether each of its four entries is what it should be; none where there are not four.
+fn take_four<P: PageDevice + Drop, L: LogDevice + Drop>(
+    kept: &mut Kept<P, L>,
+) -> Option<[bool; 4]> {
+    let taken = kept.take();
+    let [begun, committed, forced, acknowledged] = taken.entries() else {
+        return None;
+    };
+    Some([
+        is_entry(begun, 1),
+        is_entry(committed, 2),
+        is_entry(forced, 1),
+        is_entry(acknowledged, 2),
+    ])
+}
+
+fn takes_nothing<P: PageDevice + Drop, L: LogDevice + Drop>(kept: &mut Kept<P, L>) -> bool {
+    kept.take().entries().is_empty()
+}
+
 #[test]
 fn the_audit_holds_what_was_answered(rt: HostRuntime) -> Result<(), Fail> {
     let mut kept = small_store(rt.alloc())?;
-    let Reply::Begun(txn) = answered(&mut kept, 1, Event::Begin) else {
-        return Err("begin".into());
-    };
-    let Reply::Committed(number) = answered(&mut kept, 2, Event::Commit(txn)) else {
-        return Err("commit".into());
-    };
-    let Reply::Forced(_) = answered(&mut kept, 1, Event::Force) else {
-        return Err("force".into());
-    };
-    let Reply::Acknowledged(Some(receipt)) = answered(&mut kept, 2, Event::Acknowledged(number))
-    else {
-        return Err("acknowledged".into());
-    };
+    let (number, receipt) = make_four(&mut kept)?;
     assert_eq!(rt; receipt.number(), number);
-    let taken = kept.take();
-    let [begun, committed, forced, acknowledged] = taken.entries() else {
-        return Err("four entries".into());
-    };
-    assert!(rt; is_entry(begun, 1) && is_entry(committed, 2));
-    assert!(rt; is_entry(forced, 1) && is_entry(acknowledged, 2));
-    assert!(rt; kept.take().entries().is_empty());
+    assert_eq!(rt; take_four(&mut kept), Some([true; 4]));
+    assert!(rt; takes_nothing(&mut kept));
     Ok(())
 }

@@ -1,8 +1,6 @@
 //! `rqm`, a recoverable queue manager.
 #![tactic(auto)]
 
-#[cfg(test)]
-mod tests;
 mod words;
 
 use rq_script::run_script;

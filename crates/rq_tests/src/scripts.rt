@@ -1,3 +1,4 @@
+//! Scripts, and what they print.
 use rq_page::layout::Layout;
 use rq_script::run_script;
 use std::process::Abort;
