@@ -44,8 +44,8 @@ fn rounds<R: AllocGlobal + std::rt::Env>(rt: &R) -> io::Result<u32> {
     })
 }
 
-// How many records the bytes hold; none where something else stands among them. Each is kept until some more are read, as by a
-// reader that hands them on.
+// How many records the bytes hold; none where something else stands among them. Each is kept until some more are read,
+// as by a reader that hands them on.
 fn count(bytes: &[u8], kept: &mut Vec<Record>) -> Option<u64> {
     let mut rest = bytes;
     for records in 0..u64::MAX {

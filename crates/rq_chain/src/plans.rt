@@ -32,11 +32,14 @@ pub fn append(
     requires group { IsGroupOf layout.now group.now }
     requires tail { IsNeighbour layout.now group.now.directory.tail tail }
     requires free { IsCellAddress layout.now free }
-    ensures writes { IfOk result (λ plan. reverse (writes_of layout.now plan.writes.items) ≡ append_writes (layout_of layout.now) group.now.sender group.now.directory free tag body (cell_beside tail)) }
+    ensures writes { IfOk result (λ plan. reverse (writes_of layout.now plan.writes.items)
+        ≡ append_writes (layout_of layout.now) group.now.sender group.now.directory free tag body (cell_beside tail)) }
     ensures slots { IfOk result (λ plan. AreSlotWrites layout.now plan.writes.items) }
-    ensures count { IfOk result (λ plan. MatchOption tail (length plan.writes.items ≡ 2) (λ _. length plan.writes.items ≡ 3)) }
+    ensures count { IfOk result (λ plan. MatchOption tail (length plan.writes.items ≡ 2)
+        (λ _. length plan.writes.items ≡ 3)) }
     ensures cell { IfOk result (λ plan. IsFirstAt free plan.writes.items) }
-    ensures deed { IfOk result (λ plan. plan.deed ≡ Deed.Append group.now.sender (group.now.directory.sent + 1) tag group.now.directory.last_tag body) }
+    ensures deed { IfOk result (λ plan. plan.deed ≡ Deed.Append group.now.sender
+        (group.now.directory.sent + 1) tag group.now.directory.last_tag body) }
 {
     let new = next_cell(layout, group, tag, body);
     let first = cell_write(layout, free, &CellSlot::Free, &CellSlot::Used(new));
@@ -67,10 +70,14 @@ pub fn unlink_head(
     requires group { IsGroupOf layout.now group.now }
     requires head { IsNeighbourAt layout.now group.now.directory.head head.now }
     requires next { IsNeighbour layout.now head.now.cell.next next }
-    ensures writes { IfOk result (λ plan. reverse (writes_of layout.now plan.writes.items) ≡ unlink_head_writes (layout_of layout.now) group.now.sender group.now.directory head.now.cell (cell_beside next)) }
+    ensures writes { IfOk result (λ plan. reverse (writes_of layout.now plan.writes.items)
+        ≡ unlink_head_writes (layout_of layout.now) group.now.sender group.now.directory head.now.cell
+        (cell_beside next)) }
     ensures slots { IfOk result (λ plan. AreSlotWrites layout.now plan.writes.items) }
-    ensures count { IfOk result (λ plan. MatchOption next (length plan.writes.items ≡ 2) (λ _. length plan.writes.items ≡ 3)) }
-    ensures deed { IfOk result (λ plan. plan.deed ≡ Deed.UnlinkHead group.now.sender (group.now.directory.received + 1) head.now.cell.tag head.now.cell.body) }
+    ensures count { IfOk result (λ plan. MatchOption next (length plan.writes.items ≡ 2)
+        (λ _. length plan.writes.items ≡ 3)) }
+    ensures deed { IfOk result (λ plan. plan.deed ≡ Deed.UnlinkHead group.now.sender
+        (group.now.directory.received + 1) head.now.cell.tag head.now.cell.body) }
 {
     let first = cell_write(layout, head.at, &CellSlot::Used(head.cell), &CellSlot::Free);
     let last = group_write(layout, group, &head_unlinked(layout, group, &head.cell));
@@ -91,7 +98,14 @@ pub fn unlink_head(
 fn next_cell(layout: &Layout, group: &Group, tag: u64, body: Body) -> Cell
     requires room { group.now.directory.sent < 2 ^ 64 - 1 }
     requires group { IsGroupOf layout.now group.now }
-    ensures cell { result ≡ record { sender = group.now.sender; sequence = group.now.directory.sent + 1; tag = tag; next = 0; prev = group.now.directory.tail; body = body } }
+    ensures cell { result ≡ record {
+      sender = group.now.sender;
+      sequence = group.now.directory.sent + 1;
+      tag = tag;
+      next = 0;
+      prev = group.now.directory.tail;
+      body = body;
+    } }
     ensures fits { IsCellOf layout.now result }
 {
     prove!(body.as_slice().len() <= BODY_LIMIT);
@@ -112,7 +126,8 @@ fn appended(layout: &Layout, group: &Group, cell: Addr, tag: u64) -> Directory
     requires group { IsGroupOf layout.now group.now }
     requires cell { IsCellAddress layout.now cell }
     ensures directory { result ≡ directory_appended group.now.directory cell tag }
-    ensures fits { IsDirectoryOf layout.now group.now.sender (record { sender = group.now.sender; directory = result }) }
+    ensures fits { IsDirectoryOf layout.now group.now.sender
+        (record { sender = group.now.sender; directory = result }) }
 {
     prove!(cell.page() < layout.pages() as u64);
     let old = &group.directory;
@@ -132,7 +147,8 @@ fn head_unlinked(layout: &Layout, group: &Group, head: &Cell) -> Directory
     requires group { IsGroupOf layout.now group.now }
     requires head { IsCellOf layout.now head.now }
     ensures directory { result ≡ directory_head_unlinked group.now.directory head.now }
-    ensures fits { IsDirectoryOf layout.now group.now.sender (record { sender = group.now.sender; directory = result }) }
+    ensures fits { IsDirectoryOf layout.now group.now.sender
+        (record { sender = group.now.sender; directory = result }) }
 {
     let old = &group.directory;
     let next = head.next;
@@ -150,7 +166,11 @@ fn head_unlinked(layout: &Layout, group: &Group, head: &Cell) -> Directory
 fn link_write(layout: &Layout, before: &Neighbour, next: Addr) -> SlotWrite
     requires before { IsNeighbourAt layout.now before.now.at before.now }
     requires next { IsCellAddress layout.now next }
-    ensures write { write_of layout.now result ≡ record { at = before.now.at; before = Used before.now.cell; after = Used (with_next next before.now.cell) } }
+    ensures write { write_of layout.now result ≡ record {
+      at = before.now.at;
+      before = Used before.now.cell;
+      after = Used (with_next next before.now.cell);
+    } }
     ensures slots { IsSlotWrite layout.now result }
 {
     prove!(next.page() < layout.pages() as u64);
@@ -161,7 +181,11 @@ fn link_write(layout: &Layout, before: &Neighbour, next: Addr) -> SlotWrite
 // The write that has no cell before a cell.
 fn unlink_write(layout: &Layout, after: &Neighbour) -> SlotWrite
     requires after { IsNeighbourAt layout.now after.now.at after.now }
-    ensures write { write_of layout.now result ≡ record { at = after.now.at; before = Used after.now.cell; after = Used (with_prev 0 after.now.cell) } }
+    ensures write { write_of layout.now result ≡ record {
+      at = after.now.at;
+      before = Used after.now.cell;
+      after = Used (with_prev 0 after.now.cell);
+    } }
     ensures slots { IsSlotWrite layout.now result }
 {
     let unlinked = CellSlot::Used(preceded(&after.cell, Addr::NONE));

@@ -24,7 +24,11 @@ pub(crate) fn cell_write(
     requires at { IsCellAddress layout.now at }
     requires before { MayStand layout.now before.now }
     requires after { MayStand layout.now after.now }
-    ensures write { write_of layout.now result ≡ record { at = at; before = of_cell_slot before.now; after = of_cell_slot after.now } }
+    ensures write { write_of layout.now result ≡ record {
+      at = at;
+      before = of_cell_slot before.now;
+      after = of_cell_slot after.now;
+    } }
     ensures slots { IsSlotWrite layout.now result }
 {
     prove!(at.page() < layout.pages() as u64);
@@ -38,8 +42,10 @@ pub(crate) fn cell_write(
 /// The write that has a group's directory slot say something else.
 pub(crate) fn group_write(layout: &Layout, group: &Group, after: &Directory) -> SlotWrite
     requires group { IsGroupOf layout.now group.now }
-    requires after { IsDirectoryOf layout.now group.now.sender (record { sender = group.now.sender; directory = after.now }) }
-    ensures write { write_of layout.now result ≡ directory_write (layout_of layout.now) group.now.sender group.now.directory after.now }
+    requires after { IsDirectoryOf layout.now group.now.sender
+        (record { sender = group.now.sender; directory = after.now }) }
+    ensures write { write_of layout.now result ≡ directory_write
+        (layout_of layout.now) group.now.sender group.now.directory after.now }
     ensures slots { IsSlotWrite layout.now result }
 {
     prove!(group.at.page() < layout.pages() as u64);

@@ -23,10 +23,16 @@ use Rattle.rq_content.specs.declared.earlier.Earlier.{Earlier}
 
 -- the group that a content shows
 abbrev pub group_of : GroupContent → Group
-group_of g = record { sent = g.sent; last_tag = g.last_tag; received = g.received; closed = g.closed; rest = g.rest.items }
+group_of g = record {
+  sent = g.sent;
+  last_tag = g.last_tag;
+  received = g.received;
+  closed = g.closed;
+  rest = g.rest.items;
+}
 
--- What a directory slot says where deeds are left out: how many messages were sent, the last tag before the first send that
--- is left out, whether the group is closed, and what the deeds took.
+-- What a directory slot says where deeds are left out: how many messages were sent, the last tag before the first send
+-- that is left out, whether the group is closed, and what the deeds took.
 pub record Before : Type 0 where
   pub sent : ℕ
   pub previous : Option ℕ
@@ -57,7 +63,8 @@ without_take m b = record b { taken = b.taken ++ m ∷ [] }
 -- one more deed is left out, where it is of s
 abbrev pub without_deed : ℕ → Deed → Before → Before
 without_deed s (Append r n tag previous body) b = cond (nat_eq r s) (without_send previous b) b
-without_deed s (UnlinkHead r n tag body) b = cond (nat_eq r s) (without_take (record { sender = s; tag = tag; body = body }) b) b
+without_deed s (UnlinkHead r n tag body) b = cond (nat_eq r s)
+    (without_take (record { sender = s; tag = tag; body = body }) b) b
 without_deed s (Close r) b = cond (nat_eq r s) (record b { closed = false }) b
 
 -- so are these, in order
@@ -139,7 +146,9 @@ pub record IsBroken (z : Sizes) (images : List (List ℕ)) (rows : List Row) (r 
   pub sender : ℕ
   pub below : sender < sender_count z
   pub page : r ≡ damaged_for sender
-  pub short : length (met (cells_in z images) sender (read_directory z images sender).head ((read_before z images rows sender).sent - (read_directory z images sender).received)) < (read_before z images rows sender).sent - (read_directory z images sender).received
+  pub short : length (met (cells_in z images) sender (read_directory z images sender).head
+      ((read_before z images rows sender).sent - (read_directory z images sender).received)) <
+      (read_before z images rows sender).sent - (read_directory z images sender).received
 
 -- why the content was not had
 abbrev pub StopsFor : Sizes → List (List ℕ) → List Row → Refusal → Type 0

@@ -22,8 +22,10 @@ pub fn add_chain<P: PageDevice>(
 ) -> Result<(), Refusal>
     requires sender { sender < sender_count pages.now.sizes }
     requires head { IsLink pages.now.sizes head }
-    ensures read { OnOk result (rest.new.items ≡ rest.old.items ++ met (cells_in pages.now.sizes pages.now.images) sender head count) }
-    ensures refused { IfErr result (λ refusal. WalkStops (cells_in pages.now.sizes pages.now.images) sender head count refusal) }
+    ensures read { OnOk result (rest.new.items ≡ rest.old.items ++ met
+        (cells_in pages.now.sizes pages.now.images) sender head count) }
+    ensures refused { IfErr result (λ refusal. WalkStops
+        (cells_in pages.now.sizes pages.now.images) sender head count refusal) }
 {
     let mut at = head;
     for _ in 0..count {

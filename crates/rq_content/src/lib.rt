@@ -1,4 +1,5 @@
-//! The committed content of each sender's group, read from its chain and from what transactions that have not ended did.
+//! The committed content of each sender's group, read from its chain and from what transactions that have not ended
+//! did.
 #![tactic(auto)]
 
 ghost use Rattle.std.specs.Prelude.{◌≡◌, ◌<◌, false, IfErr, IfOk, map};
@@ -49,9 +50,14 @@ pub fn content<P: PageDevice>(
     pages: &Pages<P>,
     transactions: &Transactions,
 ) -> Result<Vec<GroupContent>, Refusal>
-    ensures shown { (s : State) → IsSound s → s.sizes ≡ pages.now.sizes → s.images ≡ pages.now.images → s.rows ≡ transactions.now → any_under s.rows ≡ false → IfOk result (λ groups. map group_of groups.items ≡ map (group_in (committed_of s.records)) (below (sender_count s.sizes))) }
-    ensures sound { (s : State) → IsSound s → s.sizes ≡ pages.now.sizes → s.images ≡ pages.now.images → s.rows ≡ transactions.now → any_under s.rows ≡ false → IfErr result (λ refusal. IsNoMemory refusal) }
-    ensures read { IfOk result (λ groups. map group_of groups.items ≡ map (read_group pages.now.sizes pages.now.images transactions.now) (below (sender_count pages.now.sizes))) }
+    ensures shown { (s : State) → IsSound s → s.sizes ≡ pages.now.sizes → s.images ≡ pages.now.images
+        → s.rows ≡ transactions.now → any_under s.rows ≡ false
+        → IfOk result (λ groups. map group_of groups.items
+        ≡ map (group_in (committed_of s.records)) (below (sender_count s.sizes))) }
+    ensures sound { (s : State) → IsSound s → s.sizes ≡ pages.now.sizes → s.images ≡ pages.now.images
+        → s.rows ≡ transactions.now → any_under s.rows ≡ false → IfErr result (λ refusal. IsNoMemory refusal) }
+    ensures read { IfOk result (λ groups. map group_of groups.items
+        ≡ map (read_group pages.now.sizes pages.now.images transactions.now) (below (sender_count pages.now.sizes))) }
     ensures refused { IfErr result (λ refusal. StopsFor pages.now.sizes pages.now.images transactions.now refusal) }
 {
     read_groups(alloc, pages, transactions)
@@ -63,7 +69,8 @@ fn read_groups<P: PageDevice>(
     pages: &Pages<P>,
     transactions: &Transactions,
 ) -> Result<Vec<GroupContent>, Refusal>
-    ensures read { IfOk result (λ groups. map group_of groups.items ≡ map (read_group pages.now.sizes pages.now.images transactions.now) (below (sender_count pages.now.sizes))) }
+    ensures read { IfOk result (λ groups. map group_of groups.items
+        ≡ map (read_group pages.now.sizes pages.now.images transactions.now) (below (sender_count pages.now.sizes))) }
     ensures refused { IfErr result (λ refusal. StopsFor pages.now.sizes pages.now.images transactions.now refusal) }
 {
     let senders = pages.layout().senders();
@@ -87,7 +94,8 @@ fn group_content<P: PageDevice>(
     sender: u32,
 ) -> Result<GroupContent, Refusal>
     requires { sender < sender_count pages.now.sizes }
-    ensures read { IfOk result (λ group. group_of group ≡ read_group pages.now.sizes pages.now.images transactions.now sender) }
+    ensures read { IfOk result (λ group. group_of group
+        ≡ read_group pages.now.sizes pages.now.images transactions.now sender) }
     ensures refused { IfErr result (λ refusal. StopsFor pages.now.sizes pages.now.images transactions.now refusal) }
 {
     let directory = pages.group(sender);

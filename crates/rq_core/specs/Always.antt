@@ -11,8 +11,10 @@ use Rattle.std.specs.Prelude.{map}
 -- "None" means that no group that is free for the transaction holds a message that it has not taken itself.
 abbrev pub NoneIsTrue : Size → Type 0
 NoneIsTrue z = (h : List Entry) (t : Txn) → IsLegal z (None_free t ∷ h)
-    → At (ledger h) t (λ o. (s : ℕ) → s < z.senders → free_to_receive t s (ledger h).open_ones ≡ true → length (rest h s) ≤ length (own_takes s o))
+    → At (ledger h) t (λ o. (s : ℕ) → s < z.senders → free_to_receive t s (ledger h).open_ones ≡ true
+    → length (rest h s) ≤ length (own_takes s o))
 
 -- What is shown is, of each sender, the committed content: of what was sent what was not received, in order.
 abbrev pub ContentIsTheRest : Size → Type 0
-ContentIsTheRest z = (h : List Entry) (groups : List _) → IsLegal z (Shown groups ∷ h) → groups ≡ map (group h) (below z.senders)
+ContentIsTheRest z = (h : List Entry) (groups : List _) → IsLegal z (Shown groups ∷ h)
+    → groups ≡ map (group h) (below z.senders)

@@ -121,9 +121,12 @@ AddsCall (Some call) reply older h = (e : Entry) × Says call reply e × (h ≡ 
 -- what a happening with its answer makes of the history
 abbrev pub Adds : Course → Happening → Answer → List Entry → List Entry → Type 0
 Adds course x (Answered reply) older h = AddsCall (called course x) reply older h
-Adds course x (Crashed records) older h = MayCrashIt x (ledger older).phase × (h ≡ Crash_entry (kept_in records (ledger older).committed) records ∷ older)
-Adds course x (Restarted report) older h = IsTrue (restarts x) × (report.unfinished ≡ 0) × (report.lost ≡ 0) × (h ≡ Restarted_entry report.incarnation report.records ∷ older)
-Adds course x (Refused refusal) older h = IsTrue (restarts x) × MayStayShut refusal × ((ledger older).phase ≡ Shut) × (h ≡ older)
+Adds course x (Crashed records) older h = MayCrashIt x (ledger older).phase
+    × (h ≡ Crash_entry (kept_in records (ledger older).committed) records ∷ older)
+Adds course x (Restarted report) older h = IsTrue (restarts x) × (report.unfinished ≡ 0) × (report.lost ≡ 0)
+    × (h ≡ Restarted_entry report.incarnation report.records ∷ older)
+Adds course x (Refused refusal) older h = IsTrue (restarts x) × MayStayShut refusal × ((ledger older).phase ≡ Shut)
+    × (h ≡ older)
 Adds course x Running older h = IsTrue (restarts x) × ((ledger older).phase ≡ Shut → ⊥) × (h ≡ older)
 Adds course x Nothing older h = DoesNothing course x × (h ≡ older)
 

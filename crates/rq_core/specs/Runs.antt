@@ -28,9 +28,11 @@ CanCrash z course x pages log = world.CanCrash mem_pages mem_log z course x page
 abbrev pub IsHeadline : Sizes → Course → MemPages → MemLog → Type 0
 IsHeadline z course pages log = headline.IsHeadline mem_pages mem_log z course pages log
 
--- Where this may happen, with this answer, one world becomes the other: whatever course led to the one goes on to the other.
+-- Where this may happen, with this answer, one world becomes the other: whatever course led to the one goes on to the
+-- other.
 abbrev pub GoesOn : (Course → Happening → Type 0) → MemWorld → Answer → MemWorld → Type 0
-GoesOn May old a new = (z : Sizes) (course : Course) (x : Happening) → May course x → Ran z course old → Ran z ((x, a) ∷ course) new
+GoesOn May old a new = (z : Sizes) (course : Course) (x : Happening) → May course x → Ran z course old
+    → Ran z ((x, a) ∷ course) new
 
 -- the happening makes this call
 abbrev pub Makes : Call → Course → Happening → Type 0
@@ -40,9 +42,11 @@ Makes call course x = called course x ≡ Some call
 abbrev pub Is : Happening → Course → Happening → Type 0
 Is y course x = x ≡ y
 
--- A restart was refused: whatever led to the store that was shut leads to it still, as the restart has left its devices.
+-- A restart was refused: whatever led to the store that was shut leads to it still, as the restart has left its
+-- devices.
 abbrev pub StaysShut : MemPages → MemLog → MemPages → MemLog → Refusal → Type 0
-StaysShut pages log new_pages new_log refusal = (z : Sizes) (course : Course) (r : Ran z course (Is_shut pages log)) → world.IsShut mem_pages mem_log z r.history new_pages new_log × MayStayShut refusal
+StaysShut pages log new_pages new_log refusal = (z : Sizes) (course : Course) (r : Ran z course (Is_shut pages log))
+    → world.IsShut mem_pages mem_log z r.history new_pages new_log × MayStayShut refusal
 
 -- a store that is formatted: whatever a crash leaves of it is a store with no record
 pub record IsFresh (z : Sizes) (pages : MemPages) (log : MemLog) : Type 0 where

@@ -31,7 +31,8 @@ number = record { txn = txn 1 1; lsn = 5 }
 abbrev pub report : ℕ → ℕ → ℕ → ℕ → Report
 report i u l n = record { incarnation = i; unfinished = u; lost = l; records = n }
 
--- a send is committed, forced, acknowledged; then a call is stopped, a restart too, and the next one opens the store. In order:
+-- a send is committed, forced, acknowledged; then a call is stopped, a restart too, and the next one opens the store.
+-- In order:
 abbrev pub happened : Course
 happened =
     (Restarts, Restarted (report 1 0 0 1))
@@ -122,7 +123,8 @@ pub record AreJudged : Type 0 where
   pub refused_for_damage : TellsNothing [] Restarts (Refused (Damaged (damage.Page 0)))
   pub refused_while_open : TellsNothing ((Restarts, Restarted (report 1 0 0 1)) ∷ []) Restarts (Refused NoMemory)
   pub undone_without_work : TellsNothing [] Restarts (Restarted (report 1 0 1 1))
-  pub acknowledged_of_no_commit : TellsNothing ((Asks Begin, Answered (Gave_txn (txn 1 1))) ∷ []) (Acknowledges 1) (Answered (Gave_receipt None))
+  pub acknowledged_of_no_commit : TellsNothing ((Asks Begin, Answered (Gave_txn (txn 1 1))) ∷ []) (Acknowledges 1)
+      (Answered (Gave_receipt None))
   pub answered_before_the_first : TellsNothing [] (Acknowledges 0) (Answered (Gave_receipt None))
   -- and these histories are not legal
   pub loses_what_was_left : (h : List Entry) → IsLegal small (Crash_entry 0 1 ∷ Crash_entry 0 3 ∷ h) → ⊥

@@ -48,7 +48,8 @@ module _ {P L : Type 0} (p : page_device.Ghosts P) (l : log_device.Ghosts L) (z 
   Stands h (Is_shut pages log) = IsShut h pages log
   Stands h (Is_open engine) = IsOpen h engine
 
-  -- For some choice of the groups that were picked the course tells a legal history, and the world stands where it ends.
+  -- For some choice of the groups that were picked the course tells a legal history, and the world stands where it
+  -- ends.
   pub record Ran (course : Course) (world : World P L) : Type 0 where
     pub history : List Entry
     pub tells : Tells course history

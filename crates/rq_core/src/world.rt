@@ -126,8 +126,8 @@ fn happen(
     happening: &Happening,
     entries: &[Entry],
 ) -> Result<(Store, Entry), AllocError>
-    ensures { IfOk result (λ r. (z : Sizes) (c : Course) → answers_of c ≡ map answers entries.now → Ran z c (world_of store)
-        → Ran z ((happens happening.now, answers r.1) ∷ c) (world_of r.0)) }
+    ensures { IfOk result (λ r. (z : Sizes) (c : Course) → answers_of c ≡ map answers entries.now
+        → Ran z c (world_of store) → Ran z ((happens happening.now, answers r.1) ∷ c) (world_of r.0)) }
 {
     match store {
         Store::Open(engine) => happen_to_open(switch, engine, happening, entries),
@@ -141,8 +141,8 @@ fn happen_to_open(
     happening: &Happening,
     entries: &[Entry],
 ) -> Result<(Store, Entry), AllocError>
-    ensures { IfOk result (λ r. (z : Sizes) (c : Course) → answers_of c ≡ map answers entries.now → Ran z c (Is_open engine)
-        → Ran z ((happens happening.now, answers r.1) ∷ c) (world_of r.0)) }
+    ensures { IfOk result (λ r. (z : Sizes) (c : Course) → answers_of c ≡ map answers entries.now
+        → Ran z c (Is_open engine) → Ran z ((happens happening.now, answers r.1) ∷ c) (world_of r.0)) }
 {
     match happening {
         Happening::Call(event) => Ok(ask(engine, event)),
@@ -173,8 +173,8 @@ fn happen_to_shut(
     happening: &Happening,
     entries: &[Entry],
 ) -> Result<(Store, Entry), AllocError>
-    ensures { IfOk result (λ r. (z : Sizes) (c : Course) → answers_of c ≡ map answers entries.now → Ran z c (Is_shut pages log)
-        → Ran z ((happens happening.now, answers r.1) ∷ c) (world_of r.0)) }
+    ensures { IfOk result (λ r. (z : Sizes) (c : Course) → answers_of c ≡ map answers entries.now
+        → Ran z c (Is_shut pages log) → Ran z ((happens happening.now, answers r.1) ∷ c) (world_of r.0)) }
 {
     match happening {
         Happening::Call(_) | Happening::StopIn(..) => Ok(not_open(pages, log)),
@@ -235,7 +235,7 @@ fn crash_open(
     switch.suspend();
     let _ = engine.apply(&Event::HandOver);
     switch.resume();
-    engine.keeps();
+    engine.shows_kept();
     crash_goes_on();
     let (pages, log) = engine.give_back();
     crash(pages, log, keep, images)
@@ -256,7 +256,7 @@ fn stop_in(
     switch.arm_call(n, Mishap::Stop);
     let reply = engine.apply(event);
     if is_stopped(switch) && is_of_device(&reply) {
-        engine.keeps();
+        engine.shows_kept();
         crash_goes_on();
         let (pages, log) = engine.give_back();
         return crash(pages, log, keep, images);
@@ -319,7 +319,8 @@ fn try_restart(
     pages: MemPages,
     log: MemLog,
 ) -> Result<(Engine<MemPages, MemLog>, Report), Stopped<MemPages, MemLog>>
-    ensures opened { IfOk result (λ o. GoesOn MayRestart (Is_shut pages log) (Restarted (report_of o.1)) (Is_open o.0)) }
+    ensures opened { IfOk result (λ o. GoesOn MayRestart (Is_shut pages log) (Restarted (report_of o.1))
+        (Is_open o.0)) }
     ensures refused { IfErr result (λ s. StaysShut pages log s.pages s.log s.refusal) }
 {
     one_log();
@@ -330,7 +331,8 @@ fn try_restart(
 
 // Both devices as the crash leaves them.
 fn crash(pages: MemPages, log: MemLog, keep: u64, images: PageChoice) -> (Store, Entry)
-    ensures { (z : Sizes) (c : Course) (x : Happens) → CanCrash z c x pages log → Ran z ((x, answers result.1) ∷ c) (world_of result.0) }
+    ensures { (z : Sizes) (c : Course) (x : Happens) → CanCrash z c x pages log
+        → Ran z ((x, answers result.1) ∷ c) (world_of result.0) }
 {
     one_log();
     records_are_the_log();
@@ -351,7 +353,7 @@ fn given_up(store: Store) -> (MemPages, MemLog)
     match store {
         Store::Shut(pages, log) => (pages, log),
         Store::Open(engine) => {
-            engine.keeps();
+            engine.shows_kept();
             engine.give_back()
         }
     }
@@ -369,7 +371,8 @@ fn is_of_device(reply: &Reply) -> bool
 
 // The commit that the nth of these answered.
 fn committed(entries: &[Entry], n: u64) -> Option<CommitNo>
-    ensures { acknowledging (nth n (map answers entries.now)) ≡ option_map (λ number. Acknowledge number.txn number.lsn) result }
+    ensures { acknowledging (nth n (map answers entries.now))
+        ≡ option_map (λ number. Acknowledge number.txn number.lsn) result }
 {
     if n == 0 || n > entries.len() as u64 {
         return None;

@@ -50,7 +50,8 @@ pages_after images calls = after_page_calls (fresh_pages images) calls
 
 -- what a crash may have left at some moment from t on: after k of the calls
 abbrev pub PagesSince : List (List ℕ) → List PageCall → ℕ → Images → Type 0
-PagesSince images calls t c = (k : ℕ) × (t ≤ k) × (k ≤ length calls) × Leaves (MayBe (pages_after images (take k calls))) c
+PagesSince images calls t c = (k : ℕ) × (t ≤ k) × (k ≤ length calls)
+    × Leaves (MayBe (pages_after images (take k calls))) c
 
 -- how often a page was written
 abbrev pub times_written : ℕ → List (ℕ × List ℕ) → ℕ
@@ -67,7 +68,8 @@ reaches (Some place) count = nat_lt count place
 abbrev pub image_at : List (ℕ × List ℕ) → List ℕ → ℕ → Option ℕ → List ℕ
 image_at [] synced page place = synced
 image_at (w ∷ ws) synced page place =
-    if page == w.0 then (if reaches place (times_written page ws) then w.1 else image_at ws synced page place) else image_at ws synced page place
+    if page == w.0 then (if reaches place (times_written page ws) then w.1 else image_at ws synced page place) else
+    image_at ws synced page place
 
 -- what is left of a page where the image at this place outlives a crash
 abbrev pub crashed_page : Option ℕ → PageState → ℕ → List ℕ
@@ -111,15 +113,27 @@ LogSince bytes calls t c = (k : ℕ) × (t ≤ k) × (k ≤ length calls) × May
 
 -- the laws of a log device
 pub log_seen : (s : LogState) → MayLeave s (log_reads s)
-log_seen s = (length s.handed, ap (λ (l : List ℕ). s.forced ++ l) (sym (front_all (length s.handed) s.handed (omega arith))))
+log_seen s = (
+  length s.handed,
+  ap (λ (l : List ℕ). s.forced ++ l)
+      (sym (front_all (length s.handed) s.handed (omega arith))),
+)
 
-pub log_count : (bytes : List ℕ) (calls : List LogCall) (t : ℕ) (c : List ℕ) → t ≤ length calls → MayLeave (log_after bytes calls) c → LogSince bytes calls t c
-log_count bytes calls t c le now = (length calls, le, omega arith, subst (λ (cs : List LogCall). MayLeave (log_after bytes cs) c) (sym (take-length calls)) now)
+pub log_count : (bytes : List ℕ) (calls : List LogCall) (t : ℕ) (c : List ℕ) → t ≤ length calls
+    → MayLeave (log_after bytes calls) c → LogSince bytes calls t c
+log_count bytes calls t c le now = (
+  length calls,
+  le,
+  omega arith,
+  subst (λ (cs : List LogCall). MayLeave (log_after bytes cs) c) (sym (take-length calls)) now,
+)
 
-pub log_only : (bytes : List ℕ) (calls : List LogCall) (c : List ℕ) → LogSince bytes calls (length calls) c → MayLeave (log_after bytes calls) c
+pub log_only : (bytes : List ℕ) (calls : List LogCall) (c : List ℕ) → LogSince bytes calls (length calls) c
+    → MayLeave (log_after bytes calls) c
 log_only bytes calls c since =
     let here : since.0 ≡ length calls = omega (arith, since.1, since.2) in
-    subst (λ (cs : List LogCall). MayLeave (log_after bytes cs) c) (ap (λ (k : ℕ). take k calls) here ∙ take-length calls) since.3
+    subst (λ (cs : List LogCall). MayLeave (log_after bytes cs) c)
+    (ap (λ (k : ℕ). take k calls) here ∙ take-length calls) since.3
 
 -- the laws of a page device
 pub if_yes : (p q : ℕ) (a b : List ℕ) → p ≡ q → (if p == q then a else b) ≡ a
@@ -128,7 +142,8 @@ if_yes p q a b is = grind (arith, nat_tests)
 pub if_no : (p q : ℕ) (a b : List ℕ) → p ≢ q → (if p == q then a else b) ≡ b
 if_no p q a b other = grind (arith, nat_tests)
 
-newest_was : (ws : List (ℕ × List ℕ)) (page : ℕ) (image : List ℕ) → (newest ws page image ≡ image) ⊎ WasWritten ws page (newest ws page image)
+newest_was : (ws : List (ℕ × List ℕ)) (page : ℕ) (image : List ℕ) → (newest ws page image ≡ image)
+    ⊎ WasWritten ws page (newest ws page image)
 newest_was [] page image = inl refl
 newest_was (w ∷ ws) page image = elim (cases_eq page w.0) [
   | inl same ↦ inr (inl (same, if_yes page w.0 w.1 (newest ws page image) same))
@@ -140,10 +155,18 @@ newest_was (w ∷ ws) page image = elim (cases_eq page w.0) [
 pub pages_seen : (s : PageState) (page : ℕ) → MayBe s page (reads s page)
 pages_seen s page = newest_was s.since page (s.synced page)
 
-pub pages_count : (images : List (List ℕ)) (calls : List PageCall) (t : ℕ) (c : Images) → t ≤ length calls → Leaves (MayBe (pages_after images calls)) c → PagesSince images calls t c
-pages_count images calls t c le now = (length calls, le, omega arith, subst (λ (cs : List PageCall). Leaves (MayBe (pages_after images cs)) c) (sym (take-length calls)) now)
+pub pages_count : (images : List (List ℕ)) (calls : List PageCall) (t : ℕ) (c : Images) → t ≤ length calls
+    → Leaves (MayBe (pages_after images calls)) c → PagesSince images calls t c
+pages_count images calls t c le now = (
+  length calls,
+  le,
+  omega arith,
+  subst (λ (cs : List PageCall). Leaves (MayBe (pages_after images cs)) c) (sym (take-length calls)) now,
+)
 
-pub pages_only : (images : List (List ℕ)) (calls : List PageCall) (c : Images) → PagesSince images calls (length calls) c → Leaves (MayBe (pages_after images calls)) c
+pub pages_only : (images : List (List ℕ)) (calls : List PageCall) (c : Images)
+    → PagesSince images calls (length calls) c → Leaves (MayBe (pages_after images calls)) c
 pages_only images calls c since =
     let here : since.0 ≡ length calls = omega (arith, since.1, since.2) in
-    subst (λ (cs : List PageCall). Leaves (MayBe (pages_after images cs)) c) (ap (λ (k : ℕ). take k calls) here ∙ take-length calls) since.3
+    subst (λ (cs : List PageCall). Leaves (MayBe (pages_after images cs)) c)
+    (ap (λ (k : ℕ). take k calls) here ∙ take-length calls) since.3

@@ -47,7 +47,8 @@ records_count (suc m) zero bytes is are = absurd (omega (arith, ap length are, i
 records_count (suc m) (suc n) bytes is are = ap suc (records_count m n (drop (record_size bytes) bytes) is.1 are.1)
 
 pub some_records-prop : (bytes : List ℕ) → IsProp ((n : ℕ) × AreRecords n bytes)
-some_records-prop bytes a b = Σ_path (records_count a.0 b.0 bytes a.1 b.1) (to_path_p (λ i. AreRecords (records_count a.0 b.0 bytes a.1 b.1 i) bytes) (AreRecords-prop b.0 bytes _ b.1))
+some_records-prop bytes a b = Σ_path (records_count a.0 b.0 bytes a.1 b.1)
+    (to_path_p (λ i. AreRecords (records_count a.0 b.0 bytes a.1 b.1 i) bytes) (AreRecords-prop b.0 bytes _ b.1))
 
 -- as many records as there are bytes are all of them
 pub front_all : (n : ℕ) (bytes : List ℕ) → length bytes ≤ n → front n bytes ≡ bytes
@@ -55,4 +56,5 @@ front_all zero [] le = refl
 front_all zero (b ∷ bytes) le = absurd (omega arith)
 front_all (suc n) bytes le =
     let s = record_size bytes in
-    ap (λ (t : List ℕ). take s bytes ++ t) (front_all n (drop s bytes) (omega (arith, length-drop s bytes))) ∙ take-append-drop s bytes
+    ap (λ (t : List ℕ). take s bytes ++ t) (front_all n (drop s bytes)
+    (omega (arith, length-drop s bytes))) ∙ take-append-drop s bytes

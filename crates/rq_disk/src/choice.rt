@@ -20,7 +20,8 @@ impl PageChoice {
     // Whether the next image that was written of a page is at most at its place. Counts it.
     pub(crate) fn takes(&mut self, page: u32) -> bool
         ensures takes { result ≡ reaches (place_of self.old page) 0 }
-        ensures left { (p : ℕ) → place_of self.new p ≡ (if p == page then place_after (place_of self.old p) 1 else place_of self.old p) }
+        ensures left { (p : ℕ) → place_of self.new p ≡
+            (if p == page then place_after (place_of self.old p) 1 else place_of self.old p) }
     {
         match self {
             PageChoice::Synced => false,

@@ -50,10 +50,12 @@ pub trait PageDevice {
         ensures image { OnOk result (honest self.new → into.new ≡ seen self.old page) }
         ensures seen { seen self.new ≡ seen self.old }
         ensures crash { NoMore (may_be self.old) (may_be self.new) }
-        ensures time { Elapses (moment self.old) (moment self.new) (left_since self.old) (left_since self.new) (Leaves (may_be self.new)) }
+        ensures time { Elapses (moment self.old) (moment self.new) (left_since self.old) (left_since self.new)
+            (Leaves (may_be self.new)) }
         ensures honest { honest self.new → honest self.old }
-        ensures failed { honest self.new → OnErr result (stopped self.new ⊎ Stays (seen self.old) (seen self.new) (Leaves (may_be
-            self.old)) (Leaves (may_be self.new))) }
+        ensures failed { honest self.new → OnErr result
+            (stopped self.new ⊎ Stays (seen self.old) (seen self.new) (Leaves (may_be self.old))
+            (Leaves (may_be self.new))) }
         ensures still { honest self.new → stopped self.old → IsErr result × stopped self.new ×
             Stays (seen self.old) (seen self.new) (Leaves (may_be self.old)) (Leaves (may_be self.new)) }
         ensures cause { HasCause (faults self.old) (faults self.new) result };
@@ -63,10 +65,12 @@ pub trait PageDevice {
         ensures others { (p : ℕ) → p ≢ page → seen self.new p ≡ seen self.old p }
         ensures written { OnOk result (Holds (seen self.old) page image.now (seen self.new)) }
         ensures crash { Written page image.now (may_be self.old) (may_be self.new) }
-        ensures time { Elapses (moment self.old) (moment self.new) (left_since self.old) (left_since self.new) (Leaves (may_be self.new)) }
+        ensures time { Elapses (moment self.old) (moment self.new) (left_since self.old) (left_since self.new)
+            (Leaves (may_be self.new)) }
         ensures honest { honest self.new → honest self.old }
-        ensures failed { honest self.new → OnErr result (stopped self.new ⊎ Stays (seen self.old) (seen self.new) (Leaves (may_be
-            self.old)) (Leaves (may_be self.new))) }
+        ensures failed { honest self.new → OnErr result
+            (stopped self.new ⊎ Stays (seen self.old) (seen self.new) (Leaves (may_be self.old))
+            (Leaves (may_be self.new))) }
         ensures still { honest self.new → stopped self.old → IsErr result × stopped self.new ×
             Stays (seen self.old) (seen self.new) (Leaves (may_be self.old)) (Leaves (may_be self.new)) }
         ensures cause { HasCause (faults self.old) (faults self.new) result };
@@ -76,10 +80,12 @@ pub trait PageDevice {
         ensures durable { OnOk result ((p : ℕ) → Only (seen self.old p) (may_be self.new p)) }
         ensures seen { seen self.new ≡ seen self.old }
         ensures crash { NoMore (may_be self.old) (may_be self.new) }
-        ensures time { Elapses (moment self.old) (moment self.new) (left_since self.old) (left_since self.new) (Leaves (may_be self.new)) }
+        ensures time { Elapses (moment self.old) (moment self.new) (left_since self.old) (left_since self.new)
+            (Leaves (may_be self.new)) }
         ensures honest { honest self.new → honest self.old }
-        ensures failed { honest self.new → OnErr result (stopped self.new ⊎ Stays (seen self.old) (seen self.new) (Leaves (may_be
-            self.old)) (Leaves (may_be self.new))) }
+        ensures failed { honest self.new → OnErr result
+            (stopped self.new ⊎ Stays (seen self.old) (seen self.new) (Leaves (may_be self.old))
+            (Leaves (may_be self.new))) }
         ensures still { honest self.new → stopped self.old → IsErr result × stopped self.new ×
             Stays (seen self.old) (seen self.new) (Leaves (may_be self.old)) (Leaves (may_be self.new)) }
         ensures cause { HasCause (faults self.old) (faults self.new) result };
@@ -126,13 +132,15 @@ pub trait LogDevice {
     fn read(&mut self, at: u64, into: &mut [u8]) -> Result<usize, DeviceFailed>
         ensures within { IfOk result (λ n. n ≤ length into.old) }
         ensures count { IfOk result (λ n. honest self.new → n ≡ min (length into.old) (length (seen self.old) - at)) }
-        ensures bytes { IfOk result (λ n. honest self.new → into.new ≡ take n (drop at (seen self.old)) ++ drop n into.old) }
+        ensures bytes { IfOk result (λ n. honest self.new
+            → into.new ≡ take n (drop at (seen self.old)) ++ drop n into.old) }
         ensures seen { seen self.new ≡ seen self.old }
         ensures crash { (c : List ℕ) → may_leave self.new c → may_leave self.old c }
-        ensures time { Elapses (moment self.old) (moment self.new) (left_since self.old) (left_since self.new) (may_leave self.new) }
+        ensures time { Elapses (moment self.old) (moment self.new) (left_since self.old) (left_since self.new)
+            (may_leave self.new) }
         ensures honest { honest self.new → honest self.old }
-        ensures failed { honest self.new → OnErr result (stopped self.new ⊎ Stays (seen self.old) (seen self.new) (may_leave
-            self.old) (may_leave self.new)) }
+        ensures failed { honest self.new → OnErr result
+            (stopped self.new ⊎ Stays (seen self.old) (seen self.new) (may_leave self.old) (may_leave self.new)) }
         ensures still { honest self.new → stopped self.old → IsErr result × stopped self.new ×
             Stays (seen self.old) (seen self.new) (may_leave self.old) (may_leave self.new) }
         ensures cause { HasCause (faults self.old) (faults self.new) result };
@@ -142,10 +150,11 @@ pub trait LogDevice {
         requires { (n : ℕ) × AreRecords n bytes.now }
         ensures added { OnOk result (seen self.new ≡ seen self.old ++ bytes.now) }
         ensures crash { Appended (seen self.old) bytes.now (may_leave self.old) (may_leave self.new) }
-        ensures time { Elapses (moment self.old) (moment self.new) (left_since self.old) (left_since self.new) (may_leave self.new) }
+        ensures time { Elapses (moment self.old) (moment self.new) (left_since self.old) (left_since self.new)
+            (may_leave self.new) }
         ensures honest { honest self.new → honest self.old }
-        ensures failed { honest self.new → OnErr result (stopped self.new ⊎ Stays (seen self.old) (seen self.new) (may_leave
-            self.old) (may_leave self.new)) }
+        ensures failed { honest self.new → OnErr result
+            (stopped self.new ⊎ Stays (seen self.old) (seen self.new) (may_leave self.old) (may_leave self.new)) }
         ensures still { honest self.new → stopped self.old → IsErr result × stopped self.new ×
             Stays (seen self.old) (seen self.new) (may_leave self.old) (may_leave self.new) }
         ensures cause { HasCause (faults self.old) (faults self.new) result };
@@ -155,10 +164,11 @@ pub trait LogDevice {
         ensures durable { OnOk result (Only (seen self.old) (may_leave self.new)) }
         ensures seen { seen self.new ≡ seen self.old }
         ensures crash { (c : List ℕ) → may_leave self.new c → may_leave self.old c }
-        ensures time { Elapses (moment self.old) (moment self.new) (left_since self.old) (left_since self.new) (may_leave self.new) }
+        ensures time { Elapses (moment self.old) (moment self.new) (left_since self.old) (left_since self.new)
+            (may_leave self.new) }
         ensures honest { honest self.new → honest self.old }
-        ensures failed { honest self.new → OnErr result (stopped self.new ⊎ Stays (seen self.old) (seen self.new) (may_leave
-            self.old) (may_leave self.new)) }
+        ensures failed { honest self.new → OnErr result
+            (stopped self.new ⊎ Stays (seen self.old) (seen self.new) (may_leave self.old) (may_leave self.new)) }
         ensures still { honest self.new → stopped self.old → IsErr result × stopped self.new ×
             Stays (seen self.old) (seen self.new) (may_leave self.old) (may_leave self.new) }
         ensures cause { HasCause (faults self.old) (faults self.new) result };

@@ -34,7 +34,8 @@ pub struct MemLog {
     ghost within: { forced ≤ length bytes.items },
     ghost forced_bytes: { take forced bytes.items ≡ (log_after (take first bytes.items) calls.items).forced },
     ghost handed_bytes: { drop forced bytes.items ≡ (log_after (take first bytes.items) calls.items).handed },
-    ghost whole: { (n : ℕ) × AreRecords n (drop forced bytes.items) } by { some_records-prop (drop forced bytes.items) },
+    ghost whole: { (n : ℕ) × AreRecords n (drop forced bytes.items) } by { some_records-prop
+        (drop forced bytes.items) },
 }
 
 impl LogDevice for MemLog {
@@ -127,7 +128,8 @@ fn add_run(
     all: &mut Vec<u8>,
     run: &[u8],
 ) -> Result<(), AllocError>
-    ensures ok { OnOk result ((v : _) × (v.items ≡ run.now) × (calls.new.items ≡ calls.old.items ++ LogCall.Append v ∷ []) × (all.new.items ≡ all.old.items ++ run.now)) }
+    ensures ok { OnOk result ((v : _) × (v.items ≡ run.now)
+        × (calls.new.items ≡ calls.old.items ++ LogCall.Append v ∷ []) × (all.new.items ≡ all.old.items ++ run.now)) }
     ensures err { OnErr result ((calls.new.items ≡ calls.old.items) × (all.new.items ≡ all.old.items)) }
 {
     let copy = run.to_vec(alloc)?;

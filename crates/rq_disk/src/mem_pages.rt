@@ -126,7 +126,8 @@ fn add_write(
     page: u32,
     image: &[u8; PAGE],
 ) -> Result<(), AllocError>
-    ensures ok { OnOk result ((kept : _) × (kept.value ≡ image.now) × (calls.new.items ≡ calls.old.items ++ PageCall.Write page kept ∷ [])) }
+    ensures ok { OnOk result ((kept : _) × (kept.value ≡ image.now)
+        × (calls.new.items ≡ calls.old.items ++ PageCall.Write page kept ∷ [])) }
     ensures err { OnErr result (calls.new.items ≡ calls.old.items) }
 {
     let kept = Box::new(alloc, *image)?;
@@ -193,7 +194,8 @@ impl MemPages {
     /// What a crash leaves where of each page the chosen image outlives it. All of it counts as synced from
     /// then on, and the pages run. The count of failures and the switch stay.
     pub fn crash(self, choice: PageChoice) -> MemPages
-        ensures pages { (p : ℕ) → p < page_count self → reads (pages_of result) p ≡ crashed_page (place_of choice p) (pages_of self) p }
+        ensures pages { (p : ℕ) → p < page_count self → reads (pages_of result) p
+            ≡ crashed_page (place_of choice p) (pages_of self) p }
         ensures past { (p : ℕ) → page_count self ≤ p → reads (pages_of result) p ≡ [] }
         ensures may_be { Leaves (MayBe (pages_of self)) (reads (pages_of result)) }
         ensures synced { (p : ℕ) → Only (reads (pages_of result) p) (MayBe (pages_of result) p) }

@@ -10,7 +10,8 @@ use crate::mem_pages::PageCall;
 
 // Leaves of each page the chosen image, where these calls were made since the images were synced.
 pub(crate) fn outlive(images: &mut [[u8; PAGE]], calls: &[PageCall], choice: PageChoice)
-    ensures { (p : ℕ) → p < length images.old → get_or images.new p [] ≡ crashed_page (place_of choice p) (pages_after images.old calls.now) p }
+    ensures { (p : ℕ) → p < length images.old → get_or images.new p []
+        ≡ crashed_page (place_of choice p) (pages_after images.old calls.now) p }
 {
     let synced = calls_synced(calls);
     replay(images, &calls[..synced]);
@@ -45,7 +46,8 @@ fn replay(pages: &mut [[u8; PAGE]], calls: &[PageCall])
 
 // Makes those writes that outlive a crash.
 fn survive(pages: &mut [[u8; PAGE]], calls: &[PageCall], choice: PageChoice)
-    ensures { (p : ℕ) → p < length pages.old → get_or pages.new p [] ≡ image_at (writes_of calls.now) (get_or pages.old p []) p (place_of choice p) }
+    ensures { (p : ℕ) → p < length pages.old → get_or pages.new p []
+        ≡ image_at (writes_of calls.now) (get_or pages.old p []) p (place_of choice p) }
 {
     let mut choice = choice;
     for call in calls {

@@ -23,8 +23,8 @@ use Rattle.rq_engine.specs.Opened.{OpenStore, AreHonest}
 abbrev pub MeetsRead : Type 0
 MeetsRead = ⊥
 
--- A refusal comes only with its cause: memory's where the call takes memory, the disk's and a page's that is not forced where it writes, Latched where an
--- operation is under way, and damage never.
+-- A refusal comes only with its cause: memory's where the call takes memory, the disk's and a page's that is not forced
+-- where it writes, Latched where an operation is under way, and damage never.
 abbrev pub HasCause : (memory disk : Bool) → State → Refusal → Type 0
 HasCause memory disk s why.NoMemory = memory ≡ true
 HasCause memory disk s why.DiskWrite = disk ≡ true
@@ -39,11 +39,14 @@ HasCause memory disk s _ = Unit {0}
 abbrev pub Refuses : (memory disk : Bool) → State → Call → Refusal → Type 0
 Refuses memory disk s call r = IsSound s → Steps s call (Gave_refusal r) s × HasCause memory disk s r
 
--- The call with its answer is an entry that may come next where the store goes back to a legal log and both devices have been honest up to its end, and the store
--- after it is what that entry makes of it.
-abbrev pub Answers : {P L X : Type 0} → page_device.Ghosts P → log_device.Ghosts L → (memory disk : Bool) → OpenStore P L → Call → (X → Gave) → Result X Refusal → OpenStore P L → Type 0
-Answers p l memory disk old call gave (Ok x) new = AreHonest p l new → IsSound old.state → Steps old.state call (gave x) new.state
-Answers p l memory disk old call gave (Err r) new = AreHonest p l new → IsSound old.state → Steps old.state call (Gave_refusal r) new.state × HasCause memory disk old.state r
+-- The call with its answer is an entry that may come next where the store goes back to a legal log and both devices
+-- have been honest up to its end, and the store after it is what that entry makes of it.
+abbrev pub Answers : {P L X : Type 0} → page_device.Ghosts P → log_device.Ghosts L → (memory disk : Bool)
+    → OpenStore P L → Call → (X → Gave) → Result X Refusal → OpenStore P L → Type 0
+Answers p l memory disk old call gave (Ok x) new = AreHonest p l new → IsSound old.state
+    → Steps old.state call (gave x) new.state
+Answers p l memory disk old call gave (Err r) new = AreHonest p l new → IsSound old.state
+    → Steps old.state call (Gave_refusal r) new.state × HasCause memory disk old.state r
 
 -- what is so of a transaction's operation under way, if it has this number
 abbrev pub OnUnder : ℕ → (Row → Under → Type 0) → Row → Option Under → Type 0
@@ -85,10 +88,15 @@ CannotFinish s sub _ = ⊥
 
 -- a slot write was made, with its record
 pub record IsMade (old : State) (sub : Sub) (w : SlotWrite) (new : State) : Type 0 where
-  pub state : new ≡ record old { rows = change_row sub.txn row_stepped old.rows; images = new.images; records = page_op sub.txn sub.number w ∷ old.records }
+  pub state : new ≡ record old {
+    rows = change_row sub.txn row_stepped old.rows;
+    images = new.images;
+    records = page_op sub.txn sub.number w ∷ old.records;
+  }
   pub before : IsSlotOf old.sizes (w.at / 16) (w.at % 16) w.before
   pub slot : IsSlotOf old.sizes (w.at / 16) (w.at % 16) w.after
-  pub slots : (a : ℕ) → slots_in old.sizes new.images a ≡ put (slots_in old.sizes old.images) w.at (held_in old.sizes (w.at / 16) w.after) a
+  pub slots : (a : ℕ) → slots_in old.sizes new.images a
+      ≡ put (slots_in old.sizes old.images) w.at (held_in old.sizes (w.at / 16) w.after) a
   pub put_in : IsPutIn old w new.images
 
 -- the transaction is open with nothing under way, and this is the number of its next operation

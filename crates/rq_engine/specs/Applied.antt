@@ -37,7 +37,8 @@ RefusalLeaves old e _ new = Unit {0}
 
 -- one page has a change that was not written: that of the record with this LSN
 abbrev pub IsStamped : {P L : Type 0} → OpenStore P L → ℕ → OpenStore P L → Type 0
-IsStamped old lsn new = (page : ℕ) × (lsn_of (image_at new.state.images page) ≡ lsn) × (new.changed ≡ slice_set old.changed page true)
+IsStamped old lsn new = (page : ℕ) × (lsn_of (image_at new.state.images page) ≡ lsn)
+    × (new.changed ≡ slice_set old.changed page true)
 
 abbrev pub StepChanges : {P L : Type 0} → OpenStore P L → Progress → OpenStore P L → Type 0
 StepChanges old (progress.Done lsn) new = IsStamped old lsn new
@@ -60,7 +61,8 @@ StartSays old (event.StartSend txn sender tag body) (reply.Started sub) new =
 StartSays old _ _ new = Unit {0}
 
 -- The call was made, and answered so.
-pub record Applied {P L : Type 0} (p : page_device.Ghosts P) (l : log_device.Ghosts L) (old : OpenStore P L) (e : Event) (r : Reply) (new : OpenStore P L) : Type 0 where
+pub record Applied {P L : Type 0} (p : page_device.Ghosts P) (l : log_device.Ghosts L) (old : OpenStore P L)
+    (e : Event) (r : Reply) (new : OpenStore P L) : Type 0 where
   -- of a sound store over honest devices: the entry that event and reply say may come next, and a refusal has its cause
   pub steps : AreHonest p l new → IsSound old.state → Steps old.state (call_of e) (gave r) new.state
   pub cause : AreHonest p l new → IsSound old.state → IsCaused old.state e r

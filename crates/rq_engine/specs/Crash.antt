@@ -22,8 +22,9 @@ AreFit p s = AllFit (p.may_be s.pages) s.state.sizes (oldest s.state.forced s.st
 abbrev pub commits_left : List Record → ℕ → ℕ
 commits_left log lost = kept_in (length (drop lost log)) (committed_of log)
 
--- These are the pages and the log of a store that was left so: the first records, with all that are forced and the one that began the incarnation, and pages that
--- fit them. Its content is that of the first commits, with all that no crash may take.
+-- These are the pages and the log of a store that was left so: the first records, with all that are forced and the one
+-- that began the incarnation, and pages that fit them. Its content is that of the first commits, with all that no crash
+-- may take.
 pub record IsCut (s : State) (images : Images) (bytes : List ℕ) : Type 0 where
   pub lost : ℕ
   pub forced : lost + s.forced ≤ length s.records
@@ -32,12 +33,14 @@ pub record IsCut (s : State) (images : Images) (bytes : List ℕ) : Type 0 where
   pub spells : bytes ≡ spelled (drop lost s.records)
   pub store : IsLeft s.sizes images (drop lost s.records)
   pub durable : (ledger_of s).durable ≤ commits_left s.records lost
-  pub content : (g : ℕ) → content (drop lost s.records) g ≡ group_in (take (commits_left s.records lost) (committed_of s.records)) g
+  pub content : (g : ℕ) → content (drop lost s.records) g
+      ≡ group_in (take (commits_left s.records lost) (committed_of s.records)) g
 
 -- whatever a crash now leaves of both devices
 abbrev pub LeavesCut : {P L : Type 0} → page_device.Ghosts P → log_device.Ghosts L → OpenStore P L → Type 0
 LeavesCut p l s = EachPair p l s.pages s.log (IsCut s.state)
 
 -- whatever a crash at any moment from the older store to the newer leaves of them: of the older one's records
-abbrev pub RunsThroughCuts : {P L : Type 0} → page_device.Ghosts P → log_device.Ghosts L → OpenStore P L → OpenStore P L → Type 0
+abbrev pub RunsThroughCuts : {P L : Type 0} → page_device.Ghosts P → log_device.Ghosts L → OpenStore P L
+    → OpenStore P L → Type 0
 RunsThroughCuts p l old new = Path p l (IsCut old.state) old.pages old.log new.pages new.log

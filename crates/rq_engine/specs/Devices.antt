@@ -13,12 +13,17 @@ pub record PagesLeave {P : Type 0} (p : page_device.Ghosts P) (old new : P) (Q :
 module _ {P L : Type 0} (p : page_device.Ghosts P) (l : log_device.Ghosts L) where
   -- each pair that a crash now may leave of both devices
   abbrev pub EachPair : P → L → (Images → List ℕ → Type 0) → Type 0
-  EachPair pages log Q = (images : Images) (bytes : List ℕ) → Leaves (p.may_be pages) images → l.may_leave log bytes → Q images bytes
+  EachPair pages log Q = (images : Images) (bytes : List ℕ) → Leaves (p.may_be pages) images → l.may_leave log bytes
+      → Q images bytes
 
--- A run of calls of two devices, one device at a time. At each moment of each part, each pair that a crash may leave has Q.
-pub data Path {P L : Type 0} (p : page_device.Ghosts P) (l : log_device.Ghosts L) (Q : Images → List ℕ → Type 0) : P → L → P → L → Type 0 where
+-- A run of calls of two devices, one device at a time. At each moment of each part, each pair that a crash may leave
+-- has Q.
+pub data Path {P L : Type 0} (p : page_device.Ghosts P) (l : log_device.Ghosts L) (Q : Images → List ℕ → Type 0) : P
+    → L → P → L → Type 0 where
   Start : {pages : P} {log : L} → EachPair p l pages log Q → Path p l Q pages log pages log
   Pages : {pages mid new : P} {log now : L} → Path p l Q pages log mid now
-      → PagesLeave p mid new (λ images. (bytes : List ℕ) → l.may_leave now bytes → Q images bytes) → Path p l Q pages log new now
+      → PagesLeave p mid new (λ images. (bytes : List ℕ) → l.may_leave now bytes → Q images bytes)
+      → Path p l Q pages log new now
   Log : {pages now : P} {log mid new : L} → Path p l Q pages log now mid
-      → LeavesOnly l mid new (λ bytes. (images : Images) → Leaves (p.may_be now) images → Q images bytes) → Path p l Q pages log now new
+      → LeavesOnly l mid new (λ bytes. (images : Images) → Leaves (p.may_be now) images → Q images bytes)
+      → Path p l Q pages log now new

@@ -47,8 +47,9 @@ total_of s = length s.records + owed_by s.rows
 abbrev pub done_one : Row → ℕ
 done_one r = length r.finished
 
--- The room in the log for what operations under way have yet to log is reserved, and no more, and with it the log is not over its greatest length. No more messages wait, with
--- those that open transactions may have sent, than there are records.
+-- The room in the log for what operations under way have yet to log is reserved, and no more, and with it the log is
+-- not over its greatest length. No more messages wait, with those that open transactions may have sent, than there are
+-- records.
 pub record IsKept (s : State) (failed : Bool) (owed reserved : ℕ) : Type 0 where
   pub incarnation : 1 ≤ s.incarnation
   pub fails : s.failed ≡ false → failed ≡ false

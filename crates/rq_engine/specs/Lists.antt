@@ -73,7 +73,8 @@ TakeSays old t None new = NoneWaits old t × (new ≡ old)
 abbrev pub TakeFromSays : State → Txn → ℕ → Option Sub → State → Type 0
 TakeFromSays old t sender (Some sub) new = IsTakeStarted old t sender sub new
 TakeFromSays old t sender None new =
-    (sender < sender_count old.sizes) × (is_free_for t sender old.ends.receiving ≡ true) × (waits old.waiting sender ≡ 0)
+    (sender < sender_count old.sizes) × (is_free_for t sender old.ends.receiving ≡ true)
+    × (waits old.waiting sender ≡ 0)
     × (new ≡ old)
 
 -- the next write of the operation was made, with its record, or none is left

@@ -30,15 +30,15 @@ LeavesDevices old new = (new.pages ≡ old.pages) × (new.log ≡ old.log) × (n
 abbrev pub pooled : {P L : Type 0} → OpenStore P L → Pooled P
 pooled s = record { device = s.pages; sizes = s.state.sizes; images = s.state.images; changed = s.changed }
 
--- Why nothing was handed over or forced: the store had failed before, and nothing changes, or the device of the log failed now, as its count of failures
--- tells.
+-- Why nothing was handed over or forced: the store had failed before, and nothing changes, or the device of the log
+-- failed now, as its count of failures tells.
 abbrev pub NotWritten : {P L : Type 0} → log_device.Ghosts L → OpenStore P L → OpenStore P L → Refusal → Type 0
 NotWritten g old new why.Failed = (old.state.failed ≡ true) × (new ≡ old)
 NotWritten g old new why.DiskWrite = (old.state.failed ≡ false) × (g.faults new.log ≡ (g.faults old.log + 1) % 2 ^ 64)
 NotWritten g old new _ = ⊥
 
--- When a page that is to be written out is answered so. The store had failed before; or the page has no change that was not written; or it has one, and
--- the record of its last change is forced, or is not.
+-- When a page that is to be written out is answered so. The store had failed before; or the page has no change that was
+-- not written; or it has one, and the record of its last change is forced, or is not.
 abbrev pub WritesWhen : {P L : Type 0} → OpenStore P L → ℕ → Result Written Refusal → Type 0
 WritesWhen s page (Err why.Failed) = s.state.failed ≡ true
 WritesWhen s page (Err r) = (s.state.failed ≡ false) × AnswersWhen (pooled s) page s.state.forced (Err r)

@@ -32,7 +32,8 @@ use Rattle.rq_engine.specs.declared.event.Reply.TheVariants as reply
 -- the call that an event stands for
 abbrev pub call_of : Event → Call
 call_of event.Begin = Call_begin
-call_of (event.StartSend txn sender tag body) = Call_start_send txn (record { sender = sender; tag = tag; body = body.items })
+call_of (event.StartSend txn sender tag body) = Call_start_send txn
+    (record { sender = sender; tag = tag; body = body.items })
 call_of (event.StartReceive txn) = Call_start_receive txn
 call_of (event.StartReceiveFrom txn sender) = Call_start_receive_from txn sender
 call_of (event.Step sub) = Call_step sub.txn sub.number
@@ -148,7 +149,8 @@ written_by _ = Ok Nothing
 
 -- what an event and its reply say of the pages' device: it stays as it is, but where a page is written
 abbrev pub PagesSay : {P L : Type 0} → page_device.Ghosts P → OpenStore P L → OpenStore P L → Event → Reply → Type 0
-PagesSay g old new (event.WritePage page) r = DeviceAfter g page (image_at old.state.images page) old.pages new.pages (written_by r)
+PagesSay g old new (event.WritePage page) r = DeviceAfter g page (image_at old.state.images page) old.pages new.pages
+    (written_by r)
 PagesSay g old new _ r = new.pages ≡ old.pages
 
 -- when a page is written, or is not

@@ -37,9 +37,9 @@ use std::marker::Model;
 pub const LOG_LIMIT: u64 = 1 << 50;
 
 /// A store that is open, with what is under way in it. Contracts see its two devices, which pages have a change that
-/// was not written, and its `State`: the sizes of the store, the rows of transactions that have not ended, the ends that
-/// they hold, the images of the pages, the records of the log and how many are forced, whether the store has failed, and
-/// the counts that it keeps.
+/// was not written, and its `State`: the sizes of the store, the rows of transactions that have not ended, the ends
+/// that they hold, the images of the pages, the records of the log and how many are forced, whether the store has
+/// failed, and the counts that it keeps.
 #[derive(Drop)]
 pub struct Engine<P: PageDevice, L: LogDevice> {
     pub(crate) alloc: Global,
@@ -177,14 +177,16 @@ impl<P: PageDevice, L: LogDevice> Engine<P, L> {
     ghost use Rattle.rq_model.specs.Reference.{IsUnready};
     ghost use Rattle.rq_model.specs.Legal.{NoneHolds, ready_tests};
 
-    /// What a crash at this moment leaves of the log, and of both devices, and that each record has a spelling, for proofs: it runs
-    /// no code.
-    pub fn keeps(&self)
-        ensures leaves { L.honest self.now.log → (c : List ℕ) → L.may_leave self.now.log c → IsBeginning self.now.state.records self.now.state.forced c }
+    /// What a crash at this moment leaves of the log, and of both devices, and that each record has a spelling, for
+    /// proofs: it runs no code.
+    pub fn shows_kept(&self)
+        ensures leaves { L.honest self.now.log → (c : List ℕ) → L.may_leave self.now.log c
+            → IsBeginning self.now.state.records self.now.state.forced c }
         ensures spelled { AreSpelled self.now.state.records }
-        ensures cut { L.honest self.now.log → IsSound self.now.state → AreFit P.PageDevice self.now → LeavesCut P.PageDevice L.LogDevice self.now }
+        ensures cut { L.honest self.now.log → IsSound self.now.state → AreFit P.PageDevice self.now
+            → LeavesCut P.PageDevice L.LogDevice self.now }
     {
-        self.log.keeps();
+        self.log.shows_kept();
     }
 
     /// The number of records that are forced. No crash loses one of them.
@@ -199,11 +201,15 @@ impl<P: PageDevice, L: LogDevice> Engine<P, L> {
     /// # Errors
     /// `Failed`, `TooManyTransactions`, `NoMemory`.
     pub fn begin(&mut self) -> Result<Txn, Refusal>
-        ensures answered { Answers P.PageDevice L.LogDevice true false self.old Begin (λ t. Gave_txn t) result self.new }
+        ensures answered { Answers P.PageDevice L.LogDevice true false self.old Begin
+            (λ t. Gave_txn t) result self.new }
         ensures sizes { self.new.state.sizes ≡ self.old.state.sizes }
         ensures devices { LeavesDevices self.old self.new }
         ensures refused { OnErr result (self.new ≡ self.old) }
-        ensures number { IfOk result (λ txn. txn ≡ record { incarnation = self.old.state.incarnation; count = self.old.state.begins + 1 }) }
+        ensures number { IfOk result (λ txn. txn ≡ record {
+          incarnation = self.old.state.incarnation;
+          count = self.old.state.begins + 1;
+        }) }
         ensures lists { IfOk result (λ txn. IsBegun self.old.state txn self.new.state) }
         ensures failed { (result ≡ Err Refusal.Failed) ↔ (self.old.state.failed ≡ true) }
     {
@@ -220,13 +226,14 @@ impl<P: PageDevice, L: LogDevice> Engine<P, L> {
         Ok(txn)
     }
 
-    /// Commits a transaction: writes its Commit record, releases its ends and ends it. What it sent waits from then on, and
-    /// the cells of what it took are free. The commit is durable once that record is forced.
+    /// Commits a transaction: writes its Commit record, releases its ends and ends it. What it sent waits from then on,
+    /// and the cells of what it took are free. The commit is durable once that record is forced.
     ///
     /// # Errors
     /// `Failed`, `UnknownTransaction`, `NotOpen`, `Unfinished`, `LogFull`, `NoMemory`.
     pub fn commit(&mut self, txn: Txn) -> Result<CommitNo, Refusal>
-        ensures answered { Answers P.PageDevice L.LogDevice true false self.old (Commit txn) (λ number. Gave_commit (number_of number)) result self.new }
+        ensures answered { Answers P.PageDevice L.LogDevice true false self.old (Commit txn)
+            (λ number. Gave_commit (number_of number)) result self.new }
         ensures sizes { self.new.state.sizes ≡ self.old.state.sizes }
         ensures number { IfOk result (λ number. number.txn ≡ txn) }
         ensures failed { (result ≡ Err Refusal.Failed) ↔ (self.old.state.failed ≡ true) }
@@ -255,9 +262,12 @@ impl<P: PageDevice, L: LogDevice> Engine<P, L> {
     /// # Errors
     /// `Failed`.
     pub fn acknowledged(&self, number: CommitNo) -> Result<Option<Receipt>, Refusal>
-        ensures answered { Answers P.PageDevice L.LogDevice false false self.now (Acknowledge number.txn number.lsn) (λ given. Gave_receipt (receipt_of given)) result self.now }
+        ensures answered { Answers P.PageDevice L.LogDevice false false self.now (Acknowledge number.txn number.lsn)
+            (λ given. Gave_receipt (receipt_of given)) result self.now }
         ensures receipt { IfOk result (λ given. IfSome given (λ r. r.number ≡ number)) }
-        ensures given { IfOk result (λ given. receipt_of given ≡ receipt (nat_eq number.txn.incarnation self.now.state.incarnation && not (nat_lt self.now.state.forced number.lsn)) number.txn number.lsn) }
+        ensures given { IfOk result (λ given. receipt_of given
+            ≡ receipt (nat_eq number.txn.incarnation self.now.state.incarnation && not
+            (nat_lt self.now.state.forced number.lsn)) number.txn number.lsn) }
         ensures failed { (result ≡ Err Refusal.Failed) ↔ (self.now.state.failed ≡ true) }
         ensures refusal { IfErr result (λ r. r ≡ Refusal.Failed) }
     {
@@ -274,7 +284,8 @@ impl<P: PageDevice, L: LogDevice> Engine<P, L> {
     /// # Errors
     /// `Failed`, `DiskWrite`.
     pub fn hand_over(&mut self) -> Result<(), Refusal>
-        ensures answered { Answers P.PageDevice L.LogDevice false true self.old Hand_over (λ done. Gave_handed_over) result self.new }
+        ensures answered { Answers P.PageDevice L.LogDevice false true self.old Hand_over
+            (λ done. Gave_handed_over) result self.new }
         ensures sizes { self.new.state.sizes ≡ self.old.state.sizes }
         ensures state { OnOk result (self.new.state ≡ self.old.state) }
         ensures reads { OnOk result (L.honest self.new.log → L.seen self.new.log ≡ spelled self.old.state.records) }
@@ -286,9 +297,10 @@ impl<P: PageDevice, L: LogDevice> Engine<P, L> {
         ensures changed { self.new.changed ≡ self.old.changed }
         ensures pages { self.new.pages ≡ self.old.pages }
         ensures honest { L.honest self.new.log → L.honest self.old.log }
-        ensures any_moment { L.honest self.new.log → LeavesOnly L.LogDevice self.old.log self.new.log (IsBeginning self.old.state.records self.old.state.forced) }
+        ensures any_moment { L.honest self.new.log → LeavesOnly L.LogDevice self.old.log self.new.log
+            (IsBeginning self.old.state.records self.old.state.forced) }
     {
-        self.keeps();
+        self.shows_kept();
         self.check_running()?;
         match self.log.hand_over() {
             Ok(()) => Ok(()),
@@ -304,12 +316,14 @@ impl<P: PageDevice, L: LogDevice> Engine<P, L> {
     /// # Errors
     /// `Failed`, `DiskWrite`.
     pub fn force(&mut self) -> Result<Lsn, Refusal>
-        ensures answered { Answers P.PageDevice L.LogDevice false true self.old Force (λ lsn. Gave_forced lsn) result self.new }
+        ensures answered { Answers P.PageDevice L.LogDevice false true self.old Force
+            (λ lsn. Gave_forced lsn) result self.new }
         ensures sizes { self.new.state.sizes ≡ self.old.state.sizes }
         ensures forced { IfOk result (λ lsn. (lsn ≡ length self.old.state.records) × (self.new.state.forced ≡ lsn)) }
         ensures state { OnOk result (self.new.state ≡ record self.old.state { forced = length self.old.state.records }) }
         ensures reads { OnOk result (L.honest self.new.log → L.seen self.new.log ≡ spelled self.old.state.records) }
-        ensures durable { OnOk result (L.honest self.new.log → Only (spelled self.old.state.records) (L.may_leave self.new.log)) }
+        ensures durable { OnOk result (L.honest self.new.log
+            → Only (spelled self.old.state.records) (L.may_leave self.new.log)) }
         ensures cause { OnOk result (L.faults self.new.log ≡ L.faults self.old.log) }
         ensures refusal { IfErr result (λ r. NotWritten L.LogDevice self.old self.new r) }
         ensures refused { self.old.state.failed ≡ true → self.new ≡ self.old }
@@ -318,9 +332,10 @@ impl<P: PageDevice, L: LogDevice> Engine<P, L> {
         ensures changed { self.new.changed ≡ self.old.changed }
         ensures pages { self.new.pages ≡ self.old.pages }
         ensures honest { L.honest self.new.log → L.honest self.old.log }
-        ensures any_moment { L.honest self.new.log → LeavesOnly L.LogDevice self.old.log self.new.log (IsBeginning self.old.state.records self.old.state.forced) }
+        ensures any_moment { L.honest self.new.log → LeavesOnly L.LogDevice self.old.log self.new.log
+            (IsBeginning self.old.state.records self.old.state.forced) }
     {
-        self.keeps();
+        self.shows_kept();
         self.check_running()?;
         match self.log.force() {
             Ok(lsn) => Ok(lsn),

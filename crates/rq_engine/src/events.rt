@@ -26,7 +26,8 @@ impl<P: PageDevice, L: LogDevice> Engine<P, L> {
     /// # Errors
     /// `Failed`, `Unfinished` where any operation is under way, `NoMemory`.
     pub fn content(&self) -> Result<Vec<GroupContent>, Refusal>
-        ensures answered { Answers P.PageDevice L.LogDevice true false self.now Show (λ groups. Gave_content (map group_of groups.items)) result self.now }
+        ensures answered { Answers P.PageDevice L.LogDevice true false self.now Show
+            (λ groups. Gave_content (map group_of groups.items)) result self.now }
         ensures failed { (result ≡ Err Refusal.Failed) ↔ (self.now.state.failed ≡ true) }
     {
         self.check_running()?;
@@ -39,8 +40,9 @@ impl<P: PageDevice, L: LogDevice> Engine<P, L> {
         }
     }
 
-    /// Makes the call that an event stands for. Whatever a crash leaves of both devices, while the call is made and after it, is a store
-    /// that was left so: the first records of the log, with all that are forced, and pages that fit them.
+    /// Makes the call that an event stands for. Whatever a crash leaves of both devices, while the call is made and
+    /// after it, is a store that was left so: the first records of the log, with all that are forced, and pages that
+    /// fit them.
     pub fn apply(&mut self, event: &Event) -> Reply
         ensures applied { Applied P.PageDevice L.LogDevice self.old event.now result self.new }
         // a reply that memory is wanting for, or that shows the content, leaves all as it was
@@ -48,14 +50,16 @@ impl<P: PageDevice, L: LogDevice> Engine<P, L> {
         ensures content { IsContent result → self.new ≡ self.old }
         ensures forced { (lsn : ℕ) → result ≡ Reply.Forced lsn → self.new.state.forced ≡ lsn }
     {
-        self.keeps();
+        self.shows_kept();
         self.call(event)
     }
 
     // The call, with what it says of the store and of its devices.
     fn call(&mut self, event: &Event) -> Reply
-        ensures answered { AreHonest P.PageDevice L.LogDevice self.new → IsSound self.old.state → Steps self.old.state (call_of event.now) (gave result) self.new.state }
-        ensures cause { AreHonest P.PageDevice L.LogDevice self.new → IsSound self.old.state → IsCaused self.old.state event.now result }
+        ensures answered { AreHonest P.PageDevice L.LogDevice self.new → IsSound self.old.state
+            → Steps self.old.state (call_of event.now) (gave result) self.new.state }
+        ensures cause { AreHonest P.PageDevice L.LogDevice self.new → IsSound self.old.state
+            → IsCaused self.old.state event.now result }
         ensures sizes { self.new.state.sizes ≡ self.old.state.sizes }
         ensures no_memory { result ≡ Reply.Refused Refusal.NoMemory → self.new ≡ self.old }
         ensures content { IsContent result → self.new ≡ self.old }
@@ -69,9 +73,10 @@ impl<P: PageDevice, L: LogDevice> Engine<P, L> {
         ensures changes { ChangesSay self.old event.now result self.new }
         ensures starts { StartSays self.old event.now result self.new }
         ensures honest { AreHonest P.PageDevice L.LogDevice self.new → AreHonest P.PageDevice L.LogDevice self.old }
-        ensures any_moment { L.honest self.new.log → LeavesOnly L.LogDevice self.old.log self.new.log (IsBeginning self.old.state.records self.old.state.forced) }
+        ensures any_moment { L.honest self.new.log → LeavesOnly L.LogDevice self.old.log self.new.log
+            (IsBeginning self.old.state.records self.old.state.forced) }
     {
-        self.keeps();
+        self.shows_kept();
         match event {
             Event::Begin => match self.begin() {
                 Ok(txn) => Reply::Begun(txn),

@@ -20,7 +20,7 @@ use rq_model::message::Message;
 use rq_model::record::{Deed, Record};
 use rq_model::refusal::Refusal;
 use rq_model::txn::{Lsn, Sub};
-use rq_record::{encode_deed, sized};
+use rq_record::{encode_deed, shows_size};
 use rq_txn::{Finished, Operation};
 
 /// The level of the chain operations.
@@ -32,7 +32,8 @@ impl<P: PageDevice, L: LogDevice> Engine<P, L> {
     /// # Errors
     /// `Failed`, `UnknownOperation`.
     pub fn step(&mut self, sub: Sub) -> Result<Progress, Refusal>
-        ensures answered { Answers P.PageDevice L.LogDevice false false self.old (Step sub.txn sub.number) progress_of result self.new }
+        ensures answered { Answers P.PageDevice L.LogDevice false false self.old
+            (Step sub.txn sub.number) progress_of result self.new }
         ensures sizes { self.new.state.sizes ≡ self.old.state.sizes }
         ensures devices { (self.new.pages ≡ self.old.pages) × (self.new.log ≡ self.old.log) }
         ensures refused { OnErr result (self.new ≡ self.old) }
@@ -52,7 +53,8 @@ impl<P: PageDevice, L: LogDevice> Engine<P, L> {
     /// # Errors
     /// `Failed`, `UnknownOperation`, `Unfinished`.
     pub fn finish(&mut self, sub: Sub) -> Result<Outcome, Refusal>
-        ensures answered { Answers P.PageDevice L.LogDevice false false self.old (Finish sub.txn sub.number) outcome_of result self.new }
+        ensures answered { Answers P.PageDevice L.LogDevice false false self.old
+            (Finish sub.txn sub.number) outcome_of result self.new }
         ensures sizes { self.new.state.sizes ≡ self.old.state.sizes }
         ensures lists { IfOk result (λ outcome. IsFinished self.old.state sub outcome self.new.state) }
         ensures devices { LeavesDevices self.old self.new }
@@ -70,7 +72,8 @@ impl<P: PageDevice, L: LogDevice> Engine<P, L> {
 
     // The operation, if it is under way.
     fn operation(&self, sub: Sub) -> Option<&Operation>
-        ensures { MatchOption result (NotGoing self.now.state sub) (λ o. IsGoing self.now.state sub (λ r u. u ≡ under_of o.now)) }
+        ensures { MatchOption result (NotGoing self.now.state sub)
+            (λ o. IsGoing self.now.state sub (λ r u. u ≡ under_of o.now)) }
     {
         let row = self.transactions.get(sub.txn)?;
         match &row.under_way {
@@ -94,7 +97,8 @@ impl<P: PageDevice, L: LogDevice> Engine<P, L> {
 
     // What the end of the operation will say, where all its writes are made.
     fn ready_deed(&self, sub: Sub) -> Result<Deed, Refusal>
-        ensures ready { IfOk result (λ d. IsGoing self.now.state sub (λ r u. (length u.writes ≤ u.made) × (u.deed ≡ d))) }
+        ensures ready { IfOk result (λ d. IsGoing self.now.state sub
+            (λ r u. (length u.writes ≤ u.made) × (u.deed ≡ d))) }
         ensures running { OnOk result (self.now.state.failed ≡ false) }
         ensures refused { IfErr result (λ r. CannotFinish self.now.state sub r) }
     {
@@ -125,7 +129,7 @@ impl<P: PageDevice, L: LogDevice> Engine<P, L> {
             before: write.before,
             after: write.after,
         };
-        sized(&record);
+        shows_size(&record);
         let lsn = self.log.append(&record);
         self.pages.set_slot(write.at, &write.after, lsn);
         self.transactions.step(sub.txn);
@@ -137,7 +141,13 @@ impl<P: PageDevice, L: LogDevice> Engine<P, L> {
     fn end(&mut self, sub: Sub, deed: &Deed)
         requires running { self.old.state.failed ≡ false }
         requires ready { IsGoing self.old.state sub (λ r u. (length u.writes ≤ u.made) × (u.deed ≡ deed.now)) }
-        ensures ended { self.new.state ≡ record self.old.state { rows = change_row sub.txn (row_finished (record { lsn = length self.old.state.records + 1; deed = deed.now })) self.old.state.rows; records = op_end sub.txn sub.number deed.now ∷ self.old.state.records; waiting = without_taken deed.now self.old.state.waiting } }
+        ensures ended { self.new.state ≡ record self.old.state {
+          rows = change_row sub.txn
+              (row_finished (record { lsn = length self.old.state.records + 1; deed = deed.now })) self.old.state.rows;
+          records = op_end sub.txn sub.number deed.now
+              ∷ self.old.state.records;
+          waiting = without_taken deed.now self.old.state.waiting;
+        } }
         ensures devices { LeavesDevices self.old self.new }
     {
         let record = Record::OpEnd {
@@ -146,7 +156,7 @@ impl<P: PageDevice, L: LogDevice> Engine<P, L> {
             level: CHAIN_LEVEL,
             deed: encode_deed(deed),
         };
-        sized(&record);
+        shows_size(&record);
         let lsn = self.log.append(&record);
         let finished = Finished { lsn, deed: *deed };
         self.transactions.finish(sub.txn, finished);

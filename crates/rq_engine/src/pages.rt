@@ -15,18 +15,20 @@ use rq_pool::Written;
 
 impl<P: PageDevice, L: LogDevice> Engine<P, L> {
     /// Writes a page out to its device, where it has a change that was not written and the record of its last change is
-    /// forced. `Nothing` where it has no such change, or the store has no such page. What was written is durable only after
-    /// a sync of the device.
+    /// forced. `Nothing` where it has no such change, or the store has no such page. What was written is durable only
+    /// after a sync of the device.
     ///
     /// # Errors
     /// `Failed`, `NotForced`, `DiskWrite`.
     pub fn write_page(&mut self, page: u32) -> Result<Written, Refusal>
-        ensures answered { Answers P.PageDevice L.LogDevice false true self.old (Write_page page) (λ written. Gave_written (is_done written)) result self.new }
+        ensures answered { Answers P.PageDevice L.LogDevice false true self.old (Write_page page)
+            (λ written. Gave_written (is_done written)) result self.new }
         ensures sizes { self.new.state.sizes ≡ self.old.state.sizes }
         ensures answer { WritesWhen self.old page result }
         ensures state { self.new.state ≡ state_after self.old.state result }
         ensures changed { self.new.changed ≡ changed_after self.old.changed page result }
-        ensures device { DeviceAfter P.PageDevice page (image_at self.old.state.images page) self.old.pages self.new.pages result }
+        ensures device { DeviceAfter P.PageDevice page
+            (image_at self.old.state.images page) self.old.pages self.new.pages result }
         ensures honest { P.honest self.new.pages → P.honest self.old.pages }
         ensures log { self.new.log ≡ self.old.log }
         ensures refused { IfErr result (λ r. r ≢ Refusal.DiskWrite → self.new ≡ self.old) }

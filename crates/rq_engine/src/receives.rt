@@ -30,14 +30,15 @@ use rq_model::txn::{Sub, Txn};
 use rq_page::addr::Addr;
 
 impl<P: PageDevice, L: LogDevice> Engine<P, L> {
-    /// Starts a receive from some group that holds a message for the transaction, and takes everything that its steps and
-    /// its finish will need. None where no free group holds a message. A group is free where no other transaction holds its
-    /// receiving end; it holds a message where more is committed than was taken.
+    /// Starts a receive from some group that holds a message for the transaction, and takes everything that its steps
+    /// and its finish will need. None where no free group holds a message. A group is free where no other transaction
+    /// holds its receiving end; it holds a message where more is committed than was taken.
     ///
     /// # Errors
     /// `Failed`, `UnknownTransaction`, `NotOpen`, `Unfinished`, `LogFull`, `Latched`, `NoMemory`.
     pub fn start_receive(&mut self, txn: Txn) -> Result<Option<Sub>, Refusal>
-        ensures answered { Answers P.PageDevice L.LogDevice true false self.old (Start_receive txn) started_of result self.new }
+        ensures answered { Answers P.PageDevice L.LogDevice true false self.old
+            (Start_receive txn) started_of result self.new }
         ensures sizes { self.new.state.sizes ≡ self.old.state.sizes }
         ensures sub { IfOk result (λ begun. IfSome begun (λ sub. sub.txn ≡ txn)) }
         ensures lists { IfOk result (λ begun. TakeSays self.old.state txn begun self.new.state) }
@@ -57,13 +58,15 @@ impl<P: PageDevice, L: LogDevice> Engine<P, L> {
         }
     }
 
-    /// Starts a receive from this sender's group, and takes everything that its steps and its finish will need. None where
-    /// the group holds no message for the transaction.
+    /// Starts a receive from this sender's group, and takes everything that its steps and its finish will need. None
+    /// where the group holds no message for the transaction.
     ///
     /// # Errors
-    /// `Failed`, `UnknownTransaction`, `NotOpen`, `Unfinished`, `UnknownSender`, `ReceiverBusy`, `LogFull`, `Latched`, `NoMemory`.
+    /// `Failed`, `UnknownTransaction`, `NotOpen`, `Unfinished`, `UnknownSender`, `ReceiverBusy`, `LogFull`, `Latched`,
+    /// `NoMemory`.
     pub fn start_receive_from(&mut self, txn: Txn, sender: u32) -> Result<Option<Sub>, Refusal>
-        ensures answered { Answers P.PageDevice L.LogDevice true false self.old (Start_receive_from txn sender) started_of result self.new }
+        ensures answered { Answers P.PageDevice L.LogDevice true false self.old
+            (Start_receive_from txn sender) started_of result self.new }
         ensures sizes { self.new.state.sizes ≡ self.old.state.sizes }
         ensures sub { IfOk result (λ begun. IfSome begun (λ sub. sub.txn ≡ txn)) }
         ensures lists { IfOk result (λ begun. TakeFromSays self.old.state txn sender begun self.new.state) }
@@ -96,7 +99,8 @@ impl<P: PageDevice, L: LogDevice> Engine<P, L> {
         requires sender { sender < sender_count self.old.state.sizes }
         requires free { is_free_for txn sender self.old.state.ends.receiving ≡ true }
         requires waits { 1 ≤ waits self.old.state.waiting sender }
-        ensures answered { (call : Call) → IsTakeCall txn sender call → Answers P.PageDevice L.LogDevice true false self.old call (λ sub. started_of (Some sub)) result self.new }
+        ensures answered { (call : Call) → IsTakeCall txn sender call
+            → Answers P.PageDevice L.LogDevice true false self.old call (λ sub. started_of (Some sub)) result self.new }
         ensures sizes { self.new.state.sizes ≡ self.old.state.sizes }
         ensures sub { IfOk result (λ sub. sub.txn ≡ txn) }
         ensures lists { IfOk result (λ sub. IsTakeStarted self.old.state txn sender sub self.new.state) }
@@ -119,10 +123,13 @@ impl<P: PageDevice, L: LogDevice> Engine<P, L> {
     // The plan of a receive, from the slots as they are, and how many bytes its records take in the log.
     fn plan_take(&self, sender: u32) -> Result<(Plan, usize), Refusal>
         requires { sender < sender_count self.now.state.sizes }
-        ensures plan { IfOk result (λ planned. (number : ℕ) → IsTakePlan self.now.state.sizes (slots_in self.now.state.sizes self.now.state.images) (under_plan number planned.0) sender) }
+        ensures plan { IfOk result (λ planned. (number : ℕ)
+            → IsTakePlan self.now.state.sizes (slots_in self.now.state.sizes self.now.state.images)
+            (under_plan number planned.0) sender) }
         ensures plain { IfErr result (λ r. r ≢ Refusal.Failed) }
         ensures fits { IfOk result (λ planned. FitsPlan self.now.state.sizes planned.0 planned.1) }
-        ensures refused { IsSound self.now.state → 1 ≤ waits self.now.state.waiting sender → any_under self.now.state.rows ≡ false → IfErr result (λ r. r ≡ Refusal.NoMemory) }
+        ensures refused { IsSound self.now.state → 1 ≤ waits self.now.state.waiting sender
+            → any_under self.now.state.rows ≡ false → IfErr result (λ r. r ≡ Refusal.NoMemory) }
     {
         let layout = self.pages.layout();
         let directory = self.pages.group(sender);
@@ -150,8 +157,10 @@ impl<P: PageDevice, L: LogDevice> Engine<P, L> {
     fn cell_at(&self, at: Addr) -> Option<Neighbour>
         requires { IsLink self.now.state.sizes at }
         ensures place { IfSome result (λ cell. IsNeighbourAt self.now.state.sizes at cell) }
-        ensures stands { IfSome result (λ cell. slots_in self.now.state.sizes self.now.state.images at ≡ Used cell.cell) }
-        ensures none { IfNone result ((at ≡ 0) ⊎ (cell_in (slots_in self.now.state.sizes self.now.state.images at) ≡ None)) }
+        ensures stands { IfSome result (λ cell. slots_in self.now.state.sizes self.now.state.images at
+            ≡ Used cell.cell) }
+        ensures none { IfNone result ((at ≡ 0) ⊎ (cell_in (slots_in self.now.state.sizes self.now.state.images at)
+            ≡ None)) }
     {
         if at.is_none() {
             return None;

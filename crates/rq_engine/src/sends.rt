@@ -38,11 +38,13 @@ impl<P: PageDevice, L: LogDevice> Engine<P, L> {
         tag: u64,
         body: &[u8],
     ) -> Result<Sub, Refusal>
-        ensures answered { Answers P.PageDevice L.LogDevice true false self.old (Start_send txn (message_of sender tag body.now)) (λ sub. Gave_sub sub.txn sub.number) result self.new }
+        ensures answered { Answers P.PageDevice L.LogDevice true false self.old
+            (Start_send txn (message_of sender tag body.now)) (λ sub. Gave_sub sub.txn sub.number) result self.new }
         ensures sizes { self.new.state.sizes ≡ self.old.state.sizes }
         ensures sub { IfOk result (λ sub. sub.txn ≡ txn) }
         ensures lists { IfOk result (λ sub. IsSendStarted self.old.state txn sender tag body.now sub self.new.state) }
-        ensures lowest { IfOk result (λ sub. IsGoing self.new.state sub (λ r u. TakesLowest self.old.state.sizes (slots_in self.old.state.sizes self.old.state.images) u.writes)) }
+        ensures lowest { IfOk result (λ sub. IsGoing self.new.state sub
+            (λ r u. TakesLowest self.old.state.sizes (slots_in self.old.state.sizes self.old.state.images) u.writes)) }
         ensures latched { OnOk result (any_under self.old.state.rows ≡ false) }
         ensures devices { LeavesDevices self.old self.new }
         ensures refused { OnErr result (self.new ≡ self.old) }
@@ -62,8 +64,12 @@ impl<P: PageDevice, L: LogDevice> Engine<P, L> {
 
     // The tests of a send behind those of its transaction.
     fn check_send(&self, txn: Txn, sender: u32, tag: u64, body: &[u8]) -> Result<Body, Refusal>
-        ensures refused { NoneHolds (ready_tests (ledger_of self.now.state) txn false) → IfErr result (λ r. Refuses true false self.now.state (Start_send txn (message_of sender tag body.now)) r) }
-        ensures passes { IsSound self.now.state → NoneHolds (ready_tests (ledger_of self.now.state) txn false) → OnOk result (Passes (size_of self.now.state.sizes) (ledger_of self.now.state) (Start_send txn (message_of sender tag body.now))) }
+        ensures refused { NoneHolds (ready_tests (ledger_of self.now.state) txn false)
+            → IfErr result (λ r. Refuses true false self.now.state
+            (Start_send txn (message_of sender tag body.now)) r) }
+        ensures passes { IsSound self.now.state → NoneHolds (ready_tests (ledger_of self.now.state) txn false)
+            → OnOk result (Passes (size_of self.now.state.sizes) (ledger_of self.now.state)
+            (Start_send txn (message_of sender tag body.now))) }
         ensures plain { IfErr result (λ r. r ≢ Refusal.Failed) }
         ensures body { IfOk result (λ b. b ≡ body.now) }
         ensures sender { OnOk result (sender < sender_count self.now.state.sizes) }
@@ -100,11 +106,15 @@ impl<P: PageDevice, L: LogDevice> Engine<P, L> {
     // The plan of a send, from the slots as they are, and how many bytes its records take in the log.
     fn plan_send(&self, sender: u32, tag: u64, body: Body) -> Result<(Plan, usize), Refusal>
         requires { sender < sender_count self.now.state.sizes }
-        ensures plan { IfOk result (λ planned. (number : ℕ) → IsSendPlan self.now.state.sizes (slots_in self.now.state.sizes self.now.state.images) (under_plan number planned.0) sender tag body) }
-        ensures lowest { IfOk result (λ planned. TakesLowest self.now.state.sizes (slots_in self.now.state.sizes self.now.state.images) planned.0.writes.items) }
+        ensures plan { IfOk result (λ planned. (number : ℕ)
+            → IsSendPlan self.now.state.sizes (slots_in self.now.state.sizes self.now.state.images)
+            (under_plan number planned.0) sender tag body) }
+        ensures lowest { IfOk result (λ planned. TakesLowest self.now.state.sizes
+            (slots_in self.now.state.sizes self.now.state.images) planned.0.writes.items) }
         ensures plain { IfErr result (λ r. r ≢ Refusal.Failed) }
         ensures fits { IfOk result (λ planned. FitsPlan self.now.state.sizes planned.0 planned.1) }
-        ensures refused { IsSound self.now.state → self.now.state.cells_in_use < cell_count self.now.state.sizes → any_under self.now.state.rows ≡ false → IfErr result (λ r. r ≡ Refusal.NoMemory) }
+        ensures refused { IsSound self.now.state → self.now.state.cells_in_use < cell_count self.now.state.sizes
+            → any_under self.now.state.rows ≡ false → IfErr result (λ r. r ≡ Refusal.NoMemory) }
     {
         let layout = self.pages.layout();
         let directory = self.pages.group(sender);

@@ -45,8 +45,10 @@ impl<P: PageDevice, L: LogDevice> Engine<P, L> {
     pub(crate) fn neighbour(&self, at: Addr) -> Option<Option<Neighbour>>
         requires { IsLink self.now.state.sizes at }
         ensures neighbour { IfSome result (λ beside. IsNeighbour self.now.state.sizes at beside) }
-        ensures stands { IfSome result (λ beside. Stands_at (slots_in self.now.state.sizes self.now.state.images) at (cell_beside beside)) }
-        ensures free { IfNone result ((0 < at) × (cell_in (slots_in self.now.state.sizes self.now.state.images at) ≡ None)) }
+        ensures stands { IfSome result (λ beside. Stands_at (slots_in self.now.state.sizes self.now.state.images) at
+            (cell_beside beside)) }
+        ensures free { IfNone result ((0 < at) × (cell_in (slots_in self.now.state.sizes self.now.state.images at)
+            ≡ None)) }
     {
         if at.is_none() {
             return Some(None);
@@ -69,7 +71,11 @@ impl<P: PageDevice, L: LogDevice> Engine<P, L> {
         requires ready { IsReady self.old.state txn number }
         requires fits { FitsPlan self.old.state.sizes plan room }
         requires log { log_full (ledger_of self.old.state) 4 ≡ false }
-        ensures started { OnOk result (self.new.state ≡ record self.old.state { rows = change_row txn (row_started (under_plan number plan)) self.old.state.rows; ends = with_end txn end self.old.state.ends }) }
+        ensures started { OnOk result (self.new.state ≡ record self.old.state {
+          rows = change_row txn
+              (row_started (under_plan number plan)) self.old.state.rows;
+          ends = with_end txn end self.old.state.ends;
+        }) }
         ensures devices { LeavesDevices self.old self.new }
         ensures refusal { IfErr result (λ r. r ≡ Refusal.NoMemory) }
         ensures refused { OnErr result (self.new ≡ self.old) }

@@ -17,5 +17,11 @@ with_end t (Receiving s) ends = record { sending = ends.sending; receiving = wit
 
 -- without what was newly taken last on that side
 abbrev pub without_newest : End → Bool → HeldEnds → HeldEnds
-without_newest (Sending s) newly ends = record { sending = cond newly (drop 1 ends.sending) ends.sending; receiving = ends.receiving }
-without_newest (Receiving s) newly ends = record { sending = ends.sending; receiving = cond newly (drop 1 ends.receiving) ends.receiving }
+without_newest (Sending s) newly ends = record {
+  sending = cond newly (drop 1 ends.sending) ends.sending;
+  receiving = ends.receiving;
+}
+without_newest (Receiving s) newly ends = record {
+  sending = ends.sending;
+  receiving = cond newly (drop 1 ends.receiving) ends.receiving;
+}

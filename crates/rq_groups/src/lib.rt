@@ -78,7 +78,8 @@ impl Ends {
     /// # Errors
     /// `NoMemory`: nothing changed.
     pub fn take_send(&mut self, txn: Txn, sender: u32) -> Result<bool, NoMemory>
-        ensures taken { IfOk result (λ _. self.new ≡ record self.old { sending = with_held txn sender self.old.sending }) }
+        ensures taken { IfOk result (λ _. self.new ≡ record self.old
+            { sending = with_held txn sender self.old.sending }) }
         ensures newly { IfOk result (λ new. new ≡ not (has_held txn sender self.old.sending)) }
         ensures same { OnErr result (self.new ≡ self.old) }
     {
@@ -90,7 +91,8 @@ impl Ends {
     /// # Errors
     /// `NoMemory`: nothing changed.
     pub fn take_receive(&mut self, txn: Txn, sender: u32) -> Result<bool, NoMemory>
-        ensures taken { IfOk result (λ _. self.new ≡ record self.old { receiving = with_held txn sender self.old.receiving }) }
+        ensures taken { IfOk result (λ _. self.new ≡ record self.old
+            { receiving = with_held txn sender self.old.receiving }) }
         ensures newly { IfOk result (λ new. new ≡ not (has_held txn sender self.old.receiving)) }
         ensures same { OnErr result (self.new ≡ self.old) }
     {
@@ -142,7 +144,10 @@ impl Ends {
 
     /// Gives back every end that the transaction holds.
     pub fn release(&mut self, txn: Txn)
-        ensures { self.new ≡ record { sending = released txn self.old.sending; receiving = released txn self.old.receiving } }
+        ensures { self.new ≡ record {
+          sending = released txn self.old.sending;
+          receiving = released txn self.old.receiving;
+        } }
     {
         give_back(&mut self.sending, txn);
         give_back(&mut self.receiving, txn);

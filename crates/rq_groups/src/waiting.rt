@@ -79,8 +79,10 @@ impl Waiting {
     /// A sender of which a message waits, and whose receiving end no other transaction holds; none where there
     /// is no such sender.
     pub fn first_for(&self, ends: &Ends, txn: Txn) -> Option<u32>
-        ensures some { IfSome result (λ s. (s < length self.now) × (1 ≤ waits self.now s) × (is_free_for txn s ends.now.receiving ≡ true)) }
-        ensures none { IfNone result ((s : ℕ) → s < length self.now → is_free_for txn s ends.now.receiving ≡ true → waits self.now s ≡ 0) }
+        ensures some { IfSome result (λ s. (s < length self.now) × (1 ≤ waits self.now s)
+            × (is_free_for txn s ends.now.receiving ≡ true)) }
+        ensures none { IfNone result ((s : ℕ) → s < length self.now → is_free_for txn s ends.now.receiving ≡ true
+            → waits self.now s ≡ 0) }
     {
         for sender in 0..self.senders() {
             if self.count(sender) > 0 && ends.may_receive(txn, sender) {

@@ -79,11 +79,23 @@ IsForeign s (Some c) = c.sender ≢ s
 -- the cells and the directory slot after a message is put at the end, in the cell at new
 abbrev pub cells_appended : Cells → ℕ → Directory → ℕ → ℕ → List ℕ → Cells
 cells_appended m s d new tag body =
-    let one = written m new (Some (record { sender = s; sequence = d.sent + 1; tag = tag; body = body; next = 0; prev = d.tail })) in
+    let one = written m new (Some (record {
+      sender = s;
+      sequence = d.sent + 1;
+      tag = tag;
+      body = body;
+      next = 0;
+      prev = d.tail;
+    })) in
     (if d.tail == 0 then one else written one d.tail (relink_next new (m d.tail)))
 
 abbrev pub directory_appended : Directory → ℕ → ℕ → Directory
-directory_appended d new tag = record d { sent = d.sent + 1; last_tag = tag; tail = new; head = (if d.tail == 0 then new else d.head) }
+directory_appended d new tag = record d {
+  sent = d.sent + 1;
+  last_tag = tag;
+  tail = new;
+  head = (if d.tail == 0 then new else d.head);
+}
 
 -- what operations do to a view
 abbrev pub view_appended : View → ℕ → List ℕ → View
@@ -108,7 +120,8 @@ pub data Taking : Type 0 where
 -- operations of the receiving end, with these replies, lead from one view to another
 abbrev pub AreTaken : List Taking → View → View → Type 0
 AreTaken [] v w = v ≡ w
-AreTaken (Took tag body ∷ ops) v w = (rest : List (ℕ × List ℕ)) × (v.messages ≡ (tag, body) ∷ rest) × AreTaken ops (record v { received = v.received + 1; messages = rest }) w
+AreTaken (Took tag body ∷ ops) v w = (rest : List (ℕ × List ℕ)) × (v.messages ≡ (tag, body) ∷ rest)
+    × AreTaken ops (record v { received = v.received + 1; messages = rest }) w
 AreTaken (PutBack tag body ∷ ops) v w = (0 < v.received) × AreTaken ops (view_put_back v tag body) w
 
 -- an operation of the sending end
@@ -121,6 +134,7 @@ pub data Sending : Type 0 where
 abbrev pub AreSent : List Sending → View → View → Type 0
 AreSent [] v w = v ≡ w
 AreSent (Sent tag body ∷ ops) v w = AreSent ops (view_appended v tag body) w
-AreSent (TailUnlinked previous ∷ ops) v w = (front : List (ℕ × List ℕ)) × (x : ℕ × List ℕ) × (v.messages ≡ front ++ x ∷ []) × AreSent ops (record v { last_tag = previous; messages = front }) w
+AreSent (TailUnlinked previous ∷ ops) v w = (front : List (ℕ × List ℕ)) × (x : ℕ × List ℕ)
+    × (v.messages ≡ front ++ x ∷ []) × AreSent ops (record v { last_tag = previous; messages = front }) w
 AreSent (Closed ∷ ops) v w = AreSent ops (record v { closed = true }) w
 AreSent (Reopened ∷ ops) v w = AreSent ops (record v { closed = false }) w

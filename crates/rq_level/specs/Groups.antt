@@ -29,7 +29,8 @@ with_all [] v = v
 with_all (d ∷ ds) v = with_turn (Did d) (with_all ds v)
 
 abbrev pub committed_after : ℕ → Item → List Item → View → View
-committed_after s (Commit t) log v = with_all (side (is_sending s) (open_deeds t log)) (with_all (side (is_taking s) (open_deeds t log)) v)
+committed_after s (Commit t) log v = with_all (side (is_sending s) (open_deeds t log))
+    (with_all (side (is_taking s) (open_deeds t log)) v)
 committed_after s _ log v = v
 
 -- what committed transactions leave of s
@@ -51,7 +52,8 @@ Told (Close s) v = v.closed ≡ false
 -- the rule of groups and receives for a record: what it comes to over views
 pub record MayTurn (log : List Item) (t : Txn) (d : Deed) (s : ℕ) : Type 0 where
   pub sends : is_sending s d ≡ true → Alone (is_sending s) t log × Told d (view log s)
-  pub takes : is_taking s d ≡ true → Alone (is_taking s) t log × Told d (view log s) × (0 < length (with_all (side (is_taking s) (open_deeds t log)) (committed log s)).messages)
+  pub takes : is_taking s d ≡ true → Alone (is_taking s) t log × Told d (view log s)
+      × (0 < length (with_all (side (is_taking s) (open_deeds t log)) (committed log s)).messages)
 
 abbrev pub MayGroup : List Item → Item → Type 0
 MayGroup log (OpEnd o d) = (s : ℕ) → MayTurn log o.txn d s

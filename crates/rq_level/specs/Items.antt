@@ -24,8 +24,10 @@ told_deed None = Close 0
 told_deed (Some d) = d
 
 abbrev pub item_of : Sizes → Record → Item
-item_of z (records.PageOp t n page slot before after) = PageOp (operation t n) (record { at = address page slot; before = held_in z page before; after = held_in z page after })
-item_of z (records.PageUndo t n undone page slot after) = PageUndo (operation t n) undone (address page slot) (held_in z page after)
+item_of z (records.PageOp t n page slot before after) = PageOp (operation t n)
+    (record { at = address page slot; before = held_in z page before; after = held_in z page after })
+item_of z (records.PageUndo t n undone page slot after) = PageUndo (operation t n) undone (address page slot)
+    (held_in z page after)
 item_of z (records.OpEnd t n level deed) = OpEnd (operation t n) (told_deed (deed_in deed))
 item_of z (records.OpVoid t n) = OpVoid (operation t n)
 item_of z (records.CompEnd t n undone) = CompEnd (operation t n) undone
@@ -38,10 +40,16 @@ items z log = map (item_of z) log
 
 -- what stands at each address of a formatted store
 abbrev pub formatted_at : Sizes → ℕ → Slot
-formatted_at z a = cond (nat_lt 0 (a / 16) && nat_le (a / 16) z.directory && nat_lt 0 (a % 16)) (Sender (sender_at (a / 16) (a % 16)) new_directory) Free
+formatted_at z a = cond (nat_lt 0 (a / 16) && nat_le (a / 16) z.directory && nat_lt 0 (a % 16))
+    (Sender (sender_at (a / 16) (a % 16)) new_directory) Free
 
 abbrev pub layout_of : Sizes → Layout
-layout_of z = record { page = λ a. a / 16; directory_at = directory_at; senders = sender_count z; formatted = formatted_at z }
+layout_of z = record {
+  page = λ a. a / 16;
+  directory_at = directory_at;
+  senders = sender_count z;
+  formatted = formatted_at z;
+}
 
 -- the record ends an inverse of the transaction's
 abbrev pub compensates : Txn → Record → Bool

@@ -49,7 +49,18 @@ abbrev pub append_writes : Layout → ℕ → Directory → ℕ → ℕ → List
 append_writes l s d new tag body old =
     directory_write l s d (directory_appended d new tag)
     ∷ relinked d.tail old (with_next new)
-    (record { at = new; before = Free; after = Used (record { sender = s; sequence = d.sent + 1; tag = tag; body = body; next = 0; prev = d.tail }) } ∷ [])
+    (record {
+      at = new;
+      before = Free;
+      after = Used (record {
+        sender = s;
+        sequence = d.sent + 1;
+        tag = tag;
+        body = body;
+        next = 0;
+        prev = d.tail;
+      });
+    } ∷ [])
 
 pub record IsAppend (l : Layout) (s n tag previous : ℕ) (body : List ℕ) (ws : List Write) : Type 0 where
   pub directory : Directory
@@ -62,7 +73,11 @@ pub record IsAppend (l : Layout) (s n tag previous : ℕ) (body : List ℕ) (ws 
   pub writes : ws ≡ append_writes l s directory new tag body old
 
 abbrev pub directory_head_unlinked : Directory → Cell → Directory
-directory_head_unlinked d c = record d { received = d.received + 1; head = c.next; tail = (if c.next == 0 then 0 else d.tail) }
+directory_head_unlinked d c = record d {
+  received = d.received + 1;
+  head = c.next;
+  tail = (if c.next == 0 then 0 else d.tail);
+}
 
 abbrev pub unlink_head_writes : Layout → ℕ → Directory → Cell → Option Cell → List Write
 unlink_head_writes l s d c next =
@@ -83,7 +98,12 @@ pub record IsUnlinkHead (l : Layout) (s n tag : ℕ) (body : List ℕ) (ws : Lis
   pub writes : ws ≡ unlink_head_writes l s directory cell next
 
 abbrev pub directory_tail_unlinked : Directory → Cell → ℕ → Directory
-directory_tail_unlinked d c previous = record d { sent = d.sent - 1; last_tag = previous; tail = c.prev; head = (if c.prev == 0 then 0 else d.head) }
+directory_tail_unlinked d c previous = record d {
+  sent = d.sent - 1;
+  last_tag = previous;
+  tail = c.prev;
+  head = (if c.prev == 0 then 0 else d.head);
+}
 
 abbrev pub unlink_tail_writes : Layout → ℕ → Directory → Cell → ℕ → Option Cell → List Write
 unlink_tail_writes l s d c previous before =
@@ -102,13 +122,28 @@ pub record IsUnlinkTail (l : Layout) (s n previous : ℕ) (ws : List Write) : Ty
   pub writes : ws ≡ unlink_tail_writes l s directory cell previous front
 
 abbrev pub directory_put_back : Directory → ℕ → Directory
-directory_put_back d new = record d { received = d.received - 1; head = new; tail = (if d.head == 0 then new else d.tail) }
+directory_put_back d new = record d {
+  received = d.received - 1;
+  head = new;
+  tail = (if d.head == 0 then new else d.tail);
+}
 
 abbrev pub put_back_writes : Layout → ℕ → Directory → ℕ → ℕ → List ℕ → Option Cell → List Write
 put_back_writes l s d new tag body old =
     directory_write l s d (directory_put_back d new)
     ∷ relinked d.head old (with_prev new)
-    (record { at = new; before = Free; after = Used (record { sender = s; sequence = d.received; tag = tag; body = body; next = d.head; prev = 0 }) } ∷ [])
+    (record {
+      at = new;
+      before = Free;
+      after = Used (record {
+        sender = s;
+        sequence = d.received;
+        tag = tag;
+        body = body;
+        next = d.head;
+        prev = 0;
+      });
+    } ∷ [])
 
 pub record IsPutBack (l : Layout) (s n tag : ℕ) (body : List ℕ) (ws : List Write) : Type 0 where
   pub directory : Directory

@@ -18,33 +18,40 @@ use Rattle.rq_level.specs.Stored.{count_used}
 
 -- only cells hold messages, and only the directory slot of a sender tells of it
 abbrev pub SlotsStandWhereTheyMay : Type 0
-SlotsStandWhereTheyMay = (z : Sizes) (log : List Record) → InStore z log → AllStand z (state_of (layout_of z) (items z log)).slots
+SlotsStandWhereTheyMay = (z : Sizes) (log : List Record) → InStore z log
+    → AllStand z (state_of (layout_of z) (items z log)).slots
 
 -- the cells that whole operations use are the messages of all chains
 abbrev pub UsedCellsAreMessages : Type 0
 UsedCellsAreMessages =
     (z : Sizes) (log : List Record) → Legal (layout_of z) (items z log) → InStore z log
-    → count_used z (state_of (layout_of z) (items z log)).quiet ≡ sum_by (λ s. length (view (items z log) s).messages) (below (sender_count z))
+    → count_used z (state_of (layout_of z) (items z log)).quiet
+    ≡ sum_by (λ s. length (view (items z log) s).messages) (below (sender_count z))
 
 -- where no operation is under way, the slots are those that whole operations have written
 abbrev pub IdleSlotsAreWhole : Type 0
-IdleSlotsAreWhole = (l : Layout) (log : List Item) → Legal l log → ((o : Sub) → under_way o log ≡ false) → (a : ℕ) → (state_of l log).slots a ≡ (state_of l log).quiet a
+IdleSlotsAreWhole = (l : Layout) (log : List Item) → Legal l log → ((o : Sub) → under_way o log ≡ false) → (a : ℕ)
+    → (state_of l log).slots a ≡ (state_of l log).quiet a
 
 -- no chain has held more messages than the log has records
 abbrev pub ChainsAreBounded : Type 0
-ChainsAreBounded = (z : Sizes) (log : List Record) (s : ℕ) → (view (items z log) s).received + length (view (items z log) s).messages ≤ length log
+ChainsAreBounded = (z : Sizes) (log : List Record) (s : ℕ)
+    → (view (items z log) s).received + length (view (items z log) s).messages ≤ length log
 
--- where every transaction that did something has ended, the used cells are the messages that are committed and not taken
+-- where every transaction that did something has ended, the used cells are the messages that are committed and not
+-- taken
 abbrev pub SettledCellsAreCommitted : Type 0
 SettledCellsAreCommitted =
-    (z : Sizes) (log : List Record) → Legal (layout_of z) (items z log) → InStore z log → KeepsGroups (items z log) → KeepsRules log → Reads log
+    (z : Sizes) (log : List Record) → Legal (layout_of z) (items z log) → InStore z log → KeepsGroups (items z log)
+    → KeepsRules log → Reads log
     → ((t : Txn) → open_deeds t (items z log) ≡ [])
     → count_used z (state_of (layout_of z) (items z log)).quiet ≡ count_rest (below (sender_count z)) (committed_of log)
 
 -- while a transaction may put back what it took, a cell is left for each of these messages
 abbrev pub TakenMessagesHaveCells : Type 0
 TakenMessagesHaveCells =
-    (z : Sizes) (log : List Record) (t : Txn) → Legal (layout_of z) (items z log) → InStore z log → HasRoom (cell_count z) (items z log)
+    (z : Sizes) (log : List Record) (t : Txn) → Legal (layout_of z) (items z log) → InStore z log
+    → HasRoom (cell_count z) (items z log)
     → count_used z (state_of (layout_of z) (items z log)).quiet + sum_by takes_placed (open_deeds t (items z log))
     ≤ cell_count z
 

@@ -13,10 +13,11 @@ use Rattle.rq_level.specs.Plans.{ShowsAt, Spares}
 use Rattle.rq_level.specs.Legal.{Legal, IsLayout, open_deeds, view}
 use Rattle.rq_level.specs.Groups.{KeepsGroups, Tells, committed, is_sending, is_taking, side, with_all}
 
--- the slots that whole operations alone have written show, of each sender, the fold of what its operations did and undid,
--- whatever is under way
+-- the slots that whole operations alone have written show, of each sender, the fold of what its operations did and
+-- undid, whatever is under way
 abbrev pub QuietSlotsShowTheFold : Type 0
-QuietSlotsShowTheFold = (l : Layout) (log : List Item) (s : ℕ) → IsLayout l → Legal l log → s < l.senders → ShowsAt l (state_of l log).quiet s (view log s)
+QuietSlotsShowTheFold = (l : Layout) (log : List Item) (s : ℕ) → IsLayout l → Legal l log → s < l.senders
+    → ShowsAt l (state_of l log).quiet s (view log s)
 
 -- and so do the slots as they are, of a sender over whose slots no operation under way has written
 abbrev pub IdleSlotsShowTheFold : Type 0
@@ -27,24 +28,29 @@ IdleSlotsShowTheFold = (l : Layout) (log : List Item) (s : ℕ) → IsLayout l �
 abbrev pub side_of : (Deed → Bool) → List Item → Txn → List Deed
 side_of f log t = side f (open_deeds t log)
 
--- One transaction at most holds each end, and the view is what is committed, without what the receiving holder took, and then what the sending holder sent.
+-- One transaction at most holds each end, and the view is what is committed, without what the receiving holder took,
+-- and then what the sending holder sent.
 pub record IsHeldBy (log : List Item) (s : ℕ) : Type 0 where
   pub sender : Txn
   pub taker : Txn
-  pub shown : view log s ≡ with_all (side_of (is_sending s) log sender) (with_all (side_of (is_taking s) log taker) (committed log s))
+  pub shown : view log s ≡ with_all (side_of (is_sending s) log sender)
+      (with_all (side_of (is_taking s) log taker) (committed log s))
   pub send : (u : Txn) → u ≢ sender → side_of (is_sending s) log u ≡ []
   pub take : (u : Txn) → u ≢ taker → side_of (is_taking s) log u ≡ []
 
 abbrev pub ViewsAreHolders : Type 0
-ViewsAreHolders = (z : Sizes) (s : ℕ) (log : List Record) → Legal (layout_of z) (items z log) → KeepsRules log → Reads log → Tells (items z log) → IsHeldBy (items z log) s
+ViewsAreHolders = (z : Sizes) (s : ℕ) (log : List Record) → Legal (layout_of z) (items z log) → KeepsRules log
+    → Reads log → Tells (items z log) → IsHeldBy (items z log) s
 
 -- where every transaction has ended, the fold is what committed transactions leave
 abbrev pub SettledFoldIsCommitted : Type 0
-SettledFoldIsCommitted = (s : ℕ) (log : List Item) → KeepsGroups log → ((t : Txn) → open_deeds t log ≡ []) → view log s ≡ committed log s
+SettledFoldIsCommitted = (s : ℕ) (log : List Item) → KeepsGroups log → ((t : Txn) → open_deeds t log ≡ [])
+    → view log s ≡ committed log s
 
 -- what the chains of committed transactions hold is the content of the log
 abbrev pub CommittedIsContent : Type 0
-CommittedIsContent = (z : Sizes) (s : ℕ) (log : List Record) → KeepsRules log → Reads log → IsViewOf s (content log s) (committed (items z log) s)
+CommittedIsContent = (z : Sizes) (s : ℕ) (log : List Record) → KeepsRules log → Reads log
+    → IsViewOf s (content log s) (committed (items z log) s)
 
 -- where only the holder of an end uses it and each deed tells what it was done over, each sender's view is that of its
 -- holders

@@ -99,11 +99,13 @@ pub record RefusedRecords : Type 0 where
   pub undo_met : CanBeDone sends_second one_waits × AreTaken (Took 7 (104 ∷ []) ∷ []) one_waits one_taken
       × AreTaken (Took 7 (104 ∷ []) ∷ []) (with_turn sends_second one_waits) (with_turn sends_second one_taken)
   pub undo_not_met : (w : View) → AreTaken (Took 7 (104 ∷ []) ∷ Took 8 (105 ∷ []) ∷ []) one_waits w → ⊥
-  -- A receive is taken back around a send behind what it took, and that gives what the send alone would have given. None
-  -- can be done where no message waits, and no send can be taken back there.
-  pub put_back_met : CanBeDone takes_first one_waits × AreSent (Sent 8 (105 ∷ []) ∷ []) one_waits (with_turn sends_second one_waits)
+  -- A receive is taken back around a send behind what it took, and that gives what the send alone would have given.
+  -- None can be done where no message waits, and no send can be taken back there.
+  pub put_back_met : CanBeDone takes_first one_waits × AreSent (Sent 8 (105 ∷ []) ∷ []) one_waits
+      (with_turn sends_second one_waits)
       × AreSent (Sent 8 (105 ∷ []) ∷ []) (with_turn takes_first one_waits) (with_turn sends_second one_taken)
-  pub put_back_gives : with_turn (inverse takes_first) (with_turn sends_second one_taken) ≡ with_turn sends_second one_waits
+  pub put_back_gives : with_turn (inverse takes_first) (with_turn sends_second one_taken)
+      ≡ with_turn sends_second one_waits
   pub put_back_not_done : CanBeDone takes_first nothing → ⊥
   pub put_back_not_met : (w : View) → AreSent (TailUnlinked 0 ∷ []) nothing w → ⊥
   -- A slot write may come where its slot holds what it tells, and its operation and its transaction go on.

@@ -89,8 +89,9 @@ pub fn rules_keep_groups()
     ensures { RulesKeepGroups }
 {}
 
-/// Over every legal log that keeps the rules, one transaction at most holds each end of a sender, and the sender's chain, once whole
-/// operations are counted, is what is committed, without what the receiving holder took, and then what the sending holder sent.
+/// Over every legal log that keeps the rules, one transaction at most holds each end of a sender, and the sender's
+/// chain, once whole operations are counted, is what is committed, without what the receiving holder took, and then
+/// what the sending holder sent.
 pub fn views_are_holders()
     ensures { ViewsAreHolders }
 {}

@@ -29,7 +29,8 @@ module _ {L : Type 0} (g : Ghosts L) where
   abbrev pub LeavesBeginnings : Logged L → Type 0
   LeavesBeginnings log = (c : List ℕ) → g.may_leave log.device c → IsBeginning log.records log.forced c
 
-  -- a crash might have left it of the log before, or it is what was read then with the first of the records that were not handed over
+  -- a crash might have left it of the log before, or it is what was read then with the first of the records that were
+  -- not handed over
   abbrev pub WasLeftOrGoesOn : Logged L → List ℕ → Type 0
   WasLeftOrGoesOn log c = g.may_leave log.device c ⊎ GoesOn log.records log.forced (g.seen log.device) c
 
@@ -41,7 +42,9 @@ module _ {L : Type 0} (g : Ghosts L) where
 
   -- the newest records stand in a buffer, and an honest device reads as the others
   abbrev pub IsBuffered : Logged L → List ℕ → Type 0
-  IsBuffered log buffer = (count : ℕ) × (count + log.forced ≤ length log.records) × (g.honest log.device → g.seen log.device ≡ spelled (drop count log.records)) × (buffer ≡ spelled (take count log.records))
+  IsBuffered log buffer = (count : ℕ) × (count + log.forced ≤ length log.records)
+      × (g.honest log.device → g.seen log.device ≡ spelled (drop count log.records))
+      × (buffer ≡ spelled (take count log.records))
 
   -- what is so of its fields
   pub record Keeps (log : Logged L) (last : ℕ) (buffer : List ℕ) (capacity : ℕ) : Type 0 where

@@ -31,7 +31,8 @@ StopsAt _ records bytes = ⊥
 abbrev pub StopsFor : {L : Type 0} → Ghosts L → Refusal → List Record → L → L → Type 0
 StopsFor g why.NoMemory records old new = g.faults new ≡ g.faults old
 StopsFor g why.DiskRead records old new = g.faults new ≡ (g.faults old + 1) % 2 ^ 64
-StopsFor g (why.Damaged (damage.Record lsn)) records old new = (lsn ≡ length records + 1) × (g.honest new → IsDamagedBehind records (g.seen old)) × (g.faults new ≡ g.faults old)
+StopsFor g (why.Damaged (damage.Record lsn)) records old new = (lsn ≡ length records + 1)
+    × (g.honest new → IsDamagedBehind records (g.seen old)) × (g.faults new ≡ g.faults old)
 StopsFor g _ records old new = ⊥
 
 -- the device as it is afterwards

@@ -17,7 +17,8 @@ AreSpelled (r ∷ older) = IsRecord r × AreSpelled older
 abbrev pub IsBeginning : List Record → ℕ → List ℕ → Type 0
 IsBeginning records kept bytes = (lost : ℕ) × (lost + kept ≤ length records) × (bytes ≡ spelled (drop lost records))
 
--- These bytes are the records that were read with the first of those behind them: the first so many records and perhaps more, whole ones.
+-- These bytes are the records that were read with the first of those behind them: the first so many records and perhaps
+-- more, whole ones.
 pub record GoesOn (records : List Record) (kept : ℕ) (seen bytes : List ℕ) : Type 0 where
   -- so many records come behind what was read
   pub behind : ℕ

@@ -17,7 +17,7 @@ use rq_disk::LogDevice;
 use rq_model::record::Record;
 use rq_model::refusal::{NoMemory, Refusal};
 use rq_model::txn::Lsn;
-use rq_record::{encode, fits, spelled_len};
+use rq_record::{encode, shows_fits, spelled_len};
 use std::alloc::Global;
 use std::marker::Model;
 use std::snapshot::Snapshot;
@@ -42,9 +42,25 @@ impl<L: LogDevice> Model for Log<L> {
 
     ghost Value = { Logged L };
 
-    ghost view = { λ l. record { records = l.past.value; forced = l.forced; pending = length l.buffer.items; reserved = l.reserved; failed = l.failed; device = l.device; settled = l.settled.value } };
+    ghost view = { λ l. record {
+      records = l.past.value;
+      forced = l.forced;
+      pending = length l.buffer.items;
+      reserved = l.reserved;
+      failed = l.failed;
+      device = l.device;
+      settled = l.settled.value;
+    } };
 
-    ghost invariant = { λ l. Keeps L.LogDevice (record { records = l.past.value; forced = l.forced; pending = length l.buffer.items; reserved = l.reserved; failed = l.failed; device = l.device; settled = l.settled.value }) l.last l.buffer.items (vec_capacity l.buffer) };
+    ghost invariant = { λ l. Keeps L.LogDevice (record {
+      records = l.past.value;
+      forced = l.forced;
+      pending = length l.buffer.items;
+      reserved = l.reserved;
+      failed = l.failed;
+      device = l.device;
+      settled = l.settled.value;
+    }) l.last l.buffer.items (vec_capacity l.buffer) };
 }
 
 /// A log that could not be read: why, and its device.
@@ -71,10 +87,12 @@ impl<L: LogDevice + Drop> Log<L> {
     pub fn scan(alloc: Global, mut device: L) -> Scan<L>
         ensures spelled { AreSpelled (reverse result.records.items) }
         ensures front { L.honest (device_of result.log) → BeginsWith (reverse result.records.items) (L.seen device) }
-        ensures read { IfOk result.log (λ log. (log.records ≡ reverse result.records.items) × (L.honest log.device → L.seen device ≡ spelled log.records)) }
+        ensures read { IfOk result.log (λ log. (log.records ≡ reverse result.records.items)
+            × (L.honest log.device → L.seen device ≡ spelled log.records)) }
         ensures log { IfOk result.log (λ log. (log.forced ≡ 0) × (log.pending ≡ 0) × (log.reserved ≡ 0) ×
             (log.failed ≡ false) × (log.settled ≡ device)) }
-        ensures stopped { IfErr result.log (λ stopped. StopsFor L.LogDevice stopped.refusal (reverse result.records.items) device stopped.device) }
+        ensures stopped { IfErr result.log (λ stopped.
+            StopsFor L.LogDevice stopped.refusal (reverse result.records.items) device stopped.device) }
         ensures cause { OnOk result.log (L.faults (device_of result.log) ≡ L.faults device) }
         ensures seen { L.seen (device_of result.log) ≡ L.seen device }
         ensures honest { L.honest (device_of result.log) → L.honest device }
@@ -129,10 +147,11 @@ impl<L: LogDevice + Drop> Log<L> {
 
 impl<L: LogDevice> Log<L> {
     /// What is so of each log, for proofs: it runs no code.
-    pub fn keeps(&self)
+    pub fn shows_kept(&self)
         ensures log { IsLog L.LogDevice self.now }
         ensures count { length self.now.records < 2 ^ 64 }
-        ensures reads { self.now.failed ≡ false → L.honest self.now.device → IsBeginning self.now.records self.now.forced (L.seen self.now.device) }
+        ensures reads { self.now.failed ≡ false → L.honest self.now.device
+            → IsBeginning self.now.records self.now.forced (L.seen self.now.device) }
     {
         let _last = self.last;
     }
@@ -191,7 +210,7 @@ impl<L: LogDevice> Log<L> {
         ensures device { self.new.device ≡ self.old.device }
         ensures settled { self.new.settled ≡ self.old.settled }
     {
-        fits(added);
+        shows_fits(added);
         self.reserved -= spelled_len(added);
         encode(added, &mut self.buffer).unwrap();
         Past::note(&mut self.past, added);
@@ -207,13 +226,16 @@ impl<L: LogDevice> Log<L> {
         ensures settled { self.new.settled ≡ self.old.settled }
         ensures failed { self.old.failed ≡ true → (IsErrOf result Refusal.Failed) × (self.new ≡ self.old) }
         ensures honest { L.honest self.new.device → L.honest self.old.device }
-        ensures ok { OnOk result ((self.new.failed ≡ false) × (self.new.pending ≡ 0) × (L.honest self.new.device → L.seen self.new.device ≡ spelled self.new.records)) }
+        ensures ok { OnOk result ((self.new.failed ≡ false) × (self.new.pending ≡ 0)
+            × (L.honest self.new.device → L.seen self.new.device ≡ spelled self.new.records)) }
         ensures err { self.old.failed ≡ false → IfErr result (λ e. (e ≡ Refusal.DiskWrite) × (self.new.failed ≡ true)) }
-        ensures cause { self.old.failed ≡ false → HasCause (L.faults self.old.device) (L.faults self.new.device) result }
+        ensures cause { self.old.failed ≡ false → HasCause (L.faults self.old.device)
+            (L.faults self.new.device) result }
         ensures idle { self.old.pending ≡ 0 → self.new ≡ self.old }
-        ensures left { L.honest self.new.device → LeavesOnly L.LogDevice self.old.device self.new.device (WasLeftOrGoesOn
-            L.LogDevice self.old) }
-        ensures any_moment { L.honest self.new.device → WasDurable L.LogDevice self.old → LeavesOnly L.LogDevice self.old.device self.new.device (IsBeginning self.old.records self.old.forced) }
+        ensures left { L.honest self.new.device → LeavesOnly L.LogDevice self.old.device self.new.device
+            (WasLeftOrGoesOn L.LogDevice self.old) }
+        ensures any_moment { L.honest self.new.device → WasDurable L.LogDevice self.old
+            → LeavesOnly L.LogDevice self.old.device self.new.device (IsBeginning self.old.records self.old.forced) }
     {
         if self.failed {
             return Err(Refusal::Failed);
@@ -239,17 +261,22 @@ impl<L: LogDevice> Log<L> {
         ensures reserved { self.new.reserved ≡ self.old.reserved }
         ensures failed { self.old.failed ≡ true → (IsErrOf result Refusal.Failed) × (self.new ≡ self.old) }
         ensures honest { L.honest self.new.device → L.honest self.old.device }
-        ensures ok { IfOk result (λ lsn. (lsn ≡ length self.new.records) × (self.new.forced ≡ lsn) × (self.new.failed ≡ false)) }
+        ensures ok { IfOk result (λ lsn. (lsn ≡ length self.new.records) × (self.new.forced ≡ lsn)
+            × (self.new.failed ≡ false)) }
         ensures reads { OnOk result (L.honest self.new.device → L.seen self.new.device ≡ spelled self.new.records) }
-        ensures durable { OnOk result (L.honest self.new.device → Only (spelled self.new.records) (L.may_leave self.new.device)) }
+        ensures durable { OnOk result (L.honest self.new.device
+            → Only (spelled self.new.records) (L.may_leave self.new.device)) }
         ensures settled { OnOk result (WasDurable L.LogDevice self.new) }
         ensures err { self.old.failed ≡ false → IfErr result (λ e. (e ≡ Refusal.DiskWrite) × (self.new.failed ≡ true)) }
         ensures as_before { OnErr result ((self.new.forced ≡ self.old.forced) × (self.new.settled ≡ self.old.settled)) }
-        ensures cause { self.old.failed ≡ false → HasCause (L.faults self.old.device) (L.faults self.new.device) result }
-        ensures left { L.honest self.new.device → LeavesOnly L.LogDevice self.old.device self.new.device (WasLeftOrGoesOn
-            L.LogDevice self.old) }
-        ensures any_moment { L.honest self.new.device → WasDurable L.LogDevice self.old → LeavesOnly L.LogDevice self.old.device self.new.device (IsBeginning self.old.records self.old.forced) }
-        ensures idle { self.old.pending ≡ 0 → LeavesOnly L.LogDevice self.old.device self.new.device (L.may_leave self.old.device) }
+        ensures cause { self.old.failed ≡ false → HasCause (L.faults self.old.device)
+            (L.faults self.new.device) result }
+        ensures left { L.honest self.new.device → LeavesOnly L.LogDevice self.old.device self.new.device
+            (WasLeftOrGoesOn L.LogDevice self.old) }
+        ensures any_moment { L.honest self.new.device → WasDurable L.LogDevice self.old
+            → LeavesOnly L.LogDevice self.old.device self.new.device (IsBeginning self.old.records self.old.forced) }
+        ensures idle { self.old.pending ≡ 0 → LeavesOnly L.LogDevice self.old.device self.new.device
+            (L.may_leave self.old.device) }
     {
         self.hand_over()?;
         match self.device.force() {

@@ -24,7 +24,8 @@ pub(crate) fn read_records<L: LogDevice>(
     ensures past { past.new.value ≡ reverse records.new.items }
     ensures spelled { AreSpelled past.new.value }
     ensures front { L.honest device.new → BeginsWith past.new.value (L.seen device.old) }
-    ensures ok { OnOk result ((L.honest device.new → L.seen device.old ≡ spelled past.new.value) × (L.faults device.new ≡ L.faults device.old)) }
+    ensures ok { OnOk result ((L.honest device.new → L.seen device.old ≡ spelled past.new.value)
+        × (L.faults device.new ≡ L.faults device.old)) }
     ensures err { IfErr result (λ e. StopsFor L.LogDevice e past.new.value device.old device.new) }
     ensures seen { L.seen device.new ≡ L.seen device.old }
     ensures honest { L.honest device.new → L.honest device.old }
@@ -37,7 +38,8 @@ pub(crate) fn read_records<L: LogDevice>(
 
 // Reads all bytes.
 fn read_all<L: LogDevice>(alloc: Global, device: &mut L) -> Result<Vec<u8>, Refusal>
-    ensures ok { IfOk result (λ bytes. (L.honest device.new → bytes.items ≡ L.seen device.old) × (L.faults device.new ≡ L.faults device.old)) }
+    ensures ok { IfOk result (λ bytes. (L.honest device.new → bytes.items ≡ L.seen device.old)
+        × (L.faults device.new ≡ L.faults device.old)) }
     ensures err { IfErr result (λ e. StopsFor L.LogDevice e [] device.old device.new) }
     ensures seen { L.seen device.new ≡ L.seen device.old }
     ensures honest { L.honest device.new → L.honest device.old }

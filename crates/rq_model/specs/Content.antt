@@ -73,7 +73,12 @@ no_group = record { sent = 0; last_tag = 0; received = 0; closed = false; rest =
 
 -- what a deed makes of the group of s
 abbrev pub with_deed : ℕ → Said → Group → Group
-with_deed s (Added m) g = cond (nat_eq m.sender s) (record g { sent = g.sent + 1; last_tag = m.tag; rest = g.rest ++ m ∷ [] }) g
+with_deed s (Added m) g = cond (nat_eq m.sender s) (record g {
+  sent = g.sent + 1;
+  last_tag = m.tag;
+  rest = g.rest ++ m
+      ∷ [];
+}) g
 with_deed s (Removed r) g = cond (nat_eq r.sender s) (record g { received = g.received + 1; rest = drop 1 g.rest }) g
 with_deed s (Ended r) g = cond (nat_eq r s) (record g { closed = true }) g
 
@@ -115,7 +120,13 @@ closed s (d ∷ ds) = closed_one s d || closed s ds
 
 -- the same, not by a fold
 abbrev pub shape : ℕ → List Said → Group
-shape s ds = record { sent = length (added s ds); last_tag = tag_of (added s ds); received = removed s ds; closed = closed s ds; rest = drop (removed s ds) (added s ds) }
+shape s ds = record {
+  sent = length (added s ds);
+  last_tag = tag_of (added s ds);
+  received = removed s ds;
+  closed = closed s ds;
+  rest = drop (removed s ds) (added s ds);
+}
 
 -- uses the sending end of s
 abbrev pub uses_send : ℕ → Said → Bool
@@ -151,12 +162,14 @@ with_own s own g = record {
   rest = drop (removed s own) (g.rest ++ added s own);
 }
 
--- what an operation that ends needs: nobody else holds its end; a group that a message is taken from has more than was taken
+-- what an operation that ends needs: nobody else holds its end; a group that a message is taken from has more than was
+-- taken
 pub record MayEnd (log : List Record) (s : ℕ) (t : Txn) (d : Said) : Type 0 where
   pub not_ended : has_end log t ≡ false
   pub alone_send : uses_send s d ≡ true → (u : Txn) → holds (uses_send s) log u ≡ true → u ≡ t
   pub alone_receive : uses_receive s d ≡ true → (u : Txn) → holds (uses_receive s) log u ≡ true → u ≡ t
-  pub has_more : uses_receive s d ≡ true → removed s (deeds (λ u. has_commit log u || same_txn u t) log) < length (added s (deeds (has_commit log) log))
+  pub has_more : uses_receive s d ≡ true → removed s (deeds (λ u. has_commit log u || same_txn u t) log) < length
+      (added s (deeds (has_commit log) log))
 
 abbrev pub EndingMay : List Record → Option Ending → Type 0
 EndingMay log None = Unit {0}
@@ -165,7 +178,8 @@ EndingMay log (Some e) = (s : ℕ) → MayEnd log s e.txn e.said
 -- the rules of groups and receives, read on a log, and that nothing of a transaction follows its end
 abbrev pub KeepsRules : List Record → Type 0
 KeepsRules [] = Unit {0}
-KeepsRules (r ∷ log) = EndingMay log (ending r) × ((t : Txn) → ends_txn t r ≡ true → has_end log t ≡ false) × KeepsRules log
+KeepsRules (r ∷ log) = EndingMay log (ending r) × ((t : Txn) → ends_txn t r ≡ true → has_end log t ≡ false)
+    × KeepsRules log
 
 -- the operations that deeds tell, oldest first
 abbrev pub op_of : Said → Op

@@ -8,7 +8,8 @@ use Rattle.rq_model.specs.declared.record.Deed.TheVariants.{Append, UnlinkHead, 
 abbrev pub spelled_deed : Deed → List ℕ
 spelled_deed (Append sender sequence tag previous body) =
     1 ∷ (big_bytes 4 sender ++ (big_bytes 8 sequence ++ (big_bytes 8 tag ++ (big_bytes 8 previous ++ body))))
-spelled_deed (UnlinkHead sender sequence tag body) = 2 ∷ (big_bytes 4 sender ++ (big_bytes 8 sequence ++ (big_bytes 8 tag ++ body)))
+spelled_deed (UnlinkHead sender sequence tag body) = 2
+    ∷ (big_bytes 4 sender ++ (big_bytes 8 sequence ++ (big_bytes 8 tag ++ body)))
 spelled_deed (Close sender) = 3 ∷ big_bytes 4 sender
 
 -- the fields of each kind, where these bytes are they
@@ -16,7 +17,8 @@ abbrev pub append_in : List ℕ → Option Deed
 append_in fields =
     let sequence = big_number 8 (drop 4 fields) in
     cond (not (nat_lt (length fields) 28) && not (nat_lt (28 + 216) (length fields)) && nat_lt 0 sequence)
-    (Some (Append (big_number 4 fields) sequence (big_number 8 (drop 12 fields)) (big_number 8 (drop 20 fields)) (drop 28 fields)))
+    (Some (Append (big_number 4 fields) sequence (big_number 8 (drop 12 fields)) (big_number 8 (drop 20 fields))
+    (drop 28 fields)))
     None
 
 abbrev pub unlink_head_in : List ℕ → Option Deed
@@ -33,4 +35,5 @@ close_in fields = cond (nat_eq (length fields) 4) (Some (Close (big_number 4 fie
 abbrev pub deed_in : List ℕ → Option Deed
 deed_in [] = None
 deed_in (kind ∷ fields) =
-    cond (nat_eq kind 1) (append_in fields) (cond (nat_eq kind 2) (unlink_head_in fields) (cond (nat_eq kind 3) (close_in fields) None))
+    cond (nat_eq kind 1) (append_in fields) (cond (nat_eq kind 2) (unlink_head_in fields)
+    (cond (nat_eq kind 3) (close_in fields) None))

@@ -9,7 +9,13 @@ use Rattle.rq_model.specs.Content.{tag_after, committed_of}
 
 -- the committed content of s, by the filters of the history
 abbrev pub group : List Entry → ℕ → Group
-group h s = record { sent = length (sends h s); last_tag = tag_of (sends h s); received = length (takes h s); closed = ended (commits h) s h; rest = rest h s }
+group h s = record {
+  sent = length (sends h s);
+  last_tag = tag_of (sends h s);
+  received = length (takes h s);
+  closed = ended (commits h) s h;
+  rest = rest h s;
+}
 
 -- what a commit of these operations makes of the content of s
 abbrev pub with_ops : ℕ → List Op → Group → Group

@@ -1,4 +1,5 @@
--- A history is a list of entries, the newest first. The commit list, and what of it was sent and taken, are filters and joins of it.
+-- A history is a list of entries, the newest first. The commit list, and what of it was sent and taken, are filters and
+-- joins of it.
 use Rattle.std.specs.Prelude.{◌≡◌, ℕ, Bool, true, false, cond, List, [], ◌∷◌, ◌++◌, Option, Some, None, nat_eq, ◌&&◌, ◌||◌, take, drop, length}
 use Rattle.std.specs.List.{filter_map, flat_map}
 use Rattle.rq_model.specs.declared.txn.Txn.{Txn}

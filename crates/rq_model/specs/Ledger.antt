@@ -80,7 +80,13 @@ tag_of (m ∷ ms) = (last_or m ms).tag
 
 -- the committed content of s
 abbrev pub group_in : List Done → ℕ → Group
-group_in c s = record { sent = length (sent_in c s); last_tag = tag_of (sent_in c s); received = length (taken_in c s); closed = ended_in c s; rest = rest_in c s }
+group_in c s = record {
+  sent = length (sent_in c s);
+  last_tag = tag_of (sent_in c s);
+  received = length (taken_in c s);
+  closed = ended_in c s;
+  rest = rest_in c s;
+}
 
 -- t's entry among those that have not ended
 abbrev pub found : Txn → List Open → Option Open
@@ -101,15 +107,39 @@ abbrev pub without : Txn → List Open → List Open
 without t os = filter (λ o. not (same_txn o.txn t)) os
 
 abbrev pub fresh_one : Txn → Open
-fresh_one t = record { txn = t; aborting = false; ops = []; sending = []; receiving = []; number = 0; under = None; left = 0 }
+fresh_one t = record {
+  txn = t;
+  aborting = false;
+  ops = [];
+  sending = [];
+  receiving = [];
+  number = 0;
+  under = None;
+  left = 0;
+}
 
 abbrev pub add_number : ℕ → List ℕ → List ℕ
 add_number s ns = cond (has_number s ns) ns (s ∷ ns)
 
 abbrev pub started : ℕ → ℕ → Job → Open → Open
-started n left (Sending m) o = record o { number = n; under = Some (Sending m); left = left; sending = add_number m.sender o.sending }
-started n left (Taking s) o = record o { number = n; under = Some (Taking s); left = left; receiving = add_number s o.receiving }
-started n left (Ending s) o = record o { number = n; under = Some (Ending s); left = left; sending = add_number s o.sending }
+started n left (Sending m) o = record o {
+  number = n;
+  under = Some (Sending m);
+  left = left;
+  sending = add_number m.sender o.sending;
+}
+started n left (Taking s) o = record o {
+  number = n;
+  under = Some (Taking s);
+  left = left;
+  receiving = add_number s o.receiving;
+}
+started n left (Ending s) o = record o {
+  number = n;
+  under = Some (Ending s);
+  left = left;
+  sending = add_number s o.sending;
+}
 started n left Undoing o = record o { number = n; under = Some Undoing; left = left }
 
 abbrev pub stepped : Open → Open
@@ -122,10 +152,11 @@ own_sends s o = filter_map (sent_for s) o.ops
 abbrev pub own_takes : ℕ → Open → List Message
 own_takes s o = filter_map (taken_from s) o.ops
 
--- how many messages the chain of s holds where no operation is under way on it: what is committed and not taken, and what
--- those that have not ended sent, without what they took
+-- how many messages the chain of s holds where no operation is under way on it: what is committed and not taken, and
+-- what those that have not ended sent, without what they took
 abbrev pub in_chain : Ledger → ℕ → ℕ
-in_chain l s = length (rest_in l.committed s) + sum_by (λ o. length (own_sends s o)) l.open_ones - sum_by (λ o. length (own_takes s o)) l.open_ones
+in_chain l s = length (rest_in l.committed s) + sum_by (λ o. length (own_sends s o)) l.open_ones - sum_by
+    (λ o. length (own_takes s o)) l.open_ones
 
 -- how many slots the inverse of an operation writes
 abbrev pub undo_writes : Ledger → Option Op → ℕ
@@ -154,18 +185,49 @@ after (Started t n job) l = record l { open_ones = change t (started n (writes l
 after (Stepped t n lsn) l = record l { open_ones = change t stepped l.open_ones; records = l.records + 1 }
 after (Did t n op) l = record l { open_ones = change t (done_more op) l.open_ones; records = l.records + 1 }
 after (Undid t n) l = record l { open_ones = change t undone l.open_ones; records = l.records + 1 }
-after (Committed t lsn) l = record l { committed = l.committed ++ record { txn = t; lsn = lsn; ops = ops_of (found t l.open_ones) } ∷ []; open_ones = without t l.open_ones; records = l.records + 1 }
+after (Committed t lsn) l = record l {
+  committed = l.committed ++ record {
+    txn = t;
+    lsn = lsn;
+    ops = ops_of (found t l.open_ones);
+  } ∷ [];
+  open_ones = without t l.open_ones;
+  records = l.records + 1;
+}
 after (Aborting t) l = record l { open_ones = change t (λ o. record o { aborting = true }) l.open_ones }
 after (Aborted t) l = record l { open_ones = without t l.open_ones; records = l.records + 1 }
 after (Forced lsn) l = record l { forced = l.records; durable = length l.committed }
-after (Crash kept records) l = record l { committed = take kept l.committed; open_ones = []; phase = Shut; records = records; forced = records }
+after (Crash kept records) l = record l {
+  committed = take kept l.committed;
+  open_ones = [];
+  phase = Shut;
+  records = records;
+  forced = records;
+}
 after (Refused c DiskWrite) l = record l { phase = Stopped }
-after (Restarted i records) l = record l { open_ones = []; phase = Running; incarnation = i; begins = 0; records = records; forced = records; durable = length l.committed }
+after (Restarted i records) l = record l {
+  open_ones = [];
+  phase = Running;
+  incarnation = i;
+  begins = 0;
+  records = records;
+  forced = records;
+  durable = length l.committed;
+}
 after _ l = l
 
 -- a formatted store has an empty log, and is not open
 abbrev pub empty : Ledger
-empty = record { committed = []; open_ones = []; phase = Shut; incarnation = 0; begins = 0; records = 0; forced = 0; durable = 0 }
+empty = record {
+  committed = [];
+  open_ones = [];
+  phase = Shut;
+  incarnation = 0;
+  begins = 0;
+  records = 0;
+  forced = 0;
+  durable = 0;
+}
 
 abbrev pub ledger : List Entry → Ledger
 ledger [] = empty

@@ -129,16 +129,22 @@ turned true o = not (is_aborting o)
 abbrev pub ready_tests : Ledger → Txn → Bool → List (Bool × Refusal)
 ready_tests l t aborting =
     let o = found t l.open_ones in
-    (not (runs l.phase), Failed) ∷ (not (is_some o), UnknownTransaction) ∷ (turned aborting o, NotOpen) ∷ (is_busy o, Unfinished) ∷ []
+    (not (runs l.phase), Failed) ∷ (not (is_some o), UnknownTransaction) ∷ (turned aborting o, NotOpen)
+    ∷ (is_busy o, Unfinished) ∷ []
 
 -- the tests of each call, in order
 abbrev pub tests : Size → Ledger → Call → List (Bool × Refusal)
-tests z l Begin = (not (runs l.phase), Failed) ∷ (not (nat_lt (length l.open_ones) 4096) || nat_eq l.begins (2 ^ 64 - 1), TooManyTransactions) ∷ []
+tests z l Begin = (not (runs l.phase), Failed) ∷ (
+  not (nat_lt (length l.open_ones) 4096) || nat_eq l.begins
+      (2 ^ 64 - 1),
+  TooManyTransactions,
+) ∷ []
 tests z l (Start_send t m) =
     let o = found t l.open_ones in
     ready_tests l t false
     ++ ((not (nat_lt m.sender z.senders), UnknownSender) ∷ (nat_lt 216 (length m.body), TooLong)
-    ∷ (not (free_to_send t m.sender l.open_ones), SenderBusy) ∷ (ended_in l.committed m.sender || has_closed m.sender o, Closed)
+    ∷ (not (free_to_send t m.sender l.open_ones), SenderBusy)
+    ∷ (ended_in l.committed m.sender || has_closed m.sender o, Closed)
     ∷ (nat_eq (cells_in_use z l) z.cells, Full) ∷ (log_full l 4, LogFull) ∷ [])
 tests z l (Start_receive t) =
     let o = found t l.open_ones in
@@ -156,7 +162,8 @@ tests z l (Start_close t s) =
     ∷ (ended_in l.committed s || has_closed s o, Closed) ∷ (log_full l 2, LogFull) ∷ [])
 tests z l (Step t n) = (not (runs l.phase), Failed) ∷ (not (has_under n (found t l.open_ones)), UnknownOperation) ∷ []
 tests z l (Finish t n) =
-    (not (runs l.phase), Failed) ∷ (not (has_under n (found t l.open_ones)), UnknownOperation) ∷ (steps_left (found t l.open_ones), Unfinished) ∷ []
+    (not (runs l.phase), Failed) ∷ (not (has_under n (found t l.open_ones)), UnknownOperation)
+    ∷ (steps_left (found t l.open_ones), Unfinished) ∷ []
 tests z l (Commit t) = ready_tests l t false ++ ((log_full l 1, LogFull) ∷ [])
 tests z l (Start_abort t) = ready_tests l t false
 tests z l (Undo_next t) =
@@ -165,7 +172,8 @@ tests z l (Undo_next t) =
     ++ ((is_some (newest o) && log_full l (undo_cost (newest o)), LogFull) ∷ [])
 tests z l (End_abort t) =
     let o = found t l.open_ones in
-    (not (runs l.phase), Failed) ∷ (not (is_some o), UnknownTransaction) ∷ (not (is_aborting o), NotOpen) ∷ (is_busy o || has_done o, Unfinished) ∷ (log_full l 1, LogFull) ∷ []
+    (not (runs l.phase), Failed) ∷ (not (is_some o), UnknownTransaction) ∷ (not (is_aborting o), NotOpen)
+    ∷ (is_busy o || has_done o, Unfinished) ∷ (log_full l 1, LogFull) ∷ []
 tests z l (Last_tag s) = (not (runs l.phase), Failed) ∷ (not (nat_lt s z.senders), UnknownSender) ∷ []
 tests z l Show = (not (runs l.phase), Failed) ∷ (any_busy l.open_ones, Unfinished) ∷ []
 tests z l (Acknowledge t lsn) = (not (runs l.phase), Failed) ∷ []
@@ -195,8 +203,9 @@ abbrev pub writes_page : Call → Bool
 writes_page (Write_page p) = true
 writes_page _ = false
 
--- Where each refusal may come: memory's and the disk's own where the store runs, latches and frames where an operation would start, a page
--- that is not forced where one is to be written, and each of the others exactly where its test is the first that is true.
+-- Where each refusal may come: memory's and the disk's own where the store runs, latches and frames where an operation
+-- would start, a page that is not forced where one is to be written, and each of the others exactly where its test is
+-- the first that is true.
 abbrev pub LegalRefusal : Size → Ledger → Call → Refusal → Type 0
 LegalRefusal z l c NoMemory = runs l.phase ≡ true
 LegalRefusal z l c DiskRead = runs l.phase ≡ true
@@ -218,7 +227,8 @@ At l t P = OnFound (found t l.open_ones) P
 -- the operation under way is done by op
 abbrev pub Answers : Ledger → Open → Option Job → Op → Type 0
 Answers l o (Some (Sending m)) (Send n) = n ≡ m
-Answers l o (Some (Taking s)) (Take m) = (m.sender ≡ s) × (slice_get (rest_in l.committed s) (length (own_takes s o)) ≡ Some m)
+Answers l o (Some (Taking s)) (Take m) = (m.sender ≡ s)
+    × (slice_get (rest_in l.committed s) (length (own_takes s o)) ≡ Some m)
 Answers l o (Some (Ending s)) (End r) = r ≡ s
 Answers l o _ _ = ⊥
 
@@ -234,7 +244,8 @@ CanStart l o (Taking s) = IsTrue (holds_for l o s)
 CanStart l o Undoing = IsTrue (is_some (last o.ops))
 CanStart l o _ = Unit {0}
 
--- no more records than there are, where the store is open. Where it is not, a restart that was stopped may leave some of its own.
+-- no more records than there are, where the store is open. Where it is not, a restart that was stopped may leave some
+-- of its own.
 abbrev pub IsUpTo : ℕ → Phase → ℕ → Type 0
 IsUpTo n Running records = records ≤ n
 IsUpTo n Stopped records = records ≤ n
@@ -257,21 +268,24 @@ pub record MayRestart (l : Ledger) (i records : ℕ) : Type 0 where
 abbrev pub Legal : Size → Ledger → Entry → Type 0
 Legal z l (Begun t) = Passes z l Begin × (t.incarnation ≡ l.incarnation) × (t.count ≡ l.begins + 1)
 Legal z l (Started t n job) = Passes z l (call_of t job) × At l t (λ o. (n ≡ o.number + 1) × CanStart l o job)
-Legal z l (None_free t) = Passes z l (Start_receive t) × At l t (λ o. (s : ℕ) → s < z.senders → free_to_receive t s l.open_ones ≡ true → holds_for l o s ≡ false)
+Legal z l (None_free t) = Passes z l (Start_receive t)
+    × At l t (λ o. (s : ℕ) → s < z.senders → free_to_receive t s l.open_ones ≡ true → holds_for l o s ≡ false)
 Legal z l (None_from t s) = Passes z l (Start_receive_from t s) × At l t (λ o. holds_for l o s ≡ false)
 Legal z l (Stepped t n lsn) = Passes z l (Step t n) × At l t (λ o. 0 < o.left) × (lsn ≡ l.records + 1)
 Legal z l (Ready t n) = Passes z l (Step t n) × At l t (λ o. o.left ≡ 0)
 Legal z l (Did t n op) = Passes z l (Finish t n) × At l t (λ o. Answers l o o.under op)
 Legal z l (Undid t n) = Passes z l (Finish t n) × At l t (λ o. o.under ≡ Some Undoing)
 Legal z l (Committed t lsn) = Passes z l (Commit t) × (lsn ≡ l.records + 1)
-Legal z l (Acknowledged t lsn given) = Passes z l (Acknowledge t lsn) × (given ≡ (nat_eq t.incarnation l.incarnation && not (nat_lt l.forced lsn)))
+Legal z l (Acknowledged t lsn given) = Passes z l (Acknowledge t lsn)
+    × (given ≡ (nat_eq t.incarnation l.incarnation && not (nat_lt l.forced lsn)))
 Legal z l (Aborting t) = Passes z l (Start_abort t)
 Legal z l (None_left t) = Passes z l (Undo_next t) × At l t (λ o. last o.ops ≡ None)
 Legal z l (Aborted t) = Passes z l (End_abort t)
 Legal z l Handed_over = Passes z l Hand_over
 Legal z l (Forced lsn) = Passes z l Force × (lsn ≡ l.records)
 Legal z l (Wrote page done) = Passes z l (Write_page page)
-Legal z l (Told s sent tag) = Passes z l (Last_tag s) × (sent ≡ length (sent_in l.committed s)) × (tag ≡ tag_of (sent_in l.committed s))
+Legal z l (Told s sent tag) = Passes z l (Last_tag s) × (sent ≡ length (sent_in l.committed s))
+    × (tag ≡ tag_of (sent_in l.committed s))
 Legal z l (Shown groups) = Passes z l Show × (groups ≡ map (group_in l.committed) (below z.senders))
 Legal z l (Refused c r) = LegalRefusal z l c r
 Legal z l (Crash kept records) = MayCrash l kept records

@@ -28,18 +28,21 @@ AcknowledgedStay z = (newer older : List Entry) (t : Txn) (lsn : ℕ)
 
 -- nothing is sent to a group that a committed transaction closed
 abbrev pub NothingBehindClose : Size → Type 0
-NothingBehindClose z = (h : List Entry) (t : Txn) (n : ℕ) (m : Message) → IsLegal z (Started t n (Sending m) ∷ h) → ended (commits h) m.sender h ≡ false
+NothingBehindClose z = (h : List Entry) (t : Txn) (n : ℕ) (m : Message) → IsLegal z (Started t n (Sending m) ∷ h)
+    → ended (commits h) m.sender h ≡ false
 
 -- a replay from the ledger of a legal history is a longer legal history, whose entries are what was asked and answered
 abbrev pub ReplayGoesOn : Size → Type 0
-ReplayGoesOn z = (h : List Entry) (audit : List (Call × Reply)) (l : Ledger) → IsLegal z h → Replays z (ledger h) audit l
+ReplayGoesOn z = (h : List Entry) (audit : List (Call × Reply)) (l : Ledger) → IsLegal z h
+    → Replays z (ledger h) audit l
     → (newer : List Entry) × IsLegal z (newer ++ h) × (ledger (newer ++ h) ≡ l) × AllSay audit newer
 
 -- the crash that leaves this log
 abbrev pub crash_to : List Record → List Entry → Entry
 crash_to log h = Crash (kept_in (length log) (ledger h).committed) (length log)
 
--- A history ends with a crash that left this log: the entry may come there, and the commits and the content that the log tells are those of the history.
+-- A history ends with a crash that left this log: the entry may come there, and the commits and the content that the
+-- log tells are those of the history.
 pub record EndsInCrash (z : Size) (h : List Entry) (log : List Record) : Type 0 where
   pub legal : IsLegal z (crash_to log h ∷ h)
   pub ties : Ties (ledger (crash_to log h ∷ h)) log
@@ -48,25 +51,31 @@ pub record EndsInCrash (z : Size) (h : List Entry) (log : List Record) : Type 0 
 
 -- a crash that leaves the first records of the log, with all that are forced and the one that began the incarnation
 abbrev pub CrashGoesOn : Size → Type 0
-CrashGoesOn z = (h : List Entry) (newer older : List Record) → IsLegal z h → Ties (ledger h) (newer ++ older) → KeepsRules older
+CrashGoesOn z = (h : List Entry) (newer older : List Record) → IsLegal z h → Ties (ledger h) (newer ++ older)
+    → KeepsRules older
     → (ledger h).forced ≤ length older → (ledger h).incarnation ≤ incarnation_of older → EndsInCrash z h older
 
--- a crash of a store that is not open, which leaves what was left before, with some of what a restart that was stopped has added
+-- a crash of a store that is not open, which leaves what was left before, with some of what a restart that was stopped
+-- has added
 abbrev pub ShutCrashGoesOn : Size → Type 0
-ShutCrashGoesOn z = (h : List Entry) (older now : List Record) → IsLegal z h → (ledger h).phase ≡ Shut → Ties (ledger h) older
+ShutCrashGoesOn z = (h : List Entry) (older now : List Record) → IsLegal z h → (ledger h).phase ≡ Shut
+    → Ties (ledger h) older
     → Extends older now → InOrder now → KeepsRules now → EndsInCrash z h now
 
 -- the restart that leaves this log
 abbrev pub restart_to : List Record → Entry
 restart_to log = Restarted (incarnation_of log) (length log)
 
--- A history ends with a restart that left this log: the entry may come there, and the ledger is that of a store opened over the log.
+-- A history ends with a restart that left this log: the entry may come there, and the ledger is that of a store opened
+-- over the log.
 pub record EndsInRestart (z : Size) (h : List Entry) (log : List Record) : Type 0 where
   pub legal : IsLegal z (restart_to log ∷ h)
   pub ties : Ties (ledger (restart_to log ∷ h)) log
   pub ledger : opened_ledger log ≡ ledger (restart_to log ∷ h)
 
--- a restart of a store that is not open, over its log with what the restart added, the newest of which begins the next incarnation
+-- a restart of a store that is not open, over its log with what the restart added, the newest of which begins the next
+-- incarnation
 abbrev pub RestartGoesOn : Size → Type 0
-RestartGoesOn z = (h : List Entry) (older now : List Record) → IsLegal z h → (ledger h).phase ≡ Shut → Ties (ledger h) older
+RestartGoesOn z = (h : List Entry) (older now : List Record) → IsLegal z h → (ledger h).phase ≡ Shut
+    → Ties (ledger h) older
     → Extends older now → InOrder now → EndsInRestart z h (Restart_record (incarnation_of now + 1) ∷ now)

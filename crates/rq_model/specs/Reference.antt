@@ -67,7 +67,16 @@ under_of None = None
 under_of (Some w) = Some (job_of w)
 
 abbrev pub open_of : OpenTxn → Open
-open_of o = record { txn = o.txn; aborting = o.aborting; ops = map op_of o.acts.items; sending = o.sending.items; receiving = o.receiving.items; number = o.number; under = under_of o.work; left = o.left }
+open_of o = record {
+  txn = o.txn;
+  aborting = o.aborting;
+  ops = map op_of o.acts.items;
+  sending = o.sending.items;
+  receiving = o.receiving.items;
+  number = o.number;
+  under = under_of o.work;
+  left = o.left;
+}
 
 abbrev pub done_of : CommittedTxn → Done
 done_of d = record { txn = d.txn; lsn = d.lsn; ops = map op_of d.acts.items }
@@ -75,7 +84,8 @@ done_of d = record { txn = d.txn; lsn = d.lsn; ops = map op_of d.acts.items }
 -- the numbers of those that have not ended are of incarnation i, and their counts fall from at most b
 abbrev pub Numbered : ℕ → ℕ → List Open → Type 0
 Numbered i b [] = Unit {0}
-Numbered i b (o ∷ os) = (o.txn.incarnation ≡ i) × (0 < o.txn.count) × (o.txn.count ≤ b) × Numbered i (o.txn.count - 1) os
+Numbered i b (o ∷ os) = (o.txn.incarnation ≡ i) × (0 < o.txn.count) × (o.txn.count ≤ b)
+    × Numbered i (o.txn.count - 1) os
 
 -- the LSNs of commits rise, over low and up to high
 abbrev pub Rising : ℕ → List Done → ℕ → Type 0
@@ -92,7 +102,8 @@ pub record Sound (l : Ledger) : Type 0 where
 -- where the transaction stands
 abbrev pub PlaceOf : List OpenTxn → Txn → Option ℕ → Type 0
 PlaceOf rows t None = found t (map open_of rows) ≡ None
-PlaceOf rows t (Some i) = (i < length rows) × ((d : OpenTxn) → (slice_index_or rows i d).txn ≡ t) × ((d : OpenTxn) → found t (map open_of rows) ≡ Some (open_of (slice_index_or rows i d)))
+PlaceOf rows t (Some i) = (i < length rows) × ((d : OpenTxn) → (slice_index_or rows i d).txn ≡ t)
+    × ((d : OpenTxn) → found t (map open_of rows) ≡ Some (open_of (slice_index_or rows i d)))
 
 -- the transaction's place among those that have not ended
 pub record StandsAt (l : Ledger) (t : Txn) (i : ℕ) : Type 0 where

@@ -1,5 +1,5 @@
--- Which entry a call and its reply may stand for, and what a list of them leads to. A reply names the transaction, the commit and the
--- receipt that it speaks of.
+-- Which entry a call and its reply may stand for, and what a list of them leads to. A reply names the transaction, the
+-- commit and the receipt that it speaks of.
 use Rattle.std.specs.Prelude.{◌≡◌, ℕ, Bool, true, false, List, [], ◌∷◌, Option, Some, None}
 use Rattle.rq_model.specs.declared.txn.Txn.{Txn}
 use Rattle.rq_model.specs.declared.refusal.Refusal.{Refusal}
@@ -76,7 +76,8 @@ receipt true t lsn = Some (record { txn = t; lsn = lsn })
 -- from base, these calls with these replies, newest first, may lead to l
 abbrev pub Replays : Size → Ledger → List (Call × Reply) → Ledger → Type 0
 Replays z base [] l = l ≡ base
-Replays z base (a ∷ audit) l = (mid : Ledger) × (e : Entry) × Replays z base audit mid × Says a.0 a.1 e × Legal z mid e × (l ≡ after e mid)
+Replays z base (a ∷ audit) l = (mid : Ledger) × (e : Entry) × Replays z base audit mid × Says a.0 a.1 e × Legal z mid e
+    × (l ≡ after e mid)
 
 -- each call with its reply stands for the entry at its place
 abbrev pub AllSay : List (Call × Reply) → List Entry → Type 0

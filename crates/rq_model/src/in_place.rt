@@ -17,7 +17,8 @@ impl<const N: usize> Model for InPlace<N> {
 
     ghost view = { λ b. take b.len b.bytes };
 
-    ghost invariant = { λ b. (b.len ≤ N) × (b.bytes ≡ take b.len b.bytes ++ replicate (N - b.len) 0) × (length b.bytes ≡ N) };
+    ghost invariant = { λ b. (b.len ≤ N) × (b.bytes ≡ take b.len b.bytes ++ replicate (N - b.len) 0)
+        × (length b.bytes ≡ N) };
 
     ghost inverse = { λ xs. record { bytes = xs ++ replicate (N - length xs) 0; len = length xs } };
 }

@@ -35,19 +35,20 @@ pub fn nothing_behind_close()
     ensures { (size : Size) → NothingBehindClose size }
 {}
 
-/// A replay from the ledger of a legal history is a longer legal history, whose entries are what was asked and answered.
+/// A replay from the ledger of a legal history is a longer legal history, whose entries are what was asked and
+/// answered.
 pub fn replay_goes_on()
     ensures { (size : Size) → ReplayGoesOn size }
 {}
 
-/// A crash that leaves the first records of the log, with all that are forced, is the next entry of a legal history, and the
-/// commits and the content of what is left are those of the history.
+/// A crash that leaves the first records of the log, with all that are forced, is the next entry of a legal history,
+/// and the commits and the content of what is left are those of the history.
 pub fn crash_goes_on()
     ensures { (size : Size) → CrashGoesOn size }
 {}
 
-/// A crash of a store that is not open, as in a restart that was stopped, is the next entry of a legal history too: it leaves
-/// what was left before, with some of what that restart has added.
+/// A crash of a store that is not open, as in a restart that was stopped, is the next entry of a legal history too: it
+/// leaves what was left before, with some of what that restart has added.
 pub fn shut_crash_goes_on()
     ensures { (size : Size) → ShutCrashGoesOn size }
 {}
@@ -59,17 +60,20 @@ pub fn restart_goes_on()
 
 /// What the ledger of a legal history shows of a group is what the filters of the history say.
 pub fn shown_is_committed()
-    ensures { (size : Size) (history : List Entry) (s : ℕ) → IsLegal size history → group history s ≡ group_in (ledger history).committed s }
+    ensures { (size : Size) (history : List Entry) (s : ℕ) → IsLegal size history
+        → group history s ≡ group_in (ledger history).committed s }
 {}
 
 /// A Commit record adds to the content what its own transaction did, and changes nothing else.
 pub fn commit_adds_its_own()
-    ensures { (s : ℕ) (t : Txn) (log : List Record) → KeepsRules (Commit t ∷ log) → content (Commit t ∷ log) s ≡ with_own s (deeds (λ u. same_txn u t) log) (content log s) }
+    ensures { (s : ℕ) (t : Txn) (log : List Record) → KeepsRules (Commit t ∷ log)
+        → content (Commit t ∷ log) s ≡ with_own s (deeds (λ u. same_txn u t) log) (content log s) }
 {}
 
 /// The content of what a cut leaves of a log is that of the beginning of its commit list.
 pub fn cut_leaves_a_beginning()
-    ensures { (s : ℕ) (newer older : List Record) → KeepsRules (newer ++ older) → content older s ≡ group_in (take (left_by older) (committed_of (newer ++ older))) s }
+    ensures { (s : ℕ) (newer older : List Record) → KeepsRules (newer ++ older)
+        → content older s ≡ group_in (take (left_by older) (committed_of (newer ++ older))) s }
 {}
 
 /// Worked histories, each legal or refused as it should be, and what goes on with them.

@@ -45,9 +45,30 @@ impl Model for Reference {
 
     ghost Value = { Stand };
 
-    ghost view = { λ r. record { size = record { senders = r.senders; cells = r.cells }; ledger = record { committed = map done_of r.committed.items; open_ones = map open_of r.open_txns.items; phase = phase_of r.running; incarnation = r.incarnation; begins = r.begins; records = r.records; forced = r.forced; durable = r.durable } } };
+    ghost view = { λ r. record {
+      size = record { senders = r.senders; cells = r.cells };
+      ledger = record {
+        committed = map done_of r.committed.items;
+        open_ones = map open_of r.open_txns.items;
+        phase = phase_of r.running;
+        incarnation = r.incarnation;
+        begins = r.begins;
+        records = r.records;
+        forced = r.forced;
+        durable = r.durable;
+      };
+    } };
 
-    ghost invariant = { λ r. Sound (record { committed = map done_of r.committed.items; open_ones = map open_of r.open_txns.items; phase = phase_of r.running; incarnation = r.incarnation; begins = r.begins; records = r.records; forced = r.forced; durable = r.durable }) };
+    ghost invariant = { λ r. Sound (record {
+      committed = map done_of r.committed.items;
+      open_ones = map open_of r.open_txns.items;
+      phase = phase_of r.running;
+      incarnation = r.incarnation;
+      begins = r.begins;
+      records = r.records;
+      forced = r.forced;
+      durable = r.durable;
+    }) };
 }
 
 impl Reference {
@@ -281,7 +302,8 @@ impl Reference {
     /// Whether the sender's group is closed, by a commit or by the transaction at this place.
     fn is_closed_for(&self, txn: Txn, place: usize, sender: u32) -> bool
         requires { StandsAt self.now.ledger txn place }
-        ensures { result ≡ (ended_in self.now.ledger.committed sender || has_closed sender (found txn self.now.ledger.open_ones)) }
+        ensures { result ≡ (ended_in self.now.ledger.committed sender || has_closed sender
+            (found txn self.now.ledger.open_ones)) }
     {
         if scans::is_closed(&self.committed, sender) {
             return true;
@@ -431,7 +453,8 @@ impl Reference {
         body: &[u8],
     ) -> Result<u64, Refusal>
         ensures ok { IfOk result (λ n. May self.old (Started txn n (Sending (message_of sender tag body.now)))) }
-        ensures step { IfOk result (λ n. self.new ≡ next (Started txn n (Sending (message_of sender tag body.now))) self.old) }
+        ensures step { IfOk result (λ n. self.new ≡ next
+            (Started txn n (Sending (message_of sender tag body.now))) self.old) }
         ensures refused { IfErr result (λ r. Refuses self.old (Start_send txn (message_of sender tag body.now)) r) }
         ensures same { OnErr result (self.new ≡ self.old) }
     {

@@ -9,7 +9,8 @@ use Rattle.rq_page.specs.declared.cell.CellSlot.TheVariants.{Free, Used}
 -- the forty bytes before the body: state, length, sender, sequence, tag and the two links
 unfoldable pub cell_front : Cell → List ℕ
 cell_front c =
-    1 ∷ 0 ∷ (big_bytes 2 (length c.body) ++ (big_bytes 4 c.sender ++ (big_bytes 8 c.sequence ++ (big_bytes 8 c.tag ++ (big_bytes 8 c.next ++ big_bytes 8 c.prev)))))
+    1 ∷ 0 ∷ (big_bytes 2 (length c.body) ++ (big_bytes 4 c.sender ++
+    (big_bytes 8 c.sequence ++ (big_bytes 8 c.tag ++ (big_bytes 8 c.next ++ big_bytes 8 c.prev)))))
 
 -- the slot of a used cell
 unfoldable pub cell_bytes : Cell → List ℕ

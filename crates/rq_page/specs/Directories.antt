@@ -8,7 +8,10 @@ use Rattle.rq_page.specs.declared.directory.DirectorySlot.{DirectorySlot}
 -- the 48 bytes before the zeros: state, sender, what was sent and received, last tag, and the ends of the chain
 unfoldable pub directory_front : DirectorySlot → List ℕ
 directory_front x =
-    (if x.directory.closed then 2 else 1) ∷ 0 ∷ 0 ∷ 0 ∷ (big_bytes 4 x.sender ++ (big_bytes 8 x.directory.sent ++ (big_bytes 8 x.directory.received ++ (big_bytes 8 x.directory.last_tag ++ (big_bytes 8 x.directory.head ++ big_bytes 8 x.directory.tail)))))
+    (if x.directory.closed then 2 else 1) ∷ 0 ∷ 0 ∷ 0 ∷
+    (big_bytes 4 x.sender ++ (big_bytes 8 x.directory.sent ++
+    (big_bytes 8 x.directory.received ++ (big_bytes 8 x.directory.last_tag ++
+    (big_bytes 8 x.directory.head ++ big_bytes 8 x.directory.tail)))))
 
 -- the one spelling of what a directory slot holds
 unfoldable pub directory_bytes : DirectorySlot → List ℕ

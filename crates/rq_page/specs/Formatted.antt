@@ -22,7 +22,10 @@ superblock_bytes l = superblock_front l ++ replicate 236 0
 abbrev pub formatted_slot : Sizes → ℕ → ℕ → List ℕ
 formatted_slot l page slot =
     (if page == 0 then (if slot == 1 then superblock_bytes l else free_bytes) else
-    (if nat_le page l.directory then directory_bytes (record { sender = sender_at page slot; directory = new_directory }) else free_bytes))
+    (if nat_le page l.directory then directory_bytes (record {
+      sender = sender_at page slot;
+      directory = new_directory;
+    }) else free_bytes))
 
 -- the page's header has this LSN, the number and the kind of its place, and zeros
 abbrev pub IsHeaderFor : Option PageKind → ℕ → ℕ → List ℕ → Type 0
@@ -49,4 +52,5 @@ formatted_content l page slot = (if nat_le page l.directory then Sender (sender_
 abbrev pub FormattedHolds : Type 0
 FormattedHolds =
     (l : Sizes) (page slot : ℕ) → IsInRange l → 1 ≤ page → page < page_count l → 1 ≤ slot → slot ≤ 15
-    → IsSlotOf l page slot (formatted_slot l page slot) × (held_in l page (formatted_slot l page slot) ≡ formatted_content l page slot)
+    → IsSlotOf l page slot (formatted_slot l page slot)
+    × (held_in l page (formatted_slot l page slot) ≡ formatted_content l page slot)

@@ -84,7 +84,8 @@ pub record IsSlotOf (l : Sizes) (page slot : ℕ) (bytes : List ℕ) : Type 0 wh
 
 -- what a slot of a page of a kind may hold
 abbrev pub MayHold : Option PageKind → Sizes → ℕ → ℕ → Slot → Type 0
-MayHold (Some kind.Directory) l page slot (Sender s d) = IsDirectoryOf l (sender_at page slot) (record { sender = s; directory = d })
+MayHold (Some kind.Directory) l page slot (Sender s d) = IsDirectoryOf l (sender_at page slot)
+    (record { sender = s; directory = d })
 MayHold (Some kind.Cells) l page slot Free = Unit {0}
 MayHold (Some kind.Cells) l page slot (Used c) = IsCellOf l c
 MayHold _ l page slot x = ⊥

@@ -67,7 +67,8 @@ impl DirectorySlot {
     /// What the slot with these bytes holds; none where they are no spelling of anything.
     pub fn decode(bytes: &Slot) -> Option<Self>
         ensures some { IfSome result (λ held. IsDirectorySlot held × (directory_bytes held ≡ bytes.now)) }
-        ensures only { (held : DirectorySlot) → IsDirectorySlot held → directory_bytes held ≡ bytes.now → result ≡ Some held }
+        ensures only { (held : DirectorySlot) → IsDirectorySlot held → directory_bytes held ≡ bytes.now
+            → result ≡ Some held }
     {
         let held = DirectorySlot::read(bytes);
         if held.directory.received > held.directory.sent {

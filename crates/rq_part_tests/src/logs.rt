@@ -84,7 +84,7 @@ fn hand_over<L: LogDevice>(log: &mut Log<L>) -> Result<(), Refusal> {
 fn make_room_in_vain<L: LogDevice>(log: &mut Log<L>) -> Result<(), NoMemory> {
     log.reserve(5)?;
     log.release(5);
-    log.keeps();
+    log.shows_kept();
     Ok(())
 }
 

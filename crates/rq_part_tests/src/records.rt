@@ -8,7 +8,7 @@ use rq_model::record::{DeedBytes, Slot};
 use rq_model::txn::Txn;
 use rq_record::{
     COMMIT_BYTES, Deed, OP_END_BYTES, PAGE_OP_BYTES, Record, Step, decode, decode_deed, encode,
-    encode_deed, sized, spelled_len,
+    encode_deed, shows_size, spelled_len,
 };
 use std::alloc::Global;
 use std::process::Abort;
@@ -234,7 +234,7 @@ fn write_of(txn: Txn, before: Slot, after: Slot) -> Record
         before,
         after,
     };
-    sized(&record);
+    shows_size(&record);
     record
 }
 
@@ -255,10 +255,10 @@ fn room_left(reserved: usize, images: &[Slot; 2], deed: &Deed) -> Option<usize> 
     }
     let left = room_after(reserved, &write_of(FIRST, images[0], images[1]));
     let left = room_after(left, &write_of(FIRST, images[1], images[0]));
-    sized(&end);
+    shows_size(&end);
     let left = room_after(left, &end);
     let commit = Record::Commit { txn: FIRST };
-    sized(&commit);
+    shows_size(&commit);
     Some(room_after(left, &commit))
 }
 

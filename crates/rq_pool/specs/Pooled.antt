@@ -21,8 +21,8 @@ image_at images page = slice_index_or images page []
 abbrev pub is_changed : List Bool → ℕ → Bool
 is_changed changed page = slice_index_or changed page false
 
--- what is so of the pages of a store: they are all there, the first tells the sizes, and behind it each header is the one of its place and each slot is one
--- of the store
+-- what is so of the pages of a store: they are all there, the first tells the sizes, and behind it each header is the
+-- one of its place and each slot is one of the store
 pub record IsPool (z : Sizes) (images : List (List ℕ)) : Type 0 where
   pub range : IsInRange z
   pub count : length images ≡ page_count z
@@ -30,8 +30,11 @@ pub record IsPool (z : Sizes) (images : List (List ℕ)) : Type 0 where
   pub superblock : IsFormatted z 0 (image_at images 0)
   pub headers : (p : ℕ) → 1 ≤ p → p < page_count z → IsHeaderOf z p (image_at images p)
 
--- Pages over their device: each is one of a store's, and where the device has been honest it reads as those that were not changed.
-pub record AreOver {P : Type 0} (g : Ghosts P) (device : P) (z : Sizes) (images : List (List ℕ)) (changed : List Bool) : Type 0 where
+-- Pages over their device: each is one of a store's, and where the device has been honest it reads as those that were
+-- not changed.
+pub record AreOver {P : Type 0} (g : Ghosts P) (device : P) (z : Sizes) (images : List (List ℕ))
+    (changed : List Bool) : Type 0 where
   pub pool : IsPool z images
   pub flags : length changed ≡ page_count z
-  pub clean : g.honest device → (p : ℕ) → p < page_count z → is_changed changed p ≡ false → image_at images p ≡ g.seen device p
+  pub clean : g.honest device → (p : ℕ) → p < page_count z → is_changed changed p ≡ false
+      → image_at images p ≡ g.seen device p

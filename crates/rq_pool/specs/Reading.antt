@@ -47,7 +47,8 @@ pub record IsDamagedPage (z : Sizes) (seen : Images) (page : ℕ) : Type 0 where
   pub bad : IsSound z page (seen page) → ⊥
   pub first : (p : ℕ) → 1 ≤ p → p < page → IsSound z p (seen p)
 
--- the page is the first that is none of a store's: it is the superblock and tells no sizes, or it is not sound by the sizes that are told
+-- the page is the first that is none of a store's: it is the superblock and tells no sizes, or it is not sound by the
+-- sizes that are told
 abbrev pub IsDamaged : Images → ℕ → Type 0
 IsDamaged seen page =
     ((page ≡ 0) × ((z : Sizes) → IsSuperblock z (seen 0) → ⊥)) ⊎ ((z : Sizes) × IsDamagedPage z seen page)
@@ -60,7 +61,8 @@ TellsSizes seen = (z : Sizes) × IsSuperblock z (seen 0)
 abbrev pub StopsFor : {P : Type 0} → Ghosts P → Refusal → P → P → Type 0
 StopsFor g why.NoMemory old new = (g.honest new → TellsSizes (g.seen old)) × (g.faults new ≡ g.faults old)
 StopsFor g why.DiskRead old new = g.faults new ≡ (g.faults old + 1) % 2 ^ 64
-StopsFor g (why.Damaged (damage.Page page)) old new = (g.honest new → IsDamaged (g.seen old) page) × (g.faults new ≡ g.faults old)
+StopsFor g (why.Damaged (damage.Page page)) old new = (g.honest new → IsDamaged (g.seen old) page)
+    × (g.faults new ≡ g.faults old)
 StopsFor g _ old new = ⊥
 
 -- A device answered a read: it has not failed in it, nor has it stopped before, where it is honest.

@@ -19,8 +19,10 @@ pub record IsUnwritten {P : Type 0} (pages : Pooled P) (page : ℕ) : Type 0 whe
 abbrev pub AnswersWhen : {P : Type 0} → Pooled P → ℕ → ℕ → Result Written Refusal → Type 0
 AnswersWhen pages page forced (Ok Done) = IsUnwritten pages page × (lsn_of (image_at pages.images page) ≤ forced)
 AnswersWhen pages page forced (Ok Nothing) = is_changed pages.changed page ≡ false
-AnswersWhen pages page forced (Err why.NotForced) = IsUnwritten pages page × (forced < lsn_of (image_at pages.images page))
-AnswersWhen pages page forced (Err why.DiskWrite) = IsUnwritten pages page × (lsn_of (image_at pages.images page) ≤ forced)
+AnswersWhen pages page forced (Err why.NotForced) = IsUnwritten pages page
+    × (forced < lsn_of (image_at pages.images page))
+AnswersWhen pages page forced (Err why.DiskWrite) = IsUnwritten pages page
+    × (lsn_of (image_at pages.images page) ≤ forced)
 AnswersWhen pages page forced (Err _) = ⊥
 
 -- which pages count as changed then

@@ -16,8 +16,10 @@ pub(crate) fn write_slot(frames: &mut Vec<Frame>, at: Addr, image: &Slot, lsn: L
     requires page { at / 16 < length frames.old.items }
     requires slot { 1 ≤ at % 16 }
     ensures count { length frames.new.items ≡ length frames.old.items }
-    ensures page { IsWritten (framed_at frames.old.items (at / 16)) (framed_at frames.new.items (at / 16)) (at % 16) image.now lsn }
-    ensures header { (z : Sizes) (p : ℕ) → IsHeaderOf z p (framed_at frames.old.items (at / 16)) → IsHeaderOf z p (framed_at frames.new.items (at / 16)) }
+    ensures page { IsWritten (framed_at frames.old.items (at / 16)) (framed_at frames.new.items (at / 16))
+        (at % 16) image.now lsn }
+    ensures header { (z : Sizes) (p : ℕ) → IsHeaderOf z p (framed_at frames.old.items (at / 16))
+        → IsHeaderOf z p (framed_at frames.new.items (at / 16)) }
     ensures others { (p : ℕ) → p ≢ at / 16 → framed_at frames.new.items p ≡ framed_at frames.old.items p }
     ensures changed { changed_of frames.new.items ≡ slice_set (changed_of frames.old.items) (at / 16) true }
 {

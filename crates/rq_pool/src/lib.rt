@@ -59,9 +59,15 @@ impl<P: PageDevice> Model for Pages<P> {
 
     ghost Value = { Pooled P };
 
-    ghost view = { λ p. record { device = p.device; sizes = p.layout; images = images_of p.frames.items; changed = changed_of p.frames.items } };
+    ghost view = { λ p. record {
+      device = p.device;
+      sizes = p.layout;
+      images = images_of p.frames.items;
+      changed = changed_of p.frames.items;
+    } };
 
-    ghost invariant = { λ p. AreOver P.PageDevice p.device p.layout (images_of p.frames.items) (changed_of p.frames.items) };
+    ghost invariant = { λ p. AreOver P.PageDevice p.device p.layout (images_of p.frames.items)
+        (changed_of p.frames.items) };
 }
 
 /// Pages that could not be had: why, and their device.
@@ -80,7 +86,8 @@ impl<P: PageDevice + Drop> Pages<P> {
     #[tactic(auto, using(crate::proofs::Over::over_loaded))]
     pub fn load(alloc: Global, mut device: P) -> Result<Pages<P>, Stopped<P>>
         ensures pages { IfOk result (λ pages. ArePages pages.sizes pages.images) }
-        ensures seen { IfOk result (λ pages. P.honest pages.device → AreSeen (P.seen device) pages.images (page_count pages.sizes)) }
+        ensures seen { IfOk result (λ pages. P.honest pages.device
+            → AreSeen (P.seen device) pages.images (page_count pages.sizes)) }
         ensures changed { IfOk result (λ pages. pages.changed ≡ replicate (page_count pages.sizes) false) }
         ensures stopped { IfErr result (λ stopped. StopsFor P.PageDevice stopped.refusal device stopped.device) }
         ensures cause { OnOk result (P.faults (device_of result) ≡ P.faults device) }
@@ -119,7 +126,7 @@ impl<P: PageDevice> Pages<P> {
 
     /// What is so of the pages of each store, for proofs: it runs no code. Where the device has been honest, each page
     /// that doesn't count as changed reads there as its image.
-    pub fn keeps(&self)
+    pub fn shows_kept(&self)
         ensures { AreOver P.PageDevice self.now.device self.now.sizes self.now.images self.now.changed }
     {
         let _layout = self.layout;
@@ -161,8 +168,10 @@ impl<P: PageDevice> Pages<P> {
     pub fn set_slot(&mut self, at: Addr, image: &Slot, lsn: Lsn)
         requires place { IsStoreSlot self.old.sizes at }
         requires image { IsSlotOf self.old.sizes (at / 16) (at % 16) image.now }
-        ensures slots { (a : ℕ) → slots_in self.old.sizes self.new.images a ≡ put (slots_in self.old.sizes self.old.images) at (held_in self.old.sizes (at / 16) image.now) a }
-        ensures page { IsWritten (image_at self.old.images (at / 16)) (image_at self.new.images (at / 16)) (at % 16) image.now lsn }
+        ensures slots { (a : ℕ) → slots_in self.old.sizes self.new.images a
+            ≡ put (slots_in self.old.sizes self.old.images) at (held_in self.old.sizes (at / 16) image.now) a }
+        ensures page { IsWritten (image_at self.old.images (at / 16)) (image_at self.new.images (at / 16))
+            (at % 16) image.now lsn }
         ensures others { (p : ℕ) → p ≢ at / 16 → image_at self.new.images p ≡ image_at self.old.images p }
         ensures changed { self.new.changed ≡ slice_set self.old.changed (at / 16) true }
         ensures sizes { self.new.sizes ≡ self.old.sizes }
@@ -184,7 +193,8 @@ impl<P: PageDevice> Pages<P> {
         ensures changed { self.new.changed ≡ changed_after self.old.changed page result }
         ensures images { self.new.images ≡ self.old.images }
         ensures sizes { self.new.sizes ≡ self.old.sizes }
-        ensures device { DeviceAfter P.PageDevice page (image_at self.old.images page) self.old.device self.new.device result }
+        ensures device { DeviceAfter P.PageDevice page
+            (image_at self.old.images page) self.old.device self.new.device result }
     {
         let Some(frame) = self.frames.get(page as usize) else {
             return Ok(Written::Nothing);
@@ -203,8 +213,8 @@ impl<P: PageDevice> Pages<P> {
     }
 
     /// Reads a page back into its frame, where it has no change that was not written. The pages stay as they are where
-    /// the device has been honest; and whatever it answered, they are pages of a store. Where it is read, the device ran,
-    /// and the frame holds what the device reads there.
+    /// the device has been honest; and whatever it answered, they are pages of a store. Where it is read, the device
+    /// ran, and the frame holds what the device reads there.
     ///
     /// # Errors
     /// `DiskRead` where the read failed, `Damaged` where what was read is no page of a store: nothing changed.
@@ -215,15 +225,18 @@ impl<P: PageDevice> Pages<P> {
         requires clean { is_changed self.old.changed number ≡ false }
         ensures images { P.honest self.new.device → self.new.images ≡ self.old.images }
         ensures others { (p : ℕ) → p ≢ number → image_at self.new.images p ≡ image_at self.old.images p }
-        ensures read { OnOk result (P.honest self.new.device → image_at self.new.images number ≡ P.seen self.old.device number) }
+        ensures read { OnOk result (P.honest self.new.device
+            → image_at self.new.images number ≡ P.seen self.old.device number) }
         ensures answered { OnOk result (HasAnswered P.PageDevice self.old.device self.new.device) }
-        ensures refused { IfErr result (λ e. NotReadAgain P.PageDevice self.old.sizes number e self.old.device self.new.device) }
+        ensures refused { IfErr result (λ e. NotReadAgain P.PageDevice self.old.sizes number e self.old.device
+            self.new.device) }
         ensures left { OnErr result (self.new.images ≡ self.old.images) }
         ensures pool { IsPool self.new.sizes self.new.images }
         ensures sizes { self.new.sizes ≡ self.old.sizes }
         ensures changed { self.new.changed ≡ self.old.changed }
         ensures device { WasRead P.PageDevice self.old.device self.new.device }
-        ensures err { IfErr result (λ e. P.honest self.new.device → (e ≡ Refusal.DiskRead) × (P.faults self.new.device ≡ (P.faults self.old.device + 1) % 2 ^ 64)) }
+        ensures err { IfErr result (λ e. P.honest self.new.device → (e ≡ Refusal.DiskRead)
+            × (P.faults self.new.device ≡ (P.faults self.old.device + 1) % 2 ^ 64)) }
     {
         match read_again(&mut self.device, &self.layout, number) {
             Ok(page) => {
@@ -262,8 +275,10 @@ impl<P: PageDevice> Pages<P> {
     pub fn free_cell(&self) -> Option<Addr>
         ensures cell { IfSome result (λ a. IsCellAddress self.now.sizes a) }
         ensures free { IfSome result (λ a. slots_in self.now.sizes self.now.images a ≡ Free) }
-        ensures lowest { IfSome result (λ a. (b : ℕ) → IsCellAddress self.now.sizes b → b < a → is_used (slots_in self.now.sizes self.now.images b) ≡ true) }
-        ensures full { IfNone result (count_used self.now.sizes (slots_in self.now.sizes self.now.images) ≡ cell_count self.now.sizes) }
+        ensures lowest { IfSome result (λ a. (b : ℕ) → IsCellAddress self.now.sizes b → b < a
+            → is_used (slots_in self.now.sizes self.now.images b) ≡ true) }
+        ensures full { IfNone result (count_used self.now.sizes (slots_in self.now.sizes self.now.images)
+            ≡ cell_count self.now.sizes) }
     {
         let layout = self.layout();
         for place in 0..layout.cell_slots() {

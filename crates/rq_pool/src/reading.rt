@@ -13,7 +13,8 @@ use std::alloc::Global;
 
 /// Reads the first page, and the sizes that it tells.
 pub(crate) fn read_superblock<P: PageDevice>(device: &mut P) -> Result<(Page, Layout), Refusal>
-    ensures ok { IfOk result (λ first. (P.honest device.new → first.0 ≡ P.seen device.old 0) × IsSuperblock first.1 first.0) }
+    ensures ok { IfOk result (λ first. (P.honest device.new → first.0 ≡ P.seen device.old 0)
+        × IsSuperblock first.1 first.0) }
     ensures cause { OnOk result (P.faults device.new ≡ P.faults device.old) }
     ensures err { IfErr result (λ e. StopsFor P.PageDevice e device.old device.new) }
     ensures device { OnlyRead P.PageDevice device.old device.new }
@@ -36,7 +37,8 @@ pub(crate) fn read_frames<P: PageDevice>(
     requires superblock { IsSuperblock layout.now superblock }
     requires first { P.honest device.old → superblock ≡ P.seen device.old 0 }
     ensures ok { IfOk result (λ frames. ArePages layout.now (images_of frames.items)) }
-    ensures seen { IfOk result (λ frames. P.honest device.new → AreSeen (P.seen device.old) (images_of frames.items) (page_count layout.now)) }
+    ensures seen { IfOk result (λ frames. P.honest device.new
+        → AreSeen (P.seen device.old) (images_of frames.items) (page_count layout.now)) }
     ensures changed { IfOk result (λ frames. changed_of frames.items ≡ replicate (page_count layout.now) false) }
     ensures cause { OnOk result (P.faults device.new ≡ P.faults device.old) }
     ensures err { IfErr result (λ e. StopsFor P.PageDevice e device.old device.new) }
@@ -60,9 +62,11 @@ pub(crate) fn read_again<P: PageDevice>(
     layout: &Layout,
     number: u32,
 ) -> Result<Page, Refusal>
-    ensures ok { IfOk result (λ page. (P.honest device.new → page ≡ P.seen device.old number) × IsSound layout.now number page) }
+    ensures ok { IfOk result (λ page. (P.honest device.new → page ≡ P.seen device.old number)
+        × IsSound layout.now number page) }
     ensures answered { OnOk result (HasAnswered P.PageDevice device.old device.new) }
-    ensures err { IfErr result (λ e. P.honest device.new → IsSound layout.now number (P.seen device.old number) → (e ≡ Refusal.DiskRead) × (P.faults device.new ≡ (P.faults device.old + 1) % 2 ^ 64)) }
+    ensures err { IfErr result (λ e. P.honest device.new → IsSound layout.now number (P.seen device.old number)
+        → (e ≡ Refusal.DiskRead) × (P.faults device.new ≡ (P.faults device.old + 1) % 2 ^ 64)) }
     ensures refused { IfErr result (λ e. NotReadAgain P.PageDevice layout.now number e device.old device.new) }
     ensures device { OnlyRead P.PageDevice device.old device.new }
 {
@@ -84,7 +88,8 @@ fn read_sound_page<P: PageDevice>(
     requires low { 0 < number }
     requires high { number < page_count layout.now }
     requires earlier { P.honest device.old → (q : ℕ) → 1 ≤ q → q < number → IsSound layout.now q (P.seen device.old q) }
-    ensures ok { IfOk result (λ page. (P.honest device.new → page ≡ P.seen device.old number) × IsSound layout.now number page) }
+    ensures ok { IfOk result (λ page. (P.honest device.new → page ≡ P.seen device.old number)
+        × IsSound layout.now number page) }
     ensures cause { OnOk result (P.faults device.new ≡ P.faults device.old) }
     ensures err { IfErr result (λ e. StopsFor P.PageDevice e device.old device.new) }
     ensures device { OnlyRead P.PageDevice device.old device.new }
@@ -116,7 +121,8 @@ fn read_page<P: PageDevice>(device: &mut P, number: u32) -> Result<Page, Refusal
     ensures ok { IfOk result (λ page. P.honest device.new → page ≡ P.seen device.old number) }
     ensures cause { OnOk result (P.faults device.new ≡ P.faults device.old) }
     ensures answered { OnOk result (HasAnswered P.PageDevice device.old device.new) }
-    ensures err { IfErr result (λ e. (e ≡ Refusal.DiskRead) × (P.faults device.new ≡ (P.faults device.old + 1) % 2 ^ 64)) }
+    ensures err { IfErr result (λ e. (e ≡ Refusal.DiskRead)
+        × (P.faults device.new ≡ (P.faults device.old + 1) % 2 ^ 64)) }
     ensures device { OnlyRead P.PageDevice device.old device.new }
 {
     let mut image = [0; PAGE];

@@ -8,7 +8,8 @@ use Rattle.rq_record.specs.Reading.{◌>>=◌, number_at, positive_at}
 
 unfoldable pub append_at : List ℕ → Result Deed Stop
 append_at bytes =
-    number_at 4 bytes >>= λ sender. positive_at 8 sender.1 >>= λ sequence. number_at 8 sequence.1 >>= λ tag. number_at 8 tag.1 >>= λ previous.
+    number_at 4 bytes >>= λ sender. positive_at 8 sender.1 >>= λ sequence. number_at 8 sequence.1 >>= λ tag.
+    number_at 8 tag.1 >>= λ previous.
     if nat_le (length previous.1) 216 then Ok (Append sender.0 sequence.0 tag.0 previous.0 previous.1) else Err Bad
 
 unfoldable pub unlink_head_at : List ℕ → Result Deed Stop

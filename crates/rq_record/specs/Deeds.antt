@@ -16,7 +16,8 @@ IsBody body = (length body ≤ 216) × AreBytes body
 
 -- what is so of each deed that a program holds: its fields are of their types
 abbrev pub DeedFits : Deed → Type 0
-DeedFits (Append sender sequence tag previous body) = (sender < 2 ^ 32) × (sequence < 2 ^ 64) × (tag < 2 ^ 64) × (previous < 2 ^ 64) × IsBody body
+DeedFits (Append sender sequence tag previous body) = (sender < 2 ^ 32) × (sequence < 2 ^ 64) × (tag < 2 ^ 64)
+    × (previous < 2 ^ 64) × IsBody body
 DeedFits (UnlinkHead sender sequence tag body) = (sender < 2 ^ 32) × (sequence < 2 ^ 64) × (tag < 2 ^ 64) × IsBody body
 DeedFits (Close sender) = sender < 2 ^ 32
 

@@ -26,8 +26,10 @@ kind_number (AbortEnd txn) = 8
 
 -- what stands after a record's kind
 unfoldable pub fields : Record → List ℕ
-fields (PageOp txn operation page slot before after) = txn_bytes txn ++ (number 8 operation ++ (number 4 page ++ (slot ∷ (before ++ after))))
-fields (PageUndo txn operation undone page slot after) = txn_bytes txn ++ (number 8 operation ++ (number 8 undone ++ (number 4 page ++ (slot ∷ after))))
+fields (PageOp txn operation page slot before after) = txn_bytes txn ++
+    (number 8 operation ++ (number 4 page ++ (slot ∷ (before ++ after))))
+fields (PageUndo txn operation undone page slot after) = txn_bytes txn ++
+    (number 8 operation ++ (number 8 undone ++ (number 4 page ++ (slot ∷ after))))
 fields (OpEnd txn operation level deed) = txn_bytes txn ++ (number 8 operation ++ (level ∷ deed))
 fields (OpVoid txn operation) = txn_bytes txn ++ number 8 operation
 fields (CompEnd txn operation undone) = txn_bytes txn ++ (number 8 operation ++ number 8 undone)
@@ -50,8 +52,10 @@ IsSlotNumber slot = (1 ≤ slot) × (slot ≤ 15)
 -- has slots 1 to 15, and a deed is 1 to 256 bytes
 abbrev pub IsInRange : Record → Type 0
 IsInRange (PageOp txn operation page slot before after) = IsTxnInRange txn × (0 < operation) × IsSlotNumber slot
-IsInRange (PageUndo txn operation undone page slot after) = IsTxnInRange txn × (0 < operation) × (0 < undone) × IsSlotNumber slot
-IsInRange (OpEnd txn operation level deed) = IsTxnInRange txn × (0 < operation) × (0 < level) × (1 ≤ length deed) × (length deed ≤ 256)
+IsInRange (PageUndo txn operation undone page slot after) = IsTxnInRange txn × (0 < operation) × (0 < undone)
+    × IsSlotNumber slot
+IsInRange (OpEnd txn operation level deed) = IsTxnInRange txn × (0 < operation) × (0 < level) × (1 ≤ length deed)
+    × (length deed ≤ 256)
 IsInRange (OpVoid txn operation) = IsTxnInRange txn × (0 < operation)
 IsInRange (CompEnd txn operation undone) = IsTxnInRange txn × (0 < operation) × (0 < undone)
 IsInRange (Commit txn) = IsTxnInRange txn
@@ -70,9 +74,12 @@ IsImage image = (length image ≡ 256) × AreBytes image
 
 -- what is so of each record that a program holds: its fields are of their types
 abbrev pub Fits : Record → Type 0
-Fits (PageOp txn operation page slot before after) = FitsTxn txn × (operation < 2 ^ 64) × (page < 2 ^ 32) × (slot < 2 ^ 8) × IsImage before × IsImage after
-Fits (PageUndo txn operation undone page slot after) = FitsTxn txn × (operation < 2 ^ 64) × (undone < 2 ^ 64) × (page < 2 ^ 32) × (slot < 2 ^ 8) × IsImage after
-Fits (OpEnd txn operation level deed) = FitsTxn txn × (operation < 2 ^ 64) × (level < 2 ^ 8) × (length deed ≤ 256) × AreBytes deed
+Fits (PageOp txn operation page slot before after) = FitsTxn txn × (operation < 2 ^ 64) × (page < 2 ^ 32)
+    × (slot < 2 ^ 8) × IsImage before × IsImage after
+Fits (PageUndo txn operation undone page slot after) = FitsTxn txn × (operation < 2 ^ 64) × (undone < 2 ^ 64)
+    × (page < 2 ^ 32) × (slot < 2 ^ 8) × IsImage after
+Fits (OpEnd txn operation level deed) = FitsTxn txn × (operation < 2 ^ 64) × (level < 2 ^ 8) × (length deed ≤ 256)
+    × AreBytes deed
 Fits (OpVoid txn operation) = FitsTxn txn × (operation < 2 ^ 64)
 Fits (CompEnd txn operation undone) = FitsTxn txn × (operation < 2 ^ 64) × (undone < 2 ^ 64)
 Fits (Commit txn) = FitsTxn txn

@@ -8,7 +8,7 @@ ghost use Rattle.rq_record.specs.Reading.{Gives};
 ghost use Rattle.rq_record.specs.DeedReading.{append_at, unlink_head_at, close_at, deed_at, deed_of};
 
 use crate::reading::{Stop, take_positive, take_u32, take_u64};
-use crate::writing::bytes_fit;
+use crate::writing::shows_bytes_fit;
 use byteorder::{BigEndian, ByteOrder};
 use rq_model::message::Body;
 use rq_model::record::{DEED_LIMIT, Deed, DeedBytes};
@@ -99,7 +99,7 @@ pub fn decode_deed(bytes: &[u8]) -> Option<Deed>
 }
 
 /// Each deed that a program holds has fields of their types.
-pub fn deed_fits(deed: &Deed)
+pub fn shows_deed_fits(deed: &Deed)
     ensures { DeedFits deed.now }
 {
     match deed {
@@ -111,7 +111,7 @@ pub fn deed_fits(deed: &Deed)
             body,
         } => {
             let _numbers = (*sender, *sequence, *tag, *previous);
-            body_fits(body);
+            shows_body_fits(body);
         }
         Deed::UnlinkHead {
             sender,
@@ -120,7 +120,7 @@ pub fn deed_fits(deed: &Deed)
             body,
         } => {
             let _numbers = (*sender, *sequence, *tag);
-            body_fits(body);
+            shows_body_fits(body);
         }
         Deed::Close { sender } => {
             let _number = *sender;
@@ -129,10 +129,10 @@ pub fn deed_fits(deed: &Deed)
 }
 
 // A body has 216 bytes at most.
-fn body_fits(body: &Body)
+fn shows_body_fits(body: &Body)
     ensures { IsBody body.now }
 {
-    bytes_fit(body.as_slice());
+    shows_bytes_fit(body.as_slice());
 }
 
 // What stands before the body.
@@ -237,6 +237,6 @@ pub fn encode_deed(deed: &Deed) -> DeedBytes
     ensures told { IsDeedInRange deed.now → deed_in result ≡ Some deed.now }
     ensures size { (1 ≤ length result) × (length result ≤ 256) }
 {
-    deed_fits(deed);
+    shows_deed_fits(deed);
     spelled(deed)
 }

@@ -7,12 +7,12 @@ mod reading;
 mod step;
 mod writing;
 
-pub use deed::{decode_deed, deed_fits, encode_deed};
+pub use deed::{decode_deed, encode_deed, shows_deed_fits};
 pub use laws::{deeds_are_told, framed, lengths, one_deed, one_spelling};
 pub use reading::decode;
 pub use rq_model::record::{Deed, Record};
 pub use step::Step;
-pub use writing::{encode, fits, sized, spelled_len};
+pub use writing::{encode, shows_fits, shows_size, spelled_len};
 
 /// The bytes of a PageOp record.
 pub const PAGE_OP_BYTES: usize = 546;

@@ -11,19 +11,19 @@ use rq_model::refusal::NoMemory;
 use rq_model::txn::Txn;
 
 // The elements of a slice of bytes are bytes.
-pub fn bytes_fit(bytes: &[u8])
+pub fn shows_bytes_fit(bytes: &[u8])
     ensures { AreBytes bytes.now }
 {}
 
 // An image is 256 bytes.
-fn image_fits(image: &Slot)
+fn shows_image_fits(image: &Slot)
     ensures { IsImage image.now }
 {
-    bytes_fit(image.as_slice());
+    shows_bytes_fit(image.as_slice());
 }
 
 // Both parts are numbers of eight bytes.
-fn txn_fits(txn: &Txn)
+fn shows_txn_fits(txn: &Txn)
     ensures { FitsTxn txn.now }
 {
     let _incarnation = txn.incarnation;
@@ -31,15 +31,15 @@ fn txn_fits(txn: &Txn)
 }
 
 // There are 256 bytes at most.
-fn deed_bytes_fit(deed: &DeedBytes)
+fn shows_deed_bytes_fit(deed: &DeedBytes)
     ensures short { length deed.now ≤ 256 }
     ensures bytes { AreBytes deed.now }
 {
-    bytes_fit(deed.as_slice());
+    shows_bytes_fit(deed.as_slice());
 }
 
 /// Each record that a program holds has fields of their types.
-pub fn fits(record: &Record)
+pub fn shows_fits(record: &Record)
     ensures { Fits «record».now }
 {
     match record {
@@ -51,10 +51,10 @@ pub fn fits(record: &Record)
             before,
             after,
         } => {
-            txn_fits(txn);
+            shows_txn_fits(txn);
             let _numbers = (*operation, *page, *slot);
-            image_fits(before);
-            image_fits(after);
+            shows_image_fits(before);
+            shows_image_fits(after);
         }
         Record::PageUndo {
             txn,
@@ -64,9 +64,9 @@ pub fn fits(record: &Record)
             slot,
             after,
         } => {
-            txn_fits(txn);
+            shows_txn_fits(txn);
             let _numbers = (*operation, *undone, *page, *slot);
-            image_fits(after);
+            shows_image_fits(after);
         }
         Record::OpEnd {
             txn,
@@ -74,12 +74,12 @@ pub fn fits(record: &Record)
             level,
             deed,
         } => {
-            txn_fits(txn);
+            shows_txn_fits(txn);
             let _numbers = (*operation, *level);
-            deed_bytes_fit(deed);
+            shows_deed_bytes_fit(deed);
         }
         Record::OpVoid { txn, operation } => {
-            txn_fits(txn);
+            shows_txn_fits(txn);
             let _number = *operation;
         }
         Record::CompEnd {
@@ -87,14 +87,14 @@ pub fn fits(record: &Record)
             operation,
             undone,
         } => {
-            txn_fits(txn);
+            shows_txn_fits(txn);
             let _numbers = (*operation, *undone);
         }
-        Record::Commit { txn } => txn_fits(txn),
+        Record::Commit { txn } => shows_txn_fits(txn),
         Record::Restart { incarnation } => {
             let _number = *incarnation;
         }
-        Record::AbortEnd { txn } => txn_fits(txn),
+        Record::AbortEnd { txn } => shows_txn_fits(txn),
     }
 }
 
@@ -282,17 +282,17 @@ fn put_abort_end(out: &mut Vec<u8>, txn: &Txn)
 
 /// The spelling of a record that a program holds is as long as its kind says, for proofs: a call at a
 /// record of a known kind says the number of its bytes.
-pub fn sized(record: &Record)
+pub fn shows_size(record: &Record)
     ensures { length (spelling «record».now) ≡ length_of «record».now }
 {
-    fits(record);
+    shows_fits(record);
 }
 
 /// The number of bytes of a record's spelling.
 pub fn spelled_len(record: &Record) -> usize
     ensures { result ≡ length (spelling «record».now) }
 {
-    sized(record);
+    shows_size(record);
     match record {
         Record::PageOp { .. } => PAGE_OP_BYTES,
         Record::PageUndo { .. } => 298,

@@ -8,4 +8,5 @@ use Rattle.rq_restart.specs.Restarting.{IsEnded}
 
 -- of every whole log they are the same: no operation is unfinished and no transaction lost
 abbrev pub EndedIsSettled : Type 0
-EndedIsSettled = (z : Sizes) (log : List Record) → IsWhole z log → IsEnded log ↔ ((unfinished log ≡ []) × (lost log ≡ []))
+EndedIsSettled = (z : Sizes) (log : List Record) → IsWhole z log
+    → IsEnded log ↔ ((unfinished log ≡ []) × (lost log ≡ []))

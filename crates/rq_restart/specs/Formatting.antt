@@ -8,9 +8,11 @@ use Rattle.rq_engine.specs.Devices.{PagesLeave}
 
 -- the superblock is one that a crash might have left before, or every page is formatted
 abbrev pub IsBeforeOrFormatted : {P : Type 0} → Ghosts P → Sizes → P → Images → Type 0
-IsBeforeOrFormatted p z old images = p.may_be old 0 (images 0) ⊎ ((q : ℕ) → q < page_count z → IsFormatted z q (images q))
+IsBeforeOrFormatted p z old images = p.may_be old 0 (images 0)
+    ⊎ ((q : ℕ) → q < page_count z → IsFormatted z q (images q))
 
--- So whatever a crash at any moment leaves: a store that was not formatted to its end doesn't open, unless the superblock of an older one still stands.
+-- So whatever a crash at any moment leaves: a store that was not formatted to its end doesn't open, unless the
+-- superblock of an older one still stands.
 abbrev pub SuperblockIsLast : {P : Type 0} → Ghosts P → Sizes → P → P → Type 0
 SuperblockIsLast p z old new = PagesLeave p old new (IsBeforeOrFormatted p z old)
 

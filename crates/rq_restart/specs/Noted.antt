@@ -10,7 +10,8 @@ use Rattle.rq_level.specs.Log.{same_op}
 use Rattle.rq_level.specs.Items.{operation}
 use Rattle.rq_model.specs.Incarnations.{incarnation_one}
 
--- the incarnation, the operations that wrote a slot and have no end, and the transactions that finished an operation and have no end
+-- the incarnation, the operations that wrote a slot and have no end, and the transactions that finished an operation
+-- and have no end
 pub record Noted : Type 0 where
   pub incarnation : ℕ
   pub unfinished : List Sub
@@ -46,7 +47,11 @@ working_after (AbortEnd t) ts = without_txn t ts
 working_after _ ts = ts
 
 abbrev pub noted_after : Record → Noted → Noted
-noted_after r h = record { incarnation = incarnation_one r h.incarnation; unfinished = unfinished_after r h.unfinished; working = working_after r h.working }
+noted_after r h = record {
+  incarnation = incarnation_one r h.incarnation;
+  unfinished = unfinished_after r h.unfinished;
+  working = working_after r h.working;
+}
 
 abbrev pub noted : List Record → Noted
 noted [] = record { incarnation = 0; unfinished = []; working = [] }

@@ -26,7 +26,8 @@ abbrev pub Marks : Option Told → ℕ → Paged → List Bool → Type 0
 Marks None lsn old changed = changed ≡ old.changed
 Marks (Some w) lsn old changed = IsMarked w lsn old changed
 
--- the record belongs behind these: it is the next of its incarnation, what it writes may stand there, and where its page is older, its before-image stands there
+-- the record belongs behind these: it is the next of its incarnation, what it writes may stand there, and where its
+-- page is older, its before-image stands there
 pub record Belongs (z : Sizes) (older : List Record) (r : Record) (old : Paged) : Type 0 where
   pub next : IsNext (incarnation_of older) r
   pub may : MayRedo z old.image (length older + 1) r

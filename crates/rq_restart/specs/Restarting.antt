@@ -34,7 +34,8 @@ StopsAt z log first why.NoMemory = Unit {0}
 StopsAt z log first (why.Damaged (damage.Record lsn)) = IsFirstBad z log first lsn
 StopsAt z log first _ = ⊥
 
--- why no incarnation was begun over a log, with the failures of its device before and after it, and that it was left alone
+-- why no incarnation was begun over a log, with the failures of its device before and after it, and that it was left
+-- alone
 abbrev pub BeginsNot : Refusal → ℕ → ℕ → ℕ → ℕ → Type 0 → Type 0
 BeginsNot why.NoMemory records last before now untouched = (now ≡ before) × untouched
 BeginsNot why.LogFull records last before now untouched = ((2 ^ 50 ≤ records) ⊎ (2 ^ 64 ≤ last + 1)) × untouched
@@ -45,8 +46,8 @@ BeginsNot _ records last before now untouched = ⊥
 abbrev pub IsEnded : List Record → Type 0
 IsEnded log = ((noted log).unfinished ≡ []) × ((noted log).working ≡ [])
 
--- The log was gone through on the pages: each record belonged where it stood and was repeated, and no number of a page is beyond the log, neither as the pages
--- were read nor then.
+-- The log was gone through on the pages: each record belonged where it stood and was repeated, and no number of a page
+-- is beyond the log, neither as the pages were read nor then.
 pub record IsGoneThrough (z : Sizes) (log : List Record) (first last : Paged) : Type 0 where
   pub repeated : Repeats z log first last
   pub counted_read : AreCounted z (length log) first
@@ -55,17 +56,22 @@ pub record IsGoneThrough (z : Sizes) (log : List Record) (first last : Paged) : 
 abbrev pub WasGoneThrough : Sizes → List Record → Paged → Type 0
 WasGoneThrough z log first = (last : Paged) × IsGoneThrough z log first last
 
--- This page is the first with a number beyond the log as the pages were read, or where none had one then, once history was repeated.
+-- This page is the first with a number beyond the log as the pages were read, or where none had one then, once history
+-- was repeated.
 pub record IsBeyond (z : Sizes) (log : List Record) (first : Paged) (page : ℕ) : Type 0 where
   pub last : Paged
   pub repeated : Repeats z log first last
-  pub beyond : IsFirstUncounted z (length log) first page ⊎ (AreCounted z (length log) first × IsFirstUncounted z (length log) last page)
+  pub beyond : IsFirstUncounted z (length log) first page
+      ⊎ (AreCounted z (length log) first × IsFirstUncounted z (length log) last page)
 
--- Why a store over this log was not opened, and where; with the failures of the log's device before and after it, and that it was left alone.
+-- Why a store over this log was not opened, and where; with the failures of the log's device before and after it, and
+-- that it was left alone.
 abbrev pub ShutFor : Sizes → List Record → Paged → Refusal → ℕ → ℕ → Type 0 → Type 0
 ShutFor z log first why.NoMemory before now untouched = (now ≡ before) × untouched
-ShutFor z log first why.LogFull before now untouched = (2 ^ 50 ≤ length log) × IsEnded log × WasGoneThrough z log first × untouched
-ShutFor z log first why.DiskWrite before now untouched = (now ≡ (before + 1) % 2 ^ 64) × IsEnded log × WasGoneThrough z log first
+ShutFor z log first why.LogFull before now untouched = (2 ^ 50 ≤ length log) × IsEnded log × WasGoneThrough z log first
+    × untouched
+ShutFor z log first why.DiskWrite before now untouched = (now ≡ (before + 1) % 2 ^ 64) × IsEnded log
+    × WasGoneThrough z log first
 ShutFor z log first why.Unfinished before now untouched = (IsEnded log → ⊥) × WasGoneThrough z log first × untouched
 ShutFor z log first (why.Damaged (damage.Record lsn)) before now untouched = IsFirstBad z log first lsn × untouched
 ShutFor z log first (why.Damaged (damage.Page page)) before now untouched = IsBeyond z log first page × untouched
@@ -111,12 +117,13 @@ pub record IsReadAs {L : Type 0} (g : log_device.Ghosts L) (old new : L) (older 
   pub reads : g.seen old ≡ spelled older
 
 -- an honest device held the pages of a store that was left so
-pub record IsLeftOn {P : Type 0} (g : page_device.Ghosts P) (z : Sizes) (old new : P) (older : List Record) : Type 0 where
+pub record IsLeftOn {P : Type 0} (g : page_device.Ghosts P) (z : Sizes) (old new : P)
+    (older : List Record) : Type 0 where
   pub honest : g.honest new
   pub left : IsLeft z (g.seen old) older
 
--- an engine may be opened over the log: incarnations are counted from 1 on, it is not over the greatest length, it has not failed, all its records stand on
--- the device, and a crash leaves them, now and when the log was last forced
+-- an engine may be opened over the log: incarnations are counted from 1 on, it is not over the greatest length, it has
+-- not failed, all its records stand on the device, and a crash leaves them, now and when the log was last forced
 pub record IsReady {L : Type 0} (g : log_device.Ghosts L) (incarnation : ℕ) (log : Logged L) : Type 0 where
   pub begun : 1 ≤ incarnation
   pub running : log.failed ≡ false
@@ -147,17 +154,20 @@ TellsDamage _ = ⊥
 abbrev pub WasRepeated : Sizes → List Record → Paged → Type 0
 WasRepeated z log first = (last : Paged) × Repeats z log first last
 
--- Of a log whose reading stopped for the one refusal behind these records, the other is answered: damage behind them is told only where all of them belong.
+-- Of a log whose reading stopped for the one refusal behind these records, the other is answered: damage behind them is
+-- told only where all of them belong.
 abbrev pub IsFirstFault : Sizes → List Record → Paged → Refusal → Refusal → Type 0
 IsFirstFault z front first stopped told =
-    ((told ≡ stopped) × (TellsDamage stopped → WasRepeated z front first)) ⊎ (TellsDamage stopped × StopsAt z front first told)
+    ((told ≡ stopped) × (TellsDamage stopped → WasRepeated z front first))
+    ⊎ (TellsDamage stopped × StopsAt z front first told)
 
 module _ {L : Type 0} (g : log_device.Ghosts L) where
   -- a crash might have left it of the log before, or it is these records, of which this is so
   abbrev pub WasLeftOrIs : L → Type 0 → List Record → List ℕ → Type 0
   WasLeftOrIs old so records c = g.may_leave old c ⊎ (so × (c ≡ spelled records))
 
-  -- whatever a crash at any moment leaves of the log: what it might have left before, or what was read and the record that begins the next incarnation
+  -- whatever a crash at any moment leaves of the log: what it might have left before, or what was read and the record
+  -- that begins the next incarnation
   abbrev pub BeginsAtMost : L → L → Type 0
   BeginsAtMost old new = g.honest new → LeavesOnly g old new (λ c. g.may_leave old c ⊎ IsBegunOn (g.seen old) c)
 
@@ -170,21 +180,27 @@ module _ {L : Type 0} (g : log_device.Ghosts L) where
   -- Why a store with these pages was not opened over a log: its records could not be read, or they were, and then this.
   abbrev pub LogStops : Sizes → Paged → Refusal → L → L → Type 0
   LogStops z first e old new =
-      ((front : List Record) × AreSpelled front × (stopped : Refusal) × log_read.StopsFor g stopped front old new × IsFirstFault z front first stopped e × IsRead old new)
-      ⊎ ((older : List Record) × AreSpelled older × (g.honest new → g.seen old ≡ spelled older) × ShutFor z older first e (g.faults old) (g.faults new) (IsRead old new))
+      ((front : List Record) × AreSpelled front × (stopped : Refusal) × log_read.StopsFor g stopped front old new
+      × IsFirstFault z front first stopped e × IsRead old new)
+      ⊎ ((older : List Record) × AreSpelled older × (g.honest new → g.seen old ≡ spelled older)
+      × ShutFor z older first e (g.faults old) (g.faults new) (IsRead old new))
 
 -- the pages as they were read, none of which counts as changed
 abbrev pub as_read : Sizes → List (List ℕ) → Paged
 as_read z images = record { image = image_in images; changed = replicate (page_count z) false }
 
 module _ {P L : Type 0} (p : page_device.Ghosts P) (l : log_device.Ghosts L) (pages : P) (log : L) where
-  -- Why a restart was refused, and where: the pages could not be read, and the log was left alone; or they were all read and are sound, and then this.
+  -- Why a restart was refused, and where: the pages could not be read, and the log was left alone; or they were all
+  -- read and are sound, and then this.
   abbrev pub Refuses : Refusal → P → L → Type 0
   Refuses e new_pages new_log =
       (pages_read.StopsFor p e pages new_pages × (new_log ≡ log))
-      ⊎ ((z : Sizes) × (images : List (List ℕ)) × ArePages z images × (p.honest new_pages → AreSeen (p.seen pages) images (page_count z)) × (p.faults new_pages ≡ p.faults pages) × LogStops l z (as_read z images) e log new_log)
+      ⊎ ((z : Sizes) × (images : List (List ℕ)) × ArePages z images
+      × (p.honest new_pages → AreSeen (p.seen pages) images (page_count z)) × (p.faults new_pages ≡ p.faults pages)
+      × LogStops l z (as_read z images) e log new_log)
 
-  -- what was checked where it was not: every page as it was read, the log, each record of it and each before-image, and the pages that history was repeated on
+  -- what was checked where it was not: every page as it was read, the log, each record of it and each before-image, and
+  -- the pages that history was repeated on
   pub record WasChecked (z : Sizes) (last : Paged) (records : List Record) (new_pages : P) (new_log : L) : Type 0 where
     pub images : List (List ℕ)
     pub sound : ArePages z images

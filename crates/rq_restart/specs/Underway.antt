@@ -1,4 +1,5 @@
--- A restart that is under way: what a crash at each moment leaves of both devices, whichever of them its next call changes.
+-- A restart that is under way: what a crash at each moment leaves of both devices, whichever of them its next call
+-- changes.
 use Rattle.std.specs.Prelude.{◌≡◌, ◌⊎◌, ℕ, List, Result, Ok, Err}
 use Rattle.rq_model.specs.declared.record.Record.{Record}
 use Rattle.rq_model.specs.Incarnations.{Extends}
@@ -24,12 +25,15 @@ IsSomeStore z images bytes = (log : List Record) × IsStore z log images bytes
 
 -- a store, whose log a crash might have left before, or is what was read with plain records behind
 abbrev pub IsLeftOrGoesOn : {L : Type 0} → log_device.Ghosts L → L → Sizes → List Record → Images → List ℕ → Type 0
-IsLeftOrGoesOn l log z read images bytes = (now : List Record) × IsStore z now images bytes × (l.may_leave log bytes ⊎ Extends read now)
+IsLeftOrGoesOn l log z read images bytes = (now : List Record) × IsStore z now images bytes
+    × (l.may_leave log bytes ⊎ Extends read now)
 
 -- where each pair that a crash might have left before is a store, and this was read of the log, then so says Q
-abbrev pub OfStores : {P L : Type 0} → page_device.Ghosts P → log_device.Ghosts L → P → L → L → (Sizes → List Record → Type 0) → Type 0
+abbrev pub OfStores : {P L : Type 0} → page_device.Ghosts P → log_device.Ghosts L → P → L → L
+    → (Sizes → List Record → Type 0) → Type 0
 OfStores p l pages log new_log Q =
-    l.honest new_log → (z : Sizes) (read : List Record) → AreSpelled read → l.seen log ≡ spelled read → EachPair p l pages log (IsSomeStore z) → Q z read
+    l.honest new_log → (z : Sizes) (read : List Record) → AreSpelled read → l.seen log ≡ spelled read
+    → EachPair p l pages log (IsSomeStore z) → Q z read
 
 -- both devices as a restart leaves them
 abbrev pub pages_left : {P L : Type 0} → Result (OpenStore P L × Report) (Stopped P L) → P

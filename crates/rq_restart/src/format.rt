@@ -18,7 +18,8 @@ use rq_page::page::Page;
 /// # Errors
 /// `DiskWrite` exactly where the device fails: format again.
 pub fn format<P: PageDevice>(pages: &mut P, layout: &Layout) -> Result<(), Refusal>
-    ensures formatted { OnOk result ((p : ℕ) → p < page_count layout.now → IsFormatted layout.now p (P.seen pages.new p)) }
+    ensures formatted { OnOk result ((p : ℕ) → p < page_count layout.now
+        → IsFormatted layout.now p (P.seen pages.new p)) }
     ensures fits { OnOk result (FitsLog layout.now (P.seen pages.new) []) }
     ensures durable { OnOk result (AllFit (P.may_be pages.new) layout.now []) }
     ensures any_moment { SuperblockIsLast P.PageDevice layout.now pages.old pages.new }
@@ -27,7 +28,8 @@ pub fn format<P: PageDevice>(pages: &mut P, layout: &Layout) -> Result<(), Refus
     ensures honest { P.honest pages.new → P.honest pages.old }
     ensures runs { OnOk result (HasRun P.PageDevice pages.old pages.new) }
     ensures cause { OnOk result (P.faults pages.new ≡ P.faults pages.old) }
-    ensures err { IfErr result (λ e. (e ≡ Refusal.DiskWrite) × (P.faults pages.new ≡ (P.faults pages.old + 1) % 2 ^ 64)) }
+    ensures err { IfErr result (λ e. (e ≡ Refusal.DiskWrite)
+        × (P.faults pages.new ≡ (P.faults pages.old + 1) % 2 ^ 64)) }
 {
     let mut page = Page::from_image(&[0; PAGE]);
     for number in 1..layout.pages() {
@@ -50,11 +52,12 @@ fn write_formatted<P: PageDevice>(
     ensures honest { P.honest pages.new → P.honest pages.old }
     ensures runs { OnOk result (HasRun P.PageDevice pages.old pages.new) }
     ensures crash { Written number page.new (P.may_be pages.old) (P.may_be pages.new) }
-    ensures time { Elapses (P.moment pages.old) (P.moment pages.new) (P.left_since pages.old) (P.left_since pages.new) (Leaves
-        (P.may_be pages.new)) }
+    ensures time { Elapses (P.moment pages.old) (P.moment pages.new) (P.left_since pages.old) (P.left_since pages.new)
+        (Leaves (P.may_be pages.new)) }
     ensures written { OnOk result (Holds (P.seen pages.old) number page.new (P.seen pages.new)) }
     ensures cause { OnOk result (P.faults pages.new ≡ P.faults pages.old) }
-    ensures err { IfErr result (λ e. (e ≡ Refusal.DiskWrite) × (P.faults pages.new ≡ (P.faults pages.old + 1) % 2 ^ 64)) }
+    ensures err { IfErr result (λ e. (e ≡ Refusal.DiskWrite)
+        × (P.faults pages.new ≡ (P.faults pages.old + 1) % 2 ^ 64)) }
 {
     layout.format(number, page);
     match pages.write(number, page.image()) {
@@ -68,11 +71,12 @@ fn sync<P: PageDevice>(pages: &mut P) -> Result<(), Refusal>
     ensures honest { P.honest pages.new → P.honest pages.old }
     ensures runs { OnOk result (HasRun P.PageDevice pages.old pages.new) }
     ensures crash { NoMore (P.may_be pages.old) (P.may_be pages.new) }
-    ensures time { Elapses (P.moment pages.old) (P.moment pages.new) (P.left_since pages.old) (P.left_since pages.new) (Leaves
-        (P.may_be pages.new)) }
+    ensures time { Elapses (P.moment pages.old) (P.moment pages.new) (P.left_since pages.old) (P.left_since pages.new)
+        (Leaves (P.may_be pages.new)) }
     ensures durable { OnOk result ((p : ℕ) → Only (P.seen pages.old p) (P.may_be pages.new p)) }
     ensures cause { OnOk result (P.faults pages.new ≡ P.faults pages.old) }
-    ensures err { IfErr result (λ e. (e ≡ Refusal.DiskWrite) × (P.faults pages.new ≡ (P.faults pages.old + 1) % 2 ^ 64)) }
+    ensures err { IfErr result (λ e. (e ≡ Refusal.DiskWrite)
+        × (P.faults pages.new ≡ (P.faults pages.old + 1) % 2 ^ 64)) }
 {
     match pages.sync() {
         Ok(()) => Ok(()),

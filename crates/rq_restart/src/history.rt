@@ -24,7 +24,11 @@ impl Model for History {
 
     ghost Value = { Noted };
 
-    ghost view = { λ h. record { incarnation = h.incarnation; unfinished = h.unfinished.items; working = h.working.items } };
+    ghost view = { λ h. record {
+      incarnation = h.incarnation;
+      unfinished = h.unfinished.items;
+      working = h.working.items;
+    } };
 }
 
 impl History {

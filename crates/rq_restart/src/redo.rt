@@ -24,7 +24,8 @@ use std::alloc::Global;
 /// The first page whose LSN, or a number in whose slots, is greater than the number of records.
 pub(crate) fn miscounted_page<P: PageDevice + Drop>(pages: &Pages<P>, records: u64) -> Option<u32>
     ensures pool { IsPool pages.now.sizes pages.now.images }
-    ensures none { IfNone result ((p : ℕ) → 1 ≤ p → p < page_count pages.now.sizes → IsCounted pages.now.sizes records p (image_in pages.now.images p)) }
+    ensures none { IfNone result ((p : ℕ) → 1 ≤ p → p < page_count pages.now.sizes
+        → IsCounted pages.now.sizes records p (image_in pages.now.images p)) }
     ensures low { IfSome result (λ p. 1 ≤ p) }
     ensures high { IfSome result (λ p. p < page_count pages.now.sizes) }
     ensures some { IfSome result (λ p. IsCounted pages.now.sizes records p (image_in pages.now.images p) → ⊥) }
@@ -65,8 +66,10 @@ pub(crate) fn repeat_history<P: PageDevice + Drop>(
 ) -> Result<History, Refusal>
     ensures ok { IfOk result (λ history. history ≡ noted (reverse records.now)) }
     ensures repeated { OnOk result (Repeats pages.old.sizes (reverse records.now) (paged pages.old) (paged pages.new)) }
-    ensures redone { OnOk result (IsLeft pages.old.sizes (image_in pages.old.images) (reverse records.now) → FitsUpTo pages.old.sizes (image_in pages.new.images) (reverse records.now) (length records.now)) }
-    ensures err { IfErr result (λ e. StopsIn (IsLeft pages.old.sizes (image_in pages.old.images) (reverse records.now)) e) }
+    ensures redone { OnOk result (IsLeft pages.old.sizes (image_in pages.old.images) (reverse records.now)
+        → FitsUpTo pages.old.sizes (image_in pages.new.images) (reverse records.now) (length records.now)) }
+    ensures err { IfErr result (λ e. StopsIn (IsLeft pages.old.sizes (image_in pages.old.images)
+        (reverse records.now)) e) }
     ensures stops { IfErr result (λ e. StopsAt pages.old.sizes (reverse records.now) (paged pages.old) e) }
     ensures sizes { pages.new.sizes ≡ pages.old.sizes }
     ensures device { pages.new.device ≡ pages.old.device }
@@ -105,7 +108,8 @@ pub(crate) fn first_fault<P: PageDevice + Drop>(
 
 // Makes what a record writes, where its page is older. False where the record doesn't fit the store.
 fn repeat<P: PageDevice + Drop>(pages: &mut Pages<P>, lsn: Lsn, record: &Record) -> bool
-    ensures redone { IsTrue result → Redoes (told_by «record».now) lsn (image_in pages.old.images) (image_in pages.new.images) }
+    ensures redone { IsTrue result → Redoes (told_by «record».now) lsn (image_in pages.old.images)
+        (image_in pages.new.images) }
     ensures marked { IsTrue result → Marks (told_by «record».now) lsn (paged pages.old) pages.new.changed }
     ensures checked { IsTrue result → MayRedo pages.old.sizes (image_in pages.old.images) lsn «record».now }
     ensures refused { result ≡ false → MayRedo pages.old.sizes (image_in pages.old.images) lsn «record».now → ⊥ }
@@ -155,7 +159,8 @@ fn is_over<P: PageDevice + Drop>(
     requires page { page < page_count pages.now.sizes }
     requires low { 1 ≤ slot }
     requires high { slot ≤ 15 }
-    ensures { IsTrue result ↔ (lsn_of (image_in pages.now.images page) < lsn → slot_of slot (image_in pages.now.images page) ≡ before.now) }
+    ensures { IsTrue result ↔ (lsn_of (image_in pages.now.images page) < lsn
+        → slot_of slot (image_in pages.now.images page) ≡ before.now) }
 {
     let old = pages.page(page).unwrap();
     old.lsn() >= lsn || old.slot(slot) == before
@@ -170,8 +175,10 @@ fn redo<P: PageDevice + Drop>(
     after: &Slot,
 ) -> bool
     requires { IsSlotOf pages.old.sizes page slot after.now }
-    ensures redone { IsRedone (record { page = page; slot = slot; after = after.now }) lsn (image_in pages.old.images) (image_in pages.new.images) }
-    ensures marked { IsMarked (record { page = page; slot = slot; after = after.now }) lsn (paged pages.old) pages.new.changed }
+    ensures redone { IsRedone (record { page = page; slot = slot; after = after.now }) lsn (image_in pages.old.images)
+        (image_in pages.new.images) }
+    ensures marked { IsMarked (record { page = page; slot = slot; after = after.now }) lsn
+        (paged pages.old) pages.new.changed }
     ensures sizes { pages.new.sizes ≡ pages.old.sizes }
     ensures device { pages.new.device ≡ pages.old.device }
     ensures made { IsTrue result }

@@ -32,7 +32,7 @@ use rq_log::{Log, Scan};
 use rq_model::record::Record;
 use rq_model::refusal::{Damage, Refusal};
 use rq_pool::Pages;
-use rq_record::{fits, spelled_len};
+use rq_record::{shows_fits, spelled_len};
 use std::alloc::Global;
 
 /// What a restart found and did.
@@ -79,15 +79,19 @@ pub fn restart<P: PageDevice + Drop, L: LogDevice + Drop>(
     pages: P,
     log: L,
 ) -> Result<(Engine<P, L>, Report), Stopped<P, L>>
-    ensures report { IfOk result (λ o. (older : List Record) → IsReadAs L.LogDevice log o.0.log older → Reports older o.1.incarnation o.1.records o.1.unfinished o.1.lost) }
+    ensures report { IfOk result (λ o. (older : List Record) → IsReadAs L.LogDevice log o.0.log older
+        → Reports older o.1.incarnation o.1.records o.1.unfinished o.1.lost) }
     ensures sizes { IfOk result (λ o. P.honest o.0.pages → IsSuperblock o.0.state.sizes (P.seen pages 0)) }
-    ensures value { IfOk result (λ o. (older : List Record) → IsReadAs L.LogDevice log o.0.log older → o.0.state ≡ opened o.0.state.sizes o.0.state.images older) }
-    ensures sound { IfOk result (λ o. (older : List Record) → IsReadAs L.LogDevice log o.0.log older → IsLeftOn P.PageDevice o.0.state.sizes pages o.0.pages older → IsSound o.0.state) }
+    ensures value { IfOk result (λ o. (older : List Record) → IsReadAs L.LogDevice log o.0.log older
+        → o.0.state ≡ opened o.0.state.sizes o.0.state.images older) }
+    ensures sound { IfOk result (λ o. (older : List Record) → IsReadAs L.LogDevice log o.0.log older
+        → IsLeftOn P.PageDevice o.0.state.sizes pages o.0.pages older → IsSound o.0.state) }
     ensures entry { IfOk result (λ o. (older : List Record) → IsReadAs L.LogDevice log o.0.log older →
         IsLeftOn P.PageDevice o.0.state.sizes pages o.0.pages older → (ledger : Ledger) →
         ledger.committed ≡ committed_of older → ledger_of o.0.state ≡ after (Restarted o.1.incarnation o.1.records)
         ledger) }
-    ensures committed { IfOk result (λ o. (older : List Record) → IsReadAs L.LogDevice log o.0.log older → (ledger_of o.0.state).committed ≡ committed_of older) }
+    ensures committed { IfOk result (λ o. (older : List Record) → IsReadAs L.LogDevice log o.0.log older
+        → (ledger_of o.0.state).committed ≡ committed_of older) }
     ensures reads { IfOk result (λ o. L.honest o.0.log → L.seen o.0.log ≡ spelled o.0.state.records) }
     ensures durable { IfOk result (λ o. L.honest o.0.log → Only (spelled o.0.state.records) (L.may_leave o.0.log)) }
     ensures pages { OnlyRead P.PageDevice pages (pages_left result) }
@@ -98,13 +102,17 @@ pub fn restart<P: PageDevice + Drop, L: LogDevice + Drop>(
     ensures crash { OfStores P.PageDevice L.LogDevice pages log (log_left result) (λ z read.
         EachPair P.PageDevice L.LogDevice (pages_left result) (log_left result) (IsLeftOrGoesOn L.LogDevice log z
         read)) }
-    ensures checked { IfOk result (λ o. WasChecked P.PageDevice L.LogDevice pages log o.0.state.sizes (paged (pooled o.0))
-        o.0.state.records o.0.pages o.0.log) }
+    ensures checked { IfOk result (λ o. WasChecked P.PageDevice L.LogDevice pages log o.0.state.sizes
+        (paged (pooled o.0)) o.0.state.records o.0.pages o.0.log) }
     ensures refused { IfErr result (λ stopped. Refuses P.PageDevice L.LogDevice pages log stopped.refusal stopped.pages
         stopped.log) }
-    ensures fit { IfOk result (λ o. (older : List Record) → IsReadAs L.LogDevice log o.0.log older → AllFit (P.may_be pages) o.0.state.sizes older → AreFit P.PageDevice o.0) }
+    ensures fit { IfOk result (λ o. (older : List Record) → IsReadAs L.LogDevice log o.0.log older
+        → AllFit (P.may_be pages) o.0.state.sizes older → AreFit P.PageDevice o.0) }
     ensures cause { IfOk result (λ o. (P.faults o.0.pages ≡ P.faults pages) × (L.faults o.0.log ≡ L.faults log)) }
-    ensures err { IfErr result (λ stopped. (z : Sizes) → IsSuperblock z (P.seen pages 0) → (older : List Record) → IsReadAs L.LogDevice log stopped.log older → Stops (IsLeftOn P.PageDevice z pages stopped.pages older) older stopped.refusal (P.faults pages) (P.faults stopped.pages) (L.faults log) (L.faults stopped.log)) }
+    ensures err { IfErr result (λ stopped. (z : Sizes) → IsSuperblock z (P.seen pages 0) → (older : List Record)
+        → IsReadAs L.LogDevice log stopped.log older → Stops
+        (IsLeftOn P.PageDevice z pages stopped.pages older) older stopped.refusal (P.faults pages)
+        (P.faults stopped.pages) (L.faults log) (L.faults stopped.log)) }
 {
     reopen(alloc, pages, log)
 }
@@ -115,24 +123,32 @@ fn reopen<P: PageDevice + Drop, L: LogDevice + Drop>(
     pages: P,
     log: L,
 ) -> Result<(Engine<P, L>, Report), Stopped<P, L>>
-    ensures report { IfOk result (λ o. (older : List Record) → IsReadAs L.LogDevice log o.0.log older → Reports older o.1.incarnation o.1.records o.1.unfinished o.1.lost) }
+    ensures report { IfOk result (λ o. (older : List Record) → IsReadAs L.LogDevice log o.0.log older
+        → Reports older o.1.incarnation o.1.records o.1.unfinished o.1.lost) }
     ensures sizes { IfOk result (λ o. P.honest o.0.pages → IsSuperblock o.0.state.sizes (P.seen pages 0)) }
-    ensures value { IfOk result (λ o. (older : List Record) → IsReadAs L.LogDevice log o.0.log older → o.0.state ≡ opened o.0.state.sizes o.0.state.images older) }
-    ensures sound { IfOk result (λ o. (older : List Record) → IsReadAs L.LogDevice log o.0.log older → IsLeftOn P.PageDevice o.0.state.sizes pages o.0.pages older → IsSound o.0.state) }
-    ensures committed { IfOk result (λ o. (older : List Record) → IsReadAs L.LogDevice log o.0.log older → (ledger_of o.0.state).committed ≡ committed_of older) }
+    ensures value { IfOk result (λ o. (older : List Record) → IsReadAs L.LogDevice log o.0.log older
+        → o.0.state ≡ opened o.0.state.sizes o.0.state.images older) }
+    ensures sound { IfOk result (λ o. (older : List Record) → IsReadAs L.LogDevice log o.0.log older
+        → IsLeftOn P.PageDevice o.0.state.sizes pages o.0.pages older → IsSound o.0.state) }
+    ensures committed { IfOk result (λ o. (older : List Record) → IsReadAs L.LogDevice log o.0.log older
+        → (ledger_of o.0.state).committed ≡ committed_of older) }
     ensures reads { IfOk result (λ o. L.honest o.0.log → L.seen o.0.log ≡ spelled o.0.state.records) }
     ensures durable { IfOk result (λ o. L.honest o.0.log → Only (spelled o.0.state.records) (L.may_leave o.0.log)) }
     ensures pages { IfOk result (λ o. OnlyRead P.PageDevice pages o.0.pages) }
     ensures pages_back { IfErr result (λ stopped. OnlyRead P.PageDevice pages stopped.pages) }
     ensures any_moment { IfOk result (λ o. BeginsAtMost L.LogDevice log o.0.log) }
     ensures any_moment_back { IfErr result (λ stopped. BeginsAtMost L.LogDevice log stopped.log) }
-    ensures checked { IfOk result (λ o. WasChecked P.PageDevice L.LogDevice pages log o.0.state.sizes (paged (pooled o.0))
-        o.0.state.records o.0.pages o.0.log) }
+    ensures checked { IfOk result (λ o. WasChecked P.PageDevice L.LogDevice pages log o.0.state.sizes
+        (paged (pooled o.0)) o.0.state.records o.0.pages o.0.log) }
     ensures refused { IfErr result (λ stopped. Refuses P.PageDevice L.LogDevice pages log stopped.refusal stopped.pages
         stopped.log) }
-    ensures fit { IfOk result (λ o. (older : List Record) → IsReadAs L.LogDevice log o.0.log older → AllFit (P.may_be pages) o.0.state.sizes older → AreFit P.PageDevice o.0) }
+    ensures fit { IfOk result (λ o. (older : List Record) → IsReadAs L.LogDevice log o.0.log older
+        → AllFit (P.may_be pages) o.0.state.sizes older → AreFit P.PageDevice o.0) }
     ensures cause { IfOk result (λ o. (P.faults o.0.pages ≡ P.faults pages) × (L.faults o.0.log ≡ L.faults log)) }
-    ensures err { IfErr result (λ stopped. (z : Sizes) → IsSuperblock z (P.seen pages 0) → (older : List Record) → IsReadAs L.LogDevice log stopped.log older → Stops (IsLeftOn P.PageDevice z pages stopped.pages older) older stopped.refusal (P.faults pages) (P.faults stopped.pages) (L.faults log) (L.faults stopped.log)) }
+    ensures err { IfErr result (λ stopped. (z : Sizes) → IsSuperblock z (P.seen pages 0) → (older : List Record)
+        → IsReadAs L.LogDevice log stopped.log older → Stops
+        (IsLeftOn P.PageDevice z pages stopped.pages older) older stopped.refusal (P.faults pages)
+        (P.faults stopped.pages) (L.faults log) (L.faults stopped.log)) }
 {
     let Opened {
         pages,
@@ -158,24 +174,35 @@ fn open<P: PageDevice + Drop, L: LogDevice + Drop>(
     pages: P,
     log: L,
 ) -> Result<Opened<P, L>, Stopped<P, L>>
-    ensures begun { IfOk result (λ opened. (older : List Record) → IsReadAs L.LogDevice log opened.log.device older → IsBegun older opened.log) }
-    ensures report { IfOk result (λ opened. (older : List Record) → IsReadAs L.LogDevice log opened.log.device older → Reports older opened.report.incarnation opened.report.records opened.report.unfinished opened.report.lost) }
-    ensures sizes { IfOk result (λ opened. P.honest opened.pages.device → IsSuperblock opened.pages.sizes (P.seen pages 0)) }
-    ensures cells { IfOk result (λ opened. opened.cells ≡ count_used opened.pages.sizes (slots_in opened.pages.sizes opened.pages.images)) }
-    ensures waiting { IfOk result (λ opened. AreWaiting opened.pages.sizes opened.pages.images (length opened.log.records) opened.waiting) }
-    ensures sound { IfOk result (λ o. (older : List Record) → IsReadAs L.LogDevice log o.log.device older → IsLeftOn P.PageDevice o.pages.sizes pages o.pages.device older → IsSound (opened o.pages.sizes o.pages.images older)) }
+    ensures begun { IfOk result (λ opened. (older : List Record) → IsReadAs L.LogDevice log opened.log.device older
+        → IsBegun older opened.log) }
+    ensures report { IfOk result (λ opened. (older : List Record) → IsReadAs L.LogDevice log opened.log.device older
+        → Reports older opened.report.incarnation opened.report.records opened.report.unfinished opened.report.lost) }
+    ensures sizes { IfOk result (λ opened. P.honest opened.pages.device
+        → IsSuperblock opened.pages.sizes (P.seen pages 0)) }
+    ensures cells { IfOk result (λ opened. opened.cells
+        ≡ count_used opened.pages.sizes (slots_in opened.pages.sizes opened.pages.images)) }
+    ensures waiting { IfOk result (λ opened. AreWaiting opened.pages.sizes opened.pages.images
+        (length opened.log.records) opened.waiting) }
+    ensures sound { IfOk result (λ o. (older : List Record) → IsReadAs L.LogDevice log o.log.device older
+        → IsLeftOn P.PageDevice o.pages.sizes pages o.pages.device older
+        → IsSound (opened o.pages.sizes o.pages.images older)) }
     ensures ready { IfOk result (λ o. IsReady L.LogDevice o.report.incarnation o.log) }
     ensures pages { IfOk result (λ o. OnlyRead P.PageDevice pages o.pages.device) }
     ensures pages_back { IfErr result (λ stopped. OnlyRead P.PageDevice pages stopped.pages) }
     ensures any_moment { IfOk result (λ o. BeginsAtMost L.LogDevice log o.log.device) }
     ensures any_moment_back { IfErr result (λ stopped. BeginsAtMost L.LogDevice log stopped.log) }
-    ensures checked { IfOk result (λ o. WasChecked P.PageDevice L.LogDevice pages log o.pages.sizes (paged o.pages) o.log.records
-        o.pages.device o.log.device) }
+    ensures checked { IfOk result (λ o. WasChecked P.PageDevice L.LogDevice pages log o.pages.sizes
+        (paged o.pages) o.log.records o.pages.device o.log.device) }
     ensures refused { IfErr result (λ stopped. Refuses P.PageDevice L.LogDevice pages log stopped.refusal stopped.pages
         stopped.log) }
     ensures room { IfOk result (λ o. o.log.reserved ≡ 0) }
-    ensures cause { IfOk result (λ o. (P.faults o.pages.device ≡ P.faults pages) × (L.faults o.log.device ≡ L.faults log)) }
-    ensures err { IfErr result (λ stopped. (z : Sizes) → IsSuperblock z (P.seen pages 0) → (older : List Record) → IsReadAs L.LogDevice log stopped.log older → Stops (IsLeftOn P.PageDevice z pages stopped.pages older) older stopped.refusal (P.faults pages) (P.faults stopped.pages) (L.faults log) (L.faults stopped.log)) }
+    ensures cause { IfOk result (λ o. (P.faults o.pages.device ≡ P.faults pages)
+        × (L.faults o.log.device ≡ L.faults log)) }
+    ensures err { IfErr result (λ stopped. (z : Sizes) → IsSuperblock z (P.seen pages 0) → (older : List Record)
+        → IsReadAs L.LogDevice log stopped.log older → Stops
+        (IsLeftOn P.PageDevice z pages stopped.pages older) older stopped.refusal (P.faults pages)
+        (P.faults stopped.pages) (L.faults log) (L.faults stopped.log)) }
 {
     match Pages::load(alloc, pages) {
         Ok(pages) => restart_log(alloc, pages, log),
@@ -196,12 +223,17 @@ fn restart_log<P: PageDevice + Drop, L: LogDevice + Drop>(
     mut pages: Pages<P>,
     log: L,
 ) -> Result<Opened<P, L>, Stopped<P, L>>
-    ensures begun { IfOk result (λ opened. (older : List Record) → IsReadAs L.LogDevice log opened.log.device older → IsBegun older opened.log) }
-    ensures report { IfOk result (λ opened. (older : List Record) → IsReadAs L.LogDevice log opened.log.device older → Reports older opened.report.incarnation opened.report.records opened.report.unfinished opened.report.lost) }
+    ensures begun { IfOk result (λ opened. (older : List Record) → IsReadAs L.LogDevice log opened.log.device older
+        → IsBegun older opened.log) }
+    ensures report { IfOk result (λ opened. (older : List Record) → IsReadAs L.LogDevice log opened.log.device older
+        → Reports older opened.report.incarnation opened.report.records opened.report.unfinished opened.report.lost) }
     ensures sizes { IfOk result (λ opened. opened.pages.sizes ≡ pages.sizes) }
-    ensures cells { IfOk result (λ opened. opened.cells ≡ count_used opened.pages.sizes (slots_in opened.pages.sizes opened.pages.images)) }
-    ensures waiting { IfOk result (λ opened. AreWaiting opened.pages.sizes opened.pages.images (length opened.log.records) opened.waiting) }
-    ensures sound { IfOk result (λ o. (older : List Record) → IsReadAs L.LogDevice log o.log.device older → IsLeft pages.sizes (image_in pages.images) older → IsSound (opened pages.sizes o.pages.images older)) }
+    ensures cells { IfOk result (λ opened. opened.cells
+        ≡ count_used opened.pages.sizes (slots_in opened.pages.sizes opened.pages.images)) }
+    ensures waiting { IfOk result (λ opened. AreWaiting opened.pages.sizes opened.pages.images
+        (length opened.log.records) opened.waiting) }
+    ensures sound { IfOk result (λ o. (older : List Record) → IsReadAs L.LogDevice log o.log.device older
+        → IsLeft pages.sizes (image_in pages.images) older → IsSound (opened pages.sizes o.pages.images older)) }
     ensures ready { IfOk result (λ o. IsReady L.LogDevice o.report.incarnation o.log) }
     ensures pages { IfOk result (λ o. o.pages.device ≡ pages.device) }
     ensures pages_back { IfErr result (λ stopped. stopped.pages ≡ pages.device) }
@@ -210,10 +242,13 @@ fn restart_log<P: PageDevice + Drop, L: LogDevice + Drop>(
     ensures checked { IfOk result (λ o. (older : List Record) × AreSpelled older × (L.honest o.log.device →
         L.seen log ≡ spelled older) × IsGoneThrough pages.sizes older (paged pages) (paged o.pages) ×
         IsEnded older × (o.log.records ≡ next_restart older ∷ older) × (length older < 2 ^ 50)) }
-    ensures refused { IfErr result (λ stopped. LogStops L.LogDevice pages.sizes (paged pages) stopped.refusal log stopped.log) }
+    ensures refused { IfErr result (λ stopped. LogStops L.LogDevice pages.sizes
+        (paged pages) stopped.refusal log stopped.log) }
     ensures room { IfOk result (λ o. o.log.reserved ≡ 0) }
     ensures cause { IfOk result (λ o. L.faults o.log.device ≡ L.faults log) }
-    ensures err { IfErr result (λ stopped. (older : List Record) → IsReadAs L.LogDevice log stopped.log older → StaysShut (IsLeft pages.sizes (image_in pages.images) older) older stopped.refusal (L.faults log) (L.faults stopped.log)) }
+    ensures err { IfErr result (λ stopped. (older : List Record) → IsReadAs L.LogDevice log stopped.log older
+        → StaysShut (IsLeft pages.sizes (image_in pages.images) older) older stopped.refusal (L.faults log)
+        (L.faults stopped.log)) }
 {
     let Scan { records, log } = Log::scan(alloc, log);
     match log {
@@ -258,22 +293,29 @@ fn go_on<P: PageDevice + Drop, L: LogDevice + Drop>(
     requires running { log.old.failed ≡ false }
     ensures begun { OnOk result (IsBegun log.old.records log.new) }
     ensures sizes { pages.new.sizes ≡ pages.old.sizes }
-    ensures report { IfOk result (λ begun. Reports log.old.records begun.1.incarnation begun.1.records begun.1.unfinished begun.1.lost) }
-    ensures sound { OnOk result (IsLeft pages.old.sizes (image_in pages.old.images) log.old.records → IsSound (opened pages.old.sizes pages.new.images log.old.records)) }
-    ensures waiting { IfOk result (λ begun. AreWaiting pages.new.sizes pages.new.images (length log.new.records) begun.0) }
+    ensures report { IfOk result (λ begun. Reports log.old.records begun.1.incarnation begun.1.records
+        begun.1.unfinished begun.1.lost) }
+    ensures sound { OnOk result (IsLeft pages.old.sizes (image_in pages.old.images) log.old.records
+        → IsSound (opened pages.old.sizes pages.new.images log.old.records)) }
+    ensures waiting { IfOk result (λ begun. AreWaiting pages.new.sizes pages.new.images
+        (length log.new.records) begun.0) }
     ensures ready { IfOk result (λ begun. IsReady L.LogDevice begun.1.incarnation log.new) }
     ensures pages { pages.new.device ≡ pages.old.device }
     ensures honest { L.honest log.new.device → L.honest log.old.device }
-    ensures any_moment { L.honest log.new.device → AreSpelled log.old.records → L.seen log.old.device ≡ spelled log.old.records →
-        LeavesOnly L.LogDevice log.old.device log.new.device (WasLeftOrIs L.LogDevice log.old.device (IsEnded
-        log.old.records × IsRecord (next_restart log.old.records)) (next_restart log.old.records ∷ log.old.records)) }
+    ensures any_moment { L.honest log.new.device → AreSpelled log.old.records
+        → L.seen log.old.device ≡ spelled log.old.records
+        → LeavesOnly L.LogDevice log.old.device log.new.device
+        (WasLeftOrIs L.LogDevice log.old.device (IsEnded log.old.records × IsRecord (next_restart log.old.records))
+        (next_restart log.old.records ∷ log.old.records)) }
     ensures checked { OnOk result (IsGoneThrough pages.old.sizes log.old.records (paged pages.old) (paged pages.new) ×
         IsEnded log.old.records) }
-    ensures shut { IfErr result (λ e. ShutFor pages.old.sizes log.old.records (paged pages.old) e (L.faults log.old.device)
-        (L.faults log.new.device) (log.new.device ≡ log.old.device)) }
+    ensures shut { IfErr result (λ e. ShutFor pages.old.sizes log.old.records (paged pages.old) e
+        (L.faults log.old.device) (L.faults log.new.device) (log.new.device ≡ log.old.device)) }
     ensures room { OnOk result (log.new.reserved ≡ log.old.reserved) }
     ensures cause { OnOk result (L.faults log.new.device ≡ L.faults log.old.device) }
-    ensures err { IfErr result (λ e. StaysShut (IsLeft pages.old.sizes (image_in pages.old.images) log.old.records) log.old.records e (L.faults log.old.device) (L.faults log.new.device)) }
+    ensures err { IfErr result (λ e. StaysShut (IsLeft pages.old.sizes
+        (image_in pages.old.images) log.old.records) log.old.records e (L.faults log.old.device)
+        (L.faults log.new.device)) }
 {
     let as_read = miscounted_page(pages, records.len() as u64);
     let history = repeat_history(alloc, pages, records)?;
@@ -297,13 +339,16 @@ fn begin_incarnation<L: LogDevice + Drop>(log: &mut Log<L>, last: u64) -> Result
     requires { log.old.failed ≡ false }
     ensures records { OnOk result (log.new.records ≡ records.Restart (last + 1) ∷ log.old.records) }
     ensures forced { OnOk result ((log.new.forced ≡ length log.new.records) × (log.new.failed ≡ false)) }
-    ensures report { IfOk result (λ report. (report.incarnation ≡ last + 1) × (report.records ≡ length log.new.records) × (report.unfinished ≡ 0) × (report.lost ≡ 0)) }
+    ensures report { IfOk result (λ report. (report.incarnation ≡ last + 1) × (report.records ≡ length log.new.records)
+        × (report.unfinished ≡ 0) × (report.lost ≡ 0)) }
     ensures ready { IfOk result (λ report. IsReady L.LogDevice report.incarnation log.new) }
     ensures cause { OnOk result (L.faults log.new.device ≡ L.faults log.old.device) }
     ensures honest { L.honest log.new.device → L.honest log.old.device }
-    ensures any_moment { L.honest log.new.device → AreSpelled log.old.records → L.seen log.old.device ≡ spelled log.old.records →
-        LeavesOnly L.LogDevice log.old.device log.new.device (WasLeftOrIs L.LogDevice log.old.device (IsRecord
-        (records.Restart (last + 1))) (records.Restart (last + 1) ∷ log.old.records)) }
+    ensures any_moment { L.honest log.new.device → AreSpelled log.old.records
+        → L.seen log.old.device ≡ spelled log.old.records
+        → LeavesOnly L.LogDevice log.old.device log.new.device
+        (WasLeftOrIs L.LogDevice log.old.device (IsRecord (records.Restart (last + 1)))
+        (records.Restart (last + 1) ∷ log.old.records)) }
     ensures room { OnOk result (log.new.reserved ≡ log.old.reserved) }
     ensures err { IfErr result (λ e. BeginsNot e (length log.old.records) last (L.faults log.old.device) (L.faults
         log.new.device) (log.new.device ≡ log.old.device)) }
@@ -315,7 +360,7 @@ fn begin_incarnation<L: LogDevice + Drop>(log: &mut Log<L>, last: u64) -> Result
         return Err(Refusal::LogFull);
     };
     let restart = Record::Restart { incarnation };
-    fits(&restart);
+    shows_fits(&restart);
     log.reserve(spelled_len(&restart))?;
     log.append(&restart);
     let records = log.force()?;

@@ -68,7 +68,10 @@ impl Session {
     /// call of its kind has ends the session.
     pub fn reply(&mut self, told: &Told) -> Action
         ensures action { result ≡ (after_told self.old.lost self.old.stage told.now).action }
-        ensures stage { self.new ≡ record self.old { stage = (after_told self.old.lost self.old.stage told.now).stage } }
+        ensures stage { self.new ≡ record self.old {
+          stage =
+              (after_told self.old.lost self.old.stage told.now).stage;
+        } }
     {
         let next = turn(self.lost, self.stage, told);
         self.stage = next.stage;

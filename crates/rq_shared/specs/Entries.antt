@@ -39,20 +39,24 @@ answer_of n = (n.call, n.gave)
 abbrev pub answers : List Noted → List (Call × Gave)
 answers ns = reverse (map answer_of ns)
 
--- The engine is of the size of the base, and where its devices have been honest and the base goes back to a legal log, so does the engine, and the audit's calls
--- with what they gave lead from the one's ledger to the other's.
-pub record Follows {P L : Type 0} (p : page_device.Ghosts P) (l : log_device.Ghosts L) (base : OpenStore P L) (audit : List Noted) (engine : OpenStore P L) : Type 0 where
+-- The engine is of the size of the base, and where its devices have been honest and the base goes back to a legal log,
+-- so does the engine, and the audit's calls with what they gave lead from the one's ledger to the other's.
+pub record Follows {P L : Type 0} (p : page_device.Ghosts P) (l : log_device.Ghosts L) (base : OpenStore P L)
+    (audit : List Noted) (engine : OpenStore P L) : Type 0 where
   pub sizes : engine.state.sizes ≡ base.state.sizes
-  pub replays : AreHonest p l engine → IsSound base.state → IsSound engine.state × Replays (size_of base.state.sizes) (ledger_of base.state) (answers audit) (ledger_of engine.state)
+  pub replays : AreHonest p l engine → IsSound base.state → IsSound engine.state
+      × Replays (size_of base.state.sizes) (ledger_of base.state) (answers audit) (ledger_of engine.state)
 
--- an engine, the entries since its audit was last taken, and the engine as it was then, with the number of entries taken before
+-- an engine, the entries since its audit was last taken, and the engine as it was then, with the number of entries
+-- taken before
 pub record Audited (P L : Type 0) : Type 0 where
   pub engine : OpenStore P L
   pub audit : List Noted
   pub base : OpenStore P L
   pub taken : ℕ
 
--- an audit that was taken: the engine as it was when one was taken before, how many entries were taken until then, and the entries since
+-- an audit that was taken: the engine as it was when one was taken before, how many entries were taken until then, and
+-- the entries since
 pub record TakenAudit (P L : Type 0) : Type 0 where
   pub base : OpenStore P L
   pub before : ℕ

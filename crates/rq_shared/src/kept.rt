@@ -145,8 +145,10 @@ impl<P: PageDevice + Drop, L: LogDevice + Drop> Kept<P, L> {
     pub fn step(&mut self, pass: u64, event: Event) -> Stamped
         ensures pass { result.pass ≡ pass }
         ensures event { result.event ≡ event }
-        ensures entry { result.reply ≢ Reply.Refused Refusal.NoMemory → OneMore self.old.audit self.new.audit (noted pass event result.reply) }
-        ensures applied { result.reply ≢ Reply.Refused Refusal.NoMemory → Applied P.PageDevice L.LogDevice self.old.engine event result.reply self.new.engine }
+        ensures entry { result.reply ≢ Reply.Refused Refusal.NoMemory
+            → OneMore self.old.audit self.new.audit (noted pass event result.reply) }
+        ensures applied { result.reply ≢ Reply.Refused Refusal.NoMemory
+            → Applied P.PageDevice L.LogDevice self.old.engine event result.reply self.new.engine }
         ensures no_change { result.reply ≡ Reply.Refused Refusal.NoMemory → self.new ≡ self.old }
         ensures forced { (lsn : ℕ) → result.reply ≡ Reply.Forced lsn → self.new.engine.state.forced ≡ lsn }
         ensures base { (self.new.base ≡ self.old.base) × (self.new.taken ≡ self.old.taken) }
@@ -192,7 +194,8 @@ impl<P: PageDevice + Drop, L: LogDevice + Drop> Kept<P, L> {
         }
     }
 
-    /// The entries since the audit was last taken, in order: they replay from the engine as it was then to the engine as it is.
+    /// The entries since the audit was last taken, in order: they replay from the engine as it was then to the engine
+    /// as it is.
     pub fn entries(&self) -> &[AuditEntry]
         ensures entries { entries result.now ≡ self.now.audit }
         ensures replays { Follows P.PageDevice L.LogDevice self.now.base self.now.audit self.now.engine }
@@ -222,8 +225,8 @@ impl<P: PageDevice + Drop, L: LogDevice + Drop> Kept<P, L> {
     }
 }
 
-/// What `Kept::take` answers. Contracts see the engine as it was when the audit was taken before, how many entries were taken
-/// until then, and the entries since.
+/// What `Kept::take` answers. Contracts see the engine as it was when the audit was taken before, how many entries were
+/// taken until then, and the entries since.
 #[derive(Drop)]
 pub struct Taken<P: PageDevice, L: LogDevice> {
     base: Snapshot<Engine<P, L>>,

@@ -39,7 +39,8 @@ impl<G: Ledger> Pass<G> {
     }
 }
 
-/// What lies under the lock: the kept engine, and how many calls left an entry, those whose entries were taken included.
+/// What lies under the lock: the kept engine, and how many calls left an entry, those whose entries were taken
+/// included.
 #[derive(Drop)]
 pub(crate) struct Room<P: PageDevice, L: LogDevice, G: Ledger> {
     kept: Kept<P, L>,
@@ -69,8 +70,10 @@ impl<P: PageDevice + Drop, L: LogDevice + Drop, G: Ledger> Room<P, L, G> {
     /// Makes the call of this pass, and counts it where it left an entry.
     pub(crate) fn call(&mut self, pass: &mut Pass<G>, event: Event) -> Stamped
         ensures called { IsCalled pass.old event result pass.new }
-        ensures entry { result.reply ≢ Reply.Refused Refusal.NoMemory → OneMore self.old.kept.audit self.new.kept.audit (noted pass.old.number event result.reply) }
-        ensures applied { result.reply ≢ Reply.Refused Refusal.NoMemory → Applied P.PageDevice L.LogDevice self.old.kept.engine event result.reply self.new.kept.engine }
+        ensures entry { result.reply ≢ Reply.Refused Refusal.NoMemory
+            → OneMore self.old.kept.audit self.new.kept.audit (noted pass.old.number event result.reply) }
+        ensures applied { result.reply ≢ Reply.Refused Refusal.NoMemory
+            → Applied P.PageDevice L.LogDevice self.old.kept.engine event result.reply self.new.kept.engine }
         ensures no_change { result.reply ≡ Reply.Refused Refusal.NoMemory → self.new.kept ≡ self.old.kept }
         ensures forced { (lsn : ℕ) → result.reply ≡ Reply.Forced lsn → self.new.kept.engine.state.forced ≡ lsn }
     {

@@ -17,8 +17,8 @@ use std::sync::{Mutex, Wait};
 /// The most passes of one engine.
 pub const PASS_LIMIT: u64 = 1024;
 
-/// A kept engine that threads call, each under a pass. Contracts see how many passes were given; the shares that were not
-/// given out stand beside the lock.
+/// A kept engine that threads call, each under a pass. Contracts see how many passes were given; the shares that were
+/// not given out stand beside the lock.
 #[derive(Drop)]
 pub struct Shared<P: PageDevice, L: LogDevice, G: Ledger> {
     front: Front<P, L, G>,
@@ -84,8 +84,8 @@ impl<P: PageDevice + Drop, L: LogDevice + Drop, G: Ledger> Shared<P, L, G> {
         &self.front
     }
 
-    /// Makes the call that the event stands for, once the lock is free, and answers its stamp. The pass counts it, but where
-    /// it is answered `NoMemory`.
+    /// Makes the call that the event stands for, once the lock is free, and answers its stamp. The pass counts it, but
+    /// where it is answered `NoMemory`.
     pub fn call<R: Wait>(&self, rt: &R, pass: &mut Pass<G>, event: Event) -> Stamped
         ensures { IsCalled pass.old event result pass.new }
     {
@@ -106,16 +106,16 @@ impl<P: PageDevice + Drop, L: LogDevice + Drop, G: Ledger> Shared<P, L, G> {
         self.front.force(rt, pass, mark, seat)
     }
 
-    /// The entries since the audit was last taken, once the lock is free, as `Kept::take` answers them: they replay from
-    /// the engine as it was then. Then nothing is in the audit.
+    /// The entries since the audit was last taken, once the lock is free, as `Kept::take` answers them: they replay
+    /// from the engine as it was then. Then nothing is in the audit.
     pub fn take_audit<R: Wait>(&self, rt: &R) -> Taken<P, L>
         ensures { IsTaken P.PageDevice L.LogDevice result }
     {
         self.front.take_audit(rt)
     }
 
-    /// Ends the sharing, once all passes are back: the audit, with the entries that were taken, has as many entries as the
-    /// passes counted calls.
+    /// Ends the sharing, once all passes are back: the audit, with the entries that were taken, has as many entries as
+    /// the passes counted calls.
     pub fn close(self, passes: Vec<Pass<G>>) -> Closed<P, L>
         requires parts { G.parts ≡ 1024 }
         requires all { length passes.items ≡ self }
@@ -136,8 +136,8 @@ impl<P: PageDevice + Drop, L: LogDevice + Drop, G: Ledger> Shared<P, L, G> {
 }
 
 impl<P: PageDevice + Drop, L: LogDevice + Drop, G: Ledger> Front<P, L, G> {
-    /// Makes the call that the event stands for, once the lock is free, and answers its stamp. The pass counts it, but where
-    /// it is answered `NoMemory`.
+    /// Makes the call that the event stands for, once the lock is free, and answers its stamp. The pass counts it, but
+    /// where it is answered `NoMemory`.
     pub fn call<R: Wait>(&self, rt: &R, pass: &mut Pass<G>, event: Event) -> Stamped
         ensures { IsCalled pass.old event result pass.new }
     {
@@ -158,8 +158,8 @@ impl<P: PageDevice + Drop, L: LogDevice + Drop, G: Ledger> Front<P, L, G> {
         self.room.lock(rt).force(pass, mark, seat)
     }
 
-    /// The entries since the audit was last taken, once the lock is free, as `Kept::take` answers them: they replay from
-    /// the engine as it was then. Then nothing is in the audit.
+    /// The entries since the audit was last taken, once the lock is free, as `Kept::take` answers them: they replay
+    /// from the engine as it was then. Then nothing is in the audit.
     pub fn take_audit<R: Wait>(&self, rt: &R) -> Taken<P, L>
         ensures { IsTaken P.PageDevice L.LogDevice result }
     {

@@ -33,7 +33,8 @@ fn next_of(audit: &[AuditEntry], from: usize, pass: u64) -> usize
     requires { from ≤ length audit.now }
     ensures within { result ≤ length audit.now }
     ensures skipped { own pass (entries (drop from audit.now)) ≡ own pass (entries (drop result audit.now)) }
-    ensures found { result < length audit.now → (e : AuditEntry) × (slice_get audit.now result ≡ Some e) × (e.pass ≡ pass) }
+    ensures found { result < length audit.now → (e : AuditEntry) × (slice_get audit.now result ≡ Some e)
+        × (e.pass ≡ pass) }
 {
     for i in from..audit.len() {
         if audit[i].pass() == pass {

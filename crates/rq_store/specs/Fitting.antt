@@ -45,7 +45,8 @@ IsStamp p (r ∷ log) = IsOfPage p (told_by r)
 abbrev pub HoldsPage : Sizes → ℕ → List ℕ → List Record → Type 0
 HoldsPage z p image log = (n : ℕ) → 1 ≤ n → n ≤ 15 → held_in z p (slot_of n image) ≡ (left_by z log).slots (address p n)
 
--- A page of the store, as the first records of the log leave it: as many of them as its LSN says, and the last of these wrote it.
+-- A page of the store, as the first records of the log leave it: as many of them as its LSN says, and the last of these
+-- wrote it.
 pub record FitsPage (z : Sizes) (log : List Record) (p : ℕ) (image : List ℕ) : Type 0 where
   pub slots : (n : ℕ) → 1 ≤ n → n ≤ 15 → IsSlotOf z p n (slot_of n image)
   pub within : lsn_of image ≤ length log

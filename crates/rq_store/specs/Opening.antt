@@ -67,9 +67,11 @@ opened z images log = record {
   waiting = waiting_in z images;
 }
 
--- a record that tells a write of a slot of the store, no number of whose slot is beyond the record's LSN, and whose before-image stands there where the page is older
+-- a record that tells a write of a slot of the store, no number of whose slot is beyond the record's LSN, and whose
+-- before-image stands there where the page is older
 abbrev pub IsBeforeIn : Record → ℕ → (ℕ → List ℕ) → Type 0
-IsBeforeIn (PageOp t n page slot before after) lsn image = lsn_of (image page) < lsn → slot_of slot (image page) ≡ before
+IsBeforeIn (PageOp t n page slot before after) lsn image = lsn_of (image page) < lsn
+    → slot_of slot (image page) ≡ before
 IsBeforeIn _ lsn image = Unit {0}
 
 pub record IsSoundTold (z : Sizes) (lsn : ℕ) (w : Told) : Type 0 where

@@ -1,5 +1,5 @@
--- What is so of a store that goes back to a legal log: the log is whole, the pages hold what it says, and each transaction
--- that has not ended is as its records say.
+-- What is so of a store that goes back to a legal log: the log is whole, the pages hold what it says, and each
+-- transaction that has not ended is as its records say.
 use Rattle.std.specs.Prelude.{◌≡◌, ℕ, ◌+◌, ◌<◌, ◌≤◌, Bool, true, false, cond, nat_eq, List, [], ◌∷◌, length, map, take, drop, reverse, Option, Some, None}
 use Rattle.std.specs.List.{sum_by, filter_map}
 use Rattle.rq_model.specs.declared.txn.Txn.{Txn}
@@ -96,14 +96,16 @@ IsCovered ws (Some u) = HasWaiting ws u.deed
 abbrev pub everywhere : ℕ → Bool
 everywhere page = true
 
--- What is so of the operation under way: its plan fits the slots as they were at its start, and what is made of it is a beginning of the plan.
+-- What is so of the operation under way: its plan fits the slots as they were at its start, and what is made of it is a
+-- beginning of the plan.
 pub record IsGoing (z : Sizes) (log : List Record) (ends : HeldEnds) (t : Txn) (u : Under) : Type 0 where
   pub made : u.made ≤ length u.writes
   pub going : over (operation t u.number) (items z log) ≡ false
   pub forward : turned_back (operation t u.number) (items z log) ≡ false
   pub uncrossed : (p : ℕ) → crossed (layout_of z).page (operation t u.number) p (items z log) ≡ false
   pub written : (left_by z log).writes (operation t u.number) ≡ reverse (take u.made (writes_of z u.writes))
-  pub owes : Owes (layout_of z).page (left_by z log) (operation t u.number) everywhere (drop u.made (writes_of z u.writes))
+  pub owes : Owes (layout_of z).page (left_by z log) (operation t u.number) everywhere
+      (drop u.made (writes_of z u.writes))
   pub plan : IsPlan (layout_of z) (Did u.deed) (reverse (writes_of z u.writes))
   pub told : Told u.deed (view (items z log) (deed_sender u.deed))
   pub held : HoldsFor ends t u.deed
@@ -189,6 +191,7 @@ pub record IsSound (s : State) : Type 0 where
   pub cells : s.cells_in_use ≡ legal.cells_in_use (size_of s.sizes) (ledger_of s)
   pub bound : s.cells_in_use ≤ cell_count s.sizes
   pub used : count_used s.sizes (left_by s.sizes s.records).quiet + sum_by apart s.rows ≡ s.cells_in_use
-  pub waiting : (g : ℕ) → g < sender_count s.sizes → waits s.waiting g + sum_by (takes_in g) s.rows ≡ length (rest_in (committed_of s.records) g)
+  pub waiting : (g : ℕ) → g < sender_count s.sizes → waits s.waiting g + sum_by (takes_in g) s.rows
+      ≡ length (rest_in (committed_of s.records) g)
   pub covered : (r : Row) → In r s.rows → IsCovered s.waiting r.under
   pub forced : s.forced ≤ length s.records

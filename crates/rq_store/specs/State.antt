@@ -16,7 +16,8 @@ use Rattle.rq_txn.specs.declared.Finished.{Finished}
 use Rattle.rq_txn.specs.Rows.{Row, Under}
 use Rattle.rq_groups.specs.Ends.{HeldEnds, held_by}
 
--- The transactions that have not ended and the ends that they hold, the pages' images, and the records of the log, the newest first.
+-- The transactions that have not ended and the ends that they hold, the pages' images, and the records of the log, the
+-- newest first.
 pub record State : Type 0 where
   pub sizes : Sizes
   pub rows : List Row
@@ -53,7 +54,16 @@ left_under None = 0
 left_under (Some u) = length u.writes - u.made
 
 abbrev pub open_of : HeldEnds → Row → Open
-open_of ends r = record { txn = r.txn; aborting = r.aborting; ops = map op_done r.finished; sending = held_by r.txn ends.sending; receiving = held_by r.txn ends.receiving; number = r.number; under = job_under r.under; left = left_under r.under }
+open_of ends r = record {
+  txn = r.txn;
+  aborting = r.aborting;
+  ops = map op_done r.finished;
+  sending = held_by r.txn ends.sending;
+  receiving = held_by r.txn ends.receiving;
+  number = r.number;
+  under = job_under r.under;
+  left = left_under r.under;
+}
 
 abbrev pub open_ones_of : HeldEnds → List Row → List Open
 open_ones_of ends rows = map (open_of ends) rows

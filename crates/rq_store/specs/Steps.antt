@@ -23,8 +23,8 @@ use Rattle.rq_store.specs.Sound.{IsSound}
 abbrev pub Continues : List Record → List Record → Type 0
 Continues older newer = (n : ℕ) × (drop n newer ≡ older)
 
--- The call with what it gave is an entry that may come next, and the store after it is what the entry makes of the store before. Its log goes on, and
--- what was forced stays forced.
+-- The call with what it gave is an entry that may come next, and the store after it is what the entry makes of the
+-- store before. Its log goes on, and what was forced stays forced.
 pub record Steps (old : State) (call : Call) (gave : Reply) (new : State) : Type 0 where
   pub entry : Entry
   pub says : Says call gave entry
@@ -34,9 +34,11 @@ pub record Steps (old : State) (call : Call) (gave : Reply) (new : State) : Type
   pub goes_on : Continues old.records new.records
   pub stays_forced : old.forced ≤ new.forced
 
--- A slot write is made in the pages: its page has the LSN of the next record, the others stay, and each is of its place.
+-- A slot write is made in the pages: its page has the LSN of the next record, the others stay, and each is of its
+-- place.
 pub record IsPutIn (s : State) (w : SlotWrite) (images : List (List ℕ)) : Type 0 where
-  pub page : IsWritten (image_in s.images (w.at / 16)) (image_in images (w.at / 16)) (w.at % 16) w.after (length s.records + 1)
+  pub page : IsWritten (image_in s.images (w.at / 16)) (image_in images (w.at / 16)) (w.at % 16) w.after
+      (length s.records + 1)
   pub others : (p : ℕ) → p ≢ w.at / 16 → image_in images p ≡ image_in s.images p
   pub superblock : IsFormatted s.sizes 0 (image_in images 0)
   pub headers : (p : ℕ) → 1 ≤ p → p < page_count s.sizes → IsHeaderOf s.sizes p (image_in images p)

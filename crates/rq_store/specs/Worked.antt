@@ -64,8 +64,10 @@ AreFormatted z images = (p : ℕ) → p < page_count z → IsFormatted z p (imag
 -- Pages that were formatted fit the empty log, and once a restart has opened them the store is sound; `Layout::format`
 -- makes such pages. And what doesn't fit, and is not sound.
 pub record WorkedSound : Type 0 where
-  pub formatted_fits : (z : Sizes) (images : List (List ℕ)) → IsInRange z → AreFormatted z images → FitsLog z (image_in images) []
-  pub opened_sound : (z : Sizes) (images : List (List ℕ)) → IsInRange z → AreFormatted z images → IsSound (opened z images [])
+  pub formatted_fits : (z : Sizes) (images : List (List ℕ)) → IsInRange z → AreFormatted z images
+      → FitsLog z (image_in images) []
+  pub opened_sound : (z : Sizes) (images : List (List ℕ)) → IsInRange z → AreFormatted z images
+      → IsSound (opened z images [])
   -- a page with an LSN beyond the log, or with that of a record that wrote none of its slots
   pub beyond : (z : Sizes) (image : ℕ → List ℕ) (log : List Record) (p : ℕ) → 1 ≤ p → p < page_count z
       → length log < lsn_of (image p) → FitsLog z image log → ⊥
@@ -75,6 +77,7 @@ pub record WorkedSound : Type 0 where
   -- logged, or in which one transaction has two rows
   pub counts_more : (z : Sizes) (images : List (List ℕ)) → IsInRange z → AreFormatted z images
       → IsSound (record (opened z images []) { cells_in_use = (opened z images []).cells_in_use + 1 }) → ⊥
-  pub another_incarnation : (z : Sizes) (images : List (List ℕ)) → IsSound (record (opened z images []) { incarnation = 2 }) → ⊥
+  pub another_incarnation : (z : Sizes) (images : List (List ℕ))
+      → IsSound (record (opened z images []) { incarnation = 2 }) → ⊥
   pub forced_beyond : (s : State) → length s.records < s.forced → IsSound s → ⊥
   pub two_rows : (s : State) (r : Row) → s.rows ≡ r ∷ r ∷ [] → IsSound s → ⊥

@@ -14,7 +14,8 @@ pub fn worked_store()
     ensures { WorkedStore }
 {}
 
-/// Pages that were formatted fit the empty log, and the store that a restart opens over them is sound; and stores that are not.
+/// Pages that were formatted fit the empty log, and the store that a restart opens over them is sound; and stores that
+/// are not.
 pub fn worked_sound()
     ensures { WorkedSound }
 {}

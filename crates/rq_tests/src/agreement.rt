@@ -1,5 +1,5 @@
-//! The engine beside the queue as plain lists: each call is made of both, and both answer the same. A call that memory is
-//! wanting for is made once more, and then answers as if nothing had happened.
+//! The engine beside the queue as plain lists: each call is made of both, and both answer the same. A call that memory
+//! is wanting for is made once more, and then answers as if nothing had happened.
 ghost use Rattle.std.specs.Prelude.{◌≡◌, IfOk};
 
 use crate::calls::{answered, crashed, devices, formatted, given_back, opened};
@@ -96,7 +96,8 @@ impl Pair {
         })
     }
 
-    // Makes the calls up to a crash, and those behind the restart that follows. Where there are none behind it, there is no crash.
+    // Makes the calls up to a crash, and those behind the restart that follows. Where there are none behind it, there
+    // is no crash.
     fn make_both(&mut self, calls: &[Answered], behind: &[Answered]) -> Result<(), Trouble> {
         self.make_all(calls)?;
         if behind.is_empty() {
@@ -106,7 +107,8 @@ impl Pair {
         self.make_all(behind)
     }
 
-    // A crash that keeps no record that is not forced, and the restart. All was forced: the lists lose what was not committed.
+    // A crash that keeps no record that is not forced, and the restart. All was forced: the lists lose what was not
+    // committed.
     fn crash(&mut self) -> Result<(), Trouble> {
         let Some(engine) = self.engine.take() else {
             return Err(NO_ENGINE);
@@ -363,8 +365,8 @@ fn begin_lists(lists: &mut Reference) -> Result<Txn, Refusal>
     }
 }
 
-// A crash of the lists that keeps all records, as the store that was opened then says that it did. A transaction that has not
-// ended is lost by it.
+// A crash of the lists that keeps all records, as the store that was opened then says that it did. A transaction that
+// has not ended is lost by it.
 fn crash_lists(lists: &mut Reference, report: Report) -> Result<(), Trouble> {
     let Ok(lost) = begin_lists(lists) else {
         return Err("begin");

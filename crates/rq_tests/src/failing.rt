@@ -1,5 +1,5 @@
-//! Each device call of a run fails once, in turn: it is answered as a failure of the device, every call behind it as of a failed
-//! store, and what was acknowledged outlives the crash that follows.
+//! Each device call of a run fails once, in turn: it is answered as a failure of the device, every call behind it as of
+//! a failed store, and what was acknowledged outlives the crash that follows.
 use crate::calls::{answered, crashed, devices, formatted, handed_over, opened};
 use rq_content::GroupContent;
 use rq_disk::{MemLog, MemPages, Mishap, PageChoice, Switch};
@@ -30,9 +30,9 @@ enum Call {
     Write(u32),
 }
 
-/// The calls of a run up to its crash, the unforced records that outlive it, and what the first sender's group holds then: messages
-/// sent and received by committed transactions, and the bodies of the rest. Of a run with a failed call that is so where its last
-/// commit was acknowledged.
+/// The calls of a run up to its crash, the unforced records that outlive it, and what the first sender's group holds
+/// then: messages sent and received by committed transactions, and the bodies of the rest. Of a run with a failed call
+/// that is so where its last commit was acknowledged.
 #[derive(Drop)]
 struct Plan {
     calls: &'static [Call],
@@ -112,7 +112,8 @@ impl Run {
         }
     }
 
-    // Makes the calls, up to the first that is refused, which the device has to be the cause of. The store has failed then.
+    // Makes the calls, up to the first that is refused, which the device has to be the cause of. The store has failed
+    // then.
     fn make_all(&mut self, store: &mut Store, calls: &[Call]) -> Result<(), Trouble> {
         for call in calls {
             if let Err(refusal) = self.make(store, *call) {
@@ -169,7 +170,8 @@ impl Run {
         Ok(())
     }
 
-    // What is left after a crash: buffered records are handed over, which no failure meets, and so many of the unforced ones outlive it.
+    // What is left after a crash: buffered records are handed over, which no failure meets, and so many of the unforced
+    // ones outlive it.
     fn crash(&mut self, store: Store, plan: &Plan) -> Result<(), Trouble> {
         let (pages, log) = handed_over(store, &self.switch);
         let (pages, log) = crashed(pages, log, PageChoice::Synced, plan.keep);
@@ -264,8 +266,8 @@ fn calls_failing(alloc: Global, plan: &Plan) -> Result<u64, Trouble> {
     Err("a run that does not end")
 }
 
-// A format writes three pages and syncs; each of two restarts reads three pages and the log, appends and forces; a force appends and
-// forces.
+// A format writes three pages and syncs; each of two restarts reads three pages and the log, appends and forces; a
+// force appends and forces.
 #[test]
 fn a_message_that_is_forced(rt: HostRuntime) -> Result<(), Fail> {
     let plan = Plan {

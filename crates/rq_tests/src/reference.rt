@@ -10,8 +10,8 @@ use rq_model::refusal::Refusal;
 use rq_model::txn::Txn;
 use std::test::Fail;
 
-// What is told of the first sender's group, where there are two senders and the second has sent nothing: how many messages it
-// sent, its last tag, how many are received, whether it is closed, and how many are left.
+// What is told of the first sender's group, where there are two senders and the second has sent nothing: how many
+// messages it sent, its last tag, how many are received, whether it is closed, and how many are left.
 fn first_of_two(queue: &Reference) -> Result<(u64, u64, u64, bool, usize), Fail> {
     let groups = content(queue)?;
     let [first, second] = groups.as_slice() else {

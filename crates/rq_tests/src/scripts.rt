@@ -7,8 +7,8 @@ use std::test::Fail;
 /// The line of the first opening.
 const OPENED: &str = "restarted 1 unfinished 0 lost 0\n";
 
-// Runs a script over a store of one directory page and so many cell pages, and compares what it prints behind the line of its
-// opening.
+// Runs a script over a store of one directory page and so many cell pages, and compares what it prints behind the line
+// of its opening.
 fn check(
     rt: &(impl Abort + AllocGlobal),
     cells: u32,

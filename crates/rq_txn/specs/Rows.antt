@@ -32,7 +32,13 @@ under_way_of None = None
 under_way_of (Some o) = Some (under_of o)
 
 abbrev pub row_of : Transaction → Row
-row_of t = record { txn = t.txn; aborting = t.aborting; finished = t.finished.items; number = t.number; under = under_way_of t.under_way }
+row_of t = record {
+  txn = t.txn;
+  aborting = t.aborting;
+  finished = t.finished.items;
+  number = t.number;
+  under = under_way_of t.under_way;
+}
 
 abbrev pub fresh_row : Txn → Row
 fresh_row t = record { txn = t; aborting = false; finished = []; number = 0; under = None }
@@ -81,7 +87,8 @@ any_under (r ∷ rows) = is_some r.under || any_under rows
 -- where the transaction's row stands
 abbrev pub PlaceOf : List Transaction → Txn → Option ℕ → Type 0
 PlaceOf rows t None = found_row t (map row_of rows) ≡ None
-PlaceOf rows t (Some i) = (i < length rows) × ((d : Transaction) → (slice_index_or rows i d).txn ≡ t) × ((d : Transaction) → found_row t (map row_of rows) ≡ Some (row_of (slice_index_or rows i d)))
+PlaceOf rows t (Some i) = (i < length rows) × ((d : Transaction) → (slice_index_or rows i d).txn ≡ t)
+    × ((d : Transaction) → found_row t (map row_of rows) ≡ Some (row_of (slice_index_or rows i d)))
 
 -- what a transaction has finished and not undone: nothing where it has no row
 abbrev pub finished_of : Option Row → List Finished

@@ -159,7 +159,8 @@ impl Transactions {
 
     /// The transaction of this number, if it has not ended.
     pub fn get(&self, txn: Txn) -> Option<&Transaction>
-        ensures found { MatchOption result (found_row txn self.now ≡ None) (λ row. found_row txn self.now ≡ Some (row_of row.now)) }
+        ensures found { MatchOption result (found_row txn self.now ≡ None)
+            (λ row. found_row txn self.now ≡ Some (row_of row.now)) }
         ensures named { IfSome result (λ row. row.now.txn ≡ txn) }
         ensures incarnation { IfSome result (λ row. 1 ≤ row.now.txn.incarnation) }
         ensures count { IfSome result (λ row. 1 ≤ row.now.txn.count) }
@@ -196,7 +197,8 @@ impl Transactions {
 
     /// One more write of the transaction's operation under way is made.
     pub fn step(&mut self, txn: Txn)
-        requires { IfSome (found_row txn self.old) (λ row. IfSome row.under (λ under. under.made < length under.writes)) }
+        requires { IfSome (found_row txn self.old) (λ row.
+            IfSome row.under (λ under. under.made < length under.writes)) }
         ensures { self.new ≡ change_row txn row_stepped self.old }
     {
         if let Some(place) = scans::place_of(&self.rows, txn) {

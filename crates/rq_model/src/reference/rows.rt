@@ -73,5 +73,11 @@ impl Model for GroupContent {
 
     ghost Value = { Group };
 
-    ghost view = { λ g. record { sent = g.sent; last_tag = g.last_tag; received = g.received; closed = g.closed; rest = g.rest.items } };
+    ghost view = { λ g. record {
+      sent = g.sent;
+      last_tag = g.last_tag;
+      received = g.received;
+      closed = g.closed;
+      rest = g.rest.items;
+    } };
 }

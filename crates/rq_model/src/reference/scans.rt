@@ -223,7 +223,9 @@ pub fn chain_length(
     rows: &[OpenTxn],
     sender: u32,
 ) -> Result<usize, AllocError>
-    ensures { IfOk result (λ n. n ≡ length (rest_in (map done_of committed.now) sender) + sum_by (λ o. length (own_sends sender o)) (map open_of rows.now) - sum_by (λ o. length (own_takes sender o)) (map open_of rows.now)) }
+    ensures { IfOk result (λ n. n ≡ length (rest_in (map done_of committed.now) sender) + sum_by
+        (λ o. length (own_sends sender o)) (map open_of rows.now) - sum_by (λ o. length (own_takes sender o))
+        (map open_of rows.now)) }
 {
     let mut there = waiting(alloc, committed, sender)?;
     let mut gone = Vec::new(alloc);
@@ -254,7 +256,8 @@ pub fn fills(
     senders: u32,
     cells: u64,
 ) -> Result<bool, AllocError>
-    ensures { IfOk result (λ full. full ≡ nat_eq (count_rest (below senders) (map done_of committed.now) + sum_by pending (map open_of rows.now)) cells) }
+    ensures { IfOk result (λ full. full ≡ nat_eq (count_rest (below senders)
+        (map done_of committed.now) + sum_by pending (map open_of rows.now)) cells) }
 {
     let mut total = cells_held(alloc, committed, senders)?;
     for row in rows {

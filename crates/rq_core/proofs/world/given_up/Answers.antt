@@ -14,5 +14,5 @@ pub returns-in-Open : goal.returns-in-Open
 returns-in-Open c = λ z course ran.
     let there = subst (λ s. Ran z course (world_of s)) c.in-Open.is ran in
     let g = still mem_pages mem_log (λ d. tt) (λ d. tt) z there.history c.in-Open.engine there.stands in
-    open_ends z course c.in-Open.engine c.give_back.result.0 c.give_back.result.1 (c.first_in_first_out.ensures (size_of z)) (c.acknowledged_stay.ensures (size_of z)) (c.crash_goes_on.ensures (size_of z)) there (c.keeps.ensures.cut tt g.sound g.fit)
+    open_ends z course c.in-Open.engine c.give_back.result.0 c.give_back.result.1 (c.first_in_first_out.ensures (size_of z)) (c.acknowledged_stay.ensures (size_of z)) (c.crash_goes_on.ensures (size_of z)) there (c.shows_kept.ensures.cut tt g.sound g.fit)
     c.give_back.ensures.pages c.give_back.ensures.log

@@ -13,7 +13,7 @@ returns-then-is_of_device c = λ z course x is ran.
     let a = subst (λ r. Applied mem_pages mem_log c.args.engine c.args.event.now r c.apply-reply.new.self) device.1 c.apply-reply.ensures.applied in
     let g = refused mem_pages mem_log (λ d. tt) (λ d. tt) z ran.history c.args.event.now device.0 c.args.engine c.apply-reply.new.self ran.stands a device.2 in
     c.crash.ensures z course x
-    (open_crashes z course x c.args.engine c.apply-reply.new.self c.give_back-pages.result.0 c.give_back-pages.result.1 (c.crash_goes_on.ensures (size_of z)) ran g (c.keeps.ensures.cut tt g.sound g.fit) c.give_back-pages.ensures.pages c.give_back-pages.ensures.log
+    (open_crashes z course x c.args.engine c.apply-reply.new.self c.give_back-pages.result.0 c.give_back-pages.result.1 (c.crash_goes_on.ensures (size_of z)) ran g (c.shows_kept.ensures.cut tt g.sound g.fit) c.give_back-pages.ensures.pages c.give_back-pages.ensures.log
     (λ p runs. subst (λ y. MayCrashIt y p) (sym is) runs))
 
 pub returns : goal.returns

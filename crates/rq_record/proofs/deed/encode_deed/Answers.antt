@@ -4,4 +4,4 @@ use Rattle.rq_record.proofs.DeedParts.{deeds_are_told}
 use Rattle.rq_record.proofs.deed.encode_deed.Goals as goal
 
 pub returns-clause-told : goal.returns-clause-told
-returns-clause-told c = λ range. ap deed_in c.spelled.ensures.same ∙ deeds_are_told c.args.deed.now (range, c.deed_fits.ensures)
+returns-clause-told c = λ range. ap deed_in c.spelled.ensures.same ∙ deeds_are_told c.args.deed.now (range, c.shows_deed_fits.ensures)

@@ -23,5 +23,5 @@ returns-clause-applied g c =
           c.args.event.now c.call.result _ _ told.sizes (told.answered h k) told.writes told.pages;
       crash = λ h k fit.
           runs_through_cuts g.P.PageDevice g.L.LogDevice g.met.P.PageDevice.only_now c.args.self.now c.call.new.self k fit
-          c.args.event.now c.call.result c.keeps.ensures.spelled told.writes told.pages (c.keeps.ensures.leaves (told.honest h).1) (told.any_moment h.1);
+          c.args.event.now c.call.result c.shows_kept.ensures.spelled told.writes told.pages (c.shows_kept.ensures.leaves (told.honest h).1) (told.any_moment h.1);
     }

@@ -36,4 +36,4 @@ returns-in-StartReceiveFrom-clause-lists g c = take_from_lists c.args.self.now.s
 
 pub returns-in-Ok-start_send-clause-any_moment : goal.returns-in-Ok-start_send-clause-any_moment
 returns-in-Ok-start_send-clause-any_moment g c =
-    log_left g.L.LogDevice c.args.self.now.log c.start_send.new.self.log _ c.start_send.ensures.devices.1 g.met.L.LogDevice.only_now c.keeps.ensures.leaves
+    log_left g.L.LogDevice c.args.self.now.log c.start_send.new.self.log _ c.start_send.ensures.devices.1 g.met.L.LogDevice.only_now c.shows_kept.ensures.leaves

@@ -16,7 +16,7 @@ pub append-lsn-requires-clause-room : goal.append-lsn-requires-clause-room
 append-lsn-requires-clause-room g c =
     let h = subst (λ (s : State). IsGoing s c.args.sub (AllMade c.args.deed.now)) (sym (state_is c.self.view_is)) c.requires.ready in
     let r = end_room _ _ _ _ c.self.invariant.kept c.args.sub c.args.deed.now h in
-    let e = c.sized.ensures in
+    let e = c.shows_size.ensures in
     let d : length c.encode_deed.result ≡ length (spelled_deed c.args.deed.now) = ap length c.encode_deed.ensures.spelled in
     omega (arith, r, e, d)
 
@@ -29,7 +29,7 @@ pub invariant_of-self : goal.invariant_of-self
 invariant_of-self g c =
     let h = subst (λ (s : State). IsGoing s c.args.sub (AllMade c.args.deed.now)) (sym (state_is c.self.view_is)) c.requires.ready in
     let d : length c.encode_deed.result ≡ length (spelled_deed c.args.deed.now) = ap length c.encode_deed.ensures.spelled in
-    let room : c.append-lsn.new.self.reserved + (30 + length (spelled_deed c.args.deed.now)) ≡ c.self.inside.log.reserved = (let a = c.append-lsn.ensures.reserved in let b = c.sized.ensures in omega (arith, a, b, d)) in
+    let room : c.append-lsn.new.self.reserved + (30 + length (spelled_deed c.args.deed.now)) ≡ c.self.inside.log.reserved = (let a = c.append-lsn.ensures.reserved in let b = c.shows_size.ensures in omega (arith, a, b, d)) in
     let failed : c.self.inside.log.failed ≡ c.append-lsn.new.self.failed = c.self.invariant.kept.fails (ap (λ (s : State). s.failed) (state_is c.self.view_is) ∙ c.requires.running) ∙ sym c.append-lsn.ensures.failed in
     record {
       kept = rw (c.finish.ensures, c.leave_out_taken.ensures, c.append-lsn.ensures.records, c.append-lsn.ensures.forced, sym failed)

@@ -26,7 +26,7 @@ pub append-lsn-requires-clause-room : goal.append-lsn-requires-clause-room
 append-lsn-requires-clause-room g c =
     let h = subst (λ (s : State). IsGoing s c.args.sub (Next c.args.write.now)) (sym (state_is c.self.view_is)) c.requires.next in
     let r = next_room _ _ _ _ c.self.invariant.kept c.args.sub c.args.write.now h in
-    let e = c.sized.ensures in
+    let e = c.shows_size.ensures in
     omega (arith, r, e)
 
 pub set_slot-requires-clause-place : goal.set_slot-requires-clause-place
@@ -52,7 +52,7 @@ overflow_sub-self g c =
 pub invariant_of-self : goal.invariant_of-self
 invariant_of-self g c =
     let h = subst (λ (s : State). IsGoing s c.args.sub (Next c.args.write.now)) (sym (state_is c.self.view_is)) c.requires.next in
-    let room : c.append-lsn.new.self.reserved + 546 ≡ c.self.inside.log.reserved = (let a = c.append-lsn.ensures.reserved in let b = c.sized.ensures in omega (arith, a, b)) in
+    let room : c.append-lsn.new.self.reserved + 546 ≡ c.self.inside.log.reserved = (let a = c.append-lsn.ensures.reserved in let b = c.shows_size.ensures in omega (arith, a, b)) in
     let failed : c.self.inside.log.failed ≡ c.append-lsn.new.self.failed = c.self.invariant.kept.fails (ap (λ (s : State). s.failed) (state_is c.self.view_is) ∙ c.requires.running) ∙ sym c.append-lsn.ensures.failed in
     record {
       kept = rw (c.step.ensures, c.set_slot.ensures.sizes, c.append-lsn.ensures.records, c.append-lsn.ensures.forced, sym failed)

@@ -1,9 +1,0 @@
-use Rattle.rq_engine.proofs.Crashing.{leaves_cut}
-use Rattle.rq_engine.proofs.engine.Engine.keeps.Goals as goal
-
-pub returns-clause-cut : goal.returns-clause-cut
-returns-clause-cut g c =
-    λ h k fit.
-    leaves_cut g.P.PageDevice g.L.LogDevice g.met.P.PageDevice.only_now c.args.self.now
-    (rw (← c.self.view_is) (λ h. c.keeps.ensures.log.leaves h c.self.invariant.durable))
-    (rw (← c.self.view_is) c.keeps.ensures.log.spelled) h k fit
