@@ -1,6 +1,14 @@
 -- Numbers that stand in a list of bytes, the highest byte first.
-use Rattle.std.specs.Prelude.{◌≡◌, ℕ, ◌+◌, ◌^◌, ◌<◌, ◌≤◌, ◌⊎◌, List, ◌++◌, length, take, drop}
+use Rattle.std.specs.Prelude.{◌≡◌, ℕ, ◌+◌, ◌^◌, ◌<◌, ◌≤◌, ◌⊎◌, List, ◌++◌, length, take, drop, slice_index}
 use Rattle.byteorder.specs.Endian.{big_bytes, big_number}
+
+-- a number in that many bytes, the highest first
+unfoldable pub number : ℕ → ℕ → List ℕ
+number size n = big_bytes size n
+
+-- each is a byte
+abbrev pub AreBytes : List ℕ → Type 0
+AreBytes bytes = (i : ℕ) → slice_index bytes i < 256
 
 -- these bytes with others written over them from a place on
 abbrev pub overlaid : ℕ → List ℕ → List ℕ → List ℕ

@@ -5,6 +5,8 @@ ghost use Rattle.std.specs.Prelude.{◌≡◌, ◌≤◌, ◌+◌, ◌↔◌, Is
 ghost use Rattle.std.specs.Bool.{OnTrue, OnFalse};
 ghost use Rattle.rq_bytes.specs.Number.{overlaid, number_at, with_number, WrittenIsRead, OthersReadAsBefore, LengthStays};
 
+pub mod end;
+
 use byteorder::{BigEndian, ByteOrder};
 
 /// Unsigned numbers that stand in byte strings from a place on, the highest byte first.

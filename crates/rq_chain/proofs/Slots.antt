@@ -16,7 +16,7 @@ use Rattle.rq_page.proofs.Spellings.{spelling_tells}
 use Rattle.rq_level.specs.Chain.{directory_appended}
 use Rattle.rq_level.specs.Stored.{IsStoreSlot}
 use Rattle.rq_level.specs.Log.{Write}
-use Rattle.rq_chain.specs.declared.SlotWrite.{SlotWrite}
+use Rattle.rq_level.specs.declared.SlotWrite.{SlotWrite}
 use Rattle.rq_chain.specs.Writes.{IsSlotWrite, AreSlotWrites}
 use Rattle.std.proofs.lemmas.List.Elements.{All-cons, All-nil}
 

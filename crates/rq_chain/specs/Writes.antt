@@ -5,7 +5,7 @@ use Rattle.rq_page.specs.Sizes.{Sizes, IsCellAddress, directory_at, sender_count
 use Rattle.rq_page.specs.Slots.{held_in, IsSlotOf, IsCellOf, IsDirectoryOf}
 use Rattle.rq_level.specs.Log.{Write}
 use Rattle.rq_level.specs.Stored.{IsStoreSlot}
-use Rattle.rq_chain.specs.declared.SlotWrite.{SlotWrite}
+use Rattle.rq_level.specs.declared.SlotWrite.{SlotWrite}
 use Rattle.rq_chain.specs.declared.Neighbour.{Neighbour}
 use Rattle.rq_chain.specs.declared.Group.{Group}
 

@@ -4,26 +4,15 @@
 //! last. An operation is planned whole from the slots as they are, and its writes are made one at a time.
 #![tactic(auto)]
 
-ghost use Rattle.std.specs.Prelude.{◌<◌, ◌^◌, ◌/◌, ◌%◌};
-
 mod plans;
 mod writes;
 
 pub use plans::{append, unlink_head};
-use rq_model::record::{Deed, Slot};
+use rq_level::SlotWrite;
+use rq_model::record::Deed;
 use rq_page::addr::Addr;
 use rq_page::cell::Cell;
 use rq_page::directory::Directory;
-
-/// A write of a slot: where, what stands there before it and what after it.
-#[derive(Clone, Copy)]
-pub struct SlotWrite {
-    pub at: Addr,
-    pub before: Slot,
-    pub after: Slot,
-    ghost page: { at / 16 < 2 ^ 32 },
-    ghost slot: { 0 < at % 16 },
-}
 
 /// The writes of an operation, in order, and what its end says was done.
 #[derive(Drop)]

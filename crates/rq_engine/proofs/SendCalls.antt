@@ -26,7 +26,7 @@ use Rattle.rq_pool.proofs.Counts.{count_same}
 use Rattle.rq_level.proofs.Idle.{idle_quiet}
 use Rattle.rq_level.proofs.Laws.{shows_here}
 use Rattle.rq_txn.proofs.Finding.{found_change_same}
-use Rattle.rq_chain.specs.declared.SlotWrite.{SlotWrite}
+use Rattle.rq_level.specs.declared.SlotWrite.{SlotWrite}
 use Rattle.rq_chain.specs.Writes.{IsFirstAt}
 use Rattle.rq_txn.specs.Rows.{Row, Under, found_row, any_under, change_row, row_started}
 use Rattle.rq_groups.specs.declared.Held.{Held}

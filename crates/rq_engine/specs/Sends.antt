@@ -4,7 +4,7 @@ use Rattle.rq_model.specs.Deeds.{spelled_deed}
 use Rattle.rq_page.specs.Sizes.{Sizes, IsCellAddress}
 use Rattle.rq_page.specs.Slots.{Slot}
 use Rattle.rq_level.specs.Stored.{is_used}
-use Rattle.rq_chain.specs.declared.SlotWrite.{SlotWrite}
+use Rattle.rq_level.specs.declared.SlotWrite.{SlotWrite}
 use Rattle.rq_chain.specs.declared.Plan.{Plan}
 use Rattle.rq_chain.specs.Writes.{AreSlotWrites}
 use Rattle.rq_txn.specs.Rows.{Under}

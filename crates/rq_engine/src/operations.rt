@@ -14,7 +14,7 @@ ghost use Rattle.rq_engine.specs.Says.{progress_of, outcome_of};
 use crate::engine::Engine;
 use crate::event::{Outcome, Progress};
 use crate::moves::leave_out_taken;
-use rq_chain::SlotWrite;
+use rq_level::SlotWrite;
 use rq_disk::{LogDevice, PageDevice};
 use rq_model::message::Message;
 use rq_model::record::{Deed, Record};

@@ -4,10 +4,24 @@
 //! The definitions stand in specs/, the theorems are the contracts of the functions here.
 #![tactic(auto)]
 
+ghost use Rattle.std.specs.Prelude.{◌<◌, ◌^◌, ◌/◌, ◌%◌};
 ghost use Rattle.rq_level.specs.Inverses.{InversesLeaveTheOthers};
 ghost use Rattle.rq_level.specs.StoreTheorems.{SlotsStandWhereTheyMay, UsedCellsAreMessages, IdleSlotsAreWhole, ChainsAreBounded, SettledCellsAreCommitted, TakenMessagesHaveCells, NumbersHaveNoGaps};
 ghost use Rattle.rq_level.specs.Worked.{WorkedLogs, RefusedRecords};
 ghost use Rattle.rq_level.specs.Theorems.{QuietSlotsShowTheFold, IdleSlotsShowTheFold, SettledFoldIsCommitted, CommittedIsContent, RulesKeepGroups, ViewsAreHolders};
+
+use rq_model::record::Slot;
+use rq_page::addr::Addr;
+
+/// A write of a slot: where, what stands there before it and what after it.
+#[derive(Clone, Copy)]
+pub struct SlotWrite {
+    pub at: Addr,
+    pub before: Slot,
+    pub after: Slot,
+    ghost page: { at / 16 < 2 ^ 32 },
+    ghost slot: { 0 < at % 16 },
+}
 
 /// Over every legal log, with any operations interleaved at single slot writes: the slots that whole
 /// operations alone have written show each sender's chain as its operations say.

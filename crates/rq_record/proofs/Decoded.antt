@@ -6,7 +6,8 @@ use Rattle.rq_record.specs.declared.reading.Stop.{Stop}
 use Rattle.rq_record.specs.declared.reading.Stop.TheVariants.{Short, Bad}
 use Rattle.rq_record.specs.declared.step.Step.{Step}
 use Rattle.rq_record.specs.declared.step.Step.TheVariants as steps
-use Rattle.rq_record.specs.Spelling.{AreBytes, spelling, IsRecord, HoldsRecord, BeginsRecord}
+use Rattle.rq_record.specs.Spelling.{spelling, IsRecord, HoldsRecord, BeginsRecord}
+use Rattle.rq_bytes.specs.Number.{AreBytes}
 use Rattle.rq_record.specs.Reading.{record_at}
 use Rattle.rq_record.specs.Decoding.{IfRecord, IsFront, step_of}
 use Rattle.rq_record.proofs.Whole.{Field-record}

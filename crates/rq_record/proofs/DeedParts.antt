@@ -7,12 +7,12 @@ use Rattle.rq_model.specs.declared.record.Deed.{Deed}
 use Rattle.rq_model.specs.declared.record.Deed.TheVariants.{Append, UnlinkHead, Close}
 use Rattle.rq_record.specs.declared.reading.Stop.{Stop}
 use Rattle.rq_record.specs.declared.reading.Stop.TheVariants.{Bad}
-use Rattle.rq_record.specs.Spelling.{AreBytes, number}
+use Rattle.rq_bytes.specs.Number.{AreBytes, number}
 use Rattle.rq_model.specs.Deeds.{spelled_deed, deed_in}
 use Rattle.rq_record.specs.Deeds.{IsBody, IsDeed}
 use Rattle.rq_record.specs.Reading.{◌>>=◌, number_at, positive_at}
 use Rattle.rq_record.specs.DeedReading.{append_at, unlink_head_at, close_at, deed_at, deed_of}
-use Rattle.rq_record.proofs.Bytes.{AreBytes-right, AreBytes-tail}
+use Rattle.rq_bytes.proofs.Strings.{AreBytes-right, AreBytes-tail}
 use Rattle.rq_record.proofs.DeedIn.{read_is}
 use Rattle.rq_record.proofs.Readers.{Field, Field-number, Field-positive, done, done_is, then_done, chosen, also, both}
 

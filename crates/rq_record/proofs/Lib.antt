@@ -1,4 +1,3 @@
-pub mod Bytes
 pub mod Readers
 pub mod Records
 pub mod Whole

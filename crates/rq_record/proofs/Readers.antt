@@ -8,9 +8,9 @@ use Rattle.byteorder.specs.Endian.{big_number, big_from}
 use Rattle.byteorder.specs.Numbers.{big_from-lt, big_from-cons}
 use Rattle.rq_record.specs.declared.reading.Stop.{Stop}
 use Rattle.rq_record.specs.declared.reading.Stop.TheVariants.{Short, Bad}
-use Rattle.rq_record.specs.Spelling.{AreBytes, number}
+use Rattle.rq_bytes.specs.Number.{AreBytes, number}
 use Rattle.rq_record.specs.Reading.{◌>>=◌, bytes_at, number_at, positive_at, byte_between}
-use Rattle.rq_record.proofs.Bytes.{AreBytes-take, AreBytes-right, two_cuts, length-number, number_read, number_written}
+use Rattle.rq_bytes.proofs.Strings.{AreBytes-take, AreBytes-right, two_cuts, length-number, number_read, number_written}
 
 -- a proper beginning of a spelling
 abbrev pub Begins : {A : Type 0} → (A → List ℕ) → (A → Type 0) → List ℕ → Type 0

@@ -6,9 +6,10 @@ use Rattle.rq_model.specs.declared.record.Record.{Record}
 use Rattle.rq_model.specs.declared.record.Record.TheVariants.{PageOp, PageUndo, OpEnd, OpVoid, CompEnd, Commit, Restart, AbortEnd}
 use Rattle.rq_record.specs.declared.reading.Kind.{Kind}
 use Rattle.rq_record.specs.declared.reading.Kind.TheVariants as kinds
-use Rattle.rq_record.specs.Spelling.{AreBytes, number, txn_bytes, fields, IsTxnInRange, FitsTxn, IsRecord, IsSlotNumber}
+use Rattle.rq_record.specs.Spelling.{txn_bytes, fields, IsTxnInRange, FitsTxn, IsRecord, IsSlotNumber}
+use Rattle.rq_bytes.specs.Number.{AreBytes, number}
 use Rattle.rq_record.specs.Reading.{bytes_at, number_at, positive_at, byte_between, txn_at, page_op_at, page_undo_at, op_end_at, op_void_at, comp_end_at, commit_at, restart_at, abort_end_at}
-use Rattle.rq_record.proofs.Bytes.{length-number}
+use Rattle.rq_bytes.proofs.Strings.{length-number}
 use Rattle.rq_record.proofs.Readers.{Field, Reads, also, both, Some-of, pair, Reads-and, Reads-last, Reads-field, Field-bytes, Field-number, Field-positive, Field-byte, AreBytes-zeros}
 
 -- ---- fields that stand in many records

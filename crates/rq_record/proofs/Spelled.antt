@@ -3,10 +3,11 @@ use Rattle.std.proofs.Common.{◌≡◌, ℕ, ◌+◌, ◌≤◌, List, [], ◌�
 use Rattle.rq_model.specs.declared.txn.Txn.{Txn}
 use Rattle.rq_model.specs.declared.record.Record.{Record}
 use Rattle.rq_model.specs.declared.record.Record.TheVariants.{PageOp, PageUndo, OpEnd, OpVoid, CompEnd, Commit, Restart, AbortEnd}
-use Rattle.rq_record.specs.Spelling.{number, txn_bytes, kind_number, fields, spelling}
+use Rattle.rq_record.specs.Spelling.{txn_bytes, kind_number, fields, spelling}
+use Rattle.rq_bytes.specs.Number.{number}
 use Rattle.rq_record.proofs.Records.{length-txn, length-page_op, length-page_undo, length-op_end, length-op_void, length-comp_end, length-commit, length-restart, length-abort_end}
 use Rattle.std.proofs.lemmas.List.{length-append}
-use Rattle.rq_record.proofs.Bytes.{length-number}
+use Rattle.rq_bytes.proofs.Strings.{length-number}
 use Rattle.rq_record.proofs.Whole.{length-spelling}
 
 -- a record whose length is known

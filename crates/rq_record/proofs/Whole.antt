@@ -10,9 +10,10 @@ use Rattle.rq_model.specs.declared.record.Record.TheVariants.{PageOp, PageUndo, 
 use Rattle.rq_record.specs.declared.reading.Stop.TheVariants.{Short, Bad}
 use Rattle.rq_record.specs.declared.reading.Kind.{Kind}
 use Rattle.rq_record.specs.declared.reading.Kind.TheVariants as kinds
-use Rattle.rq_record.specs.Spelling.{AreBytes, number, kind_number, fields, spelling, IsRecord}
+use Rattle.rq_record.specs.Spelling.{kind_number, fields, spelling, IsRecord}
+use Rattle.rq_bytes.specs.Number.{AreBytes, number}
 use Rattle.rq_record.specs.Reading.{◌>>=◌, op_end_at, kind_of, is_size, begins_size, size_at, known, kind_at, fields_at, record_at}
-use Rattle.rq_record.proofs.Bytes.{length-number, number_read, number_written}
+use Rattle.rq_bytes.proofs.Strings.{length-number, number_read, number_written}
 use Rattle.rq_record.proofs.Readers.{Begins, Field, Reads, done, done_is, chosen, cut_length, AreBytes-zeros, Reads-then, Field-reads, Reads-field}
 use Rattle.rq_record.proofs.Records.{kind_from, IsOf, length-page_op, length-page_undo, length-op_end, length-op_void, length-comp_end, length-commit, length-restart, length-abort_end, Field-page_op, Field-page_undo, Field-op_end, Field-op_void, Field-comp_end, Field-commit, Field-restart, Field-abort_end}
 

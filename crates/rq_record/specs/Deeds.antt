@@ -3,7 +3,7 @@ use Rattle.std.specs.Prelude.{◌≡◌, ℕ, ◌<◌, ◌≤◌, ◌^◌, List,
 use Rattle.rq_model.specs.declared.record.Deed.{Deed}
 use Rattle.rq_model.specs.declared.record.Deed.TheVariants.{Append, UnlinkHead, Close}
 use Rattle.rq_model.specs.Deeds.{spelled_deed, deed_in}
-use Rattle.rq_record.specs.Spelling.{AreBytes}
+use Rattle.rq_bytes.specs.Number.{AreBytes}
 
 -- what a deed may say: sequences begin at 1
 abbrev pub IsDeedInRange : Deed → Type 0

@@ -1,13 +1,10 @@
 -- How a record stands in the log, as bytes.
-use Rattle.std.specs.Prelude.{◌≡◌, ℕ, ◌+◌, ◌<◌, ◌≤◌, ◌^◌, List, ◌∷◌, ◌++◌, length, slice_index}
-use Rattle.byteorder.specs.Endian.{big_bytes, big_number}
+use Rattle.std.specs.Prelude.{◌≡◌, ℕ, ◌+◌, ◌<◌, ◌≤◌, ◌^◌, List, ◌∷◌, ◌++◌, length}
+use Rattle.byteorder.specs.Endian.{big_number}
+use Rattle.rq_bytes.specs.Number.{AreBytes, number}
 use Rattle.rq_model.specs.declared.txn.Txn.{Txn}
 use Rattle.rq_model.specs.declared.record.Record.{Record}
 use Rattle.rq_model.specs.declared.record.Record.TheVariants.{PageOp, PageUndo, OpEnd, OpVoid, CompEnd, Commit, Restart, AbortEnd}
-
--- a number in that many bytes, the highest first
-unfoldable pub number : ℕ → ℕ → List ℕ
-number size n = big_bytes size n
 
 -- the number of a transaction
 unfoldable pub txn_bytes : Txn → List ℕ
@@ -61,10 +58,6 @@ IsInRange (CompEnd txn operation undone) = IsTxnInRange txn × (0 < operation) �
 IsInRange (Commit txn) = IsTxnInRange txn
 IsInRange (Restart incarnation) = 0 < incarnation
 IsInRange (AbortEnd txn) = IsTxnInRange txn
-
--- each is a byte
-abbrev pub AreBytes : List ℕ → Type 0
-AreBytes bytes = (i : ℕ) → slice_index bytes i < 256
 
 abbrev pub FitsTxn : Txn → Type 0
 FitsTxn txn = (txn.incarnation < 2 ^ 64) × (txn.count < 2 ^ 64)

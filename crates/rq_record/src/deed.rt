@@ -1,7 +1,7 @@
 //! Deeds of the chain level as bytes.
 ghost use Rattle.std.specs.Prelude.{◌≡◌, ◌+◌, ◌≤◌, ◌<◌, ◌++◌, [], ◌∷◌, length, take, drop, IfSome, Some};
 ghost use Rattle.rq_model.specs.declared.record.Deed.{Deed};
-ghost use Rattle.rq_record.specs.Spelling.{number, AreBytes};
+ghost use Rattle.rq_bytes.specs.Number.{number, AreBytes};
 ghost use Rattle.rq_model.specs.Deeds.{spelled_deed, deed_in};
 ghost use Rattle.rq_record.specs.Deeds.{IsDeed, IsDeedInRange, IsBody, DeedFits};
 ghost use Rattle.rq_record.specs.Reading.{Gives};
@@ -137,7 +137,7 @@ fn shows_body_fits(body: &Body)
 
 // What stands before the body.
 
-#[tactic(auto, unfolding(crate::specs::Spelling::number))]
+#[tactic(auto, unfolding(rq_bytes::specs::Number::number))]
 fn append_front(sender: u32, sequence: u64, tag: u64, previous: u64) -> [u8; 29]
     ensures { result
         ≡ 1 ∷ (number 4 sender ++ (number 8 sequence ++ (number 8 tag ++ number 8 previous))) }
@@ -151,7 +151,7 @@ fn append_front(sender: u32, sequence: u64, tag: u64, previous: u64) -> [u8; 29]
     front
 }
 
-#[tactic(auto, unfolding(crate::specs::Spelling::number))]
+#[tactic(auto, unfolding(rq_bytes::specs::Number::number))]
 fn unlink_head_front(sender: u32, sequence: u64, tag: u64) -> [u8; 21]
     ensures { result ≡ 2 ∷ (number 4 sender ++ (number 8 sequence ++ number 8 tag)) }
 {
@@ -163,7 +163,7 @@ fn unlink_head_front(sender: u32, sequence: u64, tag: u64) -> [u8; 21]
     front
 }
 
-#[tactic(auto, unfolding(crate::specs::Spelling::number))]
+#[tactic(auto, unfolding(rq_bytes::specs::Number::number))]
 fn close_front(sender: u32) -> [u8; 5]
     ensures { result ≡ 3 ∷ number 4 sender }
 {
@@ -201,7 +201,7 @@ fn joined(front: &[u8], body: &[u8]) -> DeedBytes
 }
 
 // The spelling of a deed.
-#[tactic(auto, unfolding(crate::specs::Spelling::number))]
+#[tactic(auto, unfolding(rq_bytes::specs::Number::number))]
 fn spelled(deed: &Deed) -> DeedBytes
     ensures same { result ≡ spelled_deed deed.now }
     ensures size { (1 ≤ length result) × (length result ≤ 256) }

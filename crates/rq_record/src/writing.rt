@@ -2,10 +2,12 @@
 ghost use Rattle.std.specs.Prelude.{◌≡◌, ◌+◌, ◌≤◌, ◌<◌, ◌^◌, ◌++◌, [], ◌∷◌, length, vec_len, vec_capacity, OnOk, OnErr, IsOk};
 ghost use Rattle.rq_model.specs.declared.record.Record.{Record};
 ghost use Rattle.rq_record.specs.Sizes.{length_of};
-ghost use Rattle.rq_record.specs.Spelling.{IsInRange, Fits, FitsTxn, IsImage, AreBytes, number, txn_bytes, fields, spelling};
+ghost use Rattle.rq_record.specs.Spelling.{IsInRange, Fits, FitsTxn, IsImage, txn_bytes, fields, spelling};
+ghost use Rattle.rq_bytes.specs.Number.{AreBytes, number};
 
 use crate::{COMMIT_BYTES, OP_END_BYTES, PAGE_OP_BYTES};
 use byteorder::{BigEndian, ByteOrder};
+use rq_bytes::end::{put, put_byte, put_u32, put_u64};
 use rq_model::record::{DeedBytes, Record, Slot};
 use rq_model::refusal::NoMemory;
 use rq_model::txn::Txn;
@@ -98,54 +100,8 @@ pub fn shows_fits(record: &Record)
     }
 }
 
-// Puts bytes at the end, in room that is reserved.
-fn put(out: &mut Vec<u8>, bytes: &[u8])
-    requires { vec_len out.old + length bytes.now ≤ vec_capacity out.old }
-    ensures items { out.new.items ≡ out.old.items ++ bytes.now }
-    ensures len { vec_len out.new ≡ vec_len out.old + length bytes.now }
-    ensures capacity { vec_capacity out.old ≤ vec_capacity out.new }
-{
-    let _ = out.extend_from_slice(bytes);
-}
-
-// Puts a number of eight bytes at the end.
-#[tactic(auto, unfolding(crate::specs::Spelling::number))]
-fn put_u64(out: &mut Vec<u8>, n: u64)
-    requires { vec_len out.old + 8 ≤ vec_capacity out.old }
-    ensures items { out.new.items ≡ out.old.items ++ number 8 n }
-    ensures len { vec_len out.new ≡ vec_len out.old + 8 }
-    ensures capacity { vec_capacity out.old ≤ vec_capacity out.new }
-{
-    let mut bytes = [0; 8];
-    BigEndian::write_u64(&mut bytes, n);
-    put(out, &bytes);
-}
-
-// Puts a byte at the end.
-fn put_byte(out: &mut Vec<u8>, byte: u8)
-    requires { vec_len out.old + 1 ≤ vec_capacity out.old }
-    ensures items { out.new.items ≡ out.old.items ++ byte ∷ [] }
-    ensures len { vec_len out.new ≡ vec_len out.old + 1 }
-    ensures capacity { vec_capacity out.old ≤ vec_capacity out.new }
-{
-    put(out, &[byte]);
-}
-
-// Puts a number of four bytes at the end.
-#[tactic(auto, unfolding(crate::specs::Spelling::number))]
-fn put_u32(out: &mut Vec<u8>, n: u32)
-    requires { vec_len out.old + 4 ≤ vec_capacity out.old }
-    ensures items { out.new.items ≡ out.old.items ++ number 4 n }
-    ensures len { vec_len out.new ≡ vec_len out.old + 4 }
-    ensures capacity { vec_capacity out.old ≤ vec_capacity out.new }
-{
-    let mut bytes = [0; 4];
-    BigEndian::write_u32(&mut bytes, n);
-    put(out, &bytes);
-}
-
 // The length, the kind and the transaction, with which all records but a restart begin.
-#[tactic(auto, unfolding(crate::specs::Spelling::number, crate::specs::Spelling::txn_bytes))]
+#[tactic(auto, unfolding(rq_bytes::specs::Number::number, crate::specs::Spelling::txn_bytes))]
 fn head_of(size: u32, kind: u8, txn: &Txn) -> [u8; 21]
     ensures { result ≡ number 4 size ++ (kind ∷ txn_bytes txn.now) }
 {

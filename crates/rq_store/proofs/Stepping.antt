@@ -31,7 +31,7 @@ use Rattle.rq_level.proofs.Overlay.{Good, put_agree, same_self as same_op_self}
 use Rattle.rq_level.proofs.Views.{good}
 use Rattle.rq_level.proofs.Owes.{owes_next, owes_rest}
 use Rattle.rq_level.proofs.Strangers.{has_end_same}
-use Rattle.rq_chain.specs.declared.SlotWrite.{SlotWrite}
+use Rattle.rq_level.specs.declared.SlotWrite.{SlotWrite}
 use Rattle.rq_chain.specs.Writes.{write_of, writes_of}
 use Rattle.rq_txn.specs.Rows.{Row, Under, found_row, change_row, row_stepped, under_stepped}
 use Rattle.rq_groups.specs.Ends.{HeldEnds}

@@ -3,7 +3,7 @@
 
 ghost use Rattle.std.specs.Prelude.{◌<◌, ◌≤◌, IsSome, vec_capacity, vec_len};
 
-use rq_chain::SlotWrite;
+use rq_level::SlotWrite;
 use rq_model::record::Deed;
 use rq_model::refusal::NoMemory;
 use rq_model::txn::{Lsn, Txn};

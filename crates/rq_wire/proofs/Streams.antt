@@ -3,9 +3,10 @@ use Rattle.std.proofs.Common.{◌≡◌, ℕ, Bool, true, false, List, [], ◌�
 use Rattle.rq_wire.specs.declared.request.Request.{Request}
 use Rattle.rq_wire.specs.declared.look.Front.TheVariants.{Frame}
 use Rattle.rq_wire.specs.Looks.{looks}
-use Rattle.rq_wire.specs.Spelling.{AreBytes, AreRequested, spelled, spelled_all}
+use Rattle.rq_wire.specs.Spelling.{AreRequested, spelled, spelled_all}
+use Rattle.rq_bytes.specs.Number.{AreBytes}
 use Rattle.rq_wire.specs.Stream.{Begins, AreRequests, stop}
-use Rattle.rq_wire.proofs.NumberBytes.{AreBytes-drop}
+use Rattle.rq_bytes.proofs.Strings.{AreBytes-drop}
 use Rattle.rq_wire.proofs.Fronts.{drop_front}
 use Rattle.rq_wire.proofs.Spells.{spelled_is_read, read_is_spelled}
 

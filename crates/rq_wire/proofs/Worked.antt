@@ -3,7 +3,8 @@ use Rattle.std.proofs.Common.{◌≡◌, ℕ, true, false, List, [], ◌∷◌, 
 use Rattle.rq_wire.specs.declared.request.Request.TheVariants.{Begin, Send, LastTag}
 use Rattle.rq_wire.specs.declared.look.Front.TheVariants.{Frame, Fault, More}
 use Rattle.rq_wire.specs.Looks.{looks}
-use Rattle.rq_wire.specs.Spelling.{number, frame, spelled}
+use Rattle.rq_wire.specs.Spelling.{frame, spelled}
+use Rattle.rq_bytes.specs.Number.{number}
 use Rattle.rq_wire.specs.Stream.{AreRequests}
 
 -- a send of `hello` for sender 0 with tag 7

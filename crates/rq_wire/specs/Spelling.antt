@@ -1,15 +1,11 @@
 -- How requests and answers stand in a stream: a frame is the length of what follows in two bytes, a kind, and fields.
-use Rattle.std.specs.Prelude.{ℕ, ◌+◌, ◌<◌, ◌≤◌, ◌^◌, List, [], ◌∷◌, ◌++◌, length, slice_index}
-use Rattle.byteorder.specs.Endian.{big_bytes}
+use Rattle.std.specs.Prelude.{ℕ, ◌+◌, ◌<◌, ◌≤◌, ◌^◌, List, [], ◌∷◌, ◌++◌, length}
+use Rattle.rq_bytes.specs.Number.{AreBytes, number}
 use Rattle.rq_model.specs.Numbers.{number_of}
 use Rattle.rq_wire.specs.declared.request.Request.{Request}
 use Rattle.rq_wire.specs.declared.request.Request.TheVariants.{Begin, Send, Receive, ReceiveFrom, Close, Commit, Abort, LastTag}
 use Rattle.rq_wire.specs.declared.answers.Answer.{Answer}
 use Rattle.rq_wire.specs.declared.answers.Answer.TheVariants as answers
-
--- a number in that many bytes, the highest first
-unfoldable pub number : ℕ → ℕ → List ℕ
-number size n = big_bytes size n
 
 -- the frame of a kind with these fields
 unfoldable pub frame : ℕ → List ℕ → List ℕ
@@ -45,10 +41,6 @@ spelled r = frame (request_kind r) (request_fields r)
 abbrev pub spelled_all : List Request → List ℕ
 spelled_all [] = []
 spelled_all (r ∷ rs) = spelled r ++ spelled_all rs
-
--- each is a byte
-abbrev pub AreBytes : List ℕ → Type 0
-AreBytes bytes = (i : ℕ) → slice_index bytes i < 256
 
 -- what may be asked: the numbers are of their types, and a body has up to 499 bytes
 abbrev pub IsRequest : Request → Type 0

@@ -1,6 +1,7 @@
 //! From answers to bytes.
 ghost use Rattle.std.specs.Prelude.{◌≡◌, ◌+◌, ◌≤◌, ◌<◌, ◌^◌, ◌++◌, [], ◌∷◌, length, OnOk, OnErr};
-ghost use Rattle.rq_wire.specs.Spelling.{number, frame, answer_frame};
+ghost use Rattle.rq_wire.specs.Spelling.{frame, answer_frame};
+ghost use Rattle.rq_bytes.specs.Number.{number};
 
 use crate::answers::Answer;
 use byteorder::{BigEndian, ByteOrder};
@@ -55,7 +56,7 @@ fn put_frame(out: &mut BytesMut, kind: u8, front: &[u8], back: &[u8]) -> Result<
 }
 
 // What stands before the fields.
-#[tactic(auto, unfolding(crate::specs::Spelling::number))]
+#[tactic(auto, unfolding(rq_bytes::specs::Number::number))]
 fn head(size: u16, kind: u8) -> [u8; 3]
     ensures { result ≡ number 2 size ++ kind ∷ [] }
 {
@@ -65,7 +66,7 @@ fn head(size: u16, kind: u8) -> [u8; 3]
     bytes
 }
 
-#[tactic(auto, unfolding(crate::specs::Spelling::number))]
+#[tactic(auto, unfolding(rq_bytes::specs::Number::number))]
 fn one_number(n: u64) -> [u8; 8]
     ensures { result ≡ number 8 n }
 {
@@ -74,7 +75,7 @@ fn one_number(n: u64) -> [u8; 8]
     bytes
 }
 
-#[tactic(auto, unfolding(crate::specs::Spelling::number))]
+#[tactic(auto, unfolding(rq_bytes::specs::Number::number))]
 fn two_numbers(first: u64, second: u64) -> [u8; 16]
     ensures { result ≡ number 8 first ++ number 8 second }
 {
@@ -84,7 +85,7 @@ fn two_numbers(first: u64, second: u64) -> [u8; 16]
     bytes
 }
 
-#[tactic(auto, unfolding(crate::specs::Spelling::number))]
+#[tactic(auto, unfolding(rq_bytes::specs::Number::number))]
 fn message_front(sender: u32, tag: u64) -> [u8; 12]
     ensures { result ≡ number 4 sender ++ number 8 tag }
 {

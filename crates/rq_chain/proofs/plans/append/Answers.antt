@@ -1,5 +1,5 @@
 use Rattle.std.proofs.Common.{◌≡◌, ◌∷◌, [], sym, ◌∙◌, ap, subst, List}
-use Rattle.rq_chain.specs.declared.SlotWrite.{SlotWrite}
+use Rattle.rq_level.specs.declared.SlotWrite.{SlotWrite}
 use Rattle.rq_chain.specs.Writes.{write_of, IsFirstAt}
 use Rattle.rq_level.specs.Log.{Write}
 use Rattle.rq_chain.proofs.Slots.{two_writes, three_writes}

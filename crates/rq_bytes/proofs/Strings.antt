@@ -6,7 +6,7 @@ use Rattle.std.proofs.lemmas.Nat.{same_from_place, mod_below}
 use Rattle.std.specs.Int.{byte_at, bytes_high_first}
 use Rattle.byteorder.specs.Endian.{big_bytes, big_number, big_from}
 use Rattle.byteorder.specs.Numbers.{big_from-cons, big_from-lt, big_from-take, big_number-reads_back, length-bytes_high_first}
-use Rattle.rq_record.specs.Spelling.{AreBytes, number}
+use Rattle.rq_bytes.specs.Number.{AreBytes, number}
 
 pub AreBytes-take : (n : ℕ) (bytes : List ℕ) → AreBytes bytes → AreBytes (take n bytes)
 AreBytes-take n bytes h i =
@@ -73,6 +73,10 @@ number_written size bytes f h =
 pub AreBytes-number : (size n : ℕ) → AreBytes (number size n)
 unfolding number
 AreBytes-number size n = AreBytes-big size n
+
+-- a number that is read is as great as its bytes let it be
+pub number_below : (size : ℕ) (bytes : List ℕ) → AreBytes bytes → big_number size bytes < 256 ^ size
+number_below size bytes f = big_from-lt 0 size bytes f
 
 -- a list that is cut in two ways: one cut stands before the other
 pub two_cuts : (xs ys cs bs : List ℕ) → xs ++ ys ≡ cs ++ bs → ((r : List ℕ) × (xs ≡ cs ++ r) × (0 < length r)) ⊎ ((r : List ℕ) × (cs ≡ xs ++ r) × (ys ≡ r ++ bs))
