@@ -2,7 +2,17 @@
 #![tactic(auto)]
 
 #[cfg(test)]
+mod anything;
+#[cfg(test)]
 mod course;
+#[cfg(test)]
+mod disk;
+#[cfg(test)]
+mod drawn;
+#[cfg(test)]
+mod lists;
+#[cfg(test)]
+mod random;
 #[cfg(test)]
 mod rows;
 #[cfg(test)]
