@@ -22,6 +22,8 @@ struct Drawing {
     happenings: Vec<Happening>,
     // The places of the commits, from 1.
     commits: Vec<u64>,
+    // Whether the last happening opened the store.
+    opened: bool,
     // Whether it sends and doesn't receive, and little else happens: the store fills up.
     fills: bool,
     // So many happenings are to come.
@@ -36,6 +38,7 @@ pub fn drawn(alloc: Global, seed: u64) -> Result<Vec<Happening>, AllocError> {
         lists: Lists::new(alloc)?,
         happenings: Vec::new(alloc),
         commits: Vec::new(alloc),
+        opened: false,
         fills: seed % 4 == 0,
         left: LENGTH,
     };
@@ -50,6 +53,7 @@ pub fn drawn(alloc: Global, seed: u64) -> Result<Vec<Happening>, AllocError> {
         lists: _,
         happenings,
         commits: _,
+        opened: _,
         fills: _,
         left: _,
     } = drawing;
@@ -62,6 +66,7 @@ impl Drawing {
         // a receive takes from the lowest sender
         let told = self.lists.happen(&happening, u32::MAX)?;
         self.happenings.push(happening)?;
+        self.opened = is_opened(&told);
         if let Told::Committed(_, _) = told {
             self.commits.push(self.happenings.len() as u64)?;
         }
@@ -76,6 +81,10 @@ impl Drawing {
         if !self.lists.is_open() {
             return self.of_shut();
         }
+        // it shows which image was left
+        if self.opened && !self.random.is_first_of(3) {
+            return Ok(Happening::Call(Event::WritePage(self.page())));
+        }
         match self.random.below(if self.fills { 400 } else { 50 }) {
             0 => Ok(Happening::Ack(self.random.below(LENGTH))),
             1 => Ok(self.failure()),
@@ -87,6 +96,7 @@ impl Drawing {
                 Ok(Happening::RestartStop(n, self.choice()?))
             }
             6..9 => Ok(self.acknowledgement()),
+            9..15 => Ok(Happening::Call(Event::WritePage(self.page()))),
             _ => Ok(Happening::Call(self.call()?)),
         }
     }
@@ -250,8 +260,21 @@ impl Drawing {
         (self.random.below(bound) & 31) as u32
     }
 
+    // Most times one that changes.
     fn page(&mut self) -> u32 {
-        let bound = if self.random.is_first_of(8) { 5 } else { 3 };
-        (self.random.below(bound) & 7) as u32
+        if self.random.is_first_of(8) {
+            (self.random.below(5) & 7) as u32
+        } else if self.random.is_first_of(2) {
+            1
+        } else {
+            2
+        }
+    }
+}
+
+fn is_opened(told: &Told) -> bool {
+    match told {
+        Told::Restarted(_) => true,
+        _ => false,
     }
 }
