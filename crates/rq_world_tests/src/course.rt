@@ -1,0 +1,354 @@
+//! Courses: what happens to a small store, step by step, with what each step comes to.
+use crate::told::{Told, told_of};
+use rq_core::happening::{Choice, Entry, Happening};
+use rq_core::world::{Outcome, World};
+use rq_engine::event::{Event, GroupContent, Reply};
+use rq_model::message::Message;
+use rq_model::txn::{Lsn, Sub, Txn};
+use rq_page::layout::Layout;
+use rq_restart::restart::Report;
+use std::alloc::{AllocError, Global};
+
+/// The first transaction of the first incarnation.
+pub const FIRST: Txn = Txn {
+    incarnation: 1,
+    count: 1,
+};
+
+/// The second one.
+pub const SECOND: Txn = Txn {
+    incarnation: 1,
+    count: 2,
+};
+
+/// All records.
+pub const ALL: u64 = u64::MAX;
+
+/// A body.
+#[derive(Clone, Copy)]
+pub enum Text {
+    A,
+    B,
+    Hello,
+}
+
+/// Of each page, by number, the place of the image that a crash leaves; the pages that are not said are at their newest.
+#[derive(Clone, Copy)]
+pub enum Images {
+    Unsaid,
+    One(u64),
+    Two(u64, u64),
+    Three(u64, u64, u64),
+}
+
+/// A call.
+#[derive(Clone, Copy)]
+pub enum Ask {
+    Begin,
+    StartReceive(Txn),
+    Step(Sub),
+    Finish(Sub),
+    Commit(Txn),
+    HandOver,
+    Force,
+    Write(u32),
+}
+
+/// The one message that was sent for a sender, with its tag and body. It waits, or is received.
+#[derive(Clone, Copy)]
+pub struct Sent {
+    pub sender: u32,
+    pub tag: u64,
+    pub text: Text,
+    pub waits: bool,
+}
+
+/// What happens, and what it comes to.
+#[derive(Clone, Copy)]
+pub enum Step {
+    Call(Ask, Told),
+    /// The first operation of a transaction, a send to an empty group, from its start to its end: a sender, a tag, a body,
+    /// and the first of its three records.
+    Send(Txn, u32, u64, Text, Lsn),
+    /// The first operation of a transaction, a receive of a group's only message, from its start to its end, as above.
+    Receive(Txn, u32, u64, Text, Lsn),
+    /// The content: this message, and nothing else.
+    Holds(Sent),
+    /// The content: these messages, and nothing else.
+    HoldsBoth(Sent, Sent),
+    /// The content: nothing.
+    HoldsNothing,
+    Ack(u64, Told),
+    /// The nth device call from now fails.
+    Fail(u64),
+    /// A crash that keeps so many unforced records and these images; so many records are left.
+    Crash(u64, Images, u64),
+    /// The power fails at the nth device call of the call; what is kept is said as for a crash.
+    StopIn(Ask, u64, u64, Images, Told),
+    Restart(Told),
+    RestartStop(u64, u64, Told),
+}
+
+/// The happenings of steps.
+#[derive(Drop)]
+struct Course {
+    alloc: Global,
+    happenings: Vec<Happening>,
+}
+
+/// What a restart tells that begins this incarnation, with so many records in the log.
+pub const fn restarted(incarnation: u64, records: u64) -> Told {
+    Told::Restarted(Report {
+        incarnation,
+        unfinished: 0,
+        lost: 0,
+        records,
+    })
+}
+
+/// Lets this happen to a small store, and then that. Answers the number of the first step that came to something else, 0 where
+/// there is none.
+pub fn first_fault(alloc: Global, first: &[Step], then: &[Step]) -> Result<u64, AllocError> {
+    let mut course = Course {
+        alloc,
+        happenings: Vec::new(alloc),
+    };
+    course.add_all(first)?;
+    course.add_all(then)?;
+    let entries = run(alloc, &course.happenings)?;
+    Ok(compared(&entries, first, then))
+}
+
+/// What these happenings come to in a small store: one directory page and one cell page.
+pub fn run(alloc: Global, happenings: &[Happening]) -> Result<Vec<Entry>, AllocError> {
+    let Some(layout) = Layout::new(1, 1) else {
+        return Ok(Vec::new(alloc));
+    };
+    let Outcome {
+        entries,
+        pages: _,
+        log: _,
+    } = World::new(alloc, layout)?.run(happenings)?;
+    Ok(entries)
+}
+
+impl Text {
+    fn bytes(self) -> &'static [u8] {
+        match self {
+            Text::A => b"a",
+            Text::B => b"b",
+            Text::Hello => b"hello",
+        }
+    }
+}
+
+impl Course {
+    fn add_all(&mut self, steps: &[Step]) -> Result<(), AllocError> {
+        for step in steps {
+            match step {
+                Step::Send(txn, ..) | Step::Receive(txn, ..) => {
+                    let start = made(self.alloc, step)?;
+                    self.add_operation(*txn, start)?;
+                }
+                _ => self.happenings.push(made(self.alloc, step)?)?,
+            }
+        }
+        Ok(())
+    }
+
+    // An operation of two slot writes, the first of its transaction.
+    fn add_operation(&mut self, txn: Txn, start: Happening) -> Result<(), AllocError> {
+        let sub = Sub { txn, number: 1 };
+        self.happenings.push(start)?;
+        for _ in 0..3 {
+            self.happenings.push(Happening::Call(Event::Step(sub)))?;
+        }
+        self.happenings.push(Happening::Call(Event::Finish(sub)))?;
+        Ok(())
+    }
+}
+
+// The happening of a step, or the first one of an operation.
+fn made(alloc: Global, step: &Step) -> Result<Happening, AllocError> {
+    Ok(match step {
+        Step::Call(ask, _) => Happening::Call(event(ask)),
+        Step::Send(txn, sender, tag, text, _) => Happening::Call(Event::StartSend {
+            txn: *txn,
+            sender: *sender,
+            tag: *tag,
+            body: Vec::from_slice(alloc, text.bytes())?,
+        }),
+        Step::Receive(txn, ..) => Happening::Call(Event::StartReceive(*txn)),
+        Step::Holds(_) | Step::HoldsBoth(..) | Step::HoldsNothing => {
+            Happening::Call(Event::Content)
+        }
+        Step::Ack(n, _) => Happening::Ack(*n),
+        Step::Fail(n) => Happening::Fail(*n),
+        Step::Crash(keep, images, _) => Happening::Crash(choice(alloc, *keep, *images)?),
+        Step::StopIn(ask, n, keep, images, _) => {
+            Happening::StopIn(event(ask), *n, choice(alloc, *keep, *images)?)
+        }
+        Step::Restart(_) => Happening::Restart,
+        Step::RestartStop(n, keep, _) => {
+            Happening::RestartStop(*n, choice(alloc, *keep, Images::Unsaid)?)
+        }
+    })
+}
+
+fn choice(alloc: Global, keep: u64, images: Images) -> Result<Choice, AllocError> {
+    let pages = match images {
+        Images::Unsaid => Vec::new(alloc),
+        Images::One(first) => Vec::from_slice(alloc, &[first])?,
+        Images::Two(first, second) => Vec::from_slice(alloc, &[first, second])?,
+        Images::Three(first, second, third) => Vec::from_slice(alloc, &[first, second, third])?,
+    };
+    Ok(Choice { keep, pages })
+}
+
+fn event(ask: &Ask) -> Event {
+    match ask {
+        Ask::Begin => Event::Begin,
+        Ask::StartReceive(txn) => Event::StartReceive(*txn),
+        Ask::Step(sub) => Event::Step(*sub),
+        Ask::Finish(sub) => Event::Finish(*sub),
+        Ask::Commit(txn) => Event::Commit(*txn),
+        Ask::HandOver => Event::HandOver,
+        Ask::Force => Event::Force,
+        Ask::Write(page) => Event::WritePage(*page),
+    }
+}
+
+fn compared(entries: &[Entry], first: &[Step], then: &[Step]) -> u64 {
+    let mut place = 0;
+    let mut number: u64 = 0;
+    for step in first.iter().chain(then.iter()) {
+        number = number.saturating_add(1);
+        if !is_so(entries, place, step) {
+            return number;
+        }
+        place = usize::saturating_add(place, entries_of(step));
+    }
+    if entries.len() == place { 0 } else { u64::MAX }
+}
+
+fn entries_of(step: &Step) -> usize {
+    match step {
+        Step::Send(..) | Step::Receive(..) => 5,
+        _ => 1,
+    }
+}
+
+// Whether the entries from this place on are what the step is to come to.
+fn is_so(entries: &[Entry], place: usize, step: &Step) -> bool {
+    match step {
+        Step::Send(txn, _, _, _, first) => {
+            is_operation(entries, place, *txn, *first)
+                && tells(entries, place.saturating_add(4), Told::Sent)
+        }
+        Step::Receive(txn, sender, tag, text, first) => {
+            is_operation(entries, place, *txn, *first)
+                && is_received(entries, place.saturating_add(4), *sender, *tag, *text)
+        }
+        Step::Holds(_) | Step::HoldsBoth(..) | Step::HoldsNothing => match entries.get(place) {
+            Some(entry) => is_content(entry, step),
+            None => false,
+        },
+        _ => tells(entries, place, told_for(step)),
+    }
+}
+
+// What a step comes to that is neither an operation nor a content.
+fn told_for(step: &Step) -> Told {
+    match step {
+        Step::Call(_, told)
+        | Step::Ack(_, told)
+        | Step::StopIn(_, _, _, _, told)
+        | Step::Restart(told)
+        | Step::RestartStop(_, _, told) => *told,
+        Step::Crash(_, _, records) => Told::Crashed(*records),
+        _ => Told::Nothing,
+    }
+}
+
+fn tells(entries: &[Entry], place: usize, told: Told) -> bool {
+    match entries.get(place) {
+        Some(entry) => told_of(entry) == told,
+        None => false,
+    }
+}
+
+// Whether an operation starts at this place and makes two slot writes.
+fn is_operation(entries: &[Entry], place: usize, txn: Txn, first: Lsn) -> bool {
+    let second = first.saturating_add(1);
+    tells(entries, place, Told::Started(Sub { txn, number: 1 }))
+        && tells(entries, place.saturating_add(1), Told::Stepped(first))
+        && tells(entries, place.saturating_add(2), Told::Stepped(second))
+        && tells(entries, place.saturating_add(3), Told::Ready)
+}
+
+fn is_received(entries: &[Entry], place: usize, sender: u32, tag: u64, text: Text) -> bool {
+    match entries.get(place) {
+        Some(entry) => match told_of(entry) {
+            Told::Message(message) => is_message(&message, sender, tag, text),
+            _ => false,
+        },
+        None => false,
+    }
+}
+
+fn is_content(entry: &Entry, step: &Step) -> bool {
+    match entry {
+        Entry::Answered(reply) => match reply {
+            Reply::Content(groups) => groups.len() == 15 && hold(groups, step),
+            _ => false,
+        },
+        _ => false,
+    }
+}
+
+fn is_message(message: &Message, sender: u32, tag: u64, text: Text) -> bool {
+    message.sender == sender && message.tag == tag && message.body.as_slice() == text.bytes()
+}
+
+// Whether the groups are what the step says of the content.
+fn hold(groups: &[GroupContent], step: &Step) -> bool {
+    let mut sender: u32 = 0;
+    for group in groups {
+        let is_right = match step {
+            Step::Holds(sent) if sent.sender == sender => holds(group, sent),
+            Step::HoldsBoth(sent, _) if sent.sender == sender => holds(group, sent),
+            Step::HoldsBoth(_, sent) if sent.sender == sender => holds(group, sent),
+            _ => is_empty(group),
+        };
+        if !is_right {
+            return false;
+        }
+        sender = sender.saturating_add(1);
+    }
+    true
+}
+
+fn is_empty(group: &GroupContent) -> bool {
+    group.sent == 0
+        && group.last_tag == 0
+        && group.received == 0
+        && !group.closed
+        && group.rest.is_empty()
+}
+
+fn holds(group: &GroupContent, sent: &Sent) -> bool {
+    group.sent == 1
+        && group.last_tag == sent.tag
+        && group.received == u64::from(!sent.waits)
+        && !group.closed
+        && is_rest(&group.rest, sent)
+}
+
+fn is_rest(rest: &[Message], sent: &Sent) -> bool {
+    match rest.first() {
+        Some(message) => {
+            sent.waits && rest.len() == 1 && is_message(message, sent.sender, sent.tag, sent.text)
+        }
+        None => !sent.waits,
+    }
+}

@@ -1,0 +1,280 @@
+//! Lists of happenings that a seed gives. A list is drawn beside the plain lists, so that most of its numbers are good.
+use crate::lists::Lists;
+use crate::random::Random;
+use crate::told::Told;
+use rq_core::happening::{Choice, Happening};
+use rq_engine::event::Event;
+use rq_model::txn::{Sub, Txn};
+use std::alloc::{AllocError, Global};
+
+/// How many happenings a list has at most.
+const LENGTH: u64 = 160;
+
+/// How many more there are once the store can't be opened any more.
+const BEHIND: u64 = 3;
+
+/// A list that is being drawn.
+#[derive(Drop)]
+struct Drawing {
+    alloc: Global,
+    random: Random,
+    lists: Lists,
+    happenings: Vec<Happening>,
+    // The places of the commits, from 1.
+    commits: Vec<u64>,
+    // Whether the last happening opened the store.
+    opened: bool,
+    // Whether it sends and doesn't receive, and little else happens: the store fills up.
+    fills: bool,
+    // So many happenings are to come.
+    left: u64,
+}
+
+/// The list of a seed.
+pub fn drawn(alloc: Global, seed: u64) -> Result<Vec<Happening>, AllocError> {
+    let mut drawing = Drawing {
+        alloc,
+        random: Random::new(seed),
+        lists: Lists::new(alloc)?,
+        happenings: Vec::new(alloc),
+        commits: Vec::new(alloc),
+        opened: false,
+        fills: seed % 4 == 0,
+        left: LENGTH,
+    };
+    for _ in 0..LENGTH {
+        if drawing.left > 0 {
+            drawing.draw()?;
+        }
+    }
+    let Drawing {
+        alloc: _,
+        random: _,
+        lists: _,
+        happenings,
+        commits: _,
+        opened: _,
+        fills: _,
+        left: _,
+    } = drawing;
+    Ok(happenings)
+}
+
+impl Drawing {
+    fn draw(&mut self) -> Result<(), AllocError> {
+        let happening = self.next()?;
+        // a receive takes from the lowest sender
+        let told = self.lists.happen(&happening, u32::MAX)?;
+        self.happenings.push(happening)?;
+        self.opened = is_opened(&told);
+        if let Told::Committed(_, _) = told {
+            self.commits.push(self.happenings.len() as u64)?;
+        }
+        self.left = self.left.saturating_sub(1);
+        if self.lists.is_stuck() {
+            self.left = std::cmp::min(self.left, BEHIND);
+        }
+        Ok(())
+    }
+
+    fn next(&mut self) -> Result<Happening, AllocError> {
+        if !self.lists.is_open() {
+            return self.of_shut();
+        }
+        // it shows which image was left
+        if self.opened && !self.random.is_first_of(3) {
+            return Ok(Happening::Call(Event::WritePage(self.page())));
+        }
+        match self.random.below(if self.fills { 400 } else { 50 }) {
+            0 => Ok(Happening::Ack(self.random.below(LENGTH))),
+            1 => Ok(self.failure()),
+            2 => Ok(Happening::Crash(self.choice()?)),
+            3 | 4 => self.stop_in(),
+            5 if self.random.is_first_of(2) => Ok(Happening::Restart),
+            5 => {
+                let n = self.random.below(4);
+                Ok(Happening::RestartStop(n, self.choice()?))
+            }
+            6..9 => Ok(self.acknowledgement()),
+            9..15 => Ok(Happening::Call(Event::WritePage(self.page()))),
+            _ => Ok(Happening::Call(self.call()?)),
+        }
+    }
+
+    fn of_shut(&mut self) -> Result<Happening, AllocError> {
+        match self.random.below(10) {
+            0 | 1 => {
+                let n = self.random.below(11);
+                Ok(Happening::RestartStop(n, self.choice()?))
+            }
+            2 => Ok(Happening::Crash(self.choice()?)),
+            3 if self.random.is_first_of(2) => Ok(Happening::Call(self.call()?)),
+            3 => Ok(self.acknowledgement()),
+            4 => Ok(self.failure()),
+            _ => Ok(Happening::Restart),
+        }
+    }
+
+    // Of one of the last commits.
+    fn acknowledgement(&mut self) -> Happening {
+        let back = self.random.below(4).saturating_add(1);
+        let place = (self.commits.len() as u64).saturating_sub(back);
+        match self.commits.get(place as usize) {
+            Some(n) => Happening::Ack(*n),
+            None => Happening::Ack(place),
+        }
+    }
+
+    // A failure that is to come, where none is. Where one is, a restart, which is none of an open store.
+    fn failure(&mut self) -> Happening {
+        if self.lists.is_failing() {
+            Happening::Restart
+        } else {
+            Happening::Fail(self.random.below(9))
+        }
+    }
+
+    // What a crash keeps: most times so that the store can be opened again.
+    fn choice(&mut self) -> Result<Choice, AllocError> {
+        let mut keep = match self.random.below(4) {
+            0 => 0,
+            1 => u64::MAX,
+            _ => self.random.below(24),
+        };
+        if !self.random.is_first_of(6) {
+            keep = self.lists.settled_keep(keep);
+        }
+        let mut pages = Vec::new(self.alloc);
+        for _ in 0..self.random.below(5) {
+            let place = match self.random.below(5) {
+                0 => u64::MAX,
+                place => place.saturating_sub(1),
+            };
+            pages.push(place)?;
+        }
+        Ok(Choice { keep, pages })
+    }
+
+    fn stop_in(&mut self) -> Result<Happening, AllocError> {
+        let event = match self.random.below(6) {
+            0 | 1 => Event::Force,
+            2 => Event::HandOver,
+            3 | 4 => Event::WritePage(self.page()),
+            _ => self.call()?,
+        };
+        let n = self.random.below(4);
+        Ok(Happening::StopIn(event, n, self.choice()?))
+    }
+
+    // A call. Most times an operation under way goes on.
+    fn call(&mut self) -> Result<Event, AllocError> {
+        match self.lists.under_way() {
+            Some((sub, is_made)) if !self.random.is_first_of(8) => {
+                if is_made && !self.random.is_first_of(4) {
+                    Ok(Event::Finish(sub))
+                } else {
+                    Ok(Event::Step(sub))
+                }
+            }
+            None if self.lists.open_count() == 0 && !self.random.is_first_of(3) => Ok(Event::Begin),
+            _ => self.other_call(),
+        }
+    }
+
+    fn other_call(&mut self) -> Result<Event, AllocError> {
+        Ok(match self.random.below(24) {
+            0..3 => self.begin(),
+            3..8 => self.send()?,
+            8..18 if self.fills => self.send()?,
+            8..12 => Event::StartReceive(self.txn()),
+            12..14 => Event::StartReceiveFrom {
+                txn: self.txn(),
+                sender: self.sender(),
+            },
+            14 => Event::Step(self.sub()),
+            15 => Event::Finish(self.sub()),
+            16 | 17 => self.force(),
+            18 => Event::HandOver,
+            19 | 20 => Event::WritePage(self.page()),
+            21 => Event::Content,
+            _ => Event::Commit(self.txn()),
+        })
+    }
+
+    // A begin, where few transactions are open.
+    fn begin(&mut self) -> Event {
+        if self.lists.open_count() < 3 {
+            Event::Begin
+        } else {
+            Event::Commit(self.txn())
+        }
+    }
+
+    // A force, most times where nothing is unfinished.
+    fn force(&mut self) -> Event {
+        if self.lists.is_settled() || self.random.is_first_of(6) {
+            Event::Force
+        } else {
+            Event::Commit(self.txn())
+        }
+    }
+
+    fn send(&mut self) -> Result<Event, AllocError> {
+        let length = match self.random.below(24) {
+            0 => 216,
+            1 => 217,
+            _ => self.random.below(9),
+        };
+        let mut body = Vec::new(self.alloc);
+        for _ in 0..length {
+            body.push((self.random.below(26).saturating_add(97) & 255) as u8)?;
+        }
+        Ok(Event::StartSend {
+            txn: self.txn(),
+            sender: self.sender(),
+            tag: self.random.next(),
+            body,
+        })
+    }
+
+    fn txn(&mut self) -> Txn {
+        let place = self.random.below(self.lists.open_count());
+        match self.lists.open_at(place) {
+            Some(txn) if !self.random.is_first_of(16) => txn,
+            _ => Txn {
+                incarnation: self.random.below(4),
+                count: self.random.below(6),
+            },
+        }
+    }
+
+    fn sub(&mut self) -> Sub {
+        Sub {
+            txn: self.txn(),
+            number: self.random.below(4),
+        }
+    }
+
+    fn sender(&mut self) -> u32 {
+        let bound = if self.random.is_first_of(10) { 17 } else { 3 };
+        (self.random.below(bound) & 31) as u32
+    }
+
+    // Most times one that changes.
+    fn page(&mut self) -> u32 {
+        if self.random.is_first_of(8) {
+            (self.random.below(5) & 7) as u32
+        } else if self.random.is_first_of(2) {
+            1
+        } else {
+            2
+        }
+    }
+}
+
+fn is_opened(told: &Told) -> bool {
+    match told {
+        Told::Restarted(_) => true,
+        _ => false,
+    }
+}

@@ -1,0 +1,704 @@
+//! The queue as plain lists: what each happening has to come to, given what came before it.
+use crate::disk::{CELLS, DIRECTORY, Disk, Record};
+use crate::told::Told;
+use rq_core::happening::{Choice, Happening};
+use rq_engine::event::{Event, GroupContent};
+use rq_model::message::{Body, Message};
+use rq_model::reference::rows::{Act, CommittedTxn};
+use rq_model::refusal::Refusal;
+use rq_model::txn::{Sub, Txn};
+use rq_restart::restart::Report;
+use std::alloc::{AllocError, Global};
+
+/// The senders of a small store.
+const SENDERS: u32 = 15;
+
+/// Its cells, one for each message.
+const ROOM: usize = 15;
+
+/// The operation under way of a transaction: its number, what it does, and how many slot writes are to come.
+#[derive(Clone, Copy)]
+struct Work {
+    number: u64,
+    act: Act,
+    left: u8,
+}
+
+/// A transaction that has not ended.
+#[derive(Drop)]
+struct Row {
+    txn: Txn,
+    /// What its finished operations did.
+    acts: Vec<Act>,
+    /// The senders whose sending and receiving ends it holds.
+    sending: Vec<u32>,
+    receiving: Vec<u32>,
+    /// The number of its newest operation.
+    number: u64,
+    work: Option<Work>,
+}
+
+/// A store as lists.
+#[derive(Drop)]
+pub struct Lists {
+    alloc: Global,
+    disk: Disk,
+    committed: Vec<CommittedTxn>,
+    rows: Vec<Row>,
+    open: bool,
+    failed: bool,
+    incarnation: u64,
+    begins: u64,
+    /// What each happening came to so far.
+    told: Vec<Told>,
+}
+
+impl Lists {
+    /// A formatted store that is not open.
+    pub fn new(alloc: Global) -> Result<Lists, AllocError> {
+        Ok(Lists {
+            alloc,
+            disk: Disk::new(alloc)?,
+            committed: Vec::new(alloc),
+            rows: Vec::new(alloc),
+            open: false,
+            failed: false,
+            incarnation: 0,
+            begins: 0,
+            told: Vec::new(alloc),
+        })
+    }
+
+    /// What happens next comes to this. A receive takes from `picked`, if it may, else from the lowest sender that it may.
+    pub fn happen(&mut self, happening: &Happening, picked: u32) -> Result<Told, AllocError> {
+        let told = self.come_to(happening, picked);
+        self.note(&told)?;
+        Ok(told)
+    }
+
+    fn note(&mut self, told: &Told) -> Result<(), AllocError> {
+        self.told.push(*told)?;
+        Ok(())
+    }
+
+    fn come_to(&mut self, happening: &Happening, picked: u32) -> Told {
+        match happening {
+            Happening::Call(event) => self.call(event, picked),
+            Happening::Ack(n) => self.acknowledge(*n),
+            Happening::Fail(n) => self.fail(*n),
+            Happening::Crash(choice) => self.crash(choice),
+            Happening::StopIn(event, n, choice) => self.stop_in(event, *n, choice, picked),
+            Happening::Restart => self.restart(),
+            Happening::RestartStop(n, choice) => self.restart_stop(*n, choice),
+        }
+    }
+
+    fn fail(&mut self, n: u64) -> Told {
+        self.disk.fail(n);
+        Told::Nothing
+    }
+
+    fn stop_in(&mut self, event: &Event, n: u64, choice: &Choice, picked: u32) -> Told {
+        self.disk.stop(n);
+        let told = self.call(event, picked);
+        if self.disk.has_stopped() {
+            return self.crash(choice);
+        }
+        told
+    }
+
+    fn restart_stop(&mut self, n: u64, choice: &Choice) -> Told {
+        if self.open {
+            return Told::Running;
+        }
+        self.disk.stop(n);
+        let told = self.restart();
+        if self.disk.has_stopped() {
+            return self.crash_of(choice.keep, &choice.pages);
+        }
+        told
+    }
+
+    // A crash of a store that is not open leaves all.
+    fn crash(&mut self, choice: &Choice) -> Told {
+        if !self.open {
+            return self.crash_of(u64::MAX, &[]);
+        }
+        if !self.failed {
+            self.disk.hand_over_unseen();
+        }
+        self.crash_of(choice.keep, &choice.pages)
+    }
+
+    fn crash_of(&mut self, keep: u64, places: &[u64]) -> Told {
+        let records = self.disk.crash(keep, places);
+        let mut commits = 0;
+        for done in &self.committed {
+            if done.lsn <= records {
+                commits = usize::saturating_add(commits, 1);
+            }
+        }
+        self.committed.truncate(commits);
+        self.rows.clear();
+        self.open = false;
+        self.failed = false;
+        Told::Crashed(records)
+    }
+
+    fn restart(&mut self) -> Told {
+        if self.open {
+            return Told::Running;
+        }
+        match self.disk.open() {
+            Ok(incarnation) => {
+                self.open = true;
+                self.incarnation = incarnation;
+                self.begins = 0;
+                Told::Restarted(Report {
+                    incarnation,
+                    unfinished: 0,
+                    lost: 0,
+                    records: self.disk.len(),
+                })
+            }
+            Err(refusal) => Told::Shut(refusal),
+        }
+    }
+
+    // Of the commit that the nth happening came to.
+    fn acknowledge(&mut self, n: u64) -> Told {
+        let place = n.saturating_sub(1);
+        if n == 0 || n > self.told.len() as u64 {
+            return Told::Nothing;
+        }
+        let Some(Told::Committed(txn, lsn)) = self.told.get(place as usize).copied() else {
+            return Told::Nothing;
+        };
+        if !self.is_running() {
+            return Told::Refused(Refusal::Failed);
+        }
+        if txn.incarnation == self.incarnation && lsn <= self.disk.forced() {
+            Told::Given(txn, lsn)
+        } else {
+            Told::NotGiven
+        }
+    }
+
+    fn call(&mut self, event: &Event, picked: u32) -> Told {
+        if !self.is_running() {
+            return Told::Refused(Refusal::Failed);
+        }
+        match self.answer(event, picked) {
+            Ok(told) => told,
+            Err(refusal) => {
+                if refusal == Refusal::DiskWrite {
+                    self.failed = true;
+                    self.disk.drop_buffered();
+                }
+                Told::Refused(refusal)
+            }
+        }
+    }
+
+    fn answer(&mut self, event: &Event, picked: u32) -> Result<Told, Refusal> {
+        match event {
+            Event::Begin => self.begin(),
+            Event::StartSend {
+                txn,
+                sender,
+                tag,
+                body,
+            } => self.start_send(*txn, *sender, *tag, body),
+            Event::StartReceive(txn) => self.start_receive(*txn, picked),
+            Event::StartReceiveFrom { txn, sender } => self.start_receive_from(*txn, *sender),
+            Event::Step(sub) => self.step(*sub),
+            Event::Finish(sub) => self.finish(*sub),
+            Event::Commit(txn) => self.commit(*txn),
+            Event::Acknowledged(_) => Ok(Told::Other),
+            Event::HandOver => {
+                self.disk.hand_over()?;
+                Ok(Told::HandedOver)
+            }
+            Event::Force => Ok(Told::Forced(self.disk.force()?)),
+            Event::WritePage(page) => Ok(if self.disk.write(*page)? {
+                Told::Written
+            } else {
+                Told::NotWritten
+            }),
+            Event::Content if self.is_busy() => Err(Refusal::Unfinished),
+            Event::Content => Ok(Told::Content),
+        }
+    }
+
+    fn begin(&mut self) -> Result<Told, Refusal> {
+        let count = self.begins.saturating_add(1);
+        let txn = Txn {
+            incarnation: self.incarnation,
+            count,
+        };
+        let row = Row {
+            txn,
+            acts: Vec::new(self.alloc),
+            sending: Vec::new(self.alloc),
+            receiving: Vec::new(self.alloc),
+            number: 0,
+            work: None,
+        };
+        if self.rows.push(row).is_err() {
+            return Err(Refusal::NoMemory);
+        }
+        self.begins = count;
+        Ok(Told::Begun(txn))
+    }
+
+    fn start_send(
+        &mut self,
+        txn: Txn,
+        sender: u32,
+        tag: u64,
+        body: &[u8],
+    ) -> Result<Told, Refusal> {
+        let place = self.idle_place(txn)?;
+        if sender >= SENDERS {
+            return Err(Refusal::UnknownSender);
+        }
+        let Some(body) = Body::new(body) else {
+            return Err(Refusal::TooLong);
+        };
+        if self.is_sending_end_held(place, sender) {
+            return Err(Refusal::SenderBusy);
+        }
+        if self.cells_in_use() >= ROOM {
+            return Err(Refusal::Full);
+        }
+        if self.is_busy() {
+            return Err(Refusal::Latched);
+        }
+        let act = Act::Sent(Message { sender, tag, body });
+        let left = if self.length(sender) == 0 { 2 } else { 3 };
+        self.start(place, act, left)
+    }
+
+    fn start_receive(&mut self, txn: Txn, picked: u32) -> Result<Told, Refusal> {
+        let place = self.idle_place(txn)?;
+        if self.may_take(place, picked) {
+            return self.start_take(place, picked);
+        }
+        for sender in 0..SENDERS {
+            if self.may_take(place, sender) {
+                return self.start_take(place, sender);
+            }
+        }
+        Ok(Told::NoMessage)
+    }
+
+    fn start_receive_from(&mut self, txn: Txn, sender: u32) -> Result<Told, Refusal> {
+        let place = self.idle_place(txn)?;
+        if sender >= SENDERS {
+            return Err(Refusal::UnknownSender);
+        }
+        if self.is_receiving_end_held(place, sender) {
+            return Err(Refusal::ReceiverBusy);
+        }
+        if !self.may_take(place, sender) {
+            return Ok(Told::NoMessage);
+        }
+        self.start_take(place, sender)
+    }
+
+    fn start_take(&mut self, place: usize, sender: u32) -> Result<Told, Refusal> {
+        if self.is_busy() {
+            return Err(Refusal::Latched);
+        }
+        let Some(message) = self.nth_sent(sender, self.taken(sender)) else {
+            return Ok(Told::Other);
+        };
+        let left = if self.length(sender) == 1 { 2 } else { 3 };
+        self.start(place, Act::Taken(message), left)
+    }
+
+    // The transaction at this place starts an operation, and holds an end from then on.
+    fn start(&mut self, place: usize, act: Act, left: u8) -> Result<Told, Refusal> {
+        let Some(row) = self.rows.get_mut(place) else {
+            return Ok(Told::Other);
+        };
+        let held = if is_send(&act) {
+            row.sending.push(sender_of(&act)).is_ok()
+        } else {
+            row.receiving.push(sender_of(&act)).is_ok()
+        };
+        if !held {
+            return Err(Refusal::NoMemory);
+        }
+        let number = row.number.saturating_add(1);
+        row.number = number;
+        row.work = Some(Work { number, act, left });
+        let txn = row.txn;
+        Ok(Told::Started(Sub { txn, number }))
+    }
+
+    // The last slot write of an operation is of the directory, those before it are of cells.
+    fn step(&mut self, sub: Sub) -> Result<Told, Refusal> {
+        let (place, work) = self.work_of(sub)?;
+        if work.left == 0 {
+            return Ok(Told::Ready);
+        }
+        let page = if work.left == 1 { DIRECTORY } else { CELLS };
+        let lsn = self.disk.add(Record::Write(sub.txn, page))?;
+        if let Some(row) = self.rows.get_mut(place) {
+            row.work = Some(Work {
+                number: work.number,
+                act: work.act,
+                left: work.left.saturating_sub(1),
+            });
+        }
+        Ok(Told::Stepped(lsn))
+    }
+
+    fn finish(&mut self, sub: Sub) -> Result<Told, Refusal> {
+        let (place, work) = self.work_of(sub)?;
+        if work.left > 0 {
+            return Err(Refusal::Unfinished);
+        }
+        self.disk.add(Record::End(sub.txn, deed_bytes(&work.act)))?;
+        let Some(row) = self.rows.get_mut(place) else {
+            return Ok(Told::Other);
+        };
+        end_work(row, work.act)?;
+        Ok(told_of_act(&work.act))
+    }
+
+    fn commit(&mut self, txn: Txn) -> Result<Told, Refusal> {
+        let place = self.idle_place(txn)?;
+        let lsn = self.disk.add(Record::Commit(txn))?;
+        if place >= self.rows.len() {
+            return Ok(Told::Other);
+        }
+        let Row {
+            txn: _,
+            acts,
+            sending: _,
+            receiving: _,
+            number: _,
+            work: _,
+        } = self.rows.remove(place);
+        let done = CommittedTxn { txn, lsn, acts };
+        if self.committed.push(done).is_err() {
+            return Err(Refusal::NoMemory);
+        }
+        Ok(Told::Committed(txn, lsn))
+    }
+
+    fn is_running(&self) -> bool {
+        self.open && !self.failed
+    }
+
+    // Whether an operation is under way. Every operation of a small store needs its one directory page.
+    fn is_busy(&self) -> bool {
+        for row in &self.rows {
+            if row.work.is_some() {
+                return true;
+            }
+        }
+        false
+    }
+
+    fn place_of(&self, txn: Txn) -> Option<usize> {
+        for place in 0..self.rows.len() {
+            if let Some(row) = self.rows.get(place) {
+                if row.txn == txn {
+                    return Some(place);
+                }
+            }
+        }
+        None
+    }
+
+    // Where a transaction stands that has no operation under way.
+    fn idle_place(&self, txn: Txn) -> Result<usize, Refusal> {
+        let Some(place) = self.place_of(txn) else {
+            return Err(Refusal::UnknownTransaction);
+        };
+        match self.rows.get(place) {
+            Some(row) if row.work.is_none() => Ok(place),
+            _ => Err(Refusal::Unfinished),
+        }
+    }
+
+    // Where the transaction of an operation under way stands, and the operation.
+    fn work_of(&self, sub: Sub) -> Result<(usize, Work), Refusal> {
+        let Some(place) = self.place_of(sub.txn) else {
+            return Err(Refusal::UnknownOperation);
+        };
+        let Some(row) = self.rows.get(place) else {
+            return Err(Refusal::UnknownOperation);
+        };
+        match row.work {
+            Some(work) if work.number == sub.number => Ok((place, work)),
+            _ => Err(Refusal::UnknownOperation),
+        }
+    }
+
+    fn is_sending_end_held(&self, place: usize, sender: u32) -> bool {
+        for other in 0..self.rows.len() {
+            if let Some(row) = self.rows.get(other) {
+                if other != place && row.sending.contains(&sender) {
+                    return true;
+                }
+            }
+        }
+        false
+    }
+
+    fn is_receiving_end_held(&self, place: usize, sender: u32) -> bool {
+        for other in 0..self.rows.len() {
+            if let Some(row) = self.rows.get(other) {
+                if other != place && row.receiving.contains(&sender) {
+                    return true;
+                }
+            }
+        }
+        false
+    }
+
+    // Whether the sender's group is free for the transaction at this place, and holds a message for it.
+    fn may_take(&self, place: usize, sender: u32) -> bool {
+        !self.is_receiving_end_held(place, sender) && self.taken(sender) < self.sent(sender)
+    }
+
+    // Committed sends of a sender.
+    fn sent(&self, sender: u32) -> usize {
+        let mut sent: usize = 0;
+        for done in &self.committed {
+            sent = sent.saturating_add(sends_in(&done.acts, sender));
+        }
+        sent
+    }
+
+    // Committed receives from a sender.
+    fn received(&self, sender: u32) -> usize {
+        let mut received: usize = 0;
+        for done in &self.committed {
+            received = received.saturating_add(takes_in(&done.acts, sender));
+        }
+        received
+    }
+
+    // All finished receives from a sender.
+    fn taken(&self, sender: u32) -> usize {
+        let mut taken = self.received(sender);
+        for row in &self.rows {
+            taken = taken.saturating_add(takes_in(&row.acts, sender));
+        }
+        taken
+    }
+
+    // How many messages a sender's chain has: all that were sent and not taken.
+    fn length(&self, sender: u32) -> usize {
+        let mut sent = self.sent(sender);
+        for row in &self.rows {
+            sent = sent.saturating_add(sends_in(&row.acts, sender));
+        }
+        sent.saturating_sub(self.taken(sender))
+    }
+
+    // Cells of messages that are held, or taken by transactions that have not ended, or meant for sends under way.
+    fn cells_in_use(&self) -> usize {
+        let mut cells: usize = 0;
+        for sender in 0..SENDERS {
+            cells = cells.saturating_add(self.sent(sender));
+            cells = cells.saturating_sub(self.received(sender));
+            for row in &self.rows {
+                cells = cells.saturating_add(sends_in(&row.acts, sender));
+            }
+        }
+        for row in &self.rows {
+            if let Some(
+                Work {
+                    number: _,
+                    act: Act::Sent(_),
+                    left: _,
+                },
+            ) = row.work
+            {
+                cells = cells.saturating_add(1);
+            }
+        }
+        cells
+    }
+
+    // The nth message, from 0, that committed transactions sent for a sender.
+    fn nth_sent(&self, sender: u32, n: usize) -> Option<Message> {
+        let mut place: usize = 0;
+        for done in &self.committed {
+            for act in &done.acts {
+                if let Act::Sent(message) = act {
+                    if message.sender == sender {
+                        if place == n {
+                            return Some(*message);
+                        }
+                        place = place.saturating_add(1);
+                    }
+                }
+            }
+        }
+        None
+    }
+
+    /// Whether these groups are the committed content.
+    pub fn is_content(&self, groups: &[GroupContent]) -> bool {
+        if groups.len() as u64 != u64::from(SENDERS) {
+            return false;
+        }
+        for sender in 0..SENDERS {
+            match groups.get(sender as usize) {
+                Some(group) if self.is_group(group, sender) => {}
+                _ => return false,
+            }
+        }
+        true
+    }
+
+    fn is_group(&self, group: &GroupContent, sender: u32) -> bool {
+        let sent = self.sent(sender);
+        let received = self.received(sender);
+        let last_tag = match self.nth_sent(sender, sent.saturating_sub(1)) {
+            Some(message) => message.tag,
+            None => 0,
+        };
+        if group.rest.len() != sent.saturating_sub(received) {
+            return false;
+        }
+        for place in 0..group.rest.len() {
+            let wanted = self.nth_sent(sender, received.saturating_add(place));
+            if group.rest.get(place).copied() != wanted {
+                return false;
+            }
+        }
+        group.sent == sent as u64
+            && group.received == received as u64
+            && group.last_tag == last_tag
+            && !group.closed
+    }
+
+    /// Whether the store is open.
+    pub fn is_open(&self) -> bool {
+        self.open
+    }
+
+    /// Whether it can't be opened any more: what its log holds is unfinished.
+    pub fn is_stuck(&self) -> bool {
+        !self.open && !self.disk.is_settled(self.disk.len())
+    }
+
+    /// Whether nothing that a crash may keep is unfinished.
+    pub fn is_settled(&self) -> bool {
+        self.disk.is_settled(self.disk.len())
+    }
+
+    /// Whether a failure is to come.
+    pub fn is_failing(&self) -> bool {
+        self.disk.is_failing()
+    }
+
+    /// At most so many unforced records for a crash to keep, after which the store can be opened; or so many, where there are none.
+    pub fn settled_keep(&self, keep: u64) -> u64 {
+        let most = std::cmp::min(keep, self.disk.unforced());
+        for less in 0..most {
+            let count = self.disk.forced().saturating_add(most.saturating_sub(less));
+            if self.disk.is_settled(count) {
+                return most.saturating_sub(less);
+            }
+        }
+        0
+    }
+
+    /// How many transactions have not ended.
+    pub fn open_count(&self) -> u64 {
+        self.rows.len() as u64
+    }
+
+    /// The number of the transaction at a place among them.
+    pub fn open_at(&self, place: u64) -> Option<Txn> {
+        match self.rows.get(place as usize) {
+            Some(row) => Some(row.txn),
+            None => None,
+        }
+    }
+
+    /// The operation under way, and whether its writes are made.
+    pub fn under_way(&self) -> Option<(Sub, bool)> {
+        for row in &self.rows {
+            if let Some(work) = row.work {
+                let sub = Sub {
+                    txn: row.txn,
+                    number: work.number,
+                };
+                return Some((sub, work.left == 0));
+            }
+        }
+        None
+    }
+}
+
+// The operation under way of a transaction is finished.
+fn end_work(row: &mut Row, act: Act) -> Result<(), Refusal> {
+    row.work = None;
+    if row.acts.push(act).is_err() {
+        return Err(Refusal::NoMemory);
+    }
+    Ok(())
+}
+
+fn told_of_act(act: &Act) -> Told {
+    match act {
+        Act::Sent(_) => Told::Sent,
+        Act::Taken(message) => Told::Message(*message),
+        Act::Closed(_) => Told::Other,
+    }
+}
+
+fn is_send(act: &Act) -> bool {
+    match act {
+        Act::Sent(_) => true,
+        _ => false,
+    }
+}
+
+fn sender_of(act: &Act) -> u32 {
+    match act {
+        Act::Sent(message) | Act::Taken(message) => message.sender,
+        Act::Closed(sender) => *sender,
+    }
+}
+
+fn sends_in(acts: &[Act], sender: u32) -> usize {
+    let mut sends: usize = 0;
+    for act in acts {
+        match act {
+            Act::Sent(message) if message.sender == sender => sends = sends.saturating_add(1),
+            _ => {}
+        }
+    }
+    sends
+}
+
+fn takes_in(acts: &[Act], sender: u32) -> usize {
+    let mut takes: usize = 0;
+    for act in acts {
+        match act {
+            Act::Taken(message) if message.sender == sender => takes = takes.saturating_add(1),
+            _ => {}
+        }
+    }
+    takes
+}
+
+// The bytes that say what an operation did.
+fn deed_bytes(act: &Act) -> u64 {
+    match act {
+        Act::Sent(message) => (message.body.as_slice().len() as u64).saturating_add(29),
+        Act::Taken(message) => (message.body.as_slice().len() as u64).saturating_add(21),
+        Act::Closed(_) => 5,
+    }
+}
