@@ -15,7 +15,8 @@ const FIRST: u64 = 1;
 /// How many lists there are.
 const LISTS: u64 = 300;
 
-// The number of the first happening of the list of this seed that the plain lists tell otherwise; 0 where there is none.
+// The number of the first happening of the list of this seed that the plain lists tell otherwise; 0 where there is
+// none.
 fn first_fault(alloc: Global, seed: u64) -> Result<u64, AllocError> {
     let happenings = drawn(alloc, seed)?;
     let entries = run(alloc, &happenings)?;

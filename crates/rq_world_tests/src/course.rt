@@ -32,7 +32,8 @@ pub enum Text {
     Hello,
 }
 
-/// Of each page, by number, the place of the image that a crash leaves; the pages that are not said are at their newest.
+/// Of each page, by number, the place of the image that a crash leaves; the pages that are not said are at their
+/// newest.
 #[derive(Clone, Copy)]
 pub enum Images {
     Unsaid,
@@ -67,8 +68,8 @@ pub struct Sent {
 #[derive(Clone, Copy)]
 pub enum Step {
     Call(Ask, Told),
-    /// The first operation of a transaction, a send to an empty group, from its start to its end: a sender, a tag, a body,
-    /// and the first of its three records.
+    /// The first operation of a transaction, a send to an empty group, from its start to its end: a sender, a tag, a
+    /// body, and the first of its three records.
     Send(Txn, u32, u64, Text, Lsn),
     /// The first operation of a transaction, a receive of a group's only message, from its start to its end, as above.
     Receive(Txn, u32, u64, Text, Lsn),
@@ -106,8 +107,8 @@ pub const fn restarted(incarnation: u64, records: u64) -> Told {
     })
 }
 
-/// Lets this happen to a small store, and then that. Answers the number of the first step that came to something else, 0 where
-/// there is none.
+/// Lets this happen to a small store, and then that. Answers the number of the first step that came to something else,
+/// 0 where there is none.
 pub fn first_fault(alloc: Global, first: &[Step], then: &[Step]) -> Result<u64, AllocError> {
     let mut course = Course {
         alloc,

@@ -230,7 +230,8 @@ impl Disk {
         }
     }
 
-    /// Writes a page that was changed, where its last record is forced; whether it did. The write that the power fails in is made.
+    /// Writes a page that was changed, where its last record is forced; whether it did. The write that the power fails
+    /// in is made.
     pub fn write(&mut self, page: u32) -> Result<bool, Refusal> {
         let images = if page == DIRECTORY {
             &self.directory
@@ -293,8 +294,9 @@ impl Disk {
         self.read()
     }
 
-    /// Opens the store, whose records are all handed over: reads everything, makes the changes that pages lack, and forces the
-    /// record of the opening, the newest then. Answers how many openings there were. What is unfinished is not opened yet.
+    /// Opens the store, whose records are all handed over: reads everything, makes the changes that pages lack, and
+    /// forces the record of the opening, the newest then. Answers how many openings there were. What is unfinished is
+    /// not opened yet.
     pub fn open(&mut self) -> Result<u64, Refusal> {
         self.read_all()?;
         if !self.is_settled(self.len()) {
@@ -358,8 +360,8 @@ impl Disk {
         false
     }
 
-    /// A crash. Of the records that were handed over and not forced so many outlive it, and of each page the image at its place. Answers
-    /// how many records are left.
+    /// A crash. Of the records that were handed over and not forced so many outlive it, and of each page the image at
+    /// its place. Answers how many records are left.
     pub fn crash(&mut self, keep: u64, places: &[u64]) -> u64 {
         let kept = (self.forced as u64).saturating_add(keep);
         if kept < self.handed as u64 {

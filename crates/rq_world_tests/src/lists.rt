@@ -69,7 +69,8 @@ impl Lists {
         })
     }
 
-    /// What happens next comes to this. A receive takes from `picked`, if it may, else from the lowest sender that it may.
+    /// What happens next comes to this. A receive takes from `picked`, if it may, else from the lowest sender that it
+    /// may.
     pub fn happen(&mut self, happening: &Happening, picked: u32) -> Result<Told, AllocError> {
         let told = self.come_to(happening, picked);
         self.note(&told)?;
@@ -601,7 +602,8 @@ impl Lists {
         self.disk.is_failing()
     }
 
-    /// At most so many unforced records for a crash to keep, after which the store can be opened; or so many, where there are none.
+    /// At most so many unforced records for a crash to keep, after which the store can be opened; or so many, where
+    /// there are none.
     pub fn settled_keep(&self, keep: u64) -> u64 {
         let most = std::cmp::min(keep, self.disk.unforced());
         for less in 0..most {

@@ -46,8 +46,8 @@ const fn crashed() -> [Step; 6] {
     ]
 }
 
-// A force appends, and then forces. Where the power fails in the append, it is made; where it fails in the force, that is not: either
-// way the four records are there, and not forced.
+// A force appends, and then forces. Where the power fails in the append, it is made; where it fails in the force, that
+// is not: either way the four records are there, and not forced.
 #[test]
 fn stops_in_a_force(rt: HostRuntime) -> Result<(), Fail> {
     for n in 1..3 {
@@ -100,8 +100,8 @@ fn stops_in_a_hand_over_and_the_force_behind_it(rt: HostRuntime) -> Result<(), F
     Ok(())
 }
 
-// The write that the power fails in is made: the image at place 1 has all changes of page 1, and the restart none to make. The one at
-// place 0 has none of them. The content is that of the log either way.
+// The write that the power fails in is made: the image at place 1 has all changes of page 1, and the restart none to
+// make. The one at place 0 has none of them. The content is that of the log either way.
 #[test]
 fn stops_in_a_page_write(rt: HostRuntime) -> Result<(), Fail> {
     for (images, again) in [
@@ -126,8 +126,8 @@ fn stops_in_a_page_write(rt: HostRuntime) -> Result<(), Fail> {
     Ok(())
 }
 
-// Two images of page 1 are written, the one with the first message, the other with the second too. Each may be left, and so may the one
-// before them.
+// Two images of page 1 are written, the one with the first message, the other with the second too. Each may be left,
+// and so may the one before them.
 #[test]
 fn each_image_that_was_written_may_be_left(rt: HostRuntime) -> Result<(), Fail> {
     for (place, again) in [
@@ -160,8 +160,8 @@ fn each_image_that_was_written_may_be_left(rt: HostRuntime) -> Result<(), Fail> 
     Ok(())
 }
 
-// A restart of this store reads three pages, and the log until a read finds its end: five device calls. The sixth appends, the seventh
-// forces.
+// A restart of this store reads three pages, and the log until a read finds its end: five device calls. The sixth
+// appends, the seventh forces.
 #[test]
 fn stops_in_a_restart(rt: HostRuntime) -> Result<(), Fail> {
     for n in 1..8 {
@@ -237,8 +237,8 @@ fn a_stop_that_a_call_does_not_come_to(rt: HostRuntime) -> Result<(), Fail> {
     Ok(())
 }
 
-// The first eight happenings are those of the send, of which the eighth is its commit. After the restart it is forced, but not of that
-// incarnation.
+// The first eight happenings are those of the send, of which the eighth is its commit. After the restart it is forced,
+// but not of that incarnation.
 #[test]
 fn an_acknowledgement_of_no_commit_is_nothing(rt: HostRuntime) -> Result<(), Fail> {
     let end = [
@@ -282,7 +282,8 @@ fn each_commit_has_its_own_receipt(rt: HostRuntime) -> Result<(), Fail> {
     Ok(())
 }
 
-// A store runs until it crashes, also where it has failed. The append failed, and the store with it: the crash hands nothing over.
+// A store runs until it crashes, also where it has failed. The append failed, and the store with it: the crash hands
+// nothing over.
 #[test]
 fn a_restart_of_an_open_store_is_nothing(rt: HostRuntime) -> Result<(), Fail> {
     let end = [
@@ -329,8 +330,8 @@ fn calls_of_a_store_that_is_not_open(rt: HostRuntime) -> Result<(), Fail> {
     Ok(())
 }
 
-// The restart fails in its force: the record that it appended is not forced, and a crash of a store that is not open leaves it, and the
-// newest images.
+// The restart fails in its force: the record that it appended is not forced, and a crash of a store that is not open
+// leaves it, and the newest images.
 #[test]
 fn a_crash_of_a_store_that_is_not_open_leaves_all(rt: HostRuntime) -> Result<(), Fail> {
     let end = [
@@ -349,7 +350,8 @@ fn a_crash_of_a_store_that_is_not_open_leaves_all(rt: HostRuntime) -> Result<(),
     Ok(())
 }
 
-// Each device call of a restart fails in turn, and the next restart opens the store. A record that was appended and not forced is read.
+// Each device call of a restart fails in turn, and the next restart opens the store. A record that was appended and not
+// forced is read.
 #[test]
 fn a_restart_that_a_device_fails(rt: HostRuntime) -> Result<(), Fail> {
     for (n, refusal, opened) in [
