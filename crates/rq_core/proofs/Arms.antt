@@ -105,7 +105,7 @@ not_open z course x call pages log is ran =
     let s : IsShut mem_pages mem_log z ran.history pages log = ran.stands in
     record {
       history = Refused_entry call why.Failed ∷ ran.history;
-      tells = (ran.history, ran.tells, subst (λ c. AddsCall c (Gave_refusal why.Failed) ran.history (Refused_entry call why.Failed ∷ ran.history)) (sym is) (Refused_entry call why.Failed, says call, refl));
+      tells = (ran.history, ran.tells, subst (λ c. AddsCall c (Gave_refusal why.Failed) ran.history (Refused_entry call why.Failed ∷ ran.history)) (sym is) (Refused_entry call why.Failed, says call, tt, refl));
       legal = (shut_refuses (size_of z) (ledger ran.history) call s.phase, ran.legal);
       stands = record { range = s.range; phase = s.phase; older = s.older; ties = s.ties; left = s.left };
     } where

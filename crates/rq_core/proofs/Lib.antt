@@ -3,3 +3,4 @@ pub mod Courses
 pub mod Devices
 pub mod Worked
 pub mod Worlds
+pub mod Exact

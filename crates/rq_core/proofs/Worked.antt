@@ -11,15 +11,15 @@ use Rattle.rq_model.specs.History.Entry.{Begun, Started, Stepped, Did, Committed
 use Rattle.rq_model.specs.Ledger.{fresh_one, ledger}
 use Rattle.rq_model.specs.Legal.{free_to_receive, holds_for}
 use Rattle.rq_model.specs.Replay.{Number}
-use Rattle.rq_core.specs.Happenings.{Tells}
-use Rattle.rq_core.specs.Worked.{AreJudged, course, first_of, hello, history, txn}
+use Rattle.rq_core.specs.Happenings.{Tells, any_under}
+use Rattle.rq_core.specs.Worked.{AreJudged, course, first_of, hello, history, taking, txn}
 
 told : Tells course history
-told = (first_of 18, (first_of 17, (first_of 16, (first_of 16, (first_of 16, (first_of 15, (first_of 14, (first_of 13, (first_of 12, (first_of 11, (first_of 10, (first_of 10, (first_of 10, (first_of 9, (first_of 8, (first_of 7, (first_of 6, (first_of 5, (first_of 4, (first_of 3, (first_of 2, (first_of 1, (first_of 0, refl, (refl, refl, refl, refl)), (Begun (txn 1 1), refl, refl)), (Started (txn 1 1) 1 (Sending hello), (refl, refl), refl)), (Stepped (txn 1 1) 1 2, refl, refl)), (Stepped (txn 1 1) 1 3, refl, refl)), (Did (txn 1 1) 1 (Send hello), (hello, refl), refl)), (Committed (txn 1 1) 5, (refl, refl), refl)), (Acknowledged (txn 1 1) 5 false, refl, refl)), (Forced 5, refl, refl)), (Acknowledged (txn 1 1) 5 true, (refl, refl), refl)), (tt, refl)), (refl, (λ e. cc e), refl)), (Begun (txn 1 2), refl, refl)), (Started (txn 1 2) 1 (Taking 0), (refl, 0, refl), refl)), (Stepped (txn 1 2) 1 6, refl, refl)), ((λ e. cc e), refl)), (Refused_entry (Acknowledge (txn 1 1) 5) Failed, refl, refl)), (refl, refl)), (tt, refl)), (refl, tt, refl, refl)), (tt, refl)), (refl, refl, refl, refl)), (Acknowledged (txn 1 1) 5 false, refl, refl))
+told = (first_of 17, (first_of 16, (first_of 15, (first_of 15, (first_of 15, (first_of 14, (first_of 13, (first_of 12, (first_of 11, (first_of 10, (first_of 10, (first_of 10, (first_of 9, (first_of 8, (first_of 7, (first_of 6, (first_of 5, (first_of 4, (first_of 3, (first_of 2, (first_of 1, (first_of 0, refl, (refl, refl, refl, refl)), (Begun (txn 1 1), refl, tt, refl)), (Started (txn 1 1) 1 (Sending hello), (refl, refl), tt, refl)), (Stepped (txn 1 1) 1 2, refl, tt, refl)), (Stepped (txn 1 1) 1 3, refl, tt, refl)), (Did (txn 1 1) 1 (Send hello), (hello, refl), tt, refl)), (Committed (txn 1 1) 5, (refl, refl), tt, refl)), (Acknowledged (txn 1 1) 5 false, refl, tt, refl)), (Forced 5, refl, tt, refl)), (Acknowledged (txn 1 1) 5 true, (refl, refl), tt, refl)), (tt, refl)), (refl, (λ e. cc e), refl)), (Begun (txn 1 2), refl, tt, refl)), (Committed (txn 1 2) 6, (refl, refl), tt, refl)), ((λ e. cc e), refl)), (Refused_entry (Acknowledge (txn 1 1) 5) Failed, refl, tt, refl)), (refl, refl)), (tt, refl)), (refl, tt, refl, refl)), (tt, refl)), (refl, refl, refl, refl)), (Acknowledged (txn 1 1) 5 false, refl, tt, refl))
 
 -- where the only message is another's, no free group holds one
 abbrev taken : List Entry
-taken = Begun (txn 1 3) ∷ first_of 13
+taken = Begun (txn 1 3) ∷ taking
 
 none_of : (s : ℕ) → s < 15 → free_to_receive (txn 1 3) s (ledger taken).open_ones ≡ true → holds_for (ledger taken) (fresh_one (txn 1 3)) s ≡ false
 none_of zero low free = cc free
@@ -36,8 +36,12 @@ judged = record {
   restart_answered_as_a_call = λ h t. t.2;
   running_while_shut = λ h t. t.2.1 (ap (λ (k : List Entry). (ledger k).phase) t.1);
   refused_for_damage = λ h t. t.2.1;
+  damaged_while_open = λ h t. t.2.2;
+  failed_without_a_write = λ h t. cc t.2.2;
+  latched_with_nothing_under_way = λ h t. cc (sym (ap (λ (k : List Entry). any_under (ledger k).open_ones) t.1.2.3) ∙ t.2.2);
+  memory_of_a_step = λ h t. cc t.2.2;
   refused_while_open = λ h t. cc (sym (ap (λ (k : List Entry). (ledger k).phase) t.1.2.3) ∙ t.2.2);
-  undone_without_work = λ h t. (let e = t.2.2 in omega (arith, e));
+  undone_at_all = λ h t. (let e = t.2.2 in omega (arith, e));
   acknowledged_of_no_commit = λ h t. t.2;
   answered_before_the_first = λ h t. t.2;
   loses_what_was_left = λ h a. (let e : 3 ≤ 1 = a.0.forced in omega (arith, e));

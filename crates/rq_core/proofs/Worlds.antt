@@ -1,6 +1,6 @@
 -- Each kind of happening keeps what is so of a store between two of them.
 use Rattle.std.specs.Prelude.{◌==◌, if◌then◌else◌}
-use Rattle.std.proofs.Common.{Bool, ◌≢◌, ◌≡◌, ℕ, ◌+◌, ◌≤◌, List, [], ◌∷◌, ◌++◌, length, take, drop, refl, sym, ◌∙◌, ap, subst, true, false, Some, None, arith, append_assoc, inl, inr, IsTrue, ◌⊎◌}
+use Rattle.std.proofs.Common.{Bool, Option, ◌||◌, ◌≢◌, ◌≡◌, ℕ, ◌+◌, ◌≤◌, List, [], ◌∷◌, ◌++◌, length, take, drop, refl, sym, ◌∙◌, ap, subst, true, false, Some, None, arith, append_assoc, inl, inr, IsTrue, ◌⊎◌}
 use Rattle.std.proofs.lemmas.Bool.{cases_eq}
 use Rattle.std.proofs.lemmas.Bool.Decides.{nat_tests}
 use Rattle.std.proofs.lemmas.List.{take-append-drop, length-drop}
@@ -8,7 +8,7 @@ use Rattle.rq_model.specs.declared.record.Record.{Record}
 use Rattle.rq_model.specs.declared.txn.Txn.{Txn}
 use Rattle.rq_model.specs.declared.refusal.Refusal.{Refusal}
 use Rattle.rq_model.specs.declared.refusal.Refusal.TheVariants as why
-use Rattle.rq_model.specs.Words.{In}
+use Rattle.rq_model.specs.Words.{In, is_some}
 use Rattle.rq_model.specs.History.{Entry, Call, commits}
 use Rattle.rq_model.specs.History.Call.{Hand_over}
 use Rattle.rq_model.specs.History.Entry.{Crash as Crash_entry, Restarted as Restarted_entry, Refused as Refused_entry}
@@ -37,7 +37,12 @@ use Rattle.rq_engine.specs.Applied.{Applied, RefusalLeaves, WriteFails}
 use Rattle.rq_engine.specs.Crash.{AreFit, IsCut, LeavesCut}
 use Rattle.rq_engine.specs.Devices.{EachPair}
 use Rattle.rq_engine.specs.Opened.{OpenStore}
+use Rattle.rq_engine.specs.Answers as answers
+use Rattle.rq_engine.specs.Says as says
 use Rattle.rq_engine.specs.Says.{call_of, gave, writes_out}
+use Rattle.rq_groups.specs.Ends.{HeldEnds}
+use Rattle.rq_txn.specs.Rows.{Row, Under, any_under as rows_under}
+use Rattle.rq_store.specs.State.{job_under, open_ones_of}
 use Rattle.rq_engine.specs.declared.event.Event.{Event}
 use Rattle.rq_engine.specs.declared.event.Event.TheVariants as event
 use Rattle.rq_engine.specs.declared.event.Outcome.TheVariants as outcome
@@ -48,7 +53,7 @@ use Rattle.rq_restart.specs.Restarting.{IsReadAs, IsLeftOn, Reports, Stops}
 use Rattle.rq_restart.specs.declared.restart.Report.{Report as Restart_report}
 use Rattle.rq_restart.specs.Underway.{IsStore, IsSomeStore, IsLeftOrGoesOn}
 use Rattle.rq_restart.specs.Once.{OneLogEach, AsManyAsTheLog, OneSizeEach}
-use Rattle.rq_core.specs.Happenings.{Happening, Answer, Report, Course, Tells, AddsCall, called, restarts, is_of_device, MayCrashIt, MayStayShut, DoesNothing}
+use Rattle.rq_core.specs.Happenings.{HasCause, IsCaused, any_under, takes_memory, writes_out as out_writes, Happening, Answer, Report, Course, Tells, AddsCall, called, restarts, is_of_device, MayCrashIt, MayStayShut, DoesNothing}
 use Rattle.rq_core.specs.Happenings.Answer.{Answered, Crashed, Restarted, Refused, Running, Nothing}
 use Rattle.rq_core.specs.Headline.{LeavesStores, IsHeadline}
 use Rattle.rq_core.specs.World.{World, IsOver, IsShut, IsOpen, Ran, CanCrash}
@@ -85,6 +90,61 @@ stands_at h s e = record {
 failed_at : (h : List Entry) (old new : State) → new ≡ record old { failed = true } → StandsAt h old → StandsAt h new
 failed_at h old new e s = subst (StandsAt h) (sym e) (record { committed = s.committed; records = s.records; forced = s.forced; incarnation = s.incarnation; runs = s.runs })
 
+-- the causes of a store's refusals are those that its ledger shows
+under_is : (ends : HeldEnds) (rows : List Row) → any_under (open_ones_of ends rows) ≡ rows_under rows
+under_is ends [] = refl
+under_is ends (r ∷ rows) = ap (λ b. b || any_under (open_ones_of ends rows)) (one r.under) ∙ ap (λ b. is_some r.under || b) (under_is ends rows) where
+  one : (u : Option Under) → is_some (job_under u) ≡ is_some u
+  one None = refl
+  one (Some u) = refl
+
+memory_is : (e : Event) → takes_memory (call_of e) ≡ says.takes_memory e
+memory_is event.Begin = refl
+memory_is (event.StartSend txn sender tag body) = refl
+memory_is (event.StartReceive txn) = refl
+memory_is (event.StartReceiveFrom txn sender) = refl
+memory_is (event.Step sub) = refl
+memory_is (event.Finish sub) = refl
+memory_is (event.Commit txn) = refl
+memory_is (event.Acknowledged number) = refl
+memory_is event.HandOver = refl
+memory_is event.Force = refl
+memory_is (event.WritePage page) = refl
+memory_is event.Content = refl
+
+writes_is : (e : Event) → out_writes (call_of e) ≡ writes_out e
+writes_is event.Begin = refl
+writes_is (event.StartSend txn sender tag body) = refl
+writes_is (event.StartReceive txn) = refl
+writes_is (event.StartReceiveFrom txn sender) = refl
+writes_is (event.Step sub) = refl
+writes_is (event.Finish sub) = refl
+writes_is (event.Commit txn) = refl
+writes_is (event.Acknowledged number) = refl
+writes_is event.HandOver = refl
+writes_is event.Force = refl
+writes_is (event.WritePage page) = refl
+writes_is event.Content = refl
+
+refusal_caused : (e : Event) (r : Refusal) (s : State) → answers.HasCause (says.takes_memory e) (writes_out e) s r → HasCause (ledger_of s) (call_of e) r
+refusal_caused e why.NoMemory s h = memory_is e ∙ h
+refusal_caused e why.DiskWrite s h = writes_is e ∙ h
+refusal_caused e why.Latched s h = under_is s.ends s.rows ∙ h
+refusal_caused e why.DiskRead s h = absurd h
+refusal_caused e (why.Damaged d) s h = absurd h
+refusal_caused e why.PoolFull s h = absurd h
+refusal_caused e _ s h = tt
+
+caused : (e : Event) (r : Reply) (s : State) → says.IsCaused s e r → IsCaused (ledger_of s) (call_of e) (gave r)
+caused e (reply.Refused r) s h = refusal_caused e r s h
+caused e (reply.Stepped progress.Ready) s h = tt
+caused e (reply.Stepped (progress.Done lsn)) s h = tt
+caused e (reply.Finished outcome.Sent) s h = tt
+caused e (reply.Finished (outcome.Message m)) s h = tt
+caused e (reply.Finished outcome.Closed) s h = tt
+caused e (reply.Finished outcome.Undone) s h = tt
+caused e _ s h = tt
+
 module _ {P L : Type 0} (p : page_device.Ghosts P) (l : log_device.Ghosts L) (honest_p : (d : P) → p.honest d) (honest_l : (d : L) → l.honest d) (z : Sizes) where
   abbrev Ran_to : Course → World P L → Type 0
   Ran_to course w = Ran p l z course w
@@ -97,7 +157,7 @@ module _ {P L : Type 0} (p : page_device.Ghosts P) (l : log_device.Ghosts L) (ho
       let s = a.steps (honest_p new.pages, honest_l new.log) o.sound in
       record {
         history = s.entry ∷ ran.history;
-        tells = (ran.history, ran.tells, subst (λ c. AddsCall c (gave r) ran.history (s.entry ∷ ran.history)) (sym is) (s.entry, s.says, refl));
+        tells = (ran.history, ran.tells, subst (λ c. AddsCall c (gave r) ran.history (s.entry ∷ ran.history)) (sym is) (s.entry, s.says, subst (λ b. IsCaused b (call_of e) (gave r)) o.ledger (caused e r old.state (a.cause (honest_p new.pages, honest_l new.log) o.sound)), refl));
         legal = (subst (λ b. Legal (size_of z) b s.entry) o.ledger (subst (λ y. Legal (size_of y) (ledger_of old.state) s.entry) o.sizes s.legal), ran.legal);
         stands = record {
           sizes = a.sizes ∙ o.sizes;

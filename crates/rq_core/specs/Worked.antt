@@ -2,7 +2,7 @@
 use Rattle.std.specs.Prelude.{◌≡◌, ℕ, List, [], ◌∷◌, Some, None, true, false, take}
 use Rattle.rq_model.specs.declared.txn.Txn.{Txn}
 use Rattle.rq_model.specs.declared.message.Message.{Message}
-use Rattle.rq_model.specs.declared.refusal.Refusal.TheVariants.{DiskWrite, Failed, Damaged, NoMemory}
+use Rattle.rq_model.specs.declared.refusal.Refusal.TheVariants.{DiskWrite, Failed, Damaged, Latched, NoMemory}
 use Rattle.rq_model.specs.declared.refusal.Damage.TheVariants as damage
 use Rattle.rq_model.specs.Words.Op.{Send}
 use Rattle.rq_model.specs.History.{Entry}
@@ -28,6 +28,9 @@ hello = record { sender = 0; tag = 7; body = 104 ∷ [] }
 abbrev pub number : Number
 number = record { txn = txn 1 1; lsn = 5 }
 
+abbrev pub second : Number
+second = record { txn = txn 1 2; lsn = 6 }
+
 abbrev pub report : ℕ → ℕ → ℕ → ℕ → Report
 report i u l n = record { incarnation = i; unfinished = u; lost = l; records = n }
 
@@ -48,15 +51,14 @@ happened =
     ∷ (Acknowledges 6, Nothing)
     ∷ (Restarts, Running)
     ∷ (Asks Begin, Answered (Gave_txn (txn 1 2)))
-    ∷ (Asks (Start_receive (txn 1 2)), Answered (Gave_sub (txn 1 2) 1))
-    ∷ (Asks (Step (txn 1 2) 1), Answered (Gave_lsn 6))
+    ∷ (Asks (Commit_call (txn 1 2)), Answered (Gave_commit second))
     ∷ (Stops_in Force, Crashed 6)
     ∷ (Acknowledges 7, Answered (Gave_refusal Failed))
     ∷ (Stops_restart, Crashed 7)
     ∷ (Fails, Nothing)
     ∷ (Restarts, Refused DiskWrite)
-    ∷ (Crashes, Crashed 9)
-    ∷ (Restarts, Restarted (report 2 0 0 10))
+    ∷ (Crashes, Crashed 8)
+    ∷ (Restarts, Restarted (report 4 0 0 9))
     ∷ (Acknowledges 7, Answered (Gave_receipt None))
     ∷ []
 
@@ -67,7 +69,7 @@ turned (x ∷ xs) ys = turned xs (x ∷ ys)
 abbrev pub course : Course
 course = turned happened []
 
--- the history that it tells, in order; the group of sender 0 was picked
+-- the history that it tells, in order
 abbrev pub entries : List Entry
 entries =
     Restarted_entry 1 1
@@ -81,13 +83,12 @@ entries =
     ∷ Forced 5
     ∷ Acknowledged (txn 1 1) 5 true
     ∷ Begun (txn 1 2)
-    ∷ Started (txn 1 2) 1 (Taking 0)
-    ∷ Stepped (txn 1 2) 1 6
-    ∷ Crash_entry 1 6
+    ∷ Committed (txn 1 2) 6
+    ∷ Crash_entry 2 6
     ∷ Refused_entry (Acknowledge (txn 1 1) 5) Failed
-    ∷ Crash_entry 1 7
-    ∷ Crash_entry 1 9
-    ∷ Restarted_entry 2 10
+    ∷ Crash_entry 2 7
+    ∷ Crash_entry 2 8
+    ∷ Restarted_entry 4 9
     ∷ Acknowledged (txn 1 1) 5 false
     ∷ []
 
@@ -105,9 +106,9 @@ other = record { txn = txn 1 1; lsn = 4 }
 abbrev pub TellsNothing : Course → Happening → Answer → Type 0
 TellsNothing so_far x a = (h : List Entry) → Tells ((x, a) ∷ so_far) h → ⊥
 
--- those of the course before the stop in a restart
-abbrev pub until_shut : Course
-until_shut = turned (take 16 happened) []
+-- the message of sender 0 is taken by a transaction that has not ended
+abbrev pub taking : List Entry
+taking = Stepped (txn 1 2) 1 6 ∷ Started (txn 1 2) 1 (Taking 0) ∷ first_of 11
 
 -- what is so of them
 pub record AreJudged : Type 0 where
@@ -121,8 +122,16 @@ pub record AreJudged : Type 0 where
   pub restart_answered_as_a_call : TellsNothing [] Restarts (Answered (Gave_txn (txn 1 1)))
   pub running_while_shut : TellsNothing [] Restarts Running
   pub refused_for_damage : TellsNothing [] Restarts (Refused (Damaged (damage.Page 0)))
+  pub damaged_while_open : TellsNothing ((Restarts, Restarted (report 1 0 0 1)) ∷ []) (Asks Begin)
+      (Answered (Gave_refusal (Damaged (damage.Page 0))))
+  pub failed_without_a_write : TellsNothing ((Restarts, Restarted (report 1 0 0 1)) ∷ []) (Asks Begin)
+      (Answered (Gave_refusal DiskWrite))
+  pub latched_with_nothing_under_way : TellsNothing ((Restarts, Restarted (report 1 0 0 1)) ∷ [])
+      (Asks (Start_send (txn 1 1) hello)) (Answered (Gave_refusal Latched))
+  pub memory_of_a_step : TellsNothing ((Restarts, Restarted (report 1 0 0 1)) ∷ []) (Asks (Step (txn 1 1) 1))
+      (Answered (Gave_refusal NoMemory))
   pub refused_while_open : TellsNothing ((Restarts, Restarted (report 1 0 0 1)) ∷ []) Restarts (Refused NoMemory)
-  pub undone_without_work : TellsNothing [] Restarts (Restarted (report 1 0 1 1))
+  pub undone_at_all : TellsNothing [] Restarts (Restarted (report 1 0 1 1))
   pub acknowledged_of_no_commit : TellsNothing ((Asks Begin, Answered (Gave_txn (txn 1 1))) ∷ []) (Acknowledges 1)
       (Answered (Gave_receipt None))
   pub answered_before_the_first : TellsNothing [] (Acknowledges 0) (Answered (Gave_receipt None))
@@ -131,5 +140,5 @@ pub record AreJudged : Type 0 where
   pub keeps_a_commit_without_its_record : IsLegal small (Crash_entry 1 4 ∷ first_of 8) → ⊥
   pub opened_while_open : IsLegal small (Restarted_entry 2 9 ∷ first_of 8) → ⊥
   pub none_where_one_waits : IsLegal small (None_free (txn 1 2) ∷ first_of 11) → ⊥
-  pub none_where_it_is_taken : IsLegal small (None_free (txn 1 3) ∷ Begun (txn 1 3) ∷ first_of 13)
+  pub none_where_it_is_taken : IsLegal small (None_free (txn 1 3) ∷ Begun (txn 1 3) ∷ taking)
   pub shows_nothing : IsLegal small (Shown [] ∷ first_of 8) → ⊥

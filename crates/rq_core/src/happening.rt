@@ -14,21 +14,27 @@ pub struct Choice {
 }
 
 /// What may happen to a store. A number of device calls counts from 1, and 0 means none.
+///
+/// A call of a store that is not open is answered `Failed`, and a crash there leaves all that its devices hold,
+/// whatever was chosen. A restart of a store that was opened, and has not crashed since, is answered `Running`, also
+/// where it has failed.
 #[derive(Debug, Drop)]
 pub enum Happening {
     /// A call.
     Call(Event),
     /// `Acknowledged` of the commit that the nth happening answered, counted from 1.
     Ack(u64),
-    /// The nth device call from now fails, once.
+    /// The nth device call from now fails, once. One failure is armed at a time: a second takes the place of the
+    /// first, and 0 takes it back.
     Fail(u64),
     /// The power fails.
     Crash(Choice),
-    /// The power fails at the nth device call of a call.
+    /// The power fails at the nth device call of a call: that one is made where it is an append or a page write, and
+    /// not made otherwise. Where the call makes fewer, it is the call itself. What was not handed over then is gone.
     StopIn(Event, u64, Choice),
     /// The store is opened.
     Restart,
-    /// The power fails at the nth device call of a restart.
+    /// The power fails at the nth device call of a restart, as in a call.
     RestartStop(u64, Choice),
 }
 
