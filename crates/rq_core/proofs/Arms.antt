@@ -1,5 +1,5 @@
 -- Each function of a world, over the devices in memory.
-use Rattle.std.proofs.Common.{◌≡◌, ℕ, List, [], ◌∷◌, arith, refl, sym, ◌∙◌, ap, subst, true, Some, Result, Ok, Err, IfOk, IfErr}
+use Rattle.std.proofs.Common.{◌↔◌, Bool, false, ◌≡◌, ℕ, List, [], ◌∷◌, arith, refl, sym, ◌∙◌, ap, subst, true, Some, Result, Ok, Err, IfOk, IfErr}
 use Rattle.rq_model.specs.declared.record.Record.{Record}
 use Rattle.rq_model.specs.declared.refusal.Refusal.{Refusal}
 use Rattle.rq_model.specs.declared.refusal.Refusal.TheVariants as why
@@ -7,7 +7,7 @@ use Rattle.rq_model.specs.History.{Entry, Call}
 use Rattle.rq_model.specs.History.Entry.{Restarted as Restarted_entry, Refused as Refused_entry}
 use Rattle.rq_model.specs.Content.{committed_of}
 use Rattle.rq_model.specs.Ledger.{Ledger, Phase, after, ledger}
-use Rattle.rq_model.specs.Ledger.Phase.{Shut}
+use Rattle.rq_model.specs.Ledger.Phase.{Running as Runs, Shut}
 use Rattle.rq_model.specs.History.Call.{Begin, Start_send, Start_receive, Start_receive_from, Start_close, Step, Finish, Commit, Acknowledge, Start_abort, Undo_next, End_abort, Hand_over, Force, Write_page, Last_tag, Show}
 use Rattle.rq_model.specs.Legal.{Size, Legal, IsLegal}
 use Rattle.rq_model.specs.Promises.{AcknowledgedStay, CrashGoesOn, FifoThroughout, RestartGoesOn, ShutCrashGoesOn}
@@ -16,7 +16,7 @@ use Rattle.rq_model.specs.Replay.Reply.{Gave_refusal}
 use Rattle.rq_disk.specs.declared.mem_log.MemLog.{MemLog}
 use Rattle.rq_disk.specs.declared.mem_pages.MemPages.{MemPages}
 use Rattle.rq_page.specs.Sizes.{Sizes, IsInRange}
-use Rattle.rq_store.specs.State.{ledger_of, size_of}
+use Rattle.rq_store.specs.State.{ledger_of, phase_of, size_of}
 use Rattle.rq_engine.specs.Applied.{Applied}
 use Rattle.rq_engine.specs.Crash.{LeavesCut}
 use Rattle.rq_engine.specs.Opened.{OpenStore}
@@ -42,10 +42,10 @@ use Rattle.rq_core.specs.Runs.{CanCrash, GoesOn, Is, IsFresh, IsHeadline, Ran, S
 use Rattle.rq_core.specs.World.{IsOpen, IsShut}
 use Rattle.rq_core.specs.World.World.{Is_open, Is_shut}
 use Rattle.rq_core.specs.Happenings.Happening.{Crashes, Restarts, Stops_in, Stops_restart}
-use Rattle.rq_core.specs.Happenings.{MayRestart, MayStayShut, restarts}
+use Rattle.rq_core.specs.Happenings.{HasCause, MayRestart, MayStayShut, restarts, writes_out}
 use Rattle.rq_core.specs.Views.{report_of}
 use Rattle.rq_core.proofs.Devices.{some_page, some_log}
-use Rattle.rq_core.proofs.Worlds.{may_stay, read_of, reopened, stays_shut, IsGivenUp, calls, refused, handed_over, leaves_open, leaves_shut, still, headline}
+use Rattle.rq_core.proofs.Worlds.{caused, may_stay, read_of, reopened, stays_shut, IsGivenUp, calls, refused, handed_over, leaves_open, leaves_shut, still, headline}
 
 abbrev Engine : Type 0
 Engine = OpenStore MemPages MemLog
@@ -56,13 +56,13 @@ asks z course x e r old new is a ran = calls mem_pages mem_log (λ d. tt) (λ d.
 
 -- an open store that is given up, with its devices
 pub open_crashes : (z : Sizes) (course : Course) (x : Happening) (old new : Engine) (pages : MemPages) (log : MemLog) → CrashGoesOn (size_of z) → (ran : Ran z course (Is_open old)) → IsGivenUp mem_pages mem_log (λ d. tt) (λ d. tt) z ran.history new
-    → LeavesCut mem_pages mem_log new → pages ≡ new.pages → log ≡ new.log → ((p : Phase) → (p ≡ Shut → ⊥) → MayCrashIt x p) → CanCrash z course x pages log
+    → LeavesCut mem_pages mem_log new → pages ≡ new.pages → log ≡ new.log → MayCrashIt x (ledger ran.history).phase → CanCrash z course x pages log
 open_crashes z course x old new pages log law ran g cut e f may = record {
   range = subst IsInRange g.sizes g.sound.range;
   history = ran.history;
   tells = ran.tells;
   legal = ran.legal;
-  may = may (ledger ran.history).phase g.at.runs;
+  may = may;
   leaves =
       subst (λ d. LeavesStores mem_pages mem_log z ran.history d log) (sym e) (subst (λ d. LeavesStores mem_pages mem_log z ran.history new.pages d) (sym f) (leaves_open mem_pages mem_log (λ d. tt) (λ d. tt) z law ran.history new ran.legal g cut));
 }
@@ -183,3 +183,24 @@ begins z pages log fresh = record {
     left = λ images bytes a b. ([], ([], refl, tt), fresh.left images bytes a b);
   };
 }
+
+-- a stop in a call, which a device refused
+stop_writes : (r : Refusal) (l : Ledger) (c : Call) → is_of_device r ≡ true → HasCause l c r → writes_out c ≡ true
+stop_writes why.DiskWrite l c d h = h
+stop_writes why.DiskRead l c d h = absurd h
+stop_writes _ l c d h = cc d
+
+stop_runs : (r : Refusal) (failed : Bool) → is_of_device r ≡ true → ((reply.Refused r ≡ reply.Refused why.Failed) ↔ (failed ≡ true)) → phase_of failed ≡ Runs
+stop_runs r false d e = refl
+stop_runs r true d e = absurd (other r d (e.1 refl)) where
+  other : (r : Refusal) → is_of_device r ≡ true → reply.Refused r ≡ reply.Refused why.Failed → ⊥
+  other why.DiskWrite d e = cc e
+  other why.DiskRead d e = cc e
+  other _ d e = cc d
+
+pub stop_may : (z : Sizes) (course : Course) (e : Event) (r : Refusal) (old new : Engine) (ran : Ran z course (Is_open old)) → Applied mem_pages mem_log old e (reply.Refused r) new → is_of_device r ≡ true → MayCrashIt (Stops_in (call_of e)) (ledger ran.history).phase
+stop_may z course e r old new ran a device =
+    let o : IsOpen mem_pages mem_log z ran.history old = ran.stands in (
+      ap (λ (l : Ledger). l.phase) (sym o.ledger) ∙ stop_runs r old.state.failed device a.failed,
+      stop_writes r (ledger_of old.state) (call_of e) device (caused e (reply.Refused r) old.state (a.cause (tt, tt) o.sound)),
+    )

@@ -15,7 +15,7 @@ use Rattle.rq_core.specs.Happenings.{Tells, any_under}
 use Rattle.rq_core.specs.Worked.{AreJudged, course, first_of, hello, history, taking, txn}
 
 told : Tells course history
-told = (first_of 17, (first_of 16, (first_of 15, (first_of 15, (first_of 15, (first_of 14, (first_of 13, (first_of 12, (first_of 11, (first_of 10, (first_of 10, (first_of 10, (first_of 9, (first_of 8, (first_of 7, (first_of 6, (first_of 5, (first_of 4, (first_of 3, (first_of 2, (first_of 1, (first_of 0, refl, (refl, refl, refl, refl)), (Begun (txn 1 1), refl, tt, refl)), (Started (txn 1 1) 1 (Sending hello), (refl, refl), tt, refl)), (Stepped (txn 1 1) 1 2, refl, tt, refl)), (Stepped (txn 1 1) 1 3, refl, tt, refl)), (Did (txn 1 1) 1 (Send hello), (hello, refl), tt, refl)), (Committed (txn 1 1) 5, (refl, refl), tt, refl)), (Acknowledged (txn 1 1) 5 false, refl, tt, refl)), (Forced 5, refl, tt, refl)), (Acknowledged (txn 1 1) 5 true, (refl, refl), tt, refl)), (tt, refl)), (refl, (λ e. cc e), refl)), (Begun (txn 1 2), refl, tt, refl)), (Committed (txn 1 2) 6, (refl, refl), tt, refl)), ((λ e. cc e), refl)), (Refused_entry (Acknowledge (txn 1 1) 5) Failed, refl, tt, refl)), (refl, refl)), (tt, refl)), (refl, tt, refl, refl)), (tt, refl)), (refl, refl, refl, refl)), (Acknowledged (txn 1 1) 5 false, refl, tt, refl))
+told = (first_of 17, (first_of 16, (first_of 15, (first_of 15, (first_of 15, (first_of 14, (first_of 13, (first_of 12, (first_of 11, (first_of 10, (first_of 10, (first_of 10, (first_of 9, (first_of 8, (first_of 7, (first_of 6, (first_of 5, (first_of 4, (first_of 3, (first_of 2, (first_of 1, (first_of 0, refl, (refl, refl, refl, refl)), (Begun (txn 1 1), refl, tt, refl)), (Started (txn 1 1) 1 (Sending hello), (refl, refl), tt, refl)), (Stepped (txn 1 1) 1 2, refl, tt, refl)), (Stepped (txn 1 1) 1 3, refl, tt, refl)), (Did (txn 1 1) 1 (Send hello), (hello, refl), tt, refl)), (Committed (txn 1 1) 5, (refl, refl), tt, refl)), (Acknowledged (txn 1 1) 5 false, refl, tt, refl)), (Forced 5, refl, tt, refl)), (Acknowledged (txn 1 1) 5 true, (refl, refl), tt, refl)), (tt, refl)), (refl, (λ e. cc e), refl)), (Begun (txn 1 2), refl, tt, refl)), (Committed (txn 1 2) 6, (refl, refl), tt, refl)), ((refl, refl), refl)), (Refused_entry (Acknowledge (txn 1 1) 5) Failed, refl, tt, refl)), (refl, refl)), (tt, refl)), (refl, tt, refl, refl)), (tt, refl)), (refl, refl, refl, refl)), (Acknowledged (txn 1 1) 5 false, refl, tt, refl))
 
 -- where the only message is another's, no free group holds one
 abbrev taken : List Entry

@@ -135,7 +135,7 @@ refusal_caused e (why.Damaged d) s h = absurd h
 refusal_caused e why.PoolFull s h = absurd h
 refusal_caused e _ s h = tt
 
-caused : (e : Event) (r : Reply) (s : State) → says.IsCaused s e r → IsCaused (ledger_of s) (call_of e) (gave r)
+pub caused : (e : Event) (r : Reply) (s : State) → says.IsCaused s e r → IsCaused (ledger_of s) (call_of e) (gave r)
 caused e (reply.Refused r) s h = refusal_caused e r s h
 caused e (reply.Stepped progress.Ready) s h = tt
 caused e (reply.Stepped (progress.Done lsn)) s h = tt

@@ -6,7 +6,7 @@ use Rattle.rq_model.specs.History.{Entry, Call}
 use Rattle.rq_model.specs.History.Call.{Acknowledge, Finish, Force, Hand_over, Last_tag, Start_abort, Step, Write_page}
 use Rattle.rq_model.specs.History.Entry.{Crash as Crash_entry, Restarted as Restarted_entry}
 use Rattle.rq_model.specs.Ledger.{Ledger, Open, Phase, ledger, kept_in}
-use Rattle.rq_model.specs.Ledger.Phase.{Shut}
+use Rattle.rq_model.specs.Ledger.Phase.{Running as Runs, Shut}
 use Rattle.rq_model.specs.Replay.{Reply, Says}
 use Rattle.rq_model.specs.Replay.Reply.{Gave_commit, Gave_refusal}
 use Rattle.rq_model.specs.Words.{is_some}
@@ -92,10 +92,17 @@ DoesNothing course (Acknowledges n) = makes_no_call (acknowledging (nth n (answe
 DoesNothing course Fails = Unit {0}
 DoesNothing course _ = ⊥
 
--- it may crash a store in this phase
+-- it writes to a device
+abbrev pub writes_out : Call → Bool
+writes_out Hand_over = true
+writes_out Force = true
+writes_out (Write_page page) = true
+writes_out _ = false
+
+-- It may crash a store in this phase. A call meets a crash only where it writes to a device, of a store that runs.
 abbrev pub MayCrashIt : Happening → Phase → Type 0
 MayCrashIt Crashes phase = Unit {0}
-MayCrashIt (Stops_in call) phase = phase ≡ Shut → ⊥
+MayCrashIt (Stops_in call) phase = (phase ≡ Runs) × (writes_out call ≡ true)
 MayCrashIt Stops_restart phase = phase ≡ Shut
 MayCrashIt _ phase = ⊥
 
@@ -125,13 +132,6 @@ takes_memory Hand_over = false
 takes_memory Force = false
 takes_memory (Write_page page) = false
 takes_memory _ = true
-
--- it writes to a device
-abbrev pub writes_out : Call → Bool
-writes_out Hand_over = true
-writes_out Force = true
-writes_out (Write_page page) = true
-writes_out _ = false
 
 -- an operation is under way
 abbrev pub any_under : List Open → Bool

@@ -64,16 +64,16 @@ IsTakeStarted old t sender sub new =
     (sub.txn ≡ t) × WaitsFor old t sender × IsStarted old sub (Receiving sender) old.cells_in_use
     (λ u. IsTakePlan old.sizes (slots_in old.sizes old.images) u sender) new
 
--- a receive was started from some group, or none waits
+-- a receive was started from some group, or the transaction is open with nothing under way and none waits
 abbrev pub TakeSays : State → Txn → Option Sub → State → Type 0
 TakeSays old t (Some sub) new = (sender : ℕ) × IsTakeStarted old t sender sub new
-TakeSays old t None new = NoneWaits old t × (new ≡ old)
+TakeSays old t None new = ((n : ℕ) × IsReady old t n) × NoneWaits old t × (new ≡ old)
 
--- a receive was started from this group, or nothing waits there
+-- a receive was started from this group, or the transaction is open with nothing under way and nothing waits there
 abbrev pub TakeFromSays : State → Txn → ℕ → Option Sub → State → Type 0
 TakeFromSays old t sender (Some sub) new = IsTakeStarted old t sender sub new
 TakeFromSays old t sender None new =
-    (sender < sender_count old.sizes) × (is_free_for t sender old.ends.receiving ≡ true)
+    ((n : ℕ) × IsReady old t n) × (sender < sender_count old.sizes) × (is_free_for t sender old.ends.receiving ≡ true)
     × (waits old.waiting sender ≡ 0)
     × (new ≡ old)
 

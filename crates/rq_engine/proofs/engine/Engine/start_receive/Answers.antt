@@ -18,8 +18,11 @@ pub returns-in-Err-clause-answered : goal.returns-in-Err-clause-answered
 returns-in-Err-clause-answered g c = c.in-Err.ensures.answered (Start_receive c.args.txn) (inl refl)
 
 pub returns-in_default-clause-lists : goal.returns-in_default-clause-lists
-returns-in_default-clause-lists g c =
-    (subst (λ (s : State). NoneWaits s c.args.txn) (state_is c.self.view_is) (λ e m free. c.in_default.ensures.none e (let n = c.self.invariant.kept.senders in omega (arith, m, n)) free), refl)
+returns-in_default-clause-lists g c = (
+  (c.in_ok-number.number, c.in_ok-number.ensures.ready),
+  subst (λ (s : State). NoneWaits s c.args.txn) (state_is c.self.view_is) (λ e m free. c.in_default.ensures.none e (let n = c.self.invariant.kept.senders in omega (arith, m, n)) free),
+  refl,
+)
 
 pub returns-in-Ok-clause-lists : goal.returns-in-Ok-clause-lists
 returns-in-Ok-clause-lists g c = (_, c.in-Ok.ensures.lists)

@@ -33,6 +33,7 @@ pub returns-then-count-eq0-clause-lists : goal.returns-then-count-eq0-clause-lis
 returns-then-count-eq0-clause-lists g c =
     let n : c.senders.result ≡ sender_count c.args.self.now.state.sizes = c.senders.ensures.number ∙ ap sender_count (c.layout.ensures.sizes ∙ ap (λ (s : State). s.sizes) (state_is c.self.view_is)) in
     let lt = c.if-sender-senders.false in (
+      (c.in_ok-number.number, c.in_ok-number.ensures.ready),
       omega (arith, n, lt),
       ap (λ (s : State). is_free_for c.args.txn c.args.sender s.ends.receiving) (sym (state_is c.self.view_is)) ∙ sym c.if-not-may_receive.ensures,
       ap (λ (s : State). waits s.waiting c.args.sender) (sym (state_is c.self.view_is)) ∙ sym c.count.ensures ∙ c.if-count-eq0.true,
