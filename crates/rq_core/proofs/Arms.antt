@@ -36,13 +36,13 @@ use Rattle.rq_restart.specs.declared.restart.Report.{Report as Restart_report}
 use Rattle.rq_restart.specs.declared.restart.Stopped.{Stopped}
 use Rattle.rq_core.specs.Devices.{mem_pages, mem_log}
 use Rattle.rq_core.specs.Happenings.{Happening, Answer, AddsCall, Course, MayCrashIt, Tells, called, is_of_device}
-use Rattle.rq_core.specs.Happenings.Answer.{Answered, Refused, Restarted}
-use Rattle.rq_core.specs.Headline.{LeavesStores}
+use Rattle.rq_core.specs.Happenings.Answer.{Answered, Crashed, Refused, Restarted}
+use Rattle.rq_core.specs.Headline.{LeavesStores, LeftBy, LeftLast}
 use Rattle.rq_core.specs.Runs.{CanCrash, GoesOn, Is, IsFresh, IsHeadline, Ran, StaysShut}
 use Rattle.rq_core.specs.World.{IsOpen, IsShut}
 use Rattle.rq_core.specs.World.World.{Is_open, Is_shut}
 use Rattle.rq_core.specs.Happenings.Happening.{Crashes, Restarts, Stops_in, Stops_restart}
-use Rattle.rq_core.specs.Happenings.{HasCause, MayRestart, MayStayShut, restarts, writes_out}
+use Rattle.rq_core.specs.Happenings.{EndsWithoutCrash, HasCause, MayRestart, is_no_crash, MayStayShut, restarts, writes_out}
 use Rattle.rq_core.specs.Views.{report_of}
 use Rattle.rq_core.proofs.Devices.{some_page, some_log}
 use Rattle.rq_core.proofs.Worlds.{caused, may_stay, read_of, reopened, stays_shut, IsGivenUp, calls, refused, handed_over, leaves_open, leaves_shut, still, headline}
@@ -108,9 +108,18 @@ not_open z course x call pages log is ran =
       tells = (ran.history, ran.tells, subst (λ c. AddsCall c (Gave_refusal why.Failed) ran.history (Refused_entry call why.Failed ∷ ran.history)) (sym is) (Refused_entry call why.Failed, says call, tt, refl));
       legal = (shut_refuses (size_of z) (ledger ran.history) call s.phase, ran.legal);
       stands = record { range = s.range; phase = s.phase; older = s.older; ties = s.ties; left = s.left };
+      counted = tt;
     } where
       says : (c : Call) → Says c (Gave_refusal why.Failed) (Refused_entry c why.Failed)
       says c = refl
+
+-- a course that ended without a crash
+ended : (z : Sizes) (course : Course) (pages : MemPages) (log : MemLog) → EndsWithoutCrash course → LeftLast mem_pages mem_log z course pages log
+ended z [] pages log h = tt
+ended z (a ∷ course) pages log h = by a.1 h where
+  by : (a : Answer) → is_no_crash a → LeftBy mem_pages mem_log z a pages log
+  by (Crashed n) h = absurd h
+  by _ h = tt
 
 -- the headline at the end
 pub open_ends : (z : Sizes) (course : Course) (e : Engine) (pages : MemPages) (log : MemLog) → ((h : List Entry) → IsLegal (size_of z) h → FifoThroughout h) → AcknowledgedStay (size_of z) → CrashGoesOn (size_of z) → Ran z course (Is_open e)
@@ -118,13 +127,13 @@ pub open_ends : (z : Sizes) (course : Course) (e : Engine) (pages : MemPages) (l
 open_ends z course e pages log fifo stay law ran cut i j =
     let g = still mem_pages mem_log (λ d. tt) (λ d. tt) z ran.history e ran.stands in
     headline mem_pages mem_log (λ d. tt) (λ d. tt) z fifo stay course ran.history pages log ran.tells ran.legal
-    (subst (λ d. LeavesStores mem_pages mem_log z ran.history d log) (sym i) (subst (λ d. LeavesStores mem_pages mem_log z ran.history e.pages d) (sym j) (leaves_open mem_pages mem_log (λ d. tt) (λ d. tt) z law ran.history e ran.legal g cut)))
+    (subst (λ d. LeavesStores mem_pages mem_log z ran.history d log) (sym i) (subst (λ d. LeavesStores mem_pages mem_log z ran.history e.pages d) (sym j) (leaves_open mem_pages mem_log (λ d. tt) (λ d. tt) z law ran.history e ran.legal g cut))) (ended z course pages log ran.counted)
 
 pub shut_ends : (z : Sizes) (course : Course) (pages : MemPages) (log : MemLog) → ((h : List Entry) → IsLegal (size_of z) h → FifoThroughout h) → AcknowledgedStay (size_of z) → ShutCrashGoesOn (size_of z) → Ran z course (Is_shut pages log)
     → IsHeadline z course pages log
 shut_ends z course pages log fifo stay law ran =
     headline mem_pages mem_log (λ d. tt) (λ d. tt) z fifo stay course ran.history pages log ran.tells ran.legal
-    (leaves_shut mem_pages mem_log (λ d. tt) (λ d. tt) z law ran.history pages log ran.legal ran.stands)
+    (leaves_shut mem_pages mem_log (λ d. tt) (λ d. tt) z law ran.history pages log ran.legal ran.stands) ran.counted
 
 -- a restart, by its clauses
 module _ (pages : MemPages) (log : MemLog) (one : OneLogEach) where
@@ -143,6 +152,7 @@ module _ (pages : MemPages) (log : MemLog) (one : OneLogEach) where
         tells = (ran.history, ran.tells, (may, w.unfinished, w.lost, refl));
         legal = w.legal;
         stands = w.stands;
+        counted = tt;
       }
 
   pub stays : (r : Result (Engine × Restart_report) (Stopped MemPages MemLog))
@@ -167,7 +177,7 @@ pub refuses : (z : Sizes) (course : Course) (x : Happening) (pages new_pages : M
 refuses z course x pages new_pages log new_log r may stays ran =
     let s : IsShut mem_pages mem_log z ran.history pages log = ran.stands in
     let now = stays z course ran in
-    record { history = ran.history; tells = (ran.history, ran.tells, (may, now.1, s.phase, refl)); legal = ran.legal; stands = now.0 }
+    record { history = ran.history; tells = (ran.history, ran.tells, (may, now.1, s.phase, refl)); legal = ran.legal; stands = now.0; counted = tt }
 
 -- a store that is formatted, and of which nothing has happened
 pub begins : (z : Sizes) (pages : MemPages) (log : MemLog) → IsFresh z pages log → Ran z [] (Is_shut pages log)
@@ -182,6 +192,7 @@ begins z pages log fresh = record {
     ties = record { committed = refl; records = refl; incarnation = omega arith };
     left = λ images bytes a b. ([], ([], refl, tt), fresh.left images bytes a b);
   };
+  counted = tt;
 }
 
 -- a stop in a call, which a device refused

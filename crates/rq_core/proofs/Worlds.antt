@@ -55,7 +55,7 @@ use Rattle.rq_restart.specs.Underway.{IsStore, IsSomeStore, IsLeftOrGoesOn}
 use Rattle.rq_restart.specs.Once.{OneLogEach, AsManyAsTheLog, OneSizeEach}
 use Rattle.rq_core.specs.Happenings.{HasCause, IsCaused, any_under, takes_memory, writes_out as out_writes, Happening, Answer, Report, Course, Tells, AddsCall, called, restarts, is_of_device, MayCrashIt, MayStayShut, DoesNothing}
 use Rattle.rq_core.specs.Happenings.Answer.{Answered, Crashed, Restarted, Refused, Running, Nothing}
-use Rattle.rq_core.specs.Headline.{LeavesStores, IsHeadline}
+use Rattle.rq_core.specs.Headline.{LeavesStores, LeftLast, IsHeadline}
 use Rattle.rq_core.specs.World.{World, IsOver, IsShut, IsOpen, Ran, CanCrash}
 use Rattle.rq_core.specs.World.World.{Is_shut, Is_open}
 
@@ -165,6 +165,7 @@ module _ {P L : Type 0} (p : page_device.Ghosts P) (l : log_device.Ghosts L) (ho
           sound = s.sound;
           fit = a.fit (honest_p new.pages, honest_l new.log) o.sound o.fit;
         };
+        counted = tt;
       }
 
   -- an open store that may crash where a history ends
@@ -285,6 +286,11 @@ module _ {P L : Type 0} (p : page_device.Ghosts P) (l : log_device.Ghosts L) (ho
                 let same : other.0 ≡ now = one other.0 now there.are_spelled store.are_spelled (sym there.is ∙ c.log_only bytes b ∙ store.is) in
                 (now, ([], refl, tt), subst (λ log. IsStore z log images bytes) same there);
           };
+          counted = λ images bytes a b.
+              let other = can.leaves images bytes (c.pages_left images a) (c.log_left bytes b) in
+              let there : IsStore z other.0 images bytes = other.1 in
+              let same : other.0 ≡ now = one other.0 now there.are_spelled store.are_spelled (sym there.is ∙ c.log_only bytes b ∙ store.is) in
+              (now, subst (λ log. IsStore z log images bytes) same there, sym m);
         }
 
     -- the pages of a store that is shut fit its log, whichever image each of them has
@@ -396,14 +402,15 @@ module _ {P L : Type 0} (p : page_device.Ghosts P) (l : log_device.Ghosts L) (ho
 
   -- the headline, where an open store is given up, and where one is shut
   pub headline : (fifo : (h : List Entry) → IsLegal (size_of z) h → FifoThroughout h) (stay : AcknowledgedStay (size_of z)) (course : Course) (h : List Entry) (pages : P) (log : L) → Tells course h → IsLegal (size_of z) h
-      → LeavesStores p l z h pages log → IsHeadline p l z course pages log
-  headline fifo stay course h pages log tells legal leaves = record {
+      → LeavesStores p l z h pages log → LeftLast p l z course pages log → IsHeadline p l z course pages log
+  headline fifo stay course h pages log tells legal leaves last = record {
     history = h;
     tells = tells;
     legal = legal;
     order = fifo h legal;
     acknowledged = λ newer older t lsn e i. subst (λ k. In t (commits k)) e (stay newer older t lsn (subst (IsLegal (size_of z)) (sym e) legal) i);
     leaves = leaves;
+    left = last;
   }
 
 -- why a store that was left so was not opened

@@ -45,6 +45,15 @@ pub data Answer : Type 0 where
 abbrev pub Course : Type 0
 Course = List (Happening × Answer)
 
+-- its last happening was no crash
+abbrev pub is_no_crash : Answer → Type 0
+is_no_crash (Crashed n) = ⊥
+is_no_crash _ = Unit {0}
+
+abbrev pub EndsWithoutCrash : Course → Type 0
+EndsWithoutCrash [] = Unit {0}
+EndsWithoutCrash (a ∷ course) = is_no_crash a.1
+
 -- those behind a course, in order
 abbrev pub paired : Course → List Happening → List Answer → Course
 paired course (x ∷ xs) (a ∷ answers) = paired ((x, a) ∷ course) xs answers

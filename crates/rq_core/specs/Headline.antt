@@ -1,5 +1,5 @@
 -- The headline: what a course tells, and what a crash at its end leaves.
-use Rattle.std.specs.Prelude.{◌≡◌, ℕ, List, ◌∷◌, ◌++◌, true}
+use Rattle.std.specs.Prelude.{◌≡◌, ℕ, List, [], ◌∷◌, ◌++◌, length, true}
 use Rattle.rq_model.specs.declared.record.Record.{Record}
 use Rattle.rq_model.specs.declared.txn.Txn.{Txn}
 use Rattle.rq_model.specs.Words.{In}
@@ -14,7 +14,8 @@ use Rattle.rq_page.specs.Sizes.{Sizes}
 use Rattle.rq_store.specs.State.{size_of}
 use Rattle.rq_engine.specs.Devices.{EachPair}
 use Rattle.rq_restart.specs.Underway.{IsStore}
-use Rattle.rq_core.specs.Happenings.{Course, Tells}
+use Rattle.rq_core.specs.Happenings.{Answer, Course, Tells}
+use Rattle.rq_core.specs.Happenings.Answer.{Crashed}
 
 -- each commit that was acknowledged by a receipt anywhere in the history is among its commits
 abbrev pub AcknowledgedAreKept : List Entry → Type 0
@@ -28,6 +29,16 @@ module _ {P L : Type 0} (p : page_device.Ghosts P) (l : log_device.Ghosts L) (z 
   LeavesStores h pages log = EachPair p l pages log (λ images bytes. (now : List Record) × IsStore z now images bytes
       × EndsInCrash (size_of z) h now)
 
+  -- after a crash that left so many records, whatever a crash now leaves are exactly so many
+  abbrev pub LeftBy : Answer → P → L → Type 0
+  LeftBy (Crashed n) pages log =
+      EachPair p l pages log (λ images bytes. (now : List Record) × IsStore z now images bytes × (length now ≡ n))
+  LeftBy _ pages log = Unit {0}
+
+  abbrev pub LeftLast : Course → P → L → Type 0
+  LeftLast [] pages log = Unit {0}
+  LeftLast (a ∷ course) pages log = LeftBy a.1 pages log
+
   -- What is so of every course, with both devices as they are at its end. For some choice of the groups that were
   -- picked its answers tell a history in which each reply is legal, each crash keeps what it must, and each restart
   -- opens what was left. At every place of it what committed transactions took from a sender is a beginning of what
@@ -39,3 +50,4 @@ module _ {P L : Type 0} (p : page_device.Ghosts P) (l : log_device.Ghosts L) (z 
     pub order : FifoThroughout history
     pub acknowledged : AcknowledgedAreKept history
     pub leaves : LeavesStores history pages log
+    pub left : LeftLast course pages log

@@ -16,8 +16,8 @@ use Rattle.rq_engine.specs.Crash.{AreFit}
 use Rattle.rq_engine.specs.Devices.{EachPair}
 use Rattle.rq_engine.specs.Opened.{OpenStore}
 use Rattle.rq_restart.specs.Underway.{IsStore}
-use Rattle.rq_core.specs.Headline.{LeavesStores}
-use Rattle.rq_core.specs.Happenings.{Happening, Course, Tells, MayCrashIt}
+use Rattle.rq_core.specs.Headline.{LeavesStores, LeftLast}
+use Rattle.rq_core.specs.Happenings.{Happening, Course, Tells, EndsWithoutCrash, MayCrashIt}
 
 -- a store is shut, with both devices as it was left, or open
 pub data World (P L : Type 0) : Type 0 where
@@ -48,6 +48,11 @@ module _ {P L : Type 0} (p : page_device.Ghosts P) (l : log_device.Ghosts L) (z 
   Stands h (Is_shut pages log) = IsShut h pages log
   Stands h (Is_open engine) = IsOpen h engine
 
+  -- where the last happening was a crash, its records are those that are left; and no store is open then
+  abbrev pub IsCounted : Course → World P L → Type 0
+  IsCounted course (Is_shut pages log) = LeftLast p l z course pages log
+  IsCounted course (Is_open engine) = EndsWithoutCrash course
+
   -- For some choice of the groups that were picked the course tells a legal history, and the world stands where it
   -- ends.
   pub record Ran (course : Course) (world : World P L) : Type 0 where
@@ -55,6 +60,7 @@ module _ {P L : Type 0} (p : page_device.Ghosts P) (l : log_device.Ghosts L) (z 
     pub tells : Tells course history
     pub legal : IsLegal (size_of z) history
     pub stands : Stands history world
+    pub counted : IsCounted course world
 
   -- The course tells a legal history, which this happening may end with a crash of both devices, whatever that leaves.
   pub record CanCrash (course : Course) (x : Happening) (pages : P) (log : L) : Type 0 where
