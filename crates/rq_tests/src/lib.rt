@@ -16,4 +16,6 @@ mod reference;
 #[cfg(test)]
 mod scripts;
 #[cfg(test)]
+mod sharing;
+#[cfg(test)]
 mod taken;

@@ -1,0 +1,145 @@
+//! Two passes of a shared engine: what its audit holds, and to whose stamps it is tied.
+ghost use Rattle.std.specs.Prelude.{◌≡◌};
+
+use crate::calls::{devices, formatted};
+use rq_disk::{MemLog, MemPages};
+use rq_engine::engine::Engine;
+use rq_engine::event::Event;
+use rq_model::txn::{Sub, Txn};
+use rq_page::layout::Layout;
+use rq_restart::restart::restart;
+use rq_shared::kept::Stamped;
+use rq_shared::room::Pass;
+use rq_shared::shared::{Front, Shared};
+use rq_shared::tied::tied;
+use std::alloc::{AllocError, Global};
+use std::marker::Brand;
+use std::sync::Wait;
+use std::sync::ledger::{Blank, Ledger};
+use std::test::Fail;
+
+/// What was seen of an audit that was taken after two transactions, each of its own pass, sent a message.
+#[derive(Drop)]
+struct Seen {
+    entries: usize,
+    tied: bool,
+    tied_when_changed_about: bool,
+    entries_left: usize,
+}
+
+// A formatted store of one directory and one cell page, opened.
+fn small_engine(alloc: Global) -> Result<Engine<MemPages, MemLog>, &'static str> {
+    let layout = Layout::new(1, 1).ok_or("a small store")?;
+    let (_, mut pages, log) = devices(alloc, &layout).map_err(|_| "devices")?;
+    formatted(&mut pages, &layout).map_err(|_| "format")?;
+    match restart(alloc, pages, log) {
+        Ok((engine, _)) => Ok(engine),
+        Err(_) => Err("restart"),
+    }
+}
+
+// A transaction that sends a message of one byte and commits: its seven calls, in order.
+fn events(alloc: Global, txn: Txn, sender: u32) -> Result<Vec<Event>, AllocError> {
+    let sub = Sub { txn, number: 1 };
+    let mut body = Vec::new(alloc);
+    body.push(b'x')?;
+    let mut events = Vec::with_capacity(alloc, 7)?;
+    events.push(Event::Begin)?;
+    events.push(Event::StartSend {
+        txn,
+        sender,
+        tag: 1,
+        body,
+    })?;
+    events.push(Event::Step(sub))?;
+    events.push(Event::Step(sub))?;
+    events.push(Event::Step(sub))?;
+    events.push(Event::Finish(sub))?;
+    events.push(Event::Commit(txn))?;
+    Ok(events)
+}
+
+// Makes the calls under a pass, one after the other: their stamps.
+fn stamped<G: Ledger, R: Wait>(
+    rt: &R,
+    alloc: Global,
+    front: &Front<MemPages, MemLog, G>,
+    pass: &mut Pass<G>,
+    events: &[Event],
+) -> Result<Vec<Stamped>, AllocError> {
+    let mut stamps = Vec::with_capacity(alloc, events.len())?;
+    for event in events {
+        stamps.push(front.call(rt, pass, event.clone()?))?;
+    }
+    Ok(stamps)
+}
+
+// Two transactions under a pass each, and what the audit holds then.
+fn share<G: Ledger, R: Wait>(
+    rt: &R,
+    alloc: Global,
+    engine: Engine<MemPages, MemLog>,
+    blank: Blank,
+) -> Result<Seen, AllocError>
+    requires name { blank.name ≡ G.name }
+    requires parts { (blank.parts ≡ G.parts) × (blank.parts ≡ 1024) }
+{
+    let mut shared = Shared::<MemPages, MemLog, G>::new(alloc, engine, blank);
+    let Some(mut one) = shared.pass() else {
+        return Err(AllocError);
+    };
+    let Some(mut two) = shared.pass() else {
+        return Err(AllocError);
+    };
+    let first = events(
+        alloc,
+        Txn {
+            incarnation: 1,
+            count: 1,
+        },
+        0,
+    )?;
+    let second = events(
+        alloc,
+        Txn {
+            incarnation: 1,
+            count: 2,
+        },
+        14,
+    )?;
+    let mut stamps = stamped(rt, alloc, shared.front(), &mut one, &first)?;
+    let others = stamped(rt, alloc, shared.front(), &mut two, &second)?;
+    let taken = shared.take_audit(rt);
+    let audit = taken.entries();
+    let is_tied = tied(audit, 1, &stamps) && tied(audit, 2, &others);
+    if stamps.len() == 7 {
+        stamps.swap(2, 3);
+    }
+    Ok(Seen {
+        entries: audit.len(),
+        tied: is_tied,
+        tied_when_changed_about: tied(audit, 1, &stamps),
+        entries_left: shared.take_audit(rt).entries().len(),
+    })
+}
+
+fn look<R: Wait>(rt: &R, alloc: Global) -> Result<Seen, &'static str> {
+    let engine = small_engine(alloc)?;
+    share::<Brand, R>(rt, alloc, engine, Blank::new(1024)).map_err(|_| "memory")
+}
+
+#[test]
+fn an_audit_holds_the_calls_of_both_passes(rt: HostRuntime) -> Result<(), Fail> {
+    let seen = look(&rt, rt.alloc())?;
+    assert_eq!(rt;
+        (seen.entries, seen.tied),
+        (14, true),
+        "all calls are there, and each pass's are its own"
+    );
+    assert_eq!(rt;
+        (seen.tied_when_changed_about, seen.entries_left),
+        (false, 0),
+        "nothing else is tied, and nothing is left"
+    );
+    Ok(())
+}
