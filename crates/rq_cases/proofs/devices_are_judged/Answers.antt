@@ -1,0 +1,27 @@
+use Rattle.std.proofs.Common.{[], refl, arith, inl, ⊎_elim}
+use Rattle.rq_cases.proofs.devices_are_judged.Goals as goal
+
+pub returns : goal.returns
+returns c = record {
+  answered = λ d runs. record { faults = refl; runs = λ h s. runs s };
+  answered_where_it_failed = λ old new other a. other a.faults;
+  answered_where_it_had_stopped = λ old new h s a. a.runs h s;
+  read_failed = λ z old new e. e;
+  read_failed_without_a_failure = λ z d low e. omega (arith, low, e);
+  damaged = λ z d runs bad. (refl, λ h s. bad s, record { faults = refl; runs = λ h s. runs s });
+  damaged_of_a_sound_page = λ z old new h s a. a.1 h s;
+  damaged_of_another_page = λ z old new a. (let e = a.0 in omega (arith, e));
+  refused_otherwise = λ z old new a. a;
+  nothing_written = λ z d images may q. inl (may q);
+  written_past_the_last = λ z d images q past no all. ⊎_elim no (λ f. (let low = f.0 in omega (arith, low, past))) (all q);
+  superblock_before = λ z d images may. inl may;
+  superblock_too_early = λ z d images q low no not_yet b. ⊎_elim no (λ f. not_yet (f q low)) b;
+  others_kept = λ z d q past. refl;
+  another_changed = λ z old new q past other kept. other (kept q past);
+  ran = λ d runs h s. runs s;
+  ran_while_stopped = λ old new h s r. r h s;
+  no_bytes = λ log told e. c.one_log.ensures log [] told tt e;
+  two_logs = λ a b h k other e. other (c.one_log.ensures a b h k e);
+  another_count = λ log n told other holds. other (c.records_are_the_log.ensures log n told holds);
+  two_sizes = λ a b image other h k. other (c.one_size.ensures a b image h k);
+}

@@ -1,0 +1,55 @@
+-- What was read of a device, what a format has written, and what bytes tell.
+use Rattle.std.specs.Prelude.{◌≡◌, ◌≢◌, ℕ, ◌+◌, ◌%◌, ◌^◌, ◌<◌, ◌≤◌, List, [], length}
+use Rattle.rq_model.specs.declared.record.Record.{Record}
+use Rattle.rq_model.specs.declared.refusal.Refusal.TheVariants as why
+use Rattle.rq_model.specs.declared.refusal.Damage.TheVariants as damage
+use Rattle.rq_disk.specs.Device.{Images}
+use Rattle.rq_disk.specs.Records.{HoldsRecords}
+use Rattle.rq_disk.specs.declared.mem_pages.MemPages.{MemPages}
+use Rattle.rq_log.specs.Spelled.{spelled, AreSpelled}
+use Rattle.rq_page.specs.Sizes.{Sizes, page_count}
+use Rattle.rq_page.specs.Formatted.{IsFormatted}
+use Rattle.rq_pool.specs.Reading.{HasAnswered, IsSound, IsSuperblock, NotReadAgain}
+use Rattle.rq_core.specs.Devices.{mem_pages}
+use Rattle.rq_restart.specs.Formatting.{AreBeforeOrFormatted, HasRun, IsBeforeOrFormatted, KeepsOthers}
+
+pub record DevicesAreJudged : Type 0 where
+  pub answered : (d : MemPages) → (mem_pages.stopped d → ⊥) → HasAnswered mem_pages d d
+  pub answered_where_it_failed : (old new : MemPages) → mem_pages.faults new ≢ mem_pages.faults old
+      → HasAnswered mem_pages old new → ⊥
+  pub answered_where_it_had_stopped : (old new : MemPages) → mem_pages.honest new → mem_pages.stopped old
+      → HasAnswered mem_pages old new → ⊥
+  pub read_failed : (z : Sizes) (old new : MemPages) → mem_pages.faults new ≡ (mem_pages.faults old + 1) % 2 ^ 64
+      → NotReadAgain mem_pages z 1 why.DiskRead old new
+  pub read_failed_without_a_failure : (z : Sizes) (d : MemPages) → mem_pages.faults d < 2 ^ 64
+      → NotReadAgain mem_pages z 1 why.DiskRead d d → ⊥
+  pub damaged : (z : Sizes) (d : MemPages) → (mem_pages.stopped d → ⊥) → (IsSound z 1 (mem_pages.seen d 1) → ⊥)
+      → NotReadAgain mem_pages z 1 (why.Damaged (damage.Page 1)) d d
+  pub damaged_of_a_sound_page : (z : Sizes) (old new : MemPages) → mem_pages.honest new
+      → IsSound z 1 (mem_pages.seen old 1)
+      → NotReadAgain mem_pages z 1 (why.Damaged (damage.Page 1)) old new → ⊥
+  pub damaged_of_another_page : (z : Sizes) (old new : MemPages)
+      → NotReadAgain mem_pages z 1 (why.Damaged (damage.Page 2)) old new → ⊥
+  pub refused_otherwise : (z : Sizes) (old new : MemPages) → NotReadAgain mem_pages z 1 why.LogFull old new → ⊥
+  -- a format
+  pub nothing_written : (z : Sizes) (d : MemPages) (images : Images) → ((q : ℕ) → mem_pages.may_be d q (images q))
+      → AreBeforeOrFormatted mem_pages z d images
+  pub written_past_the_last : (z : Sizes) (d : MemPages) (images : Images) (q : ℕ) → page_count z ≤ q
+      → (mem_pages.may_be d q (images q) → ⊥) → AreBeforeOrFormatted mem_pages z d images → ⊥
+  pub superblock_before : (z : Sizes) (d : MemPages) (images : Images) → mem_pages.may_be d 0 (images 0)
+      → IsBeforeOrFormatted mem_pages z d images
+  pub superblock_too_early : (z : Sizes) (d : MemPages) (images : Images) (q : ℕ) → q < page_count z
+      → (mem_pages.may_be d 0 (images 0) → ⊥) → (IsFormatted z q (images q) → ⊥)
+      → IsBeforeOrFormatted mem_pages z d images → ⊥
+  pub others_kept : (z : Sizes) (d : MemPages) → KeepsOthers mem_pages z d d
+  pub another_changed : (z : Sizes) (old new : MemPages) (q : ℕ) → page_count z ≤ q
+      → mem_pages.seen new q ≢ mem_pages.seen old q
+      → KeepsOthers mem_pages z old new → ⊥
+  pub ran : (d : MemPages) → (mem_pages.stopped d → ⊥) → HasRun mem_pages d d
+  pub ran_while_stopped : (old new : MemPages) → mem_pages.honest new → mem_pages.stopped old
+      → HasRun mem_pages old new → ⊥
+  -- what bytes tell
+  pub no_bytes : (log : List Record) → AreSpelled log → spelled log ≡ spelled [] → log ≡ []
+  pub two_logs : (a b : List Record) → AreSpelled a → AreSpelled b → a ≢ b → spelled a ≡ spelled b → ⊥
+  pub another_count : (log : List Record) (n : ℕ) → AreSpelled log → n ≢ length log → HoldsRecords (spelled log) n → ⊥
+  pub two_sizes : (a b : Sizes) (image : List ℕ) → a ≢ b → IsSuperblock a image → IsSuperblock b image → ⊥

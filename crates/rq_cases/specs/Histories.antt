@@ -1,0 +1,20 @@
+-- What goes on with a history whose store is not open.
+use Rattle.std.specs.Prelude.{[], ◌∷◌}
+use Rattle.rq_model.specs.declared.record.Record.TheVariants.{Restart as Restart_record}
+use Rattle.rq_model.specs.History.{Entry}
+use Rattle.rq_model.specs.Promises.{EndsInCrash, EndsInRestart, crash_to}
+use Rattle.rq_model.specs.Worked.{first_log, opened, small}
+use Rattle.std.specs.Prelude.{List}
+
+-- a store that was opened once, and crashed
+abbrev pub crashed : List Entry
+crashed = crash_to first_log opened ∷ opened
+
+pub record HistoriesGoOn : Type 0 where
+  -- a crash in a restart may leave its record
+  pub with_the_record_of_a_restart : EndsInCrash small crashed (Restart_record 2 ∷ first_log)
+  pub with_nothing : EndsInCrash small crashed [] → ⊥
+  -- a restart is of the next incarnation, and makes a record
+  pub restarted : EndsInRestart small crashed (Restart_record 2 ∷ first_log)
+  pub restarted_in_the_same : EndsInRestart small crashed (Restart_record 1 ∷ first_log) → ⊥
+  pub restarted_without_a_record : EndsInRestart small crashed first_log → ⊥

@@ -1,0 +1,4 @@
+pub mod Calls
+pub mod Devices
+pub mod Histories
+pub mod Lists
