@@ -9,7 +9,8 @@ ghost use Rattle.rq_cases.specs.Lists.{ListsAreJudged};
 use rq_model::laws::{restart_goes_on, shut_crash_goes_on};
 use rq_restart::laws::{one_log, one_size, records_are_the_log};
 
-/// What a call makes of a store's lists: of each event an answer with what it makes of them, and answers and lists that are none.
+/// What a call makes of a store's lists: of some events an answer with what it makes of them, and answers and lists
+/// that are none.
 pub fn lists_are_judged()
     ensures { ListsAreJudged }
 {}
@@ -28,7 +29,8 @@ pub fn calls_are_judged()
     ensures { CallsAreJudged }
 {}
 
-/// What goes on with a history whose store is not open: crashes and restarts that may come there, and some that may not.
+/// What goes on with a history whose store is not open: crashes and restarts that may come there, and some that may
+/// not.
 pub fn histories_go_on()
     ensures { HistoriesGoOn }
 {
