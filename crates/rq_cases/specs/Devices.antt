@@ -9,7 +9,7 @@ use Rattle.rq_disk.specs.declared.mem_pages.MemPages.{MemPages}
 use Rattle.rq_log.specs.Spelled.{spelled, AreSpelled}
 use Rattle.rq_page.specs.Sizes.{Sizes, page_count}
 use Rattle.rq_page.specs.Formatted.{IsFormatted}
-use Rattle.rq_pool.specs.Reading.{HasAnswered, IsSound, IsSuperblock, NotReadAgain}
+use Rattle.rq_pool.specs.Reading.{HasAnswered, IsSoundPage, IsSuperblock, NotReadAgain}
 use Rattle.rq_core.specs.Devices.{mem_pages}
 use Rattle.rq_restart.specs.Formatting.{AreBeforeOrFormatted, HasRun, IsBeforeOrFormatted, KeepsOthers}
 
@@ -23,10 +23,10 @@ pub record DevicesAreJudged : Type 0 where
       → NotReadAgain mem_pages z 1 why.DiskRead old new
   pub read_failed_without_a_failure : (z : Sizes) (d : MemPages) → mem_pages.faults d < 2 ^ 64
       → NotReadAgain mem_pages z 1 why.DiskRead d d → ⊥
-  pub damaged : (z : Sizes) (d : MemPages) → (mem_pages.stopped d → ⊥) → (IsSound z 1 (mem_pages.seen d 1) → ⊥)
+  pub damaged : (z : Sizes) (d : MemPages) → (mem_pages.stopped d → ⊥) → (IsSoundPage z 1 (mem_pages.seen d 1) → ⊥)
       → NotReadAgain mem_pages z 1 (why.Damaged (damage.Page 1)) d d
   pub damaged_of_a_sound_page : (z : Sizes) (old new : MemPages) → mem_pages.honest new
-      → IsSound z 1 (mem_pages.seen old 1)
+      → IsSoundPage z 1 (mem_pages.seen old 1)
       → NotReadAgain mem_pages z 1 (why.Damaged (damage.Page 1)) old new → ⊥
   pub damaged_of_another_page : (z : Sizes) (old new : MemPages)
       → NotReadAgain mem_pages z 1 (why.Damaged (damage.Page 2)) old new → ⊥

@@ -9,7 +9,7 @@ use Rattle.rq_groups.specs.Waiting.{waits}
 use Rattle.rq_page.specs.Sizes.{sender_count}
 use Rattle.rq_txn.specs.Rows.{fresh_row}
 use Rattle.rq_store.specs.State.{State}
-use Rattle.rq_engine.specs.Answers.{IsReady}
+use Rattle.rq_engine.specs.Answers.{HasNothingUnderWay}
 use Rattle.rq_engine.specs.Applied.{ChangesSay, RefusalLeaves}
 use Rattle.rq_engine.specs.Lists.{IsCommitted, ListsSay}
 use Rattle.rq_engine.specs.Opened.{OpenStore}
@@ -40,19 +40,19 @@ pub record ListsAreJudged : Type 0 where
       → ⊥
   pub forced_nothing : (s new : State) (lsn : ℕ) → new.forced < length s.records
       → ListsSay s event.Force (reply.Forced lsn) new → ⊥
-  pub committed : (s : State) (t : Txn) (n : ℕ) (number : CommitNo) (new : State) → IsReady s t n
+  pub committed : (s : State) (t : Txn) (n : ℕ) (number : CommitNo) (new : State) → HasNothingUnderWay s t n
       → IsCommitted s t number new
       → ListsSay s (event.Commit t) (reply.Committed number) new
   pub committed_at_another_place : (s new : State) (t : Txn) (number : CommitNo) → number.lsn ≡ length s.records
       → ListsSay s (event.Commit t) (reply.Committed number) new → ⊥
   pub committed_without_a_record : (s new : State) (t : Txn) (number : CommitNo) → new.records ≡ s.records
       → ListsSay s (event.Commit t) (reply.Committed number) new → ⊥
-  pub none : (s : State) (t : Txn) (n g : ℕ) → IsReady s t n → g < sender_count s.sizes
+  pub none : (s : State) (t : Txn) (n g : ℕ) → HasNothingUnderWay s t n → g < sender_count s.sizes
       → is_free_for t g s.ends.receiving ≡ true → waits s.waiting g ≡ 0
       → ListsSay s (event.StartReceiveFrom t g) reply.NoMessage s
   pub none_where_one_waits : (s new : State) (t : Txn) (g : ℕ) → 1 ≤ waits s.waiting g
       → ListsSay s (event.StartReceiveFrom t g) reply.NoMessage new → ⊥
-  pub none_of_a_stranger : (s new : State) (t : Txn) (g : ℕ) → ((n : ℕ) → IsReady s t n → ⊥)
+  pub none_of_a_stranger : (s new : State) (t : Txn) (g : ℕ) → ((n : ℕ) → HasNothingUnderWay s t n → ⊥)
       → ListsSay s (event.StartReceiveFrom t g) reply.NoMessage new → ⊥
   -- a refusal changes nothing, but that a device's failure in a write stops the store
   pub refused : (s : OpenStore MemPages MemLog) → RefusalLeaves s event.Begin (reply.Refused why.NoMemory) s

@@ -4,7 +4,7 @@ use Rattle.rq_page.specs.Sizes.{Sizes, IsCellAddress, IsLink, directory_at, send
 use Rattle.rq_page.specs.Kinds.{kind_of}
 use Rattle.rq_page.specs.Cells.{cell_slot_bytes}
 use Rattle.rq_page.specs.Directories.{directory_bytes}
-use Rattle.rq_page.specs.Slots.{Slot, Sender, held_in, of_cell_slot, of_directory_slot, spelled, MayStand, MayHold, IsDirectoryOf, IsSlotOf}
+use Rattle.rq_page.specs.Slots.{Slot, Sender, held_in, of_cell_slot, of_directory_slot, slot_bytes, MayStand, MayHold, IsDirectoryOf, IsSlotOf}
 use Rattle.rq_page.specs.declared.cell.CellSlot.{CellSlot}
 use Rattle.rq_page.specs.declared.cell.CellSlot.TheVariants as cells
 use Rattle.rq_page.specs.declared.directory.Directory.{Directory}
@@ -29,7 +29,7 @@ may_hold : (z : Sizes) (page slot : ℕ) (x : CellSlot) → MayStand z x → May
 may_hold z page slot cells.Free may = tt
 may_hold z page slot (cells.Used c) may = may
 
-spelled_cell : (x : CellSlot) → spelled (of_cell_slot x) ≡ cell_slot_bytes x
+spelled_cell : (x : CellSlot) → slot_bytes (of_cell_slot x) ≡ cell_slot_bytes x
 spelled_cell cells.Free = refl
 spelled_cell (cells.Used c) = refl
 
@@ -41,7 +41,7 @@ cell_told z a x is may =
     let there : MayHold (kind_of z (a / 16)) z (a / 16) (a % 16) (of_cell_slot x) =
     subst (λ (k : Option PageKind). MayHold k z (a / 16) (a % 16) (of_cell_slot x)) (sym known) (may_hold z (a / 16) (a % 16) x may) in
     let told = spelling_tells z (a / 16) (a % 16) (of_cell_slot x) is.slot (omega arith) there in
-    let same : spelled (of_cell_slot x) ≡ cell_slot_bytes x = spelled_cell x in
+    let same : slot_bytes (of_cell_slot x) ≡ cell_slot_bytes x = spelled_cell x in
     (ap (held_in z (a / 16)) (sym same) ∙ told.0, subst (IsSlotOf z (a / 16) (a % 16)) same told.1)
 
 -- the slot of a sender's address, with a spelling there

@@ -13,7 +13,7 @@ use Rattle.rq_level.specs.Committed.{message_of}
 use Rattle.rq_level.specs.Plans.{with_turn}
 use Rattle.rq_level.specs.Plans.Turn.{Did}
 use Rattle.rq_level.specs.Legal.{Placed}
-use Rattle.rq_level.specs.Groups.{is_sending, is_taking, side, with_all, Told}
+use Rattle.rq_level.specs.Groups.{on_sending_end, on_receiving_end, side, with_all, TellsView}
 use Rattle.rq_level.proofs.Deeds.{Sound}
 use Rattle.rq_txn.specs.declared.Finished.{Finished}
 use Rattle.rq_store.specs.State.{op_done}
@@ -26,8 +26,8 @@ record NotFor (g : ℕ) (d : Deed) : Type 0 where
   unsent : sent_for g (op_of (said d)) ≡ None
   untaken : taken_from g (op_of (said d)) ≡ None
   same : (b : Before) → without_deed g d b ≡ b
-  off : is_sending g d ≡ false
-  free : is_taking g d ≡ false
+  off : on_sending_end g d ≡ false
+  free : on_receiving_end g d ≡ false
 
 -- it sends for g, behind this tag
 record SendFor (g : ℕ) (d : Deed) : Type 0 where
@@ -36,9 +36,9 @@ record SendFor (g : ℕ) (d : Deed) : Type 0 where
   some : sent_for g (op_of (said d)) ≡ Some message
   untaken : taken_from g (op_of (said d)) ≡ None
   less : (b : Before) → without_deed g d b ≡ without_send tag b
-  on : is_sending g d ≡ true
-  free : is_taking g d ≡ false
-  told : (v : View) → Told d v → tag ≡ v.last_tag
+  on : on_sending_end g d ≡ true
+  free : on_receiving_end g d ≡ false
+  told : (v : View) → TellsView d v → tag ≡ v.last_tag
 
 -- it takes this message from g
 record TakeFor (g : ℕ) (d : Deed) : Type 0 where
@@ -47,9 +47,9 @@ record TakeFor (g : ℕ) (d : Deed) : Type 0 where
   unsent : sent_for g (op_of (said d)) ≡ None
   some : taken_from g (op_of (said d)) ≡ Some (record { sender = g; tag = tag; body = body })
   less : (b : Before) → without_deed g d b ≡ without_take (record { sender = g; tag = tag; body = body }) b
-  off : is_sending g d ≡ false
-  on : is_taking g d ≡ true
-  told : (v : View) → Told d v → (rest : List (ℕ × List ℕ)) × (v.messages ≡ (tag, body) ∷ rest)
+  off : on_sending_end g d ≡ false
+  on : on_receiving_end g d ≡ true
+  told : (v : View) → TellsView d v → (rest : List (ℕ × List ℕ)) × (v.messages ≡ (tag, body) ∷ rest)
   next : (v : View) → (with_turn (Did d) v).messages ≡ drop 1 v.messages
 
 cases_deed : (g : ℕ) (d : Deed) → Moves d → NotFor g d ⊎ (SendFor g d ⊎ TakeFor g d)
@@ -136,15 +136,15 @@ respects g (f ∷ fs) a b h s = respects g fs (without_deed g f.deed a) (without
 ])
 
 -- where nothing was sent for g, nothing of its sends is left out
-pub quiet_sends : (g : ℕ) (fs : List Finished) (b : Before) → AllMove fs → side (is_sending g) (placed fs) ≡ [] → SameSends (without_all g fs b) b
+pub quiet_sends : (g : ℕ) (fs : List Finished) (b : Before) → AllMove fs → side (on_sending_end g) (placed fs) ≡ [] → SameSends (without_all g fs b) b
 quiet_sends g [] b h e = sends_same b
 quiet_sends g (f ∷ fs) b h e = elim (cases_deed g f.deed h.0) [
-  | inl k ↦ sends_are _ _ (without_all g fs b) b (ap (without_all g fs) (k.same b)) refl (quiet_sends g fs b h.1 (sym (side_off (is_sending g) f fs k.off) ∙ e))
+  | inl k ↦ sends_are _ _ (without_all g fs b) b (ap (without_all g fs) (k.same b)) refl (quiet_sends g fs b h.1 (sym (side_off (on_sending_end g) f fs k.off) ∙ e))
   | inr l ↦ elim l [
-    | inl k ↦ absurd (not_nil (side (is_sending g) (placed fs)) f.deed (sym (side_on (is_sending g) f fs k.on) ∙ e))
+    | inl k ↦ absurd (not_nil (side (on_sending_end g) (placed fs)) f.deed (sym (side_on (on_sending_end g) f fs k.on) ∙ e))
     | inr k ↦
         let m : Message = record { sender = g; tag = k.tag; body = k.body } in
-        let i = quiet_sends g fs (without_take m b) h.1 (sym (side_off (is_sending g) f fs k.off) ∙ e) in
+        let i = quiet_sends g fs (without_take m b) h.1 (sym (side_off (on_sending_end g) f fs k.off) ∙ e) in
         sends_are _ _ (without_all g fs (without_take m b)) b (ap (without_all g fs) (k.less b)) refl (record { sent = i.sent; previous = i.previous; closed = i.closed })
   ]
 ]
@@ -189,15 +189,15 @@ own_left g (f ∷ fs) b h = elim (cases_deed g f.deed h.0) [
 ]
 
 -- where nothing was taken from g, nothing of it is put back
-pub quiet_takes : (g : ℕ) (fs : List Finished) (b : Before) → AllMove fs → side (is_taking g) (placed fs) ≡ [] → (without_all g fs b).taken ≡ b.taken
+pub quiet_takes : (g : ℕ) (fs : List Finished) (b : Before) → AllMove fs → side (on_receiving_end g) (placed fs) ≡ [] → (without_all g fs b).taken ≡ b.taken
 quiet_takes g fs b h e = (own_left g fs b h).taken ∙ ap (λ l. b.taken ++ l) (none fs h e) ∙ append-nil b.taken where
-  none : (fs : List Finished) → AllMove fs → side (is_taking g) (placed fs) ≡ [] → own_taken g fs ≡ []
+  none : (fs : List Finished) → AllMove fs → side (on_receiving_end g) (placed fs) ≡ [] → own_taken g fs ≡ []
   none [] h e = refl
   none (f ∷ fs) h e = elim (cases_deed g f.deed h.0) [
-    | inl k ↦ taken_none g f fs k.untaken ∙ none fs h.1 (sym (side_off (is_taking g) f fs k.free) ∙ e)
+    | inl k ↦ taken_none g f fs k.untaken ∙ none fs h.1 (sym (side_off (on_receiving_end g) f fs k.free) ∙ e)
     | inr l ↦ elim l [
-      | inl k ↦ taken_none g f fs k.untaken ∙ none fs h.1 (sym (side_off (is_taking g) f fs k.free) ∙ e)
-      | inr k ↦ absurd (not_nil (side (is_taking g) (placed fs)) f.deed (sym (side_on (is_taking g) f fs k.on) ∙ e))
+      | inl k ↦ taken_none g f fs k.untaken ∙ none fs h.1 (sym (side_off (on_receiving_end g) f fs k.free) ∙ e)
+      | inr k ↦ absurd (not_nil (side (on_receiving_end g) (placed fs)) f.deed (sym (side_on (on_receiving_end g) f fs k.on) ∙ e))
     ]
   ]
 
@@ -211,21 +211,21 @@ kept_tag g (f ∷ fs) b p h e = elim (cases_deed g f.deed h.0) [
   ]
 ]
 
-sound_last : (ds : List Deed) (d : Deed) (v : View) → Sound (ds ++ d ∷ []) v → Told d v
+sound_last : (ds : List Deed) (d : Deed) (v : View) → Sound (ds ++ d ∷ []) v → TellsView d v
 sound_last [] d v h = h.0
 sound_last (x ∷ ds) d v h = sound_last ds d v h.1
 
 -- the first send tells the tag that stood there before
-pub first_tag : (g : ℕ) (fs : List Finished) (b : Before) (v : View) → AllMove fs → b.previous ≡ None → Sound (side (is_sending g) (placed fs)) v → or_else (without_all g fs b).previous (tag_after v.last_tag (own g fs)) ≡ v.last_tag
+pub first_tag : (g : ℕ) (fs : List Finished) (b : Before) (v : View) → AllMove fs → b.previous ≡ None → Sound (side (on_sending_end g) (placed fs)) v → or_else (without_all g fs b).previous (tag_after v.last_tag (own g fs)) ≡ v.last_tag
 first_tag g [] b v h e k = ap (λ o. or_else o v.last_tag) e
 first_tag g (f ∷ fs) b v h e k = elim (cases_deed g f.deed h.0) [
   | inl n ↦
       ap (λ x. or_else (without_all g fs x).previous (tag_after v.last_tag (own g (f ∷ fs)))) (n.same b)
       ∙ ap (λ l. or_else (without_all g fs b).previous (tag_after v.last_tag l)) (own_none g f fs n.unsent)
-      ∙ first_tag g fs b v h.1 e (subst (λ ds. Sound ds v) (side_off (is_sending g) f fs n.off) k)
+      ∙ first_tag g fs b v h.1 e (subst (λ ds. Sound ds v) (side_off (on_sending_end g) f fs n.off) k)
   | inr l ↦ elim l [
     | inl s ↦
-        let last : Told f.deed v = sound_last (side (is_sending g) (placed fs)) f.deed v (subst (λ ds. Sound ds v) (side_on (is_sending g) f fs s.on) k) in
+        let last : TellsView f.deed v = sound_last (side (on_sending_end g) (placed fs)) f.deed v (subst (λ ds. Sound ds v) (side_on (on_sending_end g) f fs s.on) k) in
         let kept : (without_all g fs (without_send s.tag b)).previous ≡ Some s.tag = kept_tag g fs (without_send s.tag b) s.tag h.1 (ap (λ o. Some (or_else o s.tag)) e) in
         ap (λ x. or_else (without_all g fs x).previous (tag_after v.last_tag (own g (f ∷ fs)))) (s.less b)
         ∙ ap (λ o. or_else o (tag_after v.last_tag (own g (f ∷ fs)))) kept
@@ -234,7 +234,7 @@ first_tag g (f ∷ fs) b v h e k = elim (cases_deed g f.deed h.0) [
         let c = without_take (record { sender = g; tag = n.tag; body = n.body }) b in
         ap (λ x. or_else (without_all g fs x).previous (tag_after v.last_tag (own g (f ∷ fs)))) (n.less b)
         ∙ ap (λ l. or_else (without_all g fs c).previous (tag_after v.last_tag l)) (own_none g f fs n.unsent)
-        ∙ first_tag g fs c v h.1 e (subst (λ ds. Sound ds v) (side_off (is_sending g) f fs n.off) k)
+        ∙ first_tag g fs c v h.1 e (subst (λ ds. Sound ds v) (side_off (on_sending_end g) f fs n.off) k)
   ]
 ]
 
@@ -245,24 +245,24 @@ with_last (x ∷ ds) d v = ap (with_turn (Did x)) (with_last ds d v)
 -- what came first told the view, and the others that which it left
 sound_first : (ds : List Deed) (d : Deed) (v : View) → Sound (ds ++ d ∷ []) v → Sound ds (with_turn (Did d) v)
 sound_first [] d v h = tt
-sound_first (x ∷ ds) d v h = (subst (Told x) (with_last ds d v) h.0, sound_first ds d v h.1)
+sound_first (x ∷ ds) d v h = (subst (TellsView x) (with_last ds d v) h.0, sound_first ds d v h.1)
 
 -- what was taken are the first messages of the view
 pub record AreFirst (g : ℕ) (taken : List Message) (messages : List (ℕ × List ℕ)) : Type 0 where
   pub within : length taken ≤ length messages
   pub are : map (message_of g) (take (length taken) messages) ≡ taken
 
-pub takes_first : (g : ℕ) (fs : List Finished) (v : View) → AllMove fs → Sound (side (is_taking g) (placed fs)) v → AreFirst g (own_taken g fs) v.messages
+pub takes_first : (g : ℕ) (fs : List Finished) (v : View) → AllMove fs → Sound (side (on_receiving_end g) (placed fs)) v → AreFirst g (own_taken g fs) v.messages
 takes_first g [] v h k = record { within = omega arith; are = refl }
 takes_first g (f ∷ fs) v h k = elim (cases_deed g f.deed h.0) [
-  | inl n ↦ subst (λ l. AreFirst g l v.messages) (sym (taken_none g f fs n.untaken)) (takes_first g fs v h.1 (subst (λ ds. Sound ds v) (side_off (is_taking g) f fs n.free) k))
+  | inl n ↦ subst (λ l. AreFirst g l v.messages) (sym (taken_none g f fs n.untaken)) (takes_first g fs v h.1 (subst (λ ds. Sound ds v) (side_off (on_receiving_end g) f fs n.free) k))
   | inr l ↦ elim l [
-    | inl n ↦ subst (λ l. AreFirst g l v.messages) (sym (taken_none g f fs n.untaken)) (takes_first g fs v h.1 (subst (λ ds. Sound ds v) (side_off (is_taking g) f fs n.free) k))
+    | inl n ↦ subst (λ l. AreFirst g l v.messages) (sym (taken_none g f fs n.untaken)) (takes_first g fs v h.1 (subst (λ ds. Sound ds v) (side_off (on_receiving_end g) f fs n.free) k))
     | inr n ↦
         let m : Message = record { sender = g; tag = n.tag; body = n.body } in
-        let k2 = subst (λ ds. Sound ds v) (side_on (is_taking g) f fs n.on) k in
-        let here = n.told v (sound_last (side (is_taking g) (placed fs)) f.deed v k2) in
-        let i = takes_first g fs (with_turn (Did f.deed) v) h.1 (sound_first (side (is_taking g) (placed fs)) f.deed v k2) in
+        let k2 = subst (λ ds. Sound ds v) (side_on (on_receiving_end g) f fs n.on) k in
+        let here = n.told v (sound_last (side (on_receiving_end g) (placed fs)) f.deed v k2) in
+        let i = takes_first g fs (with_turn (Did f.deed) v) h.1 (sound_first (side (on_receiving_end g) (placed fs)) f.deed v k2) in
         let rest : (with_turn (Did f.deed) v).messages ≡ here.0 = n.next v ∙ ap (λ (l : List (ℕ × List ℕ)). drop 1 l) here.1 in
         let j = subst (AreFirst g (own_taken g fs)) rest i in
         subst (λ l. AreFirst g l v.messages) (sym (taken_some g f fs m n.some)) (subst (AreFirst g (m ∷ own_taken g fs)) (sym here.1) (record { within = (let w = j.within in omega (arith, w)); are = ap (λ l. m ∷ l) j.are }))

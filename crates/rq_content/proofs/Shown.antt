@@ -24,7 +24,7 @@ use Rattle.rq_page.specs.declared.directory.Directory.{Directory}
 use Rattle.rq_page.specs.Sizes.{Sizes, directory_at, sender_count}
 use Rattle.rq_level.specs.Chain.{View, Cells, Node, Linked, first, message}
 use Rattle.rq_level.specs.Committed.{IsViewOf, message_of}
-use Rattle.rq_level.specs.Groups.{is_sending, is_taking, side, committed}
+use Rattle.rq_level.specs.Groups.{on_sending_end, on_receiving_end, side, committed}
 use Rattle.rq_level.specs.Items.{items}
 use Rattle.rq_level.specs.Legal.{open_deeds, view}
 use Rattle.rq_level.specs.Log.{cell_in, cells_of}
@@ -49,11 +49,11 @@ use Rattle.rq_content.proofs.OneRead.{Has, fields_are, read_is}
 
 -- of these rows none but t's sends for g
 abbrev NoneSends : ℕ → Txn → List Row → Type 0
-NoneSends g t rows = (r : Row) → In r rows → AllMove r.finished × (same_txn r.txn t ≡ false → side (is_sending g) (placed r.finished) ≡ [])
+NoneSends g t rows = (r : Row) → In r rows → AllMove r.finished × (same_txn r.txn t ≡ false → side (on_sending_end g) (placed r.finished) ≡ [])
 
 -- and none but t's takes from it
 abbrev NoneTakes : ℕ → Txn → List Row → Type 0
-NoneTakes g t rows = (r : Row) → In r rows → AllMove r.finished × (same_txn r.txn t ≡ false → side (is_taking g) (placed r.finished) ≡ [])
+NoneTakes g t rows = (r : Row) → In r rows → AllMove r.finished × (same_txn r.txn t ≡ false → side (on_receiving_end g) (placed r.finished) ≡ [])
 
 sends_quiet : (g : ℕ) (t : Txn) (rows : List Row) (b : Before) → NoneSends g t rows → found_row t rows ≡ None → SameSends (without_rows g rows b) b
 sends_quiet g t [] b q e = sends_same b
@@ -206,8 +206,8 @@ finds s k e g below =
     let own_is : added g (say (open_deeds t its)) ≡ own g dt.finished = added_own s g t dt in
     let x = Chains.shown s k e g below in
     let d = x.directory in
-    let nobody_sends : NoneSends g t s.rows = λ r i. ((k.rows r i).moves, λ n. ap (side (is_sending g)) (sym (k.rows r i).done) ∙ h.sender_alone r.txn (not_same r.txn t n)) in
-    let nobody_takes : NoneTakes g u s.rows = λ r i. ((k.rows r i).moves, λ n. ap (side (is_taking g)) (sym (k.rows r i).done) ∙ h.taker_alone r.txn (not_same r.txn u n)) in
+    let nobody_sends : NoneSends g t s.rows = λ r i. ((k.rows r i).moves, λ n. ap (side (on_sending_end g)) (sym (k.rows r i).done) ∙ h.sender_alone r.txn (not_same r.txn t n)) in
+    let nobody_takes : NoneTakes g u s.rows = λ r i. ((k.rows r i).moves, λ n. ap (side (on_receiving_end g)) (sym (k.rows r i).done) ∙ h.taker_alone r.txn (not_same r.txn u n)) in
     let a : Before = without_rows g s.rows (start d) in
     let sends = dt.sends_left (start d) nobody_sends in
     let left = own_left g dt.finished (start d) dt.moves in
@@ -226,12 +226,12 @@ finds s k e g below =
         messages = sym x.shows.messages ∙ w.messages ∙ ap (λ n. drop n c.messages ++ map tag_and_body (added g (say (open_deeds t its)))) count ∙ ap (λ l. drop (length a.taken) c.messages ++ map tag_and_body l) own_is;
         received = sym x.shows.received ∙ w.received ∙ ap (λ n. c.received + n) count;
         left = sends.sent ∙ left.sent;
-        taken = subst (λ l. AreFirst g l c.messages) (sym taken) (takes_first g du.finished c du.moves (subst (λ ps. Sound (side (is_taking g) ps) c) du.open_is (h.takes u)));
+        taken = subst (λ l. AreFirst g l c.messages) (sym taken) (takes_first g du.finished c du.moves (subst (λ ps. Sound (side (on_receiving_end g) ps) c) du.open_is (h.takes u)));
       };
       tag =
           ap (λ o. or_else o d.last_tag) sends.previous
           ∙ ap (or_else (without_all g dt.finished (start d)).previous) (sym x.shows.last_tag ∙ w.last_tag ∙ ap (tag_after c.last_tag) own_is)
-          ∙ first_tag g dt.finished (start d) c dt.moves refl (subst (λ ps. Sound (side (is_sending g) ps) c) dt.open_is (h.sends t));
+          ∙ first_tag g dt.finished (start d) c dt.moves refl (subst (λ ps. Sound (side (on_sending_end g) ps) c) dt.open_is (h.sends t));
       closed = sends.closed ∙ left.closed ∙ sym x.shows.closed ∙ closed_is s k g;
     }
 

@@ -38,7 +38,7 @@ use Rattle.rq_core.specs.Devices.{mem_pages, mem_log}
 use Rattle.rq_core.specs.Happenings.{Happening, Answer, AddsCall, Course, MayCrashIt, Tells, called, is_of_device}
 use Rattle.rq_core.specs.Happenings.Answer.{Answered, Crashed, Refused, Restarted}
 use Rattle.rq_core.specs.Headline.{LeavesStores, LeftBy, LeftLast}
-use Rattle.rq_core.specs.Runs.{CanCrash, GoesOn, Is, IsFresh, IsHeadline, Ran, StaysShut}
+use Rattle.rq_core.specs.Runs.{CanCrash, GoesOn, Is, IsFresh, IsHeadline, Ran, GoesOnShut}
 use Rattle.rq_core.specs.World.{IsOpen, IsShut}
 use Rattle.rq_core.specs.World.World.{Is_open, Is_shut}
 use Rattle.rq_core.specs.Happenings.Happening.{Crashes, Restarts, Stops_in, Stops_restart}
@@ -159,7 +159,7 @@ module _ (pages : MemPages) (log : MemLog) (one : OneLogEach) where
       → OfStores mem_pages mem_log pages log (log_left r) (λ z read. EachPair mem_pages mem_log (pages_left r) (log_left r) (IsLeftOrGoesOn mem_log log z read))
       → IfErr r (λ s. (z : Sizes) → IsSuperblock z (mem_pages.seen pages 0) → (older : List Record) → IsReadAs mem_log log s.log older
       → Stops (IsLeftOn mem_pages z pages s.pages older) older s.refusal (mem_pages.faults pages) (mem_pages.faults s.pages) (mem_log.faults log) (mem_log.faults s.log))
-      → IfErr r (λ s. StaysShut pages log s.pages s.log s.refusal)
+      → IfErr r (λ s. GoesOnShut pages log s.pages s.log s.refusal)
   stays (Ok o) crash err = tt
   stays (Err s) crash err = λ z course ran.
       let here : IsShut mem_pages mem_log z ran.history pages log = ran.stands in
@@ -172,7 +172,7 @@ module _ (pages : MemPages) (log : MemLog) (one : OneLogEach) where
       )
 
 -- a restart that was refused, as a happening
-pub refuses : (z : Sizes) (course : Course) (x : Happening) (pages new_pages : MemPages) (log new_log : MemLog) (r : Refusal) → MayRestart course x → StaysShut pages log new_pages new_log r → Ran z course (Is_shut pages log)
+pub refuses : (z : Sizes) (course : Course) (x : Happening) (pages new_pages : MemPages) (log new_log : MemLog) (r : Refusal) → MayRestart course x → GoesOnShut pages log new_pages new_log r → Ran z course (Is_shut pages log)
     → Ran z ((x, Refused r) ∷ course) (Is_shut new_pages new_log)
 refuses z course x pages new_pages log new_log r may stays ran =
     let s : IsShut mem_pages mem_log z ran.history pages log = ran.stands in

@@ -16,7 +16,7 @@ use Rattle.rq_core.specs.declared.happening.Entry.{Entry}
 use Rattle.rq_core.specs.declared.happening.Happening.{Happening as Happens}
 use Rattle.rq_core.specs.declared.happening.Entry.TheVariants as entry
 use Rattle.rq_core.specs.Happenings.Answer.{Answered}
-use Rattle.rq_core.specs.Views.{answers, commit_in, commit_told, course, happens}
+use Rattle.rq_core.specs.Views.{answer_in, commit_in, commit_told, course, happens}
 use Rattle.rq_core.specs.Happenings.{Happening, Answer, Course, acknowledging, answers_of, course_of, nth, paired}
 
 snds : Course → List Answer
@@ -30,7 +30,7 @@ paired_answers course (x ∷ xs) (b ∷ bs) e =
 paired_answers course [] (b ∷ bs) e = absurd (omega (arith, e))
 paired_answers course (x ∷ xs) [] e = absurd (omega (arith, e))
 
--- the answers of a course are those that it was made of
+-- the answer_in of a course are those that it was made of
 pub answers_are : (xs : List Happening) (bs : List Answer) → length xs ≡ length bs → answers_of (course_of xs bs) ≡ bs
 answers_are xs bs e = paired_answers [] xs bs e
 
@@ -56,31 +56,31 @@ in_reply (reply.Finished outcome.Closed) = refl
 in_reply (reply.Finished outcome.Undone) = refl
 in_reply _ = refl
 
-in_entry : (e : Entry) → acknowledging (Some (answers e)) ≡ option_map ack (commit_told e)
+in_entry : (e : Entry) → acknowledging (Some (answer_in e)) ≡ option_map ack (commit_told e)
 in_entry (entry.Answered r) = in_reply r
 in_entry _ = refl
 
 -- the commit that the nth entry tells
-pub nth_told : (es : List Entry) (n i : ℕ) (d : Entry) → n ≡ suc i → i < length es → acknowledging (nth n (map answers es)) ≡ option_map ack (commit_told (get_or es i d))
+pub nth_told : (es : List Entry) (n i : ℕ) (d : Entry) → n ≡ suc i → i < length es → acknowledging (nth n (map answer_in es)) ≡ option_map ack (commit_told (get_or es i d))
 nth_told es n i d is within =
-    ap (λ k. acknowledging (nth k (map answers es))) is ∙ ap acknowledging (slice_get-map answers es i ∙ ap (option_map answers) (slice_get-get_or es i d within)) ∙ in_entry (get_or es i d)
+    ap (λ k. acknowledging (nth k (map answer_in es))) is ∙ ap acknowledging (slice_get-map answer_in es i ∙ ap (option_map answer_in) (slice_get-get_or es i d within)) ∙ in_entry (get_or es i d)
 
 -- there is none beyond the last
-pub none_past : (es : List Entry) (n : ℕ) → length es < n → acknowledging (nth n (map answers es)) ≡ None
+pub none_past : (es : List Entry) (n : ℕ) → length es < n → acknowledging (nth n (map answer_in es)) ≡ None
 none_past es zero past = absurd (omega (arith, past))
-none_past es (suc i) past = ap acknowledging (slice_get-map answers es i ∙ ap (option_map answers) (slice_get_past es i (omega (arith, past))))
+none_past es (suc i) past = ap acknowledging (slice_get-map answer_in es i ∙ ap (option_map answer_in) (slice_get_past es i (omega (arith, past))))
 
 -- a loop over happenings: one more is taken, and its entry is pushed
-pub pushed : (xs : List Happens) (es new : List Entry) (i : ℕ) (d : Happens) (e : Entry) → i < length xs → length es ≡ i → new ≡ es ++ e ∷ [] → course (take (i + 1) xs) new ≡ (happens (get_or xs i d), answers e) ∷ course (take i xs) es
+pub pushed : (xs : List Happens) (es new : List Entry) (i : ℕ) (d : Happens) (e : Entry) → i < length xs → length es ≡ i → new ≡ es ++ e ∷ [] → course (take (i + 1) xs) new ≡ (happens (get_or xs i d), answer_in e) ∷ course (take i xs) es
 pushed xs es new i d e within count is =
     let s : i + 1 ≡ suc i = omega arith in
     let t : take (i + 1) xs ≡ take i xs ++ (get_or xs i d ∷ []) = ap (λ n. take n xs) s ∙ take-suc xs i d within in
-    let n : length (map happens (take i xs)) ≡ length (map answers es) = length-map (take i xs) happens ∙ length-take-le i xs (omega (arith, within)) ∙ sym count ∙ sym (length-map es answers) in
+    let n : length (map happens (take i xs)) ≡ length (map answer_in es) = length-map (take i xs) happens ∙ length-take-le i xs (omega (arith, within)) ∙ sym count ∙ sym (length-map es answer_in) in
     ap (λ l. course l new) t ∙ ap (λ l. course (take i xs ++ (get_or xs i d ∷ [])) l) is
-    ∙ ap (λ l. course_of l (map answers (es ++ e ∷ []))) (map-append happens (take i xs) (get_or xs i d ∷ []))
-    ∙ ap (λ l. course_of (map happens (take i xs) ++ (happens (get_or xs i d) ∷ [])) l) (map-append answers es (e ∷ []))
-    ∙ one_more (map happens (take i xs)) (map answers es) (happens (get_or xs i d)) (answers e) n
+    ∙ ap (λ l. course_of l (map answer_in (es ++ e ∷ []))) (map-append happens (take i xs) (get_or xs i d ∷ []))
+    ∙ ap (λ l. course_of (map happens (take i xs) ++ (happens (get_or xs i d) ∷ [])) l) (map-append answer_in es (e ∷ []))
+    ∙ one_more (map happens (take i xs)) (map answer_in es) (happens (get_or xs i d)) (answer_in e) n
 
-pub told_so_far : (xs : List Happens) (es : List Entry) (i : ℕ) → i ≤ length xs → length es ≡ i → answers_of (course (take i xs) es) ≡ map answers es
+pub told_so_far : (xs : List Happens) (es : List Entry) (i : ℕ) → i ≤ length xs → length es ≡ i → answers_of (course (take i xs) es) ≡ map answer_in es
 told_so_far xs es i within count =
-    answers_are (map happens (take i xs)) (map answers es) (length-map (take i xs) happens ∙ length-take-le i xs within ∙ sym count ∙ sym (length-map es answers))
+    answers_are (map happens (take i xs)) (map answer_in es) (length-map (take i xs) happens ∙ length-take-le i xs within ∙ sym count ∙ sym (length-map es answer_in))

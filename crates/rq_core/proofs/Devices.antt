@@ -4,7 +4,7 @@ use Rattle.std.proofs.lemmas.List.{append-nil, take_all, drop_all}
 use Rattle.rq_model.specs.declared.record.Record.{Record}
 use Rattle.rq_disk.specs.Device.{Images, Leaves, Only}
 use Rattle.rq_disk.specs.Memory.{LogState, MayBe, MayLeave, crashed_log, fresh_log, log_reads, log_seen, pages_seen, reads}
-use Rattle.rq_disk.specs.Records.{HoldsRecords, front, record_size}
+use Rattle.rq_disk.specs.Records.{HoldsRecords, first_records, record_size}
 use Rattle.rq_disk.specs.Shown.{log_of, pages_of}
 use Rattle.rq_disk.specs.declared.mem_log.MemLog.{MemLog}
 use Rattle.rq_disk.specs.declared.mem_pages.MemPages.{MemPages}
@@ -21,11 +21,11 @@ some_page d page = pages_seen (pages_of d) page
 pub some_log : (d : MemLog) → MayLeave (log_of d) (log_reads (log_of d))
 some_log d = log_seen (log_of d)
 
-front_nil : (k : ℕ) → front k [] ≡ []
+front_nil : (k : ℕ) → first_records k [] ≡ []
 front_nil zero = refl
 front_nil (suc k) =
     let s = record_size [] in
-    ap (λ (l : List ℕ). l ++ front k (drop s [])) (take_all s [] (omega arith)) ∙ ap (front k) (drop_all s [] (omega arith)) ∙ front_nil k
+    ap (λ (l : List ℕ). l ++ first_records k (drop s [])) (take_all s [] (omega arith)) ∙ ap (first_records k) (drop_all s [] (omega arith)) ∙ front_nil k
 
 -- of a log that is all forced a crash leaves all
 fresh_only : (s : LogState) (bytes c : List ℕ) → s ≡ fresh_log bytes → MayLeave s c → c ≡ bytes

@@ -16,7 +16,7 @@ use Rattle.rq_model.specs.Incarnations.{Extends, Ties, InOrder, ArePlain, incarn
 use Rattle.rq_model.specs.Content.{committed_of, KeepsRules}
 use Rattle.rq_model.specs.Ledger.{Done, Ledger, Phase, ledger, after, kept_in}
 use Rattle.rq_model.specs.Ledger.Phase.{Running as Runs, Stopped, Shut}
-use Rattle.rq_model.specs.Legal.{Legal, IsLegal}
+use Rattle.rq_model.specs.Legal.{Legal, IsLegal, any_busy}
 use Rattle.rq_model.specs.Promises.{CrashGoesOn, ShutCrashGoesOn, RestartGoesOn, EndsInCrash, crash_to}
 use Rattle.rq_model.specs.Replay.{Reply as Gave, Says}
 use Rattle.rq_model.specs.Replay.Reply.{Gave_refusal}
@@ -53,7 +53,7 @@ use Rattle.rq_restart.specs.Restarting.{IsReadAs, IsLeftOn, Reports, Stops}
 use Rattle.rq_restart.specs.declared.restart.Report.{Report as Restart_report}
 use Rattle.rq_restart.specs.Underway.{IsStore, IsSomeStore, IsLeftOrGoesOn}
 use Rattle.rq_restart.specs.Once.{OneLogEach, AsManyAsTheLog, OneSizeEach}
-use Rattle.rq_core.specs.Happenings.{HasCause, IsCaused, any_under, takes_memory, writes_out as out_writes, Happening, Answer, Report, Course, Tells, AddsCall, called, restarts, is_of_device, MayCrashIt, MayStayShut, DoesNothing}
+use Rattle.rq_core.specs.Happenings.{HasCause, IsCaused, takes_memory, writes_out as out_writes, Happening, Answer, Report, Course, Tells, AddsCall, called, restarts, is_of_device, MayCrashIt, MayStayShut, DoesNothing}
 use Rattle.rq_core.specs.Happenings.Answer.{Answered, Crashed, Restarted, Refused, Running, Nothing}
 use Rattle.rq_core.specs.Headline.{LeavesStores, LeftLast, IsHeadline}
 use Rattle.rq_core.specs.World.{World, IsOver, IsShut, IsOpen, Ran, CanCrash}
@@ -91,9 +91,9 @@ failed_at : (h : List Entry) (old new : State) → new ≡ record old { failed =
 failed_at h old new e s = subst (StandsAt h) (sym e) (record { committed = s.committed; records = s.records; forced = s.forced; incarnation = s.incarnation; runs = s.runs })
 
 -- the causes of a store's refusals are those that its ledger shows
-under_is : (ends : HeldEnds) (rows : List Row) → any_under (open_ones_of ends rows) ≡ rows_under rows
+under_is : (ends : HeldEnds) (rows : List Row) → any_busy (open_ones_of ends rows) ≡ rows_under rows
 under_is ends [] = refl
-under_is ends (r ∷ rows) = ap (λ b. b || any_under (open_ones_of ends rows)) (one r.under) ∙ ap (λ b. is_some r.under || b) (under_is ends rows) where
+under_is ends (r ∷ rows) = ap (λ b. b || any_busy (open_ones_of ends rows)) (one r.under) ∙ ap (λ b. is_some r.under || b) (under_is ends rows) where
   one : (u : Option Under) → is_some (job_under u) ≡ is_some u
   one None = refl
   one (Some u) = refl

@@ -10,6 +10,7 @@ use Rattle.rq_model.specs.Ledger.Phase.{Running as Runs, Shut}
 use Rattle.rq_model.specs.Replay.{Reply, Says}
 use Rattle.rq_model.specs.Replay.Reply.{Gave_commit, Gave_refusal}
 use Rattle.rq_model.specs.Words.{is_some}
+use Rattle.rq_model.specs.Legal.{any_busy}
 
 pub data Happening : Type 0 where
   Asks : (call : Call) → Happening
@@ -141,11 +142,6 @@ takes_memory Hand_over = false
 takes_memory Force = false
 takes_memory (Write_page page) = false
 takes_memory _ = true
-
--- an operation is under way
-abbrev pub any_under : List Open → Bool
-any_under [] = false
-any_under (o ∷ os) = is_some o.under || any_under os
 
 -- A refusal comes with its cause: want of memory only where the call takes memory, a device's failure only where it
 -- writes, Latched only where an operation is under way. No call reads a device, misses a frame or meets damage.

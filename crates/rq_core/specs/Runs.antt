@@ -44,8 +44,8 @@ Is y course x = x ≡ y
 
 -- A restart was refused: whatever led to the store that was shut leads to it still, as the restart has left its
 -- devices.
-abbrev pub StaysShut : MemPages → MemLog → MemPages → MemLog → Refusal → Type 0
-StaysShut pages log new_pages new_log refusal = (z : Sizes) (course : Course) (r : Ran z course (Is_shut pages log))
+abbrev pub GoesOnShut : MemPages → MemLog → MemPages → MemLog → Refusal → Type 0
+GoesOnShut pages log new_pages new_log refusal = (z : Sizes) (course : Course) (r : Ran z course (Is_shut pages log))
     → world.IsShut mem_pages mem_log z r.history new_pages new_log × MayStayShut refusal
 
 -- a store that is formatted: whatever a crash leaves of it is a store with no record

@@ -31,13 +31,13 @@ happens (happening.RestartStop n choice) = Stops_restart
 abbrev pub report_of : Restart_report → Report
 report_of r = record { incarnation = r.incarnation; unfinished = r.unfinished; lost = r.lost; records = r.records }
 
-abbrev pub answers : Entry → Answer
-answers (entry.Answered reply) = Answered (gave reply)
-answers (entry.Crashed records) = Crashed records
-answers (entry.Restarted report) = Restarted (report_of report)
-answers (entry.Refused refusal) = Refused refusal
-answers entry.Running = Running
-answers entry.Nothing = Nothing
+abbrev pub answer_in : Entry → Answer
+answer_in (entry.Answered reply) = Answered (gave reply)
+answer_in (entry.Crashed records) = Crashed records
+answer_in (entry.Restarted report) = Restarted (report_of report)
+answer_in (entry.Refused refusal) = Refused refusal
+answer_in entry.Running = Running
+answer_in entry.Nothing = Nothing
 
 -- the commit that was answered
 abbrev pub commit_in : Reply → Option CommitNo
@@ -50,7 +50,7 @@ commit_told _ = None
 
 -- what happened, with what was answered
 abbrev pub course : List Happening → List Entry → Course
-course xs es = course_of (map happens xs) (map answers es)
+course xs es = course_of (map happens xs) (map answer_in es)
 
 abbrev pub world_of : Store → World MemPages MemLog
 world_of (store.Shut pages log) = Is_shut pages log

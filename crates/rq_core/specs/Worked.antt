@@ -95,8 +95,8 @@ entries =
 abbrev pub history : List Entry
 history = turned entries []
 
-abbrev pub first_of : ℕ → List Entry
-first_of n = turned (take n entries) []
+abbrev pub first_entries : ℕ → List Entry
+first_entries n = turned (take n entries) []
 
 -- a receipt for another commit
 abbrev pub other : Number
@@ -108,7 +108,7 @@ TellsNothing so_far x a = (h : List Entry) → Tells ((x, a) ∷ so_far) h → �
 
 -- the message of sender 0 is taken by a transaction that has not ended
 abbrev pub taking : List Entry
-taking = Stepped (txn 1 2) 1 6 ∷ Started (txn 1 2) 1 (Taking 0) ∷ first_of 11
+taking = Stepped (txn 1 2) 1 6 ∷ Started (txn 1 2) 1 (Taking 0) ∷ first_entries 11
 
 -- what is so of them
 pub record AreJudged : Type 0 where
@@ -137,8 +137,8 @@ pub record AreJudged : Type 0 where
   pub answered_before_the_first : TellsNothing [] (Acknowledges 0) (Answered (Gave_receipt None))
   -- and these histories are not legal
   pub loses_what_was_left : (h : List Entry) → IsLegal small (Crash_entry 0 1 ∷ Crash_entry 0 3 ∷ h) → ⊥
-  pub keeps_a_commit_without_its_record : IsLegal small (Crash_entry 1 4 ∷ first_of 8) → ⊥
-  pub opened_while_open : IsLegal small (Restarted_entry 2 9 ∷ first_of 8) → ⊥
-  pub none_where_one_waits : IsLegal small (None_free (txn 1 2) ∷ first_of 11) → ⊥
+  pub keeps_a_commit_without_its_record : IsLegal small (Crash_entry 1 4 ∷ first_entries 8) → ⊥
+  pub opened_while_open : IsLegal small (Restarted_entry 2 9 ∷ first_entries 8) → ⊥
+  pub none_where_one_waits : IsLegal small (None_free (txn 1 2) ∷ first_entries 11) → ⊥
   pub none_where_it_is_taken : IsLegal small (None_free (txn 1 3) ∷ Begun (txn 1 3) ∷ taking)
-  pub shows_nothing : IsLegal small (Shown [] ∷ first_of 8) → ⊥
+  pub shows_nothing : IsLegal small (Shown [] ∷ first_entries 8) → ⊥

@@ -8,8 +8,8 @@ ghost use Rattle.rq_engine.specs.Says.{call_of};
 ghost use Rattle.rq_core.specs.Happenings.{Course, DoesNothing, Happening as Happens, MayRestart, acknowledging, answers_of, is_of_device, nth};
 ghost use Rattle.rq_core.specs.Happenings.Answer.{Restarted};
 ghost use Rattle.rq_core.specs.Happenings.Happening.{Crashes, Restarts, Stops_in, Stops_restart};
-ghost use Rattle.rq_core.specs.Runs.{CanCrash, GoesOn, Is, IsFresh, IsHeadline, Makes, Ran, StaysShut};
-ghost use Rattle.rq_core.specs.Views.{answers, commit_told, course, happens, report_of, world_of};
+ghost use Rattle.rq_core.specs.Runs.{CanCrash, GoesOn, Is, IsFresh, IsHeadline, Makes, Ran, GoesOnShut};
+ghost use Rattle.rq_core.specs.Views.{answer_in, commit_told, course, happens, report_of, world_of};
 ghost use Rattle.rq_core.specs.World.World.{Is_open, Is_shut};
 
 use crate::happening::{Choice, Entry, Happening};
@@ -126,8 +126,8 @@ fn happen(
     happening: &Happening,
     entries: &[Entry],
 ) -> Result<(Store, Entry), AllocError>
-    ensures { IfOk result (λ r. (z : Sizes) (c : Course) → answers_of c ≡ map answers entries.now
-        → Ran z c (world_of store) → Ran z ((happens happening.now, answers r.1) ∷ c) (world_of r.0)) }
+    ensures { IfOk result (λ r. (z : Sizes) (c : Course) → answers_of c ≡ map answer_in entries.now
+        → Ran z c (world_of store) → Ran z ((happens happening.now, answer_in r.1) ∷ c) (world_of r.0)) }
 {
     match store {
         Store::Open(engine) => happen_to_open(switch, engine, happening, entries),
@@ -141,8 +141,8 @@ fn happen_to_open(
     happening: &Happening,
     entries: &[Entry],
 ) -> Result<(Store, Entry), AllocError>
-    ensures { IfOk result (λ r. (z : Sizes) (c : Course) → answers_of c ≡ map answers entries.now
-        → Ran z c (Is_open engine) → Ran z ((happens happening.now, answers r.1) ∷ c) (world_of r.0)) }
+    ensures { IfOk result (λ r. (z : Sizes) (c : Course) → answers_of c ≡ map answer_in entries.now
+        → Ran z c (Is_open engine) → Ran z ((happens happening.now, answer_in r.1) ∷ c) (world_of r.0)) }
 {
     match happening {
         Happening::Call(event) => Ok(ask(engine, event)),
@@ -173,8 +173,8 @@ fn happen_to_shut(
     happening: &Happening,
     entries: &[Entry],
 ) -> Result<(Store, Entry), AllocError>
-    ensures { IfOk result (λ r. (z : Sizes) (c : Course) → answers_of c ≡ map answers entries.now
-        → Ran z c (Is_shut pages log) → Ran z ((happens happening.now, answers r.1) ∷ c) (world_of r.0)) }
+    ensures { IfOk result (λ r. (z : Sizes) (c : Course) → answers_of c ≡ map answer_in entries.now
+        → Ran z c (Is_shut pages log) → Ran z ((happens happening.now, answer_in r.1) ∷ c) (world_of r.0)) }
 {
     match happening {
         Happening::Call(_) | Happening::StopIn(..) => Ok(not_open(pages, log)),
@@ -197,7 +197,7 @@ fn happen_to_shut(
 
 // The answer to a call of a store that is not open.
 fn not_open(pages: MemPages, log: MemLog) -> (Store, Entry)
-    ensures { (call : Call) → GoesOn (Makes call) (Is_shut pages log) (answers result.1) (world_of result.0) }
+    ensures { (call : Call) → GoesOn (Makes call) (Is_shut pages log) (answer_in result.1) (world_of result.0) }
 {
     (
         Store::Shut(pages, log),
@@ -207,7 +207,7 @@ fn not_open(pages: MemPages, log: MemLog) -> (Store, Entry)
 
 // The power fails while the store is not open: all that its devices hold outlives it.
 fn crash_shut(pages: MemPages, log: MemLog) -> (Store, Entry)
-    ensures { GoesOn (Is Crashes) (Is_shut pages log) (answers result.1) (world_of result.0) }
+    ensures { GoesOn (Is Crashes) (Is_shut pages log) (answer_in result.1) (world_of result.0) }
 {
     shut_crash_goes_on();
     crash(pages, log, u64::MAX, PageChoice::Newest)
@@ -215,7 +215,7 @@ fn crash_shut(pages: MemPages, log: MemLog) -> (Store, Entry)
 
 // Makes a call of an open store.
 fn ask(engine: Engine<MemPages, MemLog>, event: &Event) -> (Store, Entry)
-    ensures { GoesOn (Makes (call_of event.now)) (Is_open engine) (answers result.1) (world_of result.0) }
+    ensures { GoesOn (Makes (call_of event.now)) (Is_open engine) (answer_in result.1) (world_of result.0) }
 {
     let mut engine = engine;
     let answer = engine.apply(event);
@@ -229,7 +229,7 @@ fn crash_open(
     keep: u64,
     images: PageChoice,
 ) -> (Store, Entry)
-    ensures { GoesOn (Is Crashes) (Is_open engine) (answers result.1) (world_of result.0) }
+    ensures { GoesOn (Is Crashes) (Is_open engine) (answer_in result.1) (world_of result.0) }
 {
     let mut engine = engine;
     switch.suspend();
@@ -250,7 +250,7 @@ fn stop_in(
     keep: u64,
     images: PageChoice,
 ) -> (Store, Entry)
-    ensures { GoesOn (Is (Stops_in (call_of event.now))) (Is_open engine) (answers result.1) (world_of result.0) }
+    ensures { GoesOn (Is (Stops_in (call_of event.now))) (Is_open engine) (answer_in result.1) (world_of result.0) }
 {
     let mut engine = engine;
     switch.arm_call(n, Mishap::Stop);
@@ -274,7 +274,7 @@ fn is_stopped(switch: &Switch) -> bool {
 
 // Opens the store.
 fn reopen(alloc: Global, pages: MemPages, log: MemLog) -> (Store, Entry)
-    ensures { GoesOn (Is Restarts) (Is_shut pages log) (answers result.1) (world_of result.0) }
+    ensures { GoesOn (Is Restarts) (Is_shut pages log) (answer_in result.1) (world_of result.0) }
 {
     match try_restart(alloc, pages, log) {
         Ok((engine, report)) => (Store::Open(engine), Entry::Restarted(report)),
@@ -295,7 +295,7 @@ fn reopen_stopped(
     keep: u64,
     images: PageChoice,
 ) -> (Store, Entry)
-    ensures { GoesOn (Is Stops_restart) (Is_shut pages log) (answers result.1) (world_of result.0) }
+    ensures { GoesOn (Is Stops_restart) (Is_shut pages log) (answer_in result.1) (world_of result.0) }
 {
     switch.arm_call(n, Mishap::Stop);
     let restarted = try_restart(alloc, pages, log);
@@ -321,7 +321,7 @@ fn try_restart(
 ) -> Result<(Engine<MemPages, MemLog>, Report), Stopped<MemPages, MemLog>>
     ensures opened { IfOk result (λ o. GoesOn MayRestart (Is_shut pages log) (Restarted (report_of o.1))
         (Is_open o.0)) }
-    ensures refused { IfErr result (λ s. StaysShut pages log s.pages s.log s.refusal) }
+    ensures refused { IfErr result (λ s. GoesOnShut pages log s.pages s.log s.refusal) }
 {
     one_log();
     one_size();
@@ -332,7 +332,7 @@ fn try_restart(
 // Both devices as the crash leaves them.
 fn crash(pages: MemPages, log: MemLog, keep: u64, images: PageChoice) -> (Store, Entry)
     ensures { (z : Sizes) (c : Course) (x : Happens) → CanCrash z c x pages log
-        → Ran z ((x, answers result.1) ∷ c) (world_of result.0) }
+        → Ran z ((x, answer_in result.1) ∷ c) (world_of result.0) }
 {
     one_log();
     records_are_the_log();
@@ -371,7 +371,7 @@ fn is_of_device(reply: &Reply) -> bool
 
 // The commit that the nth of these answered.
 fn committed(entries: &[Entry], n: u64) -> Option<CommitNo>
-    ensures { acknowledging (nth n (map answers entries.now))
+    ensures { acknowledging (nth n (map answer_in entries.now))
         ≡ option_map (λ number. Acknowledge number.txn number.lsn) result }
 {
     if n == 0 || n > entries.len() as u64 {

@@ -5,7 +5,7 @@ use Rattle.std.proofs.Math.Seq.{take-add}
 use Rattle.std.specs.Prelude.{Vec}
 use Rattle.std.specs.declared.alloc.Global.{Global}
 use Rattle.rq_disk.specs.Device.{Appended, Elapses}
-use Rattle.rq_disk.specs.Records.{HasRecord, AreRecords, front}
+use Rattle.rq_disk.specs.Records.{HasRecord, AreRecords, first_records}
 use Rattle.rq_disk.specs.Memory.{LogState, fresh_log, log_reads, MayLeave, crashed_log, after_log_call, after_log_calls, log_after, LogSince, log_seen}
 use Rattle.rq_disk.specs.declared.mem_log.LogCall.{LogCall}
 use Rattle.rq_disk.specs.declared.mem_log.LogCall.TheVariants.{Append, Force}
@@ -21,10 +21,10 @@ pub log_pushed : (bytes : List ℕ) (calls later : List LogCall) (call : LogCall
 log_pushed bytes calls later call is = ap (log_after bytes) is ∙ log_push (fresh_log bytes) calls call
 
 -- the records of two runs, of which the first is whole, are cut in the first, or behind it
-pub cut_push : (n : ℕ) (t : LogState) (run c : List ℕ) → AreRecords n t.handed → MayLeave (record { forced = t.forced; handed = t.handed ++ run }) c → MayLeave t c ⊎ ((k : ℕ) × (c ≡ log_reads t ++ front k run))
+pub cut_push : (n : ℕ) (t : LogState) (run c : List ℕ) → AreRecords n t.handed → MayLeave (record { forced = t.forced; handed = t.handed ++ run }) c → MayLeave t c ⊎ ((k : ℕ) × (c ≡ log_reads t ++ first_records k run))
 cut_push n t run c are may = ⊎_elim
     (λ same. inl (may.0, may.1 ∙ ap (λ (l : List ℕ). t.forced ++ l) same))
-    (λ more. inr (more.0, may.1 ∙ ap (λ (l : List ℕ). t.forced ++ l) more.1 ∙ sym (append_assoc t.forced t.handed (front more.0 run))))
+    (λ more. inr (more.0, may.1 ∙ ap (λ (l : List ℕ). t.forced ++ l) more.1 ∙ sym (append_assoc t.forced t.handed (first_records more.0 run))))
     (front-append n may.0 t.handed run are)
 
 -- of a log without records that are not forced a crash leaves all
@@ -73,7 +73,7 @@ module _ (bytes : List ℕ) (first forced : ℕ) (calls : List LogCall) (kept : 
       → take (forced + end) bytes ≡ crashed_log keep now
   kept_crash keep end count within whole le last =
       take-add forced end bytes ∙ ap (λ (l : List ℕ). take forced bytes ++ l) (front_is count kept.whole.0 keep end (drop forced bytes) kept.whole.1 within whole le last)
-      ∙ ap (λ (l : List ℕ). take forced bytes ++ front keep l) kept.handed_bytes ∙ ap (λ (l : List ℕ). l ++ front keep now.handed) kept.forced_bytes
+      ∙ ap (λ (l : List ℕ). take forced bytes ++ first_records keep l) kept.handed_bytes ∙ ap (λ (l : List ℕ). l ++ first_records keep now.handed) kept.forced_bytes
 
   module _ (bytes' new : List ℕ) (calls' : List LogCall) (run : Vec ℕ Global) (same : run.items ≡ new) (is : calls' ≡ calls ++ Append run ∷ []) (more : bytes' ≡ bytes ++ new) where
     -- what it had at first is there still

@@ -4,7 +4,7 @@ use Rattle.std.proofs.lemmas.List.{take_all, drop_all, drop-drop, drop-append-le
 use Rattle.std.proofs.Math.Seq.{take-add}
 use Rattle.byteorder.specs.Endian.{big_bytes}
 use Rattle.byteorder.specs.Numbers.{big_from-append, big_from-take, big_number-reads_back, length-bytes_high_first}
-use Rattle.rq_disk.specs.Records.{record_size, HasRecord, AreRecords, HasRecords, front}
+use Rattle.rq_disk.specs.Records.{record_size, HasRecord, AreRecords, HasRecords, first_records}
 
 -- a length field is the same whatever comes behind it
 pub size-append : (a b : List ℕ) → 4 ≤ length a → record_size (a ++ b) ≡ record_size a
@@ -17,7 +17,7 @@ size-take m a le = ap (λ n. 4 + n) (big_from-take 0 4 m a (omega (arith, le)))
 pub no_record : HasRecord [] → ⊥
 no_record has = omega (arith, has.0)
 
--- one record in front
+-- one record in first_records
 pub one_more : (j : ℕ) (a more : List ℕ) → HasRecord a → AreRecords j more → AreRecords (suc j) (take (record_size a) a ++ more)
 one_more j a more has are =
     let s = record_size a in
@@ -49,45 +49,45 @@ one_record payload fits =
       drop_all (record_size (big_bytes 4 n ++ payload)) (big_bytes 4 n ++ payload) (omega (arith, total, size)),
     )
 
-pub front_nil : (k : ℕ) → front k [] ≡ []
+pub front_nil : (k : ℕ) → first_records k [] ≡ []
 front_nil zero = refl
 front_nil (suc k) =
     let s = record_size [] in
-    ap (λ (l : List ℕ). l ++ front k (drop s [])) (take_all s [] (omega arith)) ∙ ap (front k) (drop_all s [] (omega arith)) ∙ front_nil k
+    ap (λ (l : List ℕ). l ++ first_records k (drop s [])) (take_all s [] (omega arith)) ∙ ap (first_records k) (drop_all s [] (omega arith)) ∙ front_nil k
 
--- the front of whole records is whole records
-pub front_records : (n k : ℕ) (b : List ℕ) → AreRecords n b → (j : ℕ) × AreRecords j (front k b)
+-- the first_records of whole records is whole records
+pub front_records : (n k : ℕ) (b : List ℕ) → AreRecords n b → (j : ℕ) × AreRecords j (first_records k b)
 front_records n zero b are = (0, refl)
-front_records zero (suc k) b are = (0, ap (front (suc k)) are ∙ front_nil (suc k))
+front_records zero (suc k) b are = (0, ap (first_records (suc k)) are ∙ front_nil (suc k))
 front_records (suc n) (suc k) b are =
     let more = front_records n k (drop (record_size b) b) are.1 in
-    (suc more.0, one_more more.0 b (front k (drop (record_size b) b)) are.0 more.1)
+    (suc more.0, one_more more.0 b (first_records k (drop (record_size b) b)) are.0 more.1)
 
 -- records that are there stay there as others come behind them
-pub has-append : (m n k : ℕ) (a b : List ℕ) → AreRecords m a → AreRecords n b → HasRecords m (a ++ front k b)
+pub has-append : (m n k : ℕ) (a b : List ℕ) → AreRecords m a → AreRecords n b → HasRecords m (a ++ first_records k b)
 has-append m n k a b is are =
     let f = front_records n k b are in
-    (m + f.0, omega arith, records-append m f.0 a (front k b) is f.1)
+    (m + f.0, omega arith, records-append m f.0 a (first_records k b) is f.1)
 
--- the front of two runs of records is one of the first, or all of that and a front of the second
-pub front-append : (m k : ℕ) (a b : List ℕ) → AreRecords m a → (front k (a ++ b) ≡ front k a) ⊎ ((j : ℕ) × (front k (a ++ b) ≡ a ++ front j b))
-front-append zero k a b is = inr (k, subst (λ (l : List ℕ). front k (l ++ b) ≡ l ++ front k b) (sym is) refl)
+-- the first_records of two runs of records is one of the first, or all of that and a first_records of the second
+pub front-append : (m k : ℕ) (a b : List ℕ) → AreRecords m a → (first_records k (a ++ b) ≡ first_records k a) ⊎ ((j : ℕ) × (first_records k (a ++ b) ≡ a ++ first_records j b))
+front-append zero k a b is = inr (k, subst (λ (l : List ℕ). first_records k (l ++ b) ≡ l ++ first_records k b) (sym is) refl)
 front-append (suc m) zero a b is = inl refl
 front-append (suc m) (suc k) a b is =
     let s = record_size a in
     let same : record_size (a ++ b) ≡ s = size-append a b is.0.0 in
     let taken : take (record_size (a ++ b)) (a ++ b) ≡ take s a = ap (λ n. take n (a ++ b)) same ∙ take-append-le s a b is.0.1 in
     let dropped : drop (record_size (a ++ b)) (a ++ b) ≡ drop s a ++ b = ap (λ n. drop n (a ++ b)) same ∙ drop-append-le s a b is.0.1 in
-    let step : front (suc k) (a ++ b) ≡ take s a ++ front k (drop s a ++ b) = ap (λ (t : List ℕ). t ++ front k (drop (record_size (a ++ b)) (a ++ b))) taken ∙ ap (λ (t : List ℕ). take s a ++ front k t) dropped in
+    let step : first_records (suc k) (a ++ b) ≡ take s a ++ first_records k (drop s a ++ b) = ap (λ (t : List ℕ). t ++ first_records k (drop (record_size (a ++ b)) (a ++ b))) taken ∙ ap (λ (t : List ℕ). take s a ++ first_records k t) dropped in
     ⊎_elim
     (λ same_front. inl (step ∙ ap (λ (t : List ℕ). take s a ++ t) same_front))
-    (λ more. inr (more.0, step ∙ ap (λ (t : List ℕ). take s a ++ t) more.1 ∙ sym (append_assoc (take s a) (drop s a) (front more.0 b)) ∙ ap (λ (t : List ℕ). t ++ front more.0 b) (take-append-drop s a)))
+    (λ more. inr (more.0, step ∙ ap (λ (t : List ℕ). take s a ++ t) more.1 ∙ sym (append_assoc (take s a) (drop s a) (first_records more.0 b)) ∙ ap (λ (t : List ℕ). t ++ first_records more.0 b) (take-append-drop s a)))
     (front-append m k (drop s a) b is.1)
 
 -- the first c of whole records, where c is k or none is left, are the first k
-pub front_is : (c n k e : ℕ) (b : List ℕ) → AreRecords n b → e ≤ length b → AreRecords c (take e b) → c ≤ k → (c < k → HasRecord (drop e b) → ⊥) → take e b ≡ front k b
+pub front_is : (c n k e : ℕ) (b : List ℕ) → AreRecords n b → e ≤ length b → AreRecords c (take e b) → c ≤ k → (c < k → HasRecord (drop e b) → ⊥) → take e b ≡ first_records k b
 front_is zero n zero e b are within whole le last = whole
-front_is zero zero (suc k) e b are within whole le last = whole ∙ sym (front_nil (suc k)) ∙ sym (ap (front (suc k)) are)
+front_is zero zero (suc k) e b are within whole le last = whole ∙ sym (front_nil (suc k)) ∙ sym (ap (first_records (suc k)) are)
 front_is zero (suc n) (suc k) e b are within whole le last =
     let none : e ≡ 0 = omega (arith, length-take-le e b within, ap length whole) in
     absurd (last (omega arith) (subst (λ (i : ℕ). HasRecord (drop i b)) (sym none) are.0))
@@ -104,7 +104,7 @@ front_is (suc c) (suc n) (suc k) e b are within whole le last =
     let more = front_is c n k (e - s) (drop s b) are.1 (omega (arith, length-drop s b, within)) (subst (AreRecords c) rest whole.1) (omega arith) (λ lt has. last (omega (arith, lt)) (subst HasRecord behind has)) in
     ap (λ i. take i b) (sym split) ∙ take-add s (e - s) b ∙ ap (λ (t : List ℕ). take s b ++ t) more
 
--- one record more of a front
+-- one record more of a first_records
 pub record_step : (c at : ℕ) (b : List ℕ) → at ≤ length b → AreRecords c (take at b) → HasRecord (drop at b) → AreRecords (c + 1) (take (at + record_size (drop at b)) b)
 record_step c at b within are has =
     let s = record_size (drop at b) in

@@ -5,9 +5,9 @@ use Rattle.std.proofs.lemmas.Bool.Decides.{nat_tests}
 use Rattle.std.proofs.lemmas.List.{get_or-set_same, get_or-set_other, length-set, take_more, drop-append-le, take-append-drop, length-take-le, drop_all, drop_more, get_or_past}
 use Rattle.std.specs.Prelude.{Box, slice_set, Option, Some, None}
 use Rattle.std.specs.declared.alloc.Global.{Global}
-use Rattle.rq_disk.specs.Memory.{PageState, newest, reads, WasWritten, MayBe, after_page_call, after_page_calls, fresh_pages, pages_after, times_written, reaches, image_at, crashed_page, pages_seen, if_yes, if_no}
+use Rattle.rq_disk.specs.Memory.{PageState, newest_image, reads, WasWritten, MayBe, after_page_call, after_page_calls, fresh_pages, pages_after, times_written, reaches, image_after, crashed_page, pages_seen, if_yes, if_no}
 use Rattle.rq_disk.specs.Choice.{place_after}
-use Rattle.rq_disk.specs.Replay.{AllWrites, StartsFresh, replayed, writes_and, writes_of}
+use Rattle.rq_disk.specs.Replay.{AllWrites, StartsFresh, replayed, writes_and, page_writes}
 use Rattle.rq_disk.specs.declared.mem_pages.PageCall.{PageCall}
 use Rattle.rq_disk.specs.declared.mem_pages.PageCall.TheVariants.{Write, Sync}
 use Rattle.rq_disk.proofs.KeptPages.{page_push}
@@ -92,22 +92,22 @@ writes_and-push ws [] Sync = refl
 writes_and-push ws (Write page kept ∷ calls) call = writes_and-push ((page, kept.value) ∷ ws) calls call
 writes_and-push ws (Sync ∷ calls) call = writes_and-push ws calls call
 
-pub writes-step : (calls : List PageCall) (i : ℕ) (d call : PageCall) → i < length calls → get_or calls i d ≡ call → writes_of (take (i + 1) calls) ≡ and_call (writes_of (take i calls)) call
-writes-step calls i d call lt is = ap writes_of (take_more calls i d lt ∙ ap (λ (c : PageCall). take i calls ++ c ∷ []) is) ∙ writes_and-push [] (take i calls) call
+pub writes-step : (calls : List PageCall) (i : ℕ) (d call : PageCall) → i < length calls → get_or calls i d ≡ call → page_writes (take (i + 1) calls) ≡ and_call (page_writes (take i calls)) call
+writes-step calls i d call lt is = ap page_writes (take_more calls i d lt ∙ ap (λ (c : PageCall). take i calls ++ c ∷ []) is) ∙ writes_and-push [] (take i calls) call
 
 choose : (b : Bool) (w rest image synced : List ℕ) (P : List ℕ → Type 0) → P w → (rest ≡ synced) ⊎ P rest → image ≡ (if b then w else rest) → (image ≡ synced) ⊎ P image
 choose true w rest image synced P here later is = inr (subst P (sym is) here)
 choose false w rest image synced P here later is = ⊎_elim (λ e. inl (is ∙ e)) (λ was. inr (subst P (sym is) was)) later
 
 -- an image at a place is one that was written, or the synced one
-pub image_at_may : (ws : List (ℕ × List ℕ)) (synced : List ℕ) (page : ℕ) (place : Option ℕ) → (image_at ws synced page place ≡ synced) ⊎ WasWritten ws page (image_at ws synced page place)
+pub image_at_may : (ws : List (ℕ × List ℕ)) (synced : List ℕ) (page : ℕ) (place : Option ℕ) → (image_after ws synced page place ≡ synced) ⊎ WasWritten ws page (image_after ws synced page place)
 image_at_may [] synced page place = inl refl
 image_at_may (w ∷ ws) synced page place =
-    let later = image_at ws synced page place in
+    let later = image_after ws synced page place in
     let now = if reaches place (times_written page ws) then w.1 else later in
     let rest = ⊎_elim (λ e. inl e) (λ was. inr (inr was)) (image_at_may ws synced page place) in
     elim (cases_eq page w.0) [
-      | inl same ↦ choose (reaches place (times_written page ws)) w.1 later (image_at (w ∷ ws) synced page place) synced (WasWritten (w ∷ ws) page) (inl (same, refl)) rest (if_yes page w.0 now later same)
+      | inl same ↦ choose (reaches place (times_written page ws)) w.1 later (image_after (w ∷ ws) synced page place) synced (WasWritten (w ∷ ws) page) (inl (same, refl)) rest (if_yes page w.0 now later same)
       | inr other ↦ ⊎_elim (λ e. inl (if_no page w.0 now later other ∙ e)) (λ was. inr (subst (WasWritten (w ∷ ws) page) (sym (if_no page w.0 now later other)) was)) rest
     ]
 
@@ -125,14 +125,14 @@ place_after-none None = refl
 place_after-none (Some place) = ap Some (omega arith)
 
 -- one write more, which reaches its place or not
-pub image_step : (ws : List (ℕ × List ℕ)) (page : ℕ) (image : List ℕ) (p : ℕ) (was now base : List ℕ) (place : Option ℕ) (taken : Bool) → was ≡ image_at ws base p place → (p ≡ page → taken ≡ reaches place (times_written p ws))
-    → (p ≡ page → now ≡ (if taken then image else was)) → (p ≢ page → now ≡ was) → now ≡ image_at ((page, image) ∷ ws) base p place
+pub image_step : (ws : List (ℕ × List ℕ)) (page : ℕ) (image : List ℕ) (p : ℕ) (was now base : List ℕ) (place : Option ℕ) (taken : Bool) → was ≡ image_after ws base p place → (p ≡ page → taken ≡ reaches place (times_written p ws))
+    → (p ≡ page → now ≡ (if taken then image else was)) → (p ≢ page → now ≡ was) → now ≡ image_after ((page, image) ∷ ws) base p place
 image_step ws page image p was now base place taken so_far reached here other = elim (cases_eq p page) [
   | inl same ↦
       here same ∙ ap (λ (b : Bool). if b then image else was) (reached same) ∙ ap (λ (l : List ℕ). if reaches place (times_written p ws) then image else l) so_far
-      ∙ sym (if_yes p page (if reaches place (times_written p ws) then image else image_at ws base p place) (image_at ws base p place) same)
+      ∙ sym (if_yes p page (if reaches place (times_written p ws) then image else image_after ws base p place) (image_after ws base p place) same)
   | inr apart ↦
-      other apart ∙ so_far ∙ sym (if_no p page (if reaches place (times_written p ws) then image else image_at ws base p place) (image_at ws base p place) apart)
+      other apart ∙ so_far ∙ sym (if_no p page (if reaches place (times_written p ws) then image else image_after ws base p place) (image_after ws base p place) apart)
 ]
 
 nat_yes : (p q a b : ℕ) → p ≡ q → (if p == q then a else b) ≡ a
@@ -160,7 +160,7 @@ place_step ws page image p was now place so_far is = elim (cases_eq p page) [
 
 -- what outlives a crash, so far
 pub record Survives (images base : List (List ℕ)) (ws : List (ℕ × List ℕ)) (now first : ℕ → Option ℕ) : Type 0 where
-  pub images_are : (p : ℕ) → p < length images → get_or images p [] ≡ image_at ws (get_or base p []) p (first p)
+  pub images_are : (p : ℕ) → p < length images → get_or images p [] ≡ image_after ws (get_or base p []) p (first p)
   pub places_are : (p : ℕ) → now p ≡ place_after (first p) (times_written p ws)
 
 module _ (images base : List (List ℕ)) (ws : List (ℕ × List ℕ)) (now first : ℕ → Option ℕ) (so_far : Survives images base ws now first) (page : ℕ) (image : List ℕ) (later : ℕ → Option ℕ) where
@@ -193,7 +193,7 @@ module _ (first : List (List ℕ)) (calls : List PageCall) (n : ℕ) (fresh : St
   abbrev at_sync : PageState
   at_sync = pages_after first (take n calls)
 
-  crash_state : pages_after first calls ≡ record { synced = at_sync.synced; since = writes_of (drop n calls) }
+  crash_state : pages_after first calls ≡ record { synced = at_sync.synced; since = page_writes (drop n calls) }
   crash_state =
       ap (pages_after first) (sym (take-append-drop n calls)) ∙ calls-append (fresh_pages first) (take n calls) (drop n calls) ∙ writes_synced at_sync (drop n calls) writes
       ∙ ap (λ (ws : List (ℕ × List ℕ)). record { synced = at_sync.synced; since = writes_and ws (drop n calls) }) (fresh (fresh_pages first) refl)
@@ -201,13 +201,13 @@ module _ (first : List (List ℕ)) (calls : List PageCall) (n : ℕ) (fresh : St
   crash_base : (p : ℕ) → p < length first → get_or (replayed first (take n calls)) p [] ≡ at_sync.synced p
   crash_base p lt =
       replayed-set first (take n calls) (fresh_pages first) (λ q small. refl) p lt
-      ∙ ap (λ (ws : List (ℕ × List ℕ)). newest ws p (at_sync.synced p)) (fresh (fresh_pages first) refl)
+      ∙ ap (λ (ws : List (ℕ × List ℕ)). newest_image ws p (at_sync.synced p)) (fresh (fresh_pages first) refl)
 
   pub crash_pages : (left : List (List ℕ)) (place : ℕ → Option ℕ)
-      → ((p : ℕ) → p < length first → get_or left p [] ≡ image_at (writes_of (drop n calls)) (get_or (replayed first (take n calls)) p []) p (place p))
+      → ((p : ℕ) → p < length first → get_or left p [] ≡ image_after (page_writes (drop n calls)) (get_or (replayed first (take n calls)) p []) p (place p))
       → (p : ℕ) → p < length first → get_or left p [] ≡ crashed_page (place p) (pages_after first calls) p
   crash_pages left place are p lt =
-      are p lt ∙ ap (λ (image : List ℕ). image_at (writes_of (drop n calls)) image p (place p)) (crash_base p lt) ∙ sym (ap (λ (s : PageState). crashed_page (place p) s p) crash_state)
+      are p lt ∙ ap (λ (image : List ℕ). image_after (page_writes (drop n calls)) image p (place p)) (crash_base p lt) ∙ sym (ap (λ (s : PageState). crashed_page (place p) s p) crash_state)
 
 -- each image that is left is one that may be
 pub crash_may : (first left newest_images : List (List ℕ)) (s : PageState) (place : ℕ → Option ℕ) → length left ≡ length first → length newest_images ≡ length first

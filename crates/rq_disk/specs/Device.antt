@@ -1,6 +1,6 @@
 -- What the calls of the two devices do, and what a crash may leave.
 use Rattle.std.specs.Prelude.{◌≡◌, ◌⊎◌, ℕ, ◌+◌, ◌≤◌, ◌%◌, ◌^◌, ◌++◌, List, Result, OnOk, OnErr, if◌then◌else◌, ◌==◌}
-use Rattle.rq_disk.specs.Records.{front}
+use Rattle.rq_disk.specs.Records.{first_records}
 
 -- a store of pages: the image of each
 abbrev pub Images : Type 0
@@ -24,7 +24,7 @@ NoMore old new = (p : ℕ) (c : List ℕ) → new p c → old p c
 
 -- a log that may be left is one that might have been, or all that was there and the first of the new records
 abbrev pub Appended : List ℕ → List ℕ → (List ℕ → Type 0) → (List ℕ → Type 0) → Type 0
-Appended seen bytes old new = (c : List ℕ) → new c → old c ⊎ ((k : ℕ) × (c ≡ seen ++ front k bytes))
+Appended seen bytes old new = (c : List ℕ) → new c → old c ⊎ ((k : ℕ) × (c ≡ seen ++ first_records k bytes))
 
 -- nothing else may be left
 abbrev pub Only : List ℕ → (List ℕ → Type 0) → Type 0

@@ -5,24 +5,24 @@ use Rattle.std.proofs.lemmas.Bool.{cases_eq}
 use Rattle.std.proofs.lemmas.Bool.Decides.{nat_tests}
 use Rattle.std.proofs.Math.Seq.{take-length}
 use Rattle.rq_disk.specs.Device.{Images, Leaves}
-use Rattle.rq_disk.specs.Records.{front, front_all}
+use Rattle.rq_disk.specs.Records.{first_records, front_all}
 use Rattle.rq_disk.specs.declared.mem_log.LogCall.{LogCall}
 use Rattle.rq_disk.specs.declared.mem_log.LogCall.TheVariants.{Append, Force}
 use Rattle.rq_disk.specs.declared.mem_pages.PageCall.{PageCall}
 use Rattle.rq_disk.specs.declared.mem_pages.PageCall.TheVariants.{Write, Sync}
 
--- the images at the last sync, and those written since, the newest first
+-- the images at the last sync, and those written since, the newest_image first
 pub record PageState : Type 0 where
   pub synced : Images
   pub since : List (ℕ × List ℕ)
 
 -- of a page the last image written, or the one that was there before
-abbrev pub newest : List (ℕ × List ℕ) → ℕ → List ℕ → List ℕ
-newest [] page image = image
-newest (w ∷ ws) page image = if page == w.0 then w.1 else newest ws page image
+abbrev pub newest_image : List (ℕ × List ℕ) → ℕ → List ℕ → List ℕ
+newest_image [] page image = image
+newest_image (w ∷ ws) page image = if page == w.0 then w.1 else newest_image ws page image
 
 abbrev pub reads : PageState → Images
-reads s page = newest s.since page (s.synced page)
+reads s page = newest_image s.since page (s.synced page)
 
 abbrev pub WasWritten : List (ℕ × List ℕ) → ℕ → List ℕ → Type 0
 WasWritten [] page image = ⊥
@@ -64,16 +64,16 @@ reaches None count = true
 reaches (Some place) count = nat_lt count place
 
 -- of a page the image at a place among the synced one, which is 0, and those written since, in order; where
--- there is none so far, the newest
-abbrev pub image_at : List (ℕ × List ℕ) → List ℕ → ℕ → Option ℕ → List ℕ
-image_at [] synced page place = synced
-image_at (w ∷ ws) synced page place =
-    if page == w.0 then (if reaches place (times_written page ws) then w.1 else image_at ws synced page place) else
-    image_at ws synced page place
+-- there is none so far, the newest_image
+abbrev pub image_after : List (ℕ × List ℕ) → List ℕ → ℕ → Option ℕ → List ℕ
+image_after [] synced page place = synced
+image_after (w ∷ ws) synced page place =
+    if page == w.0 then (if reaches place (times_written page ws) then w.1 else image_after ws synced page place) else
+    image_after ws synced page place
 
 -- what is left of a page where the image at this place outlives a crash
 abbrev pub crashed_page : Option ℕ → PageState → ℕ → List ℕ
-crashed_page place s page = image_at s.since (s.synced page) page place
+crashed_page place s page = image_after s.since (s.synced page) page place
 
 -- the forced bytes, and the records handed over since
 pub record LogState : Type 0 where
@@ -89,7 +89,7 @@ log_reads s = s.forced ++ s.handed
 
 -- what is left where the first `keep` records that are not forced outlive a crash
 abbrev pub crashed_log : ℕ → LogState → List ℕ
-crashed_log keep s = s.forced ++ front keep s.handed
+crashed_log keep s = s.forced ++ first_records keep s.handed
 
 -- what a crash may leave: the forced bytes, and the first few of the records behind them
 abbrev pub MayLeave : LogState → List ℕ → Type 0
@@ -142,13 +142,13 @@ if_yes p q a b is = grind (arith, nat_tests)
 pub if_no : (p q : ℕ) (a b : List ℕ) → p ≢ q → (if p == q then a else b) ≡ b
 if_no p q a b other = grind (arith, nat_tests)
 
-newest_was : (ws : List (ℕ × List ℕ)) (page : ℕ) (image : List ℕ) → (newest ws page image ≡ image)
-    ⊎ WasWritten ws page (newest ws page image)
+newest_was : (ws : List (ℕ × List ℕ)) (page : ℕ) (image : List ℕ) → (newest_image ws page image ≡ image)
+    ⊎ WasWritten ws page (newest_image ws page image)
 newest_was [] page image = inl refl
 newest_was (w ∷ ws) page image = elim (cases_eq page w.0) [
-  | inl same ↦ inr (inl (same, if_yes page w.0 w.1 (newest ws page image) same))
+  | inl same ↦ inr (inl (same, if_yes page w.0 w.1 (newest_image ws page image) same))
   | inr other ↦
-      let is = if_no page w.0 w.1 (newest ws page image) other in
+      let is = if_no page w.0 w.1 (newest_image ws page image) other in
       ⊎_elim (λ e. inl (is ∙ e)) (λ was. inr (inr (subst (WasWritten ws page) (sym is) was))) (newest_was ws page image)
 ]
 

@@ -10,7 +10,7 @@ use Rattle.byteorder.specs.Endian.{big_number}
 abbrev pub record_size : List ℕ → ℕ
 record_size bytes = 4 + big_number 4 bytes
 
--- a whole record stands at the front
+-- a whole record stands at the first_records
 abbrev pub HasRecord : List ℕ → Type 0
 HasRecord bytes = (4 ≤ length bytes) × (record_size bytes ≤ length bytes)
 
@@ -20,9 +20,9 @@ AreRecords zero bytes = bytes ≡ []
 AreRecords (suc n) bytes = HasRecord bytes × AreRecords n (drop (record_size bytes) bytes)
 
 -- the first n records of bytes
-abbrev pub front : ℕ → List ℕ → List ℕ
-front zero bytes = []
-front (suc n) bytes = take (record_size bytes) bytes ++ front n (drop (record_size bytes) bytes)
+abbrev pub first_records : ℕ → List ℕ → List ℕ
+first_records zero bytes = []
+first_records (suc n) bytes = take (record_size bytes) bytes ++ first_records n (drop (record_size bytes) bytes)
 
 -- whole records, at least n of them
 abbrev pub HasRecords : ℕ → List ℕ → Type 0
@@ -51,7 +51,7 @@ some_records-prop bytes a b = Σ_path (records_count a.0 b.0 bytes a.1 b.1)
     (to_path_p (λ i. AreRecords (records_count a.0 b.0 bytes a.1 b.1 i) bytes) (AreRecords-prop b.0 bytes _ b.1))
 
 -- as many records as there are bytes are all of them
-pub front_all : (n : ℕ) (bytes : List ℕ) → length bytes ≤ n → front n bytes ≡ bytes
+pub front_all : (n : ℕ) (bytes : List ℕ) → length bytes ≤ n → first_records n bytes ≡ bytes
 front_all zero [] le = refl
 front_all zero (b ∷ bytes) le = absurd (omega arith)
 front_all (suc n) bytes le =

@@ -26,5 +26,5 @@ writes_and ws [] = ws
 writes_and ws (Write page image ∷ calls) = writes_and ((page, image.value) ∷ ws) calls
 writes_and ws (Sync ∷ calls) = writes_and ws calls
 
-abbrev pub writes_of : List PageCall → List (ℕ × List ℕ)
-writes_of calls = writes_and [] calls
+abbrev pub page_writes : List PageCall → List (ℕ × List ℕ)
+page_writes calls = writes_and [] calls

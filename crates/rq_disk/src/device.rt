@@ -5,7 +5,7 @@
 //! nothing, or the device has stopped in it, its work done or not: each clause on what a crash leaves stands
 //! on every answer.
 ghost use Rattle.std.specs.Prelude.{◌≡◌, ◌≢◌, ◌⊎◌, ◌≤◌, ◌+◌, ◌-◌, ◌++◌, List, ℕ, length, take, drop, min, IfOk, OnOk, OnErr, IsErr};
-ghost use Rattle.rq_disk.specs.Device.{Images, Leaves, Holds, Written, NoMore, Appended, Only, Elapses, HasCause, Stays};
+ghost use Rattle.rq_disk.specs.Device.{Images, Leaves, Holds, Written, NoMore, Appended, Only, Elapses, FailureIsCounted, Stays};
 ghost use Rattle.rq_disk.specs.Records.{AreRecords};
 
 use thiserror::Error;

@@ -1,8 +1,8 @@
 //! Calls of pages in memory, made again after a crash.
 ghost use Rattle.std.specs.Prelude.{◌≡◌, ◌≤◌, ◌<◌, [], ℕ, length, take, drop, get_or, slice_set};
 ghost use Rattle.rq_disk.specs.Choice.{place_of};
-ghost use Rattle.rq_disk.specs.Memory.{image_at, pages_after, crashed_page};
-ghost use Rattle.rq_disk.specs.Replay.{AllWrites, StartsFresh, replayed, writes_of};
+ghost use Rattle.rq_disk.specs.Memory.{image_after, pages_after, crashed_page};
+ghost use Rattle.rq_disk.specs.Replay.{AllWrites, StartsFresh, replayed, page_writes};
 
 use crate::choice::PageChoice;
 use crate::device::PAGE;
@@ -47,7 +47,7 @@ fn replay(pages: &mut [[u8; PAGE]], calls: &[PageCall])
 // Makes those writes that outlive a crash.
 fn survive(pages: &mut [[u8; PAGE]], calls: &[PageCall], choice: PageChoice)
     ensures { (p : ℕ) → p < length pages.old → get_or pages.new p []
-        ≡ image_at (writes_of calls.now) (get_or pages.old p []) p (place_of choice p) }
+        ≡ image_after (page_writes calls.now) (get_or pages.old p []) p (place_of choice p) }
 {
     let mut choice = choice;
     for call in calls {

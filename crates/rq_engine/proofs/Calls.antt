@@ -46,7 +46,7 @@ use Rattle.rq_store.proofs.Committing.{commit_steps}
 use Rattle.rq_engine.specs.Kept.{IsKept, room_one, room_of, done_one}
 use Rattle.rq_engine.specs.Moves.{with_sends, without_taken}
 use Rattle.rq_engine.proofs.Waits.{waits-with_sends, waits-without_taken}
-use Rattle.rq_engine.specs.Answers.{Refuses, OnFound, OnUnder, IsGoing, NotGoing, NotFound, IsOther, Idle, CannotFinish, IsMade, IsReady}
+use Rattle.rq_engine.specs.Answers.{Refuses, OnFound, OnUnder, IsUnderWay, IsNotUnderWay, NotFound, IsOther, Idle, CannotFinish, IsMade, HasNothingUnderWay}
 use Rattle.rq_engine.proofs.Keeping.{kept_at, under_at, kept_stepped, kept_finished, kept_committed}
 use Rattle.rq_engine.proofs.Refusals.{refuse, refuse_failed, found_of, found_some, found_none, not_full}
 
@@ -70,16 +70,16 @@ on_under : (n : ℕ) (P : Row → Under → Type 0) (r : Row) (o : Option Under)
 on_under n P r None h = absurd h
 on_under n P r (Some u) h = (u, refl, h.0, h.1)
 
-pub going_of : (s : State) (sub : Sub) (P : Row → Under → Type 0) → IsGoing s sub P → Going s sub P
+pub going_of : (s : State) (sub : Sub) (P : Row → Under → Type 0) → IsUnderWay s sub P → Going s sub P
 going_of s sub P h =
     let f = found_of (λ r. OnUnder sub.number P r r.under) (found_row sub.txn s.rows) h in
     let u = on_under sub.number P f.0 f.0.under f.2 in
     record { row = f.0; under = u.0; found = f.1; is = u.1; number = u.2; so = u.3 }
 
-pub is_going : (s : State) (sub : Sub) (P : Row → Under → Type 0) → Going s sub P → IsGoing s sub P
+pub is_going : (s : State) (sub : Sub) (P : Row → Under → Type 0) → Going s sub P → IsUnderWay s sub P
 is_going s sub P g = subst (OnFound (λ r. OnUnder sub.number P r r.under)) (sym g.found) (subst (OnUnder sub.number P g.row) (sym g.is) (g.number, g.so))
 
-pub going_more : (s : State) (sub : Sub) (P Q : Row → Under → Type 0) → ((r : Row) (u : Under) → P r u → Q r u) → IsGoing s sub P → IsGoing s sub Q
+pub going_more : (s : State) (sub : Sub) (P Q : Row → Under → Type 0) → ((r : Row) (u : Under) → P r u → Q r u) → IsUnderWay s sub P → IsUnderWay s sub Q
 going_more s sub P Q f h = let g = going_of s sub P h in is_going s sub Q (record { row = g.row; under = g.under; found = g.found; is = g.is; number = g.number; so = f g.row g.under g.so })
 
 -- one row's part of a sum
@@ -90,7 +90,7 @@ sum_at f t (q ∷ rows) r e = elim (cases_Bool (same_txn q.txn t)) [
   | inr n ↦ let h = sum_at f t rows r (rw n at e) in let a = sum_by-cons f q rows in omega (arith, a, h)
 ]
 
-module _ (s : State) (f : Bool) (o res : ℕ) (k : IsKept s f o res) (sub : Sub) (P : Row → Under → Type 0) (h : IsGoing s sub P) where
+module _ (s : State) (f : Bool) (o res : ℕ) (k : IsKept s f o res) (sub : Sub) (P : Row → Under → Type 0) (h : IsUnderWay s sub P) where
   abbrev g : Going s sub P
   g = going_of s sub P h
 
@@ -144,7 +144,7 @@ Next w r u = slice_get u.writes u.made ≡ Some w
 abbrev pub AllMade : Deed → Row → Under → Type 0
 AllMade d r u = (length u.writes ≤ u.made) × (u.deed ≡ d)
 
-module _ (s : State) (f : Bool) (o res : ℕ) (k : IsKept s f o res) (sub : Sub) (w : SlotWrite) (h : IsGoing s sub (Next w)) where
+module _ (s : State) (f : Bool) (o res : ℕ) (k : IsKept s f o res) (sub : Sub) (w : SlotWrite) (h : IsUnderWay s sub (Next w)) where
   abbrev gw : Going s sub (Next w)
   gw = going_of s sub (Next w) h
 
@@ -163,7 +163,7 @@ module _ (s : State) (f : Bool) (o res : ℕ) (k : IsKept s f o res) (sub : Sub)
   pub next_kept : (x : Record) (images : List (List ℕ)) (left : ℕ) → left + 546 ≡ res → IsKept (record s { rows = change_row sub.txn row_stepped s.rows; images = images; records = x ∷ s.records }) f (o - 1) left
   next_kept x images left e = kept_stepped s f o res k sub.txn gw.row gw.found gw.under x images left gw.is more e
 
-module _ (s : State) (f : Bool) (o res : ℕ) (k : IsKept s f o res) (sub : Sub) (d : Deed) (h : IsGoing s sub (AllMade d)) where
+module _ (s : State) (f : Bool) (o res : ℕ) (k : IsKept s f o res) (sub : Sub) (d : Deed) (h : IsUnderWay s sub (AllMade d)) where
   abbrev gd : Going s sub (AllMade d)
   gd = going_of s sub (AllMade d) h
 
@@ -177,7 +177,7 @@ module _ (s : State) (f : Bool) (o res : ℕ) (k : IsKept s f o res) (sub : Sub)
   end_kept x end left e = kept_finished s f o res k sub.txn gd.row gd.found gd.under x end left d gd.is all_made (let c : length (spelled_deed gd.under.deed) ≡ length (spelled_deed d) = ap (λ (x : Deed). length (spelled_deed x)) gd.so.1 in omega (arith, c, e))
 
 -- one more write
-pub step_done : (s new : State) (sub : Sub) (w : SlotWrite) (lsn : ℕ) → s.failed ≡ false → IsGoing s sub (Next w) → IsMade s sub w new → lsn ≡ length s.records + 1 → IsSound s → Steps s (Step sub.txn sub.number) (Gave_lsn lsn) new
+pub step_done : (s new : State) (sub : Sub) (w : SlotWrite) (lsn : ℕ) → s.failed ≡ false → IsUnderWay s sub (Next w) → IsMade s sub w new → lsn ≡ length s.records + 1 → IsSound s → Steps s (Step sub.txn sub.number) (Gave_lsn lsn) new
 step_done s new sub w lsn running h m at k =
     let g = going_of s sub (Next w) h in
     let more = slice_get_within g.under.writes g.under.made w g.so in
@@ -191,7 +191,7 @@ ledger_going s k sub P g =
     let n = (going_at s k sub.txn g.row g.under g.found g.is).1 in
     ap (has_under sub.number) (found_some s sub.txn g.row g.found) ∙ and_from _ _ (ap (λ (y : Option Under). is_some (job_under y)) g.is) (eq-eqb g.row.number sub.number (n ∙ g.number))
 
-not_under : (s : State) (k : IsSound s) (sub : Sub) → NotGoing s sub → has_under sub.number (found sub.txn (ledger_of s).open_ones) ≡ false
+not_under : (s : State) (k : IsSound s) (sub : Sub) → IsNotUnderWay s sub → has_under sub.number (found sub.txn (ledger_of s).open_ones) ≡ false
 not_under s k sub h = at (found_row sub.txn s.rows) refl h where
   under : (r : Row) (o : Option Under) → found_row sub.txn s.rows ≡ Some r → r.under ≡ o → IsOther sub.number o → (is_some (job_under o) && nat_eq r.number sub.number) ≡ false
   under r None e u h = refl
@@ -202,7 +202,7 @@ not_under s k sub h = at (found_row sub.txn s.rows) refl h where
   at (Some r) e h = ap (has_under sub.number) (found_some s sub.txn r e) ∙ under r r.under e refl h
 
 -- no write is left
-pub step_ready : (s : State) (sub : Sub) → s.failed ≡ false → IsGoing s sub (λ r u. slice_get u.writes u.made ≡ None) → IsSound s → Steps s (Step sub.txn sub.number) Gave_ready s
+pub step_ready : (s : State) (sub : Sub) → s.failed ≡ false → IsUnderWay s sub (λ r u. slice_get u.writes u.made ≡ None) → IsSound s → Steps s (Step sub.txn sub.number) Gave_ready s
 step_ready s sub running h k =
     let g = going_of s sub (λ r u. slice_get u.writes u.made ≡ None) h in
     let left : left_under g.row.under ≡ 0 = ap left_under g.is ∙ (let e = none_left g.under.writes g.under.made g.so in omega (arith, e)) in
@@ -224,7 +224,7 @@ step_ready s sub running h k =
     none_left (w ∷ ws) zero e = cc
     none_left (w ∷ ws) (suc i) e = let h = none_left ws i e in omega (arith, h)
 
-unknown_operation : (s : State) (sub : Sub) (c : Call) → s.failed ≡ false → NotGoing s sub → (c ≡ Step sub.txn sub.number) ⊎ (c ≡ Finish sub.txn sub.number) → Refuses false false s c why.UnknownOperation
+unknown_operation : (s : State) (sub : Sub) (c : Call) → s.failed ≡ false → IsNotUnderWay s sub → (c ≡ Step sub.txn sub.number) ⊎ (c ≡ Finish sub.txn sub.number) → Refuses false false s c why.UnknownOperation
 unknown_operation s sub c running h w k = elim w [
   | inl e ↦ refuse false false s c why.UnknownOperation refl tt (ap (λ x. first_of (tests (size_of s.sizes) (ledger_of s) x)) e ∙ (rw (running, not_under s k sub h) refl)) k
   | inr e ↦ refuse false false s c why.UnknownOperation refl tt (ap (λ x. first_of (tests (size_of s.sizes) (ledger_of s) x)) e ∙ (rw (running, not_under s k sub h) refl)) k
@@ -252,7 +252,7 @@ step_idle s sub why.TooManyTransactions h = absurd h
 step_idle s sub why.NotForced h = absurd h
 step_idle s sub why.LogFull h = absurd h
 
-pub finish_done : (s new : State) (sub : Sub) (d : Deed) → s.failed ≡ false → IsGoing s sub (AllMade d) → new ≡ record s { rows = change_row sub.txn (row_finished (record { lsn = length s.records + 1; deed = d })) s.rows; records = op_end sub.txn sub.number d ∷ s.records; waiting = without_taken d s.waiting } → IsSound s → Steps s (Finish sub.txn sub.number) (gave_done d) new
+pub finish_done : (s new : State) (sub : Sub) (d : Deed) → s.failed ≡ false → IsUnderWay s sub (AllMade d) → new ≡ record s { rows = change_row sub.txn (row_finished (record { lsn = length s.records + 1; deed = d })) s.rows; records = op_end sub.txn sub.number d ∷ s.records; waiting = without_taken d s.waiting } → IsSound s → Steps s (Finish sub.txn sub.number) (gave_done d) new
 finish_done s new sub d running h e k =
     let g = going_of s sub (AllMade d) h in
     let made = (going_at s k sub.txn g.row g.under g.found g.is).0.made in
@@ -262,7 +262,7 @@ finish_done s new sub d running h e k =
     let c = subst (λ (x : Deed). Steps s (Finish sub.txn sub.number) (gave_done x) (record s { rows = change_row sub.txn (row_finished (record { lsn = length s.records + 1; deed = x })) s.rows; records = op_end sub.txn sub.number x ∷ s.records; waiting = without_taken x s.waiting })) g.so.1 b in
     subst (λ (x : State). Steps s (Finish sub.txn sub.number) (gave_done d) x) (sym e) c
 
-steps_are_left : (s : State) (sub : Sub) → s.failed ≡ false → IsGoing s sub (λ r u. u.made < length u.writes) → Refuses false false s (Finish sub.txn sub.number) why.Unfinished
+steps_are_left : (s : State) (sub : Sub) → s.failed ≡ false → IsUnderWay s sub (λ r u. u.made < length u.writes) → Refuses false false s (Finish sub.txn sub.number) why.Unfinished
 steps_are_left s sub running h k =
     let g = going_of s sub (λ r u. u.made < length u.writes) h in
     let more : steps_left (found sub.txn (ledger_of s).open_ones) ≡ true = ap steps_left (found_some s sub.txn g.row g.found) ∙ ap (λ (y : Option Under). nat_lt 0 (left_under y)) g.is ∙ lt-ltb 0 (length g.under.writes - g.under.made) (let m = g.so in omega (arith, m)) in
@@ -291,7 +291,7 @@ finish_idle s sub why.NotForced h = absurd h
 finish_idle s sub why.LogFull h = absurd h
 
 -- a commit
-pub commit_range : (s : State) (f : Bool) (o res n : ℕ) (t : Txn) → IsKept s f o res → IsReady s t n → (0 < t.incarnation) × (0 < t.count)
+pub commit_range : (s : State) (f : Bool) (o res n : ℕ) (t : Txn) → IsKept s f o res → HasNothingUnderWay s t n → (0 < t.incarnation) × (0 < t.count)
 commit_range s f o res n t k h =
     let r = found_of (λ r. (r.under ≡ None) × (n ≡ r.number + 1)) (found_row t s.rows) h in
     let row = kept_at s f o res t r.0 k r.1 in
@@ -302,7 +302,7 @@ commit_range s f o res n t k h =
     let d = row.low in
     (omega (arith, a, c), omega (arith, b, d))
 
-pub commit_kept : (s : State) (f : Bool) (o res n : ℕ) (t : Txn) (x : Record) (ends : HeldEnds) (cells : ℕ) → IsKept s f o res → IsReady s t n → log_full (ledger_of s) 1 ≡ false
+pub commit_kept : (s : State) (f : Bool) (o res n : ℕ) (t : Txn) (x : Record) (ends : HeldEnds) (cells : ℕ) → IsKept s f o res → HasNothingUnderWay s t n → log_full (ledger_of s) 1 ≡ false
     → IsKept (record s { rows = without_row t s.rows; ends = ends; records = x ∷ s.records; cells_in_use = cells; waiting = with_sends (finished_of (found_row t s.rows)) s.waiting }) f o res
 commit_kept s f o res n t x ends cells k h room =
     let r = found_of (λ r. (r.under ≡ None) × (n ≡ r.number + 1)) (found_row t s.rows) h in
@@ -316,7 +316,7 @@ commit_room s f o res t k g = at (found_row t s.rows) refl where
   at None e = let a = k.few g in let b = k.count in omega (arith, a, b)
   at (Some r) e = let a = k.few g in let b = k.count in let c = sum_at done_one t s.rows r e in omega (arith, a, b, c)
 
-pub commit_done : (s : State) (f : Bool) (o res n lsn cells : ℕ) (t : Txn) → IsKept s f o res → s.failed ≡ false → IsReady s t n → log_full (ledger_of s) 1 ≡ false → lsn ≡ length s.records + 1 → cells ≡ s.cells_in_use - sum_by takes_one (finished_of (found_row t s.rows)) → IsSound s
+pub commit_done : (s : State) (f : Bool) (o res n lsn cells : ℕ) (t : Txn) → IsKept s f o res → s.failed ≡ false → HasNothingUnderWay s t n → log_full (ledger_of s) 1 ≡ false → lsn ≡ length s.records + 1 → cells ≡ s.cells_in_use - sum_by takes_one (finished_of (found_row t s.rows)) → IsSound s
     → Steps s (Commit t) (Gave_commit (record { txn = t; lsn = lsn })) (record s { rows = without_row t s.rows; ends = without_ends t s.ends; records = records.Commit t ∷ s.records; cells_in_use = cells; waiting = with_sends (finished_of (found_row t s.rows)) s.waiting })
 commit_done s f o res n lsn cells t c running h room at freed k =
     let r = found_of (λ r. (r.under ≡ None) × (n ≡ r.number + 1)) (found_row t s.rows) h in

@@ -11,7 +11,7 @@ use Rattle.rq_groups.specs.Ends.{released}
 use Rattle.rq_txn.specs.Rows.{fresh_row, without_row}
 use Rattle.rq_store.specs.State.{State}
 use Rattle.rq_store.specs.Sound.{takes_one}
-use Rattle.rq_engine.specs.Answers.{IsReady}
+use Rattle.rq_engine.specs.Answers.{HasNothingUnderWay}
 use Rattle.rq_engine.specs.Moves.{with_sends}
 use Rattle.rq_engine.specs.Says.{begun_reply}
 use Rattle.rq_engine.specs.Lists.{IsBegun, IsCommitted, TakeSays, TakeFromSays, ListsSay, done_by}
@@ -28,7 +28,7 @@ pub begun_lists : (s : State) → IsBegun s (next_of s) (record s { rows = fresh
 begun_lists s = record { number = refl; lists = refl }
 
 -- one that was committed
-pub committed_lists : (s : State) (t : Txn) (n cells : ℕ) (number : CommitNo) → number.txn ≡ t → number.lsn ≡ length s.records + 1 → IsReady s t n → cells ≡ s.cells_in_use - sum_by takes_one (done_by s t)
+pub committed_lists : (s : State) (t : Txn) (n cells : ℕ) (number : CommitNo) → number.txn ≡ t → number.lsn ≡ length s.records + 1 → HasNothingUnderWay s t n → cells ≡ s.cells_in_use - sum_by takes_one (done_by s t)
     → IsCommitted s t number (record s { rows = without_row t s.rows; ends = record { sending = released t s.ends.sending; receiving = released t s.ends.receiving }; records = Commit t ∷ s.records; cells_in_use = cells; waiting = with_sends (done_by s t) s.waiting })
 committed_lists s t n cells number txn lsn ready freed = record {
   txn = txn;

@@ -46,7 +46,7 @@ use Rattle.rq_store.proofs.Flags.{flag_is}
 use Rattle.rq_store.proofs.SendStarts.{start_steps}
 use Rattle.rq_model.specs.Replay.Reply.{Gave_sub}
 use Rattle.rq_store.proofs.Forcing.{refused_steps}
-use Rattle.rq_engine.specs.Answers.{Refuses, IsReady, OnFound, OnUnder}
+use Rattle.rq_engine.specs.Answers.{Refuses, HasNothingUnderWay, OnFound, OnUnder}
 use Rattle.rq_chain.specs.declared.Plan.{Plan}
 use Rattle.rq_engine.specs.Kept.{IsKept, IsUnderKept}
 use Rattle.rq_engine.specs.Sends.{under_plan, FitsPlan, TakesLowest}
@@ -55,7 +55,7 @@ use Rattle.rq_model.specs.Deeds.{spelled_deed}
 use Rattle.rq_engine.proofs.Refusals.{not_full, refuse, found_of, on_found, found_some, found_none}
 
 -- what is closed by the slots is closed by the ledger
-pub closed_here : (s : State) (k : IsSound s) (t : Txn) (n g : ℕ) (d : Directory) → IsReady s t n → g < sender_count s.sizes → slots_in s.sizes s.images (directory_at g) ≡ Sender g d
+pub closed_here : (s : State) (k : IsSound s) (t : Txn) (n g : ℕ) (d : Directory) → HasNothingUnderWay s t n → g < sender_count s.sizes → slots_in s.sizes s.images (directory_at g) ≡ Sender g d
     → (ended_in (ledger_of s).committed g || has_closed g (found t (ledger_of s).open_ones)) ≡ d.closed
 closed_here s k t n g d ready below at =
     let r = found_of (λ r. (r.under ≡ None) × (n ≡ r.number + 1)) (found_row t s.rows) ready in
@@ -72,9 +72,9 @@ no_job None e = refl
 no_job (Some u) e = cc
 
 -- who passes the tests of a transaction is ready
-pub ready_row : (s : State) (t : Txn) → NoneHolds (ready_tests (ledger_of s) t false) → (n : ℕ) × IsReady s t n
+pub ready_row : (s : State) (t : Txn) → NoneHolds (ready_tests (ledger_of s) t false) → (n : ℕ) × HasNothingUnderWay s t n
 ready_row s t h = at (found_row t s.rows) refl where
-  at : (o : Option Row) → found_row t s.rows ≡ o → (n : ℕ) × IsReady s t n
+  at : (o : Option Row) → found_row t s.rows ≡ o → (n : ℕ) × HasNothingUnderWay s t n
   at None e = let bad : true ≡ false = sym (ap (λ o. not (is_some o)) (found_none s t e)) ∙ h.1.0 in cc
   at (Some r) e = (r.number + 1, on_found (λ q. (q.under ≡ None) × (r.number + 1 ≡ q.number + 1)) (found_row t s.rows) r e (no_job r.under (sym (ap is_busy (found_some s t r e)) ∙ h.1.1.1.0), refl))
 
@@ -163,7 +163,7 @@ module _ (s : State) (k : IsSound s) (idle : any_under s.rows ≡ false) where
       omega (arith, room, full, same, used)
 
 -- the operation that begins is kept as every other
-pub start_kept : (s : State) (f : Bool) (o res n room : ℕ) (t : Txn) (plan : Plan) (ends : HeldEnds) → IsKept s f o res → IsReady s t n → log_full (ledger_of s) 4 ≡ false → FitsPlan s.sizes plan room
+pub start_kept : (s : State) (f : Bool) (o res n room : ℕ) (t : Txn) (plan : Plan) (ends : HeldEnds) → IsKept s f o res → HasNothingUnderWay s t n → log_full (ledger_of s) 4 ≡ false → FitsPlan s.sizes plan room
     → IsKept (record s { rows = change_row t (row_started (under_plan n plan)) s.rows; ends = ends }) f (o + (length plan.writes.items + 1)) (res + room)
 start_kept s f o res n room t plan ends k h full fits =
     let r = found_of (λ r. (r.under ≡ None) × (n ≡ r.number + 1)) (found_row t s.rows) h in
@@ -187,7 +187,7 @@ undone_take t (Sending e) ends newly h = ap (λ (hs : List Held). let x : HeldEn
 undone_take t (Receiving e) ends newly h = ap (λ (hs : List Held). let x : HeldEnds = record { sending = ends.sending; receiving = hs } in x) (undone_held t e ends.receiving newly h)
 
 -- a send that has started
-pub send_done : (s new : State) (t : Txn) (n e tag : ℕ) (body b : List ℕ) (plan : Plan) → IsReady s t n → NoneHolds (ready_tests (ledger_of s) t false) → any_under s.rows ≡ false → b ≡ body
+pub send_done : (s new : State) (t : Txn) (n e tag : ℕ) (body b : List ℕ) (plan : Plan) → HasNothingUnderWay s t n → NoneHolds (ready_tests (ledger_of s) t false) → any_under s.rows ≡ false → b ≡ body
     → IsSendPlan s.sizes (slots_in s.sizes s.images) (under_plan n plan) e tag b → is_free_for t e s.ends.sending ≡ true → s.cells_in_use < cell_count s.sizes → (IsSound s → Passes (size_of s.sizes) (ledger_of s) (Start_send t (message_of e tag body)))
     → new ≡ record s { rows = change_row t (row_started (under_plan n plan)) s.rows; ends = record { sending = with_held t e s.ends.sending; receiving = s.ends.receiving }; cells_in_use = s.cells_in_use + 1 }
     → IsSound s → Steps s (Start_send t (message_of e tag body)) (Gave_sub t n) new
@@ -199,7 +199,7 @@ send_done s new t n e tag body b plan ready h idle same p free room may is k =
     subst (λ (x : State). Steps s (Start_send t (message_of e tag body)) (Gave_sub t n) x) (sym is) c
 
 -- what was planned is under way
-pub going_started : (s : State) (rows : List Row) (t : Txn) (n : ℕ) (plan : Plan) (P : Row → Under → Type 0) → IsReady s t n → rows ≡ change_row t (row_started (under_plan n plan)) s.rows
+pub going_started : (s : State) (rows : List Row) (t : Txn) (n : ℕ) (plan : Plan) (P : Row → Under → Type 0) → HasNothingUnderWay s t n → rows ≡ change_row t (row_started (under_plan n plan)) s.rows
     → ((r : Row) → P r (under_plan n plan)) → OnFound (λ r. OnUnder n P r r.under) (found_row t rows)
 going_started s rows t n plan P ready is holds =
     let r = found_of (λ r. (r.under ≡ None) × (n ≡ r.number + 1)) (found_row t s.rows) ready in

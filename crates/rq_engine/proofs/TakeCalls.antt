@@ -35,7 +35,7 @@ use Rattle.rq_store.proofs.TakePlans.{head_stands, next_stands}
 use Rattle.rq_store.proofs.TakeStarts.{take_steps, take_from_steps}
 use Rattle.rq_store.proofs.Waiting.{waits_in_chain}
 use Rattle.rq_chain.specs.declared.Plan.{Plan}
-use Rattle.rq_engine.specs.Answers.{Refuses, IsReady, HasCause}
+use Rattle.rq_engine.specs.Answers.{Refuses, HasNothingUnderWay, HasCause}
 use Rattle.rq_engine.specs.Receives.{IsTakeCall}
 use Rattle.rq_engine.specs.Sends.{under_plan}
 use Rattle.rq_engine.proofs.Refusals.{refuse, found_of}
@@ -107,7 +107,7 @@ module _ (s : State) (t : Txn) (h : NoneHolds (ready_tests (ledger_of s) t false
         ]
 
         -- a receive that has started
-        pub take_done : (new : State) (n : ℕ) (plan : Plan) → IsReady s t n → any_under s.rows ≡ false → IsTakePlan s.sizes (slots_in s.sizes s.images) (under_plan n plan) e
+        pub take_done : (new : State) (n : ℕ) (plan : Plan) → HasNothingUnderWay s t n → any_under s.rows ≡ false → IsTakePlan s.sizes (slots_in s.sizes s.images) (under_plan n plan) e
             → new ≡ record s { rows = change_row t (row_started (under_plan n plan)) s.rows; ends = record { sending = s.ends.sending; receiving = with_held t e s.ends.receiving } }
             → (call : Call) → IsTakeCall t e call → IsSound s → Steps s call (Gave_sub t n) new
         take_done new n plan ready idle planned is call c k =

@@ -41,11 +41,11 @@ Refuses memory disk s call r = IsSound s → Steps s call (Gave_refusal r) s × 
 
 -- The call with its answer is an entry that may come next where the store goes back to a legal log and both devices
 -- have been honest up to its end, and the store after it is what that entry makes of it.
-abbrev pub Answers : {P L X : Type 0} → page_device.Ghosts P → log_device.Ghosts L → (memory disk : Bool)
+abbrev pub AnswersLegally : {P L X : Type 0} → page_device.Ghosts P → log_device.Ghosts L → (memory disk : Bool)
     → OpenStore P L → Call → (X → Gave) → Result X Refusal → OpenStore P L → Type 0
-Answers p l memory disk old call gave (Ok x) new = AreHonest p l new → IsSound old.state
+AnswersLegally p l memory disk old call gave (Ok x) new = AreHonest p l new → IsSound old.state
     → Steps old.state call (gave x) new.state
-Answers p l memory disk old call gave (Err r) new = AreHonest p l new → IsSound old.state
+AnswersLegally p l memory disk old call gave (Err r) new = AreHonest p l new → IsSound old.state
     → Steps old.state call (Gave_refusal r) new.state × HasCause memory disk old.state r
 
 -- what is so of a transaction's operation under way, if it has this number
@@ -58,8 +58,8 @@ OnFound P None = ⊥
 OnFound P (Some r) = P r
 
 -- the operation is under way, and this is so of its row and of it
-abbrev pub IsGoing : State → Sub → (Row → Under → Type 0) → Type 0
-IsGoing s sub P = OnFound (λ r. OnUnder sub.number P r r.under) (found_row sub.txn s.rows)
+abbrev pub IsUnderWay : State → Sub → (Row → Under → Type 0) → Type 0
+IsUnderWay s sub P = OnFound (λ r. OnUnder sub.number P r r.under) (found_row sub.txn s.rows)
 
 abbrev pub IsOther : ℕ → Option Under → Type 0
 IsOther n None = Unit {0}
@@ -70,20 +70,20 @@ NotFound P None = Unit {0}
 NotFound P (Some r) = P r
 
 -- it is not
-abbrev pub NotGoing : State → Sub → Type 0
-NotGoing s sub = NotFound (λ r. IsOther sub.number r.under) (found_row sub.txn s.rows)
+abbrev pub IsNotUnderWay : State → Sub → Type 0
+IsNotUnderWay s sub = NotFound (λ r. IsOther sub.number r.under) (found_row sub.txn s.rows)
 
 -- why an operation cannot be stepped or finished
 abbrev pub Idle : State → Sub → Refusal → Type 0
 Idle s sub why.Failed = s.failed ≡ true
-Idle s sub why.UnknownOperation = (s.failed ≡ false) × NotGoing s sub
+Idle s sub why.UnknownOperation = (s.failed ≡ false) × IsNotUnderWay s sub
 Idle s sub _ = ⊥
 
 -- why it cannot be finished
 abbrev pub CannotFinish : State → Sub → Refusal → Type 0
 CannotFinish s sub why.Failed = s.failed ≡ true
-CannotFinish s sub why.UnknownOperation = (s.failed ≡ false) × NotGoing s sub
-CannotFinish s sub why.Unfinished = (s.failed ≡ false) × IsGoing s sub (λ r u. u.made < length u.writes)
+CannotFinish s sub why.UnknownOperation = (s.failed ≡ false) × IsNotUnderWay s sub
+CannotFinish s sub why.Unfinished = (s.failed ≡ false) × IsUnderWay s sub (λ r u. u.made < length u.writes)
 CannotFinish s sub _ = ⊥
 
 -- a slot write was made, with its record
@@ -100,5 +100,5 @@ pub record IsMade (old : State) (sub : Sub) (w : SlotWrite) (new : State) : Type
   pub put_in : IsPutIn old w new.images
 
 -- the transaction is open with nothing under way, and this is the number of its next operation
-abbrev pub IsReady : State → Txn → ℕ → Type 0
-IsReady s t n = OnFound (λ r. (r.under ≡ None) × (n ≡ r.number + 1)) (found_row t s.rows)
+abbrev pub HasNothingUnderWay : State → Txn → ℕ → Type 0
+HasNothingUnderWay s t n = OnFound (λ r. (r.under ≡ None) × (n ≡ r.number + 1)) (found_row t s.rows)

@@ -17,7 +17,7 @@ use Rattle.rq_engine.specs.declared.event.Progress.TheVariants as progress
 use Rattle.rq_engine.specs.declared.event.Reply.{Reply}
 use Rattle.rq_engine.specs.declared.event.Reply.TheVariants as reply
 use Rattle.rq_level.specs.Stored.{slots_in}
-use Rattle.rq_engine.specs.Answers.{IsGoing}
+use Rattle.rq_engine.specs.Answers.{IsUnderWay}
 use Rattle.rq_engine.specs.Lists.{ListsSay}
 use Rattle.rq_engine.specs.Sends.{TakesLowest}
 use Rattle.rq_engine.specs.Opened.{OpenStore, AreHonest}
@@ -57,7 +57,7 @@ ChangesSay old _ r new = new.changed ≡ old.changed
 -- the operation that a send started is under way, and takes the lowest free cell
 abbrev pub StartSays : {P L : Type 0} → OpenStore P L → Event → Reply → OpenStore P L → Type 0
 StartSays old (event.StartSend txn sender tag body) (reply.Started sub) new =
-    IsGoing new.state sub (λ r u. TakesLowest old.state.sizes (slots_in old.state.sizes old.state.images) u.writes)
+    IsUnderWay new.state sub (λ r u. TakesLowest old.state.sizes (slots_in old.state.sizes old.state.images) u.writes)
 StartSays old _ _ new = Unit {0}
 
 -- The call was made, and answered so.

@@ -20,7 +20,7 @@ use Rattle.rq_store.specs.State.{State}
 use Rattle.rq_store.specs.Plans.{IsSendPlan, IsTakePlan, WaitsFor, NoneWaits}
 use Rattle.rq_store.specs.Sound.{takes_one}
 use Rattle.rq_store.specs.Steps.{op_end, gave_done}
-use Rattle.rq_engine.specs.Answers.{IsGoing, IsMade, IsReady}
+use Rattle.rq_engine.specs.Answers.{IsUnderWay, IsMade, HasNothingUnderWay}
 use Rattle.rq_engine.specs.Moves.{with_sends, without_taken}
 use Rattle.rq_engine.specs.Says.{outcome_of, receipt_of}
 use Rattle.rq_engine.specs.declared.event.CommitNo.{CommitNo}
@@ -44,7 +44,7 @@ pub record IsStarted (old : State) (sub : Sub) (end : End) (cells : ℕ) (IsPlan
     : Type 0 where
   pub under : Under
   pub number : under.number ≡ sub.number
-  pub ready : IsReady old sub.txn sub.number
+  pub ready : HasNothingUnderWay old sub.txn sub.number
   pub plan : IsPlan under
   pub lists : new ≡ record old {
     rows = change_row sub.txn (row_started under) old.rows;
@@ -67,27 +67,27 @@ IsTakeStarted old t sender sub new =
 -- a receive was started from some group, or the transaction is open with nothing under way and none waits
 abbrev pub TakeSays : State → Txn → Option Sub → State → Type 0
 TakeSays old t (Some sub) new = (sender : ℕ) × IsTakeStarted old t sender sub new
-TakeSays old t None new = ((n : ℕ) × IsReady old t n) × NoneWaits old t × (new ≡ old)
+TakeSays old t None new = ((n : ℕ) × HasNothingUnderWay old t n) × NoneWaits old t × (new ≡ old)
 
 -- a receive was started from this group, or the transaction is open with nothing under way and nothing waits there
 abbrev pub TakeFromSays : State → Txn → ℕ → Option Sub → State → Type 0
 TakeFromSays old t sender (Some sub) new = IsTakeStarted old t sender sub new
 TakeFromSays old t sender None new =
-    ((n : ℕ) × IsReady old t n) × (sender < sender_count old.sizes) × (is_free_for t sender old.ends.receiving ≡ true)
+    ((n : ℕ) × HasNothingUnderWay old t n) × (sender < sender_count old.sizes) × (is_free_for t sender old.ends.receiving ≡ true)
     × (waits old.waiting sender ≡ 0)
     × (new ≡ old)
 
 -- the next write of the operation was made, with its record, or none is left
 abbrev pub StepSays : State → Sub → Progress → State → Type 0
 StepSays old sub (progress.Done lsn) new =
-    (lsn ≡ length old.records + 1) × (w : SlotWrite) × IsGoing old sub (λ r u. slice_get u.writes u.made ≡ Some w)
+    (lsn ≡ length old.records + 1) × (w : SlotWrite) × IsUnderWay old sub (λ r u. slice_get u.writes u.made ≡ Some w)
     × IsMade old sub w new
-StepSays old sub progress.Ready new = IsGoing old sub (λ r u. slice_get u.writes u.made ≡ None) × (new ≡ old)
+StepSays old sub progress.Ready new = IsUnderWay old sub (λ r u. slice_get u.writes u.made ≡ None) × (new ≡ old)
 
 -- An operation whose writes are made was ended by the record that says what it did.
 pub record IsFinished (old : State) (sub : Sub) (o : Outcome) (new : State) : Type 0 where
   pub deed : Deed
-  pub going : IsGoing old sub (λ r u. (length u.writes ≤ u.made) × (u.deed ≡ deed))
+  pub going : IsUnderWay old sub (λ r u. (length u.writes ≤ u.made) × (u.deed ≡ deed))
   pub outcome : outcome_of o ≡ gave_done deed
   pub lists : new ≡ record old {
     rows = change_row sub.txn (row_finished (record { lsn = length old.records + 1; deed = deed })) old.rows;
@@ -104,7 +104,7 @@ done_by s t = finished_of (found_row t s.rows)
 pub record IsCommitted (old : State) (t : Txn) (number : CommitNo) (new : State) : Type 0 where
   pub txn : number.txn ≡ t
   pub lsn : number.lsn ≡ length old.records + 1
-  pub ready : (n : ℕ) × IsReady old t n
+  pub ready : (n : ℕ) × HasNothingUnderWay old t n
   pub lists : new ≡ record old {
     rows = without_row t old.rows;
     ends = record { sending = released t old.ends.sending; receiving = released t old.ends.receiving };

@@ -56,12 +56,12 @@ outcome_of outcome.Closed = Gave_closed
 outcome_of outcome.Undone = Gave_undone
 
 -- a commit's number as the model's word
-abbrev pub number_of : CommitNo → Number
-number_of number = record { txn = number.txn; lsn = number.lsn }
+abbrev pub commit_number : CommitNo → Number
+commit_number number = record { txn = number.txn; lsn = number.lsn }
 
 abbrev pub receipt_of : Option Receipt → Option Number
 receipt_of None = None
-receipt_of (Some r) = Some (number_of r.number)
+receipt_of (Some r) = Some (commit_number r.number)
 
 -- the page was written
 abbrev pub is_done : Written → Bool
@@ -75,7 +75,7 @@ gave (reply.Started sub) = Gave_sub sub.txn sub.number
 gave reply.NoMessage = Gave_none
 gave (reply.Stepped p) = progress_of p
 gave (reply.Finished o) = outcome_of o
-gave (reply.Committed number) = Gave_commit (number_of number)
+gave (reply.Committed number) = Gave_commit (commit_number number)
 gave (reply.Acknowledged given) = Gave_receipt (receipt_of given)
 gave reply.HandedOver = Gave_handed_over
 gave (reply.Forced lsn) = Gave_forced lsn

@@ -7,7 +7,7 @@ ghost use Rattle.rq_log.specs.Spelled.{IsBeginning};
 ghost use Rattle.rq_store.specs.Sound.{IsSound};
 ghost use Rattle.rq_store.specs.Steps.{Steps};
 ghost use Rattle.rq_content.specs.Read.{group_of};
-ghost use Rattle.rq_engine.specs.Answers.{Answers};
+ghost use Rattle.rq_engine.specs.Answers.{AnswersLegally};
 ghost use Rattle.rq_engine.specs.Applied.{Applied, ChangesSay, RefusalLeaves, StartSays};
 ghost use Rattle.rq_engine.specs.Lists.{ListsSay};
 ghost use Rattle.rq_engine.specs.Opened.{AreHonest};
@@ -26,7 +26,7 @@ impl<P: PageDevice, L: LogDevice> Engine<P, L> {
     /// # Errors
     /// `Failed`, `Unfinished` where any operation is under way, `NoMemory`.
     pub fn content(&self) -> Result<Vec<GroupContent>, Refusal>
-        ensures answered { Answers P.PageDevice L.LogDevice true false self.now Show
+        ensures answered { AnswersLegally P.PageDevice L.LogDevice true false self.now Show
             (λ groups. Gave_content (map group_of groups.items)) result self.now }
         ensures failed { (result ≡ Err Refusal.Failed) ↔ (self.now.state.failed ≡ true) }
     {

@@ -7,7 +7,7 @@ ghost use Rattle.rq_store.specs.Steps.{op_end, gave_done};
 ghost use Rattle.rq_engine.specs.Opened.{LeavesDevices};
 ghost use Rattle.rq_engine.specs.Moves.{without_taken};
 ghost use Rattle.rq_engine.specs.Applied.{IsStamped, StepChanges};
-ghost use Rattle.rq_engine.specs.Answers.{Answers, IsGoing, NotGoing, Idle, CannotFinish, IsMade};
+ghost use Rattle.rq_engine.specs.Answers.{AnswersLegally, IsUnderWay, IsNotUnderWay, Idle, CannotFinish, IsMade};
 ghost use Rattle.rq_engine.specs.Lists.{IsFinished, StepSays};
 ghost use Rattle.rq_engine.specs.Says.{progress_of, outcome_of};
 
@@ -32,7 +32,7 @@ impl<P: PageDevice, L: LogDevice> Engine<P, L> {
     /// # Errors
     /// `Failed`, `UnknownOperation`.
     pub fn step(&mut self, sub: Sub) -> Result<Progress, Refusal>
-        ensures answered { Answers P.PageDevice L.LogDevice false false self.old
+        ensures answered { AnswersLegally P.PageDevice L.LogDevice false false self.old
             (Step sub.txn sub.number) progress_of result self.new }
         ensures sizes { self.new.state.sizes ≡ self.old.state.sizes }
         ensures devices { (self.new.pages ≡ self.old.pages) × (self.new.log ≡ self.old.log) }
@@ -53,7 +53,7 @@ impl<P: PageDevice, L: LogDevice> Engine<P, L> {
     /// # Errors
     /// `Failed`, `UnknownOperation`, `Unfinished`.
     pub fn finish(&mut self, sub: Sub) -> Result<Outcome, Refusal>
-        ensures answered { Answers P.PageDevice L.LogDevice false false self.old
+        ensures answered { AnswersLegally P.PageDevice L.LogDevice false false self.old
             (Finish sub.txn sub.number) outcome_of result self.new }
         ensures sizes { self.new.state.sizes ≡ self.old.state.sizes }
         ensures lists { IfOk result (λ outcome. IsFinished self.old.state sub outcome self.new.state) }
@@ -72,8 +72,8 @@ impl<P: PageDevice, L: LogDevice> Engine<P, L> {
 
     // The operation, if it is under way.
     fn operation(&self, sub: Sub) -> Option<&Operation>
-        ensures { MatchOption result (NotGoing self.now.state sub)
-            (λ o. IsGoing self.now.state sub (λ r u. u ≡ under_of o.now)) }
+        ensures { MatchOption result (IsNotUnderWay self.now.state sub)
+            (λ o. IsUnderWay self.now.state sub (λ r u. u ≡ under_of o.now)) }
     {
         let row = self.transactions.get(sub.txn)?;
         match &row.under_way {
@@ -84,7 +84,7 @@ impl<P: PageDevice, L: LogDevice> Engine<P, L> {
 
     // The next slot write of the operation; none where all are made.
     fn next_write(&self, sub: Sub) -> Result<Option<SlotWrite>, Refusal>
-        ensures next { IfOk result (λ w. IsGoing self.now.state sub (λ r u. slice_get u.writes u.made ≡ w)) }
+        ensures next { IfOk result (λ w. IsUnderWay self.now.state sub (λ r u. slice_get u.writes u.made ≡ w)) }
         ensures running { OnOk result (self.now.state.failed ≡ false) }
         ensures idle { IfErr result (λ r. Idle self.now.state sub r) }
     {
@@ -97,7 +97,7 @@ impl<P: PageDevice, L: LogDevice> Engine<P, L> {
 
     // What the end of the operation will say, where all its writes are made.
     fn ready_deed(&self, sub: Sub) -> Result<Deed, Refusal>
-        ensures ready { IfOk result (λ d. IsGoing self.now.state sub
+        ensures ready { IfOk result (λ d. IsUnderWay self.now.state sub
             (λ r u. (length u.writes ≤ u.made) × (u.deed ≡ d))) }
         ensures running { OnOk result (self.now.state.failed ≡ false) }
         ensures refused { IfErr result (λ r. CannotFinish self.now.state sub r) }
@@ -115,7 +115,7 @@ impl<P: PageDevice, L: LogDevice> Engine<P, L> {
     // Makes a slot write, with its record.
     fn make(&mut self, sub: Sub, write: &SlotWrite) -> Lsn
         requires running { self.old.state.failed ≡ false }
-        requires next { IsGoing self.old.state sub (λ r u. slice_get u.writes u.made ≡ Some write.now) }
+        requires next { IsUnderWay self.old.state sub (λ r u. slice_get u.writes u.made ≡ Some write.now) }
         ensures lsn { result ≡ length self.old.state.records + 1 }
         ensures made { IsMade self.old.state sub write.now self.new.state }
         ensures changed { IsStamped self.old result self.new }
@@ -140,7 +140,7 @@ impl<P: PageDevice, L: LogDevice> Engine<P, L> {
     // Ends an operation, with its record.
     fn end(&mut self, sub: Sub, deed: &Deed)
         requires running { self.old.state.failed ≡ false }
-        requires ready { IsGoing self.old.state sub (λ r u. (length u.writes ≤ u.made) × (u.deed ≡ deed.now)) }
+        requires ready { IsUnderWay self.old.state sub (λ r u. (length u.writes ≤ u.made) × (u.deed ≡ deed.now)) }
         ensures ended { self.new.state ≡ record self.old.state {
           rows = change_row sub.txn
               (row_finished (record { lsn = length self.old.state.records + 1; deed = deed.now })) self.old.state.rows;

@@ -4,7 +4,7 @@ ghost use Rattle.rq_model.specs.History.Call.{Write_page};
 ghost use Rattle.rq_model.specs.Replay.Reply.{Gave_written};
 ghost use Rattle.rq_pool.specs.Pooled.{image_at};
 ghost use Rattle.rq_pool.specs.Writing.{DeviceAfter, changed_after};
-ghost use Rattle.rq_engine.specs.Answers.{Answers};
+ghost use Rattle.rq_engine.specs.Answers.{AnswersLegally};
 ghost use Rattle.rq_engine.specs.Opened.{WritesWhen, state_after};
 ghost use Rattle.rq_engine.specs.Says.{is_done};
 
@@ -21,7 +21,7 @@ impl<P: PageDevice, L: LogDevice> Engine<P, L> {
     /// # Errors
     /// `Failed`, `NotForced`, `DiskWrite`.
     pub fn write_page(&mut self, page: u32) -> Result<Written, Refusal>
-        ensures answered { Answers P.PageDevice L.LogDevice false true self.old (Write_page page)
+        ensures answered { AnswersLegally P.PageDevice L.LogDevice false true self.old (Write_page page)
             (λ written. Gave_written (is_done written)) result self.new }
         ensures sizes { self.new.state.sizes ≡ self.old.state.sizes }
         ensures answer { WritesWhen self.old page result }

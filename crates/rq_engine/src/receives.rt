@@ -15,7 +15,7 @@ ghost use Rattle.rq_store.specs.State.{ledger_of};
 ghost use Rattle.rq_store.specs.Sound.{IsSound};
 ghost use Rattle.rq_store.specs.Plans.{IsTakePlan};
 ghost use Rattle.rq_engine.specs.Opened.{LeavesDevices};
-ghost use Rattle.rq_engine.specs.Answers.{Answers, IsReady};
+ghost use Rattle.rq_engine.specs.Answers.{AnswersLegally, HasNothingUnderWay};
 ghost use Rattle.rq_engine.specs.Lists.{IsTakeStarted, TakeSays, TakeFromSays};
 ghost use Rattle.rq_engine.specs.Receives.{IsTakeCall, started_of};
 ghost use Rattle.rq_engine.specs.Sends.{under_plan, FitsPlan};
@@ -37,7 +37,7 @@ impl<P: PageDevice, L: LogDevice> Engine<P, L> {
     /// # Errors
     /// `Failed`, `UnknownTransaction`, `NotOpen`, `Unfinished`, `LogFull`, `Latched`, `NoMemory`.
     pub fn start_receive(&mut self, txn: Txn) -> Result<Option<Sub>, Refusal>
-        ensures answered { Answers P.PageDevice L.LogDevice true false self.old
+        ensures answered { AnswersLegally P.PageDevice L.LogDevice true false self.old
             (Start_receive txn) started_of result self.new }
         ensures sizes { self.new.state.sizes ≡ self.old.state.sizes }
         ensures sub { IfOk result (λ begun. IfSome begun (λ sub. sub.txn ≡ txn)) }
@@ -65,7 +65,7 @@ impl<P: PageDevice, L: LogDevice> Engine<P, L> {
     /// `Failed`, `UnknownTransaction`, `NotOpen`, `Unfinished`, `UnknownSender`, `ReceiverBusy`, `LogFull`, `Latched`,
     /// `NoMemory`.
     pub fn start_receive_from(&mut self, txn: Txn, sender: u32) -> Result<Option<Sub>, Refusal>
-        ensures answered { Answers P.PageDevice L.LogDevice true false self.old
+        ensures answered { AnswersLegally P.PageDevice L.LogDevice true false self.old
             (Start_receive_from txn sender) started_of result self.new }
         ensures sizes { self.new.state.sizes ≡ self.old.state.sizes }
         ensures sub { IfOk result (λ begun. IfSome begun (λ sub. sub.txn ≡ txn)) }
@@ -94,13 +94,13 @@ impl<P: PageDevice, L: LogDevice> Engine<P, L> {
 
     // Starts a receive from a group that holds a message for the transaction.
     fn start_take(&mut self, txn: Txn, number: u64, sender: u32) -> Result<Sub, Refusal>
-        requires ready { IsReady self.old.state txn number }
+        requires ready { HasNothingUnderWay self.old.state txn number }
         requires passes { NoneHolds (ready_tests (ledger_of self.old.state) txn false) }
         requires sender { sender < sender_count self.old.state.sizes }
         requires free { is_free_for txn sender self.old.state.ends.receiving ≡ true }
         requires waits { 1 ≤ waits self.old.state.waiting sender }
         ensures answered { (call : Call) → IsTakeCall txn sender call
-            → Answers P.PageDevice L.LogDevice true false self.old call (λ sub. started_of (Some sub)) result self.new }
+            → AnswersLegally P.PageDevice L.LogDevice true false self.old call (λ sub. started_of (Some sub)) result self.new }
         ensures sizes { self.new.state.sizes ≡ self.old.state.sizes }
         ensures sub { IfOk result (λ sub. sub.txn ≡ txn) }
         ensures lists { IfOk result (λ sub. IsTakeStarted self.old.state txn sender sub self.new.state) }

@@ -12,7 +12,7 @@ ghost use Rattle.rq_store.specs.State.{ledger_of, size_of};
 ghost use Rattle.rq_store.specs.Sound.{IsSound};
 ghost use Rattle.rq_store.specs.Plans.{IsSendPlan};
 ghost use Rattle.rq_engine.specs.Opened.{LeavesDevices};
-ghost use Rattle.rq_engine.specs.Answers.{Answers, IsGoing, IsReady, Refuses};
+ghost use Rattle.rq_engine.specs.Answers.{AnswersLegally, IsUnderWay, HasNothingUnderWay, Refuses};
 ghost use Rattle.rq_engine.specs.Lists.{IsSendStarted};
 ghost use Rattle.rq_engine.specs.Sends.{under_plan, FitsPlan, TakesLowest};
 
@@ -38,12 +38,12 @@ impl<P: PageDevice, L: LogDevice> Engine<P, L> {
         tag: u64,
         body: &[u8],
     ) -> Result<Sub, Refusal>
-        ensures answered { Answers P.PageDevice L.LogDevice true false self.old
+        ensures answered { AnswersLegally P.PageDevice L.LogDevice true false self.old
             (Start_send txn (message_of sender tag body.now)) (λ sub. Gave_sub sub.txn sub.number) result self.new }
         ensures sizes { self.new.state.sizes ≡ self.old.state.sizes }
         ensures sub { IfOk result (λ sub. sub.txn ≡ txn) }
         ensures lists { IfOk result (λ sub. IsSendStarted self.old.state txn sender tag body.now sub self.new.state) }
-        ensures lowest { IfOk result (λ sub. IsGoing self.new.state sub
+        ensures lowest { IfOk result (λ sub. IsUnderWay self.new.state sub
             (λ r u. TakesLowest self.old.state.sizes (slots_in self.old.state.sizes self.old.state.images) u.writes)) }
         ensures latched { OnOk result (any_under self.old.state.rows ≡ false) }
         ensures devices { LeavesDevices self.old self.new }

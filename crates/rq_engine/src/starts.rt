@@ -12,7 +12,7 @@ ghost use Rattle.rq_chain.specs.Writes.{IsNeighbour, cell_beside};
 ghost use Rattle.rq_store.specs.State.{ledger_of};
 ghost use Rattle.rq_store.specs.Plans.{Stands_at};
 ghost use Rattle.rq_engine.specs.Opened.{LeavesDevices};
-ghost use Rattle.rq_engine.specs.Answers.{IsReady};
+ghost use Rattle.rq_engine.specs.Answers.{HasNothingUnderWay};
 ghost use Rattle.rq_engine.specs.Sends.{under_plan, FitsPlan};
 
 use crate::engine::Engine;
@@ -68,7 +68,7 @@ impl<P: PageDevice, L: LogDevice> Engine<P, L> {
         plan: Plan,
         room: usize,
     ) -> Result<(), Refusal>
-        requires ready { IsReady self.old.state txn number }
+        requires ready { HasNothingUnderWay self.old.state txn number }
         requires fits { FitsPlan self.old.state.sizes plan room }
         requires log { log_full (ledger_of self.old.state) 4 ≡ false }
         ensures started { OnOk result (self.new.state ≡ record self.old.state {

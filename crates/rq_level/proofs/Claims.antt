@@ -16,7 +16,7 @@ use Rattle.rq_level.specs.Log.{Item, state_of}
 use Rattle.rq_level.specs.Log.Item.{PageOp, PageUndo, OpEnd, OpVoid, CompEnd, Commit, AbortEnd, Restart}
 use Rattle.rq_level.specs.InStore.{InStore}
 use Rattle.rq_level.specs.Items.{items, layout_of, told_deed, operation}
-use Rattle.rq_level.specs.Legal.{Legal, Placed, Undoes, open_deeds, undoing, view, view_after}
+use Rattle.rq_level.specs.Legal.{IsLegalLog, Placed, Undoes, open_deeds, undoing, view, view_after}
 use Rattle.rq_level.specs.Plans.{Turn, turn_sender, IsPlan}
 use Rattle.rq_level.specs.Plans.Turn.{Did, Undid}
 use Rattle.rq_level.specs.Stored.{count_used}
@@ -37,7 +37,7 @@ undid_counts (UnlinkHead s n tag body) = (refl, refl)
 undid_counts (Close s) = (refl, refl)
 
 -- what an operation makes of the number of messages in all chains
-turned : (z : Sizes) (log : List Record) (o : Sub) (t : Turn) → Legal (layout_of z) (items z log)
+turned : (z : Sizes) (log : List Record) (o : Sub) (t : Turn) → IsLegalLog (layout_of z) (items z log)
     → turn_sender t < sender_count z → IsPlan (layout_of z) t ((state_of (layout_of z) (items z log)).writes o)
     → sum_by (λ s. length (view_after s (Some t) (view (items z log) s)).messages) (below (sender_count z)) + lost t
     ≡ count_messages z log + gained t
@@ -50,7 +50,7 @@ turned z log o t legal lt plan =
     plan_there l q ws t (view (items z log) (turn_sender t)) plan ((good l (items z log) legal).fits o) shown in
     turn_sums (sender_count z) t (view (items z log)) lt there
 
-undone : (z : Sizes) (log : List Record) (o : Sub) (u : ℕ) (ps : List Placed) → Legal (layout_of z) (items z log)
+undone : (z : Sizes) (log : List Record) (o : Sub) (u : ℕ) (ps : List Placed) → IsLegalLog (layout_of z) (items z log)
     → AllInStore z ps → Undoes (layout_of z) ps u ((state_of (layout_of z) (items z log)).writes o)
     → sum_by (λ s. length (view_after s (undoing ps) (view (items z log) s)).messages) (below (sender_count z)) + newest_appends ps
     ≡ count_messages z log + newest_takes ps
@@ -62,7 +62,7 @@ undone z log o u (p ∷ ps) legal fine plan =
     omega (arith, a, c, d)
 
 -- what is claimed
-pub claimed_is : (z : Sizes) (log : List Record) → Legal (layout_of z) (items z log) → InStore z log
+pub claimed_is : (z : Sizes) (log : List Record) → IsLegalLog (layout_of z) (items z log) → InStore z log
     → claimed (items z log) ≡ count_messages z log + taken (all_open (items z log))
 claimed_is z [] g k = let e = sum_none (sender_count z) in omega (arith, e)
 claimed_is z (records.PageOp t n page slot before after ∷ log) g k = claimed_is z log g.1 k.1
@@ -106,7 +106,7 @@ claimed_within cells (AbortEnd t ∷ log) h = claimed_within cells log h.1
 claimed_within cells (Restart i ∷ log) h = claimed_within cells log h.1
 
 -- beside the cells that whole operations use there is one for each message that a transaction took and may put back
-pub taken_have_cells : (z : Sizes) (log : List Record) (t : Txn) → Legal (layout_of z) (items z log) → InStore z log
+pub taken_have_cells : (z : Sizes) (log : List Record) (t : Txn) → IsLegalLog (layout_of z) (items z log) → InStore z log
     → HasRoom (cell_count z) (items z log)
     → count_used z (state_of (layout_of z) (items z log)).quiet + sum_by takes_placed (open_deeds t (items z log))
     ≤ cell_count z

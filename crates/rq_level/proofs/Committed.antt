@@ -11,7 +11,7 @@ use Rattle.rq_model.specs.Content.{Said, said, added, removed, closed, tag_after
 use Rattle.rq_model.specs.Content.Said.{Added, Removed, Ended}
 use Rattle.rq_level.specs.Chain.{View}
 use Rattle.rq_level.specs.Legal.{Placed}
-use Rattle.rq_level.specs.Groups.{is_sending, is_taking, side, with_all}
+use Rattle.rq_level.specs.Groups.{on_sending_end, on_receiving_end, side, with_all}
 use Rattle.rq_level.specs.Committed.{IsViewOf, message_of}
 
 -- what deeds that stand somewhere say
@@ -41,7 +41,7 @@ view_is a b c d e f x y p q r t = cc
 abbrev sent_view : ℕ → List Said → View → View
 sent_view s ds v = record { closed = closed s ds || v.closed; received = v.received; last_tag = tag_after v.last_tag (added s ds); messages = v.messages ++ map pair (added s ds) }
 
-sends_one : (s : ℕ) (d : Deed) (x : Said) (ds : List Said) (more : List Deed) (v : View) → x ≡ said d → with_all more v ≡ sent_view s ds v → with_all (cond (is_sending s d) (d ∷ more) more) v ≡ sent_view s (x ∷ ds) v
+sends_one : (s : ℕ) (d : Deed) (x : Said) (ds : List Said) (more : List Deed) (v : View) → x ≡ said d → with_all more v ≡ sent_view s ds v → with_all (cond (on_sending_end s d) (d ∷ more) more) v ≡ sent_view s (x ∷ ds) v
 sends_one s (Append r n tag previous body) x ds more v e h = rw e (elim (cases_Bool (nat_eq r s)) [
   | inl y ↦ rw y (ap (λ (w : View). record { closed = w.closed; received = w.received; last_tag = tag; messages = w.messages ++ (tag, body) ∷ [] }) h
       ∙ view_is _ _ _ _ _ _ _ _ refl refl (sym (tag_more v.last_tag (added s ds) (record { sender = r; tag = tag; body = body })))
@@ -54,15 +54,15 @@ sends_one s (Close r) x ds more v e h = rw e (elim (cases_Bool (nat_eq r s)) [
   | inr y ↦ rw y h
 ])
 
-pub sends_form : (s : ℕ) (ps : List Placed) (v : View) → with_all (side (is_sending s) ps) v ≡ sent_view s (say ps) v
+pub sends_form : (s : ℕ) (ps : List Placed) (v : View) → with_all (side (on_sending_end s) ps) v ≡ sent_view s (say ps) v
 sends_form s [] v = view_is _ _ _ _ _ _ _ _ refl refl refl (sym (append-nil v.messages))
-sends_form s (p ∷ ps) v = sends_one s p.deed (said p.deed) (say ps) (side (is_sending s) ps) v refl (sends_form s ps v)
+sends_form s (p ∷ ps) v = sends_one s p.deed (said p.deed) (say ps) (side (on_sending_end s) ps) v refl (sends_form s ps v)
 
 -- the receiving side, all at once
 abbrev taken_view : ℕ → List Said → View → View
 taken_view s ds v = record { closed = v.closed; received = v.received + removed s ds; last_tag = v.last_tag; messages = drop (removed s ds) v.messages }
 
-takes_one : (s : ℕ) (d : Deed) (x : Said) (ds : List Said) (more : List Deed) (v : View) → x ≡ said d → with_all more v ≡ taken_view s ds v → with_all (cond (is_taking s d) (d ∷ more) more) v ≡ taken_view s (x ∷ ds) v
+takes_one : (s : ℕ) (d : Deed) (x : Said) (ds : List Said) (more : List Deed) (v : View) → x ≡ said d → with_all more v ≡ taken_view s ds v → with_all (cond (on_receiving_end s d) (d ∷ more) more) v ≡ taken_view s (x ∷ ds) v
 takes_one s (Append r n tag previous body) x ds more v e h = rw e (h ∙ view_is _ _ _ _ _ _ _ _ refl (omega arith) refl (ap (λ k. drop k v.messages) (let w : removed s ds ≡ removed s ds + 0 = omega arith in w)))
 takes_one s (UnlinkHead r n tag body) x ds more v e h = rw e (elim (cases_Bool (nat_eq r s)) [
   | inl y ↦ rw y (ap (λ (w : View). record { closed = w.closed; received = w.received + 1; last_tag = w.last_tag; messages = drop 1 w.messages }) h
@@ -71,9 +71,9 @@ takes_one s (UnlinkHead r n tag body) x ds more v e h = rw e (elim (cases_Bool (
 ])
 takes_one s (Close r) x ds more v e h = rw e (h ∙ view_is _ _ _ _ _ _ _ _ refl (omega arith) refl (ap (λ k. drop k v.messages) (let w : removed s ds ≡ removed s ds + 0 = omega arith in w)))
 
-pub takes_form : (s : ℕ) (ps : List Placed) (v : View) → with_all (side (is_taking s) ps) v ≡ taken_view s (say ps) v
+pub takes_form : (s : ℕ) (ps : List Placed) (v : View) → with_all (side (on_receiving_end s) ps) v ≡ taken_view s (say ps) v
 takes_form s [] v = view_is _ _ _ _ _ _ _ _ refl (omega arith) refl refl
-takes_form s (p ∷ ps) v = takes_one s p.deed (said p.deed) (say ps) (side (is_taking s) ps) v refl (takes_form s ps v)
+takes_form s (p ∷ ps) v = takes_one s p.deed (said p.deed) (say ps) (side (on_receiving_end s) ps) v refl (takes_form s ps v)
 
 -- all that is added for s is of s
 abbrev Ours : ℕ → List Message → Type 0
@@ -117,10 +117,10 @@ or_turn false false = refl
 
 -- a commit of these deeds keeps the view that of the group, where no more was taken than there was
 pub committed_own : (s : ℕ) (ps : List Placed) (g : Group) (v : View) → IsViewOf s g v → removed s (say ps) ≤ length v.messages
-    → IsViewOf s (with_own s (say ps) g) (with_all (side (is_sending s) ps) (with_all (side (is_taking s) ps) v))
+    → IsViewOf s (with_own s (say ps) g) (with_all (side (on_sending_end s) ps) (with_all (side (on_receiving_end s) ps) v))
 committed_own s ps g v h le =
     let ds = say ps in
-    let form : with_all (side (is_sending s) ps) (with_all (side (is_taking s) ps) v) ≡ sent_view s ds (taken_view s ds v) = sends_form s ps (with_all (side (is_taking s) ps) v) ∙ ap (sent_view s ds) (takes_form s ps v) in
+    let form : with_all (side (on_sending_end s) ps) (with_all (side (on_receiving_end s) ps) v) ≡ sent_view s ds (taken_view s ds v) = sends_form s ps (with_all (side (on_receiving_end s) ps) v) ∙ ap (sent_view s ds) (takes_form s ps v) in
     subst (IsViewOf s (with_own s ds g)) (sym form) (record {
       closed = ap (λ b. closed s ds || b) h.closed ∙ or_turn (closed s ds) g.closed;
       received = ap (λ n. n + removed s ds) h.received;

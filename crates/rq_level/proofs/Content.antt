@@ -17,7 +17,7 @@ use Rattle.rq_model.proofs.Within.{within_log}
 use Rattle.rq_page.specs.Sizes.{Sizes}
 use Rattle.rq_level.specs.Legal.{Placed, open_deeds}
 use Rattle.rq_level.specs.Groups.{committed}
-use Rattle.rq_level.specs.Items.{items, told_deed, has_undone, Reads}
+use Rattle.rq_level.specs.Items.{items, told_deed, has_undone, ReadsItsDeeds}
 use Rattle.rq_level.specs.Committed.{IsViewOf, message_of}
 use Rattle.rq_level.proofs.Committed.{say, committed_own}
 
@@ -28,7 +28,7 @@ told_end t u n level bytes d ps ds l e h =
     let one : nat_eq level 1 ≡ true = eq-eqb level 1 l in
     rw (one, e) (elim (cases_Bool (same_txn u t)) [ inl y ↦ rw y (ap (λ x. said d ∷ x) h) | inr k ↦ rw k h ])
 
-pub own_deeds : (z : Sizes) (t : Txn) (log : List Record) → Reads log → has_end log t ≡ false → has_undone log t ≡ false → say (open_deeds t (items z log)) ≡ deeds (only t) log
+pub own_deeds : (z : Sizes) (t : Txn) (log : List Record) → ReadsItsDeeds log → has_end log t ≡ false → has_undone log t ≡ false → say (open_deeds t (items z log)) ≡ deeds (only t) log
 own_deeds z t [] g e n = refl
 own_deeds z t (PageOp u k page slot before after ∷ log) g e n = own_deeds z t log g.1 e n
 own_deeds z t (PageUndo u k undone page slot after ∷ log) g e n = own_deeds z t log g.1 e n
@@ -63,7 +63,7 @@ same_content : (z : Sizes) (s : ℕ) (r : Record) (log : List Record) → conten
 same_content z s r log e h = subst (λ g. IsViewOf s g (committed (items z log) s)) (sym e) h
 
 -- the chains of committed transactions hold the content of the log
-pub committed_is_content : (z : Sizes) (s : ℕ) (log : List Record) → KeepsRules log → Reads log → Shown z s log
+pub committed_is_content : (z : Sizes) (s : ℕ) (log : List Record) → KeepsRules log → ReadsItsDeeds log → Shown z s log
 committed_is_content z s [] g d = record { closed = refl; received = refl; sent = refl; last_tag = refl; rest = refl }
 committed_is_content z s (PageOp u k page slot before after ∷ log) g d = same_content z s (PageOp u k page slot before after) log (no_commit s (PageOp u k page slot before after) log g (λ x. refl)) (committed_is_content z s log g.2 d.1)
 committed_is_content z s (PageUndo u k undone page slot after ∷ log) g d = same_content z s (PageUndo u k undone page slot after) log (no_commit s (PageUndo u k undone page slot after) log g (λ x. refl)) (committed_is_content z s log g.2 d.1)

@@ -20,13 +20,13 @@ use Rattle.rq_page.specs.Slots.{Slot}
 use Rattle.rq_page.specs.Slots.Slot.{Free, Used, Sender}
 use Rattle.rq_page.proofs.Addresses.{places_are_cells, cells_rise}
 use Rattle.rq_level.specs.Chain.{Node, first, last, message, View, all_but_last}
-use Rattle.rq_level.specs.Log.{Slots, Write, put, applied, Fits, Layout, state_of}
+use Rattle.rq_level.specs.Log.{Slots, Write, put, applied, HasBefores, Layout, state_of}
 use Rattle.rq_level.specs.Plans.{ShowsAt, relinked, with_next, with_prev, directory_write, directory_head_unlinked, directory_tail_unlinked, Turn, IsPlan, deed_sender, turn_sender, with_turn}
 use Rattle.rq_level.specs.Plans.Turn.{Did, Undid}
-use Rattle.rq_level.specs.Legal.{Placed, rest_placed, open_deeds, undoing, view_after, view, Undoes, Legal}
+use Rattle.rq_level.specs.Legal.{Placed, rest_placed, open_deeds, undoing, view_after, view, Undoes, IsLegalLog}
 use Rattle.rq_level.specs.Items.{items, operation, told_deed, formatted_at, layout_of}
 use Rattle.rq_level.specs.Stored.{is_used, count_used}
-use Rattle.rq_level.specs.InStore.{InStore, Stands, AllStand, WritesStand}
+use Rattle.rq_level.specs.InStore.{InStore, IsInPlace, AllStand, WritesStand}
 use Rattle.rq_level.proofs.Chains.{no_eq}
 use Rattle.rq_level.proofs.Overlay.{put_at, put_off}
 use Rattle.rq_level.proofs.Laws.{used_sender, free_sender, through, shows_here}
@@ -70,7 +70,7 @@ count_even z q at x e =
     ]) in
     count_is z (put q at x) ∙ sum_same (λ i. used_one (put q at x (cell_at z i))) (λ i. used_one (q (cell_at z i))) (cell_count z) (λ i lt. same (cell_at z i)) ∙ sym (count_is z q)
 
-count_by : (z : Sizes) (q : Slots) (at : ℕ) (x y : Slot) → q at ≡ y → Stands z at y → Stands z at x → count_used z (put q at x) + used_one (q at) ≡ count_used z q + used_one x
+count_by : (z : Sizes) (q : Slots) (at : ℕ) (x y : Slot) → q at ≡ y → IsInPlace z at y → IsInPlace z at x → count_used z (put q at x) + used_one (q at) ≡ count_used z q + used_one x
 count_by z q at (Used c) y e h k = count_cell z q at (Used c) k
 count_by z q at Free (Used c) e h k = count_cell z q at Free h
 count_by z q at (Sender s d) (Used c) e h k = count_cell z q at (Sender s d) h
@@ -80,7 +80,7 @@ count_by z q at (Sender s d) Free e h k = let n : used_one (q at) ≡ 0 = ap use
 count_by z q at (Sender s d) (Sender r b) e h k = let n : used_one (q at) ≡ 0 = ap used_one e in let c = count_even z q at (Sender s d) (sym n) in omega arith
 
 -- a write counts what it uses and no longer what it was over
-pub count_put : (z : Sizes) (q : Slots) (at : ℕ) (x : Slot) → Stands z at (q at) → Stands z at x → count_used z (put q at x) + used_one (q at) ≡ count_used z q + used_one x
+pub count_put : (z : Sizes) (q : Slots) (at : ℕ) (x : Slot) → IsInPlace z at (q at) → IsInPlace z at x → count_used z (put q at x) + used_one (q at) ≡ count_used z q + used_one x
 count_put z q at x h k = count_by z q at x (q at) refl h k
 
 abbrev pub used_before : List Write → ℕ
@@ -92,7 +92,7 @@ used_after [] = 0
 used_after (w ∷ ws) = used_one w.after + used_after ws
 
 -- and so do writes that fit
-pub count_writes : (z : Sizes) (ws : List Write) (q : Slots) → AllStand z q → WritesStand z ws → Fits ws q → count_used z (applied ws q) + used_before ws ≡ count_used z q + used_after ws
+pub count_writes : (z : Sizes) (ws : List Write) (q : Slots) → AllStand z q → WritesStand z ws → HasBefores ws q → count_used z (applied ws q) + used_before ws ≡ count_used z q + used_after ws
 count_writes z [] q h k f = refl
 count_writes z (w ∷ ws) q h k f =
     let r = applied ws q in
@@ -151,7 +151,7 @@ plan_counts l (Undid (UnlinkHead s n tag body)) ws p =
 plan_counts l (Undid (Close s)) ws p = subst (Balanced (Undid (Close s))) (sym p.writes) refl
 
 -- the directory slot that an unlink's last write is over stood before the operation
-directory_there : (l : Layout) (q : Slots) (s : ℕ) (d e : Directory) (at : ℕ) (o : Option Cell) (f : Cell → Cell) (b : ℕ) (c : Cell) → Fits (directory_write l s d e ∷ relinked at o f (record { at = b; before = Used c; after = Free } ∷ [])) q → Sender s d ≡ q (l.directory_at s)
+directory_there : (l : Layout) (q : Slots) (s : ℕ) (d e : Directory) (at : ℕ) (o : Option Cell) (f : Cell → Cell) (b : ℕ) (c : Cell) → HasBefores (directory_write l s d e ∷ relinked at o f (record { at = b; before = Used c; after = Free } ∷ [])) q → Sender s d ≡ q (l.directory_at s)
 directory_there l q s d e at None f b c h = (through q b Free (Sender s d) (l.directory_at s) (free_sender s d) h.0).1
 directory_there l q s d e at (Some x) f b c h =
     let t = through (put q b Free) at (Used (f x)) (Sender s d) (l.directory_at s) (used_sender (f x) s d) h.0 in
@@ -166,17 +166,17 @@ last_there [] h = h
 last_there (n ∷ ns) h = omega arith
 
 -- an unlink finds a message in its chain
-pub plan_there : (l : Layout) (q : Slots) (ws : List Write) (t : Turn) (v : View) → IsPlan l t ws → Fits ws q → ShowsAt l q (turn_sender t) v → lost t ≤ length v.messages
+pub plan_there : (l : Layout) (q : Slots) (ws : List Write) (t : Turn) (v : View) → IsPlan l t ws → HasBefores ws q → ShowsAt l q (turn_sender t) v → lost t ≤ length v.messages
 plan_there l q ws (Did (Append s n tag previous body)) v p f h = omega arith
 plan_there l q ws (Did (UnlinkHead s n tag body)) v p f h =
     let d = p.directory in
-    let k = shows_here l q s v d (directory_there l q s d (directory_head_unlinked d p.cell) p.cell.next p.next (with_prev 0) d.head p.cell (subst (λ x. Fits x q) p.writes f)) h in
+    let k = shows_here l q s v d (directory_there l q s d (directory_head_unlinked d p.cell) p.cell.next p.next (with_prev 0) d.head p.cell (subst (λ x. HasBefores x q) p.writes f)) h in
     let used : 0 < first k.nodes 0 = subst (λ x. 0 < x) k.head p.used in
     subst (λ (x : List (ℕ × List ℕ)). 0 < length x) (sym k.messages) (first_there k.nodes used)
 plan_there l q ws (Did (Close s)) v p f h = omega arith
 plan_there l q ws (Undid (Append s n tag previous body)) v p f h =
     let d = p.directory in
-    let k = shows_here l q s v d (directory_there l q s d (directory_tail_unlinked d p.cell previous) p.cell.prev p.front (with_next 0) d.tail p.cell (subst (λ x. Fits x q) p.writes f)) h in
+    let k = shows_here l q s v d (directory_there l q s d (directory_tail_unlinked d p.cell previous) p.cell.prev p.front (with_next 0) d.tail p.cell (subst (λ x. HasBefores x q) p.writes f)) h in
     let used : 0 < last 0 k.nodes = subst (λ x. 0 < x) k.tail p.used in
     subst (λ (x : List (ℕ × List ℕ)). 0 < length x) (sym k.messages) (last_there k.nodes used)
 plan_there l q ws (Undid (UnlinkHead s n tag body)) v p f h = omega arith
@@ -247,14 +247,14 @@ abbrev quiet_of : Sizes → List Record → Slots
 quiet_of z log = (state_of (layout_of z) (items z log)).quiet
 
 -- a whole operation's writes
-turn_counts : (z : Sizes) (log : List Record) (o : Sub) (t : Turn) → Legal (layout_of z) (items z log) → InStore z log → turn_sender t < sender_count z → IsPlan (layout_of z) t ((state_of (layout_of z) (items z log)).writes o)
+turn_counts : (z : Sizes) (log : List Record) (o : Sub) (t : Turn) → IsLegalLog (layout_of z) (items z log) → InStore z log → turn_sender t < sender_count z → IsPlan (layout_of z) t ((state_of (layout_of z) (items z log)).writes o)
     → count_used z (quiet_of z log) ≡ count_messages z log
     → count_used z (applied ((state_of (layout_of z) (items z log)).writes o) (quiet_of z log)) ≡ sum_by (λ s. length (view_after s (Some t) (view (items z log) s)).messages) (below (sender_count z))
 turn_counts z log o t legal store lt plan ih =
     let l = layout_of z in
     let q = quiet_of z log in
     let ws = (state_of l (items z log)).writes o in
-    let f : Fits ws q = (good l (items z log) legal).fits o in
+    let f : HasBefores ws q = (good l (items z log) legal).fits o in
     let shown = quiet_views l (items z log) (turn_sender t) (store_is_layout z) legal lt in
     let a : count_used z (applied ws q) + used_before ws ≡ count_used z q + used_after ws = count_writes z ws q (quiet_stand z log store) (writes_stand z log o store) f in
     let b : used_after ws + lost t ≡ used_before ws + gained t = plan_counts l t ws plan in
@@ -262,7 +262,7 @@ turn_counts z log o t legal store lt plan ih =
     let c = turn_sums (sender_count z) t (view (items z log)) lt there in
     omega arith
 
-undone_counts : (z : Sizes) (log : List Record) (o : Sub) (u : ℕ) (ps : List Placed) → Legal (layout_of z) (items z log) → InStore z log → AllInStore z ps → Undoes (layout_of z) ps u ((state_of (layout_of z) (items z log)).writes o)
+undone_counts : (z : Sizes) (log : List Record) (o : Sub) (u : ℕ) (ps : List Placed) → IsLegalLog (layout_of z) (items z log) → InStore z log → AllInStore z ps → Undoes (layout_of z) ps u ((state_of (layout_of z) (items z log)).writes o)
     → count_used z (quiet_of z log) ≡ count_messages z log
     → count_used z (applied ((state_of (layout_of z) (items z log)).writes o) (quiet_of z log)) ≡ sum_by (λ s. length (view_after s (undoing ps) (view (items z log) s)).messages) (below (sender_count z))
 undone_counts z log o u [] legal store fine plan ih = absurd plan
@@ -274,7 +274,7 @@ formatted_counts z =
     count_is z (formatted_at z) ∙ sum_same (λ i. used_one (formatted_at z (cell_at z i))) (λ i. 0) (cell_count z) (λ i lt. none (cell_at z i)) ∙ sum_none (cell_count z)
 
 -- the cells that whole operations use are the messages of all chains
-pub quiet_counts : (z : Sizes) (log : List Record) → Legal (layout_of z) (items z log) → InStore z log
+pub quiet_counts : (z : Sizes) (log : List Record) → IsLegalLog (layout_of z) (items z log) → InStore z log
     → count_used z (state_of (layout_of z) (items z log)).quiet ≡ sum_by (λ s. length (view (items z log) s).messages) (below (sender_count z))
 quiet_counts z [] h k = formatted_counts z ∙ sym (sum_none (sender_count z))
 quiet_counts z (records.PageOp t n page slot before after ∷ log) h k = quiet_counts z log h.1 k.1

@@ -8,7 +8,7 @@ use Rattle.rq_model.specs.declared.record.Deed.TheVariants.{Append, UnlinkHead, 
 use Rattle.rq_level.specs.Plans.{with_turn, view_head_unlinked}
 use Rattle.rq_level.specs.Plans.Turn.{Did, Undid}
 use Rattle.rq_level.specs.Legal.{Placed}
-use Rattle.rq_level.specs.Groups.{is_sending, is_taking, side, with_all, Told}
+use Rattle.rq_level.specs.Groups.{on_sending_end, on_receiving_end, side, with_all, TellsView}
 use Rattle.rq_level.proofs.Chains.{all_but_last_append}
 
 abbrev pub Sends : List Deed → Type 0
@@ -23,23 +23,23 @@ Takes (Append s n tag previous body ∷ ds) = ⊥
 Takes (UnlinkHead s n tag body ∷ ds) = Takes ds
 Takes (Close s ∷ ds) = ⊥
 
-sends_more : (s : ℕ) (d : Deed) (ds : List Deed) → is_sending s d ≡ true → Sends ds → Sends (d ∷ ds)
+sends_more : (s : ℕ) (d : Deed) (ds : List Deed) → on_sending_end s d ≡ true → Sends ds → Sends (d ∷ ds)
 sends_more s (Append r n tag previous body) ds e h = h
 sends_more s (UnlinkHead r n tag body) ds e h = absurd (false≢true e)
 sends_more s (Close r) ds e h = h
 
-takes_more : (s : ℕ) (d : Deed) (ds : List Deed) → is_taking s d ≡ true → Takes ds → Takes (d ∷ ds)
+takes_more : (s : ℕ) (d : Deed) (ds : List Deed) → on_receiving_end s d ≡ true → Takes ds → Takes (d ∷ ds)
 takes_more s (Append r n tag previous body) ds e h = absurd (false≢true e)
 takes_more s (UnlinkHead r n tag body) ds e h = h
 takes_more s (Close r) ds e h = absurd (false≢true e)
 
-pub side_sends : (s : ℕ) (ps : List Placed) → Sends (side (is_sending s) ps)
+pub side_sends : (s : ℕ) (ps : List Placed) → Sends (side (on_sending_end s) ps)
 side_sends s [] = tt
-side_sends s (p ∷ ps) = elim (cases_Bool (is_sending s p.deed)) [ inl y ↦ rw y (sends_more s p.deed (side (is_sending s) ps) y (side_sends s ps)) | inr n ↦ rw n (side_sends s ps) ]
+side_sends s (p ∷ ps) = elim (cases_Bool (on_sending_end s p.deed)) [ inl y ↦ rw y (sends_more s p.deed (side (on_sending_end s) ps) y (side_sends s ps)) | inr n ↦ rw n (side_sends s ps) ]
 
-pub side_takes : (s : ℕ) (ps : List Placed) → Takes (side (is_taking s) ps)
+pub side_takes : (s : ℕ) (ps : List Placed) → Takes (side (on_receiving_end s) ps)
 side_takes s [] = tt
-side_takes s (p ∷ ps) = elim (cases_Bool (is_taking s p.deed)) [ inl y ↦ rw y (takes_more s p.deed (side (is_taking s) ps) y (side_takes s ps)) | inr n ↦ rw n (side_takes s ps) ]
+side_takes s (p ∷ ps) = elim (cases_Bool (on_receiving_end s p.deed)) [ inl y ↦ rw y (takes_more s p.deed (side (on_receiving_end s) ps) y (side_takes s ps)) | inr n ↦ rw n (side_takes s ps) ]
 
 pub put_back_commutes : (ds : List Deed) (v : View) (tag : ℕ) (body : List ℕ) → Sends ds → view_put_back (with_all ds v) tag body ≡ with_all ds (view_put_back v tag body)
 put_back_commutes [] v tag body h = refl
@@ -103,7 +103,7 @@ same_total (Close s ∷ ds) v w h e = same_total ds v w h e
 -- each deed tells what it was done over
 abbrev pub Sound : List Deed → View → Type 0
 Sound [] v = Unit {0}
-Sound (d ∷ ds) v = Told d (with_all ds v) × Sound ds v
+Sound (d ∷ ds) v = TellsView d (with_all ds v) × Sound ds v
 
 pub takes_total : (rs : List Deed) (v : View) → Takes rs → Sound rs v → total (with_all rs v) ≡ total v
 takes_total [] v h k = refl
@@ -147,7 +147,7 @@ view_is v r t ms e f g =
     ∙ ap (λ (x : List (ℕ × List ℕ)). let y : View = record { closed = v.closed; received = v.received; last_tag = v.last_tag; messages = x } in y) g
 
 -- what is taken back as it was done leaves what was there
-pub taken_back : (d : Deed) (v : View) → Told d v → with_turn (Undid d) (with_turn (Did d) v) ≡ v
+pub taken_back : (d : Deed) (v : View) → TellsView d v → with_turn (Undid d) (with_turn (Did d) v) ≡ v
 taken_back (Append s n t p b) v h = view_is v v.received p _ refl h.0 (all_but_last_append v.messages (t, b))
 taken_back (UnlinkHead s n t b) v h = view_is v _ v.last_tag _ (omega arith) refl (ap (λ xs. (t, b) ∷ drop 1 xs) h.1 ∙ sym h.1)
 taken_back (Close s) v h = ap (λ x. let y : View = record v { closed = x } in y) (sym h)

@@ -11,7 +11,7 @@ use Rattle.rq_level.specs.Log.Item.{PageOp, PageUndo, OpEnd, OpVoid, CompEnd, Co
 use Rattle.rq_level.specs.Plans.{with_turn}
 use Rattle.rq_level.specs.Plans.Turn.{Did, Undid}
 use Rattle.rq_level.specs.Legal.{Placed, open_deeds, view, view_after, no_view, undoing}
-use Rattle.rq_level.specs.Groups.{is_sending, is_taking, side, with_all, committed, MayTurn, KeepsGroups}
+use Rattle.rq_level.specs.Groups.{on_sending_end, on_receiving_end, side, with_all, committed, MayTurn, KeepsGroups}
 use Rattle.rq_level.proofs.Holders.{Held, pushed, popped, held_other, held_sent, held_taken, pop_other, pop_sent, pop_taken, held_committed}
 use Rattle.rq_level.specs.Row.{row}
 
@@ -92,7 +92,7 @@ held s (Restart i ∷ log) k = held s log k.1
 -- where no transaction is open, the view is what committed transactions leave
 pub settled_view : (s : ℕ) (log : List Item) → KeepsGroups log → ((t : Txn) → open_deeds t log ≡ []) → view log s ≡ committed log s
 settled_view s log k e = let h = held s log k in
-    h.shown ∙ ap (λ ps. with_all (side (is_sending s) ps) (with_all (side (is_taking s) (open_deeds h.taker log)) (committed log s))) (e h.sender) ∙ ap (λ ps. with_all (side (is_taking s) ps) (committed log s)) (e h.taker)
+    h.shown ∙ ap (λ ps. with_all (side (on_sending_end s) ps) (with_all (side (on_receiving_end s) (open_deeds h.taker log)) (committed log s))) (e h.sender) ∙ ap (λ ps. with_all (side (on_receiving_end s) ps) (committed log s)) (e h.taker)
 
 -- the row keeps the rule of groups
 pub row_groups : KeepsGroups row

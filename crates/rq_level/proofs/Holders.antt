@@ -9,7 +9,7 @@ use Rattle.rq_model.specs.declared.record.Deed.TheVariants.{Append, UnlinkHead, 
 use Rattle.rq_level.specs.Plans.{with_turn, view_head_unlinked}
 use Rattle.rq_level.specs.Plans.Turn.{Did, Undid}
 use Rattle.rq_level.specs.Legal.{Placed, rest_placed}
-use Rattle.rq_level.specs.Groups.{is_sending, is_taking, side, with_all, Told}
+use Rattle.rq_level.specs.Groups.{on_sending_end, on_receiving_end, side, with_all, TellsView}
 use Rattle.rq_level.proofs.Deeds.{side_sends, side_takes, put_back_commutes, head_commutes, same_marks, takes_marks, Sound, sends_sound, takes_sound, takes_commute, taken_back, told_front, total, same_total, takes_total, sends_received}
 
 pub txn_is : (a b : Txn) → same_txn a b ≡ true → a ≡ b
@@ -41,12 +41,12 @@ same_side f os t u a b = elim (cases_Bool (same_txn t u)) [
 -- the lists, the view and what is committed agree
 pub record Held (s : ℕ) (os : Txn → List Placed) (v c : View) : Type 0 where
   pub sender : Txn
-  pub sender_alone : None_but (is_sending s) sender os
+  pub sender_alone : None_but (on_sending_end s) sender os
   pub taker : Txn
-  pub taker_alone : None_but (is_taking s) taker os
-  pub shown : v ≡ with_all (side (is_sending s) (os sender)) (with_all (side (is_taking s) (os taker)) c)
-  pub sends : (t : Txn) → Sound (side (is_sending s) (os t)) c
-  pub takes : (t : Txn) → Sound (side (is_taking s) (os t)) c
+  pub taker_alone : None_but (on_receiving_end s) taker os
+  pub shown : v ≡ with_all (side (on_sending_end s) (os sender)) (with_all (side (on_receiving_end s) (os taker)) c)
+  pub sends : (t : Txn) → Sound (side (on_sending_end s) (os t)) c
+  pub takes : (t : Txn) → Sound (side (on_receiving_end s) (os t)) c
 
 abbrev pub pushed : Txn → Placed → (Txn → List Placed) → Txn → List Placed
 pushed t p os u = cond (same_txn t u) (p ∷ os u) (os u)
@@ -63,68 +63,68 @@ push_own f t p os y = rw (txn_self t, y) refl
 push_other : (f : Deed → Bool) (t : Txn) (p : Placed) (os : Txn → List Placed) (u : Txn) → u ≢ t → side f (pushed t p os u) ≡ side f (os u)
 push_other f t p os u n = rw (not_txn t u n) refl
 
-pub told_marks : (s : ℕ) (d : Deed) (v w : View) → is_sending s d ≡ true → v.last_tag ≡ w.last_tag → v.closed ≡ w.closed → total v ≡ total w → Told d v → Told d w
+pub told_marks : (s : ℕ) (d : Deed) (v w : View) → on_sending_end s d ≡ true → v.last_tag ≡ w.last_tag → v.closed ≡ w.closed → total v ≡ total w → TellsView d v → TellsView d w
 told_marks s (Append r n tag p b) v w y e f g h = (h.0 ∙ e, h.1 ∙ ap (λ x. x + 1) g, sym f ∙ h.2)
 told_marks s (UnlinkHead r n tag b) v w y e f g h = absurd (false≢true y)
 told_marks s (Close r) v w y e f g h = sym f ∙ h
 
 -- a deed of neither end of s
-pub held_other : (s : ℕ) (os : Txn → List Placed) (v c : View) (t : Txn) (p : Placed) → is_sending s p.deed ≡ false → is_taking s p.deed ≡ false → Held s os v c → Held s (pushed t p os) v c
+pub held_other : (s : ℕ) (os : Txn → List Placed) (v c : View) (t : Txn) (p : Placed) → on_sending_end s p.deed ≡ false → on_receiving_end s p.deed ≡ false → Held s os v c → Held s (pushed t p os) v c
 held_other s os v c t p ns nt h = record {
   sender = h.sender;
-  sender_alone = λ u n. push_off (is_sending s) t p os u ns ∙ h.sender_alone u n;
+  sender_alone = λ u n. push_off (on_sending_end s) t p os u ns ∙ h.sender_alone u n;
   taker = h.taker;
-  taker_alone = λ u n. push_off (is_taking s) t p os u nt ∙ h.taker_alone u n;
-  shown = h.shown ∙ ap (λ ds. with_all ds (with_all (side (is_taking s) (os h.taker)) c)) (sym (push_off (is_sending s) t p os h.sender ns)) ∙ ap (λ rs. with_all (side (is_sending s) (pushed t p os h.sender)) (with_all rs c)) (sym (push_off (is_taking s) t p os h.taker nt));
-  sends = λ u. subst (λ ds. Sound ds c) (sym (push_off (is_sending s) t p os u ns)) (h.sends u);
-  takes = λ u. subst (λ ds. Sound ds c) (sym (push_off (is_taking s) t p os u nt)) (h.takes u);
+  taker_alone = λ u n. push_off (on_receiving_end s) t p os u nt ∙ h.taker_alone u n;
+  shown = h.shown ∙ ap (λ ds. with_all ds (with_all (side (on_receiving_end s) (os h.taker)) c)) (sym (push_off (on_sending_end s) t p os h.sender ns)) ∙ ap (λ rs. with_all (side (on_sending_end s) (pushed t p os h.sender)) (with_all rs c)) (sym (push_off (on_receiving_end s) t p os h.taker nt));
+  sends = λ u. subst (λ ds. Sound ds c) (sym (push_off (on_sending_end s) t p os u ns)) (h.sends u);
+  takes = λ u. subst (λ ds. Sound ds c) (sym (push_off (on_receiving_end s) t p os u nt)) (h.takes u);
 }
 
 -- a deed of the sending end
-pub held_sent : (s : ℕ) (os : Txn → List Placed) (v c : View) (t : Txn) (p : Placed) → is_sending s p.deed ≡ true → is_taking s p.deed ≡ false → None_but (is_sending s) t os → Told p.deed v → Held s os v c → Held s (pushed t p os) (with_turn (Did p.deed) v) c
+pub held_sent : (s : ℕ) (os : Txn → List Placed) (v c : View) (t : Txn) (p : Placed) → on_sending_end s p.deed ≡ true → on_receiving_end s p.deed ≡ false → None_but (on_sending_end s) t os → TellsView p.deed v → Held s os v c → Held s (pushed t p os) (with_turn (Did p.deed) v) c
 held_sent s os v c t p ys nt alone told h =
-    let rs = side (is_taking s) (os h.taker) in
-    let ds = side (is_sending s) (os t) in
-    let is : v ≡ with_all ds (with_all rs c) = h.shown ∙ ap (λ ds. with_all ds (with_all rs c)) (same_side (is_sending s) os h.sender t h.sender_alone alone) in
+    let rs = side (on_receiving_end s) (os h.taker) in
+    let ds = side (on_sending_end s) (os t) in
+    let is : v ≡ with_all ds (with_all rs c) = h.shown ∙ ap (λ ds. with_all ds (with_all rs c)) (same_side (on_sending_end s) os h.sender t h.sender_alone alone) in
     let tm = takes_marks rs c (side_takes s (os h.taker)) in
     let m = same_marks ds (with_all rs c) c tm.0 tm.1 in
     record {
       sender = t;
-      sender_alone = λ u n. push_other (is_sending s) t p os u n ∙ alone u n;
+      sender_alone = λ u n. push_other (on_sending_end s) t p os u n ∙ alone u n;
       taker = h.taker;
-      taker_alone = λ u n. push_off (is_taking s) t p os u nt ∙ h.taker_alone u n;
+      taker_alone = λ u n. push_off (on_receiving_end s) t p os u nt ∙ h.taker_alone u n;
       shown = ap (λ x. with_turn (Did p.deed) x) is
-          ∙ ap (λ ds. with_all ds (with_all rs c)) (sym (push_own (is_sending s) t p os ys))
-          ∙ ap (λ rs. with_all (side (is_sending s) (pushed t p os t)) (with_all rs c)) (sym (push_off (is_taking s) t p os h.taker nt));
+          ∙ ap (λ ds. with_all ds (with_all rs c)) (sym (push_own (on_sending_end s) t p os ys))
+          ∙ ap (λ rs. with_all (side (on_sending_end s) (pushed t p os t)) (with_all rs c)) (sym (push_off (on_receiving_end s) t p os h.taker nt));
       sends = λ u. elim (cases_Bool (same_txn t u)) [
-        | inl y ↦ rw (y, ys) (subst (λ x. Sound (p.deed ∷ side (is_sending s) (os x)) c) (txn_is t u y) (told_marks s p.deed v (with_all ds c) ys (ap (λ (x : View). x.last_tag) is ∙ m.0) (ap (λ (x : View). x.closed) is ∙ m.1) (ap total is ∙ same_total ds (with_all rs c) c (side_sends s (os t)) (takes_total rs c (side_takes s (os h.taker)) (h.takes h.taker))) told, h.sends t))
+        | inl y ↦ rw (y, ys) (subst (λ x. Sound (p.deed ∷ side (on_sending_end s) (os x)) c) (txn_is t u y) (told_marks s p.deed v (with_all ds c) ys (ap (λ (x : View). x.last_tag) is ∙ m.0) (ap (λ (x : View). x.closed) is ∙ m.1) (ap total is ∙ same_total ds (with_all rs c) c (side_sends s (os t)) (takes_total rs c (side_takes s (os h.taker)) (h.takes h.taker))) told, h.sends t))
         | inr n ↦ rw n (h.sends u)
       ];
-      takes = λ u. subst (λ ds. Sound ds c) (sym (push_off (is_taking s) t p os u nt)) (h.takes u);
+      takes = λ u. subst (λ ds. Sound ds c) (sym (push_off (on_receiving_end s) t p os u nt)) (h.takes u);
     }
 
 -- a take
-pub held_taken : (s : ℕ) (os : Txn → List Placed) (v c : View) (t : Txn) (lsn r n tag : ℕ) (body : List ℕ) → is_taking s (UnlinkHead r n tag body) ≡ true → None_but (is_taking s) t os → Told (UnlinkHead r n tag body) v → 0 < length (with_all (side (is_taking s) (os t)) c).messages
+pub held_taken : (s : ℕ) (os : Txn → List Placed) (v c : View) (t : Txn) (lsn r n tag : ℕ) (body : List ℕ) → on_receiving_end s (UnlinkHead r n tag body) ≡ true → None_but (on_receiving_end s) t os → TellsView (UnlinkHead r n tag body) v → 0 < length (with_all (side (on_receiving_end s) (os t)) c).messages
     → Held s os v c → Held s (pushed t (record { lsn = lsn; deed = UnlinkHead r n tag body }) os) (view_head_unlinked v) c
 held_taken s os v c t lsn r n tag body yt alone told more h =
     let p : Placed = record { lsn = lsn; deed = UnlinkHead r n tag body } in
-    let rs = side (is_taking s) (os t) in
-    let ds = side (is_sending s) (os h.sender) in
+    let rs = side (on_receiving_end s) (os t) in
+    let ds = side (on_sending_end s) (os h.sender) in
     let x = with_all rs c in
-    let is : v ≡ with_all ds x = h.shown ∙ ap (λ rs. with_all ds (with_all rs c)) (same_side (is_taking s) os h.taker t h.taker_alone alone) in
+    let is : v ≡ with_all ds x = h.shown ∙ ap (λ rs. with_all ds (with_all rs c)) (same_side (on_receiving_end s) os h.taker t h.taker_alone alone) in
     let here = told_front ds x tag body (side_sends s (os h.sender)) more (told.0, ap (λ (y : View). y.messages) (sym is) ∙ told.1) in
     let number : n ≡ x.received + 1 = told.2 ∙ ap (λ x. x + 1) (ap (λ (y : View). y.received) is ∙ sends_received ds x (side_sends s (os h.sender))) in
     record {
       sender = h.sender;
-      sender_alone = λ u k. push_off (is_sending s) t p os u refl ∙ h.sender_alone u k;
+      sender_alone = λ u k. push_off (on_sending_end s) t p os u refl ∙ h.sender_alone u k;
       taker = t;
-      taker_alone = λ u k. push_other (is_taking s) t p os u k ∙ alone u k;
+      taker_alone = λ u k. push_other (on_receiving_end s) t p os u k ∙ alone u k;
       shown = ap view_head_unlinked is ∙ head_commutes ds x (tag, body) here.0 (side_sends s (os h.sender)) here.1
-          ∙ ap (λ ds. with_all ds (view_head_unlinked x)) (sym (push_off (is_sending s) t p os h.sender refl))
-          ∙ ap (λ rs. with_all (side (is_sending s) (pushed t p os h.sender)) (with_all rs c)) (sym (push_own (is_taking s) t p os yt));
-      sends = λ u. subst (λ ds. Sound ds c) (sym (push_off (is_sending s) t p os u refl)) (h.sends u);
+          ∙ ap (λ ds. with_all ds (view_head_unlinked x)) (sym (push_off (on_sending_end s) t p os h.sender refl))
+          ∙ ap (λ rs. with_all (side (on_sending_end s) (pushed t p os h.sender)) (with_all rs c)) (sym (push_own (on_receiving_end s) t p os yt));
+      sends = λ u. subst (λ ds. Sound ds c) (sym (push_off (on_sending_end s) t p os u refl)) (h.sends u);
       takes = λ u. elim (cases_Bool (same_txn t u)) [
-        | inl y ↦ rw (y, yt) (subst (λ x. Sound (UnlinkHead r n tag body ∷ side (is_taking s) (os x)) c) (txn_is t u y) ((here.0, here.1, number), h.takes t))
+        | inl y ↦ rw (y, yt) (subst (λ x. Sound (UnlinkHead r n tag body ∷ side (on_receiving_end s) (os x)) c) (txn_is t u y) ((here.0, here.1, number), h.takes t))
         | inr k ↦ rw k (h.takes u)
       ];
     }
@@ -171,59 +171,59 @@ holder_is f h t p ps os e y a = elim (cases_Bool (same_txn h t)) [
   | inr n ↦ absurd (not_nil p.deed (side f ps) (sym (side_cons_own f p ps y) ∙ sym (ap (side f) e) ∙ a t (txn_not h t n)))
 ]
 
-pub pop_other : (s : ℕ) (os : Txn → List Placed) (v c : View) (t : Txn) (p : Placed) (ps : List Placed) → os t ≡ p ∷ ps → is_sending s p.deed ≡ false → is_taking s p.deed ≡ false → Held s os v c → Held s (popped t os) v c
+pub pop_other : (s : ℕ) (os : Txn → List Placed) (v c : View) (t : Txn) (p : Placed) (ps : List Placed) → os t ≡ p ∷ ps → on_sending_end s p.deed ≡ false → on_receiving_end s p.deed ≡ false → Held s os v c → Held s (popped t os) v c
 pop_other s os v c t p ps e ns nt h = record {
   sender = h.sender;
-  sender_alone = pop_alone (is_sending s) h.sender t os h.sender_alone;
+  sender_alone = pop_alone (on_sending_end s) h.sender t os h.sender_alone;
   taker = h.taker;
-  taker_alone = pop_alone (is_taking s) h.taker t os h.taker_alone;
-  shown = h.shown ∙ ap (λ ds. with_all ds (with_all (side (is_taking s) (os h.taker)) c)) (sym (pop_off (is_sending s) t p ps os h.sender e ns)) ∙ ap (λ rs. with_all (side (is_sending s) (popped t os h.sender)) (with_all rs c)) (sym (pop_off (is_taking s) t p ps os h.taker e nt));
-  sends = λ u. pop_sound (is_sending s) t os c u (h.sends u);
-  takes = λ u. pop_sound (is_taking s) t os c u (h.takes u);
+  taker_alone = pop_alone (on_receiving_end s) h.taker t os h.taker_alone;
+  shown = h.shown ∙ ap (λ ds. with_all ds (with_all (side (on_receiving_end s) (os h.taker)) c)) (sym (pop_off (on_sending_end s) t p ps os h.sender e ns)) ∙ ap (λ rs. with_all (side (on_sending_end s) (popped t os h.sender)) (with_all rs c)) (sym (pop_off (on_receiving_end s) t p ps os h.taker e nt));
+  sends = λ u. pop_sound (on_sending_end s) t os c u (h.sends u);
+  takes = λ u. pop_sound (on_receiving_end s) t os c u (h.takes u);
 }
 
-pub pop_sent : (s : ℕ) (os : Txn → List Placed) (v c : View) (t : Txn) (p : Placed) (ps : List Placed) → os t ≡ p ∷ ps → is_sending s p.deed ≡ true → is_taking s p.deed ≡ false → Held s os v c → Held s (popped t os) (with_turn (Undid p.deed) v) c
+pub pop_sent : (s : ℕ) (os : Txn → List Placed) (v c : View) (t : Txn) (p : Placed) (ps : List Placed) → os t ≡ p ∷ ps → on_sending_end s p.deed ≡ true → on_receiving_end s p.deed ≡ false → Held s os v c → Held s (popped t os) (with_turn (Undid p.deed) v) c
 pop_sent s os v c t p ps e ys nt h =
-    let rs = side (is_taking s) (os h.taker) in
-    let ds = side (is_sending s) ps in
-    let own = holder_is (is_sending s) h.sender t p ps os e ys h.sender_alone in
-    let open_is : side (is_sending s) (os t) ≡ p.deed ∷ ds = ap (side (is_sending s)) e ∙ side_cons_own (is_sending s) p ps ys in
-    let is : v ≡ with_all (p.deed ∷ ds) (with_all rs c) = h.shown ∙ ap (λ u. with_all (side (is_sending s) (os u)) (with_all rs c)) own ∙ ap (λ ds. with_all ds (with_all rs c)) open_is in
-    let told : Told p.deed (with_all ds c) = (subst (λ ds. Sound ds c) open_is (h.sends t)).0 in
+    let rs = side (on_receiving_end s) (os h.taker) in
+    let ds = side (on_sending_end s) ps in
+    let own = holder_is (on_sending_end s) h.sender t p ps os e ys h.sender_alone in
+    let open_is : side (on_sending_end s) (os t) ≡ p.deed ∷ ds = ap (side (on_sending_end s)) e ∙ side_cons_own (on_sending_end s) p ps ys in
+    let is : v ≡ with_all (p.deed ∷ ds) (with_all rs c) = h.shown ∙ ap (λ u. with_all (side (on_sending_end s) (os u)) (with_all rs c)) own ∙ ap (λ ds. with_all ds (with_all rs c)) open_is in
+    let told : TellsView p.deed (with_all ds c) = (subst (λ ds. Sound ds c) open_is (h.sends t)).0 in
     let tm = takes_marks rs c (side_takes s (os h.taker)) in
     let m = same_marks ds (with_all rs c) c tm.0 tm.1 in
     record {
       sender = t;
-      sender_alone = pop_alone (is_sending s) t t os (subst (λ u. None_but (is_sending s) u os) own h.sender_alone);
+      sender_alone = pop_alone (on_sending_end s) t t os (subst (λ u. None_but (on_sending_end s) u os) own h.sender_alone);
       taker = h.taker;
-      taker_alone = pop_alone (is_taking s) h.taker t os h.taker_alone;
+      taker_alone = pop_alone (on_receiving_end s) h.taker t os h.taker_alone;
       shown = ap (λ x. with_turn (Undid p.deed) x) is ∙ taken_back p.deed (with_all ds (with_all rs c)) (told_marks s p.deed (with_all ds c) (with_all ds (with_all rs c)) ys (sym m.0) (sym m.1) (sym (same_total ds (with_all rs c) c (side_sends s ps) (takes_total rs c (side_takes s (os h.taker)) (h.takes h.taker)))) told)
-          ∙ ap (λ ds. with_all ds (with_all rs c)) (sym (pop_own (is_sending s) t p ps os e))
-          ∙ ap (λ rs. with_all (side (is_sending s) (popped t os t)) (with_all rs c)) (sym (pop_off (is_taking s) t p ps os h.taker e nt));
-      sends = λ u. pop_sound (is_sending s) t os c u (h.sends u);
-      takes = λ u. pop_sound (is_taking s) t os c u (h.takes u);
+          ∙ ap (λ ds. with_all ds (with_all rs c)) (sym (pop_own (on_sending_end s) t p ps os e))
+          ∙ ap (λ rs. with_all (side (on_sending_end s) (popped t os t)) (with_all rs c)) (sym (pop_off (on_receiving_end s) t p ps os h.taker e nt));
+      sends = λ u. pop_sound (on_sending_end s) t os c u (h.sends u);
+      takes = λ u. pop_sound (on_receiving_end s) t os c u (h.takes u);
     }
 
-pub pop_taken : (s : ℕ) (os : Txn → List Placed) (v c : View) (t : Txn) (lsn r n tag : ℕ) (body : List ℕ) (ps : List Placed) → os t ≡ record { lsn = lsn; deed = UnlinkHead r n tag body } ∷ ps → is_taking s (UnlinkHead r n tag body) ≡ true
+pub pop_taken : (s : ℕ) (os : Txn → List Placed) (v c : View) (t : Txn) (lsn r n tag : ℕ) (body : List ℕ) (ps : List Placed) → os t ≡ record { lsn = lsn; deed = UnlinkHead r n tag body } ∷ ps → on_receiving_end s (UnlinkHead r n tag body) ≡ true
     → Held s os v c → Held s (popped t os) (view_put_back v tag body) c
 pop_taken s os v c t lsn r n tag body ps e yt h =
     let p : Placed = record { lsn = lsn; deed = UnlinkHead r n tag body } in
-    let rs = side (is_taking s) ps in
-    let ds = side (is_sending s) (os h.sender) in
-    let own = holder_is (is_taking s) h.taker t p ps os e yt h.taker_alone in
-    let open_is : side (is_taking s) (os t) ≡ p.deed ∷ rs = ap (side (is_taking s)) e ∙ side_cons_own (is_taking s) p ps yt in
-    let is : v ≡ with_all ds (with_all (p.deed ∷ rs) c) = h.shown ∙ ap (λ u. with_all ds (with_all (side (is_taking s) (os u)) c)) own ∙ ap (λ rs. with_all ds (with_all rs c)) open_is in
-    let told : Told p.deed (with_all rs c) = (subst (λ ds. Sound ds c) open_is (h.takes t)).0 in
+    let rs = side (on_receiving_end s) ps in
+    let ds = side (on_sending_end s) (os h.sender) in
+    let own = holder_is (on_receiving_end s) h.taker t p ps os e yt h.taker_alone in
+    let open_is : side (on_receiving_end s) (os t) ≡ p.deed ∷ rs = ap (side (on_receiving_end s)) e ∙ side_cons_own (on_receiving_end s) p ps yt in
+    let is : v ≡ with_all ds (with_all (p.deed ∷ rs) c) = h.shown ∙ ap (λ u. with_all ds (with_all (side (on_receiving_end s) (os u)) c)) own ∙ ap (λ rs. with_all ds (with_all rs c)) open_is in
+    let told : TellsView p.deed (with_all rs c) = (subst (λ ds. Sound ds c) open_is (h.takes t)).0 in
     record {
       sender = h.sender;
-      sender_alone = pop_alone (is_sending s) h.sender t os h.sender_alone;
+      sender_alone = pop_alone (on_sending_end s) h.sender t os h.sender_alone;
       taker = t;
-      taker_alone = pop_alone (is_taking s) t t os (subst (λ u. None_but (is_taking s) u os) own h.taker_alone);
+      taker_alone = pop_alone (on_receiving_end s) t t os (subst (λ u. None_but (on_receiving_end s) u os) own h.taker_alone);
       shown = ap (λ x. view_put_back x tag body) is ∙ put_back_commutes ds (with_all (p.deed ∷ rs) c) tag body (side_sends s (os h.sender)) ∙ ap (with_all ds) (taken_back p.deed (with_all rs c) told)
-          ∙ ap (λ ds. with_all ds (with_all rs c)) (sym (pop_off (is_sending s) t p ps os h.sender e refl))
-          ∙ ap (λ rs. with_all (side (is_sending s) (popped t os h.sender)) (with_all rs c)) (sym (pop_own (is_taking s) t p ps os e));
-      sends = λ u. pop_sound (is_sending s) t os c u (h.sends u);
-      takes = λ u. pop_sound (is_taking s) t os c u (h.takes u);
+          ∙ ap (λ ds. with_all ds (with_all rs c)) (sym (pop_off (on_sending_end s) t p ps os h.sender e refl))
+          ∙ ap (λ rs. with_all (side (on_sending_end s) (popped t os h.sender)) (with_all rs c)) (sym (pop_own (on_receiving_end s) t p ps os e));
+      sends = λ u. pop_sound (on_sending_end s) t os c u (h.sends u);
+      takes = λ u. pop_sound (on_receiving_end s) t os c u (h.takes u);
     }
 
 abbrev pub emptied : Txn → (Txn → List Placed) → Txn → List Placed
@@ -242,10 +242,10 @@ split f h t os a = elim (cases_Bool (same_txn t h)) [
 empty_sound : (f : Deed → Bool) (t : Txn) (os : Txn → List Placed) (c : View) (u : Txn) → (same_txn t u ≡ false → Sound (side f (os u)) c) → Sound (side f (emptied t os u)) c
 empty_sound f t os c u h = elim (cases_Bool (same_txn t u)) [ inl y ↦ rw y tt | inr n ↦ rw n (h n) ]
 
-pub held_committed : (s : ℕ) (os : Txn → List Placed) (v c : View) (t : Txn) → Held s os v c → Held s (emptied t os) v (with_all (side (is_sending s) (os t)) (with_all (side (is_taking s) (os t)) c))
+pub held_committed : (s : ℕ) (os : Txn → List Placed) (v c : View) (t : Txn) → Held s os v c → Held s (emptied t os) v (with_all (side (on_sending_end s) (os t)) (with_all (side (on_receiving_end s) (os t)) c))
 held_committed s os v c t h =
-    let fs = is_sending s in
-    let ft = is_taking s in
+    let fs = on_sending_end s in
+    let ft = on_receiving_end s in
     let a = split fs h.sender t os h.sender_alone in
     let b = split ft h.taker t os h.taker_alone in
     let mine = with_all (side fs (os t)) (with_all (side ft (os t)) c) in

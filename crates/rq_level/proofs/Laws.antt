@@ -5,9 +5,9 @@ use Rattle.std.proofs.Common.{◌≡◌, ◌≢◌, ℕ, ◌+◌, ◌<◌, ◌�
 use Rattle.std.proofs.lemmas.Bool.{cases_eq, cond-true, cond-false, eq-eqb}
 use Rattle.rq_level.specs.Chain.{Cells, written, View, Shows, IsForeign, relink_next, cells_appended, directory_appended, view_appended}
 use Rattle.rq_page.specs.Slots.{Slot}
-use Rattle.rq_level.specs.Log.{Slots, cell_in, cells_of, put, Write, applied, Fits, Layout}
+use Rattle.rq_level.specs.Log.{Slots, cell_in, cells_of, put, Write, applied, HasBefores, Layout}
 use Rattle.rq_page.specs.Slots.Slot.{Free, Used, Sender}
-use Rattle.rq_level.specs.Plans.{ShowsAt, IsForeignSlot, Spares, IsLink, with_next, append_writes, IsAppend}
+use Rattle.rq_level.specs.Plans.{ShowsAt, IsForeignSlot, Spares, LinksTo, with_next, append_writes, IsAppend}
 use Rattle.rq_level.proofs.Chains.{no_eq, none_some, frame, frame_foreign, tail_used, append_shows}
 use Rattle.rq_level.proofs.Overlay.{put_at, put_off}
 
@@ -15,7 +15,7 @@ pub foreign_from : (s : ℕ) (x y : Slot) → x ≡ y → IsForeignSlot s x → 
 foreign_from s x y e h = subst (λ z. IsForeignSlot s z) e h
 
 -- writes that spare s leave each slot, or were made over a slot foreign to s
-pub spared : (s : ℕ) (ws : List Write) (q : Slots) → Spares s ws → Fits ws q → (a : ℕ) → (applied ws q a ≡ q a) ⊎ IsForeignSlot s (q a)
+pub spared : (s : ℕ) (ws : List Write) (q : Slots) → Spares s ws → HasBefores ws q → (a : ℕ) → (applied ws q a ≡ q a) ⊎ IsForeignSlot s (q a)
 spared s [] q h f a = inl refl
 spared s (w ∷ ws) q h f a = elim (spared s ws q h.1 f.1 a) [
   | inl k ↦ elim (cases_eq a w.at) [
@@ -49,7 +49,7 @@ shows_frame l q r s v h k = record {
 }
 
 -- what another sender shows stays
-pub others : (l : Layout) (q : Slots) (ws : List Write) (s : ℕ) (v : View) → Spares s ws → Fits ws q → ShowsAt l q s v → ShowsAt l (applied ws q) s v
+pub others : (l : Layout) (q : Slots) (ws : List Write) (s : ℕ) (v : View) → Spares s ws → HasBefores ws q → ShowsAt l q s v → ShowsAt l (applied ws q) s v
 others l q ws s v h f k = shows_frame l q (applied ws q) s v (spared s ws q h f) k
 
 pub shows_same : (m m' : Cells) (s : ℕ) (d : Directory) (v : View) → ((a : ℕ) → m' a ≡ m a) → Shows m s d v → Shows m' s d v
@@ -94,8 +94,8 @@ sender_is s d e h = cc
 pub shows_here : (l : Layout) (q : Slots) (s : ℕ) (v : View) (d : Directory) → Sender s d ≡ q (l.directory_at s) → ShowsAt l q s v → Shows (cells_of q) s d v
 shows_here l q s v d e h = subst (λ x. Shows (cells_of q) s x v) (sym (sender_is s d h.directory (e ∙ h.at))) h.shows
 
-append_own : (l : Layout) (q : Slots) (s : ℕ) (v : View) (d : Directory) (new tag : ℕ) (body : List ℕ) (old : Option Cell) → 0 < new → IsLink s d.tail old
-    → Fits (append_writes l s d new tag body old) q → ShowsAt l q s v → ShowsAt l (applied (append_writes l s d new tag body old) q) s (view_appended v tag body)
+append_own : (l : Layout) (q : Slots) (s : ℕ) (v : View) (d : Directory) (new tag : ℕ) (body : List ℕ) (old : Option Cell) → 0 < new → LinksTo s d.tail old
+    → HasBefores (append_writes l s d new tag body old) q → ShowsAt l q s v → ShowsAt l (applied (append_writes l s d new tag body old) q) s (view_appended v tag body)
 append_own l q s v d new tag body None pos link f h =
     let c : Cell = record { sender = s; sequence = d.sent + 1; tag = tag; body = body; next = 0; prev = d.tail } in
     let t = through q new (Used c) (Sender s d) (l.directory_at s) (used_sender c s d) f.0 in
@@ -132,7 +132,7 @@ append_own l q s v d new tag body (Some o) pos link f h =
           (append_shows m s d v new tag body pos (ap cell_in (sym f.1.1.0)) k);
     }
 
-pub append_law : (l : Layout) (q : Slots) (ws : List Write) (s n tag previous : ℕ) (body : List ℕ) (v : View) → IsAppend l s n tag previous body ws → Fits ws q → ShowsAt l q s v → ShowsAt l (applied ws q) s (view_appended v tag body)
+pub append_law : (l : Layout) (q : Slots) (ws : List Write) (s n tag previous : ℕ) (body : List ℕ) (v : View) → IsAppend l s n tag previous body ws → HasBefores ws q → ShowsAt l q s v → ShowsAt l (applied ws q) s (view_appended v tag body)
 append_law l q ws s n tag previous body v p f h =
     subst (λ ws. ShowsAt l (applied ws q) s (view_appended v tag body)) (sym p.writes)
-    (append_own l q s v p.directory p.new tag body p.old p.used p.old_is (subst (λ ws. Fits ws q) p.writes f) h)
+    (append_own l q s v p.directory p.new tag body p.old p.used p.old_is (subst (λ ws. HasBefores ws q) p.writes f) h)

@@ -9,7 +9,7 @@ use Rattle.rq_model.proofs.Lists.{same_is}
 use Rattle.rq_model.specs.declared.record.Deed.TheVariants.{Append, UnlinkHead, Close}
 use Rattle.rq_level.specs.Log.{Item, Layout, IsNewest, same_op, state_of}
 use Rattle.rq_level.specs.Log.Item.{PageOp, PageUndo, OpEnd, OpVoid, CompEnd, Commit, AbortEnd, Restart}
-use Rattle.rq_level.specs.Legal.{Placed, Legal, Undoes, of_op, is_of, began, open_deeds}
+use Rattle.rq_level.specs.Legal.{Placed, IsLegalLog, Undoes, of_op, is_of, began, open_deeds}
 use Rattle.rq_level.specs.Plans.{Turn, IsPlan}
 use Rattle.rq_level.specs.Plans.Turn.{Did, Undid}
 use Rattle.rq_level.specs.Items.{operation}
@@ -83,7 +83,7 @@ has_begun : (o : Sub) (log : List Item) (m : ℕ) → began o log ≡ true → b
 has_begun o log m y n = absurd (false≢true (sym n ∙ y))
 
 -- each number up to the greatest is that of an operation
-pub all_begun : (l : Layout) (t : Txn) (n : ℕ) (log : List Item) → Legal l log → AreNumbered log → 1 ≤ n
+pub all_begun : (l : Layout) (t : Txn) (n : ℕ) (log : List Item) → IsLegalLog l log → AreNumbered log → 1 ≤ n
     → n ≤ greatest t log → began (operation t n) log ≡ true
 all_begun l t n [] g h low le = absurd (omega (arith, low, le))
 all_begun l t n (PageOp o w ∷ log) g h low le = one_of t n o log h.0 (all_begun l t n log g.1 h.1 low) le

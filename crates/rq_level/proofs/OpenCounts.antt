@@ -21,9 +21,9 @@ use Rattle.rq_model.proofs.Told.{told_taken}
 use Rattle.rq_page.specs.Sizes.{Sizes, sender_count}
 use Rattle.rq_level.specs.Log.{Item, state_of}
 use Rattle.rq_level.specs.Plans.{deed_sender}
-use Rattle.rq_level.specs.Legal.{Placed, open_deeds, view, Legal}
-use Rattle.rq_level.specs.Groups.{is_sending, is_taking, side, committed, KeepsGroups}
-use Rattle.rq_level.specs.Items.{items, layout_of, has_undone, Reads}
+use Rattle.rq_level.specs.Legal.{Placed, open_deeds, view, IsLegalLog}
+use Rattle.rq_level.specs.Groups.{on_sending_end, on_receiving_end, side, committed, KeepsGroups}
+use Rattle.rq_level.specs.Items.{items, layout_of, has_undone, ReadsItsDeeds}
 use Rattle.rq_level.specs.Stored.{count_used}
 use Rattle.rq_level.specs.InStore.{InStore}
 use Rattle.rq_level.proofs.Committed.{say}
@@ -50,7 +50,7 @@ holders_count s log h k =
 abbrev none : List Deed
 none = []
 
-one_added : (s : ℕ) (d : Deed) (xs : List Deed) (ms : List Message) → cond (is_sending s d) (d ∷ xs) xs ≡ none → (xs ≡ none → length ms ≡ 0) → length (added_one s (said d) ms) ≡ 0
+one_added : (s : ℕ) (d : Deed) (xs : List Deed) (ms : List Message) → cond (on_sending_end s d) (d ∷ xs) xs ≡ none → (xs ≡ none → length ms ≡ 0) → length (added_one s (said d) ms) ≡ 0
 one_added s (Append r n tag previous body) xs ms e k = elim (cases_Bool (nat_eq r s)) [
   | inl y ↦ let bad : Append r n tag previous body ∷ xs ≡ none = rw y at e in absurd (cc)
   | inr m ↦ rw m (k (rw m at e))
@@ -61,11 +61,11 @@ one_added s (Close r) xs ms e k = elim (cases_Bool (nat_eq r s)) [
   | inr m ↦ k (rw m at e)
 ]
 
-none_added : (s : ℕ) (ps : List Placed) → side (is_sending s) ps ≡ none → length (added s (say ps)) ≡ 0
+none_added : (s : ℕ) (ps : List Placed) → side (on_sending_end s) ps ≡ none → length (added s (say ps)) ≡ 0
 none_added s [] e = refl
-none_added s (p ∷ ps) e = one_added s p.deed (side (is_sending s) ps) (added s (say ps)) e (none_added s ps)
+none_added s (p ∷ ps) e = one_added s p.deed (side (on_sending_end s) ps) (added s (say ps)) e (none_added s ps)
 
-one_removed : (s : ℕ) (d : Deed) (xs : List Deed) (k : ℕ) → cond (is_taking s d) (d ∷ xs) xs ≡ none → (xs ≡ none → k ≡ 0) → k + removed_one s (said d) ≡ 0
+one_removed : (s : ℕ) (d : Deed) (xs : List Deed) (k : ℕ) → cond (on_receiving_end s d) (d ∷ xs) xs ≡ none → (xs ≡ none → k ≡ 0) → k + removed_one s (said d) ≡ 0
 one_removed s (Append r n tag previous body) xs k e h = let i = h e in omega arith
 one_removed s (UnlinkHead r n tag body) xs k e h = elim (cases_Bool (nat_eq r s)) [
   | inl y ↦ let bad : UnlinkHead r n tag body ∷ xs ≡ none = rw y at e in absurd (cc)
@@ -73,9 +73,9 @@ one_removed s (UnlinkHead r n tag body) xs k e h = elim (cases_Bool (nat_eq r s)
 ]
 one_removed s (Close r) xs k e h = let i = h e in omega arith
 
-none_removed : (s : ℕ) (ps : List Placed) → side (is_taking s) ps ≡ none → removed s (say ps) ≡ 0
+none_removed : (s : ℕ) (ps : List Placed) → side (on_receiving_end s) ps ≡ none → removed s (say ps) ≡ 0
 none_removed s [] e = refl
-none_removed s (p ∷ ps) e = one_removed s p.deed (side (is_taking s) ps) (removed s (say ps)) e (none_removed s ps)
+none_removed s (p ∷ ps) e = one_removed s p.deed (side (on_receiving_end s) ps) (removed s (say ps)) e (none_removed s ps)
 
 -- the transactions stand once each
 abbrev pub AreApart : List Txn → Type 0
@@ -177,7 +177,7 @@ abbrev pub open_ops : Sizes → List Record → Txn → List Op
 open_ops z log t = ops_told (say (open_deeds t (items z log)))
 
 -- the used cells are what is committed and not taken, without what open transactions took, with what they sent
-pub open_counts : (z : Sizes) (log : List Record) (ts : List Txn) → Legal (layout_of z) (items z log) → InStore z log → KeepsGroups (items z log) → KeepsRules log → Reads log
+pub open_counts : (z : Sizes) (log : List Record) (ts : List Txn) → IsLegalLog (layout_of z) (items z log) → InStore z log → KeepsGroups (items z log) → KeepsRules log → ReadsItsDeeds log
     → AreApart ts → AllOpenIn ts (items z log)
     → count_used z (state_of (layout_of z) (items z log)).quiet + sum_by (λ t. length (filter is_taken (open_ops z log t))) ts
     ≡ count_rest (below (sender_count z)) (committed_of log) + sum_by (λ t. length (filter is_sent (open_ops z log t))) ts
@@ -212,5 +212,5 @@ open_counts z log ts legal store groups rules reads apart all =
         omega arith
 
 -- a transaction that has not ended and undid nothing did what the log tells of it
-pub open_ops_told : (z : Sizes) (t : Txn) (log : List Record) → Reads log → has_end log t ≡ false → has_undone log t ≡ false → open_ops z log t ≡ told t log
+pub open_ops_told : (z : Sizes) (t : Txn) (log : List Record) → ReadsItsDeeds log → has_end log t ≡ false → has_undone log t ≡ false → open_ops z log t ≡ told t log
 open_ops_told z t log g e n = ap ops_told (own_deeds z t log g e n)

@@ -5,7 +5,7 @@ use Rattle.rq_model.specs.Words.{same_txn}
 use Rattle.std.proofs.Common.{◌≡◌, ◌≢◌, ℕ, ◌⊎◌, ◌==◌, ◌&&◌, inl, inr, List, [], ◌∷◌, true, false, cond, if◌then◌else◌, refl, sym, ap, subst, ◌∙◌}
 use Rattle.std.proofs.lemmas.Bool.{cases_Bool, cases_eq, cond-true, cond-false, eq-eqb, eqb-true, and_parts, and_from, or_cases, or_parts, or_left, or_right, false≢true, true≢false}
 use Rattle.rq_page.specs.Slots.{Slot}
-use Rattle.rq_level.specs.Log.{Slots, put, Write, applied, Fits, Untouched, same_op, Act, State, rest_of, writes_after, stands_after, after_act, IsNewest, MayWrite, MayAct}
+use Rattle.rq_level.specs.Log.{Slots, put, Write, applied, HasBefores, Untouched, same_op, Act, LogState, rest_of, writes_after, stands_after, after_act, IsNewest, MayWrite, MayAct}
 use Rattle.rq_level.specs.Log.Act.{Wrote, Unwrote, Done, Voided, Nothing}
 use Rattle.rq_level.proofs.Chains.{no_eq}
 
@@ -40,7 +40,7 @@ pub untouched : (ws : List Write) (q : Slots) (a : ℕ) → Untouched a ws → a
 untouched [] q a h = refl
 untouched (w ∷ ws) q a h = put_off (applied ws q) w.at w.after a h.0 ∙ untouched ws q a h.1
 
-pub fits_agree : (ws : List Write) (q r : Slots) → ((a : ℕ) → Untouched a ws ⊎ (r a ≡ q a)) → Fits ws q → Fits ws r
+pub fits_agree : (ws : List Write) (q r : Slots) → ((a : ℕ) → Untouched a ws ⊎ (r a ≡ q a)) → HasBefores ws q → HasBefores ws r
 fits_agree [] q r h f = tt
 fits_agree (w ∷ ws) q r h f = (
   elim (h w.at) [ inl u ↦ absurd (u.0 refl) | inr e ↦ f.0 ∙ applied_agree ws q r w.at (sym e) ],
@@ -48,17 +48,17 @@ fits_agree (w ∷ ws) q r h f = (
 )
 
 -- what a slot holds, by who stands on its page
-abbrev pub Holds : (ℕ → ℕ) → State → ℕ → Type 0
+abbrev pub Holds : (ℕ → ℕ) → LogState → ℕ → Type 0
 Holds page z a = ((o : Sub) × (z.stands o (page a) ≡ true) × (z.slots a ≡ applied (z.writes o) z.quiet a)) ⊎ (((o : Sub) → z.stands o (page a) ≡ false) × (z.slots a ≡ z.quiet a))
 
-pub record Good (page : ℕ → ℕ) (z : State) : Type 0 where
+pub record Good (page : ℕ → ℕ) (z : LogState) : Type 0 where
   pub each : (a : ℕ) → Holds page z a
   pub alone : (p : ℕ) (o u : Sub) → z.stands o p ≡ true → z.stands u p ≡ true → o ≡ u
   pub inside : (o : Sub) (a : ℕ) → z.stands o (page a) ≡ false → Untouched a (z.writes o)
-  pub fits : (o : Sub) → Fits (z.writes o) z.quiet
+  pub fits : (o : Sub) → HasBefores (z.writes o) z.quiet
 
 -- who writes next finds his own writes over the quiet slots
-pub own : (page : ℕ → ℕ) (z : State) (o : Sub) (a : ℕ) → Good page z → ((u : Sub) → same_op o u ≡ false → z.stands u (page a) ≡ false) → z.slots a ≡ applied (z.writes o) z.quiet a
+pub own : (page : ℕ → ℕ) (z : LogState) (o : Sub) (a : ℕ) → Good page z → ((u : Sub) → same_op o u ≡ false → z.stands u (page a) ≡ false) → z.slots a ≡ applied (z.writes o) z.quiet a
 own page z o a g h = elim (g.each a) [
   | inl k ↦ elim (cases_Bool (same_op o k.0)) [
     | inl y ↦ k.2 ∙ ap (λ u. applied (z.writes u) z.quiet a) (sym (same_is o k.0 y))
@@ -67,7 +67,7 @@ own page z o a g h = elim (g.each a) [
   | inr k ↦ k.1 ∙ sym (untouched (z.writes o) z.quiet a (g.inside o a (k.0 o)))
 ]
 
-module _ (page : ℕ → ℕ) (z : State) (g : Good page z) where
+module _ (page : ℕ → ℕ) (z : LogState) (g : Good page z) where
   wrote_each : (o : Sub) (w : Write) → MayWrite page z o w → (a : ℕ) → Holds page (after_act page (Wrote o w) z) a
   wrote_each o w may a = elim (cases_eq (page w.at) (page a)) [
     | inl e ↦ inl (
@@ -112,7 +112,7 @@ module _ (page : ℕ → ℕ) (z : State) (g : Good page z) where
         | inr n ↦ rw n (g.inside u a p.1)
       ]
 
-  wrote_fits : (o : Sub) (w : Write) → MayWrite page z o w → (u : Sub) → Fits (writes_after (Wrote o w) u (z.writes u)) z.quiet
+  wrote_fits : (o : Sub) (w : Write) → MayWrite page z o w → (u : Sub) → HasBefores (writes_after (Wrote o w) u (z.writes u)) z.quiet
   wrote_fits o w may u = elim (cases_Bool (same_op o u)) [
     | inl y ↦ rw y (may.before ∙ own page z o w.at g may.alone ∙ ap (λ v. applied (z.writes v) z.quiet w.at) (same_is o u y), g.fits u)
     | inr n ↦ rw n (g.fits u)
@@ -148,7 +148,7 @@ module _ (page : ℕ → ℕ) (z : State) (g : Good page z) where
   newest_off [] at x q a h ne = refl
   newest_off (w ∷ ws) at x q a h ne = put_off (applied ws q) w.at w.after a (λ e. ne (e ∙ h.0))
 
-  newest_before : (ws : List Write) (at : ℕ) (x : Slot) (q : Slots) → IsNewest ws at x → Fits ws q → x ≡ applied (rest_of ws) q at
+  newest_before : (ws : List Write) (at : ℕ) (x : Slot) (q : Slots) → IsNewest ws at x → HasBefores ws q → x ≡ applied (rest_of ws) q at
   newest_before [] at x q h f = absurd h
   newest_before (w ∷ ws) at x q h f = sym h.1 ∙ f.0 ∙ ap (applied ws q) h.0
 
@@ -156,7 +156,7 @@ module _ (page : ℕ → ℕ) (z : State) (g : Good page z) where
   rest_untouched [] a h = tt
   rest_untouched (w ∷ ws) a h = h.1
 
-  rest_fits : (ws : List Write) (q : Slots) → Fits ws q → Fits (rest_of ws) q
+  rest_fits : (ws : List Write) (q : Slots) → HasBefores ws q → HasBefores (rest_of ws) q
   rest_fits [] q h = tt
   rest_fits (w ∷ ws) q h = h.1
 

@@ -2,14 +2,14 @@
 use Rattle.rq_model.specs.declared.txn.Sub.{Sub}
 use Rattle.std.proofs.Common.{◌≡◌, ℕ, inl, inr, List, [], ◌∷◌, Bool, true, false, cond, refl, sym, ap, subst, ◌∙◌}
 use Rattle.std.proofs.lemmas.Bool.{cases_Bool, cases_eq, cond-true, cond-false, true≢false}
-use Rattle.rq_level.specs.Log.{Slots, Write, applied, Fits, Untouched, same_op, Act, State, rest_of, writes_after, after_act, MayWrite}
+use Rattle.rq_level.specs.Log.{Slots, Write, applied, HasBefores, Untouched, same_op, Act, LogState, rest_of, writes_after, after_act, MayWrite}
 use Rattle.rq_level.specs.Log.Act.{Wrote, Unwrote, Done, Voided, Nothing}
 use Rattle.rq_level.specs.Legal.{onto}
 use Rattle.rq_level.specs.Owed.{Owes}
 use Rattle.rq_level.proofs.Chains.{no_eq}
 use Rattle.rq_level.proofs.Overlay.{same_is, same_self, untouched, fits_agree, Good, own}
 
-part_fits : (owed ws : List Write) (q : Slots) → Fits (onto owed ws) q → Fits ws q
+part_fits : (owed ws : List Write) (q : Slots) → HasBefores (onto owed ws) q → HasBefores ws q
 part_fits [] ws q h = h
 part_fits (w ∷ owed) ws q h = (part_fits owed (w ∷ ws) q h).1
 
@@ -17,13 +17,13 @@ part_untouched : (owed ws : List Write) (a : ℕ) → Untouched a (onto owed ws)
 part_untouched [] ws a h = h
 part_untouched (w ∷ owed) ws a h = (part_untouched owed (w ∷ ws) a h).1
 
-module _ (page : ℕ → ℕ) (z : State) (g : Good page z) (o : Sub) (latched : ℕ → Bool) where
+module _ (page : ℕ → ℕ) (z : LogState) (g : Good page z) (o : Sub) (latched : ℕ → Bool) where
   -- at the start: the plan's before-images are the slots, and nobody else stands on the pages
-  pub owes_start : (owed : List Write) → z.writes o ≡ [] → ((p : ℕ) → z.stands o p ≡ false) → Fits (onto owed []) z.slots
+  pub owes_start : (owed : List Write) → z.writes o ≡ [] → ((p : ℕ) → z.stands o p ≡ false) → HasBefores (onto owed []) z.slots
       → ((a : ℕ) → latched (page a) ≡ false → Untouched a (onto owed []))
       → ((p : ℕ) → latched p ≡ true → (u : Sub) → same_op o u ≡ false → z.stands u p ≡ false) → Owes page z o latched owed
   owes_start owed none nowhere f within alone = record {
-    fits = subst (λ ws. Fits (onto owed ws) z.quiet) (sym none) (fits_agree (onto owed []) z.slots z.quiet (λ a. elim (cases_Bool (latched (page a))) [
+    fits = subst (λ ws. HasBefores (onto owed ws) z.quiet) (sym none) (fits_agree (onto owed []) z.slots z.quiet (λ a. elim (cases_Bool (latched (page a))) [
       | inl y ↦ inr (elim (g.each a) [
         | inl k ↦ elim (cases_Bool (same_op o k.0)) [
           | inl e ↦ absurd (true≢false (sym k.1 ∙ ap (λ v. z.stands v (page a)) (sym (same_is o k.0 e)) ∙ nowhere (page a)))
@@ -51,7 +51,7 @@ module _ (page : ℕ → ℕ) (z : State) (g : Good page z) (o : Sub) (latched :
   owes_rest w owed h =
       let e : w ∷ z.writes o ≡ writes_after (Wrote o w) o (z.writes o) = sym (cond-true (same_op o o) (w ∷ z.writes o) (z.writes o) (same_self o)) in
       record {
-        fits = subst (λ ws. Fits (onto owed ws) z.quiet) e h.fits;
+        fits = subst (λ ws. HasBefores (onto owed ws) z.quiet) e h.fits;
         within = λ a n. subst (λ ws. Untouched a (onto owed ws)) e (h.within a n);
         alone = λ p y u n. rw n (h.alone p y u n);
       }
@@ -64,10 +64,10 @@ IsByOther page o latched (Done u) = (same_op u o ≡ false) × (same_op o u ≡ 
 IsByOther page o latched (Voided u) = same_op u o ≡ false
 IsByOther page o latched Nothing = Unit {0}
 
-same_writes : (page : ℕ → ℕ) (z : State) (o : Sub) (latched : ℕ → Bool) (owed : List Write) (q : Slots) (s : Slots) (ws : Sub → List Write) (stands : Sub → ℕ → Bool) → ws o ≡ z.writes o → Fits (onto owed (z.writes o)) q
+same_writes : (page : ℕ → ℕ) (z : LogState) (o : Sub) (latched : ℕ → Bool) (owed : List Write) (q : Slots) (s : Slots) (ws : Sub → List Write) (stands : Sub → ℕ → Bool) → ws o ≡ z.writes o → HasBefores (onto owed (z.writes o)) q
     → ((p : ℕ) → latched p ≡ true → (u : Sub) → same_op o u ≡ false → stands u p ≡ false) → Owes page z o latched owed → Owes page (record { slots = s; quiet = q; writes = ws; stands = stands }) o latched owed
 same_writes page z o latched owed q s ws stands e f alone h = record {
-  fits = subst (λ w. Fits (onto owed w) q) (sym e) f;
+  fits = subst (λ w. HasBefores (onto owed w) q) (sym e) f;
   within = λ a n. subst (λ w. Untouched a (onto owed w)) (sym e) (h.within a n);
   alone = alone;
 }
@@ -77,7 +77,7 @@ cleared true c e = refl
 cleared false c e = e
 
 -- what others do on other pages leaves what is owed
-pub owes_other : (page : ℕ → ℕ) (z : State) (o : Sub) (latched : ℕ → Bool) (owed : List Write) (x : Act) → Good page z → IsByOther page o latched x → Owes page z o latched owed → Owes page (after_act page x z) o latched owed
+pub owes_other : (page : ℕ → ℕ) (z : LogState) (o : Sub) (latched : ℕ → Bool) (owed : List Write) (x : Act) → Good page z → IsByOther page o latched x → Owes page z o latched owed → Owes page (after_act page x z) o latched owed
 owes_other page z o latched owed (Wrote u w) g by h =
     same_writes page z o latched owed z.quiet _ _ _ (cond-false (same_op u o) (w ∷ z.writes o) (z.writes o) by.0) h.fits
     (λ p y v n. elim (cases_eq (page w.at) p) [

@@ -13,7 +13,7 @@ use Rattle.rq_level.specs.Log.{Item, Write, same_op, state_of}
 use Rattle.rq_level.specs.Log.Item.{PageOp, PageUndo, OpEnd, OpVoid, CompEnd, Restart}
 use Rattle.rq_level.specs.Plans.{Turn, IsPlan, IsAppend, IsUnlinkHead, IsUnlinkTail, IsPutBack, IsMark, Spares}
 use Rattle.rq_level.specs.Plans.Turn.{Did, Undid}
-use Rattle.rq_level.specs.Legal.{Begins, Legal, MayPageOp, MayOpEnd, MayCompEnd, MayPageUndo, MayOpVoid, onto, has_done, over, under_way, turned_back, has_end, crossed}
+use Rattle.rq_level.specs.Legal.{Begins, IsLegalLog, MayPageOp, MayOpEnd, MayCompEnd, MayPageUndo, MayOpVoid, onto, has_deed, over, under_way, turned_back, has_end, crossed}
 use Rattle.rq_level.specs.Row.{small, t1, t2, of, a1, b1, cell, new_a, end_a, new_b, end_b, sends, takes, taken_a, sent_a, free_a, took_a, back_a, sent_b, free_b, undid_b, committed_one, done_two, stopped, taken_back, restarted, taken_one, mark_a, closed_one}
 use Rattle.rq_level.proofs.Idle.{idle_stands, idle_writes}
 use Rattle.rq_level.proofs.Overlay.{same_is}
@@ -45,12 +45,12 @@ compensated log o k h u = elim (cases_Bool (same_op o u)) [ inl y ↦ rw y refl 
 
 -- a legal log with nothing under way
 pub record Rests (log : List Item) : Type 0 where
-  pub legal : Legal small log
+  pub legal : IsLegalLog small log
   pub idle : Idle log
 
 -- and with this operation alone
 pub record Runs (o : Sub) (log : List Item) : Type 0 where
-  pub legal : Legal small log
+  pub legal : IsLegalLog small log
   pub only : Only o log
 
 -- what else a write asks where no other operation is under way
@@ -61,7 +61,7 @@ record MayNow (log : List Item) (o : Sub) (w : Write) : Type 0 where
   forward : turned_back o log ≡ false
   running : has_end o.txn log ≡ false
 
-may_write : (log : List Item) (o : Sub) (w : Write) → Legal small log → Only o log → MayNow log o w
+may_write : (log : List Item) (o : Sub) (w : Write) → IsLegalLog small log → Only o log → MayNow log o w
     → Begins small (w ∷ (state_of small log).writes o) → MayPageOp small log o w
 may_write log o w legal only m b = record {
   write = record { before = m.before; alone = λ u n. idle_stands small log u (small.page w.at) legal (only u n) };
@@ -220,7 +220,7 @@ back_rests = takes_back
     8 (record { plan = (refl, unlink_b); going = refl; forward = refl; running = refl })
 
 -- whoever did something has ended
-all_ended : (t : Txn) → has_done t restarted ≡ true → has_end t restarted ≡ true
+all_ended : (t : Txn) → has_deed t restarted ≡ true → has_end t restarted ≡ true
 all_ended t h = elim (cases_Bool (same_txn t2 t)) [
   | inl y ↦ rw y refl
   | inr n ↦ elim (cases_Bool (same_txn t1 t)) [
@@ -229,13 +229,13 @@ all_ended t h = elim (cases_Bool (same_txn t2 t)) [
   ]
 ]
 
-pub restarted_legal : Legal small restarted
+pub restarted_legal : IsLegalLog small restarted
 restarted_legal = (
   record { idle = λ o. back_rests.idle o; ended = all_ended },
   (record { idle = λ o e. back_rests.idle o; running = refl; empty = refl }, back_rests.legal),
 )
 
-pub taken_legal : Legal small taken_one
+pub taken_legal : IsLegalLog small taken_one
 taken_legal =
     (ends
     (next
@@ -246,7 +246,7 @@ taken_legal =
 close_a : IsMark small 0 true (mark_a ∷ [])
 close_a = record { directory = new_directory; writes = refl }
 
-pub closed_legal : Legal small closed_one
+pub closed_legal : IsLegalLog small closed_one
 closed_legal =
     let h =
     ends (first started a1 mark_a (now _ _ _ refl refl refl refl refl) (begins (Did (Close 0)) [] _ close_a)) (Close 0) (record { plan = close_a; going = refl; forward = refl; running = refl }) in

@@ -17,9 +17,9 @@ use Rattle.rq_model.proofs.Told.{not_yet}
 use Rattle.rq_page.specs.Sizes.{Sizes}
 use Rattle.rq_level.specs.Chain.{View}
 use Rattle.rq_level.specs.Committed.{message_of}
-use Rattle.rq_level.specs.Groups.{is_sending, is_taking, side, with_all, committed, Told, MayTurn, KeepsGroups, Tells}
-use Rattle.rq_level.specs.Items.{items, layout_of, told_deed, Reads, has_undone}
-use Rattle.rq_level.specs.Legal.{Legal, Placed, Undoes, open_deeds, rest_placed, view}
+use Rattle.rq_level.specs.Groups.{on_sending_end, on_receiving_end, side, with_all, committed, TellsView, MayTurn, KeepsGroups, DeedsTellViews}
+use Rattle.rq_level.specs.Items.{items, layout_of, told_deed, ReadsItsDeeds, has_undone}
+use Rattle.rq_level.specs.Legal.{IsLegalLog, Placed, Undoes, open_deeds, rest_placed, view}
 use Rattle.rq_level.specs.Log.{Write}
 use Rattle.rq_level.specs.Plans.{deed_sender}
 use Rattle.rq_level.proofs.Committed.{say, takes_form}
@@ -27,7 +27,7 @@ use Rattle.rq_level.proofs.Content.{own_deeds, committed_is_content}
 use Rattle.rq_level.proofs.Strangers.{has_end_same}
 
 -- a transaction that has ended has nothing open
-pub ended : (z : Sizes) (t : Txn) (log : List Record) → Legal (layout_of z) (items z log) → has_end log t ≡ true
+pub ended : (z : Sizes) (t : Txn) (log : List Record) → IsLegalLog (layout_of z) (items z log) → has_end log t ≡ true
     → open_deeds t (items z log) ≡ []
 ended z t [] k h = refl
 ended z t (records.PageOp u m page slot before after ∷ log) k h = ended z t log k.1 h
@@ -71,7 +71,7 @@ rest_none p (x ∷ ps) e =
 
 -- who never used an end has nothing open at it
 pub unused : (f : Said → Bool) (p : Deed → Bool) → ((d : Deed) → f (said d) ≡ p d)
-    → (z : Sizes) (t : Txn) (log : List Record) → Reads log → any_use f (deeds (λ v. same_txn v t) log) ≡ false
+    → (z : Sizes) (t : Txn) (log : List Record) → ReadsItsDeeds log → any_use f (deeds (λ v. same_txn v t) log) ≡ false
     → side p (open_deeds t (items z log)) ≡ []
 unused f p same z t [] g e = refl
 unused f p same z t (records.PageOp u k page slot before after ∷ log) g e = unused f p same z t log g.1 e
@@ -89,19 +89,19 @@ unused f p same z t (records.CompEnd u k undone ∷ log) g e = elim (cases_Bool 
 unused f p same z t (records.Commit u ∷ log) g e =
     elim (cases_Bool (same_txn u t)) [ inl y ↦ rw y refl | inr m ↦ rw m (unused f p same z t log g.1 e) ]
 
-sends_same : (s : ℕ) (d : Deed) → uses_send s (said d) ≡ is_sending s d
+sends_same : (s : ℕ) (d : Deed) → uses_send s (said d) ≡ on_sending_end s d
 sends_same s (Append r n tag previous body) = refl
 sends_same s (UnlinkHead r n tag body) = refl
 sends_same s (Close r) = refl
 
-takes_same : (s : ℕ) (d : Deed) → uses_receive s (said d) ≡ is_taking s d
+takes_same : (s : ℕ) (d : Deed) → uses_receive s (said d) ≡ on_receiving_end s d
 takes_same s (Append r n tag previous body) = refl
 takes_same s (UnlinkHead r n tag body) = refl
 takes_same s (Close r) = refl
 
 -- where only t holds an end, nobody else has anything open there
 alone : (f : Said → Bool) (p : Deed → Bool) → ((d : Deed) → f (said d) ≡ p d)
-    → (z : Sizes) (log : List Record) (t : Txn) → Legal (layout_of z) (items z log) → Reads log
+    → (z : Sizes) (log : List Record) (t : Txn) → IsLegalLog (layout_of z) (items z log) → ReadsItsDeeds log
     → ((u : Txn) → holds f log u ≡ true → u ≡ t)
     → (u : Txn) → u ≢ t → side p (open_deeds u (items z log)) ≡ []
 alone f p same z log t legal reads only_t u n = elim (cases_Bool (has_end log u)) [
@@ -113,10 +113,10 @@ alone f p same z log t legal reads only_t u n = elim (cases_Bool (has_end log u)
 ]
 
 -- where a group has more than was taken, a message is left for t
-left : (z : Sizes) (log : List Record) (s : ℕ) (t : Txn) → KeepsRules log → Reads log → has_end log t ≡ false
+left : (z : Sizes) (log : List Record) (s : ℕ) (t : Txn) → KeepsRules log → ReadsItsDeeds log → has_end log t ≡ false
     → has_undone log t ≡ false
     → removed s (deeds (λ u. has_commit log u || same_txn u t) log) < length (added s (deeds (has_commit log) log))
-    → 0 < length (with_all (side (is_taking s) (open_deeds t (items z log))) (committed (items z log) s)).messages
+    → 0 < length (with_all (side (on_receiving_end s) (open_deeds t (items z log))) (committed (items z log) s)).messages
 left z log s t rules reads live forward more =
     let ps = open_deeds t (items z log) in
     let c = committed (items z log) s in
@@ -131,29 +131,29 @@ left z log s t rules reads live forward more =
     let both = removed_both s t (has_commit log) log (not_yet log t live) in
     let own : removed s (say ps) ≡ removed s (deeds (only t) log) =
     ap (removed s) (own_deeds z t log reads live forward) in
-    let after : length (with_all (side (is_taking s) ps) c).messages ≡ length c.messages - removed s (say ps) =
+    let after : length (with_all (side (on_receiving_end s) ps) c).messages ≡ length c.messages - removed s (say ps) =
     ap (λ (x : View). length x.messages) (takes_form s ps c) ∙ length-drop (removed s (say ps)) c.messages in
     omega (arith, rest, held, both, own, after, more)
 
-turn : (z : Sizes) (log : List Record) (t : Txn) (d : Deed) → Legal (layout_of z) (items z log) → KeepsRules log
-    → Reads log → has_undone log t ≡ false → ((s : ℕ) → MayEnd log s t (said d))
-    → Told d (view (items z log) (deed_sender d)) → (s : ℕ) → MayTurn (items z log) t d s
+turn : (z : Sizes) (log : List Record) (t : Txn) (d : Deed) → IsLegalLog (layout_of z) (items z log) → KeepsRules log
+    → ReadsItsDeeds log → has_undone log t ≡ false → ((s : ℕ) → MayEnd log s t (said d))
+    → TellsView d (view (items z log) (deed_sender d)) → (s : ℕ) → MayTurn (items z log) t d s
 turn z log t (Append q n tag previous body) legal rules reads forward may told s = record {
   sends =
-      λ y. (alone (uses_send s) (is_sending s) (sends_same s) z log t legal reads ((may s).alone_send y), subst (λ p. Told (Append q n tag previous body) (view (items z log) p)) (eqb-true q s y) told);
+      λ y. (alone (uses_send s) (on_sending_end s) (sends_same s) z log t legal reads ((may s).alone_send y), subst (λ p. TellsView (Append q n tag previous body) (view (items z log) p)) (eqb-true q s y) told);
   takes = λ y. absurd (false≢true y);
 }
 turn z log t (UnlinkHead q n tag body) legal rules reads forward may told s = record {
   sends = λ y. absurd (false≢true y);
   takes = λ y. (
-    alone (uses_receive s) (is_taking s) (takes_same s) z log t legal reads ((may s).alone_receive y),
-    subst (λ p. Told (UnlinkHead q n tag body) (view (items z log) p)) (eqb-true q s y) told,
+    alone (uses_receive s) (on_receiving_end s) (takes_same s) z log t legal reads ((may s).alone_receive y),
+    subst (λ p. TellsView (UnlinkHead q n tag body) (view (items z log) p)) (eqb-true q s y) told,
     left z log s t rules reads (may s).not_ended forward ((may s).has_more y),
   );
 }
 turn z log t (Close q) legal rules reads forward may told s = record {
   sends =
-      λ y. (alone (uses_send s) (is_sending s) (sends_same s) z log t legal reads ((may s).alone_send y), subst (λ p. Told (Close q) (view (items z log) p)) (eqb-true q s y) told);
+      λ y. (alone (uses_send s) (on_sending_end s) (sends_same s) z log t legal reads ((may s).alone_send y), subst (λ p. TellsView (Close q) (view (items z log) p)) (eqb-true q s y) told);
   takes = λ y. absurd (false≢true y);
 }
 
@@ -164,19 +164,19 @@ some_open z (p ∷ ps) u ws h e = cc
 
 -- an OpEnd whose deed can be read
 end_turn : (z : Sizes) (log : List Record) (t : Txn) (level : ℕ) (bytes : List ℕ) (d : Deed) → level ≡ 1
-    → deed_in bytes ≡ Some d → Legal (layout_of z) (items z log) → KeepsRules log → Reads log → has_undone log t ≡ false
+    → deed_in bytes ≡ Some d → IsLegalLog (layout_of z) (items z log) → KeepsRules log → ReadsItsDeeds log → has_undone log t ≡ false
     → EndingMay log (ending_by t (cond (nat_eq level 1) (deed_in bytes) None))
-    → Told (told_deed (deed_in bytes)) (view (items z log) (deed_sender (told_deed (deed_in bytes)))) → (s : ℕ)
+    → TellsView (told_deed (deed_in bytes)) (view (items z log) (deed_sender (told_deed (deed_in bytes)))) → (s : ℕ)
     → MayTurn (items z log) t (told_deed (deed_in bytes)) s
 end_turn z log t level bytes d l e legal rules reads forward may told s =
     let one : nat_eq level 1 ≡ true = eq-eqb level 1 l in
     let here : (s : ℕ) → MayEnd log s t (said d) = rw (one, e) at may in
-    let tells : Told d (view (items z log) (deed_sender d)) = rw e at told in
+    let tells : TellsView d (view (items z log) (deed_sender d)) = rw e at told in
     rw e (turn z log t d legal rules reads forward here tells s)
 
 -- the rule of groups over views
-pub rules_groups : (z : Sizes) (log : List Record) → Legal (layout_of z) (items z log) → KeepsRules log → Reads log
-    → Tells (items z log) → KeepsGroups (items z log)
+pub rules_groups : (z : Sizes) (log : List Record) → IsLegalLog (layout_of z) (items z log) → KeepsRules log → ReadsItsDeeds log
+    → DeedsTellViews (items z log) → KeepsGroups (items z log)
 rules_groups z [] g k r h = tt
 rules_groups z (records.PageOp t n page slot before after ∷ log) g k r h = (tt, rules_groups z log g.1 k.2 r.1 h.1)
 rules_groups z (records.PageUndo t n undone page slot after ∷ log) g k r h = (tt, rules_groups z log g.1 k.2 r.1 h.1)

@@ -10,10 +10,10 @@ use Rattle.rq_model.proofs.Counts.{sum_same, count_is_sum}
 use Rattle.rq_page.specs.Sizes.{Sizes, sender_count}
 use Rattle.rq_level.specs.Chain.{View}
 use Rattle.rq_level.specs.Log.{state_of}
-use Rattle.rq_level.specs.Legal.{open_deeds, view, Legal}
+use Rattle.rq_level.specs.Legal.{open_deeds, view, IsLegalLog}
 use Rattle.rq_level.specs.Groups.{committed, KeepsGroups}
 use Rattle.rq_level.specs.Committed.{message_of}
-use Rattle.rq_level.specs.Items.{items, layout_of, Reads}
+use Rattle.rq_level.specs.Items.{items, layout_of, ReadsItsDeeds}
 use Rattle.rq_level.specs.Stored.{count_used}
 use Rattle.rq_level.specs.InStore.{InStore}
 use Rattle.rq_level.proofs.Counting.{quiet_counts}
@@ -21,13 +21,13 @@ use Rattle.rq_level.proofs.GroupRule.{settled_view}
 use Rattle.rq_level.proofs.Holding.{committed_is_group}
 
 -- what is committed and not taken is in the view of what is committed
-pub rest_shown : (z : Sizes) (s : ℕ) (log : List Record) → KeepsRules log → Reads log → length (rest_in (committed_of log) s) ≡ length (committed (items z log) s).messages
+pub rest_shown : (z : Sizes) (s : ℕ) (log : List Record) → KeepsRules log → ReadsItsDeeds log → length (rest_in (committed_of log) s) ≡ length (committed (items z log) s).messages
 rest_shown z s log rules reads =
     let h = committed_is_group z s log rules reads in
     ap length h.rest ∙ length-map (committed (items z log) s).messages (message_of s)
 
 -- nothing that an open transaction did is counted
-pub settled_counts : (z : Sizes) (log : List Record) → Legal (layout_of z) (items z log) → InStore z log → KeepsGroups (items z log) → KeepsRules log → Reads log
+pub settled_counts : (z : Sizes) (log : List Record) → IsLegalLog (layout_of z) (items z log) → InStore z log → KeepsGroups (items z log) → KeepsRules log → ReadsItsDeeds log
     → ((t : Txn) → open_deeds t (items z log) ≡ [])
     → count_used z (state_of (layout_of z) (items z log)).quiet ≡ count_rest (below (sender_count z)) (committed_of log)
 settled_counts z log legal store groups rules reads none =

@@ -16,14 +16,14 @@ use Rattle.rq_page.specs.Cells.{cell_slot_in}
 use Rattle.rq_page.specs.Directories.{new_directory}
 use Rattle.rq_page.specs.Kinds.{kind_of}
 use Rattle.rq_page.specs.Sizes.{Sizes, IsCellAddress, page_count, address, sender_at, directory_at}
-use Rattle.rq_page.specs.Slots.{Slot, IsSlotOf, IsSlotFor, held_for, held_in, of_cell_slot, spelled, MayHold}
+use Rattle.rq_page.specs.Slots.{Slot, IsSlotOf, IsSlotFor, held_for, held_in, of_cell_slot, slot_bytes, MayHold}
 use Rattle.rq_page.specs.Slots.Slot.{Used, Sender}
 use Rattle.rq_page.proofs.Spellings.{spelling_tells}
 use Rattle.rq_page.proofs.Addresses.{kind_directory, kind_cells, senders_have_slots}
 use Rattle.rq_level.specs.Log.{Slots, Write, put, applied, same_op, rest_of, state_of}
 use Rattle.rq_level.specs.Legal.{IsLayout}
 use Rattle.rq_level.specs.Items.{items, operation, layout_of, formatted_at}
-use Rattle.rq_level.specs.InStore.{InStoreOne, InStore, IsDirectoryAddress, Stands, AllStand, WritesStand}
+use Rattle.rq_level.specs.InStore.{InStoreOne, InStore, IsDirectoryAddress, IsInPlace, AllStand, WritesStand}
 use Rattle.rq_level.proofs.Overlay.{put_at, put_off}
 
 -- a page of a kind stands among the pages of that kind
@@ -51,11 +51,11 @@ page_of_directory z page e = elim (cases_lt 0 page) [
   | inr none ↦ let k : kind_of z page ≡ Some kind.Superblock = grind (arith, nat_tests) in let bad : ◌≡◌ {A = Option PageKind} (Some kind.Superblock) (Some kind.Directory) = sym k ∙ e in absurd (cc)
 ]
 
-cell_stands : (z : Sizes) (a : ℕ) (x : CellSlot) → IsCellAddress z a → Stands z a (of_cell_slot x)
+cell_stands : (z : Sizes) (a : ℕ) (x : CellSlot) → IsCellAddress z a → IsInPlace z a (of_cell_slot x)
 cell_stands z a cells.Free h = tt
 cell_stands z a (cells.Used c) h = h
 
-held_stands : (z : Sizes) (k : Option PageKind) (page slot : ℕ) (bytes : List ℕ) → 1 ≤ slot → slot ≤ 15 → kind_of z page ≡ k → IsSlotFor k z page slot bytes → Stands z (address page slot) (held_for k bytes)
+held_stands : (z : Sizes) (k : Option PageKind) (page slot : ℕ) (bytes : List ℕ) → 1 ≤ slot → slot ≤ 15 → kind_of z page ≡ k → IsSlotFor k z page slot bytes → IsInPlace z (address page slot) (held_for k bytes)
 held_stands z None page slot bytes low high e h = absurd h
 held_stands z (Some kind.Superblock) page slot bytes low high e h = absurd h
 held_stands z (Some kind.Directory) page slot bytes low high e h =
@@ -72,11 +72,11 @@ held_stands z (Some kind.Cells) page slot bytes low high e h =
     cell_stands z (address page slot) (cell_slot_in bytes) (record { above = omega arith; below = omega arith; slot = omega arith })
 
 -- a slot of the store stands where it may
-pub slot_stands : (z : Sizes) (page slot : ℕ) (bytes : List ℕ) → IsSlotOf z page slot bytes → Stands z (address page slot) (held_in z page bytes)
+pub slot_stands : (z : Sizes) (page slot : ℕ) (bytes : List ℕ) → IsSlotOf z page slot bytes → IsInPlace z (address page slot) (held_in z page bytes)
 slot_stands z page slot bytes h = held_stands z (kind_of z page) page slot bytes h.low h.high refl h.held
 
 -- a write of the spelling of what a slot may hold is of the store
-pub spelled_in_store : (z : Sizes) (t : Txn) (n page slot : ℕ) (before : List ℕ) (x : Slot) → 1 ≤ slot → slot ≤ 15 → MayHold (kind_of z page) z page slot x → InStoreOne z (records.PageOp t n page slot before (spelled x))
+pub spelled_in_store : (z : Sizes) (t : Txn) (n page slot : ℕ) (before : List ℕ) (x : Slot) → 1 ≤ slot → slot ≤ 15 → MayHold (kind_of z page) z page slot x → InStoreOne z (records.PageOp t n page slot before (slot_bytes x))
 spelled_in_store z t n page slot before x low high may = (spelling_tells z page slot x low high may).1
 
 -- so does each slot of a formatted store
@@ -89,10 +89,10 @@ formatted_stands z a = elim (cases_Bool (nat_lt 0 (a / 16) && nat_le (a / 16) z.
   | inr n ↦ rw n tt
 ]
 
-put_stands : (z : Sizes) (q : Slots) (at : ℕ) (x : Slot) → AllStand z q → Stands z at x → AllStand z (put q at x)
+put_stands : (z : Sizes) (q : Slots) (at : ℕ) (x : Slot) → AllStand z q → IsInPlace z at x → AllStand z (put q at x)
 put_stands z q at x h k a = elim (cases_eq a at) [
-  | inl e ↦ subst (Stands z a) (sym (put_at q at x a e)) (subst (λ b. Stands z b x) (sym e) k)
-  | inr ne ↦ subst (Stands z a) (sym (put_off q at x a ne)) (h a)
+  | inl e ↦ subst (IsInPlace z a) (sym (put_at q at x a e)) (subst (λ b. IsInPlace z b x) (sym e) k)
+  | inr ne ↦ subst (IsInPlace z a) (sym (put_off q at x a ne)) (h a)
 ]
 
 -- writes that stand where they may leave slots that do
@@ -153,11 +153,11 @@ quiet_stand z (records.Restart i ∷ log) h = quiet_stand z log h.1
 
 -- only cells are used
 pub used_is_cell : (z : Sizes) (q : Slots) (a : ℕ) (c : Cell) → AllStand z q → q a ≡ Used c → IsCellAddress z a
-used_is_cell z q a c h e = subst (Stands z a) e (h a)
+used_is_cell z q a c h e = subst (IsInPlace z a) e (h a)
 
 -- only a sender's directory slot tells of it
 pub sender_is_directory : (z : Sizes) (q : Slots) (a s : ℕ) (d : Directory) → AllStand z q → q a ≡ Sender s d → IsDirectoryAddress z s a
-sender_is_directory z q a s d h e = subst (Stands z a) e (h a)
+sender_is_directory z q a s d h e = subst (IsInPlace z a) e (h a)
 
 -- a store's layout is one
 pub store_is_layout : (z : Sizes) → IsLayout (layout_of z)

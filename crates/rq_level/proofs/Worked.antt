@@ -10,7 +10,7 @@ use Rattle.rq_level.specs.Chain.Sending.{TailUnlinked}
 use Rattle.rq_level.specs.Chain.Taking.{Took}
 use Rattle.rq_level.specs.Claims.{HasRoom}
 use Rattle.rq_level.specs.Numbers.{AreNumbered}
-use Rattle.rq_level.specs.Groups.{is_sending, is_taking, side, with_all, Alone, Told, MayTurn, KeepsGroups, committed}
+use Rattle.rq_level.specs.Groups.{on_sending_end, on_receiving_end, side, with_all, Alone, TellsView, MayTurn, KeepsGroups, committed}
 use Rattle.rq_level.specs.Legal.{open_deeds, view}
 use Rattle.rq_level.specs.Log.{Item}
 use Rattle.rq_level.specs.Row.{t1, t2, sends, takes, row, committed_one, done_two, stopped, restarted}
@@ -19,27 +19,27 @@ use Rattle.rq_level.proofs.GroupRule.{row_groups}
 use Rattle.rq_level.proofs.Interleaved.{row_legal, first_of_a}
 use Rattle.rq_level.proofs.Rows.{restarted_legal, taken_legal, closed_legal, stopped_spares, stopped_writes}
 
-may_send : (log : List Item) (t : Txn) (q : ℕ) → Alone (is_sending q) t log → Told (sends q) (view log q) → (s : ℕ)
+may_send : (log : List Item) (t : Txn) (q : ℕ) → Alone (on_sending_end q) t log → TellsView (sends q) (view log q) → (s : ℕ)
     → MayTurn log t (sends q) s
 may_send log t q alone told s = record {
-  sends = λ y. subst (λ k. Alone (is_sending k) t log × Told (sends q) (view log k)) (eqb-true q s y) (alone, told);
+  sends = λ y. subst (λ k. Alone (on_sending_end k) t log × TellsView (sends q) (view log k)) (eqb-true q s y) (alone, told);
   takes = λ y. absurd (false≢true y);
 }
 
-may_close : (log : List Item) (t : Txn) (q : ℕ) → Alone (is_sending q) t log → (view log q).closed ≡ false → (s : ℕ)
+may_close : (log : List Item) (t : Txn) (q : ℕ) → Alone (on_sending_end q) t log → (view log q).closed ≡ false → (s : ℕ)
     → MayTurn log t (Close q) s
 may_close log t q alone told s = record {
-  sends = λ y. subst (λ k. Alone (is_sending k) t log × Told (Close q) (view log k)) (eqb-true q s y) (alone, told);
+  sends = λ y. subst (λ k. Alone (on_sending_end k) t log × TellsView (Close q) (view log k)) (eqb-true q s y) (alone, told);
   takes = λ y. absurd (false≢true y);
 }
 
-may_take : (log : List Item) (t : Txn) (q : ℕ) → Alone (is_taking q) t log → Told (takes q) (view log q)
-    → 0 < length (with_all (side (is_taking q) (open_deeds t log)) (committed log q)).messages → (s : ℕ)
+may_take : (log : List Item) (t : Txn) (q : ℕ) → Alone (on_receiving_end q) t log → TellsView (takes q) (view log q)
+    → 0 < length (with_all (side (on_receiving_end q) (open_deeds t log)) (committed log q)).messages → (s : ℕ)
     → MayTurn log t (takes q) s
 may_take log t q alone told more s = record {
   sends = λ y. absurd (false≢true y);
   takes =
-      λ y. subst (λ k. Alone (is_taking k) t log × Told (takes q) (view log k) × (0 < length (with_all (side (is_taking k) (open_deeds t log)) (committed log k)).messages)) (eqb-true q s y) (alone, told, more);
+      λ y. subst (λ k. Alone (on_receiving_end k) t log × TellsView (takes q) (view log k) × (0 < length (with_all (side (on_receiving_end k) (open_deeds t log)) (committed log k)).messages)) (eqb-true q s y) (alone, told, more);
 }
 
 -- an operation that has a record may be of any number
@@ -56,9 +56,9 @@ one_groups = (tt, (may_send _ t1 0 (λ u n. refl) (refl, refl, refl), (tt, (tt, 
 two_groups : KeepsGroups done_two
 two_groups = (
   may_take _ t2 0
-      (λ u n. elim (cases_Bool (same_txn t2 u)) [ inl y ↦ rw y (ap (side (is_taking 0)) (none_open u)) | inr m ↦ rw m (ap (side (is_taking 0)) (none_open u)) ])
+      (λ u n. elim (cases_Bool (same_txn t2 u)) [ inl y ↦ rw y (ap (side (on_receiving_end 0)) (none_open u)) | inr m ↦ rw m (ap (side (on_receiving_end 0)) (none_open u)) ])
       ([], refl, refl) (omega arith),
-  (tt, (tt, (may_send _ t2 15 (λ u n. ap (side (is_sending 15)) (none_open u)) (refl, refl, refl), (tt, (tt, one_groups))))),
+  (tt, (tt, (may_send _ t2 15 (λ u n. ap (side (on_sending_end 15)) (none_open u)) (refl, refl, refl), (tt, (tt, one_groups))))),
 )
 
 restarted_groups : KeepsGroups restarted
@@ -127,7 +127,7 @@ refused = record {
   taken_keeps = record {
     legal = taken_legal;
     groups =
-        (may_take _ t2 0 (λ u n. ap (side (is_taking 0)) (none_open u)) ([], refl, refl) (omega arith), (tt, (tt, one_groups)));
+        (may_take _ t2 0 (λ u n. ap (side (on_receiving_end 0)) (none_open u)) ([], refl, refl) (omega arith), (tt, (tt, one_groups)));
     room = (omega arith, (tt, (tt, (tt, (omega arith, (tt, (tt, (tt, tt))))))));
     numbers =
         (tt, (again, ((λ e. refl), (tt, (tt, (again, ((λ e. refl), (tt, tt))))))));

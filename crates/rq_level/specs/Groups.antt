@@ -10,15 +10,15 @@ use Rattle.rq_level.specs.Plans.{with_turn, deed_sender}
 use Rattle.rq_level.specs.Plans.Turn.{Did}
 use Rattle.rq_level.specs.Legal.{Placed, open_deeds, no_view, view}
 
-abbrev pub is_sending : ℕ → Deed → Bool
-is_sending s (Append r n tag previous body) = r == s
-is_sending s (UnlinkHead r n tag body) = false
-is_sending s (Close r) = r == s
+abbrev pub on_sending_end : ℕ → Deed → Bool
+on_sending_end s (Append r n tag previous body) = r == s
+on_sending_end s (UnlinkHead r n tag body) = false
+on_sending_end s (Close r) = r == s
 
-abbrev pub is_taking : ℕ → Deed → Bool
-is_taking s (Append r n tag previous body) = false
-is_taking s (UnlinkHead r n tag body) = r == s
-is_taking s (Close r) = false
+abbrev pub on_receiving_end : ℕ → Deed → Bool
+on_receiving_end s (Append r n tag previous body) = false
+on_receiving_end s (UnlinkHead r n tag body) = r == s
+on_receiving_end s (Close r) = false
 
 abbrev pub side : (Deed → Bool) → List Placed → List Deed
 side f [] = []
@@ -29,8 +29,8 @@ with_all [] v = v
 with_all (d ∷ ds) v = with_turn (Did d) (with_all ds v)
 
 abbrev pub committed_after : ℕ → Item → List Item → View → View
-committed_after s (Commit t) log v = with_all (side (is_sending s) (open_deeds t log))
-    (with_all (side (is_taking s) (open_deeds t log)) v)
+committed_after s (Commit t) log v = with_all (side (on_sending_end s) (open_deeds t log))
+    (with_all (side (on_receiving_end s) (open_deeds t log)) v)
 committed_after s _ log v = v
 
 -- what committed transactions leave of s
@@ -43,17 +43,17 @@ abbrev pub Alone : (Deed → Bool) → Txn → List Item → Type 0
 Alone f t log = (u : Txn) → u ≢ t → side f (open_deeds u log) ≡ []
 
 -- the view that the deed was done over: nothing is sent to a closed group, nor is it closed again
-abbrev pub Told : Deed → View → Type 0
-Told (Append s n tag previous body) v =
+abbrev pub TellsView : Deed → View → Type 0
+TellsView (Append s n tag previous body) v =
     (previous ≡ v.last_tag) × (n ≡ v.received + length v.messages + 1) × (v.closed ≡ false)
-Told (UnlinkHead s n tag body) v = (rest : List (ℕ × List ℕ)) × (v.messages ≡ (tag, body) ∷ rest) × (n ≡ v.received + 1)
-Told (Close s) v = v.closed ≡ false
+TellsView (UnlinkHead s n tag body) v = (rest : List (ℕ × List ℕ)) × (v.messages ≡ (tag, body) ∷ rest) × (n ≡ v.received + 1)
+TellsView (Close s) v = v.closed ≡ false
 
 -- the rule of groups and receives for a record: what it comes to over views
 pub record MayTurn (log : List Item) (t : Txn) (d : Deed) (s : ℕ) : Type 0 where
-  pub sends : is_sending s d ≡ true → Alone (is_sending s) t log × Told d (view log s)
-  pub takes : is_taking s d ≡ true → Alone (is_taking s) t log × Told d (view log s)
-      × (0 < length (with_all (side (is_taking s) (open_deeds t log)) (committed log s)).messages)
+  pub sends : on_sending_end s d ≡ true → Alone (on_sending_end s) t log × TellsView d (view log s)
+  pub takes : on_receiving_end s d ≡ true → Alone (on_receiving_end s) t log × TellsView d (view log s)
+      × (0 < length (with_all (side (on_receiving_end s) (open_deeds t log)) (committed log s)).messages)
 
 abbrev pub MayGroup : List Item → Item → Type 0
 MayGroup log (OpEnd o d) = (s : ℕ) → MayTurn log o.txn d s
@@ -66,9 +66,9 @@ KeepsGroups (r ∷ log) = MayGroup log r × KeepsGroups log
 
 -- each deed tells what it was done over
 abbrev pub TellsOne : List Item → Item → Type 0
-TellsOne log (OpEnd o d) = Told d (view log (deed_sender d))
+TellsOne log (OpEnd o d) = TellsView d (view log (deed_sender d))
 TellsOne log _ = Unit {0}
 
-abbrev pub Tells : List Item → Type 0
-Tells [] = Unit {0}
-Tells (r ∷ log) = TellsOne log r × Tells log
+abbrev pub DeedsTellViews : List Item → Type 0
+DeedsTellViews [] = Unit {0}
+DeedsTellViews (r ∷ log) = TellsOne log r × DeedsTellViews log

@@ -33,19 +33,19 @@ pub record IsDirectoryAddress (z : Sizes) (s a : ℕ) : Type 0 where
   pub slot : 1 ≤ a % 16
 
 -- a message stands in a cell, and what the directory says of a sender in the sender's directory slot
-abbrev pub Stands : Sizes → ℕ → Slot → Type 0
-Stands z a Free = Unit {0}
-Stands z a (Used c) = IsCellAddress z a
-Stands z a (Sender s d) = IsDirectoryAddress z s a
+abbrev pub IsInPlace : Sizes → ℕ → Slot → Type 0
+IsInPlace z a Free = Unit {0}
+IsInPlace z a (Used c) = IsCellAddress z a
+IsInPlace z a (Sender s d) = IsDirectoryAddress z s a
 
 -- each slot stands where it may
 abbrev pub AllStand : Sizes → Slots → Type 0
-AllStand z q = (a : ℕ) → Stands z a (q a)
+AllStand z q = (a : ℕ) → IsInPlace z a (q a)
 
 -- what each of these writes leaves stands where it may
 abbrev pub WritesStand : Sizes → List Write → Type 0
 WritesStand z [] = Unit {0}
-WritesStand z (w ∷ ws) = Stands z w.at w.after × WritesStand z ws
+WritesStand z (w ∷ ws) = IsInPlace z w.at w.after × WritesStand z ws
 
 -- the record is one of the transaction's
 abbrev pub mentions : Txn → Record → Bool

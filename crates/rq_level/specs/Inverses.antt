@@ -2,7 +2,7 @@
 use Rattle.std.specs.Prelude.{◌≡◌, ℕ, ◌<◌, ◌++◌, List, [], ◌∷◌, Bool, true, false}
 use Rattle.rq_model.specs.declared.record.Deed.TheVariants.{Append, UnlinkHead, Close}
 use Rattle.rq_level.specs.Chain.{View, Taking, Sending, AreTaken, AreSent}
-use Rattle.rq_level.specs.Groups.{Told}
+use Rattle.rq_level.specs.Groups.{TellsView}
 use Rattle.rq_level.specs.Plans.{Turn, with_turn}
 use Rattle.rq_level.specs.Plans.Turn.{Did, Undid}
 
@@ -24,7 +24,7 @@ is_of_receiver (Undid (Close s)) = false
 -- the last one and its tag the
 -- last tag; some message is received; the group is closed.
 abbrev pub CanBeDone : Turn → View → Type 0
-CanBeDone (Did d) v = Told d v
+CanBeDone (Did d) v = TellsView d v
 CanBeDone (Undid (Append s n tag previous body)) v =
     (v.last_tag ≡ tag) × ((front : List (ℕ × List ℕ)) × (v.messages ≡ front ++ (tag, body) ∷ []))
 CanBeDone (Undid (UnlinkHead s n tag body)) v = 0 < v.received

@@ -69,6 +69,6 @@ ReadsOne log (records.OpEnd t n level deed) =
 ReadsOne log (records.Commit t) = has_undone log t ≡ false
 ReadsOne log _ = Unit {0}
 
-abbrev pub Reads : List Record → Type 0
-Reads [] = Unit {0}
-Reads (r ∷ log) = ReadsOne log r × Reads log
+abbrev pub ReadsItsDeeds : List Record → Type 0
+ReadsItsDeeds [] = Unit {0}
+ReadsItsDeeds (r ∷ log) = ReadsOne log r × ReadsItsDeeds log

@@ -1,4 +1,4 @@
--- Legal logs: what each record needs of the log before it; and what a log makes of each sender's view.
+-- IsLegalLog logs: what each record needs of the log before it; and what a log makes of each sender's view.
 use Rattle.rq_model.specs.declared.record.Deed.{Deed}
 use Rattle.rq_page.specs.declared.directory.Directory.{Directory}
 use Rattle.rq_model.specs.declared.txn.Sub.{Sub}
@@ -109,9 +109,9 @@ does t (OpEnd o d) = same_txn o.txn t
 does t _ = false
 
 -- the transaction has done something, taken back or not
-abbrev pub has_done : Txn → List Item → Bool
-has_done t [] = false
-has_done t (r ∷ log) = does t r || has_done t log
+abbrev pub has_deed : Txn → List Item → Bool
+has_deed t [] = false
+has_deed t (r ∷ log) = does t r || has_deed t log
 
 -- the page of a page record
 abbrev pub on_page : (ℕ → ℕ) → ℕ → Item → Bool
@@ -200,21 +200,21 @@ pub record MayAbortEnd (log : List Item) (t : Txn) : Type 0 where
 -- no operation is under way, and whoever did something has its Commit or AbortEnd
 pub record MayRestart (log : List Item) (i : ℕ) : Type 0 where
   pub idle : (o : Sub) → under_way o log ≡ false
-  pub ended : (t : Txn) → has_done t log ≡ true → has_end t log ≡ true
+  pub ended : (t : Txn) → has_deed t log ≡ true → has_end t log ≡ true
 
-abbrev pub May : Layout → List Item → Item → Type 0
-May l log (PageOp o w) = MayPageOp l log o w
-May l log (PageUndo o u at after) = MayPageUndo l log o u at after
-May l log (OpEnd o d) = MayOpEnd l log o d
-May l log (OpVoid o) = MayOpVoid l log o
-May l log (CompEnd o u) = MayCompEnd l log o u
-May l log (Commit t) = MayCommit log t
-May l log (AbortEnd t) = MayAbortEnd log t
-May l log (Restart i) = MayRestart log i
+abbrev pub MayFollow : Layout → List Item → Item → Type 0
+MayFollow l log (PageOp o w) = MayPageOp l log o w
+MayFollow l log (PageUndo o u at after) = MayPageUndo l log o u at after
+MayFollow l log (OpEnd o d) = MayOpEnd l log o d
+MayFollow l log (OpVoid o) = MayOpVoid l log o
+MayFollow l log (CompEnd o u) = MayCompEnd l log o u
+MayFollow l log (Commit t) = MayCommit log t
+MayFollow l log (AbortEnd t) = MayAbortEnd log t
+MayFollow l log (Restart i) = MayRestart log i
 
-abbrev pub Legal : Layout → List Item → Type 0
-Legal l [] = Unit {0}
-Legal l (r ∷ log) = May l log r × Legal l log
+abbrev pub IsLegalLog : Layout → List Item → Type 0
+IsLegalLog l [] = Unit {0}
+IsLegalLog l (r ∷ log) = MayFollow l log r × IsLegalLog l log
 
 abbrev pub empty_directory : Directory
 empty_directory = record { closed = false; sent = 0; received = 0; last_tag = 0; head = 0; tail = 0 }

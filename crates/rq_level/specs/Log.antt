@@ -36,9 +36,9 @@ applied [] q = q
 applied (w ∷ ws) q = put (applied ws q) w.at w.after
 
 -- each before-image is what the writes before it leave
-abbrev pub Fits : List Write → Slots → Type 0
-Fits [] q = Unit {0}
-Fits (w ∷ ws) q = (w.before ≡ applied ws q w.at) × Fits ws q
+abbrev pub HasBefores : List Write → Slots → Type 0
+HasBefores [] q = Unit {0}
+HasBefores (w ∷ ws) q = (w.before ≡ applied ws q w.at) × HasBefores ws q
 
 -- none of the writes is at a
 abbrev pub Untouched : ℕ → List Write → Type 0
@@ -83,7 +83,7 @@ pub record Layout : Type 0 where
 
 -- What a log comes to: the slots; the slots with whole operations alone, each made at its end (quiet);
 -- of each operation under way its writes not undone, newest first, and on which pages it stands.
-pub record State : Type 0 where
+pub record LogState : Type 0 where
   pub slots : Slots
   pub quiet : Slots
   pub writes : Sub → List Write
@@ -116,7 +116,7 @@ stands_after page (Done q) o p b = cond (same_op q o) false b
 stands_after page (Voided q) o p b = cond (same_op q o) false b
 stands_after page Nothing o p b = b
 
-abbrev pub after_act : (ℕ → ℕ) → Act → State → State
+abbrev pub after_act : (ℕ → ℕ) → Act → LogState → LogState
 after_act page x z = record {
   slots = slots_after x z.slots;
   quiet = quiet_after x z.writes z.quiet;
@@ -124,7 +124,7 @@ after_act page x z = record {
   stands = λ o p. stands_after page x o p (z.stands o p);
 }
 
-abbrev pub state_of : Layout → List Item → State
+abbrev pub state_of : Layout → List Item → LogState
 state_of l [] = record { slots = l.formatted; quiet = l.formatted; writes = λ o. []; stands = λ o p. false }
 state_of l (r ∷ log) = after_act l.page (act r) (state_of l log)
 
@@ -134,11 +134,11 @@ IsNewest [] at x = ⊥
 IsNewest (w ∷ ws) at x = (w.at ≡ at) × (w.before ≡ x)
 
 -- what a page record, or an operation's end, needs of slots and pages
-pub record MayWrite (page : ℕ → ℕ) (z : State) (o : Sub) (w : Write) : Type 0 where
+pub record MayWrite (page : ℕ → ℕ) (z : LogState) (o : Sub) (w : Write) : Type 0 where
   pub before : w.before ≡ z.slots w.at
   pub alone : (u : Sub) → same_op o u ≡ false → z.stands u (page w.at) ≡ false
 
-abbrev pub MayAct : (ℕ → ℕ) → State → Act → Type 0
+abbrev pub MayAct : (ℕ → ℕ) → LogState → Act → Type 0
 MayAct page z (Wrote o w) = MayWrite page z o w
 MayAct page z (Unwrote o at after) = IsNewest (z.writes o) at after
 MayAct page z (Done o) = Unit {0}

@@ -27,9 +27,9 @@ Spares s [] = Unit {0}
 Spares s (w ∷ ws) = IsForeignSlot s w.before × Spares s ws
 
 -- the cell at an address that a cell names: none at 0, else one of s
-abbrev pub IsLink : ℕ → ℕ → Option Cell → Type 0
-IsLink s at None = at ≡ 0
-IsLink s at (Some c) = (0 < at) × (c.sender ≡ s)
+abbrev pub LinksTo : ℕ → ℕ → Option Cell → Type 0
+LinksTo s at None = at ≡ 0
+LinksTo s at (Some c) = (0 < at) × (c.sender ≡ s)
 
 -- a write of a cell that is there
 abbrev pub relinked : ℕ → Option Cell → (Cell → Cell) → List Write → List Write
@@ -69,7 +69,7 @@ pub record IsAppend (l : Layout) (s n tag previous : ℕ) (body : List ℕ) (ws 
   pub used : 0 < new
   pub sequence : n ≡ directory.sent + 1
   pub previous_is : previous ≡ directory.last_tag
-  pub old_is : IsLink s directory.tail old
+  pub old_is : LinksTo s directory.tail old
   pub writes : ws ≡ append_writes l s directory new tag body old
 
 abbrev pub directory_head_unlinked : Directory → Cell → Directory
@@ -94,7 +94,7 @@ pub record IsUnlinkHead (l : Layout) (s n tag : ℕ) (body : List ℕ) (ws : Lis
   pub sequence : n ≡ directory.received + 1
   pub tag_is : tag ≡ cell.tag
   pub body_is : body ≡ cell.body
-  pub next_is : IsLink s cell.next next
+  pub next_is : LinksTo s cell.next next
   pub writes : ws ≡ unlink_head_writes l s directory cell next
 
 abbrev pub directory_tail_unlinked : Directory → Cell → ℕ → Directory
@@ -118,7 +118,7 @@ pub record IsUnlinkTail (l : Layout) (s n previous : ℕ) (ws : List Write) : Ty
   pub used : 0 < directory.tail
   pub sender : cell.sender ≡ s
   pub sequence : n ≡ cell.sequence
-  pub front_is : IsLink s cell.prev front
+  pub front_is : LinksTo s cell.prev front
   pub writes : ws ≡ unlink_tail_writes l s directory cell previous front
 
 abbrev pub directory_put_back : Directory → ℕ → Directory
@@ -152,7 +152,7 @@ pub record IsPutBack (l : Layout) (s n tag : ℕ) (body : List ℕ) (ws : List W
   pub used : 0 < new
   pub some_received : 0 < directory.received
   pub sequence : n ≡ directory.received
-  pub old_is : IsLink s directory.head old
+  pub old_is : LinksTo s directory.head old
   pub writes : ws ≡ put_back_writes l s directory new tag body old
 
 pub record IsMark (l : Layout) (s : ℕ) (closed : Bool) (ws : List Write) : Type 0 where

@@ -16,7 +16,7 @@ use Rattle.rq_level.specs.Claims.{claimed, MayClaim, HasRoom}
 use Rattle.rq_level.specs.Groups.{MayGroup, KeepsGroups, committed}
 use Rattle.rq_level.specs.Inverses.{CanBeDone, inverse}
 use Rattle.rq_level.specs.Items.{ReadsOne}
-use Rattle.rq_level.specs.Legal.{Legal, MayPageOp, MayRestart, open_deeds, view}
+use Rattle.rq_level.specs.Legal.{IsLegalLog, MayPageOp, MayRestart, open_deeds, view}
 use Rattle.rq_level.specs.Log.{Item, Write, state_of}
 use Rattle.rq_level.specs.Log.Item.{PageOp, OpEnd, Commit, Restart}
 use Rattle.rq_level.specs.Numbers.{greatest, IsNumbered, AreNumbered}
@@ -26,7 +26,7 @@ use Rattle.rq_level.specs.Row.{sizes, small, t1, t2, of, a1, b1, cell, new_a, ne
 
 -- the log keeps every rule
 pub record KeepsAll (log : List Item) : Type 0 where
-  pub legal : Legal small log
+  pub legal : IsLegalLog small log
   pub groups : KeepsGroups log
   pub room : HasRoom (cell_count sizes) log
   pub numbers : AreNumbered log

@@ -5,7 +5,7 @@ use Rattle.std.proofs.Common.{◌≡◌, ⊎_elim, ℕ, zero, suc, ◌+◌, ◌�
 use Rattle.std.proofs.lemmas.List.{take_all, drop_all, append-nil, take-append-drop, length-take-le}
 use Rattle.rq_model.specs.declared.record.Record.{Record}
 use Rattle.rq_disk.specs.Device.{Appended}
-use Rattle.rq_disk.specs.Records.{record_size, AreRecords, front}
+use Rattle.rq_disk.specs.Records.{record_size, AreRecords, first_records}
 use Rattle.rq_disk.proofs.Records.{records-append, front_nil, front-append}
 use Rattle.rq_record.specs.Spelling.{IsRecord, spelling}
 use Rattle.rq_record.proofs.Whole.{framed_whole, long_spelling}
@@ -41,31 +41,31 @@ spelled_records (r ∷ rs) are =
     let same : length rs + 1 ≡ suc (length rs) = omega arith in
     subst (λ (n : ℕ). AreRecords n (spelled rs ++ spelling r)) same (records-append (length rs) 1 (spelled rs) (spelling r) (spelled_records rs are.1) (one_record r are.0))
 
-front_one : (k : ℕ) (r : Record) → IsRecord r → front (suc k) (spelling r) ≡ spelling r
+front_one : (k : ℕ) (r : Record) → IsRecord r → first_records (suc k) (spelling r) ≡ spelling r
 front_one k r is =
     let b = spelling r in
     let s = record_size b in
     let size = one_size r is in
-    ap (λ (l : List ℕ). l ++ front k (drop s b)) (take_all s b (omega (arith, size)))
-    ∙ ap (λ (l : List ℕ). b ++ front k l) (drop_all s b (omega (arith, size)))
+    ap (λ (l : List ℕ). l ++ first_records k (drop s b)) (take_all s b (omega (arith, size)))
+    ∙ ap (λ (l : List ℕ). b ++ first_records k l) (drop_all s b (omega (arith, size)))
     ∙ ap (λ (l : List ℕ). b ++ l) (front_nil k) ∙ append-nil b
 
 -- all but the newest few of some records
 abbrev Older : List Record → List ℕ → Type 0
 Older rs bytes = (lost : ℕ) × (lost ≤ length rs) × (bytes ≡ spelled (drop lost rs))
 
-newest : (j : ℕ) (r : Record) (rs : List Record) (bytes : List ℕ) → IsRecord r → bytes ≡ spelled rs ++ front j (spelling r) → Older (r ∷ rs) bytes
+newest : (j : ℕ) (r : Record) (rs : List Record) (bytes : List ℕ) → IsRecord r → bytes ≡ spelled rs ++ first_records j (spelling r) → Older (r ∷ rs) bytes
 newest zero r rs bytes is e = (1, omega arith, e ∙ append-nil (spelled rs))
 newest (suc j) r rs bytes is e = (0, omega arith, e ∙ ap (λ (l : List ℕ). spelled rs ++ l) (front_one j r is))
 
 -- the first few of spelled records are all but the newest few
-pub front_spelled : (k : ℕ) (rs : List Record) → AreSpelled rs → Older rs (front k (spelled rs))
+pub front_spelled : (k : ℕ) (rs : List Record) → AreSpelled rs → Older rs (first_records k (spelled rs))
 front_spelled k [] are = (0, omega arith, front_nil k)
 front_spelled k (r ∷ rs) are =
     let more = front_spelled k rs are.1 in
     ⊎_elim
     (λ same. (suc more.0, omega (arith, more.1), same ∙ more.2))
-    (λ all. newest all.0 r rs (front k (spelled rs ++ spelling r)) are.0 all.1)
+    (λ all. newest all.0 r rs (first_records k (spelled rs ++ spelling r)) are.0 all.1)
     (front-append (length rs) k (spelled rs) (spelling r) (spelled_records rs are.1))
 
 drop_joined : (m count : ℕ) (rs : List Record) → m ≤ count → drop m (take count rs) ++ drop count rs ≡ drop m rs
@@ -75,7 +75,7 @@ drop_joined (suc m) (suc count) [] le = refl
 drop_joined (suc m) (suc count) (r ∷ rs) le = drop_joined m count rs (omega arith)
 
 -- the older records and a few of the newer ones behind them
-pub some_newer : (rs : List Record) (kept count k : ℕ) → AreSpelled rs → count + kept ≤ length rs → IsBeginning rs kept (spelled (drop count rs) ++ front k (spelled (take count rs)))
+pub some_newer : (rs : List Record) (kept count k : ℕ) → AreSpelled rs → count + kept ≤ length rs → IsBeginning rs kept (spelled (drop count rs) ++ first_records k (spelled (take count rs)))
 some_newer rs kept count k are le =
     let f = front_spelled k (take count rs) (AreSpelled-take count rs are) in
     let short : f.0 ≤ count = omega (arith, f.1, length-take-le count rs (omega arith)) in (
@@ -85,7 +85,7 @@ some_newer rs kept count k are le =
     )
 
 -- what was read with a few of the newer records behind it
-pub goes_on : (rs : List Record) (kept count k : ℕ) (seen buffer c : List ℕ) → AreSpelled rs → count + kept ≤ length rs → seen ≡ spelled (drop count rs) → buffer ≡ spelled (take count rs) → c ≡ seen ++ front k buffer → GoesOn rs kept seen c
+pub goes_on : (rs : List Record) (kept count k : ℕ) (seen buffer c : List ℕ) → AreSpelled rs → count + kept ≤ length rs → seen ≡ spelled (drop count rs) → buffer ≡ spelled (take count rs) → c ≡ seen ++ first_records k buffer → GoesOn rs kept seen c
 goes_on rs kept count k seen buffer c are le reads holds is =
     let f = front_spelled k (take count rs) (AreSpelled-take count rs are) in
     let short : f.0 ≤ count = omega (arith, f.1, length-take-le count rs (omega arith)) in
@@ -96,7 +96,7 @@ goes_on rs kept count k seen buffer c are le reads holds is =
       lost = f.0;
       some = short;
       is =
-          is ∙ ap (λ (l : List ℕ). l ++ front k buffer) reads ∙ ap (λ (l : List ℕ). spelled (drop count rs) ++ front k l) holds
+          is ∙ ap (λ (l : List ℕ). l ++ first_records k buffer) reads ∙ ap (λ (l : List ℕ). spelled (drop count rs) ++ first_records k l) holds
           ∙ ap (λ (l : List ℕ). spelled (drop count rs) ++ l) f.2 ∙ sym (spelled-append (drop f.0 (take count rs)) (drop count rs)) ∙ ap spelled (drop_joined f.0 count rs short);
     }
 
@@ -105,7 +105,7 @@ pub appended : (rs : List Record) (kept count : ℕ) (seen buffer : List ℕ) (o
     → ((c : List ℕ) → old c → IsBeginning rs kept c) → Appended seen buffer old new → (c : List ℕ) → new c → IsBeginning rs kept c
 appended rs kept count seen buffer old new are le reads holds before crash c now =
     ⊎_elim (before c)
-    (λ added. subst (IsBeginning rs kept) (sym (added.1 ∙ ap (λ (l : List ℕ). l ++ front added.0 buffer) reads ∙ ap (λ (l : List ℕ). spelled (drop count rs) ++ front added.0 l) holds)) (some_newer rs kept count added.0 are le))
+    (λ added. subst (IsBeginning rs kept) (sym (added.1 ∙ ap (λ (l : List ℕ). l ++ first_records added.0 buffer) reads ∙ ap (λ (l : List ℕ). spelled (drop count rs) ++ first_records added.0 l) holds)) (some_newer rs kept count added.0 are le))
     (crash c now)
 
 -- a newer record behind them changes nothing of what is left

@@ -2,7 +2,7 @@
 #![tactic(auto)]
 
 ghost use Rattle.std.specs.Prelude.{◌≡◌, ◌+◌, ◌-◌, ◌^◌, ◌<◌, ◌≤◌, ◌∷◌, OnOk, OnErr, IfOk, IfErr, IsErrOf, ℕ, List, Bool, true, false, length, reverse};
-ghost use Rattle.rq_disk.specs.Device.{Only, HasCause};
+ghost use Rattle.rq_disk.specs.Device.{Only, FailureIsCounted};
 ghost use Rattle.rq_record.specs.Spelling.{IsInRange, spelling};
 ghost use Rattle.rq_log.specs.Crash.{LeavesOnly};
 ghost use Rattle.rq_log.specs.Logged.{IsLog, WasDurable, WasLeftOrGoesOn};

@@ -17,9 +17,9 @@ impl Model for Past {
 
     ghost Value = { List Record };
 
-    ghost use Rattle.rq_log.specs.PastRecords.{noted};
+    ghost use Rattle.rq_log.specs.PastRecords.{past_records};
 
-    ghost view = { λ p. noted p.newest };
+    ghost view = { λ p. past_records p.newest };
 
     ghost size = { length };
 

@@ -11,7 +11,7 @@ use Rattle.rq_model.specs.History.{Job, Entry, Call, finished, did_by, ops_by, c
 use Rattle.rq_model.specs.History.Job.{Sending, Taking, Ending, Undoing}
 use Rattle.rq_model.specs.History.Entry.{Begun, Started, None_free, None_from, Stepped, Ready, Did, Undid, Committed, Acknowledged, Aborting, None_left, Aborted, Handed_over, Forced, Wrote, Told, Shown, Refused, Crash, Restarted}
 use Rattle.rq_model.specs.Ledger.{Open, Done, Ledger, found, change, without, ops_of, after, ledger, started, stepped, writes, done_more, undone, fresh_one, any_ends, ended_in, add_number}
-use Rattle.rq_model.specs.Legal.{Size, Legal, IsLegal, Passes, is_aborting, call_of, Answers, has_closed, free_to_send}
+use Rattle.rq_model.specs.Legal.{Size, Legal, IsLegal, Passes, is_aborting, start_of, IsDoneBy, has_closed, free_to_send}
 use Rattle.rq_model.proofs.Lists.{same_self}
 use Rattle.rq_model.proofs.Keeps.{found_in, changed, gone}
 use Rattle.rq_model.proofs.Each.{start_at, did_at, undid_at, step_at, GoodAt, Good-ledger, known, add_same, add_from, add_not, free_is}
@@ -154,7 +154,7 @@ Change-held z h l t n r o p g j e free tx sd en se =
       send_open = λ m x. (se m x).2;
     }
 
-Clear-started : (z : Size) (h : List Entry) (l : Ledger) (t : Txn) (n left : ℕ) (job : Job) (o : Open) → Clear h l.committed l.open_ones → GoodAt l → TiedAt h l → found t l.open_ones ≡ Some o → Passes z l (call_of t job) → Clear (Started t n job ∷ h) l.committed (change t (started n left job) l.open_ones)
+Clear-started : (z : Size) (h : List Entry) (l : Ledger) (t : Txn) (n left : ℕ) (job : Job) (o : Open) → Clear h l.committed l.open_ones → GoodAt l → TiedAt h l → found t l.open_ones ≡ Some o → Passes z l (start_of t job) → Clear (Started t n job ∷ h) l.committed (change t (started n left job) l.open_ones)
 Clear-started z h l t n left (Sending m) o g good tied x p =
     let at = found_in t l.open_ones o x in
     let w = or_parts (ended_in l.committed m.sender) (has_closed m.sender (found t l.open_ones)) p.1.1.1.1.1.1.1.0 in
@@ -173,7 +173,7 @@ Clear-started z h l t n left Undoing o g good tied x p =
     Clear-change h (Started t n Undoing) l t (started n left Undoing) o g good x refl (Change-plain h l.committed l.open_ones o (started n left Undoing o) g (found_in t l.open_ones o x).0 refl refl (λ m e. absurd (cc)) (λ s e. absurd (cc)))
 
 -- a close that is done had its end
-did_end : (h : List Entry) (l : Ledger) (o : Open) (under : Option Job) (op : Op) (s : ℕ) → Clear h l.committed l.open_ones → In o l.open_ones → o.under ≡ under → Answers l o under op → ends s op ≡ true → has_number s o.sending ≡ true
+did_end : (h : List Entry) (l : Ledger) (o : Open) (under : Option Job) (op : Op) (s : ℕ) → Clear h l.committed l.open_ones → In o l.open_ones → o.under ≡ under → IsDoneBy l o under op → ends s op ≡ true → has_number s o.sending ≡ true
 did_end h l o (Some (Ending r)) (End k) s g j u a e = let w : r ≡ s = sym a ∙ eqb-true k s e in g.end_held o s j (subst (λ x. o.under ≡ Some (Ending x)) w u)
 did_end h l o (Some (Sending r)) (Send m) s g j u a e = absurd (false≢true e)
 did_end h l o (Some (Taking r)) (Take m) s g j u a e = absurd (false≢true e)
@@ -187,7 +187,7 @@ did_end h l o (Some (Ending m)) (Send n) s g j u a e = absurd a
 did_end h l o (Some (Ending m)) (Take n) s g j u a e = absurd a
 
 -- a send that is done was under way
-did_send : (l : Ledger) (o : Open) (under : Option Job) (op : Op) (s : ℕ) → Answers l o under op → sends_to s op ≡ true → (m : Message) × (under ≡ Some (Sending m)) × (m.sender ≡ s)
+did_send : (l : Ledger) (o : Open) (under : Option Job) (op : Op) (s : ℕ) → IsDoneBy l o under op → sends_to s op ≡ true → (m : Message) × (under ≡ Some (Sending m)) × (m.sender ≡ s)
 did_send l o (Some (Sending m)) (Send n) s a e = (m, refl, ap (λ (x : Message). x.sender) (sym a) ∙ eqb-true n.sender s e)
 did_send l o (Some (Taking r)) (Take m) s a e = absurd (false≢true e)
 did_send l o (Some (Ending r)) (End m) s a e = absurd (false≢true e)
@@ -216,7 +216,7 @@ none_closed h l o m g tied j a u k = elim (who l.committed l.open_ones u k) [
       false≢true (sym (g.send_clear o m j a) ∙ ap (λ w. any_ends m.sender (ops_by h w)) (sym (v.2 ∙ y)) ∙ e))
 ]
 
-Clear-did : (h : List Entry) (l : Ledger) (t : Txn) (n : ℕ) (op : Op) (o : Open) → Clear h l.committed l.open_ones → GoodAt l → TiedAt h l → found t l.open_ones ≡ Some o → Answers l o o.under op → Clear (Did t n op ∷ h) l.committed (change t (done_more op) l.open_ones)
+Clear-did : (h : List Entry) (l : Ledger) (t : Txn) (n : ℕ) (op : Op) (o : Open) → Clear h l.committed l.open_ones → GoodAt l → TiedAt h l → found t l.open_ones ≡ Some o → IsDoneBy l o o.under op → Clear (Did t n op ∷ h) l.committed (change t (done_more op) l.open_ones)
 Clear-did h l t n op o g good tied x a =
     let os = l.open_ones in
     let at = found_in t os o x in

@@ -14,7 +14,7 @@ use Rattle.rq_model.specs.History.{Job, Entry, Call}
 use Rattle.rq_model.specs.History.Job.{Sending, Taking, Ending, Undoing}
 use Rattle.rq_model.specs.History.Entry.{Begun, Started, None_free, None_from, Stepped, Ready, Did, Undid, Committed, Acknowledged, Aborting, None_left, Aborted, Handed_over, Forced, Wrote, Told, Shown, Refused, Crash, Restarted}
 use Rattle.rq_model.specs.Ledger.{Open, Done, Ledger, rest_in, found, without, ops_of, after, ledger, started, stepped, writes, done_more, undone, fresh_one, add_number, own_takes}
-use Rattle.rq_model.specs.Legal.{OnFound, At, CanStart, free_to_receive, free_of, Size, Legal, IsLegal, Passes, Answers, call_of}
+use Rattle.rq_model.specs.Legal.{OnFound, At, CanStart, free_to_receive, free_of, Size, Legal, IsLegal, Passes, IsDoneBy, start_of}
 use Rattle.rq_model.proofs.Lists.{prefix_nil, prefix_shorter, prefix_next, same_is}
 use Rattle.rq_model.proofs.Keeps.{Good, IsOld, Changes, Good-change, Good-commit, Good-without, Good-crash, Good-none, found_in}
 
@@ -95,7 +95,7 @@ Changes-started c os i b n k o (Taking r) g j f = record {
 own_more : (s : ℕ) (o : Open) (op : Op) → own_takes s (done_more op o) ≡ own_takes s o ++ filter_map (taken_from s) (op ∷ [])
 own_more s o op = filter_map-append (taken_from s) o.ops (op ∷ [])
 
-pub Changes-took : (l : Ledger) (os : List Open) (i b r : ℕ) (o : Open) (m : Message) → Good l.committed os i b → In o os → o.under ≡ Some (Taking r) → Answers l o (Some (Taking r)) (Take m) → Changes l.committed os o (done_more (Take m) o)
+pub Changes-took : (l : Ledger) (os : List Open) (i b r : ℕ) (o : Open) (m : Message) → Good l.committed os i b → In o os → o.under ≡ Some (Taking r) → IsDoneBy l o (Some (Taking r)) (Take m) → Changes l.committed os o (done_more (Take m) o)
 Changes-took l os i b r o m g j u a = record {
   txn = refl;
   own = λ s. rw (own_more s o (Take m)) (elim (cases_Bool (nat_eq m.sender s)) [
@@ -110,7 +110,7 @@ Changes-took l os i b r o m g j u a = record {
   one = λ s q k x y. g.one q o s k j y x;
 }
 
-Changes-did : (l : Ledger) (os : List Open) (i b : ℕ) (o : Open) (under : Option Job) (op : Op) → Good l.committed os i b → In o os → o.under ≡ under → Answers l o under op → Changes l.committed os o (done_more op o)
+Changes-did : (l : Ledger) (os : List Open) (i b : ℕ) (o : Open) (under : Option Job) (op : Op) → Good l.committed os i b → In o os → o.under ≡ under → IsDoneBy l o under op → Changes l.committed os o (done_more op o)
 Changes-did l os i b o (Some (Sending m)) (Send n) g j u a = Changes-plain l.committed os i b o (done_more (Send n) o) g j refl refl (λ s. ([], append-nil _ ∙ own_more s o (Send n) ∙ append-nil (own_takes s o))) (λ s e. cc)
 Changes-did l os i b o (Some (Taking r)) (Take m) g j u a = Changes-took l os i b r o m g j u a
 Changes-did l os i b o (Some (Ending r)) (End k) g j u a = Changes-plain l.committed os i b o (done_more (End k) o) g j refl refl (λ s. ([], append-nil _ ∙ own_more s o (End k) ∙ append-nil (own_takes s o))) (λ s e. cc)
@@ -124,7 +124,7 @@ Changes-did l os i b o (Some (Ending m)) (Send n) g j u a = absurd a
 Changes-did l os i b o (Some (Ending m)) (Take n) g j u a = absurd a
 
 -- a start of a receive has passed the test that its group is free
-started_free : (z : Size) (l : Ledger) (t : Txn) (job : Job) (s : ℕ) → Passes z l (call_of t job) → job ≡ Taking s → free_to_receive t s l.open_ones ≡ true
+started_free : (z : Size) (l : Ledger) (t : Txn) (job : Job) (s : ℕ) → Passes z l (start_of t job) → job ≡ Taking s → free_to_receive t s l.open_ones ≡ true
 started_free z l t (Taking r) s p e =
     let w : r ≡ s = cc in
     subst (λ x. free_to_receive t x l.open_ones ≡ true) w (not-false (free_to_receive t r l.open_ones) p.1.1.1.1.1.0)
@@ -142,8 +142,8 @@ on_found (Some o) P h = (o, refl, h)
 pub start_at : (l : Ledger) (t : Txn) (n : ℕ) (job : Job) → At l t (λ o. (n ≡ o.number + 1) × CanStart l o job) → (o : Open) × (found t l.open_ones ≡ Some o) × ((n ≡ o.number + 1) × CanStart l o job)
 start_at l t n job h = on_found (found t l.open_ones) (λ o. (n ≡ o.number + 1) × CanStart l o job) h
 
-pub did_at : (l : Ledger) (t : Txn) (op : Op) → At l t (λ o. Answers l o o.under op) → (o : Open) × (found t l.open_ones ≡ Some o) × Answers l o o.under op
-did_at l t op h = on_found (found t l.open_ones) (λ o. Answers l o o.under op) h
+pub did_at : (l : Ledger) (t : Txn) (op : Op) → At l t (λ o. IsDoneBy l o o.under op) → (o : Open) × (found t l.open_ones ≡ Some o) × IsDoneBy l o o.under op
+did_at l t op h = on_found (found t l.open_ones) (λ o. IsDoneBy l o o.under op) h
 
 pub undid_at : (l : Ledger) (t : Txn) → At l t (λ o. o.under ≡ Some Undoing) → (o : Open) × (found t l.open_ones ≡ Some o) × (o.under ≡ Some Undoing)
 undid_at l t h = on_found (found t l.open_ones) (λ o. o.under ≡ Some Undoing) h

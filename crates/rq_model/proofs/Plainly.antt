@@ -12,7 +12,7 @@ use Rattle.rq_model.specs.declared.reference.rows.Act.{Act}
 use Rattle.rq_model.specs.Words.{Op, same_txn, last_or}
 use Rattle.rq_model.specs.declared.message.Message.{Message}
 use Rattle.rq_model.specs.History.{Job}
-use Rattle.rq_model.specs.Legal.{Answers, below, count_rest}
+use Rattle.rq_model.specs.Legal.{IsDoneBy, below, count_rest}
 use Rattle.rq_model.specs.Ledger.{Open, Done, Ledger, change, without, found, tag_of, rest_in}
 use Rattle.rq_model.proofs.Lists.{same_is, same_self}
 use Rattle.rq_model.specs.Reference.{StandsAt, job_of, op_done, op_of, open_of, Numbered, Rising}
@@ -220,8 +220,8 @@ same_row [] k m r l e g = absurd (omega arith)
 same_row (x ∷ rows) zero m r l e g = e ∙ sym g
 same_row (x ∷ rows) (suc k) m r l e g = same_row rows k m r (omega arith) e g
 
-pub answers_done : (l : Ledger) (o : Open) (w : Work) → Answers l o (Some (job_of w)) (op_done w)
+pub answers_done : (l : Ledger) (o : Open) (w : Work) → IsDoneBy l o (Some (job_of w)) (op_done w)
 answers_done l o (Sending m) = refl
 
-pub answers_with : (l : Ledger) (o : Open) (j : Option Job) (w : Work) (p : Op) → j ≡ Some (job_of w) → p ≡ op_done w → Answers l o j p
+pub answers_with : (l : Ledger) (o : Open) (j : Option Job) (w : Work) (p : Op) → j ≡ Some (job_of w) → p ≡ op_done w → IsDoneBy l o j p
 answers_with l o j w p e g = rw (e, g) (answers_done l o w)

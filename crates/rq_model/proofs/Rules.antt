@@ -11,7 +11,7 @@ use Rattle.rq_model.specs.Words.{In, same_txn, taken_from, has_number}
 use Rattle.rq_model.specs.History.{Job, Entry, Group}
 use Rattle.rq_model.specs.History.Job.{Sending, Taking, Ending, Undoing}
 use Rattle.rq_model.specs.Ledger.{Open, Done, Ledger, sent_in, taken_in, rest_in, group_in, own_takes}
-use Rattle.rq_model.specs.Legal.{Answers}
+use Rattle.rq_model.specs.Legal.{IsDoneBy}
 use Rattle.rq_model.specs.Content.{Said, deeds, has_commit, has_end, added, removed, shape, holds, uses_send, uses_receive, MayEnd, KeepsRules, op_of, told, committed_of}
 use Rattle.rq_model.specs.Content.Said.{Added, Removed, Ended}
 use Rattle.rq_model.proofs.Keeps.{Good}
@@ -47,7 +47,7 @@ more_left s log l o m g j a e =
     let w1 = w.1 in
     omega arith
 
-pub may_end : (s : ℕ) (h : List Entry) (log : List Record) (l : Ledger) (i b : ℕ) (o : Open) (under : Option Job) (d : Said) → Logged log l → Good l.committed l.open_ones i b → Clear h l.committed l.open_ones → In o l.open_ones → o.aborting ≡ false → o.under ≡ under → Answers l o under (op_of d) → MayEnd log s o.txn d
+pub may_end : (s : ℕ) (h : List Entry) (log : List Record) (l : Ledger) (i b : ℕ) (o : Open) (under : Option Job) (d : Said) → Logged log l → Good l.committed l.open_ones i b → Clear h l.committed l.open_ones → In o l.open_ones → o.aborting ≡ false → o.under ≡ under → IsDoneBy l o under (op_of d) → MayEnd log s o.txn d
 may_end s h log l i b o (Some (Sending m)) (Added n) g good clear j a u w = record {
   not_ended = g.live o j;
   alone_send = λ e v k. let q = g.sends s v k in

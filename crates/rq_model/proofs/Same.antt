@@ -12,7 +12,7 @@ use Rattle.rq_model.specs.History.{Job, Entry, Call, ops_by, commits, sends, tak
 use Rattle.rq_model.specs.History.Job.{Sending, Taking, Ending, Undoing}
 use Rattle.rq_model.specs.History.Entry.{Begun, Started, None_free, None_from, Stepped, Ready, Did, Undid, Committed, Acknowledged, Aborting, None_left, Aborted, Handed_over, Forced, Wrote, Told, Shown, Refused, Crash, Restarted}
 use Rattle.rq_model.specs.Ledger.{Open, Done, Ledger, sent_in, taken_in, found, change, without, ops_of, after, ledger, started, stepped, writes, done_more, undone, fresh_one}
-use Rattle.rq_model.specs.Legal.{Size, Legal, IsLegal, Passes, is_aborting, call_of}
+use Rattle.rq_model.specs.Legal.{Size, Legal, IsLegal, Passes, is_aborting, start_of}
 use Rattle.rq_model.proofs.Lists.{same_is, same_self}
 use Rattle.rq_model.proofs.Keeps.{IsOld, found_in, changed, gone}
 use Rattle.rq_model.proofs.Each.{start_at, did_at, undid_at, step_at, GoodAt, Good-ledger, known}
@@ -146,7 +146,7 @@ Tied-changed h e l t f o g good x n k tx ab un =
       | inr w ↦ (q, w.0, refl, λ a. (a, refl), g.undoing q w.0)
     ])
 
-Tied-started : (z : Size) (h : List Entry) (l : Ledger) (t : Txn) (n k : ℕ) (job : Job) (o : Open) → TiedAt h l → GoodAt l → found t l.open_ones ≡ Some o → Passes z l (call_of t job) → Tied (Started t n job ∷ h) l.committed (change t (started n k job) l.open_ones) l.incarnation l.begins
+Tied-started : (z : Size) (h : List Entry) (l : Ledger) (t : Txn) (n k : ℕ) (job : Job) (o : Open) → TiedAt h l → GoodAt l → found t l.open_ones ≡ Some o → Passes z l (start_of t job) → Tied (Started t n job ∷ h) l.committed (change t (started n k job) l.open_ones) l.incarnation l.begins
 Tied-started z h l t n k (Sending m) o g good x p = Tied-changed h (Started t n (Sending m)) l t (started n k (Sending m)) o g good x refl (λ u. refl) refl (λ a. (a, refl)) (λ a. cc)
 Tied-started z h l t n k (Taking m) o g good x p = Tied-changed h (Started t n (Taking m)) l t (started n k (Taking m)) o g good x refl (λ u. refl) refl (λ a. (a, refl)) (λ a. cc)
 Tied-started z h l t n k (Ending m) o g good x p = Tied-changed h (Started t n (Ending m)) l t (started n k (Ending m)) o g good x refl (λ u. refl) refl (λ a. (a, refl)) (λ a. cc)

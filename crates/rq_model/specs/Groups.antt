@@ -32,5 +32,5 @@ abbrev pub Survives : List Entry → List Entry → Type 0
 Survives newer h = take (durable h) (commits (newer ++ h)) ≡ take (durable h) (commits h)
 
 -- the number of commits that a cut of the log leaves
-abbrev pub left_by : List Record → ℕ
-left_by older = length (committed_of older)
+abbrev pub commits_left : List Record → ℕ
+commits_left older = length (committed_of older)

@@ -225,18 +225,18 @@ abbrev pub At : Ledger → Txn → (Open → Type 0) → Type 0
 At l t P = OnFound (found t l.open_ones) P
 
 -- the operation under way is done by op
-abbrev pub Answers : Ledger → Open → Option Job → Op → Type 0
-Answers l o (Some (Sending m)) (Send n) = n ≡ m
-Answers l o (Some (Taking s)) (Take m) = (m.sender ≡ s)
+abbrev pub IsDoneBy : Ledger → Open → Option Job → Op → Type 0
+IsDoneBy l o (Some (Sending m)) (Send n) = n ≡ m
+IsDoneBy l o (Some (Taking s)) (Take m) = (m.sender ≡ s)
     × (slice_get (rest_in l.committed s) (length (own_takes s o)) ≡ Some m)
-Answers l o (Some (Ending s)) (End r) = r ≡ s
-Answers l o _ _ = ⊥
+IsDoneBy l o (Some (Ending s)) (End r) = r ≡ s
+IsDoneBy l o _ _ = ⊥
 
-abbrev pub call_of : Txn → Job → Call
-call_of t (Sending m) = Start_send t m
-call_of t (Taking s) = Start_receive_from t s
-call_of t (Ending s) = Start_close t s
-call_of t Undoing = Undo_next t
+abbrev pub start_of : Txn → Job → Call
+start_of t (Sending m) = Start_send t m
+start_of t (Taking s) = Start_receive_from t s
+start_of t (Ending s) = Start_close t s
+start_of t Undoing = Undo_next t
 
 -- what more a start needs
 abbrev pub CanStart : Ledger → Open → Job → Type 0
@@ -267,13 +267,13 @@ pub record MayRestart (l : Ledger) (i records : ℕ) : Type 0 where
 -- the entry may come next
 abbrev pub Legal : Size → Ledger → Entry → Type 0
 Legal z l (Begun t) = Passes z l Begin × (t.incarnation ≡ l.incarnation) × (t.count ≡ l.begins + 1)
-Legal z l (Started t n job) = Passes z l (call_of t job) × At l t (λ o. (n ≡ o.number + 1) × CanStart l o job)
+Legal z l (Started t n job) = Passes z l (start_of t job) × At l t (λ o. (n ≡ o.number + 1) × CanStart l o job)
 Legal z l (None_free t) = Passes z l (Start_receive t)
     × At l t (λ o. (s : ℕ) → s < z.senders → free_to_receive t s l.open_ones ≡ true → holds_for l o s ≡ false)
 Legal z l (None_from t s) = Passes z l (Start_receive_from t s) × At l t (λ o. holds_for l o s ≡ false)
 Legal z l (Stepped t n lsn) = Passes z l (Step t n) × At l t (λ o. 0 < o.left) × (lsn ≡ l.records + 1)
 Legal z l (Ready t n) = Passes z l (Step t n) × At l t (λ o. o.left ≡ 0)
-Legal z l (Did t n op) = Passes z l (Finish t n) × At l t (λ o. Answers l o o.under op)
+Legal z l (Did t n op) = Passes z l (Finish t n) × At l t (λ o. IsDoneBy l o o.under op)
 Legal z l (Undid t n) = Passes z l (Finish t n) × At l t (λ o. o.under ≡ Some Undoing)
 Legal z l (Committed t lsn) = Passes z l (Commit t) × (lsn ≡ l.records + 1)
 Legal z l (Acknowledged t lsn given) = Passes z l (Acknowledge t lsn)

@@ -47,8 +47,8 @@ without_pages NotForced = false
 without_pages _ = true
 
 -- the call may be refused so
-abbrev pub Refuses : Stand → Call → Refusal → Type 0
-Refuses s c r = May s (Refused c r) × IsTrue (without_pages r)
+abbrev pub MayBeRefused : Stand → Call → Refusal → Type 0
+MayBeRefused s c r = May s (Refused c r) × IsTrue (without_pages r)
 
 abbrev pub op_of : Act → Op
 op_of (Sent m) = Send m
@@ -112,7 +112,7 @@ pub record StandsAt (l : Ledger) (t : Txn) (i : ℕ) : Type 0 where
   pub found : (d : Open) → found t l.open_ones ≡ Some (slice_index_or l.open_ones i d)
 
 -- the store runs, and the transaction stands at the place, with no operation under way
-pub record IsReady (l : Ledger) (t : Txn) (aborting : Bool) (i : ℕ) : Type 0 where
+pub record FindsReady (l : Ledger) (t : Txn) (aborting : Bool) (i : ℕ) : Type 0 where
   pub stands : StandsAt l t i
   pub passes : NoneHolds (ready_tests l t aborting)
 

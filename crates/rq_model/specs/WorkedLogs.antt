@@ -9,7 +9,7 @@ use Rattle.rq_model.specs.Deeds.{spelled_deed}
 use Rattle.rq_model.specs.History.{Group}
 use Rattle.rq_model.specs.Ledger.{group_in}
 use Rattle.rq_model.specs.Content.{KeepsRules, content, with_own, deeds, committed_of, no_group}
-use Rattle.rq_model.specs.Groups.{left_by}
+use Rattle.rq_model.specs.Groups.{commits_left}
 use Rattle.rq_model.specs.Worked.{txn, letter, a_gone, small}
 
 abbrev pub sender_one : Txn
@@ -57,11 +57,11 @@ pub record LogsAreWorked : Type 0 where
   -- a cut leaves the content of the first commits
   pub taken_keeps : KeepsRules (taken_since ++ sent_log)
   pub taken_content : content (taken_since ++ sent_log) 0 ≡ one_taken
-  pub cut_leaves_one : left_by sent_log ≡ 1
+  pub cut_leaves_one : commits_left sent_log ≡ 1
   pub cut_content : group_in (take 1 (committed_of (taken_since ++ sent_log))) 0 ≡ one_waits
   -- an operation that ends behind its transaction's commit is against the rules, and would count for no commit
   pub late_refused : KeepsRules sent_late → ⊥
   pub late_content : content sent_late 0 ≡ one_waits
-  pub late_commits : group_in (take (left_by sent_late) (committed_of sent_late)) 0 ≡ no_group
+  pub late_commits : group_in (take (commits_left sent_late) (committed_of sent_late)) 0 ≡ no_group
   -- a receive of what is not committed is against them
   pub taken_too_early : KeepsRules (end_of_take ∷ end_of_send ∷ Restart 1 ∷ []) → ⊥

@@ -4,7 +4,7 @@ ghost use Rattle.rq_model.specs.declared.txn.Txn.{Txn};
 ghost use Rattle.rq_model.specs.declared.record.Record.{Record};
 ghost use Rattle.rq_model.specs.declared.record.Record.TheVariants.{Commit};
 ghost use Rattle.rq_model.specs.Words.{same_txn};
-ghost use Rattle.rq_model.specs.Groups.{group, Survives, left_by};
+ghost use Rattle.rq_model.specs.Groups.{group, Survives, commits_left};
 ghost use Rattle.rq_model.specs.Content.{KeepsRules, content, with_own, deeds, committed_of};
 ghost use Rattle.rq_model.specs.Ledger.{ledger, group_in};
 ghost use Rattle.rq_model.specs.History.{Entry};
@@ -73,7 +73,7 @@ pub fn commit_adds_its_own()
 /// The content of what a cut leaves of a log is that of the beginning of its commit list.
 pub fn cut_leaves_a_beginning()
     ensures { (s : ℕ) (newer older : List Record) → KeepsRules (newer ++ older)
-        → content older s ≡ group_in (take (left_by older) (committed_of (newer ++ older))) s }
+        → content older s ≡ group_in (take (commits_left older) (committed_of (newer ++ older))) s }
 {}
 
 /// Worked histories, each legal or refused as it should be, and what goes on with them.

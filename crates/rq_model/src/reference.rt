@@ -5,7 +5,7 @@ ghost use Rattle.rq_model.specs.History.Call.{Begin, Commit, Finish, Show, Start
 ghost use Rattle.rq_model.specs.History.Entry.{Begun, Did, Shown, Started, Committed, Acknowledged, Aborting, Handed_over, Forced, Crash, Restarted};
 ghost use Rattle.rq_model.specs.Ledger.{empty, ended_in, found, in_chain, kept_in};
 ghost use Rattle.rq_model.specs.Ledger.Phase.{Shut};
-ghost use Rattle.rq_model.specs.Reference.{May, Refuses, next, IsReady, IsUnready, IsBusy, IsIdle, StandsAt, message_of, op_of, step_entry};
+ghost use Rattle.rq_model.specs.Reference.{May, MayBeRefused, next, FindsReady, IsUnready, IsBusy, IsIdle, StandsAt, message_of, op_of, step_entry};
 ghost use Rattle.rq_model.specs.History.Job.{Sending};
 ghost use Rattle.rq_model.specs.Legal.{IsUpTo, Passes, cells_in_use, free_to_send, has_closed, log_full};
 
@@ -132,7 +132,7 @@ impl Reference {
     pub fn begin(&mut self) -> Result<Txn, Refusal>
         ensures ok { IfOk result (λ t. May self.old (Begun t)) }
         ensures step { IfOk result (λ t. self.new ≡ next (Begun t) self.old) }
-        ensures refused { IfErr result (λ r. Refuses self.old Begin r) }
+        ensures refused { IfErr result (λ r. MayBeRefused self.old Begin r) }
         ensures same { OnErr result (self.new ≡ self.old) }
     {
         if !self.running {
@@ -170,7 +170,7 @@ impl Reference {
     /// `Failed`.
     pub fn acknowledged(&self, txn: Txn, lsn: Lsn) -> Result<bool, Refusal>
         ensures ok { IfOk result (λ given. May self.now (Acknowledged txn lsn given)) }
-        ensures refused { IfErr result (λ r. Refuses self.now (Acknowledge txn lsn) r) }
+        ensures refused { IfErr result (λ r. MayBeRefused self.now (Acknowledge txn lsn) r) }
     {
         if !self.running {
             return Err(Refusal::Failed);
@@ -184,7 +184,7 @@ impl Reference {
     /// `Failed`.
     pub fn hand_over(&self) -> Result<(), Refusal>
         ensures ok { OnOk result (May self.now Handed_over) }
-        ensures refused { IfErr result (λ r. Refuses self.now Hand_over r) }
+        ensures refused { IfErr result (λ r. MayBeRefused self.now Hand_over r) }
     {
         if self.running {
             Ok(())
@@ -200,7 +200,7 @@ impl Reference {
     pub fn force(&mut self) -> Result<Lsn, Refusal>
         ensures ok { IfOk result (λ lsn. May self.old (Forced lsn)) }
         ensures step { IfOk result (λ lsn. self.new ≡ next (Forced lsn) self.old) }
-        ensures refused { IfErr result (λ r. Refuses self.old Force r) }
+        ensures refused { IfErr result (λ r. MayBeRefused self.old Force r) }
         ensures same { OnErr result (self.new ≡ self.old) }
     {
         if !self.running {
@@ -213,7 +213,7 @@ impl Reference {
 
     /// Where the transaction stands, if it has no operation under way and is aborting or is not, as asked.
     fn ready_place(&self, txn: Txn, aborting: bool) -> Result<usize, Refusal>
-        ensures ok { IfOk result (λ i. IsReady self.now.ledger txn aborting i) }
+        ensures ok { IfOk result (λ i. FindsReady self.now.ledger txn aborting i) }
         ensures refused { IfErr result (λ r. IsUnready self.now.ledger txn aborting r) }
     {
         if !self.running {
@@ -239,7 +239,7 @@ impl Reference {
     pub fn start_abort(&mut self, txn: Txn) -> Result<(), Refusal>
         ensures ok { OnOk result (May self.old (Aborting txn)) }
         ensures step { OnOk result (self.new ≡ next (Aborting txn) self.old) }
-        ensures refused { IfErr result (λ r. Refuses self.old (Start_abort txn) r) }
+        ensures refused { IfErr result (λ r. MayBeRefused self.old (Start_abort txn) r) }
         ensures same { OnErr result (self.new ≡ self.old) }
     {
         let place = self.ready_place(txn, false)?;
@@ -255,7 +255,7 @@ impl Reference {
     pub fn commit(&mut self, txn: Txn) -> Result<Lsn, Refusal>
         ensures ok { IfOk result (λ lsn. May self.old (Committed txn lsn)) }
         ensures step { IfOk result (λ lsn. self.new ≡ next (Committed txn lsn) self.old) }
-        ensures refused { IfErr result (λ r. Refuses self.old (Commit txn) r) }
+        ensures refused { IfErr result (λ r. MayBeRefused self.old (Commit txn) r) }
         ensures same { OnErr result (self.new ≡ self.old) }
     {
         let place = self.ready_place(txn, false)?;
@@ -285,7 +285,7 @@ impl Reference {
     /// `Failed`, `Unfinished`, `NoMemory`.
     pub fn content(&self) -> Result<Vec<GroupContent>, Refusal>
         ensures ok { IfOk result (λ groups. May self.now (Shown groups.items)) }
-        ensures refused { IfErr result (λ r. Refuses self.now Show r) }
+        ensures refused { IfErr result (λ r. MayBeRefused self.now Show r) }
     {
         if !self.running {
             return Err(Refusal::Failed);
@@ -366,7 +366,7 @@ impl Reference {
         ensures stands { IfOk result (λ p. StandsAt self.now.ledger txn p.0) }
         ensures passes { IfOk result (λ p. Passes self.now.size self.now.ledger (Start_send txn p.1)) }
         ensures message { IfOk result (λ p. p.1 ≡ message_of sender tag body.now) }
-        ensures refused { IfErr result (λ r. Refuses self.now (Start_send txn (message_of sender tag body.now)) r) }
+        ensures refused { IfErr result (λ r. MayBeRefused self.now (Start_send txn (message_of sender tag body.now)) r) }
     {
         let place = self.ready_place(txn, false)?;
         if !self.has_sender(sender) {
@@ -422,7 +422,7 @@ impl Reference {
     pub fn step(&mut self, txn: Txn, number: u64) -> Result<Option<Lsn>, Refusal>
         ensures ok { IfOk result (λ lsn. May self.old (step_entry txn number lsn)) }
         ensures step { IfOk result (λ lsn. self.new ≡ next (step_entry txn number lsn) self.old) }
-        ensures refused { IfErr result (λ r. Refuses self.old (Step txn number) r) }
+        ensures refused { IfErr result (λ r. MayBeRefused self.old (Step txn number) r) }
         ensures same { OnErr result (self.new ≡ self.old) }
     {
         let (place, _) = self.busy_place(txn, number)?;
@@ -455,7 +455,7 @@ impl Reference {
         ensures ok { IfOk result (λ n. May self.old (Started txn n (Sending (message_of sender tag body.now)))) }
         ensures step { IfOk result (λ n. self.new ≡ next
             (Started txn n (Sending (message_of sender tag body.now))) self.old) }
-        ensures refused { IfErr result (λ r. Refuses self.old (Start_send txn (message_of sender tag body.now)) r) }
+        ensures refused { IfErr result (λ r. MayBeRefused self.old (Start_send txn (message_of sender tag body.now)) r) }
         ensures same { OnErr result (self.new ≡ self.old) }
     {
         let (place, message) = self.sending_place(txn, sender, tag, body)?;
@@ -485,7 +485,7 @@ impl Reference {
     pub fn finish(&mut self, txn: Txn, number: u64) -> Result<Act, Refusal>
         ensures ok { IfOk result (λ act. May self.old (Did txn number (op_of act))) }
         ensures step { IfOk result (λ act. self.new ≡ next (Did txn number (op_of act)) self.old) }
-        ensures refused { IfErr result (λ r. Refuses self.old (Finish txn number) r) }
+        ensures refused { IfErr result (λ r. MayBeRefused self.old (Finish txn number) r) }
         ensures same { OnErr result (self.new ≡ self.old) }
     {
         let (place, work) = self.busy_place(txn, number)?;

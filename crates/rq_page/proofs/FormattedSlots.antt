@@ -6,23 +6,23 @@ use Rattle.rq_page.specs.Sizes.{Sizes, IsInRange, page_count, sender_at}
 use Rattle.rq_page.specs.Kinds.{kind_of}
 use Rattle.rq_page.specs.Cells.{free_bytes}
 use Rattle.rq_page.specs.Directories.{directory_bytes, new_directory}
-use Rattle.rq_page.specs.Slots.{Slot, Free, Sender, spelled, held_in, MayHold, IsSlotOf}
+use Rattle.rq_page.specs.Slots.{Slot, Free, Sender, slot_bytes, held_in, MayHold, IsSlotOf}
 use Rattle.rq_page.specs.Formatted.{formatted_slot, formatted_content, superblock_bytes, FormattedHolds}
 use Rattle.rq_page.specs.declared.layout.PageKind.{PageKind}
 use Rattle.rq_page.specs.declared.layout.PageKind.TheVariants as kind
 use Rattle.rq_page.proofs.Addresses.{kind_directory, kind_cells}
 use Rattle.rq_page.proofs.Spellings.{spelling_tells}
 
--- what is spelled there, where the page is not the first
+-- what is slot_bytes there, where the page is not the first
 spelled_behind : (l : Sizes) (page slot : ℕ) → 1 ≤ page
-    → spelled (formatted_content l page slot) ≡ formatted_slot l page slot
+    → slot_bytes (formatted_content l page slot) ≡ formatted_slot l page slot
 spelled_behind l page slot low =
     let later : (page == 0) ≡ false = grind (arith, nat_tests) in
     let content : Bool → Slot = λ c. (if c then Sender (sender_at page slot) new_directory else Free) in
     let bytes : Bool → List ℕ = λ c. (if c then directory_bytes (record { sender = sender_at page slot; directory = new_directory }) else free_bytes) in
     let first : List ℕ = (if slot == 1 then superblock_bytes l else free_bytes) in
-    let each : (c : Bool) → spelled (content c) ≡ bytes c =
-    λ c. elim c as (λ d. spelled (content d) ≡ bytes d) [ true ↦ refl | false ↦ refl ] in
+    let each : (c : Bool) → slot_bytes (content c) ≡ bytes c =
+    λ c. elim c as (λ d. slot_bytes (content d) ≡ bytes d) [ true ↦ refl | false ↦ refl ] in
     each (nat_le page l.directory) ∙ sym (ap (λ t. (if t then first else bytes (nat_le page l.directory))) later)
 
 -- a formatted slot may hold what it holds
@@ -51,5 +51,5 @@ may_hold l page slot range low high slot_low slot_high =
 pub formatted_holds : FormattedHolds
 formatted_holds l page slot range low high slot_low slot_high =
     let told = spelling_tells l page slot (formatted_content l page slot) slot_low slot_high (may_hold l page slot range low high slot_low slot_high) in
-    let same : spelled (formatted_content l page slot) ≡ formatted_slot l page slot = spelled_behind l page slot low in
+    let same : slot_bytes (formatted_content l page slot) ≡ formatted_slot l page slot = spelled_behind l page slot low in
     (subst (IsSlotOf l page slot) same told.1, ap (held_in l page) (sym same) ∙ told.0)

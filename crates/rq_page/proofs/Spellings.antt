@@ -4,7 +4,7 @@ use Rattle.rq_page.specs.Sizes.{Sizes, sender_at}
 use Rattle.rq_page.specs.Kinds.{kind_of}
 use Rattle.rq_page.specs.Cells.{cell_slot_bytes, cell_slot_in, cell_bytes, free_bytes, IsCellSlot}
 use Rattle.rq_page.specs.Directories.{directory_bytes, directory_in, IsDirectorySlot}
-use Rattle.rq_page.specs.Slots.{Slot, Free, Used, Sender, of_cell_slot, of_directory_slot, spelled, held_for, held_in, IsDirectoryOf, MayStand, HoldsCell, HoldsDirectory, IsSlotFor, IsSlotOf, MayHold, SpellingTells, SlotIsSpelling}
+use Rattle.rq_page.specs.Slots.{Slot, Free, Used, Sender, of_cell_slot, of_directory_slot, slot_bytes, held_for, held_in, IsDirectoryOf, MayStand, HoldsCell, HoldsDirectory, IsSlotFor, IsSlotOf, MayHold, SpellingTells, SlotIsSpelling}
 use Rattle.rq_page.specs.declared.cell.CellSlot.{CellSlot}
 use Rattle.rq_page.specs.declared.cell.CellSlot.TheVariants as cells
 use Rattle.rq_page.specs.declared.directory.DirectorySlot.{DirectorySlot}
@@ -42,7 +42,7 @@ held_directory l sender x bytes is e holds =
 
 -- the spelling of what a slot may hold, by the page's kind
 tells_for : (k : Option PageKind) (l : Sizes) (page slot : ℕ) (x : Slot) → MayHold k l page slot x
-    → (held_for k (spelled x) ≡ x) × IsSlotFor k l page slot (spelled x)
+    → (held_for k (slot_bytes x) ≡ x) × IsSlotFor k l page slot (slot_bytes x)
 tells_for None l page slot x may = absurd may
 tells_for (Some kind.Superblock) l page slot x may = absurd may
 tells_for (Some kind.Directory) l page slot Free may = absurd may
@@ -66,12 +66,12 @@ may_hold_cell : (l : Sizes) (page slot : ℕ) (x : CellSlot) → MayStand l x �
 may_hold_cell l page slot cells.Free may = tt
 may_hold_cell l page slot (cells.Used c) may = may
 
-spelled_cell : (x : CellSlot) → spelled (of_cell_slot x) ≡ cell_slot_bytes x
+spelled_cell : (x : CellSlot) → slot_bytes (of_cell_slot x) ≡ cell_slot_bytes x
 spelled_cell cells.Free = refl
 spelled_cell (cells.Used c) = refl
 
 is_spelling_for : (k : Option PageKind) (l : Sizes) (page slot : ℕ) (bytes : List ℕ) → IsSlotFor k l page slot bytes
-    → MayHold k l page slot (held_for k bytes) × (spelled (held_for k bytes) ≡ bytes)
+    → MayHold k l page slot (held_for k bytes) × (slot_bytes (held_for k bytes) ≡ bytes)
 is_spelling_for None l page slot bytes is = absurd is
 is_spelling_for (Some kind.Superblock) l page slot bytes is = absurd is
 is_spelling_for (Some kind.Directory) l page slot bytes is = (is.held, is.spelled_so)
@@ -83,7 +83,7 @@ slot_is_spelling l page slot bytes is = is_spelling_for (kind_of l page) l page 
 
 -- what a slot may hold has one spelling each
 pub spelled_same : (l : Sizes) (page slot : ℕ) (x y : Slot) → 1 ≤ slot → slot ≤ 15
-    → MayHold (kind_of l page) l page slot x → MayHold (kind_of l page) l page slot y → spelled x ≡ spelled y → x ≡ y
+    → MayHold (kind_of l page) l page slot x → MayHold (kind_of l page) l page slot y → slot_bytes x ≡ slot_bytes y → x ≡ y
 spelled_same l page slot x y low high may also same =
     sym ((spelling_tells l page slot x low high may).0) ∙ ap (held_in l page) same ∙ (spelling_tells l page slot y low high also).0
 

@@ -26,10 +26,10 @@ abbrev pub of_directory_slot : DirectorySlot → Slot
 of_directory_slot x = Sender x.sender x.directory
 
 -- the one spelling of what a slot holds
-abbrev pub spelled : Slot → List ℕ
-spelled Free = free_bytes
-spelled (Used c) = cell_bytes c
-spelled (Sender s d) = directory_bytes (record { sender = s; directory = d })
+abbrev pub slot_bytes : Slot → List ℕ
+slot_bytes Free = free_bytes
+slot_bytes (Used c) = cell_bytes c
+slot_bytes (Sender s d) = directory_bytes (record { sender = s; directory = d })
 
 -- what a slot with these bytes holds, by its page's kind
 abbrev pub held_for : Option PageKind → List ℕ → Slot
@@ -94,10 +94,10 @@ MayHold _ l page slot x = ⊥
 abbrev pub SpellingTells : Type 0
 SpellingTells =
     (l : Sizes) (page slot : ℕ) (x : Slot) → 1 ≤ slot → slot ≤ 15 → MayHold (kind_of l page) l page slot x
-    → (held_in l page (spelled x) ≡ x) × IsSlotOf l page slot (spelled x)
+    → (held_in l page (slot_bytes x) ≡ x) × IsSlotOf l page slot (slot_bytes x)
 
 -- a slot is the spelling of what it holds, which may stand there
 abbrev pub SlotIsSpelling : Type 0
 SlotIsSpelling =
     (l : Sizes) (page slot : ℕ) (bytes : List ℕ) → IsSlotOf l page slot bytes
-    → MayHold (kind_of l page) l page slot (held_in l page bytes) × (spelled (held_in l page bytes) ≡ bytes)
+    → MayHold (kind_of l page) l page slot (held_in l page bytes) × (slot_bytes (held_in l page bytes) ≡ bytes)

@@ -11,10 +11,10 @@ use Rattle.rq_page.specs.Slots.{IsSlotOf}
 use Rattle.rq_page.specs.Formatted.{IsFormatted, IsHeaderOf}
 use Rattle.rq_level.specs.Stored.{slot_at}
 use Rattle.rq_pool.specs.Pooled.{IsPool, AreOver, image_at, is_changed}
-use Rattle.rq_pool.specs.Reading.{IsSound, AreSeen, OnlyRead}
+use Rattle.rq_pool.specs.Reading.{IsSoundPage, AreSeen, OnlyRead}
 
 -- one page more is one of a store's
-pub pool_set : (z : Sizes) (images : List (List ℕ)) (n : ℕ) (page : List ℕ) → IsPool z images → 1 ≤ n → n < page_count z → IsSound z n page → IsPool z (slice_set images n page)
+pub pool_set : (z : Sizes) (images : List (List ℕ)) (n : ℕ) (page : List ℕ) → IsPool z images → 1 ≤ n → n < page_count z → IsSoundPage z n page → IsPool z (slice_set images n page)
 pool_set z images n page pool low high sound = record {
   range = pool.range;
   count = length-set images n page ∙ pool.count;
@@ -37,7 +37,7 @@ pool_set z images n page pool low high sound = record {
   put = get_or-set_same images n page [] (let c = pool.count in omega (arith, high, c))
 
 -- each page behind the first is sound
-pub page_sound : (z : Sizes) (images : List (List ℕ)) (n : ℕ) → IsPool z images → 1 ≤ n → n < page_count z → IsSound z n (image_at images n)
+pub page_sound : (z : Sizes) (images : List (List ℕ)) (n : ℕ) → IsPool z images → 1 ≤ n → n < page_count z → IsSoundPage z n (image_at images n)
 page_sound z images n pool low high = record {
   header = pool.headers n low high;
   slots = λ k from to.
@@ -55,7 +55,7 @@ module _ {P : Type 0} (g : Ghosts P) (z : Sizes) (images : List (List ℕ)) (cha
   over_read read = record { pool = over.pool; flags = over.flags; clean = λ h p lt same. over.clean (read.honest h) p lt same ∙ ap (λ (s : ℕ → List ℕ). s p) (sym read.same) }
 
   -- and a page was put into its frame
-  pub over_fixed : (n : ℕ) (page : List ℕ) → 1 ≤ n → n < page_count z → OnlyRead g old new → (g.honest new → page ≡ g.seen old n) → IsSound z n page → AreOver g new z (slice_set images n page) changed
+  pub over_fixed : (n : ℕ) (page : List ℕ) → 1 ≤ n → n < page_count z → OnlyRead g old new → (g.honest new → page ≡ g.seen old n) → IsSoundPage z n page → AreOver g new z (slice_set images n page) changed
   over_fixed n page low high read is sound = record {
     pool = pool_set z images n page over.pool low high sound;
     flags = over.flags;

@@ -10,12 +10,12 @@ use Rattle.rq_model.specs.declared.refusal.Refusal.TheVariants as why
 use Rattle.rq_model.specs.declared.refusal.Damage.TheVariants as damage
 use Rattle.rq_page.specs.Sizes.{Sizes}
 use Rattle.rq_pool.specs.Pooled.{image_at}
-use Rattle.rq_pool.specs.Reading.{IsSound, IsDamaged, AreSeen, OnlyRead, StopsFor, TellsSizes}
+use Rattle.rq_pool.specs.Reading.{IsSoundPage, IsDamaged, AreSeen, OnlyRead, StopsFor, TellsSizes}
 
 -- the first n pages are read, and those behind the first are sound
 pub record AreRead (z : Sizes) (images : List (List ℕ)) (n : ℕ) : Type 0 where
   pub count : length images ≡ n
-  pub sound : (p : ℕ) → 1 ≤ p → p < n → IsSound z p (image_at images p)
+  pub sound : (p : ℕ) → 1 ≤ p → p < n → IsSoundPage z p (image_at images p)
 
 -- one page more is read
 module _ (images new : List (List ℕ)) (n : ℕ) (page : List ℕ) (grown : new ≡ images ++ page ∷ []) (count : length images ≡ n) where
@@ -31,12 +31,12 @@ module _ (images new : List (List ℕ)) (n : ℕ) (page : List ℕ) (grown : new
     | inr other ↦ let low : p < n = omega (arith, lt, other) in earlier p low ∙ before p low
   ]
 
-  pub read_more : (z : Sizes) → AreRead z images n → IsSound z n page → AreRead z new (n + 1)
+  pub read_more : (z : Sizes) → AreRead z images n → IsSoundPage z n page → AreRead z new (n + 1)
   read_more z before is = record {
     count = ap length grown ∙ length-append images (page ∷ []) ∙ ap (λ (k : ℕ). k + 1) count;
     sound = λ p low lt. elim (cases_eq p n) [
-      | inl last ↦ subst (λ (q : ℕ). IsSound z q (image_at new q)) (sym last) (subst (IsSound z n) (sym here) is)
-      | inr other ↦ let within : p < n = omega (arith, lt, other) in subst (IsSound z p) (sym (earlier p within)) (before.sound p low within)
+      | inl last ↦ subst (λ (q : ℕ). IsSoundPage z q (image_at new q)) (sym last) (subst (IsSoundPage z n) (sym here) is)
+      | inr other ↦ let within : p < n = omega (arith, lt, other) in subst (IsSoundPage z p) (sym (earlier p within)) (before.sound p low within)
     ];
   }
 

@@ -25,7 +25,7 @@ pub record IsSuperblock (z : Sizes) (image : List ℕ) : Type 0 where
   pub formatted : IsFormatted z 0 image
 
 -- the header and the slots of a directory or cell page are those of its place
-pub record IsSound (z : Sizes) (page : ℕ) (image : List ℕ) : Type 0 where
+pub record IsSoundPage (z : Sizes) (page : ℕ) (image : List ℕ) : Type 0 where
   pub header : IsHeaderOf z page image
   pub slots : (n : ℕ) → 1 ≤ n → n ≤ 15 → IsSlotOf z page n (slot_of n image)
 
@@ -33,7 +33,7 @@ pub record IsSound (z : Sizes) (page : ℕ) (image : List ℕ) : Type 0 where
 pub record ArePages (z : Sizes) (images : List (List ℕ)) : Type 0 where
   pub superblock : IsSuperblock z (image_at images 0)
   pub count : length images ≡ page_count z
-  pub sound : (p : ℕ) → 1 ≤ p → p < page_count z → IsSound z p (image_at images p)
+  pub sound : (p : ℕ) → 1 ≤ p → p < page_count z → IsSoundPage z p (image_at images p)
 
 -- the first n images are those that are seen
 abbrev pub AreSeen : Images → List (List ℕ) → ℕ → Type 0
@@ -44,8 +44,8 @@ pub record IsDamagedPage (z : Sizes) (seen : Images) (page : ℕ) : Type 0 where
   pub superblock : IsSuperblock z (seen 0)
   pub low : 1 ≤ page
   pub high : page < page_count z
-  pub bad : IsSound z page (seen page) → ⊥
-  pub first : (p : ℕ) → 1 ≤ p → p < page → IsSound z p (seen p)
+  pub bad : IsSoundPage z page (seen page) → ⊥
+  pub first : (p : ℕ) → 1 ≤ p → p < page → IsSoundPage z p (seen p)
 
 -- the page is the first that is none of a store's: it is the superblock and tells no sizes, or it is not sound by the
 -- sizes that are told
@@ -74,7 +74,7 @@ pub record HasAnswered {P : Type 0} (g : Ghosts P) (old new : P) : Type 0 where
 abbrev pub NotReadAgain : {P : Type 0} → Ghosts P → Sizes → ℕ → Refusal → P → P → Type 0
 NotReadAgain g z page why.DiskRead old new = g.faults new ≡ (g.faults old + 1) % 2 ^ 64
 NotReadAgain g z page (why.Damaged (damage.Page n)) old new =
-    (n ≡ page) × (g.honest new → IsSound z page (g.seen old page) → ⊥) × HasAnswered g old new
+    (n ≡ page) × (g.honest new → IsSoundPage z page (g.seen old page) → ⊥) × HasAnswered g old new
 NotReadAgain g z page _ old new = ⊥
 
 -- the device as it is afterwards

@@ -2,7 +2,7 @@
 ghost use Rattle.std.specs.Prelude.{ℕ, ◌≡◌, ◌↔◌, ◌<◌, ◌≤◌, ◌+◌, ◌%◌, ◌^◌, ◌++◌, ◌∷◌, [], false, replicate, IsTrue, IfOk, IfErr, OnOk};
 ghost use Rattle.rq_page.specs.Sizes.{page_count};
 ghost use Rattle.rq_pool.specs.Frames.{images_of, changed_of};
-ghost use Rattle.rq_pool.specs.Reading.{OnlyRead, HasAnswered, IsSuperblock, IsSound, ArePages, AreSeen, NotReadAgain, StopsFor};
+ghost use Rattle.rq_pool.specs.Reading.{OnlyRead, HasAnswered, IsSuperblock, IsSoundPage, ArePages, AreSeen, NotReadAgain, StopsFor};
 
 use crate::Frame;
 use rq_disk::{PAGE, PageDevice};
@@ -63,9 +63,9 @@ pub(crate) fn read_again<P: PageDevice>(
     number: u32,
 ) -> Result<Page, Refusal>
     ensures ok { IfOk result (λ page. (P.honest device.new → page ≡ P.seen device.old number)
-        × IsSound layout.now number page) }
+        × IsSoundPage layout.now number page) }
     ensures answered { OnOk result (HasAnswered P.PageDevice device.old device.new) }
-    ensures err { IfErr result (λ e. P.honest device.new → IsSound layout.now number (P.seen device.old number)
+    ensures err { IfErr result (λ e. P.honest device.new → IsSoundPage layout.now number (P.seen device.old number)
         → (e ≡ Refusal.DiskRead) × (P.faults device.new ≡ (P.faults device.old + 1) % 2 ^ 64)) }
     ensures refused { IfErr result (λ e. NotReadAgain P.PageDevice layout.now number e device.old device.new) }
     ensures device { OnlyRead P.PageDevice device.old device.new }
@@ -87,9 +87,9 @@ fn read_sound_page<P: PageDevice>(
     requires superblock { P.honest device.old → IsSuperblock layout.now (P.seen device.old 0) }
     requires low { 0 < number }
     requires high { number < page_count layout.now }
-    requires earlier { P.honest device.old → (q : ℕ) → 1 ≤ q → q < number → IsSound layout.now q (P.seen device.old q) }
+    requires earlier { P.honest device.old → (q : ℕ) → 1 ≤ q → q < number → IsSoundPage layout.now q (P.seen device.old q) }
     ensures ok { IfOk result (λ page. (P.honest device.new → page ≡ P.seen device.old number)
-        × IsSound layout.now number page) }
+        × IsSoundPage layout.now number page) }
     ensures cause { OnOk result (P.faults device.new ≡ P.faults device.old) }
     ensures err { IfErr result (λ e. StopsFor P.PageDevice e device.old device.new) }
     ensures device { OnlyRead P.PageDevice device.old device.new }
@@ -134,7 +134,7 @@ fn read_page<P: PageDevice>(device: &mut P, number: u32) -> Result<Page, Refusal
 
 // Whether a page's header and slots are those of its place.
 fn is_sound(layout: &Layout, number: u32, page: &Page) -> bool
-    ensures { IsTrue result ↔ IsSound layout.now number page.now }
+    ensures { IsTrue result ↔ IsSoundPage layout.now number page.now }
 {
     if !layout.check_header(number, page) {
         return false;

@@ -3,7 +3,7 @@ use Rattle.std.proofs.Common.{◌≡◌, ℕ, ◌+◌, List, length, arith}
 use Rattle.rq_model.specs.declared.txn.Txn.{Txn}
 use Rattle.rq_model.specs.declared.record.Record.{Record}
 use Rattle.rq_model.specs.declared.record.Record.TheVariants.{PageOp, PageUndo, OpEnd, OpVoid, CompEnd, Commit, Restart, AbortEnd}
-use Rattle.rq_record.specs.Spelling.{spelling, Fits}
+use Rattle.rq_record.specs.Spelling.{spelling, HasWidths}
 use Rattle.rq_record.specs.Sizes.{length_of}
 use Rattle.rq_record.proofs.Spelled.{length-spelling_page_op, length-spelling_page_undo, length-spelling_op_end, length-spelling_op_void, length-spelling_comp_end, length-spelling_commit, length-spelling_restart, length-spelling_abort_end}
 
@@ -22,7 +22,7 @@ op_end_length = length-spelling_op_end
 pub commit_length : (txn : Txn) → length (spelling (Commit txn)) ≡ 21
 commit_length = length-spelling_commit
 
-pub each_length : (r : Record) → Fits r → length (spelling r) ≡ length_of r
+pub each_length : (r : Record) → HasWidths r → length (spelling r) ≡ length_of r
 each_length (PageOp txn operation page slot before after) f = page_op_length txn operation page slot before after f.4.0 f.5.0
 each_length (PageUndo txn operation undone page slot after) f = page_undo_length txn operation undone page slot after f.5.0
 each_length (OpEnd txn operation level deed) f = op_end_length txn operation level deed

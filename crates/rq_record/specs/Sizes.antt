@@ -2,7 +2,7 @@
 use Rattle.std.specs.Prelude.{◌≡◌, ℕ, ◌+◌, length}
 use Rattle.rq_model.specs.declared.record.Record.{Record}
 use Rattle.rq_model.specs.declared.record.Record.TheVariants.{PageOp, PageUndo, OpEnd, OpVoid, CompEnd, Commit, Restart, AbortEnd}
-use Rattle.rq_record.specs.Spelling.{spelling, Fits}
+use Rattle.rq_record.specs.Spelling.{spelling, HasWidths}
 
 -- how many bytes a record of each kind has: its kind alone says it, but for an operation's end, where
 -- the deed adds its own
@@ -18,4 +18,4 @@ length_of (AbortEnd txn) = 21
 
 -- the spelling of each record that a program holds is that long
 abbrev pub EachHasItsLength : Type 0
-EachHasItsLength = (r : Record) → Fits r → length (spelling r) ≡ length_of r
+EachHasItsLength = (r : Record) → HasWidths r → length (spelling r) ≡ length_of r

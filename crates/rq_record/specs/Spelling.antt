@@ -66,22 +66,22 @@ abbrev pub IsImage : List ℕ → Type 0
 IsImage image = (length image ≡ 256) × AreBytes image
 
 -- what is so of each record that a program holds: its fields are of their types
-abbrev pub Fits : Record → Type 0
-Fits (PageOp txn operation page slot before after) = FitsTxn txn × (operation < 2 ^ 64) × (page < 2 ^ 32)
+abbrev pub HasWidths : Record → Type 0
+HasWidths (PageOp txn operation page slot before after) = FitsTxn txn × (operation < 2 ^ 64) × (page < 2 ^ 32)
     × (slot < 2 ^ 8) × IsImage before × IsImage after
-Fits (PageUndo txn operation undone page slot after) = FitsTxn txn × (operation < 2 ^ 64) × (undone < 2 ^ 64)
+HasWidths (PageUndo txn operation undone page slot after) = FitsTxn txn × (operation < 2 ^ 64) × (undone < 2 ^ 64)
     × (page < 2 ^ 32) × (slot < 2 ^ 8) × IsImage after
-Fits (OpEnd txn operation level deed) = FitsTxn txn × (operation < 2 ^ 64) × (level < 2 ^ 8) × (length deed ≤ 256)
+HasWidths (OpEnd txn operation level deed) = FitsTxn txn × (operation < 2 ^ 64) × (level < 2 ^ 8) × (length deed ≤ 256)
     × AreBytes deed
-Fits (OpVoid txn operation) = FitsTxn txn × (operation < 2 ^ 64)
-Fits (CompEnd txn operation undone) = FitsTxn txn × (operation < 2 ^ 64) × (undone < 2 ^ 64)
-Fits (Commit txn) = FitsTxn txn
-Fits (Restart incarnation) = incarnation < 2 ^ 64
-Fits (AbortEnd txn) = FitsTxn txn
+HasWidths (OpVoid txn operation) = FitsTxn txn × (operation < 2 ^ 64)
+HasWidths (CompEnd txn operation undone) = FitsTxn txn × (operation < 2 ^ 64) × (undone < 2 ^ 64)
+HasWidths (Commit txn) = FitsTxn txn
+HasWidths (Restart incarnation) = incarnation < 2 ^ 64
+HasWidths (AbortEnd txn) = FitsTxn txn
 
 -- what has a spelling
 abbrev pub IsRecord : Record → Type 0
-IsRecord r = IsInRange r × Fits r
+IsRecord r = IsInRange r × HasWidths r
 
 -- these bytes are the record's
 abbrev pub Spells : Record → List ℕ → Type 0

@@ -2,7 +2,7 @@
 ghost use Rattle.std.specs.Prelude.{◌≡◌, ◌+◌, ◌≤◌, ◌<◌, ◌^◌, ◌++◌, [], ◌∷◌, length, vec_len, vec_capacity, OnOk, OnErr, IsOk};
 ghost use Rattle.rq_model.specs.declared.record.Record.{Record};
 ghost use Rattle.rq_record.specs.Sizes.{length_of};
-ghost use Rattle.rq_record.specs.Spelling.{IsInRange, Fits, FitsTxn, IsImage, txn_bytes, fields, spelling};
+ghost use Rattle.rq_record.specs.Spelling.{IsInRange, HasWidths, FitsTxn, IsImage, txn_bytes, fields, spelling};
 ghost use Rattle.rq_bytes.specs.Number.{AreBytes, number};
 
 use crate::{COMMIT_BYTES, OP_END_BYTES, PAGE_OP_BYTES};
@@ -42,7 +42,7 @@ fn shows_deed_bytes_fit(deed: &DeedBytes)
 
 /// Each record that a program holds has fields of their types.
 pub fn shows_fits(record: &Record)
-    ensures { Fits «record».now }
+    ensures { HasWidths «record».now }
 {
     match record {
         Record::PageOp {

@@ -10,7 +10,7 @@ use Rattle.rq_store.specs.Fitting.{oldest, told_by}
 use Rattle.rq_store.proofs.Fitting.{oldest_all}
 use Rattle.rq_store.proofs.Redoing.{oldest_store, redo_one}
 use Rattle.rq_store.proofs.Bounds.{may_redo}
-use Rattle.rq_restart.specs.Noted.{Noted, noted, noted_after}
+use Rattle.rq_restart.specs.Noted.{Analysis, analysis, analysis_after}
 use Rattle.rq_restart.specs.Repeating.{Paged, Marks, Belongs, Repeats, IsFirstBad}
 use Rattle.rq_restart.proofs.Noting.{noted_incarnation}
 
@@ -41,8 +41,8 @@ module _ (z : Sizes) (image : ℕ → List ℕ) (xs : List Record) (i : ℕ) (r 
   within : i + 1 ≤ length log
   within = let a : length (reverse xs) ≡ length xs = length-reverse xs in omega (arith, a, lt)
 
-  pub noted_more : (h k : Noted) → h ≡ noted (oldest i log) → k ≡ noted_after r h → k ≡ noted (oldest (i + 1) log)
-  noted_more h k e f = f ∙ ap (noted_after r) e ∙ ap noted (sym grows)
+  pub noted_more : (h k : Analysis) → h ≡ analysis (oldest i log) → k ≡ analysis_after r h → k ≡ analysis (oldest (i + 1) log)
+  noted_more h k e f = f ∙ ap (analysis_after r) e ∙ ap analysis (sym grows)
 
   pub redone_more : (old new : ℕ → List ℕ) → Redoes (told_by r) (i + 1) old new → (IsLeft z image log → FitsUpTo z old log i) → IsLeft z image log → FitsUpTo z new log (i + 1)
   redone_more old new redo h left =
@@ -52,14 +52,14 @@ module _ (z : Sizes) (image : ℕ → List ℕ) (xs : List Record) (i : ℕ) (r 
   count : length (oldest i log) ≡ i
   count = let a : length (reverse xs) ≡ length xs = length-reverse xs in let b : length (oldest i log) ≡ length log - (length log - i) = length-drop (length log - i) log in omega (arith, a, b, lt)
 
-  belongs : (h : Noted) → h ≡ noted (oldest i log) → (mid : Paged) → (y : Sizes) → y ≡ z → IsNext h.incarnation r → MayRedo y mid.image (i + 1) r → Belongs z (oldest i log) r mid
+  belongs : (h : Analysis) → h ≡ analysis (oldest i log) → (mid : Paged) → (y : Sizes) → y ≡ z → IsNext h.incarnation r → MayRedo y mid.image (i + 1) r → Belongs z (oldest i log) r mid
   belongs h e mid y sizes next may = record {
-    next = subst (λ n. IsNext n r) (ap (λ (k : Noted). k.incarnation) e ∙ noted_incarnation (oldest i log)) next;
+    next = subst (λ n. IsNext n r) (ap (λ (k : Analysis). k.incarnation) e ∙ noted_incarnation (oldest i log)) next;
     may = subst (λ n. MayRedo z mid.image (n + 1) r) (sym count) (subst (λ x. MayRedo x mid.image (i + 1) r) sizes may);
   }
 
   -- one record more is repeated
-  pub repeated_more : (h : Noted) → h ≡ noted (oldest i log) → (first mid last : Paged) → (y : Sizes) → y ≡ z → Repeats z (oldest i log) first mid → IsNext h.incarnation r → MayRedo y mid.image (i + 1) r
+  pub repeated_more : (h : Analysis) → h ≡ analysis (oldest i log) → (first mid last : Paged) → (y : Sizes) → y ≡ z → Repeats z (oldest i log) first mid → IsNext h.incarnation r → MayRedo y mid.image (i + 1) r
       → Redoes (told_by r) (i + 1) mid.image last.image → Marks (told_by r) (i + 1) mid last.changed → Repeats z (oldest (i + 1) log) first last
   repeated_more h e first mid last y sizes before next may redone marked =
       subst (λ l. Repeats z l first last) (sym grows) (
@@ -73,7 +73,7 @@ module _ (z : Sizes) (image : ℕ → List ℕ) (xs : List Record) (i : ℕ) (r 
       )
 
   -- the next record is the first that doesn't belong
-  pub first_bad : (h : Noted) → h ≡ noted (oldest i log) → (first mid : Paged) → (y : Sizes) → y ≡ z → Repeats z (oldest i log) first mid → (IsNext h.incarnation r → MayRedo y mid.image (i + 1) r → ⊥) → IsFirstBad z log first (i + 1)
+  pub first_bad : (h : Analysis) → h ≡ analysis (oldest i log) → (first mid : Paged) → (y : Sizes) → y ≡ z → Repeats z (oldest i log) first mid → (IsNext h.incarnation r → MayRedo y mid.image (i + 1) r → ⊥) → IsFirstBad z log first (i + 1)
   first_bad h e first mid y sizes before bad = record {
     older = oldest i log;
     newest = r;
@@ -81,14 +81,14 @@ module _ (z : Sizes) (image : ℕ → List ℕ) (xs : List Record) (i : ℕ) (r 
     place = ap (λ n. n + 1) (sym count);
     mid = mid;
     repeated = before;
-    bad = λ b. bad (subst (λ n. IsNext n r) (sym (ap (λ (k : Noted). k.incarnation) e ∙ noted_incarnation (oldest i log))) b.next)
+    bad = λ b. bad (subst (λ n. IsNext n r) (sym (ap (λ (k : Analysis). k.incarnation) e ∙ noted_incarnation (oldest i log))) b.next)
         (subst (λ x. MayRedo x mid.image (i + 1) r) (sym sizes) (subst (λ n. MayRedo z mid.image (n + 1) r) count b.may));
   }
 
-  pub in_order : (h : Noted) → h ≡ noted (oldest i log) → IsLeft z image log → IsNext h.incarnation r
+  pub in_order : (h : Analysis) → h ≡ analysis (oldest i log) → IsLeft z image log → IsNext h.incarnation r
   in_order h e left =
       let order : InOrder (r ∷ oldest i log) = subst InOrder grows (dropped (length log - (i + 1)) log left.whole.order) in
-      subst (λ n. IsNext n r) (sym (ap (λ (k : Noted). k.incarnation) e ∙ noted_incarnation (oldest i log))) order.0 where
+      subst (λ n. IsNext n r) (sym (ap (λ (k : Analysis). k.incarnation) e ∙ noted_incarnation (oldest i log))) order.0 where
         dropped : (k : ℕ) (l : List Record) → InOrder l → InOrder (drop k l)
         dropped zero l o = o
         dropped (suc k) [] o = o

@@ -10,7 +10,7 @@ use Rattle.rq_log.specs.Logged.{Logged, WasLeftOrGoesOn}
 use Rattle.rq_log.specs.Spelled.{spelled, AreSpelled, GoesOn}
 use Rattle.rq_log.proofs.Moments.{started, weaker, joined}
 use Rattle.rq_store.specs.Opening.{next_restart}
-use Rattle.rq_restart.specs.Noted.{Noted, noted}
+use Rattle.rq_restart.specs.Noted.{Analysis, analysis}
 use Rattle.rq_restart.proofs.Restarts.{last_is}
 use Rattle.rq_restart.proofs.Parsing.{one_log, AreSpelled-drop}
 use Rattle.rq_restart.specs.Restarting.{IsRead, IsEnded, IsBegunOn, WasLeftOrIs, BeginsAtMost}
@@ -57,7 +57,7 @@ one_forced g may old new log older r same grown is_record are read run =
       there = subst (λ rs. LeavesOnly g old new (λ c. g.may_leave old c ⊎ GoesOn rs log.forced (g.seen old) c)) grown (subst (λ d. LeavesOnly g d new (λ c. g.may_leave d c ⊎ GoesOn log.records log.forced (g.seen d) c)) same run)
 
 -- the record that begins the incarnation after the last, where everything has ended
-pub begun_moment : {L : Type 0} (g : Ghosts L) (older : List Record) (xs : List Record) (same : older ≡ reverse xs) (h : Noted) → h ≡ noted (reverse xs) → (last : ℕ) → last ≡ h.incarnation → IsEnded older → (d new : L)
+pub begun_moment : {L : Type 0} (g : Ghosts L) (older : List Record) (xs : List Record) (same : older ≡ reverse xs) (h : Analysis) → h ≡ analysis (reverse xs) → (last : ℕ) → last ≡ h.incarnation → IsEnded older → (d new : L)
     → LeavesOnly g d new (WasLeftOrIs g d (IsRecord (records.Restart (last + 1))) (records.Restart (last + 1) ∷ older)) → LeavesOnly g d new (WasLeftOrIs g d (IsEnded older × IsRecord (next_restart older)) (next_restart older ∷ older))
 begun_moment g older xs same h k last e ended d new run =
     weaker g d new (WasLeftOrIs g d (IsRecord (records.Restart (last + 1))) (records.Restart (last + 1) ∷ older)) (WasLeftOrIs g d (IsEnded older × IsRecord (next_restart older)) (next_restart older ∷ older)) run

@@ -1,4 +1,4 @@
--- What is noted of a legal log: the operations and transactions in it that have no end.
+-- What is analysis of a legal log: the operations and transactions in it that have no end.
 use Rattle.std.proofs.Common.{◌≡◌, ℕ, ◌+◌, ◌≤◌, List, [], ◌∷◌, ◌++◌, length, refl, sym, ◌∙◌, ap, Bool, true, false, not, cond, ◌&&◌, ◌||◌, nat_eq, Option, Some, None, inl, inr, arith}
 use Rattle.std.specs.List.{filter}
 use Rattle.std.proofs.lemmas.Bool.{cases_Bool, true≢false, and_parts, eqb-true}
@@ -15,14 +15,14 @@ use Rattle.rq_model.specs.Deeds.{deed_in}
 use Rattle.rq_model.specs.Content.{Ending, ending, ending_by, has_end, any_record, operation_ended, has_pair, add_pair, operations, unfinished, add_txn, workers, lost}
 use Rattle.rq_model.proofs.Lists.{same_is}
 use Rattle.rq_page.specs.Sizes.{Sizes}
-use Rattle.rq_level.specs.Legal.{Legal}
-use Rattle.rq_level.specs.Items.{items, layout_of, operation, Reads}
+use Rattle.rq_level.specs.Legal.{IsLegalLog}
+use Rattle.rq_level.specs.Items.{items, layout_of, operation, ReadsItsDeeds}
 use Rattle.rq_level.proofs.Strangers.{has_end_same}
 use Rattle.rq_model.specs.Incarnations.{InOrder, incarnation_of}
 use Rattle.rq_store.proofs.Opening.{over_same}
-use Rattle.rq_restart.specs.Noted.{Noted, noted, has_sub, with_sub, without_sub, with_txn, without_txn}
+use Rattle.rq_restart.specs.Noted.{Analysis, analysis, has_sub, with_sub, without_sub, with_txn, without_txn}
 
-pub noted_incarnation : (log : List Record) → (noted log).incarnation ≡ incarnation_of log
+pub noted_incarnation : (log : List Record) → (analysis log).incarnation ≡ incarnation_of log
 noted_incarnation [] = refl
 noted_incarnation (records.Restart i ∷ log) = refl
 noted_incarnation (records.PageOp t n page slot before after ∷ log) = noted_incarnation log
@@ -108,24 +108,24 @@ pub no_pairs : (os : List Sub) → pairs_of os ≡ [] → os ≡ []
 no_pairs [] e = refl
 no_pairs (u ∷ os) e = cc
 
--- where operations were noted, one more end
+-- where operations were analysis, one more end
 ended_more : (t : Txn) (n : ℕ) (os : List Sub) (log : List Record) → pairs_of os ≡ unfinished log → pairs_of (without_sub (operation t n) os) ≡ filter (λ p. not ((same_txn t p.0 && nat_eq n p.1) || any_record (operation_ended p.0 p.1) log)) (operations log)
 ended_more t n os log h =
     pairs_without t n os ∙ ap (filter (λ p. not (same_txn t p.0 && nat_eq n p.1))) h
     ∙ sym (filter_twice (λ p. same_txn t p.0 && nat_eq n p.1) (λ p. any_record (operation_ended p.0 p.1) log) (operations log))
 
--- the operations noted are those that have no end
-pub noted_unfinished : (z : Sizes) (log : List Record) → Legal (layout_of z) (items z log) → pairs_of (noted log).unfinished ≡ unfinished log
+-- the operations analysis are those that have no end
+pub noted_unfinished : (z : Sizes) (log : List Record) → IsLegalLog (layout_of z) (items z log) → pairs_of (analysis log).unfinished ≡ unfinished log
 noted_unfinished z [] k = refl
 noted_unfinished z (records.PageOp t n page slot before after ∷ log) k =
     let e : any_record (operation_ended t n) log ≡ false = sym (over_same z t n log) ∙ k.0.going in
-    pairs_with t n (noted log).unfinished
+    pairs_with t n (analysis log).unfinished
     ∙ ap (add_pair (Some (t, n))) (noted_unfinished z log k.1)
     ∙ sym (pair_more (λ p. not (any_record (operation_ended p.0 p.1) log)) (operations log) t n (ap not e))
 noted_unfinished z (records.PageUndo t n undone page slot after ∷ log) k = noted_unfinished z log k.1
-noted_unfinished z (records.OpEnd t n level deed ∷ log) k = ended_more t n (noted log).unfinished log (noted_unfinished z log k.1)
-noted_unfinished z (records.OpVoid t n ∷ log) k = ended_more t n (noted log).unfinished log (noted_unfinished z log k.1)
-noted_unfinished z (records.CompEnd t n undone ∷ log) k = ended_more t n (noted log).unfinished log (noted_unfinished z log k.1)
+noted_unfinished z (records.OpEnd t n level deed ∷ log) k = ended_more t n (analysis log).unfinished log (noted_unfinished z log k.1)
+noted_unfinished z (records.OpVoid t n ∷ log) k = ended_more t n (analysis log).unfinished log (noted_unfinished z log k.1)
+noted_unfinished z (records.CompEnd t n undone ∷ log) k = ended_more t n (analysis log).unfinished log (noted_unfinished z log k.1)
 noted_unfinished z (records.Commit t ∷ log) k = noted_unfinished z log k.1
 noted_unfinished z (records.AbortEnd t ∷ log) k = noted_unfinished z log k.1
 noted_unfinished z (records.Restart i ∷ log) k = noted_unfinished z log k.1
@@ -138,7 +138,7 @@ filter_same : {X : Type 0} (f g : X → Bool) (xs : List X) → ((x : X) → f x
 filter_same f g xs h = let e : f ≡ g = λ i. λ x. h x i in ap (λ k. filter k xs) e
 
 -- and the transactions those that are lost
-pub noted_working : (z : Sizes) (log : List Record) → Legal (layout_of z) (items z log) → Reads log → (noted log).working ≡ lost log
+pub noted_working : (z : Sizes) (log : List Record) → IsLegalLog (layout_of z) (items z log) → ReadsItsDeeds log → (analysis log).working ≡ lost log
 noted_working z [] k r = refl
 noted_working z (records.PageOp t n page slot before after ∷ log) k r = noted_working z log k.1 r.1
 noted_working z (records.PageUndo t n undone page slot after ∷ log) k r = noted_working z log k.1 r.1
@@ -179,8 +179,8 @@ any_txn t [] = refl
 any_txn t (u ∷ ts) = ap (λ b. same_txn u t || b) (any_txn t ts)
 
 -- what is there stays as it is
-pub sub_there : (h : Noted) (o : Sub) → has_sub o h.unfinished ≡ true → h ≡ record h { unfinished = with_sub o h.unfinished }
+pub sub_there : (h : Analysis) (o : Sub) → has_sub o h.unfinished ≡ true → h ≡ record h { unfinished = with_sub o h.unfinished }
 sub_there h o e = rw e refl
 
-pub txn_there : (h : Noted) (t : Txn) → has_txn t h.working ≡ true → h ≡ record h { working = with_txn t h.working }
+pub txn_there : (h : Analysis) (t : Txn) → has_txn t h.working ≡ true → h ≡ record h { working = with_txn t h.working }
 txn_there h t e = rw e refl

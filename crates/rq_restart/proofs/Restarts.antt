@@ -24,8 +24,8 @@ use Rattle.rq_store.proofs.Cutting.{all_fit_longer, no_more_fit}
 use Rattle.rq_store.proofs.Opening.{opened_sound}
 use Rattle.rq_store.proofs.Redoing.{redone_slots}
 use Rattle.rq_store.proofs.Bounds.{fits_counted}
-use Rattle.rq_restart.specs.Noted.{Noted, noted}
-use Rattle.rq_restart.specs.Restarting.{BeginsNot, StaysShut, StopsAt, IsBegun, IsEnded, IsGoneThrough, IsBeyond, ShutFor, LogStops, Refuses, WasChecked, as_read}
+use Rattle.rq_restart.specs.Noted.{Analysis, analysis}
+use Rattle.rq_restart.specs.Restarting.{BeginsNot, IsShutFor, StopsAt, IsBegun, IsEnded, IsGoneThrough, IsBeyond, ShutFor, LogStops, IsRefusedFor, WasChecked, as_read}
 use Rattle.rq_restart.specs.Repeating.{Paged, paged, Repeats, AreCounted, IsFirstBad, IsFirstUncounted}
 use Rattle.rq_restart.proofs.Noting.{noted_incarnation, noted_unfinished, noted_working, no_pairs, pairs_of, few_incarnations}
 
@@ -61,28 +61,28 @@ pub if_err : {T E : Type 0} {A B : E → Type 0} (r : Result T E) → ((x : E) �
 if_err (Ok x) f h = h
 if_err (Err e) f h = f e h
 
-module _ (older : List Record) (xs : List Record) (same : older ≡ reverse xs) (h : Noted) (k : h ≡ noted (reverse xs)) where
-  noted_is : h ≡ noted older
-  noted_is = k ∙ ap noted (sym same)
+module _ (older : List Record) (xs : List Record) (same : older ≡ reverse xs) (h : Analysis) (k : h ≡ analysis (reverse xs)) where
+  noted_is : h ≡ analysis older
+  noted_is = k ∙ ap analysis (sym same)
 
   pub last_is : (last : ℕ) → last ≡ h.incarnation → last ≡ incarnation_of older
-  last_is last e = e ∙ ap (λ (n : Noted). n.incarnation) noted_is ∙ noted_incarnation older
+  last_is last e = e ∙ ap (λ (n : Analysis). n.incarnation) noted_is ∙ noted_incarnation older
 
   pub begun_is : {L : Type 0} (log : Logged L) (last : ℕ) → last ≡ h.incarnation → log.records ≡ records.Restart (last + 1) ∷ older → (log.forced ≡ length log.records) × (log.failed ≡ false) → IsBegun older log
   begun_is log last e r f = record { records = r ∙ ap (λ n. records.Restart (n + 1) ∷ older) (last_is last e); forced = f.0; running = f.1 }
 
-  -- nothing is noted exactly where everything in the log has ended
+  -- nothing is analysis exactly where everything in the log has ended
   pub ended_is : (h.unfinished ≡ []) × (h.working ≡ []) → IsEnded older
-  ended_is none = (ap (λ (n : Noted). n.unfinished) (sym noted_is) ∙ none.0, ap (λ (n : Noted). n.working) (sym noted_is) ∙ none.1)
+  ended_is none = (ap (λ (n : Analysis). n.unfinished) (sym noted_is) ∙ none.0, ap (λ (n : Analysis). n.working) (sym noted_is) ∙ none.1)
 
   pub ended_not : ((h.unfinished ≡ []) × (h.working ≡ []) → ⊥) → IsEnded older → ⊥
-  ended_not some none = some (ap (λ (n : Noted). n.unfinished) noted_is ∙ none.0, ap (λ (n : Noted). n.working) noted_is ∙ none.1)
+  ended_not some none = some (ap (λ (n : Analysis). n.unfinished) noted_is ∙ none.0, ap (λ (n : Analysis). n.working) noted_is ∙ none.1)
 
-  -- everything has ended exactly where nothing is noted
+  -- everything has ended exactly where nothing is analysis
   pub settled_left : (z : Sizes) (image : ℕ → List ℕ) → IsLeft z image older → unfinished older ≡ [] → lost older ≡ [] → (h.unfinished ≡ []) × (h.working ≡ [])
   settled_left z image left u l = (
-    ap (λ (n : Noted). n.unfinished) noted_is ∙ no_pairs (noted older).unfinished (noted_unfinished z older left.whole.legal ∙ u),
-    ap (λ (n : Noted). n.working) noted_is ∙ noted_working z older left.whole.legal left.whole.reads ∙ l,
+    ap (λ (n : Analysis). n.unfinished) noted_is ∙ no_pairs (analysis older).unfinished (noted_unfinished z older left.whole.legal ∙ u),
+    ap (λ (n : Analysis). n.working) noted_is ∙ noted_working z older left.whole.legal left.whole.reads ∙ l,
   )
 
   pub sound_is : (z : Sizes) (image : ℕ → List ℕ) (images : List (List ℕ)) → IsPool z images → (h.unfinished ≡ []) × (h.working ≡ []) → (IsLeft z image (reverse xs) → FitsUpTo z (image_in images) (reverse xs) (length xs)) → IsLeft z image older → IsSound (opened z images older)
@@ -90,12 +90,12 @@ module _ (older : List Record) (xs : List Record) (same : older ≡ reverse xs) 
       let there : IsLeft z image (reverse xs) = subst (λ l. IsLeft z image l) same left in
       let count : length xs ≡ length older = sym (length-reverse xs) ∙ ap length (sym same) in
       let fits : FitsUpTo z (image_in images) older (length older) = subst (λ n. FitsUpTo z (image_in images) older n) count (subst (λ l. FitsUpTo z (image_in images) l (length xs)) (sym same) (redone there)) in
-      let none_unfinished : unfinished older ≡ [] = sym (noted_unfinished z older left.whole.legal) ∙ ap pairs_of (ap (λ (n : Noted). n.unfinished) (sym noted_is) ∙ ended.0) in
-      let none_lost : lost older ≡ [] = sym (noted_working z older left.whole.legal left.whole.reads) ∙ ap (λ (n : Noted). n.working) (sym noted_is) ∙ ended.1 in
+      let none_unfinished : unfinished older ≡ [] = sym (noted_unfinished z older left.whole.legal) ∙ ap pairs_of (ap (λ (n : Analysis). n.unfinished) (sym noted_is) ∙ ended.0) in
+      let none_lost : lost older ≡ [] = sym (noted_working z older left.whole.legal left.whole.reads) ∙ ap (λ (n : Analysis). n.working) (sym noted_is) ∙ ended.1 in
       opened_sound z images older pool.range left.whole none_unfinished none_lost (redone_slots z older images left.whole.in_store fits)
       (record { superblock = pool.superblock; headers = pool.headers; pages = λ p low high. (fits p low high).fits })
 
-  pub shut_is : (z : Sizes) (image : ℕ → List ℕ) (e : Refusal) (last before now : ℕ) → last ≡ h.incarnation → (untouched : Type 0) → BeginsNot e (length older) last before now untouched → StaysShut (IsLeft z image older) older e before now
+  pub shut_is : (z : Sizes) (image : ℕ → List ℕ) (e : Refusal) (last before now : ℕ) → last ≡ h.incarnation → (untouched : Type 0) → BeginsNot e (length older) last before now untouched → IsShutFor (IsLeft z image older) older e before now
   shut_is z image why.NoMemory last before now is untouched b = b.0
   shut_is z image why.DiskWrite last before now is untouched b = b
   shut_is z image why.LogFull last before now is untouched b = λ left. elim b.0 [
@@ -156,7 +156,7 @@ module _ {P L : Type 0} (p : Ghosts P) (l : log_device.Ghosts L) (pages : P) (lo
         room = h.6;
       }))
 
-  pub was_refused : (e : Refusal) (new_pages : P) (new_log : L) → new_pages ≡ loaded.device → p.faults loaded.device ≡ p.faults pages → LogStops l loaded.sizes (paged loaded) e log new_log → Refuses p l pages log e new_pages new_log
+  pub was_refused : (e : Refusal) (new_pages : P) (new_log : L) → new_pages ≡ loaded.device → p.faults loaded.device ≡ p.faults pages → LogStops l loaded.sizes (paged loaded) e log new_log → IsRefusedFor p l pages log e new_pages new_log
   was_refused e new_pages new_log device cause h =
       inr (
         loaded.sizes,

@@ -12,7 +12,7 @@ use Rattle.rq_model.specs.Incarnations.{incarnation_one}
 
 -- the incarnation, the operations that wrote a slot and have no end, and the transactions that finished an operation
 -- and have no end
-pub record Noted : Type 0 where
+pub record Analysis : Type 0 where
   pub incarnation : ℕ
   pub unfinished : List Sub
   pub working : List Txn
@@ -46,13 +46,13 @@ working_after (Commit t) ts = without_txn t ts
 working_after (AbortEnd t) ts = without_txn t ts
 working_after _ ts = ts
 
-abbrev pub noted_after : Record → Noted → Noted
-noted_after r h = record {
+abbrev pub analysis_after : Record → Analysis → Analysis
+analysis_after r h = record {
   incarnation = incarnation_one r h.incarnation;
   unfinished = unfinished_after r h.unfinished;
   working = working_after r h.working;
 }
 
-abbrev pub noted : List Record → Noted
-noted [] = record { incarnation = 0; unfinished = []; working = [] }
-noted (r ∷ log) = noted_after r (noted log)
+abbrev pub analysis : List Record → Analysis
+analysis [] = record { incarnation = 0; unfinished = []; working = [] }
+analysis (r ∷ log) = analysis_after r (analysis log)

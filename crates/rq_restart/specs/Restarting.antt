@@ -19,7 +19,7 @@ use Rattle.rq_log.specs.Logged.{Logged, WasDurable}
 use Rattle.rq_log.specs.Crash.{LeavesOnly}
 use Rattle.rq_log.specs.Spelled.{spelled, AreSpelled}
 use Rattle.rq_store.specs.Opening.{IsLeft, next_restart, waiting_in}
-use Rattle.rq_restart.specs.Noted.{noted}
+use Rattle.rq_restart.specs.Noted.{analysis}
 use Rattle.rq_restart.specs.Repeating.{Paged, Repeats, AreCounted, IsFirstBad, IsFirstUncounted}
 
 -- going through a log stops where memory is wanting, or where the store was not left so
@@ -44,7 +44,7 @@ BeginsNot _ records last before now untouched = ⊥
 
 -- every operation and every transaction in the log has its end
 abbrev pub IsEnded : List Record → Type 0
-IsEnded log = ((noted log).unfinished ≡ []) × ((noted log).working ≡ [])
+IsEnded log = ((analysis log).unfinished ≡ []) × ((analysis log).working ≡ [])
 
 -- The log was gone through on the pages: each record belonged where it stood and was repeated, and no number of a page
 -- is beyond the log, neither as the pages were read nor then.
@@ -78,14 +78,14 @@ ShutFor z log first (why.Damaged (damage.Page page)) before now untouched = IsBe
 ShutFor z log first _ before now untouched = ⊥
 
 -- why a store over this log was not opened, with the failures of the log's device before and after it
-abbrev pub StaysShut : Type 0 → List Record → Refusal → ℕ → ℕ → Type 0
-StaysShut left log why.NoMemory before now = now ≡ before
-StaysShut left log why.LogFull before now = left → 2 ^ 50 ≤ length log
-StaysShut left log why.DiskRead before now = now ≡ (before + 1) % 2 ^ 64
-StaysShut left log why.DiskWrite before now = now ≡ (before + 1) % 2 ^ 64
-StaysShut left log why.Unfinished before now = left → unfinished log ≡ [] → lost log ≡ [] → ⊥
-StaysShut left log (why.Damaged d) before now = left → ⊥
-StaysShut left log _ before now = ⊥
+abbrev pub IsShutFor : Type 0 → List Record → Refusal → ℕ → ℕ → Type 0
+IsShutFor left log why.NoMemory before now = now ≡ before
+IsShutFor left log why.LogFull before now = left → 2 ^ 50 ≤ length log
+IsShutFor left log why.DiskRead before now = now ≡ (before + 1) % 2 ^ 64
+IsShutFor left log why.DiskWrite before now = now ≡ (before + 1) % 2 ^ 64
+IsShutFor left log why.Unfinished before now = left → unfinished log ≡ [] → lost log ≡ [] → ⊥
+IsShutFor left log (why.Damaged d) before now = left → ⊥
+IsShutFor left log _ before now = ⊥
 
 -- the log has one record more, which begins the incarnation after the last, and all its records are forced
 pub record IsBegun {L : Type 0} (older : List Record) (log : Logged L) : Type 0 where
@@ -192,8 +192,8 @@ as_read z images = record { image = image_in images; changed = replicate (page_c
 module _ {P L : Type 0} (p : page_device.Ghosts P) (l : log_device.Ghosts L) (pages : P) (log : L) where
   -- Why a restart was refused, and where: the pages could not be read, and the log was left alone; or they were all
   -- read and are sound, and then this.
-  abbrev pub Refuses : Refusal → P → L → Type 0
-  Refuses e new_pages new_log =
+  abbrev pub IsRefusedFor : Refusal → P → L → Type 0
+  IsRefusedFor e new_pages new_log =
       (pages_read.StopsFor p e pages new_pages × (new_log ≡ log))
       ⊎ ((z : Sizes) × (images : List (List ℕ)) × ArePages z images
       × (p.honest new_pages → AreSeen (p.seen pages) images (page_count z)) × (p.faults new_pages ≡ p.faults pages)

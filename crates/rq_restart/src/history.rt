@@ -1,7 +1,7 @@
 //! What the records of a log say of incarnations, operations and transactions.
 ghost use Rattle.std.specs.Prelude.{◌≡◌, ◌↔◌, ◌≤◌, IsTrue, IfOk, IfErr, OnOk, OnErr, [], Some};
 ghost use Rattle.rq_model.specs.Incarnations.{IsNext, IsOf};
-ghost use Rattle.rq_restart.specs.Noted.{noted, noted_after, with_sub, without_sub, with_txn, without_txn};
+ghost use Rattle.rq_restart.specs.Noted.{analysis, analysis_after, with_sub, without_sub, with_txn, without_txn};
 
 use rq_model::record::Record;
 use rq_model::refusal::Refusal;
@@ -20,9 +20,9 @@ pub(crate) struct History {
 }
 
 impl Model for History {
-    ghost use Rattle.rq_restart.specs.Noted.{Noted};
+    ghost use Rattle.rq_restart.specs.Noted.{Analysis};
 
-    ghost Value = { Noted };
+    ghost Value = { Analysis };
 
     ghost view = { λ h. record {
       incarnation = h.incarnation;
@@ -34,7 +34,7 @@ impl Model for History {
 impl History {
     /// No record.
     pub(crate) fn new(alloc: Global) -> Self
-        ensures { result ≡ noted [] }
+        ensures { result ≡ analysis [] }
     {
         History {
             incarnation: 0,
@@ -60,7 +60,7 @@ impl History {
     /// Takes the next record. False where it doesn't belong to the running incarnation, or isn't the next.
     pub(crate) fn note(&mut self, record: &Record) -> Result<bool, Refusal>
         ensures next { IfOk result (λ is_next. IsTrue is_next ↔ IsNext self.old.incarnation «record».now) }
-        ensures noted { OnOk result (self.new ≡ noted_after «record».now self.old) }
+        ensures analysis { OnOk result (self.new ≡ analysis_after «record».now self.old) }
         ensures err { IfErr result (λ e. e ≡ Refusal.NoMemory) }
     {
         match record {

@@ -5,8 +5,8 @@ ghost use Rattle.rq_page.specs.Pages.{lsn_of, slot_of};
 ghost use Rattle.rq_page.specs.Slots.{IsSlotOf};
 ghost use Rattle.rq_pool.specs.Pooled.{IsPool};
 ghost use Rattle.rq_store.specs.Opening.{IsRedone, Redoes, IsSoundTold, MayRedo, FitsUpTo, IsCounted, IsLeft};
-ghost use Rattle.rq_store.specs.Fitting.{Told, told_by, image_in};
-ghost use Rattle.rq_restart.specs.Noted.{noted};
+ghost use Rattle.rq_store.specs.Fitting.{HoldsRecord, told_by, image_in};
+ghost use Rattle.rq_restart.specs.Noted.{analysis};
 ghost use Rattle.rq_restart.specs.Repeating.{paged, Repeats, Marks, IsMarked};
 ghost use Rattle.rq_restart.specs.Restarting.{StopsIn, StopsAt, IsFirstFault};
 
@@ -64,7 +64,7 @@ pub(crate) fn repeat_history<P: PageDevice + Drop>(
     pages: &mut Pages<P>,
     records: &[Record],
 ) -> Result<History, Refusal>
-    ensures ok { IfOk result (λ history. history ≡ noted (reverse records.now)) }
+    ensures ok { IfOk result (λ history. history ≡ analysis (reverse records.now)) }
     ensures repeated { OnOk result (Repeats pages.old.sizes (reverse records.now) (paged pages.old) (paged pages.new)) }
     ensures redone { OnOk result (IsLeft pages.old.sizes (image_in pages.old.images) (reverse records.now)
         → FitsUpTo pages.old.sizes (image_in pages.new.images) (reverse records.now) (length records.now)) }

@@ -19,7 +19,7 @@ ghost use Rattle.rq_store.specs.Fitting.{AllFit, image_in};
 ghost use Rattle.rq_engine.specs.Crash.{AreFit};
 ghost use Rattle.rq_engine.specs.Opened.{pooled};
 ghost use Rattle.rq_restart.specs.Repeating.{paged};
-ghost use Rattle.rq_restart.specs.Restarting.{IsReadAs, IsLeftOn, IsReady, AreWaiting, BeginsNot, StaysShut, IsBegun, Reports, Stops, IsEnded, IsGoneThrough, ShutFor, WasLeftOrIs, BeginsAtMost, LogStops, Refuses, WasChecked};
+ghost use Rattle.rq_restart.specs.Restarting.{IsReadAs, IsLeftOn, IsReady, AreWaiting, BeginsNot, IsShutFor, IsBegun, Reports, Stops, IsEnded, IsGoneThrough, ShutFor, WasLeftOrIs, BeginsAtMost, LogStops, IsRefusedFor, WasChecked};
 ghost use Rattle.rq_engine.specs.Devices.{Path, EachPair};
 ghost use Rattle.rq_restart.specs.Underway.{OfStores, IsLeftOrGoesOn, pages_left, log_left};
 
@@ -104,7 +104,7 @@ pub fn restart<P: PageDevice + Drop, L: LogDevice + Drop>(
         read)) }
     ensures checked { IfOk result (λ o. WasChecked P.PageDevice L.LogDevice pages log o.0.state.sizes
         (paged (pooled o.0)) o.0.state.records o.0.pages o.0.log) }
-    ensures refused { IfErr result (λ stopped. Refuses P.PageDevice L.LogDevice pages log stopped.refusal stopped.pages
+    ensures refused { IfErr result (λ stopped. IsRefusedFor P.PageDevice L.LogDevice pages log stopped.refusal stopped.pages
         stopped.log) }
     ensures fit { IfOk result (λ o. (older : List Record) → IsReadAs L.LogDevice log o.0.log older
         → AllFit (P.may_be pages) o.0.state.sizes older → AreFit P.PageDevice o.0) }
@@ -140,7 +140,7 @@ fn reopen<P: PageDevice + Drop, L: LogDevice + Drop>(
     ensures any_moment_back { IfErr result (λ stopped. BeginsAtMost L.LogDevice log stopped.log) }
     ensures checked { IfOk result (λ o. WasChecked P.PageDevice L.LogDevice pages log o.0.state.sizes
         (paged (pooled o.0)) o.0.state.records o.0.pages o.0.log) }
-    ensures refused { IfErr result (λ stopped. Refuses P.PageDevice L.LogDevice pages log stopped.refusal stopped.pages
+    ensures refused { IfErr result (λ stopped. IsRefusedFor P.PageDevice L.LogDevice pages log stopped.refusal stopped.pages
         stopped.log) }
     ensures fit { IfOk result (λ o. (older : List Record) → IsReadAs L.LogDevice log o.0.log older
         → AllFit (P.may_be pages) o.0.state.sizes older → AreFit P.PageDevice o.0) }
@@ -194,7 +194,7 @@ fn open<P: PageDevice + Drop, L: LogDevice + Drop>(
     ensures any_moment_back { IfErr result (λ stopped. BeginsAtMost L.LogDevice log stopped.log) }
     ensures checked { IfOk result (λ o. WasChecked P.PageDevice L.LogDevice pages log o.pages.sizes
         (paged o.pages) o.log.records o.pages.device o.log.device) }
-    ensures refused { IfErr result (λ stopped. Refuses P.PageDevice L.LogDevice pages log stopped.refusal stopped.pages
+    ensures refused { IfErr result (λ stopped. IsRefusedFor P.PageDevice L.LogDevice pages log stopped.refusal stopped.pages
         stopped.log) }
     ensures room { IfOk result (λ o. o.log.reserved ≡ 0) }
     ensures cause { IfOk result (λ o. (P.faults o.pages.device ≡ P.faults pages)
@@ -247,7 +247,7 @@ fn restart_log<P: PageDevice + Drop, L: LogDevice + Drop>(
     ensures room { IfOk result (λ o. o.log.reserved ≡ 0) }
     ensures cause { IfOk result (λ o. L.faults o.log.device ≡ L.faults log) }
     ensures err { IfErr result (λ stopped. (older : List Record) → IsReadAs L.LogDevice log stopped.log older
-        → StaysShut (IsLeft pages.sizes (image_in pages.images) older) older stopped.refusal (L.faults log)
+        → IsShutFor (IsLeft pages.sizes (image_in pages.images) older) older stopped.refusal (L.faults log)
         (L.faults stopped.log)) }
 {
     let Scan { records, log } = Log::scan(alloc, log);
@@ -313,7 +313,7 @@ fn go_on<P: PageDevice + Drop, L: LogDevice + Drop>(
         (L.faults log.old.device) (L.faults log.new.device) (log.new.device ≡ log.old.device)) }
     ensures room { OnOk result (log.new.reserved ≡ log.old.reserved) }
     ensures cause { OnOk result (L.faults log.new.device ≡ L.faults log.old.device) }
-    ensures err { IfErr result (λ e. StaysShut (IsLeft pages.old.sizes
+    ensures err { IfErr result (λ e. IsShutFor (IsLeft pages.old.sizes
         (image_in pages.old.images) log.old.records) log.old.records e (L.faults log.old.device)
         (L.faults log.new.device)) }
 {

@@ -10,7 +10,8 @@ use Rattle.atomic_table.specs.Table.Act.{keeps}
 use Rattle.atomic_table.proofs.Lists.{at_set, at_snoc, at_longer, set_here, set_else, set_again}
 use mathlib.Core.Option.{none}
 use Rattle.rq_shared.specs.declared.mark.View.{View}
-use Rattle.rq_shared.specs.Marks.{In, IsMark, IsPublished, Publishes, Reads, seat_view, newcomer}
+use Rattle.rq_shared.specs.Marks.{IsMark, IsPublished, Publishes, Reads, seat_view, newcomer}
+use Rattle.rq_model.specs.Words.{In}
 
 in_front : (x : ℕ) (xs ys : List ℕ) → In x xs → In x (xs ++ ys)
 in_front x [] ys h = absurd h

@@ -10,24 +10,24 @@ use Rattle.rq_engine.specs.declared.event.Progress.TheVariants.{Done, Ready}
 use Rattle.rq_engine.specs.declared.event.Outcome.TheVariants.{Sent, Message, Closed, Undone}
 use Rattle.rq_engine.specs.Says.{gave}
 use Rattle.rq_shared.specs.Entries.{Noted, entries, entry_of}
-use Rattle.rq_shared.specs.Tied.{own, told, stamps, stamp_of, lacked_memory}
+use Rattle.rq_shared.specs.Tied.{own, left_entries, stamps, stamp_of, lacked_memory}
 use Rattle.rq_shared.specs.declared.kept.AuditEntry.{AuditEntry}
 use Rattle.rq_shared.specs.declared.kept.Stamped.{Stamped}
 
-told_cons : (s : Noted) (ss : List Noted) → lacked_memory s.gave ≡ false → told (s ∷ ss) ≡ s ∷ told ss
+told_cons : (s : Noted) (ss : List Noted) → lacked_memory s.gave ≡ false → left_entries (s ∷ ss) ≡ s ∷ left_entries ss
 told_cons s ss h = rw h refl
 
-told_skip : (s : Noted) (ss : List Noted) → lacked_memory s.gave ≡ true → told (s ∷ ss) ≡ told ss
+told_skip : (s : Noted) (ss : List Noted) → lacked_memory s.gave ≡ true → left_entries (s ∷ ss) ≡ left_entries ss
 told_skip s ss h = rw h refl
 
 own_cons : (p : ℕ) (x : Noted) (xs : List Noted) → x.pass ≡ p → own p (x ∷ xs) ≡ x ∷ own p xs
 own_cons p x xs h = rw (eq-eqb x.pass p h) refl
 
-pub told_here : (ss : List Stamped) (i : ℕ) (s : Stamped) → i < length ss → s ≡ get_or ss i s → lacked_memory (gave s.reply) ≡ false → told (stamps (drop i ss)) ≡ stamp_of s ∷ told (stamps (drop (i + 1) ss))
+pub told_here : (ss : List Stamped) (i : ℕ) (s : Stamped) → i < length ss → s ≡ get_or ss i s → lacked_memory (gave s.reply) ≡ false → left_entries (stamps (drop i ss)) ≡ stamp_of s ∷ left_entries (stamps (drop (i + 1) ss))
 told_here ss i s lt is h =
     rw (add-one i, drop-cons ss i s lt, ← is, told_cons (stamp_of s) (stamps (drop (suc i) ss)) h) refl
 
-pub told_past : (ss : List Stamped) (i : ℕ) (s : Stamped) → i < length ss → s ≡ get_or ss i s → lacked_memory (gave s.reply) ≡ true → told (stamps (drop i ss)) ≡ told (stamps (drop (i + 1) ss))
+pub told_past : (ss : List Stamped) (i : ℕ) (s : Stamped) → i < length ss → s ≡ get_or ss i s → lacked_memory (gave s.reply) ≡ true → left_entries (stamps (drop i ss)) ≡ left_entries (stamps (drop (i + 1) ss))
 told_past ss i s lt is h =
     rw (add-one i, drop-cons ss i s lt, ← is, told_skip (stamp_of s) (stamps (drop (suc i) ss)) h) refl
 
@@ -53,7 +53,7 @@ pub tie_stop : (o t b c b' c' : List Noted) (x s : Noted) → ((o ≡ t) ↔ (b 
 tie_stop o t b c b' c' x s iff eb ec apart h =
     let q : b ≡ c = iff.0 h in let w : x ∷ b' ≡ s ∷ c' = cc in apart (cc)
 
-pub told_end : (ss : List Stamped) (i : ℕ) → length ss ≤ i → told (stamps (drop i ss)) ≡ []
+pub told_end : (ss : List Stamped) (i : ℕ) → length ss ≤ i → left_entries (stamps (drop i ss)) ≡ []
 told_end [] zero h = refl
 told_end [] (suc i) h = refl
 told_end (s ∷ ss) zero h = absurd (omega arith)

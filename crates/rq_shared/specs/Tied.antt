@@ -23,5 +23,5 @@ abbrev pub own : ℕ → List Noted → List Noted
 own pass ns = filter (λ n. n.pass == pass) ns
 
 -- the calls that left an entry
-abbrev pub told : List Noted → List Noted
-told ns = filter (λ n. not (lacked_memory n.gave)) ns
+abbrev pub left_entries : List Noted → List Noted
+left_entries ns = filter (λ n. not (lacked_memory n.gave)) ns

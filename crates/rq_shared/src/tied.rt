@@ -1,7 +1,7 @@
 //! Whether the answers that a pass was given are those of its entries.
 ghost use Rattle.std.specs.Prelude.{◌≡◌, ◌≢◌, ◌↔◌, ◌≤◌, ◌<◌, IsTrue, Some, length, drop, slice_get};
 ghost use Rattle.rq_shared.specs.Entries.{entries, entry_of};
-ghost use Rattle.rq_shared.specs.Tied.{own, told, stamps, stamp_of};
+ghost use Rattle.rq_shared.specs.Tied.{own, left_entries, stamps, stamp_of};
 ghost use Rattle.rq_shared.specs.declared.kept.AuditEntry.{AuditEntry};
 
 use crate::kept::{AuditEntry, Stamped, is_no_memory};
@@ -9,7 +9,7 @@ use crate::same::{same_event, same_reply};
 
 /// Whether the entries of this pass, in order, are the stamps that were not answered `NoMemory`.
 pub fn tied(audit: &[AuditEntry], pass: u64, given: &[Stamped]) -> bool
-    ensures { IsTrue result ↔ (own pass (entries audit.now) ≡ told (stamps given.now)) }
+    ensures { IsTrue result ↔ (own pass (entries audit.now) ≡ left_entries (stamps given.now)) }
 {
     let mut at = 0;
     for stamp in given {

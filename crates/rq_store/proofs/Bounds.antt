@@ -20,7 +20,7 @@ use Rattle.rq_level.specs.Log.{Item, Layout, Slots, Write, put, rest_of, IsNewes
 use Rattle.rq_level.specs.Log.Item.{PageOp, PageUndo, OpEnd, OpVoid, CompEnd, Commit, AbortEnd, Restart}
 use Rattle.rq_level.specs.Plans.{Turn, IsPlan, relinked}
 use Rattle.rq_level.specs.Plans.Turn.{Did, Undid}
-use Rattle.rq_level.specs.Legal.{Legal, onto}
+use Rattle.rq_level.specs.Legal.{IsLegalLog, onto}
 use Rattle.rq_level.specs.Items.{items, item_of, layout_of, formatted_at}
 use Rattle.rq_level.specs.InStore.{InStore, InStoreOne}
 use Rattle.rq_level.proofs.Overlay.{put_at, put_off}
@@ -103,7 +103,7 @@ same : (l : Layout) (log : List Item) → Bounded l log → ((a : ℕ) → SentW
 same l log h = (λ a. more (length log) ((state_of l log).slots a) (h.0 a), λ o. befores_more (length log) ((state_of l log).writes o) (h.1 o))
 
 -- no slot of a legal log tells of more messages sent than there are records
-bounded : (l : Layout) (log : List Item) → ((a : ℕ) → SentWithin 0 (l.formatted a)) → Legal l log → Bounded l log
+bounded : (l : Layout) (log : List Item) → ((a : ℕ) → SentWithin 0 (l.formatted a)) → IsLegalLog l log → Bounded l log
 bounded l [] start k = (start, λ o. tt)
 bounded l (PageOp p w ∷ log) start k =
     let n : ℕ = length log in
@@ -130,7 +130,7 @@ bounded l (Restart i ∷ log) start k = same l log (bounded l log start k.1)
 formatted_within : (z : Sizes) (a : ℕ) → SentWithin 0 (formatted_at z a)
 formatted_within z a = elim (cases_Bool (nat_lt 0 (a / 16) && nat_le (a / 16) z.directory && nat_lt 0 (a % 16))) [ inl y ↦ rw y (omega arith) | inr n ↦ rw n tt ]
 
-slots_within : (z : Sizes) (log : List Record) → Legal (layout_of z) (items z log) → (a : ℕ) → SentWithin (length log) ((left_by z log).slots a)
+slots_within : (z : Sizes) (log : List Record) → IsLegalLog (layout_of z) (items z log) → (a : ℕ) → SentWithin (length log) ((left_by z log).slots a)
 slots_within z log k a = subst (λ n. SentWithin n ((left_by z log).slots a)) (length-map log (item_of z)) ((bounded (layout_of z) (items z log) (formatted_within z) k).0 a)
 
 -- the number in a slot that holds so much
@@ -151,7 +151,7 @@ counted z n page bytes h = elim (cases_Bool (page == 0)) [
 ]
 
 -- no number of a page that fits a legal log is beyond its end
-pub fits_counted : (z : Sizes) (log : List Record) (p : ℕ) (image : List ℕ) → Legal (layout_of z) (items z log) → FitsPage z log p image → IsCounted z (length log) p image
+pub fits_counted : (z : Sizes) (log : List Record) (p : ℕ) (image : List ℕ) → IsLegalLog (layout_of z) (items z log) → FitsPage z log p image → IsCounted z (length log) p image
 fits_counted z log p image k f = record {
   lsn = f.within;
   slots = λ n low high.
@@ -162,7 +162,7 @@ fits_counted z log p image k f = record {
       omega (arith, c, d);
 }
 
-sound_told : (z : Sizes) (r : Record) (log : List Record) (page slot : ℕ) (after : List ℕ) → Legal (layout_of z) (items z (r ∷ log)) → IsSlotOf z page slot after → (left_by z (r ∷ log)).slots ≡ put (left_by z log).slots (address page slot) (held_in z page after) → IsSoundTold z (length log + 1) (record { page = page; slot = slot; after = after })
+sound_told : (z : Sizes) (r : Record) (log : List Record) (page slot : ℕ) (after : List ℕ) → IsLegalLog (layout_of z) (items z (r ∷ log)) → IsSlotOf z page slot after → (left_by z (r ∷ log)).slots ≡ put (left_by z log).slots (address page slot) (held_in z page after) → IsSoundTold z (length log + 1) (record { page = page; slot = slot; after = after })
 sound_told z r log page slot after k is e =
     let here : (left_by z (r ∷ log)).slots (address page slot) ≡ held_in z page after = ap (λ (q : Slots). q (address page slot)) e ∙ put_at (left_by z log).slots (address page slot) (held_in z page after) (address page slot) refl in
     let h : SentWithin (length (r ∷ log)) (held_in z page after) = subst (SentWithin (length (r ∷ log))) here (slots_within z (r ∷ log) k (address page slot)) in
@@ -170,7 +170,7 @@ sound_told z r log page slot after k is e =
     record { slot = is; count = omega (arith, c) }
 
 -- a write that a legal log tells is sound
-sound_write : (z : Sizes) (r : Record) (log : List Record) → Legal (layout_of z) (items z (r ∷ log)) → InStoreOne z r → IsSoundWrite z (length log + 1) (told_by r)
+sound_write : (z : Sizes) (r : Record) (log : List Record) → IsLegalLog (layout_of z) (items z (r ∷ log)) → InStoreOne z r → IsSoundWrite z (length log + 1) (told_by r)
 sound_write z (records.PageOp t n page slot before after) log k store = sound_told z (records.PageOp t n page slot before after) log page slot after k store refl
 sound_write z (records.PageUndo t n undone page slot after) log k store = sound_told z (records.PageUndo t n undone page slot after) log page slot after k store refl
 sound_write z (records.OpEnd t n level deed) log k store = tt
@@ -190,10 +190,10 @@ page_of_slot z page slot bytes h = by (kind_of z page) refl h.held where
   by (Some kind.Cells) e f = let p = page_of_cells z page e in let low = p.0 in let high = p.1 in (omega (arith, low), high)
 
 -- a legal log passes each check of going through it
-pub may_redo : (z : Sizes) (log : List Record) (image : ℕ → List ℕ) (k : ℕ) (r : Record) → Legal (layout_of z) (items z log) → InStore z log → BeforesAreSlots z log
+pub may_redo : (z : Sizes) (log : List Record) (image : ℕ → List ℕ) (k : ℕ) (r : Record) → IsLegalLog (layout_of z) (items z log) → InStore z log → BeforesAreSlots z log
     → k + 1 ≤ length log → oldest (k + 1) log ≡ r ∷ oldest k log → FitsUpTo z image log k → MayRedo z image (k + 1) r
 may_redo z log image k r legal store befores within grows h =
-    let here : Legal (layout_of z) (items z (r ∷ oldest k log)) = subst (λ l. Legal (layout_of z) (items z l)) grows (oldest_legal z log (k + 1) legal) in
+    let here : IsLegalLog (layout_of z) (items z (r ∷ oldest k log)) = subst (λ l. IsLegalLog (layout_of z) (items z l)) grows (oldest_legal z log (k + 1) legal) in
     let in_store : InStore z (r ∷ oldest k log) = subst (λ l. InStore z l) grows (oldest_store z log (k + 1) store) in
     let d : length (oldest k log) ≡ length log - (length log - k) = length-drop (length log - k) log in
     let e : length (oldest k log) ≡ k = omega (arith, d, within) in

@@ -22,7 +22,7 @@ use Rattle.rq_model.proofs.Lists.{same_is, same_self, not_same}
 use Rattle.rq_model.proofs.Counts.{commit_counts, taken_within, rest_more}
 use Rattle.rq_page.specs.Sizes.{Sizes, sender_count}
 use Rattle.rq_level.specs.Log.Item.{Commit as Commit_item}
-use Rattle.rq_level.specs.Legal.{May, began, under_way}
+use Rattle.rq_level.specs.Legal.{MayFollow, began, under_way}
 use Rattle.rq_level.specs.Plans.{deed_sender}
 use Rattle.rq_level.specs.Items.{items, layout_of, operation, has_undone}
 use Rattle.rq_level.proofs.Strangers.{has_end_same}
@@ -31,7 +31,7 @@ use Rattle.rq_groups.specs.Ends.{HeldEnds}
 use Rattle.rq_groups.specs.Waiting.{waits}
 use Rattle.rq_store.proofs.Begun.{begun_more}
 use Rattle.rq_store.specs.State.{State, ledger_of, open_of, open_ones_of, job_under, op_done, phase_of}
-use Rattle.rq_store.specs.Sound.{IsSound, IsWhole, IsRow, IsGoing, IsGoingOf, IsSettled, is_under, apart, appending, takes_one, takes_in, sends_in, HasWaiting, IsCovered}
+use Rattle.rq_store.specs.Sound.{IsSound, IsWhole, IsRow, FollowsPlan, IsAsPlanned, IsSettled, is_under, apart, appending, takes_one, takes_in, sends_in, HasWaiting, IsCovered}
 use Rattle.rq_store.specs.Fitting.{image_in}
 use Rattle.rq_store.specs.Steps.{Steps}
 use Rattle.rq_store.proofs.Fitting.{fits_more}
@@ -92,7 +92,7 @@ module _ (s : State) (k : IsSound s) (t : Txn) (r : Row) (cells : ℕ) (ws : Lis
   own_idle : (n : ℕ) → under_way (operation t n) (items z log) ≡ false
   own_idle n = ap (λ (q : Txn). under_way (operation q n) (items z log)) (sym place.1) ∙ row.idle n (ap (is_under n) idle)
 
-  may : May (layout_of z) (items z log) (Commit_item t)
+  may : MayFollow (layout_of z) (items z log) (Commit_item t)
   may = record {
     idle = λ o e. ap (λ (q : Txn). under_way (operation q o.number) (items z log)) e ∙ own_idle o.number;
     running = has_end_same z t log ∙ running;
@@ -120,7 +120,7 @@ module _ (s : State) (k : IsSound s) (t : Txn) (r : Row) (cells : ℕ) (ws : Lis
   abbrev new : State
   new = record s { rows = rows; ends = ends; records = x ∷ log; cells_in_use = cells; waiting = ws }
 
-  going_over : (q : Txn) (u : Under) → q ≢ t → IsGoing z log s.ends q u → IsGoing z (x ∷ log) ends q u
+  going_over : (q : Txn) (u : Under) → q ≢ t → FollowsPlan z log s.ends q u → FollowsPlan z (x ∷ log) ends q u
   going_over q u n g = record {
     made = g.made;
     going = g.going;
@@ -136,7 +136,7 @@ module _ (s : State) (k : IsSound s) (t : Txn) (r : Row) (cells : ℕ) (ws : Lis
     reads = g.reads;
   }
 
-  going_of : (q : Row) (o : Option Under) → q.txn ≢ t → IsGoingOf z log s.ends q o → IsGoingOf z (x ∷ log) ends q o
+  going_of : (q : Row) (o : Option Under) → q.txn ≢ t → IsAsPlanned z log s.ends q o → IsAsPlanned z (x ∷ log) ends q o
   going_of q None n g = tt
   going_of q (Some u) n g = (going_over q.txn u n g.0, g.1)
 
@@ -233,7 +233,7 @@ module _ (s : State) (k : IsSound s) (t : Txn) (r : Row) (cells : ℕ) (ws : Lis
   still_waiting (UnlinkHead g n tag body) m h = let a = waited g m in omega (arith, a, h)
   still_waiting (Close g) m h = tt
 
-  covered_now : (q : Row) (o : Option Under) → IsGoingOf z log s.ends q o → IsCovered s.waiting o → IsCovered ws o
+  covered_now : (q : Row) (o : Option Under) → IsAsPlanned z log s.ends q o → IsCovered s.waiting o → IsCovered ws o
   covered_now q None g h = tt
   covered_now q (Some u) g h = still_waiting u.deed g.0.sender h
 

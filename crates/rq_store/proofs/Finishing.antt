@@ -13,7 +13,7 @@ use Rattle.rq_model.specs.declared.message.Message.{Message}
 use Rattle.rq_model.specs.Words.{In, Op, same_txn, is_some, taken_from}
 use Rattle.rq_model.specs.Deeds.{deed_in, spelled_deed}
 use Rattle.rq_model.specs.Ledger.{Open, after, done_more, change, found, rest_in, runs}
-use Rattle.rq_model.specs.Legal.{count_rest, below, pending, is_sent, is_sending, has_under, steps_left, OnFound, Answers}
+use Rattle.rq_model.specs.Legal.{count_rest, below, pending, is_sent, is_sending, has_under, steps_left, OnFound, IsDoneBy}
 use Rattle.rq_model.specs.Content.{said, kept, op_of, has_end, has_commit, added, removed, deeds, MayEnd, EndingMay, ending_by, committed_of}
 use Rattle.rq_model.specs.History.Entry.{Did}
 use Rattle.rq_model.specs.History.Call.{Finish}
@@ -22,11 +22,11 @@ use Rattle.rq_model.proofs.Lists.{same_self}
 use Rattle.rq_page.specs.Sizes.{Sizes, cell_count, sender_count}
 use Rattle.rq_level.specs.Log.{same_op}
 use Rattle.rq_level.specs.Log.Item.{OpEnd}
-use Rattle.rq_level.specs.Legal.{May, open_deeds, began, over, under_way, view}
+use Rattle.rq_level.specs.Legal.{MayFollow, open_deeds, began, over, under_way, view}
 use Rattle.rq_level.specs.Plans.{IsPlan, deed_sender}
 use Rattle.rq_level.specs.Plans.Turn.{Did as Did_turn}
 use Rattle.rq_level.specs.Chain.{View}
-use Rattle.rq_level.specs.Groups.{Told}
+use Rattle.rq_level.specs.Groups.{TellsView}
 use Rattle.rq_level.specs.Claims.{takes_of, appends_of, claimed}
 use Rattle.rq_level.specs.Numbers.{greatest}
 use Rattle.rq_level.specs.Items.{items, item_of, layout_of, operation, told_deed, has_undone}
@@ -41,7 +41,7 @@ use Rattle.rq_groups.specs.Ends.{HeldEnds, has_held}
 use Rattle.rq_groups.specs.Waiting.{waits}
 use Rattle.rq_store.proofs.Begun.{begun_more}
 use Rattle.rq_store.specs.State.{State, ledger_of, open_of, open_ones_of, job_of, job_under, left_under, op_done, phase_of}
-use Rattle.rq_store.specs.Sound.{IsSound, IsWhole, IsRow, IsGoing, IsSettled, HoldsFor, AllHeld, AllMove, Moves, HasWaiting, IsCovered, placed, placed_one, is_under, apart, appending, takes_one, takes_in}
+use Rattle.rq_store.specs.Sound.{IsSound, IsWhole, IsRow, FollowsPlan, IsSettled, HoldsFor, AllHeld, AllMove, Moves, HasWaiting, IsCovered, placed, placed_one, is_under, apart, appending, takes_one, takes_in}
 use Rattle.rq_store.specs.Fitting.{left_by, image_in}
 use Rattle.rq_store.specs.Steps.{Steps, op_end, gave_done, took}
 use Rattle.rq_store.proofs.Fitting.{fits_more}
@@ -76,7 +76,7 @@ lost_gained (UnlinkHead q n tag body) is = (refl, refl)
 lost_gained (Close q) is = absurd is
 
 -- there is a message where one is taken
-told_there : (d : Deed) (v : View) → Told d v → takes_of d ≤ length v.messages
+told_there : (d : Deed) (v : View) → TellsView d v → takes_of d ≤ length v.messages
 told_there (Append q n tag previous body) v h = omega arith
 told_there (UnlinkHead q n tag body) v h = let e : length v.messages ≡ length ((tag, body) ∷ h.0) = ap (λ (l : List (ℕ × List ℕ)). length l) h.1 in omega (arith, e)
 told_there (Close q) v h = omega arith
@@ -119,8 +119,8 @@ says_done t n (Append q m tag previous body) is = (record { sender = q; tag = ta
 says_done t n (UnlinkHead q m tag body) is = refl
 says_done t n (Close q) is = absurd is
 
-answers_done : (s : State) (k : IsSound s) (r : Row) → In r s.rows → (d : Deed) → Moves d → HoldsFor s.ends r.txn d → deed_sender d < sender_count s.sizes → HasWaiting s.waiting d → Told d (view (items s.sizes s.records) (deed_sender d))
-    → Answers (ledger_of s) (open_of s.ends r) (Some (job_of d)) (op_of (said d))
+answers_done : (s : State) (k : IsSound s) (r : Row) → In r s.rows → (d : Deed) → Moves d → HoldsFor s.ends r.txn d → deed_sender d < sender_count s.sizes → HasWaiting s.waiting d → TellsView d (view (items s.sizes s.records) (deed_sender d))
+    → IsDoneBy (ledger_of s) (open_of s.ends r) (Some (job_of d)) (op_of (said d))
 answers_done s k r i (Append q m tag previous body) is h n w told = refl
 answers_done s k r i (UnlinkHead q m tag body) is h n w told = (refl, first_is_next s k q tag body r told.0 i h (let b = takes_below s k q r n i in let c : 1 ≤ waits s.waiting q = w in omega (arith, b, c)) told.1)
 answers_done s k r i (Close q) is h n w told = absurd is
@@ -178,10 +178,10 @@ module _ (s : State) (k : IsSound s) (t : Txn) (r : Row) (u : Under) (ws : List 
   row : IsRow z log s.ends s.incarnation s.begins r
   row = k.rows r place.0
 
-  going : IsGoing z log s.ends t u × (r.number ≡ u.number)
+  going : FollowsPlan z log s.ends t u × (r.number ≡ u.number)
   going = going_at s k t r u at_row under
 
-  g : IsGoing z log s.ends t u
+  g : FollowsPlan z log s.ends t u
   g = going.0
 
   deed_is : said_deed ≡ u.deed
@@ -200,7 +200,7 @@ module _ (s : State) (k : IsSound s) (t : Txn) (r : Row) (u : Under) (ws : List 
   all_made : reverse (writes_of z u.writes) ≡ (left_by z log).writes o
   all_made = sym (g.written ∙ ap reverse (ap (λ n. take n (writes_of z u.writes)) (made ∙ sym (length-map u.writes (write_of z))) ∙ take_all (length (writes_of z u.writes)) (writes_of z u.writes) (omega arith)))
 
-  may : May (layout_of z) (items z log) (OpEnd o said_deed)
+  may : MayFollow (layout_of z) (items z log) (OpEnd o said_deed)
   may = record {
     plan = subst (λ ws. IsPlan (layout_of z) (Did_turn said_deed) ws) all_made (subst (λ d. IsPlan (layout_of z) (Did_turn d) (reverse (writes_of z u.writes))) (sym deed_is) g.plan);
     going = g.going;
@@ -208,8 +208,8 @@ module _ (s : State) (k : IsSound s) (t : Txn) (r : Row) (u : Under) (ws : List 
     running = has_end_same z t log ∙ running;
   }
 
-  tells : Told said_deed (view (items z log) (deed_sender said_deed))
-  tells = subst (λ d. Told d (view (items z log) (deed_sender d))) (sym deed_is) g.told
+  tells : TellsView said_deed (view (items z log) (deed_sender said_deed))
+  tells = subst (λ d. TellsView d (view (items z log) (deed_sender d))) (sym deed_is) g.told
 
   ends : EndingMay log (Some (record { txn = t; said = said u.deed }))
   ends e = subst (λ (q : Txn). MayEnd log e q (said u.deed)) place.1 (ends_of s k r place.0 u.deed g.moves held_here g.sender waits_here e)
@@ -394,7 +394,7 @@ module _ (s : State) (k : IsSound s) (t : Txn) (r : Row) (u : Under) (ws : List 
     says = says_done t u.number u.deed g.moves;
     legal = (
       (ap (λ b. not (runs (phase_of b))) running, (ap not (ap (has_under u.number) at_open ∙ and_from _ _ (ap (λ (y : Option Under). is_some (job_under y)) under) (eq-eqb r.number u.number going.1)), (ap steps_left at_open ∙ ap (nat_lt 0) none_left, tt))),
-      subst (λ (y : Option Open). OnFound y (λ (q : Open). Answers (ledger_of s) q q.under (op_done f))) (sym at_open) (subst (λ (y : Option Under). Answers (ledger_of s) (open_of s.ends r) (job_under y) (op_done f)) (sym under) (answers_done s k r place.0 u.deed g.moves held_here g.sender waits_here g.told)),
+      subst (λ (y : Option Open). OnFound y (λ (q : Open). IsDoneBy (ledger_of s) q q.under (op_done f))) (sym at_open) (subst (λ (y : Option Under). IsDoneBy (ledger_of s) (open_of s.ends r) (job_under y) (op_done f)) (sym under) (answers_done s k r place.0 u.deed g.moves held_here g.sender waits_here g.told)),
     );
     after = after_is;
     sound = finish_sound;

@@ -12,7 +12,7 @@ use Rattle.rq_page.specs.declared.directory.Directory.{Directory}
 use Rattle.rq_page.specs.Sizes.{sender_count, directory_at}
 use Rattle.rq_page.specs.Slots.{Slot}
 use Rattle.rq_page.specs.Slots.Slot.{Free, Used, Sender}
-use Rattle.rq_level.specs.Log.{Slots, Write, applied, Fits, Layout}
+use Rattle.rq_level.specs.Log.{Slots, Write, applied, HasBefores, Layout}
 use Rattle.rq_level.specs.Legal.{under_way, view}
 use Rattle.rq_level.specs.Plans.{IsPlan, relinked}
 use Rattle.rq_level.specs.Plans.Turn.{Did}
@@ -54,7 +54,7 @@ part_leaves : (xs ys : List Write) → LeaveFlags (xs ++ ys) → LeaveFlags ys
 part_leaves [] ys h = h
 part_leaves (x ∷ xs) ys h = part_leaves xs ys h.1
 
-applied_leaves : (ws : List Write) (q : Slots) (a : ℕ) → LeaveFlags ws → Fits ws q → flag_of (applied ws q a) ≡ flag_of (q a)
+applied_leaves : (ws : List Write) (q : Slots) (a : ℕ) → LeaveFlags ws → HasBefores ws q → flag_of (applied ws q a) ≡ flag_of (q a)
 applied_leaves [] q a h f = refl
 applied_leaves (w ∷ ws) q a h f = elim (cases_eq a w.at) [
   | inl e ↦ ap flag_of (put_at (applied ws q) w.at w.after a e) ∙ h.0 ∙ ap flag_of f.0 ∙ ap (λ b. flag_of (applied ws q b)) (sym e) ∙ applied_leaves ws q a h.1 f.1

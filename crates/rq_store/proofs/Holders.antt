@@ -8,7 +8,7 @@ use Rattle.rq_model.specs.declared.record.Deed.TheVariants.{Append, UnlinkHead, 
 use Rattle.rq_model.specs.Words.{same_txn}
 use Rattle.rq_model.specs.Content.{said, deeds, has_end, holds, any_use, uses_send, uses_receive}
 use Rattle.rq_level.specs.Legal.{Placed, open_deeds}
-use Rattle.rq_level.specs.Groups.{is_sending, is_taking, side, Alone}
+use Rattle.rq_level.specs.Groups.{on_sending_end, on_receiving_end, side, Alone}
 use Rattle.rq_level.specs.Items.{items, has_undone}
 use Rattle.rq_level.proofs.Committed.{say}
 use Rattle.rq_level.proofs.Content.{own_deeds}
@@ -44,59 +44,59 @@ side_none p [] h = refl
 side_none p (f ∷ fs) h = ap (side p) (placed_first f fs) ∙ side_join p (placed fs) (placed_one f ∷ []) ∙ ap (λ l. l ++ side p (placed_one f ∷ [])) (side_none p fs h.1) ∙ (rw h.0 refl)
 
 -- whoever does not hold the sending end has sent nothing for s
-no_send : (ends : HeldEnds) (t : Txn) (s : ℕ) (d : Deed) → has_held t s ends.sending ≡ false → HoldsFor ends t d → is_sending s d ≡ false
+no_send : (ends : HeldEnds) (t : Txn) (s : ℕ) (d : Deed) → has_held t s ends.sending ≡ false → HoldsFor ends t d → on_sending_end s d ≡ false
 no_send ends t s (Append r n tag previous body) off h = false_from_ne_true (nat_eq r s) (λ e. true≢false (sym h ∙ ap (λ x. has_held t x ends.sending) (eqb-true r s e) ∙ off))
 no_send ends t s (UnlinkHead r n tag body) off h = refl
 no_send ends t s (Close r) off h = false_from_ne_true (nat_eq r s) (λ e. true≢false (sym h ∙ ap (λ x. has_held t x ends.sending) (eqb-true r s e) ∙ off))
 
-no_take : (ends : HeldEnds) (t : Txn) (s : ℕ) (d : Deed) → has_held t s ends.receiving ≡ false → HoldsFor ends t d → is_taking s d ≡ false
+no_take : (ends : HeldEnds) (t : Txn) (s : ℕ) (d : Deed) → has_held t s ends.receiving ≡ false → HoldsFor ends t d → on_receiving_end s d ≡ false
 no_take ends t s (Append r n tag previous body) off h = refl
 no_take ends t s (UnlinkHead r n tag body) off h = false_from_ne_true (nat_eq r s) (λ e. true≢false (sym h ∙ ap (λ x. has_held t x ends.receiving) (eqb-true r s e) ∙ off))
 no_take ends t s (Close r) off h = refl
 
-none_sent : (ends : HeldEnds) (t : Txn) (s : ℕ) (fs : List Finished) → has_held t s ends.sending ≡ false → AllHeld ends t fs → NoneOf (is_sending s) fs
+none_sent : (ends : HeldEnds) (t : Txn) (s : ℕ) (fs : List Finished) → has_held t s ends.sending ≡ false → AllHeld ends t fs → NoneOf (on_sending_end s) fs
 none_sent ends t s [] off h = tt
 none_sent ends t s (f ∷ fs) off h = (no_send ends t s f.deed off h.0, none_sent ends t s fs off h.1)
 
-none_taken : (ends : HeldEnds) (t : Txn) (s : ℕ) (fs : List Finished) → has_held t s ends.receiving ≡ false → AllHeld ends t fs → NoneOf (is_taking s) fs
+none_taken : (ends : HeldEnds) (t : Txn) (s : ℕ) (fs : List Finished) → has_held t s ends.receiving ≡ false → AllHeld ends t fs → NoneOf (on_receiving_end s) fs
 none_taken ends t s [] off h = tt
 none_taken ends t s (f ∷ fs) off h = (no_take ends t s f.deed off h.0, none_taken ends t s fs off h.1)
 
 -- of a transaction that holds no sending end of s, or has nothing open, nothing open is sent for s
-pub none_sending : (s : State) (k : IsSound s) (g : ℕ) (u : Txn) → has_held u g s.ends.sending ≡ false → side (is_sending g) (open_deeds u (items s.sizes s.records)) ≡ []
+pub none_sending : (s : State) (k : IsSound s) (g : ℕ) (u : Txn) → has_held u g s.ends.sending ≡ false → side (on_sending_end g) (open_deeds u (items s.sizes s.records)) ≡ []
 none_sending s k g u off = at (found_row u s.rows) refl where
-  at : (o : Option Row) → found_row u s.rows ≡ o → side (is_sending g) (open_deeds u (items s.sizes s.records)) ≡ []
-  at None e = ap (side (is_sending g)) (k.others u e).settled
+  at : (o : Option Row) → found_row u s.rows ≡ o → side (on_sending_end g) (open_deeds u (items s.sizes s.records)) ≡ []
+  at None e = ap (side (on_sending_end g)) (k.others u e).settled
   at (Some r) e =
       let i = found_in u s.rows r e in
       let row = k.rows r i.0 in
-      ap (side (is_sending g)) (ap (λ t. open_deeds t (items s.sizes s.records)) (sym i.1) ∙ row.done) ∙ side_none (is_sending g) r.finished (none_sent s.ends r.txn g r.finished (ap (λ t. has_held t g s.ends.sending) i.1 ∙ off) row.held)
+      ap (side (on_sending_end g)) (ap (λ t. open_deeds t (items s.sizes s.records)) (sym i.1) ∙ row.done) ∙ side_none (on_sending_end g) r.finished (none_sent s.ends r.txn g r.finished (ap (λ t. has_held t g s.ends.sending) i.1 ∙ off) row.held)
 
-pub none_taking : (s : State) (k : IsSound s) (g : ℕ) (u : Txn) → has_held u g s.ends.receiving ≡ false → side (is_taking g) (open_deeds u (items s.sizes s.records)) ≡ []
+pub none_taking : (s : State) (k : IsSound s) (g : ℕ) (u : Txn) → has_held u g s.ends.receiving ≡ false → side (on_receiving_end g) (open_deeds u (items s.sizes s.records)) ≡ []
 none_taking s k g u off = at (found_row u s.rows) refl where
-  at : (o : Option Row) → found_row u s.rows ≡ o → side (is_taking g) (open_deeds u (items s.sizes s.records)) ≡ []
-  at None e = ap (side (is_taking g)) (k.others u e).settled
+  at : (o : Option Row) → found_row u s.rows ≡ o → side (on_receiving_end g) (open_deeds u (items s.sizes s.records)) ≡ []
+  at None e = ap (side (on_receiving_end g)) (k.others u e).settled
   at (Some r) e =
       let i = found_in u s.rows r e in
       let row = k.rows r i.0 in
-      ap (side (is_taking g)) (ap (λ t. open_deeds t (items s.sizes s.records)) (sym i.1) ∙ row.done) ∙ side_none (is_taking g) r.finished (none_taken s.ends r.txn g r.finished (ap (λ t. has_held t g s.ends.receiving) i.1 ∙ off) row.held)
+      ap (side (on_receiving_end g)) (ap (λ t. open_deeds t (items s.sizes s.records)) (sym i.1) ∙ row.done) ∙ side_none (on_receiving_end g) r.finished (none_taken s.ends r.txn g r.finished (ap (λ t. has_held t g s.ends.receiving) i.1 ∙ off) row.held)
 
 -- the holder of a sending end is alone with its sends
-pub alone_sending : (s : State) (k : IsSound s) (g : ℕ) (t : Txn) → has_held t g s.ends.sending ≡ true → Alone (is_sending g) t (items s.sizes s.records)
+pub alone_sending : (s : State) (k : IsSound s) (g : ℕ) (t : Txn) → has_held t g s.ends.sending ≡ true → Alone (on_sending_end g) t (items s.sizes s.records)
 alone_sending s k g t h u n = none_sending s k g u (false_from_ne_true (has_held u g s.ends.sending) (λ e. n (k.sending.one u t g e h)))
 
-pub alone_taking : (s : State) (k : IsSound s) (g : ℕ) (t : Txn) → has_held t g s.ends.receiving ≡ true → Alone (is_taking g) t (items s.sizes s.records)
+pub alone_taking : (s : State) (k : IsSound s) (g : ℕ) (t : Txn) → has_held t g s.ends.receiving ≡ true → Alone (on_receiving_end g) t (items s.sizes s.records)
 alone_taking s k g t h u n = none_taking s k g u (false_from_ne_true (has_held u g s.ends.receiving) (λ e. n (k.receiving.one u t g e h)))
 
-uses_is : (g : ℕ) (d : Deed) → uses_send g (said d) ≡ is_sending g d
+uses_is : (g : ℕ) (d : Deed) → uses_send g (said d) ≡ on_sending_end g d
 uses_is g (Append r n tag previous body) = refl
 uses_is g (UnlinkHead r n tag body) = refl
 uses_is g (Close r) = refl
 
-unused : (g : ℕ) (ps : List Placed) → side (is_sending g) ps ≡ [] → any_use (uses_send g) (say ps) ≡ false
+unused : (g : ℕ) (ps : List Placed) → side (on_sending_end g) ps ≡ [] → any_use (uses_send g) (say ps) ≡ false
 unused g [] e = refl
-unused g (p ∷ ps) e = elim (cases_Bool (is_sending g p.deed)) [
-  | inl y ↦ let bad : p.deed ∷ side (is_sending g) ps ≡ [] = rw y at e in cc
+unused g (p ∷ ps) e = elim (cases_Bool (on_sending_end g p.deed)) [
+  | inl y ↦ let bad : p.deed ∷ side (on_sending_end g) ps ≡ [] = rw y at e in cc
   | inr n ↦ or_from (uses_send g (said p.deed)) (any_use (uses_send g) (say ps)) (uses_is g p.deed ∙ n) (unused g ps (rw n at e))
 ]
 
@@ -118,15 +118,15 @@ used_by_holder s k g t u h used = at (found_row u s.rows) refl where
             absurd (false≢true (sym (unused g (open_deeds u (items s.sizes s.records)) (none_sending s k g u n)) ∙ ap (any_use (uses_send g)) own ∙ parts.0))
       ]
 
-takes_is : (g : ℕ) (d : Deed) → uses_receive g (said d) ≡ is_taking g d
+takes_is : (g : ℕ) (d : Deed) → uses_receive g (said d) ≡ on_receiving_end g d
 takes_is g (Append r n tag previous body) = refl
 takes_is g (UnlinkHead r n tag body) = refl
 takes_is g (Close r) = refl
 
-untaken : (g : ℕ) (ps : List Placed) → side (is_taking g) ps ≡ [] → any_use (uses_receive g) (say ps) ≡ false
+untaken : (g : ℕ) (ps : List Placed) → side (on_receiving_end g) ps ≡ [] → any_use (uses_receive g) (say ps) ≡ false
 untaken g [] e = refl
-untaken g (p ∷ ps) e = elim (cases_Bool (is_taking g p.deed)) [
-  | inl y ↦ let bad : p.deed ∷ side (is_taking g) ps ≡ [] = rw y at e in cc
+untaken g (p ∷ ps) e = elim (cases_Bool (on_receiving_end g p.deed)) [
+  | inl y ↦ let bad : p.deed ∷ side (on_receiving_end g) ps ≡ [] = rw y at e in cc
   | inr n ↦ or_from (uses_receive g (said p.deed)) (any_use (uses_receive g) (say ps)) (takes_is g p.deed ∙ n) (untaken g ps (rw n at e))
 ]
 

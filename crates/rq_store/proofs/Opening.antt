@@ -24,8 +24,8 @@ use Rattle.rq_level.specs.Chain.{View, message}
 use Rattle.rq_level.specs.Groups.{committed}
 use Rattle.rq_level.specs.Plans.{Spares}
 use Rattle.rq_level.specs.Legal as ends
-use Rattle.rq_level.specs.Legal.{Legal, has_done, view, open_deeds, of_op, is_of, is_end, began, over, under_way, rest_placed}
-use Rattle.rq_level.specs.Items.{items, item_of, layout_of, operation, Reads}
+use Rattle.rq_level.specs.Legal.{IsLegalLog, has_deed, view, open_deeds, of_op, is_of, is_end, began, over, under_way, rest_placed}
+use Rattle.rq_level.specs.Items.{items, item_of, layout_of, operation, ReadsItsDeeds}
 use Rattle.rq_level.specs.InStore.{IsStranger, mentions}
 use Rattle.rq_level.specs.Stored.{slots_in, count_used, is_used}
 use Rattle.rq_level.proofs.Idle.{idle_quiet, idle_writes}
@@ -112,7 +112,7 @@ none_filtered f (p ∷ ps) t n e h = elim (cases_Bool (f p)) [
 ]
 
 -- where every operation with a slot write has its end, an operation that has none has written nothing, and has no record at all
-never : (z : Sizes) (t : Txn) (n : ℕ) (log : List Record) → Legal (layout_of z) (items z log) → has_pair t n (operations log) ≡ false → over (operation t n) (items z log) ≡ false → ((left_by z log).writes (operation t n) ≡ []) × (began (operation t n) (items z log) ≡ false)
+never : (z : Sizes) (t : Txn) (n : ℕ) (log : List Record) → IsLegalLog (layout_of z) (items z log) → has_pair t n (operations log) ≡ false → over (operation t n) (items z log) ≡ false → ((left_by z log).writes (operation t n) ≡ []) × (began (operation t n) (items z log) ≡ false)
 never z t n [] k h e = (refl, refl)
 never z t n (records.PageOp u m page slot before after ∷ log) k h e =
     let p = pair_added t n u m (operations log) h in
@@ -143,7 +143,7 @@ never z t n (records.AbortEnd u ∷ log) k h e = never z t n log k.1 h e
 never z t n (records.Restart i ∷ log) k h e = never z t n log k.1 h e
 
 -- no operation is under way
-pub idle_log : (z : Sizes) (log : List Record) → Legal (layout_of z) (items z log) → unfinished log ≡ [] → (o : Sub) → under_way o (items z log) ≡ false
+pub idle_log : (z : Sizes) (log : List Record) → IsLegalLog (layout_of z) (items z log) → unfinished log ≡ [] → (o : Sub) → under_way o (items z log) ≡ false
 idle_log z log k none o =
     let t : Txn = o.txn in
     let n : ℕ = o.number in
@@ -187,7 +187,7 @@ ending_is : (u : Txn) (m level : ℕ) (deed : List ℕ) (d : Deed) → level ≡
 ending_is u m level deed d one read = ap (λ l. ending_by u (cond (nat_eq l 1) (deed_in deed) None)) one ∙ ap (ending_by u) read
 
 -- a transaction that ended no operation has no deeds
-idler : (z : Sizes) (t : Txn) (log : List Record) → Reads log → has_txn t (workers log) ≡ false → (open_deeds t (items z log) ≡ []) × (deeds (λ u. same_txn u t) log ≡ [])
+idler : (z : Sizes) (t : Txn) (log : List Record) → ReadsItsDeeds log → has_txn t (workers log) ≡ false → (open_deeds t (items z log) ≡ []) × (deeds (λ u. same_txn u t) log ≡ [])
 idler z t [] r h = (refl, refl)
 idler z t (records.PageOp u m page slot before after ∷ log) r h = idler z t log r.1 h
 idler z t (records.PageUndo u m undone page slot after ∷ log) r h = idler z t log r.1 h
@@ -296,14 +296,14 @@ told_below f (suc n) g m =
     read_front (y ∷ xs) x (suc g) m = read_front xs x g (omega (arith, m))
 
 -- a transaction that ended no operation did nothing
-idle_worker : (z : Sizes) (t : Txn) (log : List Record) → Reads log → has_txn t (workers log) ≡ false → has_done t (items z log) ≡ false
+idle_worker : (z : Sizes) (t : Txn) (log : List Record) → ReadsItsDeeds log → has_txn t (workers log) ≡ false → has_deed t (items z log) ≡ false
 idle_worker z t [] r h = refl
 idle_worker z t (records.PageOp u m page slot before after ∷ log) r h = idle_worker z t log r.1 h
 idle_worker z t (records.PageUndo u m undone page slot after ∷ log) r h = idle_worker z t log r.1 h
 idle_worker z t (records.OpEnd u m level deed ∷ log) r h =
     let e = ending_is u m level deed r.0.1.0 r.0.0 r.0.1.1 in
     let p = txn_added t u (workers log) (ap (λ (x : Option Ending). has_txn t (add_txn x (workers log))) (sym e) ∙ h) in
-    or_from (same_txn u t) (has_done t (items z log)) p.1 (idle_worker z t log r.1 p.0)
+    or_from (same_txn u t) (has_deed t (items z log)) p.1 (idle_worker z t log r.1 p.0)
 idle_worker z t (records.OpVoid u m ∷ log) r h = idle_worker z t log r.1 h
 idle_worker z t (records.CompEnd u m undone ∷ log) r h = idle_worker z t log r.1 h
 idle_worker z t (records.Commit u ∷ log) r h = idle_worker z t log r.1 h
@@ -311,7 +311,7 @@ idle_worker z t (records.AbortEnd u ∷ log) r h = idle_worker z t log r.1 h
 idle_worker z t (records.Restart i ∷ log) r h = idle_worker z t log r.1 h
 
 -- where no transaction is lost, whoever did something has ended
-doers_ended : (z : Sizes) (log : List Record) → Reads log → lost log ≡ [] → (t : Txn) → has_done t (items z log) ≡ true → ends.has_end t (items z log) ≡ true
+doers_ended : (z : Sizes) (log : List Record) → ReadsItsDeeds log → lost log ≡ [] → (t : Txn) → has_deed t (items z log) ≡ true → ends.has_end t (items z log) ≡ true
 doers_ended z log r none t did = elim (cases_Bool (has_end log t)) [
   | inl y ↦ has_end_same z t log ∙ y
   | inr n ↦ absurd (true≢false (sym did ∙ idle_worker z t log r (no_worker log t none n)))

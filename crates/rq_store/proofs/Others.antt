@@ -18,7 +18,7 @@ use Rattle.rq_txn.specs.Rows.{Row, Under, found_row, AreDistinct, change_row, ch
 use Rattle.rq_store.specs.State.{open_of, open_ones_of}
 use Rattle.std.proofs.lemmas.Option.{same_Some}
 use Rattle.rq_groups.specs.Ends.{HeldEnds}
-use Rattle.rq_store.specs.Sound.{IsRow, IsGoingOf, AllHeld, unmade}
+use Rattle.rq_store.specs.Sound.{IsRow, IsAsPlanned, AllHeld, unmade}
 
 -- a row with nothing under way is sound over any log that says the same of its transaction
 pub record SaysSame (z : Sizes) (log new : List Record) (ends after : HeldEnds) (r : Row) : Type 0 where
@@ -29,7 +29,7 @@ pub record SaysSame (z : Sizes) (log new : List Record) (ends after : HeldEnds) 
   pub under_way : (n : ℕ) → under_way (operation r.txn n) (items z new) ≡ under_way (operation r.txn n) (items z log)
   pub held : AllHeld ends r.txn r.finished → AllHeld after r.txn r.finished
 
-pub row_over : (z : Sizes) (log new : List Record) (ends after : HeldEnds) (i b c : ℕ) (r : Row) → b ≤ c → SaysSame z log new ends after r → IsGoingOf z new after r r.under → IsRow z log ends i b r → IsRow z new after i c r
+pub row_over : (z : Sizes) (log new : List Record) (ends after : HeldEnds) (i b c : ℕ) (r : Row) → b ≤ c → SaysSame z log new ends after r → IsAsPlanned z new after r r.under → IsRow z log ends i b r → IsRow z new after i c r
 row_over z log new ends after i b c r le s g h = record {
   of_incarnation = h.of_incarnation;
   counted = omega (arith, le, h.counted);
@@ -44,8 +44,8 @@ row_over z log new ends after i b c r le s g h = record {
   going = g;
 }
 
-pub not_going : (z : Sizes) (log : List Record) (ends : HeldEnds) (r : Row) (o : Option Under) → o ≡ None → IsGoingOf z log ends r o
-not_going z log ends r o e = subst (λ (x : Option Under). IsGoingOf z log ends r x) (sym e) tt
+pub not_going : (z : Sizes) (log : List Record) (ends : HeldEnds) (r : Row) (o : Option Under) → o ≡ None → IsAsPlanned z log ends r o
+not_going z log ends r o e = subst (λ (x : Option Under). IsAsPlanned z log ends r x) (sym e) tt
 
 pub none_of : (o : Option Under) → is_some o ≡ false → o ≡ None
 none_of None e = refl

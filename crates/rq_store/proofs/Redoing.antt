@@ -9,26 +9,26 @@ use Rattle.rq_page.specs.declared.layout.PageKind.TheVariants as kind
 use Rattle.rq_page.specs.Sizes.{Sizes, page_count, address}
 use Rattle.rq_page.specs.Kinds.{kind_of}
 use Rattle.rq_page.specs.Pages.{lsn_of, slot_of, IsWritten}
-use Rattle.rq_page.specs.Slots.{Slot, held_in, held_for, spelled, IsSlotOf}
+use Rattle.rq_page.specs.Slots.{Slot, held_in, held_for, slot_bytes, IsSlotOf}
 use Rattle.rq_page.specs.Slots.Slot.{Free, Used, Sender}
 use Rattle.rq_page.proofs.Spellings.{slot_is_spelling}
 use Rattle.rq_level.specs.Log.{Slots, put}
-use Rattle.rq_level.specs.Legal.{Legal}
+use Rattle.rq_level.specs.Legal.{IsLegalLog}
 use Rattle.rq_level.specs.Items.{items, layout_of}
-use Rattle.rq_level.specs.InStore.{InStore, InStoreOne, Stands, AllStand}
+use Rattle.rq_level.specs.InStore.{InStore, InStoreOne, IsInPlace, AllStand}
 use Rattle.rq_level.specs.Stored.{IsStoreSlot, slots_in, slot_at}
 use Rattle.rq_level.proofs.Overlay.{put_at, put_off}
 use Rattle.rq_level.proofs.Stands.{slots_stand, page_of_cells, page_of_directory}
-use Rattle.rq_store.specs.Fitting.{left_by, oldest, Told, told_by, IsOfPage, IsStamp, HoldsPage, FitsPage, FitsLog, image_in}
+use Rattle.rq_store.specs.Fitting.{left_by, oldest, HoldsRecord, told_by, IsOfPage, IsStamp, HoldsPage, FitsPage, FitsLog, image_in}
 use Rattle.rq_store.specs.Sound.{BeforesAreSlots}
 use Rattle.rq_store.specs.Opening.{FitsPageUpTo, FitsUpTo, Redoes, next_restart}
 use Rattle.rq_store.proofs.Fitting.{oldest_all, page_fits_more}
 use Rattle.rq_store.proofs.Stepping.{address_is}
 
 -- what is so of each end of a log is so of the first records
-pub oldest_legal : (z : Sizes) (log : List Record) (n : ℕ) → Legal (layout_of z) (items z log) → Legal (layout_of z) (items z (oldest n log))
+pub oldest_legal : (z : Sizes) (log : List Record) (n : ℕ) → IsLegalLog (layout_of z) (items z log) → IsLegalLog (layout_of z) (items z (oldest n log))
 oldest_legal z log n h = dropped (length log - n) log h where
-  dropped : (k : ℕ) (log : List Record) → Legal (layout_of z) (items z log) → Legal (layout_of z) (items z (drop k log))
+  dropped : (k : ℕ) (log : List Record) → IsLegalLog (layout_of z) (items z log) → IsLegalLog (layout_of z) (items z (drop k log))
   dropped zero log h = h
   dropped (suc k) [] h = h
   dropped (suc k) (r ∷ log) h = dropped k log h.1
@@ -58,12 +58,12 @@ slots_untold z (records.Commit t) log a e = refl
 slots_untold z (records.Restart i) log a e = refl
 slots_untold z (records.AbortEnd t) log a e = refl
 
-abbrev told_slots : Sizes → Told → Slots → Slots
+abbrev told_slots : Sizes → HoldsRecord → Slots → Slots
 told_slots z w q = put q (address w.page w.slot) (held_in z w.page w.after)
 
-slots_told : (z : Sizes) (r : Record) (log : List Record) (a : ℕ) (w : Told) → told_by r ≡ Some w → (left_by z (r ∷ log)).slots a ≡ told_slots z w (left_by z log).slots a
-slots_told z (records.PageOp t n page slot before after) log a w e = let s : record { page = page; slot = slot; after = after } ≡ w = cc in ap (λ (v : Told). told_slots z v (left_by z log).slots a) s
-slots_told z (records.PageUndo t n undone page slot after) log a w e = let s : record { page = page; slot = slot; after = after } ≡ w = cc in ap (λ (v : Told). told_slots z v (left_by z log).slots a) s
+slots_told : (z : Sizes) (r : Record) (log : List Record) (a : ℕ) (w : HoldsRecord) → told_by r ≡ Some w → (left_by z (r ∷ log)).slots a ≡ told_slots z w (left_by z log).slots a
+slots_told z (records.PageOp t n page slot before after) log a w e = let s : record { page = page; slot = slot; after = after } ≡ w = cc in ap (λ (v : HoldsRecord). told_slots z v (left_by z log).slots a) s
+slots_told z (records.PageUndo t n undone page slot after) log a w e = let s : record { page = page; slot = slot; after = after } ≡ w = cc in ap (λ (v : HoldsRecord). told_slots z v (left_by z log).slots a) s
 slots_told z (records.OpEnd t n level deed) log a w e = cc
 slots_told z (records.OpVoid t n) log a w e = cc
 slots_told z (records.CompEnd t n undone) log a w e = cc
@@ -72,9 +72,9 @@ slots_told z (records.Restart i) log a w e = cc
 slots_told z (records.AbortEnd t) log a w e = cc
 
 -- and they are slots of the store
-told_store : (z : Sizes) (r : Record) (w : Told) → told_by r ≡ Some w → InStoreOne z r → IsSlotOf z w.page w.slot w.after
-told_store z (records.PageOp t n page slot before after) w e h = let s : record { page = page; slot = slot; after = after } ≡ w = cc in subst (λ (v : Told). IsSlotOf z v.page v.slot v.after) s h
-told_store z (records.PageUndo t n undone page slot after) w e h = let s : record { page = page; slot = slot; after = after } ≡ w = cc in subst (λ (v : Told). IsSlotOf z v.page v.slot v.after) s h
+told_store : (z : Sizes) (r : Record) (w : HoldsRecord) → told_by r ≡ Some w → InStoreOne z r → IsSlotOf z w.page w.slot w.after
+told_store z (records.PageOp t n page slot before after) w e h = let s : record { page = page; slot = slot; after = after } ≡ w = cc in subst (λ (v : HoldsRecord). IsSlotOf z v.page v.slot v.after) s h
+told_store z (records.PageUndo t n undone page slot after) w e h = let s : record { page = page; slot = slot; after = after } ≡ w = cc in subst (λ (v : HoldsRecord). IsSlotOf z v.page v.slot v.after) s h
 told_store z (records.OpEnd t n level deed) w e h = cc
 told_store z (records.OpVoid t n) w e h = cc
 told_store z (records.CompEnd t n undone) w e h = cc
@@ -102,14 +102,14 @@ module _ (z : Sizes) (log : List Record) (k : ℕ) (r : Record) (grows : oldest 
     caught_up = λ le. let e : lsn_of image ≡ k + 1 = omega (arith, ge, le) in subst (λ n. HoldsPage z p image (oldest n log)) e f.fits.held;
   }
 
-  other_page : (w : Told) → told_by r ≡ Some w → (p j : ℕ) → 1 ≤ j → j ≤ 15 → p ≢ w.page → (left_by z (r ∷ older)).slots (address p j) ≡ (left_by z older).slots (address p j)
+  other_page : (w : HoldsRecord) → told_by r ≡ Some w → (p j : ℕ) → 1 ≤ j → j ≤ 15 → p ≢ w.page → (left_by z (r ∷ older)).slots (address p j) ≡ (left_by z older).slots (address p j)
   other_page w e p j low high ne =
       let is : IsSlotOf z w.page w.slot w.after = told_store z r w e store in
       let a = is.low in let b = is.high in
       slots_told z r older (address p j) w e ∙ put_off (left_by z older).slots (address w.page w.slot) (held_in z w.page w.after) (address p j) (λ s. ne (omega (arith, s, low, high, a, b)))
 
   -- the page that it writes, where that is older
-  written_page : (w : Told) → told_by r ≡ Some w → (old new : List ℕ) → FitsPageUpTo z log k w.page old → lsn_of old < k + 1 → IsWritten old new w.slot w.after (k + 1) → FitsPageUpTo z log (k + 1) w.page new
+  written_page : (w : HoldsRecord) → told_by r ≡ Some w → (old new : List ℕ) → FitsPageUpTo z log k w.page old → lsn_of old < k + 1 → IsWritten old new w.slot w.after (k + 1) → FitsPageUpTo z log (k + 1) w.page new
   written_page w e old new f lt written = record {
     fits = record {
       slots = slots;
@@ -149,7 +149,7 @@ module _ (z : Sizes) (log : List Record) (k : ℕ) (r : Record) (grows : oldest 
   -- going through one more record
   pub redo_one : (old new : ℕ → List ℕ) → Redoes (told_by r) (k + 1) old new → FitsUpTo z old log k → FitsUpTo z new log (k + 1)
   redo_one old new redo h p low high = by (told_by r) refl redo where
-    by : (o : Option Told) → told_by r ≡ o → Redoes o (k + 1) old new → FitsPageUpTo z log (k + 1) p (new p)
+    by : (o : Option HoldsRecord) → told_by r ≡ o → Redoes o (k + 1) old new → FitsPageUpTo z log (k + 1) p (new p)
     by None e same = subst (λ image. FitsPageUpTo z log (k + 1) p image) (sym (same p)) (stays p (old p) (h p low high) (λ j a b. slots_untold z r older (address p j) e))
     by (Some w) e one = elim (cases_eq p w.page) [
       | inr ne ↦ subst (λ image. FitsPageUpTo z log (k + 1) p image) (sym (one.others p ne)) (stays p (old p) (h p low high) (λ j a b. other_page w e p j a b ne))
@@ -176,8 +176,8 @@ redo_all z log image h p low high =
 -- what stands at no slot of the store
 elsewhere : (z : Sizes) (q : Slots) (a : ℕ) (x : Slot) → q a ≡ x → AllStand z q → (IsStoreSlot z a → ⊥) → x ≡ Free
 elsewhere z q a Free e h none = refl
-elsewhere z q a (Used c) e h none = let s = subst (Stands z a) e (h a) in let low = s.above in let high = s.below in let n = s.slot in absurd (none (record { page_low = omega (arith, low); page_high = high; slot = n }))
-elsewhere z q a (Sender s d) e h none = let s = subst (Stands z a) e (h a) in let low = s.low in let high = s.high in let n = s.slot in absurd (none (record { page_low = low; page_high = omega (arith, high); slot = n }))
+elsewhere z q a (Used c) e h none = let s = subst (IsInPlace z a) e (h a) in let low = s.above in let high = s.below in let n = s.slot in absurd (none (record { page_low = omega (arith, low); page_high = high; slot = n }))
+elsewhere z q a (Sender s d) e h none = let s = subst (IsInPlace z a) e (h a) in let low = s.low in let high = s.high in let n = s.slot in absurd (none (record { page_low = low; page_high = omega (arith, high); slot = n }))
 
 none_held : (z : Sizes) (page : ℕ) (bytes : List ℕ) → ((1 ≤ page) → page < page_count z → ⊥) → held_in z page bytes ≡ Free
 none_held z page bytes h = by (kind_of z page) refl where
@@ -209,16 +209,16 @@ redone_slots z log images store h a = elim (cases_lt 0 (a % 16)) [
   free none = elsewhere z (left_by z log).slots a ((left_by z log).slots a) refl (slots_stand z log store) none
 
 -- where a record writes an older page, that page's slot holds the record's before-image
-pub before_held : (z : Sizes) (log : List Record) (k : ℕ) (t : Txn) (m page slot : ℕ) (before after image : List ℕ) → Legal (layout_of z) (items z log) → InStore z log
+pub before_held : (z : Sizes) (log : List Record) (k : ℕ) (t : Txn) (m page slot : ℕ) (before after image : List ℕ) → IsLegalLog (layout_of z) (items z log) → InStore z log
     → oldest (k + 1) log ≡ records.PageOp t m page slot before after ∷ oldest k log → FitsPageUpTo z log k page image → lsn_of image < k + 1
     → held_in z page (slot_of slot image) ≡ held_in z page before
 before_held z log k t m page slot before after image legal store grows f lt =
-    let here : Legal (layout_of z) (items z (records.PageOp t m page slot before after ∷ oldest k log)) = subst (λ l. Legal (layout_of z) (items z l)) grows (oldest_legal z log (k + 1) legal) in
+    let here : IsLegalLog (layout_of z) (items z (records.PageOp t m page slot before after ∷ oldest k log)) = subst (λ l. IsLegalLog (layout_of z) (items z l)) grows (oldest_legal z log (k + 1) legal) in
     let in_store : InStore z (records.PageOp t m page slot before after ∷ oldest k log) = subst (λ l. InStore z l) grows (oldest_store z log (k + 1) store) in
     f.caught_up (omega (arith, lt)) slot in_store.0.low in_store.0.high ∙ sym here.0.write.before
 
 -- and these bytes
-pub before_is : (z : Sizes) (log : List Record) (k : ℕ) (t : Txn) (m page slot : ℕ) (before after image : List ℕ) → Legal (layout_of z) (items z log) → InStore z log → BeforesAreSlots z log
+pub before_is : (z : Sizes) (log : List Record) (k : ℕ) (t : Txn) (m page slot : ℕ) (before after image : List ℕ) → IsLegalLog (layout_of z) (items z log) → InStore z log → BeforesAreSlots z log
     → oldest (k + 1) log ≡ records.PageOp t m page slot before after ∷ oldest k log → FitsPageUpTo z log k page image → lsn_of image < k + 1
     → slot_of slot image ≡ before
 before_is z log k t m page slot before after image legal store befores grows f lt =
@@ -226,7 +226,7 @@ before_is z log k t m page slot before after image legal store befores grows f l
     let is : IsSlotOf z page slot before = there.0 in
     let was : IsSlotOf z page slot (slot_of slot image) = f.fits.slots slot is.low is.high in
     sym (slot_is_spelling z page slot (slot_of slot image) was).1
-    ∙ ap spelled (before_held z log k t m page slot before after image legal store grows f lt)
+    ∙ ap slot_bytes (before_held z log k t m page slot before after image legal store grows f lt)
     ∙ (slot_is_spelling z page slot before is).1
 
 -- pages that went through the whole log fit it, and the log of the store that is opened over them

@@ -7,8 +7,8 @@ use Rattle.rq_page.specs.declared.directory.Directory.{Directory}
 use Rattle.rq_page.specs.Slots.{Slot}
 use Rattle.rq_page.specs.Slots.Slot.{Free, Used, Sender}
 use Rattle.rq_level.specs.Chain.{Node, last, Linked, View, Shows, message}
-use Rattle.rq_level.specs.Log.{Slots, Write, Fits, Layout, cells_of, cell_in, put}
-use Rattle.rq_level.specs.Plans.{ShowsAt, IsLink, append_writes, with_next, IsAppend}
+use Rattle.rq_level.specs.Log.{Slots, Write, HasBefores, Layout, cells_of, cell_in, put}
+use Rattle.rq_level.specs.Plans.{ShowsAt, LinksTo, append_writes, with_next, IsAppend}
 use Rattle.rq_level.proofs.Chains.{last_is, last_pos}
 use Rattle.rq_level.proofs.Laws.{shows_here}
 use Rattle.rq_level.proofs.Overlay.{put_off}
@@ -24,10 +24,10 @@ same_cell a b e = cc
 same_some : (a b : Cell) → Some a ≡ Some b → a ≡ b
 same_some a b e = cc
 
-link_at : (q : Slots) (s : ℕ) (d : Directory) (v : View) (old : Option Cell) → NoneAtZero q → Shows (cells_of q) s d v → Stands_at q d.tail old → IsLink s d.tail old
+link_at : (q : Slots) (s : ℕ) (d : Directory) (v : View) (old : Option Cell) → NoneAtZero q → Shows (cells_of q) s d v → Stands_at q d.tail old → LinksTo s d.tail old
 link_at q s d v None zero k e = e
 link_at q s d v (Some c) zero k e = at k.nodes k.linked k.tail where
-  at : (ns : List Node) → Linked (cells_of q) s 0 (d.received + 1) ns 0 → d.tail ≡ last 0 ns → IsLink s d.tail (Some c)
+  at : (ns : List Node) → Linked (cells_of q) s 0 (d.received + 1) ns 0 → d.tail ≡ last 0 ns → LinksTo s d.tail (Some c)
   at [] l t = let bad : Used c ≡ Free = sym e ∙ ap q t ∙ zero in cc
   at (n ∷ ns) l t =
       let r = last_is (cells_of q) s 0 (d.received + 1) n ns 0 l in
@@ -47,7 +47,7 @@ is_append l q s tag body d new old v ws zero at shows beside pos e = record {
   writes = e;
 }
 
-pub append_fits : (l : Layout) (q : Slots) (s tag : ℕ) (body : List ℕ) (d : Directory) (new : ℕ) (old : Option Cell) → q (l.directory_at s) ≡ Sender s d → q new ≡ Free → Stands_at q d.tail old → Fits (append_writes l s d new tag body old) q
+pub append_fits : (l : Layout) (q : Slots) (s tag : ℕ) (body : List ℕ) (d : Directory) (new : ℕ) (old : Option Cell) → q (l.directory_at s) ≡ Sender s d → q new ≡ Free → Stands_at q d.tail old → HasBefores (append_writes l s d new tag body old) q
 append_fits l q s tag body d new None at free beside =
     let off : l.directory_at s ≢ new = λ e. (let bad : Sender s d ≡ Free = sym at ∙ ap q e ∙ free in cc) in
     (sym (put_off q new _ (l.directory_at s) off ∙ at), (sym free, tt))

@@ -18,12 +18,12 @@ use Rattle.rq_model.specs.Replay.Reply.{Gave_sub}
 use Rattle.rq_page.specs.Sizes.{Sizes, cell_count, sender_count, directory_at}
 use Rattle.rq_page.specs.declared.cell.Cell.{Cell}
 use Rattle.rq_page.specs.Slots.Slot.{Free, Sender}
-use Rattle.rq_level.specs.Log.{Slots, Write, Fits}
+use Rattle.rq_level.specs.Log.{Slots, Write, HasBefores}
 use Rattle.rq_level.specs.Legal.{view}
 use Rattle.rq_level.specs.Plans.{ShowsAt, IsPlan, IsAppend, append_writes, deed_sender}
 use Rattle.rq_level.specs.Plans.Turn.{Did}
 use Rattle.rq_level.specs.Claims.{appends_of}
-use Rattle.rq_level.specs.Groups.{Told}
+use Rattle.rq_level.specs.Groups.{TellsView}
 use Rattle.rq_level.specs.Items.{items, layout_of}
 use Rattle.rq_level.specs.Stored.{slots_in}
 use Rattle.rq_level.proofs.Tells.{append_tells}
@@ -99,13 +99,13 @@ module _ (s : State) (k : IsSound s) (t : Txn) (r : Row) (u : Under) (e tag : 鈩
   appends : IsAppend (layout_of z) e (plan.directory.sent + 1) tag plan.directory.last_tag body (reverse whole)
   appends = is_append (layout_of z) q e tag body plan.directory plan.new plan.old (view (items z log) e) (reverse whole) no_cell directory_here shows beside_here pos plan.writes
 
-  fits : Fits (reverse whole) q
-  fits = subst (位 ws. Fits ws q) (sym plan.writes) (append_fits (layout_of z) q e tag body plan.directory plan.new plan.old directory_here free_here beside_here)
+  fits : HasBefores (reverse whole) q
+  fits = subst (位 ws. HasBefores ws q) (sym plan.writes) (append_fits (layout_of z) q e tag body plan.directory plan.new plan.old directory_here free_here beside_here)
 
   abbrev ends : HeldEnds
   ends = taken_ends t e s.ends
 
-  told : Told deed (view (items z log) e)
+  told : TellsView deed (view (items z log) e)
   told = let h = append_tells (layout_of z) q (reverse whole) e (plan.directory.sent + 1) tag plan.directory.last_tag body (view (items z log) e) appends fits shows in (h.0, h.1, open_still)
 
   may : MayStart s t r u
@@ -116,7 +116,7 @@ module _ (s : State) (k : IsSound s) (t : Txn) (r : Row) (u : Under) (e tag : 鈩
     made = plan.made;
     plan = subst (位 (d : Deed). IsPlan (layout_of z) (Did d) (reverse whole)) (sym plan.deed) appends;
     fits = fits;
-    told = subst (位 (d : Deed). Told d (view (items z log) (deed_sender d))) (sym plan.deed) told;
+    told = subst (位 (d : Deed). TellsView d (view (items z log) (deed_sender d))) (sym plan.deed) told;
     moves = subst Moves (sym plan.deed) tt;
     sender = subst (位 (d : Deed). deed_sender d < sender_count z) (sym plan.deed) plan.below;
     reads = plan.reads;

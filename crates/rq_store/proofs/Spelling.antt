@@ -1,9 +1,9 @@
--- A log spelled in bytes goes back to the slots and deeds that it was spelled from.
+-- A log slot_bytes in bytes goes back to the slots and deeds that it was slot_bytes from.
 use Rattle.std.proofs.Common.{◌≡◌, ℕ, ◌/◌, ◌%◌, ◌<◌, ◌≤◌, List, [], ◌∷◌, Some, refl, sym, ◌∙◌, ap, subst, arith}
 use Rattle.rq_model.specs.Deeds.{deed_in, spelled_deed}
 use Rattle.rq_page.specs.Kinds.{kind_of}
 use Rattle.rq_page.specs.Sizes.{Sizes, sender_count}
-use Rattle.rq_page.specs.Slots.{Slot, MayHold, IsSlotOf, held_in, spelled}
+use Rattle.rq_page.specs.Slots.{Slot, MayHold, IsSlotOf, held_in, slot_bytes}
 use Rattle.rq_page.proofs.Spellings.{spelling_tells}
 use Rattle.rq_level.specs.InStore.{InStore, InStoreOne}
 use Rattle.rq_level.specs.Items.{items, item_of, told_deed}
@@ -30,17 +30,17 @@ AreSpelt z [] = Unit {0}
 AreSpelt z (i ∷ log) = IsSpelt z i × AreSpelt z log
 
 told : (z : Sizes) (a : ℕ) (x : Slot) → MayStandAt z a x
-    → (held_in z (a / 16) (spelled x) ≡ x) × IsSlotOf z (a / 16) (a % 16) (spelled x)
+    → (held_in z (a / 16) (slot_bytes x) ≡ x) × IsSlotOf z (a / 16) (a % 16) (slot_bytes x)
 told z a x h = spelling_tells z (a / 16) (a % 16) x h.low (omega arith) h.holds
 
 one_back : (z : Sizes) (i : Item) → IsSpelt z i → item_of z (record_of i) ≡ i
 one_back z (PageOp o w) h =
     let page = w.at / 16 in
-    ap (λ a. PageOp o (record { at = a; before = held_in z page (spelled w.before); after = held_in z page (spelled w.after) })) (address_is w.at)
-    ∙ ap (λ x. PageOp o (record { at = w.at; before = x; after = held_in z page (spelled w.after) })) (told z w.at w.before h.0).0
+    ap (λ a. PageOp o (record { at = a; before = held_in z page (slot_bytes w.before); after = held_in z page (slot_bytes w.after) })) (address_is w.at)
+    ∙ ap (λ x. PageOp o (record { at = w.at; before = x; after = held_in z page (slot_bytes w.after) })) (told z w.at w.before h.0).0
     ∙ ap (λ x. PageOp o (record { at = w.at; before = w.before; after = x })) (told z w.at w.after h.1).0
 one_back z (PageUndo o u at after) h =
-    ap (λ a. PageUndo o u a (held_in z (at / 16) (spelled after))) (address_is at)
+    ap (λ a. PageUndo o u a (held_in z (at / 16) (slot_bytes after))) (address_is at)
     ∙ ap (λ x. PageUndo o u at x) (told z at after h).0
 one_back z (OpEnd o d) h = ap (λ e. OpEnd o (told_deed e)) h.0
 one_back z (OpVoid o) h = refl

@@ -15,11 +15,11 @@ use Rattle.rq_model.specs.Legal.{pending, is_sent, is_sending}
 use Rattle.rq_model.specs.History.Entry.{Started}
 use Rattle.rq_model.proofs.Lists.{same_is, same_self}
 use Rattle.rq_page.specs.Sizes.{Sizes, cell_count, sender_count}
-use Rattle.rq_level.specs.Log.{Slots, Write, Fits}
+use Rattle.rq_level.specs.Log.{Slots, Write, HasBefores}
 use Rattle.rq_level.specs.Legal.{began, view}
 use Rattle.rq_level.specs.Plans.{IsPlan, deed_sender}
 use Rattle.rq_level.specs.Plans.Turn.{Did}
-use Rattle.rq_level.specs.Groups.{Told}
+use Rattle.rq_level.specs.Groups.{TellsView}
 use Rattle.rq_level.specs.Claims.{appends_of}
 use Rattle.rq_level.specs.Numbers.{greatest}
 use Rattle.rq_level.specs.Items.{items, layout_of, operation}
@@ -35,7 +35,7 @@ use Rattle.rq_groups.specs.declared.Held.{Held}
 use Rattle.rq_groups.specs.Ends.{HeldEnds, has_held, with_held, is_free_for}
 use Rattle.rq_groups.specs.Waiting.{waits}
 use Rattle.rq_store.specs.State.{State, ledger_of, open_of, open_ones_of, op_done, job_of, job_under}
-use Rattle.rq_store.specs.Sound.{IsSound, IsRow, IsGoing, AreEnds, HoldsFor, AllHeld, Moves, HasWaiting, IsCovered, is_under, unmade, everywhere, apart, appending, takes_one, takes_in}
+use Rattle.rq_store.specs.Sound.{IsSound, IsRow, FollowsPlan, AreEnds, HoldsFor, AllHeld, Moves, HasWaiting, IsCovered, is_under, unmade, everywhere, apart, appending, takes_one, takes_in}
 use Rattle.rq_store.specs.Fitting.{left_by}
 use Rattle.rq_store.proofs.RowLists.{found_in, found_other, found_still, changed, distinct_change, none_under}
 use Rattle.rq_store.proofs.Opens.{opens_change}
@@ -101,8 +101,8 @@ pub record MayStart (s : State) (t : Txn) (r : Row) (u : Under) : Type 0 where
   pub number : u.number ≡ r.number + 1
   pub made : u.made ≡ 0
   pub plan : IsPlan (layout_of s.sizes) (Did u.deed) (reverse (writes_of s.sizes u.writes))
-  pub fits : Fits (reverse (writes_of s.sizes u.writes)) (left_by s.sizes s.records).slots
-  pub told : Told u.deed (view (items s.sizes s.records) (deed_sender u.deed))
+  pub fits : HasBefores (reverse (writes_of s.sizes u.writes)) (left_by s.sizes s.records).slots
+  pub told : TellsView u.deed (view (items s.sizes s.records) (deed_sender u.deed))
   pub moves : Moves u.deed
   pub sender : deed_sender u.deed < sender_count s.sizes
   pub reads : deed_in (spelled_deed u.deed) ≡ Some u.deed
@@ -152,9 +152,9 @@ module _ (s : State) (k : IsSound s) (t : Txn) (r : Row) (u : Under) (ends : Hel
 
   owes_all : Owes (layout_of z).page (left_by z log) o everywhere whole
   owes_all = owes_start (layout_of z).page (left_by z log) (good (layout_of z) (items z log) k.log.legal) o everywhere whole own_writes (λ p. nobody o p)
-      (subst (λ ws. Fits ws q) (sym (onto_whole whole 0)) m.fits) (λ a off. absurd (true≢false off)) (λ p on v n. nobody v p)
+      (subst (λ ws. HasBefores ws q) (sym (onto_whole whole 0)) m.fits) (λ a off. absurd (true≢false off)) (λ p on v n. nobody v p)
 
-  going : IsGoing z log ends t u
+  going : FollowsPlan z log ends t u
   going = record {
     made = (let n = m.made in omega (arith, n));
     going = unbegun_over (items z log) o not_begun;
@@ -205,7 +205,7 @@ module _ (s : State) (k : IsSound s) (t : Txn) (r : Row) (u : Under) (ends : Hel
     moves = row.moves;
     numbered = number_now;
     idle = λ n f. row.idle n (ap (is_under n) (none_going r place.0));
-    going = (subst (λ (x : Txn). IsGoing z log ends x u) (sym place.1) going, refl);
+    going = (subst (λ (x : Txn). FollowsPlan z log ends x u) (sym place.1) going, refl);
   }
 
   every_row : (p : Row) → In p rows → IsRow z log ends s.incarnation s.begins p

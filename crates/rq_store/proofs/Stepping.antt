@@ -17,7 +17,7 @@ use Rattle.rq_page.specs.Sizes.{Sizes, address, sender_count}
 use Rattle.rq_page.specs.Slots.{held_in, IsSlotOf}
 use Rattle.rq_level.specs.Log.{Write, put, same_op}
 use Rattle.rq_level.specs.Log.Item.{PageOp}
-use Rattle.rq_level.specs.Legal.{onto, May, began, over, crossed}
+use Rattle.rq_level.specs.Legal.{onto, MayFollow, began, over, crossed}
 use Rattle.rq_level.specs.Plans.{IsPlan}
 use Rattle.rq_level.specs.Plans.Turn.{Did}
 use Rattle.rq_model.specs.declared.txn.Sub.{Sub}
@@ -38,7 +38,7 @@ use Rattle.rq_groups.specs.Ends.{HeldEnds}
 use Rattle.rq_groups.specs.Waiting.{waits}
 use Rattle.rq_store.proofs.Begun.{begun_more}
 use Rattle.rq_store.specs.State.{State, ledger_of, open_of, open_ones_of, job_under, left_under, phase_of}
-use Rattle.rq_store.specs.Sound.{IsSound, IsWhole, IsRow, IsGoing, IsGoingOf, IsSettled, is_under, unmade, everywhere, apart, appending, takes_one, takes_in, IsCovered}
+use Rattle.rq_store.specs.Sound.{IsSound, IsWhole, IsRow, FollowsPlan, IsAsPlanned, IsSettled, is_under, unmade, everywhere, apart, appending, takes_one, takes_in, IsCovered}
 use Rattle.rq_store.specs.Fitting.{left_by, image_in, FitsLog}
 use Rattle.rq_store.specs.Steps.{Steps, IsPutIn, page_op}
 use Rattle.rq_store.proofs.Fitting.{fits_written}
@@ -142,10 +142,10 @@ module _ (s : State) (k : IsSound s) (t : Txn) (r : Row) (u : Under) (w : SlotWr
   row : IsRow z log s.ends s.incarnation s.begins r
   row = k.rows r place.0
 
-  going : IsGoing z log s.ends t u × (r.number ≡ u.number)
+  going : FollowsPlan z log s.ends t u × (r.number ≡ u.number)
   going = going_at s k t r u at_row under
 
-  g : IsGoing z log s.ends t u
+  g : FollowsPlan z log s.ends t u
   g = going.0
 
   abbrev page : ℕ → ℕ
@@ -160,7 +160,7 @@ module _ (s : State) (k : IsSound s) (t : Txn) (r : Row) (u : Under) (w : SlotWr
   made_is : reverse (take (u.made + 1) whole) ≡ wr ∷ reverse (take u.made whole)
   made_is = ap reverse (take_snoc whole u.made wr next_is) ∙ reverse-append (take u.made whole) (wr ∷ [])
 
-  may : May (layout_of z) (items z log) (PageOp o wr)
+  may : MayFollow (layout_of z) (items z log) (PageOp o wr)
   may = record {
     write = owes_next page (left_by z log) slots_good o everywhere wr (drop (u.made + 1) whole) owes_here;
     uncrossed = g.uncrossed (page wr.at);
@@ -233,7 +233,7 @@ module _ (s : State) (k : IsSound s) (t : Txn) (r : Row) (u : Under) (w : SlotWr
   abbrev stepped_under : Under
   stepped_under = record u { made = u.made + 1 }
 
-  going_now : IsGoing z (x ∷ log) s.ends t stepped_under
+  going_now : FollowsPlan z (x ∷ log) s.ends t stepped_under
   going_now = record {
     made = omega (arith, more);
     going = g.going;
@@ -276,7 +276,7 @@ module _ (s : State) (k : IsSound s) (t : Txn) (r : Row) (u : Under) (w : SlotWr
         let off : nat_eq u.number n ≡ false = sym (ap (is_under n) under) ∙ was in
         let other : same_op (operation t u.number) (operation r.txn n) ≡ false = other_number t r.txn u.number n (λ e. true≢false (sym (eq-eqb u.number n e) ∙ off)) in
         ap (λ b. (b || began (operation r.txn n) (items z log)) && not (over (operation r.txn n) (items z log))) other ∙ row.idle n was;
-    going = subst (λ (y : Option Under). IsGoingOf z (x ∷ log) s.ends (row_stepped r) (under_stepped y)) (sym under) (subst (λ (y : Txn). IsGoing z (x ∷ log) s.ends y stepped_under × (r.number ≡ u.number)) (sym place.1) (going_now, going.1));
+    going = subst (λ (y : Option Under). IsAsPlanned z (x ∷ log) s.ends (row_stepped r) (under_stepped y)) (sym under) (subst (λ (y : Txn). FollowsPlan z (x ∷ log) s.ends y stepped_under × (r.number ≡ u.number)) (sym place.1) (going_now, going.1));
   }
 
   settled_other : (q : Txn) → q ≢ t → IsSettled z log q → IsSettled z (x ∷ log) q

@@ -7,8 +7,8 @@ use Rattle.rq_page.specs.declared.directory.Directory.{Directory}
 use Rattle.rq_page.specs.Slots.{Slot}
 use Rattle.rq_page.specs.Slots.Slot.{Free, Used, Sender}
 use Rattle.rq_level.specs.Chain.{Node, first, Linked, View, Shows, message}
-use Rattle.rq_level.specs.Log.{Slots, Write, Fits, Layout, cells_of, cell_in, put}
-use Rattle.rq_level.specs.Plans.{ShowsAt, IsLink, unlink_head_writes, with_prev, IsUnlinkHead}
+use Rattle.rq_level.specs.Log.{Slots, Write, HasBefores, Layout, cells_of, cell_in, put}
+use Rattle.rq_level.specs.Plans.{ShowsAt, LinksTo, unlink_head_writes, with_prev, IsUnlinkHead}
 use Rattle.rq_level.proofs.Chains.{other_place}
 use Rattle.rq_level.proofs.Laws.{shows_here}
 use Rattle.rq_level.proofs.Overlay.{put_off}
@@ -20,7 +20,7 @@ same_some a b e = cc
 -- what the first cell of a chain says, and the one behind it
 record FirstCells (q : Slots) (s : ℕ) (d : Directory) (c : Cell) (next : Option Cell) (count : ℕ) : Type 0 where
   sender : c.sender ≡ s
-  link : IsLink s c.next next
+  link : LinksTo s c.next next
   apart : (x : Cell) → next ≡ Some x → c.sequence < x.sequence
   one : next ≡ None → count ≡ 1
   more : (x : Cell) → next ≡ Some x → 1 < count
@@ -56,7 +56,7 @@ is_unlink_head l q s d c next v ws zero at shows pos here beside e =
     record { directory = d; cell = c; next = next; used = pos; sender = f.sender; sequence = refl; tag_is = refl; body_is = refl; next_is = f.link; writes = e }
 
 pub unlink_head_fits : (l : Layout) (q : Slots) (s : ℕ) (d : Directory) (c : Cell) (next : Option Cell) (v : View) → q 0 ≡ Free → q (l.directory_at s) ≡ Sender s d → ShowsAt l q s v → 0 < d.head → q d.head ≡ Used c → Stands_at q c.next next
-    → Fits (unlink_head_writes l s d c next) q
+    → HasBefores (unlink_head_writes l s d c next) q
 unlink_head_fits l q s d c None v zero at shows pos here beside =
     let off : l.directory_at s ≢ d.head = λ e. (let bad : Sender s d ≡ Used c = sym at ∙ ap q e ∙ here in cc) in
     (sym (put_off q d.head Free (l.directory_at s) off ∙ at), (sym here, tt))

@@ -16,12 +16,12 @@ use Rattle.rq_model.specs.Replay.Reply.{Gave_sub}
 use Rattle.rq_page.specs.declared.cell.Cell.{Cell}
 use Rattle.rq_page.specs.Sizes.{Sizes, sender_count, directory_at}
 use Rattle.rq_page.specs.Slots.Slot.{Free, Used, Sender}
-use Rattle.rq_level.specs.Log.{Slots, Write, Fits}
+use Rattle.rq_level.specs.Log.{Slots, Write, HasBefores}
 use Rattle.rq_level.specs.Legal.{view}
 use Rattle.rq_level.specs.Plans.{ShowsAt, IsPlan, IsUnlinkHead, unlink_head_writes, deed_sender}
 use Rattle.rq_level.specs.Plans.Turn.{Did}
 use Rattle.rq_level.specs.Claims.{appends_of}
-use Rattle.rq_level.specs.Groups.{Told}
+use Rattle.rq_level.specs.Groups.{TellsView}
 use Rattle.rq_level.specs.Items.{items, layout_of}
 use Rattle.rq_level.specs.Stored.{slots_in}
 use Rattle.rq_level.proofs.Tells.{head_tells}
@@ -98,10 +98,10 @@ module _ (s : State) (k : IsSound s) (t : Txn) (r : Row) (u : Under) (e : ℕ) (
   unlinks : IsUnlinkHead (layout_of z) e (plan.directory.received + 1) plan.cell.tag plan.cell.body (reverse whole)
   unlinks = is_unlink_head (layout_of z) q e plan.directory plan.cell plan.next (view (items z log) e) (reverse whole) no_cell directory_here shows pos head_here beside_here plan.writes
 
-  fits : Fits (reverse whole) q
-  fits = subst (λ ws. Fits ws q) (sym plan.writes) (unlink_head_fits (layout_of z) q e plan.directory plan.cell plan.next (view (items z log) e) no_cell directory_here shows pos head_here beside_here)
+  fits : HasBefores (reverse whole) q
+  fits = subst (λ ws. HasBefores ws q) (sym plan.writes) (unlink_head_fits (layout_of z) q e plan.directory plan.cell plan.next (view (items z log) e) no_cell directory_here shows pos head_here beside_here)
 
-  told : Told deed (view (items z log) e)
+  told : TellsView deed (view (items z log) e)
   told = let h = head_tells (layout_of z) q (reverse whole) e (plan.directory.received + 1) plan.cell.tag plan.cell.body (view (items z log) e) unlinks fits shows in (h.0.0, h.0.1, h.1)
 
   abbrev ends : HeldEnds
@@ -118,7 +118,7 @@ module _ (s : State) (k : IsSound s) (t : Txn) (r : Row) (u : Under) (e : ℕ) (
     made = plan.made;
     plan = subst (λ (d : Deed). IsPlan (layout_of z) (Did d) (reverse whole)) (sym plan.deed) unlinks;
     fits = fits;
-    told = subst (λ (d : Deed). Told d (view (items z log) (deed_sender d))) (sym plan.deed) told;
+    told = subst (λ (d : Deed). TellsView d (view (items z log) (deed_sender d))) (sym plan.deed) told;
     moves = subst Moves (sym plan.deed) tt;
     sender = subst (λ (d : Deed). deed_sender d < sender_count z) (sym plan.deed) plan.below;
     reads = plan.reads;

@@ -21,7 +21,7 @@ use Rattle.rq_page.specs.Sizes.{sender_count}
 use Rattle.rq_level.specs.Chain.{View}
 use Rattle.rq_level.specs.Committed.{message_of}
 use Rattle.rq_level.specs.Legal.{open_deeds, view}
-use Rattle.rq_level.specs.Groups.{committed, is_taking, side, with_all}
+use Rattle.rq_level.specs.Groups.{committed, on_receiving_end, side, with_all}
 use Rattle.rq_level.specs.Items.{items}
 use Rattle.rq_level.proofs.Committed.{say, takes_form}
 use Rattle.rq_level.proofs.Content.{own_deeds}
@@ -112,11 +112,11 @@ removed_is s k g r i = sym (told_taken g (say (open_deeds r.txn (items s.sizes s
 
 -- what is left of the committed messages when its own takes are taken
 pub left_is : (s : State) (k : IsSound s) (g : ℕ) (r : Row) → In r s.rows
-    → length (with_all (side (is_taking g) (open_deeds r.txn (items s.sizes s.records))) (committed (items s.sizes s.records) g)).messages + takes_in g r ≡ length (rest_in (committed_of s.records) g) - takes_in g r + takes_in g r
+    → length (with_all (side (on_receiving_end g) (open_deeds r.txn (items s.sizes s.records))) (committed (items s.sizes s.records) g)).messages + takes_in g r ≡ length (rest_in (committed_of s.records) g) - takes_in g r + takes_in g r
 left_is s k g r i =
     let ps = open_deeds r.txn (items s.sizes s.records) in
     let c = committed (items s.sizes s.records) g in
-    let a : length (with_all (side (is_taking g) ps) c).messages ≡ length (drop (removed g (say ps)) c.messages) = ap (λ (v : View). length v.messages) (takes_form g ps c) in
+    let a : length (with_all (side (on_receiving_end g) ps) c).messages ≡ length (drop (removed g (say ps)) c.messages) = ap (λ (v : View). length v.messages) (takes_form g ps c) in
     let b = length-drop (removed g (say ps)) c.messages in
     let d = rest_shown s.sizes g s.records k.log.rules k.log.reads in
     let e = removed_is s k g r i in

@@ -12,9 +12,9 @@ use Rattle.rq_page.specs.Sizes.{IsLink, cell_count}
 use Rattle.rq_page.specs.Slots.{IsCellOf}
 use Rattle.rq_page.specs.Slots.Slot.{Free, Used, Sender}
 use Rattle.rq_level.specs.Claims.{HasRoom}
-use Rattle.rq_level.specs.Groups.{Tells}
-use Rattle.rq_level.specs.Items.{items, Reads}
-use Rattle.rq_level.specs.Legal.{Legal}
+use Rattle.rq_level.specs.Groups.{DeedsTellViews}
+use Rattle.rq_level.specs.Items.{items, ReadsItsDeeds}
+use Rattle.rq_level.specs.Legal.{IsLegalLog}
 use Rattle.rq_level.specs.Numbers.{AreNumbered}
 use Rattle.rq_level.specs.Plans.{directory_put_back, directory_tail_unlinked}
 use Rattle.rq_level.specs.Row.{sizes, small, t2, cell, sends, takes, sent_a, taken_a, sent_b, committed_one, done_two, stopped, taken_back, restarted}
@@ -130,22 +130,22 @@ spelt : AreSpelt sizes restarted
 spelt = (tt, (tt, (tt, ((has_b, undid_b), ((cell_b, none_b), (tt, (cell_b, stopped_spelt)))))))
 
 -- what its deeds tell
-one_reads : Reads (spelled_log committed_one)
+one_reads : ReadsItsDeeds (spelled_log committed_one)
 one_reads = (refl, ((refl, (sends 0, refl), refl), (tt, (tt, (tt, tt)))))
 
-two_reads : Reads (spelled_log done_two)
+two_reads : ReadsItsDeeds (spelled_log done_two)
 two_reads = ((refl, (takes 0, refl), refl), (tt, (tt, ((refl, (sends 15, refl), refl), (tt, (tt, one_reads))))))
 
-reads : Reads (spelled_log restarted)
+reads : ReadsItsDeeds (spelled_log restarted)
 reads = (tt, (tt, (tt, (tt, (tt, (tt, (tt, (tt, (tt, (tt, (tt, two_reads)))))))))))
 
-one_tells : Tells committed_one
+one_tells : DeedsTellViews committed_one
 one_tells = (tt, ((refl, refl, refl), (tt, (tt, (tt, tt)))))
 
-two_tells : Tells done_two
+two_tells : DeedsTellViews done_two
 two_tells = (([], refl, refl), (tt, (tt, ((refl, refl, refl), (tt, (tt, one_tells))))))
 
-tells : Tells restarted
+tells : DeedsTellViews restarted
 tells = (tt, (tt, (tt, (tt, (tt, (tt, (tt, (tt, (tt, (tt, (tt, two_tells)))))))))))
 
 -- a record that ends no transaction
@@ -256,8 +256,8 @@ same = items_back sizes restarted spelt
 
 whole : IsWhole sizes (spelled_log restarted)
 whole = record {
-  legal = subst (Legal small) (sym same) worked.restarted_keeps.legal;
-  told = subst Tells (sym same) tells;
+  legal = subst (IsLegalLog small) (sym same) worked.restarted_keeps.legal;
+  told = subst DeedsTellViews (sym same) tells;
   rules = rules;
   reads = reads;
   in_store = in_store sizes restarted spelt;

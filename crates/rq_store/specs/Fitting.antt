@@ -6,7 +6,7 @@ use Rattle.rq_page.specs.Sizes.{Sizes, page_count, address}
 use Rattle.rq_page.specs.Pages.{lsn_of, slot_of}
 use Rattle.rq_page.specs.Slots.{held_in, IsSlotOf}
 use Rattle.rq_page.specs.Formatted.{IsFormatted, IsHeaderOf}
-use Rattle.rq_level.specs.Log.{State as Slots_state, state_of}
+use Rattle.rq_level.specs.Log.{LogState as Slots_state, state_of}
 use Rattle.rq_level.specs.Items.{items, layout_of}
 
 -- the slots that a log leaves
@@ -21,18 +21,18 @@ abbrev pub oldest : ℕ → List Record → List Record
 oldest n log = drop (length log - n) log
 
 -- a slot write that a record tells: its page and slot, and what it leaves there
-pub record Told : Type 0 where
+pub record HoldsRecord : Type 0 where
   pub page : ℕ
   pub slot : ℕ
   pub after : List ℕ
 
-abbrev pub told_by : Record → Option Told
+abbrev pub told_by : Record → Option HoldsRecord
 told_by (PageOp t n page slot before after) = Some (record { page = page; slot = slot; after = after })
 told_by (PageUndo t n undone page slot after) = Some (record { page = page; slot = slot; after = after })
 told_by _ = None
 
 -- the write is of this page
-abbrev pub IsOfPage : ℕ → Option Told → Type 0
+abbrev pub IsOfPage : ℕ → Option HoldsRecord → Type 0
 IsOfPage p None = ⊥
 IsOfPage p (Some w) = w.page ≡ p
 

@@ -15,11 +15,11 @@ use Rattle.rq_model.specs.Content.{has_end, deeds, committed_of, KeepsRules}
 use Rattle.rq_model.specs.Legal as legal
 use Rattle.rq_page.specs.Sizes.{Sizes, IsInRange, cell_count, sender_count}
 use Rattle.rq_page.specs.Slots.{IsSlotOf}
-use Rattle.rq_level.specs.Items.{items, layout_of, operation, Reads, has_undone}
+use Rattle.rq_level.specs.Items.{items, layout_of, operation, ReadsItsDeeds, has_undone}
 use Rattle.rq_level.specs.Claims.{takes_of, appends_of, HasRoom}
 use Rattle.rq_level.specs.Numbers.{greatest, AreNumbered}
-use Rattle.rq_level.specs.Legal.{Placed, Legal, open_deeds, over, under_way, turned_back, crossed, view}
-use Rattle.rq_level.specs.Groups.{Told, Tells}
+use Rattle.rq_level.specs.Legal.{Placed, IsLegalLog, open_deeds, over, under_way, turned_back, crossed, view}
+use Rattle.rq_level.specs.Groups.{TellsView, DeedsTellViews}
 use Rattle.rq_level.specs.Plans.{IsPlan, deed_sender}
 use Rattle.rq_level.specs.Plans.Turn.{Did}
 use Rattle.rq_level.specs.InStore.{InStore, IsStranger}
@@ -45,10 +45,10 @@ BeforesAreSlots z (r ∷ log) = IsBefore z r × BeforesAreSlots z log
 
 -- a legal log of the store
 pub record IsWhole (z : Sizes) (log : List Record) : Type 0 where
-  pub legal : Legal (layout_of z) (items z log)
-  pub told : Tells (items z log)
+  pub legal : IsLegalLog (layout_of z) (items z log)
+  pub told : DeedsTellViews (items z log)
   pub rules : KeepsRules log
-  pub reads : Reads log
+  pub reads : ReadsItsDeeds log
   pub in_store : InStore z log
   pub befores : BeforesAreSlots z log
   pub order : InOrder log
@@ -98,7 +98,7 @@ everywhere page = true
 
 -- What is so of the operation under way: its plan fits the slots as they were at its start, and what is made of it is a
 -- beginning of the plan.
-pub record IsGoing (z : Sizes) (log : List Record) (ends : HeldEnds) (t : Txn) (u : Under) : Type 0 where
+pub record FollowsPlan (z : Sizes) (log : List Record) (ends : HeldEnds) (t : Txn) (u : Under) : Type 0 where
   pub made : u.made ≤ length u.writes
   pub going : over (operation t u.number) (items z log) ≡ false
   pub forward : turned_back (operation t u.number) (items z log) ≡ false
@@ -107,15 +107,15 @@ pub record IsGoing (z : Sizes) (log : List Record) (ends : HeldEnds) (t : Txn) (
   pub owes : Owes (layout_of z).page (left_by z log) (operation t u.number) everywhere
       (drop u.made (writes_of z u.writes))
   pub plan : IsPlan (layout_of z) (Did u.deed) (reverse (writes_of z u.writes))
-  pub told : Told u.deed (view (items z log) (deed_sender u.deed))
+  pub told : TellsView u.deed (view (items z log) (deed_sender u.deed))
   pub held : HoldsFor ends t u.deed
   pub moves : Moves u.deed
   pub sender : deed_sender u.deed < sender_count z
   pub reads : deed_in (spelled_deed u.deed) ≡ Some u.deed
 
-abbrev pub IsGoingOf : Sizes → List Record → HeldEnds → Row → Option Under → Type 0
-IsGoingOf z log ends r None = Unit {0}
-IsGoingOf z log ends r (Some u) = IsGoing z log ends r.txn u × (r.number ≡ u.number)
+abbrev pub IsAsPlanned : Sizes → List Record → HeldEnds → Row → Option Under → Type 0
+IsAsPlanned z log ends r None = Unit {0}
+IsAsPlanned z log ends r (Some u) = FollowsPlan z log ends r.txn u × (r.number ≡ u.number)
 
 -- the operation of this number is under way
 abbrev pub is_under : ℕ → Option Under → Bool
@@ -139,7 +139,7 @@ pub record IsRow (z : Sizes) (log : List Record) (ends : HeldEnds) (incarnation 
   pub moves : AllMove r.finished
   pub numbered : greatest r.txn (items z log) + unmade r.under ≡ r.number
   pub idle : (n : ℕ) → is_under n r.under ≡ false → under_way (operation r.txn n) (items z log) ≡ false
-  pub going : IsGoingOf z log ends r r.under
+  pub going : IsAsPlanned z log ends r r.under
 
 -- no two transactions hold an end, and each that holds one has not ended
 pub record AreEnds (rows : List Row) (hs : List Held) : Type 0 where

@@ -6,7 +6,7 @@ use Rattle.rq_model.specs.declared.record.Record.TheVariants as records
 use Rattle.rq_model.specs.Content.{content, unfinished, lost}
 use Rattle.rq_model.specs.Deeds.{spelled_deed}
 use Rattle.rq_model.specs.History.{Group}
-use Rattle.rq_page.specs.Slots.{spelled}
+use Rattle.rq_page.specs.Slots.{slot_bytes}
 use Rattle.rq_level.specs.Log.{Item}
 use Rattle.rq_level.specs.Log.Item.{PageOp, PageUndo, OpEnd, OpVoid, CompEnd, Commit, AbortEnd, Restart}
 use Rattle.rq_level.specs.Row.{sizes, t2, stopped, restarted}
@@ -21,8 +21,8 @@ use Rattle.rq_store.specs.Sound.{IsSound, IsWhole}
 
 -- the record with the bytes of these slots and deeds
 abbrev pub record_of : Item → Record
-record_of (PageOp o w) = records.PageOp o.txn o.number (w.at / 16) (w.at % 16) (spelled w.before) (spelled w.after)
-record_of (PageUndo o u at after) = records.PageUndo o.txn o.number u (at / 16) (at % 16) (spelled after)
+record_of (PageOp o w) = records.PageOp o.txn o.number (w.at / 16) (w.at % 16) (slot_bytes w.before) (slot_bytes w.after)
+record_of (PageUndo o u at after) = records.PageUndo o.txn o.number u (at / 16) (at % 16) (slot_bytes after)
 record_of (OpEnd o d) = records.OpEnd o.txn o.number 1 (spelled_deed d)
 record_of (OpVoid o) = records.OpVoid o.txn o.number
 record_of (CompEnd o u) = records.CompEnd o.txn o.number u

@@ -1,7 +1,7 @@
 use Rattle.std.proofs.Common.{◌∙◌, ◌+◌, sym, ap, subst, List, ℕ, take, ◌∷◌}
 use Rattle.std.specs.Prelude.{slice_set}
 use Rattle.rq_disk.specs.Choice.{place_of}
-use Rattle.rq_disk.specs.Replay.{writes_of}
+use Rattle.rq_disk.specs.Replay.{page_writes}
 use Rattle.rq_disk.specs.declared.choice.PageChoice.{PageChoice}
 use Rattle.rq_disk.specs.declared.mem_pages.PageCall.TheVariants.{Write, Sync}
 use Rattle.rq_disk.proofs.Replays.{Survives, survive_taken, survive_left, writes-step}
@@ -16,8 +16,8 @@ loop-call-preserved c =
     let item = c.call-item in
     let base = c.args.pages.now in
     let first = place_of c.args.choice in
-    let ws = writes_of (take l.call-index calls) in
-    let all = writes_of (take (l.call-index + 1) calls) in
+    let ws = page_writes (take l.call-index calls) in
+    let all = page_writes (take (l.call-index + 1) calls) in
     let so_far : Survives l.pages base ws (place_of l.choice) first = record { images_are = l.invariant.images; places_are = l.invariant.places } in
     let later = place_of c.match-call.choice in
     let done : Survives c.match-call.pages base all later first = elim c.match-call.branch [

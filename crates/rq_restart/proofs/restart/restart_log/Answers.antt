@@ -2,7 +2,7 @@ use Rattle.std.proofs.Common.{◌≡◌, length, reverse, sym, ap, subst, inl, i
 use Rattle.rq_store.specs.Sound.{IsSound}
 use Rattle.rq_store.specs.Opening.{opened, IsLeft}
 use Rattle.rq_store.specs.Fitting.{image_in}
-use Rattle.rq_restart.specs.Restarting.{StaysShut, IsBegun, Reports, BeginsAtMost, IsRead, ShutFor}
+use Rattle.rq_restart.specs.Restarting.{IsShutFor, IsBegun, Reports, BeginsAtMost, IsRead, ShutFor}
 use Rattle.rq_restart.specs.Repeating.{paged}
 use Rattle.rq_log.specs.Spelled.{AreSpelled}
 use Rattle.rq_restart.proofs.Restarts.{shut_by}
@@ -42,9 +42,9 @@ returns-in-Ok-clause-err g c =
     let image = image_in c.args.pages.images in
     let z = c.args.pages.sizes in
     let last = c.give_back-in-Err-go_on.result in
-    subst (λ l. StaysShut (IsLeft z image l) l c.in-Err-go_on.refusal (faults c.args.log) (faults last)) same
-    (subst (λ n. StaysShut (IsLeft z image c.in-Ok.log.records) c.in-Ok.log.records c.in-Err-go_on.refusal n (faults last)) cause
-    (subst (λ d. StaysShut (IsLeft z image c.in-Ok.log.records) c.in-Ok.log.records c.in-Err-go_on.refusal (faults c.in-Ok.log.device) (faults d)) (sym c.give_back-in-Err-go_on.ensures) c.in-Err-go_on.ensures.err))
+    subst (λ l. IsShutFor (IsLeft z image l) l c.in-Err-go_on.refusal (faults c.args.log) (faults last)) same
+    (subst (λ n. IsShutFor (IsLeft z image c.in-Ok.log.records) c.in-Ok.log.records c.in-Err-go_on.refusal n (faults last)) cause
+    (subst (λ d. IsShutFor (IsLeft z image c.in-Ok.log.records) c.in-Ok.log.records c.in-Err-go_on.refusal (faults c.in-Ok.log.device) (faults d)) (sym c.give_back-in-Err-go_on.ensures) c.in-Err-go_on.ensures.err))
 
 pub returns-clause-err : goal.returns-clause-err
 returns-clause-err g c =

@@ -5,7 +5,7 @@ use Rattle.rq_core.specs.Devices.{mem_pages, mem_log}
 use Rattle.rq_core.specs.Happenings.{course_of}
 use Rattle.rq_core.specs.Runs.{IsHeadline, Ran}
 use Rattle.rq_core.specs.World.World.{Is_shut}
-use Rattle.rq_core.specs.Views.{answers, course, happens, world_of}
+use Rattle.rq_core.specs.Views.{answer_in, course, happens, world_of}
 use Rattle.rq_core.proofs.Arms.{begins}
 use Rattle.rq_core.proofs.Courses.{pushed, told_so_far}
 use Rattle.rq_core.proofs.world.World.run.Goals as goal
@@ -28,8 +28,8 @@ loop-happening-preserved c =
     record {
       each = ap length items ∙ length_push es c.in_ok-next.entry ∙ ap (λ n. n + 1) count;
       ran = subst (λ k. Ran c.args.self k (world_of c.in_ok-next.next)) (sym (pushed xs es c.push.new.self.items i c.happening-item.result c.in_ok-next.entry within count items))
-          (subst (λ h. Ran c.args.self ((happens h, answers c.in_ok-next.entry) ∷ course (take i xs) es) (world_of c.in_ok-next.next)) c.happening-item.is
-          (c.in_ok-next.ensures c.args.self (course (take i xs) es) (same ∙ ap (map answers) (sym c.deref.ensures.value)) c.loop-happening.invariant.ran));
+          (subst (λ h. Ran c.args.self ((happens h, answer_in c.in_ok-next.entry) ∷ course (take i xs) es) (world_of c.in_ok-next.next)) c.happening-item.is
+          (c.in_ok-next.ensures c.args.self (course (take i xs) es) (same ∙ ap (map answer_in) (sym c.deref.ensures.value)) c.loop-happening.invariant.ran));
     }
 
 pub returns-clause-headline : goal.returns-clause-headline

@@ -2,7 +2,7 @@ use Rattle.std.proofs.Common.{◌≡◌, ℕ, ◌-◌, sym, ap, ◌∙◌, subst
 use Rattle.std.specs.List.{sum_by}
 use Rattle.rq_store.specs.Sound.{takes_one}
 use Rattle.rq_store.specs.State.{State, ledger_of}
-use Rattle.rq_engine.specs.Answers.{IsReady}
+use Rattle.rq_engine.specs.Answers.{HasNothingUnderWay}
 use Rattle.rq_model.specs.Legal.{log_full}
 use Rattle.rq_engine.proofs.Calls.{commit_range, commit_kept, commit_done, from_inside}
 use Rattle.rq_engine.proofs.Opened.{state_is}
@@ -10,11 +10,11 @@ use Rattle.rq_engine.proofs.Listing.{committed_lists, committed_from}
 use Rattle.rq_engine.proofs.engine.Engine.commit.Goals as goal
 
 pub append-lsn-requires-clause-record : goal.append-lsn-requires-clause-record
-append-lsn-requires-clause-record g c = commit_range _ _ _ _ c.in_ok-check_open.field-0 c.args.txn c.self.invariant.kept (subst (λ (s : State). IsReady s c.args.txn c.in_ok-check_open.field-0) (sym (state_is c.self.view_is)) c.in_ok-check_open.ensures.ready)
+append-lsn-requires-clause-record g c = commit_range _ _ _ _ c.in_ok-check_open.field-0 c.args.txn c.self.invariant.kept (subst (λ (s : State). HasNothingUnderWay s c.args.txn c.in_ok-check_open.field-0) (sym (state_is c.self.view_is)) c.in_ok-check_open.ensures.ready)
 
 pub invariant_of-self-2 : goal.invariant_of-self-2
 invariant_of-self-2 g c =
-    let ready = subst (λ (s : State). IsReady s c.args.txn c.in_ok-check_open.field-0) (sym (state_is c.self.view_is)) c.in_ok-check_open.ensures.ready in
+    let ready = subst (λ (s : State). HasNothingUnderWay s c.args.txn c.in_ok-check_open.field-0) (sym (state_is c.self.view_is)) c.in_ok-check_open.ensures.ready in
     let full = ap (λ (s : State). log_full (ledger_of s) 1) (state_is c.self.view_is) ∙ sym c.if-is_log_full.ensures in
     let running = c.self.invariant.kept.fails (ap (λ (s : State). s.failed) (state_is c.self.view_is) ∙ c.in_ok-check_open.ensures.running) in
     let failed : c.self.inside.log.failed ≡ c.append-lsn.new.self.failed = running ∙ sym c.append-lsn.ensures.failed in
@@ -27,14 +27,14 @@ invariant_of-self-2 g c =
 
 pub returns-clause-answered : goal.returns-clause-answered
 returns-clause-answered g c h =
-    let ready = subst (λ (s : State). IsReady s c.args.txn c.in_ok-check_open.field-0) (sym (state_is c.self.view_is)) c.in_ok-check_open.ensures.ready in
+    let ready = subst (λ (s : State). HasNothingUnderWay s c.args.txn c.in_ok-check_open.field-0) (sym (state_is c.self.view_is)) c.in_ok-check_open.ensures.ready in
     let full = ap (λ (s : State). log_full (ledger_of s) 1) (state_is c.self.view_is) ∙ sym c.if-is_log_full.ensures in
     let running = ap (λ (s : State). s.failed) (state_is c.self.view_is) ∙ c.in_ok-check_open.ensures.running in
     from_inside (state_is c.self.view_is) (λ k. rw (c.new.ensures.txn, c.new.ensures.lsn, c.append-lsn.ensures.lsn, c.end.ensures, c.release.ensures, c.add_sends.ensures, c.finished-finished.ensures, c.append-lsn.ensures.records, c.append-lsn.ensures.forced, c.in_ok-reserve.ensures.ok) (commit_done _ _ _ _ c.in_ok-check_open.field-0 _ _ c.args.txn c.self.invariant.kept running ready full (omega arith) (c.saturating_sub-self-inside.ensures ∙ ap (λ (n : ℕ). c.self.inside.cells_in_use - n) (c.count_takes.ensures ∙ ap (sum_by takes_one) c.finished-finished.ensures)) k))
 
 pub returns-clause-lists : goal.returns-clause-lists
 returns-clause-lists g c =
-    let ready = subst (λ (s : State). IsReady s c.args.txn c.in_ok-check_open.field-0) (sym (state_is c.self.view_is)) c.in_ok-check_open.ensures.ready in
+    let ready = subst (λ (s : State). HasNothingUnderWay s c.args.txn c.in_ok-check_open.field-0) (sym (state_is c.self.view_is)) c.in_ok-check_open.ensures.ready in
     committed_from c.args.txn _ _ (state_is c.self.view_is)
     (rw (c.end.ensures, c.release.ensures, c.add_sends.ensures, c.finished-finished.ensures, c.append-lsn.ensures.records, c.append-lsn.ensures.forced, c.in_ok-reserve.ensures.ok)
     (committed_lists _ c.args.txn c.in_ok-check_open.field-0 _ _ c.new.ensures.txn (let a = c.new.ensures.lsn in let b = c.append-lsn.ensures.lsn in let d = ap length c.append-lsn.ensures.records in let e = ap (λ l. length l.records) c.in_ok-reserve.ensures.ok in omega (arith, a, b, d, e)) ready

@@ -9,14 +9,14 @@ use Rattle.rq_level.specs.Log.{put}
 use Rattle.rq_level.specs.Stored.{slots_in}
 use Rattle.rq_store.specs.Fitting.{image_in}
 use Rattle.rq_store.specs.Steps.{IsPutIn, page_op}
-use Rattle.rq_engine.specs.Answers.{IsGoing}
+use Rattle.rq_engine.specs.Answers.{IsUnderWay}
 use Rattle.rq_engine.proofs.Calls.{Next, going_range, going_owed, next_slot, next_room, next_more, next_kept}
 use Rattle.rq_engine.proofs.Opened.{state_is, changed_is}
 use Rattle.rq_engine.proofs.engine.Engine.make.Goals as goal
 
 pub append-lsn-requires-clause-record : goal.append-lsn-requires-clause-record
 append-lsn-requires-clause-record g c =
-    let h = subst (λ (s : State). IsGoing s c.args.sub (Next c.args.write.now)) (sym (state_is c.self.view_is)) c.requires.next in
+    let h = subst (λ (s : State). IsUnderWay s c.args.sub (Next c.args.write.now)) (sym (state_is c.self.view_is)) c.requires.next in
     let r = going_range _ _ _ _ c.self.invariant.kept c.args.sub (Next c.args.write.now) h in
     let p = (next_slot _ _ _ _ c.self.invariant.kept c.args.sub c.args.write.now h).place.slot in
     let e : c.slot.result ≡ c.args.write.now.at % 16 = c.slot.ensures in
@@ -24,34 +24,34 @@ append-lsn-requires-clause-record g c =
 
 pub append-lsn-requires-clause-room : goal.append-lsn-requires-clause-room
 append-lsn-requires-clause-room g c =
-    let h = subst (λ (s : State). IsGoing s c.args.sub (Next c.args.write.now)) (sym (state_is c.self.view_is)) c.requires.next in
+    let h = subst (λ (s : State). IsUnderWay s c.args.sub (Next c.args.write.now)) (sym (state_is c.self.view_is)) c.requires.next in
     let r = next_room _ _ _ _ c.self.invariant.kept c.args.sub c.args.write.now h in
     let e = c.shows_size.ensures in
     omega (arith, r, e)
 
 pub set_slot-requires-clause-place : goal.set_slot-requires-clause-place
 set_slot-requires-clause-place g c =
-    let h = subst (λ (s : State). IsGoing s c.args.sub (Next c.args.write.now)) (sym (state_is c.self.view_is)) c.requires.next in
+    let h = subst (λ (s : State). IsUnderWay s c.args.sub (Next c.args.write.now)) (sym (state_is c.self.view_is)) c.requires.next in
     (next_slot _ _ _ _ c.self.invariant.kept c.args.sub c.args.write.now h).place
 
 pub set_slot-requires-clause-image : goal.set_slot-requires-clause-image
 set_slot-requires-clause-image g c =
-    let h = subst (λ (s : State). IsGoing s c.args.sub (Next c.args.write.now)) (sym (state_is c.self.view_is)) c.requires.next in
+    let h = subst (λ (s : State). IsUnderWay s c.args.sub (Next c.args.write.now)) (sym (state_is c.self.view_is)) c.requires.next in
     (next_slot _ _ _ _ c.self.invariant.kept c.args.sub c.args.write.now h).after
 
 pub step-requires : goal.step-requires
 step-requires g c =
-    let h = subst (λ (s : State). IsGoing s c.args.sub (Next c.args.write.now)) (sym (state_is c.self.view_is)) c.requires.next in
+    let h = subst (λ (s : State). IsUnderWay s c.args.sub (Next c.args.write.now)) (sym (state_is c.self.view_is)) c.requires.next in
     next_more _ _ _ _ c.self.invariant.kept c.args.sub c.args.write.now h
 
 pub overflow_sub-self : goal.overflow_sub-self
 overflow_sub-self g c =
-    let h = subst (λ (s : State). IsGoing s c.args.sub (Next c.args.write.now)) (sym (state_is c.self.view_is)) c.requires.next in
+    let h = subst (λ (s : State). IsUnderWay s c.args.sub (Next c.args.write.now)) (sym (state_is c.self.view_is)) c.requires.next in
     going_owed _ _ _ _ c.self.invariant.kept c.args.sub (Next c.args.write.now) h
 
 pub invariant_of-self : goal.invariant_of-self
 invariant_of-self g c =
-    let h = subst (λ (s : State). IsGoing s c.args.sub (Next c.args.write.now)) (sym (state_is c.self.view_is)) c.requires.next in
+    let h = subst (λ (s : State). IsUnderWay s c.args.sub (Next c.args.write.now)) (sym (state_is c.self.view_is)) c.requires.next in
     let room : c.append-lsn.new.self.reserved + 546 ≡ c.self.inside.log.reserved = (let a = c.append-lsn.ensures.reserved in let b = c.shows_size.ensures in omega (arith, a, b)) in
     let failed : c.self.inside.log.failed ≡ c.append-lsn.new.self.failed = c.self.invariant.kept.fails (ap (λ (s : State). s.failed) (state_is c.self.view_is) ∙ c.requires.running) ∙ sym c.append-lsn.ensures.failed in
     record {
@@ -62,7 +62,7 @@ invariant_of-self g c =
 
 pub returns-clause-made : goal.returns-clause-made
 returns-clause-made g c =
-    let h = subst (λ (s : State). IsGoing s c.args.sub (Next c.args.write.now)) (sym (state_is c.self.view_is)) c.requires.next in
+    let h = subst (λ (s : State). IsUnderWay s c.args.sub (Next c.args.write.now)) (sym (state_is c.self.view_is)) c.requires.next in
     let stamp : c.append-lsn.result ≡ length c.self.inside.log.records + 1 = (let l = c.append-lsn.ensures.lsn in let r = ap length c.append-lsn.ensures.records in omega (arith, l, r)) in
     record {
       state = rw (c.step.ensures, c.set_slot.ensures.sizes, c.append-lsn.ensures.records, c.append-lsn.ensures.forced, c.page.ensures, c.slot.ensures)

@@ -3,7 +3,7 @@ use Rattle.std.specs.Vec.{vec_len}
 use Rattle.std.specs.Global.{Vec}
 use Rattle.rq_store.specs.State.{State, ledger_of}
 use Rattle.rq_model.specs.Legal.{log_full}
-use Rattle.rq_engine.specs.Answers.{IsReady}
+use Rattle.rq_engine.specs.Answers.{HasNothingUnderWay}
 use Rattle.rq_engine.specs.Sends.{FitsPlan}
 use Rattle.rq_engine.proofs.Keeping.{kept_back}
 use Rattle.rq_engine.proofs.SendCalls.{start_kept}
@@ -29,7 +29,7 @@ invariant_of-self-in_default-start g c =
 
 pub invariant_of-self-2 : goal.invariant_of-self-2
 invariant_of-self-2 g c =
-    let ready = subst (λ (s : State). IsReady s c.args.txn c.args.number) (sym (state_is c.self.view_is)) c.requires.ready in
+    let ready = subst (λ (s : State). HasNothingUnderWay s c.args.txn c.args.number) (sym (state_is c.self.view_is)) c.requires.ready in
     let fits = subst (λ (s : State). FitsPlan s.sizes c.args.plan c.args.room) (sym (state_is c.self.view_is)) c.requires.fits in
     let full = ap (λ (s : State). log_full (ledger_of s) 4) (state_is c.self.view_is) ∙ c.requires.log in
     let count : c.len.result ≡ length c.args.plan.writes.items = c.len.ensures ∙ items_count c.args.plan.writes in
