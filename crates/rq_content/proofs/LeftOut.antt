@@ -7,7 +7,8 @@ use Rattle.rq_model.specs.declared.message.Message.{Message}
 use Rattle.rq_model.specs.declared.record.Deed.{Deed}
 use Rattle.rq_model.specs.declared.record.Deed.TheVariants.{Append, UnlinkHead, Close}
 use Rattle.rq_model.specs.Words.{sent_for, taken_from}
-use Rattle.rq_model.specs.Content.{said, op_of, tag_after}
+use Rattle.rq_model.specs.Content.{said, tag_after}
+use Rattle.rq_model.specs.Commits.{op_of}
 use Rattle.rq_level.specs.Chain.{View}
 use Rattle.rq_level.specs.Committed.{message_of}
 use Rattle.rq_level.specs.Plans.{with_turn}
@@ -17,7 +18,7 @@ use Rattle.rq_level.specs.Groups.{on_sending_end, on_receiving_end, side, with_a
 use Rattle.rq_level.proofs.Deeds.{Sound}
 use Rattle.rq_txn.specs.declared.Finished.{Finished}
 use Rattle.rq_store.specs.State.{op_done}
-use Rattle.rq_store.specs.Sound.{Moves, AllMove, placed, placed_one}
+use Rattle.rq_store.specs.Rows.{Moves, AllMove, placed, placed_one}
 use Rattle.rq_store.proofs.Holders.{placed_first}
 use Rattle.rq_content.specs.Read.{Before, without_deed, without_send, without_take, without_all, or_else}
 

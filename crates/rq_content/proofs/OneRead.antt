@@ -6,7 +6,7 @@ use Rattle.rq_model.specs.declared.message.Message.{Message}
 use Rattle.rq_model.specs.declared.refusal.Refusal.{Refusal}
 use Rattle.rq_model.specs.declared.refusal.Refusal.TheVariants.{NoMemory}
 use Rattle.rq_model.specs.History.{Group}
-use Rattle.rq_model.specs.Legal.{below}
+use Rattle.rq_model.specs.Tests.{below}
 use Rattle.rq_page.specs.declared.directory.Directory.{Directory}
 use Rattle.rq_page.specs.Sizes.{Sizes, directory_at, sender_count}
 use Rattle.rq_page.specs.Slots.Slot.{Sender}

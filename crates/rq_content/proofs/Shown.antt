@@ -11,11 +11,12 @@ use Rattle.rq_model.specs.declared.message.Message.{Message}
 use Rattle.rq_model.specs.declared.txn.Txn.{Txn}
 use Rattle.rq_model.specs.declared.refusal.Refusal.{Refusal}
 use Rattle.rq_model.specs.declared.refusal.Refusal.TheVariants.{NoMemory}
-use Rattle.rq_model.specs.Legal.{below}
+use Rattle.rq_model.specs.Tests.{below}
 use Rattle.rq_model.specs.Words.{In, same_txn, sent_for, taken_from}
 use Rattle.rq_model.specs.History.{Group}
 use Rattle.rq_model.specs.Ledger.{group_in}
-use Rattle.rq_model.specs.Content.{added, removed, closed, tag_after, committed_of}
+use Rattle.rq_model.specs.Content.{added, removed, closed, tag_after}
+use Rattle.rq_model.specs.Commits.{committed_of}
 use Rattle.rq_model.proofs.Told.{told_sent, told_taken}
 use Rattle.rq_model.proofs.Lists.{same_is, not_same}
 use Rattle.rq_txn.specs.declared.Finished.{Finished}
@@ -34,7 +35,8 @@ use Rattle.rq_level.proofs.GroupRule.{held}
 use Rattle.rq_level.proofs.Holders.{Held}
 use Rattle.rq_level.proofs.Holding.{Holds, view_holds, committed_is_group, tag_and_body}
 use Rattle.rq_store.specs.State.{State}
-use Rattle.rq_store.specs.Sound.{IsSound, AllMove, placed}
+use Rattle.rq_store.specs.Sound.{IsSound}
+use Rattle.rq_store.specs.Rows.{AllMove, placed}
 use Rattle.rq_store.specs.Fitting.{left_by}
 use Rattle.rq_store.proofs.Grouping.{groups_of}
 use Rattle.rq_store.proofs.Chains as Chains

@@ -3,9 +3,9 @@
 #![tactic(auto)]
 
 ghost use Rattle.std.specs.Prelude.{◌≡◌, ◌<◌, false, IfErr, IfOk, map};
-ghost use Rattle.rq_model.specs.Legal.{below};
+ghost use Rattle.rq_model.specs.Tests.{below};
 ghost use Rattle.rq_model.specs.Ledger.{group_in};
-ghost use Rattle.rq_model.specs.Content.{committed_of};
+ghost use Rattle.rq_model.specs.Commits.{committed_of};
 ghost use Rattle.rq_page.specs.Sizes.{sender_count};
 ghost use Rattle.rq_txn.specs.Rows.{any_under};
 ghost use Rattle.rq_store.specs.State.{State};

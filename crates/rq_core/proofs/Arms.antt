@@ -5,11 +5,12 @@ use Rattle.rq_model.specs.declared.refusal.Refusal.{Refusal}
 use Rattle.rq_model.specs.declared.refusal.Refusal.TheVariants as why
 use Rattle.rq_model.specs.History.{Entry, Call}
 use Rattle.rq_model.specs.History.Entry.{Restarted as Restarted_entry, Refused as Refused_entry}
-use Rattle.rq_model.specs.Content.{committed_of}
+use Rattle.rq_model.specs.Commits.{committed_of}
 use Rattle.rq_model.specs.Ledger.{Ledger, Phase, after, ledger}
 use Rattle.rq_model.specs.Ledger.Phase.{Running as Runs, Shut}
 use Rattle.rq_model.specs.History.Call.{Begin, Start_send, Start_receive, Start_receive_from, Start_close, Step, Finish, Commit, Acknowledge, Start_abort, Undo_next, End_abort, Hand_over, Force, Write_page, Last_tag, Show}
-use Rattle.rq_model.specs.Legal.{Size, Legal, IsLegal}
+use Rattle.rq_model.specs.Legal.{Legal, IsLegal}
+use Rattle.rq_model.specs.Tests.{Size}
 use Rattle.rq_model.specs.Promises.{AcknowledgedStay, CrashGoesOn, FifoThroughout, RestartGoesOn, ShutCrashGoesOn}
 use Rattle.rq_model.specs.Replay.{Says}
 use Rattle.rq_model.specs.Replay.Reply.{Gave_refusal}

@@ -6,7 +6,8 @@ use Rattle.rq_model.specs.Words.{In}
 use Rattle.rq_model.specs.History.{Entry, rest}
 use Rattle.rq_model.specs.Groups.{group}
 use Rattle.rq_model.specs.Ledger.{Ledger, Open, found, group_in, ledger, own_takes, rest_in}
-use Rattle.rq_model.specs.Legal.{Size, At, IsLegal, OnFound, any_gives, below, free_to_receive, gives, holds_for}
+use Rattle.rq_model.specs.Legal.{At, IsLegal, OnFound}
+use Rattle.rq_model.specs.Tests.{Size, any_gives, below, free_to_receive, gives, holds_for}
 use Rattle.rq_core.specs.Always.{GivesTo, NoneIsExact}
 
 lt_true : (a b : ℕ) → a < b → nat_lt a b ≡ true

@@ -9,7 +9,7 @@ use Rattle.rq_model.specs.History.Call.{Acknowledge}
 use Rattle.rq_model.specs.History.Job.{Sending, Taking}
 use Rattle.rq_model.specs.History.Entry.{Begun, Started, Stepped, Did, Committed, Acknowledged, Forced, Refused as Refused_entry}
 use Rattle.rq_model.specs.Ledger.{fresh_one, ledger}
-use Rattle.rq_model.specs.Legal.{free_to_receive, holds_for, any_busy}
+use Rattle.rq_model.specs.Tests.{free_to_receive, holds_for, any_busy}
 use Rattle.rq_model.specs.Replay.{Number}
 use Rattle.rq_core.specs.Happenings.{Tells}
 use Rattle.rq_core.specs.Worked.{AreJudged, course, first_entries, hello, history, taking, txn}

@@ -13,10 +13,12 @@ use Rattle.rq_model.specs.History.{Entry, Call, commits}
 use Rattle.rq_model.specs.History.Call.{Hand_over}
 use Rattle.rq_model.specs.History.Entry.{Crash as Crash_entry, Restarted as Restarted_entry, Refused as Refused_entry}
 use Rattle.rq_model.specs.Incarnations.{Extends, Ties, InOrder, ArePlain, incarnation_of}
-use Rattle.rq_model.specs.Content.{committed_of, KeepsRules}
+use Rattle.rq_model.specs.Commits.{committed_of}
+use Rattle.rq_model.specs.Rules.{KeepsRules}
 use Rattle.rq_model.specs.Ledger.{Done, Ledger, Phase, ledger, after, kept_in}
 use Rattle.rq_model.specs.Ledger.Phase.{Running as Runs, Stopped, Shut}
-use Rattle.rq_model.specs.Legal.{Legal, IsLegal, any_busy}
+use Rattle.rq_model.specs.Legal.{Legal, IsLegal}
+use Rattle.rq_model.specs.Tests.{any_busy}
 use Rattle.rq_model.specs.Promises.{CrashGoesOn, ShutCrashGoesOn, RestartGoesOn, EndsInCrash, crash_to}
 use Rattle.rq_model.specs.Replay.{Reply as Gave, Says}
 use Rattle.rq_model.specs.Replay.Reply.{Gave_refusal}

@@ -8,7 +8,8 @@ use Rattle.rq_model.specs.History.Entry.{None_free, None_from, Refused, Shown, S
 use Rattle.rq_model.specs.History.Job.{Taking}
 use Rattle.rq_model.specs.Groups.{group}
 use Rattle.rq_model.specs.Ledger.{Open, ledger, own_takes}
-use Rattle.rq_model.specs.Legal.{Size, At, IsLegal, below, free_to_receive}
+use Rattle.rq_model.specs.Legal.{At, IsLegal}
+use Rattle.rq_model.specs.Tests.{Size, below, free_to_receive}
 use Rattle.std.specs.Prelude.{map}
 
 -- s is free for t, and holds a message that t has not taken itself

@@ -10,7 +10,7 @@ use Rattle.rq_model.specs.Ledger.Phase.{Running as Runs, Shut}
 use Rattle.rq_model.specs.Replay.{Reply, Says}
 use Rattle.rq_model.specs.Replay.Reply.{Gave_commit, Gave_refusal}
 use Rattle.rq_model.specs.Words.{is_some}
-use Rattle.rq_model.specs.Legal.{any_busy}
+use Rattle.rq_model.specs.Tests.{any_busy}
 
 pub data Happening : Type 0 where
   Asks : (call : Call) → Happening

@@ -9,7 +9,8 @@ use Rattle.rq_model.specs.History.{Entry}
 use Rattle.rq_model.specs.History.Call.{Begin, Start_send, Start_receive, Step, Finish, Commit as Commit_call, Acknowledge, Force}
 use Rattle.rq_model.specs.History.Job.{Sending, Taking}
 use Rattle.rq_model.specs.History.Entry.{Begun, Started, Stepped, Did, Committed, Acknowledged, Forced, Shown, None_free, Refused as Refused_entry, Crash as Crash_entry, Restarted as Restarted_entry}
-use Rattle.rq_model.specs.Legal.{Size, IsLegal}
+use Rattle.rq_model.specs.Legal.{IsLegal}
+use Rattle.rq_model.specs.Tests.{Size}
 use Rattle.rq_model.specs.Replay.{Number}
 use Rattle.rq_model.specs.Replay.Reply.{Gave_txn, Gave_sub, Gave_commit, Gave_receipt, Gave_lsn, Gave_forced, Gave_sent, Gave_refusal}
 use Rattle.rq_core.specs.Happenings.{Happening, Answer, Report, Course, Tells}

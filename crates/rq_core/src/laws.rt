@@ -1,7 +1,8 @@
 //! The headline of every history with legal replies, over definitions alone; and worked courses.
 ghost use Rattle.std.specs.Prelude.{List};
 ghost use Rattle.rq_model.specs.History.{Entry};
-ghost use Rattle.rq_model.specs.Legal.{Size, IsLegal};
+ghost use Rattle.rq_model.specs.Legal.{IsLegal};
+ghost use Rattle.rq_model.specs.Tests.{Size};
 ghost use Rattle.rq_model.specs.Promises.{AcknowledgedStay, FifoThroughout, NothingBehindClose};
 ghost use Rattle.rq_core.specs.Always.{ContentIsTheRest, NoneIsExact};
 ghost use Rattle.rq_core.specs.Worked.{AreJudged};

@@ -17,7 +17,8 @@ use Rattle.rq_model.specs.History.{Call}
 use Rattle.rq_model.specs.History.Call.{Commit, Step, Finish, Show}
 use Rattle.rq_model.specs.History.Entry.{Ready, Shown}
 use Rattle.rq_model.specs.Ledger.{Open, found, runs}
-use Rattle.rq_model.specs.Legal.{has_under, steps_left, log_full, tests, first_of, OnFound as Open_found}
+use Rattle.rq_model.specs.Legal.{OnFound as Open_found}
+use Rattle.rq_model.specs.Tests.{has_under, steps_left, log_full, tests, first_of}
 use Rattle.rq_model.specs.Replay.{Reply as Gave}
 use Rattle.rq_model.specs.Replay.Reply.{Gave_lsn, Gave_commit, Gave_ready, Gave_content}
 use Rattle.rq_page.specs.Sizes.{Sizes}
@@ -35,8 +36,8 @@ use Rattle.rq_store.proofs.RowLists.{found_in}
 use Rattle.rq_store.proofs.Opens.{busy_is}
 use Rattle.rq_model.specs.Ledger.{group_in}
 use Rattle.rq_model.specs.History.{Group}
-use Rattle.rq_model.specs.Legal.{any_busy, below}
-use Rattle.rq_model.specs.Content.{committed_of}
+use Rattle.rq_model.specs.Tests.{any_busy, below}
+use Rattle.rq_model.specs.Commits.{committed_of}
 use Rattle.rq_page.specs.Sizes.{sender_count}
 use Rattle.rq_store.proofs.Releases.{without_ends}
 use Rattle.rq_store.proofs.Working.{going_at}

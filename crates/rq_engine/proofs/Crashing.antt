@@ -1,7 +1,7 @@
 -- Pages that a crash leaves fit the log that it leaves.
 use Rattle.std.proofs.Common.{◌≡◌, ℕ, zero, suc, [], ◌∷◌, ◌<◌, ◌≤◌, List, drop, sym, subst, Result, Ok, Err, ⊎_elim, arith, length, take, ap, ◌∙◌, ◌≡◌}
 use Rattle.std.proofs.lemmas.List.{length-drop, take-append-drop}
-use Rattle.rq_model.specs.Content.{committed_of}
+use Rattle.rq_model.specs.Commits.{committed_of}
 use Rattle.rq_model.specs.Ledger.{group_in, kept_in}
 use Rattle.rq_model.proofs.Plainly.{kept_less}
 use Rattle.rq_model.proofs.Told.{content_is}

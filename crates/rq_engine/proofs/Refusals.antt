@@ -9,7 +9,8 @@ use Rattle.rq_model.specs.History.{Call}
 use Rattle.rq_model.specs.History.Call.{Begin, Commit, Start_send, Step, Finish, Acknowledge, Force, Hand_over, Show, Start_receive, Start_receive_from, Start_close, Start_abort, Undo_next, End_abort, Write_page, Last_tag}
 use Rattle.rq_model.specs.History.Entry.{Refused}
 use Rattle.rq_model.specs.Ledger.{Ledger, runs, after, found}
-use Rattle.rq_model.specs.Legal.{Size, tests, first_of, LegalRefusal, NoneHolds, is_aborting, is_busy, log_full, ready_tests}
+use Rattle.rq_model.specs.Legal.{LegalRefusal}
+use Rattle.rq_model.specs.Tests.{Size, tests, first_of, NoneHolds, is_aborting, is_busy, log_full, ready_tests}
 use Rattle.rq_model.specs.Reference.{without_pages, IsUnready}
 use Rattle.std.specs.Option.{is_some as option_is_some}
 use Rattle.rq_txn.specs.declared.Operation.{Operation}

@@ -7,7 +7,7 @@ use Rattle.rq_model.specs.declared.refusal.Refusal.TheVariants as why
 use Rattle.rq_model.specs.History.{Call}
 use Rattle.rq_model.specs.History.Call.{Start_receive, Start_receive_from}
 use Rattle.rq_model.specs.Ledger.{found}
-use Rattle.rq_model.specs.Legal.{Passes, NoneHolds, below, any_gives, gives, free_to_receive, log_full, ready_tests}
+use Rattle.rq_model.specs.Tests.{Passes, NoneHolds, below, any_gives, gives, free_to_receive, log_full, ready_tests}
 use Rattle.rq_model.specs.Replay.Reply.{Gave_sub, Gave_none, Gave_refusal}
 use Rattle.rq_page.specs.declared.cell.Cell.{Cell}
 use Rattle.rq_page.specs.declared.directory.Directory.{Directory}

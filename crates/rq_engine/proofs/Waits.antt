@@ -6,7 +6,8 @@ use Rattle.std.proofs.lemmas.List.{get_or_past}
 use Rattle.rq_model.specs.declared.record.Deed.{Deed}
 use Rattle.rq_model.specs.declared.record.Deed.TheVariants.{Append, UnlinkHead, Close}
 use Rattle.rq_model.specs.Words.{sent_for}
-use Rattle.rq_model.specs.Content.{said, op_of}
+use Rattle.rq_model.specs.Content.{said}
+use Rattle.rq_model.specs.Commits.{op_of}
 use Rattle.rq_txn.specs.declared.Finished.{Finished}
 use Rattle.rq_groups.specs.Waiting.{waits, more_waiting, fewer_waiting}
 use Rattle.rq_groups.proofs.Waits.{length-more_waiting, length-fewer_waiting, waits-more_waiting_same, waits-more_waiting_other, waits-fewer_waiting_same, waits-fewer_waiting_other}

@@ -5,7 +5,8 @@ use Rattle.rq_disk.specs.declared.device.LogDevice as log_device
 use Rattle.rq_disk.specs.declared.device.PageDevice as page_device
 use Rattle.rq_log.specs.Spelled.{spelled, AreSpelled}
 use Rattle.rq_model.specs.declared.record.Record.{Record}
-use Rattle.rq_model.specs.Content.{content, committed_of}
+use Rattle.rq_model.specs.Content.{content}
+use Rattle.rq_model.specs.Commits.{committed_of}
 use Rattle.rq_model.specs.Incarnations.{incarnation_of}
 use Rattle.rq_model.specs.Ledger.{group_in, kept_in}
 use Rattle.rq_store.specs.State.{State, ledger_of}

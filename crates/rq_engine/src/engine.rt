@@ -173,9 +173,9 @@ impl<P: PageDevice + Drop, L: LogDevice + Drop> Engine<P, L> {
 
 impl<P: PageDevice, L: LogDevice> Engine<P, L> {
     ghost use Rattle.rq_store.specs.State.{ledger_of, open_ones_of};
-    ghost use Rattle.rq_model.specs.Legal.{log_full};
+    ghost use Rattle.rq_model.specs.Tests.{log_full};
     ghost use Rattle.rq_model.specs.Reference.{IsUnready};
-    ghost use Rattle.rq_model.specs.Legal.{NoneHolds, ready_tests};
+    ghost use Rattle.rq_model.specs.Tests.{NoneHolds, ready_tests};
 
     /// What a crash at this moment leaves of the log, and of both devices, and that each record has a spelling, for
     /// proofs: it runs no code.

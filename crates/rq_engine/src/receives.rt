@@ -2,7 +2,7 @@
 ghost use Rattle.std.specs.Prelude.{◌≡◌, ◌≢◌, ◌↔◌, Err, ◌⊎◌, ◌+◌, ◌<◌, ◌≤◌, IfOk, IfErr, IfSome, IfNone, None, OnOk, OnErr, ℕ, Some, true, false};
 ghost use Rattle.rq_model.specs.History.{Call};
 ghost use Rattle.rq_model.specs.History.Call.{Start_receive, Start_receive_from};
-ghost use Rattle.rq_model.specs.Legal.{NoneHolds, ready_tests};
+ghost use Rattle.rq_model.specs.Tests.{NoneHolds, ready_tests};
 ghost use Rattle.rq_page.specs.Sizes.{IsLink, sender_count};
 ghost use Rattle.rq_page.specs.Slots.{Used};
 ghost use Rattle.rq_level.specs.Log.{cell_in};

@@ -2,7 +2,7 @@
 ghost use Rattle.std.specs.Prelude.{◌≡◌, ◌≢◌, ◌↔◌, Err, ◌+◌, ◌<◌, ◌≤◌, ◌^◌, IfOk, IfErr, IfSome, IfNone, None, OnOk, OnErr, ℕ, Some, true, false, length, ◌∷◌};
 ghost use Rattle.rq_model.specs.History.Call.{Start_send};
 ghost use Rattle.rq_model.specs.Replay.Reply.{Gave_sub};
-ghost use Rattle.rq_model.specs.Legal.{NoneHolds, Passes, log_full, ready_tests};
+ghost use Rattle.rq_model.specs.Tests.{NoneHolds, Passes, log_full, ready_tests};
 ghost use Rattle.rq_model.specs.Reference.{message_of};
 ghost use Rattle.rq_page.specs.Sizes.{sender_count, cell_count};
 ghost use Rattle.rq_level.specs.Stored.{slots_in};

@@ -2,7 +2,7 @@
 ghost use Rattle.std.specs.Prelude.{◌≡◌, ◌+◌, ◌*◌, ◌<◌, ◌≤◌, IfErr, IfSome, IfNone, None, Some, OnOk, OnErr, false, length};
 ghost use Rattle.rq_model.specs.Deeds.{deed_in, spelled_deed};
 ghost use Rattle.rq_record.specs.Deeds.{IsDeedInRange};
-ghost use Rattle.rq_model.specs.Legal.{log_full};
+ghost use Rattle.rq_model.specs.Tests.{log_full};
 ghost use Rattle.rq_page.specs.Sizes.{IsLink};
 ghost use Rattle.rq_level.specs.Log.{cell_in};
 ghost use Rattle.rq_level.specs.Stored.{slots_in};

@@ -9,7 +9,7 @@ use Rattle.rq_model.specs.declared.record.Deed.TheVariants.{Append, UnlinkHead, 
 use Rattle.rq_model.specs.declared.record.Record.{Record}
 use Rattle.rq_model.specs.declared.record.Record.TheVariants as records
 use Rattle.rq_model.specs.Deeds.{deed_in}
-use Rattle.rq_model.specs.Legal.{below}
+use Rattle.rq_model.specs.Tests.{below}
 use Rattle.rq_model.proofs.Counts.{sum_none}
 use Rattle.rq_page.specs.Sizes.{Sizes, cell_count, sender_count}
 use Rattle.rq_level.specs.Log.{Item, state_of}

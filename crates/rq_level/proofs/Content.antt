@@ -9,7 +9,8 @@ use Rattle.rq_model.specs.declared.record.Record.TheVariants.{PageOp, PageUndo, 
 use Rattle.rq_model.specs.Words.{same_txn}
 use Rattle.rq_model.specs.Deeds.{deed_in}
 use Rattle.rq_model.specs.History.{Group}
-use Rattle.rq_model.specs.Content.{Said, said, ending_by, kept, deeds, content, has_commit, has_end, added, removed, shape, KeepsRules, with_own}
+use Rattle.rq_model.specs.Content.{Said, said, ending_by, kept, deeds, content, has_commit, has_end, added, removed, shape, with_own}
+use Rattle.rq_model.specs.Rules.{KeepsRules}
 use Rattle.rq_model.proofs.Commits.{only, with_one, commit_adds, shape_is, covered_log, around_itself, removed_both}
 use Rattle.rq_model.proofs.Lists.{same_self}
 use Rattle.rq_model.proofs.Told.{no_commit, not_yet}

@@ -5,7 +5,9 @@ use Rattle.rq_model.specs.declared.message.Message.{Message}
 use Rattle.rq_model.specs.declared.record.Record.{Record}
 use Rattle.rq_model.specs.declared.txn.Txn.{Txn}
 use Rattle.rq_model.specs.Ledger.{group_in}
-use Rattle.rq_model.specs.Content.{Said, added, removed, closed, tag_after, with_own, KeepsRules, committed_of}
+use Rattle.rq_model.specs.Content.{Said, added, removed, closed, tag_after, with_own}
+use Rattle.rq_model.specs.Commits.{committed_of}
+use Rattle.rq_model.specs.Rules.{KeepsRules}
 use Rattle.rq_model.proofs.Told.{content_is}
 use Rattle.rq_page.specs.Sizes.{Sizes}
 use Rattle.rq_level.specs.Chain.{View}

@@ -12,8 +12,10 @@ use Rattle.rq_model.specs.declared.record.Record.{Record}
 use Rattle.rq_model.specs.declared.txn.Txn.{Txn}
 use Rattle.rq_model.specs.Words.{Op, same_txn, has_txn, sent_for, taken_from}
 use Rattle.rq_model.specs.Ledger.{rest_in}
-use Rattle.rq_model.specs.Legal.{below, count_rest, is_sent}
-use Rattle.rq_model.specs.Content.{Said, said, has_end, added, added_one, removed, removed_one, op_of, ops_told, told, KeepsRules, committed_of}
+use Rattle.rq_model.specs.Tests.{below, count_rest, is_sent}
+use Rattle.rq_model.specs.Content.{Said, said, has_end, added, added_one, removed, removed_one}
+use Rattle.rq_model.specs.Commits.{op_of, ops_told, told, committed_of}
+use Rattle.rq_model.specs.Rules.{KeepsRules}
 use Rattle.rq_model.specs.Content.Said.{Added, Removed, Ended}
 use Rattle.rq_model.specs.Counts.{is_taken, op_sender, AllBelow}
 use Rattle.rq_model.proofs.Counts.{sum_more, sum_same, sum_both, sum_none, count_is_sum, sum_sent, sum_taken}

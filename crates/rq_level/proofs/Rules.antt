@@ -10,7 +10,8 @@ use Rattle.rq_model.specs.declared.record.Record.TheVariants as records
 use Rattle.rq_model.specs.Words.{same_txn}
 use Rattle.rq_model.specs.Deeds.{deed_in}
 use Rattle.rq_model.specs.History.{Group}
-use Rattle.rq_model.specs.Content.{Said, said, kept, ending_by, deeds, content, has_end, has_commit, holds, any_use, uses_send, uses_receive, removed, added, shape, MayEnd, EndingMay, KeepsRules}
+use Rattle.rq_model.specs.Content.{Said, said, kept, ending_by, deeds, content, has_end, has_commit, removed, added, shape}
+use Rattle.rq_model.specs.Rules.{holds, any_use, uses_send, uses_receive, MayEnd, EndingMay, KeepsRules}
 use Rattle.rq_model.proofs.Commits.{only, removed_both, shape_is, covered_log, around_itself}
 use Rattle.rq_model.proofs.Lists.{same_is}
 use Rattle.rq_model.proofs.Told.{not_yet}

@@ -4,8 +4,9 @@ use Rattle.std.proofs.lemmas.List.{length-map}
 use Rattle.rq_model.specs.declared.record.Record.{Record}
 use Rattle.rq_model.specs.declared.txn.Txn.{Txn}
 use Rattle.rq_model.specs.Ledger.{rest_in}
-use Rattle.rq_model.specs.Legal.{below, count_rest}
-use Rattle.rq_model.specs.Content.{KeepsRules, committed_of}
+use Rattle.rq_model.specs.Tests.{below, count_rest}
+use Rattle.rq_model.specs.Commits.{committed_of}
+use Rattle.rq_model.specs.Rules.{KeepsRules}
 use Rattle.rq_model.proofs.Counts.{sum_same, count_is_sum}
 use Rattle.rq_page.specs.Sizes.{Sizes, sender_count}
 use Rattle.rq_level.specs.Chain.{View}

@@ -7,7 +7,9 @@ use Rattle.std.proofs.Common.{◌≡◌, ℕ, ◌==◌, ◌||◌, List, [], ◌�
 use Rattle.std.proofs.lemmas.Bool.{or_parts, or_from, and_left}
 use Rattle.rq_model.specs.Words.{same_txn}
 use Rattle.rq_model.specs.Deeds.{deed_in}
-use Rattle.rq_model.specs.Content.{Said, ending, ending_by, kept, deeds, ops_told, told, any_record}
+use Rattle.rq_model.specs.Content.{Said, ending, ending_by, kept, deeds}
+use Rattle.rq_model.specs.Unended.{any_record}
+use Rattle.rq_model.specs.Commits.{ops_told, told}
 use Rattle.rq_model.specs.Content as content
 use Rattle.rq_page.specs.Sizes.{Sizes}
 use Rattle.rq_level.specs.Legal.{open_deeds, of_op, is_of, began}

@@ -5,7 +5,7 @@ use Rattle.rq_model.specs.declared.record.Record.{Record}
 use Rattle.rq_model.specs.declared.record.Record.TheVariants as records
 use Rattle.rq_model.specs.Words.{same_txn}
 use Rattle.rq_model.specs.Deeds.{deed_in}
-use Rattle.rq_model.specs.Content.{any_record}
+use Rattle.rq_model.specs.Unended.{any_record}
 use Rattle.rq_page.specs.Sizes.{Sizes, IsCellAddress, sender_count, sender_at}
 use Rattle.rq_page.specs.Slots.{Slot, IsSlotOf}
 use Rattle.rq_page.specs.Slots.Slot.{Free, Used, Sender}

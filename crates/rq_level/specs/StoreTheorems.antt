@@ -4,8 +4,9 @@ use Rattle.std.specs.List.{sum_by}
 use Rattle.rq_model.specs.declared.txn.Sub.{Sub}
 use Rattle.rq_model.specs.declared.txn.Txn.{Txn}
 use Rattle.rq_model.specs.declared.record.Record.{Record}
-use Rattle.rq_model.specs.Legal.{below, count_rest}
-use Rattle.rq_model.specs.Content.{KeepsRules, committed_of}
+use Rattle.rq_model.specs.Tests.{below, count_rest}
+use Rattle.rq_model.specs.Commits.{committed_of}
+use Rattle.rq_model.specs.Rules.{KeepsRules}
 use Rattle.rq_page.specs.Sizes.{Sizes, cell_count, sender_count}
 use Rattle.rq_level.specs.Claims.{takes_placed, HasRoom}
 use Rattle.rq_level.specs.Groups.{KeepsGroups}

@@ -1,7 +1,7 @@
 -- The slots of a store, as its pages hold them.
 use Rattle.std.specs.Prelude.{ℕ, ◌/◌, ◌%◌, ◌≤◌, ◌<◌, Bool, true, false, cond, nat_lt, List, [], length, slice_index_or}
 use Rattle.std.specs.List.{filter}
-use Rattle.rq_model.specs.Legal.{below}
+use Rattle.rq_model.specs.Tests.{below}
 use Rattle.rq_page.specs.Pages.{slot_of}
 use Rattle.rq_page.specs.Sizes.{Sizes, page_count, cell_count, cell_at}
 use Rattle.rq_page.specs.Slots.{Slot, held_in, IsSlotOf}

@@ -4,7 +4,8 @@ use Rattle.rq_model.specs.declared.txn.Sub.{Sub}
 use Rattle.rq_model.specs.declared.txn.Txn.{Txn}
 use Rattle.rq_model.specs.declared.record.Deed.{Deed}
 use Rattle.rq_model.specs.declared.record.Record.{Record}
-use Rattle.rq_model.specs.Content.{content, KeepsRules}
+use Rattle.rq_model.specs.Content.{content}
+use Rattle.rq_model.specs.Rules.{KeepsRules}
 use Rattle.rq_page.specs.Sizes.{Sizes}
 use Rattle.rq_level.specs.Committed.{IsViewOf}
 use Rattle.rq_level.specs.Items.{items, layout_of, ReadsItsDeeds}

@@ -7,8 +7,10 @@ use Rattle.rq_model.specs.History.{Entry}
 use Rattle.rq_model.specs.History.Entry.{Crash, Restarted}
 use Rattle.rq_model.specs.Ledger.{Done, Ledger, Phase, ledger, after, group_in, kept_in}
 use Rattle.rq_model.specs.Ledger.Phase.{Running, Stopped, Shut}
-use Rattle.rq_model.specs.Legal.{Size, IsLegal, IsUpTo}
-use Rattle.rq_model.specs.Content.{committed_of, KeepsRules}
+use Rattle.rq_model.specs.Legal.{IsLegal, IsUpTo}
+use Rattle.rq_model.specs.Tests.{Size}
+use Rattle.rq_model.specs.Commits.{committed_of}
+use Rattle.rq_model.specs.Rules.{KeepsRules}
 use Rattle.rq_model.specs.Incarnations.{Ties, Extends, incarnation_of, InOrder, opened_ledger}
 use Rattle.rq_model.specs.Promises.{EndsInCrash, EndsInRestart, crash_to}
 use Rattle.rq_model.proofs.Same.{Tied-ledger}

@@ -11,7 +11,8 @@ use Rattle.rq_model.specs.History.{Job, Entry, Call, finished, did_by, ops_by, c
 use Rattle.rq_model.specs.History.Job.{Sending, Taking, Ending, Undoing}
 use Rattle.rq_model.specs.History.Entry.{Begun, Started, None_free, None_from, Stepped, Ready, Did, Undid, Committed, Acknowledged, Aborting, None_left, Aborted, Handed_over, Forced, Wrote, Told, Shown, Refused, Crash, Restarted}
 use Rattle.rq_model.specs.Ledger.{Open, Done, Ledger, found, change, without, ops_of, after, ledger, started, stepped, writes, done_more, undone, fresh_one, any_ends, ended_in, add_number}
-use Rattle.rq_model.specs.Legal.{Size, Legal, IsLegal, Passes, is_aborting, start_of, IsDoneBy, has_closed, free_to_send}
+use Rattle.rq_model.specs.Legal.{Legal, IsLegal, start_of, IsDoneBy}
+use Rattle.rq_model.specs.Tests.{Size, Passes, is_aborting, has_closed, free_to_send}
 use Rattle.rq_model.proofs.Lists.{same_self}
 use Rattle.rq_model.proofs.Keeps.{found_in, changed, gone}
 use Rattle.rq_model.proofs.Each.{start_at, did_at, undid_at, step_at, GoodAt, Good-ledger, known, add_same, add_from, add_not, free_is}

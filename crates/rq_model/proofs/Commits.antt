@@ -9,7 +9,8 @@ use Rattle.rq_model.specs.declared.message.Message.{Message}
 use Rattle.rq_model.specs.Words.{same_txn, last_or}
 use Rattle.rq_model.specs.History.{Group}
 use Rattle.rq_model.specs.Ledger.{tag_of}
-use Rattle.rq_model.specs.Content.{Said, Ending, ending, ends_txn, commits_txn, has_commit, has_end, kept, deeds, no_group, with_deed, with_deeds, content, added_one, added, removed_one, removed, closed_one, closed, shape, uses_send, uses_receive, any_use, holds, EndingMay, KeepsRules, tag_after, with_own}
+use Rattle.rq_model.specs.Content.{Said, Ending, ending, ends_txn, commits_txn, has_commit, has_end, kept, deeds, no_group, with_deed, with_deeds, content, added_one, added, removed_one, removed, closed_one, closed, shape, tag_after, with_own}
+use Rattle.rq_model.specs.Rules.{uses_send, uses_receive, any_use, holds, EndingMay, KeepsRules}
 use Rattle.rq_model.specs.Content.Said.{Added, Removed, Ended}
 use Rattle.rq_model.proofs.Lists.{same_is, same_self}
 use Rattle.rq_model.proofs.Same.{other_same}

@@ -10,8 +10,10 @@ use Rattle.rq_model.specs.Words.{Op, sent_for, taken_from}
 use Rattle.rq_model.specs.Words.Op.{Send, Take, End}
 use Rattle.rq_model.specs.History.{Group}
 use Rattle.rq_model.specs.Ledger.{Done, sent_in, taken_in, rest_in, group_in}
-use Rattle.rq_model.specs.Legal.{below, count_rest, is_sent}
-use Rattle.rq_model.specs.Content.{deeds, has_commit, added, removed, shape, KeepsRules, committed_of}
+use Rattle.rq_model.specs.Tests.{below, count_rest, is_sent}
+use Rattle.rq_model.specs.Content.{deeds, has_commit, added, removed, shape}
+use Rattle.rq_model.specs.Commits.{committed_of}
+use Rattle.rq_model.specs.Rules.{KeepsRules}
 use Rattle.rq_model.specs.Counts.{is_taken, AllBelow}
 use Rattle.rq_model.proofs.Commits.{shape_is, covered_log, covered_here, around_itself}
 use Rattle.rq_model.proofs.Keeps.{taken_more, sent_more}

@@ -6,7 +6,7 @@ use Rattle.rq_model.specs.declared.record.Record.{Record}
 use Rattle.rq_model.specs.declared.record.Record.TheVariants.{PageOp, PageUndo, OpEnd, OpVoid, CompEnd, Commit, Restart, AbortEnd}
 use Rattle.rq_model.specs.Words.{In}
 use Rattle.rq_model.specs.Ledger.{Done, kept_in}
-use Rattle.rq_model.specs.Content.{committed_of, told}
+use Rattle.rq_model.specs.Commits.{committed_of, told}
 use Rattle.rq_model.specs.Reference.{Rising}
 use Rattle.rq_model.proofs.Plainly.{all_kept, rising_append, rising_further}
 use Rattle.rq_model.proofs.Told.{cut_is}

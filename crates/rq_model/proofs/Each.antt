@@ -14,7 +14,8 @@ use Rattle.rq_model.specs.History.{Job, Entry, Call}
 use Rattle.rq_model.specs.History.Job.{Sending, Taking, Ending, Undoing}
 use Rattle.rq_model.specs.History.Entry.{Begun, Started, None_free, None_from, Stepped, Ready, Did, Undid, Committed, Acknowledged, Aborting, None_left, Aborted, Handed_over, Forced, Wrote, Told, Shown, Refused, Crash, Restarted}
 use Rattle.rq_model.specs.Ledger.{Open, Done, Ledger, rest_in, found, without, ops_of, after, ledger, started, stepped, writes, done_more, undone, fresh_one, add_number, own_takes}
-use Rattle.rq_model.specs.Legal.{OnFound, At, CanStart, free_to_receive, free_of, Size, Legal, IsLegal, Passes, IsDoneBy, start_of}
+use Rattle.rq_model.specs.Legal.{OnFound, At, CanStart, Legal, IsLegal, IsDoneBy, start_of}
+use Rattle.rq_model.specs.Tests.{free_to_receive, free_of, Size, Passes}
 use Rattle.rq_model.proofs.Lists.{prefix_nil, prefix_shorter, prefix_next, same_is}
 use Rattle.rq_model.proofs.Keeps.{Good, IsOld, Changes, Good-change, Good-commit, Good-without, Good-crash, Good-none, found_in}
 

@@ -7,7 +7,7 @@ use Rattle.rq_model.specs.History.{Entry, Call}
 use Rattle.rq_model.specs.History.Entry.{Begun, Started, None_free, None_from, Stepped, Ready, Did, Undid, Committed, Acknowledged, Aborting, None_left, Aborted, Handed_over, Forced, Wrote, Told, Shown, Refused, Crash, Restarted}
 use Rattle.rq_model.specs.Ledger.{Ledger, Phase, runs, ledger, after}
 use Rattle.rq_model.specs.Ledger.Phase.{Running, Stopped, Shut}
-use Rattle.rq_model.specs.Legal.{Size}
+use Rattle.rq_model.specs.Tests.{Size}
 
 -- the commits, the incarnation and what is forced stay, and no record is lost
 pub record Same (l m : Ledger) : Type 0 where

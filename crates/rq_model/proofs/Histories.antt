@@ -15,7 +15,8 @@ use Rattle.rq_model.specs.Replay.{Reply, Replays}
 use Rattle.rq_model.specs.Replay.Reply.{Gave_txn, Gave_commit}
 use Rattle.rq_model.specs.Promises.{EndsInCrash, EndsInRestart, crash_to}
 use Rattle.rq_model.proofs.Bridges.{crash_goes_on, restart_goes_on}
-use Rattle.rq_model.specs.Legal.{Size, Legal, IsLegal, tests, first_of, below}
+use Rattle.rq_model.specs.Legal.{Legal, IsLegal}
+use Rattle.rq_model.specs.Tests.{Size, tests, first_of, below}
 use Rattle.rq_model.specs.Worked.{txn, small, opened, message, letter, sent, got, sent_behind, got_before, closed, hello, one_send, unseen, long, bounds, both_open, both_undone, a_waits, a_gone, sent_and_got, all_lost, fifteen, filled, closes, begun_five, held_ends, undoing, committed_once, failed_force, longest, first_log, begun_and_committed, AreWorked}
 
 pub worked : AreWorked

@@ -5,7 +5,8 @@ use Rattle.rq_model.specs.declared.txn.Txn.{Txn}
 use Rattle.rq_model.specs.declared.record.Record.TheVariants.{Commit, Restart}
 use Rattle.rq_model.specs.declared.message.Message.{Message}
 use Rattle.rq_model.specs.Words.{same_txn}
-use Rattle.rq_model.specs.Content.{Said, KeepsRules, MayEnd, any_use, holds, uses_receive, removed, added, deeds, has_commit, has_end, ends_txn}
+use Rattle.rq_model.specs.Content.{Said, removed, added, deeds, has_commit, has_end, ends_txn}
+use Rattle.rq_model.specs.Rules.{KeepsRules, MayEnd, any_use, holds, uses_receive}
 use Rattle.rq_model.specs.Content.Said.{Added, Removed}
 use Rattle.rq_model.specs.Worked.{letter}
 use Rattle.rq_model.proofs.Lists.{same_is}

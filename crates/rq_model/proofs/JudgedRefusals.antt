@@ -6,7 +6,8 @@ use Rattle.rq_model.specs.declared.refusal.Refusal.TheVariants.{TooManyTransacti
 use Rattle.rq_model.specs.History.Call.{Begin}
 use Rattle.rq_model.specs.Ledger.{Ledger, Phase, runs, ledger}
 use Rattle.rq_model.specs.Ledger.Phase.{Running}
-use Rattle.rq_model.specs.Legal.{IsLegal, Passes, tests, first_of}
+use Rattle.rq_model.specs.Legal.{IsLegal}
+use Rattle.rq_model.specs.Tests.{Passes, tests, first_of}
 use Rattle.rq_model.specs.Worked.{small}
 use Rattle.rq_model.specs.WorkedRefusals.{begun_many, RefusalsAreWorked}
 

@@ -12,7 +12,8 @@ use Rattle.rq_model.specs.declared.reference.rows.Act.{Act}
 use Rattle.rq_model.specs.Words.{Op, same_txn, last_or}
 use Rattle.rq_model.specs.declared.message.Message.{Message}
 use Rattle.rq_model.specs.History.{Job}
-use Rattle.rq_model.specs.Legal.{IsDoneBy, below, count_rest}
+use Rattle.rq_model.specs.Legal.{IsDoneBy}
+use Rattle.rq_model.specs.Tests.{below, count_rest}
 use Rattle.rq_model.specs.Ledger.{Open, Done, Ledger, change, without, found, tag_of, rest_in}
 use Rattle.rq_model.proofs.Lists.{same_is, same_self}
 use Rattle.rq_model.specs.Reference.{StandsAt, job_of, op_done, op_of, open_of, Numbered, Rising}

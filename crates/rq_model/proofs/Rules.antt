@@ -12,7 +12,9 @@ use Rattle.rq_model.specs.History.{Job, Entry, Group}
 use Rattle.rq_model.specs.History.Job.{Sending, Taking, Ending, Undoing}
 use Rattle.rq_model.specs.Ledger.{Open, Done, Ledger, sent_in, taken_in, rest_in, group_in, own_takes}
 use Rattle.rq_model.specs.Legal.{IsDoneBy}
-use Rattle.rq_model.specs.Content.{Said, deeds, has_commit, has_end, added, removed, shape, holds, uses_send, uses_receive, MayEnd, KeepsRules, op_of, told, committed_of}
+use Rattle.rq_model.specs.Content.{Said, deeds, has_commit, has_end, added, removed, shape}
+use Rattle.rq_model.specs.Commits.{op_of, told, committed_of}
+use Rattle.rq_model.specs.Rules.{holds, uses_send, uses_receive, MayEnd, KeepsRules}
 use Rattle.rq_model.specs.Content.Said.{Added, Removed, Ended}
 use Rattle.rq_model.proofs.Keeps.{Good}
 use Rattle.rq_model.proofs.Clears.{Clear}

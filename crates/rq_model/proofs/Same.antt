@@ -12,7 +12,8 @@ use Rattle.rq_model.specs.History.{Job, Entry, Call, ops_by, commits, sends, tak
 use Rattle.rq_model.specs.History.Job.{Sending, Taking, Ending, Undoing}
 use Rattle.rq_model.specs.History.Entry.{Begun, Started, None_free, None_from, Stepped, Ready, Did, Undid, Committed, Acknowledged, Aborting, None_left, Aborted, Handed_over, Forced, Wrote, Told, Shown, Refused, Crash, Restarted}
 use Rattle.rq_model.specs.Ledger.{Open, Done, Ledger, sent_in, taken_in, found, change, without, ops_of, after, ledger, started, stepped, writes, done_more, undone, fresh_one}
-use Rattle.rq_model.specs.Legal.{Size, Legal, IsLegal, Passes, is_aborting, start_of}
+use Rattle.rq_model.specs.Legal.{Legal, IsLegal, start_of}
+use Rattle.rq_model.specs.Tests.{Size, Passes, is_aborting}
 use Rattle.rq_model.proofs.Lists.{same_is, same_self}
 use Rattle.rq_model.proofs.Keeps.{IsOld, found_in, changed, gone}
 use Rattle.rq_model.proofs.Each.{start_at, did_at, undid_at, step_at, GoodAt, Good-ledger, known}

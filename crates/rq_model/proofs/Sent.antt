@@ -7,7 +7,8 @@ use Rattle.rq_model.specs.History.{Entry, Fifo, commits, ended}
 use Rattle.rq_model.specs.History.Entry.{Started}
 use Rattle.rq_model.specs.History.Job.{Sending}
 use Rattle.rq_model.specs.Ledger.{ledger, found, ended_in}
-use Rattle.rq_model.specs.Legal.{Size, IsLegal, has_closed}
+use Rattle.rq_model.specs.Legal.{IsLegal}
+use Rattle.rq_model.specs.Tests.{Size, has_closed}
 use Rattle.rq_model.specs.Promises.{FifoThroughout}
 use Rattle.rq_model.proofs.Same.{ordered}
 use Rattle.rq_model.proofs.Clears.{none_after_end}

@@ -11,7 +11,9 @@ use Rattle.rq_model.specs.declared.message.Message.{Message}
 use Rattle.rq_model.specs.Words.{sent_for, taken_from, ends}
 use Rattle.rq_model.specs.History.{Group}
 use Rattle.rq_model.specs.Ledger.{Done, any_ends, group_in, sent_in, taken_in}
-use Rattle.rq_model.specs.Content.{Said, Ending, ending, commits_txn, has_commit, has_end, kept, deeds, no_group, with_deeds, content, added_one, added, removed_one, removed, closed_one, closed, shape, KeepsRules, tag_after, with_own, op_of, ops_told, told, committed_of, EndingMay}
+use Rattle.rq_model.specs.Content.{Said, Ending, ending, commits_txn, has_commit, has_end, kept, deeds, no_group, with_deeds, content, added_one, added, removed_one, removed, closed_one, closed, shape, tag_after, with_own}
+use Rattle.rq_model.specs.Commits.{op_of, ops_told, told, committed_of}
+use Rattle.rq_model.specs.Rules.{KeepsRules, EndingMay}
 use Rattle.rq_model.specs.Content.Said.{Added, Removed, Ended}
 use Rattle.rq_model.specs.Groups.{with_ops}
 use Rattle.rq_model.proofs.Commits.{commit_adds, shape_is, covered_log, covered_here, around_itself, group_is, commit_is_end, only, deeds_agree}

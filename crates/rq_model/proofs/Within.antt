@@ -5,7 +5,8 @@ use Rattle.rq_model.specs.declared.txn.Txn.{Txn}
 use Rattle.rq_model.specs.declared.record.Record.{Record}
 use Rattle.rq_model.specs.declared.record.Record.TheVariants.{PageOp, PageUndo, OpEnd, OpVoid, CompEnd, Commit, Restart, AbortEnd}
 use Rattle.rq_model.specs.Words.{same_txn}
-use Rattle.rq_model.specs.Content.{Said, Ending, ending, ends_txn, has_commit, has_end, kept, deeds, added, removed, removed_one, uses_receive, any_use, holds, EndingMay, KeepsRules}
+use Rattle.rq_model.specs.Content.{Said, Ending, ending, ends_txn, has_commit, has_end, kept, deeds, added, removed, removed_one}
+use Rattle.rq_model.specs.Rules.{uses_receive, any_use, holds, EndingMay, KeepsRules}
 use Rattle.rq_model.proofs.Lists.{same_is, same_self}
 use Rattle.rq_model.proofs.Commits.{only, with_one, no_take, one_take, added_fewer, removed_fewer, commit_is_end}
 

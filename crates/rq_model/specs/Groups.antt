@@ -5,7 +5,8 @@ use Rattle.rq_model.specs.Words.{Op, sent_for, taken_from}
 use Rattle.rq_model.specs.History.{Group, Entry, commits, durable, sends, takes, rest, ended}
 use Rattle.rq_model.specs.Ledger.{tag_of, any_ends}
 use Rattle.rq_model.specs.declared.record.Record.{Record}
-use Rattle.rq_model.specs.Content.{tag_after, committed_of}
+use Rattle.rq_model.specs.Content.{tag_after}
+use Rattle.rq_model.specs.Commits.{committed_of}
 
 -- the committed content of s, by the filters of the history
 abbrev pub group : List Entry → ℕ → Group

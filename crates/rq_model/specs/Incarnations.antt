@@ -5,7 +5,7 @@ use Rattle.rq_model.specs.declared.record.Record.{Record}
 use Rattle.rq_model.specs.declared.record.Record.TheVariants.{PageOp, PageUndo, OpEnd, OpVoid, CompEnd, Commit, Restart, AbortEnd}
 use Rattle.rq_model.specs.Ledger.{Ledger}
 use Rattle.rq_model.specs.Ledger.Phase.{Running}
-use Rattle.rq_model.specs.Content.{committed_of}
+use Rattle.rq_model.specs.Commits.{committed_of}
 
 -- the incarnation that the log's records are of, 0 where it has none
 abbrev pub incarnation_one : Record → ℕ → ℕ

@@ -14,3 +14,7 @@ pub mod Promises
 pub mod Worked
 pub mod WorkedRefusals
 pub mod WorkedLogs
+pub mod Tests
+pub mod Rules
+pub mod Commits
+pub mod Unended

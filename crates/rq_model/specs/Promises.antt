@@ -10,8 +10,11 @@ use Rattle.rq_model.specs.History.Entry.{Started, Acknowledged, Committed, Crash
 use Rattle.rq_model.specs.History.Job.{Sending}
 use Rattle.rq_model.specs.Ledger.{Done, Ledger, ledger, kept_in}
 use Rattle.rq_model.specs.Ledger.Phase.{Shut}
-use Rattle.rq_model.specs.Legal.{Size, Legal, IsLegal}
-use Rattle.rq_model.specs.Content.{content, committed_of, KeepsRules}
+use Rattle.rq_model.specs.Legal.{Legal, IsLegal}
+use Rattle.rq_model.specs.Tests.{Size}
+use Rattle.rq_model.specs.Content.{content}
+use Rattle.rq_model.specs.Commits.{committed_of}
+use Rattle.rq_model.specs.Rules.{KeepsRules}
 use Rattle.rq_model.specs.Groups.{group}
 use Rattle.rq_model.specs.Replay.{Reply, Replays, AllSay}
 use Rattle.rq_model.specs.Incarnations.{incarnation_of, InOrder, Extends, Ties, opened_ledger}

@@ -17,7 +17,8 @@ use Rattle.rq_model.specs.History.Job.{Sending}
 use Rattle.rq_model.specs.History.Entry.{Refused, Ready, Stepped}
 use Rattle.rq_model.specs.Ledger.{Open, Done, Ledger, Phase, runs, after, found, kept_in}
 use Rattle.rq_model.specs.Ledger.Phase.{Running, Shut}
-use Rattle.rq_model.specs.Legal.{Size, Legal, is_aborting, is_busy, NoneHolds, first_of, has_under, ready_tests}
+use Rattle.rq_model.specs.Legal.{Legal}
+use Rattle.rq_model.specs.Tests.{Size, is_aborting, is_busy, NoneHolds, first_of, has_under, ready_tests}
 
 -- a reference runs, or is not open: it has no device that could fail
 abbrev pub phase_of : Bool → Phase

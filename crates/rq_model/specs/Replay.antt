@@ -10,7 +10,8 @@ use Rattle.rq_model.specs.History.Call.{Begin, Start_send, Start_receive, Start_
 use Rattle.rq_model.specs.History.Job.{Sending, Taking, Ending, Undoing}
 use Rattle.rq_model.specs.History.Entry.{Begun, Started, None_free, None_from, Stepped, Ready, Did, Undid, Committed, Acknowledged, Aborting, None_left, Aborted, Handed_over, Forced, Wrote, Told, Shown, Refused}
 use Rattle.rq_model.specs.Ledger.{Ledger, after}
-use Rattle.rq_model.specs.Legal.{Size, Legal}
+use Rattle.rq_model.specs.Legal.{Legal}
+use Rattle.rq_model.specs.Tests.{Size}
 
 -- a transaction, and the place of its Commit record
 pub record Number : Type 0 where

@@ -14,7 +14,8 @@ use Rattle.rq_model.specs.declared.record.Record.TheVariants.{Restart as Restart
 use Rattle.rq_model.specs.Replay.{Reply, Replays}
 use Rattle.rq_model.specs.Replay.Reply.{Gave_txn, Gave_commit}
 use Rattle.rq_model.specs.Promises.{EndsInCrash, EndsInRestart, crash_to}
-use Rattle.rq_model.specs.Legal.{Size, Legal, IsLegal, tests, first_of, below}
+use Rattle.rq_model.specs.Legal.{Legal, IsLegal}
+use Rattle.rq_model.specs.Tests.{Size, tests, first_of, below}
 
 abbrev pub txn : ℕ → ℕ → Txn
 txn i c = record { incarnation = i; count = c }

@@ -8,7 +8,9 @@ use Rattle.rq_model.specs.Words.{same_txn}
 use Rattle.rq_model.specs.Deeds.{spelled_deed}
 use Rattle.rq_model.specs.History.{Group}
 use Rattle.rq_model.specs.Ledger.{group_in}
-use Rattle.rq_model.specs.Content.{KeepsRules, content, with_own, deeds, committed_of, no_group}
+use Rattle.rq_model.specs.Content.{content, with_own, deeds, no_group}
+use Rattle.rq_model.specs.Commits.{committed_of}
+use Rattle.rq_model.specs.Rules.{KeepsRules}
 use Rattle.rq_model.specs.Groups.{commits_left}
 use Rattle.rq_model.specs.Worked.{txn, letter, a_gone, small}
 

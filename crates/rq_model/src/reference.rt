@@ -7,7 +7,8 @@ ghost use Rattle.rq_model.specs.Ledger.{empty, ended_in, found, in_chain, kept_i
 ghost use Rattle.rq_model.specs.Ledger.Phase.{Shut};
 ghost use Rattle.rq_model.specs.Reference.{May, MayBeRefused, next, FindsReady, IsUnready, IsBusy, IsIdle, StandsAt, message_of, op_of, step_entry};
 ghost use Rattle.rq_model.specs.History.Job.{Sending};
-ghost use Rattle.rq_model.specs.Legal.{IsUpTo, Passes, cells_in_use, free_to_send, has_closed, log_full};
+ghost use Rattle.rq_model.specs.Legal.{IsUpTo};
+ghost use Rattle.rq_model.specs.Tests.{Passes, cells_in_use, free_to_send, has_closed, log_full};
 
 use crate::message::{Body, Message};
 use crate::reference::rows::{Act, CommittedTxn, GroupContent, OpenTxn, Work};

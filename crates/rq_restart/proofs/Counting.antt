@@ -3,7 +3,7 @@ use Rattle.std.proofs.Common.{◌≡◌, ℕ, zero, suc, ◌+◌, ◌-◌, ◌/�
 use Rattle.std.proofs.lemmas.Bool.{cases_lt, cases_eq}
 use Rattle.std.proofs.lemmas.Bool.Decides.{nat_tests}
 use Rattle.std.proofs.lemmas.List.{length-map, get_or-map, get_or_past, get_or_append_left, get_or-append_right, ext_get_or}
-use Rattle.rq_model.specs.Legal.{below}
+use Rattle.rq_model.specs.Tests.{below}
 use Rattle.rq_groups.specs.Waiting.{waits, more_waiting}
 use Rattle.rq_groups.proofs.Waits.{waits-more_waiting_same, waits-more_waiting_other}
 use Rattle.rq_page.specs.declared.layout.PageKind.TheVariants as kind

@@ -9,7 +9,8 @@ use Rattle.rq_page.proofs.Formats.{told_sizes}
 use Rattle.rq_disk.specs.declared.device.PageDevice.{Ghosts}
 use Rattle.rq_pool.specs.Reading.{IsSuperblock, IsDamaged, StopsFor}
 use Rattle.rq_store.specs.Opening.{IsLeft}
-use Rattle.rq_restart.specs.Restarting.{IsLeftOn, IsShutFor, Stops}
+use Rattle.rq_restart.specs.Restarting.{IsLeftOn, Stops}
+use Rattle.rq_restart.specs.Refused.{IsShutFor}
 
 -- a superblock tells one size
 pub one_size : (y z : Sizes) (image : List ℕ) → IsSuperblock y image → IsSuperblock z image → y ≡ z

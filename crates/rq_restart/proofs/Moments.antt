@@ -13,7 +13,8 @@ use Rattle.rq_store.specs.Opening.{next_restart}
 use Rattle.rq_restart.specs.Noted.{Analysis, analysis}
 use Rattle.rq_restart.proofs.Restarts.{last_is}
 use Rattle.rq_restart.proofs.Parsing.{one_log, AreSpelled-drop}
-use Rattle.rq_restart.specs.Restarting.{IsRead, IsEnded, IsBegunOn, WasLeftOrIs, BeginsAtMost}
+use Rattle.rq_restart.specs.Restarting.{IsRead, IsBegunOn, WasLeftOrIs, BeginsAtMost}
+use Rattle.rq_restart.specs.Checked.{IsEnded}
 
 -- all but the newest few of a log's records, where the newer ones are behind what was read
 module _ (older : List Record) (r : Record) where

@@ -12,7 +12,8 @@ use Rattle.rq_model.specs.declared.record.Record.{Record}
 use Rattle.rq_model.specs.declared.record.Record.TheVariants as records
 use Rattle.rq_model.specs.Words.{same_txn, has_txn}
 use Rattle.rq_model.specs.Deeds.{deed_in}
-use Rattle.rq_model.specs.Content.{Ending, ending, ending_by, has_end, any_record, operation_ended, has_pair, add_pair, operations, unfinished, add_txn, workers, lost}
+use Rattle.rq_model.specs.Content.{Ending, ending, ending_by, has_end}
+use Rattle.rq_model.specs.Unended.{any_record, operation_ended, has_pair, add_pair, operations, unfinished, add_txn, workers, lost}
 use Rattle.rq_model.proofs.Lists.{same_is}
 use Rattle.rq_page.specs.Sizes.{Sizes}
 use Rattle.rq_level.specs.Legal.{IsLegalLog}

@@ -12,7 +12,8 @@ use Rattle.rq_model.specs.declared.refusal.Refusal.TheVariants as why
 use Rattle.rq_model.specs.declared.refusal.Damage.TheVariants as damage
 use Rattle.rq_page.specs.Sizes.{Sizes}
 use Rattle.rq_restart.specs.Repeating.{Paged}
-use Rattle.rq_restart.specs.Restarting.{IsReadAs, IsShutFor, TellsDamage, IsFirstFault}
+use Rattle.rq_restart.specs.Restarting.{IsReadAs}
+use Rattle.rq_restart.specs.Refused.{IsShutFor, TellsDamage, IsFirstFault}
 
 -- the spellings, the first record's first
 abbrev in_row : List Record → List ℕ

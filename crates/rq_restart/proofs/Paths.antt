@@ -1,7 +1,8 @@
 -- A restart whose pages are only read, and whose log has at most one record more.
 use Rattle.std.proofs.Common.{◌≡◌, ◌⊎◌, ℕ, List, [], ◌∷◌, length, inl, inr, ⊎_elim, refl, sym, ◌∙◌, ap, subst, arith, ◌≤◌, Result, Ok, Err, IfOk, IfErr}
 use Rattle.rq_model.specs.declared.record.Record.{Record}
-use Rattle.rq_model.specs.Content.{unfinished, lost, committed_of}
+use Rattle.rq_model.specs.Unended.{unfinished, lost}
+use Rattle.rq_model.specs.Commits.{committed_of}
 use Rattle.rq_model.specs.Ledger.{Ledger, after}
 use Rattle.rq_model.specs.History.Entry.{Restarted}
 use Rattle.rq_disk.specs.Device.{Images, Leaves}
@@ -11,7 +12,8 @@ use Rattle.rq_pool.specs.Reading.{OnlyRead}
 use Rattle.rq_log.specs.Spelled.{spelled, AreSpelled}
 use Rattle.rq_log.proofs.Moments.{weaker}
 use Rattle.rq_page.specs.Sizes.{Sizes}
-use Rattle.rq_store.specs.Sound.{IsWhole, IsSound}
+use Rattle.rq_store.specs.Sound.{IsSound}
+use Rattle.rq_store.specs.Whole.{IsWhole}
 use Rattle.rq_store.specs.State.{ledger_of}
 use Rattle.rq_store.specs.Opening.{IsLeft, opened, next_restart}
 use Rattle.rq_store.proofs.Fitting.{fits_more}
@@ -19,7 +21,8 @@ use Rattle.rq_store.proofs.Opening.{restarted_whole, opened_after}
 use Rattle.rq_engine.specs.Opened.{OpenStore, pooled}
 use Rattle.rq_restart.specs.declared.restart.Report.{Report}
 use Rattle.rq_restart.specs.declared.restart.Stopped.{Stopped}
-use Rattle.rq_restart.specs.Restarting.{IsReadAs, IsLeftOn, Reports, WasChecked, IsEnded, IsBegunOn, BeginsAtMost}
+use Rattle.rq_restart.specs.Restarting.{IsReadAs, IsLeftOn, Reports, WasChecked, IsBegunOn, BeginsAtMost}
+use Rattle.rq_restart.specs.Checked.{IsEnded}
 use Rattle.rq_restart.specs.Repeating.{paged}
 use Rattle.rq_engine.specs.Devices.{EachPair, Path}
 use Rattle.rq_restart.specs.Underway.{IsSomeStore, IsLeftOrGoesOn, pages_left, log_left}

@@ -6,7 +6,7 @@ use Rattle.rq_model.specs.declared.record.Record.TheVariants as records
 use Rattle.rq_model.specs.declared.refusal.Refusal.{Refusal}
 use Rattle.rq_model.specs.declared.refusal.Refusal.TheVariants as why
 use Rattle.rq_model.specs.declared.refusal.Damage.TheVariants as damage
-use Rattle.rq_model.specs.Content.{unfinished, lost}
+use Rattle.rq_model.specs.Unended.{unfinished, lost}
 use Rattle.rq_page.specs.Sizes.{Sizes, page_count}
 use Rattle.rq_page.specs.Formatted.{IsFormatted, IsHeaderOf}
 use Rattle.rq_disk.specs.declared.device.PageDevice.{Ghosts}
@@ -25,7 +25,9 @@ use Rattle.rq_store.proofs.Opening.{opened_sound}
 use Rattle.rq_store.proofs.Redoing.{redone_slots}
 use Rattle.rq_store.proofs.Bounds.{fits_counted}
 use Rattle.rq_restart.specs.Noted.{Analysis, analysis}
-use Rattle.rq_restart.specs.Restarting.{BeginsNot, IsShutFor, StopsAt, IsBegun, IsEnded, IsGoneThrough, IsBeyond, ShutFor, LogStops, IsRefusedFor, WasChecked, as_read}
+use Rattle.rq_restart.specs.Restarting.{IsBegun, LogStops, IsRefusedFor, WasChecked}
+use Rattle.rq_restart.specs.Refused.{BeginsNot, IsShutFor, StopsAt, ShutFor}
+use Rattle.rq_restart.specs.Checked.{IsEnded, IsGoneThrough, IsBeyond, as_read}
 use Rattle.rq_restart.specs.Repeating.{Paged, paged, Repeats, AreCounted, IsFirstBad, IsFirstUncounted}
 use Rattle.rq_restart.proofs.Noting.{noted_incarnation, noted_unfinished, noted_working, no_pairs, pairs_of, few_incarnations}
 

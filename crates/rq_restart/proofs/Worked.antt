@@ -11,7 +11,7 @@ use Rattle.rq_page.specs.Pages.{lsn_of, slot_of}
 use Rattle.rq_record.specs.Spelling.{spelling}
 use Rattle.rq_record.proofs.Whole.{long_spelling}
 use Rattle.rq_log.specs.Spelled.{spelled, AreSpelled}
-use Rattle.rq_store.specs.Sound.{IsWhole}
+use Rattle.rq_store.specs.Whole.{IsWhole}
 use Rattle.rq_store.specs.Fitting.{AllFit}
 use Rattle.rq_store.proofs.Cutting.{fits_log}
 use Rattle.std.proofs.lemmas.Bool.{true≢false}
@@ -19,7 +19,7 @@ use Rattle.rq_model.specs.Content.{has_end}
 use Rattle.rq_model.proofs.Lists.{same_self}
 use Rattle.rq_level.specs.Row.{stopped, restarted}
 use Rattle.rq_store.specs.Worked.{spelled_log}
-use Rattle.rq_restart.specs.Restarting.{IsEnded}
+use Rattle.rq_restart.specs.Checked.{IsEnded}
 use Rattle.rq_restart.specs.Repeating.{Paged, Repeats}
 use Rattle.rq_engine.specs.Devices.{EachPair}
 use Rattle.rq_restart.specs.Underway.{IsSomeStore}

@@ -5,3 +5,5 @@ pub mod Restarting
 pub mod Underway
 pub mod Ended
 pub mod Once
+pub mod Checked
+pub mod Refused

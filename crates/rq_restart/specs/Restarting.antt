@@ -1,14 +1,12 @@
 -- What a restart finds.
-use Rattle.std.specs.Prelude.{◌≡◌, ◌⊎◌, ℕ, ◌+◌, ◌%◌, ◌^◌, ◌<◌, ◌≤◌, false, List, [], ◌∷◌, length, replicate}
+use Rattle.std.specs.Prelude.{◌≡◌, ◌⊎◌, ℕ, ◌+◌, ◌%◌, ◌^◌, ◌<◌, ◌≤◌, false, List, [], ◌∷◌, length}
 use Rattle.rq_model.specs.declared.record.Record.{Record}
 use Rattle.rq_model.specs.declared.refusal.Refusal.{Refusal}
 use Rattle.rq_model.specs.declared.refusal.Refusal.TheVariants as why
-use Rattle.rq_model.specs.declared.refusal.Damage.TheVariants as damage
 use Rattle.rq_groups.specs.Waiting.{waits}
 use Rattle.rq_page.specs.Sizes.{Sizes, page_count, sender_count}
 use Rattle.rq_model.specs.Incarnations.{incarnation_of}
-use Rattle.rq_store.specs.Fitting.{image_in}
-use Rattle.rq_model.specs.Content.{unfinished, lost}
+use Rattle.rq_model.specs.Unended.{unfinished, lost}
 use Rattle.rq_disk.specs.Device.{Only}
 use Rattle.rq_disk.specs.declared.device.LogDevice as log_device
 use Rattle.rq_disk.specs.declared.device.PageDevice as page_device
@@ -19,73 +17,9 @@ use Rattle.rq_log.specs.Logged.{Logged, WasDurable}
 use Rattle.rq_log.specs.Crash.{LeavesOnly}
 use Rattle.rq_log.specs.Spelled.{spelled, AreSpelled}
 use Rattle.rq_store.specs.Opening.{IsLeft, next_restart, waiting_in}
-use Rattle.rq_restart.specs.Noted.{analysis}
-use Rattle.rq_restart.specs.Repeating.{Paged, Repeats, AreCounted, IsFirstBad, IsFirstUncounted}
-
--- going through a log stops where memory is wanting, or where the store was not left so
-abbrev pub StopsIn : Type 0 → Refusal → Type 0
-StopsIn left why.NoMemory = Unit {0}
-StopsIn left (why.Damaged d) = left → ⊥
-StopsIn left _ = ⊥
-
--- why going through a log stopped, and at which record
-abbrev pub StopsAt : Sizes → List Record → Paged → Refusal → Type 0
-StopsAt z log first why.NoMemory = Unit {0}
-StopsAt z log first (why.Damaged (damage.Record lsn)) = IsFirstBad z log first lsn
-StopsAt z log first _ = ⊥
-
--- why no incarnation was begun over a log, with the failures of its device before and after it, and that it was left
--- alone
-abbrev pub BeginsNot : Refusal → ℕ → ℕ → ℕ → ℕ → Type 0 → Type 0
-BeginsNot why.NoMemory records last before now untouched = (now ≡ before) × untouched
-BeginsNot why.LogFull records last before now untouched = ((2 ^ 50 ≤ records) ⊎ (2 ^ 64 ≤ last + 1)) × untouched
-BeginsNot why.DiskWrite records last before now untouched = now ≡ (before + 1) % 2 ^ 64
-BeginsNot _ records last before now untouched = ⊥
-
--- every operation and every transaction in the log has its end
-abbrev pub IsEnded : List Record → Type 0
-IsEnded log = ((analysis log).unfinished ≡ []) × ((analysis log).working ≡ [])
-
--- The log was gone through on the pages: each record belonged where it stood and was repeated, and no number of a page
--- is beyond the log, neither as the pages were read nor then.
-pub record IsGoneThrough (z : Sizes) (log : List Record) (first last : Paged) : Type 0 where
-  pub repeated : Repeats z log first last
-  pub counted_read : AreCounted z (length log) first
-  pub counted : AreCounted z (length log) last
-
-abbrev pub WasGoneThrough : Sizes → List Record → Paged → Type 0
-WasGoneThrough z log first = (last : Paged) × IsGoneThrough z log first last
-
--- This page is the first with a number beyond the log as the pages were read, or where none had one then, once history
--- was repeated.
-pub record IsBeyond (z : Sizes) (log : List Record) (first : Paged) (page : ℕ) : Type 0 where
-  pub last : Paged
-  pub repeated : Repeats z log first last
-  pub beyond : IsFirstUncounted z (length log) first page
-      ⊎ (AreCounted z (length log) first × IsFirstUncounted z (length log) last page)
-
--- Why a store over this log was not opened, and where; with the failures of the log's device before and after it, and
--- that it was left alone.
-abbrev pub ShutFor : Sizes → List Record → Paged → Refusal → ℕ → ℕ → Type 0 → Type 0
-ShutFor z log first why.NoMemory before now untouched = (now ≡ before) × untouched
-ShutFor z log first why.LogFull before now untouched = (2 ^ 50 ≤ length log) × IsEnded log × WasGoneThrough z log first
-    × untouched
-ShutFor z log first why.DiskWrite before now untouched = (now ≡ (before + 1) % 2 ^ 64) × IsEnded log
-    × WasGoneThrough z log first
-ShutFor z log first why.Unfinished before now untouched = (IsEnded log → ⊥) × WasGoneThrough z log first × untouched
-ShutFor z log first (why.Damaged (damage.Record lsn)) before now untouched = IsFirstBad z log first lsn × untouched
-ShutFor z log first (why.Damaged (damage.Page page)) before now untouched = IsBeyond z log first page × untouched
-ShutFor z log first _ before now untouched = ⊥
-
--- why a store over this log was not opened, with the failures of the log's device before and after it
-abbrev pub IsShutFor : Type 0 → List Record → Refusal → ℕ → ℕ → Type 0
-IsShutFor left log why.NoMemory before now = now ≡ before
-IsShutFor left log why.LogFull before now = left → 2 ^ 50 ≤ length log
-IsShutFor left log why.DiskRead before now = now ≡ (before + 1) % 2 ^ 64
-IsShutFor left log why.DiskWrite before now = now ≡ (before + 1) % 2 ^ 64
-IsShutFor left log why.Unfinished before now = left → unfinished log ≡ [] → lost log ≡ [] → ⊥
-IsShutFor left log (why.Damaged d) before now = left → ⊥
-IsShutFor left log _ before now = ⊥
+use Rattle.rq_restart.specs.Repeating.{Paged}
+use Rattle.rq_restart.specs.Checked.{IsEnded, IsGoneThrough, as_read}
+use Rattle.rq_restart.specs.Refused.{ShutFor, IsFirstFault}
 
 -- the log has one record more, which begins the incarnation after the last, and all its records are forced
 pub record IsBegun {L : Type 0} (older : List Record) (log : Logged L) : Type 0 where
@@ -146,21 +80,6 @@ pub record IsBegunOn (read bytes : List ℕ) : Type 0 where
   pub ended : IsEnded older
   pub is : bytes ≡ spelled (next_restart older ∷ older)
 
--- it is told as damage
-abbrev pub TellsDamage : Refusal → Type 0
-TellsDamage (why.Damaged d) = Unit {0}
-TellsDamage _ = ⊥
-
-abbrev pub WasRepeated : Sizes → List Record → Paged → Type 0
-WasRepeated z log first = (last : Paged) × Repeats z log first last
-
--- Of a log whose reading stopped for the one refusal behind these records, the other is answered: damage behind them is
--- told only where all of them belong.
-abbrev pub IsFirstFault : Sizes → List Record → Paged → Refusal → Refusal → Type 0
-IsFirstFault z front first stopped told =
-    ((told ≡ stopped) × (TellsDamage stopped → WasRepeated z front first))
-    ⊎ (TellsDamage stopped × StopsAt z front first told)
-
 module _ {L : Type 0} (g : log_device.Ghosts L) where
   -- a crash might have left it of the log before, or it is these records, of which this is so
   abbrev pub WasLeftOrIs : L → Type 0 → List Record → List ℕ → Type 0
@@ -184,10 +103,6 @@ module _ {L : Type 0} (g : log_device.Ghosts L) where
       × IsFirstFault z front first stopped e × IsRead old new)
       ⊎ ((older : List Record) × AreSpelled older × (g.honest new → g.seen old ≡ spelled older)
       × ShutFor z older first e (g.faults old) (g.faults new) (IsRead old new))
-
--- the pages as they were read, none of which counts as changed
-abbrev pub as_read : Sizes → List (List ℕ) → Paged
-as_read z images = record { image = image_in images; changed = replicate (page_count z) false }
 
 module _ {P L : Type 0} (p : page_device.Ghosts P) (l : log_device.Ghosts L) (pages : P) (log : L) where
   -- Why a restart was refused, and where: the pages could not be read, and the log was left alone; or they were all

@@ -8,7 +8,7 @@ ghost use Rattle.rq_store.specs.Opening.{IsRedone, Redoes, IsSoundTold, MayRedo,
 ghost use Rattle.rq_store.specs.Fitting.{HoldsRecord, told_by, image_in};
 ghost use Rattle.rq_restart.specs.Noted.{analysis};
 ghost use Rattle.rq_restart.specs.Repeating.{paged, Repeats, Marks, IsMarked};
-ghost use Rattle.rq_restart.specs.Restarting.{StopsIn, StopsAt, IsFirstFault};
+ghost use Rattle.rq_restart.specs.Refused.{StopsIn, StopsAt, IsFirstFault};
 
 use crate::history::History;
 use rq_disk::PageDevice;

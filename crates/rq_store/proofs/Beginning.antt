@@ -6,7 +6,7 @@ use Rattle.rq_model.specs.declared.txn.Txn.{Txn}
 use Rattle.rq_model.specs.declared.record.Record.{Record}
 use Rattle.rq_model.specs.Words.{In, same_txn, is_some}
 use Rattle.rq_model.specs.Ledger.{Open, after, fresh_one, runs}
-use Rattle.rq_model.specs.Legal.{pending}
+use Rattle.rq_model.specs.Tests.{pending}
 use Rattle.rq_model.specs.History.Entry.{Begun}
 use Rattle.rq_model.specs.History.Call.{Begin}
 use Rattle.rq_model.specs.Replay.Reply.{Gave_txn}
@@ -21,7 +21,8 @@ use Rattle.rq_txn.specs.Rows.{Row, found_row, fresh_row}
 use Rattle.rq_groups.specs.declared.Held.{Held}
 use Rattle.rq_groups.specs.Ends.{has_held, held_by}
 use Rattle.rq_store.specs.State.{State, ledger_of, open_of, open_ones_of, phase_of}
-use Rattle.rq_store.specs.Sound.{IsSound, IsRow, AreEnds, apart, takes_in, IsCovered}
+use Rattle.rq_store.specs.Sound.{IsSound, AreEnds, apart, takes_in}
+use Rattle.rq_store.specs.Rows.{IsRow, IsCovered}
 use Rattle.rq_store.specs.Steps.{Steps}
 use Rattle.rq_store.proofs.RowLists.{found_in, some_not_none}
 use Rattle.rq_store.proofs.Others.{row_over}

@@ -26,7 +26,7 @@ use Rattle.rq_level.specs.InStore.{InStore, InStoreOne}
 use Rattle.rq_level.proofs.Overlay.{put_at, put_off}
 use Rattle.rq_level.proofs.Stands.{page_of_cells, page_of_directory}
 use Rattle.rq_store.specs.Fitting.{left_by, oldest, told_by, FitsPage}
-use Rattle.rq_store.specs.Sound.{BeforesAreSlots}
+use Rattle.rq_store.specs.Whole.{BeforesAreSlots}
 use Rattle.rq_store.specs.Opening.{FitsUpTo, IsBeforeIn, IsSoundTold, IsSoundWrite, MayRedo, IsCounted}
 use Rattle.rq_store.proofs.Redoing.{oldest_legal, oldest_store, before_is}
 

@@ -9,8 +9,9 @@ use Rattle.rq_model.specs.declared.record.Deed.{Deed}
 use Rattle.rq_model.specs.declared.record.Deed.TheVariants.{Append, UnlinkHead, Close}
 use Rattle.rq_model.specs.Words.{In, same_txn, has_txn, sent_for, taken_from, ends}
 use Rattle.rq_model.specs.Ledger.{Open, in_chain, own_sends, own_takes, ended_in, any_ends}
-use Rattle.rq_model.specs.Legal.{has_closed}
-use Rattle.rq_model.specs.Content.{said, op_of, ops_told, added, removed, closed, committed_of}
+use Rattle.rq_model.specs.Tests.{has_closed}
+use Rattle.rq_model.specs.Content.{said, added, removed, closed}
+use Rattle.rq_model.specs.Commits.{op_of, ops_told, committed_of}
 use Rattle.rq_model.proofs.Told.{told_taken, told_ends}
 use Rattle.rq_page.specs.Sizes.{sender_count}
 use Rattle.rq_level.specs.Legal.{open_deeds, view, under_way}
@@ -27,7 +28,8 @@ use Rattle.rq_level.proofs.Views.{views}
 use Rattle.rq_txn.specs.declared.Finished.{Finished}
 use Rattle.rq_txn.specs.Rows.{Row, found_row, AreDistinct, any_under}
 use Rattle.rq_store.specs.State.{State, ledger_of, open_of, open_ones_of, op_done}
-use Rattle.rq_store.specs.Sound.{IsSound, Moves, AllMove, is_under}
+use Rattle.rq_store.specs.Sound.{IsSound}
+use Rattle.rq_store.specs.Rows.{Moves, AllMove, is_under}
 use Rattle.rq_store.specs.Fitting.{left_by}
 use Rattle.rq_store.proofs.Grouping.{groups_of}
 use Rattle.rq_store.proofs.RowLists.{found_in, none_under}

@@ -13,8 +13,9 @@ use Rattle.rq_model.specs.Counts.{is_taken, AllBelow}
 use Rattle.rq_model.specs.declared.record.Deed.{Deed}
 use Rattle.rq_model.specs.declared.record.Deed.TheVariants.{Append, UnlinkHead, Close}
 use Rattle.rq_model.specs.Ledger.{rest_in, Open, Done, after, found, without, ops_of, runs, kept_in}
-use Rattle.rq_model.specs.Legal.{count_rest, below, pending, is_sent, is_sending, is_aborting, is_busy, log_full}
-use Rattle.rq_model.specs.Content.{has_end, committed_of, told}
+use Rattle.rq_model.specs.Tests.{count_rest, below, pending, is_sent, is_sending, is_aborting, is_busy, log_full}
+use Rattle.rq_model.specs.Content.{has_end}
+use Rattle.rq_model.specs.Commits.{committed_of, told}
 use Rattle.rq_model.specs.History.Entry.{Committed}
 use Rattle.rq_model.specs.History.Call.{Commit}
 use Rattle.rq_model.specs.Replay.Reply.{Gave_commit}
@@ -31,7 +32,9 @@ use Rattle.rq_groups.specs.Ends.{HeldEnds}
 use Rattle.rq_groups.specs.Waiting.{waits}
 use Rattle.rq_store.proofs.Begun.{begun_more}
 use Rattle.rq_store.specs.State.{State, ledger_of, open_of, open_ones_of, job_under, op_done, phase_of}
-use Rattle.rq_store.specs.Sound.{IsSound, IsWhole, IsRow, FollowsPlan, IsAsPlanned, IsSettled, is_under, apart, appending, takes_one, takes_in, sends_in, HasWaiting, IsCovered}
+use Rattle.rq_store.specs.Sound.{IsSound, IsSettled, apart, appending, takes_one, takes_in, sends_in}
+use Rattle.rq_store.specs.Rows.{IsRow, FollowsPlan, IsAsPlanned, is_under, HasWaiting, IsCovered}
+use Rattle.rq_store.specs.Whole.{IsWhole}
 use Rattle.rq_store.specs.Fitting.{image_in}
 use Rattle.rq_store.specs.Steps.{Steps}
 use Rattle.rq_store.proofs.Fitting.{fits_more}

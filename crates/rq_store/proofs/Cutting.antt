@@ -7,7 +7,7 @@ use Rattle.rq_page.specs.Sizes.{Sizes}
 use Rattle.rq_page.specs.Pages.{lsn_of}
 use Rattle.rq_page.specs.Formatted.{IsFormatted, IsHeaderOf}
 use Rattle.rq_store.specs.Fitting.{oldest, IsStamp, HoldsPage, FitsPage, FitsLog, AllFit}
-use Rattle.rq_store.specs.Sound.{IsWhole}
+use Rattle.rq_store.specs.Whole.{IsWhole}
 use Rattle.rq_store.specs.Steps.{Continues}
 use Rattle.rq_store.proofs.Fitting.{page_fits_more}
 

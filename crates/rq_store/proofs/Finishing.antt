@@ -13,8 +13,11 @@ use Rattle.rq_model.specs.declared.message.Message.{Message}
 use Rattle.rq_model.specs.Words.{In, Op, same_txn, is_some, taken_from}
 use Rattle.rq_model.specs.Deeds.{deed_in, spelled_deed}
 use Rattle.rq_model.specs.Ledger.{Open, after, done_more, change, found, rest_in, runs}
-use Rattle.rq_model.specs.Legal.{count_rest, below, pending, is_sent, is_sending, has_under, steps_left, OnFound, IsDoneBy}
-use Rattle.rq_model.specs.Content.{said, kept, op_of, has_end, has_commit, added, removed, deeds, MayEnd, EndingMay, ending_by, committed_of}
+use Rattle.rq_model.specs.Legal.{OnFound, IsDoneBy}
+use Rattle.rq_model.specs.Tests.{count_rest, below, pending, is_sent, is_sending, has_under, steps_left}
+use Rattle.rq_model.specs.Content.{said, kept, has_end, has_commit, added, removed, deeds, ending_by}
+use Rattle.rq_model.specs.Commits.{op_of, committed_of}
+use Rattle.rq_model.specs.Rules.{MayEnd, EndingMay}
 use Rattle.rq_model.specs.History.Entry.{Did}
 use Rattle.rq_model.specs.History.Call.{Finish}
 use Rattle.rq_model.specs.Replay.{Says}
@@ -41,7 +44,9 @@ use Rattle.rq_groups.specs.Ends.{HeldEnds, has_held}
 use Rattle.rq_groups.specs.Waiting.{waits}
 use Rattle.rq_store.proofs.Begun.{begun_more}
 use Rattle.rq_store.specs.State.{State, ledger_of, open_of, open_ones_of, job_of, job_under, left_under, op_done, phase_of}
-use Rattle.rq_store.specs.Sound.{IsSound, IsWhole, IsRow, FollowsPlan, IsSettled, HoldsFor, AllHeld, AllMove, Moves, HasWaiting, IsCovered, placed, placed_one, is_under, apart, appending, takes_one, takes_in}
+use Rattle.rq_store.specs.Sound.{IsSound, IsSettled, apart, appending, takes_one, takes_in}
+use Rattle.rq_store.specs.Rows.{IsRow, FollowsPlan, HoldsFor, AllHeld, AllMove, Moves, HasWaiting, IsCovered, placed, placed_one, is_under}
+use Rattle.rq_store.specs.Whole.{IsWhole}
 use Rattle.rq_store.specs.Fitting.{left_by, image_in}
 use Rattle.rq_store.specs.Steps.{Steps, op_end, gave_done, took}
 use Rattle.rq_store.proofs.Fitting.{fits_more}

@@ -25,7 +25,8 @@ use Rattle.rq_level.proofs.Views.{good, quiet_views}
 use Rattle.rq_chain.specs.Writes.{writes_of}
 use Rattle.rq_txn.specs.Rows.{Row, Under, found_row}
 use Rattle.rq_store.specs.State.{State}
-use Rattle.rq_store.specs.Sound.{IsSound, Moves, is_under}
+use Rattle.rq_store.specs.Sound.{IsSound}
+use Rattle.rq_store.specs.Rows.{Moves, is_under}
 use Rattle.rq_store.specs.Fitting.{left_by}
 use Rattle.rq_store.proofs.RowLists.{found_in}
 use Rattle.rq_store.proofs.Working.{going_at}

@@ -9,7 +9,7 @@ use Rattle.rq_model.specs.declared.refusal.Refusal.{Refusal}
 use Rattle.rq_model.specs.declared.refusal.Refusal.TheVariants.{DiskWrite}
 use Rattle.rq_model.specs.Ledger.{Done, after, runs, kept_in}
 use Rattle.rq_model.specs.Legal.{LegalRefusal}
-use Rattle.rq_model.specs.Content.{committed_of, told}
+use Rattle.rq_model.specs.Commits.{committed_of, told}
 use Rattle.rq_model.specs.History.{Call}
 use Rattle.rq_model.specs.History.Entry.{Forced, Handed_over, Acknowledged, Refused}
 use Rattle.rq_model.specs.History.Call.{Force, Hand_over, Acknowledge}

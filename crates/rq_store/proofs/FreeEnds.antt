@@ -4,7 +4,7 @@ use Rattle.std.proofs.lemmas.Bool.{cases_Bool, false≢true, true≢false, false
 use Rattle.rq_model.specs.declared.txn.Txn.{Txn}
 use Rattle.rq_model.specs.Words.{In, is_some, same_txn, has_number}
 use Rattle.rq_model.specs.Ledger.{Open}
-use Rattle.rq_model.specs.Legal.{free_of, free_to_send, free_to_receive}
+use Rattle.rq_model.specs.Tests.{free_of, free_to_send, free_to_receive}
 use Rattle.rq_model.proofs.Lists.{same_is, same_self, not_same}
 use Rattle.rq_txn.specs.Rows.{Row, found_row}
 use Rattle.rq_groups.specs.declared.Held.{Held}

@@ -5,7 +5,7 @@ use Rattle.rq_page.specs.Sizes.{Sizes}
 use Rattle.rq_level.specs.Groups.{KeepsGroups}
 use Rattle.rq_level.specs.Items.{items}
 use Rattle.rq_level.proofs.Rules.{rules_groups}
-use Rattle.rq_store.specs.Sound.{IsWhole}
+use Rattle.rq_store.specs.Whole.{IsWhole}
 
 pub groups_of : (z : Sizes) (log : List Record) → IsWhole z log → KeepsGroups (items z log)
 groups_of z log w = rules_groups z log w.legal w.rules w.reads w.told

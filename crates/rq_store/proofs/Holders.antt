@@ -6,7 +6,8 @@ use Rattle.rq_model.specs.declared.txn.Txn.{Txn}
 use Rattle.rq_model.specs.declared.record.Deed.{Deed}
 use Rattle.rq_model.specs.declared.record.Deed.TheVariants.{Append, UnlinkHead, Close}
 use Rattle.rq_model.specs.Words.{same_txn}
-use Rattle.rq_model.specs.Content.{said, deeds, has_end, holds, any_use, uses_send, uses_receive}
+use Rattle.rq_model.specs.Content.{said, deeds, has_end}
+use Rattle.rq_model.specs.Rules.{holds, any_use, uses_send, uses_receive}
 use Rattle.rq_level.specs.Legal.{Placed, open_deeds}
 use Rattle.rq_level.specs.Groups.{on_sending_end, on_receiving_end, side, Alone}
 use Rattle.rq_level.specs.Items.{items, has_undone}
@@ -16,7 +17,8 @@ use Rattle.rq_txn.specs.declared.Finished.{Finished}
 use Rattle.rq_txn.specs.Rows.{Row, found_row}
 use Rattle.rq_groups.specs.Ends.{HeldEnds, has_held}
 use Rattle.rq_store.specs.State.{State}
-use Rattle.rq_store.specs.Sound.{IsSound, HoldsFor, AllHeld, placed, placed_one}
+use Rattle.rq_store.specs.Sound.{IsSound}
+use Rattle.rq_store.specs.Rows.{HoldsFor, AllHeld, placed, placed_one}
 use Rattle.rq_store.proofs.RowLists.{found_in}
 
 pub map_join : {X Y : Type 0} (g : X → Y) (xs ys : List X) → map g (xs ++ ys) ≡ map g xs ++ map g ys

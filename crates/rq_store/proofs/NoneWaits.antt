@@ -6,7 +6,8 @@ use Rattle.rq_model.specs.Words.{In}
 use Rattle.rq_model.specs.History.Entry.{None_free, None_from}
 use Rattle.rq_model.specs.History.Call.{Start_receive, Start_receive_from}
 use Rattle.rq_model.specs.Ledger.{Open, found}
-use Rattle.rq_model.specs.Legal.{OnFound, Passes, below, holds_for, free_to_receive, gives, any_gives}
+use Rattle.rq_model.specs.Legal.{OnFound}
+use Rattle.rq_model.specs.Tests.{Passes, below, holds_for, free_to_receive, gives, any_gives}
 use Rattle.rq_model.specs.Replay.Reply.{Gave_none}
 use Rattle.rq_page.specs.Sizes.{sender_count}
 use Rattle.rq_txn.specs.Rows.{Row, found_row}

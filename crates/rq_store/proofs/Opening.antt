@@ -14,8 +14,10 @@ use Rattle.rq_model.specs.Words.{same_txn, has_txn}
 use Rattle.rq_model.specs.Deeds.{deed_in}
 use Rattle.rq_model.specs.Ledger.{Done, Ledger, after, rest_in, kept_in}
 use Rattle.rq_model.specs.History.Entry.{Restarted}
-use Rattle.rq_model.specs.Legal.{below, count_rest}
-use Rattle.rq_model.specs.Content.{Ending, ending, ending_by, kept, deeds, has_end, any_record, operation_ended, has_pair, add_pair, operations, unfinished, add_txn, workers, lost, committed_of}
+use Rattle.rq_model.specs.Tests.{below, count_rest}
+use Rattle.rq_model.specs.Content.{Ending, ending, ending_by, kept, deeds, has_end}
+use Rattle.rq_model.specs.Unended.{any_record, operation_ended, has_pair, add_pair, operations, unfinished, add_txn, workers, lost}
+use Rattle.rq_model.specs.Commits.{committed_of}
 use Rattle.rq_model.proofs.Lists.{same_is}
 use Rattle.rq_page.specs.Sizes.{Sizes, IsInRange, address, cell_count, cell_at, sender_count, directory_at}
 use Rattle.rq_page.specs.Slots.{held_in}
@@ -40,7 +42,8 @@ use Rattle.rq_groups.specs.Waiting.{waits}
 use Rattle.rq_store.proofs.Begun.{begun_all}
 use Rattle.rq_store.specs.State.{ledger_of}
 use Rattle.rq_model.specs.Incarnations.{InOrder, IsNext, incarnation_of, incarnation_one}
-use Rattle.rq_store.specs.Sound.{IsSound, IsWhole, IsSettled}
+use Rattle.rq_store.specs.Sound.{IsSound, IsSettled}
+use Rattle.rq_store.specs.Whole.{IsWhole}
 use Rattle.rq_store.specs.Fitting.{left_by, image_in, FitsLog}
 use Rattle.rq_store.specs.Opening.{next_restart, opened, messages_told, waiting_in}
 use Rattle.rq_store.proofs.Fitting.{fits_more}

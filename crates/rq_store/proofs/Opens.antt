@@ -7,7 +7,7 @@ use Rattle.rq_model.specs.declared.txn.Txn.{Txn}
 use Rattle.rq_model.proofs.Lists.{same_is, not_same}
 use Rattle.rq_model.specs.Words.{In, same_txn, is_some}
 use Rattle.rq_model.specs.Ledger.{Open, found, change, without}
-use Rattle.rq_model.specs.Legal.{any_busy, owed}
+use Rattle.rq_model.specs.Tests.{any_busy, owed}
 use Rattle.rq_txn.specs.Rows.{Row, Under, found_row, change_row, without_row, any_under}
 use Rattle.rq_groups.specs.Ends.{HeldEnds}
 use Rattle.rq_store.specs.State.{open_of, open_ones_of, job_under, owed_one, owed_by, owed_under}

@@ -18,7 +18,7 @@ use Rattle.rq_txn.specs.Rows.{Row, Under, found_row, AreDistinct, change_row, ch
 use Rattle.rq_store.specs.State.{open_of, open_ones_of}
 use Rattle.std.proofs.lemmas.Option.{same_Some}
 use Rattle.rq_groups.specs.Ends.{HeldEnds}
-use Rattle.rq_store.specs.Sound.{IsRow, IsAsPlanned, AllHeld, unmade}
+use Rattle.rq_store.specs.Rows.{IsRow, IsAsPlanned, AllHeld, unmade}
 
 -- a row with nothing under way is sound over any log that says the same of its transaction
 pub record SaysSame (z : Sizes) (log new : List Record) (ends after : HeldEnds) (r : Row) : Type 0 where

@@ -20,7 +20,7 @@ use Rattle.rq_level.specs.Stored.{IsStoreSlot, slots_in, slot_at}
 use Rattle.rq_level.proofs.Overlay.{put_at, put_off}
 use Rattle.rq_level.proofs.Stands.{slots_stand, page_of_cells, page_of_directory}
 use Rattle.rq_store.specs.Fitting.{left_by, oldest, HoldsRecord, told_by, IsOfPage, IsStamp, HoldsPage, FitsPage, FitsLog, image_in}
-use Rattle.rq_store.specs.Sound.{BeforesAreSlots}
+use Rattle.rq_store.specs.Whole.{BeforesAreSlots}
 use Rattle.rq_store.specs.Opening.{FitsPageUpTo, FitsUpTo, Redoes, next_restart}
 use Rattle.rq_store.proofs.Fitting.{oldest_all, page_fits_more}
 use Rattle.rq_store.proofs.Stepping.{address_is}

@@ -11,7 +11,8 @@ use Rattle.rq_txn.specs.Rows.{Row, without_row}
 use Rattle.rq_groups.specs.declared.Held.{Held}
 use Rattle.rq_groups.specs.Ends.{HeldEnds, has_held, held_by, released}
 use Rattle.rq_store.specs.State.{open_of}
-use Rattle.rq_store.specs.Sound.{AreEnds, HoldsFor, AllHeld}
+use Rattle.rq_store.specs.Sound.{AreEnds}
+use Rattle.rq_store.specs.Rows.{HoldsFor, AllHeld}
 use Rattle.rq_store.proofs.RowLists.{not_txn, found_gone}
 
 -- what is left when t's are released

@@ -20,7 +20,8 @@ use Rattle.rq_txn.specs.declared.Finished.{Finished}
 use Rattle.rq_txn.specs.Rows.{Row, found_row, AreDistinct}
 use Rattle.rq_store.specs.Fitting.{left_by}
 use Rattle.rq_store.specs.State.{State}
-use Rattle.rq_store.specs.Sound.{IsSound, placed_one, takes_one, appending, apart}
+use Rattle.rq_store.specs.Sound.{IsSound, takes_one, appending, apart}
+use Rattle.rq_store.specs.Rows.{placed_one}
 use Rattle.rq_store.proofs.RowLists.{in_found, some_not_none}
 
 none_taken : (xs : List Owned) → ((x : Owned) → In x xs → ⊥) → taken xs ≡ 0

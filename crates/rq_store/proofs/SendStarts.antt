@@ -9,9 +9,10 @@ use Rattle.rq_model.specs.declared.record.Deed.TheVariants.{Append, UnlinkHead, 
 use Rattle.rq_model.specs.declared.record.Record.{Record}
 use Rattle.rq_model.specs.Words.{In, is_some}
 use Rattle.rq_model.specs.History.Job.{Sending}
-use Rattle.rq_model.specs.Content.{committed_of}
+use Rattle.rq_model.specs.Commits.{committed_of}
 use Rattle.rq_model.specs.Ledger.{ended_in, Open, after, started, writes, found, in_chain, add_number}
-use Rattle.rq_model.specs.Legal.{OnFound, Passes, has_closed}
+use Rattle.rq_model.specs.Legal.{OnFound}
+use Rattle.rq_model.specs.Tests.{Passes, has_closed}
 use Rattle.rq_model.specs.History.Entry.{Started}
 use Rattle.rq_model.specs.History.Call.{Start_send}
 use Rattle.rq_model.specs.Replay.Reply.{Gave_sub}
@@ -32,7 +33,8 @@ use Rattle.rq_txn.specs.Rows.{Row, Under, found_row, change_row, row_started, an
 use Rattle.rq_groups.specs.Ends.{HeldEnds, held_by, with_held, is_free_for}
 use Rattle.rq_groups.proofs.Holders.{held_with_same, held_with_other}
 use Rattle.rq_store.specs.State.{State, ledger_of, size_of, open_of, open_ones_of, job_of, left_under}
-use Rattle.rq_store.specs.Sound.{IsSound, HoldsFor, Moves, HasWaiting}
+use Rattle.rq_store.specs.Sound.{IsSound}
+use Rattle.rq_store.specs.Rows.{HoldsFor, Moves, HasWaiting}
 use Rattle.rq_store.specs.Fitting.{left_by}
 use Rattle.rq_store.specs.Plans.{IsSendPlan, Stands_at}
 use Rattle.rq_store.specs.Steps.{Steps}

@@ -10,7 +10,7 @@ use Rattle.rq_level.specs.Items.{items, item_of, told_deed}
 use Rattle.rq_level.specs.Log.{Item}
 use Rattle.rq_level.specs.Log.Item.{PageOp, PageUndo, OpEnd, OpVoid, CompEnd, Commit, AbortEnd, Restart}
 use Rattle.rq_level.specs.Plans.{deed_sender}
-use Rattle.rq_store.specs.Sound.{BeforesAreSlots, IsBefore}
+use Rattle.rq_store.specs.Whole.{BeforesAreSlots, IsBefore}
 use Rattle.rq_store.specs.Worked.{record_of, spelled_log}
 use Rattle.rq_store.proofs.Stepping.{address_is}
 

@@ -11,7 +11,7 @@ use Rattle.rq_model.specs.Deeds.{deed_in, spelled_deed}
 use Rattle.rq_model.specs.Words.{In, same_txn, is_some}
 use Rattle.rq_model.specs.History.{Job}
 use Rattle.rq_model.specs.Ledger.{Open, after, started, writes}
-use Rattle.rq_model.specs.Legal.{pending, is_sent, is_sending}
+use Rattle.rq_model.specs.Tests.{pending, is_sent, is_sending}
 use Rattle.rq_model.specs.History.Entry.{Started}
 use Rattle.rq_model.proofs.Lists.{same_is, same_self}
 use Rattle.rq_page.specs.Sizes.{Sizes, cell_count, sender_count}
@@ -35,7 +35,8 @@ use Rattle.rq_groups.specs.declared.Held.{Held}
 use Rattle.rq_groups.specs.Ends.{HeldEnds, has_held, with_held, is_free_for}
 use Rattle.rq_groups.specs.Waiting.{waits}
 use Rattle.rq_store.specs.State.{State, ledger_of, open_of, open_ones_of, op_done, job_of, job_under}
-use Rattle.rq_store.specs.Sound.{IsSound, IsRow, FollowsPlan, AreEnds, HoldsFor, AllHeld, Moves, HasWaiting, IsCovered, is_under, unmade, everywhere, apart, appending, takes_one, takes_in}
+use Rattle.rq_store.specs.Sound.{IsSound, AreEnds, apart, appending, takes_one, takes_in}
+use Rattle.rq_store.specs.Rows.{IsRow, FollowsPlan, HoldsFor, AllHeld, Moves, HasWaiting, IsCovered, is_under, unmade, everywhere}
 use Rattle.rq_store.specs.Fitting.{left_by}
 use Rattle.rq_store.proofs.RowLists.{found_in, found_other, found_still, changed, distinct_change, none_under}
 use Rattle.rq_store.proofs.Opens.{opens_change}

@@ -8,8 +8,10 @@ use Rattle.rq_model.specs.declared.record.Record.{Record}
 use Rattle.rq_model.specs.Words.{In, same_txn, is_some}
 use Rattle.rq_model.specs.History.{Job}
 use Rattle.rq_model.specs.Ledger.{Open, after, stepped, change, found, runs}
-use Rattle.rq_model.specs.Legal.{count_rest, below, pending, has_under, OnFound}
-use Rattle.rq_model.specs.Content.{has_end, committed_of}
+use Rattle.rq_model.specs.Legal.{OnFound}
+use Rattle.rq_model.specs.Tests.{count_rest, below, pending, has_under}
+use Rattle.rq_model.specs.Content.{has_end}
+use Rattle.rq_model.specs.Commits.{committed_of}
 use Rattle.rq_model.specs.History.Entry.{Stepped}
 use Rattle.rq_model.specs.History.Call.{Step}
 use Rattle.rq_model.specs.Replay.Reply.{Gave_lsn}
@@ -38,7 +40,9 @@ use Rattle.rq_groups.specs.Ends.{HeldEnds}
 use Rattle.rq_groups.specs.Waiting.{waits}
 use Rattle.rq_store.proofs.Begun.{begun_more}
 use Rattle.rq_store.specs.State.{State, ledger_of, open_of, open_ones_of, job_under, left_under, phase_of}
-use Rattle.rq_store.specs.Sound.{IsSound, IsWhole, IsRow, FollowsPlan, IsAsPlanned, IsSettled, is_under, unmade, everywhere, apart, appending, takes_one, takes_in, IsCovered}
+use Rattle.rq_store.specs.Sound.{IsSound, IsSettled, apart, appending, takes_one, takes_in}
+use Rattle.rq_store.specs.Rows.{IsRow, FollowsPlan, IsAsPlanned, is_under, unmade, everywhere, IsCovered}
+use Rattle.rq_store.specs.Whole.{IsWhole}
 use Rattle.rq_store.specs.Fitting.{left_by, image_in, FitsLog}
 use Rattle.rq_store.specs.Steps.{Steps, IsPutIn, page_op}
 use Rattle.rq_store.proofs.Fitting.{fits_written}

@@ -11,7 +11,8 @@ use Rattle.rq_model.specs.History.Job.{Taking}
 use Rattle.rq_model.specs.History.Entry.{Started}
 use Rattle.rq_model.specs.History.Call.{Start_receive, Start_receive_from}
 use Rattle.rq_model.specs.Ledger.{Open, after, started, writes, found, in_chain, add_number}
-use Rattle.rq_model.specs.Legal.{Legal, OnFound, Passes, holds_for}
+use Rattle.rq_model.specs.Legal.{Legal, OnFound}
+use Rattle.rq_model.specs.Tests.{Passes, holds_for}
 use Rattle.rq_model.specs.Replay.Reply.{Gave_sub}
 use Rattle.rq_page.specs.declared.cell.Cell.{Cell}
 use Rattle.rq_page.specs.Sizes.{Sizes, sender_count, directory_at}
@@ -31,7 +32,8 @@ use Rattle.rq_groups.specs.Ends.{HeldEnds, has_held, held_by, with_held, is_free
 use Rattle.rq_groups.specs.Waiting.{waits}
 use Rattle.rq_groups.proofs.Holders.{held_with_same, held_with_other}
 use Rattle.rq_store.specs.State.{State, ledger_of, size_of, open_of, open_ones_of, job_of, left_under}
-use Rattle.rq_store.specs.Sound.{IsSound, HoldsFor, Moves, HasWaiting}
+use Rattle.rq_store.specs.Sound.{IsSound}
+use Rattle.rq_store.specs.Rows.{HoldsFor, Moves, HasWaiting}
 use Rattle.rq_store.specs.Fitting.{left_by}
 use Rattle.rq_store.specs.Plans.{IsTakePlan, Stands_at}
 use Rattle.rq_store.specs.Steps.{Steps}

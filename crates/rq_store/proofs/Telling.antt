@@ -8,7 +8,8 @@ use Rattle.rq_model.specs.declared.record.Deed.TheVariants.{Append, UnlinkHead, 
 use Rattle.rq_model.specs.declared.record.Record.{Record}
 use Rattle.rq_model.specs.Words.{Op}
 use Rattle.rq_model.specs.Counts.{AllBelow, op_sender, is_taken}
-use Rattle.rq_model.specs.Content.{Said, said, op_of, ops_told, told}
+use Rattle.rq_model.specs.Content.{Said, said}
+use Rattle.rq_model.specs.Commits.{op_of, ops_told, told}
 use Rattle.rq_page.specs.Sizes.{Sizes, sender_count}
 use Rattle.rq_level.specs.Legal.{Placed, open_deeds}
 use Rattle.rq_level.specs.Plans.{deed_sender}
@@ -21,7 +22,9 @@ use Rattle.rq_txn.specs.declared.Finished.{Finished}
 use Rattle.rq_txn.specs.Rows.{Row}
 use Rattle.rq_groups.specs.Ends.{HeldEnds}
 use Rattle.rq_store.specs.State.{op_done}
-use Rattle.rq_store.specs.Sound.{IsWhole, IsRow, placed, placed_one, takes_one}
+use Rattle.rq_store.specs.Sound.{takes_one}
+use Rattle.rq_store.specs.Rows.{IsRow, placed, placed_one}
+use Rattle.rq_store.specs.Whole.{IsWhole}
 use Rattle.rq_store.proofs.Holders.{placed_first}
 
 say_join : (ps qs : List Placed) → say (ps ++ qs) ≡ say ps ++ say qs

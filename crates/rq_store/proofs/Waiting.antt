@@ -13,8 +13,10 @@ use Rattle.rq_model.specs.Words.{In, same_txn, taken_from}
 use Rattle.rq_model.specs.declared.record.Record.{Record}
 use Rattle.rq_model.specs.History.{Group}
 use Rattle.rq_model.specs.Ledger.{Open, rest_in, own_takes, sent_in, taken_in, group_in}
-use Rattle.rq_model.specs.Legal.{holds_for}
-use Rattle.rq_model.specs.Content.{said, op_of, removed, added, shape, deeds, has_commit, KeepsRules, committed_of}
+use Rattle.rq_model.specs.Tests.{holds_for}
+use Rattle.rq_model.specs.Content.{said, removed, added, shape, deeds, has_commit}
+use Rattle.rq_model.specs.Commits.{op_of, committed_of}
+use Rattle.rq_model.specs.Rules.{KeepsRules}
 use Rattle.rq_model.proofs.Told.{told_taken, not_yet, content_is}
 use Rattle.rq_model.proofs.Commits.{removed_both, shape_is, covered_log, around_itself}
 use Rattle.rq_page.specs.Sizes.{sender_count}
@@ -32,7 +34,8 @@ use Rattle.rq_txn.specs.Rows.{Row, found_row, AreDistinct}
 use Rattle.rq_groups.specs.Ends.{HeldEnds, has_held}
 use Rattle.rq_groups.specs.Waiting.{waits}
 use Rattle.rq_store.specs.State.{State, ledger_of, open_of, op_done}
-use Rattle.rq_store.specs.Sound.{IsSound, HoldsFor, AllHeld, takes_in}
+use Rattle.rq_store.specs.Sound.{IsSound, takes_in}
+use Rattle.rq_store.specs.Rows.{HoldsFor, AllHeld}
 use Rattle.rq_store.proofs.Grouping.{groups_of}
 use Rattle.rq_store.proofs.RowLists.{in_found, some_not_none}
 use Rattle.rq_store.proofs.Chains.{told_here, chain_is}

@@ -3,7 +3,8 @@ use Rattle.std.proofs.Common.{◌≡◌, ℕ, ◌+◌, ◌<◌, ◌≤◌, List,
 use Rattle.std.proofs.lemmas.Bool.{cases_Bool, false≢true, eqb-true, and_parts}
 use Rattle.rq_model.specs.declared.record.Record.{Record}
 use Rattle.rq_model.specs.declared.txn.Txn.{Txn}
-use Rattle.rq_model.specs.Content.{Said, holds, has_end, has_commit, deeds, removed, added, uses_send, uses_receive, KeepsRules}
+use Rattle.rq_model.specs.Content.{Said, has_end, has_commit, deeds, removed, added}
+use Rattle.rq_model.specs.Rules.{holds, uses_send, uses_receive, KeepsRules}
 use Rattle.rq_model.specs.Words.{same_txn}
 use Rattle.rq_model.proofs.Lists.{same_is}
 use Rattle.rq_page.specs.declared.directory.Directory.{Directory}
@@ -20,7 +21,7 @@ use Rattle.rq_level.specs.Plans.{directory_put_back, directory_tail_unlinked}
 use Rattle.rq_level.specs.Row.{sizes, small, t2, cell, sends, takes, sent_a, taken_a, sent_b, committed_one, done_two, stopped, taken_back, restarted}
 use Rattle.rq_level.proofs.Worked.{worked}
 use Rattle.rq_model.specs.Incarnations.{InOrder}
-use Rattle.rq_store.specs.Sound.{IsWhole}
+use Rattle.rq_store.specs.Whole.{IsWhole}
 use Rattle.rq_store.specs.Worked.{WorkedStore, spelled_log}
 use Rattle.rq_store.proofs.Cutting.{whole_dropped}
 use Rattle.rq_store.proofs.Spelling.{MayStandAt, AreSpelt, items_back, in_store, befores}

@@ -7,7 +7,8 @@ use Rattle.rq_page.specs.Sizes.{Sizes, IsInRange}
 use Rattle.rq_txn.specs.Rows.{Row, AreDistinct, found_row}
 use Rattle.rq_store.specs.Fitting.{FitsLog, HoldsPage, IsStamp, image_in, oldest}
 use Rattle.rq_store.specs.Opening.{FitsUpTo, opened}
-use Rattle.rq_store.specs.Sound.{IsSound, IsWhole}
+use Rattle.rq_store.specs.Sound.{IsSound}
+use Rattle.rq_store.specs.Whole.{IsWhole}
 use Rattle.rq_store.specs.Worked.{AreFormatted, WorkedSound}
 use Rattle.rq_store.proofs.Formatting as formatting
 use Rattle.rq_store.proofs.Opening as opening

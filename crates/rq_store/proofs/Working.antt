@@ -5,7 +5,8 @@ use Rattle.rq_model.specs.declared.txn.Txn.{Txn}
 use Rattle.rq_model.specs.Words.{In, is_some}
 use Rattle.rq_txn.specs.Rows.{Row, Under, found_row}
 use Rattle.rq_store.specs.State.{State}
-use Rattle.rq_store.specs.Sound.{IsSound, FollowsPlan, IsAsPlanned}
+use Rattle.rq_store.specs.Sound.{IsSound}
+use Rattle.rq_store.specs.Rows.{FollowsPlan, IsAsPlanned}
 use Rattle.rq_store.proofs.RowLists.{found_in}
 use Rattle.rq_store.proofs.Others.{none_of}
 

@@ -6,3 +6,5 @@ pub mod Plans
 pub mod Opening
 pub mod Worked
 pub mod Theorems
+pub mod Whole
+pub mod Rows

@@ -2,7 +2,7 @@
 use Rattle.std.specs.Prelude.{◌≡◌, ◌≢◌, ℕ, ◌+◌, ◌-◌, ◌<◌, ◌≤◌, false, List, [], ◌∷◌, length, map, Option, Some, None}
 use Rattle.rq_model.specs.declared.record.Record.{Record}
 use Rattle.rq_model.specs.declared.record.Record.TheVariants.{PageOp, Restart}
-use Rattle.rq_model.specs.Legal.{below}
+use Rattle.rq_model.specs.Tests.{below}
 use Rattle.rq_page.specs.Sizes.{Sizes, page_count, directory_at, sender_count}
 use Rattle.rq_page.specs.Pages.{lsn_of, slot_of, IsWritten}
 use Rattle.rq_page.specs.Slots.{Slot, IsSlotOf}
@@ -11,7 +11,7 @@ use Rattle.rq_page.specs.Formatted.{count_in}
 use Rattle.rq_level.specs.Stored.{slots_in, count_used}
 use Rattle.rq_store.specs.State.{State}
 use Rattle.rq_model.specs.Incarnations.{incarnation_of}
-use Rattle.rq_store.specs.Sound.{IsWhole}
+use Rattle.rq_store.specs.Whole.{IsWhole}
 use Rattle.rq_store.specs.Fitting.{HoldsRecord, told_by, oldest, HoldsPage, FitsPage, FitsLog}
 
 -- the pages and the log of a store that was left as a crash may leave one

@@ -9,8 +9,9 @@ use Rattle.rq_model.specs.History.{Job}
 use Rattle.rq_model.specs.History.Job.{Sending, Taking, Ending}
 use Rattle.rq_model.specs.Ledger.{Open, Ledger, Phase, kept_in}
 use Rattle.rq_model.specs.Ledger.Phase.{Running, Stopped}
-use Rattle.rq_model.specs.Legal.{Size}
-use Rattle.rq_model.specs.Content.{said, op_of, committed_of}
+use Rattle.rq_model.specs.Tests.{Size}
+use Rattle.rq_model.specs.Content.{said}
+use Rattle.rq_model.specs.Commits.{op_of, committed_of}
 use Rattle.rq_page.specs.Sizes.{Sizes, sender_count, cell_count}
 use Rattle.rq_txn.specs.declared.Finished.{Finished}
 use Rattle.rq_txn.specs.Rows.{Row, Under}

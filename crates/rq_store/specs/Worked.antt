@@ -3,7 +3,8 @@
 use Rattle.std.specs.Prelude.{◌≡◌, ◌/◌, ◌%◌, ◌+◌, ◌<◌, ◌≤◌, ℕ, List, [], ◌∷◌, length, map, false}
 use Rattle.rq_model.specs.declared.record.Record.{Record}
 use Rattle.rq_model.specs.declared.record.Record.TheVariants as records
-use Rattle.rq_model.specs.Content.{content, unfinished, lost}
+use Rattle.rq_model.specs.Content.{content}
+use Rattle.rq_model.specs.Unended.{unfinished, lost}
 use Rattle.rq_model.specs.Deeds.{spelled_deed}
 use Rattle.rq_model.specs.History.{Group}
 use Rattle.rq_page.specs.Slots.{slot_bytes}
@@ -17,7 +18,8 @@ use Rattle.rq_txn.specs.Rows.{Row}
 use Rattle.rq_store.specs.State.{State}
 use Rattle.rq_store.specs.Fitting.{FitsLog, image_in}
 use Rattle.rq_store.specs.Opening.{opened}
-use Rattle.rq_store.specs.Sound.{IsSound, IsWhole}
+use Rattle.rq_store.specs.Sound.{IsSound}
+use Rattle.rq_store.specs.Whole.{IsWhole}
 
 -- the record with the bytes of these slots and deeds
 abbrev pub record_of : Item → Record

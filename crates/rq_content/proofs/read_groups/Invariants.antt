@@ -1,5 +1,5 @@
 use Rattle.std.proofs.Common.{◌≡◌, map}
-use Rattle.rq_model.specs.Legal.{below}
+use Rattle.rq_model.specs.Tests.{below}
 use Rattle.rq_content.specs.Read.{group_of, read_group}
 use Rattle.rq_content.proofs.read_groups.Given as goal
 

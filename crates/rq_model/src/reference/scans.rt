@@ -1,6 +1,6 @@
 //! Looks over the rows of the reference.
 ghost use Rattle.rq_model.specs.Ledger.{add_number, any_ends, ended_in, group_in, own_sends, own_takes, rest_in, sent_in, tag_of, taken_in};
-ghost use Rattle.rq_model.specs.Legal.{any_busy, below, count_rest, free_to_send, owed, pending};
+ghost use Rattle.rq_model.specs.Tests.{any_busy, below, count_rest, free_to_send, owed, pending};
 ghost use Rattle.rq_model.specs.Ledger.{kept_in};
 ghost use Rattle.rq_model.specs.Reference.{PlaceOf, done_of, op_done, op_of, open_of};
 ghost use Rattle.rq_model.specs.Words.{has_number, sent_for, taken_from};

@@ -5,7 +5,8 @@ use Rattle.rq_page.specs.Sizes.{page_count}
 use Rattle.rq_pool.specs.Pooled.{IsPool}
 use Rattle.rq_store.specs.Opening.{IsCounted}
 use Rattle.rq_store.specs.Fitting.{image_in}
-use Rattle.rq_restart.specs.Restarting.{AreWaiting, ShutFor}
+use Rattle.rq_restart.specs.Restarting.{AreWaiting}
+use Rattle.rq_restart.specs.Refused.{ShutFor}
 use Rattle.rq_restart.specs.Repeating.{paged}
 use Rattle.rq_restart.proofs.Moments.{begun_moment}
 use Rattle.rq_restart.proofs.Restarts.{one_more, last_is, begun_is, ended_is, ended_not, shut_for, repeated_order, stops_shut, beyond_read, beyond_then, gone_is, settled_left, sound_is, shut_is, counted_left, counted_redone}

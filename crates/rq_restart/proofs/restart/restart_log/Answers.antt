@@ -2,7 +2,8 @@ use Rattle.std.proofs.Common.{◌≡◌, length, reverse, sym, ap, subst, inl, i
 use Rattle.rq_store.specs.Sound.{IsSound}
 use Rattle.rq_store.specs.Opening.{opened, IsLeft}
 use Rattle.rq_store.specs.Fitting.{image_in}
-use Rattle.rq_restart.specs.Restarting.{IsShutFor, IsBegun, Reports, BeginsAtMost, IsRead, ShutFor}
+use Rattle.rq_restart.specs.Restarting.{IsBegun, Reports, BeginsAtMost, IsRead}
+use Rattle.rq_restart.specs.Refused.{IsShutFor, ShutFor}
 use Rattle.rq_restart.specs.Repeating.{paged}
 use Rattle.rq_log.specs.Spelled.{AreSpelled}
 use Rattle.rq_restart.proofs.Restarts.{shut_by}

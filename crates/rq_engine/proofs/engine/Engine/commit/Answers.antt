@@ -3,7 +3,7 @@ use Rattle.std.specs.List.{sum_by}
 use Rattle.rq_store.specs.Sound.{takes_one}
 use Rattle.rq_store.specs.State.{State, ledger_of}
 use Rattle.rq_engine.specs.Answers.{HasNothingUnderWay}
-use Rattle.rq_model.specs.Legal.{log_full}
+use Rattle.rq_model.specs.Tests.{log_full}
 use Rattle.rq_engine.proofs.Calls.{commit_range, commit_kept, commit_done, from_inside}
 use Rattle.rq_engine.proofs.Opened.{state_is}
 use Rattle.rq_engine.proofs.Listing.{committed_lists, committed_from}

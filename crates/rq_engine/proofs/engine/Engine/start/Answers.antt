@@ -2,7 +2,7 @@ use Rattle.std.proofs.Common.{rules, ◌≡◌, sym, ap, ◌∙◌, subst, arith
 use Rattle.std.specs.Vec.{vec_len}
 use Rattle.std.specs.Global.{Vec}
 use Rattle.rq_store.specs.State.{State, ledger_of}
-use Rattle.rq_model.specs.Legal.{log_full}
+use Rattle.rq_model.specs.Tests.{log_full}
 use Rattle.rq_engine.specs.Answers.{HasNothingUnderWay}
 use Rattle.rq_engine.specs.Sends.{FitsPlan}
 use Rattle.rq_engine.proofs.Keeping.{kept_back}

@@ -5,7 +5,7 @@ use Rattle.rq_model.specs.declared.reference.rows.Work.TheVariants.{Sending as S
 use Rattle.rq_model.specs.History.Job.{Sending}
 use Rattle.rq_model.specs.History.Call.{Start_send}
 use Rattle.rq_model.specs.Ledger.{Open, add_number, change, started, writes}
-use Rattle.rq_model.specs.Legal.{Passes}
+use Rattle.rq_model.specs.Tests.{Passes}
 use Rattle.rq_model.specs.Reference.{open_of, message_of, Stand}
 use Rattle.rq_model.proofs.Plainly.{stands_found, stands_within, change_stands, numbered_change, same_row}
 use Rattle.rq_model.proofs.reference.Reference.start_send.Goals as goal

@@ -1,5 +1,5 @@
 use Rattle.std.proofs.Common.{◌≡◌, map, drop}
-use Rattle.rq_model.specs.Legal.{any_busy}
+use Rattle.rq_model.specs.Tests.{any_busy}
 use Rattle.rq_model.specs.Reference.{open_of}
 use Rattle.rq_model.proofs.reference.scans.any_busy.Given as goal
 

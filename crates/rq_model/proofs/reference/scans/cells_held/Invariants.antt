@@ -1,6 +1,6 @@
 use Rattle.std.proofs.Common.{◌≡◌, ◌-◌, ◌^◌, map}
 use Rattle.std.specs.Prelude.{min}
-use Rattle.rq_model.specs.Legal.{below, count_rest}
+use Rattle.rq_model.specs.Tests.{below, count_rest}
 use Rattle.rq_model.specs.Reference.{done_of}
 use Rattle.rq_model.proofs.reference.scans.cells_held.Given as goal
 

@@ -1,7 +1,7 @@
 use Rattle.std.proofs.Common.{◌≡◌, ◌+◌, ◌-◌, ◌^◌, map, take}
 use Rattle.std.specs.Prelude.{min}
 use Rattle.std.specs.List.{sum_by}
-use Rattle.rq_model.specs.Legal.{below, count_rest, pending}
+use Rattle.rq_model.specs.Tests.{below, count_rest, pending}
 use Rattle.rq_model.specs.Reference.{done_of, open_of}
 use Rattle.rq_model.proofs.reference.scans.fills.Given as goal
 

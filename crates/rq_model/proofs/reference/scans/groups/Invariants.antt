@@ -1,6 +1,6 @@
 use Rattle.std.proofs.Common.{◌≡◌, map}
 use Rattle.rq_model.specs.Ledger.{group_in}
-use Rattle.rq_model.specs.Legal.{below}
+use Rattle.rq_model.specs.Tests.{below}
 use Rattle.rq_model.specs.Reference.{done_of}
 use Rattle.rq_model.proofs.reference.scans.groups.Given as goal
 

@@ -1,5 +1,5 @@
 use Rattle.std.proofs.Common.{◌≡◌, map, drop}
-use Rattle.rq_model.specs.Legal.{free_to_send}
+use Rattle.rq_model.specs.Tests.{free_to_send}
 use Rattle.rq_model.specs.Reference.{open_of}
 use Rattle.rq_model.proofs.reference.scans.is_free_to_send.Given as goal
 

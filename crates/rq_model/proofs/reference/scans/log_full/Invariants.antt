@@ -1,7 +1,7 @@
 use Rattle.std.proofs.Common.{◌≡◌, ◌+◌, ◌-◌, ◌^◌, map, take}
 use Rattle.std.specs.Prelude.{min}
 use Rattle.std.specs.List.{sum_by}
-use Rattle.rq_model.specs.Legal.{owed}
+use Rattle.rq_model.specs.Tests.{owed}
 use Rattle.rq_model.specs.Reference.{open_of}
 use Rattle.rq_model.proofs.reference.scans.log_full.Given as goal
 

@@ -1,6 +1,6 @@
 use Rattle.std.proofs.Common.{◌≡◌, ◌+◌, ◌≤◌, map, drop, length}
 use Rattle.std.specs.List.{filter}
-use Rattle.rq_model.specs.Legal.{is_sent, pending}
+use Rattle.rq_model.specs.Tests.{is_sent, pending}
 use Rattle.rq_model.specs.Reference.{op_of, open_of}
 use Rattle.rq_model.proofs.reference.scans.pending.Given as goal
 

@@ -1,0 +1,65 @@
+-- Why a restart did not open a store, and where it stopped.
+use Rattle.std.specs.Prelude.{◌≡◌, ◌⊎◌, ℕ, ◌+◌, ◌%◌, ◌^◌, ◌≤◌, List, [], length}
+use Rattle.rq_model.specs.declared.record.Record.{Record}
+use Rattle.rq_model.specs.declared.refusal.Refusal.{Refusal}
+use Rattle.rq_model.specs.declared.refusal.Refusal.TheVariants as why
+use Rattle.rq_model.specs.declared.refusal.Damage.TheVariants as damage
+use Rattle.rq_page.specs.Sizes.{Sizes}
+use Rattle.rq_model.specs.Unended.{unfinished, lost}
+use Rattle.rq_restart.specs.Repeating.{Paged, IsFirstBad}
+use Rattle.rq_restart.specs.Checked.{IsEnded, WasGoneThrough, IsBeyond, WasRepeated}
+
+-- going through a log stops where memory is wanting, or where the store was not left so
+abbrev pub StopsIn : Type 0 → Refusal → Type 0
+StopsIn left why.NoMemory = Unit {0}
+StopsIn left (why.Damaged d) = left → ⊥
+StopsIn left _ = ⊥
+
+-- why going through a log stopped, and at which record
+abbrev pub StopsAt : Sizes → List Record → Paged → Refusal → Type 0
+StopsAt z log first why.NoMemory = Unit {0}
+StopsAt z log first (why.Damaged (damage.Record lsn)) = IsFirstBad z log first lsn
+StopsAt z log first _ = ⊥
+
+-- why no incarnation was begun over a log, with the failures of its device before and after it, and that it was left
+-- alone
+abbrev pub BeginsNot : Refusal → ℕ → ℕ → ℕ → ℕ → Type 0 → Type 0
+BeginsNot why.NoMemory records last before now untouched = (now ≡ before) × untouched
+BeginsNot why.LogFull records last before now untouched = ((2 ^ 50 ≤ records) ⊎ (2 ^ 64 ≤ last + 1)) × untouched
+BeginsNot why.DiskWrite records last before now untouched = now ≡ (before + 1) % 2 ^ 64
+BeginsNot _ records last before now untouched = ⊥
+
+-- Why a store over this log was not opened, and where; with the failures of the log's device before and after it, and
+-- that it was left alone.
+abbrev pub ShutFor : Sizes → List Record → Paged → Refusal → ℕ → ℕ → Type 0 → Type 0
+ShutFor z log first why.NoMemory before now untouched = (now ≡ before) × untouched
+ShutFor z log first why.LogFull before now untouched = (2 ^ 50 ≤ length log) × IsEnded log × WasGoneThrough z log first
+    × untouched
+ShutFor z log first why.DiskWrite before now untouched = (now ≡ (before + 1) % 2 ^ 64) × IsEnded log
+    × WasGoneThrough z log first
+ShutFor z log first why.Unfinished before now untouched = (IsEnded log → ⊥) × WasGoneThrough z log first × untouched
+ShutFor z log first (why.Damaged (damage.Record lsn)) before now untouched = IsFirstBad z log first lsn × untouched
+ShutFor z log first (why.Damaged (damage.Page page)) before now untouched = IsBeyond z log first page × untouched
+ShutFor z log first _ before now untouched = ⊥
+
+-- why a store over this log was not opened, with the failures of the log's device before and after it
+abbrev pub IsShutFor : Type 0 → List Record → Refusal → ℕ → ℕ → Type 0
+IsShutFor left log why.NoMemory before now = now ≡ before
+IsShutFor left log why.LogFull before now = left → 2 ^ 50 ≤ length log
+IsShutFor left log why.DiskRead before now = now ≡ (before + 1) % 2 ^ 64
+IsShutFor left log why.DiskWrite before now = now ≡ (before + 1) % 2 ^ 64
+IsShutFor left log why.Unfinished before now = left → unfinished log ≡ [] → lost log ≡ [] → ⊥
+IsShutFor left log (why.Damaged d) before now = left → ⊥
+IsShutFor left log _ before now = ⊥
+
+-- it is told as damage
+abbrev pub TellsDamage : Refusal → Type 0
+TellsDamage (why.Damaged d) = Unit {0}
+TellsDamage _ = ⊥
+
+-- Of a log whose reading stopped for the one refusal behind these records, the other is answered: damage behind them is
+-- told only where all of them belong.
+abbrev pub IsFirstFault : Sizes → List Record → Paged → Refusal → Refusal → Type 0
+IsFirstFault z front first stopped told =
+    ((told ≡ stopped) × (TellsDamage stopped → WasRepeated z front first))
+    ⊎ (TellsDamage stopped × StopsAt z front first told)

@@ -1,0 +1,35 @@
+-- A legal log of a store.
+use Rattle.std.specs.Prelude.{List, [], ◌∷◌}
+use Rattle.rq_model.specs.declared.record.Record.{Record}
+use Rattle.rq_model.specs.declared.record.Record.TheVariants.{PageOp}
+use Rattle.rq_model.specs.Incarnations.{InOrder}
+use Rattle.rq_model.specs.Rules.{KeepsRules}
+use Rattle.rq_page.specs.Sizes.{Sizes, cell_count}
+use Rattle.rq_page.specs.Slots.{IsSlotOf}
+use Rattle.rq_level.specs.Items.{items, layout_of, ReadsItsDeeds}
+use Rattle.rq_level.specs.Claims.{HasRoom}
+use Rattle.rq_level.specs.Numbers.{AreNumbered}
+use Rattle.rq_level.specs.Legal.{IsLegalLog}
+use Rattle.rq_level.specs.Groups.{DeedsTellViews}
+use Rattle.rq_level.specs.InStore.{InStore}
+
+-- each before-image of the log is a slot of the store
+abbrev pub IsBefore : Sizes → Record → Type 0
+IsBefore z (PageOp t n page slot before after) = IsSlotOf z page slot before
+IsBefore z _ = Unit {0}
+
+abbrev pub BeforesAreSlots : Sizes → List Record → Type 0
+BeforesAreSlots z [] = Unit {0}
+BeforesAreSlots z (r ∷ log) = IsBefore z r × BeforesAreSlots z log
+
+-- a legal log of the store
+pub record IsWhole (z : Sizes) (log : List Record) : Type 0 where
+  pub legal : IsLegalLog (layout_of z) (items z log)
+  pub told : DeedsTellViews (items z log)
+  pub rules : KeepsRules log
+  pub reads : ReadsItsDeeds log
+  pub in_store : InStore z log
+  pub befores : BeforesAreSlots z log
+  pub order : InOrder log
+  pub room : HasRoom (cell_count z) (items z log)
+  pub numbers : AreNumbered (items z log)
