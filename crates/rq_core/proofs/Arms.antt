@@ -1,5 +1,6 @@
 -- Each function of a world, over the devices in memory.
-use Rattle.std.proofs.Common.{◌↔◌, Bool, false, ◌≡◌, ℕ, List, [], ◌∷◌, arith, refl, sym, ◌∙◌, ap, subst, true, Some, Result, Ok, Err, IfOk, IfErr}
+use Rattle.rq_model.specs.Causes.{HasCause, IsCaused, writes_out}
+use Rattle.std.proofs.Common.{◌↔◌, Bool, false, ◌≡◌, List, [], ◌∷◌, arith, refl, sym, ◌∙◌, ap, subst, true, Some, Result, Ok, Err, IfOk, IfErr}
 use Rattle.rq_model.specs.declared.record.Record.{Record}
 use Rattle.rq_model.specs.declared.refusal.Refusal.{Refusal}
 use Rattle.rq_model.specs.declared.refusal.Refusal.TheVariants as why
@@ -10,7 +11,7 @@ use Rattle.rq_model.specs.Ledger.{Ledger, Phase, after, ledger}
 use Rattle.rq_model.specs.Ledger.Phase.{Running as Runs, Shut}
 use Rattle.rq_model.specs.History.Call.{Begin, Start_send, Start_receive, Start_receive_from, Start_close, Step, Finish, Commit, Acknowledge, Start_abort, Undo_next, End_abort, Hand_over, Force, Write_page, Last_tag, Show}
 use Rattle.rq_model.specs.Legal.{Legal, IsLegal}
-use Rattle.rq_model.specs.Tests.{Size}
+use Rattle.rq_model.specs.Tests.{Size, any_busy}
 use Rattle.rq_model.specs.Promises.{AcknowledgedStay, CrashGoesOn, FifoThroughout, RestartGoesOn, ShutCrashGoesOn}
 use Rattle.rq_model.specs.Replay.{Says}
 use Rattle.rq_model.specs.Replay.Reply.{Gave_refusal}
@@ -39,14 +40,14 @@ use Rattle.rq_core.specs.Devices.{mem_pages, mem_log}
 use Rattle.rq_core.specs.Happenings.{Happening, Answer, AddsCall, Course, MayCrashIt, Tells, called, is_of_device}
 use Rattle.rq_core.specs.Happenings.Answer.{Answered, Crashed, Refused, Restarted}
 use Rattle.rq_core.specs.Headline.{LeavesStores, LeftBy, LeftLast}
-use Rattle.rq_core.specs.Runs.{CanCrash, GoesOn, Is, IsFresh, IsHeadline, Ran, GoesOnShut}
+use Rattle.rq_core.specs.Runs.{CanCrash, GoesOn, IsFresh, IsHeadline, Ran, GoesOnShut}
 use Rattle.rq_core.specs.World.{IsOpen, IsShut}
 use Rattle.rq_core.specs.World.World.{Is_open, Is_shut}
-use Rattle.rq_core.specs.Happenings.Happening.{Crashes, Restarts, Stops_in, Stops_restart}
-use Rattle.rq_core.specs.Happenings.{EndsWithoutCrash, HasCause, MayRestart, is_no_crash, MayStayShut, restarts, writes_out}
+use Rattle.rq_core.specs.Happenings.Happening.{Stops_in}
+use Rattle.rq_core.specs.Happenings.{EndsWithoutCrash, MayRestart, is_no_crash}
 use Rattle.rq_core.specs.Views.{report_of}
 use Rattle.rq_core.proofs.Devices.{some_page, some_log}
-use Rattle.rq_core.proofs.Worlds.{caused, may_stay, read_of, reopened, stays_shut, IsGivenUp, calls, refused, handed_over, leaves_open, leaves_shut, still, headline}
+use Rattle.rq_core.proofs.Worlds.{caused, may_stay, read_of, reopened, stays_shut, IsGivenUp, calls, refused, leaves_open, leaves_shut, still, headline}
 
 abbrev Engine : Type 0
 Engine = OpenStore MemPages MemLog
@@ -197,10 +198,10 @@ begins z pages log fresh = record {
 }
 
 -- a stop in a call, which a device refused
-stop_writes : (r : Refusal) (l : Ledger) (c : Call) → is_of_device r ≡ true → HasCause l c r → writes_out c ≡ true
-stop_writes why.DiskWrite l c d h = h
-stop_writes why.DiskRead l c d h = absurd h
-stop_writes _ l c d h = cc d
+stop_writes : (r : Refusal) (b : Bool) (c : Call) → is_of_device r ≡ true → HasCause b c r → writes_out c ≡ true
+stop_writes why.DiskWrite b c d h = h
+stop_writes why.DiskRead b c d h = absurd h
+stop_writes _ b c d h = cc d
 
 stop_runs : (r : Refusal) (failed : Bool) → is_of_device r ≡ true → ((reply.Refused r ≡ reply.Refused why.Failed) ↔ (failed ≡ true)) → phase_of failed ≡ Runs
 stop_runs r false d e = refl
@@ -214,5 +215,5 @@ pub stop_may : (z : Sizes) (course : Course) (e : Event) (r : Refusal) (old new 
 stop_may z course e r old new ran a device =
     let o : IsOpen mem_pages mem_log z ran.history old = ran.stands in (
       ap (λ (l : Ledger). l.phase) (sym o.ledger) ∙ stop_runs r old.state.failed device a.failed,
-      stop_writes r (ledger_of old.state) (call_of e) device (caused e (reply.Refused r) old.state (a.cause (tt, tt) o.sound)),
+      stop_writes r (any_busy (ledger_of old.state).open_ones) (call_of e) device (caused e (reply.Refused r) old.state (a.cause (tt, tt) o.sound)),
     )

@@ -30,7 +30,7 @@ paired_answers course (x ∷ xs) (b ∷ bs) e =
 paired_answers course [] (b ∷ bs) e = absurd (omega (arith, e))
 paired_answers course (x ∷ xs) [] e = absurd (omega (arith, e))
 
--- the answer_in of a course are those that it was made of
+-- the answers of a course are those that it was made of
 pub answers_are : (xs : List Happening) (bs : List Answer) → length xs ≡ length bs → answers_of (course_of xs bs) ≡ bs
 answers_are xs bs e = paired_answers [] xs bs e
 

@@ -1,34 +1,31 @@
 -- Each kind of happening keeps what is so of a store between two of them.
-use Rattle.std.specs.Prelude.{◌==◌, if◌then◌else◌}
-use Rattle.std.proofs.Common.{Bool, Option, ◌||◌, ◌≢◌, ◌≡◌, ℕ, ◌+◌, ◌≤◌, List, [], ◌∷◌, ◌++◌, length, take, drop, refl, sym, ◌∙◌, ap, subst, true, false, Some, None, arith, append_assoc, inl, inr, IsTrue, ◌⊎◌}
+use Rattle.std.specs.Prelude.{◌==◌}
+use Rattle.std.proofs.Common.{Bool, Option, ◌||◌, ◌≢◌, ◌≡◌, ℕ, ◌+◌, List, [], ◌∷◌, ◌++◌, length, take, drop, refl, sym, ◌∙◌, ap, subst, true, false, Some, None, arith, append_assoc, inl, inr, ◌⊎◌}
 use Rattle.std.proofs.lemmas.Bool.{cases_eq}
 use Rattle.std.proofs.lemmas.Bool.Decides.{nat_tests}
 use Rattle.std.proofs.lemmas.List.{take-append-drop, length-drop}
 use Rattle.rq_model.specs.declared.record.Record.{Record}
-use Rattle.rq_model.specs.declared.txn.Txn.{Txn}
 use Rattle.rq_model.specs.declared.refusal.Refusal.{Refusal}
 use Rattle.rq_model.specs.declared.refusal.Refusal.TheVariants as why
 use Rattle.rq_model.specs.Words.{In, is_some}
-use Rattle.rq_model.specs.History.{Entry, Call, commits}
+use Rattle.rq_model.specs.History.{Entry, commits}
 use Rattle.rq_model.specs.History.Call.{Hand_over}
-use Rattle.rq_model.specs.History.Entry.{Crash as Crash_entry, Restarted as Restarted_entry, Refused as Refused_entry}
-use Rattle.rq_model.specs.Incarnations.{Extends, Ties, InOrder, ArePlain, incarnation_of}
+use Rattle.rq_model.specs.History.Entry.{Crash as Crash_entry, Restarted as Restarted_entry}
+use Rattle.rq_model.specs.Incarnations.{Extends, Ties, ArePlain, incarnation_of}
 use Rattle.rq_model.specs.Commits.{committed_of}
-use Rattle.rq_model.specs.Rules.{KeepsRules}
-use Rattle.rq_model.specs.Ledger.{Done, Ledger, Phase, ledger, after, kept_in}
-use Rattle.rq_model.specs.Ledger.Phase.{Running as Runs, Stopped, Shut}
+use Rattle.rq_model.specs.Ledger.{Done, Ledger, ledger, after, kept_in}
+use Rattle.rq_model.specs.Ledger.Phase.{Shut}
 use Rattle.rq_model.specs.Legal.{Legal, IsLegal}
 use Rattle.rq_model.specs.Tests.{any_busy}
 use Rattle.rq_model.specs.Promises.{CrashGoesOn, ShutCrashGoesOn, RestartGoesOn, EndsInCrash, crash_to}
-use Rattle.rq_model.specs.Replay.{Reply as Gave, Says}
-use Rattle.rq_model.specs.Replay.Reply.{Gave_refusal}
+use Rattle.rq_model.specs.Replay.{Says}
 use Rattle.rq_model.specs.Promises.{AcknowledgedStay, FifoThroughout}
 use Rattle.rq_disk.specs.Device.{Images, Leaves}
 use Rattle.rq_disk.specs.Records.{HoldsRecords}
 use Rattle.rq_disk.specs.declared.device.LogDevice as log_device
 use Rattle.rq_disk.specs.declared.device.PageDevice as page_device
 use Rattle.rq_log.specs.Spelled.{spelled, AreSpelled}
-use Rattle.rq_page.specs.Sizes.{Sizes, IsInRange, page_count}
+use Rattle.rq_page.specs.Sizes.{Sizes}
 use Rattle.rq_pool.specs.Reading.{IsSuperblock}
 use Rattle.rq_store.specs.State.{State, ledger_of, size_of, phase_of}
 use Rattle.rq_store.specs.Sound.{IsSound}
@@ -39,10 +36,9 @@ use Rattle.rq_engine.specs.Applied.{Applied, RefusalLeaves, WriteFails}
 use Rattle.rq_engine.specs.Crash.{AreFit, IsCut, LeavesCut}
 use Rattle.rq_engine.specs.Devices.{EachPair}
 use Rattle.rq_engine.specs.Opened.{OpenStore}
-use Rattle.rq_engine.specs.Answers as answers
-use Rattle.rq_engine.specs.Says as says
-use Rattle.rq_engine.specs.Says.{call_of, gave, writes_out}
+use Rattle.rq_engine.specs.Says.{call_of, gave}
 use Rattle.rq_groups.specs.Ends.{HeldEnds}
+use Rattle.rq_model.specs.Causes.{HasCause, IsCaused, writes_out}
 use Rattle.rq_txn.specs.Rows.{Row, Under, any_under as rows_under}
 use Rattle.rq_store.specs.State.{job_under, open_ones_of}
 use Rattle.rq_engine.specs.declared.event.Event.{Event}
@@ -55,10 +51,10 @@ use Rattle.rq_restart.specs.Restarting.{IsReadAs, IsLeftOn, Reports, Stops}
 use Rattle.rq_restart.specs.declared.restart.Report.{Report as Restart_report}
 use Rattle.rq_restart.specs.Underway.{IsStore, IsSomeStore, IsLeftOrGoesOn}
 use Rattle.rq_restart.specs.Once.{OneLogEach, AsManyAsTheLog, OneSizeEach}
-use Rattle.rq_core.specs.Happenings.{HasCause, IsCaused, takes_memory, writes_out as out_writes, Happening, Answer, Report, Course, Tells, AddsCall, called, restarts, is_of_device, MayCrashIt, MayStayShut, DoesNothing}
-use Rattle.rq_core.specs.Happenings.Answer.{Answered, Crashed, Restarted, Refused, Running, Nothing}
+use Rattle.rq_core.specs.Happenings.{Happening, Course, Tells, AddsCall, called, is_of_device, MayStayShut}
+use Rattle.rq_core.specs.Happenings.Answer.{Answered, Crashed, Refused}
 use Rattle.rq_core.specs.Headline.{LeavesStores, LeftLast, IsHeadline}
-use Rattle.rq_core.specs.World.{World, IsOver, IsShut, IsOpen, Ran, CanCrash}
+use Rattle.rq_core.specs.World.{World, IsShut, IsOpen, Ran, CanCrash}
 use Rattle.rq_core.specs.World.World.{Is_shut, Is_open}
 
 not_shut : (failed : _) → phase_of failed ≡ Shut → ⊥
@@ -100,45 +96,8 @@ under_is ends (r ∷ rows) = ap (λ b. b || any_busy (open_ones_of ends rows)) (
   one None = refl
   one (Some u) = refl
 
-memory_is : (e : Event) → takes_memory (call_of e) ≡ says.takes_memory e
-memory_is event.Begin = refl
-memory_is (event.StartSend txn sender tag body) = refl
-memory_is (event.StartReceive txn) = refl
-memory_is (event.StartReceiveFrom txn sender) = refl
-memory_is (event.Step sub) = refl
-memory_is (event.Finish sub) = refl
-memory_is (event.Commit txn) = refl
-memory_is (event.Acknowledged number) = refl
-memory_is event.HandOver = refl
-memory_is event.Force = refl
-memory_is (event.WritePage page) = refl
-memory_is event.Content = refl
-
-writes_is : (e : Event) → out_writes (call_of e) ≡ writes_out e
-writes_is event.Begin = refl
-writes_is (event.StartSend txn sender tag body) = refl
-writes_is (event.StartReceive txn) = refl
-writes_is (event.StartReceiveFrom txn sender) = refl
-writes_is (event.Step sub) = refl
-writes_is (event.Finish sub) = refl
-writes_is (event.Commit txn) = refl
-writes_is (event.Acknowledged number) = refl
-writes_is event.HandOver = refl
-writes_is event.Force = refl
-writes_is (event.WritePage page) = refl
-writes_is event.Content = refl
-
-refusal_caused : (e : Event) (r : Refusal) (s : State) → answers.HasCause (says.takes_memory e) (writes_out e) s r → HasCause (ledger_of s) (call_of e) r
-refusal_caused e why.NoMemory s h = memory_is e ∙ h
-refusal_caused e why.DiskWrite s h = writes_is e ∙ h
-refusal_caused e why.Latched s h = under_is s.ends s.rows ∙ h
-refusal_caused e why.DiskRead s h = absurd h
-refusal_caused e (why.Damaged d) s h = absurd h
-refusal_caused e why.PoolFull s h = absurd h
-refusal_caused e _ s h = tt
-
-pub caused : (e : Event) (r : Reply) (s : State) → says.IsCaused s e r → IsCaused (ledger_of s) (call_of e) (gave r)
-caused e (reply.Refused r) s h = refusal_caused e r s h
+pub caused : (e : Event) (r : Reply) (s : State) → RefusedForCause s e r → IsCaused (any_busy (ledger_of s).open_ones) (call_of e) (gave r)
+caused e (reply.Refused r) s h = subst (λ b. HasCause b (call_of e) r) (sym (under_is s.ends s.rows)) h
 caused e (reply.Stepped progress.Ready) s h = tt
 caused e (reply.Stepped (progress.Done lsn)) s h = tt
 caused e (reply.Finished outcome.Sent) s h = tt
@@ -198,7 +157,7 @@ module _ {P L : Type 0} (p : page_device.Ghosts P) (l : log_device.Ghosts L) (ho
         written false w = same w
 
         stays : (r : Refusal) → is_of_device r ≡ true → RefusalLeaves old e (reply.Refused r) new → StandsAt h new.state
-        stays why.DiskWrite d w = written (writes_out e) w
+        stays why.DiskWrite d w = written (writes_out (call_of e)) w
         stays why.DiskRead d w = same w
         stays _ d w = cc d
 

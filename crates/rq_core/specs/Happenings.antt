@@ -1,15 +1,15 @@
 -- What may happen to a store, what is answered, and the history that this tells.
-use Rattle.std.specs.Prelude.{◌≡◌, ℕ, zero, suc, Bool, true, false, IsTrue, List, [], ◌∷◌, Option, Some, None, map, reverse, slice_get, ◌||◌}
+use Rattle.std.specs.Prelude.{◌≡◌, ℕ, zero, suc, Bool, true, false, IsTrue, List, [], ◌∷◌, Option, Some, None, map, reverse, slice_get}
 use Rattle.rq_model.specs.declared.refusal.Refusal.{Refusal}
 use Rattle.rq_model.specs.declared.refusal.Refusal.TheVariants as why
 use Rattle.rq_model.specs.History.{Entry, Call}
-use Rattle.rq_model.specs.History.Call.{Acknowledge, Finish, Force, Hand_over, Last_tag, Start_abort, Step, Write_page}
+use Rattle.rq_model.specs.History.Call.{Acknowledge}
 use Rattle.rq_model.specs.History.Entry.{Crash as Crash_entry, Restarted as Restarted_entry}
-use Rattle.rq_model.specs.Ledger.{Ledger, Open, Phase, ledger, kept_in}
+use Rattle.rq_model.specs.Ledger.{Phase, ledger, kept_in}
 use Rattle.rq_model.specs.Ledger.Phase.{Running as Runs, Shut}
 use Rattle.rq_model.specs.Replay.{Reply, Says}
-use Rattle.rq_model.specs.Replay.Reply.{Gave_commit, Gave_refusal}
-use Rattle.rq_model.specs.Words.{is_some}
+use Rattle.rq_model.specs.Causes.{IsCaused, writes_out}
+use Rattle.rq_model.specs.Replay.Reply.{Gave_commit}
 use Rattle.rq_model.specs.Tests.{any_busy}
 
 pub data Happening : Type 0 where
@@ -102,13 +102,6 @@ DoesNothing course (Acknowledges n) = makes_no_call (acknowledging (nth n (answe
 DoesNothing course Fails = Unit {0}
 DoesNothing course _ = ⊥
 
--- it writes to a device
-abbrev pub writes_out : Call → Bool
-writes_out Hand_over = true
-writes_out Force = true
-writes_out (Write_page page) = true
-writes_out _ = false
-
 -- It may crash a store in this phase. A call meets a crash only where it writes to a device, of a store that runs.
 abbrev pub MayCrashIt : Happening → Phase → Type 0
 MayCrashIt Crashes phase = Unit {0}
@@ -131,37 +124,10 @@ is_of_device why.DiskRead = true
 is_of_device why.DiskWrite = true
 is_of_device _ = false
 
--- the call takes memory
-abbrev pub takes_memory : Call → Bool
-takes_memory (Step t n) = false
-takes_memory (Finish t n) = false
-takes_memory (Acknowledge t lsn) = false
-takes_memory (Start_abort t) = false
-takes_memory (Last_tag s) = false
-takes_memory Hand_over = false
-takes_memory Force = false
-takes_memory (Write_page page) = false
-takes_memory _ = true
-
--- A refusal comes with its cause: want of memory only where the call takes memory, a device's failure only where it
--- writes, Latched only where an operation is under way. No call reads a device, misses a frame or meets damage.
-abbrev pub HasCause : Ledger → Call → Refusal → Type 0
-HasCause l c why.NoMemory = takes_memory c ≡ true
-HasCause l c why.DiskWrite = writes_out c ≡ true
-HasCause l c why.Latched = any_under l.open_ones ≡ true
-HasCause l c why.DiskRead = ⊥
-HasCause l c (why.Damaged d) = ⊥
-HasCause l c why.PoolFull = ⊥
-HasCause l c _ = Unit {0}
-
-abbrev pub IsCaused : Ledger → Call → Reply → Type 0
-IsCaused l c (Gave_refusal r) = HasCause l c r
-IsCaused l c _ = Unit {0}
-
 -- the call with its reply is one entry more, and a refusal comes with its cause
 abbrev pub AddsCall : Option Call → Reply → List Entry → List Entry → Type 0
 AddsCall None reply older h = ⊥
-AddsCall (Some call) reply older h = (e : Entry) × Says call reply e × IsCaused (ledger older) call reply
+AddsCall (Some call) reply older h = (e : Entry) × Says call reply e × IsCaused (any_busy (ledger older).open_ones) call reply
     × (h ≡ e ∷ older)
 
 -- what a happening with its answer makes of the history

@@ -17,7 +17,7 @@ size-take m a le = ap (λ n. 4 + n) (big_from-take 0 4 m a (omega (arith, le)))
 pub no_record : HasRecord [] → ⊥
 no_record has = omega (arith, has.0)
 
--- one record in first_records
+-- one record in front
 pub one_more : (j : ℕ) (a more : List ℕ) → HasRecord a → AreRecords j more → AreRecords (suc j) (take (record_size a) a ++ more)
 one_more j a more has are =
     let s = record_size a in
@@ -55,7 +55,7 @@ front_nil (suc k) =
     let s = record_size [] in
     ap (λ (l : List ℕ). l ++ first_records k (drop s [])) (take_all s [] (omega arith)) ∙ ap (first_records k) (drop_all s [] (omega arith)) ∙ front_nil k
 
--- the first_records of whole records is whole records
+-- the front of whole records is whole records
 pub front_records : (n k : ℕ) (b : List ℕ) → AreRecords n b → (j : ℕ) × AreRecords j (first_records k b)
 front_records n zero b are = (0, refl)
 front_records zero (suc k) b are = (0, ap (first_records (suc k)) are ∙ front_nil (suc k))
@@ -69,7 +69,7 @@ has-append m n k a b is are =
     let f = front_records n k b are in
     (m + f.0, omega arith, records-append m f.0 a (first_records k b) is f.1)
 
--- the first_records of two runs of records is one of the first, or all of that and a first_records of the second
+-- the front of two runs of records is one of the first, or all of that and a front of the second
 pub front-append : (m k : ℕ) (a b : List ℕ) → AreRecords m a → (first_records k (a ++ b) ≡ first_records k a) ⊎ ((j : ℕ) × (first_records k (a ++ b) ≡ a ++ first_records j b))
 front-append zero k a b is = inr (k, subst (λ (l : List ℕ). first_records k (l ++ b) ≡ l ++ first_records k b) (sym is) refl)
 front-append (suc m) zero a b is = inl refl
@@ -104,7 +104,7 @@ front_is (suc c) (suc n) (suc k) e b are within whole le last =
     let more = front_is c n k (e - s) (drop s b) are.1 (omega (arith, length-drop s b, within)) (subst (AreRecords c) rest whole.1) (omega arith) (λ lt has. last (omega (arith, lt)) (subst HasRecord behind has)) in
     ap (λ i. take i b) (sym split) ∙ take-add s (e - s) b ∙ ap (λ (t : List ℕ). take s b ++ t) more
 
--- one record more of a first_records
+-- one record more of a front
 pub record_step : (c at : ℕ) (b : List ℕ) → at ≤ length b → AreRecords c (take at b) → HasRecord (drop at b) → AreRecords (c + 1) (take (at + record_size (drop at b)) b)
 record_step c at b within are has =
     let s = record_size (drop at b) in

@@ -37,7 +37,7 @@ pub record Elapses {C : Type 0} (before now : ℕ) (past since : ℕ → C → T
   pub keeps : (t : ℕ) (c : C) → t ≤ before → past t c → since t c
 
 -- an error counts one failure, and nothing else does
-pub record HasCause {T E : Type 0} (before now : ℕ) (result : Result T E) : Type 0 where
+pub record FailureIsCounted {T E : Type 0} (before now : ℕ) (result : Result T E) : Type 0 where
   pub ok : OnOk result (now ≡ before)
   pub err : OnErr result (now ≡ (before + 1) % 2 ^ 64)
 

@@ -11,7 +11,7 @@ use Rattle.rq_disk.specs.declared.mem_log.LogCall.TheVariants.{Append, Force}
 use Rattle.rq_disk.specs.declared.mem_pages.PageCall.{PageCall}
 use Rattle.rq_disk.specs.declared.mem_pages.PageCall.TheVariants.{Write, Sync}
 
--- the images at the last sync, and those written since, the newest_image first
+-- the images at the last sync, and those written since, the newest first
 pub record PageState : Type 0 where
   pub synced : Images
   pub since : List (ℕ × List ℕ)
@@ -64,7 +64,7 @@ reaches None count = true
 reaches (Some place) count = nat_lt count place
 
 -- of a page the image at a place among the synced one, which is 0, and those written since, in order; where
--- there is none so far, the newest_image
+-- there is none so far, the newest
 abbrev pub image_after : List (ℕ × List ℕ) → List ℕ → ℕ → Option ℕ → List ℕ
 image_after [] synced page place = synced
 image_after (w ∷ ws) synced page place =

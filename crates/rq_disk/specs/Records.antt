@@ -10,7 +10,7 @@ use Rattle.byteorder.specs.Endian.{big_number}
 abbrev pub record_size : List ℕ → ℕ
 record_size bytes = 4 + big_number 4 bytes
 
--- a whole record stands at the first_records
+-- a whole record stands at the front
 abbrev pub HasRecord : List ℕ → Type 0
 HasRecord bytes = (4 ≤ length bytes) × (record_size bytes ≤ length bytes)
 

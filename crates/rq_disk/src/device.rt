@@ -58,7 +58,7 @@ pub trait PageDevice {
             (Leaves (may_be self.new))) }
         ensures still { honest self.new → stopped self.old → IsErr result × stopped self.new ×
             Stays (seen self.old) (seen self.new) (Leaves (may_be self.old)) (Leaves (may_be self.new)) }
-        ensures cause { HasCause (faults self.old) (faults self.new) result };
+        ensures cause { FailureIsCounted (faults self.old) (faults self.new) result };
 
     /// Writes a page. The image is durable only after a sync.
     fn write(&mut self, page: u32, image: &[u8; PAGE]) -> Result<(), DeviceFailed>
@@ -73,7 +73,7 @@ pub trait PageDevice {
             (Leaves (may_be self.new))) }
         ensures still { honest self.new → stopped self.old → IsErr result × stopped self.new ×
             Stays (seen self.old) (seen self.new) (Leaves (may_be self.old)) (Leaves (may_be self.new)) }
-        ensures cause { HasCause (faults self.old) (faults self.new) result };
+        ensures cause { FailureIsCounted (faults self.old) (faults self.new) result };
 
     /// Makes everything written so far durable.
     fn sync(&mut self) -> Result<(), DeviceFailed>
@@ -88,7 +88,7 @@ pub trait PageDevice {
             (Leaves (may_be self.new))) }
         ensures still { honest self.new → stopped self.old → IsErr result × stopped self.new ×
             Stays (seen self.old) (seen self.new) (Leaves (may_be self.old)) (Leaves (may_be self.new)) }
-        ensures cause { HasCause (faults self.old) (faults self.new) result };
+        ensures cause { FailureIsCounted (faults self.old) (faults self.new) result };
 
     /// A crash may leave what reads give.
     ghost seen_may_be: { (d : Self) (p : ℕ) → may_be d p (seen d p) };
@@ -143,7 +143,7 @@ pub trait LogDevice {
             (stopped self.new ⊎ Stays (seen self.old) (seen self.new) (may_leave self.old) (may_leave self.new)) }
         ensures still { honest self.new → stopped self.old → IsErr result × stopped self.new ×
             Stays (seen self.old) (seen self.new) (may_leave self.old) (may_leave self.new) }
-        ensures cause { HasCause (faults self.old) (faults self.new) result };
+        ensures cause { FailureIsCounted (faults self.old) (faults self.new) result };
 
     /// Appends whole records. They are durable only after a force; a crash before it leaves the first few.
     fn append(&mut self, bytes: &[u8]) -> Result<(), DeviceFailed>
@@ -157,7 +157,7 @@ pub trait LogDevice {
             (stopped self.new ⊎ Stays (seen self.old) (seen self.new) (may_leave self.old) (may_leave self.new)) }
         ensures still { honest self.new → stopped self.old → IsErr result × stopped self.new ×
             Stays (seen self.old) (seen self.new) (may_leave self.old) (may_leave self.new) }
-        ensures cause { HasCause (faults self.old) (faults self.new) result };
+        ensures cause { FailureIsCounted (faults self.old) (faults self.new) result };
 
     /// Makes everything appended so far durable.
     fn force(&mut self) -> Result<(), DeviceFailed>
@@ -171,7 +171,7 @@ pub trait LogDevice {
             (stopped self.new ⊎ Stays (seen self.old) (seen self.new) (may_leave self.old) (may_leave self.new)) }
         ensures still { honest self.new → stopped self.old → IsErr result × stopped self.new ×
             Stays (seen self.old) (seen self.new) (may_leave self.old) (may_leave self.new) }
-        ensures cause { HasCause (faults self.old) (faults self.new) result };
+        ensures cause { FailureIsCounted (faults self.old) (faults self.new) result };
 
     /// A crash may leave what reads give.
     ghost seen_may_be_left: { (d : Self) → may_leave d (seen d) };

@@ -17,7 +17,7 @@ use Rattle.rq_model.specs.History.{Call}
 use Rattle.rq_model.specs.History.Call.{Commit, Step, Finish, Show}
 use Rattle.rq_model.specs.History.Entry.{Ready, Shown}
 use Rattle.rq_model.specs.Ledger.{Open, found, runs}
-use Rattle.rq_model.specs.Legal.{OnFound as Open_found}
+use Rattle.rq_model.specs.Legal.{OnFound}
 use Rattle.rq_model.specs.Tests.{has_under, steps_left, log_full, tests, first_of}
 use Rattle.rq_model.specs.Replay.{Reply as Gave}
 use Rattle.rq_model.specs.Replay.Reply.{Gave_lsn, Gave_commit, Gave_ready, Gave_content}
@@ -47,7 +47,7 @@ use Rattle.rq_store.proofs.Committing.{commit_steps}
 use Rattle.rq_engine.specs.Kept.{IsKept, room_one, room_of, done_one}
 use Rattle.rq_engine.specs.Moves.{with_sends, without_taken}
 use Rattle.rq_engine.proofs.Waits.{waits-with_sends, waits-without_taken}
-use Rattle.rq_engine.specs.Answers.{Refuses, OnFound, OnUnder, IsUnderWay, IsNotUnderWay, NotFound, IsOther, Idle, CannotFinish, IsMade, HasNothingUnderWay}
+use Rattle.rq_engine.specs.Answers.{Refuses, OnUnder, IsUnderWay, IsNotUnderWay, NotFound, IsOther, Idle, CannotFinish, IsMade, HasNothingUnderWay}
 use Rattle.rq_engine.proofs.Keeping.{kept_at, under_at, kept_stepped, kept_finished, kept_committed}
 use Rattle.rq_engine.proofs.Refusals.{refuse, refuse_failed, found_of, found_some, found_none, not_full}
 
@@ -55,8 +55,8 @@ use Rattle.rq_engine.proofs.Refusals.{refuse, refuse_failed, found_of, found_som
 pub from_inside : {a b new : State} {c : Call} {gave : Gave} → a ≡ b → (IsSound a → Steps a c gave new) → IsSound b → Steps b c gave new
 from_inside {a} {b} {new} {c} {gave} e h k = subst (λ (s : State). Steps s c gave new) e (h (subst IsSound (sym e) k))
 
-pub refused_inside : {a b : State} {c : Call} {r : Refusal} (m d : Bool) → a ≡ b → Refuses m d a c r → Refuses m d b c r
-refused_inside {a} {b} {c} {r} m d e h = subst (λ (s : State). Refuses m d s c r) e h
+pub refused_inside : {a b : State} {c : Call} {r : Refusal} → a ≡ b → Refuses a c r → Refuses b c r
+refused_inside {a} {b} {c} {r} e h = subst (λ (s : State). Refuses s c r) e h
 
 -- the row and the operation that are going
 pub record Going (s : State) (sub : Sub) (P : Row → Under → Type 0) : Type 0 where
@@ -78,7 +78,7 @@ going_of s sub P h =
     record { row = f.0; under = u.0; found = f.1; is = u.1; number = u.2; so = u.3 }
 
 pub is_going : (s : State) (sub : Sub) (P : Row → Under → Type 0) → Going s sub P → IsUnderWay s sub P
-is_going s sub P g = subst (OnFound (λ r. OnUnder sub.number P r r.under)) (sym g.found) (subst (OnUnder sub.number P g.row) (sym g.is) (g.number, g.so))
+is_going s sub P g = subst (λ (x : Option Row). OnFound x (λ r. OnUnder sub.number P r r.under)) (sym g.found) (subst (OnUnder sub.number P g.row) (sym g.is) (g.number, g.so))
 
 pub going_more : (s : State) (sub : Sub) (P Q : Row → Under → Type 0) → ((r : Row) (u : Under) → P r u → Q r u) → IsUnderWay s sub P → IsUnderWay s sub Q
 going_more s sub P Q f h = let g = going_of s sub P h in is_going s sub Q (record { row = g.row; under = g.under; found = g.found; is = g.is; number = g.number; so = f g.row g.under g.so })
@@ -212,7 +212,7 @@ step_ready s sub running h k =
       says = refl;
       legal = (
         (ap (λ b. not (runs (phase_of b))) running, (ap not (ledger_going s k sub (λ r u. slice_get u.writes u.made ≡ None) g), tt)),
-        subst (λ (y : Option Open). Open_found y (λ (q : Open). q.left ≡ 0)) (sym (found_some s sub.txn g.row g.found)) left,
+        subst (λ (y : Option Open). OnFound y (λ (q : Open). q.left ≡ 0)) (sym (found_some s sub.txn g.row g.found)) left,
       );
       after = refl;
       sound = k;
@@ -225,14 +225,14 @@ step_ready s sub running h k =
     none_left (w ∷ ws) zero e = cc
     none_left (w ∷ ws) (suc i) e = let h = none_left ws i e in omega (arith, h)
 
-unknown_operation : (s : State) (sub : Sub) (c : Call) → s.failed ≡ false → IsNotUnderWay s sub → (c ≡ Step sub.txn sub.number) ⊎ (c ≡ Finish sub.txn sub.number) → Refuses false false s c why.UnknownOperation
+unknown_operation : (s : State) (sub : Sub) (c : Call) → s.failed ≡ false → IsNotUnderWay s sub → (c ≡ Step sub.txn sub.number) ⊎ (c ≡ Finish sub.txn sub.number) → Refuses s c why.UnknownOperation
 unknown_operation s sub c running h w k = elim w [
-  | inl e ↦ refuse false false s c why.UnknownOperation refl tt (ap (λ x. first_of (tests (size_of s.sizes) (ledger_of s) x)) e ∙ (rw (running, not_under s k sub h) refl)) k
-  | inr e ↦ refuse false false s c why.UnknownOperation refl tt (ap (λ x. first_of (tests (size_of s.sizes) (ledger_of s) x)) e ∙ (rw (running, not_under s k sub h) refl)) k
+  | inl e ↦ refuse s c why.UnknownOperation refl tt (ap (λ x. first_of (tests (size_of s.sizes) (ledger_of s) x)) e ∙ (rw (running, not_under s k sub h) refl)) k
+  | inr e ↦ refuse s c why.UnknownOperation refl tt (ap (λ x. first_of (tests (size_of s.sizes) (ledger_of s) x)) e ∙ (rw (running, not_under s k sub h) refl)) k
 ]
 
-pub step_idle : (s : State) (sub : Sub) (r : Refusal) → Idle s sub r → Refuses false false s (Step sub.txn sub.number) r
-step_idle s sub why.Failed h = refuse_failed false false s (Step sub.txn sub.number) h
+pub step_idle : (s : State) (sub : Sub) (r : Refusal) → Idle s sub r → Refuses s (Step sub.txn sub.number) r
+step_idle s sub why.Failed h = refuse_failed s (Step sub.txn sub.number) h
 step_idle s sub why.UnknownOperation h = unknown_operation s sub (Step sub.txn sub.number) h.0 h.1 (inl refl)
 step_idle s sub why.NoMemory h = absurd h
 step_idle s sub why.DiskRead h = absurd h
@@ -263,14 +263,14 @@ finish_done s new sub d running h e k =
     let c = subst (λ (x : Deed). Steps s (Finish sub.txn sub.number) (gave_done x) (record s { rows = change_row sub.txn (row_finished (record { lsn = length s.records + 1; deed = x })) s.rows; records = op_end sub.txn sub.number x ∷ s.records; waiting = without_taken x s.waiting })) g.so.1 b in
     subst (λ (x : State). Steps s (Finish sub.txn sub.number) (gave_done d) x) (sym e) c
 
-steps_are_left : (s : State) (sub : Sub) → s.failed ≡ false → IsUnderWay s sub (λ r u. u.made < length u.writes) → Refuses false false s (Finish sub.txn sub.number) why.Unfinished
+steps_are_left : (s : State) (sub : Sub) → s.failed ≡ false → IsUnderWay s sub (λ r u. u.made < length u.writes) → Refuses s (Finish sub.txn sub.number) why.Unfinished
 steps_are_left s sub running h k =
     let g = going_of s sub (λ r u. u.made < length u.writes) h in
     let more : steps_left (found sub.txn (ledger_of s).open_ones) ≡ true = ap steps_left (found_some s sub.txn g.row g.found) ∙ ap (λ (y : Option Under). nat_lt 0 (left_under y)) g.is ∙ lt-ltb 0 (length g.under.writes - g.under.made) (let m = g.so in omega (arith, m)) in
-    refuse false false s (Finish sub.txn sub.number) why.Unfinished refl tt (rw (running, ledger_going s k sub (λ r u. u.made < length u.writes) g, more) refl) k
+    refuse s (Finish sub.txn sub.number) why.Unfinished refl tt (rw (running, ledger_going s k sub (λ r u. u.made < length u.writes) g, more) refl) k
 
-pub finish_idle : (s : State) (sub : Sub) (r : Refusal) → CannotFinish s sub r → Refuses false false s (Finish sub.txn sub.number) r
-finish_idle s sub why.Failed h = refuse_failed false false s (Finish sub.txn sub.number) h
+pub finish_idle : (s : State) (sub : Sub) (r : Refusal) → CannotFinish s sub r → Refuses s (Finish sub.txn sub.number) r
+finish_idle s sub why.Failed h = refuse_failed s (Finish sub.txn sub.number) h
 finish_idle s sub why.UnknownOperation h = unknown_operation s sub (Finish sub.txn sub.number) h.0 h.1 (inr refl)
 finish_idle s sub why.Unfinished h = steps_are_left s sub h.0 h.1
 finish_idle s sub why.NoMemory h = absurd h
@@ -344,5 +344,5 @@ content_done s groups running idle e k = record {
   stays_forced = omega arith;
 }
 
-pub content_busy : (s : State) → s.failed ≡ false → any_under s.rows ≡ true → Refuses true false s Show why.Unfinished
-content_busy s running busy = refuse true false s Show why.Unfinished refl tt (let b : any_busy (ledger_of s).open_ones ≡ true = busy_is s.ends s.rows ∙ busy in rw (running, b) refl)
+pub content_busy : (s : State) → s.failed ≡ false → any_under s.rows ≡ true → Refuses s Show why.Unfinished
+content_busy s running busy = refuse s Show why.Unfinished refl tt (let b : any_busy (ledger_of s).open_ones ≡ true = busy_is s.ends s.rows ∙ busy in rw (running, b) refl)

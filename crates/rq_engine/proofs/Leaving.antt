@@ -9,21 +9,22 @@ use Rattle.rq_engine.specs.declared.event.Reply.{Reply}
 use Rattle.rq_engine.specs.declared.event.Reply.TheVariants as reply
 use Rattle.rq_engine.specs.Opened.{OpenStore, NotWritten}
 use Rattle.rq_engine.specs.Applied.{RefusalLeaves}
-use Rattle.rq_engine.specs.Says.{begun_reply, writes_out}
+use Rattle.rq_engine.specs.Says.{begun_reply, call_of}
+use Rattle.rq_model.specs.Causes.{writes_out}
 
 module _ {P L : Type 0} (old new : OpenStore P L) (e : Event) where
   -- a call that writes to no device changes nothing where it is refused
-  pub plain_leaves : (r : Refusal) → writes_out e ≡ false → new ≡ old → RefusalLeaves old e (reply.Refused r) new
+  pub plain_leaves : (r : Refusal) → writes_out (call_of e) ≡ false → new ≡ old → RefusalLeaves old e (reply.Refused r) new
   plain_leaves why.DiskWrite w same = rw w same
   plain_leaves r w same = same
 
-  pub begun_leaves : (x : Result (Option Sub) Refusal) (y : Reply) → writes_out e ≡ false → OnErr x (new ≡ old) → y ≡ begun_reply x → RefusalLeaves old e y new
+  pub begun_leaves : (x : Result (Option Sub) Refusal) (y : Reply) → writes_out (call_of e) ≡ false → OnErr x (new ≡ old) → y ≡ begun_reply x → RefusalLeaves old e y new
   begun_leaves (Ok (Some sub)) y w same is = rw is tt
   begun_leaves (Ok None) y w same is = rw is tt
   begun_leaves (Err r) y w same is = rw is (plain_leaves r w same)
 
   -- one that does stops the store where its device fails
-  pub handed_leaves : (g : log_device.Ghosts L) (r : Refusal) → writes_out e ≡ true → NotWritten g old new r → new.state ≡ record old.state { failed = true } → new.changed ≡ old.changed → RefusalLeaves old e (reply.Refused r) new
+  pub handed_leaves : (g : log_device.Ghosts L) (r : Refusal) → writes_out (call_of e) ≡ true → NotWritten g old new r → new.state ≡ record old.state { failed = true } → new.changed ≡ old.changed → RefusalLeaves old e (reply.Refused r) new
   handed_leaves g why.DiskWrite w not stops same = rw w (stops, same)
   handed_leaves g why.Failed w not stops same = not.1
   handed_leaves g r w not stops same = absurd not

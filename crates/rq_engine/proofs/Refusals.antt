@@ -14,13 +14,15 @@ use Rattle.rq_model.specs.Tests.{Size, tests, first_of, NoneHolds, is_aborting, 
 use Rattle.rq_model.specs.Reference.{without_pages, IsUnready}
 use Rattle.std.specs.Option.{is_some as option_is_some}
 use Rattle.rq_txn.specs.declared.Operation.{Operation}
-use Rattle.rq_txn.specs.Rows.{Row, Under, found_row, under_way_of}
+use Rattle.rq_txn.specs.Rows.{Row, Under, found_row, under_way_of, any_under}
 use Rattle.rq_store.specs.State.{State, owed_by, ledger_of, size_of, open_of, job_under, phase_of}
 use Rattle.rq_store.proofs.Opens.{found_open, open_found, owed_is, count_is}
 use Rattle.rq_store.proofs.Forcing.{refused_steps}
 use Rattle.rq_page.specs.Sizes.{Sizes}
 use Rattle.rq_content.specs.Read.{StopsFor, IsBroken, damaged_for}
-use Rattle.rq_engine.specs.Answers.{HasCause, Refuses, OnFound}
+use Rattle.rq_engine.specs.Answers.{Refuses}
+use Rattle.rq_model.specs.Legal.{OnFound}
+use Rattle.rq_model.specs.Causes.{HasCause, takes_memory}
 
 failed_first : (z : Size) (l : Ledger) (c : Call) → runs l.phase ≡ false → first_of (tests z l c) ≡ Some why.Failed
 failed_first z l Begin e = rw e refl
@@ -90,47 +92,47 @@ same_after l c why.LogFull p = refl
 same_after l c why.UnknownOperation p = refl
 
 -- a refusal that some test decides has no other cause
-plain_cause : (d : Bool) (s : State) (r : Refusal) → IsTrue (without_pages r) → HasCause true d s r
-plain_cause d s why.NoMemory p = refl
-plain_cause d s why.Failed p = tt
-plain_cause d s why.DiskRead p = absurd (false≢true p)
-plain_cause d s why.UnknownTransaction p = tt
-plain_cause d s why.NotOpen p = tt
-plain_cause d s why.Unfinished p = tt
-plain_cause d s why.UnknownSender p = tt
-plain_cause d s why.TooLong p = tt
-plain_cause d s why.SenderBusy p = tt
-plain_cause d s why.Closed p = tt
-plain_cause d s why.ReceiverBusy p = tt
-plain_cause d s why.Full p = tt
-plain_cause d s why.Latched p = absurd (false≢true p)
-plain_cause d s why.PoolFull p = absurd (false≢true p)
-plain_cause d s why.DiskWrite p = absurd (false≢true p)
-plain_cause d s (why.Damaged x) p = absurd (false≢true p)
-plain_cause d s why.TooManyTransactions p = tt
-plain_cause d s why.NotForced p = absurd (false≢true p)
-plain_cause d s why.LogFull p = tt
-plain_cause d s why.UnknownOperation p = tt
+plain_cause : (b : Bool) (c : Call) (r : Refusal) → IsTrue (without_pages r) → takes_memory c ≡ true → HasCause b c r
+plain_cause b c why.NoMemory p takes = takes
+plain_cause b c why.Failed p takes = tt
+plain_cause b c why.DiskRead p takes = absurd (false≢true p)
+plain_cause b c why.UnknownTransaction p takes = tt
+plain_cause b c why.NotOpen p takes = tt
+plain_cause b c why.Unfinished p takes = tt
+plain_cause b c why.UnknownSender p takes = tt
+plain_cause b c why.TooLong p takes = tt
+plain_cause b c why.SenderBusy p takes = tt
+plain_cause b c why.Closed p takes = tt
+plain_cause b c why.ReceiverBusy p takes = tt
+plain_cause b c why.Full p takes = tt
+plain_cause b c why.Latched p takes = absurd (false≢true p)
+plain_cause b c why.PoolFull p takes = absurd (false≢true p)
+plain_cause b c why.DiskWrite p takes = absurd (false≢true p)
+plain_cause b c (why.Damaged x) p takes = absurd (false≢true p)
+plain_cause b c why.TooManyTransactions p takes = tt
+plain_cause b c why.NotForced p takes = absurd (false≢true p)
+plain_cause b c why.LogFull p takes = tt
+plain_cause b c why.UnknownOperation p takes = tt
 
 -- the first test that holds is the refusal
-pub refuse : (memory disk : Bool) (s : State) (c : Call) (r : Refusal) → IsTrue (without_pages r) → HasCause memory disk s r → first_of (tests (size_of s.sizes) (ledger_of s) c) ≡ Some r → Refuses memory disk s c r
-refuse m d s c r p cause e k = (refused_steps s k c r (legal_first (size_of s.sizes) (ledger_of s) c r p e) (same_after (ledger_of s) c r p), cause)
+pub refuse : (s : State) (c : Call) (r : Refusal) → IsTrue (without_pages r) → HasCause (any_under s.rows) c r → first_of (tests (size_of s.sizes) (ledger_of s) c) ≡ Some r → Refuses s c r
+refuse s c r p cause e k = (refused_steps s k c r (legal_first (size_of s.sizes) (ledger_of s) c r p e) (same_after (ledger_of s) c r p), cause)
 
 -- want of memory may come wherever the store runs
-pub no_memory : (disk : Bool) (s : State) (c : Call) → s.failed ≡ false → Refuses true disk s c why.NoMemory
-no_memory d s c running k = (refused_steps s k c why.NoMemory (ap (λ b. runs (phase_of b)) running) refl, refl)
+pub no_memory : (s : State) (c : Call) → takes_memory c ≡ true → s.failed ≡ false → Refuses s c why.NoMemory
+no_memory s c takes running k = (refused_steps s k c why.NoMemory (ap (λ b. runs (phase_of b)) running) refl, takes)
 
 first_front : (xs ys : List (Bool × Refusal)) (r : Refusal) → first_of xs ≡ Some r → first_of (xs ++ ys) ≡ Some r
 first_front [] ys r e = cc
 first_front (x ∷ xs) ys r e = elim (cases_Bool x.0) [ inl y ↦ rw y (rw y at e) | inr n ↦ rw n (first_front xs ys r (rw n at e)) ]
 
 -- a store that has failed refuses every call
-pub refuse_failed : (memory disk : Bool) (s : State) (c : Call) → s.failed ≡ true → Refuses memory disk s c why.Failed
-refuse_failed m d s c e = refuse m d s c why.Failed refl tt (failed_first (size_of s.sizes) (ledger_of s) c (ap (λ b. runs (phase_of b)) e))
+pub refuse_failed : (s : State) (c : Call) → s.failed ≡ true → Refuses s c why.Failed
+refuse_failed s c e = refuse s c why.Failed refl tt (failed_first (size_of s.sizes) (ledger_of s) c (ap (λ b. runs (phase_of b)) e))
 
 -- a transaction that is not ready is refused so by a commit and by a send
-pub refuse_commit : (disk : Bool) (s : State) (t : Txn) (r : Refusal) → IsUnready (ledger_of s) t false r → Refuses true disk s (Commit t) r
-refuse_commit d s t r u = refuse true d s (Commit t) r u.plain (plain_cause d s r u.plain) (first_front (ready_tests (ledger_of s) t false) ((log_full (ledger_of s) 1, why.LogFull) ∷ []) r u.first)
+pub refuse_commit : (s : State) (t : Txn) (r : Refusal) → IsUnready (ledger_of s) t false r → Refuses s (Commit t) r
+refuse_commit s t r u = refuse s (Commit t) r u.plain (plain_cause (any_under s.rows) (Commit t) r u.plain refl) (first_front (ready_tests (ledger_of s) t false) ((log_full (ledger_of s) 1, why.LogFull) ∷ []) r u.first)
 
 -- what the tests of a transaction find
 pub found_none : (s : State) (t : Txn) → found_row t s.rows ≡ None → found t (ledger_of s).open_ones ≡ None
@@ -175,19 +177,19 @@ full_is s o more e = ap (λ n. nat_lt (2 ^ 50) (length s.records + n + more)) (e
 pub not_full : (s : State) (more : ℕ) → log_full (ledger_of s) more ≡ false → length s.records + owed_by s.rows + more ≤ 2 ^ 50
 not_full s more e = ltb-false (2 ^ 50) (length s.records + owed_by s.rows + more) (ap (λ n. nat_lt (2 ^ 50) (length s.records + n + more)) (sym (owed_is s.ends s.rows)) ∙ e)
 
-pub refuse_full : (disk : Bool) (s : State) (t : Txn) → NoneHolds (ready_tests (ledger_of s) t false) → log_full (ledger_of s) 1 ≡ true → Refuses true disk s (Commit t) why.LogFull
-refuse_full d s t h e = refuse true d s (Commit t) why.LogFull refl tt (rw (h.0, h.1.0, h.1.1.0, h.1.1.1.0, e) refl)
+pub refuse_full : (s : State) (t : Txn) → NoneHolds (ready_tests (ledger_of s) t false) → log_full (ledger_of s) 1 ≡ true → Refuses s (Commit t) why.LogFull
+refuse_full s t h e = refuse s (Commit t) why.LogFull refl tt (rw (h.0, h.1.0, h.1.1.0, h.1.1.1.0, e) refl)
 
-pub refuse_begins : (disk : Bool) (s : State) → s.failed ≡ false → (not (nat_lt (length (ledger_of s).open_ones) 4096) || nat_eq s.begins (2 ^ 64 - 1)) ≡ true → Refuses true disk s Begin why.TooManyTransactions
-refuse_begins d s e h = refuse true d s Begin why.TooManyTransactions refl tt (rw (e, h) refl)
+pub refuse_begins : (s : State) → s.failed ≡ false → (not (nat_lt (length (ledger_of s).open_ones) 4096) || nat_eq s.begins (2 ^ 64 - 1)) ≡ true → Refuses s Begin why.TooManyTransactions
+refuse_begins s e h = refuse s Begin why.TooManyTransactions refl tt (rw (e, h) refl)
 
 -- what is so of the row that is found
-pub found_of : (P : Row → Type 0) (o : Option Row) → OnFound P o → (r : Row) × (o ≡ Some r) × P r
+pub found_of : (P : Row → Type 0) (o : Option Row) → OnFound o P → (r : Row) × (o ≡ Some r) × P r
 found_of P None h = absurd h
 found_of P (Some r) h = (r, refl, h)
 
-pub on_found : (P : Row → Type 0) (o : Option Row) (r : Row) → o ≡ Some r → P r → OnFound P o
-on_found P o r e h = subst (OnFound P) (sym e) h
+pub on_found : (P : Row → Type 0) (o : Option Row) (r : Row) → o ≡ Some r → P r → OnFound o P
+on_found P o r e h = subst (λ (x : Option Row). OnFound x P) (sym e) h
 
 -- a content that is not had is not refused as a store that has failed is
 never_failed : (z : Sizes) (images : List (List ℕ)) (rows : List Row) (r : Refusal) → StopsFor z images rows r → r ≡ why.Failed → ⊥

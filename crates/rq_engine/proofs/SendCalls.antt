@@ -46,7 +46,8 @@ use Rattle.rq_store.proofs.Flags.{flag_is}
 use Rattle.rq_store.proofs.SendStarts.{start_steps}
 use Rattle.rq_model.specs.Replay.Reply.{Gave_sub}
 use Rattle.rq_store.proofs.Forcing.{refused_steps}
-use Rattle.rq_engine.specs.Answers.{Refuses, HasNothingUnderWay, OnFound, OnUnder}
+use Rattle.rq_engine.specs.Answers.{Refuses, HasNothingUnderWay, OnUnder}
+use Rattle.rq_model.specs.Legal.{OnFound}
 use Rattle.rq_chain.specs.declared.Plan.{Plan}
 use Rattle.rq_engine.specs.Kept.{IsKept, IsUnderKept}
 use Rattle.rq_engine.specs.Sends.{under_plan, FitsPlan, TakesLowest}
@@ -88,8 +89,8 @@ module _ (s : State) (t : Txn) (e tag : ℕ) (body : List ℕ) (h : NoneHolds (r
   fits : nat_lt 216 (length body) ≡ false
   fits = le-ltb 216 (length body) short
 
-  pub busy : is_free_for t e s.ends.sending ≡ false → Refuses true false s call why.SenderBusy
-  busy n k = refuse true false s call why.SenderBusy refl tt (rw (h.0, h.1.0, h.1.1.0, h.1.1.1.0, known, fits, free_is s k t e, n) refl) k
+  pub busy : is_free_for t e s.ends.sending ≡ false → Refuses s call why.SenderBusy
+  busy n k = refuse s call why.SenderBusy refl tt (rw (h.0, h.1.0, h.1.1.0, h.1.1.1.0, known, fits, free_is s k t e, n) refl) k
 
   module _ (free : is_free_for t e s.ends.sending ≡ true) where
     closed_by : (k : IsSound s) (d : Directory) → slots_in s.sizes s.images (directory_at e) ≡ Sender e d → (ended_in (ledger_of s).committed e || has_closed e (found t (ledger_of s).open_ones)) ≡ d.closed
@@ -98,27 +99,27 @@ module _ (s : State) (t : Txn) (e tag : ℕ) (body : List ℕ) (h : NoneHolds (r
     free_by : (k : IsSound s) → not (free_to_send t e (ledger_of s).open_ones) ≡ false
     free_by k = ap not (free_is s k t e ∙ free)
 
-    pub closed : (d : Directory) → slots_in s.sizes s.images (directory_at e) ≡ Sender e d → d.closed ≡ true → Refuses true false s call why.Closed
-    closed d at c k = refuse true false s call why.Closed refl tt (rw (h.0, h.1.0, h.1.1.0, h.1.1.1.0, known, fits, free_by k, closed_by k d at, c) refl) k
+    pub closed : (d : Directory) → slots_in s.sizes s.images (directory_at e) ≡ Sender e d → d.closed ≡ true → Refuses s call why.Closed
+    closed d at c k = refuse s call why.Closed refl tt (rw (h.0, h.1.0, h.1.1.0, h.1.1.1.0, known, fits, free_by k, closed_by k d at, c) refl) k
 
     module _ (d : Directory) (at : slots_in s.sizes s.images (directory_at e) ≡ Sender e d) (not_closed : d.closed ≡ false) where
-      pub full : cell_count s.sizes ≤ s.cells_in_use → Refuses true false s call why.Full
+      pub full : cell_count s.sizes ≤ s.cells_in_use → Refuses s call why.Full
       full c k =
           let b = k.bound in
           let eq : nat_eq (cells_in_use (size_of s.sizes) (ledger_of s)) (cell_count s.sizes) ≡ true = ap (λ n. nat_eq n (cell_count s.sizes)) (sym k.cells) ∙ eq-eqb s.cells_in_use (cell_count s.sizes) (omega (arith, b, c)) in
-          refuse true false s call why.Full refl tt (rw (h.0, h.1.0, h.1.1.0, h.1.1.1.0, known, fits, free_by k, closed_by k d at, not_closed, eq) refl) k
+          refuse s call why.Full refl tt (rw (h.0, h.1.0, h.1.1.0, h.1.1.1.0, known, fits, free_by k, closed_by k d at, not_closed, eq) refl) k
 
       module _ (room : s.cells_in_use < cell_count s.sizes) where
         some_room : (k : IsSound s) → nat_eq (cells_in_use (size_of s.sizes) (ledger_of s)) (cell_count s.sizes) ≡ false
         some_room k = ap (λ n. nat_eq n (cell_count s.sizes)) (sym k.cells) ∙ false_from_ne_true (nat_eq s.cells_in_use (cell_count s.sizes)) (λ y. let e = eqb-true s.cells_in_use (cell_count s.sizes) y in omega (arith, e, room))
 
-        pub log_is_full : log_full (ledger_of s) 4 ≡ true → Refuses true false s call why.LogFull
-        log_is_full c k = refuse true false s call why.LogFull refl tt (rw (h.0, h.1.0, h.1.1.0, h.1.1.1.0, known, fits, free_by k, closed_by k d at, not_closed, some_room k, c) refl) k
+        pub log_is_full : log_full (ledger_of s) 4 ≡ true → Refuses s call why.LogFull
+        log_is_full c k = refuse s call why.LogFull refl tt (rw (h.0, h.1.0, h.1.1.0, h.1.1.1.0, known, fits, free_by k, closed_by k d at, not_closed, some_room k, c) refl) k
 
         pub passes : log_full (ledger_of s) 4 ≡ false → IsSound s → Passes (size_of s.sizes) (ledger_of s) call
         passes c k = (h.0, (h.1.0, (h.1.1.0, (h.1.1.1.0, (known, (fits, (free_by k, (closed_by k d at ∙ not_closed, (some_room k, (c, tt))))))))))
 
-        pub latched : log_full (ledger_of s) 4 ≡ false → any_under s.rows ≡ true → Refuses true false s call why.Latched
+        pub latched : log_full (ledger_of s) 4 ≡ false → any_under s.rows ≡ true → Refuses s call why.Latched
         latched c u k = (refused_steps s k call why.Latched (passes c k, refl) refl, u)
 
 used_from : (x : Slot) (c : Cell) → cell_in x ≡ Some c → x ≡ Used c
@@ -200,7 +201,7 @@ send_done s new t n e tag body b plan ready h idle same p free room may is k =
 
 -- what was planned is under way
 pub going_started : (s : State) (rows : List Row) (t : Txn) (n : ℕ) (plan : Plan) (P : Row → Under → Type 0) → HasNothingUnderWay s t n → rows ≡ change_row t (row_started (under_plan n plan)) s.rows
-    → ((r : Row) → P r (under_plan n plan)) → OnFound (λ r. OnUnder n P r r.under) (found_row t rows)
+    → ((r : Row) → P r (under_plan n plan)) → OnFound (found_row t rows) (λ r. OnUnder n P r r.under)
 going_started s rows t n plan P ready is holds =
     let r = found_of (λ r. (r.under ≡ None) × (n ≡ r.number + 1)) (found_row t s.rows) ready in
     let found : found_row t rows ≡ Some (row_started (under_plan n plan) r.0) =

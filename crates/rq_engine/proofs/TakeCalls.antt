@@ -35,7 +35,8 @@ use Rattle.rq_store.proofs.TakePlans.{head_stands, next_stands}
 use Rattle.rq_store.proofs.TakeStarts.{take_steps, take_from_steps}
 use Rattle.rq_store.proofs.Waiting.{waits_in_chain}
 use Rattle.rq_chain.specs.declared.Plan.{Plan}
-use Rattle.rq_engine.specs.Answers.{Refuses, HasNothingUnderWay, HasCause}
+use Rattle.rq_engine.specs.Answers.{Refuses, HasNothingUnderWay}
+use Rattle.rq_model.specs.Causes.{HasCause}
 use Rattle.rq_engine.specs.Receives.{IsTakeCall}
 use Rattle.rq_engine.specs.Sends.{under_plan}
 use Rattle.rq_engine.proofs.Refusals.{refuse, found_of}
@@ -54,11 +55,11 @@ module _ (s : State) (t : Txn) (h : NoneHolds (ready_tests (ledger_of s) t false
       none_steps s k t own_row.0 own_row.1 none (h.0, (h.1.0, (h.1.1.0, (h.1.1.1.0, (ap (λ b. b && log_full (ledger_of s) 4) g, tt)))))
 
   module _ (e : ℕ) where
-    pub unknown_sender : sender_count s.sizes ≤ e → Refuses true false s (Start_receive_from t e) why.UnknownSender
-    unknown_sender m k = refuse true false s (Start_receive_from t e) why.UnknownSender refl tt (rw (h.0, h.1.0, h.1.1.0, h.1.1.1.0, ap not (le-ltb e (sender_count s.sizes) m)) refl) k
+    pub unknown_sender : sender_count s.sizes ≤ e → Refuses s (Start_receive_from t e) why.UnknownSender
+    unknown_sender m k = refuse s (Start_receive_from t e) why.UnknownSender refl tt (rw (h.0, h.1.0, h.1.1.0, h.1.1.1.0, ap not (le-ltb e (sender_count s.sizes) m)) refl) k
 
-    pub receiver_busy : e < sender_count s.sizes → is_free_for t e s.ends.receiving ≡ false → Refuses true false s (Start_receive_from t e) why.ReceiverBusy
-    receiver_busy m busy k = refuse true false s (Start_receive_from t e) why.ReceiverBusy refl tt (rw (h.0, h.1.0, h.1.1.0, h.1.1.1.0, ap not (lt-ltb e (sender_count s.sizes) m), ap not (free_to_take s k t e ∙ busy)) refl) k
+    pub receiver_busy : e < sender_count s.sizes → is_free_for t e s.ends.receiving ≡ false → Refuses s (Start_receive_from t e) why.ReceiverBusy
+    receiver_busy m busy k = refuse s (Start_receive_from t e) why.ReceiverBusy refl tt (rw (h.0, h.1.0, h.1.1.0, h.1.1.1.0, ap not (lt-ltb e (sender_count s.sizes) m), ap not (free_to_take s k t e ∙ busy)) refl) k
 
     pub none_from_done : e < sender_count s.sizes → is_free_for t e s.ends.receiving ≡ true → waits s.waiting e ≡ 0 → IsSound s → Steps s (Start_receive_from t e) Gave_none s
     none_from_done m free none k =
@@ -79,10 +80,10 @@ module _ (s : State) (t : Txn) (h : NoneHolds (ready_tests (ledger_of s) t false
       is_free : (k : IsSound s) → not (free_to_receive t e (ledger_of s).open_ones) ≡ false
       is_free k = ap not (free_to_take s k t e ∙ free)
 
-      pub log_is_full : log_full (ledger_of s) 4 ≡ true → (call : Call) → IsTakeCall t e call → Refuses true false s call why.LogFull
+      pub log_is_full : log_full (ledger_of s) 4 ≡ true → (call : Call) → IsTakeCall t e call → Refuses s call why.LogFull
       log_is_full c call is k = elim is [
-        | inl x ↦ subst (λ (y : Call). Steps s y (Gave_refusal why.LogFull) s × HasCause true false s why.LogFull) (sym x) (refuse true false s (Start_receive t) why.LogFull refl tt (rw (h.0, h.1.0, h.1.1.0, h.1.1.1.0, some k, c) refl) k)
-        | inr x ↦ subst (λ (y : Call). Steps s y (Gave_refusal why.LogFull) s × HasCause true false s why.LogFull) (sym x) (refuse true false s (Start_receive_from t e) why.LogFull refl tt (rw (h.0, h.1.0, h.1.1.0, h.1.1.1.0, known, is_free k, one k, c) refl) k)
+        | inl x ↦ subst (λ (y : Call). Steps s y (Gave_refusal why.LogFull) s × HasCause (any_under s.rows) y why.LogFull) (sym x) (refuse s (Start_receive t) why.LogFull refl tt (rw (h.0, h.1.0, h.1.1.0, h.1.1.1.0, some k, c) refl) k)
+        | inr x ↦ subst (λ (y : Call). Steps s y (Gave_refusal why.LogFull) s × HasCause (any_under s.rows) y why.LogFull) (sym x) (refuse s (Start_receive_from t e) why.LogFull refl tt (rw (h.0, h.1.0, h.1.1.0, h.1.1.1.0, known, is_free k, one k, c) refl) k)
       ]
 
       module _ (room : log_full (ledger_of s) 4 ≡ false) where
@@ -100,10 +101,10 @@ module _ (s : State) (t : Txn) (h : NoneHolds (ready_tests (ledger_of s) t false
             and_none true b e = e
             and_none false b e = refl
 
-        pub latched : any_under s.rows ≡ true → (call : Call) → IsTakeCall t e call → Refuses true false s call why.Latched
+        pub latched : any_under s.rows ≡ true → (call : Call) → IsTakeCall t e call → Refuses s call why.Latched
         latched u call is k = elim is [
-          | inl x ↦ subst (λ (y : Call). Steps s y (Gave_refusal why.Latched) s × HasCause true false s why.Latched) (sym x) (refused_steps s k (Start_receive t) why.Latched (passes k, some k) refl, u)
-          | inr x ↦ subst (λ (y : Call). Steps s y (Gave_refusal why.Latched) s × HasCause true false s why.Latched) (sym x) (refused_steps s k (Start_receive_from t e) why.Latched (passes_from k, one k) refl, u)
+          | inl x ↦ subst (λ (y : Call). Steps s y (Gave_refusal why.Latched) s × HasCause (any_under s.rows) y why.Latched) (sym x) (refused_steps s k (Start_receive t) why.Latched (passes k, some k) refl, u)
+          | inr x ↦ subst (λ (y : Call). Steps s y (Gave_refusal why.Latched) s × HasCause (any_under s.rows) y why.Latched) (sym x) (refused_steps s k (Start_receive_from t e) why.Latched (passes_from k, one k) refl, u)
         ]
 
         -- a receive that has started

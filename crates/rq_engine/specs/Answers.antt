@@ -1,5 +1,6 @@
 -- What a call answers, and what it finds of the operation that it names.
-use Rattle.std.specs.Prelude.{◌≡◌, ◌≢◌, ℕ, ◌+◌, ◌/◌, ◌%◌, ◌<◌, length, Bool, true, false, ◌∷◌, Option, Some, None, Result, Ok, Err}
+use Rattle.rq_model.specs.Causes.{HasCause}
+use Rattle.std.specs.Prelude.{◌≡◌, ◌≢◌, ℕ, ◌+◌, ◌/◌, ◌%◌, ◌<◌, length, true, false, ◌∷◌, Option, Some, None, Result, Ok, Err}
 use Rattle.rq_model.specs.declared.txn.Sub.{Sub}
 use Rattle.rq_model.specs.declared.txn.Txn.{Txn}
 use Rattle.rq_model.specs.declared.refusal.Refusal.{Refusal}
@@ -7,6 +8,7 @@ use Rattle.rq_model.specs.declared.refusal.Refusal.TheVariants as why
 use Rattle.rq_model.specs.History.{Call}
 use Rattle.rq_model.specs.Replay.{Reply as Gave}
 use Rattle.rq_model.specs.Replay.Reply.{Gave_refusal}
+use Rattle.rq_model.specs.Legal.{OnFound}
 use Rattle.rq_page.specs.Slots.{held_in, IsSlotOf}
 use Rattle.rq_level.specs.Log.{put}
 use Rattle.rq_level.specs.Stored.{slots_in}
@@ -19,47 +21,27 @@ use Rattle.rq_disk.specs.declared.device.LogDevice as log_device
 use Rattle.rq_disk.specs.declared.device.PageDevice as page_device
 use Rattle.rq_engine.specs.Opened.{OpenStore, AreHonest}
 
--- No call of an open store reads a device: its pages stand in memory.
-abbrev pub MeetsRead : Type 0
-MeetsRead = ⊥
-
--- A refusal comes only with its cause: memory's where the call takes memory, the disk's and a page's that is not forced
--- where it writes, Latched where an operation is under way, and damage never.
-abbrev pub HasCause : (memory disk : Bool) → State → Refusal → Type 0
-HasCause memory disk s why.NoMemory = memory ≡ true
-HasCause memory disk s why.DiskWrite = disk ≡ true
-HasCause memory disk s why.Latched = any_under s.rows ≡ true
-HasCause memory disk s why.DiskRead = MeetsRead
-HasCause memory disk s (why.Damaged d) = ⊥
-HasCause memory disk s why.PoolFull = ⊥
-HasCause memory disk s why.NotForced = disk ≡ true
-HasCause memory disk s _ = Unit {0}
-
 -- the call may be refused so, and that changes nothing
-abbrev pub Refuses : (memory disk : Bool) → State → Call → Refusal → Type 0
-Refuses memory disk s call r = IsSound s → Steps s call (Gave_refusal r) s × HasCause memory disk s r
+abbrev pub Refuses : State → Call → Refusal → Type 0
+Refuses s call r = IsSound s → Steps s call (Gave_refusal r) s × HasCause (any_under s.rows) call r
 
 -- The call with its answer is an entry that may come next where the store goes back to a legal log and both devices
 -- have been honest up to its end, and the store after it is what that entry makes of it.
-abbrev pub AnswersLegally : {P L X : Type 0} → page_device.Ghosts P → log_device.Ghosts L → (memory disk : Bool)
+abbrev pub AnswersLegally : {P L X : Type 0} → page_device.Ghosts P → log_device.Ghosts L
     → OpenStore P L → Call → (X → Gave) → Result X Refusal → OpenStore P L → Type 0
-AnswersLegally p l memory disk old call gave (Ok x) new = AreHonest p l new → IsSound old.state
+AnswersLegally p l old call gave (Ok x) new = AreHonest p l new → IsSound old.state
     → Steps old.state call (gave x) new.state
-AnswersLegally p l memory disk old call gave (Err r) new = AreHonest p l new → IsSound old.state
-    → Steps old.state call (Gave_refusal r) new.state × HasCause memory disk old.state r
+AnswersLegally p l old call gave (Err r) new = AreHonest p l new → IsSound old.state
+    → Steps old.state call (Gave_refusal r) new.state × HasCause (any_under old.state.rows) call r
 
 -- what is so of a transaction's operation under way, if it has this number
 abbrev pub OnUnder : ℕ → (Row → Under → Type 0) → Row → Option Under → Type 0
 OnUnder n P r None = ⊥
 OnUnder n P r (Some u) = (u.number ≡ n) × P r u
 
-abbrev pub OnFound : (Row → Type 0) → Option Row → Type 0
-OnFound P None = ⊥
-OnFound P (Some r) = P r
-
 -- the operation is under way, and this is so of its row and of it
 abbrev pub IsUnderWay : State → Sub → (Row → Under → Type 0) → Type 0
-IsUnderWay s sub P = OnFound (λ r. OnUnder sub.number P r r.under) (found_row sub.txn s.rows)
+IsUnderWay s sub P = OnFound (found_row sub.txn s.rows) (λ r. OnUnder sub.number P r r.under)
 
 abbrev pub IsOther : ℕ → Option Under → Type 0
 IsOther n None = Unit {0}
@@ -101,4 +83,4 @@ pub record IsMade (old : State) (sub : Sub) (w : SlotWrite) (new : State) : Type
 
 -- the transaction is open with nothing under way, and this is the number of its next operation
 abbrev pub HasNothingUnderWay : State → Txn → ℕ → Type 0
-HasNothingUnderWay s t n = OnFound (λ r. (r.under ≡ None) × (n ≡ r.number + 1)) (found_row t s.rows)
+HasNothingUnderWay s t n = OnFound (found_row t s.rows) (λ r. (r.under ≡ None) × (n ≡ r.number + 1))

@@ -22,7 +22,8 @@ use Rattle.rq_engine.specs.Lists.{ListsSay}
 use Rattle.rq_engine.specs.Sends.{TakesLowest}
 use Rattle.rq_engine.specs.Opened.{OpenStore, AreHonest}
 use Rattle.rq_engine.specs.Crash.{AreFit, RunsThroughCuts}
-use Rattle.rq_engine.specs.Says.{IsCaused, LogSays, PagesSay, WritesSay, call_of, gave, writes_out, written_by}
+use Rattle.rq_engine.specs.Says.{RefusedForCause, LogSays, PagesSay, WritesSay, call_of, gave, written_by}
+use Rattle.rq_model.specs.Causes.{writes_out}
 
 -- what a device that fails in a write leaves of the store: it is stopped; no other call meets such a failure
 abbrev pub WriteFails : {P L : Type 0} → Bool → OpenStore P L → OpenStore P L → Type 0
@@ -31,7 +32,7 @@ WriteFails false old new = new ≡ old
 
 -- What a refusal leaves of the store: all as it was, but that a device's failure in a write stops it.
 abbrev pub RefusalLeaves : {P L : Type 0} → OpenStore P L → Event → Reply → OpenStore P L → Type 0
-RefusalLeaves old e (reply.Refused why.DiskWrite) new = WriteFails (writes_out e) old new
+RefusalLeaves old e (reply.Refused why.DiskWrite) new = WriteFails (writes_out (call_of e)) old new
 RefusalLeaves old e (reply.Refused r) new = new ≡ old
 RefusalLeaves old e _ new = Unit {0}
 
@@ -65,7 +66,7 @@ pub record Applied {P L : Type 0} (p : page_device.Ghosts P) (l : log_device.Gho
     (e : Event) (r : Reply) (new : OpenStore P L) : Type 0 where
   -- of a sound store over honest devices: the entry that event and reply say may come next, and a refusal has its cause
   pub steps : AreHonest p l new → IsSound old.state → Steps old.state (call_of e) (gave r) new.state
-  pub cause : AreHonest p l new → IsSound old.state → IsCaused old.state e r
+  pub cause : AreHonest p l new → IsSound old.state → RefusedForCause old.state e r
   -- of every store
   pub sizes : new.state.sizes ≡ old.state.sizes
   pub failed : (r ≡ reply.Refused why.Failed) ↔ (old.state.failed ≡ true)

@@ -1,4 +1,7 @@
 -- Events and replies as the model's words: calls, and what they gave.
+use Rattle.rq_txn.specs.Rows.{any_under}
+use Rattle.rq_model.specs.Causes.{HasCause}
+use Rattle.rq_store.specs.State.{State}
 use Rattle.std.specs.Prelude.{◌≡◌, Bool, true, false, map, Option, Some, None, Result, Ok, Err}
 use Rattle.rq_model.specs.declared.refusal.Refusal.{Refusal}
 use Rattle.rq_model.specs.History.{Call}
@@ -15,9 +18,7 @@ use Rattle.rq_pool.specs.declared.Written.{Written}
 use Rattle.rq_pool.specs.declared.Written.TheVariants.{Done, Nothing}
 use Rattle.rq_pool.specs.Pooled.{image_at}
 use Rattle.rq_pool.specs.Writing.{DeviceAfter}
-use Rattle.rq_store.specs.State.{State}
 use Rattle.rq_engine.specs.Opened.{OpenStore, NotWritten, WritesWhen}
-use Rattle.rq_engine.specs.Answers.{HasCause}
 use Rattle.rq_engine.specs.declared.event.Progress.{Progress}
 use Rattle.rq_engine.specs.declared.event.Progress.TheVariants as progress
 use Rattle.rq_engine.specs.declared.event.Outcome.{Outcome}
@@ -88,27 +89,10 @@ abbrev pub IsContent : Reply → Type 0
 IsContent (reply.Content groups) = Unit {0}
 IsContent _ = ⊥
 
--- the call of an event takes memory
-abbrev pub takes_memory : Event → Bool
-takes_memory (event.Step sub) = false
-takes_memory (event.Finish sub) = false
-takes_memory (event.Acknowledged number) = false
-takes_memory event.HandOver = false
-takes_memory event.Force = false
-takes_memory (event.WritePage page) = false
-takes_memory _ = true
-
--- it writes to a device
-abbrev pub writes_out : Event → Bool
-writes_out event.HandOver = true
-writes_out event.Force = true
-writes_out (event.WritePage page) = true
-writes_out _ = false
-
 -- a refusal comes with its cause
-abbrev pub IsCaused : State → Event → Reply → Type 0
-IsCaused s e (reply.Refused r) = HasCause (takes_memory e) (writes_out e) s r
-IsCaused s e _ = Unit {0}
+abbrev pub RefusedForCause : State → Event → Reply → Type 0
+RefusedForCause s e (reply.Refused r) = HasCause (any_under s.rows) (call_of e) r
+RefusedForCause s e _ = Unit {0}
 
 -- All records are with the log's device, and it has not failed.
 pub record HasHandedOver {P L : Type 0} (g : log_device.Ghosts L) (old new : OpenStore P L) : Type 0 where

@@ -201,7 +201,7 @@ impl<P: PageDevice, L: LogDevice> Engine<P, L> {
     /// # Errors
     /// `Failed`, `TooManyTransactions`, `NoMemory`.
     pub fn begin(&mut self) -> Result<Txn, Refusal>
-        ensures answered { AnswersLegally P.PageDevice L.LogDevice true false self.old Begin
+        ensures answered { AnswersLegally P.PageDevice L.LogDevice self.old Begin
             (λ t. Gave_txn t) result self.new }
         ensures sizes { self.new.state.sizes ≡ self.old.state.sizes }
         ensures devices { LeavesDevices self.old self.new }
@@ -232,7 +232,7 @@ impl<P: PageDevice, L: LogDevice> Engine<P, L> {
     /// # Errors
     /// `Failed`, `UnknownTransaction`, `NotOpen`, `Unfinished`, `LogFull`, `NoMemory`.
     pub fn commit(&mut self, txn: Txn) -> Result<CommitNo, Refusal>
-        ensures answered { AnswersLegally P.PageDevice L.LogDevice true false self.old (Commit txn)
+        ensures answered { AnswersLegally P.PageDevice L.LogDevice self.old (Commit txn)
             (λ number. Gave_commit (commit_number number)) result self.new }
         ensures sizes { self.new.state.sizes ≡ self.old.state.sizes }
         ensures number { IfOk result (λ number. number.txn ≡ txn) }
@@ -262,7 +262,7 @@ impl<P: PageDevice, L: LogDevice> Engine<P, L> {
     /// # Errors
     /// `Failed`.
     pub fn acknowledged(&self, number: CommitNo) -> Result<Option<Receipt>, Refusal>
-        ensures answered { AnswersLegally P.PageDevice L.LogDevice false false self.now (Acknowledge number.txn number.lsn)
+        ensures answered { AnswersLegally P.PageDevice L.LogDevice self.now (Acknowledge number.txn number.lsn)
             (λ given. Gave_receipt (receipt_of given)) result self.now }
         ensures receipt { IfOk result (λ given. IfSome given (λ r. r.number ≡ number)) }
         ensures given { IfOk result (λ given. receipt_of given
@@ -284,7 +284,7 @@ impl<P: PageDevice, L: LogDevice> Engine<P, L> {
     /// # Errors
     /// `Failed`, `DiskWrite`.
     pub fn hand_over(&mut self) -> Result<(), Refusal>
-        ensures answered { AnswersLegally P.PageDevice L.LogDevice false true self.old Hand_over
+        ensures answered { AnswersLegally P.PageDevice L.LogDevice self.old Hand_over
             (λ done. Gave_handed_over) result self.new }
         ensures sizes { self.new.state.sizes ≡ self.old.state.sizes }
         ensures state { OnOk result (self.new.state ≡ self.old.state) }
@@ -316,7 +316,7 @@ impl<P: PageDevice, L: LogDevice> Engine<P, L> {
     /// # Errors
     /// `Failed`, `DiskWrite`.
     pub fn force(&mut self) -> Result<Lsn, Refusal>
-        ensures answered { AnswersLegally P.PageDevice L.LogDevice false true self.old Force
+        ensures answered { AnswersLegally P.PageDevice L.LogDevice self.old Force
             (λ lsn. Gave_forced lsn) result self.new }
         ensures sizes { self.new.state.sizes ≡ self.old.state.sizes }
         ensures forced { IfOk result (λ lsn. (lsn ≡ length self.old.state.records) × (self.new.state.forced ≡ lsn)) }
@@ -357,7 +357,7 @@ impl<P: PageDevice, L: LogDevice> Engine<P, L> {
         }
     }
 
-    // The transaction is open and has no operation under way. AnswersLegally the number of its next operation.
+    // The transaction is open and has no operation under way. Answers the number of its next operation.
     pub(crate) fn check_open(&self, txn: Txn) -> Result<u64, Refusal>
         ensures ready { IfOk result (λ n. HasNothingUnderWay self.now.state txn n) }
         ensures running { OnOk result (self.now.state.failed ≡ false) }

@@ -11,7 +11,7 @@ ghost use Rattle.rq_engine.specs.Answers.{AnswersLegally};
 ghost use Rattle.rq_engine.specs.Applied.{Applied, ChangesSay, RefusalLeaves, StartSays};
 ghost use Rattle.rq_engine.specs.Lists.{ListsSay};
 ghost use Rattle.rq_engine.specs.Opened.{AreHonest};
-ghost use Rattle.rq_engine.specs.Says.{IsCaused, IsContent, LogSays, PagesSay, WritesSay, begun_reply, call_of, gave};
+ghost use Rattle.rq_engine.specs.Says.{RefusedForCause, IsContent, LogSays, PagesSay, WritesSay, begun_reply, call_of, gave};
 
 use crate::engine::Engine;
 use crate::event::{Event, Reply};
@@ -26,7 +26,7 @@ impl<P: PageDevice, L: LogDevice> Engine<P, L> {
     /// # Errors
     /// `Failed`, `Unfinished` where any operation is under way, `NoMemory`.
     pub fn content(&self) -> Result<Vec<GroupContent>, Refusal>
-        ensures answered { AnswersLegally P.PageDevice L.LogDevice true false self.now Show
+        ensures answered { AnswersLegally P.PageDevice L.LogDevice self.now Show
             (λ groups. Gave_content (map group_of groups.items)) result self.now }
         ensures failed { (result ≡ Err Refusal.Failed) ↔ (self.now.state.failed ≡ true) }
     {
@@ -59,7 +59,7 @@ impl<P: PageDevice, L: LogDevice> Engine<P, L> {
         ensures answered { AreHonest P.PageDevice L.LogDevice self.new → IsSound self.old.state
             → Steps self.old.state (call_of event.now) (gave result) self.new.state }
         ensures cause { AreHonest P.PageDevice L.LogDevice self.new → IsSound self.old.state
-            → IsCaused self.old.state event.now result }
+            → RefusedForCause self.old.state event.now result }
         ensures sizes { self.new.state.sizes ≡ self.old.state.sizes }
         ensures no_memory { result ≡ Reply.Refused Refusal.NoMemory → self.new ≡ self.old }
         ensures content { IsContent result → self.new ≡ self.old }

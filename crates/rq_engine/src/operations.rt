@@ -32,7 +32,7 @@ impl<P: PageDevice, L: LogDevice> Engine<P, L> {
     /// # Errors
     /// `Failed`, `UnknownOperation`.
     pub fn step(&mut self, sub: Sub) -> Result<Progress, Refusal>
-        ensures answered { AnswersLegally P.PageDevice L.LogDevice false false self.old
+        ensures answered { AnswersLegally P.PageDevice L.LogDevice self.old
             (Step sub.txn sub.number) progress_of result self.new }
         ensures sizes { self.new.state.sizes ≡ self.old.state.sizes }
         ensures devices { (self.new.pages ≡ self.old.pages) × (self.new.log ≡ self.old.log) }
@@ -53,7 +53,7 @@ impl<P: PageDevice, L: LogDevice> Engine<P, L> {
     /// # Errors
     /// `Failed`, `UnknownOperation`, `Unfinished`.
     pub fn finish(&mut self, sub: Sub) -> Result<Outcome, Refusal>
-        ensures answered { AnswersLegally P.PageDevice L.LogDevice false false self.old
+        ensures answered { AnswersLegally P.PageDevice L.LogDevice self.old
             (Finish sub.txn sub.number) outcome_of result self.new }
         ensures sizes { self.new.state.sizes ≡ self.old.state.sizes }
         ensures lists { IfOk result (λ outcome. IsFinished self.old.state sub outcome self.new.state) }

@@ -21,7 +21,7 @@ impl<P: PageDevice, L: LogDevice> Engine<P, L> {
     /// # Errors
     /// `Failed`, `NotForced`, `DiskWrite`.
     pub fn write_page(&mut self, page: u32) -> Result<Written, Refusal>
-        ensures answered { AnswersLegally P.PageDevice L.LogDevice false true self.old (Write_page page)
+        ensures answered { AnswersLegally P.PageDevice L.LogDevice self.old (Write_page page)
             (λ written. Gave_written (is_done written)) result self.new }
         ensures sizes { self.new.state.sizes ≡ self.old.state.sizes }
         ensures answer { WritesWhen self.old page result }

@@ -37,7 +37,7 @@ impl<P: PageDevice, L: LogDevice> Engine<P, L> {
     /// # Errors
     /// `Failed`, `UnknownTransaction`, `NotOpen`, `Unfinished`, `LogFull`, `Latched`, `NoMemory`.
     pub fn start_receive(&mut self, txn: Txn) -> Result<Option<Sub>, Refusal>
-        ensures answered { AnswersLegally P.PageDevice L.LogDevice true false self.old
+        ensures answered { AnswersLegally P.PageDevice L.LogDevice self.old
             (Start_receive txn) started_of result self.new }
         ensures sizes { self.new.state.sizes ≡ self.old.state.sizes }
         ensures sub { IfOk result (λ begun. IfSome begun (λ sub. sub.txn ≡ txn)) }
@@ -65,7 +65,7 @@ impl<P: PageDevice, L: LogDevice> Engine<P, L> {
     /// `Failed`, `UnknownTransaction`, `NotOpen`, `Unfinished`, `UnknownSender`, `ReceiverBusy`, `LogFull`, `Latched`,
     /// `NoMemory`.
     pub fn start_receive_from(&mut self, txn: Txn, sender: u32) -> Result<Option<Sub>, Refusal>
-        ensures answered { AnswersLegally P.PageDevice L.LogDevice true false self.old
+        ensures answered { AnswersLegally P.PageDevice L.LogDevice self.old
             (Start_receive_from txn sender) started_of result self.new }
         ensures sizes { self.new.state.sizes ≡ self.old.state.sizes }
         ensures sub { IfOk result (λ begun. IfSome begun (λ sub. sub.txn ≡ txn)) }
@@ -100,7 +100,7 @@ impl<P: PageDevice, L: LogDevice> Engine<P, L> {
         requires free { is_free_for txn sender self.old.state.ends.receiving ≡ true }
         requires waits { 1 ≤ waits self.old.state.waiting sender }
         ensures answered { (call : Call) → IsTakeCall txn sender call
-            → AnswersLegally P.PageDevice L.LogDevice true false self.old call (λ sub. started_of (Some sub)) result self.new }
+            → AnswersLegally P.PageDevice L.LogDevice self.old call (λ sub. started_of (Some sub)) result self.new }
         ensures sizes { self.new.state.sizes ≡ self.old.state.sizes }
         ensures sub { IfOk result (λ sub. sub.txn ≡ txn) }
         ensures lists { IfOk result (λ sub. IsTakeStarted self.old.state txn sender sub self.new.state) }

@@ -38,7 +38,7 @@ impl<P: PageDevice, L: LogDevice> Engine<P, L> {
         tag: u64,
         body: &[u8],
     ) -> Result<Sub, Refusal>
-        ensures answered { AnswersLegally P.PageDevice L.LogDevice true false self.old
+        ensures answered { AnswersLegally P.PageDevice L.LogDevice self.old
             (Start_send txn (message_of sender tag body.now)) (λ sub. Gave_sub sub.txn sub.number) result self.new }
         ensures sizes { self.new.state.sizes ≡ self.old.state.sizes }
         ensures sub { IfOk result (λ sub. sub.txn ≡ txn) }
@@ -65,7 +65,7 @@ impl<P: PageDevice, L: LogDevice> Engine<P, L> {
     // The tests of a send behind those of its transaction.
     fn check_send(&self, txn: Txn, sender: u32, tag: u64, body: &[u8]) -> Result<Body, Refusal>
         ensures refused { NoneHolds (ready_tests (ledger_of self.now.state) txn false)
-            → IfErr result (λ r. Refuses true false self.now.state
+            → IfErr result (λ r. Refuses self.now.state
             (Start_send txn (message_of sender tag body.now)) r) }
         ensures passes { IsSound self.now.state → NoneHolds (ready_tests (ledger_of self.now.state) txn false)
             → OnOk result (Passes (size_of self.now.state.sizes) (ledger_of self.now.state)

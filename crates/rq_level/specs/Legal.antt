@@ -1,4 +1,4 @@
--- IsLegalLog logs: what each record needs of the log before it; and what a log makes of each sender's view.
+-- Legal logs: what each record needs of the log before it; and what a log makes of each sender's view.
 use Rattle.rq_model.specs.declared.record.Deed.{Deed}
 use Rattle.rq_page.specs.declared.directory.Directory.{Directory}
 use Rattle.rq_model.specs.declared.txn.Sub.{Sub}

@@ -229,7 +229,7 @@ impl<L: LogDevice> Log<L> {
         ensures ok { OnOk result ((self.new.failed ≡ false) × (self.new.pending ≡ 0)
             × (L.honest self.new.device → L.seen self.new.device ≡ spelled self.new.records)) }
         ensures err { self.old.failed ≡ false → IfErr result (λ e. (e ≡ Refusal.DiskWrite) × (self.new.failed ≡ true)) }
-        ensures cause { self.old.failed ≡ false → HasCause (L.faults self.old.device)
+        ensures cause { self.old.failed ≡ false → FailureIsCounted (L.faults self.old.device)
             (L.faults self.new.device) result }
         ensures idle { self.old.pending ≡ 0 → self.new ≡ self.old }
         ensures left { L.honest self.new.device → LeavesOnly L.LogDevice self.old.device self.new.device
@@ -269,7 +269,7 @@ impl<L: LogDevice> Log<L> {
         ensures settled { OnOk result (WasDurable L.LogDevice self.new) }
         ensures err { self.old.failed ≡ false → IfErr result (λ e. (e ≡ Refusal.DiskWrite) × (self.new.failed ≡ true)) }
         ensures as_before { OnErr result ((self.new.forced ≡ self.old.forced) × (self.new.settled ≡ self.old.settled)) }
-        ensures cause { self.old.failed ≡ false → HasCause (L.faults self.old.device)
+        ensures cause { self.old.failed ≡ false → FailureIsCounted (L.faults self.old.device)
             (L.faults self.new.device) result }
         ensures left { L.honest self.new.device → LeavesOnly L.LogDevice self.old.device self.new.device
             (WasLeftOrGoesOn L.LogDevice self.old) }

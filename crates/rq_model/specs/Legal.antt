@@ -26,10 +26,10 @@ LegalRefusal z l c PoolFull = Passes z l c × (starts z l c ≡ true)
 LegalRefusal z l c NotForced = Passes z l c × (writes_page c ≡ true)
 LegalRefusal z l c r = first_of (tests z l c) ≡ Some r
 
--- what a transaction that has not ended is, and what holds of it
-abbrev pub OnFound : Option Open → (Open → Type 0) → Type 0
+-- what was looked for is there, and this holds of it
+abbrev pub OnFound : {X : Type 0} → Option X → (X → Type 0) → Type 0
 OnFound None P = ⊥
-OnFound (Some o) P = P o
+OnFound (Some x) P = P x
 
 abbrev pub At : Ledger → Txn → (Open → Type 0) → Type 0
 At l t P = OnFound (found t l.open_ones) P

@@ -7,6 +7,7 @@ pub mod Deeds
 pub mod Content
 pub mod Groups
 pub mod Replay
+pub mod Causes
 pub mod Reference
 pub mod Counts
 pub mod Incarnations

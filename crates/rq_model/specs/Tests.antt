@@ -3,7 +3,7 @@ use Rattle.std.specs.Prelude.{◌≡◌, ℕ, zero, suc, ◌+◌, ◌-◌, ◌^�
 use Rattle.std.specs.List.{filter, sum_by}
 use Rattle.rq_model.specs.declared.txn.Txn.{Txn}
 use Rattle.rq_model.specs.declared.refusal.Refusal.{Refusal}
-use Rattle.rq_model.specs.declared.refusal.Refusal.TheVariants.{Failed, UnknownTransaction, NotOpen, Unfinished, UnknownSender, TooLong, SenderBusy, Closed, ReceiverBusy, TooManyTransactions, LogFull, UnknownOperation}
+use Rattle.rq_model.specs.declared.refusal.Refusal.TheVariants.{Failed, UnknownTransaction, NotOpen, Unfinished, UnknownSender, TooLong, SenderBusy, Closed, ReceiverBusy, TooManyTransactions, LogFull, UnknownOperation, Full}
 use Rattle.rq_model.specs.Words.{Op, same_txn, has_number, first, last, is_some}
 use Rattle.rq_model.specs.Words.Op.{Send, Take, End}
 use Rattle.rq_model.specs.History.{Job, Call}

@@ -13,7 +13,7 @@ use Rattle.rq_page.specs.declared.layout.PageKind.TheVariants as kind
 use Rattle.rq_page.proofs.Addresses.{kind_directory, kind_cells}
 use Rattle.rq_page.proofs.Spellings.{spelling_tells}
 
--- what is slot_bytes there, where the page is not the first
+-- what is spelled there, where the page is not the first
 spelled_behind : (l : Sizes) (page slot : ℕ) → 1 ≤ page
     → slot_bytes (formatted_content l page slot) ≡ formatted_slot l page slot
 spelled_behind l page slot low =

@@ -1,4 +1,4 @@
--- What is analysis of a legal log: the operations and transactions in it that have no end.
+-- What is noted of a legal log: the operations and transactions in it that have no end.
 use Rattle.std.proofs.Common.{◌≡◌, ℕ, ◌+◌, ◌≤◌, List, [], ◌∷◌, ◌++◌, length, refl, sym, ◌∙◌, ap, Bool, true, false, not, cond, ◌&&◌, ◌||◌, nat_eq, Option, Some, None, inl, inr, arith}
 use Rattle.std.specs.List.{filter}
 use Rattle.std.proofs.lemmas.Bool.{cases_Bool, true≢false, and_parts, eqb-true}
@@ -109,13 +109,13 @@ pub no_pairs : (os : List Sub) → pairs_of os ≡ [] → os ≡ []
 no_pairs [] e = refl
 no_pairs (u ∷ os) e = cc
 
--- where operations were analysis, one more end
+-- where operations were noted, one more end
 ended_more : (t : Txn) (n : ℕ) (os : List Sub) (log : List Record) → pairs_of os ≡ unfinished log → pairs_of (without_sub (operation t n) os) ≡ filter (λ p. not ((same_txn t p.0 && nat_eq n p.1) || any_record (operation_ended p.0 p.1) log)) (operations log)
 ended_more t n os log h =
     pairs_without t n os ∙ ap (filter (λ p. not (same_txn t p.0 && nat_eq n p.1))) h
     ∙ sym (filter_twice (λ p. same_txn t p.0 && nat_eq n p.1) (λ p. any_record (operation_ended p.0 p.1) log) (operations log))
 
--- the operations analysis are those that have no end
+-- the operations noted are those that have no end
 pub noted_unfinished : (z : Sizes) (log : List Record) → IsLegalLog (layout_of z) (items z log) → pairs_of (analysis log).unfinished ≡ unfinished log
 noted_unfinished z [] k = refl
 noted_unfinished z (records.PageOp t n page slot before after ∷ log) k =

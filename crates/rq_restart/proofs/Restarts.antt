@@ -73,14 +73,14 @@ module _ (older : List Record) (xs : List Record) (same : older ≡ reverse xs) 
   pub begun_is : {L : Type 0} (log : Logged L) (last : ℕ) → last ≡ h.incarnation → log.records ≡ records.Restart (last + 1) ∷ older → (log.forced ≡ length log.records) × (log.failed ≡ false) → IsBegun older log
   begun_is log last e r f = record { records = r ∙ ap (λ n. records.Restart (n + 1) ∷ older) (last_is last e); forced = f.0; running = f.1 }
 
-  -- nothing is analysis exactly where everything in the log has ended
+  -- nothing is noted exactly where everything in the log has ended
   pub ended_is : (h.unfinished ≡ []) × (h.working ≡ []) → IsEnded older
   ended_is none = (ap (λ (n : Analysis). n.unfinished) (sym noted_is) ∙ none.0, ap (λ (n : Analysis). n.working) (sym noted_is) ∙ none.1)
 
   pub ended_not : ((h.unfinished ≡ []) × (h.working ≡ []) → ⊥) → IsEnded older → ⊥
   ended_not some none = some (ap (λ (n : Analysis). n.unfinished) noted_is ∙ none.0, ap (λ (n : Analysis). n.working) noted_is ∙ none.1)
 
-  -- everything has ended exactly where nothing is analysis
+  -- everything has ended exactly where nothing is noted
   pub settled_left : (z : Sizes) (image : ℕ → List ℕ) → IsLeft z image older → unfinished older ≡ [] → lost older ≡ [] → (h.unfinished ≡ []) × (h.working ≡ [])
   settled_left z image left u l = (
     ap (λ (n : Analysis). n.unfinished) noted_is ∙ no_pairs (analysis older).unfinished (noted_unfinished z older left.whole.legal ∙ u),

@@ -60,7 +60,7 @@ impl History {
     /// Takes the next record. False where it doesn't belong to the running incarnation, or isn't the next.
     pub(crate) fn note(&mut self, record: &Record) -> Result<bool, Refusal>
         ensures next { IfOk result (λ is_next. IsTrue is_next ↔ IsNext self.old.incarnation «record».now) }
-        ensures analysis { OnOk result (self.new ≡ analysis_after «record».now self.old) }
+        ensures noted { OnOk result (self.new ≡ analysis_after «record».now self.old) }
         ensures err { IfErr result (λ e. e ≡ Refusal.NoMemory) }
     {
         match record {

@@ -81,6 +81,7 @@ pub struct MarkPass {
 impl Model for MarkPass {
     ghost use Rattle.std.specs.Prelude.{◌≤◌, ℕ};
     ghost use Rattle.rq_shared.specs.Marks.{MarkView, pass_code};
+    ghost use Rattle.rq_model.specs.Words.{In};
 
     ghost Value = { MarkView };
 

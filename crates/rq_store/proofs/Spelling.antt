@@ -1,4 +1,4 @@
--- A log slot_bytes in bytes goes back to the slots and deeds that it was slot_bytes from.
+-- A log spelled in bytes goes back to the slots and deeds that it was spelled from.
 use Rattle.std.proofs.Common.{◌≡◌, ℕ, ◌/◌, ◌%◌, ◌<◌, ◌≤◌, List, [], ◌∷◌, Some, refl, sym, ◌∙◌, ap, subst, arith}
 use Rattle.rq_model.specs.Deeds.{deed_in, spelled_deed}
 use Rattle.rq_page.specs.Kinds.{kind_of}

@@ -10,7 +10,7 @@ use Rattle.rq_model.specs.Ledger.{rest_in}
 use Rattle.rq_model.specs.Content.{has_end, deeds}
 use Rattle.rq_model.specs.Commits.{committed_of}
 use Rattle.rq_model.specs.Tests as tests
-use Rattle.rq_page.specs.Sizes.{Sizes, IsInRange, sender_count}
+use Rattle.rq_page.specs.Sizes.{Sizes, IsInRange, sender_count, cell_count}
 use Rattle.rq_level.specs.Items.{items, operation}
 use Rattle.rq_level.specs.Claims.{takes_of, appends_of}
 use Rattle.rq_level.specs.Legal.{open_deeds, under_way}
@@ -21,7 +21,7 @@ use Rattle.rq_txn.specs.Rows.{Row, Under, found_row, AreDistinct}
 use Rattle.rq_groups.specs.declared.Held.{Held}
 use Rattle.rq_groups.specs.Ends.{has_held}
 use Rattle.rq_groups.specs.Waiting.{waits}
-use Rattle.rq_store.specs.State.{State, op_done}
+use Rattle.rq_store.specs.State.{State, op_done, ledger_of, size_of}
 use Rattle.rq_store.specs.Fitting.{left_by, image_in, oldest, FitsLog}
 use Rattle.rq_store.specs.Whole.{IsWhole}
 use Rattle.rq_store.specs.Rows.{IsCovered, IsRow}

@@ -1,32 +1,34 @@
 use Rattle.std.proofs.Common.{ap, refl}
-use Rattle.rq_engine.specs.Says.{writes_out}
+use Rattle.rq_engine.specs.Says.{call_of}
+use Rattle.rq_engine.specs.declared.event.Event.{Event}
+use Rattle.rq_model.specs.Causes.{writes_out}
 use Rattle.rq_engine.proofs.Leaving.{plain_leaves, begun_leaves}
 use Rattle.rq_engine.proofs.Listing.{take_lists, take_from_lists, log_left}
 use Rattle.rq_engine.proofs.engine.Engine.call.Goals as goal
 
 pub returns-in-Err-clause-refused : goal.returns-in-Err-clause-refused
-returns-in-Err-clause-refused g c = plain_leaves c.args.self.now c.begin.new.self c.args.event.now _ (ap writes_out c.in-Begin.is) c.in-Err.ensures.refused
+returns-in-Err-clause-refused g c = plain_leaves c.args.self.now c.begin.new.self c.args.event.now _ (ap (λ (e : Event). writes_out (call_of e)) c.in-Begin.is) c.in-Err.ensures.refused
 
 pub returns-in-Err-start_send-clause-refused : goal.returns-in-Err-start_send-clause-refused
-returns-in-Err-start_send-clause-refused g c = plain_leaves c.args.self.now c.start_send.new.self c.args.event.now _ (ap writes_out c.in-StartSend.is) c.in-Err-start_send.ensures.refused
+returns-in-Err-start_send-clause-refused g c = plain_leaves c.args.self.now c.start_send.new.self c.args.event.now _ (ap (λ (e : Event). writes_out (call_of e)) c.in-StartSend.is) c.in-Err-start_send.ensures.refused
 
 pub returns-in-Err-step-clause-refused : goal.returns-in-Err-step-clause-refused
-returns-in-Err-step-clause-refused g c = plain_leaves c.args.self.now c.step.new.self c.args.event.now _ (ap writes_out c.in-Step.is) c.in-Err-step.ensures.refused
+returns-in-Err-step-clause-refused g c = plain_leaves c.args.self.now c.step.new.self c.args.event.now _ (ap (λ (e : Event). writes_out (call_of e)) c.in-Step.is) c.in-Err-step.ensures.refused
 
 pub returns-in-Err-finish-clause-refused : goal.returns-in-Err-finish-clause-refused
-returns-in-Err-finish-clause-refused g c = plain_leaves c.args.self.now c.finish.new.self c.args.event.now _ (ap writes_out c.in-Finish.is) c.in-Err-finish.ensures.refused
+returns-in-Err-finish-clause-refused g c = plain_leaves c.args.self.now c.finish.new.self c.args.event.now _ (ap (λ (e : Event). writes_out (call_of e)) c.in-Finish.is) c.in-Err-finish.ensures.refused
 
 pub returns-in-Err-commit-clause-refused : goal.returns-in-Err-commit-clause-refused
-returns-in-Err-commit-clause-refused g c = plain_leaves c.args.self.now c.commit.new.self c.args.event.now _ (ap writes_out c.in-Commit.is) c.in-Err-commit.ensures.refused
+returns-in-Err-commit-clause-refused g c = plain_leaves c.args.self.now c.commit.new.self c.args.event.now _ (ap (λ (e : Event). writes_out (call_of e)) c.in-Commit.is) c.in-Err-commit.ensures.refused
 
 pub returns-in-Err-content-clause-refused : goal.returns-in-Err-content-clause-refused
-returns-in-Err-content-clause-refused g c = plain_leaves c.args.self.now c.args.self.now c.args.event.now _ (ap writes_out c.in-Content.is) refl
+returns-in-Err-content-clause-refused g c = plain_leaves c.args.self.now c.args.self.now c.args.event.now _ (ap (λ (e : Event). writes_out (call_of e)) c.in-Content.is) refl
 
 pub returns-in-StartReceive-clause-refused : goal.returns-in-StartReceive-clause-refused
-returns-in-StartReceive-clause-refused g c = begun_leaves c.args.self.now c.start_receive.new.self c.args.event.now c.start_receive.result _ (ap writes_out c.in-StartReceive.is) c.start_receive.ensures.refused c.begun.ensures
+returns-in-StartReceive-clause-refused g c = begun_leaves c.args.self.now c.start_receive.new.self c.args.event.now c.start_receive.result _ (ap (λ (e : Event). writes_out (call_of e)) c.in-StartReceive.is) c.start_receive.ensures.refused c.begun.ensures
 
 pub returns-in-StartReceiveFrom-clause-refused : goal.returns-in-StartReceiveFrom-clause-refused
-returns-in-StartReceiveFrom-clause-refused g c = begun_leaves c.args.self.now c.start_receive_from.new.self c.args.event.now c.start_receive_from.result _ (ap writes_out c.in-StartReceiveFrom.is) c.start_receive_from.ensures.refused c.begun-in-StartReceiveFrom.ensures
+returns-in-StartReceiveFrom-clause-refused g c = begun_leaves c.args.self.now c.start_receive_from.new.self c.args.event.now c.start_receive_from.result _ (ap (λ (e : Event). writes_out (call_of e)) c.in-StartReceiveFrom.is) c.start_receive_from.ensures.refused c.begun-in-StartReceiveFrom.ensures
 
 pub returns-in-StartReceive-clause-lists : goal.returns-in-StartReceive-clause-lists
 returns-in-StartReceive-clause-lists g c = take_lists c.args.self.now.state _ c.start_receive.result _ c.args.event.now c.start_receive.new.self.state c.in-StartReceive.is c.start_receive.ensures.lists c.begun.ensures

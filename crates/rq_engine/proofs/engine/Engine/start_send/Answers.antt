@@ -17,7 +17,7 @@ returns-in-Ok-clause-answered g c h =
 
 pub returns-in-Err-clause-answered : goal.returns-in-Err-clause-answered
 returns-in-Err-clause-answered g c h k =
-    rw (c.in-Err.ensures.refusal, c.in-Err.ensures.refused) (no_memory false c.args.self.now.state _ c.in_ok-number.ensures.running k)
+    rw (c.in-Err.ensures.refusal, c.in-Err.ensures.refused) (no_memory c.args.self.now.state _ refl c.in_ok-number.ensures.running k)
 
 pub returns-in-Ok-clause-lowest : goal.returns-in-Ok-clause-lowest
 returns-in-Ok-clause-lowest g c =
