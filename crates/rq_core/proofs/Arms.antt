@@ -7,12 +7,12 @@ use Rattle.rq_model.specs.declared.refusal.Refusal.TheVariants as why
 use Rattle.rq_model.specs.History.{Entry, Call}
 use Rattle.rq_model.specs.History.Entry.{Restarted as Restarted_entry, Refused as Refused_entry}
 use Rattle.rq_model.specs.Commits.{committed_of}
-use Rattle.rq_model.specs.Ledger.{Ledger, Phase, after, ledger}
+use Rattle.rq_model.specs.Ledger.{Ledger, Phase, after, ledger, runs}
 use Rattle.rq_model.specs.Ledger.Phase.{Running as Runs, Shut}
 use Rattle.rq_model.specs.History.Call.{Begin, Start_send, Start_receive, Start_receive_from, Start_close, Step, Finish, Commit, Acknowledge, Start_abort, Undo_next, End_abort, Hand_over, Force, Write_page, Last_tag, Show}
 use Rattle.rq_model.specs.Legal.{Legal, IsLegal}
 use Rattle.rq_model.specs.Tests.{Size, any_busy}
-use Rattle.rq_model.specs.Promises.{AcknowledgedStay, CrashGoesOn, FifoThroughout, RestartGoesOn, ShutCrashGoesOn}
+use Rattle.rq_model.specs.Promises.{AcknowledgedStay, CrashGoesOn, FifoThroughout, RestartGoesOn, ShutCrashGoesOn, StillStoreRefuses}
 use Rattle.rq_model.specs.Replay.{Says}
 use Rattle.rq_model.specs.Replay.Reply.{Gave_refusal}
 use Rattle.rq_disk.specs.declared.mem_log.MemLog.{MemLog}
@@ -82,33 +82,14 @@ shut_crashes z course x h pages log law tells legal s may = record {
 }
 
 -- a call of a store that is shut
-shut_refuses : (z : Size) (l : Ledger) (c : Call) → l.phase ≡ Shut → Legal z l (Refused_entry c why.Failed)
-shut_refuses z l Begin e = rw e refl
-shut_refuses z l (Start_send t m) e = rw e refl
-shut_refuses z l (Start_receive t) e = rw e refl
-shut_refuses z l (Start_receive_from t s) e = rw e refl
-shut_refuses z l (Start_close t s) e = rw e refl
-shut_refuses z l (Step t n) e = rw e refl
-shut_refuses z l (Finish t n) e = rw e refl
-shut_refuses z l (Commit t) e = rw e refl
-shut_refuses z l (Acknowledge t n) e = rw e refl
-shut_refuses z l (Start_abort t) e = rw e refl
-shut_refuses z l (Undo_next t) e = rw e refl
-shut_refuses z l (End_abort t) e = rw e refl
-shut_refuses z l Hand_over e = rw e refl
-shut_refuses z l Force e = rw e refl
-shut_refuses z l (Write_page p) e = rw e refl
-shut_refuses z l (Last_tag s) e = rw e refl
-shut_refuses z l Show e = rw e refl
-
-pub not_open : (z : Sizes) (course : Course) (x : Happening) (call : Call) (pages : MemPages) (log : MemLog) → called course x ≡ Some call → Ran z course (Is_shut pages log)
+pub not_open : ((size : Size) → StillStoreRefuses size) → (z : Sizes) (course : Course) (x : Happening) (call : Call) (pages : MemPages) (log : MemLog) → called course x ≡ Some call → Ran z course (Is_shut pages log)
     → Ran z ((x, Answered (Gave_refusal why.Failed)) ∷ course) (Is_shut pages log)
-not_open z course x call pages log is ran =
+not_open law z course x call pages log is ran =
     let s : IsShut mem_pages mem_log z ran.history pages log = ran.stands in
     record {
       history = Refused_entry call why.Failed ∷ ran.history;
       tells = (ran.history, ran.tells, subst (λ c. AddsCall c (Gave_refusal why.Failed) ran.history (Refused_entry call why.Failed ∷ ran.history)) (sym is) (Refused_entry call why.Failed, says call, tt, refl));
-      legal = (shut_refuses (size_of z) (ledger ran.history) call s.phase, ran.legal);
+      legal = (law (size_of z) (ledger ran.history) call (ap runs s.phase), ran.legal);
       stands = record { range = s.range; phase = s.phase; older = s.older; ties = s.ties; left = s.left };
       counted = tt;
     } where

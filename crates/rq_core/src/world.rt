@@ -18,6 +18,7 @@ use rq_engine::engine::Engine;
 use rq_engine::event::{CommitNo, Event, Reply};
 use rq_model::laws::{
     acknowledged_stay, crash_goes_on, first_in_first_out, restart_goes_on, shut_crash_goes_on,
+    still_store_refuses,
 };
 use rq_model::refusal::Refusal;
 use rq_page::layout::Layout;
@@ -199,6 +200,7 @@ fn happen_to_shut(
 fn not_open(pages: MemPages, log: MemLog) -> (Store, Entry)
     ensures { (call : Call) → GoesOn (Makes call) (Is_shut pages log) (answer_in result.1) (world_of result.0) }
 {
+    still_store_refuses();
     (
         Store::Shut(pages, log),
         Entry::Answered(Reply::Refused(Refusal::Failed)),

@@ -24,6 +24,7 @@ use crate::moves::{add_sends, count_takes};
 use rq_disk::{LogDevice, PageDevice};
 use rq_groups::{Ends, Waiting};
 use rq_log::Log;
+use rq_model::limits::LOG_LIMIT;
 use rq_model::record::Record;
 use rq_model::refusal::Refusal;
 use rq_model::txn::{Lsn, Txn};
@@ -32,9 +33,6 @@ use rq_record::spelled_len;
 use rq_txn::Transactions;
 use std::alloc::Global;
 use std::marker::Model;
-
-/// The most records of a log.
-pub const LOG_LIMIT: u64 = 1 << 50;
 
 /// A store that is open, with what is under way in it. Contracts see its two devices, which pages have a change that
 /// was not written, and its `State`: the sizes of the store, the rows of transactions that have not ended, the ends

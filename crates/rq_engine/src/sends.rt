@@ -16,11 +16,12 @@ ghost use Rattle.rq_engine.specs.Answers.{AnswersLegally, IsUnderWay, HasNothing
 ghost use Rattle.rq_engine.specs.Lists.{IsSendStarted};
 ghost use Rattle.rq_engine.specs.Sends.{under_plan, FitsPlan, TakesLowest};
 
-use crate::engine::{Engine, LOG_LIMIT};
+use crate::engine::Engine;
 use crate::starts::{CHAIN_OPERATION, room_of};
 use rq_chain::{Group, Plan, append};
 use rq_disk::{LogDevice, PageDevice};
 use rq_groups::End;
+use rq_model::limits::LOG_LIMIT;
 use rq_model::message::Body;
 use rq_model::refusal::{Damage, Refusal};
 use rq_model::txn::{Sub, Txn};

@@ -1,14 +1,15 @@
 -- What holds at every place of every legal history, and how a history goes on.
 use Rattle.std.specs.Prelude.{◌≡◌, ℕ, ◌+◌, ◌≤◌, List, ◌∷◌, ◌++◌, length, true, false, map}
+use Rattle.rq_model.specs.declared.refusal.Refusal.TheVariants.{Failed}
 use Rattle.rq_model.specs.declared.txn.Txn.{Txn}
 use Rattle.rq_model.specs.declared.message.Message.{Message}
 use Rattle.rq_model.specs.declared.record.Record.{Record}
 use Rattle.rq_model.specs.declared.record.Record.TheVariants.{Restart as Restart_record}
 use Rattle.rq_model.specs.Words.{In}
 use Rattle.rq_model.specs.History.{Entry, Call, Fifo, commits, ended}
-use Rattle.rq_model.specs.History.Entry.{Started, Acknowledged, Committed, Crash, Restarted}
+use Rattle.rq_model.specs.History.Entry.{Started, Acknowledged, Committed, Crash, Refused, Restarted}
 use Rattle.rq_model.specs.History.Job.{Sending}
-use Rattle.rq_model.specs.Ledger.{Done, Ledger, ledger, kept_in}
+use Rattle.rq_model.specs.Ledger.{Done, Ledger, ledger, kept_in, runs}
 use Rattle.rq_model.specs.Ledger.Phase.{Shut}
 use Rattle.rq_model.specs.Legal.{Legal, IsLegal}
 use Rattle.rq_model.specs.Tests.{Size}
@@ -64,6 +65,10 @@ abbrev pub ShutCrashGoesOn : Size → Type 0
 ShutCrashGoesOn z = (h : List Entry) (older now : List Record) → IsLegal z h → (ledger h).phase ≡ Shut
     → Ties (ledger h) older
     → Extends older now → InOrder now → KeepsRules now → EndsInCrash z h now
+
+-- a store that does not run refuses every call as Failed
+abbrev pub StillStoreRefuses : Size → Type 0
+StillStoreRefuses z = (l : Ledger) (c : Call) → runs l.phase ≡ false → Legal z l (Refused c Failed)
 
 -- the restart that leaves this log
 abbrev pub restart_to : List Record → Entry

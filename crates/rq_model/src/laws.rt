@@ -10,7 +10,7 @@ ghost use Rattle.rq_model.specs.Commits.{committed_of};
 ghost use Rattle.rq_model.specs.Rules.{KeepsRules};
 ghost use Rattle.rq_model.specs.Ledger.{ledger, group_in};
 ghost use Rattle.rq_model.specs.History.{Entry};
-ghost use Rattle.rq_model.specs.Promises.{AcknowledgedStay, CrashGoesOn, FifoThroughout, NothingBehindClose, ReplayGoesOn, RestartGoesOn, ShutCrashGoesOn};
+ghost use Rattle.rq_model.specs.Promises.{AcknowledgedStay, CrashGoesOn, FifoThroughout, NothingBehindClose, ReplayGoesOn, RestartGoesOn, ShutCrashGoesOn, StillStoreRefuses};
 ghost use Rattle.rq_model.specs.Legal.{IsLegal};
 ghost use Rattle.rq_model.specs.Tests.{Size};
 ghost use Rattle.rq_model.specs.Worked.{AreWorked};
@@ -54,6 +54,11 @@ pub fn crash_goes_on()
 /// leaves what was left before, with some of what that restart has added.
 pub fn shut_crash_goes_on()
     ensures { (size : Size) → ShutCrashGoesOn size }
+{}
+
+/// A store that does not run may refuse every call as `Failed`.
+pub fn still_store_refuses()
+    ensures { (size : Size) → StillStoreRefuses size }
 {}
 
 /// A restart over what a crash left, and what the restart itself added, is the next entry of a legal history.

@@ -3,6 +3,7 @@
 
 pub mod in_place;
 pub mod laws;
+pub mod limits;
 pub mod message;
 pub mod record;
 pub mod reference;

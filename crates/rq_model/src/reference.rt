@@ -10,6 +10,7 @@ ghost use Rattle.rq_model.specs.History.Job.{Sending};
 ghost use Rattle.rq_model.specs.Legal.{IsUpTo};
 ghost use Rattle.rq_model.specs.Tests.{Passes, cells_in_use, free_to_send, has_closed, log_full};
 
+use crate::limits::TRANSACTION_LIMIT;
 use crate::message::{Body, Message};
 use crate::reference::rows::{Act, CommittedTxn, GroupContent, OpenTxn, Work};
 use crate::refusal::Refusal;
@@ -19,9 +20,6 @@ use std::marker::Model;
 
 pub mod rows;
 mod scans;
-
-/// The most transactions that have not ended.
-const OPEN_LIMIT: usize = 4096;
 
 /// The queue as plain lists. Contracts see its sizes and its ledger. What a call refuses, it refuses as
 /// the ledger says, or with `NoMemory` where an allocation failed or a count passes 64 bits.
@@ -139,7 +137,7 @@ impl Reference {
         if !self.running {
             return Err(Refusal::Failed);
         }
-        if self.open_txns.len() >= OPEN_LIMIT || self.begins == u64::MAX {
+        if self.open_txns.len() >= TRANSACTION_LIMIT || self.begins == u64::MAX {
             return Err(Refusal::TooManyTransactions);
         }
         let txn = Txn {

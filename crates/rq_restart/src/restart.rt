@@ -28,9 +28,10 @@ ghost use Rattle.rq_restart.specs.Underway.{OfStores, IsLeftOrGoesOn, pages_left
 use crate::redo::{first_fault, miscounted_page, repeat_history};
 use crate::waiting::count_waiting;
 use rq_disk::{LogDevice, PageDevice};
-use rq_engine::engine::{Engine, LOG_LIMIT};
+use rq_engine::engine::Engine;
 use rq_groups::Waiting;
 use rq_log::{Log, Scan};
+use rq_model::limits::LOG_LIMIT;
 use rq_model::record::Record;
 use rq_model::refusal::{Damage, Refusal};
 use rq_pool::Pages;
@@ -81,6 +82,7 @@ pub fn restart<P: PageDevice + Drop, L: LogDevice + Drop>(
     pages: P,
     log: L,
 ) -> Result<(Engine<P, L>, Report), Stopped<P, L>>
+    // What an opened store is, over the log as it was read.
     ensures report { IfOk result (λ o. (older : List Record) → IsReadAs L.LogDevice log o.0.log older
         → Reports older o.1.incarnation o.1.records o.1.unfinished o.1.lost) }
     ensures sizes { IfOk result (λ o. P.honest o.0.pages → IsSuperblock o.0.state.sizes (P.seen pages 0)) }
@@ -94,8 +96,10 @@ pub fn restart<P: PageDevice + Drop, L: LogDevice + Drop>(
         ledger) }
     ensures committed { IfOk result (λ o. (older : List Record) → IsReadAs L.LogDevice log o.0.log older
         → (ledger_of o.0.state).committed ≡ committed_of older) }
+    // What its log's device holds then.
     ensures reads { IfOk result (λ o. L.honest o.0.log → L.seen o.0.log ≡ spelled o.0.state.records) }
     ensures durable { IfOk result (λ o. L.honest o.0.log → Only (spelled o.0.state.records) (L.may_leave o.0.log)) }
+    // What is left of both devices, and by a crash at any moment, on each answer.
     ensures pages { OnlyRead P.PageDevice pages (pages_left result) }
     ensures any_moment { BeginsAtMost L.LogDevice log (log_left result) }
     ensures path { OfStores P.PageDevice L.LogDevice pages log (log_left result) (λ z read.
@@ -104,12 +108,15 @@ pub fn restart<P: PageDevice + Drop, L: LogDevice + Drop>(
     ensures crash { OfStores P.PageDevice L.LogDevice pages log (log_left result) (λ z read.
         EachPair P.PageDevice L.LogDevice (pages_left result) (log_left result) (IsLeftOrGoesOn L.LogDevice log z
         read)) }
+    // What was checked, or why it was refused.
     ensures checked { IfOk result (λ o. WasChecked P.PageDevice L.LogDevice pages log o.0.state.sizes
         (paged (pooled o.0)) o.0.state.records o.0.pages o.0.log) }
     ensures refused { IfErr result (λ stopped. IsRefusedFor P.PageDevice L.LogDevice pages log stopped.refusal stopped.pages
         stopped.log) }
+    // What the first crash of the opened store needs.
     ensures fit { IfOk result (λ o. (older : List Record) → IsReadAs L.LogDevice log o.0.log older
         → AllFit (P.may_be pages) o.0.state.sizes older → AreFit P.PageDevice o.0) }
+    // Failures of devices, counted.
     ensures cause { IfOk result (λ o. (P.faults o.0.pages ≡ P.faults pages) × (L.faults o.0.log ≡ L.faults log)) }
     ensures err { IfErr result (λ stopped. (z : Sizes) → IsSuperblock z (P.seen pages 0) → (older : List Record)
         → IsReadAs L.LogDevice log stopped.log older → Stops

@@ -4,6 +4,7 @@
 ghost use Rattle.std.specs.Prelude.{◌<◌, ◌≤◌, IsSome, vec_capacity, vec_len};
 
 use rq_level::SlotWrite;
+use rq_model::limits::TRANSACTION_LIMIT;
 use rq_model::record::Deed;
 use rq_model::refusal::NoMemory;
 use rq_model::txn::{Lsn, Txn};
@@ -11,9 +12,6 @@ use std::alloc::Global;
 use std::marker::Model;
 
 mod scans;
-
-/// The most transactions that have not ended.
-pub const TRANSACTIONS: usize = 4096;
 
 /// An operation that is finished and not undone.
 #[derive(Clone, Copy)]
@@ -130,7 +128,7 @@ impl Transactions {
     pub fn is_full(&self) -> bool
         ensures { result ≡ not (nat_lt (length self.now) 4096) }
     {
-        self.rows.len() >= TRANSACTIONS
+        self.rows.len() >= TRANSACTION_LIMIT
     }
 
     /// Adds a transaction that has done nothing.

@@ -7,13 +7,11 @@ ghost use Rattle.rq_model.specs.Words.{has_number, sent_for, taken_from};
 ghost use Rattle.std.specs.List.{filter_map, sum_by};
 ghost use Rattle.std.specs.Prelude.{[], ◌∷◌, ◌≡◌, ◌+◌, ◌-◌, ◌++◌, ◌^◌, ◌≤◌, IfOk, OnOk, drop, length, map, min, nat_eq, nat_lt};
 
+use crate::limits::LOG_LIMIT;
 use crate::message::Message;
 use crate::reference::rows::{Act, CommittedTxn, GroupContent, OpenTxn, Work};
 use crate::txn::{Lsn, Txn};
 use std::alloc::{AllocError, Global};
-
-/// The most records of a log.
-const LOG_LIMIT: u64 = 1 << 50;
 
 /// Where the transaction stands among those that have not ended.
 pub fn place_of(rows: &[OpenTxn], txn: Txn) -> Option<usize>
