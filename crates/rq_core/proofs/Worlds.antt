@@ -1,5 +1,5 @@
 -- Each kind of happening keeps what is so of a store between two of them.
-use Rattle.std.specs.Prelude.{◌==◌}
+use Rattle.std.specs.Prelude.{◌==◌, if◌then◌else◌}
 use Rattle.std.proofs.Common.{Bool, Option, ◌||◌, ◌≢◌, ◌≡◌, ℕ, ◌+◌, List, [], ◌∷◌, ◌++◌, length, take, drop, refl, sym, ◌∙◌, ap, subst, true, false, Some, None, arith, append_assoc, inl, inr, ◌⊎◌}
 use Rattle.std.proofs.lemmas.Bool.{cases_eq}
 use Rattle.std.proofs.lemmas.Bool.Decides.{nat_tests}
@@ -36,7 +36,7 @@ use Rattle.rq_engine.specs.Applied.{Applied, RefusalLeaves, WriteFails}
 use Rattle.rq_engine.specs.Crash.{AreFit, IsCut, LeavesCut}
 use Rattle.rq_engine.specs.Devices.{EachPair}
 use Rattle.rq_engine.specs.Opened.{OpenStore}
-use Rattle.rq_engine.specs.Says.{call_of, gave}
+use Rattle.rq_engine.specs.Says.{RefusedForCause, call_of, gave}
 use Rattle.rq_groups.specs.Ends.{HeldEnds}
 use Rattle.rq_model.specs.Causes.{HasCause, IsCaused, writes_out}
 use Rattle.rq_txn.specs.Rows.{Row, Under, any_under as rows_under}
@@ -118,7 +118,7 @@ module _ {P L : Type 0} (p : page_device.Ghosts P) (l : log_device.Ghosts L) (ho
       let s = a.steps (honest_p new.pages, honest_l new.log) o.sound in
       record {
         history = s.entry ∷ ran.history;
-        tells = (ran.history, ran.tells, subst (λ c. AddsCall c (gave r) ran.history (s.entry ∷ ran.history)) (sym is) (s.entry, s.says, subst (λ b. IsCaused b (call_of e) (gave r)) o.ledger (caused e r old.state (a.cause (honest_p new.pages, honest_l new.log) o.sound)), refl));
+        tells = (ran.history, ran.tells, subst (λ c. AddsCall c (gave r) ran.history (s.entry ∷ ran.history)) (sym is) (s.entry, s.says, subst (λ l. IsCaused (any_busy l.open_ones) (call_of e) (gave r)) o.ledger (caused e r old.state (a.cause (honest_p new.pages, honest_l new.log) o.sound)), refl));
         legal = (subst (λ b. Legal (size_of z) b s.entry) o.ledger (subst (λ y. Legal (size_of y) (ledger_of old.state) s.entry) o.sizes s.legal), ran.legal);
         stands = record {
           sizes = a.sizes ∙ o.sizes;
