@@ -13,11 +13,11 @@ use Rattle.rq_page.specs.declared.layout.PageKind.{PageKind}
 use Rattle.rq_page.specs.declared.layout.PageKind.TheVariants as kind
 use Rattle.rq_page.proofs.Addresses.{kind_cells, kind_directory, senders_have_slots}
 use Rattle.rq_page.proofs.Spellings.{spelling_tells}
-use Rattle.rq_level.specs.Chain.{directory_appended}
-use Rattle.rq_level.specs.Stored.{IsStoreSlot}
-use Rattle.rq_level.specs.Log.{Write}
-use Rattle.rq_level.specs.declared.SlotWrite.{SlotWrite}
-use Rattle.rq_chain.specs.Writes.{IsSlotWrite, AreSlotWrites}
+use Rattle.rq_views.specs.Chain.{directory_appended}
+use Rattle.rq_views.specs.Stored.{IsStoreSlot}
+use Rattle.rq_views.specs.Log.{Write}
+use Rattle.rq_level.specs.declared.writes.SlotWrite.{SlotWrite}
+use Rattle.rq_level.specs.Writes.{IsSlotWrite, AreSlotWrites}
 use Rattle.std.proofs.lemmas.List.Elements.{All-cons, All-nil}
 
 -- a write of these fields

@@ -2,10 +2,11 @@
 ghost use Rattle.std.specs.Prelude.{◌≡◌, ◌+◌, ◌-◌, ◌^◌, ◌<◌, IfOk, reverse, length, MatchOption};
 ghost use Rattle.rq_page.specs.Sizes.{IsCellAddress};
 ghost use Rattle.rq_page.specs.Slots.{IsCellOf, IsDirectoryOf, Used};
-ghost use Rattle.rq_level.specs.Chain.{directory_appended};
-ghost use Rattle.rq_level.specs.Items.{layout_of};
-ghost use Rattle.rq_level.specs.Plans.{append_writes, unlink_head_writes, directory_head_unlinked, with_next, with_prev};
-ghost use Rattle.rq_chain.specs.Writes.{write_of, writes_of, cell_beside, IsSlotWrite, AreSlotWrites, IsFirstAt, IsNeighbour, IsNeighbourAt, IsGroupOf};
+ghost use Rattle.rq_views.specs.Chain.{directory_appended};
+ghost use Rattle.rq_views.specs.Items.{layout_of};
+ghost use Rattle.rq_views.specs.Plans.{append_writes, unlink_head_writes, directory_head_unlinked, with_next, with_prev};
+ghost use Rattle.rq_level.specs.Writes.{write_of, writes_of, IsSlotWrite, AreSlotWrites, IsFirstAt};
+ghost use Rattle.rq_chain.specs.Writes.{cell_beside, IsNeighbour, IsNeighbourAt, IsGroupOf};
 
 use crate::writes::{cell_write, group_write, listed};
 use crate::{Group, Neighbour, Plan, SlotWrite};

@@ -2,9 +2,10 @@
 ghost use Rattle.std.specs.Prelude.{◌≡◌, IfOk};
 ghost use Rattle.rq_page.specs.Sizes.{IsCellAddress};
 ghost use Rattle.rq_page.specs.Slots.{MayStand, IsDirectoryOf, of_cell_slot};
-ghost use Rattle.rq_level.specs.Items.{layout_of};
-ghost use Rattle.rq_level.specs.Plans.{directory_write};
-ghost use Rattle.rq_chain.specs.Writes.{write_of, IsSlotWrite, IsGroupOf};
+ghost use Rattle.rq_views.specs.Items.{layout_of};
+ghost use Rattle.rq_views.specs.Plans.{directory_write};
+ghost use Rattle.rq_level.specs.Writes.{write_of, IsSlotWrite};
+ghost use Rattle.rq_chain.specs.Writes.{IsGroupOf};
 
 use crate::{Group, SlotWrite};
 use rq_model::refusal::NoMemory;

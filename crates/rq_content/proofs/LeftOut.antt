@@ -9,13 +9,13 @@ use Rattle.rq_model.specs.declared.record.Deed.TheVariants.{Append, UnlinkHead, 
 use Rattle.rq_model.specs.Words.{sent_for, taken_from}
 use Rattle.rq_model.specs.Content.{said, tag_after}
 use Rattle.rq_model.specs.Commits.{op_of}
-use Rattle.rq_level.specs.Chain.{View}
-use Rattle.rq_level.specs.Committed.{message_of}
-use Rattle.rq_level.specs.Plans.{with_turn}
-use Rattle.rq_level.specs.Plans.Turn.{Did}
-use Rattle.rq_level.specs.Legal.{Placed}
-use Rattle.rq_level.specs.Groups.{on_sending_end, on_receiving_end, side, with_all, TellsView}
-use Rattle.rq_level.proofs.Deeds.{Sound}
+use Rattle.rq_views.specs.Chain.{View}
+use Rattle.rq_views.specs.Committed.{message_of}
+use Rattle.rq_views.specs.Plans.{with_turn}
+use Rattle.rq_views.specs.Plans.Turn.{Did}
+use Rattle.rq_views.specs.Legal.{Placed}
+use Rattle.rq_views.specs.Groups.{on_sending_end, on_receiving_end, side, with_all, TellsView}
+use Rattle.rq_views.proofs.Deeds.{Sound}
 use Rattle.rq_txn.specs.declared.Finished.{Finished}
 use Rattle.rq_store.specs.State.{op_done}
 use Rattle.rq_store.specs.Rows.{Moves, AllMove, placed, placed_one}

@@ -10,8 +10,8 @@ use Rattle.rq_model.specs.Tests.{below}
 use Rattle.rq_page.specs.declared.directory.Directory.{Directory}
 use Rattle.rq_page.specs.Sizes.{Sizes, directory_at, sender_count}
 use Rattle.rq_page.specs.Slots.Slot.{Sender}
-use Rattle.rq_level.specs.Chain.{Cells}
-use Rattle.rq_level.specs.Stored.{slots_in}
+use Rattle.rq_views.specs.Chain.{Cells}
+use Rattle.rq_views.specs.Stored.{slots_in}
 use Rattle.rq_txn.specs.Rows.{Row}
 use Rattle.rq_content.specs.declared.GroupContent.{GroupContent}
 use Rattle.rq_content.specs.Read.{Before, start, without_all, without_oldest, without_rows, or_else, met, cells_in, directory_of, shown_group, read_directory, read_before, read_group, group_of, damaged_for, IsBroken, WalkStops, StopsFor}

@@ -23,17 +23,17 @@ use Rattle.rq_txn.specs.declared.Finished.{Finished}
 use Rattle.rq_txn.specs.Rows.{Row, found_row, AreDistinct, any_under}
 use Rattle.rq_page.specs.declared.directory.Directory.{Directory}
 use Rattle.rq_page.specs.Sizes.{Sizes, directory_at, sender_count}
-use Rattle.rq_level.specs.Chain.{View, Cells, Node, Linked, first, message}
-use Rattle.rq_level.specs.Committed.{IsViewOf, message_of}
-use Rattle.rq_level.specs.Groups.{on_sending_end, on_receiving_end, side, committed}
-use Rattle.rq_level.specs.Items.{items}
-use Rattle.rq_level.specs.Legal.{open_deeds, view}
-use Rattle.rq_level.specs.Log.{cell_in, cells_of}
-use Rattle.rq_level.proofs.Committed.{say}
-use Rattle.rq_level.proofs.Deeds.{Sound}
-use Rattle.rq_level.proofs.GroupRule.{held}
-use Rattle.rq_level.proofs.Holders.{Held}
-use Rattle.rq_level.proofs.Holding.{Holds, view_holds, committed_is_group, tag_and_body}
+use Rattle.rq_views.specs.Chain.{View, Cells, Node, Linked, first, message}
+use Rattle.rq_views.specs.Committed.{IsViewOf, message_of}
+use Rattle.rq_views.specs.Groups.{on_sending_end, on_receiving_end, side, committed}
+use Rattle.rq_views.specs.Items.{items}
+use Rattle.rq_views.specs.Legal.{open_deeds, view}
+use Rattle.rq_views.specs.Log.{cell_in, cells_of}
+use Rattle.rq_views.proofs.Committed.{say}
+use Rattle.rq_views.proofs.Deeds.{Sound}
+use Rattle.rq_views.proofs.GroupRule.{held}
+use Rattle.rq_views.proofs.Holders.{Held}
+use Rattle.rq_views.proofs.Holding.{Holds, view_holds, committed_is_group, tag_and_body}
 use Rattle.rq_store.specs.State.{State}
 use Rattle.rq_store.specs.Sound.{IsSound}
 use Rattle.rq_store.specs.Rows.{AllMove, placed}

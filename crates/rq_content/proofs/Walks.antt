@@ -3,8 +3,8 @@ use Rattle.std.proofs.Common.{◌≡◌, ℕ, zero, suc, ◌+◌, ◌-◌, ◌<�
 use Rattle.std.proofs.lemmas.List.{append-nil, length-append}
 use Rattle.rq_model.specs.declared.message.Message.{Message}
 use Rattle.rq_page.specs.declared.cell.Cell.{Cell}
-use Rattle.rq_level.specs.Chain.{Cells, Node, Linked, first, message}
-use Rattle.rq_level.specs.Committed.{message_of}
+use Rattle.rq_views.specs.Chain.{Cells, Node, Linked, first, message}
+use Rattle.rq_views.specs.Committed.{message_of}
 use Rattle.rq_model.specs.declared.refusal.Refusal.{Refusal}
 use Rattle.rq_page.specs.Sizes.{Sizes}
 use Rattle.rq_content.specs.Read.{met, message_in, follow, cells_in, damaged_for, WalkStops}

@@ -13,9 +13,9 @@ use Rattle.rq_page.specs.Directories.{new_directory}
 use Rattle.rq_page.specs.Sizes.{Sizes, directory_at, sender_count}
 use Rattle.rq_page.specs.Slots.{Slot}
 use Rattle.rq_page.specs.Slots.Slot.{Free, Used, Sender}
-use Rattle.rq_level.specs.Chain.{Cells}
-use Rattle.rq_level.specs.Log.{cells_of}
-use Rattle.rq_level.specs.Stored.{slots_in}
+use Rattle.rq_views.specs.Chain.{Cells}
+use Rattle.rq_views.specs.Log.{cells_of}
+use Rattle.rq_views.specs.Stored.{slots_in}
 use Rattle.rq_txn.specs.declared.Finished.{Finished}
 use Rattle.rq_txn.specs.Rows.{Row}
 use Rattle.rq_content.specs.declared.GroupContent.{GroupContent}

@@ -22,8 +22,8 @@ use Rattle.rq_model.specs.Tests.{has_under, steps_left, log_full, tests, first_o
 use Rattle.rq_model.specs.Replay.{Reply as Gave}
 use Rattle.rq_model.specs.Replay.Reply.{Gave_lsn, Gave_commit, Gave_ready, Gave_content}
 use Rattle.rq_page.specs.Sizes.{Sizes}
-use Rattle.rq_level.specs.declared.SlotWrite.{SlotWrite}
-use Rattle.rq_chain.specs.Writes.{IsSlotWrite, AreSlotWrites}
+use Rattle.rq_level.specs.declared.writes.SlotWrite.{SlotWrite}
+use Rattle.rq_level.specs.Writes.{IsSlotWrite, AreSlotWrites}
 use Rattle.rq_txn.specs.declared.Finished.{Finished}
 use Rattle.rq_txn.specs.Rows.{Row, Under, found_row, finished_of, any_under, change_row, without_row, row_stepped, row_finished}
 use Rattle.rq_groups.specs.Ends.{HeldEnds}

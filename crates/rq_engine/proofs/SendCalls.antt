@@ -15,19 +15,19 @@ use Rattle.rq_page.specs.Sizes.{Sizes, sender_count, cell_count, directory_at, I
 use Rattle.rq_page.specs.declared.cell.Cell.{Cell}
 use Rattle.rq_page.specs.Slots.{Slot}
 use Rattle.rq_page.specs.Slots.Slot.{Free, Used, Sender}
-use Rattle.rq_level.specs.Chain.{Node, last, Linked, message}
-use Rattle.rq_level.specs.Log.{Slots, cell_in, cells_of}
-use Rattle.rq_level.specs.Legal.{view}
-use Rattle.rq_level.specs.Items.{items, layout_of}
-use Rattle.rq_level.specs.Stored.{slots_in, count_used, is_used}
-use Rattle.rq_level.proofs.Chains.{last_is}
-use Rattle.rq_level.proofs.Totals.{log_total}
+use Rattle.rq_views.specs.Chain.{Node, last, Linked, message}
+use Rattle.rq_views.specs.Log.{Slots, cell_in, cells_of}
+use Rattle.rq_views.specs.Legal.{view}
+use Rattle.rq_views.specs.Items.{items, layout_of}
+use Rattle.rq_views.specs.Stored.{slots_in, count_used, is_used}
+use Rattle.rq_views.proofs.Chains.{last_is}
+use Rattle.rq_views.proofs.Totals.{log_total}
 use Rattle.rq_pool.proofs.Counts.{count_same}
-use Rattle.rq_level.proofs.Idle.{idle_quiet}
-use Rattle.rq_level.proofs.Laws.{shows_here}
+use Rattle.rq_views.proofs.Idle.{idle_quiet}
+use Rattle.rq_views.proofs.Laws.{shows_here}
 use Rattle.rq_txn.proofs.Finding.{found_change_same}
-use Rattle.rq_level.specs.declared.SlotWrite.{SlotWrite}
-use Rattle.rq_chain.specs.Writes.{IsFirstAt}
+use Rattle.rq_level.specs.declared.writes.SlotWrite.{SlotWrite}
+use Rattle.rq_level.specs.Writes.{IsFirstAt}
 use Rattle.rq_txn.specs.Rows.{Row, Under, found_row, any_under, change_row, row_started}
 use Rattle.rq_groups.specs.declared.Held.{Held}
 use Rattle.rq_groups.specs.declared.End.{End}

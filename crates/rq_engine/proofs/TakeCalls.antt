@@ -13,12 +13,12 @@ use Rattle.rq_page.specs.declared.cell.Cell.{Cell}
 use Rattle.rq_page.specs.declared.directory.Directory.{Directory}
 use Rattle.rq_page.specs.Sizes.{sender_count, directory_at}
 use Rattle.rq_page.specs.Slots.Slot.{Used, Sender}
-use Rattle.rq_level.specs.Chain.{Shows}
-use Rattle.rq_level.specs.Log.{cell_in, cells_of}
-use Rattle.rq_level.specs.Legal.{view}
-use Rattle.rq_level.specs.Items.{items, layout_of}
-use Rattle.rq_level.specs.Stored.{slots_in}
-use Rattle.rq_level.proofs.Laws.{shows_here}
+use Rattle.rq_views.specs.Chain.{Shows}
+use Rattle.rq_views.specs.Log.{cell_in, cells_of}
+use Rattle.rq_views.specs.Legal.{view}
+use Rattle.rq_views.specs.Items.{items, layout_of}
+use Rattle.rq_views.specs.Stored.{slots_in}
+use Rattle.rq_views.proofs.Laws.{shows_here}
 use Rattle.rq_txn.specs.Rows.{Row, found_row, any_under, change_row, row_started}
 use Rattle.rq_groups.specs.Ends.{is_free_for, with_held}
 use Rattle.rq_groups.specs.Waiting.{waits}

@@ -10,9 +10,9 @@ use Rattle.rq_model.specs.Replay.{Reply as Gave}
 use Rattle.rq_model.specs.Replay.Reply.{Gave_refusal}
 use Rattle.rq_model.specs.Legal.{OnFound}
 use Rattle.rq_page.specs.Slots.{held_in, IsSlotOf}
-use Rattle.rq_level.specs.Log.{put}
-use Rattle.rq_level.specs.Stored.{slots_in}
-use Rattle.rq_level.specs.declared.SlotWrite.{SlotWrite}
+use Rattle.rq_views.specs.Log.{put}
+use Rattle.rq_views.specs.Stored.{slots_in}
+use Rattle.rq_level.specs.declared.writes.SlotWrite.{SlotWrite}
 use Rattle.rq_txn.specs.Rows.{Row, Under, found_row, change_row, row_stepped, any_under}
 use Rattle.rq_store.specs.State.{State}
 use Rattle.rq_store.specs.Sound.{IsSound}

@@ -16,7 +16,7 @@ use Rattle.rq_engine.specs.declared.event.Progress.{Progress}
 use Rattle.rq_engine.specs.declared.event.Progress.TheVariants as progress
 use Rattle.rq_engine.specs.declared.event.Reply.{Reply}
 use Rattle.rq_engine.specs.declared.event.Reply.TheVariants as reply
-use Rattle.rq_level.specs.Stored.{slots_in}
+use Rattle.rq_views.specs.Stored.{slots_in}
 use Rattle.rq_engine.specs.Answers.{IsUnderWay}
 use Rattle.rq_engine.specs.Lists.{ListsSay}
 use Rattle.rq_engine.specs.Sends.{TakesLowest}

@@ -6,7 +6,7 @@ use Rattle.rq_model.specs.Deeds.{spelled_deed}
 use Rattle.rq_disk.specs.declared.device.LogDevice as log_device
 use Rattle.rq_log.specs.Logged.{Logged, WasDurable}
 use Rattle.rq_page.specs.Sizes.{Sizes, sender_count}
-use Rattle.rq_chain.specs.Writes.{AreSlotWrites}
+use Rattle.rq_level.specs.Writes.{AreSlotWrites}
 use Rattle.rq_txn.specs.Rows.{Row, Under, AreDistinct}
 use Rattle.rq_groups.specs.Waiting.{waits}
 use Rattle.rq_store.specs.State.{State, owed_by}

@@ -7,8 +7,8 @@ use Rattle.rq_model.specs.declared.txn.Sub.{Sub}
 use Rattle.rq_model.specs.declared.txn.Txn.{Txn}
 use Rattle.rq_model.specs.Replay.{receipt}
 use Rattle.rq_page.specs.Sizes.{sender_count}
-use Rattle.rq_level.specs.Stored.{slots_in}
-use Rattle.rq_level.specs.declared.SlotWrite.{SlotWrite}
+use Rattle.rq_views.specs.Stored.{slots_in}
+use Rattle.rq_level.specs.declared.writes.SlotWrite.{SlotWrite}
 use Rattle.rq_groups.specs.declared.End.{End}
 use Rattle.rq_groups.specs.declared.End.TheVariants.{Sending, Receiving}
 use Rattle.rq_groups.specs.Ends.{is_free_for, released}

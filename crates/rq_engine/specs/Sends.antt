@@ -3,10 +3,10 @@ use Rattle.std.specs.Prelude.{◌≡◌, ℕ, ◌+◌, ◌*◌, ◌<◌, ◌≤�
 use Rattle.rq_model.specs.Deeds.{spelled_deed}
 use Rattle.rq_page.specs.Sizes.{Sizes, IsCellAddress}
 use Rattle.rq_page.specs.Slots.{Slot}
-use Rattle.rq_level.specs.Stored.{is_used}
-use Rattle.rq_level.specs.declared.SlotWrite.{SlotWrite}
+use Rattle.rq_views.specs.Stored.{is_used}
+use Rattle.rq_level.specs.declared.writes.SlotWrite.{SlotWrite}
 use Rattle.rq_chain.specs.declared.Plan.{Plan}
-use Rattle.rq_chain.specs.Writes.{AreSlotWrites}
+use Rattle.rq_level.specs.Writes.{AreSlotWrites}
 use Rattle.rq_txn.specs.Rows.{Under}
 
 -- the first of the writes is of the lowest free cell

@@ -5,9 +5,9 @@ ghost use Rattle.rq_model.specs.History.Call.{Start_receive, Start_receive_from}
 ghost use Rattle.rq_model.specs.Tests.{NoneHolds, ready_tests};
 ghost use Rattle.rq_page.specs.Sizes.{IsLink, sender_count};
 ghost use Rattle.rq_page.specs.Slots.{Used};
-ghost use Rattle.rq_level.specs.Log.{cell_in};
+ghost use Rattle.rq_views.specs.Log.{cell_in};
 ghost use Rattle.rq_chain.specs.Writes.{IsNeighbourAt};
-ghost use Rattle.rq_level.specs.Stored.{slots_in};
+ghost use Rattle.rq_views.specs.Stored.{slots_in};
 ghost use Rattle.rq_txn.specs.Rows.{any_under};
 ghost use Rattle.rq_groups.specs.Ends.{is_free_for};
 ghost use Rattle.rq_groups.specs.Waiting.{waits};

@@ -10,8 +10,8 @@ use Rattle.rq_page.specs.Sizes.{Sizes, IsCellAddress, cell_count, cell_at, place
 use Rattle.rq_page.proofs.Addresses.{cells_have_places, places_are_cells, cells_rise}
 use Rattle.rq_page.specs.Slots.{Slot, Free, Used, Sender}
 use Rattle.rq_page.specs.declared.cell.Cell.{Cell}
-use Rattle.rq_level.specs.Log.{Slots, put, cell_in}
-use Rattle.rq_level.specs.Stored.{is_used, count_used}
+use Rattle.rq_views.specs.Log.{Slots, put, cell_in}
+use Rattle.rq_views.specs.Stored.{is_used, count_used}
 
 -- 1 for a test that is passed
 abbrev pub one_of : Bool → ℕ

@@ -6,7 +6,7 @@ use Rattle.rq_page.specs.Sizes.{Sizes}
 use Rattle.rq_page.specs.Pages.{slot_of, IsWritten}
 use Rattle.rq_page.specs.Slots.{IsSlotOf}
 use Rattle.rq_page.specs.Formatted.{IsFormatted, IsHeaderOf}
-use Rattle.rq_level.specs.Stored.{slot_at, AreSlots}
+use Rattle.rq_views.specs.Stored.{slot_at, AreSlots}
 use Rattle.rq_pool.specs.declared.Frame.{Frame}
 use Rattle.rq_pool.specs.Pooled.{IsPool, image_at}
 use Rattle.rq_pool.specs.Frames.{image_of, images_of, framed_at}

@@ -9,7 +9,7 @@ use Rattle.rq_page.specs.Sizes.{Sizes, page_count}
 use Rattle.rq_page.specs.Pages.{slot_of}
 use Rattle.rq_page.specs.Slots.{IsSlotOf}
 use Rattle.rq_page.specs.Formatted.{IsFormatted, IsHeaderOf}
-use Rattle.rq_level.specs.Stored.{slot_at}
+use Rattle.rq_views.specs.Stored.{slot_at}
 use Rattle.rq_pool.specs.Pooled.{IsPool, AreOver, image_at, is_changed}
 use Rattle.rq_pool.specs.Reading.{IsSoundPage, AreSeen, OnlyRead}
 

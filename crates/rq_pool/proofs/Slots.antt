@@ -9,7 +9,7 @@ use Rattle.rq_page.specs.Cells.{cell_in, cell_slot_in}
 use Rattle.rq_page.specs.declared.cell.CellSlot.{CellSlot}
 use Rattle.rq_page.specs.declared.cell.CellSlot.TheVariants as cells
 use Rattle.rq_page.proofs.Addresses.{senders_have_slots, kind_cells}
-use Rattle.rq_level.specs.Stored.{IsStoreSlot, slot_at, slots_in, is_used}
+use Rattle.rq_views.specs.Stored.{IsStoreSlot, slot_at, slots_in, is_used}
 
 -- what a slot that the pages have holds
 pub slots_here : (z : Sizes) (images : List (List ℕ)) (a : ℕ) → 1 ≤ a % 16 → slots_in z images a ≡ held_in z (a / 16) (slot_at images a)

@@ -9,7 +9,7 @@ use Rattle.rq_page.specs.declared.layout.PageKind.{PageKind}
 use Rattle.rq_page.specs.declared.layout.PageKind.TheVariants as kind
 use Rattle.rq_page.proofs.Addresses.{kind_cells, kind_directory, senders_have_slots}
 use Rattle.rq_page.proofs.Spellings.{slot_is_spelling}
-use Rattle.rq_level.specs.Stored.{slots_in, slot_at, is_used, count_used}
+use Rattle.rq_views.specs.Stored.{slots_in, slot_at, is_used, count_used}
 use Rattle.rq_pool.specs.Pooled.{IsPool}
 use Rattle.rq_pool.proofs.Counts.{not_used_left}
 use Rattle.rq_pool.proofs.Slots.{slots_here, cell_place, directory_place}

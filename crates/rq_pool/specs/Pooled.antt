@@ -2,7 +2,7 @@
 use Rattle.std.specs.Prelude.{◌≡◌, ℕ, ◌<◌, ◌≤◌, Bool, false, List, [], length, slice_index_or}
 use Rattle.rq_page.specs.Sizes.{Sizes, IsInRange, page_count}
 use Rattle.rq_page.specs.Formatted.{IsFormatted, IsHeaderOf}
-use Rattle.rq_level.specs.Stored.{AreSlots}
+use Rattle.rq_views.specs.Stored.{AreSlots}
 use Rattle.rq_disk.specs.declared.device.PageDevice.{Ghosts}
 
 pub record Pooled (P : Type 0) : Type 0 where

@@ -6,8 +6,8 @@ ghost use Rattle.std.specs.Bool.{OnFalse};
 ghost use Rattle.rq_page.specs.Sizes.{IsCellAddress, page_count, sender_count, cell_count, directory_at};
 ghost use Rattle.rq_page.specs.Pages.{IsWritten};
 ghost use Rattle.rq_page.specs.Slots.{Free, Sender, held_in, IsSlotOf, IsCellOf, IsDirectoryOf};
-ghost use Rattle.rq_level.specs.Log.{cell_in, put};
-ghost use Rattle.rq_level.specs.Stored.{IsStoreSlot, slot_at, slots_in, is_used, count_used};
+ghost use Rattle.rq_views.specs.Log.{cell_in, put};
+ghost use Rattle.rq_views.specs.Stored.{IsStoreSlot, slot_at, slots_in, is_used, count_used};
 ghost use Rattle.rq_pool.specs.Pooled.{IsPool, image_at, is_changed};
 ghost use Rattle.rq_pool.specs.Reading.{HasAnswered, NotReadAgain, OnlyRead as WasRead};
 

@@ -12,7 +12,7 @@ use Rattle.rq_page.specs.Directories.{directory_in}
 use Rattle.rq_page.specs.Slots.{Slot, held_in, held_for}
 use Rattle.rq_page.specs.Formatted.{count_in}
 use Rattle.rq_page.proofs.Addresses.{senders_have_slots, kind_directory}
-use Rattle.rq_level.specs.Stored.{slot_at, slots_in}
+use Rattle.rq_views.specs.Stored.{slot_at, slots_in}
 use Rattle.rq_pool.proofs.Slots.{slots_here}
 use Rattle.rq_store.specs.Opening.{IsCounted, messages_told, waiting_in}
 use Rattle.rq_store.specs.Fitting.{image_in}

@@ -1,7 +1,7 @@
 -- The pages behind the first, and then the first.
 use Rattle.std.proofs.Common.{◌⊎◌, ℕ, ◌≤◌, ◌<◌, ◌==◌, ◌∙◌, List, zero, suc, inl, inr, ⊎_elim, sym, subst, arith}
 use Rattle.std.proofs.lemmas.Bool.{cond-false}
-use Rattle.rq_level.proofs.Chains.{no_eq}
+use Rattle.rq_views.proofs.Chains.{no_eq}
 use Rattle.rq_page.specs.Sizes.{Sizes, page_count}
 use Rattle.rq_page.specs.Formatted.{IsFormatted}
 use Rattle.rq_disk.specs.Device.{Images, Holds, Written, NoMore, Leaves, Elapses, Only}

@@ -3,7 +3,7 @@ use Rattle.std.proofs.Common.{◌≡◌, ℕ, zero, suc, ◌+◌, ◌-◌, ◌<�
 use Rattle.std.proofs.lemmas.List.{reverse-append, take-append-drop, drop_at, length-reverse, length-drop, take_more}
 use Rattle.rq_model.specs.declared.record.Record.{Record}
 use Rattle.rq_page.specs.Sizes.{Sizes}
-use Rattle.rq_level.specs.InStore.{InStore}
+use Rattle.rq_views.specs.InStore.{InStore}
 use Rattle.rq_model.specs.Incarnations.{InOrder, IsNext}
 use Rattle.rq_store.specs.Opening.{FitsUpTo, Redoes, MayRedo, IsLeft}
 use Rattle.rq_store.specs.Fitting.{oldest, told_by}

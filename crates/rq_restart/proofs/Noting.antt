@@ -5,7 +5,7 @@ use Rattle.std.proofs.lemmas.Bool.{cases_Bool, true≢false, and_parts, eqb-true
 use Rattle.std.specs.List.{list_any}
 use Rattle.std.specs.Prelude.{map}
 use Rattle.std.proofs.lemmas.List.{map-append}
-use Rattle.rq_level.specs.Log.{same_op}
+use Rattle.rq_views.specs.Log.{same_op}
 use Rattle.rq_model.specs.declared.txn.Sub.{Sub}
 use Rattle.rq_model.specs.declared.txn.Txn.{Txn}
 use Rattle.rq_model.specs.declared.record.Record.{Record}
@@ -16,9 +16,9 @@ use Rattle.rq_model.specs.Content.{Ending, ending, ending_by, has_end}
 use Rattle.rq_model.specs.Unended.{any_record, operation_ended, has_pair, add_pair, operations, unfinished, add_txn, workers, lost}
 use Rattle.rq_model.proofs.Lists.{same_is}
 use Rattle.rq_page.specs.Sizes.{Sizes}
-use Rattle.rq_level.specs.Legal.{IsLegalLog}
-use Rattle.rq_level.specs.Items.{items, layout_of, operation, ReadsItsDeeds}
-use Rattle.rq_level.proofs.Strangers.{has_end_same}
+use Rattle.rq_views.specs.Legal.{IsLegalLog}
+use Rattle.rq_views.specs.Items.{items, layout_of, operation, ReadsItsDeeds}
+use Rattle.rq_views.proofs.Strangers.{has_end_same}
 use Rattle.rq_model.specs.Incarnations.{InOrder, incarnation_of}
 use Rattle.rq_store.proofs.Opening.{over_same}
 use Rattle.rq_restart.specs.Noted.{Analysis, analysis, has_sub, with_sub, without_sub, with_txn, without_txn}

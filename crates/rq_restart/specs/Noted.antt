@@ -6,8 +6,8 @@ use Rattle.rq_model.specs.declared.txn.Sub.{Sub}
 use Rattle.rq_model.specs.declared.record.Record.{Record}
 use Rattle.rq_model.specs.declared.record.Record.TheVariants.{PageOp, OpEnd, OpVoid, CompEnd, Commit, AbortEnd}
 use Rattle.rq_model.specs.Words.{same_txn, has_txn}
-use Rattle.rq_level.specs.Log.{same_op}
-use Rattle.rq_level.specs.Items.{operation}
+use Rattle.rq_views.specs.Log.{same_op}
+use Rattle.rq_views.specs.Items.{operation}
 use Rattle.rq_model.specs.Incarnations.{incarnation_one}
 
 -- the incarnation, the operations that wrote a slot and have no end, and the transactions that finished an operation

@@ -2,7 +2,7 @@
 ghost use Rattle.std.specs.Prelude.{◌≡◌, ◌+◌, ◌^◌, ◌≤◌, ◌<◌, ◌∷◌, IfOk, IfErr, OnOk, false, length, reverse, drop, List, ℕ};
 ghost use Rattle.rq_model.specs.declared.record.Record.TheVariants as records;
 ghost use Rattle.rq_model.specs.declared.record.Record.{Record};
-ghost use Rattle.rq_level.specs.Stored.{slots_in, count_used};
+ghost use Rattle.rq_views.specs.Stored.{slots_in, count_used};
 ghost use Rattle.rq_log.specs.Crash.{LeavesOnly};
 ghost use Rattle.rq_log.specs.Spelled.{spelled, AreSpelled};
 ghost use Rattle.rq_record.specs.Spelling.{IsRecord};

@@ -11,12 +11,12 @@ use Rattle.rq_model.specs.History.Entry.{Begun}
 use Rattle.rq_model.specs.History.Call.{Begin}
 use Rattle.rq_model.specs.Replay.Reply.{Gave_txn}
 use Rattle.rq_page.specs.Sizes.{Sizes}
-use Rattle.rq_level.specs.Legal.{over}
-use Rattle.rq_level.specs.Items.{items, layout_of, operation}
-use Rattle.rq_level.specs.Numbers.{greatest}
-use Rattle.rq_level.specs.InStore.{IsStranger}
-use Rattle.rq_level.proofs.Numbers.{all_begun}
-use Rattle.rq_level.proofs.Strangers.{stranger_deeds, stranger_end, stranger_undone, stranger_began}
+use Rattle.rq_views.specs.Legal.{over}
+use Rattle.rq_views.specs.Items.{items, layout_of, operation}
+use Rattle.rq_views.specs.Numbers.{greatest}
+use Rattle.rq_views.specs.InStore.{IsStranger}
+use Rattle.rq_views.proofs.Numbers.{all_begun}
+use Rattle.rq_views.proofs.Strangers.{stranger_deeds, stranger_end, stranger_undone, stranger_began}
 use Rattle.rq_txn.specs.Rows.{Row, found_row, fresh_row}
 use Rattle.rq_groups.specs.declared.Held.{Held}
 use Rattle.rq_groups.specs.Ends.{has_held, held_by}

@@ -16,15 +16,15 @@ use Rattle.rq_page.specs.Pages.{lsn_of, slot_of}
 use Rattle.rq_page.specs.Slots.{Slot, held_in, held_for, IsSlotOf, IsSlotFor}
 use Rattle.rq_page.specs.Slots.Slot.{Free, Used, Sender}
 use Rattle.rq_page.specs.Formatted.{count_in}
-use Rattle.rq_level.specs.Log.{Item, Layout, Slots, Write, put, rest_of, IsNewest, same_op, state_of}
-use Rattle.rq_level.specs.Log.Item.{PageOp, PageUndo, OpEnd, OpVoid, CompEnd, Commit, AbortEnd, Restart}
-use Rattle.rq_level.specs.Plans.{Turn, IsPlan, relinked}
-use Rattle.rq_level.specs.Plans.Turn.{Did, Undid}
-use Rattle.rq_level.specs.Legal.{IsLegalLog, onto}
-use Rattle.rq_level.specs.Items.{items, item_of, layout_of, formatted_at}
-use Rattle.rq_level.specs.InStore.{InStore, InStoreOne}
-use Rattle.rq_level.proofs.Overlay.{put_at, put_off}
-use Rattle.rq_level.proofs.Stands.{page_of_cells, page_of_directory}
+use Rattle.rq_views.specs.Log.{Item, Layout, Slots, Write, put, rest_of, IsNewest, same_op, state_of}
+use Rattle.rq_views.specs.Log.Item.{PageOp, PageUndo, OpEnd, OpVoid, CompEnd, Commit, AbortEnd, Restart}
+use Rattle.rq_views.specs.Plans.{Turn, IsPlan, relinked}
+use Rattle.rq_views.specs.Plans.Turn.{Did, Undid}
+use Rattle.rq_views.specs.Legal.{IsLegalLog, onto}
+use Rattle.rq_views.specs.Items.{items, item_of, layout_of, formatted_at}
+use Rattle.rq_views.specs.InStore.{InStore, InStoreOne}
+use Rattle.rq_views.proofs.Overlay.{put_at, put_off}
+use Rattle.rq_views.proofs.Stands.{page_of_cells, page_of_directory}
 use Rattle.rq_store.specs.Fitting.{left_by, oldest, told_by, FitsPage}
 use Rattle.rq_store.specs.Whole.{BeforesAreSlots}
 use Rattle.rq_store.specs.Opening.{FitsUpTo, IsBeforeIn, IsSoundTold, IsSoundWrite, MayRedo, IsCounted}

@@ -14,17 +14,17 @@ use Rattle.rq_model.specs.Content.{said, added, removed, closed}
 use Rattle.rq_model.specs.Commits.{op_of, ops_told, committed_of}
 use Rattle.rq_model.proofs.Told.{told_taken, told_ends}
 use Rattle.rq_page.specs.Sizes.{sender_count}
-use Rattle.rq_level.specs.Legal.{open_deeds, view, under_way}
-use Rattle.rq_level.specs.Groups.{committed}
-use Rattle.rq_level.specs.Items.{items, layout_of, operation}
-use Rattle.rq_level.specs.Plans.{ShowsAt, Spares}
-use Rattle.rq_level.proofs.Committed.{say}
-use Rattle.rq_level.proofs.Holding.{holders, committed_is_group}
-use Rattle.rq_level.proofs.OpenCounts.{chain_count, AreApart, AllOpenIn, told_sends}
-use Rattle.rq_level.proofs.Settled.{rest_shown}
-use Rattle.rq_level.proofs.Idle.{idle_writes}
-use Rattle.rq_level.proofs.Stands.{store_is_layout}
-use Rattle.rq_level.proofs.Views.{views}
+use Rattle.rq_views.specs.Legal.{open_deeds, view, under_way}
+use Rattle.rq_views.specs.Groups.{committed}
+use Rattle.rq_views.specs.Items.{items, layout_of, operation}
+use Rattle.rq_views.specs.Plans.{ShowsAt, Spares}
+use Rattle.rq_views.proofs.Committed.{say}
+use Rattle.rq_views.proofs.Holding.{holders, committed_is_group}
+use Rattle.rq_views.proofs.OpenCounts.{chain_count, AreApart, AllOpenIn, told_sends}
+use Rattle.rq_views.proofs.Settled.{rest_shown}
+use Rattle.rq_views.proofs.Idle.{idle_writes}
+use Rattle.rq_views.proofs.Stands.{store_is_layout}
+use Rattle.rq_views.proofs.Views.{views}
 use Rattle.rq_txn.specs.declared.Finished.{Finished}
 use Rattle.rq_txn.specs.Rows.{Row, found_row, AreDistinct, any_under}
 use Rattle.rq_store.specs.State.{State, ledger_of, open_of, open_ones_of, op_done}

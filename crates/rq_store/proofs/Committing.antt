@@ -22,11 +22,11 @@ use Rattle.rq_model.specs.Replay.Reply.{Gave_commit}
 use Rattle.rq_model.proofs.Lists.{same_is, same_self, not_same}
 use Rattle.rq_model.proofs.Counts.{commit_counts, taken_within, rest_more}
 use Rattle.rq_page.specs.Sizes.{Sizes, sender_count}
-use Rattle.rq_level.specs.Log.Item.{Commit as Commit_item}
-use Rattle.rq_level.specs.Legal.{MayFollow, began, under_way}
-use Rattle.rq_level.specs.Plans.{deed_sender}
-use Rattle.rq_level.specs.Items.{items, layout_of, operation, has_undone}
-use Rattle.rq_level.proofs.Strangers.{has_end_same}
+use Rattle.rq_views.specs.Log.Item.{Commit as Commit_item}
+use Rattle.rq_views.specs.Legal.{MayFollow, began, under_way}
+use Rattle.rq_views.specs.Plans.{deed_sender}
+use Rattle.rq_views.specs.Items.{items, layout_of, operation, has_undone}
+use Rattle.rq_views.proofs.Strangers.{has_end_same}
 use Rattle.rq_txn.specs.Rows.{Row, Under, found_row, without_row, AreDistinct}
 use Rattle.rq_groups.specs.Ends.{HeldEnds}
 use Rattle.rq_groups.specs.Waiting.{waits}

@@ -23,21 +23,21 @@ use Rattle.rq_model.specs.History.Call.{Finish}
 use Rattle.rq_model.specs.Replay.{Says}
 use Rattle.rq_model.proofs.Lists.{same_self}
 use Rattle.rq_page.specs.Sizes.{Sizes, cell_count, sender_count}
-use Rattle.rq_level.specs.Log.{same_op}
-use Rattle.rq_level.specs.Log.Item.{OpEnd}
-use Rattle.rq_level.specs.Legal.{MayFollow, open_deeds, began, over, under_way, view}
-use Rattle.rq_level.specs.Plans.{IsPlan, deed_sender}
-use Rattle.rq_level.specs.Plans.Turn.{Did as Did_turn}
-use Rattle.rq_level.specs.Chain.{View}
-use Rattle.rq_level.specs.Groups.{TellsView}
-use Rattle.rq_level.specs.Claims.{takes_of, appends_of, claimed}
-use Rattle.rq_level.specs.Numbers.{greatest}
-use Rattle.rq_level.specs.Items.{items, item_of, layout_of, operation, told_deed, has_undone}
-use Rattle.rq_level.specs.Stored.{count_used}
-use Rattle.rq_level.proofs.Overlay.{same_self as same_op_self}
-use Rattle.rq_level.proofs.Strangers.{has_end_same}
-use Rattle.rq_level.proofs.Counting.{quiet_counts, turn_sums, lost, gained}
-use Rattle.rq_chain.specs.Writes.{write_of, writes_of}
+use Rattle.rq_views.specs.Log.{same_op}
+use Rattle.rq_views.specs.Log.Item.{OpEnd}
+use Rattle.rq_views.specs.Legal.{MayFollow, open_deeds, began, over, under_way, view}
+use Rattle.rq_views.specs.Plans.{IsPlan, deed_sender}
+use Rattle.rq_views.specs.Plans.Turn.{Did as Did_turn}
+use Rattle.rq_views.specs.Chain.{View}
+use Rattle.rq_views.specs.Groups.{TellsView}
+use Rattle.rq_views.specs.Claims.{takes_of, appends_of, claimed}
+use Rattle.rq_views.specs.Numbers.{greatest}
+use Rattle.rq_views.specs.Items.{items, item_of, layout_of, operation, told_deed, has_undone}
+use Rattle.rq_views.specs.Stored.{count_used}
+use Rattle.rq_views.proofs.Overlay.{same_self as same_op_self}
+use Rattle.rq_views.proofs.Strangers.{has_end_same}
+use Rattle.rq_views.proofs.Counting.{quiet_counts, turn_sums, lost, gained}
+use Rattle.rq_level.specs.Writes.{write_of, writes_of}
 use Rattle.rq_txn.specs.declared.Finished.{Finished}
 use Rattle.rq_txn.specs.Rows.{Row, Under, found_row, change_row, row_finished}
 use Rattle.rq_groups.specs.Ends.{HeldEnds, has_held}

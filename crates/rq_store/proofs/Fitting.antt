@@ -8,7 +8,7 @@ use Rattle.rq_page.specs.Pages.{lsn_of, slot_of, IsWritten}
 use Rattle.rq_page.specs.Slots.{held_in, IsSlotOf}
 use Rattle.rq_page.specs.Slots.Slot.{Free}
 use Rattle.rq_page.specs.Formatted.{IsFormatted, IsHeaderOf}
-use Rattle.rq_level.specs.Stored.{slots_in, slot_at}
+use Rattle.rq_views.specs.Stored.{slots_in, slot_at}
 use Rattle.rq_store.specs.Fitting.{left_by, image_in, oldest, HoldsRecord, told_by, IsOfPage, IsStamp, HoldsPage, FitsPage, FitsLog}
 
 -- the first none, and the first all

@@ -12,17 +12,17 @@ use Rattle.rq_page.specs.declared.directory.Directory.{Directory}
 use Rattle.rq_page.specs.Sizes.{sender_count, directory_at}
 use Rattle.rq_page.specs.Slots.{Slot}
 use Rattle.rq_page.specs.Slots.Slot.{Free, Used, Sender}
-use Rattle.rq_level.specs.Log.{Slots, Write, applied, HasBefores, Layout}
-use Rattle.rq_level.specs.Legal.{under_way, view}
-use Rattle.rq_level.specs.Plans.{IsPlan, relinked}
-use Rattle.rq_level.specs.Plans.Turn.{Did}
-use Rattle.rq_level.specs.Items.{items, layout_of, operation}
-use Rattle.rq_level.specs.Stored.{slots_in}
-use Rattle.rq_level.proofs.Idle.{idle_writes}
-use Rattle.rq_level.proofs.Overlay.{put_at, put_off}
-use Rattle.rq_level.proofs.Stands.{store_is_layout}
-use Rattle.rq_level.proofs.Views.{good, quiet_views}
-use Rattle.rq_chain.specs.Writes.{writes_of}
+use Rattle.rq_views.specs.Log.{Slots, Write, applied, HasBefores, Layout}
+use Rattle.rq_views.specs.Legal.{under_way, view}
+use Rattle.rq_views.specs.Plans.{IsPlan, relinked}
+use Rattle.rq_views.specs.Plans.Turn.{Did}
+use Rattle.rq_views.specs.Items.{items, layout_of, operation}
+use Rattle.rq_views.specs.Stored.{slots_in}
+use Rattle.rq_views.proofs.Idle.{idle_writes}
+use Rattle.rq_views.proofs.Overlay.{put_at, put_off}
+use Rattle.rq_views.proofs.Stands.{store_is_layout}
+use Rattle.rq_views.proofs.Views.{good, quiet_views}
+use Rattle.rq_level.specs.Writes.{writes_of}
 use Rattle.rq_txn.specs.Rows.{Row, Under, found_row}
 use Rattle.rq_store.specs.State.{State}
 use Rattle.rq_store.specs.Sound.{IsSound}

@@ -14,7 +14,7 @@ use Rattle.rq_page.specs.Slots.Slot.{Free, Sender}
 use Rattle.rq_page.specs.Formatted.{IsFormatted, IsHeaderFor, formatted_content, formatted_slot}
 use Rattle.rq_page.proofs.FormattedSlots.{formatted_holds}
 use Rattle.rq_page.proofs.PageParts.{lsn_of_header}
-use Rattle.rq_level.specs.Items.{formatted_at}
+use Rattle.rq_views.specs.Items.{formatted_at}
 use Rattle.rq_store.specs.Fitting.{oldest, FitsPage, FitsLog, IsStamp, HoldsPage}
 
 header_lsn : (page kind : ℕ) → big_number 8 (header_bytes 0 page kind) ≡ 0

@@ -8,11 +8,11 @@ use Rattle.rq_model.specs.declared.record.Deed.TheVariants.{Append, UnlinkHead, 
 use Rattle.rq_model.specs.Words.{same_txn}
 use Rattle.rq_model.specs.Content.{said, deeds, has_end}
 use Rattle.rq_model.specs.Rules.{holds, any_use, uses_send, uses_receive}
-use Rattle.rq_level.specs.Legal.{Placed, open_deeds}
-use Rattle.rq_level.specs.Groups.{on_sending_end, on_receiving_end, side, Alone}
-use Rattle.rq_level.specs.Items.{items, has_undone}
-use Rattle.rq_level.proofs.Committed.{say}
-use Rattle.rq_level.proofs.Content.{own_deeds}
+use Rattle.rq_views.specs.Legal.{Placed, open_deeds}
+use Rattle.rq_views.specs.Groups.{on_sending_end, on_receiving_end, side, Alone}
+use Rattle.rq_views.specs.Items.{items, has_undone}
+use Rattle.rq_views.proofs.Committed.{say}
+use Rattle.rq_views.proofs.Content.{own_deeds}
 use Rattle.rq_txn.specs.declared.Finished.{Finished}
 use Rattle.rq_txn.specs.Rows.{Row, found_row}
 use Rattle.rq_groups.specs.Ends.{HeldEnds, has_held}

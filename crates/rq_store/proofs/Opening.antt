@@ -21,23 +21,23 @@ use Rattle.rq_model.specs.Commits.{committed_of}
 use Rattle.rq_model.proofs.Lists.{same_is}
 use Rattle.rq_page.specs.Sizes.{Sizes, IsInRange, address, cell_count, cell_at, sender_count, directory_at}
 use Rattle.rq_page.specs.Slots.{held_in}
-use Rattle.rq_level.specs.Log.{Slots, IsNewest, same_op}
-use Rattle.rq_level.specs.Chain.{View, message}
-use Rattle.rq_level.specs.Groups.{committed}
-use Rattle.rq_level.specs.Plans.{Spares}
-use Rattle.rq_level.specs.Legal as ends
-use Rattle.rq_level.specs.Legal.{IsLegalLog, has_deed, view, open_deeds, of_op, is_of, is_end, began, over, under_way, rest_placed}
-use Rattle.rq_level.specs.Items.{items, item_of, layout_of, operation, ReadsItsDeeds}
-use Rattle.rq_level.specs.InStore.{IsStranger, mentions}
-use Rattle.rq_level.specs.Stored.{slots_in, count_used, is_used}
-use Rattle.rq_level.proofs.Idle.{idle_quiet, idle_writes}
-use Rattle.rq_level.proofs.Stands.{store_is_layout}
-use Rattle.rq_level.proofs.Views.{views}
-use Rattle.rq_level.proofs.GroupRule.{settled_view}
-use Rattle.rq_level.proofs.Overlay.{same_is as same_op_is}
-use Rattle.rq_level.proofs.Strangers.{has_end_same}
-use Rattle.rq_level.proofs.Rules.{ended}
-use Rattle.rq_level.proofs.Settled.{settled_counts, rest_shown}
+use Rattle.rq_views.specs.Log.{Slots, IsNewest, same_op}
+use Rattle.rq_views.specs.Chain.{View, message}
+use Rattle.rq_views.specs.Groups.{committed}
+use Rattle.rq_views.specs.Plans.{Spares}
+use Rattle.rq_views.specs.Legal as ends
+use Rattle.rq_views.specs.Legal.{IsLegalLog, has_deed, view, open_deeds, of_op, is_of, is_end, began, over, under_way, rest_placed}
+use Rattle.rq_views.specs.Items.{items, item_of, layout_of, operation, ReadsItsDeeds}
+use Rattle.rq_views.specs.InStore.{IsStranger, mentions}
+use Rattle.rq_views.specs.Stored.{slots_in, count_used, is_used}
+use Rattle.rq_views.proofs.Idle.{idle_quiet, idle_writes}
+use Rattle.rq_views.proofs.Stands.{store_is_layout}
+use Rattle.rq_views.proofs.Views.{views}
+use Rattle.rq_views.proofs.GroupRule.{settled_view}
+use Rattle.rq_views.proofs.Overlay.{same_is as same_op_is}
+use Rattle.rq_views.proofs.Strangers.{has_end_same}
+use Rattle.rq_views.proofs.Rules.{ended}
+use Rattle.rq_views.proofs.Settled.{settled_counts, rest_shown}
 use Rattle.rq_groups.specs.Waiting.{waits}
 use Rattle.rq_store.proofs.Begun.{begun_all}
 use Rattle.rq_store.specs.State.{ledger_of}

@@ -10,10 +10,10 @@ use Rattle.rq_model.specs.Words.{In, same_txn, is_some}
 use Rattle.rq_model.specs.Ledger.{Open, change, change_one}
 use Rattle.rq_model.specs.Content.{has_end}
 use Rattle.rq_page.specs.Sizes.{Sizes}
-use Rattle.rq_level.specs.Log.{same_op}
-use Rattle.rq_level.specs.Legal.{open_deeds, under_way}
-use Rattle.rq_level.specs.Numbers.{greatest}
-use Rattle.rq_level.specs.Items.{items, operation, has_undone}
+use Rattle.rq_views.specs.Log.{same_op}
+use Rattle.rq_views.specs.Legal.{open_deeds, under_way}
+use Rattle.rq_views.specs.Numbers.{greatest}
+use Rattle.rq_views.specs.Items.{items, operation, has_undone}
 use Rattle.rq_txn.specs.Rows.{Row, Under, found_row, AreDistinct, change_row, change_row_one, without_row}
 use Rattle.rq_store.specs.State.{open_of, open_ones_of}
 use Rattle.std.proofs.lemmas.Option.{same_Some}

@@ -12,13 +12,13 @@ use Rattle.rq_page.specs.Pages.{lsn_of, slot_of, IsWritten}
 use Rattle.rq_page.specs.Slots.{Slot, held_in, held_for, slot_bytes, IsSlotOf}
 use Rattle.rq_page.specs.Slots.Slot.{Free, Used, Sender}
 use Rattle.rq_page.proofs.Spellings.{slot_is_spelling}
-use Rattle.rq_level.specs.Log.{Slots, put}
-use Rattle.rq_level.specs.Legal.{IsLegalLog}
-use Rattle.rq_level.specs.Items.{items, layout_of}
-use Rattle.rq_level.specs.InStore.{InStore, InStoreOne, IsInPlace, AllStand}
-use Rattle.rq_level.specs.Stored.{IsStoreSlot, slots_in, slot_at}
-use Rattle.rq_level.proofs.Overlay.{put_at, put_off}
-use Rattle.rq_level.proofs.Stands.{slots_stand, page_of_cells, page_of_directory}
+use Rattle.rq_views.specs.Log.{Slots, put}
+use Rattle.rq_views.specs.Legal.{IsLegalLog}
+use Rattle.rq_views.specs.Items.{items, layout_of}
+use Rattle.rq_views.specs.InStore.{InStore, InStoreOne, IsInPlace, AllStand}
+use Rattle.rq_views.specs.Stored.{IsStoreSlot, slots_in, slot_at}
+use Rattle.rq_views.proofs.Overlay.{put_at, put_off}
+use Rattle.rq_views.proofs.Stands.{slots_stand, page_of_cells, page_of_directory}
 use Rattle.rq_store.specs.Fitting.{left_by, oldest, HoldsRecord, told_by, IsOfPage, IsStamp, HoldsPage, FitsPage, FitsLog, image_in}
 use Rattle.rq_store.specs.Whole.{BeforesAreSlots}
 use Rattle.rq_store.specs.Opening.{FitsPageUpTo, FitsUpTo, Redoes, next_restart}

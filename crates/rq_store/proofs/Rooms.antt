@@ -9,13 +9,13 @@ use Rattle.rq_model.specs.declared.txn.Txn.{Txn}
 use Rattle.rq_model.specs.Words.{In, same_txn}
 use Rattle.rq_model.proofs.Lists.{same_is, same_self}
 use Rattle.rq_page.specs.Sizes.{cell_count}
-use Rattle.rq_level.specs.Claims.{takes_placed, claimed}
-use Rattle.rq_level.specs.Items.{items}
-use Rattle.rq_level.specs.Legal.{Placed}
-use Rattle.rq_level.specs.Stored.{count_used}
-use Rattle.rq_level.proofs.AllOpen.{Owned, owned_by, but_all, all_open, own_open, none_open, in_but_all, other_but_all, taken, taken_placed, taken_parts}
-use Rattle.rq_level.proofs.Claims.{claimed_is}
-use Rattle.rq_level.proofs.Counting.{count_messages, quiet_counts}
+use Rattle.rq_views.specs.Claims.{takes_placed, claimed}
+use Rattle.rq_views.specs.Items.{items}
+use Rattle.rq_views.specs.Legal.{Placed}
+use Rattle.rq_views.specs.Stored.{count_used}
+use Rattle.rq_views.proofs.AllOpen.{Owned, owned_by, but_all, all_open, own_open, none_open, in_but_all, other_but_all, taken, taken_placed, taken_parts}
+use Rattle.rq_views.proofs.Claims.{claimed_is}
+use Rattle.rq_views.proofs.Counting.{count_messages, quiet_counts}
 use Rattle.rq_txn.specs.declared.Finished.{Finished}
 use Rattle.rq_txn.specs.Rows.{Row, found_row, AreDistinct}
 use Rattle.rq_store.specs.Fitting.{left_by}

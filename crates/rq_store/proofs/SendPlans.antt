@@ -6,12 +6,12 @@ use Rattle.rq_page.specs.declared.cell.Cell.{Cell}
 use Rattle.rq_page.specs.declared.directory.Directory.{Directory}
 use Rattle.rq_page.specs.Slots.{Slot}
 use Rattle.rq_page.specs.Slots.Slot.{Free, Used, Sender}
-use Rattle.rq_level.specs.Chain.{Node, last, Linked, View, Shows, message}
-use Rattle.rq_level.specs.Log.{Slots, Write, HasBefores, Layout, cells_of, cell_in, put}
-use Rattle.rq_level.specs.Plans.{ShowsAt, LinksTo, append_writes, with_next, IsAppend}
-use Rattle.rq_level.proofs.Chains.{last_is, last_pos}
-use Rattle.rq_level.proofs.Laws.{shows_here}
-use Rattle.rq_level.proofs.Overlay.{put_off}
+use Rattle.rq_views.specs.Chain.{Node, last, Linked, View, Shows, message}
+use Rattle.rq_views.specs.Log.{Slots, Write, HasBefores, Layout, cells_of, cell_in, put}
+use Rattle.rq_views.specs.Plans.{ShowsAt, LinksTo, append_writes, with_next, IsAppend}
+use Rattle.rq_views.proofs.Chains.{last_is, last_pos}
+use Rattle.rq_views.proofs.Laws.{shows_here}
+use Rattle.rq_views.proofs.Overlay.{put_off}
 use Rattle.rq_store.specs.Plans.{Stands_at}
 
 -- no cell stands at 0

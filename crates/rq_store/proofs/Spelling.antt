@@ -5,11 +5,11 @@ use Rattle.rq_page.specs.Kinds.{kind_of}
 use Rattle.rq_page.specs.Sizes.{Sizes, sender_count}
 use Rattle.rq_page.specs.Slots.{Slot, MayHold, IsSlotOf, held_in, slot_bytes}
 use Rattle.rq_page.proofs.Spellings.{spelling_tells}
-use Rattle.rq_level.specs.InStore.{InStore, InStoreOne}
-use Rattle.rq_level.specs.Items.{items, item_of, told_deed}
-use Rattle.rq_level.specs.Log.{Item}
-use Rattle.rq_level.specs.Log.Item.{PageOp, PageUndo, OpEnd, OpVoid, CompEnd, Commit, AbortEnd, Restart}
-use Rattle.rq_level.specs.Plans.{deed_sender}
+use Rattle.rq_views.specs.InStore.{InStore, InStoreOne}
+use Rattle.rq_views.specs.Items.{items, item_of, told_deed}
+use Rattle.rq_views.specs.Log.{Item}
+use Rattle.rq_views.specs.Log.Item.{PageOp, PageUndo, OpEnd, OpVoid, CompEnd, Commit, AbortEnd, Restart}
+use Rattle.rq_views.specs.Plans.{deed_sender}
 use Rattle.rq_store.specs.Whole.{BeforesAreSlots, IsBefore}
 use Rattle.rq_store.specs.Worked.{record_of, spelled_log}
 use Rattle.rq_store.proofs.Stepping.{address_is}

@@ -15,20 +15,20 @@ use Rattle.rq_model.specs.Tests.{pending, is_sent, is_sending}
 use Rattle.rq_model.specs.History.Entry.{Started}
 use Rattle.rq_model.proofs.Lists.{same_is, same_self}
 use Rattle.rq_page.specs.Sizes.{Sizes, cell_count, sender_count}
-use Rattle.rq_level.specs.Log.{Slots, Write, HasBefores}
-use Rattle.rq_level.specs.Legal.{began, view}
-use Rattle.rq_level.specs.Plans.{IsPlan, deed_sender}
-use Rattle.rq_level.specs.Plans.Turn.{Did}
-use Rattle.rq_level.specs.Groups.{TellsView}
-use Rattle.rq_level.specs.Claims.{appends_of}
-use Rattle.rq_level.specs.Numbers.{greatest}
-use Rattle.rq_level.specs.Items.{items, layout_of, operation}
-use Rattle.rq_level.specs.Owed.{Owes}
-use Rattle.rq_level.proofs.Numbers.{beyond_unbegun}
-use Rattle.rq_level.proofs.Owes.{owes_start}
-use Rattle.rq_level.proofs.Views.{good}
-use Rattle.rq_level.proofs.Idle.{unbegun_writes, unbegun_over, unbegun_forward, unbegun_uncrossed, idle_stands}
-use Rattle.rq_chain.specs.Writes.{writes_of}
+use Rattle.rq_views.specs.Log.{Slots, Write, HasBefores}
+use Rattle.rq_views.specs.Legal.{began, view}
+use Rattle.rq_views.specs.Plans.{IsPlan, deed_sender}
+use Rattle.rq_views.specs.Plans.Turn.{Did}
+use Rattle.rq_views.specs.Groups.{TellsView}
+use Rattle.rq_views.specs.Claims.{appends_of}
+use Rattle.rq_views.specs.Numbers.{greatest}
+use Rattle.rq_views.specs.Items.{items, layout_of, operation}
+use Rattle.rq_views.specs.Owed.{Owes}
+use Rattle.rq_views.proofs.Numbers.{beyond_unbegun}
+use Rattle.rq_views.proofs.Owes.{owes_start}
+use Rattle.rq_views.proofs.Views.{good}
+use Rattle.rq_views.proofs.Idle.{unbegun_writes, unbegun_over, unbegun_forward, unbegun_uncrossed, idle_stands}
+use Rattle.rq_level.specs.Writes.{writes_of}
 use Rattle.rq_txn.specs.declared.Finished.{Finished}
 use Rattle.rq_txn.specs.Rows.{Row, Under, found_row, change_row, row_started, any_under}
 use Rattle.rq_groups.specs.declared.Held.{Held}

@@ -17,24 +17,24 @@ use Rattle.rq_model.specs.History.Call.{Step}
 use Rattle.rq_model.specs.Replay.Reply.{Gave_lsn}
 use Rattle.rq_page.specs.Sizes.{Sizes, address, sender_count}
 use Rattle.rq_page.specs.Slots.{held_in, IsSlotOf}
-use Rattle.rq_level.specs.Log.{Write, put, same_op}
-use Rattle.rq_level.specs.Log.Item.{PageOp}
-use Rattle.rq_level.specs.Legal.{onto, MayFollow, began, over, crossed}
-use Rattle.rq_level.specs.Plans.{IsPlan}
-use Rattle.rq_level.specs.Plans.Turn.{Did}
+use Rattle.rq_views.specs.Log.{Write, put, same_op}
+use Rattle.rq_views.specs.Log.Item.{PageOp}
+use Rattle.rq_views.specs.Legal.{onto, MayFollow, began, over, crossed}
+use Rattle.rq_views.specs.Plans.{IsPlan}
+use Rattle.rq_views.specs.Plans.Turn.{Did}
 use Rattle.rq_model.specs.declared.txn.Sub.{Sub}
-use Rattle.rq_level.specs.Items.{items, item_of, layout_of, operation}
-use Rattle.rq_level.specs.Numbers.{greatest}
-use Rattle.rq_level.specs.Owed.{Owes}
-use Rattle.rq_level.specs.Stored.{slots_in, count_used}
-use Rattle.rq_level.proofs.Chains.{no_eq}
-use Rattle.rq_level.proofs.Idle.{unbegun_writes}
-use Rattle.rq_level.proofs.Overlay.{Good, put_agree, same_self as same_op_self}
-use Rattle.rq_level.proofs.Views.{good}
-use Rattle.rq_level.proofs.Owes.{owes_next, owes_rest}
-use Rattle.rq_level.proofs.Strangers.{has_end_same}
-use Rattle.rq_level.specs.declared.SlotWrite.{SlotWrite}
-use Rattle.rq_chain.specs.Writes.{write_of, writes_of}
+use Rattle.rq_views.specs.Items.{items, item_of, layout_of, operation}
+use Rattle.rq_views.specs.Numbers.{greatest}
+use Rattle.rq_views.specs.Owed.{Owes}
+use Rattle.rq_views.specs.Stored.{slots_in, count_used}
+use Rattle.rq_views.proofs.Chains.{no_eq}
+use Rattle.rq_views.proofs.Idle.{unbegun_writes}
+use Rattle.rq_views.proofs.Overlay.{Good, put_agree, same_self as same_op_self}
+use Rattle.rq_views.proofs.Views.{good}
+use Rattle.rq_views.proofs.Owes.{owes_next, owes_rest}
+use Rattle.rq_views.proofs.Strangers.{has_end_same}
+use Rattle.rq_level.specs.declared.writes.SlotWrite.{SlotWrite}
+use Rattle.rq_level.specs.Writes.{write_of, writes_of}
 use Rattle.rq_txn.specs.Rows.{Row, Under, found_row, change_row, row_stepped, under_stepped}
 use Rattle.rq_groups.specs.Ends.{HeldEnds}
 use Rattle.rq_groups.specs.Waiting.{waits}

@@ -17,16 +17,16 @@ use Rattle.rq_model.specs.Replay.Reply.{Gave_sub}
 use Rattle.rq_page.specs.declared.cell.Cell.{Cell}
 use Rattle.rq_page.specs.Sizes.{Sizes, sender_count, directory_at}
 use Rattle.rq_page.specs.Slots.Slot.{Free, Used, Sender}
-use Rattle.rq_level.specs.Log.{Slots, Write, HasBefores}
-use Rattle.rq_level.specs.Legal.{view}
-use Rattle.rq_level.specs.Plans.{ShowsAt, IsPlan, IsUnlinkHead, unlink_head_writes, deed_sender}
-use Rattle.rq_level.specs.Plans.Turn.{Did}
-use Rattle.rq_level.specs.Claims.{appends_of}
-use Rattle.rq_level.specs.Groups.{TellsView}
-use Rattle.rq_level.specs.Items.{items, layout_of}
-use Rattle.rq_level.specs.Stored.{slots_in}
-use Rattle.rq_level.proofs.Tells.{head_tells}
-use Rattle.rq_chain.specs.Writes.{write_of, writes_of}
+use Rattle.rq_views.specs.Log.{Slots, Write, HasBefores}
+use Rattle.rq_views.specs.Legal.{view}
+use Rattle.rq_views.specs.Plans.{ShowsAt, IsPlan, IsUnlinkHead, unlink_head_writes, deed_sender}
+use Rattle.rq_views.specs.Plans.Turn.{Did}
+use Rattle.rq_views.specs.Claims.{appends_of}
+use Rattle.rq_views.specs.Groups.{TellsView}
+use Rattle.rq_views.specs.Items.{items, layout_of}
+use Rattle.rq_views.specs.Stored.{slots_in}
+use Rattle.rq_views.proofs.Tells.{head_tells}
+use Rattle.rq_level.specs.Writes.{write_of, writes_of}
 use Rattle.rq_txn.specs.Rows.{Row, Under, found_row, change_row, row_started, any_under}
 use Rattle.rq_groups.specs.Ends.{HeldEnds, has_held, held_by, with_held, is_free_for}
 use Rattle.rq_groups.specs.Waiting.{waits}

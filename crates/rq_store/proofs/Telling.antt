@@ -11,13 +11,13 @@ use Rattle.rq_model.specs.Counts.{AllBelow, op_sender, is_taken}
 use Rattle.rq_model.specs.Content.{Said, said}
 use Rattle.rq_model.specs.Commits.{op_of, ops_told, told}
 use Rattle.rq_page.specs.Sizes.{Sizes, sender_count}
-use Rattle.rq_level.specs.Legal.{Placed, open_deeds}
-use Rattle.rq_level.specs.Plans.{deed_sender}
-use Rattle.rq_level.specs.Claims.{takes_of}
-use Rattle.rq_level.specs.Items.{items}
-use Rattle.rq_level.proofs.Committed.{say}
-use Rattle.rq_level.proofs.Content.{own_deeds}
-use Rattle.rq_level.proofs.Counting.{AllInStore, deeds_in_store}
+use Rattle.rq_views.specs.Legal.{Placed, open_deeds}
+use Rattle.rq_views.specs.Plans.{deed_sender}
+use Rattle.rq_views.specs.Claims.{takes_of}
+use Rattle.rq_views.specs.Items.{items}
+use Rattle.rq_views.proofs.Committed.{say}
+use Rattle.rq_views.proofs.Content.{own_deeds}
+use Rattle.rq_views.proofs.Counting.{AllInStore, deeds_in_store}
 use Rattle.rq_txn.specs.declared.Finished.{Finished}
 use Rattle.rq_txn.specs.Rows.{Row}
 use Rattle.rq_groups.specs.Ends.{HeldEnds}

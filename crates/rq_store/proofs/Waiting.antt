@@ -20,15 +20,15 @@ use Rattle.rq_model.specs.Rules.{KeepsRules}
 use Rattle.rq_model.proofs.Told.{told_taken, not_yet, content_is}
 use Rattle.rq_model.proofs.Commits.{removed_both, shape_is, covered_log, around_itself}
 use Rattle.rq_page.specs.Sizes.{sender_count}
-use Rattle.rq_level.specs.Chain.{View}
-use Rattle.rq_level.specs.Committed.{message_of}
-use Rattle.rq_level.specs.Legal.{open_deeds, view}
-use Rattle.rq_level.specs.Groups.{committed, on_receiving_end, side, with_all}
-use Rattle.rq_level.specs.Items.{items}
-use Rattle.rq_level.proofs.Committed.{say, takes_form}
-use Rattle.rq_level.proofs.Content.{own_deeds}
-use Rattle.rq_level.proofs.Holding.{committed_is_group, tag_and_body, view_holds, holders}
-use Rattle.rq_level.proofs.Settled.{rest_shown}
+use Rattle.rq_views.specs.Chain.{View}
+use Rattle.rq_views.specs.Committed.{message_of}
+use Rattle.rq_views.specs.Legal.{open_deeds, view}
+use Rattle.rq_views.specs.Groups.{committed, on_receiving_end, side, with_all}
+use Rattle.rq_views.specs.Items.{items}
+use Rattle.rq_views.proofs.Committed.{say, takes_form}
+use Rattle.rq_views.proofs.Content.{own_deeds}
+use Rattle.rq_views.proofs.Holding.{committed_is_group, tag_and_body, view_holds, holders}
+use Rattle.rq_views.proofs.Settled.{rest_shown}
 use Rattle.rq_txn.specs.declared.Finished.{Finished}
 use Rattle.rq_txn.specs.Rows.{Row, found_row, AreDistinct}
 use Rattle.rq_groups.specs.Ends.{HeldEnds, has_held}

@@ -12,14 +12,14 @@ use Rattle.rq_page.specs.Directories.{new_directory, IsDirectorySlot}
 use Rattle.rq_page.specs.Sizes.{IsLink, cell_count}
 use Rattle.rq_page.specs.Slots.{IsCellOf}
 use Rattle.rq_page.specs.Slots.Slot.{Free, Used, Sender}
-use Rattle.rq_level.specs.Claims.{HasRoom}
-use Rattle.rq_level.specs.Groups.{DeedsTellViews}
-use Rattle.rq_level.specs.Items.{items, ReadsItsDeeds}
-use Rattle.rq_level.specs.Legal.{IsLegalLog}
-use Rattle.rq_level.specs.Numbers.{AreNumbered}
-use Rattle.rq_level.specs.Plans.{directory_put_back, directory_tail_unlinked}
-use Rattle.rq_level.specs.Row.{sizes, small, t2, cell, sends, takes, sent_a, taken_a, sent_b, committed_one, done_two, stopped, taken_back, restarted}
-use Rattle.rq_level.proofs.Worked.{worked}
+use Rattle.rq_views.specs.Claims.{HasRoom}
+use Rattle.rq_views.specs.Groups.{DeedsTellViews}
+use Rattle.rq_views.specs.Items.{items, ReadsItsDeeds}
+use Rattle.rq_views.specs.Legal.{IsLegalLog}
+use Rattle.rq_views.specs.Numbers.{AreNumbered}
+use Rattle.rq_views.specs.Plans.{directory_put_back, directory_tail_unlinked}
+use Rattle.rq_views.specs.Row.{sizes, small, t2, cell, sends, takes, sent_a, taken_a, sent_b, committed_one, done_two, stopped, taken_back, restarted}
+use Rattle.rq_views.proofs.Worked.{worked}
 use Rattle.rq_model.specs.Incarnations.{InOrder}
 use Rattle.rq_store.specs.Whole.{IsWhole}
 use Rattle.rq_store.specs.Worked.{WorkedStore, spelled_log}

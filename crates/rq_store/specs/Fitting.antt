@@ -6,8 +6,8 @@ use Rattle.rq_page.specs.Sizes.{Sizes, page_count, address}
 use Rattle.rq_page.specs.Pages.{lsn_of, slot_of}
 use Rattle.rq_page.specs.Slots.{held_in, IsSlotOf}
 use Rattle.rq_page.specs.Formatted.{IsFormatted, IsHeaderOf}
-use Rattle.rq_level.specs.Log.{LogState as Slots_state, state_of}
-use Rattle.rq_level.specs.Items.{items, layout_of}
+use Rattle.rq_views.specs.Log.{LogState as Slots_state, state_of}
+use Rattle.rq_views.specs.Items.{items, layout_of}
 
 -- the slots that a log leaves
 abbrev pub left_by : Sizes → List Record → Slots_state

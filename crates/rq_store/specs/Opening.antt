@@ -8,7 +8,7 @@ use Rattle.rq_page.specs.Pages.{lsn_of, slot_of, IsWritten}
 use Rattle.rq_page.specs.Slots.{Slot, IsSlotOf}
 use Rattle.rq_page.specs.Slots.Slot.{Free, Used, Sender}
 use Rattle.rq_page.specs.Formatted.{count_in}
-use Rattle.rq_level.specs.Stored.{slots_in, count_used}
+use Rattle.rq_views.specs.Stored.{slots_in, count_used}
 use Rattle.rq_store.specs.State.{State}
 use Rattle.rq_model.specs.Incarnations.{incarnation_of}
 use Rattle.rq_store.specs.Whole.{IsWhole}

@@ -6,10 +6,10 @@ use Rattle.rq_page.specs.declared.cell.Cell.{Cell}
 use Rattle.rq_page.specs.declared.directory.Directory.{Directory}
 use Rattle.rq_page.specs.Sizes.{Sizes, IsCellAddress, directory_at, sender_count}
 use Rattle.rq_page.specs.Slots.Slot.{Free, Used, Sender}
-use Rattle.rq_level.specs.Log.{Slots}
-use Rattle.rq_level.specs.Plans.{append_writes, unlink_head_writes}
-use Rattle.rq_level.specs.Items.{layout_of}
-use Rattle.rq_chain.specs.Writes.{writes_of}
+use Rattle.rq_views.specs.Log.{Slots}
+use Rattle.rq_views.specs.Plans.{append_writes, unlink_head_writes}
+use Rattle.rq_views.specs.Items.{layout_of}
+use Rattle.rq_level.specs.Writes.{writes_of}
 use Rattle.rq_txn.specs.Rows.{Under}
 use Rattle.rq_model.specs.declared.txn.Txn.{Txn}
 use Rattle.rq_groups.specs.Ends.{is_free_for}

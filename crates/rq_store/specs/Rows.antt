@@ -7,14 +7,14 @@ use Rattle.rq_model.specs.declared.record.Record.{Record}
 use Rattle.rq_model.specs.Deeds.{spelled_deed, deed_in}
 use Rattle.rq_model.specs.Content.{has_end}
 use Rattle.rq_page.specs.Sizes.{Sizes, sender_count}
-use Rattle.rq_level.specs.Items.{items, layout_of, operation, has_undone}
-use Rattle.rq_level.specs.Numbers.{greatest}
-use Rattle.rq_level.specs.Legal.{Placed, open_deeds, over, under_way, turned_back, crossed, view}
-use Rattle.rq_level.specs.Groups.{TellsView}
-use Rattle.rq_level.specs.Plans.{IsPlan, deed_sender}
-use Rattle.rq_level.specs.Plans.Turn.{Did}
-use Rattle.rq_level.specs.Owed.{Owes}
-use Rattle.rq_chain.specs.Writes.{writes_of}
+use Rattle.rq_views.specs.Items.{items, layout_of, operation, has_undone}
+use Rattle.rq_views.specs.Numbers.{greatest}
+use Rattle.rq_views.specs.Legal.{Placed, open_deeds, over, under_way, turned_back, crossed, view}
+use Rattle.rq_views.specs.Groups.{TellsView}
+use Rattle.rq_views.specs.Plans.{IsPlan, deed_sender}
+use Rattle.rq_views.specs.Plans.Turn.{Did}
+use Rattle.rq_views.specs.Owed.{Owes}
+use Rattle.rq_level.specs.Writes.{writes_of}
 use Rattle.rq_txn.specs.declared.Finished.{Finished}
 use Rattle.rq_txn.specs.Rows.{Row, Under}
 use Rattle.rq_groups.specs.Ends.{HeldEnds, has_held}

@@ -11,11 +11,11 @@ use Rattle.rq_model.specs.Content.{has_end, deeds}
 use Rattle.rq_model.specs.Commits.{committed_of}
 use Rattle.rq_model.specs.Tests as tests
 use Rattle.rq_page.specs.Sizes.{Sizes, IsInRange, sender_count, cell_count}
-use Rattle.rq_level.specs.Items.{items, operation}
-use Rattle.rq_level.specs.Claims.{takes_of, appends_of}
-use Rattle.rq_level.specs.Legal.{open_deeds, under_way}
-use Rattle.rq_level.specs.InStore.{IsStranger}
-use Rattle.rq_level.specs.Stored.{slots_in, count_used}
+use Rattle.rq_views.specs.Items.{items, operation}
+use Rattle.rq_views.specs.Claims.{takes_of, appends_of}
+use Rattle.rq_views.specs.Legal.{open_deeds, under_way}
+use Rattle.rq_views.specs.InStore.{IsStranger}
+use Rattle.rq_views.specs.Stored.{slots_in, count_used}
 use Rattle.rq_txn.specs.declared.Finished.{Finished}
 use Rattle.rq_txn.specs.Rows.{Row, Under, found_row, AreDistinct}
 use Rattle.rq_groups.specs.declared.Held.{Held}

@@ -14,7 +14,7 @@ use Rattle.rq_model.specs.Replay.Reply.{Gave_sent, Gave_message, Gave_closed}
 use Rattle.rq_page.specs.Sizes.{page_count}
 use Rattle.rq_page.specs.Pages.{IsWritten}
 use Rattle.rq_page.specs.Formatted.{IsFormatted, IsHeaderOf}
-use Rattle.rq_level.specs.declared.SlotWrite.{SlotWrite}
+use Rattle.rq_level.specs.declared.writes.SlotWrite.{SlotWrite}
 use Rattle.rq_store.specs.State.{State, ledger_of, size_of}
 use Rattle.rq_store.specs.Fitting.{image_in}
 use Rattle.rq_store.specs.Sound.{IsSound}

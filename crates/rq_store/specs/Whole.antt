@@ -6,12 +6,12 @@ use Rattle.rq_model.specs.Incarnations.{InOrder}
 use Rattle.rq_model.specs.Rules.{KeepsRules}
 use Rattle.rq_page.specs.Sizes.{Sizes, cell_count}
 use Rattle.rq_page.specs.Slots.{IsSlotOf}
-use Rattle.rq_level.specs.Items.{items, layout_of, ReadsItsDeeds}
-use Rattle.rq_level.specs.Claims.{HasRoom}
-use Rattle.rq_level.specs.Numbers.{AreNumbered}
-use Rattle.rq_level.specs.Legal.{IsLegalLog}
-use Rattle.rq_level.specs.Groups.{DeedsTellViews}
-use Rattle.rq_level.specs.InStore.{InStore}
+use Rattle.rq_views.specs.Items.{items, layout_of, ReadsItsDeeds}
+use Rattle.rq_views.specs.Claims.{HasRoom}
+use Rattle.rq_views.specs.Numbers.{AreNumbered}
+use Rattle.rq_views.specs.Legal.{IsLegalLog}
+use Rattle.rq_views.specs.Groups.{DeedsTellViews}
+use Rattle.rq_views.specs.InStore.{InStore}
 
 -- each before-image of the log is a slot of the store
 abbrev pub IsBefore : Sizes → Record → Type 0

@@ -1,7 +1,7 @@
 use Rattle.std.proofs.Common.{◌≡◌, ◌∷◌, [], sym, ◌∙◌, ap, subst, List}
-use Rattle.rq_level.specs.declared.SlotWrite.{SlotWrite}
-use Rattle.rq_chain.specs.Writes.{write_of, IsFirstAt}
-use Rattle.rq_level.specs.Log.{Write}
+use Rattle.rq_level.specs.declared.writes.SlotWrite.{SlotWrite}
+use Rattle.rq_level.specs.Writes.{write_of, IsFirstAt}
+use Rattle.rq_views.specs.Log.{Write}
 use Rattle.rq_chain.proofs.Slots.{two_writes, three_writes}
 use Rattle.rq_chain.proofs.plans.append.Goals as goal
 use Rattle.rq_chain.proofs.plans.append.Goals.{in-None+in_ok-writes-in-None, in-Some+in_ok-writes-in-Some}

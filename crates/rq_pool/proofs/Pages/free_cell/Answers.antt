@@ -1,6 +1,6 @@
 use Rattle.std.proofs.Common.{◌≡◌, ◌≤◌, ap, ◌∙◌, arith}
 use Rattle.rq_page.specs.Sizes.{cell_at, cell_count}
-use Rattle.rq_level.specs.Stored.{slots_in}
+use Rattle.rq_views.specs.Stored.{slots_in}
 use Rattle.rq_pool.proofs.Counts.{lower_used, all_used}
 use Rattle.rq_pool.proofs.Pages.free_cell.Goals as goal
 

@@ -1,7 +1,7 @@
 use Rattle.std.proofs.Common.{◌≡◌, true, false, ap, sym, ◌∙◌, arith}
 use Rattle.std.specs.Option.{is_some}
 use Rattle.rq_page.specs.Sizes.{cell_at}
-use Rattle.rq_level.specs.Stored.{slots_in}
+use Rattle.rq_views.specs.Stored.{slots_in}
 use Rattle.rq_pool.proofs.Counts.{used_more, step_some, step_none}
 use Rattle.rq_pool.proofs.Pages.used_cells.Goals as goal
 use Rattle.rq_pool.proofs.Pages.used_cells.Goals.{then-is_some, else-is_some}

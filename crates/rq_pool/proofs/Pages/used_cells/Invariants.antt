@@ -1,5 +1,5 @@
 use Rattle.std.proofs.Common.{◌≡◌, ◌≤◌}
-use Rattle.rq_level.specs.Stored.{slots_in}
+use Rattle.rq_views.specs.Stored.{slots_in}
 use Rattle.rq_pool.proofs.Counts.{used_below}
 use Rattle.rq_pool.proofs.Pages.used_cells.Given as goal
 

@@ -1,7 +1,7 @@
 use Rattle.std.proofs.Common.{◌≡◌, ◌<◌, ◌≤◌, sym, ap, ◌∙◌, refl, arith, length, true}
 use Rattle.rq_page.specs.Sizes.{sender_count, cell_count, directory_at}
 use Rattle.rq_page.specs.Slots.Slot.{Sender}
-use Rattle.rq_level.specs.Stored.{slots_in}
+use Rattle.rq_views.specs.Stored.{slots_in}
 use Rattle.rq_groups.specs.Ends.{is_free_for}
 use Rattle.rq_txn.specs.Rows.{any_under}
 use Rattle.rq_store.specs.State.{State}

@@ -5,8 +5,8 @@ use Rattle.rq_page.specs.Sizes.{Sizes, page_count}
 use Rattle.rq_page.specs.Pages.{IsWritten}
 use Rattle.rq_page.specs.Formatted.{IsFormatted, IsHeaderOf}
 use Rattle.rq_page.specs.Slots.{IsSlotOf, held_in}
-use Rattle.rq_level.specs.Log.{put}
-use Rattle.rq_level.specs.Stored.{slots_in}
+use Rattle.rq_views.specs.Log.{put}
+use Rattle.rq_views.specs.Stored.{slots_in}
 use Rattle.rq_store.specs.Fitting.{image_in}
 use Rattle.rq_store.specs.Steps.{IsPutIn, page_op}
 use Rattle.rq_engine.specs.Answers.{IsUnderWay}

@@ -1,7 +1,7 @@
 use Rattle.std.proofs.Common.{◌≡◌, ℕ, ◌<◌, true, ◌≤◌, ◌^◌, sym, ap, ◌∙◌, subst, arith}
 use Rattle.rq_page.specs.Sizes.{cell_count, directory_at, IsCellAddress}
 use Rattle.rq_page.specs.Slots.Slot.{Sender}
-use Rattle.rq_level.specs.Stored.{slots_in, count_used, is_used}
+use Rattle.rq_views.specs.Stored.{slots_in, count_used, is_used}
 use Rattle.rq_store.specs.State.{State}
 use Rattle.rq_engine.specs.Kept.{total_of}
 use Rattle.rq_engine.proofs.SendCalls.{sent_within, tail_there, some_free, takes_lowest}

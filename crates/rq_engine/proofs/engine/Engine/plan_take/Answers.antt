@@ -2,14 +2,15 @@ use Rattle.std.proofs.Common.{◌≡◌, ℕ, sym, ap, ◌∙◌, subst, refl, r
 use Rattle.rq_page.specs.declared.cell.Cell.{Cell}
 use Rattle.rq_page.specs.Sizes.{Sizes, directory_at}
 use Rattle.rq_page.specs.Slots.Slot.{Sender}
-use Rattle.rq_level.specs.Log.{cell_in}
-use Rattle.rq_level.specs.Stored.{slots_in}
+use Rattle.rq_views.specs.Log.{cell_in}
+use Rattle.rq_views.specs.Stored.{slots_in}
 use Rattle.rq_store.specs.State.{State}
 use Rattle.rq_store.specs.Plans.{Stands_at}
-use Rattle.rq_level.specs.Plans.{unlink_head_writes}
-use Rattle.rq_level.specs.Items.{layout_of}
+use Rattle.rq_views.specs.Plans.{unlink_head_writes}
+use Rattle.rq_views.specs.Items.{layout_of}
 use Rattle.rq_record.specs.Deeds.{IsDeedInRange}
-use Rattle.rq_chain.specs.Writes.{cell_beside, writes_of}
+use Rattle.rq_level.specs.Writes.{writes_of}
+use Rattle.rq_chain.specs.Writes.{cell_beside}
 use Rattle.rq_engine.proofs.TakeCalls.{sent_more, head_there, next_there}
 use Rattle.rq_engine.proofs.Opened.{state_is}
 use Rattle.rq_engine.proofs.engine.Engine.plan_take.Goals as goal

@@ -2,7 +2,7 @@ use Rattle.std.proofs.Common.{◌+◌, ap, ◌∙◌, false, refl, subst, List, 
 use Rattle.rq_store.specs.State.{State}
 use Rattle.rq_engine.proofs.Refusals.{no_memory}
 use Rattle.rq_engine.proofs.SendCalls.{send_done, going_started}
-use Rattle.rq_level.specs.Stored.{slots_in}
+use Rattle.rq_views.specs.Stored.{slots_in}
 use Rattle.rq_engine.specs.Sends.{TakesLowest, under_plan}
 use Rattle.rq_store.specs.Plans.{IsSendPlan}
 use Rattle.rq_engine.proofs.Opened.{state_is}

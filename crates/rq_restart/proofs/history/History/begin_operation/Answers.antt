@@ -1,4 +1,4 @@
-use Rattle.rq_level.specs.Log.{same_op}
+use Rattle.rq_views.specs.Log.{same_op}
 use Rattle.std.specs.List.{list_any}
 use Rattle.std.proofs.Common.{◌≡◌, true, ap, sym, ◌∙◌}
 use Rattle.rq_restart.specs.Noted.{Analysis, has_sub}

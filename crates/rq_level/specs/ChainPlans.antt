@@ -1,0 +1,129 @@
+-- What the level of chains answers to an operation that is to be planned, from the slots that it was given.
+use Rattle.std.specs.Prelude.{◌≡◌, ℕ, ◌+◌, ◌<◌, ◌≤◌, ◌^◌, ◌/◌, ◌%◌, cond, nat_eq, List, [], ◌∷◌, reverse, Option, None, Some, Result, Ok, Err}
+use Rattle.rq_model.specs.declared.message.Message.{Message}
+use Rattle.rq_model.specs.declared.record.Deed.TheVariants.{Append, UnlinkHead, Close as Close_deed}
+use Rattle.rq_model.specs.declared.refusal.Refusal.{Refusal}
+use Rattle.rq_model.specs.declared.refusal.Refusal.TheVariants as why
+use Rattle.rq_model.specs.Deeds.{spelled_deed}
+use Rattle.rq_page.specs.declared.cell.Cell.{Cell}
+use Rattle.rq_page.specs.declared.cell.CellSlot.{CellSlot}
+use Rattle.rq_page.specs.declared.cell.CellSlot.TheVariants as cells
+use Rattle.rq_page.specs.declared.directory.Directory.{Directory}
+use Rattle.rq_page.specs.Cells.{cell_slot_in}
+use Rattle.rq_page.specs.Directories.{directory_in}
+use Rattle.rq_page.specs.Sizes.{Sizes, directory_at, sender_count}
+use Rattle.rq_page.specs.Slots.Slot.{Free, Used, Sender}
+use Rattle.rq_views.specs.Plans.{append_writes, unlink_head_writes, directory_write}
+use Rattle.rq_views.specs.Items.{layout_of}
+use Rattle.rq_level.specs.Kept.{Kept, IsLowest, NoneToTake, NoneFree, SomeFree, reserved_at}
+use Rattle.rq_level.specs.Ops.{Job, Doing, doing_in}
+use Rattle.rq_level.specs.Ops.Doing.{Send, Receive, Close}
+use Rattle.rq_level.specs.Given.{given_at, GivenHolds}
+use Rattle.rq_level.specs.Writes.{writes_of, AreSlotWrites}
+use Rattle.rq_level.specs.declared.slots.Given.{Given}
+use Rattle.rq_level.specs.declared.writes.Plan.{Plan}
+use Rattle.rq_level.specs.declared.writes.Outcome.TheVariants as gives
+
+-- the cell that a link names was given: none where it is 0
+abbrev pub Beside : Sizes → List Given → ℕ → Option Cell → Type 0
+Beside z given a None = a ≡ 0
+Beside z given a (Some c) = GivenHolds z given a (Used c)
+
+-- the slots hold what a send needs
+pub record CanSend (z : Sizes) (given : List Given) (s : ℕ) : Type 0 where
+  pub below : s < sender_count z
+  pub directory : Directory
+  pub directory_is : GivenHolds z given (directory_at s) (Sender s directory)
+  pub room : directory.sent ≤ 2 ^ 50
+  pub old : Option Cell
+  pub beside : Beside z given directory.tail old
+
+-- the plan of a send, into the lowest free cell
+pub record IsSent (z : Sizes) (k : Kept) (given : List Given) (latched : List ℕ) (s tag : ℕ) (body : List ℕ) (p : Plan) (after : Kept) : Type 0 where
+  pub can : CanSend z given s
+  pub new : ℕ
+  pub lowest : IsLowest z k latched new
+  pub writes : reverse (writes_of z p.writes.items) ≡ append_writes (layout_of z) s can.directory new tag body can.old
+  pub slots : AreSlotWrites z p.writes.items
+  pub deed : p.deed ≡ spelled_deed (Append s (can.directory.sent + 1) tag can.directory.last_tag body)
+  pub reply : p.reply ≡ Some gives.Sent
+  pub kept : after ≡ reserved_at z k new
+
+-- the slots hold what a receive needs
+pub record CanReceive (z : Sizes) (given : List Given) (s : ℕ) : Type 0 where
+  pub below : s < sender_count z
+  pub directory : Directory
+  pub directory_is : GivenHolds z given (directory_at s) (Sender s directory)
+  pub some : directory.received < directory.sent
+  pub used : 0 < directory.head
+  pub cell : Cell
+  pub head_is : GivenHolds z given directory.head (Used cell)
+  pub next : Option Cell
+  pub beside : Beside z given cell.next next
+
+-- the plan of a receive
+pub record IsReceived (z : Sizes) (k : Kept) (given : List Given) (s : ℕ) (p : Plan) (after : Kept) : Type 0 where
+  pub can : CanReceive z given s
+  pub writes : reverse (writes_of z p.writes.items) ≡ unlink_head_writes (layout_of z) s can.directory can.cell can.next
+  pub slots : AreSlotWrites z p.writes.items
+  pub deed : p.deed ≡ spelled_deed (UnlinkHead s (can.directory.received + 1) can.cell.tag can.cell.body)
+  pub reply : p.reply ≡ Some (gives.Message (record { sender = s; tag = can.cell.tag; body = can.cell.body }))
+  pub kept : after ≡ k
+
+-- why an operation that takes a free cell has no plan, where the slots hold what it needs if Can
+abbrev pub RefusesTaking : Sizes → Kept → List ℕ → Type 0 → Refusal → Type 0
+RefusesTaking z k latched Can why.NoMemory = Unit {0}
+RefusesTaking z k latched Can why.Latched = NoneToTake z k latched × SomeFree z k
+RefusesTaking z k latched Can (why.Damaged d) = Can → NoneFree z k
+RefusesTaking z k latched Can _ = ⊥
+
+-- why one that takes none has none
+abbrev pub RefusesOther : Type 0 → Refusal → Type 0
+RefusesOther Can why.NoMemory = Unit {0}
+RefusesOther Can (why.Damaged d) = Can → ⊥
+RefusesOther Can _ = ⊥
+
+-- What the level answers, and what it keeps then. Of a store whose sizes it was not told, and of bytes that it does not read, nothing is said.
+abbrev pub Plans : Option Sizes → Option Doing → Kept → List Given → List ℕ → Result Plan Refusal → Kept → Type 0
+Plans (Some z) (Some (Send s tag body)) k given latched (Ok p) after = IsSent z k given latched s tag body p after
+Plans (Some z) (Some (Send s tag body)) k given latched (Err r) after = RefusesTaking z k latched (CanSend z given s) r × (after ≡ k)
+Plans (Some z) (Some (Receive s)) k given latched (Ok p) after = IsReceived z k given s p after
+Plans (Some z) (Some (Receive s)) k given latched (Err r) after = RefusesOther (CanReceive z given s) r × (after ≡ k)
+Plans _ _ k given latched r after = Unit {0}
+
+abbrev pub chain_plans : Kept → Job → List Given → List ℕ → Result Plan Refusal → Kept → Type 0
+chain_plans k job given latched r after = Plans k.sizes (doing_in job.bytes) k given latched r after
+
+-- the slot that a link names, where it was not given
+abbrev pub unless_given : ℕ → Option (List ℕ) → Option ℕ
+unless_given a None = Some a
+unless_given a (Some bytes) = None
+
+abbrev pub link_wanted : ℕ → List Given → Option ℕ
+link_wanted a given = cond (nat_eq a 0) None (unless_given a (given_at a given))
+
+-- the next cell's slot, if the head's slot holds a cell
+abbrev pub behind : CellSlot → List Given → Option ℕ
+behind cells.Free given = None
+behind (cells.Used c) given = link_wanted c.next given
+
+abbrev pub behind_head : ℕ → Option (List ℕ) → List Given → Option ℕ
+behind_head head None given = Some head
+behind_head head (Some bytes) given = behind (cell_slot_in bytes) given
+
+abbrev pub head_wanted : ℕ → List Given → Option ℕ
+head_wanted head given = cond (nat_eq head 0) None (behind_head head (given_at head given) given)
+
+abbrev pub send_wants : ℕ → Option (List ℕ) → List Given → Option ℕ
+send_wants s None given = Some (directory_at s)
+send_wants s (Some bytes) given = link_wanted (directory_in bytes).directory.tail given
+
+abbrev pub receive_wants : ℕ → Option (List ℕ) → List Given → Option ℕ
+receive_wants s None given = Some (directory_at s)
+receive_wants s (Some bytes) given = head_wanted (directory_in bytes).directory.head given
+
+abbrev pub wanted : Option Doing → List Given → Option ℕ
+wanted None given = None
+wanted (Some (Send s tag body)) given = send_wants s (given_at (directory_at s) given) given
+wanted (Some (Receive s)) given = receive_wants s (given_at (directory_at s) given) given
+wanted (Some (Close s)) given = unless_given (directory_at s) (given_at (directory_at s) given)

@@ -1,0 +1,97 @@
+-- What the level of each number does.
+use Rattle.std.specs.Prelude.{◌≡◌, ℕ, zero, suc, ◌+◌, ◌≤◌, nat_lt, Bool, true, false, List, [], ◌∷◌, map, Option, None, Some, Result, Ok, Err, slice_index_or}
+use Rattle.rq_model.specs.declared.record.Record.{Record}
+use Rattle.rq_model.specs.declared.record.Record.TheVariants.{PageOp, PageUndo}
+use Rattle.rq_model.specs.declared.refusal.Refusal.{Refusal}
+use Rattle.rq_model.specs.Deeds.{deed_in}
+use Rattle.rq_model.specs.Words.{is_some}
+use Rattle.rq_page.specs.Pages.{lsn_of, IsWritten}
+use Rattle.rq_level.specs.Kept.{Kept, nothing_kept, noted}
+use Rattle.rq_level.specs.Ops.{Job, doing_in}
+use Rattle.rq_level.specs.Given.{AreGiven}
+use Rattle.rq_level.specs.ChainPlans.{chain_plans, wanted}
+use Rattle.rq_level.specs.declared.level.Want.{Want}
+use Rattle.rq_level.specs.declared.level.Want.TheVariants as wants
+use Rattle.rq_level.specs.declared.slots.Given.{Given}
+use Rattle.rq_level.specs.declared.writes.Plan.{Plan}
+use Rattle.rq_page.specs.Sizes.{Sizes}
+
+pub record Meaning : Type 1 where
+  -- the bytes are a deed of the level
+  pub reads : List ℕ → Bool
+  -- the slot that it asks for next, if it asks for one
+  pub want : Job → List Given → Option ℕ
+  -- what it may answer to an operation that is to be planned, and what it keeps then
+  pub plans : Kept → Job → List Given → List ℕ → Result Plan Refusal → Kept → Type 0
+  -- and to a record that is to be undone
+  pub undoes : Kept → Record → List Given → List ℕ → Result Plan Refusal → Kept → Type 0
+  -- what it keeps once a slot is noted
+  pub note : Kept → ℕ → List ℕ → Kept
+
+abbrev pub chain_meaning : Meaning
+chain_meaning = record {
+  reads = λ deed. is_some (deed_in deed);
+  want = λ job given. wanted (doing_in job.bytes) given;
+  plans = chain_plans;
+  undoes = λ k r given latched answer after. Unit {0};
+  note = noted;
+}
+
+abbrev pub no_meaning : Meaning
+no_meaning = record {
+  reads = λ deed. false;
+  want = λ job given. None;
+  plans = λ k job given latched answer after. Unit {0};
+  undoes = λ k r given latched answer after. Unit {0};
+  note = λ k a bytes. k;
+}
+
+-- what the level of this number is
+unfoldable pub meaning_of : ℕ → Meaning
+meaning_of zero = no_meaning
+meaning_of (suc zero) = chain_meaning
+meaning_of (suc (suc n)) = no_meaning
+
+-- what is wanted, as a level says it
+abbrev pub wish : Option ℕ → Want
+wish None = wants.Ready
+wish (Some a) = wants.Slot a
+
+-- the slots are of the store whose sizes the level was told
+abbrev pub AreOf : Option Sizes → List Given → Type 0
+AreOf None given = Unit {0}
+AreOf (Some z) given = AreGiven z given
+
+-- a write that a record tells: its slot, and what it leaves there
+pub record Redo : Type 0 where
+  pub slot : ℕ
+  pub after : List ℕ
+
+abbrev pub redo_of : Record → Option Redo
+redo_of (PageOp t n page slot before after) = Some (record { slot = slot; after = after })
+redo_of (PageUndo t n undone page slot after) = Some (record { slot = slot; after = after })
+redo_of _ = None
+
+-- a record is applied exactly where the page's LSN is smaller
+pub record IsRedone (old : List ℕ) (lsn : ℕ) (w : Redo) (made : Bool) (new : List ℕ) : Type 0 where
+  pub answer : made ≡ nat_lt (lsn_of old) lsn
+  pub done : made ≡ true → IsWritten old new w.slot w.after lsn
+  pub kept : made ≡ false → new ≡ old
+
+abbrev pub Redoes : Option Redo → List ℕ → ℕ → Bool → List ℕ → Type 0
+Redoes None old lsn made new = (made ≡ false) × (new ≡ old)
+Redoes (Some w) old lsn made new = IsRedone old lsn w made new
+
+-- the record names a slot of a page
+abbrev pub IsRedo : Option Redo → Type 0
+IsRedo None = Unit {0}
+IsRedo (Some w) = (1 ≤ w.slot) × (w.slot ≤ 15)
+
+-- what the level of a number keeps
+abbrev pub kept_at : List Kept → ℕ → Kept
+kept_at ks i = slice_index_or ks i nothing_kept
+
+-- numbers that count on by one
+abbrev pub CountOn : ℕ → List ℕ → Type 0
+CountOn k [] = Unit {0}
+CountOn k (n ∷ ns) = (n ≡ k) × CountOn (k + 1) ns

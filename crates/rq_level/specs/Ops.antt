@@ -1,0 +1,43 @@
+-- Operations to be planned, as bytes that their level alone reads.
+use Rattle.std.specs.Prelude.{◌≡◌, ℕ, ◌+◌, ◌&&◌, not, cond, nat_eq, nat_lt, Bool, false, List, [], ◌∷◌, ◌++◌, Option, None, Some, length, drop}
+use Rattle.byteorder.specs.Endian.{big_bytes, big_number}
+
+-- what is to be planned: of a level, something to do or a deed to take back
+pub record Job : Type 0 where
+  pub level : ℕ
+  pub undo : Bool
+  pub bytes : List ℕ
+
+-- what the level of chains can be asked to do
+pub data Doing : Type 0 where
+  Send : (sender tag : ℕ) → (body : List ℕ) → Doing
+  Receive : (sender : ℕ) → Doing
+  Close : (sender : ℕ) → Doing
+
+abbrev pub spelled_doing : Doing → List ℕ
+spelled_doing (Send s tag body) = 1 ∷ (big_bytes 4 s ++ (big_bytes 8 tag ++ body))
+spelled_doing (Receive s) = 2 ∷ big_bytes 4 s
+spelled_doing (Close s) = 3 ∷ big_bytes 4 s
+
+-- the fields of each, where these bytes are they
+abbrev pub send_in : List ℕ → Option Doing
+send_in fields =
+    cond (not (nat_lt (length fields) 12) && not (nat_lt (12 + 216) (length fields)))
+    (Some (Send (big_number 4 fields) (big_number 8 (drop 4 fields)) (drop 12 fields)))
+    None
+
+abbrev pub receive_in : List ℕ → Option Doing
+receive_in fields = cond (nat_eq (length fields) 4) (Some (Receive (big_number 4 fields))) None
+
+abbrev pub close_in : List ℕ → Option Doing
+close_in fields = cond (nat_eq (length fields) 4) (Some (Close (big_number 4 fields))) None
+
+-- what these bytes ask for, if they ask for anything
+abbrev pub doing_in : List ℕ → Option Doing
+doing_in [] = None
+doing_in (kind ∷ fields) =
+    cond (nat_eq kind 1) (send_in fields) (cond (nat_eq kind 2) (receive_in fields) (cond (nat_eq kind 3) (close_in fields) None))
+
+-- to do this on the level of chains
+abbrev pub chain_job : Doing → Job
+chain_job d = record { level = 1; undo = false; bytes = spelled_doing d }

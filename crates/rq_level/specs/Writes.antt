@@ -1,0 +1,28 @@
+-- Slot writes of a plan, as writes over what the slots hold.
+use Rattle.std.specs.Prelude.{◌≡◌, ℕ, ◌/◌, ◌%◌, List, [], ◌∷◌, map, All}
+use Rattle.rq_page.specs.Sizes.{Sizes}
+use Rattle.rq_page.specs.Slots.{held_in, IsSlotOf}
+use Rattle.rq_views.specs.Log.{Write}
+use Rattle.rq_views.specs.Stored.{IsStoreSlot}
+use Rattle.rq_level.specs.declared.writes.SlotWrite.{SlotWrite}
+
+-- the write, over what the slot holds
+abbrev pub write_of : Sizes → SlotWrite → Write
+write_of z w = record { at = w.at; before = held_in z (w.at / 16) w.before; after = held_in z (w.at / 16) w.after }
+
+abbrev pub writes_of : Sizes → List SlotWrite → List Write
+writes_of z ws = map (write_of z) ws
+
+-- the write is of a slot of a directory or cell page, and has before and after it what may stand there
+pub record IsSlotWrite (z : Sizes) (w : SlotWrite) : Type 0 where
+  pub place : IsStoreSlot z w.at
+  pub before : IsSlotOf z (w.at / 16) (w.at % 16) w.before
+  pub after : IsSlotOf z (w.at / 16) (w.at % 16) w.after
+
+abbrev pub AreSlotWrites : Sizes → List SlotWrite → Type 0
+AreSlotWrites z ws = All (IsSlotWrite z) ws
+
+-- the first of them is at this address
+abbrev pub IsFirstAt : ℕ → List SlotWrite → Type 0
+IsFirstAt a [] = ⊥
+IsFirstAt a (w ∷ ws) = w.at ≡ a

@@ -1,0 +1,159 @@
+//! The interface of a level of recovery.
+ghost use Rattle.std.specs.Prelude.{◌≡◌, ◌≤◌, ℕ};
+ghost use Rattle.rq_level.specs.Kept.{Kept};
+ghost use Rattle.rq_level.specs.Lawful.{AllLawful};
+ghost use Rattle.rq_level.specs.Meaning.{Meaning, meaning_of, wish, AreOf, redo_of, Redoes, IsRedo, IsRedone};
+
+use crate::op::Op;
+use crate::slots::{PageSet, Slots};
+use crate::writes::Plan;
+use rq_model::record::{Record, Slot};
+use rq_model::refusal::Refusal;
+use rq_model::txn::Lsn;
+use rq_page::addr::Addr;
+use rq_page::page::Page;
+use std::alloc::Global;
+
+/// What a level asks for before it plans an operation.
+#[derive(Clone, Copy, Debug, PartialEq, Eq)]
+pub enum Want {
+    /// The slot at this address.
+    Slot(Addr),
+    /// Nothing more.
+    Ready,
+}
+
+/// A level of recovery. What it does follows from its number.
+pub trait Level: Drop {
+    /// Its place among the levels.
+    ghost level: { Self → ℕ };
+
+    /// What it keeps of the slots of the store.
+    ghost kept: { Self → Kept };
+
+    /// Its place among the levels.
+    fn number(&self) -> u8
+        ensures { result ≡ level self.now };
+
+    /// Whether these bytes are a deed of this level. Takes no memory.
+    fn reads(&self, deed: &[u8]) -> bool
+        ensures { result ≡ (meaning_of (level self.now)).reads deed.now };
+
+    /// What it needs to see next of the slots that the operation writes.
+    fn want(&self, op: &Op, given: &Slots) -> Want
+        requires { AreOf (kept self.now).sizes given.now }
+        ensures { result ≡ wish ((meaning_of (level self.now)).want op.now given.now) };
+
+    /// Plans an operation that is to be done, from the slots that it wanted. It takes no free cell on a latched page.
+    fn plan(
+        &mut self,
+        alloc: Global,
+        op: &Op,
+        given: &Slots,
+        latched: &PageSet,
+    ) -> Result<Plan, Refusal>
+        requires { AreOf (kept self.old).sizes given.now }
+        ensures same { level self.new ≡ level self.old }
+        ensures answer { (meaning_of (level self.old)).plans (kept self.old) op.now given.now latched.now.pages result (kept self.new) };
+
+    /// Plans what takes back the operation that the record tells.
+    fn undo(
+        &mut self,
+        alloc: Global,
+        told: &Record,
+        given: &Slots,
+        latched: &PageSet,
+    ) -> Result<Plan, Refusal>
+        requires { AreOf (kept self.old).sizes given.now }
+        ensures same { level self.new ≡ level self.old }
+        ensures answer { (meaning_of (level self.old)).undoes (kept self.old) told.now given.now latched.now.pages result (kept self.new) };
+
+    /// Applies a record to its page, where the page is older, and answers whether it did.
+    fn redo(&mut self, page: &mut Page, lsn: Lsn, told: &Record) -> bool
+        requires { IsRedo (redo_of told.now) }
+        ensures same { level self.new ≡ level self.old }
+        ensures kept { kept self.new ≡ kept self.old }
+        ensures page { Redoes (redo_of told.now) page.old lsn result page.new };
+
+    /// A slot was read or written. Takes no memory.
+    fn noted(&mut self, at: Addr, bytes: &Slot)
+        ensures same { level self.new ≡ level self.old }
+        ensures kept { kept self.new ≡ (meaning_of (level self.old)).note (kept self.old) at bytes.now };
+}
+
+impl Level for Box<dyn Level + Send> {
+    ghost level = { λ b. (Level-box b).level b.value };
+
+    ghost kept = { λ b. (Level-box b).kept b.value };
+
+    fn number(&self) -> u8 {
+        (**self).number()
+    }
+
+    fn reads(&self, deed: &[u8]) -> bool {
+        (**self).reads(deed)
+    }
+
+    fn want(&self, op: &Op, given: &Slots) -> Want {
+        (**self).want(op, given)
+    }
+
+    fn plan(
+        &mut self,
+        alloc: Global,
+        op: &Op,
+        given: &Slots,
+        latched: &PageSet,
+    ) -> Result<Plan, Refusal> {
+        (**self).plan(alloc, op, given, latched)
+    }
+
+    fn undo(
+        &mut self,
+        alloc: Global,
+        told: &Record,
+        given: &Slots,
+        latched: &PageSet,
+    ) -> Result<Plan, Refusal> {
+        (**self).undo(alloc, told, given, latched)
+    }
+
+    fn redo(&mut self, page: &mut Page, lsn: Lsn, told: &Record) -> bool {
+        (**self).redo(page, lsn, told)
+    }
+
+    fn noted(&mut self, at: Addr, bytes: &Slot) {
+        (**self).noted(at, bytes)
+    }
+}
+
+/// Applies a record to its page, where the page is older, and answers whether it did.
+pub fn redo_page(page: &mut Page, lsn: Lsn, told: &Record) -> bool
+    requires { IsRedo (redo_of told.now) }
+    ensures { Redoes (redo_of told.now) page.old lsn result page.new }
+{
+    match told {
+        Record::PageOp { slot, after, .. } => redo_slot(page, lsn, *slot, after),
+        Record::PageUndo { slot, after, .. } => redo_slot(page, lsn, *slot, after),
+        _ => false,
+    }
+}
+
+// Writes a slot, where the page is older.
+fn redo_slot(page: &mut Page, lsn: Lsn, slot: u8, after: &Slot) -> bool
+    requires low { 1 ≤ slot }
+    requires high { slot ≤ 15 }
+    ensures { IsRedone page.old lsn (record { slot = slot; after = after.now }) result page.new }
+{
+    if page.lsn() < lsn {
+        page.set_slot(slot, after, lsn);
+        true
+    } else {
+        false
+    }
+}
+
+/// Each level keeps its laws, whatever its number.
+pub fn levels_are_lawful()
+    ensures { AllLawful }
+{}

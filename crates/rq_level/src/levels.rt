@@ -1,0 +1,123 @@
+//! All levels of a store.
+ghost use Rattle.std.specs.Prelude.{◌≡◌, ℕ, ◌<◌, length, map, slice_set};
+ghost use Rattle.rq_level.specs.Kept.{Kept};
+ghost use Rattle.rq_level.specs.Meaning.{Meaning, meaning_of, wish, AreOf, redo_of, Redoes, IsRedo, kept_at, CountOn};
+
+use crate::level::{Level, Want};
+use crate::op::Op;
+use crate::slots::{PageSet, Slots};
+use crate::writes::Plan;
+use rq_model::record::{Record, Slot};
+use rq_model::refusal::Refusal;
+use rq_model::txn::Lsn;
+use rq_page::addr::Addr;
+use rq_page::page::Page;
+use std::alloc::Global;
+use std::marker::Model;
+
+/// The levels of a store, numbered from 0 in order. Contracts see what each keeps.
+#[derive(Drop)]
+pub struct Levels<B: Level> {
+    all: Vec<B>,
+}
+
+impl<B: Level> Model for Levels<B> {
+    ghost use Rattle.std.specs.Prelude.{◌≡◌, ◌<◌, ℕ, List, length, map, slice_index_or};
+    ghost use Rattle.rq_level.specs.Kept.{Kept};
+
+    ghost Value = { List Kept };
+
+    ghost view = { λ a. map (λ b. B.kept b) a.all.items };
+
+    ghost invariant = { λ a. (i : ℕ) (d : _) → i < length a.all.items → B.level (slice_index_or a.all.items i d) ≡ i };
+}
+
+impl<B: Level> Levels<B> {
+    /// The levels in the order of their numbers.
+    pub fn new(all: Vec<B>) -> Levels<B>
+        requires { CountOn 0 (map (λ b. B.level b) all.items) }
+        ensures { result ≡ map (λ b. B.kept b) all.items }
+    {
+        Levels { all }
+    }
+
+    /// How many there are.
+    pub fn len(&self) -> usize
+        ensures { result ≡ length self.now }
+    {
+        self.all.len()
+    }
+
+    /// Whether the bytes are a deed of the level.
+    pub fn reads(&self, level: usize, deed: &[u8]) -> bool
+        requires { level < length self.now }
+        ensures { result ≡ (meaning_of level).reads deed.now }
+    {
+        self.all[level].reads(deed)
+    }
+
+    /// What the level needs to see next.
+    pub fn want(&self, level: usize, op: &Op, given: &Slots) -> Want
+        requires level { level < length self.now }
+        requires given { AreOf (kept_at self.now level).sizes given.now }
+        ensures { result ≡ wish ((meaning_of level).want op.now given.now) }
+    {
+        self.all[level].want(op, given)
+    }
+
+    /// Plans an operation that is to be done.
+    pub fn plan(
+        &mut self,
+        alloc: Global,
+        level: usize,
+        op: &Op,
+        given: &Slots,
+        latched: &PageSet,
+    ) -> Result<Plan, Refusal>
+        requires level { level < length self.old }
+        requires given { AreOf (kept_at self.old level).sizes given.now }
+        ensures answer { (meaning_of level).plans (kept_at self.old level) op.now given.now latched.now.pages result (kept_at self.new level) }
+        ensures others { self.new ≡ slice_set self.old level (kept_at self.new level) }
+    {
+        let it = &mut self.all[level];
+        it.plan(alloc, op, given, latched)
+    }
+
+    /// Plans what takes back the operation that the record tells.
+    pub fn undo(
+        &mut self,
+        alloc: Global,
+        level: usize,
+        told: &Record,
+        given: &Slots,
+        latched: &PageSet,
+    ) -> Result<Plan, Refusal>
+        requires level { level < length self.old }
+        requires given { AreOf (kept_at self.old level).sizes given.now }
+        ensures answer { (meaning_of level).undoes (kept_at self.old level) told.now given.now latched.now.pages result (kept_at self.new level) }
+        ensures others { self.new ≡ slice_set self.old level (kept_at self.new level) }
+    {
+        let it = &mut self.all[level];
+        it.undo(alloc, told, given, latched)
+    }
+
+    /// Has the level apply a record to its page, where the page is older.
+    pub fn redo(&mut self, level: usize, page: &mut Page, lsn: Lsn, told: &Record) -> bool
+        requires level { level < length self.old }
+        requires told { IsRedo (redo_of told.now) }
+        ensures kept { self.new ≡ self.old }
+        ensures page { Redoes (redo_of told.now) page.old lsn result page.new }
+    {
+        let it = &mut self.all[level];
+        it.redo(page, lsn, told)
+    }
+
+    /// Tells the level of a slot.
+    pub fn noted(&mut self, level: usize, at: Addr, bytes: &Slot)
+        requires { level < length self.old }
+        ensures { self.new ≡ slice_set self.old level ((meaning_of level).note (kept_at self.old level) at bytes.now) }
+    {
+        let it = &mut self.all[level];
+        it.noted(at, bytes);
+    }
+}

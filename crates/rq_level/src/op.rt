@@ -1,0 +1,83 @@
+//! Operations to be planned.
+ghost use Rattle.std.specs.Prelude.{◌≡◌, ◌++◌, ◌∷◌, [], IfOk, Some, length, ◌≤◌, true, false};
+ghost use Rattle.byteorder.specs.Endian.{big_bytes};
+ghost use Rattle.rq_level.specs.Ops.{Job, Doing, doing_in, spelled_doing, chain_job, Send, Receive, Close};
+
+use byteorder::{BigEndian, ByteOrder};
+use rq_model::refusal::NoMemory;
+use std::alloc::Global;
+use std::marker::Model;
+
+/// An operation to be planned: its level, whether it is to be done or undone, and bytes that only that level reads.
+#[derive(Drop)]
+pub struct Op {
+    level: u8,
+    undo: bool,
+    bytes: Vec<u8>,
+}
+
+impl Model for Op {
+    ghost use Rattle.rq_level.specs.Ops.{Job};
+
+    ghost Value = { Job };
+
+    ghost view = { λ o. record { level = o.level; undo = o.undo; bytes = o.bytes.items } };
+}
+
+impl Op {
+    /// To put a message at the end of a sender's group.
+    ///
+    /// # Errors
+    /// `NoMemory`.
+    pub fn send(alloc: Global, sender: u32, tag: u64, body: &[u8]) -> Result<Op, NoMemory>
+        ensures op { IfOk result (λ op. op ≡ chain_job (Send sender tag body.now)) }
+        ensures told { IfOk result (λ op. length body.now ≤ 216 → doing_in op.bytes ≡ Some (Send sender tag body.now)) }
+    {
+        let mut front = [0; 13];
+        front[0] = 1;
+        BigEndian::write_u32(&mut front[1..], sender);
+        BigEndian::write_u64(&mut front[5..], tag);
+        Op::of(alloc, 1, false, &front, body)
+    }
+
+    /// To take the first message of a sender's group.
+    ///
+    /// # Errors
+    /// `NoMemory`.
+    pub fn receive(alloc: Global, sender: u32) -> Result<Op, NoMemory>
+        ensures op { IfOk result (λ op. op ≡ chain_job (Receive sender)) }
+        ensures told { IfOk result (λ op. doing_in op.bytes ≡ Some (Receive sender)) }
+    {
+        let mut front = [0; 5];
+        front[0] = 2;
+        BigEndian::write_u32(&mut front[1..], sender);
+        Op::of(alloc, 1, false, &front, &[])
+    }
+
+    /// Its level.
+    pub fn level(&self) -> u8
+        ensures { result ≡ self.now.level }
+    {
+        self.level
+    }
+
+    /// Its bytes.
+    pub fn bytes(&self) -> &[u8]
+        ensures { result.now ≡ self.now.bytes }
+    {
+        &self.bytes
+    }
+
+    // The operation with these bytes, first the one and then the other.
+    fn of(alloc: Global, level: u8, undo: bool, front: &[u8], rest: &[u8]) -> Result<Op, NoMemory>
+        ensures { IfOk result (λ op. op ≡ record { level = level; undo = undo; bytes = front.now ++ rest.now }) }
+    {
+        let Ok(mut bytes) = Vec::from_slice(alloc, front) else {
+            return Err(NoMemory);
+        };
+        match bytes.extend_from_slice(rest) {
+            Ok(()) => Ok(Op { level, undo, bytes }),
+            Err(_) => Err(NoMemory),
+        }
+    }
+}

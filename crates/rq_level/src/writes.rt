@@ -1,0 +1,33 @@
+//! Writes of slots, and plans of them.
+ghost use Rattle.std.specs.Prelude.{◌<◌, ◌^◌, ◌/◌, ◌%◌};
+
+use rq_model::message::Message;
+use rq_model::record::{DeedBytes, Slot};
+use rq_page::addr::Addr;
+
+/// A write of a slot: where, what stands there before it and what after it.
+#[derive(Clone, Copy)]
+pub struct SlotWrite {
+    pub at: Addr,
+    pub before: Slot,
+    pub after: Slot,
+    ghost page: { at / 16 < 2 ^ 32 },
+    ghost slot: { 0 < at % 16 },
+}
+
+/// What the end of an operation answers.
+#[derive(Clone, Copy)]
+pub enum Outcome {
+    Sent,
+    Message(Message),
+    Closed,
+    Undone,
+}
+
+/// The writes of an operation, in order, the deed that its end tells, and what that answers.
+#[derive(Drop)]
+pub struct Plan {
+    pub writes: Vec<SlotWrite>,
+    pub deed: DeedBytes,
+    pub reply: Option<Outcome>,
+}

@@ -1,0 +1,168 @@
+-- Of a log of a store, only cells hold messages, and only directory slots hold what is said of senders.
+use Rattle.std.proofs.Common.{◌≡◌, ℕ, ◌/◌, ◌%◌, ◌<◌, ◌≤◌, inl, inr, List, [], ◌∷◌, Bool, true, false, cond, nat_lt, nat_le, ◌&&◌, refl, sym, ap, subst, ◌∙◌, arith, Option, None, Some}
+use Rattle.std.proofs.lemmas.Bool.{cases_Bool, cases_eq, cases_lt, and_parts, ltb-true, leb-true}
+use Rattle.std.proofs.lemmas.Bool.Decides.{nat_tests}
+use Rattle.rq_model.specs.declared.record.Record.{Record}
+use Rattle.rq_model.specs.declared.record.Record.TheVariants as records
+use Rattle.rq_model.specs.declared.txn.Sub.{Sub}
+use Rattle.rq_model.specs.declared.txn.Txn.{Txn}
+use Rattle.rq_page.specs.declared.cell.CellSlot.{CellSlot}
+use Rattle.rq_page.specs.declared.cell.CellSlot.TheVariants as cells
+use Rattle.rq_page.specs.declared.layout.PageKind.{PageKind}
+use Rattle.rq_page.specs.declared.layout.PageKind.TheVariants as kind
+use Rattle.rq_page.specs.declared.directory.Directory.{Directory}
+use Rattle.rq_page.specs.declared.cell.Cell.{Cell}
+use Rattle.rq_page.specs.Cells.{cell_slot_in}
+use Rattle.rq_page.specs.Directories.{new_directory}
+use Rattle.rq_page.specs.Kinds.{kind_of}
+use Rattle.rq_page.specs.Sizes.{Sizes, IsCellAddress, page_count, address, sender_at, directory_at}
+use Rattle.rq_page.specs.Slots.{Slot, IsSlotOf, IsSlotFor, held_for, held_in, of_cell_slot, slot_bytes, MayHold}
+use Rattle.rq_page.specs.Slots.Slot.{Used, Sender}
+use Rattle.rq_page.proofs.Spellings.{spelling_tells}
+use Rattle.rq_page.proofs.Addresses.{kind_directory, kind_cells, senders_have_slots}
+use Rattle.rq_views.specs.Log.{Slots, Write, put, applied, same_op, rest_of, state_of}
+use Rattle.rq_views.specs.Legal.{IsLayout}
+use Rattle.rq_views.specs.Items.{items, operation, layout_of, formatted_at}
+use Rattle.rq_views.specs.InStore.{InStoreOne, InStore, IsDirectoryAddress, IsInPlace, AllStand, WritesStand}
+use Rattle.rq_views.proofs.Overlay.{put_at, put_off}
+
+-- a page of a kind stands among the pages of that kind
+pub page_of_cells : (z : Sizes) (page : ℕ) → kind_of z page ≡ Some kind.Cells → (z.directory < page) × (page < page_count z)
+page_of_cells z page e = elim (cases_lt z.directory page) [
+  | inl above ↦ elim (cases_lt page (page_count z)) [
+    | inl below ↦ (above, below)
+    | inr out ↦ let k : kind_of z page ≡ None = grind (arith, nat_tests) in let bad : ◌≡◌ {A = Option PageKind} None (Some kind.Cells) = sym k ∙ e in absurd (cc)
+  ]
+  | inr within ↦ elim (cases_lt 0 page) [
+    | inl low ↦ let bad : ◌≡◌ {A = Option PageKind} (Some kind.Directory) (Some kind.Cells) = sym (kind_directory z page low within) ∙ e in absurd (cc)
+    | inr none ↦ let k : kind_of z page ≡ Some kind.Superblock = grind (arith, nat_tests) in let bad : ◌≡◌ {A = Option PageKind} (Some kind.Superblock) (Some kind.Cells) = sym k ∙ e in absurd (cc)
+  ]
+]
+
+pub page_of_directory : (z : Sizes) (page : ℕ) → kind_of z page ≡ Some kind.Directory → (1 ≤ page) × (page ≤ z.directory)
+page_of_directory z page e = elim (cases_lt 0 page) [
+  | inl low ↦ elim (cases_lt z.directory page) [
+    | inl above ↦ elim (cases_lt page (page_count z)) [
+      | inl below ↦ let bad : ◌≡◌ {A = Option PageKind} (Some kind.Cells) (Some kind.Directory) = sym (kind_cells z page above below) ∙ e in absurd (cc)
+      | inr out ↦ let k : kind_of z page ≡ None = grind (arith, nat_tests) in let bad : ◌≡◌ {A = Option PageKind} None (Some kind.Directory) = sym k ∙ e in absurd (cc)
+    ]
+    | inr within ↦ (low, within)
+  ]
+  | inr none ↦ let k : kind_of z page ≡ Some kind.Superblock = grind (arith, nat_tests) in let bad : ◌≡◌ {A = Option PageKind} (Some kind.Superblock) (Some kind.Directory) = sym k ∙ e in absurd (cc)
+]
+
+cell_stands : (z : Sizes) (a : ℕ) (x : CellSlot) → IsCellAddress z a → IsInPlace z a (of_cell_slot x)
+cell_stands z a cells.Free h = tt
+cell_stands z a (cells.Used c) h = h
+
+held_stands : (z : Sizes) (k : Option PageKind) (page slot : ℕ) (bytes : List ℕ) → 1 ≤ slot → slot ≤ 15 → kind_of z page ≡ k → IsSlotFor k z page slot bytes → IsInPlace z (address page slot) (held_for k bytes)
+held_stands z None page slot bytes low high e h = absurd h
+held_stands z (Some kind.Superblock) page slot bytes low high e h = absurd h
+held_stands z (Some kind.Directory) page slot bytes low high e h =
+    let at = page_of_directory z page e in
+    let p : address page slot / 16 ≡ page = omega arith in
+    let n : address page slot % 16 ≡ slot = omega arith in
+    let one : 1 ≤ page = at.0 in
+    let two : page ≤ z.directory = at.1 in
+    record { own = h.held.own ∙ sym (ap (λ k. sender_at k slot) p) ∙ ap (sender_at (address page slot / 16)) (sym n); low = omega arith; high = omega arith; slot = omega arith }
+held_stands z (Some kind.Cells) page slot bytes low high e h =
+    let at = page_of_cells z page e in
+    let one : z.directory < page = at.0 in
+    let two : page < page_count z = at.1 in
+    cell_stands z (address page slot) (cell_slot_in bytes) (record { above = omega arith; below = omega arith; slot = omega arith })
+
+-- a slot of the store stands where it may
+pub slot_stands : (z : Sizes) (page slot : ℕ) (bytes : List ℕ) → IsSlotOf z page slot bytes → IsInPlace z (address page slot) (held_in z page bytes)
+slot_stands z page slot bytes h = held_stands z (kind_of z page) page slot bytes h.low h.high refl h.held
+
+-- a write of the spelling of what a slot may hold is of the store
+pub spelled_in_store : (z : Sizes) (t : Txn) (n page slot : ℕ) (before : List ℕ) (x : Slot) → 1 ≤ slot → slot ≤ 15 → MayHold (kind_of z page) z page slot x → InStoreOne z (records.PageOp t n page slot before (slot_bytes x))
+spelled_in_store z t n page slot before x low high may = (spelling_tells z page slot x low high may).1
+
+-- so does each slot of a formatted store
+pub formatted_stands : (z : Sizes) → AllStand z (formatted_at z)
+formatted_stands z a = elim (cases_Bool (nat_lt 0 (a / 16) && nat_le (a / 16) z.directory && nat_lt 0 (a % 16))) [
+  | inl y ↦
+      let p = and_parts (nat_lt 0 (a / 16) && nat_le (a / 16) z.directory) (nat_lt 0 (a % 16)) y in
+      let r = and_parts (nat_lt 0 (a / 16)) (nat_le (a / 16) z.directory) p.0 in
+      rw y (record { own = refl; low = ltb-true 0 (a / 16) r.0; high = leb-true (a / 16) z.directory r.1; slot = ltb-true 0 (a % 16) p.1 })
+  | inr n ↦ rw n tt
+]
+
+put_stands : (z : Sizes) (q : Slots) (at : ℕ) (x : Slot) → AllStand z q → IsInPlace z at x → AllStand z (put q at x)
+put_stands z q at x h k a = elim (cases_eq a at) [
+  | inl e ↦ subst (IsInPlace z a) (sym (put_at q at x a e)) (subst (λ b. IsInPlace z b x) (sym e) k)
+  | inr ne ↦ subst (IsInPlace z a) (sym (put_off q at x a ne)) (h a)
+]
+
+-- writes that stand where they may leave slots that do
+pub applied_stands : (z : Sizes) (ws : List Write) (q : Slots) → AllStand z q → WritesStand z ws → AllStand z (applied ws q)
+applied_stands z [] q h k = h
+applied_stands z (w ∷ ws) q h k = put_stands z (applied ws q) w.at w.after (applied_stands z ws q h k.1) k.0
+
+rest_stands : (z : Sizes) (ws : List Write) → WritesStand z ws → WritesStand z (rest_of ws)
+rest_stands z [] h = tt
+rest_stands z (w ∷ ws) h = h.1
+
+choose_stands : (z : Sizes) (b : Bool) (xs ys : List Write) → WritesStand z xs → WritesStand z ys → WritesStand z (cond b xs ys)
+choose_stands z true xs ys h k = h
+choose_stands z false xs ys h k = k
+
+-- what each operation under way has written stands where it may
+pub writes_stand : (z : Sizes) (log : List Record) (o : Sub) → InStore z log → WritesStand z ((state_of (layout_of z) (items z log)).writes o)
+writes_stand z [] o h = tt
+writes_stand z (records.PageOp t n page slot before after ∷ log) o h =
+    let ws = (state_of (layout_of z) (items z log)).writes o in
+    let w : Write = record { at = address page slot; before = held_in z page before; after = held_in z page after } in
+    let ih = writes_stand z log o h.1 in
+    choose_stands z (same_op (operation t n) o) (w ∷ ws) ws (slot_stands z page slot after h.0, ih) ih
+writes_stand z (records.PageUndo t n undone page slot after ∷ log) o h =
+    let ih = writes_stand z log o h.1 in
+    let ws = (state_of (layout_of z) (items z log)).writes o in
+    choose_stands z (same_op (operation t n) o) (rest_of ws) ws (rest_stands z ws ih) ih
+writes_stand z (records.OpEnd t n level deed ∷ log) o h = choose_stands z (same_op (operation t n) o) [] ((state_of (layout_of z) (items z log)).writes o) tt (writes_stand z log o h.1)
+writes_stand z (records.OpVoid t n ∷ log) o h = choose_stands z (same_op (operation t n) o) [] ((state_of (layout_of z) (items z log)).writes o) tt (writes_stand z log o h.1)
+writes_stand z (records.CompEnd t n undone ∷ log) o h = choose_stands z (same_op (operation t n) o) [] ((state_of (layout_of z) (items z log)).writes o) tt (writes_stand z log o h.1)
+writes_stand z (records.Commit t ∷ log) o h = writes_stand z log o h.1
+writes_stand z (records.AbortEnd t ∷ log) o h = writes_stand z log o h.1
+writes_stand z (records.Restart i ∷ log) o h = writes_stand z log o h.1
+
+-- the slots of a log of the store stand where they may
+pub slots_stand : (z : Sizes) (log : List Record) → InStore z log → AllStand z (state_of (layout_of z) (items z log)).slots
+slots_stand z [] h = formatted_stands z
+slots_stand z (records.PageOp t n page slot before after ∷ log) h = put_stands z _ _ _ (slots_stand z log h.1) (slot_stands z page slot after h.0)
+slots_stand z (records.PageUndo t n undone page slot after ∷ log) h = put_stands z _ _ _ (slots_stand z log h.1) (slot_stands z page slot after h.0)
+slots_stand z (records.OpEnd t n level deed ∷ log) h = slots_stand z log h.1
+slots_stand z (records.OpVoid t n ∷ log) h = slots_stand z log h.1
+slots_stand z (records.CompEnd t n undone ∷ log) h = slots_stand z log h.1
+slots_stand z (records.Commit t ∷ log) h = slots_stand z log h.1
+slots_stand z (records.AbortEnd t ∷ log) h = slots_stand z log h.1
+slots_stand z (records.Restart i ∷ log) h = slots_stand z log h.1
+
+-- and so do those that whole operations alone have written
+pub quiet_stand : (z : Sizes) (log : List Record) → InStore z log → AllStand z (state_of (layout_of z) (items z log)).quiet
+quiet_stand z [] h = formatted_stands z
+quiet_stand z (records.PageOp t n page slot before after ∷ log) h = quiet_stand z log h.1
+quiet_stand z (records.PageUndo t n undone page slot after ∷ log) h = quiet_stand z log h.1
+quiet_stand z (records.OpEnd t n level deed ∷ log) h = applied_stands z _ _ (quiet_stand z log h.1) (writes_stand z log _ h.1)
+quiet_stand z (records.OpVoid t n ∷ log) h = quiet_stand z log h.1
+quiet_stand z (records.CompEnd t n undone ∷ log) h = applied_stands z _ _ (quiet_stand z log h.1) (writes_stand z log _ h.1)
+quiet_stand z (records.Commit t ∷ log) h = quiet_stand z log h.1
+quiet_stand z (records.AbortEnd t ∷ log) h = quiet_stand z log h.1
+quiet_stand z (records.Restart i ∷ log) h = quiet_stand z log h.1
+
+-- only cells are used
+pub used_is_cell : (z : Sizes) (q : Slots) (a : ℕ) (c : Cell) → AllStand z q → q a ≡ Used c → IsCellAddress z a
+used_is_cell z q a c h e = subst (IsInPlace z a) e (h a)
+
+-- only a sender's directory slot tells of it
+pub sender_is_directory : (z : Sizes) (q : Slots) (a s : ℕ) (d : Directory) → AllStand z q → q a ≡ Sender s d → IsDirectoryAddress z s a
+sender_is_directory z q a s d h e = subst (IsInPlace z a) e (h a)
+
+-- a store's layout is one
+pub store_is_layout : (z : Sizes) → IsLayout (layout_of z)
+store_is_layout z s lt =
+    let p = senders_have_slots z s lt in
+    let b : (nat_lt 0 (directory_at s / 16) && nat_le (directory_at s / 16) z.directory && nat_lt 0 (directory_at s % 16)) ≡ true =
+    (let p0 = p.0 in let p1 = p.1 in let p2 = p.2 in grind (arith, nat_tests)) in
+    rw b (ap (λ k. Sender k new_directory) p.3)

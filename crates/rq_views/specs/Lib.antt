@@ -1,0 +1,17 @@
+pub mod Chain
+pub mod Log
+pub mod Plans
+pub mod Legal
+pub mod Row
+pub mod Groups
+pub mod Committed
+pub mod Theorems
+pub mod Items
+pub mod Stored
+pub mod InStore
+pub mod Owed
+pub mod StoreTheorems
+pub mod Claims
+pub mod Numbers
+pub mod Inverses
+pub mod Worked
