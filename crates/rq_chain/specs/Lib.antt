@@ -1,1 +1,3 @@
 pub mod Writes
+pub mod Doings
+pub mod Refusing

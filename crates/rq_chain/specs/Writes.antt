@@ -1,6 +1,8 @@
 -- A sender's group and the cells beside those that an operation writes.
 use Rattle.std.specs.Prelude.{◌≡◌, ℕ, ◌/◌, ◌%◌, ◌<◌, List, [], ◌∷◌, Option, Some, None, map, All}
 use Rattle.rq_page.specs.declared.cell.Cell.{Cell}
+use Rattle.rq_page.specs.declared.cell.CellSlot.{CellSlot}
+use Rattle.rq_page.specs.declared.cell.CellSlot.TheVariants as cells
 use Rattle.rq_page.specs.Sizes.{Sizes, IsCellAddress, directory_at, sender_count}
 use Rattle.rq_page.specs.Slots.{held_in, IsSlotOf, IsCellOf, IsDirectoryOf}
 use Rattle.rq_views.specs.Log.{Write}
@@ -13,6 +15,11 @@ use Rattle.rq_chain.specs.declared.Group.{Group}
 abbrev pub cell_beside : Option Neighbour → Option Cell
 cell_beside None = None
 cell_beside (Some n) = Some n.cell
+
+-- the cell that a cell's slot holds, if it holds one
+abbrev pub used_of : CellSlot → Option Cell
+used_of cells.Free = None
+used_of (cells.Used c) = Some c
 
 -- the neighbour stands at this address, which is a cell's, and is a cell of the store
 pub record IsNeighbourAt (z : Sizes) (a : ℕ) (n : Neighbour) : Type 0 where

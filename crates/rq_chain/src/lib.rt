@@ -2,11 +2,17 @@
 //!
 //! A sender's messages stand in cells that are linked both ways; its directory slot names the first and the
 //! last. An operation is planned whole from the slots as they are, and its writes are made one at a time.
-#![tactic(auto)]
+#![tactic(auto, unfolding(rq_level::specs::Meaning::meaning_of))]
 
+mod doing;
+mod flags;
+mod given;
+mod level;
 mod plans;
+mod wants;
 mod writes;
 
+pub use level::ChainLevel;
 pub use plans::{append, unlink_head};
 use rq_level::SlotWrite;
 use rq_model::record::Deed;
@@ -16,7 +22,7 @@ use rq_page::directory::Directory;
 
 /// The writes of an operation, in order, and what its end says was done.
 #[derive(Drop)]
-pub struct Plan {
+pub struct ChainPlan {
     pub writes: Vec<SlotWrite>,
     pub deed: Deed,
 }

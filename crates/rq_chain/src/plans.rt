@@ -9,7 +9,8 @@ ghost use Rattle.rq_level.specs.Writes.{write_of, writes_of, IsSlotWrite, AreSlo
 ghost use Rattle.rq_chain.specs.Writes.{cell_beside, IsNeighbour, IsNeighbourAt, IsGroupOf};
 
 use crate::writes::{cell_write, group_write, listed};
-use crate::{Group, Neighbour, Plan, SlotWrite};
+use crate::{ChainPlan, Group, Neighbour};
+use rq_level::SlotWrite;
 use rq_model::message::{BODY_LIMIT, Body};
 use rq_model::record::Deed;
 use rq_model::refusal::NoMemory;
@@ -28,7 +29,7 @@ pub fn append(
     free: Addr,
     tag: u64,
     body: Body,
-) -> Result<Plan, NoMemory>
+) -> Result<ChainPlan, NoMemory>
     requires room { group.now.directory.sent < 2 ^ 64 - 1 }
     requires group { IsGroupOf layout.now group.now }
     requires tail { IsNeighbour layout.now group.now.directory.tail tail }
@@ -56,7 +57,7 @@ pub fn append(
         previous: group.directory.last_tag,
         body,
     };
-    Ok(Plan { writes, deed })
+    Ok(ChainPlan { writes, deed })
 }
 
 /// Takes the first message off a chain: frees its cell, and has the next one, if there is one, come first.
@@ -66,7 +67,7 @@ pub fn unlink_head(
     group: &Group,
     head: &Neighbour,
     next: Option<Neighbour>,
-) -> Result<Plan, NoMemory>
+) -> Result<ChainPlan, NoMemory>
     requires some { group.now.directory.received < group.now.directory.sent }
     requires group { IsGroupOf layout.now group.now }
     requires head { IsNeighbourAt layout.now group.now.directory.head head.now }
@@ -92,7 +93,7 @@ pub fn unlink_head(
         tag: head.cell.tag,
         body: head.cell.body,
     };
-    Ok(Plan { writes, deed })
+    Ok(ChainPlan { writes, deed })
 }
 
 // The cell of a group's next message.

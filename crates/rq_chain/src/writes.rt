@@ -7,7 +7,8 @@ ghost use Rattle.rq_views.specs.Plans.{directory_write};
 ghost use Rattle.rq_level.specs.Writes.{write_of, IsSlotWrite};
 ghost use Rattle.rq_chain.specs.Writes.{IsGroupOf};
 
-use crate::{Group, SlotWrite};
+use crate::Group;
+use rq_level::SlotWrite;
 use rq_model::refusal::NoMemory;
 use rq_page::addr::Addr;
 use rq_page::cell::CellSlot;

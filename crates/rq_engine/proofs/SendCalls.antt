@@ -48,7 +48,7 @@ use Rattle.rq_model.specs.Replay.Reply.{Gave_sub}
 use Rattle.rq_store.proofs.Forcing.{refused_steps}
 use Rattle.rq_engine.specs.Answers.{Refuses, HasNothingUnderWay, OnUnder}
 use Rattle.rq_model.specs.Legal.{OnFound}
-use Rattle.rq_chain.specs.declared.Plan.{Plan}
+use Rattle.rq_chain.specs.declared.ChainPlan.{ChainPlan as Plan}
 use Rattle.rq_engine.specs.Kept.{IsKept, IsUnderKept}
 use Rattle.rq_engine.specs.Sends.{under_plan, FitsPlan, TakesLowest}
 use Rattle.rq_engine.proofs.Keeping.{kept_started}

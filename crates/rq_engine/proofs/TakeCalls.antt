@@ -34,7 +34,7 @@ use Rattle.rq_store.proofs.NoneWaits.{gives_one, gives_none, some_gives, none_gi
 use Rattle.rq_store.proofs.TakePlans.{head_stands, next_stands}
 use Rattle.rq_store.proofs.TakeStarts.{take_steps, take_from_steps}
 use Rattle.rq_store.proofs.Waiting.{waits_in_chain}
-use Rattle.rq_chain.specs.declared.Plan.{Plan}
+use Rattle.rq_chain.specs.declared.ChainPlan.{ChainPlan as Plan}
 use Rattle.rq_engine.specs.Answers.{Refuses, HasNothingUnderWay}
 use Rattle.rq_model.specs.Causes.{HasCause}
 use Rattle.rq_engine.specs.Receives.{IsTakeCall}

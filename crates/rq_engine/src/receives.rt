@@ -22,7 +22,7 @@ ghost use Rattle.rq_engine.specs.Sends.{under_plan, FitsPlan};
 
 use crate::engine::Engine;
 use crate::starts::{CHAIN_OPERATION, room_of};
-use rq_chain::{Group, Neighbour, Plan, unlink_head};
+use rq_chain::{ChainPlan, Group, Neighbour, unlink_head};
 use rq_disk::{LogDevice, PageDevice};
 use rq_groups::End;
 use rq_model::refusal::{Damage, Refusal};
@@ -121,7 +121,7 @@ impl<P: PageDevice, L: LogDevice> Engine<P, L> {
     }
 
     // The plan of a receive, from the slots as they are, and how many bytes its records take in the log.
-    fn plan_take(&self, sender: u32) -> Result<(Plan, usize), Refusal>
+    fn plan_take(&self, sender: u32) -> Result<(ChainPlan, usize), Refusal>
         requires { sender < sender_count self.now.state.sizes }
         ensures plan { IfOk result (λ planned. (number : ℕ)
             → IsTakePlan self.now.state.sizes (slots_in self.now.state.sizes self.now.state.images)

@@ -18,7 +18,7 @@ ghost use Rattle.rq_engine.specs.Sends.{under_plan, FitsPlan, TakesLowest};
 
 use crate::engine::Engine;
 use crate::starts::{CHAIN_OPERATION, room_of};
-use rq_chain::{Group, Plan, append};
+use rq_chain::{ChainPlan, Group, append};
 use rq_disk::{LogDevice, PageDevice};
 use rq_groups::End;
 use rq_model::limits::LOG_LIMIT;
@@ -105,7 +105,7 @@ impl<P: PageDevice, L: LogDevice> Engine<P, L> {
     }
 
     // The plan of a send, from the slots as they are, and how many bytes its records take in the log.
-    fn plan_send(&self, sender: u32, tag: u64, body: Body) -> Result<(Plan, usize), Refusal>
+    fn plan_send(&self, sender: u32, tag: u64, body: Body) -> Result<(ChainPlan, usize), Refusal>
         requires { sender < sender_count self.now.state.sizes }
         ensures plan { IfOk result (λ planned. (number : ℕ)
             → IsSendPlan self.now.state.sizes (slots_in self.now.state.sizes self.now.state.images)

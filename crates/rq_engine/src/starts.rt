@@ -16,7 +16,7 @@ ghost use Rattle.rq_engine.specs.Answers.{HasNothingUnderWay};
 ghost use Rattle.rq_engine.specs.Sends.{under_plan, FitsPlan};
 
 use crate::engine::Engine;
-use rq_chain::{Neighbour, Plan};
+use rq_chain::{ChainPlan, Neighbour};
 use rq_disk::{LogDevice, PageDevice};
 use rq_groups::End;
 use rq_model::refusal::Refusal;
@@ -29,7 +29,7 @@ use rq_txn::Operation;
 pub(crate) const CHAIN_OPERATION: u64 = 4;
 
 /// How many bytes the records of a planned operation take in the log.
-pub(crate) fn room_of(plan: &Plan) -> usize
+pub(crate) fn room_of(plan: &ChainPlan) -> usize
     requires { length plan.now.writes.items ≤ 3 }
     ensures room { result ≡ length plan.now.writes.items * 546 + (30 + length (spelled_deed plan.now.deed)) }
     ensures low { 1 ≤ length (spelled_deed plan.now.deed) }
@@ -65,7 +65,7 @@ impl<P: PageDevice, L: LogDevice> Engine<P, L> {
         txn: Txn,
         number: u64,
         end: End,
-        plan: Plan,
+        plan: ChainPlan,
         room: usize,
     ) -> Result<(), Refusal>
         requires ready { HasNothingUnderWay self.old.state txn number }
@@ -80,7 +80,7 @@ impl<P: PageDevice, L: LogDevice> Engine<P, L> {
         ensures refusal { IfErr result (λ r. r ≡ Refusal.NoMemory) }
         ensures refused { OnErr result (self.new ≡ self.old) }
     {
-        let Plan { writes, deed } = plan;
+        let ChainPlan { writes, deed } = plan;
         let owed = writes.len() as u64 + 1;
         let operation = Operation {
             number,

@@ -1,4 +1,4 @@
-use rq_chain::{Group, Neighbour, Plan, append, unlink_head};
+use rq_chain::{ChainPlan, Group, Neighbour, append, unlink_head};
 use rq_model::message::Body;
 use rq_model::record::{Deed, Slot};
 use rq_page::addr::Addr;
@@ -14,7 +14,7 @@ fn hello() -> Result<Body, &'static str> {
     Body::new(b"hello").ok_or("short")
 }
 
-fn places(alloc: Global, plan: &Plan) -> Result<Vec<u64>, AllocError> {
+fn places(alloc: Global, plan: &ChainPlan) -> Result<Vec<u64>, AllocError> {
     plan.writes
         .iter()
         .map(|write| write.at.number())
@@ -22,7 +22,7 @@ fn places(alloc: Global, plan: &Plan) -> Result<Vec<u64>, AllocError> {
 }
 
 // Where a write of a plan goes, and what it writes.
-fn write_of(plan: &Plan, place: usize) -> Option<(u64, Slot)> {
+fn write_of(plan: &ChainPlan, place: usize) -> Option<(u64, Slot)> {
     match plan.writes.get(place) {
         Some(write) => Some((write.at.number(), write.after)),
         None => None,
@@ -38,7 +38,7 @@ fn directory_in(slot: &Slot) -> Option<DirectorySlot> {
 }
 
 // The plan of the first message of a group.
-fn first_append(alloc: Global) -> Result<Plan, Fail> {
+fn first_append(alloc: Global) -> Result<ChainPlan, Fail> {
     let layout = Layout::new(1, 1).ok_or("a small store")?;
     let group = Group {
         at: layout.directory_of(3),
@@ -51,7 +51,7 @@ fn first_append(alloc: Global) -> Result<Plan, Fail> {
 }
 
 // The plan of the second message of a group.
-fn next_append(alloc: Global) -> Result<Plan, Fail> {
+fn next_append(alloc: Global) -> Result<ChainPlan, Fail> {
     let layout = Layout::new(1, 1).ok_or("a small store")?;
     let body = hello()?;
     let last = layout.cell_addr(0);
@@ -83,7 +83,7 @@ fn next_append(alloc: Global) -> Result<Plan, Fail> {
 }
 
 // The plan of a receive of the only message of a group.
-fn only_unlink(alloc: Global) -> Result<Plan, Fail> {
+fn only_unlink(alloc: Global) -> Result<ChainPlan, Fail> {
     let layout = Layout::new(1, 1).ok_or("a small store")?;
     let body = hello()?;
     let at = layout.cell_addr(0);
@@ -111,7 +111,7 @@ fn only_unlink(alloc: Global) -> Result<Plan, Fail> {
 }
 
 // The plan of a receive of the first message of two.
-fn first_unlink(alloc: Global) -> Result<Plan, Fail> {
+fn first_unlink(alloc: Global) -> Result<ChainPlan, Fail> {
     let layout = Layout::new(1, 1).ok_or("a small store")?;
     let body = hello()?;
     let first = layout.cell_addr(2);

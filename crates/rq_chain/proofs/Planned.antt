@@ -1,0 +1,74 @@
+-- Plans of operations, as the level answers them.
+use Rattle.std.proofs.Common.{◌≡◌, ℕ, zero, suc, arith, ◌+◌, ◌<◌, ◌≤◌, ◌^◌, List, reverse, Option, Some, refl, sym, ap, ◌∙◌, subst}
+use Rattle.rq_model.specs.declared.record.Deed.TheVariants.{Append, UnlinkHead}
+use Rattle.rq_model.specs.Deeds.{spelled_deed}
+use Rattle.rq_page.specs.declared.cell.Cell.{Cell}
+use Rattle.rq_page.specs.declared.directory.Directory.{Directory}
+use Rattle.rq_page.specs.Sizes.{Sizes, directory_at, sender_count}
+use Rattle.rq_page.specs.Slots.Slot.{Used, Sender}
+use Rattle.rq_views.specs.Plans.{append_writes, unlink_head_writes}
+use Rattle.rq_views.specs.Items.{layout_of}
+use Rattle.rq_level.specs.Kept.{Kept, IsLowest, reserved_at}
+use Rattle.rq_level.specs.Given.{GivenHolds}
+use Rattle.rq_level.specs.ChainPlans.{Beside, IsSent, CanReceive, IsReceived}
+use Rattle.rq_level.specs.Writes.{writes_of, AreSlotWrites}
+use Rattle.rq_level.specs.declared.slots.Given.{Given}
+use Rattle.rq_level.specs.declared.writes.Plan.{Plan}
+use Rattle.rq_level.specs.declared.writes.Outcome.TheVariants as gives
+use Rattle.rq_chain.specs.declared.Neighbour.{Neighbour}
+use Rattle.rq_chain.specs.declared.Group.{Group}
+use Rattle.rq_chain.specs.Writes.{cell_beside}
+use Rattle.rq_chain.proofs.Givens.{holds_one}
+
+module _ (z : Sizes) (k : Kept) (given : List Given) (latched : List ℕ) (s tag : ℕ) (body : List ℕ) (p : Plan) (after : Kept) (g : Group) where
+  pub is_sent : (tail : Option Neighbour) (new at : ℕ) → s < sender_count z → g.sender ≡ s → GivenHolds z given (directory_at s) (Sender s g.directory) → g.directory.sent ≤ 2 ^ 50
+      → at ≡ g.directory.tail → Beside z given at (cell_beside tail) → IsLowest z k latched new
+      → reverse (writes_of z p.writes.items) ≡ append_writes (layout_of z) g.sender g.directory new tag body (cell_beside tail)
+      → AreSlotWrites z p.writes.items → p.deed ≡ spelled_deed (Append g.sender (g.directory.sent + 1) tag g.directory.last_tag body)
+      → p.reply ≡ Some gives.Sent → after ≡ reserved_at z k new → IsSent z k given latched s tag body p after
+  is_sent tail new at below own holds room at_is beside lowest writes slots deed reply kept = record {
+    can = record { below = below; directory = g.directory; directory_is = holds; room = room; old = cell_beside tail; beside = subst (λ (a : ℕ). Beside z given a (cell_beside tail)) at_is beside };
+    new = new;
+    lowest = lowest;
+    writes = writes ∙ ap (λ (n : ℕ). append_writes (layout_of z) n g.directory new tag body (cell_beside tail)) own;
+    slots = slots;
+    deed = deed ∙ ap (λ (n : ℕ). spelled_deed (Append n (g.directory.sent + 1) tag g.directory.last_tag body)) own;
+    reply = reply;
+    kept = kept;
+  }
+
+  pub is_received : (head : Neighbour) (next : Option Neighbour) (at behind : ℕ) → s < sender_count z → g.sender ≡ s → GivenHolds z given (directory_at s) (Sender s g.directory)
+      → g.directory.received < g.directory.sent → 0 < at → at ≡ g.directory.head → GivenHolds z given at (Used head.cell) → behind ≡ head.cell.next → Beside z given behind (cell_beside next)
+      → reverse (writes_of z p.writes.items) ≡ unlink_head_writes (layout_of z) g.sender g.directory head.cell (cell_beside next)
+      → AreSlotWrites z p.writes.items → p.deed ≡ spelled_deed (UnlinkHead g.sender (g.directory.received + 1) head.cell.tag head.cell.body)
+      → p.reply ≡ Some (gives.Message (record { sender = s; tag = head.cell.tag; body = head.cell.body })) → after ≡ k → IsReceived z k given s p after
+  is_received head next at behind below own holds some used at_is head_is behind_is beside writes slots deed reply kept = record {
+    can = record {
+      below = below;
+      directory = g.directory;
+      directory_is = holds;
+      some = some;
+      used = subst (λ (a : ℕ). 0 < a) at_is used;
+      cell = head.cell;
+      head_is = subst (λ (a : ℕ). GivenHolds z given a (Used head.cell)) at_is head_is;
+      next = cell_beside next;
+      beside = subst (λ (a : ℕ). Beside z given a (cell_beside next)) behind_is beside;
+    };
+    writes = writes ∙ ap (λ (n : ℕ). unlink_head_writes (layout_of z) n g.directory head.cell (cell_beside next)) own;
+    slots = slots;
+    deed = deed ∙ ap (λ (n : ℕ). spelled_deed (UnlinkHead n (g.directory.received + 1) head.cell.tag head.cell.body)) own;
+    reply = reply;
+    kept = kept;
+  }
+
+-- no message can be taken where no cell stands at the head
+pub no_head : (z : Sizes) (given : List Given) (s at : ℕ) (d : Directory) → at ≡ d.head → GivenHolds z given (directory_at s) (Sender s d)
+    → ((c : Cell) → GivenHolds z given at (Used c) → ⊥) → CanReceive z given s → ⊥
+no_head z given s at d at_is h none can =
+    let e : Sender s d ≡ Sender s can.directory = holds_one z given (directory_at s) (Sender s d) (Sender s can.directory) h can.directory_is in
+    let f : d ≡ can.directory = cc in
+    none can.cell (subst (λ (a : ℕ). GivenHolds z given a (Used can.cell)) (sym (at_is ∙ ap (λ (y : Directory). y.head) f)) can.head_is)
+
+pub positive : (a : ℕ) → (a ≡ 0 → ⊥) → 0 < a
+positive zero h = absurd (h refl)
+positive (suc n) h = omega arith

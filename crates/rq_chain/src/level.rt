@@ -1,0 +1,338 @@
+//! The chains of all senders as a level of recovery.
+ghost use Rattle.std.specs.Prelude.{◌≡◌, ◌<◌, ◌≤◌, ◌^◌, ℕ, IfOk, IfErr, IfSome, IfNone, OnErr, OnOk, None, Some, true, false, cond};
+ghost use Rattle.std.specs.Bool.{OnTrue, OnFalse};
+ghost use Rattle.rq_page.specs.Sizes.{Sizes, IsCellAddress, cell_at, cell_count, place_of};
+ghost use Rattle.rq_level.specs.Kept.{Kept, flag_at, may_take, IsLowest, NoneToTake, NoneFree, SomeFree, reserved_at, in_range, told_sizes, is_cell_address, is_free_slot, noted_cell, noted_in, noted};
+ghost use Rattle.rq_level.specs.Given.{AreGiven};
+ghost use Rattle.rq_level.specs.ChainPlans.{CanSend, IsSent, RefusesTaking, CanReceive, IsReceived, RefusesOther, Plans};
+ghost use Rattle.rq_chain.specs.Doings.{told_one};
+ghost use Rattle.rq_chain.specs.Refusing.{NoCell};
+ghost use Rattle.rq_level.specs.Meaning.{Meaning, meaning_of};
+
+use crate::doing::{Doing, read_doing};
+use crate::flags::{flag, set_flag};
+use crate::given::{SENT_LIMIT, beside_given, cell_given, group_given, head_of, tail_of};
+use crate::plans::{append, unlink_head};
+use crate::wants::wanted;
+use crate::{ChainPlan, Neighbour};
+use byteorder::{BigEndian, ByteOrder};
+use rq_level::{Level, Op, Outcome, PageSet, Plan, Slots, Want, redo_page};
+use rq_model::message::{Body, Message};
+use rq_model::record::{Record, Slot};
+use rq_model::refusal::{Damage, NoMemory, Refusal};
+use rq_model::txn::Lsn;
+use rq_page::addr::Addr;
+use rq_page::layout::{CELLS_LIMIT, Layout, SLOTS};
+use rq_page::page::Page;
+use rq_record::{decode_deed, encode_deed};
+use std::alloc::Global;
+use std::marker::Model;
+
+/// The chains of all senders: plans their operations, and keeps of each cell whether it is free and whether a plan
+/// has chosen it. Contracts see what it keeps.
+#[derive(Drop)]
+pub struct ChainLevel {
+    layout: Option<Layout>,
+    free: Vec<bool>,
+    reserved: Vec<bool>,
+}
+
+impl Model for ChainLevel {
+    ghost use Rattle.rq_level.specs.Kept.{Kept};
+
+    ghost Value = { Kept };
+
+    ghost view = { λ c. record { sizes = c.layout; free = c.free.items; reserved = c.reserved.items } };
+}
+
+impl ChainLevel {
+    /// Whether the cell with this place may be taken.
+    fn may_take(&self, layout: &Layout, latched: &PageSet, place: u32) -> bool
+        requires { place < cell_count layout.now }
+        ensures { result ≡ may_take layout.now self.now latched.now.pages place }
+    {
+        let at = layout.cell_addr(place);
+        prove!(at.page() < layout.pages() as u64);
+        let page = at.page() as u32;
+        flag(&self.free, place) && !flag(&self.reserved, place) && !latched.contains(page)
+    }
+
+    /// The lowest cell that may be taken.
+    fn lowest(&self, layout: &Layout, latched: &PageSet) -> Option<Addr>
+        ensures lowest { IfSome result (λ a. IsLowest layout.now self.now latched.now.pages a) }
+        ensures cell { IfSome result (λ a. IsCellAddress layout.now a) }
+        ensures none { IfNone result (NoneToTake layout.now self.now latched.now.pages) }
+    {
+        for place in 0..layout.cell_slots() {
+            if self.may_take(layout, latched, place) {
+                return Some(layout.cell_addr(place));
+            }
+        }
+        None
+    }
+
+    /// Whether some cell is free.
+    fn has_free(&self, layout: &Layout) -> bool
+        ensures some { OnTrue result (SomeFree layout.now self.now) }
+        ensures none { OnFalse result (NoneFree layout.now self.now) }
+    {
+        for place in 0..layout.cell_slots() {
+            if flag(&self.free, place) {
+                return true;
+            }
+        }
+        false
+    }
+
+    /// Chooses a cell.
+    fn reserve(&mut self, layout: &Layout, at: Addr)
+        requires { IsCellAddress layout.now at }
+        ensures { self.new ≡ reserved_at layout.now self.old at }
+    {
+        set_flag(&mut self.reserved, layout.cell_place(at), true);
+    }
+
+    /// A level that was told of no slot, with room for the greatest store.
+    ///
+    /// # Errors
+    /// `NoMemory`.
+    pub fn new(alloc: Global) -> Result<ChainLevel, NoMemory>
+        ensures { IfOk result (λ c. c.sizes ≡ None) }
+    {
+        let most = (CELLS_LIMIT * SLOTS) as usize;
+        let Ok(free) = Vec::from_elem(alloc, false, most) else {
+            return Err(NoMemory);
+        };
+        let Ok(reserved) = Vec::from_elem(alloc, false, most) else {
+            return Err(NoMemory);
+        };
+        Ok(ChainLevel {
+            layout: None,
+            free,
+            reserved,
+        })
+    }
+
+    // A slot was read or written.
+    fn note(&mut self, at: Addr, bytes: &Slot)
+        ensures { self.new ≡ noted self.old at bytes.now }
+    {
+        if at.number() == 1 {
+            self.layout = told_layout(bytes);
+            return;
+        }
+        let Some(layout) = self.layout else {
+            return;
+        };
+        if layout.is_cell_address(at) {
+            self.note_cell(&layout, at, bytes[0] == 0);
+        }
+    }
+
+    // A cell was read or written: whether it is free.
+    fn note_cell(&mut self, layout: &Layout, at: Addr, free: bool)
+        requires { IsCellAddress layout.now at }
+        ensures { self.new ≡ noted_cell layout.now self.old (place_of layout.now at) free }
+    {
+        let place = layout.cell_place(at);
+        set_flag(&mut self.free, place, free);
+        set_flag(&mut self.reserved, place, false);
+    }
+
+    // The plan of what is asked.
+    fn plan_doing(
+        &mut self,
+        alloc: Global,
+        layout: &Layout,
+        doing: &Doing,
+        given: &Slots,
+        latched: &PageSet,
+    ) -> Result<Plan, Refusal>
+        requires { AreGiven layout.now given.now }
+        ensures { Plans (Some layout.now) (Some (told_one doing.now)) self.old given.now latched.now.pages result self.new }
+    {
+        match doing {
+            Doing::Send { sender, tag, body } => {
+                self.plan_send(alloc, layout, given, latched, *sender, *tag, *body)
+            }
+            Doing::Receive { sender } => self.plan_receive(alloc, layout, given, *sender),
+            Doing::Close { .. } => Err(Refusal::Damaged(Damage::Page(0))),
+        }
+    }
+
+    // The plan of a send.
+    fn plan_send(
+        &mut self,
+        alloc: Global,
+        layout: &Layout,
+        given: &Slots,
+        latched: &PageSet,
+        sender: u32,
+        tag: u64,
+        body: Body,
+    ) -> Result<Plan, Refusal>
+        requires { AreGiven layout.now given.now }
+        ensures ok { IfOk result (λ p. IsSent layout.now self.old given.now latched.now.pages sender tag body p self.new) }
+        ensures err { IfErr result (λ r. RefusesTaking layout.now self.old latched.now.pages (CanSend layout.now given.now sender) r) }
+        ensures kept { OnErr result (self.new ≡ self.old) }
+    {
+        let damaged = Refusal::Damaged(Damage::Page(1));
+        if sender >= layout.senders() {
+            return Err(damaged);
+        }
+        let Some(group) = group_given(layout, given, sender) else {
+            return Err(damaged);
+        };
+        if group.directory.sent > SENT_LIMIT {
+            return Err(damaged);
+        }
+        let Some(tail) = beside_given(layout, given, tail_of(&group)) else {
+            return Err(damaged);
+        };
+        let Some(free) = self.lowest(layout, latched) else {
+            return Err(self.no_cell(layout));
+        };
+        let Ok(ChainPlan { writes, deed }) = append(alloc, layout, &group, tail, free, tag, body)
+        else {
+            return Err(Refusal::NoMemory);
+        };
+        self.reserve(layout, free);
+        Ok(Plan {
+            writes,
+            deed: encode_deed(&deed),
+            reply: Some(Outcome::Sent),
+        })
+    }
+
+    // The plan of a receive.
+    fn plan_receive(
+        &self,
+        alloc: Global,
+        layout: &Layout,
+        given: &Slots,
+        sender: u32,
+    ) -> Result<Plan, Refusal>
+        requires { AreGiven layout.now given.now }
+        ensures ok { IfOk result (λ p. IsReceived layout.now self.now given.now sender p self.now) }
+        ensures err { IfErr result (λ r. RefusesOther (CanReceive layout.now given.now sender) r) }
+    {
+        let damaged = Refusal::Damaged(Damage::Page(1));
+        if sender >= layout.senders() {
+            return Err(damaged);
+        }
+        let Some(group) = group_given(layout, given, sender) else {
+            return Err(damaged);
+        };
+        if group.directory.received >= group.directory.sent || head_of(&group).is_none() {
+            return Err(damaged);
+        }
+        let Some(head) = cell_given(layout, given, head_of(&group)) else {
+            return Err(damaged);
+        };
+        let Some(next) = beside_given(layout, given, next_of(&head)) else {
+            return Err(damaged);
+        };
+        let Ok(ChainPlan { writes, deed }) = unlink_head(alloc, layout, &group, &head, next) else {
+            return Err(Refusal::NoMemory);
+        };
+        Ok(Plan {
+            writes,
+            deed: encode_deed(&deed),
+            reply: Some(message_of(sender, &head)),
+        })
+    }
+
+    // Why no cell may be taken, where none may.
+    fn no_cell(&self, layout: &Layout) -> Refusal
+        ensures { NoCell layout.now self.now result }
+    {
+        if self.has_free(layout) {
+            Refusal::Latched
+        } else {
+            Refusal::Damaged(Damage::Page(1))
+        }
+    }
+}
+
+impl Level for ChainLevel {
+    ghost level = { λ _. 1 };
+
+    ghost kept = { λ c. c };
+
+    fn number(&self) -> u8 {
+        1
+    }
+
+    fn reads(&self, deed: &[u8]) -> bool {
+        decode_deed(deed).is_some()
+    }
+
+    fn want(&self, op: &Op, given: &Slots) -> Want {
+        match wanted(read_doing(op.bytes()), given) {
+            None => Want::Ready,
+            Some(at) => Want::Slot(at),
+        }
+    }
+
+    fn plan(
+        &mut self,
+        alloc: Global,
+        op: &Op,
+        given: &Slots,
+        latched: &PageSet,
+    ) -> Result<Plan, Refusal> {
+        let Some(layout) = self.layout else {
+            return Err(Refusal::Damaged(Damage::Page(0)));
+        };
+        let Some(doing) = read_doing(op.bytes()) else {
+            return Err(Refusal::Damaged(Damage::Page(0)));
+        };
+        self.plan_doing(alloc, &layout, &doing, given, latched)
+    }
+
+    fn undo(
+        &mut self,
+        _alloc: Global,
+        _told: &Record,
+        _given: &Slots,
+        _latched: &PageSet,
+    ) -> Result<Plan, Refusal> {
+        Err(Refusal::Damaged(Damage::Page(0)))
+    }
+
+    fn redo(&mut self, page: &mut Page, lsn: Lsn, told: &Record) -> bool {
+        redo_page(page, lsn, told)
+    }
+
+    fn noted(&mut self, at: Addr, bytes: &Slot) {
+        self.note(at, bytes);
+    }
+}
+
+// What the end of a receive answers.
+fn message_of(sender: u32, head: &Neighbour) -> Outcome
+    ensures { result ≡ Outcome.Message (record { sender = sender; tag = head.now.cell.tag; body = head.now.cell.body }) }
+{
+    Outcome::Message(Message {
+        sender,
+        tag: head.cell.tag,
+        body: head.cell.body,
+    })
+}
+
+// The cell behind the one beside.
+fn next_of(head: &Neighbour) -> Addr
+    ensures { result ≡ head.now.cell.next }
+{
+    head.cell.next
+}
+
+// The layout that a superblock's slot tells, where a store may have it.
+fn told_layout(bytes: &Slot) -> Option<Layout>
+    ensures { result ≡ told_sizes bytes.now }
+{
+    Layout::new(
+        BigEndian::read_u32(&bytes[12..]),
+        BigEndian::read_u32(&bytes[16..]),
+    )
+}

@@ -1,0 +1,117 @@
+//! Which slots operations need to see.
+ghost use Rattle.std.specs.Prelude.{◌≡◌, ◌+◌, ◌≤◌, length};
+ghost use Rattle.rq_bytes.specs.Number.{number_at};
+ghost use Rattle.rq_page.specs.Cells.{cell_in, cell_slot_in};
+ghost use Rattle.rq_page.specs.Directories.{directory_in};
+ghost use Rattle.rq_page.specs.Sizes.{directory_at};
+ghost use Rattle.rq_level.specs.ChainPlans.{behind, link_wanted, head_wanted, unless_given, wanted};
+ghost use Rattle.rq_level.specs.Given.{given_at};
+ghost use Rattle.rq_chain.specs.Doings.{told};
+
+use crate::doing::Doing;
+use byteorder::{BigEndian, ByteOrder};
+use rq_level::Slots;
+use rq_model::record::Slot;
+use rq_page::addr::Addr;
+use rq_page::layout::SLOTS;
+
+/// The slot that is wanted next, of those that the operation writes; none where all are given.
+pub(crate) fn wanted(doing: Option<Doing>, given: &Slots) -> Option<Addr>
+    ensures { result ≡ wanted (told doing) given.now }
+{
+    match doing {
+        None => None,
+        Some(Doing::Send { sender, .. }) => {
+            let at = directory_addr(sender);
+            match given.get(at) {
+                None => Some(at),
+                Some(bytes) => link_wanted(tail_in(bytes), given),
+            }
+        }
+        Some(Doing::Receive { sender }) => {
+            let at = directory_addr(sender);
+            match given.get(at) {
+                None => Some(at),
+                Some(bytes) => head_wanted(head_in(bytes), given),
+            }
+        }
+        Some(Doing::Close { sender }) => slot_wanted(directory_addr(sender), given),
+    }
+}
+
+// Where a sender's directory slot stands.
+fn directory_addr(sender: u32) -> Addr
+    ensures { result ≡ directory_at sender }
+{
+    Addr::new(1 + sender / SLOTS, (1 + sender % SLOTS) as u8)
+}
+
+// The slot, where it was not given.
+fn slot_wanted(at: Addr, given: &Slots) -> Option<Addr>
+    ensures { result ≡ unless_given at (given_at at given.now) }
+{
+    match given.get(at) {
+        None => Some(at),
+        Some(_) => None,
+    }
+}
+
+// The slot that a link names, where it was not given.
+fn link_wanted(at: Addr, given: &Slots) -> Option<Addr>
+    ensures { result ≡ link_wanted at given.now }
+{
+    if at.number() == 0 {
+        return None;
+    }
+    slot_wanted(at, given)
+}
+
+// The head's slot, and then the one behind it.
+fn head_wanted(at: Addr, given: &Slots) -> Option<Addr>
+    ensures { result ≡ head_wanted at given.now }
+{
+    if at.number() == 0 {
+        return None;
+    }
+    match given.get(at) {
+        None => Some(at),
+        Some(bytes) => behind(bytes, given),
+    }
+}
+
+// The slot behind a cell.
+fn behind(bytes: &Slot, given: &Slots) -> Option<Addr>
+    ensures { result ≡ behind (cell_slot_in bytes.now) given.now }
+{
+    if bytes[0] == 0 {
+        return None;
+    }
+    link_wanted(next_in(bytes), given)
+}
+
+// The links in the bytes of a slot.
+
+fn tail_in(bytes: &Slot) -> Addr
+    ensures { result ≡ (directory_in bytes.now).directory.tail }
+{
+    Addr::from_number(u64_at(bytes, 40))
+}
+
+fn head_in(bytes: &Slot) -> Addr
+    ensures { result ≡ (directory_in bytes.now).directory.head }
+{
+    Addr::from_number(u64_at(bytes, 32))
+}
+
+fn next_in(bytes: &Slot) -> Addr
+    ensures { result ≡ (cell_in bytes.now).next }
+{
+    Addr::from_number(u64_at(bytes, 24))
+}
+
+fn u64_at(bytes: &[u8], at: usize) -> u64
+    requires { at + 8 ≤ length bytes.now }
+    ensures { result ≡ number_at 8 at bytes.now }
+{
+    BigEndian::read_u64(&bytes[at..])
+}

@@ -1,0 +1,8 @@
+//! Latches of pages, and the level of single slots.
+#![tactic(auto, unfolding(rq_level::specs::Meaning::meaning_of))]
+
+mod latches;
+mod page_level;
+
+pub use latches::{LATCHED_PAGES, Latches};
+pub use page_level::PageLevel;
