@@ -13,7 +13,7 @@ mod wants;
 mod writes;
 
 pub use level::ChainLevel;
-pub use plans::{append, unlink_head};
+pub use plans::{append, mark, put_back, unlink_head, unlink_tail};
 use rq_level::SlotWrite;
 use rq_model::record::Deed;
 use rq_page::addr::Addr;

@@ -1,10 +1,10 @@
 //! The plans of chain operations.
-ghost use Rattle.std.specs.Prelude.{◌≡◌, ◌+◌, ◌-◌, ◌^◌, ◌<◌, IfOk, reverse, length, MatchOption};
+ghost use Rattle.std.specs.Prelude.{◌≡◌, ◌+◌, ◌-◌, ◌^◌, ◌<◌, IfOk, reverse, length, MatchOption, [], ◌∷◌};
 ghost use Rattle.rq_page.specs.Sizes.{IsCellAddress};
 ghost use Rattle.rq_page.specs.Slots.{IsCellOf, IsDirectoryOf, Used};
 ghost use Rattle.rq_views.specs.Chain.{directory_appended};
 ghost use Rattle.rq_views.specs.Items.{layout_of};
-ghost use Rattle.rq_views.specs.Plans.{append_writes, unlink_head_writes, directory_head_unlinked, with_next, with_prev};
+ghost use Rattle.rq_views.specs.Plans.{append_writes, unlink_head_writes, unlink_tail_writes, put_back_writes, directory_write, directory_head_unlinked, directory_tail_unlinked, directory_put_back, with_next, with_prev};
 ghost use Rattle.rq_level.specs.Writes.{write_of, writes_of, IsSlotWrite, AreSlotWrites, IsFirstAt};
 ghost use Rattle.rq_chain.specs.Writes.{cell_beside, IsNeighbour, IsNeighbourAt, IsGroupOf};
 
@@ -96,6 +96,79 @@ pub fn unlink_head(
     Ok(ChainPlan { writes, deed })
 }
 
+/// Takes the last message off a chain: frees its cell, and has the one before it, if there is one, come last.
+pub fn unlink_tail(
+    alloc: Global,
+    layout: &Layout,
+    group: &Group,
+    tail: &Neighbour,
+    front: Option<Neighbour>,
+    previous: u64,
+) -> Result<Vec<SlotWrite>, NoMemory>
+    requires some { group.now.directory.received < group.now.directory.sent }
+    requires group { IsGroupOf layout.now group.now }
+    requires tail { IsNeighbourAt layout.now group.now.directory.tail tail.now }
+    requires front { IsNeighbour layout.now tail.now.cell.prev front }
+    ensures writes { IfOk result (λ writes. reverse (writes_of layout.now writes.items)
+        ≡ unlink_tail_writes (layout_of layout.now) group.now.sender group.now.directory tail.now.cell previous
+        (cell_beside front)) }
+    ensures slots { IfOk result (λ writes. AreSlotWrites layout.now writes.items) }
+{
+    let first = cell_write(layout, tail.at, &CellSlot::Used(tail.cell), &CellSlot::Free);
+    let after = tail_unlinked(layout, group, &tail.cell, previous);
+    let last = group_write(layout, group, &after);
+    let writes = match &front {
+        None => listed(alloc, &[first, last])?,
+        Some(before) => listed(alloc, &[first, cut_write(layout, before), last])?,
+    };
+    Ok(writes)
+}
+
+/// Puts a message back in front of a chain: into the free cell, which the head, if there is one, then follows.
+pub fn put_back(
+    alloc: Global,
+    layout: &Layout,
+    group: &Group,
+    head: Option<Neighbour>,
+    free: Addr,
+    tag: u64,
+    body: Body,
+) -> Result<Vec<SlotWrite>, NoMemory>
+    requires some { 0 < group.now.directory.received }
+    requires group { IsGroupOf layout.now group.now }
+    requires head { IsNeighbour layout.now group.now.directory.head head }
+    requires free { IsCellAddress layout.now free }
+    ensures writes { IfOk result (λ writes. reverse (writes_of layout.now writes.items)
+        ≡ put_back_writes (layout_of layout.now) group.now.sender group.now.directory free tag body (cell_beside head)) }
+    ensures slots { IfOk result (λ writes. AreSlotWrites layout.now writes.items) }
+{
+    let new = returned_cell(layout, group, tag, body);
+    let first = cell_write(layout, free, &CellSlot::Free, &CellSlot::Used(new));
+    let last = group_write(layout, group, &returned(layout, group, free));
+    let writes = match &head {
+        None => listed(alloc, &[first, last])?,
+        Some(after) => listed(alloc, &[first, lead_write(layout, after, free), last])?,
+    };
+    Ok(writes)
+}
+
+/// Closes a group, or opens it again.
+pub fn mark(
+    alloc: Global,
+    layout: &Layout,
+    group: &Group,
+    closed: bool,
+) -> Result<Vec<SlotWrite>, NoMemory>
+    requires group { IsGroupOf layout.now group.now }
+    ensures writes { IfOk result (λ writes. reverse (writes_of layout.now writes.items)
+        ≡ directory_write (layout_of layout.now) group.now.sender group.now.directory
+        (record group.now.directory { closed = closed }) ∷ []) }
+    ensures slots { IfOk result (λ writes. AreSlotWrites layout.now writes.items) }
+{
+    let write = group_write(layout, group, &marked(layout, group, closed));
+    listed(alloc, &[write])
+}
+
 // The cell of a group's next message.
 fn next_cell(layout: &Layout, group: &Group, tag: u64, body: Body) -> Cell
     requires room { group.now.directory.sent < 2 ^ 64 - 1 }
@@ -164,6 +237,92 @@ fn head_unlinked(layout: &Layout, group: &Group, head: &Cell) -> Directory
     }
 }
 
+// The cell of a message that comes back to the front of its group.
+fn returned_cell(layout: &Layout, group: &Group, tag: u64, body: Body) -> Cell
+    requires some { 0 < group.now.directory.received }
+    requires group { IsGroupOf layout.now group.now }
+    ensures cell { result ≡ record {
+      sender = group.now.sender;
+      sequence = group.now.directory.received;
+      tag = tag;
+      next = group.now.directory.head;
+      prev = 0;
+      body = body;
+    } }
+    ensures fits { IsCellOf layout.now result }
+{
+    prove!(body.as_slice().len() <= BODY_LIMIT);
+    prove!(group.sender < layout.senders());
+    Cell {
+        sender: group.sender,
+        sequence: group.directory.received,
+        tag,
+        next: group.directory.head,
+        prev: Addr::NONE,
+        body,
+    }
+}
+
+// What the directory says of a group without its last message, which stands in this cell.
+fn tail_unlinked(layout: &Layout, group: &Group, tail: &Cell, previous: u64) -> Directory
+    requires some { group.now.directory.received < group.now.directory.sent }
+    requires group { IsGroupOf layout.now group.now }
+    requires tail { IsCellOf layout.now tail.now }
+    ensures directory { result ≡ directory_tail_unlinked group.now.directory tail.now previous }
+    ensures fits { IsDirectoryOf layout.now group.now.sender
+        (record { sender = group.now.sender; directory = result }) }
+{
+    let old = &group.directory;
+    let front = tail.prev;
+    Directory {
+        closed: old.closed,
+        sent: old.sent - 1,
+        received: old.received,
+        last_tag: previous,
+        head: if front.is_none() { Addr::NONE } else { old.head },
+        tail: front,
+    }
+}
+
+// What the directory says of a group with a message back in front, which stands in this cell.
+fn returned(layout: &Layout, group: &Group, cell: Addr) -> Directory
+    requires some { 0 < group.now.directory.received }
+    requires group { IsGroupOf layout.now group.now }
+    requires cell { IsCellAddress layout.now cell }
+    ensures directory { result ≡ directory_put_back group.now.directory cell }
+    ensures fits { IsDirectoryOf layout.now group.now.sender
+        (record { sender = group.now.sender; directory = result }) }
+{
+    prove!(cell.page() < layout.pages() as u64);
+    let old = &group.directory;
+    Directory {
+        closed: old.closed,
+        sent: old.sent,
+        received: old.received - 1,
+        last_tag: old.last_tag,
+        head: cell,
+        tail: if old.head.is_none() { cell } else { old.tail },
+    }
+}
+
+// What the directory says of a group that is closed or not.
+fn marked(layout: &Layout, group: &Group, closed: bool) -> Directory
+    requires group { IsGroupOf layout.now group.now }
+    ensures directory { result ≡ record group.now.directory { closed = closed } }
+    ensures fits { IsDirectoryOf layout.now group.now.sender
+        (record { sender = group.now.sender; directory = result }) }
+{
+    let old = &group.directory;
+    Directory {
+        closed,
+        sent: old.sent,
+        received: old.received,
+        last_tag: old.last_tag,
+        head: old.head,
+        tail: old.tail,
+    }
+}
+
 // The write that has a cell followed by another one.
 fn link_write(layout: &Layout, before: &Neighbour, next: Addr) -> SlotWrite
     requires before { IsNeighbourAt layout.now before.now.at before.now }
@@ -192,6 +351,36 @@ fn unlink_write(layout: &Layout, after: &Neighbour) -> SlotWrite
 {
     let unlinked = CellSlot::Used(preceded(&after.cell, Addr::NONE));
     cell_write(layout, after.at, &CellSlot::Used(after.cell), &unlinked)
+}
+
+// The write that has no cell behind a cell.
+fn cut_write(layout: &Layout, before: &Neighbour) -> SlotWrite
+    requires before { IsNeighbourAt layout.now before.now.at before.now }
+    ensures write { write_of layout.now result ≡ record {
+      at = before.now.at;
+      before = Used before.now.cell;
+      after = Used (with_next 0 before.now.cell);
+    } }
+    ensures slots { IsSlotWrite layout.now result }
+{
+    let cut = CellSlot::Used(followed(&before.cell, Addr::NONE));
+    cell_write(layout, before.at, &CellSlot::Used(before.cell), &cut)
+}
+
+// The write that has another cell before a cell.
+fn lead_write(layout: &Layout, after: &Neighbour, first: Addr) -> SlotWrite
+    requires after { IsNeighbourAt layout.now after.now.at after.now }
+    requires first { IsCellAddress layout.now first }
+    ensures write { write_of layout.now result ≡ record {
+      at = after.now.at;
+      before = Used after.now.cell;
+      after = Used (with_prev first after.now.cell);
+    } }
+    ensures slots { IsSlotWrite layout.now result }
+{
+    prove!(first.page() < layout.pages() as u64);
+    let led = CellSlot::Used(preceded(&after.cell, first));
+    cell_write(layout, after.at, &CellSlot::Used(after.cell), &led)
 }
 
 // The cell, followed by another one.
