@@ -15,3 +15,7 @@ head_told bytes = refl
 pub next_told : (bytes : List ℕ) → number_at 8 24 bytes ≡ (cell_in bytes).next
 unfolding cell_in
 next_told bytes = refl
+
+pub prev_told : (bytes : List ℕ) → number_at 8 32 bytes ≡ (cell_in bytes).prev
+unfolding cell_in
+prev_told bytes = refl

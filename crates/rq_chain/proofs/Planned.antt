@@ -1,16 +1,20 @@
 -- Plans of operations, as the level answers them.
-use Rattle.std.proofs.Common.{◌≡◌, ℕ, zero, suc, arith, ◌+◌, ◌<◌, ◌≤◌, ◌^◌, List, reverse, Option, Some, refl, sym, ap, ◌∙◌, subst}
-use Rattle.rq_model.specs.declared.record.Deed.TheVariants.{Append, UnlinkHead}
+use Rattle.std.specs.Bool.{beq}
+use Rattle.std.proofs.lemmas.Bool.{true≢false}
+use Rattle.std.proofs.Common.{◌≡◌, ℕ, zero, suc, arith, ◌+◌, ◌<◌, ◌≤◌, ◌^◌, Bool, true, false, not, List, [], ◌∷◌, reverse, Option, Some, Result, Ok, Err, IfOk, IfErr, refl, sym, ap, ◌∙◌, subst}
+use Rattle.rq_model.specs.declared.record.Deed.TheVariants.{Append, UnlinkHead, Close}
+use Rattle.rq_model.specs.declared.refusal.Refusal.{Refusal}
+use Rattle.rq_views.specs.Log.{Write}
 use Rattle.rq_model.specs.Deeds.{spelled_deed}
 use Rattle.rq_page.specs.declared.cell.Cell.{Cell}
 use Rattle.rq_page.specs.declared.directory.Directory.{Directory}
 use Rattle.rq_page.specs.Sizes.{Sizes, directory_at, sender_count}
 use Rattle.rq_page.specs.Slots.Slot.{Used, Sender}
-use Rattle.rq_views.specs.Plans.{append_writes, unlink_head_writes}
+use Rattle.rq_views.specs.Plans.{append_writes, unlink_head_writes, unlink_tail_writes, put_back_writes, directory_write}
 use Rattle.rq_views.specs.Items.{layout_of}
 use Rattle.rq_level.specs.Kept.{Kept, IsLowest, reserved_at}
 use Rattle.rq_level.specs.Given.{GivenHolds}
-use Rattle.rq_level.specs.ChainPlans.{Beside, IsSent, CanReceive, IsReceived}
+use Rattle.rq_level.specs.ChainPlans.{Beside, IsSent, CanReceive, IsReceived, CanMark, IsMarked, CanUnlinkTail, IsTailUnlinked, IsReturned, IsReopened, IsInverse, RefusesOther, Undoes}
 use Rattle.rq_level.specs.Writes.{writes_of, AreSlotWrites}
 use Rattle.rq_level.specs.declared.slots.Given.{Given}
 use Rattle.rq_level.specs.declared.writes.Plan.{Plan}
@@ -72,3 +76,80 @@ no_head z given s at d at_is h none can =
 pub positive : (a : ℕ) → (a ≡ 0 → ⊥) → 0 < a
 positive zero h = absurd (h refl)
 positive (suc n) h = omega arith
+
+-- states that compare as different are
+pub differs : (a b : Bool) → beq a b ≡ false → a ≡ b → ⊥
+differs true true e = λ _. true≢false e
+differs false false e = λ _. true≢false e
+differs true false e = λ same. true≢false same
+differs false true e = λ same. true≢false (sym same)
+
+-- one of two states is the other's opposite
+pub opposite : (a b : Bool) → (a ≡ b → ⊥) → a ≡ not b
+opposite true true n = absurd (n refl)
+opposite true false n = refl
+opposite false true n = refl
+opposite false false n = absurd (n refl)
+
+pub is_marked : (z : Sizes) (given : List Given) (s : ℕ) (closed : Bool) (p : Plan) (g : Group) → s < sender_count z → g.sender ≡ s → GivenHolds z given (directory_at s) (Sender s g.directory)
+    → (g.directory.closed ≡ closed → ⊥) → reverse (writes_of z p.writes.items) ≡ directory_write (layout_of z) g.sender g.directory (record g.directory { closed = closed }) ∷ []
+    → AreSlotWrites z p.writes.items → IsMarked z given s closed p
+is_marked z given s closed p g below own holds other writes slots = record {
+  can = record { below = below; directory = g.directory; directory_is = holds; other = opposite g.directory.closed closed other };
+  writes = writes ∙ ap (λ (n : ℕ). directory_write (layout_of z) n g.directory (record g.directory { closed = closed }) ∷ []) own;
+  slots = slots;
+}
+
+pub is_unlinked : (z : Sizes) (k : Kept) (given : List Given) (s n previous : ℕ) (p : Plan) (g : Group) (tail : Neighbour) (front : Option Neighbour) (at behind : ℕ)
+    → s < sender_count z → g.sender ≡ s → GivenHolds z given (directory_at s) (Sender s g.directory)
+    → g.directory.received < g.directory.sent → g.directory.sent ≡ n → 0 < at → at ≡ g.directory.tail → GivenHolds z given at (Used tail.cell) → tail.cell.sequence ≡ n
+    → behind ≡ tail.cell.prev → Beside z given behind (cell_beside front)
+    → reverse (writes_of z p.writes.items) ≡ unlink_tail_writes (layout_of z) g.sender g.directory tail.cell previous (cell_beside front)
+    → AreSlotWrites z p.writes.items → IsInverse p → IsTailUnlinked z k given s n previous p k
+is_unlinked z k given s n previous p g tail front at behind below own holds some sequence used at_is tail_is last behind_is beside writes slots inverse = record {
+  can = record {
+    below = below;
+    directory = g.directory;
+    directory_is = holds;
+    some = some;
+    sequence = sequence;
+    used = subst (λ (a : ℕ). 0 < a) at_is used;
+    cell = tail.cell;
+    tail_is = subst (λ (a : ℕ). GivenHolds z given a (Used tail.cell)) at_is tail_is;
+    last = last;
+    front = cell_beside front;
+    beside = subst (λ (a : ℕ). Beside z given a (cell_beside front)) behind_is beside;
+  };
+  writes = writes ∙ ap (λ (m : ℕ). unlink_tail_writes (layout_of z) m g.directory tail.cell previous (cell_beside front)) own;
+  slots = slots;
+  inverse = inverse;
+  kept = refl;
+}
+
+pub is_returned : (z : Sizes) (k : Kept) (given : List Given) (latched : List ℕ) (s n tag : ℕ) (body : List ℕ) (p : Plan) (after : Kept) (g : Group) (head : Option Neighbour) (new at : ℕ)
+    → s < sender_count z → g.sender ≡ s → GivenHolds z given (directory_at s) (Sender s g.directory) → 0 < g.directory.received → g.directory.received ≡ n
+    → at ≡ g.directory.head → Beside z given at (cell_beside head) → IsLowest z k latched new
+    → reverse (writes_of z p.writes.items) ≡ put_back_writes (layout_of z) g.sender g.directory new tag body (cell_beside head)
+    → AreSlotWrites z p.writes.items → IsInverse p → after ≡ reserved_at z k new → IsReturned z k given latched s n tag body p after
+is_returned z k given latched s n tag body p after g head new at below own holds some sequence at_is beside lowest writes slots inverse kept = record {
+  can = record { below = below; directory = g.directory; directory_is = holds; some = some; sequence = sequence; old = cell_beside head; beside = subst (λ (a : ℕ). Beside z given a (cell_beside head)) at_is beside };
+  new = new;
+  lowest = lowest;
+  writes = writes ∙ ap (λ (m : ℕ). put_back_writes (layout_of z) m g.directory new tag body (cell_beside head)) own;
+  slots = slots;
+  inverse = inverse;
+  kept = kept;
+}
+
+-- no message can be taken off the end where no cell stands there
+pub no_tail : (z : Sizes) (given : List Given) (s n at : ℕ) (d : Directory) → at ≡ d.tail → GivenHolds z given (directory_at s) (Sender s d)
+    → ((c : Cell) → GivenHolds z given at (Used c) → ⊥) → CanUnlinkTail z given s n → ⊥
+no_tail z given s n at d at_is h none can =
+    let e : Sender s d ≡ Sender s can.directory = holds_one z given (directory_at s) (Sender s d) (Sender s can.directory) h can.directory_is in
+    let f : d ≡ can.directory = cc in
+    none can.cell (subst (λ (a : ℕ). GivenHolds z given a (Used can.cell)) (sym (at_is ∙ ap (λ (y : Directory). y.tail) f)) can.tail_is)
+
+pub close_undone : (z : Sizes) (k : Kept) (given : List Given) (latched : List ℕ) (s : ℕ) (r : Result Plan Refusal) → IfOk r (λ p. (k : Kept) → IsReopened z k given s p k)
+    → IfErr r (λ e. RefusesOther (CanMark z given s false) e) → Undoes (Some z) (Some (Close s)) k given latched r k
+close_undone z k given latched s (Ok p) ok err = ok k
+close_undone z k given latched s (Err e) ok err = (err, refl)

@@ -4,7 +4,8 @@ ghost use Rattle.std.specs.Bool.{OnTrue, OnFalse};
 ghost use Rattle.rq_page.specs.Sizes.{Sizes, IsCellAddress, cell_at, cell_count, place_of};
 ghost use Rattle.rq_level.specs.Kept.{Kept, flag_at, may_take, IsLowest, NoneToTake, NoneFree, SomeFree, reserved_at, in_range, told_sizes, is_cell_address, is_free_slot, noted_cell, noted_in, noted};
 ghost use Rattle.rq_level.specs.Given.{AreGiven};
-ghost use Rattle.rq_level.specs.ChainPlans.{CanSend, IsSent, RefusesTaking, CanReceive, IsReceived, RefusesOther, Plans};
+ghost use Rattle.rq_level.specs.ChainPlans.{CanSend, IsSent, RefusesTaking, CanReceive, IsReceived, RefusesOther, CanMark, IsMarked, IsClosed, CanUnlinkTail, IsTailUnlinked, CanPutBack, IsReturned, IsReopened, IsInverse, Plans, Undoes};
+ghost use Rattle.rq_level.specs.declared.writes.Plan.{Plan};
 ghost use Rattle.rq_chain.specs.Doings.{told_one};
 ghost use Rattle.rq_chain.specs.Refusing.{NoCell};
 ghost use Rattle.rq_level.specs.Meaning.{Meaning, meaning_of};
@@ -12,13 +13,13 @@ ghost use Rattle.rq_level.specs.Meaning.{Meaning, meaning_of};
 use crate::doing::{Doing, read_doing};
 use crate::flags::{flag, set_flag};
 use crate::given::{SENT_LIMIT, beside_given, cell_given, group_given, head_of, tail_of};
-use crate::plans::{append, unlink_head};
-use crate::wants::wanted;
+use crate::plans::{append, mark, put_back, unlink_head, unlink_tail};
+use crate::wants::{undo_wanted, wanted};
 use crate::{ChainPlan, Neighbour};
 use byteorder::{BigEndian, ByteOrder};
-use rq_level::{Level, Op, Outcome, PageSet, Plan, Slots, Want, redo_page};
+use rq_level::{Level, Op, Outcome, PageSet, Plan, SlotWrite, Slots, Want, redo_page};
 use rq_model::message::{Body, Message};
-use rq_model::record::{Record, Slot};
+use rq_model::record::{Deed, DeedBytes, Record, Slot};
 use rq_model::refusal::{Damage, NoMemory, Refusal};
 use rq_model::txn::Lsn;
 use rq_page::addr::Addr;
@@ -156,7 +157,7 @@ impl ChainLevel {
                 self.plan_send(alloc, layout, given, latched, *sender, *tag, *body)
             }
             Doing::Receive { sender } => self.plan_receive(alloc, layout, given, *sender),
-            Doing::Close { .. } => Err(Refusal::Damaged(Damage::Page(0))),
+            Doing::Close { sender } => self.plan_close(alloc, layout, given, *sender),
         }
     }
 
@@ -242,6 +243,99 @@ impl ChainLevel {
         })
     }
 
+    // The plan of a close.
+    fn plan_close(
+        &self,
+        alloc: Global,
+        layout: &Layout,
+        given: &Slots,
+        sender: u32,
+    ) -> Result<Plan, Refusal>
+        requires { AreGiven layout.now given.now }
+        ensures ok { IfOk result (λ p. IsClosed layout.now self.now given.now sender p self.now) }
+        ensures err { IfErr result (λ r. RefusesOther (CanMark layout.now given.now sender true) r) }
+    {
+        let writes = marked(alloc, layout, given, sender, true)?;
+        Ok(Plan {
+            writes,
+            deed: encode_deed(&Deed::Close { sender }),
+            reply: Some(Outcome::Closed),
+        })
+    }
+
+    // The plan of what takes back a deed's operation.
+    fn plan_undo(
+        &mut self,
+        alloc: Global,
+        layout: &Layout,
+        deed: &Deed,
+        given: &Slots,
+        latched: &PageSet,
+    ) -> Result<Plan, Refusal>
+        requires { AreGiven layout.now given.now }
+        ensures { Undoes (Some layout.now) (Some deed.now) self.old given.now latched.now.pages result self.new }
+    {
+        match deed {
+            Deed::Append {
+                sender,
+                sequence,
+                previous,
+                ..
+            } => unlinked_tail(alloc, layout, given, *sender, *sequence, *previous),
+            Deed::UnlinkHead {
+                sender,
+                sequence,
+                tag,
+                body,
+            } => self.plan_return(
+                alloc, layout, given, latched, *sender, *sequence, *tag, *body,
+            ),
+            Deed::Close { sender } => reopened(alloc, layout, given, *sender),
+        }
+    }
+
+    // The plan of the inverse of a receive.
+    fn plan_return(
+        &mut self,
+        alloc: Global,
+        layout: &Layout,
+        given: &Slots,
+        latched: &PageSet,
+        sender: u32,
+        sequence: u64,
+        tag: u64,
+        body: Body,
+    ) -> Result<Plan, Refusal>
+        requires { AreGiven layout.now given.now }
+        ensures ok { IfOk result (λ p. IsReturned layout.now self.old given.now latched.now.pages sender sequence tag
+            body p self.new) }
+        ensures err { IfErr result (λ r. RefusesTaking layout.now self.old latched.now.pages
+            (CanPutBack layout.now given.now sender sequence) r) }
+        ensures kept { OnErr result (self.new ≡ self.old) }
+    {
+        let damaged = Refusal::Damaged(Damage::Page(1));
+        if sender >= layout.senders() {
+            return Err(damaged);
+        }
+        let Some(group) = group_given(layout, given, sender) else {
+            return Err(damaged);
+        };
+        if group.directory.received == 0 || group.directory.received != sequence {
+            return Err(damaged);
+        }
+        let Some(head) = beside_given(layout, given, head_of(&group)) else {
+            return Err(damaged);
+        };
+        let Some(free) = self.lowest(layout, latched) else {
+            return Err(self.no_cell(layout));
+        };
+        let Ok(writes) = put_back(alloc, layout, &group, head, free, tag, body) else {
+            return Err(Refusal::NoMemory);
+        };
+        self.reserve(layout, free);
+        Ok(inverse(writes))
+    }
+
     // Why no cell may be taken, where none may.
     fn no_cell(&self, layout: &Layout) -> Refusal
         ensures { NoCell layout.now self.now result }
@@ -268,7 +362,12 @@ impl Level for ChainLevel {
     }
 
     fn want(&self, op: &Op, given: &Slots) -> Want {
-        match wanted(read_doing(op.bytes()), given) {
+        let next = if op.is_undo() {
+            undo_wanted(&decode_deed(op.bytes()), given)
+        } else {
+            wanted(read_doing(op.bytes()), given)
+        };
+        match next {
             None => Want::Ready,
             Some(at) => Want::Slot(at),
         }
@@ -292,12 +391,21 @@ impl Level for ChainLevel {
 
     fn undo(
         &mut self,
-        _alloc: Global,
-        _told: &Record,
-        _given: &Slots,
-        _latched: &PageSet,
+        alloc: Global,
+        told: &Record,
+        given: &Slots,
+        latched: &PageSet,
     ) -> Result<Plan, Refusal> {
-        Err(Refusal::Damaged(Damage::Page(0)))
+        let Record::OpEnd { deed, .. } = told else {
+            return Err(Refusal::Damaged(Damage::Page(0)));
+        };
+        let Some(layout) = self.layout else {
+            return Err(Refusal::Damaged(Damage::Page(0)));
+        };
+        let Some(deed) = decode_deed(deed.as_slice()) else {
+            return Err(Refusal::Damaged(Damage::Page(0)));
+        };
+        self.plan_undo(alloc, &layout, &deed, given, latched)
     }
 
     fn redo(&mut self, page: &mut Page, lsn: Lsn, told: &Record) -> bool {
@@ -307,6 +415,105 @@ impl Level for ChainLevel {
     fn noted(&mut self, at: Addr, bytes: &Slot) {
         self.note(at, bytes);
     }
+}
+
+// The write that closes a group or opens it again, where it is not so already.
+fn marked(
+    alloc: Global,
+    layout: &Layout,
+    given: &Slots,
+    sender: u32,
+    closed: bool,
+) -> Result<Vec<SlotWrite>, Refusal>
+    requires { AreGiven layout.now given.now }
+    ensures ok { IfOk result (λ writes. (p : Plan) → p.writes ≡ writes → IsMarked layout.now given.now sender closed p) }
+    ensures err { IfErr result (λ r. RefusesOther (CanMark layout.now given.now sender closed) r) }
+{
+    let damaged = Refusal::Damaged(Damage::Page(1));
+    if sender >= layout.senders() {
+        return Err(damaged);
+    }
+    let Some(group) = group_given(layout, given, sender) else {
+        return Err(damaged);
+    };
+    if group.directory.closed == closed {
+        return Err(damaged);
+    }
+    match mark(alloc, layout, &group, closed) {
+        Ok(writes) => Ok(writes),
+        Err(NoMemory) => Err(Refusal::NoMemory),
+    }
+}
+
+// The plan of the inverse of a close.
+fn reopened(alloc: Global, layout: &Layout, given: &Slots, sender: u32) -> Result<Plan, Refusal>
+    requires { AreGiven layout.now given.now }
+    ensures ok { IfOk result (λ p. (k : Kept) → IsReopened layout.now k given.now sender p k) }
+    ensures err { IfErr result (λ r. RefusesOther (CanMark layout.now given.now sender false) r) }
+{
+    let writes = marked(alloc, layout, given, sender, false)?;
+    Ok(inverse(writes))
+}
+
+// The plan of the inverse of a send.
+fn unlinked_tail(
+    alloc: Global,
+    layout: &Layout,
+    given: &Slots,
+    sender: u32,
+    sequence: u64,
+    previous: u64,
+) -> Result<Plan, Refusal>
+    requires { AreGiven layout.now given.now }
+    ensures ok { IfOk result (λ p. (k : Kept) → IsTailUnlinked layout.now k given.now sender sequence previous p k) }
+    ensures err { IfErr result (λ r. RefusesOther (CanUnlinkTail layout.now given.now sender sequence) r) }
+{
+    let damaged = Refusal::Damaged(Damage::Page(1));
+    if sender >= layout.senders() {
+        return Err(damaged);
+    }
+    let Some(group) = group_given(layout, given, sender) else {
+        return Err(damaged);
+    };
+    let directory = &group.directory;
+    if directory.received >= directory.sent
+        || directory.sent != sequence
+        || tail_of(&group).is_none()
+    {
+        return Err(damaged);
+    }
+    let Some(tail) = cell_given(layout, given, tail_of(&group)) else {
+        return Err(damaged);
+    };
+    if tail.cell.sequence != sequence {
+        return Err(damaged);
+    }
+    let Some(front) = beside_given(layout, given, front_of(&tail)) else {
+        return Err(damaged);
+    };
+    match unlink_tail(alloc, layout, &group, &tail, front, previous) {
+        Ok(writes) => Ok(inverse(writes)),
+        Err(NoMemory) => Err(Refusal::NoMemory),
+    }
+}
+
+// The plan of an inverse, with these writes.
+fn inverse(writes: Vec<SlotWrite>) -> Plan
+    ensures writes { result.writes ≡ writes }
+    ensures inverse { IsInverse result }
+{
+    Plan {
+        writes,
+        deed: DeedBytes::new(&[]).unwrap(),
+        reply: Some(Outcome::Undone),
+    }
+}
+
+// The cell before the one beside.
+fn front_of(tail: &Neighbour) -> Addr
+    ensures { result ≡ tail.now.cell.prev }
+{
+    tail.cell.prev
 }
 
 // What the end of a receive answers.

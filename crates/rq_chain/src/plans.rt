@@ -279,7 +279,11 @@ fn tail_unlinked(layout: &Layout, group: &Group, tail: &Cell, previous: u64) -> 
         sent: old.sent - 1,
         received: old.received,
         last_tag: previous,
-        head: if front.is_none() { Addr::NONE } else { old.head },
+        head: if front.is_none() {
+            Addr::NONE
+        } else {
+            old.head
+        },
         tail: front,
     }
 }

@@ -4,14 +4,14 @@ ghost use Rattle.rq_bytes.specs.Number.{number_at};
 ghost use Rattle.rq_page.specs.Cells.{cell_in, cell_slot_in};
 ghost use Rattle.rq_page.specs.Directories.{directory_in};
 ghost use Rattle.rq_page.specs.Sizes.{directory_at};
-ghost use Rattle.rq_level.specs.ChainPlans.{behind, link_wanted, head_wanted, unless_given, wanted};
+ghost use Rattle.rq_level.specs.ChainPlans.{before, behind, link_wanted, head_wanted, tail_wanted, unless_given, undo_wanted, wanted};
 ghost use Rattle.rq_level.specs.Given.{given_at};
 ghost use Rattle.rq_chain.specs.Doings.{told};
 
 use crate::doing::Doing;
 use byteorder::{BigEndian, ByteOrder};
 use rq_level::Slots;
-use rq_model::record::Slot;
+use rq_model::record::{Deed, Slot};
 use rq_page::addr::Addr;
 use rq_page::layout::SLOTS;
 
@@ -36,6 +36,30 @@ pub(crate) fn wanted(doing: Option<Doing>, given: &Slots) -> Option<Addr>
             }
         }
         Some(Doing::Close { sender }) => slot_wanted(directory_addr(sender), given),
+    }
+}
+
+/// The slot that is wanted next, of those that the inverse of a deed's operation writes; none where all are given.
+pub(crate) fn undo_wanted(deed: &Option<Deed>, given: &Slots) -> Option<Addr>
+    ensures { result ≡ undo_wanted deed.now given.now }
+{
+    match deed {
+        None => None,
+        Some(Deed::Append { sender, .. }) => {
+            let at = directory_addr(*sender);
+            match given.get(at) {
+                None => Some(at),
+                Some(bytes) => tail_wanted(tail_in(bytes), given),
+            }
+        }
+        Some(Deed::UnlinkHead { sender, .. }) => {
+            let at = directory_addr(*sender);
+            match given.get(at) {
+                None => Some(at),
+                Some(bytes) => link_wanted(head_in(bytes), given),
+            }
+        }
+        Some(Deed::Close { sender }) => slot_wanted(directory_addr(*sender), given),
     }
 }
 
@@ -89,6 +113,29 @@ fn behind(bytes: &Slot, given: &Slots) -> Option<Addr>
     link_wanted(next_in(bytes), given)
 }
 
+// The tail's slot, and then the one before it.
+fn tail_wanted(at: Addr, given: &Slots) -> Option<Addr>
+    ensures { result ≡ tail_wanted at given.now }
+{
+    if at.number() == 0 {
+        return None;
+    }
+    match given.get(at) {
+        None => Some(at),
+        Some(bytes) => before(bytes, given),
+    }
+}
+
+// The slot before a cell.
+fn before(bytes: &Slot, given: &Slots) -> Option<Addr>
+    ensures { result ≡ before (cell_slot_in bytes.now) given.now }
+{
+    if bytes[0] == 0 {
+        return None;
+    }
+    link_wanted(prev_in(bytes), given)
+}
+
 // The links in the bytes of a slot.
 
 fn tail_in(bytes: &Slot) -> Addr
@@ -107,6 +154,12 @@ fn next_in(bytes: &Slot) -> Addr
     ensures { result ≡ (cell_in bytes.now).next }
 {
     Addr::from_number(u64_at(bytes, 24))
+}
+
+fn prev_in(bytes: &Slot) -> Addr
+    ensures { result ≡ (cell_in bytes.now).prev }
+{
+    Addr::from_number(u64_at(bytes, 32))
 }
 
 fn u64_at(bytes: &[u8], at: usize) -> u64

@@ -11,7 +11,10 @@ use Rattle.rq_level.specs.Kept.{Kept, noted, noted_in, noted_cell, told_sizes, i
 use Rattle.rq_level.specs.Ops.{Doing, doing_in}
 use Rattle.rq_level.specs.Ops.Doing.{Send, Receive, Close}
 use Rattle.rq_level.specs.Given.{given_at}
-use Rattle.rq_level.specs.ChainPlans.{unless_given, link_wanted, behind, behind_head, head_wanted, send_wants, receive_wants, wanted}
+use Rattle.rq_level.specs.ChainPlans.{unless_given, link_wanted, behind, behind_head, head_wanted, send_wants, receive_wants, wanted, before, before_tail, tail_wanted, unlink_tail_wants, put_back_wants, undo_wanted}
+use Rattle.rq_model.specs.Deeds.{deed_in}
+use Rattle.rq_model.specs.declared.record.Deed.{Deed}
+use Rattle.rq_model.specs.declared.record.Deed.TheVariants.{Append, UnlinkHead, Close as Close_deed}
 use Rattle.rq_level.specs.Meaning.{Meaning, meaning_of}
 use Rattle.rq_level.specs.Lawful.{IsNotGiven, IsLawful, AllLawful}
 use Rattle.rq_level.specs.declared.slots.Given.{Given}
@@ -48,6 +51,35 @@ asks_chain given (Some (Send s tag body)) = send given s (given_at (directory_at
 asks_chain given (Some (Receive s)) = receive given s (given_at (directory_at s) given) refl
 asks_chain given (Some (Close s)) = unless given (directory_at s) (given_at (directory_at s) given) refl
 
+before_is : (given : List Given) (c : CellSlot) → IsNotGiven given (before c given)
+before_is given cells.Free = tt
+before_is given (cells.Used c) = link given c.prev
+
+after_tail : (given : List Given) (a : ℕ) (o : Option (List ℕ)) → given_at a given ≡ o → IsNotGiven given (before_tail a o given)
+after_tail given a None e = e
+after_tail given a (Some bytes) e = before_is given (cell_slot_in bytes)
+
+tail : (given : List Given) (a : ℕ) → IsNotGiven given (tail_wanted a given)
+tail given a = elim (cases_Bool (nat_eq a 0)) [ inl y ↦ rw y tt | inr n ↦ rw n (after_tail given a (given_at a given) refl) ]
+
+unlinks : (given : List Given) (s : ℕ) (o : Option (List ℕ)) → given_at (directory_at s) given ≡ o → IsNotGiven given (unlink_tail_wants s o given)
+unlinks given s None e = e
+unlinks given s (Some bytes) e = tail given (directory_in bytes).directory.tail
+
+returns : (given : List Given) (s : ℕ) (o : Option (List ℕ)) → given_at (directory_at s) given ≡ o → IsNotGiven given (put_back_wants s o given)
+returns given s None e = e
+returns given s (Some bytes) e = link given (directory_in bytes).directory.head
+
+asks_undo : (given : List Given) (d : Option Deed) → IsNotGiven given (undo_wanted d given)
+asks_undo given None = tt
+asks_undo given (Some (Append s n tag previous body)) = unlinks given s (given_at (directory_at s) given) refl
+asks_undo given (Some (UnlinkHead s n tag body)) = returns given s (given_at (directory_at s) given) refl
+asks_undo given (Some (Close_deed s)) = unless given (directory_at s) (given_at (directory_at s) given) refl
+
+asks_job : (given : List Given) (undo : Bool) (bytes : List ℕ) → IsNotGiven given (cond undo (undo_wanted (deed_in bytes) given) (wanted (doing_in bytes) given))
+asks_job given true bytes = asks_undo given (deed_in bytes)
+asks_job given false bytes = asks_chain given (doing_in bytes)
+
 set_twice : {X : Type 0} (xs : List X) (i : ℕ) (x y : X) → set (set xs i x) i y ≡ set xs i y
 set_twice [] i x y = refl
 set_twice (z ∷ xs) zero x y = refl
@@ -79,5 +111,5 @@ keeps_room k a x = elim (cases_Bool (nat_eq a 1)) [ inl b ↦ rw b refl | inr n 
 pub all_lawful : AllLawful
 unfolding meaning_of
 all_lawful zero = record { asks = λ job given. tt; last = λ k a x y. refl; room = λ k a x. refl }
-all_lawful (suc zero) = record { asks = λ job given. asks_chain given (doing_in job.bytes); last = twice; room = keeps_room }
+all_lawful (suc zero) = record { asks = λ job given. asks_job given job.undo job.bytes; last = twice; room = keeps_room }
 all_lawful (suc (suc n)) = record { asks = λ job given. tt; last = λ k a x y. refl; room = λ k a x. refl }

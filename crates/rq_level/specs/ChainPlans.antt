@@ -1,10 +1,13 @@
 -- What the level of chains answers to an operation that is to be planned, from the slots that it was given.
-use Rattle.std.specs.Prelude.{◌≡◌, ℕ, ◌+◌, ◌<◌, ◌≤◌, ◌^◌, ◌/◌, ◌%◌, cond, nat_eq, List, [], ◌∷◌, reverse, Option, None, Some, Result, Ok, Err}
+use Rattle.std.specs.Prelude.{◌≡◌, ℕ, ◌+◌, ◌<◌, ◌≤◌, ◌^◌, ◌/◌, ◌%◌, Bool, true, false, not, cond, nat_eq, List, [], ◌∷◌, reverse, Option, None, Some, Result, Ok, Err}
 use Rattle.rq_model.specs.declared.message.Message.{Message}
+use Rattle.rq_model.specs.declared.record.Deed.{Deed}
 use Rattle.rq_model.specs.declared.record.Deed.TheVariants.{Append, UnlinkHead, Close as Close_deed}
+use Rattle.rq_model.specs.declared.record.Record.{Record}
+use Rattle.rq_model.specs.declared.record.Record.TheVariants.{OpEnd}
 use Rattle.rq_model.specs.declared.refusal.Refusal.{Refusal}
 use Rattle.rq_model.specs.declared.refusal.Refusal.TheVariants as why
-use Rattle.rq_model.specs.Deeds.{spelled_deed}
+use Rattle.rq_model.specs.Deeds.{spelled_deed, deed_in}
 use Rattle.rq_page.specs.declared.cell.Cell.{Cell}
 use Rattle.rq_page.specs.declared.cell.CellSlot.{CellSlot}
 use Rattle.rq_page.specs.declared.cell.CellSlot.TheVariants as cells
@@ -13,7 +16,7 @@ use Rattle.rq_page.specs.Cells.{cell_slot_in}
 use Rattle.rq_page.specs.Directories.{directory_in}
 use Rattle.rq_page.specs.Sizes.{Sizes, directory_at, sender_count}
 use Rattle.rq_page.specs.Slots.Slot.{Free, Used, Sender}
-use Rattle.rq_views.specs.Plans.{append_writes, unlink_head_writes, directory_write}
+use Rattle.rq_views.specs.Plans.{append_writes, unlink_head_writes, unlink_tail_writes, put_back_writes, directory_write}
 use Rattle.rq_views.specs.Items.{layout_of}
 use Rattle.rq_level.specs.Kept.{Kept, IsLowest, NoneToTake, NoneFree, SomeFree, reserved_at}
 use Rattle.rq_level.specs.Ops.{Job, Doing, doing_in}
@@ -70,6 +73,84 @@ pub record IsReceived (z : Sizes) (k : Kept) (given : List Given) (s : ℕ) (p :
   pub reply : p.reply ≡ Some (gives.Message (record { sender = s; tag = can.cell.tag; body = can.cell.body }))
   pub kept : after ≡ k
 
+-- the slots hold what a close needs, or what opening again does: a group that is not as it shall be
+pub record CanMark (z : Sizes) (given : List Given) (s : ℕ) (closed : Bool) : Type 0 where
+  pub below : s < sender_count z
+  pub directory : Directory
+  pub directory_is : GivenHolds z given (directory_at s) (Sender s directory)
+  pub other : directory.closed ≡ not closed
+
+-- the write that closes a group or opens it again
+pub record IsMarked (z : Sizes) (given : List Given) (s : ℕ) (closed : Bool) (p : Plan) : Type 0 where
+  pub can : CanMark z given s closed
+  pub writes : reverse (writes_of z p.writes.items) ≡ directory_write (layout_of z) s can.directory
+      (record can.directory { closed = closed }) ∷ []
+  pub slots : AreSlotWrites z p.writes.items
+
+-- the plan of a close
+pub record IsClosed (z : Sizes) (k : Kept) (given : List Given) (s : ℕ) (p : Plan) (after : Kept) : Type 0 where
+  pub marked : IsMarked z given s true p
+  pub deed : p.deed ≡ spelled_deed (Close_deed s)
+  pub reply : p.reply ≡ Some gives.Closed
+  pub kept : after ≡ k
+
+-- the plan of an inverse tells no deed, and its end answers that something is undone
+pub record IsInverse (p : Plan) : Type 0 where
+  pub deed : p.deed ≡ []
+  pub reply : p.reply ≡ Some gives.Undone
+
+-- the slots hold what the inverse of a send needs: its message is the group's last
+pub record CanUnlinkTail (z : Sizes) (given : List Given) (s n : ℕ) : Type 0 where
+  pub below : s < sender_count z
+  pub directory : Directory
+  pub directory_is : GivenHolds z given (directory_at s) (Sender s directory)
+  pub some : directory.received < directory.sent
+  pub sequence : directory.sent ≡ n
+  pub used : 0 < directory.tail
+  pub cell : Cell
+  pub tail_is : GivenHolds z given directory.tail (Used cell)
+  pub last : cell.sequence ≡ n
+  pub front : Option Cell
+  pub beside : Beside z given cell.prev front
+
+-- the plan of the inverse of a send
+pub record IsTailUnlinked (z : Sizes) (k : Kept) (given : List Given) (s n previous : ℕ) (p : Plan)
+    (after : Kept) : Type 0 where
+  pub can : CanUnlinkTail z given s n
+  pub writes : reverse (writes_of z p.writes.items)
+      ≡ unlink_tail_writes (layout_of z) s can.directory can.cell previous can.front
+  pub slots : AreSlotWrites z p.writes.items
+  pub inverse : IsInverse p
+  pub kept : after ≡ k
+
+-- the slots hold what the inverse of a receive needs: its message is the last that was received
+pub record CanPutBack (z : Sizes) (given : List Given) (s n : ℕ) : Type 0 where
+  pub below : s < sender_count z
+  pub directory : Directory
+  pub directory_is : GivenHolds z given (directory_at s) (Sender s directory)
+  pub some : 0 < directory.received
+  pub sequence : directory.received ≡ n
+  pub old : Option Cell
+  pub beside : Beside z given directory.head old
+
+-- the plan of the inverse of a receive, into the lowest free cell
+pub record IsReturned (z : Sizes) (k : Kept) (given : List Given) (latched : List ℕ) (s n tag : ℕ) (body : List ℕ)
+    (p : Plan) (after : Kept) : Type 0 where
+  pub can : CanPutBack z given s n
+  pub new : ℕ
+  pub lowest : IsLowest z k latched new
+  pub writes : reverse (writes_of z p.writes.items)
+      ≡ put_back_writes (layout_of z) s can.directory new tag body can.old
+  pub slots : AreSlotWrites z p.writes.items
+  pub inverse : IsInverse p
+  pub kept : after ≡ reserved_at z k new
+
+-- the plan of the inverse of a close
+pub record IsReopened (z : Sizes) (k : Kept) (given : List Given) (s : ℕ) (p : Plan) (after : Kept) : Type 0 where
+  pub marked : IsMarked z given s false p
+  pub inverse : IsInverse p
+  pub kept : after ≡ k
+
 -- why an operation that takes a free cell has no plan, where the slots hold what it needs if Can
 abbrev pub RefusesTaking : Sizes → Kept → List ℕ → Type 0 → Refusal → Type 0
 RefusesTaking z k latched Can why.NoMemory = Unit {0}
@@ -83,16 +164,40 @@ RefusesOther Can why.NoMemory = Unit {0}
 RefusesOther Can (why.Damaged d) = Can → ⊥
 RefusesOther Can _ = ⊥
 
--- What the level answers, and what it keeps then. Of a store whose sizes it was not told, and of bytes that it does not read, nothing is said.
+-- What the level answers, and what it keeps then. Of a store whose sizes it was not told, and of bytes that it does not
+-- read, nothing is said.
 abbrev pub Plans : Option Sizes → Option Doing → Kept → List Given → List ℕ → Result Plan Refusal → Kept → Type 0
 Plans (Some z) (Some (Send s tag body)) k given latched (Ok p) after = IsSent z k given latched s tag body p after
-Plans (Some z) (Some (Send s tag body)) k given latched (Err r) after = RefusesTaking z k latched (CanSend z given s) r × (after ≡ k)
+Plans (Some z) (Some (Send s tag body)) k given latched (Err r) after =
+    RefusesTaking z k latched (CanSend z given s) r × (after ≡ k)
 Plans (Some z) (Some (Receive s)) k given latched (Ok p) after = IsReceived z k given s p after
 Plans (Some z) (Some (Receive s)) k given latched (Err r) after = RefusesOther (CanReceive z given s) r × (after ≡ k)
+Plans (Some z) (Some (Close s)) k given latched (Ok p) after = IsClosed z k given s p after
+Plans (Some z) (Some (Close s)) k given latched (Err r) after = RefusesOther (CanMark z given s true) r × (after ≡ k)
 Plans _ _ k given latched r after = Unit {0}
 
 abbrev pub chain_plans : Kept → Job → List Given → List ℕ → Result Plan Refusal → Kept → Type 0
 chain_plans k job given latched r after = Plans k.sizes (doing_in job.bytes) k given latched r after
+
+-- the same of the inverse of what a deed tells
+abbrev pub Undoes : Option Sizes → Option Deed → Kept → List Given → List ℕ → Result Plan Refusal → Kept → Type 0
+Undoes (Some z) (Some (Append s n tag previous body)) k given latched (Ok p) after =
+    IsTailUnlinked z k given s n previous p after
+Undoes (Some z) (Some (Append s n tag previous body)) k given latched (Err r) after =
+    RefusesOther (CanUnlinkTail z given s n) r × (after ≡ k)
+Undoes (Some z) (Some (UnlinkHead s n tag body)) k given latched (Ok p) after =
+    IsReturned z k given latched s n tag body p after
+Undoes (Some z) (Some (UnlinkHead s n tag body)) k given latched (Err r) after =
+    RefusesTaking z k latched (CanPutBack z given s n) r × (after ≡ k)
+Undoes (Some z) (Some (Close_deed s)) k given latched (Ok p) after = IsReopened z k given s p after
+Undoes (Some z) (Some (Close_deed s)) k given latched (Err r) after =
+    RefusesOther (CanMark z given s false) r × (after ≡ k)
+Undoes _ _ k given latched r after = Unit {0}
+
+-- a record that ends an operation tells its deed
+abbrev pub chain_undoes : Kept → Record → List Given → List ℕ → Result Plan Refusal → Kept → Type 0
+chain_undoes k (OpEnd t n level deed) given latched r after = Undoes k.sizes (deed_in deed) k given latched r after
+chain_undoes k _ given latched r after = Unit {0}
 
 -- the slot that a link names, where it was not given
 abbrev pub unless_given : ℕ → Option (List ℕ) → Option ℕ
@@ -127,3 +232,34 @@ wanted None given = None
 wanted (Some (Send s tag body)) given = send_wants s (given_at (directory_at s) given) given
 wanted (Some (Receive s)) given = receive_wants s (given_at (directory_at s) given) given
 wanted (Some (Close s)) given = unless_given (directory_at s) (given_at (directory_at s) given)
+
+-- the slot before the tail, if the tail's slot holds a cell
+abbrev pub before : CellSlot → List Given → Option ℕ
+before cells.Free given = None
+before (cells.Used c) given = link_wanted c.prev given
+
+abbrev pub before_tail : ℕ → Option (List ℕ) → List Given → Option ℕ
+before_tail tail None given = Some tail
+before_tail tail (Some bytes) given = before (cell_slot_in bytes) given
+
+abbrev pub tail_wanted : ℕ → List Given → Option ℕ
+tail_wanted tail given = cond (nat_eq tail 0) None (before_tail tail (given_at tail given) given)
+
+abbrev pub unlink_tail_wants : ℕ → Option (List ℕ) → List Given → Option ℕ
+unlink_tail_wants s None given = Some (directory_at s)
+unlink_tail_wants s (Some bytes) given = tail_wanted (directory_in bytes).directory.tail given
+
+abbrev pub put_back_wants : ℕ → Option (List ℕ) → List Given → Option ℕ
+put_back_wants s None given = Some (directory_at s)
+put_back_wants s (Some bytes) given = link_wanted (directory_in bytes).directory.head given
+
+-- what the inverse of a deed's operation wants
+abbrev pub undo_wanted : Option Deed → List Given → Option ℕ
+undo_wanted None given = None
+undo_wanted (Some (Append s n tag previous body)) given =
+    unlink_tail_wants s (given_at (directory_at s) given) given
+undo_wanted (Some (UnlinkHead s n tag body)) given = put_back_wants s (given_at (directory_at s) given) given
+undo_wanted (Some (Close_deed s)) given = unless_given (directory_at s) (given_at (directory_at s) given)
+
+abbrev pub job_wanted : Job → List Given → Option ℕ
+job_wanted job given = cond job.undo (undo_wanted (deed_in job.bytes) given) (wanted (doing_in job.bytes) given)

@@ -9,7 +9,7 @@ use Rattle.rq_page.specs.Pages.{lsn_of, IsWritten}
 use Rattle.rq_level.specs.Kept.{Kept, nothing_kept, noted}
 use Rattle.rq_level.specs.Ops.{Job, doing_in}
 use Rattle.rq_level.specs.Given.{AreGiven}
-use Rattle.rq_level.specs.ChainPlans.{chain_plans, wanted}
+use Rattle.rq_level.specs.ChainPlans.{chain_plans, chain_undoes, job_wanted}
 use Rattle.rq_level.specs.declared.level.Want.{Want}
 use Rattle.rq_level.specs.declared.level.Want.TheVariants as wants
 use Rattle.rq_level.specs.declared.slots.Given.{Given}
@@ -31,9 +31,9 @@ pub record Meaning : Type 1 where
 abbrev pub chain_meaning : Meaning
 chain_meaning = record {
   reads = λ deed. is_some (deed_in deed);
-  want = λ job given. wanted (doing_in job.bytes) given;
+  want = job_wanted;
   plans = chain_plans;
-  undoes = λ k r given latched answer after. Unit {0};
+  undoes = chain_undoes;
   note = noted;
 }
 

@@ -54,6 +54,37 @@ impl Op {
         Op::of(alloc, 1, false, &front, &[])
     }
 
+    /// To close a sender's group.
+    ///
+    /// # Errors
+    /// `NoMemory`.
+    pub fn close(alloc: Global, sender: u32) -> Result<Op, NoMemory>
+        ensures op { IfOk result (λ op. op ≡ chain_job (Close sender)) }
+        ensures told { IfOk result (λ op. doing_in op.bytes ≡ Some (Close sender)) }
+    {
+        let mut front = [0; 5];
+        front[0] = 3;
+        BigEndian::write_u32(&mut front[1..], sender);
+        Op::of(alloc, 1, false, &front, &[])
+    }
+
+    /// To take back what a deed of a level tells.
+    ///
+    /// # Errors
+    /// `NoMemory`.
+    pub fn undo(alloc: Global, level: u8, deed: &[u8]) -> Result<Op, NoMemory>
+        ensures { IfOk result (λ op. op ≡ record { level = level; undo = true; bytes = deed.now }) }
+    {
+        Op::of(alloc, level, true, deed, &[])
+    }
+
+    /// Whether something is to be taken back.
+    pub fn is_undo(&self) -> bool
+        ensures { result ≡ self.now.undo }
+    {
+        self.undo
+    }
+
     /// Its level.
     pub fn level(&self) -> u8
         ensures { result ≡ self.now.level }
