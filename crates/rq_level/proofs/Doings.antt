@@ -3,7 +3,7 @@ use Rattle.std.proofs.Common.{◌≡◌, ℕ, ◌+◌, ◌^◌, ◌<◌, ◌≤�
 use Rattle.std.proofs.lemmas.Bool.{le-ltb}
 use Rattle.byteorder.specs.Endian.{big_bytes, big_number}
 use Rattle.byteorder.specs.Numbers.{big_number-reads_back}
-use Rattle.rq_level.specs.Ops.{Doing, Send, Receive, doing_in, spelled_doing}
+use Rattle.rq_level.specs.Ops.{Doing, Send, Receive, Close, doing_in, spelled_doing}
 
 some : Doing → Option Doing
 some d = Some d
@@ -19,3 +19,6 @@ send_told s tag body a b c =
 
 pub receive_told : (s : ℕ) → s < 2 ^ 32 → doing_in (spelled_doing (Receive s)) ≡ Some (Receive s)
 receive_told s a = ap (λ (n : ℕ). Some (Receive n)) (big_number-reads_back 4 s [] a)
+
+pub close_told : (s : ℕ) → s < 2 ^ 32 → doing_in (spelled_doing (Close s)) ≡ Some (Close s)
+close_told s a = ap (λ (n : ℕ). Some (Close n)) (big_number-reads_back 4 s [] a)

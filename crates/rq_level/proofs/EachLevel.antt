@@ -8,7 +8,8 @@ use Rattle.rq_page.specs.Cells.{cell_slot_in}
 use Rattle.rq_page.specs.Directories.{directory_in}
 use Rattle.rq_page.specs.Sizes.{Sizes, directory_at, place_of}
 use Rattle.rq_level.specs.Kept.{Kept, noted, noted_in, noted_cell, told_sizes, is_cell_address, is_free_slot}
-use Rattle.rq_level.specs.Ops.{Doing, doing_in}
+use Rattle.rq_level.specs.Ops.{Doing, Overwrite, doing_in, overwrite_in}
+use Rattle.rq_level.specs.PagePlans.{write_wants}
 use Rattle.rq_level.specs.Ops.Doing.{Send, Receive, Close}
 use Rattle.rq_level.specs.Given.{given_at}
 use Rattle.rq_level.specs.ChainPlans.{unless_given, link_wanted, behind, behind_head, head_wanted, send_wants, receive_wants, wanted, before, before_tail, tail_wanted, unlink_tail_wants, put_back_wants, undo_wanted}
@@ -80,6 +81,11 @@ asks_job : (given : List Given) (undo : Bool) (bytes : List ℕ) → IsNotGiven 
 asks_job given true bytes = asks_undo given (deed_in bytes)
 asks_job given false bytes = asks_chain given (doing_in bytes)
 
+asks_page : (given : List Given) (undo : Bool) (w : Option Overwrite) → IsNotGiven given (cond undo None (write_wants w given))
+asks_page given true w = tt
+asks_page given false None = tt
+asks_page given false (Some w) = unless given w.at (given_at w.at given) refl
+
 set_twice : {X : Type 0} (xs : List X) (i : ℕ) (x y : X) → set (set xs i x) i y ≡ set xs i y
 set_twice [] i x y = refl
 set_twice (z ∷ xs) zero x y = refl
@@ -110,6 +116,6 @@ keeps_room k a x = elim (cases_Bool (nat_eq a 1)) [ inl b ↦ rw b refl | inr n 
 
 pub all_lawful : AllLawful
 unfolding meaning_of
-all_lawful zero = record { asks = λ job given. tt; last = λ k a x y. refl; room = λ k a x. refl }
+all_lawful zero = record { asks = λ job given. asks_page given job.undo (overwrite_in job.bytes); last = λ k a x y. refl; room = λ k a x. refl }
 all_lawful (suc zero) = record { asks = λ job given. asks_job given job.undo job.bytes; last = twice; room = keeps_room }
 all_lawful (suc (suc n)) = record { asks = λ job given. tt; last = λ k a x y. refl; room = λ k a x. refl }

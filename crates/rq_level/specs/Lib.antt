@@ -3,5 +3,6 @@ pub mod Ops
 pub mod Given
 pub mod Kept
 pub mod ChainPlans
+pub mod PagePlans
 pub mod Meaning
 pub mod Lawful

@@ -10,6 +10,7 @@ use Rattle.rq_level.specs.Kept.{Kept, nothing_kept, noted}
 use Rattle.rq_level.specs.Ops.{Job, doing_in}
 use Rattle.rq_level.specs.Given.{AreGiven}
 use Rattle.rq_level.specs.ChainPlans.{chain_plans, chain_undoes, job_wanted}
+use Rattle.rq_level.specs.PagePlans.{page_plans, page_undoes, page_wants}
 use Rattle.rq_level.specs.declared.level.Want.{Want}
 use Rattle.rq_level.specs.declared.level.Want.TheVariants as wants
 use Rattle.rq_level.specs.declared.slots.Given.{Given}
@@ -37,6 +38,15 @@ chain_meaning = record {
   note = noted;
 }
 
+abbrev pub page_meaning : Meaning
+page_meaning = record {
+  reads = λ deed. false;
+  want = page_wants;
+  plans = page_plans;
+  undoes = page_undoes;
+  note = λ k a bytes. k;
+}
+
 abbrev pub no_meaning : Meaning
 no_meaning = record {
   reads = λ deed. false;
@@ -48,7 +58,7 @@ no_meaning = record {
 
 -- what the level of this number is
 unfoldable pub meaning_of : ℕ → Meaning
-meaning_of zero = no_meaning
+meaning_of zero = page_meaning
 meaning_of (suc zero) = chain_meaning
 meaning_of (suc (suc n)) = no_meaning
 

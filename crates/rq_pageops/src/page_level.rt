@@ -1,13 +1,20 @@
 //! The level of single slots.
-ghost use Rattle.std.specs.Prelude.{◌≡◌};
+ghost use Rattle.std.specs.Prelude.{◌≡◌, ◌+◌, ◌*◌, ◌<◌, ◌≤◌, ◌^◌, ◌/◌, ◌%◌, [], IfSome, IfNone, IfOk, Some, None};
+ghost use Rattle.rq_level.specs.Kept.{Kept};
+ghost use Rattle.rq_level.specs.Ops.{Overwrite, overwrite_in};
+ghost use Rattle.rq_level.specs.PagePlans.{IsOneWrite, IsWritePlan, PlansWrite, TakesBack};
 
-use rq_level::{Level, Op, PageSet, Plan, Slots, Want, redo_page};
-use rq_model::record::{Record, Slot};
-use rq_model::refusal::{Damage, Refusal};
+use byteorder::{BigEndian, ByteOrder};
+use rq_level::{Level, Op, PageSet, Plan, SlotWrite, Slots, Want, redo_page};
+use rq_model::record::{DeedBytes, Record, Slot};
+use rq_model::refusal::{Damage, NoMemory, Refusal};
 use rq_model::txn::Lsn;
 use rq_page::addr::Addr;
 use rq_page::page::Page;
 use std::alloc::Global;
+
+// An address, and the bytes of a slot.
+const OVERWRITE: usize = 8 + 256;
 
 /// Redo and undo of single slots.
 #[derive(Drop)]
@@ -28,28 +35,46 @@ impl Level for PageLevel {
         false
     }
 
-    fn want(&self, _op: &Op, _given: &Slots) -> Want {
-        Want::Ready
+    fn want(&self, op: &Op, given: &Slots) -> Want {
+        if op.is_undo() {
+            return Want::Ready;
+        }
+        match read_overwrite(op.bytes()) {
+            None => Want::Ready,
+            Some((at, _)) => match given.get(at) {
+                None => Want::Slot(at),
+                Some(_) => Want::Ready,
+            },
+        }
     }
 
     fn plan(
         &mut self,
-        _alloc: Global,
-        _op: &Op,
-        _given: &Slots,
+        alloc: Global,
+        op: &Op,
+        given: &Slots,
         _latched: &PageSet,
     ) -> Result<Plan, Refusal> {
-        Err(Refusal::Damaged(Damage::Page(0)))
+        plan_overwrite(alloc, op.bytes(), given)
     }
 
     fn undo(
         &mut self,
-        _alloc: Global,
-        _told: &Record,
+        alloc: Global,
+        told: &Record,
         _given: &Slots,
         _latched: &PageSet,
     ) -> Result<Plan, Refusal> {
-        Err(Refusal::Damaged(Damage::Page(0)))
+        match told {
+            Record::PageOp {
+                page,
+                slot,
+                before,
+                after,
+                ..
+            } => take_back(alloc, *page, *slot, before, after),
+            _ => Err(Refusal::Damaged(Damage::Page(0))),
+        }
     }
 
     fn redo(&mut self, page: &mut Page, lsn: Lsn, told: &Record) -> bool {
@@ -57,4 +82,79 @@ impl Level for PageLevel {
     }
 
     fn noted(&mut self, _at: Addr, _bytes: &Slot) {}
+}
+
+// The slot that these bytes ask to write over, and what it shall hold; none where they ask for nothing.
+fn read_overwrite(bytes: &[u8]) -> Option<(Addr, &[u8; 256])>
+    ensures some { IfSome result (λ w. overwrite_in bytes.now ≡ Some (record { at = w.0; after = w.1.now })) }
+    ensures slot { IfSome result (λ w. (0 < w.0 % 16) × (w.0 / 16 < 2 ^ 32)) }
+    ensures none { IfNone result (overwrite_in bytes.now ≡ None) }
+{
+    if bytes.len() != OVERWRITE {
+        return None;
+    }
+    let at = Addr::from_number(BigEndian::read_u64(bytes));
+    if at.slot() == 0 {
+        return None;
+    }
+    if at.page() >= 1 << 32 {
+        return None;
+    }
+    match (&bytes[8..]).try_into() {
+        Ok(after) => Some((at, after)),
+        Err(_) => None,
+    }
+}
+
+// The plan of writing over a slot.
+fn plan_overwrite(alloc: Global, bytes: &[u8], given: &Slots) -> Result<Plan, Refusal>
+    ensures { PlansWrite (overwrite_in bytes.now) given.now result }
+{
+    let Some((at, after)) = read_overwrite(bytes) else {
+        return Err(Refusal::Damaged(Damage::Page(0)));
+    };
+    match given.get(at) {
+        None => Err(Refusal::Damaged(Damage::Page(0))),
+        Some(before) => Ok(one_write(alloc, at, before, after)?),
+    }
+}
+
+// The plan of taking a slot write back.
+fn take_back(
+    alloc: Global,
+    page: u32,
+    slot: u8,
+    before: &Slot,
+    after: &Slot,
+) -> Result<Plan, Refusal>
+    ensures { 1 ≤ slot → slot ≤ 15 → TakesBack (page * 16 + slot) before.now after.now result }
+{
+    if slot == 0 || slot > 15 {
+        return Err(Refusal::Damaged(Damage::Page(page)));
+    }
+    match one_write(alloc, Addr::new(page, slot), after, before) {
+        Ok(plan) => Ok(plan),
+        Err(NoMemory) => Err(Refusal::NoMemory),
+    }
+}
+
+// The plan of one write.
+fn one_write(alloc: Global, at: Addr, before: &Slot, after: &Slot) -> Result<Plan, NoMemory>
+    requires page { at / 16 < 2 ^ 32 }
+    requires slot { 0 < at % 16 }
+    ensures { IfOk result (λ p. IsWritePlan at before.now after.now p) }
+{
+    let write = SlotWrite {
+        at,
+        before: *before,
+        after: *after,
+    };
+    match Vec::from_slice(alloc, &[write]) {
+        Ok(writes) => Ok(Plan {
+            writes,
+            deed: DeedBytes::new(&[]).unwrap(),
+            reply: None,
+        }),
+        Err(_) => Err(NoMemory),
+    }
 }
