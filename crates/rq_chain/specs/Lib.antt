@@ -1,3 +1,4 @@
 pub mod Writes
 pub mod Doings
 pub mod Refusing
+pub mod Cells

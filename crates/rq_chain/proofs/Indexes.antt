@@ -1,0 +1,29 @@
+-- The index of free cells.
+use Rattle.std.proofs.Common.{◌≡◌, ℕ, zero, suc, ◌+◌, ◌*◌, ◌/◌, ◌<◌, ◌≤◌, ◌&&◌, not, Bool, true, false, List, [], ◌∷◌, length, replicate, get_or, refl, sym, ap, ◌∙◌, subst, arith, inl, inr}
+use Rattle.std.proofs.lemmas.Bool.{cases_Bool, true≢false}
+use Rattle.std.proofs.lemmas.List.{length-replicate}
+use Rattle.rq_page.specs.Sizes.{Sizes, cell_at}
+use Rattle.rq_level.specs.Given.{has_page}
+use Rattle.rq_level.specs.Kept.{flag_at}
+use Rattle.rq_chain.specs.Cells.{Flags, IsIndexed, IsLowestIn, NoneInPage, NoneInRun, is_open, takes}
+
+unset_at : (n i : ℕ) → get_or (replicate n false) i false ≡ false
+unset_at zero i = refl
+unset_at (suc n) zero = refl
+unset_at (suc n) (suc i) = unset_at n i
+
+not_open : (f : Flags) (i : ℕ) → flag_at f.free i ≡ false → is_open f i ≡ true → ⊥
+not_open f i e o = true≢false (sym o ∙ ap (λ b. b && not (flag_at f.reserved i)) e)
+
+-- no flag is set: there is nothing that the index would have to hold
+pub indexed : (n p r : ℕ) (free reserved pages runs : List Bool) → n ≡ 983040 → p ≡ 65536 → r ≡ 256 → free ≡ replicate n false → pages ≡ replicate p false → runs ≡ replicate r false
+    → IsIndexed (record { free = free; reserved = reserved }) pages runs
+indexed n p r free reserved pages runs cells page_count run_count a b c =
+    let none : (i : ℕ) → flag_at free i ≡ false = λ i. ap (λ (l : List Bool). flag_at l i) a ∙ unset_at n i in
+    record {
+      cells = ap length a ∙ length-replicate n false ∙ cells;
+      page_count = ap length b ∙ length-replicate p false ∙ page_count;
+      run_count = ap length c ∙ length-replicate r false ∙ run_count;
+      paged = λ i o. absurd (not_open (record { free = free; reserved = reserved }) i (none i) o);
+      in_run = λ i o. absurd (not_open (record { free = free; reserved = reserved }) i (none i) o);
+    }
