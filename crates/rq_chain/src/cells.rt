@@ -15,6 +15,7 @@ use std::marker::Model;
 
 // Pages in a run, and runs of the greatest store.
 const RUN: u32 = 256;
+
 const RUNS: u32 = CELLS_LIMIT / RUN;
 
 /// Whether each cell is free, and whether a plan has chosen it, with an index by pages and by runs of pages: what is not

@@ -10,8 +10,8 @@ ghost use Rattle.rq_chain.specs.Doings.{told_one};
 ghost use Rattle.rq_chain.specs.Refusing.{NoCell};
 ghost use Rattle.rq_level.specs.Meaning.{Meaning, meaning_of};
 
+use crate::cells::FreeCells;
 use crate::doing::{Doing, read_doing};
-use crate::flags::{flag, set_flag};
 use crate::given::{SENT_LIMIT, beside_given, cell_given, group_given, head_of, tail_of};
 use crate::plans::{append, mark, put_back, unlink_head, unlink_tail};
 use crate::wants::{undo_wanted, wanted};
@@ -34,8 +34,7 @@ use std::marker::Model;
 #[derive(Drop)]
 pub struct ChainLevel {
     layout: Option<Layout>,
-    free: Vec<bool>,
-    reserved: Vec<bool>,
+    cells: FreeCells,
 }
 
 impl Model for ChainLevel {
@@ -43,33 +42,21 @@ impl Model for ChainLevel {
 
     ghost Value = { Kept };
 
-    ghost view = { λ c. record { sizes = c.layout; free = c.free.items; reserved = c.reserved.items } };
+    ghost view = { λ c. record { sizes = c.layout; free = c.cells.free; reserved = c.cells.reserved } };
 }
 
 impl ChainLevel {
-    /// Whether the cell with this place may be taken.
-    fn may_take(&self, layout: &Layout, latched: &PageSet, place: u32) -> bool
-        requires { place < cell_count layout.now }
-        ensures { result ≡ may_take layout.now self.now latched.now.pages place }
-    {
-        let at = layout.cell_addr(place);
-        prove!(at.page() < layout.pages() as u64);
-        let page = at.page() as u32;
-        flag(&self.free, place) && !flag(&self.reserved, place) && !latched.contains(page)
-    }
-
     /// The lowest cell that may be taken.
-    fn lowest(&self, layout: &Layout, latched: &PageSet) -> Option<Addr>
-        ensures lowest { IfSome result (λ a. IsLowest layout.now self.now latched.now.pages a) }
+    fn lowest(&mut self, layout: &Layout, latched: &PageSet) -> Option<Addr>
+        ensures kept { self.new ≡ self.old }
+        ensures lowest { IfSome result (λ a. IsLowest layout.now self.old latched.now.pages a) }
         ensures cell { IfSome result (λ a. IsCellAddress layout.now a) }
-        ensures none { IfNone result (NoneToTake layout.now self.now latched.now.pages) }
+        ensures none { IfNone result (NoneToTake layout.now self.old latched.now.pages) }
     {
-        for place in 0..layout.cell_slots() {
-            if self.may_take(layout, latched, place) {
-                return Some(layout.cell_addr(place));
-            }
+        match self.cells.lowest(layout, latched) {
+            Some(place) => Some(layout.cell_addr(place)),
+            None => None,
         }
-        None
     }
 
     /// Whether some cell is free.
@@ -78,7 +65,7 @@ impl ChainLevel {
         ensures none { OnFalse result (NoneFree layout.now self.now) }
     {
         for place in 0..layout.cell_slots() {
-            if flag(&self.free, place) {
+            if self.cells.is_free(place) {
                 return true;
             }
         }
@@ -90,7 +77,7 @@ impl ChainLevel {
         requires { IsCellAddress layout.now at }
         ensures { self.new ≡ reserved_at layout.now self.old at }
     {
-        set_flag(&mut self.reserved, layout.cell_place(at), true);
+        self.cells.reserve(layout.cell_place(at));
     }
 
     /// A level that was told of no slot, with room for the greatest store.
@@ -100,17 +87,9 @@ impl ChainLevel {
     pub fn new(alloc: Global) -> Result<ChainLevel, NoMemory>
         ensures { IfOk result (λ c. c.sizes ≡ None) }
     {
-        let most = (CELLS_LIMIT * SLOTS) as usize;
-        let Ok(free) = Vec::from_elem(alloc, false, most) else {
-            return Err(NoMemory);
-        };
-        let Ok(reserved) = Vec::from_elem(alloc, false, most) else {
-            return Err(NoMemory);
-        };
         Ok(ChainLevel {
             layout: None,
-            free,
-            reserved,
+            cells: FreeCells::new(alloc)?,
         })
     }
 
@@ -135,9 +114,8 @@ impl ChainLevel {
         requires { IsCellAddress layout.now at }
         ensures { self.new ≡ noted_cell layout.now self.old (place_of layout.now at) free }
     {
-        let place = layout.cell_place(at);
-        set_flag(&mut self.free, place, free);
-        set_flag(&mut self.reserved, place, false);
+        prove!(layout.cell_slots() <= CELLS_LIMIT * SLOTS);
+        self.cells.note(layout.cell_place(at), free);
     }
 
     // The plan of what is asked.
