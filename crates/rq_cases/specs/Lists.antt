@@ -11,9 +11,8 @@ use Rattle.rq_txn.specs.Rows.{fresh_row}
 use Rattle.rq_store.specs.State.{State}
 use Rattle.rq_engine.specs.Answers.{HasNothingUnderWay}
 use Rattle.rq_engine.specs.Applied.{ChangesSay, RefusalLeaves}
-use Rattle.rq_engine.specs.Lists.{IsCommitted, ListsSay}
+use Rattle.rq_engine.specs.Lists.{ListsSay}
 use Rattle.rq_engine.specs.Opened.{OpenStore}
-use Rattle.rq_engine.specs.declared.event.CommitNo.{CommitNo}
 use Rattle.rq_engine.specs.declared.event.Event.TheVariants as event
 use Rattle.rq_engine.specs.declared.event.Reply.TheVariants as reply
 
@@ -40,13 +39,6 @@ pub record ListsAreJudged : Type 0 where
       → ⊥
   pub forced_nothing : (s new : State) (lsn : ℕ) → new.forced < length s.records
       → ListsSay s event.Force (reply.Forced lsn) new → ⊥
-  pub committed : (s : State) (t : Txn) (n : ℕ) (number : CommitNo) (new : State) → HasNothingUnderWay s t n
-      → IsCommitted s t number new
-      → ListsSay s (event.Commit t) (reply.Committed number) new
-  pub committed_at_another_place : (s new : State) (t : Txn) (number : CommitNo) → number.lsn ≡ length s.records
-      → ListsSay s (event.Commit t) (reply.Committed number) new → ⊥
-  pub committed_without_a_record : (s new : State) (t : Txn) (number : CommitNo) → new.records ≡ s.records
-      → ListsSay s (event.Commit t) (reply.Committed number) new → ⊥
   pub none : (s : State) (t : Txn) (n g : ℕ) → HasNothingUnderWay s t n → g < sender_count s.sizes
       → is_free_for t g s.ends.receiving ≡ true → waits s.waiting g ≡ 0
       → ListsSay s (event.StartReceiveFrom t g) reply.NoMessage s

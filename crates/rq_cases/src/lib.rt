@@ -1,16 +1,31 @@
 //! Worked cases for the words that contracts of several crates use: of each, what meets it and what it rules out.
 #![tactic(auto)]
 
+ghost use Rattle.rq_cases.specs.Applied.{CallsAreApplied, CallsAreNotApplied};
+ghost use Rattle.rq_cases.specs.Asks.{AsksAreJudged};
+ghost use Rattle.rq_cases.specs.Audits.{AuditsAreJudged};
 ghost use Rattle.rq_cases.specs.Calls.{CallsAreJudged};
+ghost use Rattle.rq_cases.specs.Courses.{CausesAreJudged, NoneIsJudged, StopsAreJudged};
 ghost use Rattle.rq_cases.specs.Devices.{DevicesAreJudged};
+ghost use Rattle.rq_cases.specs.Formatting.{FormatsAreJudged};
 ghost use Rattle.rq_cases.specs.Histories.{HistoriesGoOn};
 ghost use Rattle.rq_cases.specs.Lists.{ListsAreJudged};
+ghost use Rattle.rq_cases.specs.Logs.{LogsAreJudged};
+ghost use Rattle.rq_cases.specs.Reading.{CellsAreJudged, ReadingsAreJudged};
+ghost use Rattle.rq_cases.specs.Receives.{ReceivesAreJudged};
+ghost use Rattle.rq_cases.specs.Restarting.{RestartsAreJudged};
+ghost use Rattle.rq_cases.specs.Sends.{CommitsAreJudged, FinishesAreJudged, StartsAreJudged, StepsAreJudged};
+ghost use Rattle.rq_cases.specs.Sound.{RowsAreJudged, RunIsSound};
+ghost use Rattle.rq_cases.specs.Worlds.{CutsAreJudged, HeadlinesAreJudged, WorldsAreJudged};
 
-use rq_model::laws::{restart_goes_on, shut_crash_goes_on};
+use rq_model::laws::{
+    acknowledged_stay, crash_goes_on, first_in_first_out, restart_goes_on, shown_is_committed,
+    shut_crash_goes_on,
+};
 use rq_restart::laws::{one_log, one_size, records_are_the_log};
 
-/// What a call makes of a store's lists: of some events an answer with what it makes of them, and answers and lists
-/// that are none.
+/// What a begin, a hand-over, a force and a receive that finds none make of any store's lists, and refusals and marks;
+/// and answers and lists that are none.
 pub fn lists_are_judged()
     ensures { ListsAreJudged }
 {}
@@ -37,3 +52,125 @@ pub fn histories_go_on()
     restart_goes_on();
     shut_crash_goes_on();
 }
+
+/// A run of a small store, page by page in bytes: a message is sent, committed, forced and received. Each of its
+/// states is sound, and each call a step of the model.
+pub fn run_is_sound()
+    ensures { RunIsSound }
+{}
+
+/// A transaction with an operation under way, and one that finished it; and what is not so of them.
+pub fn rows_are_judged()
+    ensures { RowsAreJudged }
+{}
+
+/// Starts of a send: the one of the run, and those that are none.
+pub fn starts_are_judged()
+    ensures { StartsAreJudged }
+{}
+
+/// Steps of a send: those of the run, and those that are none.
+pub fn steps_are_judged()
+    ensures { StepsAreJudged }
+{}
+
+/// Finishes of a send: the one of the run, and those that are none.
+pub fn finishes_are_judged()
+    ensures { FinishesAreJudged }
+{}
+
+/// Commits: that of the run's send, and those that are none.
+pub fn commits_are_judged()
+    ensures { CommitsAreJudged }
+{}
+
+/// Receives: the one of the run with its steps, its finish and its commit; none, both ways; and those that are none.
+pub fn receives_are_judged()
+    ensures { ReceivesAreJudged }
+{}
+
+/// Receipts, page writes and contents, which change no list.
+pub fn asks_are_judged()
+    ensures { AsksAreJudged }
+{}
+
+/// Whole calls over devices in memory, where a message is committed: a receive that is started, a force, a page that is
+/// written, each with the store that meets what its clauses ask.
+pub fn calls_are_applied()
+    ensures { CallsAreApplied }
+{}
+
+/// What no call may answer or make, field by field.
+pub fn calls_are_not_applied()
+    ensures { CallsAreNotApplied }
+{}
+
+/// A store between two happenings, open, shut or fresh, as a history leaves it; and stores that it doesn't.
+pub fn worlds_are_judged()
+    ensures { WorldsAreJudged }
+{}
+
+/// What a crash leaves of an open store, and what it may not leave.
+pub fn cuts_are_judged()
+    ensures { CutsAreJudged }
+{}
+
+/// The headline of two courses, one that ends open and one with a crash; and devices and answers that it rules out.
+pub fn headlines_are_judged()
+    ensures { HeadlinesAreJudged }
+{
+    first_in_first_out();
+    acknowledged_stay();
+    crash_goes_on();
+    shut_crash_goes_on();
+}
+
+/// Crashes at a device call inside a call: where one may come, and where it may not.
+pub fn stops_are_judged()
+    ensures { StopsAreJudged }
+{}
+
+/// Refusals in a course, with their causes and without.
+pub fn causes_are_judged()
+    ensures { CausesAreJudged }
+{}
+
+/// What gives a message to whom, none, and what is refused where nothing is given.
+pub fn none_is_judged()
+    ensures { NoneIsJudged }
+{
+    shown_is_committed();
+}
+
+/// Pages that were only read, or more; and which page is the first that is damaged, and which is none.
+pub fn readings_are_judged()
+    ensures { ReadingsAreJudged }
+{
+    one_size();
+}
+
+/// Which cell a send takes: the lowest that is free, and no other.
+pub fn cells_are_judged()
+    ensures { CellsAreJudged }
+{}
+
+/// A format, call by call: what a crash at each moment of it leaves; and formats in another order, or of other pages.
+pub fn formats_are_judged()
+    ensures { FormatsAreJudged }
+{}
+
+/// What a restart finds, makes and refuses: history that is repeated, and that isn't; reports and refusals, with their
+/// causes and without.
+pub fn restarts_are_judged()
+    ensures { RestartsAreJudged }
+{}
+
+/// What stands in the bytes of a log, what of it a crash leaves and where reading it stops; and what doesn't.
+pub fn logs_are_judged()
+    ensures { LogsAreJudged }
+{}
+
+/// Audits of a shared engine that replay, and marks that were published; and those that aren't.
+pub fn audits_are_judged()
+    ensures { AuditsAreJudged }
+{}

@@ -1,4 +1,4 @@
-use Rattle.std.proofs.Common.{length, refl, sym, ◌∙◌, ap, arith}
+use Rattle.std.proofs.Common.{refl, sym, ◌∙◌, ap, arith}
 use Rattle.rq_store.specs.State.{State}
 use Rattle.rq_cases.proofs.lists_are_judged.Goals as goal
 
@@ -13,9 +13,6 @@ returns c = record {
   forced = λ s. (refl, refl);
   forced_less = λ s new lsn low f. (let e = f.0 in omega (arith, low, e));
   forced_nothing = λ s new lsn low f. (let e = ap (λ (x : State). x.forced) f.1 in omega (arith, low, e));
-  committed = λ s t n number new ready k. k;
-  committed_at_another_place = λ s new t number at k. (let e = k.lsn in omega (arith, at, e));
-  committed_without_a_record = λ s new t number same k. (let e = ap length (sym same ∙ ap (λ (x : State). x.records) k.lists) in omega (arith, e));
   none = λ s t n g ready low free nothing. ((n, ready), low, free, nothing, refl);
   none_where_one_waits = λ s new t g some k. (let e = k.3 in omega (arith, some, e));
   none_of_a_stranger = λ s new t g stranger k. stranger k.0.0 k.0.1;

@@ -1,0 +1,207 @@
+-- The records of the worked run have spellings.
+use Rattle.std.proofs.Common.{◌≡◌, ℕ, zero, suc, ◌+◌, ◌*◌, ◌<◌, ◌==◌, length-append, Bool, true, false, if◌then◌else◌, List, [], ◌∷◌, ◌++◌, length, replicate, refl, arith}
+use Rattle.std.specs.Prelude.{codes}
+use Rattle.byteorder.specs.Endian.{big_bytes}
+use Rattle.rq_bytes.specs.Number.{AreBytes, number}
+use Rattle.rq_bytes.proofs.Strings.{AreBytes-number}
+use Rattle.rq_model.specs.Deeds.{spelled_deed}
+use Rattle.rq_page.specs.declared.directory.Directory.{Directory}
+use Rattle.rq_page.specs.declared.directory.DirectorySlot.{DirectorySlot}
+use Rattle.rq_page.specs.Cells.{cell_bytes, cell_front, free_bytes}
+use Rattle.rq_page.specs.Directories.{directory_bytes, directory_front}
+use Rattle.rq_page.specs.Formatted.{formatted_slot, superblock_bytes, superblock_front}
+use Rattle.rq_page.specs.Pages.{header_bytes, header_front}
+use Rattle.rq_page.proofs.CellBytes.{length-cell_bytes}
+use Rattle.rq_page.proofs.DirectoryBytes.{length-directory_bytes}
+use Rattle.rq_views.specs.Row.{cell, sends, t1}
+use Rattle.rq_record.specs.Spelling.{FitsTxn, IsImage, IsRecord, IsTxnInRange}
+use Rattle.rq_log.specs.Spelled.{AreSpelled}
+use Rattle.rq_store.specs.Steps.{op_end, page_op}
+use Rattle.rq_cases.specs.Run.{log_1, log_5}
+use Rattle.rq_store.specs.Fitting.{image_in}
+use Rattle.rq_cases.specs.Sound.{IsImageOfPage}
+use Rattle.rq_cases.specs.Store.{cells_0, count_sent, fill_cell, formatted_pages, groups_0, joined, page_image, part, sizes}
+use Rattle.rq_cases.proofs.Images.{either_long, length-free, length-superblock, part_long}
+use Rattle.rq_cases.proofs.Pages.{cells_0_long, groups_0_long}
+
+are_cons : (x : ℕ) (xs : List ℕ) → x < 256 → AreBytes xs → AreBytes (x ∷ xs)
+are_cons x xs low h zero = low
+are_cons x xs low h (suc i) = h i
+
+are_append : (xs ys : List ℕ) → AreBytes xs → AreBytes ys → AreBytes (xs ++ ys)
+are_append [] ys h g i = g i
+are_append (x ∷ xs) ys h g zero = h zero
+are_append (x ∷ xs) ys h g (suc i) = are_append xs ys (λ j. h (suc j)) g i
+
+are_zeros : (n : ℕ) → AreBytes (replicate n 0)
+are_zeros zero i = omega arith
+are_zeros (suc n) zero = omega arith
+are_zeros (suc n) (suc i) = are_zeros n i
+
+are_big : (size n : ℕ) → AreBytes (big_bytes size n)
+unfolding number
+are_big size n = AreBytes-number size n
+
+state_byte : (closed : Bool) → (if closed then 2 else 1) < 256
+state_byte true = omega arith
+state_byte false = omega arith
+
+pub group_bytes : (x : DirectorySlot) → AreBytes (directory_bytes x)
+unfolding directory_bytes directory_front
+group_bytes x =
+    let d : Directory = x.directory in
+    let f : List ℕ = big_bytes 8 d.tail in
+    let e : List ℕ = big_bytes 8 d.head ++ f in
+    let c : List ℕ = big_bytes 8 d.last_tag ++ e in
+    let b : List ℕ = big_bytes 8 d.received ++ c in
+    let a : List ℕ = big_bytes 8 d.sent ++ b in
+    let s : List ℕ = big_bytes 4 x.sender ++ a in
+    are_append (directory_front x) (replicate 208 0)
+    (are_cons (if d.closed then 2 else 1) (0 ∷ 0 ∷ 0 ∷ s) (state_byte d.closed)
+    (are_cons 0 (0 ∷ 0 ∷ s) (omega arith) (are_cons 0 (0 ∷ s) (omega arith) (are_cons 0 s (omega arith)
+    (are_append (big_bytes 4 x.sender) a (are_big 4 x.sender)
+    (are_append (big_bytes 8 d.sent) b (are_big 8 d.sent)
+    (are_append (big_bytes 8 d.received) c (are_big 8 d.received)
+    (are_append (big_bytes 8 d.last_tag) e (are_big 8 d.last_tag)
+    (are_append (big_bytes 8 d.head) f (are_big 8 d.head) (are_big 8 d.tail))))))))))
+    (are_zeros 208)
+
+pub filled_bytes : AreBytes (cell_bytes (cell 0))
+unfolding cell_bytes cell_front
+filled_bytes =
+    let f : List ℕ = big_bytes 8 0 in
+    let e : List ℕ = big_bytes 8 0 ++ f in
+    let c : List ℕ = big_bytes 8 7 ++ e in
+    let b : List ℕ = big_bytes 8 1 ++ c in
+    let a : List ℕ = big_bytes 4 0 ++ b in
+    let l : List ℕ = big_bytes 2 1 ++ a in
+    are_append (cell_front (cell 0)) (104 ∷ replicate 215 0)
+    (are_cons 1 (0 ∷ l) (omega arith) (are_cons 0 l (omega arith)
+    (are_append (big_bytes 2 1) a (are_big 2 1)
+    (are_append (big_bytes 4 0) b (are_big 4 0)
+    (are_append (big_bytes 8 1) c (are_big 8 1)
+    (are_append (big_bytes 8 7) e (are_big 8 7)
+    (are_append (big_bytes 8 0) f (are_big 8 0) (are_big 8 0))))))))
+    (are_cons 104 (replicate 215 0) (omega arith) (are_zeros 215))
+
+pub empty_bytes : AreBytes free_bytes
+unfolding free_bytes
+empty_bytes = are_zeros 256
+
+deed_bytes : AreBytes (spelled_deed (sends 0))
+deed_bytes =
+    let d : List ℕ = big_bytes 8 0 ++ 104 ∷ [] in
+    let c : List ℕ = big_bytes 8 7 ++ d in
+    let b : List ℕ = big_bytes 8 1 ++ c in
+    let a : List ℕ = big_bytes 4 0 ++ b in
+    are_cons 1 a (omega arith)
+    (are_append (big_bytes 4 0) b (are_big 4 0)
+    (are_append (big_bytes 8 1) c (are_big 8 1)
+    (are_append (big_bytes 8 7) d (are_big 8 7)
+    (are_append (big_bytes 8 0) (104 ∷ []) (are_big 8 0) (are_cons 104 [] (omega arith) (λ i. omega arith))))))
+
+deed_long : length (spelled_deed (sends 0)) ≡ 30
+deed_long = refl
+
+in_range : IsTxnInRange t1
+in_range = (omega arith, omega arith)
+
+fits : FitsTxn t1
+fits = (omega arith, omega arith)
+
+group_image : (x : DirectorySlot) → IsImage (directory_bytes x)
+group_image x = (length-directory_bytes x, group_bytes x)
+
+cell_image : IsImage (cell_bytes (cell 0))
+cell_image = (length-cell_bytes (cell 0) (omega arith), filled_bytes)
+
+free_image : IsImage free_bytes
+free_image = (length-free, empty_bytes)
+
+fill_is : IsRecord (page_op t1 1 fill_cell)
+fill_is = (
+  (in_range, omega arith, (omega arith, omega arith)),
+  (fits, omega arith, omega arith, omega arith, free_image, cell_image),
+)
+
+count_is : IsRecord (page_op t1 1 count_sent)
+count_is = (
+  (in_range, omega arith, (omega arith, omega arith)),
+  (fits, omega arith, omega arith, omega arith, group_image _, group_image _),
+)
+
+end_is : IsRecord (op_end t1 1 (sends 0))
+end_is = (
+  (in_range, omega arith, omega arith, omega (arith, deed_long), omega (arith, deed_long)),
+  (fits, omega arith, omega arith, omega (arith, deed_long), deed_bytes),
+)
+
+pub first_spelled : AreSpelled log_1
+first_spelled = ((omega arith, omega arith), tt)
+
+pub records_spelled : AreSpelled log_5
+records_spelled = ((in_range, fits), (end_is, (count_is, (fill_is, first_spelled))))
+
+-- the formatted pages are pages of bytes
+header_bytes_are : (lsn page kind : ℕ) → kind < 256 → AreBytes (header_bytes lsn page kind)
+unfolding header_bytes header_front
+header_bytes_are lsn page kind low =
+    are_append (big_bytes 8 lsn ++ (big_bytes 4 page ++ kind ∷ [])) (replicate 243 0)
+    (are_append (big_bytes 8 lsn) (big_bytes 4 page ++ kind ∷ []) (are_big 8 lsn)
+    (are_append (big_bytes 4 page) (kind ∷ []) (are_big 4 page) (are_cons kind [] low (λ i. omega arith))))
+    (are_zeros 243)
+
+name_bytes : AreBytes (codes "RQMSTORE")
+name_bytes =
+    are_cons 82 (81 ∷ 77 ∷ 83 ∷ 84 ∷ 79 ∷ 82 ∷ 69 ∷ []) (omega arith)
+    (are_cons 81 (77 ∷ 83 ∷ 84 ∷ 79 ∷ 82 ∷ 69 ∷ []) (omega arith)
+    (are_cons 77 (83 ∷ 84 ∷ 79 ∷ 82 ∷ 69 ∷ []) (omega arith) (are_cons 83 (84 ∷ 79 ∷ 82 ∷ 69 ∷ []) (omega arith)
+    (are_cons 84 (79 ∷ 82 ∷ 69 ∷ []) (omega arith) (are_cons 79 (82 ∷ 69 ∷ []) (omega arith)
+    (are_cons 82 (69 ∷ []) (omega arith) (are_cons 69 [] (omega arith) (λ i. omega arith))))))))
+
+superblock_bytes_are : AreBytes (superblock_bytes sizes)
+unfolding superblock_bytes superblock_front
+superblock_bytes_are =
+    let c : List ℕ = big_bytes 4 1 in
+    let b : List ℕ = big_bytes 4 1 ++ c in
+    let a : List ℕ = big_bytes 4 1 ++ b in
+    are_append (codes "RQMSTORE" ++ a) (replicate 236 0)
+    (are_append (codes "RQMSTORE") a name_bytes
+    (are_append (big_bytes 4 1) b (are_big 4 1) (are_append (big_bytes 4 1) c (are_big 4 1) (are_big 4 1))))
+    (are_zeros 236)
+
+either_bytes : (b : Bool) (x y : List ℕ) → AreBytes x → AreBytes y → AreBytes (if b then x else y)
+either_bytes true x y h g = h
+either_bytes false x y h g = g
+
+module _ (parts : ℕ → List ℕ) (long : (j : ℕ) → length (parts j) ≡ 256) (bytes : (j : ℕ) → AreBytes (parts j)) where
+  joined_long : (n k : ℕ) → length (joined parts k n) ≡ 256 * n
+  joined_long zero k = refl
+  joined_long (suc n) k =
+      let a = length-append (parts k) (joined parts (k + 1) n) in
+      let b = long k in
+      let c = joined_long n (k + 1) in
+      omega (arith, a, b, c)
+
+  joined_bytes : (n k : ℕ) → AreBytes (joined parts k n)
+  joined_bytes zero k = λ i. omega arith
+  joined_bytes (suc n) k = are_append (parts k) (joined parts (k + 1) n) (bytes k) (joined_bytes n (k + 1))
+
+part_bytes : (page kind : ℕ) (slots : ℕ → List ℕ) → kind < 256 → ((n : ℕ) → AreBytes (slots n)) → (j : ℕ) → AreBytes (part 0 page kind slots j)
+part_bytes page kind slots low each zero = header_bytes_are 0 page kind low
+part_bytes page kind slots low each (suc n) = each (suc n)
+
+image_is : (page kind : ℕ) (slots : ℕ → List ℕ) → kind < 256 → ((n : ℕ) → length (slots n) ≡ 256) → ((n : ℕ) → AreBytes (slots n)) → IsImageOfPage (page_image 0 page kind slots)
+image_is page kind slots low long each = (
+  joined_long (part 0 page kind slots) (part_long 0 page kind slots long) (part_bytes page kind slots low each) 16 0,
+  joined_bytes (part 0 page kind slots) (part_long 0 page kind slots long) (part_bytes page kind slots low each) 16 0,
+)
+
+first_long : (n : ℕ) → length (formatted_slot sizes 0 n) ≡ 256
+first_long n = either_long (n == 1) (superblock_bytes sizes) free_bytes (length-superblock sizes) length-free
+
+pub are_images : (p : ℕ) → p < 3 → IsImageOfPage (image_in formatted_pages p)
+are_images zero low = image_is 0 0 (formatted_slot sizes 0) (omega arith) first_long (λ n. either_bytes (n == 1) (superblock_bytes sizes) free_bytes superblock_bytes_are empty_bytes)
+are_images (suc zero) low = image_is 1 1 groups_0 (omega arith) groups_0_long (λ n. group_bytes _)
+are_images (suc (suc zero)) low = image_is 2 2 cells_0 (omega arith) cells_0_long (λ n. empty_bytes)
+are_images (suc (suc (suc p))) low = absurd (omega (arith, low))

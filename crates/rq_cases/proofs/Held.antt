@@ -1,0 +1,196 @@
+-- What devices in memory hold and may leave, as the worked run finds them.
+use Rattle.std.proofs.Common.{◌≡◌, ℕ, zero, suc, ◌+◌, ◌≤◌, List, [], ◌∷◌, ◌++◌, length, take, drop, refl, sym, ap, ◌∙◌, subst, inl, inr, arith}
+use Rattle.std.proofs.lemmas.List.{append-nil}
+use Rattle.std.specs.Prelude.{Vec}
+use Rattle.std.specs.declared.alloc.Global.{Global}
+use Rattle.rq_model.specs.declared.record.Record.{Record}
+use Rattle.rq_disk.specs.Device.{Elapses, Holds, Images, Leaves, Only, Written as OrWritten}
+use Rattle.rq_disk.specs.Memory.{LogState, LogSince, MayBe, MayLeave, PageState, PagesSince, fresh_pages, log_after, log_only, log_reads, pages_after, pages_only, reads}
+use Rattle.rq_disk.specs.Records.{first_records}
+use Rattle.rq_disk.specs.Shown.{log_of, pages_of}
+use Rattle.rq_disk.specs.declared.mem_log.LogCall.{LogCall}
+use Rattle.rq_disk.specs.declared.mem_log.LogCall.TheVariants.{Append, Force}
+use Rattle.rq_disk.specs.declared.mem_log.MemLog.{MemLog}
+use Rattle.rq_disk.specs.declared.mem_pages.MemPages.{MemPages}
+use Rattle.rq_disk.specs.declared.mem_pages.PageCall.{PageCall}
+use Rattle.rq_disk.proofs.KeptLog.{fresh_only}
+use Rattle.rq_disk.proofs.KeptPages.{written_to, write_reads, pages_elapses}
+use Rattle.rq_log.specs.Crash.{LeavesOnly}
+use Rattle.rq_log.specs.Spelled.{spelled, IsBeginning}
+use Rattle.rq_log.proofs.Moments.{started}
+use Rattle.rq_log.proofs.Runs.{all_of, some_newer, spelled_whole}
+use Rattle.rq_store.specs.Fitting.{AllFit, image_in}
+use Rattle.rq_store.specs.Steps.{Continues}
+use Rattle.rq_store.proofs.Cutting.{all_fit_longer, only_fit}
+use Rattle.rq_store.proofs.Formatting.{formatted_fits}
+use Rattle.rq_pool.specs.Writing.{MayHaveWritten}
+use Rattle.rq_core.specs.Devices.{mem_log, mem_pages}
+use Rattle.rq_cases.specs.Opened.{AreNewPages, HasFailedSince, IsForcedSince, IsNewLog, IsWrittenSince}
+use Rattle.rq_cases.specs.Run.{log_1, log_5}
+use Rattle.rq_cases.specs.Store.{formatted_pages, sizes}
+use Rattle.rq_cases.proofs.Bytes.{records_spelled}
+use Rattle.rq_cases.proofs.Pages.{are_formatted, range}
+
+-- laws of both devices
+pub pages_now : (d : MemPages) (c : Images) → mem_pages.left_since d (mem_pages.moment d) c → Leaves (mem_pages.may_be d) c
+pages_now d c left = pages_only d.first.items d.calls.items c left
+
+pub log_now : (d : MemLog) (c : List ℕ) → mem_log.left_since d (mem_log.moment d) c → mem_log.may_leave d c
+log_now d c left = log_only (take d.first d.bytes.items) d.calls.items c left
+
+-- pages that are formatted, with no call since
+module _ (d : MemPages) (n : AreNewPages d formatted_pages) where
+  pub only_formatted : (p : ℕ) (c : List ℕ) → mem_pages.may_be d p c → c ≡ image_in formatted_pages p
+  only_formatted p c may = at (subst (λ (s : PageState). MayBe s p c) n.pages may) where
+    at : MayBe (fresh_pages formatted_pages) p c → c ≡ image_in formatted_pages p
+    at (inl e) = e
+    at (inr none) = absurd none
+
+  pub pages_fit : (log : List Record) → Continues [] log → AllFit (mem_pages.may_be d) sizes log
+  pages_fit log c =
+      all_fit_longer (mem_pages.may_be d) sizes [] log c
+      (only_fit (image_in formatted_pages) (mem_pages.may_be d) sizes [] only_formatted
+      (formatted_fits sizes (image_in formatted_pages) range are_formatted))
+
+pub no_calls : {X : Type 0} (xs : List X) → length xs ≡ 0 → xs ≡ []
+no_calls [] e = refl
+no_calls (x ∷ xs) e = absurd (omega (arith, e))
+
+-- a log of these records, with no call since
+module _ (d : MemLog) (records : List Record) (n : IsNewLog d records) where
+  -- what it was at first, and that no call was made since
+  pub new_calls : d.calls.items ≡ []
+  new_calls = no_calls d.calls.items n.moment
+
+  pub new_bytes : take d.first d.bytes.items ≡ spelled records
+  new_bytes = ap (λ (s : LogState). s.forced) (sym (ap (log_after (take d.first d.bytes.items)) new_calls) ∙ n.log)
+
+  pub only_records : (c : List ℕ) → mem_log.may_leave d c → c ≡ spelled records
+  only_records c may = fresh_only (spelled records) c (subst (λ (s : LogState). MayLeave s c) n.log may)
+
+  -- of a longer log it leaves a beginning, now and at each moment since
+  module _ (all : List Record) (kept lost : ℕ) (some : lost + kept ≤ length all) (drops : drop lost all ≡ records) where
+    pub leaves_beginning : (c : List ℕ) → mem_log.may_leave d c → IsBeginning all kept c
+    leaves_beginning c may = (lost, some, only_records c may ∙ ap spelled (sym drops))
+
+    pub same_beginning : LeavesOnly mem_log d d (IsBeginning all kept)
+    same_beginning = started mem_log d (IsBeginning all kept) (λ c left. leaves_beginning c (log_now d c left))
+
+-- a log whose device has failed, and did nothing
+module _ (old new : MemLog) (n : IsNewLog old log_1) (f : HasFailedSince old new) where
+  since_failed : mem_log.left_since new ≡ mem_log.left_since old
+  since_failed = λ i. LogSince (f.first i) (f.calls i)
+
+  pub failed_beginning : LeavesOnly mem_log old new (IsBeginning log_5 1)
+  failed_beginning =
+      let same = same_beginning old log_1 n log_5 1 4 (omega arith) refl in
+      let back : (t : ℕ) (c : List ℕ) → mem_log.left_since new t c → mem_log.left_since old t c =
+      (λ t c left. subst (λ (Q : ℕ → List ℕ → Type 0). Q t c) since_failed left) in
+      record {
+        later = (let e = ap length f.calls in omega (arith, e));
+        each = λ c left. same.each c (back (mem_log.moment old) c left);
+        before = λ t c le left. inl (back t c left);
+        keeps = λ t c le left. subst (λ (Q : ℕ → List ℕ → Type 0). Q t c) (sym since_failed) left;
+      }
+
+-- the records of the worked run behind the first, appended and forced
+abbrev newer : List Record
+newer = take 4 log_5
+
+abbrev forced_after : Vec ℕ Global → List LogCall
+forced_after run = Append run ∷ Force ∷ []
+
+abbrev log_then : Vec ℕ Global → LogState
+log_then run = log_after (spelled log_1) (forced_after run)
+
+module _ (run : Vec ℕ Global) (items : run.items ≡ spelled newer) where
+  all_bytes : spelled log_1 ++ run.items ≡ spelled log_5
+  all_bytes = ap (λ l. spelled log_1 ++ l) items ∙ spelled_whole 4 log_5
+
+  -- after each of both calls
+  after_some : (k : ℕ) → k ≤ 2 → (c : List ℕ) → MayLeave (log_after (spelled log_1) (take k (forced_after run))) c
+      → IsBeginning log_5 1 c
+  after_some zero le c may = (4, omega arith, fresh_only (spelled log_1) c may)
+  after_some (suc zero) le c may =
+      subst (IsBeginning log_5 1) (sym (may.1 ∙ ap (λ l. spelled log_1 ++ first_records may.0 l) items))
+      (some_newer log_5 1 4 may.0 records_spelled (omega arith))
+  after_some (suc (suc zero)) le c may =
+      all_of log_5 1 c (omega arith) (fresh_only (spelled log_1 ++ run.items) c may ∙ all_bytes)
+  after_some (suc (suc (suc k))) le c may = absurd (omega (arith, le))
+
+  since_some : (t : ℕ) (c : List ℕ) → LogSince (spelled log_1) (forced_after run) t c → IsBeginning log_5 1 c
+  since_some t c since = after_some since.0 since.2 c since.3
+
+  was_before : (t : ℕ) (c : List ℕ) → LogSince (spelled log_1) [] t c → LogSince (spelled log_1) (forced_after run) t c
+  was_before t c since = at since.0 since.1 since.2 since.3 where
+    at : (k : ℕ) → t ≤ k → k ≤ 0 → MayLeave (log_after (spelled log_1) (take k [])) c
+        → LogSince (spelled log_1) (forced_after run) t c
+    at zero up le may = (0, up, omega arith, may)
+    at (suc k) up le may = absurd (omega (arith, le))
+
+  reads_all : log_reads (log_then run) ≡ spelled log_5
+  reads_all = append-nil (spelled log_1 ++ run.items) ∙ all_bytes
+
+  only_all : (c : List ℕ) → MayLeave (log_then run) c → c ≡ spelled log_5
+  only_all c may = fresh_only (spelled log_1 ++ run.items) c may ∙ all_bytes
+
+module _ (old new : MemLog) (n : IsNewLog old log_1) (f : IsForcedSince old new (spelled newer)) where
+  abbrev calls_are : List LogCall
+  calls_are = forced_after f.run
+
+  bytes_are : take new.first new.bytes.items ≡ spelled log_1
+  bytes_are = f.first ∙ new_bytes old log_1 n
+
+  log_forced : log_of new ≡ log_then f.run
+  log_forced = λ i. log_after (bytes_are i) (f.calls i)
+
+  since_new : (t : ℕ) → (λ c. mem_log.left_since new t c) ≡ LogSince (spelled log_1) calls_are t
+  since_new t = λ i. LogSince (bytes_are i) (f.calls i) t
+
+  since_old : (t : ℕ) → (λ c. mem_log.left_since old t c) ≡ LogSince (spelled log_1) [] t
+  since_old t = λ i. LogSince (new_bytes old log_1 n i) (new_calls old log_1 n i) t
+
+  each_beginning : (t : ℕ) (c : List ℕ) → mem_log.left_since new t c → IsBeginning log_5 1 c
+  each_beginning t c left = since_some f.run f.items t c (subst (λ (Q : List ℕ → Type 0). Q c) (since_new t) left)
+
+  pub runs_through : LeavesOnly mem_log old new (IsBeginning log_5 1)
+  runs_through = record {
+    later = (let a = n.moment in let b = ap length f.calls in omega (arith, a, b));
+    each = λ c left. each_beginning (mem_log.moment old) c left;
+    before = λ t c le left. inr (each_beginning t c left);
+    keeps = λ t c le left. subst (λ (Q : List ℕ → Type 0). Q c) (sym (since_new t))
+        (was_before f.run f.items t c (subst (λ (Q : List ℕ → Type 0). Q c) (since_old t) left));
+  }
+
+  pub forced_reads : mem_log.seen new ≡ spelled log_5
+  forced_reads = ap log_reads log_forced ∙ reads_all f.run f.items
+
+  pub forced_only : Only (spelled log_5) (mem_log.may_leave new)
+  forced_only c may = only_all f.run f.items c (subst (λ (s : LogState). MayLeave s c) log_forced may)
+
+-- pages of which one was written
+module _ (old new : MemPages) (page : ℕ) (image : List ℕ) (w : IsWrittenSince old new page image) where
+  abbrev was : List (List ℕ)
+  was = old.first.items
+
+  abbrev calls : List PageCall
+  calls = old.calls.items
+
+  abbrev since : List PageCall
+  since = new.calls.items
+
+  now_is : pages_of new ≡ pages_after was since
+  now_is = ap (λ (l : List (List ℕ)). pages_after l since) w.first
+
+  pub page_holds : Holds (mem_pages.seen old) page image (mem_pages.seen new)
+  page_holds p = ap (λ (s : PageState). reads s p) now_is ∙ write_reads was calls since page w.kept image w.value w.calls p
+
+  pub page_may : MayHaveWritten mem_pages page image old new
+  page_may = record {
+    honest = λ h. h;
+    crash = subst (λ (s : PageState). OrWritten page image (MayBe (pages_of old)) (MayBe s)) (sym now_is)
+        (written_to was calls since page w.kept image w.value w.calls);
+    time = subst (λ (l : List (List ℕ)). Elapses (length calls) (length since) (PagesSince was calls) (PagesSince l since)
+        (Leaves (MayBe (pages_after l since)))) (sym w.first)
+        (pages_elapses was calls since _ w.calls);
+  }

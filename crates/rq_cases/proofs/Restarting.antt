@@ -1,0 +1,284 @@
+-- What a restart finds, makes and refuses.
+use Rattle.std.proofs.Common.{◌≡◌, ℕ, zero, suc, ◌≤◌, ◌<◌, ◌^◌, List, [], ◌∷◌, length, false, true, refl, sym, ap, ◌∙◌, subst, inl, inr, arith}
+use Rattle.rq_model.specs.declared.record.Record.{Record}
+use Rattle.rq_model.specs.declared.record.Record.TheVariants.{Commit, Restart}
+use Rattle.rq_disk.specs.Memory.{fresh_pages, log_reads, reads}
+use Rattle.rq_disk.specs.declared.mem_log.MemLog.{MemLog}
+use Rattle.rq_disk.specs.declared.mem_pages.MemPages.{MemPages}
+use Rattle.std.proofs.lemmas.List.{append-nil}
+use Rattle.rq_log.specs.Spelled.{spelled}
+use Rattle.std.proofs.lemmas.Bool.{cases_eq}
+use Rattle.rq_bytes.specs.Number.{number_at}
+use Rattle.rq_page.specs.declared.directory.DirectorySlot.{DirectorySlot}
+use Rattle.rq_page.specs.Cells.{cell_bytes, free_bytes}
+use Rattle.rq_page.specs.Directories.{IsDirectorySlot, directory_bytes, directory_in, new_directory}
+use Rattle.rq_page.proofs.DirectoryBytes.{directory_in-directory_bytes}
+use Rattle.rq_page.specs.Pages.{lsn_of, slot_of}
+use Rattle.rq_page.specs.Slots.{held_in}
+use Rattle.rq_page.specs.Sizes.{sender_at}
+use Rattle.rq_views.specs.Row.{cell, sends, t1}
+use Rattle.rq_store.specs.Fitting.{FitsLog, image_in}
+use Rattle.rq_store.specs.Opening.{IsLeft, next_restart}
+use Rattle.rq_store.specs.Steps.{op_end, page_op}
+use Rattle.rq_store.proofs.Cutting.{fits_log_longer}
+use Rattle.rq_store.proofs.Formatting.{formatted_fits}
+use Rattle.rq_restart.specs.Repeating.{AreCounted, Belongs, IsFirstBad, IsRepeated, Paged, Repeats}
+use Rattle.rq_restart.specs.Restarting.{IsBegunOn, IsLeftOn}
+use Rattle.rq_restart.specs.Checked.{IsEnded, IsGoneThrough}
+use Rattle.rq_restart.proofs.Parsing.{one_log}
+use Rattle.rq_core.specs.Devices.{mem_log, mem_pages}
+use Rattle.rq_cases.specs.Opened.{AreNewPages, IsNewLog}
+use Rattle.rq_cases.specs.Restarting.{RestartsAreJudged, read_pages, repeated_pages}
+use Rattle.rq_cases.specs.Run.{log_1, log_2, log_3, log_4, log_5}
+use Rattle.rq_cases.specs.Store.{cells_0, cells_1, count_sent, fill_cell, filled_pages, formatted_pages, free_cell, groups_0, groups_1, group, one_sent, page_image, sent_pages, sizes}
+use Rattle.rq_cases.proofs.Bytes.{first_spelled, records_spelled}
+use Rattle.rq_cases.proofs.Images.{lsn_is, slot_is, written_other}
+use Rattle.rq_cases.proofs.Pages.{are_formatted, cells_0_long, cells_1_long, cell_told, fill_written, free_told, groups_0_long, groups_1_long, others_of_1, others_of_2, range, sent_told, sent_written}
+use Rattle.rq_cases.proofs.Running as running
+
+-- what the devices read
+log_seen : (d : MemLog) (records : List Record) → IsNewLog d records → mem_log.seen d ≡ spelled records
+log_seen d records n = ap log_reads n.log ∙ append-nil (spelled records)
+
+pages_seen_are : (d : MemPages) (images : List (List ℕ)) → AreNewPages d images → mem_pages.seen d ≡ reads (fresh_pages images)
+pages_seen_are d images n = ap reads n.pages
+
+formatted_fit : FitsLog sizes (image_in formatted_pages) log_5
+formatted_fit = fits_log_longer sizes (image_in formatted_pages) [] log_5 (5, refl) (formatted_fits sizes (image_in formatted_pages) range are_formatted)
+
+left_here : (d : MemPages) → AreNewPages d formatted_pages → IsLeft sizes (mem_pages.seen d) log_5
+left_here d n = subst (λ (seen : ℕ → List ℕ). IsLeft sizes seen log_5) (sym (pages_seen_are d formatted_pages n)) (record { whole = running.commit_send.sound.log; fits = formatted_fit })
+
+group_lsn : lsn_of (page_image 3 1 1 groups_1) ≡ 3
+group_lsn = lsn_is 3 1 1 groups_1 groups_1_long (omega arith)
+
+no_group_lsn : lsn_of (page_image 0 1 1 groups_0) ≡ 0
+no_group_lsn = lsn_is 0 1 1 groups_0 groups_0_long (omega arith)
+
+cell_lsn : lsn_of (page_image 2 2 2 cells_1) ≡ 2
+cell_lsn = lsn_is 2 2 2 cells_1 cells_1_long (omega arith)
+
+no_cell_lsn : lsn_of (page_image 0 2 2 cells_0) ≡ 0
+no_cell_lsn = lsn_is 0 2 2 cells_0 cells_0_long (omega arith)
+
+not_left : (d new : MemPages) → AreNewPages d sent_pages → IsLeftOn mem_pages sizes d new log_1 → ⊥
+not_left d new n l =
+    let k : IsLeft sizes (reads (fresh_pages sent_pages)) log_1 = subst (λ (seen : ℕ → List ℕ). IsLeft sizes seen log_1) (pages_seen_are d sent_pages n) l.left in
+    let w : lsn_of (page_image 3 1 1 groups_1) ≤ 1 = (k.fits.pages 1 (omega arith) (omega arith)).within in
+    let e = group_lsn in
+    omega (arith, e, w)
+
+-- two logs of one spelling
+same_log : (a b : List Record) → IsEnded a → a ≡ b → IsEnded b
+same_log a b h e = subst IsEnded e h
+
+abbrev is_restart : List Record → ℕ
+is_restart (Restart i ∷ log) = 1
+is_restart _ = 0
+
+-- history, one record after the other
+abbrev filled : Paged
+filled = record { image = image_in filled_pages; changed = false ∷ false ∷ true ∷ [] }
+
+first_cell_stands : slot_of 1 (page_image 0 2 2 cells_0) ≡ free_bytes
+first_cell_stands = slot_is 0 2 2 cells_0 cells_0_long 1 (omega arith) (omega arith)
+
+-- what a directory slot counts
+sent_number : (x : DirectorySlot) → IsDirectorySlot x → number_at 8 8 (directory_bytes x) ≡ x.directory.sent
+unfolding directory_in
+sent_number x is = ap (λ (y : DirectorySlot). y.directory.sent) (directory_in-directory_bytes x is)
+
+new_in_range : (s : ℕ) → s < 15 → IsDirectorySlot (record { sender = s; directory = new_directory })
+new_in_range s low = record {
+  sender = omega (arith, low);
+  sent = omega arith;
+  received = omega arith;
+  last_tag = omega arith;
+  head = omega arith;
+  tail = omega arith;
+}
+
+sent_in_range : IsDirectorySlot (record { sender = 0; directory = one_sent })
+sent_in_range = record {
+  sender = omega arith;
+  sent = omega arith;
+  received = omega arith;
+  last_tag = omega arith;
+  head = omega arith;
+  tail = omega arith;
+}
+
+group_count : number_at 8 8 (group one_sent) ≡ 1
+group_count = sent_number (record { sender = 0; directory = one_sent }) sent_in_range
+
+new_count : (n : ℕ) → 1 ≤ n → n ≤ 15 → number_at 8 8 (groups_0 n) ≡ 0
+new_count n low high = sent_number (record { sender = sender_at 1 n; directory = new_directory }) (new_in_range (sender_at 1 n) (omega (arith, low, high)))
+
+-- no number is beyond a log of three records
+module _ (count : ℕ) (many : 3 ≤ count) where
+  counted_read : AreCounted sizes count read_pages
+  counted_read zero low high = absurd (omega (arith, low))
+  counted_read (suc zero) low high = record {
+    lsn = (let e = no_group_lsn in omega (arith, e));
+    slots = λ n from to. (let e = ap (number_at 8 8) (slot_is 0 1 1 groups_0 groups_0_long n from to) ∙ new_count n from to in omega (arith, e));
+  }
+  counted_read (suc (suc zero)) low high = record { lsn = (let e = no_cell_lsn in omega (arith, e)); slots = λ n from to. omega arith }
+  counted_read (suc (suc (suc p))) low high = absurd (omega (arith, high))
+
+  counted_last : AreCounted sizes count repeated_pages
+  counted_last zero low high = absurd (omega (arith, low))
+  counted_last (suc zero) low high = record {
+    lsn = (let e = group_lsn in omega (arith, e, many));
+    slots = λ n from to. elim (cases_eq n 1) [
+      | inl one ↦
+          let e : number_at 8 8 (slot_of 1 (page_image 3 1 1 groups_1)) ≡ 1 = ap (number_at 8 8) (slot_is 3 1 1 groups_1 groups_1_long 1 (omega arith) (omega arith)) ∙ group_count in
+          let f = ap (λ m. number_at 8 8 (slot_of m (page_image 3 1 1 groups_1))) one ∙ e in
+          omega (arith, f, many)
+      | inr off ↦
+          let e = ap (number_at 8 8) (slot_is 3 1 1 groups_1 groups_1_long n from to ∙ written_other 1 (group one_sent) groups_0 n off) ∙ new_count n from to in
+          omega (arith, e)
+    ];
+  }
+  counted_last (suc (suc zero)) low high = record { lsn = (let e = cell_lsn in omega (arith, e, many)); slots = λ n from to. omega arith }
+  counted_last (suc (suc (suc p))) low high = absurd (omega (arith, high))
+
+-- each record is repeated
+restart_repeated : IsRepeated sizes [] (Restart 1) read_pages read_pages
+restart_repeated = record { belongs = record { next = refl; may = record { write = tt; before = tt } }; redone = λ p. refl; marked = refl }
+
+fill_repeated : IsRepeated sizes log_1 (page_op t1 1 fill_cell) read_pages filled
+fill_repeated = record {
+  belongs = record {
+    next = (omega arith, refl);
+    may = record { write = record { slot = cell_told.1; count = omega arith }; before = λ older. first_cell_stands };
+  };
+  redone = record {
+    made = λ older. fill_written;
+    kept = λ newer. (let e = no_cell_lsn in absurd (omega (arith, e, newer)));
+    others = others_of_2 0 0 2 groups_0 cells_0 cells_1;
+  };
+  marked = record { made = λ older. refl; kept = λ newer. (let e = no_cell_lsn in absurd (omega (arith, e, newer))) };
+}
+
+count_repeated : IsRepeated sizes log_2 (page_op t1 1 count_sent) filled repeated_pages
+count_repeated = record {
+  belongs = record {
+    next = (omega arith, refl);
+    may = record {
+      write = record { slot = sent_told.1; count = (let e = group_count in omega (arith, e)) };
+      before = λ older. slot_is 0 1 1 groups_0 groups_0_long 1 (omega arith) (omega arith);
+    };
+  };
+  redone = record {
+    made = λ older. sent_written;
+    kept = λ newer. (let e = no_group_lsn in absurd (omega (arith, e, newer)));
+    others = others_of_1 0 3 2 groups_0 groups_1 cells_1;
+  };
+  marked = record { made = λ older. refl; kept = λ newer. (let e = no_group_lsn in absurd (omega (arith, e, newer))) };
+}
+
+end_repeated : IsRepeated sizes log_3 (op_end t1 1 (sends 0)) repeated_pages repeated_pages
+end_repeated = record { belongs = record { next = (omega arith, refl); may = record { write = tt; before = tt } }; redone = λ p. refl; marked = refl }
+
+commit_repeated : IsRepeated sizes log_4 (Commit t1) repeated_pages repeated_pages
+commit_repeated = record { belongs = record { next = (omega arith, refl); may = record { write = tt; before = tt } }; redone = λ p. refl; marked = refl }
+
+repeats_1 : Repeats sizes log_1 read_pages read_pages
+repeats_1 = (read_pages, refl, restart_repeated)
+
+repeats_4 : Repeats sizes log_4 read_pages repeated_pages
+repeats_4 = (repeated_pages, (filled, (read_pages, repeats_1, fill_repeated), count_repeated), end_repeated)
+
+repeats_5 : Repeats sizes log_5 read_pages repeated_pages
+repeats_5 = (repeated_pages, repeats_4, commit_repeated)
+
+gone : IsGoneThrough sizes log_5 read_pages repeated_pages
+gone = record { repeated = repeats_5; counted_read = counted_read 5 (omega arith); counted = counted_last 5 (omega arith) }
+
+gone_4 : IsGoneThrough sizes log_4 read_pages repeated_pages
+gone_4 = record { repeated = repeats_4; counted_read = counted_read 4 (omega arith); counted = counted_last 4 (omega arith) }
+
+-- the write of the cell was made, whatever the pages were between
+not_made : IsGoneThrough sizes log_5 read_pages read_pages → ⊥
+not_made g =
+    let five = g.repeated in
+    let four = five.1 in
+    let three = four.1 in
+    let two = three.1 in
+    let one = two.1 in
+    let was : lsn_of (two.0.image 2) ≡ 0 = ap lsn_of (one.2.redone 2) ∙ ap (λ (m : Paged). lsn_of (m.image 2)) one.1 ∙ no_cell_lsn in
+    let made : lsn_of (three.0.image 2) ≡ 2 = (two.2.redone.made (omega (arith, was))).lsn in
+    let then : lsn_of (four.0.image 2) ≡ lsn_of (three.0.image 2) = ap lsn_of (three.2.redone.others 2 (λ e. omega (arith, e))) in
+    let end : lsn_of (five.0.image 2) ≡ lsn_of (four.0.image 2) = ap lsn_of (four.2.redone 2) in
+    let last : lsn_of (read_pages.image 2) ≡ lsn_of (five.0.image 2) = ap lsn_of (five.2.redone 2) in
+    let none = no_cell_lsn in
+    omega (arith, made, then, end, last, none)
+
+abbrev odd_record : Record
+odd_record = page_op t1 1 free_cell
+
+odd_bad : Belongs sizes log_1 odd_record read_pages → ⊥
+odd_bad b =
+    let low = no_cell_lsn in
+    let stands : slot_of 1 (page_image 0 2 2 cells_0) ≡ cell_bytes (cell 0) = b.may.before (omega (arith, low)) in
+    let e = sym free_told.0 ∙ ap (held_in sizes 2) (sym first_cell_stands ∙ stands) ∙ cell_told.0 in
+    cc e
+
+abbrev BelongsIn : Paged → List Record → Type 0
+BelongsIn mid [] = ⊥
+BelongsIn mid (r ∷ older) = Belongs sizes older r mid
+
+first_belongs : IsFirstBad sizes (odd_record ∷ log_1) read_pages 1 → ⊥
+first_belongs b = b.bad (subst (BelongsIn b.mid) b.are (record { next = refl; may = record { write = tt; before = tt } }))
+
+open_4 : IsEnded log_4 → ⊥
+open_4 e = (let f = e.1 in cc f)
+
+begun_open : IsBegunOn (spelled log_4) (spelled (Restart 2 ∷ log_4)) → ⊥
+begun_open b = open_4 (same_log b.older log_4 b.ended (sym (one_log log_4 b.older records_spelled.1 b.are_spelled.1 b.reads)))
+
+begun_commit : IsBegunOn (spelled log_1) (spelled (Commit t1 ∷ log_1)) → ⊥
+begun_commit b =
+    let e : Commit t1 ∷ log_1 ≡ next_restart b.older ∷ b.older = one_log (Commit t1 ∷ log_1) (next_restart b.older ∷ b.older) (records_spelled.0, first_spelled) b.are_spelled b.is in
+    let f : 0 ≡ 1 = ap is_restart e in
+    omega (arith, f)
+
+pub restarts : RestartsAreJudged
+restarts = record {
+  reports = record { incarnation_is = refl; records_are = refl; unfinished_are = refl; lost_are = refl };
+  reports_the_same_incarnation = λ n undone gone r. (let e : 1 ≡ 2 = r.incarnation_is in omega (arith, e));
+  reports_no_record = λ i undone gone r. (let e : 5 ≡ 6 = r.records_are in omega (arith, e));
+  reports_what_was_undone = λ i n gone r. (let e : 1 ≡ 0 = r.unfinished_are in omega (arith, e));
+  read_as = λ d n. record { honest = tt; are_spelled = records_spelled; reads = log_seen d log_5 n };
+  read_as_less = λ d new n r.
+      (let e : 5 ≡ 4 = ap (λ (l : List Record). length l) (one_log log_5 log_4 records_spelled r.are_spelled (sym (log_seen d log_5 n) ∙ r.reads)) in omega (arith, e));
+  left_on = λ d n. record { honest = tt; left = left_here d n };
+  left_ahead = not_left;
+  ended = (refl, refl);
+  transaction_open = open_4;
+  operation_open = λ e. (let f = e.0 in cc f);
+  begun_on = record { older = log_5; are_spelled = ((omega arith, omega arith), records_spelled); reads = refl; ended = (refl, refl); is = refl };
+  begun_where_one_is_open = begun_open;
+  begun_by_a_commit = begun_commit;
+  gone_through = gone;
+  not_repeated = not_made;
+  bad_record = record { older = log_1; newest = odd_record; are = refl; place = refl; mid = read_pages; repeated = repeats_1; bad = odd_bad };
+  bad_record_elsewhere = first_belongs;
+  page_beyond = record {
+    low = omega arith;
+    high = omega arith;
+    bad = λ c. (let w : lsn_of (page_image 3 1 1 groups_1) ≤ 1 = c.lsn in let e = group_lsn in omega (arith, e, w));
+    first = λ p low less. absurd (omega (arith, low, less));
+  };
+  page_beyond_is_not_the_first = λ b.
+      (let w : lsn_of (page_image 3 1 1 groups_1) ≤ 1 = (b.first 1 (omega arith) (omega arith)).lsn in let e = group_lsn in omega (arith, e, w));
+  unfinished = (open_4, (repeated_pages, gone_4), tt);
+  unfinished_though_ended = λ s. s.0 (refl, refl);
+  log_full_of_five = λ s. (let e : 2 ^ 50 ≤ 5 = s.0 in omega (arith, e));
+  disk_without_a_failure = λ s. (let e = s.0 in omega (arith, e));
+  touched = λ s. s.2;
+  stops_unfinished = λ l u n. cc n;
+  stops_though_ended = λ s. s tt refl refl;
+  stops_for_damage = λ d s. s tt;
+  stops_for_another = λ s. s;
+}

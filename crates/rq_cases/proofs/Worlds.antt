@@ -1,0 +1,281 @@
+-- Stores between two happenings, and headlines, over the worked run.
+use Rattle.std.proofs.Common.{rules, ◌≡◌, ℕ, ◌+◌, ◌-◌, ◌≤◌, ◌<◌, false, List, [], ◌∷◌, ◌++◌, length, drop, refl, sym, ap, ◌∙◌, subst, inl, arith, length-append}
+use Rattle.std.proofs.lemmas.List.{append-nil, length-drop}
+use Rattle.rq_model.specs.declared.record.Record.{Record}
+use Rattle.rq_model.specs.History.{Entry}
+use Rattle.rq_model.specs.History.Entry.{Acknowledged, Begun, Committed, Did, Forced, Started, Stepped}
+use Rattle.rq_model.specs.History.Job.{Sending}
+use Rattle.rq_model.specs.Ledger.{Ledger, ledger}
+use Rattle.rq_model.specs.Legal.{IsLegal}
+use Rattle.rq_model.specs.Promises.{AcknowledgedStay, CrashGoesOn, FifoThroughout, ShutCrashGoesOn}
+use Rattle.rq_model.specs.Words.Op.{Send}
+use Rattle.rq_model.specs.Ledger.{group_in}
+use Rattle.rq_model.proofs.Told.{content_is}
+use Rattle.rq_model.specs.History.Call.{Force}
+use Rattle.rq_model.specs.Replay.Reply.{Gave_forced}
+use Rattle.rq_core.specs.Happenings.Answer.{Answered}
+use Rattle.rq_core.specs.Happenings.Happening.{Asks}
+use Rattle.rq_disk.specs.Device.{Images, Leaves}
+use Rattle.rq_disk.specs.Memory.{LogState, MayBe, MayLeave, PageState, pages_seen}
+use Rattle.rq_disk.specs.Shown.{pages_of}
+use Rattle.rq_disk.specs.declared.mem_log.MemLog.{MemLog}
+use Rattle.rq_disk.specs.declared.mem_pages.MemPages.{MemPages}
+use Rattle.rq_record.specs.Spelling.{spelling}
+use Rattle.rq_record.proofs.Whole.{long_spelling}
+use Rattle.rq_log.specs.Spelled.{AreSpelled, spelled}
+use Rattle.rq_page.specs.Pages.{lsn_of}
+use Rattle.rq_store.specs.Fitting.{FitsLog, FitsPage, image_in}
+use Rattle.rq_store.specs.Whole.{IsWhole}
+use Rattle.rq_store.specs.State.{State}
+use Rattle.rq_store.specs.Steps.{Continues}
+use Rattle.rq_store.proofs.Cutting.{fits_log, fits_log_longer, whole_dropped}
+use Rattle.rq_store.proofs.Formatting.{formatted_fits}
+use Rattle.rq_store.proofs.WorkedSound.{whole_empty}
+use Rattle.rq_engine.specs.Crash.{IsCut, LeavesCut}
+use Rattle.rq_engine.specs.Devices.{EachPair}
+use Rattle.rq_engine.proofs.Crashing.{commits_of_cut, leaves_cut}
+use Rattle.rq_restart.specs.Underway.{IsStore}
+use Rattle.rq_restart.proofs.Parsing.{one_log}
+use Rattle.rq_core.specs.Devices.{mem_log, mem_pages}
+use Rattle.rq_core.specs.Happenings.{Course, Tells}
+use Rattle.rq_core.specs.Runs.{IsHeadline, Ran}
+use Rattle.rq_core.specs.Worked.{first_entries, hello, small, txn}
+use Rattle.rq_core.specs.World.World.{Is_open, Is_shut}
+use Rattle.rq_core.proofs.Arms.{open_ends, shut_ends}
+use Rattle.rq_cases.specs.Opened.{AreNewPages, IsNewLog, over}
+use Rattle.rq_cases.specs.Run.{log_1, log_5, committed, forced}
+use Rattle.rq_cases.specs.Store.{formatted_pages, groups_1, page_image, sent_pages, sizes}
+use Rattle.rq_cases.specs.Worlds.{CutsAreJudged, HeadlinesAreJudged, Hold, Opens, Shuts, WorldsAreJudged, course_to, crashed, crashed_course}
+use Rattle.rq_cases.proofs.Bytes.{first_spelled, records_spelled}
+use Rattle.rq_cases.proofs.Held.{leaves_beginning, only_records, pages_fit, pages_now}
+use Rattle.rq_cases.proofs.Images.{lsn_is}
+use Rattle.rq_cases.proofs.Pages.{are_formatted, groups_1_long, range}
+use Rattle.rq_cases.proofs.Running as running
+
+-- the worked courses tell their histories
+told_7 : Tells (course_to 7) (first_entries 7)
+told_7 = (first_entries 6, (first_entries 5, (first_entries 4, (first_entries 3, (first_entries 2, (first_entries 1, (first_entries 0, refl, (refl, refl, refl, refl)), (Begun (txn 1 1), refl, tt, refl)), (Started (txn 1 1) 1 (Sending hello), (refl, refl), tt, refl)), (Stepped (txn 1 1) 1 2, refl, tt, refl)), (Stepped (txn 1 1) 1 3, refl, tt, refl)), (Did (txn 1 1) 1 (Send hello), (hello, refl), tt, refl)), (Committed (txn 1 1) 5, (refl, refl), tt, refl))
+
+told_9 : Tells (course_to 9) (first_entries 9)
+told_9 = (first_entries 8, (first_entries 7, told_7, (Acknowledged (txn 1 1) 5 false, refl, tt, refl)), (Forced 5, refl, tt, refl))
+
+told_crash : Tells crashed_course crashed
+told_crash = (first_entries 9, told_9, (tt, refl))
+
+legal_7 : IsLegal small (first_entries 7)
+legal_7 = search rules
+
+legal_crash : IsLegal small crashed
+legal_crash = search rules
+
+-- a page may be left as it was at first, and a log of records too
+page_left : (d : MemPages) (images : List (List ℕ)) → AreNewPages d images → (p : ℕ) → mem_pages.may_be d p (image_in images p)
+page_left d images n p =
+    subst (λ (s : PageState). MayBe s p (image_in images p)) (sym n.pages) (inl refl)
+
+log_left : (d : MemLog) (records : List Record) → IsNewLog d records → mem_log.may_leave d (spelled records)
+log_left d records n =
+    subst (λ (s : LogState). MayLeave s (spelled records)) (sym n.log) (0, sym (append-nil (spelled records)))
+
+some_pages : (d : MemPages) → Leaves (mem_pages.may_be d) (mem_pages.seen d)
+some_pages d p = pages_seen (pages_of d) p
+
+group_page_lsn : lsn_of (page_image 3 1 1 groups_1) ≡ 3
+group_page_lsn = lsn_is 3 1 1 groups_1 groups_1_long (omega arith)
+
+-- bytes with less than a record in them spell no record
+short_log : (log : List Record) → AreSpelled log → (0 ∷ []) ≡ spelled log → ⊥
+short_log [] told e = (let n : 1 ≡ 0 = ap length e in omega (arith, n))
+short_log (r ∷ older) told e =
+    let n : 1 ≡ length (spelled older ++ spelling r) = ap length e in
+    let m = length-append (spelled older) (spelling r) in
+    let long = long_spelling r told.0 in
+    omega (arith, n, m, long)
+
+module _ (pages : MemPages) (log : MemLog) where
+  opens : Hold pages formatted_pages log log_1 → Opens sizes (first_entries 7) (over committed pages log)
+  opens h = record { sizes = refl; ledger = refl; sound = running.commit_send.sound; fit = pages_fit pages h.0 log_1 (1, refl) }
+
+  opens_forced : Hold pages formatted_pages log log_5 → Opens sizes (first_entries 9) (over forced pages log)
+  opens_forced h = record { sizes = refl; ledger = refl; sound = running.force.sound; fit = pages_fit pages h.0 log_5 (5, refl) }
+
+  a_page_ahead : AreNewPages pages sent_pages → Opens sizes (first_entries 7) (over committed pages log) → ⊥
+  a_page_ahead n o =
+      let f : FitsPage sizes log_1 1 (page_image 3 1 1 groups_1) = o.fit.pages 1 (page_image 3 1 1 groups_1) (omega arith) (omega arith) (page_left pages sent_pages n 1) in
+      let w : lsn_of (page_image 3 1 1 groups_1) ≤ 1 = f.within in
+      let e = group_page_lsn in
+      omega (arith, e, w)
+
+  -- whatever a crash leaves of both is the store
+  leaves_store : Hold pages formatted_pages log log_5 → (images : Images) (bytes : List ℕ) → Leaves (mem_pages.may_be pages) images → mem_log.may_leave log bytes → IsStore sizes log_5 images bytes
+  leaves_store h images bytes a b = record {
+    are_spelled = records_spelled;
+    is = only_records log log_5 h.1 bytes b;
+    left = record {
+      whole = running.commit_send.sound.log;
+      fits = fits_log (mem_pages.may_be pages) sizes log_5 images (pages_fit pages h.0 log_5 (5, refl)) a;
+    };
+  }
+
+  shuts : Hold pages formatted_pages log log_5 → Shuts crashed pages log
+  shuts h = record {
+    range = range;
+    phase = refl;
+    older = log_5;
+    ties = record { committed = refl; records = refl; incarnation = omega arith };
+    left = λ images bytes a b. (log_5, ([], refl, tt), leaves_store h images bytes a b);
+  }
+
+  shuts_with_less : IsNewLog log log_1 → Shuts crashed pages log → ⊥
+  shuts_with_less n s =
+      let x = s.left (mem_pages.seen pages) (spelled log_1) (some_pages pages) (log_left log log_1 n) in
+      let store : IsStore sizes x.0 (mem_pages.seen pages) (spelled log_1) = x.2 in
+      let same : x.0 ≡ log_1 = one_log x.0 log_1 store.are_spelled first_spelled (sym store.is) in
+      let count : length x.0 ≡ 1 = ap (λ (l : List Record). length l) same in
+      let more : length (x.1.0 ++ s.older) ≡ length x.0 = ap (λ (l : List Record). length l) x.1.1 in
+      let joined = length-append x.1.0 s.older in
+      let five : 5 ≡ length s.older = s.ties.records in
+      omega (arith, count, more, joined, five)
+
+  fresh_with_one : IsNewLog log log_1 → EachPair mem_pages mem_log pages log (IsStore sizes []) → ⊥
+  fresh_with_one n s =
+      let store = s (mem_pages.seen pages) (spelled log_1) (some_pages pages) (log_left log log_1 n) in
+      let same : log_1 ≡ [] = one_log log_1 [] first_spelled tt store.is in
+      let count : 1 ≡ 0 = ap (λ (l : List Record). length l) same in
+      omega (arith, count)
+
+pub worlds : WorldsAreJudged
+worlds = record {
+  told = told_9;
+  told_with_the_crash = told_crash;
+  open_at_its_end = opens;
+  open_once_forced = opens_forced;
+  open_before_the_commit = λ pages log o. (let f : 5 ≡ 4 = ap (λ (l : Ledger). l.records) o.ledger in omega (arith, f));
+  open_and_forced_too_early = λ pages log o. (let f : 5 ≡ 1 = ap (λ (l : Ledger). l.forced) o.ledger in omega (arith, f));
+  open_after_a_crash = λ pages log o. (let f = ap (λ (l : Ledger). l.phase) o.ledger in cc f);
+  open_of_another_size = λ z h e other o. other o.sizes;
+  open_with_a_page_ahead = a_page_ahead;
+  shut = shuts;
+  shut_while_open = λ pages log s. (let f = s.phase in cc f);
+  shut_with_less = shuts_with_less;
+  fresh = λ pages log h. record {
+    range = range;
+    left = λ images bytes a b. record {
+      are_spelled = tt;
+      is = only_records log [] h.1 bytes b;
+      left = record {
+        whole = whole_empty sizes;
+        fits = fits_log (mem_pages.may_be pages) sizes [] images (pages_fit pages h.0 [] (0, refl)) a;
+      };
+    };
+  };
+  fresh_with_a_record = λ pages log n s. fresh_with_one pages log n s.left;
+}
+
+-- what a crash leaves of the store before its force
+leaves : (pages : MemPages) (log : MemLog) → Hold pages formatted_pages log log_1 → LeavesCut mem_pages mem_log (over committed pages log)
+leaves pages log h =
+    leaves_cut mem_pages mem_log pages_now (over committed pages log)
+    (λ honest c may. leaves_beginning log log_1 h.1 log_5 1 4 (omega arith) refl c may)
+    records_spelled tt running.commit_send.sound (pages_fit pages h.0 log_1 (1, refl))
+
+-- the formatted pages with the first records, all or only the first
+formatted_fit : (log : List Record) → Continues [] log → FitsLog sizes (image_in formatted_pages) log
+formatted_fit log c =
+    fits_log_longer sizes (image_in formatted_pages) [] log c
+    (formatted_fits sizes (image_in formatted_pages) range are_formatted)
+
+whole : IsWhole sizes log_5
+whole = running.commit_send.sound.log
+
+cut_first : IsCut committed (image_in formatted_pages) (spelled log_1)
+cut_first = record {
+  lost = 4;
+  forced = omega arith;
+  incarnation = omega arith;
+  told = first_spelled;
+  spells = refl;
+  store = record { whole = whole_dropped sizes 4 log_5 whole; fits = formatted_fit log_1 (1, refl) };
+  durable = omega arith;
+  content = λ g. content_is g log_1 (whole_dropped sizes 4 log_5 whole).rules ∙ ap (λ c. group_in c g) (sym (commits_of_cut 4 log_5));
+}
+
+cut_all : IsCut committed (image_in formatted_pages) (spelled log_5)
+cut_all = record {
+  lost = 0;
+  forced = omega arith;
+  incarnation = omega arith;
+  told = records_spelled;
+  spells = refl;
+  store = record { whole = whole; fits = formatted_fit log_5 (5, refl) };
+  durable = omega arith;
+  content = λ g. content_is g log_5 whole.rules ∙ ap (λ c. group_in c g) (sym (commits_of_cut 0 log_5));
+}
+
+-- how many records are left where these bytes are
+kept_count : (s : State) (images : Images) (records : List Record) → AreSpelled records → (c : IsCut s images (spelled records)) → length s.records - c.lost ≡ length records
+kept_count s images records told c =
+    sym (length-drop c.lost s.records) ∙ ap (λ (l : List Record). length l) (one_log (drop c.lost s.records) records c.told told (sym c.spells))
+
+pub cuts : CutsAreJudged
+cuts = record {
+  leaves_cut = leaves;
+  cut = cut_first;
+  nothing_lost = cut_all;
+  forced_lost = λ images c.
+      (let n : 5 - c.lost ≡ 1 = kept_count forced images log_1 first_spelled c in
+      let f : c.lost + 5 ≤ 5 = c.forced in
+      omega (arith, n, f));
+  half_a_record = λ images c. short_log (drop c.lost log_5) c.told c.spells;
+  page_ahead = λ c.
+      (let n : 5 - c.lost ≡ 1 = kept_count committed (image_in sent_pages) log_1 first_spelled c in
+      let w : lsn_of (page_image 3 1 1 groups_1) ≤ length (drop c.lost log_5) = (c.store.fits.pages 1 (omega arith) (omega arith)).within in
+      let m = length-drop c.lost log_5 in
+      let e = group_page_lsn in
+      omega (arith, n, w, m, e));
+}
+
+-- headlines
+module _ (fifo : (h : List Entry) → IsLegal small h → FifoThroughout h) (stay : AcknowledgedStay small) (goes : CrashGoesOn small) (shut_goes : ShutCrashGoesOn small) where
+  before_the_force : (pages : MemPages) (log : MemLog) → Hold pages formatted_pages log log_1 → IsHeadline sizes (course_to 7) pages log
+  before_the_force pages log h =
+      let ran : Ran sizes (course_to 7) (Is_open (over committed pages log)) = record { history = first_entries 7; tells = told_7; legal = legal_7; stands = opens pages log h; counted = tt } in
+      open_ends sizes (course_to 7) (over committed pages log) pages log fifo stay goes ran (leaves pages log h) refl refl
+
+  after_the_crash : (pages : MemPages) (log : MemLog) → Hold pages formatted_pages log log_5 → IsHeadline sizes crashed_course pages log
+  after_the_crash pages log h =
+      let ran : Ran sizes crashed_course (Is_shut pages log) = record {
+        history = crashed;
+        tells = told_crash;
+        legal = legal_crash;
+        stands = shuts pages log h;
+        counted = λ images bytes a b. (log_5, leaves_store pages log h images bytes a b, refl);
+      } in
+      shut_ends sizes crashed_course pages log fifo stay shut_goes ran
+
+  pub headlines : HeadlinesAreJudged
+  headlines = record {
+    before_the_force = before_the_force;
+    after_the_crash = after_the_crash;
+    tells_nothing = λ pages log k. k.tells.2.0;
+    loses_what_was_forced = loses;
+    leaves_half_a_record = λ course pages log may k.
+        (let x = k.leaves (mem_pages.seen pages) (0 ∷ []) (some_pages pages) may in short_log x.0 x.1.are_spelled x.1.is);
+    left = λ pages log h images bytes a b. (log_5, leaves_store pages log h images bytes a b, refl);
+    leaves_another_count = λ x course pages log n other l left.
+        (let y = left (mem_pages.seen pages) (spelled log_5) (some_pages pages) (log_left log log_5 l) in
+        let same : y.0 ≡ log_5 = one_log y.0 log_5 y.1.are_spelled records_spelled (sym y.1.is) in
+        other (sym y.2 ∙ ap (λ (l : List Record). length l) same));
+  } where
+    loses : (course : Course) (pages : MemPages) (log : MemLog) (records : List Record) (n : ℕ) → AreSpelled records → length records < n → mem_log.may_leave log (spelled records)
+        → IsHeadline sizes ((Asks Force, Answered (Gave_forced n)) ∷ course) pages log → ⊥
+    loses course pages log records n told few may k =
+        let x = k.leaves (mem_pages.seen pages) (spelled records) (some_pages pages) may in
+        let same : x.0 ≡ records = one_log x.0 records x.1.are_spelled told (sym x.1.is) in
+        let count : length x.0 ≡ length records = ap (λ (l : List Record). length l) same in
+        let older : List Entry = k.tells.0 in
+        let is : k.history ≡ Forced n ∷ older = k.tells.2.3 ∙ ap (λ (e : Entry). e ∷ older) k.tells.2.1 in
+        let all : n ≡ (ledger older).records = (subst (IsLegal small) is k.legal).0.1 in
+        let forced_is : (ledger k.history).forced ≡ (ledger older).records = ap (λ (h : List Entry). (ledger h).forced) is in
+        let kept : (ledger k.history).forced ≤ length x.0 = x.2.legal.0.forced in
+        omega (arith, few, count, all, forced_is, kept)

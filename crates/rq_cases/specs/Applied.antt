@@ -1,0 +1,104 @@
+-- What one call makes of a whole open store, over the worked run: a receive that is started, a force, a page that is
+-- written, each where a message is committed; and answers and stores that a call may not give.
+use Rattle.std.specs.Prelude.{◌≡◌, ◌≢◌, ◌<◌, ◌^◌, [], ◌∷◌, take, false, true}
+use Rattle.rq_model.specs.declared.refusal.Refusal.TheVariants as why
+use Rattle.rq_model.specs.declared.txn.Txn.{Txn}
+use Rattle.rq_disk.specs.declared.mem_log.MemLog.{MemLog}
+use Rattle.rq_disk.specs.declared.mem_pages.MemPages.{MemPages}
+use Rattle.rq_log.specs.Spelled.{AreSpelled, spelled}
+use Rattle.rq_views.specs.Row.{t2}
+use Rattle.rq_pool.specs.declared.Written.TheVariants.{Done, Nothing}
+use Rattle.rq_store.specs.Sound.{IsSound}
+use Rattle.rq_engine.specs.Applied.{Applied}
+use Rattle.rq_engine.specs.Crash.{AreFit}
+use Rattle.rq_engine.specs.Opened.{AreHonest, OpenStore}
+use Rattle.rq_engine.specs.declared.event.Event.{Event}
+use Rattle.rq_engine.specs.declared.event.Event.TheVariants as event
+use Rattle.rq_engine.specs.declared.event.Reply.{Reply}
+use Rattle.rq_engine.specs.declared.event.Reply.TheVariants as reply
+use Rattle.rq_core.specs.Devices.{mem_log, mem_pages}
+use Rattle.rq_cases.specs.Opened.{AreNewPages, HasFailedSince, IsForcedSince, IsNewLog, IsWrittenSince, over}
+use Rattle.rq_cases.specs.Run.{log_1, log_5, begun_again, take_started, committed, forced, take_sub}
+use Rattle.rq_cases.specs.Store.{formatted_pages, page_image, cells_1}
+
+-- the call was made of the one store, and made the other of it
+abbrev pub Makes : OpenStore MemPages MemLog → Event → Reply → OpenStore MemPages MemLog → Type 0
+Makes old e r new = Applied mem_pages mem_log old e r new
+
+-- what a clause with a hypothesis asks of a store
+pub record MeetsAll (s : OpenStore MemPages MemLog) : Type 0 where
+  pub honest : AreHonest mem_pages mem_log s
+  pub sound : IsSound s.state
+  pub fit : AreFit mem_pages s
+
+pub record CallsAreApplied : Type 0 where
+  pub spelled_records : AreSpelled log_5
+  -- the receive of the committed message is started
+  pub before_the_receive : (pages : MemPages) (log : MemLog) → AreNewPages pages formatted_pages → IsNewLog log log_5
+      → MeetsAll (over begun_again pages log)
+  pub receive_started : (pages : MemPages) (log : MemLog) → AreNewPages pages formatted_pages → IsNewLog log log_5
+      → Makes (over begun_again pages log) (event.StartReceive t2) (reply.Started take_sub)
+      (over take_started pages log)
+  -- the commit of the message is forced
+  pub before_the_force : (pages : MemPages) (log : MemLog) → AreNewPages pages formatted_pages → IsNewLog log log_1
+      → MeetsAll (over committed pages log)
+  pub log_forced : (pages : MemPages) (old new : MemLog) → AreNewPages pages formatted_pages → IsNewLog old log_1
+      → IsForcedSince old new (spelled (take 4 log_5))
+      → Makes (over committed pages old) event.Force (reply.Forced 5) (over forced pages new)
+  -- or the device fails in it, and the store is stopped
+  pub force_failed : (pages : MemPages) (old new : MemLog) → AreNewPages pages formatted_pages → IsNewLog old log_1
+      → HasFailedSince old new
+      → Makes (over committed pages old) event.Force (reply.Refused why.DiskWrite)
+      (over (record committed { failed = true }) pages new)
+  -- then its cell's page is written
+  pub before_the_write : (pages : MemPages) (log : MemLog) → AreNewPages pages formatted_pages → IsNewLog log log_5
+      → MeetsAll (over forced pages log)
+  pub page_written : (old new : MemPages) (log : MemLog) → AreNewPages old formatted_pages → IsNewLog log log_5
+      → IsWrittenSince old new 2 (page_image 2 2 2 cells_1)
+      → Makes (over forced old log) (event.WritePage 2) (reply.Written Done)
+      (record (over forced new log) { changed = false ∷ true ∷ false ∷ [] })
+
+-- what no call may answer or make, whatever else it does
+pub record CallsAreNotApplied : Type 0 where
+  pub another_sizes : (old new : OpenStore MemPages MemLog) (e : Event) (r : Reply)
+      → new.state.sizes ≢ old.state.sizes → Makes old e r new → ⊥
+  pub failed_while_it_runs : (old new : OpenStore MemPages MemLog) (e : Event) → old.state.failed ≡ false
+      → Makes old e (reply.Refused why.Failed) new → ⊥
+  pub answered_while_it_failed : (old new : OpenStore MemPages MemLog) → old.state.failed ≡ true
+      → Makes old event.HandOver reply.HandedOver new → ⊥
+  pub refused_and_changed : (old new : OpenStore MemPages MemLog) (e : Event) → new ≢ old
+      → Makes old e (reply.Refused why.NoMemory) new → ⊥
+  pub refused_without_its_cause : (pages : MemPages) (log : MemLog) (new : OpenStore MemPages MemLog)
+      → AreNewPages pages formatted_pages → IsNewLog log log_5
+      → Makes (over begun_again pages log) (event.StartReceive t2) (reply.Refused why.Latched) new → ⊥
+  pub none_where_one_waits : (pages : MemPages) (log : MemLog) (new : OpenStore MemPages MemLog)
+      → Makes (over begun_again pages log) (event.StartReceive t2) reply.NoMessage new → ⊥
+  pub page_marked : (old new : OpenStore MemPages MemLog) (t : Txn) (r : Reply) → new.changed ≢ old.changed
+      → Makes old (event.StartReceive t) r new → ⊥
+  pub page_touched : (old new : OpenStore MemPages MemLog) (t : Txn) (r : Reply) → new.pages ≢ old.pages
+      → Makes old (event.StartReceive t) r new → ⊥
+  pub log_touched : (old new : OpenStore MemPages MemLog) (t : Txn) (r : Reply) → new.log ≢ old.log
+      → Makes old (event.StartReceive t) r new → ⊥
+  pub written_ahead_of_its_log : (pages : MemPages) (log : MemLog) (new : OpenStore MemPages MemLog)
+      → Makes (over committed pages log) (event.WritePage 2) (reply.Written Done) new → ⊥
+  pub nothing_to_write : (pages : MemPages) (log : MemLog) (new : OpenStore MemPages MemLog)
+      → Makes (over forced pages log) (event.WritePage 2) (reply.Written Nothing) new → ⊥
+  pub mark_kept : (pages : MemPages) (log : MemLog) (new : OpenStore MemPages MemLog)
+      → new.changed ≡ (over forced pages log).changed
+      → Makes (over forced pages log) (event.WritePage 2) (reply.Written Done) new → ⊥
+  pub another_page_written : (pages : MemPages) (log : MemLog) (new : OpenStore MemPages MemLog)
+      → mem_pages.seen new.pages 1 ≢ mem_pages.seen pages 1
+      → Makes (over forced pages log) (event.WritePage 2) (reply.Written Done) new → ⊥
+  pub failed_and_runs : (old new : OpenStore MemPages MemLog) → new.state.failed ≡ false
+      → Makes old event.Force (reply.Refused why.DiskWrite) new → ⊥
+  pub failed_without_a_failure : (pages : MemPages) (log : MemLog) (new : OpenStore MemPages MemLog)
+      → mem_log.faults log < 2 ^ 64
+      → mem_log.faults new.log ≡ mem_log.faults log
+      → Makes (over committed pages log) event.Force (reply.Refused why.DiskWrite) new → ⊥
+  -- a force that forced nothing: a crash still leaves the first record alone, or at some moment left no record
+  pub forced_nothing : (pages : MemPages) (log : MemLog) (new : OpenStore MemPages MemLog)
+      → mem_log.may_leave new.log (spelled log_1)
+      → Makes (over committed pages log) event.Force (reply.Forced 5) new → ⊥
+  pub left_nothing_meanwhile : (pages : MemPages) (log : MemLog) (new : OpenStore MemPages MemLog)
+      → mem_log.left_since new.log (mem_log.moment log) []
+      → Makes (over committed pages log) event.Force (reply.Forced 5) new → ⊥

@@ -1,0 +1,51 @@
+-- What calls that change no list say of a store: receipts, page writes, contents.
+use Rattle.std.specs.Prelude.{◌≡◌, ◌≢◌, ℕ, ◌<◌, None, Some, Option, Vec}
+use Rattle.std.specs.declared.alloc.Global.{Global}
+use Rattle.rq_content.specs.declared.GroupContent.{GroupContent}
+use Rattle.rq_views.specs.Row.{t1}
+use Rattle.rq_pool.specs.declared.Written.{Written}
+use Rattle.rq_store.specs.State.{State}
+use Rattle.rq_engine.specs.Lists.{ListsSay}
+use Rattle.rq_engine.specs.declared.event.CommitNo.{CommitNo}
+use Rattle.rq_engine.specs.declared.event.Event.TheVariants as event
+use Rattle.rq_engine.specs.declared.event.Receipt.{Receipt}
+use Rattle.rq_engine.specs.declared.event.Reply.TheVariants as reply
+use Rattle.rq_cases.specs.Run.{committed, forced}
+
+-- the commit's receipt is asked for, and this is given
+abbrev pub Acknowledges : State → CommitNo → Option Receipt → State → Type 0
+Acknowledges s number given new = ListsSay s (event.Acknowledged number) (reply.Acknowledged given) new
+
+-- it is that of the send
+abbrev pub IsOfSend : CommitNo → Type 0
+IsOfSend number = (number.txn ≡ t1) × (number.lsn ≡ 5)
+
+pub record AsksAreJudged : Type 0 where
+  pub before_the_force : (number : CommitNo) → IsOfSend number → Acknowledges committed number None committed
+  pub after_the_force : (number : CommitNo) (r : Receipt) → IsOfSend number → r.number ≡ number
+      → Acknowledges forced number (Some r) forced
+  pub given_before_the_force : (new : State) (number : CommitNo) (r : Receipt) → IsOfSend number
+      → Acknowledges committed number (Some r) new → ⊥
+  pub never_given : (new : State) (number : CommitNo) → IsOfSend number → Acknowledges forced number None new → ⊥
+  pub given_beyond_the_force : (s new : State) (number : CommitNo) (r : Receipt) → s.forced < number.lsn
+      → Acknowledges s number (Some r) new → ⊥
+  pub given_of_another_incarnation : (s new : State) (number : CommitNo) (r : Receipt)
+      → number.txn.incarnation ≢ s.incarnation
+      → Acknowledges s number (Some r) new → ⊥
+  pub given_for_another : (s new : State) (number : CommitNo) (r : Receipt) → r.number.lsn ≢ number.lsn
+      → Acknowledges s number (Some r) new → ⊥
+  pub given_and_changed : (s new : State) (number : CommitNo) (given : Option Receipt) → new ≢ s
+      → Acknowledges s number given new → ⊥
+  pub answered_otherwise : (s new : State) (number : CommitNo)
+      → ListsSay s (event.Acknowledged number) reply.HandedOver new → ⊥
+  -- a page is written, or is not
+  pub page_written : (s : State) (page : ℕ) (w : Written) → ListsSay s (event.WritePage page) (reply.Written w) s
+  pub page_written_and_changed : (s new : State) (page : ℕ) (w : Written) → new ≢ s
+      → ListsSay s (event.WritePage page) (reply.Written w) new → ⊥
+  pub page_answered_otherwise : (s new : State) (page lsn : ℕ)
+      → ListsSay s (event.WritePage page) (reply.Forced lsn) new → ⊥
+  -- the content is shown
+  pub shown : (s : State) (groups : Vec GroupContent Global) → ListsSay s event.Content (reply.Content groups) s
+  pub shown_and_changed : (s new : State) (groups : Vec GroupContent Global) → new ≢ s
+      → ListsSay s event.Content (reply.Content groups) new → ⊥
+  pub content_answered_otherwise : (s new : State) → ListsSay s event.Content reply.NoMessage new → ⊥

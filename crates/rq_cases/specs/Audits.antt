@@ -1,0 +1,46 @@
+-- Audits that replay and marks that were published, of a shared engine; and those that aren't.
+use Rattle.std.specs.Prelude.{List, [], ◌∷◌}
+use Rattle.rq_model.specs.History.Call.{Begin, Start_receive}
+use Rattle.rq_model.specs.Replay.Reply.{Gave_none, Gave_sub, Gave_txn}
+use Rattle.rq_disk.specs.declared.mem_log.MemLog.{MemLog}
+use Rattle.rq_disk.specs.declared.mem_pages.MemPages.{MemPages}
+use Rattle.rq_views.specs.Row.{t1, t2}
+use Rattle.rq_store.specs.State.{State}
+use Rattle.rq_shared.specs.Entries.{Follows, Noted, OneMore}
+use Rattle.rq_shared.specs.Marks.{IsMark, newcomer, seat_view}
+use Rattle.rq_core.specs.Devices.{mem_log, mem_pages}
+use Rattle.rq_cases.specs.Opened.{over}
+use Rattle.rq_cases.specs.Run.{begun_again, forced, take_started}
+
+-- transaction 1.2 is begun, and its receive is started
+abbrev pub began : Noted
+began = record { pass = 1; call = Begin; gave = Gave_txn t2 }
+
+abbrev pub took : Noted
+took = record { pass = 2; call = Start_receive t2; gave = Gave_sub t2 1 }
+
+-- the audit leads from one state to the other, over the same devices
+abbrev pub Leads : State → List Noted → State → Type 0
+Leads base audit new = (pages : MemPages) (log : MemLog)
+    → Follows mem_pages mem_log (over base pages log) audit (over new pages log)
+
+abbrev pub LeadsNot : State → List Noted → State → Type 0
+LeadsNot base audit new = (pages : MemPages) (log : MemLog)
+    → Follows mem_pages mem_log (over base pages log) audit (over new pages log) → ⊥
+
+pub record AuditsAreJudged : Type 0 where
+  pub of_no_call : Leads forced [] forced
+  pub of_two_calls : Leads forced (began ∷ took ∷ []) take_started
+  pub call_left_out : LeadsNot forced (took ∷ []) take_started
+  pub all_left_out : LeadsNot forced [] begun_again
+  pub another_number : LeadsNot forced (record { pass = 1; call = Begin; gave = Gave_txn t1 } ∷ []) begun_again
+  pub another_call : LeadsNot forced (record { pass = 1; call = Begin; gave = Gave_none } ∷ []) begun_again
+  pub one_more : OneMore (began ∷ []) (began ∷ took ∷ []) took
+  pub one_more_in_front : OneMore (took ∷ []) (began ∷ took ∷ []) began → ⊥
+  pub no_more : OneMore (began ∷ []) (began ∷ []) took → ⊥
+  -- the mark is 0, or was published, and nobody saw more
+  pub new_mark : IsMark (0 ∷ []) (newcomer ∷ [])
+  pub published : IsMark (5 ∷ []) (newcomer ∷ seat_view (5 ∷ []) 5 ∷ [])
+  pub never_published : IsMark (5 ∷ []) (newcomer ∷ []) → ⊥
+  pub saw_more : IsMark (0 ∷ []) (seat_view (5 ∷ []) 5 ∷ []) → ⊥
+  pub two_words : IsMark (0 ∷ 0 ∷ []) (newcomer ∷ []) → ⊥

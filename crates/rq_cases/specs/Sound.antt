@@ -1,0 +1,59 @@
+-- The worked run: each of its states is sound, each call a step of the model; and what is not so of its transactions.
+use Rattle.std.specs.Prelude.{◌≡◌, ℕ, ◌<◌, List, [], ◌∷◌, length}
+use Rattle.rq_bytes.specs.Number.{AreBytes}
+use Rattle.rq_model.specs.declared.message.Message.{Message}
+use Rattle.rq_model.specs.History.Call.{Begin, Commit, Finish, Force, Start_receive, Start_send, Step}
+use Rattle.rq_model.specs.Replay.Reply.{Gave_commit, Gave_forced, Gave_lsn, Gave_message, Gave_sent, Gave_sub, Gave_txn}
+use Rattle.rq_views.specs.Row.{t1, t2}
+use Rattle.rq_store.specs.Fitting.{image_in}
+use Rattle.rq_store.specs.Sound.{IsSound}
+use Rattle.rq_store.specs.Rows.{FollowsPlan, IsRow}
+use Rattle.rq_store.specs.Steps.{Steps}
+use Rattle.rq_store.specs.Worked.{AreFormatted}
+use Rattle.rq_cases.specs.Store.{sizes, formatted_pages}
+use Rattle.rq_cases.specs.Run as run
+
+abbrev pub hello : Message
+hello = record { sender = 0; tag = 7; body = 104 ∷ [] }
+
+-- 4,096 bytes
+abbrev pub IsImageOfPage : List ℕ → Type 0
+IsImageOfPage image = (length image ≡ 4096) × AreBytes image
+
+pub record RunIsSound : Type 0 where
+  pub images : (p : ℕ) → p < 3 → IsImageOfPage (image_in formatted_pages p)
+  pub formatted : AreFormatted sizes formatted_pages
+  pub fresh : IsSound run.fresh
+  pub begun : Steps run.fresh Begin (Gave_txn t1) run.begun
+  pub started : Steps run.begun (Start_send t1 hello) (Gave_sub t1 1) run.send_started
+  pub cell_filled : Steps run.send_started (Step t1 1) (Gave_lsn 2) run.cell_filled
+  pub group_counted : Steps run.cell_filled (Step t1 1) (Gave_lsn 3) run.group_counted
+  pub sent : Steps run.group_counted (Finish t1 1) Gave_sent run.sent
+  pub committed : Steps run.sent (Commit t1) (Gave_commit (record { txn = t1; lsn = 5 })) run.committed
+  pub forced : Steps run.committed Force (Gave_forced 5) run.forced
+  pub begun_again : Steps run.forced Begin (Gave_txn t2) run.begun_again
+  pub take_started : Steps run.begun_again (Start_receive t2) (Gave_sub t2 1) run.take_started
+  pub cell_freed : Steps run.take_started (Step t2 1) (Gave_lsn 6) run.cell_freed
+  pub take_counted : Steps run.cell_freed (Step t2 1) (Gave_lsn 7) run.take_counted
+  pub taken : Steps run.take_counted (Finish t2 1) (Gave_message hello) run.taken
+  pub all_committed : Steps run.taken (Commit t2) (Gave_commit (record { txn = t2; lsn = 9 })) run.all_committed
+
+-- a transaction with an operation under way, over the log with the operation's first write
+pub record RowsAreJudged : Type 0 where
+  pub going : IsRow sizes run.log_2 run.sends_to_0 1 1 (run.busy_row t1 (run.send_under 1))
+  pub done : IsRow sizes run.log_4 run.sends_to_0 1 1 (run.done_row t1 run.did_send)
+  pub under_way : FollowsPlan sizes run.log_2 run.sends_to_0 t1 (run.send_under 1)
+  -- it has one write made more, or fewer, than there are records of
+  pub one_more_made : FollowsPlan sizes run.log_2 run.sends_to_0 t1 (run.send_under 2) → ⊥
+  pub none_made : FollowsPlan sizes run.log_2 run.sends_to_0 t1 (run.send_under 0) → ⊥
+  -- it doesn't hold the end, it has ended in the log, or is none of this incarnation
+  pub end_not_held : FollowsPlan sizes run.log_2 run.no_ends t1 (run.send_under 1) → ⊥
+  pub has_ended : FollowsPlan sizes run.log_4 run.sends_to_0 t1 (run.send_under 2) → ⊥
+  pub another_incarnation : IsRow sizes run.log_2 run.sends_to_0 2 1 (run.busy_row t1 (run.send_under 1)) → ⊥
+  pub never_begun : IsRow sizes run.log_2 run.sends_to_0 1 0 (run.busy_row t1 (run.send_under 1)) → ⊥
+  pub committed_already : IsRow sizes run.log_5 run.sends_to_0 1 1 (run.done_row t1 run.did_send) → ⊥
+  -- what it did is not what its records say
+  pub did_nothing : IsRow sizes run.log_4 run.sends_to_0 1 1 (record (run.done_row t1 run.did_send) { finished = [] })
+      → ⊥
+  pub another_number : IsRow sizes run.log_4 run.sends_to_0 1 1 (record (run.done_row t1 run.did_send) { number = 2 })
+      → ⊥
