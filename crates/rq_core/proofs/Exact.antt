@@ -71,6 +71,12 @@ module _ (z : Size) (shown : (h : List Entry) (s : ℕ) → IsLegal z h → grou
       let there = subst (λ r. length (own_takes s o) < length r) (rest_is h s a) lt in
       cc (sym (lt_true (length (own_takes s o)) (length (rest_in (ledger h).committed s)) there) ∙ e)
 
+  gives_one : (h : List Entry) (t : Txn) (s : ℕ) (o : Option Open) → IsLegal z h → gives (ledger h) t o s ≡ true → OnFound o (λ x. GivesTo h t x s)
+  gives_one h t s None a e = absurd (cc e)
+  gives_one h t s (Some o) a e =
+      let b = both (free_to_receive t s (ledger h).open_ones) (holds_for (ledger h) o s) e in
+      (b.0, holds h o s a b.1)
+
   pub exact : NoneIsExact z
   exact = record {
     none = λ h t a. on_found _ _ (found t (ledger h).open_ones) (λ o p s low g. holds_not h o s a.1 (p s low g.0) g.1) a.0.1;
@@ -82,4 +88,5 @@ module _ (z : Size) (shown : (h : List Entry) (s : ℕ) → IsLegal z h → grou
         on_found _ _ (found t (ledger h).open_ones) (λ o p. (low, (free, holds h o s a.1 p.1))) a.0.1;
     latched = λ h t a.
         on_found _ _ (found t (ledger h).open_ones) (λ o p. (p.0, in_below z.senders p.0 p.1, (p.2, holds h o p.0 a.1 p.3))) (some_gives (ledger h) t (below z.senders) (found t (ledger h).open_ones) a.0.1);
+    latched_from = λ h t s a. gives_one h t s (found t (ledger h).open_ones) a.1 a.0.1;
   }

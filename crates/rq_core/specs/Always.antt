@@ -3,7 +3,7 @@ use Rattle.std.specs.Prelude.{◌≡◌, ℕ, ◌<◌, List, [], ◌∷◌, leng
 use Rattle.rq_model.specs.declared.txn.Txn.{Txn}
 use Rattle.rq_model.specs.History.{Entry, rest}
 use Rattle.rq_model.specs.declared.refusal.Refusal.TheVariants.{Latched}
-use Rattle.rq_model.specs.History.Call.{Start_receive}
+use Rattle.rq_model.specs.History.Call.{Start_receive, Start_receive_from}
 use Rattle.rq_model.specs.History.Entry.{None_free, None_from, Refused, Shown, Started}
 use Rattle.rq_model.specs.History.Job.{Taking}
 use Rattle.rq_model.specs.Groups.{group}
@@ -28,6 +28,8 @@ pub record NoneIsExact (z : Size) : Type 0 where
       → At (ledger h) t (λ o. (s < z.senders) × GivesTo h t o s)
   pub latched : (h : List Entry) (t : Txn) → IsLegal z (Refused (Start_receive t) Latched ∷ h)
       → At (ledger h) t (λ o. (s : ℕ) × (s < z.senders) × GivesTo h t o s)
+  pub latched_from : (h : List Entry) (t : Txn) (s : ℕ) → IsLegal z (Refused (Start_receive_from t s) Latched ∷ h)
+      → At (ledger h) t (λ o. GivesTo h t o s)
 
 -- What is shown is, of each sender, the committed content: of what was sent what was not received, in order.
 abbrev pub ContentIsTheRest : Size → Type 0
