@@ -10,7 +10,7 @@ use Rattle.rq_disk.specs.declared.mem_log.MemLog.{MemLog}
 use Rattle.rq_disk.specs.declared.mem_pages.MemPages.{MemPages}
 use Rattle.rq_log.specs.Spelled.{spelled}
 use Rattle.rq_page.specs.Pages.{lsn_of}
-use Rattle.rq_views.specs.Row.{t2}
+use Rattle.rq_views.specs.WorkedItems.{t2}
 use Rattle.rq_restart.proofs.Parsing.{one_log, AreSpelled-drop}
 use Rattle.rq_store.specs.State.{State}
 use Rattle.rq_store.specs.Steps.{Steps}

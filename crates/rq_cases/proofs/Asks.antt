@@ -3,7 +3,7 @@ use Rattle.std.proofs.Common.{◌≡◌, ◌≢◌, ℕ, ◌<◌, Bool, true, fa
 use Rattle.std.proofs.lemmas.Bool.{and_left, and_right, eqb-true, false_from_ne_true, lt-ltb}
 use Rattle.rq_model.specs.declared.txn.Txn.{Txn}
 use Rattle.rq_model.specs.Replay.{Number, receipt}
-use Rattle.rq_views.specs.Row.{t1}
+use Rattle.rq_views.specs.WorkedItems.{t1}
 use Rattle.rq_store.specs.State.{State}
 use Rattle.rq_engine.specs.Says.{commit_number}
 use Rattle.rq_engine.specs.declared.event.CommitNo.{CommitNo}

@@ -9,7 +9,7 @@ use Rattle.rq_model.specs.History.Job.{Taking}
 use Rattle.rq_model.specs.Replay.Reply.{Gave_txn}
 use Rattle.rq_model.specs.Ledger.{Ledger}
 use Rattle.rq_model.specs.Legal.{Legal}
-use Rattle.rq_views.specs.Row.{t1, t2}
+use Rattle.rq_views.specs.WorkedItems.{t1, t2}
 use Rattle.rq_store.specs.State.{ledger_of, size_of}
 use Rattle.rq_shared.specs.Entries.{Noted}
 use Rattle.rq_shared.specs.Marks.{IsMark, IsPublished, newcomer, seat_view}

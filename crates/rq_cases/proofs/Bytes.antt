@@ -13,7 +13,7 @@ use Rattle.rq_page.specs.Formatted.{formatted_slot, superblock_bytes, superblock
 use Rattle.rq_page.specs.Pages.{header_bytes, header_front}
 use Rattle.rq_page.proofs.CellBytes.{length-cell_bytes}
 use Rattle.rq_page.proofs.DirectoryBytes.{length-directory_bytes}
-use Rattle.rq_views.specs.Row.{cell, sends, t1}
+use Rattle.rq_views.specs.WorkedItems.{cell, sends, t1}
 use Rattle.rq_record.specs.Spelling.{FitsTxn, IsImage, IsRecord, IsTxnInRange}
 use Rattle.rq_log.specs.Spelled.{AreSpelled}
 use Rattle.rq_store.specs.Steps.{op_end, page_op}

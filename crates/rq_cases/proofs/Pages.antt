@@ -14,7 +14,7 @@ use Rattle.rq_page.proofs.CellBytes.{length-cell_bytes}
 use Rattle.rq_page.proofs.DirectoryBytes.{length-directory_bytes}
 use Rattle.rq_page.proofs.Spellings.{spelling_tells}
 use Rattle.rq_views.specs.Log.{put}
-use Rattle.rq_views.specs.Row.{cell}
+use Rattle.rq_views.specs.WorkedItems.{cell}
 use Rattle.rq_views.specs.Stored.{slots_in, slot_at}
 use Rattle.rq_views.proofs.Overlay.{put_off}
 use Rattle.rq_pool.proofs.Slots.{slots_here}

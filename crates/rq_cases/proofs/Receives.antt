@@ -5,7 +5,7 @@ use Rattle.rq_model.specs.declared.record.Deed.{Deed}
 use Rattle.rq_model.specs.declared.txn.Sub.{Sub}
 use Rattle.rq_model.specs.Replay.{Reply as Gave}
 use Rattle.rq_model.specs.Replay.Reply.{Gave_sent, Gave_message}
-use Rattle.rq_views.specs.Row.{t2, takes}
+use Rattle.rq_views.specs.WorkedItems.{t2, takes}
 use Rattle.rq_groups.specs.Ends.{HeldEnds}
 use Rattle.rq_groups.specs.Waiting.{waits}
 use Rattle.rq_txn.specs.Rows.{found_row, row_started}

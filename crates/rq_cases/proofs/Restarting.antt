@@ -16,7 +16,7 @@ use Rattle.rq_page.proofs.DirectoryBytes.{directory_in-directory_bytes}
 use Rattle.rq_page.specs.Pages.{lsn_of, slot_of}
 use Rattle.rq_page.specs.Slots.{held_in}
 use Rattle.rq_page.specs.Sizes.{sender_at}
-use Rattle.rq_views.specs.Row.{cell, sends, t1}
+use Rattle.rq_views.specs.WorkedItems.{cell, sends, t1}
 use Rattle.rq_store.specs.Fitting.{FitsLog, image_in}
 use Rattle.rq_store.specs.Opening.{IsLeft, next_restart}
 use Rattle.rq_store.specs.Steps.{op_end, page_op}

@@ -11,7 +11,7 @@ use Rattle.rq_page.specs.Directories.{new_directory}
 use Rattle.rq_page.specs.Sizes.{directory_at}
 use Rattle.rq_views.specs.Items.{formatted_at}
 use Rattle.rq_views.specs.Log.{Slots, Write}
-use Rattle.rq_views.specs.Row.{cell, t1, t2, takes}
+use Rattle.rq_views.specs.WorkedItems.{cell, t1, t2, takes}
 use Rattle.rq_views.specs.Stored.{slots_in, count_used}
 use Rattle.rq_txn.specs.Rows.{fresh_row}
 use Rattle.rq_store.specs.Opening.{messages_told, opened}

@@ -4,7 +4,7 @@ use Rattle.rq_views.specs.Legal.{Placed}
 use Rattle.rq_views.specs.Log.{Write}
 use Rattle.rq_cases.specs.Sound.{RunIsSound, RowsAreJudged}
 use Rattle.rq_cases.specs.Run.{busy_row, did_send, done_row, send_under}
-use Rattle.rq_views.specs.Row.{t1}
+use Rattle.rq_views.specs.WorkedItems.{t1}
 use Rattle.rq_cases.proofs.Bytes.{are_images}
 use Rattle.rq_cases.proofs.Pages.{are_formatted}
 use Rattle.rq_cases.proofs.Running as running

@@ -4,7 +4,7 @@ use Rattle.rq_model.specs.declared.record.Deed.{Deed}
 use Rattle.rq_model.specs.declared.record.Deed.TheVariants.{Append, Close}
 use Rattle.rq_model.specs.declared.txn.Sub.{Sub}
 use Rattle.rq_model.specs.declared.txn.Txn.{Txn}
-use Rattle.rq_views.specs.Row.{t1, sends}
+use Rattle.rq_views.specs.WorkedItems.{t1, sends}
 use Rattle.rq_groups.specs.Ends.{HeldEnds}
 use Rattle.rq_txn.specs.Rows.{Row, Under, found_row, row_started}
 use Rattle.rq_store.specs.State.{State}

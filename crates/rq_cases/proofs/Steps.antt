@@ -4,7 +4,7 @@ use Rattle.std.proofs.lemmas.Option.{same_Some}
 use Rattle.rq_model.specs.declared.record.Deed.{Deed}
 use Rattle.rq_model.specs.Replay.{Reply as Gave}
 use Rattle.rq_model.specs.Replay.Reply.{Gave_sent}
-use Rattle.rq_views.specs.Row.{sends}
+use Rattle.rq_views.specs.WorkedItems.{sends}
 use Rattle.rq_level.specs.declared.writes.SlotWrite.{SlotWrite}
 use Rattle.rq_groups.specs.Ends.{HeldEnds}
 use Rattle.rq_txn.specs.Rows.{Row, Under, found_row, row_stepped, row_finished}

@@ -6,7 +6,7 @@ use Rattle.rq_model.specs.declared.txn.Txn.{Txn}
 use Rattle.rq_disk.specs.declared.mem_log.MemLog.{MemLog}
 use Rattle.rq_disk.specs.declared.mem_pages.MemPages.{MemPages}
 use Rattle.rq_log.specs.Spelled.{AreSpelled, spelled}
-use Rattle.rq_views.specs.Row.{t2}
+use Rattle.rq_views.specs.WorkedItems.{t2}
 use Rattle.rq_pool.specs.declared.Written.TheVariants.{Done, Nothing}
 use Rattle.rq_store.specs.Sound.{IsSound}
 use Rattle.rq_engine.specs.Applied.{Applied}

@@ -2,7 +2,7 @@
 use Rattle.std.specs.Prelude.{◌≡◌, ◌≢◌, ℕ, ◌<◌, None, Some, Option, Vec}
 use Rattle.std.specs.declared.alloc.Global.{Global}
 use Rattle.rq_content.specs.declared.GroupContent.{GroupContent}
-use Rattle.rq_views.specs.Row.{t1}
+use Rattle.rq_views.specs.WorkedItems.{t1}
 use Rattle.rq_pool.specs.declared.Written.{Written}
 use Rattle.rq_store.specs.State.{State}
 use Rattle.rq_engine.specs.Lists.{ListsSay}

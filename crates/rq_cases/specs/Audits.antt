@@ -4,7 +4,7 @@ use Rattle.rq_model.specs.History.Call.{Begin, Start_receive}
 use Rattle.rq_model.specs.Replay.Reply.{Gave_none, Gave_sub, Gave_txn}
 use Rattle.rq_disk.specs.declared.mem_log.MemLog.{MemLog}
 use Rattle.rq_disk.specs.declared.mem_pages.MemPages.{MemPages}
-use Rattle.rq_views.specs.Row.{t1, t2}
+use Rattle.rq_views.specs.WorkedItems.{t1, t2}
 use Rattle.rq_store.specs.State.{State}
 use Rattle.rq_shared.specs.Entries.{Follows, Noted, OneMore}
 use Rattle.rq_shared.specs.Marks.{IsMark, newcomer, seat_view}

@@ -7,7 +7,7 @@ use Rattle.rq_disk.specs.declared.mem_log.MemLog.{MemLog}
 use Rattle.rq_disk.specs.declared.mem_pages.MemPages.{MemPages}
 use Rattle.rq_page.specs.Cells.{cell_bytes, free_bytes}
 use Rattle.rq_page.specs.Formatted.{formatted_slot}
-use Rattle.rq_views.specs.Row.{cell, sends, t1}
+use Rattle.rq_views.specs.WorkedItems.{cell, sends, t1}
 use Rattle.rq_level.specs.declared.writes.SlotWrite.{SlotWrite}
 use Rattle.rq_pool.specs.Reading.{ArePages, IsDamaged, OnlyRead}
 use Rattle.rq_store.specs.Fitting.{image_in}

@@ -3,7 +3,7 @@ use Rattle.std.specs.Prelude.{◌≡◌, ◌≢◌, ℕ, ◌∷◌, []}
 use Rattle.rq_model.specs.declared.message.Message.{Message}
 use Rattle.rq_model.specs.declared.txn.Sub.{Sub}
 use Rattle.rq_model.specs.declared.txn.Txn.{Txn}
-use Rattle.rq_views.specs.Row.{t1, t2}
+use Rattle.rq_views.specs.WorkedItems.{t1, t2}
 use Rattle.rq_txn.specs.Rows.{found_row}
 use Rattle.rq_store.specs.State.{State}
 use Rattle.rq_engine.specs.Lists.{ListsSay}

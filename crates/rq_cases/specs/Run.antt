@@ -5,7 +5,7 @@ use Rattle.rq_model.specs.declared.record.Record.{Record}
 use Rattle.rq_model.specs.declared.record.Record.TheVariants.{Commit, Restart}
 use Rattle.rq_model.specs.declared.txn.Sub.{Sub}
 use Rattle.rq_model.specs.declared.txn.Txn.{Txn}
-use Rattle.rq_views.specs.Row.{of, sends, t1, t2, takes}
+use Rattle.rq_views.specs.WorkedItems.{of, sends, t1, t2, takes}
 use Rattle.rq_txn.specs.declared.Finished.{Finished}
 use Rattle.rq_txn.specs.Rows.{Row, Under, fresh_row}
 use Rattle.rq_groups.specs.declared.Held.{Held}

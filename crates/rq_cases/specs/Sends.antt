@@ -3,7 +3,7 @@ use Rattle.std.specs.Prelude.{◌≡◌, ◌≢◌, ℕ, ◌+◌, List, [], ◌�
 use Rattle.std.specs.declared.alloc.Global.{Global}
 use Rattle.rq_model.specs.declared.txn.Sub.{Sub}
 use Rattle.rq_model.specs.declared.txn.Txn.{Txn}
-use Rattle.rq_views.specs.Row.{of, t1}
+use Rattle.rq_views.specs.WorkedItems.{of, t1}
 use Rattle.rq_txn.specs.Rows.{found_row}
 use Rattle.rq_store.specs.Fitting.{image_in}
 use Rattle.rq_store.specs.State.{State}

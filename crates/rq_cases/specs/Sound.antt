@@ -4,7 +4,7 @@ use Rattle.rq_bytes.specs.Number.{AreBytes}
 use Rattle.rq_model.specs.declared.message.Message.{Message}
 use Rattle.rq_model.specs.History.Call.{Begin, Commit, Finish, Force, Start_receive, Start_send, Step}
 use Rattle.rq_model.specs.Replay.Reply.{Gave_commit, Gave_forced, Gave_lsn, Gave_message, Gave_sent, Gave_sub, Gave_txn}
-use Rattle.rq_views.specs.Row.{t1, t2}
+use Rattle.rq_views.specs.WorkedItems.{t1, t2}
 use Rattle.rq_store.specs.Fitting.{image_in}
 use Rattle.rq_store.specs.Sound.{IsSound}
 use Rattle.rq_store.specs.Rows.{FollowsPlan, IsRow}

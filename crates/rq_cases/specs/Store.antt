@@ -9,7 +9,7 @@ use Rattle.rq_page.specs.Pages.{header_bytes}
 use Rattle.rq_page.specs.Sizes.{Sizes}
 use Rattle.rq_views.specs.Chain.{directory_appended}
 use Rattle.rq_views.specs.Plans.{directory_head_unlinked}
-use Rattle.rq_views.specs.Row.{cell}
+use Rattle.rq_views.specs.WorkedItems.{cell}
 use Rattle.rq_level.specs.declared.writes.SlotWrite.{SlotWrite}
 
 -- one directory page and one cell page: 15 senders and 15 cells

@@ -21,7 +21,7 @@ use Rattle.rq_level.specs.declared.writes.Plan.{Plan}
 use Rattle.rq_level.specs.declared.writes.Outcome.TheVariants as gives
 use Rattle.rq_chain.specs.declared.Neighbour.{Neighbour}
 use Rattle.rq_chain.specs.declared.Group.{Group}
-use Rattle.rq_chain.specs.Writes.{cell_beside}
+use Rattle.rq_chain.specs.Neighbours.{cell_beside}
 use Rattle.rq_chain.proofs.Givens.{holds_one}
 
 module _ (z : Sizes) (k : Kept) (given : List Given) (latched : List ℕ) (s tag : ℕ) (body : List ℕ) (p : Plan) (after : Kept) (g : Group) where

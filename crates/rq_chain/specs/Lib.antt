@@ -1,4 +1,4 @@
-pub mod Writes
+pub mod Neighbours
 pub mod Doings
 pub mod Refusing
 pub mod Cells

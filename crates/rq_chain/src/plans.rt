@@ -6,7 +6,7 @@ ghost use Rattle.rq_views.specs.Chain.{directory_appended};
 ghost use Rattle.rq_views.specs.Items.{layout_of};
 ghost use Rattle.rq_views.specs.Plans.{append_writes, unlink_head_writes, unlink_tail_writes, put_back_writes, directory_write, directory_head_unlinked, directory_tail_unlinked, directory_put_back, with_next, with_prev};
 ghost use Rattle.rq_level.specs.Writes.{write_of, writes_of, IsSlotWrite, AreSlotWrites, IsFirstAt};
-ghost use Rattle.rq_chain.specs.Writes.{cell_beside, IsNeighbour, IsNeighbourAt, IsGroupOf};
+ghost use Rattle.rq_chain.specs.Neighbours.{cell_beside, IsNeighbour, IsNeighbourAt, IsGroupOf};
 
 use crate::writes::{cell_write, group_write, listed};
 use crate::{ChainPlan, Group, Neighbour};

@@ -136,10 +136,11 @@ pub record AreJudged : Type 0 where
   pub acknowledged_of_no_commit : TellsNothing ((Asks Begin, Answered (Gave_txn (txn 1 1))) ∷ []) (Acknowledges 1)
       (Answered (Gave_receipt None))
   pub answered_before_the_first : TellsNothing [] (Acknowledges 0) (Answered (Gave_receipt None))
-  -- and these histories are not legal
+  -- this history is legal
+  pub none_where_it_is_taken : IsLegal small (None_free (txn 1 3) ∷ Begun (txn 1 3) ∷ taking)
+  -- and these are not
   pub loses_what_was_left : (h : List Entry) → IsLegal small (Crash_entry 0 1 ∷ Crash_entry 0 3 ∷ h) → ⊥
   pub keeps_a_commit_without_its_record : IsLegal small (Crash_entry 1 4 ∷ first_entries 8) → ⊥
   pub opened_while_open : IsLegal small (Restarted_entry 2 9 ∷ first_entries 8) → ⊥
   pub none_where_one_waits : IsLegal small (None_free (txn 1 2) ∷ first_entries 11) → ⊥
-  pub none_where_it_is_taken : IsLegal small (None_free (txn 1 3) ∷ Begun (txn 1 3) ∷ taking)
   pub shows_nothing : IsLegal small (Shown [] ∷ first_entries 8) → ⊥

@@ -1,9 +1,9 @@
 //! The engine: one call is one atomic event. It turns calls into records of the log and writes of slots.
 #![tactic(auto)]
 
+mod apply;
 pub mod engine;
 pub mod event;
-mod events;
 mod moves;
 mod operations;
 mod pages;

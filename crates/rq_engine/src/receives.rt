@@ -6,7 +6,7 @@ ghost use Rattle.rq_model.specs.Tests.{NoneHolds, ready_tests};
 ghost use Rattle.rq_page.specs.Sizes.{IsLink, sender_count};
 ghost use Rattle.rq_page.specs.Slots.{Used};
 ghost use Rattle.rq_views.specs.Log.{cell_in};
-ghost use Rattle.rq_chain.specs.Writes.{IsNeighbourAt};
+ghost use Rattle.rq_chain.specs.Neighbours.{IsNeighbourAt};
 ghost use Rattle.rq_views.specs.Stored.{slots_in};
 ghost use Rattle.rq_txn.specs.Rows.{any_under};
 ghost use Rattle.rq_groups.specs.Ends.{is_free_for};
@@ -35,7 +35,8 @@ impl<P: PageDevice, L: LogDevice> Engine<P, L> {
     /// holds its receiving end; it holds a message where more is committed than was taken.
     ///
     /// # Errors
-    /// `Failed`, `UnknownTransaction`, `NotOpen`, `Unfinished`, `LogFull`, `Latched`, `NoMemory`.
+    /// `Failed`, `UnknownTransaction`, `NotOpen`, `Unfinished`, `LogFull`, `Latched`, `NoMemory`; of a store that is
+    /// not sound also `Damaged`.
     pub fn start_receive(&mut self, txn: Txn) -> Result<Option<Sub>, Refusal>
         ensures answered { AnswersLegally P.PageDevice L.LogDevice self.old
             (Start_receive txn) started_of result self.new }
@@ -43,7 +44,7 @@ impl<P: PageDevice, L: LogDevice> Engine<P, L> {
         ensures sub { IfOk result (λ begun. IfSome begun (λ sub. sub.txn ≡ txn)) }
         ensures lists { IfOk result (λ begun. TakeSays self.old.state txn begun self.new.state) }
         ensures none { IfOk result (λ begun. IfNone begun (self.new ≡ self.old)) }
-        ensures latched { IfOk result (λ begun. IfSome begun (λ _. any_under self.old.state.rows ≡ false)) }
+        ensures idle { IfOk result (λ begun. IfSome begun (λ _. any_under self.old.state.rows ≡ false)) }
         ensures devices { LeavesDevices self.old self.new }
         ensures refused { OnErr result (self.new ≡ self.old) }
         ensures failed { (result ≡ Err Refusal.Failed) ↔ (self.old.state.failed ≡ true) }
@@ -63,7 +64,7 @@ impl<P: PageDevice, L: LogDevice> Engine<P, L> {
     ///
     /// # Errors
     /// `Failed`, `UnknownTransaction`, `NotOpen`, `Unfinished`, `UnknownSender`, `ReceiverBusy`, `LogFull`, `Latched`,
-    /// `NoMemory`.
+    /// `NoMemory`; of a store that is not sound also `Damaged`.
     pub fn start_receive_from(&mut self, txn: Txn, sender: u32) -> Result<Option<Sub>, Refusal>
         ensures answered { AnswersLegally P.PageDevice L.LogDevice self.old
             (Start_receive_from txn sender) started_of result self.new }
@@ -71,7 +72,7 @@ impl<P: PageDevice, L: LogDevice> Engine<P, L> {
         ensures sub { IfOk result (λ begun. IfSome begun (λ sub. sub.txn ≡ txn)) }
         ensures lists { IfOk result (λ begun. TakeFromSays self.old.state txn sender begun self.new.state) }
         ensures none { IfOk result (λ begun. IfNone begun (self.new ≡ self.old)) }
-        ensures latched { IfOk result (λ begun. IfSome begun (λ _. any_under self.old.state.rows ≡ false)) }
+        ensures idle { IfOk result (λ begun. IfSome begun (λ _. any_under self.old.state.rows ≡ false)) }
         ensures devices { LeavesDevices self.old self.new }
         ensures refused { OnErr result (self.new ≡ self.old) }
         ensures failed { (result ≡ Err Refusal.Failed) ↔ (self.old.state.failed ≡ true) }
@@ -104,7 +105,7 @@ impl<P: PageDevice, L: LogDevice> Engine<P, L> {
         ensures sizes { self.new.state.sizes ≡ self.old.state.sizes }
         ensures sub { IfOk result (λ sub. sub.txn ≡ txn) }
         ensures lists { IfOk result (λ sub. IsTakeStarted self.old.state txn sender sub self.new.state) }
-        ensures latched { OnOk result (any_under self.old.state.rows ≡ false) }
+        ensures idle { OnOk result (any_under self.old.state.rows ≡ false) }
         ensures devices { LeavesDevices self.old self.new }
         ensures refused { OnErr result (self.new ≡ self.old) }
         ensures plain { IfErr result (λ r. r ≢ Refusal.Failed) }

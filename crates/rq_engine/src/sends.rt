@@ -31,7 +31,7 @@ impl<P: PageDevice, L: LogDevice> Engine<P, L> {
     ///
     /// # Errors
     /// `Failed`, `UnknownTransaction`, `NotOpen`, `Unfinished`, `UnknownSender`, `TooLong`, `SenderBusy`, `Closed`,
-    /// `Full`, `LogFull`, `Latched`, `NoMemory`.
+    /// `Full`, `LogFull`, `Latched`, `NoMemory`; of a store that is not sound also `Damaged`.
     pub fn start_send(
         &mut self,
         txn: Txn,
@@ -46,7 +46,7 @@ impl<P: PageDevice, L: LogDevice> Engine<P, L> {
         ensures lists { IfOk result (λ sub. IsSendStarted self.old.state txn sender tag body.now sub self.new.state) }
         ensures lowest { IfOk result (λ sub. IsUnderWay self.new.state sub
             (λ r u. TakesLowest self.old.state.sizes (slots_in self.old.state.sizes self.old.state.images) u.writes)) }
-        ensures latched { OnOk result (any_under self.old.state.rows ≡ false) }
+        ensures idle { OnOk result (any_under self.old.state.rows ≡ false) }
         ensures devices { LeavesDevices self.old self.new }
         ensures refused { OnErr result (self.new ≡ self.old) }
         ensures failed { (result ≡ Err Refusal.Failed) ↔ (self.old.state.failed ≡ true) }

@@ -8,7 +8,7 @@ ghost use Rattle.rq_views.specs.Log.{cell_in};
 ghost use Rattle.rq_views.specs.Stored.{slots_in};
 ghost use Rattle.rq_txn.specs.Rows.{change_row, row_started};
 ghost use Rattle.rq_groups.specs.Sides.{with_end};
-ghost use Rattle.rq_chain.specs.Writes.{IsNeighbour, cell_beside};
+ghost use Rattle.rq_chain.specs.Neighbours.{IsNeighbour, cell_beside};
 ghost use Rattle.rq_store.specs.State.{ledger_of};
 ghost use Rattle.rq_store.specs.Plans.{Stands_at};
 ghost use Rattle.rq_engine.specs.Opened.{LeavesDevices};

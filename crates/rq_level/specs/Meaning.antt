@@ -83,14 +83,14 @@ redo_of (PageUndo t n undone page slot after) = Some (record { slot = slot; afte
 redo_of _ = None
 
 -- a record is applied exactly where the page's LSN is smaller
-pub record IsRedone (old : List ℕ) (lsn : ℕ) (w : Redo) (made : Bool) (new : List ℕ) : Type 0 where
+pub record IsAppliedOnce (old : List ℕ) (lsn : ℕ) (w : Redo) (made : Bool) (new : List ℕ) : Type 0 where
   pub answer : made ≡ nat_lt (lsn_of old) lsn
   pub done : made ≡ true → IsWritten old new w.slot w.after lsn
   pub kept : made ≡ false → new ≡ old
 
-abbrev pub Redoes : Option Redo → List ℕ → ℕ → Bool → List ℕ → Type 0
-Redoes None old lsn made new = (made ≡ false) × (new ≡ old)
-Redoes (Some w) old lsn made new = IsRedone old lsn w made new
+abbrev pub AppliesOnce : Option Redo → List ℕ → ℕ → Bool → List ℕ → Type 0
+AppliesOnce None old lsn made new = (made ≡ false) × (new ≡ old)
+AppliesOnce (Some w) old lsn made new = IsAppliedOnce old lsn w made new
 
 -- the record names a slot of a page
 abbrev pub IsRedo : Option Redo → Type 0

@@ -2,7 +2,7 @@
 ghost use Rattle.std.specs.Prelude.{◌≡◌, ◌≤◌, ℕ};
 ghost use Rattle.rq_level.specs.Kept.{Kept};
 ghost use Rattle.rq_level.specs.Lawful.{AllLawful};
-ghost use Rattle.rq_level.specs.Meaning.{Meaning, meaning_of, wish, AreOf, redo_of, Redoes, IsRedo, IsRedone};
+ghost use Rattle.rq_level.specs.Meaning.{Meaning, meaning_of, wish, AreOf, redo_of, AppliesOnce, IsRedo, IsAppliedOnce};
 
 use crate::op::Op;
 use crate::slots::{PageSet, Slots};
@@ -73,7 +73,7 @@ pub trait Level: Drop {
         requires { IsRedo (redo_of told.now) }
         ensures same { level self.new ≡ level self.old }
         ensures kept { kept self.new ≡ kept self.old }
-        ensures page { Redoes (redo_of told.now) page.old lsn result page.new };
+        ensures page { AppliesOnce (redo_of told.now) page.old lsn result page.new };
 
     /// A slot was read or written. Takes no memory.
     fn noted(&mut self, at: Addr, bytes: &Slot)
@@ -130,7 +130,7 @@ impl Level for Box<dyn Level + Send> {
 /// Applies a record to its page, where the page is older, and answers whether it did.
 pub fn redo_page(page: &mut Page, lsn: Lsn, told: &Record) -> bool
     requires { IsRedo (redo_of told.now) }
-    ensures { Redoes (redo_of told.now) page.old lsn result page.new }
+    ensures { AppliesOnce (redo_of told.now) page.old lsn result page.new }
 {
     match told {
         Record::PageOp { slot, after, .. } => redo_slot(page, lsn, *slot, after),
@@ -143,7 +143,7 @@ pub fn redo_page(page: &mut Page, lsn: Lsn, told: &Record) -> bool
 fn redo_slot(page: &mut Page, lsn: Lsn, slot: u8, after: &Slot) -> bool
     requires low { 1 ≤ slot }
     requires high { slot ≤ 15 }
-    ensures { IsRedone page.old lsn (record { slot = slot; after = after.now }) result page.new }
+    ensures { IsAppliedOnce page.old lsn (record { slot = slot; after = after.now }) result page.new }
 {
     if page.lsn() < lsn {
         page.set_slot(slot, after, lsn);

@@ -1,7 +1,7 @@
 //! All levels of a store.
 ghost use Rattle.std.specs.Prelude.{◌≡◌, ℕ, ◌<◌, length, map, slice_set};
 ghost use Rattle.rq_level.specs.Kept.{Kept};
-ghost use Rattle.rq_level.specs.Meaning.{Meaning, meaning_of, wish, AreOf, redo_of, Redoes, IsRedo, kept_at, CountOn};
+ghost use Rattle.rq_level.specs.Meaning.{Meaning, meaning_of, wish, AreOf, redo_of, AppliesOnce, IsRedo, kept_at, CountOn};
 
 use crate::level::{Level, Want};
 use crate::op::Op;
@@ -106,7 +106,7 @@ impl<B: Level> Levels<B> {
         requires level { level < length self.old }
         requires told { IsRedo (redo_of told.now) }
         ensures kept { self.new ≡ self.old }
-        ensures page { Redoes (redo_of told.now) page.old lsn result page.new }
+        ensures page { AppliesOnce (redo_of told.now) page.old lsn result page.new }
     {
         let it = &mut self.all[level];
         it.redo(page, lsn, told)

@@ -12,7 +12,8 @@ pub type Slot = [u8; SLOT_BYTES];
 /// The longest deed, in bytes.
 pub const DEED_LIMIT: usize = 256;
 
-/// What an operation's end says was done, as bytes that its level alone reads: 1 to 256 of them.
+/// What an operation's end says was done, as bytes that its level alone reads: 1 to 256 of them in a record, none in a
+/// plan whose operation ends with no deed.
 pub type DeedBytes = InPlace<DEED_LIMIT>;
 
 /// A record of the log.

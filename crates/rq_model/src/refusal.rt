@@ -3,7 +3,7 @@ ghost use Rattle.std.specs.Prelude.{◌≡◌};
 
 use thiserror::Error;
 
-/// Where a damaged byte was met.
+/// Where a damaged byte was met, or a slot that does not hold what an operation needs.
 #[derive(Clone, Copy, Debug, PartialEq, Eq)]
 pub enum Damage {
     /// A page, by its number.
@@ -36,7 +36,7 @@ pub enum Refusal {
     /// 5: the transaction is aborting where the call needs it open, or open where the call needs it aborting.
     #[error("NotOpen")]
     NotOpen,
-    /// 6: an operation is under way; for `finish`, steps are left; for `end_abort`, an operation is not yet undone.
+    /// 6: an operation is under way; for `finish`, steps are left; for the end of an abort, an operation is not yet undone.
     #[error("Unfinished")]
     Unfinished,
     /// 7: the store has no such sender.
@@ -57,7 +57,8 @@ pub enum Refusal {
     /// 12: every cell is held, taken by a transaction that has not ended, or meant for a send under way.
     #[error("Full")]
     Full,
-    /// 13: a page that the operation needs is latched by another, or every page with a free cell is.
+    /// 13: a page that the operation needs is latched by another, or every page with a free cell is. So far one
+    /// operation under way has latched every page.
     #[error("Latched")]
     Latched,
     /// 14: frames for the operation's pages cannot be had.

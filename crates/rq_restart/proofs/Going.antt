@@ -10,7 +10,7 @@ use Rattle.rq_store.specs.Fitting.{oldest, told_by}
 use Rattle.rq_store.proofs.Fitting.{oldest_all}
 use Rattle.rq_store.proofs.Redoing.{oldest_store, redo_one}
 use Rattle.rq_store.proofs.Bounds.{may_redo}
-use Rattle.rq_restart.specs.Noted.{Analysis, analysis, analysis_after}
+use Rattle.rq_restart.specs.Analysis.{Analysis, analysis, analysis_after}
 use Rattle.rq_restart.specs.Repeating.{Paged, Marks, Belongs, Repeats, IsFirstBad}
 use Rattle.rq_restart.proofs.Noting.{noted_incarnation}
 

@@ -21,7 +21,7 @@ use Rattle.rq_views.specs.Items.{items, layout_of, operation, ReadsItsDeeds}
 use Rattle.rq_views.proofs.Strangers.{has_end_same}
 use Rattle.rq_model.specs.Incarnations.{InOrder, incarnation_of}
 use Rattle.rq_store.proofs.Opening.{over_same}
-use Rattle.rq_restart.specs.Noted.{Analysis, analysis, has_sub, with_sub, without_sub, with_txn, without_txn}
+use Rattle.rq_restart.specs.Analysis.{Analysis, analysis, has_sub, with_sub, without_sub, with_txn, without_txn}
 
 pub noted_incarnation : (log : List Record) → (analysis log).incarnation ≡ incarnation_of log
 noted_incarnation [] = refl

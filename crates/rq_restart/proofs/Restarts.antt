@@ -24,7 +24,7 @@ use Rattle.rq_store.proofs.Cutting.{all_fit_longer, no_more_fit}
 use Rattle.rq_store.proofs.Opening.{opened_sound}
 use Rattle.rq_store.proofs.Redoing.{redone_slots}
 use Rattle.rq_store.proofs.Bounds.{fits_counted}
-use Rattle.rq_restart.specs.Noted.{Analysis, analysis}
+use Rattle.rq_restart.specs.Analysis.{Analysis, analysis}
 use Rattle.rq_restart.specs.Restarting.{IsBegun, LogStops, IsRefusedFor, WasChecked}
 use Rattle.rq_restart.specs.Refused.{BeginsNot, IsShutFor, StopsAt, ShutFor}
 use Rattle.rq_restart.specs.Checked.{IsEnded, IsGoneThrough, IsBeyond, as_read}

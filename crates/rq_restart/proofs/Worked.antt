@@ -17,7 +17,7 @@ use Rattle.rq_store.proofs.Cutting.{fits_log}
 use Rattle.std.proofs.lemmas.Bool.{true≢false}
 use Rattle.rq_model.specs.Content.{has_end}
 use Rattle.rq_model.proofs.Lists.{same_self}
-use Rattle.rq_views.specs.Row.{stopped, restarted}
+use Rattle.rq_views.specs.WorkedItems.{stopped, restarted}
 use Rattle.rq_store.specs.Worked.{spelled_log}
 use Rattle.rq_restart.specs.Checked.{IsEnded}
 use Rattle.rq_restart.specs.Repeating.{Paged, Repeats}

@@ -1,5 +1,5 @@
 pub mod Formatting
-pub mod Noted
+pub mod Analysis
 pub mod Repeating
 pub mod Restarting
 pub mod Underway

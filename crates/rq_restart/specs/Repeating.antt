@@ -7,7 +7,7 @@ use Rattle.rq_page.specs.Pages.{lsn_of}
 use Rattle.rq_pool.specs.Pooled.{Pooled}
 use Rattle.rq_model.specs.Incarnations.{IsNext, incarnation_of}
 use Rattle.rq_store.specs.Opening.{MayRedo, Redoes, IsCounted}
-use Rattle.rq_store.specs.Fitting.{HoldsRecord, told_by, oldest, image_in}
+use Rattle.rq_store.specs.Fitting.{ToldWrite, told_by, oldest, image_in}
 
 -- the image of each page, and which pages count as changed
 pub record Paged : Type 0 where
@@ -18,11 +18,11 @@ abbrev pub paged : {P : Type 0} → Pooled P → Paged
 paged pages = record { image = image_in pages.images; changed = pages.changed }
 
 -- a page that is written, as it is older than the record, counts as changed then; nothing else does
-pub record IsMarked (w : HoldsRecord) (lsn : ℕ) (old : Paged) (changed : List Bool) : Type 0 where
+pub record IsMarked (w : ToldWrite) (lsn : ℕ) (old : Paged) (changed : List Bool) : Type 0 where
   pub made : lsn_of (old.image w.page) < lsn → changed ≡ slice_set old.changed w.page true
   pub kept : lsn ≤ lsn_of (old.image w.page) → changed ≡ old.changed
 
-abbrev pub Marks : Option HoldsRecord → ℕ → Paged → List Bool → Type 0
+abbrev pub Marks : Option ToldWrite → ℕ → Paged → List Bool → Type 0
 Marks None lsn old changed = changed ≡ old.changed
 Marks (Some w) lsn old changed = IsMarked w lsn old changed
 

@@ -1,7 +1,7 @@
 //! What the records of a log say of incarnations, operations and transactions.
 ghost use Rattle.std.specs.Prelude.{◌≡◌, ◌↔◌, ◌≤◌, IsTrue, IfOk, IfErr, OnOk, OnErr, [], Some};
 ghost use Rattle.rq_model.specs.Incarnations.{IsNext, IsOf};
-ghost use Rattle.rq_restart.specs.Noted.{analysis, analysis_after, with_sub, without_sub, with_txn, without_txn};
+ghost use Rattle.rq_restart.specs.Analysis.{analysis, analysis_after, with_sub, without_sub, with_txn, without_txn};
 
 use rq_model::record::Record;
 use rq_model::refusal::Refusal;
@@ -20,7 +20,7 @@ pub(crate) struct History {
 }
 
 impl Model for History {
-    ghost use Rattle.rq_restart.specs.Noted.{Analysis};
+    ghost use Rattle.rq_restart.specs.Analysis.{Analysis};
 
     ghost Value = { Analysis };
 

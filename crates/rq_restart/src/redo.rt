@@ -5,8 +5,8 @@ ghost use Rattle.rq_page.specs.Pages.{lsn_of, slot_of};
 ghost use Rattle.rq_page.specs.Slots.{IsSlotOf};
 ghost use Rattle.rq_pool.specs.Pooled.{IsPool};
 ghost use Rattle.rq_store.specs.Opening.{IsRedone, Redoes, IsSoundTold, MayRedo, FitsUpTo, IsCounted, IsLeft};
-ghost use Rattle.rq_store.specs.Fitting.{HoldsRecord, told_by, image_in};
-ghost use Rattle.rq_restart.specs.Noted.{analysis};
+ghost use Rattle.rq_store.specs.Fitting.{ToldWrite, told_by, image_in};
+ghost use Rattle.rq_restart.specs.Analysis.{analysis};
 ghost use Rattle.rq_restart.specs.Repeating.{paged, Repeats, Marks, IsMarked};
 ghost use Rattle.rq_restart.specs.Refused.{StopsIn, StopsAt, IsFirstFault};
 

@@ -43,9 +43,9 @@ use std::alloc::Global;
 pub struct Report {
     /// The incarnation that begins.
     pub incarnation: u64,
-    /// How many operations had no end, and are undone.
+    /// How many operations had no end, and are undone: so far 0, since such a log is refused.
     pub unfinished: u64,
-    /// How many transactions had neither Commit nor AbortEnd, and are undone.
+    /// How many transactions had neither Commit nor AbortEnd, and are undone: so far 0, too.
     pub lost: u64,
     /// How many records are now in the log.
     pub records: u64,
@@ -74,9 +74,10 @@ pub struct Stopped<P, L> {
 /// Opens a store: reads and checks its pages and its log, repeats history on the pages, and forces the
 /// Restart record of a new incarnation.
 ///
-/// Refused with `DiskRead` or `DiskWrite` where a device fails, with `Damaged` where a page or a record
-/// breaks the format, with `Unfinished` where the log holds an operation or a transaction that has not
-/// ended, with `LogFull` where there is no room for the Restart record.
+/// # Errors
+/// `NoMemory`; `DiskRead` or `DiskWrite` where a device fails, `Damaged` where a page or a record
+/// breaks the format, `Unfinished` where the log holds an operation or a transaction that has not
+/// ended, `LogFull` where there is no room for the Restart record.
 pub fn restart<P: PageDevice + Drop, L: LogDevice + Drop>(
     alloc: Global,
     pages: P,
@@ -116,7 +117,7 @@ pub fn restart<P: PageDevice + Drop, L: LogDevice + Drop>(
     // What the first crash of the opened store needs.
     ensures fit { IfOk result (λ o. (older : List Record) → IsReadAs L.LogDevice log o.0.log older
         → AllFit (P.may_be pages) o.0.state.sizes older → AreFit P.PageDevice o.0) }
-    // Failures of devices, counted.
+    // Failures of devices, counted; and what a refusal says of a store that was left so.
     ensures cause { IfOk result (λ o. (P.faults o.0.pages ≡ P.faults pages) × (L.faults o.0.log ≡ L.faults log)) }
     ensures err { IfErr result (λ stopped. (z : Sizes) → IsSuperblock z (P.seen pages 0) → (older : List Record)
         → IsReadAs L.LogDevice log stopped.log older → Stops

@@ -16,7 +16,7 @@ use Rattle.rq_page.specs.Pages.{lsn_of, slot_of}
 use Rattle.rq_page.specs.Slots.{Slot, held_in, held_for, IsSlotOf, IsSlotFor}
 use Rattle.rq_page.specs.Slots.Slot.{Free, Used, Sender}
 use Rattle.rq_page.specs.Formatted.{count_in}
-use Rattle.rq_views.specs.Log.{Item, Layout, Slots, Write, put, rest_of, IsNewest, same_op, state_of}
+use Rattle.rq_views.specs.Log.{Item, Places, Slots, Write, put, rest_of, IsNewest, same_op, state_of}
 use Rattle.rq_views.specs.Log.Item.{PageOp, PageUndo, OpEnd, OpVoid, CompEnd, Commit, AbortEnd, Restart}
 use Rattle.rq_views.specs.Plans.{Turn, IsPlan, relinked}
 use Rattle.rq_views.specs.Plans.Turn.{Did, Undid}
@@ -54,7 +54,7 @@ relinked_adds at None f ws h = h
 relinked_adds at (Some c) f ws h = ((λ n k. tt), h)
 
 -- so does each write of an operation
-plan_adds : (l : Layout) (t : Turn) (ws : List Write) → IsPlan l t ws → AllAddOne ws
+plan_adds : (l : Places) (t : Turn) (ws : List Write) → IsPlan l t ws → AllAddOne ws
 plan_adds l (Did (Append s n tag previous body)) ws p = subst AllAddOne (sym p.writes) ((λ n k. omega (arith, k)), relinked_adds p.directory.tail p.old _ _ ((λ n k. tt), tt))
 plan_adds l (Did (UnlinkHead s n tag body)) ws p = subst AllAddOne (sym p.writes) ((λ n k. omega (arith, k)), relinked_adds p.cell.next p.next _ _ ((λ n k. tt), tt))
 plan_adds l (Did (Close s)) ws p = subst AllAddOne (sym p.writes) ((λ n k. omega (arith, k)), tt)
@@ -93,17 +93,17 @@ put_within n q at x h k a = elim (cases_eq a at) [
   | inr ne ↦ subst (SentWithin n) (sym (put_off q at x a ne)) (h a)
 ]
 
-abbrev Bounded : Layout → List Item → Type 0
+abbrev Bounded : Places → List Item → Type 0
 Bounded l log = ((a : ℕ) → SentWithin (length log) ((state_of l log).slots a)) × ((o : Sub) → BeforesWithin (length log) ((state_of l log).writes o))
 
-over : (l : Layout) (log : List Item) (b : Sub → Bool) → Bounded l log → ((a : ℕ) → SentWithin (suc (length log)) ((state_of l log).slots a)) × ((o : Sub) → BeforesWithin (suc (length log)) (cond (b o) [] ((state_of l log).writes o)))
+over : (l : Places) (log : List Item) (b : Sub → Bool) → Bounded l log → ((a : ℕ) → SentWithin (suc (length log)) ((state_of l log).slots a)) × ((o : Sub) → BeforesWithin (suc (length log)) (cond (b o) [] ((state_of l log).writes o)))
 over l log b h = (λ a. more (length log) ((state_of l log).slots a) (h.0 a), λ o. choose (suc (length log)) (b o) [] ((state_of l log).writes o) tt (befores_more (length log) ((state_of l log).writes o) (h.1 o)))
 
-same : (l : Layout) (log : List Item) → Bounded l log → ((a : ℕ) → SentWithin (suc (length log)) ((state_of l log).slots a)) × ((o : Sub) → BeforesWithin (suc (length log)) ((state_of l log).writes o))
+same : (l : Places) (log : List Item) → Bounded l log → ((a : ℕ) → SentWithin (suc (length log)) ((state_of l log).slots a)) × ((o : Sub) → BeforesWithin (suc (length log)) ((state_of l log).writes o))
 same l log h = (λ a. more (length log) ((state_of l log).slots a) (h.0 a), λ o. befores_more (length log) ((state_of l log).writes o) (h.1 o))
 
 -- no slot of a legal log tells of more messages sent than there are records
-bounded : (l : Layout) (log : List Item) → ((a : ℕ) → SentWithin 0 (l.formatted a)) → IsLegalLog l log → Bounded l log
+bounded : (l : Places) (log : List Item) → ((a : ℕ) → SentWithin 0 (l.formatted a)) → IsLegalLog l log → Bounded l log
 bounded l [] start k = (start, λ o. tt)
 bounded l (PageOp p w ∷ log) start k =
     let n : ℕ = length log in

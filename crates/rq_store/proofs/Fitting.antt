@@ -9,7 +9,7 @@ use Rattle.rq_page.specs.Slots.{held_in, IsSlotOf}
 use Rattle.rq_page.specs.Slots.Slot.{Free}
 use Rattle.rq_page.specs.Formatted.{IsFormatted, IsHeaderOf}
 use Rattle.rq_views.specs.Stored.{slots_in, slot_at}
-use Rattle.rq_store.specs.Fitting.{left_by, image_in, oldest, HoldsRecord, told_by, IsOfPage, IsStamp, HoldsPage, FitsPage, FitsLog}
+use Rattle.rq_store.specs.Fitting.{left_by, image_in, oldest, ToldWrite, told_by, IsOfPage, IsStamp, HoldsPage, FitsPage, FitsLog}
 
 -- the first none, and the first all
 pub oldest_none : (log : List Record) → oldest 0 log ≡ []
@@ -46,7 +46,7 @@ slot_holds z images p n low high =
     ∙ ap (λ m. held_in z p (slot_of m (image_in images p))) slot
 
 -- A record more, and its write made: the page that it writes is stamped with it.
-module _ (z : Sizes) (log : List Record) (r : Record) (w : HoldsRecord) (told : told_by r ≡ Some w) (old new : List (List ℕ)) (fits : FitsLog z (image_in old) log) (slot : IsSlotOf z w.page w.slot w.after)
+module _ (z : Sizes) (log : List Record) (r : Record) (w : ToldWrite) (told : told_by r ≡ Some w) (old new : List (List ℕ)) (fits : FitsLog z (image_in old) log) (slot : IsSlotOf z w.page w.slot w.after)
     (written : IsWritten (image_in old w.page) (image_in new w.page) w.slot w.after (length log + 1)) (others : (p : ℕ) → p ≢ w.page → image_in new p ≡ image_in old p)
     (superblock : IsFormatted z 0 (image_in new 0)) (headers : (p : ℕ) → 1 ≤ p → p < page_count z → IsHeaderOf z p (image_in new p)) (slots : (a : ℕ) → slots_in z new a ≡ (left_by z (r ∷ log)).slots a) where
   abbrev image : List ℕ

@@ -12,7 +12,7 @@ use Rattle.rq_page.specs.declared.directory.Directory.{Directory}
 use Rattle.rq_page.specs.Sizes.{sender_count, directory_at}
 use Rattle.rq_page.specs.Slots.{Slot}
 use Rattle.rq_page.specs.Slots.Slot.{Free, Used, Sender}
-use Rattle.rq_views.specs.Log.{Slots, Write, applied, HasBefores, Layout}
+use Rattle.rq_views.specs.Log.{Slots, Write, applied, HasBefores, Places}
 use Rattle.rq_views.specs.Legal.{under_way, view}
 use Rattle.rq_views.specs.Plans.{IsPlan, relinked}
 use Rattle.rq_views.specs.Plans.Turn.{Did}
@@ -46,7 +46,7 @@ relinked_leave : (at : ℕ) (o : Option Cell) (f : Cell → Cell) (ws : List Wri
 relinked_leave at None f ws h = h
 relinked_leave at (Some c) f ws h = (refl, h)
 
-plan_leaves : (l : Layout) (d : Deed) (ws : List Write) → Moves d → IsPlan l (Did d) ws → LeaveFlags ws
+plan_leaves : (l : Places) (d : Deed) (ws : List Write) → Moves d → IsPlan l (Did d) ws → LeaveFlags ws
 plan_leaves l (Append s n tag previous body) ws m p = subst LeaveFlags (sym p.writes) (refl, relinked_leave p.directory.tail p.old _ _ (refl, tt))
 plan_leaves l (UnlinkHead s n tag body) ws m p = subst LeaveFlags (sym p.writes) (refl, relinked_leave p.cell.next p.next _ _ (refl, tt))
 plan_leaves l (Close s) ws m p = absurd m

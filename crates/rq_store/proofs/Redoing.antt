@@ -19,7 +19,7 @@ use Rattle.rq_views.specs.InStore.{InStore, InStoreOne, IsInPlace, AllStand}
 use Rattle.rq_views.specs.Stored.{IsStoreSlot, slots_in, slot_at}
 use Rattle.rq_views.proofs.Overlay.{put_at, put_off}
 use Rattle.rq_views.proofs.Stands.{slots_stand, page_of_cells, page_of_directory}
-use Rattle.rq_store.specs.Fitting.{left_by, oldest, HoldsRecord, told_by, IsOfPage, IsStamp, HoldsPage, FitsPage, FitsLog, image_in}
+use Rattle.rq_store.specs.Fitting.{left_by, oldest, ToldWrite, told_by, IsOfPage, IsStamp, HoldsPage, FitsPage, FitsLog, image_in}
 use Rattle.rq_store.specs.Whole.{BeforesAreSlots}
 use Rattle.rq_store.specs.Opening.{FitsPageUpTo, FitsUpTo, Redoes, next_restart}
 use Rattle.rq_store.proofs.Fitting.{oldest_all, page_fits_more}
@@ -58,12 +58,12 @@ slots_untold z (records.Commit t) log a e = refl
 slots_untold z (records.Restart i) log a e = refl
 slots_untold z (records.AbortEnd t) log a e = refl
 
-abbrev told_slots : Sizes → HoldsRecord → Slots → Slots
+abbrev told_slots : Sizes → ToldWrite → Slots → Slots
 told_slots z w q = put q (address w.page w.slot) (held_in z w.page w.after)
 
-slots_told : (z : Sizes) (r : Record) (log : List Record) (a : ℕ) (w : HoldsRecord) → told_by r ≡ Some w → (left_by z (r ∷ log)).slots a ≡ told_slots z w (left_by z log).slots a
-slots_told z (records.PageOp t n page slot before after) log a w e = let s : record { page = page; slot = slot; after = after } ≡ w = cc in ap (λ (v : HoldsRecord). told_slots z v (left_by z log).slots a) s
-slots_told z (records.PageUndo t n undone page slot after) log a w e = let s : record { page = page; slot = slot; after = after } ≡ w = cc in ap (λ (v : HoldsRecord). told_slots z v (left_by z log).slots a) s
+slots_told : (z : Sizes) (r : Record) (log : List Record) (a : ℕ) (w : ToldWrite) → told_by r ≡ Some w → (left_by z (r ∷ log)).slots a ≡ told_slots z w (left_by z log).slots a
+slots_told z (records.PageOp t n page slot before after) log a w e = let s : record { page = page; slot = slot; after = after } ≡ w = cc in ap (λ (v : ToldWrite). told_slots z v (left_by z log).slots a) s
+slots_told z (records.PageUndo t n undone page slot after) log a w e = let s : record { page = page; slot = slot; after = after } ≡ w = cc in ap (λ (v : ToldWrite). told_slots z v (left_by z log).slots a) s
 slots_told z (records.OpEnd t n level deed) log a w e = cc
 slots_told z (records.OpVoid t n) log a w e = cc
 slots_told z (records.CompEnd t n undone) log a w e = cc
@@ -72,9 +72,9 @@ slots_told z (records.Restart i) log a w e = cc
 slots_told z (records.AbortEnd t) log a w e = cc
 
 -- and they are slots of the store
-told_store : (z : Sizes) (r : Record) (w : HoldsRecord) → told_by r ≡ Some w → InStoreOne z r → IsSlotOf z w.page w.slot w.after
-told_store z (records.PageOp t n page slot before after) w e h = let s : record { page = page; slot = slot; after = after } ≡ w = cc in subst (λ (v : HoldsRecord). IsSlotOf z v.page v.slot v.after) s h
-told_store z (records.PageUndo t n undone page slot after) w e h = let s : record { page = page; slot = slot; after = after } ≡ w = cc in subst (λ (v : HoldsRecord). IsSlotOf z v.page v.slot v.after) s h
+told_store : (z : Sizes) (r : Record) (w : ToldWrite) → told_by r ≡ Some w → InStoreOne z r → IsSlotOf z w.page w.slot w.after
+told_store z (records.PageOp t n page slot before after) w e h = let s : record { page = page; slot = slot; after = after } ≡ w = cc in subst (λ (v : ToldWrite). IsSlotOf z v.page v.slot v.after) s h
+told_store z (records.PageUndo t n undone page slot after) w e h = let s : record { page = page; slot = slot; after = after } ≡ w = cc in subst (λ (v : ToldWrite). IsSlotOf z v.page v.slot v.after) s h
 told_store z (records.OpEnd t n level deed) w e h = cc
 told_store z (records.OpVoid t n) w e h = cc
 told_store z (records.CompEnd t n undone) w e h = cc
@@ -102,14 +102,14 @@ module _ (z : Sizes) (log : List Record) (k : ℕ) (r : Record) (grows : oldest 
     caught_up = λ le. let e : lsn_of image ≡ k + 1 = omega (arith, ge, le) in subst (λ n. HoldsPage z p image (oldest n log)) e f.fits.held;
   }
 
-  other_page : (w : HoldsRecord) → told_by r ≡ Some w → (p j : ℕ) → 1 ≤ j → j ≤ 15 → p ≢ w.page → (left_by z (r ∷ older)).slots (address p j) ≡ (left_by z older).slots (address p j)
+  other_page : (w : ToldWrite) → told_by r ≡ Some w → (p j : ℕ) → 1 ≤ j → j ≤ 15 → p ≢ w.page → (left_by z (r ∷ older)).slots (address p j) ≡ (left_by z older).slots (address p j)
   other_page w e p j low high ne =
       let is : IsSlotOf z w.page w.slot w.after = told_store z r w e store in
       let a = is.low in let b = is.high in
       slots_told z r older (address p j) w e ∙ put_off (left_by z older).slots (address w.page w.slot) (held_in z w.page w.after) (address p j) (λ s. ne (omega (arith, s, low, high, a, b)))
 
   -- the page that it writes, where that is older
-  written_page : (w : HoldsRecord) → told_by r ≡ Some w → (old new : List ℕ) → FitsPageUpTo z log k w.page old → lsn_of old < k + 1 → IsWritten old new w.slot w.after (k + 1) → FitsPageUpTo z log (k + 1) w.page new
+  written_page : (w : ToldWrite) → told_by r ≡ Some w → (old new : List ℕ) → FitsPageUpTo z log k w.page old → lsn_of old < k + 1 → IsWritten old new w.slot w.after (k + 1) → FitsPageUpTo z log (k + 1) w.page new
   written_page w e old new f lt written = record {
     fits = record {
       slots = slots;
@@ -149,7 +149,7 @@ module _ (z : Sizes) (log : List Record) (k : ℕ) (r : Record) (grows : oldest 
   -- going through one more record
   pub redo_one : (old new : ℕ → List ℕ) → Redoes (told_by r) (k + 1) old new → FitsUpTo z old log k → FitsUpTo z new log (k + 1)
   redo_one old new redo h p low high = by (told_by r) refl redo where
-    by : (o : Option HoldsRecord) → told_by r ≡ o → Redoes o (k + 1) old new → FitsPageUpTo z log (k + 1) p (new p)
+    by : (o : Option ToldWrite) → told_by r ≡ o → Redoes o (k + 1) old new → FitsPageUpTo z log (k + 1) p (new p)
     by None e same = subst (λ image. FitsPageUpTo z log (k + 1) p image) (sym (same p)) (stays p (old p) (h p low high) (λ j a b. slots_untold z r older (address p j) e))
     by (Some w) e one = elim (cases_eq p w.page) [
       | inr ne ↦ subst (λ image. FitsPageUpTo z log (k + 1) p image) (sym (one.others p ne)) (stays p (old p) (h p low high) (λ j a b. other_page w e p j a b ne))

@@ -7,7 +7,7 @@ use Rattle.rq_page.specs.declared.directory.Directory.{Directory}
 use Rattle.rq_page.specs.Slots.{Slot}
 use Rattle.rq_page.specs.Slots.Slot.{Free, Used, Sender}
 use Rattle.rq_views.specs.Chain.{Node, last, Linked, View, Shows, message}
-use Rattle.rq_views.specs.Log.{Slots, Write, HasBefores, Layout, cells_of, cell_in, put}
+use Rattle.rq_views.specs.Log.{Slots, Write, HasBefores, Places, cells_of, cell_in, put}
 use Rattle.rq_views.specs.Plans.{ShowsAt, LinksTo, append_writes, with_next, IsAppend}
 use Rattle.rq_views.proofs.Chains.{last_is, last_pos}
 use Rattle.rq_views.proofs.Laws.{shows_here}
@@ -34,7 +34,7 @@ link_at q s d v (Some c) zero k e = at k.nodes k.linked k.tail where
       let here : Some c ≡ Some r.0 = ap cell_in (sym e) ∙ ap (cells_of q) t ∙ r.1 in
       (subst (λ a. 0 < a) (sym t) (last_pos (cells_of q) s 0 (d.received + 1) n ns 0 l), ap (λ (x : Cell). x.sender) (same_some c r.0 here) ∙ r.3)
 
-pub is_append : (l : Layout) (q : Slots) (s tag : ℕ) (body : List ℕ) (d : Directory) (new : ℕ) (old : Option Cell) (v : View) (ws : List Write) → NoneAtZero q → q (l.directory_at s) ≡ Sender s d → ShowsAt l q s v → Stands_at q d.tail old → 0 < new
+pub is_append : (l : Places) (q : Slots) (s tag : ℕ) (body : List ℕ) (d : Directory) (new : ℕ) (old : Option Cell) (v : View) (ws : List Write) → NoneAtZero q → q (l.directory_at s) ≡ Sender s d → ShowsAt l q s v → Stands_at q d.tail old → 0 < new
     → ws ≡ append_writes l s d new tag body old → IsAppend l s (d.sent + 1) tag d.last_tag body ws
 is_append l q s tag body d new old v ws zero at shows beside pos e = record {
   directory = d;
@@ -47,7 +47,7 @@ is_append l q s tag body d new old v ws zero at shows beside pos e = record {
   writes = e;
 }
 
-pub append_fits : (l : Layout) (q : Slots) (s tag : ℕ) (body : List ℕ) (d : Directory) (new : ℕ) (old : Option Cell) → q (l.directory_at s) ≡ Sender s d → q new ≡ Free → Stands_at q d.tail old → HasBefores (append_writes l s d new tag body old) q
+pub append_fits : (l : Places) (q : Slots) (s tag : ℕ) (body : List ℕ) (d : Directory) (new : ℕ) (old : Option Cell) → q (l.directory_at s) ≡ Sender s d → q new ≡ Free → Stands_at q d.tail old → HasBefores (append_writes l s d new tag body old) q
 append_fits l q s tag body d new None at free beside =
     let off : l.directory_at s ≢ new = λ e. (let bad : Sender s d ≡ Free = sym at ∙ ap q e ∙ free in cc) in
     (sym (put_off q new _ (l.directory_at s) off ∙ at), (sym free, tt))
@@ -63,7 +63,7 @@ abbrev pub writes_for : ℕ → ℕ
 writes_for n = cond (nat_eq n 0) 2 3
 
 -- three writes where the chain has a message, two where it has none
-pub append_count : (l : Layout) (q : Slots) (s tag : ℕ) (body : List ℕ) (d : Directory) (new : ℕ) (old : Option Cell) (v : View) → NoneAtZero q → q (l.directory_at s) ≡ Sender s d → ShowsAt l q s v → Stands_at q d.tail old
+pub append_count : (l : Places) (q : Slots) (s tag : ℕ) (body : List ℕ) (d : Directory) (new : ℕ) (old : Option Cell) (v : View) → NoneAtZero q → q (l.directory_at s) ≡ Sender s d → ShowsAt l q s v → Stands_at q d.tail old
     → length (append_writes l s d new tag body old) ≡ writes_for (length v.messages)
 append_count l q s tag body d new old v zero at shows beside = go old beside where
   k : Shows (cells_of q) s d v

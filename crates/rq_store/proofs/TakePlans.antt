@@ -7,7 +7,7 @@ use Rattle.rq_page.specs.declared.directory.Directory.{Directory}
 use Rattle.rq_page.specs.Slots.{Slot}
 use Rattle.rq_page.specs.Slots.Slot.{Free, Used, Sender}
 use Rattle.rq_views.specs.Chain.{Node, first, Linked, View, Shows, message}
-use Rattle.rq_views.specs.Log.{Slots, Write, HasBefores, Layout, cells_of, cell_in, put}
+use Rattle.rq_views.specs.Log.{Slots, Write, HasBefores, Places, cells_of, cell_in, put}
 use Rattle.rq_views.specs.Plans.{ShowsAt, LinksTo, unlink_head_writes, with_prev, IsUnlinkHead}
 use Rattle.rq_views.proofs.Chains.{other_place}
 use Rattle.rq_views.proofs.Laws.{shows_here}
@@ -49,13 +49,13 @@ first_cells q s d v c next zero pos here beside k = at k.nodes k.linked k.head k
             more = λ y f. omega (arith, count);
           }
 
-pub is_unlink_head : (l : Layout) (q : Slots) (s : ℕ) (d : Directory) (c : Cell) (next : Option Cell) (v : View) (ws : List Write) → q 0 ≡ Free → q (l.directory_at s) ≡ Sender s d → ShowsAt l q s v → 0 < d.head → q d.head ≡ Used c → Stands_at q c.next next
+pub is_unlink_head : (l : Places) (q : Slots) (s : ℕ) (d : Directory) (c : Cell) (next : Option Cell) (v : View) (ws : List Write) → q 0 ≡ Free → q (l.directory_at s) ≡ Sender s d → ShowsAt l q s v → 0 < d.head → q d.head ≡ Used c → Stands_at q c.next next
     → ws ≡ unlink_head_writes l s d c next → IsUnlinkHead l s (d.received + 1) c.tag c.body ws
 is_unlink_head l q s d c next v ws zero at shows pos here beside e =
     let f = first_cells q s d v c next zero pos here beside (shows_here l q s v d (sym at) shows) in
     record { directory = d; cell = c; next = next; used = pos; sender = f.sender; sequence = refl; tag_is = refl; body_is = refl; next_is = f.link; writes = e }
 
-pub unlink_head_fits : (l : Layout) (q : Slots) (s : ℕ) (d : Directory) (c : Cell) (next : Option Cell) (v : View) → q 0 ≡ Free → q (l.directory_at s) ≡ Sender s d → ShowsAt l q s v → 0 < d.head → q d.head ≡ Used c → Stands_at q c.next next
+pub unlink_head_fits : (l : Places) (q : Slots) (s : ℕ) (d : Directory) (c : Cell) (next : Option Cell) (v : View) → q 0 ≡ Free → q (l.directory_at s) ≡ Sender s d → ShowsAt l q s v → 0 < d.head → q d.head ≡ Used c → Stands_at q c.next next
     → HasBefores (unlink_head_writes l s d c next) q
 unlink_head_fits l q s d c None v zero at shows pos here beside =
     let off : l.directory_at s ≢ d.head = λ e. (let bad : Sender s d ≡ Used c = sym at ∙ ap q e ∙ here in cc) in
@@ -71,7 +71,7 @@ unlink_head_fits l q s d c (Some x) v zero at shows pos here beside =
 abbrev pub takes_for : ℕ → ℕ
 takes_for n = cond (nat_lt 1 n) 3 2
 
-pub unlink_head_count : (l : Layout) (q : Slots) (s : ℕ) (d : Directory) (c : Cell) (next : Option Cell) (v : View) → q 0 ≡ Free → q (l.directory_at s) ≡ Sender s d → ShowsAt l q s v → 0 < d.head → q d.head ≡ Used c → Stands_at q c.next next
+pub unlink_head_count : (l : Places) (q : Slots) (s : ℕ) (d : Directory) (c : Cell) (next : Option Cell) (v : View) → q 0 ≡ Free → q (l.directory_at s) ≡ Sender s d → ShowsAt l q s v → 0 < d.head → q d.head ≡ Used c → Stands_at q c.next next
     → length (unlink_head_writes l s d c next) ≡ takes_for (length v.messages)
 unlink_head_count l q s d c None v zero at shows pos here beside =
     let f = first_cells q s d v c None zero pos here beside (shows_here l q s v d (sym at) shows) in

@@ -18,7 +18,7 @@ use Rattle.rq_views.specs.Items.{items, ReadsItsDeeds}
 use Rattle.rq_views.specs.Legal.{IsLegalLog}
 use Rattle.rq_views.specs.Numbers.{AreNumbered}
 use Rattle.rq_views.specs.Plans.{directory_put_back, directory_tail_unlinked}
-use Rattle.rq_views.specs.Row.{sizes, small, t2, cell, sends, takes, sent_a, taken_a, sent_b, committed_one, done_two, stopped, taken_back, restarted}
+use Rattle.rq_views.specs.WorkedItems.{sizes, small, t2, cell, sends, takes, sent_a, taken_a, sent_b, committed_one, done_two, stopped, taken_back, restarted}
 use Rattle.rq_views.proofs.Worked.{worked}
 use Rattle.rq_model.specs.Incarnations.{InOrder}
 use Rattle.rq_store.specs.Whole.{IsWhole}

@@ -21,18 +21,18 @@ abbrev pub oldest : ℕ → List Record → List Record
 oldest n log = drop (length log - n) log
 
 -- a slot write that a record tells: its page and slot, and what it leaves there
-pub record HoldsRecord : Type 0 where
+pub record ToldWrite : Type 0 where
   pub page : ℕ
   pub slot : ℕ
   pub after : List ℕ
 
-abbrev pub told_by : Record → Option HoldsRecord
+abbrev pub told_by : Record → Option ToldWrite
 told_by (PageOp t n page slot before after) = Some (record { page = page; slot = slot; after = after })
 told_by (PageUndo t n undone page slot after) = Some (record { page = page; slot = slot; after = after })
 told_by _ = None
 
 -- the write is of this page
-abbrev pub IsOfPage : ℕ → Option HoldsRecord → Type 0
+abbrev pub IsOfPage : ℕ → Option ToldWrite → Type 0
 IsOfPage p None = ⊥
 IsOfPage p (Some w) = w.page ≡ p
 

@@ -12,7 +12,7 @@ use Rattle.rq_views.specs.Stored.{slots_in, count_used}
 use Rattle.rq_store.specs.State.{State}
 use Rattle.rq_model.specs.Incarnations.{incarnation_of}
 use Rattle.rq_store.specs.Whole.{IsWhole}
-use Rattle.rq_store.specs.Fitting.{HoldsRecord, told_by, oldest, HoldsPage, FitsPage, FitsLog}
+use Rattle.rq_store.specs.Fitting.{ToldWrite, told_by, oldest, HoldsPage, FitsPage, FitsLog}
 
 -- the pages and the log of a store that was left as a crash may leave one
 pub record IsLeft (z : Sizes) (image : ℕ → List ℕ) (log : List Record) : Type 0 where
@@ -28,12 +28,12 @@ abbrev pub FitsUpTo : Sizes → (ℕ → List ℕ) → List Record → ℕ → T
 FitsUpTo z image log k = (p : ℕ) → 1 ≤ p → p < page_count z → FitsPageUpTo z log k p (image p)
 
 -- what the write of the record with this LSN makes of the pages: it is made where its page is older
-pub record IsRedone (w : HoldsRecord) (lsn : ℕ) (old new : ℕ → List ℕ) : Type 0 where
+pub record IsRedone (w : ToldWrite) (lsn : ℕ) (old new : ℕ → List ℕ) : Type 0 where
   pub made : lsn_of (old w.page) < lsn → IsWritten (old w.page) (new w.page) w.slot w.after lsn
   pub kept : lsn ≤ lsn_of (old w.page) → new w.page ≡ old w.page
   pub others : (p : ℕ) → p ≢ w.page → new p ≡ old p
 
-abbrev pub Redoes : Option HoldsRecord → ℕ → (ℕ → List ℕ) → (ℕ → List ℕ) → Type 0
+abbrev pub Redoes : Option ToldWrite → ℕ → (ℕ → List ℕ) → (ℕ → List ℕ) → Type 0
 Redoes None lsn old new = (p : ℕ) → new p ≡ old p
 Redoes (Some w) lsn old new = IsRedone w lsn old new
 
@@ -74,11 +74,11 @@ IsBeforeIn (PageOp t n page slot before after) lsn image = lsn_of (image page) <
     → slot_of slot (image page) ≡ before
 IsBeforeIn _ lsn image = Unit {0}
 
-pub record IsSoundTold (z : Sizes) (lsn : ℕ) (w : HoldsRecord) : Type 0 where
+pub record IsSoundTold (z : Sizes) (lsn : ℕ) (w : ToldWrite) : Type 0 where
   pub slot : IsSlotOf z w.page w.slot w.after
   pub count : count_in z w.page w.after ≤ lsn
 
-abbrev pub IsSoundWrite : Sizes → ℕ → Option HoldsRecord → Type 0
+abbrev pub IsSoundWrite : Sizes → ℕ → Option ToldWrite → Type 0
 IsSoundWrite z lsn None = Unit {0}
 IsSoundWrite z lsn (Some w) = IsSoundTold z lsn w
 

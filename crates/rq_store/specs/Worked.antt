@@ -10,7 +10,7 @@ use Rattle.rq_model.specs.History.{Group}
 use Rattle.rq_page.specs.Slots.{slot_bytes}
 use Rattle.rq_views.specs.Log.{Item}
 use Rattle.rq_views.specs.Log.Item.{PageOp, PageUndo, OpEnd, OpVoid, CompEnd, Commit, AbortEnd, Restart}
-use Rattle.rq_views.specs.Row.{sizes, t2, stopped, restarted}
+use Rattle.rq_views.specs.WorkedItems.{sizes, t2, stopped, restarted}
 use Rattle.rq_page.specs.Formatted.{IsFormatted}
 use Rattle.rq_page.specs.Pages.{lsn_of}
 use Rattle.rq_page.specs.Sizes.{Sizes, IsInRange, page_count}

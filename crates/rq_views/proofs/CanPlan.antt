@@ -5,7 +5,7 @@ use Rattle.std.proofs.Common.{◌≡◌, ◌≢◌, ℕ, suc, ◌+◌, ◌<◌, 
 use Rattle.std.proofs.lemmas.List.{length-append}
 use Rattle.rq_views.specs.Chain.{Node, last, Linked, View, message}
 use Rattle.rq_page.specs.Slots.{Slot}
-use Rattle.rq_views.specs.Log.{Slots, put, cell_in, cells_of, Write, HasBefores, Layout}
+use Rattle.rq_views.specs.Log.{Slots, put, cell_in, cells_of, Write, HasBefores, Places}
 use Rattle.rq_page.specs.Slots.Slot.{Free, Used, Sender}
 use Rattle.rq_views.specs.Plans.{ShowsAt, with_next, unlink_tail_writes, IsUnlinkTail}
 use Rattle.rq_views.proofs.Chains.{end_linked, front_linked, last_is, last_append, last_pos, other_place}
@@ -20,7 +20,7 @@ used_from (Sender s d) c e = cc
 apart_from : (q : Slots) (a b s : ℕ) (d : Directory) (c : Cell) → q a ≡ Sender s d → q b ≡ Used c → a ≢ b
 apart_from q a b s d c e f h = let k : Used c ≡ Sender s d = sym f ∙ ap q (sym h) ∙ e in cc
 
-tail_at : (l : Layout) (q : Slots) (s previous : ℕ) (d : Directory) (xs : List Node) (x : Node) → q (l.directory_at s) ≡ Sender s d → Linked (cells_of q) s 0 (d.received + 1) (xs ++ x ∷ []) 0 → d.tail ≡ x.at → 0 < x.at
+tail_at : (l : Places) (q : Slots) (s previous : ℕ) (d : Directory) (xs : List Node) (x : Node) → q (l.directory_at s) ≡ Sender s d → Linked (cells_of q) s 0 (d.received + 1) (xs ++ x ∷ []) 0 → d.tail ≡ x.at → 0 < x.at
     → (ws : List Write) × IsUnlinkTail l s (d.received + 1 + length xs) previous ws × HasBefores ws q
 tail_at l q s previous d [] x at k t pos =
     let c : Cell = record { sender = s; sequence = d.received + 1 + 0; tag = x.tag; body = x.body; next = 0; prev = 0 } in
@@ -47,7 +47,7 @@ tail_at l q s previous d (y ∷ ys) x at k t pos =
       ),
     )
 
-tail_of : (l : Layout) (q : Slots) (s previous : ℕ) (d : Directory) (ns : List Node) → 0 < length ns → q (l.directory_at s) ≡ Sender s d → Linked (cells_of q) s 0 (d.received + 1) ns 0 → d.tail ≡ last 0 ns
+tail_of : (l : Places) (q : Slots) (s previous : ℕ) (d : Directory) (ns : List Node) → 0 < length ns → q (l.directory_at s) ≡ Sender s d → Linked (cells_of q) s 0 (d.received + 1) ns 0 → d.tail ≡ last 0 ns
     → (ws : List Write) × IsUnlinkTail l s (d.received + length ns) previous ws × HasBefores ws q
 tail_of l q s previous d [] more at k t = absurd (omega (arith, more))
 tail_of l q s previous d (n ∷ ns) more at k t =
@@ -64,7 +64,7 @@ length_shown [] = refl
 length_shown (n ∷ ns) = ap suc (length_shown ns)
 
 -- the inverse of an append numbered by what the view holds can be made, over the slots as they are
-pub can_unlink_tail : (l : Layout) (q : Slots) (s previous : ℕ) (v : View) → 0 < length v.messages → ShowsAt l q s v → (ws : List Write) × IsUnlinkTail l s (v.received + length v.messages) previous ws × HasBefores ws q
+pub can_unlink_tail : (l : Places) (q : Slots) (s previous : ℕ) (v : View) → 0 < length v.messages → ShowsAt l q s v → (ws : List Write) × IsUnlinkTail l s (v.received + length v.messages) previous ws × HasBefores ws q
 can_unlink_tail l q s previous v more h =
     let d = h.directory in
     let len : length v.messages ≡ length h.shows.nodes = ap (λ (xs : List (ℕ × List ℕ)). length xs) h.shows.messages ∙ length_shown h.shows.nodes in

@@ -20,7 +20,7 @@ use Rattle.rq_page.specs.Slots.{Slot}
 use Rattle.rq_page.specs.Slots.Slot.{Free, Used, Sender}
 use Rattle.rq_page.proofs.Addresses.{places_are_cells, cells_rise}
 use Rattle.rq_views.specs.Chain.{Node, first, last, message, View, all_but_last}
-use Rattle.rq_views.specs.Log.{Slots, Write, put, applied, HasBefores, Layout, state_of}
+use Rattle.rq_views.specs.Log.{Slots, Write, put, applied, HasBefores, Places, state_of}
 use Rattle.rq_views.specs.Plans.{ShowsAt, relinked, with_next, with_prev, directory_write, directory_head_unlinked, directory_tail_unlinked, Turn, IsPlan, deed_sender, turn_sender, with_turn}
 use Rattle.rq_views.specs.Plans.Turn.{Did, Undid}
 use Rattle.rq_views.specs.Legal.{Placed, rest_placed, open_deeds, undoing, view_after, view, Undoes, IsLegalLog}
@@ -126,7 +126,7 @@ relinked_counts at (Some c) f ws = omega arith
 abbrev Balanced : Turn → List Write → Type 0
 Balanced t ws = used_after ws + lost t ≡ used_before ws + gained t
 
-plan_counts : (l : Layout) (t : Turn) (ws : List Write) → IsPlan l t ws → Balanced t ws
+plan_counts : (l : Places) (t : Turn) (ws : List Write) → IsPlan l t ws → Balanced t ws
 plan_counts l (Did (Append s n tag previous body)) ws p =
     let d = p.directory in
     let w : Write = record { at = p.new; before = Free; after = Used (record { sender = s; sequence = d.sent + 1; tag = tag; body = body; next = 0; prev = d.tail }) } in
@@ -151,7 +151,7 @@ plan_counts l (Undid (UnlinkHead s n tag body)) ws p =
 plan_counts l (Undid (Close s)) ws p = subst (Balanced (Undid (Close s))) (sym p.writes) refl
 
 -- the directory slot that an unlink's last write is over stood before the operation
-directory_there : (l : Layout) (q : Slots) (s : ℕ) (d e : Directory) (at : ℕ) (o : Option Cell) (f : Cell → Cell) (b : ℕ) (c : Cell) → HasBefores (directory_write l s d e ∷ relinked at o f (record { at = b; before = Used c; after = Free } ∷ [])) q → Sender s d ≡ q (l.directory_at s)
+directory_there : (l : Places) (q : Slots) (s : ℕ) (d e : Directory) (at : ℕ) (o : Option Cell) (f : Cell → Cell) (b : ℕ) (c : Cell) → HasBefores (directory_write l s d e ∷ relinked at o f (record { at = b; before = Used c; after = Free } ∷ [])) q → Sender s d ≡ q (l.directory_at s)
 directory_there l q s d e at None f b c h = (through q b Free (Sender s d) (l.directory_at s) (free_sender s d) h.0).1
 directory_there l q s d e at (Some x) f b c h =
     let t = through (put q b Free) at (Used (f x)) (Sender s d) (l.directory_at s) (used_sender (f x) s d) h.0 in
@@ -166,7 +166,7 @@ last_there [] h = h
 last_there (n ∷ ns) h = omega arith
 
 -- an unlink finds a message in its chain
-pub plan_there : (l : Layout) (q : Slots) (ws : List Write) (t : Turn) (v : View) → IsPlan l t ws → HasBefores ws q → ShowsAt l q (turn_sender t) v → lost t ≤ length v.messages
+pub plan_there : (l : Places) (q : Slots) (ws : List Write) (t : Turn) (v : View) → IsPlan l t ws → HasBefores ws q → ShowsAt l q (turn_sender t) v → lost t ≤ length v.messages
 plan_there l q ws (Did (Append s n tag previous body)) v p f h = omega arith
 plan_there l q ws (Did (UnlinkHead s n tag body)) v p f h =
     let d = p.directory in

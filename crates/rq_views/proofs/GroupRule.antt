@@ -13,7 +13,7 @@ use Rattle.rq_views.specs.Plans.Turn.{Did, Undid}
 use Rattle.rq_views.specs.Legal.{Placed, open_deeds, view, view_after, no_view, undoing}
 use Rattle.rq_views.specs.Groups.{on_sending_end, on_receiving_end, side, with_all, committed, MayTurn, KeepsGroups}
 use Rattle.rq_views.proofs.Holders.{Held, pushed, popped, held_other, held_sent, held_taken, pop_other, pop_sent, pop_taken, held_committed}
-use Rattle.rq_views.specs.Row.{row}
+use Rattle.rq_views.specs.WorkedItems.{row}
 
 start_held : (s : ℕ) (t : Txn) → Held s (λ u. []) no_view no_view
 start_held s t = record { sender = t; sender_alone = λ u n. refl; taker = t; taker_alone = λ u n. refl; shown = refl; sends = λ u. tt; takes = λ u. tt }

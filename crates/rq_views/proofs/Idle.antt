@@ -3,7 +3,7 @@ use Rattle.rq_model.specs.declared.txn.Sub.{Sub}
 use Rattle.std.proofs.Common.{◌≡◌, ℕ, ◌&&◌, inl, inr, List, [], ◌∷◌, Bool, true, false, refl, sym, ap, ◌∙◌}
 use Rattle.std.specs.Prelude.{not}
 use Rattle.std.proofs.lemmas.Bool.{cases_Bool, cond-true, cond-false, and_parts, and_cases, and_left, and_right, or_cases, or_parts, or_from, not-false, false≢true, true≢false}
-use Rattle.rq_views.specs.Log.{Write, Layout, LogState, Item, act, same_op, writes_after, stands_after, state_of}
+use Rattle.rq_views.specs.Log.{Write, Places, LogState, Item, act, same_op, writes_after, stands_after, state_of}
 use Rattle.rq_views.specs.Log.Item.{PageOp, PageUndo, OpEnd, OpVoid, CompEnd, Commit, AbortEnd, Restart}
 use Rattle.rq_views.specs.Legal.{of_op, is_of, began, is_end, over, under_way, is_undo, turned_back, on_page, crossed, MayFollow, IsLegalLog}
 use Rattle.rq_views.proofs.Overlay.{Good, same_is}
@@ -52,12 +52,12 @@ ended_stands page (AbortEnd t) o p b e y = absurd (false≢true e)
 ended_stands page (Restart i) o p b e y = absurd (false≢true e)
 
 -- an operation that never began has written nothing
-pub unbegun_writes : (l : Layout) (log : List Item) (o : Sub) → began o log ≡ false → (state_of l log).writes o ≡ []
+pub unbegun_writes : (l : Places) (log : List Item) (o : Sub) → began o log ≡ false → (state_of l log).writes o ≡ []
 unbegun_writes l [] o h = refl
 unbegun_writes l (r ∷ log) o h = let p = or_parts (is_of o (of_op r)) (began o log) h in other_writes r o ((state_of l log).writes o) p.0 ∙ unbegun_writes l log o p.1
 
 -- and stands nowhere
-pub unbegun_stands : (l : Layout) (log : List Item) (o : Sub) (p : ℕ) → began o log ≡ false → (state_of l log).stands o p ≡ false
+pub unbegun_stands : (l : Places) (log : List Item) (o : Sub) (p : ℕ) → began o log ≡ false → (state_of l log).stands o p ≡ false
 unbegun_stands l [] o p h = refl
 unbegun_stands l (r ∷ log) o p h = let k = or_parts (is_of o (of_op r)) (began o log) h in other_stands l.page r o p ((state_of l log).stands o p) k.0 ∙ unbegun_stands l log o p k.1
 
@@ -79,7 +79,7 @@ unbegun_uncrossed page (r ∷ log) o p h =
     or_from (began o log && (on_page page p r && not (is_of o (of_op r)))) (crossed page o p log) (and_left (began o log) (on_page page p r && not (is_of o (of_op r))) k.1) (unbegun_uncrossed page log o p k.1)
 
 -- an operation with a record may have it only while it has no end
-may_going : (l : Layout) (log : List Item) (r : Item) (o : Sub) → MayFollow l log r → is_of o (of_op r) ≡ true → over o log ≡ false
+may_going : (l : Places) (log : List Item) (r : Item) (o : Sub) → MayFollow l log r → is_of o (of_op r) ≡ true → over o log ≡ false
 may_going l log (PageOp u w) o may y = ap (λ x. over x log) (sym (same_is u o y)) ∙ may.going
 may_going l log (PageUndo u k at after) o may y = ap (λ x. over x log) (sym (same_is u o y)) ∙ may.going
 may_going l log (OpEnd u d) o may y = ap (λ x. over x log) (sym (same_is u o y)) ∙ may.going
@@ -90,7 +90,7 @@ may_going l log (AbortEnd t) o may y = absurd (false≢true y)
 may_going l log (Restart i) o may y = absurd (false≢true y)
 
 -- an operation that has its end has no writes that are not whole
-pub over_writes : (l : Layout) (log : List Item) (o : Sub) → IsLegalLog l log → over o log ≡ true → (state_of l log).writes o ≡ []
+pub over_writes : (l : Places) (log : List Item) (o : Sub) → IsLegalLog l log → over o log ≡ true → (state_of l log).writes o ≡ []
 over_writes l [] o k h = absurd (false≢true h)
 over_writes l (r ∷ log) o k h = elim (or_cases (is_end r && is_of o (of_op r)) (over o log) h) [
   | inl y ↦ let p = and_parts (is_end r) (is_of o (of_op r)) y in ended_writes r o ((state_of l log).writes o) p.0 p.1
@@ -101,7 +101,7 @@ over_writes l (r ∷ log) o k h = elim (or_cases (is_end r && is_of o (of_op r))
 ]
 
 -- and stands nowhere
-pub over_stands : (l : Layout) (log : List Item) (o : Sub) (p : ℕ) → IsLegalLog l log → over o log ≡ true → (state_of l log).stands o p ≡ false
+pub over_stands : (l : Places) (log : List Item) (o : Sub) (p : ℕ) → IsLegalLog l log → over o log ≡ true → (state_of l log).stands o p ≡ false
 over_stands l [] o p k h = refl
 over_stands l (r ∷ log) o p k h = elim (or_cases (is_end r && is_of o (of_op r)) (over o log) h) [
   | inl y ↦ let e = and_parts (is_end r) (is_of o (of_op r)) y in ended_stands l.page r o p ((state_of l log).stands o p) e.0 e.1
@@ -112,14 +112,14 @@ over_stands l (r ∷ log) o p k h = elim (or_cases (is_end r && is_of o (of_op r
 ]
 
 -- an operation that is not under way has no writes that are not whole
-pub idle_writes : (l : Layout) (log : List Item) (o : Sub) → IsLegalLog l log → under_way o log ≡ false → (state_of l log).writes o ≡ []
+pub idle_writes : (l : Places) (log : List Item) (o : Sub) → IsLegalLog l log → under_way o log ≡ false → (state_of l log).writes o ≡ []
 idle_writes l log o k h = elim (and_cases (began o log) (not (over o log)) h) [
   | inl n ↦ unbegun_writes l log o n
   | inr y ↦ over_writes l log o k (not-false (over o log) y)
 ]
 
 -- and stands nowhere
-pub idle_stands : (l : Layout) (log : List Item) (o : Sub) (p : ℕ) → IsLegalLog l log → under_way o log ≡ false → (state_of l log).stands o p ≡ false
+pub idle_stands : (l : Places) (log : List Item) (o : Sub) (p : ℕ) → IsLegalLog l log → under_way o log ≡ false → (state_of l log).stands o p ≡ false
 idle_stands l log o p k h = elim (and_cases (began o log) (not (over o log)) h) [
   | inl n ↦ unbegun_stands l log o p n
   | inr y ↦ over_stands l log o p k (not-false (over o log) y)
@@ -133,5 +133,5 @@ nowhere_quiet page z g h a = elim (g.each a) [
 ]
 
 -- and so they are where no operation is under way
-pub idle_quiet : (l : Layout) (log : List Item) → IsLegalLog l log → ((o : Sub) → under_way o log ≡ false) → (a : ℕ) → (state_of l log).slots a ≡ (state_of l log).quiet a
+pub idle_quiet : (l : Places) (log : List Item) → IsLegalLog l log → ((o : Sub) → under_way o log ≡ false) → (a : ℕ) → (state_of l log).slots a ≡ (state_of l log).quiet a
 idle_quiet l log k h a = nowhere_quiet l.page (state_of l log) (good l log k) (λ o p. idle_stands l log o p k (h o)) a

@@ -10,7 +10,7 @@ use Rattle.rq_views.specs.Plans.{IsAppend}
 use Rattle.rq_views.specs.Plans.Turn.{Did}
 use Rattle.rq_views.specs.Legal.{MayFollow, IsLegalLog}
 use Rattle.rq_page.specs.Directories.{new_directory}
-use Rattle.rq_views.specs.Row.{small, t1, a1, b1, new_a, new_b, end_a, row}
+use Rattle.rq_views.specs.WorkedItems.{small, t1, a1, b1, new_a, new_b, end_a, row}
 
 plan_a : IsAppend small 0 1 7 0 (104 ∷ []) (end_a ∷ new_a ∷ [])
 plan_a = record { directory = new_directory; new = 49; old = None; used = omega arith; sequence = refl; previous_is = refl; old_is = refl; writes = refl }

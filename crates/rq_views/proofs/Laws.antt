@@ -5,7 +5,7 @@ use Rattle.std.proofs.Common.{◌≡◌, ◌≢◌, ℕ, ◌+◌, ◌<◌, ◌�
 use Rattle.std.proofs.lemmas.Bool.{cases_eq, cond-true, cond-false, eq-eqb}
 use Rattle.rq_views.specs.Chain.{Cells, written, View, Shows, IsForeign, relink_next, cells_appended, directory_appended, view_appended}
 use Rattle.rq_page.specs.Slots.{Slot}
-use Rattle.rq_views.specs.Log.{Slots, cell_in, cells_of, put, Write, applied, HasBefores, Layout}
+use Rattle.rq_views.specs.Log.{Slots, cell_in, cells_of, put, Write, applied, HasBefores, Places}
 use Rattle.rq_page.specs.Slots.Slot.{Free, Used, Sender}
 use Rattle.rq_views.specs.Plans.{ShowsAt, IsForeignSlot, Spares, LinksTo, with_next, append_writes, IsAppend}
 use Rattle.rq_views.proofs.Chains.{no_eq, none_some, frame, frame_foreign, tail_used, append_shows}
@@ -31,7 +31,7 @@ foreign_cell s (Used c) h = h
 foreign_cell s (Sender r d) h = tt
 
 -- slots that differ from others only where these are foreign to s show the same of s
-pub shows_frame : (l : Layout) (q r : Slots) (s : ℕ) (v : View) → ((a : ℕ) → (r a ≡ q a) ⊎ IsForeignSlot s (q a)) → ShowsAt l q s v → ShowsAt l r s v
+pub shows_frame : (l : Places) (q r : Slots) (s : ℕ) (v : View) → ((a : ℕ) → (r a ≡ q a) ⊎ IsForeignSlot s (q a)) → ShowsAt l q s v → ShowsAt l r s v
 shows_frame l q r s v h k = record {
   directory = k.directory;
   at = elim (h (l.directory_at s)) [ inl e ↦ e ∙ k.at | inr f ↦ absurd (foreign_from s (q (l.directory_at s)) (Sender s k.directory) k.at f refl) ];
@@ -49,7 +49,7 @@ shows_frame l q r s v h k = record {
 }
 
 -- what another sender shows stays
-pub others : (l : Layout) (q : Slots) (ws : List Write) (s : ℕ) (v : View) → Spares s ws → HasBefores ws q → ShowsAt l q s v → ShowsAt l (applied ws q) s v
+pub others : (l : Places) (q : Slots) (ws : List Write) (s : ℕ) (v : View) → Spares s ws → HasBefores ws q → ShowsAt l q s v → ShowsAt l (applied ws q) s v
 others l q ws s v h f k = shows_frame l q (applied ws q) s v (spared s ws q h f) k
 
 pub shows_same : (m m' : Cells) (s : ℕ) (d : Directory) (v : View) → ((a : ℕ) → m' a ≡ m a) → Shows m s d v → Shows m' s d v
@@ -91,10 +91,10 @@ through q at x y a ne h = let off : a ≢ at = λ e. ne (sym (put_at q at x a e)
 pub sender_is : (s : ℕ) (d e : Directory) → Sender s d ≡ Sender s e → d ≡ e
 sender_is s d e h = cc
 
-pub shows_here : (l : Layout) (q : Slots) (s : ℕ) (v : View) (d : Directory) → Sender s d ≡ q (l.directory_at s) → ShowsAt l q s v → Shows (cells_of q) s d v
+pub shows_here : (l : Places) (q : Slots) (s : ℕ) (v : View) (d : Directory) → Sender s d ≡ q (l.directory_at s) → ShowsAt l q s v → Shows (cells_of q) s d v
 shows_here l q s v d e h = subst (λ x. Shows (cells_of q) s x v) (sym (sender_is s d h.directory (e ∙ h.at))) h.shows
 
-append_own : (l : Layout) (q : Slots) (s : ℕ) (v : View) (d : Directory) (new tag : ℕ) (body : List ℕ) (old : Option Cell) → 0 < new → LinksTo s d.tail old
+append_own : (l : Places) (q : Slots) (s : ℕ) (v : View) (d : Directory) (new tag : ℕ) (body : List ℕ) (old : Option Cell) → 0 < new → LinksTo s d.tail old
     → HasBefores (append_writes l s d new tag body old) q → ShowsAt l q s v → ShowsAt l (applied (append_writes l s d new tag body old) q) s (view_appended v tag body)
 append_own l q s v d new tag body None pos link f h =
     let c : Cell = record { sender = s; sequence = d.sent + 1; tag = tag; body = body; next = 0; prev = d.tail } in
@@ -132,7 +132,7 @@ append_own l q s v d new tag body (Some o) pos link f h =
           (append_shows m s d v new tag body pos (ap cell_in (sym f.1.1.0)) k);
     }
 
-pub append_law : (l : Layout) (q : Slots) (ws : List Write) (s n tag previous : ℕ) (body : List ℕ) (v : View) → IsAppend l s n tag previous body ws → HasBefores ws q → ShowsAt l q s v → ShowsAt l (applied ws q) s (view_appended v tag body)
+pub append_law : (l : Places) (q : Slots) (ws : List Write) (s n tag previous : ℕ) (body : List ℕ) (v : View) → IsAppend l s n tag previous body ws → HasBefores ws q → ShowsAt l q s v → ShowsAt l (applied ws q) s (view_appended v tag body)
 append_law l q ws s n tag previous body v p f h =
     subst (λ ws. ShowsAt l (applied ws q) s (view_appended v tag body)) (sym p.writes)
     (append_own l q s v p.directory p.new tag body p.old p.used p.old_is (subst (λ ws. HasBefores ws q) p.writes f) h)

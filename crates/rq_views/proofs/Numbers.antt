@@ -7,7 +7,7 @@ use Rattle.rq_model.specs.declared.txn.Sub.{Sub}
 use Rattle.rq_model.specs.Words.{same_txn}
 use Rattle.rq_model.proofs.Lists.{same_is}
 use Rattle.rq_model.specs.declared.record.Deed.TheVariants.{Append, UnlinkHead, Close}
-use Rattle.rq_views.specs.Log.{Item, Layout, IsNewest, same_op, state_of}
+use Rattle.rq_views.specs.Log.{Item, Places, IsNewest, same_op, state_of}
 use Rattle.rq_views.specs.Log.Item.{PageOp, PageUndo, OpEnd, OpVoid, CompEnd, Commit, AbortEnd, Restart}
 use Rattle.rq_views.specs.Legal.{Placed, IsLegalLog, Undoes, of_op, is_of, began, open_deeds}
 use Rattle.rq_views.specs.Plans.{Turn, IsPlan}
@@ -40,7 +40,7 @@ pub beyond_unbegun : (t : Txn) (n : ℕ) (log : List Item) → greatest t log < 
 beyond_unbegun t n log h =
     false_from_ne_true (began (operation t n) log) (λ e. let k = began_within t n log e in absurd (omega (arith, h, k)))
 
-plan_some : (l : Layout) (t : Turn) → IsPlan l t [] → ⊥
+plan_some : (l : Places) (t : Turn) → IsPlan l t [] → ⊥
 plan_some l (Did (Append s n tag previous body)) p = let e = p.writes in cc
 plan_some l (Did (UnlinkHead s n tag body)) p = let e = p.writes in cc
 plan_some l (Did (Close s)) p = let e = p.writes in cc
@@ -48,12 +48,12 @@ plan_some l (Undid (Append s n tag previous body)) p = let e = p.writes in cc
 plan_some l (Undid (UnlinkHead s n tag body)) p = let e = p.writes in cc
 plan_some l (Undid (Close s)) p = let e = p.writes in cc
 
-undoes_some : (l : Layout) (ps : List Placed) (u : ℕ) → Undoes l ps u [] → ⊥
+undoes_some : (l : Places) (ps : List Placed) (u : ℕ) → Undoes l ps u [] → ⊥
 undoes_some l [] u h = h
 undoes_some l (p ∷ ps) u h = plan_some l (Undid p.deed) h.1
 
 -- an operation that has written has a record
-written_began : (l : Layout) (log : List Item) (o : Sub) → ((state_of l log).writes o ≡ [] → ⊥) → began o log ≡ true
+written_began : (l : Places) (log : List Item) (o : Sub) → ((state_of l log).writes o ≡ [] → ⊥) → began o log ≡ true
 written_began l log o h = elim (cases_Bool (began o log)) [ inl y ↦ y | inr n ↦ absurd (h (unbegun_writes l log o n)) ]
 
 one_of : (t : Txn) (n : ℕ) (o : Sub) (log : List Item) → (began o log ≡ false → o.number ≡ greatest o.txn log + 1)
@@ -83,7 +83,7 @@ has_begun : (o : Sub) (log : List Item) (m : ℕ) → began o log ≡ true → b
 has_begun o log m y n = absurd (false≢true (sym n ∙ y))
 
 -- each number up to the greatest is that of an operation
-pub all_begun : (l : Layout) (t : Txn) (n : ℕ) (log : List Item) → IsLegalLog l log → AreNumbered log → 1 ≤ n
+pub all_begun : (l : Places) (t : Txn) (n : ℕ) (log : List Item) → IsLegalLog l log → AreNumbered log → 1 ≤ n
     → n ≤ greatest t log → began (operation t n) log ≡ true
 all_begun l t n [] g h low le = absurd (omega (arith, low, le))
 all_begun l t n (PageOp o w ∷ log) g h low le = one_of t n o log h.0 (all_begun l t n log g.1 h.1 low) le

@@ -14,7 +14,7 @@ use Rattle.rq_views.specs.Log.Item.{PageOp, PageUndo, OpEnd, OpVoid, CompEnd, Re
 use Rattle.rq_views.specs.Plans.{Turn, IsPlan, IsAppend, IsUnlinkHead, IsUnlinkTail, IsPutBack, IsMark, Spares}
 use Rattle.rq_views.specs.Plans.Turn.{Did, Undid}
 use Rattle.rq_views.specs.Legal.{Begins, IsLegalLog, MayPageOp, MayOpEnd, MayCompEnd, MayPageUndo, MayOpVoid, onto, has_deed, over, under_way, turned_back, has_end, crossed}
-use Rattle.rq_views.specs.Row.{small, t1, t2, of, a1, b1, cell, new_a, end_a, new_b, end_b, sends, takes, taken_a, sent_a, free_a, took_a, back_a, sent_b, free_b, undid_b, committed_one, done_two, stopped, taken_back, restarted, taken_one, mark_a, closed_one}
+use Rattle.rq_views.specs.WorkedItems.{small, t1, t2, of, a1, b1, cell, new_a, end_a, new_b, end_b, sends, takes, taken_a, sent_a, free_a, took_a, back_a, sent_b, free_b, undid_b, committed_one, done_two, stopped, taken_back, restarted, taken_one, mark_a, closed_one}
 use Rattle.rq_views.proofs.Idle.{idle_stands, idle_writes}
 use Rattle.rq_views.proofs.Overlay.{same_is}
 

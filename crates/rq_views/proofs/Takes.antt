@@ -5,14 +5,14 @@ use Rattle.std.proofs.Common.{◌≡◌, ◌≢◌, ℕ, ◌+◌, ◌-◌, ◌<�
 use Rattle.std.proofs.lemmas.Bool.{cond-true, cond-false, eq-eqb}
 use Rattle.std.proofs.lemmas.List.{length-append, map-append}
 use Rattle.rq_views.specs.Chain.{Cells, Node, first, last, Linked, View, message, Shows, relink_next, relink_prev, view_tail_unlinked, view_put_back, all_but_last}
-use Rattle.rq_views.specs.Log.{Slots, cell_in, cells_of, put, Write, applied, HasBefores, Layout}
+use Rattle.rq_views.specs.Log.{Slots, cell_in, cells_of, put, Write, applied, HasBefores, Places}
 use Rattle.rq_page.specs.Slots.Slot.{Free, Used, Sender}
 use Rattle.rq_views.specs.Plans.{ShowsAt, LinksTo, with_next, with_prev, directory_write, directory_head_unlinked, unlink_head_writes, IsUnlinkHead, view_head_unlinked, directory_tail_unlinked, unlink_tail_writes, IsUnlinkTail, directory_put_back, put_back_writes, IsPutBack, IsMark}
 use Rattle.rq_views.proofs.Chains.{no_eq, none_some, unlink_head_linked, unlink_tail_linked, put_back_linked, end_linked, all_but_last_append, last_append, cell_at}
 use Rattle.rq_views.proofs.Overlay.{put_at, put_off}
 use Rattle.rq_views.proofs.Laws.{cells_directory, used_sender, free_sender, through, shows_here, shows_same}
 
-pub mark_law : (l : Layout) (q : Slots) (ws : List Write) (s : ℕ) (closed : Bool) (v : View) → IsMark l s closed ws → HasBefores ws q → ShowsAt l q s v → ShowsAt l (applied ws q) s (record v { closed = closed })
+pub mark_law : (l : Places) (q : Slots) (ws : List Write) (s : ℕ) (closed : Bool) (v : View) → IsMark l s closed ws → HasBefores ws q → ShowsAt l q s v → ShowsAt l (applied ws q) s (record v { closed = closed })
 mark_law l q ws s closed v p f h =
     let d = p.directory in
     let e : Directory = record d { closed = closed } in
@@ -66,7 +66,7 @@ head_shows m m' s d v c (n ∷ x ∷ ns) pos here l hh ht hs hm hc hr hl rest he
       messages = ap (λ xs. drop 1 xs) hm;
     }
 
-head_own : (l : Layout) (q : Slots) (s : ℕ) (v : View) (d : Directory) (c : Cell) (next : Option Cell) → 0 < d.head → LinksTo s c.next next
+head_own : (l : Places) (q : Slots) (s : ℕ) (v : View) (d : Directory) (c : Cell) (next : Option Cell) → 0 < d.head → LinksTo s c.next next
     → HasBefores (unlink_head_writes l s d c next) q → ShowsAt l q s v → ShowsAt l (applied (unlink_head_writes l s d c next) q) s (view_head_unlinked v)
 head_own l q s v d c None pos link f h =
     let q1 = put q d.head Free in
@@ -96,7 +96,7 @@ head_own l q s v d c (Some x) pos link f h =
           ∙ ap (λ y. relink_prev 0 (cell_in y)) (f.1.0 ∙ ap q1 (sym en) ∙ put_off q d.head Free a na));
     }
 
-pub head_law : (l : Layout) (q : Slots) (ws : List Write) (s n tag : ℕ) (body : List ℕ) (v : View) → IsUnlinkHead l s n tag body ws → HasBefores ws q → ShowsAt l q s v → ShowsAt l (applied ws q) s (view_head_unlinked v)
+pub head_law : (l : Places) (q : Slots) (ws : List Write) (s n tag : ℕ) (body : List ℕ) (v : View) → IsUnlinkHead l s n tag body ws → HasBefores ws q → ShowsAt l q s v → ShowsAt l (applied ws q) s (view_head_unlinked v)
 head_law l q ws s n tag body v p f h =
     subst (λ ws. ShowsAt l (applied ws q) s (view_head_unlinked v)) (sym p.writes)
     (head_own l q s v p.directory p.cell p.next p.used p.next_is (subst (λ ws. HasBefores ws q) p.writes f) h)
@@ -158,7 +158,7 @@ tail_split m m' s d v c previous (n ∷ ns) pos here l hh ht hs hm hc hr rest en
     tail_shows m m' s d v c previous r.0 r.1 pos here
     (subst (λ xs. Linked m s 0 (d.received + 1) xs 0) r.2 l) (hh ∙ ap (λ xs. first xs 0) r.2) (ht ∙ ap (λ xs. last 0 xs) r.2) (hs ∙ ap (λ (xs : List Node). d.received + length xs) r.2) (hm ∙ ap (λ xs. map message xs) r.2) hc hr rest end
 
-tail_own : (l : Layout) (q : Slots) (s : ℕ) (v : View) (d : Directory) (c : Cell) (previous : ℕ) (front : Option Cell) → 0 < d.tail → LinksTo s c.prev front
+tail_own : (l : Places) (q : Slots) (s : ℕ) (v : View) (d : Directory) (c : Cell) (previous : ℕ) (front : Option Cell) → 0 < d.tail → LinksTo s c.prev front
     → HasBefores (unlink_tail_writes l s d c previous front) q → ShowsAt l q s v → ShowsAt l (applied (unlink_tail_writes l s d c previous front) q) s (view_tail_unlinked v previous)
 tail_own l q s v d c previous None pos link f h =
     let q1 = put q d.tail Free in
@@ -188,7 +188,7 @@ tail_own l q s v d c previous (Some x) pos link f h =
           ∙ ap (λ y. relink_next 0 (cell_in y)) (f.1.0 ∙ ap q1 (sym en) ∙ put_off q d.tail Free a na));
     }
 
-pub tail_law : (l : Layout) (q : Slots) (ws : List Write) (s n previous : ℕ) (v : View) → IsUnlinkTail l s n previous ws → HasBefores ws q → ShowsAt l q s v → ShowsAt l (applied ws q) s (view_tail_unlinked v previous)
+pub tail_law : (l : Places) (q : Slots) (ws : List Write) (s n previous : ℕ) (v : View) → IsUnlinkTail l s n previous ws → HasBefores ws q → ShowsAt l q s v → ShowsAt l (applied ws q) s (view_tail_unlinked v previous)
 tail_law l q ws s n previous v p f h =
     subst (λ ws. ShowsAt l (applied ws q) s (view_tail_unlinked v previous)) (sym p.writes)
     (tail_own l q s v p.directory p.cell previous p.front p.used p.front_is (subst (λ ws. HasBefores ws q) p.writes f) h)
@@ -232,7 +232,7 @@ back_shows m m' s d v new tag body (x ∷ ns) pos some free here l hh ht hs hm h
       messages = ap (λ xs. (tag, body) ∷ xs) hm;
     }
 
-back_own : (l : Layout) (q : Slots) (s : ℕ) (v : View) (d : Directory) (new tag : ℕ) (body : List ℕ) (old : Option Cell) → 0 < new → 0 < d.received → LinksTo s d.head old
+back_own : (l : Places) (q : Slots) (s : ℕ) (v : View) (d : Directory) (new tag : ℕ) (body : List ℕ) (old : Option Cell) → 0 < new → 0 < d.received → LinksTo s d.head old
     → HasBefores (put_back_writes l s d new tag body old) q → ShowsAt l q s v → ShowsAt l (applied (put_back_writes l s d new tag body old) q) s (view_put_back v tag body)
 back_own l q s v d new tag body None pos some link f h =
     let c : Cell = record { sender = s; sequence = d.received; tag = tag; body = body; next = d.head; prev = 0 } in
@@ -272,7 +272,7 @@ back_own l q s v d new tag body (Some x) pos some link f h =
       head_used m s head q new [] pos e l free k = omega (arith, pos, e)
       head_used m s head q new (n ∷ ns) pos e l free k = none_some (m n.at) _ (ap m (sym e ∙ sym k) ∙ free) l.1
 
-pub back_law : (l : Layout) (q : Slots) (ws : List Write) (s n tag : ℕ) (body : List ℕ) (v : View) → IsPutBack l s n tag body ws → HasBefores ws q → ShowsAt l q s v → ShowsAt l (applied ws q) s (view_put_back v tag body)
+pub back_law : (l : Places) (q : Slots) (ws : List Write) (s n tag : ℕ) (body : List ℕ) (v : View) → IsPutBack l s n tag body ws → HasBefores ws q → ShowsAt l q s v → ShowsAt l (applied ws q) s (view_put_back v tag body)
 back_law l q ws s n tag body v p f h =
     subst (λ ws. ShowsAt l (applied ws q) s (view_put_back v tag body)) (sym p.writes)
     (back_own l q s v p.directory p.new tag body p.old p.used p.some_received p.old_is (subst (λ ws. HasBefores ws q) p.writes f) h)

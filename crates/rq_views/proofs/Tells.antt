@@ -3,12 +3,12 @@ use Rattle.rq_page.specs.declared.cell.Cell.{Cell}
 use Rattle.rq_page.specs.declared.directory.Directory.{Directory}
 use Rattle.std.proofs.Common.{◌≡◌, ℕ, suc, ◌+◌, ◌<◌, List, [], ◌∷◌, length, map, refl, sym, ap, subst, ◌∙◌, arith, Option, None, Some}
 use Rattle.rq_views.specs.Chain.{Cells, Node, first, Linked, View, message}
-use Rattle.rq_views.specs.Log.{Slots, put, cell_in, cells_of, Write, HasBefores, Layout}
+use Rattle.rq_views.specs.Log.{Slots, put, cell_in, cells_of, Write, HasBefores, Places}
 use Rattle.rq_page.specs.Slots.Slot.{Free, Used, Sender}
 use Rattle.rq_views.specs.Plans.{ShowsAt, with_next, with_prev, append_writes, unlink_head_writes, IsAppend, IsUnlinkHead}
 use Rattle.rq_views.proofs.Laws.{through, used_sender, free_sender, shows_here}
 
-append_directory : (l : Layout) (q : Slots) (s : ℕ) (d : Directory) (new tag : ℕ) (body : List ℕ) (old : Option Cell) → HasBefores (append_writes l s d new tag body old) q → Sender s d ≡ q (l.directory_at s)
+append_directory : (l : Places) (q : Slots) (s : ℕ) (d : Directory) (new tag : ℕ) (body : List ℕ) (old : Option Cell) → HasBefores (append_writes l s d new tag body old) q → Sender s d ≡ q (l.directory_at s)
 append_directory l q s d new tag body None f = (through q new _ (Sender s d) (l.directory_at s) (used_sender _ s d) f.0).1
 append_directory l q s d new tag body (Some o) f = (through q new _ (Sender s d) (l.directory_at s) (used_sender _ s d) (through (put q new _) d.tail _ (Sender s d) (l.directory_at s) (used_sender (with_next new o) s d) f.0).1).1
 
@@ -16,13 +16,13 @@ length_shown : (ns : List Node) → length (map message ns) ≡ length ns
 length_shown [] = refl
 length_shown (n ∷ ns) = ap suc (length_shown ns)
 
-pub append_tells : (l : Layout) (q : Slots) (ws : List Write) (s n tag previous : ℕ) (body : List ℕ) (v : View) → IsAppend l s n tag previous body ws → HasBefores ws q → ShowsAt l q s v → (previous ≡ v.last_tag) × (n ≡ v.received + length v.messages + 1)
+pub append_tells : (l : Places) (q : Slots) (ws : List Write) (s n tag previous : ℕ) (body : List ℕ) (v : View) → IsAppend l s n tag previous body ws → HasBefores ws q → ShowsAt l q s v → (previous ≡ v.last_tag) × (n ≡ v.received + length v.messages + 1)
 append_tells l q ws s n tag previous body v p f h =
     let e = append_directory l q s p.directory p.new tag body p.old (subst (λ ws. HasBefores ws q) p.writes f) in
     let k = shows_here l q s v p.directory e h in
     (p.previous_is ∙ sym k.last_tag, let m : length v.messages ≡ length k.nodes = ap (λ xs. length xs) k.messages ∙ length_shown k.nodes in omega (arith, p.sequence, k.sent, k.received, m))
 
-head_directory : (l : Layout) (q : Slots) (s : ℕ) (d : Directory) (c : Cell) (next : Option Cell) → HasBefores (unlink_head_writes l s d c next) q → (Sender s d ≡ q (l.directory_at s)) × (Used c ≡ q d.head)
+head_directory : (l : Places) (q : Slots) (s : ℕ) (d : Directory) (c : Cell) (next : Option Cell) → HasBefores (unlink_head_writes l s d c next) q → (Sender s d ≡ q (l.directory_at s)) × (Used c ≡ q d.head)
 head_directory l q s d c None f = ((through q d.head Free (Sender s d) (l.directory_at s) (free_sender s d) f.0).1, f.1.0)
 head_directory l q s d c (Some x) f = ((through q d.head Free (Sender s d) (l.directory_at s) (free_sender s d) (through (put q d.head Free) c.next _ (Sender s d) (l.directory_at s) (used_sender (with_prev 0 x) s d) f.0).1).1, f.1.1.0)
 
@@ -32,7 +32,7 @@ head_message m s head q c (n ∷ ns) pos e l here = (map message ns, ap (λ (x :
   cell_message : {a b : Cell} → Some a ≡ Some b → ◌≡◌ {A = ℕ × List ℕ} (a.tag, a.body) (b.tag, b.body)
   cell_message {a} {b} h = let k : a ≡ b = cc in ap (λ (x : Cell). let y : ℕ × List ℕ = (x.tag, x.body) in y) k
 
-pub head_tells : (l : Layout) (q : Slots) (ws : List Write) (s n tag : ℕ) (body : List ℕ) (v : View) → IsUnlinkHead l s n tag body ws → HasBefores ws q → ShowsAt l q s v → ((rest : List (ℕ × List ℕ)) × (v.messages ≡ (tag, body) ∷ rest)) × (n ≡ v.received + 1)
+pub head_tells : (l : Places) (q : Slots) (ws : List Write) (s n tag : ℕ) (body : List ℕ) (v : View) → IsUnlinkHead l s n tag body ws → HasBefores ws q → ShowsAt l q s v → ((rest : List (ℕ × List ℕ)) × (v.messages ≡ (tag, body) ∷ rest)) × (n ≡ v.received + 1)
 head_tells l q ws s n tag body v p f h =
     let e = head_directory l q s p.directory p.cell p.next (subst (λ ws. HasBefores ws q) p.writes f) in
     let k = shows_here l q s v p.directory e.0 h in

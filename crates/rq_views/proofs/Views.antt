@@ -4,7 +4,7 @@ use Rattle.rq_model.specs.declared.txn.Sub.{Sub}
 use Rattle.std.proofs.Common.{◌≢◌, ℕ, ◌<◌, ◌==◌, inl, inr, List, [], ◌∷◌, true, false, refl, sym, subst, ◌∙◌, Option, None, Some}
 use Rattle.std.proofs.lemmas.Bool.{cases_eq, cond-true, cond-false, eq-eqb}
 use Rattle.rq_views.specs.Chain.{View}
-use Rattle.rq_views.specs.Log.{Slots, Write, applied, HasBefores, Layout, Item, act, state_of, MayAct}
+use Rattle.rq_views.specs.Log.{Slots, Write, applied, HasBefores, Places, Item, act, state_of, MayAct}
 use Rattle.rq_model.specs.declared.record.Deed.TheVariants.{Append, UnlinkHead, Close}
 use Rattle.rq_views.specs.Log.Item.{PageOp, PageUndo, OpEnd, OpVoid, CompEnd, Commit, AbortEnd, Restart}
 use Rattle.rq_views.specs.Plans.{ShowsAt, Spares, LinksTo, relinked, Turn, IsPlan, turn_sender, with_turn}
@@ -16,7 +16,7 @@ use Rattle.rq_views.proofs.Laws.{others, spared, shows_frame, append_law}
 use Rattle.rq_views.proofs.Takes.{mark_law, head_law, tail_law, back_law}
 
 -- an operation's writes over its own sender's view
-pub own_law : (l : Layout) (q : Slots) (ws : List Write) (t : Turn) (v : View) → IsPlan l t ws → HasBefores ws q → ShowsAt l q (turn_sender t) v → ShowsAt l (applied ws q) (turn_sender t) (with_turn t v)
+pub own_law : (l : Places) (q : Slots) (ws : List Write) (t : Turn) (v : View) → IsPlan l t ws → HasBefores ws q → ShowsAt l q (turn_sender t) v → ShowsAt l (applied ws q) (turn_sender t) (with_turn t v)
 own_law l q ws (Did (Append s n tag previous body)) v p f h = append_law l q ws s n tag previous body v p f h
 own_law l q ws (Did (UnlinkHead s n tag body)) v p f h = head_law l q ws s n tag body v p f h
 own_law l q ws (Did (Close s)) v p f h = mark_law l q ws s true v p f h
@@ -29,7 +29,7 @@ relinked_spares s r at None f ws ne h k = k
 relinked_spares s r at (Some c) f ws ne h k = (λ e. ne (sym h.1 ∙ e), k)
 
 -- an operation's writes are over no slot of another sender
-pub plan_spares : (l : Layout) (s : ℕ) (t : Turn) (ws : List Write) → turn_sender t ≢ s → IsPlan l t ws → Spares s ws
+pub plan_spares : (l : Places) (s : ℕ) (t : Turn) (ws : List Write) → turn_sender t ≢ s → IsPlan l t ws → Spares s ws
 plan_spares l s (Did (Append r n tag previous body)) ws ne p = subst (λ ws. Spares s ws) (sym p.writes) (ne, relinked_spares s r p.directory.tail p.old _ _ ne p.old_is (tt, tt))
 plan_spares l s (Did (UnlinkHead r n tag body)) ws ne p = subst (λ ws. Spares s ws) (sym p.writes) (ne, relinked_spares s r p.cell.next p.next _ _ ne p.next_is (λ e. ne (sym p.sender ∙ e), tt))
 plan_spares l s (Did (Close r)) ws ne p = subst (λ ws. Spares s ws) (sym p.writes) (ne, tt)
@@ -38,7 +38,7 @@ plan_spares l s (Undid (UnlinkHead r n tag body)) ws ne p = subst (λ ws. Spares
 plan_spares l s (Undid (Close r)) ws ne p = subst (λ ws. Spares s ws) (sym p.writes) (ne, tt)
 
 -- one whole operation over the quiet slots
-pub turn_law : (l : Layout) (q : Slots) (ws : List Write) (t : Turn) (s : ℕ) (v : View) → IsPlan l t ws → HasBefores ws q → ShowsAt l q s v → ShowsAt l (applied ws q) s (view_after s (Some t) v)
+pub turn_law : (l : Places) (q : Slots) (ws : List Write) (t : Turn) (s : ℕ) (v : View) → IsPlan l t ws → HasBefores ws q → ShowsAt l q s v → ShowsAt l (applied ws q) s (view_after s (Some t) v)
 turn_law l q ws t s v p f h = elim (cases_eq (turn_sender t) s) [
   | inl e ↦ subst (λ u. ShowsAt l (applied ws q) s u) (sym (cond-true (turn_sender t == s) (with_turn t v) v (eq-eqb _ _ e)))
       (subst (λ r. ShowsAt l (applied ws q) r (with_turn t v)) e (own_law l q ws t v p f (subst (λ r. ShowsAt l q r v) (sym e) h)))
@@ -47,7 +47,7 @@ turn_law l q ws t s v p f h = elim (cases_eq (turn_sender t) s) [
 ]
 
 -- a legal record does what slots and pages allow
-pub may_act : (l : Layout) (log : List Item) (r : Item) → MayFollow l log r → MayAct l.page (state_of l log) (act r)
+pub may_act : (l : Places) (log : List Item) (r : Item) → MayFollow l log r → MayAct l.page (state_of l log) (act r)
 may_act l log (PageOp o w) may = may.write
 may_act l log (PageUndo o u at after) may = may.newest
 may_act l log (OpEnd o d) may = tt
@@ -58,16 +58,16 @@ may_act l log (AbortEnd t) may = tt
 may_act l log (Restart i) may = tt
 
 -- of a legal log, the slots are the quiet slots, written over by the operations under way on pages of their own
-pub good : (l : Layout) (log : List Item) → IsLegalLog l log → Good l.page (state_of l log)
+pub good : (l : Places) (log : List Item) → IsLegalLog l log → Good l.page (state_of l log)
 good l [] h = good_start l.page l.formatted
 good l (r ∷ log) h = good_after l.page (state_of l log) (good l log h.1) (act r) (may_act l log r h.0)
 
-undone_law : (l : Layout) (q : Slots) (ws : List Write) (ps : List Placed) (u s : ℕ) (v : View) → Undoes l ps u ws → HasBefores ws q → ShowsAt l q s v → ShowsAt l (applied ws q) s (view_after s (undoing ps) v)
+undone_law : (l : Places) (q : Slots) (ws : List Write) (ps : List Placed) (u s : ℕ) (v : View) → Undoes l ps u ws → HasBefores ws q → ShowsAt l q s v → ShowsAt l (applied ws q) s (view_after s (undoing ps) v)
 undone_law l q ws [] u s v p f h = absurd p
 undone_law l q ws (p ∷ ps) u s v k f h = turn_law l q ws (Undid p.deed) s v k.1 f h
 
 -- one record over the quiet slots
-quiet_step : (l : Layout) (log : List Item) (r : Item) (s : ℕ) → MayFollow l log r → Good l.page (state_of l log) → ShowsAt l (state_of l log).quiet s (view log s) → ShowsAt l (state_of l (r ∷ log)).quiet s (view (r ∷ log) s)
+quiet_step : (l : Places) (log : List Item) (r : Item) (s : ℕ) → MayFollow l log r → Good l.page (state_of l log) → ShowsAt l (state_of l log).quiet s (view log s) → ShowsAt l (state_of l (r ∷ log)).quiet s (view (r ∷ log) s)
 quiet_step l log (PageOp o w) s may g h = h
 quiet_step l log (PageUndo o u at after) s may g h = h
 quiet_step l log (OpEnd o d) s may g h = turn_law l (state_of l log).quiet ((state_of l log).writes o) (Did d) s (view log s) may.plan (g.fits o) h
@@ -78,7 +78,7 @@ quiet_step l log (AbortEnd t) s may g h = h
 quiet_step l log (Restart i) s may g h = h
 
 -- the quiet slots show the fold of each sender's deeds, whatever is under way
-pub quiet_views : (l : Layout) (log : List Item) (s : ℕ) → IsLayout l → IsLegalLog l log → s < l.senders → ShowsAt l (state_of l log).quiet s (view log s)
+pub quiet_views : (l : Places) (log : List Item) (s : ℕ) → IsLayout l → IsLegalLog l log → s < l.senders → ShowsAt l (state_of l log).quiet s (view log s)
 quiet_views l [] s fine h in_range = record {
   directory = empty_directory;
   at = fine s in_range;
@@ -87,7 +87,7 @@ quiet_views l [] s fine h in_range = record {
 quiet_views l (r ∷ log) s fine h in_range = quiet_step l log r s h.0 (good l log h.1) (quiet_views l log s fine h.1 in_range)
 
 -- Views: where no operation under way has written over a slot of s
-pub views : (l : Layout) (log : List Item) (s : ℕ) → IsLayout l → IsLegalLog l log → s < l.senders → ((o : Sub) → Spares s ((state_of l log).writes o)) → ShowsAt l (state_of l log).slots s (view log s)
+pub views : (l : Places) (log : List Item) (s : ℕ) → IsLayout l → IsLegalLog l log → s < l.senders → ((o : Sub) → Spares s ((state_of l log).writes o)) → ShowsAt l (state_of l log).slots s (view log s)
 views l log s fine h in_range free =
     let z = state_of l log in
     let g = good l log h in

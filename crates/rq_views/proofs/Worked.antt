@@ -13,7 +13,7 @@ use Rattle.rq_views.specs.Numbers.{AreNumbered}
 use Rattle.rq_views.specs.Groups.{on_sending_end, on_receiving_end, side, with_all, Alone, TellsView, MayTurn, KeepsGroups, committed}
 use Rattle.rq_views.specs.Legal.{open_deeds, view}
 use Rattle.rq_views.specs.Log.{Item}
-use Rattle.rq_views.specs.Row.{t1, t2, sends, takes, row, committed_one, done_two, stopped, restarted}
+use Rattle.rq_views.specs.WorkedItems.{t1, t2, sends, takes, row, committed_one, done_two, stopped, restarted}
 use Rattle.rq_views.specs.Worked.{KeepsAll, WorkedLogs, RefusedRecords, nothing, one_waits}
 use Rattle.rq_views.proofs.GroupRule.{row_groups}
 use Rattle.rq_views.proofs.Interleaved.{row_legal, first_of_a}

@@ -71,7 +71,7 @@ abbrev pub relink_prev : ℕ → Option Cell → Option Cell
 relink_prev to None = None
 relink_prev to (Some c) = Some (record c { prev = to })
 
--- a slot of a view's memory is not a cell of s
+-- what a slot holds is no cell of s
 abbrev pub IsForeign : ℕ → Option Cell → Type 0
 IsForeign s None = Unit {0}
 IsForeign s (Some c) = c.sender ≢ s

@@ -12,7 +12,7 @@ use Rattle.rq_page.specs.Sizes.{Sizes, address, directory_at, sender_at, sender_
 use Rattle.rq_page.specs.Slots.{Slot, held_in}
 use Rattle.rq_page.specs.Slots.Slot.{Free, Sender}
 use Rattle.rq_page.specs.Directories.{new_directory}
-use Rattle.rq_views.specs.Log.{Item, Layout}
+use Rattle.rq_views.specs.Log.{Item, Places}
 use Rattle.rq_views.specs.Log.Item.{PageOp, PageUndo, OpEnd, OpVoid, CompEnd, Commit, AbortEnd, Restart}
 
 abbrev pub operation : Txn → ℕ → Sub
@@ -43,7 +43,7 @@ abbrev pub formatted_at : Sizes → ℕ → Slot
 formatted_at z a = cond (nat_lt 0 (a / 16) && nat_le (a / 16) z.directory && nat_lt 0 (a % 16))
     (Sender (sender_at (a / 16) (a % 16)) new_directory) Free
 
-abbrev pub layout_of : Sizes → Layout
+abbrev pub layout_of : Sizes → Places
 layout_of z = record {
   page = λ a. a / 16;
   directory_at = directory_at;

@@ -7,7 +7,7 @@ use Rattle.rq_model.specs.Words.{same_txn}
 use Rattle.std.specs.Prelude.{◌≡◌, ℕ, ◌+◌, ◌<◌, ◌==◌, ◌&&◌, ◌||◌, List, [], ◌∷◌, length, Bool, true, false, cond, if◌then◌else◌, Option, None, Some, not}
 use Rattle.rq_views.specs.Chain.{View}
 use Rattle.rq_page.specs.Slots.{Slot}
-use Rattle.rq_views.specs.Log.{Write, Layout, same_op, Item, state_of, MayWrite, IsNewest}
+use Rattle.rq_views.specs.Log.{Write, Places, same_op, Item, state_of, MayWrite, IsNewest}
 use Rattle.rq_page.specs.Slots.Slot.{Sender}
 use Rattle.rq_views.specs.Log.Item.{PageOp, PageUndo, OpEnd, OpVoid, CompEnd, Commit, AbortEnd, Restart}
 use Rattle.rq_views.specs.Plans.{Turn, IsPlan, turn_sender, with_turn}
@@ -37,7 +37,7 @@ abbrev pub undoing : List Placed → Option Turn
 undoing [] = None
 undoing (p ∷ ps) = Some (Undid p.deed)
 
--- what the record ends, if it ends an operation of level 1
+-- what the record ends, if it ends an operation
 abbrev pub turn : List Item → Item → Option Turn
 turn log (OpEnd o d) = Some (Did d)
 turn log (CompEnd o u) = undoing (open_deeds o.txn log)
@@ -148,17 +148,17 @@ onto [] ws = ws
 onto (w ∷ owed) ws = onto owed (w ∷ ws)
 
 -- these writes, and some more, are those of an operation
-pub record Begins (l : Layout) (ws : List Write) : Type 0 where
+pub record Begins (l : Places) (ws : List Write) : Type 0 where
   pub turn : Turn
   pub owed : List Write
   pub plan : IsPlan l turn (onto owed ws)
 
 -- the writes undo the newest open deed, which stands at u
-abbrev pub Undoes : Layout → List Placed → ℕ → List Write → Type 0
+abbrev pub Undoes : Places → List Placed → ℕ → List Write → Type 0
 Undoes l [] u ws = ⊥
 Undoes l (p ∷ ps) u ws = (p.lsn ≡ u) × IsPlan l (Undid p.deed) ws
 
-pub record MayPageOp (l : Layout) (log : List Item) (o : Sub) (w : Write) : Type 0 where
+pub record MayPageOp (l : Places) (log : List Item) (o : Sub) (w : Write) : Type 0 where
   pub write : MayWrite l.page (state_of l log) o w
   pub uncrossed : crossed l.page o (l.page w.at) log ≡ false
   pub going : over o log ≡ false
@@ -166,24 +166,24 @@ pub record MayPageOp (l : Layout) (log : List Item) (o : Sub) (w : Write) : Type
   pub begins : Begins l (w ∷ (state_of l log).writes o)
   pub running : has_end o.txn log ≡ false
 
-pub record MayPageUndo (l : Layout) (log : List Item) (o : Sub) (u at : ℕ) (after : Slot) : Type 0 where
+pub record MayPageUndo (l : Places) (log : List Item) (o : Sub) (u at : ℕ) (after : Slot) : Type 0 where
   pub newest : IsNewest ((state_of l log).writes o) at after
   pub lsn : IsFirst u (lsns o log)
   pub going : over o log ≡ false
 
-pub record MayOpEnd (l : Layout) (log : List Item) (o : Sub) (d : Deed) : Type 0 where
+pub record MayOpEnd (l : Places) (log : List Item) (o : Sub) (d : Deed) : Type 0 where
   pub plan : IsPlan l (Did d) ((state_of l log).writes o)
   pub going : over o log ≡ false
   pub forward : turned_back o log ≡ false
   pub running : has_end o.txn log ≡ false
 
-pub record MayCompEnd (l : Layout) (log : List Item) (o : Sub) (u : ℕ) : Type 0 where
+pub record MayCompEnd (l : Places) (log : List Item) (o : Sub) (u : ℕ) : Type 0 where
   pub plan : Undoes l (open_deeds o.txn log) u ((state_of l log).writes o)
   pub going : over o log ≡ false
   pub forward : turned_back o log ≡ false
   pub running : has_end o.txn log ≡ false
 
-pub record MayOpVoid (l : Layout) (log : List Item) (o : Sub) : Type 0 where
+pub record MayOpVoid (l : Places) (log : List Item) (o : Sub) : Type 0 where
   pub all_undone : (state_of l log).writes o ≡ []
   pub begun : began o log ≡ true
   pub going : over o log ≡ false
@@ -202,7 +202,7 @@ pub record MayRestart (log : List Item) (i : ℕ) : Type 0 where
   pub idle : (o : Sub) → under_way o log ≡ false
   pub ended : (t : Txn) → has_deed t log ≡ true → has_end t log ≡ true
 
-abbrev pub MayFollow : Layout → List Item → Item → Type 0
+abbrev pub MayFollow : Places → List Item → Item → Type 0
 MayFollow l log (PageOp o w) = MayPageOp l log o w
 MayFollow l log (PageUndo o u at after) = MayPageUndo l log o u at after
 MayFollow l log (OpEnd o d) = MayOpEnd l log o d
@@ -212,7 +212,7 @@ MayFollow l log (Commit t) = MayCommit log t
 MayFollow l log (AbortEnd t) = MayAbortEnd log t
 MayFollow l log (Restart i) = MayRestart log i
 
-abbrev pub IsLegalLog : Layout → List Item → Type 0
+abbrev pub IsLegalLog : Places → List Item → Type 0
 IsLegalLog l [] = Unit {0}
 IsLegalLog l (r ∷ log) = MayFollow l log r × IsLegalLog l log
 
@@ -220,5 +220,5 @@ abbrev pub empty_directory : Directory
 empty_directory = record { closed = false; sent = 0; received = 0; last_tag = 0; head = 0; tail = 0 }
 
 -- the formatted store has an empty directory slot for each sender
-abbrev pub IsLayout : Layout → Type 0
+abbrev pub IsLayout : Places → Type 0
 IsLayout l = (s : ℕ) → s < l.senders → l.formatted (l.directory_at s) ≡ Sender s empty_directory

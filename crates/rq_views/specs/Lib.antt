@@ -2,7 +2,7 @@ pub mod Chain
 pub mod Log
 pub mod Plans
 pub mod Legal
-pub mod Row
+pub mod WorkedItems
 pub mod Groups
 pub mod Committed
 pub mod Theorems

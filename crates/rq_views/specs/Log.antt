@@ -75,7 +75,7 @@ act (CompEnd o u) = Done o
 act _ = Nothing
 
 -- where pages and directory slots stand, and what a formatted store holds
-pub record Layout : Type 0 where
+pub record Places : Type 0 where
   pub page : ℕ → ℕ
   pub directory_at : ℕ → ℕ
   pub senders : ℕ
@@ -124,7 +124,7 @@ after_act page x z = record {
   stands = λ o p. stands_after page x o p (z.stands o p);
 }
 
-abbrev pub state_of : Layout → List Item → LogState
+abbrev pub state_of : Places → List Item → LogState
 state_of l [] = record { slots = l.formatted; quiet = l.formatted; writes = λ o. []; stands = λ o p. false }
 state_of l (r ∷ log) = after_act l.page (act r) (state_of l log)
 

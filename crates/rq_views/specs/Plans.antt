@@ -5,12 +5,12 @@ use Rattle.rq_page.specs.declared.directory.Directory.{Directory}
 use Rattle.std.specs.Prelude.{◌≡◌, ◌≢◌, ℕ, ◌+◌, ◌-◌, ◌<◌, ◌==◌, List, [], ◌∷◌, drop, Bool, true, false, if◌then◌else◌, Option, None, Some}
 use Rattle.rq_views.specs.Chain.{View, Shows, directory_appended, view_appended, view_tail_unlinked, view_put_back}
 use Rattle.rq_page.specs.Slots.{Slot}
-use Rattle.rq_views.specs.Log.{Slots, Write, cells_of, Layout}
+use Rattle.rq_views.specs.Log.{Slots, Write, cells_of, Places}
 use Rattle.rq_page.specs.Slots.Slot.{Free, Used, Sender}
 use Rattle.rq_model.specs.declared.record.Deed.TheVariants.{Append, UnlinkHead, Close}
 
 -- the slots show this view of the sender
-pub record ShowsAt (l : Layout) (q : Slots) (s : ℕ) (v : View) : Type 0 where
+pub record ShowsAt (l : Places) (q : Slots) (s : ℕ) (v : View) : Type 0 where
   pub directory : Directory
   pub at : q (l.directory_at s) ≡ Sender s directory
   pub shows : Shows (cells_of q) s directory v
@@ -42,10 +42,10 @@ with_next to c = record c { next = to }
 abbrev pub with_prev : ℕ → Cell → Cell
 with_prev to c = record c { prev = to }
 
-abbrev pub directory_write : Layout → ℕ → Directory → Directory → Write
+abbrev pub directory_write : Places → ℕ → Directory → Directory → Write
 directory_write l s d e = record { at = l.directory_at s; before = Sender s d; after = Sender s e }
 
-abbrev pub append_writes : Layout → ℕ → Directory → ℕ → ℕ → List ℕ → Option Cell → List Write
+abbrev pub append_writes : Places → ℕ → Directory → ℕ → ℕ → List ℕ → Option Cell → List Write
 append_writes l s d new tag body old =
     directory_write l s d (directory_appended d new tag)
     ∷ relinked d.tail old (with_next new)
@@ -62,7 +62,7 @@ append_writes l s d new tag body old =
       });
     } ∷ [])
 
-pub record IsAppend (l : Layout) (s n tag previous : ℕ) (body : List ℕ) (ws : List Write) : Type 0 where
+pub record IsAppend (l : Places) (s n tag previous : ℕ) (body : List ℕ) (ws : List Write) : Type 0 where
   pub directory : Directory
   pub new : ℕ
   pub old : Option Cell
@@ -79,13 +79,13 @@ directory_head_unlinked d c = record d {
   tail = (if c.next == 0 then 0 else d.tail);
 }
 
-abbrev pub unlink_head_writes : Layout → ℕ → Directory → Cell → Option Cell → List Write
+abbrev pub unlink_head_writes : Places → ℕ → Directory → Cell → Option Cell → List Write
 unlink_head_writes l s d c next =
     directory_write l s d (directory_head_unlinked d c)
     ∷ relinked c.next next (with_prev 0)
     (record { at = d.head; before = Used c; after = Free } ∷ [])
 
-pub record IsUnlinkHead (l : Layout) (s n tag : ℕ) (body : List ℕ) (ws : List Write) : Type 0 where
+pub record IsUnlinkHead (l : Places) (s n tag : ℕ) (body : List ℕ) (ws : List Write) : Type 0 where
   pub directory : Directory
   pub cell : Cell
   pub next : Option Cell
@@ -105,13 +105,13 @@ directory_tail_unlinked d c previous = record d {
   head = (if c.prev == 0 then 0 else d.head);
 }
 
-abbrev pub unlink_tail_writes : Layout → ℕ → Directory → Cell → ℕ → Option Cell → List Write
+abbrev pub unlink_tail_writes : Places → ℕ → Directory → Cell → ℕ → Option Cell → List Write
 unlink_tail_writes l s d c previous before =
     directory_write l s d (directory_tail_unlinked d c previous)
     ∷ relinked c.prev before (with_next 0)
     (record { at = d.tail; before = Used c; after = Free } ∷ [])
 
-pub record IsUnlinkTail (l : Layout) (s n previous : ℕ) (ws : List Write) : Type 0 where
+pub record IsUnlinkTail (l : Places) (s n previous : ℕ) (ws : List Write) : Type 0 where
   pub directory : Directory
   pub cell : Cell
   pub front : Option Cell
@@ -128,7 +128,7 @@ directory_put_back d new = record d {
   tail = (if d.head == 0 then new else d.tail);
 }
 
-abbrev pub put_back_writes : Layout → ℕ → Directory → ℕ → ℕ → List ℕ → Option Cell → List Write
+abbrev pub put_back_writes : Places → ℕ → Directory → ℕ → ℕ → List ℕ → Option Cell → List Write
 put_back_writes l s d new tag body old =
     directory_write l s d (directory_put_back d new)
     ∷ relinked d.head old (with_prev new)
@@ -145,7 +145,7 @@ put_back_writes l s d new tag body old =
       });
     } ∷ [])
 
-pub record IsPutBack (l : Layout) (s n tag : ℕ) (body : List ℕ) (ws : List Write) : Type 0 where
+pub record IsPutBack (l : Places) (s n tag : ℕ) (body : List ℕ) (ws : List Write) : Type 0 where
   pub directory : Directory
   pub new : ℕ
   pub old : Option Cell
@@ -155,7 +155,7 @@ pub record IsPutBack (l : Layout) (s n tag : ℕ) (body : List ℕ) (ws : List W
   pub old_is : LinksTo s directory.head old
   pub writes : ws ≡ put_back_writes l s directory new tag body old
 
-pub record IsMark (l : Layout) (s : ℕ) (closed : Bool) (ws : List Write) : Type 0 where
+pub record IsMark (l : Places) (s : ℕ) (closed : Bool) (ws : List Write) : Type 0 where
   pub directory : Directory
   pub writes : ws ≡ directory_write l s directory (record directory { closed = closed }) ∷ []
 
@@ -165,7 +165,7 @@ pub data Turn : Type 0 where
   Undid : (deed : Deed) → Turn
 
 -- the writes are those of the operation
-abbrev pub IsPlan : Layout → Turn → List Write → Type 0
+abbrev pub IsPlan : Places → Turn → List Write → Type 0
 IsPlan l (Did (Append s n tag previous body)) ws = IsAppend l s n tag previous body ws
 IsPlan l (Did (UnlinkHead s n tag body)) ws = IsUnlinkHead l s n tag body ws
 IsPlan l (Did (Close s)) ws = IsMark l s true ws

@@ -14,7 +14,7 @@ use Rattle.rq_views.specs.InStore.{InStore, AllStand}
 use Rattle.rq_views.specs.Items.{items, layout_of, operation, ReadsItsDeeds}
 use Rattle.rq_views.specs.Legal.{IsLegalLog, began, open_deeds, under_way, view}
 use Rattle.rq_views.specs.Numbers.{greatest, AreNumbered}
-use Rattle.rq_views.specs.Log.{Item, Layout, state_of}
+use Rattle.rq_views.specs.Log.{Item, Places, state_of}
 use Rattle.rq_views.specs.Stored.{count_used}
 
 -- only cells hold messages, and only the directory slot of a sender tells of it
@@ -31,7 +31,7 @@ UsedCellsAreMessages =
 
 -- where no operation is under way, the slots are those that whole operations have written
 abbrev pub IdleSlotsAreWhole : Type 0
-IdleSlotsAreWhole = (l : Layout) (log : List Item) → IsLegalLog l log → ((o : Sub) → under_way o log ≡ false) → (a : ℕ)
+IdleSlotsAreWhole = (l : Places) (log : List Item) → IsLegalLog l log → ((o : Sub) → under_way o log ≡ false) → (a : ℕ)
     → (state_of l log).slots a ≡ (state_of l log).quiet a
 
 -- no chain has held more messages than the log has records
@@ -59,5 +59,5 @@ TakenMessagesHaveCells =
 -- the numbers of a transaction's operations go from 1 to the greatest
 abbrev pub NumbersHaveNoGaps : Type 0
 NumbersHaveNoGaps =
-    (l : Layout) (t : Txn) (n : ℕ) (log : List Item) → IsLegalLog l log → AreNumbered log → 1 ≤ n → n ≤ greatest t log
+    (l : Places) (t : Txn) (n : ℕ) (log : List Item) → IsLegalLog l log → AreNumbered log → 1 ≤ n → n ≤ greatest t log
     → began (operation t n) log ≡ true

@@ -9,7 +9,7 @@ use Rattle.rq_model.specs.Rules.{KeepsRules}
 use Rattle.rq_page.specs.Sizes.{Sizes}
 use Rattle.rq_views.specs.Committed.{IsViewOf}
 use Rattle.rq_views.specs.Items.{items, layout_of, ReadsItsDeeds}
-use Rattle.rq_views.specs.Log.{Item, Layout, state_of}
+use Rattle.rq_views.specs.Log.{Item, Places, state_of}
 use Rattle.rq_views.specs.Plans.{ShowsAt, Spares}
 use Rattle.rq_views.specs.Legal.{IsLegalLog, IsLayout, open_deeds, view}
 use Rattle.rq_views.specs.Groups.{KeepsGroups, DeedsTellViews, committed, on_sending_end, on_receiving_end, side, with_all}
@@ -17,12 +17,12 @@ use Rattle.rq_views.specs.Groups.{KeepsGroups, DeedsTellViews, committed, on_sen
 -- the slots that whole operations alone have written show, of each sender, the fold of what its operations did and
 -- undid, whatever is under way
 abbrev pub QuietSlotsShowTheFold : Type 0
-QuietSlotsShowTheFold = (l : Layout) (log : List Item) (s : ℕ) → IsLayout l → IsLegalLog l log → s < l.senders
+QuietSlotsShowTheFold = (l : Places) (log : List Item) (s : ℕ) → IsLayout l → IsLegalLog l log → s < l.senders
     → ShowsAt l (state_of l log).quiet s (view log s)
 
 -- and so do the slots as they are, of a sender over whose slots no operation under way has written
 abbrev pub IdleSlotsShowTheFold : Type 0
-IdleSlotsShowTheFold = (l : Layout) (log : List Item) (s : ℕ) → IsLayout l → IsLegalLog l log → s < l.senders
+IdleSlotsShowTheFold = (l : Places) (log : List Item) (s : ℕ) → IsLayout l → IsLegalLog l log → s < l.senders
     → ((o : Sub) → Spares s ((state_of l log).writes o)) → ShowsAt l (state_of l log).slots s (view log s)
 
 -- the deeds of one that holds an end of the sender

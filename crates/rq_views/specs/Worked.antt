@@ -22,7 +22,7 @@ use Rattle.rq_views.specs.Log.Item.{PageOp, OpEnd, Commit, Restart}
 use Rattle.rq_views.specs.Numbers.{greatest, IsNumbered, AreNumbered}
 use Rattle.rq_views.specs.Plans.{Spares, Turn, with_turn}
 use Rattle.rq_views.specs.Plans.Turn.{Did}
-use Rattle.rq_views.specs.Row.{sizes, small, t1, t2, of, a1, b1, cell, new_a, new_b, sends, takes, row, committed_one, done_two, stopped, taken_back, restarted, taken_one, closed_one}
+use Rattle.rq_views.specs.WorkedItems.{sizes, small, t1, t2, of, a1, b1, cell, new_a, new_b, sends, takes, row, committed_one, done_two, stopped, taken_back, restarted, taken_one, closed_one}
 
 -- the log keeps every rule
 pub record KeepsAll (log : List Item) : Type 0 where

@@ -10,7 +10,7 @@ use Rattle.rq_views.specs.Plans.{unlink_head_writes}
 use Rattle.rq_views.specs.Items.{layout_of}
 use Rattle.rq_record.specs.Deeds.{IsDeedInRange}
 use Rattle.rq_level.specs.Writes.{writes_of}
-use Rattle.rq_chain.specs.Writes.{cell_beside}
+use Rattle.rq_chain.specs.Neighbours.{cell_beside}
 use Rattle.rq_engine.proofs.TakeCalls.{sent_more, head_there, next_there}
 use Rattle.rq_engine.proofs.Opened.{state_is}
 use Rattle.rq_engine.proofs.engine.Engine.plan_take.Goals as goal

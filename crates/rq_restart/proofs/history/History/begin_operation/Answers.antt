@@ -1,7 +1,7 @@
 use Rattle.rq_views.specs.Log.{same_op}
 use Rattle.std.specs.List.{list_any}
 use Rattle.std.proofs.Common.{◌≡◌, true, ap, sym, ◌∙◌}
-use Rattle.rq_restart.specs.Noted.{Analysis, has_sub}
+use Rattle.rq_restart.specs.Analysis.{Analysis, has_sub}
 use Rattle.rq_restart.proofs.Noting.{any_sub, sub_there}
 use Rattle.rq_restart.proofs.history.History.begin_operation.Goals as goal
 

@@ -1,7 +1,7 @@
 use Rattle.std.proofs.Common.{◌≡◌, true, ap, sym, ◌∙◌}
 use Rattle.rq_model.specs.Words.{same_txn, has_txn}
 use Rattle.std.specs.List.{list_any}
-use Rattle.rq_restart.specs.Noted.{Analysis}
+use Rattle.rq_restart.specs.Analysis.{Analysis}
 use Rattle.rq_restart.proofs.Noting.{any_txn, txn_there}
 use Rattle.rq_restart.proofs.history.History.begin_transaction.Goals as goal
 

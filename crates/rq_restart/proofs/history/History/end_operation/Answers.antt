@@ -1,6 +1,6 @@
 use Rattle.std.proofs.Common.{rules, ap, ◌∙◌}
 use Rattle.std.proofs.lemmas.Fn.{filter_same}
-use Rattle.rq_restart.specs.Noted.{Analysis, without_sub}
+use Rattle.rq_restart.specs.Analysis.{Analysis, without_sub}
 use Rattle.rq_restart.proofs.history.History.end_operation.Goals as goal
 
 pub returns : goal.returns

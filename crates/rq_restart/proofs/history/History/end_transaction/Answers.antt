@@ -1,6 +1,6 @@
 use Rattle.std.proofs.Common.{rules, ap, ◌∙◌}
 use Rattle.std.proofs.lemmas.Fn.{filter_same}
-use Rattle.rq_restart.specs.Noted.{Analysis, without_txn}
+use Rattle.rq_restart.specs.Analysis.{Analysis, without_txn}
 use Rattle.rq_restart.proofs.history.History.end_transaction.Goals as goal
 
 pub returns : goal.returns

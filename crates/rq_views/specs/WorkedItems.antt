@@ -8,7 +8,7 @@ use Rattle.rq_model.specs.declared.txn.Sub.{Sub}
 use Rattle.rq_model.specs.declared.txn.Txn.{Txn}
 use Rattle.std.specs.Prelude.{ℕ, List, [], ◌∷◌, true}
 use Rattle.rq_views.specs.Chain.{directory_appended}
-use Rattle.rq_views.specs.Log.{Write, Layout, Item}
+use Rattle.rq_views.specs.Log.{Write, Places, Item}
 use Rattle.rq_views.specs.Items.{layout_of}
 use Rattle.rq_views.specs.Plans.{directory_head_unlinked, directory_put_back, directory_tail_unlinked}
 use Rattle.rq_page.specs.Slots.Slot.{Free, Used, Sender}
@@ -19,7 +19,7 @@ use Rattle.rq_views.specs.Log.Item.{PageOp, PageUndo, OpEnd, OpVoid, CompEnd, Co
 abbrev pub sizes : Sizes
 sizes = record { directory = 2; cells = 2 }
 
-abbrev pub small : Layout
+abbrev pub small : Places
 small = layout_of sizes
 
 abbrev pub t1 : Txn
