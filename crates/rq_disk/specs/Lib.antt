@@ -1,6 +1,13 @@
 pub mod Choice
 pub mod Device
+pub mod FileCalls
+pub mod LogFile
 pub mod Memory
+pub mod Noted
+pub mod PageFile
 pub mod Records
 pub mod Replay
 pub mod Shown
+pub mod Since
+pub mod Stored
+pub mod WorkedFiles

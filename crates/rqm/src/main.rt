@@ -3,9 +3,12 @@
 
 mod words;
 
+use rq_files::run_format;
 use rq_script::run_script;
+use std::fs::File;
 use std::io;
 use std::process::ExitCode;
+use std::rt::{Env, Files};
 use words::Words;
 
 fn main(rt: HostRuntime) -> ExitCode {
@@ -15,14 +18,16 @@ fn main(rt: HostRuntime) -> ExitCode {
     }
 }
 
-fn run<R: Print + Eprint + Input + AllocGlobal + std::rt::Env>(rt: &R) -> io::Result<u8> {
-    let alloc = rt.alloc();
-    match words::read(rt)? {
+fn run<R: Print + Eprint + Input + AllocGlobal + Env + Files<File = File>>(
+    rt: &R,
+) -> io::Result<u8> {
+    let mut writer = io::writer(rt);
+    Ok(match words::read(rt)? {
         Words::Run(layout) => {
             let mut reader = rt.reader();
-            let mut writer = io::writer(rt);
-            Ok(run_script(alloc, &mut reader, &mut writer, layout))
+            run_script(rt.alloc(), &mut reader, &mut writer, layout)
         }
-        Words::Answered(status) => Ok(status),
-    }
+        Words::Format(folder, layout) => run_format(rt, &mut writer, folder.as_str(), &layout),
+        Words::Answered(status) => status,
+    })
 }

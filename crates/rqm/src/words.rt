@@ -11,10 +11,12 @@ const FEWEST_FRAMES: i64 = 8;
 const MOST_FRAMES: i64 = 66_561;
 
 /// What the words ask for.
-#[derive(Clone, Copy, Debug, PartialEq, Eq)]
+#[derive(Drop)]
 pub enum Words {
     /// A script over a store of this layout, in memory.
     Run(Layout),
+    /// A new store of this layout, in this folder.
+    Format(String, Layout),
     /// Nothing more: the words were answered, with this status.
     Answered(u8),
 }
@@ -28,7 +30,7 @@ pub fn read<R: Env + Print + Eprint + AllocGlobal>(rt: &R) -> io::Result<Words> 
         words.push(word)?;
     }
     match parse(alloc, &words) {
-        Ok(Some(layout)) => Ok(Words::Run(layout)),
+        Ok(Some(asked)) => Ok(asked),
         Ok(None) => Ok(Words::Answered(2)),
         Err(error) => {
             error.print(rt)?;
@@ -37,50 +39,72 @@ pub fn read<R: Env + Print + Eprint + AllocGlobal>(rt: &R) -> io::Result<Words> 
     }
 }
 
-fn parse(alloc: Global, words: &[String]) -> Result<Option<Layout>, Error> {
+fn parse(alloc: Global, words: &[String]) -> Result<Option<Words>, Error> {
     let matches = command(alloc)?.try_get_matches_from(words)?;
-    Ok(match matches.subcommand() {
-        Some(("run", run)) => layout(run),
-        _ => None,
-    })
+    match matches.subcommand() {
+        Some(("run", run)) => Ok(layout(run).map(Words::Run)),
+        Some(("format", format)) => Ok(store(alloc, format)?),
+        _ => Ok(None),
+    }
 }
 
-fn layout(run: &ArgMatches<'_>) -> Option<Layout> {
-    let directory = run.get_one::<u32>("directory")?;
-    let cells = run.get_one::<u32>("cells")?;
+fn store(alloc: Global, format: &ArgMatches<'_>) -> Result<Option<Words>, AllocError> {
+    let (Some(folder), Some(layout)) = (format.get_str("folder"), layout(format)) else {
+        return Ok(None);
+    };
+    let folder = String::from_str(alloc, folder)?;
+    Ok(Some(Words::Format(folder, layout)))
+}
+
+fn layout(matches: &ArgMatches<'_>) -> Option<Layout> {
+    let directory = matches.get_one::<u32>("directory")?;
+    let cells = matches.get_one::<u32>("cells")?;
     Layout::new(directory, cells)
 }
 
 fn command<'a>(alloc: Global) -> Result<Command<'a>, AllocError> {
-    let run = Command::new(alloc, "run")
+    Command::new(alloc, "rqm")
+        .about("A recoverable queue manager")
+        .subcommand_required(true)
+        .subcommand(run_command(alloc)?)?
+        .subcommand(format_command(alloc)?)
+}
+
+fn run_command<'a>(alloc: Global) -> Result<Command<'a>, AllocError> {
+    Command::new(alloc, "run")
         .about("Runs a script from standard input over a store in memory")
-        .arg(number(
-            alloc,
-            "directory",
-            "Directory pages, of 15 senders each",
-            1,
-            i64::from(DIRECTORY_LIMIT),
-        )
-        .required(true))?
-        .arg(number(
-            alloc,
-            "cells",
-            "Cell pages, of 15 messages each",
-            1,
-            i64::from(CELLS_LIMIT),
-        )
-        .required(true))?
+        .arg(directory(alloc))?
+        .arg(cells(alloc))?
         .arg(number(
             alloc,
             "frames",
             "Pages that are kept in memory",
             FEWEST_FRAMES,
             MOST_FRAMES,
-        ))?;
-    Command::new(alloc, "rqm")
-        .about("A recoverable queue manager")
-        .subcommand_required(true)
-        .subcommand(run)
+        ))
+}
+
+fn format_command<'a>(alloc: Global) -> Result<Command<'a>, AllocError> {
+    Command::new(alloc, "format")
+        .about("Makes the files of an empty store in a folder that is there")
+        .arg(
+            Arg::new(alloc, "folder")
+                .value_name("FOLDER")
+                .help("Where the files are made")
+                .required(true),
+        )?
+        .arg(directory(alloc))?
+        .arg(cells(alloc))
+}
+
+fn directory<'a>(alloc: Global) -> Arg<'a> {
+    let help = "Directory pages, of 15 senders each";
+    number(alloc, "directory", help, 1, i64::from(DIRECTORY_LIMIT)).required(true)
+}
+
+fn cells<'a>(alloc: Global) -> Arg<'a> {
+    let help = "Cell pages, of 15 messages each";
+    number(alloc, "cells", help, 1, i64::from(CELLS_LIMIT)).required(true)
 }
 
 fn number<'a>(alloc: Global, name: &'a str, help: &'a str, least: i64, most: i64) -> Arg<'a> {

@@ -1,0 +1,22 @@
+use Rattle.std.proofs.Common.{◌≡◌, ℕ, List, get_or, length, refl, inl, inr, ap, arith}
+use Rattle.rq_disk.proofs.laws.files_are_judged.Goals as goal
+
+pub returns : goal.returns
+returns c = record {
+  pages_read = (refl, (refl, tt));
+  page_forgotten = λ a. (let e : 0 ≡ 7 = ap (λ (l : List ℕ). get_or l 0 0) a.0 in omega (arith, e));
+  page_of_none = λ a. (let e : 7 ≡ 0 = ap (λ (l : List ℕ). get_or l 0 0) a.0 in omega (arith, e));
+  page_astray = λ a. (let e : 7 ≡ 0 = ap (λ (l : List ℕ). get_or l 0 0) a.0 in omega (arith, e));
+  page_tried = inr (refl, refl);
+  page_stayed = inl refl;
+  page_synced = λ a. (let e : 0 ≡ 7 = ap (λ (l : List ℕ). get_or l 0 0) a in omega (arith, e));
+  page_missed = inl refl;
+  log_read = (refl, refl);
+  log_otherwise = λ a. (let e : 5 ≡ 0 = ap (λ (l : List ℕ). get_or l 0 0) a.0 in omega (arith, e));
+  log_longer = λ a. omega (arith, a);
+  log_cut = inl refl;
+  log_whole = inr (1, refl);
+  log_forced = λ a. (let e : 1 ≡ 5 = ap length a in omega (arith, e));
+  ends = refl;
+  goes_on = refl;
+}

@@ -1,0 +1,57 @@
+-- Pages in a file, by what it held at first and its calls since, the newest first.
+use Rattle.std.specs.Prelude.{◌≡◌, ◌⊎◌, ℕ, ◌+◌, ◌≤◌, ◌/◌, ◌%◌, ◌^◌, ◌==◌, if◌then◌else◌, List, [], ◌∷◌, length, drop, refl, ⊤}
+use Rattle.std.proofs.Common.{inl, inr, sym, subst}
+use Rattle.std.proofs.lemmas.Bool.{cases_eq}
+use Rattle.rq_disk.specs.Device.{Images, Leaves}
+use Rattle.rq_disk.specs.FileCalls.{FileCall}
+use Rattle.rq_disk.specs.FileCalls.FileCall.{Gave, Took, Tried, Synced, Missed}
+use Rattle.rq_disk.specs.Memory.{if_yes, if_no}
+
+-- The page that begins at a place. A place where none begins counts as a page that no device has.
+abbrev pub page_at : ℕ → ℕ
+page_at at = if at % 4096 == 0 then at / 4096 else 2 ^ 64
+
+-- the image of each page that was written last
+abbrev pub images_now : Images → List FileCall → Images
+images_now held [] = held
+images_now held (Gave at bytes ∷ calls) = images_now held calls
+images_now held (Took at bytes ∷ calls) = λ p. if p == page_at at then bytes else images_now held calls p
+images_now held (Tried at bytes ∷ calls) = images_now held calls
+images_now held (Synced ∷ calls) = images_now held calls
+images_now held (Missed ∷ calls) = images_now held calls
+
+-- what a crash may leave of a page: its image at the last sync, or any that was written since, or was to be
+abbrev pub page_may_be : Images → List FileCall → ℕ → List ℕ → Type 0
+page_may_be held [] p c = c ≡ held p
+page_may_be held (Gave at bytes ∷ calls) p c = page_may_be held calls p c
+page_may_be held (Took at bytes ∷ calls) p c = page_may_be held calls p c ⊎ ((p ≡ page_at at) × (c ≡ bytes))
+page_may_be held (Tried at bytes ∷ calls) p c = page_may_be held calls p c ⊎ ((p ≡ page_at at) × (c ≡ bytes))
+page_may_be held (Synced ∷ calls) p c = c ≡ images_now held calls p
+page_may_be held (Missed ∷ calls) p c = page_may_be held calls p c
+
+-- each read gave the image that was written last
+abbrev pub PagesAgree : Images → List FileCall → Type 0
+PagesAgree held [] = ⊤
+PagesAgree held (Gave at bytes ∷ calls) = (bytes ≡ images_now held calls (page_at at)) × PagesAgree held calls
+PagesAgree held (Took at bytes ∷ calls) = PagesAgree held calls
+PagesAgree held (Tried at bytes ∷ calls) = PagesAgree held calls
+PagesAgree held (Synced ∷ calls) = PagesAgree held calls
+PagesAgree held (Missed ∷ calls) = PagesAgree held calls
+
+-- what a crash may have left at some moment from t on: before the newest k of the calls
+abbrev pub PagesLeftSince : Images → List FileCall → ℕ → Images → Type 0
+PagesLeftSince held calls t c = (k : ℕ) × (k + t ≤ length calls) × Leaves (page_may_be held (drop k calls)) c
+
+-- a crash may leave what was written last
+pub page_seen : (held : Images) (calls : List FileCall) (p : ℕ) → page_may_be held calls p (images_now held calls p)
+page_seen held [] p = refl
+page_seen held (Gave at bytes ∷ calls) p = page_seen held calls p
+page_seen held (Took at bytes ∷ calls) p = elim (cases_eq p (page_at at)) [
+  | inl same ↦ inr (same, if_yes p (page_at at) bytes (images_now held calls p) same)
+  | inr other ↦
+      let is = if_no p (page_at at) bytes (images_now held calls p) other in
+      inl (subst (page_may_be held calls p) (sym is) (page_seen held calls p))
+]
+page_seen held (Tried at bytes ∷ calls) p = inl (page_seen held calls p)
+page_seen held (Synced ∷ calls) p = refl
+page_seen held (Missed ∷ calls) p = page_seen held calls p

@@ -1,0 +1,15 @@
+-- What files show to contracts.
+use Rattle.std.specs.Prelude.{ℕ, List}
+use Rattle.rq_disk.specs.FileCalls.{FileCall}
+use Rattle.rq_disk.specs.declared.file_log.FileLog.{FileLog}
+use Rattle.rq_disk.specs.declared.held.Held as held
+use Rattle.rq_disk.specs.declared.storage.Storage as storage
+use Rattle.rq_disk.specs.declared.storage.NotedFile.{NotedFile}
+
+-- its calls, the newest first
+abbrev pub file_calls : NotedFile → List FileCall
+file_calls f = f.calls.value
+
+-- how many bytes a log was told to have when it was opened
+abbrev pub first_len : {S F : Type 0} {h : held.Ghosts S} {f : storage.Ghosts F} → FileLog S F h f → ℕ
+first_len d = d.first

@@ -1,0 +1,44 @@
+-- Worked calls of files: those of an honest one, and those of none; what a crash may leave, and what it may not.
+use Rattle.std.specs.Prelude.{◌≡◌, ℕ, List, [], ◌∷◌, true, false}
+use Rattle.rq_disk.specs.Device.{Images}
+use Rattle.rq_disk.specs.FileCalls.{has_failed}
+use Rattle.rq_disk.specs.FileCalls.FileCall.{Gave, Took, Tried, Synced, Missed}
+use Rattle.rq_disk.specs.LogFile.{LogAgrees, log_may_leave}
+use Rattle.rq_disk.specs.PageFile.{PagesAgree, page_may_be}
+
+-- images of a byte
+abbrev pub blank : Images
+blank page = 0 ∷ []
+
+abbrev pub seven : List ℕ
+seven = 7 ∷ []
+
+-- a record without a byte
+abbrev pub empty : List ℕ
+empty = 0 ∷ 0 ∷ 0 ∷ 0 ∷ []
+
+pub record FilesAreJudged : Type 0 where
+  -- page 1 is read as it was written, and page 2 as it was
+  pub pages_read : PagesAgree blank (Gave 8192 (0 ∷ []) ∷ Gave 4096 seven ∷ Synced ∷ Took 4096 seven ∷ [])
+  -- a write is forgotten, or one that failed is shown
+  pub page_forgotten : PagesAgree blank (Gave 4096 (0 ∷ []) ∷ Took 4096 seven ∷ []) → ⊥
+  pub page_of_none : PagesAgree blank (Gave 4096 seven ∷ Tried 4096 seven ∷ []) → ⊥
+  -- no page begins there
+  pub page_astray : PagesAgree blank (Gave 4096 seven ∷ Took 4097 seven ∷ []) → ⊥
+  -- a write that failed may be left, and may not
+  pub page_tried : page_may_be blank (Tried 4096 seven ∷ []) 1 seven
+  pub page_stayed : page_may_be blank (Tried 4096 seven ∷ []) 1 (0 ∷ [])
+  -- what was synced is left
+  pub page_synced : page_may_be blank (Synced ∷ Took 4096 seven ∷ []) 1 (0 ∷ []) → ⊥
+  pub page_missed : page_may_be blank (Missed ∷ Took 4096 seven ∷ []) 1 (0 ∷ [])
+  -- a byte that was there and the first of those that were appended
+  pub log_read : LogAgrees (9 ∷ []) 1 (Gave 0 (9 ∷ 0 ∷ 0 ∷ []) ∷ Took 1 empty ∷ [])
+  pub log_otherwise : LogAgrees (9 ∷ []) 1 (Gave 1 (5 ∷ []) ∷ Took 1 empty ∷ []) → ⊥
+  -- it was longer than was told
+  pub log_longer : LogAgrees (9 ∷ 9 ∷ []) 1 [] → ⊥
+  pub log_cut : log_may_leave (9 ∷ []) (Tried 1 empty ∷ []) (9 ∷ [])
+  pub log_whole : log_may_leave (9 ∷ []) (Tried 1 empty ∷ []) (9 ∷ empty)
+  pub log_forced : log_may_leave (9 ∷ []) (Synced ∷ Took 1 empty ∷ []) (9 ∷ []) → ⊥
+  -- which calls end a device
+  pub ends : has_failed (Gave 0 seven ∷ Missed ∷ Took 0 seven ∷ []) ≡ true
+  pub goes_on : has_failed (Synced ∷ Gave 0 seven ∷ Took 0 seven ∷ []) ≡ false

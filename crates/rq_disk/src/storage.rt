@@ -1,0 +1,87 @@
+//! A file that is read and written by places. What it keeps is claimed by nobody: its calls are noted, and contracts
+//! see the notes.
+ghost use Rattle.std.specs.Prelude.{◌≡◌, [], ◌∷◌, List, IfOk, OnOk, OnErr};
+ghost use Rattle.rq_disk.specs.FileCalls.{FileCall};
+ghost use Rattle.rq_disk.specs.FileCalls.FileCall.{Gave, Took, Tried, Synced, Missed};
+
+use crate::noted::Calls;
+use std::fs::File;
+use std::io;
+use std::os::unix::fs::FileExt;
+use std::snapshot::Snapshot;
+
+/// A file that is read and written by places.
+pub trait Storage {
+    /// Its calls so far, the newest first: each that is noted was made, and each that was made is noted, but a read that
+    /// failed.
+    ghost calls: { Self → List FileCall };
+
+    /// Fills `into` with the bytes from the place `at` on. It errs where there are fewer.
+    fn fill(&mut self, into: &mut [u8], at: u64) -> io::Result<()>
+        ensures gave { OnOk result (calls self.new ≡ Gave at into.new ∷ calls self.old) }
+        ensures err { OnErr result (calls self.new ≡ calls self.old) };
+
+    /// Writes all of `bytes`, from the place `at` on. Where it errs, any of them may have been written.
+    fn put(&mut self, bytes: &[u8], at: u64) -> io::Result<()>
+        ensures took { OnOk result (calls self.new ≡ Took at bytes.now ∷ calls self.old) }
+        ensures tried { OnErr result (calls self.new ≡ Tried at bytes.now ∷ calls self.old) };
+
+    /// Makes all that was written durable.
+    fn sync(&mut self) -> io::Result<()>
+        ensures synced { OnOk result (calls self.new ≡ Synced ∷ calls self.old) }
+        ensures missed { OnErr result (calls self.new ≡ Missed ∷ calls self.old) };
+}
+
+/// A file of the system, locked for this opening alone.
+#[derive(Drop)]
+pub struct NotedFile {
+    file: File,
+    calls: Snapshot<Calls>,
+}
+
+impl Storage for NotedFile {
+    ghost calls = { λ f. f.calls.value };
+
+    fn fill(&mut self, into: &mut [u8], at: u64) -> io::Result<()> {
+        self.file.read_exact_at(into, at)?;
+        Calls::gave(&mut self.calls, at, into);
+        Ok(())
+    }
+
+    fn put(&mut self, bytes: &[u8], at: u64) -> io::Result<()> {
+        let done = self.file.write_all_at(bytes, at);
+        match done {
+            Ok(()) => Calls::took(&mut self.calls, at, bytes),
+            Err(_) => Calls::tried(&mut self.calls, at, bytes),
+        }
+        done
+    }
+
+    fn sync(&mut self) -> io::Result<()> {
+        let done = self.file.sync_data();
+        match done {
+            Ok(()) => Calls::synced(&mut self.calls),
+            Err(_) => Calls::missed(&mut self.calls),
+        }
+        done
+    }
+}
+
+impl NotedFile {
+    ghost use Rattle.rq_disk.specs.Stored.{file_calls};
+
+    /// Locks a file and syncs it; beside it, its length in bytes. The lock is the system's advisory one: it ends with
+    /// the value.
+    ///
+    /// # Errors
+    /// `WouldBlock` where another opening holds the lock; those of the system.
+    pub fn open(file: File) -> io::Result<(NotedFile, u64)>
+        ensures calls { IfOk result (λ opened. file_calls opened.0 ≡ []) }
+    {
+        file.try_lock()?;
+        file.sync_all()?;
+        let len = file.metadata()?.len();
+        let calls = Calls::none();
+        Ok((NotedFile { file, calls }, len))
+    }
+}

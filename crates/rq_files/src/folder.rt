@@ -1,0 +1,138 @@
+//! The files of a store, made in a folder or opened there.
+ghost use Rattle.std.specs.Prelude.{◌≤◌};
+
+use crate::fault::Fault;
+use rq_disk::{FileLog, FilePages, Held, PAGE, Unknown};
+use rq_model::refusal::Refusal;
+use rq_page::layout::Layout;
+use rq_restart::format::format;
+use std::fs::{File, Files, OpenOptions};
+use std::io::{ErrorKind, Write};
+use std::path::{Path, PathBuf};
+use std::{fs, io};
+
+/// The file of a store's pages.
+const PAGES: &str = "pages";
+
+/// The file of a store's log.
+const LOG: &str = "log";
+
+/// Makes the files of an empty store in a folder and prints so, or why not. Answers the exit status: 0, or 1 after a
+/// fault.
+pub fn run_format<R: Files<File = File> + AllocGlobal, W: Write>(
+    rt: &R,
+    writer: &mut W,
+    folder: &str,
+    layout: &Layout,
+) -> u8
+    ensures status { result ≤ 1 }
+{
+    let (status, printed) = match format_folder(rt, folder, layout) {
+        Ok(()) => (0, print_formatted(writer, layout)),
+        Err(fault) => (1, writeln!(writer, "fault {fault}")),
+    };
+    match printed {
+        Ok(()) => status,
+        Err(_) => 1,
+    }
+}
+
+fn print_formatted<W: Write>(writer: &mut W, layout: &Layout) -> io::Result<()> {
+    let directory = layout.directory();
+    let cells = layout.cells();
+    writeln!(writer, "formatted {directory} {cells}")
+}
+
+/// Makes the pages and the empty log of a store in a folder, which is there. All of it is durable then, the names of
+/// both files too.
+///
+/// # Errors
+/// `Exists` where either name is taken, and then nothing was made; `Open` where a file cannot be had; `Refused` with
+/// `DiskWrite` where one fails: what was made is left.
+pub fn format_folder<R: Files<File = File> + AllocGlobal>(
+    rt: &R,
+    folder: &str,
+    layout: &Layout,
+) -> Result<(), Fault> {
+    let pages = path_of(rt, folder, PAGES)?;
+    let log = path_of(rt, folder, LOG)?;
+    if is_taken(rt, &pages)? || is_taken(rt, &log)? {
+        return Err(Fault::Exists);
+    }
+    let pages = made(rt, &pages)?;
+    let log = made(rt, &log)?;
+    format_pages(pages, layout)?;
+    log.sync_all().map_err(write_failed)?;
+    sync_folder(rt, folder)
+}
+
+/// Opens the files of the store in a folder, each locked for this opening alone, and synced. `S` stands for what they
+/// hold; its value is used up, so that code over any `S` opens one store.
+///
+/// # Errors
+/// `WouldBlock` where another opening has a file; those of the system.
+pub fn open_folder<S: Held, R: Files<File = File> + AllocGlobal>(
+    rt: &R,
+    folder: &str,
+    _held: S,
+) -> io::Result<(FilePages<S>, FileLog<S>)> {
+    let alloc = rt.alloc();
+    let folder = Path::new(folder);
+    let pages = opened(rt, &folder.join(alloc, PAGES)?)?;
+    let log = opened(rt, &folder.join(alloc, LOG)?)?;
+    Ok((FilePages::open(pages)?, FileLog::open(log)?))
+}
+
+fn path_of<R: AllocGlobal>(rt: &R, folder: &str, name: &str) -> Result<PathBuf, Fault> {
+    match Path::new(folder).join(rt.alloc(), name) {
+        Ok(path) => Ok(path),
+        Err(_) => Err(Fault::Refused(Refusal::NoMemory)),
+    }
+}
+
+// Whether anything has that name, a link that leads nowhere too.
+fn is_taken<R: Files>(rt: &R, path: &PathBuf) -> Result<bool, Fault> {
+    match fs::symlink_metadata(rt, path) {
+        Ok(_) => Ok(true),
+        Err(error) if error.kind() == ErrorKind::NotFound => Ok(false),
+        Err(_) => Err(Fault::Open),
+    }
+}
+
+fn made<R: Files<File = File>>(rt: &R, path: &PathBuf) -> Result<File, Fault> {
+    let file = OpenOptions::new()
+        .read(true)
+        .write(true)
+        .create_new(true)
+        .open(rt, path);
+    match file {
+        Ok(file) => Ok(file),
+        Err(error) if error.kind() == ErrorKind::AlreadyExists => Err(Fault::Exists),
+        Err(_) => Err(Fault::Open),
+    }
+}
+
+fn opened<R: Files<File = File>>(rt: &R, path: &PathBuf) -> io::Result<File> {
+    OpenOptions::new().read(true).write(true).open(rt, path)
+}
+
+fn format_pages(file: File, layout: &Layout) -> Result<(), Fault> {
+    let length = u64::from(layout.pages()) * PAGE as u64;
+    file.set_len(length).map_err(write_failed)?;
+    let Ok(mut pages) = FilePages::<Unknown>::open(file) else {
+        return Err(Fault::Open);
+    };
+    format(&mut pages, layout).map_err(Fault::Refused)
+}
+
+// Makes the names in a folder durable.
+fn sync_folder<R: Files<File = File>>(rt: &R, folder: &str) -> Result<(), Fault> {
+    let Ok(folder) = File::open(rt, if folder.is_empty() { "." } else { folder }) else {
+        return Err(Fault::Open);
+    };
+    folder.sync_all().map_err(write_failed)
+}
+
+fn write_failed(_error: io::Error) -> Fault {
+    Fault::Refused(Refusal::DiskWrite)
+}

@@ -1,0 +1,8 @@
+//! A store in a folder: a file of its pages and a file of its log.
+#![tactic(auto)]
+
+mod fault;
+mod folder;
+
+pub use fault::Fault;
+pub use folder::{format_folder, open_folder, run_format};
