@@ -2,3 +2,5 @@ mod Replaying
 mod Moves
 mod Ties
 mod Worked
+mod Receiving
+pub mod Crossing

@@ -4,3 +4,4 @@ pub mod Marks
 pub mod Passes
 pub mod Tied
 pub mod Calls
+pub mod Receipts

@@ -1,5 +1,6 @@
 //! The kept engine: each call leaves one entry, and answers a stamp that says the same.
-ghost use Rattle.std.specs.Prelude.{◌≡◌, ◌≢◌, ℕ, ◌+◌, ◌<◌, [], ◌∷◌, ◌++◌, ◌↔◌, IfOk, OnOk, OnErr, IsTrue, map, length, vec_len, vec_capacity};
+ghost use Rattle.std.specs.Prelude.{◌≡◌, ◌≢◌, ℕ, List, ◌+◌, ◌<◌, [], ◌∷◌, ◌++◌, ◌↔◌, IfOk, OnOk, OnErr, IsTrue, map, length, vec_len, vec_capacity};
+ghost use Rattle.rq_log.specs.Spelled.{IsBeginning};
 ghost use Rattle.rq_content.specs.Read.{group_of};
 ghost use Rattle.rq_engine.specs.Applied.{Applied};
 ghost use Rattle.rq_engine.specs.Says.{call_of, gave, IsContent};
@@ -201,6 +202,15 @@ impl<P: PageDevice + Drop, L: LogDevice + Drop> Kept<P, L> {
         ensures replays { Follows P.PageDevice L.LogDevice self.now.base self.now.audit self.now.engine }
     {
         self.audit.as_slice()
+    }
+
+    /// What a crash at this moment leaves of the log, and that the entries replay, for proofs: it runs no code.
+    pub fn shows_kept(&self)
+        ensures leaves { L.honest self.now.engine.log → (bytes : List ℕ) → L.may_leave self.now.engine.log bytes
+            → IsBeginning self.now.engine.state.records self.now.engine.state.forced bytes }
+        ensures replays { Follows P.PageDevice L.LogDevice self.now.base self.now.audit self.now.engine }
+    {
+        self.engine.shows_kept();
     }
 
     /// The number of the engine's records that are forced.

@@ -2,13 +2,19 @@
 ghost use Rattle.std.specs.Prelude.{◌≡◌, ◌+◌, length, sum_by, IfSome, IfNone};
 ghost use Rattle.rq_shared.specs.Calls.{IsCalled, IsForced, IsTaken};
 ghost use Rattle.rq_shared.specs.Entries.{Follows};
+ghost use Rattle.rq_shared.specs.Receipts.{IsReceiptOf, IsDurable};
+ghost use Rattle.rq_model.specs.Words.{In};
+ghost use Rattle.rq_store.specs.Sound.{IsSound};
+ghost use Rattle.rq_engine.specs.Opened.{AreHonest};
+ghost use Rattle.rq_engine.specs.Says.{commit_number};
+ghost use Rattle.rq_engine.specs.declared.event.Receipt.{Receipt as GivenReceipt};
 
 use crate::kept::{Kept, Stamped, Taken};
 use crate::mark::{Mark, MarkPass};
 use crate::room::{Pass, Room, gather, give_pass};
 use rq_disk::{LogDevice, PageDevice};
 use rq_engine::engine::Engine;
-use rq_engine::event::Event;
+use rq_engine::event::{Event, Receipt};
 use std::alloc::Global;
 use std::marker::Model;
 use std::sync::ledger::{Blank, Ledger, Share};
@@ -115,12 +121,16 @@ impl<P: PageDevice + Drop, L: LogDevice + Drop, G: Ledger> Shared<P, L, G> {
     }
 
     /// Ends the sharing, once all passes are back: the audit, with the entries that were taken, has as many entries as
-    /// the passes counted calls.
-    pub fn close(self, passes: Vec<Pass<G>>) -> Closed<P, L>
+    /// the passes counted calls. Of the receipts that are handed in, those whose commit and acknowledgement the audit
+    /// has name commits that no crash takes any more, where the devices were honest and the store was sound.
+    pub fn close(self, passes: Vec<Pass<G>>, receipts: &[Receipt]) -> Closed<P, L>
         requires parts { G.parts ≡ 1024 }
         requires all { length passes.items ≡ self }
         ensures count { result.kept.taken + length result.kept.audit ≡ sum_by (λ p. p.calls) passes.items }
         ensures replays { Follows P.PageDevice L.LogDevice result.kept.base result.kept.audit result.kept.engine }
+        ensures receipts { AreHonest P.PageDevice L.LogDevice result.kept.engine → IsSound result.kept.base.state
+            → (r : GivenReceipt) → In r receipts.now → IsReceiptOf result.kept.audit (commit_number r.number)
+            → IsDurable L.LogDevice result.kept.engine (commit_number r.number) }
     {
         let Shared {
             front,
@@ -130,7 +140,7 @@ impl<P: PageDevice + Drop, L: LogDevice + Drop, G: Ledger> Shared<P, L, G> {
         let Front { room } = front;
         let mut all = gather(rest, passes);
         let kept = room.into_inner().close(&mut all);
-        let _entries = kept.entries();
+        kept.shows_kept();
         Closed { kept }
     }
 }

@@ -1,0 +1,29 @@
+-- A shared engine may cross threads.
+use denote.RattleType.{RattleType}
+use denote.Param.Send.{IsSend, IsSync, sendable}
+use Rattle.std.proofs.Crossing.{crosses}
+use Rattle.std.proofs.sync.ledger.Book.TheSendSync as book
+use Rattle.std.specs.declared.sync.ledger.Ledger as ledger
+use Rattle.rq_disk.specs.declared.device.LogDevice as log_device
+use Rattle.rq_disk.specs.declared.device.PageDevice as page_device
+use Rattle.rq_log.proofs.past.Past.TheLaws.TheKnot as past
+use Rattle.rq_engine.specs.contracts.engine.Engine as Engine
+use Rattle.rq_shared.proofs.count.Count.TheLaws.TheKnot as count
+use Rattle.rq_shared.proofs.kept.AuditEntry.TheSendSync as entry
+use Rattle.rq_shared.specs.contracts.kept.Kept as Kept
+use Rattle.rq_shared.specs.contracts.room.Room as Room
+use Rattle.rq_shared.specs.contracts.shared.Front as Front
+
+module _ (P L : RattleType) (p : page_device.Ghosts P.Denot) (l : log_device.Ghosts L.Denot) (s : IsSend P) (t : IsSend L) where
+  engine_send : IsSend (Engine.the_row P L p l)
+  engine_send = search (crosses, past.crosses, sendable) depth 60 fits 20000
+
+  kept_send : IsSend (Kept.the_row P L p l)
+  kept_send = search (engine_send, entry.the_send, crosses, count.crosses, sendable) depth 60 fits 20000
+
+  module _ (G : RattleType) (g : ledger.Ghosts G.Denot) where
+    room_send : IsSend (Room.the_row P L G p l g)
+    room_send = search (kept_send, book.the_send, crosses, sendable) depth 60 fits 20000
+
+    pub front_sync : IsSync (Front.the_row P L G p l g)
+    front_sync = search (room_send, crosses, sendable) depth 60 fits 20000

@@ -1,0 +1,194 @@
+-- A commit that an audit acknowledges is in every log that a crash may leave.
+use Rattle.std.proofs.Common.{◌≡◌, ℕ, ◌+◌, ◌≤◌, List, [], ◌∷◌, ◌++◌, length, take, drop, map, reverse, Some, None, Bool, true, false, refl, sym, ◌∙◌, ap, subst, inl, inr, ⊎_elim, arith, nat_lt, nat_eq, not}
+use Rattle.std.proofs.lemmas.Bool.{and_parts, true≢false, not-true}
+use Rattle.std.proofs.lemmas.Bool.Decides.{nat_tests}
+use Rattle.std.proofs.lemmas.List.{reverse-append, length-append, length-drop, take-append-drop}
+use Rattle.rq_model.specs.declared.record.Record.{Record}
+use Rattle.rq_model.specs.declared.record.Record.TheVariants.{Commit as Commit_record}
+use Rattle.rq_model.specs.Words.{In}
+use Rattle.rq_model.specs.History.{Entry, Call}
+use Rattle.rq_model.specs.History.Call.{Begin, Start_send, Start_receive, Start_receive_from, Start_close, Step, Finish, Commit, Acknowledge, Start_abort, Undo_next, End_abort, Hand_over, Force, Write_page, Last_tag, Show}
+use Rattle.rq_model.specs.History.Entry.{Acknowledged, Committed, Crash, Restarted}
+use Rattle.rq_model.specs.Ledger.{Done, Ledger, after, found, ops_of}
+use Rattle.rq_model.specs.Tests.{Size}
+use Rattle.rq_model.specs.Legal.{Legal}
+use Rattle.rq_model.specs.Commits.{committed_of, told}
+use Rattle.rq_model.specs.Replay.{Number, Reply, Says, Replays}
+use Rattle.rq_model.specs.Replay.Reply.{Gave_txn, Gave_sub, Gave_none, Gave_lsn, Gave_ready, Gave_sent, Gave_message, Gave_closed, Gave_undone, Gave_handed_over, Gave_forced, Gave_aborting, Gave_aborted, Gave_commit, Gave_receipt, Gave_written, Gave_tag, Gave_content, Gave_refusal}
+use Rattle.rq_model.proofs.EntryKinds.{Kind, kind}
+use Rattle.rq_model.proofs.EntryKinds.Kind.{Plain, Commits, Forces, Crashes, Restarts}
+use Rattle.rq_model.proofs.Same.{In-append}
+use Rattle.rq_disk.specs.declared.device.LogDevice as log_device
+use Rattle.rq_disk.specs.declared.device.PageDevice as page_device
+use Rattle.rq_log.specs.Spelled.{IsBeginning}
+use Rattle.rq_store.specs.State.{ledger_of, size_of}
+use Rattle.rq_store.specs.Sound.{IsSound}
+use Rattle.rq_engine.specs.Opened.{OpenStore, AreHonest}
+use Rattle.rq_shared.specs.Entries.{Noted, Follows, answers, answer_of}
+use Rattle.rq_shared.specs.Receipts.{IsReceiptOf, KeepsCommit, IsDurable}
+
+-- places in lists
+in_left : {X : Type 0} (x : X) (xs ys : List X) → In x xs → In x (xs ++ ys)
+in_left x [] ys h = absurd h
+in_left x (z ∷ xs) ys h = ⊎_elim (λ (e : x ≡ z). inl e) (λ (i : In x xs). inr (in_left x xs ys i)) h
+
+in_last : {X : Type 0} (x : X) (xs : List X) → In x (xs ++ x ∷ [])
+in_last x [] = inl refl
+in_last x (z ∷ xs) = inr (in_last x xs)
+
+in_map : {X Y : Type 0} (f : X → Y) (x : X) (xs : List X) → In x xs → In (f x) (map f xs)
+in_map f x [] h = absurd h
+in_map f x (z ∷ xs) h = ⊎_elim (λ (e : x ≡ z). inl (ap f e)) (λ (i : In x xs). inr (in_map f x xs i)) h
+
+in_reverse : {X : Type 0} (x : X) (xs : List X) → In x xs → In x (reverse xs)
+in_reverse x [] h = absurd h
+in_reverse x (z ∷ xs) h =
+    subst (In x) (sym (reverse-append (z ∷ []) xs))
+    (⊎_elim
+    (λ (e : x ≡ z). subst (λ y. In x (reverse xs ++ y ∷ [])) e (in_last x (reverse xs)))
+    (λ (i : In x xs). in_left x (reverse xs) (z ∷ []) (in_reverse x xs i))
+    h)
+
+-- no call stands for a crash, or for a restart
+abbrev is_break : Entry → Bool
+is_break (Crash kept records) = true
+is_break (Restarted i records) = true
+is_break e = false
+
+never_break : (c : Call) (g : Reply) (e : Entry) → Says c g e → is_break e ≡ false
+never_break c (Gave_refusal r) e s = ap is_break s
+never_break Begin (Gave_txn t) e s = ap is_break s
+never_break (Start_send t m) (Gave_sub u n) e s = ap is_break s.1
+never_break (Start_receive t) (Gave_sub u n) e s = ap is_break s.2
+never_break (Start_receive t) Gave_none e s = ap is_break s
+never_break (Start_receive_from t sender) (Gave_sub u n) e s = ap is_break s.1
+never_break (Start_receive_from t sender) Gave_none e s = ap is_break s
+never_break (Start_close t sender) (Gave_sub u n) e s = ap is_break s.1
+never_break (Step t n) (Gave_lsn lsn) e s = ap is_break s
+never_break (Step t n) Gave_ready e s = ap is_break s
+never_break (Finish t n) Gave_sent e s = ap is_break s.1
+never_break (Finish t n) (Gave_message m) e s = ap is_break s
+never_break (Finish t n) Gave_closed e s = ap is_break s.1
+never_break (Finish t n) Gave_undone e s = ap is_break s
+never_break (Commit t) (Gave_commit c) e s = ap is_break s.1
+never_break (Start_abort t) Gave_aborting e s = ap is_break s
+never_break (Undo_next t) (Gave_sub u n) e s = ap is_break s.1
+never_break (Undo_next t) Gave_none e s = ap is_break s
+never_break (End_abort t) Gave_aborted e s = ap is_break s
+never_break (Acknowledge t lsn) (Gave_receipt None) e s = ap is_break s
+never_break (Acknowledge t lsn) (Gave_receipt (Some c)) e s = ap is_break s.1
+never_break Hand_over Gave_handed_over e s = ap is_break s
+never_break Force (Gave_forced lsn) e s = ap is_break s
+never_break (Write_page page) (Gave_written done) e s = ap is_break s
+never_break (Last_tag sender) (Gave_tag sent tag) e s = ap is_break s
+never_break Show (Gave_content groups) e s = ap is_break s
+never_break c g e s = absurd s
+
+commit_says : (c : Call) (n : Number) (e : Entry) → Says c (Gave_commit n) e → e ≡ Committed n.txn n.lsn
+commit_says (Commit t) n e s = s.1 ∙ ap (λ u. Committed u n.lsn) (sym s.0)
+commit_says c n e s = absurd s
+
+receipt_says : (c : Call) (n : Number) (e : Entry) → Says c (Gave_receipt (Some n)) e → e ≡ Acknowledged n.txn n.lsn true
+receipt_says (Acknowledge t lsn) n e s = s.1 ∙ ap (λ (m : Number). Acknowledged m.txn m.lsn true) (sym s.0)
+receipt_says c n e s = absurd s
+
+-- What a call leaves: each commit, and what is forced, which is in the log.
+record Grows (l m : Ledger) : Type 0 where
+  pub commits : (d : Done) → In d l.committed → In d m.committed
+  pub forced : l.forced ≤ m.forced
+  pub within : m.forced ≤ m.records
+
+grows : (c : Call) (g : Reply) (l : Ledger) (e : Entry) → Kind e → Says c g e → l.forced ≤ l.records → Grows l (after e l)
+grows c g l e (Plain f none) s low =
+    let k = f l in
+    let a = k.forced in
+    let b = k.records in
+    record { commits = λ d i. subst (In d) (sym k.committed) i; forced = omega (arith, a); within = omega (arith, a, b, low) }
+grows c g l e (Commits t lsn) s low =
+    record { commits = λ d i. in_left d l.committed (record { txn = t; lsn = lsn; ops = ops_of (found t l.open_ones) } ∷ []) i; forced = omega arith; within = omega (arith, low) }
+grows c g l e (Forces lsn) s low = record { commits = λ d i. i; forced = low; within = omega arith }
+grows c g l e (Crashes kept records) s low = absurd (true≢false (never_break c g (Crash kept records) s))
+grows c g l e (Restarts i records) s low = absurd (true≢false (never_break c g (Restarted i records) s))
+
+module _ (z : Size) (base : Ledger) (low : base.forced ≤ base.records) where
+  within : (audit : List (Call × Reply)) (l : Ledger) → Replays z base audit l → l.forced ≤ l.records
+  within [] l r = subst (λ (m : Ledger). m.forced ≤ m.records) (sym r) low
+  within (a ∷ audit) l r =
+      subst (λ (m : Ledger). m.forced ≤ m.records) (sym r.5) (grows a.0 a.1 r.0 r.1 (kind r.1) r.3 (within audit r.0 r.2)).within
+
+  one_grows : (a : Call × Reply) (audit : List (Call × Reply)) (l : Ledger) (r : Replays z base (a ∷ audit) l) → Grows r.0 l
+  one_grows a audit l r =
+      subst (λ (m : Ledger). Grows r.0 m) (sym r.5) (grows a.0 a.1 r.0 r.1 (kind r.1) r.3 (within audit r.0 r.2))
+
+  -- a commit that was answered stands
+  commit_stands : (n : Number) (x : Call × Reply) (audit : List (Call × Reply)) (l : Ledger) → Replays z base audit l → In x audit → x.1 ≡ Gave_commit n → (d : Done) × (d.txn ≡ n.txn) × (d.lsn ≡ n.lsn) × In d l.committed
+  commit_stands n x [] l r i e = absurd i
+  commit_stands n x (a ∷ audit) l r i e =
+      ⊎_elim
+      (λ (here : x ≡ a).
+      let gives : a.1 ≡ Gave_commit n = ap (λ (y : Call × Reply). y.1) (sym here) ∙ e in
+      let is : r.1 ≡ Committed n.txn n.lsn = commit_says a.0 n r.1 (subst (λ g. Says a.0 g r.1) gives r.3) in
+      let d : Done = record { txn = n.txn; lsn = n.lsn; ops = ops_of (found n.txn r.0.open_ones) } in
+      let on : l ≡ after (Committed n.txn n.lsn) r.0 = r.5 ∙ ap (λ f. after f r.0) is in
+      (d, refl, refl, subst (λ (m : Ledger). In d m.committed) (sym on) (in_last d r.0.committed)))
+      (λ (there : In x audit).
+      let w = commit_stands n x audit r.0 r.2 there e in
+      (w.0, w.1, w.2, (one_grows a audit l r).commits w.0 w.3))
+      i
+
+  -- one that was acknowledged is forced
+  receipt_forced : (n : Number) (x : Call × Reply) (audit : List (Call × Reply)) (l : Ledger) → Replays z base audit l → In x audit → x.1 ≡ Gave_receipt (Some n) → n.lsn ≤ l.forced
+  receipt_forced n x [] l r i e = absurd i
+  receipt_forced n x (a ∷ audit) l r i e =
+      let more = (one_grows a audit l r).forced in
+      ⊎_elim
+      (λ (here : x ≡ a).
+      let gives : a.1 ≡ Gave_receipt (Some n) = ap (λ (y : Call × Reply). y.1) (sym here) ∙ e in
+      let is : r.1 ≡ Acknowledged n.txn n.lsn true = receipt_says a.0 n r.1 (subst (λ g. Says a.0 g r.1) gives r.3) in
+      let legal : Legal z r.0 (Acknowledged n.txn n.lsn true) = subst (Legal z r.0) is r.4 in
+      let both = and_parts (nat_eq n.txn.incarnation r.0.incarnation) (not (nat_lt r.0.forced n.lsn)) (sym legal.1) in
+      let beyond : nat_lt r.0.forced n.lsn ≡ false = not-true (nat_lt r.0.forced n.lsn) both.1 in
+      let was : n.lsn ≤ r.0.forced = grind (arith, nat_tests) in
+      omega (arith, was, more))
+      (λ (there : In x audit). let was = receipt_forced n x audit r.0 r.2 there e in omega (arith, was, more))
+      i
+
+-- a commit within the first records of a log is one of theirs
+in_older : (newer older : List Record) (d : Done) → In d (committed_of (newer ++ older)) → d.lsn ≤ length older → In d (committed_of older)
+in_older [] older d i low = i
+in_older (Commit_record t ∷ newer) older d i low =
+    ⊎_elim
+    (λ (was : In d (committed_of (newer ++ older))). in_older newer older d was low)
+    (λ (is : d ≡ record { txn = t; lsn = length (newer ++ older) + 1; ops = told t (newer ++ older) }).
+    let at : d.lsn ≡ length (newer ++ older) + 1 = ap (λ (x : Done). x.lsn) is in
+    let all = length-append newer older in
+    absurd (omega (arith, at, all, low)))
+    (In-append (committed_of (newer ++ older)) (record { txn = t; lsn = length (newer ++ older) + 1; ops = told t (newer ++ older) }) d i)
+in_older (r ∷ newer) older d i low = in_older newer older d i low
+
+survives : (records : List Record) (forced : ℕ) (d : Done) (bytes : List ℕ) → In d (committed_of records) → d.lsn ≤ forced → IsBeginning records forced bytes → KeepsCommit records d bytes
+survives records forced d bytes i low b =
+    let rest = drop b.0 records in
+    let count = length-drop b.0 records in
+    let room = b.1 in
+    let all : In d (committed_of (take b.0 records ++ rest)) = subst (λ log. In d (committed_of log)) (sym (take-append-drop b.0 records)) i in
+    (b.0, b.2, in_older (take b.0 records) rest d all (omega (arith, low, count, room)))
+
+module _ {P L : Type 0} (p : page_device.Ghosts P) (l : log_device.Ghosts L) where
+  pub receipts_are_durable : (base engine : OpenStore P L) (audit : List Noted) → Follows p l base audit engine → AreHonest p l engine → IsSound base.state
+      → ((bytes : List ℕ) → l.may_leave engine.log bytes → IsBeginning engine.state.records engine.state.forced bytes) → (n : Number) → IsReceiptOf audit n → IsDurable l engine n
+  receipts_are_durable base engine audit f honest sound leaves n r =
+      let on = (f.replays honest sound).1 in
+      let z = size_of base.state.sizes in
+      let from = ledger_of base.state in
+      let there = λ (x : Noted) (i : In x audit). in_reverse (answer_of x) (map answer_of audit) (in_map answer_of x audit i) in
+      let c = commit_stands z from sound.forced n (answer_of r.committed.0) (answers audit) (ledger_of engine.state) on (there r.committed.0 r.committed.1) r.committed.2 in
+      let low = receipt_forced z from sound.forced n (answer_of r.acknowledged.0) (answers audit) (ledger_of engine.state) on (there r.acknowledged.0 r.acknowledged.1) r.acknowledged.2 in
+      let at = c.2 in
+      record {
+        commit = c.0;
+        txn = c.1;
+        lsn = c.2;
+        stands = c.3;
+        survives = λ bytes m. survives engine.state.records engine.state.forced c.0 bytes c.3 (omega (arith, low, at)) (leaves bytes m);
+      }

@@ -1,0 +1,145 @@
+//! The runner over a kept engine, and the log writer over a shared one.
+ghost use Rattle.std.specs.Prelude.{◌≡◌};
+
+use crate::stores::{KeepStamps, begun, committed, send_of, small_engine};
+use rq_disk::{MemLog, MemPages};
+use rq_engine::engine::Engine;
+use rq_engine::event::{Outcome, Reply};
+use rq_model::refusal::Refusal;
+use rq_shared::kept::Kept;
+use rq_shared::mark::Mark;
+use rq_shared::shared::Shared;
+use rq_workers::acts::Ended;
+use rq_workers::gate::{BEFORE_AGAIN, BEFORE_FORCE, Gate};
+use rq_workers::kept::KeptSteps;
+use rq_workers::shared::SharedSteps;
+use rq_workers::worker::Worker;
+use std::alloc::Global;
+use std::marker::Brand;
+use std::sync::Wait;
+use std::sync::atomic::{AtomicU64, Ordering};
+use std::sync::ledger::{Blank, Ledger};
+use std::test::Fail;
+
+/// Lets through so often at one point, and nowhere else.
+#[derive(Drop)]
+struct Often<'a> {
+    point: u32,
+    left: &'a AtomicU64,
+}
+
+impl Gate for Often<'_> {
+    ghost says = { λ gate point passed. Unit {0} };
+
+    fn pass(&self, point: u32) -> bool {
+        let left = self.left.load(Ordering::SeqCst);
+        if point != self.point || left == 0 {
+            return false;
+        }
+        self.left.store(left - 1, Ordering::SeqCst);
+        true
+    }
+}
+
+// What comes of a send while another transaction's is under way, where the gate lets it be tried again so often; and the
+// calls made, with the two begins and the other's start.
+fn send_beside<R: Wait>(rt: &R, alloc: Global, left: &AtomicU64) -> Option<(Ended, usize)> {
+    let mut steps = KeptSteps::new(Kept::new(alloc, small_engine(alloc).ok()?), 1);
+    let first = begun(&mut steps)?;
+    let second = begun(&mut steps)?;
+    let other = send_of(alloc, first, 0).ok()?;
+    drop(steps.kept().step(1, other));
+    let start = send_of(alloc, second, 1).ok()?;
+    let gate = Often {
+        point: BEFORE_AGAIN,
+        left,
+    };
+    let mut worker = Worker::new(gate, steps);
+    let ended = worker.run(rt, &start);
+    let mut steps = worker.into_steps();
+    Some((ended, steps.kept().entries().len()))
+}
+
+#[test]
+fn a_latched_start_is_tried_again(rt: HostRuntime) -> Result<(), Fail> {
+    let left = AtomicU64::new(2);
+    let seen = send_beside(&rt, rt.alloc(), &left).ok_or("a store")?;
+    assert_eq!(rt;
+        seen,
+        (Ended::Refused(Refusal::Latched), 6),
+        "three times, and then the gate says no"
+    );
+    assert_eq!(rt; left.load(Ordering::SeqCst), 0, "it was asked before each");
+    Ok(())
+}
+
+// What comes of a send where the gate says no everywhere, and whether the worker goes on.
+fn send_stopped<R: Wait>(rt: &R, alloc: Global) -> Option<(Ended, bool)> {
+    let mut steps = KeptSteps::new(Kept::new(alloc, small_engine(alloc).ok()?), 1);
+    let txn = begun(&mut steps)?;
+    let start = send_of(alloc, txn, 1).ok()?;
+    let left = AtomicU64::new(0);
+    let gate = Often {
+        point: BEFORE_AGAIN,
+        left: &left,
+    };
+    let mut worker = Worker::new(gate, steps);
+    Some((worker.run(rt, &start), worker.goes_on()))
+}
+
+#[test]
+fn a_started_operation_is_gone_through(rt: HostRuntime) -> Result<(), Fail> {
+    let seen = send_stopped(&rt, rt.alloc()).ok_or("a store")?;
+    assert_eq!(rt;
+        seen,
+        (Ended::Finished(Outcome::Sent), false),
+        "though the gate said no between its steps"
+    );
+    Ok(())
+}
+
+// The mark as another pass reads it, before and after a log writer whose gate lets it through once; and what its force
+// answered.
+fn marked<G: Ledger, R: Wait>(
+    rt: &R,
+    alloc: Global,
+    engine: Engine<MemPages, MemLog>,
+    blank: Blank,
+) -> Option<(u64, u64, u64)>
+    requires name { blank.name ≡ G.name }
+    requires parts { (blank.parts ≡ G.parts) × (blank.parts ≡ 1024) }
+{
+    let mut shared = Shared::<MemPages, MemLog, G>::new(alloc, engine, blank);
+    let writer = shared.pass()?;
+    let (mark, mut seat) = Mark::new(alloc).ok()?;
+    let mut reader = mark.split(&mut seat);
+    let stamps = KeepStamps::new(alloc);
+    let mut steps = SharedSteps::new(rt, shared.front(), writer, &mark, seat, stamps);
+    let txn = begun(&mut steps)?;
+    committed(&mut steps, txn)?;
+    let before = mark.read(&mut reader);
+    let left = AtomicU64::new(1);
+    let gate = Often {
+        point: BEFORE_FORCE,
+        left: &left,
+    };
+    let mut worker = Worker::new(gate, steps);
+    worker.write_log(rt);
+    let (_, _, kept) = worker.into_steps().into_parts();
+    let forced = match kept.stamps.last()?.reply() {
+        Reply::Forced(lsn) => *lsn,
+        _ => 0,
+    };
+    Some((before, mark.read(&mut reader), forced))
+}
+
+fn mark_of<R: Wait>(rt: &R, alloc: Global) -> Option<(u64, u64, u64)> {
+    marked::<Brand, R>(rt, alloc, small_engine(alloc).ok()?, Blank::new(1024))
+}
+
+#[test]
+fn a_log_writer_leaves_the_mark_at_its_lsn(rt: HostRuntime) -> Result<(), Fail> {
+    let seen = mark_of(&rt, rt.alloc()).ok_or("a force")?;
+    assert_eq!(rt; seen, (0, 2, 2), "the records are Restart and Commit");
+    Ok(())
+}

@@ -1,0 +1,114 @@
+//! Stores and calls for tests. They promise nothing, so that what makes many of them is checked fast.
+use rq_disk::{LogDevice, MemLog, MemPages, PageDevice, Switch};
+use rq_engine::engine::Engine;
+use rq_engine::event::{CommitNo, Event, Receipt, Reply};
+use rq_model::txn::Txn;
+use rq_page::layout::Layout;
+use rq_restart::format::format;
+use rq_restart::restart::restart;
+use rq_shared::kept::Stamped;
+use rq_workers::shared::Keep;
+use rq_workers::steps::Steps;
+use std::alloc::{AllocError, Global};
+
+/// A store of one directory and one cell page over devices in memory, formatted and opened.
+pub fn small_engine(alloc: Global) -> Result<Engine<MemPages, MemLog>, &'static str> {
+    let layout = Layout::new(1, 1).ok_or("a small store")?;
+    let switch = Switch::new(alloc).map_err(|_| "memory")?;
+    let Ok(for_log) = switch.share() else {
+        return Err("memory");
+    };
+    let Ok(mut pages) = MemPages::zeroed(alloc, layout.pages(), switch) else {
+        return Err("memory");
+    };
+    let log = MemLog::new(alloc, Vec::new(alloc), for_log);
+    if format(&mut pages, &layout).is_err() {
+        return Err("format");
+    }
+    opened(alloc, pages, log)
+}
+
+/// What the devices hold, opened.
+pub fn opened<P: PageDevice + Drop, L: LogDevice + Drop>(
+    alloc: Global,
+    pages: P,
+    log: L,
+) -> Result<Engine<P, L>, &'static str> {
+    match restart(alloc, pages, log) {
+        Ok((engine, _)) => Ok(engine),
+        Err(_) => Err("restart"),
+    }
+}
+
+/// The start of a send of one byte.
+pub fn send_of(alloc: Global, txn: Txn, sender: u32) -> Result<Event, AllocError> {
+    let mut body = Vec::new(alloc);
+    body.push(b'x')?;
+    Ok(Event::StartSend {
+        txn,
+        sender,
+        tag: 1,
+        body,
+    })
+}
+
+/// Begins a transaction.
+pub fn begun<S: Steps>(steps: &mut S) -> Option<Txn> {
+    let stamped = steps.call(Event::Begin);
+    let txn = match stamped.reply() {
+        Reply::Begun(txn) => Some(*txn),
+        _ => None,
+    };
+    steps.seen(stamped);
+    txn
+}
+
+/// Commits a transaction.
+pub fn committed<S: Steps>(steps: &mut S, txn: Txn) -> Option<CommitNo> {
+    let stamped = steps.call(Event::Commit(txn));
+    let number = match stamped.reply() {
+        Reply::Committed(number) => Some(*number),
+        _ => None,
+    };
+    steps.seen(stamped);
+    number
+}
+
+/// The receipt that the stamp gives.
+pub fn receipt(stamped: &Stamped) -> Option<Receipt> {
+    match stamped.reply() {
+        Reply::Acknowledged(given) => *given,
+        _ => None,
+    }
+}
+
+/// Stamps are kept, where there is memory for them.
+#[derive(Drop)]
+pub struct KeepStamps {
+    pub stamps: Vec<Stamped>,
+}
+
+impl KeepStamps {
+    pub fn new(alloc: Global) -> Self {
+        KeepStamps {
+            stamps: Vec::new(alloc),
+        }
+    }
+}
+
+impl Keep for KeepStamps {
+    fn keep(&mut self, stamped: Stamped) {
+        let _ = self.stamps.push(stamped);
+    }
+}
+
+/// How many messages the committed content shows as sent by this sender.
+pub fn sent_to<P: PageDevice + Drop, L: LogDevice + Drop>(
+    engine: &Engine<P, L>,
+    sender: usize,
+) -> Result<u64, &'static str> {
+    match engine.content() {
+        Ok(groups) => groups.get(sender).map(|group| group.sent).ok_or("a sender"),
+        Err(_) => Err("content"),
+    }
+}

@@ -1,0 +1,321 @@
+//! Two threads that share an engine.
+ghost use Rattle.std.specs.Prelude.{◌≡◌};
+
+use crate::stores::{
+    KeepStamps, begun, committed, opened, receipt, send_of, sent_to, small_engine,
+};
+use rq_disk::{LogDevice, MemLog, MemPages, PageChoice, PageDevice};
+use rq_engine::engine::Engine;
+use rq_engine::event::{CommitNo, Event, Outcome, Receipt};
+use rq_shared::kept::{AuditEntry, Stamped};
+use rq_shared::mark::{Mark, MarkPass};
+use rq_shared::room::Pass;
+use rq_shared::shared::{Closed, Front, Shared};
+use rq_shared::tied::tied;
+use rq_workers::acts::Ended;
+use rq_workers::gate::{BETWEEN_STEPS, Gate};
+use rq_workers::shared::SharedSteps;
+use rq_workers::worker::Worker;
+use std::alloc::{AllocError, Global};
+use std::marker::Brand;
+use std::sync::Wait;
+use std::sync::atomic::{AtomicU64, Ordering};
+use std::sync::ledger::{Blank, Ledger};
+use std::test::Fail;
+use std::thread;
+use std::thread::{Threads, join};
+
+/// What two threads share beside the engine: a mark, and words by which they take turns. Each is 0 until it is so.
+#[derive(Drop)]
+struct Common {
+    mark: Mark,
+    second_has_begun: AtomicU64,
+    first_has_sent: AtomicU64,
+}
+
+/// What a thread has of its own.
+#[derive(Drop)]
+struct Own<G: Ledger> {
+    pass: Pass<G>,
+    seat: MarkPass,
+}
+
+/// Holds its thread between two steps until the second thread has begun.
+#[derive(Drop)]
+struct HeldBetween<'a> {
+    common: &'a Common,
+}
+
+impl Gate for HeldBetween<'_> {
+    ghost says = { λ gate point passed. Unit {0} };
+
+    fn pass(&self, point: u32) -> bool {
+        point != BETWEEN_STEPS || comes(&self.common.second_has_begun)
+    }
+}
+
+/// Lets its thread through.
+#[derive(Drop)]
+struct Open;
+
+impl Gate for Open {
+    ghost says = { λ gate point passed. Unit {0} };
+
+    fn pass(&self, _point: u32) -> bool {
+        true
+    }
+}
+
+// Whether it comes within so many turns.
+fn comes(word: &AtomicU64) -> bool {
+    for _ in 0..10_000_000u64 {
+        if word.load(Ordering::SeqCst) == 1 {
+            return true;
+        }
+        thread::yield_now();
+    }
+    false
+}
+
+/// What a thread gives back: its pass, its stamps, and its commit.
+type Worked<G> = (Pass<G>, Vec<Stamped>, CommitNo);
+
+// Sends for sender 0, and is held within its send until the other thread has begun.
+fn work_first<P: PageDevice + Drop, L: LogDevice + Drop, G: Ledger, R: Wait>(
+    rt: &R,
+    alloc: Global,
+    front: &Front<P, L, G>,
+    own: Own<G>,
+    common: &Common,
+) -> Option<Worked<G>>
+    requires { own.seat.table ≡ common.now.mark }
+{
+    let Own { pass, seat } = own;
+    let stamps = KeepStamps::new(alloc);
+    let mut steps = SharedSteps::new(rt, front, pass, &common.mark, seat, stamps);
+    let txn = begun(&mut steps)?;
+    let start = send_of(alloc, txn, 0).ok()?;
+    let mut worker = Worker::new(HeldBetween { common }, steps);
+    let sent = worker.run(rt, &start) == Ended::Finished(Outcome::Sent) && worker.goes_on();
+    common.first_has_sent.store(1, Ordering::SeqCst);
+    let mut steps = worker.into_steps();
+    let number = committed(&mut steps, txn)?;
+    let (pass, _, kept) = steps.into_parts();
+    if sent {
+        Some((pass, kept.stamps, number))
+    } else {
+        None
+    }
+}
+
+// Sends for sender 14, once the other thread has sent.
+fn work_second<P: PageDevice + Drop, L: LogDevice + Drop, G: Ledger, R: Wait>(
+    rt: &R,
+    alloc: Global,
+    front: &Front<P, L, G>,
+    own: Own<G>,
+    common: &Common,
+) -> Option<Worked<G>>
+    requires { own.seat.table ≡ common.now.mark }
+{
+    let Own { pass, seat } = own;
+    let stamps = KeepStamps::new(alloc);
+    let mut steps = SharedSteps::new(rt, front, pass, &common.mark, seat, stamps);
+    let txn = begun(&mut steps)?;
+    common.second_has_begun.store(1, Ordering::SeqCst);
+    let turn = comes(&common.first_has_sent);
+    let start = send_of(alloc, txn, 14).ok()?;
+    let mut worker = Worker::new(Open, steps);
+    let sent = worker.run(rt, &start) == Ended::Finished(Outcome::Sent);
+    let mut steps = worker.into_steps();
+    let number = committed(&mut steps, txn)?;
+    let (pass, _, kept) = steps.into_parts();
+    if sent && turn {
+        Some((pass, kept.stamps, number))
+    } else {
+        None
+    }
+}
+
+/// Whether a taken audit is tied to the stamps of both threads.
+#[derive(Drop)]
+struct Tie {
+    entries: usize,
+    is_tied: bool,
+    is_tied_when_changed_about: bool,
+}
+
+/// What was seen once two threads had each sent a message and committed.
+#[derive(Drop)]
+struct Seen<P: PageDevice, L: LogDevice> {
+    tie: Option<Tie>,
+    receipts: usize,
+    closed: Closed<P, L>,
+}
+
+// Whether the entries are those of both passes' stamps, also once the first two of the one are changed about.
+fn tie_of(audit: &[AuditEntry], stamps: Vec<Stamped>, others: &[Stamped]) -> Tie {
+    let is_tied = tied(audit, 1, &stamps) && tied(audit, 2, others);
+    let mut stamps = stamps;
+    if stamps.len() == 7 {
+        stamps.swap(0, 1);
+    }
+    Tie {
+        entries: audit.len(),
+        is_tied,
+        is_tied_when_changed_about: tied(audit, 1, &stamps),
+    }
+}
+
+// Two threads at work.
+fn both<
+    P: PageDevice + Drop + Send,
+    L: LogDevice + Drop + Send,
+    G: Ledger + Send + Sync,
+    R: Threads + Wait + Sync,
+>(
+    rt: &R,
+    alloc: Global,
+    front: &Front<P, L, G>,
+    one: Own<G>,
+    two: Own<G>,
+    common: &Common,
+) -> (Option<Worked<G>>, Option<Worked<G>>)
+    requires { (one.seat.table ≡ common.now.mark) × (two.seat.table ≡ common.now.mark) }
+{
+    join(
+        rt,
+        move || -> Option<Worked<G>>
+            requires { one.seat.table ≡ common.now.mark }
+        { work_first(rt, alloc, front, one, common) },
+        move || -> Option<Worked<G>>
+            requires { two.seat.table ≡ common.now.mark }
+        { work_second(rt, alloc, front, two, common) },
+    )
+}
+
+// A force, and then the receipt of each commit.
+fn receipts<P: PageDevice + Drop, L: LogDevice + Drop, G: Ledger, R: Wait>(
+    rt: &R,
+    alloc: Global,
+    front: &Front<P, L, G>,
+    pass: &mut Pass<G>,
+    numbers: &[CommitNo],
+) -> Result<Vec<Receipt>, AllocError> {
+    let mut given = Vec::new(alloc);
+    drop(front.call(rt, pass, Event::Force));
+    for number in numbers {
+        let stamped = front.call(rt, pass, Event::Acknowledged(*number));
+        if let Some(receipt) = receipt(&stamped) {
+            given.push(receipt)?;
+        }
+    }
+    Ok(given)
+}
+
+// The passes back, and the sharing at its end.
+fn ended<P: PageDevice + Drop, L: LogDevice + Drop, G: Ledger>(
+    alloc: Global,
+    shared: Shared<P, L, G>,
+    one: Pass<G>,
+    two: Pass<G>,
+    three: Pass<G>,
+    given: &[Receipt],
+) -> Result<Closed<P, L>, AllocError>
+    requires parts { G.parts ≡ 1024 }
+    requires all { shared ≡ 3 }
+{
+    let mut passes = Vec::with_capacity(alloc, 3)?;
+    passes.push(one)?;
+    passes.push(two)?;
+    passes.push(three)?;
+    Ok(shared.close(passes, given))
+}
+
+// Two threads under a pass each, and a third pass that forces and asks for receipts. The audit is taken before that, or
+// left to the end.
+fn share<
+    P: PageDevice + Drop + Send,
+    L: LogDevice + Drop + Send,
+    G: Ledger + Send + Sync,
+    R: Threads + Wait + Sync,
+>(rt: &R, alloc: Global, engine: Engine<P, L>, blank: Blank, take: bool) -> Option<Seen<P, L>>
+    requires name { blank.name ≡ G.name }
+    requires parts { (blank.parts ≡ G.parts) × (blank.parts ≡ 1024) }
+{
+    let mut shared = Shared::<P, L, G>::new(alloc, engine, blank);
+    let pass = shared.pass()?;
+    let other = shared.pass()?;
+    let mut three = shared.pass()?;
+    let (mark, mut seat) = Mark::new(alloc).ok()?;
+    let other_seat = mark.split(&mut seat);
+    let common = Common {
+        mark,
+        second_has_begun: AtomicU64::new(0),
+        first_has_sent: AtomicU64::new(0),
+    };
+    let one = Own { pass, seat };
+    let two = Own {
+        pass: other,
+        seat: other_seat,
+    };
+    let (first, second) = both(rt, alloc, shared.front(), one, two, &common);
+    let (one, stamps, number) = first?;
+    let (two, others, other_number) = second?;
+    let tie = if take {
+        Some(tie_of(shared.take_audit(rt).entries(), stamps, &others))
+    } else {
+        None
+    };
+    let numbers = [number, other_number];
+    let given = receipts(rt, alloc, shared.front(), &mut three, &numbers).ok()?;
+    let receipts = given.len();
+    let closed = ended(alloc, shared, one, two, three, &given).ok()?;
+    Some(Seen {
+        tie,
+        receipts,
+        closed,
+    })
+}
+
+fn look<R: Threads + Wait + Sync>(
+    rt: &R,
+    alloc: Global,
+    take: bool,
+) -> Option<Seen<MemPages, MemLog>> {
+    let engine = small_engine(alloc).ok()?;
+    share::<MemPages, MemLog, Brand, R>(rt, alloc, engine, Blank::new(1024), take)
+}
+
+#[test]
+fn an_audit_holds_the_calls_of_both_threads(rt: HostRuntime) -> Result<(), Fail> {
+    let seen = look(&rt, rt.alloc(), true).ok_or("both threads send and commit")?;
+    let tie = seen.tie.ok_or("the audit was taken")?;
+    assert_eq!(rt;
+        (tie.entries, tie.is_tied, tie.is_tied_when_changed_about),
+        (14, true, false),
+        "all calls are there, and each thread's are its own"
+    );
+    assert_eq!(rt;
+        seen.closed.kept.entries().len(),
+        3,
+        "a force and two acknowledgements came after it"
+    );
+    Ok(())
+}
+
+#[test]
+fn what_receipts_name_outlives_a_crash(rt: HostRuntime) -> Result<(), Fail> {
+    let seen = look(&rt, rt.alloc(), false).ok_or("both threads send and commit")?;
+    assert_eq!(rt; seen.receipts, 2, "both commits are forced");
+    let kept = seen.closed.kept;
+    assert_eq!(rt; kept.entries().len(), 17, "no entry was taken");
+    let (pages, log) = kept.give_back().give_back();
+    let engine = opened(rt.alloc(), pages.crash(PageChoice::Synced), log.crash(0))?;
+    assert_eq!(rt;
+        (sent_to(&engine, 0)?, sent_to(&engine, 14)?),
+        (1, 1),
+        "both messages are there"
+    );
+    Ok(())
+}

@@ -1,0 +1,133 @@
+//! The step interface over a shared engine, for one thread.
+ghost use Rattle.std.specs.Prelude.{◌≡◌, ◌∷◌};
+ghost use Rattle.rq_shared.specs.Calls.{IsCalled, IsForced};
+
+use crate::steps::Steps;
+use crate::trail::Trail;
+use rq_disk::{LogDevice, PageDevice};
+use rq_engine::event::Event;
+use rq_shared::kept::Stamped;
+use rq_shared::mark::{Mark, MarkPass};
+use rq_shared::room::Pass;
+use rq_shared::shared::Front;
+use std::snapshot::Snapshot;
+use std::sync::Wait;
+use std::sync::ledger::Ledger;
+
+/// Where the stamps of a thread's calls go, once they were read.
+pub trait Keep {
+    /// Takes a stamp.
+    fn keep(&mut self, stamped: Stamped);
+}
+
+/// Stamps are dropped.
+#[derive(Drop)]
+pub struct DropStamps;
+
+impl Keep for DropStamps {
+    fn keep(&mut self, _stamped: Stamped) {}
+}
+
+/// Calls under a pass. A force also publishes to a mark.
+#[derive(Drop)]
+pub struct SharedSteps<'a, P: PageDevice, L: LogDevice, G: Ledger, R: Wait, K: Keep> {
+    rt: &'a R,
+    front: &'a Front<P, L, G>,
+    pass: Pass<G>,
+    mark: &'a Mark,
+    seat: MarkPass,
+    keep: K,
+    made: Snapshot<Trail<Stamped>>,
+    told: Snapshot<Trail<Stamped>>,
+    ghost of_mark: { seat.table ≡ mark.now },
+}
+
+impl<'a, P: PageDevice + Drop, L: LogDevice + Drop, G: Ledger, R: Wait, K: Keep> SharedSteps<
+    'a,
+    P,
+    L,
+    G,
+    R,
+    K,
+> {
+    /// Calls under this pass, and publishes by this seat of the mark.
+    pub fn new(
+        rt: &'a R,
+        front: &'a Front<P, L, G>,
+        pass: Pass<G>,
+        mark: &'a Mark,
+        seat: MarkPass,
+        keep: K,
+    ) -> Self
+        requires { seat.table ≡ mark.now }
+        ensures { (result.pass ≡ pass) × (result.seat ≡ seat) }
+    {
+        SharedSteps {
+            rt,
+            front,
+            pass,
+            mark,
+            seat,
+            keep,
+            made: Trail::empty(),
+            told: Trail::empty(),
+        }
+    }
+
+    /// The pass, the seat and what keeps the stamps.
+    pub fn into_parts(self) -> (Pass<G>, MarkPass, K)
+        ensures { (result.0 ≡ self.entry.pass) × (result.1 ≡ self.entry.seat) × (result.2 ≡ self.entry.keep) }
+    {
+        let SharedSteps {
+            rt: _,
+            front: _,
+            pass,
+            mark: _,
+            seat,
+            keep,
+            made: _,
+            told: _,
+        } = self;
+        (pass, seat, keep)
+    }
+}
+
+impl<'a, P: PageDevice + Drop, L: LogDevice + Drop, G: Ledger, R: Wait, K: Keep> Steps
+    for SharedSteps<'a, P, L, G, R, K> {
+    ghost made = { λ s. s.made.value };
+
+    ghost told = { λ s. s.told.value };
+
+    fn call(&mut self, event: Event) -> Stamped
+        ensures event { result.event ≡ event }
+        ensures made { self.new.made.value ≡ result ∷ self.old.made.value }
+        ensures told { self.new.told.value ≡ self.old.told.value }
+        ensures called { IsCalled self.old.pass event result self.new.pass }
+    {
+        let stamped = self.front.call(self.rt, &mut self.pass, event);
+        Trail::note(&mut self.made, &stamped);
+        stamped
+    }
+
+    fn force(&mut self) -> Stamped
+        ensures event { result.event ≡ Event.Force }
+        ensures made { self.new.made.value ≡ result ∷ self.old.made.value }
+        ensures told { self.new.told.value ≡ self.old.told.value }
+        ensures forced { IsForced self.old.pass self.old.seat result self.new.pass self.new.seat }
+    {
+        let stamped = self
+            .front
+            .force(self.rt, &mut self.pass, self.mark, &mut self.seat);
+        Trail::note(&mut self.made, &stamped);
+        stamped
+    }
+
+    fn seen(&mut self, stamped: Stamped)
+        ensures made { self.new.made.value ≡ self.old.made.value }
+        ensures told { self.new.told.value ≡ stamped ∷ self.old.told.value }
+        ensures pass { (self.new.pass ≡ self.old.pass) × (self.new.seat ≡ self.old.seat) }
+    {
+        Trail::note(&mut self.told, &stamped);
+        self.keep.keep(stamped);
+    }
+}

@@ -1,0 +1,32 @@
+//! How a worker calls a store.
+ghost use Rattle.std.specs.Prelude.{◌≡◌, List, ◌∷◌};
+ghost use Rattle.rq_shared.specs.declared.kept.Stamped.{Stamped as Stamp};
+
+use rq_engine::event::Event;
+use rq_shared::kept::Stamped;
+
+/// The calls of a store, one at a time.
+pub trait Steps {
+    /// The stamps of the calls made so far, the newest first.
+    ghost made: { Self → List Stamp };
+
+    /// The stamps handed on so far, the newest first.
+    ghost told: { Self → List Stamp };
+
+    /// Makes the call that the event stands for.
+    fn call(&mut self, event: Event) -> Stamped
+        ensures event { result.event ≡ event }
+        ensures made { made self.new ≡ result ∷ made self.old }
+        ensures told { told self.new ≡ told self.old };
+
+    /// Forces, and publishes how many records are forced to whoever reads that.
+    fn force(&mut self) -> Stamped
+        ensures event { result.event ≡ Event.Force }
+        ensures made { made self.new ≡ result ∷ made self.old }
+        ensures told { told self.new ≡ told self.old };
+
+    /// Is handed a stamp, once it was read.
+    fn seen(&mut self, stamped: Stamped)
+        ensures made { made self.new ≡ made self.old }
+        ensures told { told self.new ≡ stamped ∷ told self.old };
+}

@@ -1,0 +1,105 @@
+//! A worker: a gate and a step interface, and what was done through them.
+ghost use Rattle.std.specs.Prelude.{◌≡◌, [], ◌∷◌, ◌++◌, not};
+ghost use Rattle.rq_workers.specs.Acts.{stamps_in, was_stopped, DidOne, IsCalled};
+
+use crate::acts::{Act, Heard, heard_in};
+use crate::gate::Gate;
+use crate::steps::Steps;
+use crate::trail::Trail;
+use rq_engine::event::Event;
+use std::marker::Model;
+use std::snapshot::Snapshot;
+
+/// A gate and a step interface, through which a worker does all that it does. Contracts see its acts, the newest first,
+/// and the step interface as the worker took it.
+#[derive(Drop)]
+pub struct Worker<G: Gate, S: Steps> {
+    gate: G,
+    steps: S,
+    // the gate said no
+    stopped: bool,
+    done: Snapshot<Trail<Act>>,
+    begun: Snapshot<S>,
+}
+
+impl<G: Gate, S: Steps> Model for Worker<G, S> {
+    ghost use Rattle.rq_workers.specs.Acts.{Work, IsWork};
+
+    ghost Value = { Work S };
+
+    ghost view = { λ w. record { done = w.done.value; begun = w.begun.value } };
+
+    ghost invariant = { λ w. IsWork (G.says w.gate) S.made S.told w.steps w.begun.value w.done.value w.stopped };
+}
+
+impl<G: Gate + Drop, S: Steps> Worker<G, S> {
+    /// Takes a gate and a step interface, and has done nothing.
+    pub fn new(gate: G, steps: S) -> Self
+        ensures { result ≡ record { done = []; begun = steps } }
+    {
+        let begun = Snapshot::of(&steps);
+        Worker {
+            gate,
+            steps,
+            stopped: false,
+            done: Trail::empty(),
+            begun,
+        }
+    }
+
+    /// Whether the gate has not said no so far.
+    pub fn goes_on(&self) -> bool
+        ensures { result ≡ not (was_stopped self.now.done) }
+    {
+        !self.stopped
+    }
+
+    // Asks the gate.
+    pub(crate) fn asks(&mut self, point: u32) -> bool
+        ensures { DidOne (Act.Asked point result) self.old self.new }
+    {
+        let passed = self.gate.pass(point);
+        if !passed {
+            self.stopped = true;
+        }
+        Trail::note(&mut self.done, &Act::Asked(point, passed));
+        passed
+    }
+
+    // Makes a call, and hands its stamp on.
+    pub(crate) fn calls(&mut self, event: Event) -> Heard
+        ensures { IsCalled self.old event result self.new }
+    {
+        let stamped = self.steps.call(event);
+        let answer = heard_in(stamped.reply());
+        Trail::note(&mut self.done, &Act::Made(Snapshot::of(&stamped)));
+        self.steps.seen(stamped);
+        answer
+    }
+
+    // Forces, and hands the stamp on.
+    pub(crate) fn forces(&mut self) -> Heard
+        ensures { IsCalled self.old Event.Force result self.new }
+    {
+        let stamped = self.steps.force();
+        let answer = heard_in(stamped.reply());
+        Trail::note(&mut self.done, &Act::Made(Snapshot::of(&stamped)));
+        self.steps.seen(stamped);
+        answer
+    }
+
+    /// The step interface. What was called through it since the worker took it, and handed on, is what the worker did.
+    pub fn into_steps(self) -> S
+        ensures made { S.made result ≡ stamps_in self.done ++ S.made self.begun }
+        ensures told { S.told result ≡ stamps_in self.done ++ S.told self.begun }
+    {
+        let Worker {
+            gate: _,
+            steps,
+            stopped: _,
+            done: _,
+            begun: _,
+        } = self;
+        steps
+    }
+}
