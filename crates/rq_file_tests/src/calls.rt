@@ -8,7 +8,6 @@ use rq_page::layout::Layout;
 use rq_restart::format::format;
 use rq_restart::restart::{Report, Stopped, restart};
 use std::alloc::Global;
-use std::rt::Files;
 use std::{fs, io};
 
 /// Makes a folder anew, with nothing in it.

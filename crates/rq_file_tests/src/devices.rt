@@ -9,7 +9,6 @@ use rq_disk::{
 use std::alloc::Global;
 use std::fs::{File, OpenOptions};
 use std::io::ErrorKind;
-use std::rt::Files;
 use std::test::Fail;
 use std::{fs, io};
 

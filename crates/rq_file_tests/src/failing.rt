@@ -11,7 +11,6 @@ use rq_model::txn::Txn;
 use rq_page::layout::Layout;
 use std::alloc::Global;
 use std::fs::{File, OpenOptions};
-use std::rt::Files;
 use std::test::Fail;
 use std::{fs, io};
 

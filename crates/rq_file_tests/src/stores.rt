@@ -14,7 +14,6 @@ use rq_model::txn::Txn;
 use rq_page::layout::Layout;
 use std::alloc::Global;
 use std::fs;
-use std::rt::Files;
 use std::test::Fail;
 
 // Records of a small store with one sent message: the first is 13 bytes, the cell's and the directory's 546 each, the
