@@ -59,10 +59,8 @@ pub struct Faulty {
 }
 
 impl Faulty {
-    ghost use Rattle.rq_file_tests.specs.Faults.{faulty_calls};
-
     pub fn new(file: File, countdown: Countdown) -> Faulty
-        ensures { faulty_calls result ≡ [] }
+        ensures { result.calls.value ≡ [] }
     {
         Faulty {
             file,
