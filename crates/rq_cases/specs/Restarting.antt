@@ -13,7 +13,7 @@ use Rattle.rq_store.specs.Fitting.{image_in}
 use Rattle.rq_store.specs.Steps.{page_op}
 use Rattle.rq_restart.specs.Repeating.{IsFirstBad, IsFirstUncounted, Paged}
 use Rattle.rq_restart.specs.Restarting.{IsBegunOn, IsLeftOn, IsReadAs, Reports, Stops}
-use Rattle.rq_restart.specs.Refused.{ShutFor}
+use Rattle.rq_restart.specs.Refused.{WhyShut}
 use Rattle.rq_restart.specs.Checked.{IsEnded, IsGoneThrough, as_read}
 use Rattle.rq_core.specs.Devices.{mem_log, mem_pages}
 use Rattle.rq_cases.specs.Opened.{AreNewPages, IsNewLog}
@@ -29,7 +29,7 @@ repeated_pages = record { image = image_in sent_pages; changed = false ∷ true 
 
 -- a restart was refused for this over the log, and the log's device was left alone
 abbrev pub Shuts : List Record → Refusal → Type 0 → Type 0
-Shuts log r untouched = ShutFor sizes log read_pages r 0 0 untouched
+Shuts log r untouched = WhyShut sizes log read_pages r 0 0 untouched
 
 pub record RestartsAreJudged : Type 0 where
   pub reports : Reports log_5 2 6 0 0

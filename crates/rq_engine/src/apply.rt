@@ -56,22 +56,27 @@ impl<P: PageDevice, L: LogDevice> Engine<P, L> {
 
     // The call, with what it says of the store and of its devices.
     fn call(&mut self, event: &Event) -> Reply
+        // Of a sound store: the entry that it is, and a refusal's cause.
         ensures answered { AreHonest P.PageDevice L.LogDevice self.new → IsSound self.old.state
             → Steps self.old.state (call_of event.now) (gave result) self.new.state }
         ensures cause { AreHonest P.PageDevice L.LogDevice self.new → IsSound self.old.state
             → RefusedForCause self.old.state event.now result }
+        // Answers that change nothing, or one thing.
         ensures sizes { self.new.state.sizes ≡ self.old.state.sizes }
         ensures no_memory { result ≡ Reply.Refused Refusal.NoMemory → self.new ≡ self.old }
         ensures content { IsContent result → self.new ≡ self.old }
         ensures forced { (lsn : ℕ) → result ≡ Reply.Forced lsn → self.new.state.forced ≡ lsn }
+        // What each device is left as.
         ensures writes { WritesSay self.old event.now result }
         ensures pages { PagesSay P.PageDevice self.old self.new event.now result }
         ensures log { LogSays L.LogDevice self.old self.new event.now result }
+        // Refusals, the lists, and the marks of changed pages, of every store.
         ensures failed { (result ≡ Reply.Refused Refusal.Failed) ↔ (self.old.state.failed ≡ true) }
         ensures refused { RefusalLeaves self.old event.now result self.new }
         ensures lists { ListsSay self.old.state event.now result self.new.state }
         ensures changes { ChangesSay self.old event.now result self.new }
         ensures starts { StartSays self.old event.now result self.new }
+        // Devices and what a crash at any moment leaves.
         ensures honest { AreHonest P.PageDevice L.LogDevice self.new → AreHonest P.PageDevice L.LogDevice self.old }
         ensures any_moment { L.honest self.new.log → LeavesOnly L.LogDevice self.old.log self.new.log
             (IsBeginning self.old.state.records self.old.state.forced) }

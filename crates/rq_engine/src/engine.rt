@@ -282,16 +282,20 @@ impl<P: PageDevice, L: LogDevice> Engine<P, L> {
     /// # Errors
     /// `Failed`, `DiskWrite`.
     pub fn hand_over(&mut self) -> Result<(), Refusal>
+        // The entry that it is, and the state.
         ensures answered { AnswersLegally P.PageDevice L.LogDevice self.old Hand_over
             (λ done. Gave_handed_over) result self.new }
         ensures sizes { self.new.state.sizes ≡ self.old.state.sizes }
         ensures state { OnOk result (self.new.state ≡ self.old.state) }
+        // The device, on each answer.
         ensures reads { OnOk result (L.honest self.new.log → L.seen self.new.log ≡ spelled self.old.state.records) }
         ensures cause { OnOk result (L.faults self.new.log ≡ L.faults self.old.log) }
+        // Why it was refused, and what that leaves.
         ensures refusal { IfErr result (λ r. NotWritten L.LogDevice self.old self.new r) }
         ensures refused { self.old.state.failed ≡ true → self.new ≡ self.old }
         ensures stops { OnErr result (self.new.state ≡ record self.old.state { failed = true }) }
         ensures failed { (result ≡ Err Refusal.Failed) ↔ (self.old.state.failed ≡ true) }
+        // What stays; and what a crash at any moment leaves.
         ensures changed { self.new.changed ≡ self.old.changed }
         ensures pages { self.new.pages ≡ self.old.pages }
         ensures honest { L.honest self.new.log → L.honest self.old.log }
@@ -314,19 +318,23 @@ impl<P: PageDevice, L: LogDevice> Engine<P, L> {
     /// # Errors
     /// `Failed`, `DiskWrite`.
     pub fn force(&mut self) -> Result<Lsn, Refusal>
+        // The entry that it is, and the state.
         ensures answered { AnswersLegally P.PageDevice L.LogDevice self.old Force
             (λ lsn. Gave_forced lsn) result self.new }
         ensures sizes { self.new.state.sizes ≡ self.old.state.sizes }
         ensures forced { IfOk result (λ lsn. (lsn ≡ length self.old.state.records) × (self.new.state.forced ≡ lsn)) }
         ensures state { OnOk result (self.new.state ≡ record self.old.state { forced = length self.old.state.records }) }
+        // The device, on each answer.
         ensures reads { OnOk result (L.honest self.new.log → L.seen self.new.log ≡ spelled self.old.state.records) }
         ensures durable { OnOk result (L.honest self.new.log
             → Only (spelled self.old.state.records) (L.may_leave self.new.log)) }
         ensures cause { OnOk result (L.faults self.new.log ≡ L.faults self.old.log) }
+        // Why it was refused, and what that leaves.
         ensures refusal { IfErr result (λ r. NotWritten L.LogDevice self.old self.new r) }
         ensures refused { self.old.state.failed ≡ true → self.new ≡ self.old }
         ensures stops { OnErr result (self.new.state ≡ record self.old.state { failed = true }) }
         ensures failed { (result ≡ Err Refusal.Failed) ↔ (self.old.state.failed ≡ true) }
+        // What stays; and what a crash at any moment leaves.
         ensures changed { self.new.changed ≡ self.old.changed }
         ensures pages { self.new.pages ≡ self.old.pages }
         ensures honest { L.honest self.new.log → L.honest self.old.log }

@@ -21,14 +21,17 @@ impl<P: PageDevice, L: LogDevice> Engine<P, L> {
     /// # Errors
     /// `Failed`, `NotForced`, `DiskWrite`.
     pub fn write_page(&mut self, page: u32) -> Result<Written, Refusal>
+        // The entry that it is, and when it is which answer.
         ensures answered { AnswersLegally P.PageDevice L.LogDevice self.old (Write_page page)
             (λ written. Gave_written (is_done written)) result self.new }
         ensures sizes { self.new.state.sizes ≡ self.old.state.sizes }
         ensures answer { WritesWhen self.old page result }
+        // What becomes of state, marks and device.
         ensures state { self.new.state ≡ state_after self.old.state result }
         ensures changed { self.new.changed ≡ changed_after self.old.changed page result }
         ensures device { DeviceAfter P.PageDevice page
             (image_at self.old.state.images page) self.old.pages self.new.pages result }
+        // What stays, and refusals.
         ensures honest { P.honest self.new.pages → P.honest self.old.pages }
         ensures log { self.new.log ≡ self.old.log }
         ensures refused { IfErr result (λ r. r ≢ Refusal.DiskWrite → self.new ≡ self.old) }

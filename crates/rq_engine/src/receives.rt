@@ -95,17 +95,20 @@ impl<P: PageDevice, L: LogDevice> Engine<P, L> {
 
     // Starts a receive from a group that holds a message for the transaction.
     fn start_take(&mut self, txn: Txn, number: u64, sender: u32) -> Result<Sub, Refusal>
+        // What the caller has tested.
         requires ready { HasNothingUnderWay self.old.state txn number }
         requires passes { NoneHolds (ready_tests (ledger_of self.old.state) txn false) }
         requires sender { sender < sender_count self.old.state.sizes }
         requires free { is_free_for txn sender self.old.state.ends.receiving ≡ true }
         requires waits { 1 ≤ waits self.old.state.waiting sender }
+        // What it answers and starts.
         ensures answered { (call : Call) → IsTakeCall txn sender call
             → AnswersLegally P.PageDevice L.LogDevice self.old call (λ sub. started_of (Some sub)) result self.new }
         ensures sizes { self.new.state.sizes ≡ self.old.state.sizes }
         ensures sub { IfOk result (λ sub. sub.txn ≡ txn) }
         ensures lists { IfOk result (λ sub. IsTakeStarted self.old.state txn sender sub self.new.state) }
         ensures idle { OnOk result (any_under self.old.state.rows ≡ false) }
+        // What stays.
         ensures devices { LeavesDevices self.old self.new }
         ensures refused { OnErr result (self.new ≡ self.old) }
         ensures plain { IfErr result (λ r. r ≢ Refusal.Failed) }

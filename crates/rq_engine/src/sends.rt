@@ -65,12 +65,14 @@ impl<P: PageDevice, L: LogDevice> Engine<P, L> {
 
     // The tests of a send behind those of its transaction.
     fn check_send(&self, txn: Txn, sender: u32, tag: u64, body: &[u8]) -> Result<Body, Refusal>
+        // Why it is refused, and that the model's tests are passed.
         ensures refused { NoneHolds (ready_tests (ledger_of self.now.state) txn false)
             → IfErr result (λ r. Refuses self.now.state
             (Start_send txn (message_of sender tag body.now)) r) }
         ensures passes { IsSound self.now.state → NoneHolds (ready_tests (ledger_of self.now.state) txn false)
             → OnOk result (Passes (size_of self.now.state.sizes) (ledger_of self.now.state)
             (Start_send txn (message_of sender tag body.now))) }
+        // What was tested.
         ensures plain { IfErr result (λ r. r ≢ Refusal.Failed) }
         ensures body { IfOk result (λ b. b ≡ body.now) }
         ensures sender { OnOk result (sender < sender_count self.now.state.sizes) }

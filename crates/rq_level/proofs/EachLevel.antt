@@ -1,6 +1,7 @@
 -- Each level keeps its laws.
-use Rattle.std.proofs.Common.{◌≡◌, ◌≢◌, ℕ, zero, suc, ◌/◌, ◌%◌, List, [], ◌∷◌, Bool, true, false, cond, nat_eq, Option, None, Some, length, set, refl, sym, ap, ◌∙◌, subst, inl, inr}
-use Rattle.std.proofs.lemmas.Bool.{cases_Bool}
+use Rattle.std.proofs.Common.{◌≡◌, ◌≢◌, ℕ, zero, suc, ◌+◌, ◌*◌, ◌/◌, ◌%◌, nat_lt, Result, Ok, Err, arith, List, [], ◌∷◌, Bool, true, false, cond, nat_eq, Option, None, Some, length, set, refl, sym, ap, ◌∙◌, subst, inl, inr}
+use Rattle.std.proofs.lemmas.Bool.{cases_Bool, le-ltb}
+use Rattle.rq_page.specs.Pages.{lsn_of}
 use Rattle.std.proofs.lemmas.List.{length-set}
 use Rattle.rq_page.specs.declared.cell.CellSlot.{CellSlot}
 use Rattle.rq_page.specs.declared.cell.CellSlot.TheVariants as cells
@@ -9,15 +10,19 @@ use Rattle.rq_page.specs.Directories.{directory_in}
 use Rattle.rq_page.specs.Sizes.{Sizes, directory_at, place_of}
 use Rattle.rq_level.specs.Kept.{Kept, noted, noted_in, noted_cell, told_sizes, is_cell_address, is_free_slot}
 use Rattle.rq_level.specs.Ops.{Doing, Overwrite, doing_in, overwrite_in}
-use Rattle.rq_level.specs.PagePlans.{write_wants}
+use Rattle.rq_level.specs.PagePlans.{write_wants, PlansWrite, CannotOverwrite, TakesBack, is_slot_number, page_undoes}
+use Rattle.rq_model.specs.declared.record.Record.{Record}
+use Rattle.rq_model.specs.declared.record.Record.TheVariants as records
+use Rattle.rq_model.specs.declared.refusal.Refusal.{Refusal}
+use Rattle.rq_model.specs.declared.refusal.Refusal.TheVariants as why
 use Rattle.rq_level.specs.Ops.Doing.{Send, Receive, Close}
 use Rattle.rq_level.specs.Given.{given_at}
-use Rattle.rq_level.specs.ChainPlans.{unless_given, link_wanted, behind, behind_head, head_wanted, send_wants, receive_wants, wanted, before, before_tail, tail_wanted, unlink_tail_wants, put_back_wants, undo_wanted}
+use Rattle.rq_level.specs.ChainPlans.{unless_given, link_wanted, behind, behind_head, head_wanted, send_wants, receive_wants, wanted, before, before_tail, tail_wanted, unlink_tail_wants, put_back_wants, undo_wanted, Plans, Undoes, RefusesUnread, RefusesTaking, RefusesOther, CanSend, CanReceive, CanMark, CanUnlinkTail, CanPutBack, chain_undoes}
 use Rattle.rq_model.specs.Deeds.{deed_in}
 use Rattle.rq_model.specs.declared.record.Deed.{Deed}
 use Rattle.rq_model.specs.declared.record.Deed.TheVariants.{Append, UnlinkHead, Close as Close_deed}
-use Rattle.rq_level.specs.Meaning.{Meaning, meaning_of}
-use Rattle.rq_level.specs.Lawful.{IsNotGiven, IsLawful, AllLawful}
+use Rattle.rq_level.specs.Meaning.{Meaning, Redo, AppliesOnce, IsAppliedOnce, meaning_of}
+use Rattle.rq_level.specs.Lawful.{IsNotGiven, IsLawful, AllLawful, AppliedTwiceIsOnce, MayHaveNoPlan}
 use Rattle.rq_level.specs.declared.slots.Given.{Given}
 
 unless : (given : List Given) (a : ℕ) (o : Option (List ℕ)) → given_at a given ≡ o → IsNotGiven given (unless_given a o)
@@ -114,8 +119,87 @@ in_room (Some z) k a x = elim (cases_Bool (is_cell_address z a)) [ inl b ↦ rw 
 keeps_room : (k : Kept) (a : ℕ) (x : List ℕ) → length (noted k a x).free ≡ length k.free
 keeps_room k a x = elim (cases_Bool (nat_eq a 1)) [ inl b ↦ rw b refl | inr n ↦ rw n (in_room k.sizes k a x) ]
 
+-- refusals
+may_damage : (k : Kept) (r : Refusal) (after : Kept) → RefusesUnread k (Err r) after → MayHaveNoPlan r × (after ≡ k)
+may_damage k (why.Damaged d) after h = (tt, h.1)
+may_damage k why.NoMemory after h = absurd h.0
+may_damage k why.Latched after h = absurd h.0
+may_damage k _ after h = absurd h.0
+
+may_take_none : (z : Sizes) (k : Kept) (latched : List ℕ) (Can : Type 0) (r : Refusal) → RefusesTaking z k latched Can r → MayHaveNoPlan r
+may_take_none z k latched Can why.NoMemory h = tt
+may_take_none z k latched Can why.Latched h = tt
+may_take_none z k latched Can (why.Damaged d) h = tt
+may_take_none z k latched Can _ h = absurd h
+
+may_other : (Can : Type 0) (r : Refusal) → RefusesOther Can r → MayHaveNoPlan r
+may_other Can why.NoMemory h = tt
+may_other Can (why.Damaged d) h = tt
+may_other Can why.Latched h = absurd h
+may_other Can _ h = absurd h
+
+refuses_one : (z : Option Sizes) (d : Option Doing) (k : Kept) (given : List Given) (latched : List ℕ) (r : Refusal) (after : Kept)
+    → Plans z d k given latched (Err r) after → MayHaveNoPlan r × (after ≡ k)
+refuses_one (Some z) (Some (Send s tag body)) k given latched r after h = (may_take_none z k latched (CanSend z given s) r h.0, h.1)
+refuses_one (Some z) (Some (Receive s)) k given latched r after h = (may_other (CanReceive z given s) r h.0, h.1)
+refuses_one (Some z) (Some (Close s)) k given latched r after h = (may_other (CanMark z given s true) r h.0, h.1)
+refuses_one (Some z) None k given latched r after h = may_damage k r after h
+refuses_one None (Some d) k given latched r after h = may_damage k r after h
+refuses_one None None k given latched r after h = may_damage k r after h
+
+refuses_back : (z : Option Sizes) (d : Option Deed) (k : Kept) (given : List Given) (latched : List ℕ) (r : Refusal) (after : Kept)
+    → Undoes z d k given latched (Err r) after → MayHaveNoPlan r × (after ≡ k)
+refuses_back (Some z) (Some (Append s n tag previous body)) k given latched r after h = (may_other (CanUnlinkTail z given s n) r h.0, h.1)
+refuses_back (Some z) (Some (UnlinkHead s n tag body)) k given latched r after h = (may_take_none z k latched (CanPutBack z given s n) r h.0, h.1)
+refuses_back (Some z) (Some (Close_deed s)) k given latched r after h = (may_other (CanMark z given s false) r h.0, h.1)
+refuses_back (Some z) None k given latched r after h = may_damage k r after h
+refuses_back None (Some d) k given latched r after h = may_damage k r after h
+refuses_back None None k given latched r after h = may_damage k r after h
+
+refuses_record : (k : Kept) (told : Record) (given : List Given) (latched : List ℕ) (r : Refusal) (after : Kept)
+    → chain_undoes k told given latched (Err r) after → MayHaveNoPlan r × (after ≡ k)
+refuses_record k (records.OpEnd t n level deed) given latched r after h = refuses_back k.sizes (deed_in deed) k given latched r after h
+refuses_record k _ given latched r after h = may_damage k r after h
+
+may_write : (given : List Given) (w : Overwrite) (r : Refusal) → CannotOverwrite given w r → MayHaveNoPlan r
+may_write given w why.NoMemory h = tt
+may_write given w (why.Damaged d) h = tt
+may_write given w why.Latched h = absurd h
+may_write given w _ h = absurd h
+
+refuses_write : (k : Kept) (w : Option Overwrite) (given : List Given) (r : Refusal) (after : Kept) → PlansWrite k w given (Err r) after → MayHaveNoPlan r × (after ≡ k)
+refuses_write k None given r after h = may_damage k r after h
+refuses_write k (Some w) given r after h = (may_write given w r h.0, h.1)
+
+refuses_taking : (k : Kept) (is : Bool) (a : ℕ) (before after : List ℕ) (r : Refusal) (kept : Kept) → TakesBack k is a before after (Err r) kept → MayHaveNoPlan r × (kept ≡ k)
+refuses_taking k true a before after why.NoMemory kept h = (tt, h)
+refuses_taking k true a before after _ kept h = absurd h
+refuses_taking k false a before after r kept h = may_damage k r kept h
+
+refuses_page : (k : Kept) (told : Record) (given : List Given) (latched : List ℕ) (r : Refusal) (after : Kept)
+    → page_undoes k told given latched (Err r) after → MayHaveNoPlan r × (after ≡ k)
+refuses_page k (records.PageOp t n page slot x y) given latched r after h = refuses_taking k (is_slot_number slot) (page * 16 + slot) x y r after h
+refuses_page k _ given latched r after h = may_damage k r after h
+
 pub all_lawful : AllLawful
 unfolding meaning_of
-all_lawful zero = record { asks = λ job given. asks_page given job.undo (overwrite_in job.bytes); last = λ k a x y. refl; room = λ k a x. refl }
-all_lawful (suc zero) = record { asks = λ job given. asks_job given job.undo job.bytes; last = twice; room = keeps_room }
-all_lawful (suc (suc n)) = record { asks = λ job given. tt; last = λ k a x y. refl; room = λ k a x. refl }
+all_lawful zero = record { refuses = λ k job given latched r after h. refuses_write k (overwrite_in job.bytes) given r after h; refuses_undo = refuses_page; asks = λ job given. asks_page given job.undo (overwrite_in job.bytes); last = λ k a x y. refl; room = λ k a x. refl }
+all_lawful (suc zero) = record { refuses = λ k job given latched r after h. refuses_one k.sizes (doing_in job.bytes) k given latched r after h; refuses_undo = refuses_record; asks = λ job given. asks_job given job.undo job.bytes; last = twice; room = keeps_room }
+all_lawful (suc (suc n)) = record { refuses = λ k job given latched r after h. may_damage k r after h; refuses_undo = λ k told given latched r after h. may_damage k r after h; asks = λ job given. tt; last = λ k a x y. refl; room = λ k a x. refl }
+
+-- applying a record again
+not_less : (n m : ℕ) → n ≡ m → nat_lt n m ≡ false
+not_less n m e = le-ltb n m (omega (arith, e))
+
+again : (w : Redo) (old once twice : List ℕ) (lsn : ℕ) (first second : Bool) → IsAppliedOnce old lsn w first once → IsAppliedOnce once lsn w second twice → (second ≡ false) × (twice ≡ once)
+again w old once twice lsn true second a b =
+    let no : second ≡ false = b.answer ∙ not_less (lsn_of once) lsn ((a.done refl).lsn) in
+    (no, b.kept no)
+again w old once twice lsn false second a b =
+    let same : once ≡ old = a.kept refl in
+    let no : second ≡ false = b.answer ∙ ap (λ l. nat_lt (lsn_of l) lsn) same ∙ sym a.answer in
+    (no, b.kept no)
+
+pub twice_is_once : AppliedTwiceIsOnce
+twice_is_once None old once twice lsn first second a b = b
+twice_is_once (Some w) old once twice lsn first second a b = again w old once twice lsn first second a b

@@ -164,8 +164,17 @@ RefusesOther Can why.NoMemory = Unit {0}
 RefusesOther Can (why.Damaged d) = Can → ⊥
 RefusesOther Can _ = ⊥
 
--- What the level answers, and what it keeps then. Of a store whose sizes it was not told, and of bytes that it does not
--- read, nothing is said.
+-- it is told as damage
+abbrev pub TellsDamage : Refusal → Type 0
+TellsDamage (why.Damaged d) = Unit {0}
+TellsDamage _ = ⊥
+
+-- what can't be read, or of a store whose sizes are not known, is refused as damage
+abbrev pub RefusesUnread : Kept → Result Plan Refusal → Kept → Type 0
+RefusesUnread k (Ok p) after = ⊥
+RefusesUnread k (Err r) after = TellsDamage r × (after ≡ k)
+
+-- what the level answers, and what it keeps then
 abbrev pub Plans : Option Sizes → Option Doing → Kept → List Given → List ℕ → Result Plan Refusal → Kept → Type 0
 Plans (Some z) (Some (Send s tag body)) k given latched (Ok p) after = IsSent z k given latched s tag body p after
 Plans (Some z) (Some (Send s tag body)) k given latched (Err r) after =
@@ -174,7 +183,7 @@ Plans (Some z) (Some (Receive s)) k given latched (Ok p) after = IsReceived z k 
 Plans (Some z) (Some (Receive s)) k given latched (Err r) after = RefusesOther (CanReceive z given s) r × (after ≡ k)
 Plans (Some z) (Some (Close s)) k given latched (Ok p) after = IsClosed z k given s p after
 Plans (Some z) (Some (Close s)) k given latched (Err r) after = RefusesOther (CanMark z given s true) r × (after ≡ k)
-Plans _ _ k given latched r after = Unit {0}
+Plans _ _ k given latched answer after = RefusesUnread k answer after
 
 abbrev pub chain_plans : Kept → Job → List Given → List ℕ → Result Plan Refusal → Kept → Type 0
 chain_plans k job given latched r after = Plans k.sizes (doing_in job.bytes) k given latched r after
@@ -192,12 +201,12 @@ Undoes (Some z) (Some (UnlinkHead s n tag body)) k given latched (Err r) after =
 Undoes (Some z) (Some (Close_deed s)) k given latched (Ok p) after = IsReopened z k given s p after
 Undoes (Some z) (Some (Close_deed s)) k given latched (Err r) after =
     RefusesOther (CanMark z given s false) r × (after ≡ k)
-Undoes _ _ k given latched r after = Unit {0}
+Undoes _ _ k given latched answer after = RefusesUnread k answer after
 
 -- a record that ends an operation tells its deed
 abbrev pub chain_undoes : Kept → Record → List Given → List ℕ → Result Plan Refusal → Kept → Type 0
 chain_undoes k (OpEnd t n level deed) given latched r after = Undoes k.sizes (deed_in deed) k given latched r after
-chain_undoes k _ given latched r after = Unit {0}
+chain_undoes k _ given latched answer after = RefusesUnread k answer after
 
 -- the slot that a link names, where it was not given
 abbrev pub unless_given : ℕ → Option (List ℕ) → Option ℕ

@@ -9,7 +9,7 @@ use Rattle.rq_page.specs.Pages.{lsn_of, IsWritten}
 use Rattle.rq_level.specs.Kept.{Kept, nothing_kept, noted}
 use Rattle.rq_level.specs.Ops.{Job, doing_in}
 use Rattle.rq_level.specs.Given.{AreGiven}
-use Rattle.rq_level.specs.ChainPlans.{chain_plans, chain_undoes, job_wanted}
+use Rattle.rq_level.specs.ChainPlans.{RefusesUnread, chain_plans, chain_undoes, job_wanted}
 use Rattle.rq_level.specs.PagePlans.{page_plans, page_undoes, page_wants}
 use Rattle.rq_level.specs.declared.level.Want.{Want}
 use Rattle.rq_level.specs.declared.level.Want.TheVariants as wants
@@ -47,12 +47,13 @@ page_meaning = record {
   note = λ k a bytes. k;
 }
 
+-- a level that is none refuses everything
 abbrev pub no_meaning : Meaning
 no_meaning = record {
   reads = λ deed. false;
   want = λ job given. None;
-  plans = λ k job given latched answer after. Unit {0};
-  undoes = λ k r given latched answer after. Unit {0};
+  plans = λ k job given latched answer after. RefusesUnread k answer after;
+  undoes = λ k r given latched answer after. RefusesUnread k answer after;
   note = λ k a bytes. k;
 }
 

@@ -1,10 +1,10 @@
 -- What the level of single slots answers.
-use Rattle.std.specs.Prelude.{◌≡◌, ℕ, ◌+◌, ◌*◌, ◌≤◌, Bool, true, false, cond, List, [], ◌∷◌, Option, None, Some, Result, Ok, Err}
+use Rattle.std.specs.Prelude.{◌≡◌, ℕ, ◌+◌, ◌*◌, ◌≤◌, Bool, true, false, cond, nat_le, ◌&&◌, List, [], ◌∷◌, Option, None, Some, Result, Ok, Err}
 use Rattle.rq_model.specs.declared.record.Record.{Record}
 use Rattle.rq_model.specs.declared.record.Record.TheVariants.{PageOp}
 use Rattle.rq_model.specs.declared.refusal.Refusal.{Refusal}
 use Rattle.rq_model.specs.declared.refusal.Refusal.TheVariants as why
-use Rattle.rq_level.specs.ChainPlans.{unless_given}
+use Rattle.rq_level.specs.ChainPlans.{RefusesUnread, unless_given}
 use Rattle.rq_level.specs.Given.{given_at}
 use Rattle.rq_level.specs.Kept.{Kept}
 use Rattle.rq_level.specs.Ops.{Job, Overwrite, overwrite_in}
@@ -36,26 +36,31 @@ CannotOverwrite given w why.NoMemory = Unit {0}
 CannotOverwrite given w (why.Damaged d) = given_at w.at given ≡ None
 CannotOverwrite given w _ = ⊥
 
-abbrev pub PlansWrite : Option Overwrite → List Given → Result Plan Refusal → Type 0
-PlansWrite None given answer = Unit {0}
-PlansWrite (Some w) given (Ok p) = IsOverwritten given w p
-PlansWrite (Some w) given (Err r) = CannotOverwrite given w r
+abbrev pub PlansWrite : Kept → Option Overwrite → List Given → Result Plan Refusal → Kept → Type 0
+PlansWrite k None given answer after = RefusesUnread k answer after
+PlansWrite k (Some w) given (Ok p) after = IsOverwritten given w p × (after ≡ k)
+PlansWrite k (Some w) given (Err r) after = CannotOverwrite given w r × (after ≡ k)
 
 -- What the level answers to what it reads. It keeps nothing.
 abbrev pub page_plans : Kept → Job → List Given → List ℕ → Result Plan Refusal → Kept → Type 0
-page_plans k job given latched answer after = PlansWrite (overwrite_in job.bytes) given answer × (after ≡ k)
+page_plans k job given latched answer after = PlansWrite k (overwrite_in job.bytes) given answer after
+
+-- a slot of a page is one of 1 to 15
+abbrev pub is_slot_number : ℕ → Bool
+is_slot_number n = nat_le 1 n && nat_le n 15
 
 -- a slot write that is taken back: the slot has its bytes from before
-abbrev pub TakesBack : ℕ → List ℕ → List ℕ → Result Plan Refusal → Type 0
-TakesBack a before after (Ok p) = IsWritePlan a after before p
-TakesBack a before after (Err why.NoMemory) = Unit {0}
-TakesBack a before after (Err _) = ⊥
+abbrev pub TakesBack : Kept → (is : Bool) → ℕ → List ℕ → List ℕ → Result Plan Refusal → Kept → Type 0
+TakesBack k true a before after (Ok p) kept = IsWritePlan a after before p × (kept ≡ k)
+TakesBack k true a before after (Err why.NoMemory) kept = kept ≡ k
+TakesBack k true a before after (Err _) kept = ⊥
+TakesBack k false a before after answer kept = RefusesUnread k answer kept
 
 -- and of a record of a slot of a page
 abbrev pub page_undoes : Kept → Record → List Given → List ℕ → Result Plan Refusal → Kept → Type 0
 page_undoes k (PageOp t n page slot before after) given latched answer kept =
-    (1 ≤ slot → slot ≤ 15 → TakesBack (page * 16 + slot) before after answer) × (kept ≡ k)
-page_undoes k _ given latched answer kept = Unit {0}
+    TakesBack k (is_slot_number slot) (page * 16 + slot) before after answer kept
+page_undoes k _ given latched answer kept = RefusesUnread k answer kept
 
 abbrev pub write_wants : Option Overwrite → List Given → Option ℕ
 write_wants None given = None

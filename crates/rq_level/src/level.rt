@@ -1,7 +1,7 @@
 //! The interface of a level of recovery.
 ghost use Rattle.std.specs.Prelude.{◌≡◌, ◌≤◌, ℕ};
 ghost use Rattle.rq_level.specs.Kept.{Kept};
-ghost use Rattle.rq_level.specs.Lawful.{AllLawful};
+ghost use Rattle.rq_level.specs.Lawful.{AllLawful, AppliedTwiceIsOnce};
 ghost use Rattle.rq_level.specs.Meaning.{Meaning, meaning_of, wish, AreOf, redo_of, AppliesOnce, IsRedo, IsAppliedOnce};
 
 use crate::op::Op;
@@ -152,6 +152,11 @@ fn redo_slot(page: &mut Page, lsn: Lsn, slot: u8, after: &Slot) -> bool
         false
     }
 }
+
+/// A record that is applied again to its page changes nothing.
+pub fn applied_twice_is_once()
+    ensures { AppliedTwiceIsOnce }
+{}
 
 /// Each level keeps its laws, whatever its number.
 pub fn levels_are_lawful()

@@ -11,7 +11,7 @@ mod op;
 mod slots;
 mod writes;
 
-pub use level::{Level, Want, levels_are_lawful, redo_page};
+pub use level::{Level, Want, applied_twice_is_once, levels_are_lawful, redo_page};
 pub use levels::Levels;
 pub use op::Op;
 pub use slots::{Given, PageSet, Slots};

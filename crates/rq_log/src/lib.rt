@@ -85,15 +85,18 @@ impl<L: LogDevice + Drop> Log<L> {
     /// them. None of them counts as forced: a crash may still lose what was read, unless it is forced. Else it
     /// is stopped: by `DiskRead`, `NoMemory`, or `Damaged` with the number of the first record that is none.
     pub fn scan(alloc: Global, mut device: L) -> Scan<L>
+        // What was read, and the log where nothing stands behind it.
         ensures spelled { AreSpelled (reverse result.records.items) }
         ensures front { L.honest (device_of result.log) → BeginsWith (reverse result.records.items) (L.seen device) }
         ensures read { IfOk result.log (λ log. (log.records ≡ reverse result.records.items)
             × (L.honest log.device → L.seen device ≡ spelled log.records)) }
         ensures log { IfOk result.log (λ log. (log.forced ≡ 0) × (log.pending ≡ 0) × (log.reserved ≡ 0) ×
             (log.failed ≡ false) × (log.settled ≡ device)) }
+        // Why it was not.
         ensures stopped { IfErr result.log (λ stopped.
             StopsFor L.LogDevice stopped.refusal (reverse result.records.items) device stopped.device) }
         ensures cause { OnOk result.log (L.faults (device_of result.log) ≡ L.faults device) }
+        // The device was only read.
         ensures seen { L.seen (device_of result.log) ≡ L.seen device }
         ensures honest { L.honest (device_of result.log) → L.honest device }
         ensures crash { (c : List ℕ) → L.may_leave (device_of result.log) c → L.may_leave device c }
@@ -197,14 +200,17 @@ impl<L: LogDevice> Log<L> {
 
     /// Adds a record, into reserved room, and answers its LSN. It is neither handed over nor forced.
     pub fn append(&mut self, added: &Record) -> Lsn
+        // What the caller has made sure of.
         requires record { IsInRange added.now }
         requires room { length (spelling added.now) ≤ self.old.reserved }
         requires count { length self.old.records < 2 ^ 64 - 1 }
         requires running { self.old.failed ≡ false }
+        // The log with the record.
         ensures lsn { result ≡ length self.new.records }
         ensures records { self.new.records ≡ added.now ∷ self.old.records }
         ensures reserved { self.new.reserved + length (spelling added.now) ≡ self.old.reserved }
         ensures pending { self.new.pending ≡ self.old.pending + length (spelling added.now) }
+        // What stays.
         ensures forced { self.new.forced ≡ self.old.forced }
         ensures failed { self.new.failed ≡ false }
         ensures device { self.new.device ≡ self.old.device }
@@ -220,10 +226,12 @@ impl<L: LogDevice> Log<L> {
 
     /// Appends the buffered records to the device.
     pub fn hand_over(&mut self) -> Result<(), Refusal>
+        // What stays.
         ensures records { self.new.records ≡ self.old.records }
         ensures forced { self.new.forced ≡ self.old.forced }
         ensures reserved { self.new.reserved ≡ self.old.reserved }
         ensures settled { self.new.settled ≡ self.old.settled }
+        // What it answers, and what the device holds then.
         ensures failed { self.old.failed ≡ true → (IsErrOf result Refusal.Failed) × (self.new ≡ self.old) }
         ensures honest { L.honest self.new.device → L.honest self.old.device }
         ensures ok { OnOk result ((self.new.failed ≡ false) × (self.new.pending ≡ 0)
@@ -231,6 +239,7 @@ impl<L: LogDevice> Log<L> {
         ensures err { self.old.failed ≡ false → IfErr result (λ e. (e ≡ Refusal.DiskWrite) × (self.new.failed ≡ true)) }
         ensures cause { self.old.failed ≡ false → FailureIsCounted (L.faults self.old.device)
             (L.faults self.new.device) result }
+        // Nothing to hand over, and what a crash at any moment leaves.
         ensures idle { self.old.pending ≡ 0 → self.new ≡ self.old }
         ensures left { L.honest self.new.device → LeavesOnly L.LogDevice self.old.device self.new.device
             (WasLeftOrGoesOn L.LogDevice self.old) }
@@ -257,8 +266,10 @@ impl<L: LogDevice> Log<L> {
 
     /// Hands over what is buffered, and forces the device. Answers the LSN of the last record.
     pub fn force(&mut self) -> Result<Lsn, Refusal>
+        // What stays.
         ensures records { self.new.records ≡ self.old.records }
         ensures reserved { self.new.reserved ≡ self.old.reserved }
+        // What it answers, and what the device holds then.
         ensures failed { self.old.failed ≡ true → (IsErrOf result Refusal.Failed) × (self.new ≡ self.old) }
         ensures honest { L.honest self.new.device → L.honest self.old.device }
         ensures ok { IfOk result (λ lsn. (lsn ≡ length self.new.records) × (self.new.forced ≡ lsn)
@@ -271,6 +282,7 @@ impl<L: LogDevice> Log<L> {
         ensures as_before { OnErr result ((self.new.forced ≡ self.old.forced) × (self.new.settled ≡ self.old.settled)) }
         ensures cause { self.old.failed ≡ false → FailureIsCounted (L.faults self.old.device)
             (L.faults self.new.device) result }
+        // What a crash at any moment leaves.
         ensures left { L.honest self.new.device → LeavesOnly L.LogDevice self.old.device self.new.device
             (WasLeftOrGoesOn L.LogDevice self.old) }
         ensures any_moment { L.honest self.new.device → WasDurable L.LogDevice self.old

@@ -2,7 +2,7 @@
 ghost use Rattle.std.specs.Prelude.{◌≡◌, ◌+◌, ◌*◌, ◌<◌, ◌≤◌, ◌^◌, ◌/◌, ◌%◌, [], IfSome, IfNone, IfOk, Some, None};
 ghost use Rattle.rq_level.specs.Kept.{Kept};
 ghost use Rattle.rq_level.specs.Ops.{Overwrite, overwrite_in};
-ghost use Rattle.rq_level.specs.PagePlans.{IsOneWrite, IsWritePlan, PlansWrite, TakesBack};
+ghost use Rattle.rq_level.specs.PagePlans.{IsOneWrite, IsWritePlan, PlansWrite, TakesBack, is_slot_number};
 
 use byteorder::{BigEndian, ByteOrder};
 use rq_level::{Level, Op, PageSet, Plan, SlotWrite, Slots, Want, redo_page};
@@ -108,7 +108,7 @@ fn read_overwrite(bytes: &[u8]) -> Option<(Addr, &[u8; 256])>
 
 // The plan of writing over a slot.
 fn plan_overwrite(alloc: Global, bytes: &[u8], given: &Slots) -> Result<Plan, Refusal>
-    ensures { PlansWrite (overwrite_in bytes.now) given.now result }
+    ensures { (k : Kept) → PlansWrite k (overwrite_in bytes.now) given.now result k }
 {
     let Some((at, after)) = read_overwrite(bytes) else {
         return Err(Refusal::Damaged(Damage::Page(0)));
@@ -127,7 +127,7 @@ fn take_back(
     before: &Slot,
     after: &Slot,
 ) -> Result<Plan, Refusal>
-    ensures { 1 ≤ slot → slot ≤ 15 → TakesBack (page * 16 + slot) before.now after.now result }
+    ensures { (k : Kept) → TakesBack k (is_slot_number slot) (page * 16 + slot) before.now after.now result k }
 {
     if slot == 0 || slot > 15 {
         return Err(Refusal::Damaged(Damage::Page(page)));

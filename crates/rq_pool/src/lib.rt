@@ -223,13 +223,16 @@ impl<P: PageDevice> Pages<P> {
         requires low { 1 ≤ number }
         requires high { number < page_count self.old.sizes }
         requires clean { is_changed self.old.changed number ≡ false }
+        // What becomes of the images.
         ensures images { P.honest self.new.device → self.new.images ≡ self.old.images }
         ensures others { (p : ℕ) → p ≢ number → image_at self.new.images p ≡ image_at self.old.images p }
         ensures read { OnOk result (P.honest self.new.device
             → image_at self.new.images number ≡ P.seen self.old.device number) }
+        // That the device was asked, or why not.
         ensures answered { OnOk result (HasAnswered P.PageDevice self.old.device self.new.device) }
         ensures refused { IfErr result (λ e. NotReadAgain P.PageDevice self.old.sizes number e self.old.device
             self.new.device) }
+        // What stays, on each answer.
         ensures left { OnErr result (self.new.images ≡ self.old.images) }
         ensures pool { IsPool self.new.sizes self.new.images }
         ensures sizes { self.new.sizes ≡ self.old.sizes }

@@ -10,7 +10,7 @@ use Rattle.rq_disk.specs.declared.device.PageDevice.{Ghosts}
 use Rattle.rq_pool.specs.Reading.{IsSuperblock, IsDamaged, StopsFor}
 use Rattle.rq_store.specs.Opening.{IsLeft}
 use Rattle.rq_restart.specs.Restarting.{IsLeftOn, Stops}
-use Rattle.rq_restart.specs.Refused.{IsShutFor}
+use Rattle.rq_restart.specs.Refused.{MayBeShut}
 
 -- a superblock tells one size
 pub one_size : (y z : Sizes) (image : List ℕ) → IsSuperblock y image → IsSuperblock z image → y ≡ z
@@ -35,7 +35,7 @@ load_shut g z old new older why.DiskRead log block h = inl h
 load_shut g z old new older (why.Damaged (damage.Page page)) log block h = λ on. sound z (g.seen old) older page block on.left (h.0 on.honest)
 load_shut g z old new older _ log block h = absurd h
 
-pub shut_log : (left there : Type 0) → (left → there) → (older : List Record) (e : Refusal) (before now old new : ℕ) → IsShutFor there older e old new → Stops left older e before now old new
+pub shut_log : (left there : Type 0) → (left → there) → (older : List Record) (e : Refusal) (before now old new : ℕ) → MayBeShut there older e old new → Stops left older e before now old new
 shut_log left there f older why.NoMemory before now old new h = tt
 shut_log left there f older why.DiskRead before now old new h = inr h
 shut_log left there f older why.DiskWrite before now old new h = h

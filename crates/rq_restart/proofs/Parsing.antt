@@ -13,7 +13,7 @@ use Rattle.rq_model.specs.declared.refusal.Damage.TheVariants as damage
 use Rattle.rq_page.specs.Sizes.{Sizes}
 use Rattle.rq_restart.specs.Repeating.{Paged}
 use Rattle.rq_restart.specs.Restarting.{IsReadAs}
-use Rattle.rq_restart.specs.Refused.{IsShutFor, TellsDamage, IsFirstFault}
+use Rattle.rq_restart.specs.Refused.{MayBeShut, TellsDamage, IsFirstFault}
 
 -- the spellings, the first record's first
 abbrev in_row : List Record → List ℕ
@@ -99,7 +99,7 @@ not_damaged g older rs old new (why.Damaged (damage.Record lsn)) r k h told = no
 not_damaged g older rs old new (why.Damaged (damage.Page page)) r k h told = absurd h
 not_damaged g older rs old new _ r k h told = absurd told
 
-stopped_shut : {L : Type 0} (g : Ghosts L) (left : Type 0) (older rs : List Record) (old new : L) (e : Refusal) → IsReadAs g old new older → AreSpelled rs → StopsFor g e rs old new → IsShutFor left older e (g.faults old) (g.faults new)
+stopped_shut : {L : Type 0} (g : Ghosts L) (left : Type 0) (older rs : List Record) (old new : L) (e : Refusal) → IsReadAs g old new older → AreSpelled rs → StopsFor g e rs old new → MayBeShut left older e (g.faults old) (g.faults new)
 stopped_shut g left older rs old new why.NoMemory r k h = h
 stopped_shut g left older rs old new why.DiskRead r k h = h
 stopped_shut g left older rs old new (why.Damaged d) r k h = absurd (not_damaged g older rs old new (why.Damaged d) r k h tt)
@@ -107,6 +107,6 @@ stopped_shut g left older rs old new _ r k h = absurd h
 
 -- why the log was not read is why the store stays shut
 pub scan_shut : {L : Type 0} (g : Ghosts L) (left : Type 0) (older rs : List Record) (old new : L) (e told : Refusal) (z : Sizes) (first : Paged) → IsReadAs g old new older → AreSpelled rs → StopsFor g e rs old new → IsFirstFault z rs first e told
-    → IsShutFor left older told (g.faults old) (g.faults new)
-scan_shut g left older rs old new e told z first r k h (inl same) = subst (λ x. IsShutFor left older x (g.faults old) (g.faults new)) (sym same.0) (stopped_shut g left older rs old new e r k h)
+    → MayBeShut left older told (g.faults old) (g.faults new)
+scan_shut g left older rs old new e told z first r k h (inl same) = subst (λ x. MayBeShut left older x (g.faults old) (g.faults new)) (sym same.0) (stopped_shut g left older rs old new e r k h)
 scan_shut g left older rs old new e told z first r k h (inr damaged) = absurd (not_damaged g older rs old new e r k h damaged.0)

@@ -26,7 +26,7 @@ use Rattle.rq_store.proofs.Redoing.{redone_slots}
 use Rattle.rq_store.proofs.Bounds.{fits_counted}
 use Rattle.rq_restart.specs.Analysis.{Analysis, analysis}
 use Rattle.rq_restart.specs.Restarting.{IsBegun, LogStops, IsRefusedFor, WasChecked}
-use Rattle.rq_restart.specs.Refused.{BeginsNot, IsShutFor, StopsAt, ShutFor}
+use Rattle.rq_restart.specs.Refused.{BeginsNot, MayBeShut, StopsAt, WhyShut}
 use Rattle.rq_restart.specs.Checked.{IsEnded, IsGoneThrough, IsBeyond, as_read}
 use Rattle.rq_restart.specs.Repeating.{Paged, paged, Repeats, AreCounted, IsFirstBad, IsFirstUncounted}
 use Rattle.rq_restart.proofs.Noting.{noted_incarnation, noted_unfinished, noted_working, no_pairs, pairs_of, few_incarnations}
@@ -97,7 +97,7 @@ module _ (older : List Record) (xs : List Record) (same : older ≡ reverse xs) 
       opened_sound z images older pool.range left.whole none_unfinished none_lost (redone_slots z older images left.whole.in_store fits)
       (record { superblock = pool.superblock; headers = pool.headers; pages = λ p low high. (fits p low high).fits })
 
-  pub shut_is : (z : Sizes) (image : ℕ → List ℕ) (e : Refusal) (last before now : ℕ) → last ≡ h.incarnation → (untouched : Type 0) → BeginsNot e (length older) last before now untouched → IsShutFor (IsLeft z image older) older e before now
+  pub shut_is : (z : Sizes) (image : ℕ → List ℕ) (e : Refusal) (last before now : ℕ) → last ≡ h.incarnation → (untouched : Type 0) → BeginsNot e (length older) last before now untouched → MayBeShut (IsLeft z image older) older e before now
   shut_is z image why.NoMemory last before now is untouched b = b.0
   shut_is z image why.DiskWrite last before now is untouched b = b
   shut_is z image why.LogFull last before now is untouched b = λ left. elim b.0 [
@@ -108,7 +108,7 @@ module _ (older : List Record) (xs : List Record) (same : older ≡ reverse xs) 
 
   -- why the incarnation was not begun is why the store stays shut
   pub shut_for : (z : Sizes) (e : Refusal) (last before now : ℕ) → last ≡ h.incarnation → (untouched : Type 0) (first now_paged : Paged) → InOrder older → IsEnded older → IsGoneThrough z older first now_paged
-      → BeginsNot e (length older) last before now untouched → ShutFor z older first e before now untouched
+      → BeginsNot e (length older) last before now untouched → WhyShut z older first e before now untouched
   shut_for z why.NoMemory last before now is untouched first paged order ended gone b = b
   shut_for z why.DiskWrite last before now is untouched first paged order ended gone b = (b, ended, (paged, gone))
   shut_for z why.LogFull last before now is untouched first paged order ended gone b = (full, ended, (paged, gone), b.1) where
@@ -125,7 +125,7 @@ repeated_order z [] first last r = tt
 repeated_order z (q ∷ log) first last r = (r.2.belongs.next, repeated_order z log first r.0 r.1)
 
 -- of a device that was left alone, what follows from that
-pub shut_by : {U V : Type 0} (z : Sizes) (log : List Record) (first : Paged) (e : Refusal) (before now : ℕ) → (U → V) → ShutFor z log first e before now U → ShutFor z log first e before now V
+pub shut_by : {U V : Type 0} (z : Sizes) (log : List Record) (first : Paged) (e : Refusal) (before now : ℕ) → (U → V) → WhyShut z log first e before now U → WhyShut z log first e before now V
 shut_by z log first why.NoMemory before now f h = (h.0, f h.1)
 shut_by z log first why.LogFull before now f h = (h.0, h.1, h.2, f h.3)
 shut_by z log first why.DiskWrite before now f h = h
@@ -175,7 +175,7 @@ module _ (z : Sizes) (older xs : List Record) (same : older ≡ reverse xs) (fir
   count = sym (length-reverse xs) ∙ ap length (sym same)
 
   -- why going through it stopped is why the store stays shut
-  pub stops_shut : (e : Refusal) (before now : ℕ) (untouched : Type 0) → now ≡ before → untouched → StopsAt z (reverse xs) first e → ShutFor z older first e before now untouched
+  pub stops_shut : (e : Refusal) (before now : ℕ) (untouched : Type 0) → now ≡ before → untouched → StopsAt z (reverse xs) first e → WhyShut z older first e before now untouched
   stops_shut why.NoMemory before now untouched equal here h = (equal, here)
   stops_shut (why.Damaged (damage.Record lsn)) before now untouched equal here h = (subst (λ l. IsFirstBad z l first lsn) (sym same) h, here)
   stops_shut _ before now untouched equal here h = absurd h

@@ -31,26 +31,26 @@ BeginsNot _ records last before now untouched = ⊥
 
 -- Why a store over this log was not opened, and where; with the failures of the log's device before and after it, and
 -- that it was left alone.
-abbrev pub ShutFor : Sizes → List Record → Paged → Refusal → ℕ → ℕ → Type 0 → Type 0
-ShutFor z log first why.NoMemory before now untouched = (now ≡ before) × untouched
-ShutFor z log first why.LogFull before now untouched = (2 ^ 50 ≤ length log) × IsEnded log × WasGoneThrough z log first
+abbrev pub WhyShut : Sizes → List Record → Paged → Refusal → ℕ → ℕ → Type 0 → Type 0
+WhyShut z log first why.NoMemory before now untouched = (now ≡ before) × untouched
+WhyShut z log first why.LogFull before now untouched = (2 ^ 50 ≤ length log) × IsEnded log × WasGoneThrough z log first
     × untouched
-ShutFor z log first why.DiskWrite before now untouched = (now ≡ (before + 1) % 2 ^ 64) × IsEnded log
+WhyShut z log first why.DiskWrite before now untouched = (now ≡ (before + 1) % 2 ^ 64) × IsEnded log
     × WasGoneThrough z log first
-ShutFor z log first why.Unfinished before now untouched = (IsEnded log → ⊥) × WasGoneThrough z log first × untouched
-ShutFor z log first (why.Damaged (damage.Record lsn)) before now untouched = IsFirstBad z log first lsn × untouched
-ShutFor z log first (why.Damaged (damage.Page page)) before now untouched = IsBeyond z log first page × untouched
-ShutFor z log first _ before now untouched = ⊥
+WhyShut z log first why.Unfinished before now untouched = (IsEnded log → ⊥) × WasGoneThrough z log first × untouched
+WhyShut z log first (why.Damaged (damage.Record lsn)) before now untouched = IsFirstBad z log first lsn × untouched
+WhyShut z log first (why.Damaged (damage.Page page)) before now untouched = IsBeyond z log first page × untouched
+WhyShut z log first _ before now untouched = ⊥
 
 -- why a store over this log was not opened, with the failures of the log's device before and after it
-abbrev pub IsShutFor : Type 0 → List Record → Refusal → ℕ → ℕ → Type 0
-IsShutFor left log why.NoMemory before now = now ≡ before
-IsShutFor left log why.LogFull before now = left → 2 ^ 50 ≤ length log
-IsShutFor left log why.DiskRead before now = now ≡ (before + 1) % 2 ^ 64
-IsShutFor left log why.DiskWrite before now = now ≡ (before + 1) % 2 ^ 64
-IsShutFor left log why.Unfinished before now = left → unfinished log ≡ [] → lost log ≡ [] → ⊥
-IsShutFor left log (why.Damaged d) before now = left → ⊥
-IsShutFor left log _ before now = ⊥
+abbrev pub MayBeShut : Type 0 → List Record → Refusal → ℕ → ℕ → Type 0
+MayBeShut left log why.NoMemory before now = now ≡ before
+MayBeShut left log why.LogFull before now = left → 2 ^ 50 ≤ length log
+MayBeShut left log why.DiskRead before now = now ≡ (before + 1) % 2 ^ 64
+MayBeShut left log why.DiskWrite before now = now ≡ (before + 1) % 2 ^ 64
+MayBeShut left log why.Unfinished before now = left → unfinished log ≡ [] → lost log ≡ [] → ⊥
+MayBeShut left log (why.Damaged d) before now = left → ⊥
+MayBeShut left log _ before now = ⊥
 
 -- it is told as damage
 abbrev pub TellsDamage : Refusal → Type 0

@@ -19,7 +19,7 @@ use Rattle.rq_log.specs.Spelled.{spelled, AreSpelled}
 use Rattle.rq_store.specs.Opening.{IsLeft, next_restart, waiting_in}
 use Rattle.rq_restart.specs.Repeating.{Paged}
 use Rattle.rq_restart.specs.Checked.{IsEnded, IsGoneThrough, as_read}
-use Rattle.rq_restart.specs.Refused.{ShutFor, IsFirstFault}
+use Rattle.rq_restart.specs.Refused.{WhyShut, IsFirstFault}
 
 -- the log has one record more, which begins the incarnation after the last, and all its records are forced
 pub record IsBegun {L : Type 0} (older : List Record) (log : Logged L) : Type 0 where
@@ -102,7 +102,7 @@ module _ {L : Type 0} (g : log_device.Ghosts L) where
       ((front : List Record) × AreSpelled front × (stopped : Refusal) × log_read.StopsFor g stopped front old new
       × IsFirstFault z front first stopped e × IsRead old new)
       ⊎ ((older : List Record) × AreSpelled older × (g.honest new → g.seen old ≡ spelled older)
-      × ShutFor z older first e (g.faults old) (g.faults new) (IsRead old new))
+      × WhyShut z older first e (g.faults old) (g.faults new) (IsRead old new))
 
 module _ {P L : Type 0} (p : page_device.Ghosts P) (l : log_device.Ghosts L) (pages : P) (log : L) where
   -- Why a restart was refused, and where: the pages could not be read, and the log was left alone; or they were all

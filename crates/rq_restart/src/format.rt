@@ -18,13 +18,16 @@ use rq_page::page::Page;
 /// # Errors
 /// `DiskWrite` exactly where the device fails: format again.
 pub fn format<P: PageDevice>(pages: &mut P, layout: &Layout) -> Result<(), Refusal>
+    // What was formatted.
     ensures formatted { OnOk result ((p : ℕ) → p < page_count layout.now
         → IsFormatted layout.now p (P.seen pages.new p)) }
     ensures fits { OnOk result (FitsLog layout.now (P.seen pages.new) []) }
     ensures durable { OnOk result (AllFit (P.may_be pages.new) layout.now []) }
+    // What a crash at any moment leaves, and what is written at all.
     ensures any_moment { SuperblockIsLast P.PageDevice layout.now pages.old pages.new }
     ensures only { WritesItsPages P.PageDevice layout.now pages.old pages.new }
     ensures others { KeepsOthers P.PageDevice layout.now pages.old pages.new }
+    // The device, and failures.
     ensures honest { P.honest pages.new → P.honest pages.old }
     ensures runs { OnOk result (HasRun P.PageDevice pages.old pages.new) }
     ensures cause { OnOk result (P.faults pages.new ≡ P.faults pages.old) }

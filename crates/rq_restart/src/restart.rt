@@ -20,7 +20,7 @@ ghost use Rattle.rq_engine.specs.Crash.{AreFit};
 ghost use Rattle.rq_engine.specs.Opened.{pooled};
 ghost use Rattle.rq_restart.specs.Repeating.{paged};
 ghost use Rattle.rq_restart.specs.Restarting.{IsReadAs, IsLeftOn, IsReady, AreWaiting, IsBegun, Reports, Stops, WasLeftOrIs, BeginsAtMost, LogStops, IsRefusedFor, WasChecked};
-ghost use Rattle.rq_restart.specs.Refused.{BeginsNot, IsShutFor, ShutFor};
+ghost use Rattle.rq_restart.specs.Refused.{BeginsNot, MayBeShut, WhyShut};
 ghost use Rattle.rq_restart.specs.Checked.{IsEnded, IsGoneThrough};
 ghost use Rattle.rq_engine.specs.Devices.{Path, EachPair};
 ghost use Rattle.rq_restart.specs.Underway.{OfStores, IsLeftOrGoesOn, pages_left, log_left};
@@ -133,6 +133,7 @@ fn reopen<P: PageDevice + Drop, L: LogDevice + Drop>(
     pages: P,
     log: L,
 ) -> Result<(Engine<P, L>, Report), Stopped<P, L>>
+    // What is opened, over the log as it was read.
     ensures report { IfOk result (λ o. (older : List Record) → IsReadAs L.LogDevice log o.0.log older
         → Reports older o.1.incarnation o.1.records o.1.unfinished o.1.lost) }
     ensures sizes { IfOk result (λ o. P.honest o.0.pages → IsSuperblock o.0.state.sizes (P.seen pages 0)) }
@@ -142,18 +143,22 @@ fn reopen<P: PageDevice + Drop, L: LogDevice + Drop>(
         → IsLeftOn P.PageDevice o.0.state.sizes pages o.0.pages older → IsSound o.0.state) }
     ensures committed { IfOk result (λ o. (older : List Record) → IsReadAs L.LogDevice log o.0.log older
         → (ledger_of o.0.state).committed ≡ committed_of older) }
+    // What its log's device holds then.
     ensures reads { IfOk result (λ o. L.honest o.0.log → L.seen o.0.log ≡ spelled o.0.state.records) }
     ensures durable { IfOk result (λ o. L.honest o.0.log → Only (spelled o.0.state.records) (L.may_leave o.0.log)) }
+    // What is left of both devices, on each answer.
     ensures pages { IfOk result (λ o. OnlyRead P.PageDevice pages o.0.pages) }
     ensures pages_back { IfErr result (λ stopped. OnlyRead P.PageDevice pages stopped.pages) }
     ensures any_moment { IfOk result (λ o. BeginsAtMost L.LogDevice log o.0.log) }
     ensures any_moment_back { IfErr result (λ stopped. BeginsAtMost L.LogDevice log stopped.log) }
+    // What was checked, or why it was refused.
     ensures checked { IfOk result (λ o. WasChecked P.PageDevice L.LogDevice pages log o.0.state.sizes
         (paged (pooled o.0)) o.0.state.records o.0.pages o.0.log) }
     ensures refused { IfErr result (λ stopped. IsRefusedFor P.PageDevice L.LogDevice pages log stopped.refusal stopped.pages
         stopped.log) }
     ensures fit { IfOk result (λ o. (older : List Record) → IsReadAs L.LogDevice log o.0.log older
         → AllFit (P.may_be pages) o.0.state.sizes older → AreFit P.PageDevice o.0) }
+    // Failures of devices, counted; and what a refusal says of a store that was left so.
     ensures cause { IfOk result (λ o. (P.faults o.0.pages ≡ P.faults pages) × (L.faults o.0.log ≡ L.faults log)) }
     ensures err { IfErr result (λ stopped. (z : Sizes) → IsSuperblock z (P.seen pages 0) → (older : List Record)
         → IsReadAs L.LogDevice log stopped.log older → Stops
@@ -184,6 +189,7 @@ fn open<P: PageDevice + Drop, L: LogDevice + Drop>(
     pages: P,
     log: L,
 ) -> Result<Opened<P, L>, Stopped<P, L>>
+    // What is opened, over the log as it was read.
     ensures begun { IfOk result (λ opened. (older : List Record) → IsReadAs L.LogDevice log opened.log.device older
         → IsBegun older opened.log) }
     ensures report { IfOk result (λ opened. (older : List Record) → IsReadAs L.LogDevice log opened.log.device older
@@ -197,16 +203,20 @@ fn open<P: PageDevice + Drop, L: LogDevice + Drop>(
     ensures sound { IfOk result (λ o. (older : List Record) → IsReadAs L.LogDevice log o.log.device older
         → IsLeftOn P.PageDevice o.pages.sizes pages o.pages.device older
         → IsSound (opened o.pages.sizes o.pages.images older)) }
+    // What an engine may be opened over.
     ensures ready { IfOk result (λ o. IsReady L.LogDevice o.report.incarnation o.log) }
+    // What is left of both devices, on each answer.
     ensures pages { IfOk result (λ o. OnlyRead P.PageDevice pages o.pages.device) }
     ensures pages_back { IfErr result (λ stopped. OnlyRead P.PageDevice pages stopped.pages) }
     ensures any_moment { IfOk result (λ o. BeginsAtMost L.LogDevice log o.log.device) }
     ensures any_moment_back { IfErr result (λ stopped. BeginsAtMost L.LogDevice log stopped.log) }
+    // What was checked, or why it was refused.
     ensures checked { IfOk result (λ o. WasChecked P.PageDevice L.LogDevice pages log o.pages.sizes
         (paged o.pages) o.log.records o.pages.device o.log.device) }
     ensures refused { IfErr result (λ stopped. IsRefusedFor P.PageDevice L.LogDevice pages log stopped.refusal stopped.pages
         stopped.log) }
     ensures room { IfOk result (λ o. o.log.reserved ≡ 0) }
+    // Failures of devices, counted; and what a refusal says of a store that was left so.
     ensures cause { IfOk result (λ o. (P.faults o.pages.device ≡ P.faults pages)
         × (L.faults o.log.device ≡ L.faults log)) }
     ensures err { IfErr result (λ stopped. (z : Sizes) → IsSuperblock z (P.seen pages 0) → (older : List Record)
@@ -233,6 +243,7 @@ fn restart_log<P: PageDevice + Drop, L: LogDevice + Drop>(
     mut pages: Pages<P>,
     log: L,
 ) -> Result<Opened<P, L>, Stopped<P, L>>
+    // What is opened, over the log as it was read.
     ensures begun { IfOk result (λ opened. (older : List Record) → IsReadAs L.LogDevice log opened.log.device older
         → IsBegun older opened.log) }
     ensures report { IfOk result (λ opened. (older : List Record) → IsReadAs L.LogDevice log opened.log.device older
@@ -244,20 +255,24 @@ fn restart_log<P: PageDevice + Drop, L: LogDevice + Drop>(
         (length opened.log.records) opened.waiting) }
     ensures sound { IfOk result (λ o. (older : List Record) → IsReadAs L.LogDevice log o.log.device older
         → IsLeft pages.sizes (image_in pages.images) older → IsSound (opened pages.sizes o.pages.images older)) }
+    // What an engine may be opened over.
     ensures ready { IfOk result (λ o. IsReady L.LogDevice o.report.incarnation o.log) }
+    // What is left of both devices, on each answer.
     ensures pages { IfOk result (λ o. o.pages.device ≡ pages.device) }
     ensures pages_back { IfErr result (λ stopped. stopped.pages ≡ pages.device) }
     ensures any_moment { IfOk result (λ o. BeginsAtMost L.LogDevice log o.log.device) }
     ensures any_moment_back { IfErr result (λ stopped. BeginsAtMost L.LogDevice log stopped.log) }
+    // What was checked, or why it was refused.
     ensures checked { IfOk result (λ o. (older : List Record) × AreSpelled older × (L.honest o.log.device →
         L.seen log ≡ spelled older) × IsGoneThrough pages.sizes older (paged pages) (paged o.pages) ×
         IsEnded older × (o.log.records ≡ next_restart older ∷ older) × (length older < 2 ^ 50)) }
     ensures refused { IfErr result (λ stopped. LogStops L.LogDevice pages.sizes
         (paged pages) stopped.refusal log stopped.log) }
     ensures room { IfOk result (λ o. o.log.reserved ≡ 0) }
+    // Failures of the log's device, counted; and what a refusal says of a store that was left so.
     ensures cause { IfOk result (λ o. L.faults o.log.device ≡ L.faults log) }
     ensures err { IfErr result (λ stopped. (older : List Record) → IsReadAs L.LogDevice log stopped.log older
-        → IsShutFor (IsLeft pages.sizes (image_in pages.images) older) older stopped.refusal (L.faults log)
+        → MayBeShut (IsLeft pages.sizes (image_in pages.images) older) older stopped.refusal (L.faults log)
         (L.faults stopped.log)) }
 {
     let Scan { records, log } = Log::scan(alloc, log);
@@ -301,6 +316,7 @@ fn go_on<P: PageDevice + Drop, L: LogDevice + Drop>(
 ) -> Result<(Waiting, Report), Refusal>
     requires records { log.old.records ≡ reverse records.now }
     requires running { log.old.failed ≡ false }
+    // What the log comes to.
     ensures begun { OnOk result (IsBegun log.old.records log.new) }
     ensures sizes { pages.new.sizes ≡ pages.old.sizes }
     ensures report { IfOk result (λ begun. Reports log.old.records begun.1.incarnation begun.1.records
@@ -310,6 +326,7 @@ fn go_on<P: PageDevice + Drop, L: LogDevice + Drop>(
     ensures waiting { IfOk result (λ begun. AreWaiting pages.new.sizes pages.new.images
         (length log.new.records) begun.0) }
     ensures ready { IfOk result (λ begun. IsReady L.LogDevice begun.1.incarnation log.new) }
+    // What is left of both devices.
     ensures pages { pages.new.device ≡ pages.old.device }
     ensures honest { L.honest log.new.device → L.honest log.old.device }
     ensures any_moment { L.honest log.new.device → AreSpelled log.old.records
@@ -317,13 +334,15 @@ fn go_on<P: PageDevice + Drop, L: LogDevice + Drop>(
         → LeavesOnly L.LogDevice log.old.device log.new.device
         (WasLeftOrIs L.LogDevice log.old.device (IsEnded log.old.records × IsRecord (next_restart log.old.records))
         (next_restart log.old.records ∷ log.old.records)) }
+    // What was checked, or why it was refused.
     ensures checked { OnOk result (IsGoneThrough pages.old.sizes log.old.records (paged pages.old) (paged pages.new) ×
         IsEnded log.old.records) }
-    ensures shut { IfErr result (λ e. ShutFor pages.old.sizes log.old.records (paged pages.old) e
+    ensures shut { IfErr result (λ e. WhyShut pages.old.sizes log.old.records (paged pages.old) e
         (L.faults log.old.device) (L.faults log.new.device) (log.new.device ≡ log.old.device)) }
+    // Room, failures, and what a refusal says of a store that was left so.
     ensures room { OnOk result (log.new.reserved ≡ log.old.reserved) }
     ensures cause { OnOk result (L.faults log.new.device ≡ L.faults log.old.device) }
-    ensures err { IfErr result (λ e. IsShutFor (IsLeft pages.old.sizes
+    ensures err { IfErr result (λ e. MayBeShut (IsLeft pages.old.sizes
         (image_in pages.old.images) log.old.records) log.old.records e (L.faults log.old.device)
         (L.faults log.new.device)) }
 {

@@ -6,7 +6,7 @@ use Rattle.rq_pool.specs.Pooled.{IsPool}
 use Rattle.rq_store.specs.Opening.{IsCounted}
 use Rattle.rq_store.specs.Fitting.{image_in}
 use Rattle.rq_restart.specs.Restarting.{AreWaiting}
-use Rattle.rq_restart.specs.Refused.{ShutFor}
+use Rattle.rq_restart.specs.Refused.{WhyShut}
 use Rattle.rq_restart.specs.Repeating.{paged}
 use Rattle.rq_restart.proofs.Moments.{begun_moment}
 use Rattle.rq_restart.proofs.Restarts.{one_more, last_is, begun_is, ended_is, ended_not, shut_for, repeated_order, stops_shut, beyond_read, beyond_then, gone_is, settled_left, sound_is, shut_is, counted_left, counted_redone}
@@ -86,7 +86,7 @@ returns-in_err-history-clause-shut g c =
     let l = g.L.LogDevice in
     let e = c.in_err-history.field-0.0 in
     let d = c.args.log.now.device in
-    let h : ShutFor c.args.pages.now.sizes c.args.log.now.records (paged c.args.pages.now) e (l.faults d) (l.faults d) (d ≡ d) =
+    let h : WhyShut c.args.pages.now.sizes c.args.log.now.records (paged c.args.pages.now) e (l.faults d) (l.faults d) (d ≡ d) =
     stops_shut c.args.pages.now.sizes c.args.log.now.records c.args.records.now c.requires.records (paged c.args.pages.now) e (l.faults d) (l.faults d) (d ≡ d) refl refl c.in_err-history.ensures.stops in
     search (rules, h)
 

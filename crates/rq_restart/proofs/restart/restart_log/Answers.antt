@@ -3,7 +3,7 @@ use Rattle.rq_store.specs.Sound.{IsSound}
 use Rattle.rq_store.specs.Opening.{opened, IsLeft}
 use Rattle.rq_store.specs.Fitting.{image_in}
 use Rattle.rq_restart.specs.Restarting.{IsBegun, Reports, BeginsAtMost, IsRead}
-use Rattle.rq_restart.specs.Refused.{IsShutFor, ShutFor}
+use Rattle.rq_restart.specs.Refused.{MayBeShut, WhyShut}
 use Rattle.rq_restart.specs.Repeating.{paged}
 use Rattle.rq_log.specs.Spelled.{AreSpelled}
 use Rattle.rq_restart.proofs.Restarts.{shut_by}
@@ -43,9 +43,9 @@ returns-in-Ok-clause-err g c =
     let image = image_in c.args.pages.images in
     let z = c.args.pages.sizes in
     let last = c.give_back-in-Err-go_on.result in
-    subst (λ l. IsShutFor (IsLeft z image l) l c.in-Err-go_on.refusal (faults c.args.log) (faults last)) same
-    (subst (λ n. IsShutFor (IsLeft z image c.in-Ok.log.records) c.in-Ok.log.records c.in-Err-go_on.refusal n (faults last)) cause
-    (subst (λ d. IsShutFor (IsLeft z image c.in-Ok.log.records) c.in-Ok.log.records c.in-Err-go_on.refusal (faults c.in-Ok.log.device) (faults d)) (sym c.give_back-in-Err-go_on.ensures) c.in-Err-go_on.ensures.err))
+    subst (λ l. MayBeShut (IsLeft z image l) l c.in-Err-go_on.refusal (faults c.args.log) (faults last)) same
+    (subst (λ n. MayBeShut (IsLeft z image c.in-Ok.log.records) c.in-Ok.log.records c.in-Err-go_on.refusal n (faults last)) cause
+    (subst (λ d. MayBeShut (IsLeft z image c.in-Ok.log.records) c.in-Ok.log.records c.in-Err-go_on.refusal (faults c.in-Ok.log.device) (faults d)) (sym c.give_back-in-Err-go_on.ensures) c.in-Err-go_on.ensures.err))
 
 pub returns-clause-err : goal.returns-clause-err
 returns-clause-err g c =
@@ -91,8 +91,8 @@ returns-in-Ok-clause-refused g c =
       c.in-Ok.log.records,
       subst AreSpelled (sym read.0) told.spelled,
       (λ h. read.1 (c.go_on.ensures.honest (subst l.honest back h))),
-      subst (λ d. ShutFor c.args.pages.sizes c.in-Ok.log.records (paged c.args.pages) c.in-Err-go_on.refusal (l.faults c.args.log) (l.faults d) (IsRead l c.args.log d)) (sym back)
-          (subst (λ n. ShutFor c.args.pages.sizes c.in-Ok.log.records (paged c.args.pages) c.in-Err-go_on.refusal n (l.faults last) (IsRead l c.args.log last)) (rw c.in-Ok.is at told.cause)
+      subst (λ d. WhyShut c.args.pages.sizes c.in-Ok.log.records (paged c.args.pages) c.in-Err-go_on.refusal (l.faults c.args.log) (l.faults d) (IsRead l c.args.log d)) (sym back)
+          (subst (λ n. WhyShut c.args.pages.sizes c.in-Ok.log.records (paged c.args.pages) c.in-Err-go_on.refusal n (l.faults last) (IsRead l c.args.log last)) (rw c.in-Ok.is at told.cause)
           (shut_by c.args.pages.sizes c.in-Ok.log.records (paged c.args.pages) c.in-Err-go_on.refusal (l.faults mid) (l.faults last) (λ same. subst (IsRead l c.args.log) (sym same) only) c.in-Err-go_on.ensures.shut)),
     )
 
