@@ -32,6 +32,7 @@ NoneInRun f run = (i : ℕ) → i / 15 / 256 ≡ run → is_open f i ≡ false
 -- The index: a page or a run that is not set has no cell to take. One that is set may have none either.
 pub record IsIndexed (f : Flags) (pages runs : List Bool) : Type 0 where
   pub cells : length f.free ≡ 983040
+  pub reserved : length f.reserved ≡ 983040
   pub page_count : length pages ≡ 65536
   pub run_count : length runs ≡ 256
   pub paged : (i : ℕ) → is_open f i ≡ true → flag_at pages (i / 15) ≡ true

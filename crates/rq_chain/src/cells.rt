@@ -1,5 +1,5 @@
 //! Free cells, found without going through all of them.
-ghost use Rattle.std.specs.Prelude.{◌≡◌, ◌<◌, ◌≤◌, ◌+◌, ◌*◌, ◌/◌, ℕ, Bool, IfOk, IfSome, IfNone, None, Some, replicate, true, false};
+ghost use Rattle.std.specs.Prelude.{◌≡◌, ◌<◌, ◌≤◌, ◌+◌, ◌*◌, ◌/◌, ℕ, Bool, IfOk, IfSome, IfNone, None, Some, length, replicate, true, false};
 ghost use Rattle.std.specs.Bool.{OnFalse, OnTrue};
 ghost use Rattle.rq_page.specs.Sizes.{cell_at, cell_count};
 ghost use Rattle.rq_level.specs.Given.{has_page};
@@ -51,6 +51,13 @@ impl FreeCells {
             pages: unset(alloc, CELLS_LIMIT as usize)?,
             runs: unset(alloc, RUNS as usize)?,
         })
+    }
+
+    /// There is room for the flags of the greatest store.
+    pub fn shows_room(&self)
+        ensures { (length self.now.free ≡ 983040) × (length self.now.reserved ≡ 983040) }
+    {
+        let _cells = self.free.len();
     }
 
     /// Whether the cell is free.

@@ -1,5 +1,5 @@
 //! The chains of all senders as a level of recovery.
-ghost use Rattle.std.specs.Prelude.{◌≡◌, ◌<◌, ◌≤◌, ◌^◌, ℕ, IfOk, IfErr, IfSome, IfNone, OnErr, OnOk, None, Some, true, false, cond};
+ghost use Rattle.std.specs.Prelude.{◌≡◌, ◌<◌, ◌≤◌, ◌^◌, ℕ, IfOk, IfErr, IfSome, IfNone, OnErr, OnOk, None, Some, length, true, false, cond};
 ghost use Rattle.std.specs.Bool.{OnTrue, OnFalse};
 ghost use Rattle.rq_page.specs.Sizes.{Sizes, IsCellAddress, cell_at, cell_count, place_of};
 ghost use Rattle.rq_level.specs.Kept.{Kept, flag_at, may_take, IsLowest, NoneToTake, NoneFree, SomeFree, reserved_at, in_range, told_sizes, is_cell_address, is_free_slot, noted_cell, noted_in, noted};
@@ -85,11 +85,14 @@ impl ChainLevel {
     /// # Errors
     /// `NoMemory`.
     pub fn new(alloc: Global) -> Result<ChainLevel, NoMemory>
-        ensures { IfOk result (λ c. c.sizes ≡ None) }
+        ensures sizes { IfOk result (λ c. c.sizes ≡ None) }
+        ensures room { IfOk result (λ c. (length c.free ≡ 983040) × (length c.reserved ≡ 983040)) }
     {
+        let cells = FreeCells::new(alloc)?;
+        cells.shows_room();
         Ok(ChainLevel {
             layout: None,
-            cells: FreeCells::new(alloc)?,
+            cells,
         })
     }
 
@@ -358,6 +361,9 @@ impl Level for ChainLevel {
         given: &Slots,
         latched: &PageSet,
     ) -> Result<Plan, Refusal> {
+        if op.is_undo() {
+            return Err(Refusal::Damaged(Damage::Page(0)));
+        }
         let Some(layout) = self.layout else {
             return Err(Refusal::Damaged(Damage::Page(0)));
         };

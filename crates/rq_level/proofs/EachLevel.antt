@@ -10,14 +10,14 @@ use Rattle.rq_page.specs.Directories.{directory_in}
 use Rattle.rq_page.specs.Sizes.{Sizes, directory_at, place_of}
 use Rattle.rq_level.specs.Kept.{Kept, noted, noted_in, noted_cell, told_sizes, is_cell_address, is_free_slot}
 use Rattle.rq_level.specs.Ops.{Doing, Overwrite, doing_in, overwrite_in}
-use Rattle.rq_level.specs.PagePlans.{write_wants, PlansWrite, CannotOverwrite, TakesBack, is_slot_number, page_undoes}
+use Rattle.rq_level.specs.PagePlans.{write_wants, PlansWrite, WritesFor, CannotOverwrite, TakesBack, is_slot_number, page_undoes}
 use Rattle.rq_model.specs.declared.record.Record.{Record}
 use Rattle.rq_model.specs.declared.record.Record.TheVariants as records
 use Rattle.rq_model.specs.declared.refusal.Refusal.{Refusal}
 use Rattle.rq_model.specs.declared.refusal.Refusal.TheVariants as why
 use Rattle.rq_level.specs.Ops.Doing.{Send, Receive, Close}
 use Rattle.rq_level.specs.Given.{given_at}
-use Rattle.rq_level.specs.ChainPlans.{unless_given, link_wanted, behind, behind_head, head_wanted, send_wants, receive_wants, wanted, before, before_tail, tail_wanted, unlink_tail_wants, put_back_wants, undo_wanted, Plans, Undoes, RefusesUnread, RefusesTaking, RefusesOther, CanSend, CanReceive, CanMark, CanUnlinkTail, CanPutBack, chain_undoes}
+use Rattle.rq_level.specs.ChainPlans.{unless_given, link_wanted, behind, behind_head, head_wanted, send_wants, receive_wants, wanted, before, before_tail, tail_wanted, unlink_tail_wants, put_back_wants, undo_wanted, Plans, PlansFor, Undoes, RefusesUnread, RefusesTaking, RefusesOther, CanSend, CanReceive, CanMark, CanUnlinkTail, CanPutBack, chain_undoes}
 use Rattle.rq_model.specs.Deeds.{deed_in}
 use Rattle.rq_model.specs.declared.record.Deed.{Deed}
 use Rattle.rq_model.specs.declared.record.Deed.TheVariants.{Append, UnlinkHead, Close as Close_deed}
@@ -112,12 +112,15 @@ twice k a x y = elim (cases_Bool (nat_eq a 1)) [
   | inr n ↦ rw n (in_twice k.sizes k a x y refl)
 ]
 
-in_room : (z : Option Sizes) (k : Kept) (a : ℕ) (x : List ℕ) → length (noted_in z k a x).free ≡ length k.free
-in_room None k a x = refl
-in_room (Some z) k a x = elim (cases_Bool (is_cell_address z a)) [ inl b ↦ rw b (length-set k.free (place_of z a) (is_free_slot x)) | inr n ↦ rw n refl ]
+abbrev KeepsRoom : Kept → Kept → Type 0
+KeepsRoom now k = (length now.free ≡ length k.free) × (length now.reserved ≡ length k.reserved)
 
-keeps_room : (k : Kept) (a : ℕ) (x : List ℕ) → length (noted k a x).free ≡ length k.free
-keeps_room k a x = elim (cases_Bool (nat_eq a 1)) [ inl b ↦ rw b refl | inr n ↦ rw n (in_room k.sizes k a x) ]
+in_room : (z : Option Sizes) (k : Kept) (a : ℕ) (x : List ℕ) → KeepsRoom (noted_in z k a x) k
+in_room None k a x = (refl, refl)
+in_room (Some z) k a x = elim (cases_Bool (is_cell_address z a)) [ inl b ↦ rw b (length-set k.free (place_of z a) (is_free_slot x), length-set k.reserved (place_of z a) false) | inr n ↦ rw n (refl, refl) ]
+
+keeps_room : (k : Kept) (a : ℕ) (x : List ℕ) → KeepsRoom (noted k a x) k
+keeps_room k a x = elim (cases_Bool (nat_eq a 1)) [ inl b ↦ rw b (refl, refl) | inr n ↦ rw n (in_room k.sizes k a x) ]
 
 -- refusals
 may_damage : (k : Kept) (r : Refusal) (after : Kept) → RefusesUnread k (Err r) after → MayHaveNoPlan r × (after ≡ k)
@@ -181,11 +184,20 @@ refuses_page : (k : Kept) (told : Record) (given : List Given) (latched : List �
 refuses_page k (records.PageOp t n page slot x y) given latched r after h = refuses_taking k (is_slot_number slot) (page * 16 + slot) x y r after h
 refuses_page k _ given latched r after h = may_damage k r after h
 
+plans_for : (undo : Bool) (z : Option Sizes) (d : Option Doing) (k : Kept) (given : List Given) (latched : List ℕ) (r : Refusal) (after : Kept)
+    → PlansFor undo z d k given latched (Err r) after → MayHaveNoPlan r × (after ≡ k)
+plans_for true z d k given latched r after h = may_damage k r after h
+plans_for false z d k given latched r after h = refuses_one z d k given latched r after h
+
+writes_for : (undo : Bool) (k : Kept) (w : Option Overwrite) (given : List Given) (r : Refusal) (after : Kept) → WritesFor undo k w given (Err r) after → MayHaveNoPlan r × (after ≡ k)
+writes_for true k w given r after h = may_damage k r after h
+writes_for false k w given r after h = refuses_write k w given r after h
+
 pub all_lawful : AllLawful
 unfolding meaning_of
-all_lawful zero = record { refuses = λ k job given latched r after h. refuses_write k (overwrite_in job.bytes) given r after h; refuses_undo = refuses_page; asks = λ job given. asks_page given job.undo (overwrite_in job.bytes); last = λ k a x y. refl; room = λ k a x. refl }
-all_lawful (suc zero) = record { refuses = λ k job given latched r after h. refuses_one k.sizes (doing_in job.bytes) k given latched r after h; refuses_undo = refuses_record; asks = λ job given. asks_job given job.undo job.bytes; last = twice; room = keeps_room }
-all_lawful (suc (suc n)) = record { refuses = λ k job given latched r after h. may_damage k r after h; refuses_undo = λ k told given latched r after h. may_damage k r after h; asks = λ job given. tt; last = λ k a x y. refl; room = λ k a x. refl }
+all_lawful zero = record { refuses = λ k job given latched r after h. writes_for job.undo k (overwrite_in job.bytes) given r after h; refuses_undo = refuses_page; asks = λ job given. asks_page given job.undo (overwrite_in job.bytes); last = λ k a x y. refl; room = λ k a x. (refl, refl) }
+all_lawful (suc zero) = record { refuses = λ k job given latched r after h. plans_for job.undo k.sizes (doing_in job.bytes) k given latched r after h; refuses_undo = refuses_record; asks = λ job given. asks_job given job.undo job.bytes; last = twice; room = keeps_room }
+all_lawful (suc (suc n)) = record { refuses = λ k job given latched r after h. may_damage k r after h; refuses_undo = λ k told given latched r after h. may_damage k r after h; asks = λ job given. tt; last = λ k a x y. refl; room = λ k a x. (refl, refl) }
 
 -- applying a record again
 not_less : (n m : ℕ) → n ≡ m → nat_lt n m ≡ false

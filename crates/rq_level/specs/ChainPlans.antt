@@ -185,8 +185,15 @@ Plans (Some z) (Some (Close s)) k given latched (Ok p) after = IsClosed z k give
 Plans (Some z) (Some (Close s)) k given latched (Err r) after = RefusesOther (CanMark z given s true) r × (after ≡ k)
 Plans _ _ k given latched answer after = RefusesUnread k answer after
 
+-- what is to be taken back is not planned as something to do
+abbrev pub PlansFor : (undo : Bool) → Option Sizes → Option Doing → Kept → List Given → List ℕ → Result Plan Refusal → Kept
+    → Type 0
+PlansFor true z doing k given latched answer after = RefusesUnread k answer after
+PlansFor false z doing k given latched answer after = Plans z doing k given latched answer after
+
 abbrev pub chain_plans : Kept → Job → List Given → List ℕ → Result Plan Refusal → Kept → Type 0
-chain_plans k job given latched r after = Plans k.sizes (doing_in job.bytes) k given latched r after
+chain_plans k job given latched answer after =
+    PlansFor job.undo k.sizes (doing_in job.bytes) k given latched answer after
 
 -- the same of the inverse of what a deed tells
 abbrev pub Undoes : Option Sizes → Option Deed → Kept → List Given → List ℕ → Result Plan Refusal → Kept → Type 0

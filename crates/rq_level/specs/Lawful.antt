@@ -32,7 +32,8 @@ pub record IsLawful (m : Meaning) : Type 0 where
   -- a slot that is noted again counts as it was noted last
   pub last : (k : Kept) (a : ℕ) (x y : List ℕ) → m.note (m.note k a x) a y ≡ m.note k a y
   -- noting keeps how many flags there are
-  pub room : (k : Kept) (a : ℕ) (x : List ℕ) → length (m.note k a x).free ≡ length k.free
+  pub room : (k : Kept) (a : ℕ) (x : List ℕ)
+      → (length (m.note k a x).free ≡ length k.free) × (length (m.note k a x).reserved ≡ length k.reserved)
 
 -- a record that is applied again to its page changes nothing
 abbrev pub AppliedTwiceIsOnce : Type 0

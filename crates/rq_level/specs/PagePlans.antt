@@ -41,9 +41,14 @@ PlansWrite k None given answer after = RefusesUnread k answer after
 PlansWrite k (Some w) given (Ok p) after = IsOverwritten given w p × (after ≡ k)
 PlansWrite k (Some w) given (Err r) after = CannotOverwrite given w r × (after ≡ k)
 
+-- what is to be taken back is not planned as something to do
+abbrev pub WritesFor : (undo : Bool) → Kept → Option Overwrite → List Given → Result Plan Refusal → Kept → Type 0
+WritesFor true k w given answer after = RefusesUnread k answer after
+WritesFor false k w given answer after = PlansWrite k w given answer after
+
 -- What the level answers to what it reads. It keeps nothing.
 abbrev pub page_plans : Kept → Job → List Given → List ℕ → Result Plan Refusal → Kept → Type 0
-page_plans k job given latched answer after = PlansWrite k (overwrite_in job.bytes) given answer after
+page_plans k job given latched answer after = WritesFor job.undo k (overwrite_in job.bytes) given answer after
 
 -- a slot of a page is one of 1 to 15
 abbrev pub is_slot_number : ℕ → Bool

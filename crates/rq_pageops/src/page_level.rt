@@ -55,6 +55,9 @@ impl Level for PageLevel {
         given: &Slots,
         _latched: &PageSet,
     ) -> Result<Plan, Refusal> {
+        if op.is_undo() {
+            return Err(Refusal::Damaged(Damage::Page(0)));
+        }
         plan_overwrite(alloc, op.bytes(), given)
     }
 
