@@ -1,0 +1,12 @@
+pub mod StandingRows
+pub mod Latched
+pub mod Room
+pub mod UndoPlans
+pub mod Going
+pub mod Beside
+pub mod Counted
+pub mod Rooms
+pub mod Alone
+pub mod Standings
+pub mod Own
+pub mod Lengths

@@ -1,0 +1,4 @@
+pub mod Rows
+pub mod Standing
+pub mod Counted
+pub mod Sound

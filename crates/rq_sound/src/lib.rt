@@ -1,0 +1,5 @@
+//! What is so of a store with any number of operations under way, of sends, receives and closes and of their inverses,
+//! apart from any code; and that each call keeps it.
+//!
+//! The definitions stand in specs/, the theorems are the contracts of the functions here.
+#![tactic(auto)]
