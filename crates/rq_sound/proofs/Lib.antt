@@ -10,3 +10,11 @@ pub mod Alone
 pub mod Standings
 pub mod Own
 pub mod Lengths
+pub mod Steps
+pub mod Aborting
+pub mod Undoing
+pub mod Commits
+pub mod Ending
+pub mod Starts
+pub mod Begins
+pub mod Sounds

@@ -2,3 +2,4 @@ pub mod Rows
 pub mod Standing
 pub mod Counted
 pub mod Sound
+pub mod Starts
