@@ -18,3 +18,6 @@ pub mod Ending
 pub mod Starts
 pub mod Begins
 pub mod Sounds
+pub mod Exactly
+pub mod Aborted
+pub mod UndoStarts
