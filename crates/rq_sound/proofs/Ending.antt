@@ -67,12 +67,12 @@ module _ (z : Sizes) (log : List Record) (ends : HeldEnds) (rows : List Row) (i 
   }
 
 -- who holds an end for a deed holds it once it is done
-holds_sends : (ends : HeldEnds) (t : Txn) (d : Deed) (s : ℕ) → HoldsFor ends t d → uses_send s (said d) ≡ true → has_held t s ends.sending ≡ true
+pub holds_sends : (ends : HeldEnds) (t : Txn) (d : Deed) (s : ℕ) → HoldsFor ends t d → uses_send s (said d) ≡ true → has_held t s ends.sending ≡ true
 holds_sends ends t (Append q n tag previous body) s h y = subst (λ p. has_held t p ends.sending ≡ true) (eqb-true q s y) h
 holds_sends ends t (UnlinkHead q n tag body) s h y = absurd (false≢true y)
 holds_sends ends t (Close q) s h y = subst (λ p. has_held t p ends.sending ≡ true) (eqb-true q s y) h
 
-holds_takes : (ends : HeldEnds) (t : Txn) (d : Deed) (s : ℕ) → HoldsFor ends t d → uses_receive s (said d) ≡ true → has_held t s ends.receiving ≡ true
+pub holds_takes : (ends : HeldEnds) (t : Txn) (d : Deed) (s : ℕ) → HoldsFor ends t d → uses_receive s (said d) ≡ true → has_held t s ends.receiving ≡ true
 holds_takes ends t (Append q n tag previous body) s h y = absurd (false≢true y)
 holds_takes ends t (UnlinkHead q n tag body) s h y = subst (λ p. has_held t p ends.receiving ≡ true) (eqb-true q s y) h
 holds_takes ends t (Close q) s h y = absurd (false≢true y)

@@ -98,7 +98,7 @@ under_sends : (o : Option Under) → cond (is_sending (job_under o)) 1 0 ≡ app
 under_sends None = refl
 under_sends (Some u) = aim_sends u.aim
 
-pending_is : (ends : HeldEnds) (rows : List Row) → sum_by pending (open_ones_of ends rows) ≡ sum_by appends_all rows + sum_by appending_in rows
+pub pending_is : (ends : HeldEnds) (rows : List Row) → sum_by pending (open_ones_of ends rows) ≡ sum_by appends_all rows + sum_by appending_in rows
 pending_is ends [] = refl
 pending_is ends (r ∷ rows) =
     let a = sum_by-cons pending (open_of ends r) (open_ones_of ends rows) in

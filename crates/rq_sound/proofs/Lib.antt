@@ -21,3 +21,6 @@ pub mod Sounds
 pub mod Exactly
 pub mod Aborted
 pub mod UndoStarts
+pub mod Written
+pub mod Claimed
+pub mod Instance

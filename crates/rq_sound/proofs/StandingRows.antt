@@ -185,7 +185,7 @@ one_of_sum f (q ∷ rows) r i =
       | inr j ↦ let b = one_of_sum f rows r j in omega (arith, a, b)
     ]
 
-none_of_sum : (f : Row → ℕ) (rows : List Row) → ((q : Row) → In q rows → f q ≡ 0) → sum_by f rows ≡ 0
+pub none_of_sum : (f : Row → ℕ) (rows : List Row) → ((q : Row) → In q rows → f q ≡ 0) → sum_by f rows ≡ 0
 none_of_sum f [] h = refl
 none_of_sum f (q ∷ rows) h =
     let a = sum_by-cons f q rows in

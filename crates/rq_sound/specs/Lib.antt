@@ -3,3 +3,4 @@ pub mod Standing
 pub mod Counted
 pub mod Sound
 pub mod Starts
+pub mod OneUnder
