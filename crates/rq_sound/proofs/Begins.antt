@@ -122,12 +122,10 @@ module _ (z : Sizes) (log : List Record) (ends : HeldEnds) (rows : List Row) (i 
       let f = sum_by-cons (before_in z) (fresh_row t) rows in
       let h = sum_by-cons (after_in z) (fresh_row t) rows in
       let k1 = c.committed in
-      let k2 = c.claims in
       let k3 = c.used in
       let k4 = c.room in
       record {
         committed = omega (arith, a, d, k1);
-        claims = omega (arith, d, k2);
         used = omega (arith, d, e, k3);
         room = omega (arith, f, h, k4);
         bound = c.bound;

@@ -1,17 +1,15 @@
 -- What a record of one transaction leaves of what the log says of another.
-use Rattle.std.proofs.Common.{◌≡◌, ℕ, ◌+◌, ◌≤◌, ◌<◌, ◌==◌, ◌&&◌, ◌||◌, List, [], ◌∷◌, refl, sym, ◌∙◌, ap, subst, true, false, not, nat_lt, Option, Some, inl, inr, arith}
-use Rattle.std.proofs.lemmas.Bool.{cases_Bool, cases_lt, eqb-true, cond-false, or_from, true≢false, lt-ltb, ltb-true}
+use Rattle.std.proofs.Common.{◌≡◌, ℕ, ◌+◌, ◌≤◌, ◌&&◌, ◌||◌, List, ◌∷◌, refl, sym, ◌∙◌, ap, subst, true, false, not, Option, Some, arith}
+use Rattle.std.proofs.lemmas.Bool.{cond-false}
 use Rattle.rq_model.specs.declared.txn.Txn.{Txn}
 use Rattle.rq_model.specs.declared.record.Deed.{Deed}
 use Rattle.rq_model.specs.declared.record.Record.{Record}
-use Rattle.rq_model.specs.declared.record.Record.TheVariants.{PageOp, PageUndo, OpEnd, OpVoid, CompEnd, Commit, Restart, AbortEnd}
+use Rattle.rq_model.specs.declared.record.Record.TheVariants.{Commit, AbortEnd}
 use Rattle.rq_model.specs.Words.{same_txn}
 use Rattle.rq_model.specs.Deeds.{deed_in, spelled_deed}
 use Rattle.rq_model.specs.Content.{has_end, deeds, kept, ending_by}
 use Rattle.rq_model.specs.Rules.{any_use, uses_send, uses_receive}
-use Rattle.rq_model.proofs.Lists.{same_self}
 use Rattle.rq_page.specs.Sizes.{Sizes}
-use Rattle.rq_views.specs.Log.{same_op}
 use Rattle.rq_views.specs.Items.{items, operation, has_undone}
 use Rattle.rq_views.specs.Legal.{open_deeds, began, over, under_way}
 use Rattle.rq_level.specs.declared.writes.SlotWrite.{SlotWrite}

@@ -1,5 +1,5 @@
 -- The cells that the log claims are those that whole operations use and those of the messages that its transactions took.
-use Rattle.std.proofs.Common.{◌≡◌, ℕ, ◌+◌, List, [], ◌∷◌, ◌++◌, map, reverse, None, inl, inr, refl, sym, ◌∙◌, ap, false, arith}
+use Rattle.std.proofs.Common.{◌≡◌, ℕ, ◌+◌, List, [], ◌∷◌, map, None, inl, inr, refl, sym, ◌∙◌, ap, false, arith}
 use Rattle.std.specs.List.{filter, sum_by}
 use Rattle.std.proofs.lemmas.Bool.{false≢true, false_from_ne_true}
 use Rattle.std.proofs.lemmas.List.Sums.{sum_by-cons}
@@ -10,16 +10,13 @@ use Rattle.rq_model.proofs.Lists.{same_is, same_self}
 use Rattle.rq_page.specs.Sizes.{Sizes}
 use Rattle.rq_views.specs.Claims.{takes_placed, claimed}
 use Rattle.rq_views.specs.Items.{items}
-use Rattle.rq_views.specs.Legal.{Placed, open_deeds}
 use Rattle.rq_views.specs.Stored.{count_used}
 use Rattle.rq_views.proofs.AllOpen.{Owned, owned_by, but_all, all_open, own_open, none_open, in_but_all, other_but_all, taken, taken_placed, taken_parts}
 use Rattle.rq_views.proofs.Claims.{claimed_is}
 use Rattle.rq_views.proofs.Counting.{count_messages, quiet_counts}
-use Rattle.rq_txn.specs.declared.Finished.{Finished}
 use Rattle.rq_groups.specs.Ends.{HeldEnds}
 use Rattle.rq_store.specs.Fitting.{left_by}
-use Rattle.rq_store.specs.Rows.{placed, placed_one}
-use Rattle.rq_store.specs.Sound.{takes_one}
+use Rattle.rq_store.specs.Rows.{placed_one}
 use Rattle.rq_store.specs.Whole.{IsWhole}
 use Rattle.rq_store.proofs.Rooms.{takes_finished}
 use Rattle.rq_sound.specs.Rows.{Row, found_row, AreDistinct}

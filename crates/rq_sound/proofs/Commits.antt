@@ -1,5 +1,5 @@
 -- A commit of a transaction with nothing under way.
-use Rattle.std.proofs.Common.{◌≡◌, ℕ, ◌+◌, ◌-◌, ◌<◌, ◌≤◌, ◌||◌, ◌++◌, List, [], ◌∷◌, length, map, refl, sym, ◌∙◌, ap, subst, false, cond, nat_eq, Option, Some, None, inl, inr, arith}
+use Rattle.std.proofs.Common.{◌≡◌, ℕ, ◌+◌, ◌<◌, ◌≤◌, ◌||◌, ◌++◌, List, [], ◌∷◌, length, map, refl, sym, ◌∙◌, ap, subst, false, cond, nat_eq, Option, Some, None, inl, inr, arith}
 use Rattle.std.specs.List.{sum_by, filter, filter_map}
 use Rattle.std.proofs.lemmas.Bool.{cases_Bool, cond-true, true≢false, false≢true, or_from, or_left, or_cases, cases_lt, eqb-true, false_from_ne_true}
 use Rattle.std.proofs.lemmas.List.Sums.{sum_by-cons}
@@ -34,7 +34,7 @@ use Rattle.rq_store.specs.State.{op_done}
 use Rattle.rq_model.specs.Incarnations.{incarnation_of}
 use Rattle.rq_store.specs.Rows.{placed, placed_one, HasWaiting}
 use Rattle.rq_store.specs.Sound.{takes_one, IsSettled}
-use Rattle.rq_views.specs.Claims.{appends_of, claimed, takes_placed}
+use Rattle.rq_views.specs.Claims.{appends_of, takes_placed}
 use Rattle.rq_store.specs.Whole.{IsWhole}
 use Rattle.rq_sound.specs.Rows.{Aim, Under, Row, deed_of, found_row, without_row, is_under}
 use Rattle.rq_sound.specs.Standing.{IsAsPlanned, IsRow, AreStanding}
@@ -43,7 +43,7 @@ use Rattle.rq_sound.specs.Rows.Aim.{Doing, Undoing}
 use Rattle.rq_store.proofs.Releases.{without_ends}
 use Rattle.rq_store.proofs.Holders.{placed_first}
 use Rattle.rq_store.proofs.Telling.{told_placed, count_takes}
-use Rattle.rq_sound.proofs.StandingRows.{rows_without, gone, one_of_sum}
+use Rattle.rq_sound.proofs.StandingRows.{rows_without, gone}
 use Rattle.rq_sound.proofs.Going.{other_gone}
 use Rattle.rq_sound.proofs.Beside.{says_commit}
 use Rattle.rq_sound.proofs.Alone.{takes_below}
@@ -189,16 +189,12 @@ module _ (z : Sizes) (log : List Record) (ends : HeldEnds) (rows : List Row) (i 
       let f1 : before_in z r ≡ 0 = ap (λ (o : Option Under). sum_by uses_before (made_of z o)) idle in
       let h1 : after_in z r ≡ 0 = ap (λ (o : Option Under). sum_by uses_after (made_of z o)) idle in
       let m = moved in
-      let p : claimed (items z (x ∷ log)) ≡ claimed (items z log) - takes_all r = ap (λ ps. claimed (items z log) - sum_by takes_placed ps) own.done ∙ ap (λ n. claimed (items z log) - n) (count_placed r.finished) in
-      let one = one_of_sum appends_all rows r here in
       let k1 = c.committed in
-      let k2 = c.claims in
       let k3 = c.used in
       let k4 = c.room in
       let k5 = c.bound in
       record {
         committed = omega (arith, a, d, d1, m, k1, freed);
-        claims = omega (arith, d, d1, m, p, one, k1, k2, freed);
         used = omega (arith, d, d1, e, k3, freed);
         room = omega (arith, f, h, f1, h1, k4);
         bound = omega (arith, k5, freed);

@@ -18,7 +18,7 @@ use Rattle.rq_model.specs.Deeds.{deed_in, spelled_deed}
 use Rattle.rq_page.specs.Sizes.{Sizes, cell_count, address}
 use Rattle.rq_page.specs.Slots.{IsSlotOf, held_in}
 use Rattle.rq_views.specs.Log.{Slots, Write, put, applied, HasBefores}
-use Rattle.rq_views.specs.Items.{items, layout_of, operation, told_deed}
+use Rattle.rq_views.specs.Items.{items, layout_of, operation}
 use Rattle.rq_views.specs.Legal.{Placed, open_deeds}
 use Rattle.rq_views.specs.Plans.{deed_sender}
 use Rattle.rq_views.specs.Plans.Turn.{Did, Undid}
@@ -34,7 +34,7 @@ use Rattle.rq_groups.specs.Ends.{HeldEnds}
 use Rattle.rq_groups.specs.Waiting.{waits}
 use Rattle.rq_store.specs.State.{op_done}
 use Rattle.rq_store.specs.Rows.{HasWaiting}
-use Rattle.rq_views.specs.Claims.{takes_of, appends_of, claimed, newest_appends}
+use Rattle.rq_views.specs.Claims.{takes_of, appends_of}
 use Rattle.rq_store.specs.Sound.{takes_one}
 use Rattle.rq_store.specs.Fitting.{left_by}
 use Rattle.rq_store.specs.Steps.{page_op, op_end, took}
@@ -43,7 +43,7 @@ use Rattle.rq_sound.specs.Rows.{Aim, Under, Row, turn_of, deed_of, found_row, ch
 use Rattle.rq_sound.specs.Standing.{FollowsPlan}
 use Rattle.rq_sound.specs.Counted.{AreCounted, IsCovered, CoversAim, appends_aim, appending, appending_in, takes_all, appends_one, appends_all, uses_before, uses_after, made_of, before_in, after_in, takes_in}
 use Rattle.rq_sound.specs.Rows.Aim.{Doing, Undoing}
-use Rattle.rq_sound.proofs.StandingRows.{found_in, changed, rows_one, rows_without, rows_sum, one_of_sum, gone}
+use Rattle.rq_sound.proofs.StandingRows.{found_in, changed, rows_one, rows_without, rows_sum, gone}
 use Rattle.rq_sound.proofs.Room.{plan_counts, count_made}
 use Rattle.rq_store.proofs.Holders.{map_join}
 use Rattle.rq_sound.proofs.Going.{take_next, get_written}
@@ -162,11 +162,9 @@ module _ (z : Sizes) (log : List Record) (rows : List Row) (cells : ℕ) (waitin
       let b : sum_by appending_in (change_row t row_stepped rows) ≡ sum_by appending_in rows = rows_sum appending_in t row_stepped rows (λ q i e. same_appending q.under) in
       let d : sum_by takes_all (change_row t row_stepped rows) ≡ sum_by takes_all rows = rows_sum takes_all t row_stepped rows (λ q i e. refl) in
       let k1 = c.committed in
-      let k2 = c.claims in
       let k3 = c.used in
       record {
         committed = omega (arith, a, b, k1);
-        claims = omega (arith, b, k2);
         used = omega (arith, b, d, k3);
         room = room_now;
         bound = c.bound;
@@ -195,12 +193,10 @@ module _ (z : Sizes) (log : List Record) (rows : List Row) (cells : ℕ) (waitin
       let i = none_made uses_before in
       let j = none_made uses_after in
       let k1 = c.committed in
-      let k2 = c.claims in
       let k3 = c.used in
       let k4 = c.room in
       record {
         committed = omega (arith, a, b, h, k1);
-        claims = omega (arith, b, h, k2);
         used = omega (arith, b, d, h, k3);
         room = omega (arith, e, f, i, j, k4);
         bound = bound;
@@ -259,13 +255,10 @@ module _ (z : Sizes) (log : List Record) (ends : HeldEnds) (rows : List Row) (ce
       let q = quiet_now z log ends t u whole made g in
       let m = moved in
       let k1 = c.committed in
-      let k2 = c.claims in
       let k3 = c.used in
       let k4 = c.room in
-      let told : claimed (items z (op_end t u.number d ∷ log)) ≡ claimed (items z log) + appends_of d = ap (λ (y : Option Deed). claimed (items z log) + appends_of (told_deed y)) reads in
       record {
         committed = omega (arith, a, b, a1, b1, k1);
-        claims = omega (arith, b, b1, k2, told);
         used = omega (arith, b, e, b1, e1, k3, m);
         room = omega (arith, h, i, h1, i1, q, k4);
         bound = c.bound;
@@ -326,15 +319,11 @@ module _ (z : Sizes) (log : List Record) (ends : HeldEnds) (rows : List Row) (ce
       let q = quiet_now z log ends t u whole made g in
       let m = moved_back in
       let k1 = c.committed in
-      let k2 = c.claims in
       let k3 = c.used in
       let k4 = c.room in
       let k5 = c.bound in
-      let told : claimed (items z (comp_end t u.number lsn ∷ log)) ≡ claimed (items z log) - appends_of d = ap (λ ps. claimed (items z log) - newest_appends ps) done in
-      let one = one_of_sum appends_all rows r (found_in t rows r at_row).0 in
       record {
         committed = omega (arith, a, b, a1, b1, k1);
-        claims = omega (arith, a, b, a1, b1, k1, k2, told, one);
         used = omega (arith, a, b, e, a1, b1, e1, k1, k3, m);
         room = omega (arith, h, i, h1, i1, q, k4);
         bound = omega (arith, k5);
@@ -364,12 +353,10 @@ module _ (z : Sizes) (log : List Record) (rows : List Row) (cells : ℕ) (waitin
       let h = out (before_in z) (ap (λ (o : Option Under). sum_by uses_before (made_of z o)) idle) in
       let i = out (after_in z) (ap (λ (o : Option Under). sum_by uses_after (made_of z o)) idle) in
       let k1 = c.committed in
-      let k2 = c.claims in
       let k3 = c.used in
       let k4 = c.room in
       record {
         committed = omega (arith, a, b, k1);
-        claims = omega (arith, b, k2);
         used = omega (arith, b, e, k3);
         room = omega (arith, h, i, k4);
         bound = c.bound;
@@ -387,12 +374,10 @@ counted_aborting z log rows cells waiting t r c distinct at_row =
     let h = same (before_in z) (λ q. refl) in
     let i = same (after_in z) (λ q. refl) in
     let k1 = c.committed in
-    let k2 = c.claims in
     let k3 = c.used in
     let k4 = c.room in
     record {
       committed = omega (arith, a, b, k1);
-      claims = omega (arith, b, k2);
       used = omega (arith, b, e, k3);
       room = omega (arith, h, i, k4);
       bound = c.bound;

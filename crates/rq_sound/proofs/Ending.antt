@@ -15,7 +15,7 @@ use Rattle.rq_page.specs.Sizes.{Sizes, cell_count, sender_count}
 use Rattle.rq_views.specs.Log.Item.{OpEnd}
 use Rattle.rq_views.specs.Items.{items, item_of, layout_of, operation, told_deed, has_undone}
 use Rattle.rq_views.specs.Legal.{open_deeds, MayFollow, view}
-use Rattle.rq_views.specs.Groups.{MayTurn, TellsView, on_receiving_end, side, with_all, committed}
+use Rattle.rq_views.specs.Groups.{TellsView}
 use Rattle.rq_views.specs.Plans.{IsPlan, deed_sender}
 use Rattle.rq_views.specs.Plans.Turn.{Did}
 use Rattle.rq_level.specs.Writes.{writes_of}
@@ -33,10 +33,11 @@ use Rattle.rq_sound.specs.Standing.{FollowsPlan, IsAimOf, IsRow, HoldsAll, Tells
 use Rattle.rq_sound.specs.Counted.{AreCounted, IsCovered, CoversAim, appending, appending_in, appends_aim}
 use Rattle.rq_sound.specs.Rows.Aim.{Doing}
 use Rattle.rq_store.proofs.Holders.{placed_more}
+use Rattle.rq_sound.proofs.Claimed.{claimed_by_rows}
 use Rattle.rq_sound.proofs.StandingRows.{one_of_sum}
 use Rattle.rq_sound.proofs.Going.{other_ends}
 use Rattle.rq_sound.proofs.Beside.{says_end}
-use Rattle.rq_sound.proofs.Alone.{alone_sending, alone_taking, used_by_holder, taken_by_holder, left_is, more_left, takes_below}
+use Rattle.rq_sound.proofs.Alone.{used_by_holder, taken_by_holder, more_left, takes_below}
 use Rattle.rq_sound.proofs.Counted.{writes_are, counted_finish}
 use Rattle.rq_sound.proofs.Own.{place, row, of_order, running, going, greatest_now, idle_now, others_differ, strange_by}
 use Rattle.rq_sound.proofs.Standings.{stands_changed}
@@ -145,11 +146,12 @@ module _ (z : Sizes) (log : List Record) (ends : HeldEnds) (rows : List Row) (i 
   -- the store is not over its cells
   room : claimed (items z log) + appends_of d ≤ cell_count z
   room =
-      let a = c.claims in
+      let a = claimed_by_rows z log ends rows i b whole k in
+      let e = c.used in
       let v = c.bound in
       let one = one_of_sum appending_in rows r here in
       let x : appending_in r ≡ appends_of d = ap appending under ∙ ap appends_aim aim in
-      omega (arith, a, v, one, x)
+      omega (arith, a, e, v, one, x)
 
   pub whole_finish : IsWhole z (x ∷ log)
   whole_finish = record {

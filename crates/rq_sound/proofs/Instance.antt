@@ -1,25 +1,21 @@
 -- Where one operation at most is under way, a store that is sound as one of these is sound as one of any.
-use Rattle.std.proofs.Common.{◌≡◌, ◌≢◌, ℕ, ◌+◌, ◌-◌, ◌/◌, ◌<◌, ◌≤◌, ◌||◌, List, [], ◌∷◌, ◌++◌, length, map, take, drop, reverse, refl, sym, ◌∙◌, ap, subst, Bool, true, false, cond, nat_eq, Option, Some, None, inl, inr, ◌⊎◌, arith}
+use Rattle.std.proofs.Common.{◌≡◌, ◌≢◌, ℕ, ◌+◌, ◌/◌, ◌||◌, List, [], ◌∷◌, ◌++◌, map, take, drop, reverse, refl, sym, ◌∙◌, ap, subst, Bool, true, false, Option, Some, None, inl, inr, ◌⊎◌, arith}
 use Rattle.std.specs.List.{sum_by}
-use Rattle.std.proofs.lemmas.Bool.{cases_Bool, true≢false, false≢true, or_cases}
+use Rattle.std.proofs.lemmas.Bool.{cases_Bool, false≢true, or_cases}
 use Rattle.std.proofs.lemmas.List.Sums.{sum_by-cons}
 use Rattle.rq_model.specs.declared.txn.Txn.{Txn}
 use Rattle.rq_model.specs.declared.txn.Sub.{Sub}
 use Rattle.rq_model.specs.declared.record.Record.{Record}
 use Rattle.rq_model.specs.Words.{In, same_txn, is_some}
-use Rattle.rq_model.specs.Content.{Said, said, deeds, has_end}
-use Rattle.rq_model.specs.Ledger.{rest_in}
-use Rattle.rq_model.specs.Commits.{committed_of}
+use Rattle.rq_model.specs.Content.{Said, said, deeds}
 use Rattle.rq_model.specs.Rules.{any_use, uses_send, uses_receive}
-use Rattle.rq_model.specs.Tests.{pending, count_rest, below}
+use Rattle.rq_model.specs.Tests.{pending}
 use Rattle.rq_model.proofs.Lists.{In-map}
-use Rattle.rq_page.specs.Sizes.{Sizes, cell_count, sender_count}
-use Rattle.rq_views.specs.Log.{Write, Untouched, HasBefores, applied, same_op}
+use Rattle.rq_page.specs.Sizes.{Sizes}
+use Rattle.rq_views.specs.Log.{Write, Untouched, HasBefores, applied}
 use Rattle.rq_views.specs.Legal.{Placed, onto, under_way}
-use Rattle.rq_views.specs.Items.{items, layout_of, operation, has_undone}
+use Rattle.rq_views.specs.Items.{items, layout_of, operation}
 use Rattle.rq_views.specs.InStore.{WritesStand}
-use Rattle.rq_views.specs.Claims.{claimed}
-use Rattle.rq_views.specs.Owed.{Owes}
 use Rattle.rq_views.specs.Stored.{count_used}
 use Rattle.rq_views.proofs.Committed.{say}
 use Rattle.rq_views.proofs.Content.{own_deeds}
@@ -32,7 +28,6 @@ use Rattle.rq_txn.specs.declared.Finished.{Finished}
 use Rattle.rq_txn.specs.Rows as one
 use Rattle.rq_groups.specs.Ends.{HeldEnds, has_held}
 use Rattle.rq_groups.specs.declared.Held.{Held}
-use Rattle.rq_groups.specs.Waiting.{waits}
 use Rattle.rq_store.specs.Fitting.{left_by}
 use Rattle.rq_store.specs.Rows as one_row
 use Rattle.rq_store.specs.Rows.{placed, placed_one}
@@ -43,16 +38,15 @@ use Rattle.rq_store.specs.Whole.{IsWhole}
 use Rattle.rq_store.proofs.Holders.{placed_first}
 use Rattle.rq_store.proofs.RowLists as one_lists
 use Rattle.rq_store.proofs.Stepping.{onto_whole}
-use Rattle.rq_sound.specs.Rows.{Aim, Under, Row, found_row, AreDistinct, latched_by, is_under}
-use Rattle.rq_sound.specs.Standing.{FollowsPlan, IsAsPlanned, HoldsAll, IsRow, AreEnds, AreApart, AreStanding, unmade}
-use Rattle.rq_sound.specs.Counted.{AreCounted, IsCovered, appending, appending_in, appends_all, takes_all, takes_in, before_in, after_in, made_of, uses_before, uses_after}
-use Rattle.rq_sound.specs.Sound.{State, IsSound, open_of, open_ones_of, ledger_of}
+use Rattle.rq_sound.specs.Rows.{Under, Row, found_row, AreDistinct, is_under}
+use Rattle.rq_sound.specs.Standing.{FollowsPlan, IsAsPlanned, IsRow, AreEnds, AreApart, AreStanding, unmade}
+use Rattle.rq_sound.specs.Counted.{AreCounted, IsCovered, appending, appending_in, takes_all, takes_in, before_in, after_in, made_of, uses_before, uses_after}
+use Rattle.rq_sound.specs.Sound.{IsSound, open_of, open_ones_of, ledger_of}
 use Rattle.rq_sound.specs.OneUnder.{aimed, aimed_under, aimed_row, aimed_store}
 use Rattle.rq_sound.proofs.Going.{off_latched, onto_none}
 use Rattle.rq_sound.proofs.Written.{touches, stands_is, made_within}
 use Rattle.rq_sound.proofs.Ending.{holds_sends, holds_takes}
 use Rattle.rq_sound.proofs.Exactly.{pending_is}
-use Rattle.rq_sound.proofs.Claimed.{claimed_by_rows}
 use Rattle.rq_sound.proofs.Room.{count_made}
 use Rattle.rq_sound.proofs.StandingRows.{alone_of_sum, none_of_sum}
 
@@ -338,13 +332,11 @@ module _ (s : one_store.State) (k : one_sound.IsSound s) where
   counts =
       let a = apart_is s.rows in
       let b = k.used in
-      let c = claimed_by_rows z log s.ends rows s.incarnation s.begins k.log stands in
       let d = k.cells in
       let e = ap (sum_by pending) (opens_aimed s.ends s.rows) in
       let f = pending_is s.ends rows in
       record {
         committed = omega (arith, d, e, f);
-        claims = omega (arith, a, b, c);
         used = omega (arith, a, b);
         room = room_here;
         bound = k.bound;

@@ -1,16 +1,15 @@
 -- What stands on pages that no operation under way has latched.
-use Rattle.std.proofs.Common.{◌≡◌, ◌≢◌, ℕ, ◌<◌, List, [], ◌∷◌, true, false, refl, sym, ap, ◌∙◌, subst, ◌⊎◌, inl, inr}
+use Rattle.std.proofs.Common.{◌≡◌, ◌≢◌, ℕ, ◌<◌, List, [], ◌∷◌, false, sym, ap, ◌∙◌, subst, ◌⊎◌, inl, inr}
 use Rattle.std.proofs.lemmas.Bool.{true≢false}
 use Rattle.rq_model.specs.declared.record.Deed.TheVariants.{Append, UnlinkHead, Close}
 use Rattle.rq_model.specs.declared.txn.Sub.{Sub}
 use Rattle.rq_page.specs.declared.directory.Directory.{Directory}
-use Rattle.rq_views.specs.Log.{Item, Layout, Slots, LogState, Write, Untouched, state_of}
+use Rattle.rq_views.specs.Log.{Item, Layout, LogState, Write, Untouched, state_of}
 use Rattle.rq_views.specs.Plans.{ShowsAt, Spares, Turn, IsPlan, turn_sender, directory_write}
 use Rattle.rq_views.specs.Plans.Turn.{Did, Undid}
-use Rattle.rq_views.specs.Legal.{IsLegalLog, IsLayout, Begins, empty_directory, onto, view}
-use Rattle.rq_views.specs.Items.{operation}
+use Rattle.rq_views.specs.Legal.{IsLegalLog, IsLayout, onto, view}
 use Rattle.rq_views.proofs.Overlay.{Good}
-use Rattle.rq_views.proofs.Views.{good, views, quiet_views, plan_spares}
+use Rattle.rq_views.proofs.Views.{views, plan_spares}
 
 -- a slot on a page on which nobody stands is the one that whole operations have written
 pub slots_are_quiet : (page : ℕ → ℕ) (z : LogState) (a : ℕ) → Good page z → ((o : Sub) → z.stands o (page a) ≡ false) → z.slots a ≡ z.quiet a

@@ -9,7 +9,7 @@ use Rattle.rq_model.specs.declared.record.Record.{Record}
 use Rattle.rq_model.specs.Words.{same_txn, is_some}
 use Rattle.rq_model.specs.Content.{deeds}
 use Rattle.rq_model.specs.Rules.{any_use, uses_send, uses_receive}
-use Rattle.rq_page.specs.Sizes.{Sizes, cell_count, sender_count, directory_at}
+use Rattle.rq_page.specs.Sizes.{Sizes, sender_count, directory_at}
 use Rattle.rq_views.specs.Chain.{View}
 use Rattle.rq_views.specs.Log.{Slots, Write, HasBefores, Untouched, same_op, Layout}
 use Rattle.rq_views.specs.Items.{items, layout_of, operation}

@@ -1,5 +1,5 @@
 -- An operation that has not turned back stands on the pages of its writes, and on no other.
-use Rattle.std.proofs.Common.{◌≡◌, ℕ, zero, suc, ◌/◌, ◌==◌, ◌||◌, ◌++◌, List, [], ◌∷◌, map, take, reverse, refl, sym, ◌∙◌, ap, Bool, true, false, inl, inr}
+use Rattle.std.proofs.Common.{◌≡◌, ℕ, zero, suc, ◌/◌, ◌==◌, ◌||◌, ◌++◌, List, [], ◌∷◌, map, take, reverse, refl, ◌∙◌, ap, Bool, false, inl, inr}
 use Rattle.std.proofs.lemmas.Bool.{cases_Bool, or_parts, or_from}
 use Rattle.std.proofs.lemmas.List.{reverse-append}
 use Rattle.rq_model.specs.declared.txn.Sub.{Sub}

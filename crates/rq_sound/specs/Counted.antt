@@ -8,8 +8,7 @@ use Rattle.rq_model.specs.Commits.{committed_of}
 use Rattle.rq_model.specs.Tests.{count_rest, below}
 use Rattle.rq_page.specs.Sizes.{Sizes, cell_count, sender_count}
 use Rattle.rq_views.specs.Log.{Write}
-use Rattle.rq_views.specs.Items.{items}
-use Rattle.rq_views.specs.Claims.{appends_of, claimed}
+use Rattle.rq_views.specs.Claims.{appends_of}
 use Rattle.rq_views.specs.Stored.{is_used, count_used}
 use Rattle.rq_level.specs.Writes.{writes_of}
 use Rattle.rq_txn.specs.declared.Finished.{Finished}
@@ -78,12 +77,11 @@ IsCovered ws None = Unit {0}
 IsCovered ws (Some u) = CoversAim ws u.aim
 
 -- Cells in use are those of messages in chains by finished operations, of messages taken and not put back, and of sends
--- under way: by the commit list and the rows; by the log; and by the slots. The slots as they are have other cells used
--- than those of whole operations just by the writes made so far.
+-- under way: by the commit list and the rows, and by the slots. The slots as they are have other cells used than those
+-- of whole operations just by the writes made so far.
 pub record AreCounted (z : Sizes) (log : List Record) (rows : List Row) (cells : ℕ) (waiting : List ℕ) : Type 0 where
   pub committed : count_rest (below (sender_count z)) (committed_of log) + sum_by appends_all rows
       + sum_by appending_in rows ≡ cells
-  pub claims : claimed (items z log) + sum_by appending_in rows ≡ cells
   pub used : count_used z (left_by z log).quiet + sum_by takes_all rows + sum_by appending_in rows ≡ cells
   pub room : count_used z (left_by z log).slots + sum_by (before_in z) rows
       ≡ count_used z (left_by z log).quiet + sum_by (after_in z) rows

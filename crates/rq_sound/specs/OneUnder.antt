@@ -1,5 +1,5 @@
 -- A store of which one operation at most is under way, a send or a receive, and in which nothing aborts, as one of any.
-use Rattle.std.specs.Prelude.{List, map, Option, Some, None}
+use Rattle.std.specs.Prelude.{map, Option, Some, None}
 use Rattle.rq_txn.specs.Rows as one
 use Rattle.rq_store.specs.State as one_store
 use Rattle.rq_sound.specs.Rows.{Aim, Under, Row}
