@@ -49,7 +49,7 @@ opens_without t old new (r ∷ rows) others =
       | inr n ↦ rw n (ap (λ x. x ∷ open_ones_of new (without_row t rows)) (others r (inl refl) (not_same r.txn t n)) ∙ ap (λ l. open_of old r ∷ l) rest)
     ]
 
-front_push : (xs : List Op) (x : Op) → front (xs ++ x ∷ []) ≡ xs
+pub front_push : {X : Type 0} (xs : List X) (x : X) → front (xs ++ x ∷ []) ≡ xs
 front_push [] x = refl
 front_push (a ∷ []) x = refl
 front_push (a ∷ b ∷ xs) x = ap (λ l. a ∷ l) (front_push (b ∷ xs) x)

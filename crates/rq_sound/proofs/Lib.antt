@@ -24,3 +24,5 @@ pub mod UndoStarts
 pub mod Written
 pub mod Claimed
 pub mod Instance
+pub mod Lost
+pub mod Contracts

@@ -20,7 +20,6 @@ use Rattle.rq_store.specs.Fitting.{left_by, image_in}
 use Rattle.rq_store.specs.Steps.{page_op, op_end, took}
 use Rattle.rq_sound.specs.Rows.{Under, Row, deed_of, found_row, change_row, without_row, fresh_row, row_started, row_stepped, row_finished, row_undone, row_aborting, comp_end}
 use Rattle.rq_sound.specs.Sound.{State, IsSound}
-use Rattle.rq_sound.specs.Starts.{MayStart, HasEnds}
 use Rattle.rq_sound.specs.Counted.{appends_aim, takes_all, sends_in}
 use Rattle.rq_sound.specs.Rows.Aim.{Doing, Undoing}
 use Rattle.rq_store.proofs.Begun.{begun_more}
@@ -28,7 +27,7 @@ use Rattle.rq_store.proofs.Fitting.{fits_more, fits_written}
 use Rattle.rq_store.proofs.Stepping.{address_is}
 use Rattle.rq_store.proofs.Releases.{without_ends}
 use Rattle.rq_sound.proofs.Begins.{stands_begin, counts_begin}
-use Rattle.rq_sound.proofs.Starts.{stands_start, counts_start}
+use Rattle.rq_sound.proofs.Starts.{MayStart, HasEnds, stands_start, counts_start}
 use Rattle.rq_sound.proofs.Steps.{whole_step, stands_step, counts_step}
 use Rattle.rq_sound.proofs.Ending.{whole_finish, stands_finish, counts_finish}
 use Rattle.rq_sound.proofs.Undoing.{aborts, whole_undo, stands_undo, counts_undo}

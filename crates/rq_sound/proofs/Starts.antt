@@ -9,7 +9,7 @@ use Rattle.rq_model.specs.declared.record.Record.{Record}
 use Rattle.rq_model.specs.Words.{same_txn, is_some}
 use Rattle.rq_model.specs.Content.{deeds}
 use Rattle.rq_model.specs.Rules.{any_use, uses_send, uses_receive}
-use Rattle.rq_page.specs.Sizes.{Sizes, sender_count, directory_at}
+use Rattle.rq_page.specs.Sizes.{Sizes, cell_count, sender_count, directory_at}
 use Rattle.rq_views.specs.Chain.{View}
 use Rattle.rq_views.specs.Log.{Slots, Write, HasBefores, Untouched, same_op, Layout}
 use Rattle.rq_views.specs.Items.{items, layout_of, operation}
@@ -28,7 +28,6 @@ use Rattle.rq_store.specs.Fitting.{left_by}
 use Rattle.rq_store.specs.Whole.{IsWhole}
 use Rattle.rq_sound.specs.Rows.{Aim, Under, Row, turn_of, deed_of, found_row, change_row, row_started, latched_by, latched_in, is_under}
 use Rattle.rq_sound.specs.Standing.{unmade, FollowsPlan, IsAimOf, IsRow, HoldsAll, TellsFor, ReadsFor, AreEnds, AreStanding}
-use Rattle.rq_sound.specs.Starts.{MayStart, HasEnds}
 use Rattle.rq_sound.specs.Counted.{AreCounted, CoversAim, appends_aim}
 use Rattle.rq_sound.specs.Rows.Aim.{Doing, Undoing}
 use Rattle.rq_sound.proofs.StandingRows.{found_in}
@@ -51,6 +50,32 @@ plan_latches z t u plan = elim (cases_Bool (latched_by u (directory_at (turn_sen
   | inl y ↦ y
   | inr off ↦ absurd (not_of (layout_of z) (turn_sender t) t (reverse (writes_of z u.writes)) plan (subst (Untouched (directory_at (turn_sender t))) (onto_none (writes_of z u.writes)) (off_latched z (directory_at (turn_sender t)) u.writes [] off tt)) refl)
 ]
+
+-- Its transaction has nothing under way, its plan is of the slots as they are, nobody has latched its pages, and there
+-- is a cell for what it sends.
+pub record MayStart (z : Sizes) (log : List Record) (rows : List Row) (waiting : List ℕ) (cells : ℕ) (r : Row)
+    (u : Under) : Type 0 where
+  pub at_row : found_row r.txn rows ≡ Some r
+  pub idle : r.under ≡ None
+  pub number : u.number ≡ r.number + 1
+  pub made : u.made ≡ 0
+  pub aims : IsAimOf r u.aim
+  pub free : (p : ℕ) → latched_by u p ≡ true → latched_in rows p ≡ false
+  pub plan : IsPlan (layout_of z) (turn_of u.aim) (reverse (writes_of z u.writes))
+  pub fits : HasBefores (reverse (writes_of z u.writes)) (left_by z log).slots
+  pub told : TellsFor u.aim (view (items z log) (deed_sender (deed_of u.aim)))
+  pub sender : deed_sender (deed_of u.aim) < sender_count z
+  pub reads : ReadsFor u.aim
+  pub covers : CoversAim waiting u.aim
+  pub room : cells + appends_aim u.aim ≤ cell_count z
+
+-- the ends once it has taken its own: it holds the one that its deed needs, and nobody lost one
+pub record HasEnds (ends after : HeldEnds) (rows : List Row) (t : Txn) (d : Deed) : Type 0 where
+  pub held : HoldsFor after t d
+  pub sends : (q : Txn) (s : ℕ) → has_held q s ends.sending ≡ true → has_held q s after.sending ≡ true
+  pub takes : (q : Txn) (s : ℕ) → has_held q s ends.receiving ≡ true → has_held q s after.receiving ≡ true
+  pub sending : AreEnds rows after.sending
+  pub receiving : AreEnds rows after.receiving
 
 module _ (z : Sizes) (log : List Record) (ends after : HeldEnds) (rows : List Row) (i b cells : ℕ) (waiting : List ℕ) (whole : IsWhole z log) (k : AreStanding z log ends rows i b) (c : AreCounted z log rows cells waiting)
     (incarnation : incarnation_of log ≡ i) (some : 1 ≤ i) (r : Row) (u : Under) (m : MayStart z log rows waiting cells r u) (h : HasEnds ends after rows r.txn (deed_of u.aim)) where

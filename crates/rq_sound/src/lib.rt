@@ -1,5 +1,40 @@
 //! What is so of a store with any number of operations under way, of sends, receives and closes and of their inverses,
-//! apart from any code; and that each call keeps it.
+//! apart from any code; and that each call keeps it. Today's store has one operation under way at most, aborts nothing
+//! and closes no group: it is an instance.
 //!
 //! The definitions stand in specs/, the theorems are the contracts of the functions here.
 #![tactic(auto)]
+
+ghost use Rattle.rq_sound.specs.Theorems.{CallsKeepSoundness, InversesCanBePlanned, TestsAreAnswered, AbortsAreEntries, OneUnderWayIsSound, OpenedIsSound};
+
+/// Each call keeps a store sound: a begin; the start of a send, a receive, a close or an inverse, each of its writes and
+/// its end; a commit; the start and the end of an abort; a force; and the failure of a device.
+pub fn calls_keep_soundness()
+    ensures { CallsKeepSoundness }
+{}
+
+/// The inverse of what a transaction did last can be planned, whatever others do meanwhile, once nobody has latched the
+/// page of its sender's directory slot, and finds a cell where it needs one.
+pub fn inverses_can_be_planned()
+    ensures { InversesCanBePlanned }
+{}
+
+/// What the model's tests ask of a store's ledger is what the store keeps.
+pub fn tests_are_answered()
+    ensures { TestsAreAnswered }
+{}
+
+/// What aborts and inverses make of the ledger is what their entries of the history make of it.
+pub fn aborts_are_entries()
+    ensures { AbortsAreEntries }
+{}
+
+/// A store that is sound with one operation under way at most is sound, with the same ledger.
+pub fn one_under_way_is_sound()
+    ensures { OneUnderWayIsSound }
+{}
+
+/// A store that opens over a whole log in which everything has ended is sound.
+pub fn opened_is_sound()
+    ensures { OpenedIsSound }
+{}
