@@ -26,3 +26,5 @@ pub mod Claimed
 pub mod Instance
 pub mod Lost
 pub mod Contracts
+pub mod Spelt
+pub mod Worked

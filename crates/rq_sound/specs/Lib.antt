@@ -6,3 +6,5 @@ pub mod Starts
 pub mod Calls
 pub mod OneUnder
 pub mod Theorems
+pub mod Course
+pub mod Worked

@@ -6,6 +6,7 @@
 #![tactic(auto)]
 
 ghost use Rattle.rq_sound.specs.Theorems.{CallsKeepSoundness, InversesCanBePlanned, TestsAreAnswered, AbortsAreEntries, OneUnderWayIsSound, OpenedIsSound};
+ghost use Rattle.rq_sound.specs.Worked.{NotSound, TwoUnderWay};
 
 /// Each call keeps a store sound: a begin; the start of a send, a receive, a close or an inverse, each of its writes and
 /// its end; a commit; the start and the end of an abort; a force; and the failure of a device.
@@ -37,4 +38,14 @@ pub fn one_under_way_is_sound()
 /// A store that opens over a whole log in which everything has ended is sound.
 pub fn opened_is_sound()
     ensures { OpenedIsSound }
+{}
+
+/// Worked: two sends are under way at once; one that would meet the first on a page or at an end may not start.
+pub fn two_sends_are_under_way()
+    ensures { TwoUnderWay }
+{}
+
+/// What no sound store has.
+pub fn unsound_stores()
+    ensures { NotSound }
 {}
