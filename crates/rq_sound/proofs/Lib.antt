@@ -28,3 +28,4 @@ pub mod Lost
 pub mod Contracts
 pub mod Spelt
 pub mod Worked
+pub mod Courses

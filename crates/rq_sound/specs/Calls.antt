@@ -43,13 +43,9 @@ stepped s r u w images = record s {
   records = page_op r.txn u.number w ∷ s.records;
 }
 
--- the write is the operation's next, and is made in the pages
-pub record IsNextWrite (s : State) (r : Row) (u : Under) (w : SlotWrite) (images : List (List ℕ)) : Type 0 where
-  pub at_row : found_row r.txn s.rows ≡ Some r
-  pub under : r.under ≡ Some u
-  pub next : slice_get u.writes u.made ≡ Some w
-  pub before : IsSlotOf s.sizes (w.at / 16) (w.at % 16) w.before
-  pub after : IsSlotOf s.sizes (w.at / 16) (w.at % 16) w.after
+-- A slot write is made in the pages: its page has the LSN of the next record, the others stay, and each is of its
+-- place.
+pub record IsPutIn (s : State) (w : SlotWrite) (images : List (List ℕ)) : Type 0 where
   pub image : (a : ℕ) → slots_in s.sizes images a
       ≡ put (slots_in s.sizes s.images) w.at (held_in s.sizes (w.at / 16) w.after) a
   pub page : IsWritten (image_in s.images (w.at / 16)) (image_in images (w.at / 16)) (w.at % 16) w.after
@@ -57,6 +53,15 @@ pub record IsNextWrite (s : State) (r : Row) (u : Under) (w : SlotWrite) (images
   pub others : (p : ℕ) → p ≢ w.at / 16 → image_in images p ≡ image_in s.images p
   pub superblock : IsFormatted s.sizes 0 (image_in images 0)
   pub headers : (p : ℕ) → 1 ≤ p → p < page_count s.sizes → IsHeaderOf s.sizes p (image_in images p)
+
+-- the write is the operation's next, and is made in the pages
+pub record IsNextWrite (s : State) (r : Row) (u : Under) (w : SlotWrite) (images : List (List ℕ)) : Type 0 where
+  pub at_row : found_row r.txn s.rows ≡ Some r
+  pub under : r.under ≡ Some u
+  pub next : slice_get u.writes u.made ≡ Some w
+  pub before : IsSlotOf s.sizes (w.at / 16) (w.at % 16) w.before
+  pub after : IsSlotOf s.sizes (w.at / 16) (w.at % 16) w.after
+  pub made : IsPutIn s w images
 
 -- all writes of an operation for this are made
 pub record IsReady (s : State) (r : Row) (u : Under) (aim : Aim) : Type 0 where

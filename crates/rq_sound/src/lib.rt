@@ -6,7 +6,7 @@
 #![tactic(auto)]
 
 ghost use Rattle.rq_sound.specs.Theorems.{CallsKeepSoundness, InversesCanBePlanned, TestsAreAnswered, AbortsAreEntries, OneUnderWayIsSound, OpenedIsSound};
-ghost use Rattle.rq_sound.specs.Worked.{NotSound, TwoUnderWay};
+ghost use Rattle.rq_sound.specs.Worked.{AbortBesideASend, NotSound, TwoUnderWay};
 
 /// Each call keeps a store sound: a begin; the start of a send, a receive, a close or an inverse, each of its writes and
 /// its end; a commit; the start and the end of an abort; a force; and the failure of a device.
@@ -48,4 +48,10 @@ pub fn two_sends_are_under_way()
 /// What no sound store has.
 pub fn unsound_stores()
     ensures { NotSound }
+{}
+
+/// Worked: a transaction aborts and undoes its send while another's is under way, and this one is committed then; and
+/// what may not come yet.
+pub fn an_abort_goes_on_beside_a_send()
+    ensures { AbortBesideASend }
 {}
