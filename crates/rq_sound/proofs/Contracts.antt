@@ -32,7 +32,7 @@ use Rattle.rq_sound.specs.Counted.{CoversAim, appends_aim}
 use Rattle.rq_sound.specs.Sound.{State, IsSound, ledger_of}
 use Rattle.rq_sound.specs.Starts.{MayDo, MayUndo, IsEndFree, with_end}
 use Rattle.rq_sound.specs.Calls.{IsReady, IsIdle, undone, started, forced}
-use Rattle.rq_sound.specs.Theorems.{CallsKeepSoundness, InversesCanBePlanned, TestsAreAnswered, AbortsAreEntries, OneUnderWayIsSound, OpenedIsSound}
+use Rattle.rq_sound.specs.Theorems.{CallsKeepSoundness, InversesCanBePlanned, TestsAreAnswered, OneUnderWayIsSound, OpenedIsSound}
 use Rattle.rq_sound.proofs.StandingRows.{found_in}
 use Rattle.rq_sound.proofs.Starts.{MayStart, HasEnds, plan_latches, told_by_plan, takes_send, takes_receive, may_undo}
 use Rattle.rq_sound.proofs.Sounds.{begin_sound, start_sound, step_sound, finish_sound, undo_sound, commit_sound, start_abort_sound, end_abort_sound}
@@ -40,13 +40,13 @@ use Rattle.rq_sound.proofs.Undoing.{aborts}
 use Rattle.rq_sound.proofs.Rooms.{of_store, shown_here, room_to_send, undo_planned, put_back_finds, open_is}
 use Rattle.rq_sound.proofs.UndoPlans.{NeedsCell, closed_before}
 use Rattle.rq_sound.proofs.Room.{some_free}
-use Rattle.rq_sound.proofs.Aborted.{front_push, aborting_after, undid_after, aborted_after}
+use Rattle.rq_sound.proofs.Aborted.{front_push, undid_after}
 use Rattle.rq_sound.proofs.UndoStarts.{chain_is, undo_started_after}
 use Rattle.rq_sound.proofs.Exactly.{closed_is, holds_is, cells_are}
 use Rattle.rq_sound.proofs.Lost.{lost_finds_cell}
 use Rattle.rq_sound.proofs.Instance.{aimed_sound, ledger_aimed}
 
-within : {X : Type 0} (xs : List X) (k : ℕ) (x : X) → slice_get xs k ≡ Some x → k < length xs
+pub within : {X : Type 0} (xs : List X) (k : ℕ) (x : X) → slice_get xs k ≡ Some x → k < length xs
 within [] k x e = cc
 within (y ∷ xs) zero x e = omega arith
 within (y ∷ xs) (suc k) x e = let h = within xs k x e in omega (arith, h)
@@ -136,7 +136,7 @@ module _ (s : State) (k : IsSound s) where
       subst (λ (fs : List Finished). IsSound (record s { rows = change_row r.txn (row_undone fs) s.rows; records = comp_end r.txn u.number lsn ∷ s.records; cells_in_use = s.cells_in_use - appends_of d; waiting = ws })) (rest_is r left.0 (record { lsn = lsn; deed = d }) left.1)
       (undo_sound s k r u lsn d ws m.at_row m.under m.aim_is m.made more)
 
-  undo_entry : (r : Row) (u : Under) (lsn : ℕ) (d : Deed) (ws : List ℕ) → IsReady s r u (Aim.Undoing lsn d) → ledger_of (undone s r u lsn d ws) ≡ after (Entry.Undid r.txn u.number) (ledger_of s)
+  pub undo_entry : (r : Row) (u : Under) (lsn : ℕ) (d : Deed) (ws : List ℕ) → IsReady s r u (Aim.Undoing lsn d) → ledger_of (undone s r u lsn d ws) ≡ after (Entry.Undid r.txn u.number) (ledger_of s)
   undo_entry r u lsn d ws m =
       let n = newest r u lsn d m in
       let f : Finished = record { lsn = lsn; deed = d } in
@@ -174,7 +174,7 @@ module _ (s : State) (k : IsSound s) where
         closed_before (items s.sizes s.records) r.txn f.lsn g (placed fs) (groups_of s.sizes s.records k.log) (is ∙ ap (λ (d : Deed). record { lsn = f.lsn; deed = d } ∷ placed fs) e)
 
   -- the ledger after an inverse starts
-  undo_start_entry : (r : Row) (u : Under) (fs : List Finished) (f : Finished) → MayUndo s r u fs f → ledger_of (started s r u s.ends) ≡ after (Entry.Started r.txn (r.number + 1) Job.Undoing) (ledger_of s)
+  pub undo_start_entry : (r : Row) (u : Under) (fs : List Finished) (f : Finished) → MayUndo s r u fs f → ledger_of (started s r u s.ends) ≡ after (Entry.Started r.txn (r.number + 1) Job.Undoing) (ledger_of s)
   undo_start_entry r u fs f m =
       let p = m.planned in
       let at = (found_in r.txn s.rows r p.at_row).0 in
@@ -213,14 +213,6 @@ answered = record {
   closed = λ s g r k i free. closed_is s.sizes s.records s.ends s.rows s.incarnation s.begins k.log k.standing g r i free;
   waiting = λ s g r k below i free. holds_is s.sizes s.records s.ends s.rows s.incarnation s.begins k.log k.standing s.cells_in_use s.waiting k.counted g r below i free;
   chain = λ s g k. chain_is s k g;
-}
-
-pub entries : AbortsAreEntries
-entries = record {
-  starts_abort = λ s r. aborting_after s r.txn;
-  starts_inverse = λ s r u fs f k m. undo_start_entry s k r u fs f m;
-  undoes = λ s r u lsn d ws k m. undo_entry s k r u lsn d ws m;
-  ends_abort = λ s r. aborted_after s r.txn;
 }
 
 pub one_under : OneUnderWayIsSound

@@ -29,3 +29,4 @@ pub mod Contracts
 pub mod Spelt
 pub mod Worked
 pub mod Courses
+pub mod AbortSteps

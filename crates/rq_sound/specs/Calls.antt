@@ -1,6 +1,7 @@
 -- What each call makes of a store, and what it needs.
 use Rattle.std.specs.Prelude.{◌≡◌, ◌≢◌, ℕ, ◌+◌, ◌-◌, ◌/◌, ◌%◌, ◌<◌, ◌≤◌, true, false, List, ◌∷◌, length, Some, None}
 use Rattle.std.specs.List.{slice_get}
+use Rattle.rq_model.specs.declared.txn.Txn.{Txn}
 use Rattle.rq_model.specs.declared.record.Deed.{Deed}
 use Rattle.rq_model.specs.declared.record.Record.TheVariants.{Commit, AbortEnd}
 use Rattle.rq_model.specs.Words.{front}
@@ -20,10 +21,13 @@ use Rattle.rq_sound.specs.Rows.{Aim, Under, Row, found_row, change_row, without_
 use Rattle.rq_sound.specs.Counted.{appends_aim, takes_all, sends_in}
 use Rattle.rq_sound.specs.Sound.{State}
 
+abbrev pub next_txn : State → Txn
+next_txn s = record { incarnation = s.incarnation; count = s.begins + 1 }
+
 -- the next transaction begins
 abbrev pub begun : State → State
 begun s = record s {
-  rows = fresh_row (record { incarnation = s.incarnation; count = s.begins + 1 }) ∷ s.rows;
+  rows = fresh_row (next_txn s) ∷ s.rows;
   begins = s.begins + 1;
 }
 

@@ -5,6 +5,7 @@ pub mod Sound
 pub mod Starts
 pub mod Calls
 pub mod OneUnder
+pub mod Steps
 pub mod Theorems
 pub mod Course
 pub mod Worked

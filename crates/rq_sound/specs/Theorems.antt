@@ -1,5 +1,5 @@
 -- What holds of every sound store, with whatever operations under way.
-use Rattle.std.specs.Prelude.{◌≡◌, ℕ, ◌+◌, ◌-◌, ◌/◌, ◌<◌, ◌||◌, true, false, List, [], ◌∷◌, ◌++◌, length, Some}
+use Rattle.std.specs.Prelude.{◌≡◌, ℕ, ◌+◌, ◌-◌, ◌/◌, ◌<◌, ◌^◌, ◌||◌, true, false, not, nat_lt, nat_eq, List, [], ◌∷◌, ◌++◌, length, Some}
 use Rattle.std.specs.List.{sum_by}
 use Rattle.rq_model.specs.declared.txn.Sub.{Sub}
 use Rattle.rq_model.specs.declared.txn.Txn.{Txn}
@@ -7,9 +7,10 @@ use Rattle.rq_model.specs.declared.record.Deed.{Deed}
 use Rattle.rq_model.specs.declared.record.Deed.TheVariants.{Close}
 use Rattle.rq_model.specs.declared.record.Record.{Record}
 use Rattle.rq_model.specs.Commits.{committed_of}
-use Rattle.rq_model.specs.History.{Entry, Job}
-use Rattle.rq_model.specs.Ledger.{after, ended_in, in_chain, rest_in}
-use Rattle.rq_model.specs.Tests.{cells_in_use, has_closed}
+use Rattle.rq_model.specs.History.{Call}
+use Rattle.rq_model.specs.Ledger.{ended_in, in_chain, rest_in}
+use Rattle.rq_model.specs.Tests.{cells_in_use, has_closed, log_full, undo_cost}
+use Rattle.rq_model.specs.Replay.{Reply}
 use Rattle.rq_model.specs.Unended.{unfinished, lost}
 use Rattle.rq_model.specs.Words.{In}
 use Rattle.rq_page.specs.Sizes.{Sizes, IsInRange, IsCellAddress, cell_count, directory_at, sender_count}
@@ -29,14 +30,15 @@ use Rattle.rq_store.specs.Fitting.{left_by, image_in, FitsLog}
 use Rattle.rq_store.specs.Opening.{opened}
 use Rattle.rq_store.specs.Sound as one_sound
 use Rattle.rq_store.specs.State as one
-use Rattle.rq_store.specs.State.{size_of}
+use Rattle.rq_store.specs.State.{size_of, op_done}
 use Rattle.rq_store.specs.Steps.{took}
 use Rattle.rq_store.specs.Whole.{IsWhole}
 use Rattle.rq_sound.specs.Rows.{Aim, Under, Row, latched_in}
 use Rattle.rq_sound.specs.Counted.{takes_in}
 use Rattle.rq_sound.specs.Sound.{State, IsSound, ledger_of, open_of}
 use Rattle.rq_sound.specs.Starts.{MayDo, MayUndo, with_end}
-use Rattle.rq_sound.specs.Calls.{begun, started, stepped, IsNextWrite, finished, undone, IsReady, IsIdle, committed, MayCommit, aborting, aborted, forced, failed}
+use Rattle.rq_sound.specs.Steps.{Steps}
+use Rattle.rq_sound.specs.Calls.{next_txn, begun, started, stepped, IsNextWrite, finished, undone, IsReady, IsIdle, committed, MayCommit, aborting, aborted, forced, failed}
 use Rattle.rq_sound.specs.OneUnder.{aimed_store}
 
 -- each call keeps a store sound
@@ -93,16 +95,35 @@ pub record TestsAreAnswered : Type 0 where
   pub chain : (s : State) (g : ℕ) → IsSound s
       → in_chain (ledger_of s) g ≡ length (view (items s.sizes s.records) g).messages
 
--- what aborts and inverses make of the ledger
-pub record AbortsAreEntries : Type 0 where
-  pub starts_abort : (s : State) (r : Row) → ledger_of (aborting s r) ≡ after (Entry.Aborting r.txn) (ledger_of s)
+-- Aborts are steps of the model: their start, the start of an inverse, each of its writes, that these are all made, its
+-- end, that nothing is left to undo, and the abort's end. So are a begin and a force. Where the log has no room the
+-- model refuses them, so room is asked for here.
+pub record AbortsAreSteps : Type 0 where
+  pub begins : (s : State) → IsSound s → s.failed ≡ false
+      → (not (nat_lt (length s.rows) 4096) || nat_eq s.begins (2 ^ 64 - 1)) ≡ false
+      → Steps s Call.Begin (Reply.Gave_txn (next_txn s)) (begun s)
+  pub starts_abort : (s : State) (r : Row) → IsSound s → s.failed ≡ false → IsIdle s r → r.aborting ≡ false
+      → Steps s (Call.Start_abort r.txn) Reply.Gave_aborting (aborting s r)
   pub starts_inverse : (s : State) (r : Row) (u : Under) (rest : List Finished) (f : Finished) → IsSound s
-      → MayUndo s r u rest f
-      → ledger_of (started s r u s.ends) ≡ after (Entry.Started r.txn (r.number + 1) Job.Undoing) (ledger_of s)
+      → s.failed ≡ false → MayUndo s r u rest f
+      → log_full (ledger_of s) (undo_cost (Some (op_done f))) ≡ false
+      → Steps s (Call.Undo_next r.txn) (Reply.Gave_sub r.txn (r.number + 1)) (started s r u s.ends)
+  pub steps : (s : State) (r : Row) (u : Under) (w : SlotWrite) (images : List (List ℕ)) → IsSound s
+      → s.failed ≡ false → IsNextWrite s r u w images
+      → Steps s (Call.Step r.txn u.number) (Reply.Gave_lsn (length s.records + 1)) (stepped s r u w images)
+  pub all_made : (s : State) (r : Row) (u : Under) (aim : Aim) → IsSound s → s.failed ≡ false → IsReady s r u aim
+      → Steps s (Call.Step r.txn u.number) Reply.Gave_ready s
   pub undoes : (s : State) (r : Row) (u : Under) (lsn : ℕ) (d : Deed) (waiting : List ℕ) → IsSound s
-      → IsReady s r u (Aim.Undoing lsn d)
-      → ledger_of (undone s r u lsn d waiting) ≡ after (Entry.Undid r.txn u.number) (ledger_of s)
-  pub ends_abort : (s : State) (r : Row) → ledger_of (aborted s r) ≡ after (Entry.Aborted r.txn) (ledger_of s)
+      → s.failed ≡ false → IsReady s r u (Aim.Undoing lsn d)
+      → ((g : ℕ) → waits waiting g ≡ waits s.waiting g + took g d)
+      → Steps s (Call.Finish r.txn u.number) Reply.Gave_undone (undone s r u lsn d waiting)
+  pub none_left : (s : State) (r : Row) → IsSound s → s.failed ≡ false → IsIdle s r → r.aborting ≡ true
+      → r.finished ≡ [] → Steps s (Call.Undo_next r.txn) Reply.Gave_none s
+  pub ends_abort : (s : State) (r : Row) → IsSound s → s.failed ≡ false → IsIdle s r → r.aborting ≡ true
+      → r.finished ≡ [] → log_full (ledger_of s) 1 ≡ false
+      → Steps s (Call.End_abort r.txn) Reply.Gave_aborted (aborted s r)
+  pub forces : (s : State) → IsSound s → s.failed ≡ false
+      → Steps s Call.Force (Reply.Gave_forced (length s.records)) (forced s)
 
 -- A store with one operation at most under way, a send or a receive, that is sound as one of these, is sound; and its
 -- ledger is the same.

@@ -5,7 +5,7 @@
 //! The definitions stand in specs/, the theorems are the contracts of the functions here.
 #![tactic(auto)]
 
-ghost use Rattle.rq_sound.specs.Theorems.{CallsKeepSoundness, InversesCanBePlanned, TestsAreAnswered, AbortsAreEntries, OneUnderWayIsSound, OpenedIsSound};
+ghost use Rattle.rq_sound.specs.Theorems.{CallsKeepSoundness, InversesCanBePlanned, TestsAreAnswered, AbortsAreSteps, OneUnderWayIsSound, OpenedIsSound};
 ghost use Rattle.rq_sound.specs.Worked.{AbortBesideASend, NotSound, TwoUnderWay};
 
 /// Each call keeps a store sound: a begin; the start of a send, a receive, a close or an inverse, each of its writes and
@@ -25,9 +25,10 @@ pub fn tests_are_answered()
     ensures { TestsAreAnswered }
 {}
 
-/// What aborts and inverses make of the ledger is what their entries of the history make of it.
-pub fn aborts_are_entries()
-    ensures { AbortsAreEntries }
+/// Aborts are steps of the model, with their inverses: each answer is a legal entry, and the ledger is what it makes of
+/// the one before. So are slot writes, begins and forces.
+pub fn aborts_are_steps()
+    ensures { AbortsAreSteps }
 {}
 
 /// A store that is sound with one operation under way at most is sound, with the same ledger.
