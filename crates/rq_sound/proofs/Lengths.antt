@@ -1,4 +1,4 @@
--- How many slots the inverse of a deed writes, by what stands in its sender's chain.
+-- How many slots a deed and its inverse write, by what stands in their sender's chain.
 use Rattle.std.proofs.Common.{◌≡◌, ℕ, ◌+◌, ◌<◌, ◌++◌, List, [], ◌∷◌, length, refl, sym, ◌∙◌, ap, subst, false, cond, nat_eq, nat_lt, Option, Some, None, arith}
 use Rattle.std.proofs.lemmas.Bool.{lt-ltb, eqb-true, false_from_ne_true}
 use Rattle.std.proofs.lemmas.List.{length-append, length-map}
@@ -7,10 +7,10 @@ use Rattle.rq_model.specs.declared.record.Deed.TheVariants.{Append, UnlinkHead, 
 use Rattle.rq_page.specs.declared.cell.Cell.{Cell}
 use Rattle.rq_page.specs.declared.directory.Directory.{Directory}
 use Rattle.rq_page.specs.Slots.Slot.{Free, Used, Sender}
-use Rattle.rq_views.specs.Chain.{Node, Linked, View, first, last, message}
+use Rattle.rq_views.specs.Chain.{directory_appended, Node, Linked, View, first, last, message}
 use Rattle.rq_views.specs.Log.{Slots, put, cell_in, cells_of, Write, HasBefores, Layout}
-use Rattle.rq_views.specs.Plans.{ShowsAt, IsPlan, LinksTo, deed_sender, relinked, with_next, with_prev, directory_write, directory_tail_unlinked, directory_put_back, unlink_tail_writes, put_back_writes}
-use Rattle.rq_views.specs.Plans.Turn.{Undid}
+use Rattle.rq_views.specs.Plans.{ShowsAt, IsPlan, LinksTo, deed_sender, relinked, with_next, with_prev, directory_write, directory_tail_unlinked, directory_put_back, unlink_tail_writes, put_back_writes, append_writes, unlink_head_writes, directory_head_unlinked}
+use Rattle.rq_views.specs.Plans.Turn.{Did, Undid}
 use Rattle.rq_views.proofs.Chains.{end_linked, front_linked, last_append, last_pos}
 use Rattle.rq_views.proofs.Laws.{through, used_sender, free_sender, shows_here}
 use Rattle.rq_views.proofs.Takes.{snoc, some_is}
@@ -94,3 +94,50 @@ inverse_length l q ws (UnlinkHead s n tag body) v p f h =
     let len : length v.messages ≡ length k.nodes = ap (λ (xs : List (ℕ × List ℕ)). length xs) k.messages ∙ length-map k.nodes message in
     ap length p.writes ∙ back_length l q s p.new tag body p.directory p.old k.nodes p.old_is k.linked k.head ∙ ap (λ m. cond (nat_eq m 0) 2 3) (sym len)
 inverse_length l q ws (Close s) v p f h = ap length p.writes
+
+-- and what it says that the deed writes
+abbrev pub deed_writes : Deed → ℕ → ℕ
+deed_writes (Append s n tag previous body) m = cond (nat_eq m 0) 2 3
+deed_writes (UnlinkHead s n tag body) m = cond (nat_lt 1 m) 3 2
+deed_writes (Close s) m = 1
+
+append_length : (l : Layout) (q : Slots) (s new tag : ℕ) (body : List ℕ) (d : Directory) (old : Option Cell) (ns : List Node) → LinksTo s d.tail old → Linked (cells_of q) s 0 (d.received + 1) ns 0 → d.tail ≡ last 0 ns
+    → length (append_writes l s d new tag body old) ≡ cond (nat_eq (length ns) 0) 2 3
+append_length l q s new tag body d old ns link k t =
+    let w = two_or_three (directory_write l s d (directory_appended d new tag)) d.tail old (with_next new) (record { at = new; before = Free; after = Used (record { sender = s; sequence = d.sent + 1; tag = tag; body = body; next = 0; prev = d.tail }) }) s link in
+    at ns k t w.0 w.1
+  where
+    more : (n : Node) (ns : List Node) → nat_eq (length (n ∷ ns)) 0 ≡ false
+    more n ns = false_from_ne_true (nat_eq (length (n ∷ ns)) 0) (λ y. let e = eqb-true (length (n ∷ ns)) 0 y in absurd (omega (arith, e)))
+
+    at : (ns : List Node) → Linked (cells_of q) s 0 (d.received + 1) ns 0 → d.tail ≡ last 0 ns → ((d.tail ≡ 0) → length (append_writes l s d new tag body old) ≡ 2) → ((0 < d.tail) → length (append_writes l s d new tag body old) ≡ 3)
+        → length (append_writes l s d new tag body old) ≡ cond (nat_eq (length ns) 0) 2 3
+    at [] k t two three = two t
+    at (n ∷ ns) k t two three = three (let p = last_pos (cells_of q) s 0 (d.received + 1) n ns 0 k in omega (arith, t, p)) ∙ ap (λ b. cond b 2 3) (sym (more n ns))
+
+head_length : (l : Layout) (q : Slots) (s : ℕ) (d : Directory) (c : Cell) (next : Option Cell) (ns : List Node) → 0 < d.head → LinksTo s c.next next → Used c ≡ q d.head → Linked (cells_of q) s 0 (d.received + 1) ns 0 → d.head ≡ first ns 0
+    → length (unlink_head_writes l s d c next) ≡ cond (nat_lt 1 (length ns)) 3 2
+head_length l q s d c next [] pos link at k h = absurd (let e : d.head ≡ 0 = h in omega (arith, e, pos))
+head_length l q s d c next (n ∷ ns) pos link at k h =
+    let w = two_or_three (directory_write l s d (directory_head_unlinked d c)) c.next next (with_prev 0) (record { at = d.head; before = Used c; after = Free }) s link in
+    let is = some_is _ _ (ap cell_in at ∙ ap (cells_of q) h ∙ k.1) in
+    from ns k.2 (ap (λ (x : Cell). x.next) is) w.0 w.1
+  where
+    from : (ns : List Node) → Linked (cells_of q) s n.at (d.received + 1 + 1) ns 0 → c.next ≡ first ns 0 → ((c.next ≡ 0) → length (unlink_head_writes l s d c next) ≡ 2) → ((0 < c.next) → length (unlink_head_writes l s d c next) ≡ 3)
+        → length (unlink_head_writes l s d c next) ≡ cond (nat_lt 1 (length (n ∷ ns))) 3 2
+    from [] k e two three = two e
+    from (m ∷ ms) k e two three = three (let p : 0 < m.at = k.0 in omega (arith, e, p)) ∙ ap (λ b. cond b 3 2) (sym (lt-ltb 1 (length (n ∷ m ∷ ms)) (omega arith)))
+
+-- the length of the deed's plan is what the model says
+pub deed_length : (l : Layout) (q : Slots) (ws : List Write) (d : Deed) (v : View) → IsPlan l (Did d) ws → HasBefores ws q → ShowsAt l q (deed_sender d) v → length ws ≡ deed_writes d (length v.messages)
+deed_length l q ws (Append s n tag previous body) v p f h =
+    let t = back_there l q s p.directory (directory_appended p.directory p.new tag) p.directory.tail p.old (with_next p.new) p.new (record { sender = s; sequence = p.directory.sent + 1; tag = tag; body = body; next = 0; prev = p.directory.tail }) (subst (λ x. HasBefores x q) p.writes f) in
+    let k = shows_here l q s v p.directory t h in
+    let len : length v.messages ≡ length k.nodes = ap (λ (xs : List (ℕ × List ℕ)). length xs) k.messages ∙ length-map k.nodes message in
+    ap length p.writes ∙ append_length l q s p.new tag body p.directory p.old k.nodes p.old_is k.linked k.tail ∙ ap (λ m. cond (nat_eq m 0) 2 3) (sym len)
+deed_length l q ws (UnlinkHead s n tag body) v p f h =
+    let t = tail_there l q s p.directory (directory_head_unlinked p.directory p.cell) p.cell.next p.next (with_prev 0) p.directory.head p.cell (subst (λ x. HasBefores x q) p.writes f) in
+    let k = shows_here l q s v p.directory t.0 h in
+    let len : length v.messages ≡ length k.nodes = ap (λ (xs : List (ℕ × List ℕ)). length xs) k.messages ∙ length-map k.nodes message in
+    ap length p.writes ∙ head_length l q s p.directory p.cell p.next k.nodes p.used p.next_is t.1 k.linked k.head ∙ ap (λ m. cond (nat_lt 1 m) 3 2) (sym len)
+deed_length l q ws (Close s) v p f h = ap length p.writes
