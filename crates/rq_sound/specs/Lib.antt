@@ -1,0 +1,11 @@
+pub mod Rows
+pub mod Standing
+pub mod Counted
+pub mod Sound
+pub mod Starts
+pub mod Calls
+pub mod OneUnder
+pub mod Steps
+pub mod Theorems
+pub mod Course
+pub mod Worked

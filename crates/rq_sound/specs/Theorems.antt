@@ -1,0 +1,138 @@
+-- What holds of every sound store, with whatever operations under way.
+use Rattle.std.specs.Prelude.{◌≡◌, ℕ, ◌+◌, ◌-◌, ◌/◌, ◌<◌, ◌^◌, ◌||◌, true, false, not, nat_lt, nat_eq, List, [], ◌∷◌, ◌++◌, length, Some}
+use Rattle.std.specs.List.{sum_by}
+use Rattle.rq_model.specs.declared.txn.Sub.{Sub}
+use Rattle.rq_model.specs.declared.txn.Txn.{Txn}
+use Rattle.rq_model.specs.declared.record.Deed.{Deed}
+use Rattle.rq_model.specs.declared.record.Deed.TheVariants.{Close}
+use Rattle.rq_model.specs.declared.record.Record.{Record}
+use Rattle.rq_model.specs.Commits.{committed_of}
+use Rattle.rq_model.specs.History.{Call}
+use Rattle.rq_model.specs.Ledger.{ended_in, in_chain, rest_in}
+use Rattle.rq_model.specs.Tests.{cells_in_use, has_closed, log_full, undo_cost}
+use Rattle.rq_model.specs.Replay.{Reply}
+use Rattle.rq_model.specs.Unended.{unfinished, lost}
+use Rattle.rq_model.specs.Words.{In}
+use Rattle.rq_page.specs.Sizes.{Sizes, IsInRange, IsCellAddress, cell_count, directory_at, sender_count}
+use Rattle.rq_page.specs.Slots.Slot.{Free}
+use Rattle.rq_views.specs.Claims.{takes_of, takes_placed}
+use Rattle.rq_views.specs.Items.{items, layout_of}
+use Rattle.rq_views.specs.Legal.{open_deeds, under_way, view}
+use Rattle.rq_views.specs.Log.{HasBefores, Write}
+use Rattle.rq_views.specs.Plans.{IsPlan, deed_sender}
+use Rattle.rq_views.specs.Plans.Turn.{Undid}
+use Rattle.rq_views.specs.Stored.{slots_in}
+use Rattle.rq_level.specs.declared.writes.SlotWrite.{SlotWrite}
+use Rattle.rq_txn.specs.declared.Finished.{Finished}
+use Rattle.rq_groups.specs.Ends.{is_free_for}
+use Rattle.rq_groups.specs.Waiting.{waits}
+use Rattle.rq_store.specs.Fitting.{left_by, image_in, FitsLog}
+use Rattle.rq_store.specs.Opening.{opened}
+use Rattle.rq_store.specs.Sound as one_sound
+use Rattle.rq_store.specs.State as one
+use Rattle.rq_store.specs.State.{size_of, op_done}
+use Rattle.rq_store.specs.Steps.{took}
+use Rattle.rq_store.specs.Whole.{IsWhole}
+use Rattle.rq_sound.specs.Rows.{Aim, Under, Row, latched_in}
+use Rattle.rq_sound.specs.Counted.{takes_in}
+use Rattle.rq_sound.specs.Sound.{State, IsSound, ledger_of, open_of}
+use Rattle.rq_sound.specs.Starts.{MayDo, MayUndo, with_end}
+use Rattle.rq_sound.specs.Steps.{Steps}
+use Rattle.rq_sound.specs.Calls.{next_txn, begun, started, stepped, IsNextWrite, finished, undone, IsReady, IsIdle, committed, MayCommit, aborting, aborted, forced, failed}
+use Rattle.rq_sound.specs.OneUnder.{aimed_store}
+
+-- each call keeps a store sound
+pub record CallsKeepSoundness : Type 0 where
+  pub begins : (s : State) → IsSound s → IsSound (begun s)
+  pub starts : (s : State) (r : Row) (u : Under) (d : Deed) → IsSound s → MayDo s r u d
+      → IsSound (started s r u (with_end r.txn d s.ends))
+  pub starts_inverse : (s : State) (r : Row) (u : Under) (rest : List Finished) (f : Finished) → IsSound s
+      → MayUndo s r u rest f → IsSound (started s r u s.ends)
+  pub steps : (s : State) (r : Row) (u : Under) (w : SlotWrite) (images : List (List ℕ)) → IsSound s
+      → IsNextWrite s r u w images → IsSound (stepped s r u w images)
+  pub finishes : (s : State) (r : Row) (u : Under) (d : Deed) (waiting : List ℕ) → IsSound s
+      → IsReady s r u (Aim.Doing d) → ((g : ℕ) → waits waiting g ≡ waits s.waiting g - took g d)
+      → IsSound (finished s r u d waiting)
+  pub undoes : (s : State) (r : Row) (u : Under) (lsn : ℕ) (d : Deed) (waiting : List ℕ) → IsSound s
+      → IsReady s r u (Aim.Undoing lsn d) → ((g : ℕ) → waits waiting g ≡ waits s.waiting g + took g d)
+      → IsSound (undone s r u lsn d waiting)
+  pub commits : (s : State) (r : Row) (cells : ℕ) (waiting : List ℕ) → IsSound s → MayCommit s r cells waiting
+      → IsSound (committed s r cells waiting)
+  pub starts_abort : (s : State) (r : Row) → IsSound s → IsIdle s r → IsSound (aborting s r)
+  pub ends_abort : (s : State) (r : Row) → IsSound s → IsIdle s r → r.finished ≡ [] → IsSound (aborted s r)
+  pub forces : (s : State) → IsSound s → IsSound (forced s)
+  pub fails : (s : State) → IsSound s → IsSound (failed s)
+
+-- The newest deed of a transaction with nothing under way can be undone over the slots as they are, whatever others do
+-- meanwhile, once nobody has latched the page of its sender's directory slot: a message that was taken finds a free
+-- cell. So does a message that is sent where the store is not full, and one that a lost transaction took.
+pub record InversesCanBePlanned : Type 0 where
+  pub planned : (s : State) (r : Row) (rest : List Finished) (f : Finished) → IsSound s → IsIdle s r
+      → r.finished ≡ rest ++ f ∷ [] → latched_in s.rows (directory_at (deed_sender f.deed) / 16) ≡ false
+      → (ws : List Write) × IsPlan (layout_of s.sizes) (Undid f.deed) ws
+      × HasBefores ws (left_by s.sizes s.records).slots
+  pub put_back_finds : (s : State) (r : Row) (rest : List Finished) (f : Finished) → IsSound s → IsIdle s r
+      → r.finished ≡ rest ++ f ∷ [] → takes_of f.deed ≡ 1
+      → (a : ℕ) × IsCellAddress s.sizes a × ((left_by s.sizes s.records).slots a ≡ Free)
+  pub reopen_finds : (s : State) (r : Row) (rest : List Finished) (f : Finished) (g : ℕ) → IsSound s → IsIdle s r
+      → r.finished ≡ rest ++ f ∷ [] → f.deed ≡ Close g → (view (items s.sizes s.records) g).closed ≡ true
+  pub send_finds : (s : State) → IsSound s → s.cells_in_use < cell_count s.sizes
+      → (a : ℕ) × IsCellAddress s.sizes a × ((left_by s.sizes s.records).slots a ≡ Free)
+  pub lost_finds : (z : Sizes) (log : List Record) (t : Txn) → IsWhole z log
+      → ((o : Sub) → under_way o (items z log) ≡ false) → 0 < sum_by takes_placed (open_deeds t (items z log))
+      → (a : ℕ) × IsCellAddress z a × ((left_by z log).slots a ≡ Free)
+
+-- What the model's tests ask, by what the store keeps: how many cells are in use, whether a group is closed for who may
+-- send, what waits for who may receive, and how long a chain is.
+pub record TestsAreAnswered : Type 0 where
+  pub cells : (s : State) → IsSound s → cells_in_use (size_of s.sizes) (ledger_of s) ≡ s.cells_in_use
+  pub closed : (s : State) (g : ℕ) (r : Row) → IsSound s → In r s.rows → is_free_for r.txn g s.ends.sending ≡ true
+      → (view (items s.sizes s.records) g).closed
+      ≡ (ended_in (committed_of s.records) g || has_closed g (Some (open_of s.ends r)))
+  pub waiting : (s : State) (g : ℕ) (r : Row) → IsSound s → g < sender_count s.sizes → In r s.rows
+      → is_free_for r.txn g s.ends.receiving ≡ true
+      → waits s.waiting g + takes_in g r ≡ length (rest_in (committed_of s.records) g)
+  pub chain : (s : State) (g : ℕ) → IsSound s
+      → in_chain (ledger_of s) g ≡ length (view (items s.sizes s.records) g).messages
+
+-- Aborts are steps of the model: their start, the start of an inverse, each of its writes, that these are all made, its
+-- end, that nothing is left to undo, and the abort's end. So are a begin and a force. Where the log has no room the
+-- model refuses them, so room is asked for here.
+pub record AbortsAreSteps : Type 0 where
+  pub begins : (s : State) → IsSound s → s.failed ≡ false
+      → (not (nat_lt (length s.rows) 4096) || nat_eq s.begins (2 ^ 64 - 1)) ≡ false
+      → Steps s Call.Begin (Reply.Gave_txn (next_txn s)) (begun s)
+  pub starts_abort : (s : State) (r : Row) → IsSound s → s.failed ≡ false → IsIdle s r → r.aborting ≡ false
+      → Steps s (Call.Start_abort r.txn) Reply.Gave_aborting (aborting s r)
+  pub starts_inverse : (s : State) (r : Row) (u : Under) (rest : List Finished) (f : Finished) → IsSound s
+      → s.failed ≡ false → MayUndo s r u rest f
+      → log_full (ledger_of s) (undo_cost (Some (op_done f))) ≡ false
+      → Steps s (Call.Undo_next r.txn) (Reply.Gave_sub r.txn (r.number + 1)) (started s r u s.ends)
+  pub steps : (s : State) (r : Row) (u : Under) (w : SlotWrite) (images : List (List ℕ)) → IsSound s
+      → s.failed ≡ false → IsNextWrite s r u w images
+      → Steps s (Call.Step r.txn u.number) (Reply.Gave_lsn (length s.records + 1)) (stepped s r u w images)
+  pub all_made : (s : State) (r : Row) (u : Under) (aim : Aim) → IsSound s → s.failed ≡ false → IsReady s r u aim
+      → Steps s (Call.Step r.txn u.number) Reply.Gave_ready s
+  pub undoes : (s : State) (r : Row) (u : Under) (lsn : ℕ) (d : Deed) (waiting : List ℕ) → IsSound s
+      → s.failed ≡ false → IsReady s r u (Aim.Undoing lsn d)
+      → ((g : ℕ) → waits waiting g ≡ waits s.waiting g + took g d)
+      → Steps s (Call.Finish r.txn u.number) Reply.Gave_undone (undone s r u lsn d waiting)
+  pub none_left : (s : State) (r : Row) → IsSound s → s.failed ≡ false → IsIdle s r → r.aborting ≡ true
+      → r.finished ≡ [] → Steps s (Call.Undo_next r.txn) Reply.Gave_none s
+  pub ends_abort : (s : State) (r : Row) → IsSound s → s.failed ≡ false → IsIdle s r → r.aborting ≡ true
+      → r.finished ≡ [] → log_full (ledger_of s) 1 ≡ false
+      → Steps s (Call.End_abort r.txn) Reply.Gave_aborted (aborted s r)
+  pub forces : (s : State) → IsSound s → s.failed ≡ false
+      → Steps s Call.Force (Reply.Gave_forced (length s.records)) (forced s)
+
+-- A store with one operation at most under way, a send or a receive, that is sound as one of these, is sound; and its
+-- ledger is the same.
+pub record OneUnderWayIsSound : Type 0 where
+  pub sound : (s : one.State) → one_sound.IsSound s → IsSound (aimed_store s)
+  pub ledger : (s : one.State) → ledger_of (aimed_store s) ≡ one.ledger_of s
+
+-- so a store that opens over a log in which everything has ended is sound
+abbrev pub OpenedIsSound : Type 0
+OpenedIsSound = (z : Sizes) (images : List (List ℕ)) (log : List Record) → IsInRange z → IsWhole z log
+    → unfinished log ≡ [] → lost log ≡ [] → ((a : ℕ) → slots_in z images a ≡ (left_by z log).slots a)
+    → FitsLog z (image_in images) log → IsSound (aimed_store (opened z images log))

@@ -1,0 +1,72 @@
+-- What is sound, and what is not.
+use Rattle.std.specs.Prelude.{◌≡◌, ◌≢◌, ℕ, ◌+◌, ◌<◌, true, false, List, [], ◌∷◌, ◌++◌, Some}
+use Rattle.rq_model.specs.declared.txn.Txn.{Txn}
+use Rattle.rq_model.specs.declared.record.Deed.{Deed}
+use Rattle.rq_model.specs.Content.{deeds}
+use Rattle.rq_model.specs.Rules.{any_use, uses_send}
+use Rattle.rq_model.specs.Words.{In, same_txn}
+use Rattle.rq_views.specs.Row.{sizes, t1, t2, sends}
+use Rattle.rq_txn.specs.declared.Finished.{Finished}
+use Rattle.rq_groups.specs.Ends.{has_held}
+use Rattle.rq_groups.specs.Waiting.{waits}
+use Rattle.rq_store.specs.Worked.{AreFormatted}
+use Rattle.rq_sound.specs.Rows.{Aim, Under, Row, fresh_row, latched_by, row_aborting}
+use Rattle.rq_sound.specs.Counted.{sends_in}
+use Rattle.rq_sound.specs.Sound.{State, IsSound}
+use Rattle.rq_sound.specs.Starts.{MayDo, MayUndo}
+use Rattle.rq_sound.specs.Calls.{IsNextWrite, IsReady, IsIdle, MayCommit}
+use Rattle.rq_sound.specs.Course.{send_a, send_b, cell_a, group_a, both_begun, one_under, two_under, Frames, AreMade, with_made, row_a, wrote_cell_a, wrote_group_a, sent, done_a, row_done, aborts_a, undo_a, row_undoing, undoes_a, undid_group, aborted_a, done_b, row_sent, committed_b}
+
+-- two sends may be under way at once, but not where they meet on a page or at an end
+pub record TwoUnderWay : Type 0 where
+  pub first : (images : List (List ℕ)) → AreFormatted sizes images → MayDo (both_begun images) (fresh_row t1) send_a (sends 0)
+  pub second : (images : List (List ℕ)) → AreFormatted sizes images → MayDo (one_under images) (fresh_row t2) send_b (sends 15)
+  pub sound : (images : List (List ℕ)) → AreFormatted sizes images → IsSound (two_under images)
+  pub same_page : (images : List (List ℕ)) (u : Under) (d : Deed) → latched_by u 1 ≡ true
+      → MayDo (one_under images) (fresh_row t2) u d → ⊥
+  pub same_end : (images : List (List ℕ)) (u : Under) → MayDo (one_under images) (fresh_row t2) u (sends 0) → ⊥
+
+-- what no sound store has: two operations that have latched one page; an end with two holders; a deed under way of who
+-- aborts, and an inverse of who doesn't, or of a deed that is not the newest; who let go of an end that it used, even
+-- where it has undone that; a cell more than are used
+pub record NotSound : Type 0 where
+  pub one_page : (s : State) (r q : Row) (u v : Under) (p : ℕ) → In r s.rows → In q s.rows → r.txn ≢ q.txn
+      → r.under ≡ Some u → q.under ≡ Some v → latched_by u p ≡ true → latched_by v p ≡ true → IsSound s → ⊥
+  pub one_end : (s : State) (t u : Txn) (g : ℕ) → t ≢ u → has_held t g s.ends.sending ≡ true
+      → has_held u g s.ends.sending ≡ true → IsSound s → ⊥
+  pub does : (s : State) (r : Row) (u : Under) (d : Deed) → In r s.rows → r.under ≡ Some u → u.aim ≡ Aim.Doing d
+      → r.aborting ≡ true → IsSound s → ⊥
+  pub undoes : (s : State) (r : Row) (u : Under) (lsn : ℕ) (d : Deed) → In r s.rows → r.under ≡ Some u
+      → u.aim ≡ Aim.Undoing lsn d → r.aborting ≡ false → IsSound s → ⊥
+  pub older : (s : State) (r : Row) (u : Under) (lsn : ℕ) (d : Deed) (rest : List Finished) (f : Finished)
+      → In r s.rows → r.under ≡ Some u → u.aim ≡ Aim.Undoing lsn d → r.finished ≡ rest ++ f ∷ [] → f.lsn ≢ lsn
+      → IsSound s → ⊥
+  pub let_go : (s : State) (r : Row) (g : ℕ) → In r s.rows
+      → any_use (uses_send g) (deeds (λ u. same_txn u r.txn) s.records) ≡ true
+      → has_held r.txn g s.ends.sending ≡ false → IsSound s → ⊥
+  pub counts_more : (s : State) → IsSound s → IsSound (record s { cells_in_use = s.cells_in_use + 1 }) → ⊥
+
+-- An abort goes on beside a send that is under way, and the store stays sound: what each call of the course needs is
+-- there, and what is not there yet is refused.
+pub record AbortBesideASend : Type 0 where
+  pub next : (v : Frames) → AreMade v → IsNextWrite (two_under v.start) (row_a 0) send_a cell_a v.cell_of_a
+  pub not_next : (v : Frames) → IsNextWrite (two_under v.start) (row_a 0) send_a group_a v.cell_of_a → ⊥
+  pub ready : (v : Frames) → IsReady (wrote_group_a v) (row_a 2) (with_made 2 send_a) (Aim.Doing (sends 0))
+  pub not_ready : (v : Frames) → IsReady (wrote_cell_a v) (row_a 1) (with_made 1 send_a) (Aim.Doing (sends 0)) → ⊥
+  pub idle : (v : Frames) → IsIdle (done_a v) row_done
+  pub not_idle : (v : Frames) → IsIdle (wrote_group_a v) (row_a 2) → ⊥
+  pub may_undo : (v : Frames) → MayUndo (aborts_a v) (row_aborting row_done) undo_a [] sent
+  pub not_aborting : (v : Frames) → MayUndo (done_a v) row_done undo_a [] sent → ⊥
+  pub undo_ready : (v : Frames) → IsReady (undid_group v) (row_undoing 2) (with_made 2 undo_a) (Aim.Undoing 5 (sends 0))
+  pub may_commit : (v : Frames) (waiting : List ℕ)
+      → ((g : ℕ) → g < 30 → waits waiting g ≡ waits (done_b v).waiting g + sends_in g row_sent)
+      → MayCommit (done_b v) row_sent (done_b v).cells_in_use waiting
+  pub commit_of_aborting : (v : Frames) (cells : ℕ) (waiting : List ℕ)
+      → MayCommit (aborts_a v) (row_aborting row_done) cells waiting → ⊥
+  pub undoing : (v : Frames) → AreMade v → IsSound (undoes_a v)
+  pub aborted : (v : Frames) → AreMade v → IsSound (aborted_a v)
+  pub committed : (v : Frames) (waiting : List ℕ) → AreMade v
+      → ((g : ℕ) → g < 30 → waits waiting g ≡ waits (done_b v).waiting g + sends_in g row_sent)
+      → IsSound (committed_b v waiting)
+  -- nothing is counted of t1, and one cell of t2
+  pub cells : (v : Frames) → AreMade v → (aborted_a v).cells_in_use ≡ 1
