@@ -5,7 +5,7 @@ use Rattle.rq_views.specs.Log.{Write, HasBefores, Item, state_of}
 use Rattle.rq_views.specs.Items.{items}
 use Rattle.rq_views.specs.Plans.{IsPlan}
 use Rattle.rq_views.specs.Plans.Turn.{Undid}
-use Rattle.rq_views.specs.Row.{sizes, small, cell, sends, sent_a, row, free_a}
+use Rattle.rq_views.specs.WorkedItems.{sizes, small, cell, sends, sent_a, row, free_a}
 use Rattle.rq_level.specs.Writes.{writes_of}
 use Rattle.rq_level.specs.declared.writes.SlotWrite.{SlotWrite}
 use Rattle.std.proofs.lemmas.Option.{same_Some}

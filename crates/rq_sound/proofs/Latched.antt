@@ -4,7 +4,7 @@ use Rattle.std.proofs.lemmas.Bool.{true≢false}
 use Rattle.rq_model.specs.declared.record.Deed.TheVariants.{Append, UnlinkHead, Close}
 use Rattle.rq_model.specs.declared.txn.Sub.{Sub}
 use Rattle.rq_page.specs.declared.directory.Directory.{Directory}
-use Rattle.rq_views.specs.Log.{Item, Layout, LogState, Write, Untouched, state_of}
+use Rattle.rq_views.specs.Log.{Item, Places, LogState, Write, Untouched, state_of}
 use Rattle.rq_views.specs.Plans.{ShowsAt, Spares, Turn, IsPlan, turn_sender, directory_write}
 use Rattle.rq_views.specs.Plans.Turn.{Did, Undid}
 use Rattle.rq_views.specs.Legal.{IsLegalLog, IsLayout, onto, view}
@@ -18,11 +18,11 @@ slots_are_quiet page z a g none = elim (g.each a) [
   | inr k ↦ k.1
 ]
 
-first_off : (l : Layout) (r s : ℕ) (d e : Directory) (ws us : List Write) → ws ≡ directory_write l r d e ∷ us → Untouched (l.directory_at s) ws → r ≢ s
+first_off : (l : Places) (r s : ℕ) (d e : Directory) (ws us : List Write) → ws ≡ directory_write l r d e ∷ us → Untouched (l.directory_at s) ws → r ≢ s
 first_off l r s d e ws us is off = λ same. (subst (Untouched (l.directory_at s)) is off).0 (ap l.directory_at (sym same))
 
 -- an operation that does not write the directory slot of s is not of s
-pub not_of : (l : Layout) (s : ℕ) (t : Turn) (ws : List Write) → IsPlan l t ws → Untouched (l.directory_at s) ws → turn_sender t ≢ s
+pub not_of : (l : Places) (s : ℕ) (t : Turn) (ws : List Write) → IsPlan l t ws → Untouched (l.directory_at s) ws → turn_sender t ≢ s
 not_of l s (Did (Append r n tag previous body)) ws p off = first_off l r s _ _ ws _ p.writes off
 not_of l s (Did (UnlinkHead r n tag body)) ws p off = first_off l r s _ _ ws _ p.writes off
 not_of l s (Did (Close r)) ws p off = first_off l r s _ _ ws _ p.writes off
@@ -35,14 +35,14 @@ part_spares s [] ws h = h
 part_spares s (w ∷ owed) ws h = (part_spares s owed (w ∷ ws) h).1
 
 -- what an operation that has made these writes is for, with what it owes
-pub record IsFor (l : Layout) (s : ℕ) (ws : List Write) : Type 0 where
+pub record IsFor (l : Places) (s : ℕ) (ws : List Write) : Type 0 where
   pub turn : Turn
   pub owed : List Write
   pub plan : IsPlan l turn (onto owed ws)
   pub off : Untouched (l.directory_at s) (onto owed ws)
 
 -- where no operation under way is to write the directory slot of s, the slots show the view of s
-pub shown_unlatched : (l : Layout) (log : List Item) (s : ℕ) → IsLayout l → IsLegalLog l log → s < l.senders
+pub shown_unlatched : (l : Places) (log : List Item) (s : ℕ) → IsLayout l → IsLegalLog l log → s < l.senders
     → ((o : Sub) → ((state_of l log).writes o ≡ []) ⊎ IsFor l s ((state_of l log).writes o)) → ShowsAt l (state_of l log).slots s (view log s)
 shown_unlatched l log s is legal below h = views l log s is legal below (λ o. elim (h o) [
   | inl e ↦ subst (Spares s) (sym e) tt

@@ -8,7 +8,7 @@ use Rattle.rq_page.specs.declared.cell.Cell.{Cell}
 use Rattle.rq_page.specs.declared.directory.Directory.{Directory}
 use Rattle.rq_page.specs.Slots.Slot.{Free, Used, Sender}
 use Rattle.rq_views.specs.Chain.{directory_appended, Node, Linked, View, first, last, message}
-use Rattle.rq_views.specs.Log.{Slots, put, cell_in, cells_of, Write, HasBefores, Layout}
+use Rattle.rq_views.specs.Log.{Slots, put, cell_in, cells_of, Write, HasBefores, Places}
 use Rattle.rq_views.specs.Plans.{ShowsAt, IsPlan, LinksTo, deed_sender, relinked, with_next, with_prev, directory_write, directory_tail_unlinked, directory_put_back, unlink_tail_writes, put_back_writes, append_writes, unlink_head_writes, directory_head_unlinked}
 use Rattle.rq_views.specs.Plans.Turn.{Did, Undid}
 use Rattle.rq_views.proofs.Chains.{end_linked, front_linked, last_append, last_pos}
@@ -21,13 +21,13 @@ inverse_writes (Append s n tag previous body) m = cond (nat_lt 1 m) 3 2
 inverse_writes (UnlinkHead s n tag body) m = cond (nat_eq m 0) 2 3
 inverse_writes (Close s) m = 1
 
-tail_there : (l : Layout) (q : Slots) (s : ℕ) (d e : Directory) (at : ℕ) (o : Option Cell) (f : Cell → Cell) (b : ℕ) (c : Cell) → HasBefores (directory_write l s d e ∷ relinked at o f (record { at = b; before = Used c; after = Free } ∷ [])) q → (Sender s d ≡ q (l.directory_at s)) × (Used c ≡ q b)
+tail_there : (l : Places) (q : Slots) (s : ℕ) (d e : Directory) (at : ℕ) (o : Option Cell) (f : Cell → Cell) (b : ℕ) (c : Cell) → HasBefores (directory_write l s d e ∷ relinked at o f (record { at = b; before = Used c; after = Free } ∷ [])) q → (Sender s d ≡ q (l.directory_at s)) × (Used c ≡ q b)
 tail_there l q s d e at None f b c h = ((through q b Free (Sender s d) (l.directory_at s) (free_sender s d) h.0).1, h.1.0)
 tail_there l q s d e at (Some x) f b c h =
     let t = through (put q b Free) at (Used (f x)) (Sender s d) (l.directory_at s) (used_sender (f x) s d) h.0 in
     ((through q b Free (Sender s d) (l.directory_at s) (free_sender s d) t.1).1, h.1.1.0)
 
-back_there : (l : Layout) (q : Slots) (s : ℕ) (d e : Directory) (at : ℕ) (o : Option Cell) (f : Cell → Cell) (b : ℕ) (c : Cell) → HasBefores (directory_write l s d e ∷ relinked at o f (record { at = b; before = Free; after = Used c } ∷ [])) q → Sender s d ≡ q (l.directory_at s)
+back_there : (l : Places) (q : Slots) (s : ℕ) (d e : Directory) (at : ℕ) (o : Option Cell) (f : Cell → Cell) (b : ℕ) (c : Cell) → HasBefores (directory_write l s d e ∷ relinked at o f (record { at = b; before = Free; after = Used c } ∷ [])) q → Sender s d ≡ q (l.directory_at s)
 back_there l q s d e at None f b c h = (through q b (Used c) (Sender s d) (l.directory_at s) (used_sender c s d) h.0).1
 back_there l q s d e at (Some x) f b c h =
     let t = through (put q b (Used c)) at (Used (f x)) (Sender s d) (l.directory_at s) (used_sender (f x) s d) h.0 in
@@ -51,7 +51,7 @@ tail_prev m s q (y ∷ ys) x c k e =
     cons_not : (y : Node) (ys : List Node) → y ∷ ys ≡ [] → ⊥
     cons_not y ys n = cc
 
-tail_length : (l : Layout) (q : Slots) (s previous : ℕ) (d : Directory) (c : Cell) (front : Option Cell) (ns : List Node) → 0 < d.tail → LinksTo s c.prev front → Used c ≡ q d.tail → Linked (cells_of q) s 0 (d.received + 1) ns 0 → d.tail ≡ last 0 ns
+tail_length : (l : Places) (q : Slots) (s previous : ℕ) (d : Directory) (c : Cell) (front : Option Cell) (ns : List Node) → 0 < d.tail → LinksTo s c.prev front → Used c ≡ q d.tail → Linked (cells_of q) s 0 (d.received + 1) ns 0 → d.tail ≡ last 0 ns
     → length (unlink_tail_writes l s d c previous front) ≡ cond (nat_lt 1 (length ns)) 3 2
 tail_length l q s previous d c front [] pos link at k t = absurd (let e : d.tail ≡ 0 = t in omega (arith, e, pos))
 tail_length l q s previous d c front (n ∷ ns) pos link at k t =
@@ -67,7 +67,7 @@ tail_length l q s previous d c front (n ∷ ns) pos link at k t =
     at_front [] ns len two three = two refl ∙ ap (λ m. cond (nat_lt 1 m) 3 2) (sym len)
     at_front (y ∷ ys) ns len two three = three (omega arith) ∙ ap (λ b. cond b 3 2) (sym (lt-ltb 1 (length ns) (omega (arith, len))))
 
-back_length : (l : Layout) (q : Slots) (s new tag : ℕ) (body : List ℕ) (d : Directory) (old : Option Cell) (ns : List Node) → LinksTo s d.head old → Linked (cells_of q) s 0 (d.received + 1) ns 0 → d.head ≡ first ns 0
+back_length : (l : Places) (q : Slots) (s new tag : ℕ) (body : List ℕ) (d : Directory) (old : Option Cell) (ns : List Node) → LinksTo s d.head old → Linked (cells_of q) s 0 (d.received + 1) ns 0 → d.head ≡ first ns 0
     → length (put_back_writes l s d new tag body old) ≡ cond (nat_eq (length ns) 0) 2 3
 back_length l q s new tag body d old ns link k h =
     let w = two_or_three (directory_write l s d (directory_put_back d new)) d.head old (with_prev new) (record { at = new; before = Free; after = Used (record { sender = s; sequence = d.received; tag = tag; body = body; next = d.head; prev = 0 }) }) s link in
@@ -82,7 +82,7 @@ back_length l q s new tag body d old ns link k h =
     at (n ∷ ns) k h two three = three (let e : d.head ≡ n.at = h in let p : 0 < n.at = k.0 in omega (arith, e, p)) ∙ ap (λ b. cond b 2 3) (sym (more n ns))
 
 -- the length of the inverse's plan is what the model says
-pub inverse_length : (l : Layout) (q : Slots) (ws : List Write) (d : Deed) (v : View) → IsPlan l (Undid d) ws → HasBefores ws q → ShowsAt l q (deed_sender d) v → length ws ≡ inverse_writes d (length v.messages)
+pub inverse_length : (l : Places) (q : Slots) (ws : List Write) (d : Deed) (v : View) → IsPlan l (Undid d) ws → HasBefores ws q → ShowsAt l q (deed_sender d) v → length ws ≡ inverse_writes d (length v.messages)
 inverse_length l q ws (Append s n tag previous body) v p f h =
     let t = tail_there l q s p.directory (directory_tail_unlinked p.directory p.cell previous) p.cell.prev p.front (with_next 0) p.directory.tail p.cell (subst (λ x. HasBefores x q) p.writes f) in
     let k = shows_here l q s v p.directory t.0 h in
@@ -101,7 +101,7 @@ deed_writes (Append s n tag previous body) m = cond (nat_eq m 0) 2 3
 deed_writes (UnlinkHead s n tag body) m = cond (nat_lt 1 m) 3 2
 deed_writes (Close s) m = 1
 
-append_length : (l : Layout) (q : Slots) (s new tag : ℕ) (body : List ℕ) (d : Directory) (old : Option Cell) (ns : List Node) → LinksTo s d.tail old → Linked (cells_of q) s 0 (d.received + 1) ns 0 → d.tail ≡ last 0 ns
+append_length : (l : Places) (q : Slots) (s new tag : ℕ) (body : List ℕ) (d : Directory) (old : Option Cell) (ns : List Node) → LinksTo s d.tail old → Linked (cells_of q) s 0 (d.received + 1) ns 0 → d.tail ≡ last 0 ns
     → length (append_writes l s d new tag body old) ≡ cond (nat_eq (length ns) 0) 2 3
 append_length l q s new tag body d old ns link k t =
     let w = two_or_three (directory_write l s d (directory_appended d new tag)) d.tail old (with_next new) (record { at = new; before = Free; after = Used (record { sender = s; sequence = d.sent + 1; tag = tag; body = body; next = 0; prev = d.tail }) }) s link in
@@ -115,7 +115,7 @@ append_length l q s new tag body d old ns link k t =
     at [] k t two three = two t
     at (n ∷ ns) k t two three = three (let p = last_pos (cells_of q) s 0 (d.received + 1) n ns 0 k in omega (arith, t, p)) ∙ ap (λ b. cond b 2 3) (sym (more n ns))
 
-head_length : (l : Layout) (q : Slots) (s : ℕ) (d : Directory) (c : Cell) (next : Option Cell) (ns : List Node) → 0 < d.head → LinksTo s c.next next → Used c ≡ q d.head → Linked (cells_of q) s 0 (d.received + 1) ns 0 → d.head ≡ first ns 0
+head_length : (l : Places) (q : Slots) (s : ℕ) (d : Directory) (c : Cell) (next : Option Cell) (ns : List Node) → 0 < d.head → LinksTo s c.next next → Used c ≡ q d.head → Linked (cells_of q) s 0 (d.received + 1) ns 0 → d.head ≡ first ns 0
     → length (unlink_head_writes l s d c next) ≡ cond (nat_lt 1 (length ns)) 3 2
 head_length l q s d c next [] pos link at k h = absurd (let e : d.head ≡ 0 = h in omega (arith, e, pos))
 head_length l q s d c next (n ∷ ns) pos link at k h =
@@ -129,7 +129,7 @@ head_length l q s d c next (n ∷ ns) pos link at k h =
     from (m ∷ ms) k e two three = three (let p : 0 < m.at = k.0 in omega (arith, e, p)) ∙ ap (λ b. cond b 3 2) (sym (lt-ltb 1 (length (n ∷ m ∷ ms)) (omega arith)))
 
 -- the length of the deed's plan is what the model says
-pub deed_length : (l : Layout) (q : Slots) (ws : List Write) (d : Deed) (v : View) → IsPlan l (Did d) ws → HasBefores ws q → ShowsAt l q (deed_sender d) v → length ws ≡ deed_writes d (length v.messages)
+pub deed_length : (l : Places) (q : Slots) (ws : List Write) (d : Deed) (v : View) → IsPlan l (Did d) ws → HasBefores ws q → ShowsAt l q (deed_sender d) v → length ws ≡ deed_writes d (length v.messages)
 deed_length l q ws (Append s n tag previous body) v p f h =
     let t = back_there l q s p.directory (directory_appended p.directory p.new tag) p.directory.tail p.old (with_next p.new) p.new (record { sender = s; sequence = p.directory.sent + 1; tag = tag; body = body; next = 0; prev = p.directory.tail }) (subst (λ x. HasBefores x q) p.writes f) in
     let k = shows_here l q s v p.directory t h in

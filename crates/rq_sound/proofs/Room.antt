@@ -12,7 +12,7 @@ use Rattle.rq_page.specs.Sizes.{Sizes, IsCellAddress, cell_count, cell_at}
 use Rattle.rq_page.specs.Slots.{Slot}
 use Rattle.rq_page.specs.Slots.Slot.{Free, Used, Sender}
 use Rattle.rq_page.proofs.Addresses.{cells_have_places}
-use Rattle.rq_views.specs.Log.{Slots, Write, Layout, applied, HasBefores}
+use Rattle.rq_views.specs.Log.{Slots, Write, Places, applied, HasBefores}
 use Rattle.rq_views.specs.Chain.{directory_appended}
 use Rattle.rq_views.specs.Plans.{Turn, IsPlan, relinked, with_next, with_prev, directory_write, directory_head_unlinked, directory_tail_unlinked, directory_put_back}
 use Rattle.rq_views.specs.Plans.Turn.{Did, Undid}
@@ -63,7 +63,7 @@ three_rise w at o f v n e k =
     omega (arith, a, b, c, e, k)
 
 -- a plan's rises are what it adds to its chain
-plan_rises : (l : Layout) (t : Turn) (ws : List Write) → IsPlan l t ws → RisesBy (gained t) ws
+plan_rises : (l : Places) (t : Turn) (ws : List Write) → IsPlan l t ws → RisesBy (gained t) ws
 plan_rises l (Did (Append s n tag previous body)) ws p =
     let d = p.directory in
     let w : Write = record { at = p.new; before = Free; after = Used (record { sender = s; sequence = d.sent + 1; tag = tag; body = body; next = 0; prev = d.tail }) } in
@@ -109,7 +109,7 @@ three_count w at o f v e =
     let d = relinked_counts at o f v in
     omega (arith, a, b, d, e)
 
-plan_balance : (l : Layout) (t : Turn) (ws : List Write) → IsPlan l t ws → Balanced (lost t) (gained t) ws
+plan_balance : (l : Places) (t : Turn) (ws : List Write) → IsPlan l t ws → Balanced (lost t) (gained t) ws
 plan_balance l (Did (Append s n tag previous body)) ws p =
     let d = p.directory in
     let w : Write = record { at = p.new; before = Free; after = Used (record { sender = s; sequence = d.sent + 1; tag = tag; body = body; next = 0; prev = d.tail }) } in
@@ -130,7 +130,7 @@ plan_balance l (Undid (UnlinkHead s n tag body)) ws p =
 plan_balance l (Undid (Close s)) ws p = subst (Balanced 0 0) (sym p.writes) (one_counts (directory_write l s p.directory (record p.directory { closed = false })))
 
 -- the whole plan
-pub plan_counts : (l : Layout) (t : Turn) (ws : List Write) → IsPlan l t (reverse ws) → sum_by uses_after ws + lost t ≡ sum_by uses_before ws + gained t
+pub plan_counts : (l : Places) (t : Turn) (ws : List Write) → IsPlan l t (reverse ws) → sum_by uses_after ws + lost t ≡ sum_by uses_before ws + gained t
 plan_counts l t ws p =
     let a = plan_balance l t (reverse ws) p in
     let b = sum_reverse uses_after ws in
@@ -138,7 +138,7 @@ plan_counts l t ws p =
     omega (arith, a, b, c)
 
 -- the writes made so far use at most what the whole plan adds
-pub made_within : (l : Layout) (t : Turn) (ws : List Write) (k : ℕ) → IsPlan l t (reverse ws) → sum_by uses_after (take k ws) ≤ sum_by uses_before (take k ws) + gained t
+pub made_within : (l : Places) (t : Turn) (ws : List Write) (k : ℕ) → IsPlan l t (reverse ws) → sum_by uses_after (take k ws) ≤ sum_by uses_before (take k ws) + gained t
 made_within l t ws k p =
     let a = after_within (take k ws) in
     let b : sum_by rise (take k ws) ≤ sum_by rise ws = sum_by-take-le rise ws k in
@@ -165,7 +165,7 @@ count_made z ws q h k f =
     omega (arith, a, b, c, d, e)
 
 -- what a whole operation makes of the number of used cells
-pub turn_moved : (z : Sizes) (l : Layout) (t : Turn) (ws : List Write) (q : Slots) → IsPlan l t ws → HasBefores ws q → AllStand z q → WritesStand z ws → count_used z (applied ws q) + lost t ≡ count_used z q + gained t
+pub turn_moved : (z : Sizes) (l : Places) (t : Turn) (ws : List Write) (q : Slots) → IsPlan l t ws → HasBefores ws q → AllStand z q → WritesStand z ws → count_used z (applied ws q) + lost t ≡ count_used z q + gained t
 turn_moved z l t ws q p f h k =
     let a = count_writes z ws q h k f in
     let b = before_is ws in

@@ -8,7 +8,7 @@ use Rattle.rq_page.specs.Slots.Slot.{Free, Used, Sender}
 use Rattle.rq_page.proofs.Spellings.{spelling_tells}
 use Rattle.rq_views.specs.Log.{Write}
 use Rattle.rq_views.specs.Plans.{directory_tail_unlinked}
-use Rattle.rq_views.specs.Row.{sizes, cell, sent_a, sent_b}
+use Rattle.rq_views.specs.WorkedItems.{sizes, cell, sent_a, sent_b}
 use Rattle.rq_level.specs.Writes.{write_of}
 use Rattle.rq_store.proofs.Spelling.{MayStandAt}
 use Rattle.rq_sound.specs.Course.{spelled}

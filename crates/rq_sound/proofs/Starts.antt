@@ -11,7 +11,7 @@ use Rattle.rq_model.specs.Content.{deeds}
 use Rattle.rq_model.specs.Rules.{any_use, uses_send, uses_receive}
 use Rattle.rq_page.specs.Sizes.{Sizes, cell_count, sender_count, directory_at}
 use Rattle.rq_views.specs.Chain.{View}
-use Rattle.rq_views.specs.Log.{Slots, Write, HasBefores, Untouched, same_op, Layout}
+use Rattle.rq_views.specs.Log.{Slots, Write, HasBefores, Untouched, same_op, Places}
 use Rattle.rq_views.specs.Items.{items, layout_of, operation}
 use Rattle.rq_views.specs.Legal.{Placed, open_deeds, began, view}
 use Rattle.rq_views.specs.Groups.{on_sending_end, on_receiving_end, side}
@@ -129,7 +129,7 @@ module _ (z : Sizes) (log : List Record) (ends after : HeldEnds) (rows : List Ro
   counts_start = counted_start z log rows cells waiting t r u c k.distinct m.at_row m.idle m.made m.room m.covers
 
 -- what the plan of a deed tells, over slots that show its sender
-pub told_by_plan : (l : Layout) (q : Slots) (d : Deed) (ws : List Write) (v : View) → IsPlan l (Did d) ws → HasBefores ws q → ShowsAt l q (deed_sender d) v → ((on_sending_end (deed_sender d) d ≡ true) → v.closed ≡ false) → TellsFor (Doing d) v
+pub told_by_plan : (l : Places) (q : Slots) (d : Deed) (ws : List Write) (v : View) → IsPlan l (Did d) ws → HasBefores ws q → ShowsAt l q (deed_sender d) v → ((on_sending_end (deed_sender d) d ≡ true) → v.closed ≡ false) → TellsFor (Doing d) v
 told_by_plan l q (Append s n tag previous body) ws v p f h not_closed = let a = append_tells l q ws s n tag previous body v p f h in (a.0, a.1, not_closed (eq-eqb s s refl))
 told_by_plan l q (UnlinkHead s n tag body) ws v p f h not_closed = let a = head_tells l q ws s n tag body v p f h in (a.0.0, a.0.1, a.1)
 told_by_plan l q (Close s) ws v p f h not_closed = not_closed (eq-eqb s s refl)

@@ -10,7 +10,7 @@ use Rattle.rq_page.specs.declared.directory.Directory.{Directory}
 use Rattle.rq_page.specs.Slots.{Slot}
 use Rattle.rq_page.specs.Slots.Slot.{Free, Used, Sender}
 use Rattle.rq_views.specs.Chain.{Node, Linked, View, first}
-use Rattle.rq_views.specs.Log.{Slots, put, cell_in, cells_of, Write, HasBefores, Layout, Item}
+use Rattle.rq_views.specs.Log.{Slots, put, cell_in, cells_of, Write, HasBefores, Places, Item}
 use Rattle.rq_views.specs.Legal.{Placed, open_deeds, view}
 use Rattle.rq_views.specs.Groups.{KeepsGroups}
 use Rattle.rq_views.specs.Plans.{ShowsAt, IsPlan, deed_sender, with_turn, with_prev, put_back_writes, directory_write, IsPutBack, IsMark}
@@ -37,7 +37,7 @@ not_sender s d e = cc
 not_used : (c : Cell) → Used c ≢ Free
 not_used c e = cc
 
-back_of : (l : Layout) (q : Slots) (s tag new : ℕ) (body : List ℕ) (d : Directory) (ns : List Node) → 0 < new → q new ≡ Free → 0 < d.received → q (l.directory_at s) ≡ Sender s d → Linked (cells_of q) s 0 (d.received + 1) ns 0 → d.head ≡ first ns 0
+back_of : (l : Places) (q : Slots) (s tag new : ℕ) (body : List ℕ) (d : Directory) (ns : List Node) → 0 < new → q new ≡ Free → 0 < d.received → q (l.directory_at s) ≡ Sender s d → Linked (cells_of q) s 0 (d.received + 1) ns 0 → d.head ≡ first ns 0
     → (ws : List Write) × IsPutBack l s d.received tag body ws × HasBefores ws q
 back_of l q s tag new body d [] pos free some at k h = (
   put_back_writes l s d new tag body None,
@@ -59,14 +59,14 @@ back_of l q s tag new body d (n ∷ ns) pos free some at k h =
     )
 
 -- where something was received and a cell is free, a message can be put back
-pub can_put_back : (l : Layout) (q : Slots) (s tag new : ℕ) (body : List ℕ) (v : View) → 0 < new → q new ≡ Free → 0 < v.received → ShowsAt l q s v → (ws : List Write) × IsPutBack l s v.received tag body ws × HasBefores ws q
+pub can_put_back : (l : Places) (q : Slots) (s tag new : ℕ) (body : List ℕ) (v : View) → 0 < new → q new ≡ Free → 0 < v.received → ShowsAt l q s v → (ws : List Write) × IsPutBack l s v.received tag body ws × HasBefores ws q
 can_put_back l q s tag new body v pos free some h =
     let r : v.received ≡ h.directory.received = h.shows.received in
     let a = back_of l q s tag new body h.directory h.shows.nodes pos free (omega (arith, r, some)) h.at h.shows.linked h.shows.head in
     (a.0, subst (λ n. IsPutBack l s n tag body a.0) (sym r) a.1, a.2)
 
 -- a group's directory slot can be marked
-pub can_mark : (l : Layout) (q : Slots) (s : ℕ) (closed : Bool) (v : View) → ShowsAt l q s v → (ws : List Write) × IsMark l s closed ws × HasBefores ws q
+pub can_mark : (l : Places) (q : Slots) (s : ℕ) (closed : Bool) (v : View) → ShowsAt l q s v → (ws : List Write) × IsMark l s closed ws × HasBefores ws q
 can_mark l q s closed v h = (directory_write l s h.directory (record h.directory { closed = closed }) ∷ [], record { directory = h.directory; writes = refl }, (sym h.at, tt))
 
 -- whether the inverse takes a free cell
@@ -76,7 +76,7 @@ NeedsCell (UnlinkHead s n tag body) q new = (0 < new) × (q new ≡ Free)
 NeedsCell (Close s) q new = Unit {0}
 
 -- The inverse of the newest open deed can be planned, whatever others did meanwhile, and what it finds is as the deed says. A put-back takes any free cell.
-pub can_undo : (l : Layout) (q : Slots) (log : List Item) (t : Txn) (lsn new : ℕ) (d : Deed) (ps : List Placed) → KeepsGroups log → open_deeds t log ≡ record { lsn = lsn; deed = d } ∷ ps → NeedsCell d q new
+pub can_undo : (l : Places) (q : Slots) (log : List Item) (t : Txn) (lsn new : ℕ) (d : Deed) (ps : List Placed) → KeepsGroups log → open_deeds t log ≡ record { lsn = lsn; deed = d } ∷ ps → NeedsCell d q new
     → ShowsAt l q (deed_sender d) (view log (deed_sender d)) → (ws : List Write) × IsPlan l (Undid d) ws × HasBefores ws q
 can_undo l q log t lsn new (Append s n tag previous body) ps k e cell h =
     let x = can_undo_sent s log t (record { lsn = lsn; deed = Append s n tag previous body }) ps k e (eq-eqb s s refl) in

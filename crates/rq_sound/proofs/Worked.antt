@@ -7,7 +7,7 @@ use Rattle.rq_page.specs.Sizes.{IsInRange}
 use Rattle.rq_views.specs.Log.{Write, HasBefores}
 use Rattle.rq_views.specs.Plans.{IsPlan}
 use Rattle.rq_views.specs.Plans.Turn.{Did}
-use Rattle.rq_views.specs.Row.{sizes, small, t1, t2, sends, new_a, end_a, new_b, end_b}
+use Rattle.rq_views.specs.WorkedItems.{sizes, small, t1, t2, sends, new_a, end_a, new_b, end_b}
 use Rattle.rq_level.specs.Writes.{writes_of}
 use Rattle.rq_txn.specs.declared.Finished.{Finished}
 use Rattle.rq_store.specs.Worked.{AreFormatted}

@@ -4,7 +4,7 @@ use Rattle.std.proofs.lemmas.Bool.{cases_Bool, or_parts, or_from}
 use Rattle.std.proofs.lemmas.List.{reverse-append}
 use Rattle.rq_model.specs.declared.txn.Sub.{Sub}
 use Rattle.rq_page.specs.Sizes.{Sizes}
-use Rattle.rq_views.specs.Log.{Item, Layout, Write, same_op, state_of}
+use Rattle.rq_views.specs.Log.{Item, Places, Write, same_op, state_of}
 use Rattle.rq_views.specs.Log.Item.{PageOp, PageUndo, OpEnd, OpVoid, CompEnd, Commit, AbortEnd, Restart}
 use Rattle.rq_views.specs.Legal.{over, turned_back}
 use Rattle.rq_level.specs.Given.{has_page}
@@ -16,7 +16,7 @@ abbrev pub touches : (ℕ → ℕ) → ℕ → List Write → Bool
 touches page p [] = false
 touches page p (w ∷ ws) = (page w.at == p) || touches page p ws
 
-pub stands_is : (l : Layout) (o : Sub) (p : ℕ) (log : List Item) → over o log ≡ false → turned_back o log ≡ false
+pub stands_is : (l : Places) (o : Sub) (p : ℕ) (log : List Item) → over o log ≡ false → turned_back o log ≡ false
     → (state_of l log).stands o p ≡ touches l.page p ((state_of l log).writes o)
 stands_is l o p [] a b = refl
 stands_is l o p (PageOp q w ∷ log) a b = elim (cases_Bool (same_op q o)) [
