@@ -14,7 +14,7 @@ use Rattle.rq_txn.specs.declared.Finished.{Finished}
 use Rattle.rq_groups.specs.declared.Held.{Held}
 use Rattle.rq_groups.specs.Ends.{has_held, held_by}
 use Rattle.rq_groups.specs.Waiting.{waits}
-use Rattle.rq_views.specs.declared.writes.SlotWrite.{SlotWrite}
+use Rattle.rq_level.specs.declared.writes.SlotWrite.{SlotWrite}
 use Rattle.rq_store.specs.State.{op_done, phase_of}
 use Rattle.rq_store.specs.Steps.{took, page_op}
 use Rattle.rq_store.proofs.Beginning.{none_held}

@@ -12,7 +12,7 @@ use Rattle.rq_model.specs.Rules.{any_use, uses_send, uses_receive}
 use Rattle.rq_page.specs.Sizes.{Sizes}
 use Rattle.rq_views.specs.Items.{items, operation, has_undone}
 use Rattle.rq_views.specs.Legal.{open_deeds, began, over, under_way}
-use Rattle.rq_views.specs.declared.writes.SlotWrite.{SlotWrite}
+use Rattle.rq_level.specs.declared.writes.SlotWrite.{SlotWrite}
 use Rattle.rq_groups.specs.Ends.{HeldEnds}
 use Rattle.rq_store.specs.Sound.{IsSettled}
 use Rattle.rq_store.specs.Steps.{page_op, op_end}

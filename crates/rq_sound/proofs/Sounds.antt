@@ -10,7 +10,7 @@ use Rattle.rq_page.specs.Pages.{IsWritten}
 use Rattle.rq_page.specs.Formatted.{IsFormatted, IsHeaderOf}
 use Rattle.rq_views.specs.Log.{put}
 use Rattle.rq_views.specs.Stored.{slots_in}
-use Rattle.rq_views.specs.declared.writes.SlotWrite.{SlotWrite}
+use Rattle.rq_level.specs.declared.writes.SlotWrite.{SlotWrite}
 use Rattle.rq_views.proofs.Overlay.{put_agree}
 use Rattle.rq_txn.specs.declared.Finished.{Finished}
 use Rattle.rq_groups.specs.Ends.{HeldEnds}

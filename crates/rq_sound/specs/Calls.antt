@@ -12,7 +12,7 @@ use Rattle.rq_page.specs.Pages.{IsWritten}
 use Rattle.rq_views.specs.Claims.{appends_of}
 use Rattle.rq_views.specs.Log.{put}
 use Rattle.rq_views.specs.Stored.{slots_in}
-use Rattle.rq_views.specs.declared.writes.SlotWrite.{SlotWrite}
+use Rattle.rq_level.specs.declared.writes.SlotWrite.{SlotWrite}
 use Rattle.rq_groups.specs.Ends.{HeldEnds, released}
 use Rattle.rq_groups.specs.Waiting.{waits}
 use Rattle.rq_store.specs.Fitting.{image_in}

@@ -7,7 +7,7 @@ use Rattle.rq_page.specs.Slots.Slot.{Sender}
 use Rattle.rq_views.specs.Log.{Write}
 use Rattle.rq_views.specs.Plans.{directory_tail_unlinked}
 use Rattle.rq_views.specs.WorkedItems.{sizes, t1, t2, cell, sends, new_a, end_a, new_b, end_b, sent_a, free_a}
-use Rattle.rq_views.specs.declared.writes.SlotWrite.{SlotWrite}
+use Rattle.rq_level.specs.declared.writes.SlotWrite.{SlotWrite}
 use Rattle.rq_txn.specs.declared.Finished.{Finished}
 use Rattle.rq_store.specs.Opening.{opened}
 use Rattle.rq_store.specs.Worked.{AreFormatted}

@@ -9,8 +9,8 @@ use Rattle.rq_model.specs.declared.record.Record.TheVariants.{CompEnd}
 use Rattle.rq_model.specs.Words.{same_txn}
 use Rattle.rq_views.specs.Plans.{Turn}
 use Rattle.rq_views.specs.Plans.Turn.{Did, Undid}
-use Rattle.rq_views.specs.Given.{has_page}
-use Rattle.rq_views.specs.declared.writes.SlotWrite.{SlotWrite}
+use Rattle.rq_level.specs.Given.{has_page}
+use Rattle.rq_level.specs.declared.writes.SlotWrite.{SlotWrite}
 use Rattle.rq_txn.specs.declared.Finished.{Finished}
 
 -- what an operation under way is for: a deed, or to undo the one whose OpEnd has this LSN

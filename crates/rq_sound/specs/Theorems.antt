@@ -22,7 +22,7 @@ use Rattle.rq_views.specs.Log.{HasBefores, Write}
 use Rattle.rq_views.specs.Plans.{IsPlan, deed_sender}
 use Rattle.rq_views.specs.Plans.Turn.{Undid}
 use Rattle.rq_views.specs.Stored.{slots_in}
-use Rattle.rq_views.specs.declared.writes.SlotWrite.{SlotWrite}
+use Rattle.rq_level.specs.declared.writes.SlotWrite.{SlotWrite}
 use Rattle.rq_txn.specs.declared.Finished.{Finished}
 use Rattle.rq_groups.specs.Ends.{is_free_for}
 use Rattle.rq_groups.specs.Waiting.{waits}
