@@ -279,65 +279,65 @@ each_request h request = record { own_call = refl; own_txn = refl; once = refl }
 -- ---- losses
 
 lost_aborts : (s : Stage) (h : Held) → txn_held h ≡ own s → Lost s (rules.abort h)
-lost_aborts s Free same = record { own_call = tt; own_txn = inr refl; aborts = tt; silent = refl }
-lost_aborts s (Open txn) same = record { own_call = refl; own_txn = inl same; aborts = tt; silent = refl }
-lost_aborts s (Left sub) same = record { own_call = refl; own_txn = inl same; aborts = tt; silent = refl }
-lost_aborts s (Aborting txn) same = record { own_call = refl; own_txn = inl same; aborts = tt; silent = refl }
-lost_aborts s (Undoing sub) same = record { own_call = refl; own_txn = inl same; aborts = tt; silent = refl }
+lost_aborts s Free same = record { own_call = tt; own_txn = same; aborts = tt; silent = refl }
+lost_aborts s (Open txn) same = record { own_call = refl; own_txn = same; aborts = tt; silent = refl }
+lost_aborts s (Left sub) same = record { own_call = refl; own_txn = same; aborts = tt; silent = refl }
+lost_aborts s (Aborting txn) same = record { own_call = refl; own_txn = same; aborts = tt; silent = refl }
+lost_aborts s (Undoing sub) same = record { own_call = refl; own_txn = same; aborts = tt; silent = refl }
 
 pub each_loss : (s : Stage) → Lost s (rules.after_loss s)
 each_loss (stages.Rest h) = lost_aborts (stages.Rest h) h refl
 each_loss (stages.LastTag h) = lost_aborts (stages.LastTag h) h refl
 each_loss (stages.Start h) = lost_aborts (stages.Start h) h refl
 each_loss (stages.Commit h) = lost_aborts (stages.Commit h) h refl
-each_loss stages.Begin = record { own_call = tt; own_txn = inr refl; aborts = tt; silent = refl }
-each_loss (stages.Await commit) = record { own_call = tt; own_txn = inr refl; aborts = tt; silent = refl }
-each_loss stages.Ended = record { own_call = tt; own_txn = inr refl; aborts = tt; silent = refl }
+each_loss stages.Begin = record { own_call = tt; own_txn = refl; aborts = tt; silent = refl }
+each_loss (stages.Await commit) = record { own_call = tt; own_txn = refl; aborts = tt; silent = refl }
+each_loss stages.Ended = record { own_call = tt; own_txn = refl; aborts = tt; silent = refl }
 each_loss (stages.Step sub purposes.Request) = record {
   own_call = refl;
-  own_txn = inl refl;
+  own_txn = refl;
   aborts = tt;
   silent =
       refl;
 }
 each_loss (stages.Step sub purposes.Clearing) = record {
   own_call = refl;
-  own_txn = inl refl;
+  own_txn = refl;
   aborts = tt;
   silent =
       refl;
 }
 each_loss (stages.Step sub purposes.Undoing) = record {
   own_call = refl;
-  own_txn = inl refl;
+  own_txn = refl;
   aborts = tt;
   silent =
       refl;
 }
 each_loss (stages.Finish sub purposes.Request) = record {
   own_call = refl;
-  own_txn = inl refl;
+  own_txn = refl;
   aborts = tt;
   silent =
       refl;
 }
 each_loss (stages.Finish sub purposes.Clearing) = record {
   own_call = refl;
-  own_txn = inl refl;
+  own_txn = refl;
   aborts = tt;
   silent =
       refl;
 }
 each_loss (stages.Finish sub purposes.Undoing) = record {
   own_call = refl;
-  own_txn = inl refl;
+  own_txn = refl;
   aborts = tt;
   silent =
       refl;
 }
-each_loss (stages.StartAbort txn) = record { own_call = refl; own_txn = inl refl; aborts = tt; silent = refl }
-each_loss (stages.UndoNext txn) = record { own_call = refl; own_txn = inl refl; aborts = tt; silent = refl }
-each_loss (stages.EndAbort txn) = record { own_call = refl; own_txn = inl refl; aborts = tt; silent = refl }
+each_loss (stages.StartAbort txn) = record { own_call = refl; own_txn = refl; aborts = tt; silent = refl }
+each_loss (stages.UndoNext txn) = record { own_call = refl; own_txn = refl; aborts = tt; silent = refl }
+each_loss (stages.EndAbort txn) = record { own_call = refl; own_txn = refl; aborts = tt; silent = refl }
 
 -- ---- a lost session is silent
 

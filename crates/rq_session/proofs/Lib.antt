@@ -1,3 +1,4 @@
 pub mod EachTurn
 pub mod Balances
 pub mod Worked
+pub mod GoingOn

@@ -1,5 +1,5 @@
 //! Laws of sessions, for proofs.
-ghost use Rattle.rq_session.specs.Laws.{EachReply, EachMayAgain, EachRequest, EachLoss, LostAnswersNothing, OneAnswerEach};
+ghost use Rattle.rq_session.specs.Laws.{EachReply, EachMayAgain, EachRequest, EachLoss, EachGoesOn, LostAnswersNothing, OneAnswerEach};
 
 /// At each reply: a call names the session's own transaction, and a begin is asked for only where there is none.
 /// That transaction stays until its commit, the end of its abort or the session's end, and only a begin that was
@@ -20,7 +20,14 @@ pub fn each_request()
     ensures { EachRequest }
 {}
 
-/// Once the connection is lost, the session's transaction is aborted by calls of its own, or the session ends.
+/// A session whose connection is not lost goes on at whatever its call is answered: it ends only where it is told what no
+/// call of that kind is answered, or something when it asked for nothing.
+pub fn each_goes_on()
+    ensures { EachGoesOn }
+{}
+
+/// Once the connection is lost, the session's transaction is aborted by calls of its own, and where it has none the
+/// session ends.
 pub fn each_loss()
     ensures { EachLoss }
 {}
