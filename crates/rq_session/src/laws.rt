@@ -20,8 +20,8 @@ pub fn each_request()
     ensures { EachRequest }
 {}
 
-/// A session whose connection is not lost goes on at whatever its call is answered: it ends only where it is told what no
-/// call of that kind is answered, or something when it asked for nothing.
+/// A session whose connection is not lost goes on at whatever its call is answered: it ends only where it is told
+/// what no call of that kind is answered, or something when it asked for nothing.
 pub fn each_goes_on()
     ensures { EachGoesOn }
 {}
