@@ -28,8 +28,8 @@ use Rattle.rq_sound.specs.Starts.{MayUndo}
 use Rattle.rq_sound.specs.Calls.{next_txn, begun, started, stepped, undone, aborting, aborted, forced, IsIdle, IsNextWrite, IsReady}
 use Rattle.rq_sound.specs.Steps.{Steps}
 use Rattle.rq_sound.specs.Theorems.{AbortsAreSteps}
-use Rattle.rq_sound.proofs.StandingRows.{found_in, some_not_none}
-use Rattle.rq_sound.proofs.Aborted.{found_open, open_found, opens_change, aborting_after, aborted_after}
+use Rattle.rq_sound.proofs.RowLists.{found_in, some_not_none}
+use Rattle.rq_sound.proofs.Ledgers.{found_open, open_found, opens_change, aborting_after, aborted_after}
 use Rattle.rq_sound.proofs.Contracts.{calls_keep, undo_entry, undo_start_entry, within}
 
 -- what a test reads of an operation under way
@@ -50,14 +50,14 @@ module _ (s : State) (k : IsSound s) (running : s.failed ≡ false) where
   abbrev l : Ledger
   l = ledger_of s
 
-  runs_now : not (runs (phase_of s.failed)) ≡ false
+  pub runs_now : not (runs (phase_of s.failed)) ≡ false
   runs_now = ap (λ b. not (runs (phase_of b))) running
 
-  at_open : (r : Row) → found_row r.txn s.rows ≡ Some r → found r.txn l.open_ones ≡ Some (open_of s.ends r)
+  pub at_open : (r : Row) → found_row r.txn s.rows ≡ Some r → found r.txn l.open_ones ≡ Some (open_of s.ends r)
   at_open r e = found_open s.ends r.txn s.rows ∙ ap (open_found s.ends) e
 
   -- a transaction with nothing under way
-  is_ready : (r : Row) (a : Bool) → IsIdle s r → turned a (Some (open_of s.ends r)) ≡ false → NoneHolds (ready_tests l r.txn a)
+  pub is_ready : (r : Row) (a : Bool) → IsIdle s r → turned a (Some (open_of s.ends r)) ≡ false → NoneHolds (ready_tests l r.txn a)
   is_ready r a m open_one =
       let e = at_open r m.at_row in (
         runs_now,
@@ -79,7 +79,7 @@ module _ (s : State) (k : IsSound s) (running : s.failed ≡ false) where
   number_is : (r : Row) (u : Under) → found_row r.txn s.rows ≡ Some r → r.under ≡ Some u → r.number ≡ u.number
   number_is r u e under = (subst (IsAsPlanned s.sizes s.records s.ends r) under (k.standing.each r (found_in r.txn s.rows r e).0).going).1
 
-  under_here : (r : Row) (u : Under) → found_row r.txn s.rows ≡ Some r → r.under ≡ Some u → not (has_under u.number (found r.txn l.open_ones)) ≡ false
+  pub under_here : (r : Row) (u : Under) → found_row r.txn s.rows ≡ Some r → r.under ≡ Some u → not (has_under u.number (found r.txn l.open_ones)) ≡ false
   under_here r u e under =
       ap (λ o. not (has_under u.number o)) (at_open r e)
       ∙ ap not (and_from (is_some (job_under r.under)) (nat_eq r.number u.number) (job_some r.under ∙ ap (λ (o : Option Under). is_some o) under) (eq-eqb r.number u.number (number_is r u e under)))
@@ -138,7 +138,7 @@ module _ (s : State) (k : IsSound s) (running : s.failed ≡ false) where
           ap (λ (j : Option Job). record (open_of s.ends q) { under = j; left = left_under (under_stepped q.under) }) (job_after q.under)
           ∙ ap (λ (n : ℕ). record (open_of s.ends q) { left = n }) (left_after q.under)
 
-  none_to_make : (r : Row) (u : Under) → r.under ≡ Some u → u.made ≡ length u.writes → left_under r.under ≡ 0
+  pub none_to_make : (r : Row) (u : Under) → r.under ≡ Some u → u.made ≡ length u.writes → left_under r.under ≡ 0
   none_to_make r u under made = ap left_under under ∙ omega (arith, made)
 
   all_made : (r : Row) (u : Under) (aim : Aim) → IsReady s r u aim → Steps s (Call.Step r.txn u.number) Reply.Gave_ready s

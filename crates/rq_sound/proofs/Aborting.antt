@@ -23,7 +23,7 @@ use Rattle.rq_store.proofs.Releases.{without_ends}
 use Rattle.rq_sound.proofs.Going.{other_gone}
 use Rattle.rq_sound.proofs.Beside.{SaysSame, says_abort}
 use Rattle.rq_sound.proofs.Counted.{counted_abort, counted_aborting}
-use Rattle.rq_sound.proofs.Own.{row, of_order, running, strange_by}
+use Rattle.rq_sound.proofs.OwnRecord.{row, of_order, running, strange_by}
 use Rattle.rq_sound.proofs.Standings.{stands_changed, stands_gone}
 
 module _ (z : Sizes) (log : List Record) (ends : HeldEnds) (rows : List Row) (i b cells : ℕ) (waiting : List ℕ) (whole : IsWhole z log) (k : AreStanding z log ends rows i b) (c : AreCounted z log rows cells waiting)

@@ -25,7 +25,7 @@ use Rattle.rq_views.specs.Numbers.{greatest}
 use Rattle.rq_sound.specs.Rows.{Under, Row, found_row, fresh_row}
 use Rattle.rq_sound.specs.Standing.{IsRow, AreEnds, AreStanding}
 use Rattle.rq_sound.specs.Counted.{AreCounted, IsCovered, appends_all, appending_in, takes_all, before_in, after_in, takes_in}
-use Rattle.rq_sound.proofs.StandingRows.{found_in}
+use Rattle.rq_sound.proofs.RowLists.{found_in}
 use Rattle.rq_sound.proofs.Beside.{SaysSame, row_beside}
 
 kept_other : (t u : Txn) (x : Option Deed) (ds : List Said) → same_txn u t ≡ false → kept (λ v. same_txn v t) (ending_by u x) ds ≡ ds

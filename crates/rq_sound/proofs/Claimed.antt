@@ -1,4 +1,5 @@
--- The cells that the log claims are those that whole operations use and those of the messages that its transactions took.
+-- The cells that the log claims are those that whole operations use and those of the messages that its transactions
+-- took.
 use Rattle.std.proofs.Common.{◌≡◌, ℕ, ◌+◌, List, [], ◌∷◌, map, None, inl, inr, refl, sym, ◌∙◌, ap, false, arith}
 use Rattle.std.specs.List.{filter, sum_by}
 use Rattle.std.proofs.lemmas.Bool.{false≢true, false_from_ne_true}
@@ -22,8 +23,8 @@ use Rattle.rq_store.proofs.Rooms.{takes_finished}
 use Rattle.rq_sound.specs.Rows.{Row, found_row, AreDistinct}
 use Rattle.rq_sound.specs.Standing.{AreStanding}
 use Rattle.rq_sound.specs.Counted.{takes_all}
-use Rattle.rq_sound.proofs.Room.{sum_reverse}
-use Rattle.rq_sound.proofs.StandingRows.{in_found, some_not_none}
+use Rattle.rq_sound.proofs.UsedCells.{sum_reverse}
+use Rattle.rq_sound.proofs.RowLists.{in_found, some_not_none}
 
 none_taken : (xs : List Owned) → ((x : Owned) → In x xs → ⊥) → taken xs ≡ 0
 none_taken [] h = refl

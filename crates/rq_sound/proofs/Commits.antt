@@ -43,11 +43,11 @@ use Rattle.rq_sound.specs.Rows.Aim.{Doing, Undoing}
 use Rattle.rq_store.proofs.Releases.{without_ends}
 use Rattle.rq_store.proofs.Holders.{placed_first}
 use Rattle.rq_store.proofs.Telling.{told_placed, count_takes}
-use Rattle.rq_sound.proofs.StandingRows.{rows_without, gone}
+use Rattle.rq_sound.proofs.RowLists.{rows_without, gone}
 use Rattle.rq_sound.proofs.Going.{other_gone}
 use Rattle.rq_sound.proofs.Beside.{says_commit}
 use Rattle.rq_sound.proofs.Alone.{takes_below}
-use Rattle.rq_sound.proofs.Own.{place, row, of_order, running, strange_by}
+use Rattle.rq_sound.proofs.OwnRecord.{place, row, of_order, running, strange_by}
 use Rattle.rq_sound.proofs.Standings.{stands_gone}
 
 none_beyond : (n g : ℕ) (ops : List Op) → AllBelow n ops → n ≤ g → length (filter_map (taken_from g) ops) ≡ 0

@@ -33,16 +33,17 @@ use Rattle.rq_sound.specs.Sound.{State, IsSound, ledger_of}
 use Rattle.rq_sound.specs.Starts.{MayDo, MayUndo, IsEndFree, with_end}
 use Rattle.rq_sound.specs.Calls.{IsReady, IsIdle, undone, started, forced}
 use Rattle.rq_sound.specs.Theorems.{CallsKeepSoundness, InversesCanBePlanned, TestsAreAnswered, OneUnderWayIsSound, OpenedIsSound}
-use Rattle.rq_sound.proofs.StandingRows.{found_in}
+use Rattle.rq_sound.proofs.RowLists.{found_in}
 use Rattle.rq_sound.proofs.Starts.{MayStart, HasEnds, plan_latches, told_by_plan, takes_send, takes_receive, may_undo}
-use Rattle.rq_sound.proofs.Sounds.{begin_sound, start_sound, step_sound, finish_sound, undo_sound, commit_sound, start_abort_sound, end_abort_sound}
+use Rattle.rq_sound.proofs.EachCall.{begin_sound, start_sound, step_sound, finish_sound, undo_sound, commit_sound, start_abort_sound, end_abort_sound}
 use Rattle.rq_sound.proofs.Undoing.{aborts}
-use Rattle.rq_sound.proofs.Rooms.{of_store, shown_here, room_to_send, undo_planned, put_back_finds, open_is}
+use Rattle.rq_sound.proofs.FreeCells.{of_store, shown_here, room_to_send, undo_planned, put_back_finds, open_is}
 use Rattle.rq_sound.proofs.UndoPlans.{NeedsCell, closed_before}
-use Rattle.rq_sound.proofs.Room.{some_free}
-use Rattle.rq_sound.proofs.Aborted.{front_push, undid_after}
+use Rattle.rq_sound.proofs.UsedCells.{some_free}
+use Rattle.rq_sound.proofs.Ledgers.{front_push, undid_after}
 use Rattle.rq_sound.proofs.UndoStarts.{chain_is, undo_started_after}
-use Rattle.rq_sound.proofs.Exactly.{closed_is, holds_is, cells_are}
+use Rattle.rq_sound.proofs.Asked.{closed_is, holds_is, cells_are}
+use Rattle.rq_sound.proofs.FreeEnds.{free_is, free_to_take}
 use Rattle.rq_sound.proofs.Lost.{lost_finds_cell}
 use Rattle.rq_sound.proofs.Instance.{aimed_sound, ledger_aimed}
 
@@ -62,7 +63,7 @@ module _ (s : State) (k : IsSound s) where
   has_ends r (Close g) e free = takes_send s.ends s.rows r.txn g k.standing.sending k.standing.receiving (here r e) free (Close g) (held_now r.txn g s.ends.sending)
 
   -- where nobody has latched the page of a sender's directory slot, the slots show its chain
-  shows : (g : ℕ) → g < sender_count s.sizes → latched_in s.rows (directory_at g / 16) ≡ false → ShowsAt (layout_of s.sizes) (left_by s.sizes s.records).slots g (view (items s.sizes s.records) g)
+  pub shows : (g : ℕ) → g < sender_count s.sizes → latched_in s.rows (directory_at g / 16) ≡ false → ShowsAt (layout_of s.sizes) (left_by s.sizes s.records).slots g (view (items s.sizes s.records) g)
   shows = shown_here s.sizes s.records s.ends s.rows s.incarnation s.begins s.cells_in_use s.waiting k.standing k.counted k.log
 
   may_start : (r : Row) (u : Under) (d : Deed) → MayDo s r u d → MayStart s.sizes s.records s.rows s.waiting s.cells_in_use r u
@@ -209,6 +210,8 @@ planned = record {
 
 pub answered : TestsAreAnswered
 answered = record {
+  free_to_send = λ s t g k. free_is s k t g;
+  free_to_receive = λ s t g k. free_to_take s k t g;
   cells = cells_are;
   closed = λ s g r k i free. closed_is s.sizes s.records s.ends s.rows s.incarnation s.begins k.log k.standing g r i free;
   waiting = λ s g r k below i free. holds_is s.sizes s.records s.ends s.rows s.incarnation s.begins k.log k.standing s.cells_in_use s.waiting k.counted g r below i free;

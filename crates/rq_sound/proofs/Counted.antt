@@ -43,8 +43,8 @@ use Rattle.rq_sound.specs.Rows.{Aim, Under, Row, turn_of, deed_of, found_row, ch
 use Rattle.rq_sound.specs.Standing.{FollowsPlan}
 use Rattle.rq_sound.specs.Counted.{AreCounted, IsCovered, CoversAim, appends_aim, appending, appending_in, takes_all, appends_one, appends_all, uses_before, uses_after, made_of, before_in, after_in, takes_in}
 use Rattle.rq_sound.specs.Rows.Aim.{Doing, Undoing}
-use Rattle.rq_sound.proofs.StandingRows.{found_in, changed, rows_one, rows_without, rows_sum, gone}
-use Rattle.rq_sound.proofs.Room.{plan_counts, count_made}
+use Rattle.rq_sound.proofs.RowLists.{found_in, changed, rows_one, rows_without, rows_sum, gone}
+use Rattle.rq_sound.proofs.UsedCells.{plan_counts, count_made}
 use Rattle.rq_store.proofs.Holders.{map_join}
 use Rattle.rq_sound.proofs.Going.{take_next, get_written}
 

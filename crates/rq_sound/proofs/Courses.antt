@@ -5,7 +5,7 @@ use Rattle.rq_views.specs.Log.{Write, HasBefores, Item, state_of}
 use Rattle.rq_views.specs.Items.{items}
 use Rattle.rq_views.specs.Plans.{IsPlan}
 use Rattle.rq_views.specs.Plans.Turn.{Undid}
-use Rattle.rq_views.specs.WorkedItems.{sizes, small, cell, sends, sent_a, row, free_a}
+use Rattle.rq_views.specs.WorkedItems.{t1, sizes, small, cell, sends, sent_a, row, free_a}
 use Rattle.rq_level.specs.Writes.{writes_of}
 use Rattle.rq_level.specs.declared.writes.SlotWrite.{SlotWrite}
 use Rattle.std.proofs.lemmas.Option.{same_Some}
@@ -21,7 +21,14 @@ use Rattle.rq_sound.specs.Course.{Frames, AreMade, cell_a, group_a, cell_b, grou
 use Rattle.rq_sound.specs.Worked.{AbortBesideASend}
 use Rattle.rq_sound.proofs.Contracts.{calls_keep}
 use Rattle.rq_sound.proofs.Spelt.{used_a, free_a as none_a, used_b, free_b as none_b, new_of_a, has_a, undid_a, new_of_b, has_b, told, back}
-use Rattle.rq_sound.proofs.Worked.{two_sound}
+use Rattle.rq_sound.proofs.Worked.{begun_sound, first, two_sound}
+use Rattle.rq_sound.proofs.AbortSteps.{abort_steps}
+use Rattle.rq_sound.proofs.DeedSteps.{deed_steps}
+use Rattle.rq_model.specs.Legal.{Legal}
+use Rattle.rq_store.specs.State.{size_of}
+use Rattle.rq_sound.specs.Sound.{ledger_of}
+use Rattle.rq_sound.specs.Rows.{fresh_row}
+use Rattle.rq_sound.specs.Course.{both_begun}
 
 -- the log when t1 aborts
 spelt : AreSpelt sizes (drop 3 row)
@@ -83,7 +90,7 @@ module _ (v : Frames) (m : AreMade v) where
   s8 : IsSound (done_a v)
   s8 = calls_keep.finishes (wrote_group_a v) (row_a 2) (with_made 2 send_a) (sends 0) (wrote_group_a v).waiting s7 (record { at_row = refl; under = refl; aim_is = refl; made = refl }) (λ g. omega arith)
 
-  s9 : IsSound (aborts_a v)
+  pub s9 : IsSound (aborts_a v)
   s9 = calls_keep.starts_abort (done_a v) row_done s8 (record { at_row = refl; idle = refl })
 
   pub s10 : IsSound (undoes_a v)
@@ -95,7 +102,7 @@ module _ (v : Frames) (m : AreMade v) where
   s12 : IsSound (undid_group v)
   s12 = calls_keep.steps (freed_cell v) (row_undoing 1) (with_made 1 undo_a) group_back v.group_undone s11 (record { at_row = refl; under = refl; next = refl; before = (told 17 _ has_a).1; after = (told 17 _ undid_a).1; made = m.fifth })
 
-  s13 : IsSound (undone_a v)
+  pub s13 : IsSound (undone_a v)
   s13 = calls_keep.undoes (undid_group v) (row_undoing 2) (with_made 2 undo_a) 5 (sends 0) (undid_group v).waiting s12 (record { at_row = refl; under = refl; aim_is = refl; made = refl }) (λ g. omega arith)
 
   pub s14 : IsSound (aborted_a v)
@@ -126,5 +133,9 @@ abort_beside = record {
   undoing = s10;
   aborted = s14;
   committed = λ v ws m h. s17 v m ws h;
+  send_steps = λ v m. deed_steps.starts (both_begun v.start) (fresh_row t1) send_a (sends 0) (begun_sound v.start m.start) (first v.start m.start) (refl, (refl, (refl, (refl, (refl, (refl, (refl, (refl, (refl, (refl, tt))))))))));
+  undo_steps = λ v m. abort_steps.starts_inverse (aborts_a v) (row_aborting row_done) undo_a [] sent (s9 v m) refl (may_undo v) refl;
+  abort_steps = λ v m. abort_steps.ends_abort (undone_a v) row_empty (s13 v m) refl (record { at_row = refl; idle = refl }) refl refl refl;
+  no_second_abort = λ v new n. true≢false (subst (Legal (size_of sizes) (ledger_of (aborts_a v))) n.says n.legal).1.1.0;
   cells = λ v m. sym (s14 v m).counted.committed;
 }

@@ -34,12 +34,12 @@ use Rattle.rq_sound.specs.Counted.{AreCounted, IsCovered, CoversAim, appending, 
 use Rattle.rq_sound.specs.Rows.Aim.{Doing}
 use Rattle.rq_store.proofs.Holders.{placed_more}
 use Rattle.rq_sound.proofs.Claimed.{claimed_by_rows}
-use Rattle.rq_sound.proofs.StandingRows.{one_of_sum}
+use Rattle.rq_sound.proofs.RowLists.{one_of_sum}
 use Rattle.rq_sound.proofs.Going.{other_ends}
 use Rattle.rq_sound.proofs.Beside.{says_end}
 use Rattle.rq_sound.proofs.Alone.{used_by_holder, taken_by_holder, more_left, takes_below}
 use Rattle.rq_sound.proofs.Counted.{writes_are, counted_finish}
-use Rattle.rq_sound.proofs.Own.{place, row, of_order, running, going, greatest_now, idle_now, others_differ, strange_by}
+use Rattle.rq_sound.proofs.OwnRecord.{place, row, of_order, running, going, greatest_now, idle_now, others_differ, strange_by}
 use Rattle.rq_sound.proofs.Standings.{stands_changed}
 
 aim_is : (r : Row) (a : Aim) (d : Deed) → a ≡ Doing d → IsAimOf r a → r.aborting ≡ false

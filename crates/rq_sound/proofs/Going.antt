@@ -1,4 +1,5 @@
--- Several operations under way, each with its own latched pages: what is so of one stays so while another makes a write or ends.
+-- Several operations under way, each with its own latched pages: what is so of one stays so while another makes a write
+-- or ends.
 use Rattle.std.proofs.Common.{◌≡◌, ◌≢◌, ℕ, ◌+◌, ◌/◌, ◌%◌, ◌<◌, ◌==◌, ◌&&◌, ◌||◌, ◌++◌, ◌⊎◌, List, [], ◌∷◌, length, map, take, drop, reverse, refl, sym, ◌∙◌, ap, subst, zero, suc, Bool, true, false, not, Some, inl, inr, nat_eq, cond, if◌then◌else◌, arith}
 use Rattle.std.proofs.lemmas.Bool.{false≢true, true≢false, cases_Bool, or_from, or_parts, eqb-true, eq-eqb, cond-false}
 use Rattle.std.proofs.lemmas.List.{reverse-append}

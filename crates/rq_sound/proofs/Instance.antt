@@ -46,9 +46,9 @@ use Rattle.rq_sound.specs.OneUnder.{aimed, aimed_under, aimed_row, aimed_store}
 use Rattle.rq_sound.proofs.Going.{off_latched, onto_none}
 use Rattle.rq_sound.proofs.Written.{touches, stands_is, made_within}
 use Rattle.rq_sound.proofs.Ending.{holds_sends, holds_takes}
-use Rattle.rq_sound.proofs.Exactly.{pending_is}
-use Rattle.rq_sound.proofs.Room.{count_made}
-use Rattle.rq_sound.proofs.StandingRows.{alone_of_sum, none_of_sum}
+use Rattle.rq_sound.proofs.Asked.{pending_is}
+use Rattle.rq_sound.proofs.UsedCells.{count_made}
+use Rattle.rq_sound.proofs.RowLists.{alone_of_sum, none_of_sum}
 
 -- who is found
 found_aimed : (t : Txn) (rows : List one.Row) → found_row t (map aimed_row rows) ≡ None → one.found_row t rows ≡ None

@@ -14,7 +14,7 @@ use Rattle.rq_views.proofs.Idle.{idle_quiet}
 use Rattle.rq_views.proofs.Stands.{quiet_stand}
 use Rattle.rq_store.specs.Fitting.{left_by}
 use Rattle.rq_store.specs.Whole.{IsWhole}
-use Rattle.rq_sound.proofs.Room.{some_free}
+use Rattle.rq_sound.proofs.UsedCells.{some_free}
 
 pub lost_finds_cell : (z : Sizes) (log : List Record) (t : Txn) → IsWhole z log → ((o : Sub) → under_way o (items z log) ≡ false) → 0 < sum_by takes_placed (open_deeds t (items z log))
     → (a : ℕ) × IsCellAddress z a × ((left_by z log).slots a ≡ Free)

@@ -23,7 +23,7 @@ use Rattle.rq_store.specs.Fitting.{left_by}
 use Rattle.rq_sound.specs.Rows.{Aim, Under, Row, turn_of, deed_of, found_row, change_row, without_row, latched_by}
 use Rattle.rq_sound.specs.Standing.{FollowsPlan, IsAsPlanned, HoldsAll, IsRow, AreEnds, AreApart, AreStanding}
 use Rattle.rq_sound.specs.Rows.Aim.{Doing, Undoing}
-use Rattle.rq_sound.proofs.StandingRows.{found_in, changed, found_other, found_still, distinct_change, distinct_gone, gone, found_gone}
+use Rattle.rq_sound.proofs.RowLists.{found_in, changed, found_other, found_still, distinct_change, distinct_gone, gone, found_gone}
 use Rattle.rq_store.proofs.Releases.{without_ends, held_other, held_still, for_other}
 use Rattle.rq_store.proofs.Starting.{free_alone}
 use Rattle.rq_store.proofs.Stepping.{onto_whole}

@@ -30,13 +30,13 @@ use Rattle.rq_sound.specs.Rows.{Aim, Under, Row, turn_of, deed_of, found_row, ch
 use Rattle.rq_sound.specs.Standing.{unmade, FollowsPlan, IsAimOf, IsRow, HoldsAll, TellsFor, ReadsFor, AreEnds, AreStanding}
 use Rattle.rq_sound.specs.Counted.{AreCounted, CoversAim, appends_aim}
 use Rattle.rq_sound.specs.Rows.Aim.{Doing, Undoing}
-use Rattle.rq_sound.proofs.StandingRows.{found_in}
+use Rattle.rq_sound.proofs.RowLists.{found_in}
 use Rattle.rq_sound.proofs.Going.{starts, nobody_stands, off_latched, onto_none, with_ends}
 use Rattle.rq_views.proofs.Numbers.{beyond_unbegun}
 use Rattle.rq_sound.proofs.Alone.{unused, sends_same, takes_same}
 use Rattle.rq_sound.proofs.Counted.{counted_start}
-use Rattle.rq_sound.proofs.Rooms.{all_one, in_latched, open_is, of_store}
-use Rattle.rq_sound.proofs.Own.{row}
+use Rattle.rq_sound.proofs.FreeCells.{all_one, in_latched, open_is, of_store}
+use Rattle.rq_sound.proofs.OwnRecord.{row}
 use Rattle.rq_sound.proofs.Standings.{stands_started, ends_taken}
 use Rattle.rq_store.proofs.Starting.{held_more}
 

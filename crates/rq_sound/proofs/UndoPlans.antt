@@ -75,7 +75,8 @@ NeedsCell (Append s n tag previous body) q new = Unit {0}
 NeedsCell (UnlinkHead s n tag body) q new = (0 < new) × (q new ≡ Free)
 NeedsCell (Close s) q new = Unit {0}
 
--- The inverse of the newest open deed can be planned, whatever others did meanwhile, and what it finds is as the deed says. A put-back takes any free cell.
+-- The inverse of the newest open deed can be planned, whatever others did meanwhile, and what it finds is as the deed
+-- says. A put-back takes any free cell.
 pub can_undo : (l : Places) (q : Slots) (log : List Item) (t : Txn) (lsn new : ℕ) (d : Deed) (ps : List Placed) → KeepsGroups log → open_deeds t log ≡ record { lsn = lsn; deed = d } ∷ ps → NeedsCell d q new
     → ShowsAt l q (deed_sender d) (view log (deed_sender d)) → (ws : List Write) × IsPlan l (Undid d) ws × HasBefores ws q
 can_undo l q log t lsn new (Append s n tag previous body) ps k e cell h =

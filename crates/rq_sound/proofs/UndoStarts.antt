@@ -30,10 +30,10 @@ use Rattle.rq_store.proofs.Grouping.{groups_of}
 use Rattle.rq_sound.specs.Rows.{Under, Row, AreDistinct, found_row, change_row, row_started}
 use Rattle.rq_sound.specs.Sound.{State, IsSound, open_of, open_ones_of, ledger_of, job_of_aim}
 use Rattle.rq_sound.specs.Rows.Aim.{Undoing}
-use Rattle.rq_sound.proofs.StandingRows.{found_in, unique}
+use Rattle.rq_sound.proofs.RowLists.{found_in, unique}
 use Rattle.rq_store.proofs.Telling.{told_placed}
 use Rattle.rq_store.proofs.Holders.{map_join}
-use Rattle.rq_sound.proofs.Aborted.{opens_change, found_open, open_found}
+use Rattle.rq_sound.proofs.Ledgers.{opens_change, found_open, open_found}
 use Rattle.rq_sound.proofs.Lengths.{inverse_writes, inverse_length}
 
 abbrev txns : List Row → List Txn

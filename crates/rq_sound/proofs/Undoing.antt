@@ -31,7 +31,7 @@ use Rattle.rq_store.proofs.Holders.{placed_more}
 use Rattle.rq_sound.proofs.Going.{other_undoes}
 use Rattle.rq_sound.proofs.Beside.{says_comp}
 use Rattle.rq_sound.proofs.Counted.{writes_are, counted_undo}
-use Rattle.rq_sound.proofs.Own.{row, of_order, running, going, greatest_now, idle_now, others_differ, strange_by}
+use Rattle.rq_sound.proofs.OwnRecord.{row, of_order, running, going, greatest_now, idle_now, others_differ, strange_by}
 use Rattle.rq_sound.proofs.Standings.{stands_changed}
 
 aim_is : (r : Row) (a : Aim) (lsn : ℕ) (d : Deed) → a ≡ Undoing lsn d → IsAimOf r a → (r.aborting ≡ true) × ((fs : List Finished) × (r.finished ≡ fs ++ record { lsn = lsn; deed = d } ∷ []))

@@ -42,13 +42,13 @@ pub plan_b : IsPlan small (Did (sends 15)) (end_b ∷ new_b ∷ [])
 plan_b = record { directory = new_directory; new = 65; old = None; used = omega arith; sequence = refl; previous_is = refl; old_is = refl; writes = refl }
 
 module _ (images : List (List ℕ)) (h : AreFormatted sizes images) where
-  begun_sound : IsSound (both_begun images)
+  pub begun_sound : IsSound (both_begun images)
   begun_sound = calls_keep.begins _ (calls_keep.begins _ (aimed_sound _ (formatted.sound sizes images range h)))
 
   none_used : (both_begun images).cells_in_use ≡ 0
   none_used = sym begun_sound.counted.committed
 
-  first : MayDo (both_begun images) (fresh_row t1) send_a (sends 0)
+  pub first : MayDo (both_begun images) (fresh_row t1) send_a (sends 0)
   first = record {
     planned = record {
       at_row = refl;

@@ -52,7 +52,8 @@ pub record MayDo (s : State) (r : Row) (u : Under) (d : Deed) : Type 0 where
   pub sender : deed_sender d < sender_count s.sizes
   pub reads : deed_in (spelled_deed d) ≡ Some d
   pub end : IsEndFree r.txn d s.ends
-  pub not_closed : on_sending_end (deed_sender d) d ≡ true → (view (items s.sizes s.records) (deed_sender d)).closed ≡ false
+  pub not_closed : on_sending_end (deed_sender d) d ≡ true
+      → (view (items s.sizes s.records) (deed_sender d)).closed ≡ false
   pub waits : HasWaiting s.waiting d
   pub room : s.cells_in_use + appends_of d ≤ cell_count s.sizes
 

@@ -4,12 +4,14 @@ use Rattle.std.specs.List.{sum_by}
 use Rattle.rq_model.specs.declared.txn.Sub.{Sub}
 use Rattle.rq_model.specs.declared.txn.Txn.{Txn}
 use Rattle.rq_model.specs.declared.record.Deed.{Deed}
-use Rattle.rq_model.specs.declared.record.Deed.TheVariants.{Close}
+use Rattle.rq_model.specs.declared.record.Deed.TheVariants.{UnlinkHead, Close}
 use Rattle.rq_model.specs.declared.record.Record.{Record}
 use Rattle.rq_model.specs.Commits.{committed_of}
 use Rattle.rq_model.specs.History.{Call}
 use Rattle.rq_model.specs.Ledger.{ended_in, in_chain, rest_in}
-use Rattle.rq_model.specs.Tests.{cells_in_use, has_closed, log_full, undo_cost}
+use Rattle.rq_model.specs.Tests as tests
+use Rattle.rq_model.specs.Tests.{Passes, cells_in_use, has_closed, log_full, undo_cost}
+use Rattle.rq_model.specs.Legal.{start_of}
 use Rattle.rq_model.specs.Replay.{Reply}
 use Rattle.rq_model.specs.Unended.{unfinished, lost}
 use Rattle.rq_model.specs.Words.{In}
@@ -30,8 +32,8 @@ use Rattle.rq_store.specs.Fitting.{left_by, image_in, FitsLog}
 use Rattle.rq_store.specs.Opening.{opened}
 use Rattle.rq_store.specs.Sound as one_sound
 use Rattle.rq_store.specs.State as one
-use Rattle.rq_store.specs.State.{size_of, op_done}
-use Rattle.rq_store.specs.Steps.{took}
+use Rattle.rq_store.specs.State.{size_of, op_done, job_of}
+use Rattle.rq_store.specs.Steps.{took, gave_done}
 use Rattle.rq_store.specs.Whole.{IsWhole}
 use Rattle.rq_sound.specs.Rows.{Aim, Under, Row, latched_in}
 use Rattle.rq_sound.specs.Counted.{takes_in}
@@ -82,9 +84,13 @@ pub record InversesCanBePlanned : Type 0 where
       → ((o : Sub) → under_way o (items z log) ≡ false) → 0 < sum_by takes_placed (open_deeds t (items z log))
       → (a : ℕ) × IsCellAddress z a × ((left_by z log).slots a ≡ Free)
 
--- What the model's tests ask, by what the store keeps: how many cells are in use, whether a group is closed for who may
--- send, what waits for who may receive, and how long a chain is.
+-- What the model's tests ask, by what the store keeps: whether an end is free, how many cells are in use, whether a
+-- group is closed for who may send, what waits for who may receive, and how long a chain is.
 pub record TestsAreAnswered : Type 0 where
+  pub free_to_send : (s : State) (t : Txn) (g : ℕ) → IsSound s
+      → tests.free_to_send t g (ledger_of s).open_ones ≡ is_free_for t g s.ends.sending
+  pub free_to_receive : (s : State) (t : Txn) (g : ℕ) → IsSound s
+      → tests.free_to_receive t g (ledger_of s).open_ones ≡ is_free_for t g s.ends.receiving
   pub cells : (s : State) → IsSound s → cells_in_use (size_of s.sizes) (ledger_of s) ≡ s.cells_in_use
   pub closed : (s : State) (g : ℕ) (r : Row) → IsSound s → In r s.rows → is_free_for r.txn g s.ends.sending ≡ true
       → (view (items s.sizes s.records) g).closed
@@ -124,6 +130,34 @@ pub record AbortsAreSteps : Type 0 where
       → Steps s (Call.End_abort r.txn) Reply.Gave_aborted (aborted s r)
   pub forces : (s : State) → IsSound s → s.failed ≡ false
       → Steps s Call.Force (Reply.Gave_forced (length s.records)) (forced s)
+
+-- So are deeds and commits: the start of a send, a receive or a close that passes the model's tests, a receive from
+-- whichever sender included; that no message waits; its end; and a commit.
+pub record DeedsAreSteps : Type 0 where
+  pub starts : (s : State) (r : Row) (u : Under) (d : Deed) → IsSound s → MayDo s r u d
+      → Passes (size_of s.sizes) (ledger_of s) (start_of r.txn (job_of d))
+      → Steps s (start_of r.txn (job_of d)) (Reply.Gave_sub r.txn (r.number + 1))
+      (started s r u (with_end r.txn d s.ends))
+  pub receives_any : (s : State) (r : Row) (u : Under) (g sequence tag : ℕ) (body : List ℕ) → IsSound s
+      → MayDo s r u (UnlinkHead g sequence tag body)
+      → Passes (size_of s.sizes) (ledger_of s) (Call.Start_receive_from r.txn g)
+      → Steps s (Call.Start_receive r.txn) (Reply.Gave_sub r.txn (r.number + 1))
+      (started s r u (with_end r.txn (UnlinkHead g sequence tag body) s.ends))
+  pub none_from : (s : State) (r : Row) (g : ℕ) → IsSound s → IsIdle s r → g < sender_count s.sizes
+      → is_free_for r.txn g s.ends.receiving ≡ true → waits s.waiting g ≡ 0
+      → Passes (size_of s.sizes) (ledger_of s) (Call.Start_receive_from r.txn g)
+      → Steps s (Call.Start_receive_from r.txn g) Reply.Gave_none s
+  pub none : (s : State) (r : Row) → IsSound s → IsIdle s r
+      → ((g : ℕ) → g < sender_count s.sizes → is_free_for r.txn g s.ends.receiving ≡ true → waits s.waiting g ≡ 0)
+      → Passes (size_of s.sizes) (ledger_of s) (Call.Start_receive r.txn)
+      → Steps s (Call.Start_receive r.txn) Reply.Gave_none s
+  pub finishes : (s : State) (r : Row) (u : Under) (d : Deed) (waiting : List ℕ) → IsSound s → s.failed ≡ false
+      → IsReady s r u (Aim.Doing d) → ((g : ℕ) → waits waiting g ≡ waits s.waiting g - took g d)
+      → Steps s (Call.Finish r.txn u.number) (gave_done d) (finished s r u d waiting)
+  pub commits : (s : State) (r : Row) (cells : ℕ) (waiting : List ℕ) → IsSound s → s.failed ≡ false
+      → MayCommit s r cells waiting → log_full (ledger_of s) 1 ≡ false
+      → Steps s (Call.Commit r.txn) (Reply.Gave_commit (record { txn = r.txn; lsn = length s.records + 1 }))
+      (committed s r cells waiting)
 
 -- A store with one operation at most under way, a send or a receive, that is sound as one of these, is sound; and its
 -- ledger is the same.

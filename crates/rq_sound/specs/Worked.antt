@@ -3,6 +3,8 @@ use Rattle.std.specs.Prelude.{◌≡◌, ◌≢◌, ℕ, ◌+◌, ◌<◌, true,
 use Rattle.rq_model.specs.declared.txn.Txn.{Txn}
 use Rattle.rq_model.specs.declared.record.Deed.{Deed}
 use Rattle.rq_model.specs.Content.{deeds}
+use Rattle.rq_model.specs.History.{Call}
+use Rattle.rq_model.specs.Replay.{Reply}
 use Rattle.rq_model.specs.Rules.{any_use, uses_send}
 use Rattle.rq_model.specs.Words.{In, same_txn}
 use Rattle.rq_views.specs.WorkedItems.{sizes, t1, t2, sends}
@@ -15,12 +17,15 @@ use Rattle.rq_sound.specs.Counted.{sends_in}
 use Rattle.rq_sound.specs.Sound.{State, IsSound}
 use Rattle.rq_sound.specs.Starts.{MayDo, MayUndo}
 use Rattle.rq_sound.specs.Calls.{IsNextWrite, IsReady, IsIdle, MayCommit}
-use Rattle.rq_sound.specs.Course.{send_a, send_b, cell_a, group_a, both_begun, one_under, two_under, Frames, AreMade, with_made, row_a, wrote_cell_a, wrote_group_a, sent, done_a, row_done, aborts_a, undo_a, row_undoing, undoes_a, undid_group, aborted_a, done_b, row_sent, committed_b}
+use Rattle.rq_sound.specs.Steps.{Steps}
+use Rattle.rq_sound.specs.Course.{send_a, send_b, cell_a, group_a, both_begun, one_under, two_under, Frames, AreMade, with_made, row_a, wrote_cell_a, wrote_group_a, sent, done_a, row_done, aborts_a, undo_a, row_undoing, undoes_a, undid_group, undone_a, aborted_a, done_b, row_sent, committed_b}
 
 -- two sends may be under way at once, but not where they meet on a page or at an end
 pub record TwoUnderWay : Type 0 where
-  pub first : (images : List (List ℕ)) → AreFormatted sizes images → MayDo (both_begun images) (fresh_row t1) send_a (sends 0)
-  pub second : (images : List (List ℕ)) → AreFormatted sizes images → MayDo (one_under images) (fresh_row t2) send_b (sends 15)
+  pub first : (images : List (List ℕ)) → AreFormatted sizes images
+      → MayDo (both_begun images) (fresh_row t1) send_a (sends 0)
+  pub second : (images : List (List ℕ)) → AreFormatted sizes images
+      → MayDo (one_under images) (fresh_row t2) send_b (sends 15)
   pub sound : (images : List (List ℕ)) → AreFormatted sizes images → IsSound (two_under images)
   pub same_page : (images : List (List ℕ)) (u : Under) (d : Deed) → latched_by u 1 ≡ true
       → MayDo (one_under images) (fresh_row t2) u d → ⊥
@@ -68,5 +73,15 @@ pub record AbortBesideASend : Type 0 where
   pub committed : (v : Frames) (waiting : List ℕ) → AreMade v
       → ((g : ℕ) → g < 30 → waits waiting g ≡ waits (done_b v).waiting g + sends_in g row_sent)
       → IsSound (committed_b v waiting)
+  -- the first send, the inverse and the abort's end are steps of the model; an abort that starts twice is none
+  pub send_steps : (v : Frames) → AreMade v
+      → Steps (both_begun v.start) (Call.Start_send t1 (record { sender = 0; tag = 7; body = 104 ∷ [] }))
+      (Reply.Gave_sub t1 1) (one_under v.start)
+  pub undo_steps : (v : Frames) → AreMade v
+      → Steps (aborts_a v) (Call.Undo_next t1) (Reply.Gave_sub t1 2) (undoes_a v)
+  pub abort_steps : (v : Frames) → AreMade v
+      → Steps (undone_a v) (Call.End_abort t1) Reply.Gave_aborted (aborted_a v)
+  pub no_second_abort : (v : Frames) (new : State)
+      → Steps (aborts_a v) (Call.Start_abort t1) Reply.Gave_aborting new → ⊥
   -- nothing is counted of t1, and one cell of t2
   pub cells : (v : Frames) → AreMade v → (aborted_a v).cells_in_use ≡ 1

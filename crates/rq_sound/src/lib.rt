@@ -1,15 +1,15 @@
 //! What is so of a store with any number of operations under way, of sends, receives and closes and of their inverses,
-//! apart from any code; and that each call keeps it. Today's store has one operation under way at most, aborts nothing
-//! and closes no group: it is an instance.
+//! apart from any code; and that each call keeps it. The store of `rq_store` has one operation under way at
+//! most, aborts nothing and closes no group: it is an instance.
 //!
 //! The definitions stand in specs/, the theorems are the contracts of the functions here.
 #![tactic(auto)]
 
-ghost use Rattle.rq_sound.specs.Theorems.{CallsKeepSoundness, InversesCanBePlanned, TestsAreAnswered, AbortsAreSteps, OneUnderWayIsSound, OpenedIsSound};
+ghost use Rattle.rq_sound.specs.Theorems.{CallsKeepSoundness, InversesCanBePlanned, TestsAreAnswered, AbortsAreSteps, DeedsAreSteps, OneUnderWayIsSound, OpenedIsSound};
 ghost use Rattle.rq_sound.specs.Worked.{AbortBesideASend, NotSound, TwoUnderWay};
 
-/// Each call keeps a store sound: a begin; the start of a send, a receive, a close or an inverse, each of its writes and
-/// its end; a commit; the start and the end of an abort; a force; and the failure of a device.
+/// Each call keeps a store sound: a begin; the start of a send, a receive, a close or an inverse, each of its writes
+/// and its end; a commit; the start and the end of an abort; a force; and the failure of a device.
 pub fn calls_keep_soundness()
     ensures { CallsKeepSoundness }
 {}
@@ -29,6 +29,12 @@ pub fn tests_are_answered()
 /// the one before. So are slot writes, begins and forces.
 pub fn aborts_are_steps()
     ensures { AbortsAreSteps }
+{}
+
+/// Deeds and commits are steps of the model: the start of a send, a receive or a close, that no message waits, the end,
+/// and a commit.
+pub fn deeds_are_steps()
+    ensures { DeedsAreSteps }
 {}
 
 /// A store that is sound with one operation under way at most is sound, with the same ledger.

@@ -1,4 +1,5 @@
--- Whoever may put a message back finds a free cell, and so does whoever may send; and the inverse of the newest deed can be planned.
+-- Whoever may put a message back finds a free cell, and so does whoever may send; and the inverse of the newest deed can
+-- be planned.
 use Rattle.std.proofs.Common.{◌≡◌, ℕ, ◌+◌, ◌/◌, ◌<◌, ◌≤◌, ◌++◌, List, [], ◌∷◌, refl, sym, ◌∙◌, ap, subst, true, false, nat_eq, Option, Some, None, inl, inr, arith}
 use Rattle.std.specs.List.{sum_by}
 use Rattle.std.proofs.lemmas.Bool.{cases_Bool, eqb-true, or_parts}
@@ -32,8 +33,8 @@ use Rattle.rq_sound.specs.Rows.{Aim, Under, Row, turn_of, found_row, latched_by,
 use Rattle.rq_sound.specs.Standing.{IsAsPlanned, IsAimOf, AreStanding}
 use Rattle.rq_sound.specs.Counted.{AreCounted, appends_aim, appending, appending_in, takes_all, uses_before, uses_after, made_of, before_in, after_in}
 use Rattle.rq_sound.specs.Rows.Aim.{Doing, Undoing}
-use Rattle.rq_sound.proofs.StandingRows.{found_in}
-use Rattle.rq_sound.proofs.Room.{made_within, some_free}
+use Rattle.rq_sound.proofs.RowLists.{found_in}
+use Rattle.rq_sound.proofs.UsedCells.{made_within, some_free}
 use Rattle.rq_store.proofs.Holders.{placed_more}
 use Rattle.rq_sound.proofs.Going.{IsOne, shown_beside}
 use Rattle.rq_sound.proofs.Going.IsOne.{Idle, Going}
@@ -154,8 +155,8 @@ module _ (z : Sizes) (log : List Record) (ends : HeldEnds) (rows : List Row) (in
   pub shown_here : (whole : IsWhole z log) (s : ℕ) → s < sender_count z → latched_in rows (directory_at s / 16) ≡ false → ShowsAt (layout_of z) (left_by z log).slots s (view (items z log) s)
   shown_here whole s below off = shown_beside z log ends (latched_in rows) s whole.legal all_one below off
 
-  -- A transaction with nothing under way can undo its newest deed, once nobody has latched its sender's directory page. A put-back finds a free cell, and can
-  -- take any; a close's inverse finds the group closed.
+  -- A transaction with nothing under way can undo its newest deed, once nobody has latched its sender's directory page.
+  -- A put-back finds a free cell, and can take any; a close's inverse finds the group closed.
   module _ (whole : IsWhole z log) (r : Row) (i : In r rows) (idle : r.under ≡ None) (fs : List Finished) (f : Finished) (newest : r.finished ≡ fs ++ f ∷ []) where
     pub open_is : open_deeds r.txn (items z log) ≡ placed_one f ∷ placed fs
     open_is = (k.each r i).done ∙ ap placed newest ∙ placed_more fs f

@@ -1,4 +1,5 @@
--- The cells that the slots use, while operations are under way: an operation uses at most one cell more than before it, and only where it appends or puts back.
+-- The cells that the slots use, while operations are under way: an operation uses at most one cell more than before it,
+-- and only where it appends or puts back.
 use Rattle.std.proofs.Common.{◌≡◌, ℕ, zero, suc, ◌+◌, ◌-◌, ◌<◌, ◌≤◌, ◌++◌, List, [], ◌∷◌, take, reverse, refl, sym, ap, subst, Bool, true, false, cond, Option, Some, None, inl, inr, arith}
 use Rattle.std.specs.List.{sum_by}
 use Rattle.std.proofs.lemmas.Bool.{cases_Bool, true≢false}

@@ -28,7 +28,7 @@ use Rattle.rq_store.proofs.Stepping.{address_is}
 use Rattle.rq_store.proofs.Releases.{without_ends}
 use Rattle.rq_sound.proofs.Begins.{stands_begin, counts_begin}
 use Rattle.rq_sound.proofs.Starts.{MayStart, HasEnds, stands_start, counts_start}
-use Rattle.rq_sound.proofs.Steps.{whole_step, stands_step, counts_step}
+use Rattle.rq_sound.proofs.Writing.{whole_step, stands_step, counts_step}
 use Rattle.rq_sound.proofs.Ending.{whole_finish, stands_finish, counts_finish}
 use Rattle.rq_sound.proofs.Undoing.{aborts, whole_undo, stands_undo, counts_undo}
 use Rattle.rq_sound.proofs.Commits.{whole_commit, stands_commit, counts_commit}

@@ -1,4 +1,5 @@
--- What the model's tests ask of a sound store, from what the store has: whether a group is closed, whether it holds a message, how many cells are in use.
+-- What the model's tests ask of a sound store, from what the store has: whether a group is closed, whether it holds a
+-- message, how many cells are in use.
 use Rattle.std.proofs.Common.{◌≡◌, ◌≢◌, ℕ, ◌+◌, ◌<◌, ◌||◌, List, [], ◌∷◌, length, map, refl, sym, ◌∙◌, ap, subst, Bool, true, false, cond, Option, Some, None, inl, inr, arith}
 use Rattle.std.specs.List.{sum_by}
 use Rattle.std.proofs.lemmas.Bool.{cases_Bool, false_from_ne_true}
@@ -31,7 +32,7 @@ use Rattle.rq_sound.specs.Sound.{State, IsSound, open_of, open_ones_of, ledger_o
 use Rattle.rq_sound.specs.Standing.{AreStanding}
 use Rattle.rq_sound.specs.Counted.{AreCounted, appends_aim, appending, appending_in, appends_all, takes_in}
 use Rattle.rq_sound.specs.Rows.Aim.{Doing, Undoing}
-use Rattle.rq_sound.proofs.StandingRows.{found_in, alone_of_sum}
+use Rattle.rq_sound.proofs.RowLists.{found_in, alone_of_sum}
 use Rattle.rq_store.proofs.Telling.{told_placed}
 use Rattle.rq_store.proofs.Starting.{free_alone}
 use Rattle.rq_sound.proofs.Alone.{unused, sends_same, takes_same, removed_is}

@@ -21,7 +21,7 @@ use Rattle.rq_views.proofs.Idle.{unbegun_writes}
 use Rattle.rq_level.specs.Writes.{write_of, writes_of}
 use Rattle.rq_sound.specs.Rows.{Under, Row, found_row, is_under, latched_by, deed_of}
 use Rattle.rq_sound.specs.Standing.{unmade, FollowsPlan, IsAsPlanned, IsAimOf, IsRow, AreStanding}
-use Rattle.rq_sound.proofs.StandingRows.{found_in, not_txn}
+use Rattle.rq_sound.proofs.RowLists.{found_in, not_txn}
 use Rattle.rq_store.proofs.Others.{other_number, own_greatest}
 use Rattle.rq_sound.proofs.Standings.{senders_differ}
 use Rattle.rq_views.specs.Plans.{deed_sender}

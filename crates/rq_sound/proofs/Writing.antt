@@ -34,7 +34,7 @@ use Rattle.rq_sound.proofs.Going.{other_steps, own_steps, page_latched, page_is,
 use Rattle.rq_sound.proofs.Beside.{says_page}
 use Rattle.rq_store.proofs.Others.{other_number}
 use Rattle.rq_sound.proofs.Counted.{counted_step}
-use Rattle.rq_sound.proofs.Own.{row, of_order, running, going, next_number, greatest_now, others_apart, strange_by}
+use Rattle.rq_sound.proofs.OwnRecord.{row, of_order, running, going, next_number, greatest_now, others_apart, strange_by}
 use Rattle.rq_sound.proofs.Standings.{stands_changed}
 
 pub aim_stepped : (r : Row) (a : Aim) → IsAimOf r a → IsAimOf (row_stepped r) a

@@ -13,7 +13,7 @@ use Rattle.rq_groups.specs.Ends.{HeldEnds, held_by, released}
 use Rattle.rq_store.specs.State.{op_done}
 use Rattle.rq_sound.specs.Rows.{Under, Row, AreDistinct, found_row, change_row, without_row, row_aborting, row_undone, comp_end}
 use Rattle.rq_sound.specs.Sound.{State, open_of, open_ones_of, ledger_of, left_under}
-use Rattle.rq_sound.proofs.StandingRows.{found_in, unique, not_txn}
+use Rattle.rq_sound.proofs.RowLists.{found_in, unique, not_txn}
 use Rattle.rq_store.proofs.Holders.{map_join}
 use Rattle.rq_store.proofs.Releases.{without_ends}
 use Rattle.rq_store.proofs.Stepping.{one_longer}
@@ -61,7 +61,7 @@ held_by_other t q (h ∷ hs) n = elim (cases_Bool (same_txn h.txn t)) [
   | inr m ↦ rw m (ap (λ l. cond (same_txn h.txn q) (h.sender ∷ l) l) (held_by_other t q hs n))
 ]
 
-open_other : (t : Txn) (ends : HeldEnds) (r : Row) → r.txn ≢ t → open_of (without_ends t ends) r ≡ open_of ends r
+pub open_other : (t : Txn) (ends : HeldEnds) (r : Row) → r.txn ≢ t → open_of (without_ends t ends) r ≡ open_of ends r
 open_other t ends r n =
     ap (λ (l : List ℕ). record (open_of ends r) { sending = l; receiving = held_by r.txn (released t ends.receiving) }) (held_by_other t r.txn ends.sending n)
     ∙ ap (λ (l : List ℕ). record (open_of ends r) { receiving = l }) (held_by_other t r.txn ends.receiving n)
