@@ -1,0 +1,99 @@
+//! Makes the same calls through a kept engine on one thread, or through a shared one on four, and prints how many were
+//! answered; how many starts were Latched goes to standard error. Its words: how many threads, 1 or 4, and how many
+//! batches of rounds each of four senders goes through.
+#![tactic(auto)]
+
+mod rounds;
+mod store;
+mod tally;
+mod threads;
+
+use crate::rounds::{SENDERS, batch};
+use crate::store::small_engine;
+use crate::tally::Tally;
+use crate::threads::share;
+use rq_disk::{LogDevice, MemLog, MemPages, PageDevice};
+use rq_engine::engine::Engine;
+use rq_shared::kept::Kept;
+use rq_workers::kept::KeptSteps;
+use std::alloc::Global;
+use std::io::Write;
+use std::marker::Brand;
+use std::process::ExitCode;
+use std::rt::Env;
+use std::sync::Wait;
+use std::sync::ledger::Blank;
+use std::thread::Threads;
+use std::{env, io};
+
+fn main(rt: HostRuntime) -> ExitCode {
+    match run(&rt) {
+        Ok(()) => ExitCode::from(0),
+        Err(_) => ExitCode::from(1),
+    }
+}
+
+fn run<R: Print + Eprint + AllocGlobal + Env + Threads + Wait + Sync>(rt: &R) -> io::Result<()> {
+    let (threads, batches) = words(rt)?;
+    let counted = match threads {
+        1 => by_one(rt, rt.alloc(), batches),
+        4 => by_four(rt, rt.alloc(), batches),
+        _ => None,
+    };
+    let Some(Tally { answered, latched }) = counted else {
+        return Err(io::ErrorKind::Other.into());
+    };
+    eprintln!(rt; "{latched} latched")?;
+    let mut writer = io::writer(rt);
+    writeln!(writer, "{answered} calls")
+}
+
+// The words of the process: how many threads, and how many batches. Each is 0 where it is none.
+fn words<R: AllocGlobal + Env>(rt: &R) -> io::Result<(u32, u32)> {
+    let mut words = env::args(rt)?;
+    let _ = words.next();
+    let threads = match words.next() {
+        Some(word) => word.parse().unwrap_or(0),
+        None => 0,
+    };
+    let batches = match words.next() {
+        Some(word) => word.parse().unwrap_or(0),
+        None => 0,
+    };
+    Ok((threads, batches))
+}
+
+// All calls through a kept engine, one sender after the other.
+fn by_one<R: Wait>(rt: &R, alloc: Global, batches: u32) -> Option<Tally> {
+    let mut steps = KeptSteps::new(Kept::new(alloc, small_engine(alloc)?), 1);
+    let mut tally = Tally::none();
+    for sender in 0..SENDERS {
+        let (after, of_sender) = batches_of(rt, alloc, steps, sender, batches)?;
+        steps = after;
+        tally = tally.and(of_sender);
+    }
+    Some(tally)
+}
+
+// The batches of a sender. The audit is taken after each.
+fn batches_of<P: PageDevice + Drop, L: LogDevice + Drop, R: Wait>(
+    rt: &R,
+    alloc: Global,
+    steps: KeptSteps<P, L>,
+    sender: u32,
+    batches: u32,
+) -> Option<(KeptSteps<P, L>, Tally)> {
+    let mut steps = steps;
+    let mut tally = Tally::none();
+    for _ in 0..batches {
+        steps = batch(rt, alloc, steps, sender)?;
+        tally = tally.and(Tally::of(steps.kept().take().entries()));
+    }
+    Some((steps, tally))
+}
+
+// All calls through a shared engine, each sender on a thread of its own.
+fn by_four<R: Threads + Wait + Sync>(rt: &R, alloc: Global, batches: u32) -> Option<Tally> {
+    let engine = small_engine(alloc)?;
+    share::<MemPages, MemLog, Brand, R>(rt, alloc, engine, Blank::new(1024), batches)
+}

@@ -1,0 +1,83 @@
+//! The calls that are made, through any step interface.
+use rq_engine::event::{Event, Reply};
+use rq_model::txn::Txn;
+use rq_workers::gate::{BEFORE_AGAIN, Gate};
+use rq_workers::steps::Steps;
+use rq_workers::worker::Worker;
+use std::alloc::{AllocError, Global};
+use std::sync::Wait;
+use std::thread;
+
+/// How many senders there are.
+pub const SENDERS: u32 = 4;
+
+/// How many rounds a sender goes through before the audit is taken.
+const ROUNDS_A_BATCH: u32 = 64;
+
+/// Lets its thread through, and others run before a call is tried again.
+#[derive(Drop)]
+struct Polite;
+
+impl Gate for Polite {
+    ghost says = { λ gate point passed. Unit {0} };
+
+    fn pass(&self, point: u32) -> bool {
+        if point == BEFORE_AGAIN {
+            thread::yield_now();
+        }
+        true
+    }
+}
+
+/// So many rounds for a sender that the audit is to be taken.
+pub fn batch<S: Steps + Drop, R: Wait>(rt: &R, alloc: Global, steps: S, sender: u32) -> Option<S> {
+    let mut steps = steps;
+    for _ in 0..ROUNDS_A_BATCH {
+        steps = round(rt, alloc, steps, sender)?;
+    }
+    Some(steps)
+}
+
+// One transaction that sends for a sender, and one that receives what it sent.
+fn round<S: Steps + Drop, R: Wait>(rt: &R, alloc: Global, steps: S, sender: u32) -> Option<S> {
+    let mut steps = steps;
+    let txn = begun(&mut steps)?;
+    let send = send_of(alloc, txn, sender).ok()?;
+    let mut steps = committed(rt, steps, txn, &send);
+    let txn = begun(&mut steps)?;
+    let receive = Event::StartReceiveFrom { txn, sender };
+    Some(committed(rt, steps, txn, &receive))
+}
+
+// Begins a transaction.
+fn begun<S: Steps>(steps: &mut S) -> Option<Txn> {
+    let stamped = steps.call(Event::Begin);
+    let txn = match stamped.reply() {
+        Reply::Begun(txn) => Some(*txn),
+        _ => None,
+    };
+    steps.seen(stamped);
+    txn
+}
+
+// The start of a send of one byte.
+fn send_of(alloc: Global, txn: Txn, sender: u32) -> Result<Event, AllocError> {
+    let mut body = Vec::new(alloc);
+    body.push(b'x')?;
+    Ok(Event::StartSend {
+        txn,
+        sender,
+        tag: 1,
+        body,
+    })
+}
+
+// Goes through the operation of a transaction, and commits.
+fn committed<S: Steps + Drop, R: Wait>(rt: &R, steps: S, txn: Txn, start: &Event) -> S {
+    let mut worker = Worker::new(Polite, steps);
+    let _ = worker.run(rt, start);
+    let mut steps = worker.into_steps();
+    let stamped = steps.call(Event::Commit(txn));
+    steps.seen(stamped);
+    steps
+}

@@ -1,0 +1,158 @@
+//! Four threads that share an engine.
+ghost use Rattle.std.specs.Prelude.{◌≡◌, IfSome};
+
+use crate::rounds::batch;
+use crate::tally::Tally;
+use rq_disk::{LogDevice, PageDevice};
+use rq_engine::engine::Engine;
+use rq_shared::mark::{Mark, MarkPass};
+use rq_shared::room::Pass;
+use rq_shared::shared::{Front, Shared};
+use rq_workers::shared::{DropStamps, SharedSteps};
+use std::alloc::Global;
+use std::sync::Wait;
+use std::sync::ledger::{Blank, Ledger};
+use std::thread::{Threads, join};
+
+/// What the threads share beside the engine: the mark, and how many batches each goes through.
+#[derive(Drop)]
+struct Common {
+    mark: Mark,
+    batches: u32,
+}
+
+/// What a thread has of its own: its pass, its seat at the mark, and the sender for which it calls.
+#[derive(Drop)]
+struct Own<G: Ledger> {
+    pass: Pass<G>,
+    seat: MarkPass,
+    sender: u32,
+}
+
+/// What two threads counted.
+type Both = (Option<Tally>, Option<Tally>);
+
+// The batches of one thread. It takes the audit after each, which has the calls of all threads.
+fn work<P: PageDevice + Drop, L: LogDevice + Drop, G: Ledger, R: Wait>(
+    rt: &R,
+    alloc: Global,
+    front: &Front<P, L, G>,
+    own: Own<G>,
+    common: &Common,
+) -> Option<Tally>
+    requires { own.seat.table ≡ common.now.mark }
+{
+    let Own { pass, seat, sender } = own;
+    let mut steps = SharedSteps::new(rt, front, pass, &common.mark, seat, DropStamps);
+    let mut tally = Tally::none();
+    for _ in 0..common.batches {
+        steps = batch(rt, alloc, steps, sender)?;
+        tally = tally.and(Tally::of(front.take_audit(rt).entries()));
+    }
+    Some(tally)
+}
+
+// Two threads at work.
+fn two<
+    P: PageDevice + Drop + Send,
+    L: LogDevice + Drop + Send,
+    G: Ledger + Send + Sync,
+    R: Threads + Wait + Sync,
+>(
+    rt: &R,
+    alloc: Global,
+    front: &Front<P, L, G>,
+    one: Own<G>,
+    other: Own<G>,
+    common: &Common,
+) -> Both
+    requires { (one.seat.table ≡ common.now.mark) × (other.seat.table ≡ common.now.mark) }
+{
+    join(
+        rt,
+        move || -> Option<Tally>
+            requires { one.seat.table ≡ common.now.mark }
+        { work(rt, alloc, front, one, common) },
+        move || -> Option<Tally>
+            requires { other.seat.table ≡ common.now.mark }
+        { work(rt, alloc, front, other, common) },
+    )
+}
+
+/// What two threads have of their own.
+#[derive(Drop)]
+struct Pair<G: Ledger> {
+    one: Own<G>,
+    other: Own<G>,
+}
+
+// Four threads at work.
+fn four<
+    P: PageDevice + Drop + Send,
+    L: LogDevice + Drop + Send,
+    G: Ledger + Send + Sync,
+    R: Threads + Wait + Sync,
+>(
+    rt: &R,
+    alloc: Global,
+    front: &Front<P, L, G>,
+    first: Pair<G>,
+    second: Pair<G>,
+    common: &Common,
+) -> (Both, Both)
+    requires first { (first.one.seat.table ≡ common.now.mark) × (first.other.seat.table ≡ common.now.mark) }
+    requires second { (second.one.seat.table ≡ common.now.mark) × (second.other.seat.table ≡ common.now.mark) }
+{
+    join(
+        rt,
+        move || -> Both
+            requires { (first.one.seat.table ≡ common.now.mark) × (first.other.seat.table ≡ common.now.mark) }
+        { two(rt, alloc, front, first.one, first.other, common) },
+        move || -> Both
+            requires { (second.one.seat.table ≡ common.now.mark) × (second.other.seat.table ≡ common.now.mark) }
+        { two(rt, alloc, front, second.one, second.other, common) },
+    )
+}
+
+/// Shares an engine among four threads, and counts the calls in the audits that they took.
+pub fn share<
+    P: PageDevice + Drop + Send,
+    L: LogDevice + Drop + Send,
+    G: Ledger + Send + Sync,
+    R: Threads + Wait + Sync,
+>(rt: &R, alloc: Global, engine: Engine<P, L>, blank: Blank, batches: u32) -> Option<Tally>
+    requires name { blank.name ≡ G.name }
+    requires parts { (blank.parts ≡ G.parts) × (blank.parts ≡ 1024) }
+{
+    let mut shared = Shared::<P, L, G>::new(alloc, engine, blank);
+    let (mark, mut seat) = Mark::new(alloc).ok()?;
+    let first = Pair {
+        one: own_of(&mut shared, &mark, &mut seat, 0)?,
+        other: own_of(&mut shared, &mark, &mut seat, 1)?,
+    };
+    let second = Pair {
+        one: own_of(&mut shared, &mark, &mut seat, 2)?,
+        other: own_of(&mut shared, &mark, &mut seat, 3)?,
+    };
+    let common = Common { mark, batches };
+    let ((a, b), (c, d)) = four(rt, alloc, shared.front(), first, second, &common);
+    Some(a?.and(b?).and(c?).and(d?))
+}
+
+// A pass, a seat at the mark, and a sender.
+fn own_of<P: PageDevice + Drop, L: LogDevice + Drop, G: Ledger>(
+    shared: &mut Shared<P, L, G>,
+    mark: &Mark,
+    seat: &mut MarkPass,
+    sender: u32,
+) -> Option<Own<G>>
+    requires { seat.old.table ≡ mark.now }
+    ensures { IfSome result (λ own. own.seat.table ≡ mark.now) × (seat.new.table ≡ mark.now) }
+{
+    let pass = shared.pass()?;
+    Some(Own {
+        pass,
+        seat: mark.split(seat),
+        sender,
+    })
+}
