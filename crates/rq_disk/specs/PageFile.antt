@@ -1,5 +1,5 @@
 -- Pages in a file, by what it held at first and its calls since, the newest first.
-use Rattle.std.specs.Prelude.{◌≡◌, ◌⊎◌, ℕ, ◌+◌, ◌≤◌, ◌/◌, ◌%◌, ◌^◌, ◌==◌, if◌then◌else◌, List, [], ◌∷◌, length, drop, refl, ⊤}
+use Rattle.std.specs.Prelude.{◌≡◌, ◌⊎◌, ℕ, ◌+◌, ◌≤◌, ◌/◌, ◌%◌, ◌^◌, ◌==◌, if◌then◌else◌, List, [], ◌∷◌, length, drop, refl, ⊤, Bool, true, ◌&&◌}
 use Rattle.std.proofs.Common.{inl, inr, sym, subst}
 use Rattle.std.proofs.lemmas.Bool.{cases_eq}
 use Rattle.rq_disk.specs.Device.{Images, Leaves}
@@ -10,6 +10,19 @@ use Rattle.rq_disk.specs.Memory.{if_yes, if_no}
 -- The page that begins at a place. A place where none begins counts as a page that no device has.
 abbrev pub page_at : ℕ → ℕ
 page_at at = if at % 4096 == 0 then at / 4096 else 2 ^ 64
+
+-- these bytes from there on are one page
+abbrev pub is_page : ℕ → List ℕ → Bool
+is_page at bytes = (at % 4096 == 0) && (length bytes == 4096)
+
+-- each read and each write was of one page, a write that failed too
+abbrev pub are_whole : List FileCall → Bool
+are_whole [] = true
+are_whole (Gave at bytes ∷ calls) = is_page at bytes && are_whole calls
+are_whole (Took at bytes ∷ calls) = is_page at bytes && are_whole calls
+are_whole (Tried at bytes ∷ calls) = is_page at bytes && are_whole calls
+are_whole (Synced ∷ calls) = are_whole calls
+are_whole (Missed ∷ calls) = are_whole calls
 
 -- the image of each page that was written last
 abbrev pub images_now : Images → List FileCall → Images

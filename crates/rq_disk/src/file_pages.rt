@@ -2,6 +2,7 @@
 ghost use Rattle.std.specs.Prelude.{◌≡◌, ◌*◌, ◌/◌, ℕ, [], IfOk, true, false};
 ghost use Rattle.rq_disk.specs.Device.{Only};
 ghost use Rattle.rq_disk.specs.FileCalls.{has_failed};
+ghost use Rattle.rq_disk.specs.PageFile.{are_whole};
 
 use crate::device::{DeviceFailed, PAGE, PageDevice};
 use crate::held::Held;
@@ -22,6 +23,7 @@ pub struct FilePages<S: Held, F: Storage = NotedFile> {
     failures: u64,
     held: PhantomData<S>,
     ghost stops: { broken ≡ has_failed (F.Storage.calls file) },
+    ghost whole: { are_whole (F.Storage.calls file) ≡ true },
 }
 
 impl<S: Held, F: Storage> PageDevice for FilePages<S, F> {

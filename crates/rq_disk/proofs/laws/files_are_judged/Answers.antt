@@ -1,4 +1,5 @@
-use Rattle.std.proofs.Common.{◌≡◌, ℕ, List, get_or, length, refl, inl, inr, ap, arith}
+use Rattle.std.proofs.Common.{◌≡◌, ℕ, List, get_or, length, refl, inl, inr, ap, arith, sym, ◌∙◌}
+use Rattle.std.proofs.lemmas.Bool.Decides.{nat_tests}
 use Rattle.rq_disk.proofs.laws.files_are_judged.Goals as goal
 
 pub returns : goal.returns
@@ -11,6 +12,10 @@ returns c = record {
   page_stayed = inl refl;
   page_synced = λ a. (let e : 0 ≡ 7 = ap (λ (l : List ℕ). get_or l 0 0) a in omega (arith, e));
   page_missed = inl refl;
+  whole = λ bytes long. grind (arith, nat_tests, long);
+  in_part = refl;
+  no_file = λ held a. (let e : 2 ≡ 1 = ap length (a.0 ∙ sym a.1.0) in omega (arith, e));
+  astray = λ bytes. refl;
   log_read = (refl, refl);
   log_otherwise = λ a. (let e : 5 ≡ 0 = ap (λ (l : List ℕ). get_or l 0 0) a.0 in omega (arith, e));
   log_longer = λ a. omega (arith, a);
