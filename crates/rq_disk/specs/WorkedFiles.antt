@@ -31,6 +31,10 @@ pub record FilesAreJudged : Type 0 where
   -- what was synced is left
   pub page_synced : page_may_be blank (Synced ∷ Took 4096 seven ∷ []) 1 (0 ∷ []) → ⊥
   pub page_missed : page_may_be blank (Missed ∷ Took 4096 seven ∷ []) 1 (0 ∷ [])
+  -- a sync that failed, tried again with success, has kept nothing for sure
+  pub page_missed_synced : page_may_be blank (Synced ∷ Missed ∷ Took 4096 seven ∷ []) 1 (0 ∷ [])
+  pub page_missed_whole : page_may_be blank (Synced ∷ Missed ∷ Took 4096 seven ∷ []) 1 seven
+  pub page_of_nobody : page_may_be blank (Synced ∷ Missed ∷ Took 4096 seven ∷ []) 1 (8 ∷ []) → ⊥
   -- whole pages, where pages begin
   pub whole : (bytes : List ℕ) → length bytes ≡ 4096
       → are_whole (Gave 8192 bytes ∷ Synced ∷ Took 0 bytes ∷ Missed ∷ Tried 4096 bytes ∷ []) ≡ true
@@ -46,6 +50,9 @@ pub record FilesAreJudged : Type 0 where
   pub log_cut : log_may_leave (9 ∷ []) (Tried 1 empty ∷ []) (9 ∷ [])
   pub log_whole : log_may_leave (9 ∷ []) (Tried 1 empty ∷ []) (9 ∷ empty)
   pub log_forced : log_may_leave (9 ∷ []) (Synced ∷ Took 1 empty ∷ []) (9 ∷ []) → ⊥
+  pub log_missed_forced : log_may_leave (9 ∷ []) (Synced ∷ Missed ∷ Took 1 empty ∷ []) (9 ∷ [])
+  pub log_missed_whole : log_may_leave (9 ∷ []) (Synced ∷ Missed ∷ Took 1 empty ∷ []) (9 ∷ empty)
+  pub log_of_nobody : log_may_leave (9 ∷ []) (Synced ∷ Missed ∷ Took 1 empty ∷ []) [] → ⊥
   -- which calls end a device
   pub ends : has_failed (Gave 0 seven ∷ Missed ∷ Took 0 seven ∷ []) ≡ true
   pub goes_on : has_failed (Synced ∷ Gave 0 seven ∷ Took 0 seven ∷ []) ≡ false
