@@ -1,8 +1,10 @@
 //! The files of a store, made in a folder or opened there.
-ghost use Rattle.std.specs.Prelude.{◌≤◌};
+ghost use Rattle.std.specs.Prelude.{◌≡◌, ◌↔◌, ◌≤◌, ℕ, IfOk, length};
+ghost use Rattle.rq_disk.specs.Device.{Only};
+ghost use Rattle.rq_disk.specs.Stored.{first_len};
 
 use crate::fault::Fault;
-use rq_disk::{FileLog, FilePages, Held, PAGE, Unknown};
+use rq_disk::{FileLog, FilePages, Held, LogDevice, PAGE, PageDevice, Unknown};
 use rq_model::refusal::Refusal;
 use rq_page::layout::Layout;
 use rq_restart::format::format;
@@ -75,7 +77,22 @@ pub fn open_folder<S: Held, R: Files<File = File> + AllocGlobal>(
     rt: &R,
     folder: &str,
     _held: S,
-) -> io::Result<(FilePages<S>, FileLog<S>)> {
+) -> io::Result<(FilePages<S>, FileLog<S>)>
+    ensures pages { IfOk result (λ d. ⟦<FilePages<S> as PageDevice>⟧.seen d.0 ≡ S.pages) }
+    ensures pages_durable { IfOk result (λ d. (p : ℕ)
+        → Only (S.pages p) (⟦<FilePages<S> as PageDevice>⟧.may_be d.0 p)) }
+    ensures pages_honest { IfOk result (λ d. ⟦<FilePages<S> as PageDevice>⟧.honest d.0) }
+    ensures pages_run { IfOk result (λ d. ⟦<FilePages<S> as PageDevice>⟧.stopped d.0 → ⊥) }
+    ensures pages_moment { IfOk result (λ d. ⟦<FilePages<S> as PageDevice>⟧.moment d.0 ≡ 0) }
+    ensures pages_failures { IfOk result (λ d. ⟦<FilePages<S> as PageDevice>⟧.faults d.0 ≡ 0) }
+    ensures log { IfOk result (λ d. ⟦<FileLog<S> as LogDevice>⟧.seen d.1 ≡ S.bytes) }
+    ensures log_durable { IfOk result (λ d. Only S.bytes (⟦<FileLog<S> as LogDevice>⟧.may_leave d.1)) }
+    ensures log_honest { IfOk result (λ d. ⟦<FileLog<S> as LogDevice>⟧.honest d.1
+        ↔ (length S.bytes ≡ first_len d.1)) }
+    ensures log_runs { IfOk result (λ d. ⟦<FileLog<S> as LogDevice>⟧.stopped d.1 → ⊥) }
+    ensures log_moment { IfOk result (λ d. ⟦<FileLog<S> as LogDevice>⟧.moment d.1 ≡ 0) }
+    ensures log_failures { IfOk result (λ d. ⟦<FileLog<S> as LogDevice>⟧.faults d.1 ≡ 0) }
+{
     let alloc = rt.alloc();
     let folder = Path::new(folder);
     let pages = opened(rt, &folder.join(alloc, PAGES)?)?;
