@@ -49,8 +49,8 @@ fn print_formatted<W: Write>(writer: &mut W, layout: &Layout) -> io::Result<()> 
 /// both files too.
 ///
 /// # Errors
-/// `Exists` where either name is taken, and then nothing was made; `Open` where a file cannot be had; `Refused` with
-/// `DiskWrite` where one fails: what was made is left.
+/// `Exists` where either name is taken; `Open` where a file or its lock, or the folder, cannot be had; `Refused` with
+/// `DiskWrite` where one fails. Unless both files could be made none is there then; after that what was made is left.
 pub fn format_folder<R: Files<File = File> + AllocGlobal>(
     rt: &R,
     folder: &str,
@@ -61,8 +61,7 @@ pub fn format_folder<R: Files<File = File> + AllocGlobal>(
     if is_taken(rt, &pages)? || is_taken(rt, &log)? {
         return Err(Fault::Exists);
     }
-    let pages = made(rt, &pages)?;
-    let log = made(rt, &log)?;
+    let (pages, log) = both_made(rt, &pages, &log)?;
     format_pages(pages, layout)?;
     log.sync_all().map_err(write_failed)?;
     sync_folder(rt, folder)
@@ -116,6 +115,22 @@ fn is_taken<R: Files>(rt: &R, path: &PathBuf) -> Result<bool, Fault> {
     }
 }
 
+// Makes both files. Where the log cannot be made the pages are removed again.
+fn both_made<R: Files<File = File>>(
+    rt: &R,
+    pages: &PathBuf,
+    log: &PathBuf,
+) -> Result<(File, File), Fault> {
+    let pages_file = made(rt, pages)?;
+    match made(rt, log) {
+        Ok(log_file) => Ok((pages_file, log_file)),
+        Err(fault) => {
+            let _ = fs::remove_file(rt, pages);
+            Err(fault)
+        }
+    }
+}
+
 fn made<R: Files<File = File>>(rt: &R, path: &PathBuf) -> Result<File, Fault> {
     let file = OpenOptions::new()
         .read(true)
@@ -134,11 +149,13 @@ fn opened<R: Files<File = File>>(rt: &R, path: &PathBuf) -> io::Result<File> {
 }
 
 fn format_pages(file: File, layout: &Layout) -> Result<(), Fault> {
+    // locked here, so that what fails at the opening is no lock
+    if file.try_lock().is_err() {
+        return Err(Fault::Open);
+    }
     let length = u64::from(layout.pages()) * PAGE as u64;
     file.set_len(length).map_err(write_failed)?;
-    let Ok(mut pages) = FilePages::<Unknown>::open(file) else {
-        return Err(Fault::Open);
-    };
+    let mut pages = FilePages::<Unknown>::open(file).map_err(write_failed)?;
     format(&mut pages, layout).map_err(Fault::Refused)
 }
 
