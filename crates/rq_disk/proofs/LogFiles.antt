@@ -1,8 +1,8 @@
 -- One call more of a file of a log.
-use Rattle.std.proofs.Common.{◌≡◌, ℕ, ◌+◌, ◌-◌, ◌==◌, ◌&&◌, Bool, true, min, List, [], ◌∷◌, length, sym, ◌∙◌, ap, subst, arith, length-append}
+use Rattle.std.proofs.Common.{◌≡◌, ℕ, ◌+◌, ◌-◌, ◌==◌, ◌&&◌, Bool, true, false, min, List, [], ◌∷◌, length, sym, ◌∙◌, ap, subst, arith, length-append}
 use Rattle.std.proofs.lemmas.Bool.Decides.{nat_tests}
 use Rattle.rq_disk.specs.Device.{Appended, Elapses}
-use Rattle.rq_disk.specs.FileCalls.{FileCall}
+use Rattle.rq_disk.specs.FileCalls.{FileCall, has_failed, after_sync}
 use Rattle.rq_disk.specs.FileCalls.FileCall.{Gave, Took, Tried, Synced, Missed}
 use Rattle.rq_disk.specs.LogFile.{log_bytes, log_may_leave, grown, writes_at_end, LogAgrees, LogLeftSince, log_all}
 use Rattle.rq_disk.proofs.SinceCalls.{goes_on}
@@ -52,9 +52,11 @@ module _ (held : List ℕ) (calls later : List FileCall) where
     pub tried_crash : later ≡ Tried at bytes ∷ calls → Appended (log_bytes held calls) bytes (log_may_leave held calls) (log_may_leave held later)
     tried_crash is c may = subst (λ (cs : List FileCall). log_may_leave held cs c) is may
 
-  module _ (is : later ≡ Synced ∷ calls) where
+  module _ (is : later ≡ Synced ∷ calls) (runs : has_failed calls ≡ false) where
     pub synced_only : (c : List ℕ) → log_may_leave held later c → c ≡ log_bytes held calls
-    synced_only c may = subst (λ (cs : List FileCall). log_may_leave held cs c) is may
+    synced_only c may =
+        let synced = subst (λ (cs : List FileCall). log_may_leave held cs c) is may in
+        subst (λ (b : Bool). after_sync b (log_may_leave held calls c) (c ≡ log_bytes held calls)) runs synced
 
     pub synced_crash : (c : List ℕ) → log_may_leave held later c → log_may_leave held calls c
     synced_crash c may = subst (log_may_leave held calls) (sym (synced_only c may)) (log_all held calls)

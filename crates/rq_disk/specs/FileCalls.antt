@@ -21,3 +21,13 @@ has_failed (FileCall.Took at bytes ∷ calls) = has_failed calls
 has_failed (FileCall.Tried at bytes ∷ calls) = true
 has_failed (FileCall.Synced ∷ calls) = has_failed calls
 has_failed (FileCall.Missed ∷ calls) = true
+
+-- A sync leaves what is there now and nothing else; not so where a write or a sync had failed before it: what was to be
+-- written may be lost then, though this one was made, and all may be left that might have been.
+abbrev pub after_sync : (had_failed : Bool) (before now : Type 0) → Type 0
+after_sync true before now = before
+after_sync false before now = now
+
+pub after_sync_now : (had_failed : Bool) (before now : Type 0) → before → now → after_sync had_failed before now
+after_sync_now true before now was is = was
+after_sync_now false before now was is = is

@@ -1,7 +1,7 @@
 -- A log in a file, by what it held at first and its calls since, the newest first.
 use Rattle.std.specs.Prelude.{◌≡◌, ◌⊎◌, ℕ, ◌+◌, ◌≤◌, ◌==◌, List, [], ◌∷◌, ◌++◌, length, take, drop, refl, Bool, true, ◌&&◌}
 use Rattle.std.proofs.Common.{inl, inr, sym, ap, arith}
-use Rattle.rq_disk.specs.FileCalls.{FileCall}
+use Rattle.rq_disk.specs.FileCalls.{FileCall, has_failed, after_sync, after_sync_now}
 use Rattle.rq_disk.specs.FileCalls.FileCall.{Gave, Took, Tried, Synced, Missed}
 use Rattle.rq_disk.specs.Records.{first_records, front_all}
 
@@ -15,7 +15,7 @@ log_bytes held (Synced ∷ calls) = log_bytes held calls
 log_bytes held (Missed ∷ calls) = log_bytes held calls
 
 -- What a crash may leave: what was there at the last force, or at an append since, or one that failed, with the first
--- few of its records.
+-- few of its records. A force behind an append or a force that failed is none.
 abbrev pub log_may_leave : List ℕ → List FileCall → List ℕ → Type 0
 log_may_leave held [] c = c ≡ held
 log_may_leave held (Gave at bytes ∷ calls) c = log_may_leave held calls c
@@ -23,7 +23,8 @@ log_may_leave held (Took at bytes ∷ calls) c =
     log_may_leave held calls c ⊎ ((k : ℕ) × (c ≡ log_bytes held calls ++ first_records k bytes))
 log_may_leave held (Tried at bytes ∷ calls) c =
     log_may_leave held calls c ⊎ ((k : ℕ) × (c ≡ log_bytes held calls ++ first_records k bytes))
-log_may_leave held (Synced ∷ calls) c = c ≡ log_bytes held calls
+log_may_leave held (Synced ∷ calls) c =
+    after_sync (has_failed calls) (log_may_leave held calls c) (c ≡ log_bytes held calls)
 log_may_leave held (Missed ∷ calls) c = log_may_leave held calls c
 
 -- by how many bytes it grew
@@ -66,5 +67,7 @@ log_all held (Took at bytes ∷ calls) =
     let whole = front_all (length bytes) bytes (omega arith) in
     inr (length bytes, ap (λ (l : List ℕ). log_bytes held calls ++ l) (sym whole))
 log_all held (Tried at bytes ∷ calls) = inl (log_all held calls)
-log_all held (Synced ∷ calls) = refl
+log_all held (Synced ∷ calls) =
+    after_sync_now (has_failed calls) (log_may_leave held calls (log_bytes held calls))
+    (log_bytes held calls ≡ log_bytes held calls) (log_all held calls) refl
 log_all held (Missed ∷ calls) = log_all held calls

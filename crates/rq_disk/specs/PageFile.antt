@@ -1,15 +1,28 @@
 -- Pages in a file, by what it held at first and its calls since, the newest first.
-use Rattle.std.specs.Prelude.{◌≡◌, ◌⊎◌, ℕ, ◌+◌, ◌≤◌, ◌/◌, ◌%◌, ◌^◌, ◌==◌, if◌then◌else◌, List, [], ◌∷◌, length, drop, refl, ⊤}
+use Rattle.std.specs.Prelude.{◌≡◌, ◌⊎◌, ℕ, ◌+◌, ◌≤◌, ◌/◌, ◌%◌, ◌^◌, ◌==◌, if◌then◌else◌, List, [], ◌∷◌, length, drop, refl, ⊤, Bool, true, ◌&&◌}
 use Rattle.std.proofs.Common.{inl, inr, sym, subst}
 use Rattle.std.proofs.lemmas.Bool.{cases_eq}
 use Rattle.rq_disk.specs.Device.{Images, Leaves}
-use Rattle.rq_disk.specs.FileCalls.{FileCall}
+use Rattle.rq_disk.specs.FileCalls.{FileCall, has_failed, after_sync, after_sync_now}
 use Rattle.rq_disk.specs.FileCalls.FileCall.{Gave, Took, Tried, Synced, Missed}
 use Rattle.rq_disk.specs.Memory.{if_yes, if_no}
 
 -- The page that begins at a place. A place where none begins counts as a page that no device has.
 abbrev pub page_at : ℕ → ℕ
 page_at at = if at % 4096 == 0 then at / 4096 else 2 ^ 64
+
+-- these bytes from there on are one page
+abbrev pub is_page : ℕ → List ℕ → Bool
+is_page at bytes = (at % 4096 == 0) && (length bytes == 4096)
+
+-- each read and each write was of one page, a write that failed too
+abbrev pub are_whole : List FileCall → Bool
+are_whole [] = true
+are_whole (Gave at bytes ∷ calls) = is_page at bytes && are_whole calls
+are_whole (Took at bytes ∷ calls) = is_page at bytes && are_whole calls
+are_whole (Tried at bytes ∷ calls) = is_page at bytes && are_whole calls
+are_whole (Synced ∷ calls) = are_whole calls
+are_whole (Missed ∷ calls) = are_whole calls
 
 -- the image of each page that was written last
 abbrev pub images_now : Images → List FileCall → Images
@@ -20,13 +33,15 @@ images_now held (Tried at bytes ∷ calls) = images_now held calls
 images_now held (Synced ∷ calls) = images_now held calls
 images_now held (Missed ∷ calls) = images_now held calls
 
--- what a crash may leave of a page: its image at the last sync, or any that was written since, or was to be
+-- What a crash may leave of a page: its image at the last sync, or any that was written since, or was to be. A sync behind
+-- a write or a sync that failed is none.
 abbrev pub page_may_be : Images → List FileCall → ℕ → List ℕ → Type 0
 page_may_be held [] p c = c ≡ held p
 page_may_be held (Gave at bytes ∷ calls) p c = page_may_be held calls p c
 page_may_be held (Took at bytes ∷ calls) p c = page_may_be held calls p c ⊎ ((p ≡ page_at at) × (c ≡ bytes))
 page_may_be held (Tried at bytes ∷ calls) p c = page_may_be held calls p c ⊎ ((p ≡ page_at at) × (c ≡ bytes))
-page_may_be held (Synced ∷ calls) p c = c ≡ images_now held calls p
+page_may_be held (Synced ∷ calls) p c =
+    after_sync (has_failed calls) (page_may_be held calls p c) (c ≡ images_now held calls p)
 page_may_be held (Missed ∷ calls) p c = page_may_be held calls p c
 
 -- each read gave the image that was written last
@@ -53,5 +68,7 @@ page_seen held (Took at bytes ∷ calls) p = elim (cases_eq p (page_at at)) [
       inl (subst (page_may_be held calls p) (sym is) (page_seen held calls p))
 ]
 page_seen held (Tried at bytes ∷ calls) p = inl (page_seen held calls p)
-page_seen held (Synced ∷ calls) p = refl
+page_seen held (Synced ∷ calls) p =
+    after_sync_now (has_failed calls) (page_may_be held calls p (images_now held calls p))
+    (images_now held calls p ≡ images_now held calls p) (page_seen held calls p) refl
 page_seen held (Missed ∷ calls) p = page_seen held calls p

@@ -10,6 +10,10 @@ use Rattle.rq_disk.specs.declared.storage.NotedFile.{NotedFile}
 abbrev pub file_calls : NotedFile → List FileCall
 file_calls f = f.calls.value
 
+-- how many bytes it was told to have when it was opened
+abbrev pub opened_len : NotedFile → ℕ
+opened_len f = f.len
+
 -- how many bytes a log was told to have when it was opened
 abbrev pub first_len : {S F : Type 0} {h : held.Ghosts S} {f : storage.Ghosts F} → FileLog S F h f → ℕ
 first_len d = d.first

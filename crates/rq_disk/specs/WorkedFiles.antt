@@ -1,10 +1,10 @@
 -- Worked calls of files: those of an honest one, and those of none; what a crash may leave, and what it may not.
-use Rattle.std.specs.Prelude.{◌≡◌, ℕ, List, [], ◌∷◌, true, false}
+use Rattle.std.specs.Prelude.{◌≡◌, ℕ, List, [], ◌∷◌, length, true, false}
 use Rattle.rq_disk.specs.Device.{Images}
 use Rattle.rq_disk.specs.FileCalls.{has_failed}
 use Rattle.rq_disk.specs.FileCalls.FileCall.{Gave, Took, Tried, Synced, Missed}
 use Rattle.rq_disk.specs.LogFile.{LogAgrees, log_may_leave}
-use Rattle.rq_disk.specs.PageFile.{PagesAgree, page_may_be}
+use Rattle.rq_disk.specs.PageFile.{are_whole, PagesAgree, page_may_be}
 
 -- images of a byte
 abbrev pub blank : Images
@@ -31,6 +31,17 @@ pub record FilesAreJudged : Type 0 where
   -- what was synced is left
   pub page_synced : page_may_be blank (Synced ∷ Took 4096 seven ∷ []) 1 (0 ∷ []) → ⊥
   pub page_missed : page_may_be blank (Missed ∷ Took 4096 seven ∷ []) 1 (0 ∷ [])
+  -- a sync that failed, tried again with success, has kept nothing for sure
+  pub page_missed_synced : page_may_be blank (Synced ∷ Missed ∷ Took 4096 seven ∷ []) 1 (0 ∷ [])
+  pub page_missed_whole : page_may_be blank (Synced ∷ Missed ∷ Took 4096 seven ∷ []) 1 seven
+  pub page_of_nobody : page_may_be blank (Synced ∷ Missed ∷ Took 4096 seven ∷ []) 1 (8 ∷ []) → ⊥
+  -- whole pages, where pages begin
+  pub whole : (bytes : List ℕ) → length bytes ≡ 4096
+      → are_whole (Gave 8192 bytes ∷ Synced ∷ Took 0 bytes ∷ Missed ∷ Tried 4096 bytes ∷ []) ≡ true
+  -- two reads that no file gives, so that nothing would be claimed behind them
+  pub in_part : are_whole (Gave 4096 (0 ∷ 0 ∷ []) ∷ Gave 4096 (0 ∷ []) ∷ []) ≡ false
+  pub no_file : (held : Images) → PagesAgree held (Gave 4096 (0 ∷ 0 ∷ []) ∷ Gave 4096 (0 ∷ []) ∷ []) → ⊥
+  pub astray : (bytes : List ℕ) → are_whole (Took 4097 bytes ∷ []) ≡ false
   -- a byte that was there and the first of those that were appended
   pub log_read : LogAgrees (9 ∷ []) 1 (Gave 0 (9 ∷ 0 ∷ 0 ∷ []) ∷ Took 1 empty ∷ [])
   pub log_otherwise : LogAgrees (9 ∷ []) 1 (Gave 1 (5 ∷ []) ∷ Took 1 empty ∷ []) → ⊥
@@ -39,6 +50,9 @@ pub record FilesAreJudged : Type 0 where
   pub log_cut : log_may_leave (9 ∷ []) (Tried 1 empty ∷ []) (9 ∷ [])
   pub log_whole : log_may_leave (9 ∷ []) (Tried 1 empty ∷ []) (9 ∷ empty)
   pub log_forced : log_may_leave (9 ∷ []) (Synced ∷ Took 1 empty ∷ []) (9 ∷ []) → ⊥
+  pub log_missed_forced : log_may_leave (9 ∷ []) (Synced ∷ Missed ∷ Took 1 empty ∷ []) (9 ∷ [])
+  pub log_missed_whole : log_may_leave (9 ∷ []) (Synced ∷ Missed ∷ Took 1 empty ∷ []) (9 ∷ empty)
+  pub log_of_nobody : log_may_leave (9 ∷ []) (Synced ∷ Missed ∷ Took 1 empty ∷ []) [] → ⊥
   -- which calls end a device
   pub ends : has_failed (Gave 0 seven ∷ Missed ∷ Took 0 seven ∷ []) ≡ true
   pub goes_on : has_failed (Synced ∷ Gave 0 seven ∷ Took 0 seven ∷ []) ≡ false

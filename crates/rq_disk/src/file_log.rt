@@ -111,7 +111,8 @@ impl<S: Held, F: Storage> FileLog<S, F> {
     /// The log in a file of `len` bytes of which nothing was asked so far, and which held what `S` says. It is honest
     /// where that was so long.
     pub fn new(file: F, len: u64) -> FileLog<S, F>
-        requires { F.calls file ≡ [] }
+        requires unasked { F.calls file ≡ [] }
+        requires long { F.opened file ≡ len }
         ensures seen { ⟦<FileLog<S, F> as LogDevice>⟧.seen result ≡ S.bytes }
         ensures durable { Only S.bytes (⟦<FileLog<S, F> as LogDevice>⟧.may_leave result) }
         ensures honest { ⟦<FileLog<S, F> as LogDevice>⟧.honest result ↔ (length S.bytes ≡ len) }

@@ -1,7 +1,8 @@
 //! Pages in a file. What a read gives is believed, and noted: the device is honest where its notes agree.
-ghost use Rattle.std.specs.Prelude.{◌≡◌, ◌*◌, ◌/◌, ℕ, [], IfOk, true, false};
+ghost use Rattle.std.specs.Prelude.{◌≡◌, ◌≤◌, ◌*◌, ◌/◌, ℕ, [], IfOk, true, false};
 ghost use Rattle.rq_disk.specs.Device.{Only};
 ghost use Rattle.rq_disk.specs.FileCalls.{has_failed};
+ghost use Rattle.rq_disk.specs.PageFile.{are_whole};
 
 use crate::device::{DeviceFailed, PAGE, PageDevice};
 use crate::held::Held;
@@ -22,6 +23,7 @@ pub struct FilePages<S: Held, F: Storage = NotedFile> {
     failures: u64,
     held: PhantomData<S>,
     ghost stops: { broken ≡ has_failed (F.Storage.calls file) },
+    ghost whole: { are_whole (F.Storage.calls file) ≡ true },
 }
 
 impl<S: Held, F: Storage> PageDevice for FilePages<S, F> {
@@ -99,7 +101,8 @@ fn place_of(page: u32) -> u64
 impl<S: Held, F: Storage> FilePages<S, F> {
     /// The first `count` pages of a file of which nothing was asked so far, and which held what `S` says.
     pub fn new(file: F, count: u32) -> FilePages<S, F>
-        requires { F.calls file ≡ [] }
+        requires unasked { F.calls file ≡ [] }
+        requires within { count * 4096 ≤ F.opened file }
         ensures seen { ⟦<FilePages<S, F> as PageDevice>⟧.seen result ≡ S.pages }
         ensures durable { (p : ℕ) → Only (S.pages p) (⟦<FilePages<S, F> as PageDevice>⟧.may_be result p) }
         ensures honest { ⟦<FilePages<S, F> as PageDevice>⟧.honest result }

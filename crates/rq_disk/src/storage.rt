@@ -1,6 +1,6 @@
 //! A file that is read and written by places. What it keeps is claimed by nobody: its calls are noted, and contracts
 //! see the notes.
-ghost use Rattle.std.specs.Prelude.{◌≡◌, [], ◌∷◌, List, IfOk, OnOk, OnErr};
+ghost use Rattle.std.specs.Prelude.{◌≡◌, [], ◌∷◌, ℕ, List, IfOk, OnOk, OnErr};
 ghost use Rattle.rq_disk.specs.FileCalls.{FileCall};
 ghost use Rattle.rq_disk.specs.FileCalls.FileCall.{Gave, Took, Tried, Synced, Missed};
 
@@ -16,31 +16,41 @@ pub trait Storage {
     /// failed.
     ghost calls: { Self → List FileCall };
 
+    /// How many bytes it was told to have when it was opened.
+    ghost opened: { Self → ℕ };
+
     /// Fills `into` with the bytes from the place `at` on. It errs where there are fewer.
     fn fill(&mut self, into: &mut [u8], at: u64) -> io::Result<()>
         ensures gave { OnOk result (calls self.new ≡ Gave at into.new ∷ calls self.old) }
-        ensures err { OnErr result (calls self.new ≡ calls self.old) };
+        ensures err { OnErr result (calls self.new ≡ calls self.old) }
+        ensures opened { opened self.new ≡ opened self.old };
 
     /// Writes all of `bytes`, from the place `at` on. Where it errs, any of them may have been written.
     fn put(&mut self, bytes: &[u8], at: u64) -> io::Result<()>
         ensures took { OnOk result (calls self.new ≡ Took at bytes.now ∷ calls self.old) }
-        ensures tried { OnErr result (calls self.new ≡ Tried at bytes.now ∷ calls self.old) };
+        ensures tried { OnErr result (calls self.new ≡ Tried at bytes.now ∷ calls self.old) }
+        ensures opened { opened self.new ≡ opened self.old };
 
     /// Makes all that was written durable.
     fn sync(&mut self) -> io::Result<()>
         ensures synced { OnOk result (calls self.new ≡ Synced ∷ calls self.old) }
-        ensures missed { OnErr result (calls self.new ≡ Missed ∷ calls self.old) };
+        ensures missed { OnErr result (calls self.new ≡ Missed ∷ calls self.old) }
+        ensures opened { opened self.new ≡ opened self.old };
 }
 
 /// A file of the system, locked for this opening alone.
 #[derive(Drop)]
 pub struct NotedFile {
     file: File,
+    // its length when it was opened
+    len: u64,
     calls: Snapshot<Calls>,
 }
 
 impl Storage for NotedFile {
     ghost calls = { λ f. f.calls.value };
+
+    ghost opened = { λ f. f.len };
 
     fn fill(&mut self, into: &mut [u8], at: u64) -> io::Result<()> {
         self.file.read_exact_at(into, at)?;
@@ -68,7 +78,7 @@ impl Storage for NotedFile {
 }
 
 impl NotedFile {
-    ghost use Rattle.rq_disk.specs.Stored.{file_calls};
+    ghost use Rattle.rq_disk.specs.Stored.{file_calls, opened_len};
 
     /// Locks a file and syncs it; beside it, its length in bytes. The lock is the system's advisory one: it ends with
     /// the value.
@@ -77,11 +87,12 @@ impl NotedFile {
     /// `WouldBlock` where another opening holds the lock; those of the system.
     pub fn open(file: File) -> io::Result<(NotedFile, u64)>
         ensures calls { IfOk result (λ opened. file_calls opened.0 ≡ []) }
+        ensures len { IfOk result (λ opened. opened_len opened.0 ≡ opened.1) }
     {
         file.try_lock()?;
         file.sync_all()?;
         let len = file.metadata()?.len();
         let calls = Calls::none();
-        Ok((NotedFile { file, calls }, len))
+        Ok((NotedFile { file, len, calls }, len))
     }
 }

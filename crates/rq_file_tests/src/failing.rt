@@ -73,14 +73,14 @@ fn opened_file(rt: &HostRuntime, path: &str) -> io::Result<File> {
 }
 
 fn pages_in(file: File, countdown: Countdown) -> io::Result<Pages> {
-    let count = file.metadata()?.len() / PAGE as u64;
-    let count = u32::try_from(count).unwrap_or(0);
-    Ok(FilePages::new(Faulty::new(file, countdown), count))
+    let len = file.metadata()?.len();
+    let count = u32::try_from(len / PAGE as u64).unwrap_or(0);
+    Ok(FilePages::new(Faulty::new(file, len, countdown), count))
 }
 
 fn log_in(file: File, countdown: Countdown) -> io::Result<Log> {
     let len = file.metadata()?.len();
-    Ok(FileLog::new(Faulty::new(file, countdown), len))
+    Ok(FileLog::new(Faulty::new(file, len, countdown), len))
 }
 
 impl Run {

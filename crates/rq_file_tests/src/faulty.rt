@@ -54,16 +54,20 @@ impl Countdown {
 #[derive(Drop)]
 pub struct Faulty {
     file: File,
+    len: u64,
     calls: Snapshot<Calls>,
     countdown: Countdown,
 }
 
 impl Faulty {
-    pub fn new(file: File, countdown: Countdown) -> Faulty
-        ensures { result.calls.value ≡ [] }
+    /// A file of `len` bytes.
+    pub fn new(file: File, len: u64, countdown: Countdown) -> Faulty
+        ensures calls { result.calls.value ≡ [] }
+        ensures len { result.len ≡ len }
     {
         Faulty {
             file,
+            len,
             calls: Calls::none(),
             countdown,
         }
@@ -76,6 +80,8 @@ fn failure() -> io::Error {
 
 impl Storage for Faulty {
     ghost calls = { λ f. f.calls.value };
+
+    ghost opened = { λ f. f.len };
 
     fn fill(&mut self, into: &mut [u8], at: u64) -> io::Result<()> {
         if self.countdown.fails() {

@@ -1,8 +1,10 @@
 //! The files of a store, made in a folder or opened there.
-ghost use Rattle.std.specs.Prelude.{◌≤◌};
+ghost use Rattle.std.specs.Prelude.{◌≡◌, ◌↔◌, ◌≤◌, ℕ, IfOk, length};
+ghost use Rattle.rq_disk.specs.Device.{Only};
+ghost use Rattle.rq_disk.specs.Stored.{first_len};
 
 use crate::fault::Fault;
-use rq_disk::{FileLog, FilePages, Held, PAGE, Unknown};
+use rq_disk::{FileLog, FilePages, Held, LogDevice, PAGE, PageDevice, Unknown};
 use rq_model::refusal::Refusal;
 use rq_page::layout::Layout;
 use rq_restart::format::format;
@@ -47,8 +49,8 @@ fn print_formatted<W: Write>(writer: &mut W, layout: &Layout) -> io::Result<()> 
 /// both files too.
 ///
 /// # Errors
-/// `Exists` where either name is taken, and then nothing was made; `Open` where a file cannot be had; `Refused` with
-/// `DiskWrite` where one fails: what was made is left.
+/// `Exists` where either name is taken; `Open` where a file or its lock, or the folder, cannot be had; `Refused` with
+/// `DiskWrite` where one fails. Unless both files could be made none is there then; after that what was made is left.
 pub fn format_folder<R: Files<File = File> + AllocGlobal>(
     rt: &R,
     folder: &str,
@@ -59,8 +61,7 @@ pub fn format_folder<R: Files<File = File> + AllocGlobal>(
     if is_taken(rt, &pages)? || is_taken(rt, &log)? {
         return Err(Fault::Exists);
     }
-    let pages = made(rt, &pages)?;
-    let log = made(rt, &log)?;
+    let (pages, log) = both_made(rt, &pages, &log)?;
     format_pages(pages, layout)?;
     log.sync_all().map_err(write_failed)?;
     sync_folder(rt, folder)
@@ -75,7 +76,22 @@ pub fn open_folder<S: Held, R: Files<File = File> + AllocGlobal>(
     rt: &R,
     folder: &str,
     _held: S,
-) -> io::Result<(FilePages<S>, FileLog<S>)> {
+) -> io::Result<(FilePages<S>, FileLog<S>)>
+    ensures pages { IfOk result (λ d. ⟦<FilePages<S> as PageDevice>⟧.seen d.0 ≡ S.pages) }
+    ensures pages_durable { IfOk result (λ d. (p : ℕ)
+        → Only (S.pages p) (⟦<FilePages<S> as PageDevice>⟧.may_be d.0 p)) }
+    ensures pages_honest { IfOk result (λ d. ⟦<FilePages<S> as PageDevice>⟧.honest d.0) }
+    ensures pages_run { IfOk result (λ d. ⟦<FilePages<S> as PageDevice>⟧.stopped d.0 → ⊥) }
+    ensures pages_moment { IfOk result (λ d. ⟦<FilePages<S> as PageDevice>⟧.moment d.0 ≡ 0) }
+    ensures pages_failures { IfOk result (λ d. ⟦<FilePages<S> as PageDevice>⟧.faults d.0 ≡ 0) }
+    ensures log { IfOk result (λ d. ⟦<FileLog<S> as LogDevice>⟧.seen d.1 ≡ S.bytes) }
+    ensures log_durable { IfOk result (λ d. Only S.bytes (⟦<FileLog<S> as LogDevice>⟧.may_leave d.1)) }
+    ensures log_honest { IfOk result (λ d. ⟦<FileLog<S> as LogDevice>⟧.honest d.1
+        ↔ (length S.bytes ≡ first_len d.1)) }
+    ensures log_runs { IfOk result (λ d. ⟦<FileLog<S> as LogDevice>⟧.stopped d.1 → ⊥) }
+    ensures log_moment { IfOk result (λ d. ⟦<FileLog<S> as LogDevice>⟧.moment d.1 ≡ 0) }
+    ensures log_failures { IfOk result (λ d. ⟦<FileLog<S> as LogDevice>⟧.faults d.1 ≡ 0) }
+{
     let alloc = rt.alloc();
     let folder = Path::new(folder);
     let pages = opened(rt, &folder.join(alloc, PAGES)?)?;
@@ -99,6 +115,22 @@ fn is_taken<R: Files>(rt: &R, path: &PathBuf) -> Result<bool, Fault> {
     }
 }
 
+// Makes both files. Where the log cannot be made the pages are removed again.
+fn both_made<R: Files<File = File>>(
+    rt: &R,
+    pages: &PathBuf,
+    log: &PathBuf,
+) -> Result<(File, File), Fault> {
+    let pages_file = made(rt, pages)?;
+    match made(rt, log) {
+        Ok(log_file) => Ok((pages_file, log_file)),
+        Err(fault) => {
+            let _ = fs::remove_file(rt, pages);
+            Err(fault)
+        }
+    }
+}
+
 fn made<R: Files<File = File>>(rt: &R, path: &PathBuf) -> Result<File, Fault> {
     let file = OpenOptions::new()
         .read(true)
@@ -117,11 +149,13 @@ fn opened<R: Files<File = File>>(rt: &R, path: &PathBuf) -> io::Result<File> {
 }
 
 fn format_pages(file: File, layout: &Layout) -> Result<(), Fault> {
+    // locked here, so that what fails at the opening is no lock
+    if file.try_lock().is_err() {
+        return Err(Fault::Open);
+    }
     let length = u64::from(layout.pages()) * PAGE as u64;
     file.set_len(length).map_err(write_failed)?;
-    let Ok(mut pages) = FilePages::<Unknown>::open(file) else {
-        return Err(Fault::Open);
-    };
+    let mut pages = FilePages::<Unknown>::open(file).map_err(write_failed)?;
     format(&mut pages, layout).map_err(Fault::Refused)
 }
 

@@ -2,6 +2,7 @@
 use clap::{Arg, ArgAction, ArgMatches, Command, Error};
 use rq_page::layout::{CELLS_LIMIT, DIRECTORY_LIMIT, Layout};
 use std::alloc::{AllocError, Global};
+use std::io::ErrorKind;
 use std::rt::Env;
 use std::{env, io};
 
@@ -21,12 +22,16 @@ pub enum Words {
     Answered(u8),
 }
 
-/// Reads the words of the process. Words that are not accepted, and those that ask for help, are answered
-/// here.
+/// Reads the words of the process. Words that are not accepted, one that is not UTF-8 among them, and those that ask for
+/// help, are answered here.
 pub fn read<R: Env + Print + Eprint + AllocGlobal>(rt: &R) -> io::Result<Words> {
     let alloc = rt.alloc();
     let mut words = Vec::new(alloc);
-    for word in env::args(rt)? {
+    let args = match env::args(rt) {
+        Err(error) if error.kind() == ErrorKind::InvalidData => return not_text(rt),
+        args => args?,
+    };
+    for word in args {
         words.push(word)?;
     }
     match parse(alloc, &words) {
@@ -37,6 +42,12 @@ pub fn read<R: Env + Print + Eprint + AllocGlobal>(rt: &R) -> io::Result<Words> 
             Ok(Words::Answered(if error.use_stderr() { 2 } else { 0 }))
         }
     }
+}
+
+// Answers a word that is not UTF-8, as other words that are not accepted.
+fn not_text<R: Eprint>(rt: &R) -> io::Result<Words> {
+    eprintln!(rt; "error: a word is not UTF-8\n\nFor more information, try '--help'.")?;
+    Ok(Words::Answered(2))
 }
 
 fn parse(alloc: Global, words: &[String]) -> Result<Option<Words>, Error> {
@@ -64,6 +75,7 @@ fn layout(matches: &ArgMatches<'_>) -> Option<Layout> {
 
 fn command<'a>(alloc: Global) -> Result<Command<'a>, AllocError> {
     Command::new(alloc, "rqm")
+        .bin_name("rqm")?
         .about("A recoverable queue manager")
         .subcommand_required(true)
         .subcommand(run_command(alloc)?)?

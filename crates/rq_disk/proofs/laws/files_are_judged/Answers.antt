@@ -1,4 +1,7 @@
-use Rattle.std.proofs.Common.{◌≡◌, ℕ, List, get_or, length, refl, inl, inr, ap, arith}
+use Rattle.std.proofs.Common.{◌≡◌, ℕ, suc, List, get_or, length, refl, inl, inr, ap, arith, sym, ◌∙◌}
+use Rattle.std.proofs.lemmas.Bool.Decides.{nat_tests}
+use Rattle.rq_disk.specs.Records.{first_records}
+use Rattle.rq_disk.specs.WorkedFiles.{empty}
 use Rattle.rq_disk.proofs.laws.files_are_judged.Goals as goal
 
 pub returns : goal.returns
@@ -11,12 +14,28 @@ returns c = record {
   page_stayed = inl refl;
   page_synced = λ a. (let e : 0 ≡ 7 = ap (λ (l : List ℕ). get_or l 0 0) a in omega (arith, e));
   page_missed = inl refl;
+  page_missed_synced = inl refl;
+  page_missed_whole = inr (refl, refl);
+  page_of_nobody = λ a. elim a [
+    | inl held ↦ (let e : 8 ≡ 0 = ap (λ (l : List ℕ). get_or l 0 0) held in omega (arith, e))
+    | inr took ↦ (let e : 8 ≡ 7 = ap (λ (l : List ℕ). get_or l 0 0) took.1 in omega (arith, e))
+  ];
+  whole = λ bytes long. grind (arith, nat_tests, long);
+  in_part = refl;
+  no_file = λ held a. (let e : 2 ≡ 1 = ap length (a.0 ∙ sym a.1.0) in omega (arith, e));
+  astray = λ bytes. refl;
   log_read = (refl, refl);
   log_otherwise = λ a. (let e : 5 ≡ 0 = ap (λ (l : List ℕ). get_or l 0 0) a.0 in omega (arith, e));
   log_longer = λ a. omega (arith, a);
   log_cut = inl refl;
   log_whole = inr (1, refl);
   log_forced = λ a. (let e : 1 ≡ 5 = ap length a in omega (arith, e));
+  log_missed_forced = inl refl;
+  log_missed_whole = inr (1, refl);
+  log_of_nobody = λ a. elim a [
+    | inl held ↦ (let e : 0 ≡ 1 = ap length held in omega (arith, e))
+    | inr took ↦ (let e : 0 ≡ suc (length (first_records took.0 empty)) = ap length took.1 in omega (arith, e))
+  ];
   ends = refl;
   goes_on = refl;
 }
