@@ -8,7 +8,7 @@ use rq_engine::event::Event;
 use rq_model::txn::{Sub, Txn};
 use rq_page::layout::Layout;
 use rq_restart::restart::restart;
-use rq_shared::kept::Stamped;
+use rq_shared::kept::{AuditEntry, Stamped};
 use rq_shared::room::Pass;
 use rq_shared::shared::{Front, Shared};
 use rq_shared::tied::tied;
@@ -23,6 +23,7 @@ use std::test::Fail;
 struct Seen {
     entries: usize,
     tied: bool,
+    tied_to_the_other: bool,
     tied_when_changed_about: bool,
     entries_left: usize,
 }
@@ -107,20 +108,36 @@ fn share<G: Ledger, R: Wait>(
         },
         14,
     )?;
-    let mut stamps = stamped(rt, alloc, shared.front(), &mut one, &first)?;
+    let stamps = stamped(rt, alloc, shared.front(), &mut one, &first)?;
     let others = stamped(rt, alloc, shared.front(), &mut two, &second)?;
     let taken = shared.take_audit(rt);
-    let audit = taken.entries();
-    let is_tied = tied(audit, 1, &stamps) && tied(audit, 2, &others);
+    let left = shared.take_audit(rt).entries().len();
+    Ok(seen_of(taken.entries(), left, stamps, others))
+}
+
+// The stamps of seven calls, the first two changed about.
+fn changed_about(stamps: Vec<Stamped>) -> Vec<Stamped> {
+    let mut stamps = stamps;
     if stamps.len() == 7 {
-        stamps.swap(2, 3);
+        stamps.swap(0, 1);
     }
-    Ok(Seen {
+    stamps
+}
+
+// Whether the entries are those of both passes' stamps; whether a pass's are the other's stamps, or its own once the
+// first two are changed about.
+fn seen_of(audit: &[AuditEntry], left: usize, stamps: Vec<Stamped>, others: Vec<Stamped>) -> Seen {
+    let is_tied = tied(audit, 1, &stamps) && tied(audit, 2, &others);
+    let is_tied_to_the_other = tied(audit, 1, &others) || tied(audit, 2, &stamps);
+    let stamps = changed_about(stamps);
+    let others = changed_about(others);
+    Seen {
         entries: audit.len(),
         tied: is_tied,
-        tied_when_changed_about: tied(audit, 1, &stamps),
-        entries_left: shared.take_audit(rt).entries().len(),
-    })
+        tied_to_the_other: is_tied_to_the_other,
+        tied_when_changed_about: tied(audit, 1, &stamps) || tied(audit, 2, &others),
+        entries_left: left,
+    }
 }
 
 fn look<R: Wait>(rt: &R, alloc: Global) -> Result<Seen, &'static str> {
@@ -137,9 +154,10 @@ fn an_audit_holds_the_calls_of_both_passes(rt: HostRuntime) -> Result<(), Fail> 
         "all calls are there, and each pass's are its own"
     );
     assert_eq!(rt;
-        (seen.tied_when_changed_about, seen.entries_left),
-        (false, 0),
-        "nothing else is tied, and nothing is left"
+        (seen.tied_to_the_other, seen.tied_when_changed_about),
+        (false, false),
+        "neither pass's are the other's, nor its own in another order"
     );
+    assert_eq!(rt; seen.entries_left, 0, "nothing is left once it is taken");
     Ok(())
 }

@@ -47,9 +47,9 @@ fn send_beside<R: Wait>(rt: &R, alloc: Global, left: &AtomicU64) -> Option<(Ende
     let mut steps = KeptSteps::new(Kept::new(alloc, small_engine(alloc).ok()?), 1);
     let first = begun(&mut steps)?;
     let second = begun(&mut steps)?;
-    let other = send_of(alloc, first, 0).ok()?;
+    let other = send_of(alloc, first, 0, b'x').ok()?;
     drop(steps.kept().step(1, other));
-    let start = send_of(alloc, second, 1).ok()?;
+    let start = send_of(alloc, second, 1, b'x').ok()?;
     let gate = Often {
         point: BEFORE_AGAIN,
         left,
@@ -77,7 +77,7 @@ fn a_latched_start_is_tried_again(rt: HostRuntime) -> Result<(), Fail> {
 fn send_stopped<R: Wait>(rt: &R, alloc: Global) -> Option<(Ended, bool)> {
     let mut steps = KeptSteps::new(Kept::new(alloc, small_engine(alloc).ok()?), 1);
     let txn = begun(&mut steps)?;
-    let start = send_of(alloc, txn, 1).ok()?;
+    let start = send_of(alloc, txn, 1, b'x').ok()?;
     let left = AtomicU64::new(0);
     let gate = Often {
         point: BEFORE_AGAIN,

@@ -40,10 +40,10 @@ pub fn opened<P: PageDevice + Drop, L: LogDevice + Drop>(
     }
 }
 
-/// The start of a send of one byte.
-pub fn send_of(alloc: Global, txn: Txn, sender: u32) -> Result<Event, AllocError> {
+/// The start of a send of this byte.
+pub fn send_of(alloc: Global, txn: Txn, sender: u32, byte: u8) -> Result<Event, AllocError> {
     let mut body = Vec::new(alloc);
-    body.push(b'x')?;
+    body.push(byte)?;
     Ok(Event::StartSend {
         txn,
         sender,
@@ -102,13 +102,16 @@ impl Keep for KeepStamps {
     }
 }
 
-/// How many messages the committed content shows as sent by this sender.
-pub fn sent_to<P: PageDevice + Drop, L: LogDevice + Drop>(
+/// Whether this sender has sent one message, and what waits of it is one of this byte.
+pub fn has_sent<P: PageDevice + Drop, L: LogDevice + Drop>(
     engine: &Engine<P, L>,
     sender: usize,
-) -> Result<u64, &'static str> {
-    match engine.content() {
-        Ok(groups) => groups.get(sender).map(|group| group.sent).ok_or("a sender"),
-        Err(_) => Err("content"),
-    }
+    byte: u8,
+) -> Result<bool, &'static str> {
+    let Ok(groups) = engine.content() else {
+        return Err("content");
+    };
+    let group = groups.get(sender).ok_or("a sender")?;
+    let waiting = group.rest.first().ok_or("a message")?;
+    Ok(group.sent == 1 && group.rest.len() == 1 && waiting.body.as_slice() == [byte].as_slice())
 }

@@ -2,7 +2,7 @@
 ghost use Rattle.std.specs.Prelude.{◌≡◌};
 
 use crate::stores::{
-    KeepStamps, begun, committed, opened, receipt, send_of, sent_to, small_engine,
+    KeepStamps, begun, committed, has_sent, opened, receipt, send_of, small_engine,
 };
 use rq_disk::{LogDevice, MemLog, MemPages, PageChoice, PageDevice};
 use rq_engine::engine::Engine;
@@ -80,7 +80,7 @@ fn comes(word: &AtomicU64) -> bool {
 /// What a thread gives back: its pass, its stamps, and its commit.
 type Worked<G> = (Pass<G>, Vec<Stamped>, CommitNo);
 
-// Sends for sender 0, and is held within its send until the other thread has begun.
+// Sends x for sender 0, and is held within its send until the other thread has begun.
 fn work_first<P: PageDevice + Drop, L: LogDevice + Drop, G: Ledger, R: Wait>(
     rt: &R,
     alloc: Global,
@@ -94,7 +94,7 @@ fn work_first<P: PageDevice + Drop, L: LogDevice + Drop, G: Ledger, R: Wait>(
     let stamps = KeepStamps::new(alloc);
     let mut steps = SharedSteps::new(rt, front, pass, &common.mark, seat, stamps);
     let txn = begun(&mut steps)?;
-    let start = send_of(alloc, txn, 0).ok()?;
+    let start = send_of(alloc, txn, 0, b'x').ok()?;
     let mut worker = Worker::new(HeldBetween { common }, steps);
     let sent = worker.run(rt, &start) == Ended::Finished(Outcome::Sent) && worker.goes_on();
     common.first_has_sent.store(1, Ordering::SeqCst);
@@ -108,7 +108,7 @@ fn work_first<P: PageDevice + Drop, L: LogDevice + Drop, G: Ledger, R: Wait>(
     }
 }
 
-// Sends for sender 14, once the other thread has sent.
+// Sends y for sender 14, once the other thread has sent.
 fn work_second<P: PageDevice + Drop, L: LogDevice + Drop, G: Ledger, R: Wait>(
     rt: &R,
     alloc: Global,
@@ -124,7 +124,7 @@ fn work_second<P: PageDevice + Drop, L: LogDevice + Drop, G: Ledger, R: Wait>(
     let txn = begun(&mut steps)?;
     common.second_has_begun.store(1, Ordering::SeqCst);
     let turn = comes(&common.first_has_sent);
-    let start = send_of(alloc, txn, 14).ok()?;
+    let start = send_of(alloc, txn, 14, b'y').ok()?;
     let mut worker = Worker::new(Open, steps);
     let sent = worker.run(rt, &start) == Ended::Finished(Outcome::Sent);
     let mut steps = worker.into_steps();
@@ -142,6 +142,7 @@ fn work_second<P: PageDevice + Drop, L: LogDevice + Drop, G: Ledger, R: Wait>(
 struct Tie {
     entries: usize,
     is_tied: bool,
+    is_tied_to_the_other: bool,
     is_tied_when_changed_about: bool,
 }
 
@@ -153,17 +154,27 @@ struct Seen<P: PageDevice, L: LogDevice> {
     closed: Closed<P, L>,
 }
 
-// Whether the entries are those of both passes' stamps, also once the first two of the one are changed about.
-fn tie_of(audit: &[AuditEntry], stamps: Vec<Stamped>, others: &[Stamped]) -> Tie {
-    let is_tied = tied(audit, 1, &stamps) && tied(audit, 2, others);
+// The stamps of seven calls, the first two changed about.
+fn changed_about(stamps: Vec<Stamped>) -> Vec<Stamped> {
     let mut stamps = stamps;
     if stamps.len() == 7 {
         stamps.swap(0, 1);
     }
+    stamps
+}
+
+// Whether the entries are those of both passes' stamps; whether a pass's are the other's stamps, or its own once the
+// first two are changed about.
+fn tie_of(audit: &[AuditEntry], stamps: Vec<Stamped>, others: Vec<Stamped>) -> Tie {
+    let is_tied = tied(audit, 1, &stamps) && tied(audit, 2, &others);
+    let is_tied_to_the_other = tied(audit, 1, &others) || tied(audit, 2, &stamps);
+    let stamps = changed_about(stamps);
+    let others = changed_about(others);
     Tie {
         entries: audit.len(),
         is_tied,
-        is_tied_when_changed_about: tied(audit, 1, &stamps),
+        is_tied_to_the_other,
+        is_tied_when_changed_about: tied(audit, 1, &stamps) || tied(audit, 2, &others),
     }
 }
 
@@ -263,7 +274,7 @@ fn share<
     let (one, stamps, number) = first?;
     let (two, others, other_number) = second?;
     let tie = if take {
-        Some(tie_of(shared.take_audit(rt).entries(), stamps, &others))
+        Some(tie_of(shared.take_audit(rt).entries(), stamps, others))
     } else {
         None
     };
@@ -292,9 +303,14 @@ fn an_audit_holds_the_calls_of_both_threads(rt: HostRuntime) -> Result<(), Fail>
     let seen = look(&rt, rt.alloc(), true).ok_or("both threads send and commit")?;
     let tie = seen.tie.ok_or("the audit was taken")?;
     assert_eq!(rt;
-        (tie.entries, tie.is_tied, tie.is_tied_when_changed_about),
-        (14, true, false),
+        (tie.entries, tie.is_tied),
+        (14, true),
         "all calls are there, and each thread's are its own"
+    );
+    assert_eq!(rt;
+        (tie.is_tied_to_the_other, tie.is_tied_when_changed_about),
+        (false, false),
+        "neither thread's are the other's, nor its own in another order"
     );
     assert_eq!(rt;
         seen.closed.kept.entries().len(),
@@ -313,9 +329,9 @@ fn what_receipts_name_outlives_a_crash(rt: HostRuntime) -> Result<(), Fail> {
     let (pages, log) = kept.give_back().give_back();
     let engine = opened(rt.alloc(), pages.crash(PageChoice::Synced), log.crash(0))?;
     assert_eq!(rt;
-        (sent_to(&engine, 0)?, sent_to(&engine, 14)?),
-        (1, 1),
-        "both messages are there"
+        (has_sent(&engine, 0, b'x')?, has_sent(&engine, 14, b'y')?),
+        (true, true),
+        "both messages are there, each as it was sent"
     );
     Ok(())
 }

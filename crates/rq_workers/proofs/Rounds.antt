@@ -1,10 +1,10 @@
 -- One round more of a loop.
 use Rattle.std.proofs.Common.{◌≡◌, ℕ, Bool, true, false, List, [], ◌∷◌, refl, ap, ◌∙◌}
-use Rattle.rq_engine.specs.declared.event.Event.TheVariants.{Force, WritePage}
+use Rattle.rq_engine.specs.declared.event.Event.TheVariants.{WritePage}
 use Rattle.rq_workers.specs.declared.acts.Act.{Act}
-use Rattle.rq_workers.specs.declared.acts.Act.TheVariants.{Asked, Made}
+use Rattle.rq_workers.specs.declared.acts.Act.TheVariants.{Asked, Made, Forced}
 use Rattle.rq_workers.specs.declared.acts.Heard.{Heard}
-use Rattle.rq_workers.specs.Acts.{Work, Did, DidOne, IsCalled}
+use Rattle.rq_workers.specs.Acts.{Work, Did, DidOne, IsCalled, IsForced}
 use Rattle.rq_workers.specs.Loops.{AreForces, IsLogWriting, AreWrites, IsPageWriting, next_page, page_after}
 
 -- the page whose turn it is after what was done
@@ -15,9 +15,9 @@ module _ {S : Type 0} where
   pub no_forces : (w : Work S) → Did AreForces w w
   no_forces w = ([], refl, refl, tt)
 
-  pub force_more : (v w x y : Work S) (b : Bool) (h : Heard) → Did AreForces v w → DidOne (Asked 1 b) w x → b ≡ true → IsCalled x Force h y → Did AreForces v y
+  pub force_more : (v w x y : Work S) (b : Bool) (h : Heard) → Did AreForces v w → DidOne (Asked 1 b) w x → b ≡ true → IsForced x h y → Did AreForces v y
   force_more v w x y b h d a e m =
-      (Made m.0 ∷ Asked 1 b ∷ d.0, m.1.0 ∙ ap (λ l. Made m.0 ∷ l) (a.0 ∙ ap (λ l. Asked 1 b ∷ l) d.1), m.1.1 ∙ a.1 ∙ d.2, (m.2, refl, e, d.3))
+      (Forced m.0 ∷ Asked 1 b ∷ d.0, m.1.0 ∙ ap (λ l. Forced m.0 ∷ l) (a.0 ∙ ap (λ l. Asked 1 b ∷ l) d.1), m.1.1 ∙ a.1 ∙ d.2, (m.2, refl, e, d.3))
 
   pub forces_end : (v w x : Work S) (b : Bool) → Did AreForces v w → DidOne (Asked 1 b) w x → b ≡ false → Did IsLogWriting v x
   forces_end v w x b d a e = (Asked 1 b ∷ d.0, a.0 ∙ ap (λ l. Asked 1 b ∷ l) d.1, a.1 ∙ d.2, (refl, e, d.3))

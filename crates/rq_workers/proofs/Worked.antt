@@ -14,7 +14,7 @@ use Rattle.rq_engine.specs.declared.event.Reply.{Reply}
 use Rattle.rq_engine.specs.declared.event.Reply.TheVariants.{Started, Stepped, Finished, Forced, Refused}
 use Rattle.rq_shared.specs.declared.kept.Stamped.{Stamped}
 use Rattle.rq_workers.specs.declared.acts.Act.{Act}
-use Rattle.rq_workers.specs.declared.acts.Act.TheVariants.{Asked, Made}
+use Rattle.rq_workers.specs.declared.acts.Act.TheVariants.{Asked, Made, Forced as By_force}
 use Rattle.rq_workers.specs.declared.acts.Heard.{Heard}
 use Rattle.rq_workers.specs.declared.acts.Heard.TheVariants as heard
 use Rattle.rq_workers.specs.declared.acts.Part.TheVariants.{Step as Part_step, Finish as Part_finish}
@@ -27,17 +27,25 @@ module _ (any : Snapshot Stamped) where
   abbrev made : Event → Reply → Act
   made e r = Made (record any { value = record { pass = 1; event = e; reply = r } })
 
+  -- a force by the interface's own, and its answer
+  abbrev forced : Reply → Act
+  forced r = By_force (record any { value = record { pass = 1; event = Force; reply = r } })
+
   -- the gate let two forces through, and no third
-  two_forces : IsLogWriting (Asked 1 false ∷ made Force (Forced 9) ∷ Asked 1 true ∷ made Force (Forced 5) ∷ Asked 1 true ∷ [])
+  two_forces : IsLogWriting (Asked 1 false ∷ forced (Forced 9) ∷ Asked 1 true ∷ forced (Forced 5) ∷ Asked 1 true ∷ [])
   two_forces = (refl, refl, (refl, refl, refl, (refl, refl, refl, tt)))
 
   -- a force that the gate did not let through
-  refused_and_forced : IsLogWriting (Asked 1 false ∷ made Force (Forced 5) ∷ Asked 1 false ∷ []) → ⊥
+  refused_and_forced : IsLogWriting (Asked 1 false ∷ forced (Forced 5) ∷ Asked 1 false ∷ []) → ⊥
   refused_and_forced w = let q : false ≡ true = w.2.2 in absurd (cc)
 
   -- a force before the gate was asked
-  forced_unasked : IsLogWriting (Asked 1 false ∷ made Force (Forced 5) ∷ []) → ⊥
+  forced_unasked : IsLogWriting (Asked 1 false ∷ forced (Forced 5) ∷ []) → ⊥
   forced_unasked w = w.2
+
+  -- a force that was called as any other call
+  called_to_force : IsLogWriting (Asked 1 false ∷ made Force (Forced 5) ∷ Asked 1 true ∷ []) → ⊥
+  called_to_force w = w.2
 
   -- pages 0 and 1 of two, and page 0 again
   pages_in_turn : (r : Reply) → IsPageWriting 2 (Asked 2 false ∷ made (WritePage 0) r ∷ Asked 2 true ∷ made (WritePage 1) r ∷ Asked 2 true ∷ made (WritePage 0) r ∷ Asked 2 true ∷ [])

@@ -2,9 +2,10 @@
 use Rattle.std.specs.Prelude.{◌≡◌, ℕ, Bool, false, not, ◌||◌, List, [], ◌∷◌, ◌++◌}
 use Rattle.std.specs.declared.snapshot.Snapshot.{Snapshot}
 use Rattle.rq_engine.specs.declared.event.Event.{Event}
+use Rattle.rq_engine.specs.declared.event.Event.TheVariants.{Force}
 use Rattle.rq_shared.specs.declared.kept.Stamped.{Stamped}
 use Rattle.rq_workers.specs.declared.acts.Act.{Act}
-use Rattle.rq_workers.specs.declared.acts.Act.TheVariants.{Asked, Made}
+use Rattle.rq_workers.specs.declared.acts.Act.TheVariants.{Asked, Made, Forced}
 use Rattle.rq_workers.specs.declared.acts.Heard.{Heard}
 use Rattle.rq_workers.specs.Hearing.{heard_of}
 
@@ -13,30 +14,41 @@ abbrev pub stamps_in : List Act → List Stamped
 stamps_in [] = []
 stamps_in (Asked point passed ∷ acts) = stamps_in acts
 stamps_in (Made s ∷ acts) = s.value ∷ stamps_in acts
+stamps_in (Forced s ∷ acts) = s.value ∷ stamps_in acts
+
+-- the stamps of the interface's own force
+abbrev pub forced_in : List Act → List Stamped
+forced_in [] = []
+forced_in (Asked point passed ∷ acts) = forced_in acts
+forced_in (Made s ∷ acts) = forced_in acts
+forced_in (Forced s ∷ acts) = s.value ∷ forced_in acts
 
 -- the gate said no
 abbrev pub was_stopped : List Act → Bool
 was_stopped [] = false
 was_stopped (Asked point passed ∷ acts) = not passed || was_stopped acts
 was_stopped (Made s ∷ acts) = was_stopped acts
+was_stopped (Forced s ∷ acts) = was_stopped acts
 
 -- a gate may have answered so
 abbrev pub AreAnswers : (ℕ → Bool → Type 0) → List Act → Type 0
 AreAnswers says [] = Unit {0}
 AreAnswers says (Asked point passed ∷ acts) = says point passed × AreAnswers says acts
 AreAnswers says (Made s ∷ acts) = AreAnswers says acts
+AreAnswers says (Forced s ∷ acts) = AreAnswers says acts
 
 -- What contracts see of a worker: what it did, and its step interface as it took it.
 pub record Work (S : Type 0) : Type 0 where
   pub done : List Act
   pub begun : S
 
--- What is so of a worker: its gate may have answered so, and what was called, and handed on, through its step interface
--- since it took that is what it did.
-pub record IsWork {S : Type 0} (says : ℕ → Bool → Type 0) (made_by told_by : S → List Stamped) (steps begun : S)
-    (done : List Act) (has_stopped : Bool) : Type 0 where
+-- What is so of a worker: its gate may have answered so, and what was called, forced by the interface's own force, and
+-- handed on, through its step interface since it took that is what it did.
+pub record IsWork {S : Type 0} (says : ℕ → Bool → Type 0) (made_by forced_by told_by : S → List Stamped)
+    (steps begun : S) (done : List Act) (has_stopped : Bool) : Type 0 where
   pub asked : AreAnswers says done
   pub made : made_by steps ≡ stamps_in done ++ made_by begun
+  pub forced : forced_by steps ≡ forced_in done ++ forced_by begun
   pub told : told_by steps ≡ stamps_in done ++ told_by begun
   pub stopped : has_stopped ≡ was_stopped done
 
@@ -47,6 +59,11 @@ DidOne a old new = (new.done ≡ a ∷ old.done) × (new.begun ≡ old.begun)
 -- a worker made this call, heard this answer and handed the stamp on, and did nothing else
 abbrev pub IsCalled : {S : Type 0} → Work S → Event → Heard → Work S → Type 0
 IsCalled old e h new = (s : Snapshot Stamped) × DidOne (Made s) old new × (s.value.event ≡ e)
+    × (heard_of s.value.reply ≡ h)
+
+-- a worker forced by the interface's own force, heard this answer and handed the stamp on, and did nothing else
+abbrev pub IsForced : {S : Type 0} → Work S → Heard → Work S → Type 0
+IsForced old h new = (s : Snapshot Stamped) × DidOne (Forced s) old new × (s.value.event ≡ Force)
     × (heard_of s.value.reply ≡ h)
 
 -- it did what has P, and nothing else

@@ -2,12 +2,12 @@
 use Rattle.std.specs.Prelude.{◌≡◌, ℕ, ◌+◌, true, false, cond, nat_lt, List, [], ◌∷◌}
 use Rattle.rq_engine.specs.declared.event.Event.TheVariants.{Force, WritePage}
 use Rattle.rq_workers.specs.declared.acts.Act.{Act}
-use Rattle.rq_workers.specs.declared.acts.Act.TheVariants.{Asked, Made}
+use Rattle.rq_workers.specs.declared.acts.Act.TheVariants.{Asked, Made, Forced}
 
--- rounds, each of a force behind point 1, where the gate let it through
+-- rounds, each of a force by the interface's own force behind point 1, where the gate let it through
 abbrev pub AreForces : List Act → Type 0
 AreForces [] = Unit {0}
-AreForces (Made s ∷ Asked point passed ∷ acts) = (s.value.event ≡ Force) × (point ≡ 1) × (passed ≡ true)
+AreForces (Forced s ∷ Asked point passed ∷ acts) = (s.value.event ≡ Force) × (point ≡ 1) × (passed ≡ true)
     × AreForces acts
 AreForces _ = ⊥
 

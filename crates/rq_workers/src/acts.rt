@@ -15,6 +15,8 @@ pub enum Act {
     Asked(u32, bool),
     /// It made a call, which this stamp answered, and handed the stamp on.
     Made(Snapshot<Stamped>),
+    /// It forced by the step interface's own force, which this stamp answered, and handed the stamp on.
+    Forced(Snapshot<Stamped>),
 }
 
 /// What a call of an operation was answered, without a stamp.

@@ -14,6 +14,7 @@ pub struct KeptSteps<P: PageDevice, L: LogDevice> {
     kept: Kept<P, L>,
     pass: u64,
     made: Snapshot<Trail<Stamped>>,
+    forced: Snapshot<Trail<Stamped>>,
     told: Snapshot<Trail<Stamped>>,
 }
 
@@ -24,6 +25,7 @@ impl<P: PageDevice + Drop, L: LogDevice + Drop> KeptSteps<P, L> {
             kept,
             pass,
             made: Trail::empty(),
+            forced: Trail::empty(),
             told: Trail::empty(),
         }
     }
@@ -37,6 +39,8 @@ impl<P: PageDevice + Drop, L: LogDevice + Drop> KeptSteps<P, L> {
 impl<P: PageDevice + Drop, L: LogDevice + Drop> Steps for KeptSteps<P, L> {
     ghost made = { λ s. s.made.value };
 
+    ghost forced = { λ s. s.forced.value };
+
     ghost told = { λ s. s.told.value };
 
     fn call(&mut self, event: Event) -> Stamped {
@@ -46,7 +50,9 @@ impl<P: PageDevice + Drop, L: LogDevice + Drop> Steps for KeptSteps<P, L> {
     }
 
     fn force(&mut self) -> Stamped {
-        self.call(Event::Force)
+        let stamped = self.call(Event::Force);
+        Trail::note(&mut self.forced, &stamped);
+        stamped
     }
 
     fn seen(&mut self, stamped: Stamped) {

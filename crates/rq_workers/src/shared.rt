@@ -38,6 +38,7 @@ pub struct SharedSteps<'a, P: PageDevice, L: LogDevice, G: Ledger, R: Wait, K: K
     seat: MarkPass,
     keep: K,
     made: Snapshot<Trail<Stamped>>,
+    forced: Snapshot<Trail<Stamped>>,
     told: Snapshot<Trail<Stamped>>,
     ghost of_mark: { seat.table ≡ mark.now },
 }
@@ -70,6 +71,7 @@ impl<'a, P: PageDevice + Drop, L: LogDevice + Drop, G: Ledger, R: Wait, K: Keep>
             seat,
             keep,
             made: Trail::empty(),
+            forced: Trail::empty(),
             told: Trail::empty(),
         }
     }
@@ -86,6 +88,7 @@ impl<'a, P: PageDevice + Drop, L: LogDevice + Drop, G: Ledger, R: Wait, K: Keep>
             seat,
             keep,
             made: _,
+            forced: _,
             told: _,
         } = self;
         (pass, seat, keep)
@@ -96,11 +99,14 @@ impl<'a, P: PageDevice + Drop, L: LogDevice + Drop, G: Ledger, R: Wait, K: Keep>
     for SharedSteps<'a, P, L, G, R, K> {
     ghost made = { λ s. s.made.value };
 
+    ghost forced = { λ s. s.forced.value };
+
     ghost told = { λ s. s.told.value };
 
     fn call(&mut self, event: Event) -> Stamped
         ensures event { result.event ≡ event }
         ensures made { self.new.made.value ≡ result ∷ self.old.made.value }
+        ensures forced { self.new.forced.value ≡ self.old.forced.value }
         ensures told { self.new.told.value ≡ self.old.told.value }
         ensures called { IsCalled self.old.pass event result self.new.pass }
     {
@@ -109,21 +115,25 @@ impl<'a, P: PageDevice + Drop, L: LogDevice + Drop, G: Ledger, R: Wait, K: Keep>
         stamped
     }
 
+    /// Forces, and publishes how many records are forced to whoever reads the mark.
     fn force(&mut self) -> Stamped
         ensures event { result.event ≡ Event.Force }
         ensures made { self.new.made.value ≡ result ∷ self.old.made.value }
+        ensures forced { self.new.forced.value ≡ result ∷ self.old.forced.value }
         ensures told { self.new.told.value ≡ self.old.told.value }
-        ensures forced { IsForced self.old.pass self.old.seat result self.new.pass self.new.seat }
+        ensures published { IsForced self.old.pass self.old.seat result self.new.pass self.new.seat }
     {
         let stamped = self
             .front
             .force(self.rt, &mut self.pass, self.mark, &mut self.seat);
         Trail::note(&mut self.made, &stamped);
+        Trail::note(&mut self.forced, &stamped);
         stamped
     }
 
     fn seen(&mut self, stamped: Stamped)
         ensures made { self.new.made.value ≡ self.old.made.value }
+        ensures forced { self.new.forced.value ≡ self.old.forced.value }
         ensures told { self.new.told.value ≡ stamped ∷ self.old.told.value }
         ensures pass { (self.new.pass ≡ self.old.pass) × (self.new.seat ≡ self.old.seat) }
     {

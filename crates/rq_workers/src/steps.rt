@@ -10,6 +10,9 @@ pub trait Steps {
     /// The stamps of the calls made so far, the newest first.
     ghost made: { Self → List Stamp };
 
+    /// Those of them that `force` answered, the newest first.
+    ghost forced: { Self → List Stamp };
+
     /// The stamps handed on so far, the newest first.
     ghost told: { Self → List Stamp };
 
@@ -17,16 +20,19 @@ pub trait Steps {
     fn call(&mut self, event: Event) -> Stamped
         ensures event { result.event ≡ event }
         ensures made { made self.new ≡ result ∷ made self.old }
+        ensures forced { forced self.new ≡ forced self.old }
         ensures told { told self.new ≡ told self.old };
 
-    /// Forces, and publishes how many records are forced to whoever reads that.
+    /// Forces, with all that an implementor does of a force beside the call.
     fn force(&mut self) -> Stamped
         ensures event { result.event ≡ Event.Force }
         ensures made { made self.new ≡ result ∷ made self.old }
+        ensures forced { forced self.new ≡ result ∷ forced self.old }
         ensures told { told self.new ≡ told self.old };
 
     /// Is handed a stamp, once it was read.
     fn seen(&mut self, stamped: Stamped)
         ensures made { made self.new ≡ made self.old }
+        ensures forced { forced self.new ≡ forced self.old }
         ensures told { told self.new ≡ stamped ∷ told self.old };
 }

@@ -1,6 +1,6 @@
 //! A worker: a gate and a step interface, and what was done through them.
 ghost use Rattle.std.specs.Prelude.{◌≡◌, [], ◌∷◌, ◌++◌, not};
-ghost use Rattle.rq_workers.specs.Acts.{stamps_in, was_stopped, DidOne, IsCalled};
+ghost use Rattle.rq_workers.specs.Acts.{stamps_in, forced_in, was_stopped, DidOne, IsCalled, IsForced};
 
 use crate::acts::{Act, Heard, heard_in};
 use crate::gate::Gate;
@@ -29,7 +29,8 @@ impl<G: Gate, S: Steps> Model for Worker<G, S> {
 
     ghost view = { λ w. record { done = w.done.value; begun = w.begun.value } };
 
-    ghost invariant = { λ w. IsWork (G.says w.gate) S.made S.told w.steps w.begun.value w.done.value w.stopped };
+    ghost invariant = { λ w. IsWork (G.says w.gate) S.made S.forced S.told w.steps w.begun.value w.done.value
+        w.stopped };
 }
 
 impl<G: Gate + Drop, S: Steps> Worker<G, S> {
@@ -77,20 +78,22 @@ impl<G: Gate + Drop, S: Steps> Worker<G, S> {
         answer
     }
 
-    // Forces, and hands the stamp on.
+    // Forces by the interface's own force, and hands the stamp on.
     pub(crate) fn forces(&mut self) -> Heard
-        ensures { IsCalled self.old Event.Force result self.new }
+        ensures { IsForced self.old result self.new }
     {
         let stamped = self.steps.force();
         let answer = heard_in(stamped.reply());
-        Trail::note(&mut self.done, &Act::Made(Snapshot::of(&stamped)));
+        Trail::note(&mut self.done, &Act::Forced(Snapshot::of(&stamped)));
         self.steps.seen(stamped);
         answer
     }
 
-    /// The step interface. What was called through it since the worker took it, and handed on, is what the worker did.
+    /// The step interface. What was called through it since the worker took it, forced by its own force, and handed
+    /// on, is what the worker did.
     pub fn into_steps(self) -> S
         ensures made { S.made result ≡ stamps_in self.done ++ S.made self.begun }
+        ensures forced { S.forced result ≡ forced_in self.done ++ S.forced self.begun }
         ensures told { S.told result ≡ stamps_in self.done ++ S.told self.begun }
     {
         let Worker {
