@@ -1,10 +1,11 @@
 #!/usr/bin/env python3
-"""Times calls through a kept engine on one thread, and the same calls through a shared one on four threads with a pass each.
+"""Times calls through a kept engine on one thread, and the same calls through a shared one on four with a pass each.
 
-Each of four senders goes through 19,200 rounds of two transactions, one that sends and one that receives what it sent: begin,
-start, three steps, finish, commit. One operation is under way at a time, so a start that is Latched is tried again; Latched
-ones are not counted as calls. The audit is taken after every 64 rounds of a sender, in both ways. The ways run by turns, and
-what a way takes with no round is taken off. The aim is that the shared way takes at most 1.5 times as long a call.
+Each of four senders goes through 19,200 rounds of two transactions, one that sends and one that receives what it sent:
+begin, start, three steps, finish, commit. One operation is under way at a time, so a start that is Latched is tried
+again; Latched ones are not counted as calls. The audit is taken after every 64 rounds of a sender, in both ways. The
+ways run by turns, and what a way takes with no round is taken off. The aim is that the shared way takes at most 1.5
+times as long a call, in the middle of the runs: the best of them is one in which threads hardly met.
 
 Build the program before (`rt run -- 4 2` in crates/call_count).
 
@@ -60,12 +61,12 @@ def main():
     for threads, way in ((1, "kept, 1 thread"), (4, "shared, 4 threads")):
         times, starts = each[threads], latched[threads]
         print(
-            f"{way}: {min(times):.3f} us a call at best, {statistics.median(times):.3f} in the middle, "
+            f"{way}: {statistics.median(times):.3f} us a call in the middle of {RUNS} runs, {min(times):.3f} at best, "
             f"{max(times):.3f} at worst; {min(starts)} to {max(starts)} Latched beside {CALLS} calls"
         )
     best = min(each[4]) / min(each[1])
     middle = statistics.median(each[4]) / statistics.median(each[1])
-    print(f"{best:.2f} times as long at best, {middle:.2f} in the middle, on {os.cpu_count()} cores; the aim is {AIM}")
+    print(f"{middle:.2f} times as long in the middle, {best:.2f} at best, on {os.cpu_count()} cores; the aim is {AIM}")
 
 
 if __name__ == "__main__":
