@@ -25,7 +25,9 @@ use Rattle.rq_page.specs.Sizes.{Sizes}
 use Rattle.rq_level.specs.declared.writes.SlotWrite.{SlotWrite}
 use Rattle.rq_level.specs.Writes.{IsSlotWrite, AreSlotWrites}
 use Rattle.rq_txn.specs.declared.Finished.{Finished}
-use Rattle.rq_txn.specs.Rows.{Row, Under, found_row, finished_of, any_under, change_row, without_row, row_stepped, row_finished}
+use Rattle.rq_txn.specs.declared.Aim.{Aim}
+use Rattle.rq_txn.specs.declared.Aim.TheVariants.{Doing}
+use Rattle.rq_txn.specs.Rows.{Row, Under, deed_of, found_row, finished_of, any_under, change_row, without_row, row_stepped, row_finished}
 use Rattle.rq_groups.specs.Ends.{HeldEnds}
 use Rattle.rq_store.specs.State.{State, ledger_of, size_of, owed_one, owed_under, job_under, left_under, phase_of}
 use Rattle.rq_groups.specs.Waiting.{waits}
@@ -120,14 +122,14 @@ module _ (s : State) (f : Bool) (o res : ℕ) (k : IsKept s f o res) (sub : Sub)
   pub going_count : length s.records < 2 ^ 64 - 1
   going_count = let a = k.count in omega (arith, a)
 
-  pub going_room : 546 * (length g.under.writes - g.under.made) + (30 + length (spelled_deed g.under.deed)) ≤ res
+  pub going_room : 546 * (length g.under.writes - g.under.made) + (30 + length (spelled_deed (deed_of g.under.aim))) ≤ res
   going_room =
       let a = sum_at room_one sub.txn s.rows g.row g.found in
-      let b : room_one g.row ≡ 546 * (length g.under.writes - g.under.made) + (30 + length (spelled_deed g.under.deed)) = ap room_of g.is in
+      let b : room_one g.row ≡ 546 * (length g.under.writes - g.under.made) + (30 + length (spelled_deed (deed_of g.under.aim))) = ap room_of g.is in
       let c = k.room in
       omega (arith, a, b, c)
 
-  pub going_deed : (1 ≤ length (spelled_deed g.under.deed)) × (length (spelled_deed g.under.deed) ≤ 256)
+  pub going_deed : (1 ≤ length (spelled_deed (deed_of g.under.aim))) × (length (spelled_deed (deed_of g.under.aim)) ≤ 256)
   going_deed = let u = under_at s f o res sub.txn g.row g.under k g.found g.is in (u.deed_low, u.deed_high)
 
   pub going_slots : AreSlotWrites s.sizes g.under.writes
@@ -143,7 +145,7 @@ abbrev pub Next : SlotWrite → Row → Under → Type 0
 Next w r u = slice_get u.writes u.made ≡ Some w
 
 abbrev pub AllMade : Deed → Row → Under → Type 0
-AllMade d r u = (length u.writes ≤ u.made) × (u.deed ≡ d)
+AllMade d r u = (length u.writes ≤ u.made) × (u.aim ≡ Doing d)
 
 module _ (s : State) (f : Bool) (o res : ℕ) (k : IsKept s f o res) (sub : Sub) (w : SlotWrite) (h : IsUnderWay s sub (Next w)) where
   abbrev gw : Going s sub (Next w)
@@ -169,13 +171,13 @@ module _ (s : State) (f : Bool) (o res : ℕ) (k : IsKept s f o res) (sub : Sub)
   gd = going_of s sub (AllMade d) h
 
   pub end_room : 30 + length (spelled_deed d) ≤ res
-  end_room = let a = going_room s f o res k sub (AllMade d) h in let c : length (spelled_deed gd.under.deed) ≡ length (spelled_deed d) = ap (λ (x : Deed). length (spelled_deed x)) gd.so.1 in omega (arith, a, c)
+  end_room = let a = going_room s f o res k sub (AllMade d) h in let c : length (spelled_deed (deed_of gd.under.aim)) ≡ length (spelled_deed d) = ap (λ (x : Aim). length (spelled_deed (deed_of x))) gd.so.1 in omega (arith, a, c)
 
   all_made : gd.under.made ≡ length gd.under.writes
   all_made = let a = (under_at s f o res sub.txn gd.row gd.under k gd.found gd.is).made in let b = gd.so.0 in omega (arith, a, b)
 
   pub end_kept : (x : Record) (end : Finished) (left : ℕ) → left + (30 + length (spelled_deed d)) ≡ res → IsKept (record s { rows = change_row sub.txn (row_finished end) s.rows; records = x ∷ s.records; waiting = without_taken d s.waiting }) f (o - 1) left
-  end_kept x end left e = kept_finished s f o res k sub.txn gd.row gd.found gd.under x end left d gd.is all_made (let c : length (spelled_deed gd.under.deed) ≡ length (spelled_deed d) = ap (λ (x : Deed). length (spelled_deed x)) gd.so.1 in omega (arith, c, e))
+  end_kept x end left e = kept_finished s f o res k sub.txn gd.row gd.found gd.under x end left d gd.is all_made (let c : length (spelled_deed (deed_of gd.under.aim)) ≡ length (spelled_deed d) = ap (λ (x : Aim). length (spelled_deed (deed_of x))) gd.so.1 in omega (arith, c, e))
 
 -- one more write
 pub step_done : (s new : State) (sub : Sub) (w : SlotWrite) (lsn : ℕ) → s.failed ≡ false → IsUnderWay s sub (Next w) → IsMade s sub w new → lsn ≡ length s.records + 1 → IsSound s → Steps s (Step sub.txn sub.number) (Gave_lsn lsn) new
@@ -258,9 +260,9 @@ finish_done s new sub d running h e k =
     let g = going_of s sub (AllMade d) h in
     let made = (going_at s k sub.txn g.row g.under g.found g.is).0.made in
     let all = g.so.0 in
-    let a = finish_steps s k sub.txn g.row g.under (without_taken g.under.deed s.waiting) g.found g.is (omega (arith, made, all)) (λ p. waits-without_taken g.under.deed s.waiting p) running in
-    let b = subst (λ (n : ℕ). Steps s (Finish sub.txn n) (gave_done g.under.deed) (record s { rows = change_row sub.txn (row_finished (record { lsn = length s.records + 1; deed = g.under.deed })) s.rows; records = op_end sub.txn n g.under.deed ∷ s.records; waiting = without_taken g.under.deed s.waiting })) g.number a in
-    let c = subst (λ (x : Deed). Steps s (Finish sub.txn sub.number) (gave_done x) (record s { rows = change_row sub.txn (row_finished (record { lsn = length s.records + 1; deed = x })) s.rows; records = op_end sub.txn sub.number x ∷ s.records; waiting = without_taken x s.waiting })) g.so.1 b in
+    let a = finish_steps s k sub.txn g.row g.under (without_taken (deed_of g.under.aim) s.waiting) g.found g.is (omega (arith, made, all)) (λ p. waits-without_taken (deed_of g.under.aim) s.waiting p) running in
+    let b = subst (λ (n : ℕ). Steps s (Finish sub.txn n) (gave_done (deed_of g.under.aim)) (record s { rows = change_row sub.txn (row_finished (record { lsn = length s.records + 1; deed = (deed_of g.under.aim) })) s.rows; records = op_end sub.txn n (deed_of g.under.aim) ∷ s.records; waiting = without_taken (deed_of g.under.aim) s.waiting })) g.number a in
+    let c = subst (λ (x : Deed). Steps s (Finish sub.txn sub.number) (gave_done x) (record s { rows = change_row sub.txn (row_finished (record { lsn = length s.records + 1; deed = x })) s.rows; records = op_end sub.txn sub.number x ∷ s.records; waiting = without_taken x s.waiting })) (ap deed_of g.so.1) b in
     subst (λ (x : State). Steps s (Finish sub.txn sub.number) (gave_done d) x) (sym e) c
 
 steps_are_left : (s : State) (sub : Sub) → s.failed ≡ false → IsUnderWay s sub (λ r u. u.made < length u.writes) → Refuses s (Finish sub.txn sub.number) why.Unfinished

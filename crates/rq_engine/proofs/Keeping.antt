@@ -10,7 +10,7 @@ use Rattle.rq_model.specs.Words.{In}
 use Rattle.rq_model.specs.Deeds.{spelled_deed}
 use Rattle.rq_page.specs.Sizes.{Sizes}
 use Rattle.rq_txn.specs.declared.Finished.{Finished}
-use Rattle.rq_txn.specs.Rows.{Row, Under, found_row, change_row, without_row, fresh_row, row_started, row_stepped, row_finished, under_stepped}
+use Rattle.rq_txn.specs.Rows.{Row, Under, found_row, change_row, without_row, fresh_row, row_started, row_stepped, row_finished, under_stepped, deed_of}
 use Rattle.rq_groups.specs.Ends.{HeldEnds}
 use Rattle.rq_store.specs.State.{State, owed_by, owed_one, owed_under}
 use Rattle.rq_store.proofs.RowLists.{found_in, changed, distinct_change, distinct_gone, gone}
@@ -73,14 +73,14 @@ module _ (s : State) (f : Bool) (o res : ℕ) (k : IsKept s f o res) (t : Txn) (
   ]
 
   pub kept_started : (u : Under) (ends : HeldEnds) (cells : ℕ) → r.under ≡ None → IsUnderKept s.sizes u → u.number ≡ r.number + 1 → u.made ≡ 0 → total_of s + (length u.writes + 1) ≤ 2 ^ 50
-      → IsKept (record s { rows = change_row t (row_started u) s.rows; ends = ends; cells_in_use = cells }) f (o + (length u.writes + 1)) (res + (546 * length u.writes + (30 + length (spelled_deed u.deed))))
+      → IsKept (record s { rows = change_row t (row_started u) s.rows; ends = ends; cells_in_use = cells }) f (o + (length u.writes + 1)) (res + (546 * length u.writes + (30 + length (spelled_deed (deed_of u.aim)))))
   kept_started u ends cells none h number made fits =
       let a = rows_one owed_one t (row_started u) s.rows r k.distinct at_row in
       let b = rows_one room_one t (row_started u) s.rows r k.distinct at_row in
       let c : owed_one r ≡ 0 = ap owed_under none in
       let d : room_one r ≡ 0 = ap room_of none in
       let e : owed_one (row_started u r) ≡ length u.writes + 1 = (let m = made in omega arith) in
-      let v : room_one (row_started u r) ≡ 546 * length u.writes + (30 + length (spelled_deed u.deed)) = ap (λ (m : ℕ). 546 * (length u.writes - m) + (30 + length (spelled_deed u.deed))) made ∙ omega arith in
+      let v : room_one (row_started u r) ≡ 546 * length u.writes + (30 + length (spelled_deed (deed_of u.aim))) = ap (λ (m : ℕ). 546 * (length u.writes - m) + (30 + length (spelled_deed (deed_of u.aim)))) made ∙ omega arith in
       let row = kept_at s f o res t r k at_row in
       let total : owed_by (change_row t (row_started u) s.rows) ≡ owed_by s.rows + (length u.writes + 1) = omega (arith, a, c, e) in
       record {
@@ -101,9 +101,9 @@ module _ (s : State) (f : Bool) (o res : ℕ) (k : IsKept s f o res) (t : Txn) (
       let a = rows_one owed_one t row_stepped s.rows r k.distinct at_row in
       let b = rows_one room_one t row_stepped s.rows r k.distinct at_row in
       let c : owed_one r ≡ length u.writes - u.made + 1 = ap owed_under under in
-      let d : room_one r ≡ 546 * (length u.writes - u.made) + (30 + length (spelled_deed u.deed)) = ap room_of under in
+      let d : room_one r ≡ 546 * (length u.writes - u.made) + (30 + length (spelled_deed (deed_of u.aim))) = ap room_of under in
       let e : owed_one (row_stepped r) ≡ length u.writes - (u.made + 1) + 1 = ap (λ (y : Option Under). owed_under (under_stepped y)) under in
-      let v : room_one (row_stepped r) ≡ 546 * (length u.writes - (u.made + 1)) + (30 + length (spelled_deed u.deed)) = ap (λ (y : Option Under). room_of (under_stepped y)) under in
+      let v : room_one (row_stepped r) ≡ 546 * (length u.writes - (u.made + 1)) + (30 + length (spelled_deed (deed_of u.aim))) = ap (λ (y : Option Under). room_of (under_stepped y)) under in
       let row = kept_at s f o res t r k at_row in
       let h = under_at s f o res t r u k at_row under in
       let total : owed_by (change_row t row_stepped s.rows) + 1 ≡ owed_by s.rows = omega (arith, a, c, e, more) in
@@ -115,18 +115,18 @@ module _ (s : State) (f : Bool) (o res : ℕ) (k : IsKept s f o res) (t : Txn) (
         room = (let w = k.room in omega (arith, b, d, v, w, fits, more));
         count = (let w = k.count in omega (arith, same, w));
         distinct = distinct_change t row_stepped s.rows (λ q. refl) k.distinct;
-        rows = changed_rows row_stepped (length (x ∷ s.records) + owed_by (change_row t row_stepped s.rows)) (λ q. refl) (omega (arith, same)) (record { mine = row.mine; low = row.low; high = row.high; number = (let n = row.number in omega (arith, n, same)); under = subst (λ (y : Option Under). UnderKept s.sizes (under_stepped y)) (sym under) (record { number = h.number; made = omega (arith, more); slots = h.slots; deed_low = h.deed_low; deed_high = h.deed_high }) });
+        rows = changed_rows row_stepped (length (x ∷ s.records) + owed_by (change_row t row_stepped s.rows)) (λ q. refl) (omega (arith, same)) (record { mine = row.mine; low = row.low; high = row.high; number = (let n = row.number in omega (arith, n, same)); under = subst (λ (y : Option Under). UnderKept s.sizes (under_stepped y)) (sym under) (record { number = h.number; doing = h.doing; made = omega (arith, more); slots = h.slots; deed_low = h.deed_low; deed_high = h.deed_high }) });
         senders = k.senders;
         few = λ g. (let c = rows_sum done_one t row_stepped s.rows (λ q i e. refl) in let d = k.few g in omega (arith, c, d));
       }
 
-  pub kept_finished : (u : Under) (x : Record) (end : Finished) (left : ℕ) (d : Deed) → r.under ≡ Some u → u.made ≡ length u.writes → left + (30 + length (spelled_deed u.deed)) ≡ res
+  pub kept_finished : (u : Under) (x : Record) (end : Finished) (left : ℕ) (d : Deed) → r.under ≡ Some u → u.made ≡ length u.writes → left + (30 + length (spelled_deed (deed_of u.aim))) ≡ res
       → IsKept (record s { rows = change_row t (row_finished end) s.rows; records = x ∷ s.records; waiting = without_taken d s.waiting }) f (o - 1) left
   kept_finished u x end left d0 under made fits =
       let a = rows_one owed_one t (row_finished end) s.rows r k.distinct at_row in
       let b = rows_one room_one t (row_finished end) s.rows r k.distinct at_row in
       let c : owed_one r ≡ length u.writes - u.made + 1 = ap owed_under under in
-      let d : room_one r ≡ 546 * (length u.writes - u.made) + (30 + length (spelled_deed u.deed)) = ap room_of under in
+      let d : room_one r ≡ 546 * (length u.writes - u.made) + (30 + length (spelled_deed (deed_of u.aim))) = ap room_of under in
       let e : owed_one (row_finished end r) ≡ 0 = refl in
       let v : room_one (row_finished end r) ≡ 0 = refl in
       let row = kept_at s f o res t r k at_row in

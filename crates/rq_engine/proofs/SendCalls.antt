@@ -169,7 +169,7 @@ pub start_kept : (s : State) (f : Bool) (o res n room : ℕ) (t : Txn) (plan : P
 start_kept s f o res n room t plan ends k h full fits =
     let r = found_of (λ r. (r.under ≡ None) × (n ≡ r.number + 1)) (found_row t s.rows) h in
     let number = r.2.1 in
-    let under : IsUnderKept s.sizes (under_plan n plan) = record { number = omega (arith, number); made = omega arith; slots = fits.slots; deed_low = fits.deed_low; deed_high = fits.deed_high } in
+    let under : IsUnderKept s.sizes (under_plan n plan) = record { number = omega (arith, number); doing = refl; made = omega arith; slots = fits.slots; deed_low = fits.deed_low; deed_high = fits.deed_high } in
     let left = not_full s 4 full in
     let few = fits.count in
     let a = kept_started s f o res k t r.0 r.1 (under_plan n plan) ends s.cells_in_use r.2.0 under number refl (omega (arith, left, few)) in

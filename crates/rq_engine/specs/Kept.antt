@@ -7,25 +7,27 @@ use Rattle.rq_disk.specs.declared.device.LogDevice as log_device
 use Rattle.rq_log.specs.Logged.{Logged, WasDurable}
 use Rattle.rq_page.specs.Sizes.{Sizes, sender_count}
 use Rattle.rq_level.specs.Writes.{AreSlotWrites}
-use Rattle.rq_txn.specs.Rows.{Row, Under, AreDistinct}
+use Rattle.rq_txn.specs.declared.Aim.TheVariants.{Doing}
+use Rattle.rq_txn.specs.Rows.{Row, Under, AreDistinct, deed_of}
 use Rattle.rq_groups.specs.Waiting.{waits}
 use Rattle.rq_store.specs.State.{State, owed_by}
 
 -- the bytes of the records that an operation under way has yet to log
 abbrev pub room_of : Option Under → ℕ
 room_of None = 0
-room_of (Some u) = 546 * (length u.writes - u.made) + (30 + length (spelled_deed u.deed))
+room_of (Some u) = 546 * (length u.writes - u.made) + (30 + length (spelled_deed (deed_of u.aim)))
 
 abbrev pub room_one : Row → ℕ
 room_one r = room_of r.under
 
--- what is so of an operation under way
+-- what is so of an operation under way: it is a deed, since nothing is taken back yet
 pub record IsUnderKept (z : Sizes) (u : Under) : Type 0 where
   pub number : 1 ≤ u.number
+  pub doing : u.aim ≡ Doing (deed_of u.aim)
   pub made : u.made ≤ length u.writes
   pub slots : AreSlotWrites z u.writes
-  pub deed_low : 1 ≤ length (spelled_deed u.deed)
-  pub deed_high : length (spelled_deed u.deed) ≤ 256
+  pub deed_low : 1 ≤ length (spelled_deed (deed_of u.aim))
+  pub deed_high : length (spelled_deed (deed_of u.aim)) ≤ 256
 
 abbrev pub UnderKept : Sizes → Option Under → Type 0
 UnderKept z None = Unit {0}

@@ -15,6 +15,7 @@ use Rattle.rq_groups.specs.Ends.{is_free_for, released}
 use Rattle.rq_groups.specs.Sides.{with_end}
 use Rattle.rq_groups.specs.Waiting.{waits}
 use Rattle.rq_txn.specs.declared.Finished.{Finished}
+use Rattle.rq_txn.specs.declared.Aim.TheVariants.{Doing}
 use Rattle.rq_txn.specs.Rows.{Under, found_row, finished_of, fresh_row, change_row, row_started, row_finished, without_row}
 use Rattle.rq_store.specs.State.{State}
 use Rattle.rq_store.specs.Plans.{IsSendPlan, IsTakePlan, WaitsFor, NoneWaits}
@@ -87,7 +88,7 @@ StepSays old sub progress.Ready new = IsUnderWay old sub (λ r u. slice_get u.wr
 -- An operation whose writes are made was ended by the record that says what it did.
 pub record IsFinished (old : State) (sub : Sub) (o : Outcome) (new : State) : Type 0 where
   pub deed : Deed
-  pub going : IsUnderWay old sub (λ r u. (length u.writes ≤ u.made) × (u.deed ≡ deed))
+  pub going : IsUnderWay old sub (λ r u. (length u.writes ≤ u.made) × (u.aim ≡ Doing deed))
   pub outcome : outcome_of o ≡ gave_done deed
   pub lists : new ≡ record old {
     rows = change_row sub.txn (row_finished (record { lsn = length old.records + 1; deed = deed })) old.rows;

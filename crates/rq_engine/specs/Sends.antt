@@ -7,6 +7,7 @@ use Rattle.rq_views.specs.Stored.{is_used}
 use Rattle.rq_level.specs.declared.writes.SlotWrite.{SlotWrite}
 use Rattle.rq_chain.specs.declared.ChainPlan.{ChainPlan as Plan}
 use Rattle.rq_level.specs.Writes.{AreSlotWrites}
+use Rattle.rq_txn.specs.declared.Aim.TheVariants.{Doing}
 use Rattle.rq_txn.specs.Rows.{Under}
 
 -- the first of the writes is of the lowest free cell
@@ -16,7 +17,7 @@ TakesLowest z slots (w ∷ ws) = (a : ℕ) → IsCellAddress z a → a < w.at �
 
 -- the operation that a plan begins as
 abbrev pub under_plan : ℕ → Plan → Under
-under_plan number plan = record { number = number; writes = plan.writes.items; made = 0; deed = plan.deed }
+under_plan number plan = record { number = number; writes = plan.writes.items; made = 0; aim = Doing plan.deed }
 
 -- the plan writes slots of the store, three at most, and its records take so many bytes
 pub record FitsPlan (z : Sizes) (plan : Plan) (room : ℕ) : Type 0 where

@@ -1,8 +1,8 @@
 //! The calls of an operation under way.
-ghost use Rattle.std.specs.Prelude.{◌≡◌, ◌↔◌, Err, ◌+◌, ◌≤◌, IfOk, IfErr, OnOk, OnErr, MatchOption, Some, false, true, length, ◌∷◌};
+ghost use Rattle.std.specs.Prelude.{◌≡◌, ◌↔◌, Err, ◌+◌, ◌≤◌, IfOk, IfErr, IfSome, OnOk, OnErr, MatchOption, Some, false, true, length, ◌∷◌};
 ghost use Rattle.std.specs.List.{slice_get};
 ghost use Rattle.rq_model.specs.History.Call.{Step, Finish};
-ghost use Rattle.rq_txn.specs.Rows.{change_row, row_finished, under_of};
+ghost use Rattle.rq_txn.specs.Rows.{change_row, deed_of, row_finished, under_of};
 ghost use Rattle.rq_store.specs.Steps.{op_end, gave_done};
 ghost use Rattle.rq_engine.specs.Opened.{LeavesDevices};
 ghost use Rattle.rq_engine.specs.Moves.{without_taken};
@@ -21,7 +21,7 @@ use rq_model::record::{Deed, Record};
 use rq_model::refusal::Refusal;
 use rq_model::txn::{Lsn, Sub};
 use rq_record::{encode_deed, shows_size};
-use rq_txn::{Finished, Operation};
+use rq_txn::{Aim, Finished, Operation};
 
 /// The level of the chain operations.
 const CHAIN_LEVEL: u8 = 1;
@@ -72,7 +72,8 @@ impl<P: PageDevice, L: LogDevice> Engine<P, L> {
 
     // The operation, if it is under way.
     fn operation(&self, sub: Sub) -> Option<&Operation>
-        ensures { MatchOption result (IsNotUnderWay self.now.state sub)
+        ensures doing { IfSome result (λ o. o.now.aim ≡ Aim.Doing (deed_of o.now.aim)) }
+        ensures found { MatchOption result (IsNotUnderWay self.now.state sub)
             (λ o. IsUnderWay self.now.state sub (λ r u. u ≡ under_of o.now)) }
     {
         let row = self.transactions.get(sub.txn)?;
@@ -98,7 +99,7 @@ impl<P: PageDevice, L: LogDevice> Engine<P, L> {
     // What the end of the operation will say, where all its writes are made.
     fn ready_deed(&self, sub: Sub) -> Result<Deed, Refusal>
         ensures ready { IfOk result (λ d. IsUnderWay self.now.state sub
-            (λ r u. (length u.writes ≤ u.made) × (u.deed ≡ d))) }
+            (λ r u. (length u.writes ≤ u.made) × (u.aim ≡ Aim.Doing d))) }
         ensures running { OnOk result (self.now.state.failed ≡ false) }
         ensures refused { IfErr result (λ r. CannotFinish self.now.state sub r) }
     {
@@ -109,7 +110,10 @@ impl<P: PageDevice, L: LogDevice> Engine<P, L> {
         if operation.made < operation.writes.len() {
             return Err(Refusal::Unfinished);
         }
-        Ok(operation.deed)
+        match operation.aim {
+            Aim::Doing(deed) => Ok(deed),
+            Aim::Undoing { .. } => Err(Refusal::UnknownOperation),
+        }
     }
 
     // Makes a slot write, with its record.
@@ -140,7 +144,7 @@ impl<P: PageDevice, L: LogDevice> Engine<P, L> {
     // Ends an operation, with its record.
     fn end(&mut self, sub: Sub, deed: &Deed)
         requires running { self.old.state.failed ≡ false }
-        requires ready { IsUnderWay self.old.state sub (λ r u. (length u.writes ≤ u.made) × (u.deed ≡ deed.now)) }
+        requires ready { IsUnderWay self.old.state sub (λ r u. (length u.writes ≤ u.made) × (u.aim ≡ Aim.Doing deed.now)) }
         ensures ended { self.new.state ≡ record self.old.state {
           rows = change_row sub.txn
               (row_finished (record { lsn = length self.old.state.records + 1; deed = deed.now })) self.old.state.rows;

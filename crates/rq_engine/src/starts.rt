@@ -23,7 +23,7 @@ use rq_model::refusal::Refusal;
 use rq_model::txn::Txn;
 use rq_page::addr::Addr;
 use rq_record::{OP_END_BYTES, PAGE_OP_BYTES, encode_deed};
-use rq_txn::Operation;
+use rq_txn::{Aim, Operation};
 
 /// What a send, a receive or the inverse of one is counted as where it starts: three slots and an end.
 pub(crate) const CHAIN_OPERATION: u64 = 4;
@@ -86,7 +86,7 @@ impl<P: PageDevice, L: LogDevice> Engine<P, L> {
             number,
             writes,
             made: 0,
-            deed,
+            aim: Aim::Doing(deed),
         };
         self.log.reserve(room)?;
         let Ok(newly) = self.ends.take(txn, end) else {

@@ -15,20 +15,23 @@ use Rattle.rq_groups.specs.declared.Held.{Held}
 use Rattle.rq_groups.specs.Ends.{has_held, held_by}
 use Rattle.rq_groups.specs.Waiting.{waits}
 use Rattle.rq_level.specs.declared.writes.SlotWrite.{SlotWrite}
-use Rattle.rq_store.specs.State.{op_done, phase_of}
+use Rattle.rq_store.specs.State.{op_done, phase_of, State, ledger_of, open_of, open_ones_of, job_under, job_of_aim, left_under}
 use Rattle.rq_store.specs.Steps.{took, page_op}
 use Rattle.rq_store.proofs.Beginning.{none_held}
 use Rattle.rq_store.proofs.Forcing.{all_within}
 use Rattle.rq_store.proofs.Holders.{map_join}
 use Rattle.rq_store.proofs.Stepping.{one_longer}
-use Rattle.rq_sound.specs.Rows.{Aim, Under, Row, found_row, fresh_row, row_stepped, under_stepped}
-use Rattle.rq_sound.specs.Standing.{AreEnds, IsAsPlanned}
-use Rattle.rq_sound.specs.Sound.{State, IsSound, ledger_of, open_of, open_ones_of, job_under, job_of_aim, left_under}
+use Rattle.rq_txn.specs.declared.Aim.{Aim}
+use Rattle.rq_txn.specs.Rows.{Under, Row, found_row, fresh_row, row_stepped, under_stepped}
+use Rattle.rq_store.specs.Sound.{AreEnds}
+use Rattle.rq_store.proofs.RowLists.{found_in, some_not_none}
+use Rattle.rq_txn.specs.declared.Aim.TheVariants as aims
+use Rattle.rq_sound.specs.Standing.{IsAsPlanned}
+use Rattle.rq_sound.specs.Sound.{IsSound}
 use Rattle.rq_sound.specs.Starts.{MayUndo}
 use Rattle.rq_sound.specs.Calls.{next_txn, begun, started, stepped, undone, aborting, aborted, forced, IsIdle, IsNextWrite, IsReady}
 use Rattle.rq_sound.specs.Steps.{Steps}
 use Rattle.rq_sound.specs.Theorems.{AbortsAreSteps}
-use Rattle.rq_sound.proofs.RowLists.{found_in, some_not_none}
 use Rattle.rq_sound.proofs.Ledgers.{found_open, open_found, opens_change, aborting_after, aborted_after}
 use Rattle.rq_sound.proofs.Contracts.{calls_keep, undo_entry, undo_start_entry, within}
 
@@ -155,7 +158,7 @@ module _ (s : State) (k : IsSound s) (running : s.failed ≡ false) where
     stays_forced = omega arith;
   }
 
-  undo : (r : Row) (u : Under) (lsn : ℕ) (d : Deed) (ws : List ℕ) → IsReady s r u (Aim.Undoing lsn d) → ((g : ℕ) → waits ws g ≡ waits s.waiting g + took g d)
+  undo : (r : Row) (u : Under) (lsn : ℕ) (d : Deed) (ws : List ℕ) → IsReady s r u (aims.Undoing lsn d) → ((g : ℕ) → waits ws g ≡ waits s.waiting g + took g d)
       → Steps s (Call.Finish r.txn u.number) Reply.Gave_undone (undone s r u lsn d ws)
   undo r u lsn d ws m more =
       let e = at_open r m.at_row in

@@ -13,10 +13,10 @@ use Rattle.rq_views.specs.Items.{items, layout_of, operation}
 use Rattle.rq_views.specs.Legal.{MayFollow, open_deeds, under_way}
 use Rattle.rq_groups.specs.Ends.{HeldEnds}
 use Rattle.rq_model.specs.Incarnations.{incarnation_of}
-use Rattle.rq_store.specs.Rows.{placed}
+use Rattle.rq_store.specs.Rows.{placed, is_under}
 use Rattle.rq_store.specs.Sound.{IsSettled}
 use Rattle.rq_store.specs.Whole.{IsWhole}
-use Rattle.rq_sound.specs.Rows.{Under, Row, found_row, change_row, without_row, row_aborting, is_under}
+use Rattle.rq_txn.specs.Rows.{Under, Row, found_row, change_row, without_row, row_aborting}
 use Rattle.rq_sound.specs.Standing.{IsAsPlanned, IsRow, AreStanding}
 use Rattle.rq_sound.specs.Counted.{AreCounted}
 use Rattle.rq_store.proofs.Releases.{without_ends}

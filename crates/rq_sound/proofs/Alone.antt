@@ -28,10 +28,11 @@ use Rattle.rq_views.proofs.Settled.{rest_shown}
 use Rattle.rq_groups.specs.Ends.{HeldEnds, has_held}
 use Rattle.rq_groups.specs.Waiting.{waits}
 use Rattle.rq_store.specs.Whole.{IsWhole}
-use Rattle.rq_sound.specs.Rows.{Row, found_row}
+use Rattle.rq_txn.specs.Rows.{Row, found_row}
+use Rattle.rq_store.proofs.RowLists.{found_in}
+use Rattle.rq_store.proofs.Waiting.{one_of_sum}
 use Rattle.rq_sound.specs.Standing.{AreStanding}
 use Rattle.rq_sound.specs.Counted.{AreCounted, takes_in}
-use Rattle.rq_sound.proofs.RowLists.{found_in, one_of_sum}
 use Rattle.rq_store.proofs.Telling.{told_placed}
 
 step : (f : Said → Bool) (p : Deed → Bool) → ((d : Deed) → f (said d) ≡ p d) → (t u : Txn) (n level : ℕ) (bytes : List ℕ) (d : Deed) (ps : List Placed) (ds : List Said) → level ≡ 1 → deed_in bytes ≡ Some d → (any_use f ds ≡ false → side p ps ≡ [])

@@ -24,15 +24,17 @@ use Rattle.rq_views.proofs.Committed.{say}
 use Rattle.rq_views.proofs.Holding.{holders, view_holds, committed_is_group}
 use Rattle.rq_groups.specs.Ends.{HeldEnds, has_held, is_free_for}
 use Rattle.rq_groups.specs.Waiting.{waits}
-use Rattle.rq_store.specs.State.{op_done, size_of}
+use Rattle.rq_store.specs.State.{op_done, size_of, State, open_of, open_ones_of, ledger_of, job_under, job_of_aim}
 use Rattle.rq_store.specs.Whole.{IsWhole}
 use Rattle.rq_store.proofs.Grouping.{groups_of}
-use Rattle.rq_sound.specs.Rows.{Aim, Under, Row, found_row}
-use Rattle.rq_sound.specs.Sound.{State, IsSound, open_of, open_ones_of, ledger_of, job_under, job_of_aim}
+use Rattle.rq_txn.specs.declared.Aim.{Aim}
+use Rattle.rq_txn.specs.Rows.{Under, Row, found_row}
+use Rattle.rq_txn.specs.declared.Aim.TheVariants.{Doing, Undoing}
+use Rattle.rq_store.proofs.RowLists.{found_in}
+use Rattle.rq_sound.proofs.RowSums.{alone_of_sum}
+use Rattle.rq_sound.specs.Sound.{IsSound}
 use Rattle.rq_sound.specs.Standing.{AreStanding}
 use Rattle.rq_sound.specs.Counted.{AreCounted, appends_aim, appending, appending_in, appends_all, takes_in}
-use Rattle.rq_sound.specs.Rows.Aim.{Doing, Undoing}
-use Rattle.rq_sound.proofs.RowLists.{found_in, alone_of_sum}
 use Rattle.rq_store.proofs.Telling.{told_placed}
 use Rattle.rq_store.proofs.Starting.{free_alone}
 use Rattle.rq_sound.proofs.Alone.{unused, sends_same, takes_same, removed_is}

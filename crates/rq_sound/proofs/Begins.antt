@@ -22,10 +22,11 @@ use Rattle.rq_store.specs.Whole.{IsWhole}
 use Rattle.rq_views.proofs.Numbers.{all_begun}
 use Rattle.rq_views.specs.Items.{layout_of}
 use Rattle.rq_views.specs.Numbers.{greatest}
-use Rattle.rq_sound.specs.Rows.{Under, Row, found_row, fresh_row}
-use Rattle.rq_sound.specs.Standing.{IsRow, AreEnds, AreStanding}
+use Rattle.rq_txn.specs.Rows.{Under, Row, found_row, fresh_row}
+use Rattle.rq_store.specs.Sound.{AreEnds}
+use Rattle.rq_store.proofs.RowLists.{found_in}
+use Rattle.rq_sound.specs.Standing.{IsRow, AreStanding}
 use Rattle.rq_sound.specs.Counted.{AreCounted, IsCovered, appends_all, appending_in, takes_all, before_in, after_in, takes_in}
-use Rattle.rq_sound.proofs.RowLists.{found_in}
 use Rattle.rq_sound.proofs.Beside.{SaysSame, row_beside}
 
 kept_other : (t u : Txn) (x : Option Deed) (ds : List Said) → same_txn u t ≡ false → kept (λ v. same_txn v t) (ending_by u x) ds ≡ ds

@@ -17,8 +17,10 @@ use Rattle.rq_groups.specs.Ends.{HeldEnds}
 use Rattle.rq_store.specs.Sound.{IsSettled}
 use Rattle.rq_store.specs.Steps.{page_op, op_end}
 use Rattle.rq_views.specs.Numbers.{greatest}
-use Rattle.rq_sound.specs.Rows.{Row, comp_end}
-use Rattle.rq_sound.specs.Standing.{unmade, IsRow, IsAsPlanned, HoldsAll}
+use Rattle.rq_txn.specs.Rows.{Row}
+use Rattle.rq_store.specs.Rows.{unmade}
+use Rattle.rq_sound.specs.Rows.{comp_end}
+use Rattle.rq_sound.specs.Standing.{IsRow, IsAsPlanned, HoldsAll}
 use Rattle.rq_store.proofs.Others.{other_op, other_greatest}
 
 -- the longer log says the same of t

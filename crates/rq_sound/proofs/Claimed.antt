@@ -20,11 +20,11 @@ use Rattle.rq_store.specs.Fitting.{left_by}
 use Rattle.rq_store.specs.Rows.{placed_one}
 use Rattle.rq_store.specs.Whole.{IsWhole}
 use Rattle.rq_store.proofs.Rooms.{takes_finished}
-use Rattle.rq_sound.specs.Rows.{Row, found_row, AreDistinct}
+use Rattle.rq_txn.specs.Rows.{Row, found_row, AreDistinct}
+use Rattle.rq_store.proofs.RowLists.{in_found, some_not_none}
 use Rattle.rq_sound.specs.Standing.{AreStanding}
 use Rattle.rq_sound.specs.Counted.{takes_all}
 use Rattle.rq_sound.proofs.UsedCells.{sum_reverse}
-use Rattle.rq_sound.proofs.RowLists.{in_found, some_not_none}
 
 none_taken : (xs : List Owned) → ((x : Owned) → In x xs → ⊥) → taken xs ≡ 0
 none_taken [] h = refl

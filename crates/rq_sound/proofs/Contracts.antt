@@ -26,14 +26,18 @@ use Rattle.rq_store.proofs.Begun.{begun_all}
 use Rattle.rq_store.proofs.Grouping.{groups_of}
 use Rattle.rq_store.proofs.Opening as opening
 use Rattle.rq_store.proofs.Starting.{held_now}
-use Rattle.rq_sound.specs.Rows.{Aim, Under, Row, deed_of, turn_of, found_row, change_row, row_undone, comp_end, latched_in}
+use Rattle.rq_txn.specs.declared.Aim.{Aim}
+use Rattle.rq_txn.specs.Rows.{Under, Row, deed_of, found_row, change_row, row_undone}
+use Rattle.rq_store.specs.State.{State, ledger_of}
+use Rattle.rq_store.proofs.RowLists.{found_in}
+use Rattle.rq_txn.specs.declared.Aim.TheVariants as aims
+use Rattle.rq_sound.specs.Rows.{turn_of, comp_end, latched_in}
 use Rattle.rq_sound.specs.Standing.{IsAimOf, IsAsPlanned, TellsFor, ReadsFor}
 use Rattle.rq_sound.specs.Counted.{CoversAim, appends_aim}
-use Rattle.rq_sound.specs.Sound.{State, IsSound, ledger_of}
+use Rattle.rq_sound.specs.Sound.{IsSound}
 use Rattle.rq_sound.specs.Starts.{MayDo, MayUndo, IsEndFree, with_end}
 use Rattle.rq_sound.specs.Calls.{IsReady, IsIdle, undone, started, forced}
 use Rattle.rq_sound.specs.Theorems.{CallsKeepSoundness, InversesCanBePlanned, TestsAreAnswered, OneUnderWayIsSound, OpenedIsSound}
-use Rattle.rq_sound.proofs.RowLists.{found_in}
 use Rattle.rq_sound.proofs.Starts.{MayStart, HasEnds, plan_latches, told_by_plan, takes_send, takes_receive, may_undo}
 use Rattle.rq_sound.proofs.EachCall.{begin_sound, start_sound, step_sound, finish_sound, undo_sound, commit_sound, start_abort_sound, end_abort_sound}
 use Rattle.rq_sound.proofs.Undoing.{aborts}
@@ -45,7 +49,7 @@ use Rattle.rq_sound.proofs.UndoStarts.{chain_is, undo_started_after}
 use Rattle.rq_sound.proofs.Asked.{closed_is, holds_is, cells_are}
 use Rattle.rq_sound.proofs.FreeEnds.{free_is, free_to_take}
 use Rattle.rq_sound.proofs.Lost.{lost_finds_cell}
-use Rattle.rq_sound.proofs.Instance.{aimed_sound, ledger_aimed}
+use Rattle.rq_sound.proofs.Instance.{instance_sound}
 
 pub within : {X : Type 0} (xs : List X) (k : ℕ) (x : X) → slice_get xs k ≡ Some x → k < length xs
 within [] k x e = cc
@@ -125,19 +129,19 @@ module _ (s : State) (k : IsSound s) where
   }
 
   -- what an inverse that is ready undoes is what its transaction did last
-  newest : (r : Row) (u : Under) (lsn : ℕ) (d : Deed) → IsReady s r u (Aim.Undoing lsn d) → (fs : List Finished) × (r.finished ≡ fs ++ record { lsn = lsn; deed = d } ∷ [])
+  newest : (r : Row) (u : Under) (lsn : ℕ) (d : Deed) → IsReady s r u (aims.Undoing lsn d) → (fs : List Finished) × (r.finished ≡ fs ++ record { lsn = lsn; deed = d } ∷ [])
   newest r u lsn d m = (subst (IsAimOf r) m.aim_is (subst (IsAsPlanned s.sizes s.records s.ends r) m.under (k.standing.each r (found_in r.txn s.rows r m.at_row).0).going).2).1
 
   rest_is : (r : Row) (fs : List Finished) (f : Finished) → r.finished ≡ fs ++ f ∷ [] → fs ≡ front r.finished
   rest_is r fs f e = sym (ap front e ∙ front_push fs f)
 
-  undo : (r : Row) (u : Under) (lsn : ℕ) (d : Deed) (ws : List ℕ) → IsReady s r u (Aim.Undoing lsn d) → ((g : ℕ) → waits ws g ≡ waits s.waiting g + took g d) → IsSound (undone s r u lsn d ws)
+  undo : (r : Row) (u : Under) (lsn : ℕ) (d : Deed) (ws : List ℕ) → IsReady s r u (aims.Undoing lsn d) → ((g : ℕ) → waits ws g ≡ waits s.waiting g + took g d) → IsSound (undone s r u lsn d ws)
   undo r u lsn d ws m more =
       let left = (aborts s.sizes s.records s.ends s.rows s.incarnation s.begins s.cells_in_use s.waiting ws k.log k.standing k.counted k.incarnation k.some r u lsn d m.at_row m.under m.aim_is m.made more).1 in
       subst (λ (fs : List Finished). IsSound (record s { rows = change_row r.txn (row_undone fs) s.rows; records = comp_end r.txn u.number lsn ∷ s.records; cells_in_use = s.cells_in_use - appends_of d; waiting = ws })) (rest_is r left.0 (record { lsn = lsn; deed = d }) left.1)
       (undo_sound s k r u lsn d ws m.at_row m.under m.aim_is m.made more)
 
-  pub undo_entry : (r : Row) (u : Under) (lsn : ℕ) (d : Deed) (ws : List ℕ) → IsReady s r u (Aim.Undoing lsn d) → ledger_of (undone s r u lsn d ws) ≡ after (Entry.Undid r.txn u.number) (ledger_of s)
+  pub undo_entry : (r : Row) (u : Under) (lsn : ℕ) (d : Deed) (ws : List ℕ) → IsReady s r u (aims.Undoing lsn d) → ledger_of (undone s r u lsn d ws) ≡ after (Entry.Undid r.txn u.number) (ledger_of s)
   undo_entry r u lsn d ws m =
       let n = newest r u lsn d m in
       let f : Finished = record { lsn = lsn; deed = d } in
@@ -219,7 +223,7 @@ answered = record {
 }
 
 pub one_under : OneUnderWayIsSound
-one_under = record { sound = aimed_sound; ledger = ledger_aimed }
+one_under = instance_sound
 
 pub opened_is : OpenedIsSound
-opened_is z images log range whole none_unfinished none_lost pages fits = aimed_sound (opened z images log) (opening.opened_sound z images log range whole none_unfinished none_lost pages fits)
+opened_is z images log range whole none_unfinished none_lost pages fits = instance_sound (opened z images log) (opening.opened_sound z images log range whole none_unfinished none_lost pages fits)

@@ -39,11 +39,15 @@ use Rattle.rq_store.specs.Sound.{takes_one}
 use Rattle.rq_store.specs.Fitting.{left_by}
 use Rattle.rq_store.specs.Steps.{page_op, op_end, took}
 use Rattle.rq_store.specs.Whole.{IsWhole}
-use Rattle.rq_sound.specs.Rows.{Aim, Under, Row, turn_of, deed_of, found_row, change_row, without_row, AreDistinct, row_started, under_stepped, row_stepped, row_finished, row_undone, row_aborting, comp_end}
+use Rattle.rq_txn.specs.declared.Aim.{Aim}
+use Rattle.rq_txn.specs.Rows.{Under, Row, deed_of, found_row, change_row, without_row, AreDistinct, row_started, under_stepped, row_stepped, row_finished, row_undone, row_aborting}
+use Rattle.rq_txn.specs.declared.Aim.TheVariants.{Doing, Undoing}
+use Rattle.rq_store.proofs.RowLists.{found_in, changed, gone}
+use Rattle.rq_store.proofs.Others.{rows_one, rows_sum}
+use Rattle.rq_store.proofs.Committing.{rows_without}
+use Rattle.rq_sound.specs.Rows.{turn_of, comp_end}
 use Rattle.rq_sound.specs.Standing.{FollowsPlan}
 use Rattle.rq_sound.specs.Counted.{AreCounted, IsCovered, CoversAim, appends_aim, appending, appending_in, takes_all, appends_one, appends_all, uses_before, uses_after, made_of, before_in, after_in, takes_in}
-use Rattle.rq_sound.specs.Rows.Aim.{Doing, Undoing}
-use Rattle.rq_sound.proofs.RowLists.{found_in, changed, rows_one, rows_without, rows_sum, gone}
 use Rattle.rq_sound.proofs.UsedCells.{plan_counts, count_made}
 use Rattle.rq_store.proofs.Holders.{map_join}
 use Rattle.rq_sound.proofs.Going.{take_next, get_written}

@@ -11,7 +11,8 @@ use Rattle.rq_level.specs.declared.writes.SlotWrite.{SlotWrite}
 use Rattle.std.proofs.lemmas.Option.{same_Some}
 use Rattle.rq_groups.specs.Waiting.{waits}
 use Rattle.rq_store.proofs.Spelling.{AreSpelt, items_back}
-use Rattle.rq_sound.specs.Rows.{row_aborting, latched_by}
+use Rattle.rq_txn.specs.Rows.{row_aborting, fresh_row}
+use Rattle.rq_sound.specs.Rows.{latched_by}
 use Rattle.rq_sound.specs.Counted.{sends_in}
 use Rattle.rq_sound.specs.Sound.{IsSound}
 use Rattle.rq_sound.specs.Starts.{MayUndo}
@@ -25,9 +26,7 @@ use Rattle.rq_sound.proofs.Worked.{begun_sound, first, two_sound}
 use Rattle.rq_sound.proofs.AbortSteps.{abort_steps}
 use Rattle.rq_sound.proofs.DeedSteps.{deed_steps}
 use Rattle.rq_model.specs.Legal.{Legal}
-use Rattle.rq_store.specs.State.{size_of}
-use Rattle.rq_sound.specs.Sound.{ledger_of}
-use Rattle.rq_sound.specs.Rows.{fresh_row}
+use Rattle.rq_store.specs.State.{size_of, ledger_of}
 use Rattle.rq_sound.specs.Course.{both_begun}
 
 -- the log when t1 aborts

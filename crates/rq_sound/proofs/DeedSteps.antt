@@ -35,21 +35,23 @@ use Rattle.rq_groups.specs.Waiting.{waits}
 use Rattle.rq_groups.proofs.Holders.{held_with_same, held_with_other}
 use Rattle.rq_store.specs.Fitting.{left_by}
 use Rattle.rq_store.specs.Rows.{HoldsFor, HasWaiting}
-use Rattle.rq_store.specs.State.{size_of, job_of, op_done}
+use Rattle.rq_store.specs.State.{size_of, job_of, op_done, State, ledger_of, open_of, open_ones_of, job_of_aim, job_under, left_under}
 use Rattle.rq_store.specs.Steps.{gave_done, op_end, took}
 use Rattle.rq_store.proofs.Grouping.{groups_of}
 use Rattle.rq_store.proofs.Holders.{map_join}
 use Rattle.rq_store.proofs.Stepping.{one_longer}
 use Rattle.rq_store.proofs.Telling.{told_placed}
-use Rattle.rq_sound.specs.Rows.{Aim, Under, Row, deed_of, row_finished, row_started}
+use Rattle.rq_txn.specs.declared.Aim.{Aim}
+use Rattle.rq_txn.specs.Rows.{Under, Row, deed_of, row_finished, row_started}
+use Rattle.rq_store.proofs.RowLists.{found_in, not_txn, unique}
+use Rattle.rq_txn.specs.declared.Aim.TheVariants as aims
 use Rattle.rq_sound.specs.Standing.{FollowsPlan, IsAsPlanned, TellsFor}
 use Rattle.rq_sound.specs.Counted.{CoversAim, IsCovered, takes_in}
-use Rattle.rq_sound.specs.Sound.{State, IsSound, ledger_of, open_of, open_ones_of, job_of_aim, job_under, left_under}
+use Rattle.rq_sound.specs.Sound.{IsSound}
 use Rattle.rq_sound.specs.Starts.{MayDo, with_end}
 use Rattle.rq_sound.specs.Calls.{committed, finished, started, IsReady, MayCommit, IsIdle}
 use Rattle.rq_sound.specs.Steps.{Steps}
 use Rattle.rq_sound.specs.Theorems.{DeedsAreSteps}
-use Rattle.rq_sound.proofs.RowLists.{found_in, not_txn, unique}
 use Rattle.rq_sound.proofs.Ledgers.{found_open, open_found, opens_change, opens_without, open_other}
 use Rattle.rq_sound.proofs.AbortSteps.{at_open, is_ready, none_to_make, runs_now, under_here}
 use Rattle.rq_sound.proofs.Alone.{alone_taking, removed_is, takes_below}
@@ -66,7 +68,7 @@ other_open t (UnlinkHead g n tag body) ends q ne = ap (λ (l : List ℕ). record
 other_open t (Close g) ends q ne = ap (λ (l : List ℕ). record (open_of ends q) { sending = l }) (held_with_other t q.txn g ends.sending (not_txn t q.txn (λ e. ne (sym e))))
 
 -- and who starts holds the end besides
-own_open : (ends : HeldEnds) (r : Row) (u : Under) (d : Deed) (left : ℕ) → u.number ≡ r.number + 1 → u.aim ≡ Aim.Doing d → length u.writes - u.made ≡ left
+own_open : (ends : HeldEnds) (r : Row) (u : Under) (d : Deed) (left : ℕ) → u.number ≡ r.number + 1 → u.aim ≡ aims.Doing d → length u.writes - u.made ≡ left
     → open_of (with_end r.txn d ends) (row_started u r) ≡ open_started (r.number + 1) left (job_of d) (open_of ends r)
 own_open ends r u (Append g n tag previous body) left number aim left_is =
     let d = Append g n tag previous body in
@@ -189,7 +191,7 @@ module _ (s : State) (k : IsSound s) where
       (refl, first_is_next g tag body r told.0 i h (let b = takes_below s.sizes s.records s.ends s.rows s.incarnation s.begins k.log k.standing s.cells_in_use s.waiting k.counted g r n i in let c : 1 ≤ waits s.waiting g = w in omega (arith, b, c)) told.1)
   is_done r i (Close g) h n w told = refl
 
-  module _ (running : s.failed ≡ false) (r : Row) (u : Under) (d : Deed) (ws : List ℕ) (m : IsReady s r u (Aim.Doing d)) (fewer : (g : ℕ) → waits ws g ≡ waits s.waiting g - took g d) where
+  module _ (running : s.failed ≡ false) (r : Row) (u : Under) (d : Deed) (ws : List ℕ) (m : IsReady s r u (aims.Doing d)) (fewer : (g : ℕ) → waits ws g ≡ waits s.waiting g - took g d) where
     at : In r s.rows
     at = (found_in r.txn s.rows r m.at_row).0
 

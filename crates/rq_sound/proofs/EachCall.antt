@@ -18,10 +18,12 @@ use Rattle.rq_groups.specs.Waiting.{waits}
 use Rattle.rq_views.specs.Claims.{appends_of}
 use Rattle.rq_store.specs.Fitting.{left_by, image_in}
 use Rattle.rq_store.specs.Steps.{page_op, op_end, took}
-use Rattle.rq_sound.specs.Rows.{Under, Row, deed_of, found_row, change_row, without_row, fresh_row, row_started, row_stepped, row_finished, row_undone, row_aborting, comp_end}
-use Rattle.rq_sound.specs.Sound.{State, IsSound}
+use Rattle.rq_txn.specs.Rows.{Under, Row, deed_of, found_row, change_row, without_row, fresh_row, row_started, row_stepped, row_finished, row_undone, row_aborting}
+use Rattle.rq_store.specs.State.{State}
+use Rattle.rq_txn.specs.declared.Aim.TheVariants.{Doing, Undoing}
+use Rattle.rq_sound.specs.Rows.{comp_end}
+use Rattle.rq_sound.specs.Sound.{IsSound}
 use Rattle.rq_sound.specs.Counted.{appends_aim, takes_all, sends_in}
-use Rattle.rq_sound.specs.Rows.Aim.{Doing, Undoing}
 use Rattle.rq_store.proofs.Begun.{begun_more}
 use Rattle.rq_store.proofs.Fitting.{fits_more, fits_written}
 use Rattle.rq_store.proofs.Stepping.{address_is}

@@ -28,13 +28,15 @@ use Rattle.rq_store.specs.Rows.{placed, placed_one, HoldsFor, HasWaiting}
 use Rattle.rq_views.specs.Claims.{appends_of, claimed}
 use Rattle.rq_store.specs.Steps.{op_end, took}
 use Rattle.rq_store.specs.Whole.{IsWhole}
-use Rattle.rq_sound.specs.Rows.{Aim, Under, Row, deed_of, turn_of, found_row, change_row, row_finished}
+use Rattle.rq_txn.specs.declared.Aim.{Aim}
+use Rattle.rq_txn.specs.Rows.{Under, Row, deed_of, found_row, change_row, row_finished}
+use Rattle.rq_txn.specs.declared.Aim.TheVariants.{Doing}
+use Rattle.rq_store.proofs.Waiting.{one_of_sum}
+use Rattle.rq_sound.specs.Rows.{turn_of}
 use Rattle.rq_sound.specs.Standing.{FollowsPlan, IsAimOf, IsRow, HoldsAll, TellsFor, ReadsFor, AreStanding}
 use Rattle.rq_sound.specs.Counted.{AreCounted, IsCovered, CoversAim, appending, appending_in, appends_aim}
-use Rattle.rq_sound.specs.Rows.Aim.{Doing}
 use Rattle.rq_store.proofs.Holders.{placed_more}
 use Rattle.rq_sound.proofs.Claimed.{claimed_by_rows}
-use Rattle.rq_sound.proofs.RowLists.{one_of_sum}
 use Rattle.rq_sound.proofs.Going.{other_ends}
 use Rattle.rq_sound.proofs.Beside.{says_end}
 use Rattle.rq_sound.proofs.Alone.{used_by_holder, taken_by_holder, more_left, takes_below}

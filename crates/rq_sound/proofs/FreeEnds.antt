@@ -10,10 +10,11 @@ use Rattle.rq_groups.specs.declared.Held.{Held}
 use Rattle.rq_groups.specs.Ends.{HeldEnds, has_held, held_by, is_free_for}
 use Rattle.rq_groups.proofs.Holders.{has_is_number}
 use Rattle.rq_store.proofs.FreeEnds.{holder}
-use Rattle.rq_sound.specs.Rows.{Row, found_row}
-use Rattle.rq_sound.specs.Standing.{AreEnds}
-use Rattle.rq_sound.specs.Sound.{State, IsSound, ledger_of, open_of, open_ones_of}
-use Rattle.rq_sound.proofs.RowLists.{found_in}
+use Rattle.rq_txn.specs.Rows.{Row, found_row}
+use Rattle.rq_store.specs.Sound.{AreEnds}
+use Rattle.rq_store.specs.State.{State, ledger_of, open_of, open_ones_of}
+use Rattle.rq_store.proofs.RowLists.{found_in}
+use Rattle.rq_sound.specs.Sound.{IsSound}
 use Rattle.rq_store.proofs.Starting.{free_alone}
 
 some_row : (o : Option Row) → is_some o ≡ true → (r : Row) × (o ≡ Some r)

@@ -10,10 +10,10 @@ use Rattle.rq_model.specs.History.Entry.{Undid, Aborting, Aborted}
 use Rattle.rq_txn.specs.declared.Finished.{Finished}
 use Rattle.rq_groups.specs.declared.Held.{Held}
 use Rattle.rq_groups.specs.Ends.{HeldEnds, held_by, released}
-use Rattle.rq_store.specs.State.{op_done}
-use Rattle.rq_sound.specs.Rows.{Under, Row, AreDistinct, found_row, change_row, without_row, row_aborting, row_undone, comp_end}
-use Rattle.rq_sound.specs.Sound.{State, open_of, open_ones_of, ledger_of, left_under}
-use Rattle.rq_sound.proofs.RowLists.{found_in, unique, not_txn}
+use Rattle.rq_store.specs.State.{op_done, State, open_of, open_ones_of, ledger_of, left_under}
+use Rattle.rq_txn.specs.Rows.{Under, Row, AreDistinct, found_row, change_row, without_row, row_aborting, row_undone}
+use Rattle.rq_store.proofs.RowLists.{found_in, unique, not_txn}
+use Rattle.rq_sound.specs.Rows.{comp_end}
 use Rattle.rq_store.proofs.Holders.{map_join}
 use Rattle.rq_store.proofs.Releases.{without_ends}
 use Rattle.rq_store.proofs.Stepping.{one_longer}

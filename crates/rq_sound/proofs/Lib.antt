@@ -1,4 +1,4 @@
-pub mod RowLists
+pub mod RowSums
 pub mod Latched
 pub mod UsedCells
 pub mod UndoPlans

@@ -24,13 +24,13 @@ use Rattle.rq_views.proofs.Committed.{say}
 use Rattle.rq_views.proofs.OpenCounts.{chain_count, AreApart, told_sends}
 use Rattle.rq_views.proofs.Settled.{rest_shown}
 use Rattle.rq_txn.specs.declared.Finished.{Finished}
-use Rattle.rq_store.specs.State.{op_done}
+use Rattle.rq_store.specs.State.{op_done, State, open_of, open_ones_of, ledger_of, job_of_aim}
 use Rattle.rq_store.specs.Fitting.{left_by}
 use Rattle.rq_store.proofs.Grouping.{groups_of}
-use Rattle.rq_sound.specs.Rows.{Under, Row, AreDistinct, found_row, change_row, row_started}
-use Rattle.rq_sound.specs.Sound.{State, IsSound, open_of, open_ones_of, ledger_of, job_of_aim}
-use Rattle.rq_sound.specs.Rows.Aim.{Undoing}
-use Rattle.rq_sound.proofs.RowLists.{found_in, unique}
+use Rattle.rq_txn.specs.Rows.{Under, Row, AreDistinct, found_row, change_row, row_started}
+use Rattle.rq_txn.specs.declared.Aim.TheVariants.{Undoing}
+use Rattle.rq_store.proofs.RowLists.{found_in, unique}
+use Rattle.rq_sound.specs.Sound.{IsSound}
 use Rattle.rq_store.proofs.Telling.{told_placed}
 use Rattle.rq_store.proofs.Holders.{map_join}
 use Rattle.rq_sound.proofs.Ledgers.{opens_change, found_open, open_found}

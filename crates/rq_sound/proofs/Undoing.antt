@@ -23,10 +23,12 @@ use Rattle.rq_views.specs.Claims.{appends_of}
 use Rattle.rq_store.specs.Fitting.{left_by}
 use Rattle.rq_store.specs.Steps.{took}
 use Rattle.rq_store.specs.Whole.{IsWhole}
-use Rattle.rq_sound.specs.Rows.{Aim, Under, Row, deed_of, turn_of, found_row, change_row, row_undone, comp_end}
+use Rattle.rq_txn.specs.declared.Aim.{Aim}
+use Rattle.rq_txn.specs.Rows.{Under, Row, deed_of, found_row, change_row, row_undone}
+use Rattle.rq_txn.specs.declared.Aim.TheVariants.{Undoing}
+use Rattle.rq_sound.specs.Rows.{turn_of, comp_end}
 use Rattle.rq_sound.specs.Standing.{FollowsPlan, IsAimOf, IsRow, AreStanding}
 use Rattle.rq_sound.specs.Counted.{AreCounted}
-use Rattle.rq_sound.specs.Rows.Aim.{Undoing}
 use Rattle.rq_store.proofs.Holders.{placed_more}
 use Rattle.rq_sound.proofs.Going.{other_undoes}
 use Rattle.rq_sound.proofs.Beside.{says_comp}

@@ -12,14 +12,18 @@ use Rattle.rq_level.specs.Writes.{writes_of}
 use Rattle.rq_txn.specs.declared.Finished.{Finished}
 use Rattle.rq_store.specs.Worked.{AreFormatted}
 use Rattle.rq_store.proofs.WorkedSound as formatted
-use Rattle.rq_sound.specs.Rows.{Aim, Under, Row, fresh_row, latched_by}
+use Rattle.rq_txn.specs.declared.Aim.{Aim}
+use Rattle.rq_txn.specs.Rows.{Under, Row, fresh_row}
+use Rattle.rq_store.specs.State.{State}
+use Rattle.rq_txn.specs.declared.Aim.TheVariants as aims
+use Rattle.rq_sound.specs.Rows.{latched_by}
 use Rattle.rq_sound.specs.Standing.{IsAsPlanned, IsAimOf}
-use Rattle.rq_sound.specs.Sound.{State, IsSound}
+use Rattle.rq_sound.specs.Sound.{IsSound}
 use Rattle.rq_sound.specs.Starts.{MayDo}
 use Rattle.rq_sound.specs.Course.{cell_a, group_a, cell_b, group_b, send_a, send_b, both_begun, one_under, two_under}
 use Rattle.rq_sound.specs.Worked.{TwoUnderWay, NotSound}
 use Rattle.rq_sound.proofs.Contracts.{calls_keep}
-use Rattle.rq_sound.proofs.Instance.{aimed_sound}
+use Rattle.rq_sound.proofs.Instance.{instance_sound}
 use Rattle.rq_sound.proofs.Spelt.{used_a, free_a, used_b, free_b, new_of_a, has_a, new_of_b, has_b, back}
 
 range : IsInRange sizes
@@ -43,7 +47,7 @@ plan_b = record { directory = new_directory; new = 65; old = None; used = omega 
 
 module _ (images : List (List ℕ)) (h : AreFormatted sizes images) where
   pub begun_sound : IsSound (both_begun images)
-  begun_sound = calls_keep.begins _ (calls_keep.begins _ (aimed_sound _ (formatted.sound sizes images range h)))
+  begun_sound = calls_keep.begins _ (calls_keep.begins _ (instance_sound _ (formatted.sound sizes images range h)))
 
   none_used : (both_begun images).cells_in_use ≡ 0
   none_used = sym begun_sound.counted.committed
@@ -131,10 +135,10 @@ pub not_sound : NotSound
 not_sound = record {
   one_page = λ s r q u v p i j ne e f on too k. true≢false (sym too ∙ k.standing.apart r q u v p i j ne e f on);
   one_end = λ s t u g ne h l k. ne (k.standing.sending.one t u g h l);
-  does = λ s r u d i under is aborts k. true≢false (sym aborts ∙ goes s k r u (Aim.Doing d) i under is);
-  undoes = λ s r u lsn d i under is forward k. true≢false (sym (goes s k r u (Aim.Undoing lsn d) i under is).0 ∙ forward);
+  does = λ s r u d i under is aborts k. true≢false (sym aborts ∙ goes s k r u (aims.Doing d) i under is);
+  undoes = λ s r u lsn d i under is forward k. true≢false (sym (goes s k r u (aims.Undoing lsn d) i under is).0 ∙ forward);
   older = λ s r u lsn d rest f i under is newest ne k.
-      let a = (goes s k r u (Aim.Undoing lsn d) i under is).1 in
+      let a = (goes s k r u (aims.Undoing lsn d) i under is).1 in
       ne (ap (λ (x : Finished). x.lsn) (last_is rest a.0 f (record { lsn = lsn; deed = d }) (sym newest ∙ a.1)));
   let_go = λ s r g i used none k. true≢false (sym ((k.standing.each r i).held.sends g used) ∙ none);
   counts_more = λ s k l. (let a = k.counted.committed in let b = l.counted.committed in omega (arith, a, b));

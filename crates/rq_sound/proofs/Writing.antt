@@ -25,10 +25,13 @@ use Rattle.rq_model.specs.Incarnations.{incarnation_of}
 use Rattle.rq_store.specs.Fitting.{left_by}
 use Rattle.rq_store.specs.Steps.{page_op}
 use Rattle.rq_store.specs.Whole.{IsWhole}
-use Rattle.rq_sound.specs.Rows.{Aim, Under, Row, turn_of, found_row, change_row, row_stepped, under_stepped, latched_by, is_under}
-use Rattle.rq_sound.specs.Standing.{unmade, FollowsPlan, IsAsPlanned, IsAimOf, IsRow, AreStanding}
+use Rattle.rq_txn.specs.declared.Aim.{Aim}
+use Rattle.rq_txn.specs.Rows.{Under, Row, found_row, change_row, row_stepped, under_stepped}
+use Rattle.rq_store.specs.Rows.{is_under, unmade}
+use Rattle.rq_txn.specs.declared.Aim.TheVariants.{Doing, Undoing}
+use Rattle.rq_sound.specs.Rows.{turn_of, latched_by}
+use Rattle.rq_sound.specs.Standing.{FollowsPlan, IsAsPlanned, IsAimOf, IsRow, AreStanding}
 use Rattle.rq_sound.specs.Counted.{AreCounted}
-use Rattle.rq_sound.specs.Rows.Aim.{Doing, Undoing}
 use Rattle.rq_store.proofs.Stepping.{onto_whole, address_is}
 use Rattle.rq_sound.proofs.Going.{other_steps, own_steps, page_latched, page_is, get_written, take_next, drop_next}
 use Rattle.rq_sound.proofs.Beside.{says_page}

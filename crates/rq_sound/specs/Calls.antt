@@ -17,9 +17,11 @@ use Rattle.rq_groups.specs.Ends.{HeldEnds, released}
 use Rattle.rq_groups.specs.Waiting.{waits}
 use Rattle.rq_store.specs.Fitting.{image_in}
 use Rattle.rq_store.specs.Steps.{page_op, op_end}
-use Rattle.rq_sound.specs.Rows.{Aim, Under, Row, found_row, change_row, without_row, fresh_row, row_started, row_stepped, row_finished, row_undone, row_aborting, comp_end}
+use Rattle.rq_txn.specs.declared.Aim.{Aim}
+use Rattle.rq_txn.specs.Rows.{Under, Row, found_row, change_row, without_row, fresh_row, row_started, row_stepped, row_finished, row_undone, row_aborting}
+use Rattle.rq_store.specs.State.{State}
+use Rattle.rq_sound.specs.Rows.{comp_end}
 use Rattle.rq_sound.specs.Counted.{appends_aim, takes_all, sends_in}
-use Rattle.rq_sound.specs.Sound.{State}
 
 abbrev pub next_txn : State → Txn
 next_txn s = record { incarnation = s.incarnation; count = s.begins + 1 }

@@ -17,12 +17,14 @@ use Rattle.rq_store.specs.State.{op_done}
 use Rattle.rq_store.specs.Fitting.{left_by}
 use Rattle.rq_store.specs.Rows.{HasWaiting}
 use Rattle.rq_store.specs.Sound.{takes_one}
-use Rattle.rq_sound.specs.Rows.{Aim, Under, Row}
+use Rattle.rq_txn.specs.declared.Aim.{Aim}
+use Rattle.rq_txn.specs.Rows.{Under, Row}
+use Rattle.rq_txn.specs.declared.Aim.TheVariants as aims
 
 -- how many sends are under way
 abbrev pub appends_aim : Aim → ℕ
-appends_aim (Aim.Doing d) = appends_of d
-appends_aim (Aim.Undoing lsn d) = 0
+appends_aim (aims.Doing d) = appends_of d
+appends_aim (aims.Undoing lsn d) = 0
 
 abbrev pub appending : Option Under → ℕ
 appending None = 0
@@ -69,8 +71,8 @@ sends_in g r = length (filter_map (sent_for g) (map op_done r.finished))
 
 -- where a message is taken, one waits
 abbrev pub CoversAim : List ℕ → Aim → Type 0
-CoversAim ws (Aim.Doing d) = HasWaiting ws d
-CoversAim ws (Aim.Undoing lsn d) = Unit {0}
+CoversAim ws (aims.Doing d) = HasWaiting ws d
+CoversAim ws (aims.Undoing lsn d) = Unit {0}
 
 abbrev pub IsCovered : List ℕ → Option Under → Type 0
 IsCovered ws None = Unit {0}

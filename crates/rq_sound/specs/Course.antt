@@ -11,9 +11,10 @@ use Rattle.rq_level.specs.declared.writes.SlotWrite.{SlotWrite}
 use Rattle.rq_txn.specs.declared.Finished.{Finished}
 use Rattle.rq_store.specs.Opening.{opened}
 use Rattle.rq_store.specs.Worked.{AreFormatted}
-use Rattle.rq_sound.specs.Rows.{Aim, Under, Row, fresh_row, row_started, row_finished, row_undone, row_aborting}
-use Rattle.rq_sound.specs.Sound.{State}
-use Rattle.rq_sound.specs.OneUnder.{aimed_store}
+use Rattle.rq_txn.specs.declared.Aim.{Aim}
+use Rattle.rq_txn.specs.Rows.{Under, Row, fresh_row, row_started, row_finished, row_undone, row_aborting}
+use Rattle.rq_store.specs.State.{State}
+use Rattle.rq_txn.specs.declared.Aim.TheVariants as aims
 use Rattle.rq_sound.specs.Starts.{with_end}
 use Rattle.rq_sound.specs.Calls.{begun, started, stepped, finished, undone, aborting, aborted, committed, IsPutIn}
 
@@ -41,14 +42,14 @@ abbrev pub group_b : SlotWrite
 group_b = spelled end_b (omega arith) (omega arith)
 
 abbrev pub send_a : Under
-send_a = record { number = 1; writes = cell_a ∷ group_a ∷ []; made = 0; aim = Aim.Doing (sends 0) }
+send_a = record { number = 1; writes = cell_a ∷ group_a ∷ []; made = 0; aim = aims.Doing (sends 0) }
 
 abbrev pub send_b : Under
-send_b = record { number = 1; writes = cell_b ∷ group_b ∷ []; made = 0; aim = Aim.Doing (sends 15) }
+send_b = record { number = 1; writes = cell_b ∷ group_b ∷ []; made = 0; aim = aims.Doing (sends 15) }
 
 -- the store is opened, and both begin
 abbrev pub both_begun : List (List ℕ) → State
-both_begun images = begun (begun (aimed_store (opened sizes images [])))
+both_begun images = begun (begun (opened sizes images []))
 
 abbrev pub one_under : List (List ℕ) → State
 one_under images =
@@ -112,7 +113,7 @@ abbrev pub group_back : SlotWrite
 group_back = spelled back_a (omega arith) (omega arith)
 
 abbrev pub undo_a : Under
-undo_a = record { number = 2; writes = cell_back ∷ group_back ∷ []; made = 0; aim = Aim.Undoing 5 (sends 0) }
+undo_a = record { number = 2; writes = cell_back ∷ group_back ∷ []; made = 0; aim = aims.Undoing 5 (sends 0) }
 
 abbrev pub row_undoing : ℕ → Row
 row_undoing n = row_started (with_made n undo_a) (row_aborting row_done)

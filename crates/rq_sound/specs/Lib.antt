@@ -4,7 +4,6 @@ pub mod Counted
 pub mod Sound
 pub mod Starts
 pub mod Calls
-pub mod OneUnder
 pub mod Steps
 pub mod Theorems
 pub mod Course

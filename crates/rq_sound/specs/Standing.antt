@@ -17,22 +17,24 @@ use Rattle.rq_views.specs.InStore.{IsStranger}
 use Rattle.rq_views.specs.Owed.{Owes}
 use Rattle.rq_level.specs.Writes.{writes_of}
 use Rattle.rq_txn.specs.declared.Finished.{Finished}
-use Rattle.rq_groups.specs.declared.Held.{Held}
 use Rattle.rq_groups.specs.Ends.{HeldEnds, has_held}
 use Rattle.rq_store.specs.Fitting.{left_by}
-use Rattle.rq_store.specs.Rows.{placed, HoldsFor}
-use Rattle.rq_store.specs.Sound.{IsSettled}
-use Rattle.rq_sound.specs.Rows.{Aim, Under, Row, turn_of, deed_of, found_row, AreDistinct, latched_by, is_under}
+use Rattle.rq_store.specs.Rows.{placed, HoldsFor, is_under, unmade}
+use Rattle.rq_store.specs.Sound.{AreEnds, IsSettled}
+use Rattle.rq_txn.specs.declared.Aim.{Aim}
+use Rattle.rq_txn.specs.Rows.{Under, Row, deed_of, found_row, AreDistinct}
+use Rattle.rq_txn.specs.declared.Aim.TheVariants as aims
+use Rattle.rq_sound.specs.Rows.{turn_of, latched_by}
 
 -- a deed is done over the view that it tells
 abbrev pub TellsFor : Aim → View → Type 0
-TellsFor (Aim.Doing d) v = TellsView d v
-TellsFor (Aim.Undoing lsn d) v = Unit {0}
+TellsFor (aims.Doing d) v = TellsView d v
+TellsFor (aims.Undoing lsn d) v = Unit {0}
 
 -- and what its OpEnd spells can be read
 abbrev pub ReadsFor : Aim → Type 0
-ReadsFor (Aim.Doing d) = deed_in (spelled_deed d) ≡ Some d
-ReadsFor (Aim.Undoing lsn d) = Unit {0}
+ReadsFor (aims.Doing d) = deed_in (spelled_deed d) ≡ Some d
+ReadsFor (aims.Undoing lsn d) = Unit {0}
 
 -- What is so of an operation under way, whatever else is: its plan fits the slots of its pages as they were at its
 -- start, what is made of it is a beginning of the plan, and nobody else writes its pages.
@@ -54,18 +56,13 @@ pub record FollowsPlan (z : Sizes) (log : List Record) (ends : HeldEnds) (t : Tx
 
 -- who does a deed is not aborting; who is aborting undoes its newest deed
 abbrev pub IsAimOf : Row → Aim → Type 0
-IsAimOf r (Aim.Doing d) = r.aborting ≡ false
-IsAimOf r (Aim.Undoing lsn d) = (r.aborting ≡ true)
+IsAimOf r (aims.Doing d) = r.aborting ≡ false
+IsAimOf r (aims.Undoing lsn d) = (r.aborting ≡ true)
     × ((fs : List Finished) × (r.finished ≡ fs ++ record { lsn = lsn; deed = d } ∷ []))
 
 abbrev pub IsAsPlanned : Sizes → List Record → HeldEnds → Row → Option Under → Type 0
 IsAsPlanned z log ends r None = Unit {0}
 IsAsPlanned z log ends r (Some u) = FollowsPlan z log ends r.txn u × (r.number ≡ u.number) × IsAimOf r u.aim
-
--- an operation under way has no record and no number in the log until something of it is made
-abbrev pub unmade : Option Under → ℕ
-unmade None = 0
-unmade (Some u) = cond (nat_eq u.made 0) 1 0
 
 -- t holds the ends of all that it ever did, undone or not
 pub record HoldsAll (ends : HeldEnds) (t : Txn) (log : List Record) : Type 0 where
@@ -84,11 +81,6 @@ pub record IsRow (z : Sizes) (log : List Record) (ends : HeldEnds) (incarnation 
   pub numbered : greatest r.txn (items z log) + unmade r.under ≡ r.number
   pub idle : (n : ℕ) → is_under n r.under ≡ false → under_way (operation r.txn n) (items z log) ≡ false
   pub going : IsAsPlanned z log ends r r.under
-
--- no two transactions hold an end, and each that holds one has not ended
-pub record AreEnds (rows : List Row) (hs : List Held) : Type 0 where
-  pub one : (t u : Txn) (s : ℕ) → has_held t s hs ≡ true → has_held u s hs ≡ true → t ≡ u
-  pub living : (t : Txn) (s : ℕ) → has_held t s hs ≡ true → is_some (found_row t rows) ≡ true
 
 -- no two operations under way have latched the same page
 abbrev pub AreApart : List Row → Type 0

@@ -17,8 +17,11 @@ use Rattle.rq_txn.specs.declared.Finished.{Finished}
 use Rattle.rq_groups.specs.Ends.{HeldEnds, is_free_for, with_held}
 use Rattle.rq_store.specs.Fitting.{left_by}
 use Rattle.rq_store.specs.Rows.{HasWaiting}
-use Rattle.rq_sound.specs.Rows.{Aim, Under, Row, found_row, latched_by, latched_in}
-use Rattle.rq_sound.specs.Sound.{State}
+use Rattle.rq_txn.specs.declared.Aim.{Aim}
+use Rattle.rq_txn.specs.Rows.{Under, Row, found_row}
+use Rattle.rq_store.specs.State.{State}
+use Rattle.rq_txn.specs.declared.Aim.TheVariants as aims
+use Rattle.rq_sound.specs.Rows.{latched_by, latched_in}
 
 -- the ends once t holds the one that a deed needs
 abbrev pub with_end : Txn → Deed → HeldEnds → HeldEnds
@@ -47,7 +50,7 @@ pub record IsPlanned (s : State) (r : Row) (u : Under) (turn : Turn) : Type 0 wh
 -- and there is a cell for what it sends.
 pub record MayDo (s : State) (r : Row) (u : Under) (d : Deed) : Type 0 where
   pub planned : IsPlanned s r u (Did d)
-  pub aim : u.aim ≡ Aim.Doing d
+  pub aim : u.aim ≡ aims.Doing d
   pub forward : r.aborting ≡ false
   pub sender : deed_sender d < sender_count s.sizes
   pub reads : deed_in (spelled_deed d) ≡ Some d
@@ -60,6 +63,6 @@ pub record MayDo (s : State) (r : Row) (u : Under) (d : Deed) : Type 0 where
 -- the newest deed of a transaction that aborts may be undone
 pub record MayUndo (s : State) (r : Row) (u : Under) (rest : List Finished) (f : Finished) : Type 0 where
   pub planned : IsPlanned s r u (Undid f.deed)
-  pub aim : u.aim ≡ Aim.Undoing f.lsn f.deed
+  pub aim : u.aim ≡ aims.Undoing f.lsn f.deed
   pub aborting : r.aborting ≡ true
   pub newest : r.finished ≡ rest ++ f ∷ []

@@ -4,9 +4,9 @@ use Rattle.rq_model.specs.History.{Entry, Call}
 use Rattle.rq_model.specs.Ledger.{after}
 use Rattle.rq_model.specs.Legal.{Legal}
 use Rattle.rq_model.specs.Replay.{Reply, Says}
-use Rattle.rq_store.specs.State.{size_of}
+use Rattle.rq_store.specs.State.{size_of, State, ledger_of}
 use Rattle.rq_store.specs.Steps.{Continues}
-use Rattle.rq_sound.specs.Sound.{State, IsSound, ledger_of}
+use Rattle.rq_sound.specs.Sound.{IsSound}
 
 -- The call with what it gave is an entry that may come next, and the store after it is what the entry makes of the
 -- store before. Its log goes on, and what was forced stays forced.

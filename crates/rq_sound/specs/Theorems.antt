@@ -31,17 +31,18 @@ use Rattle.rq_groups.specs.Waiting.{waits}
 use Rattle.rq_store.specs.Fitting.{left_by, image_in, FitsLog}
 use Rattle.rq_store.specs.Opening.{opened}
 use Rattle.rq_store.specs.Sound as one_sound
-use Rattle.rq_store.specs.State as one
-use Rattle.rq_store.specs.State.{size_of, op_done, job_of}
+use Rattle.rq_store.specs.State.{size_of, op_done, job_of, State, ledger_of, open_of}
 use Rattle.rq_store.specs.Steps.{took, gave_done}
 use Rattle.rq_store.specs.Whole.{IsWhole}
-use Rattle.rq_sound.specs.Rows.{Aim, Under, Row, latched_in}
+use Rattle.rq_txn.specs.declared.Aim.{Aim}
+use Rattle.rq_txn.specs.Rows.{Under, Row}
+use Rattle.rq_txn.specs.declared.Aim.TheVariants as aims
+use Rattle.rq_sound.specs.Rows.{latched_in}
 use Rattle.rq_sound.specs.Counted.{takes_in}
-use Rattle.rq_sound.specs.Sound.{State, IsSound, ledger_of, open_of}
+use Rattle.rq_sound.specs.Sound.{IsSound}
 use Rattle.rq_sound.specs.Starts.{MayDo, MayUndo, with_end}
 use Rattle.rq_sound.specs.Steps.{Steps}
 use Rattle.rq_sound.specs.Calls.{next_txn, begun, started, stepped, IsNextWrite, finished, undone, IsReady, IsIdle, committed, MayCommit, aborting, aborted, forced, failed}
-use Rattle.rq_sound.specs.OneUnder.{aimed_store}
 
 -- each call keeps a store sound
 pub record CallsKeepSoundness : Type 0 where
@@ -53,10 +54,10 @@ pub record CallsKeepSoundness : Type 0 where
   pub steps : (s : State) (r : Row) (u : Under) (w : SlotWrite) (images : List (List ℕ)) → IsSound s
       → IsNextWrite s r u w images → IsSound (stepped s r u w images)
   pub finishes : (s : State) (r : Row) (u : Under) (d : Deed) (waiting : List ℕ) → IsSound s
-      → IsReady s r u (Aim.Doing d) → ((g : ℕ) → waits waiting g ≡ waits s.waiting g - took g d)
+      → IsReady s r u (aims.Doing d) → ((g : ℕ) → waits waiting g ≡ waits s.waiting g - took g d)
       → IsSound (finished s r u d waiting)
   pub undoes : (s : State) (r : Row) (u : Under) (lsn : ℕ) (d : Deed) (waiting : List ℕ) → IsSound s
-      → IsReady s r u (Aim.Undoing lsn d) → ((g : ℕ) → waits waiting g ≡ waits s.waiting g + took g d)
+      → IsReady s r u (aims.Undoing lsn d) → ((g : ℕ) → waits waiting g ≡ waits s.waiting g + took g d)
       → IsSound (undone s r u lsn d waiting)
   pub commits : (s : State) (r : Row) (cells : ℕ) (waiting : List ℕ) → IsSound s → MayCommit s r cells waiting
       → IsSound (committed s r cells waiting)
@@ -120,7 +121,7 @@ pub record AbortsAreSteps : Type 0 where
   pub all_made : (s : State) (r : Row) (u : Under) (aim : Aim) → IsSound s → s.failed ≡ false → IsReady s r u aim
       → Steps s (Call.Step r.txn u.number) Reply.Gave_ready s
   pub undoes : (s : State) (r : Row) (u : Under) (lsn : ℕ) (d : Deed) (waiting : List ℕ) → IsSound s
-      → s.failed ≡ false → IsReady s r u (Aim.Undoing lsn d)
+      → s.failed ≡ false → IsReady s r u (aims.Undoing lsn d)
       → ((g : ℕ) → waits waiting g ≡ waits s.waiting g + took g d)
       → Steps s (Call.Finish r.txn u.number) Reply.Gave_undone (undone s r u lsn d waiting)
   pub none_left : (s : State) (r : Row) → IsSound s → s.failed ≡ false → IsIdle s r → r.aborting ≡ true
@@ -152,7 +153,7 @@ pub record DeedsAreSteps : Type 0 where
       → Passes (size_of s.sizes) (ledger_of s) (Call.Start_receive r.txn)
       → Steps s (Call.Start_receive r.txn) Reply.Gave_none s
   pub finishes : (s : State) (r : Row) (u : Under) (d : Deed) (waiting : List ℕ) → IsSound s → s.failed ≡ false
-      → IsReady s r u (Aim.Doing d) → ((g : ℕ) → waits waiting g ≡ waits s.waiting g - took g d)
+      → IsReady s r u (aims.Doing d) → ((g : ℕ) → waits waiting g ≡ waits s.waiting g - took g d)
       → Steps s (Call.Finish r.txn u.number) (gave_done d) (finished s r u d waiting)
   pub commits : (s : State) (r : Row) (cells : ℕ) (waiting : List ℕ) → IsSound s → s.failed ≡ false
       → MayCommit s r cells waiting → log_full (ledger_of s) 1 ≡ false
@@ -161,12 +162,11 @@ pub record DeedsAreSteps : Type 0 where
 
 -- A store with one operation at most under way, a send or a receive, that is sound as one of these, is sound; and its
 -- ledger is the same.
-pub record OneUnderWayIsSound : Type 0 where
-  pub sound : (s : one.State) → one_sound.IsSound s → IsSound (aimed_store s)
-  pub ledger : (s : one.State) → ledger_of (aimed_store s) ≡ one.ledger_of s
+abbrev pub OneUnderWayIsSound : Type 0
+OneUnderWayIsSound = (s : State) → one_sound.IsSound s → IsSound s
 
 -- so a store that opens over a log in which everything has ended is sound
 abbrev pub OpenedIsSound : Type 0
 OpenedIsSound = (z : Sizes) (images : List (List ℕ)) (log : List Record) → IsInRange z → IsWhole z log
     → unfinished log ≡ [] → lost log ≡ [] → ((a : ℕ) → slots_in z images a ≡ (left_by z log).slots a)
-    → FitsLog z (image_in images) log → IsSound (aimed_store (opened z images log))
+    → FitsLog z (image_in images) log → IsSound (opened z images log)

@@ -12,9 +12,13 @@ use Rattle.rq_txn.specs.declared.Finished.{Finished}
 use Rattle.rq_groups.specs.Ends.{has_held}
 use Rattle.rq_groups.specs.Waiting.{waits}
 use Rattle.rq_store.specs.Worked.{AreFormatted}
-use Rattle.rq_sound.specs.Rows.{Aim, Under, Row, fresh_row, latched_by, row_aborting}
+use Rattle.rq_txn.specs.declared.Aim.{Aim}
+use Rattle.rq_txn.specs.Rows.{Under, Row, fresh_row, row_aborting}
+use Rattle.rq_store.specs.State.{State}
+use Rattle.rq_txn.specs.declared.Aim.TheVariants as aims
+use Rattle.rq_sound.specs.Rows.{latched_by}
 use Rattle.rq_sound.specs.Counted.{sends_in}
-use Rattle.rq_sound.specs.Sound.{State, IsSound}
+use Rattle.rq_sound.specs.Sound.{IsSound}
 use Rattle.rq_sound.specs.Starts.{MayDo, MayUndo}
 use Rattle.rq_sound.specs.Calls.{IsNextWrite, IsReady, IsIdle, MayCommit}
 use Rattle.rq_sound.specs.Steps.{Steps}
@@ -39,12 +43,12 @@ pub record NotSound : Type 0 where
       → r.under ≡ Some u → q.under ≡ Some v → latched_by u p ≡ true → latched_by v p ≡ true → IsSound s → ⊥
   pub one_end : (s : State) (t u : Txn) (g : ℕ) → t ≢ u → has_held t g s.ends.sending ≡ true
       → has_held u g s.ends.sending ≡ true → IsSound s → ⊥
-  pub does : (s : State) (r : Row) (u : Under) (d : Deed) → In r s.rows → r.under ≡ Some u → u.aim ≡ Aim.Doing d
+  pub does : (s : State) (r : Row) (u : Under) (d : Deed) → In r s.rows → r.under ≡ Some u → u.aim ≡ aims.Doing d
       → r.aborting ≡ true → IsSound s → ⊥
   pub undoes : (s : State) (r : Row) (u : Under) (lsn : ℕ) (d : Deed) → In r s.rows → r.under ≡ Some u
-      → u.aim ≡ Aim.Undoing lsn d → r.aborting ≡ false → IsSound s → ⊥
+      → u.aim ≡ aims.Undoing lsn d → r.aborting ≡ false → IsSound s → ⊥
   pub older : (s : State) (r : Row) (u : Under) (lsn : ℕ) (d : Deed) (rest : List Finished) (f : Finished)
-      → In r s.rows → r.under ≡ Some u → u.aim ≡ Aim.Undoing lsn d → r.finished ≡ rest ++ f ∷ [] → f.lsn ≢ lsn
+      → In r s.rows → r.under ≡ Some u → u.aim ≡ aims.Undoing lsn d → r.finished ≡ rest ++ f ∷ [] → f.lsn ≢ lsn
       → IsSound s → ⊥
   pub let_go : (s : State) (r : Row) (g : ℕ) → In r s.rows
       → any_use (uses_send g) (deeds (λ u. same_txn u r.txn) s.records) ≡ true
@@ -56,13 +60,13 @@ pub record NotSound : Type 0 where
 pub record AbortBesideASend : Type 0 where
   pub next : (v : Frames) → AreMade v → IsNextWrite (two_under v.start) (row_a 0) send_a cell_a v.cell_of_a
   pub not_next : (v : Frames) → IsNextWrite (two_under v.start) (row_a 0) send_a group_a v.cell_of_a → ⊥
-  pub ready : (v : Frames) → IsReady (wrote_group_a v) (row_a 2) (with_made 2 send_a) (Aim.Doing (sends 0))
-  pub not_ready : (v : Frames) → IsReady (wrote_cell_a v) (row_a 1) (with_made 1 send_a) (Aim.Doing (sends 0)) → ⊥
+  pub ready : (v : Frames) → IsReady (wrote_group_a v) (row_a 2) (with_made 2 send_a) (aims.Doing (sends 0))
+  pub not_ready : (v : Frames) → IsReady (wrote_cell_a v) (row_a 1) (with_made 1 send_a) (aims.Doing (sends 0)) → ⊥
   pub idle : (v : Frames) → IsIdle (done_a v) row_done
   pub not_idle : (v : Frames) → IsIdle (wrote_group_a v) (row_a 2) → ⊥
   pub may_undo : (v : Frames) → MayUndo (aborts_a v) (row_aborting row_done) undo_a [] sent
   pub not_aborting : (v : Frames) → MayUndo (done_a v) row_done undo_a [] sent → ⊥
-  pub undo_ready : (v : Frames) → IsReady (undid_group v) (row_undoing 2) (with_made 2 undo_a) (Aim.Undoing 5 (sends 0))
+  pub undo_ready : (v : Frames) → IsReady (undid_group v) (row_undoing 2) (with_made 2 undo_a) (aims.Undoing 5 (sends 0))
   pub may_commit : (v : Frames) (waiting : List ℕ)
       → ((g : ℕ) → g < 30 → waits waiting g ≡ waits (done_b v).waiting g + sends_in g row_sent)
       → MayCommit (done_b v) row_sent (done_b v).cells_in_use waiting

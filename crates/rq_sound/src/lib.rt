@@ -37,7 +37,7 @@ pub fn deeds_are_steps()
     ensures { DeedsAreSteps }
 {}
 
-/// A store that is sound with one operation under way at most is sound, with the same ledger.
+/// A store that is sound with one operation under way at most is sound.
 pub fn one_under_way_is_sound()
     ensures { OneUnderWayIsSound }
 {}

@@ -27,7 +27,7 @@ use Rattle.rq_views.specs.Legal.{MayFollow, began, under_way}
 use Rattle.rq_views.specs.Plans.{deed_sender}
 use Rattle.rq_views.specs.Items.{items, layout_of, operation, has_undone}
 use Rattle.rq_views.proofs.Strangers.{has_end_same}
-use Rattle.rq_txn.specs.Rows.{Row, Under, found_row, without_row, AreDistinct}
+use Rattle.rq_txn.specs.Rows.{Row, Under, found_row, without_row, AreDistinct, deed_of}
 use Rattle.rq_groups.specs.Ends.{HeldEnds}
 use Rattle.rq_groups.specs.Waiting.{waits}
 use Rattle.rq_store.proofs.Begun.{begun_more}
@@ -125,6 +125,7 @@ module _ (s : State) (k : IsSound s) (t : Txn) (r : Row) (cells : ℕ) (ws : Lis
 
   going_over : (q : Txn) (u : Under) → q ≢ t → FollowsPlan z log s.ends q u → FollowsPlan z (x ∷ log) ends q u
   going_over q u n g = record {
+    aim = g.aim;
     made = g.made;
     going = g.going;
     forward = g.forward;
@@ -133,7 +134,7 @@ module _ (s : State) (k : IsSound s) (t : Txn) (r : Row) (cells : ℕ) (ws : Lis
     owes = g.owes;
     plan = g.plan;
     told = g.told;
-    held = for_other t q s.ends u.deed n g.held;
+    held = for_other t q s.ends (deed_of u.aim) n g.held;
     moves = g.moves;
     sender = g.sender;
     reads = g.reads;
@@ -238,7 +239,7 @@ module _ (s : State) (k : IsSound s) (t : Txn) (r : Row) (cells : ℕ) (ws : Lis
 
   covered_now : (q : Row) (o : Option Under) → IsAsPlanned z log s.ends q o → IsCovered s.waiting o → IsCovered ws o
   covered_now q None g h = tt
-  covered_now q (Some u) g h = still_waiting u.deed g.0.sender h
+  covered_now q (Some u) g h = still_waiting (deed_of u.aim) g.0.sender h
 
   pub commit_sound : IsSound new
   commit_sound = record {

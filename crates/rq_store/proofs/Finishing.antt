@@ -39,11 +39,12 @@ use Rattle.rq_views.proofs.Strangers.{has_end_same}
 use Rattle.rq_views.proofs.Counting.{quiet_counts, turn_sums, lost, gained}
 use Rattle.rq_level.specs.Writes.{write_of, writes_of}
 use Rattle.rq_txn.specs.declared.Finished.{Finished}
-use Rattle.rq_txn.specs.Rows.{Row, Under, found_row, change_row, row_finished}
+use Rattle.rq_txn.specs.declared.Aim.TheVariants.{Doing}
+use Rattle.rq_txn.specs.Rows.{Row, Under, found_row, change_row, row_finished, deed_of}
 use Rattle.rq_groups.specs.Ends.{HeldEnds, has_held}
 use Rattle.rq_groups.specs.Waiting.{waits}
 use Rattle.rq_store.proofs.Begun.{begun_more}
-use Rattle.rq_store.specs.State.{State, ledger_of, open_of, open_ones_of, job_of, job_under, left_under, op_done, phase_of}
+use Rattle.rq_store.specs.State.{State, ledger_of, open_of, open_ones_of, job_of, job_of_aim, job_under, left_under, op_done, phase_of}
 use Rattle.rq_store.specs.Sound.{IsSound, IsSettled, apart, appending, takes_one, takes_in}
 use Rattle.rq_store.specs.Rows.{IsRow, FollowsPlan, HoldsFor, AllHeld, AllMove, Moves, HasWaiting, IsCovered, placed, placed_one, is_under}
 use Rattle.rq_store.specs.Whole.{IsWhole}
@@ -99,17 +100,17 @@ sent_more (x ∷ fs) f = elim (cases_Bool (is_sent (op_done x))) [
 ]
 
 -- the cell of a send that is finished is its chain's, and that of a take is nobody's
-apart_now : (q : Row) (f : Finished) (u : Under) → q.under ≡ Some u → f.deed ≡ u.deed → apart (row_finished f q) + appends_of u.deed ≡ apart q + takes_of u.deed
+apart_now : (q : Row) (f : Finished) (u : Under) → q.under ≡ Some u → f.deed ≡ (deed_of u.aim) → apart (row_finished f q) + appends_of (deed_of u.aim) ≡ apart q + takes_of (deed_of u.aim)
 apart_now q f u e d =
     let a : sum_by takes_one (q.finished ++ f ∷ []) ≡ sum_by takes_one q.finished + takes_one f = sum_by_push takes_one q.finished f in
-    let b : takes_one f ≡ takes_of u.deed = ap takes_of d in
-    let c : appending q.under ≡ appends_of u.deed = ap appending e in
+    let b : takes_one f ≡ takes_of (deed_of u.aim) = ap takes_of d in
+    let c : appending q.under ≡ appends_of (deed_of u.aim) = ap appending e in
     omega arith
 
-pending_now : (ends : HeldEnds) (q : Row) (f : Finished) (u : Under) → q.under ≡ Some u → f.deed ≡ u.deed → Moves u.deed → pending (open_of ends (row_finished f q)) ≡ pending (open_of ends q)
-pending_now ends q f u e d is =
+pending_now : (ends : HeldEnds) (q : Row) (f : Finished) (u : Under) → q.under ≡ Some u → f.deed ≡ (deed_of u.aim) → u.aim ≡ Doing (deed_of u.aim) → Moves (deed_of u.aim) → pending (open_of ends (row_finished f q)) ≡ pending (open_of ends q)
+pending_now ends q f u e d aim is =
     let a : length (filter is_sent (map op_done (q.finished ++ f ∷ []))) ≡ length (filter is_sent (map op_done q.finished)) + cond (is_sent (op_done f)) 1 0 = sent_more q.finished f in
-    let b : is_sent (op_done f) ≡ is_sending (job_under q.under) = ap (λ x. is_sent (op_of (said x))) d ∙ move_job u.deed is ∙ sym (ap (λ x. is_sending (job_under x)) e) in
+    let b : is_sent (op_done f) ≡ is_sending (job_under q.under) = ap (λ x. is_sent (op_of (said x))) d ∙ move_job (deed_of u.aim) is ∙ sym (ap (λ x. is_sending (job_under x)) e ∙ ap (λ a. is_sending (Some (job_of_aim a))) aim) in
     let one : Bool → ℕ = (λ y. cond y 1 0) in
     let c : one (is_sent (op_done f)) ≡ one (is_sending (job_under q.under)) = ap one b in
     ap (λ n. n + 0) a ∙ omega (arith, c)
@@ -158,7 +159,7 @@ over_ended true b = refl
 over_ended false b = refl
 
 module _ (s : State) (k : IsSound s) (t : Txn) (r : Row) (u : Under) (ws : List ℕ) (at_row : found_row t s.rows ≡ Some r) (under : r.under ≡ Some u) (made : u.made ≡ length u.writes)
-    (waited : (g : ℕ) → waits ws g ≡ waits s.waiting g - took g u.deed) where
+    (waited : (g : ℕ) → waits ws g ≡ waits s.waiting g - took g (deed_of u.aim)) where
   abbrev z : Sizes
   z = s.sizes
 
@@ -166,16 +167,16 @@ module _ (s : State) (k : IsSound s) (t : Txn) (r : Row) (u : Under) (ws : List 
   log = s.records
 
   abbrev x : Record
-  x = op_end t u.number u.deed
+  x = op_end t u.number (deed_of u.aim)
 
   abbrev o : Sub
   o = operation t u.number
 
   abbrev f : Finished
-  f = record { lsn = length log + 1; deed = u.deed }
+  f = record { lsn = length log + 1; deed = (deed_of u.aim) }
 
   abbrev said_deed : Deed
-  said_deed = told_deed (deed_in (spelled_deed u.deed))
+  said_deed = told_deed (deed_in (spelled_deed (deed_of u.aim)))
 
   place : In r s.rows × (r.txn ≡ t)
   place = found_in t s.rows r at_row
@@ -189,14 +190,14 @@ module _ (s : State) (k : IsSound s) (t : Txn) (r : Row) (u : Under) (ws : List 
   g : FollowsPlan z log s.ends t u
   g = going.0
 
-  deed_is : said_deed ≡ u.deed
+  deed_is : said_deed ≡ (deed_of u.aim)
   deed_is = ap told_deed g.reads
 
   -- its row holds the end, and where it takes a message one waits
-  held_here : HoldsFor s.ends r.txn u.deed
-  held_here = subst (λ (q : Txn). HoldsFor s.ends q u.deed) (sym place.1) g.held
+  held_here : HoldsFor s.ends r.txn (deed_of u.aim)
+  held_here = subst (λ (q : Txn). HoldsFor s.ends q (deed_of u.aim)) (sym place.1) g.held
 
-  waits_here : HasWaiting s.waiting u.deed
+  waits_here : HasWaiting s.waiting (deed_of u.aim)
   waits_here = subst (IsCovered s.waiting) under (k.covered r place.0)
 
   running : has_end log t ≡ false
@@ -216,14 +217,14 @@ module _ (s : State) (k : IsSound s) (t : Txn) (r : Row) (u : Under) (ws : List 
   tells : TellsView said_deed (view (items z log) (deed_sender said_deed))
   tells = subst (λ d. TellsView d (view (items z log) (deed_sender d))) (sym deed_is) g.told
 
-  ends : EndingMay log (Some (record { txn = t; said = said u.deed }))
-  ends e = subst (λ (q : Txn). MayEnd log e q (said u.deed)) place.1 (ends_of s k r place.0 u.deed g.moves held_here g.sender waits_here e)
+  ends : EndingMay log (Some (record { txn = t; said = said (deed_of u.aim) }))
+  ends e = subst (λ (q : Txn). MayEnd log e q (said (deed_of u.aim))) place.1 (ends_of s k r place.0 (deed_of u.aim) g.moves held_here g.sender waits_here e)
 
   room : claimed (items z log) + appends_of said_deed ≤ cell_count z
   room =
       let a = room_here s k r place.0 in
-      let b : appending r.under ≡ appends_of u.deed = ap appending under in
-      let c : appends_of said_deed ≡ appends_of u.deed = ap appends_of deed_is in
+      let b : appending r.under ≡ appends_of (deed_of u.aim) = ap appending under in
+      let c : appends_of said_deed ≡ appends_of (deed_of u.aim) = ap appends_of deed_is in
       omega (arith, a, b, c)
 
   log_whole : IsWhole z (x ∷ log)
@@ -231,7 +232,7 @@ module _ (s : State) (k : IsSound s) (t : Txn) (r : Row) (u : Under) (ws : List 
     legal = (may, k.log.legal);
     told = (tells, k.log.told);
     rules = (subst (EndingMay log) (sym (ap (λ (y : Option Deed). ending_by t (cond (nat_eq 1 1) y None)) g.reads)) ends, (λ v e. absurd (false≢true e)), k.log.rules);
-    reads = ((refl, (u.deed, g.reads), ap (has_undone log) (sym place.1) ∙ row.undid_nothing), k.log.reads);
+    reads = ((refl, ((deed_of u.aim), g.reads), ap (has_undone log) (sym place.1) ∙ row.undid_nothing), k.log.reads);
     in_store = (subst (λ d. deed_sender d < sender_count z) (sym deed_is) g.sender, k.log.in_store);
     befores = (tt, k.log.befores);
     order = ((subst (λ n. 1 ≤ n) (sym k.incarnation) k.some, (ap (λ (y : Txn). y.incarnation) (sym place.1) ∙ row.of_incarnation) ∙ sym k.incarnation), k.log.order);
@@ -296,7 +297,7 @@ module _ (s : State) (k : IsSound s) (t : Txn) (r : Row) (u : Under) (ws : List 
     running = row.running;
     undid_nothing = row.undid_nothing;
     done = placed_now;
-    held = held_more s.ends r.txn r.finished f row.held (subst (λ (q : Txn). HoldsFor s.ends q u.deed) (sym place.1) g.held);
+    held = held_more s.ends r.txn r.finished f row.held (subst (λ (q : Txn). HoldsFor s.ends q (deed_of u.aim)) (sym place.1) g.held);
     moves = move_more r.finished f row.moves g.moves;
     numbered = number_now;
     idle = λ n m. own_idle n;
@@ -338,13 +339,13 @@ module _ (s : State) (k : IsSound s) (t : Txn) (r : Row) (u : Under) (ws : List 
   at_open : found t (open_ones_of s.ends s.rows) ≡ Some (open_of s.ends r)
   at_open = found_open s.ends t s.rows ∙ ap (open_found s.ends) at_row
 
-  used_now : count_used z (left_by z (x ∷ log)).quiet + takes_of u.deed ≡ count_used z (left_by z log).quiet + appends_of u.deed
+  used_now : count_used z (left_by z (x ∷ log)).quiet + takes_of (deed_of u.aim) ≡ count_used z (left_by z log).quiet + appends_of (deed_of u.aim)
   used_now =
       let a = quiet_counts z (x ∷ log) log_whole.legal log_whole.in_store in
       let b = quiet_counts z log k.log.legal k.log.in_store in
-      let c : lost (Did_turn said_deed) ≡ takes_of u.deed = ap (λ d. lost (Did_turn d)) deed_is ∙ (lost_gained u.deed g.moves).0 in
-      let d : gained (Did_turn said_deed) ≡ appends_of u.deed = ap (λ d. gained (Did_turn d)) deed_is ∙ (lost_gained u.deed g.moves).1 in
-      let there : takes_of u.deed ≤ length (view (items z log) (deed_sender said_deed)).messages = subst (λ (y : Deed). takes_of u.deed ≤ length (view (items z log) (deed_sender y)).messages) (sym deed_is) (told_there u.deed (view (items z log) (deed_sender u.deed)) g.told) in
+      let c : lost (Did_turn said_deed) ≡ takes_of (deed_of u.aim) = ap (λ d. lost (Did_turn d)) deed_is ∙ (lost_gained (deed_of u.aim) g.moves).0 in
+      let d : gained (Did_turn said_deed) ≡ appends_of (deed_of u.aim) = ap (λ d. gained (Did_turn d)) deed_is ∙ (lost_gained (deed_of u.aim) g.moves).1 in
+      let there : takes_of (deed_of u.aim) ≤ length (view (items z log) (deed_sender said_deed)).messages = subst (λ (y : Deed). takes_of (deed_of u.aim) ≤ length (view (items z log) (deed_sender y)).messages) (sym deed_is) (told_there (deed_of u.aim) (view (items z log) (deed_sender (deed_of u.aim))) g.told) in
       let e = turn_sums (sender_count z) (Did_turn said_deed) (view (items z log)) log_whole.in_store.0 (omega (arith, c, there)) in
       omega (arith, a, b, c, d, e)
 
@@ -360,10 +361,10 @@ module _ (s : State) (k : IsSound s) (t : Txn) (r : Row) (u : Under) (ws : List 
   now_waiting : (p : ℕ) → p < sender_count z → waits ws p + sum_by (takes_in p) rows ≡ length (rest_in (committed_of log) p)
   now_waiting p m =
       let a = rows_one (takes_in p) t (row_finished f) s.rows r k.distinct at_row in
-      let b : takes_in p (row_finished f r) ≡ takes_in p r + took p u.deed = took_more p r.finished f in
+      let b : takes_in p (row_finished f r) ≡ takes_in p r + took p (deed_of u.aim) = took_more p r.finished f in
       let c = k.waiting p m in
       let d = waited p in
-      let e = enough p u.deed waits_here in
+      let e = enough p (deed_of u.aim) waits_here in
       omega (arith, a, b, c, d, e)
 
   pub finish_sound : IsSound new
@@ -382,7 +383,7 @@ module _ (s : State) (k : IsSound s) (t : Txn) (r : Row) (u : Under) (ws : List 
     one_going = λ p q i j a b. absurd (none_now p i a);
     sending = record { one = k.sending.one; living = λ q n h. found_still t q (row_finished f) s.rows keeps (k.sending.living q n h) };
     receiving = record { one = k.receiving.one; living = λ q n h. found_still t q (row_finished f) s.rows keeps (k.receiving.living q n h) };
-    cells = k.cells ∙ ap (λ n. count_rest (below (sender_count z)) (committed_of log) + n) (opens_as_rows pending s.ends s.rows ∙ sym (rows_sum (λ q. pending (open_of s.ends q)) t (row_finished f) s.rows (λ q i e. pending_now s.ends q f u (ap (λ (y : Row). y.under) (unique s.rows q r k.distinct i place.0 (e ∙ sym place.1)) ∙ under) refl g.moves)) ∙ sym (opens_as_rows pending s.ends rows));
+    cells = k.cells ∙ ap (λ n. count_rest (below (sender_count z)) (committed_of log) + n) (opens_as_rows pending s.ends s.rows ∙ sym (rows_sum (λ q. pending (open_of s.ends q)) t (row_finished f) s.rows (λ q i e. pending_now s.ends q f u (ap (λ (y : Row). y.under) (unique s.rows q r k.distinct i place.0 (e ∙ sym place.1)) ∙ under) refl g.aim g.moves)) ∙ sym (opens_as_rows pending s.ends rows));
     bound = k.bound;
     used = let a = used_now in let b = rows_one apart t (row_finished f) s.rows r k.distinct at_row in let c = apart_now r f u under refl in let d = k.used in omega (arith, a, b, c, d);
     forced = let f = k.forced in omega arith;
@@ -393,13 +394,13 @@ module _ (s : State) (k : IsSound s) (t : Txn) (r : Row) (u : Under) (ws : List 
     ];
   }
 
-  pub finish_steps : s.failed ≡ false → Steps s (Finish t u.number) (gave_done u.deed) new
+  pub finish_steps : s.failed ≡ false → Steps s (Finish t u.number) (gave_done (deed_of u.aim)) new
   finish_steps running = record {
     entry = Did t u.number (op_done f);
-    says = says_done t u.number u.deed g.moves;
+    says = says_done t u.number (deed_of u.aim) g.moves;
     legal = (
       (ap (λ b. not (runs (phase_of b))) running, (ap not (ap (has_under u.number) at_open ∙ and_from _ _ (ap (λ (y : Option Under). is_some (job_under y)) under) (eq-eqb r.number u.number going.1)), (ap steps_left at_open ∙ ap (nat_lt 0) none_left, tt))),
-      subst (λ (y : Option Open). OnFound y (λ (q : Open). IsDoneBy (ledger_of s) q q.under (op_done f))) (sym at_open) (subst (λ (y : Option Under). IsDoneBy (ledger_of s) (open_of s.ends r) (job_under y) (op_done f)) (sym under) (answers_done s k r place.0 u.deed g.moves held_here g.sender waits_here g.told)),
+      subst (λ (y : Option Open). OnFound y (λ (q : Open). IsDoneBy (ledger_of s) q q.under (op_done f))) (sym at_open) (subst (λ (y : Option Under). IsDoneBy (ledger_of s) (open_of s.ends r) (job_under y) (op_done f)) (sym under) (subst (λ a. IsDoneBy (ledger_of s) (open_of s.ends r) (Some (job_of_aim a)) (op_done f)) (sym g.aim) (answers_done s k r place.0 (deed_of u.aim) g.moves held_here g.sender waits_here g.told))),
     );
     after = after_is;
     sound = finish_sound;

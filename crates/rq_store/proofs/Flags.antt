@@ -23,7 +23,7 @@ use Rattle.rq_views.proofs.Overlay.{put_at, put_off}
 use Rattle.rq_views.proofs.Stands.{store_is_layout}
 use Rattle.rq_views.proofs.Views.{good, quiet_views}
 use Rattle.rq_level.specs.Writes.{writes_of}
-use Rattle.rq_txn.specs.Rows.{Row, Under, found_row}
+use Rattle.rq_txn.specs.Rows.{Row, Under, found_row, deed_of}
 use Rattle.rq_store.specs.State.{State}
 use Rattle.rq_store.specs.Sound.{IsSound}
 use Rattle.rq_store.specs.Rows.{Moves, is_under}
@@ -75,7 +75,7 @@ module _ (s : State) (k : IsSound s) where
       | inl y ↦
           let h = (going_at s k o.txn r v f u).0 in
           let whole = writes_of s.sizes v.writes in
-          let all : LeaveFlags (reverse whole) = plan_leaves (layout_of s.sizes) v.deed (reverse whole) h.moves h.plan in
+          let all : LeaveFlags (reverse whole) = plan_leaves (layout_of s.sizes) (deed_of v.aim) (reverse whole) h.moves h.plan in
           let split : reverse whole ≡ reverse (drop v.made whole) ++ reverse (take v.made whole) = ap reverse (sym (take-append-drop v.made whole)) ∙ reverse-append (take v.made whole) (drop v.made whole) in
           let part : LeaveFlags (reverse (take v.made whole)) = part_leaves (reverse (drop v.made whole)) (reverse (take v.made whole)) (subst LeaveFlags split all) in
           subst (λ (n : ℕ). LeaveFlags ((left_by s.sizes s.records).writes (operation o.txn n))) (eqb-true v.number o.number y) (subst LeaveFlags (sym h.written) part)

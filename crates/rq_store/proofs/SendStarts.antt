@@ -29,10 +29,12 @@ use Rattle.rq_views.specs.Items.{items, layout_of}
 use Rattle.rq_views.specs.Stored.{slots_in}
 use Rattle.rq_views.proofs.Tells.{append_tells}
 use Rattle.rq_level.specs.Writes.{write_of, writes_of}
-use Rattle.rq_txn.specs.Rows.{Row, Under, found_row, change_row, row_started, any_under}
+use Rattle.rq_txn.specs.declared.Aim.{Aim}
+use Rattle.rq_txn.specs.declared.Aim.TheVariants.{Doing}
+use Rattle.rq_txn.specs.Rows.{Row, Under, found_row, change_row, row_started, any_under, deed_of}
 use Rattle.rq_groups.specs.Ends.{HeldEnds, held_by, with_held, is_free_for}
 use Rattle.rq_groups.proofs.Holders.{held_with_same, held_with_other}
-use Rattle.rq_store.specs.State.{State, ledger_of, size_of, open_of, open_ones_of, job_of, left_under}
+use Rattle.rq_store.specs.State.{State, ledger_of, size_of, open_of, open_ones_of, left_under, job_of_aim}
 use Rattle.rq_store.specs.Sound.{IsSound}
 use Rattle.rq_store.specs.Rows.{HoldsFor, Moves, HasWaiting}
 use Rattle.rq_store.specs.Fitting.{left_by}
@@ -116,13 +118,14 @@ module _ (s : State) (k : IsSound s) (t : Txn) (r : Row) (u : Under) (e tag : �
     idle = idle;
     number = number;
     made = plan.made;
-    plan = subst (λ (d : Deed). IsPlan (layout_of z) (Did d) (reverse whole)) (sym plan.deed) appends;
+    aim = plan.aim ∙ ap (λ d. Doing d) (sym (ap deed_of plan.aim));
+    plan = subst (λ (d : Deed). IsPlan (layout_of z) (Did d) (reverse whole)) (sym (ap deed_of plan.aim)) appends;
     fits = fits;
-    told = subst (λ (d : Deed). TellsView d (view (items z log) (deed_sender d))) (sym plan.deed) told;
-    moves = subst Moves (sym plan.deed) tt;
-    sender = subst (λ (d : Deed). deed_sender d < sender_count z) (sym plan.deed) plan.below;
+    told = subst (λ (d : Deed). TellsView d (view (items z log) (deed_sender d))) (sym (ap deed_of plan.aim)) told;
+    moves = subst Moves (sym (ap deed_of plan.aim)) tt;
+    sender = subst (λ (d : Deed). deed_sender d < sender_count z) (sym (ap deed_of plan.aim)) plan.below;
     reads = plan.reads;
-    waits = subst (HasWaiting s.waiting) (sym plan.deed) tt;
+    waits = subst (HasWaiting s.waiting) (sym (ap deed_of plan.aim)) tt;
   }
 
   there : is_some (found_row t s.rows) ≡ true
@@ -130,14 +133,14 @@ module _ (s : State) (k : IsSound s) (t : Txn) (r : Row) (u : Under) (e tag : �
 
   has : HasEnds s t u ends
   has = record {
-    held = subst (λ (d : Deed). HoldsFor ends t d) (sym plan.deed) (held_now t e s.ends.sending);
+    held = subst (λ (d : Deed). HoldsFor ends t d) (sym (ap deed_of plan.aim)) (held_now t e s.ends.sending);
     kept = λ p d h. for_more t p e s.ends d h;
     sending = ends_taken t e s.rows s.ends.sending k.sending there free;
     receiving = k.receiving;
   }
 
-  counts : s.cells_in_use + 1 ≡ s.cells_in_use + appends_of u.deed
-  counts = ap (λ (d : Deed). s.cells_in_use + appends_of d) (sym plan.deed)
+  counts : s.cells_in_use + 1 ≡ s.cells_in_use + appends_of (deed_of u.aim)
+  counts = ap (λ (d : Deed). s.cells_in_use + appends_of d) (sym (ap deed_of plan.aim))
 
   abbrev rows : List Row
   rows = change_row t (row_started u) s.rows
@@ -162,7 +165,7 @@ module _ (s : State) (k : IsSound s) (t : Txn) (r : Row) (u : Under) (e tag : �
       let left = writes (ledger_of s) t (Sending message) in
       let held : held_by p.txn (with_held t e s.ends.sending) ≡ add_number e (held_by p.txn s.ends.sending) = ap (λ (x : Txn). held_by p.txn (with_held x e s.ends.sending)) (sym f) ∙ held_with_same p.txn e s.ends.sending in
       ap (λ (n : ℕ). record (open_of ends (row_started u p)) { number = n }) number
-      ∙ ap (λ (d : Deed). record (open_of ends (row_started u p)) { number = r.number + 1; under = Some (job_of d) }) plan.deed
+      ∙ ap (λ (a : Aim). record (open_of ends (row_started u p)) { number = r.number + 1; under = Some (job_of_aim a) }) plan.aim
       ∙ ap (λ (n : ℕ). record (open_of ends (row_started u p)) { number = r.number + 1; under = Some (Sending message); left = n }) left_is
       ∙ ap (λ (l : List ℕ). record (open_of s.ends p) { number = r.number + 1; under = Some (Sending message); left = left; sending = l }) held
 

@@ -30,11 +30,13 @@ use Rattle.rq_views.proofs.Views.{good}
 use Rattle.rq_views.proofs.Idle.{unbegun_writes, unbegun_over, unbegun_forward, unbegun_uncrossed, idle_stands}
 use Rattle.rq_level.specs.Writes.{writes_of}
 use Rattle.rq_txn.specs.declared.Finished.{Finished}
-use Rattle.rq_txn.specs.Rows.{Row, Under, found_row, change_row, row_started, any_under}
+use Rattle.rq_txn.specs.declared.Aim.{Aim}
+use Rattle.rq_txn.specs.declared.Aim.TheVariants.{Doing}
+use Rattle.rq_txn.specs.Rows.{Row, Under, found_row, change_row, row_started, any_under, deed_of}
 use Rattle.rq_groups.specs.declared.Held.{Held}
 use Rattle.rq_groups.specs.Ends.{HeldEnds, has_held, with_held, is_free_for}
 use Rattle.rq_groups.specs.Waiting.{waits}
-use Rattle.rq_store.specs.State.{State, ledger_of, open_of, open_ones_of, op_done, job_of, job_under}
+use Rattle.rq_store.specs.State.{State, ledger_of, open_of, open_ones_of, op_done, job_of, job_of_aim, job_under}
 use Rattle.rq_store.specs.Sound.{IsSound, AreEnds, apart, appending, takes_one, takes_in}
 use Rattle.rq_store.specs.Rows.{IsRow, FollowsPlan, HoldsFor, AllHeld, Moves, HasWaiting, IsCovered, is_under, unmade, everywhere}
 use Rattle.rq_store.specs.Fitting.{left_by}
@@ -99,19 +101,20 @@ counts_one (Close s) = refl
 pub record MayStart (s : State) (t : Txn) (r : Row) (u : Under) : Type 0 where
   pub at_row : found_row t s.rows ≡ Some r
   pub idle : any_under s.rows ≡ false
+  pub aim : u.aim ≡ Doing (deed_of u.aim)
   pub number : u.number ≡ r.number + 1
   pub made : u.made ≡ 0
-  pub plan : IsPlan (layout_of s.sizes) (Did u.deed) (reverse (writes_of s.sizes u.writes))
+  pub plan : IsPlan (layout_of s.sizes) (Did (deed_of u.aim)) (reverse (writes_of s.sizes u.writes))
   pub fits : HasBefores (reverse (writes_of s.sizes u.writes)) (left_by s.sizes s.records).slots
-  pub told : TellsView u.deed (view (items s.sizes s.records) (deed_sender u.deed))
-  pub moves : Moves u.deed
-  pub sender : deed_sender u.deed < sender_count s.sizes
-  pub reads : deed_in (spelled_deed u.deed) ≡ Some u.deed
-  pub waits : HasWaiting s.waiting u.deed
+  pub told : TellsView (deed_of u.aim) (view (items s.sizes s.records) (deed_sender (deed_of u.aim)))
+  pub moves : Moves (deed_of u.aim)
+  pub sender : deed_sender (deed_of u.aim) < sender_count s.sizes
+  pub reads : deed_in (spelled_deed (deed_of u.aim)) ≡ Some (deed_of u.aim)
+  pub waits : HasWaiting s.waiting (deed_of u.aim)
 
 -- what is so of the ends once it has taken its own
 pub record HasEnds (s : State) (t : Txn) (u : Under) (ends : HeldEnds) : Type 0 where
-  pub held : HoldsFor ends t u.deed
+  pub held : HoldsFor ends t (deed_of u.aim)
   pub kept : (q : Txn) (d : Deed) → HoldsFor s.ends q d → HoldsFor ends q d
   pub sending : AreEnds s.rows ends.sending
   pub receiving : AreEnds s.rows ends.receiving
@@ -120,7 +123,7 @@ all_kept : (q : Txn) (old new : HeldEnds) (fs : List Finished) → ((d : Deed) �
 all_kept q old new [] k h = tt
 all_kept q old new (f ∷ fs) k h = (k f.deed h.0, all_kept q old new fs k h.1)
 
-module _ (s : State) (k : IsSound s) (t : Txn) (r : Row) (u : Under) (ends : HeldEnds) (cells : ℕ) (m : MayStart s t r u) (h : HasEnds s t u ends) (counted : cells ≡ s.cells_in_use + appends_of u.deed) (bound : cells ≤ cell_count s.sizes) where
+module _ (s : State) (k : IsSound s) (t : Txn) (r : Row) (u : Under) (ends : HeldEnds) (cells : ℕ) (m : MayStart s t r u) (h : HasEnds s t u ends) (counted : cells ≡ s.cells_in_use + appends_of (deed_of u.aim)) (bound : cells ≤ cell_count s.sizes) where
   abbrev z : Sizes
   z = s.sizes
 
@@ -157,6 +160,7 @@ module _ (s : State) (k : IsSound s) (t : Txn) (r : Row) (u : Under) (ends : Hel
 
   going : FollowsPlan z log ends t u
   going = record {
+    aim = m.aim;
     made = (let n = m.made in omega (arith, n));
     going = unbegun_over (items z log) o not_begun;
     forward = unbegun_forward (items z log) o not_begun;
@@ -245,7 +249,7 @@ module _ (s : State) (k : IsSound s) (t : Txn) (r : Row) (u : Under) (ends : Hel
         let b = opens_as_rows pending s.ends s.rows in
         let c : sum_by pending (open_ones_of ends rows) ≡ sum_by (λ (p : Row). pending (open_of s.ends p)) rows = opens_as_rows pending ends rows in
         let d : pending (open_of s.ends r) ≡ length (filter is_sent (map op_done r.finished)) + 0 = ap (λ (y : Option Under). length (filter is_sent (map op_done r.finished)) + cond (is_sending (job_under y)) 1 0) (none_going r place.0) in
-        let f : pending (open_of s.ends (row_started u r)) ≡ length (filter is_sent (map op_done r.finished)) + appends_of u.deed = ap (λ (n : ℕ). length (filter is_sent (map op_done r.finished)) + n) (counts_one u.deed) in
+        let f : pending (open_of s.ends (row_started u r)) ≡ length (filter is_sent (map op_done r.finished)) + appends_of (deed_of u.aim) = ap (λ (a : Aim). length (filter is_sent (map op_done r.finished)) + cond (is_sending (Some (job_of_aim a))) 1 0) m.aim ∙ ap (λ (n : ℕ). length (filter is_sent (map op_done r.finished)) + n) (counts_one (deed_of u.aim)) in
         let e = k.cells in
         omega (arith, a, b, c, d, f, e, counted);
     bound = bound;

@@ -35,7 +35,7 @@ use Rattle.rq_views.proofs.Owes.{owes_next, owes_rest}
 use Rattle.rq_views.proofs.Strangers.{has_end_same}
 use Rattle.rq_level.specs.declared.writes.SlotWrite.{SlotWrite}
 use Rattle.rq_level.specs.Writes.{write_of, writes_of}
-use Rattle.rq_txn.specs.Rows.{Row, Under, found_row, change_row, row_stepped, under_stepped}
+use Rattle.rq_txn.specs.Rows.{Row, Under, found_row, change_row, row_stepped, under_stepped, deed_of}
 use Rattle.rq_groups.specs.Ends.{HeldEnds}
 use Rattle.rq_groups.specs.Waiting.{waits}
 use Rattle.rq_store.proofs.Begun.{begun_more}
@@ -171,9 +171,9 @@ module _ (s : State) (k : IsSound s) (t : Txn) (r : Row) (u : Under) (w : SlotWr
     going = g.going;
     forward = g.forward;
     begins = record {
-      turn = Did u.deed;
+      turn = Did (deed_of u.aim);
       owed = drop (u.made + 1) whole;
-      plan = subst (λ ws. IsPlan (layout_of z) (Did u.deed) ws) (sym (onto_whole whole (u.made + 1)) ∙ ap (onto (drop (u.made + 1) whole)) (made_is ∙ ap (λ l. wr ∷ l) (sym g.written))) g.plan;
+      plan = subst (λ ws. IsPlan (layout_of z) (Did (deed_of u.aim)) ws) (sym (onto_whole whole (u.made + 1)) ∙ ap (onto (drop (u.made + 1) whole)) (made_is ∙ ap (λ l. wr ∷ l) (sym g.written))) g.plan;
     };
     running = has_end_same z t log ∙ (ap (has_end log) (sym place.1) ∙ row.running);
   }
@@ -239,6 +239,7 @@ module _ (s : State) (k : IsSound s) (t : Txn) (r : Row) (u : Under) (w : SlotWr
 
   going_now : FollowsPlan z (x ∷ log) s.ends t stepped_under
   going_now = record {
+    aim = g.aim;
     made = omega (arith, more);
     going = g.going;
     forward = g.forward;

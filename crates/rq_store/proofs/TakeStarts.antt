@@ -27,11 +27,13 @@ use Rattle.rq_views.specs.Items.{items, layout_of}
 use Rattle.rq_views.specs.Stored.{slots_in}
 use Rattle.rq_views.proofs.Tells.{head_tells}
 use Rattle.rq_level.specs.Writes.{write_of, writes_of}
-use Rattle.rq_txn.specs.Rows.{Row, Under, found_row, change_row, row_started, any_under}
+use Rattle.rq_txn.specs.declared.Aim.{Aim}
+use Rattle.rq_txn.specs.declared.Aim.TheVariants.{Doing}
+use Rattle.rq_txn.specs.Rows.{Row, Under, found_row, change_row, row_started, any_under, deed_of}
 use Rattle.rq_groups.specs.Ends.{HeldEnds, has_held, held_by, with_held, is_free_for}
 use Rattle.rq_groups.specs.Waiting.{waits}
 use Rattle.rq_groups.proofs.Holders.{held_with_same, held_with_other}
-use Rattle.rq_store.specs.State.{State, ledger_of, size_of, open_of, open_ones_of, job_of, left_under}
+use Rattle.rq_store.specs.State.{State, ledger_of, size_of, open_of, open_ones_of, left_under, job_of_aim}
 use Rattle.rq_store.specs.Sound.{IsSound}
 use Rattle.rq_store.specs.Rows.{HoldsFor, Moves, HasWaiting}
 use Rattle.rq_store.specs.Fitting.{left_by}
@@ -118,13 +120,14 @@ module _ (s : State) (k : IsSound s) (t : Txn) (r : Row) (u : Under) (e : ℕ) (
     idle = idle;
     number = number;
     made = plan.made;
-    plan = subst (λ (d : Deed). IsPlan (layout_of z) (Did d) (reverse whole)) (sym plan.deed) unlinks;
+    aim = plan.aim ∙ ap (λ d. Doing d) (sym (ap deed_of plan.aim));
+    plan = subst (λ (d : Deed). IsPlan (layout_of z) (Did d) (reverse whole)) (sym (ap deed_of plan.aim)) unlinks;
     fits = fits;
-    told = subst (λ (d : Deed). TellsView d (view (items z log) (deed_sender d))) (sym plan.deed) told;
-    moves = subst Moves (sym plan.deed) tt;
-    sender = subst (λ (d : Deed). deed_sender d < sender_count z) (sym plan.deed) plan.below;
+    told = subst (λ (d : Deed). TellsView d (view (items z log) (deed_sender d))) (sym (ap deed_of plan.aim)) told;
+    moves = subst Moves (sym (ap deed_of plan.aim)) tt;
+    sender = subst (λ (d : Deed). deed_sender d < sender_count z) (sym (ap deed_of plan.aim)) plan.below;
     reads = plan.reads;
-    waits = subst (HasWaiting s.waiting) (sym plan.deed) wait;
+    waits = subst (HasWaiting s.waiting) (sym (ap deed_of plan.aim)) wait;
   }
 
   there : is_some (found_row t s.rows) ≡ true
@@ -132,14 +135,14 @@ module _ (s : State) (k : IsSound s) (t : Txn) (r : Row) (u : Under) (e : ℕ) (
 
   has : HasEnds s t u ends
   has = record {
-    held = subst (λ (d : Deed). HoldsFor ends t d) (sym plan.deed) (held_now t e s.ends.receiving);
+    held = subst (λ (d : Deed). HoldsFor ends t d) (sym (ap deed_of plan.aim)) (held_now t e s.ends.receiving);
     kept = λ p d h. for_more t p e s.ends d h;
     sending = k.sending;
     receiving = ends_taken t e s.rows s.ends.receiving k.receiving there free;
   }
 
-  counts : s.cells_in_use ≡ s.cells_in_use + appends_of u.deed
-  counts = (let a : appends_of u.deed ≡ 0 = ap appends_of plan.deed in omega (arith, a))
+  counts : s.cells_in_use ≡ s.cells_in_use + appends_of (deed_of u.aim)
+  counts = (let a : appends_of (deed_of u.aim) ≡ 0 = ap (λ a. appends_of (deed_of a)) plan.aim in omega (arith, a))
 
   left_is : left_under (Some u) ≡ writes (ledger_of s) t (Taking e)
   left_is =
@@ -156,7 +159,7 @@ module _ (s : State) (k : IsSound s) (t : Txn) (r : Row) (u : Under) (e : ℕ) (
       let left = writes (ledger_of s) t (Taking e) in
       let held : held_by p.txn (with_held t e s.ends.receiving) ≡ add_number e (held_by p.txn s.ends.receiving) = ap (λ (x : Txn). held_by p.txn (with_held x e s.ends.receiving)) (sym f) ∙ held_with_same p.txn e s.ends.receiving in
       ap (λ (n : ℕ). record (open_of ends (row_started u p)) { number = n }) number
-      ∙ ap (λ (d : Deed). record (open_of ends (row_started u p)) { number = r.number + 1; under = Some (job_of d) }) plan.deed
+      ∙ ap (λ (a : Aim). record (open_of ends (row_started u p)) { number = r.number + 1; under = Some (job_of_aim a) }) plan.aim
       ∙ ap (λ (n : ℕ). record (open_of ends (row_started u p)) { number = r.number + 1; under = Some (Taking e); left = n }) left_is
       ∙ ap (λ (l : List ℕ). record (open_of s.ends p) { number = r.number + 1; under = Some (Taking e); left = left; receiving = l }) held
 

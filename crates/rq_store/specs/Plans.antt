@@ -10,7 +10,8 @@ use Rattle.rq_views.specs.Log.{Slots}
 use Rattle.rq_views.specs.Plans.{append_writes, unlink_head_writes}
 use Rattle.rq_views.specs.Items.{layout_of}
 use Rattle.rq_level.specs.Writes.{writes_of}
-use Rattle.rq_txn.specs.Rows.{Under}
+use Rattle.rq_txn.specs.declared.Aim.TheVariants.{Doing}
+use Rattle.rq_txn.specs.Rows.{Under, deed_of}
 use Rattle.rq_model.specs.declared.txn.Txn.{Txn}
 use Rattle.rq_groups.specs.Ends.{is_free_for}
 use Rattle.rq_groups.specs.Waiting.{waits}
@@ -32,9 +33,9 @@ pub record IsSendPlan (z : Sizes) (q : Slots) (u : Under) (sender tag : ℕ) (bo
   pub cell : IsCellAddress z new
   pub free : q new ≡ Free
   pub beside : Stands_at q directory.tail old
-  pub deed : u.deed ≡ Append sender (directory.sent + 1) tag directory.last_tag body
+  pub aim : u.aim ≡ Doing (Append sender (directory.sent + 1) tag directory.last_tag body)
   pub writes : reverse (writes_of z u.writes) ≡ append_writes (layout_of z) sender directory new tag body old
-  pub reads : deed_in (spelled_deed u.deed) ≡ Some u.deed
+  pub reads : deed_in (spelled_deed (deed_of u.aim)) ≡ Some (deed_of u.aim)
 
 -- the operation takes the first message of a sender's chain, planned from these slots, and nothing of it is made
 pub record IsTakePlan (z : Sizes) (q : Slots) (u : Under) (sender : ℕ) : Type 0 where
@@ -47,9 +48,9 @@ pub record IsTakePlan (z : Sizes) (q : Slots) (u : Under) (sender : ℕ) : Type 
   pub head : IsCellAddress z directory.head
   pub head_is : q directory.head ≡ Used cell
   pub beside : Stands_at q cell.next next
-  pub deed : u.deed ≡ UnlinkHead sender (directory.received + 1) cell.tag cell.body
+  pub aim : u.aim ≡ Doing (UnlinkHead sender (directory.received + 1) cell.tag cell.body)
   pub writes : reverse (writes_of z u.writes) ≡ unlink_head_writes (layout_of z) sender directory cell next
-  pub reads : deed_in (spelled_deed u.deed) ≡ Some u.deed
+  pub reads : deed_in (spelled_deed (deed_of u.aim)) ≡ Some (deed_of u.aim)
 
 -- a message waits for t: its receiving end is free for t, and one waits
 abbrev pub WaitsFor : State → Txn → ℕ → Type 0

@@ -15,8 +15,9 @@ use Rattle.rq_views.specs.Plans.{IsPlan, deed_sender}
 use Rattle.rq_views.specs.Plans.Turn.{Did}
 use Rattle.rq_views.specs.Owed.{Owes}
 use Rattle.rq_level.specs.Writes.{writes_of}
+use Rattle.rq_txn.specs.declared.Aim.TheVariants.{Doing}
 use Rattle.rq_txn.specs.declared.Finished.{Finished}
-use Rattle.rq_txn.specs.Rows.{Row, Under}
+use Rattle.rq_txn.specs.Rows.{Row, Under, deed_of}
 use Rattle.rq_groups.specs.Ends.{HeldEnds, has_held}
 use Rattle.rq_groups.specs.Waiting.{waits}
 use Rattle.rq_store.specs.Fitting.{left_by}
@@ -56,7 +57,7 @@ HasWaiting ws (Close sender) = Unit {0}
 
 abbrev pub IsCovered : List ℕ → Option Under → Type 0
 IsCovered ws None = Unit {0}
-IsCovered ws (Some u) = HasWaiting ws u.deed
+IsCovered ws (Some u) = HasWaiting ws (deed_of u.aim)
 
 -- every page is latched by the one operation under way
 abbrev pub everywhere : ℕ → Bool
@@ -65,6 +66,7 @@ everywhere page = true
 -- What is so of the operation under way: its plan fits the slots as they were at its start, and what is made of it is a
 -- beginning of the plan.
 pub record FollowsPlan (z : Sizes) (log : List Record) (ends : HeldEnds) (t : Txn) (u : Under) : Type 0 where
+  pub aim : u.aim ≡ Doing (deed_of u.aim)
   pub made : u.made ≤ length u.writes
   pub going : over (operation t u.number) (items z log) ≡ false
   pub forward : turned_back (operation t u.number) (items z log) ≡ false
@@ -72,12 +74,12 @@ pub record FollowsPlan (z : Sizes) (log : List Record) (ends : HeldEnds) (t : Tx
   pub written : (left_by z log).writes (operation t u.number) ≡ reverse (take u.made (writes_of z u.writes))
   pub owes : Owes (layout_of z).page (left_by z log) (operation t u.number) everywhere
       (drop u.made (writes_of z u.writes))
-  pub plan : IsPlan (layout_of z) (Did u.deed) (reverse (writes_of z u.writes))
-  pub told : TellsView u.deed (view (items z log) (deed_sender u.deed))
-  pub held : HoldsFor ends t u.deed
-  pub moves : Moves u.deed
-  pub sender : deed_sender u.deed < sender_count z
-  pub reads : deed_in (spelled_deed u.deed) ≡ Some u.deed
+  pub plan : IsPlan (layout_of z) (Did (deed_of u.aim)) (reverse (writes_of z u.writes))
+  pub told : TellsView (deed_of u.aim) (view (items z log) (deed_sender (deed_of u.aim)))
+  pub held : HoldsFor ends t (deed_of u.aim)
+  pub moves : Moves (deed_of u.aim)
+  pub sender : deed_sender (deed_of u.aim) < sender_count z
+  pub reads : deed_in (spelled_deed (deed_of u.aim)) ≡ Some (deed_of u.aim)
 
 abbrev pub IsAsPlanned : Sizes → List Record → HeldEnds → Row → Option Under → Type 0
 IsAsPlanned z log ends r None = Unit {0}

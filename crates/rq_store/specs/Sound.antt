@@ -17,7 +17,7 @@ use Rattle.rq_views.specs.Legal.{open_deeds, under_way}
 use Rattle.rq_views.specs.InStore.{IsStranger}
 use Rattle.rq_views.specs.Stored.{slots_in, count_used}
 use Rattle.rq_txn.specs.declared.Finished.{Finished}
-use Rattle.rq_txn.specs.Rows.{Row, Under, found_row, AreDistinct}
+use Rattle.rq_txn.specs.Rows.{Row, Under, found_row, AreDistinct, deed_of}
 use Rattle.rq_groups.specs.declared.Held.{Held}
 use Rattle.rq_groups.specs.Ends.{has_held}
 use Rattle.rq_groups.specs.Waiting.{waits}
@@ -43,7 +43,7 @@ takes_one f = takes_of f.deed
 
 abbrev pub appending : Option Under → ℕ
 appending None = 0
-appending (Some u) = appends_of u.deed
+appending (Some u) = appends_of (deed_of u.aim)
 
 -- the cells of its messages that no chain holds: those that it took, and that of a send under way
 abbrev pub apart : Row → ℕ

@@ -14,6 +14,8 @@ use Rattle.rq_model.specs.Content.{said}
 use Rattle.rq_model.specs.Commits.{op_of, committed_of}
 use Rattle.rq_page.specs.Sizes.{Sizes, sender_count, cell_count}
 use Rattle.rq_txn.specs.declared.Finished.{Finished}
+use Rattle.rq_txn.specs.declared.Aim.{Aim}
+use Rattle.rq_txn.specs.declared.Aim.TheVariants.{Doing, Undoing}
 use Rattle.rq_txn.specs.Rows.{Row, Under}
 use Rattle.rq_groups.specs.Ends.{HeldEnds, held_by}
 
@@ -45,9 +47,13 @@ job_of (Append sender sequence tag previous body) = Sending (record { sender = s
 job_of (UnlinkHead sender sequence tag body) = Taking sender
 job_of (Close sender) = Ending sender
 
+abbrev pub job_of_aim : Aim → Job
+job_of_aim (Doing d) = job_of d
+job_of_aim (Undoing lsn d) = Job.Undoing
+
 abbrev pub job_under : Option Under → Option Job
 job_under None = None
-job_under (Some u) = Some (job_of u.deed)
+job_under (Some u) = Some (job_of_aim u.aim)
 
 -- how many writes are not made
 abbrev pub left_under : Option Under → ℕ

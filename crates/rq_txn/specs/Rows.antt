@@ -1,22 +1,30 @@
 -- The transactions that have not ended, the newest first.
-use Rattle.std.specs.Prelude.{◌≡◌, ℕ, ◌+◌, ◌<◌, Bool, false, cond, not, ◌||◌, List, [], ◌∷◌, ◌++◌, Option, Some, None, map, length, slice_index_or}
+use Rattle.std.specs.Prelude.{◌≡◌, ℕ, ◌+◌, ◌<◌, Bool, true, false, cond, not, ◌||◌, List, [], ◌∷◌, ◌++◌, Option, Some, None, map, length, slice_index_or}
 use Rattle.std.specs.List.{filter}
 use Rattle.rq_model.specs.declared.txn.Txn.{Txn}
 use Rattle.rq_model.specs.declared.record.Deed.{Deed}
 use Rattle.rq_model.specs.Words.{same_txn, is_some}
 use Rattle.rq_level.specs.declared.writes.SlotWrite.{SlotWrite}
+use Rattle.rq_txn.specs.declared.Aim.{Aim}
+use Rattle.rq_txn.specs.declared.Aim.TheVariants.{Doing, Undoing}
 use Rattle.rq_txn.specs.declared.Finished.{Finished}
 use Rattle.rq_txn.specs.declared.Operation.{Operation}
 use Rattle.rq_txn.specs.declared.Transaction.{Transaction}
+
+-- what an operation is there to do or to take back
+abbrev pub deed_of : Aim → Deed
+deed_of (Doing d) = d
+deed_of (Undoing lsn d) = d
 
 -- an operation under way: its slot writes in order, and how many of them are made
 pub record Under : Type 0 where
   pub number : ℕ
   pub writes : List SlotWrite
   pub made : ℕ
-  pub deed : Deed
+  pub aim : Aim
 
--- a transaction that has not ended, with what it has finished, in order
+-- A transaction that has not ended, with what it has finished and not undone, in order. What it is undoing is not yet
+-- undone.
 pub record Row : Type 0 where
   pub txn : Txn
   pub aborting : Bool
@@ -25,7 +33,7 @@ pub record Row : Type 0 where
   pub under : Option Under
 
 abbrev pub under_of : Operation → Under
-under_of o = record { number = o.number; writes = o.writes.items; made = o.made; deed = o.deed }
+under_of o = record { number = o.number; writes = o.writes.items; made = o.made; aim = o.aim }
 
 abbrev pub under_way_of : Option Operation → Option Under
 under_way_of None = None
@@ -75,9 +83,16 @@ under_stepped (Some u) = Some (record u { made = u.made + 1 })
 abbrev pub row_stepped : Row → Row
 row_stepped r = record r { under = under_stepped r.under }
 
--- it is finished
+-- its deed is done
 abbrev pub row_finished : Finished → Row → Row
 row_finished f r = record r { finished = r.finished ++ f ∷ []; under = None }
+
+-- its inverse is done, and this is left
+abbrev pub row_undone : List Finished → Row → Row
+row_undone fs r = record r { finished = fs; under = None }
+
+abbrev pub row_aborting : Row → Row
+row_aborting r = record r { aborting = true }
 
 -- some operation is under way
 abbrev pub any_under : List Row → Bool

@@ -22,6 +22,15 @@ pub struct Finished {
     pub deed: Deed,
 }
 
+/// What an operation under way is for.
+#[derive(Clone, Copy)]
+pub enum Aim {
+    /// A deed.
+    Doing(Deed),
+    /// To take back what the finished operation did whose OpEnd has this LSN.
+    Undoing { lsn: Lsn, deed: Deed },
+}
+
 /// An operation under way.
 #[derive(Drop)]
 pub struct Operation {
@@ -31,8 +40,8 @@ pub struct Operation {
     pub writes: Vec<SlotWrite>,
     /// How many of them are made.
     pub made: usize,
-    /// What its end will say was done.
-    pub deed: Deed,
+    /// What it is for.
+    pub aim: Aim,
     ghost numbered: { 1 ≤ number },
 }
 

@@ -8,6 +8,7 @@ use Rattle.rq_store.specs.State.{State}
 use Rattle.rq_store.specs.Plans.{Stands_at}
 use Rattle.rq_views.specs.Plans.{unlink_head_writes}
 use Rattle.rq_views.specs.Items.{layout_of}
+use Rattle.rq_txn.specs.declared.Aim.TheVariants.{Doing}
 use Rattle.rq_record.specs.Deeds.{IsDeedInRange}
 use Rattle.rq_level.specs.Writes.{writes_of}
 use Rattle.rq_chain.specs.Neighbours.{cell_beside}
@@ -52,7 +53,7 @@ returns-clause-plan g c number = record {
   head = c.in-Some.ensures.place.address;
   head_is = c.in-Some.ensures.stands;
   beside = subst (λ (a : ℕ). Stands_at (slots_in c.args.self.now.state.sizes c.args.self.now.state.images) a (cell_beside c.in-Some-neighbour.next)) c.following.ensures c.in-Some-neighbour.ensures.stands;
-  deed = c.in_ok-plan.ensures.deed;
+  aim = ap (λ d. Doing d) c.in_ok-plan.ensures.deed;
   writes = subst (λ (z : Sizes). reverse (writes_of z c.in_ok-plan.plan.writes.items) ≡ unlink_head_writes (layout_of z) c.args.sender c.group-directory.result c.in-Some.head.cell (cell_beside c.in-Some-neighbour.next)) (c.layout-layout.ensures.sizes ∙ ap (λ (s : State). s.sizes) (state_is c.self.view_is)) c.in_ok-plan.ensures.writes;
   reads = c.room_of-room.ensures.reads (subst IsDeedInRange (sym c.in_ok-plan.ensures.deed) (omega arith));
 }
