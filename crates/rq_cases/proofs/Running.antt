@@ -76,7 +76,7 @@ send_plan = record {
   cell = record { above = omega arith; below = omega arith; slot = omega arith };
   free = begin.sound.pages 33;
   beside = refl;
-  deed = refl;
+  aim = refl;
   writes = λ i. record { at = 17; before = new_told.0 i; after = sent_told.0 i }
       ∷ record { at = 33; before = free_told.0 i; after = cell_told.0 i } ∷ [];
   reads = refl;
@@ -150,7 +150,7 @@ take_plan = record {
   head = record { above = omega arith; below = omega arith; slot = omega arith };
   head_is = begin_again.sound.pages 33 ∙ cell_told.0;
   beside = refl;
-  deed = refl;
+  aim = refl;
   writes = λ i. record { at = 17; before = sent_told.0 i; after = taken_told.0 i }
       ∷ record { at = 33; before = cell_told.0 i; after = free_told.0 i } ∷ [];
   reads = refl;

@@ -6,7 +6,7 @@ use Rattle.rq_model.specs.declared.txn.Sub.{Sub}
 use Rattle.rq_model.specs.declared.txn.Txn.{Txn}
 use Rattle.rq_views.specs.WorkedItems.{t1, sends}
 use Rattle.rq_groups.specs.Ends.{HeldEnds}
-use Rattle.rq_txn.specs.Rows.{Row, Under, found_row, row_started}
+use Rattle.rq_txn.specs.Rows.{Row, Under, deed_of, found_row, row_started}
 use Rattle.rq_store.specs.State.{State}
 use Rattle.rq_engine.specs.Answers.{HasNothingUnderWay}
 use Rattle.rq_engine.specs.Lists.{IsSendStarted}
@@ -24,9 +24,9 @@ abbrev number_first : List Row → ℕ
 number_first [] = 0
 number_first (r ∷ rows) = r.number
 
-abbrev deed_of : Option Under → Deed
-deed_of None = Close 0
-deed_of (Some u) = u.deed
+abbrev deed_under : Option Under → Deed
+deed_under None = Close 0
+deed_under (Some u) = deed_of u.aim
 
 -- the first byte of the message that it sends, and for whom
 abbrev byte_of : Deed → ℕ
@@ -44,7 +44,7 @@ started body e = subst (λ (b : List ℕ). IsSendStarted begun t1 0 7 b send_sub
 -- the deed of what is under way is that of the plan
 deed_is : (sender : ℕ) (bytes : List ℕ) (h : IsSendStarted begun t1 sender 7 bytes send_sub send_started)
     → sends 0 ≡ Append sender (h.1.plan.directory.sent + 1) 7 h.1.plan.directory.last_tag bytes
-deed_is sender bytes h = ap (λ (s : State). deed_of (under_first s.rows)) h.1.lists ∙ h.1.plan.deed
+deed_is sender bytes h = ap (λ (s : State). deed_under (under_first s.rows)) h.1.lists ∙ ap deed_of h.1.plan.aim
 
 another_body : StartsNot begun t1 0 (105 ∷ []) send_sub send_started
 another_body body e h =

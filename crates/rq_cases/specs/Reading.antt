@@ -10,6 +10,7 @@ use Rattle.rq_page.specs.Formatted.{formatted_slot}
 use Rattle.rq_views.specs.WorkedItems.{cell, sends, t1}
 use Rattle.rq_level.specs.declared.writes.SlotWrite.{SlotWrite}
 use Rattle.rq_pool.specs.Reading.{ArePages, IsDamaged, OnlyRead}
+use Rattle.rq_txn.specs.declared.Aim.TheVariants.{Doing}
 use Rattle.rq_store.specs.Fitting.{image_in}
 use Rattle.rq_store.specs.State.{State}
 use Rattle.rq_engine.specs.Applied.{StartSays}
@@ -59,7 +60,7 @@ fill_next = record { at = 34; before = free_bytes; after = cell_bytes (cell 0); 
 
 abbrev pub next_taken : State
 next_taken = record send_started {
-  rows = busy_row t1 (record { number = 1; writes = fill_next ∷ []; made = 0; deed = sends 0 }) ∷ [];
+  rows = busy_row t1 (record { number = 1; writes = fill_next ∷ []; made = 0; aim = Doing (sends 0) }) ∷ [];
 }
 
 -- a send was started, and the store is this

@@ -7,6 +7,7 @@ use Rattle.rq_model.specs.declared.txn.Sub.{Sub}
 use Rattle.rq_model.specs.declared.txn.Txn.{Txn}
 use Rattle.rq_views.specs.WorkedItems.{of, sends, t1, t2, takes}
 use Rattle.rq_txn.specs.declared.Finished.{Finished}
+use Rattle.rq_txn.specs.declared.Aim.TheVariants.{Doing}
 use Rattle.rq_txn.specs.Rows.{Row, Under, fresh_row}
 use Rattle.rq_groups.specs.declared.Held.{Held}
 use Rattle.rq_groups.specs.Ends.{HeldEnds}
@@ -16,10 +17,10 @@ use Rattle.rq_cases.specs.Store.{sizes, fill_cell, count_sent, free_cell, count_
 
 -- the send and the receive, once so many of their writes are made
 abbrev pub send_under : ℕ → Under
-send_under made = record { number = 1; writes = fill_cell ∷ count_sent ∷ []; made = made; deed = sends 0 }
+send_under made = record { number = 1; writes = fill_cell ∷ count_sent ∷ []; made = made; aim = Doing (sends 0) }
 
 abbrev pub take_under : ℕ → Under
-take_under made = record { number = 1; writes = free_cell ∷ count_taken ∷ []; made = made; deed = takes 0 }
+take_under made = record { number = 1; writes = free_cell ∷ count_taken ∷ []; made = made; aim = Doing (takes 0) }
 
 abbrev pub send_sub : Sub
 send_sub = of t1 1

@@ -9,6 +9,7 @@ use Rattle.rq_disk.specs.declared.device.PageDevice as page_device
 use Rattle.rq_log.proofs.past.Past.TheLaws.TheKnot as past
 use Rattle.rq_engine.specs.contracts.engine.Engine as Engine
 use Rattle.rq_shared.proofs.count.Count.TheLaws.TheKnot as count
+use Rattle.rq_txn.proofs.Transactions.TheSendSync as transactions
 use Rattle.rq_shared.proofs.kept.AuditEntry.TheSendSync as entry
 use Rattle.rq_shared.specs.contracts.kept.Kept as Kept
 use Rattle.rq_shared.specs.contracts.room.Room as Room
@@ -16,7 +17,7 @@ use Rattle.rq_shared.specs.contracts.shared.Front as Front
 
 module _ (P L : RattleType) (p : page_device.Ghosts P.Denot) (l : log_device.Ghosts L.Denot) (s : IsSend P) (t : IsSend L) where
   engine_send : IsSend (Engine.the_row P L p l)
-  engine_send = search (crosses, past.crosses, sendable) depth 60 fits 20000
+  engine_send = search (transactions.the_send, crosses, past.crosses, sendable) depth 60 fits 20000
 
   kept_send : IsSend (Kept.the_row P L p l)
   kept_send = search (engine_send, entry.the_send, crosses, count.crosses, sendable) depth 60 fits 20000
