@@ -8,7 +8,7 @@ use Rattle.rq_model.specs.Replay.Reply.{Gave_sent, Gave_message}
 use Rattle.rq_views.specs.WorkedItems.{t2, takes}
 use Rattle.rq_groups.specs.Ends.{HeldEnds}
 use Rattle.rq_groups.specs.Waiting.{waits}
-use Rattle.rq_txn.specs.Rows.{found_row, row_started}
+use Rattle.rq_txn.specs.Rows.{deed_of, found_row, row_started}
 use Rattle.rq_store.specs.State.{State}
 use Rattle.rq_store.specs.Steps.{gave_done}
 use Rattle.rq_engine.specs.Lists.{IsTakeStarted}
@@ -76,12 +76,12 @@ receives = record {
   first_write = (refl, free_cell, (refl, refl), is_freed);
   second_write = (refl, count_taken, (refl, refl), is_taken);
   finished = record { deed = takes 0; going = (refl, (omega arith, refl)); outcome = refl; lists = refl };
-  another_message = λ new m other h. other (ap message_of (h.outcome ∙ ap gave_done (sym h.going.1.1)));
+  another_message = λ new m other h. other (ap message_of (h.outcome ∙ ap gave_done (ap deed_of (sym h.going.1.1))));
   told_as_sent = λ new h.
-      (let f : 1 ≡ 0 = ap is_sent (h.outcome ∙ ap gave_done (sym h.going.1.1)) in omega (arith, f));
+      (let f : 1 ≡ 0 = ap is_sent (h.outcome ∙ ap gave_done (ap deed_of (sym h.going.1.1))) in omega (arith, f));
   waits_still = λ new m same h.
       (let f : 1 ≡ 0 = ap first_number (sym same ∙ ap (λ (x : State). x.waiting) h.lists
-      ∙ ap (λ (d : Deed). without_taken d (waits_of_0 1)) (sym h.going.1.1)) in
+      ∙ ap (λ (d : Deed). without_taken d (waits_of_0 1)) (ap deed_of (sym h.going.1.1))) in
       omega (arith, f));
   committed = λ number of at. record { txn = of; lsn = at; ready = (2, (refl, refl)); lists = refl };
   cell_not_freed = λ new number same h.

@@ -7,7 +7,7 @@ use Rattle.rq_model.specs.Replay.Reply.{Gave_sent}
 use Rattle.rq_views.specs.WorkedItems.{sends}
 use Rattle.rq_level.specs.declared.writes.SlotWrite.{SlotWrite}
 use Rattle.rq_groups.specs.Ends.{HeldEnds}
-use Rattle.rq_txn.specs.Rows.{Row, Under, found_row, row_stepped, row_finished}
+use Rattle.rq_txn.specs.Rows.{Row, Under, deed_of, found_row, row_stepped, row_finished}
 use Rattle.rq_store.specs.Fitting.{image_in}
 use Rattle.rq_store.specs.State.{State}
 use Rattle.rq_store.specs.Steps.{gave_done}
@@ -80,13 +80,13 @@ finishes = record {
   finished = record { deed = sends 0; going = (refl, (omega arith, refl)); outcome = refl; lists = refl };
   too_early = λ new o h. (let f : 2 ≤ 1 = h.going.1.0 in omega (arith, f));
   another_outcome = λ new h.
-      (let f : 0 ≡ 1 = ap is_sent (h.outcome ∙ ap gave_done (sym h.going.1.1)) in omega (arith, f));
+      (let f : 0 ≡ 1 = ap is_sent (h.outcome ∙ ap gave_done (ap deed_of (sym h.going.1.1))) in omega (arith, f));
   still_under_way = λ new o same h.
       (let f = ap done_first (sym same ∙ ap (λ (x : State). x.rows) h.lists) in omega (arith, f));
   no_record = λ s new sub o same h.
       (let f = ap count_of (sym same ∙ ap (λ (x : State). x.records) h.lists) in omega (arith, f));
   waits_before_its_commit = λ new o other h.
-      other (ap (λ (x : State). x.waiting) h.lists ∙ ap (λ (d : Deed). without_taken d (waits_of_0 0)) (sym h.going.1.1));
+      other (ap (λ (x : State). x.waiting) h.lists ∙ ap (λ (d : Deed). without_taken d (waits_of_0 0)) (ap deed_of (sym h.going.1.1)));
   end_dropped = λ s new sub o other h. other (ap (λ (x : State). x.ends) h.lists);
   another_row_changed = λ s new q sub o off other h.
       other (ap (λ (x : State). found_row q x.rows) h.lists
