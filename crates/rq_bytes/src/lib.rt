@@ -123,7 +123,8 @@ impl Fields {
         out[at..at + bytes.len()].copy_from_slice(bytes);
     }
 
-    /// A number that is written is read back, and each other number reads as before.
+    /// A number that is written is read back, each number wholly before or behind it reads as before, and the length
+    /// stays.
     pub fn written_is_read()
         ensures reads_back { WrittenIsRead }
         ensures others { OthersReadAsBefore }

@@ -50,7 +50,8 @@ fn print_formatted<W: Write>(writer: &mut W, layout: &Layout) -> io::Result<()> 
 ///
 /// # Errors
 /// `Exists` where either name is taken; `Open` where a file or its lock, or the folder, cannot be had; `Refused` with
-/// `DiskWrite` where one fails. Unless both files could be made none is there then; after that what was made is left.
+/// `NoMemory` where a path cannot be made, and with `DiskWrite` where a file or the folder fails. Unless both files
+/// could be made none is left (but the pages, where removing them fails); after that what was made is left.
 pub fn format_folder<R: Files<File = File> + AllocGlobal>(
     rt: &R,
     folder: &str,

@@ -44,8 +44,9 @@ pub fn replay_goes_on()
     ensures { (size : Size) → ReplayGoesOn size }
 {}
 
-/// A crash that leaves the first records of the log, with all that are forced, is the next entry of a legal history,
-/// and the commits and the content of what is left are those of the history.
+/// A crash that leaves the first records of the log, with all that are forced and the one that began the incarnation,
+/// is the next entry of a legal history where these keep the rules, and the commits and the content of what is left are
+/// those of the history.
 pub fn crash_goes_on()
     ensures { (size : Size) → CrashGoesOn size }
 {}
