@@ -25,13 +25,17 @@ use Rattle.rq_views.proofs.Views.{good, quiet_views}
 use Rattle.rq_level.specs.Writes.{writes_of}
 use Rattle.rq_groups.specs.Ends.{is_free_for}
 use Rattle.rq_store.specs.Fitting.{left_by}
-use Rattle.rq_store.specs.Rows.{HoldsFor}
+use Rattle.rq_store.specs.Rows.{HoldsFor, is_under}
 use Rattle.rq_store.proofs.Starting.{free_alone}
-use Rattle.rq_sound.specs.Rows.{Aim, Under, Row, turn_of, deed_of, found_row, is_under}
+use Rattle.rq_txn.specs.declared.Aim.{Aim}
+use Rattle.rq_txn.specs.Rows.{Under, Row, deed_of, found_row}
+use Rattle.rq_store.specs.State.{State}
+use Rattle.rq_store.proofs.RowLists.{found_in, unique}
+use Rattle.rq_txn.specs.declared.Aim.TheVariants as aims
+use Rattle.rq_sound.specs.Rows.{turn_of}
 use Rattle.rq_sound.specs.Standing.{FollowsPlan, IsAsPlanned}
-use Rattle.rq_sound.specs.Sound.{State, IsSound}
+use Rattle.rq_sound.specs.Sound.{IsSound}
 use Rattle.rq_sound.specs.Calls.{IsIdle}
-use Rattle.rq_sound.proofs.RowLists.{found_in, unique}
 
 -- the flag of a directory slot
 abbrev flag_of : Slot → Bool
@@ -69,8 +73,8 @@ undo_leaves l g at (UnlinkHead s n tag body) ws h p = subst (LeaveFlag (director
 undo_leaves l g at (Close s) ws h p = subst (LeaveFlag (directory_at g)) (sym p.writes) (λ e. absurd (other_slot s g h (sym (at s) ∙ e)), tt)
 
 plan_leaves : (l : Places) (g : ℕ) (at : (s : ℕ) → l.directory_at s ≡ directory_at s) (a : Aim) (ws : List Write) → SparesFlag g (deed_of a) → IsPlan l (turn_of a) ws → LeaveFlag (directory_at g) ws
-plan_leaves l g at (Aim.Doing d) ws h p = do_leaves l g at d ws h p
-plan_leaves l g at (Aim.Undoing lsn d) ws h p = undo_leaves l g at d ws h p
+plan_leaves l g at (aims.Doing d) ws h p = do_leaves l g at d ws h p
+plan_leaves l g at (aims.Undoing lsn d) ws h p = undo_leaves l g at d ws h p
 
 part_leaves : (a : ℕ) (xs ys : List Write) → LeaveFlag a (xs ++ ys) → LeaveFlag a ys
 part_leaves a [] ys h = h

@@ -31,18 +31,19 @@ use Rattle.rq_groups.specs.Ends.{is_free_for}
 use Rattle.rq_groups.specs.Waiting.{waits}
 use Rattle.rq_store.specs.Plans.{Stands_at}
 use Rattle.rq_store.specs.Rows.{placed}
-use Rattle.rq_store.specs.State.{size_of, op_done}
+use Rattle.rq_store.specs.State.{size_of, op_done, State, ledger_of, open_of, job_under}
 use Rattle.rq_store.proofs.Grouping.{groups_of}
 use Rattle.rq_store.proofs.SendPlans.{is_append, append_fits}
 use Rattle.rq_store.proofs.TakePlans.{is_unlink_head, unlink_head_fits}
-use Rattle.rq_sound.specs.Rows.{Under, Row, found_row, latched_in}
-use Rattle.rq_sound.specs.Sound.{State, IsSound, ledger_of, open_of, job_under}
+use Rattle.rq_txn.specs.Rows.{Under, Row, found_row}
+use Rattle.rq_store.proofs.RowLists.{found_in}
+use Rattle.rq_sound.specs.Rows.{latched_in}
+use Rattle.rq_sound.specs.Sound.{IsSound}
 use Rattle.rq_sound.specs.Calls.{IsIdle}
 use Rattle.rq_sound.specs.Waits.{WaitsFor, NoneWaits}
 use Rattle.rq_sound.specs.Groups.{StandsAt, slots_now}
 use Rattle.rq_sound.specs.Plans.{AreOff}
 use Rattle.rq_sound.specs.Latching.{AllFreeLatched, Begins, IsLatched, LatchedIsExact, MayBePlanned, NeedsLatched, any_latched, at_head, at_tail, before_tail, behind_head, completed, head_in, named, next_in, prev_in, tail_in}
-use Rattle.rq_sound.proofs.RowLists.{found_in}
 use Rattle.rq_sound.proofs.ChainEnds.{empty_links, front_stands, head_stands, next_stands, tail_stands}
 use Rattle.rq_sound.proofs.FreeCells.{all_one, of_store, open_is}
 use Rattle.rq_sound.proofs.Going.{unlatched_is_quiet}

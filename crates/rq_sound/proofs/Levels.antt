@@ -17,8 +17,9 @@ use Rattle.rq_level.specs.Given.{has_page}
 use Rattle.rq_level.specs.Kept.{Kept, IsLowest, NoneToTake, SomeFree, flag_at}
 use Rattle.rq_level.specs.Writes.{writes_of}
 use Rattle.rq_store.specs.Plans.{Stands_at}
+use Rattle.rq_store.specs.State.{State}
 use Rattle.rq_sound.specs.Rows.{latched_in}
-use Rattle.rq_sound.specs.Sound.{State, IsSound}
+use Rattle.rq_sound.specs.Sound.{IsSound}
 use Rattle.rq_sound.specs.Groups.{slots_now}
 use Rattle.rq_sound.specs.Plans.{AreOff, AreUnlatched, IsMarking}
 use Rattle.rq_sound.specs.Levels.{IsGathered, KeepsCells, AreLatched, LevelsPlanFromSlots}

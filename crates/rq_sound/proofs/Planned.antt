@@ -29,17 +29,19 @@ use Rattle.rq_level.specs.Writes.{writes_of}
 use Rattle.rq_txn.specs.declared.Finished.{Finished}
 use Rattle.rq_groups.specs.Ends.{is_free_for}
 use Rattle.rq_store.specs.Rows.{HasWaiting, placed}
-use Rattle.rq_store.specs.State.{size_of, job_of}
+use Rattle.rq_store.specs.State.{size_of, job_of, State, ledger_of, open_of}
 use Rattle.rq_store.proofs.Grouping.{groups_of}
 use Rattle.rq_store.proofs.SendPlans.{is_append, append_fits}
 use Rattle.rq_store.proofs.TakePlans.{is_unlink_head, unlink_head_fits}
-use Rattle.rq_sound.specs.Rows.{Aim, Under, Row}
-use Rattle.rq_sound.specs.Sound.{State, IsSound, ledger_of, open_of}
+use Rattle.rq_txn.specs.declared.Aim.{Aim}
+use Rattle.rq_txn.specs.Rows.{Under, Row}
+use Rattle.rq_store.proofs.RowLists.{found_in}
+use Rattle.rq_txn.specs.declared.Aim.TheVariants as aims
+use Rattle.rq_sound.specs.Sound.{IsSound}
 use Rattle.rq_sound.specs.Starts.{IsPlanned, MayDo, MayUndo}
 use Rattle.rq_sound.specs.Calls.{IsIdle}
 use Rattle.rq_sound.specs.Groups.{slots_now}
 use Rattle.rq_sound.specs.Plans.{AreUnlatched, IsNew, IsPlannedFrom, PlansMayStart}
-use Rattle.rq_sound.proofs.RowLists.{found_in}
 use Rattle.rq_sound.proofs.Contracts.{answered}
 use Rattle.rq_sound.proofs.FreeCells.{of_store, open_is}
 use Rattle.rq_sound.proofs.FreeEnds.{free_is, free_to_take}
@@ -191,14 +193,14 @@ module _ (s : State) (k : IsSound s) where
         omega (arith, ne, b)
 
   -- what passes the tests may be done
-  pub may_do : (r : Row) (u : Under) (d : Deed) → IsNew s r u (Aim.Doing d) → IsPlannedFrom s.sizes q u.writes (Did d) → deed_in (spelled_deed d) ≡ Some d → HasWaiting s.waiting d
+  pub may_do : (r : Row) (u : Under) (d : Deed) → IsNew s r u (aims.Doing d) → IsPlannedFrom s.sizes q u.writes (Did d) → deed_in (spelled_deed d) ≡ Some d → HasWaiting s.waiting d
       → Passes (size_of s.sizes) (ledger_of s) (start_of r.txn (job_of d)) → MayDo s r u d
   may_do r u (Append g n tag previous body) new p reads wait h =
       let below = known r new.idle g h.1.1.1.1.0 in
       let free : is_free_for r.txn g s.ends.sending ≡ true = sym (free_is s k r.txn g) ∙ not_false _ h.1.1.1.1.1.1.0 in
       let room = not_full r new.idle h.1.1.1.1.1.1.1.1.0 in
       record {
-        planned = planned r u (Aim.Doing (Append g n tag previous body)) (Did (Append g n tag previous body)) new (fits_deed u.writes (Append g n tag previous body) new.free below p);
+        planned = planned r u (aims.Doing (Append g n tag previous body)) (Did (Append g n tag previous body)) new (fits_deed u.writes (Append g n tag previous body) new.free below p);
         aim = new.aim_is;
         forward = forward r new.idle h.1.1.0;
         sender = below;
@@ -212,7 +214,7 @@ module _ (s : State) (k : IsSound s) where
       let below = known r new.idle g h.1.1.1.1.0 in
       let bound = k.counted.bound in
       record {
-        planned = planned r u (Aim.Doing (UnlinkHead g n tag body)) (Did (UnlinkHead g n tag body)) new (fits_deed u.writes (UnlinkHead g n tag body) new.free below p);
+        planned = planned r u (aims.Doing (UnlinkHead g n tag body)) (Did (UnlinkHead g n tag body)) new (fits_deed u.writes (UnlinkHead g n tag body) new.free below p);
         aim = new.aim_is;
         forward = forward r new.idle h.1.1.0;
         sender = below;
@@ -227,7 +229,7 @@ module _ (s : State) (k : IsSound s) where
       let free : is_free_for r.txn g s.ends.sending ≡ true = sym (free_is s k r.txn g) ∙ not_false _ h.1.1.1.1.1.0 in
       let bound = k.counted.bound in
       record {
-        planned = planned r u (Aim.Doing (Close g)) (Did (Close g)) new (fits_deed u.writes (Close g) new.free below p);
+        planned = planned r u (aims.Doing (Close g)) (Did (Close g)) new (fits_deed u.writes (Close g) new.free below p);
         aim = new.aim_is;
         forward = forward r new.idle h.1.1.0;
         sender = below;
@@ -238,9 +240,9 @@ module _ (s : State) (k : IsSound s) where
         room = omega (arith, bound);
       }
 
-  pub may_undo : (r : Row) (u : Under) (fs : List Finished) (f : Finished) → IsNew s r u (Aim.Undoing f.lsn f.deed) → IsPlannedFrom s.sizes q u.writes (Undid f.deed) → r.aborting ≡ true → r.finished ≡ fs ++ f ∷ [] → MayUndo s r u fs f
+  pub may_undo : (r : Row) (u : Under) (fs : List Finished) (f : Finished) → IsNew s r u (aims.Undoing f.lsn f.deed) → IsPlannedFrom s.sizes q u.writes (Undid f.deed) → r.aborting ≡ true → r.finished ≡ fs ++ f ∷ [] → MayUndo s r u fs f
   may_undo r u fs f new p aborts newest = record {
-    planned = planned r u (Aim.Undoing f.lsn f.deed) (Undid f.deed) new (fits_inverse u.writes r fs f f.deed refl new.free new.idle newest p);
+    planned = planned r u (aims.Undoing f.lsn f.deed) (Undid f.deed) new (fits_inverse u.writes r fs f f.deed refl new.free new.idle newest p);
     aim = new.aim_is;
     aborting = aborts;
     newest = newest;

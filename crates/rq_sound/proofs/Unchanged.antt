@@ -8,8 +8,8 @@ use Rattle.rq_model.specs.Ledger.{after, runs, sent_in, tag_of}
 use Rattle.rq_model.specs.Legal.{Legal}
 use Rattle.rq_model.specs.Replay.{Reply, Says, receipt}
 use Rattle.rq_page.specs.Sizes.{sender_count}
-use Rattle.rq_store.specs.State.{phase_of, size_of}
-use Rattle.rq_sound.specs.Sound.{State, IsSound, ledger_of}
+use Rattle.rq_store.specs.State.{phase_of, size_of, State, ledger_of}
+use Rattle.rq_sound.specs.Sound.{IsSound}
 use Rattle.rq_sound.specs.Steps.{Steps}
 use Rattle.rq_sound.specs.Unchanged.{UnchangedAreSteps}
 use Rattle.rq_sound.proofs.Refusals.{busy_is}

@@ -7,11 +7,12 @@ use Rattle.rq_model.specs.Tests.{any_gives, below, gives, holds_for}
 use Rattle.rq_page.specs.Sizes.{sender_count}
 use Rattle.rq_groups.specs.Ends.{is_free_for}
 use Rattle.rq_groups.specs.Waiting.{waits}
-use Rattle.rq_sound.specs.Rows.{Row, found_row}
+use Rattle.rq_txn.specs.Rows.{Row, found_row}
+use Rattle.rq_store.specs.State.{State, ledger_of, open_of}
+use Rattle.rq_store.proofs.RowLists.{found_in}
 use Rattle.rq_sound.specs.Counted.{takes_in}
-use Rattle.rq_sound.specs.Sound.{State, IsSound, ledger_of, open_of}
+use Rattle.rq_sound.specs.Sound.{IsSound}
 use Rattle.rq_sound.specs.Waits.{WaitsFor, NoneWaits, WaitsAreGiven}
-use Rattle.rq_sound.proofs.RowLists.{found_in}
 use Rattle.rq_sound.proofs.Ledgers.{found_open, open_found}
 use Rattle.rq_sound.proofs.FreeEnds.{free_to_take}
 use Rattle.rq_sound.proofs.Contracts.{answered}

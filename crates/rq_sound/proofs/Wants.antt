@@ -19,13 +19,15 @@ use Rattle.rq_groups.specs.Waiting.{waits}
 use Rattle.rq_store.specs.Plans.{Stands_at}
 use Rattle.rq_store.specs.Rows.{placed}
 use Rattle.rq_store.proofs.Grouping.{groups_of}
-use Rattle.rq_sound.specs.Rows.{Row, latched_in}
-use Rattle.rq_sound.specs.Sound.{State, IsSound}
+use Rattle.rq_txn.specs.Rows.{Row}
+use Rattle.rq_store.specs.State.{State}
+use Rattle.rq_store.proofs.RowLists.{found_in}
+use Rattle.rq_sound.specs.Rows.{latched_in}
+use Rattle.rq_sound.specs.Sound.{IsSound}
 use Rattle.rq_sound.specs.Calls.{IsIdle}
 use Rattle.rq_sound.specs.Groups.{TellsGroup, slots_now}
 use Rattle.rq_sound.specs.Latching.{at_head, at_tail, before_tail, behind_head, head_in, named, next_in, prev_in, tail_in}
 use Rattle.rq_sound.specs.Wants.{AreGivenOf, CanUndo, LevelsFindAll, wanted_back}
-use Rattle.rq_sound.proofs.RowLists.{found_in}
 use Rattle.rq_sound.proofs.FreeCells.{of_store, open_is}
 use Rattle.rq_sound.proofs.Groups.{tells_group}
 use Rattle.rq_sound.proofs.Latching as latching

@@ -2,7 +2,7 @@
 use Rattle.std.specs.Prelude.{ℕ, ◌+◌, ◌-◌, Bool, false, ◌||◌, List, [], ◌∷◌, length, Option, Some, None}
 use Rattle.std.specs.List.{sum_by}
 use Rattle.rq_model.specs.Words.{is_some}
-use Rattle.rq_sound.specs.Rows.{Under, Row}
+use Rattle.rq_txn.specs.Rows.{Under, Row}
 
 -- some operation is under way
 abbrev pub any_under : List Row → Bool

@@ -12,8 +12,9 @@ use Rattle.rq_level.specs.declared.writes.Plan.{Plan}
 use Rattle.rq_level.specs.ChainPlans.{IsSent, IsReceived, IsClosed, IsTailUnlinked, IsReturned, IsReopened}
 use Rattle.rq_level.specs.Given.{GivenHolds, has_page}
 use Rattle.rq_level.specs.Kept.{Kept, IsLowest, NoneToTake, SomeFree, flag_at}
+use Rattle.rq_store.specs.State.{State}
 use Rattle.rq_sound.specs.Rows.{latched_in}
-use Rattle.rq_sound.specs.Sound.{State, IsSound}
+use Rattle.rq_sound.specs.Sound.{IsSound}
 use Rattle.rq_sound.specs.Groups.{slots_now}
 use Rattle.rq_sound.specs.Plans.{AreUnlatched, IsPlannedFrom}
 use Rattle.rq_sound.specs.Latching.{AllFreeLatched}

@@ -19,9 +19,12 @@ use Rattle.rq_level.specs.Writes.{writes_of}
 use Rattle.rq_txn.specs.declared.Finished.{Finished}
 use Rattle.rq_store.specs.Plans.{Stands_at}
 use Rattle.rq_store.specs.Rows.{HasWaiting}
-use Rattle.rq_store.specs.State.{size_of, job_of}
-use Rattle.rq_sound.specs.Rows.{Aim, Under, Row, latched_in}
-use Rattle.rq_sound.specs.Sound.{State, IsSound, ledger_of}
+use Rattle.rq_store.specs.State.{size_of, job_of, State, ledger_of}
+use Rattle.rq_txn.specs.declared.Aim.{Aim}
+use Rattle.rq_txn.specs.Rows.{Under, Row}
+use Rattle.rq_txn.specs.declared.Aim.TheVariants as aims
+use Rattle.rq_sound.specs.Rows.{latched_in}
+use Rattle.rq_sound.specs.Sound.{IsSound}
 use Rattle.rq_sound.specs.Starts.{MayDo, MayUndo}
 use Rattle.rq_sound.specs.Calls.{IsIdle}
 use Rattle.rq_sound.specs.Groups.{slots_now}
@@ -109,9 +112,9 @@ pub record IsNew (s : State) (r : Row) (u : Under) (aim : Aim) : Type 0 where
 -- What is planned from the slots as they are may start where its pages are nobody's: a deed that passes the model's
 -- tests, where it takes a message one waits; and the inverse of the newest deed of a transaction that aborts.
 pub record PlansMayStart : Type 0 where
-  pub deeds : (s : State) (r : Row) (u : Under) (d : Deed) → IsSound s → IsNew s r u (Aim.Doing d)
+  pub deeds : (s : State) (r : Row) (u : Under) (d : Deed) → IsSound s → IsNew s r u (aims.Doing d)
       → IsPlannedFrom s.sizes (slots_now s) u.writes (Did d) → deed_in (spelled_deed d) ≡ Some d
       → HasWaiting s.waiting d → Passes (size_of s.sizes) (ledger_of s) (start_of r.txn (job_of d)) → MayDo s r u d
   pub inverses : (s : State) (r : Row) (u : Under) (rest : List Finished) (f : Finished) → IsSound s
-      → IsNew s r u (Aim.Undoing f.lsn f.deed) → IsPlannedFrom s.sizes (slots_now s) u.writes (Undid f.deed)
+      → IsNew s r u (aims.Undoing f.lsn f.deed) → IsPlannedFrom s.sizes (slots_now s) u.writes (Undid f.deed)
       → r.aborting ≡ true → r.finished ≡ rest ++ f ∷ [] → MayUndo s r u rest f

@@ -7,8 +7,9 @@ use Rattle.rq_model.specs.Ledger.{group_in, sent_in, tag_of}
 use Rattle.rq_model.specs.Replay.{Reply, receipt}
 use Rattle.rq_model.specs.Tests.{below}
 use Rattle.rq_page.specs.Sizes.{sender_count}
+use Rattle.rq_store.specs.State.{State}
 use Rattle.rq_sound.specs.Busy.{any_under}
-use Rattle.rq_sound.specs.Sound.{State, IsSound}
+use Rattle.rq_sound.specs.Sound.{IsSound}
 use Rattle.rq_sound.specs.Steps.{Steps}
 
 -- A hand-over, a page that is written, a receipt exactly for what is forced in this incarnation, what a sender's last

@@ -6,8 +6,9 @@ use Rattle.rq_model.specs.Tests.{any_gives, below, gives}
 use Rattle.rq_page.specs.Sizes.{sender_count}
 use Rattle.rq_groups.specs.Ends.{is_free_for}
 use Rattle.rq_groups.specs.Waiting.{waits}
-use Rattle.rq_sound.specs.Rows.{Row, found_row}
-use Rattle.rq_sound.specs.Sound.{State, IsSound, ledger_of}
+use Rattle.rq_txn.specs.Rows.{Row, found_row}
+use Rattle.rq_store.specs.State.{State, ledger_of}
+use Rattle.rq_sound.specs.Sound.{IsSound}
 
 -- a message waits for t: its receiving end is free for t, and one waits
 abbrev pub WaitsFor : State → Txn → ℕ → Type 0
