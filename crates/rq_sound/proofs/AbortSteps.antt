@@ -36,7 +36,7 @@ use Rattle.rq_sound.proofs.Ledgers.{found_open, open_found, opens_change, aborti
 use Rattle.rq_sound.proofs.Contracts.{calls_keep, undo_entry, undo_start_entry, within}
 
 -- what a test reads of an operation under way
-job_some : (o : Option Under) → is_some (job_under o) ≡ is_some o
+pub job_some : (o : Option Under) → is_some (job_under o) ≡ is_some o
 job_some None = refl
 job_some (Some u) = refl
 

@@ -21,13 +21,13 @@ inverse_writes (Append s n tag previous body) m = cond (nat_lt 1 m) 3 2
 inverse_writes (UnlinkHead s n tag body) m = cond (nat_eq m 0) 2 3
 inverse_writes (Close s) m = 1
 
-tail_there : (l : Places) (q : Slots) (s : ℕ) (d e : Directory) (at : ℕ) (o : Option Cell) (f : Cell → Cell) (b : ℕ) (c : Cell) → HasBefores (directory_write l s d e ∷ relinked at o f (record { at = b; before = Used c; after = Free } ∷ [])) q → (Sender s d ≡ q (l.directory_at s)) × (Used c ≡ q b)
+pub tail_there : (l : Places) (q : Slots) (s : ℕ) (d e : Directory) (at : ℕ) (o : Option Cell) (f : Cell → Cell) (b : ℕ) (c : Cell) → HasBefores (directory_write l s d e ∷ relinked at o f (record { at = b; before = Used c; after = Free } ∷ [])) q → (Sender s d ≡ q (l.directory_at s)) × (Used c ≡ q b)
 tail_there l q s d e at None f b c h = ((through q b Free (Sender s d) (l.directory_at s) (free_sender s d) h.0).1, h.1.0)
 tail_there l q s d e at (Some x) f b c h =
     let t = through (put q b Free) at (Used (f x)) (Sender s d) (l.directory_at s) (used_sender (f x) s d) h.0 in
     ((through q b Free (Sender s d) (l.directory_at s) (free_sender s d) t.1).1, h.1.1.0)
 
-back_there : (l : Places) (q : Slots) (s : ℕ) (d e : Directory) (at : ℕ) (o : Option Cell) (f : Cell → Cell) (b : ℕ) (c : Cell) → HasBefores (directory_write l s d e ∷ relinked at o f (record { at = b; before = Free; after = Used c } ∷ [])) q → Sender s d ≡ q (l.directory_at s)
+pub back_there : (l : Places) (q : Slots) (s : ℕ) (d e : Directory) (at : ℕ) (o : Option Cell) (f : Cell → Cell) (b : ℕ) (c : Cell) → HasBefores (directory_write l s d e ∷ relinked at o f (record { at = b; before = Free; after = Used c } ∷ [])) q → Sender s d ≡ q (l.directory_at s)
 back_there l q s d e at None f b c h = (through q b (Used c) (Sender s d) (l.directory_at s) (used_sender c s d) h.0).1
 back_there l q s d e at (Some x) f b c h =
     let t = through (put q b (Used c)) at (Used (f x)) (Sender s d) (l.directory_at s) (used_sender (f x) s d) h.0 in

@@ -32,3 +32,15 @@ pub mod Courses
 pub mod AbortSteps
 pub mod DeedSteps
 pub mod FreeEnds
+pub mod Refusals
+pub mod Waits
+pub mod ChainEnds
+pub mod Flags
+pub mod Groups
+pub mod PlanFits
+pub mod Planned
+pub mod Levels
+pub mod Unchanged
+pub mod LatchLists
+pub mod Latching
+pub mod Wants

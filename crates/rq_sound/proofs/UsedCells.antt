@@ -187,7 +187,7 @@ find f (suc n) h = elim (cases_Bool (f n)) [
       (r.0, omega (arith, lt), r.2)
 ]
 
-free_from : (z : Sizes) (a : ℕ) (x : Slot) → IsInPlace z a x → IsCellAddress z a → is_used x ≡ false → x ≡ Free
+pub free_from : (z : Sizes) (a : ℕ) (x : Slot) → IsInPlace z a x → IsCellAddress z a → is_used x ≡ false → x ≡ Free
 free_from z a Free h c n = refl
 free_from z a (Used x) h c n = absurd (true≢false n)
 free_from z a (Sender s d) h c n = absurd (let x = h.high in let y = c.above in omega (arith, x, y))

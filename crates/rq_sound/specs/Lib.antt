@@ -8,3 +8,12 @@ pub mod Steps
 pub mod Theorems
 pub mod Course
 pub mod Worked
+pub mod Busy
+pub mod Refusals
+pub mod Waits
+pub mod Groups
+pub mod Plans
+pub mod Levels
+pub mod Unchanged
+pub mod Latching
+pub mod Wants

@@ -5,6 +5,8 @@
 //! The definitions stand in specs/, the theorems are the contracts of the functions here.
 #![tactic(auto)]
 
+pub mod calls;
+
 ghost use Rattle.rq_sound.specs.Theorems.{CallsKeepSoundness, InversesCanBePlanned, TestsAreAnswered, AbortsAreSteps, DeedsAreSteps, OneUnderWayIsSound, OpenedIsSound};
 ghost use Rattle.rq_sound.specs.Worked.{AbortBesideASend, NotSound, TwoUnderWay};
 

@@ -9,7 +9,7 @@ use rq_page::directory::{Directory, DirectorySlot};
 use rq_page::layout::Layout;
 use rq_page::page::Page;
 use rq_pool::Pages;
-use rq_txn::{Finished, Operation, Transactions};
+use rq_txn::{Aim, Finished, Operation, Transactions};
 use std::alloc::Global;
 use std::test::Fail;
 
@@ -51,7 +51,7 @@ fn open_with(alloc: Global, deeds: &[Deed]) -> Result<Transactions, Fail> {
             number: 1,
             writes: Vec::new(alloc),
             made: 0,
-            deed: *deed,
+            aim: Aim::Doing(*deed),
         };
         transactions.start(txn, operation)?;
         let finished = Finished {

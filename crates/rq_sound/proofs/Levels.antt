@@ -1,0 +1,177 @@
+-- What the level of chains plans, over the slots as they are.
+use Rattle.std.proofs.Common.{◌≡◌, ℕ, ◌/◌, ◌<◌, ◌++◌, ◌&&◌, List, [], ◌∷◌, map, reverse, refl, sym, ◌∙◌, ap, subst, Bool, true, false, not, nat_eq, Option, Some, None, inl, inr}
+use Rattle.std.proofs.lemmas.Bool.{and_from, and_parts, cases_Bool, eqb-true, false≢true, not-true, or_cases, true≢false}
+use Rattle.std.proofs.lemmas.List.{reverse-append}
+use Rattle.rq_page.specs.declared.cell.Cell.{Cell}
+use Rattle.rq_page.specs.Sizes.{IsCellAddress, cell_at, cell_count, directory_at, place_of}
+use Rattle.rq_page.specs.Slots.Slot.{Free, Used, Sender}
+use Rattle.rq_page.proofs.Addresses.{cells_have_places, places_are_cells}
+use Rattle.rq_views.specs.Log.{Write}
+use Rattle.rq_views.specs.Plans.{relinked}
+use Rattle.rq_views.specs.Stored.{is_used}
+use Rattle.rq_level.specs.declared.slots.Given.{Given}
+use Rattle.rq_level.specs.declared.writes.Plan.{Plan}
+use Rattle.rq_level.specs.declared.writes.SlotWrite.{SlotWrite}
+use Rattle.rq_level.specs.ChainPlans.{Beside, IsMarked}
+use Rattle.rq_level.specs.Given.{has_page}
+use Rattle.rq_level.specs.Kept.{Kept, IsLowest, NoneToTake, SomeFree, flag_at}
+use Rattle.rq_level.specs.Writes.{writes_of}
+use Rattle.rq_store.specs.Plans.{Stands_at}
+use Rattle.rq_store.specs.State.{State}
+use Rattle.rq_sound.specs.Rows.{latched_in}
+use Rattle.rq_sound.specs.Sound.{IsSound}
+use Rattle.rq_sound.specs.Groups.{slots_now}
+use Rattle.rq_sound.specs.Plans.{AreOff, AreUnlatched, IsMarking}
+use Rattle.rq_sound.specs.Levels.{IsGathered, KeepsCells, AreLatched, LevelsPlanFromSlots}
+use Rattle.rq_sound.specs.Latching.{AllFreeLatched}
+use Rattle.rq_sound.proofs.Contracts.{planned}
+use Rattle.rq_sound.proofs.Groups.{all_stand}
+use Rattle.rq_sound.proofs.UsedCells.{free_from}
+
+off_parts : (s : State) (xs ys : List Write) → AreOff s (xs ++ ys) → AreOff s xs × AreOff s ys
+off_parts s [] ys h = (tt, h)
+off_parts s (x ∷ xs) ys h = let p = off_parts s xs ys h.1 in ((h.0, p.0), p.1)
+
+off_back : (s : State) (ws : List Write) → AreOff s (reverse ws) → AreOff s ws
+off_back s [] h = tt
+off_back s (w ∷ ws) h =
+    let p = off_parts s (reverse ws) (w ∷ []) (subst (AreOff s) (reverse-append (w ∷ []) ws) h) in
+    (p.1.0, off_back s ws p.0)
+
+off_pages : (s : State) (us : List SlotWrite) → AreOff s (writes_of s.sizes us) → AreUnlatched s us
+off_pages s [] h p on = absurd (false≢true on)
+off_pages s (w ∷ us) h p on = elim (or_cases (nat_eq (w.at / 16) p) (has_page p (map (λ x. x.at / 16) us)) on) [
+  | inl y ↦ subst (λ n. latched_in s.rows n ≡ false) (eqb-true (w.at / 16) p y) h.0
+  | inr y ↦ off_pages s us h.1 p y
+]
+
+are_off : (s : State) (us : List SlotWrite) (ws : List Write) → reverse (writes_of s.sizes us) ≡ ws → AreOff s ws → AreUnlatched s us
+are_off s us ws is h = off_pages s us (off_back s (writes_of s.sizes us) (subst (AreOff s) (sym is) h))
+
+pub relinked_off : (s : State) (at : ℕ) (o : Option Cell) (f : Cell → Cell) (ws : List Write) → ((c : Cell) → o ≡ Some c → latched_in s.rows (at / 16) ≡ false) → AreOff s ws → AreOff s (relinked at o f ws)
+relinked_off s at None f ws h k = k
+relinked_off s at (Some c) f ws h k = (h c refl, k)
+
+-- the cell that the level takes is free, on a page that nobody has latched
+pub lowest_is : (s : State) (k : Kept) (latched : List ℕ) (a : ℕ) → IsSound s → KeepsCells s k → AreLatched s latched → IsLowest s.sizes k latched a → IsCellAddress s.sizes a × (slots_now s a ≡ Free) × (latched_in s.rows (a / 16) ≡ false)
+lowest_is s k latched a sound c on h =
+    let at = h.at in
+    let one = and_parts (flag_at k.free h.place) (not (flag_at k.reserved h.place) && not (has_page (cell_at s.sizes h.place / 16) latched)) h.may in
+    let two = and_parts (not (flag_at k.reserved h.place)) (not (has_page (cell_at s.sizes h.place / 16) latched)) one.1 in
+    let cell : IsCellAddress s.sizes a = subst (IsCellAddress s.sizes) (sym at) (cells_have_places s.sizes h.place h.below).0 in
+    let unused : is_used (slots_now s a) ≡ false = ap (λ n. is_used (slots_now s n)) at ∙ not-true (is_used (slots_now s (cell_at s.sizes h.place))) (sym (c.free h.place h.below) ∙ one.0) in
+    let off : latched_in s.rows (a / 16) ≡ false = ap (λ n. latched_in s.rows (n / 16)) at ∙ sym (on (cell_at s.sizes h.place / 16)) ∙ not-true (has_page (cell_at s.sizes h.place / 16) latched) two.1 in
+    (cell, free_from s.sizes a (slots_now s a) (all_stand s sound a) cell unused, off)
+
+-- where it finds none to take, each free cell is on a latched page
+pub none_takes : (s : State) (k : Kept) (latched : List ℕ) → KeepsCells s k → AreLatched s latched → NoneToTake s.sizes k latched → AllFreeLatched s
+none_takes s k latched c on none a cell free =
+    let i = places_are_cells s.sizes a cell in
+    let place = place_of s.sizes a in
+    let is_free : flag_at k.free place ≡ true = c.free place i.0 ∙ ap (λ n. not (is_used (slots_now s n))) i.1 ∙ ap (λ x. not (is_used x)) free in
+    elim (cases_Bool (flag_at k.reserved place)) [
+      | inl y ↦ ap (λ n. latched_in s.rows (n / 16)) (sym i.1) ∙ c.chosen place i.0 y
+      | inr m ↦ elim (cases_Bool (has_page (cell_at s.sizes place / 16) latched)) [
+        | inl y ↦ ap (λ n. latched_in s.rows (n / 16)) (sym i.1) ∙ sym (on (cell_at s.sizes place / 16)) ∙ y
+        | inr n ↦ absurd (true≢false (sym (and_from _ _ is_free (and_from _ _ (ap not m) (ap not n))) ∙ none place i.0))
+      ]
+    ]
+
+some_known : (s : State) (k : Kept) → IsSound s → KeepsCells s k → s.cells_in_use < cell_count s.sizes → SomeFree s.sizes k
+some_known s k sound c less =
+    let a = planned.send_finds s sound less in
+    let i = places_are_cells s.sizes a.0 a.1 in
+    let here : slots_now s a.0 ≡ Free = sound.pages a.0 ∙ a.2 in
+    (place_of s.sizes a.0, i.0, c.free (place_of s.sizes a.0) i.0 ∙ ap (λ n. not (is_used (slots_now s n))) i.1 ∙ ap (λ x. not (is_used x)) here)
+
+module _ (s : State) (given : List Given) (h : IsGathered s given) where
+  beside_is : (a : ℕ) (o : Option Cell) → Beside s.sizes given a o → Stands_at (slots_now s) a o
+  beside_is a None e = e
+  beside_is a (Some c) e = h.as_is a (Used c) e
+
+  beside_off : (a : ℕ) (o : Option Cell) → Beside s.sizes given a o → (c : Cell) → o ≡ Some c → latched_in s.rows (a / 16) ≡ false
+  beside_off a None e c is = cc
+  beside_off a (Some x) e c is = h.unlatched a (Used x) e
+
+  marked : (g : ℕ) (closed : Bool) (p : Plan) → IsMarked s.sizes given g closed p → IsMarking s.sizes (slots_now s) p.writes.items g closed × AreUnlatched s p.writes.items
+  marked g closed p m =
+      let d = m.can.directory in (
+        record { directory = d; directory_is = h.as_is (directory_at g) (Sender g d) m.can.directory_is; writes = m.writes },
+        are_off s p.writes.items _ m.writes (h.unlatched (directory_at g) (Sender g d) m.can.directory_is, tt),
+      )
+
+pub levels_plan : LevelsPlanFromSlots
+levels_plan = record {
+  lowest = lowest_is;
+  none_to_take = none_takes;
+  some_free = some_known;
+  sent = λ s k given latched g tag body p after sound h c on m.
+      let d = m.can.directory in
+      let x = lowest_is s k latched m.new sound c on m.lowest in (
+        record {
+          directory = d;
+          new = m.new;
+          old = m.can.old;
+          directory_is = h.as_is (directory_at g) (Sender g d) m.can.directory_is;
+          sequence = refl;
+          previous_is = refl;
+          cell = x.0;
+          free = x.1;
+          beside = beside_is s given h d.tail m.can.old m.can.beside;
+          writes = m.writes;
+        },
+        are_off s p.writes.items _ m.writes
+            (h.unlatched (directory_at g) (Sender g d) m.can.directory_is, relinked_off s d.tail m.can.old _ _ (beside_off s given h d.tail m.can.old m.can.beside) (x.2, tt)),
+      );
+  received = λ s k given g p after sound h m.
+      let d = m.can.directory in
+      let c = m.can.cell in (
+        record {
+          directory = d;
+          cell = c;
+          next = m.can.next;
+          directory_is = h.as_is (directory_at g) (Sender g d) m.can.directory_is;
+          sequence = refl;
+          tag_is = refl;
+          body_is = refl;
+          head_is = h.as_is d.head (Used c) m.can.head_is;
+          beside = beside_is s given h c.next m.can.next m.can.beside;
+          writes = m.writes;
+        },
+        are_off s p.writes.items _ m.writes
+            (h.unlatched (directory_at g) (Sender g d) m.can.directory_is, relinked_off s c.next m.can.next _ _ (beside_off s given h c.next m.can.next m.can.beside) (h.unlatched d.head (Used c) m.can.head_is, tt)),
+      );
+  closed = λ s k given g p after sound h m. marked s given h g true p m.marked;
+  unsent = λ s k given g n tag previous body p after sound h m.
+      let d = m.can.directory in
+      let c = m.can.cell in (
+        record {
+          directory = d;
+          cell = c;
+          front = m.can.front;
+          directory_is = h.as_is (directory_at g) (Sender g d) m.can.directory_is;
+          tail_is = h.as_is d.tail (Used c) m.can.tail_is;
+          beside = beside_is s given h c.prev m.can.front m.can.beside;
+          writes = m.writes;
+        },
+        are_off s p.writes.items _ m.writes
+            (h.unlatched (directory_at g) (Sender g d) m.can.directory_is, relinked_off s c.prev m.can.front _ _ (beside_off s given h c.prev m.can.front m.can.beside) (h.unlatched d.tail (Used c) m.can.tail_is, tt)),
+      );
+  returned = λ s k given latched g n tag body p after sound h c on m.
+      let d = m.can.directory in
+      let x = lowest_is s k latched m.new sound c on m.lowest in (
+        record {
+          directory = d;
+          new = m.new;
+          old = m.can.old;
+          directory_is = h.as_is (directory_at g) (Sender g d) m.can.directory_is;
+          cell = x.0;
+          free = x.1;
+          beside = beside_is s given h d.head m.can.old m.can.beside;
+          writes = m.writes;
+        },
+        are_off s p.writes.items _ m.writes
+            (h.unlatched (directory_at g) (Sender g d) m.can.directory_is, relinked_off s d.head m.can.old _ _ (beside_off s given h d.head m.can.old m.can.beside) (x.2, tt)),
+      );
+  reopened = λ s k given g p after sound h m. marked s given h g false p m.marked;
+}

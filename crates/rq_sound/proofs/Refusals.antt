@@ -1,0 +1,86 @@
+-- Refusals are steps, and what tests read of the rows.
+use Rattle.std.proofs.Common.{◌≡◌, ℕ, suc, ◌+◌, ◌||◌, List, [], ◌∷◌, length, refl, sym, ◌∙◌, ap, ◌&&◌, nat_eq, Option, Some, None, arith}
+use Rattle.std.specs.List.{sum_by}
+use Rattle.std.specs.Option.{option_map}
+use Rattle.std.proofs.lemmas.List.Sums.{sum_by-cons}
+use Rattle.rq_model.specs.declared.txn.Txn.{Txn}
+use Rattle.rq_model.specs.declared.refusal.Refusal.TheVariants.{DiskWrite}
+use Rattle.rq_model.specs.History.{Entry}
+use Rattle.rq_model.specs.Ledger.{found, runs}
+use Rattle.rq_model.specs.Tests.{any_busy, has_under, owed}
+use Rattle.rq_model.specs.Words.{is_some}
+use Rattle.rq_groups.specs.Ends.{HeldEnds}
+use Rattle.rq_store.specs.State.{phase_of, State, ledger_of, open_of, open_ones_of, job_under}
+use Rattle.rq_txn.specs.Rows.{Under, Row, found_row}
+use Rattle.rq_store.specs.Rows.{is_under}
+use Rattle.rq_store.proofs.RowLists.{found_in}
+use Rattle.rq_sound.specs.Busy.{any_under, owed_under, owed_one, owed_by}
+use Rattle.rq_sound.specs.Standing.{IsAsPlanned}
+use Rattle.rq_sound.specs.Sound.{IsSound}
+use Rattle.rq_sound.specs.Refusals.{RefusalsAreSteps, TestsReadRows}
+use Rattle.rq_sound.proofs.Ledgers.{open_found, found_open}
+use Rattle.rq_sound.proofs.AbortSteps.{job_some}
+use Rattle.rq_sound.proofs.Contracts.{calls_keep}
+
+pub refusal_steps : RefusalsAreSteps
+refusal_steps = record {
+  refused = λ s c r k legal same. record {
+    entry = Entry.Refused c r;
+    says = refl;
+    legal = legal;
+    after = sym same;
+    sound = k;
+    goes_on = (0, refl);
+    stays_forced = omega arith;
+  };
+  fails = λ s c k running. record {
+    entry = Entry.Refused c DiskWrite;
+    says = refl;
+    legal = ap (λ b. runs (phase_of b)) running;
+    after = refl;
+    sound = calls_keep.fails s k;
+    goes_on = (0, refl);
+    stays_forced = omega arith;
+  };
+}
+
+pub busy_is : (ends : HeldEnds) (rows : List Row) → any_busy (open_ones_of ends rows) ≡ any_under rows
+busy_is ends [] = refl
+busy_is ends (r ∷ rows) = ap (λ b. b || any_busy (open_ones_of ends rows)) (job_some r.under) ∙ ap (λ b. is_some r.under || b) (busy_is ends rows)
+
+owed_is_one : (ends : HeldEnds) (r : Row) (o : Option Under) → r.under ≡ o → owed (open_of ends r) ≡ owed_under o
+owed_is_one ends r None e = rw e refl
+owed_is_one ends r (Some u) e = rw e refl
+
+pub owed_is : (ends : HeldEnds) (rows : List Row) → sum_by owed (open_ones_of ends rows) ≡ owed_by rows
+owed_is ends [] = refl
+owed_is ends (r ∷ rows) =
+    sum_by-cons owed (open_of ends r) (open_ones_of ends rows)
+    ∙ ap (λ n. n + sum_by owed (open_ones_of ends rows)) (owed_is_one ends r r.under refl)
+    ∙ ap (λ n. owed_one r + n) (owed_is ends rows) ∙ sym (sum_by-cons owed_one r rows)
+
+pub count_is : (ends : HeldEnds) (rows : List Row) → length (open_ones_of ends rows) ≡ length rows
+count_is ends [] = refl
+count_is ends (r ∷ rows) = ap suc (count_is ends rows)
+
+-- the row that is found, as the ledger has it
+pub found_is : (s : State) (t : Txn) → found t (ledger_of s).open_ones ≡ option_map (open_of s.ends) (found_row t s.rows)
+found_is s t = found_open s.ends t s.rows ∙ as_option (found_row t s.rows) where
+  as_option : (o : Option Row) → open_found s.ends o ≡ option_map (open_of s.ends) o
+  as_option None = refl
+  as_option (Some r) = refl
+
+under_is : (s : State) (r : Row) (n : ℕ) → IsSound s → found_row r.txn s.rows ≡ Some r → has_under n (found r.txn (ledger_of s).open_ones) ≡ is_under n r.under
+under_is s r n k e = ap (has_under n) (found_open s.ends r.txn s.rows ∙ ap (open_found s.ends) e) ∙ here r.under (k.standing.each r (found_in r.txn s.rows r e).0).going where
+  here : (o : Option Under) → IsAsPlanned s.sizes s.records s.ends r o → (is_some (job_under o) && nat_eq r.number n) ≡ is_under n o
+  here None h = refl
+  here (Some u) h = ap (λ m. nat_eq m n) h.1
+
+pub tests_read : TestsReadRows
+tests_read = record {
+  found_is = found_is;
+  count_is = λ s. count_is s.ends s.rows;
+  busy_is = λ s. busy_is s.ends s.rows;
+  owed_is = λ s. owed_is s.ends s.rows;
+  under_is = under_is;
+}

@@ -1,0 +1,38 @@
+-- The calls that change no list are steps.
+use Rattle.std.proofs.Common.{◌≡◌, ℕ, length, refl, ◌∙◌, ap, Bool, true, false, not, arith}
+use Rattle.std.proofs.lemmas.Bool.{lt-ltb}
+use Rattle.rq_model.specs.declared.txn.Txn.{Txn}
+use Rattle.rq_model.specs.Commits.{committed_of}
+use Rattle.rq_model.specs.History.{Entry, Call}
+use Rattle.rq_model.specs.Ledger.{after, runs, sent_in, tag_of}
+use Rattle.rq_model.specs.Legal.{Legal}
+use Rattle.rq_model.specs.Replay.{Reply, Says, receipt}
+use Rattle.rq_page.specs.Sizes.{sender_count}
+use Rattle.rq_store.specs.State.{phase_of, size_of, State, ledger_of}
+use Rattle.rq_sound.specs.Sound.{IsSound}
+use Rattle.rq_sound.specs.Steps.{Steps}
+use Rattle.rq_sound.specs.Unchanged.{UnchangedAreSteps}
+use Rattle.rq_sound.proofs.Refusals.{busy_is}
+
+-- a call whose entry leaves the ledger
+stays : (s : State) (c : Call) (gave : Reply) (e : Entry) → IsSound s → Says c gave e → Legal (size_of s.sizes) (ledger_of s) e → ledger_of s ≡ after e (ledger_of s) → Steps s c gave s
+stays s c gave e k says legal same = record { entry = e; says = says; legal = legal; after = same; sound = k; goes_on = (0, refl); stays_forced = omega arith }
+
+runs_now : (s : State) → s.failed ≡ false → not (runs (phase_of s.failed)) ≡ false
+runs_now s running = ap (λ b. not (runs (phase_of b))) running
+
+receipt_says : (t : Txn) (lsn : ℕ) (b : Bool) → Says (Call.Acknowledge t lsn) (Reply.Gave_receipt (receipt b t lsn)) (Entry.Acknowledged t lsn b)
+receipt_says t lsn false = refl
+receipt_says t lsn true = (refl, refl)
+
+pub unchanged : UnchangedAreSteps
+unchanged = record {
+  hands_over = λ s k running. stays s Call.Hand_over Reply.Gave_handed_over Entry.Handed_over k refl (runs_now s running, tt) refl;
+  writes = λ s page done k running. stays s (Call.Write_page page) (Reply.Gave_written done) (Entry.Wrote page done) k refl (runs_now s running, tt) refl;
+  acknowledges = λ s t lsn given k running e. stays s (Call.Acknowledge t lsn) (Reply.Gave_receipt (receipt given t lsn)) (Entry.Acknowledged t lsn given) k (receipt_says t lsn given) ((runs_now s running, tt), e) refl;
+  tells = λ s g k running below.
+      stays s (Call.Last_tag g) (Reply.Gave_tag _ _) (Entry.Told g (length (sent_in (committed_of s.records) g)) (tag_of (sent_in (committed_of s.records) g))) k refl
+      ((runs_now s running, (ap not (lt-ltb g (sender_count s.sizes) below), tt)), refl, refl) refl;
+  shows = λ s groups k running idle e.
+      stays s Call.Show (Reply.Gave_content groups) (Entry.Shown groups) k refl ((runs_now s running, (busy_is s.ends s.rows ∙ idle, tt)), e) refl;
+}

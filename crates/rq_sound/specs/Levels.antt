@@ -1,0 +1,68 @@
+-- What the level of chains plans for a store, from slots that it was given, with others' operations under way.
+use Rattle.std.specs.Prelude.{◌≡◌, ℕ, ◌+◌, ◌/◌, ◌<◌, true, false, not, List}
+use Rattle.rq_model.specs.declared.record.Deed.TheVariants.{Append, UnlinkHead, Close}
+use Rattle.rq_page.specs.Sizes.{IsCellAddress, cell_at, cell_count}
+use Rattle.rq_page.specs.Slots.{Slot}
+use Rattle.rq_page.specs.Slots.Slot.{Free}
+use Rattle.rq_views.specs.Plans.{Turn}
+use Rattle.rq_views.specs.Plans.Turn.{Did, Undid}
+use Rattle.rq_views.specs.Stored.{is_used}
+use Rattle.rq_level.specs.declared.slots.Given.{Given}
+use Rattle.rq_level.specs.declared.writes.Plan.{Plan}
+use Rattle.rq_level.specs.ChainPlans.{IsSent, IsReceived, IsClosed, IsTailUnlinked, IsReturned, IsReopened}
+use Rattle.rq_level.specs.Given.{GivenHolds, has_page}
+use Rattle.rq_level.specs.Kept.{Kept, IsLowest, NoneToTake, SomeFree, flag_at}
+use Rattle.rq_store.specs.State.{State}
+use Rattle.rq_sound.specs.Rows.{latched_in}
+use Rattle.rq_sound.specs.Sound.{IsSound}
+use Rattle.rq_sound.specs.Groups.{slots_now}
+use Rattle.rq_sound.specs.Plans.{AreUnlatched, IsPlannedFrom}
+use Rattle.rq_sound.specs.Latching.{AllFreeLatched}
+
+-- what was given is as the slots are, of pages that nobody has latched
+pub record IsGathered (s : State) (given : List Given) : Type 0 where
+  pub as_is : (a : ℕ) (x : Slot) → GivenHolds s.sizes given a x → slots_now s a ≡ x
+  pub unlatched : (a : ℕ) (x : Slot) → GivenHolds s.sizes given a x → latched_in s.rows (a / 16) ≡ false
+
+-- the level knows a cell as free where its slot is, and has chosen those alone whose pages are latched
+pub record KeepsCells (s : State) (k : Kept) : Type 0 where
+  pub free : (i : ℕ) → i < cell_count s.sizes
+      → flag_at k.free i ≡ not (is_used (slots_now s (cell_at s.sizes i)))
+  pub chosen : (i : ℕ) → i < cell_count s.sizes → flag_at k.reserved i ≡ true
+      → latched_in s.rows (cell_at s.sizes i / 16) ≡ true
+
+-- the pages that operations under way have latched
+abbrev pub AreLatched : State → List ℕ → Type 0
+AreLatched s latched = (p : ℕ) → has_page p latched ≡ latched_in s.rows p
+
+-- the plan is of the operation, over the slots as they are, on pages that nobody has latched
+abbrev pub MayFollow : State → Plan → Turn → Type 0
+MayFollow s p turn = IsPlannedFrom s.sizes (slots_now s) p.writes.items turn × AreUnlatched s p.writes.items
+
+-- What the level plans from such slots is planned from the slots as they are, and its pages are nobody's. Where it finds
+-- none to take each free cell is on a latched page; and where the store is not full it knows some cell as free.
+pub record LevelsPlanFromSlots : Type 0 where
+  pub lowest : (s : State) (k : Kept) (latched : List ℕ) (a : ℕ) → IsSound s → KeepsCells s k → AreLatched s latched
+      → IsLowest s.sizes k latched a
+      → IsCellAddress s.sizes a × (slots_now s a ≡ Free) × (latched_in s.rows (a / 16) ≡ false)
+  pub none_to_take : (s : State) (k : Kept) (latched : List ℕ) → KeepsCells s k → AreLatched s latched
+      → NoneToTake s.sizes k latched → AllFreeLatched s
+  pub some_free : (s : State) (k : Kept) → IsSound s → KeepsCells s k → s.cells_in_use < cell_count s.sizes
+      → SomeFree s.sizes k
+  pub sent : (s : State) (k : Kept) (given : List Given) (latched : List ℕ) (g tag : ℕ) (body : List ℕ) (p : Plan)
+      (after : Kept) → IsSound s → IsGathered s given → KeepsCells s k → AreLatched s latched
+      → (m : IsSent s.sizes k given latched g tag body p after)
+      → MayFollow s p (Did (Append g (m.can.directory.sent + 1) tag m.can.directory.last_tag body))
+  pub received : (s : State) (k : Kept) (given : List Given) (g : ℕ) (p : Plan) (after : Kept) → IsSound s
+      → IsGathered s given → (m : IsReceived s.sizes k given g p after)
+      → MayFollow s p (Did (UnlinkHead g (m.can.directory.received + 1) m.can.cell.tag m.can.cell.body))
+  pub closed : (s : State) (k : Kept) (given : List Given) (g : ℕ) (p : Plan) (after : Kept) → IsSound s
+      → IsGathered s given → IsClosed s.sizes k given g p after → MayFollow s p (Did (Close g))
+  pub unsent : (s : State) (k : Kept) (given : List Given) (g n tag previous : ℕ) (body : List ℕ) (p : Plan)
+      (after : Kept) → IsSound s → IsGathered s given → IsTailUnlinked s.sizes k given g n previous p after
+      → MayFollow s p (Undid (Append g n tag previous body))
+  pub returned : (s : State) (k : Kept) (given : List Given) (latched : List ℕ) (g n tag : ℕ) (body : List ℕ)
+      (p : Plan) (after : Kept) → IsSound s → IsGathered s given → KeepsCells s k → AreLatched s latched
+      → IsReturned s.sizes k given latched g n tag body p after → MayFollow s p (Undid (UnlinkHead g n tag body))
+  pub reopened : (s : State) (k : Kept) (given : List Given) (g : ℕ) (p : Plan) (after : Kept) → IsSound s
+      → IsGathered s given → IsReopened s.sizes k given g p after → MayFollow s p (Undid (Close g))

@@ -1,0 +1,54 @@
+-- What the level of chains finds in a sound store, where it was given the slots that it wants.
+use Rattle.std.specs.Prelude.{◌≡◌, ℕ, ◌/◌, ◌<◌, ◌≤◌, ◌^◌, ◌++◌, true, false, List, [], ◌∷◌, length}
+use Rattle.rq_model.specs.declared.record.Deed.{Deed}
+use Rattle.rq_model.specs.declared.record.Deed.TheVariants.{Append, UnlinkHead, Close}
+use Rattle.rq_page.specs.Sizes.{Sizes, directory_at, sender_count}
+use Rattle.rq_views.specs.Items.{items}
+use Rattle.rq_views.specs.Legal.{view}
+use Rattle.rq_views.specs.Log.{Slots}
+use Rattle.rq_views.specs.Plans.{deed_sender}
+use Rattle.rq_level.specs.declared.slots.Given.{Given}
+use Rattle.rq_level.specs.ChainPlans.{CanSend, CanReceive, CanMark, CanUnlinkTail, CanPutBack}
+use Rattle.rq_level.specs.Given.{GivenHolds}
+use Rattle.rq_txn.specs.declared.Finished.{Finished}
+use Rattle.rq_groups.specs.Waiting.{waits}
+use Rattle.rq_txn.specs.Rows.{Row}
+use Rattle.rq_store.specs.State.{State}
+use Rattle.rq_sound.specs.Rows.{latched_in}
+use Rattle.rq_sound.specs.Sound.{IsSound}
+use Rattle.rq_sound.specs.Calls.{IsIdle}
+use Rattle.rq_sound.specs.Groups.{slots_now}
+use Rattle.rq_sound.specs.Latching.{at_head, at_tail, before_tail, behind_head}
+
+-- these slots were given, as they are
+abbrev pub AreGivenOf : State → List Given → List ℕ → Type 0
+AreGivenOf s given [] = Unit {0}
+AreGivenOf s given (a ∷ rest) = GivenHolds s.sizes given a (slots_now s a) × AreGivenOf s given rest
+
+-- the slots that the inverse of a deed wants
+abbrev pub wanted_back : Slots → Deed → List ℕ
+wanted_back q (Append g n tag previous body) = before_tail q g
+wanted_back q (UnlinkHead g n tag body) = at_head q g
+wanted_back q (Close g) = directory_at g ∷ []
+
+-- they hold what it needs
+abbrev pub CanUndo : Sizes → List Given → Deed → Type 0
+CanUndo z given (Append g n tag previous body) = CanUnlinkTail z given g n
+CanUndo z given (UnlinkHead g n tag body) = CanPutBack z given g n
+CanUndo z given (Close g) = CanMark z given g false
+
+-- Where nobody has latched the page of a group's directory slot, what a level is given of the slots that it wants holds
+-- what its operation needs: it finds no damage.
+pub record LevelsFindAll : Type 0 where
+  pub sends : (s : State) (given : List Given) (g : ℕ) → IsSound s → g < sender_count s.sizes
+      → latched_in s.rows (directory_at g / 16) ≡ false → length s.records ≤ 2 ^ 50
+      → AreGivenOf s given (at_tail (slots_now s) g) → CanSend s.sizes given g
+  pub receives : (s : State) (given : List Given) (g : ℕ) → IsSound s → g < sender_count s.sizes
+      → latched_in s.rows (directory_at g / 16) ≡ false → 1 ≤ waits s.waiting g
+      → AreGivenOf s given (behind_head (slots_now s) g) → CanReceive s.sizes given g
+  pub closes : (s : State) (given : List Given) (g : ℕ) → IsSound s → g < sender_count s.sizes
+      → latched_in s.rows (directory_at g / 16) ≡ false → (view (items s.sizes s.records) g).closed ≡ false
+      → AreGivenOf s given (directory_at g ∷ []) → CanMark s.sizes given g true
+  pub undoes : (s : State) (given : List Given) (r : Row) (rest : List Finished) (f : Finished) → IsSound s
+      → IsIdle s r → r.finished ≡ rest ++ f ∷ [] → latched_in s.rows (directory_at (deed_sender f.deed) / 16) ≡ false
+      → AreGivenOf s given (wanted_back (slots_now s) f.deed) → CanUndo s.sizes given f.deed

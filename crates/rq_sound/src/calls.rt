@@ -1,0 +1,58 @@
+//! What the calls of a store with any number of operations under way rest on: refusals, what the model's tests read, what
+//! the pages say of a group while others are under way, and which plans may start.
+ghost use Rattle.rq_sound.specs.Groups.{SlotsTellGroups};
+ghost use Rattle.rq_sound.specs.Latching.{LatchedIsExact};
+ghost use Rattle.rq_sound.specs.Levels.{LevelsPlanFromSlots};
+ghost use Rattle.rq_sound.specs.Plans.{PlansMayStart};
+ghost use Rattle.rq_sound.specs.Refusals.{RefusalsAreSteps, TestsReadRows};
+ghost use Rattle.rq_sound.specs.Unchanged.{UnchangedAreSteps};
+ghost use Rattle.rq_sound.specs.Waits.{WaitsAreGiven};
+ghost use Rattle.rq_sound.specs.Wants.{LevelsFindAll};
+
+/// A refusal that the model's tests give is a step that changes nothing; a device's failure stops the store.
+pub fn refusals_are_steps()
+    ensures { RefusalsAreSteps }
+{}
+
+/// What the model's tests read of a store's ledger is what its rows say.
+pub fn tests_read_rows()
+    ensures { TestsReadRows }
+{}
+
+/// A group gives a transaction a message exactly where its receiving end is free for it and a message waits.
+pub fn waits_are_given()
+    ensures { WaitsAreGiven }
+{}
+
+/// Where nobody has latched the page of a group's directory slot, the slots as they are show the group, and the cells at
+/// both ends of its chain stand where the links name them.
+pub fn slots_tell_groups()
+    ensures { SlotsTellGroups }
+{}
+
+/// What is planned from the slots as they are, on pages that nobody has latched, may start.
+pub fn plans_may_start()
+    ensures { PlansMayStart }
+{}
+
+/// What the level of chains plans from slots of pages that nobody has latched is planned from the slots as they are.
+pub fn levels_plan_from_slots()
+    ensures { LevelsPlanFromSlots }
+{}
+
+/// The calls that change no list are steps of the model.
+pub fn unchanged_are_steps()
+    ensures { UnchangedAreSteps }
+{}
+
+/// A call that passes the model's tests and has something to start can be planned over the slots as they are exactly where
+/// not all that it may start needs a latched page.
+pub fn latched_is_exact()
+    ensures { LatchedIsExact }
+{}
+
+/// What the level of chains was given of the slots that it wants holds what its operation needs, where nobody has latched
+/// the page of its group's directory slot.
+pub fn levels_find_all()
+    ensures { LevelsFindAll }
+{}
