@@ -1,5 +1,5 @@
 -- On a sound store with nothing under way, what is read of a sender is its committed content.
-use Rattle.std.proofs.Common.{◌≡◌, ℕ, zero, suc, ◌+◌, ◌-◌, ◌<◌, ◌≤◌, List, [], ◌∷◌, ◌++◌, length, map, take, drop, refl, sym, ◌∙◌, ap, subst, false, arith, inl, inr, Option, Some, None}
+use Rattle.std.proofs.Common.{◌≡◌, ℕ, zero, suc, ◌+◌, ◌-◌, ◌/◌, ◌<◌, ◌≤◌, List, [], ◌∷◌, ◌++◌, length, map, take, drop, refl, sym, ◌∙◌, ap, subst, ◌||◌, cond, false, arith, inl, inr, Option, Some, None}
 use Rattle.std.specs.Prelude.{Result, Ok, Err, IfOk, IfErr}
 use Rattle.std.specs.Global.{Vec}
 use Rattle.std.specs.List.{filter_map}
@@ -35,33 +35,33 @@ use Rattle.rq_views.proofs.GroupRule.{held}
 use Rattle.rq_views.proofs.Holders.{Held}
 use Rattle.rq_views.proofs.Holding.{Holds, view_holds, committed_is_group, tag_and_body}
 use Rattle.rq_store.specs.State.{State}
-use Rattle.rq_store.specs.Sound.{IsSound}
-use Rattle.rq_store.specs.Rows.{AllMove, placed}
+use Rattle.rq_store.specs.Rows.{placed}
 use Rattle.rq_store.specs.Fitting.{left_by}
 use Rattle.rq_store.proofs.Grouping.{groups_of}
-use Rattle.rq_store.proofs.Chains as Chains
-use Rattle.rq_store.proofs.Chains.{closed_is}
 use Rattle.rq_store.proofs.RowLists.{found_in}
 use Rattle.rq_store.proofs.Telling.{told_placed}
+use Rattle.rq_sound.specs.Sound.{IsSound}
+use Rattle.rq_sound.proofs.Contracts.{shows}
+use Rattle.rq_sound.proofs.Groups.{none_latched}
 use Rattle.rq_content.specs.declared.GroupContent.{GroupContent}
 use Rattle.rq_content.specs.Read.{group_of, IsBroken, StopsFor, IsNoMemory, Before, start, without_all, without_rows, or_else, met, cells_in, shown_group, read_group}
 use Rattle.rq_content.proofs.Walks.{linked_over, met_linked}
-use Rattle.rq_content.proofs.LeftOut.{own, own_taken, SameSends, sends_same, sends_through, respects, quiet_sends, quiet_takes, own_left, first_tag, AreFirst, takes_first}
+use Rattle.rq_content.proofs.LeftOut.{own, own_taken, SameSends, sends_same, sends_through, respects, quiet_sends, quiet_takes, closes, closes_is, closed_before, own_left, first_tag, AreFirst, takes_first}
 use Rattle.rq_content.proofs.OneRead.{Has, fields_are, read_is}
 
 -- of these rows none but t's sends for g
 abbrev NoneSends : ℕ → Txn → List Row → Type 0
-NoneSends g t rows = (r : Row) → In r rows → AllMove r.finished × (same_txn r.txn t ≡ false → side (on_sending_end g) (placed r.finished) ≡ [])
+NoneSends g t rows = (r : Row) → In r rows → same_txn r.txn t ≡ false → side (on_sending_end g) (placed r.finished) ≡ []
 
 -- and none but t's takes from it
 abbrev NoneTakes : ℕ → Txn → List Row → Type 0
-NoneTakes g t rows = (r : Row) → In r rows → AllMove r.finished × (same_txn r.txn t ≡ false → side (on_receiving_end g) (placed r.finished) ≡ [])
+NoneTakes g t rows = (r : Row) → In r rows → same_txn r.txn t ≡ false → side (on_receiving_end g) (placed r.finished) ≡ []
 
 sends_quiet : (g : ℕ) (t : Txn) (rows : List Row) (b : Before) → NoneSends g t rows → found_row t rows ≡ None → SameSends (without_rows g rows b) b
 sends_quiet g t [] b q e = sends_same b
 sends_quiet g t (r ∷ rows) b q e = elim (cases_Bool (same_txn r.txn t)) [
   | inl y ↦ let bad : Some r ≡ None = rw y at e in cc
-  | inr n ↦ let k = q r (inl refl) in sends_through _ (without_rows g rows b) b (quiet_sends g r.finished (without_rows g rows b) k.0 (k.1 n)) (sends_quiet g t rows b (λ p i. q p (inr i)) (rw n at e))
+  | inr n ↦ let k = q r (inl refl) in sends_through _ (without_rows g rows b) b (quiet_sends g r.finished (without_rows g rows b) (k n)) (sends_quiet g t rows b (λ p i. q p (inr i)) (rw n at e))
 ]
 
 -- what sends leave out of all rows is what they leave out of one
@@ -71,18 +71,18 @@ sends_one g t (p ∷ rows) b r d q e = elim (cases_Bool (same_txn p.txn t)) [
   | inl y ↦
       let same : p ≡ r = same_Some p r (rw y at e) in
       let none : found_row t rows ≡ None = ap (λ u. found_row u rows) (sym (same_is p.txn t y)) ∙ d.0 in
-      let k = respects g p.finished (without_rows g rows b) b (q p (inl refl)).0 (sends_quiet g t rows b (λ x i. q x (inr i)) none) in
+      let k = respects g p.finished (without_rows g rows b) b (sends_quiet g t rows b (λ x i. q x (inr i)) none) in
       subst (λ (x : Row). SameSends (without_all g p.finished (without_rows g rows b)) (without_all g x.finished b)) same k
   | inr n ↦
       let k = q p (inl refl) in
-      sends_through _ (without_rows g rows b) _ (quiet_sends g p.finished (without_rows g rows b) k.0 (k.1 n)) (sends_one g t rows b r d.1 (λ x i. q x (inr i)) (rw n at e))
+      sends_through _ (without_rows g rows b) _ (quiet_sends g p.finished (without_rows g rows b) (k n)) (sends_one g t rows b r d.1 (λ x i. q x (inr i)) (rw n at e))
 ]
 
 takes_quiet : (g : ℕ) (t : Txn) (rows : List Row) (b : Before) → NoneTakes g t rows → found_row t rows ≡ None → (without_rows g rows b).taken ≡ b.taken
 takes_quiet g t [] b q e = refl
 takes_quiet g t (r ∷ rows) b q e = elim (cases_Bool (same_txn r.txn t)) [
   | inl y ↦ let bad : Some r ≡ None = rw y at e in cc
-  | inr n ↦ let k = q r (inl refl) in quiet_takes g r.finished (without_rows g rows b) k.0 (k.1 n) ∙ takes_quiet g t rows b (λ p i. q p (inr i)) (rw n at e)
+  | inr n ↦ let k = q r (inl refl) in quiet_takes g r.finished (without_rows g rows b) (k n) ∙ takes_quiet g t rows b (λ p i. q p (inr i)) (rw n at e)
 ]
 
 -- and so it is with takes
@@ -92,16 +92,15 @@ takes_one g t (p ∷ rows) b r d q e = elim (cases_Bool (same_txn p.txn t)) [
   | inl y ↦
       let same : p ≡ r = same_Some p r (rw y at e) in
       let none : found_row t rows ≡ None = ap (λ u. found_row u rows) (sym (same_is p.txn t y)) ∙ d.0 in
-      (own_left g p.finished (without_rows g rows b) (q p (inl refl)).0).taken ∙ ap (λ l. l ++ own_taken g p.finished) (takes_quiet g t rows b (λ x i. q x (inr i)) none) ∙ ap (λ (x : Row). b.taken ++ own_taken g x.finished) same
+      (own_left g p.finished (without_rows g rows b)).taken ∙ ap (λ l. l ++ own_taken g p.finished) (takes_quiet g t rows b (λ x i. q x (inr i)) none) ∙ ap (λ (x : Row). b.taken ++ own_taken g x.finished) same
   | inr n ↦
       let k = q p (inl refl) in
-      quiet_takes g p.finished (without_rows g rows b) k.0 (k.1 n) ∙ takes_one g t rows b r d.1 (λ x i. q x (inr i)) (rw n at e)
+      quiet_takes g p.finished (without_rows g rows b) (k n) ∙ takes_one g t rows b r d.1 (λ x i. q x (inr i)) (rw n at e)
 ]
 
 -- what t has done and not ended: messages sent and taken
 record DoneBy (s : State) (g : ℕ) (t : Txn) : Type 0 where
   finished : List Finished
-  moves : AllMove finished
   open_is : open_deeds t (items s.sizes s.records) ≡ placed finished
   sends_left : (b : Before) → NoneSends g t s.rows → SameSends (without_rows g s.rows b) (without_all g finished b)
   takes_left : (b : Before) → NoneTakes g t s.rows → (without_rows g s.rows b).taken ≡ b.taken ++ own_taken g finished
@@ -109,15 +108,14 @@ record DoneBy (s : State) (g : ℕ) (t : Txn) : Type 0 where
 done_by : (s : State) (k : IsSound s) (g : ℕ) (t : Txn) → DoneBy s g t
 done_by s k g t = at (found_row t s.rows) refl where
   at : (o : Option Row) → found_row t s.rows ≡ o → DoneBy s g t
-  at None e = record { finished = []; moves = tt; open_is = (k.others t e).settled; sends_left = λ b q. sends_quiet g t s.rows b q e; takes_left = λ b q. takes_quiet g t s.rows b q e ∙ sym (append-nil b.taken) }
+  at None e = record { finished = []; open_is = (k.standing.others t e).settled; sends_left = λ b q. sends_quiet g t s.rows b q e; takes_left = λ b q. takes_quiet g t s.rows b q e ∙ sym (append-nil b.taken) }
   at (Some r) e =
       let i = found_in t s.rows r e in
       record {
         finished = r.finished;
-        moves = (k.rows r i.0).moves;
-        open_is = ap (λ u. open_deeds u (items s.sizes s.records)) (sym i.1) ∙ (k.rows r i.0).done;
-        sends_left = λ b q. sends_one g t s.rows b r k.distinct q e;
-        takes_left = λ b q. takes_one g t s.rows b r k.distinct q e;
+        open_is = ap (λ u. open_deeds u (items s.sizes s.records)) (sym i.1) ∙ (k.standing.each r i.0).done;
+        sends_left = λ b q. sends_one g t s.rows b r k.standing.distinct q e;
+        takes_left = λ b q. takes_one g t s.rows b r k.standing.distinct q e;
       }
 
 -- what t sent for g, and how many messages it took from it
@@ -203,16 +201,17 @@ finds s k e g below =
     let t = h.sender in
     let u = h.taker in
     let w : Holds g (say (open_deeds t its)) (say (open_deeds u its)) c (view its g) = view_holds g its t u (groups_of s.sizes s.records k.log) h.sender_alone h.taker_alone in
+    let is = committed_is_group s.sizes g s.records k.log.rules k.log.reads in
     let dt = done_by s k g t in
     let du = done_by s k g u in
     let own_is : added g (say (open_deeds t its)) ≡ own g dt.finished = added_own s g t dt in
-    let x = Chains.shown s k e g below in
+    let x = shows s k g below (none_latched s.rows (directory_at g / 16) e) in
     let d = x.directory in
-    let nobody_sends : NoneSends g t s.rows = λ r i. ((k.rows r i).moves, λ n. ap (side (on_sending_end g)) (sym (k.rows r i).done) ∙ h.sender_alone r.txn (not_same r.txn t n)) in
-    let nobody_takes : NoneTakes g u s.rows = λ r i. ((k.rows r i).moves, λ n. ap (side (on_receiving_end g)) (sym (k.rows r i).done) ∙ h.taker_alone r.txn (not_same r.txn u n)) in
+    let nobody_sends : NoneSends g t s.rows = λ r i n. ap (side (on_sending_end g)) (sym (k.standing.each r i).done) ∙ h.sender_alone r.txn (not_same r.txn t n) in
+    let nobody_takes : NoneTakes g u s.rows = λ r i n. ap (side (on_receiving_end g)) (sym (k.standing.each r i).done) ∙ h.taker_alone r.txn (not_same r.txn u n) in
     let a : Before = without_rows g s.rows (start d) in
     let sends = dt.sends_left (start d) nobody_sends in
-    let left = own_left g dt.finished (start d) dt.moves in
+    let left = own_left g dt.finished (start d) in
     let taken : a.taken ≡ own_taken g du.finished = du.takes_left (start d) nobody_takes in
     let count : removed g (say (open_deeds u its)) ≡ length a.taken = removed_own s g u du ∙ ap length (sym taken) in
     record {
@@ -228,13 +227,16 @@ finds s k e g below =
         messages = sym x.shows.messages ∙ w.messages ∙ ap (λ n. drop n c.messages ++ map tag_and_body (added g (say (open_deeds t its)))) count ∙ ap (λ l. drop (length a.taken) c.messages ++ map tag_and_body l) own_is;
         received = sym x.shows.received ∙ w.received ∙ ap (λ n. c.received + n) count;
         left = sends.sent ∙ left.sent;
-        taken = subst (λ l. AreFirst g l c.messages) (sym taken) (takes_first g du.finished c du.moves (subst (λ ps. Sound (side (on_receiving_end g) ps) c) du.open_is (h.takes u)));
+        taken = subst (λ l. AreFirst g l c.messages) (sym taken) (takes_first g du.finished c (subst (λ ps. Sound (side (on_receiving_end g) ps) c) du.open_is (h.takes u)));
       };
       tag =
           ap (λ o. or_else o d.last_tag) sends.previous
           ∙ ap (or_else (without_all g dt.finished (start d)).previous) (sym x.shows.last_tag ∙ w.last_tag ∙ ap (tag_after c.last_tag) own_is)
-          ∙ first_tag g dt.finished (start d) c dt.moves refl (subst (λ ps. Sound (side (on_sending_end g) ps) c) dt.open_is (h.sends t));
-      closed = sends.closed ∙ left.closed ∙ sym x.shows.closed ∙ closed_is s k g;
+          ∙ first_tag g dt.finished (start d) c refl (subst (λ ps. Sound (side (on_sending_end g) ps) c) dt.open_is (h.sends t));
+      closed = sends.closed ∙ left.closed ∙ elim (cases_Bool (closes g dt.finished)) [
+        | inl y ↦ ap (λ b. cond b false d.closed) y ∙ sym (closed_before g dt.finished c y (subst (λ ps. Sound (side (on_sending_end g) ps) c) dt.open_is (h.sends t))) ∙ is.closed
+        | inr n ↦ ap (λ b. cond b false d.closed) n ∙ sym x.shows.closed ∙ w.closed ∙ ap (λ b. b || c.closed) (ap (λ ps. closed g (say ps)) dt.open_is ∙ closes_is g dt.finished ∙ n) ∙ is.closed
+      ];
     }
 
 -- the committed content of a sender is what is read of it

@@ -9,7 +9,7 @@ ghost use Rattle.rq_model.specs.Commits.{committed_of};
 ghost use Rattle.rq_page.specs.Sizes.{sender_count};
 ghost use Rattle.rq_txn.specs.Rows.{any_under};
 ghost use Rattle.rq_store.specs.State.{State};
-ghost use Rattle.rq_store.specs.Sound.{IsSound};
+ghost use Rattle.rq_sound.specs.Sound.{IsSound};
 ghost use Rattle.rq_content.specs.Read.{group_of, read_group, StopsFor, IsNoMemory};
 
 mod chain;

@@ -22,10 +22,9 @@ use Rattle.rq_views.proofs.Totals.{log_total}
 use Rattle.rq_groups.specs.Ends.{HeldEnds}
 use Rattle.rq_groups.specs.Waiting.{waits}
 use Rattle.rq_store.specs.Fitting.{left_by}
-use Rattle.rq_txn.specs.Rows.{Under, Row}
+use Rattle.rq_txn.specs.Rows.{Under, Row, any_under}
 use Rattle.rq_store.specs.State.{State, open_of, open_ones_of}
 use Rattle.rq_sound.specs.Rows.{latched_in, latched_under}
-use Rattle.rq_sound.specs.Busy.{any_under}
 use Rattle.rq_sound.specs.Counted.{takes_in}
 use Rattle.rq_sound.specs.Sound.{IsSound}
 use Rattle.rq_sound.specs.Groups.{slots_now, TellsGroup, SlotsTellGroups}

@@ -29,7 +29,7 @@ use Rattle.rq_views.proofs.Stands.{sender_is_directory}
 use Rattle.rq_txn.specs.declared.Finished.{Finished}
 use Rattle.rq_groups.specs.Ends.{is_free_for}
 use Rattle.rq_groups.specs.Waiting.{waits}
-use Rattle.rq_store.specs.Plans.{Stands_at}
+use Rattle.rq_store.specs.Plans.{Stands_at, WaitsFor, NoneWaits}
 use Rattle.rq_store.specs.Rows.{placed}
 use Rattle.rq_store.specs.State.{size_of, op_done, State, ledger_of, open_of, job_under}
 use Rattle.rq_store.proofs.Grouping.{groups_of}
@@ -40,7 +40,6 @@ use Rattle.rq_store.proofs.RowLists.{found_in}
 use Rattle.rq_sound.specs.Rows.{latched_in}
 use Rattle.rq_sound.specs.Sound.{IsSound}
 use Rattle.rq_sound.specs.Calls.{IsIdle}
-use Rattle.rq_sound.specs.Waits.{WaitsFor, NoneWaits}
 use Rattle.rq_sound.specs.Groups.{StandsAt, slots_now}
 use Rattle.rq_sound.specs.Plans.{AreOff}
 use Rattle.rq_sound.specs.Latching.{AllFreeLatched, Begins, IsLatched, LatchedIsExact, MayBePlanned, NeedsLatched, any_latched, at_head, at_tail, before_tail, behind_head, completed, head_in, named, next_in, prev_in, tail_in}

@@ -10,11 +10,10 @@ use Rattle.rq_model.specs.Ledger.{found, runs}
 use Rattle.rq_model.specs.Tests.{any_busy, has_under, owed}
 use Rattle.rq_model.specs.Words.{is_some}
 use Rattle.rq_groups.specs.Ends.{HeldEnds}
-use Rattle.rq_store.specs.State.{phase_of, State, ledger_of, open_of, open_ones_of, job_under}
-use Rattle.rq_txn.specs.Rows.{Under, Row, found_row}
+use Rattle.rq_store.specs.State.{phase_of, State, ledger_of, open_of, open_ones_of, job_under, owed_under, owed_one, owed_by}
+use Rattle.rq_txn.specs.Rows.{Under, Row, found_row, any_under}
 use Rattle.rq_store.specs.Rows.{is_under}
 use Rattle.rq_store.proofs.RowLists.{found_in}
-use Rattle.rq_sound.specs.Busy.{any_under, owed_under, owed_one, owed_by}
 use Rattle.rq_sound.specs.Standing.{IsAsPlanned}
 use Rattle.rq_sound.specs.Sound.{IsSound}
 use Rattle.rq_sound.specs.Refusals.{RefusalsAreSteps, TestsReadRows}

@@ -10,9 +10,10 @@ use Rattle.rq_groups.specs.Waiting.{waits}
 use Rattle.rq_txn.specs.Rows.{Row, found_row}
 use Rattle.rq_store.specs.State.{State, ledger_of, open_of}
 use Rattle.rq_store.proofs.RowLists.{found_in}
+use Rattle.rq_store.specs.Plans.{WaitsFor, NoneWaits}
 use Rattle.rq_sound.specs.Counted.{takes_in}
 use Rattle.rq_sound.specs.Sound.{IsSound}
-use Rattle.rq_sound.specs.Waits.{WaitsFor, NoneWaits, WaitsAreGiven}
+use Rattle.rq_sound.specs.Waits.{WaitsAreGiven}
 use Rattle.rq_sound.proofs.Ledgers.{found_open, open_found}
 use Rattle.rq_sound.proofs.FreeEnds.{free_to_take}
 use Rattle.rq_sound.proofs.Contracts.{answered}

@@ -11,10 +11,9 @@ use Rattle.rq_views.specs.Plans.{ShowsAt}
 use Rattle.rq_views.specs.Stored.{slots_in, count_used}
 use Rattle.rq_groups.specs.Ends.{is_free_for}
 use Rattle.rq_groups.specs.Waiting.{waits}
-use Rattle.rq_txn.specs.Rows.{Row}
+use Rattle.rq_txn.specs.Rows.{Row, any_under}
 use Rattle.rq_store.specs.State.{State}
 use Rattle.rq_sound.specs.Rows.{latched_in}
-use Rattle.rq_sound.specs.Busy.{any_under}
 use Rattle.rq_sound.specs.Sound.{IsSound}
 use Rattle.rq_sound.specs.Calls.{IsIdle}
 

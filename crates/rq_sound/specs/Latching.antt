@@ -19,7 +19,7 @@ use Rattle.rq_store.specs.State.{size_of, job_of, State, ledger_of}
 use Rattle.rq_txn.specs.Rows.{Row, found_row}
 use Rattle.rq_sound.specs.Rows.{latched_in}
 use Rattle.rq_sound.specs.Sound.{IsSound}
-use Rattle.rq_sound.specs.Waits.{WaitsFor}
+use Rattle.rq_store.specs.Plans.{WaitsFor}
 use Rattle.rq_sound.specs.Groups.{slots_now}
 use Rattle.rq_sound.specs.Plans.{AreOff}
 

@@ -8,7 +8,6 @@ pub mod Steps
 pub mod Theorems
 pub mod Course
 pub mod Worked
-pub mod Busy
 pub mod Refusals
 pub mod Waits
 pub mod Groups

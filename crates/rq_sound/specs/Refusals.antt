@@ -10,10 +10,9 @@ use Rattle.rq_model.specs.Ledger.{after, found}
 use Rattle.rq_model.specs.Legal.{LegalRefusal}
 use Rattle.rq_model.specs.Replay.{Reply}
 use Rattle.rq_model.specs.Tests.{any_busy, has_under, owed}
-use Rattle.rq_store.specs.State.{size_of, State, ledger_of, open_of}
-use Rattle.rq_txn.specs.Rows.{Row, found_row}
+use Rattle.rq_store.specs.State.{size_of, State, ledger_of, open_of, owed_by}
+use Rattle.rq_txn.specs.Rows.{Row, found_row, any_under}
 use Rattle.rq_store.specs.Rows.{is_under}
-use Rattle.rq_sound.specs.Busy.{any_under, owed_by}
 use Rattle.rq_sound.specs.Sound.{IsSound}
 use Rattle.rq_sound.specs.Steps.{Steps}
 use Rattle.rq_sound.specs.Calls.{failed}

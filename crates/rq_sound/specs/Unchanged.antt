@@ -8,7 +8,7 @@ use Rattle.rq_model.specs.Replay.{Reply, receipt}
 use Rattle.rq_model.specs.Tests.{below}
 use Rattle.rq_page.specs.Sizes.{sender_count}
 use Rattle.rq_store.specs.State.{State}
-use Rattle.rq_sound.specs.Busy.{any_under}
+use Rattle.rq_txn.specs.Rows.{any_under}
 use Rattle.rq_sound.specs.Sound.{IsSound}
 use Rattle.rq_sound.specs.Steps.{Steps}
 

@@ -7,16 +7,9 @@ use Rattle.rq_page.specs.Sizes.{sender_count}
 use Rattle.rq_groups.specs.Ends.{is_free_for}
 use Rattle.rq_groups.specs.Waiting.{waits}
 use Rattle.rq_txn.specs.Rows.{Row, found_row}
+use Rattle.rq_store.specs.Plans.{WaitsFor, NoneWaits}
 use Rattle.rq_store.specs.State.{State, ledger_of}
 use Rattle.rq_sound.specs.Sound.{IsSound}
-
--- a message waits for t: its receiving end is free for t, and one waits
-abbrev pub WaitsFor : State → Txn → ℕ → Type 0
-WaitsFor s t g = (g < sender_count s.sizes) × (is_free_for t g s.ends.receiving ≡ true) × (1 ≤ waits s.waiting g)
-
--- none waits for t
-abbrev pub NoneWaits : State → Txn → Type 0
-NoneWaits s t = (g : ℕ) → g < sender_count s.sizes → is_free_for t g s.ends.receiving ≡ true → waits s.waiting g ≡ 0
 
 -- a group gives a transaction a message exactly where its receiving end is free for it and a message waits
 pub record WaitsAreGiven : Type 0 where
