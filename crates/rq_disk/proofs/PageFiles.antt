@@ -1,9 +1,10 @@
 -- One call more of a file of pages.
-use Rattle.std.proofs.Common.{◌≡◌, ℕ, Bool, false, List, ◌∷◌, length, subst, sym}
+use Rattle.std.proofs.Common.{◌≡◌, ◌⊎◌, ◌↔◌, ℕ, Bool, true, false, List, [], ◌∷◌, length, refl, subst, sym, inl, inr, ⊎_elim}
+use Rattle.std.specs.Prelude.{if◌then◌else◌}
 use Rattle.rq_disk.specs.Device.{Images, Leaves, NoMore, Elapses}
 use Rattle.rq_disk.specs.FileCalls.{FileCall, has_failed, after_sync}
-use Rattle.rq_disk.specs.FileCalls.FileCall.{Synced}
-use Rattle.rq_disk.specs.PageFile.{images_now, page_may_be, PagesLeftSince, page_seen}
+use Rattle.rq_disk.specs.FileCalls.FileCall.{Gave, Took, Tried, Synced, Missed}
+use Rattle.rq_disk.specs.PageFile.{images_now, page_may_be, PagesLeftSince, page_seen, page_at, before_sync, WasWrittenSince, PageFilesLeave}
 use Rattle.rq_disk.proofs.SinceCalls.{goes_on}
 
 module _ (held : Images) (calls later : List FileCall) where
@@ -18,3 +19,28 @@ module _ (held : Images) (calls later : List FileCall) where
 
     pub synced_crash : NoMore (page_may_be held calls) (page_may_be held later)
     synced_crash p c may = subst (page_may_be held calls p) (sym (synced_only p c may)) (page_seen held calls p)
+
+-- one write more, or a sync
+one_more : {A B C W : Type 0} → A ↔ (B ⊎ C) → (A ⊎ W) ↔ (B ⊎ (W ⊎ C))
+one_more {A} {B} {C} {W} iff = (
+  ⊎_elim (λ (a : A). ⊎_elim (λ (b : B). inl b) (λ (c : C). inr (inr c)) (iff.0 a)) (λ (w : W). inr (inl w)),
+  ⊎_elim (λ (b : B). inl (iff.1 (inl b))) (⊎_elim (λ (w : W). inr w) (λ (c : C). inl (iff.1 (inr c)))),
+)
+
+nothing_more : {A : Type 0} → A ↔ (A ⊎ ⊥)
+nothing_more {A} = ((λ (a : A). inl a), ⊎_elim (λ (a : A). a) (λ (f : ⊥). absurd f))
+
+synced : (held : Images) (calls : List FileCall) (p : ℕ) (c : List ℕ) (b : Bool)
+    → page_may_be held calls p c ↔ ((c ≡ images_now held (before_sync calls) p) ⊎ WasWrittenSince calls p c)
+    → after_sync b (page_may_be held calls p c) (c ≡ images_now held calls p)
+    ↔ ((c ≡ images_now held (if b then before_sync calls else calls) p) ⊎ after_sync b (WasWrittenSince calls p c) ⊥)
+synced held calls p c true iff = iff
+synced held calls p c false iff = nothing_more
+
+pub page_files_leave : PageFilesLeave
+page_files_leave held [] p c = nothing_more
+page_files_leave held (Gave at bytes ∷ calls) p c = page_files_leave held calls p c
+page_files_leave held (Took at bytes ∷ calls) p c = one_more (page_files_leave held calls p c)
+page_files_leave held (Tried at bytes ∷ calls) p c = one_more (page_files_leave held calls p c)
+page_files_leave held (Synced ∷ calls) p c = synced held calls p c (has_failed calls) (page_files_leave held calls p c)
+page_files_leave held (Missed ∷ calls) p c = page_files_leave held calls p c

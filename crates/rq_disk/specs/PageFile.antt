@@ -1,5 +1,5 @@
 -- Pages in a file, by what it held at first and its calls since, the newest first.
-use Rattle.std.specs.Prelude.{◌≡◌, ◌⊎◌, ℕ, ◌+◌, ◌≤◌, ◌/◌, ◌%◌, ◌^◌, ◌==◌, if◌then◌else◌, List, [], ◌∷◌, length, drop, refl, ⊤, Bool, true, ◌&&◌}
+use Rattle.std.specs.Prelude.{◌≡◌, ◌⊎◌, ◌↔◌, ℕ, ◌+◌, ◌≤◌, ◌/◌, ◌%◌, ◌^◌, ◌==◌, if◌then◌else◌, List, [], ◌∷◌, length, drop, refl, ⊤, Bool, true, ◌&&◌}
 use Rattle.std.proofs.Common.{inl, inr, sym, subst}
 use Rattle.std.proofs.lemmas.Bool.{cases_eq}
 use Rattle.rq_disk.specs.Device.{Images, Leaves}
@@ -43,6 +43,31 @@ page_may_be held (Tried at bytes ∷ calls) p c = page_may_be held calls p c ⊎
 page_may_be held (Synced ∷ calls) p c =
     after_sync (has_failed calls) (page_may_be held calls p c) (c ≡ images_now held calls p)
 page_may_be held (Missed ∷ calls) p c = page_may_be held calls p c
+
+-- the calls before the last sync that made all durable; none where there was no such sync
+abbrev pub before_sync : List FileCall → List FileCall
+before_sync [] = []
+before_sync (Gave at bytes ∷ calls) = before_sync calls
+before_sync (Took at bytes ∷ calls) = before_sync calls
+before_sync (Tried at bytes ∷ calls) = before_sync calls
+before_sync (Synced ∷ calls) = if has_failed calls then before_sync calls else calls
+before_sync (Missed ∷ calls) = before_sync calls
+
+-- since that sync this image was written to this page, or was to be
+abbrev pub WasWrittenSince : List FileCall → ℕ → List ℕ → Type 0
+WasWrittenSince [] p c = ⊥
+WasWrittenSince (Gave at bytes ∷ calls) p c = WasWrittenSince calls p c
+WasWrittenSince (Took at bytes ∷ calls) p c = ((p ≡ page_at at) × (c ≡ bytes)) ⊎ WasWrittenSince calls p c
+WasWrittenSince (Tried at bytes ∷ calls) p c = ((p ≡ page_at at) × (c ≡ bytes)) ⊎ WasWrittenSince calls p c
+WasWrittenSince (Synced ∷ calls) p c = after_sync (has_failed calls) (WasWrittenSince calls p c) ⊥
+WasWrittenSince (Missed ∷ calls) p c = WasWrittenSince calls p c
+
+-- A crash may leave of a page its image at the last sync that made all durable, and each one that was written since, or
+-- was to be; and nothing else.
+abbrev pub PageFilesLeave : Type 0
+PageFilesLeave =
+    (held : Images) (calls : List FileCall) (p : ℕ) (c : List ℕ) → page_may_be held calls p c
+    ↔ ((c ≡ images_now held (before_sync calls) p) ⊎ WasWrittenSince calls p c)
 
 -- each read gave the image that was written last
 abbrev pub PagesAgree : Images → List FileCall → Type 0

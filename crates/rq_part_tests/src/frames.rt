@@ -221,7 +221,8 @@ fn put_any_frame(out: &mut BytesMut, dice: &mut Dice) -> Result<(), AllocError> 
     }
 }
 
-// The requests of a stream that comes in random pieces, spelled again, and whether there was a fault.
+// The requests of a stream that comes in random pieces, each of a byte and at most so many more, spelled again, and
+// whether there was a fault.
 fn in_pieces(
     alloc: Global,
     stream: &[u8],
@@ -233,7 +234,7 @@ fn in_pieces(
     let mut fault = false;
     let mut rest = stream;
     for _ in 0..stream.len() {
-        let size = dice.up_to(most).min(rest.len());
+        let size = (1 + dice.up_to(most)).min(rest.len());
         let (piece, more) = rest.split_at(size);
         let fed = feed(&mut frames, piece)?;
         put_fed(&mut asked, &fed)?;
@@ -266,5 +267,62 @@ fn random_frames_in_random_pieces(rt: HostRuntime) -> Result<(), Fail> {
             "seed {seed}"
         );
     }
+    Ok(())
+}
+
+// Good frames, of whose bytes one in so many is another by chance.
+fn damaged(alloc: Global, one_in: u16, dice: &mut Dice) -> Result<BytesMut, AllocError> {
+    let mut good = BytesMut::new(alloc);
+    for _ in 0..20 {
+        put_any_frame(&mut good, dice)?;
+    }
+    let mut stream = BytesMut::new(alloc);
+    for byte in good.as_slice() {
+        if dice.up_to(one_in) == 0 {
+            stream.put_u8(dice.up_to(255) as u8)?;
+        } else {
+            stream.put_u8(*byte)?;
+        }
+    }
+    Ok(stream)
+}
+
+// The requests of a stream that comes at once, spelled again, how many they are, and whether there was a fault.
+fn at_once(alloc: Global, stream: &[u8]) -> Result<(BytesMut, usize, bool), Fail> {
+    let mut frames = Frames::new(alloc);
+    let mut asked = BytesMut::new(alloc);
+    let fed = feed(&mut frames, stream)?;
+    put_fed(&mut asked, &fed)?;
+    Ok((asked, fed.requests.len(), fed.fault))
+}
+
+#[test]
+fn random_bytes_give_the_same_in_any_pieces(rt: HostRuntime) -> Result<(), Fail> {
+    let mut faults = 0u32;
+    let mut requests = 0usize;
+    for seed in 1..=400u64 {
+        let mut dice = Dice { state: seed };
+        let stream = damaged(rt.alloc(), 99, &mut dice)?;
+        let (asked, count, fault) = at_once(rt.alloc(), stream.as_slice())?;
+        let most = match seed % 4 {
+            0 => 0,
+            1 => 5,
+            2 => 60,
+            _ => 700,
+        };
+        let (again, again_fault) = in_pieces(rt.alloc(), stream.as_slice(), most, &mut dice)?;
+        assert!(rt; again_fault == fault, "seed {seed}");
+        assert_eq!(rt; again.as_slice(), asked.as_slice(), "seed {seed}");
+        requests = requests.wrapping_add(count);
+        if fault {
+            faults = faults.wrapping_add(1);
+        }
+    }
+    // of 400 streams and the 8,000 frames in them, with much room on each side of what comes of these seeds
+    assert!(rt;
+        (100..=250).contains(&faults),
+        "{faults} streams have a fault"
+    );
+    assert!(rt; requests >= 4_000, "{requests} requests are taken");
     Ok(())
 }

@@ -1,5 +1,6 @@
 -- Each turn of a session keeps its laws.
-use Rattle.std.proofs.Common.{zero-add, ◌≡◌, ℕ, Bool, true, false, cond, refl, sym, ◌∙◌, inl, inr}
+use Rattle.std.proofs.Common.{zero-add, ◌≡◌, ℕ, Bool, true, false, cond, refl, sym, ◌∙◌, ap, inl, inr}
+use Rattle.std.proofs.lemmas.Bool.{false≢true}
 use Rattle.std.specs.Prelude.{Option, Some, None}
 use Rattle.rq_model.specs.declared.txn.Txn.{Txn}
 use Rattle.rq_model.specs.declared.txn.Sub.{Sub}
@@ -24,19 +25,21 @@ use Rattle.rq_session.specs.declared.stage.Stage.TheVariants as stages
 use Rattle.rq_session.specs.declared.stage.Next.{Next}
 use Rattle.rq_session.specs.Stages.{txn_held, own}
 use Rattle.rq_session.specs.Rules as rules
-use Rattle.rq_session.specs.Rules.{next, answered, ended, is_commit}
-use Rattle.rq_session.specs.Laws.{IsOwn, Turn, Takes, Lost, CommitFits, MayAgain, MayAgainAfter, IsAgain, IsAborting, asked_last, owed, given}
+use Rattle.rq_model.proofs.Lists.{same_is}
+use Rattle.rq_session.specs.Rules.{next, answered, ended, is_commit, is_commit_of}
+use Rattle.rq_session.specs.Laws.{IsOwn, AwaitsOwn, awaited, Turn, Takes, Lost, CommitFits, MayAgain, MayAgainAfter, IsAgain, IsAborting, asked_last, owed, given}
 
 -- ---- turns of each kind
 
 ends : (s : Stage) (what : Told) → Turn s what ended
-ends s what = record { own_call = tt; own_txn = inr (inl (tt, refl)); once = inl refl; again = tt; receipt = tt }
+ends s what = record { own_call = tt; own_commit = tt; own_txn = inr (inl (tt, refl)); once = inl refl; again = tt; receipt = tt }
 
 -- an answer of the request under way, which keeps the transaction
 gives : (s : Stage) (what : Told) (answer : Answer) (h : Held) → txn_held h ≡ own s → owed s ≡ 1
     → CommitFits s what (Answers answer) → Turn s what (answered answer h)
 gives s what answer h same one fits = record {
   own_call = tt;
+  own_commit = tt;
   own_txn = inl same;
   once = inr (sym one);
   again =
@@ -48,6 +51,7 @@ refuses : (s : Stage) (what : Told) (refusal : Refusal) (h : Held) → txn_held 
     → Turn s what (answered (answers.Refused refusal) h)
 refuses s what refusal h same one = record {
   own_call = tt;
+  own_commit = tt;
   own_txn = inl same;
   once = inr (sym one);
   again =
@@ -56,9 +60,10 @@ refuses s what refusal h same one = record {
 }
 
 calls : (s : Stage) (what : Told) (ask : Ask) (t : Stage) → IsOwn (own t) ask → own t ≡ own s → owed s ≡ 1
-    → owed t ≡ 1 → Turn s what (next (Do ask) t)
-calls s what ask t is same one still = record {
+    → owed t ≡ 1 → AwaitsOwn s what (awaited t) → Turn s what (next (Do ask) t)
+calls s what ask t is same one still none = record {
   own_call = is;
+  own_commit = none;
   own_txn = inl same;
   once = inr (zero-add (owed t)
       ∙ still ∙ sym one);
@@ -67,9 +72,10 @@ calls s what ask t is same one still = record {
 }
 
 tries : (s : Stage) (what : Told) (ask : Ask) → IsOwn (own s) ask → MayAgainAfter s what → asked_last s ≡ Some ask
-    → Turn s what (next (Again ask) s)
-tries s what ask is may last = record {
+    → AwaitsOwn s what (awaited s) → Turn s what (next (Again ask) s)
+tries s what ask is may last none = record {
   own_call = is;
+  own_commit = none;
   own_txn = inl refl;
   once = inr (zero-add (owed s));
   again =
@@ -79,11 +85,11 @@ tries s what ask is may last = record {
 
 aborts : (s : Stage) (what : Told) (h : Held) → txn_held h ≡ own s → owed s ≡ 1 → Turn s what (rules.abort h)
 aborts s what Free same one = ends s what
-aborts s what (Open txn) same one = calls s what (asks.StartAbort txn) (stages.StartAbort txn) refl same one refl
-aborts s what (Left sub) same one = calls s what (asks.Step sub) (stages.Step sub purposes.Clearing) refl same one refl
-aborts s what (Aborting txn) same one = calls s what (asks.UndoNext txn) (stages.UndoNext txn) refl same one refl
+aborts s what (Open txn) same one = calls s what (asks.StartAbort txn) (stages.StartAbort txn) refl same one refl tt
+aborts s what (Left sub) same one = calls s what (asks.Step sub) (stages.Step sub purposes.Clearing) refl same one refl tt
+aborts s what (Aborting txn) same one = calls s what (asks.UndoNext txn) (stages.UndoNext txn) refl same one refl tt
 aborts s what (Undoing sub) same one = calls s what (asks.Step sub) (stages.Step sub purposes.Undoing) refl same one
-    refl
+    refl tt
 
 stops : (lost : Bool) (s : Stage) (what : Told) (refusal : Refusal) (h : Held) → txn_held h ≡ own s → owed s ≡ 1
     → Turn s what (rules.abort_refused lost refusal h)
@@ -93,7 +99,7 @@ stops false s what refusal h same one = refuses s what refusal h same one
 -- ---- by stages
 
 begins : (what : Told) → Turn stages.Begin what (rules.after_begin what)
-begins (told.Begun txn) = record { own_call = tt; own_txn = inr (inr refl); once = inr refl; again = tt; receipt = tt }
+begins (told.Begun txn) = record { own_call = tt; own_commit = tt; own_txn = inr (inr refl); once = inr refl; again = tt; receipt = tt }
 begins (told.Refused refusal) = refuses stages.Begin (told.Refused refusal) refusal Free refl refl
 begins what = ends stages.Begin what
 
@@ -111,7 +117,7 @@ first_steps s what (Some txn) number purpose same one =
       txn = txn;
       number =
           number;
-    }) purpose) refl same one refl
+    }) purpose) refl same one refl tt
 
 starts : (h : Held) (what : Told) → Turn (stages.Start h) what (rules.after_start h what)
 starts h (told.Started sub) = first_steps (stages.Start h) (told.Started sub) (txn_held h) sub.number
@@ -134,13 +140,13 @@ work_stops lost s sub purposes.Undoing refusal n same one again =
 steps : (lost : Bool) (sub : Sub) (purpose : Purpose) (what : Told)
     → Turn (stages.Step sub purpose) what (rules.after_step lost sub purpose what)
 steps lost sub purpose told.Written = calls (stages.Step sub purpose) told.Written (asks.Step sub) (stages.Step sub
-    purpose) refl refl refl refl
+    purpose) refl refl refl refl tt
 steps lost sub purpose told.Ready = calls (stages.Step sub purpose) told.Ready (asks.Finish sub) (stages.Finish sub
-    purpose) refl refl refl refl
+    purpose) refl refl refl refl tt
 steps lost sub purpose (told.Refused refusal) =
     work_stops lost (stages.Step sub purpose) sub purpose refusal (next (Again (asks.Step sub)) (stages.Step sub
     purpose)) refl refl
-    (λ e. tries (stages.Step sub purpose) (told.Refused refusal) (asks.Step sub) refl (rw e tt) refl)
+    (λ e. tries (stages.Step sub purpose) (told.Refused refusal) (asks.Step sub) refl (rw e tt) refl tt)
 steps lost sub purpose what = ends (stages.Step sub purpose) what
 
 dones : (sub : Sub) (purpose : Purpose) (what : Told) (answer : Answer)
@@ -166,23 +172,32 @@ finishes lost sub purpose told.Undone = undones sub purpose
 finishes lost sub purpose (told.Refused refusal) =
     work_stops lost (stages.Finish sub purpose) sub purpose refusal (next (Again (asks.Finish sub)) (stages.Finish
     sub purpose)) refl refl
-    (λ e. tries (stages.Finish sub purpose) (told.Refused refusal) (asks.Finish sub) refl (rw e tt) refl)
+    (λ e. tries (stages.Finish sub purpose) (told.Refused refusal) (asks.Finish sub) refl (rw e tt) refl tt)
 finishes lost sub purpose what = ends (stages.Finish sub purpose) what
 
-commits : (h : Held) (what : Told) → Turn (stages.Commit h) what (rules.after_commit h what)
-commits h (told.Committed commit) = record {
-  own_call = tt;
+names_its : (o : Option Txn) (commit : Commit) → is_commit_of o commit ≡ true → o ≡ Some commit.txn
+names_its None commit e = absurd (false≢true e)
+names_its (Some txn) commit e = ap Some (same_is txn commit.txn e)
+
+own_commits : (h : Held) (commit : Commit) (mine : Bool) → is_commit_of (txn_held h) commit ≡ mine
+    → Turn (stages.Commit h) (told.Committed commit) (cond mine (next (Await commit) (stages.Await commit)) ended)
+own_commits h commit true e = record {
+  own_call = refl;
+  own_commit = (names_its (txn_held h) commit e, refl);
   own_txn = inr (inl (tt, refl));
   once = inr refl;
-  again =
-      tt;
+  again = tt;
   receipt = tt;
 }
+own_commits h commit false e = ends (stages.Commit h) (told.Committed commit)
+
+commits : (h : Held) (what : Told) → Turn (stages.Commit h) what (rules.after_commit h what)
+commits h (told.Committed commit) = own_commits h commit (is_commit_of (txn_held h) commit) refl
 commits h (told.Refused refusal) = refuses (stages.Commit h) (told.Refused refusal) refusal h refl refl
 commits h what = ends (stages.Commit h) what
 
 waits : (commit : Commit) (what : Told) → Turn (stages.Await commit) what (next (Await commit) (stages.Await commit))
-waits commit what = record { own_call = tt; own_txn = inl refl; once = inr refl; again = tt; receipt = tt }
+waits commit what = record { own_call = refl; own_commit = refl; own_txn = inl refl; once = inr refl; again = tt; receipt = tt }
 
 receipts : (commit other : Commit) (same : Bool) → is_commit other commit ≡ same
     → Turn (stages.Await commit) (told.Durable other) (cond same (answered (answers.Committed commit.lsn) Free) (next
@@ -202,16 +217,16 @@ abort_starts : (lost : Bool) (txn : Txn) (what : Told) → Turn (stages.StartAbo
     lost txn what)
 abort_starts lost txn told.Aborting = aborts (stages.StartAbort txn) told.Aborting (Aborting txn) refl refl
 abort_starts lost txn (told.Refused NoMemory) = tries (stages.StartAbort txn) (told.Refused NoMemory)
-    (asks.StartAbort txn) refl tt refl
+    (asks.StartAbort txn) refl tt refl tt
 abort_starts lost txn (told.Refused refusal) = stops lost (stages.StartAbort txn) (told.Refused refusal) refusal
     (Open txn) refl refl
 abort_starts lost txn what = ends (stages.StartAbort txn) what
 
 undo_stops : (lost : Bool) (txn : Txn) (refusal : Refusal) → Turn (stages.UndoNext txn) (told.Refused refusal)
     (rules.undo_refused lost txn refusal)
-undo_stops lost txn NoMemory = tries (stages.UndoNext txn) (told.Refused NoMemory) (asks.UndoNext txn) refl tt refl
-undo_stops lost txn Latched = tries (stages.UndoNext txn) (told.Refused Latched) (asks.UndoNext txn) refl tt refl
-undo_stops lost txn PoolFull = tries (stages.UndoNext txn) (told.Refused PoolFull) (asks.UndoNext txn) refl tt refl
+undo_stops lost txn NoMemory = tries (stages.UndoNext txn) (told.Refused NoMemory) (asks.UndoNext txn) refl tt refl tt
+undo_stops lost txn Latched = tries (stages.UndoNext txn) (told.Refused Latched) (asks.UndoNext txn) refl tt refl tt
+undo_stops lost txn PoolFull = tries (stages.UndoNext txn) (told.Refused PoolFull) (asks.UndoNext txn) refl tt refl tt
 undo_stops lost txn refusal = stops lost (stages.UndoNext txn) (told.Refused refusal) refusal (Aborting txn) refl refl
 
 undo_starts : (lost : Bool) (txn : Txn) (what : Told) → Turn (stages.UndoNext txn) what (rules.after_undo_next lost
@@ -219,7 +234,7 @@ undo_starts : (lost : Bool) (txn : Txn) (what : Told) → Turn (stages.UndoNext 
 undo_starts lost txn (told.Started sub) = first_steps (stages.UndoNext txn) (told.Started sub) (Some txn) sub.number
     purposes.Undoing refl refl
 undo_starts lost txn told.Nothing = calls (stages.UndoNext txn) told.Nothing (asks.EndAbort txn) (stages.EndAbort
-    txn) refl refl refl refl
+    txn) refl refl refl refl tt
 undo_starts lost txn (told.Refused refusal) = undo_stops lost txn refusal
 undo_starts lost txn what = ends (stages.UndoNext txn) what
 
@@ -228,6 +243,7 @@ abort_ends : (lost : Bool) (txn : Txn) (what : Told) → Turn (stages.EndAbort t
 abort_ends true txn told.Aborted = ends (stages.EndAbort txn) told.Aborted
 abort_ends false txn told.Aborted = record {
   own_call = tt;
+  own_commit = tt;
   own_txn = inr (inl (tt, refl));
   once = inr refl;
   again =
@@ -235,7 +251,7 @@ abort_ends false txn told.Aborted = record {
   receipt = tt;
 }
 abort_ends lost txn (told.Refused NoMemory) = tries (stages.EndAbort txn) (told.Refused NoMemory) (asks.EndAbort txn)
-    refl tt refl
+    refl tt refl tt
 abort_ends lost txn (told.Refused refusal) = stops lost (stages.EndAbort txn) (told.Refused refusal) refusal
     (Aborting txn) refl refl
 abort_ends lost txn what = ends (stages.EndAbort txn) what
@@ -270,31 +286,32 @@ each_may_again lost _ _ may = absurd may
 -- ---- requests
 
 pub each_request : (h : Held) (request : Request) → Takes h (rules.after_request h request)
-each_request Free requests.Begin = record { own_call = refl; own_txn = refl; once = refl }
-each_request h (requests.LastTag sender) = record { own_call = tt; own_txn = refl; once = refl }
-each_request Free request = record { own_call = tt; own_txn = refl; once = refl }
-each_request h requests.Begin = record { own_call = tt; own_txn = refl; once = refl }
-each_request h request = record { own_call = refl; own_txn = refl; once = refl }
+each_request Free requests.Begin = record { own_call = refl; own_commit = refl; own_txn = refl; once = refl }
+each_request h (requests.LastTag sender) = record { own_call = tt; own_commit = refl; own_txn = refl; once = refl }
+each_request Free request = record { own_call = tt; own_commit = refl; own_txn = refl; once = refl }
+each_request h requests.Begin = record { own_call = tt; own_commit = refl; own_txn = refl; once = refl }
+each_request h request = record { own_call = refl; own_commit = refl; own_txn = refl; once = refl }
 
 -- ---- losses
 
 lost_aborts : (s : Stage) (h : Held) → txn_held h ≡ own s → Lost s (rules.abort h)
-lost_aborts s Free same = record { own_call = tt; own_txn = same; aborts = tt; silent = refl }
-lost_aborts s (Open txn) same = record { own_call = refl; own_txn = same; aborts = tt; silent = refl }
-lost_aborts s (Left sub) same = record { own_call = refl; own_txn = same; aborts = tt; silent = refl }
-lost_aborts s (Aborting txn) same = record { own_call = refl; own_txn = same; aborts = tt; silent = refl }
-lost_aborts s (Undoing sub) same = record { own_call = refl; own_txn = same; aborts = tt; silent = refl }
+lost_aborts s Free same = record { own_call = tt; own_commit = refl; own_txn = same; aborts = tt; silent = refl }
+lost_aborts s (Open txn) same = record { own_call = refl; own_commit = refl; own_txn = same; aborts = tt; silent = refl }
+lost_aborts s (Left sub) same = record { own_call = refl; own_commit = refl; own_txn = same; aborts = tt; silent = refl }
+lost_aborts s (Aborting txn) same = record { own_call = refl; own_commit = refl; own_txn = same; aborts = tt; silent = refl }
+lost_aborts s (Undoing sub) same = record { own_call = refl; own_commit = refl; own_txn = same; aborts = tt; silent = refl }
 
 pub each_loss : (s : Stage) → Lost s (rules.after_loss s)
 each_loss (stages.Rest h) = lost_aborts (stages.Rest h) h refl
 each_loss (stages.LastTag h) = lost_aborts (stages.LastTag h) h refl
 each_loss (stages.Start h) = lost_aborts (stages.Start h) h refl
 each_loss (stages.Commit h) = lost_aborts (stages.Commit h) h refl
-each_loss stages.Begin = record { own_call = tt; own_txn = refl; aborts = tt; silent = refl }
-each_loss (stages.Await commit) = record { own_call = tt; own_txn = refl; aborts = tt; silent = refl }
-each_loss stages.Ended = record { own_call = tt; own_txn = refl; aborts = tt; silent = refl }
+each_loss stages.Begin = record { own_call = tt; own_commit = refl; own_txn = refl; aborts = tt; silent = refl }
+each_loss (stages.Await commit) = record { own_call = tt; own_commit = refl; own_txn = refl; aborts = tt; silent = refl }
+each_loss stages.Ended = record { own_call = tt; own_commit = refl; own_txn = refl; aborts = tt; silent = refl }
 each_loss (stages.Step sub purposes.Request) = record {
   own_call = refl;
+  own_commit = refl;
   own_txn = refl;
   aborts = tt;
   silent =
@@ -302,6 +319,7 @@ each_loss (stages.Step sub purposes.Request) = record {
 }
 each_loss (stages.Step sub purposes.Clearing) = record {
   own_call = refl;
+  own_commit = refl;
   own_txn = refl;
   aborts = tt;
   silent =
@@ -309,6 +327,7 @@ each_loss (stages.Step sub purposes.Clearing) = record {
 }
 each_loss (stages.Step sub purposes.Undoing) = record {
   own_call = refl;
+  own_commit = refl;
   own_txn = refl;
   aborts = tt;
   silent =
@@ -316,6 +335,7 @@ each_loss (stages.Step sub purposes.Undoing) = record {
 }
 each_loss (stages.Finish sub purposes.Request) = record {
   own_call = refl;
+  own_commit = refl;
   own_txn = refl;
   aborts = tt;
   silent =
@@ -323,6 +343,7 @@ each_loss (stages.Finish sub purposes.Request) = record {
 }
 each_loss (stages.Finish sub purposes.Clearing) = record {
   own_call = refl;
+  own_commit = refl;
   own_txn = refl;
   aborts = tt;
   silent =
@@ -330,14 +351,15 @@ each_loss (stages.Finish sub purposes.Clearing) = record {
 }
 each_loss (stages.Finish sub purposes.Undoing) = record {
   own_call = refl;
+  own_commit = refl;
   own_txn = refl;
   aborts = tt;
   silent =
       refl;
 }
-each_loss (stages.StartAbort txn) = record { own_call = refl; own_txn = refl; aborts = tt; silent = refl }
-each_loss (stages.UndoNext txn) = record { own_call = refl; own_txn = refl; aborts = tt; silent = refl }
-each_loss (stages.EndAbort txn) = record { own_call = refl; own_txn = refl; aborts = tt; silent = refl }
+each_loss (stages.StartAbort txn) = record { own_call = refl; own_commit = refl; own_txn = refl; aborts = tt; silent = refl }
+each_loss (stages.UndoNext txn) = record { own_call = refl; own_commit = refl; own_txn = refl; aborts = tt; silent = refl }
+each_loss (stages.EndAbort txn) = record { own_call = refl; own_commit = refl; own_txn = refl; aborts = tt; silent = refl }
 
 -- ---- a lost session is silent
 

@@ -16,7 +16,8 @@ use Rattle.rq_session.specs.declared.stage.Purpose.TheVariants as purposes
 use Rattle.rq_session.specs.declared.stage.Stage.{Stage}
 use Rattle.rq_session.specs.declared.stage.Stage.TheVariants as stages
 use Rattle.rq_session.specs.declared.stage.Next.{Next}
-use Rattle.rq_session.specs.Rules.{after_await, after_finish, after_start, after_told, is_commit, undo_refused, work_refused}
+use Rattle.rq_session.specs.Stages.{txn_held}
+use Rattle.rq_session.specs.Rules.{after_await, after_finish, after_start, after_told, is_commit, is_commit_of, undo_refused, work_refused}
 use Rattle.rq_session.specs.Laws.{EachGoesOn, GoesOn, fits, fits_purpose, is_refusal}
 
 work : (sub : Sub) (purpose : Purpose) (r : Refusal) (again : Next) → GoesOn again.action → GoesOn (work_refused false sub purpose r again).action
@@ -41,6 +42,10 @@ finish sub purposes.Undoing _ f = absurd (false≢true f)
 durable : (b : Bool) (x y : Next) → GoesOn x.action → GoesOn y.action → GoesOn (if b then x else y).action
 durable true x y g h = g
 durable false x y g h = h
+
+mine : (b : Bool) (x y : Next) → b ≡ true → GoesOn x.action → GoesOn (if b then x else y).action
+mine true x y e g = g
+mine false x y e g = absurd (false≢true e)
 
 await_refused : (commit : Commit) (r : Refusal) → GoesOn (after_await commit (told.Refused r)).action
 await_refused commit Failed = tt
@@ -85,7 +90,7 @@ each_goes_on (stages.Step sub purpose) told.Ready f = tt
 each_goes_on (stages.Step sub purpose) (told.Refused r) f = work sub purpose r _ tt
 each_goes_on (stages.Step sub purpose) _ f = absurd (false≢true f)
 each_goes_on (stages.Finish sub purpose) what f = finish sub purpose what f
-each_goes_on (stages.Commit h) (told.Committed commit) f = tt
+each_goes_on (stages.Commit h) (told.Committed commit) f = mine (is_commit_of (txn_held h) commit) _ _ f tt
 each_goes_on (stages.Commit h) (told.Refused r) f = tt
 each_goes_on (stages.Commit h) _ f = absurd (false≢true f)
 each_goes_on (stages.Await commit) told.NotDurable f = tt

@@ -9,14 +9,14 @@ use Rattle.rq_wire.specs.declared.answers.Answer.TheVariants as answers
 use Rattle.rq_session.specs.declared.calls.Ask.TheVariants as asks
 use Rattle.rq_session.specs.declared.calls.Commit.{Commit}
 use Rattle.rq_session.specs.declared.calls.Told.TheVariants as told
-use Rattle.rq_session.specs.declared.calls.Action.TheVariants.{Do, Again}
+use Rattle.rq_session.specs.declared.calls.Action.TheVariants.{Do, Again, Await}
 use Rattle.rq_session.specs.declared.stage.Held.{Held}
 use Rattle.rq_session.specs.declared.stage.Held.TheVariants.{Free, Open}
 use Rattle.rq_session.specs.declared.stage.Next.{Next}
 use Rattle.rq_session.specs.declared.stage.Stage.{Stage}
 use Rattle.rq_session.specs.declared.stage.Purpose.TheVariants as purposes
 use Rattle.rq_session.specs.declared.stage.Stage.TheVariants as stages
-use Rattle.rq_session.specs.Rules.{next, answered, after_told, after_loss}
+use Rattle.rq_session.specs.Rules.{next, answered, ended, after_told, after_loss}
 use Rattle.rq_session.specs.Laws.{Handed, asked, heard, gone, standing, Turn, Takes, Lost, Balanced, MayAgain, IsAgain, IsAborting}
 
 abbrev t : Txn
@@ -95,6 +95,22 @@ other = record { incarnation = 1; count = 9 }
 -- a turn that names another's transaction, that answers a commit without its own receipt, or that answers twice, is none
 names_another : Turn (stages.Step first purposes.Request) told.Ready (next (Do (asks.Finish (record { txn = other; number = 1 }))) (stages.Finish first purposes.Request)) → ⊥
 names_another turn = let e = turn.own_call in let n = ap count_of e in omega (arith, n)
+
+-- a session waits for no other commit than its own, and none is awaited where it was told of another's
+abbrev others : Commit
+others = record { txn = other; lsn = 5 }
+
+another_is_not_awaited : after_told false (stages.Commit (Open t)) (told.Committed others) ≡ ended
+another_is_not_awaited = refl
+
+awaits_another : Turn (stages.Commit (Open t)) (told.Committed others) (next (Await others) (stages.Await others)) → ⊥
+awaits_another turn = let n = ap count_of turn.own_commit.0 in omega (arith, n)
+
+awaits_another_lsn : Turn (stages.Commit (Open t)) (told.Committed durable) (next (Await another) (stages.Await another)) → ⊥
+awaits_another_lsn turn = let n = ap (λ (c : Commit). c.lsn) turn.own_commit.1 in omega (arith, n)
+
+changes_the_commit : Turn (stages.Await durable) told.NotDurable (next (Await another) (stages.Await another)) → ⊥
+changes_the_commit turn = let n = ap (λ (c : Commit). c.lsn) turn.own_commit in omega (arith, n)
 
 answers_too_early : Turn (stages.Await durable) (told.Durable another) (answered (answers.Committed 5) Free) → ⊥
 answers_too_early turn = let e = turn.receipt.0 in cc e

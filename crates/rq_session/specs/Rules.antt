@@ -1,6 +1,7 @@
 -- What a session does next: for a request by the transaction that it has, for what it is told by the call that it
 -- asked for last.
-use Rattle.std.specs.Prelude.{ℕ, Bool, ◌==◌, ◌&&◌, if◌then◌else◌, Option, Some, None}
+use Rattle.std.specs.Prelude.{ℕ, Bool, false, ◌==◌, ◌&&◌, if◌then◌else◌, Option, Some, None}
+use Rattle.rq_model.specs.Words.{same_txn}
 use Rattle.rq_model.specs.declared.txn.Txn.{Txn}
 use Rattle.rq_model.specs.declared.txn.Sub.{Sub}
 use Rattle.rq_model.specs.declared.refusal.Refusal.{Refusal}
@@ -108,8 +109,15 @@ after_finish lost sub purpose (told.Refused refusal) = work_refused lost sub pur
     (asks.Finish sub)) (stages.Finish sub purpose))
 after_finish lost sub purpose _ = ended
 
+-- the commit is that of this transaction
+abbrev pub is_commit_of : Option Txn → Commit → Bool
+is_commit_of None commit = false
+is_commit_of (Some txn) commit = same_txn txn commit.txn
+
+-- the session waits for the receipt of its own commit, and for no other
 abbrev pub after_commit : Held → Told → Next
-after_commit h (told.Committed commit) = next (Await commit) (stages.Await commit)
+after_commit h (told.Committed commit) = if is_commit_of (txn_held h) commit then next (Await commit) (stages.Await commit)
+    else ended
 after_commit h (told.Refused refusal) = answered (answers.Refused refusal) h
 after_commit h _ = ended
 

@@ -1,8 +1,9 @@
 //! Laws of sessions, for proofs.
 ghost use Rattle.rq_session.specs.Laws.{EachReply, EachMayAgain, EachRequest, EachLoss, EachGoesOn, LostAnswersNothing, OneAnswerEach};
 
-/// At each reply: a call names the session's own transaction, and a begin is asked for only where there is none.
-/// That transaction stays until its commit, the end of its abort or the session's end, and only a begin that was
+/// At each reply: a call names the session's own transaction, and a begin is asked for only where there is none. A wait
+/// is for the commit of that transaction, as it was told just now, or for the one that was awaited before.
+/// The transaction stays until its commit, the end of its abort or the session's end, and only a begin that was
 /// answered gives one. A request under way stays under way, or gets its one answer, or the session ends. A call is
 /// made again only where memory was wanting in an operation or an abort under way, or latches or frames for an
 /// undo. Committed is answered only at the receipt of that commit.

@@ -1,6 +1,6 @@
 //! What is to be done for what a session was told.
 ghost use Rattle.std.specs.Prelude.{◌≡◌};
-ghost use Rattle.rq_session.specs.Rules.{after_begin, after_last_tag, after_start, work_refused, after_step, after_finish, after_commit, after_await, after_start_abort, after_undo_next, after_end_abort, after_told, after_loss, done, undone, is_commit, started as first_step, cleared as cleared_purpose};
+ghost use Rattle.rq_session.specs.Rules.{after_begin, after_last_tag, after_start, work_refused, after_step, after_finish, after_commit, after_await, after_start_abort, after_undo_next, after_end_abort, after_told, after_loss, done, undone, is_commit, is_commit_of, started as first_step, cleared as cleared_purpose};
 
 use crate::calls::{Action, Ask, Commit, Told};
 use crate::held::{abort_on, answer_with, call, end, refuse, stop_abort, txn_of};
@@ -160,9 +160,25 @@ fn committed(held: Held, told: &Told) -> Next
     ensures { result ≡ after_commit held told.now }
 {
     match told {
-        Told::Committed(commit) => wait_for(*commit),
+        Told::Committed(commit) => {
+            if is_own(txn_of(held), commit) {
+                wait_for(*commit)
+            } else {
+                end()
+            }
+        }
         Told::Refused(refusal) => refuse(*refusal, held),
         _ => end(),
+    }
+}
+
+// Whether the commit is that of this transaction.
+fn is_own(own: Option<Txn>, commit: &Commit) -> bool
+    ensures { result ≡ is_commit_of own commit.now }
+{
+    match own {
+        Some(txn) => txn.incarnation == commit.txn.incarnation && txn.count == commit.txn.count,
+        None => false,
     }
 }
 

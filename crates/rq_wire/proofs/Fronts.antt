@@ -2,7 +2,7 @@
 use Rattle.std.proofs.Common.{◌≡◌, ℕ, ◌+◌, ◌-◌, ◌<◌, ◌≤◌, Bool, true, false, List, [], ◌∷◌, ◌++◌, length, take, drop, refl, sym, ap, ◌∙◌, subst, arith, length-append}
 use Rattle.std.specs.Prelude.{nat_lt, slice_index, Option, Some, None}
 use Rattle.std.proofs.lemmas.Bool.Decides.{nat_tests}
-use Rattle.std.proofs.lemmas.List.{take-append-le, drop-append-le, length-drop, append-nil}
+use Rattle.std.proofs.lemmas.List.{take-append-le, drop-append-le, length-drop}
 use Rattle.byteorder.specs.Numbers.{big_from-append}
 use Rattle.rq_bytes.specs.Number.{number_at}
 use Rattle.rq_wire.specs.declared.request.Request.{Request}
@@ -208,14 +208,15 @@ module _ (bytes : List ℕ) (rs : List Request) (fault : Bool) (unread piece byt
         kept = λ e. sym left;
       }
 
-  pub fed_after : (unread' : List ℕ) → fault ≡ true → given' ≡ rs ++ [] → Keeps bytes' given' fault unread'
-  fed_after unread' bad is = record {
-    rest = keeps.rest ++ piece;
-    begins = subst (λ (l : List Request). Begins l bytes' (keeps.rest ++ piece)) (sym (is ∙ append-nil rs)) longer;
-    stops = fault_stays keeps.rest piece (keeps.stops ∙ ap stop bad) ∙ sym (ap stop bad);
-    kept = λ e. cc (sym bad ∙ e);
-  }
-
 pub exact : (bytes : List ℕ) (rs : List Request) (fault : Bool) (unread : List ℕ) → Keeps bytes rs fault unread
     → AreRequests bytes rs fault
 exact bytes rs fault unread k = (k.rest, k.begins, k.stops)
+
+-- whatever stands behind a fault
+pub behind_fault : (bytes : List ℕ) (rs : List Request) (fault : Bool) (unread : List ℕ) → Keeps bytes rs fault unread
+    → fault ≡ true → (more : List ℕ) → AreRequests (bytes ++ more) rs true
+behind_fault bytes rs fault unread k bad more = (
+  k.rest ++ more,
+  begins_longer rs bytes more k.rest k.begins,
+  fault_stays k.rest more (k.stops ∙ ap stop bad),
+)

@@ -1,4 +1,4 @@
--- All that a connection was fed and gave.
+-- What a connection was fed and gave, until a fault.
 use Rattle.std.specs.Prelude.{◌≡◌, ℕ, Bool, false, List, drop, flat_map}
 use Rattle.rq_wire.specs.declared.request.Request.{Request}
 use Rattle.rq_wire.specs.declared.frames.Note.{Note}
@@ -11,7 +11,7 @@ fed_bytes notes = flat_map (λ (n : Note). drop n.held.value n.unread.value.item
 abbrev pub given : List Note → List Request
 given notes = flat_map (λ (n : Note). n.requests.value.items) notes
 
--- all bytes fed, all requests given, and whether a fault stands behind them
+-- all bytes fed, up to the piece with a fault, all requests given, and whether a fault stands behind them
 pub record Wire : Type 0 where
   pub bytes : List ℕ
   pub given : List Request

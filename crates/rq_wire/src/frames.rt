@@ -1,5 +1,5 @@
 //! Frames from pieces.
-ghost use Rattle.std.specs.Prelude.{◌≡◌, ◌++◌, ◌∷◌, [], ◌≤◌, true, false, length, drop, IfOk, OnOk, OnErr, List, ℕ};
+ghost use Rattle.std.specs.Prelude.{◌≡◌, ◌++◌, ◌∷◌, [], ◌≤◌, true, false, length, drop, IsOk, IfOk, OnOk, OnErr, List, ℕ};
 ghost use Rattle.rq_wire.specs.Stream.{Begins, AreRequests, stop};
 ghost use Rattle.rq_wire.specs.Notes.{fed_bytes, given};
 ghost use Rattle.rq_wire.specs.Looks.{looks};
@@ -28,8 +28,8 @@ pub(crate) struct Note {
     requests: Snapshot<Vec<Request>>,
 }
 
-/// The bytes that were fed and are no whole frame yet. Contracts see all bytes that were ever fed, the requests given,
-/// and whether there was a fault.
+/// The bytes that were fed and are no whole frame yet. Contracts see all bytes that were fed, up to the piece with a
+/// fault, the requests given, and whether there was a fault.
 #[derive(Drop)]
 pub struct Frames {
     alloc: Global,
@@ -62,39 +62,34 @@ impl Frames {
 
     /// The requests that a further piece completes. Of all bytes fed so far, the requests given so far are those of
     /// the longest list of whole good frames at their front, and the fault is the one behind them. After a fault each
-    /// piece gives no requests and the same fault.
+    /// piece gives no requests and the same fault, and changes nothing: whatever stands behind a fault, the requests and
+    /// the fault are the same.
     ///
     /// # Errors
-    /// `NoMemory`; the piece is then as if it had not been fed.
+    /// `NoMemory`, but not after a fault; the piece is then as if it had not been fed.
     pub fn feed(&mut self, piece: &[u8]) -> Result<Fed, NoMemory>
-        ensures bytes { OnOk result (self.new.bytes ≡ self.old.bytes ++ piece.now) }
+        ensures bytes { self.old.fault ≡ false → OnOk result (self.new.bytes ≡ self.old.bytes ++ piece.now) }
         ensures requests { IfOk result (λ fed. self.new.given ≡ self.old.given ++ fed.requests.items) }
         ensures fault { IfOk result (λ fed. fed.fault ≡ self.new.fault) }
-        ensures faulty { self.old.fault ≡ true → IfOk result (λ fed. (fed.requests.items ≡ []) × (fed.fault ≡ true)) }
         ensures exact { AreRequests self.new.bytes self.new.given self.new.fault }
+        // After a fault.
+        ensures faulty { self.old.fault ≡ true → IfOk result (λ fed. (fed.requests.items ≡ []) × (fed.fault ≡ true)) }
+        ensures still { self.old.fault ≡ true → IsOk result × (self.new ≡ self.old) }
+        ensures behind { self.new.fault ≡ true → (more : List ℕ)
+            → AreRequests (self.new.bytes ++ more) self.new.given true }
         ensures err { OnErr result (self.new ≡ self.old) }
     {
         let alloc = self.alloc;
+        if self.fault {
+            return Ok(Fed {
+                requests: Vec::new(alloc),
+                fault: true,
+            });
+        }
         let held = self.unread.len();
         let Ok(()) = self.unread.extend_from_slice(piece) else {
             return Err(NoMemory);
         };
-        if self.fault {
-            let none = Fed {
-                requests: Vec::new(alloc),
-                fault: true,
-            };
-            match remembered(&mut self.notes, held, &self.unread, none) {
-                Ok(fed) => {
-                    self.unread.truncate(held);
-                    return Ok(fed);
-                }
-                Err(_) => {
-                    self.unread.truncate(held);
-                    return Err(NoMemory);
-                }
-            }
-        }
         match take_requests(alloc, &mut self.notes, held, &self.unread) {
             Ok((fed, taken)) => {
                 self.unread.advance(taken);

@@ -1,28 +1,11 @@
-use Rattle.std.proofs.Common.{◌≡◌, true, false, List, ◌++◌, [], drop, ap, ◌∙◌, subst, rules}
-use Rattle.rq_wire.specs.Stream.{Begins}
+use Rattle.std.proofs.Common.{◌≡◌, true, false, List, ◌++◌, drop, ap, ◌∙◌, subst, rules}
+use Rattle.rq_wire.specs.Stream.{Begins, AreRequests}
 use Rattle.rq_wire.specs.Notes.{Wire, fed_bytes, given}
-use Rattle.rq_wire.proofs.Fronts.{added, fed_on, fed_after, exact}
+use Rattle.rq_wire.proofs.Fronts.{added, fed_on, exact, behind_fault}
 use Rattle.rq_wire.proofs.frames.Frames.feed.Goals as goal
 
-pub invariant_of-self-in-Ok-remembered : goal.invariant_of-self-in-Ok-remembered
-invariant_of-self-in-Ok-remembered c =
-    let s = c.self.inside in
-    let bad : s.fault ≡ true = search rules in
-    let piece = added c.len-held.result s.unread.items c.args.piece.now c.extend_from_slice.new.self.items
-    c.len-held.ensures.value c.in-Ok.ensures.ok in
-    let fed : fed_bytes c.remembered.new.notes.items ≡ fed_bytes s.notes.items ++ c.args.piece.now =
-    c.in-Ok-remembered.ensures.bytes ∙ ap (λ (l : List _). fed_bytes s.notes.items ++ l) piece in
-    let none : given c.remembered.new.notes.items ≡ given s.notes.items ++ [] = c.in-Ok-remembered.ensures.requests
-    ∙ ap (λ (l : List _). given s.notes.items ++ l) c.new.ensures.items in
-    fed_after (fed_bytes s.notes.items) (given s.notes.items) s.fault s.unread.items c.args.piece.now (fed_bytes
-    c.remembered.new.notes.items) (given c.remembered.new.notes.items) c.self.invariant fed
-    c.truncate.new.self.items bad none
-
-pub returns-in-Ok-remembered-clause-exact : goal.returns-in-Ok-remembered-clause-exact
-returns-in-Ok-remembered-clause-exact c = exact _ _ _ _ (invariant_of-self-in-Ok-remembered c)
-
 pub returns-in-Ok-take_requests-clause-bytes : goal.returns-in-Ok-take_requests-clause-bytes
-returns-in-Ok-take_requests-clause-bytes c =
+returns-in-Ok-take_requests-clause-bytes c = λ sound.
     let s = c.self.inside in
     let piece = added c.len-held.result s.unread.items c.args.piece.now c.extend_from_slice.new.self.items
     c.len-held.ensures.value c.in-Ok.ensures.ok in
@@ -47,3 +30,11 @@ invariant_of-self-in-Ok-take_requests c =
 
 pub returns-in-Ok-take_requests-clause-exact : goal.returns-in-Ok-take_requests-clause-exact
 returns-in-Ok-take_requests-clause-exact c = exact _ _ _ _ (invariant_of-self-in-Ok-take_requests c)
+
+pub returns-in-Ok-take_requests-clause-behind : goal.returns-in-Ok-take_requests-clause-behind
+returns-in-Ok-take_requests-clause-behind c = behind_fault _ _ _ _ (invariant_of-self-in-Ok-take_requests c)
+
+pub returns-then-self-clause-behind : goal.returns-then-self-clause-behind
+returns-then-self-clause-behind c =
+    subst (λ (w : Wire). w.fault ≡ true → (more : List _) → AreRequests (w.bytes ++ more) w.given true) c.self.view_is
+    (behind_fault _ _ _ _ c.self.invariant)
