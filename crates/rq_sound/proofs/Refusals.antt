@@ -1,5 +1,5 @@
 -- Refusals are steps, and what tests read of the rows.
-use Rattle.std.proofs.Common.{◌≡◌, ℕ, suc, ◌+◌, ◌||◌, List, [], ◌∷◌, length, refl, sym, ◌∙◌, ap, ◌&&◌, nat_eq, Option, Some, None, arith}
+use Rattle.std.proofs.Common.{◌≡◌, ℕ, suc, ◌+◌, ◌||◌, List, [], ◌∷◌, length, refl, sym, ◌∙◌, ap, subst, ◌&&◌, nat_eq, Option, Some, None, arith}
 use Rattle.std.specs.List.{sum_by}
 use Rattle.std.specs.Option.{option_map}
 use Rattle.std.proofs.lemmas.List.Sums.{sum_by-cons}
@@ -13,7 +13,7 @@ use Rattle.rq_groups.specs.Ends.{HeldEnds}
 use Rattle.rq_store.specs.State.{phase_of}
 use Rattle.rq_sound.specs.Rows.{Under, Row, found_row, is_under}
 use Rattle.rq_sound.specs.Busy.{any_under, owed_under, owed_one, owed_by}
-use Rattle.rq_sound.specs.Standing.{IsAsPlanned}
+use Rattle.rq_sound.specs.Standing.{FollowsPlan, IsAimOf, IsAsPlanned}
 use Rattle.rq_sound.specs.Sound.{State, IsSound, ledger_of, open_of, open_ones_of, job_under}
 use Rattle.rq_sound.specs.Refusals.{RefusalsAreSteps, TestsReadRows}
 use Rattle.rq_sound.proofs.RowLists.{found_in}
@@ -83,3 +83,10 @@ tests_read = record {
   owed_is = λ s. owed_is s.ends s.rows;
   under_is = under_is;
 }
+
+-- what is so of the operation under way of a row
+pub going_at : (s : State) (k : IsSound s) (t : Txn) (r : Row) (u : Under) → found_row t s.rows ≡ Some r → r.under ≡ Some u → FollowsPlan s.sizes s.records s.ends t u × (r.number ≡ u.number) × IsAimOf r u.aim
+going_at s k t r u e under =
+    let i = found_in t s.rows r e in
+    let g : FollowsPlan s.sizes s.records s.ends r.txn u × (r.number ≡ u.number) × IsAimOf r u.aim = subst (IsAsPlanned s.sizes s.records s.ends r) under (k.standing.each r i.0).going in
+    (subst (λ x. FollowsPlan s.sizes s.records s.ends x u) i.1 g.0, g.1, g.2)

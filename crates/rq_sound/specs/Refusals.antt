@@ -27,7 +27,8 @@ pub record RefusalsAreSteps : Type 0 where
 
 -- what the model's tests read of a ledger, by the rows
 pub record TestsReadRows : Type 0 where
-  pub found_is : (s : State) (t : Txn) → found t (ledger_of s).open_ones ≡ option_map (open_of s.ends) (found_row t s.rows)
+  pub found_is : (s : State) (t : Txn)
+      → found t (ledger_of s).open_ones ≡ option_map (open_of s.ends) (found_row t s.rows)
   pub count_is : (s : State) → length (ledger_of s).open_ones ≡ length s.rows
   pub busy_is : (s : State) → any_busy (ledger_of s).open_ones ≡ any_under s.rows
   pub owed_is : (s : State) → sum_by owed (ledger_of s).open_ones ≡ owed_by s.rows

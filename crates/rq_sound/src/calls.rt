@@ -1,5 +1,5 @@
-//! What the calls of a store with any number of operations under way rest on: refusals, what the model's tests read, what
-//! the pages say of a group while others are under way, and which plans may start.
+//! What the calls of a store with any number of operations under way rest on: refusals, what the model's tests read,
+//! what the pages say of a group while others are under way, and which plans may start.
 ghost use Rattle.rq_sound.specs.Groups.{SlotsTellGroups};
 ghost use Rattle.rq_sound.specs.Latching.{LatchedIsExact};
 ghost use Rattle.rq_sound.specs.Levels.{LevelsPlanFromSlots};
@@ -24,8 +24,8 @@ pub fn waits_are_given()
     ensures { WaitsAreGiven }
 {}
 
-/// Where nobody has latched the page of a group's directory slot, the slots as they are show the group, and the cells at
-/// both ends of its chain stand where the links name them.
+/// Where nobody has latched the page of a group's directory slot, the slots as they are show the group, and the cells
+/// at both ends of its chain stand where the links name them.
 pub fn slots_tell_groups()
     ensures { SlotsTellGroups }
 {}
@@ -45,14 +45,14 @@ pub fn unchanged_are_steps()
     ensures { UnchangedAreSteps }
 {}
 
-/// A call that passes the model's tests and has something to start can be planned over the slots as they are exactly where
-/// not all that it may start needs a latched page.
+/// A call that passes the model's tests and has something to start can be planned over the slots as they are exactly
+/// where not all that it may start needs a latched page.
 pub fn latched_is_exact()
     ensures { LatchedIsExact }
 {}
 
-/// What the level of chains was given of the slots that it wants holds what its operation needs, where nobody has latched
-/// the page of its group's directory slot.
+/// What the level of chains was given of the slots that it wants holds what its operation needs, where nobody has
+/// latched the page of its group's directory slot.
 pub fn levels_find_all()
     ensures { LevelsFindAll }
 {}
