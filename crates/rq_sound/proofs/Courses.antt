@@ -31,7 +31,7 @@ use Rattle.rq_sound.specs.Rows.{fresh_row}
 use Rattle.rq_sound.specs.Course.{both_begun}
 
 -- the log when t1 aborts
-spelt : AreSpelt sizes (drop 3 row)
+pub spelt : AreSpelt sizes (drop 3 row)
 spelt = ((refl, omega arith), ((new_of_a, has_a), ((none_b, used_b), ((none_a, used_a), (tt, tt)))))
 
 log_is : (v : Frames) → items sizes (aborts_a v).records ≡ drop 3 row
@@ -81,10 +81,10 @@ module _ (v : Frames) (m : AreMade v) where
   s5 : IsSound (wrote_cell_a v)
   s5 = calls_keep.steps (two_under v.start) (row_a 0) send_a cell_a v.cell_of_a (two_sound v.start m.start) next_a
 
-  s6 : IsSound (wrote_cell_b v)
+  pub s6 : IsSound (wrote_cell_b v)
   s6 = calls_keep.steps (wrote_cell_a v) (row_b 0) send_b cell_b v.cell_of_b s5 (record { at_row = refl; under = refl; next = refl; before = (told 65 _ none_b).1; after = (told 65 _ used_b).1; made = m.second })
 
-  s7 : IsSound (wrote_group_a v)
+  pub s7 : IsSound (wrote_group_a v)
   s7 = calls_keep.steps (wrote_cell_b v) (row_a 1) (with_made 1 send_a) group_a v.group_of_a s6 (record { at_row = refl; under = refl; next = refl; before = (told 17 _ new_of_a).1; after = (told 17 _ has_a).1; made = m.third })
 
   s8 : IsSound (done_a v)

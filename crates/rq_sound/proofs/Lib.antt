@@ -45,3 +45,4 @@ pub mod Unchanged
 pub mod LatchLists
 pub mod Latching
 pub mod Wants
+pub mod WorkedCalls

@@ -8,6 +8,7 @@ ghost use Rattle.rq_sound.specs.Refusals.{RefusalsAreSteps, TestsReadRows};
 ghost use Rattle.rq_sound.specs.Unchanged.{UnchangedAreSteps};
 ghost use Rattle.rq_sound.specs.Waits.{WaitsAreGiven};
 ghost use Rattle.rq_sound.specs.Wants.{LevelsFindAll};
+ghost use Rattle.rq_sound.specs.WorkedCalls.{GroupsAreJudged, LatchesAreJudged, PlansAreJudged, RefusalsAreJudged, WaitsAreJudged};
 
 /// A refusal that the model's tests give is a step that changes nothing; a device's failure stops the store.
 pub fn refusals_are_steps()
@@ -55,4 +56,29 @@ pub fn latched_is_exact()
 /// latched the page of its group's directory slot.
 pub fn levels_find_all()
     ensures { LevelsFindAll }
+{}
+
+/// Worked: what is refused while two sends are under way, what is not, and receipts.
+pub fn refusals_are_judged()
+    ensures { RefusalsAreJudged }
+{}
+
+/// Worked: of whom a message waits, and of whom none does.
+pub fn waits_are_judged()
+    ensures { WaitsAreJudged }
+{}
+
+/// Worked: a directory slot that tells of its group, and one that tells of it too early, on a latched page.
+pub fn groups_are_judged()
+    ensures { GroupsAreJudged }
+{}
+
+/// Worked: a send that is planned beside another, and one that isn't any more.
+pub fn plans_are_judged()
+    ensures { PlansAreJudged }
+{}
+
+/// Worked: sends that are latched, and one that isn't.
+pub fn latches_are_judged()
+    ensures { LatchesAreJudged }
 {}
