@@ -1,6 +1,6 @@
 -- Worked calls while sends are under way.
-use Rattle.std.proofs.Common.{◌≡◌, ◌≢◌, ◌||◌, ℕ, ◌+◌, ◌/◌, ◌<◌, ◌≤◌, ◌⊎◌, List, [], ◌∷◌, drop, length, reverse, refl, sym, ◌∙◌, ap, subst, true, false, Option, Some, None, inl, inr, arith}
-use Rattle.std.proofs.lemmas.Bool.{cases_eq, false≢true, true≢false}
+use Rattle.std.proofs.Common.{◌≡◌, ◌≢◌, ◌||◌, ℕ, ◌+◌, ◌/◌, ◌<◌, ◌≤◌, ◌⊎◌, List, [], ◌∷◌, drop, length, reverse, refl, sym, ◌∙◌, ap, subst, true, false, Option, Some, None, inl, inr, arith, cond, nat_eq}
+use Rattle.std.proofs.lemmas.Bool.{cases_Bool, cases_eq, eqb-true, false≢true, true≢false}
 use Rattle.rq_model.specs.declared.message.Message.{Message}
 use Rattle.rq_model.specs.declared.txn.Txn.{Txn}
 use Rattle.rq_model.specs.declared.record.Deed.TheVariants.{Append, UnlinkHead, Close}
@@ -12,12 +12,15 @@ use Rattle.rq_page.specs.declared.cell.Cell.{Cell}
 use Rattle.rq_page.specs.declared.directory.Directory.{Directory}
 use Rattle.rq_page.specs.Directories.{new_directory}
 use Rattle.rq_page.specs.Sizes.{IsCellAddress}
+use Rattle.rq_page.specs.Slots.{Slot, held_in, slot_bytes}
 use Rattle.rq_page.specs.Slots.Slot.{Free, Used, Sender}
 use Rattle.rq_views.specs.Items.{items}
 use Rattle.rq_views.specs.Log.{HasBefores, Item, Slots, Write, state_of}
 use Rattle.rq_views.specs.Plans.{Turn, append_writes}
 use Rattle.rq_views.specs.Plans.Turn.{Did, Undid}
 use Rattle.rq_views.specs.WorkedItems.{sizes, small, t1, t2, cell, sends, sent_a, row, new_b, end_b}
+use Rattle.rq_level.specs.declared.slots.Given.{Given}
+use Rattle.rq_level.specs.Given.{GivenHolds, HoldsBytes, given_at}
 use Rattle.rq_groups.specs.Waiting.{waits}
 use Rattle.rq_store.specs.Worked.{AreFormatted}
 use Rattle.rq_store.specs.State.{size_of}
@@ -28,15 +31,19 @@ use Rattle.rq_sound.specs.Sound.{State, IsSound, ledger_of}
 use Rattle.rq_sound.specs.Calls.{failed}
 use Rattle.rq_sound.specs.Groups.{slots_now}
 use Rattle.rq_sound.specs.Plans.{IsSend}
-use Rattle.rq_sound.specs.Latching.{AllFreeLatched, Begins, IsLatched, MayBePlanned, NeedsLatched, any_latched, at_tail, completed}
+use Rattle.rq_sound.specs.Latching.{AllFreeLatched, Begins, IsLatched, MayBePlanned, NeedsLatched, any_latched, at_tail, completed, named, tail_in}
+use Rattle.rq_sound.specs.Levels.{IsGathered}
+use Rattle.rq_sound.specs.Wants.{AreGivenOf}
 use Rattle.rq_sound.specs.Course.{send_a, send_b, both_begun, one_under, two_under, Frames, AreMade, wrote_cell_b, wrote_group_a, done_b, row_sent}
-use Rattle.rq_sound.specs.WorkedCalls.{message_for, RefusalsAreJudged, WaitsAreJudged, GroupsAreJudged, PlansAreJudged, LatchesAreJudged}
+use Rattle.rq_sound.specs.WorkedCalls.{given_a, given_b, message_for, RefusalsAreJudged, WaitsAreJudged, GroupsAreJudged, PlansAreJudged, LatchesAreJudged, LevelsAreJudged}
 use Rattle.rq_sound.proofs.Contracts.{calls_keep}
 use Rattle.rq_sound.proofs.Courses.{s6, s7, spelt}
 use Rattle.rq_sound.proofs.Groups.{slots_are, slots_tell}
 use Rattle.rq_sound.proofs.Latching.{latched_exact}
 use Rattle.rq_sound.proofs.Refusals.{refusal_steps}
+use Rattle.rq_sound.proofs.Spelt.{new_of_a, new_of_b, told}
 use Rattle.rq_sound.proofs.Unchanged.{unchanged}
+use Rattle.rq_sound.proofs.Wants.{levels_find}
 use Rattle.rq_sound.proofs.Worked.{begun_sound, first, other_pages, plan_b, two_sound, writes_b}
 
 one_sound : (images : List (List ℕ)) → AreFormatted sizes images → IsSound (one_under images)
@@ -153,4 +160,39 @@ latches_judged = record {
         ap (latched_in (two_under images).rows) four
   ];
   some_cell = λ images h all. true≢false (sym (all 65 (record { above = omega arith; below = omega arith; slot = omega arith }) ((one_sound images h).pages 65)));
+}
+
+told_b : held_in sizes 2 (slot_bytes (Sender 15 new_directory)) ≡ Sender 15 new_directory
+told_b = (told 33 (Sender 15 new_directory) new_of_b).0
+
+told_a : held_in sizes 1 (slot_bytes (Sender 0 new_directory)) ≡ Sender 0 new_directory
+told_a = (told 17 (Sender 0 new_directory) new_of_a).0
+
+-- what is held in one slot that was given
+only : (g : Given) (a : ℕ) (x : Slot) → GivenHolds sizes (g ∷ []) a x → (a ≡ g.at) × (held_in sizes (a / 16) g.bytes ≡ x)
+only g a x h = elim (cases_Bool (nat_eq g.at a)) [
+  | inl y ↦ (sym (eqb-true g.at a y), subst (HoldsBytes sizes a x) (ap (λ b. cond b (Some g.bytes) None) y) h)
+  | inr n ↦ absurd (subst (HoldsBytes sizes a x) (ap (λ b. cond b (Some g.bytes) None) n) h)
+]
+
+module _ (images : List (List ℕ)) (h : AreFormatted sizes images) where
+  here : slots_now (one_under images) 33 ≡ Sender 15 new_directory
+  here = (one_sound images h).pages 33
+
+  gathered : IsGathered (one_under images) given_b
+  gathered = record {
+    as_is = λ a x g. (let o = only (record { at = 33; bytes = slot_bytes (Sender 15 new_directory) }) a x g in ap (slots_now (one_under images)) o.0 ∙ here ∙ sym told_b ∙ ap (λ n. held_in sizes (n / 16) (slot_bytes (Sender 15 new_directory))) (sym o.0) ∙ o.1);
+    unlatched = λ a x g. (let o = only (record { at = 33; bytes = slot_bytes (Sender 15 new_directory) }) a x g in ap (λ n. latched_in (one_under images).rows (n / 16)) o.0);
+  }
+
+  wanted : AreGivenOf (one_under images) given_b (at_tail (slots_now (one_under images)) 15)
+  wanted = subst (λ x. HoldsBytes sizes 33 x (given_at 33 given_b) × AreGivenOf (one_under images) given_b (named (tail_in x))) (sym here) (told_b, tt)
+
+pub levels_judged : LevelsAreJudged
+levels_judged = record {
+  gathered = gathered;
+  latched = λ images h. true≢false (h.unlatched 17 (Sender 0 new_directory) told_a);
+  wanted = wanted;
+  can_send = λ images h. levels_find.sends (one_under images) given_b 15 (one_sound images h) (omega arith) refl (omega arith) (wanted images h);
+  cannot_send = λ c. c.directory_is;
 }

@@ -7,9 +7,12 @@ use Rattle.rq_model.specs.declared.refusal.Refusal.TheVariants.{DiskWrite, Faile
 use Rattle.rq_model.specs.History.{Call}
 use Rattle.rq_model.specs.Replay.{Reply}
 use Rattle.rq_page.specs.Directories.{new_directory}
+use Rattle.rq_page.specs.Slots.{slot_bytes}
 use Rattle.rq_page.specs.Slots.Slot.{Sender}
 use Rattle.rq_views.specs.Plans.Turn.{Did}
 use Rattle.rq_views.specs.WorkedItems.{sizes, t1, t2, sends, sent_a}
+use Rattle.rq_level.specs.declared.slots.Given.{Given}
+use Rattle.rq_level.specs.ChainPlans.{CanSend}
 use Rattle.rq_groups.specs.Waiting.{waits}
 use Rattle.rq_store.specs.Worked.{AreFormatted}
 use Rattle.rq_sound.specs.Rows.{Aim, fresh_row, latched_in}
@@ -21,7 +24,9 @@ use Rattle.rq_sound.specs.Steps.{Steps}
 use Rattle.rq_sound.specs.Waits.{WaitsFor, NoneWaits}
 use Rattle.rq_sound.specs.Groups.{TellsGroup, slots_now}
 use Rattle.rq_sound.specs.Plans.{IsNew, IsPlannedFrom}
-use Rattle.rq_sound.specs.Latching.{AllFreeLatched, IsLatched}
+use Rattle.rq_sound.specs.Latching.{AllFreeLatched, IsLatched, at_tail}
+use Rattle.rq_sound.specs.Levels.{IsGathered}
+use Rattle.rq_sound.specs.Wants.{AreGivenOf}
 use Rattle.rq_sound.specs.Course.{send_a, send_b, both_begun, one_under, two_under, Frames, AreMade, wrote_cell_b, wrote_group_a, done_b, row_sent, committed_b}
 
 abbrev pub message_for : ℕ → Message
@@ -87,3 +92,20 @@ pub record LatchesAreJudged : Type 0 where
   pub both_pages : (images : List (List ℕ)) (t : Txn) → IsLatched (two_under images) (Call.Start_send t (message_for 15))
   pub no_cell : (images : List (List ℕ)) → AllFreeLatched (two_under images)
   pub some_cell : (images : List (List ℕ)) → AreFormatted sizes images → AllFreeLatched (one_under images) → ⊥
+
+-- the directory slots of senders 15 and 0, as they were formatted
+abbrev pub given_b : List Given
+given_b = record { at = 33; bytes = slot_bytes (Sender 15 new_directory) } ∷ []
+
+abbrev pub given_a : List Given
+given_a = record { at = 17; bytes = slot_bytes (Sender 0 new_directory) } ∷ []
+
+-- beside the first send a level may be given the slot of sender 15, and finds there all that a send needs; that of
+-- sender 0, which is on a latched page, it may not be given
+pub record LevelsAreJudged : Type 0 where
+  pub gathered : (images : List (List ℕ)) → AreFormatted sizes images → IsGathered (one_under images) given_b
+  pub latched : (images : List (List ℕ)) → IsGathered (one_under images) given_a → ⊥
+  pub wanted : (images : List (List ℕ)) → AreFormatted sizes images
+      → AreGivenOf (one_under images) given_b (at_tail (slots_now (one_under images)) 15)
+  pub can_send : (images : List (List ℕ)) → AreFormatted sizes images → CanSend sizes given_b 15
+  pub cannot_send : CanSend sizes given_a 15 → ⊥

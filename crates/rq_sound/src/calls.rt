@@ -8,7 +8,7 @@ ghost use Rattle.rq_sound.specs.Refusals.{RefusalsAreSteps, TestsReadRows};
 ghost use Rattle.rq_sound.specs.Unchanged.{UnchangedAreSteps};
 ghost use Rattle.rq_sound.specs.Waits.{WaitsAreGiven};
 ghost use Rattle.rq_sound.specs.Wants.{LevelsFindAll};
-ghost use Rattle.rq_sound.specs.WorkedCalls.{GroupsAreJudged, LatchesAreJudged, PlansAreJudged, RefusalsAreJudged, WaitsAreJudged};
+ghost use Rattle.rq_sound.specs.WorkedCalls.{GroupsAreJudged, LatchesAreJudged, LevelsAreJudged, PlansAreJudged, RefusalsAreJudged, WaitsAreJudged};
 
 /// A refusal that the model's tests give is a step that changes nothing; a device's failure stops the store.
 pub fn refusals_are_steps()
@@ -81,4 +81,9 @@ pub fn plans_are_judged()
 /// Worked: sends that are latched, and one that isn't.
 pub fn latches_are_judged()
     ensures { LatchesAreJudged }
+{}
+
+/// Worked: what a level may be given while a send is under way, and what it finds there.
+pub fn levels_are_judged()
+    ensures { LevelsAreJudged }
 {}
