@@ -86,16 +86,16 @@ module _ (pages : MemPages) (old : MemLog) (p : AreNewPages pages formatted_page
       writes = tt;
       pages = refl;
       log = record {
-        handed = record { faults = f.failures; reads = λ h. forced_reads old new l f };
-        durable = λ h. forced_only old new l f;
+        handed = record { faults = f.failures; reads = λ h. forced_reads log_5 1 4 records_spelled (omega arith) old new l f };
+        durable = λ h. forced_only log_5 1 4 records_spelled (omega arith) old new l f;
       };
       honest = λ h. h;
-      any_moment = λ h. runs_through old new l f;
+      any_moment = λ h. runs_through log_5 1 4 records_spelled (omega arith) old new l f;
       fit = λ h k fit. pages_fit pages p log_5 (5, refl);
       crash = λ h k fit.
           runs_through_cuts mem_pages mem_log pages_now (over committed pages old) (over forced pages new) k fit event.Force
           (reply.Forced 5) records_spelled tt refl (leaves_beginning old log_1 l log_5 1 4 (omega arith) refl)
-          (runs_through old new l f);
+          (runs_through log_5 1 4 records_spelled (omega arith) old new l f);
     }
 
 -- or its device fails

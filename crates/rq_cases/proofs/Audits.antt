@@ -9,12 +9,17 @@ use Rattle.rq_model.specs.History.Job.{Taking}
 use Rattle.rq_model.specs.Replay.Reply.{Gave_txn}
 use Rattle.rq_model.specs.Ledger.{Ledger}
 use Rattle.rq_model.specs.Legal.{Legal}
+use Rattle.rq_disk.specs.declared.mem_log.MemLog.{MemLog}
+use Rattle.rq_disk.specs.declared.mem_pages.MemPages.{MemPages}
 use Rattle.rq_views.specs.WorkedItems.{t1, t2}
 use Rattle.rq_store.specs.State.{ledger_of, size_of}
-use Rattle.rq_shared.specs.Entries.{Noted}
+use Rattle.rq_engine.specs.Opened.{OpenStore}
+use Rattle.rq_shared.specs.Entries.{Follows, Noted}
 use Rattle.rq_shared.specs.Marks.{IsMark, IsPublished, newcomer, seat_view}
 use Rattle.rq_shared.specs.declared.mark.View.{View}
+use Rattle.rq_core.specs.Devices.{mem_log, mem_pages}
 use Rattle.rq_cases.specs.Audits.{AuditsAreJudged, LeadsNot, took}
+use Rattle.rq_cases.specs.Opened.{over}
 use Rattle.rq_cases.specs.Run.{begun_again, forced, take_started}
 use Rattle.rq_cases.specs.Store.{sizes}
 use Rattle.rq_cases.proofs.Running as running
@@ -36,8 +41,9 @@ another pages log f =
     let e : 1 ≡ 2 = legal.2 in
     omega (arith, e)
 
-left_out : LeadsNot forced (took ∷ []) take_started
-left_out pages log f =
+-- the start of a receive of a transaction that is not open
+pub left_out_of : (pages : MemPages) (log : MemLog) (engine : OpenStore MemPages MemLog) → Follows mem_pages mem_log (over forced pages log) (took ∷ []) engine → ⊥
+left_out_of pages log engine f =
     let r = (f.replays (tt, tt) running.force.sound).1 in
     let legal : Legal (size_of sizes) (ledger_of forced) (Started t2 1 (Taking r.3.1)) =
     subst (λ (l : Ledger). Legal (size_of sizes) l (Started t2 1 (Taking r.3.1))) r.2
@@ -103,7 +109,7 @@ audits = record {
       ),
     );
   };
-  call_left_out = left_out;
+  call_left_out = λ pages log. left_out_of pages log (over take_started pages log);
   all_left_out = λ pages log f.
       (let e : 2 ≡ 1 = ap (λ (l : Ledger). l.begins) (f.replays (tt, tt) running.force.sound).1 in omega (arith, e));
   another_number = another;

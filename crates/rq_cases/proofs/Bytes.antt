@@ -1,5 +1,5 @@
 -- The records of the worked run have spellings.
-use Rattle.std.proofs.Common.{◌≡◌, ℕ, zero, suc, ◌+◌, ◌*◌, ◌<◌, ◌==◌, length-append, Bool, true, false, if◌then◌else◌, List, [], ◌∷◌, ◌++◌, length, replicate, refl, arith}
+use Rattle.std.proofs.Common.{◌≡◌, ℕ, zero, suc, ◌+◌, ◌*◌, ◌<◌, ◌==◌, length-append, Bool, true, false, if◌then◌else◌, List, [], ◌∷◌, ◌++◌, length, replicate, refl, ap, ◌≤◌, arith}
 use Rattle.std.specs.Prelude.{codes}
 use Rattle.byteorder.specs.Endian.{big_bytes}
 use Rattle.rq_bytes.specs.Number.{AreBytes, number}
@@ -14,13 +14,15 @@ use Rattle.rq_page.specs.Pages.{header_bytes, header_front}
 use Rattle.rq_page.proofs.CellBytes.{length-cell_bytes}
 use Rattle.rq_page.proofs.DirectoryBytes.{length-directory_bytes}
 use Rattle.rq_views.specs.WorkedItems.{cell, sends, t1}
-use Rattle.rq_record.specs.Spelling.{FitsTxn, IsImage, IsRecord, IsTxnInRange}
-use Rattle.rq_log.specs.Spelled.{AreSpelled}
+use Rattle.rq_model.specs.declared.record.Record.{Record}
+use Rattle.rq_record.specs.Spelling.{FitsTxn, IsImage, IsRecord, IsTxnInRange, spelling}
+use Rattle.rq_record.proofs.Whole.{long_spelling}
+use Rattle.rq_log.specs.Spelled.{AreSpelled, spelled}
 use Rattle.rq_store.specs.Steps.{op_end, page_op}
 use Rattle.rq_cases.specs.Run.{log_1, log_5}
 use Rattle.rq_store.specs.Fitting.{image_in}
 use Rattle.rq_cases.specs.Sound.{IsImageOfPage}
-use Rattle.rq_cases.specs.Store.{cells_0, count_sent, fill_cell, formatted_pages, groups_0, joined, page_image, part, sizes}
+use Rattle.rq_cases.specs.Store.{cells_0, count_sent, fill_cell, formatted_pages, free_cell, groups_0, joined, page_image, part, sizes}
 use Rattle.rq_cases.proofs.Images.{either_long, length-free, length-superblock, part_long}
 use Rattle.rq_cases.proofs.Pages.{cells_0_long, groups_0_long}
 
@@ -141,6 +143,29 @@ first_spelled = ((omega arith, omega arith), tt)
 
 pub records_spelled : AreSpelled log_5
 records_spelled = ((in_range, fits), (end_is, (count_is, (fill_is, first_spelled))))
+
+pub free_is : IsRecord (page_op t1 1 free_cell)
+free_is = (
+  (in_range, omega arith, (omega arith, omega arith)),
+  (fits, omega arith, omega arith, omega arith, cell_image, free_image),
+)
+
+-- a record takes 13 bytes or more
+pub long_log : (log : List Record) → AreSpelled log → 13 * length log ≤ length (spelled log)
+long_log [] told = omega arith
+long_log (r ∷ older) told =
+    let m = length-append (spelled older) (spelling r) in
+    let long = long_spelling r told.0 in
+    let rest = long_log older told.1 in
+    omega (arith, m, long, rest)
+
+-- a byte is no log
+pub short_log : (log : List Record) → AreSpelled log → (0 ∷ []) ≡ spelled log → ⊥
+short_log [] told e = (let n : 1 ≡ 0 = ap length e in omega (arith, n))
+short_log (r ∷ older) told e =
+    let n : 1 ≡ length (spelled (r ∷ older)) = ap length e in
+    let long = long_log (r ∷ older) told in
+    omega (arith, n, long)
 
 -- the formatted pages are pages of bytes
 header_bytes_are : (lsn page kind : ℕ) → kind < 256 → AreBytes (header_bytes lsn page kind)

@@ -16,7 +16,7 @@ use Rattle.rq_disk.specs.declared.mem_pages.PageCall.{PageCall}
 use Rattle.rq_disk.proofs.KeptLog.{fresh_only}
 use Rattle.rq_disk.proofs.KeptPages.{written_to, write_reads, pages_elapses}
 use Rattle.rq_log.specs.Crash.{LeavesOnly}
-use Rattle.rq_log.specs.Spelled.{spelled, IsBeginning}
+use Rattle.rq_log.specs.Spelled.{AreSpelled, spelled, IsBeginning}
 use Rattle.rq_log.proofs.Moments.{started}
 use Rattle.rq_log.proofs.Runs.{all_of, some_newer, spelled_whole}
 use Rattle.rq_store.specs.Fitting.{AllFit, image_in}
@@ -28,7 +28,6 @@ use Rattle.rq_core.specs.Devices.{mem_log, mem_pages}
 use Rattle.rq_cases.specs.Opened.{AreNewPages, HasFailedSince, IsForcedSince, IsNewLog, IsWrittenSince}
 use Rattle.rq_cases.specs.Run.{log_1, log_5}
 use Rattle.rq_cases.specs.Store.{formatted_pages, sizes}
-use Rattle.rq_cases.proofs.Bytes.{records_spelled}
 use Rattle.rq_cases.proofs.Pages.{are_formatted, range}
 
 -- laws of both devices
@@ -65,6 +64,12 @@ module _ (d : MemLog) (records : List Record) (n : IsNewLog d records) where
   pub new_bytes : take d.first d.bytes.items ≡ spelled records
   new_bytes = ap (λ (s : LogState). s.forced) (sym (ap (log_after (take d.first d.bytes.items)) new_calls) ∙ n.log)
 
+  pub log_left : mem_log.may_leave d (spelled records)
+  log_left = subst (λ (s : LogState). MayLeave s (spelled records)) (sym n.log) (0, sym (append-nil (spelled records)))
+
+  pub log_seen : mem_log.seen d ≡ spelled records
+  log_seen = ap log_reads n.log ∙ append-nil (spelled records)
+
   pub only_records : (c : List ℕ) → mem_log.may_leave d c → c ≡ spelled records
   only_records c may = fresh_only (spelled records) c (subst (λ (s : LogState). MayLeave s c) n.log may)
 
@@ -93,80 +98,82 @@ module _ (old new : MemLog) (n : IsNewLog old log_1) (f : HasFailedSince old new
         keeps = λ t c le left. subst (λ (Q : ℕ → List ℕ → Type 0). Q t c) (sym since_failed) left;
       }
 
--- the records of the worked run behind the first, appended and forced
-abbrev newer : List Record
-newer = take 4 log_5
-
+-- a log behind whose older records the newest are appended and forced
 abbrev forced_after : Vec ℕ Global → List LogCall
 forced_after run = Append run ∷ Force ∷ []
 
-abbrev log_then : Vec ℕ Global → LogState
-log_then run = log_after (spelled log_1) (forced_after run)
+module _ (all : List Record) (kept count : ℕ) (told : AreSpelled all) (le : count + kept ≤ length all) where
+  abbrev older : List Record
+  older = drop count all
 
-module _ (run : Vec ℕ Global) (items : run.items ≡ spelled newer) where
-  all_bytes : spelled log_1 ++ run.items ≡ spelled log_5
-  all_bytes = ap (λ l. spelled log_1 ++ l) items ∙ spelled_whole 4 log_5
+  abbrev log_then : Vec ℕ Global → LogState
+  log_then run = log_after (spelled older) (forced_after run)
 
-  -- after each of both calls
-  after_some : (k : ℕ) → k ≤ 2 → (c : List ℕ) → MayLeave (log_after (spelled log_1) (take k (forced_after run))) c
-      → IsBeginning log_5 1 c
-  after_some zero le c may = (4, omega arith, fresh_only (spelled log_1) c may)
-  after_some (suc zero) le c may =
-      subst (IsBeginning log_5 1) (sym (may.1 ∙ ap (λ l. spelled log_1 ++ first_records may.0 l) items))
-      (some_newer log_5 1 4 may.0 records_spelled (omega arith))
-  after_some (suc (suc zero)) le c may =
-      all_of log_5 1 c (omega arith) (fresh_only (spelled log_1 ++ run.items) c may ∙ all_bytes)
-  after_some (suc (suc (suc k))) le c may = absurd (omega (arith, le))
+  module _ (run : Vec ℕ Global) (items : run.items ≡ spelled (take count all)) where
+    all_bytes : spelled older ++ run.items ≡ spelled all
+    all_bytes = ap (λ l. spelled older ++ l) items ∙ spelled_whole count all
 
-  since_some : (t : ℕ) (c : List ℕ) → LogSince (spelled log_1) (forced_after run) t c → IsBeginning log_5 1 c
-  since_some t c since = after_some since.0 since.2 c since.3
+    -- after each of both calls
+    after_some : (k : ℕ) → k ≤ 2 → (c : List ℕ) → MayLeave (log_after (spelled older) (take k (forced_after run))) c
+        → IsBeginning all kept c
+    after_some zero low c may = (count, le, fresh_only (spelled older) c may)
+    after_some (suc zero) low c may =
+        subst (IsBeginning all kept) (sym (may.1 ∙ ap (λ l. spelled older ++ first_records may.0 l) items))
+        (some_newer all kept count may.0 told le)
+    after_some (suc (suc zero)) low c may =
+        all_of all kept c (omega (arith, le)) (fresh_only (spelled older ++ run.items) c may ∙ all_bytes)
+    after_some (suc (suc (suc k))) low c may = absurd (omega (arith, low))
 
-  was_before : (t : ℕ) (c : List ℕ) → LogSince (spelled log_1) [] t c → LogSince (spelled log_1) (forced_after run) t c
-  was_before t c since = at since.0 since.1 since.2 since.3 where
-    at : (k : ℕ) → t ≤ k → k ≤ 0 → MayLeave (log_after (spelled log_1) (take k [])) c
-        → LogSince (spelled log_1) (forced_after run) t c
-    at zero up le may = (0, up, omega arith, may)
-    at (suc k) up le may = absurd (omega (arith, le))
+    since_some : (t : ℕ) (c : List ℕ) → LogSince (spelled older) (forced_after run) t c → IsBeginning all kept c
+    since_some t c since = after_some since.0 since.2 c since.3
 
-  reads_all : log_reads (log_then run) ≡ spelled log_5
-  reads_all = append-nil (spelled log_1 ++ run.items) ∙ all_bytes
+    was_before : (t : ℕ) (c : List ℕ) → LogSince (spelled older) [] t c
+        → LogSince (spelled older) (forced_after run) t c
+    was_before t c since = at since.0 since.1 since.2 since.3 where
+      at : (k : ℕ) → t ≤ k → k ≤ 0 → MayLeave (log_after (spelled older) (take k [])) c
+          → LogSince (spelled older) (forced_after run) t c
+      at zero up low may = (0, up, omega arith, may)
+      at (suc k) up low may = absurd (omega (arith, low))
 
-  only_all : (c : List ℕ) → MayLeave (log_then run) c → c ≡ spelled log_5
-  only_all c may = fresh_only (spelled log_1 ++ run.items) c may ∙ all_bytes
+    reads_all : log_reads (log_then run) ≡ spelled all
+    reads_all = append-nil (spelled older ++ run.items) ∙ all_bytes
 
-module _ (old new : MemLog) (n : IsNewLog old log_1) (f : IsForcedSince old new (spelled newer)) where
-  abbrev calls_are : List LogCall
-  calls_are = forced_after f.run
+    only_all : (c : List ℕ) → MayLeave (log_then run) c → c ≡ spelled all
+    only_all c may = fresh_only (spelled older ++ run.items) c may ∙ all_bytes
 
-  bytes_are : take new.first new.bytes.items ≡ spelled log_1
-  bytes_are = f.first ∙ new_bytes old log_1 n
+  module _ (old new : MemLog) (n : IsNewLog old older) (f : IsForcedSince old new (spelled (take count all))) where
+    abbrev calls_are : List LogCall
+    calls_are = forced_after f.run
 
-  log_forced : log_of new ≡ log_then f.run
-  log_forced = λ i. log_after (bytes_are i) (f.calls i)
+    bytes_are : take new.first new.bytes.items ≡ spelled older
+    bytes_are = f.first ∙ new_bytes old older n
 
-  since_new : (t : ℕ) → (λ c. mem_log.left_since new t c) ≡ LogSince (spelled log_1) calls_are t
-  since_new t = λ i. LogSince (bytes_are i) (f.calls i) t
+    log_forced : log_of new ≡ log_then f.run
+    log_forced = λ i. log_after (bytes_are i) (f.calls i)
 
-  since_old : (t : ℕ) → (λ c. mem_log.left_since old t c) ≡ LogSince (spelled log_1) [] t
-  since_old t = λ i. LogSince (new_bytes old log_1 n i) (new_calls old log_1 n i) t
+    since_new : (t : ℕ) → (λ c. mem_log.left_since new t c) ≡ LogSince (spelled older) calls_are t
+    since_new t = λ i. LogSince (bytes_are i) (f.calls i) t
 
-  each_beginning : (t : ℕ) (c : List ℕ) → mem_log.left_since new t c → IsBeginning log_5 1 c
-  each_beginning t c left = since_some f.run f.items t c (subst (λ (Q : List ℕ → Type 0). Q c) (since_new t) left)
+    since_old : (t : ℕ) → (λ c. mem_log.left_since old t c) ≡ LogSince (spelled older) [] t
+    since_old t = λ i. LogSince (new_bytes old older n i) (new_calls old older n i) t
 
-  pub runs_through : LeavesOnly mem_log old new (IsBeginning log_5 1)
-  runs_through = record {
-    later = (let a = n.moment in let b = ap length f.calls in omega (arith, a, b));
-    each = λ c left. each_beginning (mem_log.moment old) c left;
-    before = λ t c le left. inr (each_beginning t c left);
-    keeps = λ t c le left. subst (λ (Q : List ℕ → Type 0). Q c) (sym (since_new t))
-        (was_before f.run f.items t c (subst (λ (Q : List ℕ → Type 0). Q c) (since_old t) left));
-  }
+    each_beginning : (t : ℕ) (c : List ℕ) → mem_log.left_since new t c → IsBeginning all kept c
+    each_beginning t c left = since_some f.run f.items t c (subst (λ (Q : List ℕ → Type 0). Q c) (since_new t) left)
 
-  pub forced_reads : mem_log.seen new ≡ spelled log_5
-  forced_reads = ap log_reads log_forced ∙ reads_all f.run f.items
+    pub runs_through : LeavesOnly mem_log old new (IsBeginning all kept)
+    runs_through = record {
+      later = (let a = n.moment in let b = ap length f.calls in omega (arith, a, b));
+      each = λ c left. each_beginning (mem_log.moment old) c left;
+      before = λ t c low left. inr (each_beginning t c left);
+      keeps = λ t c low left. subst (λ (Q : List ℕ → Type 0). Q c) (sym (since_new t))
+          (was_before f.run f.items t c (subst (λ (Q : List ℕ → Type 0). Q c) (since_old t) left));
+    }
 
-  pub forced_only : Only (spelled log_5) (mem_log.may_leave new)
-  forced_only c may = only_all f.run f.items c (subst (λ (s : LogState). MayLeave s c) log_forced may)
+    pub forced_reads : mem_log.seen new ≡ spelled all
+    forced_reads = ap log_reads log_forced ∙ reads_all f.run f.items
+
+    pub forced_only : Only (spelled all) (mem_log.may_leave new)
+    forced_only c may = only_all f.run f.items c (subst (λ (s : LogState). MayLeave s c) log_forced may)
 
 -- pages of which one was written
 module _ (old new : MemPages) (page : ℕ) (image : List ℕ) (w : IsWrittenSince old new page image) where

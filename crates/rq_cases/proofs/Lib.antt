@@ -18,3 +18,9 @@ mod Formatting
 mod Restarting
 mod Logs
 mod Audits
+mod Openings
+mod Stamps
+mod Bounds
+mod Crashes
+mod Latches
+mod Replies

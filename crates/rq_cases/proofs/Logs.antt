@@ -1,20 +1,17 @@
 -- What stands in the bytes of a log.
 use Rattle.std.proofs.Common.{◌≡◌, ℕ, ◌+◌, ◌-◌, ◌≤◌, List, [], ◌∷◌, ◌++◌, length, take, drop, refl, sym, ap, ◌∙◌, arith, length-append}
-use Rattle.std.proofs.lemmas.List.{append-nil, length-drop}
+use Rattle.std.proofs.lemmas.List.{length-drop}
 use Rattle.rq_model.specs.declared.record.Record.{Record}
 use Rattle.rq_model.specs.declared.record.Record.TheVariants.{Restart}
-use Rattle.rq_disk.specs.Memory.{log_reads}
-use Rattle.rq_disk.specs.declared.mem_log.MemLog.{MemLog}
 use Rattle.rq_record.specs.Spelling.{HoldsRecord, spelling}
 use Rattle.rq_record.proofs.Whole.{long_spelling}
 use Rattle.rq_log.specs.Spelled.{AreSpelled, GoesOn, IsBeginning, spelled}
 use Rattle.rq_log.proofs.Runs.{spelled_whole}
 use Rattle.rq_restart.proofs.Parsing.{AreSpelled-drop, one_log}
-use Rattle.rq_core.specs.Devices.{mem_log}
 use Rattle.rq_cases.specs.Logs.{LogsAreJudged}
-use Rattle.rq_cases.specs.Opened.{IsNewLog}
 use Rattle.rq_cases.specs.Run.{log_1, log_3, log_5}
-use Rattle.rq_cases.proofs.Bytes.{first_spelled, records_spelled}
+use Rattle.rq_cases.proofs.Bytes.{first_spelled, records_spelled, short_log}
+use Rattle.rq_cases.proofs.Held.{log_seen}
 
 -- how many of the newest records lack
 lost_of : (lost : ℕ) (records : List Record) → AreSpelled records → spelled records ≡ spelled (drop lost log_5) → 5 - lost ≡ length records
@@ -26,16 +23,7 @@ lost_of lost records told e =
 lost_forced : IsBeginning log_5 5 (spelled log_1) → ⊥
 lost_forced b = (let n : 5 - b.0 ≡ 1 = lost_of b.0 log_1 first_spelled b.2 in let f : b.0 + 5 ≤ 5 = b.1 in omega (arith, n, f))
 
--- a log of one byte
-short_log : (log : List Record) → AreSpelled log → (0 ∷ []) ≡ spelled log → ⊥
-short_log [] told e = (let n : 1 ≡ 0 = ap length e in omega (arith, n))
-short_log (r ∷ older) told e =
-    let n : 1 ≡ length (spelled older ++ spelling r) = ap length e in
-    let m = length-append (spelled older) (spelling r) in
-    let long = long_spelling r told.0 in
-    omega (arith, n, m, long)
-
-no_record : HoldsRecord (0 ∷ []) → ⊥
+pub no_record : HoldsRecord (0 ∷ []) → ⊥
 no_record h =
     let n : 1 ≡ length (spelling h.0 ++ h.1) = ap length h.3 in
     let m = length-append (spelling h.0) h.1 in
@@ -56,9 +44,6 @@ none_behind bytes rest e = by rest (let n : length bytes ≡ length (bytes ++ re
   by : (rest : List ℕ) → length rest ≡ 0 → rest ≡ []
   by [] n = refl
   by (b ∷ rest) n = absurd (omega (arith, n))
-
-log_seen : (d : MemLog) (records : List Record) → IsNewLog d records → mem_log.seen d ≡ spelled records
-log_seen d records n = ap log_reads n.log ∙ append-nil (spelled records)
 
 pub logs : LogsAreJudged
 logs = record {

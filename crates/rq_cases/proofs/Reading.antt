@@ -27,7 +27,7 @@ use Rattle.rq_cases.proofs.Images.{lsn_is}
 use Rattle.rq_cases.proofs.Pages.{are_formatted, cells_0_long, cells_1_long, range}
 use Rattle.rq_cases.proofs.Running as running
 
-no_header : (lsn page kind : ℕ) → header_of [] ≡ header_bytes lsn page kind → ⊥
+pub no_header : (lsn page kind : ℕ) → header_of [] ≡ header_bytes lsn page kind → ⊥
 unfolding header_of
 no_header lsn page kind e = (let n : 0 ≡ length (header_bytes lsn page kind) = ap length e in let m = length-header_bytes lsn page kind in omega (arith, n, m))
 
@@ -43,7 +43,7 @@ writes_more old new n w o =
     let none = lsn_is 0 2 2 cells_0 cells_0_long (omega arith) in
     omega (arith, lsn, two, none)
 
-first_block : IsSuperblock sizes superblock
+pub first_block : IsSuperblock sizes superblock
 first_block = record { range = range; formatted = are_formatted 0 (omega arith) }
 
 -- the pages of the worked run are sound
@@ -52,10 +52,27 @@ formatted_sound =
     let f : FitsLog sizes (image_in formatted_pages) _ = running.fresh_sound.fits in
     record { header = f.headers 1 (omega arith) (omega arith); slots = (f.pages 1 (omega arith) (omega arith)).slots }
 
-sent_sound : (p : ℕ) → 1 ≤ p → p < page_count sizes → IsSoundPage sizes p (image_in sent_pages p)
+pub sent_sound : (p : ℕ) → 1 ≤ p → p < page_count sizes → IsSoundPage sizes p (image_in sent_pages p)
 sent_sound p low high =
     let f : FitsLog sizes (image_in sent_pages) _ = running.step_group.sound.fits in
     record { header = f.headers p low high; slots = (f.pages p low high).slots }
+
+only_1 : (p : ℕ) → 1 ≤ p → p < 2 → IsSoundPage sizes p (image_in no_cells p)
+only_1 zero low less = absurd (omega (arith, low))
+only_1 (suc zero) low less = formatted_sound
+only_1 (suc (suc p)) low less = absurd (omega (arith, less))
+
+pub cells_missing : IsDamaged (image_in no_cells) 2
+cells_missing = inr (
+  sizes,
+  record {
+    superblock = first_block;
+    low = omega arith;
+    high = omega arith;
+    bad = λ s. no_header _ 2 2 s.header;
+    first = only_1;
+  },
+)
 
 module _ (once : OneSizeEach) where
   -- what is told of damage is told of these sizes
@@ -90,16 +107,7 @@ module _ (once : OneSizeEach) where
     reads_otherwise = λ old new other o. other o.same;
     written_too = writes_more;
     no_superblock = inl (refl, (λ z s. no_header 0 0 0 s.formatted.header));
-    no_cell_page = inr (
-      sizes,
-      record {
-        superblock = first_block;
-        low = omega arith;
-        high = omega arith;
-        bad = λ s. no_header _ 2 2 s.header;
-        first = only_1;
-      },
-    );
+    no_cell_page = cells_missing;
     no_directory_page = inr (
       sizes,
       record {
@@ -116,11 +124,7 @@ module _ (once : OneSizeEach) where
     are_pages = record { superblock = first_block; count = refl; sound = sent_sound };
     are_no_pages = λ a. no_header _ 2 2 (a.sound 2 (omega arith) (omega arith)).header;
     are_too_few = λ a. (let e : 1 ≡ 3 = a.count in omega (arith, e));
-  } where
-    only_1 : (p : ℕ) → 1 ≤ p → p < 2 → IsSoundPage sizes p (image_in no_cells p)
-    only_1 zero low less = absurd (omega (arith, low))
-    only_1 (suc zero) low less = formatted_sound
-    only_1 (suc (suc p)) low less = absurd (omega (arith, less))
+  }
 
 -- the first cell is free
 first_free : is_used (slots_in sizes formatted_pages 33) ≡ true → ⊥

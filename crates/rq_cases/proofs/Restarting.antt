@@ -2,10 +2,8 @@
 use Rattle.std.proofs.Common.{◌≡◌, ℕ, zero, suc, ◌≤◌, ◌<◌, ◌^◌, List, [], ◌∷◌, length, false, true, refl, sym, ap, ◌∙◌, subst, inl, inr, arith}
 use Rattle.rq_model.specs.declared.record.Record.{Record}
 use Rattle.rq_model.specs.declared.record.Record.TheVariants.{Commit, Restart}
-use Rattle.rq_disk.specs.Memory.{fresh_pages, log_reads, reads}
-use Rattle.rq_disk.specs.declared.mem_log.MemLog.{MemLog}
+use Rattle.rq_disk.specs.Memory.{fresh_pages, reads}
 use Rattle.rq_disk.specs.declared.mem_pages.MemPages.{MemPages}
-use Rattle.std.proofs.lemmas.List.{append-nil}
 use Rattle.rq_log.specs.Spelled.{spelled}
 use Rattle.std.proofs.lemmas.Bool.{cases_eq}
 use Rattle.rq_bytes.specs.Number.{number_at}
@@ -26,39 +24,37 @@ use Rattle.rq_restart.specs.Repeating.{AreCounted, Belongs, IsFirstBad, IsRepeat
 use Rattle.rq_restart.specs.Restarting.{IsBegunOn, IsLeftOn}
 use Rattle.rq_restart.specs.Checked.{IsEnded, IsGoneThrough}
 use Rattle.rq_restart.proofs.Parsing.{one_log}
-use Rattle.rq_core.specs.Devices.{mem_log, mem_pages}
-use Rattle.rq_cases.specs.Opened.{AreNewPages, IsNewLog}
+use Rattle.rq_core.specs.Devices.{mem_pages}
+use Rattle.rq_cases.specs.Opened.{AreNewPages}
 use Rattle.rq_cases.specs.Restarting.{RestartsAreJudged, read_pages, repeated_pages}
 use Rattle.rq_cases.specs.Run.{log_1, log_2, log_3, log_4, log_5}
 use Rattle.rq_cases.specs.Store.{cells_0, cells_1, count_sent, fill_cell, filled_pages, formatted_pages, free_cell, groups_0, groups_1, group, one_sent, page_image, sent_pages, sizes}
 use Rattle.rq_cases.proofs.Bytes.{first_spelled, records_spelled}
+use Rattle.rq_cases.proofs.Held.{log_seen}
 use Rattle.rq_cases.proofs.Images.{lsn_is, slot_is, written_other}
 use Rattle.rq_cases.proofs.Pages.{are_formatted, cells_0_long, cells_1_long, cell_told, fill_written, free_told, groups_0_long, groups_1_long, others_of_1, others_of_2, range, sent_told, sent_written}
 use Rattle.rq_cases.proofs.Running as running
 
 -- what the devices read
-log_seen : (d : MemLog) (records : List Record) → IsNewLog d records → mem_log.seen d ≡ spelled records
-log_seen d records n = ap log_reads n.log ∙ append-nil (spelled records)
-
-pages_seen_are : (d : MemPages) (images : List (List ℕ)) → AreNewPages d images → mem_pages.seen d ≡ reads (fresh_pages images)
+pub pages_seen_are : (d : MemPages) (images : List (List ℕ)) → AreNewPages d images → mem_pages.seen d ≡ reads (fresh_pages images)
 pages_seen_are d images n = ap reads n.pages
 
-formatted_fit : FitsLog sizes (image_in formatted_pages) log_5
+pub formatted_fit : FitsLog sizes (image_in formatted_pages) log_5
 formatted_fit = fits_log_longer sizes (image_in formatted_pages) [] log_5 (5, refl) (formatted_fits sizes (image_in formatted_pages) range are_formatted)
 
-left_here : (d : MemPages) → AreNewPages d formatted_pages → IsLeft sizes (mem_pages.seen d) log_5
+pub left_here : (d : MemPages) → AreNewPages d formatted_pages → IsLeft sizes (mem_pages.seen d) log_5
 left_here d n = subst (λ (seen : ℕ → List ℕ). IsLeft sizes seen log_5) (sym (pages_seen_are d formatted_pages n)) (record { whole = running.commit_send.sound.log; fits = formatted_fit })
 
-group_lsn : lsn_of (page_image 3 1 1 groups_1) ≡ 3
+pub group_lsn : lsn_of (page_image 3 1 1 groups_1) ≡ 3
 group_lsn = lsn_is 3 1 1 groups_1 groups_1_long (omega arith)
 
-no_group_lsn : lsn_of (page_image 0 1 1 groups_0) ≡ 0
+pub no_group_lsn : lsn_of (page_image 0 1 1 groups_0) ≡ 0
 no_group_lsn = lsn_is 0 1 1 groups_0 groups_0_long (omega arith)
 
-cell_lsn : lsn_of (page_image 2 2 2 cells_1) ≡ 2
+pub cell_lsn : lsn_of (page_image 2 2 2 cells_1) ≡ 2
 cell_lsn = lsn_is 2 2 2 cells_1 cells_1_long (omega arith)
 
-no_cell_lsn : lsn_of (page_image 0 2 2 cells_0) ≡ 0
+pub no_cell_lsn : lsn_of (page_image 0 2 2 cells_0) ≡ 0
 no_cell_lsn = lsn_is 0 2 2 cells_0 cells_0_long (omega arith)
 
 not_left : (d new : MemPages) → AreNewPages d sent_pages → IsLeftOn mem_pages sizes d new log_1 → ⊥
@@ -69,10 +65,10 @@ not_left d new n l =
     omega (arith, e, w)
 
 -- two logs of one spelling
-same_log : (a b : List Record) → IsEnded a → a ≡ b → IsEnded b
+pub same_log : (a b : List Record) → IsEnded a → a ≡ b → IsEnded b
 same_log a b h e = subst IsEnded e h
 
-abbrev is_restart : List Record → ℕ
+abbrev pub is_restart : List Record → ℕ
 is_restart (Restart i ∷ log) = 1
 is_restart _ = 0
 
@@ -116,7 +112,7 @@ new_count n low high = sent_number (record { sender = sender_at 1 n; directory =
 
 -- no number is beyond a log of three records
 module _ (count : ℕ) (many : 3 ≤ count) where
-  counted_read : AreCounted sizes count read_pages
+  pub counted_read : AreCounted sizes count read_pages
   counted_read zero low high = absurd (omega (arith, low))
   counted_read (suc zero) low high = record {
     lsn = (let e = no_group_lsn in omega (arith, e));
@@ -183,41 +179,40 @@ end_repeated = record { belongs = record { next = (omega arith, refl); may = rec
 commit_repeated : IsRepeated sizes log_4 (Commit t1) repeated_pages repeated_pages
 commit_repeated = record { belongs = record { next = (omega arith, refl); may = record { write = tt; before = tt } }; redone = λ p. refl; marked = refl }
 
-repeats_1 : Repeats sizes log_1 read_pages read_pages
+pub repeats_1 : Repeats sizes log_1 read_pages read_pages
 repeats_1 = (read_pages, refl, restart_repeated)
 
 repeats_4 : Repeats sizes log_4 read_pages repeated_pages
 repeats_4 = (repeated_pages, (filled, (read_pages, repeats_1, fill_repeated), count_repeated), end_repeated)
 
-repeats_5 : Repeats sizes log_5 read_pages repeated_pages
+pub repeats_5 : Repeats sizes log_5 read_pages repeated_pages
 repeats_5 = (repeated_pages, repeats_4, commit_repeated)
 
-gone : IsGoneThrough sizes log_5 read_pages repeated_pages
+pub gone : IsGoneThrough sizes log_5 read_pages repeated_pages
 gone = record { repeated = repeats_5; counted_read = counted_read 5 (omega arith); counted = counted_last 5 (omega arith) }
 
-gone_4 : IsGoneThrough sizes log_4 read_pages repeated_pages
+pub gone_4 : IsGoneThrough sizes log_4 read_pages repeated_pages
 gone_4 = record { repeated = repeats_4; counted_read = counted_read 4 (omega arith); counted = counted_last 4 (omega arith) }
 
 -- the write of the cell was made, whatever the pages were between
-not_made : IsGoneThrough sizes log_5 read_pages read_pages → ⊥
-not_made g =
+pub made_there : (first last : Paged) → lsn_of (first.image 2) ≡ 0 → lsn_of (last.image 2) ≡ 0 → IsGoneThrough sizes log_5 first last → ⊥
+made_there first last none still g =
     let five = g.repeated in
     let four = five.1 in
     let three = four.1 in
     let two = three.1 in
     let one = two.1 in
-    let was : lsn_of (two.0.image 2) ≡ 0 = ap lsn_of (one.2.redone 2) ∙ ap (λ (m : Paged). lsn_of (m.image 2)) one.1 ∙ no_cell_lsn in
+    let was : lsn_of (two.0.image 2) ≡ 0 = ap lsn_of (one.2.redone 2) ∙ ap (λ (m : Paged). lsn_of (m.image 2)) one.1 ∙ none in
     let made : lsn_of (three.0.image 2) ≡ 2 = (two.2.redone.made (omega (arith, was))).lsn in
     let then : lsn_of (four.0.image 2) ≡ lsn_of (three.0.image 2) = ap lsn_of (three.2.redone.others 2 (λ e. omega (arith, e))) in
     let end : lsn_of (five.0.image 2) ≡ lsn_of (four.0.image 2) = ap lsn_of (four.2.redone 2) in
-    let last : lsn_of (read_pages.image 2) ≡ lsn_of (five.0.image 2) = ap lsn_of (five.2.redone 2) in
-    let none = no_cell_lsn in
-    omega (arith, made, then, end, last, none)
+    let now : lsn_of (last.image 2) ≡ lsn_of (five.0.image 2) = ap lsn_of (five.2.redone 2) in
+    omega (arith, made, then, end, now, still)
 
-abbrev odd_record : Record
+abbrev pub odd_record : Record
 odd_record = page_op t1 1 free_cell
 
-odd_bad : Belongs sizes log_1 odd_record read_pages → ⊥
+pub odd_bad : Belongs sizes log_1 odd_record read_pages → ⊥
 odd_bad b =
     let low = no_cell_lsn in
     let stands : slot_of 1 (page_image 0 2 2 cells_0) ≡ cell_bytes (cell 0) = b.may.before (omega (arith, low)) in
@@ -231,7 +226,7 @@ BelongsIn mid (r ∷ older) = Belongs sizes older r mid
 first_belongs : IsFirstBad sizes (odd_record ∷ log_1) read_pages 1 → ⊥
 first_belongs b = b.bad (subst (BelongsIn b.mid) b.are (record { next = refl; may = record { write = tt; before = tt } }))
 
-open_4 : IsEnded log_4 → ⊥
+pub open_4 : IsEnded log_4 → ⊥
 open_4 e = (let f = e.1 in cc f)
 
 begun_open : IsBegunOn (spelled log_4) (spelled (Restart 2 ∷ log_4)) → ⊥
@@ -261,7 +256,7 @@ restarts = record {
   begun_where_one_is_open = begun_open;
   begun_by_a_commit = begun_commit;
   gone_through = gone;
-  not_repeated = not_made;
+  not_repeated = made_there read_pages read_pages no_cell_lsn no_cell_lsn;
   bad_record = record { older = log_1; newest = odd_record; are = refl; place = refl; mid = read_pages; repeated = repeats_1; bad = odd_bad };
   bad_record_elsewhere = first_belongs;
   page_beyond = record {

@@ -35,13 +35,13 @@ use Rattle.rq_cases.proofs.Pages.{range, are_formatted, groups_0_long, groups_1_
 abbrev first_state : State
 first_state = opened sizes formatted_pages []
 
-first_sound : IsSound first_state
+pub first_sound : IsSound first_state
 first_sound = sound sizes formatted_pages range are_formatted
 
 first_slots : slots_in sizes formatted_pages ≡ formatted_at sizes
 first_slots = λ i. λ a. first_sound.pages a i
 
-first_cells : count_used sizes (slots_in sizes formatted_pages) ≡ 0
+pub first_cells : count_used sizes (slots_in sizes formatted_pages) ≡ 0
 first_cells = ap (count_used sizes) first_slots
 
 abbrev waiting_of : Slots → List ℕ

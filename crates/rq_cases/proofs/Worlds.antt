@@ -1,6 +1,6 @@
 -- Stores between two happenings, and headlines, over the worked run.
 use Rattle.std.proofs.Common.{rules, ◌≡◌, ℕ, ◌+◌, ◌-◌, ◌≤◌, ◌<◌, false, List, [], ◌∷◌, ◌++◌, length, drop, refl, sym, ap, ◌∙◌, subst, inl, arith, length-append}
-use Rattle.std.proofs.lemmas.List.{append-nil, length-drop}
+use Rattle.std.proofs.lemmas.List.{length-drop}
 use Rattle.rq_model.specs.declared.record.Record.{Record}
 use Rattle.rq_model.specs.History.{Entry}
 use Rattle.rq_model.specs.History.Entry.{Acknowledged, Begun, Committed, Did, Forced, Started, Stepped}
@@ -16,12 +16,10 @@ use Rattle.rq_model.specs.Replay.Reply.{Gave_forced}
 use Rattle.rq_core.specs.Happenings.Answer.{Answered}
 use Rattle.rq_core.specs.Happenings.Happening.{Asks}
 use Rattle.rq_disk.specs.Device.{Images, Leaves}
-use Rattle.rq_disk.specs.Memory.{LogState, MayBe, MayLeave, PageState, pages_seen}
+use Rattle.rq_disk.specs.Memory.{MayBe, PageState, pages_seen}
 use Rattle.rq_disk.specs.Shown.{pages_of}
 use Rattle.rq_disk.specs.declared.mem_log.MemLog.{MemLog}
 use Rattle.rq_disk.specs.declared.mem_pages.MemPages.{MemPages}
-use Rattle.rq_record.specs.Spelling.{spelling}
-use Rattle.rq_record.proofs.Whole.{long_spelling}
 use Rattle.rq_log.specs.Spelled.{AreSpelled, spelled}
 use Rattle.rq_page.specs.Pages.{lsn_of}
 use Rattle.rq_store.specs.Fitting.{FitsLog, FitsPage, image_in}
@@ -38,6 +36,7 @@ use Rattle.rq_restart.specs.Underway.{IsStore}
 use Rattle.rq_restart.proofs.Parsing.{one_log}
 use Rattle.rq_core.specs.Devices.{mem_log, mem_pages}
 use Rattle.rq_core.specs.Happenings.{Course, Tells}
+use Rattle.rq_core.specs.Headline.{LeavesStores}
 use Rattle.rq_core.specs.Runs.{IsHeadline, Ran}
 use Rattle.rq_core.specs.Worked.{first_entries, hello, small, txn}
 use Rattle.rq_core.specs.World.World.{Is_open, Is_shut}
@@ -46,8 +45,8 @@ use Rattle.rq_cases.specs.Opened.{AreNewPages, IsNewLog, over}
 use Rattle.rq_cases.specs.Run.{log_1, log_5, committed, forced}
 use Rattle.rq_cases.specs.Store.{formatted_pages, groups_1, page_image, sent_pages, sizes}
 use Rattle.rq_cases.specs.Worlds.{CutsAreJudged, HeadlinesAreJudged, Hold, Opens, Shuts, WorldsAreJudged, course_to, crashed, crashed_course}
-use Rattle.rq_cases.proofs.Bytes.{first_spelled, records_spelled}
-use Rattle.rq_cases.proofs.Held.{leaves_beginning, only_records, pages_fit, pages_now}
+use Rattle.rq_cases.proofs.Bytes.{first_spelled, records_spelled, short_log}
+use Rattle.rq_cases.proofs.Held.{leaves_beginning, log_left, only_records, pages_fit, pages_now}
 use Rattle.rq_cases.proofs.Images.{lsn_is}
 use Rattle.rq_cases.proofs.Pages.{are_formatted, groups_1_long, range}
 use Rattle.rq_cases.proofs.Running as running
@@ -56,41 +55,28 @@ use Rattle.rq_cases.proofs.Running as running
 told_7 : Tells (course_to 7) (first_entries 7)
 told_7 = (first_entries 6, (first_entries 5, (first_entries 4, (first_entries 3, (first_entries 2, (first_entries 1, (first_entries 0, refl, (refl, refl, refl, refl)), (Begun (txn 1 1), refl, tt, refl)), (Started (txn 1 1) 1 (Sending hello), (refl, refl), tt, refl)), (Stepped (txn 1 1) 1 2, refl, tt, refl)), (Stepped (txn 1 1) 1 3, refl, tt, refl)), (Did (txn 1 1) 1 (Send hello), (hello, refl), tt, refl)), (Committed (txn 1 1) 5, (refl, refl), tt, refl))
 
-told_9 : Tells (course_to 9) (first_entries 9)
+pub told_9 : Tells (course_to 9) (first_entries 9)
 told_9 = (first_entries 8, (first_entries 7, told_7, (Acknowledged (txn 1 1) 5 false, refl, tt, refl)), (Forced 5, refl, tt, refl))
 
-told_crash : Tells crashed_course crashed
+pub told_crash : Tells crashed_course crashed
 told_crash = (first_entries 9, told_9, (tt, refl))
 
-legal_7 : IsLegal small (first_entries 7)
+pub legal_7 : IsLegal small (first_entries 7)
 legal_7 = search rules
 
-legal_crash : IsLegal small crashed
+pub legal_crash : IsLegal small crashed
 legal_crash = search rules
 
--- a page may be left as it was at first, and a log of records too
-page_left : (d : MemPages) (images : List (List ℕ)) → AreNewPages d images → (p : ℕ) → mem_pages.may_be d p (image_in images p)
+-- a page may be left as it was at first
+pub page_left : (d : MemPages) (images : List (List ℕ)) → AreNewPages d images → (p : ℕ) → mem_pages.may_be d p (image_in images p)
 page_left d images n p =
     subst (λ (s : PageState). MayBe s p (image_in images p)) (sym n.pages) (inl refl)
 
-log_left : (d : MemLog) (records : List Record) → IsNewLog d records → mem_log.may_leave d (spelled records)
-log_left d records n =
-    subst (λ (s : LogState). MayLeave s (spelled records)) (sym n.log) (0, sym (append-nil (spelled records)))
-
-some_pages : (d : MemPages) → Leaves (mem_pages.may_be d) (mem_pages.seen d)
+pub some_pages : (d : MemPages) → Leaves (mem_pages.may_be d) (mem_pages.seen d)
 some_pages d p = pages_seen (pages_of d) p
 
-group_page_lsn : lsn_of (page_image 3 1 1 groups_1) ≡ 3
+pub group_page_lsn : lsn_of (page_image 3 1 1 groups_1) ≡ 3
 group_page_lsn = lsn_is 3 1 1 groups_1 groups_1_long (omega arith)
-
--- bytes with less than a record in them spell no record
-short_log : (log : List Record) → AreSpelled log → (0 ∷ []) ≡ spelled log → ⊥
-short_log [] told e = (let n : 1 ≡ 0 = ap length e in omega (arith, n))
-short_log (r ∷ older) told e =
-    let n : 1 ≡ length (spelled older ++ spelling r) = ap length e in
-    let m = length-append (spelled older) (spelling r) in
-    let long = long_spelling r told.0 in
-    omega (arith, n, m, long)
 
 module _ (pages : MemPages) (log : MemLog) where
   opens : Hold pages formatted_pages log log_1 → Opens sizes (first_entries 7) (over committed pages log)
@@ -107,7 +93,7 @@ module _ (pages : MemPages) (log : MemLog) where
       omega (arith, e, w)
 
   -- whatever a crash leaves of both is the store
-  leaves_store : Hold pages formatted_pages log log_5 → (images : Images) (bytes : List ℕ) → Leaves (mem_pages.may_be pages) images → mem_log.may_leave log bytes → IsStore sizes log_5 images bytes
+  pub leaves_store : Hold pages formatted_pages log log_5 → (images : Images) (bytes : List ℕ) → Leaves (mem_pages.may_be pages) images → mem_log.may_leave log bytes → IsStore sizes log_5 images bytes
   leaves_store h images bytes a b = record {
     are_spelled = records_spelled;
     is = only_records log log_5 h.1 bytes b;
@@ -117,7 +103,7 @@ module _ (pages : MemPages) (log : MemLog) where
     };
   }
 
-  shuts : Hold pages formatted_pages log log_5 → Shuts crashed pages log
+  pub shuts : Hold pages formatted_pages log log_5 → Shuts crashed pages log
   shuts h = record {
     range = range;
     phase = refl;
@@ -126,7 +112,7 @@ module _ (pages : MemPages) (log : MemLog) where
     left = λ images bytes a b. (log_5, ([], refl, tt), leaves_store h images bytes a b);
   }
 
-  shuts_with_less : IsNewLog log log_1 → Shuts crashed pages log → ⊥
+  pub shuts_with_less : IsNewLog log log_1 → Shuts crashed pages log → ⊥
   shuts_with_less n s =
       let x = s.left (mem_pages.seen pages) (spelled log_1) (some_pages pages) (log_left log log_1 n) in
       let store : IsStore sizes x.0 (mem_pages.seen pages) (spelled log_1) = x.2 in
@@ -173,19 +159,19 @@ worlds = record {
 }
 
 -- what a crash leaves of the store before its force
-leaves : (pages : MemPages) (log : MemLog) → Hold pages formatted_pages log log_1 → LeavesCut mem_pages mem_log (over committed pages log)
+pub leaves : (pages : MemPages) (log : MemLog) → Hold pages formatted_pages log log_1 → LeavesCut mem_pages mem_log (over committed pages log)
 leaves pages log h =
     leaves_cut mem_pages mem_log pages_now (over committed pages log)
     (λ honest c may. leaves_beginning log log_1 h.1 log_5 1 4 (omega arith) refl c may)
     records_spelled tt running.commit_send.sound (pages_fit pages h.0 log_1 (1, refl))
 
 -- the formatted pages with the first records, all or only the first
-formatted_fit : (log : List Record) → Continues [] log → FitsLog sizes (image_in formatted_pages) log
+pub formatted_fit : (log : List Record) → Continues [] log → FitsLog sizes (image_in formatted_pages) log
 formatted_fit log c =
     fits_log_longer sizes (image_in formatted_pages) [] log c
     (formatted_fits sizes (image_in formatted_pages) range are_formatted)
 
-whole : IsWhole sizes log_5
+pub whole : IsWhole sizes log_5
 whole = running.commit_send.sound.log
 
 cut_first : IsCut committed (image_in formatted_pages) (spelled log_1)
@@ -235,6 +221,30 @@ cuts = record {
       omega (arith, n, w, m, e));
 }
 
+-- the world that the crashed course leads to
+abbrev pub ran_crashed : (pages : MemPages) (log : MemLog) → Hold pages formatted_pages log log_5 → Ran sizes crashed_course (Is_shut pages log)
+ran_crashed pages log h = record {
+  history = crashed;
+  tells = told_crash;
+  legal = legal_crash;
+  stands = shuts pages log h;
+  counted = λ images bytes a b. (log_5, leaves_store pages log h images bytes a b, refl);
+}
+
+-- what was forced is left
+pub forced_is_left : (course : Course) (h : List Entry) (pages : MemPages) (log : MemLog) (records : List Record) (n : ℕ) → Tells ((Asks Force, Answered (Gave_forced n)) ∷ course) h → IsLegal small h
+    → LeavesStores mem_pages mem_log sizes h pages log → AreSpelled records → length records < n → mem_log.may_leave log (spelled records) → ⊥
+forced_is_left course h pages log records n tells legal leaves told few may =
+    let x = leaves (mem_pages.seen pages) (spelled records) (some_pages pages) may in
+    let same : x.0 ≡ records = one_log x.0 records x.1.are_spelled told (sym x.1.is) in
+    let count : length x.0 ≡ length records = ap (λ (l : List Record). length l) same in
+    let older : List Entry = tells.0 in
+    let is : h ≡ Forced n ∷ older = tells.2.3 ∙ ap (λ (e : Entry). e ∷ older) tells.2.1 in
+    let all : n ≡ (ledger older).records = (subst (IsLegal small) is legal).0.1 in
+    let forced_is : (ledger h).forced ≡ (ledger older).records = ap (λ (k : List Entry). (ledger k).forced) is in
+    let kept : (ledger h).forced ≤ length x.0 = x.2.legal.0.forced in
+    omega (arith, few, count, all, forced_is, kept)
+
 -- headlines
 module _ (fifo : (h : List Entry) → IsLegal small h → FifoThroughout h) (stay : AcknowledgedStay small) (goes : CrashGoesOn small) (shut_goes : ShutCrashGoesOn small) where
   before_the_force : (pages : MemPages) (log : MemLog) → Hold pages formatted_pages log log_1 → IsHeadline sizes (course_to 7) pages log
@@ -244,21 +254,15 @@ module _ (fifo : (h : List Entry) → IsLegal small h → FifoThroughout h) (sta
 
   after_the_crash : (pages : MemPages) (log : MemLog) → Hold pages formatted_pages log log_5 → IsHeadline sizes crashed_course pages log
   after_the_crash pages log h =
-      let ran : Ran sizes crashed_course (Is_shut pages log) = record {
-        history = crashed;
-        tells = told_crash;
-        legal = legal_crash;
-        stands = shuts pages log h;
-        counted = λ images bytes a b. (log_5, leaves_store pages log h images bytes a b, refl);
-      } in
-      shut_ends sizes crashed_course pages log fifo stay shut_goes ran
+      shut_ends sizes crashed_course pages log fifo stay shut_goes (ran_crashed pages log h)
 
   pub headlines : HeadlinesAreJudged
   headlines = record {
     before_the_force = before_the_force;
     after_the_crash = after_the_crash;
     tells_nothing = λ pages log k. k.tells.2.0;
-    loses_what_was_forced = loses;
+    loses_what_was_forced = λ course pages log records n told few may k.
+        forced_is_left course k.history pages log records n k.tells k.legal k.leaves told few may;
     leaves_half_a_record = λ course pages log may k.
         (let x = k.leaves (mem_pages.seen pages) (0 ∷ []) (some_pages pages) may in short_log x.0 x.1.are_spelled x.1.is);
     left = λ pages log h images bytes a b. (log_5, leaves_store pages log h images bytes a b, refl);
@@ -266,16 +270,4 @@ module _ (fifo : (h : List Entry) → IsLegal small h → FifoThroughout h) (sta
         (let y = left (mem_pages.seen pages) (spelled log_5) (some_pages pages) (log_left log log_5 l) in
         let same : y.0 ≡ log_5 = one_log y.0 log_5 y.1.are_spelled records_spelled (sym y.1.is) in
         other (sym y.2 ∙ ap (λ (l : List Record). length l) same));
-  } where
-    loses : (course : Course) (pages : MemPages) (log : MemLog) (records : List Record) (n : ℕ) → AreSpelled records → length records < n → mem_log.may_leave log (spelled records)
-        → IsHeadline sizes ((Asks Force, Answered (Gave_forced n)) ∷ course) pages log → ⊥
-    loses course pages log records n told few may k =
-        let x = k.leaves (mem_pages.seen pages) (spelled records) (some_pages pages) may in
-        let same : x.0 ≡ records = one_log x.0 records x.1.are_spelled told (sym x.1.is) in
-        let count : length x.0 ≡ length records = ap (λ (l : List Record). length l) same in
-        let older : List Entry = k.tells.0 in
-        let is : k.history ≡ Forced n ∷ older = k.tells.2.3 ∙ ap (λ (e : Entry). e ∷ older) k.tells.2.1 in
-        let all : n ≡ (ledger older).records = (subst (IsLegal small) is k.legal).0.1 in
-        let forced_is : (ledger k.history).forced ≡ (ledger older).records = ap (λ (h : List Entry). (ledger h).forced) is in
-        let kept : (ledger k.history).forced ≤ length x.0 = x.2.legal.0.forced in
-        omega (arith, few, count, all, forced_is, kept)
+  }

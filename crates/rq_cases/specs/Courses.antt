@@ -84,8 +84,10 @@ pub record CausesAreJudged : Type 0 where
   pub frames_at_all : (call : Call) → NotRefusedBy call PoolFull
   pub latched_by_another : HasCause (any_busy (ledger two_begun).open_ones) (Start_send (txn 1 2) other) Latched
   pub latched_by_another_legally : IsLegal small (Refused (Start_send (txn 1 2) other) Latched ∷ two_begun)
-  pub latched_by_nobody : HasCause (any_busy (ledger (first_entries 2)).open_ones) (Start_send (txn 1 1) hello) Latched → ⊥
-  pub latched_once_all_is_finished : HasCause (any_busy (ledger (first_entries 6)).open_ones) (Start_send (txn 1 1) hello) Latched → ⊥
+  pub latched_by_nobody : HasCause (any_busy (ledger (first_entries 2)).open_ones) (Start_send (txn 1 1) hello) Latched
+      → ⊥
+  pub latched_once_all_is_finished :
+      HasCause (any_busy (ledger (first_entries 6)).open_ones) (Start_send (txn 1 1) hello) Latched → ⊥
 
 -- 1.2 took the message of sender 0, and has not ended
 abbrev pub took : List Entry

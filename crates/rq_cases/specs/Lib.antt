@@ -17,3 +17,9 @@ pub mod Formatting
 pub mod Restarting
 pub mod Logs
 pub mod Audits
+pub mod Openings
+pub mod Stamps
+pub mod Bounds
+pub mod Crashes
+pub mod Latches
+pub mod Replies

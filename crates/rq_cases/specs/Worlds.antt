@@ -57,8 +57,8 @@ pub record WorldsAreJudged : Type 0 where
       → Opens sizes (first_entries 9) (over forced pages log)
   pub open_before_the_commit : (pages : MemPages) (log : MemLog)
       → Opens sizes (first_entries 6) (over committed pages log) → ⊥
-  pub open_and_forced_too_early : (pages : MemPages) (log : MemLog) → Opens sizes (first_entries 7) (over forced pages log)
-      → ⊥
+  pub open_and_forced_too_early : (pages : MemPages) (log : MemLog)
+      → Opens sizes (first_entries 7) (over forced pages log) → ⊥
   pub open_after_a_crash : (pages : MemPages) (log : MemLog) → Opens sizes crashed (over forced pages log) → ⊥
   pub open_of_another_size : (z : Sizes) (h : List Entry) (e : OpenStore MemPages MemLog) → e.state.sizes ≢ z
       → Opens z h e → ⊥

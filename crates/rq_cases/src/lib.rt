@@ -4,18 +4,24 @@
 ghost use Rattle.rq_cases.specs.Applied.{CallsAreApplied, CallsAreNotApplied};
 ghost use Rattle.rq_cases.specs.Asks.{AsksAreJudged};
 ghost use Rattle.rq_cases.specs.Audits.{AuditsAreJudged};
+ghost use Rattle.rq_cases.specs.Bounds.{BoundsAreJudged};
 ghost use Rattle.rq_cases.specs.Calls.{CallsAreJudged};
 ghost use Rattle.rq_cases.specs.Courses.{CausesAreJudged, NoneIsJudged, StopsAreJudged};
+ghost use Rattle.rq_cases.specs.Crashes.{CrashesAreJudged, PoolsAreJudged, RunsAreJudged};
 ghost use Rattle.rq_cases.specs.Devices.{DevicesAreJudged};
 ghost use Rattle.rq_cases.specs.Formatting.{FormatsAreJudged};
 ghost use Rattle.rq_cases.specs.Histories.{HistoriesGoOn};
+ghost use Rattle.rq_cases.specs.Latches.{LatchesAreJudged};
 ghost use Rattle.rq_cases.specs.Lists.{ListsAreJudged};
 ghost use Rattle.rq_cases.specs.Logs.{LogsAreJudged};
+ghost use Rattle.rq_cases.specs.Openings.{BeginningsAreJudged, ChecksAreJudged, RefusalsAreJudged};
 ghost use Rattle.rq_cases.specs.Reading.{CellsAreJudged, ReadingsAreJudged};
 ghost use Rattle.rq_cases.specs.Receives.{ReceivesAreJudged};
+ghost use Rattle.rq_cases.specs.Replies.{ContentsAreJudged, ReceiptsAreJudged, RepliesAreJudged};
 ghost use Rattle.rq_cases.specs.Restarting.{RestartsAreJudged};
 ghost use Rattle.rq_cases.specs.Sends.{CommitsAreJudged, FinishesAreJudged, StartsAreJudged, StepsAreJudged};
 ghost use Rattle.rq_cases.specs.Sound.{RowsAreJudged, RunIsSound};
+ghost use Rattle.rq_cases.specs.Stamps.{MarksAreJudged, StampsAreJudged};
 ghost use Rattle.rq_cases.specs.Worlds.{CutsAreJudged, HeadlinesAreJudged, WorldsAreJudged};
 
 use rq_model::laws::{
@@ -173,4 +179,71 @@ pub fn logs_are_judged()
 /// Audits of a shared engine that replay, and marks that were published; and those that aren't.
 pub fn audits_are_judged()
     ensures { AuditsAreJudged }
+{}
+
+/// What a restart has checked: pages, log and history; and what it hasn't.
+pub fn checks_are_judged()
+    ensures { ChecksAreJudged }
+{}
+
+/// Why a restart was refused, and where: for its pages or for its log; and refusals without their reason.
+pub fn refusals_are_judged()
+    ensures { RefusalsAreJudged }
+{}
+
+/// What a restart adds to a log, at each moment, and what stays of a store that it doesn't open.
+pub fn beginnings_are_judged()
+    ensures { BeginningsAreJudged }
+{}
+
+/// A log at its bound: a commit, a send and a restart that just fit, and those that are refused.
+pub fn bounds_are_judged()
+    ensures { BoundsAreJudged }
+{}
+
+/// Stamps that are those of a pass, and lists of stamps with two changed about, one invented, one left out.
+pub fn stamps_are_judged()
+    ensures { StampsAreJudged }
+{}
+
+/// What a publish and a read of the mark tell their seat, and what they don't.
+pub fn marks_are_judged()
+    ensures { MarksAreJudged }
+{}
+
+/// Runs of calls of two devices: what they go through, and what none does.
+pub fn runs_are_judged()
+    ensures { RunsAreJudged }
+{}
+
+/// Crashes that a course may meet, by what comes, and those that it may not.
+pub fn crashes_are_judged()
+    ensures { CrashesAreJudged }
+{
+    crash_goes_on();
+}
+
+/// Pages and logs over their devices: what is so of them, and what isn't.
+pub fn pools_are_judged()
+    ensures { PoolsAreJudged }
+{}
+
+/// A send beside an operation that is under way: it is latched, if memory is not wanting.
+pub fn latches_are_judged()
+    ensures { LatchesAreJudged }
+{}
+
+/// Answers of a force, and what they say of the store and its devices; and what they don't.
+pub fn replies_are_judged()
+    ensures { RepliesAreJudged }
+{}
+
+/// Commits that no crash takes, and one that a crash may take; audits that were had, and one that was not.
+pub fn receipts_are_judged()
+    ensures { ReceiptsAreJudged }
+{}
+
+/// What is shown of a sender while a message is sent, committed and taken; and a chain that is broken.
+pub fn contents_are_judged()
+    ensures { ContentsAreJudged }
 {}

@@ -13,14 +13,13 @@ use Rattle.rq_model.specs.Unended.{any_record}
 use Rattle.rq_model.specs.Rules.{any_use, uses_send, uses_receive}
 use Rattle.rq_page.specs.Sizes.{Sizes}
 use Rattle.rq_views.specs.Legal.{over}
-use Rattle.rq_views.specs.Items.{items, operation}
+use Rattle.rq_views.specs.Items.{items, operation, layout_of}
 use Rattle.rq_views.specs.InStore.{mentions, IsStranger}
 use Rattle.rq_views.proofs.Strangers.{stranger_deeds, stranger_end, stranger_undone, stranger_began}
 use Rattle.rq_groups.specs.declared.Held.{Held}
 use Rattle.rq_groups.specs.Ends.{HeldEnds}
 use Rattle.rq_store.specs.Whole.{IsWhole}
 use Rattle.rq_views.proofs.Numbers.{all_begun}
-use Rattle.rq_views.specs.Items.{layout_of}
 use Rattle.rq_views.specs.Numbers.{greatest}
 use Rattle.rq_txn.specs.Rows.{Under, Row, found_row, fresh_row}
 use Rattle.rq_store.specs.Sound.{AreEnds}

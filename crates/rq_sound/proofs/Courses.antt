@@ -18,7 +18,7 @@ use Rattle.rq_sound.specs.Sound.{IsSound}
 use Rattle.rq_sound.specs.Starts.{MayUndo}
 use Rattle.rq_sound.specs.Calls.{IsNextWrite, MayCommit}
 use Rattle.rq_sound.specs.Course as course
-use Rattle.rq_sound.specs.Course.{Frames, AreMade, cell_a, group_a, cell_b, group_b, cell_back, group_back, send_a, send_b, undo_a, with_made, row_a, row_b, row_done, row_undoing, row_empty, row_sent, sent, two_under, wrote_cell_a, wrote_cell_b, wrote_group_a, done_a, aborts_a, undoes_a, freed_cell, undid_group, undone_a, aborted_a, wrote_group_b, done_b, committed_b}
+use Rattle.rq_sound.specs.Course.{Frames, AreMade, cell_a, group_a, cell_b, group_b, cell_back, group_back, send_a, send_b, undo_a, with_made, row_a, row_b, row_done, row_undoing, row_empty, row_sent, sent, two_under, wrote_cell_a, wrote_cell_b, wrote_group_a, done_a, aborts_a, undoes_a, freed_cell, undid_group, undone_a, aborted_a, wrote_group_b, done_b, committed_b, both_begun}
 use Rattle.rq_sound.specs.Worked.{AbortBesideASend}
 use Rattle.rq_sound.proofs.Contracts.{calls_keep}
 use Rattle.rq_sound.proofs.Spelt.{used_a, free_a as none_a, used_b, free_b as none_b, new_of_a, has_a, undid_a, new_of_b, has_b, told, back}
@@ -27,10 +27,9 @@ use Rattle.rq_sound.proofs.AbortSteps.{abort_steps}
 use Rattle.rq_sound.proofs.DeedSteps.{deed_steps}
 use Rattle.rq_model.specs.Legal.{Legal}
 use Rattle.rq_store.specs.State.{size_of, ledger_of}
-use Rattle.rq_sound.specs.Course.{both_begun}
 
 -- the log when t1 aborts
-spelt : AreSpelt sizes (drop 3 row)
+pub spelt : AreSpelt sizes (drop 3 row)
 spelt = ((refl, omega arith), ((new_of_a, has_a), ((none_b, used_b), ((none_a, used_a), (tt, tt)))))
 
 log_is : (v : Frames) → items sizes (aborts_a v).records ≡ drop 3 row
@@ -80,10 +79,10 @@ module _ (v : Frames) (m : AreMade v) where
   s5 : IsSound (wrote_cell_a v)
   s5 = calls_keep.steps (two_under v.start) (row_a 0) send_a cell_a v.cell_of_a (two_sound v.start m.start) next_a
 
-  s6 : IsSound (wrote_cell_b v)
+  pub s6 : IsSound (wrote_cell_b v)
   s6 = calls_keep.steps (wrote_cell_a v) (row_b 0) send_b cell_b v.cell_of_b s5 (record { at_row = refl; under = refl; next = refl; before = (told 65 _ none_b).1; after = (told 65 _ used_b).1; made = m.second })
 
-  s7 : IsSound (wrote_group_a v)
+  pub s7 : IsSound (wrote_group_a v)
   s7 = calls_keep.steps (wrote_cell_b v) (row_a 1) (with_made 1 send_a) group_a v.group_of_a s6 (record { at_row = refl; under = refl; next = refl; before = (told 17 _ new_of_a).1; after = (told 17 _ has_a).1; made = m.third })
 
   s8 : IsSound (done_a v)

@@ -1,18 +1,20 @@
 -- What the slots as they are say of a group.
-use Rattle.std.proofs.Common.{◌≡◌, ℕ, ◌+◌, ◌/◌, ◌<◌, ◌≤◌, List, [], ◌∷◌, length, refl, sym, ◌∙◌, ap, subst, false, Option, Some, None, arith}
+use Rattle.std.proofs.Common.{◌≡◌, ℕ, ◌+◌, ◌/◌, ◌<◌, ◌≤◌, List, [], ◌∷◌, length, inl, inr, refl, sym, ◌∙◌, ap, subst, false, Option, Some, None, arith}
 use Rattle.std.specs.List.{sum_by}
 use Rattle.std.proofs.lemmas.Bool.{or_parts, or_from}
 use Rattle.std.proofs.lemmas.List.{length-map}
 use Rattle.std.proofs.lemmas.List.Sums.{sum_by-cons}
 use Rattle.rq_model.specs.Ledger.{Open, own_takes}
-use Rattle.rq_model.specs.Words.{is_some}
+use Rattle.rq_model.specs.declared.txn.Sub.{Sub}
+use Rattle.rq_model.specs.declared.txn.Txn.{Txn}
+use Rattle.rq_model.specs.Words.{In, is_some}
 use Rattle.rq_page.specs.declared.directory.Directory.{Directory}
 use Rattle.rq_page.specs.Sizes.{cell_count, directory_at, sender_count}
 use Rattle.rq_page.specs.Slots.Slot.{Sender}
 use Rattle.rq_views.specs.Chain.{Shows, View, message}
 use Rattle.rq_views.specs.InStore.{AllStand}
-use Rattle.rq_views.specs.Items.{items, layout_of}
-use Rattle.rq_views.specs.Legal.{view}
+use Rattle.rq_views.specs.Items.{items, layout_of, operation}
+use Rattle.rq_views.specs.Legal.{under_way, view}
 use Rattle.rq_views.specs.Log.{Slots, cells_of}
 use Rattle.rq_views.specs.Plans.{ShowsAt}
 use Rattle.rq_views.specs.Stored.{count_used}
@@ -22,13 +24,16 @@ use Rattle.rq_views.proofs.Totals.{log_total}
 use Rattle.rq_groups.specs.Ends.{HeldEnds}
 use Rattle.rq_groups.specs.Waiting.{waits}
 use Rattle.rq_store.specs.Fitting.{left_by}
-use Rattle.rq_txn.specs.Rows.{Under, Row, any_under}
+use Rattle.rq_txn.specs.Rows.{Under, Row, found_row, any_under}
+use Rattle.rq_store.specs.Rows.{is_under}
 use Rattle.rq_store.specs.State.{State, open_of, open_ones_of}
+use Rattle.rq_store.proofs.RowLists.{found_in}
 use Rattle.rq_sound.specs.Rows.{latched_in, latched_under}
 use Rattle.rq_sound.specs.Counted.{takes_in}
 use Rattle.rq_sound.specs.Sound.{IsSound}
 use Rattle.rq_sound.specs.Groups.{slots_now, TellsGroup, SlotsTellGroups}
 use Rattle.rq_sound.proofs.ChainEnds.{empty_links, head_stands, next_stands, tail_stands, front_stands}
+use Rattle.rq_sound.proofs.Closing.{closed_by}
 use Rattle.rq_sound.proofs.Contracts.{shows}
 use Rattle.rq_sound.proofs.Flags.{flag_is}
 use Rattle.rq_sound.proofs.FreeCells.{room_to_send}
@@ -99,6 +104,27 @@ none_latched (r ∷ rows) p e = let h = or_parts (is_some r.under) (any_under ro
   one None f = refl
   one (Some u) f = cc
 
+-- so every group is told, and no operation has anything in the log that is not ended
+pub tells_idle : (s : State) (g : ℕ) (d : Directory) → IsSound s → any_under s.rows ≡ false → g < sender_count s.sizes → slots_now s (directory_at g) ≡ Sender g d → TellsGroup s g d
+tells_idle s g d k idle below at = tells_group s g d k below (none_latched s.rows (directory_at g / 16) idle) at
+
+none_under : (rows : List Row) (r : Row) → any_under rows ≡ false → In r rows → r.under ≡ None
+none_under [] r e i = absurd i
+none_under (q ∷ rows) r e i =
+    let p = or_parts (is_some q.under) (any_under rows) e in
+    elim i [ inl same ↦ ap (λ (x : Row). x.under) same ∙ no_some q.under p.0 | inr j ↦ none_under rows r p.1 j ] where
+  no_some : (o : Option Under) → is_some o ≡ false → o ≡ None
+  no_some None f = refl
+  no_some (Some u) f = cc
+
+pub all_idle : (s : State) (k : IsSound s) → any_under s.rows ≡ false → (o : Sub) → under_way o (items s.sizes s.records) ≡ false
+all_idle s k e o = at (found_row o.txn s.rows) refl where
+  at : (w : Option Row) → found_row o.txn s.rows ≡ w → under_way o (items s.sizes s.records) ≡ false
+  at None f = (k.standing.others o.txn f).idle o.number
+  at (Some r) f =
+      let i = found_in o.txn s.rows r f in
+      ap (λ (t : Txn). under_way (operation t o.number) (items s.sizes s.records)) (sym i.1) ∙ (k.standing.each r i.0).idle o.number (ap (is_under o.number) (none_under s.rows r e i.0))
+
 pub room_left : (s : State) → IsSound s → s.cells_in_use < cell_count s.sizes → count_used s.sizes (slots_now s) < cell_count s.sizes
 room_left s k less = subst (λ (q : Slots). count_used s.sizes q < cell_count s.sizes) (sym (slots_are s k)) (room_to_send s.sizes s.records s.ends s.rows s.incarnation s.begins s.cells_in_use s.waiting k.standing k.counted less)
 
@@ -108,5 +134,6 @@ slots_tell = record {
   tells = tells_group;
   none_latched = λ s p e. none_latched s.rows p e;
   flag = λ s r g d k m below free at. flag_is s k r m g free d below at;
+  closed = λ s g k. closed_by s k g;
   room = room_left;
 }

@@ -1,6 +1,6 @@
 -- A call can be planned exactly where it is not latched.
-use Rattle.std.proofs.Common.{◌≡◌, ℕ, ◌+◌, ◌-◌, ◌/◌, ◌<◌, ◌≤◌, ◌++◌, ◌&&◌, ◌⊎◌, List, [], ◌∷◌, map, refl, sym, ◌∙◌, ap, subst, Bool, true, false, not, nat_lt, Option, Some, None, inl, inr, arith}
-use Rattle.std.proofs.lemmas.Bool.{and_from, and_parts, cases_Bool, cases_lt, eq-eqb, false≢true, lt-ltb, ltb-true, not-true, or_from, or_parts, true≢false}
+use Rattle.std.proofs.Common.{◌≡◌, ◌||◌, ℕ, ◌+◌, ◌-◌, ◌/◌, ◌<◌, ◌≤◌, ◌++◌, ◌&&◌, ◌⊎◌, List, [], ◌∷◌, map, refl, sym, ◌∙◌, ap, subst, Bool, true, false, not, nat_lt, Option, Some, None, inl, inr, arith}
+use Rattle.std.proofs.lemmas.Bool.{and_from, and_parts, cases_Bool, cases_eq, cases_lt, eq-eqb, false≢true, lt-ltb, ltb-true, not-true, or_from, or_parts, true≢false}
 use Rattle.rq_model.specs.declared.message.Message.{Message}
 use Rattle.rq_model.specs.declared.record.Deed.{Deed}
 use Rattle.rq_model.specs.declared.record.Deed.TheVariants.{Append, UnlinkHead, Close}
@@ -14,6 +14,7 @@ use Rattle.rq_model.specs.Words.{In, is_some, last, last_or}
 use Rattle.rq_page.specs.declared.cell.Cell.{Cell}
 use Rattle.rq_page.specs.declared.directory.Directory.{Directory}
 use Rattle.rq_page.specs.Sizes.{Sizes, IsCellAddress, cell_at, cell_count, directory_at, place_of, sender_count}
+use Rattle.rq_page.specs.Slots.{Slot}
 use Rattle.rq_page.specs.Slots.Slot.{Free, Used, Sender}
 use Rattle.rq_page.proofs.Addresses.{cells_have_places, places_are_cells}
 use Rattle.rq_views.specs.Chain.{Shows, View, directory_appended}
@@ -25,7 +26,7 @@ use Rattle.rq_views.specs.Plans.{IsPutBack, IsUnlinkTail, ShowsAt, Turn, append_
 use Rattle.rq_views.specs.Plans.Turn.{Did, Undid}
 use Rattle.rq_views.specs.Stored.{is_used}
 use Rattle.rq_views.proofs.CanUndo.{can_undo_taken}
-use Rattle.rq_views.proofs.Stands.{sender_is_directory}
+use Rattle.rq_views.proofs.Stands.{quiet_stand, sender_is_directory}
 use Rattle.rq_txn.specs.declared.Finished.{Finished}
 use Rattle.rq_groups.specs.Ends.{is_free_for}
 use Rattle.rq_groups.specs.Waiting.{waits}
@@ -42,12 +43,12 @@ use Rattle.rq_sound.specs.Sound.{IsSound}
 use Rattle.rq_sound.specs.Calls.{IsIdle}
 use Rattle.rq_sound.specs.Groups.{StandsAt, slots_now}
 use Rattle.rq_sound.specs.Plans.{AreOff}
-use Rattle.rq_sound.specs.Latching.{AllFreeLatched, Begins, IsLatched, LatchedIsExact, MayBePlanned, NeedsLatched, any_latched, at_head, at_tail, before_tail, behind_head, completed, head_in, named, next_in, prev_in, tail_in}
+use Rattle.rq_sound.specs.Latching.{AllFreeLatched, Begins, IsLatched, LatchedIsExact, MayBePlanned, NeedsLatched, any_latched, at_head, at_tail, before_tail, behind_head, completed, head_in, named, needed, next_in, prev_in, tail_in}
 use Rattle.rq_sound.proofs.ChainEnds.{empty_links, front_stands, head_stands, next_stands, tail_stands}
 use Rattle.rq_sound.proofs.FreeCells.{all_one, of_store, open_is}
 use Rattle.rq_sound.proofs.Going.{unlatched_is_quiet}
 use Rattle.rq_sound.proofs.Groups.{all_stand, shows_now, tells_group}
-use Rattle.rq_sound.proofs.LatchLists.{any_join, any_parts, end_before, end_stands, link_off, named_off, off_named, relinked_parts, relinked_stand, some_below}
+use Rattle.rq_sound.proofs.LatchLists.{any_append, any_join, any_parts, end_before, end_stands, link_off, named_off, off_named, relinked_parts, relinked_stand, some_below}
 use Rattle.rq_sound.proofs.Ledgers.{found_open, open_found}
 use Rattle.rq_sound.proofs.Lengths.{back_there, tail_there}
 use Rattle.rq_sound.proofs.Levels.{relinked_off}
@@ -140,6 +141,68 @@ module _ (s : State) (k : IsSound s) where
         let cell : completed s d.tail ≡ Used c = sym (is_whole d.tail h) ∙ here in
         off_named s.rows c.prev (ap (λ x. any_latched s.rows (named (prev_in x))) (sym cell) ∙ ap (λ x. any_latched s.rows (named (prev_in (completed s (tail_in x))))) (sym left) ∙ (any_parts s.rows (at_tail (completed s) g) (named (prev_in (completed s (tail_in (completed s (directory_at g)))))) none).1)
 
+  no_cell_needed : (xs : List ℕ) → (any_latched s.rows xs ≡ true) ⊎ ((false ≡ true) × AllFreeLatched s) → any_latched s.rows xs ≡ false → ⊥
+  no_cell_needed xs h none = elim h [ inl y ↦ true≢false (sym y ∙ none) | inr x ↦ false≢true x.0 ]
+
+  -- no cell stands at 0
+  none_at_zero : completed s 0 ≡ Free
+  none_at_zero = at (completed s 0) (quiet_stand s.sizes s.records k.log.in_store 0) where
+    at : (x : Slot) → IsInPlace s.sizes 0 x → x ≡ Free
+    at Free h = refl
+    at (Used c) h = absurd (let b = h.slot in omega (arith, b))
+    at (Sender g d) h = absurd (let b = h.slot in omega (arith, b))
+
+  same_at : (a : ℕ) → (0 < a → off a) → q a ≡ completed s a
+  same_at a h = elim (cases_eq a 0) [
+    | inl e ↦ ap q e ∙ sym (ap (completed s) e ∙ none_at_zero)
+    | inr ne ↦ is_whole a (h (omega (arith, ne)))
+  ]
+
+  abbrev latched : List ℕ → Bool
+  latched xs = any_latched s.rows xs
+
+  -- the slots as they are tell the same of the pages that are needed
+  read_tail : (g : ℕ) → latched (at_tail q g) ≡ latched (at_tail (completed s) g)
+  read_tail g = elim (cases_Bool (latched_in s.rows (directory_at g / 16))) [
+    | inl y ↦ ap (λ b. b || latched (named (tail_in (q (directory_at g))))) y ∙ sym (ap (λ b. b || latched (named (tail_in (completed s (directory_at g))))) y)
+    | inr n ↦ ap (λ x. latched (directory_at g ∷ named (tail_in x))) (is_whole (directory_at g) n)
+  ]
+
+  read_head : (g : ℕ) → latched (at_head q g) ≡ latched (at_head (completed s) g)
+  read_head g = elim (cases_Bool (latched_in s.rows (directory_at g / 16))) [
+    | inl y ↦ ap (λ b. b || latched (named (head_in (q (directory_at g))))) y ∙ sym (ap (λ b. b || latched (named (head_in (completed s (directory_at g))))) y)
+    | inr n ↦ ap (λ x. latched (directory_at g ∷ named (head_in x))) (is_whole (directory_at g) n)
+  ]
+
+  -- and of those behind them
+  read_both : (g : ℕ) (end link : Slot → ℕ) → latched (directory_at g ∷ named (end (q (directory_at g)))) ≡ latched (directory_at g ∷ named (end (completed s (directory_at g))))
+      → latched ((directory_at g ∷ named (end (q (directory_at g)))) ++ named (link (q (end (q (directory_at g))))))
+      ≡ latched ((directory_at g ∷ named (end (completed s (directory_at g)))) ++ named (link (completed s (end (completed s (directory_at g))))))
+  read_both g end link first =
+      let xs = directory_at g ∷ named (end (q (directory_at g))) in
+      let ys = directory_at g ∷ named (end (completed s (directory_at g))) in
+      let a = end (q (directory_at g)) in
+      elim (cases_Bool (latched xs)) [
+        | inl y ↦
+            any_append s.rows xs (named (link (q a))) ∙ ap (λ b. b || latched (named (link (q a)))) y
+            ∙ sym (any_append s.rows ys (named (link (completed s (end (completed s (directory_at g)))))) ∙ ap (λ b. b || latched (named (link (completed s (end (completed s (directory_at g))))))) (sym first ∙ y))
+        | inr n ↦
+            let p = any_parts s.rows (directory_at g ∷ []) (named a) n in
+            let same = is_whole (directory_at g) (or_parts (latched_in s.rows (directory_at g / 16)) false p.0).0 in
+            let here = same_at a (off_named s.rows a p.1) in
+            any_append s.rows xs (named (link (q a))) ∙ ap (λ b. b || latched (named (link (q a)))) first
+            ∙ ap (λ x. latched ys || latched (named (link x))) here ∙ ap (λ x. latched ys || latched (named (link (completed s (end x))))) same
+            ∙ sym (any_append s.rows ys (named (link (completed s (end (completed s (directory_at g)))))))
+      ]
+
+  pub as_read : (turn : Turn) → latched (needed q turn) ≡ latched (needed (completed s) turn)
+  as_read (Did (Append g n tag previous body)) = read_tail g
+  as_read (Did (UnlinkHead g n tag body)) = read_both g head_in next_in (read_head g)
+  as_read (Did (Close g)) = refl
+  as_read (Undid (Append g n tag previous body)) = read_both g tail_in prev_in (read_tail g)
+  as_read (Undid (UnlinkHead g n tag body)) = read_head g
+  as_read (Undid (Close g)) = refl
+
   -- what is planned needs no latched page
   planned_send : (g n tag previous : ℕ) (body : List ℕ) → MayBePlanned s (Did (Append g n tag previous body)) → NeedsLatched s (Did (Append g n tag previous body)) → ⊥
   planned_send g n tag previous body p h =
@@ -154,7 +217,8 @@ module _ (s : State) (k : IsSound s) where
       let none = tail_off g d at offs.0 (link_off s g d.tail a.old a.old_is parts.0) in
       elim h [
         | inl y ↦ true≢false (sym y ∙ none)
-        | inr all ↦
+        | inr x ↦
+            let all = x.1 in
             let w : Write = directory_write l g d (directory_appended d a.new tag) in
             let v : Write = record { at = a.new; before = Free; after = Used cell } in
             true≢false (sym (all a.new (end_stands z w d.tail a.old (with_next a.new) v stand) (sym (end_before q w d.tail a.old (with_next a.new) v fits))) ∙ parts.1.0)
@@ -169,7 +233,7 @@ module _ (s : State) (k : IsSound s) where
       let offs : AreOff s (unlink_head_writes l g d c a.next) = subst (AreOff s) a.writes p.off in
       let t = tail_there l q g d (directory_head_unlinked d c) c.next a.next (with_prev 0) d.head c fits in
       let parts = relinked_parts s c.next a.next (with_prev 0) (record { at = d.head; before = Used c; after = Free } ∷ []) offs.1 in
-      true≢false (sym h ∙ next_off g d (sym t.0) offs.0 c parts.1.0 (sym t.1) (link_off s g c.next a.next a.next_is parts.0))
+      no_cell_needed (behind_head (completed s) g) h (next_off g d (sym t.0) offs.0 c parts.1.0 (sym t.1) (link_off s g c.next a.next a.next_is parts.0))
 
   planned_unsend : (g n tag previous : ℕ) (body : List ℕ) → MayBePlanned s (Undid (Append g n tag previous body)) → NeedsLatched s (Undid (Append g n tag previous body)) → ⊥
   planned_unsend g n tag previous body p h =
@@ -180,7 +244,7 @@ module _ (s : State) (k : IsSound s) where
       let offs : AreOff s (unlink_tail_writes l g d c previous a.front) = subst (AreOff s) a.writes p.off in
       let t = tail_there l q g d (directory_tail_unlinked d c previous) c.prev a.front (with_next 0) d.tail c fits in
       let parts = relinked_parts s c.prev a.front (with_next 0) (record { at = d.tail; before = Used c; after = Free } ∷ []) offs.1 in
-      true≢false (sym h ∙ front_off g d (sym t.0) offs.0 c parts.1.0 (sym t.1) (link_off s g c.prev a.front a.front_is parts.0))
+      no_cell_needed (before_tail (completed s) g) h (front_off g d (sym t.0) offs.0 c parts.1.0 (sym t.1) (link_off s g c.prev a.front a.front_is parts.0))
 
   planned_return : (g n tag : ℕ) (body : List ℕ) → MayBePlanned s (Undid (UnlinkHead g n tag body)) → NeedsLatched s (Undid (UnlinkHead g n tag body)) → ⊥
   planned_return g n tag body p h =
@@ -195,22 +259,23 @@ module _ (s : State) (k : IsSound s) where
       let none = head_off g d at offs.0 (link_off s g d.head a.old a.old_is parts.0) in
       elim h [
         | inl y ↦ true≢false (sym y ∙ none)
-        | inr all ↦
+        | inr x ↦
+            let all = x.1 in
             let w : Write = directory_write l g d (directory_put_back d a.new) in
             let v : Write = record { at = a.new; before = Free; after = Used cell } in
             true≢false (sym (all a.new (end_stands z w d.head a.old (with_prev a.new) v stand) (sym (end_before q w d.head a.old (with_prev a.new) v fits))) ∙ parts.1.0)
       ]
 
-  marked_off : (g : ℕ) (d e : Directory) (ws : List Write) → ws ≡ directory_write l g d e ∷ [] → AreOff s ws → latched_in s.rows (directory_at g / 16) ≡ true → ⊥
-  marked_off g d e ws is h on = true≢false (sym on ∙ (subst (AreOff s) is h).0)
+  marked_off : (g : ℕ) (d e : Directory) (ws : List Write) → ws ≡ directory_write l g d e ∷ [] → AreOff s ws → any_latched s.rows (directory_at g ∷ []) ≡ false
+  marked_off g d e ws is h = or_from (latched_in s.rows (directory_at g / 16)) false (subst (AreOff s) is h).0 refl
 
   pub never_both : (turn : Turn) → MayBePlanned s turn → NeedsLatched s turn → ⊥
   never_both (Did (Append g n tag previous body)) p h = planned_send g n tag previous body p h
   never_both (Did (UnlinkHead g n tag body)) p h = planned_receive g n tag body p h
-  never_both (Did (Close g)) p h = marked_off g _ _ p.writes p.plan.writes p.off h
+  never_both (Did (Close g)) p h = no_cell_needed (directory_at g ∷ []) h (marked_off g _ _ p.writes p.plan.writes p.off)
   never_both (Undid (Append g n tag previous body)) p h = planned_unsend g n tag previous body p h
   never_both (Undid (UnlinkHead g n tag body)) p h = planned_return g n tag body p h
-  never_both (Undid (Close g)) p h = marked_off g _ _ p.writes p.plan.writes p.off h
+  never_both (Undid (Close g)) p h = no_cell_needed (directory_at g ∷ []) h (marked_off g _ _ p.writes p.plan.writes p.off)
 
   -- a cell may be taken, or each free one is on a latched page
   find_cell : ((a : ℕ) × IsCellAddress z a × (q a ≡ Free) × off a) ⊎ AllFreeLatched s
@@ -361,11 +426,11 @@ module _ (s : State) (k : IsSound s) where
     }
 
   -- what a turn needs is latched, or it can be planned, whatever its group
-  close_or : (g : ℕ) → g < sender_count z → (latched_in s.rows (directory_at g / 16) ≡ true) ⊎ MayBePlanned s (Did (Close g))
-  close_or g inside = elim (cases_Bool (latched_in s.rows (directory_at g / 16))) [ inl y ↦ inl y | inr n ↦ inr (may_close g inside n) ]
-
   first_off : (g : ℕ) (rest : List ℕ) → any_latched s.rows (directory_at g ∷ rest) ≡ false → off (directory_at g)
   first_off g rest h = (or_parts (latched_in s.rows (directory_at g / 16)) (any_latched s.rows rest) h).0
+
+  close_or : (g : ℕ) → g < sender_count z → NeedsLatched s (Did (Close g)) ⊎ MayBePlanned s (Did (Close g))
+  close_or g inside = elim (cases_Bool (any_latched s.rows (directory_at g ∷ []))) [ inl y ↦ inl (inl y) | inr n ↦ inr (may_close g inside (first_off g [] n)) ]
 
   send_or : (g tag : ℕ) (body : List ℕ) → g < sender_count z → NeedsLatched s (Did (Append g 0 tag 0 body)) ⊎ ((n : ℕ) × (previous : ℕ) × MayBePlanned s (Did (Append g n tag previous body)))
   send_or g tag body inside = elim (cases_Bool (any_latched s.rows (at_tail (completed s) g))) [
@@ -375,7 +440,7 @@ module _ (s : State) (k : IsSound s) where
           let dir = first_off g (named (tail_in (completed s (directory_at g)))) n in
           let d = (shown g inside dir).directory in
           inr (d.sent + 1, d.last_tag, may_send g inside dir tag body c.0 c.1 c.2 c.3 n)
-      | inr all ↦ inl (inr all)
+      | inr all ↦ inl (inr (refl, all))
     ]
   ]
 
@@ -407,7 +472,7 @@ module _ (s : State) (k : IsSound s) where
 
     inverse_or : (d : Deed) → f.deed ≡ d → NeedsLatched s (Undid d) ⊎ MayBePlanned s (Undid d)
     inverse_or (Append g n tag previous body) e = elim (cases_Bool (any_latched s.rows (before_tail (completed s) g))) [
-      | inl y ↦ inl y
+      | inl y ↦ inl (inl y)
       | inr none ↦
           let inside = inside_of (Append g n tag previous body) e in
           let front = (any_parts s.rows (at_tail (completed s) g) (named (prev_in (completed s (tail_in (completed s (directory_at g)))))) none).0 in
@@ -431,12 +496,12 @@ module _ (s : State) (k : IsSound s) where
             let number : (viewed g).received ≡ n = x.0 in
             let received = (tells_group s g (shown g inside dir).directory k inside dir (shown g inside dir).at).received in
             inr (may_return g inside dir n tag body c.0 (omega (arith, some, received)) (omega (arith, number, received)) c.1 c.2 c.3 none)
-        | inr all ↦ inl (inr all)
+        | inr all ↦ inl (inr (refl, all))
       ]
     ]
-    inverse_or (Close g) e = elim (cases_Bool (latched_in s.rows (directory_at g / 16))) [
-      | inl y ↦ inl y
-      | inr n ↦ inr (may_reopen g (inside_of (Close g) e) n)
+    inverse_or (Close g) e = elim (cases_Bool (any_latched s.rows (directory_at g ∷ []))) [
+      | inl y ↦ inl (inl y)
+      | inr n ↦ inr (may_reopen g (inside_of (Close g) e) (first_off g [] n))
     ]
 
   -- a transaction that passes the tests has a row
@@ -460,7 +525,7 @@ module _ (s : State) (k : IsSound s) where
     each : NeedsLatched s (Did (Append m.sender 0 m.tag 0 m.body)) → (turn : Turn) → Begins s (Call.Start_send t m) turn → NeedsLatched s turn
     each h (Did (Append g n tag previous body)) b =
         let same : record { sender = g; tag = tag; body = body } ≡ m = cc in
-        subst (λ x. (any_latched s.rows (at_tail (completed s) x) ≡ true) ⊎ AllFreeLatched s) (sym (ap (λ (x : Message). x.sender) same)) h
+        subst (λ x. (any_latched s.rows (at_tail (completed s) x) ≡ true) ⊎ ((true ≡ true) × AllFreeLatched s)) (sym (ap (λ (x : Message). x.sender) same)) h
     each h (Did (UnlinkHead g n tag body)) b = let bad : Taking g ≡ Sending m = b in cc
     each h (Did (Close g)) b = let bad : Ending g ≡ Sending m = b in cc
     each h (Undid d) b = absurd b
@@ -472,7 +537,7 @@ module _ (s : State) (k : IsSound s) where
   ] where
     each : any_latched s.rows (behind_head (completed s) g) ≡ true → (turn : Turn) → Begins s (Call.Start_receive_from t g) turn → NeedsLatched s turn
     each h (Did (Append x n tag previous body)) b = cc
-    each h (Did (UnlinkHead x n tag body)) b = let e : g ≡ x = cc in subst (λ y. any_latched s.rows (behind_head (completed s) y) ≡ true) e h
+    each h (Did (UnlinkHead x n tag body)) b = let e : g ≡ x = cc in inl (subst (λ y. any_latched s.rows (behind_head (completed s) y) ≡ true) e h)
     each h (Did (Close x)) b = cc
     each h (Undid d) b = absurd b
 
@@ -481,10 +546,10 @@ module _ (s : State) (k : IsSound s) where
     | inl h ↦ absurd (free (record { some = (Did (Close g), refl); each = each h }))
     | inr p ↦ (Did (Close g), refl, p)
   ] where
-    each : latched_in s.rows (directory_at g / 16) ≡ true → (turn : Turn) → Begins s (Call.Start_close t g) turn → NeedsLatched s turn
+    each : NeedsLatched s (Did (Close g)) → (turn : Turn) → Begins s (Call.Start_close t g) turn → NeedsLatched s turn
     each h (Did (Append x n tag previous body)) b = cc
     each h (Did (UnlinkHead x n tag body)) b = cc
-    each h (Did (Close x)) b = let e : g ≡ x = cc in subst (λ y. latched_in s.rows (directory_at y / 16) ≡ true) e h
+    each h (Did (Close x)) b = let e : g ≡ x = cc in subst (λ y. NeedsLatched s (Did (Close y))) e h
     each h (Undid d) b = absurd b
 
   -- from whichever group of which a message waits
@@ -541,7 +606,7 @@ module _ (s : State) (k : IsSound s) where
           let f = b.2 in
           let e : b.0 ≡ x = cc in
           elim (cases_Bool (any_latched s.rows (behind_head (completed s) x))) [
-            | inl y ↦ y
+            | inl y ↦ inl y
             | inr m ↦ absurd (true≢false (sym (and_from _ _ (is_waiting x (subst (WaitsFor s t) e b.1)) (ap not m)) ∙ none x (subst (λ y. y < sender_count z) e b.1.0)))
           ]
       each none (Did (Close x)) b = let bad = b.2 in cc
@@ -609,6 +674,7 @@ module _ (s : State) (k : IsSound s) where
 pub latched_exact : LatchedIsExact
 latched_exact = record {
   whole = λ s a k off. is_whole s k a off;
+  as_read = λ s turn k. as_read s k turn;
   none = λ s c turn k h b p. never_both s k turn p (h.each turn b);
   some = λ s c k h given free. can_plan s k c h given free;
 }

@@ -36,6 +36,7 @@ pub mod Refusals
 pub mod Waits
 pub mod ChainEnds
 pub mod Flags
+pub mod Closing
 pub mod Groups
 pub mod PlanFits
 pub mod Planned
@@ -44,3 +45,4 @@ pub mod Unchanged
 pub mod LatchLists
 pub mod Latching
 pub mod Wants
+pub mod WorkedCalls

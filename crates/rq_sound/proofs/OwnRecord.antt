@@ -7,16 +7,14 @@ use Rattle.rq_model.specs.declared.txn.Sub.{Sub}
 use Rattle.rq_model.specs.declared.record.Record.{Record}
 use Rattle.rq_model.specs.Words.{In, same_txn}
 use Rattle.rq_page.specs.Sizes.{Sizes}
-use Rattle.rq_views.specs.Log.{same_op}
-use Rattle.rq_views.specs.Items.{items, operation}
+use Rattle.rq_views.specs.Log.{same_op, Write}
+use Rattle.rq_views.specs.Items.{items, operation, layout_of}
 use Rattle.rq_views.specs.Legal.{began, over, has_end as ended}
 use Rattle.rq_views.proofs.Overlay.{same_self as same_op_self}
 use Rattle.rq_views.proofs.Strangers.{has_end_same}
 use Rattle.rq_groups.specs.Ends.{HeldEnds}
 use Rattle.rq_model.specs.Incarnations.{incarnation_of}
 use Rattle.rq_views.specs.Numbers.{greatest}
-use Rattle.rq_views.specs.Items.{layout_of}
-use Rattle.rq_views.specs.Log.{Write}
 use Rattle.rq_views.proofs.Idle.{unbegun_writes}
 use Rattle.rq_level.specs.Writes.{write_of, writes_of}
 use Rattle.rq_txn.specs.Rows.{Under, Row, found_row, deed_of}

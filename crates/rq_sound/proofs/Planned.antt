@@ -12,7 +12,7 @@ use Rattle.rq_model.specs.Legal.{start_of}
 use Rattle.rq_model.specs.Tests.{Passes, cells_in_use, has_closed, is_aborting}
 use Rattle.rq_model.specs.Words.{In}
 use Rattle.rq_page.specs.declared.directory.Directory.{Directory}
-use Rattle.rq_page.specs.Sizes.{cell_count, directory_at, sender_count}
+use Rattle.rq_page.specs.Sizes.{Sizes, cell_count, directory_at, sender_count}
 use Rattle.rq_page.specs.Slots.Slot.{Free, Sender}
 use Rattle.rq_views.specs.Chain.{Shows, View, message}
 use Rattle.rq_views.specs.Groups.{KeepsGroups}
@@ -28,6 +28,8 @@ use Rattle.rq_level.specs.declared.writes.SlotWrite.{SlotWrite}
 use Rattle.rq_level.specs.Writes.{writes_of}
 use Rattle.rq_txn.specs.declared.Finished.{Finished}
 use Rattle.rq_groups.specs.Ends.{is_free_for}
+use Rattle.rq_txn.specs.Rows as one
+use Rattle.rq_store.specs.Plans.{IsSendPlan, IsTakePlan}
 use Rattle.rq_store.specs.Rows.{HasWaiting, placed}
 use Rattle.rq_store.specs.State.{size_of, job_of, State, ledger_of, open_of}
 use Rattle.rq_store.proofs.Grouping.{groups_of}
@@ -248,8 +250,39 @@ module _ (s : State) (k : IsSound s) where
     newest = newest;
   }
 
+-- a send and a receive that are planned by themselves
+from_send : (z : Sizes) (q : Slots) (u : one.Under) (g tag : ℕ) (body : List ℕ) (p : IsSendPlan z q u g tag body) → IsPlannedFrom z q u.writes (Did (Append g (p.directory.sent + 1) tag p.directory.last_tag body))
+from_send z q u g tag body p = record {
+  directory = p.directory;
+  new = p.new;
+  old = p.old;
+  directory_is = p.directory_is;
+  sequence = refl;
+  previous_is = refl;
+  cell = p.cell;
+  free = p.free;
+  beside = p.beside;
+  writes = p.writes;
+}
+
+from_take : (z : Sizes) (q : Slots) (u : one.Under) (g : ℕ) (p : IsTakePlan z q u g) → IsPlannedFrom z q u.writes (Did (UnlinkHead g (p.directory.received + 1) p.cell.tag p.cell.body))
+from_take z q u g p = record {
+  directory = p.directory;
+  cell = p.cell;
+  next = p.next;
+  directory_is = p.directory_is;
+  sequence = refl;
+  tag_is = refl;
+  body_is = refl;
+  head_is = p.head_is;
+  beside = p.beside;
+  writes = p.writes;
+}
+
 pub plans_start : PlansMayStart
 plans_start = record {
   deeds = λ s r u d k new p reads wait h. may_do s k r u d new p reads wait h;
   inverses = λ s r u fs f k new p aborts newest. may_undo s k r u fs f new p aborts newest;
+  sends = from_send;
+  receives = from_take;
 }

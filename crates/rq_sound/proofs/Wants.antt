@@ -10,6 +10,7 @@ use Rattle.rq_page.specs.Slots.Slot.{Sender}
 use Rattle.rq_views.specs.Items.{items}
 use Rattle.rq_views.specs.Legal.{open_deeds, view}
 use Rattle.rq_views.specs.Plans.{deed_sender}
+use Rattle.rq_views.specs.Plans.Turn.{Undid}
 use Rattle.rq_views.proofs.CanUndo.{can_undo_taken}
 use Rattle.rq_level.specs.declared.slots.Given.{Given}
 use Rattle.rq_level.specs.ChainPlans.{Beside, CanSend, CanReceive, CanMark}
@@ -26,8 +27,8 @@ use Rattle.rq_sound.specs.Rows.{latched_in}
 use Rattle.rq_sound.specs.Sound.{IsSound}
 use Rattle.rq_sound.specs.Calls.{IsIdle}
 use Rattle.rq_sound.specs.Groups.{TellsGroup, slots_now}
-use Rattle.rq_sound.specs.Latching.{at_head, at_tail, before_tail, behind_head, head_in, named, next_in, prev_in, tail_in}
-use Rattle.rq_sound.specs.Wants.{AreGivenOf, CanUndo, LevelsFindAll, wanted_back}
+use Rattle.rq_sound.specs.Latching.{at_head, at_tail, before_tail, behind_head, head_in, named, needed, next_in, prev_in, tail_in}
+use Rattle.rq_sound.specs.Wants.{AreGivenOf, CanUndo, LevelsFindAll}
 use Rattle.rq_sound.proofs.FreeCells.{of_store, open_is}
 use Rattle.rq_sound.proofs.Groups.{tells_group}
 use Rattle.rq_sound.proofs.Latching as latching
@@ -116,7 +117,7 @@ module _ (s : State) (given : List Given) (k : IsSound s) (g : ℕ) (inside : g 
         open_is s.sizes s.records s.ends s.rows s.incarnation s.begins s.cells_in_use s.waiting k.standing k.counted k.log r (found_in r.txn s.rows r m.at_row).0 m.idle fs f newest
         ∙ ap (λ (y : Deed). record { lsn = f.lsn; deed = y } ∷ placed fs) e
 
-    pub can_undo_one : (x : Deed) → f.deed ≡ x → deed_sender x ≡ g → AreGivenOf s given (wanted_back (slots_now s) x) → CanUndo s.sizes given x
+    pub can_undo_one : (x : Deed) → f.deed ≡ x → deed_sender x ≡ g → AreGivenOf s given (needed (slots_now s) (Undid x)) → CanUndo s.sizes given x
     can_undo_one (Append e n tag previous body) is own h = subst (λ y. CanUndo s.sizes given (Append y n tag previous body)) (sym own) (
         let h : AreGivenOf s given (before_tail (slots_now s) g) = subst (λ y. AreGivenOf s given (before_tail (slots_now s) y)) own h in
         let last_one = sent_last (items s.sizes s.records) r.txn f.lsn g n tag previous body (placed fs) (groups_of s.sizes s.records k.log) (subst (λ y. open_deeds r.txn (items s.sizes s.records) ≡ record { lsn = f.lsn; deed = Append y n tag previous body } ∷ placed fs) own (open_deed (Append e n tag previous body) is)) in

@@ -34,7 +34,7 @@ writes_a =
     ap (λ (w : Write). w ∷ writes_of sizes (cell_a ∷ [])) (back end_a (omega arith) (omega arith) new_of_a has_a)
     ∙ ap (λ (w : Write). end_a ∷ w ∷ []) (back new_a (omega arith) (omega arith) free_a used_a)
 
-writes_b : reverse (writes_of sizes (cell_b ∷ group_b ∷ [])) ≡ end_b ∷ new_b ∷ []
+pub writes_b : reverse (writes_of sizes (cell_b ∷ group_b ∷ [])) ≡ end_b ∷ new_b ∷ []
 writes_b =
     ap (λ (w : Write). w ∷ writes_of sizes (cell_b ∷ [])) (back end_b (omega arith) (omega arith) new_of_b has_b)
     ∙ ap (λ (w : Write). end_b ∷ w ∷ []) (back new_b (omega arith) (omega arith) free_b used_b)

@@ -1,5 +1,7 @@
 -- What the slots as they are say of a sender's group, while operations of others are under way.
-use Rattle.std.specs.Prelude.{◌≡◌, ℕ, ◌+◌, ◌-◌, ◌/◌, ◌<◌, ◌≤◌, true, false, length}
+use Rattle.std.specs.Prelude.{◌≡◌, ℕ, ◌+◌, ◌-◌, ◌/◌, ◌<◌, ◌≤◌, ◌||◌, Bool, true, false, List, [], ◌∷◌, length, map}
+use Rattle.rq_model.specs.Commits.{committed_of}
+use Rattle.rq_model.specs.Ledger.{any_ends, ended_in}
 use Rattle.rq_page.specs.declared.cell.Cell.{Cell}
 use Rattle.rq_page.specs.declared.directory.Directory.{Directory}
 use Rattle.rq_page.specs.Sizes.{Sizes, IsCellAddress, cell_count, directory_at, sender_count}
@@ -11,8 +13,8 @@ use Rattle.rq_views.specs.Plans.{ShowsAt}
 use Rattle.rq_views.specs.Stored.{slots_in, count_used}
 use Rattle.rq_groups.specs.Ends.{is_free_for}
 use Rattle.rq_groups.specs.Waiting.{waits}
+use Rattle.rq_store.specs.State.{op_done, State}
 use Rattle.rq_txn.specs.Rows.{Row, any_under}
-use Rattle.rq_store.specs.State.{State}
 use Rattle.rq_sound.specs.Rows.{latched_in}
 use Rattle.rq_sound.specs.Sound.{IsSound}
 use Rattle.rq_sound.specs.Calls.{IsIdle}
@@ -51,9 +53,15 @@ pub record TellsGroup (s : State) (g : ℕ) (d : Directory) : Type 0 where
   pub front : (c : Cell) → d.received < d.sent → slots_now s d.tail ≡ Used c
       → LinksOn s.sizes (slots_now s) g (d.sent - 1) c.prev d
 
+-- some transaction that has not ended has closed the group, and not undone that
+abbrev pub closed_by_any : ℕ → List Row → Bool
+closed_by_any g [] = false
+closed_by_any g (r ∷ rows) = any_ends g (map op_done r.finished) || closed_by_any g rows
+
 -- Where nobody has latched the page of a group's directory slot, the slots show the group, whatever else is under way;
 -- where nothing is under way, nobody has. Whether the group is closed its directory slot says besides to whoever may
--- send to it, latched or not. Where the store is not full, fewer cells are used than there are.
+-- send to it, latched or not; and that it is, is by a commit or by a transaction that has not ended. Where the store is
+-- not full, fewer cells are used than there are.
 pub record SlotsTellGroups : Type 0 where
   pub shows : (s : State) (g : ℕ) → IsSound s → g < sender_count s.sizes
       → latched_in s.rows (directory_at g / 16) ≡ false
@@ -64,5 +72,7 @@ pub record SlotsTellGroups : Type 0 where
   pub flag : (s : State) (r : Row) (g : ℕ) (d : Directory) → IsSound s → IsIdle s r → g < sender_count s.sizes
       → is_free_for r.txn g s.ends.sending ≡ true → slots_now s (directory_at g) ≡ Sender g d
       → (view (items s.sizes s.records) g).closed ≡ d.closed
+  pub closed : (s : State) (g : ℕ) → IsSound s
+      → (view (items s.sizes s.records) g).closed ≡ (closed_by_any g s.rows || ended_in (committed_of s.records) g)
   pub room : (s : State) → IsSound s → s.cells_in_use < cell_count s.sizes
       → count_used s.sizes (slots_now s) < cell_count s.sizes

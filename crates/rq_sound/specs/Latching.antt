@@ -1,5 +1,5 @@
 -- Which calls cannot start an operation for what others have latched, exactly.
-use Rattle.std.specs.Prelude.{◌≡◌, ℕ, ◌/◌, ◌||◌, ◌++◌, ◌⊎◌, Bool, true, false, cond, nat_eq, List, [], ◌∷◌}
+use Rattle.std.specs.Prelude.{◌≡◌, ℕ, ◌/◌, ◌||◌, ◌++◌, ◌⊎◌, Bool, true, false, cond, nat_eq, nat_lt, List, [], ◌∷◌}
 use Rattle.rq_model.specs.declared.record.Deed.TheVariants.{Append, UnlinkHead, Close}
 use Rattle.rq_model.specs.History.{Call}
 use Rattle.rq_model.specs.History.Job.{Sending, Taking, Ending}
@@ -9,6 +9,7 @@ use Rattle.rq_model.specs.Words.{last}
 use Rattle.rq_page.specs.Sizes.{IsCellAddress, directory_at}
 use Rattle.rq_page.specs.Slots.{Slot}
 use Rattle.rq_page.specs.Slots.Slot.{Free, Used, Sender}
+use Rattle.rq_views.specs.Claims.{appends_of, takes_of}
 use Rattle.rq_views.specs.InStore.{WritesStand}
 use Rattle.rq_views.specs.Items.{layout_of}
 use Rattle.rq_views.specs.Log.{Slots, Write, HasBefores}
@@ -52,7 +53,7 @@ prev_in (Sender g d) = 0
 abbrev pub named : ℕ → List ℕ
 named a = cond (nat_eq a 0) [] (a ∷ [])
 
--- the slots that an operation needs, but for a free one: its group's directory slot, and the cells at an end of its chain
+-- the directory slot of a group, with the cells at an end of its chain
 abbrev pub at_tail : Slots → ℕ → List ℕ
 at_tail q g = directory_at g ∷ named (tail_in (q (directory_at g)))
 
@@ -65,6 +66,20 @@ behind_head q g = at_head q g ++ named (next_in (q (head_in (q (directory_at g))
 abbrev pub before_tail : Slots → ℕ → List ℕ
 before_tail q g = at_tail q g ++ named (prev_in (q (tail_in (q (directory_at g)))))
 
+-- the slots that an operation needs, but for a free one
+abbrev pub needed : Slots → Turn → List ℕ
+needed q (Did (Append g n tag previous body)) = at_tail q g
+needed q (Did (UnlinkHead g n tag body)) = behind_head q g
+needed q (Did (Close g)) = directory_at g ∷ []
+needed q (Undid (Append g n tag previous body)) = before_tail q g
+needed q (Undid (UnlinkHead g n tag body)) = at_head q g
+needed q (Undid (Close g)) = directory_at g ∷ []
+
+-- whether it needs a free one besides
+abbrev pub takes_cell : Turn → Bool
+takes_cell (Did d) = nat_lt 0 (appends_of d)
+takes_cell (Undid d) = nat_lt 0 (takes_of d)
+
 -- one of these slots is on a page that is latched
 abbrev pub any_latched : List Row → List ℕ → Bool
 any_latched rows [] = false
@@ -74,16 +89,11 @@ any_latched rows (a ∷ rest) = latched_in rows (a / 16) || any_latched rows res
 abbrev pub AllFreeLatched : State → Type 0
 AllFreeLatched s = (a : ℕ) → IsCellAddress s.sizes a → slots_now s a ≡ Free → latched_in s.rows (a / 16) ≡ true
 
--- a deed needs a latched page, read from what whole operations have left, or it needs a cell and each free one is on one
+-- an operation needs a latched page, read from what whole operations have left; or it takes a cell, and each free one
+-- is on a latched page
 abbrev pub NeedsLatched : State → Turn → Type 0
-NeedsLatched s (Did (Append g n tag previous body)) =
-    (any_latched s.rows (at_tail (completed s) g) ≡ true) ⊎ AllFreeLatched s
-NeedsLatched s (Did (UnlinkHead g n tag body)) = any_latched s.rows (behind_head (completed s) g) ≡ true
-NeedsLatched s (Did (Close g)) = latched_in s.rows (directory_at g / 16) ≡ true
-NeedsLatched s (Undid (Append g n tag previous body)) = any_latched s.rows (before_tail (completed s) g) ≡ true
-NeedsLatched s (Undid (UnlinkHead g n tag body)) =
-    (any_latched s.rows (at_head (completed s) g) ≡ true) ⊎ AllFreeLatched s
-NeedsLatched s (Undid (Close g)) = latched_in s.rows (directory_at g / 16) ≡ true
+NeedsLatched s turn = (any_latched s.rows (needed (completed s) turn) ≡ true)
+    ⊎ ((takes_cell turn ≡ true) × AllFreeLatched s)
 
 -- the call starts this: of a receive from whichever, from a group of which a message waits
 abbrev pub Begins : State → Call → Turn → Type 0
@@ -107,10 +117,13 @@ pub record MayBePlanned (s : State) (turn : Turn) : Type 0 where
   pub stand : WritesStand s.sizes writes
   pub off : AreOff s writes
 
--- What is on a page that nobody has latched is as whole operations left it. A call that passes the model's tests and has
--- something to start can be planned exactly where it is not latched.
+-- What is on a page that nobody has latched is as whole operations left it, so that the slots as they are tell as well
+-- which pages are needed. A call that passes the model's tests and has something to start can be planned exactly where
+-- it is not latched.
 pub record LatchedIsExact : Type 0 where
   pub whole : (s : State) (a : ℕ) → IsSound s → latched_in s.rows (a / 16) ≡ false → slots_now s a ≡ completed s a
+  pub as_read : (s : State) (turn : Turn) → IsSound s
+      → any_latched s.rows (needed (slots_now s) turn) ≡ any_latched s.rows (needed (completed s) turn)
   pub none : (s : State) (c : Call) (turn : Turn) → IsSound s → IsLatched s c → Begins s c turn
       → MayBePlanned s turn → ⊥
   pub some : (s : State) (c : Call) → IsSound s → Passes (size_of s.sizes) (ledger_of s) c

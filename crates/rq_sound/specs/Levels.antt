@@ -39,8 +39,8 @@ AreLatched s latched = (p : ℕ) → has_page p latched ≡ latched_in s.rows p
 abbrev pub MayFollow : State → Plan → Turn → Type 0
 MayFollow s p turn = IsPlannedFrom s.sizes (slots_now s) p.writes.items turn × AreUnlatched s p.writes.items
 
--- What the level plans from such slots is planned from the slots as they are, and its pages are nobody's. Where it finds
--- none to take each free cell is on a latched page; and where the store is not full it knows some cell as free.
+-- What the level plans from such slots is planned from the slots as they are, and its pages are nobody's. Where it
+-- finds none to take each free cell is on a latched page; and where the store is not full it knows some cell as free.
 pub record LevelsPlanFromSlots : Type 0 where
   pub lowest : (s : State) (k : Kept) (latched : List ℕ) (a : ℕ) → IsSound s → KeepsCells s k → AreLatched s latched
       → IsLowest s.sizes k latched a

@@ -16,3 +16,4 @@ pub mod Levels
 pub mod Unchanged
 pub mod Latching
 pub mod Wants
+pub mod WorkedCalls

@@ -17,7 +17,8 @@ use Rattle.rq_level.specs.declared.writes.SlotWrite.{SlotWrite}
 use Rattle.rq_level.specs.Given.{has_page}
 use Rattle.rq_level.specs.Writes.{writes_of}
 use Rattle.rq_txn.specs.declared.Finished.{Finished}
-use Rattle.rq_store.specs.Plans.{Stands_at}
+use Rattle.rq_txn.specs.Rows as one
+use Rattle.rq_store.specs.Plans.{IsSendPlan, IsTakePlan, Stands_at}
 use Rattle.rq_store.specs.Rows.{HasWaiting}
 use Rattle.rq_store.specs.State.{size_of, job_of, State, ledger_of}
 use Rattle.rq_txn.specs.declared.Aim.{Aim}
@@ -110,7 +111,8 @@ pub record IsNew (s : State) (r : Row) (u : Under) (aim : Aim) : Type 0 where
   pub free : AreUnlatched s u.writes
 
 -- What is planned from the slots as they are may start where its pages are nobody's: a deed that passes the model's
--- tests, where it takes a message one waits; and the inverse of the newest deed of a transaction that aborts.
+-- tests, where it takes a message one waits; and the inverse of the newest deed of a transaction that aborts. A send or
+-- a receive that is planned apart from levels is planned so.
 pub record PlansMayStart : Type 0 where
   pub deeds : (s : State) (r : Row) (u : Under) (d : Deed) → IsSound s → IsNew s r u (aims.Doing d)
       → IsPlannedFrom s.sizes (slots_now s) u.writes (Did d) → deed_in (spelled_deed d) ≡ Some d
@@ -118,3 +120,7 @@ pub record PlansMayStart : Type 0 where
   pub inverses : (s : State) (r : Row) (u : Under) (rest : List Finished) (f : Finished) → IsSound s
       → IsNew s r u (aims.Undoing f.lsn f.deed) → IsPlannedFrom s.sizes (slots_now s) u.writes (Undid f.deed)
       → r.aborting ≡ true → r.finished ≡ rest ++ f ∷ [] → MayUndo s r u rest f
+  pub sends : (z : Sizes) (q : Slots) (u : one.Under) (g tag : ℕ) (body : List ℕ) (p : IsSendPlan z q u g tag body)
+      → IsPlannedFrom z q u.writes (Did (Append g (p.directory.sent + 1) tag p.directory.last_tag body))
+  pub receives : (z : Sizes) (q : Slots) (u : one.Under) (g : ℕ) (p : IsTakePlan z q u g)
+      → IsPlannedFrom z q u.writes (Did (UnlinkHead g (p.directory.received + 1) p.cell.tag p.cell.body))

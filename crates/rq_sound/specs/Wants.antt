@@ -7,6 +7,7 @@ use Rattle.rq_views.specs.Items.{items}
 use Rattle.rq_views.specs.Legal.{view}
 use Rattle.rq_views.specs.Log.{Slots}
 use Rattle.rq_views.specs.Plans.{deed_sender}
+use Rattle.rq_views.specs.Plans.Turn.{Undid}
 use Rattle.rq_level.specs.declared.slots.Given.{Given}
 use Rattle.rq_level.specs.ChainPlans.{CanSend, CanReceive, CanMark, CanUnlinkTail, CanPutBack}
 use Rattle.rq_level.specs.Given.{GivenHolds}
@@ -18,20 +19,14 @@ use Rattle.rq_sound.specs.Rows.{latched_in}
 use Rattle.rq_sound.specs.Sound.{IsSound}
 use Rattle.rq_sound.specs.Calls.{IsIdle}
 use Rattle.rq_sound.specs.Groups.{slots_now}
-use Rattle.rq_sound.specs.Latching.{at_head, at_tail, before_tail, behind_head}
+use Rattle.rq_sound.specs.Latching.{at_tail, behind_head, needed}
 
 -- these slots were given, as they are
 abbrev pub AreGivenOf : State → List Given → List ℕ → Type 0
 AreGivenOf s given [] = Unit {0}
 AreGivenOf s given (a ∷ rest) = GivenHolds s.sizes given a (slots_now s a) × AreGivenOf s given rest
 
--- the slots that the inverse of a deed wants
-abbrev pub wanted_back : Slots → Deed → List ℕ
-wanted_back q (Append g n tag previous body) = before_tail q g
-wanted_back q (UnlinkHead g n tag body) = at_head q g
-wanted_back q (Close g) = directory_at g ∷ []
-
--- they hold what it needs
+-- they hold what the inverse of a deed needs
 abbrev pub CanUndo : Sizes → List Given → Deed → Type 0
 CanUndo z given (Append g n tag previous body) = CanUnlinkTail z given g n
 CanUndo z given (UnlinkHead g n tag body) = CanPutBack z given g n
@@ -51,4 +46,4 @@ pub record LevelsFindAll : Type 0 where
       → AreGivenOf s given (directory_at g ∷ []) → CanMark s.sizes given g true
   pub undoes : (s : State) (given : List Given) (r : Row) (rest : List Finished) (f : Finished) → IsSound s
       → IsIdle s r → r.finished ≡ rest ++ f ∷ [] → latched_in s.rows (directory_at (deed_sender f.deed) / 16) ≡ false
-      → AreGivenOf s given (wanted_back (slots_now s) f.deed) → CanUndo s.sizes given f.deed
+      → AreGivenOf s given (needed (slots_now s) (Undid f.deed)) → CanUndo s.sizes given f.deed

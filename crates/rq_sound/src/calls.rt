@@ -1,5 +1,5 @@
-//! What the calls of a store with any number of operations under way rest on: refusals, what the model's tests read, what
-//! the pages say of a group while others are under way, and which plans may start.
+//! What the calls of a store with any number of operations under way rest on: refusals, what the model's tests read,
+//! what the pages say of a group while others are under way, and which plans may start.
 ghost use Rattle.rq_sound.specs.Groups.{SlotsTellGroups};
 ghost use Rattle.rq_sound.specs.Latching.{LatchedIsExact};
 ghost use Rattle.rq_sound.specs.Levels.{LevelsPlanFromSlots};
@@ -8,6 +8,7 @@ ghost use Rattle.rq_sound.specs.Refusals.{RefusalsAreSteps, TestsReadRows};
 ghost use Rattle.rq_sound.specs.Unchanged.{UnchangedAreSteps};
 ghost use Rattle.rq_sound.specs.Waits.{WaitsAreGiven};
 ghost use Rattle.rq_sound.specs.Wants.{LevelsFindAll};
+ghost use Rattle.rq_sound.specs.WorkedCalls.{GroupsAreJudged, LatchesAreJudged, LevelsAreJudged, PlansAreJudged, RefusalsAreJudged, WaitsAreJudged};
 
 /// A refusal that the model's tests give is a step that changes nothing; a device's failure stops the store.
 pub fn refusals_are_steps()
@@ -24,8 +25,8 @@ pub fn waits_are_given()
     ensures { WaitsAreGiven }
 {}
 
-/// Where nobody has latched the page of a group's directory slot, the slots as they are show the group, and the cells at
-/// both ends of its chain stand where the links name them.
+/// Where nobody has latched the page of a group's directory slot, the slots as they are show the group, and the cells
+/// at both ends of its chain stand where the links name them.
 pub fn slots_tell_groups()
     ensures { SlotsTellGroups }
 {}
@@ -45,14 +46,44 @@ pub fn unchanged_are_steps()
     ensures { UnchangedAreSteps }
 {}
 
-/// A call that passes the model's tests and has something to start can be planned over the slots as they are exactly where
-/// not all that it may start needs a latched page.
+/// A call that passes the model's tests and has something to start can be planned over the slots as they are exactly
+/// where not all that it may start needs a latched page.
 pub fn latched_is_exact()
     ensures { LatchedIsExact }
 {}
 
-/// What the level of chains was given of the slots that it wants holds what its operation needs, where nobody has latched
-/// the page of its group's directory slot.
+/// What the level of chains was given of the slots that it wants holds what its operation needs, where nobody has
+/// latched the page of its group's directory slot.
 pub fn levels_find_all()
     ensures { LevelsFindAll }
+{}
+
+/// Worked: what is refused while two sends are under way, what is not, and receipts.
+pub fn refusals_are_judged()
+    ensures { RefusalsAreJudged }
+{}
+
+/// Worked: of whom a message waits, and of whom none does.
+pub fn waits_are_judged()
+    ensures { WaitsAreJudged }
+{}
+
+/// Worked: a directory slot that tells of its group, and one that tells of it too early, on a latched page.
+pub fn groups_are_judged()
+    ensures { GroupsAreJudged }
+{}
+
+/// Worked: a send that is planned beside another, and one that isn't any more.
+pub fn plans_are_judged()
+    ensures { PlansAreJudged }
+{}
+
+/// Worked: sends that are latched, and one that isn't.
+pub fn latches_are_judged()
+    ensures { LatchesAreJudged }
+{}
+
+/// Worked: what a level may be given while a send is under way, and what it finds there.
+pub fn levels_are_judged()
+    ensures { LevelsAreJudged }
 {}

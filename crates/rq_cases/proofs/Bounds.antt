@@ -1,0 +1,358 @@
+-- A log at its bound.
+use Rattle.std.proofs.Common.{◌≡◌, ⊎_elim, ℕ, zero, suc, ◌+◌, ◌-◌, ◌*◌, ◌^◌, ◌≤◌, ◌<◌, Bool, false, true, not, nat_lt, List, [], ◌∷◌, length, drop, replicate, Some, None, refl, sym, ap, ◌∙◌, subst, inl, inr, arith}
+use Rattle.std.specs.List.{filter, slice_index}
+use Rattle.std.proofs.lemmas.Bool.{cases_Bool, lt-ltb, ltb-true}
+use Rattle.rq_model.specs.declared.record.Record.{Record}
+use Rattle.rq_model.specs.declared.refusal.Refusal.{Refusal}
+use Rattle.rq_model.specs.declared.refusal.Refusal.TheVariants as why
+use Rattle.rq_model.specs.declared.txn.Txn.{Txn}
+use Rattle.rq_model.specs.Words.{In}
+use Rattle.rq_model.specs.Commits.{committed_of}
+use Rattle.rq_model.specs.Content.{has_end}
+use Rattle.rq_model.specs.History.{Call}
+use Rattle.rq_model.specs.History.Call.{Commit, Start_send}
+use Rattle.rq_model.specs.Incarnations.{incarnation_of}
+use Rattle.rq_model.specs.Legal.{Legal}
+use Rattle.rq_model.specs.History.Entry.{Committed, Started}
+use Rattle.rq_model.specs.History.Job.{Sending}
+use Rattle.rq_model.specs.Replay.{Number}
+use Rattle.rq_model.specs.Replay.Reply.{Gave_refusal}
+use Rattle.rq_model.specs.Tests.{NoneHolds, Passes, first_of, log_full, ready_tests, tests}
+use Rattle.rq_model.specs.Unended.{any_record, lost, operation_ended, operations, unfinished, workers}
+use Rattle.rq_model.proofs.Lists.{same_self}
+use Rattle.rq_disk.specs.Device.{Images}
+use Rattle.rq_disk.specs.declared.mem_log.MemLog.{MemLog}
+use Rattle.rq_disk.specs.declared.mem_pages.MemPages.{MemPages}
+use Rattle.rq_log.specs.Scanned.{StopsFor}
+use Rattle.rq_log.specs.Spelled.{AreSpelled}
+use Rattle.rq_page.specs.Sizes.{Sizes}
+use Rattle.rq_level.specs.Writes.{AreSlotWrites}
+use Rattle.rq_txn.specs.Rows.{Row, found_row, fresh_row}
+use Rattle.rq_store.specs.Fitting.{AllFit, FitsLog, image_in, left_by}
+use Rattle.rq_store.specs.Sound.{IsSound}
+use Rattle.rq_store.specs.State.{State, ledger_of, size_of}
+use Rattle.rq_store.specs.Steps.{Steps}
+use Rattle.rq_store.specs.Whole.{IsWhole}
+use Rattle.rq_store.proofs.Beginning.{begin_sound}
+use Rattle.rq_store.proofs.Committing.{commit_steps}
+use Rattle.rq_store.proofs.Cutting.{fits_log_longer}
+use Rattle.rq_store.proofs.Formatting.{formatted_fits}
+use Rattle.rq_store.proofs.Opening.{opened_sound, restarted_whole}
+use Rattle.rq_store.proofs.SendStarts.{start_steps}
+use Rattle.rq_store.proofs.WorkedSound.{whole_empty}
+use Rattle.rq_engine.specs.Kept.{IsKept, IsRowKept}
+use Rattle.rq_engine.specs.Says.{commit_number}
+use Rattle.rq_engine.specs.declared.event.Event.TheVariants as event
+use Rattle.rq_engine.specs.declared.event.Reply.TheVariants as reply
+use Rattle.rq_engine.proofs.Crashing.{runs_through_cuts}
+use Rattle.rq_engine.proofs.Refusals.{refuse, refuse_full}
+use Rattle.rq_restart.specs.Checked.{IsEnded, IsGoneThrough}
+use Rattle.rq_restart.specs.Refused.{IsFirstFault}
+use Rattle.rq_restart.specs.Repeating.{Paged, Repeats}
+use Rattle.rq_restart.specs.Restarting.{LogStops}
+use Rattle.rq_restart.proofs.Parsing.{one_log}
+use Rattle.rq_core.specs.Devices.{mem_log, mem_pages}
+use Rattle.rq_cases.specs.Applied.{Makes, MeetsAll}
+use Rattle.rq_cases.specs.Bounds.{BoundsAreJudged, Commits, IsFullForSend, Sends, just_opened, one_begun, only_one, restarts}
+use Rattle.rq_cases.specs.Opened.{over}
+use Rattle.rq_cases.specs.Openings.{IsRefused}
+use Rattle.rq_cases.specs.Restarting.{read_pages}
+use Rattle.rq_cases.specs.Run.{send_started, send_under, waits_of_0}
+use Rattle.rq_cases.specs.Sound.{hello}
+use Rattle.rq_cases.specs.Store.{count_sent, fill_cell, formatted_pages, sizes}
+use Rattle.rq_cases.specs.Worlds.{Hold}
+use Rattle.rq_cases.proofs.Held.{leaves_beginning, log_seen, pages_fit, pages_now, same_beginning}
+use Rattle.rq_cases.proofs.Openings.{formatted_are, only_read}
+use Rattle.rq_cases.proofs.Pages.{are_formatted, cell_told, free_told, new_told, range, sent_told}
+use Rattle.rq_cases.proofs.Restarting.{counted_read, pages_seen_are}
+use Rattle.rq_cases.proofs.Running as running
+
+-- what such a log is of
+incarnation_is : (n : ℕ) → incarnation_of (restarts n) ≡ n
+incarnation_is zero = refl
+incarnation_is (suc n) = (let e = incarnation_is n in omega (arith, e))
+
+length_is : (n : ℕ) → length (restarts n) ≡ n
+length_is zero = refl
+length_is (suc n) = (let e = length_is n in omega (arith, e))
+
+all_new : (n : ℕ) → drop n (restarts n) ≡ []
+all_new zero = refl
+all_new (suc n) = all_new n
+
+are_spelled : (n : ℕ) → n < 2 ^ 64 → AreSpelled (restarts n)
+are_spelled zero low = tt
+are_spelled (suc n) low = (let e = incarnation_is n in ((omega arith, omega (arith, e, low)), are_spelled n (omega (arith, low))))
+
+none_committed : (n : ℕ) → committed_of (restarts n) ≡ []
+none_committed zero = refl
+none_committed (suc n) = none_committed n
+
+no_operations : (n : ℕ) → operations (restarts n) ≡ []
+no_operations zero = refl
+no_operations (suc n) = no_operations n
+
+no_workers : (n : ℕ) → workers (restarts n) ≡ []
+no_workers zero = refl
+no_workers (suc n) = no_workers n
+
+none_unfinished : (n : ℕ) → unfinished (restarts n) ≡ []
+none_unfinished n = ap (filter (λ (p : Txn × ℕ). not (any_record (operation_ended p.0 p.1) (restarts n)))) (no_operations n)
+
+none_lost : (n : ℕ) → lost (restarts n) ≡ []
+none_lost n = ap (filter (λ (t : Txn). not (has_end (restarts n) t))) (no_workers n)
+
+whole : (n : ℕ) → IsWhole sizes (restarts n)
+whole zero = whole_empty sizes
+whole (suc n) = restarted_whole sizes (restarts n) (whole n) (none_unfinished n) (none_lost n)
+
+same_slots : (n a : ℕ) → (left_by sizes (restarts n)).slots a ≡ (left_by sizes []).slots a
+same_slots zero a = refl
+same_slots (suc n) a = same_slots n a
+
+fit : (n : ℕ) → FitsLog sizes (image_in formatted_pages) (restarts n)
+fit n = fits_log_longer sizes (image_in formatted_pages) [] (restarts n) (n, all_new n) (formatted_fits sizes (image_in formatted_pages) range are_formatted)
+
+-- the store over it is sound
+open_sound : (n : ℕ) → IsSound (just_opened n)
+open_sound n =
+    opened_sound sizes formatted_pages (restarts n) range (whole n) (none_unfinished n) (none_lost n)
+    (λ a. running.first_sound.pages a ∙ sym (same_slots n a)) (fit n)
+
+begun_sound : (n : ℕ) → IsSound (one_begun n)
+begun_sound n = begin_sound (just_opened n) (open_sound n)
+
+-- tests that all pass tell no refusal
+pub none_first : (tests : List (Bool × Refusal)) → NoneHolds tests → first_of tests ≡ None
+none_first [] h = refl
+none_first (t ∷ ts) h = rw h.0 (none_first ts h.1)
+
+not_less : (a b : ℕ) → b ≤ a → nat_lt a b ≡ false
+not_less a b h = elim (cases_Bool (nat_lt a b)) [ inl y ↦ let c : a < b = ltb-true a b y in absurd (omega (arith, c, h)) | inr n ↦ n ]
+
+clash : true ≡ false → ⊥
+clash e = cc e
+
+module _ (n : ℕ) where
+  abbrev s : State
+  s = one_begun n
+
+  abbrev t : Txn
+  t = only_one n
+
+  ready : NoneHolds (ready_tests (ledger_of s) t false)
+  ready = rw (same_self t) (refl, (refl, (refl, (refl, tt))))
+
+  commit_full : 2 ^ 50 ≤ n + 1 → log_full (ledger_of s) 1 ≡ true
+  commit_full le = (let e = length_is n in lt-ltb _ _ (omega (arith, e, le)))
+
+  commit_free : n + 2 ≤ 2 ^ 50 → log_full (ledger_of s) 1 ≡ false
+  commit_free le = (let e = length_is n in not_less _ _ (omega (arith, e, le)))
+
+  send_full : 2 ^ 50 < n + 5 → log_full (ledger_of s) 4 ≡ true
+  send_full le = (let e = length_is n in lt-ltb _ _ (omega (arith, e, le)))
+
+  send_free : n + 5 ≤ 2 ^ 50 → log_full (ledger_of s) 4 ≡ false
+  send_free le = (let e = length_is n in not_less _ _ (omega (arith, e, le)))
+
+  commit_passes : n + 2 ≤ 2 ^ 50 → Passes (size_of sizes) (ledger_of s) (Commit t)
+  commit_passes le = (ready.0, (ready.1.0, (ready.1.1.0, (ready.1.1.1.0, (commit_free le, tt)))))
+
+  send_passes : n + 5 ≤ 2 ^ 50 → Passes (size_of sizes) (ledger_of s) (Start_send t hello)
+  send_passes le =
+      let full = send_free le in
+      rw (same_self t, none_committed n) (refl, (refl, (refl, (refl, (refl, (refl, (refl, (refl, (refl, (full, tt))))))))))
+
+  at_row : found_row t s.rows ≡ Some (fresh_row t)
+  at_row = rw (same_self t) refl
+
+  commits : n + 2 ≤ 2 ^ 50 → (new : State) × Commits n (record { txn = t; lsn = length s.records + 1 }) new
+  commits le = (_, commit_steps s (begun_sound n) t (fresh_row t) s.cells_in_use s.waiting at_row refl (omega arith) (λ g low. omega arith) refl (commit_free le))
+
+  sends : n + 5 ≤ 2 ^ 50 → (new : State) × Sends n 1 new
+  sends le =
+      let none = running.first_cells in
+      (_, start_steps s (begun_sound n) t (fresh_row t) (send_under 0) 0 7 (104 ∷ []) at_row refl refl running.send_plan refl (omega (arith, none)) (send_passes le))
+
+  send_refused : 2 ^ 50 < n + 5 → IsFullForSend n s
+  send_refused le =
+      let full = send_full le in
+      (refuse s (Start_send t hello) why.LogFull refl tt (rw (same_self t, none_committed n, full) refl) (begun_sound n)).0
+
+  -- the whole call
+  module _ (pages : MemPages) (log : MemLog) (h : Hold pages formatted_pages log (restarts (suc n))) where
+    meets : MeetsAll (over s pages log)
+    meets = record {
+      honest = (tt, tt);
+      sound = begun_sound n;
+      fit =
+          let none : 0 ≡ length s.records - length s.records = omega arith in
+          subst (λ (k : ℕ). AllFit (mem_pages.may_be pages) sizes (drop k s.records)) none
+          (pages_fit pages h.0 s.records (suc n, all_new (suc n)));
+    }
+
+    refused_whole : 2 ^ 50 ≤ n + 1 → n + 1 < 2 ^ 64 → Makes (over s pages log) (event.Commit t) (reply.Refused why.LogFull) (over s pages log)
+    refused_whole le low =
+        let told : AreSpelled s.records = are_spelled (suc n) (omega (arith, low)) in
+        let here = same_beginning log (restarts (suc n)) h.1 s.records s.forced 0 (omega arith) refl in
+        record {
+          steps = λ honest k. (refuse_full s t ready (commit_full le) k).0;
+          cause = λ honest k. tt;
+          sizes = refl;
+          failed = (λ e. cc e, λ e. cc e);
+          refused = refl;
+          lists = tt;
+          changes = refl;
+          starts = tt;
+          writes = tt;
+          pages = refl;
+          log = refl;
+          honest = λ honest. honest;
+          any_moment = λ honest. here;
+          fit = λ honest k fits. fits;
+          crash = λ honest k fits.
+              runs_through_cuts mem_pages mem_log pages_now (over s pages log) (over s pages log) k fits (event.Commit t)
+              (reply.Refused why.LogFull) told tt refl
+              (leaves_beginning log (restarts (suc n)) h.1 s.records s.forced 0 (omega arith) refl) here;
+        }
+
+-- what a refusal tells of the tests
+full_says : (n : ℕ) (c : Call) (new : State) → Steps (one_begun n) c (Gave_refusal why.LogFull) new
+    → first_of (tests (size_of sizes) (ledger_of (one_begun n)) c) ≡ Some why.LogFull
+full_says n c new x = subst (Legal (size_of sizes) (ledger_of (one_begun n))) x.says x.legal
+
+not_full : (n : ℕ) (c : Call) (new : State) → Passes (size_of sizes) (ledger_of (one_begun n)) c → Steps (one_begun n) c (Gave_refusal why.LogFull) new → ⊥
+not_full n c new passes x =
+    let e = sym (none_first (tests (size_of sizes) (ledger_of (one_begun n)) c) passes) ∙ full_says n c new x in
+    cc e
+
+not_committed : (n : ℕ) (number : Number) (new : State) → 2 ^ 50 ≤ n + 1 → Commits n number new → ⊥
+not_committed n number new le x =
+    let l : Legal (size_of sizes) (ledger_of (one_begun n)) (Committed (only_one n) number.lsn) = subst (Legal (size_of sizes) (ledger_of (one_begun n))) x.says.1 x.legal in
+    clash (sym (commit_full n le) ∙ l.0.1.1.1.1.0)
+
+not_sent : (n number : ℕ) (new : State) → 2 ^ 50 < n + 5 → Sends n number new → ⊥
+not_sent n number new le x =
+    let l : Legal (size_of sizes) (ledger_of (one_begun n)) (Started (only_one n) number (Sending hello)) = subst (Legal (size_of sizes) (ledger_of (one_begun n))) x.says.1 x.legal in
+    clash (sym (send_full n le) ∙ l.0.1.1.1.1.1.1.1.1.1.0)
+
+-- such a log is gone through on pages that stay
+repeats : (n : ℕ) → Repeats sizes (restarts n) read_pages read_pages
+repeats zero = refl
+repeats (suc n) = (
+  read_pages,
+  repeats n,
+  record { belongs = record { next = refl; may = record { write = tt; before = tt } }; redone = λ p. refl; marked = refl },
+)
+
+ended : (n : ℕ) → IsEnded (restarts n)
+ended zero = (refl, refl)
+ended (suc n) = ended n
+
+module _ (n : ℕ) (pages : MemPages) (log : MemLog) (h : Hold pages formatted_pages log (restarts n)) where
+  full_restart : 2 ^ 50 ≤ n → n < 2 ^ 64 → IsRefused pages log why.LogFull pages log
+  full_restart le low =
+      let e = length_is n in
+      let gone : IsGoneThrough sizes (restarts n) read_pages read_pages = record {
+        repeated = repeats n;
+        counted_read = counted_read (length (restarts n)) (omega (arith, e, le));
+        counted = counted_read (length (restarts n)) (omega (arith, e, le));
+      } in
+      inr (
+        sizes,
+        formatted_pages,
+        formatted_are,
+        λ honest p below. sym (ap (λ (seen : Images). seen p) (pages_seen_are pages formatted_pages h.0)),
+        refl,
+        inr (
+          restarts n,
+          are_spelled n low,
+          λ honest. log_seen log (restarts n) h.1,
+          (omega (arith, e, le), ended n, (read_pages, gone), only_read log),
+        ),
+      )
+
+  fits_restart : (z : Sizes) (first : Paged) (new : MemLog) → n < 2 ^ 50 → LogStops mem_log z first why.LogFull log new → ⊥
+  fits_restart z first new low (inl l) = at l.4 where
+    at : IsFirstFault z l.0 first l.2 why.LogFull → ⊥
+    at (inl f) = subst (λ (r : Refusal). StopsFor mem_log r l.0 log new) (sym f.0) l.3
+    at (inr f) = f.1
+  fits_restart z first new low (inr r) =
+      let same : restarts n ≡ r.0 = one_log (restarts n) r.0 (are_spelled n (omega (arith, low))) r.1 (sym (log_seen log (restarts n) h.1) ∙ r.2 tt) in
+      let e = length_is n in
+      let d : length (restarts n) ≡ length r.0 = ap (λ (x : List Record). length x) same in
+      let long = r.3.0 in
+      omega (arith, low, e, d, long)
+
+-- the room of an operation under way
+none_waits : (n g : ℕ) → slice_index (replicate n 0) g ≡ 0
+none_waits zero g = refl
+none_waits (suc n) zero = refl
+none_waits (suc n) (suc g) = none_waits n g
+
+slots_are : AreSlotWrites sizes (fill_cell ∷ count_sent ∷ [])
+slots_are zero d low = record {
+  place = record { page_low = omega arith; page_high = omega arith; slot = omega arith };
+  before = free_told.1;
+  after = cell_told.1;
+}
+slots_are (suc zero) d low = record {
+  place = record { page_low = omega arith; page_high = omega arith; slot = omega arith };
+  before = new_told.1;
+  after = sent_told.1;
+}
+slots_are (suc (suc k)) d low = absurd (omega (arith, low))
+
+one_row : (r : Row) → In r send_started.rows → IsRowKept sizes 1 1 4 r
+one_row r (inl e) = subst (λ (x : Row). IsRowKept sizes 1 1 4 x) (sym e) (record {
+  mine = refl;
+  low = omega arith;
+  high = omega arith;
+  number = omega arith;
+  under = record { number = omega arith; made = omega arith; slots = slots_are; deed_low = omega arith; deed_high = omega arith };
+})
+one_row r (inr none) = absurd none
+
+kept : IsKept send_started false 3 (546 * 2 + 60)
+kept = record {
+  incarnation = omega arith;
+  fails = λ runs. refl;
+  owes = refl;
+  room = refl;
+  count = omega arith;
+  distinct = (refl, tt);
+  rows = one_row;
+  senders = refl;
+  few = λ g. (let e : slice_index (waits_of_0 0) g ≡ 0 = none_waits 15 g in omega (arith, e));
+}
+
+pub bounds : BoundsAreJudged
+bounds = record {
+  sound = begun_sound;
+  records_are = length_more;
+  commit_fits = commits;
+  commit_is_full = λ n le. (refuse_full (one_begun n) (only_one n) (ready n) (commit_full n le) (begun_sound n)).0;
+  full_where_it_fits = λ n new le. not_full n (Commit (only_one n)) new (commit_passes n le);
+  fits_where_it_is_full = not_committed;
+  send_fits = sends;
+  send_is_full = send_refused;
+  full_where_a_send_fits = λ n new le. not_full n (Start_send (only_one n) hello) new (send_passes n le);
+  send_where_it_is_full = not_sent;
+  fits_beside = λ n le. not_less _ _ (omega (arith, le));
+  full_beside_it = λ n le. lt-ltb _ _ (omega (arith, le));
+  before_the_commit = meets;
+  commit_refused = λ n pages log le low h. refused_whole n pages log h le low;
+  refused_where_it_fits = λ n pages log new le a.
+      not_full n (Commit (only_one n)) new.state (commit_passes n le) (a.steps (tt, tt) (begun_sound n));
+  committed_where_it_is_full = λ n pages log number new le a.
+      not_committed n (commit_number number) new.state le (a.steps (tt, tt) (begun_sound n));
+  restart_is_full = λ n pages log le low h. full_restart n pages log h le low;
+  restart_full_where_it_fits = λ n pages new_pages log new_log low h s.
+      ⊎_elim (λ p. p.0) (λ l. fits_restart n pages log h l.0 _ new_log low l.5) s;
+  room_kept = kept;
+  less_room = λ k. (let e : 546 * 2 + 60 ≡ 546 * 2 + 59 = k.room in omega (arith, e));
+  another_count = λ k. (let e : 2 ≡ 3 = k.owes in omega (arith, e));
+  over_the_bound = λ s failed owed reserved over k. (let c = k.count in omega (arith, over, c));
+} where
+  length_more : (n : ℕ) → length (one_begun n).records ≡ n + 1
+  length_more n = (let e = length_is n in omega (arith, e))

@@ -1,0 +1,124 @@
+-- A call beside an operation that is under way.
+use Rattle.std.proofs.Common.{◌≡◌, ◌⊎◌, ℕ, true, List, [], ◌∷◌, Option, Some, None, refl, sym, ap, ◌∙◌, subst, inl, inr, arith}
+use Rattle.std.specs.Prelude.{Vec}
+use Rattle.std.specs.declared.alloc.Global.{Global}
+use Rattle.rq_model.specs.declared.refusal.Refusal.{Refusal}
+use Rattle.rq_model.specs.declared.refusal.Refusal.TheVariants as why
+use Rattle.rq_model.specs.declared.txn.Sub.{Sub}
+use Rattle.rq_model.specs.declared.txn.Txn.{Txn}
+use Rattle.rq_model.specs.History.Call.{Start_send}
+use Rattle.rq_model.specs.History.Entry.{Refused}
+use Rattle.rq_model.specs.Legal.{Legal}
+use Rattle.rq_model.specs.Tests.{Passes, first_of, tests}
+use Rattle.rq_model.specs.Words.{In, is_some}
+use Rattle.rq_disk.specs.declared.mem_log.MemLog.{MemLog}
+use Rattle.rq_disk.specs.declared.mem_pages.MemPages.{MemPages}
+use Rattle.rq_views.specs.WorkedItems.{t1, t2}
+use Rattle.rq_txn.specs.Rows.{Row, Under, change_row, fresh_row, row_started}
+use Rattle.rq_store.specs.Sound.{IsSound}
+use Rattle.rq_store.specs.State.{State, ledger_of, size_of}
+use Rattle.rq_store.proofs.Beginning.{begin_sound}
+use Rattle.rq_engine.specs.Opened.{OpenStore}
+use Rattle.rq_engine.specs.Says.{call_of}
+use Rattle.rq_engine.specs.declared.event.Reply.{Reply}
+use Rattle.rq_engine.specs.declared.event.Reply.TheVariants as reply
+use Rattle.rq_cases.specs.Applied.{Makes}
+use Rattle.rq_cases.specs.Latches.{LatchesAreJudged, beside, other_send}
+use Rattle.rq_cases.specs.Opened.{over}
+use Rattle.rq_cases.specs.Run.{busy_row, send_started, send_under}
+use Rattle.rq_cases.specs.Store.{sizes}
+use Rattle.rq_cases.proofs.Bounds.{none_first}
+use Rattle.rq_cases.proofs.Running as running
+
+beside_sound : IsSound beside
+beside_sound = begin_sound send_started running.start_send.sound
+
+-- no test tells a refusal
+abbrev first_test : List ℕ → Option Refusal
+first_test body = first_of (tests (size_of sizes) (ledger_of beside) (Start_send t2 (record { sender = 1; tag = 8; body = body })))
+
+passes : Passes (size_of sizes) (ledger_of beside) (Start_send t2 (record { sender = 1; tag = 8; body = [] }))
+passes = (refl, (refl, (refl, (refl, (refl, (refl, (refl, (refl, (refl, (refl, tt))))))))))
+
+no_test : first_test [] ≡ None
+no_test = none_first (tests (size_of sizes) (ledger_of beside) (Start_send t2 (record { sender = 1; tag = 8; body = [] }))) passes
+
+-- two have an operation under way
+abbrev OneGoes : List Row → Type 0
+OneGoes rows = (r q : Row) → In r rows → In q rows → is_some r.under ≡ true → is_some q.under ≡ true → r ≡ q
+
+two_go : (u : Under) → OneGoes (row_started u (fresh_row t2) ∷ send_started.rows) → ⊥
+two_go u one =
+    let e = one (row_started u (fresh_row t2)) (busy_row t1 (send_under 0)) (inl refl) (inr (inl refl)) refl refl in
+    let f : 2 ≡ 1 = ap (λ (r : Row). r.txn.count) e in
+    omega (arith, f)
+
+module _ (pages : MemPages) (log : MemLog) (new : OpenStore MemPages MemLog) (body : Vec ℕ Global) where
+  started : (sub : Sub) → Makes (over beside pages log) (other_send body) (reply.Started sub) new → ⊥
+  started sub a =
+      let is : sub.txn ≡ t2 = a.lists.0 in
+      let u : Under = a.lists.1.under in
+      let rows : new.state.rows ≡ change_row sub.txn (row_started u) beside.rows = ap (λ (x : State). x.rows) a.lists.1.lists in
+      let now : new.state.rows ≡ change_row t2 (row_started u) beside.rows = rows ∙ ap (λ (t : Txn). change_row t (row_started u) beside.rows) is in
+      let k : IsSound new.state = (a.steps (tt, tt) beside_sound).sound in
+      two_go u (subst OneGoes now k.one_going)
+
+  module _ (empty : body.items ≡ []) where
+    -- so a refusal that comes by a test doesn't come
+    no_refusal : (r : Refusal) → first_test body.items ≡ Some r → ⊥
+    no_refusal r e =
+        let f : None ≡ Some r = sym no_test ∙ ap first_test (sym empty) ∙ e in
+        cc f
+
+    abbrev Is : Reply → Type 0
+    Is r = (r ≡ reply.Refused why.Latched) ⊎ (r ≡ reply.Refused why.NoMemory)
+
+    abbrev Made : Reply → Type 0
+    Made r = Makes (over beside pages log) (other_send body) r new
+
+    legal : (r : Refusal) → Made (reply.Refused r) → Legal (size_of sizes) (ledger_of beside) (Refused (call_of (other_send body)) r)
+    legal r a = (let s = a.steps (tt, tt) beside_sound in subst (Legal (size_of sizes) (ledger_of beside)) s.says s.legal)
+
+    refused : (r : Refusal) → Made (reply.Refused r) → Is (reply.Refused r)
+    refused why.NoMemory a = inr refl
+    refused why.Latched a = inl refl
+    refused why.Failed a = absurd (no_refusal why.Failed (legal why.Failed a))
+    refused why.DiskRead a = absurd (a.cause (tt, tt) beside_sound)
+    refused why.UnknownTransaction a = absurd (no_refusal why.UnknownTransaction (legal why.UnknownTransaction a))
+    refused why.NotOpen a = absurd (no_refusal why.NotOpen (legal why.NotOpen a))
+    refused why.Unfinished a = absurd (no_refusal why.Unfinished (legal why.Unfinished a))
+    refused why.UnknownSender a = absurd (no_refusal why.UnknownSender (legal why.UnknownSender a))
+    refused why.TooLong a = absurd (no_refusal why.TooLong (legal why.TooLong a))
+    refused why.SenderBusy a = absurd (no_refusal why.SenderBusy (legal why.SenderBusy a))
+    refused why.Closed a = absurd (no_refusal why.Closed (legal why.Closed a))
+    refused why.ReceiverBusy a = absurd (no_refusal why.ReceiverBusy (legal why.ReceiverBusy a))
+    refused why.Full a = absurd (no_refusal why.Full (legal why.Full a))
+    refused why.PoolFull a = absurd (a.cause (tt, tt) beside_sound)
+    refused why.DiskWrite a = (let e = a.cause (tt, tt) beside_sound in absurd (cc e))
+    refused (why.Damaged d) a = absurd (a.cause (tt, tt) beside_sound)
+    refused why.TooManyTransactions a = absurd (no_refusal why.TooManyTransactions (legal why.TooManyTransactions a))
+    refused why.NotForced a = (let e = a.cause (tt, tt) beside_sound in absurd (cc e))
+    refused why.LogFull a = absurd (no_refusal why.LogFull (legal why.LogFull a))
+    refused why.UnknownOperation a = absurd (no_refusal why.UnknownOperation (legal why.UnknownOperation a))
+
+    answered : (r : Reply) → Made r → Is r
+    answered (reply.Begun t) a = absurd a.lists
+    answered (reply.Started sub) a = absurd (started sub a)
+    answered reply.NoMessage a = absurd a.lists
+    answered (reply.Stepped p) a = absurd a.lists
+    answered (reply.Finished o) a = absurd a.lists
+    answered (reply.Committed number) a = absurd a.lists
+    answered (reply.Acknowledged given) a = absurd a.lists
+    answered reply.HandedOver a = absurd a.lists
+    answered (reply.Forced lsn) a = absurd a.lists
+    answered (reply.Written w) a = absurd a.lists
+    answered (reply.Content groups) a = absurd a.lists
+    answered (reply.Refused r) a = refused r a
+
+pub latches : LatchesAreJudged
+latches = record {
+  sound = beside_sound;
+  latched_or_memory = λ pages log new body r empty a. answered pages log new body empty r a;
+  started_beside = started;
+  latched_by_nobody = λ pages log new body a. (let e = a.cause (tt, tt) running.begin_again.sound in cc e);
+}

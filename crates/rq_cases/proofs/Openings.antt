@@ -1,0 +1,423 @@
+-- What a restart has checked, what it leaves of a log, and why it was refused.
+use Rattle.std.proofs.Common.{◌≡◌, ◌⊎◌, ⊎_elim, ℕ, zero, suc, ◌+◌, ◌-◌, ◌≤◌, ◌<◌, Bool, false, true, List, [], ◌∷◌, ◌++◌, length, drop, refl, sym, ap, ◌∙◌, subst, inl, inr, arith, length-append}
+use Rattle.std.proofs.lemmas.List.{append-nil, length-drop}
+use Rattle.rq_model.specs.declared.record.Record.{Record}
+use Rattle.rq_model.specs.declared.record.Record.TheVariants.{Commit, Restart}
+use Rattle.rq_model.specs.declared.refusal.Refusal.{Refusal}
+use Rattle.rq_model.specs.declared.refusal.Refusal.TheVariants as why
+use Rattle.rq_model.specs.declared.refusal.Damage.TheVariants as damage
+use Rattle.rq_model.specs.History.Call.{Commit as Commit_call}
+use Rattle.rq_model.specs.Incarnations.{ArePlain, incarnation_of, is_plain}
+use Rattle.rq_model.specs.Legal.{Legal}
+use Rattle.rq_disk.specs.Device.{Images}
+use Rattle.rq_disk.specs.Memory.{log_reads}
+use Rattle.rq_disk.specs.declared.mem_log.MemLog.{MemLog}
+use Rattle.rq_disk.specs.declared.mem_pages.MemPages.{MemPages}
+use Rattle.rq_log.specs.Scanned.{IsDamagedBehind, StopsFor}
+use Rattle.rq_log.specs.Spelled.{AreSpelled, IsBeginning, spelled}
+use Rattle.rq_log.proofs.Moments.{started, weaker}
+use Rattle.rq_record.proofs.Spelled.{length-spelling_restart}
+use Rattle.rq_page.specs.Cells.{cell_bytes}
+use Rattle.rq_page.specs.Formatted.{IsHeaderOf}
+use Rattle.rq_page.specs.Pages.{lsn_of, slot_of}
+use Rattle.rq_page.specs.Sizes.{Sizes}
+use Rattle.rq_pool.specs.Reading.{ArePages, IsDamaged, IsSoundPage, IsSuperblock}
+use Rattle.rq_views.specs.WorkedItems.{cell, t1}
+use Rattle.rq_store.specs.Fitting.{FitsLog, image_in, oldest}
+use Rattle.rq_store.specs.Opening.{next_restart}
+use Rattle.rq_store.specs.State.{ledger_of, size_of}
+use Rattle.rq_store.proofs.Cutting.{fits_log_longer}
+use Rattle.rq_store.proofs.Forcing.{refused_steps}
+use Rattle.rq_store.proofs.Formatting.{formatted_fits}
+use Rattle.rq_store.proofs.Opening.{restarted_whole}
+use Rattle.rq_restart.specs.Checked.{IsEnded, IsGoneThrough, as_read}
+use Rattle.rq_restart.specs.Refused.{IsFirstFault, TellsDamage}
+use Rattle.rq_restart.specs.Repeating.{IsFirstBad, Paged, Repeats}
+use Rattle.rq_restart.specs.Restarting.{BeginsAtMost, IsBegunOn, IsRead, LogStops}
+use Rattle.rq_restart.proofs.Parsing.{no_damage, one_log}
+use Rattle.rq_restart.specs.Underway.{OfStores}
+use Rattle.rq_core.specs.Devices.{mem_log, mem_pages}
+use Rattle.rq_cases.specs.Opened.{AreNewPages, IsForcedSince, IsNewLog}
+use Rattle.rq_cases.specs.Openings.{BeginningsAreJudged, Checked, ChecksAreJudged, HoldsBytes, RefusalsAreJudged, Stops, log_next, odd_log}
+use Rattle.rq_cases.specs.Reading.{no_cells, superblock}
+use Rattle.rq_cases.specs.Restarting.{read_pages, repeated_pages}
+use Rattle.rq_cases.specs.Run.{forced, log_1, log_4, log_5}
+use Rattle.rq_cases.specs.Store.{formatted_pages, sizes}
+use Rattle.rq_cases.specs.Worlds.{Hold, crashed_course}
+use Rattle.rq_cases.proofs.Bytes.{first_spelled, free_is, long_log, records_spelled}
+use Rattle.rq_cases.proofs.Held.{log_left, log_now, log_seen, only_records, runs_through}
+use Rattle.rq_cases.proofs.Logs.{no_record}
+use Rattle.rq_cases.proofs.Pages.{are_formatted, range}
+use Rattle.rq_cases.proofs.Reading.{cells_missing, first_block, no_header}
+use Rattle.rq_cases.proofs.Restarting.{formatted_fit, gone, gone_4, is_restart, made_there, no_cell_lsn, odd_bad, odd_record, open_4, pages_seen_are, repeats_1, repeats_5, same_log}
+use Rattle.rq_cases.proofs.Running as running
+use Rattle.rq_cases.proofs.Worlds.{leaves_store, ran_crashed, shuts_with_less, whole}
+
+abbrev rest_of : List Record → List Record
+rest_of [] = []
+rest_of (r ∷ rs) = rs
+
+abbrev begins : List Record → ℕ
+begins (Restart i ∷ log) = i
+begins _ = 0
+
+-- the formatted pages are pages of a store, and are what is seen
+pub formatted_are : ArePages sizes formatted_pages
+formatted_are = record {
+  superblock = first_block;
+  count = refl;
+  sound = λ p low high. record {
+    header = formatted_fit.headers p low high;
+    slots = (formatted_fit.pages p low high).slots;
+  };
+}
+
+-- no cell page is seen
+none_seen : (pages : MemPages) → AreNewPages pages no_cells → mem_pages.seen pages 2 ≡ []
+none_seen pages n = ap (λ (seen : Images). seen 2) (pages_seen_are pages no_cells n)
+
+-- the log that was read
+module _ (pages : MemPages) (log new : MemLog) (last : Paged) (records : List Record) (k : Checked pages log new last records) where
+  read_is : (r : Record) (older : List Record) → records ≡ r ∷ older → older ≡ k.older
+  read_is r older e = ap rest_of (sym e ∙ k.begun)
+
+  none_missing : AreNewPages pages no_cells → ⊥
+  none_missing n =
+      let s : IsSoundPage sizes 2 _ = k.sound.sound 2 (omega arith) (omega arith) in
+      no_header _ 2 2 (subst (IsHeaderOf sizes 2) (k.seen tt 2 (omega arith) ∙ none_seen pages n) s.header)
+
+-- it was not gone through on pages that stayed
+stayed : (pages : MemPages) (log new : MemLog) → AreNewPages pages formatted_pages → Checked pages log new read_pages log_next → ⊥
+stayed pages log new n k =
+    let same : log_5 ≡ k.older = read_is pages log new read_pages log_next k (Restart 2) log_5 refl in
+    let seen = k.seen tt 2 (omega arith) ∙ ap (λ (seen : Images). seen 2) (pages_seen_are pages formatted_pages n) in
+    made_there (as_read sizes k.images) read_pages (ap lsn_of seen ∙ no_cell_lsn) no_cell_lsn
+    (subst (λ (l : List Record). IsGoneThrough sizes l (as_read sizes k.images) read_pages) (sym same) k.gone_through)
+
+pub checks : ChecksAreJudged
+checks = record {
+  checked = λ pages log new h. record {
+    images = formatted_pages;
+    sound = formatted_are;
+    seen = λ honest p low. sym (ap (λ (seen : Images). seen p) (pages_seen_are pages formatted_pages h.0));
+    older = log_5;
+    are_spelled = records_spelled;
+    reads = λ honest. log_seen log log_5 h.1;
+    gone_through = gone;
+    ended = (refl, refl);
+    begun = refl;
+    room = omega arith;
+  };
+  not_repeated = λ pages log new l n k. stayed pages log new n k;
+  no_record = λ pages log new last k. (let f : 0 ≡ 1 = ap is_restart k.begun in omega (arith, f));
+  another_incarnation = λ pages log new last k.
+      (let same : log_5 ≡ k.older = read_is pages log new last (Restart 3 ∷ log_5) k (Restart 3) log_5 refl in
+      let one : 1 ≡ incarnation_of k.older = ap incarnation_of same in
+      let f : 3 ≡ incarnation_of k.older + 1 = ap begins k.begun in
+      omega (arith, one, f));
+  one_open = λ pages log new last k.
+      open_4 (same_log k.older log_4 k.ended (sym (read_is pages log new last (Restart 2 ∷ log_4) k (Restart 2) log_4 refl)));
+  another_log = λ pages log new last n k.
+      (let same : log_5 ≡ k.older = read_is pages log new last log_next k (Restart 2) log_5 refl in
+      let e : spelled log_1 ≡ spelled k.older = sym (log_seen log log_1 n) ∙ k.reads tt in
+      let f : 1 ≡ 5 = ap (λ (l : List Record). length l) (one_log log_1 k.older first_spelled k.are_spelled e ∙ sym same) in
+      omega (arith, f));
+  page_of_none = λ pages log new last records n k. none_missing pages log new last records k n;
+  no_room = λ pages log new last r records long k.
+      (let e : length (r ∷ records) ≡ length (next_restart k.older ∷ k.older) = ap (λ (l : List Record). length l) k.begun in
+      let room = k.room in
+      omega (arith, e, room, long));
+}
+
+-- a log that was only read
+pub only_read : (d : MemLog) → IsRead mem_log d d
+only_read d = record { same = refl; leaves = λ c may. may; moments = started mem_log d (mem_log.may_leave d) (λ c left. log_now d c left) }
+
+-- no log is refused so for these
+never_stops : (z : Sizes) (first : Paged) (old new : MemLog) → LogStops mem_log z first why.Full old new → ⊥
+never_stops z first old new (inl l) = at l.4 where
+  at : IsFirstFault z l.0 first l.2 why.Full → ⊥
+  at (inl f) = subst (λ (r : Refusal). StopsFor mem_log r l.0 old new) (sym f.0) l.3
+  at (inr f) = f.1
+never_stops z first old new (inr r) = r.3
+
+no_first_page : (z : Sizes) (first : Paged) (old new : MemLog) → LogStops mem_log z first (why.Damaged (damage.Page 0)) old new → ⊥
+no_first_page z first old new (inl l) = at l.4 where
+  at : IsFirstFault z l.0 first l.2 (why.Damaged (damage.Page 0)) → ⊥
+  at (inl f) = subst (λ (r : Refusal). StopsFor mem_log r l.0 old new) (sym f.0) l.3
+  at (inr f) = f.1
+no_first_page z first old new (inr r) =
+    ⊎_elim (λ u. (let low = u.low in omega (arith, low))) (λ u. (let low = u.1.low in omega (arith, low))) r.3.0.beyond
+
+-- as unfinished only where something is, and then the log was only read
+unfinished_read : (z : Sizes) (first : Paged) (old new : MemLog) → LogStops mem_log z first why.Unfinished old new
+    → ((older : List Record) × AreSpelled older × (mem_log.seen old ≡ spelled older) × (IsEnded older → ⊥) × IsRead mem_log old new)
+unfinished_read z first old new (inl l) = absurd (at l.4) where
+  at : IsFirstFault z l.0 first l.2 why.Unfinished → ⊥
+  at (inl f) = subst (λ (r : Refusal). StopsFor mem_log r l.0 old new) (sym f.0) l.3
+  at (inr f) = f.1
+unfinished_read z first old new (inr r) = (r.0, r.1, r.2 tt, r.3.0, r.3.2)
+
+all_ended : (z : Sizes) (first : Paged) (old new : MemLog) → IsNewLog old log_5 → LogStops mem_log z first why.Unfinished old new → ⊥
+all_ended z first old new n s =
+    let u = unfinished_read z first old new s in
+    let same : log_5 ≡ u.0 = one_log log_5 u.0 records_spelled u.1 (sym (log_seen old log_5 n) ∙ u.2) in
+    u.3 (same_log log_5 u.0 (refl, refl) same)
+
+open_here : (d : MemLog) → IsNewLog d log_4 → Stops why.Unfinished d d
+open_here d n = inr (log_4, records_spelled.1, λ honest. log_seen d log_4 n, (open_4, (repeated_pages, gone_4), only_read d))
+
+-- records with a byte behind them
+bytes_seen : (d : MemLog) (bytes : List ℕ) → HoldsBytes d bytes → mem_log.seen d ≡ bytes
+bytes_seen d bytes h = ap log_reads h.log ∙ append-nil bytes
+
+damaged_there : (d : MemLog) (records : List Record) → HoldsBytes d (spelled records ++ 0 ∷ []) → IsDamagedBehind records (mem_log.seen d)
+damaged_there d records h = record {
+  rest = 0 ∷ [];
+  some = λ e. cc e;
+  bad = no_record;
+  is = bytes_seen d (spelled records ++ 0 ∷ []) h;
+}
+
+odd_spelled : AreSpelled odd_log
+odd_spelled = (free_is, first_spelled)
+
+fault_first : IsFirstFault sizes odd_log read_pages (why.Damaged (damage.Record 3)) (why.Damaged (damage.Record 2))
+fault_first = inr (
+  tt,
+  record { older = log_1; newest = odd_record; are = refl; place = refl; mid = read_pages; repeated = repeats_1; bad = odd_bad },
+)
+
+-- a device of fourteen bytes holds one record at most
+module _ (old new : MemLog) (h : HoldsBytes old (spelled log_1 ++ 0 ∷ [])) where
+  few : (front : List Record) → AreSpelled front → IsDamagedBehind front (mem_log.seen old) → length front ≤ 1
+  few front told d =
+      let long = long_log front told in
+      let e : length (spelled log_1 ++ 0 ∷ []) ≡ length (spelled front ++ d.rest) = ap length (sym (bytes_seen old (spelled log_1 ++ 0 ∷ []) h) ∙ d.is) in
+      let a = length-append (spelled log_1) (0 ∷ []) in
+      let b = length-append (spelled front) d.rest in
+      let first : length (spelled log_1) ≡ 13 = length-spelling_restart 1 in
+      omega (arith, long, e, a, b, first)
+
+  -- where reading stopped for damage, it stands behind what was read
+  behind : (front : List Record) (r : Refusal) → TellsDamage r → StopsFor mem_log r front old new → IsDamagedBehind front (mem_log.seen old)
+  behind front (why.Damaged (damage.Record lsn)) told s = s.1 tt
+  behind front (why.Damaged (damage.Page page)) told s = absurd s
+  behind front _ told s = absurd told
+
+  third : Stops (why.Damaged (damage.Record 3)) old new → ⊥
+  third (inl l) = at l.4 where
+    at : IsFirstFault sizes l.0 read_pages l.2 (why.Damaged (damage.Record 3)) → ⊥
+    at (inl f) =
+        let s : StopsFor mem_log (why.Damaged (damage.Record 3)) l.0 old new = subst (λ (r : Refusal). StopsFor mem_log r l.0 old new) (sym f.0) l.3 in
+        let n : 3 ≡ length l.0 + 1 = s.0 in
+        let m = few l.0 l.1 (s.1 tt) in
+        omega (arith, n, m)
+    at (inr f) =
+        let m = few l.0 l.1 (behind l.0 l.2 f.0 l.3) in
+        let b : IsFirstBad sizes l.0 read_pages 3 = f.1 in
+        let p = b.place in
+        let e : length (oldest 3 l.0) ≡ length (b.newest ∷ b.older) = ap (λ (x : List Record). length x) b.are in
+        let d = length-drop (length l.0 - 3) l.0 in
+        omega (arith, m, p, e, d)
+  third (inr r) = no_damage r.0 log_1 r.1 first_spelled (subst (λ (b : List ℕ). IsDamagedBehind log_1 b) (r.2 tt) (damaged_there old log_1 h))
+
+-- behind a record that doesn't belong the log is not gone through
+odd_stops : (last : Paged) → Repeats sizes odd_log read_pages last → ⊥
+odd_stops last r =
+    let one = r.1 in
+    let same : r.0.image 2 ≡ read_pages.image 2 = one.2.redone 2 ∙ ap (λ (m : Paged). m.image 2) one.1 in
+    odd_bad (record {
+      next = r.2.belongs.next;
+      may = record {
+        write = r.2.belongs.may.write;
+        before = subst (λ (image : List ℕ). lsn_of image < 2 → slot_of 1 image ≡ cell_bytes (cell 0)) same r.2.belongs.may.before;
+      };
+    })
+
+not_first : IsFirstFault sizes odd_log read_pages (why.Damaged (damage.Record 3)) (why.Damaged (damage.Record 3)) → ⊥
+not_first (inl f) = (let w = f.1 tt in odd_stops w.0 w.1)
+not_first (inr f) =
+    let b : IsFirstBad sizes odd_log read_pages 3 = f.1 in
+    let p = b.place in
+    let e : 2 ≡ length (b.newest ∷ b.older) = ap (λ (x : List Record). length x) b.are in
+    omega (arith, p, e)
+
+told_so : (z : Sizes) (front : List Record) (first : Paged) → IsFirstFault z front first why.DiskRead why.NoMemory → ⊥
+told_so z front first (inl f) = (let e = f.0 in cc e)
+told_so z front first (inr f) = f.0
+
+-- what is damaged of the pages
+first_seen : (pages : MemPages) → AreNewPages pages formatted_pages → mem_pages.seen pages 0 ≡ superblock
+first_seen pages n = ap (λ (seen : Images). seen 0) (pages_seen_are pages formatted_pages n)
+
+not_block : (pages : MemPages) → AreNewPages pages formatted_pages → IsDamaged (mem_pages.seen pages) 0 → ⊥
+not_block pages n (inl d) = d.1 sizes (subst (IsSuperblock sizes) (sym (first_seen pages n)) first_block)
+not_block pages n (inr d) = (let low = d.1.low in omega (arith, low))
+
+pub refusals : RefusalsAreJudged
+refusals = record {
+  page_damaged = λ pages log n. inl (
+    (λ honest. subst (λ (seen : Images). IsDamaged seen 2) (sym (pages_seen_are pages no_cells n)) cells_missing, refl),
+    refl,
+  );
+  no_page_damaged = λ pages new_pages log new_log n s.
+      ⊎_elim (λ p. not_block pages n (p.0.0 tt)) (λ l. no_first_page l.0 _ log new_log l.5) s;
+  read_failed = λ pages new log e. inl (e, refl);
+  unfinished = λ pages log h. inr (
+    sizes,
+    formatted_pages,
+    formatted_are,
+    λ honest p low. sym (ap (λ (seen : Images). seen p) (pages_seen_are pages formatted_pages h.0)),
+    refl,
+    open_here log h.1,
+  );
+  though_all_ended = λ pages new_pages log new_log n s. ⊎_elim (λ p. p.0) (λ l. all_ended l.0 _ log new_log n l.5) s;
+  log_touched = λ pages new_pages log new_log other s.
+      ⊎_elim (λ p. p.0) (λ l. other (unfinished_read l.0 _ log new_log l.5).4.same) s;
+  otherwise = λ pages new_pages log new_log s. ⊎_elim (λ p. p.0) (λ l. never_stops l.0 _ log new_log l.5) s;
+  one_open = open_here;
+  none_open = λ old new n s. all_ended sizes read_pages old new n s;
+  damaged_behind = λ d h. inl (
+    log_1,
+    first_spelled,
+    why.Damaged (damage.Record 2),
+    (refl, λ honest. damaged_there d log_1 h, refl),
+    inl (refl, λ told. (read_pages, repeats_1)),
+    only_read d,
+  );
+  damaged_elsewhere = third;
+  first_of_two = λ d h. inl (
+    odd_log,
+    odd_spelled,
+    why.Damaged (damage.Record 3),
+    (refl, λ honest. damaged_there d odd_log h, refl),
+    fault_first,
+    only_read d,
+  );
+  as_it_stopped = inl (refl, λ told. absurd told);
+  damage_behind = inl (refl, λ told. (repeated_pages, repeats_5));
+  fault_before = fault_first;
+  not_the_first = not_first;
+  told_otherwise = told_so;
+  begins_not_for_room = λ last before. (inl (omega arith), tt);
+  begins_not_of_five = λ s. ⊎_elim (λ e. omega (arith, e)) (λ e. omega (arith, e)) s.0;
+  may_be_shut = λ left none lost. cc lost;
+  may_not_be_shut = λ s. s tt refl refl;
+  damaged_though_left = λ d s. s tt;
+}
+
+next_spelled : AreSpelled log_next
+next_spelled = ((omega arith, omega arith), records_spelled)
+
+commit_spelled : AreSpelled (Commit t1 ∷ log_1)
+commit_spelled = (records_spelled.0, first_spelled)
+
+same_length : (a b : List Record) → AreSpelled a → AreSpelled b → spelled a ≡ spelled b → length a ≡ length b
+same_length a b h k e = ap (λ (l : List Record). length l) (one_log a b h k e)
+
+-- the record of the next incarnation is added, and forced
+module _ (old new : MemLog) (n : IsNewLog old log_5) where
+  as_it_was_or_begun : (c : List ℕ) → IsBeginning log_next 5 c → mem_log.may_leave old c ⊎ IsBegunOn (mem_log.seen old) c
+  as_it_was_or_begun c b = at b.0 b.1 b.2 where
+    at : (lost : ℕ) → lost + 5 ≤ 6 → c ≡ spelled (drop lost log_next) → mem_log.may_leave old c ⊎ IsBegunOn (mem_log.seen old) c
+    at zero le e = inr (record { older = log_5; are_spelled = next_spelled; reads = log_seen old log_5 n; ended = (refl, refl); is = e })
+    at (suc zero) le e = inl (subst (mem_log.may_leave old) (sym e) (log_left old log_5 n))
+    at (suc (suc lost)) le e = absurd (omega (arith, le))
+
+  added : IsForcedSince old new (spelled (Restart 2 ∷ [])) → BeginsAtMost mem_log old new
+  added f honest =
+      weaker mem_log old new (IsBeginning log_next 5) (λ c. mem_log.may_leave old c ⊎ IsBegunOn (mem_log.seen old) c)
+      (runs_through log_next 5 1 next_spelled (omega arith) old new n f) as_it_was_or_begun
+
+-- what is left then is no log without that record
+begun_without : (read : List ℕ) (log : List Record) → AreSpelled log → is_restart log ≡ 0 → IsBegunOn read (spelled log) → ⊥
+begun_without read log told none k =
+    let f : is_restart log ≡ 1 = ap is_restart (one_log log (next_restart k.older ∷ k.older) told k.are_spelled k.is) in
+    omega (arith, none, f)
+
+-- plain records behind
+abbrev newest_is_plain : List Record → Bool
+newest_is_plain [] = true
+newest_is_plain (r ∷ log) = is_plain r
+
+no_commit_behind : (more now : List Record) → ArePlain more → more ++ log_1 ≡ now → now ≡ Commit t1 ∷ log_1 → ⊥
+no_commit_behind [] now plain e f = (let n : 1 ≡ 2 = ap (λ (l : List Record). length l) (e ∙ f) in omega (arith, n))
+no_commit_behind (r ∷ more) now plain e f =
+    let b : is_plain r ≡ false = ap newest_is_plain (e ∙ f) in
+    let same = sym plain.0 ∙ b in
+    cc same
+
+commit_behind : (log : MemLog) → IsNewLog log log_1 → (now : List Record) → now ≡ Commit t1 ∷ log_1
+    → mem_log.may_leave log (spelled (Commit t1 ∷ log_1)) ⊎ ((more : List Record) × (more ++ log_1 ≡ now) × ArePlain more) → ⊥
+commit_behind log n now is (inl may) =
+    (let e : 2 ≡ 1 = same_length (Commit t1 ∷ log_1) log_1 commit_spelled first_spelled (only_records log log_1 n (spelled (Commit t1 ∷ log_1)) may) in omega (arith, e))
+commit_behind log n now is (inr more) = no_commit_behind more.0 now more.2 more.1 is
+
+next_fit : FitsLog sizes (image_in formatted_pages) log_next
+next_fit = fits_log_longer sizes (image_in formatted_pages) [] log_next (6, refl) (formatted_fits sizes (image_in formatted_pages) range are_formatted)
+
+pub beginnings : BeginningsAreJudged
+beginnings = record {
+  begun = λ d. record { records = refl; forced = refl; running = refl };
+  begun_without_a_record = λ d b. (let f : 5 ≡ 6 = ap (λ (l : List Record). length l) b.records in omega (arith, f));
+  begun_the_same = λ d b. (let f : 1 ≡ 2 = ap begins b.records in omega (arith, f));
+  begun_and_not_forced = λ d b. (let f : 5 ≡ 6 = b.forced in omega (arith, f));
+  begun_and_failed = λ d b. (let f = b.running in cc f);
+  ready = λ d n. record {
+    begun = omega arith;
+    running = refl;
+    count = omega arith;
+    reads = λ honest. log_seen d log_next n;
+    durable = λ honest c may. only_records d log_next n c may;
+    settled = λ c may. only_records d log_next n c may ∙ sym (log_seen d log_next n);
+  };
+  ready_for_none = λ log r. (let f = r.begun in omega (arith, f));
+  ready_and_failed = λ i log fails r. (let f = sym fails ∙ r.running in cc f);
+  ready_and_too_long = λ i log long r. (let f = r.count in omega (arith, f, long));
+  ready_behind_its_device = λ d n r.
+      (let f : 5 ≡ 6 = same_length log_5 log_next records_spelled next_spelled (sym (log_seen d log_5 n) ∙ r.reads tt) in omega (arith, f));
+  ready_and_not_forced = λ d may r.
+      (let f : 5 ≡ 6 = same_length log_5 log_next records_spelled next_spelled (r.durable tt (spelled log_5) may) in omega (arith, f));
+  nothing_done = λ d honest. started mem_log d (λ c. mem_log.may_leave d c ⊎ IsBegunOn (mem_log.seen d) c) (λ c left. inl (log_now d c left));
+  record_forced = λ old new n f. added old new n f;
+  record_lost = λ old new n left b.
+      ⊎_elim
+      (λ may. (let f : 4 ≡ 5 = same_length log_4 log_5 records_spelled.1 records_spelled (only_records old log_5 n (spelled log_4) may) in omega (arith, f)))
+      (begun_without (mem_log.seen old) log_4 records_spelled.1 refl) ((b tt).each (spelled log_4) left);
+  commit_added = λ old new n left b.
+      ⊎_elim
+      (λ may. (let f : 2 ≡ 1 = same_length (Commit t1 ∷ log_1) log_1 commit_spelled first_spelled (only_records old log_1 n (spelled (Commit t1 ∷ log_1)) may) in omega (arith, f)))
+      (begun_without (mem_log.seen old) (Commit t1 ∷ log_1) commit_spelled refl)
+      ((b tt).each (spelled (Commit t1 ∷ log_1)) left);
+  of_stores = λ pages log new h honest z read told is each.
+      one_log read log_5 told records_spelled (sym is ∙ log_seen log log_5 h.1);
+  of_other_stores = λ pages log new h q.
+      (let e : 5 ≡ 4 = ap (λ (l : List Record). length l) (told_of (λ z read. read ≡ log_4) pages log new h q) in omega (arith, e));
+  of_no_store = λ pages log new h q. told_of (λ z read. ⊥) pages log new h q;
+  goes_on = λ log. (
+    log_next,
+    record {
+      are_spelled = next_spelled;
+      is = refl;
+      left = record { whole = restarted_whole sizes log_5 whole refl refl; fits = next_fit };
+    },
+    inr (Restart 2 ∷ [], refl, (refl, tt)),
+  );
+  goes_on_with_a_commit = λ log images n k.
+      commit_behind log n k.0 (sym (one_log (Commit t1 ∷ log_1) k.0 commit_spelled k.1.are_spelled k.1.is)) k.2;
+  stays_shut = λ pages log z course r. (r.stands, tt);
+  shut_for_damage = λ pages new_pages log new_log d h g. (g sizes crashed_course (ran_crashed pages log h)).1;
+  shut_with_less = λ pages new_pages log new_log r h n g.
+      shuts_with_less new_pages new_log n (g sizes crashed_course (ran_crashed pages log h)).0;
+  refuses = λ k. (refused_steps forced k (Commit_call t1) why.UnknownTransaction refl refl, tt);
+  refuses_without_reason = λ r.
+      (let s = (r running.force.sound).0 in
+      let e = subst (Legal (size_of sizes) (ledger_of forced)) s.says s.legal in
+      cc e);
+  refuses_without_cause = λ r. (let e = (r running.force.sound).1 in cc e);
+} where
+  told_of : (Q : Sizes → List Record → Type 0) (pages : MemPages) (log new : MemLog) → Hold pages formatted_pages log log_5 → OfStores mem_pages mem_log pages log new Q → Q sizes log_5
+  told_of Q pages log new h q =
+      q tt sizes log_5 records_spelled (log_seen log log_5 h.1)
+      (λ images bytes a b. (log_5, leaves_store pages log h images bytes a b))

@@ -1,0 +1,6 @@
+use Rattle.rq_core.specs.Worked.{small}
+use Rattle.rq_cases.proofs.Crashes.{crashes}
+use Rattle.rq_cases.proofs.crashes_are_judged.Goals as goal
+
+pub returns : goal.returns
+returns c = crashes (c.crash_goes_on.ensures small)

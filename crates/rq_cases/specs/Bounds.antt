@@ -1,0 +1,107 @@
+-- A log at its bound: calls that just fit, and calls that are refused.
+use Rattle.std.specs.Prelude.{◌≡◌, ℕ, zero, suc, ◌+◌, ◌*◌, ◌^◌, ◌<◌, ◌≤◌, Bool, false, true, List, [], ◌∷◌, length}
+use Rattle.rq_model.specs.declared.record.Record.{Record}
+use Rattle.rq_model.specs.declared.refusal.Refusal.TheVariants as why
+use Rattle.rq_model.specs.declared.txn.Txn.{Txn}
+use Rattle.rq_model.specs.History.Call.{Commit, Start_send}
+use Rattle.rq_model.specs.Incarnations.{incarnation_of}
+use Rattle.rq_model.specs.Replay.{Number}
+use Rattle.rq_model.specs.Replay.Reply.{Gave_commit, Gave_refusal, Gave_sub}
+use Rattle.rq_model.specs.Tests.{log_full}
+use Rattle.rq_disk.specs.declared.mem_log.MemLog.{MemLog}
+use Rattle.rq_disk.specs.declared.mem_pages.MemPages.{MemPages}
+use Rattle.rq_txn.specs.Rows.{fresh_row}
+use Rattle.rq_store.specs.Opening.{next_restart, opened}
+use Rattle.rq_store.specs.Sound.{IsSound}
+use Rattle.rq_store.specs.State.{State, ledger_of}
+use Rattle.rq_store.specs.Steps.{Steps}
+use Rattle.rq_engine.specs.Kept.{IsKept, total_of}
+use Rattle.rq_engine.specs.Opened.{OpenStore}
+use Rattle.rq_engine.specs.declared.event.CommitNo.{CommitNo}
+use Rattle.rq_engine.specs.declared.event.Event.TheVariants as event
+use Rattle.rq_engine.specs.declared.event.Reply.TheVariants as reply
+use Rattle.rq_cases.specs.Applied.{Makes, MeetsAll}
+use Rattle.rq_cases.specs.Opened.{over}
+use Rattle.rq_cases.specs.Openings.{IsRefused}
+use Rattle.rq_cases.specs.Run.{send_started}
+use Rattle.rq_cases.specs.Sound.{hello}
+use Rattle.rq_cases.specs.Store.{formatted_pages, sizes}
+use Rattle.rq_cases.specs.Worlds.{Hold}
+
+-- a store that was opened so often, one time after the other
+abbrev pub restarts : ℕ → List Record
+restarts zero = []
+restarts (suc n) = next_restart (restarts n) ∷ restarts n
+
+abbrev pub just_opened : ℕ → State
+just_opened n = opened sizes formatted_pages (restarts n)
+
+-- then a transaction is begun
+abbrev pub only_one : ℕ → Txn
+only_one n = record { incarnation = incarnation_of (restarts n) + 1; count = 1 }
+
+abbrev pub one_begun : ℕ → State
+one_begun n = record (just_opened n) { rows = fresh_row (only_one n) ∷ []; begins = 1 }
+
+-- its commit is answered
+abbrev pub Commits : ℕ → Number → State → Type 0
+Commits n number new = Steps (one_begun n) (Commit (only_one n)) (Gave_commit number) new
+
+-- or the log is full for it
+abbrev pub IsFull : ℕ → State → Type 0
+IsFull n new = Steps (one_begun n) (Commit (only_one n)) (Gave_refusal why.LogFull) new
+
+-- the start of a send is answered, or the log is full for it
+abbrev pub Sends : ℕ → ℕ → State → Type 0
+Sends n number new = Steps (one_begun n) (Start_send (only_one n) hello) (Gave_sub (only_one n) number) new
+
+abbrev pub IsFullForSend : ℕ → State → Type 0
+IsFullForSend n new = Steps (one_begun n) (Start_send (only_one n) hello) (Gave_refusal why.LogFull) new
+
+-- whether a commit passes the bound where a send is under way over a log of so many records
+abbrev pub full_beside : ℕ → Bool
+full_beside n = log_full (record (ledger_of send_started) { records = n }) 1
+
+pub record BoundsAreJudged : Type 0 where
+  -- over a log of n + 1 records
+  pub sound : (n : ℕ) → IsSound (one_begun n)
+  pub records_are : (n : ℕ) → length (one_begun n).records ≡ n + 1
+  -- a commit takes one
+  pub commit_fits : (n : ℕ) → n + 2 ≤ 2 ^ 50
+      → (new : State) × Commits n (record { txn = only_one n; lsn = length (one_begun n).records + 1 }) new
+  pub commit_is_full : (n : ℕ) → 2 ^ 50 ≤ n + 1 → IsFull n (one_begun n)
+  pub full_where_it_fits : (n : ℕ) (new : State) → n + 2 ≤ 2 ^ 50 → IsFull n new → ⊥
+  pub fits_where_it_is_full : (n : ℕ) (number : Number) (new : State) → 2 ^ 50 ≤ n + 1 → Commits n number new → ⊥
+  -- a send takes four at most
+  pub send_fits : (n : ℕ) → n + 5 ≤ 2 ^ 50 → (new : State) × Sends n 1 new
+  pub send_is_full : (n : ℕ) → 2 ^ 50 < n + 5 → IsFullForSend n (one_begun n)
+  pub full_where_a_send_fits : (n : ℕ) (new : State) → n + 5 ≤ 2 ^ 50 → IsFullForSend n new → ⊥
+  pub send_where_it_is_full : (n number : ℕ) (new : State) → 2 ^ 50 < n + 5 → Sends n number new → ⊥
+  -- what an operation under way has yet to log is kept for it: here two writes and its end
+  pub fits_beside : (n : ℕ) → n + 4 ≤ 2 ^ 50 → full_beside n ≡ false
+  pub full_beside_it : (n : ℕ) → 2 ^ 50 < n + 4 → full_beside n ≡ true
+  -- the whole call, over devices in memory
+  pub before_the_commit : (n : ℕ) (pages : MemPages) (log : MemLog)
+      → Hold pages formatted_pages log (restarts (suc n)) → MeetsAll (over (one_begun n) pages log)
+  pub commit_refused : (n : ℕ) (pages : MemPages) (log : MemLog) → 2 ^ 50 ≤ n + 1 → n + 1 < 2 ^ 64
+      → Hold pages formatted_pages log (restarts (suc n))
+      → Makes (over (one_begun n) pages log) (event.Commit (only_one n)) (reply.Refused why.LogFull)
+      (over (one_begun n) pages log)
+  pub refused_where_it_fits : (n : ℕ) (pages : MemPages) (log : MemLog) (new : OpenStore MemPages MemLog)
+      → n + 2 ≤ 2 ^ 50
+      → Makes (over (one_begun n) pages log) (event.Commit (only_one n)) (reply.Refused why.LogFull) new → ⊥
+  pub committed_where_it_is_full : (n : ℕ) (pages : MemPages) (log : MemLog) (number : CommitNo)
+      (new : OpenStore MemPages MemLog) → 2 ^ 50 ≤ n + 1
+      → Makes (over (one_begun n) pages log) (event.Commit (only_one n)) (reply.Committed number) new → ⊥
+  -- a restart takes one, too
+  pub restart_is_full : (n : ℕ) (pages : MemPages) (log : MemLog) → 2 ^ 50 ≤ n → n < 2 ^ 64
+      → Hold pages formatted_pages log (restarts n) → IsRefused pages log why.LogFull pages log
+  pub restart_full_where_it_fits : (n : ℕ) (pages new_pages : MemPages) (log new_log : MemLog) → n < 2 ^ 50
+      → Hold pages formatted_pages log (restarts n)
+      → IsRefused pages log why.LogFull new_pages new_log → ⊥
+  -- the bytes for it are reserved, and no more: two slot writes, and an end with its deed
+  pub room_kept : IsKept send_started false 3 (546 * 2 + 60)
+  pub less_room : IsKept send_started false 3 (546 * 2 + 59) → ⊥
+  pub another_count : IsKept send_started false 2 (546 * 2 + 60) → ⊥
+  pub over_the_bound : (s : State) (failed : Bool) (owed reserved : ℕ) → 2 ^ 50 < total_of s
+      → IsKept s failed owed reserved → ⊥

@@ -1,0 +1,112 @@
+-- Runs of calls of both devices, crashes that a course may meet, and pages and logs over their devices: over the worked
+-- run, and what isn't so.
+use Rattle.std.specs.Prelude.{◌≡◌, ◌≢◌, ℕ, ◌<◌, Bool, false, true, List, [], ◌∷◌, length, take, Vec}
+use Rattle.std.specs.declared.alloc.Global.{Global}
+use Rattle.rq_model.specs.declared.record.Record.{Record}
+use Rattle.rq_model.specs.History.Call.{Begin, Force}
+use Rattle.rq_model.specs.Replay.Reply.{Gave_forced}
+use Rattle.rq_disk.specs.Device.{Images, Leaves}
+use Rattle.rq_disk.specs.declared.mem_log.LogCall.TheVariants.{Append}
+use Rattle.rq_disk.specs.declared.mem_log.MemLog.{MemLog}
+use Rattle.rq_disk.specs.declared.mem_pages.MemPages.{MemPages}
+use Rattle.rq_log.specs.Logged.{WasDurable}
+use Rattle.rq_log.specs.Spelled.{AreSpelled, spelled}
+use Rattle.rq_pool.specs.Pooled.{AreOver, IsPool}
+use Rattle.rq_engine.specs.Crash.{RunsThroughCuts}
+use Rattle.rq_engine.specs.Devices.{Path}
+use Rattle.rq_engine.specs.Opened.{OpenStore}
+use Rattle.rq_core.specs.Devices.{mem_log, mem_pages}
+use Rattle.rq_core.specs.Happenings.{Course, Happening}
+use Rattle.rq_core.specs.Happenings.Answer.{Answered}
+use Rattle.rq_core.specs.Happenings.Happening.{Asks, Crashes, Stops_in, Stops_restart}
+use Rattle.rq_core.specs.Runs.{CanCrash}
+use Rattle.rq_cases.specs.Courses as courses
+use Rattle.rq_cases.specs.Opened.{AreNewPages, IsForcedSince, IsNewLog, over}
+use Rattle.rq_cases.specs.Openings.{logged}
+use Rattle.rq_cases.specs.Reading.{no_cells, superblock}
+use Rattle.rq_cases.specs.Run.{committed, forced, log_1, log_5}
+use Rattle.rq_cases.specs.Store.{formatted_pages, sent_pages, sizes}
+use Rattle.rq_cases.specs.Worlds.{Hold, course_to}
+
+-- a run of calls of devices in memory, at each moment of which each pair that a crash may leave has this
+abbrev pub Passes : (Images → List ℕ → Type 0) → MemPages → MemLog → MemPages → MemLog → Type 0
+Passes Q pages log new now = Path mem_pages mem_log Q pages log new now
+
+-- it leaves this log at no moment, or these pages
+abbrev pub NeverLeaves : List ℕ → MemPages → MemLog → MemPages → MemLog → Type 0
+NeverLeaves bytes = Passes (λ images left. left ≢ bytes)
+
+abbrev pub NeverLeavesPages : Images → MemPages → MemLog → MemPages → MemLog → Type 0
+NeverLeavesPages images = Passes (λ left bytes. left ≢ images)
+
+abbrev pub Through : OpenStore MemPages MemLog → OpenStore MemPages MemLog → Type 0
+Through old new = RunsThroughCuts mem_pages mem_log old new
+
+pub record RunsAreJudged : Type 0 where
+  -- before its first call, behind its last, or between
+  pub left_at_its_start : (pages new : MemPages) (log now : MemLog) (bytes : List ℕ) → mem_log.may_leave log bytes
+      → NeverLeaves bytes pages log new now → ⊥
+  pub left_at_its_end : (pages new : MemPages) (log now : MemLog) (bytes : List ℕ) → mem_log.may_leave now bytes
+      → NeverLeaves bytes pages log new now → ⊥
+  pub left_between : (pages new : MemPages) (log now : MemLog) (bytes : List ℕ)
+      → mem_log.left_since now (mem_log.moment log) bytes → NeverLeaves bytes pages log new now → ⊥
+  pub pages_left_at_its_start : (pages new : MemPages) (log now : MemLog) (images : Images)
+      → Leaves (mem_pages.may_be pages) images → NeverLeavesPages images pages log new now → ⊥
+  pub pages_left_at_its_end : (pages new : MemPages) (log now : MemLog) (images : Images)
+      → Leaves (mem_pages.may_be new) images → NeverLeavesPages images pages log new now → ⊥
+  pub no_call : (pages : MemPages) (log : MemLog) (bytes : List ℕ) → (mem_log.may_leave log bytes → ⊥)
+      → NeverLeaves bytes pages log pages log
+  -- a force goes through cuts of the store's records
+  pub force : (pages : MemPages) (old new : MemLog) → Hold pages formatted_pages old log_1
+      → IsForcedSince old new (spelled (take 4 log_5))
+      → Through (over committed pages old) (over forced pages new)
+  pub page_ahead : (pages : MemPages) (log : MemLog) (new : OpenStore MemPages MemLog) → Hold pages sent_pages log log_1
+      → Through (over committed pages log) new → ⊥
+  pub forced_lost_between : (pages : MemPages) (log : MemLog) (new : OpenStore MemPages MemLog)
+      → mem_log.left_since new.log (mem_log.moment log) (spelled log_1) → Through (over forced pages log) new → ⊥
+  pub half_a_record_at_its_end : (old new : OpenStore MemPages MemLog) → mem_log.may_leave new.log (0 ∷ [])
+      → Through old new → ⊥
+
+-- the power may fail so behind this course
+abbrev pub MayFail : Course → Happening → MemPages → MemLog → Type 0
+MayFail course x pages log = CanCrash sizes course x pages log
+
+pub record CrashesAreJudged : Type 0 where
+  pub once_forced : (pages : MemPages) (log : MemLog) → Hold pages formatted_pages log log_5
+      → MayFail (course_to 9) Crashes pages log
+  pub in_a_force : (pages : MemPages) (log : MemLog) → Hold pages formatted_pages log log_5
+      → MayFail (course_to 9) (Stops_in Force) pages log
+  pub in_a_begin : (course : Course) (pages : MemPages) (log : MemLog) → MayFail course (Stops_in Begin) pages log → ⊥
+  pub in_a_restart_of_an_open_store : (pages : MemPages) (log : MemLog)
+      → MayFail courses.opened Stops_restart pages log → ⊥
+  pub by_a_call : (course : Course) (pages : MemPages) (log : MemLog) → MayFail course (Asks Force) pages log → ⊥
+  pub leaves_half_a_record : (course : Course) (x : Happening) (pages : MemPages) (log : MemLog)
+      → mem_log.may_leave log (0 ∷ []) → MayFail course x pages log → ⊥
+  pub leaves_less_than_was_forced : (course : Course) (x : Happening) (pages : MemPages) (log : MemLog)
+      (records : List Record) (n : ℕ) → AreSpelled records → length records < n
+      → mem_log.may_leave log (spelled records)
+      → MayFail ((Asks Force, Answered (Gave_forced n)) ∷ course) x pages log → ⊥
+
+-- these bytes were handed to the log's device, which was not forced since
+pub record IsHandedSince (old new : MemLog) (bytes : List ℕ) : Type 0 where
+  pub run : Vec ℕ Global
+  pub items : run.items ≡ bytes
+  pub first : take new.first new.bytes.items ≡ take old.first old.bytes.items
+  pub calls : new.calls.items ≡ Append run ∷ []
+
+pub record PoolsAreJudged : Type 0 where
+  pub pool : IsPool sizes sent_pages
+  pub no_cell_page : IsPool sizes no_cells → ⊥
+  pub too_few_pages : IsPool sizes (superblock ∷ []) → ⊥
+  pub no_superblock : IsPool sizes ([] ∷ [] ∷ [] ∷ []) → ⊥
+  -- pages that were not changed stand so on their device
+  pub over_their_device : (d : MemPages) → AreNewPages d formatted_pages
+      → AreOver mem_pages d sizes sent_pages (false ∷ true ∷ true ∷ [])
+  pub change_not_marked : (d : MemPages) → AreNewPages d formatted_pages
+      → AreOver mem_pages d sizes sent_pages (false ∷ true ∷ false ∷ []) → ⊥
+  pub too_few_marks : (d : MemPages) (images : List (List ℕ)) (b : Bool) → AreOver mem_pages d sizes images (b ∷ []) → ⊥
+  pub over_no_pages : (d : MemPages) (changed : List Bool) → AreOver mem_pages d sizes no_cells changed → ⊥
+  -- a crash would have left the log that was read, or forced, and nothing else
+  pub was_durable : (d : MemLog) → IsNewLog d log_5 → WasDurable mem_log (logged log_5 d)
+  pub only_handed_over : (old d : MemLog) → IsNewLog old log_1 → IsHandedSince old d (spelled (take 4 log_5))
+      → WasDurable mem_log (logged log_5 d) → ⊥

@@ -1,0 +1,40 @@
+-- A call beside an operation that is under way: it is refused as latched, if memory is not wanting.
+use Rattle.std.specs.Prelude.{◌≡◌, ◌⊎◌, ℕ, ◌∷◌, [], Vec}
+use Rattle.std.specs.declared.alloc.Global.{Global}
+use Rattle.rq_model.specs.declared.refusal.Refusal.TheVariants as why
+use Rattle.rq_model.specs.declared.txn.Sub.{Sub}
+use Rattle.rq_disk.specs.declared.mem_log.MemLog.{MemLog}
+use Rattle.rq_disk.specs.declared.mem_pages.MemPages.{MemPages}
+use Rattle.rq_views.specs.WorkedItems.{t2}
+use Rattle.rq_txn.specs.Rows.{fresh_row}
+use Rattle.rq_store.specs.Sound.{IsSound}
+use Rattle.rq_store.specs.State.{State}
+use Rattle.rq_engine.specs.Opened.{OpenStore}
+use Rattle.rq_engine.specs.declared.event.Event.{Event}
+use Rattle.rq_engine.specs.declared.event.Event.TheVariants as event
+use Rattle.rq_engine.specs.declared.event.Reply.{Reply}
+use Rattle.rq_engine.specs.declared.event.Reply.TheVariants as reply
+use Rattle.rq_cases.specs.Applied.{Makes}
+use Rattle.rq_cases.specs.Opened.{over}
+use Rattle.rq_cases.specs.Run.{begun_again, send_started}
+
+-- 1.1 has its send under way, and 1.2 is begun
+abbrev pub beside : State
+beside = record send_started { rows = fresh_row t2 ∷ send_started.rows; begins = 2 }
+
+-- 1.2 would send for another sender
+abbrev pub other_send : Vec ℕ Global → Event
+other_send body = event.StartSend t2 1 8 body
+
+pub record LatchesAreJudged : Type 0 where
+  pub sound : IsSound beside
+  -- whatever is answered, it is one of two: no second operation is started, and no other refusal has its cause
+  pub latched_or_memory : (pages : MemPages) (log : MemLog) (new : OpenStore MemPages MemLog) (body : Vec ℕ Global)
+      (r : Reply) → body.items ≡ []
+      → Makes (over beside pages log) (other_send body) r new
+      → (r ≡ reply.Refused why.Latched) ⊎ (r ≡ reply.Refused why.NoMemory)
+  pub started_beside : (pages : MemPages) (log : MemLog) (new : OpenStore MemPages MemLog) (body : Vec ℕ Global)
+      (sub : Sub) → Makes (over beside pages log) (other_send body) (reply.Started sub) new → ⊥
+  -- where nothing is under way, it is not
+  pub latched_by_nobody : (pages : MemPages) (log : MemLog) (new : OpenStore MemPages MemLog) (body : Vec ℕ Global)
+      → Makes (over begun_again pages log) (other_send body) (reply.Refused why.Latched) new → ⊥

@@ -1,0 +1,77 @@
+-- A group is closed where a commit or a transaction that has not ended has closed it.
+use Rattle.std.proofs.Common.{◌≡◌, ◌≢◌, ◌||◌, ℕ, List, [], ◌∷◌, map, refl, sym, ◌∙◌, ap, subst, Bool, true, false, Option, Some, None, inl, inr}
+use Rattle.std.proofs.lemmas.Bool.{cases_Bool, true≢false, or_from, or_left, or_right}
+use Rattle.rq_model.specs.declared.txn.Txn.{Txn}
+use Rattle.rq_model.specs.declared.record.Deed.{Deed}
+use Rattle.rq_model.specs.declared.record.Deed.TheVariants.{Append, UnlinkHead, Close}
+use Rattle.rq_model.specs.Commits.{committed_of, ops_told}
+use Rattle.rq_model.specs.Content.{closed, closed_one, said}
+use Rattle.rq_model.specs.Ledger.{any_ends, ended_in}
+use Rattle.rq_model.specs.Words.{In, same_txn}
+use Rattle.rq_model.proofs.Lists.{same_is, not_same}
+use Rattle.rq_model.proofs.Told.{told_ends}
+use Rattle.rq_views.specs.Groups.{committed, on_sending_end, side}
+use Rattle.rq_views.specs.Items.{items}
+use Rattle.rq_views.specs.Legal.{Placed, open_deeds, view}
+use Rattle.rq_views.proofs.Committed.{say}
+use Rattle.rq_views.proofs.Holding.{Holders, committed_is_group, holders}
+use Rattle.rq_store.specs.State.{op_done, State}
+use Rattle.rq_store.proofs.Grouping.{groups_of}
+use Rattle.rq_store.proofs.Telling.{told_placed}
+use Rattle.rq_txn.specs.Rows.{Row, found_row}
+use Rattle.rq_store.proofs.RowLists.{found_in}
+use Rattle.rq_sound.specs.Sound.{IsSound}
+use Rattle.rq_sound.specs.Groups.{closed_by_any}
+
+one_open : (g : ℕ) (d : Deed) → on_sending_end g d ≡ false → closed_one g (said d) ≡ false
+one_open g (Append r n tag previous body) e = refl
+one_open g (UnlinkHead r n tag body) e = refl
+one_open g (Close r) e = e
+
+-- who did nothing at a sending end closed nothing
+none_closed : (g : ℕ) (ps : List Placed) → side (on_sending_end g) ps ≡ [] → closed g (say ps) ≡ false
+none_closed g [] e = refl
+none_closed g (p ∷ ps) e = elim (cases_Bool (on_sending_end g p.deed)) [
+  | inl y ↦ (let bad : p.deed ∷ side (on_sending_end g) ps ≡ [] = rw y at e in absurd (cc))
+  | inr n ↦ or_from (closed_one g (said p.deed)) (closed g (say ps)) (one_open g p.deed n) (none_closed g ps (rw n at e))
+]
+
+nobody : (g : ℕ) (rows : List Row) → ((r : Row) → In r rows → any_ends g (map op_done r.finished) ≡ false) → closed_by_any g rows ≡ false
+nobody g [] h = refl
+nobody g (r ∷ rows) h = or_from (any_ends g (map op_done r.finished)) (closed_by_any g rows) (h r (inl refl)) (nobody g rows (λ q i. h q (inr i)))
+
+somebody : (g : ℕ) (rows : List Row) (r : Row) → In r rows → any_ends g (map op_done r.finished) ≡ true → closed_by_any g rows ≡ true
+somebody g [] r i e = absurd i
+somebody g (q ∷ rows) r i e = elim i [
+  | inl same ↦ or_left (any_ends g (map op_done q.finished)) (closed_by_any g rows) (ap (λ (x : Row). any_ends g (map op_done x.finished)) (sym same) ∙ e)
+  | inr j ↦ or_right (any_ends g (map op_done q.finished)) (closed_by_any g rows) (somebody g rows r j e)
+]
+
+module _ (s : State) (k : IsSound s) (g : ℕ) where
+  abbrev h : Holders g (items s.sizes s.records)
+  h = holders g (items s.sizes s.records) (groups_of s.sizes s.records k.log)
+
+  abbrev open_closed : Txn → Bool
+  open_closed t = closed g (say (open_deeds t (items s.sizes s.records)))
+
+  own : (r : Row) → In r s.rows → any_ends g (map op_done r.finished) ≡ open_closed r.txn
+  own r i =
+      sym (ap (any_ends g) (told_placed r.finished)) ∙ sym (ap (λ ps. any_ends g (ops_told (say ps))) (k.standing.each r i).done)
+      ∙ told_ends g (say (open_deeds r.txn (items s.sizes s.records)))
+
+  any_is : closed_by_any g s.rows ≡ open_closed h.sender
+  any_is = elim (cases_Bool (open_closed h.sender)) [
+    | inl y ↦ at (found_row h.sender s.rows) refl y ∙ sym y
+    | inr n ↦ nobody g s.rows (λ r i. own r i ∙ elim (cases_Bool (same_txn r.txn h.sender)) [
+      | inl y ↦ ap open_closed (same_is r.txn h.sender y) ∙ n
+      | inr m ↦ none_closed g (open_deeds r.txn (items s.sizes s.records)) (h.sends r.txn (not_same r.txn h.sender m))
+    ]) ∙ sym n
+  ] where
+    at : (o : Option Row) → found_row h.sender s.rows ≡ o → open_closed h.sender ≡ true → closed_by_any g s.rows ≡ true
+    at None e y = absurd (true≢false (sym y ∙ ap (λ ps. closed g (say ps)) (k.standing.others h.sender e).settled))
+    at (Some r) e y = let i = found_in h.sender s.rows r e in somebody g s.rows r i.0 (own r i.0 ∙ ap open_closed i.1 ∙ y)
+
+  pub closed_by : (view (items s.sizes s.records) g).closed ≡ (closed_by_any g s.rows || ended_in (committed_of s.records) g)
+  closed_by =
+      let c = committed_is_group s.sizes g s.records k.log.rules k.log.reads in
+      h.view.closed ∙ ap (λ b. b || (committed (items s.sizes s.records) g).closed) (sym any_is) ∙ ap (λ b. closed_by_any g s.rows || b) c.closed
