@@ -1,4 +1,4 @@
--- How many writes a plan has.
+-- How many writes a plan has, and that an inverse's tells no deed.
 use Rattle.std.proofs.Common.{◌≡◌, ℕ, ◌+◌, ◌*◌, ◌≤◌, List, [], ◌∷◌, Bool, true, false, Option, None, Some, Result, Ok, length, map, sym, ap, ◌∙◌, arith}
 use Rattle.std.proofs.lemmas.List.{length-map, length-reverse}
 use Rattle.std.specs.Prelude.{reverse}
@@ -85,3 +85,27 @@ pub few_taken_back : (k : Kept) (told : Record) (given : List Given) (latched : 
     → page_undoes k told given latched (Ok p) after → length p.writes.items ≤ 3
 few_taken_back k (records.PageOp t n page slot x y) given latched p after h = taken_back k (is_slot_number slot) (page * 16 + slot) x y p after h
 few_taken_back k _ given latched p after h = absurd h
+
+-- an inverse tells no deed
+silent : (z : Option Sizes) (d : Option Deed) (k : Kept) (given : List Given) (latched : List ℕ) (p : Plan) (after : Kept)
+    → Undoes z d k given latched (Ok p) after → p.deed ≡ []
+silent (Some z) (Some (Append s n tag previous body)) k given latched p after h = h.inverse.deed
+silent (Some z) (Some (UnlinkHead s n tag body)) k given latched p after h = h.inverse.deed
+silent (Some z) (Some (Close_deed s)) k given latched p after h = h.inverse.deed
+silent (Some z) None k given latched p after h = absurd h
+silent None (Some d) k given latched p after h = absurd h
+silent None None k given latched p after h = absurd h
+
+pub silent_undone : (k : Kept) (told : Record) (given : List Given) (latched : List ℕ) (p : Plan) (after : Kept)
+    → chain_undoes k told given latched (Ok p) after → p.deed ≡ []
+silent_undone k (records.OpEnd t n level deed) given latched p after h = silent k.sizes (deed_in deed) k given latched p after h
+silent_undone k _ given latched p after h = absurd h
+
+silent_back : (k : Kept) (is : Bool) (a : ℕ) (before after : List ℕ) (p : Plan) (kept : Kept) → TakesBack k is a before after (Ok p) kept → p.deed ≡ []
+silent_back k true a before after p kept h = h.0.deed
+silent_back k false a before after p kept h = absurd h
+
+pub silent_taken_back : (k : Kept) (told : Record) (given : List Given) (latched : List ℕ) (p : Plan) (after : Kept)
+    → page_undoes k told given latched (Ok p) after → p.deed ≡ []
+silent_taken_back k (records.PageOp t n page slot x y) given latched p after h = silent_back k (is_slot_number slot) (page * 16 + slot) x y p after h
+silent_taken_back k _ given latched p after h = absurd h

@@ -1,5 +1,5 @@
 -- What every level keeps to, whatever its number.
-use Rattle.std.specs.Prelude.{◌≡◌, ◌≢◌, ◌≤◌, ℕ, Bool, true, false, zero, suc, List, Option, None, Some, Result, Ok, Err, length}
+use Rattle.std.specs.Prelude.{◌≡◌, ◌≢◌, ◌≤◌, ℕ, Bool, true, false, zero, suc, List, [], Option, None, Some, Result, Ok, Err, length}
 use Rattle.rq_model.specs.declared.record.Record.{Record}
 use Rattle.rq_model.specs.declared.refusal.Refusal.{Refusal}
 use Rattle.rq_model.specs.declared.refusal.Refusal.TheVariants as why
@@ -32,6 +32,9 @@ pub record IsLawful (m : Meaning) : Type 0 where
       → m.plans k job given latched (Ok p) after → length p.writes.items ≤ 3
   pub count_undo : (k : Kept) (told : Record) (given : List Given) (latched : List ℕ) (p : Plan) (after : Kept)
       → m.undoes k told given latched (Ok p) after → length p.writes.items ≤ 3
+  -- the plan of what takes something back tells no deed
+  pub silent : (k : Kept) (told : Record) (given : List Given) (latched : List ℕ) (p : Plan) (after : Kept)
+      → m.undoes k told given latched (Ok p) after → p.deed ≡ []
   -- it asks for no slot twice
   pub asks : (job : Job) (given : List Given) → IsNotGiven given (m.want job given)
   -- a slot that is noted again counts as it was noted last
