@@ -24,6 +24,8 @@ use Rattle.rq_model.specs.declared.record.Deed.TheVariants.{Append, UnlinkHead, 
 use Rattle.rq_level.specs.Meaning.{Meaning, Redo, AppliesOnce, IsAppliedOnce, meaning_of}
 use Rattle.rq_level.specs.Lawful.{IsNotGiven, IsLawful, AllLawful, AppliedTwiceIsOnce, MayHaveNoPlan}
 use Rattle.rq_level.specs.declared.slots.Given.{Given}
+use Rattle.rq_level.proofs.Counted.{few_planned, few_undone, few_written, few_taken_back, silent_undone, silent_taken_back}
+use Rattle.rq_level.proofs.Noting.{any_order}
 
 unless : (given : List Given) (a : ℕ) (o : Option (List ℕ)) → given_at a given ≡ o → IsNotGiven given (unless_given a o)
 unless given a None e = e
@@ -195,9 +197,9 @@ writes_for false k w given r after h = refuses_write k w given r after h
 
 pub all_lawful : AllLawful
 unfolding meaning_of
-all_lawful zero = record { refuses = λ k job given latched r after h. writes_for job.undo k (overwrite_in job.bytes) given r after h; refuses_undo = refuses_page; asks = λ job given. asks_page given job.undo (overwrite_in job.bytes); last = λ k a x y. refl; room = λ k a x. (refl, refl) }
-all_lawful (suc zero) = record { refuses = λ k job given latched r after h. plans_for job.undo k.sizes (doing_in job.bytes) k given latched r after h; refuses_undo = refuses_record; asks = λ job given. asks_job given job.undo job.bytes; last = twice; room = keeps_room }
-all_lawful (suc (suc n)) = record { refuses = λ k job given latched r after h. may_damage k r after h; refuses_undo = λ k told given latched r after h. may_damage k r after h; asks = λ job given. tt; last = λ k a x y. refl; room = λ k a x. (refl, refl) }
+all_lawful zero = record { count = λ k job given latched p after h. few_written job.undo k (overwrite_in job.bytes) given p after h; count_undo = few_taken_back; silent = silent_taken_back; commutes = λ k a b x y m n o. refl; refuses = λ k job given latched r after h. writes_for job.undo k (overwrite_in job.bytes) given r after h; refuses_undo = refuses_page; asks = λ job given. asks_page given job.undo (overwrite_in job.bytes); last = λ k a x y. refl; room = λ k a x. (refl, refl) }
+all_lawful (suc zero) = record { count = λ k job given latched p after h. few_planned job.undo k.sizes (doing_in job.bytes) k given latched p after h; count_undo = few_undone; silent = silent_undone; commutes = any_order; refuses = λ k job given latched r after h. plans_for job.undo k.sizes (doing_in job.bytes) k given latched r after h; refuses_undo = refuses_record; asks = λ job given. asks_job given job.undo job.bytes; last = twice; room = keeps_room }
+all_lawful (suc (suc n)) = record { count = λ k job given latched p after h. absurd h; count_undo = λ k told given latched p after h. absurd h; silent = λ k told given latched p after h. absurd h; commutes = λ k a b x y m n o. refl; refuses = λ k job given latched r after h. may_damage k r after h; refuses_undo = λ k told given latched r after h. may_damage k r after h; asks = λ job given. tt; last = λ k a x y. refl; room = λ k a x. (refl, refl) }
 
 -- applying a record again
 not_less : (n m : ℕ) → n ≡ m → nat_lt n m ≡ false

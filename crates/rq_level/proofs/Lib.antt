@@ -2,3 +2,5 @@ pub mod OneLevel
 pub mod PageSets
 pub mod EachLevel
 pub mod Doings
+pub mod Noting
+pub mod Counted

@@ -1,5 +1,5 @@
 -- What every level keeps to, whatever its number.
-use Rattle.std.specs.Prelude.{◌≡◌, ◌≢◌, ℕ, Bool, true, false, zero, suc, List, Option, None, Some, Result, Ok, Err, length}
+use Rattle.std.specs.Prelude.{◌≡◌, ◌≢◌, ◌≤◌, ℕ, Bool, true, false, zero, suc, List, [], Option, None, Some, Result, Ok, Err, length}
 use Rattle.rq_model.specs.declared.record.Record.{Record}
 use Rattle.rq_model.specs.declared.refusal.Refusal.{Refusal}
 use Rattle.rq_model.specs.declared.refusal.Refusal.TheVariants as why
@@ -27,10 +27,21 @@ pub record IsLawful (m : Meaning) : Type 0 where
       → m.plans k job given latched (Err r) after → MayHaveNoPlan r × (after ≡ k)
   pub refuses_undo : (k : Kept) (told : Record) (given : List Given) (latched : List ℕ) (r : Refusal) (after : Kept)
       → m.undoes k told given latched (Err r) after → MayHaveNoPlan r × (after ≡ k)
+  -- a plan has at most three writes
+  pub count : (k : Kept) (job : Job) (given : List Given) (latched : List ℕ) (p : Plan) (after : Kept)
+      → m.plans k job given latched (Ok p) after → length p.writes.items ≤ 3
+  pub count_undo : (k : Kept) (told : Record) (given : List Given) (latched : List ℕ) (p : Plan) (after : Kept)
+      → m.undoes k told given latched (Ok p) after → length p.writes.items ≤ 3
+  -- the plan of what takes something back tells no deed
+  pub silent : (k : Kept) (told : Record) (given : List Given) (latched : List ℕ) (p : Plan) (after : Kept)
+      → m.undoes k told given latched (Ok p) after → p.deed ≡ []
   -- it asks for no slot twice
   pub asks : (job : Job) (given : List Given) → IsNotGiven given (m.want job given)
   -- a slot that is noted again counts as it was noted last
   pub last : (k : Kept) (a : ℕ) (x y : List ℕ) → m.note (m.note k a x) a y ≡ m.note k a y
+  -- slots are noted in any order, but for the one that tells the sizes
+  pub commutes : (k : Kept) (a b : ℕ) (x y : List ℕ) → a ≢ 1 → b ≢ 1 → a ≢ b
+      → m.note (m.note k a x) b y ≡ m.note (m.note k b y) a x
   -- noting keeps how many flags there are
   pub room : (k : Kept) (a : ℕ) (x : List ℕ)
       → (length (m.note k a x).free ≡ length k.free) × (length (m.note k a x).reserved ≡ length k.reserved)

@@ -1,1 +1,2 @@
 pub mod Overwrites
+pub mod Latched

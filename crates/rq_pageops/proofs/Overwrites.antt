@@ -1,8 +1,8 @@
 -- Which bytes ask to write over a slot.
-use Rattle.std.proofs.Common.{◌≡◌, ℕ, ◌/◌, ◌%◌, ◌<◌, ◌^◌, List, length, drop, Bool, true, false, nat_eq, nat_lt, ◌&&◌, cond, Option, None, Some, refl, sym, ap, ◌∙◌, arith}
-use Rattle.std.proofs.lemmas.Bool.{lt-ltb, le-ltb}
+use Rattle.std.proofs.Common.{◌≡◌, ℕ, ◌/◌, ◌%◌, ◌<◌, ◌^◌, List, length, drop, true, nat_eq, nat_lt, Some, refl, sym, ap, ◌∙◌}
+use Rattle.std.proofs.lemmas.Bool.{lt-ltb}
 use Rattle.byteorder.specs.Endian.{big_number}
-use Rattle.rq_level.specs.Ops.{Overwrite, overwrite_in, is_slot_address}
+use Rattle.rq_level.specs.Ops.{overwrite_in}
 
 pub asks : (bytes : List ℕ) → nat_eq (length bytes) 264 ≡ true → nat_lt 0 (big_number 8 bytes % 16) ≡ true → nat_lt (big_number 8 bytes / 16) (2 ^ 32) ≡ true
     → overwrite_in bytes ≡ Some (record { at = big_number 8 bytes; after = drop 8 bytes })

@@ -4,5 +4,5 @@
 mod latches;
 mod page_level;
 
-pub use latches::{LATCHED_PAGES, Latches};
+pub use latches::{LATCHED_PAGES, Latches, OPERATIONS};
 pub use page_level::PageLevel;

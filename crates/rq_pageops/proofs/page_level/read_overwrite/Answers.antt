@@ -1,4 +1,4 @@
-use Rattle.std.proofs.Common.{◌≡◌, length, take, drop, ◌-◌, ap, ◌<◌, ◌%◌, ◌/◌, ◌^◌, sym, ◌∙◌, arith}
+use Rattle.std.proofs.Common.{◌≡◌, length, drop, ◌-◌, ◌∙◌, arith}
 use Rattle.std.proofs.lemmas.List.{take_all, length-drop}
 use Rattle.rq_pageops.proofs.Overwrites.{asks_for}
 use Rattle.rq_pageops.proofs.page_level.read_overwrite.Goals as goal
