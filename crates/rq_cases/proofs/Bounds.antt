@@ -61,7 +61,7 @@ use Rattle.rq_core.specs.Devices.{mem_log, mem_pages}
 use Rattle.rq_cases.specs.Applied.{Makes, MeetsAll}
 use Rattle.rq_cases.specs.Bounds.{BoundsAreJudged, Commits, IsFullForSend, Sends, just_opened, one_begun, one_committed, only_one, restarts}
 use Rattle.rq_cases.specs.Opened.{over}
-use Rattle.rq_cases.specs.Openings.{IsRefused}
+use Rattle.rq_cases.specs.Openings.{Checked, IsRefused}
 use Rattle.rq_cases.specs.Restarting.{read_pages}
 use Rattle.rq_cases.specs.Run.{send_started, send_under, waits_of_0}
 use Rattle.rq_cases.specs.Sound.{hello}
@@ -297,15 +297,31 @@ ended : (n : ℕ) → IsEnded (restarts n)
 ended zero = (refl, refl)
 ended (suc n) = ended n
 
+gone : (n : ℕ) → IsGoneThrough sizes (restarts n) read_pages read_pages
+gone n = record {
+  repeated = repeats n;
+  counted_read = counted_read (length (restarts n));
+  counted = counted_read (length (restarts n));
+}
+
 module _ (n : ℕ) (pages : MemPages) (log : MemLog) (h : Hold pages formatted_pages log (restarts n)) where
+  checked : (new : MemLog) → n < 2 ^ 50 → Checked pages log new read_pages (restarts (suc n))
+  checked new low = record {
+    images = formatted_pages;
+    sound = formatted_are;
+    seen = λ honest p below. sym (ap (λ (seen : Images). seen p) (pages_seen_are pages formatted_pages h.0));
+    older = restarts n;
+    are_spelled = are_spelled n (omega (arith, low));
+    reads = λ honest. log_seen log (restarts n) h.1;
+    gone_through = gone n;
+    ended = ended n;
+    begun = refl;
+    room = (let e = length_is n in omega (arith, e, low));
+  }
+
   full_restart : 2 ^ 50 ≤ n → n < 2 ^ 64 → IsRefused pages log why.LogFull pages log
   full_restart le low =
       let e = length_is n in
-      let gone : IsGoneThrough sizes (restarts n) read_pages read_pages = record {
-        repeated = repeats n;
-        counted_read = counted_read (length (restarts n)) (omega (arith, e, le));
-        counted = counted_read (length (restarts n)) (omega (arith, e, le));
-      } in
       inr (
         sizes,
         formatted_pages,
@@ -316,7 +332,7 @@ module _ (n : ℕ) (pages : MemPages) (log : MemLog) (h : Hold pages formatted_p
           restarts n,
           are_spelled n low,
           λ honest. log_seen log (restarts n) h.1,
-          (omega (arith, e, le), ended n, (read_pages, gone), only_read log),
+          (omega (arith, e, le), ended n, (read_pages, gone n), only_read log),
         ),
       )
 
@@ -395,6 +411,7 @@ bounds = record {
       not_full n (Commit (only_one n)) new.state (commit_passes n le) (a.steps (tt, tt) (begun_sound n));
   committed_where_it_is_full = λ n pages log number new le a.
       not_committed n (commit_number number) new.state le (a.steps (tt, tt) (begun_sound n));
+  restart_fits = λ n pages log new low h. checked n pages log h new low;
   restart_is_full = λ n pages log le low h. full_restart n pages log h le low;
   restart_full_where_it_fits = λ n pages new_pages log new_log low h s.
       ⊎_elim (λ p. p.0) (λ l. fits_restart n pages log h l.0 _ new_log low l.5) s;

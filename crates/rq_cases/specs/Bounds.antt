@@ -27,7 +27,8 @@ use Rattle.rq_engine.specs.declared.event.Event.TheVariants as event
 use Rattle.rq_engine.specs.declared.event.Reply.TheVariants as reply
 use Rattle.rq_cases.specs.Applied.{Makes, MeetsAll}
 use Rattle.rq_cases.specs.Opened.{over}
-use Rattle.rq_cases.specs.Openings.{IsRefused}
+use Rattle.rq_cases.specs.Openings.{Checked, IsRefused}
+use Rattle.rq_cases.specs.Restarting.{read_pages}
 use Rattle.rq_cases.specs.Run.{send_started}
 use Rattle.rq_cases.specs.Sound.{hello}
 use Rattle.rq_cases.specs.Store.{formatted_pages, sizes}
@@ -116,6 +117,8 @@ pub record BoundsAreJudged : Type 0 where
       (new : OpenStore MemPages MemLog) → 2 ^ 50 ≤ n + 1
       → Makes (over (one_begun n) pages log) (event.Commit (only_one n)) (reply.Committed number) new → ⊥
   -- a restart takes one, too
+  pub restart_fits : (n : ℕ) (pages : MemPages) (log new : MemLog) → n < 2 ^ 50
+      → Hold pages formatted_pages log (restarts n) → Checked pages log new read_pages (restarts (suc n))
   pub restart_is_full : (n : ℕ) (pages : MemPages) (log : MemLog) → 2 ^ 50 ≤ n → n < 2 ^ 64
       → Hold pages formatted_pages log (restarts n) → IsRefused pages log why.LogFull pages log
   pub restart_full_where_it_fits : (n : ℕ) (pages new_pages : MemPages) (log new_log : MemLog) → n < 2 ^ 50
