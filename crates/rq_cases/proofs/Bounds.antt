@@ -1,6 +1,6 @@
 -- A log at its bound.
 use Rattle.std.proofs.Common.{◌≡◌, ⊎_elim, ℕ, zero, suc, ◌+◌, ◌-◌, ◌*◌, ◌^◌, ◌≤◌, ◌<◌, Bool, false, true, not, nat_lt, List, [], ◌∷◌, length, drop, replicate, Some, None, refl, sym, ap, ◌∙◌, subst, inl, inr, arith}
-use Rattle.std.specs.List.{filter, slice_index}
+use Rattle.std.specs.List.{filter, slice_index, sum_by}
 use Rattle.std.proofs.lemmas.Bool.{cases_Bool, lt-ltb, ltb-true}
 use Rattle.rq_model.specs.declared.record.Record.{Record}
 use Rattle.rq_model.specs.declared.refusal.Refusal.{Refusal}
@@ -27,7 +27,13 @@ use Rattle.rq_log.specs.Scanned.{StopsFor}
 use Rattle.rq_log.specs.Spelled.{AreSpelled}
 use Rattle.rq_page.specs.Sizes.{Sizes}
 use Rattle.rq_level.specs.Writes.{AreSlotWrites}
-use Rattle.rq_txn.specs.Rows.{Row, found_row, fresh_row}
+use Rattle.rq_txn.specs.declared.Finished.{Finished}
+use Rattle.rq_groups.specs.Waiting.{waits}
+use Rattle.rq_engine.specs.Lists.{done_by}
+use Rattle.rq_engine.specs.Moves.{with_sends}
+use Rattle.rq_engine.specs.declared.event.CommitNo.{CommitNo}
+use Rattle.rq_store.specs.Sound.{takes_one}
+use Rattle.rq_txn.specs.Rows.{Row, found_row, fresh_row, finished_of}
 use Rattle.rq_store.specs.Fitting.{AllFit, FitsLog, image_in, left_by}
 use Rattle.rq_store.specs.Sound.{IsSound}
 use Rattle.rq_store.specs.State.{State, ledger_of, size_of}
@@ -44,7 +50,7 @@ use Rattle.rq_engine.specs.Kept.{IsKept, IsRowKept}
 use Rattle.rq_engine.specs.Says.{commit_number}
 use Rattle.rq_engine.specs.declared.event.Event.TheVariants as event
 use Rattle.rq_engine.specs.declared.event.Reply.TheVariants as reply
-use Rattle.rq_engine.proofs.Crashing.{runs_through_cuts}
+use Rattle.rq_engine.proofs.Crashing.{fit_kept, runs_through_cuts}
 use Rattle.rq_engine.proofs.Refusals.{refuse, refuse_full}
 use Rattle.rq_restart.specs.Checked.{IsEnded, IsGoneThrough}
 use Rattle.rq_restart.specs.Refused.{IsFirstFault}
@@ -53,9 +59,9 @@ use Rattle.rq_restart.specs.Restarting.{LogStops}
 use Rattle.rq_restart.proofs.Parsing.{one_log}
 use Rattle.rq_core.specs.Devices.{mem_log, mem_pages}
 use Rattle.rq_cases.specs.Applied.{Makes, MeetsAll}
-use Rattle.rq_cases.specs.Bounds.{BoundsAreJudged, Commits, IsFullForSend, Sends, just_opened, one_begun, only_one, restarts}
+use Rattle.rq_cases.specs.Bounds.{BoundsAreJudged, Commits, IsFullForSend, Sends, just_opened, one_begun, one_committed, only_one, restarts}
 use Rattle.rq_cases.specs.Opened.{over}
-use Rattle.rq_cases.specs.Openings.{IsRefused}
+use Rattle.rq_cases.specs.Openings.{Checked, IsRefused}
 use Rattle.rq_cases.specs.Restarting.{read_pages}
 use Rattle.rq_cases.specs.Run.{send_started, send_under, waits_of_0}
 use Rattle.rq_cases.specs.Sound.{hello}
@@ -191,6 +197,48 @@ module _ (n : ℕ) where
           (pages_fit pages h.0 s.records (suc n, all_new (suc n)));
     }
 
+    none_done : done_by s t ≡ []
+    none_done = ap finished_of at_row
+
+    commit_whole : (number : CommitNo) → n + 2 ≤ 2 ^ 50 → number.txn ≡ t → number.lsn ≡ n + 2
+        → Makes (over s pages log) (event.Commit t) (reply.Committed number) (over (one_committed n) pages log)
+    commit_whole number le of at =
+        let length_of = length_is n in
+        let told : AreSpelled s.records = are_spelled (suc n) (omega (arith, le)) in
+        let here = same_beginning log (restarts (suc n)) h.1 s.records s.forced 0 (omega arith) refl in
+        let next : number.lsn ≡ length s.records + 1 = omega (arith, at, length_of) in
+        let is : commit_number number ≡ record { txn = t; lsn = length s.records + 1 } = (λ i. record { txn = of i; lsn = next i }) in
+        let taken : sum_by takes_one (done_by s t) ≡ 0 = ap (sum_by takes_one) none_done in
+        let ws : (g : ℕ) → waits (with_sends (done_by s t) s.waiting) g ≡ waits s.waiting g =
+        (λ g. ap (λ (fs : List Finished). waits (with_sends fs s.waiting) g) none_done) in
+        let made : Commits n (record { txn = t; lsn = length s.records + 1 }) (one_committed n) =
+        commit_steps s (begun_sound n) t (fresh_row t) (one_committed n).cells_in_use (one_committed n).waiting at_row refl
+        (omega (arith, taken)) (λ g low. (let e = ws g in omega (arith, e))) refl (commit_free le) in
+        let steps : Commits n (commit_number number) (one_committed n) =
+        subst (λ (x : Number). Commits n x (one_committed n)) (sym is) made in
+        record {
+          steps = λ honest k. steps;
+          cause = λ honest k. tt;
+          sizes = refl;
+          failed = (λ e. cc e, λ e. cc e);
+          refused = tt;
+          lists = record { txn = of; lsn = next; ready = (1, rw (same_self t) (refl, refl)); lists = refl };
+          changes = refl;
+          starts = tt;
+          writes = tt;
+          pages = refl;
+          log = refl;
+          honest = λ honest. honest;
+          any_moment = λ honest. here;
+          fit = λ honest k fits.
+              fit_kept mem_pages mem_log pages_now (over s pages log) (over (one_committed n) pages log) k fits (event.Commit t)
+              (reply.Committed number) (Commit t) _ refl steps tt refl;
+          crash = λ honest k fits.
+              runs_through_cuts mem_pages mem_log pages_now (over s pages log) (over (one_committed n) pages log) k fits
+              (event.Commit t) (reply.Committed number) told tt refl
+              (leaves_beginning log (restarts (suc n)) h.1 s.records s.forced 0 (omega arith) refl) here;
+        }
+
     refused_whole : 2 ^ 50 ≤ n + 1 → n + 1 < 2 ^ 64 → Makes (over s pages log) (event.Commit t) (reply.Refused why.LogFull) (over s pages log)
     refused_whole le low =
         let told : AreSpelled s.records = are_spelled (suc n) (omega (arith, low)) in
@@ -249,15 +297,31 @@ ended : (n : ℕ) → IsEnded (restarts n)
 ended zero = (refl, refl)
 ended (suc n) = ended n
 
+gone : (n : ℕ) → IsGoneThrough sizes (restarts n) read_pages read_pages
+gone n = record {
+  repeated = repeats n;
+  counted_read = counted_read (length (restarts n));
+  counted = counted_read (length (restarts n));
+}
+
 module _ (n : ℕ) (pages : MemPages) (log : MemLog) (h : Hold pages formatted_pages log (restarts n)) where
+  checked : (new : MemLog) → n < 2 ^ 50 → Checked pages log new read_pages (restarts (suc n))
+  checked new low = record {
+    images = formatted_pages;
+    sound = formatted_are;
+    seen = λ honest p below. sym (ap (λ (seen : Images). seen p) (pages_seen_are pages formatted_pages h.0));
+    older = restarts n;
+    are_spelled = are_spelled n (omega (arith, low));
+    reads = λ honest. log_seen log (restarts n) h.1;
+    gone_through = gone n;
+    ended = ended n;
+    begun = refl;
+    room = (let e = length_is n in omega (arith, e, low));
+  }
+
   full_restart : 2 ^ 50 ≤ n → n < 2 ^ 64 → IsRefused pages log why.LogFull pages log
   full_restart le low =
       let e = length_is n in
-      let gone : IsGoneThrough sizes (restarts n) read_pages read_pages = record {
-        repeated = repeats n;
-        counted_read = counted_read (length (restarts n)) (omega (arith, e, le));
-        counted = counted_read (length (restarts n)) (omega (arith, e, le));
-      } in
       inr (
         sizes,
         formatted_pages,
@@ -268,7 +332,7 @@ module _ (n : ℕ) (pages : MemPages) (log : MemLog) (h : Hold pages formatted_p
           restarts n,
           are_spelled n low,
           λ honest. log_seen log (restarts n) h.1,
-          (omega (arith, e, le), ended n, (read_pages, gone), only_read log),
+          (omega (arith, e, le), ended n, (read_pages, gone n), only_read log),
         ),
       )
 
@@ -341,11 +405,13 @@ bounds = record {
   fits_beside = λ n le. not_less _ _ (omega (arith, le));
   full_beside_it = λ n le. lt-ltb _ _ (omega (arith, le));
   before_the_commit = meets;
+  commit_made = λ n pages log number le of at h. commit_whole n pages log h number le of at;
   commit_refused = λ n pages log le low h. refused_whole n pages log h le low;
   refused_where_it_fits = λ n pages log new le a.
       not_full n (Commit (only_one n)) new.state (commit_passes n le) (a.steps (tt, tt) (begun_sound n));
   committed_where_it_is_full = λ n pages log number new le a.
       not_committed n (commit_number number) new.state le (a.steps (tt, tt) (begun_sound n));
+  restart_fits = λ n pages log new low h. checked n pages log h new low;
   restart_is_full = λ n pages log le low h. full_restart n pages log h le low;
   restart_full_where_it_fits = λ n pages new_pages log new_log low h s.
       ⊎_elim (λ p. p.0) (λ l. fits_restart n pages log h l.0 _ new_log low l.5) s;

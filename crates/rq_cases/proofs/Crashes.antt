@@ -1,6 +1,9 @@
 -- Runs of calls of both devices, crashes that a course may meet, and pages and logs over their devices.
 use Rattle.std.proofs.Common.{◌≡◌, ◌≢◌, ⊎_elim, ℕ, zero, suc, ◌/◌, ◌%◌, ◌≤◌, ◌<◌, false, true, List, [], ◌∷◌, ◌++◌, length, take, drop, refl, sym, ap, ◌∙◌, subst, arith}
-use Rattle.std.proofs.lemmas.List.{append-nil}
+use Rattle.std.proofs.lemmas.List.{append-nil, length-drop}
+use Rattle.std.proofs.Math.Seq.{take-length}
+use Rattle.rq_disk.specs.Records.{AreRecords}
+use Rattle.rq_model.specs.Incarnations.{Ties}
 use Rattle.rq_model.specs.declared.record.Record.{Record}
 use Rattle.rq_model.specs.History.{Entry}
 use Rattle.rq_model.specs.History.Call.{Force}
@@ -13,10 +16,11 @@ use Rattle.rq_disk.specs.declared.mem_log.LogCall.TheVariants.{Append}
 use Rattle.rq_disk.specs.declared.mem_log.MemLog.{MemLog}
 use Rattle.rq_disk.specs.declared.mem_pages.MemPages.{MemPages}
 use Rattle.rq_log.specs.Spelled.{spelled}
-use Rattle.rq_log.proofs.Runs.{spelled_whole}
+use Rattle.rq_log.proofs.Runs.{spelled_records, spelled_whole}
 use Rattle.rq_page.specs.Pages.{lsn_of}
 use Rattle.rq_page.specs.Sizes.{page_count}
 use Rattle.rq_pool.specs.Pooled.{AreOver, IsPool, image_at, is_changed}
+use Rattle.rq_pool.specs.Reading.{AreSeen}
 use Rattle.rq_store.specs.Fitting.{image_in}
 use Rattle.rq_engine.specs.Crash.{IsCut}
 use Rattle.rq_engine.specs.Devices.{EachPair, Path}
@@ -100,6 +104,9 @@ runs = record {
       short_log (drop c.lost old.state.records) c.told c.spells);
 }
 
+ties : Ties (ledger (first_entries 9)) log_5
+ties = record { committed = refl; records = refl; incarnation = omega arith }
+
 -- crashes
 module _ (goes : CrashGoesOn small) where
   fails : (x : Happening) → MayCrashIt x (ledger (first_entries 9)).phase → (pages : MemPages) (log : MemLog) → Hold pages formatted_pages log log_5 → MayFail (course_to 9) x pages log
@@ -112,13 +119,14 @@ module _ (goes : CrashGoesOn small) where
     leaves = λ images bytes a b. (
       log_5,
       leaves_store pages log h images bytes a b,
-      goes (first_entries 9) [] log_5 legal_crash.1 (record { committed = refl; records = refl; incarnation = omega arith })
-          whole.rules (omega arith) (omega arith),
+      goes (first_entries 9) [] log_5 legal_crash.1 ties whole.rules (omega arith) (omega arith),
     );
   }
 
   pub crashes : CrashesAreJudged
   crashes = record {
+    ties = ties;
+    ties_to_less = λ t. (let e : 5 ≡ 1 = t.records in omega (arith, e));
     once_forced = fails Crashes tt;
     in_a_force = fails (Stops_in Force) (refl, refl);
     in_a_begin = λ course pages log k. (let e = k.may.1 in cc e);
@@ -155,6 +163,13 @@ module _ (d : MemPages) (n : AreNewPages d formatted_pages) where
       let none = no_cell_lsn in
       omega (arith, e, two, none)
 
+  other_seen : AreSeen (mem_pages.seen d) sent_pages 3 → ⊥
+  other_seen s =
+      let e = ap lsn_of (s 2 (omega arith) ∙ ap (λ (seen : Images). seen 2) (pages_seen_are d formatted_pages n)) in
+      let two = cell_lsn in
+      let none = no_cell_lsn in
+      omega (arith, e, two, none)
+
 -- a log that was handed over, and not forced
 module _ (old d : MemLog) (n : IsNewLog old log_1) (h : IsHandedSince old d (spelled (take 4 log_5))) where
   handed : log_of d ≡ after_log_call (fresh_log (spelled log_1)) (Append h.run)
@@ -172,6 +187,14 @@ pools = record {
   no_cell_page = λ p. no_header _ 2 2 (p.headers 2 (omega arith) (omega arith));
   too_few_pages = λ p. (let e : 1 ≡ 3 = p.count in omega (arith, e));
   no_superblock = λ p. no_header 0 0 0 p.superblock.header;
+  are_seen = λ d n p low. sym (ap (λ (seen : Images). seen p) (pages_seen_are d formatted_pages n));
+  others_are_seen = other_seen;
+  records_are_held = record {
+    end = length (spelled log_5);
+    within = omega arith;
+    whole = subst (AreRecords 5) (sym (take-length (spelled log_5))) (spelled_records log_5 records_spelled);
+    last = λ h. (let n = length-drop (length (spelled log_5)) (spelled log_5) in let m = h.0 in omega (arith, n, m));
+  };
   over_their_device = λ d n. record { pool = sent_pool; flags = refl; clean = λ honest. clean d n };
   change_not_marked = not_clean;
   too_few_marks = λ d images b o. (let e : 1 ≡ 3 = o.flags in omega (arith, e));

@@ -6,6 +6,7 @@ use Rattle.rq_model.specs.declared.refusal.Refusal.{Refusal}
 use Rattle.rq_model.specs.declared.refusal.Refusal.TheVariants as why
 use Rattle.rq_model.specs.declared.txn.Sub.{Sub}
 use Rattle.rq_model.specs.declared.txn.Txn.{Txn}
+use Rattle.rq_model.specs.History.{Call}
 use Rattle.rq_model.specs.History.Call.{Start_send}
 use Rattle.rq_model.specs.History.Entry.{Refused}
 use Rattle.rq_model.specs.Legal.{Legal}
@@ -17,7 +18,12 @@ use Rattle.rq_views.specs.WorkedItems.{t1, t2}
 use Rattle.rq_txn.specs.Rows.{Row, Under, change_row, fresh_row, row_started}
 use Rattle.rq_store.specs.Sound.{IsSound}
 use Rattle.rq_store.specs.State.{State, ledger_of, size_of}
+use Rattle.rq_log.specs.Crash.{LeavesOnly}
+use Rattle.rq_log.specs.Spelled.{IsBeginning}
 use Rattle.rq_store.proofs.Beginning.{begin_sound}
+use Rattle.rq_store.proofs.Forcing.{refused_steps}
+use Rattle.rq_engine.proofs.Crashing.{runs_through_cuts}
+use Rattle.rq_core.specs.Devices.{mem_log, mem_pages}
 use Rattle.rq_engine.specs.Opened.{OpenStore}
 use Rattle.rq_engine.specs.Says.{call_of}
 use Rattle.rq_engine.specs.declared.event.Reply.{Reply}
@@ -25,9 +31,12 @@ use Rattle.rq_engine.specs.declared.event.Reply.TheVariants as reply
 use Rattle.rq_cases.specs.Applied.{Makes}
 use Rattle.rq_cases.specs.Latches.{LatchesAreJudged, beside, other_send}
 use Rattle.rq_cases.specs.Opened.{over}
-use Rattle.rq_cases.specs.Run.{busy_row, send_started, send_under}
-use Rattle.rq_cases.specs.Store.{sizes}
+use Rattle.rq_cases.specs.Run.{busy_row, log_1, send_started, send_under}
+use Rattle.rq_cases.specs.Store.{formatted_pages, sizes}
+use Rattle.rq_cases.specs.Worlds.{Hold}
 use Rattle.rq_cases.proofs.Bounds.{none_first}
+use Rattle.rq_cases.proofs.Bytes.{first_spelled}
+use Rattle.rq_cases.proofs.Held.{leaves_beginning, pages_now, same_beginning}
 use Rattle.rq_cases.proofs.Running as running
 
 beside_sound : IsSound beside
@@ -115,10 +124,73 @@ module _ (pages : MemPages) (log : MemLog) (new : OpenStore MemPages MemLog) (bo
     answered (reply.Content groups) a = absurd a.lists
     answered (reply.Refused r) a = refused r a
 
+-- both may come
+module _ (pages : MemPages) (log : MemLog) (body : Vec ℕ Global) (empty : body.items ≡ []) (h : Hold pages formatted_pages log log_1) where
+  abbrev here : OpenStore MemPages MemLog
+  here = over beside pages log
+
+  abbrev call : Call
+  call = call_of (other_send body)
+
+  stays : LeavesOnly mem_log log log (IsBeginning log_1 1)
+  stays = same_beginning log log_1 h.1 log_1 1 0 (omega arith) refl
+
+  leaves : (c : List ℕ) → mem_log.may_leave log c → IsBeginning log_1 1 c
+  leaves = leaves_beginning log log_1 h.1 log_1 1 0 (omega arith) refl
+
+  passes_here : Passes (size_of sizes) (ledger_of beside) call
+  passes_here =
+      subst (λ (b : List ℕ). Passes (size_of sizes) (ledger_of beside) (Start_send t2 (record { sender = 1; tag = 8; body = b })))
+      (sym empty) passes
+
+  latched : Makes here (other_send body) (reply.Refused why.Latched) here
+  latched = record {
+    steps = λ honest k. refused_steps beside k call why.Latched (passes_here, refl) refl;
+    cause = λ honest k. refl;
+    sizes = refl;
+    failed = (λ e. cc e, λ e. cc e);
+    refused = refl;
+    lists = tt;
+    changes = refl;
+    starts = tt;
+    writes = tt;
+    pages = refl;
+    log = refl;
+    honest = λ honest. honest;
+    any_moment = λ honest. stays;
+    fit = λ honest k fits. fits;
+    crash = λ honest k fits.
+        runs_through_cuts mem_pages mem_log pages_now here here k fits (other_send body) (reply.Refused why.Latched)
+        first_spelled tt refl leaves stays;
+  }
+
+  wants_memory : Makes here (other_send body) (reply.Refused why.NoMemory) here
+  wants_memory = record {
+    steps = λ honest k. refused_steps beside k call why.NoMemory refl refl;
+    cause = λ honest k. refl;
+    sizes = refl;
+    failed = (λ e. cc e, λ e. cc e);
+    refused = refl;
+    lists = tt;
+    changes = refl;
+    starts = tt;
+    writes = tt;
+    pages = refl;
+    log = refl;
+    honest = λ honest. honest;
+    any_moment = λ honest. stays;
+    fit = λ honest k fits. fits;
+    crash = λ honest k fits.
+        runs_through_cuts mem_pages mem_log pages_now here here k fits (other_send body) (reply.Refused why.NoMemory)
+        first_spelled tt refl leaves stays;
+  }
+
 pub latches : LatchesAreJudged
 latches = record {
   sound = beside_sound;
   latched_or_memory = λ pages log new body r empty a. answered pages log new body empty r a;
+  latched = latched;
+  wants_memory = wants_memory;
   started_beside = started;
   latched_by_nobody = λ pages log new body a. (let e = a.cause (tt, tt) running.begin_again.sound in cc e);
 }

@@ -12,6 +12,8 @@ use Rattle.rq_cases.specs.Logs.{LogsAreJudged}
 use Rattle.rq_cases.specs.Run.{log_1, log_3, log_5}
 use Rattle.rq_cases.proofs.Bytes.{first_spelled, records_spelled, short_log}
 use Rattle.rq_cases.proofs.Held.{log_seen}
+use Rattle.rq_cases.proofs.Running as running
+use Rattle.rq_views.specs.WorkedItems.{t1}
 
 -- how many of the newest records lack
 lost_of : (lost : ℕ) (records : List Record) → AreSpelled records → spelled records ≡ spelled (drop lost log_5) → 5 - lost ≡ length records
@@ -48,6 +50,10 @@ none_behind bytes rest e = by rest (let n : length bytes ≡ length (bytes ++ re
 pub logs : LogsAreJudged
 logs = record {
   are_spelled = records_spelled;
+  whole = running.commit_send.sound.log;
+  incarnation_left_out = λ w. (let e : 3 ≡ 2 = w.order.0 in omega (arith, e));
+  committed_twice = λ w. (let e = w.rules.1 t1 refl in cc e);
+  of_another_incarnation = λ w. (let e : 2 ≡ 1 = w.order.0.1 in omega (arith, e));
   beginning = (4, omega arith, refl);
   all_of_it = (0, omega arith, refl);
   forced_lost = lost_forced;

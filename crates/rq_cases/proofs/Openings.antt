@@ -30,7 +30,7 @@ use Rattle.rq_store.proofs.Cutting.{fits_log_longer}
 use Rattle.rq_store.proofs.Forcing.{refused_steps}
 use Rattle.rq_store.proofs.Formatting.{formatted_fits}
 use Rattle.rq_store.proofs.Opening.{restarted_whole}
-use Rattle.rq_restart.specs.Checked.{IsEnded, IsGoneThrough, as_read}
+use Rattle.rq_restart.specs.Checked.{IsBeyond, IsEnded, IsGoneThrough, as_read}
 use Rattle.rq_restart.specs.Refused.{IsFirstFault, TellsDamage}
 use Rattle.rq_restart.specs.Repeating.{IsFirstBad, Paged, Repeats}
 use Rattle.rq_restart.specs.Restarting.{BeginsAtMost, IsBegunOn, IsRead, LogStops}
@@ -42,14 +42,14 @@ use Rattle.rq_cases.specs.Openings.{BeginningsAreJudged, Checked, ChecksAreJudge
 use Rattle.rq_cases.specs.Reading.{no_cells, superblock}
 use Rattle.rq_cases.specs.Restarting.{read_pages, repeated_pages}
 use Rattle.rq_cases.specs.Run.{forced, log_1, log_4, log_5}
-use Rattle.rq_cases.specs.Store.{formatted_pages, sizes}
+use Rattle.rq_cases.specs.Store.{formatted_pages, groups_1, page_image, sent_pages, sizes}
 use Rattle.rq_cases.specs.Worlds.{Hold, crashed_course}
 use Rattle.rq_cases.proofs.Bytes.{first_spelled, free_is, long_log, records_spelled}
 use Rattle.rq_cases.proofs.Held.{log_left, log_now, log_seen, only_records, runs_through}
 use Rattle.rq_cases.proofs.Logs.{no_record}
 use Rattle.rq_cases.proofs.Pages.{are_formatted, range}
-use Rattle.rq_cases.proofs.Reading.{cells_missing, first_block, no_header}
-use Rattle.rq_cases.proofs.Restarting.{formatted_fit, gone, gone_4, is_restart, made_there, no_cell_lsn, odd_bad, odd_record, open_4, pages_seen_are, repeats_1, repeats_5, same_log}
+use Rattle.rq_cases.proofs.Reading.{cells_missing, first_block, no_header, sent_sound}
+use Rattle.rq_cases.proofs.Restarting.{formatted_fit, gone, gone_4, group_lsn, is_restart, made_there, no_cell_lsn, odd_bad, odd_record, open_4, pages_seen_are, repeats_1, repeats_5, same_log}
 use Rattle.rq_cases.proofs.Running as running
 use Rattle.rq_cases.proofs.Worlds.{leaves_store, ran_crashed, shuts_with_less, whole}
 
@@ -255,6 +255,23 @@ not_block : (pages : MemPages) → AreNewPages pages formatted_pages → IsDamag
 not_block pages n (inl d) = d.1 sizes (subst (IsSuperblock sizes) (sym (first_seen pages n)) first_block)
 not_block pages n (inr d) = (let low = d.1.low in omega (arith, low))
 
+-- the directory page has the number of the third record, and there is one
+group_ahead : IsBeyond sizes log_1 (as_read sizes sent_pages) 1
+group_ahead = record {
+  last = as_read sizes sent_pages;
+  repeated = (
+    as_read sizes sent_pages,
+    refl,
+    record { belongs = record { next = refl; may = record { write = tt; before = tt } }; redone = λ p. refl; marked = refl },
+  );
+  beyond = inl (record {
+    low = omega arith;
+    high = omega arith;
+    bad = λ c. (let w : lsn_of (page_image 3 1 1 groups_1) ≤ 1 = c.lsn in let e = group_lsn in omega (arith, e, w));
+    first = λ p low less. absurd (omega (arith, low, less));
+  });
+}
+
 pub refusals : RefusalsAreJudged
 refusals = record {
   page_damaged = λ pages log n. inl (
@@ -263,6 +280,14 @@ refusals = record {
   );
   no_page_damaged = λ pages new_pages log new_log n s.
       ⊎_elim (λ p. not_block pages n (p.0.0 tt)) (λ l. no_first_page l.0 _ log new_log l.5) s;
+  page_ahead = λ pages log h. inr (
+    sizes,
+    sent_pages,
+    record { superblock = first_block; count = refl; sound = sent_sound },
+    λ honest p low. sym (ap (λ (seen : Images). seen p) (pages_seen_are pages sent_pages h.0)),
+    refl,
+    inr (log_1, first_spelled, λ honest. log_seen log log_1 h.1, (group_ahead, only_read log)),
+  );
   read_failed = λ pages new log e. inl (e, refl);
   unfinished = λ pages log h. inr (
     sizes,

@@ -11,6 +11,7 @@ use Rattle.rq_model.specs.Replay.Reply.{Gave_commit, Gave_forced, Gave_receipt}
 use Rattle.rq_disk.specs.declared.mem_log.MemLog.{MemLog}
 use Rattle.rq_log.specs.Spelled.{spelled}
 use Rattle.rq_page.specs.declared.cell.Cell.{Cell}
+use Rattle.rq_page.specs.Pages.{lsn_of}
 use Rattle.rq_page.specs.Slots.{Slot, held_in}
 use Rattle.rq_page.specs.Slots.Slot.{Sender}
 use Rattle.rq_txn.specs.Rows.{Row}
@@ -27,12 +28,13 @@ use Rattle.rq_cases.specs.Opened.{IsNewLog, over}
 use Rattle.rq_cases.specs.Replies.{ContentsAreJudged, ReceiptsAreJudged, RepliesAreJudged, Shows, asked_commit, asked_force, asked_receipt, of_send, short_pages, shown}
 use Rattle.rq_cases.specs.Run.{committed, did_send, done_row, forced, log_1, log_5, take_started}
 use Rattle.rq_cases.specs.Sound.{hello}
-use Rattle.rq_cases.specs.Store.{cells_0, groups_1, one_sent, one_taken, sent_pages, sizes, taken_pages}
+use Rattle.rq_cases.specs.Store.{cells_0, cells_1, groups_1, one_sent, one_taken, page_image, sent_pages, sizes, taken_pages}
 use Rattle.rq_cases.proofs.Audits.{audits, left_out_of}
 use Rattle.rq_cases.proofs.Bytes.{first_spelled, records_spelled, short_log}
 use Rattle.rq_cases.proofs.Held.{leaves_beginning, log_left, log_seen, only_records}
 use Rattle.rq_cases.proofs.Images.{slot_is}
 use Rattle.rq_cases.proofs.Pages.{cell_told, cells_0_long, free_told, groups_1_long, sent_told, taken_told}
+use Rattle.rq_cases.proofs.Restarting.{cell_lsn}
 use Rattle.rq_cases.proofs.Running as running
 
 -- a refusal of a force tells its cause, and an answer how many are forced
@@ -54,6 +56,12 @@ replies = record {
   fails_now = λ old new runs e. (runs, e);
   fails_without_a_failure = λ old new low same n. (let e = n.1 in omega (arith, low, same, e));
   not_written_otherwise = λ old new n. n;
+  page_not_forced = λ pages log.
+      (refl, (record { of_store = omega arith; changed = refl }, (let e = cell_lsn in omega (arith, e))));
+  not_forced_though_it_is = λ pages log w.
+      (let f : 5 < lsn_of (page_image 2 2 2 cells_1) = w.1.1 in let e = cell_lsn in omega (arith, e, f));
+  page_unchanged = λ pages log. (refl, refl);
+  unchanged_though_it_is_not = λ pages log w. (let e = w.1 in cc e);
   counted = λ n. record { ok = tt; err = refl };
   not_counted = λ n low c. (let e = c.err in omega (arith, low, e));
   counted_for_nothing = λ n c. (let e = c.ok in omega (arith, e));

@@ -111,7 +111,7 @@ new_count : (n : ℕ) → 1 ≤ n → n ≤ 15 → number_at 8 8 (groups_0 n) �
 new_count n low high = sent_number (record { sender = sender_at 1 n; directory = new_directory }) (new_in_range (sender_at 1 n) (omega (arith, low, high)))
 
 -- no number is beyond a log of three records
-module _ (count : ℕ) (many : 3 ≤ count) where
+module _ (count : ℕ) where
   pub counted_read : AreCounted sizes count read_pages
   counted_read zero low high = absurd (omega (arith, low))
   counted_read (suc zero) low high = record {
@@ -121,6 +121,7 @@ module _ (count : ℕ) (many : 3 ≤ count) where
   counted_read (suc (suc zero)) low high = record { lsn = (let e = no_cell_lsn in omega (arith, e)); slots = λ n from to. omega arith }
   counted_read (suc (suc (suc p))) low high = absurd (omega (arith, high))
 
+module _ (count : ℕ) (many : 3 ≤ count) where
   counted_last : AreCounted sizes count repeated_pages
   counted_last zero low high = absurd (omega (arith, low))
   counted_last (suc zero) low high = record {
@@ -189,10 +190,10 @@ pub repeats_5 : Repeats sizes log_5 read_pages repeated_pages
 repeats_5 = (repeated_pages, repeats_4, commit_repeated)
 
 pub gone : IsGoneThrough sizes log_5 read_pages repeated_pages
-gone = record { repeated = repeats_5; counted_read = counted_read 5 (omega arith); counted = counted_last 5 (omega arith) }
+gone = record { repeated = repeats_5; counted_read = counted_read 5; counted = counted_last 5 (omega arith) }
 
 pub gone_4 : IsGoneThrough sizes log_4 read_pages repeated_pages
-gone_4 = record { repeated = repeats_4; counted_read = counted_read 4 (omega arith); counted = counted_last 4 (omega arith) }
+gone_4 = record { repeated = repeats_4; counted_read = counted_read 4; counted = counted_last 4 (omega arith) }
 
 -- the write of the cell was made, whatever the pages were between
 pub made_there : (first last : Paged) → lsn_of (first.image 2) ≡ 0 → lsn_of (last.image 2) ≡ 0 → IsGoneThrough sizes log_5 first last → ⊥

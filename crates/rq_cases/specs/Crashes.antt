@@ -5,13 +5,17 @@ use Rattle.std.specs.declared.alloc.Global.{Global}
 use Rattle.rq_model.specs.declared.record.Record.{Record}
 use Rattle.rq_model.specs.History.Call.{Begin, Force}
 use Rattle.rq_model.specs.Replay.Reply.{Gave_forced}
+use Rattle.rq_model.specs.Incarnations.{Ties}
+use Rattle.rq_model.specs.Ledger.{ledger}
 use Rattle.rq_disk.specs.Device.{Images, Leaves}
+use Rattle.rq_disk.specs.Records.{HoldsRecords}
 use Rattle.rq_disk.specs.declared.mem_log.LogCall.TheVariants.{Append}
 use Rattle.rq_disk.specs.declared.mem_log.MemLog.{MemLog}
 use Rattle.rq_disk.specs.declared.mem_pages.MemPages.{MemPages}
 use Rattle.rq_log.specs.Logged.{WasDurable}
 use Rattle.rq_log.specs.Spelled.{AreSpelled, spelled}
 use Rattle.rq_pool.specs.Pooled.{AreOver, IsPool}
+use Rattle.rq_pool.specs.Reading.{AreSeen}
 use Rattle.rq_engine.specs.Crash.{RunsThroughCuts}
 use Rattle.rq_engine.specs.Devices.{Path}
 use Rattle.rq_engine.specs.Opened.{OpenStore}
@@ -20,6 +24,7 @@ use Rattle.rq_core.specs.Happenings.{Course, Happening}
 use Rattle.rq_core.specs.Happenings.Answer.{Answered}
 use Rattle.rq_core.specs.Happenings.Happening.{Asks, Crashes, Stops_in, Stops_restart}
 use Rattle.rq_core.specs.Runs.{CanCrash}
+use Rattle.rq_core.specs.Worked.{first_entries}
 use Rattle.rq_cases.specs.Courses as courses
 use Rattle.rq_cases.specs.Opened.{AreNewPages, IsForcedSince, IsNewLog, over}
 use Rattle.rq_cases.specs.Openings.{logged}
@@ -72,6 +77,9 @@ abbrev pub MayFail : Course → Happening → MemPages → MemLog → Type 0
 MayFail course x pages log = CanCrash sizes course x pages log
 
 pub record CrashesAreJudged : Type 0 where
+  -- the history tells what the log does
+  pub ties : Ties (ledger (first_entries 9)) log_5
+  pub ties_to_less : Ties (ledger (first_entries 9)) log_1 → ⊥
   pub once_forced : (pages : MemPages) (log : MemLog) → Hold pages formatted_pages log log_5
       → MayFail (course_to 9) Crashes pages log
   pub in_a_force : (pages : MemPages) (log : MemLog) → Hold pages formatted_pages log log_5
@@ -99,6 +107,10 @@ pub record PoolsAreJudged : Type 0 where
   pub no_cell_page : IsPool sizes no_cells → ⊥
   pub too_few_pages : IsPool sizes (superblock ∷ []) → ⊥
   pub no_superblock : IsPool sizes ([] ∷ [] ∷ [] ∷ []) → ⊥
+  -- what is seen of a device
+  pub are_seen : (d : MemPages) → AreNewPages d formatted_pages → AreSeen (mem_pages.seen d) formatted_pages 3
+  pub others_are_seen : (d : MemPages) → AreNewPages d formatted_pages → AreSeen (mem_pages.seen d) sent_pages 3 → ⊥
+  pub records_are_held : HoldsRecords (spelled log_5) 5
   -- pages that were not changed stand so on their device
   pub over_their_device : (d : MemPages) → AreNewPages d formatted_pages
       → AreOver mem_pages d sizes sent_pages (false ∷ true ∷ true ∷ [])

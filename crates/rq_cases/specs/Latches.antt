@@ -16,7 +16,9 @@ use Rattle.rq_engine.specs.declared.event.Reply.{Reply}
 use Rattle.rq_engine.specs.declared.event.Reply.TheVariants as reply
 use Rattle.rq_cases.specs.Applied.{Makes}
 use Rattle.rq_cases.specs.Opened.{over}
-use Rattle.rq_cases.specs.Run.{begun_again, send_started}
+use Rattle.rq_cases.specs.Run.{begun_again, log_1, send_started}
+use Rattle.rq_cases.specs.Store.{formatted_pages}
+use Rattle.rq_cases.specs.Worlds.{Hold}
 
 -- 1.1 has its send under way, and 1.2 is begun
 abbrev pub beside : State
@@ -33,6 +35,12 @@ pub record LatchesAreJudged : Type 0 where
       (r : Reply) → body.items ≡ []
       → Makes (over beside pages log) (other_send body) r new
       → (r ≡ reply.Refused why.Latched) ⊎ (r ≡ reply.Refused why.NoMemory)
+  pub latched : (pages : MemPages) (log : MemLog) (body : Vec ℕ Global) → body.items ≡ []
+      → Hold pages formatted_pages log log_1
+      → Makes (over beside pages log) (other_send body) (reply.Refused why.Latched) (over beside pages log)
+  pub wants_memory : (pages : MemPages) (log : MemLog) (body : Vec ℕ Global) → body.items ≡ []
+      → Hold pages formatted_pages log log_1
+      → Makes (over beside pages log) (other_send body) (reply.Refused why.NoMemory) (over beside pages log)
   pub started_beside : (pages : MemPages) (log : MemLog) (new : OpenStore MemPages MemLog) (body : Vec ℕ Global)
       (sub : Sub) → Makes (over beside pages log) (other_send body) (reply.Started sub) new → ⊥
   -- where nothing is under way, it is not

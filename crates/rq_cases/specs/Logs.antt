@@ -3,14 +3,22 @@ use Rattle.std.specs.Prelude.{◌<◌, ◌^◌, [], ◌∷◌, ◌++◌}
 use Rattle.rq_model.specs.declared.refusal.Damage.TheVariants as damage
 use Rattle.rq_model.specs.declared.refusal.Refusal.TheVariants as why
 use Rattle.rq_disk.specs.declared.mem_log.MemLog.{MemLog}
+use Rattle.rq_model.specs.declared.record.Record.TheVariants.{Commit, Restart}
+use Rattle.rq_views.specs.WorkedItems.{t1}
+use Rattle.rq_store.specs.Whole.{IsWhole}
 use Rattle.rq_log.specs.Scanned.{BeginsWith, IsDamagedBehind, StopsAt, StopsFor}
 use Rattle.rq_log.specs.Spelled.{AreSpelled, GoesOn, IsBeginning, spelled}
 use Rattle.rq_core.specs.Devices.{mem_log}
 use Rattle.rq_cases.specs.Opened.{IsNewLog}
-use Rattle.rq_cases.specs.Run.{log_1, log_3, log_5}
+use Rattle.rq_cases.specs.Run.{log_1, log_3, log_4, log_5}
+use Rattle.rq_cases.specs.Store.{sizes}
 
 pub record LogsAreJudged : Type 0 where
   pub are_spelled : AreSpelled log_5
+  pub whole : IsWhole sizes log_5
+  pub incarnation_left_out : IsWhole sizes (Restart 3 ∷ log_5) → ⊥
+  pub committed_twice : IsWhole sizes (Commit t1 ∷ log_5) → ⊥
+  pub of_another_incarnation : IsWhole sizes (Commit (record { incarnation = 2; count = 1 }) ∷ log_4) → ⊥
   -- the first records, with all that are forced
   pub beginning : IsBeginning log_5 1 (spelled log_1)
   pub all_of_it : IsBeginning log_5 5 (spelled log_5)

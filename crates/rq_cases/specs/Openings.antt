@@ -29,7 +29,7 @@ use Rattle.rq_cases.specs.Opened.{AreNewPages, IsForcedSince, IsNewLog}
 use Rattle.rq_cases.specs.Reading.{no_cells}
 use Rattle.rq_cases.specs.Restarting.{read_pages, repeated_pages}
 use Rattle.rq_cases.specs.Run.{forced, log_1, log_4, log_5}
-use Rattle.rq_cases.specs.Store.{formatted_pages, free_cell, sizes}
+use Rattle.rq_cases.specs.Store.{formatted_pages, free_cell, sent_pages, sizes}
 use Rattle.rq_cases.specs.Worlds.{Hold}
 
 -- the log with the record that begins the next incarnation
@@ -80,6 +80,8 @@ pub record RefusalsAreJudged : Type 0 where
       → IsRefused pages log (why.Damaged (damage.Page 2)) pages log
   pub no_page_damaged : (pages new_pages : MemPages) (log new_log : MemLog) → AreNewPages pages formatted_pages
       → IsRefused pages log (why.Damaged (damage.Page 0)) new_pages new_log → ⊥
+  pub page_ahead : (pages : MemPages) (log : MemLog) → Hold pages sent_pages log log_1
+      → IsRefused pages log (why.Damaged (damage.Page 1)) pages log
   pub read_failed : (pages new : MemPages) (log : MemLog)
       → mem_pages.faults new ≡ (mem_pages.faults pages + 1) % 2 ^ 64 → IsRefused pages log why.DiskRead new log
   -- for its log

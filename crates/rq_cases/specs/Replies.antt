@@ -18,7 +18,8 @@ use Rattle.rq_txn.specs.Rows.{Row}
 use Rattle.rq_views.specs.WorkedItems.{t1}
 use Rattle.rq_content.specs.Read.{IsBroken, StopsFor, read_group}
 use Rattle.rq_engine.specs.Answers.{AnswersLegally}
-use Rattle.rq_engine.specs.Opened.{LeavesDevices, NotWritten, OpenStore}
+use Rattle.rq_pool.specs.declared.Written.TheVariants.{Nothing}
+use Rattle.rq_engine.specs.Opened.{LeavesDevices, NotWritten, OpenStore, WritesWhen}
 use Rattle.rq_shared.specs.Calls.{IsTaken}
 use Rattle.rq_shared.specs.Entries.{Noted}
 use Rattle.rq_shared.specs.Receipts.{IsDurable, IsReceiptOf}
@@ -55,6 +56,14 @@ pub record RepliesAreJudged : Type 0 where
   pub fails_without_a_failure : (old new : OpenStore MemPages MemLog) → mem_log.faults old.log < 2 ^ 64
       → mem_log.faults new.log ≡ mem_log.faults old.log → NotWrittenFor why.DiskWrite old new → ⊥
   pub not_written_otherwise : (old new : OpenStore MemPages MemLog) → NotWrittenFor why.LogFull old new → ⊥
+  -- when a page is written
+  pub page_not_forced : (pages : MemPages) (log : MemLog) → WritesWhen (over committed pages log) 2 (Err why.NotForced)
+  pub not_forced_though_it_is : (pages : MemPages) (log : MemLog)
+      → WritesWhen (over forced pages log) 2 (Err why.NotForced) → ⊥
+  pub page_unchanged : (pages : MemPages) (log : MemLog) → WritesWhen (over forced pages log) 0 (Ok Nothing)
+  pub unchanged_though_it_is_not : (pages : MemPages) (log : MemLog)
+      → WritesWhen (over forced pages log) 2 (Ok Nothing) → ⊥
+  -- a failure is counted
   pub counted : (n : ℕ) → FailureIsCounted {T = ℕ} {E = ℕ} n ((n + 1) % 2 ^ 64) (Err 0)
   pub not_counted : (n : ℕ) → n < 2 ^ 64 → FailureIsCounted {T = ℕ} {E = ℕ} n n (Err 0) → ⊥
   pub counted_for_nothing : (n : ℕ) → FailureIsCounted {T = ℕ} {E = ℕ} n (n + 1) (Ok 0) → ⊥
