@@ -373,7 +373,7 @@ one_row r (inl e) = subst (λ (x : Row). IsRowKept sizes 1 1 4 x) (sym e) (recor
   low = omega arith;
   high = omega arith;
   number = omega arith;
-  under = record { number = omega arith; made = omega arith; slots = slots_are; deed_low = omega arith; deed_high = omega arith };
+  under = record { number = omega arith; doing = refl; made = omega arith; slots = slots_are; deed_low = omega arith; deed_high = omega arith };
 })
 one_row r (inr none) = absurd none
 
