@@ -12,9 +12,9 @@ use Rattle.rq_disk.specs.declared.mem_log.MemLog.{MemLog}
 use Rattle.rq_disk.specs.declared.mem_pages.MemPages.{MemPages}
 use Rattle.rq_txn.specs.Rows.{fresh_row}
 use Rattle.rq_store.specs.Opening.{next_restart, opened}
-use Rattle.rq_store.specs.Sound.{IsSound}
+use Rattle.rq_sound.specs.Sound.{IsSound}
 use Rattle.rq_store.specs.State.{State, ledger_of}
-use Rattle.rq_store.specs.Steps.{Steps}
+use Rattle.rq_sound.specs.Steps.{Steps}
 use Rattle.rq_engine.specs.Kept.{IsKept, total_of}
 use Rattle.rq_engine.specs.Opened.{OpenStore}
 use Rattle.rq_engine.specs.declared.event.CommitNo.{CommitNo}
