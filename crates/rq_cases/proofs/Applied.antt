@@ -13,7 +13,7 @@ use Rattle.rq_page.specs.Pages.{lsn_of}
 use Rattle.rq_views.specs.WorkedItems.{t2}
 use Rattle.rq_restart.proofs.Parsing.{one_log, AreSpelled-drop}
 use Rattle.rq_store.specs.State.{State}
-use Rattle.rq_store.specs.Steps.{Steps}
+use Rattle.rq_sound.specs.Steps.{Steps}
 use Rattle.rq_store.proofs.Forcing.{failed_steps}
 use Rattle.rq_engine.specs.declared.event.Event.TheVariants as event
 use Rattle.rq_engine.specs.declared.event.Reply.TheVariants as reply

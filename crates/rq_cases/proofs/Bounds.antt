@@ -35,9 +35,9 @@ use Rattle.rq_engine.specs.declared.event.CommitNo.{CommitNo}
 use Rattle.rq_store.specs.Sound.{takes_one}
 use Rattle.rq_txn.specs.Rows.{Row, found_row, fresh_row, finished_of}
 use Rattle.rq_store.specs.Fitting.{AllFit, FitsLog, image_in, left_by}
-use Rattle.rq_store.specs.Sound.{IsSound}
+use Rattle.rq_sound.specs.Sound.{IsSound}
 use Rattle.rq_store.specs.State.{State, ledger_of, size_of}
-use Rattle.rq_store.specs.Steps.{Steps}
+use Rattle.rq_sound.specs.Steps.{Steps}
 use Rattle.rq_store.specs.Whole.{IsWhole}
 use Rattle.rq_store.proofs.Beginning.{begin_sound}
 use Rattle.rq_store.proofs.Committing.{commit_steps}

@@ -7,7 +7,7 @@ use Rattle.rq_disk.specs.declared.mem_log.MemLog.{MemLog}
 use Rattle.rq_disk.specs.declared.mem_pages.MemPages.{MemPages}
 use Rattle.rq_views.specs.WorkedItems.{t2}
 use Rattle.rq_txn.specs.Rows.{fresh_row}
-use Rattle.rq_store.specs.Sound.{IsSound}
+use Rattle.rq_sound.specs.Sound.{IsSound}
 use Rattle.rq_store.specs.State.{State}
 use Rattle.rq_engine.specs.Opened.{OpenStore}
 use Rattle.rq_engine.specs.declared.event.Event.{Event}

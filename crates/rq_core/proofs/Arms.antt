@@ -27,7 +27,7 @@ use Rattle.rq_engine.specs.declared.event.Event.{Event}
 use Rattle.rq_engine.specs.declared.event.Reply.{Reply}
 use Rattle.rq_engine.specs.declared.event.Reply.TheVariants as reply
 use Rattle.rq_pool.specs.Reading.{IsSuperblock}
-use Rattle.rq_store.specs.Sound.{IsSound}
+use Rattle.rq_sound.specs.Sound.{IsSound}
 use Rattle.rq_store.specs.Fitting.{AllFit}
 use Rattle.rq_engine.specs.Crash.{AreFit}
 use Rattle.rq_engine.specs.Devices.{EachPair}

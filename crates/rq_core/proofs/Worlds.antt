@@ -28,7 +28,7 @@ use Rattle.rq_log.specs.Spelled.{spelled, AreSpelled}
 use Rattle.rq_page.specs.Sizes.{Sizes}
 use Rattle.rq_pool.specs.Reading.{IsSuperblock}
 use Rattle.rq_store.specs.State.{State, ledger_of, size_of, phase_of}
-use Rattle.rq_store.specs.Sound.{IsSound}
+use Rattle.rq_sound.specs.Sound.{IsSound}
 use Rattle.rq_store.specs.Opening.{IsLeft, next_restart}
 use Rattle.rq_store.specs.Fitting.{AllFit, FitsLog, FitsPage}
 use Rattle.rq_page.specs.Formatted.{IsFormatted, IsHeaderOf}

@@ -18,7 +18,7 @@ use Rattle.rq_model.specs.History.Call.{Commit, Step, Finish, Show}
 use Rattle.rq_model.specs.History.Entry.{Ready, Shown}
 use Rattle.rq_model.specs.Ledger.{Open, found, runs}
 use Rattle.rq_model.specs.Legal.{OnFound}
-use Rattle.rq_model.specs.Tests.{has_under, steps_left, log_full, tests, first_of}
+use Rattle.rq_model.specs.Tests.{has_under, is_aborting, steps_left, log_full, tests, first_of, NoneHolds, ready_tests}
 use Rattle.rq_model.specs.Replay.{Reply as Gave}
 use Rattle.rq_model.specs.Replay.Reply.{Gave_lsn, Gave_commit, Gave_ready, Gave_content}
 use Rattle.rq_page.specs.Sizes.{Sizes}
@@ -28,12 +28,15 @@ use Rattle.rq_txn.specs.declared.Finished.{Finished}
 use Rattle.rq_txn.specs.declared.Aim.{Aim}
 use Rattle.rq_txn.specs.declared.Aim.TheVariants.{Doing}
 use Rattle.rq_txn.specs.Rows.{Row, Under, deed_of, found_row, finished_of, any_under, change_row, without_row, row_stepped, row_finished}
-use Rattle.rq_groups.specs.Ends.{HeldEnds}
+use Rattle.rq_groups.specs.Ends.{HeldEnds, released}
 use Rattle.rq_store.specs.State.{State, ledger_of, size_of, owed_one, owed_under, job_under, left_under, phase_of}
 use Rattle.rq_groups.specs.Waiting.{waits}
-use Rattle.rq_store.specs.Sound.{IsSound, apart, takes_one, sends_in}
+use Rattle.rq_store.specs.Sound.{takes_one}
+use Rattle.rq_sound.specs.Counted.{sends_in, takes_all}
+use Rattle.rq_sound.specs.Sound.{IsSound}
 use Rattle.rq_store.proofs.Waiting.{one_of_sum}
-use Rattle.rq_store.specs.Steps.{Steps, page_op, op_end, gave_done}
+use Rattle.rq_store.specs.Steps.{page_op, op_end, gave_done}
+use Rattle.rq_sound.specs.Steps.{Steps}
 use Rattle.rq_store.proofs.RowLists.{found_in}
 use Rattle.rq_store.proofs.Opens.{busy_is}
 use Rattle.rq_model.specs.Ledger.{group_in}
@@ -41,11 +44,7 @@ use Rattle.rq_model.specs.History.{Group}
 use Rattle.rq_model.specs.Tests.{any_busy, below}
 use Rattle.rq_model.specs.Commits.{committed_of}
 use Rattle.rq_page.specs.Sizes.{sender_count}
-use Rattle.rq_store.proofs.Releases.{without_ends}
-use Rattle.rq_store.proofs.Working.{going_at}
-use Rattle.rq_store.proofs.Stepping.{step_steps}
-use Rattle.rq_store.proofs.Finishing.{finish_steps}
-use Rattle.rq_store.proofs.Committing.{commit_steps}
+use Rattle.rq_engine.proofs.Standing.{going_at, step_steps, finish_steps, commit_steps}
 use Rattle.rq_engine.specs.Kept.{IsKept, room_one, room_of, done_one}
 use Rattle.rq_engine.specs.Moves.{with_sends, without_taken}
 use Rattle.rq_engine.proofs.Waits.{waits-with_sends, waits-without_taken}
@@ -183,8 +182,7 @@ module _ (s : State) (f : Bool) (o res : ℕ) (k : IsKept s f o res) (sub : Sub)
 pub step_done : (s new : State) (sub : Sub) (w : SlotWrite) (lsn : ℕ) → s.failed ≡ false → IsUnderWay s sub (Next w) → IsMade s sub w new → lsn ≡ length s.records + 1 → IsSound s → Steps s (Step sub.txn sub.number) (Gave_lsn lsn) new
 step_done s new sub w lsn running h m at k =
     let g = going_of s sub (Next w) h in
-    let more = slice_get_within g.under.writes g.under.made w g.so in
-    let a = step_steps s k sub.txn g.row g.under w new.images g.found g.is g.so m.slots m.put_in m.before m.slot more running in
+    let a = step_steps s k sub.txn g.row g.under w new.images g.found g.is g.so m.slots m.put_in m.before m.slot running in
     let b = subst (λ (n : ℕ). Steps s (Step sub.txn n) (Gave_lsn (length s.records + 1)) (record s { rows = change_row sub.txn row_stepped s.rows; images = new.images; records = page_op sub.txn n w ∷ s.records })) g.number a in
     subst (λ (n : ℕ). Steps s (Step sub.txn sub.number) (Gave_lsn n) new) (sym at) (subst (λ (x : State). Steps s (Step sub.txn sub.number) (Gave_lsn (length s.records + 1)) x) (sym m.state) b)
 
@@ -258,12 +256,11 @@ step_idle s sub why.LogFull h = absurd h
 pub finish_done : (s new : State) (sub : Sub) (d : Deed) → s.failed ≡ false → IsUnderWay s sub (AllMade d) → new ≡ record s { rows = change_row sub.txn (row_finished (record { lsn = length s.records + 1; deed = d })) s.rows; records = op_end sub.txn sub.number d ∷ s.records; waiting = without_taken d s.waiting } → IsSound s → Steps s (Finish sub.txn sub.number) (gave_done d) new
 finish_done s new sub d running h e k =
     let g = going_of s sub (AllMade d) h in
-    let made = (going_at s k sub.txn g.row g.under g.found g.is).0.made in
+    let made = (going_at s k sub.txn g.row g.under g.found g.is).0 in
     let all = g.so.0 in
-    let a = finish_steps s k sub.txn g.row g.under (without_taken (deed_of g.under.aim) s.waiting) g.found g.is (omega (arith, made, all)) (λ p. waits-without_taken (deed_of g.under.aim) s.waiting p) running in
-    let b = subst (λ (n : ℕ). Steps s (Finish sub.txn n) (gave_done (deed_of g.under.aim)) (record s { rows = change_row sub.txn (row_finished (record { lsn = length s.records + 1; deed = (deed_of g.under.aim) })) s.rows; records = op_end sub.txn n (deed_of g.under.aim) ∷ s.records; waiting = without_taken (deed_of g.under.aim) s.waiting })) g.number a in
-    let c = subst (λ (x : Deed). Steps s (Finish sub.txn sub.number) (gave_done x) (record s { rows = change_row sub.txn (row_finished (record { lsn = length s.records + 1; deed = x })) s.rows; records = op_end sub.txn sub.number x ∷ s.records; waiting = without_taken x s.waiting })) (ap deed_of g.so.1) b in
-    subst (λ (x : State). Steps s (Finish sub.txn sub.number) (gave_done d) x) (sym e) c
+    let a = finish_steps s k sub.txn g.row g.under d (without_taken d s.waiting) g.found g.is g.so.1 (omega (arith, made, all)) (λ p. waits-without_taken d s.waiting p) running in
+    let b = subst (λ (n : ℕ). Steps s (Finish sub.txn n) (gave_done d) (record s { rows = change_row sub.txn (row_finished (record { lsn = length s.records + 1; deed = d })) s.rows; records = op_end sub.txn n d ∷ s.records; waiting = without_taken d s.waiting })) g.number a in
+    subst (λ (x : State). Steps s (Finish sub.txn sub.number) (gave_done d) x) (sym e) b
 
 steps_are_left : (s : State) (sub : Sub) → s.failed ≡ false → IsUnderWay s sub (λ r u. u.made < length u.writes) → Refuses s (Finish sub.txn sub.number) why.Unfinished
 steps_are_left s sub running h k =
@@ -319,20 +316,21 @@ commit_room s f o res t k g = at (found_row t s.rows) refl where
   at None e = let a = k.few g in let b = k.count in omega (arith, a, b)
   at (Some r) e = let a = k.few g in let b = k.count in let c = sum_at done_one t s.rows r e in omega (arith, a, b, c)
 
-pub commit_done : (s : State) (f : Bool) (o res n lsn cells : ℕ) (t : Txn) → IsKept s f o res → s.failed ≡ false → HasNothingUnderWay s t n → log_full (ledger_of s) 1 ≡ false → lsn ≡ length s.records + 1 → cells ≡ s.cells_in_use - sum_by takes_one (finished_of (found_row t s.rows)) → IsSound s
-    → Steps s (Commit t) (Gave_commit (record { txn = t; lsn = lsn })) (record s { rows = without_row t s.rows; ends = without_ends t s.ends; records = records.Commit t ∷ s.records; cells_in_use = cells; waiting = with_sends (finished_of (found_row t s.rows)) s.waiting })
-commit_done s f o res n lsn cells t c running h room at freed k =
+pub commit_done : (s : State) (f : Bool) (o res n lsn cells : ℕ) (t : Txn) → IsKept s f o res → s.failed ≡ false → NoneHolds (ready_tests (ledger_of s) t false) → HasNothingUnderWay s t n → log_full (ledger_of s) 1 ≡ false → lsn ≡ length s.records + 1 → cells ≡ s.cells_in_use - sum_by takes_one (finished_of (found_row t s.rows)) → IsSound s
+    → Steps s (Commit t) (Gave_commit (record { txn = t; lsn = lsn })) (record s { rows = without_row t s.rows; ends = record { sending = released t s.ends.sending; receiving = released t s.ends.receiving }; records = records.Commit t ∷ s.records; cells_in_use = cells; waiting = with_sends (finished_of (found_row t s.rows)) s.waiting })
+commit_done s f o res n lsn cells t c running tested h room at freed k =
     let r = found_of (λ r. (r.under ≡ None) × (n ≡ r.number + 1)) (found_row t s.rows) h in
     let fs = finished_of (found_row t s.rows) in
     let own : fs ≡ r.0.finished = ap finished_of r.1 in
     let taken : sum_by takes_one fs ≡ sum_by takes_one r.0.finished = ap (sum_by takes_one) own in
-    let part = one_of_sum apart s.rows r.0 (found_in t s.rows r.0 r.1).0 in
-    let used = k.used in
+    let part = one_of_sum takes_all s.rows r.0 (found_in t s.rows r.0 r.1).0 in
+    let used = k.counted.used in
+    let forward : r.0.aborting ≡ false = sym (ap is_aborting (found_some s t r.0 r.1)) ∙ tested.1.1.0 in
     let enough : sum_by takes_one r.0.finished ≤ s.cells_in_use = omega (arith, part, used) in
     let waited : (g : ℕ) → g < sender_count s.sizes → waits (with_sends fs s.waiting) g ≡ waits s.waiting g + sends_in g r.0 =
     (λ g m. ap (λ l. waits (with_sends l s.waiting) g) own ∙ waits-with_sends r.0.finished s.waiting g (let l = c.senders in omega (arith, l, m))) in
-    subst (λ (m : ℕ). Steps s (Commit t) (Gave_commit (record { txn = t; lsn = m })) (record s { rows = without_row t s.rows; ends = without_ends t s.ends; records = records.Commit t ∷ s.records; cells_in_use = cells; waiting = with_sends fs s.waiting })) (sym at)
-    (commit_steps s k t r.0 cells (with_sends fs s.waiting) r.1 r.2.0 (omega (arith, freed, taken, enough)) waited running room)
+    subst (λ (m : ℕ). Steps s (Commit t) (Gave_commit (record { txn = t; lsn = m })) (record s { rows = without_row t s.rows; ends = record { sending = released t s.ends.sending; receiving = released t s.ends.receiving }; records = records.Commit t ∷ s.records; cells_in_use = cells; waiting = with_sends fs s.waiting })) (sym at)
+    (commit_steps s k t r.0 cells (with_sends fs s.waiting) r.1 r.2.0 forward (omega (arith, freed, taken, enough)) waited running room)
 
 -- the content
 pub content_done : (s : State) (groups : List Group) → s.failed ≡ false → any_under s.rows ≡ false → groups ≡ map (group_in (committed_of s.records)) (below (sender_count s.sizes)) → IsSound s → Steps s Show (Gave_content groups) s

@@ -25,8 +25,8 @@ use Rattle.rq_pool.specs.Pooled.{image_at}
 use Rattle.rq_pool.specs.Writing.{DeviceAfter, MayHaveWritten}
 use Rattle.rq_store.specs.State.{State}
 use Rattle.rq_store.specs.Fitting.{oldest, FitsPage, FitsLog, AllFit, image_in}
-use Rattle.rq_store.specs.Sound.{IsSound}
-use Rattle.rq_store.specs.Steps.{Steps}
+use Rattle.rq_sound.specs.Sound.{IsSound}
+use Rattle.rq_sound.specs.Steps.{Steps}
 use Rattle.rq_store.proofs.Begun.{begun_cut}
 use Rattle.rq_store.proofs.Cutting.{whole_dropped, longer_continues, oldest_continues, all_fit_longer, page_fits_oldest, fits_log, fits_log_longer}
 use Rattle.rq_engine.specs.declared.event.Event.{Event}

@@ -2,6 +2,7 @@ pub mod Opened
 pub mod Waits
 pub mod Keeping
 pub mod Refusals
+pub mod Standing
 pub mod Calls
 pub mod SendCalls
 pub mod TakeCalls

@@ -11,9 +11,15 @@ use Rattle.rq_groups.specs.Ends.{released}
 use Rattle.rq_txn.specs.Rows.{fresh_row, without_row}
 use Rattle.rq_store.specs.State.{State}
 use Rattle.rq_store.specs.Sound.{takes_one}
-use Rattle.rq_engine.specs.Answers.{HasNothingUnderWay}
+use Rattle.rq_disk.specs.declared.device.PageDevice as page_device
+use Rattle.rq_model.specs.History.{Call}
+use Rattle.rq_sound.specs.Sound.{IsSound}
+use Rattle.rq_sound.specs.Steps.{Steps}
+use Rattle.rq_engine.specs.Answers.{AnswersLegally, HasNothingUnderWay}
+use Rattle.rq_engine.specs.Opened.{AreHonest, OpenStore}
+use Rattle.rq_engine.specs.Receives.{started_of}
 use Rattle.rq_engine.specs.Moves.{with_sends}
-use Rattle.rq_engine.specs.Says.{begun_reply}
+use Rattle.rq_engine.specs.Says.{begun_reply, call_of, gave}
 use Rattle.rq_engine.specs.Lists.{IsBegun, IsCommitted, TakeSays, TakeFromSays, ListsSay, done_by}
 use Rattle.rq_engine.specs.declared.event.CommitNo.{CommitNo}
 use Rattle.rq_engine.specs.declared.event.Event.{Event}
@@ -57,3 +63,10 @@ pub log_left : {L : Type 0} (g : log_device.Ghosts L) (old new : L) (P : List �
 log_left g old new P same only_now leaves h =
     let k = subst g.honest same h in
     subst (λ (d : _). LeavesOnly g old d P) (sym same) (record { later = omega arith; each = λ c left. leaves k c (only_now old c left); before = λ t c le left. inl left; keeps = λ t c le left. left })
+
+-- the reply to a start of a receive is the entry that its answer is
+pub begun_answered : {P L : Type 0} (p : page_device.Ghosts P) (l : log_device.Ghosts L) (old : OpenStore P L) (call : Call) (x : Result (Option Sub) Refusal) (y : Reply) (e : Event) (new : OpenStore P L) → call_of e ≡ call → AnswersLegally p l old call started_of x new → y ≡ begun_reply x
+    → AreHonest p l new → IsSound old.state → Steps old.state (call_of e) (gave y) new.state
+begun_answered p l old call (Ok (Some sub)) y e new is says reply h k = rw (is, reply) (says h k)
+begun_answered p l old call (Ok None) y e new is says reply h k = rw (is, reply) (says h k)
+begun_answered p l old call (Err r) y e new is says reply h k = rw (is, reply) (says h k).0

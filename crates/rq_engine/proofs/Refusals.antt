@@ -17,7 +17,7 @@ use Rattle.rq_txn.specs.declared.Operation.{Operation}
 use Rattle.rq_txn.specs.Rows.{Row, Under, found_row, under_way_of, any_under}
 use Rattle.rq_store.specs.State.{State, owed_by, ledger_of, size_of, open_of, job_under, phase_of}
 use Rattle.rq_store.proofs.Opens.{found_open, open_found, owed_is, count_is}
-use Rattle.rq_store.proofs.Forcing.{refused_steps}
+use Rattle.rq_engine.proofs.Standing.{refused_steps}
 use Rattle.rq_page.specs.Sizes.{Sizes}
 use Rattle.rq_content.specs.Read.{StopsFor, IsBroken, damaged_for}
 use Rattle.rq_engine.specs.Answers.{Refuses}
@@ -167,8 +167,8 @@ no_way None e = refl
 no_way (Some x) e = cc
 
 -- too many transactions, or not
-pub few : (s : State) (m : ℕ) → not (nat_lt (length s.rows) 4096) ≡ false → s.begins ≢ m → (not (nat_lt (length (ledger_of s).open_ones) 4096) || nat_eq s.begins m) ≡ false
-few s m e n = or_from _ _ (ap (λ k. not (nat_lt k 4096)) (count_is s.ends s.rows) ∙ e) (false_from_ne_true (nat_eq s.begins m) (λ y. n (eqb-true s.begins m y)))
+pub few : (s : State) (m : ℕ) → not (nat_lt (length s.rows) 4096) ≡ false → s.begins ≢ m → (not (nat_lt (length s.rows) 4096) || nat_eq s.begins m) ≡ false
+few s m e n = or_from _ _ e (false_from_ne_true (nat_eq s.begins m) (λ y. n (eqb-true s.begins m y)))
 
 pub full_is : (s : State) (o more : ℕ) → o ≡ owed_by s.rows → nat_lt (2 ^ 50) (length s.records + o + more) ≡ log_full (ledger_of s) more
 full_is s o more e = ap (λ n. nat_lt (2 ^ 50) (length s.records + n + more)) (e ∙ sym (owed_is s.ends s.rows))

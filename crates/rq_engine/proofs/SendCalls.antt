@@ -22,8 +22,6 @@ use Rattle.rq_views.specs.Items.{items, layout_of}
 use Rattle.rq_views.specs.Stored.{slots_in, count_used, is_used}
 use Rattle.rq_views.proofs.Chains.{last_is}
 use Rattle.rq_views.proofs.Totals.{log_total}
-use Rattle.rq_pool.proofs.Counts.{count_same}
-use Rattle.rq_views.proofs.Idle.{idle_quiet}
 use Rattle.rq_views.proofs.Laws.{shows_here}
 use Rattle.rq_txn.proofs.Finding.{found_change_same}
 use Rattle.rq_level.specs.declared.writes.SlotWrite.{SlotWrite}
@@ -36,16 +34,16 @@ use Rattle.rq_groups.specs.Sides.{with_end, holds_end, without_newest}
 use Rattle.rq_groups.specs.Ends.{HeldEnds, has_held, with_held, is_free_for}
 use Rattle.rq_store.specs.State.{State, ledger_of, size_of, job_under}
 use Rattle.rq_store.specs.Plans.{Stands_at, IsSendPlan}
-use Rattle.rq_store.specs.Sound.{IsSound}
+use Rattle.rq_sound.specs.Sound.{IsSound}
 use Rattle.rq_store.specs.Fitting.{left_by}
 use Rattle.rq_store.proofs.RowLists.{found_in}
-use Rattle.rq_store.proofs.Chains.{all_idle, shown, closed_is, closed_by_none}
-use Rattle.rq_store.specs.Steps.{Steps}
-use Rattle.rq_store.proofs.FreeEnds.{free_is}
-use Rattle.rq_store.proofs.Flags.{flag_is}
-use Rattle.rq_store.proofs.SendStarts.{start_steps}
+use Rattle.rq_sound.specs.Steps.{Steps}
+use Rattle.rq_sound.proofs.FreeEnds.{free_is}
+use Rattle.rq_sound.proofs.Asked.{cells_are}
+use Rattle.rq_sound.proofs.Contracts.{answered}
+use Rattle.rq_sound.proofs.Groups.{room_left, slots_tell}
+use Rattle.rq_engine.proofs.Standing.{refused_steps, shown, start_steps}
 use Rattle.rq_model.specs.Replay.Reply.{Gave_sub}
-use Rattle.rq_store.proofs.Forcing.{refused_steps}
 use Rattle.rq_engine.specs.Answers.{Refuses, HasNothingUnderWay, OnUnder}
 use Rattle.rq_model.specs.Legal.{OnFound}
 use Rattle.rq_chain.specs.declared.ChainPlan.{ChainPlan as Plan}
@@ -55,18 +53,16 @@ use Rattle.rq_engine.proofs.Keeping.{kept_started}
 use Rattle.rq_model.specs.Deeds.{spelled_deed}
 use Rattle.rq_engine.proofs.Refusals.{not_full, refuse, found_of, on_found, found_some, found_none}
 
--- what is closed by the slots is closed by the ledger
-pub closed_here : (s : State) (k : IsSound s) (t : Txn) (n g : ℕ) (d : Directory) → HasNothingUnderWay s t n → g < sender_count s.sizes → slots_in s.sizes s.images (directory_at g) ≡ Sender g d
+-- what is closed by the slots is closed by the ledger, for whoever may send
+pub closed_here : (s : State) (k : IsSound s) (t : Txn) (n g : ℕ) (d : Directory) → HasNothingUnderWay s t n → g < sender_count s.sizes → is_free_for t g s.ends.sending ≡ true → slots_in s.sizes s.images (directory_at g) ≡ Sender g d
     → (ended_in (ledger_of s).committed g || has_closed g (found t (ledger_of s).open_ones)) ≡ d.closed
-closed_here s k t n g d ready below at =
+closed_here s k t n g d ready below free at =
     let r = found_of (λ r. (r.under ≡ None) × (n ≡ r.number + 1)) (found_row t s.rows) ready in
     let i = found_in t s.rows r.0 r.1 in
-    let own : has_closed g (found t (ledger_of s).open_ones) ≡ false = ap (has_closed g) (found_some s t r.0 r.1) ∙ closed_by_none s k g r.0 i.0 in
-    ap (λ b. ended_in (ledger_of s).committed g || b) own ∙ or_none (ended_in (ledger_of s).committed g) ∙ sym (closed_is s k g) ∙ flag_is s k g d below at
-  where
-    or_none : (b : Bool) → (b || false) ≡ b
-    or_none true = refl
-    or_none false = refl
+    let own : is_free_for r.0.txn g s.ends.sending ≡ true = ap (λ (q : Txn). is_free_for q g s.ends.sending) i.1 ∙ free in
+    let at_row : found_row r.0.txn s.rows ≡ Some r.0 = ap (λ (q : Txn). found_row q s.rows) i.1 ∙ r.1 in
+    ap (λ o. ended_in (ledger_of s).committed g || has_closed g o) (found_some s t r.0 r.1) ∙ sym (answered.closed s g r.0 k i.0 own)
+    ∙ slots_tell.flag s r.0 g d k (record { at_row = at_row; idle = r.2.0 }) below own at
 
 no_job : (o : Option Under) → is_some (job_under o) ≡ false → o ≡ None
 no_job None e = refl
@@ -94,7 +90,7 @@ module _ (s : State) (t : Txn) (e tag : ℕ) (body : List ℕ) (h : NoneHolds (r
 
   module _ (free : is_free_for t e s.ends.sending ≡ true) where
     closed_by : (k : IsSound s) (d : Directory) → slots_in s.sizes s.images (directory_at e) ≡ Sender e d → (ended_in (ledger_of s).committed e || has_closed e (found t (ledger_of s).open_ones)) ≡ d.closed
-    closed_by k d at = let r = ready_row s t h in closed_here s k t r.0 e d r.1 below at
+    closed_by k d at = let r = ready_row s t h in closed_here s k t r.0 e d r.1 below free at
 
     free_by : (k : IsSound s) → not (free_to_send t e (ledger_of s).open_ones) ≡ false
     free_by k = ap not (free_is s k t e ∙ free)
@@ -105,13 +101,13 @@ module _ (s : State) (t : Txn) (e tag : ℕ) (body : List ℕ) (h : NoneHolds (r
     module _ (d : Directory) (at : slots_in s.sizes s.images (directory_at e) ≡ Sender e d) (not_closed : d.closed ≡ false) where
       pub full : cell_count s.sizes ≤ s.cells_in_use → Refuses s call why.Full
       full c k =
-          let b = k.bound in
-          let eq : nat_eq (cells_in_use (size_of s.sizes) (ledger_of s)) (cell_count s.sizes) ≡ true = ap (λ n. nat_eq n (cell_count s.sizes)) (sym k.cells) ∙ eq-eqb s.cells_in_use (cell_count s.sizes) (omega (arith, b, c)) in
+          let b = k.counted.bound in
+          let eq : nat_eq (cells_in_use (size_of s.sizes) (ledger_of s)) (cell_count s.sizes) ≡ true = ap (λ n. nat_eq n (cell_count s.sizes)) (cells_are s k) ∙ eq-eqb s.cells_in_use (cell_count s.sizes) (omega (arith, b, c)) in
           refuse s call why.Full refl tt (rw (h.0, h.1.0, h.1.1.0, h.1.1.1.0, known, fits, free_by k, closed_by k d at, not_closed, eq) refl) k
 
       module _ (room : s.cells_in_use < cell_count s.sizes) where
         some_room : (k : IsSound s) → nat_eq (cells_in_use (size_of s.sizes) (ledger_of s)) (cell_count s.sizes) ≡ false
-        some_room k = ap (λ n. nat_eq n (cell_count s.sizes)) (sym k.cells) ∙ false_from_ne_true (nat_eq s.cells_in_use (cell_count s.sizes)) (λ y. let e = eqb-true s.cells_in_use (cell_count s.sizes) y in omega (arith, e, room))
+        some_room k = ap (λ n. nat_eq n (cell_count s.sizes)) (cells_are s k) ∙ false_from_ne_true (nat_eq s.cells_in_use (cell_count s.sizes)) (λ y. let e = eqb-true s.cells_in_use (cell_count s.sizes) y in omega (arith, e, room))
 
         pub log_is_full : log_full (ledger_of s) 4 ≡ true → Refuses s call why.LogFull
         log_is_full c k = refuse s call why.LogFull refl tt (rw (h.0, h.1.0, h.1.1.0, h.1.1.1.0, known, fits, free_by k, closed_by k d at, not_closed, some_room k, c) refl) k
@@ -157,11 +153,7 @@ module _ (s : State) (k : IsSound s) (idle : any_under s.rows ≡ false) where
 
   -- where cells are left, some cell is free
   pub some_free : s.cells_in_use < cell_count s.sizes → count_used s.sizes (slots_in s.sizes s.images) ≡ cell_count s.sizes → ⊥
-  some_free room full =
-      let quiet = idle_quiet (layout_of s.sizes) (items s.sizes s.records) k.log.legal (all_idle s k idle) in
-      let same : count_used s.sizes (slots_in s.sizes s.images) ≡ count_used s.sizes (left_by s.sizes s.records).quiet = count_same s.sizes (slots_in s.sizes s.images) (left_by s.sizes s.records).quiet (λ a cell. k.pages a ∙ quiet a) in
-      let used = k.used in
-      omega (arith, room, full, same, used)
+  some_free room full = let few = room_left s k room in omega (arith, few, full)
 
 -- the operation that begins is kept as every other
 pub start_kept : (s : State) (f : Bool) (o res n room : ℕ) (t : Txn) (plan : Plan) (ends : HeldEnds) → IsKept s f o res → HasNothingUnderWay s t n → log_full (ledger_of s) 4 ≡ false → FitsPlan s.sizes plan room
@@ -195,7 +187,7 @@ pub send_done : (s new : State) (t : Txn) (n e tag : ℕ) (body b : List ℕ) (p
 send_done s new t n e tag body b plan ready h idle same p free room may is k =
     let r = found_of (λ r. (r.under ≡ None) × (n ≡ r.number + 1)) (found_row t s.rows) ready in
     let planned = subst (λ (x : List ℕ). IsSendPlan s.sizes (slots_in s.sizes s.images) (under_plan n plan) e tag x) same p in
-    let a = start_steps s k t r.0 (under_plan n plan) e tag body r.1 idle r.2.1 planned free room (may k) in
+    let a = start_steps s k t r.0 (under_plan n plan) e tag body r.1 idle r.2.1 planned (may k) in
     let c = subst (λ (m : ℕ). Steps s (Start_send t (message_of e tag body)) (Gave_sub t m) (record s { rows = change_row t (row_started (under_plan n plan)) s.rows; ends = record { sending = with_held t e s.ends.sending; receiving = s.ends.receiving }; cells_in_use = s.cells_in_use + 1 })) (sym r.2.1) a in
     subst (λ (x : State). Steps s (Start_send t (message_of e tag body)) (Gave_sub t n) x) (sym is) c
 

@@ -23,17 +23,14 @@ use Rattle.rq_txn.specs.Rows.{Row, found_row, any_under, change_row, row_started
 use Rattle.rq_groups.specs.Ends.{is_free_for, with_held}
 use Rattle.rq_groups.specs.Waiting.{waits}
 use Rattle.rq_store.specs.State.{State, ledger_of, size_of}
-use Rattle.rq_store.specs.Sound.{IsSound}
+use Rattle.rq_sound.specs.Sound.{IsSound}
 use Rattle.rq_store.specs.Fitting.{left_by}
 use Rattle.rq_store.specs.Plans.{IsTakePlan, NoneWaits}
-use Rattle.rq_store.specs.Steps.{Steps}
-use Rattle.rq_store.proofs.Chains.{shown}
-use Rattle.rq_store.proofs.FreeEnds.{free_to_take}
-use Rattle.rq_store.proofs.Forcing.{refused_steps}
-use Rattle.rq_store.proofs.NoneWaits.{gives_one, gives_none, some_gives, none_gives, none_steps, none_from_steps}
+use Rattle.rq_sound.specs.Steps.{Steps}
+use Rattle.rq_sound.proofs.FreeEnds.{free_to_take}
+use Rattle.rq_engine.proofs.Standing.{refused_steps, shown, take_steps, take_from_steps, gives_one, gives_none, some_gives, none_gives, none_steps, none_from_steps}
 use Rattle.rq_store.proofs.TakePlans.{head_stands, next_stands}
-use Rattle.rq_store.proofs.TakeStarts.{take_steps, take_from_steps}
-use Rattle.rq_store.proofs.Waiting.{waits_in_chain}
+use Rattle.rq_sound.proofs.Groups.{waits_in_chain}
 use Rattle.rq_chain.specs.declared.ChainPlan.{ChainPlan as Plan}
 use Rattle.rq_engine.specs.Answers.{Refuses, HasNothingUnderWay}
 use Rattle.rq_model.specs.Causes.{HasCause}
@@ -45,14 +42,14 @@ use Rattle.rq_engine.proofs.SendCalls.{ready_row}
 -- a transaction that is not ready is refused so
 module _ (s : State) (t : Txn) (h : NoneHolds (ready_tests (ledger_of s) t false)) where
   -- the row of a transaction that is ready
-  own_row : (r : Row) × (found_row t s.rows ≡ Some r)
-  own_row = let n = ready_row s t h in let f = found_of (λ r. (r.under ≡ None) × (n.0 ≡ r.number + 1)) (found_row t s.rows) n.1 in (f.0, f.1)
+  own_row : (r : Row) × (found_row t s.rows ≡ Some r) × (r.under ≡ None)
+  own_row = let n = ready_row s t h in let f = found_of (λ r. (r.under ≡ None) × (n.0 ≡ r.number + 1)) (found_row t s.rows) n.1 in (f.0, f.1, f.2.0)
 
   -- none is given where none waits
   pub none_done : NoneWaits s t → IsSound s → Steps s (Start_receive t) Gave_none s
   none_done none k =
       let g = none_gives s k t own_row.0 own_row.1 none in
-      none_steps s k t own_row.0 own_row.1 none (h.0, (h.1.0, (h.1.1.0, (h.1.1.1.0, (ap (λ b. b && log_full (ledger_of s) 4) g, tt)))))
+      none_steps s k t own_row.0 own_row.1 own_row.2 none (h.0, (h.1.0, (h.1.1.0, (h.1.1.1.0, (ap (λ b. b && log_full (ledger_of s) 4) g, tt)))))
 
   module _ (e : ℕ) where
     pub unknown_sender : sender_count s.sizes ≤ e → Refuses s (Start_receive_from t e) why.UnknownSender
@@ -64,7 +61,7 @@ module _ (s : State) (t : Txn) (h : NoneHolds (ready_tests (ledger_of s) t false
     pub none_from_done : e < sender_count s.sizes → is_free_for t e s.ends.receiving ≡ true → waits s.waiting e ≡ 0 → IsSound s → Steps s (Start_receive_from t e) Gave_none s
     none_from_done m free none k =
         let g = gives_none s k t own_row.0 own_row.1 e m free none in
-        none_from_steps s k t own_row.0 own_row.1 e m free none
+        none_from_steps s k t own_row.0 own_row.1 own_row.2 e m free none
         (h.0, (h.1.0, (h.1.1.0, (h.1.1.1.0, (ap not (lt-ltb e (sender_count s.sizes) m), (ap not (free_to_take s k t e ∙ free), (ap (λ b. b && log_full (ledger_of s) 4) g, tt)))))))
 
     module _ (m : e < sender_count s.sizes) (free : is_free_for t e s.ends.receiving ≡ true) (wait : 1 ≤ waits s.waiting e) where
@@ -114,8 +111,8 @@ module _ (s : State) (t : Txn) (h : NoneHolds (ready_tests (ledger_of s) t false
         take_done new n plan ready idle planned is call c k =
             let r = found_of (λ r. (r.under ≡ None) × (n ≡ r.number + 1)) (found_row t s.rows) ready in
             subst (λ (x : State). Steps s call (Gave_sub t n) x) (sym is) (elim c [
-              | inl x ↦ subst (λ (y : Call). Steps s y (Gave_sub t n) after) (sym x) (subst (λ (m : ℕ). Steps s (Start_receive t) (Gave_sub t m) after) (sym r.2.1) (take_steps s k t r.0 (under_plan n plan) e r.1 idle r.2.1 planned free wait (passes_from k)))
-              | inr x ↦ subst (λ (y : Call). Steps s y (Gave_sub t n) after) (sym x) (subst (λ (m : ℕ). Steps s (Start_receive_from t e) (Gave_sub t m) after) (sym r.2.1) (take_from_steps s k t r.0 (under_plan n plan) e r.1 idle r.2.1 planned free wait (passes_from k)))
+              | inl x ↦ subst (λ (y : Call). Steps s y (Gave_sub t n) after) (sym x) (subst (λ (m : ℕ). Steps s (Start_receive t) (Gave_sub t m) after) (sym r.2.1) (take_steps s k t r.0 (under_plan n plan) e r.1 idle r.2.1 planned wait (passes_from k)))
+              | inr x ↦ subst (λ (y : Call). Steps s y (Gave_sub t n) after) (sym x) (subst (λ (m : ℕ). Steps s (Start_receive_from t e) (Gave_sub t m) after) (sym r.2.1) (take_from_steps s k t r.0 (under_plan n plan) e r.1 idle r.2.1 planned wait (passes_from k)))
             ])
           where
             after : State

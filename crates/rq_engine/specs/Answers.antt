@@ -15,8 +15,9 @@ use Rattle.rq_views.specs.Stored.{slots_in}
 use Rattle.rq_level.specs.declared.writes.SlotWrite.{SlotWrite}
 use Rattle.rq_txn.specs.Rows.{Row, Under, found_row, change_row, row_stepped, any_under}
 use Rattle.rq_store.specs.State.{State}
-use Rattle.rq_store.specs.Sound.{IsSound}
-use Rattle.rq_store.specs.Steps.{Steps, IsPutIn, page_op}
+use Rattle.rq_sound.specs.Sound.{IsSound}
+use Rattle.rq_store.specs.Steps.{IsPutIn, page_op}
+use Rattle.rq_sound.specs.Steps.{Steps}
 use Rattle.rq_disk.specs.declared.device.LogDevice as log_device
 use Rattle.rq_disk.specs.declared.device.PageDevice as page_device
 use Rattle.rq_engine.specs.Opened.{OpenStore, AreHonest}

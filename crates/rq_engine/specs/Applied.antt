@@ -8,8 +8,8 @@ use Rattle.rq_log.specs.Spelled.{IsBeginning}
 use Rattle.rq_page.specs.Pages.{lsn_of}
 use Rattle.rq_pool.specs.Pooled.{image_at}
 use Rattle.rq_pool.specs.Writing.{changed_after}
-use Rattle.rq_store.specs.Sound.{IsSound}
-use Rattle.rq_store.specs.Steps.{Steps}
+use Rattle.rq_sound.specs.Sound.{IsSound}
+use Rattle.rq_sound.specs.Steps.{Steps}
 use Rattle.rq_engine.specs.declared.event.Event.{Event}
 use Rattle.rq_engine.specs.declared.event.Event.TheVariants as event
 use Rattle.rq_engine.specs.declared.event.Progress.{Progress}

@@ -12,7 +12,7 @@ ghost use Rattle.rq_record.specs.Spelling.{IsInRange, spelling};
 ghost use Rattle.rq_txn.specs.Rows.{found_row, fresh_row, without_row};
 ghost use Rattle.rq_page.specs.Sizes.{sender_count};
 ghost use Rattle.rq_groups.specs.Waiting.{waits};
-ghost use Rattle.rq_store.specs.Sound.{IsSound};
+ghost use Rattle.rq_sound.specs.Sound.{IsSound};
 ghost use Rattle.rq_engine.specs.Opened.{LeavesDevices, NotWritten};
 ghost use Rattle.rq_engine.specs.Crash.{AreFit, LeavesCut};
 ghost use Rattle.rq_engine.specs.Answers.{AnswersLegally, HasNothingUnderWay};

@@ -12,7 +12,7 @@ ghost use Rattle.rq_txn.specs.Rows.{any_under};
 ghost use Rattle.rq_groups.specs.Ends.{is_free_for};
 ghost use Rattle.rq_groups.specs.Waiting.{waits};
 ghost use Rattle.rq_store.specs.State.{ledger_of};
-ghost use Rattle.rq_store.specs.Sound.{IsSound};
+ghost use Rattle.rq_sound.specs.Sound.{IsSound};
 ghost use Rattle.rq_store.specs.Plans.{IsTakePlan};
 ghost use Rattle.rq_engine.specs.Opened.{LeavesDevices};
 ghost use Rattle.rq_engine.specs.Answers.{AnswersLegally, HasNothingUnderWay};

@@ -12,7 +12,7 @@ use Rattle.rq_pool.specs.Reading.{OnlyRead}
 use Rattle.rq_log.specs.Spelled.{spelled, AreSpelled}
 use Rattle.rq_log.proofs.Moments.{weaker}
 use Rattle.rq_page.specs.Sizes.{Sizes}
-use Rattle.rq_store.specs.Sound.{IsSound}
+use Rattle.rq_sound.specs.Sound.{IsSound}
 use Rattle.rq_store.specs.Whole.{IsWhole}
 use Rattle.rq_store.specs.State.{ledger_of}
 use Rattle.rq_store.specs.Opening.{IsLeft, opened, next_restart}

@@ -13,7 +13,7 @@ ghost use Rattle.rq_model.specs.Commits.{committed_of};
 ghost use Rattle.rq_model.specs.Ledger.{Ledger, after};
 ghost use Rattle.rq_model.specs.History.Entry.{Restarted};
 ghost use Rattle.rq_store.specs.State.{ledger_of};
-ghost use Rattle.rq_store.specs.Sound.{IsSound};
+ghost use Rattle.rq_sound.specs.Sound.{IsSound};
 ghost use Rattle.rq_store.specs.Opening.{opened, next_restart, IsLeft};
 ghost use Rattle.rq_store.specs.Fitting.{AllFit, image_in};
 ghost use Rattle.rq_engine.specs.Crash.{AreFit};

@@ -22,7 +22,7 @@ use Rattle.rq_disk.specs.declared.device.LogDevice as log_device
 use Rattle.rq_disk.specs.declared.device.PageDevice as page_device
 use Rattle.rq_log.specs.Spelled.{IsBeginning}
 use Rattle.rq_store.specs.State.{ledger_of, size_of}
-use Rattle.rq_store.specs.Sound.{IsSound}
+use Rattle.rq_sound.specs.Sound.{IsSound}
 use Rattle.rq_engine.specs.Opened.{OpenStore, AreHonest}
 use Rattle.rq_shared.specs.Entries.{Noted, Follows, answers, answer_of}
 use Rattle.rq_shared.specs.Receipts.{IsReceiptOf, KeepsCommit, IsDurable}

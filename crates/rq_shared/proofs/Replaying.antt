@@ -4,8 +4,8 @@ use Rattle.std.proofs.lemmas.List.{map-append, reverse-append}
 use Rattle.rq_model.specs.Legal.{Legal}
 use Rattle.rq_model.specs.Replay.{Replays}
 use Rattle.rq_store.specs.State.{ledger_of, size_of}
-use Rattle.rq_store.specs.Sound.{IsSound}
-use Rattle.rq_store.specs.Steps.{Steps}
+use Rattle.rq_sound.specs.Sound.{IsSound}
+use Rattle.rq_sound.specs.Steps.{Steps}
 use Rattle.rq_engine.specs.declared.event.Event.{Event}
 use Rattle.rq_engine.specs.declared.event.Reply.{Reply}
 use Rattle.rq_disk.specs.declared.device.LogDevice as log_device

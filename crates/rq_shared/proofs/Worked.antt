@@ -11,7 +11,7 @@ use Rattle.rq_model.specs.Legal.{Legal}
 use Rattle.rq_model.specs.Replay.{Number}
 use Rattle.rq_model.specs.Replay.Reply.{Gave_txn, Gave_handed_over, Gave_forced, Gave_commit, Gave_receipt}
 use Rattle.rq_store.specs.State.{ledger_of, size_of}
-use Rattle.rq_store.specs.Sound.{IsSound}
+use Rattle.rq_sound.specs.Sound.{IsSound}
 use Rattle.rq_disk.specs.declared.device.LogDevice as log_device
 use Rattle.rq_disk.specs.declared.device.PageDevice as page_device
 use Rattle.rq_engine.specs.Opened.{OpenStore, AreHonest}

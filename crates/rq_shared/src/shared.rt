@@ -4,7 +4,7 @@ ghost use Rattle.rq_shared.specs.Calls.{IsCalled, IsForced, IsTaken};
 ghost use Rattle.rq_shared.specs.Entries.{Follows};
 ghost use Rattle.rq_shared.specs.Receipts.{IsReceiptOf, IsDurable};
 ghost use Rattle.rq_model.specs.Words.{In};
-ghost use Rattle.rq_store.specs.Sound.{IsSound};
+ghost use Rattle.rq_sound.specs.Sound.{IsSound};
 ghost use Rattle.rq_engine.specs.Opened.{AreHonest};
 ghost use Rattle.rq_engine.specs.Says.{commit_number};
 ghost use Rattle.rq_engine.specs.declared.event.Receipt.{Receipt as GivenReceipt};

@@ -1,5 +1,5 @@
 use Rattle.std.proofs.Common.{sym, subst, inl, refl}
-use Rattle.rq_store.specs.Sound.{IsSound}
+use Rattle.rq_sound.specs.Sound.{IsSound}
 use Rattle.rq_store.specs.Opening.{opened, IsLeft}
 use Rattle.rq_store.specs.Fitting.{image_in}
 use Rattle.rq_pool.specs.Reading.{IsSuperblock}

@@ -4,8 +4,8 @@ use Rattle.rq_model.specs.declared.txn.Txn.{Txn}
 use Rattle.rq_model.specs.History.Call.{Begin}
 use Rattle.rq_model.specs.Replay.Reply.{Gave_txn}
 use Rattle.rq_txn.specs.Rows.{fresh_row}
-use Rattle.rq_store.specs.Steps.{Steps}
-use Rattle.rq_store.proofs.Beginning.{begin_steps}
+use Rattle.rq_sound.specs.Steps.{Steps}
+use Rattle.rq_sound.proofs.AbortSteps.{abort_steps}
 use Rattle.rq_engine.proofs.Keeping.{new_number, kept_begun}
 use Rattle.rq_engine.proofs.Refusals.{few}
 use Rattle.rq_engine.proofs.Opened.{state_is}
@@ -25,7 +25,7 @@ returns-clause-answered g c h k =
     let max : c.args.self.now.state.begins ≢ 18446744073709551615 = λ e. c.if-self.false (ap (λ (s : State). s.begins) (state_is c.self.view_is) ∙ e) in
     rw (c.in_ok-begin.ensures.ok)
     (subst (λ (s : State). Steps c.args.self.now.state Begin (Gave_txn (next s)) (record s { rows = fresh_row (next s) ∷ s.rows; begins = s.begins + 1 })) (sym (state_is c.self.view_is))
-    (begin_steps c.args.self.now.state k c.in_ok-check_running.ensures.running (few c.args.self.now.state 18446744073709551615 full max)))
+    (abort_steps.begins c.args.self.now.state k c.in_ok-check_running.ensures.running (few c.args.self.now.state 18446744073709551615 full max)))
 
 pub invariant_of-self-2 : goal.invariant_of-self-2
 invariant_of-self-2 g c = record { kept = rw (c.in_ok-begin.ensures.ok) (kept_begun _ _ _ _ c.self.invariant.kept); durable = c.self.invariant.durable }

@@ -3,7 +3,7 @@ use Rattle.rq_engine.specs.Says.{call_of}
 use Rattle.rq_engine.specs.declared.event.Event.{Event}
 use Rattle.rq_model.specs.Causes.{writes_out}
 use Rattle.rq_engine.proofs.Leaving.{plain_leaves, begun_leaves}
-use Rattle.rq_engine.proofs.Listing.{take_lists, take_from_lists, log_left}
+use Rattle.rq_engine.proofs.Listing.{begun_answered, take_lists, take_from_lists, log_left}
 use Rattle.rq_engine.proofs.engine.Engine.call.Goals as goal
 
 pub returns-in-Err-clause-refused : goal.returns-in-Err-clause-refused
@@ -39,3 +39,6 @@ returns-in-StartReceiveFrom-clause-lists g c = take_from_lists c.args.self.now.s
 pub returns-in-Ok-start_send-clause-any_moment : goal.returns-in-Ok-start_send-clause-any_moment
 returns-in-Ok-start_send-clause-any_moment g c =
     log_left g.L.LogDevice c.args.self.now.log c.start_send.new.self.log _ c.start_send.ensures.devices.1 g.met.L.LogDevice.only_now c.shows_kept.ensures.leaves
+
+pub returns-in-StartReceive-clause-answered : goal.returns-in-StartReceive-clause-answered
+returns-in-StartReceive-clause-answered g c = begun_answered g.P.PageDevice g.L.LogDevice c.args.self.now _ c.start_receive.result _ c.args.event.now c.start_receive.new.self (ap call_of c.in-StartReceive.is) c.start_receive.ensures.answered c.begun.ensures

@@ -1,9 +1,9 @@
-use Rattle.std.proofs.Common.{◌≡◌, ℕ, ◌-◌, sym, ap, ◌∙◌, subst, arith, length}
+use Rattle.std.proofs.Common.{◌≡◌, ℕ, ◌-◌, sym, ap, ◌∙◌, subst, arith, length, false}
 use Rattle.std.specs.List.{sum_by}
 use Rattle.rq_store.specs.Sound.{takes_one}
 use Rattle.rq_store.specs.State.{State, ledger_of}
 use Rattle.rq_engine.specs.Answers.{HasNothingUnderWay}
-use Rattle.rq_model.specs.Tests.{log_full}
+use Rattle.rq_model.specs.Tests.{NoneHolds, ready_tests, log_full}
 use Rattle.rq_engine.proofs.Calls.{commit_range, commit_kept, commit_done, from_inside}
 use Rattle.rq_engine.proofs.Opened.{state_is}
 use Rattle.rq_engine.proofs.Listing.{committed_lists, committed_from}
@@ -30,7 +30,8 @@ returns-clause-answered g c h =
     let ready = subst (λ (s : State). HasNothingUnderWay s c.args.txn c.in_ok-check_open.field-0) (sym (state_is c.self.view_is)) c.in_ok-check_open.ensures.ready in
     let full = ap (λ (s : State). log_full (ledger_of s) 1) (state_is c.self.view_is) ∙ sym c.if-is_log_full.ensures in
     let running = ap (λ (s : State). s.failed) (state_is c.self.view_is) ∙ c.in_ok-check_open.ensures.running in
-    from_inside (state_is c.self.view_is) (λ k. rw (c.new.ensures.txn, c.new.ensures.lsn, c.append-lsn.ensures.lsn, c.end.ensures, c.release.ensures, c.add_sends.ensures, c.finished-finished.ensures, c.append-lsn.ensures.records, c.append-lsn.ensures.forced, c.in_ok-reserve.ensures.ok) (commit_done _ _ _ _ c.in_ok-check_open.field-0 _ _ c.args.txn c.self.invariant.kept running ready full (omega arith) (c.saturating_sub-self-inside.ensures ∙ ap (λ (n : ℕ). c.self.inside.cells_in_use - n) (c.count_takes.ensures ∙ ap (sum_by takes_one) c.finished-finished.ensures)) k))
+    let tested = subst (λ (s : State). NoneHolds (ready_tests (ledger_of s) c.args.txn false)) (sym (state_is c.self.view_is)) c.in_ok-check_open.ensures.passes in
+    from_inside (state_is c.self.view_is) (λ k. rw (c.new.ensures.txn, c.new.ensures.lsn, c.append-lsn.ensures.lsn, c.end.ensures, c.release.ensures, c.add_sends.ensures, c.finished-finished.ensures, c.append-lsn.ensures.records, c.append-lsn.ensures.forced, c.in_ok-reserve.ensures.ok) (commit_done _ _ _ _ c.in_ok-check_open.field-0 _ _ c.args.txn c.self.invariant.kept running tested ready full (omega arith) (c.saturating_sub-self-inside.ensures ∙ ap (λ (n : ℕ). c.self.inside.cells_in_use - n) (c.count_takes.ensures ∙ ap (sum_by takes_one) c.finished-finished.ensures)) k))
 
 pub returns-clause-lists : goal.returns-clause-lists
 returns-clause-lists g c =

@@ -1,7 +1,7 @@
 use Rattle.std.proofs.Common.{ap, ◌∙◌, refl, true}
 use Rattle.std.proofs.lemmas.Bool.{true≢false}
 use Rattle.rq_store.specs.State.{State}
-use Rattle.rq_store.proofs.Forcing.{hand_over_steps, failed_steps}
+use Rattle.rq_engine.proofs.Standing.{hand_over_steps, failed_steps}
 use Rattle.rq_engine.proofs.Keeping.{kept_device}
 use Rattle.rq_engine.proofs.Calls.{from_inside}
 use Rattle.rq_engine.proofs.Opened.{state_is}
