@@ -1,5 +1,6 @@
 //! Four threads that share an engine.
 ghost use Rattle.std.specs.Prelude.{◌≡◌, IfSome};
+ghost use Rattle.rq_shared.specs.Entries.{WasSound};
 
 use crate::rounds::batch;
 use crate::tally::Tally;
@@ -8,6 +9,7 @@ use rq_engine::engine::Engine;
 use rq_shared::mark::{Mark, MarkPass};
 use rq_shared::room::Pass;
 use rq_shared::shared::{Front, Shared};
+use rq_shared::sharing::Sharing;
 use rq_workers::shared::{DropStamps, SharedSteps};
 use std::alloc::Global;
 use std::sync::Wait;
@@ -33,7 +35,7 @@ struct Own<G: Ledger> {
 type Both = (Option<Tally>, Option<Tally>);
 
 // The batches of one thread. It takes the audit after each, which has the calls of all threads.
-fn work<P: PageDevice + Drop, L: LogDevice + Drop, G: Ledger, R: Wait>(
+fn work<P: PageDevice + Drop, L: LogDevice + Drop, G: Sharing, R: Wait>(
     rt: &R,
     alloc: Global,
     front: &Front<P, L, G>,
@@ -43,7 +45,7 @@ fn work<P: PageDevice + Drop, L: LogDevice + Drop, G: Ledger, R: Wait>(
     requires { own.seat.table ≡ common.now.mark }
 {
     let Own { pass, seat, sender } = own;
-    let mut steps = SharedSteps::new(rt, front, pass, &common.mark, seat, DropStamps);
+    let mut steps = SharedSteps::new(rt, front, pass, &common.mark, seat, DropStamps::new());
     let mut tally = Tally::none();
     for _ in 0..common.batches {
         steps = batch(rt, alloc, steps, sender)?;
@@ -56,7 +58,7 @@ fn work<P: PageDevice + Drop, L: LogDevice + Drop, G: Ledger, R: Wait>(
 fn two<
     P: PageDevice + Drop + Send,
     L: LogDevice + Drop + Send,
-    G: Ledger + Send + Sync,
+    G: Sharing + Send + Sync,
     R: Threads + Wait + Sync,
 >(
     rt: &R,
@@ -90,7 +92,7 @@ struct Pair<G: Ledger> {
 fn four<
     P: PageDevice + Drop + Send,
     L: LogDevice + Drop + Send,
-    G: Ledger + Send + Sync,
+    G: Sharing + Send + Sync,
     R: Threads + Wait + Sync,
 >(
     rt: &R,
@@ -118,11 +120,12 @@ fn four<
 pub fn share<
     P: PageDevice + Drop + Send,
     L: LogDevice + Drop + Send,
-    G: Ledger + Send + Sync,
+    G: Sharing + Send + Sync,
     R: Threads + Wait + Sync,
 >(rt: &R, alloc: Global, engine: Engine<P, L>, blank: Blank, batches: u32) -> Option<Tally>
     requires name { blank.name ≡ G.name }
     requires parts { (blank.parts ≡ G.parts) × (blank.parts ≡ 1024) }
+    requires sound { WasSound P.PageDevice L.LogDevice G.premise engine }
 {
     let mut shared = Shared::<P, L, G>::new(alloc, engine, blank);
     let (mark, mut seat) = Mark::new(alloc).ok()?;
@@ -140,7 +143,7 @@ pub fn share<
 }
 
 // A pass, a seat at the mark, and a sender.
-fn own_of<P: PageDevice + Drop, L: LogDevice + Drop, G: Ledger>(
+fn own_of<P: PageDevice + Drop, L: LogDevice + Drop, G: Sharing>(
     shared: &mut Shared<P, L, G>,
     mark: &Mark,
     seat: &mut MarkPass,

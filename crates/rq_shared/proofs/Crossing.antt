@@ -12,6 +12,7 @@ use Rattle.rq_shared.proofs.count.Count.TheLaws.TheKnot as count
 use Rattle.rq_txn.proofs.Transactions.TheSendSync as transactions
 use Rattle.rq_shared.proofs.kept.AuditEntry.TheSendSync as entry
 use Rattle.rq_shared.specs.contracts.kept.Kept as Kept
+use Rattle.rq_shared.specs.declared.sharing.Sharing as sharing
 use Rattle.rq_shared.specs.contracts.room.Room as Room
 use Rattle.rq_shared.specs.contracts.shared.Front as Front
 
@@ -22,9 +23,9 @@ module _ (P L : RattleType) (p : page_device.Ghosts P.Denot) (l : log_device.Gho
   kept_send : IsSend (Kept.the_row P L p l)
   kept_send = search (engine_send, entry.the_send, crosses, count.crosses, sendable) depth 60 fits 20000
 
-  module _ (G : RattleType) (g : ledger.Ghosts G.Denot) where
-    room_send : IsSend (Room.the_row P L G p l g)
+  module _ (G : RattleType) (h : sharing.Ghosts G.Denot) (g : ledger.Ghosts G.Denot) where
+    room_send : IsSend (Room.the_row P L G p l h g)
     room_send = search (kept_send, book.the_send, crosses, sendable) depth 60 fits 20000
 
-    pub front_sync : IsSync (Front.the_row P L G p l g)
+    pub front_sync : IsSync (Front.the_row P L G p l h g)
     front_sync = search (room_send, crosses, sendable) depth 60 fits 20000

@@ -7,7 +7,7 @@ use Rattle.rq_engine.specs.declared.event.Event.{Event}
 use Rattle.rq_engine.specs.declared.event.Event.TheVariants.{Force}
 use Rattle.rq_engine.specs.declared.event.Reply.TheVariants.{Forced, Refused}
 use Rattle.rq_shared.specs.declared.kept.Stamped.{Stamped}
-use Rattle.rq_shared.specs.Entries.{Audited, TakenAudit, Follows}
+use Rattle.rq_shared.specs.Entries.{Audited, TakenAudit, Follows, BeginsSound}
 use Rattle.rq_shared.specs.Marks.{MarkView}
 use Rattle.rq_shared.specs.Passes.{PassView}
 
@@ -35,6 +35,6 @@ pub record IsTakenOf {P L : Type 0} (p : page_device.Ghosts P) (l : log_device.G
   pub audit : t.audit ≡ k.audit
   pub replays : Follows p l t.base t.audit k.engine
 
--- it is that of some kept engine
-abbrev pub IsTaken : {P L : Type 0} → page_device.Ghosts P → log_device.Ghosts L → TakenAudit P L → Type 0
-IsTaken {P} {L} p l t = (k : Audited P L) × IsTakenOf p l k t
+-- it is that of some kept engine, and under this premise it begins with a sound one
+abbrev pub IsTaken : {P L : Type 0} → page_device.Ghosts P → log_device.Ghosts L → Type 0 → TakenAudit P L → Type 0
+IsTaken {P} {L} p l premise t = (k : Audited P L) × IsTakenOf p l k t × BeginsSound p l premise k

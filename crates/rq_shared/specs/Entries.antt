@@ -55,6 +55,14 @@ pub record Audited (P L : Type 0) : Type 0 where
   pub base : OpenStore P L
   pub taken : ℕ
 
+-- under this premise, and where its devices have been honest, the engine is sound
+abbrev pub WasSound : {P L : Type 0} → page_device.Ghosts P → log_device.Ghosts L → Type 0 → OpenStore P L → Type 0
+WasSound p l premise engine = premise → AreHonest p l engine → IsSound engine.state
+
+-- under this premise, and where the devices have been honest since, the engine with which the audit begins was sound
+abbrev pub BeginsSound : {P L : Type 0} → page_device.Ghosts P → log_device.Ghosts L → Type 0 → Audited P L → Type 0
+BeginsSound p l premise k = premise → AreHonest p l k.engine → IsSound k.base.state
+
 -- an audit that was taken: the engine as it was when one was taken before, how many entries were taken until then, and
 -- the entries since
 pub record TakenAudit (P L : Type 0) : Type 0 where

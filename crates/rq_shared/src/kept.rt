@@ -3,6 +3,7 @@ ghost use Rattle.std.specs.Prelude.{◌≡◌, ◌≢◌, ℕ, List, ◌+◌, �
 ghost use Rattle.rq_log.specs.Spelled.{IsBeginning};
 ghost use Rattle.rq_content.specs.Read.{group_of};
 ghost use Rattle.rq_engine.specs.Applied.{Applied};
+ghost use Rattle.rq_engine.specs.Opened.{AreHonest};
 ghost use Rattle.rq_engine.specs.Says.{call_of, gave, IsContent};
 
 use crate::count::{Count, same_and_more, zero};
@@ -153,6 +154,8 @@ impl<P: PageDevice + Drop, L: LogDevice + Drop> Kept<P, L> {
         ensures no_change { result.reply ≡ Reply.Refused Refusal.NoMemory → self.new ≡ self.old }
         ensures forced { (lsn : ℕ) → result.reply ≡ Reply.Forced lsn → self.new.engine.state.forced ≡ lsn }
         ensures base { (self.new.base ≡ self.old.base) × (self.new.taken ≡ self.old.taken) }
+        ensures honest { AreHonest P.PageDevice L.LogDevice self.new.engine
+            → AreHonest P.PageDevice L.LogDevice self.old.engine }
     {
         let Ok(noted_event) = room_for(&mut self.audit, &event) else {
             return refused(pass, event);

@@ -7,4 +7,5 @@ pub mod mark;
 pub mod room;
 mod same;
 pub mod shared;
+pub mod sharing;
 pub mod tied;

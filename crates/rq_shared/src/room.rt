@@ -2,10 +2,11 @@
 ghost use Rattle.std.specs.Prelude.{◌≡◌, ◌≢◌, ◌+◌, ℕ, [], ◌∷◌, ◌++◌, length, sum_by};
 ghost use Rattle.rq_engine.specs.Applied.{Applied};
 ghost use Rattle.rq_shared.specs.Calls.{IsCalled, IsForced, IsTakenOf};
-ghost use Rattle.rq_shared.specs.Entries.{OneMore, noted};
+ghost use Rattle.rq_shared.specs.Entries.{BeginsSound, OneMore, noted};
 
 use crate::kept::{Kept, Stamped, Taken, is_no_memory};
 use crate::mark::{Mark, MarkPass};
+use crate::sharing::Sharing;
 use rq_disk::{LogDevice, PageDevice};
 use rq_engine::event::{Event, Reply};
 use rq_model::refusal::Refusal;
@@ -40,18 +41,30 @@ impl<G: Ledger> Pass<G> {
 }
 
 /// What lies under the lock: the kept engine, and how many calls left an entry, those whose entries were taken
-/// included.
+/// included. Contracts see the kept engine.
 #[derive(Drop)]
-pub(crate) struct Room<P: PageDevice, L: LogDevice, G: Ledger> {
+pub(crate) struct Room<P: PageDevice, L: LogDevice, G: Sharing> {
     kept: Kept<P, L>,
     calls: Book<G>,
-    ghost counted: { kept.taken + length kept.audit ≡ calls.total },
 }
 
-impl<P: PageDevice + Drop, L: LogDevice + Drop, G: Ledger> Room<P, L, G> {
+impl<P: PageDevice, L: LogDevice, G: Sharing> Model for Room<P, L, G> {
+    ghost use Rattle.std.specs.Prelude.{◌≡◌, ◌+◌, length};
+    ghost use Rattle.rq_shared.specs.Entries.{Audited, BeginsSound};
+
+    ghost Value = { Audited P L };
+
+    ghost view = { λ r. r.kept };
+
+    ghost invariant = { λ r. (r.kept.taken + length r.kept.audit ≡ r.calls.total)
+        × BeginsSound P.PageDevice L.LogDevice G.premise r.kept };
+}
+
+impl<P: PageDevice + Drop, L: LogDevice + Drop, G: Sharing> Room<P, L, G> {
     pub(crate) fn new(kept: Kept<P, L>, calls: Book<G>) -> Self
-        requires { kept.taken + length kept.audit ≡ calls.total }
-        ensures { result.kept ≡ kept }
+        requires counted { kept.taken + length kept.audit ≡ calls.total }
+        requires sound { BeginsSound P.PageDevice L.LogDevice G.premise kept }
+        ensures { result ≡ kept }
     {
         Room { kept, calls }
     }
@@ -59,8 +72,9 @@ impl<P: PageDevice + Drop, L: LogDevice + Drop, G: Ledger> Room<P, L, G> {
     /// The kept engine. Who has all shares knows how many calls left an entry.
     pub(crate) fn close(self, all: &mut Share<G>) -> Kept<P, L>
         requires { all.old.parts ≡ G.parts }
-        ensures kept { result ≡ self.kept }
+        ensures kept { result ≡ self }
         ensures count { result.taken + length result.audit ≡ all.old.amount }
+        ensures sound { BeginsSound P.PageDevice L.LogDevice G.premise result }
     {
         let Room { kept, mut calls } = self;
         calls.audit(all);
@@ -71,16 +85,15 @@ impl<P: PageDevice + Drop, L: LogDevice + Drop, G: Ledger> Room<P, L, G> {
     pub(crate) fn call(&mut self, pass: &mut Pass<G>, event: Event) -> Stamped
         ensures called { IsCalled pass.old event result pass.new }
         ensures entry { result.reply ≢ Reply.Refused Refusal.NoMemory
-            → OneMore self.old.kept.audit self.new.kept.audit (noted pass.old.number event result.reply) }
+            → OneMore self.old.audit self.new.audit (noted pass.old.number event result.reply) }
         ensures applied { result.reply ≢ Reply.Refused Refusal.NoMemory
-            → Applied P.PageDevice L.LogDevice self.old.kept.engine event result.reply self.new.kept.engine }
-        ensures no_change { result.reply ≡ Reply.Refused Refusal.NoMemory → self.new.kept ≡ self.old.kept }
-        ensures forced { (lsn : ℕ) → result.reply ≡ Reply.Forced lsn → self.new.kept.engine.state.forced ≡ lsn }
+            → Applied P.PageDevice L.LogDevice self.old.engine event result.reply self.new.engine }
+        ensures no_change { result.reply ≡ Reply.Refused Refusal.NoMemory → self.new ≡ self.old }
+        ensures forced { (lsn : ℕ) → result.reply ≡ Reply.Forced lsn → self.new.engine.state.forced ≡ lsn }
     {
-        let Room { kept, calls } = self;
-        let stamped = kept.step(pass.number, event);
+        let stamped = self.kept.step(pass.number, event);
         if !is_no_memory(stamped.reply()) {
-            calls.add(&mut pass.share, 1);
+            self.calls.add(&mut pass.share, 1);
         }
         stamped
     }
@@ -89,7 +102,7 @@ impl<P: PageDevice + Drop, L: LogDevice + Drop, G: Ledger> Room<P, L, G> {
     pub(crate) fn force(&mut self, pass: &mut Pass<G>, mark: &Mark, seat: &mut MarkPass) -> Stamped
         requires { seat.old.table ≡ mark.now }
         ensures forced { IsForced pass.old seat.old result pass.new seat.new }
-        ensures published { seat.new.published ≡ seat.old.published ++ self.new.kept.engine.state.forced ∷ [] }
+        ensures published { seat.new.published ≡ seat.old.published ++ self.new.engine.state.forced ∷ [] }
     {
         let stamped = self.call(pass, Event::Force);
         mark.publish(seat, &self.kept);
@@ -98,9 +111,10 @@ impl<P: PageDevice + Drop, L: LogDevice + Drop, G: Ledger> Room<P, L, G> {
 
     /// Takes the audit. The count goes on.
     pub(crate) fn take(&mut self) -> Taken<P, L>
-        ensures taken { IsTakenOf P.PageDevice L.LogDevice self.old.kept result }
-        ensures emptied { self.new.kept.audit ≡ [] }
-        ensures engine { self.new.kept.engine ≡ self.old.kept.engine }
+        ensures taken { IsTakenOf P.PageDevice L.LogDevice self.old result }
+        ensures sound { BeginsSound P.PageDevice L.LogDevice G.premise self.old }
+        ensures emptied { self.new.audit ≡ [] }
+        ensures engine { self.new.engine ≡ self.old.engine }
     {
         self.kept.take()
     }

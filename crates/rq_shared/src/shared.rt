@@ -1,10 +1,9 @@
 //! The kept engine under one lock.
 ghost use Rattle.std.specs.Prelude.{◌≡◌, ◌+◌, length, sum_by, IfSome, IfNone};
 ghost use Rattle.rq_shared.specs.Calls.{IsCalled, IsForced, IsTaken};
-ghost use Rattle.rq_shared.specs.Entries.{Follows};
+ghost use Rattle.rq_shared.specs.Entries.{BeginsSound, Follows, WasSound};
 ghost use Rattle.rq_shared.specs.Receipts.{IsReceiptOf, IsDurable};
 ghost use Rattle.rq_model.specs.Words.{In};
-ghost use Rattle.rq_sound.specs.Sound.{IsSound};
 ghost use Rattle.rq_engine.specs.Opened.{AreHonest};
 ghost use Rattle.rq_engine.specs.Says.{commit_number};
 ghost use Rattle.rq_engine.specs.declared.event.Receipt.{Receipt as GivenReceipt};
@@ -12,12 +11,13 @@ ghost use Rattle.rq_engine.specs.declared.event.Receipt.{Receipt as GivenReceipt
 use crate::kept::{Kept, Stamped, Taken};
 use crate::mark::{Mark, MarkPass};
 use crate::room::{Pass, Room, gather, give_pass};
+use crate::sharing::Sharing;
 use rq_disk::{LogDevice, PageDevice};
 use rq_engine::engine::Engine;
 use rq_engine::event::{Event, Receipt};
 use std::alloc::Global;
 use std::marker::Model;
-use std::sync::ledger::{Blank, Ledger, Share};
+use std::sync::ledger::{Blank, Share};
 use std::sync::{Mutex, Wait};
 
 /// The most passes of one engine.
@@ -26,13 +26,13 @@ pub const PASS_LIMIT: u64 = 1024;
 /// A kept engine that threads call, each under a pass. Contracts see how many passes were given; the shares that were
 /// not given out stand beside the lock.
 #[derive(Drop)]
-pub struct Shared<P: PageDevice, L: LogDevice, G: Ledger> {
+pub struct Shared<P: PageDevice, L: LogDevice, G: Sharing> {
     front: Front<P, L, G>,
     rest: Share<G>,
     given: u64,
 }
 
-impl<P: PageDevice, L: LogDevice, G: Ledger> Model for Shared<P, L, G> {
+impl<P: PageDevice, L: LogDevice, G: Sharing> Model for Shared<P, L, G> {
     ghost use Rattle.std.specs.Prelude.{◌≡◌, ℕ, ◌+◌};
 
     ghost Value = { ℕ };
@@ -44,7 +44,7 @@ impl<P: PageDevice, L: LogDevice, G: Ledger> Model for Shared<P, L, G> {
 
 /// The lock, which threads borrow.
 #[derive(Drop)]
-pub struct Front<P: PageDevice, L: LogDevice, G: Ledger> {
+pub struct Front<P: PageDevice, L: LogDevice, G: Sharing> {
     room: Mutex<Room<P, L, G>>,
 }
 
@@ -54,11 +54,12 @@ pub struct Closed<P: PageDevice, L: LogDevice> {
     pub kept: Kept<P, L>,
 }
 
-impl<P: PageDevice + Drop, L: LogDevice + Drop, G: Ledger> Shared<P, L, G> {
-    /// Shares an engine. No pass is given out, and the audit is empty.
+impl<P: PageDevice + Drop, L: LogDevice + Drop, G: Sharing> Shared<P, L, G> {
+    /// Shares an engine, which under the premise of the sharing is sound. No pass is given out, and the audit is empty.
     pub fn new(alloc: Global, engine: Engine<P, L>, blank: Blank) -> Self
         requires name { blank.name ≡ G.name }
         requires parts { (blank.parts ≡ G.parts) × (blank.parts ≡ 1024) }
+        requires sound { WasSound P.PageDevice L.LogDevice G.premise engine }
         ensures { result ≡ 0 }
     {
         let (calls, rest) = blank.open::<G>();
@@ -113,22 +114,24 @@ impl<P: PageDevice + Drop, L: LogDevice + Drop, G: Ledger> Shared<P, L, G> {
     }
 
     /// The entries since the audit was last taken, once the lock is free, as `Kept::take` answers them: they replay
-    /// from the engine as it was then. Then nothing is in the audit.
+    /// from the engine as it was then, which was sound under the premise of the sharing. Then nothing is in the audit.
     pub fn take_audit<R: Wait>(&self, rt: &R) -> Taken<P, L>
-        ensures { IsTaken P.PageDevice L.LogDevice result }
+        ensures { IsTaken P.PageDevice L.LogDevice G.premise result }
     {
         self.front.take_audit(rt)
     }
 
     /// Ends the sharing, once all passes are back: the audit, with the entries that were taken, has as many entries as
     /// the passes counted calls. Of the receipts that are handed in, those whose commit and acknowledgement the audit
-    /// has name commits that no crash takes any more, where the devices were honest and the store was sound.
+    /// has name commits that no crash takes any more, where the devices were honest and under the premise of the sharing,
+    /// that the engine which was shared was sound.
     pub fn close(self, passes: Vec<Pass<G>>, receipts: &[Receipt]) -> Closed<P, L>
         requires parts { G.parts ≡ 1024 }
         requires all { length passes.items ≡ self }
         ensures count { result.kept.taken + length result.kept.audit ≡ sum_by (λ p. p.calls) passes.items }
         ensures replays { Follows P.PageDevice L.LogDevice result.kept.base result.kept.audit result.kept.engine }
-        ensures receipts { AreHonest P.PageDevice L.LogDevice result.kept.engine → IsSound result.kept.base.state
+        ensures sound { BeginsSound P.PageDevice L.LogDevice G.premise result.kept }
+        ensures receipts { G.premise → AreHonest P.PageDevice L.LogDevice result.kept.engine
             → (r : GivenReceipt) → In r receipts.now → IsReceiptOf result.kept.audit (commit_number r.number)
             → IsDurable L.LogDevice result.kept.engine (commit_number r.number) }
     {
@@ -145,7 +148,7 @@ impl<P: PageDevice + Drop, L: LogDevice + Drop, G: Ledger> Shared<P, L, G> {
     }
 }
 
-impl<P: PageDevice + Drop, L: LogDevice + Drop, G: Ledger> Front<P, L, G> {
+impl<P: PageDevice + Drop, L: LogDevice + Drop, G: Sharing> Front<P, L, G> {
     /// Makes the call that the event stands for, once the lock is free, and answers its stamp. The pass counts it, but
     /// where it is answered `NoMemory`.
     pub fn call<R: Wait>(&self, rt: &R, pass: &mut Pass<G>, event: Event) -> Stamped
@@ -169,9 +172,9 @@ impl<P: PageDevice + Drop, L: LogDevice + Drop, G: Ledger> Front<P, L, G> {
     }
 
     /// The entries since the audit was last taken, once the lock is free, as `Kept::take` answers them: they replay
-    /// from the engine as it was then. Then nothing is in the audit.
+    /// from the engine as it was then, which was sound under the premise of the sharing. Then nothing is in the audit.
     pub fn take_audit<R: Wait>(&self, rt: &R) -> Taken<P, L>
-        ensures { IsTaken P.PageDevice L.LogDevice result }
+        ensures { IsTaken P.PageDevice L.LogDevice G.premise result }
     {
         self.room.lock(rt).take()
     }

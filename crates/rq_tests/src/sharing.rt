@@ -1,8 +1,9 @@
 //! Two passes of a shared engine: what its audit holds, and to whose stamps it is tied.
 ghost use Rattle.std.specs.Prelude.{◌≡◌};
+ghost use Rattle.rq_shared.specs.Entries.{WasSound};
 
 use crate::calls::{devices, formatted};
-use rq_disk::{MemLog, MemPages};
+use rq_disk::{LogDevice, MemLog, MemPages, PageDevice};
 use rq_engine::engine::Engine;
 use rq_engine::event::Event;
 use rq_model::txn::{Sub, Txn};
@@ -11,11 +12,12 @@ use rq_restart::restart::restart;
 use rq_shared::kept::{AuditEntry, Stamped};
 use rq_shared::room::Pass;
 use rq_shared::shared::{Front, Shared};
+use rq_shared::sharing::Sharing;
 use rq_shared::tied::tied;
 use std::alloc::{AllocError, Global};
 use std::marker::Brand;
 use std::sync::Wait;
-use std::sync::ledger::{Blank, Ledger};
+use std::sync::ledger::Blank;
 use std::test::Fail;
 
 /// What was seen of an audit that was taken after two transactions, each of its own pass, sent a message.
@@ -61,7 +63,7 @@ fn events(alloc: Global, txn: Txn, sender: u32) -> Result<Vec<Event>, AllocError
 }
 
 // Makes the calls under a pass, one after the other: their stamps.
-fn stamped<G: Ledger, R: Wait>(
+fn stamped<G: Sharing, R: Wait>(
     rt: &R,
     alloc: Global,
     front: &Front<MemPages, MemLog, G>,
@@ -76,7 +78,7 @@ fn stamped<G: Ledger, R: Wait>(
 }
 
 // Two transactions under a pass each, and what the audit holds then.
-fn share<G: Ledger, R: Wait>(
+fn share<G: Sharing, R: Wait>(
     rt: &R,
     alloc: Global,
     engine: Engine<MemPages, MemLog>,
@@ -84,6 +86,7 @@ fn share<G: Ledger, R: Wait>(
 ) -> Result<Seen, AllocError>
     requires name { blank.name ≡ G.name }
     requires parts { (blank.parts ≡ G.parts) × (blank.parts ≡ 1024) }
+    requires sound { WasSound ⟦<MemPages as PageDevice>⟧ ⟦<MemLog as LogDevice>⟧ G.premise engine }
 {
     let mut shared = Shared::<MemPages, MemLog, G>::new(alloc, engine, blank);
     let Some(mut one) = shared.pass() else {

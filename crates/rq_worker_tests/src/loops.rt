@@ -1,14 +1,16 @@
 //! The runner over a kept engine, and the log writer over a shared one.
 ghost use Rattle.std.specs.Prelude.{◌≡◌};
+ghost use Rattle.rq_shared.specs.Entries.{WasSound};
 
 use crate::stores::{KeepStamps, begun, committed, send_of, small_engine};
-use rq_disk::{MemLog, MemPages};
+use rq_disk::{LogDevice, MemLog, MemPages, PageDevice};
 use rq_engine::engine::Engine;
-use rq_engine::event::{Outcome, Reply};
+use rq_engine::event::{Event, Outcome, Reply};
 use rq_model::refusal::Refusal;
 use rq_shared::kept::Kept;
 use rq_shared::mark::Mark;
 use rq_shared::shared::Shared;
+use rq_shared::sharing::Sharing;
 use rq_workers::acts::Ended;
 use rq_workers::gate::{BEFORE_AGAIN, BEFORE_FORCE, Gate};
 use rq_workers::kept::KeptSteps;
@@ -18,7 +20,7 @@ use std::alloc::Global;
 use std::marker::Brand;
 use std::sync::Wait;
 use std::sync::atomic::{AtomicU64, Ordering};
-use std::sync::ledger::{Blank, Ledger};
+use std::sync::ledger::Blank;
 use std::test::Fail;
 
 /// Lets through so often at one point, and nowhere else.
@@ -100,7 +102,7 @@ fn a_started_operation_is_gone_through(rt: HostRuntime) -> Result<(), Fail> {
 
 // The mark as another pass reads it, before and after a log writer whose gate lets it through once; and what its force
 // answered.
-fn marked<G: Ledger, R: Wait>(
+fn marked<G: Sharing, R: Wait>(
     rt: &R,
     alloc: Global,
     engine: Engine<MemPages, MemLog>,
@@ -108,6 +110,7 @@ fn marked<G: Ledger, R: Wait>(
 ) -> Option<(u64, u64, u64)>
     requires name { blank.name ≡ G.name }
     requires parts { (blank.parts ≡ G.parts) × (blank.parts ≡ 1024) }
+    requires sound { WasSound ⟦<MemPages as PageDevice>⟧ ⟦<MemLog as LogDevice>⟧ G.premise engine }
 {
     let mut shared = Shared::<MemPages, MemLog, G>::new(alloc, engine, blank);
     let writer = shared.pass()?;
@@ -141,5 +144,26 @@ fn mark_of<R: Wait>(rt: &R, alloc: Global) -> Option<(u64, u64, u64)> {
 fn a_log_writer_leaves_the_mark_at_its_lsn(rt: HostRuntime) -> Result<(), Fail> {
     let seen = mark_of(&rt, rt.alloc()).ok_or("a force")?;
     assert_eq!(rt; seen, (0, 2, 2), "the records are Restart and Commit");
+    Ok(())
+}
+
+// What comes of a force that the runner is asked for, and how many calls were made.
+fn run_of_a_force<R: Wait>(rt: &R, alloc: Global) -> Option<(Ended, usize)> {
+    let steps = KeptSteps::new(Kept::new(alloc, small_engine(alloc).ok()?), 1);
+    let left = AtomicU64::new(9);
+    let gate = Often {
+        point: BEFORE_FORCE,
+        left: &left,
+    };
+    let mut worker = Worker::new(gate, steps);
+    let ended = worker.run(rt, &Event::Force);
+    let mut steps = worker.into_steps();
+    Some((ended, steps.kept().entries().len()))
+}
+
+#[test]
+fn what_is_no_start_is_not_called(rt: HostRuntime) -> Result<(), Fail> {
+    let seen = run_of_a_force(&rt, rt.alloc()).ok_or("a store")?;
+    assert_eq!(rt; seen, (Ended::Other, 0), "a force is the log writer's");
     Ok(())
 }

@@ -9,7 +9,9 @@ use rq_restart::restart::restart;
 use rq_shared::kept::Stamped;
 use rq_workers::shared::Keep;
 use rq_workers::steps::Steps;
+use rq_workers::trail::Trail;
 use std::alloc::{AllocError, Global};
+use std::snapshot::Snapshot;
 
 /// A store of one directory and one cell page over devices in memory, formatted and opened.
 pub fn small_engine(alloc: Global) -> Result<Engine<MemPages, MemLog>, &'static str> {
@@ -86,18 +88,23 @@ pub fn receipt(stamped: &Stamped) -> Option<Receipt> {
 #[derive(Drop)]
 pub struct KeepStamps {
     pub stamps: Vec<Stamped>,
+    handed: Snapshot<Trail<Stamped>>,
 }
 
 impl KeepStamps {
     pub fn new(alloc: Global) -> Self {
         KeepStamps {
             stamps: Vec::new(alloc),
+            handed: Trail::empty(),
         }
     }
 }
 
 impl Keep for KeepStamps {
+    ghost handed = { λ k. k.handed.value };
+
     fn keep(&mut self, stamped: Stamped) {
+        Trail::note(&mut self.handed, &stamped);
         let _ = self.stamps.push(stamped);
     }
 }

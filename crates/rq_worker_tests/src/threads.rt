@@ -1,5 +1,6 @@
 //! Two threads that share an engine.
 ghost use Rattle.std.specs.Prelude.{◌≡◌};
+ghost use Rattle.rq_shared.specs.Entries.{WasSound};
 
 use crate::stores::{
     KeepStamps, begun, committed, has_sent, opened, receipt, send_of, small_engine,
@@ -11,6 +12,7 @@ use rq_shared::kept::{AuditEntry, Stamped};
 use rq_shared::mark::{Mark, MarkPass};
 use rq_shared::room::Pass;
 use rq_shared::shared::{Closed, Front, Shared};
+use rq_shared::sharing::Sharing;
 use rq_shared::tied::tied;
 use rq_workers::acts::Ended;
 use rq_workers::gate::{BETWEEN_STEPS, Gate};
@@ -81,7 +83,7 @@ fn comes(word: &AtomicU64) -> bool {
 type Worked<G> = (Pass<G>, Vec<Stamped>, CommitNo);
 
 // Sends x for sender 0, and is held within its send until the other thread has begun.
-fn work_first<P: PageDevice + Drop, L: LogDevice + Drop, G: Ledger, R: Wait>(
+fn work_first<P: PageDevice + Drop, L: LogDevice + Drop, G: Sharing, R: Wait>(
     rt: &R,
     alloc: Global,
     front: &Front<P, L, G>,
@@ -109,7 +111,7 @@ fn work_first<P: PageDevice + Drop, L: LogDevice + Drop, G: Ledger, R: Wait>(
 }
 
 // Sends y for sender 14, once the other thread has sent.
-fn work_second<P: PageDevice + Drop, L: LogDevice + Drop, G: Ledger, R: Wait>(
+fn work_second<P: PageDevice + Drop, L: LogDevice + Drop, G: Sharing, R: Wait>(
     rt: &R,
     alloc: Global,
     front: &Front<P, L, G>,
@@ -182,7 +184,7 @@ fn tie_of(audit: &[AuditEntry], stamps: Vec<Stamped>, others: Vec<Stamped>) -> T
 fn both<
     P: PageDevice + Drop + Send,
     L: LogDevice + Drop + Send,
-    G: Ledger + Send + Sync,
+    G: Sharing + Send + Sync,
     R: Threads + Wait + Sync,
 >(
     rt: &R,
@@ -206,7 +208,7 @@ fn both<
 }
 
 // A force, and then the receipt of each commit.
-fn receipts<P: PageDevice + Drop, L: LogDevice + Drop, G: Ledger, R: Wait>(
+fn receipts<P: PageDevice + Drop, L: LogDevice + Drop, G: Sharing, R: Wait>(
     rt: &R,
     alloc: Global,
     front: &Front<P, L, G>,
@@ -225,7 +227,7 @@ fn receipts<P: PageDevice + Drop, L: LogDevice + Drop, G: Ledger, R: Wait>(
 }
 
 // The passes back, and the sharing at its end.
-fn ended<P: PageDevice + Drop, L: LogDevice + Drop, G: Ledger>(
+fn ended<P: PageDevice + Drop, L: LogDevice + Drop, G: Sharing>(
     alloc: Global,
     shared: Shared<P, L, G>,
     one: Pass<G>,
@@ -248,11 +250,12 @@ fn ended<P: PageDevice + Drop, L: LogDevice + Drop, G: Ledger>(
 fn share<
     P: PageDevice + Drop + Send,
     L: LogDevice + Drop + Send,
-    G: Ledger + Send + Sync,
+    G: Sharing + Send + Sync,
     R: Threads + Wait + Sync,
 >(rt: &R, alloc: Global, engine: Engine<P, L>, blank: Blank, take: bool) -> Option<Seen<P, L>>
     requires name { blank.name ≡ G.name }
     requires parts { (blank.parts ≡ G.parts) × (blank.parts ≡ 1024) }
+    requires sound { WasSound P.PageDevice L.LogDevice G.premise engine }
 {
     let mut shared = Shared::<P, L, G>::new(alloc, engine, blank);
     let pass = shared.pass()?;

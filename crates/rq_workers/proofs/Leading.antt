@@ -16,7 +16,7 @@ use Rattle.rq_workers.specs.declared.acts.Part.{Part}
 use Rattle.rq_workers.specs.declared.acts.Part.TheVariants as part
 use Rattle.rq_workers.specs.declared.acts.Turn.TheVariants as turn
 use Rattle.rq_workers.specs.Hearing.{heard_of, may_try_again, wants_memory, operation_of, turn_of, part_event}
-use Rattle.rq_workers.specs.Acts.{Work, DidOne, IsCalled}
+use Rattle.rq_workers.specs.Acts.{Work, DidOne, IsCalled, may_call}
 use Rattle.rq_workers.specs.Operations.{Stage, Lead, LeadsOn, Carries, IsTried, after_start, after_asking, after_part, once_started, once_answered, started_stage}
 use Rattle.rq_workers.specs.Operations.Stage.{Starting, Refused_start, Due, Due_again, Between, Over}
 
@@ -55,6 +55,11 @@ pub turns_last : (sub : Sub) (h l : Heard) → turn_of h ≡ turn.Last l → onc
 turns_last sub (heard.Done lsn) l e = absurd (cc)
 turns_last sub heard.Ready l e = absurd (cc)
 turns_last sub h l e = let same : h ≡ l = cc in ap Over same
+
+-- a part of an operation may be called at any time
+pub part_may : (acts : List Act) (p : Part) (sub : Sub) → may_call acts (call_of (part_event p sub)) ≡ true
+part_may acts part.Step sub = refl
+part_may acts part.Finish sub = refl
 
 lead_on : (c : Call) (from mid to : Stage) (older newer : List Act) → Lead c from older mid → Lead c mid newer to → Lead c from (newer ++ older) to
 lead_on c from mid to older [] l m = subst (λ s. Lead c from older s) (sym m) l

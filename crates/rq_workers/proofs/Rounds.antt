@@ -1,10 +1,11 @@
 -- One round more of a loop.
 use Rattle.std.proofs.Common.{◌≡◌, ℕ, Bool, true, false, List, [], ◌∷◌, refl, ap, ◌∙◌}
 use Rattle.rq_engine.specs.declared.event.Event.TheVariants.{WritePage}
+use Rattle.rq_engine.specs.Says.{call_of}
 use Rattle.rq_workers.specs.declared.acts.Act.{Act}
 use Rattle.rq_workers.specs.declared.acts.Act.TheVariants.{Asked, Made, Forced}
 use Rattle.rq_workers.specs.declared.acts.Heard.{Heard}
-use Rattle.rq_workers.specs.Acts.{Work, Did, DidOne, IsCalled, IsForced}
+use Rattle.rq_workers.specs.Acts.{Work, Did, DidOne, IsCalled, IsForced, may_call, passed_at}
 use Rattle.rq_workers.specs.Loops.{AreForces, IsLogWriting, AreWrites, IsPageWriting, next_page, page_after}
 
 -- the page whose turn it is after what was done
@@ -12,6 +13,13 @@ abbrev pub Writes : ℕ → ℕ → List Act → Type 0
 Writes pages page acts = AreWrites pages acts × (page ≡ next_page pages acts)
 
 module _ {S : Type 0} where
+  -- behind a gate that was passed
+  pub may_force : (v w : Work S) (b : Bool) → DidOne (Asked 1 b) v w → b ≡ true → passed_at 1 w.done ≡ true
+  may_force v w b d e = rw (d.0, e) refl
+
+  pub may_write : (page : ℕ) (v w : Work S) (b : Bool) → DidOne (Asked 2 b) v w → b ≡ true → may_call w.done (call_of (WritePage page)) ≡ true
+  may_write page v w b d e = rw (d.0, e) refl
+
   pub no_forces : (w : Work S) → Did AreForces w w
   no_forces w = ([], refl, refl, tt)
 

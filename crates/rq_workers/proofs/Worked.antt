@@ -1,5 +1,6 @@
 -- What workers may have done, and what not.
 use Rattle.std.proofs.Common.{◌≡◌, true, false, [], ◌∷◌, refl, subst}
+use Rattle.std.proofs.lemmas.Bool.{false≢true}
 use Rattle.std.specs.declared.snapshot.Snapshot.{Snapshot}
 use Rattle.rq_model.specs.declared.refusal.Refusal.TheVariants.{NoMemory, Latched}
 use Rattle.rq_model.specs.declared.txn.Txn.{Txn}
@@ -18,6 +19,8 @@ use Rattle.rq_workers.specs.declared.acts.Act.TheVariants.{Asked, Made, Forced a
 use Rattle.rq_workers.specs.declared.acts.Heard.{Heard}
 use Rattle.rq_workers.specs.declared.acts.Heard.TheVariants as heard
 use Rattle.rq_workers.specs.declared.acts.Part.TheVariants.{Step as Part_step, Finish as Part_finish}
+use Rattle.rq_workers.specs.Acts.{KeepsRule, forced_in}
+use Rattle.rq_workers.specs.Forcing.{most_forced}
 use Rattle.rq_workers.specs.Loops.{IsLogWriting, IsPageWriting}
 use Rattle.rq_workers.specs.Operations.{Lead, LeadsOn}
 use Rattle.rq_workers.specs.Operations.Stage.{Starting, Refused_start, Due, Due_again, Between, Over}
@@ -46,6 +49,29 @@ module _ (any : Snapshot Stamped) where
   -- a force that was called as any other call
   called_to_force : IsLogWriting (Asked 1 false ∷ made Force (Forced 5) ∷ Asked 1 true ∷ []) → ⊥
   called_to_force w = w.2
+
+  -- a force directly behind its gate, and none more; no other call forces, and a page is written behind its own gate alone
+  forces_by_rule : KeepsRule (forced (Forced 5) ∷ Asked 1 true ∷ [])
+  forces_by_rule = (refl, tt)
+
+  forced_again : KeepsRule (forced (Forced 9) ∷ forced (Forced 5) ∷ Asked 1 true ∷ []) → ⊥
+  forced_again k = false≢true k.0
+
+  forced_at_another_point : KeepsRule (forced (Forced 5) ∷ Asked 2 true ∷ []) → ⊥
+  forced_at_another_point k = false≢true k.0
+
+  forced_by_a_call : (r : Reply) → KeepsRule (made Force r ∷ Asked 1 true ∷ []) → ⊥
+  forced_by_a_call r k = false≢true k.0
+
+  writes_by_rule : (r : Reply) → KeepsRule (made (WritePage 3) r ∷ Asked 2 true ∷ [])
+  writes_by_rule r = (refl, tt)
+
+  written_again : (r : Reply) → KeepsRule (made (WritePage 3) r ∷ made (WritePage 3) r ∷ Asked 2 true ∷ []) → ⊥
+  written_again r k = false≢true k.0
+
+  -- what was forced last is the most of what was forced
+  most_of_two : most_forced (forced_in (forced (Forced 9) ∷ Asked 1 true ∷ forced (Forced 5) ∷ Asked 1 true ∷ [])) ≡ 9
+  most_of_two = refl
 
   -- pages 0 and 1 of two, and page 0 again
   pages_in_turn : (r : Reply) → IsPageWriting 2 (Asked 2 false ∷ made (WritePage 0) r ∷ Asked 2 true ∷ made (WritePage 1) r ∷ Asked 2 true ∷ made (WritePage 0) r ∷ Asked 2 true ∷ [])

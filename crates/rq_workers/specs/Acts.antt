@@ -1,5 +1,5 @@
 -- What a worker did. The newest act is the first of a list.
-use Rattle.std.specs.Prelude.{◌≡◌, ℕ, Bool, false, not, ◌||◌, List, [], ◌∷◌, ◌++◌}
+use Rattle.std.specs.Prelude.{◌≡◌, ◌≤◌, ℕ, ◌==◌, Bool, true, false, not, ◌||◌, ◌&&◌, List, [], ◌∷◌, ◌++◌}
 use Rattle.std.specs.declared.snapshot.Snapshot.{Snapshot}
 use Rattle.rq_engine.specs.declared.event.Event.{Event}
 use Rattle.rq_engine.specs.declared.event.Event.TheVariants.{Force}
@@ -7,7 +7,11 @@ use Rattle.rq_shared.specs.declared.kept.Stamped.{Stamped}
 use Rattle.rq_workers.specs.declared.acts.Act.{Act}
 use Rattle.rq_workers.specs.declared.acts.Act.TheVariants.{Asked, Made, Forced}
 use Rattle.rq_workers.specs.declared.acts.Heard.{Heard}
-use Rattle.rq_workers.specs.Hearing.{heard_of}
+use Rattle.rq_model.specs.History.{Call}
+use Rattle.rq_model.specs.History.Call.{Step, Finish, Write_page}
+use Rattle.rq_engine.specs.Says.{call_of}
+use Rattle.rq_workers.specs.Hearing.{heard_of, starts_one}
+use Rattle.rq_workers.specs.Forcing.{most_forced}
 
 -- the stamps of the calls
 abbrev pub stamps_in : List Act → List Stamped
@@ -37,19 +41,42 @@ AreAnswers says (Asked point passed ∷ acts) = says point passed × AreAnswers 
 AreAnswers says (Made s ∷ acts) = AreAnswers says acts
 AreAnswers says (Forced s ∷ acts) = AreAnswers says acts
 
+-- the newest act is a gate that was passed at this point
+abbrev pub passed_at : ℕ → List Act → Bool
+passed_at point (Asked p passed ∷ acts) = (p == point) && passed
+passed_at point _ = false
+
+-- What may be called behind these acts: a part of an operation at any time, a page's write directly behind a gate that was
+-- passed at point 2; nothing else. A force is none: that is the interface's own.
+abbrev pub may_call : List Act → Call → Bool
+may_call acts (Write_page page) = passed_at 2 acts
+may_call acts (Step txn number) = true
+may_call acts (Finish txn number) = true
+may_call acts c = starts_one c
+
+-- each call was one that may be made there, and each force came directly behind a gate that was passed at point 1
+abbrev pub KeepsRule : List Act → Type 0
+KeepsRule [] = Unit {0}
+KeepsRule (Asked point passed ∷ acts) = KeepsRule acts
+KeepsRule (Made s ∷ acts) = (may_call acts (call_of s.value.event) ≡ true) × KeepsRule acts
+KeepsRule (Forced s ∷ acts) = (passed_at 1 acts ≡ true) × KeepsRule acts
+
 -- What contracts see of a worker: what it did, and its step interface as it took it.
 pub record Work (S : Type 0) : Type 0 where
   pub done : List Act
   pub begun : S
 
 -- What is so of a worker: its gate may have answered so, and what was called, forced by the interface's own force, and
--- handed on, through its step interface since it took that is what it did.
-pub record IsWork {S : Type 0} (says : ℕ → Bool → Type 0) (made_by forced_by told_by : S → List Stamped)
+-- handed on, through its step interface since it took that is what it did; others were told of what it forced, and it did
+-- nothing but what may be done.
+pub record IsWork {S : Type 0} (says : ℕ → Bool → Type 0) (made_by forced_by told_by : S → List Stamped) (shown_by : S → ℕ)
     (steps begun : S) (done : List Act) (has_stopped : Bool) : Type 0 where
   pub asked : AreAnswers says done
   pub made : made_by steps ≡ stamps_in done ++ made_by begun
   pub forced : forced_by steps ≡ forced_in done ++ forced_by begun
   pub told : told_by steps ≡ stamps_in done ++ told_by begun
+  pub shown : most_forced (forced_in done) ≤ shown_by steps
+  pub ruled : KeepsRule done
   pub stopped : has_stopped ≡ was_stopped done
 
 -- a worker did this in front of what it had done, and nothing else

@@ -1,5 +1,6 @@
 pub mod Trails
 pub mod Hearing
+pub mod Forcing
 pub mod Acts
 pub mod Loops
 pub mod Operations

@@ -47,7 +47,7 @@ pub enum Ended {
     NoMessage,
     /// A call of it was refused. Where that was its start, nothing was started.
     Refused(Refusal),
-    /// What was to start it is no start.
+    /// What was to start it is no start, so that no call was made; or a call was answered as none of its kind is.
     Other,
 }
 

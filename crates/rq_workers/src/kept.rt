@@ -8,7 +8,8 @@ use rq_engine::event::Event;
 use rq_shared::kept::{Kept, Stamped};
 use std::snapshot::Snapshot;
 
-/// A kept engine that is called under this pass number. Stamps handed on are dropped.
+/// A kept engine that is called under this pass number. Stamps handed on are dropped; there is nobody else to be told what
+/// is forced.
 #[derive(Drop)]
 pub struct KeptSteps<P: PageDevice, L: LogDevice> {
     kept: Kept<P, L>,
@@ -37,11 +38,15 @@ impl<P: PageDevice + Drop, L: LogDevice + Drop> KeptSteps<P, L> {
 }
 
 impl<P: PageDevice + Drop, L: LogDevice + Drop> Steps for KeptSteps<P, L> {
+    ghost use Rattle.rq_workers.specs.Forcing.{most_forced};
+
     ghost made = { λ s. s.made.value };
 
     ghost forced = { λ s. s.forced.value };
 
     ghost told = { λ s. s.told.value };
+
+    ghost shown = { λ s. most_forced s.forced.value };
 
     fn call(&mut self, event: Event) -> Stamped {
         let stamped = self.kept.step(self.pass, event);

@@ -1,8 +1,8 @@
 //! The runner of operations.
-ghost use Rattle.std.specs.Prelude.{◌≡◌};
+ghost use Rattle.std.specs.Prelude.{◌≡◌, true, false};
 ghost use Rattle.rq_engine.specs.Says.{call_of};
 ghost use Rattle.rq_model.specs.History.{Call};
-ghost use Rattle.rq_workers.specs.Hearing.{may_try_again, wants_memory, operation_of, turn_of};
+ghost use Rattle.rq_workers.specs.Hearing.{may_try_again, starts_one, wants_memory, operation_of, turn_of};
 ghost use Rattle.rq_workers.specs.Operations.{Carries, GoesThrough, IsTried, once_answered, started_stage, stepped_stage};
 ghost use Rattle.rq_workers.specs.Operations.Stage.{Starting, Due, Over};
 ghost use Rattle.rq_workers.specs.declared.acts.Part.TheVariants.{Step as Step_part};
@@ -20,10 +20,15 @@ impl<G: Gate + Drop, S: Steps> Worker<G, S> {
     /// Goes through the operation that this call starts: the start, its steps until all slots are written, its finish.
     /// A start that is refused as Latched or NoMemory, and a step or a finish that is refused as NoMemory, is tried
     /// again. An operation that was started is gone through whatever the gate says, until it is finished or refused for
-    /// something else.
+    /// something else. A call that starts no operation is not made.
     pub fn run<R: Wait>(&mut self, rt: &R, start: &Event) -> Ended
-        ensures { GoesThrough (call_of start.now) self.old self.new result }
+        ensures starts { starts_one (call_of start.now) ≡ true
+            → GoesThrough (call_of start.now) self.old self.new result }
+        ensures starts_none { starts_one (call_of start.now) ≡ false → (self.new ≡ self.old) × (result ≡ Ended.Other) }
     {
+        if !is_start(start) {
+            return Ended::Other;
+        }
         match self.started(rt, start) {
             Ok(sub) => end_by(self.gone_through(rt, sub)),
             Err(last) => end_by(last),
@@ -32,6 +37,7 @@ impl<G: Gate + Drop, S: Steps> Worker<G, S> {
 
     // Calls the start until it is answered for good, or the gate says no.
     fn started<R: Wait>(&mut self, rt: &R, start: &Event) -> Result<Sub, Heard>
+        requires { starts_one (call_of start.now) ≡ true }
         ensures { Carries (call_of start.now) Starting self.old (started_stage result) self.new }
     {
         for _ in rt.forever() {
@@ -48,6 +54,7 @@ impl<G: Gate + Drop, S: Steps> Worker<G, S> {
 
     // Calls the start, where there is memory for a copy of it.
     fn tried(&mut self, start: &Event) -> Heard
+        requires { starts_one (call_of start.now) ≡ true }
         ensures { IsTried (call_of start.now) self.old result self.new }
     {
         match start.clone() {
@@ -92,6 +99,26 @@ impl<G: Gate + Drop, S: Steps> Worker<G, S> {
             self.asks(BEFORE_AGAIN);
         }
         unreachable!()
+    }
+}
+
+// Whether the call starts an operation.
+fn is_start(event: &Event) -> bool
+    ensures { result ≡ starts_one (call_of event.now) }
+{
+    match event {
+        Event::StartSend { .. } => true,
+        Event::StartReceive(_) => true,
+        Event::StartReceiveFrom { .. } => true,
+        Event::Begin => false,
+        Event::Step(_) => false,
+        Event::Finish(_) => false,
+        Event::Commit(_) => false,
+        Event::Acknowledged(_) => false,
+        Event::HandOver => false,
+        Event::Force => false,
+        Event::WritePage(_) => false,
+        Event::Content => false,
     }
 }
 

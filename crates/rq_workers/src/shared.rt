@@ -1,5 +1,7 @@
 //! The step interface over a shared engine, for one thread.
-ghost use Rattle.std.specs.Prelude.{◌≡◌, ◌∷◌};
+ghost use Rattle.std.specs.Prelude.{◌≡◌, ◌≤◌, List, ◌∷◌};
+ghost use Rattle.rq_shared.specs.declared.kept.Stamped.{Stamped as Stamp};
+ghost use Rattle.rq_workers.specs.Forcing.{lsn_forced};
 ghost use Rattle.rq_shared.specs.Calls.{IsCalled, IsForced};
 
 use crate::steps::Steps;
@@ -10,27 +12,46 @@ use rq_shared::kept::Stamped;
 use rq_shared::mark::{Mark, MarkPass};
 use rq_shared::room::Pass;
 use rq_shared::shared::Front;
+use rq_shared::sharing::Sharing;
 use std::snapshot::Snapshot;
 use std::sync::Wait;
-use std::sync::ledger::Ledger;
 
 /// Where the stamps of a thread's calls go, once they were read.
 pub trait Keep {
+    /// The stamps that it was handed, the newest first.
+    ghost handed: { Self → List Stamp };
+
     /// Takes a stamp.
-    fn keep(&mut self, stamped: Stamped);
+    fn keep(&mut self, stamped: Stamped)
+        ensures { handed self.new ≡ stamped ∷ handed self.old };
 }
 
 /// Stamps are dropped.
 #[derive(Drop)]
-pub struct DropStamps;
+pub struct DropStamps {
+    handed: Snapshot<Trail<Stamped>>,
+}
+
+impl DropStamps {
+    /// No stamp was handed over yet.
+    pub fn new() -> Self {
+        DropStamps {
+            handed: Trail::empty(),
+        }
+    }
+}
 
 impl Keep for DropStamps {
-    fn keep(&mut self, _stamped: Stamped) {}
+    ghost handed = { λ k. k.handed.value };
+
+    fn keep(&mut self, stamped: Stamped) {
+        Trail::note(&mut self.handed, &stamped);
+    }
 }
 
 /// Calls under a pass. A force also publishes to a mark.
 #[derive(Drop)]
-pub struct SharedSteps<'a, P: PageDevice, L: LogDevice, G: Ledger, R: Wait, K: Keep> {
+pub struct SharedSteps<'a, P: PageDevice, L: LogDevice, G: Sharing, R: Wait, K: Keep> {
     rt: &'a R,
     front: &'a Front<P, L, G>,
     pass: Pass<G>,
@@ -39,11 +60,10 @@ pub struct SharedSteps<'a, P: PageDevice, L: LogDevice, G: Ledger, R: Wait, K: K
     keep: K,
     made: Snapshot<Trail<Stamped>>,
     forced: Snapshot<Trail<Stamped>>,
-    told: Snapshot<Trail<Stamped>>,
     ghost of_mark: { seat.table ≡ mark.now },
 }
 
-impl<'a, P: PageDevice + Drop, L: LogDevice + Drop, G: Ledger, R: Wait, K: Keep> SharedSteps<
+impl<'a, P: PageDevice + Drop, L: LogDevice + Drop, G: Sharing, R: Wait, K: Keep> SharedSteps<
     'a,
     P,
     L,
@@ -72,7 +92,6 @@ impl<'a, P: PageDevice + Drop, L: LogDevice + Drop, G: Ledger, R: Wait, K: Keep>
             keep,
             made: Trail::empty(),
             forced: Trail::empty(),
-            told: Trail::empty(),
         }
     }
 
@@ -89,25 +108,27 @@ impl<'a, P: PageDevice + Drop, L: LogDevice + Drop, G: Ledger, R: Wait, K: Keep>
             keep,
             made: _,
             forced: _,
-            told: _,
         } = self;
         (pass, seat, keep)
     }
 }
 
-impl<'a, P: PageDevice + Drop, L: LogDevice + Drop, G: Ledger, R: Wait, K: Keep> Steps
+impl<'a, P: PageDevice + Drop, L: LogDevice + Drop, G: Sharing, R: Wait, K: Keep> Steps
     for SharedSteps<'a, P, L, G, R, K> {
     ghost made = { λ s. s.made.value };
 
     ghost forced = { λ s. s.forced.value };
 
-    ghost told = { λ s. s.told.value };
+    ghost told = { λ s. K.handed s.keep };
+
+    ghost shown = { λ s. s.seat.saw };
 
     fn call(&mut self, event: Event) -> Stamped
         ensures event { result.event ≡ event }
         ensures made { self.new.made.value ≡ result ∷ self.old.made.value }
         ensures forced { self.new.forced.value ≡ self.old.forced.value }
-        ensures told { self.new.told.value ≡ self.old.told.value }
+        ensures told { K.handed self.new.keep ≡ K.handed self.old.keep }
+        ensures shown { self.old.seat.saw ≤ self.new.seat.saw }
         ensures called { IsCalled self.old.pass event result self.new.pass }
     {
         let stamped = self.front.call(self.rt, &mut self.pass, event);
@@ -115,12 +136,14 @@ impl<'a, P: PageDevice + Drop, L: LogDevice + Drop, G: Ledger, R: Wait, K: Keep>
         stamped
     }
 
-    /// Forces, and publishes how many records are forced to whoever reads the mark.
+    /// Forces, and publishes how many records are forced to whoever reads the mark: what is read of it from then on is no
+    /// less.
     fn force(&mut self) -> Stamped
         ensures event { result.event ≡ Event.Force }
         ensures made { self.new.made.value ≡ result ∷ self.old.made.value }
         ensures forced { self.new.forced.value ≡ result ∷ self.old.forced.value }
-        ensures told { self.new.told.value ≡ self.old.told.value }
+        ensures told { K.handed self.new.keep ≡ K.handed self.old.keep }
+        ensures shown { (self.old.seat.saw ≤ self.new.seat.saw) × (lsn_forced result.reply ≤ self.new.seat.saw) }
         ensures published { IsForced self.old.pass self.old.seat result self.new.pass self.new.seat }
     {
         let stamped = self
@@ -134,10 +157,10 @@ impl<'a, P: PageDevice + Drop, L: LogDevice + Drop, G: Ledger, R: Wait, K: Keep>
     fn seen(&mut self, stamped: Stamped)
         ensures made { self.new.made.value ≡ self.old.made.value }
         ensures forced { self.new.forced.value ≡ self.old.forced.value }
-        ensures told { self.new.told.value ≡ stamped ∷ self.old.told.value }
+        ensures told { K.handed self.new.keep ≡ stamped ∷ K.handed self.old.keep }
+        ensures shown { self.old.seat.saw ≤ self.new.seat.saw }
         ensures pass { (self.new.pass ≡ self.old.pass) × (self.new.seat ≡ self.old.seat) }
     {
-        Trail::note(&mut self.told, &stamped);
         self.keep.keep(stamped);
     }
 }

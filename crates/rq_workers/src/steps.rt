@@ -1,5 +1,6 @@
 //! How a worker calls a store.
-ghost use Rattle.std.specs.Prelude.{◌≡◌, List, ◌∷◌};
+ghost use Rattle.std.specs.Prelude.{◌≡◌, ◌≤◌, ℕ, List, ◌∷◌};
+ghost use Rattle.rq_workers.specs.Forcing.{lsn_forced};
 ghost use Rattle.rq_shared.specs.declared.kept.Stamped.{Stamped as Stamp};
 
 use rq_engine::event::Event;
@@ -16,23 +17,29 @@ pub trait Steps {
     /// The stamps handed on so far, the newest first.
     ghost told: { Self → List Stamp };
 
+    /// How many forced records others were told of, at least. It never falls.
+    ghost shown: { Self → ℕ };
+
     /// Makes the call that the event stands for.
     fn call(&mut self, event: Event) -> Stamped
         ensures event { result.event ≡ event }
         ensures made { made self.new ≡ result ∷ made self.old }
         ensures forced { forced self.new ≡ forced self.old }
-        ensures told { told self.new ≡ told self.old };
+        ensures told { told self.new ≡ told self.old }
+        ensures shown { shown self.old ≤ shown self.new };
 
-    /// Forces, with all that an implementor does of a force beside the call.
+    /// Forces, and tells others how many records are forced.
     fn force(&mut self) -> Stamped
         ensures event { result.event ≡ Event.Force }
         ensures made { made self.new ≡ result ∷ made self.old }
         ensures forced { forced self.new ≡ result ∷ forced self.old }
-        ensures told { told self.new ≡ told self.old };
+        ensures told { told self.new ≡ told self.old }
+        ensures shown { (shown self.old ≤ shown self.new) × (lsn_forced result.reply ≤ shown self.new) };
 
     /// Is handed a stamp, once it was read.
     fn seen(&mut self, stamped: Stamped)
         ensures made { made self.new ≡ made self.old }
         ensures forced { forced self.new ≡ forced self.old }
-        ensures told { told self.new ≡ stamped ∷ told self.old };
+        ensures told { told self.new ≡ stamped ∷ told self.old }
+        ensures shown { shown self.old ≤ shown self.new };
 }

@@ -1,6 +1,8 @@
 //! A worker: a gate and a step interface, and what was done through them.
-ghost use Rattle.std.specs.Prelude.{◌≡◌, [], ◌∷◌, ◌++◌, not};
-ghost use Rattle.rq_workers.specs.Acts.{stamps_in, forced_in, was_stopped, DidOne, IsCalled, IsForced};
+ghost use Rattle.std.specs.Prelude.{◌≡◌, ◌≤◌, [], ◌∷◌, ◌++◌, true, not};
+ghost use Rattle.rq_engine.specs.Says.{call_of};
+ghost use Rattle.rq_workers.specs.Acts.{stamps_in, forced_in, was_stopped, passed_at, may_call, KeepsRule, DidOne, IsCalled, IsForced};
+ghost use Rattle.rq_workers.specs.Forcing.{most_forced};
 
 use crate::acts::{Act, Heard, heard_in};
 use crate::gate::Gate;
@@ -29,7 +31,7 @@ impl<G: Gate, S: Steps> Model for Worker<G, S> {
 
     ghost view = { λ w. record { done = w.done.value; begun = w.begun.value } };
 
-    ghost invariant = { λ w. IsWork (G.says w.gate) S.made S.forced S.told w.steps w.begun.value w.done.value
+    ghost invariant = { λ w. IsWork (G.says w.gate) S.made S.forced S.told S.shown w.steps w.begun.value w.done.value
         w.stopped };
 }
 
@@ -69,6 +71,7 @@ impl<G: Gate + Drop, S: Steps> Worker<G, S> {
 
     // Makes a call, and hands its stamp on.
     pub(crate) fn calls(&mut self, event: Event) -> Heard
+        requires { may_call self.old.done (call_of event) ≡ true }
         ensures { IsCalled self.old event result self.new }
     {
         let stamped = self.steps.call(event);
@@ -80,6 +83,7 @@ impl<G: Gate + Drop, S: Steps> Worker<G, S> {
 
     // Forces by the interface's own force, and hands the stamp on.
     pub(crate) fn forces(&mut self) -> Heard
+        requires { passed_at 1 self.old.done ≡ true }
         ensures { IsForced self.old result self.new }
     {
         let stamped = self.steps.force();
@@ -90,11 +94,14 @@ impl<G: Gate + Drop, S: Steps> Worker<G, S> {
     }
 
     /// The step interface. What was called through it since the worker took it, forced by its own force, and handed
-    /// on, is what the worker did.
+    /// on, is what the worker did, and others were told of what it forced. Each force came directly behind a gate that was
+    /// passed for it, each page's write too, and every other call was one of an operation.
     pub fn into_steps(self) -> S
         ensures made { S.made result ≡ stamps_in self.done ++ S.made self.begun }
         ensures forced { S.forced result ≡ forced_in self.done ++ S.forced self.begun }
         ensures told { S.told result ≡ stamps_in self.done ++ S.told self.begun }
+        ensures shown { most_forced (forced_in self.done) ≤ S.shown result }
+        ensures ruled { KeepsRule self.done }
     {
         let Worker {
             gate: _,

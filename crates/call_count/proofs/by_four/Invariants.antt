@@ -1,5 +1,10 @@
+use Rattle.rq_sound.specs.Sound.{IsSound}
 use Rattle.call_count.proofs.by_four.Given as goal
 
 -- the ledger is that of the blank
-abbrev pub ghosts-share : goal.ghosts-share
-ghosts-share g a = record { name = a.blank.name; parts = a.blank.parts }
+abbrev pub ghosts-share-G-Ledger : goal.ghosts-share-G-Ledger
+ghosts-share-G-Ledger g a = record { name = a.blank.name; parts = a.blank.parts }
+
+-- the premise is that the engine which is shared is sound
+abbrev pub ghosts-share-G-Sharing : goal.ghosts-share-G-Sharing
+ghosts-share-G-Sharing g a = record { premise = IsSound a.engine.state }

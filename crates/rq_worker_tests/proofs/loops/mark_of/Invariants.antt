@@ -1,5 +1,10 @@
+use Rattle.rq_sound.specs.Sound.{IsSound}
 use Rattle.rq_worker_tests.proofs.loops.mark_of.Given as goal
 
 -- the ledger is that of the blank
-abbrev pub ghosts-marked : goal.ghosts-marked
-ghosts-marked g a = record { name = a.blank.name; parts = a.blank.parts }
+abbrev pub ghosts-marked-G-Ledger : goal.ghosts-marked-G-Ledger
+ghosts-marked-G-Ledger g a = record { name = a.blank.name; parts = a.blank.parts }
+
+-- the premise is that the engine which is shared is sound
+abbrev pub ghosts-marked-G-Sharing : goal.ghosts-marked-G-Sharing
+ghosts-marked-G-Sharing g a = record { premise = IsSound a.engine.state }

@@ -4,8 +4,8 @@ use Rattle.rq_workers.specs.Operations.{started_stage}
 use Rattle.rq_workers.proofs.Leading.{arrives, carries_on}
 use Rattle.rq_workers.proofs.worker.Worker.run.Goals as goal
 
-pub returns-in-Ok : goal.returns-in-Ok
-returns-in-Ok g c =
+pub returns-in-Ok-clause-starts : goal.returns-in-Ok-clause-starts
+returns-in-Ok-clause-starts g c = λ starts.
     let k = call_of c.args.start.now in (
       c.gone_through.result,
       c.end_by.ensures,
