@@ -1,9 +1,11 @@
 -- What the level of chains plans for a store, from slots that it was given, with others' operations under way.
-use Rattle.std.specs.Prelude.{Bool, ◌||◌, [], ◌∷◌, length, map, drop, Option, None, Some, ◌≡◌, ℕ, ◌+◌, ◌/◌, ◌<◌, true, false, not, List}
+use Rattle.std.specs.Prelude.{◌++◌, Bool, ◌||◌, [], ◌∷◌, length, map, drop, Option, None, Some, ◌≡◌, ℕ, ◌+◌, ◌/◌, ◌<◌, true, false, not, List}
+use Rattle.rq_model.specs.declared.refusal.Refusal.{Refusal}
+use Rattle.rq_model.specs.declared.refusal.Refusal.TheVariants as why
 use Rattle.rq_model.specs.declared.record.Deed.{Deed}
 use Rattle.rq_model.specs.declared.record.Deed.TheVariants.{Append, UnlinkHead, Close}
 use Rattle.rq_model.specs.Words.{has_number}
-use Rattle.rq_page.specs.Sizes.{IsCellAddress, cell_at, cell_count}
+use Rattle.rq_page.specs.Sizes.{Sizes, IsCellAddress, cell_at, cell_count}
 use Rattle.rq_page.specs.Slots.{Slot}
 use Rattle.rq_page.specs.Slots.Slot.{Free}
 use Rattle.rq_views.specs.Plans.{Turn}
@@ -11,10 +13,11 @@ use Rattle.rq_views.specs.Plans.Turn.{Did, Undid}
 use Rattle.rq_views.specs.Stored.{IsStoreSlot, is_used}
 use Rattle.rq_level.specs.declared.slots.Given.{Given}
 use Rattle.rq_level.specs.declared.writes.Plan.{Plan}
-use Rattle.rq_level.specs.ChainPlans.{IsSent, IsReceived, IsClosed, IsTailUnlinked, IsReturned, IsReopened}
+use Rattle.rq_level.specs.ChainPlans.{CanMark, CanPutBack, CanReceive, CanSend, CanUnlinkTail, RefusesOther, RefusesTaking, IsSent, IsReceived, IsClosed, IsTailUnlinked, IsReturned, IsReopened}
 use Rattle.rq_level.specs.Given.{GivenHolds, has_page}
 use Rattle.rq_level.specs.declared.writes.SlotWrite.{SlotWrite}
 use Rattle.rq_level.specs.Kept.{Kept, IsLowest, NoneToTake, SomeFree, flag_at, noted, reserved_at}
+use Rattle.rq_txn.specs.declared.Finished.{Finished}
 use Rattle.rq_groups.specs.Ends.{HeldEnds}
 use Rattle.rq_sound.specs.Rows.{Aim, Row, Under, latched_in}
 use Rattle.rq_sound.specs.Calls.{IsIdle, IsNextWrite, IsReady, aborted, aborting, begun, committed, finished, started, stepped, undone}
@@ -105,3 +108,28 @@ pub record CellsStayKept : Type 0 where
   pub starts_abort : (s : State) (r : Row) (k : Kept) → KeepsCells s k → KeepsCells (aborting s r) k
   pub ends_abort : (s : State) (r : Row) (k : Kept) → IsSound s → IsIdle s r → KeepsCells s k
       → KeepsCells (aborted s r) k
+
+-- want of memory; or each free cell is on a latched page
+abbrev pub IsForLatches : State → Refusal → Type 0
+IsForLatches s why.NoMemory = Unit {0}
+IsForLatches s why.Latched = AllFreeLatched s
+IsForLatches s _ = ⊥
+
+-- Where the slots that it was given hold what an operation needs, the level refuses for want of memory alone, or as
+-- latched, where it takes a cell and each free one is on a latched page. A send finds a free cell where the store is not
+-- full, and the inverse of a receive always.
+pub record LevelsRefuseExactly : Type 0 where
+  pub sends : (s : State) (k : Kept) (given : List Given) (latched : List ℕ) (g : ℕ) (r : Refusal) → IsSound s
+      → KeepsCells s k → AreLatched s latched → s.cells_in_use < cell_count s.sizes → CanSend s.sizes given g
+      → RefusesTaking s.sizes k latched (CanSend s.sizes given g) r → IsForLatches s r
+  pub returns : (s : State) (k : Kept) (given : List Given) (latched : List ℕ) (row : Row) (rest : List Finished)
+      (lsn g n tag : ℕ) (body : List ℕ) (r : Refusal) → IsSound s → KeepsCells s k → AreLatched s latched
+      → IsIdle s row → row.finished ≡ rest ++ record { lsn = lsn; deed = UnlinkHead g n tag body } ∷ []
+      → CanPutBack s.sizes given g n → RefusesTaking s.sizes k latched (CanPutBack s.sizes given g n) r
+      → IsForLatches s r
+  pub receives : (z : Sizes) (given : List Given) (g : ℕ) (r : Refusal) → CanReceive z given g
+      → RefusesOther (CanReceive z given g) r → r ≡ why.NoMemory
+  pub marks : (z : Sizes) (given : List Given) (g : ℕ) (closed : Bool) (r : Refusal) → CanMark z given g closed
+      → RefusesOther (CanMark z given g closed) r → r ≡ why.NoMemory
+  pub unsends : (z : Sizes) (given : List Given) (g n : ℕ) (r : Refusal) → CanUnlinkTail z given g n
+      → RefusesOther (CanUnlinkTail z given g n) r → r ≡ why.NoMemory
