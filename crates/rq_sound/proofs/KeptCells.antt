@@ -1,14 +1,10 @@
 -- The level of chains goes on knowing a store's cells.
-use Rattle.std.proofs.Common.{set, ◌≡◌, ◌≢◌, ℕ, zero, suc, ◌+◌, ◌/◌, ◌%◌, ◌<◌, ◌≤◌, ◌||◌, ◌&&◌, List, [], ◌∷◌, length, map, drop, refl, sym, ◌∙◌, ap, subst, Bool, true, false, not, nat_eq, nat_lt, Option, Some, None, inl, inr, arith}
-use Rattle.std.specs.List.{slice_get}
-use Rattle.std.proofs.lemmas.Bool.{and_from, and_parts, cases_Bool, cases_eq, eqb-true, false≢true, false_from_ne_true, lt-ltb, ltb-true, not-true, or_cases, or_left, or_right, true≢false}
+use Rattle.std.proofs.Common.{set, ◌≡◌, ◌≢◌, ℕ, ◌+◌, ◌/◌, ◌%◌, ◌<◌, ◌&&◌, List, [], ◌∷◌, length, map, drop, refl, sym, ◌∙◌, ap, subst, Bool, true, false, not, nat_eq, nat_lt, Option, Some, None, inl, inr, arith}
+use Rattle.std.proofs.lemmas.Bool.{and_from, and_parts, cases_Bool, cases_eq, eqb-true, false≢true, false_from_ne_true, lt-ltb, ltb-true, or_cases, or_left, or_right, true≢false}
 use Rattle.std.proofs.lemmas.List.{get_or-set_other, get_or-set_same, length-set}
-use Rattle.rq_model.specs.declared.record.Deed.{Deed}
 use Rattle.rq_model.specs.declared.txn.Txn.{Txn}
 use Rattle.rq_model.specs.Words.{In, has_number, same_txn}
 use Rattle.rq_model.proofs.Lists.{same_is}
-use Rattle.rq_page.specs.declared.cell.CellSlot.{CellSlot}
-use Rattle.rq_page.specs.Cells.{cell_slot_in}
 use Rattle.rq_page.specs.Sizes.{Sizes, IsCellAddress, cell_at, cell_count, page_count, place_of}
 use Rattle.rq_page.specs.Slots.{held_for, held_in}
 use Rattle.rq_page.proofs.Addresses.{cells_have_places, kind_cells, places_are_cells}
@@ -18,14 +14,16 @@ use Rattle.rq_views.proofs.Overlay.{put_at, put_off}
 use Rattle.rq_level.specs.declared.writes.SlotWrite.{SlotWrite}
 use Rattle.rq_level.specs.Kept.{Kept, flag_at, is_cell_address, is_free_slot, noted, noted_cell, noted_in, reserved_at}
 use Rattle.rq_groups.specs.Ends.{HeldEnds}
-use Rattle.rq_sound.specs.Rows.{Aim, Row, Under, change_row, change_row_one, found_row, row_aborting, row_started, row_stepped, without_row}
-use Rattle.rq_sound.specs.Standing.{AreStanding}
+use Rattle.rq_sound.specs.Rows.{Row, Under, change_row, change_row_one, found_row, row_aborting, row_started, row_stepped, without_row}
+use Rattle.rq_sound.specs.Busy.{any_under}
 use Rattle.rq_sound.specs.Sound.{State, IsSound}
-use Rattle.rq_sound.specs.Calls.{IsIdle, IsNextWrite, IsReady, started, stepped}
+use Rattle.rq_sound.specs.Calls.{IsIdle, IsNextWrite, started, stepped}
 use Rattle.rq_sound.specs.Groups.{slots_now}
 use Rattle.rq_sound.specs.Levels.{CellsStayKept, KeepsCells, to_write, to_write_under}
 use Rattle.rq_sound.proofs.RowLists.{found_in, unique}
 use Rattle.rq_sound.proofs.Going.{drop_next}
+use Rattle.rq_sound.proofs.Groups.{none_latched}
+use Rattle.rq_sound.proofs.Levels.{writes_latched}
 
 -- rows that change, and rows that are gone, have as much to write
 changes_write : (t : Txn) (f : Row → Row) (a : ℕ) (rows : List Row) → ((q : Row) → In q rows → q.txn ≡ t → to_write_under q.under a ≡ true → to_write_under (f q).under a ≡ true) → to_write rows a ≡ true → to_write (change_row t f rows) a ≡ true
@@ -216,6 +214,9 @@ module _ (s : State) (k : IsSound s) (c : Kept) (h : KeepsCells s c) where
   more_gone : (r : Row) (a : ℕ) → IsIdle s r → to_write s.rows a ≡ true → to_write (without_row r.txn s.rows) a ≡ true
   more_gone r a m e = leaves_write r.txn a s.rows (λ q i same. idle_writes_none q.under a (ap (λ (x : Row). x.under) (only_row s k r m.at_row q i same) ∙ m.idle)) e
 
+none_chosen : (s : State) (c : Kept) (i : ℕ) → KeepsCells s c → any_under s.rows ≡ false → i < cell_count s.sizes → flag_at c.reserved i ≡ false
+none_chosen s c i h idle lt = false_from_ne_true (flag_at c.reserved i) (λ y. true≢false (sym (writes_latched s.rows (cell_at s.sizes i) (h.chosen i lt y)) ∙ none_latched s.rows (cell_at s.sizes i / 16) idle))
+
 pub stay_kept : CellsStayKept
 stay_kept = record {
   starts = λ s r u ends c k m h. starts s k c h r m u ends;
@@ -227,4 +228,5 @@ stay_kept = record {
   commits = λ s r cells ws c k m h. same_cells s _ c refl refl (λ a. more_gone s k c h r a m) h;
   starts_abort = λ s r c h. same_cells s _ c refl refl (λ a e. changes_write r.txn row_aborting a s.rows (λ q i same y. y) e) h;
   ends_abort = λ s r c k m h. same_cells s _ c refl refl (λ a. more_gone s k c h r a m) h;
+  none_chosen = none_chosen;
 }

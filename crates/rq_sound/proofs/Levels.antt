@@ -84,7 +84,7 @@ under_latched : (o : Option Under) (a : ℕ) → to_write_under o a ≡ true →
 under_latched None a h = absurd (false≢true h)
 under_latched (Some u) a h = page_in_rest (a / 16) u.made u.writes (page_of_write a (drop u.made u.writes) h)
 
-writes_latched : (rows : List Row) (a : ℕ) → to_write rows a ≡ true → latched_in rows (a / 16) ≡ true
+pub writes_latched : (rows : List Row) (a : ℕ) → to_write rows a ≡ true → latched_in rows (a / 16) ≡ true
 writes_latched [] a h = absurd (false≢true h)
 writes_latched (r ∷ rows) a h = elim (or_cases (to_write_under r.under a) (to_write rows a) h) [
   | inl y ↦ or_left (latched_under r.under (a / 16)) (latched_in rows (a / 16)) (under_latched r.under a y)

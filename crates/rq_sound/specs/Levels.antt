@@ -20,6 +20,7 @@ use Rattle.rq_level.specs.Kept.{Kept, IsLowest, NoneToTake, SomeFree, flag_at, n
 use Rattle.rq_txn.specs.declared.Finished.{Finished}
 use Rattle.rq_groups.specs.Ends.{HeldEnds}
 use Rattle.rq_sound.specs.Rows.{Aim, Row, Under, latched_in}
+use Rattle.rq_sound.specs.Busy.{any_under}
 use Rattle.rq_sound.specs.Calls.{IsIdle, IsNextWrite, IsReady, aborted, aborting, begun, committed, finished, started, stepped, undone}
 use Rattle.rq_sound.specs.Sound.{State, IsSound}
 use Rattle.rq_sound.specs.Groups.{slots_now}
@@ -88,7 +89,7 @@ pub record LevelsPlanFromSlots : Type 0 where
       → IsGathered s given → IsReopened s.sizes k given g p after → MayFollow s p (Undid (Close g))
 
 -- The level goes on knowing the cells: an operation that takes none starts, or one for which a cell is chosen; a slot
--- that is written is noted; and nothing else of a store is noted.
+-- that is written is noted; and nothing else of a store is noted. Where nothing is under way no cell is chosen.
 pub record CellsStayKept : Type 0 where
   pub starts : (s : State) (r : Row) (u : Under) (ends : HeldEnds) (k : Kept) → IsSound s → IsIdle s r
       → KeepsCells s k → KeepsCells (started s r u ends) k
@@ -108,6 +109,8 @@ pub record CellsStayKept : Type 0 where
   pub starts_abort : (s : State) (r : Row) (k : Kept) → KeepsCells s k → KeepsCells (aborting s r) k
   pub ends_abort : (s : State) (r : Row) (k : Kept) → IsSound s → IsIdle s r → KeepsCells s k
       → KeepsCells (aborted s r) k
+  pub none_chosen : (s : State) (k : Kept) (i : ℕ) → KeepsCells s k → any_under s.rows ≡ false → i < cell_count s.sizes
+      → flag_at k.reserved i ≡ false
 
 -- want of memory; or each free cell is on a latched page
 abbrev pub IsForLatches : State → Refusal → Type 0
@@ -116,8 +119,8 @@ IsForLatches s why.Latched = AllFreeLatched s
 IsForLatches s _ = ⊥
 
 -- Where the slots that it was given hold what an operation needs, the level refuses for want of memory alone, or as
--- latched, where it takes a cell and each free one is on a latched page. A send finds a free cell where the store is not
--- full, and the inverse of a receive always.
+-- latched, where it takes a cell and each free one is on a latched page. A send finds a free cell where the store is
+-- not full, and the inverse of a receive always.
 pub record LevelsRefuseExactly : Type 0 where
   pub sends : (s : State) (k : Kept) (given : List Given) (latched : List ℕ) (g : ℕ) (r : Refusal) → IsSound s
       → KeepsCells s k → AreLatched s latched → s.cells_in_use < cell_count s.sizes → CanSend s.sizes given g
