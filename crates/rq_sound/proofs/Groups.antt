@@ -31,7 +31,7 @@ use Rattle.rq_sound.specs.Sound.{State, IsSound, open_of, open_ones_of}
 use Rattle.rq_sound.specs.Groups.{slots_now, TellsGroup, SlotsTellGroups}
 use Rattle.rq_sound.proofs.RowLists.{found_in}
 use Rattle.rq_sound.proofs.ChainEnds.{empty_links, head_stands, next_stands, tail_stands, front_stands}
-use Rattle.rq_sound.proofs.Closing.{closed_by}
+use Rattle.rq_sound.proofs.Closing.{closed_by, closed_by_commit}
 use Rattle.rq_sound.proofs.Contracts.{shows}
 use Rattle.rq_sound.proofs.Flags.{flag_is}
 use Rattle.rq_sound.proofs.FreeCells.{room_to_send}
@@ -133,5 +133,6 @@ slots_tell = record {
   none_latched = λ s p e. none_latched s.rows p e;
   flag = λ s r g d k m below free at. flag_is s k r m g free d below at;
   closed = λ s g k. closed_by s k g;
+  closed_by_commit = λ s g k. closed_by_commit s k g;
   room = room_left;
 }
