@@ -1,6 +1,6 @@
 -- A group is closed where a commit or a transaction that has not ended has closed it.
-use Rattle.std.proofs.Common.{◌≡◌, ◌≢◌, ◌||◌, ℕ, List, [], ◌∷◌, map, refl, sym, ◌∙◌, ap, subst, Bool, true, false, Option, Some, None, inl, inr}
-use Rattle.std.proofs.lemmas.Bool.{cases_Bool, true≢false, or_from, or_left, or_right}
+use Rattle.std.proofs.Common.{◌≡◌, ◌||◌, ℕ, List, [], ◌∷◌, map, refl, sym, ◌∙◌, ap, Bool, true, false, Option, Some, None, inl, inr, ◌&&◌, cond, not}
+use Rattle.std.proofs.lemmas.Bool.{cases_Bool, true≢false, or_from, or_left, or_right, false≢true}
 use Rattle.rq_model.specs.declared.txn.Txn.{Txn}
 use Rattle.rq_model.specs.declared.record.Deed.{Deed}
 use Rattle.rq_model.specs.declared.record.Deed.TheVariants.{Append, UnlinkHead, Close}
@@ -10,7 +10,10 @@ use Rattle.rq_model.specs.Ledger.{any_ends, ended_in}
 use Rattle.rq_model.specs.Words.{In, same_txn}
 use Rattle.rq_model.proofs.Lists.{same_is, not_same}
 use Rattle.rq_model.proofs.Told.{told_ends}
-use Rattle.rq_views.specs.Groups.{committed, on_sending_end, side}
+use Rattle.rq_views.specs.Chain.{View}
+use Rattle.rq_views.specs.Groups.{committed, on_sending_end, side, with_all}
+use Rattle.rq_views.proofs.Deeds.{Sound}
+use Rattle.rq_views.proofs.GroupRule.{held}
 use Rattle.rq_views.specs.Items.{items}
 use Rattle.rq_views.specs.Legal.{Placed, open_deeds, view}
 use Rattle.rq_views.proofs.Committed.{say}
@@ -47,6 +50,26 @@ somebody g (q ∷ rows) r i e = elim i [
   | inr j ↦ or_right (any_ends g (map op_done q.finished)) (closed_by_any g rows) (somebody g rows r j e)
 ]
 
+-- what is open when all of this is done was open before
+closed_stays : (ds : List Deed) (v : View) → (with_all ds v).closed ≡ false → v.closed ≡ false
+closed_stays [] v e = e
+closed_stays (Append r n tag previous body ∷ ds) v e = closed_stays ds v e
+closed_stays (UnlinkHead r n tag body ∷ ds) v e = closed_stays ds v e
+closed_stays (Close r ∷ ds) v e = absurd (true≢false e)
+
+step : (g : ℕ) (d : Deed) (ds : List Deed) (b : Bool) (c : View) → Sound (cond (on_sending_end g d) (d ∷ ds) ds) c → (Sound ds c → b ≡ true → c.closed ≡ false) → (closed_one g (said d) || b) ≡ true → c.closed ≡ false
+step g (Append r n tag previous body) ds b c h rest e = elim (cases_Bool (on_sending_end g (Append r n tag previous body))) [ inl y ↦ rest (rw y at h).1 e | inr m ↦ rest (rw m at h) e ]
+step g (UnlinkHead r n tag body) ds b c h rest e = rest h e
+step g (Close r) ds b c h rest e = elim (cases_Bool (on_sending_end g (Close r))) [
+  | inl y ↦ closed_stays ds c (rw y at h).0
+  | inr m ↦ rest (rw m at h) (rw m at e)
+]
+
+-- who closed a group and has not ended found it open
+was_open : (g : ℕ) (ps : List Placed) (c : View) → Sound (side (on_sending_end g) ps) c → closed g (say ps) ≡ true → c.closed ≡ false
+was_open g [] c h e = absurd (false≢true e)
+was_open g (p ∷ ps) c h e = step g p.deed (side (on_sending_end g) ps) (closed g (say ps)) c h (λ k y. was_open g ps c k y) e
+
 module _ (s : State) (k : IsSound s) (g : ℕ) where
   abbrev h : Holders g (items s.sizes s.records)
   h = holders g (items s.sizes s.records) (groups_of s.sizes s.records k.log)
@@ -75,3 +98,17 @@ module _ (s : State) (k : IsSound s) (g : ℕ) where
   closed_by =
       let c = committed_is_group s.sizes g s.records k.log.rules k.log.reads in
       h.view.closed ∙ ap (λ b. b || (committed (items s.sizes s.records) g).closed) (sym any_is) ∙ ap (λ b. closed_by_any g s.rows || b) c.closed
+
+  -- not by both
+  not_both : closed_by_any g s.rows ≡ true → ended_in (committed_of s.records) g ≡ false
+  not_both y =
+      let sound = (held g (items s.sizes s.records) (groups_of s.sizes s.records k.log)).sends h.sender in
+      let c = committed_is_group s.sizes g s.records k.log.rules k.log.reads in
+      sym c.closed ∙ was_open g (open_deeds h.sender (items s.sizes s.records)) (committed (items s.sizes s.records) g) sound (sym any_is ∙ y)
+
+  pub closed_by_commit : ended_in (committed_of s.records) g ≡ ((view (items s.sizes s.records) g).closed && not (closed_by_any g s.rows))
+  closed_by_commit = sym (ap (λ b. b && not (closed_by_any g s.rows)) closed_by ∙ only (closed_by_any g s.rows) (ended_in (committed_of s.records) g) not_both) where
+    only : (a b : Bool) → (a ≡ true → b ≡ false) → ((a || b) && not a) ≡ b
+    only true b n = sym (n refl)
+    only false true n = refl
+    only false false n = refl

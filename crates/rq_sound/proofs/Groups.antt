@@ -33,7 +33,7 @@ use Rattle.rq_sound.specs.Counted.{takes_in}
 use Rattle.rq_sound.specs.Sound.{IsSound}
 use Rattle.rq_sound.specs.Groups.{slots_now, TellsGroup, SlotsTellGroups}
 use Rattle.rq_sound.proofs.ChainEnds.{empty_links, head_stands, next_stands, tail_stands, front_stands}
-use Rattle.rq_sound.proofs.Closing.{closed_by}
+use Rattle.rq_sound.proofs.Closing.{closed_by, closed_by_commit}
 use Rattle.rq_sound.proofs.Contracts.{shows}
 use Rattle.rq_sound.proofs.Flags.{flag_is}
 use Rattle.rq_sound.proofs.FreeCells.{room_to_send}
@@ -113,9 +113,9 @@ none_under [] r e i = absurd i
 none_under (q ∷ rows) r e i =
     let p = or_parts (is_some q.under) (any_under rows) e in
     elim i [ inl same ↦ ap (λ (x : Row). x.under) same ∙ no_some q.under p.0 | inr j ↦ none_under rows r p.1 j ] where
-  no_some : (o : Option Under) → is_some o ≡ false → o ≡ None
-  no_some None f = refl
-  no_some (Some u) f = cc
+      no_some : (o : Option Under) → is_some o ≡ false → o ≡ None
+      no_some None f = refl
+      no_some (Some u) f = cc
 
 pub all_idle : (s : State) (k : IsSound s) → any_under s.rows ≡ false → (o : Sub) → under_way o (items s.sizes s.records) ≡ false
 all_idle s k e o = at (found_row o.txn s.rows) refl where
@@ -135,5 +135,6 @@ slots_tell = record {
   none_latched = λ s p e. none_latched s.rows p e;
   flag = λ s r g d k m below free at. flag_is s k r m g free d below at;
   closed = λ s g k. closed_by s k g;
+  closed_by_commit = λ s g k. closed_by_commit s k g;
   room = room_left;
 }

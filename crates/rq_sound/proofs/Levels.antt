@@ -1,7 +1,11 @@
 -- What the level of chains plans, over the slots as they are.
-use Rattle.std.proofs.Common.{◌≡◌, ℕ, ◌/◌, ◌<◌, ◌++◌, ◌&&◌, List, [], ◌∷◌, map, reverse, refl, sym, ◌∙◌, ap, subst, Bool, true, false, not, nat_eq, Option, Some, None, inl, inr}
-use Rattle.std.proofs.lemmas.Bool.{and_from, and_parts, cases_Bool, eqb-true, false≢true, not-true, or_cases, true≢false}
+use Rattle.std.proofs.Common.{zero, suc, drop, ◌≡◌, ℕ, ◌/◌, ◌<◌, ◌++◌, ◌&&◌, List, [], ◌∷◌, map, reverse, refl, sym, ◌∙◌, ap, subst, Bool, true, false, not, nat_eq, Option, Some, None, inl, inr}
+use Rattle.std.proofs.lemmas.Bool.{and_from, and_parts, cases_Bool, eqb-true, false≢true, not-true, or_cases, true≢false, eq-eqb, or_left, or_right}
 use Rattle.std.proofs.lemmas.List.{reverse-append}
+use Rattle.rq_model.specs.declared.refusal.Refusal.{Refusal}
+use Rattle.rq_model.specs.declared.refusal.Refusal.TheVariants as why
+use Rattle.rq_model.specs.declared.record.Deed.TheVariants.{UnlinkHead}
+use Rattle.rq_model.specs.Words.{has_number}
 use Rattle.rq_page.specs.declared.cell.Cell.{Cell}
 use Rattle.rq_page.specs.Sizes.{IsCellAddress, cell_at, cell_count, directory_at, place_of}
 use Rattle.rq_page.specs.Slots.Slot.{Free, Used, Sender}
@@ -12,17 +16,19 @@ use Rattle.rq_views.specs.Stored.{is_used}
 use Rattle.rq_level.specs.declared.slots.Given.{Given}
 use Rattle.rq_level.specs.declared.writes.Plan.{Plan}
 use Rattle.rq_level.specs.declared.writes.SlotWrite.{SlotWrite}
-use Rattle.rq_level.specs.ChainPlans.{Beside, IsMarked}
+use Rattle.rq_level.specs.ChainPlans.{Beside, IsMarked, RefusesOther, RefusesTaking}
 use Rattle.rq_level.specs.Given.{has_page}
 use Rattle.rq_level.specs.Kept.{Kept, IsLowest, NoneToTake, SomeFree, flag_at}
 use Rattle.rq_level.specs.Writes.{writes_of}
+use Rattle.rq_store.specs.Fitting.{left_by}
 use Rattle.rq_store.specs.Plans.{Stands_at}
+use Rattle.rq_txn.specs.Rows.{Row, Under}
 use Rattle.rq_store.specs.State.{State}
-use Rattle.rq_sound.specs.Rows.{latched_in}
+use Rattle.rq_sound.specs.Rows.{latched_in, latched_under}
 use Rattle.rq_sound.specs.Sound.{IsSound}
 use Rattle.rq_sound.specs.Groups.{slots_now}
 use Rattle.rq_sound.specs.Plans.{AreOff, AreUnlatched, IsMarking}
-use Rattle.rq_sound.specs.Levels.{IsGathered, KeepsCells, AreLatched, LevelsPlanFromSlots}
+use Rattle.rq_sound.specs.Levels.{IsGathered, KeepsCells, AreLatched, LevelsPlanFromSlots, to_write, to_write_under, IsForLatches, LevelsRefuseExactly}
 use Rattle.rq_sound.specs.Latching.{AllFreeLatched}
 use Rattle.rq_sound.proofs.Contracts.{planned}
 use Rattle.rq_sound.proofs.Groups.{all_stand}
@@ -63,6 +69,30 @@ lowest_is s k latched a sound c on h =
     let off : latched_in s.rows (a / 16) ≡ false = ap (λ n. latched_in s.rows (n / 16)) at ∙ sym (on (cell_at s.sizes h.place / 16)) ∙ not-true (has_page (cell_at s.sizes h.place / 16) latched) two.1 in
     (cell, free_from s.sizes a (slots_now s a) (all_stand s sound a) cell unused, off)
 
+-- what an operation has yet to write is on a page that it has latched
+page_of_write : (a : ℕ) (us : List SlotWrite) → has_number a (map (λ w. w.at) us) ≡ true → has_page (a / 16) (map (λ w. w.at / 16) us) ≡ true
+page_of_write a [] h = absurd (false≢true h)
+page_of_write a (w ∷ us) h = elim (or_cases (nat_eq w.at a) (has_number a (map (λ x. x.at) us)) h) [
+  | inl y ↦ or_left (nat_eq (w.at / 16) (a / 16)) (has_page (a / 16) (map (λ x. x.at / 16) us)) (eq-eqb (w.at / 16) (a / 16) (ap (λ n. n / 16) (eqb-true w.at a y)))
+  | inr m ↦ or_right (nat_eq (w.at / 16) (a / 16)) (has_page (a / 16) (map (λ x. x.at / 16) us)) (page_of_write a us m)
+]
+
+page_in_rest : (p n : ℕ) (us : List SlotWrite) → has_page p (map (λ w. w.at / 16) (drop n us)) ≡ true → has_page p (map (λ w. w.at / 16) us) ≡ true
+page_in_rest p zero us h = h
+page_in_rest p (suc n) [] h = h
+page_in_rest p (suc n) (w ∷ us) h = or_right (nat_eq (w.at / 16) p) (has_page p (map (λ x. x.at / 16) us)) (page_in_rest p n us h)
+
+under_latched : (o : Option Under) (a : ℕ) → to_write_under o a ≡ true → latched_under o (a / 16) ≡ true
+under_latched None a h = absurd (false≢true h)
+under_latched (Some u) a h = page_in_rest (a / 16) u.made u.writes (page_of_write a (drop u.made u.writes) h)
+
+pub writes_latched : (rows : List Row) (a : ℕ) → to_write rows a ≡ true → latched_in rows (a / 16) ≡ true
+writes_latched [] a h = absurd (false≢true h)
+writes_latched (r ∷ rows) a h = elim (or_cases (to_write_under r.under a) (to_write rows a) h) [
+  | inl y ↦ or_left (latched_under r.under (a / 16)) (latched_in rows (a / 16)) (under_latched r.under a y)
+  | inr m ↦ or_right (latched_under r.under (a / 16)) (latched_in rows (a / 16)) (writes_latched rows a m)
+]
+
 -- where it finds none to take, each free cell is on a latched page
 pub none_takes : (s : State) (k : Kept) (latched : List ℕ) → KeepsCells s k → AreLatched s latched → NoneToTake s.sizes k latched → AllFreeLatched s
 none_takes s k latched c on none a cell free =
@@ -70,19 +100,44 @@ none_takes s k latched c on none a cell free =
     let place = place_of s.sizes a in
     let is_free : flag_at k.free place ≡ true = c.free place i.0 ∙ ap (λ n. not (is_used (slots_now s n))) i.1 ∙ ap (λ x. not (is_used x)) free in
     elim (cases_Bool (flag_at k.reserved place)) [
-      | inl y ↦ ap (λ n. latched_in s.rows (n / 16)) (sym i.1) ∙ c.chosen place i.0 y
+      | inl y ↦ ap (λ n. latched_in s.rows (n / 16)) (sym i.1) ∙ writes_latched s.rows (cell_at s.sizes place) (c.chosen place i.0 y)
       | inr m ↦ elim (cases_Bool (has_page (cell_at s.sizes place / 16) latched)) [
         | inl y ↦ ap (λ n. latched_in s.rows (n / 16)) (sym i.1) ∙ sym (on (cell_at s.sizes place / 16)) ∙ y
         | inr n ↦ absurd (true≢false (sym (and_from _ _ is_free (and_from _ _ (ap not m) (ap not n))) ∙ none place i.0))
       ]
     ]
 
+free_known : (s : State) (k : Kept) (a : ℕ) → IsSound s → KeepsCells s k → IsCellAddress s.sizes a → (left_by s.sizes s.records).slots a ≡ Free → SomeFree s.sizes k
+free_known s k a sound c cell free =
+    let i = places_are_cells s.sizes a cell in
+    let here : slots_now s a ≡ Free = sound.pages a ∙ free in
+    (place_of s.sizes a, i.0, c.free (place_of s.sizes a) i.0 ∙ ap (λ n. not (is_used (slots_now s n))) i.1 ∙ ap (λ x. not (is_used x)) here)
+
 some_known : (s : State) (k : Kept) → IsSound s → KeepsCells s k → s.cells_in_use < cell_count s.sizes → SomeFree s.sizes k
-some_known s k sound c less =
-    let a = planned.send_finds s sound less in
-    let i = places_are_cells s.sizes a.0 a.1 in
-    let here : slots_now s a.0 ≡ Free = sound.pages a.0 ∙ a.2 in
-    (place_of s.sizes a.0, i.0, c.free (place_of s.sizes a.0) i.0 ∙ ap (λ n. not (is_used (slots_now s n))) i.1 ∙ ap (λ x. not (is_used x)) here)
+some_known s k sound c less = let a = planned.send_finds s sound less in free_known s k a.0 sound c a.1 a.2
+
+-- why a level refuses an operation that takes a cell, where the slots hold what it needs
+refuses_taking : (s : State) (k : Kept) (latched : List ℕ) (Can : Type 0) (r : Refusal) → KeepsCells s k → AreLatched s latched → SomeFree s.sizes k → Can → RefusesTaking s.sizes k latched Can r → IsForLatches s r
+refuses_taking s k latched Can why.NoMemory c on some can h = tt
+refuses_taking s k latched Can why.Latched c on some can h = none_takes s k latched c on h.0
+refuses_taking s k latched Can (why.Damaged d) c on some can h = true≢false (sym some.2 ∙ h can some.0 some.1)
+refuses_taking s k latched Can r c on some can h = absurd h
+
+refuses_other : (Can : Type 0) (r : Refusal) → Can → RefusesOther Can r → r ≡ why.NoMemory
+refuses_other Can why.NoMemory can h = refl
+refuses_other Can (why.Damaged d) can h = absurd (h can)
+refuses_other Can r can h = absurd h
+
+pub levels_refuse : LevelsRefuseExactly
+levels_refuse = record {
+  sends = λ s k given latched g r sound c on less can h. refuses_taking s k latched _ r c on (some_known s k sound c less) can h;
+  returns = λ s k given latched row rest lsn g n tag body r sound c on m newest can h.
+      let a = planned.put_back_finds s row rest (record { lsn = lsn; deed = UnlinkHead g n tag body }) sound m newest refl in
+      refuses_taking s k latched _ r c on (free_known s k a.0 sound c a.1 a.2) can h;
+  receives = λ z given g r can h. refuses_other _ r can h;
+  marks = λ z given g closed r can h. refuses_other _ r can h;
+  unsends = λ z given g n r can h. refuses_other _ r can h;
+}
 
 module _ (s : State) (given : List Given) (h : IsGathered s given) where
   beside_is : (a : ℕ) (o : Option Cell) → Beside s.sizes given a o → Stands_at (slots_now s) a o

@@ -46,3 +46,4 @@ pub mod LatchLists
 pub mod Latching
 pub mod Wants
 pub mod WorkedCalls
+pub mod KeptCells

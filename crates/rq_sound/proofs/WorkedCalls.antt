@@ -1,5 +1,5 @@
 -- Worked calls while sends are under way.
-use Rattle.std.proofs.Common.{◌≡◌, ◌≢◌, ◌||◌, ℕ, ◌+◌, ◌/◌, ◌<◌, ◌≤◌, ◌⊎◌, List, [], ◌∷◌, drop, length, reverse, refl, sym, ◌∙◌, ap, subst, true, false, Option, Some, None, inl, inr, arith, cond, nat_eq}
+use Rattle.std.proofs.Common.{◌≡◌, ◌||◌, ℕ, ◌+◌, ◌/◌, List, [], ◌∷◌, drop, length, refl, sym, ◌∙◌, ap, subst, true, false, Option, Some, None, inl, inr, arith, cond, nat_eq}
 use Rattle.std.proofs.lemmas.Bool.{cases_Bool, cases_eq, eqb-true, false≢true, true≢false}
 use Rattle.rq_model.specs.declared.message.Message.{Message}
 use Rattle.rq_model.specs.declared.txn.Txn.{Txn}
@@ -11,7 +11,6 @@ use Rattle.rq_model.specs.Legal.{Legal}
 use Rattle.rq_page.specs.declared.cell.Cell.{Cell}
 use Rattle.rq_page.specs.declared.directory.Directory.{Directory}
 use Rattle.rq_page.specs.Directories.{new_directory}
-use Rattle.rq_page.specs.Sizes.{IsCellAddress}
 use Rattle.rq_page.specs.Slots.{Slot, held_in, slot_bytes}
 use Rattle.rq_page.specs.Slots.Slot.{Free, Used, Sender}
 use Rattle.rq_views.specs.Items.{items}
@@ -21,7 +20,6 @@ use Rattle.rq_views.specs.Plans.Turn.{Did, Undid}
 use Rattle.rq_views.specs.WorkedItems.{sizes, small, t1, t2, cell, sends, sent_a, row, new_b, end_b}
 use Rattle.rq_level.specs.declared.slots.Given.{Given}
 use Rattle.rq_level.specs.Given.{GivenHolds, HoldsBytes, given_at}
-use Rattle.rq_groups.specs.Waiting.{waits}
 use Rattle.rq_store.specs.Worked.{AreFormatted}
 use Rattle.rq_store.specs.State.{size_of, State, ledger_of}
 use Rattle.rq_store.proofs.Spelling.{items_back}
@@ -31,12 +29,11 @@ use Rattle.rq_sound.specs.Counted.{sends_in}
 use Rattle.rq_sound.specs.Sound.{IsSound}
 use Rattle.rq_sound.specs.Calls.{failed}
 use Rattle.rq_sound.specs.Groups.{slots_now}
-use Rattle.rq_sound.specs.Plans.{IsSend}
-use Rattle.rq_sound.specs.Latching.{AllFreeLatched, Begins, IsLatched, MayBePlanned, NeedsLatched, any_latched, at_tail, completed, named, tail_in}
+use Rattle.rq_sound.specs.Latching.{Begins, IsLatched, MayBePlanned, NeedsLatched, any_latched, at_tail, completed, named, tail_in}
 use Rattle.rq_sound.specs.Levels.{IsGathered}
 use Rattle.rq_sound.specs.Wants.{AreGivenOf}
-use Rattle.rq_sound.specs.Course.{send_a, send_b, both_begun, one_under, two_under, Frames, AreMade, wrote_cell_b, wrote_group_a, done_b, row_sent}
-use Rattle.rq_sound.specs.WorkedCalls.{given_a, given_b, message_for, RefusalsAreJudged, WaitsAreJudged, GroupsAreJudged, PlansAreJudged, LatchesAreJudged, LevelsAreJudged}
+use Rattle.rq_sound.specs.Course.{send_a, both_begun, one_under, two_under, Frames, AreMade, wrote_cell_b, wrote_group_a, row_sent}
+use Rattle.rq_sound.specs.WorkedCalls.{given_b, message_for, RefusalsAreJudged, WaitsAreJudged, GroupsAreJudged, PlansAreJudged, LatchesAreJudged, LevelsAreJudged}
 use Rattle.rq_sound.proofs.Contracts.{calls_keep}
 use Rattle.rq_sound.proofs.Courses.{s6, s7, spelt}
 use Rattle.rq_sound.proofs.Groups.{slots_are, slots_tell}

@@ -1,5 +1,5 @@
 -- What the slots as they are say of a sender's group, while operations of others are under way.
-use Rattle.std.specs.Prelude.{◌≡◌, ℕ, ◌+◌, ◌-◌, ◌/◌, ◌<◌, ◌≤◌, ◌||◌, Bool, true, false, List, [], ◌∷◌, length, map}
+use Rattle.std.specs.Prelude.{◌&&◌, not, ◌≡◌, ℕ, ◌+◌, ◌-◌, ◌/◌, ◌<◌, ◌≤◌, ◌||◌, Bool, true, false, List, [], ◌∷◌, length, map}
 use Rattle.rq_model.specs.Commits.{committed_of}
 use Rattle.rq_model.specs.Ledger.{any_ends, ended_in}
 use Rattle.rq_page.specs.declared.cell.Cell.{Cell}
@@ -60,8 +60,8 @@ closed_by_any g (r ∷ rows) = any_ends g (map op_done r.finished) || closed_by_
 
 -- Where nobody has latched the page of a group's directory slot, the slots show the group, whatever else is under way;
 -- where nothing is under way, nobody has. Whether the group is closed its directory slot says besides to whoever may
--- send to it, latched or not; and that it is, is by a commit or by a transaction that has not ended. Where the store is
--- not full, fewer cells are used than there are.
+-- send to it, latched or not; and that it is, is by a commit or by a transaction that has not ended, never by both.
+-- Where the store is not full, fewer cells are used than there are.
 pub record SlotsTellGroups : Type 0 where
   pub shows : (s : State) (g : ℕ) → IsSound s → g < sender_count s.sizes
       → latched_in s.rows (directory_at g / 16) ≡ false
@@ -74,5 +74,8 @@ pub record SlotsTellGroups : Type 0 where
       → (view (items s.sizes s.records) g).closed ≡ d.closed
   pub closed : (s : State) (g : ℕ) → IsSound s
       → (view (items s.sizes s.records) g).closed ≡ (closed_by_any g s.rows || ended_in (committed_of s.records) g)
+  pub closed_by_commit : (s : State) (g : ℕ) → IsSound s
+      → ended_in (committed_of s.records) g
+      ≡ ((view (items s.sizes s.records) g).closed && not (closed_by_any g s.rows))
   pub room : (s : State) → IsSound s → s.cells_in_use < cell_count s.sizes
       → count_used s.sizes (slots_now s) < cell_count s.sizes

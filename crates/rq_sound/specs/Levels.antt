@@ -1,19 +1,30 @@
 -- What the level of chains plans for a store, from slots that it was given, with others' operations under way.
-use Rattle.std.specs.Prelude.{◌≡◌, ℕ, ◌+◌, ◌/◌, ◌<◌, true, false, not, List}
+use Rattle.std.specs.Prelude.{◌++◌, Bool, ◌||◌, [], ◌∷◌, length, map, drop, Option, None, Some, ◌≡◌, ℕ, ◌+◌, ◌/◌, ◌<◌, true, false, not, List}
+use Rattle.rq_model.specs.declared.refusal.Refusal.{Refusal}
+use Rattle.rq_model.specs.declared.refusal.Refusal.TheVariants as why
+use Rattle.rq_model.specs.declared.record.Deed.{Deed}
 use Rattle.rq_model.specs.declared.record.Deed.TheVariants.{Append, UnlinkHead, Close}
-use Rattle.rq_page.specs.Sizes.{IsCellAddress, cell_at, cell_count}
+use Rattle.rq_model.specs.Words.{has_number}
+use Rattle.rq_page.specs.Sizes.{Sizes, IsCellAddress, cell_at, cell_count}
 use Rattle.rq_page.specs.Slots.{Slot}
 use Rattle.rq_page.specs.Slots.Slot.{Free}
 use Rattle.rq_views.specs.Plans.{Turn}
 use Rattle.rq_views.specs.Plans.Turn.{Did, Undid}
-use Rattle.rq_views.specs.Stored.{is_used}
+use Rattle.rq_views.specs.Stored.{IsStoreSlot, is_used}
 use Rattle.rq_level.specs.declared.slots.Given.{Given}
 use Rattle.rq_level.specs.declared.writes.Plan.{Plan}
-use Rattle.rq_level.specs.ChainPlans.{IsSent, IsReceived, IsClosed, IsTailUnlinked, IsReturned, IsReopened}
+use Rattle.rq_level.specs.ChainPlans.{CanMark, CanPutBack, CanReceive, CanSend, CanUnlinkTail, RefusesOther, RefusesTaking, IsSent, IsReceived, IsClosed, IsTailUnlinked, IsReturned, IsReopened}
 use Rattle.rq_level.specs.Given.{GivenHolds, has_page}
-use Rattle.rq_level.specs.Kept.{Kept, IsLowest, NoneToTake, SomeFree, flag_at}
+use Rattle.rq_level.specs.declared.writes.SlotWrite.{SlotWrite}
+use Rattle.rq_level.specs.Kept.{Kept, IsLowest, NoneToTake, SomeFree, flag_at, noted, reserved_at}
+use Rattle.rq_txn.specs.declared.Finished.{Finished}
+use Rattle.rq_groups.specs.Ends.{HeldEnds}
+use Rattle.rq_txn.specs.declared.Aim.{Aim}
+use Rattle.rq_txn.specs.Rows.{Row, Under, any_under}
 use Rattle.rq_store.specs.State.{State}
+use Rattle.rq_txn.specs.declared.Aim.TheVariants as aims
 use Rattle.rq_sound.specs.Rows.{latched_in}
+use Rattle.rq_sound.specs.Calls.{IsIdle, IsNextWrite, IsReady, aborted, aborting, begun, committed, finished, started, stepped, undone}
 use Rattle.rq_sound.specs.Sound.{IsSound}
 use Rattle.rq_sound.specs.Groups.{slots_now}
 use Rattle.rq_sound.specs.Plans.{AreUnlatched, IsPlannedFrom}
@@ -24,12 +35,25 @@ pub record IsGathered (s : State) (given : List Given) : Type 0 where
   pub as_is : (a : ℕ) (x : Slot) → GivenHolds s.sizes given a x → slots_now s a ≡ x
   pub unlatched : (a : ℕ) (x : Slot) → GivenHolds s.sizes given a x → latched_in s.rows (a / 16) ≡ false
 
--- the level knows a cell as free where its slot is, and has chosen those alone whose pages are latched
+-- an operation under way has yet to write the slot at this address
+abbrev pub to_write_under : Option Under → ℕ → Bool
+to_write_under None a = false
+to_write_under (Some u) a = has_number a (map (λ w. w.at) (drop u.made u.writes))
+
+abbrev pub to_write : List Row → ℕ → Bool
+to_write [] a = false
+to_write (r ∷ rows) a = to_write_under r.under a || to_write rows a
+
+-- the level knows a cell as free where its slot is, and those as chosen alone that an operation under way has yet to
+-- write
 pub record KeepsCells (s : State) (k : Kept) : Type 0 where
+  pub sizes : k.sizes ≡ Some s.sizes
+  pub free_count : length k.free ≡ cell_count s.sizes
+  pub chosen_count : length k.reserved ≡ cell_count s.sizes
   pub free : (i : ℕ) → i < cell_count s.sizes
       → flag_at k.free i ≡ not (is_used (slots_now s (cell_at s.sizes i)))
   pub chosen : (i : ℕ) → i < cell_count s.sizes → flag_at k.reserved i ≡ true
-      → latched_in s.rows (cell_at s.sizes i / 16) ≡ true
+      → to_write s.rows (cell_at s.sizes i) ≡ true
 
 -- the pages that operations under way have latched
 abbrev pub AreLatched : State → List ℕ → Type 0
@@ -66,3 +90,52 @@ pub record LevelsPlanFromSlots : Type 0 where
       → IsReturned s.sizes k given latched g n tag body p after → MayFollow s p (Undid (UnlinkHead g n tag body))
   pub reopened : (s : State) (k : Kept) (given : List Given) (g : ℕ) (p : Plan) (after : Kept) → IsSound s
       → IsGathered s given → IsReopened s.sizes k given g p after → MayFollow s p (Undid (Close g))
+
+-- The level goes on knowing the cells: an operation that takes none starts, or one for which a cell is chosen; a slot
+-- that is written is noted; and nothing else of a store is noted. Where nothing is under way no cell is chosen.
+pub record CellsStayKept : Type 0 where
+  pub starts : (s : State) (r : Row) (u : Under) (ends : HeldEnds) (k : Kept) → IsSound s → IsIdle s r
+      → KeepsCells s k → KeepsCells (started s r u ends) k
+  pub takes : (s : State) (r : Row) (u : Under) (ends : HeldEnds) (k : Kept) (a : ℕ) → IsSound s → IsIdle s r
+      → IsCellAddress s.sizes a → to_write_under (Some u) a ≡ true → KeepsCells s k
+      → KeepsCells (started s r u ends) (reserved_at s.sizes k a)
+  pub steps : (s : State) (r : Row) (u : Under) (w : SlotWrite) (images : List (List ℕ)) (k : Kept) → IsSound s
+      → IsNextWrite s r u w images → IsStoreSlot s.sizes w.at → KeepsCells s k
+      → KeepsCells (stepped s r u w images) (noted k w.at w.after)
+  pub finishes : (s : State) (r : Row) (u : Under) (d : Deed) (waiting : List ℕ) (k : Kept) → IsSound s
+      → IsReady s r u (aims.Doing d) → KeepsCells s k → KeepsCells (finished s r u d waiting) k
+  pub undoes : (s : State) (r : Row) (u : Under) (lsn : ℕ) (d : Deed) (waiting : List ℕ) (k : Kept) → IsSound s
+      → IsReady s r u (aims.Undoing lsn d) → KeepsCells s k → KeepsCells (undone s r u lsn d waiting) k
+  pub begins : (s : State) (k : Kept) → KeepsCells s k → KeepsCells (begun s) k
+  pub commits : (s : State) (r : Row) (cells : ℕ) (waiting : List ℕ) (k : Kept) → IsSound s → IsIdle s r
+      → KeepsCells s k → KeepsCells (committed s r cells waiting) k
+  pub starts_abort : (s : State) (r : Row) (k : Kept) → KeepsCells s k → KeepsCells (aborting s r) k
+  pub ends_abort : (s : State) (r : Row) (k : Kept) → IsSound s → IsIdle s r → KeepsCells s k
+      → KeepsCells (aborted s r) k
+  pub none_chosen : (s : State) (k : Kept) (i : ℕ) → KeepsCells s k → any_under s.rows ≡ false → i < cell_count s.sizes
+      → flag_at k.reserved i ≡ false
+
+-- want of memory; or each free cell is on a latched page
+abbrev pub IsForLatches : State → Refusal → Type 0
+IsForLatches s why.NoMemory = Unit {0}
+IsForLatches s why.Latched = AllFreeLatched s
+IsForLatches s _ = ⊥
+
+-- Where the slots that it was given hold what an operation needs, the level refuses for want of memory alone, or as
+-- latched, where it takes a cell and each free one is on a latched page. A send finds a free cell where the store is
+-- not full, and the inverse of a receive always.
+pub record LevelsRefuseExactly : Type 0 where
+  pub sends : (s : State) (k : Kept) (given : List Given) (latched : List ℕ) (g : ℕ) (r : Refusal) → IsSound s
+      → KeepsCells s k → AreLatched s latched → s.cells_in_use < cell_count s.sizes → CanSend s.sizes given g
+      → RefusesTaking s.sizes k latched (CanSend s.sizes given g) r → IsForLatches s r
+  pub returns : (s : State) (k : Kept) (given : List Given) (latched : List ℕ) (row : Row) (rest : List Finished)
+      (lsn g n tag : ℕ) (body : List ℕ) (r : Refusal) → IsSound s → KeepsCells s k → AreLatched s latched
+      → IsIdle s row → row.finished ≡ rest ++ record { lsn = lsn; deed = UnlinkHead g n tag body } ∷ []
+      → CanPutBack s.sizes given g n → RefusesTaking s.sizes k latched (CanPutBack s.sizes given g n) r
+      → IsForLatches s r
+  pub receives : (z : Sizes) (given : List Given) (g : ℕ) (r : Refusal) → CanReceive z given g
+      → RefusesOther (CanReceive z given g) r → r ≡ why.NoMemory
+  pub marks : (z : Sizes) (given : List Given) (g : ℕ) (closed : Bool) (r : Refusal) → CanMark z given g closed
+      → RefusesOther (CanMark z given g closed) r → r ≡ why.NoMemory
+  pub unsends : (z : Sizes) (given : List Given) (g n : ℕ) (r : Refusal) → CanUnlinkTail z given g n
+      → RefusesOther (CanUnlinkTail z given g n) r → r ≡ why.NoMemory

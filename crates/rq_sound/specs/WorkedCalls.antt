@@ -1,5 +1,5 @@
--- Worked: while sends are under way, what is refused and what is not, what the pages tell of whom, who waits, and what is
--- latched.
+-- Worked: while sends are under way, what is refused and what is not, what the pages tell of whom, who waits, and what
+-- is latched.
 use Rattle.std.specs.Prelude.{◌≡◌, ℕ, ◌+◌, ◌<◌, false, true, List, [], ◌∷◌, Some}
 use Rattle.rq_model.specs.declared.message.Message.{Message}
 use Rattle.rq_model.specs.declared.txn.Txn.{Txn}
@@ -91,7 +91,8 @@ pub record LatchesAreJudged : Type 0 where
   pub same_page : (images : List (List ℕ)) → IsLatched (one_under images) (Call.Start_send t2 (message_for 1))
   pub other_page : (images : List (List ℕ)) → AreFormatted sizes images
       → IsLatched (one_under images) (Call.Start_send t2 (message_for 15)) → ⊥
-  pub both_pages : (images : List (List ℕ)) (t : Txn) → IsLatched (two_under images) (Call.Start_send t (message_for 15))
+  pub both_pages : (images : List (List ℕ)) (t : Txn)
+      → IsLatched (two_under images) (Call.Start_send t (message_for 15))
   pub no_cell : (images : List (List ℕ)) → AllFreeLatched (two_under images)
   pub some_cell : (images : List (List ℕ)) → AreFormatted sizes images → AllFreeLatched (one_under images) → ⊥
 

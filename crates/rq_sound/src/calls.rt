@@ -2,7 +2,7 @@
 //! what the pages say of a group while others are under way, and which plans may start.
 ghost use Rattle.rq_sound.specs.Groups.{SlotsTellGroups};
 ghost use Rattle.rq_sound.specs.Latching.{LatchedIsExact};
-ghost use Rattle.rq_sound.specs.Levels.{LevelsPlanFromSlots};
+ghost use Rattle.rq_sound.specs.Levels.{CellsStayKept, LevelsPlanFromSlots, LevelsRefuseExactly};
 ghost use Rattle.rq_sound.specs.Plans.{PlansMayStart};
 ghost use Rattle.rq_sound.specs.Refusals.{RefusalsAreSteps, TestsReadRows};
 ghost use Rattle.rq_sound.specs.Unchanged.{UnchangedAreSteps};
@@ -39,6 +39,16 @@ pub fn plans_may_start()
 /// What the level of chains plans from slots of pages that nobody has latched is planned from the slots as they are.
 pub fn levels_plan_from_slots()
     ensures { LevelsPlanFromSlots }
+{}
+
+/// The level of chains refuses what can be done for want of memory alone, or where each free cell is on a latched page.
+pub fn levels_refuse_exactly()
+    ensures { LevelsRefuseExactly }
+{}
+
+/// The level of chains goes on knowing which cells are free, and which an operation under way is to write.
+pub fn cells_stay_kept()
+    ensures { CellsStayKept }
 {}
 
 /// The calls that change no list are steps of the model.
