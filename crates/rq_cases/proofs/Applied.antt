@@ -14,7 +14,7 @@ use Rattle.rq_views.specs.WorkedItems.{t2}
 use Rattle.rq_restart.proofs.Parsing.{one_log, AreSpelled-drop}
 use Rattle.rq_store.specs.State.{State}
 use Rattle.rq_sound.specs.Steps.{Steps}
-use Rattle.rq_store.proofs.Forcing.{failed_steps}
+use Rattle.rq_engine.proofs.Standing.{failed_steps}
 use Rattle.rq_engine.specs.declared.event.Event.TheVariants as event
 use Rattle.rq_engine.specs.declared.event.Reply.TheVariants as reply
 use Rattle.rq_engine.specs.Opened.{OpenStore}
@@ -31,7 +31,7 @@ use Rattle.rq_cases.proofs.Held.{failed_beginning, pages_now, pages_fit, leaves_
 use Rattle.rq_cases.proofs.Images.{lsn_is}
 use Rattle.rq_cases.proofs.Pages.{cells_1_long}
 use Rattle.rq_cases.proofs.Receives.{receives}
-use Rattle.rq_cases.proofs.Running as running
+use Rattle.rq_cases.proofs.Several as running
 
 cell_page_lsn : lsn_of (page_image 2 2 2 cells_1) ≡ 2
 cell_page_lsn = lsn_is 2 2 2 cells_1 cells_1_long (omega arith)

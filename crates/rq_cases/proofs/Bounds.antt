@@ -71,7 +71,10 @@ use Rattle.rq_cases.proofs.Held.{leaves_beginning, log_seen, pages_fit, pages_no
 use Rattle.rq_cases.proofs.Openings.{formatted_are, only_read}
 use Rattle.rq_cases.proofs.Pages.{are_formatted, cell_told, free_told, new_told, range, sent_told}
 use Rattle.rq_cases.proofs.Restarting.{counted_read, pages_seen_are}
-use Rattle.rq_cases.proofs.Running as running
+use Rattle.rq_cases.proofs.Running as one
+use Rattle.rq_cases.proofs.Several.{steps_of}
+use Rattle.rq_sound.proofs.Instance.{instance_sound}
+use Rattle.rq_store.specs.Sound as one_sound
 
 -- what such a log is of
 incarnation_is : (n : ℕ) → incarnation_of (restarts n) ≡ n
@@ -120,13 +123,16 @@ fit : (n : ℕ) → FitsLog sizes (image_in formatted_pages) (restarts n)
 fit n = fits_log_longer sizes (image_in formatted_pages) [] (restarts n) (n, all_new n) (formatted_fits sizes (image_in formatted_pages) range are_formatted)
 
 -- the store over it is sound
-open_sound : (n : ℕ) → IsSound (just_opened n)
-open_sound n =
+open_one : (n : ℕ) → one_sound.IsSound (just_opened n)
+open_one n =
     opened_sound sizes formatted_pages (restarts n) range (whole n) (none_unfinished n) (none_lost n)
-    (λ a. running.first_sound.pages a ∙ sym (same_slots n a)) (fit n)
+    (λ a. one.first_sound.pages a ∙ sym (same_slots n a)) (fit n)
+
+begun_one : (n : ℕ) → one_sound.IsSound (one_begun n)
+begun_one n = begin_sound (just_opened n) (open_one n)
 
 begun_sound : (n : ℕ) → IsSound (one_begun n)
-begun_sound n = begin_sound (just_opened n) (open_sound n)
+begun_sound n = instance_sound (one_begun n) (begun_one n)
 
 -- tests that all pass tell no refusal
 pub none_first : (tests : List (Bool × Refusal)) → NoneHolds tests → first_of tests ≡ None
@@ -173,12 +179,12 @@ module _ (n : ℕ) where
   at_row = rw (same_self t) refl
 
   commits : n + 2 ≤ 2 ^ 50 → (new : State) × Commits n (record { txn = t; lsn = length s.records + 1 }) new
-  commits le = (_, commit_steps s (begun_sound n) t (fresh_row t) s.cells_in_use s.waiting at_row refl (omega arith) (λ g low. omega arith) refl (commit_free le))
+  commits le = (_, steps_of (commit_steps s (begun_one n) t (fresh_row t) s.cells_in_use s.waiting at_row refl (omega arith) (λ g low. omega arith) refl (commit_free le)))
 
   sends : n + 5 ≤ 2 ^ 50 → (new : State) × Sends n 1 new
   sends le =
-      let none = running.first_cells in
-      (_, start_steps s (begun_sound n) t (fresh_row t) (send_under 0) 0 7 (104 ∷ []) at_row refl refl running.send_plan refl (omega (arith, none)) (send_passes le))
+      let none = one.first_cells in
+      (_, steps_of (start_steps s (begun_one n) t (fresh_row t) (send_under 0) 0 7 (104 ∷ []) at_row refl refl one.send_plan refl (omega (arith, none)) (send_passes le)))
 
   send_refused : 2 ^ 50 < n + 5 → IsFullForSend n s
   send_refused le =

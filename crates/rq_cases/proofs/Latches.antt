@@ -1,5 +1,5 @@
 -- A call beside an operation that is under way.
-use Rattle.std.proofs.Common.{◌≡◌, ◌⊎◌, ℕ, true, List, [], ◌∷◌, Option, Some, None, refl, sym, ap, ◌∙◌, subst, inl, inr, arith}
+use Rattle.std.proofs.Common.{◌≡◌, ◌⊎◌, ℕ, true, List, [], ◌∷◌, Option, Some, None, refl, sym, ap, ◌∙◌, subst, inl, inr, arith, ◌/◌, false}
 use Rattle.std.specs.Prelude.{Vec}
 use Rattle.std.specs.declared.alloc.Global.{Global}
 use Rattle.rq_model.specs.declared.refusal.Refusal.{Refusal}
@@ -15,13 +15,16 @@ use Rattle.rq_model.specs.Words.{In, is_some}
 use Rattle.rq_disk.specs.declared.mem_log.MemLog.{MemLog}
 use Rattle.rq_disk.specs.declared.mem_pages.MemPages.{MemPages}
 use Rattle.rq_views.specs.WorkedItems.{t1, t2}
-use Rattle.rq_txn.specs.Rows.{Row, Under, change_row, fresh_row, row_started}
+use Rattle.std.proofs.lemmas.Bool.{true≢false}
+use Rattle.rq_page.specs.Sizes.{directory_at}
+use Rattle.rq_views.specs.Plans.{deed_sender}
+use Rattle.rq_txn.specs.Rows.{Row, Under, change_row, fresh_row, row_started, deed_of}
 use Rattle.rq_sound.specs.Sound.{IsSound}
 use Rattle.rq_store.specs.State.{State, ledger_of, size_of}
 use Rattle.rq_log.specs.Crash.{LeavesOnly}
 use Rattle.rq_log.specs.Spelled.{IsBeginning}
 use Rattle.rq_store.proofs.Beginning.{begin_sound}
-use Rattle.rq_store.proofs.Forcing.{refused_steps}
+use Rattle.rq_engine.proofs.Standing.{refused_steps}
 use Rattle.rq_engine.proofs.Crashing.{runs_through_cuts}
 use Rattle.rq_core.specs.Devices.{mem_log, mem_pages}
 use Rattle.rq_engine.specs.Opened.{OpenStore}
@@ -37,10 +40,14 @@ use Rattle.rq_cases.specs.Worlds.{Hold}
 use Rattle.rq_cases.proofs.Bounds.{none_first}
 use Rattle.rq_cases.proofs.Bytes.{first_spelled}
 use Rattle.rq_cases.proofs.Held.{leaves_beginning, pages_now, same_beginning}
-use Rattle.rq_cases.proofs.Running as running
+use Rattle.rq_cases.proofs.Running as one
+use Rattle.rq_cases.proofs.Several as running
+use Rattle.rq_sound.proofs.Instance.{instance_sound}
+use Rattle.rq_sound.proofs.Standings.{directory_latched}
+use Rattle.rq_sound.specs.Rows.{latched_by}
 
 beside_sound : IsSound beside
-beside_sound = begin_sound send_started running.start_send.sound
+beside_sound = instance_sound beside (begin_sound send_started one.start_send.sound)
 
 -- no test tells a refusal
 abbrev first_test : List ℕ → Option Refusal
@@ -52,16 +59,6 @@ passes = (refl, (refl, (refl, (refl, (refl, (refl, (refl, (refl, (refl, (refl, t
 no_test : first_test [] ≡ None
 no_test = none_first (tests (size_of sizes) (ledger_of beside) (Start_send t2 (record { sender = 1; tag = 8; body = [] }))) passes
 
--- two have an operation under way
-abbrev OneGoes : List Row → Type 0
-OneGoes rows = (r q : Row) → In r rows → In q rows → is_some r.under ≡ true → is_some q.under ≡ true → r ≡ q
-
-two_go : (u : Under) → OneGoes (row_started u (fresh_row t2) ∷ send_started.rows) → ⊥
-two_go u one =
-    let e = one (row_started u (fresh_row t2)) (busy_row t1 (send_under 0)) (inl refl) (inr (inl refl)) refl refl in
-    let f : 2 ≡ 1 = ap (λ (r : Row). r.txn.count) e in
-    omega (arith, f)
-
 module _ (pages : MemPages) (log : MemLog) (new : OpenStore MemPages MemLog) (body : Vec ℕ Global) where
   started : (sub : Sub) → Makes (over beside pages log) (other_send body) (reply.Started sub) new → ⊥
   started sub a =
@@ -70,7 +67,14 @@ module _ (pages : MemPages) (log : MemLog) (new : OpenStore MemPages MemLog) (bo
       let rows : new.state.rows ≡ change_row sub.txn (row_started u) beside.rows = ap (λ (x : State). x.rows) a.lists.1.lists in
       let now : new.state.rows ≡ change_row t2 (row_started u) beside.rows = rows ∙ ap (λ (t : Txn). change_row t (row_started u) beside.rows) is in
       let k : IsSound new.state = (a.steps (tt, tt) beside_sound).sound in
-      two_go u (subst OneGoes now k.one_going)
+      let r : Row = row_started u (fresh_row t2) in
+      let q : Row = busy_row t1 (send_under 0) in
+      let there : (x : Row) → In x (r ∷ send_started.rows) → In x new.state.rows = λ x i. subst (In x) (sym now) i in
+      let page = directory_latched new.state.sizes new.state.records new.state.ends t2 u (k.standing.each r (there r (inl refl))).going.0 in
+      let first : latched_by u 1 ≡ true = subst (λ (p : ℕ). latched_by u p ≡ true) (ap (λ a. directory_at (deed_sender (deed_of a)) / 16) a.lists.1.plan.aim) page in
+      let off : latched_by (send_under 0) 1 ≡ false = k.standing.apart r q u (send_under 0) 1 (there r (inl refl)) (there q (inr (inl refl))) (λ e. let f : 2 ≡ 1 = ap (λ (t : Txn). t.count) e in omega (arith, f)) refl refl first in
+      let on : latched_by (send_under 0) 1 ≡ true = refl in
+      absurd (true≢false (sym on ∙ off))
 
   module _ (empty : body.items ≡ []) where
     -- so a refusal that comes by a test doesn't come

@@ -24,3 +24,4 @@ mod Bounds
 mod Crashes
 mod Latches
 mod Replies
+pub mod Several

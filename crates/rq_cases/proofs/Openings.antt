@@ -27,7 +27,7 @@ use Rattle.rq_store.specs.Fitting.{FitsLog, image_in, oldest}
 use Rattle.rq_store.specs.Opening.{next_restart}
 use Rattle.rq_store.specs.State.{ledger_of, size_of}
 use Rattle.rq_store.proofs.Cutting.{fits_log_longer}
-use Rattle.rq_store.proofs.Forcing.{refused_steps}
+use Rattle.rq_engine.proofs.Standing.{refused_steps}
 use Rattle.rq_store.proofs.Formatting.{formatted_fits}
 use Rattle.rq_store.proofs.Opening.{restarted_whole}
 use Rattle.rq_restart.specs.Checked.{IsBeyond, IsEnded, IsGoneThrough, as_read}
@@ -50,7 +50,7 @@ use Rattle.rq_cases.proofs.Logs.{no_record}
 use Rattle.rq_cases.proofs.Pages.{are_formatted, range}
 use Rattle.rq_cases.proofs.Reading.{cells_missing, first_block, no_header, sent_sound}
 use Rattle.rq_cases.proofs.Restarting.{formatted_fit, gone, gone_4, group_lsn, is_restart, made_there, no_cell_lsn, odd_bad, odd_record, open_4, pages_seen_are, repeats_1, repeats_5, same_log}
-use Rattle.rq_cases.proofs.Running as running
+use Rattle.rq_cases.proofs.Several as running
 use Rattle.rq_cases.proofs.Worlds.{leaves_store, ran_crashed, shuts_with_less, whole}
 
 abbrev rest_of : List Record → List Record

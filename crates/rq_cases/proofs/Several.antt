@@ -1,12 +1,22 @@
--- What is sound with one operation under way at most is sound with any, and its calls are steps of such a store.
+-- The worked run as one of a store with any operations under way: what is sound with one at most is sound with any, and
+-- its calls are steps.
+use Rattle.std.proofs.Common.{◌≡◌, ℕ, List, [], ◌∷◌}
 use Rattle.rq_model.specs.History.{Call}
+use Rattle.rq_model.specs.History.Call.{Begin, Start_send, Start_receive, Step, Finish, Commit, Force}
 use Rattle.rq_model.specs.Replay.{Reply}
+use Rattle.rq_model.specs.Replay.Reply.{Gave_txn, Gave_sub, Gave_lsn, Gave_sent, Gave_message, Gave_commit, Gave_forced}
+use Rattle.rq_views.specs.WorkedItems.{t1, t2}
+use Rattle.rq_store.specs.Opening.{opened}
 use Rattle.rq_store.specs.State.{State}
-use Rattle.rq_store.specs.Steps as one
+use Rattle.rq_store.specs.Steps as one_steps
+use Rattle.rq_sound.specs.Sound.{IsSound}
 use Rattle.rq_sound.specs.Steps.{Steps}
 use Rattle.rq_sound.proofs.Instance.{instance_sound}
+use Rattle.rq_cases.specs.Run.{fresh, begun, send_started, cell_filled, group_counted, sent, committed, forced, begun_again, take_started, cell_freed, take_counted, taken, all_committed}
+use Rattle.rq_cases.specs.Store.{sizes, formatted_pages}
+use Rattle.rq_cases.proofs.Running as one
 
-pub steps_of : {old new : State} {call : Call} {gave : Reply} → one.Steps old call gave new → Steps old call gave new
+pub steps_of : {old new : State} {call : Call} {gave : Reply} → one_steps.Steps old call gave new → Steps old call gave new
 steps_of {old} {new} k = record {
   entry = k.entry;
   says = k.says;
@@ -16,3 +26,48 @@ steps_of {old} {new} k = record {
   goes_on = k.goes_on;
   stays_forced = k.stays_forced;
 }
+
+pub first_sound : IsSound (opened sizes formatted_pages [])
+first_sound = instance_sound (opened sizes formatted_pages []) one.first_sound
+
+pub fresh_sound : IsSound fresh
+fresh_sound = instance_sound fresh one.fresh_sound
+
+pub begin : Steps fresh Begin (Gave_txn t1) begun
+begin = steps_of one.begin
+
+pub start_send : Steps begun (Start_send t1 (record { sender = 0; tag = 7; body = 104 ∷ [] })) (Gave_sub t1 1) send_started
+start_send = steps_of one.start_send
+
+pub step_cell : Steps send_started (Step t1 1) (Gave_lsn 2) cell_filled
+step_cell = steps_of one.step_cell
+
+pub step_group : Steps cell_filled (Step t1 1) (Gave_lsn 3) group_counted
+step_group = steps_of one.step_group
+
+pub finish_send : Steps group_counted (Finish t1 1) Gave_sent sent
+finish_send = steps_of one.finish_send
+
+pub commit_send : Steps sent (Commit t1) (Gave_commit (record { txn = t1; lsn = 5 })) committed
+commit_send = steps_of one.commit_send
+
+pub force : Steps committed Force (Gave_forced 5) forced
+force = steps_of one.force
+
+pub begin_again : Steps forced Begin (Gave_txn t2) begun_again
+begin_again = steps_of one.begin_again
+
+pub start_take : Steps begun_again (Start_receive t2) (Gave_sub t2 1) take_started
+start_take = steps_of one.start_take
+
+pub step_free : Steps take_started (Step t2 1) (Gave_lsn 6) cell_freed
+step_free = steps_of one.step_free
+
+pub step_taken : Steps cell_freed (Step t2 1) (Gave_lsn 7) take_counted
+step_taken = steps_of one.step_taken
+
+pub finish_take : Steps take_counted (Finish t2 1) (Gave_message (record { sender = 0; tag = 7; body = 104 ∷ [] })) taken
+finish_take = steps_of one.finish_take
+
+pub commit_take : Steps taken (Commit t2) (Gave_commit (record { txn = t2; lsn = 9 })) all_committed
+commit_take = steps_of one.commit_take

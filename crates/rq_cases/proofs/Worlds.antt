@@ -49,7 +49,7 @@ use Rattle.rq_cases.proofs.Bytes.{first_spelled, records_spelled, short_log}
 use Rattle.rq_cases.proofs.Held.{leaves_beginning, log_left, only_records, pages_fit, pages_now}
 use Rattle.rq_cases.proofs.Images.{lsn_is}
 use Rattle.rq_cases.proofs.Pages.{are_formatted, groups_1_long, range}
-use Rattle.rq_cases.proofs.Running as running
+use Rattle.rq_cases.proofs.Several as running
 
 -- the worked courses tell their histories
 told_7 : Tells (course_to 7) (first_entries 7)
