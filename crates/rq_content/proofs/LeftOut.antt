@@ -311,7 +311,7 @@ first_tag g (f ∷ fs) b v e k = elim (cases_deed g f.deed) [
           ap (λ x. or_else (without_all g fs x).previous (tag_after v.last_tag (own g (f ∷ fs)))) (n.less b)
           ∙ ap (λ l. or_else (without_all g fs (without_close b)).previous (tag_after v.last_tag l)) (own_none g f fs n.unsent)
           ∙ subst (λ (t : ℕ). or_else (without_all g fs (without_close b)).previous (tag_after t (own g fs)) ≡ t) (n.shuts v)
-              (first_tag g fs (without_close b) (with_turn (Did f.deed) v) e (sound_first (side (on_sending_end g) (placed fs)) f.deed v (subst (λ ds. Sound ds v) (side_on (on_sending_end g) f fs n.on) k)))
+          (first_tag g fs (without_close b) (with_turn (Did f.deed) v) e (sound_first (side (on_sending_end g) (placed fs)) f.deed v (subst (λ ds. Sound ds v) (side_on (on_sending_end g) f fs n.on) k)))
     ]
   ]
 ]
@@ -330,13 +330,13 @@ takes_first g (f ∷ fs) v k = elim (cases_deed g f.deed) [
     | inr w ↦ elim w [
       | inr n ↦ subst (λ l. AreFirst g l v.messages) (sym (taken_none g f fs n.untaken)) (takes_first g fs v (subst (λ ds. Sound ds v) (side_off (on_receiving_end g) f fs n.free) k))
       | inl n ↦
-        let m : Message = record { sender = g; tag = n.tag; body = n.body } in
-        let k2 = subst (λ ds. Sound ds v) (side_on (on_receiving_end g) f fs n.on) k in
-        let here = n.told v (sound_last (side (on_receiving_end g) (placed fs)) f.deed v k2) in
-        let i = takes_first g fs (with_turn (Did f.deed) v) (sound_first (side (on_receiving_end g) (placed fs)) f.deed v k2) in
-        let rest : (with_turn (Did f.deed) v).messages ≡ here.0 = n.next v ∙ ap (λ (l : List (ℕ × List ℕ)). drop 1 l) here.1 in
-        let j = subst (AreFirst g (own_taken g fs)) rest i in
-        subst (λ l. AreFirst g l v.messages) (sym (taken_some g f fs m n.some)) (subst (AreFirst g (m ∷ own_taken g fs)) (sym here.1) (record { within = (let w = j.within in omega (arith, w)); are = ap (λ l. m ∷ l) j.are }))
+          let m : Message = record { sender = g; tag = n.tag; body = n.body } in
+          let k2 = subst (λ ds. Sound ds v) (side_on (on_receiving_end g) f fs n.on) k in
+          let here = n.told v (sound_last (side (on_receiving_end g) (placed fs)) f.deed v k2) in
+          let i = takes_first g fs (with_turn (Did f.deed) v) (sound_first (side (on_receiving_end g) (placed fs)) f.deed v k2) in
+          let rest : (with_turn (Did f.deed) v).messages ≡ here.0 = n.next v ∙ ap (λ (l : List (ℕ × List ℕ)). drop 1 l) here.1 in
+          let j = subst (AreFirst g (own_taken g fs)) rest i in
+          subst (λ l. AreFirst g l v.messages) (sym (taken_some g f fs m n.some)) (subst (AreFirst g (m ∷ own_taken g fs)) (sym here.1) (record { within = (let w = j.within in omega (arith, w)); are = ap (λ l. m ∷ l) j.are }))
     ]
   ]
 ]

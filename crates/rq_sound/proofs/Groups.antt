@@ -113,9 +113,9 @@ none_under [] r e i = absurd i
 none_under (q ∷ rows) r e i =
     let p = or_parts (is_some q.under) (any_under rows) e in
     elim i [ inl same ↦ ap (λ (x : Row). x.under) same ∙ no_some q.under p.0 | inr j ↦ none_under rows r p.1 j ] where
-  no_some : (o : Option Under) → is_some o ≡ false → o ≡ None
-  no_some None f = refl
-  no_some (Some u) f = cc
+      no_some : (o : Option Under) → is_some o ≡ false → o ≡ None
+      no_some None f = refl
+      no_some (Some u) f = cc
 
 pub all_idle : (s : State) (k : IsSound s) → any_under s.rows ≡ false → (o : Sub) → under_way o (items s.sizes s.records) ≡ false
 all_idle s k e o = at (found_row o.txn s.rows) refl where
