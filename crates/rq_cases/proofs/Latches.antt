@@ -18,7 +18,7 @@ use Rattle.rq_views.specs.WorkedItems.{t1, t2}
 use Rattle.std.proofs.lemmas.Bool.{true≢false}
 use Rattle.rq_page.specs.Sizes.{directory_at}
 use Rattle.rq_views.specs.Plans.{deed_sender}
-use Rattle.rq_txn.specs.Rows.{Row, Under, change_row, fresh_row, row_started, deed_of}
+use Rattle.rq_txn.specs.Rows.{Row, Under, change_row, fresh_row, row_started, deed_of, latched_by}
 use Rattle.rq_sound.specs.Sound.{IsSound}
 use Rattle.rq_store.specs.State.{State, ledger_of, size_of}
 use Rattle.rq_log.specs.Crash.{LeavesOnly}
@@ -44,7 +44,6 @@ use Rattle.rq_cases.proofs.Running as one
 use Rattle.rq_cases.proofs.Several as running
 use Rattle.rq_sound.proofs.Instance.{instance_sound}
 use Rattle.rq_sound.proofs.Standings.{directory_latched}
-use Rattle.rq_sound.specs.Rows.{latched_by}
 
 beside_sound : IsSound beside
 beside_sound = instance_sound beside (begin_sound send_started one.start_send.sound)

@@ -1,8 +1,10 @@
 pub mod Opened
+pub mod Passing
 pub mod Waits
 pub mod Keeping
 pub mod Refusals
 pub mod Standing
+pub mod Latches
 pub mod Calls
 pub mod SendCalls
 pub mod TakeCalls

@@ -1,5 +1,8 @@
 -- The parts of an open store.
-use Rattle.std.proofs.Common.{◌≡◌, ap}
+use Rattle.std.proofs.Common.{◌≡◌, ap, subst, true, false, Option, Some, None}
+use Rattle.std.proofs.lemmas.Bool.{false≢true, true≢false}
+use Rattle.std.specs.Option.{is_some}
+use Rattle.std.specs.Prelude.{IfSome, IfNone}
 use Rattle.rq_engine.specs.Opened.{OpenStore}
 
 pub state_is : {P L : Type 0} {a b : OpenStore P L} → a ≡ b → a.state ≡ b.state
@@ -7,3 +10,18 @@ state_is e = ap (λ (o : OpenStore _ _). o.state) e
 
 pub changed_is : {P L : Type 0} {a b : OpenStore P L} → a ≡ b → a.changed ≡ b.changed
 changed_is e = ap (λ (o : OpenStore _ _). o.changed) e
+
+-- what is said of what is found, and where nothing is
+pub some_told : {X : Type 0} (P : X → Type 0) (o : Option X) (x : X) → o ≡ Some x → IfSome o P → P x
+some_told P o x e h = subst (λ (y : Option _). IfSome y P) e h
+
+pub none_told : {X : Type 0} (P : Type 0) (o : Option X) → o ≡ None → IfNone o P → P
+none_told P o e h = subst (λ (y : Option _). IfNone y P) e h
+
+pub unfound_told : {X : Type 0} (P : Type 0) (o : Option X) → is_some o ≡ false → IfNone o P → P
+unfound_told P None e h = h
+unfound_told P (Some x) e h = absurd (let bad : true ≡ false = e in true≢false bad)
+
+pub found_told : {X : Type 0} (P : X → Type 0) (o : Option X) → is_some o ≡ true → IfSome o P → (x : X) × P x
+found_told P None e h = absurd (let bad : false ≡ true = e in false≢true bad)
+found_told P (Some x) e h = (x, h)

@@ -1,5 +1,5 @@
 -- What a send answers, from what its tests found.
-use Rattle.std.proofs.Common.{◌≡◌, ℕ, ◌+◌, ◌*◌, ◌<◌, ◌≤◌, ◌||◌, List, [], ◌∷◌, length, drop, refl, sym, option_map, ◌∙◌, ap, subst, Bool, true, false, not, cond, nat_eq, nat_lt, Option, Some, None, arith, inl, inr}
+use Rattle.std.proofs.Common.{◌≡◌, ℕ, ◌+◌, ◌*◌, ◌<◌, ◌≤◌, ◌/◌, ◌||◌, List, [], ◌∷◌, length, drop, refl, sym, option_map, ◌∙◌, ap, subst, Bool, true, false, not, cond, nat_eq, nat_lt, Option, Some, None, arith, inl, inr}
 use Rattle.std.proofs.lemmas.Bool.{cases_Bool, false_from_ne_true, eqb-true, eq-eqb, lt-ltb, le-ltb}
 use Rattle.std.proofs.lemmas.List.{length-map}
 use Rattle.rq_model.specs.declared.txn.Txn.{Txn}
@@ -26,7 +26,7 @@ use Rattle.rq_views.proofs.Laws.{shows_here}
 use Rattle.rq_txn.proofs.Finding.{found_change_same}
 use Rattle.rq_level.specs.declared.writes.SlotWrite.{SlotWrite}
 use Rattle.rq_level.specs.Writes.{IsFirstAt}
-use Rattle.rq_txn.specs.Rows.{Row, Under, found_row, any_under, change_row, row_started}
+use Rattle.rq_txn.specs.Rows.{Row, Under, found_row, any_under, change_row, latched_in, row_started}
 use Rattle.rq_groups.specs.declared.Held.{Held}
 use Rattle.rq_groups.specs.declared.End.{End}
 use Rattle.rq_groups.specs.declared.End.TheVariants.{Sending, Receiving}
@@ -40,15 +40,17 @@ use Rattle.rq_store.proofs.RowLists.{found_in}
 use Rattle.rq_sound.specs.Steps.{Steps}
 use Rattle.rq_sound.proofs.FreeEnds.{free_is}
 use Rattle.rq_sound.proofs.Asked.{cells_are}
-use Rattle.rq_sound.proofs.Contracts.{answered}
+use Rattle.rq_sound.specs.Plans.{AreUnlatched}
+use Rattle.rq_sound.proofs.Contracts.{answered, shows}
 use Rattle.rq_sound.proofs.Groups.{room_left, slots_tell}
-use Rattle.rq_engine.proofs.Standing.{refused_steps, shown, start_steps}
+use Rattle.rq_engine.proofs.Latches.{send_busy}
+use Rattle.rq_engine.proofs.Standing.{refused_steps, start_steps}
 use Rattle.rq_model.specs.Replay.Reply.{Gave_sub}
 use Rattle.rq_engine.specs.Answers.{Refuses, HasNothingUnderWay, OnUnder}
 use Rattle.rq_model.specs.Legal.{OnFound}
 use Rattle.rq_chain.specs.declared.ChainPlan.{ChainPlan as Plan}
 use Rattle.rq_engine.specs.Kept.{IsKept, IsUnderKept}
-use Rattle.rq_engine.specs.Sends.{under_plan, FitsPlan, TakesLowest}
+use Rattle.rq_engine.specs.Sends.{under_plan, AreLatchedBelow, FitsPlan, SendIsLatched, TakesLowest}
 use Rattle.rq_engine.proofs.Keeping.{kept_started}
 use Rattle.rq_model.specs.Deeds.{spelled_deed}
 use Rattle.rq_engine.proofs.Refusals.{not_full, refuse, found_of, on_found, found_some, found_none}
@@ -115,9 +117,6 @@ module _ (s : State) (t : Txn) (e tag : ℕ) (body : List ℕ) (h : NoneHolds (r
         pub passes : log_full (ledger_of s) 4 ≡ false → IsSound s → Passes (size_of s.sizes) (ledger_of s) call
         passes c k = (h.0, (h.1.0, (h.1.1.0, (h.1.1.1.0, (known, (fits, (free_by k, (closed_by k d at ∙ not_closed, (some_room k, (c, tt))))))))))
 
-        pub latched : log_full (ledger_of s) 4 ≡ false → any_under s.rows ≡ true → Refuses s call why.Latched
-        latched c u k = (refused_steps s k call why.Latched (passes c k, refl) refl, u)
-
 used_from : (x : Slot) (c : Cell) → cell_in x ≡ Some c → x ≡ Used c
 used_from Free c e = cc
 used_from (Used b) c e = let k : b ≡ c = cc in ap (λ y. Used y) k
@@ -127,11 +126,11 @@ used_from (Sender q d) c e = cc
 pub stands_used : (q : Slots) (a : ℕ) (c : Cell) → cell_in (q a) ≡ Some c → Stands_at q a (Some c)
 stands_used q a c e = used_from (q a) c e
 
-module _ (s : State) (k : IsSound s) (idle : any_under s.rows ≡ false) where
+module _ (s : State) (k : IsSound s) where
   -- no more was sent than there are records
-  pub sent_within : (e : ℕ) (d : Directory) → e < sender_count s.sizes → slots_in s.sizes s.images (directory_at e) ≡ Sender e d → d.sent ≤ length s.records
-  sent_within e d below at =
-      let here = shows_here (layout_of s.sizes) (left_by s.sizes s.records).slots e (view (items s.sizes s.records) e) d (sym at ∙ k.pages (directory_at e)) (shown s k idle e below) in
+  pub sent_within : (e : ℕ) (d : Directory) → e < sender_count s.sizes → latched_in s.rows (directory_at e / 16) ≡ false → slots_in s.sizes s.images (directory_at e) ≡ Sender e d → d.sent ≤ length s.records
+  sent_within e d below off at =
+      let here = shows_here (layout_of s.sizes) (left_by s.sizes s.records).slots e (view (items s.sizes s.records) e) d (sym at ∙ k.pages (directory_at e)) (shows s k e below off) in
       let total = log_total s.sizes s.records e in
       let size : length (view (items s.sizes s.records) e).messages ≡ length here.nodes = ap length here.messages ∙ length-map here.nodes message in
       let sent = here.sent in
@@ -139,9 +138,9 @@ module _ (s : State) (k : IsSound s) (idle : any_under s.rows ≡ false) where
       omega (arith, total, size, sent, received)
 
   -- a chain's last cell is used
-  pub tail_there : (e : ℕ) (d : Directory) → e < sender_count s.sizes → slots_in s.sizes s.images (directory_at e) ≡ Sender e d → 0 < d.tail → cell_in (slots_in s.sizes s.images d.tail) ≡ None → ⊥
-  tail_there e d below at pos free =
-      let here = shows_here (layout_of s.sizes) (left_by s.sizes s.records).slots e (view (items s.sizes s.records) e) d (sym at ∙ k.pages (directory_at e)) (shown s k idle e below) in
+  pub tail_there : (e : ℕ) (d : Directory) → e < sender_count s.sizes → latched_in s.rows (directory_at e / 16) ≡ false → slots_in s.sizes s.images (directory_at e) ≡ Sender e d → 0 < d.tail → cell_in (slots_in s.sizes s.images d.tail) ≡ None → ⊥
+  tail_there e d below off at pos free =
+      let here = shows_here (layout_of s.sizes) (left_by s.sizes s.records).slots e (view (items s.sizes s.records) e) d (sym at ∙ k.pages (directory_at e)) (shows s k e below off) in
       cell here.nodes here.linked here.tail
     where
       cell : (ns : List Node) → Linked (cells_of (left_by s.sizes s.records).slots) e 0 (d.received + 1) ns 0 → d.tail ≡ last 0 ns → ⊥
@@ -179,15 +178,20 @@ pub undone_take : (t : Txn) (end : End) (ends : HeldEnds) (newly : Bool) → new
 undone_take t (Sending e) ends newly h = ap (λ (hs : List Held). let x : HeldEnds = record { sending = hs; receiving = ends.receiving } in x) (undone_held t e ends.sending newly h)
 undone_take t (Receiving e) ends newly h = ap (λ (hs : List Held). let x : HeldEnds = record { sending = ends.sending; receiving = hs } in x) (undone_held t e ends.receiving newly h)
 
+-- a send that meets a latched page
+pub send_refused : (s : State) (t : Txn) (g tag : ℕ) (body : List ℕ) → (IsSound s → Passes (size_of s.sizes) (ledger_of s) (Start_send t (message_of g tag body))) → s.cells_in_use < cell_count s.sizes → SendIsLatched s g
+    → Refuses s (Start_send t (message_of g tag body)) why.Latched
+send_refused s t g tag body may room latched k = (refused_steps s k (Start_send t (message_of g tag body)) why.Latched (may k, refl) refl, send_busy s k g room latched)
+
 -- a send that has started
-pub send_done : (s new : State) (t : Txn) (n e tag : ℕ) (body b : List ℕ) (plan : Plan) → HasNothingUnderWay s t n → NoneHolds (ready_tests (ledger_of s) t false) → any_under s.rows ≡ false → b ≡ body
+pub send_done : (s new : State) (t : Txn) (n e tag : ℕ) (body b : List ℕ) (plan : Plan) → HasNothingUnderWay s t n → NoneHolds (ready_tests (ledger_of s) t false) → AreUnlatched s plan.writes.items → b ≡ body
     → IsSendPlan s.sizes (slots_in s.sizes s.images) (under_plan n plan) e tag b → is_free_for t e s.ends.sending ≡ true → s.cells_in_use < cell_count s.sizes → (IsSound s → Passes (size_of s.sizes) (ledger_of s) (Start_send t (message_of e tag body)))
     → new ≡ record s { rows = change_row t (row_started (under_plan n plan)) s.rows; ends = record { sending = with_held t e s.ends.sending; receiving = s.ends.receiving }; cells_in_use = s.cells_in_use + 1 }
     → IsSound s → Steps s (Start_send t (message_of e tag body)) (Gave_sub t n) new
-send_done s new t n e tag body b plan ready h idle same p free room may is k =
+send_done s new t n e tag body b plan ready h off same p free room may is k =
     let r = found_of (λ r. (r.under ≡ None) × (n ≡ r.number + 1)) (found_row t s.rows) ready in
     let planned = subst (λ (x : List ℕ). IsSendPlan s.sizes (slots_in s.sizes s.images) (under_plan n plan) e tag x) same p in
-    let a = start_steps s k t r.0 (under_plan n plan) e tag body r.1 idle r.2.1 planned (may k) in
+    let a = start_steps s k t r.0 (under_plan n plan) e tag body r.1 r.2.0 off r.2.1 planned (may k) in
     let c = subst (λ (m : ℕ). Steps s (Start_send t (message_of e tag body)) (Gave_sub t m) (record s { rows = change_row t (row_started (under_plan n plan)) s.rows; ends = record { sending = with_held t e s.ends.sending; receiving = s.ends.receiving }; cells_in_use = s.cells_in_use + 1 })) (sym r.2.1) a in
     subst (λ (x : State). Steps s (Start_send t (message_of e tag body)) (Gave_sub t n) x) (sym is) c
 
@@ -200,7 +204,7 @@ going_started s rows t n plan P ready is holds =
     ap (found_row t) is ∙ found_change_same t (row_started (under_plan n plan)) s.rows (λ q. refl) ∙ ap (option_map (row_started (under_plan n plan))) r.1 in
     on_found (λ q. OnUnder n P q q.under) (found_row t rows) (row_started (under_plan n plan) r.0) found (refl, holds (row_started (under_plan n plan) r.0))
 
--- the lowest free cell is taken first
-pub takes_lowest : (z : Sizes) (slots : ℕ → Slot) (a : ℕ) (ws : List SlotWrite) → IsFirstAt a ws → ((b : ℕ) → IsCellAddress z b → b < a → is_used (slots b) ≡ true) → TakesLowest z slots ws
-takes_lowest z slots a [] at lowest = absurd at
-takes_lowest z slots a (w ∷ ws) at lowest = λ b cell less. lowest b cell (subst (λ n. b < n) at less)
+-- the lowest free cell that may be taken is taken first
+pub takes_lowest : (s : State) (a : ℕ) (ws : List SlotWrite) → IsFirstAt a ws → AreLatchedBelow s.sizes (slots_in s.sizes s.images) s.rows a → TakesLowest s ws
+takes_lowest s a [] at lowest = absurd at
+takes_lowest s a (w ∷ ws) at lowest = subst (AreLatchedBelow s.sizes (slots_in s.sizes s.images) s.rows) (sym at) lowest

@@ -1,4 +1,4 @@
--- What a sound store gives the calls, where they start one operation at a time.
+-- What a sound store gives the calls.
 use Rattle.std.proofs.Common.{◌≡◌, ℕ, ◌+◌, ◌-◌, ◌/◌, ◌%◌, ◌<◌, ◌≤◌, ◌^◌, ◌&&◌, ◌||◌, List, [], ◌∷◌, length, refl, sym, ◌∙◌, ap, subst, Bool, true, false, not, nat_eq, nat_lt, Option, Some, None, arith}
 use Rattle.std.specs.List.{slice_get}
 use Rattle.std.proofs.lemmas.Bool.{and_from, lt-ltb}
@@ -27,26 +27,23 @@ use Rattle.rq_page.specs.Slots.{IsSlotOf, held_in}
 use Rattle.rq_level.specs.declared.writes.SlotWrite.{SlotWrite}
 use Rattle.rq_txn.specs.declared.Aim.{Aim}
 use Rattle.rq_txn.specs.declared.Aim.TheVariants.{Doing}
-use Rattle.rq_txn.specs.Rows.{Row, Under, any_under, change_row, deed_of, found_row, row_finished, row_started, row_stepped, without_row}
+use Rattle.rq_txn.specs.Rows.{Row, Under, change_row, deed_of, found_row, row_finished, row_started, row_stepped, without_row}
 use Rattle.rq_groups.specs.Ends.{is_free_for, released, with_held}
 use Rattle.rq_groups.specs.Waiting.{waits}
 use Rattle.rq_store.specs.Fitting.{left_by}
 use Rattle.rq_store.specs.Plans.{IsSendPlan, IsTakePlan, NoneWaits, WaitsFor}
 use Rattle.rq_store.specs.State.{State, ledger_of, size_of}
 use Rattle.rq_store.specs.Steps.{IsPutIn, gave_done, op_end, page_op, took}
-use Rattle.rq_store.proofs.Others.{none_of}
-use Rattle.rq_store.proofs.RowLists.{found_in, none_under}
+use Rattle.rq_store.proofs.RowLists.{found_in}
 use Rattle.rq_sound.specs.Calls.{next_txn}
 use Rattle.rq_sound.specs.Counted.{appends_aim, sends_in, takes_all}
-use Rattle.rq_sound.specs.Plans.{IsNew}
+use Rattle.rq_sound.specs.Plans.{AreUnlatched, IsNew}
 use Rattle.rq_sound.specs.Sound.{IsSound}
 use Rattle.rq_sound.specs.Standing.{IsAsPlanned}
 use Rattle.rq_sound.specs.Starts.{MayDo}
 use Rattle.rq_sound.specs.Steps.{Steps}
 use Rattle.rq_sound.proofs.AbortSteps.{abort_steps}
-use Rattle.rq_sound.proofs.Contracts.{shows}
 use Rattle.rq_sound.proofs.DeedSteps.{deed_steps}
-use Rattle.rq_sound.proofs.Groups.{none_latched}
 use Rattle.rq_sound.proofs.Planned.{plans_start}
 use Rattle.rq_sound.proofs.Refusals.{refusal_steps}
 use Rattle.rq_sound.proofs.Unchanged.{unchanged}
@@ -73,10 +70,6 @@ pub going_at : (s : State) (k : IsSound s) (t : Txn) (r : Row) (u : Under) → f
 going_at s k t r u e under =
     let g = subst (IsAsPlanned s.sizes s.records s.ends r) under (k.standing.each r (found_in t s.rows r e).0).going in
     (g.0.made, g.1)
-
--- where nothing is under way the slots show each group
-pub shown : (s : State) (k : IsSound s) → any_under s.rows ≡ false → (g : ℕ) → g < sender_count s.sizes → ShowsAt (layout_of s.sizes) (left_by s.sizes s.records).slots g (view (items s.sizes s.records) g)
-shown s k idle g below = shows s k g below (none_latched s.rows (directory_at g / 16) idle)
 
 -- one more write
 pub step_steps : (s : State) (k : IsSound s) (t : Txn) (r : Row) (u : Under) (w : SlotWrite) (images : List (List ℕ)) → found_row t s.rows ≡ Some r → r.under ≡ Some u → slice_get u.writes u.made ≡ Some w
@@ -106,15 +99,15 @@ commit_steps s k t r cells ws at_row idle forward freed waited running room =
     at_own s t r (λ q. Steps s (Commit q) (Gave_commit (record { txn = q; lsn = length s.records + 1 })) (record s { rows = without_row q s.rows; ends = record { sending = released q s.ends.sending; receiving = released q s.ends.receiving }; records = records.Commit q ∷ s.records; cells_in_use = cells; waiting = ws })) at_row
     (λ e. deed_steps.commits s r cells ws k running (record { idle = record { at_row = e; idle = idle }; forward = forward; freed = freed; waits = waited }) room)
 
--- what is planned where nothing is under way is on nobody's pages
-module _ (s : State) (k : IsSound s) (r : Row) (u : Under) (at_row : found_row r.txn s.rows ≡ Some r) (idle : any_under s.rows ≡ false) (number : u.number ≡ r.number + 1) where
+-- what is planned on pages that nobody has latched
+module _ (s : State) (k : IsSound s) (r : Row) (u : Under) (at_row : found_row r.txn s.rows ≡ Some r) (idle : r.under ≡ None) (free : AreUnlatched s u.writes) (number : u.number ≡ r.number + 1) where
   new : (d : Deed) → u.aim ≡ Doing d → u.made ≡ 0 → IsNew s r u (Doing d)
   new d aim made = record {
-    idle = record { at_row = at_row; idle = none_of r.under (none_under s.rows r idle (found_in r.txn s.rows r at_row).0) };
+    idle = record { at_row = at_row; idle = idle };
     number = number;
     made = made;
     aim_is = aim;
-    free = λ p on. none_latched s.rows p idle;
+    free = free;
   }
 
   reads_of : (d : Deed) → u.aim ≡ Doing d → deed_in (spelled_deed (deed_of u.aim)) ≡ Some (deed_of u.aim) → deed_in (spelled_deed d) ≡ Some d
@@ -175,30 +168,30 @@ module _ (s : State) (k : IsSound s) (r : Row) (u : Under) (at_row : found_row r
     own_take_from = subst (λ (n : ℕ). Steps s (Start_receive_from r.txn e) (Gave_sub r.txn (r.number + 1)) (taken n)) no_more
         (deed_steps.starts s r u deed k may_take passes)
 
-pub start_steps : (s : State) (k : IsSound s) (t : Txn) (r : Row) (u : Under) (e tag : ℕ) (body : List ℕ) → found_row t s.rows ≡ Some r → any_under s.rows ≡ false → u.number ≡ r.number + 1
+pub start_steps : (s : State) (k : IsSound s) (t : Txn) (r : Row) (u : Under) (e tag : ℕ) (body : List ℕ) → found_row t s.rows ≡ Some r → r.under ≡ None → AreUnlatched s u.writes → u.number ≡ r.number + 1
     → IsSendPlan s.sizes (slots_in s.sizes s.images) u e tag body
     → Passes (size_of s.sizes) (ledger_of s) (Start_send t (record { sender = e; tag = tag; body = body }))
     → Steps s (Start_send t (record { sender = e; tag = tag; body = body })) (Gave_sub t (r.number + 1)) (record s { rows = change_row t (row_started u) s.rows; ends = record { sending = with_held t e s.ends.sending; receiving = s.ends.receiving }; cells_in_use = s.cells_in_use + 1 })
-start_steps s k t r u e tag body at_row idle number plan passes =
+start_steps s k t r u e tag body at_row idle free number plan passes =
     at_own s t r (λ q. Passes (size_of s.sizes) (ledger_of s) (Start_send q (record { sender = e; tag = tag; body = body }))
     → Steps s (Start_send q (record { sender = e; tag = tag; body = body })) (Gave_sub q (r.number + 1)) (record s { rows = change_row q (row_started u) s.rows; ends = record { sending = with_held q e s.ends.sending; receiving = s.ends.receiving }; cells_in_use = s.cells_in_use + 1 })) at_row
-    (λ f. own_send s k r u f idle number e tag body plan) passes
+    (λ f. own_send s k r u f idle free number e tag body plan) passes
 
-pub take_steps : (s : State) (k : IsSound s) (t : Txn) (r : Row) (u : Under) (e : ℕ) → found_row t s.rows ≡ Some r → any_under s.rows ≡ false → u.number ≡ r.number + 1 → IsTakePlan s.sizes (slots_in s.sizes s.images) u e → 1 ≤ waits s.waiting e
+pub take_steps : (s : State) (k : IsSound s) (t : Txn) (r : Row) (u : Under) (e : ℕ) → found_row t s.rows ≡ Some r → r.under ≡ None → AreUnlatched s u.writes → u.number ≡ r.number + 1 → IsTakePlan s.sizes (slots_in s.sizes s.images) u e → 1 ≤ waits s.waiting e
     → Passes (size_of s.sizes) (ledger_of s) (Start_receive_from t e)
     → Steps s (Start_receive t) (Gave_sub t (r.number + 1)) (record s { rows = change_row t (row_started u) s.rows; ends = record { sending = s.ends.sending; receiving = with_held t e s.ends.receiving } })
-take_steps s k t r u e at_row idle number plan wait passes =
+take_steps s k t r u e at_row idle free number plan wait passes =
     at_own s t r (λ q. Passes (size_of s.sizes) (ledger_of s) (Start_receive_from q e)
     → Steps s (Start_receive q) (Gave_sub q (r.number + 1)) (record s { rows = change_row q (row_started u) s.rows; ends = record { sending = s.ends.sending; receiving = with_held q e s.ends.receiving } })) at_row
-    (λ f p. own_take s k r u f idle number e plan wait p) passes
+    (λ f p. own_take s k r u f idle free number e plan wait p) passes
 
-pub take_from_steps : (s : State) (k : IsSound s) (t : Txn) (r : Row) (u : Under) (e : ℕ) → found_row t s.rows ≡ Some r → any_under s.rows ≡ false → u.number ≡ r.number + 1 → IsTakePlan s.sizes (slots_in s.sizes s.images) u e → 1 ≤ waits s.waiting e
+pub take_from_steps : (s : State) (k : IsSound s) (t : Txn) (r : Row) (u : Under) (e : ℕ) → found_row t s.rows ≡ Some r → r.under ≡ None → AreUnlatched s u.writes → u.number ≡ r.number + 1 → IsTakePlan s.sizes (slots_in s.sizes s.images) u e → 1 ≤ waits s.waiting e
     → Passes (size_of s.sizes) (ledger_of s) (Start_receive_from t e)
     → Steps s (Start_receive_from t e) (Gave_sub t (r.number + 1)) (record s { rows = change_row t (row_started u) s.rows; ends = record { sending = s.ends.sending; receiving = with_held t e s.ends.receiving } })
-take_from_steps s k t r u e at_row idle number plan wait passes =
+take_from_steps s k t r u e at_row idle free number plan wait passes =
     at_own s t r (λ q. Passes (size_of s.sizes) (ledger_of s) (Start_receive_from q e)
     → Steps s (Start_receive_from q e) (Gave_sub q (r.number + 1)) (record s { rows = change_row q (row_started u) s.rows; ends = record { sending = s.ends.sending; receiving = with_held q e s.ends.receiving } })) at_row
-    (λ f p. own_take_from s k r u f idle number e plan wait p) passes
+    (λ f p. own_take_from s k r u f idle free number e plan wait p) passes
 
 -- which groups give a message
 module _ (s : State) (k : IsSound s) (t : Txn) (r : Row) (at_row : found_row t s.rows ≡ Some r) where

@@ -1,12 +1,12 @@
 -- What a receive answers, from what its tests found.
-use Rattle.std.proofs.Common.{◌≡◌, ℕ, ◌+◌, ◌<◌, ◌≤◌, ◌&&◌, length, refl, sym, ◌∙◌, ap, subst, Bool, true, false, not, nat_lt, Some, None, arith, inl, inr}
-use Rattle.std.proofs.lemmas.Bool.{lt-ltb, le-ltb}
+use Rattle.std.proofs.Common.{◌≡◌, ℕ, ◌+◌, ◌/◌, ◌<◌, ◌≤◌, ◌&&◌, length, refl, sym, ◌∙◌, ap, subst, Bool, true, false, not, nat_lt, Some, None, arith, inl, inr}
+use Rattle.std.proofs.lemmas.Bool.{lt-ltb, le-ltb, true≢false}
 use Rattle.std.proofs.lemmas.List.{length-map}
 use Rattle.rq_model.specs.declared.txn.Txn.{Txn}
 use Rattle.rq_model.specs.declared.refusal.Refusal.TheVariants as why
 use Rattle.rq_model.specs.History.{Call}
 use Rattle.rq_model.specs.History.Call.{Start_receive, Start_receive_from}
-use Rattle.rq_model.specs.Ledger.{found}
+use Rattle.rq_model.specs.Ledger.{found, runs}
 use Rattle.rq_model.specs.Tests.{Passes, NoneHolds, below, any_gives, gives, free_to_receive, log_full, ready_tests}
 use Rattle.rq_model.specs.Replay.Reply.{Gave_sub, Gave_none, Gave_refusal}
 use Rattle.rq_page.specs.declared.cell.Cell.{Cell}
@@ -19,24 +19,29 @@ use Rattle.rq_views.specs.Legal.{view}
 use Rattle.rq_views.specs.Items.{items, layout_of}
 use Rattle.rq_views.specs.Stored.{slots_in}
 use Rattle.rq_views.proofs.Laws.{shows_here}
-use Rattle.rq_txn.specs.Rows.{Row, found_row, any_under, change_row, row_started}
+use Rattle.rq_txn.specs.Rows.{Row, found_row, any_under, change_row, latched_in, row_started}
 use Rattle.rq_groups.specs.Ends.{is_free_for, with_held}
 use Rattle.rq_groups.specs.Waiting.{waits}
-use Rattle.rq_store.specs.State.{State, ledger_of, size_of}
+use Rattle.rq_store.specs.State.{State, ledger_of, phase_of, size_of}
 use Rattle.rq_sound.specs.Sound.{IsSound}
 use Rattle.rq_store.specs.Fitting.{left_by}
-use Rattle.rq_store.specs.Plans.{IsTakePlan, NoneWaits}
+use Rattle.rq_store.specs.Plans.{IsTakePlan, NoneWaits, WaitsFor}
 use Rattle.rq_sound.specs.Steps.{Steps}
 use Rattle.rq_sound.proofs.FreeEnds.{free_to_take}
-use Rattle.rq_engine.proofs.Standing.{refused_steps, shown, take_steps, take_from_steps, gives_one, gives_none, some_gives, none_gives, none_steps, none_from_steps}
+use Rattle.rq_sound.specs.Groups.{slots_now}
+use Rattle.rq_sound.specs.Latching.{behind_head}
+use Rattle.rq_sound.specs.Plans.{AreUnlatched}
+use Rattle.rq_sound.proofs.Contracts.{shows}
+use Rattle.rq_engine.proofs.Latches.{any_busy}
+use Rattle.rq_engine.proofs.Standing.{refused_steps, take_steps, take_from_steps, gives_one, gives_none, some_gives, none_gives, none_steps, none_from_steps}
 use Rattle.rq_store.proofs.TakePlans.{head_stands, next_stands}
 use Rattle.rq_sound.proofs.Groups.{waits_in_chain}
 use Rattle.rq_chain.specs.declared.ChainPlan.{ChainPlan as Plan}
 use Rattle.rq_engine.specs.Answers.{Refuses, HasNothingUnderWay}
 use Rattle.rq_model.specs.Causes.{HasCause}
 use Rattle.rq_engine.specs.Receives.{IsTakeCall}
-use Rattle.rq_engine.specs.Sends.{under_plan}
-use Rattle.rq_engine.proofs.Refusals.{refuse, found_of}
+use Rattle.rq_engine.specs.Sends.{under_plan, take_latched}
+use Rattle.rq_engine.proofs.Refusals.{refuse, found_of, no_memory}
 use Rattle.rq_engine.proofs.SendCalls.{ready_row}
 
 -- a transaction that is not ready is refused so
@@ -50,6 +55,19 @@ module _ (s : State) (t : Txn) (h : NoneHolds (ready_tests (ledger_of s) t false
   none_done none k =
       let g = none_gives s k t own_row.0 own_row.1 none in
       none_steps s k t own_row.0 own_row.1 own_row.2 none (h.0, (h.1.0, (h.1.1.0, (h.1.1.1.0, (ap (λ b. b && log_full (ledger_of s) 4) g, tt)))))
+
+  running : s.failed ≡ false
+  running = phase s.failed h.0 where
+    phase : (b : Bool) → not (runs (phase_of b)) ≡ false → b ≡ false
+    phase true e = absurd (true≢false e)
+    phase false e = refl
+
+  -- a start may be refused for want of memory
+  pub take_memory : (e : ℕ) (call : Call) → IsTakeCall t e call → Refuses s call why.NoMemory
+  take_memory e call is k = elim is [
+    | inl x ↦ subst (λ (y : Call). Steps s y (Gave_refusal why.NoMemory) s × HasCause (any_under s.rows) y why.NoMemory) (sym x) (no_memory s (Start_receive t) refl running k)
+    | inr x ↦ subst (λ (y : Call). Steps s y (Gave_refusal why.NoMemory) s × HasCause (any_under s.rows) y why.NoMemory) (sym x) (no_memory s (Start_receive_from t e) refl running k)
+  ]
 
   module _ (e : ℕ) where
     pub unknown_sender : sender_count s.sizes ≤ e → Refuses s (Start_receive_from t e) why.UnknownSender
@@ -98,30 +116,31 @@ module _ (s : State) (t : Txn) (h : NoneHolds (ready_tests (ledger_of s) t false
             and_none true b e = e
             and_none false b e = refl
 
-        pub latched : any_under s.rows ≡ true → (call : Call) → IsTakeCall t e call → Refuses s call why.Latched
-        latched u call is k = elim is [
-          | inl x ↦ subst (λ (y : Call). Steps s y (Gave_refusal why.Latched) s × HasCause (any_under s.rows) y why.Latched) (sym x) (refused_steps s k (Start_receive t) why.Latched (passes k, some k) refl, u)
-          | inr x ↦ subst (λ (y : Call). Steps s y (Gave_refusal why.Latched) s × HasCause (any_under s.rows) y why.Latched) (sym x) (refused_steps s k (Start_receive_from t e) why.Latched (passes_from k, one k) refl, u)
-        ]
+        -- a receive that meets a latched page
+        pub any_refused : ((g : ℕ) → WaitsFor s t g → take_latched s g ≡ true) → Refuses s (Start_receive t) why.Latched
+        any_refused h k = (refused_steps s k (Start_receive t) why.Latched (passes k, some k) refl, any_busy s.rows (behind_head (slots_now s) e) (h e (m, free, wait)))
+
+        pub from_refused : take_latched s e ≡ true → Refuses s (Start_receive_from t e) why.Latched
+        from_refused h k = (refused_steps s k (Start_receive_from t e) why.Latched (passes_from k, one k) refl, any_busy s.rows (behind_head (slots_now s) e) h)
 
         -- a receive that has started
-        pub take_done : (new : State) (n : ℕ) (plan : Plan) → HasNothingUnderWay s t n → any_under s.rows ≡ false → IsTakePlan s.sizes (slots_in s.sizes s.images) (under_plan n plan) e
+        pub take_done : (new : State) (n : ℕ) (plan : Plan) → HasNothingUnderWay s t n → AreUnlatched s plan.writes.items → IsTakePlan s.sizes (slots_in s.sizes s.images) (under_plan n plan) e
             → new ≡ record s { rows = change_row t (row_started (under_plan n plan)) s.rows; ends = record { sending = s.ends.sending; receiving = with_held t e s.ends.receiving } }
             → (call : Call) → IsTakeCall t e call → IsSound s → Steps s call (Gave_sub t n) new
-        take_done new n plan ready idle planned is call c k =
+        take_done new n plan ready off planned is call c k =
             let r = found_of (λ r. (r.under ≡ None) × (n ≡ r.number + 1)) (found_row t s.rows) ready in
             subst (λ (x : State). Steps s call (Gave_sub t n) x) (sym is) (elim c [
-              | inl x ↦ subst (λ (y : Call). Steps s y (Gave_sub t n) after) (sym x) (subst (λ (m : ℕ). Steps s (Start_receive t) (Gave_sub t m) after) (sym r.2.1) (take_steps s k t r.0 (under_plan n plan) e r.1 idle r.2.1 planned wait (passes_from k)))
-              | inr x ↦ subst (λ (y : Call). Steps s y (Gave_sub t n) after) (sym x) (subst (λ (m : ℕ). Steps s (Start_receive_from t e) (Gave_sub t m) after) (sym r.2.1) (take_from_steps s k t r.0 (under_plan n plan) e r.1 idle r.2.1 planned wait (passes_from k)))
+              | inl x ↦ subst (λ (y : Call). Steps s y (Gave_sub t n) after) (sym x) (subst (λ (m : ℕ). Steps s (Start_receive t) (Gave_sub t m) after) (sym r.2.1) (take_steps s k t r.0 (under_plan n plan) e r.1 r.2.0 off r.2.1 planned wait (passes_from k)))
+              | inr x ↦ subst (λ (y : Call). Steps s y (Gave_sub t n) after) (sym x) (subst (λ (m : ℕ). Steps s (Start_receive_from t e) (Gave_sub t m) after) (sym r.2.1) (take_from_steps s k t r.0 (under_plan n plan) e r.1 r.2.0 off r.2.1 planned wait (passes_from k)))
             ])
           where
             after : State
             after = record s { rows = change_row t (row_started (under_plan n plan)) s.rows; ends = record { sending = s.ends.sending; receiving = with_held t e s.ends.receiving } }
 
 -- what a sound store shows of a sender of which a message waits
-module _ (s : State) (k : IsSound s) (idle : any_under s.rows ≡ false) (e : ℕ) (d : Directory) (m : e < sender_count s.sizes) (at : slots_in s.sizes s.images (directory_at e) ≡ Sender e d) (wait : 1 ≤ waits s.waiting e) where
+module _ (s : State) (k : IsSound s) (e : ℕ) (d : Directory) (m : e < sender_count s.sizes) (off : latched_in s.rows (directory_at e / 16) ≡ false) (at : slots_in s.sizes s.images (directory_at e) ≡ Sender e d) (wait : 1 ≤ waits s.waiting e) where
   here : Shows (cells_of (left_by s.sizes s.records).slots) e d (view (items s.sizes s.records) e)
-  here = shows_here (layout_of s.sizes) (left_by s.sizes s.records).slots e (view (items s.sizes s.records) e) d (sym at ∙ k.pages (directory_at e)) (shown s k idle e m)
+  here = shows_here (layout_of s.sizes) (left_by s.sizes s.records).slots e (view (items s.sizes s.records) e) d (sym at ∙ k.pages (directory_at e)) (shows s k e m off)
 
   more : 0 < length (view (items s.sizes s.records) e).messages
   more = let a = waits_in_chain s k e m in omega (arith, a, wait)

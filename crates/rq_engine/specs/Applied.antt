@@ -1,6 +1,10 @@
 -- What one call makes of an open store: of its lists, of its devices, and of what a crash leaves of them.
-use Rattle.std.specs.Prelude.{◌≡◌, ◌↔◌, ℕ, true, false, Bool, slice_set}
+use Rattle.std.specs.Prelude.{◌≡◌, ◌↔◌, ℕ, true, false, Bool, Option, None, Some, Result, Ok, Err, slice_set}
+use Rattle.rq_model.specs.declared.refusal.Refusal.{Refusal}
 use Rattle.rq_model.specs.declared.refusal.Refusal.TheVariants as why
+use Rattle.rq_model.specs.declared.txn.Sub.{Sub}
+use Rattle.rq_model.specs.History.{Call}
+use Rattle.rq_model.specs.History.Call.{Start_receive, Start_receive_from}
 use Rattle.rq_disk.specs.declared.device.LogDevice as log_device
 use Rattle.rq_disk.specs.declared.device.PageDevice as page_device
 use Rattle.rq_log.specs.Crash.{LeavesOnly}
@@ -8,6 +12,8 @@ use Rattle.rq_log.specs.Spelled.{IsBeginning}
 use Rattle.rq_page.specs.Pages.{lsn_of}
 use Rattle.rq_pool.specs.Pooled.{image_at}
 use Rattle.rq_pool.specs.Writing.{changed_after}
+use Rattle.rq_store.specs.State.{State}
+use Rattle.rq_sound.specs.Latching.{IsLatched}
 use Rattle.rq_sound.specs.Sound.{IsSound}
 use Rattle.rq_sound.specs.Steps.{Steps}
 use Rattle.rq_engine.specs.declared.event.Event.{Event}
@@ -16,7 +22,6 @@ use Rattle.rq_engine.specs.declared.event.Progress.{Progress}
 use Rattle.rq_engine.specs.declared.event.Progress.TheVariants as progress
 use Rattle.rq_engine.specs.declared.event.Reply.{Reply}
 use Rattle.rq_engine.specs.declared.event.Reply.TheVariants as reply
-use Rattle.rq_views.specs.Stored.{slots_in}
 use Rattle.rq_engine.specs.Answers.{IsUnderWay}
 use Rattle.rq_engine.specs.Lists.{ListsSay}
 use Rattle.rq_engine.specs.Sends.{TakesLowest}
@@ -55,18 +60,47 @@ ChangesSay old (event.Step sub) r new = SteppedSay old r new
 ChangesSay old (event.WritePage page) r new = new.changed ≡ changed_after old.changed page (written_by r)
 ChangesSay old _ r new = new.changed ≡ old.changed
 
--- the operation that a send started is under way, and takes the lowest free cell
+-- the operation that a send started is under way, and takes the lowest free cell on a page that nobody has latched
 abbrev pub StartSays : {P L : Type 0} → OpenStore P L → Event → Reply → OpenStore P L → Type 0
 StartSays old (event.StartSend txn sender tag body) (reply.Started sub) new =
-    IsUnderWay new.state sub (λ r u. TakesLowest old.state.sizes (slots_in old.state.sizes old.state.images) u.writes)
+    IsUnderWay new.state sub (λ r u. TakesLowest old.state u.writes)
 StartSays old _ _ new = Unit {0}
+
+-- a refusal as latched has this cause
+abbrev pub OnLatched : Type 0 → Refusal → Type 0
+OnLatched P why.Latched = P
+OnLatched P _ = Unit {0}
+
+-- the start is refused as latched where it is, and what it starts is not
+abbrev pub LatchedReply : State → Call → Reply → Type 0
+LatchedReply s c (reply.Refused r) = OnLatched (IsLatched s c) r
+LatchedReply s c (reply.Started sub) = IsLatched s c → ⊥
+LatchedReply s c _ = Unit {0}
+
+abbrev pub StartsUnlatched : {X : Type 0} → State → Call → Result X Refusal → Type 0
+StartsUnlatched s c (Ok x) = IsLatched s c → ⊥
+StartsUnlatched s c (Err r) = OnLatched (IsLatched s c) r
+
+abbrev pub TakesUnlatched : State → Call → Result (Option Sub) Refusal → Type 0
+TakesUnlatched s c (Ok None) = Unit {0}
+TakesUnlatched s c (Ok (Some sub)) = IsLatched s c → ⊥
+TakesUnlatched s c (Err r) = OnLatched (IsLatched s c) r
+
+-- a start is refused as latched exactly where whatever it may start needs a page that another has latched
+abbrev pub LatchedSay : State → Event → Reply → Type 0
+LatchedSay s (event.StartSend txn sender tag body) r = LatchedReply s (call_of (event.StartSend txn sender tag body)) r
+LatchedSay s (event.StartReceive txn) r = LatchedReply s (Start_receive txn) r
+LatchedSay s (event.StartReceiveFrom txn sender) r = LatchedReply s (Start_receive_from txn sender) r
+LatchedSay s _ r = Unit {0}
 
 -- The call was made, and answered so.
 pub record Applied {P L : Type 0} (p : page_device.Ghosts P) (l : log_device.Ghosts L) (old : OpenStore P L)
     (e : Event) (r : Reply) (new : OpenStore P L) : Type 0 where
-  -- of a sound store over honest devices: the entry that event and reply say may come next, and a refusal has its cause
+  -- of a sound store over honest devices: the entry that event and reply say may come next, a refusal has its cause,
+  -- and latches are judged exactly
   pub steps : AreHonest p l new → IsSound old.state → Steps old.state (call_of e) (gave r) new.state
   pub cause : AreHonest p l new → IsSound old.state → RefusedForCause old.state e r
+  pub latched : IsSound old.state → LatchedSay old.state e r
   -- of every store
   pub sizes : new.state.sizes ≡ old.state.sizes
   pub failed : (r ≡ reply.Refused why.Failed) ↔ (old.state.failed ≡ true)

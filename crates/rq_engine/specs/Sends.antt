@@ -1,19 +1,57 @@
--- A planned send as an operation that is under way, and the room that it takes.
-use Rattle.std.specs.Prelude.{◌≡◌, ℕ, ◌+◌, ◌*◌, ◌<◌, ◌≤◌, List, [], ◌∷◌, true, length}
+-- A planned operation as one that is under way, the room that it takes, and which pages are latched.
+use Rattle.std.specs.Prelude.{◌≡◌, ◌⊎◌, ℕ, ◌+◌, ◌*◌, ◌/◌, ◌<◌, ◌≤◌, ◌^◌, Bool, false, List, [], ◌∷◌, true, length}
 use Rattle.rq_model.specs.Deeds.{spelled_deed}
-use Rattle.rq_page.specs.Sizes.{Sizes, IsCellAddress}
-use Rattle.rq_page.specs.Slots.{Slot}
-use Rattle.rq_views.specs.Stored.{is_used}
+use Rattle.rq_page.specs.Sizes.{Sizes, IsCellAddress, directory_at}
+use Rattle.rq_page.specs.Slots.Slot.{Free, Sender}
+use Rattle.rq_views.specs.Log.{Slots}
 use Rattle.rq_level.specs.declared.writes.SlotWrite.{SlotWrite}
 use Rattle.rq_chain.specs.declared.ChainPlan.{ChainPlan as Plan}
+use Rattle.rq_chain.specs.Neighbours.{IsGroupOf, IsNeighbour, cell_beside}
 use Rattle.rq_level.specs.Writes.{AreSlotWrites}
 use Rattle.rq_txn.specs.declared.Aim.TheVariants.{Doing}
-use Rattle.rq_txn.specs.Rows.{Under}
+use Rattle.rq_txn.specs.Rows.{Row, Under, latched_in}
+use Rattle.rq_store.specs.Plans.{Stands_at}
+use Rattle.rq_store.specs.State.{State}
+use Rattle.rq_sound.specs.Groups.{slots_now}
+use Rattle.rq_sound.specs.Latching.{AllFreeLatched, any_latched, at_tail, behind_head, named}
+use Rattle.rq_engine.specs.declared.cells.SendSlots.{SendSlots}
 
--- the first of the writes is of the lowest free cell
-abbrev pub TakesLowest : Sizes → (ℕ → Slot) → List SlotWrite → Type 0
-TakesLowest z slots [] = ⊥
-TakesLowest z slots (w ∷ ws) = (a : ℕ) → IsCellAddress z a → a < w.at → is_used (slots a) ≡ true
+-- each free cell below this one is on a latched page
+abbrev pub AreLatchedBelow : Sizes → Slots → List Row → ℕ → Type 0
+AreLatchedBelow z slots rows a = (b : ℕ) → IsCellAddress z b → b < a → slots b ≡ Free → latched_in rows (b / 16) ≡ true
+
+-- and each free cell is
+abbrev pub AreAllLatched : Sizes → Slots → List Row → Type 0
+AreAllLatched z slots rows = (a : ℕ) → IsCellAddress z a → slots a ≡ Free → latched_in rows (a / 16) ≡ true
+
+-- the first of the writes is of the lowest free cell on a page that nobody has latched
+abbrev pub TakesLowest : State → List SlotWrite → Type 0
+TakesLowest s [] = ⊥
+TakesLowest s (w ∷ ws) = AreLatchedBelow s.sizes (slots_now s) s.rows w.at
+
+-- a send for the group needs a latched page, or a cell of which none is free on another
+abbrev pub SendIsLatched : State → ℕ → Type 0
+SendIsLatched s g = (any_latched s.rows (at_tail (slots_now s) g) ≡ true) ⊎ AllFreeLatched s
+
+-- What a send for the group is planned from, on pages that nobody has latched: its directory slot, the cell at the end of
+-- its chain, and the lowest free cell.
+pub record AreSendSlots (s : State) (g : ℕ) (x : SendSlots) : Type 0 where
+  pub group : IsGroupOf s.sizes x.group
+  pub sender : x.group.sender ≡ g
+  pub room : x.group.directory.sent ≤ 2 ^ 50
+  pub directory_is : slots_now s (directory_at g) ≡ Sender g x.group.directory
+  pub tail : IsNeighbour s.sizes x.group.directory.tail x.tail
+  pub beside : Stands_at (slots_now s) x.group.directory.tail (cell_beside x.tail)
+  pub cell : IsCellAddress s.sizes x.free
+  pub free : slots_now s x.free ≡ Free
+  pub lowest : AreLatchedBelow s.sizes (slots_now s) s.rows x.free
+  pub directory_off : latched_in s.rows (directory_at g / 16) ≡ false
+  pub tail_off : any_latched s.rows (named x.group.directory.tail) ≡ false
+  pub cell_off : latched_in s.rows (x.free / 16) ≡ false
+
+-- a receive of the group needs a latched page
+abbrev pub take_latched : State → ℕ → Bool
+take_latched s g = any_latched s.rows (behind_head (slots_now s) g)
 
 -- the operation that a plan begins as
 abbrev pub under_plan : ℕ → Plan → Under

@@ -8,7 +8,7 @@ ghost use Rattle.rq_sound.specs.Sound.{IsSound};
 ghost use Rattle.rq_sound.specs.Steps.{Steps};
 ghost use Rattle.rq_content.specs.Read.{group_of};
 ghost use Rattle.rq_engine.specs.Answers.{AnswersLegally};
-ghost use Rattle.rq_engine.specs.Applied.{Applied, ChangesSay, RefusalLeaves, StartSays};
+ghost use Rattle.rq_engine.specs.Applied.{Applied, ChangesSay, LatchedSay, RefusalLeaves, StartSays};
 ghost use Rattle.rq_engine.specs.Lists.{ListsSay};
 ghost use Rattle.rq_engine.specs.Opened.{AreHonest};
 ghost use Rattle.rq_engine.specs.Says.{RefusedForCause, IsContent, LogSays, PagesSay, WritesSay, begun_reply, call_of, gave};
@@ -76,6 +76,7 @@ impl<P: PageDevice, L: LogDevice> Engine<P, L> {
         ensures lists { ListsSay self.old.state event.now result self.new.state }
         ensures changes { ChangesSay self.old event.now result self.new }
         ensures starts { StartSays self.old event.now result self.new }
+        ensures latched { IsSound self.old.state → LatchedSay self.old.state event.now result }
         // Devices and what a crash at any moment leaves.
         ensures honest { AreHonest P.PageDevice L.LogDevice self.new → AreHonest P.PageDevice L.LogDevice self.old }
         ensures any_moment { L.honest self.new.log → LeavesOnly L.LogDevice self.old.log self.new.log

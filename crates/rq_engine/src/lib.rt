@@ -2,6 +2,7 @@
 #![tactic(auto)]
 
 mod apply;
+mod cells;
 pub mod engine;
 pub mod event;
 mod moves;

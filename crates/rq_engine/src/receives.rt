@@ -1,24 +1,25 @@
 //! Receives.
+ghost use Rattle.std.specs.Bool.{OnFalse, OnTrue};
 ghost use Rattle.std.specs.Prelude.{◌≡◌, ◌≢◌, ◌↔◌, Err, ◌⊎◌, ◌+◌, ◌<◌, ◌≤◌, IfOk, IfErr, IfSome, IfNone, None, OnOk, OnErr, ℕ, Some, true, false};
 ghost use Rattle.rq_model.specs.History.{Call};
 ghost use Rattle.rq_model.specs.History.Call.{Start_receive, Start_receive_from};
-ghost use Rattle.rq_model.specs.Tests.{NoneHolds, ready_tests};
+ghost use Rattle.rq_model.specs.Tests.{NoneHolds, log_full, ready_tests};
 ghost use Rattle.rq_page.specs.Sizes.{IsLink, sender_count};
 ghost use Rattle.rq_page.specs.Slots.{Used};
 ghost use Rattle.rq_views.specs.Log.{cell_in};
 ghost use Rattle.rq_chain.specs.Neighbours.{IsNeighbourAt};
 ghost use Rattle.rq_views.specs.Stored.{slots_in};
-ghost use Rattle.rq_txn.specs.Rows.{any_under};
-ghost use Rattle.rq_groups.specs.Ends.{is_free_for};
 ghost use Rattle.rq_groups.specs.Waiting.{waits};
 ghost use Rattle.rq_store.specs.State.{ledger_of};
+ghost use Rattle.rq_sound.specs.Plans.{AreUnlatched};
 ghost use Rattle.rq_sound.specs.Sound.{IsSound};
-ghost use Rattle.rq_store.specs.Plans.{IsTakePlan};
+ghost use Rattle.rq_store.specs.Plans.{IsTakePlan, WaitsFor};
+ghost use Rattle.rq_engine.specs.Applied.{TakesUnlatched};
 ghost use Rattle.rq_engine.specs.Opened.{LeavesDevices};
 ghost use Rattle.rq_engine.specs.Answers.{AnswersLegally, HasNothingUnderWay};
 ghost use Rattle.rq_engine.specs.Lists.{IsTakeStarted, TakeSays, TakeFromSays};
 ghost use Rattle.rq_engine.specs.Receives.{IsTakeCall, started_of};
-ghost use Rattle.rq_engine.specs.Sends.{under_plan, FitsPlan};
+ghost use Rattle.rq_engine.specs.Sends.{under_plan, FitsPlan, take_latched};
 
 use crate::engine::Engine;
 use crate::starts::{CHAIN_OPERATION, room_of};
@@ -44,18 +45,24 @@ impl<P: PageDevice, L: LogDevice> Engine<P, L> {
         ensures sub { IfOk result (λ begun. IfSome begun (λ sub. sub.txn ≡ txn)) }
         ensures lists { IfOk result (λ begun. TakeSays self.old.state txn begun self.new.state) }
         ensures none { IfOk result (λ begun. IfNone begun (self.new ≡ self.old)) }
-        ensures idle { IfOk result (λ begun. IfSome begun (λ _. any_under self.old.state.rows ≡ false)) }
+        ensures latched { IsSound self.old.state → TakesUnlatched self.old.state (Start_receive txn) result }
         ensures devices { LeavesDevices self.old self.new }
         ensures refused { OnErr result (self.new ≡ self.old) }
         ensures failed { (result ≡ Err Refusal.Failed) ↔ (self.old.state.failed ≡ true) }
     {
         let number = self.check_open(txn)?;
-        let Some(sender) = self.waiting.first_for(&self.ends, txn) else {
+        if self.waiting.first_for(&self.ends, txn).is_none() {
             return Ok(None);
-        };
-        match self.start_take(txn, number, sender) {
-            Ok(sub) => Ok(Some(sub)),
-            Err(refusal) => Err(refusal),
+        }
+        if self.is_log_full(CHAIN_OPERATION) {
+            return Err(Refusal::LogFull);
+        }
+        match self.plan_any_take(txn)? {
+            None => Err(Refusal::Latched),
+            Some((sender, plan, room)) => match self.start_take(txn, number, sender, plan, room) {
+                Ok(sub) => Ok(Some(sub)),
+                Err(refusal) => Err(refusal),
+            },
         }
     }
 
@@ -72,7 +79,8 @@ impl<P: PageDevice, L: LogDevice> Engine<P, L> {
         ensures sub { IfOk result (λ begun. IfSome begun (λ sub. sub.txn ≡ txn)) }
         ensures lists { IfOk result (λ begun. TakeFromSays self.old.state txn sender begun self.new.state) }
         ensures none { IfOk result (λ begun. IfNone begun (self.new ≡ self.old)) }
-        ensures idle { IfOk result (λ begun. IfSome begun (λ _. any_under self.old.state.rows ≡ false)) }
+        ensures latched { IsSound self.old.state
+            → TakesUnlatched self.old.state (Start_receive_from txn sender) result }
         ensures devices { LeavesDevices self.old self.new }
         ensures refused { OnErr result (self.new ≡ self.old) }
         ensures failed { (result ≡ Err Refusal.Failed) ↔ (self.old.state.failed ≡ true) }
@@ -87,74 +95,149 @@ impl<P: PageDevice, L: LogDevice> Engine<P, L> {
         if self.waiting.count(sender) == 0 {
             return Ok(None);
         }
-        match self.start_take(txn, number, sender) {
-            Ok(sub) => Ok(Some(sub)),
-            Err(refusal) => Err(refusal),
+        if self.is_log_full(CHAIN_OPERATION) {
+            return Err(Refusal::LogFull);
+        }
+        match self.plan_take(sender)? {
+            None => Err(Refusal::Latched),
+            Some((plan, room)) => match self.start_take(txn, number, sender, plan, room) {
+                Ok(sub) => Ok(Some(sub)),
+                Err(refusal) => Err(refusal),
+            },
         }
     }
 
-    // Starts a receive from a group that holds a message for the transaction.
-    fn start_take(&mut self, txn: Txn, number: u64, sender: u32) -> Result<Sub, Refusal>
-        // What the caller has tested.
+    // Starts a receive that was planned from a group that holds a message for the transaction.
+    fn start_take(
+        &mut self,
+        txn: Txn,
+        number: u64,
+        sender: u32,
+        plan: ChainPlan,
+        room: usize,
+    ) -> Result<Sub, Refusal>
+        // What the caller has tested, and planned.
         requires ready { HasNothingUnderWay self.old.state txn number }
         requires passes { NoneHolds (ready_tests (ledger_of self.old.state) txn false) }
-        requires sender { sender < sender_count self.old.state.sizes }
-        requires free { is_free_for txn sender self.old.state.ends.receiving ≡ true }
-        requires waits { 1 ≤ waits self.old.state.waiting sender }
+        requires waits { WaitsFor self.old.state txn sender }
+        requires log { log_full (ledger_of self.old.state) 4 ≡ false }
+        requires plan { IsTakePlan self.old.state.sizes (slots_in self.old.state.sizes self.old.state.images)
+            (under_plan number plan) sender }
+        requires unlatched { AreUnlatched self.old.state plan.writes.items }
+        requires fits { FitsPlan self.old.state.sizes plan room }
         // What it answers and starts.
         ensures answered { (call : Call) → IsTakeCall txn sender call
             → AnswersLegally P.PageDevice L.LogDevice self.old call (λ sub. started_of (Some sub)) result self.new }
         ensures sizes { self.new.state.sizes ≡ self.old.state.sizes }
         ensures sub { IfOk result (λ sub. sub.txn ≡ txn) }
         ensures lists { IfOk result (λ sub. IsTakeStarted self.old.state txn sender sub self.new.state) }
-        ensures idle { OnOk result (any_under self.old.state.rows ≡ false) }
         // What stays.
         ensures devices { LeavesDevices self.old self.new }
         ensures refused { OnErr result (self.new ≡ self.old) }
-        ensures plain { IfErr result (λ r. r ≢ Refusal.Failed) }
+        ensures plain { IfErr result (λ r. r ≡ Refusal.NoMemory) }
     {
-        if self.is_log_full(CHAIN_OPERATION) {
-            return Err(Refusal::LogFull);
+        match self.start(txn, number, End::Receiving(sender), plan, room) {
+            Ok(()) => Ok(Sub { txn, number }),
+            Err(refusal) => Err(refusal),
         }
-        if self.transactions.any_under_way() {
-            return Err(Refusal::Latched);
-        }
-        let (plan, room) = self.plan_take(sender)?;
-        self.start(txn, number, End::Receiving(sender), plan, room)?;
-        Ok(Sub { txn, number })
     }
 
-    // The plan of a receive, from the slots as they are, and how many bytes its records take in the log.
-    fn plan_take(&self, sender: u32) -> Result<(ChainPlan, usize), Refusal>
+    // How many senders the store has.
+    fn senders(&self) -> u32
+        ensures { result ≡ sender_count self.now.state.sizes }
+    {
+        self.pages.layout().senders()
+    }
+
+    // Whether a message of the sender waits that the transaction may take.
+    fn waits_for(&self, txn: Txn, sender: u32) -> bool
         requires { sender < sender_count self.now.state.sizes }
-        ensures plan { IfOk result (λ planned. (number : ℕ)
+        ensures some { OnTrue result (WaitsFor self.now.state txn sender) }
+        ensures none { OnFalse result (WaitsFor self.now.state txn sender → ⊥) }
+    {
+        if self.waiting.count(sender) == 0 {
+            return false;
+        }
+        self.ends.may_receive(txn, sender)
+    }
+
+    // A sender of which a message waits for the transaction, with the plan of its receive, and how many bytes its
+    // records take in the log; none where others have latched a page that is needed, whatever the sender.
+    fn plan_any_take(&self, txn: Txn) -> Result<Option<(u32, ChainPlan, usize)>, Refusal>
+        ensures waits { IfOk result (λ found. IfSome found (λ planned. WaitsFor self.now.state txn planned.0)) }
+        ensures plan { IfOk result (λ found. IfSome found (λ planned. (number : ℕ)
             → IsTakePlan self.now.state.sizes (slots_in self.now.state.sizes self.now.state.images)
-            (under_plan number planned.0) sender) }
+            (under_plan number planned.1) planned.0)) }
+        ensures fits { IfOk result (λ found. IfSome found (λ planned. FitsPlan self.now.state.sizes planned.1 planned.2)) }
+        ensures free { IfOk result (λ found. IfSome found
+            (λ planned. AreUnlatched self.now.state planned.1.writes.items)) }
+        ensures unlatched { IfOk result (λ found. IfSome found
+            (λ planned. take_latched self.now.state planned.0 ≡ false)) }
+        ensures latched { IfOk result (λ found. IfNone found ((g : ℕ) → WaitsFor self.now.state txn g
+            → take_latched self.now.state g ≡ true)) }
         ensures plain { IfErr result (λ r. r ≢ Refusal.Failed) }
-        ensures fits { IfOk result (λ planned. FitsPlan self.now.state.sizes planned.0 planned.1) }
+        ensures refused { IsSound self.now.state → IfErr result (λ r. r ≡ Refusal.NoMemory) }
+    {
+        for sender in 0..self.senders() {
+            if !self.waits_for(txn, sender) {
+                continue;
+            }
+            if let Some((plan, room)) = self.plan_take(sender)? {
+                return Ok(Some((sender, plan, room)));
+            }
+        }
+        Ok(None)
+    }
+
+    // The plan of a receive, from the slots as they are, and how many bytes its records take in the log; none where it
+    // needs a page that others have latched.
+    fn plan_take(&self, sender: u32) -> Result<Option<(ChainPlan, usize)>, Refusal>
+        requires { sender < sender_count self.now.state.sizes }
+        // The plan.
+        ensures plan { IfOk result (λ found. IfSome found (λ planned. (number : ℕ)
+            → IsTakePlan self.now.state.sizes (slots_in self.now.state.sizes self.now.state.images)
+            (under_plan number planned.0) sender)) }
+        ensures fits { IfOk result (λ found. IfSome found (λ planned. FitsPlan self.now.state.sizes planned.0 planned.1)) }
+        // Latches, exactly.
+        ensures free { IfOk result (λ found. IfSome found
+            (λ planned. AreUnlatched self.now.state planned.0.writes.items)) }
+        ensures unlatched { IfOk result (λ found. IfSome found (λ _. take_latched self.now.state sender ≡ false)) }
+        ensures latched { IfOk result (λ found. IfNone found (take_latched self.now.state sender ≡ true)) }
+        // Why there is none otherwise.
+        ensures plain { IfErr result (λ r. r ≢ Refusal.Failed) }
         ensures refused { IsSound self.now.state → 1 ≤ waits self.now.state.waiting sender
-            → any_under self.now.state.rows ≡ false → IfErr result (λ r. r ≡ Refusal.NoMemory) }
+            → IfErr result (λ r. r ≡ Refusal.NoMemory) }
     {
         let layout = self.pages.layout();
+        let at = layout.directory_of(sender);
+        if self.transactions.has_latched(at.page()) {
+            return Ok(None);
+        }
         let directory = self.pages.group(sender);
-        let damaged = Refusal::Damaged(Damage::Page(layout.directory_of(sender).page() as u32));
+        let damaged = Refusal::Damaged(Damage::Page(at.page() as u32));
         if directory.received >= directory.sent {
             return Err(damaged);
+        }
+        if self.is_latched(directory.head) {
+            return Ok(None);
         }
         let Some(head) = self.cell_at(directory.head) else {
             return Err(damaged);
         };
+        if self.is_latched(following(&head)) {
+            return Ok(None);
+        }
         let Some(next) = self.neighbour(following(&head)) else {
             return Err(damaged);
         };
         let group = Group {
-            at: layout.directory_of(sender),
+            at,
             sender,
             directory,
         };
         let plan = unlink_head(self.alloc, &layout, &group, &head, next)?;
         let room = room_of(&plan);
-        Ok((plan, room))
+        Ok(Some((plan, room)))
     }
 
     // The cell that a link names. Not there where it names none, or one that is free.

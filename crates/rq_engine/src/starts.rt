@@ -10,6 +10,7 @@ ghost use Rattle.rq_txn.specs.Rows.{change_row, row_started};
 ghost use Rattle.rq_groups.specs.Sides.{with_end};
 ghost use Rattle.rq_chain.specs.Neighbours.{IsNeighbour, cell_beside};
 ghost use Rattle.rq_store.specs.State.{ledger_of};
+ghost use Rattle.rq_sound.specs.Latching.{any_latched, named};
 ghost use Rattle.rq_store.specs.Plans.{Stands_at};
 ghost use Rattle.rq_engine.specs.Opened.{LeavesDevices};
 ghost use Rattle.rq_engine.specs.Answers.{HasNothingUnderWay};
@@ -57,6 +58,16 @@ impl<P: PageDevice, L: LogDevice> Engine<P, L> {
             Some(cell) => Some(Some(Neighbour { at, cell })),
             None => None,
         }
+    }
+
+    // Whether others have latched the page of the slot that a link names: not where it names none.
+    pub(crate) fn is_latched(&self, at: Addr) -> bool
+        ensures { result ≡ any_latched self.now.state.rows (named at) }
+    {
+        if at.is_none() {
+            return false;
+        }
+        self.transactions.has_latched(at.page())
     }
 
     // Takes the room of an operation, and then lets it begin.

@@ -307,8 +307,8 @@ impl<P: PageDevice> Pages<P> {
         used
     }
 
-    // Whether a cell is used, as the first byte of its slot tells.
-    fn is_used(&self, at: Addr) -> bool
+    /// Whether a cell is used, as the first byte of its slot tells.
+    pub fn is_used(&self, at: Addr) -> bool
         requires { IsCellAddress self.now.sizes at }
         ensures used { result ≡ is_used (slots_in self.now.sizes self.now.images at) }
         ensures free { OnFalse result (slots_in self.now.sizes self.now.images at ≡ Free) }

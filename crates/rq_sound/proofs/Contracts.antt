@@ -27,11 +27,11 @@ use Rattle.rq_store.proofs.Grouping.{groups_of}
 use Rattle.rq_store.proofs.Opening as opening
 use Rattle.rq_store.proofs.Starting.{held_now}
 use Rattle.rq_txn.specs.declared.Aim.{Aim}
-use Rattle.rq_txn.specs.Rows.{Under, Row, deed_of, found_row, change_row, row_undone}
+use Rattle.rq_txn.specs.Rows.{Under, Row, deed_of, found_row, change_row, row_undone, latched_in}
 use Rattle.rq_store.specs.State.{State, ledger_of}
 use Rattle.rq_store.proofs.RowLists.{found_in}
 use Rattle.rq_txn.specs.declared.Aim.TheVariants as aims
-use Rattle.rq_sound.specs.Rows.{turn_of, comp_end, latched_in}
+use Rattle.rq_sound.specs.Rows.{turn_of, comp_end}
 use Rattle.rq_sound.specs.Standing.{IsAimOf, IsAsPlanned, TellsFor, ReadsFor}
 use Rattle.rq_sound.specs.Counted.{CoversAim, appends_aim}
 use Rattle.rq_sound.specs.Sound.{IsSound}

@@ -11,8 +11,7 @@ use Rattle.rq_level.specs.declared.writes.SlotWrite.{SlotWrite}
 use Rattle.std.proofs.lemmas.Option.{same_Some}
 use Rattle.rq_groups.specs.Waiting.{waits}
 use Rattle.rq_store.proofs.Spelling.{AreSpelt, items_back}
-use Rattle.rq_txn.specs.Rows.{row_aborting, fresh_row}
-use Rattle.rq_sound.specs.Rows.{latched_by}
+use Rattle.rq_txn.specs.Rows.{row_aborting, fresh_row, latched_by}
 use Rattle.rq_sound.specs.Counted.{sends_in}
 use Rattle.rq_sound.specs.Sound.{IsSound}
 use Rattle.rq_sound.specs.Starts.{MayUndo}

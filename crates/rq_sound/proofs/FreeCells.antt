@@ -30,10 +30,10 @@ use Rattle.rq_store.specs.Fitting.{left_by}
 use Rattle.rq_store.specs.Whole.{IsWhole}
 use Rattle.rq_store.proofs.Grouping.{groups_of}
 use Rattle.rq_txn.specs.declared.Aim.{Aim}
-use Rattle.rq_txn.specs.Rows.{Under, Row, found_row}
+use Rattle.rq_txn.specs.Rows.{Under, Row, found_row, latched_by, latched_under, latched_in}
 use Rattle.rq_txn.specs.declared.Aim.TheVariants.{Doing, Undoing}
 use Rattle.rq_store.proofs.RowLists.{found_in}
-use Rattle.rq_sound.specs.Rows.{turn_of, latched_by, latched_under, latched_in}
+use Rattle.rq_sound.specs.Rows.{turn_of}
 use Rattle.rq_sound.specs.Standing.{IsAsPlanned, IsAimOf, AreStanding}
 use Rattle.rq_sound.specs.Counted.{AreCounted, appends_aim, appending, appending_in, takes_all, uses_before, uses_after, made_of, before_in, after_in}
 use Rattle.rq_sound.proofs.UsedCells.{made_within, some_free}

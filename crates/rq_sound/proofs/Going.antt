@@ -23,7 +23,7 @@ use Rattle.rq_views.specs.Owed.{Owes}
 use Rattle.rq_level.specs.Writes.{write_of, writes_of}
 use Rattle.rq_level.specs.declared.writes.SlotWrite.{SlotWrite}
 use Rattle.rq_views.proofs.Overlay.{Good, same_self as same_op_self}
-use Rattle.rq_txn.specs.Rows.{Under, deed_of}
+use Rattle.rq_txn.specs.Rows.{Under, deed_of, latched_by}
 use Rattle.rq_sound.proofs.Latched.{slots_are_quiet, IsFor, shown_unlatched}
 use Rattle.rq_views.proofs.Stands.{store_is_layout}
 use Rattle.rq_views.proofs.Idle.{idle_writes, idle_stands, unbegun_writes, unbegun_stands, unbegun_over, unbegun_forward, unbegun_uncrossed}
@@ -32,7 +32,7 @@ use Rattle.rq_views.proofs.Owes.{owes_start, owes_rest, owes_other}
 use Rattle.rq_groups.specs.Ends.{HeldEnds}
 use Rattle.rq_store.specs.Fitting.{left_by}
 use Rattle.rq_store.specs.Rows.{HoldsFor}
-use Rattle.rq_sound.specs.Rows.{comp_end, turn_of, latched_by}
+use Rattle.rq_sound.specs.Rows.{comp_end, turn_of}
 use Rattle.rq_sound.specs.Standing.{TellsFor, ReadsFor, FollowsPlan}
 use Rattle.rq_store.specs.Steps.{page_op, op_end}
 use Rattle.rq_store.proofs.Others.{other_op}

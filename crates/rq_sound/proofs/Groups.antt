@@ -24,11 +24,10 @@ use Rattle.rq_views.proofs.Totals.{log_total}
 use Rattle.rq_groups.specs.Ends.{HeldEnds}
 use Rattle.rq_groups.specs.Waiting.{waits}
 use Rattle.rq_store.specs.Fitting.{left_by}
-use Rattle.rq_txn.specs.Rows.{Under, Row, found_row, any_under}
+use Rattle.rq_txn.specs.Rows.{Under, Row, found_row, any_under, latched_in, latched_under}
 use Rattle.rq_store.specs.Rows.{is_under}
 use Rattle.rq_store.specs.State.{State, open_of, open_ones_of}
 use Rattle.rq_store.proofs.RowLists.{found_in}
-use Rattle.rq_sound.specs.Rows.{latched_in, latched_under}
 use Rattle.rq_sound.specs.Counted.{takes_in}
 use Rattle.rq_sound.specs.Sound.{IsSound}
 use Rattle.rq_sound.specs.Groups.{slots_now, TellsGroup, SlotsTellGroups}

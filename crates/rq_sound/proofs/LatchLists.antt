@@ -6,9 +6,8 @@ use Rattle.rq_page.specs.Sizes.{Sizes, IsCellAddress}
 use Rattle.rq_views.specs.InStore.{IsInPlace, WritesStand}
 use Rattle.rq_views.specs.Log.{Slots, Write, HasBefores}
 use Rattle.rq_views.specs.Plans.{LinksTo, relinked}
-use Rattle.rq_txn.specs.Rows.{Row}
+use Rattle.rq_txn.specs.Rows.{Row, latched_in}
 use Rattle.rq_store.specs.State.{State}
-use Rattle.rq_sound.specs.Rows.{latched_in}
 use Rattle.rq_sound.specs.Plans.{AreOff}
 use Rattle.rq_sound.specs.Latching.{any_latched, named}
 

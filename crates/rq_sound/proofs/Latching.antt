@@ -36,9 +36,8 @@ use Rattle.rq_store.specs.State.{size_of, op_done, State, ledger_of, open_of, jo
 use Rattle.rq_store.proofs.Grouping.{groups_of}
 use Rattle.rq_store.proofs.SendPlans.{is_append, append_fits}
 use Rattle.rq_store.proofs.TakePlans.{is_unlink_head, unlink_head_fits}
-use Rattle.rq_txn.specs.Rows.{Under, Row, found_row}
+use Rattle.rq_txn.specs.Rows.{Under, Row, found_row, latched_in}
 use Rattle.rq_store.proofs.RowLists.{found_in}
-use Rattle.rq_sound.specs.Rows.{latched_in}
 use Rattle.rq_sound.specs.Sound.{IsSound}
 use Rattle.rq_sound.specs.Calls.{IsIdle}
 use Rattle.rq_sound.specs.Groups.{StandsAt, slots_now}

@@ -22,9 +22,8 @@ use Rattle.rq_level.specs.Kept.{Kept, IsLowest, NoneToTake, SomeFree, flag_at}
 use Rattle.rq_level.specs.Writes.{writes_of}
 use Rattle.rq_store.specs.Fitting.{left_by}
 use Rattle.rq_store.specs.Plans.{Stands_at}
-use Rattle.rq_txn.specs.Rows.{Row, Under}
+use Rattle.rq_txn.specs.Rows.{Row, Under, latched_in, latched_under}
 use Rattle.rq_store.specs.State.{State}
-use Rattle.rq_sound.specs.Rows.{latched_in, latched_under}
 use Rattle.rq_sound.specs.Sound.{IsSound}
 use Rattle.rq_sound.specs.Groups.{slots_now}
 use Rattle.rq_sound.specs.Plans.{AreOff, AreUnlatched, IsMarking}
@@ -51,7 +50,7 @@ off_pages s (w ∷ us) h p on = elim (or_cases (nat_eq (w.at / 16) p) (has_page 
   | inr y ↦ off_pages s us h.1 p y
 ]
 
-are_off : (s : State) (us : List SlotWrite) (ws : List Write) → reverse (writes_of s.sizes us) ≡ ws → AreOff s ws → AreUnlatched s us
+pub are_off : (s : State) (us : List SlotWrite) (ws : List Write) → reverse (writes_of s.sizes us) ≡ ws → AreOff s ws → AreUnlatched s us
 are_off s us ws is h = off_pages s us (off_back s (writes_of s.sizes us) (subst (AreOff s) (sym is) h))
 
 pub relinked_off : (s : State) (at : ℕ) (o : Option Cell) (f : Cell → Cell) (ws : List Write) → ((c : Cell) → o ≡ Some c → latched_in s.rows (at / 16) ≡ false) → AreOff s ws → AreOff s (relinked at o f ws)

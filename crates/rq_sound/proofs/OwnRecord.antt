@@ -17,10 +17,9 @@ use Rattle.rq_model.specs.Incarnations.{incarnation_of}
 use Rattle.rq_views.specs.Numbers.{greatest}
 use Rattle.rq_views.proofs.Idle.{unbegun_writes}
 use Rattle.rq_level.specs.Writes.{write_of, writes_of}
-use Rattle.rq_txn.specs.Rows.{Under, Row, found_row, deed_of}
+use Rattle.rq_txn.specs.Rows.{Under, Row, found_row, deed_of, latched_by}
 use Rattle.rq_store.specs.Rows.{is_under, unmade}
 use Rattle.rq_store.proofs.RowLists.{found_in, not_txn}
-use Rattle.rq_sound.specs.Rows.{latched_by}
 use Rattle.rq_sound.specs.Standing.{FollowsPlan, IsAsPlanned, IsAimOf, IsRow, AreStanding}
 use Rattle.rq_store.proofs.Others.{other_number, own_greatest}
 use Rattle.rq_sound.proofs.Standings.{senders_differ}

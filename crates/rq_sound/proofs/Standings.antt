@@ -15,7 +15,7 @@ use Rattle.rq_views.specs.Plans.{turn_sender, deed_sender}
 use Rattle.rq_views.specs.InStore.{IsStranger}
 use Rattle.rq_level.specs.Writes.{writes_of}
 use Rattle.rq_txn.specs.declared.Aim.{Aim}
-use Rattle.rq_txn.specs.Rows.{Under, Row, deed_of, found_row, change_row, without_row}
+use Rattle.rq_txn.specs.Rows.{Under, Row, deed_of, found_row, change_row, without_row, latched_by}
 use Rattle.rq_txn.specs.declared.Aim.TheVariants.{Doing, Undoing}
 use Rattle.rq_store.proofs.RowLists.{found_in, changed, found_other, found_still, distinct_change, distinct_gone, gone, found_gone}
 use Rattle.rq_sound.proofs.Latched.{not_of}
@@ -24,7 +24,7 @@ use Rattle.rq_groups.specs.Ends.{HeldEnds, has_held, with_held, is_free_for, rel
 use Rattle.rq_store.specs.Rows.{HoldsFor}
 use Rattle.rq_store.specs.Sound.{IsSettled, AreEnds}
 use Rattle.rq_store.specs.Fitting.{left_by}
-use Rattle.rq_sound.specs.Rows.{turn_of, latched_by}
+use Rattle.rq_sound.specs.Rows.{turn_of}
 use Rattle.rq_sound.specs.Standing.{FollowsPlan, IsAsPlanned, HoldsAll, IsRow, AreApart, AreStanding}
 use Rattle.rq_store.proofs.Releases.{without_ends, held_other, held_still, for_other}
 use Rattle.rq_store.proofs.Starting.{free_alone}

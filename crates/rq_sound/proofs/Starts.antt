@@ -19,7 +19,7 @@ use Rattle.rq_views.specs.Plans.{ShowsAt, Turn, IsPlan, deed_sender, turn_sender
 use Rattle.rq_views.specs.Plans.Turn.{Did, Undid}
 use Rattle.rq_level.specs.Writes.{writes_of}
 use Rattle.rq_txn.specs.declared.Aim.{Aim}
-use Rattle.rq_txn.specs.Rows.{Under, Row, deed_of, found_row, change_row, row_started}
+use Rattle.rq_txn.specs.Rows.{Under, Row, deed_of, found_row, change_row, row_started, latched_by, latched_in}
 use Rattle.rq_store.specs.Sound.{AreEnds}
 use Rattle.rq_txn.specs.declared.Aim.TheVariants.{Doing, Undoing}
 use Rattle.rq_store.proofs.RowLists.{found_in}
@@ -31,7 +31,7 @@ use Rattle.rq_model.specs.Incarnations.{incarnation_of}
 use Rattle.rq_store.specs.Rows.{placed, placed_one, HoldsFor, is_under, unmade}
 use Rattle.rq_store.specs.Fitting.{left_by}
 use Rattle.rq_store.specs.Whole.{IsWhole}
-use Rattle.rq_sound.specs.Rows.{turn_of, latched_by, latched_in}
+use Rattle.rq_sound.specs.Rows.{turn_of}
 use Rattle.rq_sound.specs.Standing.{FollowsPlan, IsAimOf, IsRow, HoldsAll, TellsFor, ReadsFor, AreStanding}
 use Rattle.rq_sound.specs.Counted.{AreCounted, CoversAim, appends_aim}
 use Rattle.rq_sound.proofs.Going.{starts, nobody_stands, off_latched, onto_none, with_ends}

@@ -20,10 +20,9 @@ use Rattle.rq_groups.specs.Waiting.{waits}
 use Rattle.rq_store.specs.Plans.{Stands_at}
 use Rattle.rq_store.specs.Rows.{placed}
 use Rattle.rq_store.proofs.Grouping.{groups_of}
-use Rattle.rq_txn.specs.Rows.{Row}
+use Rattle.rq_txn.specs.Rows.{Row, latched_in}
 use Rattle.rq_store.specs.State.{State}
 use Rattle.rq_store.proofs.RowLists.{found_in}
-use Rattle.rq_sound.specs.Rows.{latched_in}
 use Rattle.rq_sound.specs.Sound.{IsSound}
 use Rattle.rq_sound.specs.Calls.{IsIdle}
 use Rattle.rq_sound.specs.Groups.{TellsGroup, slots_now}

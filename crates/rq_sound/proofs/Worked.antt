@@ -13,10 +13,9 @@ use Rattle.rq_txn.specs.declared.Finished.{Finished}
 use Rattle.rq_store.specs.Worked.{AreFormatted}
 use Rattle.rq_store.proofs.WorkedSound as formatted
 use Rattle.rq_txn.specs.declared.Aim.{Aim}
-use Rattle.rq_txn.specs.Rows.{Under, Row, fresh_row}
+use Rattle.rq_txn.specs.Rows.{Under, Row, fresh_row, latched_by}
 use Rattle.rq_store.specs.State.{State}
 use Rattle.rq_txn.specs.declared.Aim.TheVariants as aims
-use Rattle.rq_sound.specs.Rows.{latched_by}
 use Rattle.rq_sound.specs.Standing.{IsAsPlanned, IsAimOf}
 use Rattle.rq_sound.specs.Sound.{IsSound}
 use Rattle.rq_sound.specs.Starts.{MayDo}

@@ -23,8 +23,7 @@ use Rattle.rq_level.specs.Given.{GivenHolds, HoldsBytes, given_at}
 use Rattle.rq_store.specs.Worked.{AreFormatted}
 use Rattle.rq_store.specs.State.{size_of, State, ledger_of}
 use Rattle.rq_store.proofs.Spelling.{items_back}
-use Rattle.rq_txn.specs.Rows.{fresh_row}
-use Rattle.rq_sound.specs.Rows.{latched_in}
+use Rattle.rq_txn.specs.Rows.{fresh_row, latched_in}
 use Rattle.rq_sound.specs.Counted.{sends_in}
 use Rattle.rq_sound.specs.Sound.{IsSound}
 use Rattle.rq_sound.specs.Calls.{failed}

@@ -26,10 +26,10 @@ use Rattle.rq_store.specs.Fitting.{left_by}
 use Rattle.rq_store.specs.Steps.{page_op}
 use Rattle.rq_store.specs.Whole.{IsWhole}
 use Rattle.rq_txn.specs.declared.Aim.{Aim}
-use Rattle.rq_txn.specs.Rows.{Under, Row, found_row, change_row, row_stepped, under_stepped}
+use Rattle.rq_txn.specs.Rows.{Under, Row, found_row, change_row, row_stepped, under_stepped, latched_by}
 use Rattle.rq_store.specs.Rows.{is_under, unmade}
 use Rattle.rq_txn.specs.declared.Aim.TheVariants.{Doing, Undoing}
-use Rattle.rq_sound.specs.Rows.{turn_of, latched_by}
+use Rattle.rq_sound.specs.Rows.{turn_of}
 use Rattle.rq_sound.specs.Standing.{FollowsPlan, IsAsPlanned, IsAimOf, IsRow, AreStanding}
 use Rattle.rq_sound.specs.Counted.{AreCounted}
 use Rattle.rq_store.proofs.Stepping.{onto_whole, address_is}

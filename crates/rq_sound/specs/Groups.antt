@@ -14,8 +14,7 @@ use Rattle.rq_views.specs.Stored.{slots_in, count_used}
 use Rattle.rq_groups.specs.Ends.{is_free_for}
 use Rattle.rq_groups.specs.Waiting.{waits}
 use Rattle.rq_store.specs.State.{op_done, State}
-use Rattle.rq_txn.specs.Rows.{Row, any_under}
-use Rattle.rq_sound.specs.Rows.{latched_in}
+use Rattle.rq_txn.specs.Rows.{Row, any_under, latched_in}
 use Rattle.rq_sound.specs.Sound.{IsSound}
 use Rattle.rq_sound.specs.Calls.{IsIdle}
 

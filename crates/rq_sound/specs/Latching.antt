@@ -17,8 +17,7 @@ use Rattle.rq_views.specs.Plans.{IsPlan, Turn}
 use Rattle.rq_views.specs.Plans.Turn.{Did, Undid}
 use Rattle.rq_store.specs.Fitting.{left_by}
 use Rattle.rq_store.specs.State.{size_of, job_of, State, ledger_of}
-use Rattle.rq_txn.specs.Rows.{Row, found_row}
-use Rattle.rq_sound.specs.Rows.{latched_in}
+use Rattle.rq_txn.specs.Rows.{Row, found_row, latched_in}
 use Rattle.rq_sound.specs.Sound.{IsSound}
 use Rattle.rq_store.specs.Plans.{WaitsFor}
 use Rattle.rq_sound.specs.Groups.{slots_now}

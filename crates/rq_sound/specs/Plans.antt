@@ -22,9 +22,8 @@ use Rattle.rq_store.specs.Plans.{IsSendPlan, IsTakePlan, Stands_at}
 use Rattle.rq_store.specs.Rows.{HasWaiting}
 use Rattle.rq_store.specs.State.{size_of, job_of, State, ledger_of}
 use Rattle.rq_txn.specs.declared.Aim.{Aim}
-use Rattle.rq_txn.specs.Rows.{Under, Row}
+use Rattle.rq_txn.specs.Rows.{Under, Row, latched_in}
 use Rattle.rq_txn.specs.declared.Aim.TheVariants as aims
-use Rattle.rq_sound.specs.Rows.{latched_in}
 use Rattle.rq_sound.specs.Sound.{IsSound}
 use Rattle.rq_sound.specs.Starts.{MayDo, MayUndo}
 use Rattle.rq_sound.specs.Calls.{IsIdle}

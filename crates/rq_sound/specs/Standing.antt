@@ -22,9 +22,9 @@ use Rattle.rq_store.specs.Fitting.{left_by}
 use Rattle.rq_store.specs.Rows.{placed, HoldsFor, is_under, unmade}
 use Rattle.rq_store.specs.Sound.{AreEnds, IsSettled}
 use Rattle.rq_txn.specs.declared.Aim.{Aim}
-use Rattle.rq_txn.specs.Rows.{Under, Row, deed_of, found_row, AreDistinct}
+use Rattle.rq_txn.specs.Rows.{Under, Row, deed_of, found_row, AreDistinct, latched_by}
 use Rattle.rq_txn.specs.declared.Aim.TheVariants as aims
-use Rattle.rq_sound.specs.Rows.{turn_of, latched_by}
+use Rattle.rq_sound.specs.Rows.{turn_of}
 
 -- a deed is done over the view that it tells
 abbrev pub TellsFor : Aim → View → Type 0

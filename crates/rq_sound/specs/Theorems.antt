@@ -35,9 +35,8 @@ use Rattle.rq_store.specs.State.{size_of, op_done, job_of, State, ledger_of, ope
 use Rattle.rq_store.specs.Steps.{took, gave_done}
 use Rattle.rq_store.specs.Whole.{IsWhole}
 use Rattle.rq_txn.specs.declared.Aim.{Aim}
-use Rattle.rq_txn.specs.Rows.{Under, Row}
+use Rattle.rq_txn.specs.Rows.{Under, Row, latched_in}
 use Rattle.rq_txn.specs.declared.Aim.TheVariants as aims
-use Rattle.rq_sound.specs.Rows.{latched_in}
 use Rattle.rq_sound.specs.Counted.{takes_in}
 use Rattle.rq_sound.specs.Sound.{IsSound}
 use Rattle.rq_sound.specs.Starts.{MayDo, MayUndo, with_end}

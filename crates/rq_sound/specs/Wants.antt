@@ -12,9 +12,8 @@ use Rattle.rq_level.specs.ChainPlans.{CanSend, CanReceive, CanMark, CanUnlinkTai
 use Rattle.rq_level.specs.Given.{GivenHolds}
 use Rattle.rq_txn.specs.declared.Finished.{Finished}
 use Rattle.rq_groups.specs.Waiting.{waits}
-use Rattle.rq_txn.specs.Rows.{Row}
+use Rattle.rq_txn.specs.Rows.{Row, latched_in}
 use Rattle.rq_store.specs.State.{State}
-use Rattle.rq_sound.specs.Rows.{latched_in}
 use Rattle.rq_sound.specs.Sound.{IsSound}
 use Rattle.rq_sound.specs.Calls.{IsIdle}
 use Rattle.rq_sound.specs.Groups.{slots_now}

@@ -13,10 +13,9 @@ use Rattle.rq_groups.specs.Ends.{has_held}
 use Rattle.rq_groups.specs.Waiting.{waits}
 use Rattle.rq_store.specs.Worked.{AreFormatted}
 use Rattle.rq_txn.specs.declared.Aim.{Aim}
-use Rattle.rq_txn.specs.Rows.{Under, Row, fresh_row, row_aborting}
+use Rattle.rq_txn.specs.Rows.{Under, Row, fresh_row, row_aborting, latched_by}
 use Rattle.rq_store.specs.State.{State}
 use Rattle.rq_txn.specs.declared.Aim.TheVariants as aims
-use Rattle.rq_sound.specs.Rows.{latched_by}
 use Rattle.rq_sound.specs.Counted.{sends_in}
 use Rattle.rq_sound.specs.Sound.{IsSound}
 use Rattle.rq_sound.specs.Starts.{MayDo, MayUndo}

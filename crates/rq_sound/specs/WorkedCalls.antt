@@ -16,10 +16,9 @@ use Rattle.rq_level.specs.ChainPlans.{CanSend}
 use Rattle.rq_groups.specs.Waiting.{waits}
 use Rattle.rq_store.specs.Worked.{AreFormatted}
 use Rattle.rq_txn.specs.declared.Aim.{Aim}
-use Rattle.rq_txn.specs.Rows.{fresh_row, any_under}
+use Rattle.rq_txn.specs.Rows.{fresh_row, any_under, latched_in}
 use Rattle.rq_store.specs.State.{State, owed_by}
 use Rattle.rq_txn.specs.declared.Aim.TheVariants as aims
-use Rattle.rq_sound.specs.Rows.{latched_in}
 use Rattle.rq_store.specs.Plans.{WaitsFor, NoneWaits}
 use Rattle.rq_sound.specs.Counted.{sends_in}
 use Rattle.rq_sound.specs.Calls.{begun, failed, next_txn}

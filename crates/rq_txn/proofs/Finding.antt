@@ -10,7 +10,7 @@ use Rattle.rq_model.specs.declared.txn.Txn.{Txn}
 use Rattle.rq_model.specs.Words.{same_txn, is_some, In}
 use Rattle.rq_model.proofs.Lists.{same_is, same_self, not_same}
 use Rattle.rq_txn.specs.declared.Finished.{Finished}
-use Rattle.rq_txn.specs.Rows.{Row, Under, fresh_row, row_started, row_stepped, row_finished, found_row, change_row, change_row_one, without_row, AreDistinct, any_under}
+use Rattle.rq_txn.specs.Rows.{Row, Under, fresh_row, row_started, row_stepped, row_finished, found_row, change_row, change_row_one, without_row, AreDistinct, any_under, latched_in, latched_under}
 
 -- a change that leaves the numbers of transactions as they are
 abbrev pub KeepsTxn : (Row → Row) → Type 0
@@ -143,6 +143,15 @@ pub any_reverse : (rows : List Row) → any_under (reverse rows) ≡ any_under r
 any_reverse [] = refl
 any_reverse (x ∷ rows) =
     ap any_under (reverse-append (x ∷ []) rows) ∙ any_append (reverse rows) (x ∷ []) ∙ ap (λ b. b || any_under (x ∷ [])) (any_reverse rows) ∙ or_last (any_under rows) (is_some x.under)
+
+latched_append : (p : ℕ) (rows more : List Row) → latched_in (rows ++ more) p ≡ (latched_in rows p || latched_in more p)
+latched_append p [] more = refl
+latched_append p (x ∷ rows) more = ap (λ b. latched_under x.under p || b) (latched_append p rows more) ∙ or_after (latched_under x.under p) (latched_in rows p) (latched_in more p)
+
+pub latched_reverse : (p : ℕ) (rows : List Row) → latched_in (reverse rows) p ≡ latched_in rows p
+latched_reverse p [] = refl
+latched_reverse p (x ∷ rows) =
+    ap (λ l. latched_in l p) (reverse-append (x ∷ []) rows) ∙ latched_append p (reverse rows) (x ∷ []) ∙ ap (λ b. b || latched_in (x ∷ []) p) (latched_reverse p rows) ∙ or_last (latched_in rows p) (latched_under x.under p)
 
 -- ---- after a change
 

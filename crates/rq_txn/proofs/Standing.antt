@@ -9,8 +9,8 @@ use Rattle.rq_model.specs.declared.txn.Txn.{Txn}
 use Rattle.rq_model.specs.Words.{same_txn}
 use Rattle.rq_txn.specs.declared.Operation.{Operation}
 use Rattle.rq_txn.specs.declared.Transaction.{Transaction}
-use Rattle.rq_txn.specs.Rows.{Row, PlaceOf, row_of, under_way_of, found_row, change_row, without_row, AreDistinct, any_under}
-use Rattle.rq_txn.proofs.Finding.{KeepsTxn, found_reverse, change_reverse, without_reverse, any_reverse, change_at, change_none, change_same, distinct_change, distinct_last, distinct_reverse, distinct_without}
+use Rattle.rq_txn.specs.Rows.{Row, PlaceOf, row_of, under_way_of, found_row, change_row, without_row, AreDistinct, any_under, latched_in}
+use Rattle.rq_txn.proofs.Finding.{KeepsTxn, found_reverse, change_reverse, without_reverse, any_reverse, latched_reverse, change_at, change_none, change_same, distinct_change, distinct_last, distinct_reverse, distinct_without}
 
 pub found_seen : (t : Txn) (items : List Transaction) (rows : List Row) → reverse (map row_of items) ≡ rows → AreDistinct (map row_of items) → found_row t rows ≡ found_row t (map row_of items)
 found_seen t items rows v d = ap (found_row t) (sym v) ∙ found_reverse t (map row_of items) d
@@ -63,6 +63,9 @@ seen_length items rows v = ap length (sym v) ∙ length-reverse (map row_of item
 
 pub seen_any : (items : List Transaction) (rows : List Row) → reverse (map row_of items) ≡ rows → any_under (map row_of items) ≡ any_under rows
 seen_any items rows v = sym (any_reverse (map row_of items)) ∙ ap any_under v
+
+pub seen_latched : (p : ℕ) (items : List Transaction) (rows : List Row) → reverse (map row_of items) ≡ rows → latched_in (map row_of items) p ≡ latched_in rows p
+seen_latched p items rows v = sym (latched_reverse p (map row_of items)) ∙ ap (λ l. latched_in l p) v
 
 pub distinct_more : (b : Bool) (items left : List Transaction) (rows : List Row) (r : Transaction) → left ≡ cond b (items ++ r ∷ []) items → reverse (map row_of items) ≡ rows → AreDistinct (map row_of items) → found_row r.txn rows ≡ None → AreDistinct (map row_of left)
 distinct_more true items left rows r e v d n =

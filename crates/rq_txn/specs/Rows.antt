@@ -1,10 +1,11 @@
 -- The transactions that have not ended, the newest first.
-use Rattle.std.specs.Prelude.{◌≡◌, ℕ, ◌+◌, ◌<◌, Bool, true, false, cond, not, ◌||◌, List, [], ◌∷◌, ◌++◌, Option, Some, None, map, length, slice_index_or}
+use Rattle.std.specs.Prelude.{◌≡◌, ℕ, ◌+◌, ◌/◌, ◌<◌, Bool, true, false, cond, not, ◌||◌, List, [], ◌∷◌, ◌++◌, Option, Some, None, map, length, slice_index_or}
 use Rattle.std.specs.List.{filter}
 use Rattle.rq_model.specs.declared.txn.Txn.{Txn}
 use Rattle.rq_model.specs.declared.record.Deed.{Deed}
 use Rattle.rq_model.specs.Words.{same_txn, is_some}
 use Rattle.rq_level.specs.declared.writes.SlotWrite.{SlotWrite}
+use Rattle.rq_level.specs.Given.{has_page}
 use Rattle.rq_txn.specs.declared.Aim.{Aim}
 use Rattle.rq_txn.specs.declared.Aim.TheVariants.{Doing, Undoing}
 use Rattle.rq_txn.specs.declared.Finished.{Finished}
@@ -98,6 +99,19 @@ row_aborting r = record r { aborting = true }
 abbrev pub any_under : List Row → Bool
 any_under [] = false
 any_under (r ∷ rows) = is_some r.under || any_under rows
+
+-- the pages that an operation has latched: those of its writes
+abbrev pub latched_by : Under → ℕ → Bool
+latched_by u p = has_page p (map (λ w. w.at / 16) u.writes)
+
+abbrev pub latched_under : Option Under → ℕ → Bool
+latched_under None p = false
+latched_under (Some u) p = latched_by u p
+
+-- some operation under way has latched the page
+abbrev pub latched_in : List Row → ℕ → Bool
+latched_in [] p = false
+latched_in (r ∷ rows) p = latched_under r.under p || latched_in rows p
 
 -- where the transaction's row stands
 abbrev pub PlaceOf : List Transaction → Txn → Option ℕ → Type 0

@@ -121,7 +121,7 @@ impl Model for Transactions {
 
 impl Transactions {
     ghost use Rattle.std.specs.Prelude.{◌≡◌, ◌<◌, ◌≤◌, [], ◌∷◌, IfSome, IsSome, MatchOption, OnErr, OnOk, length, map, nat_lt, not, reverse};
-    ghost use Rattle.rq_txn.specs.Rows.{AreDistinct, any_under, change_row, finished_of, found_row, fresh_row, row_finished, row_of, row_started, row_stepped, under_of, without_row};
+    ghost use Rattle.rq_txn.specs.Rows.{AreDistinct, any_under, change_row, finished_of, found_row, fresh_row, latched_in, row_finished, row_of, row_started, row_stepped, under_of, without_row};
 
     /// No transaction.
     pub fn new(alloc: Global) -> Self
@@ -235,6 +235,13 @@ impl Transactions {
         ensures { result ≡ any_under self.now }
     {
         scans::any_under_way(&self.rows)
+    }
+
+    /// Whether some operation under way has latched the page: it is that of one of its writes, made or not.
+    pub fn has_latched(&self, page: u64) -> bool
+        ensures { result ≡ latched_in self.now page }
+    {
+        scans::any_latches(&self.rows, page)
     }
 
     /// The transactions, in the order of their begins.

@@ -7,6 +7,7 @@ returns-clause-applied g c =
     record {
       steps = told.answered;
       cause = told.cause;
+      latched = told.latched;
       sizes = told.sizes;
       failed = told.failed;
       refused = told.refused;

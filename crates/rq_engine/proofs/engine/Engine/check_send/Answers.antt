@@ -3,9 +3,8 @@ use Rattle.rq_page.specs.Sizes.{sender_count, cell_count, directory_at}
 use Rattle.rq_page.specs.Slots.Slot.{Sender}
 use Rattle.rq_views.specs.Stored.{slots_in}
 use Rattle.rq_groups.specs.Ends.{is_free_for}
-use Rattle.rq_txn.specs.Rows.{any_under}
 use Rattle.rq_store.specs.State.{State}
-use Rattle.rq_engine.proofs.SendCalls.{busy, closed, full, log_is_full, latched, passes}
+use Rattle.rq_engine.proofs.SendCalls.{busy, closed, full, log_is_full, passes}
 use Rattle.rq_engine.proofs.Opened.{state_is}
 use Rattle.rq_engine.proofs.engine.Engine.check_send.Goals as goal
 
@@ -52,19 +51,6 @@ returns-then-is_log_full-clause-refused g c h =
     let from : c.from.result ≡ c.cell_slots.result = c.from.ensures in
     let at : slots_in c.args.self.now.state.sizes c.args.self.now.state.images (directory_at c.args.sender) ≡ Sender c.args.sender c.group.result = ap (λ (s : State). slots_in s.sizes s.images (directory_at c.args.sender)) (sym (state_is c.self.view_is)) ∙ c.group.ensures.held in
     log_is_full c.args.self.now.state c.args.txn c.args.sender c.args.tag c.args.body.now h below short free c.group.result at c.if-group.false (let t = c.if-self-from.false in omega (arith, t, cells, used, from)) (sym c.if-is_log_full.ensures)
-
-pub returns-then-any_under_way-clause-refused : goal.returns-then-any_under_way-clause-refused
-returns-then-any_under_way-clause-refused g c h =
-    let n : c.senders.result ≡ sender_count c.args.self.now.state.sizes = c.senders.ensures.number ∙ ap sender_count (c.layout.ensures.sizes ∙ ap (λ (s : State). s.sizes) (state_is c.self.view_is)) in
-    let lt = c.if-sender-senders.false in
-    let below : c.args.sender < sender_count c.args.self.now.state.sizes = omega (arith, n, lt) in
-    let short : length c.args.body.now ≤ 216 = c.in-Some.ensures.fits.0 refl in
-    let free : is_free_for c.args.txn c.args.sender c.args.self.now.state.ends.sending ≡ true = ap (λ (s : State). is_free_for c.args.txn c.args.sender s.ends.sending) (sym (state_is c.self.view_is)) ∙ sym c.if-not-may_send.ensures in
-    let cells : c.cell_slots.result ≡ cell_count c.args.self.now.state.sizes = c.cell_slots.ensures.number ∙ ap cell_count (c.layout-2.ensures.sizes ∙ ap (λ (s : State). s.sizes) (state_is c.self.view_is)) in
-    let used : c.self.inside.cells_in_use ≡ c.args.self.now.state.cells_in_use = ap (λ (s : State). s.cells_in_use) (state_is c.self.view_is) in
-    let from : c.from.result ≡ c.cell_slots.result = c.from.ensures in
-    let at : slots_in c.args.self.now.state.sizes c.args.self.now.state.images (directory_at c.args.sender) ≡ Sender c.args.sender c.group.result = ap (λ (s : State). slots_in s.sizes s.images (directory_at c.args.sender)) (sym (state_is c.self.view_is)) ∙ c.group.ensures.held in
-    latched c.args.self.now.state c.args.txn c.args.sender c.args.tag c.args.body.now h below short free c.group.result at c.if-group.false (let t = c.if-self-from.false in omega (arith, t, cells, used, from)) (sym c.if-is_log_full.ensures) (ap (λ (s : State). any_under s.rows) (sym (state_is c.self.view_is)) ∙ sym c.if-any_under_way.ensures)
 
 pub returns-clause-passes : goal.returns-clause-passes
 returns-clause-passes g c k h =

@@ -1,11 +1,13 @@
-use Rattle.std.proofs.Common.{◌≡◌, sym, ap, ◌∙◌, refl, arith, inr}
+use Rattle.std.proofs.Common.{◌≡◌, ◌<◌, ◌≤◌, true, false, sym, ap, ◌∙◌, refl, arith, inr}
 use Rattle.rq_model.specs.History.Call.{Start_receive_from}
 use Rattle.rq_page.specs.Sizes.{sender_count}
 use Rattle.rq_groups.specs.Ends.{is_free_for}
 use Rattle.rq_groups.specs.Waiting.{waits}
 use Rattle.rq_store.specs.State.{State}
-use Rattle.rq_engine.proofs.TakeCalls.{receiver_busy, none_from_done}
-use Rattle.rq_engine.proofs.Opened.{state_is}
+use Rattle.rq_engine.specs.Sends.{take_latched}
+use Rattle.rq_engine.proofs.Latches.{from_latched, from_unlatched}
+use Rattle.rq_engine.proofs.TakeCalls.{from_refused, log_is_full, receiver_busy, none_from_done}
+use Rattle.rq_engine.proofs.Opened.{none_told, some_told, state_is}
 use Rattle.rq_engine.proofs.engine.Engine.start_receive_from.Goals as goal
 
 pub returns-then-not-may_receive-clause-answered : goal.returns-then-not-may_receive-clause-answered
@@ -39,3 +41,38 @@ returns-then-count-eq0-clause-lists g c =
       ap (λ (s : State). waits s.waiting c.args.sender) (sym (state_is c.self.view_is)) ∙ sym c.count.ensures ∙ c.if-count-eq0.true,
       refl,
     )
+
+pub returns-then-is_log_full-clause-answered : goal.returns-then-is_log_full-clause-answered
+returns-then-is_log_full-clause-answered g c h =
+    let s = c.args.self.now.state in
+    let n : c.senders.result ≡ sender_count s.sizes = c.senders.ensures.number ∙ ap sender_count (c.layout.ensures.sizes ∙ ap (λ (x : State). x.sizes) (state_is c.self.view_is)) in
+    let lt = c.if-sender-senders.false in
+    let below : c.args.sender < sender_count s.sizes = omega (arith, n, lt) in
+    let free : is_free_for c.args.txn c.args.sender s.ends.receiving ≡ true = ap (λ (x : State). is_free_for c.args.txn c.args.sender x.ends.receiving) (sym (state_is c.self.view_is)) ∙ sym c.if-not-may_receive.ensures in
+    let count : waits s.waiting c.args.sender ≡ c.count.result = ap (λ (x : State). waits x.waiting c.args.sender) (sym (state_is c.self.view_is)) ∙ sym c.count.ensures in
+    let some = c.if-count-eq0.false in
+    let wait : 1 ≤ waits s.waiting c.args.sender = omega (arith, count, some) in
+    log_is_full s c.args.txn c.in_ok-number.ensures.passes c.args.sender below free wait (sym c.if-is_log_full.ensures) (Start_receive_from c.args.txn c.args.sender) (inr refl)
+
+pub returns-in-None-clause-answered : goal.returns-in-None-clause-answered
+returns-in-None-clause-answered g c h =
+    let s = c.args.self.now.state in
+    let n : c.senders.result ≡ sender_count s.sizes = c.senders.ensures.number ∙ ap sender_count (c.layout.ensures.sizes ∙ ap (λ (x : State). x.sizes) (state_is c.self.view_is)) in
+    let lt = c.if-sender-senders.false in
+    let below : c.args.sender < sender_count s.sizes = omega (arith, n, lt) in
+    let free : is_free_for c.args.txn c.args.sender s.ends.receiving ≡ true = ap (λ (x : State). is_free_for c.args.txn c.args.sender x.ends.receiving) (sym (state_is c.self.view_is)) ∙ sym c.if-not-may_receive.ensures in
+    let count : waits s.waiting c.args.sender ≡ c.count.result = ap (λ (x : State). waits x.waiting c.args.sender) (sym (state_is c.self.view_is)) ∙ sym c.count.ensures in
+    let some = c.if-count-eq0.false in
+    let wait : 1 ≤ waits s.waiting c.args.sender = omega (arith, count, some) in
+    from_refused s c.args.txn c.in_ok-number.ensures.passes c.args.sender below free wait (sym c.if-is_log_full.ensures)
+    (none_told (take_latched s c.args.sender ≡ true) c.in_ok-plan_take.field-0 c.in-None.is c.in_ok-plan_take.ensures.latched)
+
+pub returns-in-None-clause-latched : goal.returns-in-None-clause-latched
+returns-in-None-clause-latched g c k =
+    let s = c.args.self.now.state in
+    from_latched s k c.args.txn c.args.sender (none_told (take_latched s c.args.sender ≡ true) c.in_ok-plan_take.field-0 c.in-None.is c.in_ok-plan_take.ensures.latched)
+
+pub returns-in-Ok-clause-latched : goal.returns-in-Ok-clause-latched
+returns-in-Ok-clause-latched g c k =
+    let s = c.args.self.now.state in
+    from_unlatched s k c.args.txn c.args.sender (some_told (λ _. take_latched s c.args.sender ≡ false) c.in_ok-plan_take.field-0 _ c.in-Some.is c.in_ok-plan_take.ensures.unlatched)

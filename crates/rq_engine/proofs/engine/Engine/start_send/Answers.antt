@@ -1,39 +1,63 @@
-use Rattle.std.proofs.Common.{◌+◌, ap, ◌∙◌, false, refl, subst, List, ℕ}
+use Rattle.std.proofs.Common.{◌≡◌, ◌+◌, ap, sym, ◌∙◌, refl, subst, List, ℕ}
 use Rattle.rq_store.specs.State.{State}
+use Rattle.rq_engine.proofs.Latches.{send_latched, send_unlatched}
 use Rattle.rq_engine.proofs.Refusals.{no_memory}
-use Rattle.rq_engine.proofs.SendCalls.{send_done, going_started}
+use Rattle.rq_engine.proofs.SendCalls.{send_done, send_refused, going_started}
 use Rattle.rq_views.specs.Stored.{slots_in}
-use Rattle.rq_engine.specs.Sends.{TakesLowest, under_plan}
+use Rattle.rq_sound.specs.Plans.{AreUnlatched}
+use Rattle.rq_engine.specs.Sends.{SendIsLatched, TakesLowest, under_plan}
 use Rattle.rq_store.specs.Plans.{IsSendPlan}
-use Rattle.rq_engine.proofs.Opened.{state_is}
+use Rattle.rq_engine.proofs.Opened.{none_told, some_told, state_is}
 use Rattle.rq_engine.proofs.engine.Engine.start_send.Goals as goal
 
 pub returns-in-Ok-clause-answered : goal.returns-in-Ok-clause-answered
 returns-in-Ok-clause-answered g c h =
-    send_done c.args.self.now.state _ c.args.txn c.in_ok-number.number c.args.sender c.args.tag c.args.body.now c.in_ok-body.body c.in_ok-plan.plan
-    c.in_ok-number.ensures.ready c.in_ok-number.ensures.passes c.in_ok-body.ensures.idle c.in_ok-body.ensures.body (c.in_ok-plan.ensures.plan c.in_ok-number.number) c.in_ok-body.ensures.free c.in_ok-body.ensures.room
+    let s = c.args.self.now.state in
+    let plan = some_told (λ p. (number : ℕ) → IsSendPlan s.sizes (slots_in s.sizes s.images) (under_plan number p.0) c.args.sender c.args.tag c.in_ok-body.body) c.in_ok-plan_send.field-0 _ c.in-Some.is c.in_ok-plan_send.ensures.plan in
+    let off = some_told (λ p. AreUnlatched s p.0.writes.items) c.in_ok-plan_send.field-0 _ c.in-Some.is c.in_ok-plan_send.ensures.free in
+    send_done s _ c.args.txn c.in_ok-number.number c.args.sender c.args.tag c.args.body.now c.in_ok-body.body c.in-Some.plan
+    c.in_ok-number.ensures.ready c.in_ok-number.ensures.passes off c.in_ok-body.ensures.body (plan c.in_ok-number.number) c.in_ok-body.ensures.free c.in_ok-body.ensures.room
     (λ k. c.in_ok-body.ensures.passes k c.in_ok-number.ensures.passes)
-    (ap (λ (s : State). record s { cells_in_use = s.cells_in_use + 1 }) ((state_is c.self.view_is) ∙ c.in-Ok.ensures.started))
+    (ap (λ (x : State). record x { cells_in_use = x.cells_in_use + 1 }) ((state_is c.self.view_is) ∙ c.in-Ok.ensures.started))
 
 pub returns-in-Err-clause-answered : goal.returns-in-Err-clause-answered
 returns-in-Err-clause-answered g c h k =
     rw (c.in-Err.ensures.refusal, c.in-Err.ensures.refused) (no_memory c.args.self.now.state _ refl c.in_ok-number.ensures.running k)
 
+pub returns-in-None-clause-answered : goal.returns-in-None-clause-answered
+returns-in-None-clause-answered g c h =
+    let s = c.args.self.now.state in
+    send_refused s c.args.txn c.args.sender c.args.tag c.args.body.now (λ k. c.in_ok-body.ensures.passes k c.in_ok-number.ensures.passes) c.in_ok-body.ensures.room
+    (none_told (SendIsLatched s c.args.sender) c.in_ok-plan_send.field-0 c.in-None.is c.in_ok-plan_send.ensures.latched)
+
+pub returns-in-None-clause-latched : goal.returns-in-None-clause-latched
+returns-in-None-clause-latched g c k =
+    let s = c.args.self.now.state in
+    send_latched s k c.args.txn c.args.sender c.args.tag c.args.body.now (none_told (SendIsLatched s c.args.sender) c.in_ok-plan_send.field-0 c.in-None.is c.in_ok-plan_send.ensures.latched)
+
+pub returns-in-Ok-clause-latched : goal.returns-in-Ok-clause-latched
+returns-in-Ok-clause-latched g c k =
+    let s = c.args.self.now.state in
+    send_unlatched s k c.args.txn c.args.sender c.args.tag c.args.body.now (some_told (λ _. SendIsLatched s c.args.sender → ⊥) c.in_ok-plan_send.field-0 _ c.in-Some.is c.in_ok-plan_send.ensures.unlatched)
+
 pub returns-in-Ok-clause-lowest : goal.returns-in-Ok-clause-lowest
 returns-in-Ok-clause-lowest g c =
-    going_started c.args.self.now.state _ c.args.txn c.in_ok-number.number c.in_ok-plan.plan
-    (λ r u. TakesLowest c.args.self.now.state.sizes (slots_in c.args.self.now.state.sizes c.args.self.now.state.images) u.writes)
-    c.in_ok-number.ensures.ready (ap (λ (s : State). s.rows) (state_is c.self.view_is ∙ c.in-Ok.ensures.started)) (λ r. c.in_ok-plan.ensures.lowest)
+    let s = c.args.self.now.state in
+    let low = some_told (λ p. TakesLowest s p.0.writes.items) c.in_ok-plan_send.field-0 _ c.in-Some.is c.in_ok-plan_send.ensures.lowest in
+    going_started s _ c.args.txn c.in_ok-number.number c.in-Some.plan
+    (λ r u. TakesLowest s u.writes)
+    c.in_ok-number.ensures.ready (ap (λ (x : State). x.rows) (state_is c.self.view_is ∙ c.in-Ok.ensures.started)) (λ r. low)
 
 pub returns-in-Ok-clause-lists : goal.returns-in-Ok-clause-lists
 returns-in-Ok-clause-lists g c =
-    let s = c.args.self.now.state in (
+    let s = c.args.self.now.state in
+    let plan = some_told (λ p. (number : ℕ) → IsSendPlan s.sizes (slots_in s.sizes s.images) (under_plan number p.0) c.args.sender c.args.tag c.in_ok-body.body) c.in_ok-plan_send.field-0 _ c.in-Some.is c.in_ok-plan_send.ensures.plan in (
       refl,
       record {
-        under = under_plan c.in_ok-number.number c.in_ok-plan.plan;
+        under = under_plan c.in_ok-number.number c.in-Some.plan;
         number = refl;
         ready = c.in_ok-number.ensures.ready;
-        plan = subst (λ (x : List ℕ). IsSendPlan s.sizes (slots_in s.sizes s.images) (under_plan c.in_ok-number.number c.in_ok-plan.plan) c.args.sender c.args.tag x) c.in_ok-body.ensures.body (c.in_ok-plan.ensures.plan c.in_ok-number.number);
-        lists = ap (λ (s : State). record s { cells_in_use = s.cells_in_use + 1 }) ((state_is c.self.view_is) ∙ c.in-Ok.ensures.started);
+        plan = subst (λ (x : List ℕ). IsSendPlan s.sizes (slots_in s.sizes s.images) (under_plan c.in_ok-number.number c.in-Some.plan) c.args.sender c.args.tag x) c.in_ok-body.ensures.body (plan c.in_ok-number.number);
+        lists = ap (λ (x : State). record x { cells_in_use = x.cells_in_use + 1 }) ((state_is c.self.view_is) ∙ c.in-Ok.ensures.started);
       },
     )

@@ -1,0 +1,223 @@
+-- What is latched, exactly: whether a planned send or receive meets others' pages, and what that makes of the call.
+use Rattle.std.proofs.Common.{◌≡◌, ℕ, ◌+◌, ◌/◌, ◌<◌, ◌≤◌, ◌++◌, ◌||◌, ◌⊎◌, List, [], ◌∷◌, reverse, refl, sym, ◌∙◌, ap, subst, Bool, true, false, nat_eq, Option, Some, None, Result, Ok, Err, inl, inr, arith, IsTrue}
+use Rattle.std.proofs.lemmas.Bool.{cases_Bool, cases_eq, false≢true, or_left, or_right, true≢false}
+use Rattle.rq_model.specs.declared.message.Message.{Message}
+use Rattle.rq_model.specs.declared.record.Deed.{Deed}
+use Rattle.rq_model.specs.declared.record.Deed.TheVariants.{Append, UnlinkHead, Close}
+use Rattle.rq_model.specs.declared.refusal.Refusal.{Refusal}
+use Rattle.rq_model.specs.declared.refusal.Refusal.TheVariants as why
+use Rattle.rq_model.specs.declared.txn.Sub.{Sub}
+use Rattle.rq_model.specs.declared.txn.Txn.{Txn}
+use Rattle.rq_model.specs.History.{Call}
+use Rattle.rq_model.specs.History.Call.{Start_send, Start_receive, Start_receive_from}
+use Rattle.rq_model.specs.History.Job.{Sending, Taking, Ending}
+use Rattle.rq_model.specs.Reference.{without_pages}
+use Rattle.rq_page.specs.declared.cell.Cell.{Cell}
+use Rattle.rq_page.specs.declared.directory.Directory.{Directory}
+use Rattle.rq_page.specs.Sizes.{IsCellAddress, cell_count, directory_at}
+use Rattle.rq_page.specs.Slots.Slot.{Free, Used, Sender}
+use Rattle.rq_views.specs.Items.{layout_of}
+use Rattle.rq_views.specs.Plans.{Turn, append_writes, unlink_head_writes}
+use Rattle.rq_views.specs.Plans.Turn.{Did, Undid}
+use Rattle.rq_level.specs.declared.writes.SlotWrite.{SlotWrite}
+use Rattle.rq_level.specs.Writes.{writes_of}
+use Rattle.rq_chain.specs.Neighbours.{cell_beside}
+use Rattle.rq_txn.specs.Rows.{Row, Under, any_under, latched_in}
+use Rattle.rq_store.specs.Plans.{Stands_at, WaitsFor}
+use Rattle.rq_store.specs.State.{State, job_of}
+use Rattle.rq_sound.specs.Groups.{slots_now}
+use Rattle.rq_sound.specs.Latching.{AllFreeLatched, Begins, IsLatched, NeedsLatched, any_latched, at_head, at_tail, behind_head, head_in, named, needed, next_in, tail_in}
+use Rattle.rq_sound.specs.Plans.{AreOff, AreUnlatched}
+use Rattle.rq_sound.specs.Sound.{IsSound}
+use Rattle.rq_sound.proofs.Contracts.{planned}
+use Rattle.rq_sound.proofs.Groups.{none_latched}
+use Rattle.rq_sound.proofs.Latching.{latched_exact}
+use Rattle.rq_sound.proofs.LatchLists.{any_join, off_named}
+use Rattle.rq_sound.proofs.Levels.{are_off, relinked_off}
+use Rattle.rq_engine.specs.Applied.{LatchedReply, OnLatched, StartsUnlatched, TakesUnlatched}
+use Rattle.rq_engine.specs.Says.{begun_reply}
+use Rattle.rq_engine.specs.Sends.{AreSendSlots, SendIsLatched, take_latched}
+use Rattle.rq_engine.specs.declared.cells.SendSlots.{SendSlots}
+
+-- ---- a link's page
+
+pub none_named : (rows : List Row) (a : ℕ) → a ≡ 0 → any_latched rows (named a) ≡ false
+none_named rows a e = ap (λ n. any_latched rows (named n)) e
+
+pub some_named : (rows : List Row) (a : ℕ) → nat_eq a 0 ≡ false → any_latched rows (named a) ≡ latched_in rows (a / 16)
+some_named rows a e = rw e (or_none (latched_in rows (a / 16))) where
+  or_none : (b : Bool) → (b || false) ≡ b
+  or_none true = refl
+  or_none false = refl
+
+-- some page is latched, so some operation is under way
+pub latched_busy : (rows : List Row) (p : ℕ) → latched_in rows p ≡ true → any_under rows ≡ true
+latched_busy rows p h = elim (cases_Bool (any_under rows)) [
+  | inl y ↦ y
+  | inr n ↦ absurd (true≢false (sym h ∙ none_latched rows p n))
+]
+
+pub any_busy : (rows : List Row) (xs : List ℕ) → any_latched rows xs ≡ true → any_under rows ≡ true
+any_busy rows [] h = absurd (false≢true h)
+any_busy rows (a ∷ xs) h = elim (cases_Bool (latched_in rows (a / 16))) [
+  | inl y ↦ latched_busy rows (a / 16) y
+  | inr n ↦ any_busy rows xs (ap (λ b. b || any_latched rows xs) (sym n) ∙ h)
+]
+
+-- ---- a cell beside
+
+beside_off : (s : State) (a : ℕ) (o : Option Cell) → Stands_at (slots_now s) a o → any_latched s.rows (named a) ≡ false → (c : Cell) → o ≡ Some c → latched_in s.rows (a / 16) ≡ false
+beside_off s a None there off c is = cc
+beside_off s a (Some x) there off c is = off_named s.rows a off (elim (cases_eq a 0) [
+  | inl e ↦ absurd (let bad : Free ≡ Used x = sym (ap (slots_now s) e) ∙ there in cc)
+  | inr ne ↦ omega (arith, ne)
+])
+
+-- ---- sends
+
+-- what is planned from these slots is on nobody's pages, and needs none
+module _ (s : State) (g : ℕ) (x : SendSlots) (a : AreSendSlots s g x) where
+  pub slots_off : (ws : List SlotWrite) (tag : ℕ) (body : List ℕ) → reverse (writes_of s.sizes ws) ≡ append_writes (layout_of s.sizes) x.group.sender x.group.directory x.free tag body (cell_beside x.tail) → AreUnlatched s ws
+  slots_off ws tag body is = are_off s ws _ is
+      (subst (λ n. latched_in s.rows (directory_at n / 16) ≡ false) (sym a.sender) a.directory_off,
+      relinked_off s x.group.directory.tail (cell_beside x.tail) _ _ (beside_off s x.group.directory.tail (cell_beside x.tail) a.beside a.tail_off) (a.cell_off, tt))
+
+  pub slots_free : SendIsLatched s g → ⊥
+  slots_free h = elim h [
+    | inl y ↦ true≢false (sym y ∙ off)
+    | inr all ↦ true≢false (sym (all x.free a.cell a.free) ∙ a.cell_off)
+  ]
+    where
+      off : any_latched s.rows (at_tail (slots_now s) g) ≡ false
+      off = any_join s.rows (directory_at g ∷ []) (named (tail_in (slots_now s (directory_at g)))) (ap (λ b. b || false) a.directory_off) (ap (λ y. any_latched s.rows (named (tail_in y))) a.directory_is ∙ a.tail_off)
+
+-- a send whose directory slot, or whose tail, is on a latched page
+pub directory_latched : (s : State) (g : ℕ) → latched_in s.rows (directory_at g / 16) ≡ true → SendIsLatched s g
+directory_latched s g h = inl (or_left (latched_in s.rows (directory_at g / 16)) _ h)
+
+pub tail_latched : (s : State) (g : ℕ) (d : Directory) → slots_now s (directory_at g) ≡ Sender g d → any_latched s.rows (named d.tail) ≡ true → SendIsLatched s g
+tail_latched s g d at h = inl (or_right (latched_in s.rows (directory_at g / 16)) _ (ap (λ x. any_latched s.rows (named (tail_in x))) at ∙ h))
+
+-- ---- receives
+
+pub take_directory : (s : State) (g : ℕ) → latched_in s.rows (directory_at g / 16) ≡ true → take_latched s g ≡ true
+take_directory s g h = or_left (latched_in s.rows (directory_at g / 16)) _ h
+
+module _ (s : State) (g : ℕ) (d : Directory) (at : slots_now s (directory_at g) ≡ Sender g d) where
+  pub take_head : any_latched s.rows (named d.head) ≡ true → take_latched s g ≡ true
+  take_head h = any_left s.rows (at_head (slots_now s) g) (named (next_in (slots_now s (head_in (slots_now s (directory_at g))))))
+      (or_right (latched_in s.rows (directory_at g / 16)) _ (ap (λ x. any_latched s.rows (named (head_in x))) at ∙ h))
+    where
+      any_left : (rows : List Row) (xs ys : List ℕ) → any_latched rows xs ≡ true → any_latched rows (xs ++ ys) ≡ true
+      any_left rows [] ys h = absurd (false≢true h)
+      any_left rows (x ∷ xs) ys h = elim (cases_Bool (latched_in rows (x / 16))) [
+        | inl y ↦ or_left (latched_in rows (x / 16)) (any_latched rows (xs ++ ys)) y
+        | inr n ↦ or_right (latched_in rows (x / 16)) (any_latched rows (xs ++ ys)) (any_left rows xs ys (ap (λ b. b || any_latched rows xs) (sym n) ∙ h))
+      ]
+
+  pub take_next : (c : Cell) → slots_now s d.head ≡ Used c → any_latched s.rows (named c.next) ≡ true → take_latched s g ≡ true
+  take_next c here h = any_right s.rows (at_head (slots_now s) g) (named (next_in (slots_now s (head_in (slots_now s (directory_at g))))))
+      (ap (λ x. any_latched s.rows (named (next_in (slots_now s (head_in x))))) at ∙ ap (λ x. any_latched s.rows (named (next_in x))) here ∙ h)
+    where
+      any_right : (rows : List Row) (xs ys : List ℕ) → any_latched rows ys ≡ true → any_latched rows (xs ++ ys) ≡ true
+      any_right rows [] ys h = h
+      any_right rows (x ∷ xs) ys h = or_right (latched_in rows (x / 16)) (any_latched rows (xs ++ ys)) (any_right rows xs ys h)
+
+-- what is planned from such slots is on nobody's pages, and needs none
+module _ (s : State) (g : ℕ) (d : Directory) (c : Cell) (next : Option Cell) (directory : latched_in s.rows (directory_at g / 16) ≡ false)
+    (head_is : slots_now s d.head ≡ Used c) (head : any_latched s.rows (named d.head) ≡ false) (beside : Stands_at (slots_now s) c.next next) (behind : any_latched s.rows (named c.next) ≡ false) where
+  pub take_off : (ws : List SlotWrite) → reverse (writes_of s.sizes ws) ≡ unlink_head_writes (layout_of s.sizes) g d c next → AreUnlatched s ws
+  take_off ws is = are_off s ws _ is (directory, relinked_off s c.next next _ _ (beside_off s c.next next beside behind) (beside_off s d.head (Some c) head_is head c refl, tt))
+
+  pub take_free : slots_now s (directory_at g) ≡ Sender g d → take_latched s g ≡ false
+  take_free at = any_join s.rows (at_head (slots_now s) g) (named (next_in (slots_now s (head_in (slots_now s (directory_at g))))))
+      (any_join s.rows (directory_at g ∷ []) (named (head_in (slots_now s (directory_at g)))) (ap (λ b. b || false) directory) (ap (λ x. any_latched s.rows (named (head_in x))) at ∙ head))
+      (ap (λ x. any_latched s.rows (named (next_in (slots_now s (head_in x))))) at ∙ ap (λ x. any_latched s.rows (named (next_in x))) head_is ∙ behind)
+
+-- ---- calls
+
+-- no other refusal speaks of latches
+pub other_latched : (P : Type 0) (r : Refusal) → OnLatched ⊥ r → OnLatched P r
+other_latched P why.Latched h = absurd h
+other_latched P r h = tt
+
+pub plain_latched : (P : Type 0) (r : Refusal) → IsTrue (without_pages r) → OnLatched P r
+plain_latched P why.Latched h = absurd (false≢true h)
+plain_latched P r h = tt
+
+pub memory_latched : (P : Type 0) (r : Refusal) → r ≡ why.NoMemory → OnLatched P r
+memory_latched P r e = subst (OnLatched P) (sym e) tt
+
+module _ (s : State) (k : IsSound s) where
+  -- what a send needs, read from the slots as they are
+  send_needs : (m : Message) (t : Txn) (turn : Turn) → Begins s (Start_send t m) turn → SendIsLatched s m.sender → NeedsLatched s turn
+  send_needs m t (Did (Append g n tag previous body)) b h =
+      let same : g ≡ m.sender = (let e : Sending _ ≡ Sending m = b in cc e) in
+      elim h [
+        | inl y ↦ inl (sym (latched_exact.as_read s (Did (Append g n tag previous body)) k) ∙ ap (λ x. any_latched s.rows (at_tail (slots_now s) x)) same ∙ y)
+        | inr all ↦ inr (refl, all)
+      ]
+  send_needs m t (Did (UnlinkHead g n tag body)) b h = absurd (let e : Taking g ≡ Sending m = b in cc e)
+  send_needs m t (Did (Close g)) b h = absurd (let e : Ending g ≡ Sending m = b in cc e)
+  send_needs m t (Undid d) b h = absurd b
+
+  -- the call is latched where its send is, and only there
+  pub send_latched : (t : Txn) (g tag : ℕ) (body : List ℕ) → SendIsLatched s g → IsLatched s (Start_send t (record { sender = g; tag = tag; body = body }))
+  send_latched t g tag body h = record {
+    some = (Did (Append g 0 tag 0 body), refl);
+    each = λ turn b. send_needs (record { sender = g; tag = tag; body = body }) t turn b h;
+  }
+
+  pub send_unlatched : (t : Txn) (g tag : ℕ) (body : List ℕ) → (SendIsLatched s g → ⊥) → IsLatched s (Start_send t (record { sender = g; tag = tag; body = body })) → ⊥
+  send_unlatched t g tag body free h =
+      let turn = Did (Append g 0 tag 0 body) in
+      elim (h.each turn refl) [
+        | inl y ↦ free (inl (latched_exact.as_read s turn k ∙ y))
+        | inr all ↦ free (inr all.1)
+      ]
+
+  -- so some operation is under way
+  pub send_busy : (g : ℕ) → s.cells_in_use < cell_count s.sizes → SendIsLatched s g → any_under s.rows ≡ true
+  send_busy g room h = elim h [
+    | inl y ↦ any_busy s.rows (at_tail (slots_now s) g) y
+    | inr all ↦ let f = planned.send_finds s k room in latched_busy s.rows (f.0 / 16) (all f.0 f.1 (k.pages f.0 ∙ f.2))
+  ]
+
+  take_needs : (g : ℕ) (d : Deed) → job_of d ≡ Taking g → take_latched s g ≡ true → NeedsLatched s (Did d)
+  take_needs g (Append e n tag previous body) b h = absurd (let x : Sending _ ≡ Taking g = b in cc x)
+  take_needs g (UnlinkHead e n tag body) b h =
+      let same : e ≡ g = (let x : Taking e ≡ Taking g = b in cc x) in
+      inl (sym (latched_exact.as_read s (Did (UnlinkHead e n tag body)) k) ∙ ap (λ x. take_latched s x) same ∙ h)
+  take_needs g (Close e) b h = absurd (let x : Ending e ≡ Taking g = b in cc x)
+
+  take_needs_none : (g : ℕ) → NeedsLatched s (Did (UnlinkHead g 0 0 [])) → take_latched s g ≡ false → ⊥
+  take_needs_none g h free = elim h [
+    | inl y ↦ true≢false (sym y ∙ sym (latched_exact.as_read s (Did (UnlinkHead g 0 0 [])) k) ∙ free)
+    | inr x ↦ false≢true x.0
+  ]
+
+  -- a receive from one sender
+  pub from_latched : (t : Txn) (g : ℕ) → take_latched s g ≡ true → IsLatched s (Start_receive_from t g)
+  from_latched t g h = record { some = (Did (UnlinkHead g 0 0 []), refl); each = λ turn b. at turn b } where
+    at : (turn : Turn) → Begins s (Start_receive_from t g) turn → NeedsLatched s turn
+    at (Did d) b = take_needs g d b h
+    at (Undid d) b = absurd b
+
+  pub from_unlatched : (t : Txn) (g : ℕ) → take_latched s g ≡ false → IsLatched s (Start_receive_from t g) → ⊥
+  from_unlatched t g free h = take_needs_none g (h.each (Did (UnlinkHead g 0 0 [])) refl) free
+
+  -- a receive from whichever
+  pub any_latches : (t : Txn) (e : ℕ) → WaitsFor s t e → ((g : ℕ) → WaitsFor s t g → take_latched s g ≡ true) → IsLatched s (Start_receive t)
+  any_latches t e w h = record { some = (Did (UnlinkHead e 0 0 []), (e, w, refl)); each = λ turn b. at turn b } where
+    at : (turn : Turn) → Begins s (Start_receive t) turn → NeedsLatched s turn
+    at (Did d) b = take_needs b.0 d b.2 (h b.0 b.1)
+    at (Undid d) b = absurd b
+
+  pub any_unlatched : (t : Txn) (g : ℕ) → WaitsFor s t g → take_latched s g ≡ false → IsLatched s (Start_receive t) → ⊥
+  any_unlatched t g w free h = take_needs_none g (h.each (Did (UnlinkHead g 0 0 [])) (g, w, refl)) free
+
+-- what the starts say is what their replies say
+pub begun_latched : (s : State) (c : Call) (x : Result (Option Sub) Refusal) → TakesUnlatched s c x → LatchedReply s c (begun_reply x)
+begun_latched s c (Ok None) h = tt
+begun_latched s c (Ok (Some sub)) h = h
+begun_latched s c (Err r) h = h
