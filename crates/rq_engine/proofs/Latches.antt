@@ -78,9 +78,10 @@ beside_off s a (Some x) there off c is = off_named s.rows a off (elim (cases_eq 
 -- what is planned from these slots is on nobody's pages, and needs none
 module _ (s : State) (g : ℕ) (x : SendSlots) (a : AreSendSlots s g x) where
   pub slots_off : (ws : List SlotWrite) (tag : ℕ) (body : List ℕ) → reverse (writes_of s.sizes ws) ≡ append_writes (layout_of s.sizes) x.group.sender x.group.directory x.free tag body (cell_beside x.tail) → AreUnlatched s ws
-  slots_off ws tag body is = are_off s ws _ is
-      (subst (λ n. latched_in s.rows (directory_at n / 16) ≡ false) (sym a.sender) a.directory_off,
-      relinked_off s x.group.directory.tail (cell_beside x.tail) _ _ (beside_off s x.group.directory.tail (cell_beside x.tail) a.beside a.tail_off) (a.cell_off, tt))
+  slots_off ws tag body is = are_off s ws _ is (
+    subst (λ n. latched_in s.rows (directory_at n / 16) ≡ false) (sym a.sender) a.directory_off,
+    relinked_off s x.group.directory.tail (cell_beside x.tail) _ _ (beside_off s x.group.directory.tail (cell_beside x.tail) a.beside a.tail_off) (a.cell_off, tt),
+  )
 
   pub slots_free : SendIsLatched s g → ⊥
   slots_free h = elim h [

@@ -23,7 +23,7 @@ pub returns-then-directory-clause-refused : goal.returns-then-directory-clause-r
 returns-then-directory-clause-refused g c k wait =
     let page : directory_at c.args.sender / 16 ≡ c.page.result = sym (c.page.ensures ∙ ap (λ n. n / 16) c.directory_of-at.ensures) in
     let off : latched_in c.args.self.now.state.rows (directory_at c.args.sender / 16) ≡ false =
-        ap (λ (s : State). latched_in s.rows (directory_at c.args.sender / 16)) (sym (state_is c.self.view_is)) ∙ ap (latched_in c.self.inside.transactions) page ∙ sym c.if-has_latched.ensures in
+    ap (λ (s : State). latched_in s.rows (directory_at c.args.sender / 16)) (sym (state_is c.self.view_is)) ∙ ap (latched_in c.self.inside.transactions) page ∙ sym c.if-has_latched.ensures in
     let at : slots_in c.args.self.now.state.sizes c.args.self.now.state.images (directory_at c.args.sender) ≡ Sender c.args.sender c.group-directory.result = ap (λ (s : State). slots_in s.sizes s.images (directory_at c.args.sender)) (sym (state_is c.self.view_is)) ∙ c.group-directory.ensures.held in
     let more = sent_more c.args.self.now.state k c.args.sender c.group-directory.result c.requires off at wait in
     let less = c.if-directory.true in
@@ -33,7 +33,7 @@ pub returns-in_default-clause-refused : goal.returns-in_default-clause-refused
 returns-in_default-clause-refused g c k wait =
     let page : directory_at c.args.sender / 16 ≡ c.page.result = sym (c.page.ensures ∙ ap (λ n. n / 16) c.directory_of-at.ensures) in
     let off : latched_in c.args.self.now.state.rows (directory_at c.args.sender / 16) ≡ false =
-        ap (λ (s : State). latched_in s.rows (directory_at c.args.sender / 16)) (sym (state_is c.self.view_is)) ∙ ap (latched_in c.self.inside.transactions) page ∙ sym c.if-has_latched.ensures in
+    ap (λ (s : State). latched_in s.rows (directory_at c.args.sender / 16)) (sym (state_is c.self.view_is)) ∙ ap (latched_in c.self.inside.transactions) page ∙ sym c.if-has_latched.ensures in
     let at : slots_in c.args.self.now.state.sizes c.args.self.now.state.images (directory_at c.args.sender) ≡ Sender c.args.sender c.group-directory.result = ap (λ (s : State). slots_in s.sizes s.images (directory_at c.args.sender)) (sym (state_is c.self.view_is)) ∙ c.group-directory.ensures.held in
     let there = head_there c.args.self.now.state k c.args.sender c.group-directory.result c.requires off at wait in
     elim c.in_default.ensures.none [
@@ -45,7 +45,7 @@ pub returns-in_default-neighbour-clause-refused : goal.returns-in_default-neighb
 returns-in_default-neighbour-clause-refused g c k wait =
     let page : directory_at c.args.sender / 16 ≡ c.page.result = sym (c.page.ensures ∙ ap (λ n. n / 16) c.directory_of-at.ensures) in
     let off : latched_in c.args.self.now.state.rows (directory_at c.args.sender / 16) ≡ false =
-        ap (λ (s : State). latched_in s.rows (directory_at c.args.sender / 16)) (sym (state_is c.self.view_is)) ∙ ap (latched_in c.self.inside.transactions) page ∙ sym c.if-has_latched.ensures in
+    ap (λ (s : State). latched_in s.rows (directory_at c.args.sender / 16)) (sym (state_is c.self.view_is)) ∙ ap (latched_in c.self.inside.transactions) page ∙ sym c.if-has_latched.ensures in
     let at : slots_in c.args.self.now.state.sizes c.args.self.now.state.images (directory_at c.args.sender) ≡ Sender c.args.sender c.group-directory.result = ap (λ (s : State). slots_in s.sizes s.images (directory_at c.args.sender)) (sym (state_is c.self.view_is)) ∙ c.group-directory.ensures.held in
     let cell : Cell = c.in-Some.head.cell in
     let next : c.following-2.result ≡ cell.next = c.following-2.ensures in
@@ -74,7 +74,7 @@ pub returns-clause-free : goal.returns-clause-free
 returns-clause-free g c =
     let page : directory_at c.args.sender / 16 ≡ c.page.result = sym (c.page.ensures ∙ ap (λ n. n / 16) c.directory_of-at.ensures) in
     let off : latched_in c.args.self.now.state.rows (directory_at c.args.sender / 16) ≡ false =
-        ap (λ (s : State). latched_in s.rows (directory_at c.args.sender / 16)) (sym (state_is c.self.view_is)) ∙ ap (latched_in c.self.inside.transactions) page ∙ sym c.if-has_latched.ensures in
+    ap (λ (s : State). latched_in s.rows (directory_at c.args.sender / 16)) (sym (state_is c.self.view_is)) ∙ ap (latched_in c.self.inside.transactions) page ∙ sym c.if-has_latched.ensures in
     let s = c.args.self.now.state in
     let cell : Cell = c.in-Some.head.cell in
     let next = cell_beside c.in-Some-neighbour.next in

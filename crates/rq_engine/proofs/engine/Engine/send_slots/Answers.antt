@@ -16,16 +16,16 @@ pub returns-then-has_latched-clause-latched : goal.returns-then-has_latched-clau
 returns-then-has_latched-clause-latched g c =
     let page : directory_at c.args.sender / 16 ≡ c.page.result = sym (c.page.ensures ∙ ap (λ n. n / 16) c.directory_of-at.ensures) in
     let on : latched_in c.args.self.now.state.rows (directory_at c.args.sender / 16) ≡ true =
-        ap (λ (s : State). latched_in s.rows (directory_at c.args.sender / 16)) (sym (state_is c.self.view_is)) ∙ ap (latched_in c.self.inside.transactions) page ∙ sym c.if-has_latched.ensures in
+    ap (λ (s : State). latched_in s.rows (directory_at c.args.sender / 16)) (sym (state_is c.self.view_is)) ∙ ap (latched_in c.self.inside.transactions) page ∙ sym c.if-has_latched.ensures in
     directory_latched c.args.self.now.state c.args.sender on
 
 pub returns-then-directory-gt-LOG_LIMIT-clause-refused : goal.returns-then-directory-gt-LOG_LIMIT-clause-refused
 returns-then-directory-gt-LOG_LIMIT-clause-refused g c k room =
     let page : directory_at c.args.sender / 16 ≡ c.page.result = sym (c.page.ensures ∙ ap (λ n. n / 16) c.directory_of-at.ensures) in
     let off : latched_in c.args.self.now.state.rows (directory_at c.args.sender / 16) ≡ false =
-        ap (λ (s : State). latched_in s.rows (directory_at c.args.sender / 16)) (sym (state_is c.self.view_is)) ∙ ap (latched_in c.self.inside.transactions) page ∙ sym c.if-has_latched.ensures in
+    ap (λ (s : State). latched_in s.rows (directory_at c.args.sender / 16)) (sym (state_is c.self.view_is)) ∙ ap (latched_in c.self.inside.transactions) page ∙ sym c.if-has_latched.ensures in
     let at : slots_in c.args.self.now.state.sizes c.args.self.now.state.images (directory_at c.args.sender) ≡ Sender c.args.sender c.group-directory.result =
-        ap (λ (s : State). slots_in s.sizes s.images (directory_at c.args.sender)) (sym (state_is c.self.view_is)) ∙ c.group-directory.ensures.held in
+    ap (λ (s : State). slots_in s.sizes s.images (directory_at c.args.sender)) (sym (state_is c.self.view_is)) ∙ c.group-directory.ensures.held in
     let within = sent_within c.args.self.now.state k c.args.sender c.group-directory.result c.requires off at in
     let count : total_of c.args.self.now.state ≤ 2 ^ 50 = subst (λ (s : State). total_of s ≤ 2 ^ 50) (state_is c.self.view_is) c.self.invariant.kept.count in
     let more = c.if-directory-gt-LOG_LIMIT.true in
@@ -34,16 +34,16 @@ returns-then-directory-gt-LOG_LIMIT-clause-refused g c k room =
 pub returns-then-is_latched-clause-latched : goal.returns-then-is_latched-clause-latched
 returns-then-is_latched-clause-latched g c =
     let at : slots_in c.args.self.now.state.sizes c.args.self.now.state.images (directory_at c.args.sender) ≡ Sender c.args.sender c.group-directory.result =
-        ap (λ (s : State). slots_in s.sizes s.images (directory_at c.args.sender)) (sym (state_is c.self.view_is)) ∙ c.group-directory.ensures.held in
+    ap (λ (s : State). slots_in s.sizes s.images (directory_at c.args.sender)) (sym (state_is c.self.view_is)) ∙ c.group-directory.ensures.held in
     tail_latched c.args.self.now.state c.args.sender c.group-directory.result at (sym c.if-is_latched.ensures)
 
 pub returns-in_default-clause-refused : goal.returns-in_default-clause-refused
 returns-in_default-clause-refused g c k room =
     let page : directory_at c.args.sender / 16 ≡ c.page.result = sym (c.page.ensures ∙ ap (λ n. n / 16) c.directory_of-at.ensures) in
     let off : latched_in c.args.self.now.state.rows (directory_at c.args.sender / 16) ≡ false =
-        ap (λ (s : State). latched_in s.rows (directory_at c.args.sender / 16)) (sym (state_is c.self.view_is)) ∙ ap (latched_in c.self.inside.transactions) page ∙ sym c.if-has_latched.ensures in
+    ap (λ (s : State). latched_in s.rows (directory_at c.args.sender / 16)) (sym (state_is c.self.view_is)) ∙ ap (latched_in c.self.inside.transactions) page ∙ sym c.if-has_latched.ensures in
     let at : slots_in c.args.self.now.state.sizes c.args.self.now.state.images (directory_at c.args.sender) ≡ Sender c.args.sender c.group-directory.result =
-        ap (λ (s : State). slots_in s.sizes s.images (directory_at c.args.sender)) (sym (state_is c.self.view_is)) ∙ c.group-directory.ensures.held in
+    ap (λ (s : State). slots_in s.sizes s.images (directory_at c.args.sender)) (sym (state_is c.self.view_is)) ∙ c.group-directory.ensures.held in
     tail_there c.args.self.now.state k c.args.sender c.group-directory.result c.requires off at c.in_default.ensures.free.0 c.in_default.ensures.free.1
 
 pub returns-then-is_none-clause-refused : goal.returns-then-is_none-clause-refused
@@ -58,9 +58,9 @@ pub returns-clause-slots : goal.returns-clause-slots
 returns-clause-slots g c =
     let page : directory_at c.args.sender / 16 ≡ c.page.result = sym (c.page.ensures ∙ ap (λ n. n / 16) c.directory_of-at.ensures) in
     let off : latched_in c.args.self.now.state.rows (directory_at c.args.sender / 16) ≡ false =
-        ap (λ (s : State). latched_in s.rows (directory_at c.args.sender / 16)) (sym (state_is c.self.view_is)) ∙ ap (latched_in c.self.inside.transactions) page ∙ sym c.if-has_latched.ensures in
+    ap (λ (s : State). latched_in s.rows (directory_at c.args.sender / 16)) (sym (state_is c.self.view_is)) ∙ ap (latched_in c.self.inside.transactions) page ∙ sym c.if-has_latched.ensures in
     let at : slots_in c.args.self.now.state.sizes c.args.self.now.state.images (directory_at c.args.sender) ≡ Sender c.args.sender c.group-directory.result =
-        ap (λ (s : State). slots_in s.sizes s.images (directory_at c.args.sender)) (sym (state_is c.self.view_is)) ∙ c.group-directory.ensures.held in
+    ap (λ (s : State). slots_in s.sizes s.images (directory_at c.args.sender)) (sym (state_is c.self.view_is)) ∙ c.group-directory.ensures.held in
     record {
       group = record {
         at = c.directory_of-at.ensures;

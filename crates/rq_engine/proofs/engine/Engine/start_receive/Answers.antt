@@ -21,8 +21,8 @@ pub returns-then-is_none-clause-lists : goal.returns-then-is_none-clause-lists
 returns-then-is_none-clause-lists g c = (
   (c.in_ok-number.number, c.in_ok-number.ensures.ready),
   (subst (λ (s : State). NoneWaits s c.args.txn) (state_is c.self.view_is)
-    (λ e m free. unfound_told ((e : ℕ) → e < length c.self.inside.waiting → is_free_for c.args.txn e c.self.inside.ends.receiving ≡ true → waits c.self.inside.waiting e ≡ 0) c.first_for.result c.if-is_none.ensures c.first_for.ensures.none
-    e (let n = c.self.invariant.kept.senders in omega (arith, m, n)) free)),
+      (λ e m free. unfound_told ((e : ℕ) → e < length c.self.inside.waiting → is_free_for c.args.txn e c.self.inside.ends.receiving ≡ true → waits c.self.inside.waiting e ≡ 0) c.first_for.result c.if-is_none.ensures c.first_for.ensures.none
+      e (let n = c.self.invariant.kept.senders in omega (arith, m, n)) free)),
   refl,
 )
 
