@@ -7,8 +7,7 @@ use std::test::Fail;
 /// The line of the first opening.
 const OPENED: &str = "restarted 1 unfinished 0 lost 0\n";
 
-// Runs a script over a store of one directory page and so many cell pages, and compares what it prints behind the line
-// of its opening.
+// Runs a script over a store of one directory page and so many cell pages.
 fn check(
     rt: &(impl Abort + AllocGlobal),
     cells: u32,
@@ -16,7 +15,20 @@ fn check(
     wanted: &str,
     status: u8,
 ) -> Result<(), Fail> {
-    let layout = Layout::new(1, cells).ok_or("a small store")?;
+    check_wide(rt, 1, cells, script, wanted, status)
+}
+
+// Runs a script over a store of so many directory and cell pages, and compares what it prints behind the line of its
+// opening.
+fn check_wide(
+    rt: &(impl Abort + AllocGlobal),
+    directory: u32,
+    cells: u32,
+    script: &str,
+    wanted: &str,
+    status: u8,
+) -> Result<(), Fail> {
+    let layout = Layout::new(directory, cells).ok_or("a store")?;
     let mut output = Vec::new(rt.alloc());
     let mut input = script.as_bytes();
     let ended = run_script(rt.alloc(), &mut input, &mut output, layout);
@@ -282,6 +294,43 @@ fn a_send_step_by_step_keeps_its_pages_from_others(rt: HostRuntime) -> Result<()
         1,
         "begin\nbegin\nopen-send 1.1 0 1 x\ncommit 1.1\nfinish 1.1 1\nstep 1.1 9\nsend 1.2 1 1 y\nstep 1.1 1\nstep 1.1 1\nstep 1.1 1\nstep 1.1 1\nfinish 1.1 1\nsend 1.2 1 1 y\n",
         "begun 1.1\nbegun 1.2\nop 1.1 1\nrefused 6 Unfinished\nrefused 6 Unfinished\nrefused 20 UnknownOperation\nrefused 13 Latched\nlsn 2\nlsn 3\nready\nready\nsent\nsent\n",
+        0,
+    )
+}
+
+#[test]
+fn two_sends_go_on_at_once_on_pages_of_their_own(rt: HostRuntime) -> Result<(), Fail> {
+    check_wide(
+        &rt,
+        2,
+        2,
+        "begin\nbegin\nopen-send 1.1 0 1 x\nopen-send 1.2 15 1 y\nstep 1.1 1\nstep 1.2 1\nstep 1.2 1\nstep 1.1 1\nstep 1.2 1\nstep 1.1 1\nfinish 1.1 1\nfinish 1.2 1\ncommit 1.2\ncommit 1.1\ndump\n",
+        "begun 1.1\nbegun 1.2\nop 1.1 1\nop 1.2 1\nlsn 2\nlsn 3\nlsn 4\nlsn 5\nready\nready\nsent\nsent\ncommit 8\ncommit 9\n0 open sent 1 received 0: x\n15 open sent 1 received 0: y\n",
+        0,
+    )
+}
+
+// The third send's directory page is nobody's, and each page with a free cell is another's.
+#[test]
+fn sends_are_refused_for_directory_pages_and_for_cells(rt: HostRuntime) -> Result<(), Fail> {
+    check_wide(
+        &rt,
+        3,
+        2,
+        "begin\nbegin\nbegin\nopen-send 1.1 0 1 x\nsend 1.2 1 1 y\nopen-send 1.2 15 1 y\nsend 1.3 16 1 z\nsend 1.3 30 1 z\nstep 1.1 1\nstep 1.1 1\nfinish 1.1 1\nsend 1.3 30 1 z\n",
+        "begun 1.1\nbegun 1.2\nbegun 1.3\nop 1.1 1\nrefused 13 Latched\nop 1.2 1\nrefused 13 Latched\nrefused 13 Latched\nlsn 2\nlsn 3\nsent\nsent\n",
+        0,
+    )
+}
+
+#[test]
+fn a_receive_passes_over_groups_with_latched_pages(rt: HostRuntime) -> Result<(), Fail> {
+    check_wide(
+        &rt,
+        2,
+        2,
+        "begin\nbegin\nbegin\nbegin\nopen-send 1.1 0 1 a\nopen-send 1.2 15 1 b\nstep 1.1 1\nstep 1.1 1\nfinish 1.1 1\nstep 1.2 1\nstep 1.2 1\nfinish 1.2 1\ncommit 1.1\ncommit 1.2\nopen-send 1.3 0 2 c\nrecv-from 1.4 0\nrecv 1.4\nrecv 1.4\ndump\n",
+        "begun 1.1\nbegun 1.2\nbegun 1.3\nbegun 1.4\nop 1.1 1\nop 1.2 1\nlsn 2\nlsn 3\nsent\nlsn 5\nlsn 6\nsent\ncommit 8\ncommit 9\nop 1.3 1\nrefused 13 Latched\nmsg 15 1 b\nrefused 13 Latched\nrefused 6 Unfinished\n",
         0,
     )
 }
