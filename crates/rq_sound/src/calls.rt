@@ -1,5 +1,6 @@
 //! What the calls of a store with any number of operations under way rest on: refusals, what the model's tests read,
 //! what the pages say of a group while others are under way, and which plans may start.
+ghost use Rattle.rq_sound.specs.Gathering.{WantsAreNeeded};
 ghost use Rattle.rq_sound.specs.Groups.{SlotsTellGroups};
 ghost use Rattle.rq_sound.specs.Latching.{LatchedIsExact};
 ghost use Rattle.rq_sound.specs.Levels.{CellsStayKept, LevelsPlanFromSlots, LevelsRefuseExactly};
@@ -66,6 +67,12 @@ pub fn latched_is_exact()
 /// latched the page of its group's directory slot.
 pub fn levels_find_all()
     ensures { LevelsFindAll }
+{}
+
+/// What the level of chains asks for before it plans is among the slots that its operation needs, and it asks for nothing
+/// more once it was given them all.
+pub fn wants_are_needed()
+    ensures { WantsAreNeeded }
 {}
 
 /// Worked: what is refused while two sends are under way, what is not, and receipts.
