@@ -1,4 +1,4 @@
--- Audits that replay, and marks that were published.
+-- Audits that replay, engines that were sound when they were shared, and marks that were published.
 use Rattle.std.proofs.Common.{◌≡◌, ⊎_elim, ℕ, zero, suc, ◌≤◌, List, [], ◌∷◌, length, refl, sym, ap, subst, inl, inr, arith}
 use mathlib.Core.Option.{Option, none, some}
 use lib.ListN.{get_elem?}
@@ -13,12 +13,13 @@ use Rattle.rq_disk.specs.declared.mem_log.MemLog.{MemLog}
 use Rattle.rq_disk.specs.declared.mem_pages.MemPages.{MemPages}
 use Rattle.rq_views.specs.WorkedItems.{t1, t2}
 use Rattle.rq_store.specs.State.{ledger_of, size_of}
+use Rattle.rq_sound.specs.Sound.{IsSound}
 use Rattle.rq_engine.specs.Opened.{OpenStore}
 use Rattle.rq_shared.specs.Entries.{Follows, Noted}
 use Rattle.rq_shared.specs.Marks.{IsMark, IsPublished, newcomer, seat_view}
 use Rattle.rq_shared.specs.declared.mark.View.{View}
 use Rattle.rq_core.specs.Devices.{mem_log, mem_pages}
-use Rattle.rq_cases.specs.Audits.{AuditsAreJudged, LeadsNot, took}
+use Rattle.rq_cases.specs.Audits.{AuditsAreJudged, LeadsNot, beyond, took}
 use Rattle.rq_cases.specs.Opened.{over}
 use Rattle.rq_cases.specs.Run.{begun_again, forced, take_started}
 use Rattle.rq_cases.specs.Store.{sizes}
@@ -49,6 +50,10 @@ left_out_of pages log engine f =
     subst (λ (l : Ledger). Legal (size_of sizes) l (Started t2 1 (Taking r.3.1))) r.2
     (subst (λ (e : Entry). Legal (size_of sizes) r.0 e) r.3.2 r.4) in
     legal.1
+
+-- of five records six are not forced
+pub unsound : IsSound beyond → ⊥
+unsound k = (let f : 6 ≤ 5 = k.forced in omega (arith, f))
 
 -- what a seat has seen, and published
 abbrev saw_of : Option View → ℕ
@@ -117,6 +122,12 @@ audits = record {
   one_more = refl;
   one_more_in_front = λ e. (let f : 1 ≡ 2 = ap (λ (ns : List Noted). head_of (passes ns)) e in omega (arith, f));
   no_more = λ e. (let f : 1 ≡ 2 = ap (λ (ns : List Noted). length ns) e in omega (arith, f));
+  shared_sound = λ pages log premise honest. running.force.sound;
+  shared_unsound = λ pages log w. unsound (w tt (tt, tt));
+  shared_without_premise = λ pages log none honest. absurd none;
+  began_sound = λ pages log premise honest. running.force.sound;
+  began_unsound = λ pages log b. unsound (b tt (tt, tt));
+  began_without_premise = λ pages log none honest. absurd none;
   new_mark = (0, refl, inl refl, new_seats);
   published = (5, refl, inr (1, seat_view (5 ∷ []) 5, refl, inl refl), both_seats);
   never_published = never;

@@ -218,8 +218,8 @@ module _ (n : ℕ) where
         let ws : (g : ℕ) → waits (with_sends (done_by s t) s.waiting) g ≡ waits s.waiting g =
         (λ g. ap (λ (fs : List Finished). waits (with_sends fs s.waiting) g) none_done) in
         let made : Commits n (record { txn = t; lsn = length s.records + 1 }) (one_committed n) =
-        commit_steps s (begun_sound n) t (fresh_row t) (one_committed n).cells_in_use (one_committed n).waiting at_row refl
-        (omega (arith, taken)) (λ g low. (let e = ws g in omega (arith, e))) refl (commit_free le) in
+        steps_of (commit_steps s (begun_one n) t (fresh_row t) (one_committed n).cells_in_use (one_committed n).waiting at_row
+        refl (omega (arith, taken)) (λ g low. (let e = ws g in omega (arith, e))) refl (commit_free le)) in
         let steps : Commits n (commit_number number) (one_committed n) =
         subst (λ (x : Number). Commits n x (one_committed n)) (sym is) made in
         record {

@@ -9,6 +9,7 @@ use Rattle.rq_model.specs.Words.{In}
 use Rattle.rq_model.specs.Words.Op.{Send}
 use Rattle.rq_model.specs.Replay.Reply.{Gave_commit, Gave_forced, Gave_receipt}
 use Rattle.rq_disk.specs.declared.mem_log.MemLog.{MemLog}
+use Rattle.rq_disk.specs.declared.mem_pages.MemPages.{MemPages}
 use Rattle.rq_log.specs.Spelled.{spelled}
 use Rattle.rq_page.specs.declared.cell.Cell.{Cell}
 use Rattle.rq_page.specs.Pages.{lsn_of}
@@ -21,15 +22,18 @@ use Rattle.rq_views.specs.WorkedItems.{cell, t1}
 use Rattle.rq_content.specs.Read.{cells_in, directory_of, follow, met, shown_group, start, without_rows}
 use Rattle.rq_restart.proofs.Parsing.{AreSpelled-drop, one_log}
 use Rattle.rq_store.specs.State.{ledger_of, size_of}
+use Rattle.rq_sound.specs.Sound.{IsSound}
+use Rattle.rq_engine.specs.Opened.{OpenStore}
 use Rattle.rq_shared.specs.Entries.{Noted}
 use Rattle.rq_shared.specs.Receipts.{IsReceiptOf}
 use Rattle.rq_core.specs.Devices.{mem_pages}
+use Rattle.rq_cases.specs.Audits.{beyond}
 use Rattle.rq_cases.specs.Opened.{IsNewLog, over}
 use Rattle.rq_cases.specs.Replies.{ContentsAreJudged, ReceiptsAreJudged, RepliesAreJudged, Shows, asked_commit, asked_force, asked_receipt, of_send, short_pages, shown}
 use Rattle.rq_cases.specs.Run.{committed, did_send, done_row, forced, log_1, log_5, take_started}
 use Rattle.rq_cases.specs.Sound.{hello}
 use Rattle.rq_cases.specs.Store.{cells_0, cells_1, groups_1, one_sent, one_taken, page_image, sent_pages, sizes, taken_pages}
-use Rattle.rq_cases.proofs.Audits.{audits, left_out_of}
+use Rattle.rq_cases.proofs.Audits.{audits, left_out_of, unsound}
 use Rattle.rq_cases.proofs.Bytes.{first_spelled, records_spelled, short_log}
 use Rattle.rq_cases.proofs.Held.{leaves_beginning, log_left, log_seen, only_records}
 use Rattle.rq_cases.proofs.Images.{slot_is}
@@ -132,8 +136,16 @@ receipts = record {
   taken = λ pages log. (
     record { engine = over take_started pages log; audit = _; base = over forced pages log; taken = 0 },
     record { base = refl; before = refl; audit = refl; replays = audits.of_two_calls pages log },
+    λ premise honest. running.force.sound,
   );
   taken_of_nobody = λ pages log k. left_out_of pages log k.0.engine k.1.replays;
+  taken_of_unsound = λ pages log k.
+      unsound (subst (λ (s : OpenStore MemPages MemLog). IsSound s.state) (sym k.1.base) (k.2 tt (tt, tt)));
+  taken_without_premise = λ pages log. (
+    record { engine = over beyond pages log; audit = []; base = over beyond pages log; taken = 0 },
+    record { base = refl; before = refl; audit = refl; replays = record { sizes = refl; replays = λ h k. (k, refl) } },
+    λ none honest. absurd none,
+  );
 }
 
 -- what stands in the slots of sender 0 and in the first cell

@@ -1,4 +1,5 @@
--- Audits that replay and marks that were published, of a shared engine; and those that aren't.
+-- Audits that replay, engines that were sound when they were shared and marks that were published, of a shared engine;
+-- and those that aren't.
 use Rattle.std.specs.Prelude.{List, [], ◌∷◌}
 use Rattle.rq_model.specs.History.Call.{Begin, Start_receive}
 use Rattle.rq_model.specs.Replay.Reply.{Gave_none, Gave_sub, Gave_txn}
@@ -6,7 +7,7 @@ use Rattle.rq_disk.specs.declared.mem_log.MemLog.{MemLog}
 use Rattle.rq_disk.specs.declared.mem_pages.MemPages.{MemPages}
 use Rattle.rq_views.specs.WorkedItems.{t1, t2}
 use Rattle.rq_store.specs.State.{State}
-use Rattle.rq_shared.specs.Entries.{Follows, Noted, OneMore}
+use Rattle.rq_shared.specs.Entries.{BeginsSound, Follows, Noted, OneMore, WasSound}
 use Rattle.rq_shared.specs.Marks.{IsMark, newcomer, seat_view}
 use Rattle.rq_core.specs.Devices.{mem_log, mem_pages}
 use Rattle.rq_cases.specs.Opened.{over}
@@ -28,6 +29,23 @@ abbrev pub LeadsNot : State → List Noted → State → Type 0
 LeadsNot base audit new = (pages : MemPages) (log : MemLog)
     → Follows mem_pages mem_log (over base pages log) audit (over new pages log) → ⊥
 
+-- more records are forced than there are: it is not sound
+abbrev pub beyond : State
+beyond = record forced { forced = 6 }
+
+-- an engine in this state may be shared under this premise
+abbrev pub MayBeShared : Type 0 → State → Type 0
+MayBeShared premise s = (pages : MemPages) (log : MemLog) → WasSound mem_pages mem_log premise (over s pages log)
+
+-- an engine whose audit began in this state, before those two calls, was sound then under this premise
+abbrev pub Began : Type 0 → State → MemPages → MemLog → Type 0
+Began premise s pages log = BeginsSound mem_pages mem_log premise (record {
+  engine = over take_started pages log;
+  audit = began ∷ took ∷ [];
+  base = over s pages log;
+  taken = 0;
+})
+
 pub record AuditsAreJudged : Type 0 where
   pub of_no_call : Leads forced [] forced
   pub of_two_calls : Leads forced (began ∷ took ∷ []) take_started
@@ -38,6 +56,14 @@ pub record AuditsAreJudged : Type 0 where
   pub one_more : OneMore (began ∷ []) (began ∷ took ∷ []) took
   pub one_more_in_front : OneMore (took ∷ []) (began ∷ took ∷ []) began → ⊥
   pub no_more : OneMore (began ∷ []) (began ∷ []) took → ⊥
+  -- what is shared is sound, or its premise fails
+  pub shared_sound : MayBeShared (Unit {0}) forced
+  pub shared_unsound : (pages : MemPages) (log : MemLog)
+      → WasSound mem_pages mem_log (Unit {0}) (over beyond pages log) → ⊥
+  pub shared_without_premise : MayBeShared ⊥ beyond
+  pub began_sound : (pages : MemPages) (log : MemLog) → Began (Unit {0}) forced pages log
+  pub began_unsound : (pages : MemPages) (log : MemLog) → Began (Unit {0}) beyond pages log → ⊥
+  pub began_without_premise : (pages : MemPages) (log : MemLog) → Began ⊥ beyond pages log
   -- the mark is 0, or was published, and nobody saw more
   pub new_mark : IsMark (0 ∷ []) (newcomer ∷ [])
   pub published : IsMark (5 ∷ []) (newcomer ∷ seat_view (5 ∷ []) 5 ∷ [])

@@ -15,6 +15,7 @@ use Rattle.rq_log.specs.Logged.{IsLog, Logged, WasLeftOrGoesOn}
 use Rattle.rq_log.specs.Spelled.{AreSpelled, spelled}
 use Rattle.rq_page.specs.Sizes.{Sizes}
 use Rattle.rq_txn.specs.Rows.{Row}
+use Rattle.rq_store.specs.State.{State}
 use Rattle.rq_views.specs.WorkedItems.{t1}
 use Rattle.rq_content.specs.Read.{IsBroken, StopsFor, read_group}
 use Rattle.rq_engine.specs.Answers.{AnswersLegally}
@@ -24,7 +25,7 @@ use Rattle.rq_shared.specs.Calls.{IsTaken}
 use Rattle.rq_shared.specs.Entries.{Noted}
 use Rattle.rq_shared.specs.Receipts.{IsDurable, IsReceiptOf}
 use Rattle.rq_core.specs.Devices.{mem_log, mem_pages}
-use Rattle.rq_cases.specs.Audits.{began, took}
+use Rattle.rq_cases.specs.Audits.{began, beyond, took}
 use Rattle.rq_cases.specs.Opened.{IsNewLog, over}
 use Rattle.rq_cases.specs.Openings.{logged}
 use Rattle.rq_cases.specs.Run.{committed, did_send, done_row, forced, log_1, log_5}
@@ -92,8 +93,13 @@ asked_force = record { pass = 2; call = Force; gave = Gave_forced 5 }
 abbrev pub asked_receipt : Option Number → Noted
 asked_receipt given = record { pass = 1; call = Acknowledge t1 5; gave = Gave_receipt given }
 
+-- it was taken of a kept engine that began as this store, under this premise
+abbrev pub AnAuditOf : Type 0 → State → MemPages → MemLog → List Noted → Type 0
+AnAuditOf premise s pages log audit =
+    IsTaken mem_pages mem_log premise (record { base = over s pages log; before = 0; audit = audit })
+
 abbrev pub AnAudit : MemPages → MemLog → List Noted → Type 0
-AnAudit pages log audit = IsTaken mem_pages mem_log (record { base = over forced pages log; before = 0; audit = audit })
+AnAudit pages log audit = AnAuditOf (Unit {0}) forced pages log audit
 
 pub record ReceiptsAreJudged : Type 0 where
   -- a commit that no crash takes, and one that a crash may take
@@ -109,6 +115,10 @@ pub record ReceiptsAreJudged : Type 0 where
   -- an audit that some kept engine had, and one that none had
   pub taken : (pages : MemPages) (log : MemLog) → AnAudit pages log (began ∷ took ∷ [])
   pub taken_of_nobody : (pages : MemPages) (log : MemLog) → AnAudit pages log (took ∷ []) → ⊥
+  -- one that began with a store that was not sound: under a premise that holds there is none, under one that fails there
+  -- may be
+  pub taken_of_unsound : (pages : MemPages) (log : MemLog) → AnAuditOf (Unit {0}) beyond pages log [] → ⊥
+  pub taken_without_premise : (pages : MemPages) (log : MemLog) → AnAuditOf ⊥ beyond pages log []
 
 -- so many messages were sent and received, and these are there
 abbrev pub shown : ℕ → ℕ → ℕ → List Message → Group

@@ -176,7 +176,8 @@ pub fn logs_are_judged()
     ensures { LogsAreJudged }
 {}
 
-/// Audits of a shared engine that replay, and marks that were published; and those that aren't.
+/// Audits of a shared engine that replay, engines that were sound when they were shared, and marks that were published;
+/// and those that aren't.
 pub fn audits_are_judged()
     ensures { AuditsAreJudged }
 {}
@@ -238,7 +239,7 @@ pub fn replies_are_judged()
     ensures { RepliesAreJudged }
 {}
 
-/// Commits that no crash takes, and one that a crash may take; audits that were had, and one that was not.
+/// Commits that no crash takes, and one that a crash may take; audits that were taken, and those that were not.
 pub fn receipts_are_judged()
     ensures { ReceiptsAreJudged }
 {}

@@ -4,6 +4,7 @@ ghost use Rattle.rq_shared.specs.Calls.{IsCalled, IsForced, IsTaken};
 ghost use Rattle.rq_shared.specs.Entries.{BeginsSound, Follows, WasSound};
 ghost use Rattle.rq_shared.specs.Receipts.{IsReceiptOf, IsDurable};
 ghost use Rattle.rq_model.specs.Words.{In};
+ghost use Rattle.rq_sound.specs.Sound.{IsSound};
 ghost use Rattle.rq_engine.specs.Opened.{AreHonest};
 ghost use Rattle.rq_engine.specs.Says.{commit_number};
 ghost use Rattle.rq_engine.specs.declared.event.Receipt.{Receipt as GivenReceipt};
@@ -55,7 +56,8 @@ pub struct Closed<P: PageDevice, L: LogDevice> {
 }
 
 impl<P: PageDevice + Drop, L: LogDevice + Drop, G: Sharing> Shared<P, L, G> {
-    /// Shares an engine, which under the premise of the sharing is sound. No pass is given out, and the audit is empty.
+    /// Shares an engine, which under the premise of the sharing is sound, where its devices were honest. No pass is given
+    /// out, and the audit is empty.
     pub fn new(alloc: Global, engine: Engine<P, L>, blank: Blank) -> Self
         requires name { blank.name ≡ G.name }
         requires parts { (blank.parts ≡ G.parts) × (blank.parts ≡ 1024) }
@@ -114,7 +116,8 @@ impl<P: PageDevice + Drop, L: LogDevice + Drop, G: Sharing> Shared<P, L, G> {
     }
 
     /// The entries since the audit was last taken, once the lock is free, as `Kept::take` answers them: they replay
-    /// from the engine as it was then, which was sound under the premise of the sharing. Then nothing is in the audit.
+    /// from the engine as it was then, which was sound under the premise of the sharing, where the devices were honest.
+    /// Then nothing is in the audit.
     pub fn take_audit<R: Wait>(&self, rt: &R) -> Taken<P, L>
         ensures { IsTaken P.PageDevice L.LogDevice G.premise result }
     {
@@ -122,16 +125,16 @@ impl<P: PageDevice + Drop, L: LogDevice + Drop, G: Sharing> Shared<P, L, G> {
     }
 
     /// Ends the sharing, once all passes are back: the audit, with the entries that were taken, has as many entries as
-    /// the passes counted calls. Of the receipts that are handed in, those whose commit and acknowledgement the audit
-    /// has name commits that no crash takes any more, where the devices were honest and under the premise of the sharing,
-    /// that the engine which was shared was sound.
+    /// the passes counted calls. Where the devices were honest, the engine with which the audit begins was sound under
+    /// the premise of the sharing; and where it was sound, those of the receipts that are handed in whose commit and
+    /// acknowledgement the audit has name commits that no crash takes any more.
     pub fn close(self, passes: Vec<Pass<G>>, receipts: &[Receipt]) -> Closed<P, L>
         requires parts { G.parts ≡ 1024 }
         requires all { length passes.items ≡ self }
         ensures count { result.kept.taken + length result.kept.audit ≡ sum_by (λ p. p.calls) passes.items }
         ensures replays { Follows P.PageDevice L.LogDevice result.kept.base result.kept.audit result.kept.engine }
         ensures sound { BeginsSound P.PageDevice L.LogDevice G.premise result.kept }
-        ensures receipts { G.premise → AreHonest P.PageDevice L.LogDevice result.kept.engine
+        ensures receipts { AreHonest P.PageDevice L.LogDevice result.kept.engine → IsSound result.kept.base.state
             → (r : GivenReceipt) → In r receipts.now → IsReceiptOf result.kept.audit (commit_number r.number)
             → IsDurable L.LogDevice result.kept.engine (commit_number r.number) }
     {
@@ -172,7 +175,8 @@ impl<P: PageDevice + Drop, L: LogDevice + Drop, G: Sharing> Front<P, L, G> {
     }
 
     /// The entries since the audit was last taken, once the lock is free, as `Kept::take` answers them: they replay
-    /// from the engine as it was then, which was sound under the premise of the sharing. Then nothing is in the audit.
+    /// from the engine as it was then, which was sound under the premise of the sharing, where the devices were honest.
+    /// Then nothing is in the audit.
     pub fn take_audit<R: Wait>(&self, rt: &R) -> Taken<P, L>
         ensures { IsTaken P.PageDevice L.LogDevice G.premise result }
     {

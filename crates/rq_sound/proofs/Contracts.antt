@@ -26,7 +26,6 @@ use Rattle.rq_store.proofs.Begun.{begun_all}
 use Rattle.rq_store.proofs.Grouping.{groups_of}
 use Rattle.rq_store.proofs.Opening as opening
 use Rattle.rq_store.proofs.Starting.{held_now}
-use Rattle.rq_txn.specs.declared.Aim.{Aim}
 use Rattle.rq_txn.specs.Rows.{Under, Row, deed_of, found_row, change_row, row_undone, latched_in}
 use Rattle.rq_store.specs.State.{State, ledger_of}
 use Rattle.rq_store.proofs.RowLists.{found_in}

@@ -41,7 +41,6 @@ use Rattle.rq_store.proofs.Grouping.{groups_of}
 use Rattle.rq_store.proofs.Holders.{map_join}
 use Rattle.rq_store.proofs.Stepping.{one_longer}
 use Rattle.rq_store.proofs.Telling.{told_placed}
-use Rattle.rq_txn.specs.declared.Aim.{Aim}
 use Rattle.rq_txn.specs.Rows.{Under, Row, deed_of, row_finished, row_started}
 use Rattle.rq_store.proofs.RowLists.{found_in, not_txn, unique}
 use Rattle.rq_txn.specs.declared.Aim.TheVariants as aims

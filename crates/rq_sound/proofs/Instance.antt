@@ -1,5 +1,5 @@
 -- Where one operation at most is under way, a store that is sound as one of these is sound as one of any.
-use Rattle.std.proofs.Common.{◌≡◌, ◌≢◌, ℕ, ◌+◌, ◌/◌, ◌||◌, List, [], ◌∷◌, ◌++◌, map, take, drop, reverse, refl, sym, ◌∙◌, ap, subst, Bool, true, false, Option, Some, None, inl, inr, ◌⊎◌, arith}
+use Rattle.std.proofs.Common.{◌≡◌, ◌≢◌, ℕ, ◌+◌, ◌/◌, ◌||◌, List, [], ◌∷◌, ◌++◌, take, drop, reverse, refl, sym, ◌∙◌, ap, subst, Bool, true, false, Option, Some, None, inl, inr, ◌⊎◌, arith}
 use Rattle.std.specs.List.{sum_by}
 use Rattle.std.proofs.lemmas.Bool.{cases_Bool, false≢true, or_cases}
 use Rattle.std.proofs.lemmas.List.Sums.{sum_by-cons}
@@ -9,7 +9,6 @@ use Rattle.rq_model.specs.declared.record.Record.{Record}
 use Rattle.rq_model.specs.Words.{In, same_txn, is_some}
 use Rattle.rq_model.specs.Content.{Said, said, deeds}
 use Rattle.rq_model.specs.Rules.{any_use, uses_send, uses_receive}
-use Rattle.rq_model.specs.Tests.{pending}
 use Rattle.rq_page.specs.Sizes.{Sizes}
 use Rattle.rq_views.specs.Log.{Write, Untouched, HasBefores, applied}
 use Rattle.rq_views.specs.Legal.{Placed, onto, under_way, view}

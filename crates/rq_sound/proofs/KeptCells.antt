@@ -214,6 +214,46 @@ module _ (s : State) (k : IsSound s) (c : Kept) (h : KeepsCells s c) where
   more_gone : (r : Row) (a : ℕ) → IsIdle s r → to_write s.rows a ≡ true → to_write (without_row r.txn s.rows) a ≡ true
   more_gone r a m e = leaves_write r.txn a s.rows (λ q i same. idle_writes_none q.under a (ap (λ (x : Row). x.under) (only_row s k r m.at_row q i same) ∙ m.idle)) e
 
+-- a chosen cell is given back: its slot is noted as it is
+module _ (s : State) (c : Kept) (a : ℕ) (present : List ℕ) (cell : IsCellAddress s.sizes a) (now : slots_now s a ≡ held_in s.sizes (a / 16) present) (h : KeepsCells s c) where
+  abbrev p : ℕ
+  p = place_of s.sizes a
+
+  abbrev chosen : Kept
+  chosen = reserved_at s.sizes c a
+
+  abbrev is_free : Bool
+  is_free = is_free_slot present
+
+  noted_back : noted chosen a present ≡ noted_cell s.sizes chosen p is_free
+  noted_back =
+      (let n : nat_eq a 1 ≡ false = false_from_ne_true (nat_eq a 1) (λ y. let e = eqb-true a 1 y in let low = cell.above in omega (arith, e, low)) in rw n refl)
+      ∙ ap (λ (o : Option Sizes). noted_in o chosen a present) h.sizes
+      ∙ (let y = cell_is s.sizes a cell in rw y refl)
+
+  gives_back : KeepsCells s (noted chosen a present)
+  gives_back =
+      let place = places_are_cells s.sizes a cell in
+      let free_lt : p < length c.free = (let n = h.free_count in let lt = place.0 in omega (arith, n, lt)) in
+      let count : length chosen.reserved ≡ cell_count s.sizes = length-set c.reserved p true ∙ h.chosen_count in
+      let chosen_lt : p < length chosen.reserved = (let lt = place.0 in omega (arith, count, lt)) in
+      subst (KeepsCells s) (sym noted_back) (record {
+        sizes = h.sizes;
+        free_count = length-set c.free p is_free ∙ h.free_count;
+        chosen_count = length-set chosen.reserved p false ∙ count;
+        free = λ i lt. elim (cases_eq i p) [
+          | inl same ↦
+              let here : cell_at s.sizes i ≡ a = ap (cell_at s.sizes) same ∙ place.1 in
+              ap (flag_at (set c.free p is_free)) same ∙ flag_same c.free p is_free free_lt ∙ free_by_byte s.sizes a present cell
+              ∙ ap (λ x. not (is_used x)) (sym now) ∙ ap (λ b. not (is_used (slots_now s b))) (sym here)
+          | inr ne ↦ flag_other c.free p i is_free ne ∙ h.free i lt
+        ];
+        chosen = λ i lt e. elim (cases_eq i p) [
+          | inl same ↦ absurd (false≢true (sym (ap (flag_at (set chosen.reserved p false)) same ∙ flag_same chosen.reserved p false chosen_lt) ∙ e))
+          | inr ne ↦ h.chosen i lt (sym (flag_other c.reserved p i true ne) ∙ sym (flag_other chosen.reserved p i false ne) ∙ e)
+        ];
+      })
+
 none_chosen : (s : State) (c : Kept) (i : ℕ) → KeepsCells s c → any_under s.rows ≡ false → i < cell_count s.sizes → flag_at c.reserved i ≡ false
 none_chosen s c i h idle lt = false_from_ne_true (flag_at c.reserved i) (λ y. true≢false (sym (writes_latched s.rows (cell_at s.sizes i) (h.chosen i lt y)) ∙ none_latched s.rows (cell_at s.sizes i / 16) idle))
 
@@ -221,6 +261,7 @@ pub stay_kept : CellsStayKept
 stay_kept = record {
   starts = λ s r u ends c k m h. starts s k c h r m u ends;
   takes = λ s r u ends c a k m cell on h. takes s k c h r m u ends a cell on;
+  gives_back = λ s c a present cell now h. gives_back s c a present cell now h;
   steps = λ s r u w images c k m store h. steps s k c h r u w images m store;
   finishes = λ s r u d ws c k m h. same_cells s _ c refl refl (λ a. more_ended s k c h r _ a m.at_row (made_writes_none r.under u a m.under m.made)) h;
   undoes = λ s r u lsn d ws c k m h. same_cells s _ c refl refl (λ a. more_ended s k c h r _ a m.at_row (made_writes_none r.under u a m.under m.made)) h;

@@ -45,5 +45,6 @@ pub mod Unchanged
 pub mod LatchLists
 pub mod Latching
 pub mod Wants
+pub mod Gathering
 pub mod WorkedCalls
 pub mod KeptCells

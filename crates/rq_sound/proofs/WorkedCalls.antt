@@ -1,25 +1,35 @@
 -- Worked calls while sends are under way.
-use Rattle.std.proofs.Common.{◌≡◌, ◌||◌, ℕ, ◌+◌, ◌/◌, List, [], ◌∷◌, drop, length, refl, sym, ◌∙◌, ap, subst, true, false, Option, Some, None, inl, inr, arith, cond, nat_eq}
+use Rattle.std.proofs.Common.{◌≡◌, ◌||◌, ◌&&◌, ℕ, zero, suc, ◌+◌, ◌/◌, ◌%◌, ◌<◌, List, [], ◌∷◌, drop, length, refl, sym, ◌∙◌, ap, subst, Bool, true, false, not, Option, Some, None, inl, inr, arith, cond, nat_eq, nat_le, nat_lt}
 use Rattle.std.proofs.lemmas.Bool.{cases_Bool, cases_eq, eqb-true, false≢true, true≢false}
+use Rattle.std.proofs.lemmas.List.{get_or-replicate}
+use Rattle.std.proofs.lemmas.List.Elements.{All-cons}
 use Rattle.rq_model.specs.declared.message.Message.{Message}
 use Rattle.rq_model.specs.declared.txn.Txn.{Txn}
 use Rattle.rq_model.specs.declared.record.Deed.TheVariants.{Append, UnlinkHead, Close}
 use Rattle.rq_model.specs.declared.refusal.Refusal.TheVariants as why
+use Rattle.rq_model.specs.Words.{In}
 use Rattle.rq_model.specs.History.{Call}
 use Rattle.rq_model.specs.History.Job.{Sending, Taking, Ending}
 use Rattle.rq_model.specs.Legal.{Legal}
 use Rattle.rq_page.specs.declared.cell.Cell.{Cell}
 use Rattle.rq_page.specs.declared.directory.Directory.{Directory}
 use Rattle.rq_page.specs.Directories.{new_directory}
+use Rattle.rq_page.specs.Sizes.{cell_at}
 use Rattle.rq_page.specs.Slots.{Slot, held_in, slot_bytes}
 use Rattle.rq_page.specs.Slots.Slot.{Free, Used, Sender}
-use Rattle.rq_views.specs.Items.{items}
+use Rattle.rq_views.specs.Items.{formatted_at, items}
 use Rattle.rq_views.specs.Log.{HasBefores, Item, Slots, Write, state_of}
 use Rattle.rq_views.specs.Plans.{Turn, append_writes}
 use Rattle.rq_views.specs.Plans.Turn.{Did, Undid}
-use Rattle.rq_views.specs.WorkedItems.{sizes, small, t1, t2, cell, sends, sent_a, row, new_b, end_b}
+use Rattle.rq_views.specs.Stored.{IsStoreSlot, is_used}
+use Rattle.rq_views.specs.WorkedItems.{sizes, small, t1, t2, cell, sends, sent_a, sent_b, row, new_b, end_b}
 use Rattle.rq_level.specs.declared.slots.Given.{Given}
-use Rattle.rq_level.specs.Given.{GivenHolds, HoldsBytes, given_at}
+use Rattle.rq_level.specs.ChainPlans as chain
+use Rattle.rq_level.specs.Given.{GivenHolds, HoldsBytes, IsGiven, given_at, has_page}
+use Rattle.rq_level.specs.Kept.{flag_at}
+use Rattle.rq_level.specs.Ops.{Doing}
+use Rattle.rq_level.specs.Ops.Doing.{Send}
+use Rattle.rq_level.proofs.Doings.{send_told}
 use Rattle.rq_store.specs.Worked.{AreFormatted}
 use Rattle.rq_store.specs.State.{size_of, State, ledger_of}
 use Rattle.rq_store.proofs.Spelling.{items_back}
@@ -29,16 +39,17 @@ use Rattle.rq_sound.specs.Sound.{IsSound}
 use Rattle.rq_sound.specs.Calls.{failed}
 use Rattle.rq_sound.specs.Groups.{slots_now}
 use Rattle.rq_sound.specs.Latching.{Begins, IsLatched, MayBePlanned, NeedsLatched, any_latched, at_tail, completed, named, tail_in}
-use Rattle.rq_sound.specs.Levels.{IsGathered}
+use Rattle.rq_sound.specs.Levels.{IsGathered, to_write}
 use Rattle.rq_sound.specs.Wants.{AreGivenOf}
+use Rattle.rq_sound.specs.Gathering.{IsToDo}
 use Rattle.rq_sound.specs.Course.{send_a, both_begun, one_under, two_under, Frames, AreMade, wrote_cell_b, wrote_group_a, row_sent}
-use Rattle.rq_sound.specs.WorkedCalls.{given_b, message_for, RefusalsAreJudged, WaitsAreJudged, GroupsAreJudged, PlansAreJudged, LatchesAreJudged, LevelsAreJudged}
+use Rattle.rq_sound.specs.WorkedCalls.{given_b, job_b, first_chosen, message_for, RefusalsAreJudged, WaitsAreJudged, GroupsAreJudged, PlansAreJudged, LatchesAreJudged, LevelsAreJudged, CellsAreJudged, WantsAreJudged}
 use Rattle.rq_sound.proofs.Contracts.{calls_keep}
 use Rattle.rq_sound.proofs.Courses.{s6, s7, spelt}
 use Rattle.rq_sound.proofs.Groups.{slots_are, slots_tell}
 use Rattle.rq_sound.proofs.Latching.{latched_exact}
 use Rattle.rq_sound.proofs.Refusals.{refusal_steps}
-use Rattle.rq_sound.proofs.Spelt.{new_of_a, new_of_b, told}
+use Rattle.rq_sound.proofs.Spelt.{has_b, new_of_a, new_of_b, told}
 use Rattle.rq_sound.proofs.Unchanged.{unchanged}
 use Rattle.rq_sound.proofs.Wants.{levels_find}
 use Rattle.rq_sound.proofs.Worked.{begun_sound, first, other_pages, plan_b, two_sound, writes_b}
@@ -192,4 +203,86 @@ levels_judged = record {
   wanted = wanted;
   can_send = λ images h. levels_find.sends (one_under images) given_b 15 (one_sound images h) (omega arith) refl (omega arith) (wanted images h);
   cannot_send = λ c. c.directory_is;
+}
+
+-- a formatted slot is not used
+never_used : (a : ℕ) → not (is_used (formatted_at sizes a)) ≡ true
+never_used a = elim (cases_Bool (nat_lt 0 (a / 16) && nat_le (a / 16) sizes.directory && nat_lt 0 (a % 16))) [ inl y ↦ rw y refl | inr n ↦ rw n refl ]
+
+chosen_to_write : (images : List (List ℕ)) (i : ℕ) → i < 30 → flag_at first_chosen i ≡ true → to_write (one_under images).rows (cell_at sizes i) ≡ true
+chosen_to_write images zero lt e = refl
+chosen_to_write images (suc i) lt e = absurd (false≢true (sym (get_or-replicate 29 i false false (omega (arith, lt))) ∙ e))
+
+or_none : (b : Bool) → b ≡ b || false
+or_none true = refl
+or_none false = refl
+
+pub cells_judged : CellsAreJudged
+cells_judged = record {
+  knows = λ images h. record {
+    sizes = refl;
+    free_count = refl;
+    chosen_count = refl;
+    free = λ i lt. get_or-replicate 30 i true false lt ∙ sym (ap (λ x. not (is_used x)) ((one_sound images h).pages (cell_at sizes i)) ∙ never_used (cell_at sizes i));
+    chosen = chosen_to_write images;
+  };
+  known_as_used = λ images h k. false≢true (k.free 0 (omega arith) ∙ ap (λ x. not (is_used x)) ((one_sound images h).pages 49));
+  chosen_for_nobody = λ images k. false≢true (k.chosen 1 (omega arith) refl);
+  to_be_written = λ images. refl;
+  of_nobody = λ images. refl;
+  written = λ v. refl;
+  latched = λ images p. or_none (has_page p (3 ∷ 1 ∷ []));
+  one_left_out = λ images l. false≢true (l 1);
+  one_too_many = λ images l. true≢false (l 2);
+}
+
+-- what the job of the send tells
+abbrev sender_told : Option Doing → ℕ
+sender_told (Some (Send g tag body)) = g
+sender_told _ = 0
+
+job_told : IsToDo job_b (Send 15 7 (104 ∷ []))
+job_told = record { forward = refl; told = send_told 15 7 (104 ∷ []) (omega arith) (omega arith) (omega arith) }
+
+abbrev sent_by : Slot → ℕ
+sent_by (Sender g d) = d.sent
+sent_by _ = 0
+
+told_sent : held_in sizes 2 (slot_bytes (Sender 15 sent_b)) ≡ Sender 15 sent_b
+told_sent = (told 33 (Sender 15 sent_b) has_b).0
+
+pub wants_judged : WantsAreJudged
+wants_judged = record {
+  told = job_told;
+  not_of_another = λ t. (let e : 15 ≡ 0 = ap sender_told (sym job_told.told ∙ t.told) in omega (arith, e));
+  not_to_undo = λ d t. false≢true t.back;
+  given = λ images h. record {
+    of_store = All-cons (IsGiven sizes) _ [] (record { place = record { page_low = omega arith; page_high = omega arith; slot = omega arith }; bytes = (told 33 (Sender 15 new_directory) new_of_b).1 }) (λ k d lt. absurd (omega (arith, lt)));
+    as_is = (gathered images h).as_is;
+  };
+  not_as_is = λ images h g.
+      let e : 0 ≡ 1 = ap sent_by (sym (here images h) ∙ g.as_is 33 (Sender 15 sent_b) told_sent) in
+      omega (arith, e);
+  asks = ap (λ (o : Option Doing). chain.wanted o []) job_told.told;
+  asks_no_more = ap (λ (o : Option Doing). chain.wanted o given_b) job_told.told ∙ ap (λ (x : Slot). chain.link_wanted (tail_in x) given_b) told_b;
+  first = λ images. record {
+    one = λ a e. inl (let same : 33 ≡ a = cc in sym same);
+    of_store = λ a e. (let same : 33 ≡ a = cc in subst (IsStoreSlot sizes) same (record { page_low = omega arith; page_high = omega arith; slot = omega arith }));
+    new = λ a e. refl;
+    latched = λ a e on. (let same : 33 ≡ a = cc in absurd (true≢false (sym on ∙ ap (λ n. latched_in (one_under images).rows (n / 16)) (sym same))));
+    none = λ e. absurd (let no : Some 33 ≡ None = e in cc);
+  };
+  then = λ images h. record {
+    one = λ a e. absurd (let no : None ≡ Some a = e in cc);
+    of_store = λ a e. absurd (let no : None ≡ Some a = e in cc);
+    new = λ a e. absurd (let no : None ≡ Some a = e in cc);
+    latched = λ a e on. absurd (let no : None ≡ Some a = e in cc);
+    none = λ e. wanted images h;
+  };
+  stops_before = λ images w. (w.none refl).0;
+  another = λ images h w. elim (w.one 17 refl) [
+    | inl e ↦ omega (arith, e)
+    | inr i ↦ subst (λ x. In 17 (named (tail_in x))) (here images h) i
+  ];
+  again = λ images w. (let no = w.new 33 refl in cc no);
 }

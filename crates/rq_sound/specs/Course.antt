@@ -11,7 +11,6 @@ use Rattle.rq_level.specs.declared.writes.SlotWrite.{SlotWrite}
 use Rattle.rq_txn.specs.declared.Finished.{Finished}
 use Rattle.rq_store.specs.Opening.{opened}
 use Rattle.rq_store.specs.Worked.{AreFormatted}
-use Rattle.rq_txn.specs.declared.Aim.{Aim}
 use Rattle.rq_txn.specs.Rows.{Under, Row, fresh_row, row_started, row_finished, row_undone, row_aborting}
 use Rattle.rq_store.specs.State.{State}
 use Rattle.rq_txn.specs.declared.Aim.TheVariants as aims

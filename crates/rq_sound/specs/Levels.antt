@@ -6,7 +6,7 @@ use Rattle.rq_model.specs.declared.record.Deed.{Deed}
 use Rattle.rq_model.specs.declared.record.Deed.TheVariants.{Append, UnlinkHead, Close}
 use Rattle.rq_model.specs.Words.{has_number}
 use Rattle.rq_page.specs.Sizes.{Sizes, IsCellAddress, cell_at, cell_count}
-use Rattle.rq_page.specs.Slots.{Slot}
+use Rattle.rq_page.specs.Slots.{Slot, held_in}
 use Rattle.rq_page.specs.Slots.Slot.{Free}
 use Rattle.rq_views.specs.Plans.{Turn}
 use Rattle.rq_views.specs.Plans.Turn.{Did, Undid}
@@ -19,7 +19,6 @@ use Rattle.rq_level.specs.declared.writes.SlotWrite.{SlotWrite}
 use Rattle.rq_level.specs.Kept.{Kept, IsLowest, NoneToTake, SomeFree, flag_at, noted, reserved_at}
 use Rattle.rq_txn.specs.declared.Finished.{Finished}
 use Rattle.rq_groups.specs.Ends.{HeldEnds}
-use Rattle.rq_txn.specs.declared.Aim.{Aim}
 use Rattle.rq_txn.specs.Rows.{Row, Under, any_under, latched_in}
 use Rattle.rq_store.specs.State.{State}
 use Rattle.rq_txn.specs.declared.Aim.TheVariants as aims
@@ -90,14 +89,18 @@ pub record LevelsPlanFromSlots : Type 0 where
   pub reopened : (s : State) (k : Kept) (given : List Given) (g : ℕ) (p : Plan) (after : Kept) → IsSound s
       → IsGathered s given → IsReopened s.sizes k given g p after → MayFollow s p (Undid (Close g))
 
--- The level goes on knowing the cells: an operation that takes none starts, or one for which a cell is chosen; a slot
--- that is written is noted; and nothing else of a store is noted. Where nothing is under way no cell is chosen.
+-- The level goes on knowing the cells: an operation that takes none starts, or one for which a cell is chosen; one that
+-- is refused when its cell was chosen gives it back, where that slot is noted as it is; a slot that is written is noted;
+-- and nothing else of a store is noted. Where nothing is under way no cell is chosen.
 pub record CellsStayKept : Type 0 where
   pub starts : (s : State) (r : Row) (u : Under) (ends : HeldEnds) (k : Kept) → IsSound s → IsIdle s r
       → KeepsCells s k → KeepsCells (started s r u ends) k
   pub takes : (s : State) (r : Row) (u : Under) (ends : HeldEnds) (k : Kept) (a : ℕ) → IsSound s → IsIdle s r
       → IsCellAddress s.sizes a → to_write_under (Some u) a ≡ true → KeepsCells s k
       → KeepsCells (started s r u ends) (reserved_at s.sizes k a)
+  pub gives_back : (s : State) (k : Kept) (a : ℕ) (present : List ℕ) → IsCellAddress s.sizes a
+      → slots_now s a ≡ held_in s.sizes (a / 16) present → KeepsCells s k
+      → KeepsCells s (noted (reserved_at s.sizes k a) a present)
   pub steps : (s : State) (r : Row) (u : Under) (w : SlotWrite) (images : List (List ℕ)) (k : Kept) → IsSound s
       → IsNextWrite s r u w images → IsStoreSlot s.sizes w.at → KeepsCells s k
       → KeepsCells (stepped s r u w images) (noted k w.at w.after)

@@ -16,4 +16,5 @@ pub mod Levels
 pub mod Unchanged
 pub mod Latching
 pub mod Wants
+pub mod Gathering
 pub mod WorkedCalls

@@ -1,8 +1,8 @@
 -- What is so of each transaction that has not ended, and of its operation under way, beside those of others.
-use Rattle.std.specs.Prelude.{◌≡◌, ◌≢◌, ℕ, ◌+◌, ◌<◌, ◌≤◌, true, false, cond, nat_eq, List, [], ◌∷◌, ◌++◌, length, take, drop, reverse, Option, Some, None}
+use Rattle.std.specs.Prelude.{◌≡◌, ◌≢◌, ℕ, ◌+◌, ◌<◌, ◌≤◌, true, false, List, [], ◌∷◌, ◌++◌, length, take, drop, reverse, Option, Some, None}
 use Rattle.rq_model.specs.declared.txn.Txn.{Txn}
 use Rattle.rq_model.specs.declared.record.Record.{Record}
-use Rattle.rq_model.specs.Words.{In, same_txn, is_some}
+use Rattle.rq_model.specs.Words.{In, same_txn}
 use Rattle.rq_model.specs.Deeds.{spelled_deed, deed_in}
 use Rattle.rq_model.specs.Content.{has_end, deeds}
 use Rattle.rq_model.specs.Rules.{any_use, uses_send, uses_receive}

@@ -17,7 +17,6 @@ use Rattle.rq_txn.specs.declared.Finished.{Finished}
 use Rattle.rq_groups.specs.Ends.{HeldEnds, is_free_for, with_held}
 use Rattle.rq_store.specs.Fitting.{left_by}
 use Rattle.rq_store.specs.Rows.{HasWaiting}
-use Rattle.rq_txn.specs.declared.Aim.{Aim}
 use Rattle.rq_txn.specs.Rows.{Under, Row, found_row, latched_by, latched_in}
 use Rattle.rq_store.specs.State.{State}
 use Rattle.rq_txn.specs.declared.Aim.TheVariants as aims

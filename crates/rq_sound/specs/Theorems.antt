@@ -67,7 +67,8 @@ pub record CallsKeepSoundness : Type 0 where
 
 -- The newest deed of a transaction with nothing under way can be undone over the slots as they are, whatever others do
 -- meanwhile, once nobody has latched the page of its sender's directory slot: a message that was taken finds a free
--- cell. So does a message that is sent where the store is not full, and one that a lost transaction took.
+-- cell (`put_back_finds`), and a close finds its group closed still (`reopen_finds`). A message that is sent finds a
+-- cell where the store is not full, and so does one that a lost transaction took.
 pub record InversesCanBePlanned : Type 0 where
   pub planned : (s : State) (r : Row) (rest : List Finished) (f : Finished) → IsSound s → IsIdle s r
       → r.finished ≡ rest ++ f ∷ [] → latched_in s.rows (directory_at (deed_sender f.deed) / 16) ≡ false

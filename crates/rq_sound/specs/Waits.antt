@@ -1,6 +1,5 @@
 -- Which groups give a transaction a message: what the model's tests ask, by what waits and who holds which ends.
-use Rattle.std.specs.Prelude.{◌≡◌, ℕ, ◌<◌, ◌≤◌, ◌&&◌, true, false, nat_lt, Some}
-use Rattle.rq_model.specs.declared.txn.Txn.{Txn}
+use Rattle.std.specs.Prelude.{◌≡◌, ℕ, ◌<◌, ◌&&◌, true, false, nat_lt, Some}
 use Rattle.rq_model.specs.Ledger.{found}
 use Rattle.rq_model.specs.Tests.{any_gives, below, gives}
 use Rattle.rq_page.specs.Sizes.{sender_count}

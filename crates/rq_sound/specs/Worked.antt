@@ -12,7 +12,6 @@ use Rattle.rq_txn.specs.declared.Finished.{Finished}
 use Rattle.rq_groups.specs.Ends.{has_held}
 use Rattle.rq_groups.specs.Waiting.{waits}
 use Rattle.rq_store.specs.Worked.{AreFormatted}
-use Rattle.rq_txn.specs.declared.Aim.{Aim}
 use Rattle.rq_txn.specs.Rows.{Under, Row, fresh_row, row_aborting, latched_by}
 use Rattle.rq_store.specs.State.{State}
 use Rattle.rq_txn.specs.declared.Aim.TheVariants as aims

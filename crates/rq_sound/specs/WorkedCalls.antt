@@ -1,7 +1,8 @@
 -- Worked: while sends are under way, what is refused and what is not, what the pages tell of whom, who waits, and what
 -- is latched.
-use Rattle.std.specs.Prelude.{◌≡◌, ℕ, ◌+◌, ◌<◌, false, true, List, [], ◌∷◌, Some}
+use Rattle.std.specs.Prelude.{◌≡◌, ℕ, ◌+◌, ◌<◌, Bool, false, true, List, [], ◌∷◌, Option, None, Some, replicate}
 use Rattle.rq_model.specs.declared.message.Message.{Message}
+use Rattle.rq_model.specs.declared.record.Deed.{Deed}
 use Rattle.rq_model.specs.declared.txn.Txn.{Txn}
 use Rattle.rq_model.specs.declared.refusal.Refusal.TheVariants.{DiskWrite, Failed, LogFull, Unfinished}
 use Rattle.rq_model.specs.History.{Call}
@@ -10,12 +11,14 @@ use Rattle.rq_page.specs.Directories.{new_directory}
 use Rattle.rq_page.specs.Slots.{slot_bytes}
 use Rattle.rq_page.specs.Slots.Slot.{Sender}
 use Rattle.rq_views.specs.Plans.Turn.{Did}
-use Rattle.rq_views.specs.WorkedItems.{sizes, t1, t2, sends, sent_a}
+use Rattle.rq_views.specs.WorkedItems.{sizes, t1, t2, sends, sent_a, sent_b}
 use Rattle.rq_level.specs.declared.slots.Given.{Given}
-use Rattle.rq_level.specs.ChainPlans.{CanSend}
+use Rattle.rq_level.specs.ChainPlans.{CanSend, job_wanted}
+use Rattle.rq_level.specs.Kept.{Kept}
+use Rattle.rq_level.specs.Ops.{Job, chain_job}
+use Rattle.rq_level.specs.Ops.Doing.{Send}
 use Rattle.rq_groups.specs.Waiting.{waits}
 use Rattle.rq_store.specs.Worked.{AreFormatted}
-use Rattle.rq_txn.specs.declared.Aim.{Aim}
 use Rattle.rq_txn.specs.Rows.{fresh_row, any_under, latched_in}
 use Rattle.rq_store.specs.State.{State, owed_by}
 use Rattle.rq_txn.specs.declared.Aim.TheVariants as aims
@@ -26,15 +29,16 @@ use Rattle.rq_sound.specs.Steps.{Steps}
 use Rattle.rq_sound.specs.Groups.{TellsGroup, slots_now}
 use Rattle.rq_sound.specs.Plans.{IsNew, IsPlannedFrom}
 use Rattle.rq_sound.specs.Latching.{AllFreeLatched, IsLatched, at_tail}
-use Rattle.rq_sound.specs.Levels.{IsGathered}
+use Rattle.rq_sound.specs.Levels.{AreLatched, IsGathered, KeepsCells, to_write}
 use Rattle.rq_sound.specs.Wants.{AreGivenOf}
-use Rattle.rq_sound.specs.Course.{send_a, send_b, both_begun, one_under, two_under, Frames, AreMade, wrote_cell_b, wrote_group_a, done_b, row_sent, committed_b}
+use Rattle.rq_sound.specs.Gathering.{AreGivenFrom, IsToDo, IsToUndo, IsWantedOf}
+use Rattle.rq_sound.specs.Course.{send_a, send_b, both_begun, one_under, two_under, Frames, AreMade, wrote_cell_a, wrote_cell_b, wrote_group_a, done_b, row_sent, committed_b}
 
 abbrev pub message_for : ℕ → Message
 message_for g = record { sender = g; tag = 7; body = 104 ∷ [] }
 
--- who commits while its send is under way is refused as unfinished, and not for another reason; what a device that
--- failed before does is no failure of it again
+-- who commits while its send is under way is refused as unfinished, and not as a full log; what a device that failed
+-- before does is no failure of it again
 pub record RefusalsAreJudged : Type 0 where
   pub unfinished : (images : List (List ℕ)) → AreFormatted sizes images
       → Steps (two_under images) (Call.Commit t1) (Reply.Gave_refusal Unfinished) (two_under images)
@@ -58,7 +62,7 @@ pub record RefusalsAreJudged : Type 0 where
       → Steps (both_begun images) (Call.Acknowledge t1 2) (Reply.Gave_receipt (Some (record { txn = t1; lsn = 2 }))) new
       → ⊥
 
--- nobody waits in a store that was just formatted; once the send for sender 15 is committed, its message waits
+-- no message waits while the first send is under way; once the send for sender 15 is committed, its message waits
 pub record WaitsAreJudged : Type 0 where
   pub none : (images : List (List ℕ)) → AreFormatted sizes images → NoneWaits (one_under images) t2
   pub one : (v : Frames) (waiting : List ℕ)
@@ -74,7 +78,7 @@ pub record GroupsAreJudged : Type 0 where
   pub too_early : (v : Frames) → TellsGroup (wrote_group_a v) 0 sent_a → ⊥
 
 -- the second send is planned from the slots while the first is under way, and no more once its own cell is written; it
--- may start beside the first, and not a second time
+-- is new beside the first, and the first's own writes are not
 pub record PlansAreJudged : Type 0 where
   pub planned : (images : List (List ℕ)) → AreFormatted sizes images
       → IsPlannedFrom sizes (slots_now (one_under images)) send_b.writes (Did (sends 15))
@@ -111,3 +115,60 @@ pub record LevelsAreJudged : Type 0 where
       → AreGivenOf (one_under images) given_b (at_tail (slots_now (one_under images)) 15)
   pub can_send : (images : List (List ℕ)) → AreFormatted sizes images → CanSend sizes given_b 15
   pub cannot_send : CanSend sizes given_a 15 → ⊥
+
+-- a level that knows these of the thirty cells as free, and these as chosen
+abbrev pub knowing : List Bool → List Bool → Kept
+knowing free chosen = record { sizes = Some sizes; free = free; reserved = chosen }
+
+abbrev pub all_free : List Bool
+all_free = replicate 30 true
+
+abbrev pub first_chosen : List Bool
+first_chosen = true ∷ replicate 29 false
+
+-- while the first send is under way, which has yet to write the first cell, each cell is known as free, and that one as
+-- chosen; not so where it is known as used, or where one is chosen that nobody is to write. The pages of the send's two
+-- slots are latched, and no others.
+pub record CellsAreJudged : Type 0 where
+  pub knows : (images : List (List ℕ)) → AreFormatted sizes images
+      → KeepsCells (one_under images) (knowing all_free first_chosen)
+  pub known_as_used : (images : List (List ℕ)) → AreFormatted sizes images
+      → KeepsCells (one_under images) (knowing (false ∷ replicate 29 true) first_chosen) → ⊥
+  pub chosen_for_nobody : (images : List (List ℕ))
+      → KeepsCells (one_under images) (knowing all_free (true ∷ true ∷ replicate 28 false)) → ⊥
+  pub to_be_written : (images : List (List ℕ)) → to_write (one_under images).rows 49 ≡ true
+  pub of_nobody : (images : List (List ℕ)) → to_write (one_under images).rows 65 ≡ false
+  pub written : (v : Frames) → to_write (wrote_cell_a v).rows 49 ≡ false
+  pub latched : (images : List (List ℕ)) → AreLatched (one_under images) (3 ∷ 1 ∷ [])
+  pub one_left_out : (images : List (List ℕ)) → AreLatched (one_under images) (3 ∷ []) → ⊥
+  pub one_too_many : (images : List (List ℕ)) → AreLatched (one_under images) (3 ∷ 1 ∷ 2 ∷ []) → ⊥
+
+-- a send for sender 15 is to be planned
+abbrev pub job_b : Job
+job_b = chain_job (Send 15 7 (104 ∷ []))
+
+-- the directory slot of sender 15 as the send will leave it
+abbrev pub given_sent : List Given
+given_sent = record { at = 33; bytes = slot_bytes (Sender 15 sent_b) } ∷ []
+
+-- what is wanted of the slots that this send needs, beside the first
+abbrev pub Wants : List (List ℕ) → List Given → Option ℕ → Type 0
+Wants images given wanted =
+    IsWantedOf (one_under images) given wanted (at_tail (slots_now (one_under images)) 15)
+
+-- for it the level asks for the directory slot of its sender, and then for nothing; it may not stop before, ask for
+-- another slot, or ask again
+pub record WantsAreJudged : Type 0 where
+  pub told : IsToDo job_b (Send 15 7 (104 ∷ []))
+  pub not_of_another : IsToDo job_b (Send 0 7 (104 ∷ [])) → ⊥
+  pub not_to_undo : (d : Deed) → IsToUndo job_b d → ⊥
+  pub given : (images : List (List ℕ)) → AreFormatted sizes images → AreGivenFrom (one_under images) given_b
+  pub not_as_is : (images : List (List ℕ)) → AreFormatted sizes images → AreGivenFrom (one_under images) given_sent
+      → ⊥
+  pub asks : job_wanted job_b [] ≡ Some 33
+  pub asks_no_more : job_wanted job_b given_b ≡ None
+  pub first : (images : List (List ℕ)) → Wants images [] (Some 33)
+  pub then : (images : List (List ℕ)) → AreFormatted sizes images → Wants images given_b None
+  pub stops_before : (images : List (List ℕ)) → Wants images [] None → ⊥
+  pub another : (images : List (List ℕ)) → AreFormatted sizes images → Wants images [] (Some 17) → ⊥
+  pub again : (images : List (List ℕ)) → Wants images given_b (Some 33) → ⊥

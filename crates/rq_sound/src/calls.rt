@@ -1,5 +1,6 @@
 //! What the calls of a store with any number of operations under way rest on: refusals, what the model's tests read,
 //! what the pages say of a group while others are under way, and which plans may start.
+ghost use Rattle.rq_sound.specs.Gathering.{WantsAreNeeded};
 ghost use Rattle.rq_sound.specs.Groups.{SlotsTellGroups};
 ghost use Rattle.rq_sound.specs.Latching.{LatchedIsExact};
 ghost use Rattle.rq_sound.specs.Levels.{CellsStayKept, LevelsPlanFromSlots, LevelsRefuseExactly};
@@ -8,7 +9,7 @@ ghost use Rattle.rq_sound.specs.Refusals.{RefusalsAreSteps, TestsReadRows};
 ghost use Rattle.rq_sound.specs.Unchanged.{UnchangedAreSteps};
 ghost use Rattle.rq_sound.specs.Waits.{WaitsAreGiven};
 ghost use Rattle.rq_sound.specs.Wants.{LevelsFindAll};
-ghost use Rattle.rq_sound.specs.WorkedCalls.{GroupsAreJudged, LatchesAreJudged, LevelsAreJudged, PlansAreJudged, RefusalsAreJudged, WaitsAreJudged};
+ghost use Rattle.rq_sound.specs.WorkedCalls.{CellsAreJudged, GroupsAreJudged, LatchesAreJudged, LevelsAreJudged, PlansAreJudged, RefusalsAreJudged, WaitsAreJudged, WantsAreJudged};
 
 /// A refusal that the model's tests give is a step that changes nothing; a device's failure stops the store.
 pub fn refusals_are_steps()
@@ -57,7 +58,7 @@ pub fn unchanged_are_steps()
 {}
 
 /// A call that passes the model's tests and has something to start can be planned over the slots as they are exactly
-/// where not all that it may start needs a latched page.
+/// where not all that it may start needs a latched page, or a cell of which none is free outside those.
 pub fn latched_is_exact()
     ensures { LatchedIsExact }
 {}
@@ -66,6 +67,12 @@ pub fn latched_is_exact()
 /// latched the page of its group's directory slot.
 pub fn levels_find_all()
     ensures { LevelsFindAll }
+{}
+
+/// What the level of chains asks for before it plans is among the slots that its operation needs, and it asks for nothing
+/// more once it was given them all.
+pub fn wants_are_needed()
+    ensures { WantsAreNeeded }
 {}
 
 /// Worked: what is refused while two sends are under way, what is not, and receipts.
@@ -96,4 +103,14 @@ pub fn latches_are_judged()
 /// Worked: what a level may be given while a send is under way, and what it finds there.
 pub fn levels_are_judged()
     ensures { LevelsAreJudged }
+{}
+
+/// Worked: what the level of chains knows of the cells while a send is under way, and what is latched then.
+pub fn cells_are_judged()
+    ensures { CellsAreJudged }
+{}
+
+/// Worked: what the level of chains asks for before it plans a send.
+pub fn wants_are_judged()
+    ensures { WantsAreJudged }
 {}

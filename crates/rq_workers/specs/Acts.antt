@@ -67,8 +67,8 @@ pub record Work (S : Type 0) : Type 0 where
   pub begun : S
 
 -- What is so of a worker: its gate may have answered so, and what was called, forced by the interface's own force, and
--- handed on, through its step interface since it took that is what it did; others were told of what it forced, and it did
--- nothing but what may be done.
+-- handed on, through its step interface since it took that is what it did; what that shows is at least what was forced,
+-- and nothing was done but what may be.
 pub record IsWork {S : Type 0} (says : ℕ → Bool → Type 0) (made_by forced_by told_by : S → List Stamped) (shown_by : S → ℕ)
     (steps begun : S) (done : List Act) (has_stopped : Bool) : Type 0 where
   pub asked : AreAnswers says done

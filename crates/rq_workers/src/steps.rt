@@ -17,7 +17,8 @@ pub trait Steps {
     /// The stamps handed on so far, the newest first.
     ghost told: { Self → List Stamp };
 
-    /// How many forced records others were told of, at least. It never falls.
+    /// No smaller than any LSN that `force` answered, and never falling: that of `SharedSteps` is what its seat of the mark
+    /// saw.
     ghost shown: { Self → ℕ };
 
     /// Makes the call that the event stands for.
@@ -28,7 +29,7 @@ pub trait Steps {
         ensures told { told self.new ≡ told self.old }
         ensures shown { shown self.old ≤ shown self.new };
 
-    /// Forces, and tells others how many records are forced.
+    /// Forces. What `shown` says is at least what was forced.
     fn force(&mut self) -> Stamped
         ensures event { result.event ≡ Event.Force }
         ensures made { made self.new ≡ result ∷ made self.old }

@@ -94,8 +94,8 @@ impl<G: Gate + Drop, S: Steps> Worker<G, S> {
     }
 
     /// The step interface. What was called through it since the worker took it, forced by its own force, and handed
-    /// on, is what the worker did, and others were told of what it forced. Each force came directly behind a gate that was
-    /// passed for it, each page's write too, and every other call was one of an operation.
+    /// on, is what the worker did, and what `shown` says of it is at least what was forced. Each force came directly behind
+    /// a gate that was passed for it, each page's write too, and every other call was one of an operation.
     pub fn into_steps(self) -> S
         ensures made { S.made result ≡ stamps_in self.done ++ S.made self.begun }
         ensures forced { S.forced result ≡ forced_in self.done ++ S.forced self.begun }

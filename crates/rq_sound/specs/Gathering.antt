@@ -1,0 +1,58 @@
+-- Which slots the level of chains asks for before it plans: those that its operation needs, and no others.
+use Rattle.std.specs.Prelude.{◌≡◌, ℕ, ◌/◌, ◌<◌, false, true, List, [], ◌∷◌, Option, None, Some}
+use Rattle.rq_model.specs.declared.record.Deed.{Deed}
+use Rattle.rq_model.specs.Deeds.{deed_in}
+use Rattle.rq_model.specs.Words.{In}
+use Rattle.rq_page.specs.Sizes.{directory_at, sender_count}
+use Rattle.rq_page.specs.Slots.{Slot}
+use Rattle.rq_views.specs.Plans.{deed_sender}
+use Rattle.rq_views.specs.Plans.Turn.{Undid}
+use Rattle.rq_views.specs.Stored.{IsStoreSlot}
+use Rattle.rq_level.specs.declared.slots.Given.{Given}
+use Rattle.rq_level.specs.ChainPlans.{job_wanted}
+use Rattle.rq_level.specs.Given.{AreGiven, GivenHolds, given_at}
+use Rattle.rq_level.specs.Ops.{Doing, Job, doing_in}
+use Rattle.rq_level.specs.Ops.Doing.{Send, Receive, Close}
+use Rattle.rq_store.specs.State.{State}
+use Rattle.rq_txn.specs.Rows.{latched_in}
+use Rattle.rq_sound.specs.Groups.{slots_now}
+use Rattle.rq_sound.specs.Latching.{any_latched, at_tail, behind_head, needed}
+use Rattle.rq_sound.specs.Wants.{AreGivenOf}
+
+-- slots of the store were given, as they are
+pub record AreGivenFrom (s : State) (given : List Given) : Type 0 where
+  pub of_store : AreGiven s.sizes given
+  pub as_is : (a : ℕ) (x : Slot) → GivenHolds s.sizes given a x → slots_now s a ≡ x
+
+-- the job is this, to be done; or what takes back this deed
+pub record IsToDo (job : Job) (d : Doing) : Type 0 where
+  pub forward : job.undo ≡ false
+  pub told : doing_in job.bytes ≡ Some d
+
+pub record IsToUndo (job : Job) (d : Deed) : Type 0 where
+  pub back : job.undo ≡ true
+  pub told : deed_in job.bytes ≡ Some d
+
+-- Of all the slots that an operation needs this one is wanted next: it is the store's, and was not given. None is where
+-- all were given.
+pub record IsWantedOf (s : State) (given : List Given) (wanted : Option ℕ) (all : List ℕ) : Type 0 where
+  pub one : (a : ℕ) → wanted ≡ Some a → In a all
+  pub of_store : (a : ℕ) → wanted ≡ Some a → IsStoreSlot s.sizes a
+  pub new : (a : ℕ) → wanted ≡ Some a → given_at a given ≡ None
+  pub latched : (a : ℕ) → wanted ≡ Some a → latched_in s.rows (a / 16) ≡ true → any_latched s.rows all ≡ true
+  pub none : wanted ≡ None → AreGivenOf s given all
+
+-- What the level asks for, by what it is to plan and what it was given, whether the store is sound or not.
+pub record WantsAreNeeded : Type 0 where
+  pub sends : (s : State) (given : List Given) (job : Job) (g tag : ℕ) (body : List ℕ) → AreGivenFrom s given
+      → IsToDo job (Send g tag body) → g < sender_count s.sizes
+      → IsWantedOf s given (job_wanted job given) (at_tail (slots_now s) g)
+  pub receives : (s : State) (given : List Given) (job : Job) (g : ℕ) → AreGivenFrom s given
+      → IsToDo job (Receive g) → g < sender_count s.sizes
+      → IsWantedOf s given (job_wanted job given) (behind_head (slots_now s) g)
+  pub closes : (s : State) (given : List Given) (job : Job) (g : ℕ) → AreGivenFrom s given
+      → IsToDo job (Close g) → g < sender_count s.sizes
+      → IsWantedOf s given (job_wanted job given) (directory_at g ∷ [])
+  pub undoes : (s : State) (given : List Given) (job : Job) (d : Deed) → AreGivenFrom s given
+      → IsToUndo job d → deed_sender d < sender_count s.sizes
+      → IsWantedOf s given (job_wanted job given) (needed (slots_now s) (Undid d))
