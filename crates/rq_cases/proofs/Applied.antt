@@ -1,5 +1,6 @@
 -- What one call makes of a whole open store.
-use Rattle.std.proofs.Common.{◌≡◌, ℕ, ◌+◌, ◌≤◌, List, [], ◌∷◌, true, false, length, take, drop, refl, sym, ap, ◌∙◌, arith}
+use Rattle.std.proofs.Common.{◌≡◌, ℕ, ◌+◌, ◌≤◌, List, [], ◌∷◌, true, false, length, take, drop, refl, sym, ap, ◌∙◌, arith, inl, inr}
+use Rattle.std.proofs.lemmas.Bool.{cases_Bool, false≢true}
 use Rattle.std.proofs.lemmas.List.{length-drop}
 use Rattle.rq_model.specs.declared.record.Record.{Record}
 use Rattle.rq_model.specs.declared.refusal.Refusal.TheVariants as why
@@ -13,7 +14,11 @@ use Rattle.rq_page.specs.Pages.{lsn_of}
 use Rattle.rq_views.specs.WorkedItems.{t2}
 use Rattle.rq_restart.proofs.Parsing.{one_log, AreSpelled-drop}
 use Rattle.rq_store.specs.State.{State}
+use Rattle.rq_sound.specs.Groups.{slots_now}
+use Rattle.rq_sound.specs.Latching.{behind_head}
 use Rattle.rq_sound.specs.Steps.{Steps}
+use Rattle.rq_engine.specs.Sends.{take_latched}
+use Rattle.rq_engine.proofs.Latches.{any_busy, any_unlatched}
 use Rattle.rq_engine.proofs.Standing.{failed_steps}
 use Rattle.rq_engine.specs.declared.event.Event.TheVariants as event
 use Rattle.rq_engine.specs.declared.event.Reply.TheVariants as reply
@@ -44,10 +49,18 @@ module _ (pages : MemPages) (log : MemLog) (p : AreNewPages pages formatted_page
   write_meets : MeetsAll (over forced pages log)
   write_meets = record { honest = (tt, tt); sound = running.force.sound; fit = pages_fit pages p log_5 (5, refl) }
 
+  -- nothing is under way, so no page is latched
+  nobody : take_latched begun_again 0 ≡ false
+  nobody = elim (cases_Bool (take_latched begun_again 0)) [
+    | inl y ↦ absurd (false≢true (any_busy begun_again.rows (behind_head (slots_now begun_again) 0) y))
+    | inr n ↦ n
+  ]
+
   receive_made : Makes (over begun_again pages log) (event.StartReceive t2) (reply.Started take_sub) (over take_started pages log)
   receive_made = record {
     steps = λ h k. running.start_take;
     cause = λ h k. tt;
+    latched = λ k. any_unlatched begun_again k t2 0 (omega arith, refl, omega arith) nobody;
     sizes = refl;
     failed = (λ e. cc e, λ e. cc e);
     refused = tt;
@@ -77,6 +90,7 @@ module _ (pages : MemPages) (old : MemLog) (p : AreNewPages pages formatted_page
     force_made = record {
       steps = λ h k. running.force;
       cause = λ h k. tt;
+      latched = λ k. tt;
       sizes = refl;
       failed = (λ e. cc e, λ e. cc e);
       refused = tt;
@@ -151,6 +165,7 @@ module _ (old new : MemPages) (log : MemLog) (p : AreNewPages old formatted_page
   write_made = record {
     steps = λ h k. write_steps;
     cause = λ h k. tt;
+    latched = λ k. tt;
     sizes = refl;
     failed = (λ e. cc e, λ e. cc e);
     refused = tt;

@@ -225,6 +225,7 @@ module _ (n : ℕ) where
         record {
           steps = λ honest k. steps;
           cause = λ honest k. tt;
+          latched = λ k. tt;
           sizes = refl;
           failed = (λ e. cc e, λ e. cc e);
           refused = tt;
@@ -252,6 +253,7 @@ module _ (n : ℕ) where
         record {
           steps = λ honest k. (refuse_full s t ready (commit_full le) k).0;
           cause = λ honest k. tt;
+          latched = λ k. tt;
           sizes = refl;
           failed = (λ e. cc e, λ e. cc e);
           refused = refl;

@@ -24,6 +24,7 @@ use Rattle.rq_store.specs.State.{State, ledger_of, size_of}
 use Rattle.rq_log.specs.Crash.{LeavesOnly}
 use Rattle.rq_log.specs.Spelled.{IsBeginning}
 use Rattle.rq_store.proofs.Beginning.{begin_sound}
+use Rattle.rq_engine.proofs.Latches.{directory_latched as own_latched, send_latched}
 use Rattle.rq_engine.proofs.Standing.{refused_steps}
 use Rattle.rq_engine.proofs.Crashing.{runs_through_cuts}
 use Rattle.rq_core.specs.Devices.{mem_log, mem_pages}
@@ -42,7 +43,10 @@ use Rattle.rq_cases.proofs.Bytes.{first_spelled}
 use Rattle.rq_cases.proofs.Held.{leaves_beginning, pages_now, same_beginning}
 use Rattle.rq_cases.proofs.Running as one
 use Rattle.rq_cases.proofs.Several as running
+use Rattle.rq_sound.specs.Course.{one_under}
+use Rattle.rq_sound.specs.Latching.{IsLatched}
 use Rattle.rq_sound.proofs.Instance.{instance_sound}
+use Rattle.rq_sound.proofs.WorkedCalls.{latches_judged, one_sound}
 use Rattle.rq_sound.proofs.Standings.{directory_latched}
 
 beside_sound : IsSound beside
@@ -150,6 +154,7 @@ module _ (pages : MemPages) (log : MemLog) (body : Vec ℕ Global) (empty : body
   latched = record {
     steps = λ honest k. refused_steps beside k call why.Latched (passes_here, refl) refl;
     cause = λ honest k. refl;
+    latched = λ k. send_latched beside k t2 1 8 body.items (own_latched beside 1 refl);
     sizes = refl;
     failed = (λ e. cc e, λ e. cc e);
     refused = refl;
@@ -171,6 +176,7 @@ module _ (pages : MemPages) (log : MemLog) (body : Vec ℕ Global) (empty : body
   wants_memory = record {
     steps = λ honest k. refused_steps beside k call why.NoMemory refl refl;
     cause = λ honest k. refl;
+    latched = λ k. tt;
     sizes = refl;
     failed = (λ e. cc e, λ e. cc e);
     refused = refl;
@@ -196,4 +202,7 @@ latches = record {
   wants_memory = wants_memory;
   started_beside = started;
   latched_by_nobody = λ pages log new body a. (let e = a.cause (tt, tt) running.begin_again.sound in cc e);
+  latched_elsewhere = λ images pages log new body h is a.
+      latches_judged.other_page images h
+      (subst (λ (b : List ℕ). IsLatched (one_under images) (Start_send t2 (record { sender = 15; tag = 7; body = b }))) is (a.latched (one_sound images h)));
 }

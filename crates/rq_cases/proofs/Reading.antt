@@ -11,7 +11,9 @@ use Rattle.rq_disk.proofs.KeptPages.{page_pushed}
 use Rattle.rq_page.specs.Pages.{header_bytes, header_of, lsn_of}
 use Rattle.rq_page.specs.Sizes.{Sizes, IsCellAddress, page_count}
 use Rattle.rq_page.proofs.PageParts.{length-header_bytes}
-use Rattle.rq_views.specs.Stored.{is_used, slots_in}
+use Rattle.std.proofs.lemmas.Bool.{false≢true}
+use Rattle.rq_page.specs.Slots.Slot.{Free}
+use Rattle.rq_views.specs.Stored.{slots_in}
 use Rattle.rq_pool.specs.Reading.{IsDamaged, IsDamagedPage, IsSoundPage, IsSuperblock, OnlyRead}
 use Rattle.rq_restart.specs.Once.{OneSizeEach}
 use Rattle.rq_store.specs.Fitting.{FitsLog, image_in}
@@ -19,7 +21,7 @@ use Rattle.rq_engine.specs.Answers.{IsUnderWay}
 use Rattle.rq_engine.specs.Sends.{TakesLowest}
 use Rattle.rq_core.specs.Devices.{mem_pages}
 use Rattle.rq_cases.specs.Opened.{AreNewPages, IsWrittenSince}
-use Rattle.rq_cases.specs.Run.{send_started}
+use Rattle.rq_cases.specs.Run.{begun, send_started}
 use Rattle.rq_cases.specs.Store.{cells_0, cells_1, formatted_pages, groups_0, page_image, sent_pages, sizes}
 use Rattle.rq_cases.specs.Reading.{CellsAreJudged, ReadingsAreJudged, no_cells, no_groups, superblock}
 use Rattle.rq_cases.proofs.Held.{only_formatted}
@@ -127,19 +129,19 @@ module _ (once : OneSizeEach) where
   }
 
 -- the first cell is free
-first_free : is_used (slots_in sizes formatted_pages 33) ≡ true → ⊥
-first_free e = (let f = sym (ap is_used (running.begin.sound.pages 33)) ∙ e in cc f)
+first_free : slots_in sizes formatted_pages 33 ≡ Free
+first_free = running.begin.sound.pages 33
 
 first_cell : IsCellAddress sizes 33
 first_cell = record { above = omega arith; below = omega arith; slot = omega arith }
 
 pub cells : CellsAreJudged
 cells = record {
-  lowest = λ pages log body. (refl, λ a is low. absurd (below a is low));
-  not_lowest = λ pages log body s. first_free (s.1 33 first_cell (omega arith));
+  lowest = λ pages log body. (refl, λ a is low free. absurd (below a is low));
+  not_lowest = λ pages log body s. false≢true (s.1 33 first_cell (omega arith) first_free);
   not_under_way = λ pages log body s. s;
   another_number = λ pages log sub of other body s.
-      other (sym (subst (λ (t : Txn). IsUnderWay send_started (let x : Sub = record { txn = t; number = sub.number } in x) (λ r u. TakesLowest sizes (slots_in sizes formatted_pages) u.writes)) of s).0);
+      other (sym (subst (λ (t : Txn). IsUnderWay send_started (let x : Sub = record { txn = t; number = sub.number } in x) (λ r u. TakesLowest begun u.writes)) of s).0);
 } where
   below : (a : ℕ) → IsCellAddress sizes a → a < 33 → ⊥
   below a is low = (let x = is.above in let y = is.slot in omega (arith, x, y, low))

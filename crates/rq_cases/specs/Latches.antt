@@ -1,11 +1,14 @@
--- A call beside an operation that is under way: it is refused as latched, if memory is not wanting.
-use Rattle.std.specs.Prelude.{◌≡◌, ◌⊎◌, ℕ, ◌∷◌, [], Vec}
+-- A call beside an operation that is under way: it is refused as latched, if memory is not wanting, where it needs a
+-- page of that operation, and nowhere else.
+use Rattle.std.specs.Prelude.{◌≡◌, ◌⊎◌, ℕ, List, ◌∷◌, [], Vec}
 use Rattle.std.specs.declared.alloc.Global.{Global}
 use Rattle.rq_model.specs.declared.refusal.Refusal.TheVariants as why
 use Rattle.rq_model.specs.declared.txn.Sub.{Sub}
 use Rattle.rq_disk.specs.declared.mem_log.MemLog.{MemLog}
 use Rattle.rq_disk.specs.declared.mem_pages.MemPages.{MemPages}
-use Rattle.rq_views.specs.WorkedItems.{t2}
+use Rattle.rq_views.specs.WorkedItems.{t2, sizes as wide}
+use Rattle.rq_store.specs.Worked.{AreFormatted}
+use Rattle.rq_sound.specs.Course.{one_under}
 use Rattle.rq_txn.specs.Rows.{fresh_row}
 use Rattle.rq_sound.specs.Sound.{IsSound}
 use Rattle.rq_store.specs.State.{State}
@@ -46,3 +49,7 @@ pub record LatchesAreJudged : Type 0 where
   -- where nothing is under way, it is not
   pub latched_by_nobody : (pages : MemPages) (log : MemLog) (new : OpenStore MemPages MemLog) (body : Vec ℕ Global)
       → Makes (over begun_again pages log) (other_send body) (reply.Refused why.Latched) new → ⊥
+  -- nor where the pages that it needs are nobody's
+  pub latched_elsewhere : (images : List (List ℕ)) (pages : MemPages) (log : MemLog)
+      (new : OpenStore MemPages MemLog) (body : Vec ℕ Global) → AreFormatted wide images → body.items ≡ 104 ∷ []
+      → Makes (over (one_under images) pages log) (event.StartSend t2 15 7 body) (reply.Refused why.Latched) new → ⊥

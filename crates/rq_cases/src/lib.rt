@@ -155,7 +155,7 @@ pub fn readings_are_judged()
     one_size();
 }
 
-/// Which cell a send takes: the lowest that is free, and no other.
+/// Which cell a send takes: the lowest that is free on a page that nobody has latched, and no other.
 pub fn cells_are_judged()
     ensures { CellsAreJudged }
 {}
@@ -229,7 +229,8 @@ pub fn pools_are_judged()
     ensures { PoolsAreJudged }
 {}
 
-/// A send beside an operation that is under way: it is latched, if memory is not wanting.
+/// A send beside an operation that is under way: it is latched, if memory is not wanting, where it needs a page of that
+/// operation, and nowhere else.
 pub fn latches_are_judged()
     ensures { LatchesAreJudged }
 {}

@@ -54,7 +54,7 @@ use Rattle.rq_sound.proofs.Unchanged.{unchanged}
 use Rattle.rq_sound.proofs.Wants.{levels_find}
 use Rattle.rq_sound.proofs.Worked.{begun_sound, first, other_pages, plan_b, two_sound, writes_b}
 
-one_sound : (images : List (List ℕ)) → AreFormatted sizes images → IsSound (one_under images)
+pub one_sound : (images : List (List ℕ)) → AreFormatted sizes images → IsSound (one_under images)
 one_sound images h = calls_keep.starts (both_begun images) (fresh_row t1) send_a (sends 0) (begun_sound images h) (first images h)
 
 pub refusals_judged : RefusalsAreJudged
