@@ -1,7 +1,7 @@
 -- What a session was told asks for what it does.
-use Rattle.std.proofs.Common.{◌≡◌, ◌⊎◌, ℕ, Bool, true, false, nat_eq, refl, sym, ap, ◌∙◌, subst, inl, inr, arith}
+use Rattle.std.proofs.Common.{◌≡◌, ℕ, Bool, true, false, refl, sym, ap, ◌∙◌, subst, inl, inr, arith}
 use Rattle.std.proofs.lemmas.Bool.{eq-eqb, false≢true, true≢false}
-use Rattle.std.specs.Prelude.{◌↔◌, Option, Some, None, if◌then◌else◌}
+use Rattle.std.specs.Prelude.{Option, Some, if◌then◌else◌}
 use Rattle.rq_model.specs.Words.{same_txn}
 use Rattle.rq_model.specs.declared.txn.Txn.{Txn}
 use Rattle.rq_model.specs.declared.txn.Sub.{Sub}
@@ -14,8 +14,7 @@ use Rattle.rq_session.specs.declared.calls.Ask.TheVariants as asks
 use Rattle.rq_session.specs.declared.calls.Commit.{Commit}
 use Rattle.rq_session.specs.declared.calls.Told.{Told}
 use Rattle.rq_session.specs.declared.calls.Told.TheVariants as told
-use Rattle.rq_session.specs.declared.calls.Action.{Action}
-use Rattle.rq_session.specs.declared.calls.Action.TheVariants.{Do, Again, Await, Answer as Answers, End}
+use Rattle.rq_session.specs.declared.calls.Action.TheVariants.{Do, Await, Answer as Answers, End}
 use Rattle.rq_session.specs.declared.stage.Held.{Held}
 use Rattle.rq_session.specs.declared.stage.Held.TheVariants.{Free, Open, Left, Aborting, Undoing}
 use Rattle.rq_session.specs.declared.stage.Purpose.{Purpose}
@@ -25,8 +24,8 @@ use Rattle.rq_session.specs.declared.stage.Stage.TheVariants as stages
 use Rattle.rq_session.specs.declared.stage.Next.{Next}
 use Rattle.rq_session.specs.Stages.{txn_held}
 use Rattle.rq_session.specs.Rules.{after_await, after_told, is_commit, is_commit_of}
-use Rattle.rq_session.specs.Laws.{IsAborting, IsReceipt, MayAgain, fits, owed}
-use Rattle.rq_session.specs.Tells.{AbortIsOver, AnswersAsTold, AsksAsTold, AsksFor, EachAnswer, EachAsk, EachEnd, EachStage, EachWait, EndsAsTold, IsCleared, IsDone, IsEndAbort, IsNoReceipt, IsRefusal, IsStarted, IsTakenBack, IsToldOwn, IsUndoStarted, MayEnd, Tells, WaitsAsTold, WaitsFor, numbered}
+use Rattle.rq_session.specs.Laws.{IsAborting, IsReceipt, MayAgain, fits}
+use Rattle.rq_session.specs.Tells.{AbortIsOver, AsksFor, EachAnswer, EachAsk, EachEnd, EachStage, EachWait, IsDone, IsEndAbort, IsNoReceipt, IsRefusal, IsStarted, IsUndoStarted, MayEnd, Tells, WaitsFor}
 use Rattle.rq_session.proofs.Telling.{TellsAnswer, TellsAsk, TellsEnd, TellsWait, says}
 
 none_under_way : {P : Type 0} → ◌≡◌ {A = ℕ} 0 1 → P

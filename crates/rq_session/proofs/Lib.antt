@@ -3,3 +3,4 @@ pub mod Balances
 pub mod Worked
 pub mod Telling
 pub mod Due
+pub mod One

@@ -26,8 +26,8 @@ use Rattle.rq_session.specs.declared.stage.Next.{Next}
 use Rattle.rq_session.specs.Stages.{txn_held, held_in, is_undoing, IsStageOf}
 use Rattle.rq_session.specs.Rules as rules
 use Rattle.rq_session.specs.Rules.{next, answered, ended, is_commit, is_commit_of}
-use Rattle.rq_session.specs.Laws.{IsAborting, MayAgain, owed}
-use Rattle.rq_session.specs.Tells.{Tells, AsksFor, WaitsFor, MayEnd, Follows, IsRefusal, IsStarted, held_after, numbered}
+use Rattle.rq_session.specs.Laws.{IsAborting, MayAgain}
+use Rattle.rq_session.specs.Tells.{Tells, AsksFor, WaitsFor, MayEnd, Follows, IsRefusal, held_after, numbered}
 
 -- ---- turns of each kind
 

@@ -1,5 +1,5 @@
 -- Worked sessions: what the laws say of them, and what they rule out.
-use Rattle.std.proofs.Common.{◌≡◌, ℕ, ◌+◌, ◌≤◌, Bool, true, false, Option, Some, None, List, [], ◌∷◌, refl, ap, inl, inr, ⊎_elim, arith}
+use Rattle.std.proofs.Common.{◌≡◌, ℕ, Bool, true, false, Option, Some, None, List, [], ◌∷◌, refl, ap, inl, ⊎_elim, arith}
 use Rattle.std.proofs.lemmas.Bool.{false≢true, true≢false}
 use Rattle.rq_model.specs.declared.txn.Txn.{Txn}
 use Rattle.rq_model.specs.declared.txn.Sub.{Sub}
@@ -20,9 +20,9 @@ use Rattle.rq_session.specs.declared.stage.Stage.{Stage}
 use Rattle.rq_session.specs.declared.stage.Purpose.TheVariants as purposes
 use Rattle.rq_session.specs.declared.stage.Stage.TheVariants as stages
 use Rattle.rq_session.specs.Rules.{next, answered, ended, after_told}
-use Rattle.rq_session.specs.Laws.{Handed, asked, heard, gone, standing, Turn, Takes, Lost, Balanced, MayAgain, IsAgain, is_refusal}
-use Rattle.rq_session.specs.Tells.{AnswersAsTold, AsksAsTold, WaitsAsTold, EndsAsTold, Follows}
-use Rattle.rq_session.proofs.EachTurn.{each_request, each_loss}
+use Rattle.rq_session.specs.Laws.{Handed, asked, heard, gone, standing, Turn, Takes, Lost, Balanced, MayAgain, IsAborting, IsAgain, is_refusal}
+use Rattle.rq_session.specs.Tells.{AnswersAsTold, AsksAsTold, WaitsAsTold, EndsAsTold, Follows, KeepsLaws}
+use Rattle.rq_session.proofs.EachTurn.{each_reply, each_request, each_loss, lost_answers_nothing}
 use Rattle.rq_session.proofs.Due.{each_answer, each_ask, each_wait, each_end, each_stage}
 
 abbrev t : Txn
@@ -277,6 +277,30 @@ forgets_it follows = ⊎_elim
 -- a send stays a send
 aborts_a_send : Follows (stages.Start (Open t)) (told.Started first) (next (Do (asks.Step first)) (stages.Step first purposes.Clearing)) → ⊥
 aborts_a_send follows = let e = follows.abort refl in true≢false e
+
+-- the session itself keeps the laws, and the one that gives its transaction up does not
+keeps_them : (lost : Bool) (s : Stage) (what : Told) → (lost ≡ true → IsAborting s) → KeepsLaws lost s what (after_told lost s what)
+keeps_them false s what may = record {
+  answer = λ e. each_answer s what;
+  silent = λ e. absurd (false≢true e);
+  ask = each_ask false s what;
+  wait = each_wait false s what;
+  over = each_end false s what;
+  again = (each_reply false s what).again;
+  follows = each_stage false s what;
+}
+keeps_them true s what may = record {
+  answer = λ e. absurd (true≢false e);
+  silent = λ e. (lost_answers_nothing s what (may refl)).1;
+  ask = each_ask true s what;
+  wait = each_wait true s what;
+  over = each_end true s what;
+  again = (each_reply true s what).again;
+  follows = each_stage true s what;
+}
+
+breaks_them : KeepsLaws false (stages.Step first purposes.Request) (told.Committed others) off → ⊥
+breaks_them k = refuses_at_a_commit (k.answer refl)
 
 -- an answer more than there were requests is out of balance
 answered_twice : Balanced (record { stage = stages.Rest Free; lost = false; requests = 1; answers = 2 }) → ⊥

@@ -1,7 +1,6 @@
 -- The transaction that a session has, and what each stage of a session is.
 use Rattle.std.specs.Prelude.{◌≡◌, Bool, true, false, Option, Some, None}
 use Rattle.rq_model.specs.declared.txn.Txn.{Txn}
-use Rattle.rq_model.specs.declared.txn.Sub.{Sub}
 use Rattle.rq_session.specs.declared.stage.Held.{Held}
 use Rattle.rq_session.specs.declared.stage.Held.TheVariants as held
 use Rattle.rq_session.specs.declared.calls.Ask.{Ask}

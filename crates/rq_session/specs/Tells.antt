@@ -21,8 +21,9 @@ use Rattle.rq_session.specs.declared.stage.Stage.{Stage}
 use Rattle.rq_session.specs.declared.stage.Stage.TheVariants as stages
 use Rattle.rq_session.specs.declared.stage.Next.{Next}
 use Rattle.rq_session.specs.Stages.{txn_held, own, held_in, is_undoing, IsStageAt}
-use Rattle.rq_session.specs.Rules.{ended, after_told, is_commit}
-use Rattle.rq_session.specs.Laws.{owed, fits, IsAborting, IsReceipt, MayAgain}
+use Rattle.rq_session.specs.Rules.{ended, after_loss, after_request, after_told, is_commit}
+use Rattle.rq_wire.specs.declared.request.Request.{Request}
+use Rattle.rq_session.specs.Laws.{AgainFits, IsAborting, IsReceipt, Lost, MayAgain, Takes, fits, given, owed}
 
 -- ---- answers
 
@@ -208,3 +209,30 @@ pub record Follows (s : Stage) (what : Told) (n : Next) : Type 0 where
 
 abbrev pub EachStage : Type 0
 EachStage = (lost : Bool) (s : Stage) (what : Told) → Follows s what (after_told lost s what)
+
+-- ---- one session
+
+-- all that the laws say of a turn at a reply
+pub record KeepsLaws (lost : Bool) (s : Stage) (what : Told) (n : Next) : Type 0 where
+  pub answer : lost ≡ false → AnswersAsTold s what n.action
+  pub silent : lost ≡ true → given n.action ≡ 0
+  pub ask : AsksAsTold s what n.action
+  pub wait : WaitsAsTold s what n.action
+  pub over : EndsAsTold lost s what n.action
+  pub again : AgainFits s what n
+  pub follows : Follows s what n
+
+abbrev pub IsSame : Next → Next → Type 0
+IsSame n m = (n.action ≡ m.action) × (n.stage ≡ m.stage)
+
+-- a turn that keeps the laws is that of the session; once the connection is lost, an abort is under way
+abbrev pub OneReply : Type 0
+OneReply =
+    (lost : Bool) (s : Stage) (what : Told) (n : Next) → (lost ≡ true → IsAborting s) → KeepsLaws lost s what n
+    → IsSame n (after_told lost s what)
+
+abbrev pub OneFirst : Type 0
+OneFirst = (h : Held) (request : Request) (n : Next) → Takes h request n → IsSame n (after_request h request)
+
+abbrev pub OneLoss : Type 0
+OneLoss = (s : Stage) (n : Next) → Lost s n → IsSame n (after_loss s)
