@@ -1,2 +1,3 @@
 pub mod Overwrites
+pub mod Worked
 pub mod Latched

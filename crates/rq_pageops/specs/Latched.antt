@@ -1,6 +1,9 @@
 -- The pages that operations under way have latched: a set for each of them.
-use Rattle.std.specs.Prelude.{◌≡◌, ℕ, ◌≤◌, ◌++◌, false, List, [], ◌∷◌, length, map}
-use Rattle.rq_level.specs.Given.{Pages, meets}
+use Rattle.std.specs.Prelude.{◌≡◌, ℕ, ◌+◌, ◌≤◌, ◌++◌, ◌&&◌, nat_eq, cond, not, Bool, true, false, List, [], ◌∷◌, length, map, Option, Some, None}
+use Rattle.std.specs.List.{filter}
+use Rattle.std.specs.declared.snapshot.Snapshot.{Snapshot}
+use Rattle.rq_model.specs.Words.{In}
+use Rattle.rq_level.specs.Given.{Pages, has_page, meets}
 
 -- the pages of all these sets
 abbrev pub pages_in : List (List ℕ) → List ℕ
@@ -17,14 +20,10 @@ abbrev pub AreApart : List (List ℕ) → Type 0
 AreApart [] = Unit {0}
 AreApart (s ∷ ss) = MeetsNone s ss × AreApart ss
 
--- what an operation latches: some pages, and at most three
-pub record IsLatch (s : List ℕ) : Type 0 where
-  pub some : 1 ≤ length s
-  pub few : length s ≤ 3
-
-abbrev pub AreLatches : List (List ℕ) → Type 0
-AreLatches [] = Unit {0}
-AreLatches (s ∷ ss) = IsLatch s × AreLatches ss
+-- an operation latches at most three pages
+abbrev pub AreFew : List (List ℕ) → Type 0
+AreFew [] = Unit {0}
+AreFew (s ∷ ss) = (length s ≤ 3) × AreFew ss
 
 -- the set was one of them, and it alone is gone
 pub record IsGivenBack (set : List ℕ) (old new : List (List ℕ)) : Type 0 where
@@ -33,13 +32,40 @@ pub record IsGivenBack (set : List ℕ) (old new : List (List ℕ)) : Type 0 whe
   pub before : old ≡ front ++ set ∷ back
   pub after : new ≡ front ++ back
 
-abbrev pub sets_of : List Pages → List (List ℕ)
-sets_of ps = map (λ (p : Pages). p.pages) ps
+-- each set with pages, of which none is in this one, stays
+abbrev pub OthersStay : List ℕ → List (List ℕ) → List (List ℕ) → Type 0
+OthersStay set old new = (s : List ℕ) → In s old → 1 ≤ length s → meets s set ≡ false → In s new
 
--- the sets are those of operations, no two of which meet, with all their pages in one list; there is room for 4,096
-pub record AreHeld (sets : List (List ℕ)) (places : ℕ) (all : Pages) : Type 0 where
+-- ---- one set given back
+
+-- the pages that are not of this set
+abbrev pub others : List ℕ → List ℕ → List ℕ
+others set pages = filter (λ p. not (has_page p set)) pages
+
+abbrev pub same_pages : List ℕ → List ℕ → Bool
+same_pages [] [] = true
+same_pages (p ∷ ps) (q ∷ qs) = nat_eq p q && same_pages ps qs
+same_pages _ _ = false
+
+-- the pages of this set are latched no more; where it is one of these sets, that one is gone
+abbrev pub given_back : List ℕ → List (List ℕ) → List (List ℕ)
+given_back set [] = []
+given_back set (s ∷ ss) = cond (same_pages s set) (map (others set) ss) (others set s ∷ given_back set ss)
+
+-- ---- the sets, as contracts alone see them
+
+-- what came of a change, which took (true) or gave back (false) a set; and how many changes there were
+abbrev pub changed : Option (Bool × (Snapshot Pages × Snapshot (List (List ℕ) × ℕ))) → List (List ℕ)
+changed None = []
+changed (Some c) = cond c.0 (c.1.1.value.0 ++ c.1.0.value.pages ∷ []) (given_back c.1.0.value.pages c.1.1.value.0)
+
+abbrev pub changes : Option (Bool × (Snapshot Pages × Snapshot (List (List ℕ) × ℕ))) → ℕ
+changes None = 0
+changes (Some c) = c.1.1.value.1 + 1
+
+-- no two of the sets meet, and all their pages are in one list; there is room for those of 4,096 operations
+pub record AreHeld (sets : List (List ℕ)) (all : Pages) : Type 0 where
   pub apart : AreApart sets
-  pub latches : AreLatches sets
+  pub few : AreFew sets
   pub pages : all.pages ≡ pages_in sets
-  pub enough : 4096 ≤ places
   pub room : 12288 ≤ all.room

@@ -1,13 +1,15 @@
 //! The pages that operations under way have latched.
-ghost use Rattle.std.specs.Prelude.{◌≡◌, ◌<◌, ◌∷◌, ◌++◌, [], true, false, IfOk, OnOk, OnErr, IfErr, length};
+ghost use Rattle.std.specs.Prelude.{◌≡◌, ◌<◌, ◌≤◌, ◌∷◌, ◌++◌, [], true, false, not, IfOk, length};
 ghost use Rattle.rq_level.specs.Given.{meets};
 ghost use Rattle.rq_model.specs.Words.{In};
-ghost use Rattle.rq_pageops.specs.Latched.{IsGivenBack, IsLatch, pages_in};
+ghost use Rattle.rq_pageops.specs.Latched.{AreApart, IsGivenBack, OthersStay, others, pages_in};
 
+use crate::sets::Sets;
 use rq_level::PageSet;
 use rq_model::refusal::NoMemory;
 use std::alloc::Global;
 use std::marker::Model;
+use std::snapshot::Snapshot;
 
 /// The most operations that are under way at a time.
 pub const OPERATIONS: usize = 4096;
@@ -20,18 +22,18 @@ pub const LATCHED_PAGES: usize = 3 * OPERATIONS;
 #[derive(Drop)]
 pub struct Latches {
     held: PageSet,
-    sets: Vec<PageSet>,
+    sets: Snapshot<Sets>,
 }
 
 impl Model for Latches {
-    ghost use Rattle.std.specs.Prelude.{ℕ, List, vec_capacity};
-    ghost use Rattle.rq_pageops.specs.Latched.{AreHeld, sets_of};
+    ghost use Rattle.std.specs.Prelude.{ℕ, List};
+    ghost use Rattle.rq_pageops.specs.Latched.{AreHeld};
 
     ghost Value = { List (List ℕ) };
 
-    ghost view = { λ l. sets_of l.sets.items };
+    ghost view = { λ l. l.sets.value.0 };
 
-    ghost invariant = { λ l. AreHeld (sets_of l.sets.items) (vec_capacity l.sets) l.held };
+    ghost invariant = { λ l. AreHeld l.sets.value.0 l.held };
 }
 
 impl Latches {
@@ -42,49 +44,49 @@ impl Latches {
     pub fn new(alloc: Global) -> Result<Latches, NoMemory>
         ensures { IfOk result (λ l. l ≡ []) }
     {
-        let Ok(sets) = Vec::with_capacity(alloc, OPERATIONS) else {
-            return Err(NoMemory);
-        };
         match PageSet::with_room(alloc, LATCHED_PAGES) {
-            Ok(held) => Ok(Latches { held, sets }),
+            Ok(held) => Ok(Latches {
+                held,
+                sets: Sets::none(),
+            }),
             Err(refused) => Err(refused),
         }
     }
 
-    /// The pages of all sets.
+    /// The pages of all sets, no two of which have a page in common.
     pub fn held(&self) -> &PageSet
-        ensures { result.now.pages ≡ pages_in self.now }
+        ensures pages { result.now.pages ≡ pages_in self.now }
+        ensures apart { AreApart self.now }
     {
         &self.held
     }
 
-    /// Latches the pages of an operation, exactly where none of them is latched. Takes no memory.
-    ///
-    /// # Errors
-    /// The set: some page of it is latched, and nothing changed.
-    pub fn try_take(&mut self, set: PageSet) -> Result<(), PageSet>
+    /// Latches the pages of an operation, exactly where none of them is latched; else nothing changes. Takes no memory.
+    pub fn try_take(&mut self, set: &PageSet) -> bool
         requires room { length self.old < 4096 }
-        requires set { IsLatch set.pages }
-        ensures free { OnOk result (meets set.pages (pages_in self.old) ≡ false) }
-        ensures taken { OnOk result (self.new ≡ self.old ++ set.pages ∷ []) }
-        ensures latched { OnErr result (meets set.pages (pages_in self.old) ≡ true) }
-        ensures kept { OnErr result (self.new ≡ self.old) }
-        ensures set { IfErr result (λ s. s ≡ set) }
+        requires few { length set.now.pages ≤ 3 }
+        ensures free { result ≡ true → meets set.now.pages (pages_in self.old) ≡ false }
+        ensures taken { result ≡ true → self.new ≡ self.old ++ set.now.pages ∷ [] }
+        ensures latched { result ≡ false → meets set.now.pages (pages_in self.old) ≡ true }
+        ensures kept { result ≡ false → self.new ≡ self.old }
     {
         if set.meets(&self.held) {
-            return Err(set);
+            return false;
         }
-        self.held.add_all(&set);
-        self.sets.push(set).unwrap();
-        Ok(())
+        self.held.add_all(set);
+        Sets::take(&mut self.sets, set);
+        true
     }
 
-    /// Gives the pages of one operation back, and no other's. Takes no memory.
+    /// Gives the pages of one operation back: where they are latched as one set, that set alone is gone. None of them is
+    /// latched then, and each other page is as it was. Takes no memory.
     pub fn give(&mut self, set: &PageSet)
-        requires { In set.now.pages self.old }
-        ensures { IsGivenBack set.now.pages self.old self.new }
+        ensures set { In set.now.pages self.old → IsGivenBack set.now.pages self.old self.new }
+        ensures pages { pages_in self.new ≡ others set.now.pages (pages_in self.old) }
+        ensures stay { OthersStay set.now.pages self.old self.new }
+        ensures few { length self.new ≤ length self.old }
     {
         self.held.remove_all(set);
-        self.sets.retain(|one| !set.meets(one));
+        Sets::give(&mut self.sets, set);
     }
 }

@@ -1,5 +1,5 @@
 -- Each turn of a session keeps its laws.
-use Rattle.std.proofs.Common.{zero-add, ◌≡◌, ℕ, Bool, true, false, cond, refl, sym, ◌∙◌, ap, inl, inr}
+use Rattle.std.proofs.Common.{zero-add, ◌≡◌, ℕ, Bool, true, false, cond, refl, sym, ◌∙◌, ap, inl, inr, arith}
 use Rattle.std.proofs.lemmas.Bool.{false≢true}
 use Rattle.std.specs.Prelude.{Option, Some, None}
 use Rattle.rq_model.specs.declared.txn.Txn.{Txn}
@@ -23,11 +23,11 @@ use Rattle.rq_session.specs.declared.stage.Purpose.TheVariants as purposes
 use Rattle.rq_session.specs.declared.stage.Stage.{Stage}
 use Rattle.rq_session.specs.declared.stage.Stage.TheVariants as stages
 use Rattle.rq_session.specs.declared.stage.Next.{Next}
-use Rattle.rq_session.specs.Stages.{txn_held, own}
+use Rattle.rq_session.specs.Stages.{txn_held, own, held_in, IsStageOf}
 use Rattle.rq_session.specs.Rules as rules
 use Rattle.rq_model.proofs.Lists.{same_is}
 use Rattle.rq_session.specs.Rules.{next, answered, ended, is_commit, is_commit_of}
-use Rattle.rq_session.specs.Laws.{IsOwn, AwaitsOwn, awaited, Turn, Takes, Lost, CommitFits, MayAgain, MayAgainAfter, IsAgain, IsAborting, asked_last, owed, given}
+use Rattle.rq_session.specs.Laws.{IsOwn, AwaitsOwn, abort_call, loss_call, awaited, Turn, Takes, Lost, CommitFits, MayAgain, MayAgainAfter, IsAgain, IsAborting, asked_last, owed, given}
 
 -- ---- turns of each kind
 
@@ -184,7 +184,7 @@ own_commits : (h : Held) (commit : Commit) (mine : Bool) → is_commit_of (txn_h
 own_commits h commit true e = record {
   own_call = refl;
   own_commit = (names_its (txn_held h) commit e, refl);
-  own_txn = inr (inl (tt, refl));
+  own_txn = inr (inl ((names_its (txn_held h) commit e, refl), refl));
   once = inr refl;
   again = tt;
   receipt = tt;
@@ -285,81 +285,151 @@ each_may_again lost _ _ may = absurd may
 
 -- ---- requests
 
-pub each_request : (h : Held) (request : Request) → Takes h (rules.after_request h request)
-each_request Free requests.Begin = record { own_call = refl; own_commit = refl; own_txn = refl; once = refl }
-each_request h (requests.LastTag sender) = record { own_call = tt; own_commit = refl; own_txn = refl; once = refl }
-each_request Free request = record { own_call = tt; own_commit = refl; own_txn = refl; once = refl }
-each_request h requests.Begin = record { own_call = tt; own_commit = refl; own_txn = refl; once = refl }
-each_request h request = record { own_call = refl; own_commit = refl; own_txn = refl; once = refl }
+none_under_way : {P : Type 0} → ◌≡◌ {A = ℕ} 0 1 → P
+none_under_way e = absurd (omega (arith, e))
+
+pub each_request : (h : Held) (request : Request) → Takes h request (rules.after_request h request)
+each_request Free requests.Begin = record {
+  first = refl;
+  stage = refl;
+  same = refl;
+  abort = λ o. refl;
+  own_call = refl;
+  own_commit = refl;
+  own_txn = refl;
+  once = refl;
+}
+each_request h (requests.LastTag sender) = record {
+  first = refl;
+  stage = (h, refl);
+  same = refl;
+  abort = λ o. refl;
+  own_call = tt;
+  own_commit = refl;
+  own_txn = refl;
+  once = refl;
+}
+each_request Free request = record {
+  first = refl;
+  stage = (Free, refl);
+  same = refl;
+  abort = none_under_way;
+  own_call = tt;
+  own_commit = refl;
+  own_txn = refl;
+  once = refl;
+}
+each_request h requests.Begin = record {
+  first = refl;
+  stage = (h, refl);
+  same = refl;
+  abort = none_under_way;
+  own_call = tt;
+  own_commit = refl;
+  own_txn = refl;
+  once = refl;
+}
+each_request (Left sub) requests.Abort = record {
+  first = refl;
+  stage = (purposes.Clearing, refl);
+  same = refl;
+  abort = λ o. refl;
+  own_call = refl;
+  own_commit = refl;
+  own_txn = refl;
+  once = refl;
+}
+each_request (Undoing sub) requests.Abort = record {
+  first = refl;
+  stage = (purposes.Undoing, refl);
+  same = refl;
+  abort = λ o. refl;
+  own_call = refl;
+  own_commit = refl;
+  own_txn = refl;
+  once = refl;
+}
+each_request h requests.Abort = record {
+  first = refl;
+  stage = refl;
+  same = refl;
+  abort = λ o. refl;
+  own_call = refl;
+  own_commit = refl;
+  own_txn = refl;
+  once = refl;
+}
+each_request h request = record {
+  first = refl;
+  stage = (h, refl, refl);
+  same = refl;
+  abort = λ o. refl;
+  own_call = refl;
+  own_commit = refl;
+  own_txn = refl;
+  once = refl;
+}
 
 -- ---- losses
 
-lost_aborts : (s : Stage) (h : Held) → txn_held h ≡ own s → Lost s (rules.abort h)
-lost_aborts s Free same = record { own_call = tt; own_commit = refl; own_txn = same; aborts = tt; silent = refl }
-lost_aborts s (Open txn) same = record { own_call = refl; own_commit = refl; own_txn = same; aborts = tt; silent = refl }
-lost_aborts s (Left sub) same = record { own_call = refl; own_commit = refl; own_txn = same; aborts = tt; silent = refl }
-lost_aborts s (Aborting txn) same = record { own_call = refl; own_commit = refl; own_txn = same; aborts = tt; silent = refl }
-lost_aborts s (Undoing sub) same = record { own_call = refl; own_commit = refl; own_txn = same; aborts = tt; silent = refl }
+-- a call for the transaction as it is
+loses : (s : Stage) (ask : Ask) (t : Stage) → Some ask ≡ loss_call (asked_last s) (held_in s) → IsStageOf ask t
+    → held_in t ≡ held_in s → IsOwn (own t) ask → awaited t ≡ None → own t ≡ own s → IsAborting t → Lost s (next (Do ask) t)
+loses s ask t is stage same mine none txn aborts = record {
+  call = is;
+  stage = stage;
+  same = same;
+  own_call = mine;
+  own_commit = none;
+  own_txn = txn;
+  aborts = aborts;
+  silent = refl;
+}
+
+loses_none : (s : Stage) → None ≡ loss_call (asked_last s) (held_in s) → Free ≡ held_in s → None ≡ own s → Lost s ended
+loses_none s none same txn = record {
+  call = none;
+  stage = refl;
+  same = same;
+  own_call = tt;
+  own_commit = refl;
+  own_txn = txn;
+  aborts = tt;
+  silent = refl;
+}
+
+lost_aborts : (s : Stage) (h : Held) → abort_call h ≡ loss_call (asked_last s) (held_in s) → h ≡ held_in s → txn_held h ≡ own s
+    → Lost s (rules.abort h)
+lost_aborts s Free call same txn = loses_none s call same txn
+lost_aborts s (Open t) call same txn = loses s (asks.StartAbort t) (stages.StartAbort t) call refl same refl refl txn tt
+lost_aborts s (Left sub) call same txn =
+    loses s (asks.Step sub) (stages.Step sub purposes.Clearing) call (purposes.Clearing, refl) same refl refl txn tt
+lost_aborts s (Aborting t) call same txn = loses s (asks.UndoNext t) (stages.UndoNext t) call refl same refl refl txn tt
+lost_aborts s (Undoing sub) call same txn =
+    loses s (asks.Step sub) (stages.Step sub purposes.Undoing) call (purposes.Undoing, refl) same refl refl txn tt
 
 pub each_loss : (s : Stage) → Lost s (rules.after_loss s)
-each_loss (stages.Rest h) = lost_aborts (stages.Rest h) h refl
-each_loss (stages.LastTag h) = lost_aborts (stages.LastTag h) h refl
-each_loss (stages.Start h) = lost_aborts (stages.Start h) h refl
-each_loss (stages.Commit h) = lost_aborts (stages.Commit h) h refl
-each_loss stages.Begin = record { own_call = tt; own_commit = refl; own_txn = refl; aborts = tt; silent = refl }
-each_loss (stages.Await commit) = record { own_call = tt; own_commit = refl; own_txn = refl; aborts = tt; silent = refl }
-each_loss stages.Ended = record { own_call = tt; own_commit = refl; own_txn = refl; aborts = tt; silent = refl }
-each_loss (stages.Step sub purposes.Request) = record {
-  own_call = refl;
-  own_commit = refl;
-  own_txn = refl;
-  aborts = tt;
-  silent =
-      refl;
-}
-each_loss (stages.Step sub purposes.Clearing) = record {
-  own_call = refl;
-  own_commit = refl;
-  own_txn = refl;
-  aborts = tt;
-  silent =
-      refl;
-}
-each_loss (stages.Step sub purposes.Undoing) = record {
-  own_call = refl;
-  own_commit = refl;
-  own_txn = refl;
-  aborts = tt;
-  silent =
-      refl;
-}
-each_loss (stages.Finish sub purposes.Request) = record {
-  own_call = refl;
-  own_commit = refl;
-  own_txn = refl;
-  aborts = tt;
-  silent =
-      refl;
-}
-each_loss (stages.Finish sub purposes.Clearing) = record {
-  own_call = refl;
-  own_commit = refl;
-  own_txn = refl;
-  aborts = tt;
-  silent =
-      refl;
-}
-each_loss (stages.Finish sub purposes.Undoing) = record {
-  own_call = refl;
-  own_commit = refl;
-  own_txn = refl;
-  aborts = tt;
-  silent =
-      refl;
-}
-each_loss (stages.StartAbort txn) = record { own_call = refl; own_commit = refl; own_txn = refl; aborts = tt; silent = refl }
-each_loss (stages.UndoNext txn) = record { own_call = refl; own_commit = refl; own_txn = refl; aborts = tt; silent = refl }
-each_loss (stages.EndAbort txn) = record { own_call = refl; own_commit = refl; own_txn = refl; aborts = tt; silent = refl }
+each_loss (stages.Rest h) = lost_aborts (stages.Rest h) h refl refl refl
+each_loss (stages.LastTag h) = lost_aborts (stages.LastTag h) h refl refl refl
+each_loss (stages.Start h) = lost_aborts (stages.Start h) h refl refl refl
+each_loss (stages.Commit h) = lost_aborts (stages.Commit h) h refl refl refl
+each_loss stages.Begin = loses_none stages.Begin refl refl refl
+each_loss (stages.Await commit) = loses_none (stages.Await commit) refl refl refl
+each_loss stages.Ended = loses_none stages.Ended refl refl refl
+each_loss (stages.Step sub purposes.Request) = loses (stages.Step sub purposes.Request) (asks.Step sub)
+    (stages.Step sub purposes.Clearing) refl (purposes.Clearing, refl) refl refl refl refl tt
+each_loss (stages.Step sub purpose) =
+    loses (stages.Step sub purpose) (asks.Step sub) (stages.Step sub purpose) refl (purpose, refl) refl refl refl refl tt
+each_loss (stages.Finish sub purposes.Request) = loses (stages.Finish sub purposes.Request) (asks.Finish sub)
+    (stages.Finish sub purposes.Clearing) refl (purposes.Clearing, refl) refl refl refl refl tt
+each_loss (stages.Finish sub purpose) =
+    loses (stages.Finish sub purpose) (asks.Finish sub) (stages.Finish sub purpose) refl (purpose, refl) refl refl refl refl tt
+each_loss (stages.StartAbort txn) = loses (stages.StartAbort txn) (asks.StartAbort txn) (stages.StartAbort txn) refl refl
+    refl refl refl refl tt
+each_loss (stages.UndoNext txn) = loses (stages.UndoNext txn) (asks.UndoNext txn) (stages.UndoNext txn) refl refl refl refl
+    refl refl tt
+each_loss (stages.EndAbort txn) = loses (stages.EndAbort txn) (asks.EndAbort txn) (stages.EndAbort txn) refl refl refl refl
+    refl refl tt
 
 -- ---- a lost session is silent
 

@@ -1,4 +1,6 @@
 pub mod EachTurn
 pub mod Balances
 pub mod Worked
-pub mod GoingOn
+pub mod Telling
+pub mod Due
+pub mod One

@@ -1,3 +1,4 @@
 pub mod Stages
 pub mod Rules
 pub mod Laws
+pub mod Tells

@@ -1,8 +1,14 @@
--- The transaction that a session has.
-use Rattle.std.specs.Prelude.{Option, Some, None}
+-- The transaction that a session has, and what each stage of a session is.
+use Rattle.std.specs.Prelude.{◌≡◌, Bool, true, false, Option, Some, None}
 use Rattle.rq_model.specs.declared.txn.Txn.{Txn}
 use Rattle.rq_session.specs.declared.stage.Held.{Held}
 use Rattle.rq_session.specs.declared.stage.Held.TheVariants as held
+use Rattle.rq_session.specs.declared.calls.Ask.{Ask}
+use Rattle.rq_session.specs.declared.calls.Ask.TheVariants as asks
+use Rattle.rq_session.specs.declared.calls.Action.{Action}
+use Rattle.rq_session.specs.declared.calls.Action.TheVariants.{Do, Again, Await, Answer as Answers, End}
+use Rattle.rq_session.specs.declared.stage.Purpose.{Purpose}
+use Rattle.rq_session.specs.declared.stage.Purpose.TheVariants as purposes
 use Rattle.rq_session.specs.declared.stage.Stage.{Stage}
 use Rattle.rq_session.specs.declared.stage.Stage.TheVariants as stages
 
@@ -27,3 +33,60 @@ own (stages.StartAbort txn) = Some txn
 own (stages.UndoNext txn) = Some txn
 own (stages.EndAbort txn) = Some txn
 own stages.Ended = None
+
+-- how the session's transaction stands before the call that was asked for last
+abbrev pub held_in : Stage → Held
+held_in (stages.Rest h) = h
+held_in stages.Begin = held.Free
+held_in (stages.LastTag h) = h
+held_in (stages.Start h) = h
+held_in (stages.Step sub purposes.Request) = held.Left sub
+held_in (stages.Step sub purposes.Clearing) = held.Left sub
+held_in (stages.Step sub purposes.Undoing) = held.Undoing sub
+held_in (stages.Finish sub purposes.Request) = held.Left sub
+held_in (stages.Finish sub purposes.Clearing) = held.Left sub
+held_in (stages.Finish sub purposes.Undoing) = held.Undoing sub
+held_in (stages.Commit h) = h
+held_in (stages.Await commit) = held.Free
+held_in (stages.StartAbort txn) = held.Open txn
+held_in (stages.UndoNext txn) = held.Aborting txn
+held_in (stages.EndAbort txn) = held.Aborting txn
+held_in stages.Ended = held.Free
+
+-- an abort is under way
+abbrev pub is_undoing : Stage → Bool
+is_undoing (stages.Step sub purposes.Clearing) = true
+is_undoing (stages.Step sub purposes.Undoing) = true
+is_undoing (stages.Finish sub purposes.Clearing) = true
+is_undoing (stages.Finish sub purposes.Undoing) = true
+is_undoing (stages.StartAbort txn) = true
+is_undoing (stages.UndoNext txn) = true
+is_undoing (stages.EndAbort txn) = true
+is_undoing _ = false
+
+-- the stage waits for the reply to a start in this transaction
+abbrev pub IsStart : Txn → Stage → Type 0
+IsStart txn s = (h : Held) × (s ≡ stages.Start h) × (txn_held h ≡ Some txn)
+
+-- the stage waits for the reply to this call
+abbrev pub IsStageOf : Ask → Stage → Type 0
+IsStageOf asks.Begin s = s ≡ stages.Begin
+IsStageOf (asks.StartSend txn sender tag body) s = IsStart txn s
+IsStageOf (asks.StartReceive txn) s = IsStart txn s
+IsStageOf (asks.StartReceiveFrom txn sender) s = IsStart txn s
+IsStageOf (asks.StartClose txn sender) s = IsStart txn s
+IsStageOf (asks.Step sub) s = (purpose : Purpose) × (s ≡ stages.Step sub purpose)
+IsStageOf (asks.Finish sub) s = (purpose : Purpose) × (s ≡ stages.Finish sub purpose)
+IsStageOf (asks.Commit txn) s = (h : Held) × (s ≡ stages.Commit h) × (txn_held h ≡ Some txn)
+IsStageOf (asks.StartAbort txn) s = s ≡ stages.StartAbort txn
+IsStageOf (asks.UndoNext txn) s = s ≡ stages.UndoNext txn
+IsStageOf (asks.EndAbort txn) s = s ≡ stages.EndAbort txn
+IsStageOf (asks.LastTag sender) s = (h : Held) × (s ≡ stages.LastTag h)
+
+-- the stage is the one of what is to be done
+abbrev pub IsStageAt : Action → Stage → Type 0
+IsStageAt (Do ask) s = IsStageOf ask s
+IsStageAt (Again ask) s = IsStageOf ask s
+IsStageAt (Await commit) s = s ≡ stages.Await commit
+IsStageAt (Answers answer) s = (h : Held) × (s ≡ stages.Rest h)
+IsStageAt End s = s ≡ stages.Ended

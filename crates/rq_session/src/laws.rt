@@ -1,10 +1,11 @@
 //! Laws of sessions, for proofs.
-ghost use Rattle.rq_session.specs.Laws.{EachReply, EachMayAgain, EachRequest, EachLoss, EachGoesOn, LostAnswersNothing, OneAnswerEach};
+ghost use Rattle.rq_session.specs.Laws.{EachReply, EachMayAgain, EachRequest, EachLoss, LostAnswersNothing, OneAnswerEach};
+ghost use Rattle.rq_session.specs.Tells.{EachAnswer, EachAsk, EachWait, EachEnd, EachStage, OneReply, OneFirst, OneLoss};
 
 /// At each reply: a call names the session's own transaction, and a begin is asked for only where there is none. A wait
 /// is for the commit of that transaction, as it was told just now, or for the one that was awaited before.
-/// The transaction stays until its commit, the end of its abort or the session's end, and only a begin that was
-/// answered gives one. A request under way stays under way, or gets its one answer, or the session ends. A call is
+/// The transaction stays until its own commit is told, the end of its abort is told, or the session ends, and only a
+/// begin that was answered gives one. A request under way stays under way, or gets its one answer, or the session ends. A call is
 /// made again only where memory was wanting in an operation or an abort under way, or latches or frames for an
 /// undo. Committed is answered only at the receipt of that commit.
 pub fn each_reply()
@@ -16,19 +17,47 @@ pub fn each_may_again()
     ensures { EachMayAgain }
 {}
 
-/// A request that is taken is answered at once or is under way, and its first call names the session's own transaction.
+/// At each request that is taken: its one call, for the session's own transaction, or its refusal. A begin is refused
+/// (17) exactly where there is a transaction, each other request but LastTag (4) exactly where there is none. The
+/// transaction stays as it was.
 pub fn each_request()
     ensures { EachRequest }
 {}
 
-/// A session whose connection is not lost goes on at whatever its call is answered: it ends only where it is told
-/// what no call of that kind is answered, or something when it asked for nothing.
-pub fn each_goes_on()
-    ensures { EachGoesOn }
+/// What is answered was told: at each stage an answer is given exactly where the call that was asked for last was told
+/// what the answer says. A refusal is answered by the same refusal, a message by that message, and a commit by the
+/// receipt of it. (So of a session whose connection is not lost.)
+pub fn each_answer()
+    ensures { EachAnswer }
 {}
 
-/// Once the connection is lost, the session's transaction is aborted by calls of its own, and where it has none the
-/// session ends.
+/// A call is made exactly where what was told asks for it: an operation that was started is stepped until all of it is
+/// written, and then finished; an abort finishes what was left under way, starts, undoes each operation in turn, and
+/// ends. Also where the connection is lost.
+pub fn each_ask()
+    ensures { EachAsk }
+{}
+
+/// A commit is awaited exactly where it was told and is that of the session's own transaction, and from then on until
+/// its receipt or the store's failure is told.
+pub fn each_wait()
+    ensures { EachWait }
+{}
+
+/// A session ends exactly where it is told what no call of that kind is answered, or something when it asked for
+/// nothing; and, where the connection is lost, once the abort is done or was refused for good.
+pub fn each_end()
+    ensures { EachEnd }
+{}
+
+/// At each reply the session's transaction stands as it was told, and a refusal leaves it as it is. The session waits
+/// for the reply to the call that it asks for, and for the same request.
+pub fn each_stage()
+    ensures { EachStage }
+{}
+
+/// Once the connection is lost, the session's transaction, as it is, is aborted by calls of its own, the first of which
+/// is the call under way, or what an abort begins with; where it has none the session ends.
 pub fn each_loss()
     ensures { EachLoss }
 {}
@@ -36,6 +65,14 @@ pub fn each_loss()
 /// A session whose connection is lost answers nothing.
 pub fn lost_answers_nothing()
     ensures { LostAnswersNothing }
+{}
+
+/// The laws of single turns leave one session: what keeps them at a reply, at a request or at the connection's loss is
+/// what the session does there, and where it stands then.
+pub fn one_session()
+    ensures reply { OneReply }
+    ensures request { OneFirst }
+    ensures loss { OneLoss }
 {}
 
 /// Over a whole session: a request is taken only when the one before it is answered, each has one answer, and up

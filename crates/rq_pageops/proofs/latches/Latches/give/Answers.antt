@@ -1,15 +1,17 @@
-use Rattle.std.proofs.Common.{not, rules}
-use Rattle.std.proofs.lemmas.Fn.{filter_same}
-use Rattle.rq_level.specs.Given.{Pages, meets}
-use Rattle.rq_pageops.proofs.Latched.{one_back, held_less}
+use Rattle.rq_pageops.proofs.Latched.{fewer_of, gone_of, held_less, left_of, stay_of}
 use Rattle.rq_pageops.proofs.latches.Latches.give.Goals as goal
 
 pub invariant_of-self : goal.invariant_of-self
-invariant_of-self c =
-    let left = filter_same _ (λ (s : Pages). not (meets c.args.set.now.pages s.pages)) _ (λ x b f' k. search rules) _ _ c.retain.ensures.filtered in
-    held_less _ _ _ c.args.set.now.pages _ _ _ _ c.self.view_is c.self.invariant c.requires left c.retain.ensures.capacity c.remove_all.ensures
+invariant_of-self c = held_less _ _ c.args.set.now.pages _ _ c.self.invariant c.give.ensures c.remove_all.ensures
 
-pub returns : goal.returns
-returns c =
-    let left = filter_same _ (λ (s : Pages). not (meets c.args.set.now.pages s.pages)) _ (λ x b f' k. search rules) _ _ c.retain.ensures.filtered in
-    one_back _ _ _ c.args.set.now.pages _ _ c.self.view_is c.self.invariant c.requires left
+pub returns-clause-set : goal.returns-clause-set
+returns-clause-set c = gone_of _ _ _ c.args.set.now.pages _ c.self.view_is c.self.invariant c.give.ensures
+
+pub returns-clause-pages : goal.returns-clause-pages
+returns-clause-pages c = left_of _ _ _ c.args.set.now.pages c.self.view_is c.give.ensures
+
+pub returns-clause-stay : goal.returns-clause-stay
+returns-clause-stay c = stay_of _ _ _ c.args.set.now.pages c.self.view_is c.give.ensures
+
+pub returns-clause-few : goal.returns-clause-few
+returns-clause-few c = fewer_of _ _ _ c.args.set.now.pages c.self.view_is c.give.ensures

@@ -1,0 +1,298 @@
+-- The laws of sessions leave one session.
+use Rattle.std.proofs.Common.{◌≡◌, ℕ, Bool, true, false, refl, sym, ap, ◌∙◌, subst, inl, inr, arith}
+use Rattle.std.proofs.lemmas.Bool.{false≢true, true≢false}
+use Rattle.std.specs.Prelude.{Option, Some, None}
+use Rattle.rq_wire.specs.declared.request.Request.{Request}
+use Rattle.rq_wire.specs.declared.request.Request.TheVariants as requests
+use Rattle.rq_model.specs.declared.txn.Txn.{Txn}
+use Rattle.rq_model.specs.declared.txn.Sub.{Sub}
+use Rattle.rq_session.specs.declared.calls.Ask.{Ask}
+use Rattle.rq_session.specs.declared.calls.Ask.TheVariants as asks
+use Rattle.rq_session.specs.declared.calls.Told.{Told}
+use Rattle.rq_session.specs.declared.calls.Action.{Action}
+use Rattle.rq_session.specs.declared.calls.Action.TheVariants.{Do, Again, Await, Answer as Answers, End}
+use Rattle.rq_session.specs.declared.stage.Held.{Held}
+use Rattle.rq_session.specs.declared.stage.Held.TheVariants.{Free, Open, Left, Aborting, Undoing}
+use Rattle.rq_session.specs.declared.stage.Purpose.{Purpose}
+use Rattle.rq_session.specs.declared.stage.Purpose.TheVariants as purposes
+use Rattle.rq_session.specs.declared.stage.Stage.{Stage}
+use Rattle.rq_session.specs.declared.stage.Stage.TheVariants as stages
+use Rattle.rq_session.specs.declared.stage.Next.{Next}
+use Rattle.rq_session.specs.Stages.{txn_held, held_in, is_undoing, IsStart, IsStageAt, IsStageOf}
+use Rattle.rq_session.specs.Rules.{after_loss, after_request, after_told, call_in}
+use Rattle.rq_session.specs.Laws.{AgainFitsIn, IsAbort, IsAborting, IsBegin, IsFirst, IsFor, Lost, abort_call, asked_last, given, loss_call, owed}
+use Rattle.rq_session.specs.Tells.{Follows, IsSame, KeepsLaws, OneFirst, OneLoss, OneReply}
+use Rattle.rq_session.proofs.EachTurn.{each_loss, each_reply, each_request, lost_answers_nothing}
+use Rattle.rq_session.proofs.Due.{each_answer, each_ask, each_end, each_stage, each_wait}
+
+none_under_way : {P : Type 0} → ◌≡◌ {A = ℕ} 0 1 → P
+none_under_way e = absurd (omega (arith, e))
+
+-- ---- one stage
+
+abbrev is_left : Held → Bool
+is_left (Left sub) = true
+is_left _ = false
+
+one_purpose : (sub : Sub) (p q : Purpose) → held_in (stages.Step sub p) ≡ held_in (stages.Step sub q)
+    → is_undoing (stages.Step sub p) ≡ is_undoing (stages.Step sub q) → p ≡ q
+one_purpose sub purposes.Request purposes.Request h u = refl
+one_purpose sub purposes.Clearing purposes.Clearing h u = refl
+one_purpose sub purposes.Undoing purposes.Undoing h u = refl
+one_purpose sub purposes.Request _ h u = absurd (false≢true u)
+one_purpose sub _ purposes.Request h u = absurd (true≢false u)
+one_purpose sub purposes.Clearing purposes.Undoing h u = let e = ap is_left h in absurd (true≢false e)
+one_purpose sub purposes.Undoing purposes.Clearing h u = let e = ap is_left h in absurd (false≢true e)
+
+one_finish : (sub : Sub) (p q : Purpose) → held_in (stages.Finish sub p) ≡ held_in (stages.Finish sub q)
+    → is_undoing (stages.Finish sub p) ≡ is_undoing (stages.Finish sub q) → p ≡ q
+one_finish sub purposes.Request purposes.Request h u = refl
+one_finish sub purposes.Clearing purposes.Clearing h u = refl
+one_finish sub purposes.Undoing purposes.Undoing h u = refl
+one_finish sub purposes.Request _ h u = absurd (false≢true u)
+one_finish sub _ purposes.Request h u = absurd (true≢false u)
+one_finish sub purposes.Clearing purposes.Undoing h u = let e = ap is_left h in absurd (true≢false e)
+one_finish sub purposes.Undoing purposes.Clearing h u = let e = ap is_left h in absurd (false≢true e)
+
+-- what two stages of one call have in common
+record Alike (x y : Stage) : Type 0 where
+  held : held_in x ≡ held_in y
+  undoing : owed x ≡ 1 → owed y ≡ 1 → is_undoing x ≡ is_undoing y
+
+of_held : (f : Held → Stage) (x y : Stage) (h k : Held) → ((l : Held) → held_in (f l) ≡ l) → x ≡ f h → y ≡ f k → Alike x y → x ≡ y
+of_held f x y h k back e g a = e ∙ ap f (sym (back h) ∙ ap held_in (sym e) ∙ a.held ∙ ap held_in g ∙ back k) ∙ sym g
+
+one_step : (x y : Stage) (sub : Sub) (p q : Purpose) → x ≡ stages.Step sub p → y ≡ stages.Step sub q → Alike x y → x ≡ y
+one_step x y sub p q e g a =
+    let held = ap held_in (sym e) ∙ a.held ∙ ap held_in g in
+    let undoing = ap is_undoing (sym e) ∙ a.undoing (ap owed e) (ap owed g) ∙ ap is_undoing g in
+    e ∙ ap (λ (r : Purpose). stages.Step sub r) (one_purpose sub p q held undoing) ∙ sym g
+
+one_end : (x y : Stage) (sub : Sub) (p q : Purpose) → x ≡ stages.Finish sub p → y ≡ stages.Finish sub q → Alike x y → x ≡ y
+one_end x y sub p q e g a =
+    let held = ap held_in (sym e) ∙ a.held ∙ ap held_in g in
+    let undoing = ap is_undoing (sym e) ∙ a.undoing (ap owed e) (ap owed g) ∙ ap is_undoing g in
+    e ∙ ap (λ (r : Purpose). stages.Finish sub r) (one_finish sub p q held undoing) ∙ sym g
+
+starts_held : (h : Held) → held_in (stages.Start h) ≡ h
+starts_held h = refl
+
+one_ask : (ask : Ask) (x y : Stage) → IsStageOf ask x → IsStageOf ask y → Alike x y → x ≡ y
+one_ask asks.Begin x y e g a = e ∙ sym g
+one_ask (asks.StartSend txn sender tag body) x y e g a = of_held stages.Start x y e.0 g.0 starts_held e.1 g.1 a
+one_ask (asks.StartReceive txn) x y e g a = of_held stages.Start x y e.0 g.0 starts_held e.1 g.1 a
+one_ask (asks.StartReceiveFrom txn sender) x y e g a = of_held stages.Start x y e.0 g.0 starts_held e.1 g.1 a
+one_ask (asks.StartClose txn sender) x y e g a = of_held stages.Start x y e.0 g.0 starts_held e.1 g.1 a
+one_ask (asks.Step sub) x y e g a = one_step x y sub e.0 g.0 e.1 g.1 a
+one_ask (asks.Finish sub) x y e g a = one_end x y sub e.0 g.0 e.1 g.1 a
+one_ask (asks.Commit txn) x y e g a = of_held stages.Commit x y e.0 g.0 (λ h. refl) e.1 g.1 a
+one_ask (asks.StartAbort txn) x y e g a = e ∙ sym g
+one_ask (asks.UndoNext txn) x y e g a = e ∙ sym g
+one_ask (asks.EndAbort txn) x y e g a = e ∙ sym g
+one_ask (asks.LastTag sender) x y e g a = of_held stages.LastTag x y e.0 g.0 (λ h. refl) e.1 g.1 a
+
+one_stage : (action : Action) (x y : Stage) → IsStageAt action x → IsStageAt action y → Alike x y → x ≡ y
+one_stage (Do ask) x y e g a = one_ask ask x y e g a
+one_stage (Again ask) x y e g a = one_ask ask x y e g a
+one_stage (Await commit) x y e g a = e ∙ sym g
+one_stage (Answers answer) x y e g a = of_held stages.Rest x y e.0 g.0 (λ h. refl) e.1 g.1 a
+one_stage End x y e g a = e ∙ sym g
+
+same_next : (n m : Next) → n.action ≡ m.action → IsStageAt n.action n.stage → IsStageAt m.action m.stage
+    → Alike n.stage m.stage → IsSame n m
+same_next n m e x y a =
+    (e, one_stage m.action n.stage m.stage (subst (λ (b : Action). IsStageAt b n.stage) e x) y a)
+
+-- ---- requests
+
+one_for : (o : Option Txn) (ask : Txn → Ask) (a b : Action) → IsFor o ask a → IsFor o ask b → a ≡ b
+one_for None ask a b e g = e ∙ sym g
+one_for (Some txn) ask a b e g = e ∙ sym g
+
+one_begin : (o : Option Txn) (a b : Action) → IsBegin o a → IsBegin o b → a ≡ b
+one_begin None a b e g = e ∙ sym g
+one_begin (Some txn) a b e g = e ∙ sym g
+
+one_abort : (o : Option Ask) (a b : Action) → IsAbort o a → IsAbort o b → a ≡ b
+one_abort None a b e g = e ∙ sym g
+one_abort (Some ask) a b e g = e ∙ sym g
+
+one_action : (h : Held) (request : Request) (a b : Action) → IsFirst h request a → IsFirst h request b → a ≡ b
+one_action h requests.Begin a b e g = one_begin (txn_held h) a b e g
+one_action h (requests.Send sender tag body) a b e g = one_for (txn_held h) _ a b e g
+one_action h requests.Receive a b e g = one_for (txn_held h) _ a b e g
+one_action h (requests.ReceiveFrom sender) a b e g = one_for (txn_held h) _ a b e g
+one_action h (requests.Close sender) a b e g = one_for (txn_held h) _ a b e g
+one_action h requests.Commit a b e g = one_for (txn_held h) _ a b e g
+one_action h requests.Abort a b e g = one_abort (abort_call h) a b e g
+one_action h (requests.LastTag sender) a b e g = e ∙ sym g
+
+pub one_first : OneFirst
+one_first h request n t =
+    let m = each_request h request in
+    same_next n (after_request h request) (one_action h request _ _ t.first m.first) t.stage m.stage
+    (record { held = t.same ∙ sym m.same; undoing = λ x y. t.abort x ∙ sym (m.abort y) })
+
+-- ---- replies
+
+abbrev is_do : Action → Bool
+is_do (Do ask) = true
+is_do _ = false
+
+abbrev is_await : Action → Bool
+is_await (Await commit) = true
+is_await _ = false
+
+abbrev is_end : Action → Bool
+is_end End = true
+is_end _ = false
+
+abbrev ask_or : Ask → Option Ask → Ask
+ask_or d None = d
+ask_or d (Some ask) = ask
+
+-- where the session makes a call again, so does a turn that keeps the laws
+again_too : (lost : Bool) (s : Stage) (what : Told) (n : Next) (ask : Ask) (a : Action) → (lost ≡ true → IsAborting s)
+    → KeepsLaws lost s what n → (after_told lost s what).action ≡ Again ask → n.action ≡ a → n.action ≡ Again ask
+again_too true s what n ask (Answers answer) may k e g = none_under_way (sym (k.silent refl) ∙ ap given g)
+again_too false s what n ask (Answers answer) may k e g =
+    let m = (each_answer s what answer).1 ((k.answer refl answer).0 g) in
+    let z = ap given (sym e ∙ m) in none_under_way z
+again_too lost s what n ask (Do other) may k e g =
+    let m = (each_ask lost s what other).1 ((k.ask other).0 g) in
+    let z = ap is_do (sym e ∙ m) in absurd (false≢true z)
+again_too lost s what n ask (Await commit) may k e g =
+    let m = (each_wait lost s what commit).1 ((k.wait commit).0 g) in
+    let z = ap is_await (sym e ∙ m) in absurd (false≢true z)
+again_too lost s what n ask End may k e g =
+    let m = (each_end lost s what).1 (k.over.0 g) in
+    let z = ap is_end (sym e ∙ m) in absurd (false≢true z)
+again_too lost s what n ask (Again other) may k e g =
+    let mine = subst (λ (b : Action). AgainFitsIn s what b n.stage) g k.again in
+    let its = subst (λ (b : Action). AgainFitsIn s what b (after_told lost s what).stage) e (each_reply lost s what).again in
+    g ∙ ap Again (ap (ask_or other) (sym mine.1 ∙ its.1))
+
+does_too : (lost : Bool) (s : Stage) (what : Told) (n : Next) (a : Action) → (lost ≡ true → IsAborting s)
+    → KeepsLaws lost s what n → (after_told lost s what).action ≡ a → n.action ≡ a
+does_too true s what n (Answers answer) may k e =
+    let none = (lost_answers_nothing s what (may refl)).1 in none_under_way (sym none ∙ ap given e)
+does_too false s what n (Answers answer) may k e = (k.answer refl answer).1 ((each_answer s what answer).0 e)
+does_too lost s what n (Do ask) may k e = (k.ask ask).1 ((each_ask lost s what ask).0 e)
+does_too lost s what n (Await commit) may k e = (k.wait commit).1 ((each_wait lost s what commit).0 e)
+does_too lost s what n End may k e = k.over.1 ((each_end lost s what).0 e)
+does_too lost s what n (Again ask) may k e = again_too lost s what n ask n.action may k e refl
+
+-- two turns that follow what was told, of one action
+follow_alike : (s : Stage) (what : Told) (n m : Next) (a : Action) → n.action ≡ a → m.action ≡ a
+    → Follows s what n → Follows s what m → IsSame n m
+follow_alike s what n m End e g f k =
+    (e ∙ sym g, subst (λ (b : Action). IsStageAt b n.stage) e f.stage ∙ sym (subst (λ (b : Action). IsStageAt b m.stage) g k.stage))
+follow_alike s what n m a e g f k = elim f.txn [
+  | inl over ↦ let z = ap is_end (sym e ∙ ap (λ (x : Next). x.action) over) in absurd (false≢true z)
+  | inr mine ↦ elim k.txn [
+    | inl over ↦ let z = ap is_end (sym g ∙ ap (λ (x : Next). x.action) over) in absurd (false≢true z)
+    | inr its ↦ same_next n m (e ∙ sym g) f.stage k.stage
+        (record { held = mine ∙ sym its; undoing = λ x y. f.abort x ∙ sym (k.abort y) })
+  ]
+]
+
+pub one_reply : OneReply
+one_reply lost s what n may k =
+    let m = after_told lost s what in
+    follow_alike s what n m m.action (does_too lost s what n m.action may k refl) refl k.follows (each_stage lost s what)
+
+-- ---- losses
+
+abbrev is_free : Held → Bool
+is_free Free = true
+is_free _ = false
+
+-- an abort under way has a transaction
+has_txn : (t : Stage) → IsAborting t → held_in t ≡ Free → t ≡ stages.Ended
+has_txn stages.Ended is e = refl
+has_txn (stages.Step sub purposes.Clearing) is e = let z = ap is_free e in absurd (false≢true z)
+has_txn (stages.Step sub purposes.Undoing) is e = let z = ap is_free e in absurd (false≢true z)
+has_txn (stages.Finish sub purposes.Clearing) is e = let z = ap is_free e in absurd (false≢true z)
+has_txn (stages.Finish sub purposes.Undoing) is e = let z = ap is_free e in absurd (false≢true z)
+has_txn (stages.StartAbort txn) is e = let z = ap is_free e in absurd (false≢true z)
+has_txn (stages.UndoNext txn) is e = let z = ap is_free e in absurd (false≢true z)
+has_txn (stages.EndAbort txn) is e = let z = ap is_free e in absurd (false≢true z)
+has_txn _ is e = absurd is
+
+abbrev is_ended : Stage → Bool
+is_ended stages.Ended = true
+is_ended _ = false
+
+no_start : (txn : Txn) → IsStart txn stages.Ended → ⊥
+no_start txn e = let z = ap is_ended e.1 in true≢false z
+
+no_ask : (ask : Ask) → IsStageOf ask stages.Ended → ⊥
+no_ask asks.Begin e = let z = ap is_ended e in true≢false z
+no_ask (asks.StartSend txn sender tag body) e = no_start txn e
+no_ask (asks.StartReceive txn) e = no_start txn e
+no_ask (asks.StartReceiveFrom txn sender) e = no_start txn e
+no_ask (asks.StartClose txn sender) e = no_start txn e
+no_ask (asks.Step sub) e = let z = ap is_ended e.1 in true≢false z
+no_ask (asks.Finish sub) e = let z = ap is_ended e.1 in true≢false z
+no_ask (asks.Commit txn) e = let z = ap is_ended e.1 in true≢false z
+no_ask (asks.StartAbort txn) e = let z = ap is_ended e in true≢false z
+no_ask (asks.UndoNext txn) e = let z = ap is_ended e in true≢false z
+no_ask (asks.EndAbort txn) e = let z = ap is_ended e in true≢false z
+no_ask (asks.LastTag sender) e = let z = ap is_ended e.1 in true≢false z
+
+abbrev is_call : Option Ask → Bool
+is_call None = false
+is_call (Some ask) = true
+
+free_of : (o : Option Ask) (h : Held) → loss_call o h ≡ None → h ≡ Free
+free_of (Some ask) h e = let z = ap is_call e in absurd (true≢false z)
+free_of None Free e = refl
+free_of None (Open txn) e = let z = ap is_call e in absurd (true≢false z)
+free_of None (Left sub) e = let z = ap is_call e in absurd (true≢false z)
+free_of None (Aborting txn) e = let z = ap is_call e in absurd (true≢false z)
+free_of None (Undoing sub) e = let z = ap is_call e in absurd (true≢false z)
+
+abbrev action_of : Option Ask → Action
+action_of None = End
+action_of (Some ask) = Do ask
+
+loss_action : (s : Stage) (n : Next) → Lost s n → (a : Action) → n.action ≡ a → (c : Option Ask)
+    → loss_call (asked_last s) (held_in s) ≡ c → a ≡ action_of c
+loss_action s n l (Do x) e None g =
+    let z = ap is_call (sym (ap call_in e) ∙ l.call ∙ g) in absurd (true≢false z)
+loss_action s n l (Do x) e (Some ask) g = ap (λ (o : Option Ask). Do (ask_or x o)) (sym (ap call_in e) ∙ l.call ∙ g)
+loss_action s n l (Answers answer) e c g = none_under_way (sym l.silent ∙ ap given e)
+loss_action s n l (Await commit) e c g =
+    let stage = subst (λ (b : Action). IsStageAt b n.stage) e l.stage in
+    let none = subst IsAborting stage l.aborts in absurd none
+loss_action s n l (Again x) e (Some ask) g =
+    let z = ap is_call (sym (ap call_in e) ∙ l.call ∙ g) in absurd (false≢true z)
+loss_action s n l (Again x) e None g =
+    let over = has_txn n.stage l.aborts (l.same ∙ free_of (asked_last s) (held_in s) g) in
+    let stage = subst (λ (b : Action). IsStageAt b n.stage) e l.stage in
+    absurd (no_ask x (subst (IsStageOf x) over stage))
+loss_action s n l End e None g = refl
+loss_action s n l End e (Some ask) g =
+    let z = ap is_call (sym (ap call_in e) ∙ l.call ∙ g) in absurd (false≢true z)
+
+undoes : (t : Stage) → IsAborting t → owed t ≡ 1 → is_undoing t ≡ true
+undoes stages.Ended is o = none_under_way o
+undoes (stages.Step sub purposes.Clearing) is o = refl
+undoes (stages.Step sub purposes.Undoing) is o = refl
+undoes (stages.Finish sub purposes.Clearing) is o = refl
+undoes (stages.Finish sub purposes.Undoing) is o = refl
+undoes (stages.StartAbort txn) is o = refl
+undoes (stages.UndoNext txn) is o = refl
+undoes (stages.EndAbort txn) is o = refl
+undoes _ is o = absurd is
+
+pub one_loss : OneLoss
+one_loss s n l =
+    let m = each_loss s in
+    let mine = loss_action s n l n.action refl (loss_call (asked_last s) (held_in s)) refl in
+    let its = loss_action s (after_loss s) m (after_loss s).action refl (loss_call (asked_last s) (held_in s)) refl in
+    same_next n (after_loss s) (mine ∙ sym its) l.stage m.stage
+    (record {
+      held = l.same ∙ sym m.same;
+      undoing = λ x y. undoes n.stage l.aborts x ∙ sym (undoes (after_loss s).stage m.aborts y);
+    })
