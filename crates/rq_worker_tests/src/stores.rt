@@ -15,7 +15,15 @@ use std::snapshot::Snapshot;
 
 /// A store of one directory and one cell page over devices in memory, formatted and opened.
 pub fn small_engine(alloc: Global) -> Result<Engine<MemPages, MemLog>, &'static str> {
-    let layout = Layout::new(1, 1).ok_or("a small store")?;
+    engine_of(alloc, Layout::new(1, 1).ok_or("a small store")?)
+}
+
+/// One of two directory and two cell pages.
+pub fn wide_engine(alloc: Global) -> Result<Engine<MemPages, MemLog>, &'static str> {
+    engine_of(alloc, Layout::new(2, 2).ok_or("a wide store")?)
+}
+
+fn engine_of(alloc: Global, layout: Layout) -> Result<Engine<MemPages, MemLog>, &'static str> {
     let switch = Switch::new(alloc).map_err(|_| "memory")?;
     let Ok(for_log) = switch.share() else {
         return Err("memory");

@@ -3,7 +3,7 @@ ghost use Rattle.std.specs.Prelude.{◌≡◌};
 ghost use Rattle.rq_shared.specs.Entries.{WasSound};
 
 use crate::stores::{
-    KeepStamps, begun, committed, has_sent, opened, receipt, send_of, small_engine,
+    KeepStamps, begun, committed, has_sent, opened, receipt, send_of, wide_engine,
 };
 use rq_disk::{LogDevice, MemLog, MemPages, PageChoice, PageDevice};
 use rq_engine::engine::Engine;
@@ -31,8 +31,8 @@ use std::thread::{Threads, join};
 #[derive(Drop)]
 struct Common {
     mark: Mark,
-    second_has_begun: AtomicU64,
-    first_has_sent: AtomicU64,
+    first_is_held: AtomicU64,
+    second_has_committed: AtomicU64,
 }
 
 /// What a thread has of its own.
@@ -42,7 +42,7 @@ struct Own<G: Ledger> {
     seat: MarkPass,
 }
 
-/// Holds its thread between two steps until the second thread has begun.
+/// Holds its thread between two steps until the second thread has committed.
 #[derive(Drop)]
 struct HeldBetween<'a> {
     common: &'a Common,
@@ -52,7 +52,11 @@ impl Gate for HeldBetween<'_> {
     ghost says = { λ gate point passed. Unit {0} };
 
     fn pass(&self, point: u32) -> bool {
-        point != BETWEEN_STEPS || comes(&self.common.second_has_begun)
+        if point != BETWEEN_STEPS {
+            return true;
+        }
+        self.common.first_is_held.store(1, Ordering::SeqCst);
+        comes(&self.common.second_has_committed)
     }
 }
 
@@ -82,7 +86,7 @@ fn comes(word: &AtomicU64) -> bool {
 /// What a thread gives back: its pass, its stamps, and its commit.
 type Worked<G> = (Pass<G>, Vec<Stamped>, CommitNo);
 
-// Sends x for sender 0, and is held within its send until the other thread has begun.
+// Sends x for sender 0, and is held behind the first step of its send until the other thread has committed.
 fn work_first<P: PageDevice + Drop, L: LogDevice + Drop, G: Sharing, R: Wait>(
     rt: &R,
     alloc: Global,
@@ -99,7 +103,6 @@ fn work_first<P: PageDevice + Drop, L: LogDevice + Drop, G: Sharing, R: Wait>(
     let start = send_of(alloc, txn, 0, b'x').ok()?;
     let mut worker = Worker::new(HeldBetween { common }, steps);
     let sent = worker.run(rt, &start) == Ended::Finished(Outcome::Sent) && worker.goes_on();
-    common.first_has_sent.store(1, Ordering::SeqCst);
     let mut steps = worker.into_steps();
     let number = committed(&mut steps, txn)?;
     let (pass, _, kept) = steps.into_parts();
@@ -110,7 +113,7 @@ fn work_first<P: PageDevice + Drop, L: LogDevice + Drop, G: Sharing, R: Wait>(
     }
 }
 
-// Sends y for sender 14, once the other thread has sent.
+// Sends y for sender 15 and commits, while the other thread is held within its send.
 fn work_second<P: PageDevice + Drop, L: LogDevice + Drop, G: Sharing, R: Wait>(
     rt: &R,
     alloc: Global,
@@ -124,13 +127,13 @@ fn work_second<P: PageDevice + Drop, L: LogDevice + Drop, G: Sharing, R: Wait>(
     let stamps = KeepStamps::new(alloc);
     let mut steps = SharedSteps::new(rt, front, pass, &common.mark, seat, stamps);
     let txn = begun(&mut steps)?;
-    common.second_has_begun.store(1, Ordering::SeqCst);
-    let turn = comes(&common.first_has_sent);
-    let start = send_of(alloc, txn, 14, b'y').ok()?;
+    let turn = comes(&common.first_is_held);
+    let start = send_of(alloc, txn, 15, b'y').ok()?;
     let mut worker = Worker::new(Open, steps);
     let sent = worker.run(rt, &start) == Ended::Finished(Outcome::Sent);
     let mut steps = worker.into_steps();
     let number = committed(&mut steps, txn)?;
+    common.second_has_committed.store(1, Ordering::SeqCst);
     let (pass, _, kept) = steps.into_parts();
     if sent && turn {
         Some((pass, kept.stamps, number))
@@ -265,8 +268,8 @@ fn share<
     let other_seat = mark.split(&mut seat);
     let common = Common {
         mark,
-        second_has_begun: AtomicU64::new(0),
-        first_has_sent: AtomicU64::new(0),
+        first_is_held: AtomicU64::new(0),
+        second_has_committed: AtomicU64::new(0),
     };
     let one = Own { pass, seat };
     let two = Own {
@@ -297,7 +300,7 @@ fn look<R: Threads + Wait + Sync>(
     alloc: Global,
     take: bool,
 ) -> Option<Seen<MemPages, MemLog>> {
-    let engine = small_engine(alloc).ok()?;
+    let engine = wide_engine(alloc).ok()?;
     share::<MemPages, MemLog, Brand, R>(rt, alloc, engine, Blank::new(1024), take)
 }
 
@@ -332,7 +335,7 @@ fn what_receipts_name_outlives_a_crash(rt: HostRuntime) -> Result<(), Fail> {
     let (pages, log) = kept.give_back().give_back();
     let engine = opened(rt.alloc(), pages.crash(PageChoice::Synced), log.crash(0))?;
     assert_eq!(rt;
-        (has_sent(&engine, 0, b'x')?, has_sent(&engine, 14, b'y')?),
+        (has_sent(&engine, 0, b'x')?, has_sent(&engine, 15, b'y')?),
         (true, true),
         "both messages are there, each as it was sent"
     );
