@@ -30,7 +30,8 @@ met (x ∷ a) b e p h =
 
 unmet : (a b : List ℕ) → ((p : ℕ) → has_page p a ≡ true → has_page p b ≡ false) → meets a b ≡ false
 unmet [] b f = refl
-unmet (x ∷ a) b f = or_from (has_page x b) (meets a b) (f x (has_first x a)) (unmet a b (λ p h. f p (has_later x p a h)))
+unmet (x ∷ a) b f = or_from (has_page x b) (meets a b) (f x (has_first x a))
+    (unmet a b (λ p h. f p (has_later x p a h)))
 
 turned : (a b : List ℕ) → meets a b ≡ false → meets b a ≡ false
 turned a b e = unmet b a (λ p h. false_from_ne_true (has_page p a) (λ y. true≢false (sym h ∙ met a b e p y)))
@@ -39,10 +40,12 @@ turned a b e = unmet b a (λ p h. false_from_ne_true (has_page p a) (λ y. true�
 none_of : (s : List ℕ) (ts : List (List ℕ)) → meets s (pages_in ts) ≡ false → MeetsNone s ts
 none_of s [] e = tt
 none_of s (t ∷ ts) e =
-    let o = λ (p : ℕ) (h : has_page p s ≡ true). or_parts (has_page p t) (has_page p (pages_in ts)) (sym (has_append p t (pages_in ts)) ∙ met s (t ++ pages_in ts) e p h) in
+    let o = λ (p : ℕ) (h : has_page p s ≡ true). or_parts (has_page p t) (has_page p (pages_in ts))
+    (sym (has_append p t (pages_in ts)) ∙ met s (t ++ pages_in ts) e p h) in
     (unmet s t (λ p h. (o p h).0), none_of s ts (unmet s (pages_in ts) (λ p h. (o p h).1)))
 
-none_more : (t : List ℕ) (ts : List (List ℕ)) (s : List ℕ) → MeetsNone t ts → meets t s ≡ false → MeetsNone t (ts ++ s ∷ [])
+none_more : (t : List ℕ) (ts : List (List ℕ)) (s : List ℕ) → MeetsNone t ts → meets t s ≡ false
+    → MeetsNone t (ts ++ s ∷ [])
 none_more t [] s h e = (e, tt)
 none_more t (x ∷ xs) s h e = (h.0, none_more t xs s h.1 e)
 
@@ -83,10 +86,12 @@ held_more sets new set all now h few free e pages room =
 abbrev is_other : List ℕ → ℕ → Bool
 is_other set p = not (has_page p set)
 
-kept_here : {X : Type 0} (test : X → Bool) (x : X) (xs : List X) → test x ≡ true → filter test (x ∷ xs) ≡ x ∷ filter test xs
+kept_here : {X : Type 0} (test : X → Bool) (x : X) (xs : List X) → test x ≡ true
+    → filter test (x ∷ xs) ≡ x ∷ filter test xs
 kept_here test x xs e = rw e refl
 
-lost_here : {X : Type 0} (test : X → Bool) (x : X) (xs : List X) → test x ≡ false → filter test (x ∷ xs) ≡ filter test xs
+lost_here : {X : Type 0} (test : X → Bool) (x : X) (xs : List X) → test x ≡ false
+    → filter test (x ∷ xs) ≡ filter test xs
 lost_here test x xs e = rw e refl
 
 all_kept : (set t : List ℕ) → meets t set ≡ false → others set t ≡ t
@@ -97,7 +102,8 @@ all_kept set (x ∷ t) e =
 
 all_lost : (set t : List ℕ) → ((p : ℕ) → has_page p t ≡ true → has_page p set ≡ true) → others set t ≡ []
 all_lost set [] f = refl
-all_lost set (x ∷ t) f = lost_here (is_other set) x t (ap not (f x (has_first x t))) ∙ all_lost set t (λ p h. f p (has_later x p t h))
+all_lost set (x ∷ t) f = lost_here (is_other set) x t (ap not (f x (has_first x t)))
+    ∙ all_lost set t (λ p h. f p (has_later x p t h))
 
 same_is : (a b : List ℕ) → same_pages a b ≡ true → a ≡ b
 same_is [] [] e = refl
@@ -114,15 +120,19 @@ itself (x ∷ a) = rw (eq-eqb x x refl) (itself a)
 -- the pages that are left
 trimmed_pages : (set : List ℕ) (ts : List (List ℕ)) → pages_in (map (others set) ts) ≡ others set (pages_in ts)
 trimmed_pages set [] = refl
-trimmed_pages set (t ∷ ts) = ap (λ (l : List ℕ). others set t ++ l) (trimmed_pages set ts) ∙ sym (filter-append (is_other set) t (pages_in ts))
+trimmed_pages set (t ∷ ts) = ap (λ (l : List ℕ). others set t ++ l) (trimmed_pages set ts)
+    ∙ sym (filter-append (is_other set) t (pages_in ts))
 
 pub pages_left : (set : List ℕ) (ss : List (List ℕ)) → pages_in (given_back set ss) ≡ others set (pages_in ss)
 pages_left set [] = refl
 pages_left set (t ∷ ts) = elim (cases_Bool (same_pages t set)) [
   | inl y ↦
-      let own : others set t ≡ [] = all_lost set t (λ p h. subst (λ (l : List ℕ). has_page p l ≡ true) (same_is t set y) h) in
-      rw y (trimmed_pages set ts ∙ sym (ap (λ (l : List ℕ). l ++ others set (pages_in ts)) own) ∙ sym (filter-append (is_other set) t (pages_in ts)))
-  | inr n ↦ rw n (ap (λ (l : List ℕ). others set t ++ l) (pages_left set ts) ∙ sym (filter-append (is_other set) t (pages_in ts)))
+      let own : others set t ≡ [] = all_lost set t
+      (λ p h. subst (λ (l : List ℕ). has_page p l ≡ true) (same_is t set y) h) in
+      rw y (trimmed_pages set ts ∙ sym (ap (λ (l : List ℕ). l ++ others set (pages_in ts)) own)
+      ∙ sym (filter-append (is_other set) t (pages_in ts)))
+  | inr n ↦ rw n
+      (ap (λ (l : List ℕ). others set t ++ l) (pages_left set ts) ∙ sym (filter-append (is_other set) t (pages_in ts)))
 ]
 
 -- they are apart
@@ -131,7 +141,10 @@ has_less set p [] h = h
 has_less set p (x ∷ a) h = elim (cases_Bool (is_other set x)) [
   | inl y ↦ elim (cases_Bool (nat_eq x p)) [
     | inl e ↦ rw e refl
-    | inr n ↦ rw n (has_less set p a (ap (λ (b : Bool). b || has_page p (others set a)) (sym n) ∙ ap (has_page p) (sym (kept_here (is_other set) x a y)) ∙ h))
+    | inr n ↦ rw n
+        (has_less set p a
+        (ap (λ (b : Bool). b || has_page p (others set a)) (sym n)
+        ∙ ap (has_page p) (sym (kept_here (is_other set) x a y)) ∙ h))
   ]
   | inr n ↦ has_later x p a (has_less set p a (ap (has_page p) (sym (lost_here (is_other set) x a n)) ∙ h))
 ]
@@ -193,7 +206,8 @@ no_more set (t ∷ ts) = elim (cases_Bool (same_pages t set)) [
   | inr n ↦ rw n (omega (arith, no_more set ts))
 ]
 
-pub held_less : (sets new : List (List ℕ)) (set : List ℕ) (all now : Pages) → AreHeld sets all → new ≡ given_back set sets
+pub held_less : (sets new : List (List ℕ)) (set : List ℕ) (all now : Pages) → AreHeld sets all
+    → new ≡ given_back set sets
     → now ≡ record { pages = others set all.pages; room = all.room } → AreHeld new now
 held_less sets new set all now h e is =
     subst (λ (ss : List (List ℕ)). AreHeld ss now) (sym e) (record {
@@ -275,12 +289,15 @@ gone_of sets old new set all e h is i =
 
 pub left_of : (sets old new : List (List ℕ)) (set : List ℕ) → sets ≡ old → new ≡ given_back set sets
     → pages_in new ≡ others set (pages_in old)
-left_of sets old new set e is = ap pages_in is ∙ pages_left set sets ∙ ap (λ (ss : List (List ℕ)). others set (pages_in ss)) e
+left_of sets old new set e is = ap pages_in is ∙ pages_left set sets
+    ∙ ap (λ (ss : List (List ℕ)). others set (pages_in ss)) e
 
-pub stay_of : (sets old new : List (List ℕ)) (set : List ℕ) → sets ≡ old → new ≡ given_back set sets → OthersStay set old new
+pub stay_of : (sets old new : List (List ℕ)) (set : List ℕ) → sets ≡ old → new ≡ given_back set sets
+    → OthersStay set old new
 stay_of sets old new set e is =
     subst (λ (ss : List (List ℕ)). OthersStay set ss new) e
     (subst (λ (ss : List (List ℕ)). OthersStay set sets ss) (sym is) (others_stay set sets))
 
-pub fewer_of : (sets old new : List (List ℕ)) (set : List ℕ) → sets ≡ old → new ≡ given_back set sets → length new ≤ length old
+pub fewer_of : (sets old new : List (List ℕ)) (set : List ℕ) → sets ≡ old → new ≡ given_back set sets
+    → length new ≤ length old
 fewer_of sets old new set e is = omega (arith, ap length is, no_more set sets, ap length e)

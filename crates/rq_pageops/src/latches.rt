@@ -78,8 +78,8 @@ impl Latches {
         true
     }
 
-    /// Gives the pages of one operation back: where they are latched as one set, that set alone is gone. None of them is
-    /// latched then, and each other page is as it was. Takes no memory.
+    /// Gives the pages of one operation back: where they are latched as one set, that set alone is gone. In any case
+    /// none of them is latched then, and each other page is as it was. Takes no memory.
     pub fn give(&mut self, set: &PageSet)
         ensures set { In set.now.pages self.old → IsGivenBack set.now.pages self.old self.new }
         ensures pages { pages_in self.new ≡ others set.now.pages (pages_in self.old) }

@@ -70,7 +70,8 @@ refusal_due (stages.EndAbort txn) refusal is = refl
 receipt_due : (s : Stage) (what : Told) (lsn : ℕ) → IsReceipt s what lsn
     → (after_told false s what).action ≡ Answers (answers.Committed lsn)
 receipt_due (stages.Await commit) (told.Durable other) lsn is =
-    ap (λ (n : Next). n.action) (chosen (is_commit other commit) _ _ is.0) ∙ ap (λ (l : ℕ). Answers (answers.Committed l)) (sym is.1)
+    ap (λ (n : Next). n.action) (chosen (is_commit other commit) _ _ is.0)
+    ∙ ap (λ (l : ℕ). Answers (answers.Committed l)) (sym is.1)
 receipt_due _ _ lsn is = absurd is
 
 answer_due : (s : Stage) (what : Told) (answer : Answer) → Tells s what answer
@@ -106,7 +107,8 @@ cleared_due lost sub (told.Message message) is = refl
 cleared_due lost sub told.Closed is = refl
 cleared_due lost sub _ is = absurd is
 
-ask_due : (lost : Bool) (s : Stage) (what : Told) (ask : Ask) → AsksFor s what ask → (after_told lost s what).action ≡ Do ask
+ask_due : (lost : Bool) (s : Stage) (what : Told) (ask : Ask) → AsksFor s what ask
+    → (after_told lost s what).action ≡ Do ask
 ask_due lost s what (asks.Step sub) (inl is) = started_due lost s what sub is
 ask_due lost s what (asks.Step sub) (inr (inl is)) = undo_started_due lost s what sub is
 ask_due lost s what (asks.Step sub) (inr (inr is)) = rw (is.0.1, is.1) refl
@@ -134,7 +136,8 @@ told_due : (lost : Bool) (h : Held) (commit : Commit) → txn_held h ≡ Some co
 told_due lost h commit e =
     ap (λ (n : Next). n.action) (chosen (is_commit_of (txn_held h) commit) _ _ (own_is (txn_held h) commit e))
 
-no_receipt_due : (commit : Commit) (what : Told) → IsNoReceipt commit what → (after_await commit what).action ≡ Await commit
+no_receipt_due : (commit : Commit) (what : Told) → IsNoReceipt commit what
+    → (after_await commit what).action ≡ Await commit
 no_receipt_due commit told.NotDurable is = refl
 no_receipt_due commit (told.Durable other) is = ap (λ (n : Next). n.action) (not_chosen (is_commit other commit) _ _ is)
 no_receipt_due commit (told.Refused Failed) is = absurd is
@@ -162,7 +165,8 @@ unfit_start lost h told.Nothing e = absurd (true≢false e)
 unfit_start lost h (told.Refused refusal) e = absurd (true≢false e)
 unfit_start lost h _ e = refl
 
-unfit_finish : (lost : Bool) (sub : Sub) (purpose : Purpose) (what : Told) → fits (stages.Finish sub purpose) what ≡ false
+unfit_finish : (lost : Bool) (sub : Sub) (purpose : Purpose) (what : Told)
+    → fits (stages.Finish sub purpose) what ≡ false
     → (after_told lost (stages.Finish sub purpose) what).action ≡ End
 unfit_finish lost sub purposes.Request told.Sent e = absurd (true≢false e)
 unfit_finish lost sub purposes.Request (told.Message message) e = absurd (true≢false e)

@@ -27,12 +27,19 @@ use Rattle.rq_session.specs.Stages.{txn_held, own, held_in, IsStageOf}
 use Rattle.rq_session.specs.Rules as rules
 use Rattle.rq_model.proofs.Lists.{same_is}
 use Rattle.rq_session.specs.Rules.{next, answered, ended, is_commit, is_commit_of}
-use Rattle.rq_session.specs.Laws.{IsOwn, AwaitsOwn, abort_call, loss_call, awaited, Turn, Takes, Lost, CommitFits, MayAgain, MayAgainAfter, IsAgain, IsAborting, asked_last, owed, given}
+use Rattle.rq_session.specs.Laws.{Waits, takes, IsOwn, AwaitsOwn, abort_call, loss_call, awaited, Turn, Takes, Lost, CommitFits, MayAgain, MayAgainAfter, IsAgain, IsAborting, asked_last, owed, given}
 
 -- ---- turns of each kind
 
 ends : (s : Stage) (what : Told) → Turn s what ended
-ends s what = record { own_call = tt; own_commit = tt; own_txn = inr (inl (tt, refl)); once = inl refl; again = tt; receipt = tt }
+ends s what = record {
+  own_call = tt;
+  own_commit = tt;
+  own_txn = inr (inl (tt, refl));
+  once = inl refl;
+  again = tt;
+  receipt = tt;
+}
 
 -- an answer of the request under way, which keeps the transaction
 gives : (s : Stage) (what : Told) (answer : Answer) (h : Held) → txn_held h ≡ own s → owed s ≡ 1
@@ -86,7 +93,8 @@ tries s what ask is may last none = record {
 aborts : (s : Stage) (what : Told) (h : Held) → txn_held h ≡ own s → owed s ≡ 1 → Turn s what (rules.abort h)
 aborts s what Free same one = ends s what
 aborts s what (Open txn) same one = calls s what (asks.StartAbort txn) (stages.StartAbort txn) refl same one refl tt
-aborts s what (Left sub) same one = calls s what (asks.Step sub) (stages.Step sub purposes.Clearing) refl same one refl tt
+aborts s what (Left sub) same one = calls s what (asks.Step sub)
+    (stages.Step sub purposes.Clearing) refl same one refl tt
 aborts s what (Aborting txn) same one = calls s what (asks.UndoNext txn) (stages.UndoNext txn) refl same one refl tt
 aborts s what (Undoing sub) same one = calls s what (asks.Step sub) (stages.Step sub purposes.Undoing) refl same one
     refl tt
@@ -99,7 +107,14 @@ stops false s what refusal h same one = refuses s what refusal h same one
 -- ---- by stages
 
 begins : (what : Told) → Turn stages.Begin what (rules.after_begin what)
-begins (told.Begun txn) = record { own_call = tt; own_commit = tt; own_txn = inr (inr refl); once = inr refl; again = tt; receipt = tt }
+begins (told.Begun txn) = record {
+  own_call = tt;
+  own_commit = tt;
+  own_txn = inr (inr refl);
+  once = inr refl;
+  again = tt;
+  receipt = tt;
+}
 begins (told.Refused refusal) = refuses stages.Begin (told.Refused refusal) refusal Free refl refl
 begins what = ends stages.Begin what
 
@@ -197,7 +212,14 @@ commits h (told.Refused refusal) = refuses (stages.Commit h) (told.Refused refus
 commits h what = ends (stages.Commit h) what
 
 waits : (commit : Commit) (what : Told) → Turn (stages.Await commit) what (next (Await commit) (stages.Await commit))
-waits commit what = record { own_call = refl; own_commit = refl; own_txn = inl refl; once = inr refl; again = tt; receipt = tt }
+waits commit what = record {
+  own_call = refl;
+  own_commit = refl;
+  own_txn = inl refl;
+  once = inr refl;
+  again = tt;
+  receipt = tt;
+}
 
 receipts : (commit other : Commit) (same : Bool) → is_commit other commit ≡ same
     → Turn (stages.Await commit) (told.Durable other) (cond same (answered (answers.Committed commit.lsn) Free) (next
@@ -370,11 +392,16 @@ each_request h request = record {
   once = refl;
 }
 
+pub not_taken : (s : Stage) (request : Request) → takes s ≡ 0 → Waits s (rules.taken s request)
+not_taken (stages.Rest h) request e = none_under_way (sym e)
+not_taken _ request e = record { call = refl; answer = refl; stage = refl }
+
 -- ---- losses
 
 -- a call for the transaction as it is
 loses : (s : Stage) (ask : Ask) (t : Stage) → Some ask ≡ loss_call (asked_last s) (held_in s) → IsStageOf ask t
-    → held_in t ≡ held_in s → IsOwn (own t) ask → awaited t ≡ None → own t ≡ own s → IsAborting t → Lost s (next (Do ask) t)
+    → held_in t ≡ held_in s → IsOwn (own t) ask → awaited t ≡ None → own t ≡ own s → IsAborting t
+    → Lost s (next (Do ask) t)
 loses s ask t is stage same mine none txn aborts = record {
   call = is;
   stage = stage;
@@ -398,7 +425,8 @@ loses_none s none same txn = record {
   silent = refl;
 }
 
-lost_aborts : (s : Stage) (h : Held) → abort_call h ≡ loss_call (asked_last s) (held_in s) → h ≡ held_in s → txn_held h ≡ own s
+lost_aborts : (s : Stage) (h : Held) → abort_call h ≡ loss_call (asked_last s) (held_in s) → h ≡ held_in s
+    → txn_held h ≡ own s
     → Lost s (rules.abort h)
 lost_aborts s Free call same txn = loses_none s call same txn
 lost_aborts s (Open t) call same txn = loses s (asks.StartAbort t) (stages.StartAbort t) call refl same refl refl txn tt
@@ -419,16 +447,21 @@ each_loss stages.Ended = loses_none stages.Ended refl refl refl
 each_loss (stages.Step sub purposes.Request) = loses (stages.Step sub purposes.Request) (asks.Step sub)
     (stages.Step sub purposes.Clearing) refl (purposes.Clearing, refl) refl refl refl refl tt
 each_loss (stages.Step sub purpose) =
-    loses (stages.Step sub purpose) (asks.Step sub) (stages.Step sub purpose) refl (purpose, refl) refl refl refl refl tt
+    loses (stages.Step sub purpose) (asks.Step sub) (stages.Step sub purpose) refl
+    (purpose, refl) refl refl refl refl tt
 each_loss (stages.Finish sub purposes.Request) = loses (stages.Finish sub purposes.Request) (asks.Finish sub)
     (stages.Finish sub purposes.Clearing) refl (purposes.Clearing, refl) refl refl refl refl tt
 each_loss (stages.Finish sub purpose) =
-    loses (stages.Finish sub purpose) (asks.Finish sub) (stages.Finish sub purpose) refl (purpose, refl) refl refl refl refl tt
-each_loss (stages.StartAbort txn) = loses (stages.StartAbort txn) (asks.StartAbort txn) (stages.StartAbort txn) refl refl
+    loses (stages.Finish sub purpose) (asks.Finish sub) (stages.Finish sub purpose) refl
+    (purpose, refl) refl refl refl refl tt
+each_loss (stages.StartAbort txn) = loses (stages.StartAbort txn) (asks.StartAbort txn)
+    (stages.StartAbort txn) refl refl
     refl refl refl refl tt
-each_loss (stages.UndoNext txn) = loses (stages.UndoNext txn) (asks.UndoNext txn) (stages.UndoNext txn) refl refl refl refl
+each_loss (stages.UndoNext txn) = loses (stages.UndoNext txn) (asks.UndoNext txn)
+    (stages.UndoNext txn) refl refl refl refl
     refl refl tt
-each_loss (stages.EndAbort txn) = loses (stages.EndAbort txn) (asks.EndAbort txn) (stages.EndAbort txn) refl refl refl refl
+each_loss (stages.EndAbort txn) = loses (stages.EndAbort txn) (asks.EndAbort txn)
+    (stages.EndAbort txn) refl refl refl refl
     refl refl tt
 
 -- ---- a lost session is silent

@@ -59,7 +59,8 @@ record Alike (x y : Stage) : Type 0 where
   held : held_in x ≡ held_in y
   undoing : owed x ≡ 1 → owed y ≡ 1 → is_undoing x ≡ is_undoing y
 
-of_held : (f : Held → Stage) (x y : Stage) (h k : Held) → ((l : Held) → held_in (f l) ≡ l) → x ≡ f h → y ≡ f k → Alike x y → x ≡ y
+of_held : (f : Held → Stage) (x y : Stage) (h k : Held) → ((l : Held) → held_in (f l) ≡ l) → x ≡ f h → y ≡ f k
+    → Alike x y → x ≡ y
 of_held f x y h k back e g a = e ∙ ap f (sym (back h) ∙ ap held_in (sym e) ∙ a.held ∙ ap held_in g ∙ back k) ∙ sym g
 
 one_step : (x y : Stage) (sub : Sub) (p q : Purpose) → x ≡ stages.Step sub p → y ≡ stages.Step sub q → Alike x y → x ≡ y
@@ -68,7 +69,8 @@ one_step x y sub p q e g a =
     let undoing = ap is_undoing (sym e) ∙ a.undoing (ap owed e) (ap owed g) ∙ ap is_undoing g in
     e ∙ ap (λ (r : Purpose). stages.Step sub r) (one_purpose sub p q held undoing) ∙ sym g
 
-one_end : (x y : Stage) (sub : Sub) (p q : Purpose) → x ≡ stages.Finish sub p → y ≡ stages.Finish sub q → Alike x y → x ≡ y
+one_end : (x y : Stage) (sub : Sub) (p q : Purpose) → x ≡ stages.Finish sub p → y ≡ stages.Finish sub q → Alike x y
+    → x ≡ y
 one_end x y sub p q e g a =
     let held = ap held_in (sym e) ∙ a.held ∙ ap held_in g in
     let undoing = ap is_undoing (sym e) ∙ a.undoing (ap owed e) (ap owed g) ∙ ap is_undoing g in
@@ -169,7 +171,8 @@ again_too lost s what n ask End may k e g =
     let z = ap is_end (sym e ∙ m) in absurd (false≢true z)
 again_too lost s what n ask (Again other) may k e g =
     let mine = subst (λ (b : Action). AgainFitsIn s what b n.stage) g k.again in
-    let its = subst (λ (b : Action). AgainFitsIn s what b (after_told lost s what).stage) e (each_reply lost s what).again in
+    let its = subst (λ (b : Action). AgainFitsIn s what b (after_told lost s what).stage) e
+    (each_reply lost s what).again in
     g ∙ ap Again (ap (ask_or other) (sym mine.1 ∙ its.1))
 
 does_too : (lost : Bool) (s : Stage) (what : Told) (n : Next) (a : Action) → (lost ≡ true → IsAborting s)
@@ -185,8 +188,11 @@ does_too lost s what n (Again ask) may k e = again_too lost s what n ask n.actio
 -- two turns that follow what was told, of one action
 follow_alike : (s : Stage) (what : Told) (n m : Next) (a : Action) → n.action ≡ a → m.action ≡ a
     → Follows s what n → Follows s what m → IsSame n m
-follow_alike s what n m End e g f k =
-    (e ∙ sym g, subst (λ (b : Action). IsStageAt b n.stage) e f.stage ∙ sym (subst (λ (b : Action). IsStageAt b m.stage) g k.stage))
+follow_alike s what n m End e g f k = (
+  e ∙ sym g,
+  subst (λ (b : Action). IsStageAt b n.stage) e f.stage
+      ∙ sym (subst (λ (b : Action). IsStageAt b m.stage) g k.stage),
+)
 follow_alike s what n m a e g f k = elim f.txn [
   | inl over ↦ let z = ap is_end (sym e ∙ ap (λ (x : Next). x.action) over) in absurd (false≢true z)
   | inr mine ↦ elim k.txn [
@@ -199,7 +205,8 @@ follow_alike s what n m a e g f k = elim f.txn [
 pub one_reply : OneReply
 one_reply lost s what n may k =
     let m = after_told lost s what in
-    follow_alike s what n m m.action (does_too lost s what n m.action may k refl) refl k.follows (each_stage lost s what)
+    follow_alike s what n m m.action (does_too lost s what n m.action may k refl) refl k.follows
+    (each_stage lost s what)
 
 -- ---- losses
 

@@ -66,7 +66,8 @@ ends lost s what may = record {
   follows = record { stage = refl; txn = inl refl; abort = none_under_way };
 }
 
-gives : (lost : Bool) (s : Stage) (what : Told) (answer : Answer) (h : Held) → h ≡ held_after s what → Tells s what answer
+gives : (lost : Bool) (s : Stage) (what : Told) (answer : Answer) (h : Held) → h ≡ held_after s what
+    → Tells s what answer
     → Says lost s what (answered answer h)
 gives lost s what answer h same tells = record {
   answer = tells;
@@ -76,7 +77,8 @@ gives lost s what answer h same tells = record {
   follows = record { stage = (h, refl); txn = inr same; abort = none_under_way };
 }
 
-calls : (lost : Bool) (s : Stage) (what : Told) (ask : Ask) (t : Stage) → IsStageOf ask t → held_in t ≡ held_after s what
+calls : (lost : Bool) (s : Stage) (what : Told) (ask : Ask) (t : Stage) → IsStageOf ask t
+    → held_in t ≡ held_after s what
     → is_undoing t ≡ is_undoing s → AsksFor s what ask → Says lost s what (next (Do ask) t)
 calls lost s what ask t stage same abort asked = record {
   answer = tt;
@@ -133,7 +135,8 @@ start_works : (lost : Bool) (h : Held) (sub : Sub) (txn : Txn) → txn_held h �
     → Says lost (stages.Start h) (told.Started sub) (next (Do (asks.Step (numbered txn sub)))
     (stages.Step (numbered txn sub) purposes.Request))
 start_works lost h sub txn e =
-    calls lost (stages.Start h) (told.Started sub) (asks.Step (numbered txn sub)) (stages.Step (numbered txn sub) purposes.Request)
+    calls lost (stages.Start h) (told.Started sub) (asks.Step (numbered txn sub))
+    (stages.Step (numbered txn sub) purposes.Request)
     (purposes.Request, refl) (rw e refl) refl
     (inl (record { before = h; txn = txn; known = sub; stage = refl; holds = e; reply = refl; same = refl }))
 
@@ -148,7 +151,8 @@ starts lost h (told.Refused refusal) = refuses lost (stages.Start h) refusal h r
 starts lost h what = ends lost (stages.Start h) what (inl refl)
 
 step_refused : (lost : Bool) (sub : Sub) (purpose : Purpose) (refusal : Refusal)
-    → Says lost (stages.Step sub purpose) (told.Refused refusal) (rules.work_refused lost sub purpose refusal (next (Again
+    → Says lost (stages.Step sub purpose) (told.Refused refusal)
+    (rules.work_refused lost sub purpose refusal (next (Again
     (asks.Step sub)) (stages.Step sub purpose)))
 step_refused lost sub purpose NoMemory = tries lost (stages.Step sub purpose) NoMemory (asks.Step sub) (purpose, refl)
 step_refused lost sub purposes.Request refusal =
@@ -161,14 +165,17 @@ step_refused lost sub purposes.Undoing refusal =
 written : (lost : Bool) (sub : Sub) (purpose : Purpose)
     → Says lost (stages.Step sub purpose) told.Written (next (Do (asks.Step sub)) (stages.Step sub purpose))
 written lost sub purpose =
-    calls lost (stages.Step sub purpose) told.Written (asks.Step sub) (stages.Step sub purpose) (purpose, refl) refl refl
+    calls lost (stages.Step sub purpose) told.Written (asks.Step sub) (stages.Step sub purpose)
+    (purpose, refl) refl refl
     (inr (inr ((purpose, refl), refl)))
 
-ready : (lost : Bool) (sub : Sub) (purpose : Purpose) → held_in (stages.Finish sub purpose) ≡ held_in (stages.Step sub purpose)
+ready : (lost : Bool) (sub : Sub) (purpose : Purpose)
+    → held_in (stages.Finish sub purpose) ≡ held_in (stages.Step sub purpose)
     → is_undoing (stages.Finish sub purpose) ≡ is_undoing (stages.Step sub purpose)
     → Says lost (stages.Step sub purpose) told.Ready (next (Do (asks.Finish sub)) (stages.Finish sub purpose))
 ready lost sub purpose same abort =
-    calls lost (stages.Step sub purpose) told.Ready (asks.Finish sub) (stages.Finish sub purpose) (purpose, refl) same abort
+    calls lost (stages.Step sub purpose) told.Ready (asks.Finish sub) (stages.Finish sub purpose)
+    (purpose, refl) same abort
     ((purpose, refl), refl)
 
 steps : (lost : Bool) (sub : Sub) (purpose : Purpose) (what : Told)
@@ -181,9 +188,11 @@ steps lost sub purpose (told.Refused refusal) = step_refused lost sub purpose re
 steps lost sub purpose what = ends lost (stages.Step sub purpose) what (inl refl)
 
 finish_refused : (lost : Bool) (sub : Sub) (purpose : Purpose) (refusal : Refusal)
-    → Says lost (stages.Finish sub purpose) (told.Refused refusal) (rules.work_refused lost sub purpose refusal (next (Again
+    → Says lost (stages.Finish sub purpose) (told.Refused refusal)
+    (rules.work_refused lost sub purpose refusal (next (Again
     (asks.Finish sub)) (stages.Finish sub purpose)))
-finish_refused lost sub purpose NoMemory = tries lost (stages.Finish sub purpose) NoMemory (asks.Finish sub) (purpose, refl)
+finish_refused lost sub purpose NoMemory = tries lost (stages.Finish sub purpose) NoMemory (asks.Finish sub)
+    (purpose, refl)
 finish_refused lost sub purposes.Request refusal =
     refuses lost (stages.Finish sub purposes.Request) refusal (Left sub) refl (refl, λ m. m)
 finish_refused lost sub purposes.Clearing refusal =
@@ -201,7 +210,8 @@ finishes lost sub purposes.Request told.Sent = gives lost (stages.Finish sub pur
     (Open sub.txn) refl ((sub, refl), refl)
 finishes lost sub purposes.Request (told.Message message) = gives lost (stages.Finish sub purposes.Request)
     (told.Message message) (answers.Message message) (Open sub.txn) refl ((sub, refl), refl)
-finishes lost sub purposes.Request told.Closed = gives lost (stages.Finish sub purposes.Request) told.Closed answers.Closed
+finishes lost sub purposes.Request told.Closed = gives lost
+    (stages.Finish sub purposes.Request) told.Closed answers.Closed
     (Open sub.txn) refl ((sub, refl), refl)
 finishes lost sub purposes.Clearing told.Sent = calls lost (clearing sub) told.Sent (asks.StartAbort sub.txn)
     (stages.StartAbort sub.txn) refl refl refl (record { sub = sub; stage = refl; reply = tt; same = refl })
@@ -233,14 +243,16 @@ commits lost h (told.Refused refusal) = refuses lost (stages.Commit h) refusal h
 commits lost h what = ends lost (stages.Commit h) what (inl refl)
 
 receipts : (lost : Bool) (commit other : Commit) (same : Bool) → is_commit other commit ≡ same
-    → Says lost (stages.Await commit) (told.Durable other) (cond same (answered (answers.Committed commit.lsn) Free) (next
+    → Says lost (stages.Await commit) (told.Durable other)
+    (cond same (answered (answers.Committed commit.lsn) Free) (next
     (Await commit) (stages.Await commit)))
 receipts lost commit other true e =
     gives lost (stages.Await commit) (told.Durable other) (answers.Committed commit.lsn) Free refl (e, refl)
 receipts lost commit other false e =
     waits lost (stages.Await commit) (told.Durable other) commit refl refl (inr (refl, e))
 
-awaits : (lost : Bool) (commit : Commit) (what : Told) → Says lost (stages.Await commit) what (rules.after_await commit what)
+awaits : (lost : Bool) (commit : Commit) (what : Told)
+    → Says lost (stages.Await commit) what (rules.after_await commit what)
 awaits lost commit told.NotDurable = waits lost (stages.Await commit) told.NotDurable commit refl refl (inr (refl, tt))
 awaits lost commit (told.Refused Failed) = refuses lost (stages.Await commit) Failed Free refl refl
 awaits lost commit (told.Refused refusal) =
@@ -267,10 +279,12 @@ undo_refused lost txn refusal =
 
 undo_starts : (lost : Bool) (txn : Txn) (what : Told)
     → Says lost (stages.UndoNext txn) what (rules.after_undo_next lost txn what)
-undo_starts lost txn (told.Started sub) = calls lost (stages.UndoNext txn) (told.Started sub) (asks.Step (numbered txn sub))
+undo_starts lost txn (told.Started sub) = calls lost (stages.UndoNext txn) (told.Started sub)
+    (asks.Step (numbered txn sub))
     (stages.Step (numbered txn sub) purposes.Undoing) (purposes.Undoing, refl) refl refl
     (inr (inl (record { txn = txn; known = sub; stage = refl; reply = refl; same = refl })))
-undo_starts lost txn told.Nothing = calls lost (stages.UndoNext txn) told.Nothing (asks.EndAbort txn) (stages.EndAbort txn)
+undo_starts lost txn told.Nothing = calls lost (stages.UndoNext txn) told.Nothing (asks.EndAbort txn)
+    (stages.EndAbort txn)
     refl refl refl (refl, refl)
 undo_starts lost txn (told.Refused refusal) = undo_refused lost txn refusal
 undo_starts lost txn what = ends lost (stages.UndoNext txn) what (inl refl)
@@ -278,7 +292,8 @@ undo_starts lost txn what = ends lost (stages.UndoNext txn) what (inl refl)
 abort_ends : (lost : Bool) (txn : Txn) (what : Told)
     → Says lost (stages.EndAbort txn) what (rules.after_end_abort lost txn what)
 abort_ends true txn told.Aborted = ends true (stages.EndAbort txn) told.Aborted (inr (refl, tt))
-abort_ends false txn told.Aborted = gives false (stages.EndAbort txn) told.Aborted answers.Aborted Free refl ((txn, refl), refl)
+abort_ends false txn told.Aborted = gives false (stages.EndAbort txn) told.Aborted answers.Aborted Free refl
+    ((txn, refl), refl)
 abort_ends lost txn (told.Refused NoMemory) = tries lost (stages.EndAbort txn) NoMemory (asks.EndAbort txn) refl
 abort_ends lost txn (told.Refused refusal) =
     stops lost (stages.EndAbort txn) refusal (Aborting txn) refl (refl, λ m. m) tt (λ m. m)

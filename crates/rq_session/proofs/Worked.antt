@@ -6,6 +6,7 @@ use Rattle.rq_model.specs.declared.txn.Sub.{Sub}
 use Rattle.rq_model.specs.declared.refusal.Refusal.TheVariants.{NoMemory, UnknownTransaction, Latched, TooManyTransactions}
 use Rattle.rq_model.specs.declared.message.Message.{Message}
 use Rattle.rq_wire.specs.declared.request.Request.TheVariants as requests
+use Rattle.rq_wire.specs.declared.answers.Answer.{Answer}
 use Rattle.rq_wire.specs.declared.answers.Answer.TheVariants as answers
 use Rattle.rq_session.specs.declared.calls.Ask.TheVariants as asks
 use Rattle.rq_session.specs.declared.calls.Commit.{Commit}
@@ -19,10 +20,10 @@ use Rattle.rq_session.specs.declared.stage.Next.{Next}
 use Rattle.rq_session.specs.declared.stage.Stage.{Stage}
 use Rattle.rq_session.specs.declared.stage.Purpose.TheVariants as purposes
 use Rattle.rq_session.specs.declared.stage.Stage.TheVariants as stages
-use Rattle.rq_session.specs.Rules.{next, answered, ended, after_told}
-use Rattle.rq_session.specs.Laws.{Handed, asked, heard, gone, standing, Turn, Takes, Lost, Balanced, MayAgain, IsAborting, IsAgain, is_refusal}
+use Rattle.rq_session.specs.Rules.{next, answered, ended, taken, after_told}
+use Rattle.rq_session.specs.Laws.{Waits, Handed, asked, heard, gone, standing, Turn, Takes, Lost, Balanced, MayAgain, IsAborting, IsAgain, is_refusal}
 use Rattle.rq_session.specs.Tells.{AnswersAsTold, AsksAsTold, WaitsAsTold, EndsAsTold, Follows, KeepsLaws}
-use Rattle.rq_session.proofs.EachTurn.{each_reply, each_request, each_loss, lost_answers_nothing}
+use Rattle.rq_session.proofs.EachTurn.{not_taken, each_reply, each_request, each_loss, lost_answers_nothing}
 use Rattle.rq_session.proofs.Due.{each_answer, each_ask, each_wait, each_end, each_stage}
 
 abbrev t : Txn
@@ -48,6 +49,10 @@ is_ended _ = false
 abbrev is_answer : Action → Bool
 is_answer (Answers answer) = true
 is_answer _ = false
+
+abbrev is_one : Option Answer → Bool
+is_one None = false
+is_one (Some answer) = true
 
 abbrev is_step : Action → Bool
 is_step (Do (asks.Step sub)) = true
@@ -95,43 +100,52 @@ commit_waits : standing (heard (told.Durable another) ∷ heard (told.Committed 
     ≡ record { stage = stages.Await durable; lost = false; requests = 3; answers = 2 }
 commit_waits = refl
 
-commit_answered : standing (heard (told.Durable durable) ∷ heard (told.Committed durable) ∷ asked requests.Commit ∷ sent)
+commit_answered : standing
+    (heard (told.Durable durable) ∷ heard (told.Committed durable) ∷ asked requests.Commit ∷ sent)
     ≡ record { stage = stages.Rest Free; lost = false; requests = 3; answers = 3 }
 commit_answered = refl
 
 -- a request is not taken while another is under way
-not_taken : standing (asked requests.Receive ∷ asked requests.Commit ∷ sent)
+one_at_a_time : standing (asked requests.Receive ∷ asked requests.Commit ∷ sent)
     ≡ record { stage = stages.Commit (Open t); lost = false; requests = 3; answers = 2 }
-not_taken = refl
+one_at_a_time = refl
 
 -- the connection is lost in the midst of a send: that is finished, undone, and nothing is answered
 lost_in_a_send : standing (heard told.Aborted ∷ heard told.Nothing ∷ heard told.Undone ∷ heard told.Ready
-    ∷ heard (told.Started first) ∷ heard (told.Refused Latched) ∷ heard told.Aborting ∷ heard told.Sent ∷ heard told.Ready
-    ∷ gone ∷ heard (told.Started first) ∷ asked (requests.Send 0 7 []) ∷ heard (told.Begun t) ∷ asked requests.Begin ∷ [])
+    ∷ heard (told.Started first) ∷ heard
+    (told.Refused Latched) ∷ heard told.Aborting ∷ heard told.Sent ∷ heard told.Ready
+    ∷ gone ∷ heard (told.Started first) ∷ asked (requests.Send 0 7 []) ∷ heard
+    (told.Begun t) ∷ asked requests.Begin ∷ [])
     ≡ record { stage = stages.Ended; lost = true; requests = 2; answers = 1 }
 lost_in_a_send = refl
 
 -- an undo that meets a latch is tried again; a start that meets one, or has no memory, is answered
-undo_again : after_told false (stages.UndoNext t) (told.Refused Latched) ≡ next (Again (asks.UndoNext t)) (stages.UndoNext t)
+undo_again : after_told false (stages.UndoNext t) (told.Refused Latched) ≡ next (Again (asks.UndoNext t))
+    (stages.UndoNext t)
 undo_again = refl
 
-start_not_again : after_told false (stages.Start (Open t)) (told.Refused Latched) ≡ answered (answers.Refused Latched) (Open t)
+start_not_again : after_told false (stages.Start (Open t)) (told.Refused Latched) ≡ answered
+    (answers.Refused Latched) (Open t)
 start_not_again = refl
 
 no_memory_for_a_start : after_told false (stages.Start (Open t)) (told.Refused NoMemory)
     ≡ answered (answers.Refused NoMemory) (Open t)
 no_memory_for_a_start = refl
 
--- what was begun for another is not what this session names: a start's operation is numbered in the session's own transaction
-own_number : after_told false (stages.Start (Open t)) (told.Started (record { txn = record { incarnation = 1; count = 9 }; number = 1 }))
+-- what was begun for another is not what this session names: a start's operation is numbered in the session's own
+-- transaction
+own_number : after_told false (stages.Start (Open t))
+    (told.Started (record { txn = record { incarnation = 1; count = 9 }; number = 1 }))
     ≡ next (Do (asks.Step first)) (stages.Step first purposes.Request)
 own_number = refl
 
 abbrev other : Txn
 other = record { incarnation = 1; count = 9 }
 
--- a turn that names another's transaction, that answers a commit without its own receipt, or that answers twice, is none
-names_another : Turn (stages.Step first purposes.Request) told.Ready (next (Do (asks.Finish (record { txn = other; number = 1 }))) (stages.Finish first purposes.Request)) → ⊥
+-- a turn that names another's transaction, that answers a commit without its own receipt, or that answers twice, is
+-- none
+names_another : Turn (stages.Step first purposes.Request) told.Ready
+    (next (Do (asks.Finish (record { txn = other; number = 1 }))) (stages.Finish first purposes.Request)) → ⊥
 names_another turn = let e = turn.own_call in let n = ap count_of e in omega (arith, n)
 
 -- a session waits for no other commit than its own, and none is awaited where it was told of another's
@@ -144,7 +158,8 @@ another_is_not_awaited = refl
 awaits_another : Turn (stages.Commit (Open t)) (told.Committed others) (next (Await others) (stages.Await others)) → ⊥
 awaits_another turn = let n = ap count_of turn.own_commit.0 in omega (arith, n)
 
-awaits_another_lsn : Turn (stages.Commit (Open t)) (told.Committed durable) (next (Await another) (stages.Await another)) → ⊥
+awaits_another_lsn : Turn (stages.Commit (Open t)) (told.Committed durable)
+    (next (Await another) (stages.Await another)) → ⊥
 awaits_another_lsn turn = let n = ap (λ (c : Commit). c.lsn) turn.own_commit.1 in omega (arith, n)
 
 changes_the_commit : Turn (stages.Await durable) told.NotDurable (next (Await another) (stages.Await another)) → ⊥
@@ -154,10 +169,12 @@ answers_too_early : Turn (stages.Await durable) (told.Durable another) (answered
 answers_too_early turn = let e = turn.receipt.0 in cc e
 
 answers_at_rest : Turn (stages.Rest (Open t)) told.Sent (answered answers.Sent (Open t)) → ⊥
-answers_at_rest turn = ⊎_elim (λ e. let s = ap (λ (n : Next). n.stage) e in rest_not_ended s) (λ e. omega (arith, e)) turn.once
+answers_at_rest turn = ⊎_elim (λ e. let s = ap (λ (n : Next). n.stage) e in rest_not_ended s)
+    (λ e. omega (arith, e)) turn.once
 
 -- where a call may be made again it is, and where not it is not
-undo_may_again : MayAgain (stages.UndoNext t) Latched × IsAgain (after_told false (stages.UndoNext t) (told.Refused Latched)).action
+undo_may_again : MayAgain (stages.UndoNext t) Latched × IsAgain
+    (after_told false (stages.UndoNext t) (told.Refused Latched)).action
 undo_may_again = (tt, tt)
 
 start_may_not_again : MayAgain (stages.Start (Open t)) Latched → ⊥
@@ -180,7 +197,8 @@ begun_already = each_request (Open t) requests.Begin
 takes_another : Takes (Open t) requests.Commit (next (Do (asks.Commit other)) (stages.Commit (Open t))) → ⊥
 takes_another takes = let n = ap count_of takes.own_call in omega (arith, n)
 
-receives_for_a_send : Takes (Open t) (requests.Send 0 7 []) (next (Do (asks.StartReceive t)) (stages.Start (Open t))) → ⊥
+receives_for_a_send : Takes (Open t) (requests.Send 0 7 []) (next (Do (asks.StartReceive t)) (stages.Start (Open t)))
+    → ⊥
 receives_for_a_send takes = let e = ap is_receive takes.first in true≢false e
 
 refuses_a_send : Takes (Open t) (requests.Send 0 7 []) (answered (answers.Refused UnknownTransaction) (Open t)) → ⊥
@@ -192,6 +210,13 @@ clears_first = each_request (Left first) requests.Abort
 
 aborts_over_it : Takes (Left first) requests.Abort (next (Do (asks.StartAbort t)) (stages.StartAbort t)) → ⊥
 aborts_over_it takes = let e = ap is_step takes.first in false≢true e
+
+-- a request that comes while another is under way is not taken, nor is it refused
+comes_too_early : Waits (stages.Commit (Open t)) (taken (stages.Commit (Open t)) requests.Receive)
+comes_too_early = not_taken (stages.Commit (Open t)) requests.Receive refl
+
+is_refused : Waits (stages.Commit (Open t)) (answered (answers.Refused NoMemory) (Open t)) → ⊥
+is_refused waits = let z = ap is_one waits.answer in true≢false z
 
 -- a lost session aborts; one that rests does not, nor one that ends with a transaction
 lost_aborts : Lost (stages.Rest (Open t)) (next (Do (asks.StartAbort t)) (stages.StartAbort t))
@@ -207,10 +232,12 @@ ends_at_once lost = let n = ap count_of lost.own_txn in omega (arith, n)
 abbrev message : Message
 message = record { sender = 0; tag = 7; body = [] }
 
-message_answered : AnswersAsTold (stages.Finish first purposes.Request) (told.Message message) (Answers (answers.Message message))
+message_answered : AnswersAsTold (stages.Finish first purposes.Request) (told.Message message)
+    (Answers (answers.Message message))
 message_answered = each_answer (stages.Finish first purposes.Request) (told.Message message)
 
-sent_for_a_message : AnswersAsTold (stages.Finish first purposes.Request) (told.Message message) (Answers answers.Sent) → ⊥
+sent_for_a_message : AnswersAsTold (stages.Finish first purposes.Request) (told.Message message)
+    (Answers answers.Sent) → ⊥
 sent_for_a_message law = let e = ap is_message ((law answers.Sent).0 refl).1 in true≢false e
 
 other_refusal : AnswersAsTold (stages.Start (Open t)) (told.Refused Latched) (Answers (answers.Refused NoMemory)) → ⊥
@@ -266,20 +293,24 @@ lost_is_over : EndsAsTold true (stages.EndAbort t) told.Aborted End
 lost_is_over = each_end true (stages.EndAbort t) told.Aborted
 
 -- a refused step leaves the operation under way
-left_under_way : Follows (stages.Step first purposes.Request) (told.Refused Latched) (answered (answers.Refused Latched) (Left first))
+left_under_way : Follows (stages.Step first purposes.Request) (told.Refused Latched)
+    (answered (answers.Refused Latched) (Left first))
 left_under_way = each_stage false (stages.Step first purposes.Request) (told.Refused Latched)
 
-forgets_it : Follows (stages.Step first purposes.Request) (told.Refused Latched) (answered (answers.Refused Latched) (Open t)) → ⊥
+forgets_it : Follows (stages.Step first purposes.Request) (told.Refused Latched)
+    (answered (answers.Refused Latched) (Open t)) → ⊥
 forgets_it follows = ⊎_elim
     (λ e. let s = ap (λ (n : Next). n.stage) e in rest_not_ended s)
     (λ e. let b = ap is_left e in false≢true b) follows.txn
 
 -- a send stays a send
-aborts_a_send : Follows (stages.Start (Open t)) (told.Started first) (next (Do (asks.Step first)) (stages.Step first purposes.Clearing)) → ⊥
+aborts_a_send : Follows (stages.Start (Open t)) (told.Started first)
+    (next (Do (asks.Step first)) (stages.Step first purposes.Clearing)) → ⊥
 aborts_a_send follows = let e = follows.abort refl in true≢false e
 
 -- the session itself keeps the laws, and the one that gives its transaction up does not
-keeps_them : (lost : Bool) (s : Stage) (what : Told) → (lost ≡ true → IsAborting s) → KeepsLaws lost s what (after_told lost s what)
+keeps_them : (lost : Bool) (s : Stage) (what : Told) → (lost ≡ true → IsAborting s)
+    → KeepsLaws lost s what (after_told lost s what)
 keeps_them false s what may = record {
   answer = λ e. each_answer s what;
   silent = λ e. absurd (false≢true e);

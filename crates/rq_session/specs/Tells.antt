@@ -105,7 +105,8 @@ pub record IsTakenBack (s : Stage) (what : Told) (txn : Txn) : Type 0 where
 
 -- what was told asks for this call; each other call is asked for by a request alone
 abbrev pub AsksFor : Stage → Told → Ask → Type 0
-AsksFor s what (asks.Step sub) = IsStarted s what sub ⊎ (IsUndoStarted s what sub ⊎ (IsStep s sub × (what ≡ told.Written)))
+AsksFor s what (asks.Step sub) =
+    IsStarted s what sub ⊎ (IsUndoStarted s what sub ⊎ (IsStep s sub × (what ≡ told.Written)))
 AsksFor s what (asks.Finish sub) = IsStep s sub × (what ≡ told.Ready)
 AsksFor s what (asks.StartAbort txn) = IsCleared s what txn
 AsksFor s what (asks.UndoNext txn) = ((s ≡ stages.StartAbort txn) × (what ≡ told.Aborting)) ⊎ IsTakenBack s what txn

@@ -1,13 +1,13 @@
 //! Laws of sessions, for proofs.
-ghost use Rattle.rq_session.specs.Laws.{EachReply, EachMayAgain, EachRequest, EachLoss, LostAnswersNothing, OneAnswerEach};
+ghost use Rattle.rq_session.specs.Laws.{EachReply, EachMayAgain, EachRequest, EachLoss, LostAnswersNothing, NotTaken, OneAnswerEach};
 ghost use Rattle.rq_session.specs.Tells.{EachAnswer, EachAsk, EachWait, EachEnd, EachStage, OneReply, OneFirst, OneLoss};
 
 /// At each reply: a call names the session's own transaction, and a begin is asked for only where there is none. A wait
 /// is for the commit of that transaction, as it was told just now, or for the one that was awaited before.
-/// The transaction stays until its own commit is told, the end of its abort is told, or the session ends, and only a
-/// begin that was answered gives one. A request under way stays under way, or gets its one answer, or the session ends. A call is
-/// made again only where memory was wanting in an operation or an abort under way, or latches or frames for an
-/// undo. Committed is answered only at the receipt of that commit.
+/// The transaction stays until its own commit is told and awaited, the end of its abort is told and answered, or the
+/// session ends, and only a begin that was answered gives one. A request under way stays under way, or gets its one
+/// answer, or the session ends. A call is made again only where memory was wanting in an operation or an abort under
+/// way, or latches or frames for an undo. Committed is answered only at the receipt of that commit.
 pub fn each_reply()
     ensures { EachReply }
 {}
@@ -22,6 +22,12 @@ pub fn each_may_again()
 /// transaction stays as it was.
 pub fn each_request()
     ensures { EachRequest }
+{}
+
+/// While a request is under way, and once the session has ended, no further one is taken: nothing is called and
+/// answered, and the session stays where it is.
+pub fn not_taken()
+    ensures { NotTaken }
 {}
 
 /// What is answered was told: at each stage an answer is given exactly where the call that was asked for last was told
