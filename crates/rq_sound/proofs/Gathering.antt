@@ -1,7 +1,7 @@
--- The level of chains asks for the slots that its operation needs.
-use Rattle.std.proofs.Common.{◌≡◌, ⊎_elim, ℕ, ◌/◌, ◌%◌, ◌<◌, ◌++◌, List, [], ◌∷◌, refl, sym, ◌∙◌, ap, subst, Bool, true, false, cond, nat_eq, Option, None, Some, inl, inr, arith}
+-- The level of chains asks for the slots that its operation needs, and is given them one after the other.
+use Rattle.std.proofs.Common.{◌≡◌, ◌⊎◌, ⊎_elim, ℕ, ◌/◌, ◌%◌, ◌<◌, ◌++◌, List, [], ◌∷◌, refl, sym, ◌∙◌, ap, subst, Bool, true, false, cond, nat_eq, Option, None, Some, inl, inr, arith}
 use Rattle.std.proofs.lemmas.Bool.{cases_Bool, eq-eqb, eqb-true, or_left, or_right, true≢false}
-use Rattle.std.proofs.lemmas.List.Elements.{All-head, All-tail}
+use Rattle.std.proofs.lemmas.List.Elements.{All-append, All-cons, All-head, All-tail}
 use Rattle.rq_model.specs.declared.record.Deed.{Deed}
 use Rattle.rq_model.specs.declared.record.Deed.TheVariants.{Append, UnlinkHead, Close}
 use Rattle.rq_model.specs.Deeds.{deed_in}
@@ -28,7 +28,7 @@ use Rattle.rq_store.specs.State.{State}
 use Rattle.rq_txn.specs.Rows.{latched_in}
 use Rattle.rq_sound.specs.Groups.{slots_now}
 use Rattle.rq_sound.specs.Latching.{any_latched, at_head, at_tail, before_tail, behind_head, head_in, named, needed, next_in, prev_in, tail_in}
-use Rattle.rq_sound.specs.Gathering.{AreGivenFrom, IsToDo, IsToUndo, IsWantedOf, WantsAreNeeded}
+use Rattle.rq_sound.specs.Gathering.{AreGivenFrom, IsToDo, IsToUndo, IsWantedOf, SlotsAreGathered, WantsAreNeeded, with_slot}
 
 -- what was given is a slot
 one_slot : (z : Sizes) (a : ℕ) (g : Given) (b : Bool) (rest : Option (List ℕ)) (bytes : List ℕ) → nat_eq g.at a ≡ b → IsGiven z g
@@ -197,4 +197,42 @@ wants_needed = record {
   receives = λ s given job g h t inside. subst (λ o. IsWantedOf s given o (behind_head (slots_now s) g)) (sym (to_do given job _ t)) (receives s given h g inside);
   closes = λ s given job g h t inside. subst (λ o. IsWantedOf s given o (directory_at g ∷ [])) (sym (to_do given job _ t)) (marks s given h g inside);
   undoes = λ s given job d h t inside. subst (λ o. IsWantedOf s given o (needed (slots_now s) (Undid d))) (sym (to_undo given job d t)) (undoes s given h d inside);
+}
+
+-- what is held behind one slot more was held before, or is that slot's
+behind_more : (z : Sizes) (given : List Given) (g : Given) (b : ℕ) (x : Slot) → GivenHolds z (given ++ g ∷ []) b x → GivenHolds z given b x ⊎ ((g.at ≡ b) × (held_in z (b / 16) g.bytes ≡ x))
+behind_more z [] g b x h = elim (cases_Bool (nat_eq g.at b)) [
+  | inl y ↦ inr (eqb-true g.at b y, subst (HoldsBytes z b x) (ap (λ (t : Bool). cond t (Some g.bytes) None) y) h)
+  | inr n ↦ absurd (subst (HoldsBytes z b x) (ap (λ (t : Bool). cond t (Some g.bytes) None) n) h)
+]
+behind_more z (f ∷ fs) g b x h = elim (cases_Bool (nat_eq f.at b)) [
+  | inl y ↦ inl (rw y (subst (HoldsBytes z b x) (ap (λ (t : Bool). cond t (Some f.bytes) (given_at b (fs ++ g ∷ []))) y) h))
+  | inr n ↦ ⊎_elim (λ (k : GivenHolds z fs b x). inl (rw n k)) (λ k. inr k) (behind_more z fs g b x (subst (HoldsBytes z b x) (ap (λ (t : Bool). cond t (Some f.bytes) (given_at b (fs ++ g ∷ []))) n) h))
+]
+
+module _ (s : State) (given : List Given) (a : ℕ) (bytes : List ℕ) (now : slots_now s a ≡ held_in s.sizes (a / 16) bytes) where
+  as_is_more : ((b : ℕ) (x : Slot) → GivenHolds s.sizes given b x → slots_now s b ≡ x) → (b : ℕ) (x : Slot) → GivenHolds s.sizes (with_slot given a bytes) b x → slots_now s b ≡ x
+  as_is_more old b x h =
+      ⊎_elim (old b x)
+      (λ (k : (a ≡ b) × (held_in s.sizes (b / 16) bytes ≡ x)). ap (slots_now s) (sym k.0) ∙ now ∙ ap (λ n. held_in s.sizes (n / 16) bytes) k.0 ∙ k.1)
+      (behind_more s.sizes given (record { at = a; bytes = bytes }) b x h)
+
+  off_more : ((b : ℕ) (x : Slot) → GivenHolds s.sizes given b x → latched_in s.rows (b / 16) ≡ false) → latched_in s.rows (a / 16) ≡ false → (b : ℕ) (x : Slot) → GivenHolds s.sizes (with_slot given a bytes) b x → latched_in s.rows (b / 16) ≡ false
+  off_more old off b x h =
+      ⊎_elim (old b x)
+      (λ (k : (a ≡ b) × (held_in s.sizes (b / 16) bytes ≡ x)). ap (λ n. latched_in s.rows (n / 16)) (sym k.0) ∙ off)
+      (behind_more s.sizes given (record { at = a; bytes = bytes }) b x h)
+
+pub slots_gathered : SlotsAreGathered
+slots_gathered = record {
+  none_given = λ s. record { of_store = λ k d lt. absurd (omega (arith, lt)); as_is = λ a x h. absurd h };
+  one_given = λ s given a bytes h place slot now. record {
+    of_store = All-append (IsGiven s.sizes) given (record { at = a; bytes = bytes } ∷ []) h.of_store (All-cons (IsGiven s.sizes) (record { at = a; bytes = bytes }) [] (record { place = place; bytes = slot }) (λ k d lt. absurd (omega (arith, lt))));
+    as_is = as_is_more s given a bytes now h.as_is;
+  };
+  none_gathered = λ s. record { as_is = λ a x h. absurd h; unlatched = λ a x h. absurd h };
+  one_gathered = λ s given a bytes h now off. record {
+    as_is = as_is_more s given a bytes now h.as_is;
+    unlatched = off_more s given a bytes now h.unlatched off;
+  };
 }

@@ -1,10 +1,11 @@
--- Which slots the level of chains asks for before it plans: those that its operation needs, and no others.
-use Rattle.std.specs.Prelude.{◌≡◌, ℕ, ◌/◌, ◌<◌, false, true, List, [], ◌∷◌, Option, None, Some}
+-- Which slots the level of chains asks for before it plans: those that its operation needs, and no others; and how they
+-- are given to it, one after the other.
+use Rattle.std.specs.Prelude.{◌≡◌, ℕ, ◌/◌, ◌%◌, ◌<◌, ◌++◌, false, true, List, [], ◌∷◌, Option, None, Some}
 use Rattle.rq_model.specs.declared.record.Deed.{Deed}
 use Rattle.rq_model.specs.Deeds.{deed_in}
 use Rattle.rq_model.specs.Words.{In}
 use Rattle.rq_page.specs.Sizes.{directory_at, sender_count}
-use Rattle.rq_page.specs.Slots.{Slot}
+use Rattle.rq_page.specs.Slots.{IsSlotOf, Slot, held_in}
 use Rattle.rq_views.specs.Plans.{deed_sender}
 use Rattle.rq_views.specs.Plans.Turn.{Undid}
 use Rattle.rq_views.specs.Stored.{IsStoreSlot}
@@ -17,6 +18,7 @@ use Rattle.rq_store.specs.State.{State}
 use Rattle.rq_txn.specs.Rows.{latched_in}
 use Rattle.rq_sound.specs.Groups.{slots_now}
 use Rattle.rq_sound.specs.Latching.{any_latched, at_tail, behind_head, needed}
+use Rattle.rq_sound.specs.Levels.{IsGathered}
 use Rattle.rq_sound.specs.Wants.{AreGivenOf}
 
 -- slots of the store were given, as they are
@@ -56,3 +58,19 @@ pub record WantsAreNeeded : Type 0 where
   pub undoes : (s : State) (given : List Given) (job : Job) (d : Deed) → AreGivenFrom s given
       → IsToUndo job d → deed_sender d < sender_count s.sizes
       → IsWantedOf s given (job_wanted job given) (needed (slots_now s) (Undid d))
+
+-- what was given, with this slot behind it
+abbrev pub with_slot : List Given → ℕ → List ℕ → List Given
+with_slot given a bytes = given ++ record { at = a; bytes = bytes } ∷ []
+
+-- Slots are given one after the other: none at first, and then each as it is, of the store; and, where only those are
+-- given that nobody has latched, what was given is gathered.
+pub record SlotsAreGathered : Type 0 where
+  pub none_given : (s : State) → AreGivenFrom s []
+  pub one_given : (s : State) (given : List Given) (a : ℕ) (bytes : List ℕ) → AreGivenFrom s given
+      → IsStoreSlot s.sizes a → IsSlotOf s.sizes (a / 16) (a % 16) bytes
+      → slots_now s a ≡ held_in s.sizes (a / 16) bytes → AreGivenFrom s (with_slot given a bytes)
+  pub none_gathered : (s : State) → IsGathered s []
+  pub one_gathered : (s : State) (given : List Given) (a : ℕ) (bytes : List ℕ) → IsGathered s given
+      → slots_now s a ≡ held_in s.sizes (a / 16) bytes → latched_in s.rows (a / 16) ≡ false
+      → IsGathered s (with_slot given a bytes)

@@ -1,6 +1,6 @@
 //! What the calls of a store with any number of operations under way rest on: refusals, what the model's tests read,
 //! what the pages say of a group while others are under way, and which plans may start.
-ghost use Rattle.rq_sound.specs.Gathering.{WantsAreNeeded};
+ghost use Rattle.rq_sound.specs.Gathering.{SlotsAreGathered, WantsAreNeeded};
 ghost use Rattle.rq_sound.specs.Groups.{SlotsTellGroups};
 ghost use Rattle.rq_sound.specs.Latching.{LatchedIsExact};
 ghost use Rattle.rq_sound.specs.Levels.{CellsStayKept, LevelsPlanFromSlots, LevelsRefuseExactly};
@@ -73,6 +73,11 @@ pub fn levels_find_all()
 /// more once it was given them all.
 pub fn wants_are_needed()
     ensures { WantsAreNeeded }
+{}
+
+/// Slots of the store are given to a level one after the other, each as it is.
+pub fn slots_are_gathered()
+    ensures { SlotsAreGathered }
 {}
 
 /// Worked: what is refused while two sends are under way, what is not, and receipts.
