@@ -124,6 +124,7 @@ module _ (pages : MemPages) (old new : MemLog) (p : AreNewPages pages formatted_
   fail_made = record {
     steps = λ h k. failed_force;
     cause = λ h k. refl;
+    latched = λ k. tt;
     sizes = refl;
     failed = (λ e. cc e, λ e. cc e);
     refused = (refl, refl);
