@@ -77,49 +77,50 @@ same_cells s new k sizes slots more h = record {
   chosen = λ i lt e. subst (λ z. to_write new.rows (cell_at z i) ≡ true) (sym sizes) (more (cell_at s.sizes i) (h.chosen i (subst (λ z. i < cell_count z) sizes lt) e));
 }
 
-flag_same : (flags : List Bool) (p : ℕ) (b : Bool) → p < length flags → flag_at (set flags p b) p ≡ b
+pub flag_same : (flags : List Bool) (p : ℕ) (b : Bool) → p < length flags → flag_at (set flags p b) p ≡ b
 flag_same flags p b lt = get_or-set_same flags p b false lt
 
-flag_other : (flags : List Bool) (p i : ℕ) (b : Bool) → i ≢ p → flag_at (set flags p b) i ≡ flag_at flags i
+pub flag_other : (flags : List Bool) (p i : ℕ) (b : Bool) → i ≢ p → flag_at (set flags p b) i ≡ flag_at flags i
 flag_other flags p i b ne = get_or-set_other flags p i b false ne
 
 -- a cell stands at one place
-place_is : (z : Sizes) (a i : ℕ) → i < cell_count z → cell_at z i ≡ a → i ≡ place_of z a
+pub place_is : (z : Sizes) (a i : ℕ) → i < cell_count z → cell_at z i ≡ a → i ≡ place_of z a
 place_is z a i lt e = sym (cells_have_places z i lt).1 ∙ ap (place_of z) e
 
-is_cell : (z : Sizes) (a : ℕ) → is_cell_address z a ≡ true → IsCellAddress z a
+pub is_cell : (z : Sizes) (a : ℕ) → is_cell_address z a ≡ true → IsCellAddress z a
 is_cell z a h =
     let p = and_parts (nat_lt z.directory (a / 16)) (nat_lt (a / 16) (page_count z) && nat_lt 0 (a % 16)) h in
     let q = and_parts (nat_lt (a / 16) (page_count z)) (nat_lt 0 (a % 16)) p.1 in
     record { above = ltb-true z.directory (a / 16) p.0; below = ltb-true (a / 16) (page_count z) q.0; slot = ltb-true 0 (a % 16) q.1 }
 
-cell_is : (z : Sizes) (a : ℕ) → IsCellAddress z a → is_cell_address z a ≡ true
+pub cell_is : (z : Sizes) (a : ℕ) → IsCellAddress z a → is_cell_address z a ≡ true
 cell_is z a c = and_from _ _ (lt-ltb z.directory (a / 16) c.above) (and_from _ _ (lt-ltb (a / 16) (page_count z) c.below) (lt-ltb 0 (a % 16) c.slot))
 
 -- a slot of a cell page is free by its first byte
-free_by_byte : (z : Sizes) (a : ℕ) (bytes : List ℕ) → IsCellAddress z a → is_free_slot bytes ≡ not (is_used (held_in z (a / 16) bytes))
+pub free_by_byte : (z : Sizes) (a : ℕ) (bytes : List ℕ) → IsCellAddress z a → is_free_slot bytes ≡ not (is_used (held_in z (a / 16) bytes))
 free_by_byte z a bytes c = elim (cases_Bool (is_free_slot bytes)) [
   | inl y ↦ y ∙ sym (ap (λ x. not (is_used (held_for x bytes))) (kind_cells z (a / 16) c.above c.below) ∙ (rw y refl))
   | inr n ↦ n ∙ sym (ap (λ x. not (is_used (held_for x bytes))) (kind_cells z (a / 16) c.above c.below) ∙ (rw n refl))
 ]
 
+module _ (s : State) (k : AreDistinct s.rows) (r : Row) (m : IsIdle s r) (u : Under) (ends : HeldEnds) where
+  pub more_started : (a : ℕ) → to_write s.rows a ≡ true → to_write (started s r u ends).rows a ≡ true
+  more_started a e = changes_write r.txn (row_started u) a s.rows (λ q i same y. absurd (true≢false (sym y ∙ idle_writes_none q.under a (ap (λ (x : Row). x.under) (only_row s k r m.at_row q i same) ∙ m.idle)))) e
+
+  -- its own cell is to be written
+  pub own_write : (a : ℕ) → to_write_under (Some u) a ≡ true → to_write (started s r u ends).rows a ≡ true
+  own_write a on = at s.rows m.at_row where
+    at : (rows : List Row) → found_row r.txn rows ≡ Some r → to_write (change_row r.txn (row_started u) rows) a ≡ true
+    at [] e = cc
+    at (q ∷ rows) e = elim (cases_Bool (same_txn q.txn r.txn)) [
+      | inl y ↦ or_left (to_write_under (change_row_one r.txn (row_started u) q).under a) (to_write (change_row r.txn (row_started u) rows) a) (rw y on)
+      | inr n ↦ or_right (to_write_under (change_row_one r.txn (row_started u) q).under a) (to_write (change_row r.txn (row_started u) rows) a) (at rows (rw n at e))
+    ]
+
 module _ (s : State) (k : AreDistinct s.rows) (c : Kept) (h : KeepsCells s c) where
   module _ (r : Row) (m : IsIdle s r) (u : Under) (ends : HeldEnds) where
-    more_started : (a : ℕ) → to_write s.rows a ≡ true → to_write (started s r u ends).rows a ≡ true
-    more_started a e = changes_write r.txn (row_started u) a s.rows (λ q i same y. absurd (true≢false (sym y ∙ idle_writes_none q.under a (ap (λ (x : Row). x.under) (only_row s k r m.at_row q i same) ∙ m.idle)))) e
-
     starts : KeepsCells (started s r u ends) c
-    starts = same_cells s (started s r u ends) c refl refl more_started h
-
-    -- its own cell is to be written
-    own_write : (a : ℕ) → to_write_under (Some u) a ≡ true → to_write (started s r u ends).rows a ≡ true
-    own_write a on = at s.rows m.at_row where
-      at : (rows : List Row) → found_row r.txn rows ≡ Some r → to_write (change_row r.txn (row_started u) rows) a ≡ true
-      at [] e = cc
-      at (q ∷ rows) e = elim (cases_Bool (same_txn q.txn r.txn)) [
-        | inl y ↦ or_left (to_write_under (change_row_one r.txn (row_started u) q).under a) (to_write (change_row r.txn (row_started u) rows) a) (rw y on)
-        | inr n ↦ or_right (to_write_under (change_row_one r.txn (row_started u) q).under a) (to_write (change_row r.txn (row_started u) rows) a) (at rows (rw n at e))
-      ]
+    starts = same_cells s (started s r u ends) c refl refl (more_started s k r m u ends) h
 
     takes : (a : ℕ) → IsCellAddress s.sizes a → to_write_under (Some u) a ≡ true → KeepsCells (started s r u ends) (reserved_at s.sizes c a)
     takes a cell on =
@@ -131,8 +132,8 @@ module _ (s : State) (k : AreDistinct s.rows) (c : Kept) (h : KeepsCells s c) wh
           chosen_count = (let l = length-set c.reserved p true in let n = h.chosen_count in omega (arith, l, n));
           free = h.free;
           chosen = λ i lt e. elim (cases_eq i p) [
-            | inl same ↦ ap (to_write (started s r u ends).rows) (ap (cell_at s.sizes) same ∙ place.1) ∙ own_write a on
-            | inr ne ↦ more_started (cell_at s.sizes i) (h.chosen i lt (sym (flag_other c.reserved p i true ne) ∙ e))
+            | inl same ↦ ap (to_write (started s r u ends).rows) (ap (cell_at s.sizes) same ∙ place.1) ∙ own_write s k r m u ends a on
+            | inr ne ↦ more_started s k r m u ends (cell_at s.sizes i) (h.chosen i lt (sym (flag_other c.reserved p i true ne) ∙ e))
           ];
         }
 
