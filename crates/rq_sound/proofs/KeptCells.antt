@@ -1,5 +1,5 @@
 -- The level of chains goes on knowing a store's cells.
-use Rattle.std.proofs.Common.{set, ◌≡◌, ◌≢◌, ℕ, ◌+◌, ◌/◌, ◌%◌, ◌<◌, ◌&&◌, List, [], ◌∷◌, length, map, drop, refl, sym, ◌∙◌, ap, subst, Bool, true, false, not, nat_eq, nat_lt, Option, Some, None, inl, inr, arith}
+use Rattle.std.proofs.Common.{set, ◌≡◌, ◌≢◌, ℕ, ◌+◌, ◌/◌, ◌%◌, ◌<◌, ◌≤◌, ◌&&◌, List, [], ◌∷◌, length, map, drop, refl, sym, ◌∙◌, ap, subst, Bool, true, false, not, nat_eq, nat_lt, Option, Some, None, inl, inr, arith}
 use Rattle.std.proofs.lemmas.Bool.{and_from, and_parts, cases_Bool, cases_eq, eqb-true, false≢true, false_from_ne_true, lt-ltb, ltb-true, or_cases, or_left, or_right, true≢false}
 use Rattle.std.proofs.lemmas.List.{get_or-set_other, get_or-set_same, length-set}
 use Rattle.rq_model.specs.declared.txn.Txn.{Txn}
@@ -14,10 +14,9 @@ use Rattle.rq_views.proofs.Overlay.{put_at, put_off}
 use Rattle.rq_level.specs.declared.writes.SlotWrite.{SlotWrite}
 use Rattle.rq_level.specs.Kept.{Kept, flag_at, is_cell_address, is_free_slot, noted, noted_cell, noted_in, reserved_at}
 use Rattle.rq_groups.specs.Ends.{HeldEnds}
-use Rattle.rq_txn.specs.Rows.{Row, Under, change_row, change_row_one, found_row, row_aborting, row_started, row_stepped, without_row, any_under}
+use Rattle.rq_txn.specs.Rows.{AreDistinct, Row, Under, change_row, change_row_one, found_row, row_aborting, row_started, row_stepped, without_row, any_under}
 use Rattle.rq_store.specs.State.{State}
 use Rattle.rq_store.proofs.RowLists.{found_in, unique}
-use Rattle.rq_sound.specs.Sound.{IsSound}
 use Rattle.rq_sound.specs.Calls.{IsIdle, IsNextWrite, started, stepped}
 use Rattle.rq_sound.specs.Groups.{slots_now}
 use Rattle.rq_sound.specs.Levels.{CellsStayKept, KeepsCells, to_write, to_write_under}
@@ -50,8 +49,8 @@ leaves_write t a (q ∷ rows) h e = elim (cases_Bool (same_txn q.txn t)) [
 ]
 
 -- the row of a transaction is the one that is found
-only_row : (s : State) (k : IsSound s) (r : Row) → found_row r.txn s.rows ≡ Some r → (q : Row) → In q s.rows → q.txn ≡ r.txn → q ≡ r
-only_row s k r e q i same = unique s.rows q r k.standing.distinct i (found_in r.txn s.rows r e).0 same
+only_row : (s : State) (k : AreDistinct s.rows) (r : Row) → found_row r.txn s.rows ≡ Some r → (q : Row) → In q s.rows → q.txn ≡ r.txn → q ≡ r
+only_row s k r e q i same = unique s.rows q r k i (found_in r.txn s.rows r e).0 same
 
 idle_writes_none : (o : Option Under) (a : ℕ) → o ≡ None → to_write_under o a ≡ false
 idle_writes_none o a e = ap (λ (x : Option Under). to_write_under x a) e
@@ -71,56 +70,57 @@ made_writes_none o u a e made =
 same_cells : (s new : State) (k : Kept) → new.sizes ≡ s.sizes → slots_now new ≡ slots_now s → ((a : ℕ) → to_write s.rows a ≡ true → to_write new.rows a ≡ true) → KeepsCells s k → KeepsCells new k
 same_cells s new k sizes slots more h = record {
   sizes = h.sizes ∙ ap (λ (z : Sizes). Some z) (sym sizes);
-  free_count = h.free_count ∙ ap cell_count (sym sizes);
-  chosen_count = h.chosen_count ∙ ap cell_count (sym sizes);
+  free_count = subst (λ z. cell_count z ≤ length k.free) (sym sizes) h.free_count;
+  chosen_count = subst (λ z. cell_count z ≤ length k.reserved) (sym sizes) h.chosen_count;
   free = λ i lt.
       h.free i (subst (λ z. i < cell_count z) sizes lt) ∙ ap (λ (q : Slots). not (is_used (q (cell_at s.sizes i)))) (sym slots) ∙ ap (λ (z : Sizes). not (is_used (slots_now new (cell_at z i)))) (sym sizes);
   chosen = λ i lt e. subst (λ z. to_write new.rows (cell_at z i) ≡ true) (sym sizes) (more (cell_at s.sizes i) (h.chosen i (subst (λ z. i < cell_count z) sizes lt) e));
 }
 
-flag_same : (flags : List Bool) (p : ℕ) (b : Bool) → p < length flags → flag_at (set flags p b) p ≡ b
+pub flag_same : (flags : List Bool) (p : ℕ) (b : Bool) → p < length flags → flag_at (set flags p b) p ≡ b
 flag_same flags p b lt = get_or-set_same flags p b false lt
 
-flag_other : (flags : List Bool) (p i : ℕ) (b : Bool) → i ≢ p → flag_at (set flags p b) i ≡ flag_at flags i
+pub flag_other : (flags : List Bool) (p i : ℕ) (b : Bool) → i ≢ p → flag_at (set flags p b) i ≡ flag_at flags i
 flag_other flags p i b ne = get_or-set_other flags p i b false ne
 
 -- a cell stands at one place
-place_is : (z : Sizes) (a i : ℕ) → i < cell_count z → cell_at z i ≡ a → i ≡ place_of z a
+pub place_is : (z : Sizes) (a i : ℕ) → i < cell_count z → cell_at z i ≡ a → i ≡ place_of z a
 place_is z a i lt e = sym (cells_have_places z i lt).1 ∙ ap (place_of z) e
 
-is_cell : (z : Sizes) (a : ℕ) → is_cell_address z a ≡ true → IsCellAddress z a
+pub is_cell : (z : Sizes) (a : ℕ) → is_cell_address z a ≡ true → IsCellAddress z a
 is_cell z a h =
     let p = and_parts (nat_lt z.directory (a / 16)) (nat_lt (a / 16) (page_count z) && nat_lt 0 (a % 16)) h in
     let q = and_parts (nat_lt (a / 16) (page_count z)) (nat_lt 0 (a % 16)) p.1 in
     record { above = ltb-true z.directory (a / 16) p.0; below = ltb-true (a / 16) (page_count z) q.0; slot = ltb-true 0 (a % 16) q.1 }
 
-cell_is : (z : Sizes) (a : ℕ) → IsCellAddress z a → is_cell_address z a ≡ true
+pub cell_is : (z : Sizes) (a : ℕ) → IsCellAddress z a → is_cell_address z a ≡ true
 cell_is z a c = and_from _ _ (lt-ltb z.directory (a / 16) c.above) (and_from _ _ (lt-ltb (a / 16) (page_count z) c.below) (lt-ltb 0 (a % 16) c.slot))
 
 -- a slot of a cell page is free by its first byte
-free_by_byte : (z : Sizes) (a : ℕ) (bytes : List ℕ) → IsCellAddress z a → is_free_slot bytes ≡ not (is_used (held_in z (a / 16) bytes))
+pub free_by_byte : (z : Sizes) (a : ℕ) (bytes : List ℕ) → IsCellAddress z a → is_free_slot bytes ≡ not (is_used (held_in z (a / 16) bytes))
 free_by_byte z a bytes c = elim (cases_Bool (is_free_slot bytes)) [
   | inl y ↦ y ∙ sym (ap (λ x. not (is_used (held_for x bytes))) (kind_cells z (a / 16) c.above c.below) ∙ (rw y refl))
   | inr n ↦ n ∙ sym (ap (λ x. not (is_used (held_for x bytes))) (kind_cells z (a / 16) c.above c.below) ∙ (rw n refl))
 ]
 
-module _ (s : State) (k : IsSound s) (c : Kept) (h : KeepsCells s c) where
+module _ (s : State) (k : AreDistinct s.rows) (r : Row) (m : IsIdle s r) (u : Under) (ends : HeldEnds) where
+  pub more_started : (a : ℕ) → to_write s.rows a ≡ true → to_write (started s r u ends).rows a ≡ true
+  more_started a e = changes_write r.txn (row_started u) a s.rows (λ q i same y. absurd (true≢false (sym y ∙ idle_writes_none q.under a (ap (λ (x : Row). x.under) (only_row s k r m.at_row q i same) ∙ m.idle)))) e
+
+  -- its own cell is to be written
+  pub own_write : (a : ℕ) → to_write_under (Some u) a ≡ true → to_write (started s r u ends).rows a ≡ true
+  own_write a on = at s.rows m.at_row where
+    at : (rows : List Row) → found_row r.txn rows ≡ Some r → to_write (change_row r.txn (row_started u) rows) a ≡ true
+    at [] e = cc
+    at (q ∷ rows) e = elim (cases_Bool (same_txn q.txn r.txn)) [
+      | inl y ↦ or_left (to_write_under (change_row_one r.txn (row_started u) q).under a) (to_write (change_row r.txn (row_started u) rows) a) (rw y on)
+      | inr n ↦ or_right (to_write_under (change_row_one r.txn (row_started u) q).under a) (to_write (change_row r.txn (row_started u) rows) a) (at rows (rw n at e))
+    ]
+
+module _ (s : State) (k : AreDistinct s.rows) (c : Kept) (h : KeepsCells s c) where
   module _ (r : Row) (m : IsIdle s r) (u : Under) (ends : HeldEnds) where
-    more_started : (a : ℕ) → to_write s.rows a ≡ true → to_write (started s r u ends).rows a ≡ true
-    more_started a e = changes_write r.txn (row_started u) a s.rows (λ q i same y. absurd (true≢false (sym y ∙ idle_writes_none q.under a (ap (λ (x : Row). x.under) (only_row s k r m.at_row q i same) ∙ m.idle)))) e
-
     starts : KeepsCells (started s r u ends) c
-    starts = same_cells s (started s r u ends) c refl refl more_started h
-
-    -- its own cell is to be written
-    own_write : (a : ℕ) → to_write_under (Some u) a ≡ true → to_write (started s r u ends).rows a ≡ true
-    own_write a on = at s.rows m.at_row where
-      at : (rows : List Row) → found_row r.txn rows ≡ Some r → to_write (change_row r.txn (row_started u) rows) a ≡ true
-      at [] e = cc
-      at (q ∷ rows) e = elim (cases_Bool (same_txn q.txn r.txn)) [
-        | inl y ↦ or_left (to_write_under (change_row_one r.txn (row_started u) q).under a) (to_write (change_row r.txn (row_started u) rows) a) (rw y on)
-        | inr n ↦ or_right (to_write_under (change_row_one r.txn (row_started u) q).under a) (to_write (change_row r.txn (row_started u) rows) a) (at rows (rw n at e))
-      ]
+    starts = same_cells s (started s r u ends) c refl refl (more_started s k r m u ends) h
 
     takes : (a : ℕ) → IsCellAddress s.sizes a → to_write_under (Some u) a ≡ true → KeepsCells (started s r u ends) (reserved_at s.sizes c a)
     takes a cell on =
@@ -129,11 +129,11 @@ module _ (s : State) (k : IsSound s) (c : Kept) (h : KeepsCells s c) where
         record {
           sizes = h.sizes;
           free_count = h.free_count;
-          chosen_count = length-set c.reserved p true ∙ h.chosen_count;
+          chosen_count = (let l = length-set c.reserved p true in let n = h.chosen_count in omega (arith, l, n));
           free = h.free;
           chosen = λ i lt e. elim (cases_eq i p) [
-            | inl same ↦ ap (to_write (started s r u ends).rows) (ap (cell_at s.sizes) same ∙ place.1) ∙ own_write a on
-            | inr ne ↦ more_started (cell_at s.sizes i) (h.chosen i lt (sym (flag_other c.reserved p i true ne) ∙ e))
+            | inl same ↦ ap (to_write (started s r u ends).rows) (ap (cell_at s.sizes) same ∙ place.1) ∙ own_write s k r m u ends a on
+            | inr ne ↦ more_started s k r m u ends (cell_at s.sizes i) (h.chosen i lt (sym (flag_other c.reserved p i true ne) ∙ e))
           ];
         }
 
@@ -186,8 +186,8 @@ module _ (s : State) (k : IsSound s) (c : Kept) (h : KeepsCells s c) where
         let apart : (i : ℕ) → i < cell_count s.sizes → i ≢ p → cell_at s.sizes i ≢ w.at = (λ i lt ne e. ne (place_is s.sizes w.at i lt e)) in
         record {
           sizes = h.sizes;
-          free_count = length-set c.free p (is_free_slot w.after) ∙ h.free_count;
-          chosen_count = length-set c.reserved p false ∙ h.chosen_count;
+          free_count = (let l = length-set c.free p (is_free_slot w.after) in let n = h.free_count in omega (arith, l, n));
+          chosen_count = (let l = length-set c.reserved p false in let n = h.chosen_count in omega (arith, l, n));
           free = λ i lt. elim (cases_eq i p) [
             | inl same ↦
                 let here : cell_at s.sizes i ≡ w.at = ap (cell_at s.sizes) same ∙ place.1 in
@@ -235,12 +235,12 @@ module _ (s : State) (c : Kept) (a : ℕ) (present : List ℕ) (cell : IsCellAdd
   gives_back =
       let place = places_are_cells s.sizes a cell in
       let free_lt : p < length c.free = (let n = h.free_count in let lt = place.0 in omega (arith, n, lt)) in
-      let count : length chosen.reserved ≡ cell_count s.sizes = length-set c.reserved p true ∙ h.chosen_count in
+      let count : cell_count s.sizes ≤ length chosen.reserved = (let l = length-set c.reserved p true in let n = h.chosen_count in omega (arith, l, n)) in
       let chosen_lt : p < length chosen.reserved = (let lt = place.0 in omega (arith, count, lt)) in
       subst (KeepsCells s) (sym noted_back) (record {
         sizes = h.sizes;
-        free_count = length-set c.free p is_free ∙ h.free_count;
-        chosen_count = length-set chosen.reserved p false ∙ count;
+        free_count = (let l = length-set c.free p is_free in let n = h.free_count in omega (arith, l, n));
+        chosen_count = (let l = length-set chosen.reserved p false in omega (arith, l, count));
         free = λ i lt. elim (cases_eq i p) [
           | inl same ↦
               let here : cell_at s.sizes i ≡ a = ap (cell_at s.sizes) same ∙ place.1 in

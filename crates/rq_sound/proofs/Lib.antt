@@ -48,3 +48,4 @@ pub mod Wants
 pub mod Gathering
 pub mod WorkedCalls
 pub mod KeptCells
+pub mod Chosen

@@ -221,8 +221,8 @@ pub cells_judged : CellsAreJudged
 cells_judged = record {
   knows = λ images h. record {
     sizes = refl;
-    free_count = refl;
-    chosen_count = refl;
+    free_count = omega arith;
+    chosen_count = omega arith;
     free = λ i lt. get_or-replicate 30 i true false lt ∙ sym (ap (λ x. not (is_used x)) ((one_sound images h).pages (cell_at sizes i)) ∙ never_used (cell_at sizes i));
     chosen = chosen_to_write images;
   };

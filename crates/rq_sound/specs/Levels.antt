@@ -1,5 +1,5 @@
 -- What the level of chains plans for a store, from slots that it was given, with others' operations under way.
-use Rattle.std.specs.Prelude.{◌++◌, Bool, ◌||◌, [], ◌∷◌, length, map, drop, Option, None, Some, ◌≡◌, ℕ, ◌+◌, ◌/◌, ◌<◌, true, false, not, List}
+use Rattle.std.specs.Prelude.{◌++◌, Bool, ◌||◌, [], ◌∷◌, length, map, drop, Option, None, Some, ◌≡◌, ℕ, ◌+◌, ◌/◌, ◌<◌, ◌≤◌, true, false, not, List}
 use Rattle.rq_model.specs.declared.refusal.Refusal.{Refusal}
 use Rattle.rq_model.specs.declared.refusal.Refusal.TheVariants as why
 use Rattle.rq_model.specs.declared.record.Deed.{Deed}
@@ -19,7 +19,7 @@ use Rattle.rq_level.specs.declared.writes.SlotWrite.{SlotWrite}
 use Rattle.rq_level.specs.Kept.{Kept, IsLowest, NoneToTake, SomeFree, flag_at, noted, reserved_at}
 use Rattle.rq_txn.specs.declared.Finished.{Finished}
 use Rattle.rq_groups.specs.Ends.{HeldEnds}
-use Rattle.rq_txn.specs.Rows.{Row, Under, any_under, latched_in}
+use Rattle.rq_txn.specs.Rows.{AreDistinct, Row, Under, any_under, latched_in}
 use Rattle.rq_store.specs.State.{State}
 use Rattle.rq_txn.specs.declared.Aim.TheVariants as aims
 use Rattle.rq_sound.specs.Calls.{IsIdle, IsNextWrite, IsReady, aborted, aborting, begun, committed, finished, started, stepped, undone}
@@ -43,11 +43,11 @@ to_write [] a = false
 to_write (r ∷ rows) a = to_write_under r.under a || to_write rows a
 
 -- the level knows a cell as free where its slot is, and those as chosen alone that an operation under way has yet to
--- write
+-- write; it has room for more cells than the store has
 pub record KeepsCells (s : State) (k : Kept) : Type 0 where
   pub sizes : k.sizes ≡ Some s.sizes
-  pub free_count : length k.free ≡ cell_count s.sizes
-  pub chosen_count : length k.reserved ≡ cell_count s.sizes
+  pub free_count : cell_count s.sizes ≤ length k.free
+  pub chosen_count : cell_count s.sizes ≤ length k.reserved
   pub free : (i : ℕ) → i < cell_count s.sizes
       → flag_at k.free i ≡ not (is_used (slots_now s (cell_at s.sizes i)))
   pub chosen : (i : ℕ) → i < cell_count s.sizes → flag_at k.reserved i ≡ true
@@ -93,26 +93,26 @@ pub record LevelsPlanFromSlots : Type 0 where
 -- is refused when its cell was chosen gives it back, where that slot is noted as it is; a slot that is written is noted;
 -- and nothing else of a store is noted. Where nothing is under way no cell is chosen.
 pub record CellsStayKept : Type 0 where
-  pub starts : (s : State) (r : Row) (u : Under) (ends : HeldEnds) (k : Kept) → IsSound s → IsIdle s r
+  pub starts : (s : State) (r : Row) (u : Under) (ends : HeldEnds) (k : Kept) → AreDistinct s.rows → IsIdle s r
       → KeepsCells s k → KeepsCells (started s r u ends) k
-  pub takes : (s : State) (r : Row) (u : Under) (ends : HeldEnds) (k : Kept) (a : ℕ) → IsSound s → IsIdle s r
+  pub takes : (s : State) (r : Row) (u : Under) (ends : HeldEnds) (k : Kept) (a : ℕ) → AreDistinct s.rows → IsIdle s r
       → IsCellAddress s.sizes a → to_write_under (Some u) a ≡ true → KeepsCells s k
       → KeepsCells (started s r u ends) (reserved_at s.sizes k a)
   pub gives_back : (s : State) (k : Kept) (a : ℕ) (present : List ℕ) → IsCellAddress s.sizes a
       → slots_now s a ≡ held_in s.sizes (a / 16) present → KeepsCells s k
       → KeepsCells s (noted (reserved_at s.sizes k a) a present)
-  pub steps : (s : State) (r : Row) (u : Under) (w : SlotWrite) (images : List (List ℕ)) (k : Kept) → IsSound s
+  pub steps : (s : State) (r : Row) (u : Under) (w : SlotWrite) (images : List (List ℕ)) (k : Kept) → AreDistinct s.rows
       → IsNextWrite s r u w images → IsStoreSlot s.sizes w.at → KeepsCells s k
       → KeepsCells (stepped s r u w images) (noted k w.at w.after)
-  pub finishes : (s : State) (r : Row) (u : Under) (d : Deed) (waiting : List ℕ) (k : Kept) → IsSound s
+  pub finishes : (s : State) (r : Row) (u : Under) (d : Deed) (waiting : List ℕ) (k : Kept) → AreDistinct s.rows
       → IsReady s r u (aims.Doing d) → KeepsCells s k → KeepsCells (finished s r u d waiting) k
-  pub undoes : (s : State) (r : Row) (u : Under) (lsn : ℕ) (d : Deed) (waiting : List ℕ) (k : Kept) → IsSound s
+  pub undoes : (s : State) (r : Row) (u : Under) (lsn : ℕ) (d : Deed) (waiting : List ℕ) (k : Kept) → AreDistinct s.rows
       → IsReady s r u (aims.Undoing lsn d) → KeepsCells s k → KeepsCells (undone s r u lsn d waiting) k
   pub begins : (s : State) (k : Kept) → KeepsCells s k → KeepsCells (begun s) k
-  pub commits : (s : State) (r : Row) (cells : ℕ) (waiting : List ℕ) (k : Kept) → IsSound s → IsIdle s r
+  pub commits : (s : State) (r : Row) (cells : ℕ) (waiting : List ℕ) (k : Kept) → AreDistinct s.rows → IsIdle s r
       → KeepsCells s k → KeepsCells (committed s r cells waiting) k
   pub starts_abort : (s : State) (r : Row) (k : Kept) → KeepsCells s k → KeepsCells (aborting s r) k
-  pub ends_abort : (s : State) (r : Row) (k : Kept) → IsSound s → IsIdle s r → KeepsCells s k
+  pub ends_abort : (s : State) (r : Row) (k : Kept) → AreDistinct s.rows → IsIdle s r → KeepsCells s k
       → KeepsCells (aborted s r) k
   pub none_chosen : (s : State) (k : Kept) (i : ℕ) → KeepsCells s k → any_under s.rows ≡ false → i < cell_count s.sizes
       → flag_at k.reserved i ≡ false

@@ -18,3 +18,4 @@ pub mod Latching
 pub mod Wants
 pub mod Gathering
 pub mod WorkedCalls
+pub mod Chosen

@@ -1,6 +1,8 @@
 //! What the calls of a store with any number of operations under way rest on: refusals, what the model's tests read,
 //! what the pages say of a group while others are under way, and which plans may start.
 ghost use Rattle.rq_sound.specs.Gathering.{SlotsAreGathered, WantsAreNeeded};
+ghost use Rattle.rq_sound.specs.Gathering.{WantsAreNeeded};
+ghost use Rattle.rq_sound.specs.Chosen.{NotedCellsAreKnown, PlannedCellsAreKept};
 ghost use Rattle.rq_sound.specs.Groups.{SlotsTellGroups};
 ghost use Rattle.rq_sound.specs.Latching.{LatchedIsExact};
 ghost use Rattle.rq_sound.specs.Levels.{CellsStayKept, LevelsPlanFromSlots, LevelsRefuseExactly};
@@ -50,6 +52,17 @@ pub fn levels_refuse_exactly()
 /// The level of chains goes on knowing which cells are free, and which an operation under way is to write.
 pub fn cells_stay_kept()
     ensures { CellsStayKept }
+{}
+
+/// A plan leaves the level knowing the cells, but for the one that it chose: that is to be written where the plan
+/// starts, and is given back where its slots are noted as they are.
+pub fn planned_cells_are_kept()
+    ensures { PlannedCellsAreKept }
+{}
+
+/// A level that is told the sizes of a store, and then each slot as it is, knows its cells.
+pub fn noted_cells_are_known()
+    ensures { NotedCellsAreKnown }
 {}
 
 /// The calls that change no list are steps of the model.
