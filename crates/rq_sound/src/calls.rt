@@ -1,7 +1,6 @@
 //! What the calls of a store with any number of operations under way rest on: refusals, what the model's tests read,
 //! what the pages say of a group while others are under way, and which plans may start.
 ghost use Rattle.rq_sound.specs.Gathering.{SlotsAreGathered, WantsAreNeeded};
-ghost use Rattle.rq_sound.specs.Gathering.{WantsAreNeeded};
 ghost use Rattle.rq_sound.specs.Chosen.{NotedCellsAreKnown, PlannedCellsAreKept};
 ghost use Rattle.rq_sound.specs.Groups.{SlotsTellGroups};
 ghost use Rattle.rq_sound.specs.Latching.{LatchedIsExact};
