@@ -1,5 +1,5 @@
 -- Worked calls while sends are under way.
-use Rattle.std.proofs.Common.{◌≡◌, ◌||◌, ◌&&◌, ℕ, zero, suc, ◌+◌, ◌/◌, ◌%◌, ◌<◌, List, [], ◌∷◌, drop, length, refl, sym, ◌∙◌, ap, subst, Bool, true, false, not, Option, Some, None, inl, inr, arith, cond, nat_eq, nat_le, nat_lt}
+use Rattle.std.proofs.Common.{◌≡◌, ◌⊎◌, replicate, ◌||◌, ◌&&◌, ℕ, zero, suc, ◌+◌, ◌/◌, ◌%◌, ◌<◌, List, [], ◌∷◌, drop, length, refl, sym, ◌∙◌, ap, subst, Bool, true, false, not, Option, Some, None, inl, inr, arith, cond, nat_eq, nat_le, nat_lt}
 use Rattle.std.proofs.lemmas.Bool.{cases_Bool, cases_eq, eqb-true, false≢true, true≢false}
 use Rattle.std.proofs.lemmas.List.{get_or-replicate}
 use Rattle.std.proofs.lemmas.List.Elements.{All-cons}
@@ -7,7 +7,7 @@ use Rattle.rq_model.specs.declared.message.Message.{Message}
 use Rattle.rq_model.specs.declared.txn.Txn.{Txn}
 use Rattle.rq_model.specs.declared.record.Deed.TheVariants.{Append, UnlinkHead, Close}
 use Rattle.rq_model.specs.declared.refusal.Refusal.TheVariants as why
-use Rattle.rq_model.specs.Words.{In}
+use Rattle.rq_model.specs.Words.{has_number, In}
 use Rattle.rq_model.specs.History.{Call}
 use Rattle.rq_model.specs.History.Job.{Sending, Taking, Ending}
 use Rattle.rq_model.specs.Legal.{Legal}
@@ -213,6 +213,16 @@ chosen_to_write : (images : List (List ℕ)) (i : ℕ) → i < 30 → flag_at fi
 chosen_to_write images zero lt e = refl
 chosen_to_write images (suc i) lt e = absurd (false≢true (sym (get_or-replicate 29 i false false (omega (arith, lt))) ∙ e))
 
+two_chosen : (images : List (List ℕ)) (i : ℕ) → i < 30 → flag_at (true ∷ true ∷ replicate 28 false) i ≡ true
+    → (to_write (one_under images).rows (cell_at sizes i) ≡ true) ⊎ (has_number (cell_at sizes i) (50 ∷ []) ≡ true)
+two_chosen images zero lt e = inl refl
+two_chosen images (suc zero) lt e = inr refl
+two_chosen images (suc (suc i)) lt e = absurd (false≢true (sym (get_or-replicate 28 i false false (omega (arith, lt))) ∙ e))
+
+first_known : (images : List (List ℕ)) → AreFormatted sizes images → (i : ℕ) → i < 1 → i < 30 → flag_at (true ∷ replicate 29 false) i ≡ not (is_used (slots_now (both_begun images) (cell_at sizes i)))
+first_known images h zero lt low = sym (ap (λ x. not (is_used x)) ((begun_sound images h).pages 49) ∙ never_used 49)
+first_known images h (suc i) lt low = absurd (omega (arith, lt))
+
 or_none : (b : Bool) → b ≡ b || false
 or_none true = refl
 or_none false = refl
@@ -228,6 +238,29 @@ cells_judged = record {
   };
   known_as_used = λ images h k. false≢true (k.free 0 (omega arith) ∙ ap (λ x. not (is_used x)) ((one_sound images h).pages 49));
   chosen_for_nobody = λ images k. false≢true (k.chosen 1 (omega arith) refl);
+  chosen_for_a_plan = λ images h. record {
+    sizes = refl;
+    free_count = omega arith;
+    chosen_count = omega arith;
+    free = λ i lt. get_or-replicate 30 i true false lt ∙ sym (ap (λ x. not (is_used x)) ((one_sound images h).pages (cell_at sizes i)) ∙ never_used (cell_at sizes i));
+    chosen = two_chosen images;
+  };
+  chosen_for_no_plan = λ images k. elim (k.chosen 1 (omega arith) refl) [ inl y ↦ false≢true y | inr m ↦ false≢true m ];
+  opens = λ images h. record {
+    sizes = refl;
+    free_count = omega arith;
+    chosen_count = omega arith;
+    free = λ i lt low. get_or-replicate 30 i true false lt ∙ sym (ap (λ x. not (is_used x)) ((begun_sound images h).pages (cell_at sizes i)) ∙ never_used (cell_at sizes i));
+    chosen = λ i lt low. get_or-replicate 30 i false false lt;
+  };
+  opens_with_one = λ images h. record {
+    sizes = refl;
+    free_count = omega arith;
+    chosen_count = omega arith;
+    free = first_known images h;
+    chosen = λ i lt low. get_or-replicate 30 i false false low;
+  };
+  second_not_noted = λ images h k. false≢true (k.free 1 (omega arith) (omega arith) ∙ ap (λ x. not (is_used x)) ((begun_sound images h).pages 50));
   to_be_written = λ images. refl;
   of_nobody = λ images. refl;
   written = λ v. refl;

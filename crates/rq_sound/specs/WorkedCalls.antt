@@ -29,6 +29,7 @@ use Rattle.rq_sound.specs.Steps.{Steps}
 use Rattle.rq_sound.specs.Groups.{TellsGroup, slots_now}
 use Rattle.rq_sound.specs.Plans.{IsNew, IsPlannedFrom}
 use Rattle.rq_sound.specs.Latching.{AllFreeLatched, IsLatched, at_tail}
+use Rattle.rq_sound.specs.Chosen.{KeepsBeside, KnowsFirst}
 use Rattle.rq_sound.specs.Levels.{AreLatched, IsGathered, KeepsCells, to_write}
 use Rattle.rq_sound.specs.Wants.{AreGivenOf}
 use Rattle.rq_sound.specs.Gathering.{AreGivenFrom, IsToDo, IsToUndo, IsWantedOf}
@@ -136,6 +137,18 @@ pub record CellsAreJudged : Type 0 where
       → KeepsCells (one_under images) (knowing (false ∷ replicate 29 true) first_chosen) → ⊥
   pub chosen_for_nobody : (images : List (List ℕ))
       → KeepsCells (one_under images) (knowing all_free (true ∷ true ∷ replicate 28 false)) → ⊥
+  -- but where a plan that has not started is to write there, at address 50
+  pub chosen_for_a_plan : (images : List (List ℕ)) → AreFormatted sizes images
+      → KeepsBeside (one_under images) (knowing all_free (true ∷ true ∷ replicate 28 false)) (50 ∷ [])
+  pub chosen_for_no_plan : (images : List (List ℕ))
+      → KeepsBeside (one_under images) (knowing all_free (true ∷ true ∷ replicate 28 false)) (51 ∷ []) → ⊥
+  -- as the store opens: all are noted; or not the second yet
+  pub opens : (images : List (List ℕ)) → AreFormatted sizes images
+      → KnowsFirst sizes (slots_now (both_begun images)) (knowing all_free (replicate 30 false)) 30
+  pub opens_with_one : (images : List (List ℕ)) → AreFormatted sizes images
+      → KnowsFirst sizes (slots_now (both_begun images)) (knowing (true ∷ replicate 29 false) (replicate 30 false)) 1
+  pub second_not_noted : (images : List (List ℕ)) → AreFormatted sizes images
+      → KnowsFirst sizes (slots_now (both_begun images)) (knowing (true ∷ replicate 29 false) (replicate 30 false)) 2 → ⊥
   pub to_be_written : (images : List (List ℕ)) → to_write (one_under images).rows 49 ≡ true
   pub of_nobody : (images : List (List ℕ)) → to_write (one_under images).rows 65 ≡ false
   pub written : (v : Frames) → to_write (wrote_cell_a v).rows 49 ≡ false
