@@ -1,0 +1,56 @@
+//! What a call answers, as a plain value.
+use rq_engine::event::{CommitNo, Outcome, Progress, Reply, Written};
+use rq_model::message::Message;
+use rq_model::refusal::Refusal;
+use rq_model::txn::{Lsn, Sub, Txn};
+
+/// What a call answers. A content is compared by itself.
+#[derive(Clone, Copy, Debug, PartialEq, Eq)]
+pub enum Told {
+    Begun(Txn),
+    Started(Sub),
+    NoMessage,
+    Stepped(Lsn),
+    Ready,
+    Sent,
+    Message(Message),
+    Committed(Txn, Lsn),
+    Forced(Lsn),
+    Written,
+    NotWritten,
+    Content,
+    Refused(Refusal),
+    /// What no call of these tests answers.
+    Other,
+}
+
+/// What a reply tells.
+pub fn told_by(reply: &Reply) -> Told {
+    match reply {
+        Reply::Begun(txn) => Told::Begun(*txn),
+        Reply::Started(sub) => Told::Started(*sub),
+        Reply::NoMessage => Told::NoMessage,
+        Reply::Stepped(Progress::Done(lsn)) => Told::Stepped(*lsn),
+        Reply::Stepped(Progress::Ready) => Told::Ready,
+        Reply::Finished(outcome) => told_of_end(outcome),
+        Reply::Committed(number) => told_of_commit(number),
+        Reply::Forced(lsn) => Told::Forced(*lsn),
+        Reply::Written(Written::Done) => Told::Written,
+        Reply::Written(Written::Nothing) => Told::NotWritten,
+        Reply::Content(_) => Told::Content,
+        Reply::Refused(refusal) => Told::Refused(*refusal),
+        _ => Told::Other,
+    }
+}
+
+fn told_of_end(outcome: &Outcome) -> Told {
+    match outcome {
+        Outcome::Sent => Told::Sent,
+        Outcome::Message(message) => Told::Message(*message),
+        _ => Told::Other,
+    }
+}
+
+fn told_of_commit(number: &CommitNo) -> Told {
+    Told::Committed(number.txn(), number.lsn())
+}
