@@ -57,8 +57,7 @@ pub enum Refusal {
     /// 12: every cell is held, taken by a transaction that has not ended, or meant for a send under way.
     #[error("Full")]
     Full,
-    /// 13: a page that the operation needs is latched by another, or every page with a free cell is. So far one
-    /// operation under way has latched every page.
+    /// 13: a page that the operation needs is latched by another, or every page with a free cell is.
     #[error("Latched")]
     Latched,
     /// 14: frames for the operation's pages cannot be had.
