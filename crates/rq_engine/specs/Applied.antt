@@ -86,7 +86,8 @@ TakesUnlatched s c (Ok None) = Unit {0}
 TakesUnlatched s c (Ok (Some sub)) = IsLatched s c → ⊥
 TakesUnlatched s c (Err r) = OnLatched (IsLatched s c) r
 
--- a start is refused as latched exactly where whatever it may start needs a page that another has latched
+-- a start is refused as latched only where whatever it may start needs a page that another has latched, or a cell of
+-- which none is free outside those, and starts nothing there; want of memory may come in its place
 abbrev pub LatchedSay : State → Event → Reply → Type 0
 LatchedSay s (event.StartSend txn sender tag body) r = LatchedReply s (call_of (event.StartSend txn sender tag body)) r
 LatchedSay s (event.StartReceive txn) r = LatchedReply s (Start_receive txn) r
@@ -96,8 +97,8 @@ LatchedSay s _ r = Unit {0}
 -- The call was made, and answered so.
 pub record Applied {P L : Type 0} (p : page_device.Ghosts P) (l : log_device.Ghosts L) (old : OpenStore P L)
     (e : Event) (r : Reply) (new : OpenStore P L) : Type 0 where
-  -- of a sound store over honest devices: the entry that event and reply say may come next, a refusal has its cause,
-  -- and latches are judged exactly
+  -- of a sound store over honest devices: the entry that event and reply say may come next, and a refusal has its cause;
+  -- and whatever its devices, latches are judged
   pub steps : AreHonest p l new → IsSound old.state → Steps old.state (call_of e) (gave r) new.state
   pub cause : AreHonest p l new → IsSound old.state → RefusedForCause old.state e r
   pub latched : IsSound old.state → LatchedSay old.state e r
