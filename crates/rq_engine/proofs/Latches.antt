@@ -9,7 +9,7 @@ use Rattle.rq_model.specs.declared.refusal.Refusal.TheVariants as why
 use Rattle.rq_model.specs.declared.txn.Sub.{Sub}
 use Rattle.rq_model.specs.declared.txn.Txn.{Txn}
 use Rattle.rq_model.specs.History.{Call}
-use Rattle.rq_model.specs.History.Call.{Start_send, Start_receive, Start_receive_from}
+use Rattle.rq_model.specs.History.Call.{Start_close, Start_send, Start_receive, Start_receive_from}
 use Rattle.rq_model.specs.History.Job.{Sending, Taking, Ending}
 use Rattle.rq_model.specs.Reference.{without_pages}
 use Rattle.rq_page.specs.declared.cell.Cell.{Cell}
@@ -17,7 +17,7 @@ use Rattle.rq_page.specs.declared.directory.Directory.{Directory}
 use Rattle.rq_page.specs.Sizes.{IsCellAddress, cell_count, directory_at}
 use Rattle.rq_page.specs.Slots.Slot.{Free, Used, Sender}
 use Rattle.rq_views.specs.Items.{layout_of}
-use Rattle.rq_views.specs.Plans.{Turn, append_writes, unlink_head_writes}
+use Rattle.rq_views.specs.Plans.{Turn, append_writes, directory_write, unlink_head_writes}
 use Rattle.rq_views.specs.Plans.Turn.{Did, Undid}
 use Rattle.rq_level.specs.declared.writes.SlotWrite.{SlotWrite}
 use Rattle.rq_level.specs.Writes.{writes_of}
@@ -35,6 +35,7 @@ use Rattle.rq_sound.proofs.Latching.{latched_exact}
 use Rattle.rq_sound.proofs.LatchLists.{any_join, off_named}
 use Rattle.rq_sound.proofs.Levels.{are_off, relinked_off}
 use Rattle.rq_engine.specs.Applied.{LatchedReply, OnLatched, StartsUnlatched, TakesUnlatched}
+use Rattle.rq_engine.specs.Closes.{close_latched}
 use Rattle.rq_engine.specs.Says.{begun_reply}
 use Rattle.rq_engine.specs.Sends.{AreSendSlots, SendIsLatched, take_latched}
 use Rattle.rq_engine.specs.declared.cells.SendSlots.{SendSlots}
@@ -216,6 +217,30 @@ module _ (s : State) (k : IsSound s) where
 
   pub any_unlatched : (t : Txn) (g : ℕ) → WaitsFor s t g → take_latched s g ≡ false → IsLatched s (Start_receive t) → ⊥
   any_unlatched t g w free h = take_needs_none g (h.each (Did (UnlinkHead g 0 0 [])) (g, w, refl)) free
+
+  close_needs : (g : ℕ) (d : Deed) → job_of d ≡ Ending g → close_latched s g ≡ true → NeedsLatched s (Did d)
+  close_needs g (Append e n tag previous body) b h = absurd (let x : Sending _ ≡ Ending g = b in cc x)
+  close_needs g (UnlinkHead e n tag body) b h = absurd (let x : Taking e ≡ Ending g = b in cc x)
+  close_needs g (Close e) b h =
+      let same : e ≡ g = (let x : Ending e ≡ Ending g = b in cc x) in
+      inl (or_left (close_latched s e) false (ap (close_latched s) same ∙ h))
+
+  -- a close
+  pub close_refused : (t : Txn) (g : ℕ) → close_latched s g ≡ true → IsLatched s (Start_close t g)
+  close_refused t g h = record { some = (Did (Close g), refl); each = λ turn b. at turn b } where
+    at : (turn : Turn) → Begins s (Start_close t g) turn → NeedsLatched s turn
+    at (Did d) b = close_needs g d b h
+    at (Undid d) b = absurd b
+
+  pub close_unlatched : (t : Txn) (g : ℕ) → close_latched s g ≡ false → IsLatched s (Start_close t g) → ⊥
+  close_unlatched t g free h = elim (h.each (Did (Close g)) refl) [
+    | inl y ↦ true≢false (sym y ∙ ap (λ b. b || false) free)
+    | inr x ↦ false≢true x.0
+  ]
+
+-- a close that is planned is on nobody's pages
+pub mark_off : (s : State) (g : ℕ) (d new : Directory) → latched_in s.rows (directory_at g / 16) ≡ false → (ws : List SlotWrite) → reverse (writes_of s.sizes ws) ≡ directory_write (layout_of s.sizes) g d new ∷ [] → AreUnlatched s ws
+mark_off s g d new off ws is = are_off s ws _ is (off, tt)
 
 -- what the starts say is what their replies say
 pub begun_latched : (s : State) (c : Call) (x : Result (Option Sub) Refusal) → TakesUnlatched s c x → LatchedReply s c (begun_reply x)

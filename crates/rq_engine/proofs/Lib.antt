@@ -8,6 +8,7 @@ pub mod Latches
 pub mod Calls
 pub mod SendCalls
 pub mod TakeCalls
+pub mod CloseCalls
 pub mod Crashing
 pub mod Leaving
 pub mod Listing

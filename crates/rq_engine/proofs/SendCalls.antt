@@ -50,7 +50,7 @@ use Rattle.rq_engine.specs.Answers.{Refuses, HasNothingUnderWay, OnUnder}
 use Rattle.rq_model.specs.Legal.{OnFound}
 use Rattle.rq_chain.specs.declared.ChainPlan.{ChainPlan as Plan}
 use Rattle.rq_engine.specs.Kept.{IsKept, IsUnderKept}
-use Rattle.rq_engine.specs.Sends.{under_plan, AreLatchedBelow, FitsPlan, SendIsLatched, TakesLowest}
+use Rattle.rq_engine.specs.Sends.{under_plan, AreLatchedBelow, FitsPlan, HasRoom, SendIsLatched, TakesLowest}
 use Rattle.rq_engine.proofs.Keeping.{kept_started}
 use Rattle.rq_model.specs.Deeds.{spelled_deed}
 use Rattle.rq_engine.proofs.Refusals.{not_full, refuse, found_of, on_found, found_some, found_none}
@@ -154,16 +154,18 @@ module _ (s : State) (k : IsSound s) where
   pub some_free : s.cells_in_use < cell_count s.sizes → count_used s.sizes (slots_in s.sizes s.images) ≡ cell_count s.sizes → ⊥
   some_free room full = let few = room_left s k room in omega (arith, few, full)
 
+-- where the log is not full for so many records, it has room for a plan of no more
+pub has_room : (s : State) (plan : Plan) (more : ℕ) → log_full (ledger_of s) more ≡ false → length plan.writes.items + 1 ≤ more → HasRoom s plan
+has_room s plan more full few = let left = not_full s more full in omega (arith, left, few)
+
 -- the operation that begins is kept as every other
-pub start_kept : (s : State) (f : Bool) (o res n room : ℕ) (t : Txn) (plan : Plan) (ends : HeldEnds) → IsKept s f o res → HasNothingUnderWay s t n → log_full (ledger_of s) 4 ≡ false → FitsPlan s.sizes plan room
+pub start_kept : (s : State) (f : Bool) (o res n room : ℕ) (t : Txn) (plan : Plan) (ends : HeldEnds) → IsKept s f o res → HasNothingUnderWay s t n → HasRoom s plan → FitsPlan s.sizes plan room
     → IsKept (record s { rows = change_row t (row_started (under_plan n plan)) s.rows; ends = ends }) f (o + (length plan.writes.items + 1)) (res + room)
-start_kept s f o res n room t plan ends k h full fits =
+start_kept s f o res n room t plan ends k h left fits =
     let r = found_of (λ r. (r.under ≡ None) × (n ≡ r.number + 1)) (found_row t s.rows) h in
     let number = r.2.1 in
     let under : IsUnderKept s.sizes (under_plan n plan) = record { number = omega (arith, number); doing = refl; made = omega arith; slots = fits.slots; deed_low = fits.deed_low; deed_high = fits.deed_high } in
-    let left = not_full s 4 full in
-    let few = fits.count in
-    let a = kept_started s f o res k t r.0 r.1 (under_plan n plan) ends s.cells_in_use r.2.0 under number refl (omega (arith, left, few)) in
+    let a = kept_started s f o res k t r.0 r.1 (under_plan n plan) ends s.cells_in_use r.2.0 under number refl (omega (arith, left)) in
     let same : res + (546 * length plan.writes.items + (30 + length (spelled_deed plan.deed))) ≡ res + room = (let e = fits.room_is in omega (arith, e)) in
     subst (λ (m : ℕ). IsKept (record s { rows = change_row t (row_started (under_plan n plan)) s.rows; ends = ends }) f (o + (length plan.writes.items + 1)) m) same a
 

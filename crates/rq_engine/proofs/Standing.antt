@@ -4,14 +4,14 @@ use Rattle.std.specs.List.{slice_get}
 use Rattle.std.proofs.lemmas.Bool.{and_from, lt-ltb}
 use Rattle.rq_model.specs.declared.txn.Txn.{Txn}
 use Rattle.rq_model.specs.declared.record.Deed.{Deed}
-use Rattle.rq_model.specs.declared.record.Deed.TheVariants.{Append, UnlinkHead}
+use Rattle.rq_model.specs.declared.record.Deed.TheVariants.{Append, Close, UnlinkHead}
 use Rattle.rq_model.specs.declared.record.Record.TheVariants as records
 use Rattle.rq_model.specs.declared.refusal.Refusal.{Refusal}
 use Rattle.rq_model.specs.declared.refusal.Refusal.TheVariants.{DiskWrite}
 use Rattle.rq_model.specs.Deeds.{deed_in, spelled_deed}
 use Rattle.rq_model.specs.Words.{In}
 use Rattle.rq_model.specs.History.{Call}
-use Rattle.rq_model.specs.History.Call.{Begin, Commit, Start_send, Start_receive, Start_receive_from, Step, Finish, Force, Hand_over}
+use Rattle.rq_model.specs.History.Call.{Start_close, Begin, Commit, Start_send, Start_receive, Start_receive_from, Step, Finish, Force, Hand_over}
 use Rattle.rq_model.specs.History.Entry.{Refused}
 use Rattle.rq_model.specs.Ledger.{after, found}
 use Rattle.rq_model.specs.Legal.{LegalRefusal}
@@ -35,6 +35,7 @@ use Rattle.rq_store.specs.Plans.{IsSendPlan, IsTakePlan, NoneWaits, WaitsFor}
 use Rattle.rq_store.specs.State.{State, ledger_of, size_of}
 use Rattle.rq_store.specs.Steps.{IsPutIn, gave_done, op_end, page_op, took}
 use Rattle.rq_store.proofs.RowLists.{found_in}
+use Rattle.rq_engine.specs.Closes.{IsClosePlan}
 use Rattle.rq_sound.specs.Calls.{next_txn}
 use Rattle.rq_sound.specs.Counted.{appends_aim, sends_in, takes_all}
 use Rattle.rq_sound.specs.Plans.{AreUnlatched, IsNew}
@@ -135,6 +136,18 @@ module _ (s : State) (k : IsSound s) (r : Row) (u : Under) (at_row : found_row r
       (record s { rows = change_row r.txn (row_started u) s.rows; ends = record { sending = with_held r.txn e s.ends.sending; receiving = s.ends.receiving }; cells_in_use = s.cells_in_use + n })) (ap appends_aim plan.aim)
       (deed_steps.starts s r u d k may passes)
 
+  -- a close
+  own_close : (e : ℕ) → IsClosePlan s.sizes (slots_in s.sizes s.images) u e → Passes (size_of s.sizes) (ledger_of s) (Start_close r.txn e)
+      → Steps s (Start_close r.txn e) (Gave_sub r.txn (r.number + 1))
+      (record s { rows = change_row r.txn (row_started u) s.rows; ends = record { sending = with_held r.txn e s.ends.sending; receiving = s.ends.receiving } })
+  own_close e plan passes =
+      let d : Deed = Close e in
+      let may : MayDo s r u d = plans_start.deeds s r u d k (new d plan.aim plan.made) plan.marking (reads_of d plan.aim plan.reads) tt passes in
+      subst (λ (n : ℕ). Steps s (Start_close r.txn e) (Gave_sub r.txn (r.number + 1))
+      (record s { rows = change_row r.txn (row_started u) s.rows; ends = record { sending = with_held r.txn e s.ends.sending; receiving = s.ends.receiving }; cells_in_use = n }))
+      (let a : appends_aim u.aim ≡ 0 = ap appends_aim plan.aim in let same : s.cells_in_use + appends_aim u.aim ≡ s.cells_in_use = omega (arith, a) in same)
+      (deed_steps.starts s r u d k may passes)
+
   -- a receive
   module _ (e : ℕ) (plan : IsTakePlan s.sizes (slots_in s.sizes s.images) u e) (wait : 1 ≤ waits s.waiting e) (passes : Passes (size_of s.sizes) (ledger_of s) (Start_receive_from r.txn e)) where
     abbrev deed : Deed
@@ -176,6 +189,14 @@ start_steps s k t r u e tag body at_row idle free number plan passes =
     at_own s t r (λ q. Passes (size_of s.sizes) (ledger_of s) (Start_send q (record { sender = e; tag = tag; body = body }))
     → Steps s (Start_send q (record { sender = e; tag = tag; body = body })) (Gave_sub q (r.number + 1)) (record s { rows = change_row q (row_started u) s.rows; ends = record { sending = with_held q e s.ends.sending; receiving = s.ends.receiving }; cells_in_use = s.cells_in_use + 1 })) at_row
     (λ f. own_send s k r u f idle free number e tag body plan) passes
+
+pub close_steps : (s : State) (k : IsSound s) (t : Txn) (r : Row) (u : Under) (e : ℕ) → found_row t s.rows ≡ Some r → r.under ≡ None → AreUnlatched s u.writes → u.number ≡ r.number + 1 → IsClosePlan s.sizes (slots_in s.sizes s.images) u e
+    → Passes (size_of s.sizes) (ledger_of s) (Start_close t e)
+    → Steps s (Start_close t e) (Gave_sub t (r.number + 1)) (record s { rows = change_row t (row_started u) s.rows; ends = record { sending = with_held t e s.ends.sending; receiving = s.ends.receiving } })
+close_steps s k t r u e at_row idle free number plan passes =
+    at_own s t r (λ q. Passes (size_of s.sizes) (ledger_of s) (Start_close q e)
+    → Steps s (Start_close q e) (Gave_sub q (r.number + 1)) (record s { rows = change_row q (row_started u) s.rows; ends = record { sending = with_held q e s.ends.sending; receiving = s.ends.receiving } })) at_row
+    (λ f. own_close s k r u f idle free number e plan) passes
 
 pub take_steps : (s : State) (k : IsSound s) (t : Txn) (r : Row) (u : Under) (e : ℕ) → found_row t s.rows ≡ Some r → r.under ≡ None → AreUnlatched s u.writes → u.number ≡ r.number + 1 → IsTakePlan s.sizes (slots_in s.sizes s.images) u e → 1 ≤ waits s.waiting e
     → Passes (size_of s.sizes) (ledger_of s) (Start_receive_from t e)

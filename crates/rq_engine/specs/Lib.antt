@@ -5,6 +5,7 @@ pub mod Receives
 pub mod Kept
 pub mod Answers
 pub mod Sends
+pub mod Closes
 pub mod Crash
 pub mod Applied
 pub mod Devices

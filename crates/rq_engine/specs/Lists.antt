@@ -21,6 +21,7 @@ use Rattle.rq_store.specs.State.{State}
 use Rattle.rq_store.specs.Plans.{IsSendPlan, IsTakePlan, WaitsFor, NoneWaits}
 use Rattle.rq_store.specs.Sound.{takes_one}
 use Rattle.rq_store.specs.Steps.{op_end, gave_done}
+use Rattle.rq_engine.specs.Closes.{IsClosePlan}
 use Rattle.rq_engine.specs.Answers.{IsUnderWay, IsMade, HasNothingUnderWay}
 use Rattle.rq_engine.specs.Moves.{with_sends, without_taken}
 use Rattle.rq_engine.specs.Says.{outcome_of, receipt_of}
@@ -64,6 +65,12 @@ abbrev pub IsTakeStarted : State → Txn → ℕ → Sub → State → Type 0
 IsTakeStarted old t sender sub new =
     (sub.txn ≡ t) × WaitsFor old t sender × IsStarted old sub (Receiving sender) old.cells_in_use
     (λ u. IsTakePlan old.sizes (slots_in old.sizes old.images) u sender) new
+
+-- a close of this group was started
+abbrev pub IsCloseStarted : State → Txn → ℕ → Sub → State → Type 0
+IsCloseStarted old t sender sub new =
+    (sub.txn ≡ t) × IsStarted old sub (Sending sender) old.cells_in_use
+    (λ u. IsClosePlan old.sizes (slots_in old.sizes old.images) u sender) new
 
 -- a receive was started from some group, or the transaction is open with nothing under way and none waits
 abbrev pub TakeSays : State → Txn → Option Sub → State → Type 0
@@ -143,6 +150,11 @@ AfterStartReceiveFrom old t sender reply.NoMessage new = TakeFromSays old t send
 AfterStartReceiveFrom old t sender (reply.Refused r) new = Unit {0}
 AfterStartReceiveFrom old t sender _ new = ⊥
 
+abbrev pub AfterStartClose : State → Txn → ℕ → Reply → State → Type 0
+AfterStartClose old t sender (reply.Started sub) new = IsCloseStarted old t sender sub new
+AfterStartClose old t sender (reply.Refused r) new = Unit {0}
+AfterStartClose old t sender _ new = ⊥
+
 abbrev pub AfterStep : State → Sub → Reply → State → Type 0
 AfterStep old sub (reply.Stepped p) new = StepSays old sub p new
 AfterStep old sub (reply.Refused r) new = Unit {0}
@@ -189,6 +201,7 @@ ListsSay old event.Begin r new = AfterBegin old r new
 ListsSay old (event.StartSend t sender tag body) r new = AfterStartSend old t sender tag body.items r new
 ListsSay old (event.StartReceive t) r new = AfterStartReceive old t r new
 ListsSay old (event.StartReceiveFrom t sender) r new = AfterStartReceiveFrom old t sender r new
+ListsSay old (event.StartClose t sender) r new = AfterStartClose old t sender r new
 ListsSay old (event.Step sub) r new = AfterStep old sub r new
 ListsSay old (event.Finish sub) r new = AfterFinish old sub r new
 ListsSay old (event.Commit t) r new = AfterCommit old t r new

@@ -5,7 +5,7 @@ use Rattle.rq_store.specs.State.{State}
 use Rattle.std.specs.Prelude.{◌≡◌, Bool, true, false, map, Option, Some, None, Result, Ok, Err}
 use Rattle.rq_model.specs.declared.refusal.Refusal.{Refusal}
 use Rattle.rq_model.specs.History.{Call}
-use Rattle.rq_model.specs.History.Call.{Begin as Call_begin, Start_send as Call_start_send, Start_receive as Call_start_receive, Start_receive_from as Call_start_receive_from, Write_page as Call_write_page, Step as Call_step, Finish as Call_finish, Commit as Call_commit, Acknowledge as Call_acknowledge, Hand_over as Call_hand_over, Force as Call_force, Show as Call_show}
+use Rattle.rq_model.specs.History.Call.{Begin as Call_begin, Start_send as Call_start_send, Start_receive as Call_start_receive, Start_receive_from as Call_start_receive_from, Start_close as Call_start_close, Write_page as Call_write_page, Step as Call_step, Finish as Call_finish, Commit as Call_commit, Acknowledge as Call_acknowledge, Hand_over as Call_hand_over, Force as Call_force, Show as Call_show}
 use Rattle.rq_model.specs.Replay.{Number, Reply as Gave}
 use Rattle.rq_model.specs.Replay.Reply.{Gave_txn, Gave_sub, Gave_lsn, Gave_forced, Gave_ready, Gave_sent, Gave_message, Gave_closed, Gave_undone, Gave_handed_over, Gave_commit, Gave_receipt, Gave_none, Gave_written, Gave_content, Gave_refusal}
 use Rattle.rq_content.specs.Read.{group_of}
@@ -37,6 +37,7 @@ call_of (event.StartSend txn sender tag body) = Call_start_send txn
     (record { sender = sender; tag = tag; body = body.items })
 call_of (event.StartReceive txn) = Call_start_receive txn
 call_of (event.StartReceiveFrom txn sender) = Call_start_receive_from txn sender
+call_of (event.StartClose txn sender) = Call_start_close txn sender
 call_of (event.Step sub) = Call_step sub.txn sub.number
 call_of (event.Finish sub) = Call_finish sub.txn sub.number
 call_of (event.Commit txn) = Call_commit txn

@@ -11,10 +11,14 @@ use Rattle.rq_level.specs.Writes.{AreSlotWrites}
 use Rattle.rq_txn.specs.declared.Aim.TheVariants.{Doing}
 use Rattle.rq_txn.specs.Rows.{Row, Under, latched_in}
 use Rattle.rq_store.specs.Plans.{Stands_at}
-use Rattle.rq_store.specs.State.{State}
+use Rattle.rq_store.specs.State.{State, owed_by}
 use Rattle.rq_sound.specs.Groups.{slots_now}
 use Rattle.rq_sound.specs.Latching.{AllFreeLatched, any_latched, at_tail, behind_head, named}
 use Rattle.rq_engine.specs.declared.cells.SendSlots.{SendSlots}
+
+-- the log has room for the plan's records behind those that are owed
+abbrev pub HasRoom : State → Plan → Type 0
+HasRoom s plan = length s.records + owed_by s.rows + (length plan.writes.items + 1) ≤ 2 ^ 50
 
 -- each free cell below this one is on a latched page
 abbrev pub AreLatchedBelow : Sizes → Slots → List Row → ℕ → Type 0

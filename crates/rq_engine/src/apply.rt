@@ -101,6 +101,10 @@ impl<P: PageDevice, L: LogDevice> Engine<P, L> {
             Event::StartReceiveFrom { txn, sender } => {
                 begun(self.start_receive_from(*txn, *sender))
             }
+            Event::StartClose { txn, sender } => match self.start_close(*txn, *sender) {
+                Ok(sub) => Reply::Started(sub),
+                Err(refusal) => Reply::Refused(refusal),
+            },
             Event::Step(sub) => match self.step(*sub) {
                 Ok(progress) => Reply::Stepped(progress),
                 Err(refusal) => Reply::Refused(refusal),

@@ -95,6 +95,10 @@ pub enum Event {
         txn: Txn,
         sender: u32,
     },
+    StartClose {
+        txn: Txn,
+        sender: u32,
+    },
     Step(Sub),
     Finish(Sub),
     Commit(Txn),

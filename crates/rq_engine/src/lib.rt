@@ -3,6 +3,7 @@
 
 mod apply;
 mod cells;
+mod closes;
 pub mod engine;
 pub mod event;
 mod moves;

@@ -14,7 +14,7 @@ ghost use Rattle.rq_sound.specs.Latching.{any_latched, named};
 ghost use Rattle.rq_store.specs.Plans.{Stands_at};
 ghost use Rattle.rq_engine.specs.Opened.{LeavesDevices};
 ghost use Rattle.rq_engine.specs.Answers.{HasNothingUnderWay};
-ghost use Rattle.rq_engine.specs.Sends.{under_plan, FitsPlan};
+ghost use Rattle.rq_engine.specs.Sends.{under_plan, FitsPlan, HasRoom};
 
 use crate::engine::Engine;
 use rq_chain::{ChainPlan, Neighbour};
@@ -28,6 +28,9 @@ use rq_txn::{Aim, Operation};
 
 /// What a send, a receive or the inverse of one is counted as where it starts: three slots and an end.
 pub(crate) const CHAIN_OPERATION: u64 = 4;
+
+/// What a close, or the inverse of one, is counted as where it starts: one slot and an end.
+pub(crate) const MARK_OPERATION: u64 = 2;
 
 /// How many bytes the records of a planned operation take in the log.
 pub(crate) fn room_of(plan: &ChainPlan) -> usize
@@ -81,7 +84,7 @@ impl<P: PageDevice, L: LogDevice> Engine<P, L> {
     ) -> Result<(), Refusal>
         requires ready { HasNothingUnderWay self.old.state txn number }
         requires fits { FitsPlan self.old.state.sizes plan room }
-        requires log { log_full (ledger_of self.old.state) 4 ≡ false }
+        requires log { HasRoom self.old.state plan }
         ensures started { OnOk result (self.new.state ≡ record self.old.state {
           rows = change_row txn
               (row_started (under_plan number plan)) self.old.state.rows;

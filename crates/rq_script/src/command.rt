@@ -12,6 +12,7 @@ pub enum Command<'a> {
     Finish(Sub),
     Recv(Txn),
     RecvFrom(Txn, u32),
+    Close(Txn, u32),
     Commit(Txn),
     Ack(Txn),
     Force,
@@ -77,7 +78,14 @@ fn with_words<'a>(name: &[u8], rest: &'a [u8]) -> Option<Command<'a>> {
         b"step" => Some(Command::Step(operation(rest)?)),
         b"finish" => Some(Command::Finish(operation(rest)?)),
         b"recv" => Some(Command::Recv(txn(rest)?)),
-        b"recv-from" => recv_from(rest),
+        b"recv-from" => {
+            let (txn, sender) = group_of(rest)?;
+            Some(Command::RecvFrom(txn, sender))
+        }
+        b"close" => {
+            let (txn, sender) = group_of(rest)?;
+            Some(Command::Close(txn, sender))
+        }
         b"commit" => Some(Command::Commit(txn(rest)?)),
         b"ack" => Some(Command::Ack(txn(rest)?)),
         b"write" => Some(Command::Write(short_number(rest)?)),
@@ -113,11 +121,11 @@ fn operation(rest: &[u8]) -> Option<Sub> {
 }
 
 // `2.1 0`
-fn recv_from(rest: &[u8]) -> Option<Command<'static>> {
+fn group_of(rest: &[u8]) -> Option<(Txn, u32)> {
     let (word, rest) = first_word(rest);
     let txn = txn(word)?;
     let sender = short_number(rest?)?;
-    Some(Command::RecvFrom(txn, sender))
+    Some((txn, sender))
 }
 
 fn device_call(word: &[u8]) -> Option<CallKind> {

@@ -179,6 +179,7 @@ impl Script {
             Command::OpenSend(post) => self.open_send(post),
             Command::Recv(txn) => self.whole(Event::StartReceive(txn)),
             Command::RecvFrom(txn, sender) => self.whole(Event::StartReceiveFrom { txn, sender }),
+            Command::Close(txn, sender) => self.whole(Event::StartClose { txn, sender }),
             Command::Step(sub) => self.ask(Event::Step(sub)),
             Command::Finish(sub) => self.ask(Event::Finish(sub)),
             Command::Commit(txn) => self.ask(Event::Commit(txn)),

@@ -40,6 +40,13 @@ pub(crate) fn same_event(event: &Event, other: &Event) -> bool
                 sender: other_sender,
             },
         ) => *txn == *other_txn && *sender == *other_sender,
+        (
+            Event::StartClose { txn, sender },
+            Event::StartClose {
+                txn: other_txn,
+                sender: other_sender,
+            },
+        ) => *txn == *other_txn && *sender == *other_sender,
         (Event::Step(sub), Event::Step(other)) => *sub == *other,
         (Event::Finish(sub), Event::Finish(other)) => *sub == *other,
         (Event::Commit(txn), Event::Commit(other)) => *txn == *other,

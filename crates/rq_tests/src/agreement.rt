@@ -288,9 +288,10 @@ fn ask_lists_once(queue: &mut Reference, event: &Event) -> Result<Answer, Refusa
             lists::content(queue)?;
             Ok(Answer::Content)
         }
-        Event::StartReceive(_) | Event::StartReceiveFrom { .. } | Event::WritePage(_) => {
-            Ok(Answer::Unlisted)
-        }
+        Event::StartReceive(_)
+        | Event::StartReceiveFrom { .. }
+        | Event::StartClose { .. }
+        | Event::WritePage(_) => Ok(Answer::Unlisted),
     }
 }
 

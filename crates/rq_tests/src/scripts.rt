@@ -335,6 +335,30 @@ fn a_receive_passes_over_groups_with_latched_pages(rt: HostRuntime) -> Result<()
     )
 }
 
+// Whoever closes a group sends nothing more there; from the commit on nobody does.
+#[test]
+fn a_closed_group_takes_no_more(rt: HostRuntime) -> Result<(), Fail> {
+    check(
+        &rt,
+        1,
+        "begin\nbegin\nbegin\nsend 1.1 0 1 a\nclose 1.1 0\nsend 1.1 0 2 b\nclose 1.2 0\nclose 1.2 15\ncommit 1.1\nclose 1.2 0\nsend 1.2 0 2 b\nrecv 1.3\ncommit 1.3\ndump\n",
+        "begun 1.1\nbegun 1.2\nbegun 1.3\nsent\nclosed\nrefused 10 Closed\nrefused 9 SenderBusy\nrefused 7 UnknownSender\ncommit 7\nrefused 10 Closed\nrefused 10 Closed\nmsg 0 1 a\ncommit 11\n0 closed sent 1 received 1:\n",
+        0,
+    )
+}
+
+// A close outlives a crash where its commit is forced, and counts as two records at the log's bound.
+#[test]
+fn a_close_outlives_a_crash(rt: HostRuntime) -> Result<(), Fail> {
+    check(
+        &rt,
+        1,
+        "begin\nsend 1.1 0 7 a\nclose 1.1 0\ncommit 1.1\nforce\nbegin\nclose 1.2 1\ncommit 1.2\ncrash 0\nrestart\ndump\nbegin\nsend 2.1 0 8 b\nsend 2.1 1 1 c\n",
+        "begun 1.1\nsent\nclosed\ncommit 7\nforced 7\nbegun 1.2\nclosed\ncommit 10\ncrashed 7\nrestarted 2 unfinished 0 lost 0\n0 closed sent 1 received 0: a\nbegun 2.1\nrefused 10 Closed\nsent\n",
+        0,
+    )
+}
+
 // Leading zeros are read over.
 #[test]
 fn a_crash_keeps_the_log_whichever_images_are_left(rt: HostRuntime) -> Result<(), Fail> {

@@ -110,6 +110,7 @@ fn is_start(event: &Event) -> bool
         Event::StartSend { .. } => true,
         Event::StartReceive(_) => true,
         Event::StartReceiveFrom { .. } => true,
+        Event::StartClose { .. } => true,
         Event::Begin => false,
         Event::Step(_) => false,
         Event::Finish(_) => false,

@@ -197,6 +197,10 @@ impl Drawing {
             18 => Event::HandOver,
             19 | 20 => Event::WritePage(self.page()),
             21 => Event::Content,
+            22 if self.random.is_first_of(6) => Event::StartClose {
+                txn: self.txn(),
+                sender: self.sender(),
+            },
             _ => Event::Commit(self.txn()),
         })
     }

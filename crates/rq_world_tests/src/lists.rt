@@ -212,6 +212,7 @@ impl Lists {
             } => self.start_send(*txn, *sender, *tag, body),
             Event::StartReceive(txn) => self.start_receive(*txn, picked),
             Event::StartReceiveFrom { txn, sender } => self.start_receive_from(*txn, *sender),
+            Event::StartClose { txn, sender } => self.start_close(*txn, *sender),
             Event::Step(sub) => self.step(*sub),
             Event::Finish(sub) => self.finish(*sub),
             Event::Commit(txn) => self.commit(*txn),
@@ -269,6 +270,9 @@ impl Lists {
         if self.is_sending_end_held(place, sender) {
             return Err(Refusal::SenderBusy);
         }
+        if self.is_closed(place, sender) {
+            return Err(Refusal::Closed);
+        }
         if self.cells_in_use() >= ROOM {
             return Err(Refusal::Full);
         }
@@ -278,6 +282,23 @@ impl Lists {
         let act = Act::Sent(Message { sender, tag, body });
         let left = if self.length(sender) == 0 { 2 } else { 3 };
         self.start(place, act, left)
+    }
+
+    fn start_close(&mut self, txn: Txn, sender: u32) -> Result<Told, Refusal> {
+        let place = self.idle_place(txn)?;
+        if sender >= SENDERS {
+            return Err(Refusal::UnknownSender);
+        }
+        if self.is_sending_end_held(place, sender) {
+            return Err(Refusal::SenderBusy);
+        }
+        if self.is_closed(place, sender) {
+            return Err(Refusal::Closed);
+        }
+        if self.is_busy() {
+            return Err(Refusal::Latched);
+        }
+        self.start(place, Act::Closed(sender), 1)
     }
 
     fn start_receive(&mut self, txn: Txn, picked: u32) -> Result<Told, Refusal> {
@@ -323,7 +344,7 @@ impl Lists {
         let Some(row) = self.rows.get_mut(place) else {
             return Ok(Told::Other);
         };
-        let held = if is_send(&act) {
+        let held = if is_at_sending_end(&act) {
             row.sending.push(sender_of(&act)).is_ok()
         } else {
             row.receiving.push(sender_of(&act)).is_ok()
@@ -462,6 +483,24 @@ impl Lists {
         false
     }
 
+    // Whether a committed transaction closed the sender's group.
+    fn is_ended(&self, sender: u32) -> bool {
+        for done in &self.committed {
+            if has_closed(&done.acts, sender) {
+                return true;
+            }
+        }
+        false
+    }
+
+    // Whether it is closed for the transaction at this place: by a commit, or by itself.
+    fn is_closed(&self, place: usize, sender: u32) -> bool {
+        match self.rows.get(place) {
+            Some(row) if has_closed(&row.acts, sender) => true,
+            _ => self.is_ended(sender),
+        }
+    }
+
     // Whether the sender's group is free for the transaction at this place, and holds a message for it.
     fn may_take(&self, place: usize, sender: u32) -> bool {
         !self.is_receiving_end_held(place, sender) && self.taken(sender) < self.sent(sender)
@@ -579,7 +618,7 @@ impl Lists {
         group.sent == sent as u64
             && group.received == received as u64
             && group.last_tag == last_tag
-            && !group.closed
+            && group.closed == self.is_ended(sender)
     }
 
     /// Whether the store is open.
@@ -656,15 +695,25 @@ fn told_of_act(act: &Act) -> Told {
     match act {
         Act::Sent(_) => Told::Sent,
         Act::Taken(message) => Told::Message(*message),
-        Act::Closed(_) => Told::Other,
+        Act::Closed(_) => Told::Closed,
     }
 }
 
-fn is_send(act: &Act) -> bool {
+fn is_at_sending_end(act: &Act) -> bool {
     match act {
-        Act::Sent(_) => true,
-        _ => false,
+        Act::Sent(_) | Act::Closed(_) => true,
+        Act::Taken(_) => false,
     }
+}
+
+fn has_closed(acts: &[Act], sender: u32) -> bool {
+    for act in acts {
+        match act {
+            Act::Closed(closed) if *closed == sender => return true,
+            _ => {}
+        }
+    }
+    false
 }
 
 fn sender_of(act: &Act) -> u32 {

@@ -15,6 +15,7 @@ pub enum Told {
     Stepped(Lsn),
     Ready,
     Sent,
+    Closed,
     Message(Message),
     Committed(Txn, Lsn),
     /// A receipt names this commit.
@@ -71,6 +72,7 @@ fn told_by(reply: &Reply) -> Told {
 fn told_of_end(outcome: &Outcome) -> Told {
     match outcome {
         Outcome::Sent => Told::Sent,
+        Outcome::Closed => Told::Closed,
         Outcome::Message(message) => Told::Message(*message),
         _ => Told::Other,
     }

@@ -1,10 +1,9 @@
 use Rattle.std.proofs.Common.{rules, ◌≡◌, sym, ap, ◌∙◌, subst, arith, length}
 use Rattle.std.specs.Vec.{vec_len}
 use Rattle.std.specs.Global.{Vec}
-use Rattle.rq_store.specs.State.{State, ledger_of}
-use Rattle.rq_model.specs.Tests.{log_full}
+use Rattle.rq_store.specs.State.{State}
 use Rattle.rq_engine.specs.Answers.{HasNothingUnderWay}
-use Rattle.rq_engine.specs.Sends.{FitsPlan}
+use Rattle.rq_engine.specs.Sends.{FitsPlan, HasRoom}
 use Rattle.rq_engine.proofs.Keeping.{kept_back}
 use Rattle.rq_engine.proofs.SendCalls.{start_kept}
 use Rattle.rq_engine.proofs.Opened.{state_is}
@@ -31,10 +30,10 @@ pub invariant_of-self-2 : goal.invariant_of-self-2
 invariant_of-self-2 g c =
     let ready = subst (λ (s : State). HasNothingUnderWay s c.args.txn c.args.number) (sym (state_is c.self.view_is)) c.requires.ready in
     let fits = subst (λ (s : State). FitsPlan s.sizes c.args.plan c.args.room) (sym (state_is c.self.view_is)) c.requires.fits in
-    let full = ap (λ (s : State). log_full (ledger_of s) 4) (state_is c.self.view_is) ∙ c.requires.log in
+    let left = subst (λ (s : State). HasRoom s c.args.plan) (sym (state_is c.self.view_is)) c.requires.log in
     let count : c.len.result ≡ length c.args.plan.writes.items = c.len.ensures ∙ items_count c.args.plan.writes in
     record {
       kept = rw (c.in-Ok-start.ensures.ok, c.in_ok-reserve.ensures.ok, count)
-          (start_kept _ _ _ _ c.args.number c.args.room c.args.txn c.args.plan c.take.new.self c.self.invariant.kept ready full fits);
+          (start_kept _ _ _ _ c.args.number c.args.room c.args.txn c.args.plan c.take.new.self c.self.invariant.kept ready left fits);
       durable = rw (c.in_ok-reserve.ensures.ok) c.self.invariant.durable;
     }

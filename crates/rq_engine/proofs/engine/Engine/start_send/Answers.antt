@@ -1,11 +1,11 @@
-use Rattle.std.proofs.Common.{◌≡◌, ◌+◌, ap, sym, ◌∙◌, refl, subst, List, ℕ}
+use Rattle.std.proofs.Common.{◌≡◌, arith, length, ◌+◌, ap, sym, ◌∙◌, refl, subst, List, ℕ}
 use Rattle.rq_store.specs.State.{State}
 use Rattle.rq_engine.proofs.Latches.{send_latched, send_unlatched}
 use Rattle.rq_engine.proofs.Refusals.{no_memory}
-use Rattle.rq_engine.proofs.SendCalls.{send_done, send_refused, going_started}
+use Rattle.rq_engine.proofs.SendCalls.{has_room, send_done, send_refused, going_started}
 use Rattle.rq_views.specs.Stored.{slots_in}
 use Rattle.rq_sound.specs.Plans.{AreUnlatched}
-use Rattle.rq_engine.specs.Sends.{SendIsLatched, TakesLowest, under_plan}
+use Rattle.rq_engine.specs.Sends.{FitsPlan, SendIsLatched, TakesLowest, under_plan}
 use Rattle.rq_store.specs.Plans.{IsSendPlan}
 use Rattle.rq_engine.proofs.Opened.{none_told, some_told, state_is}
 use Rattle.rq_engine.proofs.engine.Engine.start_send.Goals as goal
@@ -61,3 +61,9 @@ returns-in-Ok-clause-lists g c =
         lists = ap (λ (x : State). record x { cells_in_use = x.cells_in_use + 1 }) ((state_is c.self.view_is) ∙ c.in-Ok.ensures.started);
       },
     )
+
+pub start-requires-clause-log : goal.start-requires-clause-log
+start-requires-clause-log g c =
+    let s = c.args.self.now.state in
+    let fits = some_told (λ p. FitsPlan s.sizes p.0 p.1) c.in_ok-plan_send.field-0 _ c.in-Some.is c.in_ok-plan_send.ensures.fits in
+    has_room s c.in-Some.plan 4 c.in_ok-body.ensures.log (let few = fits.count in omega (arith, few))

@@ -1,6 +1,7 @@
-use Rattle.std.proofs.Common.{◌≡◌, refl, subst}
+use Rattle.std.proofs.Common.{◌≡◌, ◌+◌, ◌≤◌, refl, subst, arith, length}
 use Rattle.rq_model.specs.History.{Call}
 use Rattle.rq_engine.proofs.Refusals.{no_memory}
+use Rattle.rq_engine.proofs.SendCalls.{has_room}
 use Rattle.rq_engine.proofs.TakeCalls.{take_done, take_memory}
 use Rattle.rq_engine.specs.Sends.{under_plan}
 use Rattle.rq_engine.proofs.engine.Engine.start_take.Goals as goal
@@ -27,3 +28,6 @@ returns-in-Ok-clause-lists g c = (
     lists = c.in-Ok.ensures.started;
   },
 )
+
+pub start-requires-clause-log : goal.start-requires-clause-log
+start-requires-clause-log g c = has_room c.args.self.now.state c.args.plan 4 c.requires.log (let few = c.requires.fits.count in omega (arith, few))

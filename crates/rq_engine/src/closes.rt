@@ -1,0 +1,119 @@
+//! Closes.
+ghost use Rattle.std.specs.Prelude.{◌≡◌, ◌≢◌, ◌↔◌, Err, ◌<◌, IfOk, IfErr, IfSome, IfNone, OnOk, OnErr, ℕ, true, false};
+ghost use Rattle.rq_model.specs.History.Call.{Start_close};
+ghost use Rattle.rq_model.specs.Replay.Reply.{Gave_sub};
+ghost use Rattle.rq_model.specs.Tests.{NoneHolds, Passes, log_full, ready_tests};
+ghost use Rattle.rq_page.specs.Sizes.{sender_count};
+ghost use Rattle.rq_views.specs.Stored.{slots_in};
+ghost use Rattle.rq_groups.specs.Ends.{is_free_for};
+ghost use Rattle.rq_store.specs.State.{ledger_of, size_of};
+ghost use Rattle.rq_sound.specs.Plans.{AreUnlatched};
+ghost use Rattle.rq_sound.specs.Sound.{IsSound};
+ghost use Rattle.rq_engine.specs.Opened.{LeavesDevices};
+ghost use Rattle.rq_engine.specs.Answers.{AnswersLegally, HasNothingUnderWay, Refuses};
+ghost use Rattle.rq_engine.specs.Applied.{OnLatched, StartsUnlatched};
+ghost use Rattle.rq_engine.specs.Lists.{IsCloseStarted};
+ghost use Rattle.rq_engine.specs.Closes.{IsClosePlan, close_latched};
+ghost use Rattle.rq_engine.specs.Sends.{under_plan, FitsPlan, HasRoom};
+
+use crate::engine::Engine;
+use crate::starts::{MARK_OPERATION, room_of};
+use rq_chain::{ChainPlan, Group, mark};
+use rq_disk::{LogDevice, PageDevice};
+use rq_groups::End;
+use rq_model::record::Deed;
+use rq_model::refusal::Refusal;
+use rq_model::txn::{Sub, Txn};
+
+impl<P: PageDevice, L: LogDevice> Engine<P, L> {
+    /// Starts to close a sender's group: takes everything that its step and its finish will need. From its finish on the
+    /// transaction sends nothing there any more, and from its commit on nobody does. What was sent waits all the same.
+    ///
+    /// # Errors
+    /// `Failed`, `UnknownTransaction`, `NotOpen`, `Unfinished`, `UnknownSender`, `SenderBusy`, `Closed`, `LogFull`,
+    /// `Latched`, `NoMemory`.
+    pub fn start_close(&mut self, txn: Txn, sender: u32) -> Result<Sub, Refusal>
+        ensures answered { AnswersLegally P.PageDevice L.LogDevice self.old
+            (Start_close txn sender) (λ sub. Gave_sub sub.txn sub.number) result self.new }
+        ensures sizes { self.new.state.sizes ≡ self.old.state.sizes }
+        ensures sub { IfOk result (λ sub. sub.txn ≡ txn) }
+        ensures lists { IfOk result (λ sub. IsCloseStarted self.old.state txn sender sub self.new.state) }
+        ensures latched { IsSound self.old.state → StartsUnlatched self.old.state (Start_close txn sender) result }
+        ensures devices { LeavesDevices self.old self.new }
+        ensures refused { OnErr result (self.new ≡ self.old) }
+        ensures failed { (result ≡ Err Refusal.Failed) ↔ (self.old.state.failed ≡ true) }
+    {
+        let number = self.check_open(txn)?;
+        self.check_close(txn, sender)?;
+        match self.plan_close(sender)? {
+            None => Err(Refusal::Latched),
+            Some((plan, room)) => match self.start(txn, number, End::Sending(sender), plan, room) {
+                Ok(()) => Ok(Sub { txn, number }),
+                Err(refusal) => Err(refusal),
+            },
+        }
+    }
+
+    // The tests of a close behind those of its transaction.
+    fn check_close(&self, txn: Txn, sender: u32) -> Result<(), Refusal>
+        // Why it is refused, and that the model's tests are passed.
+        ensures refused { NoneHolds (ready_tests (ledger_of self.now.state) txn false)
+            → IfErr result (λ r. Refuses self.now.state (Start_close txn sender) r) }
+        ensures passes { IsSound self.now.state → NoneHolds (ready_tests (ledger_of self.now.state) txn false)
+            → OnOk result (Passes (size_of self.now.state.sizes) (ledger_of self.now.state) (Start_close txn sender)) }
+        // What was tested.
+        ensures plain { IfErr result (λ r. r ≢ Refusal.Failed) }
+        ensures unlatched { IfErr result (λ r. OnLatched ⊥ r) }
+        ensures sender { OnOk result (sender < sender_count self.now.state.sizes) }
+        ensures free { OnOk result (is_free_for txn sender self.now.state.ends.sending ≡ true) }
+        ensures log { OnOk result (log_full (ledger_of self.now.state) 2 ≡ false) }
+    {
+        if sender >= self.pages.layout().senders() {
+            return Err(Refusal::UnknownSender);
+        }
+        if !self.ends.may_send(txn, sender) {
+            return Err(Refusal::SenderBusy);
+        }
+        if self.pages.group(sender).closed {
+            return Err(Refusal::Closed);
+        }
+        if self.is_log_full(MARK_OPERATION) {
+            return Err(Refusal::LogFull);
+        }
+        Ok(())
+    }
+
+    // The plan of a close, from the slots as they are, and how many bytes its records take in the log; none where it
+    // needs a page that others have latched.
+    fn plan_close(&self, sender: u32) -> Result<Option<(ChainPlan, usize)>, Refusal>
+        requires { sender < sender_count self.now.state.sizes }
+        ensures plan { IfOk result (λ found. IfSome found (λ planned. (number : ℕ)
+            → IsClosePlan self.now.state.sizes (slots_in self.now.state.sizes self.now.state.images)
+            (under_plan number planned.0) sender)) }
+        ensures fits { IfOk result (λ found. IfSome found (λ planned. FitsPlan self.now.state.sizes planned.0 planned.1)) }
+        ensures one { IfOk result (λ found. IfSome found (λ planned. length planned.0.writes.items ≡ 1)) }
+        ensures free { IfOk result (λ found. IfSome found
+            (λ planned. AreUnlatched self.now.state planned.0.writes.items)) }
+        ensures unlatched { IfOk result (λ found. IfSome found (λ _. close_latched self.now.state sender ≡ false)) }
+        ensures latched { IfOk result (λ found. IfNone found (close_latched self.now.state sender ≡ true)) }
+        ensures refused { IfErr result (λ r. r ≡ Refusal.NoMemory) }
+    {
+        let layout = self.pages.layout();
+        let at = layout.directory_of(sender);
+        if self.transactions.has_latched(at.page()) {
+            return Ok(None);
+        }
+        let group = Group {
+            at,
+            sender,
+            directory: self.pages.group(sender),
+        };
+        let writes = mark(self.alloc, &layout, &group, true)?;
+        let plan = ChainPlan {
+            writes,
+            deed: Deed::Close { sender },
+        };
+        let room = room_of(&plan);
+        Ok(Some((plan, room)))
+    }
+}
