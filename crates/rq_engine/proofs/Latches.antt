@@ -1,5 +1,5 @@
 -- What is latched, exactly: whether a planned send or receive meets others' pages, and what that makes of the call.
-use Rattle.std.proofs.Common.{◌≡◌, ℕ, ◌+◌, ◌/◌, ◌<◌, ◌≤◌, ◌++◌, ◌||◌, ◌⊎◌, List, [], ◌∷◌, reverse, refl, sym, ◌∙◌, ap, subst, Bool, true, false, nat_eq, Option, Some, None, Result, Ok, Err, inl, inr, arith, IsTrue}
+use Rattle.std.proofs.Common.{◌≡◌, ℕ, ◌+◌, ◌/◌, ◌<◌, ◌≤◌, ◌++◌, ◌||◌, ◌⊎◌, List, [], ◌∷◌, length, reverse, refl, sym, ◌∙◌, ap, subst, Bool, true, false, nat_eq, Option, Some, None, Result, Ok, Err, inl, inr, arith, IsTrue}
 use Rattle.std.proofs.lemmas.Bool.{cases_Bool, cases_eq, false≢true, or_left, or_right, true≢false}
 use Rattle.rq_model.specs.declared.message.Message.{Message}
 use Rattle.rq_model.specs.declared.record.Deed.{Deed}
@@ -20,7 +20,10 @@ use Rattle.rq_views.specs.Items.{layout_of}
 use Rattle.rq_views.specs.Plans.{Turn, append_writes, directory_write, unlink_head_writes}
 use Rattle.rq_views.specs.Plans.Turn.{Did, Undid}
 use Rattle.rq_level.specs.declared.writes.SlotWrite.{SlotWrite}
-use Rattle.rq_level.specs.Writes.{writes_of}
+use Rattle.std.proofs.lemmas.List.{length-map, length-reverse}
+use Rattle.rq_page.specs.Sizes.{Sizes}
+use Rattle.rq_views.specs.Log.{Write}
+use Rattle.rq_level.specs.Writes.{write_of, writes_of}
 use Rattle.rq_chain.specs.Neighbours.{cell_beside}
 use Rattle.rq_txn.specs.Rows.{Row, Under, any_under, latched_in}
 use Rattle.rq_store.specs.Plans.{Stands_at, WaitsFor}
@@ -237,6 +240,14 @@ module _ (s : State) (k : IsSound s) where
     | inl y ↦ true≢false (sym y ∙ ap (λ b. b || false) free)
     | inr x ↦ false≢true x.0
   ]
+
+-- a plan whose writes are one write has one
+pub one_write : (z : Sizes) (us : List SlotWrite) (w : Write) → reverse (writes_of z us) ≡ w ∷ [] → length us ≡ 1
+one_write z us w is =
+    let a : length (reverse (writes_of z us)) ≡ 1 = ap length is in
+    let b = length-reverse (writes_of z us) in
+    let c : length (writes_of z us) ≡ length us = length-map us (write_of z) in
+    omega (arith, a, b, c)
 
 -- a close that is planned is on nobody's pages
 pub mark_off : (s : State) (g : ℕ) (d new : Directory) → latched_in s.rows (directory_at g / 16) ≡ false → (ws : List SlotWrite) → reverse (writes_of s.sizes ws) ≡ directory_write (layout_of s.sizes) g d new ∷ [] → AreUnlatched s ws

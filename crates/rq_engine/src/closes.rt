@@ -1,5 +1,5 @@
 //! Closes.
-ghost use Rattle.std.specs.Prelude.{◌≡◌, ◌≢◌, ◌↔◌, Err, ◌<◌, IfOk, IfErr, IfSome, IfNone, OnOk, OnErr, ℕ, true, false};
+ghost use Rattle.std.specs.Prelude.{◌≡◌, ◌≢◌, ◌↔◌, Err, ◌<◌, IfOk, IfErr, IfSome, IfNone, OnOk, OnErr, ℕ, true, false, length};
 ghost use Rattle.rq_model.specs.History.Call.{Start_close};
 ghost use Rattle.rq_model.specs.Replay.Reply.{Gave_sub};
 ghost use Rattle.rq_model.specs.Tests.{NoneHolds, Passes, log_full, ready_tests};

@@ -8,7 +8,7 @@ use Rattle.rq_engine.proofs.CloseCalls.{close_done, refused}
 use Rattle.rq_engine.proofs.Latches.{close_refused, close_unlatched}
 use Rattle.rq_engine.proofs.Refusals.{no_memory}
 use Rattle.rq_engine.proofs.SendCalls.{has_room}
-use Rattle.rq_engine.proofs.Opened.{none_told, some_told, state_is}
+use Rattle.rq_engine.proofs.Opened.{none_told, some_told}
 use Rattle.rq_engine.proofs.engine.Engine.start_close.Goals as goal
 
 pub start-requires-clause-log : goal.start-requires-clause-log
@@ -24,7 +24,7 @@ returns-in-Ok-clause-answered g c h =
     let off = some_told (λ p. AreUnlatched s p.0.writes.items) c.in_ok-plan_close.field-0 _ c.in-Some.is c.in_ok-plan_close.ensures.free in
     close_done s c.args.txn c.args.sender c.in_ok-number.ensures.passes _ c.in_ok-number.number c.in-Some.plan
     c.in_ok-number.ensures.ready off (plan c.in_ok-number.number) (λ k. c.in_ok-check_close.ensures.passes k c.in_ok-number.ensures.passes)
-    ((state_is c.self.view_is) ∙ c.in-Ok.ensures.started)
+    c.in-Ok.ensures.started
 
 pub returns-in-Err-clause-answered : goal.returns-in-Err-clause-answered
 returns-in-Err-clause-answered g c h k =
@@ -56,6 +56,6 @@ returns-in-Ok-clause-lists g c =
         number = refl;
         ready = c.in_ok-number.ensures.ready;
         plan = plan c.in_ok-number.number;
-        lists = (state_is c.self.view_is) ∙ c.in-Ok.ensures.started;
+        lists = c.in-Ok.ensures.started;
       },
     )
