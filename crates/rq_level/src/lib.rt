@@ -2,7 +2,7 @@
 //!
 //! A level is known by its number alone: `Meaning` says what the level of each number does, and the laws that all of
 //! them keep. Whoever drives levels knows no more of them. The engine does not drive them yet: it plans by the functions
-//! of the chain level itself, one operation at a time.
+//! of the chain level itself.
 #![tactic(auto)]
 
 mod level;
