@@ -1,37 +1,54 @@
 -- What is so of the fields of every engine, whatever log it was opened over.
-use Rattle.std.specs.Prelude.{◌≡◌, ℕ, ◌+◌, ◌-◌, ◌*◌, ◌^◌, ◌≤◌, Bool, false, length, Option, Some, None}
+use Rattle.std.specs.Prelude.{◌≡◌, ℕ, ◌+◌, ◌-◌, ◌*◌, ◌^◌, ◌<◌, ◌≤◌, Bool, false, length, Option, Some, None}
 use Rattle.std.specs.List.{sum_by}
 use Rattle.rq_model.specs.Words.{In}
 use Rattle.rq_model.specs.Deeds.{spelled_deed}
 use Rattle.rq_disk.specs.declared.device.LogDevice as log_device
 use Rattle.rq_log.specs.Logged.{Logged, WasDurable}
 use Rattle.rq_page.specs.Sizes.{Sizes, sender_count}
+use Rattle.rq_views.specs.Plans.{deed_sender}
 use Rattle.rq_level.specs.Writes.{AreSlotWrites}
-use Rattle.rq_txn.specs.declared.Aim.TheVariants.{Doing}
+use Rattle.rq_txn.specs.declared.Aim.{Aim}
+use Rattle.rq_txn.specs.declared.Aim.TheVariants.{Doing, Undoing}
+use Rattle.rq_txn.specs.declared.Finished.{Finished}
 use Rattle.rq_txn.specs.Rows.{Row, Under, AreDistinct, deed_of}
 use Rattle.rq_groups.specs.Waiting.{waits}
 use Rattle.rq_store.specs.State.{State, owed_by}
 
+-- the bytes of the record that ends an operation
+abbrev pub end_bytes : Aim → ℕ
+end_bytes (Doing d) = 30 + length (spelled_deed d)
+end_bytes (Undoing lsn d) = 37
+
 -- the bytes of the records that an operation under way has yet to log
 abbrev pub room_of : Option Under → ℕ
 room_of None = 0
-room_of (Some u) = 546 * (length u.writes - u.made) + (30 + length (spelled_deed (deed_of u.aim)))
+room_of (Some u) = 546 * (length u.writes - u.made) + end_bytes u.aim
 
 abbrev pub room_one : Row → ℕ
 room_one r = room_of r.under
 
--- what is so of an operation under way: it is a deed, since nothing is taken back yet
+-- what its record will say is in range
+abbrev pub EndFits : Aim → Type 0
+EndFits (Doing d) = (1 ≤ length (spelled_deed d)) × (length (spelled_deed d) ≤ 256)
+EndFits (Undoing lsn d) = 1 ≤ lsn
+
+-- what is so of an operation under way
 pub record IsUnderKept (z : Sizes) (u : Under) : Type 0 where
   pub number : 1 ≤ u.number
-  pub doing : u.aim ≡ Doing (deed_of u.aim)
   pub made : u.made ≤ length u.writes
   pub slots : AreSlotWrites z u.writes
-  pub deed_low : 1 ≤ length (spelled_deed (deed_of u.aim))
-  pub deed_high : length (spelled_deed (deed_of u.aim)) ≤ 256
+  pub sender : deed_sender (deed_of u.aim) < sender_count z
+  pub fits : EndFits u.aim
 
 abbrev pub UnderKept : Sizes → Option Under → Type 0
 UnderKept z None = Unit {0}
 UnderKept z (Some u) = IsUnderKept z u
+
+-- what is so of a finished operation
+pub record IsDoneKept (z : Sizes) (f : Finished) : Type 0 where
+  pub lsn : 1 ≤ f.lsn
+  pub sender : deed_sender f.deed < sender_count z
 
 -- what is so of a transaction that has not ended, where no more than so many records are logged or owed
 pub record IsRowKept (z : Sizes) (incarnation begins total : ℕ) (r : Row) : Type 0 where
@@ -39,6 +56,7 @@ pub record IsRowKept (z : Sizes) (incarnation begins total : ℕ) (r : Row) : Ty
   pub low : 1 ≤ r.txn.count
   pub high : r.txn.count ≤ begins
   pub number : r.number ≤ total
+  pub done : (f : Finished) → In f r.finished → IsDoneKept z f
   pub under : UnderKept z r.under
 
 -- the records that are logged or owed

@@ -6,6 +6,7 @@ pub mod Kept
 pub mod Answers
 pub mod Sends
 pub mod Closes
+pub mod Aborts
 pub mod Crash
 pub mod Applied
 pub mod Devices

@@ -21,6 +21,7 @@ use Rattle.rq_store.specs.State.{State}
 use Rattle.rq_store.specs.Plans.{IsSendPlan, IsTakePlan, WaitsFor, NoneWaits}
 use Rattle.rq_store.specs.Sound.{takes_one}
 use Rattle.rq_store.specs.Steps.{op_end, gave_done}
+use Rattle.rq_engine.specs.Aborts.{IsAborted, IsAborting, IsUndone, UndoSays}
 use Rattle.rq_engine.specs.Closes.{IsClosePlan}
 use Rattle.rq_engine.specs.Answers.{IsUnderWay, IsMade, HasNothingUnderWay}
 use Rattle.rq_engine.specs.Moves.{with_sends, without_taken}
@@ -29,6 +30,7 @@ use Rattle.rq_engine.specs.declared.event.CommitNo.{CommitNo}
 use Rattle.rq_engine.specs.declared.event.Event.{Event}
 use Rattle.rq_engine.specs.declared.event.Event.TheVariants as event
 use Rattle.rq_engine.specs.declared.event.Outcome.{Outcome}
+use Rattle.rq_engine.specs.declared.event.Outcome.TheVariants as outcome
 use Rattle.rq_engine.specs.declared.event.Progress.{Progress}
 use Rattle.rq_engine.specs.declared.event.Progress.TheVariants as progress
 use Rattle.rq_engine.specs.declared.event.Receipt.{Receipt}
@@ -103,6 +105,11 @@ pub record IsFinished (old : State) (sub : Sub) (o : Outcome) (new : State) : Ty
     waiting = without_taken deed old.waiting;
   }
 
+-- an operation was ended: an inverse, where it says that something is undone, else a deed
+abbrev pub FinishSays : State → Sub → Outcome → State → Type 0
+FinishSays old sub outcome.Undone new = IsUndone old sub new
+FinishSays old sub o new = IsFinished old sub o new
+
 -- the operations that a transaction finished
 abbrev pub done_by : State → Txn → List Finished
 done_by s t = finished_of (found_row t s.rows)
@@ -161,9 +168,25 @@ AfterStep old sub (reply.Refused r) new = Unit {0}
 AfterStep old sub _ new = ⊥
 
 abbrev pub AfterFinish : State → Sub → Reply → State → Type 0
-AfterFinish old sub (reply.Finished o) new = IsFinished old sub o new
+AfterFinish old sub (reply.Finished o) new = FinishSays old sub o new
 AfterFinish old sub (reply.Refused r) new = Unit {0}
 AfterFinish old sub _ new = ⊥
+
+abbrev pub AfterStartAbort : State → Txn → Reply → State → Type 0
+AfterStartAbort old t reply.Aborting new = IsAborting old t new
+AfterStartAbort old t (reply.Refused r) new = Unit {0}
+AfterStartAbort old t _ new = ⊥
+
+abbrev pub AfterUndoNext : State → Txn → Reply → State → Type 0
+AfterUndoNext old t (reply.Started sub) new = UndoSays old t (Some sub) new
+AfterUndoNext old t reply.NothingLeft new = UndoSays old t None new
+AfterUndoNext old t (reply.Refused r) new = Unit {0}
+AfterUndoNext old t _ new = ⊥
+
+abbrev pub AfterEndAbort : State → Txn → Reply → State → Type 0
+AfterEndAbort old t reply.Aborted new = IsAborted old t new
+AfterEndAbort old t (reply.Refused r) new = Unit {0}
+AfterEndAbort old t _ new = ⊥
 
 abbrev pub AfterCommit : State → Txn → Reply → State → Type 0
 AfterCommit old t (reply.Committed number) new = IsCommitted old t number new
@@ -205,6 +228,9 @@ ListsSay old (event.StartClose t sender) r new = AfterStartClose old t sender r 
 ListsSay old (event.Step sub) r new = AfterStep old sub r new
 ListsSay old (event.Finish sub) r new = AfterFinish old sub r new
 ListsSay old (event.Commit t) r new = AfterCommit old t r new
+ListsSay old (event.StartAbort t) r new = AfterStartAbort old t r new
+ListsSay old (event.UndoNext t) r new = AfterUndoNext old t r new
+ListsSay old (event.EndAbort t) r new = AfterEndAbort old t r new
 ListsSay old (event.Acknowledged number) r new = AfterAcknowledged old number r new
 ListsSay old event.HandOver r new = AfterHandOver old r new
 ListsSay old event.Force r new = AfterForce old r new

@@ -19,3 +19,8 @@ with_sends (f ∷ fs) ws = with_sends fs (with_sent f.deed ws)
 abbrev pub without_taken : Deed → List ℕ → List ℕ
 without_taken (UnlinkHead s n tag body) ws = fewer_waiting s ws
 without_taken _ ws = ws
+
+-- a message whose taking is undone waits again
+abbrev pub with_taken : Deed → List ℕ → List ℕ
+with_taken (UnlinkHead s n tag body) ws = more_waiting s 1 ws
+with_taken _ ws = ws

@@ -5,9 +5,9 @@ use Rattle.rq_store.specs.State.{State}
 use Rattle.std.specs.Prelude.{◌≡◌, Bool, true, false, map, Option, Some, None, Result, Ok, Err}
 use Rattle.rq_model.specs.declared.refusal.Refusal.{Refusal}
 use Rattle.rq_model.specs.History.{Call}
-use Rattle.rq_model.specs.History.Call.{Begin as Call_begin, Start_send as Call_start_send, Start_receive as Call_start_receive, Start_receive_from as Call_start_receive_from, Start_close as Call_start_close, Write_page as Call_write_page, Step as Call_step, Finish as Call_finish, Commit as Call_commit, Acknowledge as Call_acknowledge, Hand_over as Call_hand_over, Force as Call_force, Show as Call_show}
+use Rattle.rq_model.specs.History.Call.{Begin as Call_begin, Start_send as Call_start_send, Start_receive as Call_start_receive, Start_receive_from as Call_start_receive_from, Start_close as Call_start_close, Write_page as Call_write_page, Step as Call_step, Finish as Call_finish, Commit as Call_commit, Acknowledge as Call_acknowledge, Start_abort as Call_start_abort, Undo_next as Call_undo_next, End_abort as Call_end_abort, Hand_over as Call_hand_over, Force as Call_force, Show as Call_show}
 use Rattle.rq_model.specs.Replay.{Number, Reply as Gave}
-use Rattle.rq_model.specs.Replay.Reply.{Gave_txn, Gave_sub, Gave_lsn, Gave_forced, Gave_ready, Gave_sent, Gave_message, Gave_closed, Gave_undone, Gave_handed_over, Gave_commit, Gave_receipt, Gave_none, Gave_written, Gave_content, Gave_refusal}
+use Rattle.rq_model.specs.Replay.Reply.{Gave_txn, Gave_sub, Gave_lsn, Gave_forced, Gave_ready, Gave_sent, Gave_message, Gave_closed, Gave_undone, Gave_handed_over, Gave_aborting, Gave_aborted, Gave_commit, Gave_receipt, Gave_none, Gave_written, Gave_content, Gave_refusal}
 use Rattle.rq_content.specs.Read.{group_of}
 use Rattle.rq_model.specs.declared.txn.Sub.{Sub}
 use Rattle.rq_disk.specs.Device.{Only}
@@ -42,6 +42,9 @@ call_of (event.Step sub) = Call_step sub.txn sub.number
 call_of (event.Finish sub) = Call_finish sub.txn sub.number
 call_of (event.Commit txn) = Call_commit txn
 call_of (event.Acknowledged number) = Call_acknowledge number.txn number.lsn
+call_of (event.StartAbort txn) = Call_start_abort txn
+call_of (event.UndoNext txn) = Call_undo_next txn
+call_of (event.EndAbort txn) = Call_end_abort txn
 call_of event.HandOver = Call_hand_over
 call_of event.Force = Call_force
 call_of (event.WritePage page) = Call_write_page page
@@ -79,6 +82,9 @@ gave (reply.Stepped p) = progress_of p
 gave (reply.Finished o) = outcome_of o
 gave (reply.Committed number) = Gave_commit (commit_number number)
 gave (reply.Acknowledged given) = Gave_receipt (receipt_of given)
+gave reply.Aborting = Gave_aborting
+gave reply.NothingLeft = Gave_none
+gave reply.Aborted = Gave_aborted
 gave reply.HandedOver = Gave_handed_over
 gave (reply.Forced lsn) = Gave_forced lsn
 gave (reply.Written w) = Gave_written (is_done w)
@@ -125,6 +131,12 @@ abbrev pub begun_reply : Result (Option Sub) Refusal → Reply
 begun_reply (Ok (Some sub)) = reply.Started sub
 begun_reply (Ok None) = reply.NoMessage
 begun_reply (Err r) = reply.Refused r
+
+-- the reply to the start of an inverse
+abbrev pub undo_reply : Result (Option Sub) Refusal → Reply
+undo_reply (Ok (Some sub)) = reply.Started sub
+undo_reply (Ok None) = reply.NothingLeft
+undo_reply (Err r) = reply.Refused r
 
 -- what a reply says of a page that was to be written
 abbrev pub written_by : Reply → Result Written Refusal

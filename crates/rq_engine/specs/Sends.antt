@@ -1,24 +1,26 @@
 -- A planned operation as one that is under way, the room that it takes, and which pages are latched.
 use Rattle.std.specs.Prelude.{◌≡◌, ◌⊎◌, ℕ, ◌+◌, ◌*◌, ◌/◌, ◌<◌, ◌≤◌, ◌^◌, Bool, false, List, [], ◌∷◌, true, length}
 use Rattle.rq_model.specs.Deeds.{spelled_deed}
-use Rattle.rq_page.specs.Sizes.{Sizes, IsCellAddress, directory_at}
+use Rattle.rq_page.specs.Sizes.{Sizes, IsCellAddress, directory_at, sender_count}
 use Rattle.rq_page.specs.Slots.Slot.{Free, Sender}
 use Rattle.rq_views.specs.Log.{Slots}
+use Rattle.rq_views.specs.Plans.{deed_sender}
 use Rattle.rq_level.specs.declared.writes.SlotWrite.{SlotWrite}
 use Rattle.rq_chain.specs.declared.ChainPlan.{ChainPlan as Plan}
 use Rattle.rq_chain.specs.Neighbours.{IsGroupOf, IsNeighbour, cell_beside}
 use Rattle.rq_level.specs.Writes.{AreSlotWrites}
 use Rattle.rq_txn.specs.declared.Aim.TheVariants.{Doing}
-use Rattle.rq_txn.specs.Rows.{Row, Under, latched_in}
+use Rattle.rq_txn.specs.Rows.{Row, Under, deed_of, latched_in}
 use Rattle.rq_store.specs.Plans.{Stands_at}
 use Rattle.rq_store.specs.State.{State, owed_by}
 use Rattle.rq_sound.specs.Groups.{slots_now}
 use Rattle.rq_sound.specs.Latching.{AllFreeLatched, any_latched, at_tail, behind_head, named}
+use Rattle.rq_engine.specs.Kept.{EndFits, end_bytes}
 use Rattle.rq_engine.specs.declared.cells.SendSlots.{SendSlots}
 
--- the log has room for the plan's records behind those that are owed
-abbrev pub HasRoom : State → Plan → Type 0
-HasRoom s plan = length s.records + owed_by s.rows + (length plan.writes.items + 1) ≤ 2 ^ 50
+-- the log has room for the records of so many writes, and an end, behind those that are owed
+abbrev pub HasRoom : State → List SlotWrite → Type 0
+HasRoom s ws = length s.records + owed_by s.rows + (length ws + 1) ≤ 2 ^ 50
 
 -- each free cell below this one is on a latched page
 abbrev pub AreLatchedBelow : Sizes → Slots → List Row → ℕ → Type 0
@@ -61,8 +63,17 @@ take_latched s g = any_latched s.rows (behind_head (slots_now s) g)
 abbrev pub under_plan : ℕ → Plan → Under
 under_plan number plan = record { number = number; writes = plan.writes.items; made = 0; aim = Doing plan.deed }
 
+-- the operation writes slots of the store, nothing of it is made, and its records take so many bytes
+pub record FitsUnder (z : Sizes) (u : Under) (room : ℕ) : Type 0 where
+  pub made : u.made ≡ 0
+  pub slots : AreSlotWrites z u.writes
+  pub sender : deed_sender (deed_of u.aim) < sender_count z
+  pub fits : EndFits u.aim
+  pub room_is : room ≡ 546 * length u.writes + end_bytes u.aim
+
 -- the plan writes slots of the store, three at most, and its records take so many bytes
 pub record FitsPlan (z : Sizes) (plan : Plan) (room : ℕ) : Type 0 where
+  pub sender : deed_sender plan.deed < sender_count z
   pub slots : AreSlotWrites z plan.writes.items
   pub count : length plan.writes.items ≤ 3
   pub deed_low : 1 ≤ length (spelled_deed plan.deed)

@@ -11,7 +11,7 @@ ghost use Rattle.rq_engine.specs.Answers.{AnswersLegally};
 ghost use Rattle.rq_engine.specs.Applied.{Applied, ChangesSay, LatchedSay, RefusalLeaves, StartSays};
 ghost use Rattle.rq_engine.specs.Lists.{ListsSay};
 ghost use Rattle.rq_engine.specs.Opened.{AreHonest};
-ghost use Rattle.rq_engine.specs.Says.{RefusedForCause, IsContent, LogSays, PagesSay, WritesSay, begun_reply, call_of, gave};
+ghost use Rattle.rq_engine.specs.Says.{RefusedForCause, IsContent, LogSays, PagesSay, WritesSay, begun_reply, call_of, gave, undo_reply};
 
 use crate::engine::Engine;
 use crate::event::{Event, Reply};
@@ -117,6 +117,15 @@ impl<P: PageDevice, L: LogDevice> Engine<P, L> {
                 Ok(number) => Reply::Committed(number),
                 Err(refusal) => Reply::Refused(refusal),
             },
+            Event::StartAbort(txn) => match self.start_abort(*txn) {
+                Ok(()) => Reply::Aborting,
+                Err(refusal) => Reply::Refused(refusal),
+            },
+            Event::UndoNext(txn) => undoing(self.undo_next(*txn)),
+            Event::EndAbort(txn) => match self.end_abort(*txn) {
+                Ok(()) => Reply::Aborted,
+                Err(refusal) => Reply::Refused(refusal),
+            },
             Event::Acknowledged(number) => match self.acknowledged(*number) {
                 Ok(given) => Reply::Acknowledged(given),
                 Err(refusal) => Reply::Refused(refusal),
@@ -138,6 +147,17 @@ impl<P: PageDevice, L: LogDevice> Engine<P, L> {
                 Err(refusal) => Reply::Refused(refusal),
             },
         }
+    }
+}
+
+// The reply to the start of an inverse.
+fn undoing(started: Result<Option<Sub>, Refusal>) -> Reply
+    ensures { result ≡ undo_reply started }
+{
+    match started {
+        Ok(Some(sub)) => Reply::Started(sub),
+        Ok(None) => Reply::NothingLeft,
+        Err(refusal) => Reply::Refused(refusal),
     }
 }
 

@@ -20,6 +20,14 @@ pub struct SendSlots {
     pub free: Addr,
 }
 
+/// What a put-back is planned from: its group, the cell at the head of its chain, and the free cell that it takes.
+#[derive(Clone, Copy)]
+pub struct BackSlots {
+    pub group: Group,
+    pub head: Option<Neighbour>,
+    pub free: Addr,
+}
+
 /// The lowest free cell on a page that no operation under way has latched.
 pub(crate) fn lowest_free<P: PageDevice>(
     pages: &Pages<P>,

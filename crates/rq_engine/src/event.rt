@@ -102,6 +102,9 @@ pub enum Event {
     Step(Sub),
     Finish(Sub),
     Commit(Txn),
+    StartAbort(Txn),
+    UndoNext(Txn),
+    EndAbort(Txn),
     Acknowledged(CommitNo),
     HandOver,
     Force,
@@ -124,6 +127,12 @@ pub enum Reply {
     Finished(Outcome),
     /// The number of the commit.
     Committed(CommitNo),
+    /// The transaction is aborting.
+    Aborting,
+    /// Nothing is left to undo.
+    NothingLeft,
+    /// The abort was ended.
+    Aborted,
     /// The receipt, where the commit is durable.
     Acknowledged(Option<Receipt>),
     /// The buffered records were handed over.

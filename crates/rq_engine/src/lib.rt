@@ -1,6 +1,7 @@
 //! The engine: one call is one atomic event. It turns calls into records of the log and writes of slots.
 #![tactic(auto)]
 
+mod aborts;
 mod apply;
 mod cells;
 mod closes;
@@ -12,3 +13,4 @@ mod pages;
 mod receives;
 mod sends;
 mod starts;
+mod undoing;

@@ -3,7 +3,8 @@ ghost use Rattle.std.specs.Prelude.{◌≡◌, ◌+◌, ◌<◌, ◌^◌, ℕ, l
 ghost use Rattle.std.specs.List.{sum_by};
 ghost use Rattle.rq_groups.specs.Waiting.{waits};
 ghost use Rattle.rq_store.specs.Sound.{takes_one};
-ghost use Rattle.rq_engine.specs.Moves.{with_sends, without_taken};
+ghost use Rattle.rq_views.specs.Claims.{appends_of};
+ghost use Rattle.rq_engine.specs.Moves.{with_sends, with_taken, without_taken};
 
 use rq_groups::Waiting;
 use rq_model::record::Deed;
@@ -32,6 +33,29 @@ pub(crate) fn count_takes(finished: &[Finished]) -> u64
         }
     }
     taken
+}
+
+/// Has a message wait again whose taking is undone.
+pub(crate) fn put_in_taken(waiting: &mut Waiting, deed: &Deed)
+    requires room { (s : ℕ) → waits waiting.old s + 1 < 2 ^ 64 }
+    ensures { waiting.new ≡ with_taken deed.now waiting.old }
+{
+    match deed {
+        Deed::Append { .. } => {}
+        Deed::UnlinkHead { sender, .. } => waiting.add(*sender, 1),
+        Deed::Close { .. } => {}
+    }
+}
+
+/// How many cells are free again where an operation is undone: that of what it sent.
+pub(crate) fn cells_given_back(deed: &Deed) -> u64
+    ensures { result ≡ appends_of deed.now }
+{
+    match deed {
+        Deed::Append { .. } => 1,
+        Deed::UnlinkHead { .. } => 0,
+        Deed::Close { .. } => 0,
+    }
 }
 
 /// Has a message wait no more that the operation took.

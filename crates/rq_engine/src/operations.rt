@@ -1,19 +1,21 @@
 //! The calls of an operation under way.
-ghost use Rattle.std.specs.Prelude.{◌≡◌, ◌↔◌, Err, ◌+◌, ◌≤◌, IfOk, IfErr, IfSome, OnOk, OnErr, MatchOption, Some, false, true, length, ◌∷◌};
+ghost use Rattle.std.specs.Prelude.{◌≡◌, ◌↔◌, Err, ◌+◌, ◌-◌, ◌≤◌, IfOk, IfErr, IfSome, OnOk, OnErr, MatchOption, Some, false, true, length, ◌∷◌};
 ghost use Rattle.std.specs.List.{slice_get};
 ghost use Rattle.rq_model.specs.History.Call.{Step, Finish};
-ghost use Rattle.rq_txn.specs.Rows.{change_row, deed_of, row_finished, under_of};
+ghost use Rattle.rq_txn.specs.Rows.{change_row, row_finished, row_taken_back, under_of};
 ghost use Rattle.rq_store.specs.Steps.{op_end, gave_done};
+ghost use Rattle.rq_sound.specs.Rows.{comp_end};
+ghost use Rattle.rq_views.specs.Claims.{appends_of};
 ghost use Rattle.rq_engine.specs.Opened.{LeavesDevices};
-ghost use Rattle.rq_engine.specs.Moves.{without_taken};
+ghost use Rattle.rq_engine.specs.Moves.{with_taken, without_taken};
 ghost use Rattle.rq_engine.specs.Applied.{IsStamped, StepChanges};
 ghost use Rattle.rq_engine.specs.Answers.{AnswersLegally, IsUnderWay, IsNotUnderWay, Idle, CannotFinish, IsMade};
-ghost use Rattle.rq_engine.specs.Lists.{IsFinished, StepSays};
+ghost use Rattle.rq_engine.specs.Lists.{FinishSays, StepSays};
 ghost use Rattle.rq_engine.specs.Says.{progress_of, outcome_of};
 
 use crate::engine::Engine;
 use crate::event::{Outcome, Progress};
-use crate::moves::leave_out_taken;
+use crate::moves::{cells_given_back, leave_out_taken, put_in_taken};
 use rq_disk::{LogDevice, PageDevice};
 use rq_level::SlotWrite;
 use rq_model::message::Message;
@@ -56,15 +58,19 @@ impl<P: PageDevice, L: LogDevice> Engine<P, L> {
         ensures answered { AnswersLegally P.PageDevice L.LogDevice self.old
             (Finish sub.txn sub.number) outcome_of result self.new }
         ensures sizes { self.new.state.sizes ≡ self.old.state.sizes }
-        ensures lists { IfOk result (λ outcome. IsFinished self.old.state sub outcome self.new.state) }
+        ensures lists { IfOk result (λ outcome. FinishSays self.old.state sub outcome self.new.state) }
         ensures devices { LeavesDevices self.old self.new }
         ensures refused { OnErr result (self.new ≡ self.old) }
         ensures failed { (result ≡ Err Refusal.Failed) ↔ (self.old.state.failed ≡ true) }
     {
-        match self.ready_deed(sub) {
-            Ok(deed) => {
+        match self.ready_aim(sub) {
+            Ok(Aim::Doing(deed)) => {
                 self.end(sub, &deed);
                 Ok(done(&deed))
+            }
+            Ok(Aim::Undoing { lsn, deed }) => {
+                self.end_undo(sub, lsn, &deed);
+                Ok(Outcome::Undone)
             }
             Err(refusal) => Err(refusal),
         }
@@ -72,7 +78,6 @@ impl<P: PageDevice, L: LogDevice> Engine<P, L> {
 
     // The operation, if it is under way.
     fn operation(&self, sub: Sub) -> Option<&Operation>
-        ensures doing { IfSome result (λ o. o.now.aim ≡ Aim.Doing (deed_of o.now.aim)) }
         ensures found { MatchOption result (IsNotUnderWay self.now.state sub)
             (λ o. IsUnderWay self.now.state sub (λ r u. u ≡ under_of o.now)) }
     {
@@ -96,10 +101,10 @@ impl<P: PageDevice, L: LogDevice> Engine<P, L> {
         }
     }
 
-    // What the end of the operation will say, where all its writes are made.
-    fn ready_deed(&self, sub: Sub) -> Result<Deed, Refusal>
-        ensures ready { IfOk result (λ d. IsUnderWay self.now.state sub
-            (λ r u. (length u.writes ≤ u.made) × (u.aim ≡ Aim.Doing d))) }
+    // What the operation is for, where all its writes are made.
+    fn ready_aim(&self, sub: Sub) -> Result<Aim, Refusal>
+        ensures ready { IfOk result (λ aim. IsUnderWay self.now.state sub
+            (λ r u. (length u.writes ≤ u.made) × (u.aim ≡ aim))) }
         ensures running { OnOk result (self.now.state.failed ≡ false) }
         ensures refused { IfErr result (λ r. CannotFinish self.now.state sub r) }
     {
@@ -110,10 +115,7 @@ impl<P: PageDevice, L: LogDevice> Engine<P, L> {
         if operation.made < operation.writes.len() {
             return Err(Refusal::Unfinished);
         }
-        match operation.aim {
-            Aim::Doing(deed) => Ok(deed),
-            Aim::Undoing { .. } => Err(Refusal::UnknownOperation),
-        }
+        Ok(operation.aim)
     }
 
     // Makes a slot write, with its record.
@@ -141,7 +143,7 @@ impl<P: PageDevice, L: LogDevice> Engine<P, L> {
         lsn
     }
 
-    // Ends an operation, with its record.
+    // Ends a deed, with its record.
     fn end(&mut self, sub: Sub, deed: &Deed)
         requires running { self.old.state.failed ≡ false }
         requires ready { IsUnderWay self.old.state sub (λ r u. (length u.writes ≤ u.made) × (u.aim ≡ Aim.Doing deed.now)) }
@@ -167,9 +169,35 @@ impl<P: PageDevice, L: LogDevice> Engine<P, L> {
         leave_out_taken(&mut self.waiting, deed);
         self.owed -= 1;
     }
+
+    // Ends an inverse, with its record.
+    fn end_undo(&mut self, sub: Sub, lsn: Lsn, deed: &Deed)
+        requires running { self.old.state.failed ≡ false }
+        requires ready { IsUnderWay self.old.state sub
+            (λ r u. (length u.writes ≤ u.made) × (u.aim ≡ Aim.Undoing lsn deed.now)) }
+        ensures ended { self.new.state ≡ record self.old.state {
+          rows = change_row sub.txn row_taken_back self.old.state.rows;
+          records = comp_end sub.txn sub.number lsn ∷ self.old.state.records;
+          cells_in_use = self.old.state.cells_in_use - appends_of deed.now;
+          waiting = with_taken deed.now self.old.state.waiting;
+        } }
+        ensures devices { LeavesDevices self.old self.new }
+    {
+        let record = Record::CompEnd {
+            txn: sub.txn,
+            operation: sub.number,
+            undone: lsn,
+        };
+        shows_size(&record);
+        self.log.append(&record);
+        self.transactions.undo(sub.txn);
+        put_in_taken(&mut self.waiting, deed);
+        self.cells_in_use = self.cells_in_use.saturating_sub(cells_given_back(deed));
+        self.owed -= 1;
+    }
 }
 
-// What the end of an operation answers.
+// What the end of a deed answers.
 fn done(deed: &Deed) -> Outcome
     ensures { outcome_of result ≡ gave_done deed.now }
 {

@@ -241,7 +241,7 @@ impl<P: PageDevice, L: LogDevice> Engine<P, L> {
     }
 
     // The cell that a link names. Not there where it names none, or one that is free.
-    fn cell_at(&self, at: Addr) -> Option<Neighbour>
+    pub(crate) fn cell_at(&self, at: Addr) -> Option<Neighbour>
         requires { IsLink self.now.state.sizes at }
         ensures place { IfSome result (λ cell. IsNeighbourAt self.now.state.sizes at cell) }
         ensures stands { IfSome result (λ cell. slots_in self.now.state.sizes self.now.state.images at

@@ -6,7 +6,7 @@ ghost use Rattle.rq_model.specs.Tests.{log_full};
 ghost use Rattle.rq_page.specs.Sizes.{IsLink};
 ghost use Rattle.rq_views.specs.Log.{cell_in};
 ghost use Rattle.rq_views.specs.Stored.{slots_in};
-ghost use Rattle.rq_txn.specs.Rows.{change_row, row_started};
+ghost use Rattle.rq_txn.specs.Rows.{change_row, row_started, under_of};
 ghost use Rattle.rq_groups.specs.Sides.{with_end};
 ghost use Rattle.rq_chain.specs.Neighbours.{IsNeighbour, cell_beside};
 ghost use Rattle.rq_store.specs.State.{ledger_of};
@@ -14,7 +14,7 @@ ghost use Rattle.rq_sound.specs.Latching.{any_latched, named};
 ghost use Rattle.rq_store.specs.Plans.{Stands_at};
 ghost use Rattle.rq_engine.specs.Opened.{LeavesDevices};
 ghost use Rattle.rq_engine.specs.Answers.{HasNothingUnderWay};
-ghost use Rattle.rq_engine.specs.Sends.{under_plan, FitsPlan, HasRoom};
+ghost use Rattle.rq_engine.specs.Sends.{under_plan, FitsPlan, FitsUnder, HasRoom};
 
 use crate::engine::Engine;
 use rq_chain::{ChainPlan, Neighbour};
@@ -84,7 +84,7 @@ impl<P: PageDevice, L: LogDevice> Engine<P, L> {
     ) -> Result<(), Refusal>
         requires ready { HasNothingUnderWay self.old.state txn number }
         requires fits { FitsPlan self.old.state.sizes plan room }
-        requires log { HasRoom self.old.state plan }
+        requires log { HasRoom self.old.state plan.writes.items }
         ensures started { OnOk result (self.new.state ≡ record self.old.state {
           rows = change_row txn
               (row_started (under_plan number plan)) self.old.state.rows;
@@ -95,20 +95,42 @@ impl<P: PageDevice, L: LogDevice> Engine<P, L> {
         ensures refused { OnErr result (self.new ≡ self.old) }
     {
         let ChainPlan { writes, deed } = plan;
-        let owed = writes.len() as u64 + 1;
         let operation = Operation {
             number,
             writes,
             made: 0,
             aim: Aim::Doing(deed),
         };
+        let newly = self.ends.take(txn, end)?;
+        match self.launch(txn, operation, room) {
+            Ok(()) => Ok(()),
+            Err(refusal) => {
+                self.ends.undo_take(end, newly);
+                Err(refusal)
+            }
+        }
+    }
+
+    // Takes the room of an operation, and lets it begin.
+    pub(crate) fn launch(
+        &mut self,
+        txn: Txn,
+        operation: Operation,
+        room: usize,
+    ) -> Result<(), Refusal>
+        requires ready { HasNothingUnderWay self.old.state txn operation.number }
+        requires fits { FitsUnder self.old.state.sizes (under_of operation) room }
+        requires log { HasRoom self.old.state operation.writes.items }
+        ensures launched { OnOk result (self.new.state ≡ record self.old.state {
+          rows = change_row txn (row_started (under_of operation)) self.old.state.rows;
+        }) }
+        ensures devices { LeavesDevices self.old self.new }
+        ensures refusal { IfErr result (λ r. r ≡ Refusal.NoMemory) }
+        ensures refused { OnErr result (self.new ≡ self.old) }
+    {
+        let owed = operation.writes.len() as u64 + 1;
         self.log.reserve(room)?;
-        let Ok(newly) = self.ends.take(txn, end) else {
-            self.log.release(room);
-            return Err(Refusal::NoMemory);
-        };
         let Ok(()) = self.transactions.start(txn, operation) else {
-            self.ends.undo_take(end, newly);
             self.log.release(room);
             return Err(Refusal::NoMemory);
         };

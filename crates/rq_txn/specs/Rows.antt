@@ -3,7 +3,7 @@ use Rattle.std.specs.Prelude.{◌≡◌, ℕ, ◌+◌, ◌/◌, ◌<◌, Bool, t
 use Rattle.std.specs.List.{filter}
 use Rattle.rq_model.specs.declared.txn.Txn.{Txn}
 use Rattle.rq_model.specs.declared.record.Deed.{Deed}
-use Rattle.rq_model.specs.Words.{same_txn, is_some}
+use Rattle.rq_model.specs.Words.{front, same_txn, is_some}
 use Rattle.rq_level.specs.declared.writes.SlotWrite.{SlotWrite}
 use Rattle.rq_level.specs.Given.{has_page}
 use Rattle.rq_txn.specs.declared.Aim.{Aim}
@@ -91,6 +91,10 @@ row_finished f r = record r { finished = r.finished ++ f ∷ []; under = None }
 -- its inverse is done, and this is left
 abbrev pub row_undone : List Finished → Row → Row
 row_undone fs r = record r { finished = fs; under = None }
+
+-- so its newest deed is undone
+abbrev pub row_taken_back : Row → Row
+row_taken_back r = row_undone (front r.finished) r
 
 abbrev pub row_aborting : Row → Row
 row_aborting r = record r { aborting = true }

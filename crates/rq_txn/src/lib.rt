@@ -66,7 +66,7 @@ pub struct Transaction {
 
 impl Transaction {
     ghost use Rattle.std.specs.Prelude.{◌≡◌, ◌<◌, IfSome, IsSome, OnErr, OnOk, length};
-    ghost use Rattle.rq_txn.specs.Rows.{row_finished, row_of, row_started, row_stepped, under_of};
+    ghost use Rattle.rq_txn.specs.Rows.{row_aborting, row_finished, row_of, row_started, row_stepped, row_taken_back, under_of};
 
     // The operation is under way.
     fn start(&mut self, operation: Operation) -> Result<(), NoMemory>
@@ -99,6 +99,21 @@ impl Transaction {
         self.finished.push(finished).unwrap();
         self.under_way = None;
     }
+
+    // It is aborting.
+    fn abort(&mut self)
+        ensures { row_of self.new ≡ row_aborting (row_of self.old) }
+    {
+        self.aborting = true;
+    }
+
+    // What it did last is undone, and nothing is under way.
+    fn undo(&mut self)
+        ensures { row_of self.new ≡ row_taken_back (row_of self.old) }
+    {
+        let _ = self.finished.pop();
+        self.under_way = None;
+    }
 }
 
 /// The transactions that have not ended. Contracts see their rows, the newest first.
@@ -121,7 +136,7 @@ impl Model for Transactions {
 
 impl Transactions {
     ghost use Rattle.std.specs.Prelude.{◌≡◌, ◌<◌, ◌≤◌, [], ◌∷◌, IfSome, IsSome, MatchOption, OnErr, OnOk, length, map, nat_lt, not, reverse};
-    ghost use Rattle.rq_txn.specs.Rows.{AreDistinct, any_under, change_row, finished_of, found_row, fresh_row, latched_in, row_finished, row_of, row_started, row_stepped, under_of, without_row};
+    ghost use Rattle.rq_txn.specs.Rows.{AreDistinct, any_under, change_row, finished_of, found_row, fresh_row, latched_in, row_aborting, row_finished, row_of, row_started, row_stepped, row_taken_back, under_of, without_row};
 
     /// No transaction.
     pub fn new(alloc: Global) -> Self
@@ -220,6 +235,24 @@ impl Transactions {
     {
         if let Some(place) = scans::place_of(&self.rows, txn) {
             self.rows[place].finish(finished);
+        }
+    }
+
+    /// The transaction is aborting.
+    pub fn start_abort(&mut self, txn: Txn)
+        ensures { self.new ≡ change_row txn row_aborting self.old }
+    {
+        if let Some(place) = scans::place_of(&self.rows, txn) {
+            self.rows[place].abort();
+        }
+    }
+
+    /// What the transaction finished last is undone, and its operation that undid it is no longer under way.
+    pub fn undo(&mut self, txn: Txn)
+        ensures { self.new ≡ change_row txn row_taken_back self.old }
+    {
+        if let Some(place) = scans::place_of(&self.rows, txn) {
+            self.rows[place].undo();
         }
     }
 
