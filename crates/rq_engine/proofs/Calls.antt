@@ -12,7 +12,7 @@ use Rattle.rq_model.specs.declared.record.Record.TheVariants as records
 use Rattle.rq_model.specs.declared.refusal.Refusal.{Refusal}
 use Rattle.rq_model.specs.declared.refusal.Refusal.TheVariants as why
 use Rattle.rq_model.specs.Words.{is_some, same_txn}
-use Rattle.rq_model.specs.Deeds.{spelled_deed}
+use Rattle.rq_views.specs.Plans.{deed_sender}
 use Rattle.rq_model.specs.History.{Call}
 use Rattle.rq_model.specs.History.Call.{Commit, Step, Finish, Show}
 use Rattle.rq_model.specs.History.Entry.{Ready, Shown}
@@ -27,7 +27,7 @@ use Rattle.rq_level.specs.Writes.{IsSlotWrite, AreSlotWrites}
 use Rattle.rq_txn.specs.declared.Finished.{Finished}
 use Rattle.rq_txn.specs.declared.Aim.{Aim}
 use Rattle.rq_txn.specs.declared.Aim.TheVariants.{Doing}
-use Rattle.rq_txn.specs.Rows.{Row, Under, deed_of, found_row, finished_of, any_under, change_row, without_row, row_stepped, row_finished}
+use Rattle.rq_txn.specs.Rows.{Row, Under, deed_of, found_row, finished_of, any_under, change_row, without_row, row_stepped, row_finished, row_taken_back}
 use Rattle.rq_groups.specs.Ends.{HeldEnds, released}
 use Rattle.rq_store.specs.State.{State, ledger_of, size_of, owed_one, owed_under, job_under, left_under, phase_of}
 use Rattle.rq_groups.specs.Waiting.{waits}
@@ -45,11 +45,11 @@ use Rattle.rq_model.specs.Tests.{any_busy, below}
 use Rattle.rq_model.specs.Commits.{committed_of}
 use Rattle.rq_page.specs.Sizes.{sender_count}
 use Rattle.rq_engine.proofs.Standing.{going_at, step_steps, finish_steps, commit_steps}
-use Rattle.rq_engine.specs.Kept.{IsKept, room_one, room_of, done_one}
-use Rattle.rq_engine.specs.Moves.{with_sends, without_taken}
+use Rattle.rq_engine.specs.Kept.{EndFits, IsKept, end_bytes, room_one, room_of, done_one}
+use Rattle.rq_engine.specs.Moves.{with_sends, with_taken, without_taken}
 use Rattle.rq_engine.proofs.Waits.{waits-with_sends, waits-without_taken}
 use Rattle.rq_engine.specs.Answers.{Refuses, OnUnder, IsUnderWay, IsNotUnderWay, NotFound, IsOther, Idle, CannotFinish, IsMade, HasNothingUnderWay}
-use Rattle.rq_engine.proofs.Keeping.{kept_at, under_at, kept_stepped, kept_finished, kept_committed}
+use Rattle.rq_engine.proofs.Keeping.{kept_at, under_at, kept_stepped, kept_finished, kept_undone, kept_committed}
 use Rattle.rq_engine.proofs.Refusals.{refuse, refuse_failed, found_of, found_some, found_none, not_full}
 
 -- from what is inside an engine to what is seen of it
@@ -121,15 +121,18 @@ module _ (s : State) (f : Bool) (o res : ℕ) (k : IsKept s f o res) (sub : Sub)
   pub going_count : length s.records < 2 ^ 64 - 1
   going_count = let a = k.count in omega (arith, a)
 
-  pub going_room : 546 * (length g.under.writes - g.under.made) + (30 + length (spelled_deed (deed_of g.under.aim))) ≤ res
+  pub going_room : 546 * (length g.under.writes - g.under.made) + end_bytes g.under.aim ≤ res
   going_room =
       let a = sum_at room_one sub.txn s.rows g.row g.found in
-      let b : room_one g.row ≡ 546 * (length g.under.writes - g.under.made) + (30 + length (spelled_deed (deed_of g.under.aim))) = ap room_of g.is in
+      let b : room_one g.row ≡ 546 * (length g.under.writes - g.under.made) + end_bytes g.under.aim = ap room_of g.is in
       let c = k.room in
       omega (arith, a, b, c)
 
-  pub going_deed : (1 ≤ length (spelled_deed (deed_of g.under.aim))) × (length (spelled_deed (deed_of g.under.aim)) ≤ 256)
-  going_deed = let u = under_at s f o res sub.txn g.row g.under k g.found g.is in (u.deed_low, u.deed_high)
+  pub going_sender : deed_sender (deed_of g.under.aim) < sender_count s.sizes
+  going_sender = (under_at s f o res sub.txn g.row g.under k g.found g.is).sender
+
+  pub going_end : EndFits g.under.aim
+  going_end = (under_at s f o res sub.txn g.row g.under k g.found g.is).fits
 
   pub going_slots : AreSlotWrites s.sizes g.under.writes
   going_slots = (under_at s f o res sub.txn g.row g.under k g.found g.is).slots
@@ -143,8 +146,8 @@ write_at z ws i w h e =
 abbrev pub Next : SlotWrite → Row → Under → Type 0
 Next w r u = slice_get u.writes u.made ≡ Some w
 
-abbrev pub AllMade : Deed → Row → Under → Type 0
-AllMade d r u = (length u.writes ≤ u.made) × (u.aim ≡ Doing d)
+abbrev pub AllMade : Aim → Row → Under → Type 0
+AllMade aim r u = (length u.writes ≤ u.made) × (u.aim ≡ aim)
 
 module _ (s : State) (f : Bool) (o res : ℕ) (k : IsKept s f o res) (sub : Sub) (w : SlotWrite) (h : IsUnderWay s sub (Next w)) where
   abbrev gw : Going s sub (Next w)
@@ -165,18 +168,31 @@ module _ (s : State) (f : Bool) (o res : ℕ) (k : IsKept s f o res) (sub : Sub)
   pub next_kept : (x : Record) (images : List (List ℕ)) (left : ℕ) → left + 546 ≡ res → IsKept (record s { rows = change_row sub.txn row_stepped s.rows; images = images; records = x ∷ s.records }) f (o - 1) left
   next_kept x images left e = kept_stepped s f o res k sub.txn gw.row gw.found gw.under x images left gw.is more e
 
-module _ (s : State) (f : Bool) (o res : ℕ) (k : IsKept s f o res) (sub : Sub) (d : Deed) (h : IsUnderWay s sub (AllMade d)) where
-  abbrev gd : Going s sub (AllMade d)
-  gd = going_of s sub (AllMade d) h
+module _ (s : State) (f : Bool) (o res : ℕ) (k : IsKept s f o res) (sub : Sub) (aim : Aim) (h : IsUnderWay s sub (AllMade aim)) where
+  abbrev gd : Going s sub (AllMade aim)
+  gd = going_of s sub (AllMade aim) h
 
-  pub end_room : 30 + length (spelled_deed d) ≤ res
-  end_room = let a = going_room s f o res k sub (AllMade d) h in let c : length (spelled_deed (deed_of gd.under.aim)) ≡ length (spelled_deed d) = ap (λ (x : Aim). length (spelled_deed (deed_of x))) gd.so.1 in omega (arith, a, c)
+  pub end_room : end_bytes aim ≤ res
+  end_room = let a = going_room s f o res k sub (AllMade aim) h in let c : end_bytes gd.under.aim ≡ end_bytes aim = ap end_bytes gd.so.1 in omega (arith, a, c)
+
+  pub end_fits : EndFits aim
+  end_fits = subst EndFits gd.so.1 (going_end s f o res k sub (AllMade aim) h)
+
+  pub end_sender : deed_sender (deed_of aim) < sender_count s.sizes
+  end_sender = subst (λ (x : Aim). deed_sender (deed_of x) < sender_count s.sizes) gd.so.1 (going_sender s f o res k sub (AllMade aim) h)
 
   all_made : gd.under.made ≡ length gd.under.writes
   all_made = let a = (under_at s f o res sub.txn gd.row gd.under k gd.found gd.is).made in let b = gd.so.0 in omega (arith, a, b)
 
-  pub end_kept : (x : Record) (end : Finished) (left : ℕ) → left + (30 + length (spelled_deed d)) ≡ res → IsKept (record s { rows = change_row sub.txn (row_finished end) s.rows; records = x ∷ s.records; waiting = without_taken d s.waiting }) f (o - 1) left
-  end_kept x end left e = kept_finished s f o res k sub.txn gd.row gd.found gd.under x end left d gd.is all_made (let c : length (spelled_deed (deed_of gd.under.aim)) ≡ length (spelled_deed d) = ap (λ (x : Aim). length (spelled_deed (deed_of x))) gd.so.1 in omega (arith, c, e))
+  same_end : (left : ℕ) → left + end_bytes aim ≡ res → left + end_bytes gd.under.aim ≡ res
+  same_end left e = let c : end_bytes gd.under.aim ≡ end_bytes aim = ap end_bytes gd.so.1 in omega (arith, c, e)
+
+  pub end_kept : (d : Deed) (x : Record) (end : Finished) (left : ℕ) → left + end_bytes aim ≡ res → 1 ≤ end.lsn → end.deed ≡ deed_of aim → IsKept (record s { rows = change_row sub.txn (row_finished end) s.rows; records = x ∷ s.records; waiting = without_taken d s.waiting }) f (o - 1) left
+  end_kept d x end left e low is = kept_finished s f o res k sub.txn gd.row gd.found gd.under x end left d gd.is all_made (same_end left e)
+      (record { lsn = low; sender = subst (λ (y : Deed). deed_sender y < sender_count s.sizes) (sym is) end_sender })
+
+  pub undo_kept : (d : Deed) (x : Record) (cells left : ℕ) → left + end_bytes aim ≡ res → IsKept (record s { rows = change_row sub.txn row_taken_back s.rows; records = x ∷ s.records; cells_in_use = cells; waiting = with_taken d s.waiting }) f (o - 1) left
+  undo_kept d x cells left e = kept_undone s f o res k sub.txn gd.row gd.found gd.under x cells left d gd.is all_made (same_end left e)
 
 -- one more write
 pub step_done : (s new : State) (sub : Sub) (w : SlotWrite) (lsn : ℕ) → s.failed ≡ false → IsUnderWay s sub (Next w) → IsMade s sub w new → lsn ≡ length s.records + 1 → IsSound s → Steps s (Step sub.txn sub.number) (Gave_lsn lsn) new
@@ -253,9 +269,9 @@ step_idle s sub why.TooManyTransactions h = absurd h
 step_idle s sub why.NotForced h = absurd h
 step_idle s sub why.LogFull h = absurd h
 
-pub finish_done : (s new : State) (sub : Sub) (d : Deed) → s.failed ≡ false → IsUnderWay s sub (AllMade d) → new ≡ record s { rows = change_row sub.txn (row_finished (record { lsn = length s.records + 1; deed = d })) s.rows; records = op_end sub.txn sub.number d ∷ s.records; waiting = without_taken d s.waiting } → IsSound s → Steps s (Finish sub.txn sub.number) (gave_done d) new
+pub finish_done : (s new : State) (sub : Sub) (d : Deed) → s.failed ≡ false → IsUnderWay s sub (AllMade (Doing d)) → new ≡ record s { rows = change_row sub.txn (row_finished (record { lsn = length s.records + 1; deed = d })) s.rows; records = op_end sub.txn sub.number d ∷ s.records; waiting = without_taken d s.waiting } → IsSound s → Steps s (Finish sub.txn sub.number) (gave_done d) new
 finish_done s new sub d running h e k =
-    let g = going_of s sub (AllMade d) h in
+    let g = going_of s sub (AllMade (Doing d)) h in
     let made = (going_at s k sub.txn g.row g.under g.found g.is).0 in
     let all = g.so.0 in
     let a = finish_steps s k sub.txn g.row g.under d (without_taken d s.waiting) g.found g.is g.so.1 (omega (arith, made, all)) (λ p. waits-without_taken d s.waiting p) running in

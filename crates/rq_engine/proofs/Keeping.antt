@@ -1,24 +1,23 @@
 -- What is so of the fields of every engine stays so.
-use Rattle.std.proofs.Common.{◌≡◌, ℕ, ◌+◌, ◌-◌, ◌*◌, ◌^◌, ◌<◌, ◌≤◌, List, [], ◌∷◌, length, refl, sym, ◌∙◌, ap, subst, Bool, false, Option, Some, None, inl, inr, arith}
+use Rattle.std.proofs.Common.{◌≡◌, ℕ, ◌+◌, ◌-◌, ◌*◌, ◌^◌, ◌<◌, ◌≤◌, List, [], ◌∷◌, ◌++◌, length, refl, sym, ◌∙◌, ap, subst, Bool, false, Option, Some, None, inl, inr, arith}
 use Rattle.std.specs.List.{sum_by}
 use Rattle.std.proofs.lemmas.List.{length-append}
 use Rattle.std.proofs.lemmas.List.Sums.{sum_by-cons}
 use Rattle.rq_model.specs.declared.txn.Txn.{Txn}
 use Rattle.rq_model.specs.declared.record.Record.{Record}
 use Rattle.rq_model.specs.declared.record.Deed.{Deed}
-use Rattle.rq_model.specs.Words.{In}
-use Rattle.rq_model.specs.Deeds.{spelled_deed}
+use Rattle.rq_model.specs.Words.{In, front}
 use Rattle.rq_page.specs.Sizes.{Sizes}
 use Rattle.rq_txn.specs.declared.Finished.{Finished}
-use Rattle.rq_txn.specs.Rows.{Row, Under, found_row, change_row, without_row, fresh_row, row_started, row_stepped, row_finished, under_stepped, deed_of}
+use Rattle.rq_txn.specs.Rows.{Row, Under, found_row, change_row, without_row, fresh_row, row_started, row_stepped, row_aborting, row_finished, row_taken_back, under_stepped}
 use Rattle.rq_groups.specs.Ends.{HeldEnds}
 use Rattle.rq_store.specs.State.{State, owed_by, owed_one, owed_under}
 use Rattle.rq_store.proofs.RowLists.{found_in, changed, distinct_change, distinct_gone, gone}
 use Rattle.rq_store.proofs.Others.{rows_one, rows_sum}
 use Rattle.rq_store.proofs.Committing.{rows_without}
-use Rattle.rq_engine.specs.Kept.{IsKept, IsRowKept, IsUnderKept, UnderKept, room_one, room_of, total_of, done_one}
-use Rattle.rq_engine.specs.Moves.{with_sends, without_taken}
-use Rattle.rq_engine.proofs.Waits.{length-with_sends, length-without_taken, few_sends, few_taken}
+use Rattle.rq_engine.specs.Kept.{IsDoneKept, IsKept, IsRowKept, IsUnderKept, UnderKept, end_bytes, room_one, room_of, total_of, done_one}
+use Rattle.rq_engine.specs.Moves.{with_sends, with_taken, without_taken}
+use Rattle.rq_engine.proofs.Waits.{length-with_sends, length-with_taken, length-without_taken, few_sends, few_taken, more_taken}
 use Rattle.rq_groups.specs.Waiting.{waits}
 
 -- of rows that are kept, the one that is found
@@ -41,7 +40,7 @@ new_number s f o res k = at (found_row (record { incarnation = s.incarnation; co
       absurd (omega (arith, c, v))
 
 row_more : (z : Sizes) (i b c m n : ℕ) (r : Row) → b ≤ c → m ≤ n → IsRowKept z i b m r → IsRowKept z i c n r
-row_more z i b c m n r le more h = record { mine = h.mine; low = h.low; high = omega (arith, le, h.high); number = omega (arith, more, h.number); under = h.under }
+row_more z i b c m n r le more h = record { mine = h.mine; low = h.low; high = omega (arith, le, h.high); number = omega (arith, more, h.number); done = h.done; under = h.under }
 
 pub kept_begun : (s : State) (f : Bool) (o res : ℕ) → IsKept s f o res → IsKept (record s { rows = fresh_row (record { incarnation = s.incarnation; count = s.begins + 1 }) ∷ s.rows; begins = s.begins + 1 }) f o res
 kept_begun s f o res k =
@@ -56,12 +55,30 @@ kept_begun s f o res k =
       count = omega (arith, a, k.count);
       distinct = (new_number s f o res k, k.distinct);
       rows = λ r i. elim i [
-        | inl e ↦ subst (λ (q : Row). IsRowKept s.sizes s.incarnation (s.begins + 1) (length s.records + owed_by (fresh_row t ∷ s.rows)) q) (sym e) (record { mine = refl; low = omega arith; high = omega arith; number = omega arith; under = tt })
+        | inl e ↦ subst (λ (q : Row). IsRowKept s.sizes s.incarnation (s.begins + 1) (length s.records + owed_by (fresh_row t ∷ s.rows)) q) (sym e) (record { mine = refl; low = omega arith; high = omega arith; number = omega arith; done = λ f i. absurd i; under = tt })
         | inr j ↦ row_more s.sizes s.incarnation s.begins (s.begins + 1) (total_of s) (length s.records + owed_by (fresh_row t ∷ s.rows)) r (omega arith) (omega (arith, a)) (k.rows r j)
       ];
       senders = k.senders;
       few = λ g. (let c = sum_by-cons done_one (fresh_row t) s.rows in let d = k.few g in omega (arith, c, d));
     }
+
+-- one more is done, or the newest is undone
+done_more : (z : Sizes) (fs : List Finished) (f : Finished) → ((x : Finished) → In x fs → IsDoneKept z x) → IsDoneKept z f → (x : Finished) → In x (fs ++ f ∷ []) → IsDoneKept z x
+done_more z [] f h own x (inl e) = subst (IsDoneKept z) (sym e) own
+done_more z [] f h own x (inr i) = absurd i
+done_more z (y ∷ fs) f h own x (inl e) = h x (inl e)
+done_more z (y ∷ fs) f h own x (inr i) = done_more z fs f (λ q j. h q (inr j)) own x i
+
+in_front : (fs : List Finished) (x : Finished) → In x (front fs) → In x fs
+in_front [] x i = absurd i
+in_front (f ∷ []) x i = absurd i
+in_front (f ∷ g ∷ fs) x (inl e) = inl e
+in_front (f ∷ g ∷ fs) x (inr i) = inr (in_front (g ∷ fs) x i)
+
+pub length-front : (fs : List Finished) → length (front fs) ≤ length fs - 1
+length-front [] = omega arith
+length-front (f ∷ []) = omega arith
+length-front (f ∷ g ∷ fs) = let h = length-front (g ∷ fs) in omega (arith, h)
 
 module _ (s : State) (f : Bool) (o res : ℕ) (k : IsKept s f o res) (t : Txn) (r : Row) (at_row : found_row t s.rows ≡ Some r) where
   -- a change of one row
@@ -73,14 +90,14 @@ module _ (s : State) (f : Bool) (o res : ℕ) (k : IsKept s f o res) (t : Txn) (
   ]
 
   pub kept_started : (u : Under) (ends : HeldEnds) (cells : ℕ) → r.under ≡ None → IsUnderKept s.sizes u → u.number ≡ r.number + 1 → u.made ≡ 0 → total_of s + (length u.writes + 1) ≤ 2 ^ 50
-      → IsKept (record s { rows = change_row t (row_started u) s.rows; ends = ends; cells_in_use = cells }) f (o + (length u.writes + 1)) (res + (546 * length u.writes + (30 + length (spelled_deed (deed_of u.aim)))))
+      → IsKept (record s { rows = change_row t (row_started u) s.rows; ends = ends; cells_in_use = cells }) f (o + (length u.writes + 1)) (res + (546 * length u.writes + end_bytes u.aim))
   kept_started u ends cells none h number made fits =
       let a = rows_one owed_one t (row_started u) s.rows r k.distinct at_row in
       let b = rows_one room_one t (row_started u) s.rows r k.distinct at_row in
       let c : owed_one r ≡ 0 = ap owed_under none in
       let d : room_one r ≡ 0 = ap room_of none in
       let e : owed_one (row_started u r) ≡ length u.writes + 1 = (let m = made in omega arith) in
-      let v : room_one (row_started u r) ≡ 546 * length u.writes + (30 + length (spelled_deed (deed_of u.aim))) = ap (λ (m : ℕ). 546 * (length u.writes - m) + (30 + length (spelled_deed (deed_of u.aim)))) made ∙ omega arith in
+      let v : room_one (row_started u r) ≡ 546 * length u.writes + end_bytes u.aim = ap (λ (m : ℕ). 546 * (length u.writes - m) + end_bytes u.aim) made ∙ omega arith in
       let row = kept_at s f o res t r k at_row in
       let total : owed_by (change_row t (row_started u) s.rows) ≡ owed_by s.rows + (length u.writes + 1) = omega (arith, a, c, e) in
       record {
@@ -90,7 +107,7 @@ module _ (s : State) (f : Bool) (o res : ℕ) (k : IsKept s f o res) (t : Txn) (
         room = (let w = k.room in omega (arith, b, d, v, w));
         count = omega (arith, total, fits);
         distinct = distinct_change t (row_started u) s.rows (λ q. refl) k.distinct;
-        rows = changed_rows (row_started u) (length s.records + owed_by (change_row t (row_started u) s.rows)) (λ q. refl) (omega (arith, total)) (record { mine = row.mine; low = row.low; high = row.high; number = (let n = row.number in omega (arith, n, number, total)); under = h });
+        rows = changed_rows (row_started u) (length s.records + owed_by (change_row t (row_started u) s.rows)) (λ q. refl) (omega (arith, total)) (record { mine = row.mine; low = row.low; high = row.high; number = (let n = row.number in omega (arith, n, number, total)); done = row.done; under = h });
         senders = k.senders;
         few = λ g. (let c = rows_sum done_one t (row_started u) s.rows (λ q i e. refl) in let d = k.few g in omega (arith, c, d));
       }
@@ -101,9 +118,9 @@ module _ (s : State) (f : Bool) (o res : ℕ) (k : IsKept s f o res) (t : Txn) (
       let a = rows_one owed_one t row_stepped s.rows r k.distinct at_row in
       let b = rows_one room_one t row_stepped s.rows r k.distinct at_row in
       let c : owed_one r ≡ length u.writes - u.made + 1 = ap owed_under under in
-      let d : room_one r ≡ 546 * (length u.writes - u.made) + (30 + length (spelled_deed (deed_of u.aim))) = ap room_of under in
+      let d : room_one r ≡ 546 * (length u.writes - u.made) + end_bytes u.aim = ap room_of under in
       let e : owed_one (row_stepped r) ≡ length u.writes - (u.made + 1) + 1 = ap (λ (y : Option Under). owed_under (under_stepped y)) under in
-      let v : room_one (row_stepped r) ≡ 546 * (length u.writes - (u.made + 1)) + (30 + length (spelled_deed (deed_of u.aim))) = ap (λ (y : Option Under). room_of (under_stepped y)) under in
+      let v : room_one (row_stepped r) ≡ 546 * (length u.writes - (u.made + 1)) + end_bytes u.aim = ap (λ (y : Option Under). room_of (under_stepped y)) under in
       let row = kept_at s f o res t r k at_row in
       let h = under_at s f o res t r u k at_row under in
       let total : owed_by (change_row t row_stepped s.rows) + 1 ≡ owed_by s.rows = omega (arith, a, c, e, more) in
@@ -115,18 +132,18 @@ module _ (s : State) (f : Bool) (o res : ℕ) (k : IsKept s f o res) (t : Txn) (
         room = (let w = k.room in omega (arith, b, d, v, w, fits, more));
         count = (let w = k.count in omega (arith, same, w));
         distinct = distinct_change t row_stepped s.rows (λ q. refl) k.distinct;
-        rows = changed_rows row_stepped (length (x ∷ s.records) + owed_by (change_row t row_stepped s.rows)) (λ q. refl) (omega (arith, same)) (record { mine = row.mine; low = row.low; high = row.high; number = (let n = row.number in omega (arith, n, same)); under = subst (λ (y : Option Under). UnderKept s.sizes (under_stepped y)) (sym under) (record { number = h.number; doing = h.doing; made = omega (arith, more); slots = h.slots; deed_low = h.deed_low; deed_high = h.deed_high }) });
+        rows = changed_rows row_stepped (length (x ∷ s.records) + owed_by (change_row t row_stepped s.rows)) (λ q. refl) (omega (arith, same)) (record { mine = row.mine; low = row.low; high = row.high; number = (let n = row.number in omega (arith, n, same)); done = row.done; under = subst (λ (y : Option Under). UnderKept s.sizes (under_stepped y)) (sym under) (record { number = h.number; made = omega (arith, more); slots = h.slots; sender = h.sender; fits = h.fits }) });
         senders = k.senders;
         few = λ g. (let c = rows_sum done_one t row_stepped s.rows (λ q i e. refl) in let d = k.few g in omega (arith, c, d));
       }
 
-  pub kept_finished : (u : Under) (x : Record) (end : Finished) (left : ℕ) (d : Deed) → r.under ≡ Some u → u.made ≡ length u.writes → left + (30 + length (spelled_deed (deed_of u.aim))) ≡ res
+  pub kept_finished : (u : Under) (x : Record) (end : Finished) (left : ℕ) (d : Deed) → r.under ≡ Some u → u.made ≡ length u.writes → left + end_bytes u.aim ≡ res → IsDoneKept s.sizes end
       → IsKept (record s { rows = change_row t (row_finished end) s.rows; records = x ∷ s.records; waiting = without_taken d s.waiting }) f (o - 1) left
-  kept_finished u x end left d0 under made fits =
+  kept_finished u x end left d0 under made fits own =
       let a = rows_one owed_one t (row_finished end) s.rows r k.distinct at_row in
       let b = rows_one room_one t (row_finished end) s.rows r k.distinct at_row in
       let c : owed_one r ≡ length u.writes - u.made + 1 = ap owed_under under in
-      let d : room_one r ≡ 546 * (length u.writes - u.made) + (30 + length (spelled_deed (deed_of u.aim))) = ap room_of under in
+      let d : room_one r ≡ 546 * (length u.writes - u.made) + end_bytes u.aim = ap room_of under in
       let e : owed_one (row_finished end r) ≡ 0 = refl in
       let v : room_one (row_finished end r) ≡ 0 = refl in
       let row = kept_at s f o res t r k at_row in
@@ -139,7 +156,7 @@ module _ (s : State) (f : Bool) (o res : ℕ) (k : IsKept s f o res) (t : Txn) (
         room = (let w = k.room in omega (arith, b, d, v, w, fits, made));
         count = (let w = k.count in omega (arith, same, w));
         distinct = distinct_change t (row_finished end) s.rows (λ q. refl) k.distinct;
-        rows = changed_rows (row_finished end) (length (x ∷ s.records) + owed_by (change_row t (row_finished end) s.rows)) (λ q. refl) (omega (arith, same)) (record { mine = row.mine; low = row.low; high = row.high; number = (let n = row.number in omega (arith, n, same)); under = tt });
+        rows = changed_rows (row_finished end) (length (x ∷ s.records) + owed_by (change_row t (row_finished end) s.rows)) (λ q. refl) (omega (arith, same)) (record { mine = row.mine; low = row.low; high = row.high; number = (let n = row.number in omega (arith, n, same)); done = done_more s.sizes r.finished end row.done own; under = tt });
         senders = length-without_taken d0 s.waiting ∙ k.senders;
         few = λ g.
             (let p = rows_one done_one t (row_finished end) s.rows r k.distinct at_row in
@@ -147,6 +164,74 @@ module _ (s : State) (f : Bool) (o res : ℕ) (k : IsKept s f o res) (t : Txn) (
             let m = k.few g in
             let n = few_taken d0 s.waiting g in
             omega (arith, p, q, m, n));
+      }
+
+  -- an inverse ends
+  pub kept_undone : (u : Under) (x : Record) (cells left : ℕ) (d : Deed) → r.under ≡ Some u → u.made ≡ length u.writes → left + end_bytes u.aim ≡ res
+      → IsKept (record s { rows = change_row t row_taken_back s.rows; records = x ∷ s.records; cells_in_use = cells; waiting = with_taken d s.waiting }) f (o - 1) left
+  kept_undone u x cells left d0 under made fits =
+      let a = rows_one owed_one t row_taken_back s.rows r k.distinct at_row in
+      let b = rows_one room_one t row_taken_back s.rows r k.distinct at_row in
+      let c : owed_one r ≡ length u.writes - u.made + 1 = ap owed_under under in
+      let d : room_one r ≡ 546 * (length u.writes - u.made) + end_bytes u.aim = ap room_of under in
+      let e : owed_one (row_taken_back r) ≡ 0 = refl in
+      let v : room_one (row_taken_back r) ≡ 0 = refl in
+      let row = kept_at s f o res t r k at_row in
+      let total : owed_by (change_row t row_taken_back s.rows) + 1 ≡ owed_by s.rows = omega (arith, a, c, e, made) in
+      let same : length (x ∷ s.records) + owed_by (change_row t row_taken_back s.rows) ≡ total_of s = omega (arith, total) in
+      record {
+        incarnation = k.incarnation;
+        fails = k.fails;
+        owes = (let w = k.owes in omega (arith, total, w));
+        room = (let w = k.room in omega (arith, b, d, v, w, fits, made));
+        count = (let w = k.count in omega (arith, same, w));
+        distinct = distinct_change t row_taken_back s.rows (λ q. refl) k.distinct;
+        rows = changed_rows row_taken_back (length (x ∷ s.records) + owed_by (change_row t row_taken_back s.rows)) (λ q. refl) (omega (arith, same)) (record { mine = row.mine; low = row.low; high = row.high; number = (let n = row.number in omega (arith, n, same)); done = λ y i. row.done y (in_front r.finished y i); under = tt });
+        senders = length-with_taken d0 s.waiting ∙ k.senders;
+        few = λ g.
+            (let p = rows_one done_one t row_taken_back s.rows r k.distinct at_row in
+            let q : done_one (row_taken_back r) ≤ done_one r = (let h = length-front r.finished in omega (arith, h)) in
+            let m = k.few g in
+            let n = more_taken d0 s.waiting g in
+            omega (arith, p, q, m, n));
+      }
+
+  -- a transaction is turned to abort
+  pub kept_aborting : IsKept (record s { rows = change_row t row_aborting s.rows }) f o res
+  kept_aborting =
+      let a = rows_sum owed_one t row_aborting s.rows (λ q i e. refl) in
+      let b = rows_sum room_one t row_aborting s.rows (λ q i e. refl) in
+      let row = kept_at s f o res t r k at_row in
+      record {
+        incarnation = k.incarnation;
+        fails = k.fails;
+        owes = (let w = k.owes in omega (arith, a, w));
+        room = (let w = k.room in omega (arith, b, w));
+        count = (let w = k.count in omega (arith, a, w));
+        distinct = distinct_change t row_aborting s.rows (λ q. refl) k.distinct;
+        rows = changed_rows row_aborting (length s.records + owed_by (change_row t row_aborting s.rows)) (λ q. refl) (omega (arith, a)) (record { mine = row.mine; low = row.low; high = row.high; number = (let n = row.number in omega (arith, n, a)); done = row.done; under = row.under });
+        senders = k.senders;
+        few = λ g. (let c = rows_sum done_one t row_aborting s.rows (λ q i e. refl) in let d = k.few g in omega (arith, c, d));
+      }
+
+  -- an abort ends
+  pub kept_aborted : (x : Record) (ends : HeldEnds) → r.under ≡ None → total_of s + 1 ≤ 2 ^ 50
+      → IsKept (record s { rows = without_row t s.rows; ends = ends; records = x ∷ s.records }) f o res
+  kept_aborted x ends none fits =
+      let a = rows_without owed_one t s.rows r k.distinct at_row in
+      let b = rows_without room_one t s.rows r k.distinct at_row in
+      let c : owed_one r ≡ 0 = ap owed_under none in
+      let d : room_one r ≡ 0 = ap room_of none in
+      record {
+        incarnation = k.incarnation;
+        fails = k.fails;
+        owes = (let w = k.owes in omega (arith, a, c, w));
+        room = (let w = k.room in omega (arith, b, d, w));
+        count = omega (arith, a, c, fits);
+        distinct = distinct_gone t s.rows k.distinct;
+        rows = λ q i. row_more s.sizes s.incarnation s.begins s.begins (total_of s) (length (x ∷ s.records) + owed_by (without_row t s.rows)) q (omega arith) (omega (arith, a, c)) (k.rows q (gone t s.rows q i).0);
+        senders = k.senders;
+        few = λ g. (let p = rows_without done_one t s.rows r k.distinct at_row in let m = k.few g in omega (arith, p, m));
       }
 
   pub kept_committed : (x : Record) (ends : HeldEnds) (cells : ℕ) → r.under ≡ None → total_of s + 1 ≤ 2 ^ 50

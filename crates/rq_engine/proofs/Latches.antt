@@ -9,7 +9,9 @@ use Rattle.rq_model.specs.declared.refusal.Refusal.TheVariants as why
 use Rattle.rq_model.specs.declared.txn.Sub.{Sub}
 use Rattle.rq_model.specs.declared.txn.Txn.{Txn}
 use Rattle.rq_model.specs.History.{Call}
-use Rattle.rq_model.specs.History.Call.{Start_close, Start_send, Start_receive, Start_receive_from}
+use Rattle.rq_model.specs.Legal.{OnFound}
+use Rattle.rq_model.specs.Words.{last}
+use Rattle.rq_model.specs.History.Call.{Start_close, Start_send, Start_receive, Start_receive_from, Undo_next}
 use Rattle.rq_model.specs.History.Job.{Sending, Taking, Ending}
 use Rattle.rq_model.specs.Reference.{without_pages}
 use Rattle.rq_page.specs.declared.cell.Cell.{Cell}
@@ -25,21 +27,24 @@ use Rattle.rq_page.specs.Sizes.{Sizes}
 use Rattle.rq_views.specs.Log.{Write}
 use Rattle.rq_level.specs.Writes.{write_of, writes_of}
 use Rattle.rq_chain.specs.Neighbours.{cell_beside}
-use Rattle.rq_txn.specs.Rows.{Row, Under, any_under, latched_in}
+use Rattle.rq_txn.specs.declared.Finished.{Finished}
+use Rattle.rq_txn.specs.Rows.{Row, Under, any_under, found_row, latched_in}
 use Rattle.rq_store.specs.Plans.{Stands_at, WaitsFor}
 use Rattle.rq_store.specs.State.{State, job_of}
 use Rattle.rq_sound.specs.Groups.{slots_now}
-use Rattle.rq_sound.specs.Latching.{AllFreeLatched, Begins, IsLatched, NeedsLatched, any_latched, at_head, at_tail, behind_head, head_in, named, needed, next_in, tail_in}
+use Rattle.rq_sound.specs.Latching.{AllFreeLatched, Begins, IsLatched, NeedsLatched, any_latched, at_head, at_tail, before_tail, behind_head, head_in, named, needed, next_in, tail_in}
 use Rattle.rq_sound.specs.Plans.{AreOff, AreUnlatched}
 use Rattle.rq_sound.specs.Sound.{IsSound}
 use Rattle.rq_sound.proofs.Contracts.{planned}
-use Rattle.rq_sound.proofs.Groups.{none_latched}
+use Rattle.rq_sound.proofs.Groups.{all_stand, none_latched}
+use Rattle.rq_sound.proofs.UsedCells.{some_free}
 use Rattle.rq_sound.proofs.Latching.{latched_exact}
 use Rattle.rq_sound.proofs.LatchLists.{any_join, off_named}
 use Rattle.rq_sound.proofs.Levels.{are_off, relinked_off}
 use Rattle.rq_engine.specs.Applied.{LatchedReply, OnLatched, StartsUnlatched, TakesUnlatched}
+use Rattle.rq_engine.specs.Aborts.{MayBeUndone, UndoIsLatched}
 use Rattle.rq_engine.specs.Closes.{close_latched}
-use Rattle.rq_engine.specs.Says.{begun_reply}
+use Rattle.rq_engine.specs.Says.{begun_reply, undo_reply}
 use Rattle.rq_engine.specs.Sends.{AreSendSlots, SendIsLatched, take_latched}
 use Rattle.rq_engine.specs.declared.cells.SendSlots.{SendSlots}
 
@@ -68,9 +73,21 @@ any_busy rows (a ∷ xs) h = elim (cases_Bool (latched_in rows (a / 16))) [
   | inr n ↦ any_busy rows xs (ap (λ b. b || any_latched rows xs) (sym n) ∙ h)
 ]
 
+-- one of these slots, or of those, is on a latched page
+pub any_left : (rows : List Row) (xs ys : List ℕ) → any_latched rows xs ≡ true → any_latched rows (xs ++ ys) ≡ true
+any_left rows [] ys h = absurd (false≢true h)
+any_left rows (x ∷ xs) ys h = elim (cases_Bool (latched_in rows (x / 16))) [
+  | inl y ↦ or_left (latched_in rows (x / 16)) (any_latched rows (xs ++ ys)) y
+  | inr n ↦ or_right (latched_in rows (x / 16)) (any_latched rows (xs ++ ys)) (any_left rows xs ys (ap (λ b. b || any_latched rows xs) (sym n) ∙ h))
+]
+
+pub any_right : (rows : List Row) (xs ys : List ℕ) → any_latched rows ys ≡ true → any_latched rows (xs ++ ys) ≡ true
+any_right rows [] ys h = h
+any_right rows (x ∷ xs) ys h = or_right (latched_in rows (x / 16)) (any_latched rows (xs ++ ys)) (any_right rows xs ys h)
+
 -- ---- a cell beside
 
-beside_off : (s : State) (a : ℕ) (o : Option Cell) → Stands_at (slots_now s) a o → any_latched s.rows (named a) ≡ false → (c : Cell) → o ≡ Some c → latched_in s.rows (a / 16) ≡ false
+pub beside_off : (s : State) (a : ℕ) (o : Option Cell) → Stands_at (slots_now s) a o → any_latched s.rows (named a) ≡ false → (c : Cell) → o ≡ Some c → latched_in s.rows (a / 16) ≡ false
 beside_off s a None there off c is = cc
 beside_off s a (Some x) there off c is = off_named s.rows a off (elim (cases_eq a 0) [
   | inl e ↦ absurd (let bad : Free ≡ Used x = sym (ap (slots_now s) e) ∙ there in cc)
@@ -112,21 +129,10 @@ module _ (s : State) (g : ℕ) (d : Directory) (at : slots_now s (directory_at g
   pub take_head : any_latched s.rows (named d.head) ≡ true → take_latched s g ≡ true
   take_head h = any_left s.rows (at_head (slots_now s) g) (named (next_in (slots_now s (head_in (slots_now s (directory_at g))))))
       (or_right (latched_in s.rows (directory_at g / 16)) _ (ap (λ x. any_latched s.rows (named (head_in x))) at ∙ h))
-    where
-      any_left : (rows : List Row) (xs ys : List ℕ) → any_latched rows xs ≡ true → any_latched rows (xs ++ ys) ≡ true
-      any_left rows [] ys h = absurd (false≢true h)
-      any_left rows (x ∷ xs) ys h = elim (cases_Bool (latched_in rows (x / 16))) [
-        | inl y ↦ or_left (latched_in rows (x / 16)) (any_latched rows (xs ++ ys)) y
-        | inr n ↦ or_right (latched_in rows (x / 16)) (any_latched rows (xs ++ ys)) (any_left rows xs ys (ap (λ b. b || any_latched rows xs) (sym n) ∙ h))
-      ]
 
   pub take_next : (c : Cell) → slots_now s d.head ≡ Used c → any_latched s.rows (named c.next) ≡ true → take_latched s g ≡ true
   take_next c here h = any_right s.rows (at_head (slots_now s) g) (named (next_in (slots_now s (head_in (slots_now s (directory_at g))))))
       (ap (λ x. any_latched s.rows (named (next_in (slots_now s (head_in x))))) at ∙ ap (λ x. any_latched s.rows (named (next_in x))) here ∙ h)
-    where
-      any_right : (rows : List Row) (xs ys : List ℕ) → any_latched rows ys ≡ true → any_latched rows (xs ++ ys) ≡ true
-      any_right rows [] ys h = h
-      any_right rows (x ∷ xs) ys h = or_right (latched_in rows (x / 16)) (any_latched rows (xs ++ ys)) (any_right rows xs ys h)
 
 -- what is planned from such slots is on nobody's pages, and needs none
 module _ (s : State) (g : ℕ) (d : Directory) (c : Cell) (next : Option Cell) (directory : latched_in s.rows (directory_at g / 16) ≡ false)
@@ -241,6 +247,70 @@ module _ (s : State) (k : IsSound s) where
     | inr x ↦ false≢true x.0
   ]
 
+  -- an inverse
+  undo_needs : (d : Deed) → UndoIsLatched s d → NeedsLatched s (Undid d)
+  undo_needs (Append g n tag previous body) h = inl (sym (latched_exact.as_read s (Undid (Append g n tag previous body)) k) ∙ h)
+  undo_needs (UnlinkHead g n tag body) h = elim h [
+    | inl y ↦ inl (sym (latched_exact.as_read s (Undid (UnlinkHead g n tag body)) k) ∙ y)
+    | inr all ↦ inr (refl, all)
+  ]
+  undo_needs (Close g) h = inl (sym (latched_exact.as_read s (Undid (Close g)) k) ∙ or_left (latched_in s.rows (directory_at g / 16)) false h)
+
+  undo_needs_none : (d : Deed) → NeedsLatched s (Undid d) → (UndoIsLatched s d → ⊥) → ⊥
+  undo_needs_none (Append g n tag previous body) h free = elim h [
+    | inl y ↦ free (latched_exact.as_read s (Undid (Append g n tag previous body)) k ∙ y)
+    | inr x ↦ false≢true x.0
+  ]
+  undo_needs_none (UnlinkHead g n tag body) h free = elim h [
+    | inl y ↦ free (inl (latched_exact.as_read s (Undid (UnlinkHead g n tag body)) k ∙ y))
+    | inr x ↦ free (inr x.1)
+  ]
+  undo_needs_none (Close g) h free = elim h [
+    | inl y ↦ free (sym (or_false (latched_in s.rows (directory_at g / 16))) ∙ latched_exact.as_read s (Undid (Close g)) k ∙ y)
+    | inr x ↦ false≢true x.0
+  ]
+    where
+      or_false : (b : Bool) → (b || false) ≡ b
+      or_false true = refl
+      or_false false = refl
+
+  module _ (t : Txn) (f : Finished) (newest : OnFound (found_row t s.rows) (λ r. last r.finished ≡ Some f)) where
+    begins_it : Begins s (Undo_next t) (Undid f.deed)
+    begins_it = found (found_row t s.rows) newest where
+      at : (o : Option Finished) → o ≡ Some f → OnFound o (λ y. y.deed ≡ f.deed)
+      at o e = subst (λ (x : Option Finished). OnFound x (λ y. y.deed ≡ f.deed)) (sym e) refl
+
+      found : (o : Option Row) → OnFound o (λ r. last r.finished ≡ Some f) → OnFound o (λ r. OnFound (last r.finished) (λ y. y.deed ≡ f.deed))
+      found None h = absurd h
+      found (Some r) h = at (last r.finished) h
+
+    begins_no_other : (d : Deed) → Begins s (Undo_next t) (Undid d) → f.deed ≡ d
+    begins_no_other d b = found (found_row t s.rows) newest b where
+      at : (o : Option Finished) → o ≡ Some f → OnFound o (λ y. y.deed ≡ d) → f.deed ≡ d
+      at o e h = subst (λ (x : Option Finished). OnFound x (λ y. y.deed ≡ d)) e h
+
+      found : (o : Option Row) → OnFound o (λ r. last r.finished ≡ Some f) → OnFound o (λ r. OnFound (last r.finished) (λ y. y.deed ≡ d)) → f.deed ≡ d
+      found None h b = absurd h
+      found (Some r) h b = at (last r.finished) h b
+
+    pub undo_latched : UndoIsLatched s f.deed → IsLatched s (Undo_next t)
+    undo_latched h = record { some = (Undid f.deed, begins_it); each = λ turn b. at turn b } where
+      at : (turn : Turn) → Begins s (Undo_next t) turn → NeedsLatched s turn
+      at (Did d) b = absurd b
+      at (Undid d) b = subst (λ (x : Deed). NeedsLatched s (Undid x)) (begins_no_other d b) (undo_needs f.deed h)
+
+    pub undo_unlatched : (UndoIsLatched s f.deed → ⊥) → IsLatched s (Undo_next t) → ⊥
+    undo_unlatched free h = undo_needs_none f.deed (h.each (Undid f.deed) begins_it) free
+
+  -- so some operation is under way
+  pub undo_busy : (d : Deed) → MayBeUndone s d → UndoIsLatched s d → any_under s.rows ≡ true
+  undo_busy (Append g n tag previous body) may h = any_busy s.rows (before_tail (slots_now s) g) h
+  undo_busy (UnlinkHead g n tag body) may h = elim h [
+    | inl y ↦ any_busy s.rows (at_head (slots_now s) g) y
+    | inr all ↦ let f = some_free s.sizes (slots_now s) (all_stand s k) may.1 in latched_busy s.rows (f.0 / 16) (all f.0 f.1 f.2)
+  ]
+  undo_busy (Close g) may h = latched_busy s.rows (directory_at g / 16) h
+
 -- a plan whose writes are one write has one
 pub one_write : (z : Sizes) (us : List SlotWrite) (w : Write) → reverse (writes_of z us) ≡ w ∷ [] → length us ≡ 1
 one_write z us w is =
@@ -254,6 +324,11 @@ pub mark_off : (s : State) (g : ℕ) (d new : Directory) → latched_in s.rows (
 mark_off s g d new off ws is = are_off s ws _ is (off, tt)
 
 -- what the starts say is what their replies say
+pub undo_reply_latched : (s : State) (c : Call) (x : Result (Option Sub) Refusal) → TakesUnlatched s c x → LatchedReply s c (undo_reply x)
+undo_reply_latched s c (Ok None) h = tt
+undo_reply_latched s c (Ok (Some sub)) h = h
+undo_reply_latched s c (Err r) h = h
+
 pub begun_latched : (s : State) (c : Call) (x : Result (Option Sub) Refusal) → TakesUnlatched s c x → LatchedReply s c (begun_reply x)
 begun_latched s c (Ok None) h = tt
 begun_latched s c (Ok (Some sub)) h = h

@@ -9,7 +9,7 @@ use Rattle.rq_engine.specs.declared.event.Reply.{Reply}
 use Rattle.rq_engine.specs.declared.event.Reply.TheVariants as reply
 use Rattle.rq_engine.specs.Opened.{OpenStore, NotWritten}
 use Rattle.rq_engine.specs.Applied.{RefusalLeaves}
-use Rattle.rq_engine.specs.Says.{begun_reply, call_of}
+use Rattle.rq_engine.specs.Says.{begun_reply, call_of, undo_reply}
 use Rattle.rq_model.specs.Causes.{writes_out}
 
 module _ {P L : Type 0} (old new : OpenStore P L) (e : Event) where
@@ -22,6 +22,11 @@ module _ {P L : Type 0} (old new : OpenStore P L) (e : Event) where
   begun_leaves (Ok (Some sub)) y w same is = rw is tt
   begun_leaves (Ok None) y w same is = rw is tt
   begun_leaves (Err r) y w same is = rw is (plain_leaves r w same)
+
+  pub undo_leaves : (x : Result (Option Sub) Refusal) (y : Reply) → writes_out (call_of e) ≡ false → OnErr x (new ≡ old) → y ≡ undo_reply x → RefusalLeaves old e y new
+  undo_leaves (Ok (Some sub)) y w same is = rw is tt
+  undo_leaves (Ok None) y w same is = rw is tt
+  undo_leaves (Err r) y w same is = rw is (plain_leaves r w same)
 
   -- one that does stops the store where its device fails
   pub handed_leaves : (g : log_device.Ghosts L) (r : Refusal) → writes_out (call_of e) ≡ true → NotWritten g old new r → new.state ≡ record old.state { failed = true } → new.changed ≡ old.changed → RefusalLeaves old e (reply.Refused r) new

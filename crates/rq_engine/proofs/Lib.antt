@@ -5,10 +5,12 @@ pub mod Keeping
 pub mod Refusals
 pub mod Standing
 pub mod Latches
+pub mod Inverses
 pub mod Calls
 pub mod SendCalls
 pub mod TakeCalls
 pub mod CloseCalls
+pub mod AbortCalls
 pub mod Crashing
 pub mod Leaving
 pub mod Listing

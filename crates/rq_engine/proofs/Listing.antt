@@ -17,9 +17,10 @@ use Rattle.rq_sound.specs.Sound.{IsSound}
 use Rattle.rq_sound.specs.Steps.{Steps}
 use Rattle.rq_engine.specs.Answers.{AnswersLegally, HasNothingUnderWay}
 use Rattle.rq_engine.specs.Opened.{AreHonest, OpenStore}
+use Rattle.rq_engine.specs.Aborts.{UndoSays}
 use Rattle.rq_engine.specs.Receives.{started_of}
 use Rattle.rq_engine.specs.Moves.{with_sends}
-use Rattle.rq_engine.specs.Says.{begun_reply, call_of, gave}
+use Rattle.rq_engine.specs.Says.{begun_reply, call_of, gave, undo_reply}
 use Rattle.rq_engine.specs.Lists.{IsBegun, IsCommitted, TakeSays, TakeFromSays, ListsSay, done_by}
 use Rattle.rq_engine.specs.declared.event.CommitNo.{CommitNo}
 use Rattle.rq_engine.specs.declared.event.Event.{Event}
@@ -57,6 +58,12 @@ take_from_lists old t s (Ok (Some sub)) y e new is says reply = rw (is, reply) s
 take_from_lists old t s (Ok None) y e new is says reply = rw (is, reply) says
 take_from_lists old t s (Err r) y e new is says reply = rw (is, reply) tt
 
+-- the start of an inverse
+pub undo_lists : (old : State) (t : Txn) (x : Result (Option Sub) Refusal) (y : Reply) (e : Event) (new : State) → e ≡ event.UndoNext t → IfOk x (λ b. UndoSays old t b new) → y ≡ undo_reply x → ListsSay old e y new
+undo_lists old t (Ok (Some sub)) y e new is says reply = rw (is, reply) says
+undo_lists old t (Ok None) y e new is says reply = rw (is, reply) says
+undo_lists old t (Err r) y e new is says reply = rw (is, reply) tt
+
 -- a call that leaves the log's device alone leaves what it left
 pub log_left : {L : Type 0} (g : log_device.Ghosts L) (old new : L) (P : List ℕ → Type 0) → new ≡ old → ((d : L) (c : List ℕ) → g.left_since d (g.moment d) c → g.may_leave d c)
     → (g.honest old → (c : List ℕ) → g.may_leave old c → P c) → g.honest new → LeavesOnly g old new P
@@ -70,3 +77,10 @@ pub begun_answered : {P L : Type 0} (p : page_device.Ghosts P) (l : log_device.G
 begun_answered p l old call (Ok (Some sub)) y e new is says reply h k = rw (is, reply) (says h k)
 begun_answered p l old call (Ok None) y e new is says reply h k = rw (is, reply) (says h k)
 begun_answered p l old call (Err r) y e new is says reply h k = rw (is, reply) (says h k).0
+
+-- so is that to the start of an inverse
+pub undo_answered : {P L : Type 0} (p : page_device.Ghosts P) (l : log_device.Ghosts L) (old : OpenStore P L) (call : Call) (x : Result (Option Sub) Refusal) (y : Reply) (e : Event) (new : OpenStore P L) → call_of e ≡ call → AnswersLegally p l old call started_of x new → y ≡ undo_reply x
+    → AreHonest p l new → IsSound old.state → Steps old.state (call_of e) (gave y) new.state
+undo_answered p l old call (Ok (Some sub)) y e new is says reply h k = rw (is, reply) (says h k)
+undo_answered p l old call (Ok None) y e new is says reply h k = rw (is, reply) (says h k)
+undo_answered p l old call (Err r) y e new is says reply h k = rw (is, reply) (says h k).0

@@ -49,10 +49,9 @@ use Rattle.rq_model.specs.Replay.Reply.{Gave_sub}
 use Rattle.rq_engine.specs.Answers.{Refuses, HasNothingUnderWay, OnUnder}
 use Rattle.rq_model.specs.Legal.{OnFound}
 use Rattle.rq_chain.specs.declared.ChainPlan.{ChainPlan as Plan}
-use Rattle.rq_engine.specs.Kept.{IsKept, IsUnderKept}
-use Rattle.rq_engine.specs.Sends.{under_plan, AreLatchedBelow, FitsPlan, HasRoom, SendIsLatched, TakesLowest}
+use Rattle.rq_engine.specs.Kept.{IsKept, IsUnderKept, end_bytes}
+use Rattle.rq_engine.specs.Sends.{under_plan, AreLatchedBelow, FitsPlan, FitsUnder, HasRoom, SendIsLatched, TakesLowest}
 use Rattle.rq_engine.proofs.Keeping.{kept_started}
-use Rattle.rq_model.specs.Deeds.{spelled_deed}
 use Rattle.rq_engine.proofs.Refusals.{not_full, refuse, found_of, on_found, found_some, found_none}
 
 -- what is closed by the slots is closed by the ledger, for whoever may send
@@ -155,19 +154,24 @@ module _ (s : State) (k : IsSound s) where
   some_free room full = let few = room_left s k room in omega (arith, few, full)
 
 -- where the log is not full for so many records, it has room for a plan of no more
-pub has_room : (s : State) (plan : Plan) (more : ℕ) → log_full (ledger_of s) more ≡ false → length plan.writes.items + 1 ≤ more → HasRoom s plan
-has_room s plan more full few = let left = not_full s more full in omega (arith, left, few)
+pub has_room : (s : State) (ws : List SlotWrite) (more : ℕ) → log_full (ledger_of s) more ≡ false → length ws + 1 ≤ more → HasRoom s ws
+has_room s ws more full few = let left = not_full s more full in omega (arith, left, few)
 
 -- the operation that begins is kept as every other
-pub start_kept : (s : State) (f : Bool) (o res n room : ℕ) (t : Txn) (plan : Plan) (ends : HeldEnds) → IsKept s f o res → HasNothingUnderWay s t n → HasRoom s plan → FitsPlan s.sizes plan room
-    → IsKept (record s { rows = change_row t (row_started (under_plan n plan)) s.rows; ends = ends }) f (o + (length plan.writes.items + 1)) (res + room)
-start_kept s f o res n room t plan ends k h left fits =
-    let r = found_of (λ r. (r.under ≡ None) × (n ≡ r.number + 1)) (found_row t s.rows) h in
+pub start_kept : (s : State) (f : Bool) (o res room : ℕ) (t : Txn) (u : Under) → IsKept s f o res → HasNothingUnderWay s t u.number → HasRoom s u.writes → FitsUnder s.sizes u room
+    → IsKept (record s { rows = change_row t (row_started u) s.rows }) f (o + (length u.writes + 1)) (res + room)
+start_kept s f o res room t u k h left fits =
+    let r = found_of (λ r. (r.under ≡ None) × (u.number ≡ r.number + 1)) (found_row t s.rows) h in
     let number = r.2.1 in
-    let under : IsUnderKept s.sizes (under_plan n plan) = record { number = omega (arith, number); doing = refl; made = omega arith; slots = fits.slots; deed_low = fits.deed_low; deed_high = fits.deed_high } in
-    let a = kept_started s f o res k t r.0 r.1 (under_plan n plan) ends s.cells_in_use r.2.0 under number refl (omega (arith, left)) in
-    let same : res + (546 * length plan.writes.items + (30 + length (spelled_deed plan.deed))) ≡ res + room = (let e = fits.room_is in omega (arith, e)) in
-    subst (λ (m : ℕ). IsKept (record s { rows = change_row t (row_started (under_plan n plan)) s.rows; ends = ends }) f (o + (length plan.writes.items + 1)) m) same a
+    let made = fits.made in
+    let under : IsUnderKept s.sizes u = record { number = omega (arith, number); made = omega (arith, made); slots = fits.slots; sender = fits.sender; fits = fits.fits } in
+    let a = kept_started s f o res k t r.0 r.1 u s.ends s.cells_in_use r.2.0 under number made (omega (arith, left)) in
+    let same : res + (546 * length u.writes + end_bytes u.aim) ≡ res + room = (let e = fits.room_is in omega (arith, e)) in
+    subst (λ (m : ℕ). IsKept (record s { rows = change_row t (row_started u) s.rows }) f (o + (length u.writes + 1)) m) same a
+
+-- what is planned fits as an operation
+pub plan_fits : (z : Sizes) (n room : ℕ) (plan : Plan) → FitsPlan z plan room → FitsUnder z (under_plan n plan) room
+plan_fits z n room plan fits = record { made = refl; slots = fits.slots; sender = fits.sender; fits = (fits.deed_low, fits.deed_high); room_is = (let e = fits.room_is in omega (arith, e)) }
 
 undone_held : (t : Txn) (e : ℕ) (hs : List Held) (newly : Bool) → newly ≡ not (has_held t e hs) → cond newly (drop 1 (with_held t e hs)) (with_held t e hs) ≡ hs
 undone_held t e hs newly h = elim (cases_Bool (has_held t e hs)) [

@@ -63,7 +63,7 @@ pub force_steps : (s : State) → IsSound s → s.failed ≡ false → Steps s F
 force_steps s k running = abort_steps.forces s k running
 
 -- what is so of the transaction's own number is so of the one it is found by
-at_own : (s : State) (t : Txn) (r : Row) (P : Txn → Type 0) → found_row t s.rows ≡ Some r → (found_row r.txn s.rows ≡ Some r → P r.txn) → P t
+pub at_own : (s : State) (t : Txn) (r : Row) (P : Txn → Type 0) → found_row t s.rows ≡ Some r → (found_row r.txn s.rows ≡ Some r → P r.txn) → P t
 at_own s t r P e h = let i = (found_in t s.rows r e).1 in subst P i (h (ap (λ q. found_row q s.rows) i ∙ e))
 
 -- an operation under way has no more writes made than it has, and the number that its row has

@@ -13,7 +13,8 @@ use Rattle.rq_groups.specs.Waiting.{waits, more_waiting, fewer_waiting}
 use Rattle.rq_groups.proofs.Waits.{length-more_waiting, length-fewer_waiting, waits-more_waiting_same, waits-more_waiting_other, waits-fewer_waiting_same, waits-fewer_waiting_other}
 use Rattle.rq_store.specs.State.{op_done}
 use Rattle.rq_store.specs.Steps.{took}
-use Rattle.rq_engine.specs.Moves.{with_sent, with_sends, without_taken}
+use Rattle.rq_views.specs.Plans.{deed_sender}
+use Rattle.rq_engine.specs.Moves.{with_sent, with_sends, with_taken, without_taken}
 
 -- how many messages the deed sends for g
 abbrev sent_one : ℕ → Deed → ℕ
@@ -94,3 +95,22 @@ waits-without_taken (Close s) ws g = omega arith
 
 pub few_taken : (d : Deed) (ws : List ℕ) (g : ℕ) → waits (without_taken d ws) g ≤ waits ws g
 few_taken d ws g = let a = waits-without_taken d ws g in omega (arith, a)
+
+-- what is put back waits again
+pub length-with_taken : (d : Deed) (ws : List ℕ) → length (with_taken d ws) ≡ length ws
+length-with_taken (Append s n tag previous body) ws = refl
+length-with_taken (UnlinkHead s n tag body) ws = length-more_waiting s 1 ws
+length-with_taken (Close s) ws = refl
+
+pub waits-with_taken : (d : Deed) (ws : List ℕ) (g : ℕ) → deed_sender d < length ws → waits (with_taken d ws) g ≡ waits ws g + took g d
+waits-with_taken (Append s n tag previous body) ws g m = omega arith
+waits-with_taken (UnlinkHead s n tag body) ws g m = elim (cases_eq g s) [
+  | inl e ↦ ap (waits (more_waiting s 1 ws)) e ∙ waits-more_waiting_same s 1 ws m ∙ (rw (eq-eqb s g (sym e)) (let w : waits ws s ≡ waits ws g = ap (waits ws) (sym e) in omega (arith, w)))
+  | inr ne ↦ waits-more_waiting_other s 1 ws g ne ∙ (rw (ne_eqb s g (λ e. ne (sym e))) (omega arith))
+]
+waits-with_taken (Close s) ws g m = omega arith
+
+pub more_taken : (d : Deed) (ws : List ℕ) (g : ℕ) → waits (with_taken d ws) g ≤ waits ws g + 1
+more_taken (Append s n tag previous body) ws g = omega arith
+more_taken (UnlinkHead s n tag body) ws g = sent_at_most (Append s 0 0 0 []) ws g
+more_taken (Close s) ws g = omega arith

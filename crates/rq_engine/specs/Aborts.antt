@@ -1,5 +1,5 @@
 -- Aborts: what their calls find, what an inverse is planned from, and what they make of the lists.
-use Rattle.std.specs.Prelude.{◌≡◌, ◌⊎◌, ℕ, ◌-◌, ◌/◌, ◌<◌, ◌≤◌, true, false, List, ◌∷◌, length, Option, Some, None}
+use Rattle.std.specs.Prelude.{◌≡◌, ◌⊎◌, ℕ, ◌+◌, ◌-◌, ◌/◌, ◌<◌, ◌≤◌, true, false, List, ◌∷◌, length, Option, Some, None}
 use Rattle.rq_model.specs.declared.record.Deed.{Deed}
 use Rattle.rq_model.specs.declared.record.Deed.TheVariants.{Append, UnlinkHead, Close}
 use Rattle.rq_model.specs.declared.record.Record.TheVariants.{AbortEnd}
@@ -7,14 +7,14 @@ use Rattle.rq_model.specs.declared.txn.Sub.{Sub}
 use Rattle.rq_model.specs.declared.txn.Txn.{Txn}
 use Rattle.rq_model.specs.Legal.{OnFound}
 use Rattle.rq_model.specs.Words.{last}
-use Rattle.rq_page.specs.Sizes.{Sizes, IsCellAddress, directory_at}
+use Rattle.rq_page.specs.Sizes.{Sizes, IsCellAddress, cell_count, directory_at}
 use Rattle.rq_page.specs.Slots.Slot.{Free, Sender}
 use Rattle.rq_views.specs.Claims.{appends_of}
 use Rattle.rq_views.specs.Items.{items}
 use Rattle.rq_views.specs.Legal.{view}
 use Rattle.rq_views.specs.Log.{Slots}
 use Rattle.rq_views.specs.Plans.Turn.{Undid}
-use Rattle.rq_views.specs.Stored.{slots_in}
+use Rattle.rq_views.specs.Stored.{count_used, slots_in}
 use Rattle.rq_level.specs.declared.writes.SlotWrite.{SlotWrite}
 use Rattle.rq_chain.specs.declared.Group.{Group}
 use Rattle.rq_chain.specs.Neighbours.{IsGroupOf, IsNeighbour, cell_beside}
@@ -52,7 +52,7 @@ pub record IsFreeGroup (s : State) (g : ℕ) (x : Group) : Type 0 where
 
 -- some cell is free
 abbrev pub HasFree : State → Type 0
-HasFree s = (a : ℕ) × IsCellAddress s.sizes a × (slots_now s a ≡ Free)
+HasFree s = count_used s.sizes (slots_now s) < cell_count s.sizes
 
 -- What a deed needs to be undone, whatever others do: its message still stands at the end of its chain; the message was
 -- taken, and there is a cell for it.

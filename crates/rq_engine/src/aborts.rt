@@ -69,6 +69,7 @@ impl<P: PageDevice, L: LogDevice> Engine<P, L> {
     fn check_undone(&self, txn: Txn) -> Result<(), Refusal>
         ensures ready { OnOk result ((n : ℕ) × IsTurnedBack self.now.state txn n None) }
         ensures running { OnOk result (self.now.state.failed ≡ false) }
+        ensures passes { OnOk result (NoneHolds (ready_tests (ledger_of self.now.state) txn true)) }
         ensures failed { (result ≡ Err Refusal.Failed) ↔ (self.now.state.failed ≡ true) }
         ensures refused { IfErr result (λ r. Refuses self.now.state (End_abort txn) r) }
     {

@@ -1,11 +1,12 @@
 //! The calls of an operation under way.
-ghost use Rattle.std.specs.Prelude.{◌≡◌, ◌↔◌, Err, ◌+◌, ◌-◌, ◌≤◌, IfOk, IfErr, IfSome, OnOk, OnErr, MatchOption, Some, false, true, length, ◌∷◌};
+ghost use Rattle.std.specs.Prelude.{◌≡◌, ◌↔◌, Err, ◌+◌, ◌-◌, ◌<◌, ◌≤◌, IfOk, IfErr, IfSome, OnOk, OnErr, MatchOption, Some, false, true, length, ◌∷◌};
 ghost use Rattle.std.specs.List.{slice_get};
 ghost use Rattle.rq_model.specs.History.Call.{Step, Finish};
 ghost use Rattle.rq_txn.specs.Rows.{change_row, row_finished, row_taken_back, under_of};
 ghost use Rattle.rq_store.specs.Steps.{op_end, gave_done};
 ghost use Rattle.rq_sound.specs.Rows.{comp_end};
 ghost use Rattle.rq_views.specs.Claims.{appends_of};
+ghost use Rattle.rq_views.specs.Plans.{deed_sender};
 ghost use Rattle.rq_engine.specs.Opened.{LeavesDevices};
 ghost use Rattle.rq_engine.specs.Moves.{with_taken, without_taken};
 ghost use Rattle.rq_engine.specs.Applied.{IsStamped, StepChanges};
@@ -181,6 +182,7 @@ impl<P: PageDevice, L: LogDevice> Engine<P, L> {
           cells_in_use = self.old.state.cells_in_use - appends_of deed.now;
           waiting = with_taken deed.now self.old.state.waiting;
         } }
+        ensures sender { deed_sender deed.now < length self.old.state.waiting }
         ensures devices { LeavesDevices self.old self.new }
     {
         let record = Record::CompEnd {

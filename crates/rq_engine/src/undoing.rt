@@ -18,6 +18,7 @@ ghost use Rattle.rq_sound.specs.Sound.{IsSound};
 ghost use Rattle.rq_engine.specs.Opened.{LeavesDevices};
 ghost use Rattle.rq_engine.specs.Answers.{AnswersLegally};
 ghost use Rattle.rq_engine.specs.Applied.{TakesUnlatched};
+ghost use Rattle.rq_engine.specs.Kept.{IsDoneKept};
 ghost use Rattle.rq_engine.specs.Receives.{started_of};
 ghost use Rattle.rq_engine.specs.Sends.{HasRoom, TakesLowest};
 ghost use Rattle.rq_engine.specs.Aborts.{HasFree, IsTurnedBack, UndoIsLatched, UndoSays, UndoTakesLowest, AreBackSlots, BackIsLatched, IsFreeGroup, MayBeUndone};
@@ -33,7 +34,7 @@ use rq_model::record::{Deed, Record};
 use rq_model::refusal::{Damage, Refusal};
 use rq_model::txn::{Sub, Txn};
 use rq_page::addr::Addr;
-use rq_record::{PAGE_OP_BYTES, spelled_len};
+use rq_record::{PAGE_OP_BYTES, shows_size, spelled_len};
 use rq_txn::{Aim, Finished, Operation};
 
 /// What the inverse of an operation is counted as where it starts.
@@ -70,12 +71,13 @@ impl<P: PageDevice, L: LogDevice> Engine<P, L> {
         if self.is_log_full(undo_records(&done.deed)) {
             return Err(Refusal::LogFull);
         }
-        match self.plan_undo(&done.deed)? {
-            None => Err(Refusal::Latched),
-            Some(writes) => match self.start_undo(txn, number, &done, writes) {
+        match self.plan_undo(&done.deed) {
+            Ok(None) => Err(Refusal::Latched),
+            Ok(Some(writes)) => match self.start_undo(txn, number, &done, writes) {
                 Ok(()) => Ok(Some(Sub { txn, number })),
                 Err(refusal) => Err(refusal),
             },
+            Err(refusal) => Err(refusal),
         }
     }
 
@@ -89,6 +91,7 @@ impl<P: PageDevice, L: LogDevice> Engine<P, L> {
     ) -> Result<(), Refusal>
         requires ready { IsTurnedBack self.old.state txn number (Some done.now) }
         requires slots { AreSlotWrites self.old.state.sizes writes.items }
+        requires kept { IsDoneKept self.old.state.sizes done.now }
         requires count { length writes.items ≤ 3 }
         requires log { HasRoom self.old.state writes.items }
         ensures started { OnOk result (self.new.state ≡ record self.old.state {
@@ -108,6 +111,7 @@ impl<P: PageDevice, L: LogDevice> Engine<P, L> {
             operation: number,
             undone: done.lsn,
         };
+        shows_size(&end);
         let room = writes.len() * PAGE_OP_BYTES + spelled_len(&end);
         let operation = Operation {
             number,
@@ -184,19 +188,19 @@ impl<P: PageDevice, L: LogDevice> Engine<P, L> {
         };
         let directory = &group.directory;
         if directory.received >= directory.sent {
-            return Err(damaged(&group));
+            return Err(self.damaged(sender));
         }
         if self.is_latched(directory.tail) {
             return Ok(None);
         }
         let Some(tail) = self.cell_at(directory.tail) else {
-            return Err(damaged(&group));
+            return Err(self.damaged(sender));
         };
         if self.is_latched(preceding(&tail)) {
             return Ok(None);
         }
         let Some(front) = self.neighbour(preceding(&tail)) else {
-            return Err(damaged(&group));
+            return Err(self.damaged(sender));
         };
         let layout = self.pages.layout();
         let writes = unlink_tail(self.alloc, &layout, &group, &tail, front, previous)?;
@@ -251,18 +255,19 @@ impl<P: PageDevice, L: LogDevice> Engine<P, L> {
         let Some(group) = self.free_group(sender) else {
             return Ok(None);
         };
-        if group.directory.received == 0 {
-            return Err(damaged(&group));
+        let directory = &group.directory;
+        if directory.received == 0 {
+            return Err(self.damaged(sender));
         }
-        if self.is_latched(group.directory.head) {
+        if self.is_latched(directory.head) {
             return Ok(None);
         }
-        let Some(head) = self.neighbour(group.directory.head) else {
-            return Err(damaged(&group));
+        let Some(head) = self.neighbour(directory.head) else {
+            return Err(self.damaged(sender));
         };
         let Some(free) = lowest_free(&self.pages, &self.transactions) else {
             if self.pages.free_cell().is_none() {
-                return Err(damaged(&group));
+                return Err(self.damaged(sender));
             }
             return Ok(None);
         };
@@ -307,13 +312,15 @@ impl<P: PageDevice, L: LogDevice> Engine<P, L> {
             directory,
         })
     }
-}
 
-// That the page of a group's directory slot is not as a sound store has it.
-fn damaged(group: &Group) -> Refusal
-    ensures { result ≢ Refusal.Failed }
-{
-    Refusal::Damaged(Damage::Page(group.at.page() as u32))
+    // That the page of a sender's directory slot is not as a sound store has it.
+    fn damaged(&self, sender: u32) -> Refusal
+        requires { sender < sender_count self.now.state.sizes }
+        ensures { result ≢ Refusal.Failed }
+    {
+        let at = self.pages.layout().directory_of(sender);
+        Refusal::Damaged(Damage::Page(at.page() as u32))
+    }
 }
 
 // Where the cell before this one stands.

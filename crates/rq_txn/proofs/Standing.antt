@@ -1,12 +1,12 @@
 -- The rows of the transactions that stand in a list.
 use Rattle.std.proofs.Common.{◌≡◌, ℕ, ◌<◌, Bool, true, false, not, List, [], ◌∷◌, ◌++◌, reverse, length, map, Option, Some, None, get_or, set, refl, sym, ◌∙◌, ap, subst, inl, inr, arith, cond, Result, Ok, Err}
 use Rattle.std.specs.List.{filter}
-use Rattle.std.proofs.lemmas.List.{map-append, map-set, get_or-map, length-map, reverse-append, length-reverse}
-use Rattle.std.specs.Option.{IfSome, IsSome}
+use Rattle.std.proofs.lemmas.List.{append-nil, map-append, map-set, get_or-map, length-map, reverse-append, length-reverse}
+use Rattle.std.specs.Option.{IfSome, IsNone, IsSome, option_to_list}
 use Rattle.std.specs.Result.{OnOk, OnErr}
 use Rattle.std.proofs.lemmas.Bool.{cases_Bool}
 use Rattle.rq_model.specs.declared.txn.Txn.{Txn}
-use Rattle.rq_model.specs.Words.{same_txn}
+use Rattle.rq_model.specs.Words.{front, same_txn}
 use Rattle.rq_txn.specs.declared.Operation.{Operation}
 use Rattle.rq_txn.specs.declared.Transaction.{Transaction}
 use Rattle.rq_txn.specs.Rows.{Row, PlaceOf, row_of, under_way_of, found_row, change_row, without_row, AreDistinct, any_under, latched_in}
@@ -119,3 +119,14 @@ is_left (Some o) h = h
 
 pub left_found : (t : Txn) (rows : List Row) (m : Transaction) → found_row t rows ≡ Some (row_of m) → IfSome (found_row t rows) (λ r. IfSome r.under (λ u. u.made < length u.writes)) → IfSome m.under_way (λ p. p.made < length p.writes.items)
 left_found t rows m e h = is_left m.under_way (rw e at h)
+
+-- what is left once the last is out
+front_push : {X : Type 0} (xs : List X) (x : X) → front (xs ++ x ∷ []) ≡ xs
+front_push [] x = refl
+front_push (a ∷ []) x = refl
+front_push (a ∷ b ∷ xs) x = ap (λ l. a ∷ l) (front_push (b ∷ xs) x)
+
+pub front_out : {X : Type 0} (xs ys : List X) (o : Option X) → xs ≡ ys ++ option_to_list o → (IsNone o → length xs ≡ 0) → front xs ≡ ys
+front_out xs ys (Some x) e n = ap front e ∙ front_push ys x
+front_out [] ys None e n = e ∙ append-nil ys
+front_out (x ∷ xs) ys None e n = absurd (omega (arith, n refl))

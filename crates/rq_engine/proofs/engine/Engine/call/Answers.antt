@@ -2,8 +2,8 @@ use Rattle.std.proofs.Common.{ap, refl}
 use Rattle.rq_engine.specs.Says.{call_of}
 use Rattle.rq_engine.specs.declared.event.Event.{Event}
 use Rattle.rq_model.specs.Causes.{writes_out}
-use Rattle.rq_engine.proofs.Leaving.{plain_leaves, begun_leaves}
-use Rattle.rq_engine.proofs.Listing.{begun_answered, take_lists, take_from_lists, log_left}
+use Rattle.rq_engine.proofs.Leaving.{plain_leaves, begun_leaves, undo_leaves}
+use Rattle.rq_engine.proofs.Listing.{begun_answered, take_lists, take_from_lists, log_left, undo_answered, undo_lists}
 use Rattle.rq_engine.proofs.engine.Engine.call.Goals as goal
 
 pub returns-in-Err-clause-refused : goal.returns-in-Err-clause-refused
@@ -42,3 +42,18 @@ returns-in-Ok-start_send-clause-any_moment g c =
 
 pub returns-in-StartReceive-clause-answered : goal.returns-in-StartReceive-clause-answered
 returns-in-StartReceive-clause-answered g c = begun_answered g.P.PageDevice g.L.LogDevice c.args.self.now _ c.start_receive.result _ c.args.event.now c.start_receive.new.self (ap call_of c.in-StartReceive.is) c.start_receive.ensures.answered c.begun.ensures
+
+pub returns-in-Err-start_abort-clause-refused : goal.returns-in-Err-start_abort-clause-refused
+returns-in-Err-start_abort-clause-refused g c = plain_leaves c.args.self.now c.start_abort.new.self c.args.event.now _ (ap (λ (e : Event). writes_out (call_of e)) c.in-StartAbort.is) c.in-Err-start_abort.ensures.refused
+
+pub returns-in-Err-end_abort-clause-refused : goal.returns-in-Err-end_abort-clause-refused
+returns-in-Err-end_abort-clause-refused g c = plain_leaves c.args.self.now c.end_abort.new.self c.args.event.now _ (ap (λ (e : Event). writes_out (call_of e)) c.in-EndAbort.is) c.in-Err-end_abort.ensures.refused
+
+pub returns-in-UndoNext-clause-refused : goal.returns-in-UndoNext-clause-refused
+returns-in-UndoNext-clause-refused g c = undo_leaves c.args.self.now c.undo_next.new.self c.args.event.now c.undo_next.result _ (ap (λ (e : Event). writes_out (call_of e)) c.in-UndoNext.is) c.undo_next.ensures.refused c.undoing.ensures
+
+pub returns-in-UndoNext-clause-lists : goal.returns-in-UndoNext-clause-lists
+returns-in-UndoNext-clause-lists g c = undo_lists c.args.self.now.state _ c.undo_next.result _ c.args.event.now c.undo_next.new.self.state c.in-UndoNext.is c.undo_next.ensures.lists c.undoing.ensures
+
+pub returns-in-UndoNext-clause-answered : goal.returns-in-UndoNext-clause-answered
+returns-in-UndoNext-clause-answered g c = undo_answered g.P.PageDevice g.L.LogDevice c.args.self.now _ c.undo_next.result _ c.args.event.now c.undo_next.new.self (ap call_of c.in-UndoNext.is) c.undo_next.ensures.answered c.undoing.ensures

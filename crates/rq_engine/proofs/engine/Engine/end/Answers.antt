@@ -1,38 +1,39 @@
-use Rattle.std.proofs.Common.{◌≡◌, ◌+◌, sym, ap, ◌∙◌, subst, arith, length}
+use Rattle.std.proofs.Common.{◌≡◌, ◌+◌, refl, sym, ap, ◌∙◌, subst, arith, length}
 use Rattle.rq_store.specs.State.{State}
 use Rattle.rq_engine.specs.Answers.{IsUnderWay}
 use Rattle.rq_model.specs.Deeds.{spelled_deed}
 use Rattle.rq_engine.proofs.Calls.{AllMade, going_range, going_owed, end_room, end_kept}
+use Rattle.rq_txn.specs.declared.Aim.TheVariants.{Doing}
 use Rattle.rq_engine.proofs.Opened.{state_is}
 use Rattle.rq_engine.proofs.engine.Engine.end.Goals as goal
 
 pub append-lsn-requires-clause-record : goal.append-lsn-requires-clause-record
 append-lsn-requires-clause-record g c =
-    let h = subst (λ (s : State). IsUnderWay s c.args.sub (AllMade c.args.deed.now)) (sym (state_is c.self.view_is)) c.requires.ready in
-    let r = going_range _ _ _ _ c.self.invariant.kept c.args.sub (AllMade c.args.deed.now) h in
+    let h = subst (λ (s : State). IsUnderWay s c.args.sub (AllMade (Doing c.args.deed.now))) (sym (state_is c.self.view_is)) c.requires.ready in
+    let r = going_range _ _ _ _ c.self.invariant.kept c.args.sub (AllMade (Doing c.args.deed.now)) h in
     (r.0, r.1, omega arith, c.encode_deed.ensures.size.0, c.encode_deed.ensures.size.1)
 
 pub append-lsn-requires-clause-room : goal.append-lsn-requires-clause-room
 append-lsn-requires-clause-room g c =
-    let h = subst (λ (s : State). IsUnderWay s c.args.sub (AllMade c.args.deed.now)) (sym (state_is c.self.view_is)) c.requires.ready in
-    let r = end_room _ _ _ _ c.self.invariant.kept c.args.sub c.args.deed.now h in
+    let h = subst (λ (s : State). IsUnderWay s c.args.sub (AllMade (Doing c.args.deed.now))) (sym (state_is c.self.view_is)) c.requires.ready in
+    let r = end_room _ _ _ _ c.self.invariant.kept c.args.sub (Doing c.args.deed.now) h in
     let e = c.shows_size.ensures in
     let d : length c.encode_deed.result ≡ length (spelled_deed c.args.deed.now) = ap length c.encode_deed.ensures.spelled in
     omega (arith, r, e, d)
 
 pub overflow_sub-self : goal.overflow_sub-self
 overflow_sub-self g c =
-    let h = subst (λ (s : State). IsUnderWay s c.args.sub (AllMade c.args.deed.now)) (sym (state_is c.self.view_is)) c.requires.ready in
-    going_owed _ _ _ _ c.self.invariant.kept c.args.sub (AllMade c.args.deed.now) h
+    let h = subst (λ (s : State). IsUnderWay s c.args.sub (AllMade (Doing c.args.deed.now))) (sym (state_is c.self.view_is)) c.requires.ready in
+    going_owed _ _ _ _ c.self.invariant.kept c.args.sub (AllMade (Doing c.args.deed.now)) h
 
 pub invariant_of-self : goal.invariant_of-self
 invariant_of-self g c =
-    let h = subst (λ (s : State). IsUnderWay s c.args.sub (AllMade c.args.deed.now)) (sym (state_is c.self.view_is)) c.requires.ready in
+    let h = subst (λ (s : State). IsUnderWay s c.args.sub (AllMade (Doing c.args.deed.now))) (sym (state_is c.self.view_is)) c.requires.ready in
     let d : length c.encode_deed.result ≡ length (spelled_deed c.args.deed.now) = ap length c.encode_deed.ensures.spelled in
     let room : c.append-lsn.new.self.reserved + (30 + length (spelled_deed c.args.deed.now)) ≡ c.self.inside.log.reserved = (let a = c.append-lsn.ensures.reserved in let b = c.shows_size.ensures in omega (arith, a, b, d)) in
     let failed : c.self.inside.log.failed ≡ c.append-lsn.new.self.failed = c.self.invariant.kept.fails (ap (λ (s : State). s.failed) (state_is c.self.view_is) ∙ c.requires.running) ∙ sym c.append-lsn.ensures.failed in
     record {
       kept = rw (c.finish.ensures, c.leave_out_taken.ensures, c.append-lsn.ensures.records, c.append-lsn.ensures.forced, sym failed)
-          (end_kept _ _ _ _ c.self.invariant.kept c.args.sub c.args.deed.now h _ _ c.append-lsn.new.self.reserved room);
+          (end_kept _ _ _ _ c.self.invariant.kept c.args.sub (Doing c.args.deed.now) h c.args.deed.now _ _ c.append-lsn.new.self.reserved room (let l = c.append-lsn.ensures.lsn in let r = ap length c.append-lsn.ensures.records in omega (arith, l, r)) refl);
       durable = rw (c.append-lsn.ensures.settled) c.self.invariant.durable;
     }

@@ -15,7 +15,7 @@ pub start-requires-clause-log : goal.start-requires-clause-log
 start-requires-clause-log g c =
     let s = c.args.self.now.state in
     let one = some_told (λ p. length p.0.writes.items ≡ 1) c.in_ok-plan_close.field-0 _ c.in-Some.is c.in_ok-plan_close.ensures.one in
-    has_room s c.in-Some.plan 2 c.in_ok-check_close.ensures.log (omega (arith, one))
+    has_room s c.in-Some.plan.writes.items 2 c.in_ok-check_close.ensures.log (omega (arith, one))
 
 pub returns-in-Ok-clause-answered : goal.returns-in-Ok-clause-answered
 returns-in-Ok-clause-answered g c h =

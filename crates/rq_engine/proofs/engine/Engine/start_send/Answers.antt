@@ -66,4 +66,4 @@ pub start-requires-clause-log : goal.start-requires-clause-log
 start-requires-clause-log g c =
     let s = c.args.self.now.state in
     let fits = some_told (λ p. FitsPlan s.sizes p.0 p.1) c.in_ok-plan_send.field-0 _ c.in-Some.is c.in_ok-plan_send.ensures.fits in
-    has_room s c.in-Some.plan 4 c.in_ok-body.ensures.log (let few = fits.count in omega (arith, few))
+    has_room s c.in-Some.plan.writes.items 4 c.in_ok-body.ensures.log (let few = fits.count in omega (arith, few))

@@ -30,4 +30,4 @@ returns-in-Ok-clause-lists g c = (
 )
 
 pub start-requires-clause-log : goal.start-requires-clause-log
-start-requires-clause-log g c = has_room c.args.self.now.state c.args.plan 4 c.requires.log (let few = c.requires.fits.count in omega (arith, few))
+start-requires-clause-log g c = has_room c.args.self.now.state c.args.plan.writes.items 4 c.requires.log (let few = c.requires.fits.count in omega (arith, few))

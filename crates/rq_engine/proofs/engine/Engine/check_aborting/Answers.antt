@@ -1,0 +1,45 @@
+use Rattle.std.proofs.Common.{◌≡◌, ◌-◌, List, length, refl, sym, ap, ◌∙◌, arith, subst}
+use Rattle.std.specs.List.{slice_get}
+use Rattle.rq_model.specs.Words.{In}
+use Rattle.rq_txn.specs.declared.Finished.{Finished}
+use Rattle.rq_store.specs.State.{State}
+use Rattle.rq_txn.specs.Rows.{found_row}
+use Rattle.rq_engine.proofs.Keeping.{kept_at}
+use Rattle.rq_engine.specs.Kept.{IsDoneKept}
+use Rattle.rq_engine.proofs.AbortCalls.{last_get, last_kept, turned_back, back_unknown, not_aborting, back_unfinished, back_ready}
+use Rattle.rq_engine.proofs.Refusals.{some_way, no_way}
+use Rattle.rq_engine.proofs.Opened.{state_is}
+use Rattle.rq_engine.proofs.engine.Engine.check_aborting.Goals as goal
+
+pub returns-in_default-clause-refused : goal.returns-in_default-clause-refused
+returns-in_default-clause-refused g c =
+    back_unknown c.args.self.now.state c.args.txn c.in_ok-check_running.ensures.running (ap (λ (s : State). found_row c.args.txn s.rows) (sym (state_is c.self.view_is)) ∙ c.in_default.ensures.found)
+
+pub returns-then-not-row-clause-refused : goal.returns-then-not-row-clause-refused
+returns-then-not-row-clause-refused g c =
+    not_aborting c.args.self.now.state c.args.txn _ c.in_ok-check_running.ensures.running (ap (λ (s : State). found_row c.args.txn s.rows) (sym (state_is c.self.view_is)) ∙ c.in-Some.ensures.found) c.if-not-row.true
+
+pub returns-then-is_some-clause-refused : goal.returns-then-is_some-clause-refused
+returns-then-is_some-clause-refused g c =
+    back_unfinished c.args.self.now.state c.args.txn _ c.in_ok-check_running.ensures.running (ap (λ (s : State). found_row c.args.txn s.rows) (sym (state_is c.self.view_is)) ∙ c.in-Some.ensures.found) c.if-not-row.false (some_way _ (sym c.if-is_some.ensures))
+
+pub overflow_add-result : goal.overflow_add-result
+overflow_add-result g c =
+    let h = kept_at _ _ _ _ c.args.txn _ c.self.invariant.kept c.in-Some.ensures.found in
+    let n = h.number in
+    let m = c.self.invariant.kept.count in
+    omega (arith, n, m)
+
+pub returns-clause-passes : goal.returns-clause-passes
+returns-clause-passes g c =
+    back_ready c.args.self.now.state c.args.txn _ c.in_ok-check_running.ensures.running (ap (λ (s : State). found_row c.args.txn s.rows) (sym (state_is c.self.view_is)) ∙ c.in-Some.ensures.found) c.if-not-row.false (no_way _ (sym c.if-is_some.ensures))
+
+pub returns-clause-ready : goal.returns-clause-ready
+returns-clause-ready g c =
+    turned_back c.args.self.now.state c.args.txn _ _ (ap (λ (s : State). found_row c.args.txn s.rows) (sym (state_is c.self.view_is)) ∙ c.in-Some.ensures.found)
+    (no_way _ (sym c.if-is_some.ensures), refl, c.if-not-row.false, last_get c.in-Some.row.now.finished.items ∙ sym (c.copied.ensures ∙ c.last.ensures.value ∙ ap (λ (l : List Finished). slice_get l (length l - 1)) c.deref.ensures.value))
+
+pub returns-clause-kept : goal.returns-clause-kept
+returns-clause-kept g c =
+    let row = kept_at _ _ _ _ c.args.txn _ c.self.invariant.kept c.in-Some.ensures.found in
+    last_kept (λ f. IsDoneKept c.args.self.now.state.sizes f) c.in-Some.row.now.finished.items c.copied.result (last_get c.in-Some.row.now.finished.items ∙ sym (c.copied.ensures ∙ c.last.ensures.value ∙ ap (λ (l : List Finished). slice_get l (length l - 1)) c.deref.ensures.value)) (subst (λ (s : State). (f : Finished) → In f c.in-Some.row.now.finished.items → IsDoneKept s.sizes f) (state_is c.self.view_is) row.done)

@@ -1,0 +1,43 @@
+use Rattle.std.proofs.Common.{◌≡◌, sym, ap, ◌∙◌, subst, arith, false, None}
+use Rattle.rq_model.specs.Tests.{NoneHolds, log_full, ready_tests}
+use Rattle.rq_store.specs.State.{State, ledger_of}
+use Rattle.rq_engine.specs.Aborts.{IsTurnedBack}
+use Rattle.rq_engine.specs.Answers.{HasNothingUnderWay}
+use Rattle.rq_engine.proofs.AbortCalls.{aborted_done, aborted_kept, end_full, turned_idle}
+use Rattle.rq_engine.proofs.Calls.{commit_range, from_inside}
+use Rattle.rq_engine.proofs.Opened.{state_is}
+use Rattle.rq_engine.proofs.engine.Engine.end_abort.Goals as goal
+
+pub returns-then-is_log_full-clause-answered : goal.returns-then-is_log_full-clause-answered
+returns-then-is_log_full-clause-answered g c h =
+    let s = c.args.self.now.state in
+    let back = c.in_ok-check_undone.ensures.ready in
+    end_full s c.args.txn back.0 c.in_ok-check_undone.ensures.passes back.1 (sym c.if-is_log_full.ensures)
+
+pub append-requires-clause-record : goal.append-requires-clause-record
+append-requires-clause-record g c =
+    let back = c.in_ok-check_undone.ensures.ready in
+    let idle = subst (λ (s : State). HasNothingUnderWay s c.args.txn back.0) (sym (state_is c.self.view_is)) (turned_idle c.args.self.now.state c.args.txn back.0 None back.1) in
+    commit_range _ _ _ _ back.0 c.args.txn c.self.invariant.kept idle
+
+pub invariant_of-self-2 : goal.invariant_of-self-2
+invariant_of-self-2 g c =
+    let back = c.in_ok-check_undone.ensures.ready in
+    let idle = subst (λ (s : State). HasNothingUnderWay s c.args.txn back.0) (sym (state_is c.self.view_is)) (turned_idle c.args.self.now.state c.args.txn back.0 None back.1) in
+    let full = ap (λ (s : State). log_full (ledger_of s) 1) (state_is c.self.view_is) ∙ sym c.if-is_log_full.ensures in
+    let running = c.self.invariant.kept.fails (ap (λ (s : State). s.failed) (state_is c.self.view_is) ∙ c.in_ok-check_undone.ensures.running) in
+    let failed : c.self.inside.log.failed ≡ c.append.new.self.failed = running ∙ sym c.append.ensures.failed in
+    let room : c.append.new.self.reserved ≡ c.self.inside.log.reserved = (let a = c.append.ensures.reserved in let b = c.spelled_len.ensures in let d = ap (λ l. l.reserved) c.in_ok-reserve.ensures.ok in omega (arith, a, b, d)) in
+    record {
+      kept = rw (c.end.ensures, c.append.ensures.records, c.append.ensures.forced, room, sym failed, c.in_ok-reserve.ensures.ok)
+          (aborted_kept _ _ _ _ back.0 c.args.txn _ c.release.new.self c.self.invariant.kept idle full);
+      durable = rw (c.append.ensures.settled, c.in_ok-reserve.ensures.ok) c.self.invariant.durable;
+    }
+
+pub returns-clause-answered : goal.returns-clause-answered
+returns-clause-answered g c h =
+    let back = c.in_ok-check_undone.ensures.ready in
+    let inside = subst (λ (s : State). IsTurnedBack s c.args.txn back.0 None) (sym (state_is c.self.view_is)) back.1 in
+    let full = ap (λ (s : State). log_full (ledger_of s) 1) (state_is c.self.view_is) ∙ sym c.if-is_log_full.ensures in
+    let running = ap (λ (s : State). s.failed) (state_is c.self.view_is) ∙ c.in_ok-check_undone.ensures.running in
+    from_inside (state_is c.self.view_is) (λ k. rw (c.end.ensures, c.release.ensures, c.append.ensures.records, c.append.ensures.forced, c.in_ok-reserve.ensures.ok) (aborted_done _ c.args.txn back.0 running inside full k))
