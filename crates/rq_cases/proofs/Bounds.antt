@@ -10,11 +10,11 @@ use Rattle.rq_model.specs.Words.{In}
 use Rattle.rq_model.specs.Commits.{committed_of}
 use Rattle.rq_model.specs.Content.{has_end}
 use Rattle.rq_model.specs.History.{Call}
-use Rattle.rq_model.specs.History.Call.{Commit, Start_send}
+use Rattle.rq_model.specs.History.Call.{Commit, Start_close, Start_send}
 use Rattle.rq_model.specs.Incarnations.{incarnation_of}
 use Rattle.rq_model.specs.Legal.{Legal}
 use Rattle.rq_model.specs.History.Entry.{Committed, Started}
-use Rattle.rq_model.specs.History.Job.{Sending}
+use Rattle.rq_model.specs.History.Job.{Ending, Sending}
 use Rattle.rq_model.specs.Replay.{Number}
 use Rattle.rq_model.specs.Replay.Reply.{Gave_refusal}
 use Rattle.rq_model.specs.Tests.{NoneHolds, Passes, first_of, log_full, ready_tests, tests}
@@ -52,6 +52,7 @@ use Rattle.rq_engine.specs.declared.event.Event.TheVariants as event
 use Rattle.rq_engine.specs.declared.event.Reply.TheVariants as reply
 use Rattle.rq_engine.proofs.Crashing.{fit_kept, runs_through_cuts}
 use Rattle.rq_engine.proofs.Refusals.{refuse, refuse_full}
+use Rattle.rq_engine.proofs.Standing.{close_steps}
 use Rattle.rq_restart.specs.Checked.{IsEnded, IsGoneThrough}
 use Rattle.rq_restart.specs.Refused.{IsFirstFault}
 use Rattle.rq_restart.specs.Repeating.{Paged, Repeats}
@@ -59,7 +60,8 @@ use Rattle.rq_restart.specs.Restarting.{LogStops}
 use Rattle.rq_restart.proofs.Parsing.{one_log}
 use Rattle.rq_core.specs.Devices.{mem_log, mem_pages}
 use Rattle.rq_cases.specs.Applied.{Makes, MeetsAll}
-use Rattle.rq_cases.specs.Bounds.{BoundsAreJudged, Commits, IsFullForSend, Sends, just_opened, one_begun, one_committed, only_one, restarts}
+use Rattle.rq_cases.specs.Bounds.{BoundsAreJudged, Closes, Commits, IsFullForClose, IsFullForSend, Sends, just_opened, one_begun, one_committed, only_one, restarts}
+use Rattle.rq_cases.specs.Closes.{close_under}
 use Rattle.rq_cases.specs.Opened.{over}
 use Rattle.rq_cases.specs.Openings.{Checked, IsRefused}
 use Rattle.rq_cases.specs.Restarting.{read_pages}
@@ -67,6 +69,7 @@ use Rattle.rq_cases.specs.Run.{send_started, send_under, waits_of_0}
 use Rattle.rq_cases.specs.Sound.{hello}
 use Rattle.rq_cases.specs.Store.{count_sent, fill_cell, formatted_pages, sizes}
 use Rattle.rq_cases.specs.Worlds.{Hold}
+use Rattle.rq_cases.proofs.Closes.{close_plan}
 use Rattle.rq_cases.proofs.Held.{leaves_beginning, log_seen, pages_fit, pages_now, same_beginning}
 use Rattle.rq_cases.proofs.Openings.{formatted_are, only_read}
 use Rattle.rq_cases.proofs.Pages.{are_formatted, cell_told, free_told, new_told, range, sent_told}
@@ -167,6 +170,12 @@ module _ (n : ℕ) where
   send_free : n + 5 ≤ 2 ^ 50 → log_full (ledger_of s) 4 ≡ false
   send_free le = (let e = length_is n in not_less _ _ (omega (arith, e, le)))
 
+  close_full : 2 ^ 50 < n + 3 → log_full (ledger_of s) 2 ≡ true
+  close_full le = (let e = length_is n in lt-ltb _ _ (omega (arith, e, le)))
+
+  close_free : n + 3 ≤ 2 ^ 50 → log_full (ledger_of s) 2 ≡ false
+  close_free le = (let e = length_is n in not_less _ _ (omega (arith, e, le)))
+
   commit_passes : n + 2 ≤ 2 ^ 50 → Passes (size_of sizes) (ledger_of s) (Commit t)
   commit_passes le = (ready.0, (ready.1.0, (ready.1.1.0, (ready.1.1.1.0, (commit_free le, tt)))))
 
@@ -174,6 +183,11 @@ module _ (n : ℕ) where
   send_passes le =
       let full = send_free le in
       rw (same_self t, none_committed n) (refl, (refl, (refl, (refl, (refl, (refl, (refl, (refl, (refl, (full, tt))))))))))
+
+  close_passes : n + 3 ≤ 2 ^ 50 → Passes (size_of sizes) (ledger_of s) (Start_close t 0)
+  close_passes le =
+      let full = close_free le in
+      rw (same_self t, none_committed n) (refl, (refl, (refl, (refl, (refl, (refl, (refl, (full, tt))))))))
 
   at_row : found_row t s.rows ≡ Some (fresh_row t)
   at_row = rw (same_self t) refl
@@ -190,6 +204,14 @@ module _ (n : ℕ) where
   send_refused le =
       let full = send_full le in
       (refuse s (Start_send t hello) why.LogFull refl tt (rw (same_self t, none_committed n, full) refl) (begun_sound n)).0
+
+  closes : n + 3 ≤ 2 ^ 50 → (new : State) × Closes n 1 new
+  closes le = (_, close_steps s (begun_sound n) t (fresh_row t) (close_under 0) 0 at_row refl (λ page of. refl) refl close_plan (close_passes le))
+
+  close_refused : 2 ^ 50 < n + 3 → IsFullForClose n s
+  close_refused le =
+      let full = close_full le in
+      (refuse s (Start_close t 0) why.LogFull refl tt (rw (same_self t, none_committed n, full) refl) (begun_sound n)).0
 
   -- the whole call
   module _ (pages : MemPages) (log : MemLog) (h : Hold pages formatted_pages log (restarts (suc n))) where
@@ -291,6 +313,11 @@ not_sent : (n number : ℕ) (new : State) → 2 ^ 50 < n + 5 → Sends n number 
 not_sent n number new le x =
     let l : Legal (size_of sizes) (ledger_of (one_begun n)) (Started (only_one n) number (Sending hello)) = subst (Legal (size_of sizes) (ledger_of (one_begun n))) x.says.1 x.legal in
     clash (sym (send_full n le) ∙ l.0.1.1.1.1.1.1.1.1.1.0)
+
+not_closed : (n number : ℕ) (new : State) → 2 ^ 50 < n + 3 → Closes n number new → ⊥
+not_closed n number new le x =
+    let l : Legal (size_of sizes) (ledger_of (one_begun n)) (Started (only_one n) number (Ending 0)) = subst (Legal (size_of sizes) (ledger_of (one_begun n))) x.says.1 x.legal in
+    clash (sym (close_full n le) ∙ l.0.1.1.1.1.1.1.1.0)
 
 -- such a log is gone through on pages that stay
 repeats : (n : ℕ) → Repeats sizes (restarts n) read_pages read_pages
@@ -410,6 +437,10 @@ bounds = record {
   send_is_full = send_refused;
   full_where_a_send_fits = λ n new le. not_full n (Start_send (only_one n) hello) new (send_passes n le);
   send_where_it_is_full = not_sent;
+  close_fits = closes;
+  close_is_full = close_refused;
+  full_where_a_close_fits = λ n new le. not_full n (Start_close (only_one n) 0) new (close_passes n le);
+  close_where_it_is_full = not_closed;
   fits_beside = λ n le. not_less _ _ (omega (arith, le));
   full_beside_it = λ n le. lt-ltb _ _ (omega (arith, le));
   before_the_commit = meets;

@@ -7,11 +7,11 @@ use Rattle.rq_model.specs.declared.refusal.Refusal.TheVariants as why
 use Rattle.rq_model.specs.declared.txn.Sub.{Sub}
 use Rattle.rq_model.specs.declared.txn.Txn.{Txn}
 use Rattle.rq_model.specs.History.{Call}
-use Rattle.rq_model.specs.History.Call.{Start_send}
+use Rattle.rq_model.specs.History.Call.{Start_close, Start_send}
 use Rattle.rq_model.specs.History.Entry.{Refused}
 use Rattle.rq_model.specs.Legal.{Legal}
 use Rattle.rq_model.specs.Tests.{Passes, first_of, tests}
-use Rattle.rq_model.specs.Words.{In, is_some}
+use Rattle.rq_model.specs.Words.{In}
 use Rattle.rq_disk.specs.declared.mem_log.MemLog.{MemLog}
 use Rattle.rq_disk.specs.declared.mem_pages.MemPages.{MemPages}
 use Rattle.rq_views.specs.WorkedItems.{t1, t2}
@@ -24,7 +24,7 @@ use Rattle.rq_store.specs.State.{State, ledger_of, size_of}
 use Rattle.rq_log.specs.Crash.{LeavesOnly}
 use Rattle.rq_log.specs.Spelled.{IsBeginning}
 use Rattle.rq_store.proofs.Beginning.{begin_sound}
-use Rattle.rq_engine.proofs.Latches.{directory_latched as own_latched, send_latched}
+use Rattle.rq_engine.proofs.Latches.{close_refused, close_unlatched, directory_latched as own_latched, send_latched}
 use Rattle.rq_engine.proofs.Standing.{refused_steps}
 use Rattle.rq_engine.proofs.Crashing.{runs_through_cuts}
 use Rattle.rq_core.specs.Devices.{mem_log, mem_pages}
@@ -33,7 +33,7 @@ use Rattle.rq_engine.specs.Says.{call_of}
 use Rattle.rq_engine.specs.declared.event.Reply.{Reply}
 use Rattle.rq_engine.specs.declared.event.Reply.TheVariants as reply
 use Rattle.rq_cases.specs.Applied.{Makes}
-use Rattle.rq_cases.specs.Latches.{LatchesAreJudged, beside, other_send}
+use Rattle.rq_cases.specs.Latches.{LatchesAreJudged, beside, other_close, other_send}
 use Rattle.rq_cases.specs.Opened.{over}
 use Rattle.rq_cases.specs.Run.{busy_row, log_1, send_started, send_under}
 use Rattle.rq_cases.specs.Store.{formatted_pages, sizes}
@@ -194,6 +194,36 @@ module _ (pages : MemPages) (log : MemLog) (body : Vec ℕ Global) (empty : body
         first_spelled tt refl leaves stays;
   }
 
+-- a close needs the page of its group's directory slot alone
+close_passes : Passes (size_of sizes) (ledger_of beside) (Start_close t2 1)
+close_passes = (refl, (refl, (refl, (refl, (refl, (refl, (refl, (refl, tt))))))))
+
+close_latched : (pages : MemPages) (log : MemLog) → Hold pages formatted_pages log log_1
+    → Makes (over beside pages log) other_close (reply.Refused why.Latched) (over beside pages log)
+close_latched pages log h =
+    let stays : LeavesOnly mem_log log log (IsBeginning log_1 1) = same_beginning log log_1 h.1 log_1 1 0 (omega arith) refl in
+    record {
+      steps = λ honest k. refused_steps beside k (Start_close t2 1) why.Latched (close_passes, refl) refl;
+      cause = λ honest k. refl;
+      latched = λ k. close_refused beside k t2 1 refl;
+      sizes = refl;
+      failed = (λ e. cc e, λ e. cc e);
+      refused = refl;
+      lists = tt;
+      changes = refl;
+      starts = tt;
+      writes = tt;
+      pages = refl;
+      log = refl;
+      honest = λ honest. honest;
+      any_moment = λ honest. stays;
+      fit = λ honest k fits. fits;
+      crash = λ honest k fits.
+          runs_through_cuts mem_pages mem_log pages_now (over beside pages log) (over beside pages log) k fits other_close
+          (reply.Refused why.Latched) first_spelled tt refl
+          (leaves_beginning log log_1 h.1 log_1 1 0 (omega arith) refl) stays;
+    }
+
 pub latches : LatchesAreJudged
 latches = record {
   sound = beside_sound;
@@ -205,4 +235,9 @@ latches = record {
   latched_elsewhere = λ images pages log new body h is a.
       latches_judged.other_page images h
       (subst (λ (b : List ℕ). IsLatched (one_under images) (Start_send t2 (record { sender = 15; tag = 7; body = b }))) is (a.latched (one_sound images h)));
+  close_latched = close_latched;
+  close_started_beside = λ pages log new sub a. a.latched beside_sound (close_refused beside beside_sound t2 1 refl);
+  close_latched_by_nobody = λ pages log new a. (let e = a.cause (tt, tt) running.begin_again.sound in cc e);
+  close_latched_elsewhere = λ images pages log new h a.
+      close_unlatched (one_under images) (one_sound images h) t2 15 refl (a.latched (one_sound images h));
 }

@@ -22,6 +22,7 @@ mod Openings
 mod Stamps
 mod Bounds
 mod Crashes
+mod Closes
 mod Latches
 mod Replies
 pub mod Several

@@ -1,6 +1,6 @@
 -- The worked run as one of a store with any operations under way: what is sound with one at most is sound with any, and
 -- its calls are steps.
-use Rattle.std.proofs.Common.{◌≡◌, ℕ, List, [], ◌∷◌}
+use Rattle.std.proofs.Common.{[], ◌∷◌}
 use Rattle.rq_model.specs.History.{Call}
 use Rattle.rq_model.specs.History.Call.{Begin, Start_send, Start_receive, Step, Finish, Commit, Force}
 use Rattle.rq_model.specs.Replay.{Reply}

@@ -5,7 +5,7 @@ use Rattle.rq_model.specs.declared.record.Record.{Record}
 use Rattle.rq_model.specs.declared.record.Record.TheVariants.{Commit as Commit_record}
 use Rattle.rq_model.specs.declared.refusal.Refusal.TheVariants as why
 use Rattle.rq_model.specs.declared.txn.Txn.{Txn}
-use Rattle.rq_model.specs.History.Call.{Commit, Start_send}
+use Rattle.rq_model.specs.History.Call.{Commit, Start_close, Start_send}
 use Rattle.rq_model.specs.Incarnations.{incarnation_of}
 use Rattle.rq_model.specs.Replay.{Number}
 use Rattle.rq_model.specs.Replay.Reply.{Gave_commit, Gave_refusal, Gave_sub}
@@ -78,6 +78,13 @@ Sends n number new = Steps (one_begun n) (Start_send (only_one n) hello) (Gave_s
 abbrev pub IsFullForSend : ℕ → State → Type 0
 IsFullForSend n new = Steps (one_begun n) (Start_send (only_one n) hello) (Gave_refusal why.LogFull) new
 
+-- so of a close
+abbrev pub Closes : ℕ → ℕ → State → Type 0
+Closes n number new = Steps (one_begun n) (Start_close (only_one n) 0) (Gave_sub (only_one n) number) new
+
+abbrev pub IsFullForClose : ℕ → State → Type 0
+IsFullForClose n new = Steps (one_begun n) (Start_close (only_one n) 0) (Gave_refusal why.LogFull) new
+
 -- whether a commit passes the bound where a send is under way over a log of so many records
 abbrev pub full_beside : ℕ → Bool
 full_beside n = log_full (record (ledger_of send_started) { records = n }) 1
@@ -97,6 +104,11 @@ pub record BoundsAreJudged : Type 0 where
   pub send_is_full : (n : ℕ) → 2 ^ 50 < n + 5 → IsFullForSend n (one_begun n)
   pub full_where_a_send_fits : (n : ℕ) (new : State) → n + 5 ≤ 2 ^ 50 → IsFullForSend n new → ⊥
   pub send_where_it_is_full : (n number : ℕ) (new : State) → 2 ^ 50 < n + 5 → Sends n number new → ⊥
+  -- a close takes two
+  pub close_fits : (n : ℕ) → n + 3 ≤ 2 ^ 50 → (new : State) × Closes n 1 new
+  pub close_is_full : (n : ℕ) → 2 ^ 50 < n + 3 → IsFullForClose n (one_begun n)
+  pub full_where_a_close_fits : (n : ℕ) (new : State) → n + 3 ≤ 2 ^ 50 → IsFullForClose n new → ⊥
+  pub close_where_it_is_full : (n number : ℕ) (new : State) → 2 ^ 50 < n + 3 → Closes n number new → ⊥
   -- what an operation under way has yet to log is kept for it: here two writes and its end
   pub fits_beside : (n : ℕ) → n + 4 ≤ 2 ^ 50 → full_beside n ≡ false
   pub full_beside_it : (n : ℕ) → 2 ^ 50 < n + 4 → full_beside n ≡ true

@@ -31,6 +31,10 @@ beside = record send_started { rows = fresh_row t2 ∷ send_started.rows; begins
 abbrev pub other_send : Vec ℕ Global → Event
 other_send body = event.StartSend t2 1 8 body
 
+-- or close its group
+abbrev pub other_close : Event
+other_close = event.StartClose t2 1
+
 pub record LatchesAreJudged : Type 0 where
   pub sound : IsSound beside
   -- whatever is answered, it is one of two: no second operation is started, and no other refusal has its cause
@@ -53,3 +57,13 @@ pub record LatchesAreJudged : Type 0 where
   pub latched_elsewhere : (images : List (List ℕ)) (pages : MemPages) (log : MemLog)
       (new : OpenStore MemPages MemLog) (body : Vec ℕ Global) → AreFormatted wide images → body.items ≡ 104 ∷ []
       → Makes (over (one_under images) pages log) (event.StartSend t2 15 7 body) (reply.Refused why.Latched) new → ⊥
+  -- so is a close
+  pub close_latched : (pages : MemPages) (log : MemLog) → Hold pages formatted_pages log log_1
+      → Makes (over beside pages log) other_close (reply.Refused why.Latched) (over beside pages log)
+  pub close_started_beside : (pages : MemPages) (log : MemLog) (new : OpenStore MemPages MemLog) (sub : Sub)
+      → Makes (over beside pages log) other_close (reply.Started sub) new → ⊥
+  pub close_latched_by_nobody : (pages : MemPages) (log : MemLog) (new : OpenStore MemPages MemLog)
+      → Makes (over begun_again pages log) other_close (reply.Refused why.Latched) new → ⊥
+  pub close_latched_elsewhere : (images : List (List ℕ)) (pages : MemPages) (log : MemLog)
+      (new : OpenStore MemPages MemLog) → AreFormatted wide images
+      → Makes (over (one_under images) pages log) (event.StartClose t2 15) (reply.Refused why.Latched) new → ⊥

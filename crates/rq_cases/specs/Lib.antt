@@ -22,4 +22,5 @@ pub mod Stamps
 pub mod Bounds
 pub mod Crashes
 pub mod Latches
+pub mod Closes
 pub mod Replies

@@ -1,5 +1,5 @@
--- The pages of a small store, byte by byte, and the slots that a send and a receive write.
-use Rattle.std.specs.Prelude.{ℕ, zero, suc, ◌+◌, ◌==◌, ◌<◌, ◌/◌, ◌%◌, ◌^◌, if◌then◌else◌, List, [], ◌∷◌, ◌++◌}
+-- The pages of a small store, byte by byte, and the slots that a send, a receive and a close write.
+use Rattle.std.specs.Prelude.{ℕ, true, zero, suc, ◌+◌, ◌==◌, ◌<◌, ◌/◌, ◌%◌, ◌^◌, if◌then◌else◌, List, [], ◌∷◌, ◌++◌}
 use Rattle.std.proofs.Common.{arith}
 use Rattle.rq_page.specs.declared.directory.Directory.{Directory}
 use Rattle.rq_page.specs.Cells.{cell_bytes, free_bytes}
@@ -44,6 +44,10 @@ one_sent = directory_appended new_directory 33 7
 
 abbrev pub one_taken : Directory
 one_taken = directory_head_unlinked one_sent (cell 0)
+
+-- or with its group closed
+abbrev pub one_closed : Directory
+one_closed = record new_directory { closed = true }
 
 abbrev pub group : Directory → List ℕ
 group d = directory_bytes (record { sender = 0; directory = d })
@@ -97,6 +101,25 @@ count_taken = record {
   slot = group_slot;
 }
 
+abbrev pub set_closed : SlotWrite
+set_closed = record {
+  at = 17;
+  before = group new_directory;
+  after = group one_closed;
+  page = group_page;
+  slot = group_slot;
+}
+
+-- a write that leaves the group open
+abbrev pub leave_open : SlotWrite
+leave_open = record {
+  at = 17;
+  before = group new_directory;
+  after = group new_directory;
+  page = group_page;
+  slot = group_slot;
+}
+
 -- the slots of the directory page and of the cell page, formatted, and as each write leaves them
 abbrev pub groups_0 : ℕ → List ℕ
 groups_0 = formatted_slot sizes 1
@@ -116,6 +139,9 @@ cells_2 = written 1 free_bytes cells_1
 abbrev pub groups_2 : ℕ → List ℕ
 groups_2 = written 1 (group one_taken) groups_1
 
+abbrev pub groups_closed : ℕ → List ℕ
+groups_closed = written 1 (group one_closed) groups_0
+
 -- the pages: formatted, as a send leaves them after each of its two writes, and as a receive does
 abbrev pub formatted_pages : List (List ℕ)
 formatted_pages = pages_with 0 groups_0 0 cells_0
@@ -131,3 +157,7 @@ freed_pages = pages_with 3 groups_1 6 cells_2
 
 abbrev pub taken_pages : List (List ℕ)
 taken_pages = pages_with 7 groups_2 6 cells_2
+
+-- and as a close leaves the formatted ones
+abbrev pub closed_pages : List (List ℕ)
+closed_pages = pages_with 2 groups_closed 0 cells_0

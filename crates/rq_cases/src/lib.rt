@@ -6,6 +6,7 @@ ghost use Rattle.rq_cases.specs.Asks.{AsksAreJudged};
 ghost use Rattle.rq_cases.specs.Audits.{AuditsAreJudged};
 ghost use Rattle.rq_cases.specs.Bounds.{BoundsAreJudged};
 ghost use Rattle.rq_cases.specs.Calls.{CallsAreJudged};
+ghost use Rattle.rq_cases.specs.Closes.{ClosesAreJudged};
 ghost use Rattle.rq_cases.specs.Courses.{CausesAreJudged, NoneIsJudged, StopsAreJudged};
 ghost use Rattle.rq_cases.specs.Crashes.{CrashesAreJudged, PoolsAreJudged, RunsAreJudged};
 ghost use Rattle.rq_cases.specs.Devices.{DevicesAreJudged};
@@ -93,6 +94,12 @@ pub fn commits_are_judged()
 /// Receives: the one of the run with its steps, its finish and its commit; none, both ways; and those that are none.
 pub fn receives_are_judged()
     ensures { ReceivesAreJudged }
+{}
+
+/// A close: its plan, its start with its step, its finish and its commit, and whom it refuses before the commit and
+/// behind it; and what is none.
+pub fn closes_are_judged()
+    ensures { ClosesAreJudged }
 {}
 
 /// Receipts, page writes and contents, which change no list.

@@ -22,8 +22,13 @@ const FIRST_CELLS: u32 = 3;
 
 const SLOTS: u32 = 15;
 
-/// No page.
+/// No page, and no cell.
 const NONE: u32 = 0;
+
+const NO_CELL: Cell = Cell {
+    page: NONE,
+    slot: 0,
+};
 
 /// What is worth counting of a call.
 #[derive(Clone, Copy, Debug, PartialEq, Eq)]
@@ -47,8 +52,13 @@ pub enum Kind {
     TakeNextOpen,
     /// Latched: a receive from any group.
     TakeAny,
+    /// Latched: a close, for its directory page.
+    CloseDirectory,
+    /// A close is finished.
+    Close,
     Full,
     SenderBusy,
+    Closed,
     ReceiverBusy,
     NoMessage,
     NotForced,
@@ -79,6 +89,8 @@ struct Link {
 enum Act {
     Send(Message),
     Take(Message),
+    /// Closes the group of this sender.
+    Close(u32),
 }
 
 /// The operation under way of a transaction.
@@ -86,9 +98,10 @@ enum Act {
 struct Work {
     number: u64,
     act: Act,
-    /// The cell of its message.
+    /// The cell of its message; none for a close.
     cell: Cell,
-    /// The pages of its slot writes, in order: its cell's, that of the cell beside, its directory page.
+    /// The pages of its slot writes, in order: its cell's, that of the cell beside, its directory page. A close has the
+    /// last alone.
     pages: [u32; 3],
     /// How many slot writes are to come.
     left: u8,
@@ -114,6 +127,7 @@ struct Group {
     sent: u64,
     received: u64,
     last_tag: u64,
+    closed: bool,
 }
 
 /// A page: the LSN of its last change, and of the last one that the device has.
@@ -185,6 +199,7 @@ impl Chains {
             } => self.start_send(*txn, *sender, *tag, body),
             Event::StartReceive(txn) => self.start_receive(*txn, picked),
             Event::StartReceiveFrom { txn, sender } => self.start_receive_from(*txn, *sender),
+            Event::StartClose { txn, sender } => self.start_close(*txn, *sender),
             Event::Step(sub) => self.step(*sub),
             Event::Finish(sub) => self.finish(*sub),
             Event::Commit(txn) => self.commit(*txn),
@@ -232,6 +247,9 @@ impl Chains {
         };
         if self.is_sending_end_held(place, sender) {
             return Err(Refusal::SenderBusy);
+        }
+        if self.is_closed(place, sender) {
+            return Err(Refusal::Closed);
         }
         if self.cells_in_use() >= ROOM {
             return Err(Refusal::Full);
@@ -350,6 +368,26 @@ impl Chains {
         self.start(place, Act::Take(head.message), head.cell, pages, left)
     }
 
+    // A close needs its directory page alone.
+    fn start_close(&mut self, txn: Txn, sender: u32) -> Result<Told, Refusal> {
+        let place = self.idle_place(txn)?;
+        if sender >= SENDERS {
+            return Err(Refusal::UnknownSender);
+        }
+        if self.is_sending_end_held(place, sender) {
+            return Err(Refusal::SenderBusy);
+        }
+        if self.is_closed(place, sender) {
+            return Err(Refusal::Closed);
+        }
+        let directory = directory_of(sender);
+        if self.is_latched(directory) {
+            return self.latched(Kind::CloseDirectory);
+        }
+        let pages = [NONE, NONE, directory];
+        self.start(place, Act::Close(sender), NO_CELL, pages, 1)
+    }
+
     // The transaction at this place starts an operation, and holds an end from then on.
     fn start(
         &mut self,
@@ -446,6 +484,10 @@ impl Chains {
                 self.unlink(cell);
                 Ok(Told::Message(*message))
             }
+            Act::Close(_) => {
+                self.kind = Kind::Close;
+                Ok(Told::Closed)
+            }
         }
     }
 
@@ -509,6 +551,7 @@ impl Chains {
                 group.last_tag = message.tag;
             }
             Act::Take(_) => group.received = group.received.saturating_add(1),
+            Act::Close(_) => group.closed = true,
         }
     }
 
@@ -597,6 +640,21 @@ impl Chains {
         false
     }
 
+    // Whether the sender's group is closed for the transaction at this place: by a commit, or by itself.
+    fn is_closed(&self, place: usize, sender: u32) -> bool {
+        if let Some(row) = self.rows.get(place) {
+            for act in &row.acts {
+                if is_close(act) && sender_of(act) == sender {
+                    return true;
+                }
+            }
+        }
+        match self.groups.get(sender as usize) {
+            Some(group) => group.closed,
+            None => false,
+        }
+    }
+
     // Whether the sender's group is free for the transaction at this place, and holds a message for it: more is
     // committed and not received than the transaction took.
     fn may_take(&self, place: usize, sender: u32) -> bool {
@@ -633,7 +691,7 @@ impl Chains {
                 }
             }
             if let Some(work) = row.work {
-                if !is_take(&work.act) {
+                if is_send(&work.act) {
                     cells = cells.saturating_add(1);
                 }
             }
@@ -752,7 +810,7 @@ impl Chains {
             }
         }
         (group.sent, group.received, group.last_tag) == (told.sent, told.received, told.last_tag)
-            && !group.closed
+            && group.closed == told.closed
     }
 }
 
@@ -763,6 +821,7 @@ fn no_groups(alloc: Global) -> Result<Vec<Group>, AllocError> {
             sent: 0,
             received: 0,
             last_tag: 0,
+            closed: false,
         })?;
     }
     Ok(groups)
@@ -806,14 +865,20 @@ fn under_way(row: &Row) -> Option<(Sub, u8)> {
 fn sender_of(act: &Act) -> u32 {
     match act {
         Act::Send(message) | Act::Take(message) => message.sender,
+        Act::Close(sender) => *sender,
     }
 }
 
+fn is_send(act: &Act) -> bool {
+    matches!(act, Act::Send(_))
+}
+
 fn is_take(act: &Act) -> bool {
-    match act {
-        Act::Send(_) => false,
-        Act::Take(_) => true,
-    }
+    matches!(act, Act::Take(_))
+}
+
+fn is_close(act: &Act) -> bool {
+    matches!(act, Act::Close(_))
 }
 
 fn takes_in(acts: &[Act], sender: u32) -> u64 {
@@ -834,6 +899,7 @@ fn kind_of(told: &Told) -> Kind {
         Told::Refused(Refusal::NotForced) => Kind::NotForced,
         Told::Refused(Refusal::Full) => Kind::Full,
         Told::Refused(Refusal::SenderBusy) => Kind::SenderBusy,
+        Told::Refused(Refusal::Closed) => Kind::Closed,
         Told::Refused(Refusal::ReceiverBusy) => Kind::ReceiverBusy,
         Told::Refused(Refusal::Unfinished) => Kind::Unfinished,
         Told::Refused(Refusal::UnknownTransaction) => Kind::UnknownTransaction,

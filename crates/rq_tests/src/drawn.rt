@@ -177,7 +177,7 @@ impl Drawing {
         if drawn < sends {
             self.send(txn)
         } else if drawn >= others {
-            Ok(Event::Commit(txn))
+            Ok(self.end_of(txn))
         } else if self.random.is_first_of(2) {
             Ok(Event::StartReceive(txn))
         } else {
@@ -185,6 +185,18 @@ impl Drawing {
                 txn,
                 sender: self.sender(),
             })
+        }
+    }
+
+    // Few closes, since a group that is closed takes no more messages.
+    fn end_of(&mut self, txn: Txn) -> Event {
+        if self.random.is_first_of(20) {
+            Event::StartClose {
+                txn,
+                sender: self.sender(),
+            }
+        } else {
+            Event::Commit(txn)
         }
     }
 

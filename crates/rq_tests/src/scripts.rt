@@ -341,13 +341,13 @@ fn a_closed_group_takes_no_more(rt: HostRuntime) -> Result<(), Fail> {
     check(
         &rt,
         1,
-        "begin\nbegin\nbegin\nsend 1.1 0 1 a\nclose 1.1 0\nsend 1.1 0 2 b\nclose 1.2 0\nclose 1.2 15\ncommit 1.1\nclose 1.2 0\nsend 1.2 0 2 b\nrecv 1.3\ncommit 1.3\ndump\n",
-        "begun 1.1\nbegun 1.2\nbegun 1.3\nsent\nclosed\nrefused 10 Closed\nrefused 9 SenderBusy\nrefused 7 UnknownSender\ncommit 7\nrefused 10 Closed\nrefused 10 Closed\nmsg 0 1 a\ncommit 11\n0 closed sent 1 received 1:\n",
+        "begin\nbegin\nbegin\nsend 1.1 0 1 a\nclose 1.1 0\nsend 1.1 0 2 b\nclose 1.1 0\nclose 1.2 0\nclose 1.2 15\ncommit 1.1\nclose 1.2 0\nsend 1.2 0 2 b\nrecv 1.3\ncommit 1.3\ndump\n",
+        "begun 1.1\nbegun 1.2\nbegun 1.3\nsent\nclosed\nrefused 10 Closed\nrefused 10 Closed\nrefused 9 SenderBusy\nrefused 7 UnknownSender\ncommit 7\nrefused 10 Closed\nrefused 10 Closed\nmsg 0 1 a\ncommit 11\n0 closed sent 1 received 1:\n",
         0,
     )
 }
 
-// A close outlives a crash where its commit is forced, and counts as two records at the log's bound.
+// A close outlives a crash where its commit is forced, and is undone by one that takes its commit.
 #[test]
 fn a_close_outlives_a_crash(rt: HostRuntime) -> Result<(), Fail> {
     check(

@@ -18,7 +18,7 @@ use std::test::Fail;
 const COURSES: u64 = 60;
 
 /// What has to be met, all courses taken together, and how often at least.
-const WANTED: [(Kind, u64); 22] = [
+const WANTED: [(Kind, u64); 25] = [
     (Kind::Beside, 200),
     (Kind::HigherCell, 300),
     (Kind::OtherGroup, 150),
@@ -30,8 +30,11 @@ const WANTED: [(Kind, u64); 22] = [
     (Kind::TakeNext, 15),
     (Kind::TakeNextOpen, 2),
     (Kind::TakeAny, 700),
+    (Kind::CloseDirectory, 20),
+    (Kind::Close, 20),
     (Kind::Full, 400),
     (Kind::SenderBusy, 2000),
+    (Kind::Closed, 500),
     (Kind::ReceiverBusy, 300),
     (Kind::NoMessage, 750),
     (Kind::NotForced, 400),

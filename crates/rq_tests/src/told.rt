@@ -14,6 +14,7 @@ pub enum Told {
     Ready,
     Sent,
     Message(Message),
+    Closed,
     Committed(Txn, Lsn),
     Forced(Lsn),
     Written,
@@ -47,7 +48,8 @@ fn told_of_end(outcome: &Outcome) -> Told {
     match outcome {
         Outcome::Sent => Told::Sent,
         Outcome::Message(message) => Told::Message(*message),
-        _ => Told::Other,
+        Outcome::Closed => Told::Closed,
+        Outcome::Undone => Told::Other,
     }
 }
 
