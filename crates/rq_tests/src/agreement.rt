@@ -291,6 +291,9 @@ fn ask_lists_once(queue: &mut Reference, event: &Event) -> Result<Answer, Refusa
         Event::StartReceive(_)
         | Event::StartReceiveFrom { .. }
         | Event::StartClose { .. }
+        | Event::StartAbort(_)
+        | Event::UndoNext(_)
+        | Event::EndAbort(_)
         | Event::WritePage(_) => Ok(Answer::Unlisted),
     }
 }
@@ -321,7 +324,8 @@ fn answer_of(reply: &Reply) -> Answer {
         Reply::Acknowledged(given) => Answer::Acknowledged(given.is_some()),
         Reply::HandedOver => Answer::HandedOver,
         Reply::Forced(lsn) => Answer::Forced(*lsn),
-        Reply::NoMessage | Reply::Written(_) => Answer::Other,
+        Reply::NoMessage | Reply::NothingLeft | Reply::Aborting | Reply::Aborted => Answer::Other,
+        Reply::Written(_) => Answer::Other,
         Reply::Content(_) => Answer::Content,
         Reply::Refused(refusal) => Answer::Refused(*refusal),
     }

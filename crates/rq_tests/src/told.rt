@@ -14,6 +14,11 @@ pub enum Told {
     Ready,
     Sent,
     Message(Message),
+    Closed,
+    Undone,
+    Aborting,
+    NothingLeft,
+    Aborted,
     Committed(Txn, Lsn),
     Forced(Lsn),
     Written,
@@ -34,6 +39,9 @@ pub fn told_by(reply: &Reply) -> Told {
         Reply::Stepped(Progress::Ready) => Told::Ready,
         Reply::Finished(outcome) => told_of_end(outcome),
         Reply::Committed(number) => told_of_commit(number),
+        Reply::Aborting => Told::Aborting,
+        Reply::NothingLeft => Told::NothingLeft,
+        Reply::Aborted => Told::Aborted,
         Reply::Forced(lsn) => Told::Forced(*lsn),
         Reply::Written(Written::Done) => Told::Written,
         Reply::Written(Written::Nothing) => Told::NotWritten,
@@ -47,7 +55,8 @@ fn told_of_end(outcome: &Outcome) -> Told {
     match outcome {
         Outcome::Sent => Told::Sent,
         Outcome::Message(message) => Told::Message(*message),
-        _ => Told::Other,
+        Outcome::Closed => Told::Closed,
+        Outcome::Undone => Told::Undone,
     }
 }
 
