@@ -408,7 +408,8 @@ one_row r (inl e) = subst (λ (x : Row). IsRowKept sizes 1 1 4 x) (sym e) (recor
   low = omega arith;
   high = omega arith;
   number = omega arith;
-  under = record { number = omega arith; doing = refl; made = omega arith; slots = slots_are; deed_low = omega arith; deed_high = omega arith };
+  done = λ f none. absurd none;
+  under = record { number = omega arith; made = omega arith; slots = slots_are; sender = omega arith; fits = (omega arith, omega arith) };
 })
 one_row r (inr none) = absurd none
 

@@ -124,6 +124,9 @@ module _ (pages : MemPages) (log : MemLog) (new : OpenStore MemPages MemLog) (bo
     answered (reply.Stepped p) a = absurd a.lists
     answered (reply.Finished o) a = absurd a.lists
     answered (reply.Committed number) a = absurd a.lists
+    answered reply.Aborting a = absurd a.lists
+    answered reply.NothingLeft a = absurd a.lists
+    answered reply.Aborted a = absurd a.lists
     answered (reply.Acknowledged given) a = absurd a.lists
     answered reply.HandedOver a = absurd a.lists
     answered (reply.Forced lsn) a = absurd a.lists

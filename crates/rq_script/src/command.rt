@@ -14,6 +14,10 @@ pub enum Command<'a> {
     RecvFrom(Txn, u32),
     Close(Txn, u32),
     Commit(Txn),
+    Abort(Txn),
+    StartAbort(Txn),
+    Undo(Txn),
+    EndAbort(Txn),
     Ack(Txn),
     Force,
     Write(u32),
@@ -87,6 +91,10 @@ fn with_words<'a>(name: &[u8], rest: &'a [u8]) -> Option<Command<'a>> {
             Some(Command::Close(txn, sender))
         }
         b"commit" => Some(Command::Commit(txn(rest)?)),
+        b"abort" => Some(Command::Abort(txn(rest)?)),
+        b"start-abort" => Some(Command::StartAbort(txn(rest)?)),
+        b"undo" => Some(Command::Undo(txn(rest)?)),
+        b"end-abort" => Some(Command::EndAbort(txn(rest)?)),
         b"ack" => Some(Command::Ack(txn(rest)?)),
         b"write" => Some(Command::Write(short_number(rest)?)),
         b"fail" => Some(Command::Fail(device_call(rest)?)),

@@ -4,7 +4,7 @@ ghost use Rattle.std.specs.Prelude.{◌≤◌, IfOk};
 use crate::command::{Command, Images, Keep, Post};
 use crate::told::{LINE_ROOM, Told};
 use rq_disk::{CallKind, MemLog, MemPages, Mishap, PageChoice, Switch};
-use rq_engine::event::{CommitNo, Event, Progress, Reply};
+use rq_engine::event::{CommitNo, Event, Outcome, Progress, Reply};
 use rq_model::refusal::Refusal;
 use rq_model::txn::{Sub, Txn};
 use rq_page::layout::Layout;
@@ -183,6 +183,10 @@ impl Script {
             Command::Step(sub) => self.ask(Event::Step(sub)),
             Command::Finish(sub) => self.ask(Event::Finish(sub)),
             Command::Commit(txn) => self.ask(Event::Commit(txn)),
+            Command::Abort(txn) => self.abort(txn),
+            Command::StartAbort(txn) => self.ask(Event::StartAbort(txn)),
+            Command::Undo(txn) => self.ask(Event::UndoNext(txn)),
+            Command::EndAbort(txn) => self.ask(Event::EndAbort(txn)),
             Command::Ack(txn) => self.ack(txn),
             Command::Force => self.ask(Event::Force),
             Command::Write(page) => self.ask(Event::WritePage(page)),
@@ -252,6 +256,26 @@ impl Script {
             }
         }
         Reply::Refused(Refusal::NoMemory)
+    }
+
+    // Undoes all that a transaction did, and ends it. One that is aborting already goes on with that.
+    fn abort(&mut self, txn: Txn) -> Reply {
+        match self.ask(Event::StartAbort(txn)) {
+            Reply::Aborting | Reply::Refused(Refusal::NotOpen) => self.undo_all(txn),
+            reply => reply,
+        }
+    }
+
+    // Undoes what an aborting transaction did, the newest first, and ends it. What is undone before a refusal stays so.
+    fn undo_all(&mut self, txn: Txn) -> Reply {
+        for _ in 0..u64::MAX {
+            match self.whole(Event::UndoNext(txn)) {
+                Reply::Finished(Outcome::Undone) => {}
+                Reply::NothingLeft => return self.ask(Event::EndAbort(txn)),
+                reply => return reply,
+            }
+        }
+        Reply::Refused(Refusal::Unfinished)
     }
 
     fn ack(&mut self, txn: Txn) -> Reply {

@@ -35,6 +35,7 @@ enum Call {
     /// So many sends for the first sender, tagged from 1.
     SendMany(u64),
     Commit,
+    StartAbort,
     Acknowledge,
     HandOver,
     Force,
@@ -50,6 +51,7 @@ enum Answer {
     Ready,
     Sent,
     Committed(Lsn),
+    Aborting,
     Acknowledged(bool),
     HandedOver,
     Forced(Lsn),
@@ -136,6 +138,7 @@ impl Pair {
             Call::Send(sender, tag, body) => self.send(sender, tag, body),
             Call::SendMany(count) => self.send_many(count),
             Call::Commit => self.ask(Event::Commit(self.txn)),
+            Call::StartAbort => self.ask(Event::StartAbort(self.txn)),
             Call::Acknowledge => self.acknowledge(),
             Call::HandOver => self.ask(Event::HandOver),
             Call::Force => self.ask(Event::Force),
@@ -274,6 +277,10 @@ fn ask_lists_once(queue: &mut Reference, event: &Event) -> Result<Answer, Refusa
         Event::Step(sub) => Ok(stepped(lists::step(queue, sub.txn, sub.number)?)),
         Event::Finish(sub) => Ok(finished(lists::finish(queue, sub.txn, sub.number)?)),
         Event::Commit(txn) => Ok(Answer::Committed(lists::commit(queue, *txn)?)),
+        Event::StartAbort(txn) => {
+            lists::start_abort(queue, *txn)?;
+            Ok(Answer::Aborting)
+        }
         Event::Acknowledged(number) => Ok(Answer::Acknowledged(lists::acknowledged(
             queue,
             number.txn(),
@@ -291,6 +298,8 @@ fn ask_lists_once(queue: &mut Reference, event: &Event) -> Result<Answer, Refusa
         Event::StartReceive(_)
         | Event::StartReceiveFrom { .. }
         | Event::StartClose { .. }
+        | Event::UndoNext(_)
+        | Event::EndAbort(_)
         | Event::WritePage(_) => Ok(Answer::Unlisted),
     }
 }
@@ -321,7 +330,9 @@ fn answer_of(reply: &Reply) -> Answer {
         Reply::Acknowledged(given) => Answer::Acknowledged(given.is_some()),
         Reply::HandedOver => Answer::HandedOver,
         Reply::Forced(lsn) => Answer::Forced(*lsn),
-        Reply::NoMessage | Reply::Written(_) => Answer::Other,
+        Reply::Aborting => Answer::Aborting,
+        Reply::NoMessage | Reply::NothingLeft | Reply::Aborted => Answer::Other,
+        Reply::Written(_) => Answer::Other,
         Reply::Content(_) => Answer::Content,
         Reply::Refused(refusal) => Answer::Refused(*refusal),
     }
@@ -514,6 +525,29 @@ fn a_store_filled_to_its_last_cell(rt: HostRuntime) -> Result<(), Fail> {
             (Call::Send(0, 16, b"p"), Answer::Refused(Refusal::Full)),
             (Call::Commit, Answer::Committed(62)),
             (Call::Content, Answer::Group(15, 0, 15)),
+        ],
+        &[],
+    )?;
+    Ok(())
+}
+
+// What it sent is nobody's, and its end is its own still. Nothing is logged.
+#[test]
+fn an_aborting_transaction_does_nothing_more(rt: HostRuntime) -> Result<(), Fail> {
+    check(
+        rt.alloc(),
+        &[
+            (Call::Begin, begun(1, 1)),
+            (Call::Send(0, 1, b"x"), Answer::Sent),
+            (Call::StartAbort, Answer::Aborting),
+            (Call::StartAbort, Answer::Refused(Refusal::NotOpen)),
+            (Call::Commit, Answer::Refused(Refusal::NotOpen)),
+            (Call::Send(15, 1, b"x"), Answer::Refused(Refusal::NotOpen)),
+            (Call::Content, Answer::Group(0, 0, 0)),
+            (Call::Begin, begun(1, 2)),
+            (Call::Send(0, 1, b"y"), Answer::Refused(Refusal::SenderBusy)),
+            (Call::StartAbort, Answer::Aborting),
+            (Call::Force, Answer::Forced(4)),
         ],
         &[],
     )?;

@@ -8,6 +8,8 @@ use rq_model::refusal::Refusal;
 use rq_model::txn::{Lsn, Sub, Txn};
 use std::alloc::{AllocError, Global};
 
+mod undoing;
+
 /// The senders: fifteen for each directory page.
 pub const SENDERS: u32 = 30;
 
@@ -22,13 +24,8 @@ const FIRST_CELLS: u32 = 3;
 
 const SLOTS: u32 = 15;
 
-/// No page, and no cell.
+/// No page.
 const NONE: u32 = 0;
-
-const NO_CELL: Cell = Cell {
-    page: NONE,
-    slot: 0,
-};
 
 /// What is worth counting of a call.
 #[derive(Clone, Copy, Debug, PartialEq, Eq)]
@@ -52,13 +49,37 @@ pub enum Kind {
     TakeNextOpen,
     /// Latched: a receive from any group.
     TakeAny,
-    /// Latched: a close, for its directory page.
+    /// Latched: a close for its directory page.
     CloseDirectory,
-    /// A close is finished.
+    /// A close, of a group that holds messages and of one that holds none.
     Close,
+    CloseEmpty,
+    Closed,
+    /// A send, a receive and a close are undone.
+    SendUndone,
+    TakeUndone,
+    CloseUndone,
+    /// The inverse of a receive takes another cell than the lowest free one.
+    HigherBack,
+    /// Latched: the inverse of a send for its directory page, for its cell's, or for that of the cell before it.
+    UnsendDirectory,
+    UnsendTail,
+    UnsendBefore,
+    /// Latched: the inverse of a receive for its directory page, for the first cell's, or for each page with a free cell.
+    BackDirectory,
+    BackHead,
+    BackCells,
+    /// Latched: the inverse of a close for its directory page.
+    ReopenDirectory,
+    NothingLeft,
+    Aborted,
+    /// An abort is not ended where something is left to undo.
+    EarlyEnd,
+    /// What an open transaction may do is refused to an aborting one, and the other way round.
+    NotOpen,
+    NotAborting,
     Full,
     SenderBusy,
-    Closed,
     ReceiverBusy,
     NoMessage,
     NotForced,
@@ -89,20 +110,25 @@ struct Link {
 enum Act {
     Send(Message),
     Take(Message),
-    /// Closes the group of this sender.
     Close(u32),
+}
+
+/// What the slot writes of an operation touch: the cell of its message, if it has one, and their pages, in order: the
+/// cell's, that of the cell beside, its directory page.
+#[derive(Clone, Copy)]
+struct Reach {
+    cell: Option<Cell>,
+    pages: [u32; 3],
 }
 
 /// The operation under way of a transaction.
 #[derive(Clone, Copy)]
 struct Work {
     number: u64,
+    /// What it does, or undoes.
     act: Act,
-    /// The cell of its message; none for a close.
-    cell: Cell,
-    /// The pages of its slot writes, in order: its cell's, that of the cell beside, its directory page. A close has the
-    /// last alone.
-    pages: [u32; 3],
+    undoes: bool,
+    reach: Reach,
     /// How many slot writes are to come.
     left: u8,
 }
@@ -111,7 +137,8 @@ struct Work {
 #[derive(Drop)]
 struct Row {
     txn: Txn,
-    /// What its finished operations did.
+    aborting: bool,
+    /// What its finished operations did, and is not undone.
     acts: Vec<Act>,
     /// The senders whose sending and receiving ends it holds.
     sending: Vec<u32>,
@@ -128,6 +155,17 @@ struct Group {
     received: u64,
     last_tag: u64,
     closed: bool,
+}
+
+/// A transaction that has not ended, as it is seen from outside.
+#[derive(Clone, Copy)]
+pub struct Seen {
+    pub txn: Txn,
+    pub aborting: bool,
+    /// Whether it has something to undo, or to commit.
+    pub has_done: bool,
+    /// Its operation under way, with how many slot writes are to come.
+    pub under_way: Option<(Sub, u8)>,
 }
 
 /// A page: the LSN of its last change, and of the last one that the device has.
@@ -203,6 +241,9 @@ impl Chains {
             Event::Step(sub) => self.step(*sub),
             Event::Finish(sub) => self.finish(*sub),
             Event::Commit(txn) => self.commit(*txn),
+            Event::StartAbort(txn) => self.start_abort(*txn),
+            Event::UndoNext(txn) => self.undo_next(*txn),
+            Event::EndAbort(txn) => self.end_abort(*txn),
             Event::Force => Ok(self.force()),
             Event::WritePage(page) => self.write(*page),
             Event::Content => Ok(Told::Content),
@@ -218,6 +259,7 @@ impl Chains {
         };
         let row = Row {
             txn,
+            aborting: false,
             acts: Vec::new(self.alloc),
             sending: Vec::new(self.alloc),
             receiving: Vec::new(self.alloc),
@@ -275,9 +317,34 @@ impl Chains {
         if self.lowest_free(true) != Some(cell) {
             self.kind = Kind::HigherCell;
         }
-        let pages = [cell.page, tail, directory];
-        let left = if tail == NONE { 2 } else { 3 };
-        self.start(place, Act::Send(message), cell, pages, left)
+        let reach = Reach {
+            cell: Some(cell),
+            pages: [cell.page, tail, directory],
+        };
+        self.start(place, Act::Send(message), reach)
+    }
+
+    // A close needs its directory page.
+    fn start_close(&mut self, txn: Txn, sender: u32) -> Result<Told, Refusal> {
+        let place = self.idle_place(txn)?;
+        if sender >= SENDERS {
+            return Err(Refusal::UnknownSender);
+        }
+        if self.is_sending_end_held(place, sender) {
+            return Err(Refusal::SenderBusy);
+        }
+        if self.is_closed(place, sender) {
+            return Err(Refusal::Closed);
+        }
+        if self.is_latched(directory_of(sender)) {
+            return self.latched(Kind::CloseDirectory);
+        }
+        self.kind = if self.nth(sender, 0).is_some() {
+            Kind::Close
+        } else {
+            Kind::CloseEmpty
+        };
+        self.start(place, Act::Close(sender), mark_of(sender))
     }
 
     fn start_receive(&mut self, txn: Txn, picked: u32) -> Result<Told, Refusal> {
@@ -362,41 +429,19 @@ impl Chains {
         let Some(head) = self.nth(sender, 0) else {
             return Ok(Told::Other);
         };
-        let next = self.nth_page(sender, 1);
-        let pages = [head.cell.page, next, directory_of(sender)];
-        let left = if next == NONE { 2 } else { 3 };
-        self.start(place, Act::Take(head.message), head.cell, pages, left)
-    }
-
-    // A close needs its directory page alone.
-    fn start_close(&mut self, txn: Txn, sender: u32) -> Result<Told, Refusal> {
-        let place = self.idle_place(txn)?;
-        if sender >= SENDERS {
-            return Err(Refusal::UnknownSender);
-        }
-        if self.is_sending_end_held(place, sender) {
-            return Err(Refusal::SenderBusy);
-        }
-        if self.is_closed(place, sender) {
-            return Err(Refusal::Closed);
-        }
-        let directory = directory_of(sender);
-        if self.is_latched(directory) {
-            return self.latched(Kind::CloseDirectory);
-        }
-        let pages = [NONE, NONE, directory];
-        self.start(place, Act::Close(sender), NO_CELL, pages, 1)
+        let reach = Reach {
+            cell: Some(head.cell),
+            pages: [
+                head.cell.page,
+                self.nth_page(sender, 1),
+                directory_of(sender),
+            ],
+        };
+        self.start(place, Act::Take(head.message), reach)
     }
 
     // The transaction at this place starts an operation, and holds an end from then on.
-    fn start(
-        &mut self,
-        place: usize,
-        act: Act,
-        cell: Cell,
-        pages: [u32; 3],
-        left: u8,
-    ) -> Result<Told, Refusal> {
+    fn start(&mut self, place: usize, act: Act, reach: Reach) -> Result<Told, Refusal> {
         if self.kind == Kind::Other && self.has_work() {
             self.kind = Kind::Beside;
         }
@@ -411,17 +456,7 @@ impl Chains {
         if !held {
             return Err(Refusal::NoMemory);
         }
-        let number = row.number.saturating_add(1);
-        row.number = number;
-        row.work = Some(Work {
-            number,
-            act,
-            cell,
-            pages,
-            left,
-        });
-        let txn = row.txn;
-        Ok(Told::Started(Sub { txn, number }))
+        Ok(Told::Started(begin_work(row, act, false, reach)))
     }
 
     fn latched(&mut self, kind: Kind) -> Result<Told, Refusal> {
@@ -439,8 +474,8 @@ impl Chains {
             row.work = Some(Work {
                 number: work.number,
                 act: work.act,
-                cell: work.cell,
-                pages: work.pages,
+                undoes: work.undoes,
+                reach: work.reach,
                 left: work.left.saturating_sub(1),
             });
         }
@@ -461,8 +496,12 @@ impl Chains {
             return Err(Refusal::Unfinished);
         }
         self.record();
-        self.end_work(place, work.act)?;
-        self.change_chain(&work.act, work.cell)
+        if work.undoes {
+            self.end_undo(place, &work)
+        } else {
+            self.end_work(place, work.act)?;
+            self.change_chain(&work.act, work.reach.cell)
+        }
     }
 
     // The operation under way of the transaction at this place is finished.
@@ -477,17 +516,15 @@ impl Chains {
         Ok(())
     }
 
-    fn change_chain(&mut self, act: &Act, cell: Cell) -> Result<Told, Refusal> {
-        match act {
-            Act::Send(message) => self.append(cell, *message),
-            Act::Take(message) => {
+    fn change_chain(&mut self, act: &Act, cell: Option<Cell>) -> Result<Told, Refusal> {
+        match (act, cell) {
+            (Act::Send(message), Some(cell)) => self.append(cell, *message),
+            (Act::Take(message), Some(cell)) => {
                 self.unlink(cell);
                 Ok(Told::Message(*message))
             }
-            Act::Close(_) => {
-                self.kind = Kind::Close;
-                Ok(Told::Closed)
-            }
+            (Act::Close(_), _) => Ok(Told::Closed),
+            _ => Ok(Told::Other),
         }
     }
 
@@ -574,7 +611,7 @@ impl Chains {
     fn is_latched(&self, page: u32) -> bool {
         for row in &self.rows {
             if let Some(work) = row.work {
-                if page != NONE && work.pages.as_slice().contains(&page) {
+                if page != NONE && work.reach.pages.as_slice().contains(&page) {
                     return true;
                 }
             }
@@ -593,12 +630,18 @@ impl Chains {
         None
     }
 
-    // Where a transaction stands that has no operation under way.
+    // Where an open transaction stands that has no operation under way.
     fn idle_place(&self, txn: Txn) -> Result<usize, Refusal> {
+        self.ready_place(txn, false)
+    }
+
+    // Where a transaction stands that has no operation under way, and is aborting or is not, as asked.
+    fn ready_place(&self, txn: Txn, aborting: bool) -> Result<usize, Refusal> {
         let Some(place) = self.place_of(txn) else {
             return Err(Refusal::UnknownTransaction);
         };
         match self.rows.get(place) {
+            Some(row) if row.aborting != aborting => Err(Refusal::NotOpen),
             Some(row) if row.work.is_none() => Ok(place),
             _ => Err(Refusal::Unfinished),
         }
@@ -640,15 +683,16 @@ impl Chains {
         false
     }
 
-    // Whether the sender's group is closed for the transaction at this place: by a commit, or by itself.
+    // Whether the group is closed for the transaction at this place: by a commit, or by itself.
     fn is_closed(&self, place: usize, sender: u32) -> bool {
-        if let Some(row) = self.rows.get(place) {
-            for act in &row.acts {
-                if is_close(act) && sender_of(act) == sender {
-                    return true;
-                }
-            }
+        match self.rows.get(place) {
+            Some(row) if has_closed(&row.acts, sender) => true,
+            _ => self.is_ended(sender),
         }
+    }
+
+    // Whether a commit closed the group.
+    fn is_ended(&self, sender: u32) -> bool {
         match self.groups.get(sender as usize) {
             Some(group) => group.closed,
             None => false,
@@ -691,7 +735,7 @@ impl Chains {
                 }
             }
             if let Some(work) = row.work {
-                if is_send(&work.act) {
+                if is_send(&work.act) && !work.undoes {
                     cells = cells.saturating_add(1);
                 }
             }
@@ -774,12 +818,22 @@ impl Chains {
         self.rows.len() as u64
     }
 
-    /// The transaction at a place among them, and its operation under way with how many slot writes are to come.
-    pub fn open_at(&self, place: u64) -> Option<(Txn, Option<(Sub, u8)>)> {
+    /// The transaction at a place among them.
+    pub fn open_at(&self, place: u64) -> Option<Seen> {
         match self.rows.get(place as usize) {
-            Some(row) => Some((row.txn, under_way(row))),
+            Some(row) => Some(summed_up(row)),
             None => None,
         }
+    }
+
+    /// The first of them with an operation under way; the first of all, where none has one.
+    pub fn first_to_go_on(&self) -> Option<Seen> {
+        for row in &self.rows {
+            if row.work.is_some() {
+                return Some(summed_up(row));
+            }
+        }
+        self.open_at(0)
     }
 
     /// Whether these groups are the committed content, where every transaction has ended.
@@ -835,9 +889,43 @@ fn new_pages(alloc: Global) -> Result<Vec<Page>, AllocError> {
     Ok(pages)
 }
 
+// What a close touches, or the inverse of one.
+fn mark_of(sender: u32) -> Reach {
+    Reach {
+        cell: None,
+        pages: [NONE, NONE, directory_of(sender)],
+    }
+}
+
+// How many slot writes it takes.
+fn writes_of(reach: &Reach) -> u8 {
+    match reach.pages {
+        [NONE, _, _] => 1,
+        [_, NONE, _] => 2,
+        _ => 3,
+    }
+}
+
+// Its next operation is under way.
+fn begin_work(row: &mut Row, act: Act, undoes: bool, reach: Reach) -> Sub {
+    let number = row.number.saturating_add(1);
+    row.number = number;
+    row.work = Some(Work {
+        number,
+        act,
+        undoes,
+        reach,
+        left: writes_of(&reach),
+    });
+    Sub {
+        txn: row.txn,
+        number,
+    }
+}
+
 // The page of the next slot write of an operation that has not made all.
 fn next_page(work: &Work) -> u32 {
-    let [cell, beside, directory] = work.pages;
+    let [cell, beside, directory] = work.reach.pages;
     match work.left {
         1 => directory,
         2 if beside != NONE => beside,
@@ -847,6 +935,15 @@ fn next_page(work: &Work) -> u32 {
 
 fn directory_of(sender: u32) -> u32 {
     if sender < 15 { 1 } else { 2 }
+}
+
+fn summed_up(row: &Row) -> Seen {
+    Seen {
+        txn: row.txn,
+        aborting: row.aborting,
+        has_done: !row.acts.is_empty(),
+        under_way: under_way(row),
+    }
 }
 
 fn under_way(row: &Row) -> Option<(Sub, u8)> {
@@ -877,8 +974,14 @@ fn is_take(act: &Act) -> bool {
     matches!(act, Act::Take(_))
 }
 
-fn is_close(act: &Act) -> bool {
-    matches!(act, Act::Close(_))
+fn has_closed(acts: &[Act], sender: u32) -> bool {
+    for act in acts {
+        match act {
+            Act::Close(closed) if *closed == sender => return true,
+            _ => {}
+        }
+    }
+    false
 }
 
 fn takes_in(acts: &[Act], sender: u32) -> u64 {
@@ -895,11 +998,14 @@ fn takes_in(acts: &[Act], sender: u32) -> u64 {
 fn kind_of(told: &Told) -> Kind {
     match told {
         Told::NoMessage => Kind::NoMessage,
+        Told::NothingLeft => Kind::NothingLeft,
+        Told::Aborted => Kind::Aborted,
         Told::Written => Kind::Written,
+        Told::Refused(Refusal::NotOpen) => Kind::NotOpen,
+        Told::Refused(Refusal::Closed) => Kind::Closed,
         Told::Refused(Refusal::NotForced) => Kind::NotForced,
         Told::Refused(Refusal::Full) => Kind::Full,
         Told::Refused(Refusal::SenderBusy) => Kind::SenderBusy,
-        Told::Refused(Refusal::Closed) => Kind::Closed,
         Told::Refused(Refusal::ReceiverBusy) => Kind::ReceiverBusy,
         Told::Refused(Refusal::Unfinished) => Kind::Unfinished,
         Told::Refused(Refusal::UnknownTransaction) => Kind::UnknownTransaction,

@@ -1,6 +1,6 @@
 //! Courses of several transactions that a seed gives. A course is drawn beside the plain lists, so that most of its
 //! numbers are good.
-use crate::chains::{Chains, PAGES, SENDERS};
+use crate::chains::{Chains, PAGES, SENDERS, Seen};
 use crate::random::Random;
 use rq_engine::event::Event;
 use rq_model::txn::{Sub, Txn};
@@ -9,8 +9,8 @@ use std::alloc::{AllocError, Global};
 /// So many transactions may be open at once.
 const OPEN: u64 = 4;
 
-/// At most so many calls end a transaction: three steps, a finish and a commit.
-const END: u64 = 5;
+/// At most so many calls end the transactions of a course.
+const END: u64 = 1000;
 
 /// No sender: a receive from any group is drawn as if it took from the lowest.
 pub const LOWEST: u32 = u32::MAX;
@@ -20,10 +20,14 @@ pub const LOWEST: u32 = u32::MAX;
 struct Shape {
     /// How many calls, before its transactions end.
     length: u64,
+    /// So many of them come first, in which nothing is received, aborted or closed.
+    filling: u64,
     /// Of so many calls of a transaction with nothing under way.
     sends: u64,
     takes: u64,
     commits: u64,
+    aborts: u64,
+    closes: u64,
     /// How many senders of each directory page.
     senders: u64,
 }
@@ -52,7 +56,7 @@ pub fn drawn(alloc: Global, seed: u64) -> Result<Vec<Event>, AllocError> {
         let event = drawing.next()?;
         drawing.add(event)?;
     }
-    for _ in 0..OPEN * END {
+    for _ in 0..END {
         drawing.end_one()?;
     }
     drawing.write_all()?;
@@ -67,36 +71,58 @@ pub fn drawn(alloc: Global, seed: u64) -> Result<Vec<Event>, AllocError> {
     Ok(events)
 }
 
-// Courses that fill the store, that keep it full, that keep it nearly empty, and that have few groups.
+// Courses that fill the store, that keep it full, that keep it nearly empty, that have few groups, and that abort often.
 fn shape_of(seed: u64) -> Shape {
-    match seed % 4 {
+    match seed % 5 {
         0 => Shape {
-            length: 1100,
+            length: 1200,
+            filling: 700,
             sends: 30,
-            takes: 4,
+            takes: 12,
             commits: 4,
+            aborts: 2,
+            closes: 0,
             senders: 4,
         },
         1 => Shape {
             length: 900,
-            sends: 20,
-            takes: 14,
-            commits: 8,
+            filling: 0,
+            sends: 24,
+            takes: 10,
+            commits: 5,
+            aborts: 2,
+            closes: 0,
             senders: 3,
         },
         2 => Shape {
             length: 300,
+            filling: 0,
             sends: 4,
             takes: 6,
             commits: 2,
+            aborts: 1,
+            closes: 0,
             senders: 3,
         },
-        _ => Shape {
+        3 => Shape {
             length: 500,
+            filling: 0,
             sends: 9,
             takes: 6,
             commits: 2,
+            aborts: 0,
+            closes: 0,
             senders: 1,
+        },
+        _ => Shape {
+            length: 900,
+            filling: 0,
+            sends: 24,
+            takes: 24,
+            commits: 4,
+            aborts: 4,
+            closes: 2,
+            senders: 7,
         },
     }
 }
@@ -121,11 +147,28 @@ impl Drawing {
         }
         let place = self.random.below(open);
         match self.chains.open_at(place) {
-            Some((_, Some((sub, left)))) if !self.random.is_first_of(16) => {
-                Ok(self.go_on(sub, left))
-            }
-            Some((txn, _)) => self.start(txn),
+            Some(seen) => self.of(&seen),
             None => Ok(Event::Begin),
+        }
+    }
+
+    // Of a transaction that has not ended.
+    fn of(&mut self, seen: &Seen) -> Result<Event, AllocError> {
+        match seen.under_way {
+            Some((sub, left)) if !self.random.is_first_of(16) => Ok(self.go_on(sub, left)),
+            _ if seen.aborting && !self.random.is_first_of(10) => Ok(self.abort_on(seen)),
+            _ if self.random.is_first_of(60) => Ok(self.abort_on(seen)),
+            _ => self.start(seen.txn),
+        }
+    }
+
+    // Most times what an abort waits for.
+    fn abort_on(&mut self, seen: &Seen) -> Event {
+        let is_early = self.random.is_first_of(10);
+        if seen.has_done == is_early {
+            Event::EndAbort(seen.txn)
+        } else {
+            Event::UndoNext(seen.txn)
         }
     }
 
@@ -136,11 +179,13 @@ impl Drawing {
             count: self.random.below(60),
         };
         let number = self.random.below(4);
-        match self.random.below(4) {
+        match self.random.below(8) {
             0 => Event::StartReceive(txn),
-            1 => Event::Step(Sub { txn, number }),
-            2 => Event::Finish(Sub { txn, number }),
-            _ => Event::Commit(txn),
+            1 | 2 => Event::Step(Sub { txn, number }),
+            3 | 4 => Event::Finish(Sub { txn, number }),
+            5 => Event::Commit(txn),
+            6 => Event::StartAbort(txn),
+            _ => Event::EndAbort(txn),
         }
     }
 
@@ -169,34 +214,46 @@ impl Drawing {
             sends,
             takes,
             commits,
+            aborts,
+            closes,
             length: _,
+            filling,
             senders: _,
         } = self.shape;
-        let others = sends.saturating_add(takes);
-        let drawn = self.random.below(others.saturating_add(commits));
-        if drawn < sends {
-            self.send(txn)
-        } else if drawn >= others {
-            Ok(self.end_of(txn))
-        } else if self.random.is_first_of(2) {
-            Ok(Event::StartReceive(txn))
+        let commits = sends.saturating_add(commits);
+        let takes = commits.saturating_add(takes);
+        let aborts = takes.saturating_add(aborts);
+        let all = if (self.events.len() as u64) < filling {
+            commits
         } else {
-            Ok(Event::StartReceiveFrom {
-                txn,
-                sender: self.sender(),
-            })
+            aborts.saturating_add(closes)
+        };
+        let drawn = self.random.below(all);
+        if drawn < sends {
+            return self.send(txn);
         }
-    }
-
-    // Few closes, since a group that is closed takes no more messages.
-    fn end_of(&mut self, txn: Txn) -> Event {
-        if self.random.is_first_of(20) {
+        Ok(if drawn < commits {
+            Event::Commit(txn)
+        } else if drawn < takes {
+            self.take(txn)
+        } else if drawn < aborts {
+            Event::StartAbort(txn)
+        } else {
             Event::StartClose {
                 txn,
                 sender: self.sender(),
             }
+        })
+    }
+
+    fn take(&mut self, txn: Txn) -> Event {
+        if self.random.is_first_of(2) {
+            Event::StartReceive(txn)
         } else {
-            Event::Commit(txn)
+            Event::StartReceiveFrom {
+                txn,
+                sender: self.sender(),
+            }
         }
     }
 
@@ -240,13 +297,17 @@ impl Drawing {
         Ok(())
     }
 
-    // The next call of the first transaction, so that it ends.
+    // The next call of a transaction, so that it ends.
     fn end_one(&mut self) -> Result<(), AllocError> {
-        match self.chains.open_at(0) {
-            Some((_, Some((sub, 0)))) => self.add(Event::Finish(sub)),
-            Some((_, Some((sub, _)))) => self.add(Event::Step(sub)),
-            Some((txn, None)) => self.add(Event::Commit(txn)),
-            None => Ok(()),
-        }
+        let Some(seen) = self.chains.first_to_go_on() else {
+            return Ok(());
+        };
+        self.add(match seen.under_way {
+            Some((sub, 0)) => Event::Finish(sub),
+            Some((sub, _)) => Event::Step(sub),
+            None if !seen.aborting => Event::Commit(seen.txn),
+            None if seen.has_done => Event::UndoNext(seen.txn),
+            None => Event::EndAbort(seen.txn),
+        })
     }
 }

@@ -1,6 +1,7 @@
 //! Scripts, and what they print.
 use rq_page::layout::Layout;
 use rq_script::run_script;
+use std::io::Write;
 use std::process::Abort;
 use std::test::Fail;
 
@@ -29,14 +30,52 @@ fn check_wide(
     status: u8,
 ) -> Result<(), Fail> {
     let layout = Layout::new(directory, cells).ok_or("a store")?;
+    compare(rt, layout, script.as_bytes(), wanted.as_bytes(), status)
+}
+
+// Runs commands over a store of so many directory and cell pages. Each prints what stands beside it.
+fn check_each(
+    rt: &(impl Abort + AllocGlobal),
+    directory: u32,
+    cells: u32,
+    commands: &[(&str, &str)],
+) -> Result<(), Fail> {
+    check_to_its_end(rt, directory, cells, commands, 0)
+}
+
+// The same, with the status of its end.
+fn check_to_its_end(
+    rt: &(impl Abort + AllocGlobal),
+    directory: u32,
+    cells: u32,
+    commands: &[(&str, &str)],
+    status: u8,
+) -> Result<(), Fail> {
+    let layout = Layout::new(directory, cells).ok_or("a store")?;
+    let mut script = Vec::new(rt.alloc());
+    let mut wanted = Vec::new(rt.alloc());
+    for (command, printed) in commands {
+        writeln!(script, "{command}").map_err(|_| "memory")?;
+        writeln!(wanted, "{printed}").map_err(|_| "memory")?;
+    }
+    compare(rt, layout, &script, &wanted, status)
+}
+
+fn compare(
+    rt: &(impl Abort + AllocGlobal),
+    layout: Layout,
+    script: &[u8],
+    wanted: &[u8],
+    status: u8,
+) -> Result<(), Fail> {
     let mut output = Vec::new(rt.alloc());
-    let mut input = script.as_bytes();
+    let mut input = script;
     let ended = run_script(rt.alloc(), &mut input, &mut output, layout);
     let opened = output
         .as_slice()
         .strip_prefix(OPENED.as_bytes())
         .ok_or("an opening")?;
-    assert_eq!(rt; opened, wanted.as_bytes());
+    assert_eq!(rt; opened, wanted);
     assert_eq!(rt; ended, status);
     Ok(())
 }
@@ -189,6 +228,12 @@ fn a_line_that_is_no_command_is_a_fault(rt: HostRuntime) -> Result<(), Fail> {
         "recv 1.1 0",
         "recv-from 1.1",
         "recv-from 1.1 4294967296",
+        "close 1.1",
+        "abort",
+        "abort 1.1 ",
+        "start-abort 1",
+        "undo 1.1 1",
+        "end-abort 1.",
         "write",
         "write 1 ",
         "fail",
@@ -408,5 +453,648 @@ fn a_store_that_failed_runs_again_after_a_restart(rt: HostRuntime) -> Result<(),
         "fail force\nforce\nack 1.1\nbegin\ncrash 0\nrestart\nbegin\ncommit 2.1\nforce\nack 2.1\n",
         "armed\nrefused 15 DiskWrite\nrefused 2 Failed\nrefused 2 Failed\ncrashed 1\nrestarted 2 unfinished 0 lost 0\nbegun 2.1\ncommit 3\nforced 3\nyes\n",
         0,
+    )
+}
+
+// What is undone is as if it had never been, whichever of two is undone first. A message comes back to its place.
+#[test]
+fn an_abort_takes_back_what_was_sent_and_received(rt: HostRuntime) -> Result<(), Fail> {
+    for (first, second, forced) in [
+        ("abort 1.2", "abort 1.3", "forced 21"),
+        ("abort 1.3", "abort 1.2", "forced 23"),
+    ] {
+        check_each(
+            &rt,
+            1,
+            1,
+            &[
+                ("begin", "begun 1.1"),
+                ("send 1.1 0 1 a", "sent"),
+                ("commit 1.1", "commit 5"),
+                ("begin", "begun 1.2"),
+                ("send 1.2 0 2 b", "sent"),
+                ("begin", "begun 1.3"),
+                ("recv 1.3", "msg 0 1 a"),
+                (first, "aborted"),
+                (second, "aborted"),
+                ("dump", "0 open sent 1 received 0: a"),
+                ("force", forced),
+                ("commit 1.2", "refused 4 UnknownTransaction"),
+                ("recv 1.3", "refused 4 UnknownTransaction"),
+            ],
+        )?;
+    }
+    Ok(())
+}
+
+#[test]
+fn a_close_is_undone(rt: HostRuntime) -> Result<(), Fail> {
+    check_each(
+        &rt,
+        1,
+        1,
+        &[
+            ("begin", "begun 1.1"),
+            ("close 1.1 0", "closed"),
+            ("abort 1.1", "aborted"),
+            ("begin", "begun 1.2"),
+            ("send 1.2 0 1 a", "sent"),
+            ("close 1.2 0", "closed"),
+            ("send 1.2 0 2 b", "refused 10 Closed"),
+            ("commit 1.2", "commit 12"),
+            ("begin", "begun 1.3"),
+            ("send 1.3 0 2 b", "refused 10 Closed"),
+            ("recv 1.3", "msg 0 1 a"),
+            ("commit 1.3", "commit 16"),
+            ("dump", "0 closed sent 1 received 1:"),
+        ],
+    )
+}
+
+#[test]
+fn an_abort_step_by_step(rt: HostRuntime) -> Result<(), Fail> {
+    check_each(
+        &rt,
+        1,
+        1,
+        &[
+            ("begin", "begun 1.1"),
+            ("send 1.1 0 1 a", "sent"),
+            ("start-abort 1.1", "aborting"),
+            ("send 1.1 0 2 b", "refused 5 NotOpen"),
+            ("end-abort 1.1", "refused 6 Unfinished"),
+            ("undo 1.1", "op 1.1 2"),
+            ("step 1.1 2", "lsn 5"),
+            ("step 1.1 2", "lsn 6"),
+            ("step 1.1 2", "ready"),
+            ("finish 1.1 2", "undone"),
+            ("undo 1.1", "none"),
+            ("end-abort 1.1", "aborted"),
+            ("force", "forced 8"),
+            ("dump", "empty"),
+        ],
+    )
+}
+
+#[test]
+fn what_an_abort_puts_back_is_received_by_others(rt: HostRuntime) -> Result<(), Fail> {
+    check_each(
+        &rt,
+        1,
+        1,
+        &[
+            ("begin", "begun 1.1"),
+            ("send 1.1 3 1 a", "sent"),
+            ("send 1.1 9 2 b", "sent"),
+            ("commit 1.1", "commit 8"),
+            ("begin", "begun 1.2"),
+            ("recv-from 1.2 3", "msg 3 1 a"),
+            ("begin", "begun 1.3"),
+            ("recv 1.3", "msg 9 2 b"),
+            ("begin", "begun 1.4"),
+            ("recv 1.4", "none"),
+            ("abort 1.2", "aborted"),
+            ("recv 1.4", "msg 3 1 a"),
+        ],
+    )
+}
+
+// Several come back in their order, the last one first.
+#[test]
+fn messages_come_back_in_their_order(rt: HostRuntime) -> Result<(), Fail> {
+    check_each(
+        &rt,
+        1,
+        1,
+        &[
+            ("begin", "begun 1.1"),
+            ("send 1.1 0 1 a", "sent"),
+            ("send 1.1 0 2 b", "sent"),
+            ("send 1.1 0 3 c", "sent"),
+            ("commit 1.1", "commit 13"),
+            ("begin", "begun 1.2"),
+            ("recv 1.2", "msg 0 1 a"),
+            ("recv 1.2", "msg 0 2 b"),
+            ("abort 1.2", "aborted"),
+            ("dump", "0 open sent 3 received 0: a b c"),
+            ("begin", "begun 1.3"),
+            ("recv 1.3", "msg 0 1 a"),
+            ("recv 1.3", "msg 0 2 b"),
+            ("recv 1.3", "msg 0 3 c"),
+            ("recv 1.3", "none"),
+        ],
+    )
+}
+
+// The calls of an abort are of an aborting transaction alone, all others of an open one.
+#[test]
+fn aborting_and_open_transactions_are_told_apart(rt: HostRuntime) -> Result<(), Fail> {
+    check_each(
+        &rt,
+        1,
+        1,
+        &[
+            ("begin", "begun 1.1"),
+            ("undo 1.1", "refused 5 NotOpen"),
+            ("end-abort 1.1", "refused 5 NotOpen"),
+            ("open-send 1.1 0 1 a", "op 1.1 1"),
+            ("undo 1.1", "refused 5 NotOpen"),
+            ("end-abort 1.1", "refused 5 NotOpen"),
+            ("start-abort 1.1", "refused 6 Unfinished"),
+            ("abort 1.1", "refused 6 Unfinished"),
+            ("step 1.1 1", "lsn 2"),
+            ("step 1.1 1", "lsn 3"),
+            ("finish 1.1 1", "sent"),
+            ("start-abort 1.1", "aborting"),
+            ("start-abort 1.1", "refused 5 NotOpen"),
+            ("commit 1.1", "refused 5 NotOpen"),
+            ("send 1.1 15 1 b", "refused 5 NotOpen"),
+            ("recv 1.1", "refused 5 NotOpen"),
+            ("recv-from 1.1 15", "refused 5 NotOpen"),
+            ("close 1.1 15", "refused 5 NotOpen"),
+            ("undo 1.1", "op 1.1 2"),
+            ("commit 1.1", "refused 5 NotOpen"),
+            ("undo 1.1", "refused 6 Unfinished"),
+            ("end-abort 1.1", "refused 6 Unfinished"),
+            ("abort 1.1", "refused 6 Unfinished"),
+            ("finish 1.1 2", "refused 6 Unfinished"),
+            ("dump", "refused 6 Unfinished"),
+            ("step 1.1 1", "refused 20 UnknownOperation"),
+            ("step 1.1 2", "lsn 5"),
+            ("step 1.1 2", "lsn 6"),
+            ("finish 1.1 2", "undone"),
+            ("abort 1.1", "aborted"),
+            ("abort 1.1", "refused 4 UnknownTransaction"),
+            ("start-abort 1.1", "refused 4 UnknownTransaction"),
+            ("undo 1.1", "refused 4 UnknownTransaction"),
+            ("end-abort 1.1", "refused 4 UnknownTransaction"),
+            ("step 1.1 2", "refused 20 UnknownOperation"),
+        ],
+    )
+}
+
+// An abort of nothing is one record.
+#[test]
+fn an_abort_of_nothing(rt: HostRuntime) -> Result<(), Fail> {
+    check_each(
+        &rt,
+        1,
+        1,
+        &[
+            ("begin", "begun 1.1"),
+            ("abort 1.1", "aborted"),
+            ("begin", "begun 1.2"),
+            ("start-abort 1.2", "aborting"),
+            ("undo 1.2", "none"),
+            ("undo 1.2", "none"),
+            ("end-abort 1.2", "aborted"),
+            ("begin", "begun 1.3"),
+            ("force", "forced 3"),
+            ("dump", "empty"),
+        ],
+    )
+}
+
+#[test]
+fn ends_are_held_until_the_abort_ends(rt: HostRuntime) -> Result<(), Fail> {
+    check_each(
+        &rt,
+        1,
+        1,
+        &[
+            ("begin", "begun 1.1"),
+            ("send 1.1 0 1 a", "sent"),
+            ("commit 1.1", "commit 5"),
+            ("begin", "begun 1.2"),
+            ("recv 1.2", "msg 0 1 a"),
+            ("send 1.2 0 2 b", "sent"),
+            ("begin", "begun 1.3"),
+            ("start-abort 1.2", "aborting"),
+            ("undo 1.2", "op 1.2 3"),
+            ("step 1.2 3", "lsn 12"),
+            ("step 1.2 3", "lsn 13"),
+            ("finish 1.2 3", "undone"),
+            ("send 1.3 0 3 c", "refused 9 SenderBusy"),
+            ("undo 1.2", "op 1.2 4"),
+            ("step 1.2 4", "lsn 15"),
+            ("step 1.2 4", "lsn 16"),
+            ("finish 1.2 4", "undone"),
+            ("recv-from 1.3 0", "refused 11 ReceiverBusy"),
+            ("recv 1.3", "none"),
+            ("close 1.3 0", "refused 9 SenderBusy"),
+            ("end-abort 1.2", "aborted"),
+            ("send 1.3 0 3 c", "sent"),
+            ("recv-from 1.3 0", "msg 0 1 a"),
+            ("commit 1.3", "commit 27"),
+            ("dump", "0 open sent 2 received 1: c"),
+        ],
+    )
+}
+
+// A send, a receive and a close of one group are undone from the last to the first, each with its records.
+#[test]
+fn a_send_a_receive_and_a_close_are_undone(rt: HostRuntime) -> Result<(), Fail> {
+    check_each(
+        &rt,
+        1,
+        1,
+        &[
+            ("begin", "begun 1.1"),
+            ("send 1.1 0 1 a", "sent"),
+            ("commit 1.1", "commit 5"),
+            ("begin", "begun 1.2"),
+            ("send 1.2 0 2 b", "sent"),
+            ("recv 1.2", "msg 0 1 a"),
+            ("close 1.2 0", "closed"),
+            ("start-abort 1.2", "aborting"),
+            ("undo 1.2", "op 1.2 4"),
+            ("step 1.2 4", "lsn 16"),
+            ("step 1.2 4", "ready"),
+            ("finish 1.2 4", "undone"),
+            ("undo 1.2", "op 1.2 5"),
+            ("step 1.2 5", "lsn 18"),
+            ("step 1.2 5", "lsn 19"),
+            ("step 1.2 5", "lsn 20"),
+            ("step 1.2 5", "ready"),
+            ("finish 1.2 5", "undone"),
+            ("undo 1.2", "op 1.2 6"),
+            ("step 1.2 6", "lsn 22"),
+            ("step 1.2 6", "lsn 23"),
+            ("step 1.2 6", "lsn 24"),
+            ("step 1.2 6", "ready"),
+            ("finish 1.2 6", "undone"),
+            ("undo 1.2", "none"),
+            ("end-abort 1.2", "aborted"),
+            ("force", "forced 26"),
+            ("dump", "0 open sent 1 received 0: a"),
+        ],
+    )
+}
+
+#[test]
+fn a_close_a_receive_and_a_send_are_undone(rt: HostRuntime) -> Result<(), Fail> {
+    check_each(
+        &rt,
+        1,
+        1,
+        &[
+            ("begin", "begun 1.1"),
+            ("send 1.1 0 1 a", "sent"),
+            ("commit 1.1", "commit 5"),
+            ("begin", "begun 1.2"),
+            ("close 1.2 0", "closed"),
+            ("recv 1.2", "msg 0 1 a"),
+            ("send 1.2 1 2 b", "sent"),
+            ("abort 1.2", "aborted"),
+            ("force", "forced 22"),
+            ("dump", "0 open sent 1 received 0: a"),
+            ("begin", "begun 1.3"),
+            ("send 1.3 0 2 c", "sent"),
+            ("send 1.3 1 3 d", "sent"),
+            ("commit 1.3", "commit 30"),
+            (
+                "dump",
+                "0 open sent 2 received 0: a c\n1 open sent 1 received 0: d",
+            ),
+        ],
+    )
+}
+
+// The cell that a receive has left may be taken by another's send, but then another one is kept free for what comes
+// back: all cells are in use.
+#[test]
+fn a_message_that_comes_back_finds_a_cell(rt: HostRuntime) -> Result<(), Fail> {
+    check_each(
+        &rt,
+        1,
+        1,
+        &[
+            ("begin", "begun 1.1"),
+            ("send 1.1 0 1 a", "sent"),
+            ("send 1.1 0 2 b", "sent"),
+            ("send 1.1 0 3 c", "sent"),
+            ("send 1.1 0 4 d", "sent"),
+            ("send 1.1 0 5 e", "sent"),
+            ("send 1.1 0 6 f", "sent"),
+            ("send 1.1 0 7 g", "sent"),
+            ("send 1.1 0 8 h", "sent"),
+            ("send 1.1 0 9 i", "sent"),
+            ("send 1.1 0 10 j", "sent"),
+            ("send 1.1 0 11 k", "sent"),
+            ("send 1.1 0 12 l", "sent"),
+            ("send 1.1 0 13 m", "sent"),
+            ("send 1.1 0 14 n", "sent"),
+            ("commit 1.1", "commit 57"),
+            ("begin", "begun 1.2"),
+            ("recv 1.2", "msg 0 1 a"),
+            ("begin", "begun 1.3"),
+            ("send 1.3 1 1 x", "sent"),
+            ("send 1.3 1 2 y", "refused 12 Full"),
+            ("start-abort 1.2", "aborting"),
+            ("send 1.3 1 2 y", "refused 12 Full"),
+            ("abort 1.2", "aborted"),
+            ("send 1.3 1 2 y", "refused 12 Full"),
+            ("abort 1.3", "aborted"),
+            ("begin", "begun 1.4"),
+            ("send 1.4 1 2 y", "sent"),
+            (
+                "dump",
+                "0 open sent 14 received 0: a b c d e f g h i j k l m n",
+            ),
+            ("recv 1.4", "msg 0 1 a"),
+        ],
+    )
+}
+
+// In a small store each operation needs the one directory page.
+#[test]
+fn an_abort_waits_for_latched_pages(rt: HostRuntime) -> Result<(), Fail> {
+    check_each(
+        &rt,
+        1,
+        1,
+        &[
+            ("begin", "begun 1.1"),
+            ("send 1.1 0 1 a", "sent"),
+            ("commit 1.1", "commit 5"),
+            ("begin", "begun 1.2"),
+            ("recv 1.2", "msg 0 1 a"),
+            ("begin", "begun 1.3"),
+            ("open-send 1.3 1 1 x", "op 1.3 1"),
+            ("abort 1.2", "refused 13 Latched"),
+            ("commit 1.2", "refused 5 NotOpen"),
+            ("undo 1.2", "refused 13 Latched"),
+            ("end-abort 1.2", "refused 6 Unfinished"),
+            ("step 1.3 1", "lsn 9"),
+            ("abort 1.2", "refused 13 Latched"),
+            ("step 1.3 1", "lsn 10"),
+            ("step 1.3 1", "ready"),
+            ("undo 1.2", "refused 13 Latched"),
+            ("finish 1.3 1", "sent"),
+            ("undo 1.2", "op 1.2 2"),
+            ("recv 1.3", "none"),
+            ("send 1.3 2 1 y", "refused 13 Latched"),
+            ("step 1.2 2", "lsn 12"),
+            ("step 1.2 2", "lsn 13"),
+            ("finish 1.2 2", "undone"),
+            ("abort 1.2", "aborted"),
+            ("commit 1.3", "commit 16"),
+            (
+                "dump",
+                "0 open sent 1 received 0: a\n1 open sent 1 received 0: x",
+            ),
+        ],
+    )
+}
+
+// The inverses of a send and of a close need the directory page, too.
+#[test]
+fn aborts_of_a_send_and_of_a_close_wait_for_latched_pages(rt: HostRuntime) -> Result<(), Fail> {
+    check_each(
+        &rt,
+        1,
+        1,
+        &[
+            ("begin", "begun 1.1"),
+            ("send 1.1 0 1 a", "sent"),
+            ("begin", "begun 1.2"),
+            ("close 1.2 1", "closed"),
+            ("begin", "begun 1.3"),
+            ("open-send 1.3 2 1 x", "op 1.3 1"),
+            ("abort 1.1", "refused 13 Latched"),
+            ("abort 1.2", "refused 13 Latched"),
+            ("step 1.3 1", "lsn 7"),
+            ("step 1.3 1", "lsn 8"),
+            ("finish 1.3 1", "sent"),
+            ("abort 1.2", "aborted"),
+            ("abort 1.1", "aborted"),
+            ("commit 1.3", "commit 17"),
+            ("dump", "2 open sent 1 received 0: x"),
+        ],
+    )
+}
+
+// The send under way is on the other directory page, and took the cell that the receive has left. Where there is another
+// page of cells, the message goes there; where there is none, it waits.
+#[test]
+fn a_message_comes_back_to_a_page_that_nobody_has_latched(rt: HostRuntime) -> Result<(), Fail> {
+    check_each(
+        &rt,
+        2,
+        2,
+        &[
+            ("begin", "begun 1.1"),
+            ("send 1.1 0 1 a", "sent"),
+            ("commit 1.1", "commit 5"),
+            ("force", "forced 5"),
+            ("write 1", "written"),
+            ("write 3", "written"),
+            ("write 4", "nothing"),
+            ("begin", "begun 1.2"),
+            ("recv 1.2", "msg 0 1 a"),
+            ("begin", "begun 1.3"),
+            ("open-send 1.3 15 1 x", "op 1.3 1"),
+            ("abort 1.2", "aborted"),
+            ("force", "forced 12"),
+            ("write 4", "written"),
+            ("step 1.3 1", "lsn 13"),
+            ("step 1.3 1", "lsn 14"),
+            ("finish 1.3 1", "sent"),
+            ("commit 1.3", "commit 16"),
+            (
+                "dump",
+                "0 open sent 1 received 0: a\n15 open sent 1 received 0: x",
+            ),
+        ],
+    )?;
+    check_each(
+        &rt,
+        2,
+        1,
+        &[
+            ("begin", "begun 1.1"),
+            ("send 1.1 0 1 a", "sent"),
+            ("commit 1.1", "commit 5"),
+            ("begin", "begun 1.2"),
+            ("recv 1.2", "msg 0 1 a"),
+            ("begin", "begun 1.3"),
+            ("open-send 1.3 15 1 x", "op 1.3 1"),
+            ("abort 1.2", "refused 13 Latched"),
+            ("step 1.3 1", "lsn 9"),
+            ("step 1.3 1", "lsn 10"),
+            ("finish 1.3 1", "sent"),
+            ("abort 1.2", "aborted"),
+            ("commit 1.3", "commit 16"),
+            (
+                "dump",
+                "0 open sent 1 received 0: a\n15 open sent 1 received 0: x",
+            ),
+        ],
+    )
+}
+
+#[test]
+fn an_abort_goes_on_beside_an_operation_on_other_pages(rt: HostRuntime) -> Result<(), Fail> {
+    check_each(
+        &rt,
+        2,
+        2,
+        &[
+            ("begin", "begun 1.1"),
+            ("open-send 1.1 15 1 x", "op 1.1 1"),
+            ("begin", "begun 1.2"),
+            ("send 1.2 0 1 a", "sent"),
+            ("close 1.2 1", "closed"),
+            ("abort 1.2", "aborted"),
+            ("step 1.1 1", "lsn 13"),
+            ("step 1.1 1", "lsn 14"),
+            ("finish 1.1 1", "sent"),
+            ("commit 1.1", "commit 16"),
+            ("dump", "15 open sent 1 received 0: x"),
+        ],
+    )
+}
+
+// The close is undone before the receive is refused: that stays, and the abort goes on from there.
+#[test]
+fn what_is_undone_before_a_refusal_stays_undone(rt: HostRuntime) -> Result<(), Fail> {
+    check_each(
+        &rt,
+        2,
+        2,
+        &[
+            ("begin", "begun 1.1"),
+            ("send 1.1 0 1 a", "sent"),
+            ("commit 1.1", "commit 5"),
+            ("begin", "begun 1.2"),
+            ("recv 1.2", "msg 0 1 a"),
+            ("close 1.2 15", "closed"),
+            ("begin", "begun 1.3"),
+            ("open-send 1.3 1 1 x", "op 1.3 1"),
+            ("abort 1.2", "refused 13 Latched"),
+            ("commit 1.2", "refused 5 NotOpen"),
+            ("step 1.3 1", "lsn 13"),
+            ("step 1.3 1", "lsn 14"),
+            ("finish 1.3 1", "sent"),
+            ("undo 1.2", "op 1.2 4"),
+            ("step 1.2 4", "lsn 16"),
+            ("step 1.2 4", "lsn 17"),
+            ("step 1.2 4", "ready"),
+            ("finish 1.2 4", "undone"),
+            ("abort 1.2", "aborted"),
+            ("commit 1.3", "commit 20"),
+            (
+                "dump",
+                "0 open sent 1 received 0: a\n1 open sent 1 received 0: x",
+            ),
+        ],
+    )
+}
+
+// A transaction whose abort has ended is neither unfinished nor lost, whichever images a crash leaves.
+#[test]
+fn an_abort_outlives_a_crash(rt: HostRuntime) -> Result<(), Fail> {
+    for crash in ["crash 0", "crash all old", "crash 0 old"] {
+        check_each(
+            &rt,
+            1,
+            1,
+            &[
+                ("begin", "begun 1.1"),
+                ("send 1.1 0 1 a", "sent"),
+                ("commit 1.1", "commit 5"),
+                ("begin", "begun 1.2"),
+                ("send 1.2 0 2 b", "sent"),
+                ("close 1.2 0", "closed"),
+                ("begin", "begun 1.3"),
+                ("recv 1.3", "msg 0 1 a"),
+                ("abort 1.2", "aborted"),
+                ("abort 1.3", "aborted"),
+                ("force", "forced 25"),
+                ("write 1", "written"),
+                ("write 2", "written"),
+                (crash, "crashed 25"),
+                ("abort 1.1", "refused 2 Failed"),
+                ("restart", "restarted 2 unfinished 0 lost 0"),
+                ("dump", "0 open sent 1 received 0: a"),
+                ("abort 1.2", "refused 4 UnknownTransaction"),
+                ("begin", "begun 2.1"),
+                ("recv 2.1", "msg 0 1 a"),
+                ("recv 2.1", "none"),
+                ("send 2.1 0 2 c", "sent"),
+            ],
+        )?;
+    }
+    Ok(())
+}
+
+// Before the last record of an abort its transaction is lost, or in the midst of an inverse unfinished, too: neither is
+// opened yet.
+#[test]
+fn an_abort_in_its_midst_is_not_opened_yet(rt: HostRuntime) -> Result<(), Fail> {
+    for (crash, crashed) in [
+        ("crash all", "crashed 14"),
+        ("crash 12", "crashed 13"),
+        ("crash 5", "crashed 6"),
+    ] {
+        check_to_its_end(
+            &rt,
+            1,
+            1,
+            &[
+                ("begin", "begun 1.1"),
+                ("send 1.1 0 1 a", "sent"),
+                ("commit 1.1", "commit 5"),
+                ("begin", "begun 1.2"),
+                ("send 1.2 0 2 b", "sent"),
+                ("send 1.2 0 3 c", "sent"),
+                ("start-abort 1.2", "aborting"),
+                ("undo 1.2", "op 1.2 3"),
+                ("step 1.2 3", "lsn 14"),
+                (crash, crashed),
+                ("restart", "fault 6 Unfinished"),
+            ],
+            1,
+        )?;
+    }
+    check_to_its_end(
+        &rt,
+        1,
+        1,
+        &[
+            ("begin", "begun 1.1"),
+            ("send 1.1 0 1 a", "sent"),
+            ("abort 1.1", "aborted"),
+            ("crash 6", "crashed 7"),
+            ("restart", "fault 6 Unfinished"),
+        ],
+        1,
+    )
+}
+
+#[test]
+fn a_store_that_failed_aborts_nothing(rt: HostRuntime) -> Result<(), Fail> {
+    check_each(
+        &rt,
+        1,
+        1,
+        &[
+            ("begin", "begun 1.1"),
+            ("send 1.1 0 1 a", "sent"),
+            ("start-abort 1.1", "aborting"),
+            ("undo 1.1", "op 1.1 2"),
+            ("step 1.1 2", "lsn 5"),
+            ("fail force", "armed"),
+            ("force", "refused 15 DiskWrite"),
+            ("step 1.1 2", "refused 2 Failed"),
+            ("finish 1.1 2", "refused 2 Failed"),
+            ("abort 1.1", "refused 2 Failed"),
+            ("start-abort 1.1", "refused 2 Failed"),
+            ("undo 1.1", "refused 2 Failed"),
+            ("end-abort 1.1", "refused 2 Failed"),
+            ("crash 0", "crashed 1"),
+            ("restart", "restarted 2 unfinished 0 lost 0"),
+            ("dump", "empty"),
+        ],
     )
 }

@@ -15,10 +15,10 @@ use std::alloc::{AllocError, Global};
 use std::test::Fail;
 
 /// How many courses there are, of the seeds from 0.
-const COURSES: u64 = 60;
+const COURSES: u64 = 75;
 
 /// What has to be met, all courses taken together, and how often at least.
-const WANTED: [(Kind, u64); 25] = [
+const WANTED: [(Kind, u64); 42] = [
     (Kind::Beside, 200),
     (Kind::HigherCell, 300),
     (Kind::OtherGroup, 150),
@@ -31,10 +31,27 @@ const WANTED: [(Kind, u64); 25] = [
     (Kind::TakeNextOpen, 2),
     (Kind::TakeAny, 700),
     (Kind::CloseDirectory, 20),
-    (Kind::Close, 20),
+    (Kind::Close, 5),
+    (Kind::CloseEmpty, 10),
+    (Kind::Closed, 30),
+    (Kind::SendUndone, 200),
+    (Kind::TakeUndone, 100),
+    (Kind::CloseUndone, 10),
+    (Kind::HigherBack, 30),
+    (Kind::UnsendDirectory, 500),
+    (Kind::UnsendTail, 200),
+    (Kind::UnsendBefore, 10),
+    (Kind::BackDirectory, 200),
+    (Kind::BackHead, 50),
+    (Kind::BackCells, 5),
+    (Kind::ReopenDirectory, 10),
+    (Kind::NothingLeft, 30),
+    (Kind::Aborted, 300),
+    (Kind::EarlyEnd, 100),
+    (Kind::NotOpen, 200),
+    (Kind::NotAborting, 100),
     (Kind::Full, 400),
     (Kind::SenderBusy, 2000),
-    (Kind::Closed, 500),
     (Kind::ReceiverBusy, 300),
     (Kind::NoMessage, 750),
     (Kind::NotForced, 400),

@@ -15,6 +15,10 @@ pub enum Told {
     Sent,
     Message(Message),
     Closed,
+    Undone,
+    Aborting,
+    NothingLeft,
+    Aborted,
     Committed(Txn, Lsn),
     Forced(Lsn),
     Written,
@@ -35,6 +39,9 @@ pub fn told_by(reply: &Reply) -> Told {
         Reply::Stepped(Progress::Ready) => Told::Ready,
         Reply::Finished(outcome) => told_of_end(outcome),
         Reply::Committed(number) => told_of_commit(number),
+        Reply::Aborting => Told::Aborting,
+        Reply::NothingLeft => Told::NothingLeft,
+        Reply::Aborted => Told::Aborted,
         Reply::Forced(lsn) => Told::Forced(*lsn),
         Reply::Written(Written::Done) => Told::Written,
         Reply::Written(Written::Nothing) => Told::NotWritten,
@@ -49,7 +56,7 @@ fn told_of_end(outcome: &Outcome) -> Told {
         Outcome::Sent => Told::Sent,
         Outcome::Message(message) => Told::Message(*message),
         Outcome::Closed => Told::Closed,
-        Outcome::Undone => Told::Other,
+        Outcome::Undone => Told::Undone,
     }
 }
 

@@ -7,6 +7,7 @@ use rq_disk::{LogDevice, MemLog, MemPages, PageDevice};
 use rq_engine::engine::Engine;
 use rq_engine::event::{Event, Outcome, Reply};
 use rq_model::refusal::Refusal;
+use rq_model::txn::Txn;
 use rq_shared::kept::Kept;
 use rq_shared::mark::Mark;
 use rq_shared::shared::Shared;
@@ -97,6 +98,89 @@ fn a_started_operation_is_gone_through(rt: HostRuntime) -> Result<(), Fail> {
         (Ended::Finished(Outcome::Sent), false),
         "though the gate said no between its steps"
     );
+    Ok(())
+}
+
+// A transaction that sent a message and aborts, of a store under its audit: seven calls were made, and two more where
+// another one's send is under way.
+fn aborting<R: Wait>(
+    rt: &R,
+    alloc: Global,
+    is_beside: bool,
+) -> Option<(Txn, KeptSteps<MemPages, MemLog>)> {
+    let mut steps = KeptSteps::new(Kept::new(alloc, small_engine(alloc).ok()?), 1);
+    let txn = begun(&mut steps)?;
+    let start = send_of(alloc, txn, 1, b'x').ok()?;
+    let left = AtomicU64::new(0);
+    let gate = Often {
+        point: BEFORE_AGAIN,
+        left: &left,
+    };
+    let mut worker = Worker::new(gate, steps);
+    if worker.run(rt, &start) != Ended::Finished(Outcome::Sent) {
+        return None;
+    }
+    let mut steps = worker.into_steps();
+    if is_beside {
+        let second = begun(&mut steps)?;
+        let other = send_of(alloc, second, 2, b'y').ok()?;
+        drop(steps.kept().step(1, other));
+    }
+    drop(steps.kept().step(1, Event::StartAbort(txn)));
+    Some((txn, steps))
+}
+
+// What comes of undoing its send, and of undoing again; and the calls made.
+fn undone_twice<R: Wait>(rt: &R, alloc: Global) -> Option<(Ended, Ended, usize)> {
+    let (txn, steps) = aborting(rt, alloc, false)?;
+    let left = AtomicU64::new(0);
+    let gate = Often {
+        point: BEFORE_AGAIN,
+        left: &left,
+    };
+    let mut worker = Worker::new(gate, steps);
+    let undo = Event::UndoNext(txn);
+    let first = worker.run(rt, &undo);
+    let second = worker.run(rt, &undo);
+    let mut steps = worker.into_steps();
+    Some((first, second, steps.kept().entries().len()))
+}
+
+// An inverse is gone through as any operation is: its start, two steps, a third that says that all are made, its finish.
+#[test]
+fn an_inverse_is_gone_through(rt: HostRuntime) -> Result<(), Fail> {
+    let seen = undone_twice(&rt, rt.alloc()).ok_or("an abort")?;
+    assert_eq!(rt;
+        seen,
+        (Ended::Finished(Outcome::Undone), Ended::NothingLeft, 13)
+    );
+    Ok(())
+}
+
+// What comes of undoing its send while another's is under way, where the gate lets it be tried again so often; and the
+// calls made.
+fn undone_beside<R: Wait>(rt: &R, alloc: Global, left: &AtomicU64) -> Option<(Ended, usize)> {
+    let (txn, steps) = aborting(rt, alloc, true)?;
+    let gate = Often {
+        point: BEFORE_AGAIN,
+        left,
+    };
+    let mut worker = Worker::new(gate, steps);
+    let ended = worker.run(rt, &Event::UndoNext(txn));
+    let mut steps = worker.into_steps();
+    Some((ended, steps.kept().entries().len()))
+}
+
+#[test]
+fn a_latched_inverse_is_tried_again(rt: HostRuntime) -> Result<(), Fail> {
+    let left = AtomicU64::new(2);
+    let seen = undone_beside(&rt, rt.alloc(), &left).ok_or("an abort")?;
+    assert_eq!(rt;
+        seen,
+        (Ended::Refused(Refusal::Latched), 12),
+        "three times, and then the gate says no"
+    );
+    assert_eq!(rt; left.load(Ordering::SeqCst), 0, "it was asked before each");
     Ok(())
 }
 

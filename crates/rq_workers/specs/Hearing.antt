@@ -22,6 +22,7 @@ use Rattle.rq_workers.specs.declared.acts.Turn.TheVariants as turn
 abbrev pub heard_of : Reply → Heard
 heard_of (reply.Started sub) = heard.Started sub
 heard_of reply.NoMessage = heard.NoMessage
+heard_of reply.NothingLeft = heard.NothingLeft
 heard_of (reply.Stepped (progress.Done lsn)) = heard.Done lsn
 heard_of (reply.Stepped progress.Ready) = heard.Ready
 heard_of (reply.Finished outcome) = heard.Finished outcome
@@ -32,6 +33,7 @@ heard_of _ = heard.Other
 abbrev pub ended_of : Heard → Ended
 ended_of (heard.Finished outcome) = end.Finished outcome
 ended_of heard.NoMessage = end.NoMessage
+ended_of heard.NothingLeft = end.NothingLeft
 ended_of (heard.Refused refusal) = end.Refused refusal
 ended_of _ = end.Other
 

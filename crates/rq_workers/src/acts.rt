@@ -26,6 +26,8 @@ pub enum Heard {
     Started(Sub),
     /// There is no message to receive.
     NoMessage,
+    /// Nothing is left to undo.
+    NothingLeft,
     /// A slot was written, by the record of this LSN.
     Done(Lsn),
     /// All slots are written.
@@ -45,6 +47,8 @@ pub enum Ended {
     Finished(Outcome),
     /// There is no message to receive: nothing was started.
     NoMessage,
+    /// Nothing is left to undo: nothing was started.
+    NothingLeft,
     /// A call of it was refused. Where that was its start, nothing was started.
     Refused(Refusal),
     /// What was to start it is no start, so that no call was made; or a call was answered as none of its kind is.
@@ -63,6 +67,9 @@ pub(crate) fn heard_in(reply: &Reply) -> Heard
         Reply::Stepped(Progress::Ready) => Heard::Ready,
         Reply::Finished(outcome) => Heard::Finished(*outcome),
         Reply::Committed(_) => Heard::Other,
+        Reply::Aborting => Heard::Other,
+        Reply::NothingLeft => Heard::NothingLeft,
+        Reply::Aborted => Heard::Other,
         Reply::Acknowledged(_) => Heard::Other,
         Reply::HandedOver => Heard::Other,
         Reply::Forced(_) => Heard::Other,
@@ -79,6 +86,7 @@ pub(crate) fn end_by(last: Heard) -> Ended
     match last {
         Heard::Started(_) => Ended::Other,
         Heard::NoMessage => Ended::NoMessage,
+        Heard::NothingLeft => Ended::NothingLeft,
         Heard::Done(_) => Ended::Other,
         Heard::Ready => Ended::Other,
         Heard::Finished(outcome) => Ended::Finished(outcome),

@@ -15,25 +15,73 @@ const FIRST: u64 = 1;
 /// How many lists there are.
 const LISTS: u64 = 300;
 
-// The number of the first happening of the list of this seed that the plain lists tell otherwise; 0 where there is
-// none.
-fn first_fault(alloc: Global, seed: u64) -> Result<u64, AllocError> {
-    let happenings = drawn(alloc, seed)?;
-    let entries = run(alloc, &happenings)?;
-    compared(alloc, &happenings, &entries)
+/// So many of what is counted have to be met at least, all lists taken together.
+const WANTED: Met = Met {
+    undone: 150,
+    aborted: 150,
+    crashed: 20,
+    opened: 25,
+};
+
+/// What was met of aborts.
+#[derive(Clone, Copy, Debug)]
+struct Met {
+    /// Inverses that were finished.
+    undone: u64,
+    /// Aborts that were ended.
+    aborted: u64,
+    /// Crashes in the midst of one.
+    crashed: u64,
+    /// Stores that were opened behind one that outlived the crash.
+    opened: u64,
 }
 
-fn compared(alloc: Global, happenings: &[Happening], entries: &[Entry]) -> Result<u64, AllocError> {
+impl Met {
+    fn note(&mut self, told: &Told, was_aborting: bool, holds_abort: bool) {
+        let met = match told {
+            Told::Undone => &mut self.undone,
+            Told::Aborted => &mut self.aborted,
+            Told::Crashed(_) if was_aborting => &mut self.crashed,
+            Told::Restarted(_) if holds_abort => &mut self.opened,
+            _ => return,
+        };
+        *met = met.saturating_add(1);
+    }
+
+    fn has_all_of(&self, wanted: &Met) -> bool {
+        self.undone >= wanted.undone
+            && self.aborted >= wanted.aborted
+            && self.crashed >= wanted.crashed
+            && self.opened >= wanted.opened
+    }
+}
+
+// The number of the first happening of the list of this seed that the plain lists tell otherwise; 0 where there is
+// none.
+fn first_fault(alloc: Global, seed: u64, met: &mut Met) -> Result<u64, AllocError> {
+    let happenings = drawn(alloc, seed)?;
+    let entries = run(alloc, &happenings)?;
+    compared(alloc, &happenings, &entries, met)
+}
+
+fn compared(
+    alloc: Global,
+    happenings: &[Happening],
+    entries: &[Entry],
+    met: &mut Met,
+) -> Result<u64, AllocError> {
     if entries.len() != happenings.len() {
         return Ok(u64::MAX);
     }
     let mut lists = Lists::new(alloc)?;
     for place in 0..happenings.len() {
         if let Some(happening) = happenings.get(place) {
+            let was_aborting = lists.aborting().is_some();
             let told = lists.happen(happening, picked(happenings, entries, place))?;
             if !is_told(&lists, entries, place, told) {
                 return Ok((place as u64).saturating_add(1));
             }
+            met.note(&told, was_aborting, lists.holds_abort());
         }
     }
     Ok(0)
@@ -100,12 +148,19 @@ fn is_finish_of(event: &Event, sub: Sub) -> bool {
 
 #[test]
 fn anything_happens(rt: HostRuntime) -> Result<(), Fail> {
+    let mut met = Met {
+        undone: 0,
+        aborted: 0,
+        crashed: 0,
+        opened: 0,
+    };
     for seed in FIRST..FIRST + LISTS {
         assert_eq!(rt;
-            first_fault(rt.alloc(), seed)?,
+            first_fault(rt.alloc(), seed, &mut met)?,
             0,
             "the list of seed {seed}"
         );
     }
+    assert!(rt; met.has_all_of(&WANTED), "{met:?}");
     Ok(())
 }

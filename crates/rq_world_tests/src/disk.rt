@@ -20,7 +20,10 @@ pub enum Record {
     Write(Txn, u32),
     /// The end of an operation, with so many bytes that say what was done.
     End(Txn, u64),
+    /// The end of an inverse.
+    Undone(Txn),
     Commit(Txn),
+    Abort(Txn),
 }
 
 /// A page, by the LSNs of its images. An image has all changes of its page up to its LSN.
@@ -335,12 +338,13 @@ impl Disk {
         openings
     }
 
-    /// Whether each transaction that did something in the first records has its commit among them.
+    /// Whether each transaction that did something in the first records has its end among them: its commit, or that of
+    /// its abort.
     pub fn is_settled(&self, count: u64) -> bool {
         for record in self.records.iter().take(count as usize) {
             match record {
-                Record::Write(txn, _) | Record::End(txn, _) => {
-                    if !self.is_committed(*txn, count) {
+                Record::Write(txn, _) | Record::End(txn, _) | Record::Undone(txn) => {
+                    if !self.is_ended(*txn, count) {
                         return false;
                     }
                 }
@@ -350,10 +354,23 @@ impl Disk {
         true
     }
 
-    fn is_committed(&self, txn: Txn, count: u64) -> bool {
+    fn is_ended(&self, txn: Txn, count: u64) -> bool {
         for record in self.records.iter().take(count as usize) {
             match record {
-                Record::Commit(committed) if *committed == txn => return true,
+                Record::Commit(ended) | Record::Abort(ended) if *ended == txn => return true,
+                _ => {}
+            }
+        }
+        false
+    }
+
+    /// Whether the end of an abort stands behind that of an inverse.
+    pub fn holds_abort(&self) -> bool {
+        let mut has_undone = false;
+        for record in &self.records {
+            match record {
+                Record::Undone(_) => has_undone = true,
+                Record::Abort(_) if has_undone => return true,
                 _ => {}
             }
         }
@@ -400,6 +417,7 @@ fn bytes_of(record: &Record) -> u64 {
         Record::Restart => 13,
         Record::Write(_, _) => 546,
         Record::End(_, deed) => deed.saturating_add(30),
-        Record::Commit(_) => 21,
+        Record::Undone(_) => 37,
+        Record::Commit(_) | Record::Abort(_) => 21,
     }
 }

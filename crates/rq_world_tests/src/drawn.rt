@@ -177,12 +177,26 @@ impl Drawing {
                 }
             }
             None if self.lists.open_count() == 0 && !self.random.is_first_of(3) => Ok(Event::Begin),
+            None if !self.random.is_first_of(3) => match self.lists.aborting() {
+                Some((txn, has_done)) => Ok(self.abort_on(txn, has_done)),
+                None => self.other_call(),
+            },
             _ => self.other_call(),
         }
     }
 
+    // Most times what an abort waits for.
+    fn abort_on(&mut self, txn: Txn, has_done: bool) -> Event {
+        let is_early = self.random.is_first_of(8);
+        if has_done == is_early {
+            Event::EndAbort(txn)
+        } else {
+            Event::UndoNext(txn)
+        }
+    }
+
     fn other_call(&mut self) -> Result<Event, AllocError> {
-        Ok(match self.random.below(24) {
+        Ok(match self.random.below(26) {
             0..3 => self.begin(),
             3..8 => self.send()?,
             8..18 if self.fills => self.send()?,
@@ -201,6 +215,9 @@ impl Drawing {
                 txn: self.txn(),
                 sender: self.sender(),
             },
+            24 => Event::StartAbort(self.txn()),
+            25 if self.random.is_first_of(2) => Event::UndoNext(self.txn()),
+            25 => Event::EndAbort(self.txn()),
             _ => Event::Commit(self.txn()),
         })
     }

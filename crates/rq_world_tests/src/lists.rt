@@ -16,11 +16,12 @@ const SENDERS: u32 = 15;
 /// Its cells, one for each message.
 const ROOM: usize = 15;
 
-/// The operation under way of a transaction: its number, what it does, and how many slot writes are to come.
+/// The operation under way of a transaction: its number, what it does or undoes, and how many slot writes are to come.
 #[derive(Clone, Copy)]
 struct Work {
     number: u64,
     act: Act,
+    undoes: bool,
     left: u8,
 }
 
@@ -28,7 +29,8 @@ struct Work {
 #[derive(Drop)]
 struct Row {
     txn: Txn,
-    /// What its finished operations did.
+    aborting: bool,
+    /// What its finished operations did, and is not undone.
     acts: Vec<Act>,
     /// The senders whose sending and receiving ends it holds.
     sending: Vec<u32>,
@@ -216,6 +218,9 @@ impl Lists {
             Event::Step(sub) => self.step(*sub),
             Event::Finish(sub) => self.finish(*sub),
             Event::Commit(txn) => self.commit(*txn),
+            Event::StartAbort(txn) => self.start_abort(*txn),
+            Event::UndoNext(txn) => self.undo_next(*txn),
+            Event::EndAbort(txn) => self.end_abort(*txn),
             Event::Acknowledged(_) => Ok(Told::Other),
             Event::HandOver => {
                 self.disk.hand_over()?;
@@ -240,6 +245,7 @@ impl Lists {
         };
         let row = Row {
             txn,
+            aborting: false,
             acts: Vec::new(self.alloc),
             sending: Vec::new(self.alloc),
             receiving: Vec::new(self.alloc),
@@ -352,11 +358,7 @@ impl Lists {
         if !held {
             return Err(Refusal::NoMemory);
         }
-        let number = row.number.saturating_add(1);
-        row.number = number;
-        row.work = Some(Work { number, act, left });
-        let txn = row.txn;
-        Ok(Told::Started(Sub { txn, number }))
+        Ok(Told::Started(begin_work(row, act, false, left)))
     }
 
     // The last slot write of an operation is of the directory, those before it are of cells.
@@ -371,6 +373,7 @@ impl Lists {
             row.work = Some(Work {
                 number: work.number,
                 act: work.act,
+                undoes: work.undoes,
                 left: work.left.saturating_sub(1),
             });
         }
@@ -382,10 +385,18 @@ impl Lists {
         if work.left > 0 {
             return Err(Refusal::Unfinished);
         }
-        self.disk.add(Record::End(sub.txn, deed_bytes(&work.act)))?;
+        self.disk.add(if work.undoes {
+            Record::Undone(sub.txn)
+        } else {
+            Record::End(sub.txn, deed_bytes(&work.act))
+        })?;
         let Some(row) = self.rows.get_mut(place) else {
             return Ok(Told::Other);
         };
+        if work.undoes {
+            end_undo(row);
+            return Ok(Told::Undone);
+        }
         end_work(row, work.act)?;
         Ok(told_of_act(&work.act))
     }
@@ -398,6 +409,7 @@ impl Lists {
         }
         let Row {
             txn: _,
+            aborting: _,
             acts,
             sending: _,
             receiving: _,
@@ -409,6 +421,63 @@ impl Lists {
             return Err(Refusal::NoMemory);
         }
         Ok(Told::Committed(txn, lsn))
+    }
+
+    // Of an open transaction. It keeps its ends.
+    fn start_abort(&mut self, txn: Txn) -> Result<Told, Refusal> {
+        let place = self.idle_place(txn)?;
+        if let Some(row) = self.rows.get_mut(place) {
+            row.aborting = true;
+        }
+        Ok(Told::Aborting)
+    }
+
+    // What was done last is undone first.
+    fn undo_next(&mut self, txn: Txn) -> Result<Told, Refusal> {
+        let place = self.ready_place(txn, true)?;
+        let Some(act) = self.last_act(place) else {
+            return Ok(Told::NothingLeft);
+        };
+        if self.is_busy() {
+            return Err(Refusal::Latched);
+        }
+        let left = self.writes_to_undo(&act);
+        match self.rows.get_mut(place) {
+            Some(row) => Ok(Told::Started(begin_work(row, act, true, left))),
+            None => Ok(Told::Other),
+        }
+    }
+
+    // The directory is written, the cell of a message, and that of the one beside: of a message that goes, of the one
+    // before it, and of a message that comes back, of the one that was first.
+    fn writes_to_undo(&self, act: &Act) -> u8 {
+        match act {
+            Act::Sent(message) if self.length(message.sender) == 1 => 2,
+            Act::Taken(message) if self.length(message.sender) == 0 => 2,
+            Act::Closed(_) => 1,
+            _ => 3,
+        }
+    }
+
+    // Its ends are free from here on.
+    fn end_abort(&mut self, txn: Txn) -> Result<Told, Refusal> {
+        let place = self.ready_place(txn, true)?;
+        if self.last_act(place).is_some() {
+            return Err(Refusal::Unfinished);
+        }
+        if place >= self.rows.len() {
+            return Ok(Told::Other);
+        }
+        self.disk.add(Record::Abort(txn))?;
+        drop(self.rows.remove(place));
+        Ok(Told::Aborted)
+    }
+
+    fn last_act(&self, place: usize) -> Option<Act> {
+        match self.rows.get(place) {
+            Some(row) => row.acts.last().copied(),
+            None => None,
+        }
     }
 
     fn is_running(&self) -> bool {
@@ -436,12 +505,18 @@ impl Lists {
         None
     }
 
-    // Where a transaction stands that has no operation under way.
+    // Where an open transaction stands that has no operation under way.
     fn idle_place(&self, txn: Txn) -> Result<usize, Refusal> {
+        self.ready_place(txn, false)
+    }
+
+    // Where a transaction stands that has no operation under way, and is aborting or is not, as asked.
+    fn ready_place(&self, txn: Txn, aborting: bool) -> Result<usize, Refusal> {
         let Some(place) = self.place_of(txn) else {
             return Err(Refusal::UnknownTransaction);
         };
         match self.rows.get(place) {
+            Some(row) if row.aborting != aborting => Err(Refusal::NotOpen),
             Some(row) if row.work.is_none() => Ok(place),
             _ => Err(Refusal::Unfinished),
         }
@@ -557,6 +632,7 @@ impl Lists {
                 Work {
                     number: _,
                     act: Act::Sent(_),
+                    undoes: false,
                     left: _,
                 },
             ) = row.work
@@ -636,6 +712,11 @@ impl Lists {
         self.disk.is_settled(self.disk.len())
     }
 
+    /// Whether the end of an abort that undid something is in the log.
+    pub fn holds_abort(&self) -> bool {
+        self.disk.holds_abort()
+    }
+
     /// Whether a failure is to come.
     pub fn is_failing(&self) -> bool {
         self.disk.is_failing()
@@ -667,6 +748,16 @@ impl Lists {
         }
     }
 
+    /// The first transaction that is aborting, and whether it has something to undo.
+    pub fn aborting(&self) -> Option<(Txn, bool)> {
+        for row in &self.rows {
+            if row.aborting {
+                return Some((row.txn, !row.acts.is_empty()));
+            }
+        }
+        None
+    }
+
     /// The operation under way, and whether its writes are made.
     pub fn under_way(&self) -> Option<(Sub, bool)> {
         for row in &self.rows {
@@ -680,6 +771,28 @@ impl Lists {
         }
         None
     }
+}
+
+// The next operation of a transaction is under way.
+fn begin_work(row: &mut Row, act: Act, undoes: bool, left: u8) -> Sub {
+    let number = row.number.saturating_add(1);
+    row.number = number;
+    row.work = Some(Work {
+        number,
+        act,
+        undoes,
+        left,
+    });
+    Sub {
+        txn: row.txn,
+        number,
+    }
+}
+
+// What it did last is undone.
+fn end_undo(row: &mut Row) {
+    row.work = None;
+    let _ = row.acts.pop();
 }
 
 // The operation under way of a transaction is finished.

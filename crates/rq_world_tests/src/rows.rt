@@ -1,14 +1,20 @@
-//! Worked courses: one message, from its send over a crash to its receive.
+//! Worked courses: one message, from its send over a crash to its receive, or to a receive that is undone.
 use crate::course::{ALL, Ask, FIRST, Images, SECOND, Sent, Step, Text, first_fault, restarted};
 use crate::told::Told;
 use rq_model::refusal::Refusal;
-use rq_model::txn::Txn;
+use rq_model::txn::{Sub, Txn};
 use std::test::Fail;
 
 /// The first transaction behind a restart.
 const AGAIN: Txn = Txn {
     incarnation: 2,
     count: 1,
+};
+
+/// The inverse of the only operation of the second transaction.
+const INVERSE: Sub = Sub {
+    txn: SECOND,
+    number: 2,
 };
 
 // The message that is sent first, waiting or received.
@@ -109,5 +115,126 @@ fn a_force_that_fails_leaves_it_to_the_crash(rt: HostRuntime) -> Result<(), Fail
         Step::HoldsNothing,
     ];
     assert_eq!(rt; first_fault(rt.alloc(), &course, &lost)?, 0);
+    Ok(())
+}
+
+// One message is sent and committed, and another transaction receives it and aborts. Nothing but the first opening is
+// forced.
+const fn put_back() -> [Step; 13] {
+    [
+        Step::Restart(restarted(1, 1)),
+        Step::Call(Ask::Begin, Told::Begun(FIRST)),
+        Step::Send(FIRST, 0, 1, Text::A, 2),
+        Step::Call(Ask::Commit(FIRST), Told::Committed(FIRST, 5)),
+        Step::Call(Ask::Begin, Told::Begun(SECOND)),
+        Step::Receive(SECOND, 0, 1, Text::A, 6),
+        Step::Call(Ask::StartAbort(SECOND), Told::Aborting),
+        Step::Call(Ask::UndoNext(SECOND), Told::Started(INVERSE)),
+        Step::Call(Ask::Step(INVERSE), Told::Stepped(9)),
+        Step::Call(Ask::Step(INVERSE), Told::Stepped(10)),
+        Step::Call(Ask::Finish(INVERSE), Told::Undone),
+        Step::Call(Ask::UndoNext(SECOND), Told::NothingLeft),
+        Step::Call(Ask::EndAbort(SECOND), Told::Aborted),
+    ]
+}
+
+#[test]
+fn a_message_that_was_put_back_outlives_a_crash(rt: HostRuntime) -> Result<(), Fail> {
+    for images in [
+        Images::Unsaid,
+        Images::Three(0, 0, 0),
+        Images::Three(0, 1, 0),
+        Images::Three(0, 0, 1),
+    ] {
+        let end = [
+            Step::Call(Ask::Force, Told::Forced(12)),
+            Step::Call(Ask::Write(1), Told::Written),
+            Step::Call(Ask::Write(2), Told::Written),
+            Step::Crash(0, images, 12),
+            Step::Restart(restarted(2, 13)),
+            Step::Holds(sent(1, Text::A, true)),
+            Step::Call(Ask::Begin, Told::Begun(AGAIN)),
+            Step::Receive(AGAIN, 0, 1, Text::A, 14),
+        ];
+        assert_eq!(rt; first_fault(rt.alloc(), &put_back(), &end)?, 0);
+    }
+    Ok(())
+}
+
+// Of the records behind the commit all have to outlive the crash, or none: undo in a restart is not built yet.
+#[test]
+fn a_crash_in_the_midst_of_an_abort(rt: HostRuntime) -> Result<(), Fail> {
+    for keep in 5..11 {
+        let end = [
+            Step::Crash(keep, Images::Unsaid, u64::saturating_add(keep, 1)),
+            Step::Restart(Told::Shut(Refusal::Unfinished)),
+            Step::Restart(Told::Shut(Refusal::Unfinished)),
+        ];
+        assert_eq!(rt;
+            first_fault(rt.alloc(), &put_back(), &end)?,
+            0,
+            "{keep} kept"
+        );
+    }
+    for keep in [4, 11] {
+        let records = u64::saturating_add(keep, 1);
+        let end = [
+            Step::Crash(keep, Images::Unsaid, records),
+            Step::Restart(restarted(2, records.saturating_add(1))),
+            Step::Holds(sent(1, Text::A, true)),
+        ];
+        assert_eq!(rt;
+            first_fault(rt.alloc(), &put_back(), &end)?,
+            0,
+            "{keep} kept"
+        );
+    }
+    Ok(())
+}
+
+// The power fails at their first device call: there is none.
+#[test]
+fn the_calls_of_an_abort_touch_no_device(rt: HostRuntime) -> Result<(), Fail> {
+    let course = [
+        Step::Restart(restarted(1, 1)),
+        Step::Call(Ask::Begin, Told::Begun(FIRST)),
+        Step::Send(FIRST, 0, 1, Text::A, 2),
+        Step::Call(Ask::Commit(FIRST), Told::Committed(FIRST, 5)),
+        Step::Call(Ask::Begin, Told::Begun(SECOND)),
+        Step::Receive(SECOND, 0, 1, Text::A, 6),
+    ];
+    let end = [
+        Step::StopIn(
+            Ask::StartAbort(SECOND),
+            1,
+            0,
+            Images::Unsaid,
+            Told::Aborting,
+        ),
+        Step::StopIn(
+            Ask::UndoNext(SECOND),
+            1,
+            0,
+            Images::Unsaid,
+            Told::Started(INVERSE),
+        ),
+        Step::StopIn(Ask::Step(INVERSE), 1, 0, Images::Unsaid, Told::Stepped(9)),
+        Step::StopIn(Ask::Step(INVERSE), 1, 0, Images::Unsaid, Told::Stepped(10)),
+        Step::StopIn(Ask::Finish(INVERSE), 1, 0, Images::Unsaid, Told::Undone),
+        Step::StopIn(
+            Ask::UndoNext(SECOND),
+            1,
+            0,
+            Images::Unsaid,
+            Told::NothingLeft,
+        ),
+        Step::StopIn(Ask::EndAbort(SECOND), 1, 0, Images::Unsaid, Told::Aborted),
+        Step::Call(
+            Ask::EndAbort(SECOND),
+            Told::Refused(Refusal::UnknownTransaction),
+        ),
+        Step::Holds(sent(1, Text::A, true)),
+    ];
+    assert_eq!(rt; first_fault(rt.alloc(), &course, &end)?, 0);
     Ok(())
 }

@@ -17,7 +17,11 @@ pub enum Told {
     Sent,
     Closed,
     Message(Message),
+    Undone,
     Committed(Txn, Lsn),
+    Aborting,
+    NothingLeft,
+    Aborted,
     /// A receipt names this commit.
     Given(Txn, Lsn),
     NotGiven,
@@ -58,6 +62,9 @@ fn told_by(reply: &Reply) -> Told {
         Reply::Stepped(Progress::Ready) => Told::Ready,
         Reply::Finished(outcome) => told_of_end(outcome),
         Reply::Committed(number) => told_of_commit(number),
+        Reply::Aborting => Told::Aborting,
+        Reply::NothingLeft => Told::NothingLeft,
+        Reply::Aborted => Told::Aborted,
         Reply::Acknowledged(Some(receipt)) => told_of_receipt(receipt),
         Reply::Acknowledged(None) => Told::NotGiven,
         Reply::HandedOver => Told::HandedOver,
@@ -74,7 +81,7 @@ fn told_of_end(outcome: &Outcome) -> Told {
         Outcome::Sent => Told::Sent,
         Outcome::Closed => Told::Closed,
         Outcome::Message(message) => Told::Message(*message),
-        _ => Told::Other,
+        Outcome::Undone => Told::Undone,
     }
 }
 
