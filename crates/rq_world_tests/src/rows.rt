@@ -1,5 +1,5 @@
 //! Worked courses: one message, from its send over a crash to its receive.
-use crate::course::{ALL, Ask, FIRST, Images, SECOND, Sent, Step, Text, first_fault, restarted};
+use crate::course::{ALL, Ask, FIRST, Images, SECOND, Sent, Step, Text, check, restarted};
 use crate::told::Told;
 use rq_model::refusal::Refusal;
 use rq_model::txn::Txn;
@@ -38,8 +38,7 @@ fn a_forced_message_is_received_after_a_crash(rt: HostRuntime) -> Result<(), Fai
         Step::Call(Ask::Begin, Told::Begun(AGAIN)),
         Step::Receive(AGAIN, 0, 7, Text::Hello, 7),
     ];
-    assert_eq!(rt; first_fault(rt.alloc(), &course, &[])?, 0);
-    Ok(())
+    check(&rt, 0, &course, &[])
 }
 
 // Up to the second commit. Nothing but the first opening is forced.
@@ -62,15 +61,14 @@ fn a_crash_takes_back_what_is_not_forced(rt: HostRuntime) -> Result<(), Fail> {
         Step::Restart(restarted(2, 2)),
         Step::HoldsNothing,
     ];
-    assert_eq!(rt; first_fault(rt.alloc(), &sent_and_received(), &lost)?, 0);
+    check(&rt, 0, &sent_and_received(), &lost)?;
     let kept = [
         Step::Call(Ask::Force, Told::Forced(9)),
         Step::Crash(0, Images::Unsaid, 9),
         Step::Restart(restarted(2, 10)),
         Step::Holds(sent(1, Text::A, false)),
     ];
-    assert_eq!(rt; first_fault(rt.alloc(), &sent_and_received(), &kept)?, 0);
-    Ok(())
+    check(&rt, 0, &sent_and_received(), &kept)
 }
 
 #[test]
@@ -80,8 +78,7 @@ fn a_crash_may_keep_the_first_records_that_are_not_forced(rt: HostRuntime) -> Re
         Step::Restart(restarted(2, 6)),
         Step::Holds(sent(1, Text::A, true)),
     ];
-    assert_eq!(rt; first_fault(rt.alloc(), &sent_and_received(), &end)?, 0);
-    Ok(())
+    check(&rt, 0, &sent_and_received(), &end)
 }
 
 // The second device call of the force is the force itself: what it appended before may outlive the crash.
@@ -102,12 +99,11 @@ fn a_force_that_fails_leaves_it_to_the_crash(rt: HostRuntime) -> Result<(), Fail
         Step::Restart(restarted(2, 6)),
         Step::Holds(sent(1, Text::A, true)),
     ];
-    assert_eq!(rt; first_fault(rt.alloc(), &course, &kept)?, 0);
+    check(&rt, 0, &course, &kept)?;
     let lost = [
         Step::Crash(0, Images::Unsaid, 1),
         Step::Restart(restarted(2, 2)),
         Step::HoldsNothing,
     ];
-    assert_eq!(rt; first_fault(rt.alloc(), &course, &lost)?, 0);
-    Ok(())
+    check(&rt, 0, &course, &lost)
 }
