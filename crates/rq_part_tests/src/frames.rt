@@ -159,7 +159,9 @@ fn the_longest_send_is_read(rt: HostRuntime) -> Result<(), Fail> {
     let mut frames = Frames::new(rt.alloc());
     let mut bytes = BytesMut::new(rt.alloc());
     put_head(&mut bytes, 512, 2)?;
-    bytes.put_slice(&[7; 511])?;
+    for _ in 0..511 {
+        bytes.put_u8(7)?;
+    }
     let fed = feed(&mut frames, bytes.as_slice())?;
     assert!(rt; !fed.fault && fed.requests.len() == 1);
     let mut again = BytesMut::new(rt.alloc());
