@@ -29,12 +29,16 @@ fn write_of(plan: &ChainPlan, place: usize) -> Option<(u64, Slot)> {
     }
 }
 
-fn cell_in(slot: &Slot) -> Option<CellSlot> {
-    CellSlot::decode(slot)
+// Where a write of a plan goes, and the cell that it leaves there.
+fn cell_of(plan: &ChainPlan, place: usize) -> Option<(u64, CellSlot)> {
+    let (at, slot) = write_of(plan, place)?;
+    Some((at, CellSlot::decode(&slot)?))
 }
 
-fn directory_in(slot: &Slot) -> Option<DirectorySlot> {
-    DirectorySlot::decode(slot)
+// Where a write of a plan goes, and the directory slot that it leaves there.
+fn directory_of(plan: &ChainPlan, place: usize) -> Option<(u64, DirectorySlot)> {
+    let (at, slot) = write_of(plan, place)?;
+    Some((at, DirectorySlot::decode(&slot)?))
 }
 
 // The plan of the first message of a group.
@@ -155,126 +159,97 @@ fn first_unlink(alloc: Global) -> Result<ChainPlan, Fail> {
 
 #[test]
 fn the_first_message_takes_two_writes(rt: HostRuntime) -> Result<(), Fail> {
-    let body = hello()?;
     let plan = first_append(rt.alloc())?;
     let places = places(rt.alloc(), &plan)?;
-    assert_eq!(rt; places.as_slice(), [33, 20].as_slice());
-    assert_eq!(rt;
-        plan.deed,
-        Deed::Append {
-            sender: 3,
-            sequence: 1,
-            tag: 7,
-            previous: 0,
-            body
-        }
-    );
+    assert!(rt; places.as_slice() == [33, 20].as_slice());
+    let deed = Deed::Append {
+        sender: 3,
+        sequence: 1,
+        tag: 7,
+        previous: 0,
+        body: hello()?,
+    };
+    assert!(rt; plan.deed == deed);
     Ok(())
 }
 
 #[test]
 fn the_next_message_is_linked(rt: HostRuntime) -> Result<(), Fail> {
-    let body = hello()?;
     let plan = next_append(rt.alloc())?;
     let places = places(rt.alloc(), &plan)?;
-    assert_eq!(rt; places.as_slice(), [34, 33, 20].as_slice());
-    assert_eq!(rt;
-        plan.deed,
-        Deed::Append {
-            sender: 3,
-            sequence: 2,
-            tag: 8,
-            previous: 7,
-            body
-        }
-    );
+    assert!(rt; places.as_slice() == [34, 33, 20].as_slice());
+    let deed = Deed::Append {
+        sender: 3,
+        sequence: 2,
+        tag: 8,
+        previous: 7,
+        body: hello()?,
+    };
+    assert!(rt; plan.deed == deed);
     Ok(())
 }
 
 #[test]
 fn the_only_message_leaves_an_empty_group(rt: HostRuntime) -> Result<(), Fail> {
-    let body = hello()?;
     let plan = only_unlink(rt.alloc())?;
-    assert_eq!(rt; plan.writes.len(), 2);
-    let (place, freed) = write_of(&plan, 0).ok_or("a write")?;
-    assert_eq!(rt; place, 33);
-    assert_eq!(rt; cell_in(&freed), Some(CellSlot::Free));
-    let (place, told) = write_of(&plan, 1).ok_or("a write")?;
-    assert_eq!(rt; place, 20);
-    let after = directory_in(&told).ok_or("a directory slot")?;
-    assert_eq!(rt;
-        after,
-        DirectorySlot {
-            sender: 3,
-            directory: Directory {
-                closed: false,
-                sent: 5,
-                received: 5,
-                last_tag: 7,
-                head: Addr::NONE,
-                tail: Addr::NONE,
-            },
-        }
-    );
-    assert_eq!(rt;
-        plan.deed,
-        Deed::UnlinkHead {
-            sender: 3,
-            sequence: 5,
-            tag: 7,
-            body
-        }
-    );
+    let group = DirectorySlot {
+        sender: 3,
+        directory: Directory {
+            closed: false,
+            sent: 5,
+            received: 5,
+            last_tag: 7,
+            head: Addr::NONE,
+            tail: Addr::NONE,
+        },
+    };
+    let deed = Deed::UnlinkHead {
+        sender: 3,
+        sequence: 5,
+        tag: 7,
+        body: hello()?,
+    };
+    assert!(rt; plan.writes.len() == 2);
+    assert!(rt; cell_of(&plan, 0) == Some((33, CellSlot::Free)));
+    assert!(rt; directory_of(&plan, 1) == Some((20, group)));
+    assert!(rt; plan.deed == deed);
     Ok(())
 }
 
 #[test]
 fn the_next_message_comes_first(rt: HostRuntime) -> Result<(), Fail> {
-    let body = hello()?;
-    let second = Addr::from_number(33);
     let plan = first_unlink(rt.alloc())?;
-    assert_eq!(rt; plan.writes.len(), 3);
-    let (place, freed) = write_of(&plan, 0).ok_or("a write")?;
-    assert_eq!(rt; place, 35);
-    assert_eq!(rt; cell_in(&freed), Some(CellSlot::Free));
-    let (place, unlinked) = write_of(&plan, 1).ok_or("a write")?;
-    assert_eq!(rt; place, 33);
-    assert_eq!(rt;
-        cell_in(&unlinked),
-        Some(CellSlot::Used(Cell {
-            sender: 3,
-            sequence: 2,
-            tag: 8,
-            next: Addr::NONE,
-            prev: Addr::NONE,
-            body,
-        }))
-    );
-    let (place, told) = write_of(&plan, 2).ok_or("a write")?;
-    assert_eq!(rt; place, 20);
-    let after = directory_in(&told).ok_or("a directory slot")?;
-    assert_eq!(rt;
-        after,
-        DirectorySlot {
-            sender: 3,
-            directory: Directory {
-                closed: true,
-                sent: 2,
-                received: 1,
-                last_tag: 8,
-                head: second,
-                tail: second,
-            },
-        }
-    );
-    assert_eq!(rt;
-        plan.deed,
-        Deed::UnlinkHead {
-            sender: 3,
-            sequence: 1,
-            tag: 7,
-            body
-        }
-    );
+    let body = hello()?;
+    let unlinked = Cell {
+        sender: 3,
+        sequence: 2,
+        tag: 8,
+        next: Addr::NONE,
+        prev: Addr::NONE,
+        body,
+    };
+    let second = Addr::from_number(33);
+    let group = DirectorySlot {
+        sender: 3,
+        directory: Directory {
+            closed: true,
+            sent: 2,
+            received: 1,
+            last_tag: 8,
+            head: second,
+            tail: second,
+        },
+    };
+    let deed = Deed::UnlinkHead {
+        sender: 3,
+        sequence: 1,
+        tag: 7,
+        body,
+    };
+    assert!(rt; plan.writes.len() == 3);
+    assert!(rt; cell_of(&plan, 0) == Some((35, CellSlot::Free)));
+    assert!(rt; cell_of(&plan, 1) == Some((33, CellSlot::Used(unlinked))));
+    assert!(rt; directory_of(&plan, 2) == Some((20, group)));
+    assert!(rt; plan.deed == deed);
     Ok(())
 }

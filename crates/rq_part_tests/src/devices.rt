@@ -143,27 +143,29 @@ fn left_of_log(alloc: Global, keep: u64) -> Result<(usize, u64, usize), Fail> {
 fn log_reads(rt: HostRuntime) -> Result<(), Fail> {
     let switch = Switch::new(rt.alloc())?;
     let mut log = log_of_four(rt.alloc(), &switch)?;
-    let (count, read) = eight_from(&mut log, 9)?;
-    assert_eq!(rt; count, 8);
-    assert_eq!(rt; read, [21, 22, 23, 0, 0, 0, 0, 0]);
-    assert_eq!(rt; length_from(&mut log, 0)?, 21);
-    assert_eq!(rt; length_from(&mut log, 19)?, 2);
-    assert_eq!(rt; length_from(&mut log, 22)?, 0);
-    assert_eq!(rt; records(&log), 4);
-    assert_eq!(rt; forced_len(&log), 5);
-    assert_eq!(rt; log_failures(&log), 0);
-    assert_eq!(rt; switch.calls(), 8);
+    assert!(rt; eight_from(&mut log, 9) == Ok((8, [21, 22, 23, 0, 0, 0, 0, 0])));
+    assert!(rt; length_from(&mut log, 0) == Ok(21));
+    assert!(rt; length_from(&mut log, 19) == Ok(2));
+    assert!(rt; length_from(&mut log, 22) == Ok(0));
+    assert!(rt; records(&log) == 4);
+    assert!(rt; forced_len(&log) == 5);
+    assert!(rt; log_failures(&log) == 0);
+    assert!(rt; switch.calls() == 8);
     Ok(())
 }
 
 #[test]
 fn log_crashes(rt: HostRuntime) -> Result<(), Fail> {
-    assert_eq!(rt; left_of_log(rt.alloc(), 0)?, (5, 1, 5));
-    assert_eq!(rt; left_of_log(rt.alloc(), 1)?, (12, 2, 12));
-    assert_eq!(rt; left_of_log(rt.alloc(), 2)?, (16, 3, 16));
-    assert_eq!(rt; left_of_log(rt.alloc(), 3)?, (21, 4, 21));
-    assert_eq!(rt; left_of_log(rt.alloc(), 4)?, (21, 4, 21));
-    assert_eq!(rt; left_of_log(rt.alloc(), u64::MAX)?.0, 21);
+    for (keep, left) in [
+        (0, (5, 1, 5)),
+        (1, (12, 2, 12)),
+        (2, (16, 3, 16)),
+        (3, (21, 4, 21)),
+        (4, (21, 4, 21)),
+        (u64::MAX, (21, 4, 21)),
+    ] {
+        assert!(rt; left_of_log(rt.alloc(), keep)? == left, "{keep} kept");
+    }
     Ok(())
 }
 
@@ -172,8 +174,8 @@ fn log_of_bytes(rt: HostRuntime) -> Result<(), Fail> {
     let switch = Switch::new(rt.alloc())?;
     let bytes = Vec::from_slice(rt.alloc(), &[0, 0, 0, 1, 5, 0, 0, 0, 2, 6])?;
     let log = log_over(rt.alloc(), bytes, switch);
-    assert_eq!(rt; records(&log), 1);
-    assert_eq!(rt; forced_len(&log), 10);
+    assert!(rt; records(&log) == 1);
+    assert!(rt; forced_len(&log) == 10);
     Ok(())
 }
 
@@ -182,15 +184,19 @@ fn pages_crash(rt: HostRuntime) -> Result<(), Fail> {
     let alloc = rt.alloc();
     let switch = Switch::new(alloc)?;
     let mut pages = pages_of_two(alloc, &switch)?;
-    assert_eq!(rt; pages.page_count(), 2);
-    assert_eq!(rt; bytes_of_two(&mut pages)?, (3, 9));
+    assert!(rt; pages.page_count() == 2);
+    assert!(rt; bytes_of_two(&mut pages) == Ok((3, 9)));
     let mut synced = crashed_pages(pages, PageChoice::Synced);
-    assert_eq!(rt; bytes_of_two(&mut synced)?, (1, 9));
-    assert_eq!(rt; left_of_pages(alloc, PageChoice::Newest)?, (3, 9));
-    assert_eq!(rt; left_at(alloc, 0)?, (1, 9));
-    assert_eq!(rt; left_at(alloc, 1)?, (2, 9));
-    assert_eq!(rt; left_at(alloc, 2)?, (3, 9));
-    assert_eq!(rt; left_at(alloc, 3)?, (3, 9));
+    assert!(rt; bytes_of_two(&mut synced) == Ok((1, 9)));
+    assert!(rt; left_of_pages(alloc, PageChoice::Newest)? == (3, 9));
+    Ok(())
+}
+
+#[test]
+fn pages_crash_at_a_place(rt: HostRuntime) -> Result<(), Fail> {
+    for (place, left) in [(0, (1, 9)), (1, (2, 9)), (2, (3, 9)), (3, (3, 9))] {
+        assert!(rt; left_at(rt.alloc(), place)? == left, "place {place}");
+    }
     Ok(())
 }
 
@@ -198,10 +204,10 @@ fn pages_crash(rt: HostRuntime) -> Result<(), Fail> {
 fn pages_end(rt: HostRuntime) -> Result<(), Fail> {
     let alloc = rt.alloc();
     let mut pages = pages_over(alloc, [4, 5], Switch::new(alloc)?)?;
-    assert_eq!(rt; byte_of(&mut pages, 1)?, 5);
-    assert_eq!(rt; byte_of(&mut pages, 2), Err(DeviceFailed));
-    assert_eq!(rt; write(&mut pages, 2, 6), Err(DeviceFailed));
-    assert_eq!(rt; page_failures(&pages), 2);
+    assert!(rt; byte_of(&mut pages, 1) == Ok(5));
+    assert!(rt; byte_of(&mut pages, 2) == Err(DeviceFailed));
+    assert!(rt; write(&mut pages, 2, 6) == Err(DeviceFailed));
+    assert!(rt; page_failures(&pages) == 2);
     Ok(())
 }
 
@@ -213,18 +219,18 @@ fn kinds_fail_once(rt: HostRuntime) -> Result<(), Fail> {
     switch.arm_kind(CallKind::Read, Mishap::Fail);
     switch.arm_kind(CallKind::Write, Mishap::Fail);
     switch.arm_kind(CallKind::Force, Mishap::Fail);
-    assert_eq!(rt; append_one(&mut log), Err(DeviceFailed));
-    assert_eq!(rt; sync(&mut pages), Err(DeviceFailed));
-    assert_eq!(rt; byte_of(&mut pages, 0), Err(DeviceFailed));
-    assert_eq!(rt; log_failures(&log), 1);
-    assert_eq!(rt; page_failures(&pages), 2);
+    assert!(rt; append_one(&mut log) == Err(DeviceFailed));
+    assert!(rt; sync(&mut pages) == Err(DeviceFailed));
+    assert!(rt; byte_of(&mut pages, 0) == Err(DeviceFailed));
+    assert!(rt; log_failures(&log) == 1);
+    assert!(rt; page_failures(&pages) == 2);
 
     // none has done anything, and each was met once
-    assert_eq!(rt; length_from(&mut log, 0)?, 21);
-    assert_eq!(rt; byte_of(&mut pages, 0)?, 3);
-    append_one(&mut log)?;
-    force(&mut log)?;
-    assert_eq!(rt; forced_len(&log), 26);
+    assert!(rt; length_from(&mut log, 0) == Ok(21));
+    assert!(rt; byte_of(&mut pages, 0) == Ok(3));
+    assert!(rt; append_one(&mut log) == Ok(()));
+    assert!(rt; force(&mut log) == Ok(()));
+    assert!(rt; forced_len(&log) == 26);
     Ok(())
 }
 
@@ -234,19 +240,19 @@ fn nth_call_fails(rt: HostRuntime) -> Result<(), Fail> {
     let mut pages = pages_of_two(rt.alloc(), &switch)?;
     let mut log = log_of_four(rt.alloc(), &switch)?;
     switch.arm_call(3, Mishap::Fail);
-    append_one(&mut log)?;
-    write(&mut pages, 0, 4)?;
-    assert_eq!(rt; force(&mut log), Err(DeviceFailed));
-    force(&mut log)?;
+    assert!(rt; append_one(&mut log) == Ok(()));
+    assert!(rt; write(&mut pages, 0, 4) == Ok(()));
+    assert!(rt; force(&mut log) == Err(DeviceFailed));
+    assert!(rt; force(&mut log) == Ok(()));
 
     // an armed failure outlives a crash, and no call meets it while the switch is suspended
     switch.arm_call(1, Mishap::Fail);
     let mut log = crashed_log(log, 0);
     switch.suspend();
-    append_one(&mut log)?;
+    assert!(rt; append_one(&mut log) == Ok(()));
     switch.resume();
-    assert_eq!(rt; append_one(&mut log), Err(DeviceFailed));
-    assert_eq!(rt; log_failures(&log), 2);
+    assert!(rt; append_one(&mut log) == Err(DeviceFailed));
+    assert!(rt; log_failures(&log) == 2);
     Ok(())
 }
 
@@ -257,15 +263,15 @@ fn pages_stop(rt: HostRuntime) -> Result<(), Fail> {
     let mut pages = pages_of_two(rt.alloc(), &switch)?;
     let mut log = log_of_four(rt.alloc(), &switch)?;
     switch.arm_call(1, Mishap::Stop);
-    assert_eq!(rt; write(&mut pages, 0, 4), Err(DeviceFailed));
+    assert!(rt; write(&mut pages, 0, 4) == Err(DeviceFailed));
     assert!(rt; switch.is_stopped());
-    assert_eq!(rt; write(&mut pages, 0, 5), Err(DeviceFailed));
-    assert_eq!(rt; append_one(&mut log), Err(DeviceFailed));
+    assert!(rt; write(&mut pages, 0, 5) == Err(DeviceFailed));
+    assert!(rt; append_one(&mut log) == Err(DeviceFailed));
     switch.reset();
-    assert_eq!(rt; write(&mut pages, 0, 6), Err(DeviceFailed));
+    assert!(rt; write(&mut pages, 0, 6) == Err(DeviceFailed));
     let mut pages = crashed_pages(pages, PageChoice::Newest);
-    assert_eq!(rt; byte_of(&mut pages, 0)?, 4);
-    assert_eq!(rt; records(&log), 4);
+    assert!(rt; byte_of(&mut pages, 0) == Ok(4));
+    assert!(rt; records(&log) == 4);
     Ok(())
 }
 
@@ -276,15 +282,15 @@ fn logs_stop(rt: HostRuntime) -> Result<(), Fail> {
 
     // a force is not made
     switch.arm_kind(CallKind::Force, Mishap::Stop);
-    assert_eq!(rt; force(&mut log), Err(DeviceFailed));
+    assert!(rt; force(&mut log) == Err(DeviceFailed));
     switch.reset();
-    assert_eq!(rt; forced_len(&log), 5);
+    assert!(rt; forced_len(&log) == 5);
 
     // an append is
     switch.arm_kind(CallKind::Write, Mishap::Stop);
-    assert_eq!(rt; append_one(&mut log), Err(DeviceFailed));
+    assert!(rt; append_one(&mut log) == Err(DeviceFailed));
     switch.reset();
-    assert_eq!(rt; records(&log), 5);
+    assert!(rt; records(&log) == 5);
     Ok(())
 }
 

@@ -51,13 +51,13 @@ fn first_for(waiting: &Waiting, ends: &Ends, txn: Txn) -> Option<u32> {
 #[test]
 fn a_message_waits_until_it_is_taken(rt: HostRuntime) -> Result<(), Fail> {
     let mut waiting = five_senders(rt.alloc())?;
-    assert_eq!(rt; senders(&waiting), 5);
+    assert!(rt; senders(&waiting) == 5);
     assert!(rt; add(&mut waiting, 3, 2));
-    assert_eq!(rt; count(&waiting, 3), 2);
+    assert!(rt; count(&waiting, 3) == 2);
     take(&mut waiting, 3);
-    assert_eq!(rt; count(&waiting, 3), 1);
-    assert_eq!(rt; count(&waiting, 2), 0);
-    assert_eq!(rt; count(&waiting, 5), 0, "no sender of the store");
+    assert!(rt; count(&waiting, 3) == 1);
+    assert!(rt; count(&waiting, 2) == 0);
+    assert!(rt; count(&waiting, 5) == 0, "no sender of the store");
     Ok(())
 }
 
@@ -65,13 +65,16 @@ fn a_message_waits_until_it_is_taken(rt: HostRuntime) -> Result<(), Fail> {
 fn a_group_that_another_receives_from_is_passed_over(rt: HostRuntime) -> Result<(), Fail> {
     let mut waiting = five_senders(rt.alloc())?;
     let mut ends = Ends::new(rt.alloc());
-    assert_eq!(rt; first_for(&waiting, &ends, ONE), None);
+    assert!(rt; first_for(&waiting, &ends, ONE) == None);
     assert!(rt; add(&mut waiting, 1, 1));
-    assert_eq!(rt; first_for(&waiting, &ends, ONE), Some(1));
+    assert!(rt; first_for(&waiting, &ends, ONE) == Some(1));
     assert!(rt; take_receive(&mut ends, OTHER, 1), "memory");
-    assert_eq!(rt; first_for(&waiting, &ends, ONE), None, "held by the other");
-    assert_eq!(rt; first_for(&waiting, &ends, OTHER), Some(1), "its own end");
+    assert!(rt;
+        first_for(&waiting, &ends, ONE) == None,
+        "held by the other"
+    );
+    assert!(rt; first_for(&waiting, &ends, OTHER) == Some(1), "its own end");
     assert!(rt; add(&mut waiting, 4, 1));
-    assert_eq!(rt; first_for(&waiting, &ends, ONE), Some(4));
+    assert!(rt; first_for(&waiting, &ends, ONE) == Some(4));
     Ok(())
 }

@@ -109,8 +109,8 @@ fn empty(rt: HostRuntime) -> Result<(), Fail> {
     let switch = Switch::new(alloc)?;
     let (records, log) = read(alloc, device_of(alloc, &[], &switch)?)?;
     assert!(rt; records.is_empty());
-    assert_eq!(rt; log.last(), 0);
-    assert_eq!(rt; log.forced(), 0);
+    assert!(rt; log.last() == 0);
+    assert!(rt; log.forced() == 0);
     Ok(())
 }
 
@@ -130,14 +130,12 @@ fn written_is_read(rt: HostRuntime) -> Result<(), Fail> {
     let alloc = rt.alloc();
     let switch = Switch::new(alloc)?;
     let (log, numbers) = written(alloc, &switch)?;
-    assert_eq!(rt; numbers, [1, 1, 2]);
-    assert_eq!(rt; log.last(), 2);
-    assert_eq!(rt; log.forced(), 1);
+    assert!(rt; numbers == [1, 1, 2]);
+    assert!(rt; log.last() == 2);
+    assert!(rt; log.forced() == 1);
     let mut device = give_back(log);
-    let (count, bytes) = bytes_from(&mut device, 0)?;
-    assert_eq!(rt; count, 34);
-    assert_eq!(rt; bytes, BYTES);
-    assert_eq!(rt; bytes_from(&mut device, 34)?.0, 0);
+    assert!(rt; bytes_from(&mut device, 0) == Ok((34, BYTES)));
+    assert!(rt; bytes_from(&mut device, 34) == Ok((0, [0; 34])));
     Ok(())
 }
 
@@ -147,12 +145,12 @@ fn records_are_read(rt: HostRuntime) -> Result<(), Fail> {
     let switch = Switch::new(alloc)?;
     let (log, _) = written(alloc, &switch)?;
     let (records, log) = read(alloc, give_back(log))?;
-    assert_eq!(rt; records.as_slice(), [RESTART, COMMIT].as_slice());
-    assert_eq!(rt; log.forced(), 0);
+    assert!(rt; records.as_slice() == [RESTART, COMMIT].as_slice());
+    assert!(rt; log.forced() == 0);
 
     // a crash leaves what was forced
     let (records, _) = read(alloc, crash(give_back(log)))?;
-    assert_eq!(rt; records.as_slice(), [RESTART].as_slice());
+    assert!(rt; records.as_slice() == [RESTART].as_slice());
     Ok(())
 }
 
@@ -172,11 +170,11 @@ fn a_force_makes_one_append_and_one_force(rt: HostRuntime) -> Result<(), Fail> {
     let switch = Switch::new(alloc)?;
     let mut log = waiting(alloc, &switch)?;
     let calls = switch.calls();
-    assert_eq!(rt; force(&mut log)?, 3);
-    assert_eq!(rt; switch.calls().wrapping_sub(calls), 2);
+    assert!(rt; force(&mut log) == Ok(3));
+    assert!(rt; switch.calls().wrapping_sub(calls) == 2);
     switch.arm_kind(CallKind::Write, Mishap::Fail);
-    assert_eq!(rt; force(&mut log)?, 3);
-    assert_eq!(rt; switch.calls().wrapping_sub(calls), 3);
+    assert!(rt; force(&mut log) == Ok(3));
+    assert!(rt; switch.calls().wrapping_sub(calls) == 3);
     Ok(())
 }
 
@@ -185,8 +183,8 @@ fn damaged(rt: HostRuntime) -> Result<(), Fail> {
     let alloc = rt.alloc();
     let switch = Switch::new(alloc)?;
     let (records, refusal) = stopped(alloc, device_of(alloc, &BYTES[..30], &switch)?);
-    assert_eq!(rt; records.as_slice(), [RESTART].as_slice());
-    assert_eq!(rt; refusal, Some(Refusal::Damaged(Damage::Record(2))));
+    assert!(rt; records.as_slice() == [RESTART].as_slice());
+    assert!(rt; refusal == Some(Refusal::Damaged(Damage::Record(2))));
     Ok(())
 }
 
@@ -196,7 +194,7 @@ fn a_failed_read_stops(rt: HostRuntime) -> Result<(), Fail> {
     let switch = Switch::new(alloc)?;
     switch.arm_kind(CallKind::Read, Mishap::Fail);
     let (_, refusal) = stopped(alloc, device_of(alloc, &BYTES, &switch)?);
-    assert_eq!(rt; refusal, Some(Refusal::DiskRead));
+    assert!(rt; refusal == Some(Refusal::DiskRead));
     Ok(())
 }
 
@@ -207,11 +205,11 @@ fn a_failed_force_stops(rt: HostRuntime) -> Result<(), Fail> {
     let (_, mut log) = read(alloc, device_of(alloc, &BYTES, &switch)?)?;
     add(&mut log, &COMMIT)?;
     switch.arm_kind(CallKind::Force, Mishap::Fail);
-    assert_eq!(rt; force(&mut log), Err(Refusal::DiskWrite));
-    assert_eq!(rt; log.forced(), 0);
+    assert!(rt; force(&mut log) == Err(Refusal::DiskWrite));
+    assert!(rt; log.forced() == 0);
     let calls = switch.calls();
-    assert_eq!(rt; force(&mut log), Err(Refusal::Failed));
-    assert_eq!(rt; hand_over(&mut log), Err(Refusal::Failed));
-    assert_eq!(rt; switch.calls(), calls);
+    assert!(rt; force(&mut log) == Err(Refusal::Failed));
+    assert!(rt; hand_over(&mut log) == Err(Refusal::Failed));
+    assert!(rt; switch.calls() == calls);
     Ok(())
 }

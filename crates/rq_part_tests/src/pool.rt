@@ -130,17 +130,16 @@ fn hello() -> Result<Cell, Fail> {
 fn a_written_cell_is_used(rt: HostRuntime) -> Result<(), Fail> {
     let switch = Switch::new(rt.alloc())?;
     let mut pages = small_store(rt.alloc(), &switch)?;
-    assert_eq!(rt; used_cells(&pages), 0);
-    assert_eq!(rt; sent_of(&pages, 3), Some(0));
-    let free = free_cell(&pages).ok_or("a free cell")?;
-    assert_eq!(rt; free.number(), 33);
+    assert!(rt; used_cells(&pages) == 0);
+    assert!(rt; sent_of(&pages, 3) == Some(0));
+    let free = Addr::from_number(33);
+    assert!(rt; free_cell(&pages) == Some(free));
     let cell = hello()?;
     assert!(rt; put(&mut pages, free, &CellSlot::Used(cell).encode()));
-    assert_eq!(rt; cell_at(&pages, free), Some(cell));
-    assert_eq!(rt; used_cells(&pages), 1);
-    let next = free_cell(&pages).ok_or("a free cell")?;
-    assert_eq!(rt; next.number(), 34);
-    assert_eq!(rt; lsn_of(&pages, 2), Some(5));
+    assert!(rt; cell_at(&pages, free) == Some(cell));
+    assert!(rt; used_cells(&pages) == 1);
+    assert!(rt; free_cell(&pages) == Some(Addr::from_number(34)));
+    assert!(rt; lsn_of(&pages, 2) == Some(5));
     assert!(rt; lsn_of(&pages, 3).is_none() && !has_slot(&pages, Addr::from_number(1)));
     Ok(())
 }
@@ -159,16 +158,13 @@ fn refused(alloc: Global, zeros: Option<u32>) -> Result<Option<Refusal>, Fail> {
 
 #[test]
 fn a_page_of_zeros_is_damaged(rt: HostRuntime) -> Result<(), Fail> {
-    assert_eq!(rt;
-        refused(rt.alloc(), Some(2))?,
-        Some(Refusal::Damaged(Damage::Page(2)))
-    );
+    assert!(rt; refused(rt.alloc(), Some(2))? == Some(Refusal::Damaged(Damage::Page(2))));
     Ok(())
 }
 
 #[test]
 fn a_failed_read_stops(rt: HostRuntime) -> Result<(), Fail> {
-    assert_eq!(rt; refused(rt.alloc(), None)?, Some(Refusal::DiskRead));
+    assert!(rt; refused(rt.alloc(), None)? == Some(Refusal::DiskRead));
     Ok(())
 }
 
@@ -176,16 +172,17 @@ fn a_failed_read_stops(rt: HostRuntime) -> Result<(), Fail> {
 fn a_page_waits_for_its_record(rt: HostRuntime) -> Result<(), Fail> {
     let switch = Switch::new(rt.alloc())?;
     let mut pages = small_store(rt.alloc(), &switch)?;
-    let free = free_cell(&pages).ok_or("a free cell")?;
+    let free = Addr::from_number(33);
+    assert!(rt; free_cell(&pages) == Some(free));
     assert!(rt; put(&mut pages, free, &CellSlot::Free.encode()));
     // the next write fails, but a page that is not forced is not written
     switch.arm_kind(CallKind::Write, Mishap::Fail);
-    assert_eq!(rt; write_back(&mut pages, 2, 4), Err(Refusal::NotForced));
-    assert_eq!(rt; write_back(&mut pages, 2, 5), Err(Refusal::DiskWrite));
-    assert_eq!(rt; write_back(&mut pages, 2, 5), Ok(Written::Done));
-    assert_eq!(rt; write_back(&mut pages, 2, 5), Ok(Written::Nothing));
+    assert!(rt; write_back(&mut pages, 2, 4) == Err(Refusal::NotForced));
+    assert!(rt; write_back(&mut pages, 2, 5) == Err(Refusal::DiskWrite));
+    assert!(rt; write_back(&mut pages, 2, 5) == Ok(Written::Done));
+    assert!(rt; write_back(&mut pages, 2, 5) == Ok(Written::Nothing));
     let mut device = give_back(pages);
-    assert_eq!(rt; lsn_on_device(&mut device, 2)?, 5);
+    assert!(rt; lsn_on_device(&mut device, 2) == Ok(5));
     Ok(())
 }
 
@@ -194,7 +191,7 @@ fn only_changes_are_written(rt: HostRuntime) -> Result<(), Fail> {
     let switch = Switch::new(rt.alloc())?;
     let mut pages = small_store(rt.alloc(), &switch)?;
     // a page as it was read, and one that the store has not
-    assert_eq!(rt; write_back(&mut pages, 2, 9), Ok(Written::Nothing));
-    assert_eq!(rt; write_back(&mut pages, 3, 9), Ok(Written::Nothing));
+    assert!(rt; write_back(&mut pages, 2, 9) == Ok(Written::Nothing));
+    assert!(rt; write_back(&mut pages, 3, 9) == Ok(Written::Nothing));
     Ok(())
 }

@@ -30,11 +30,11 @@ fn stands_so(rt: &impl Abort, alloc: Global, record: &Record, bytes: &[u8]) -> R
 {
     let mut out = Vec::new(alloc);
     encode(record, &mut out)?;
-    assert_eq!(rt; out.as_slice(), bytes);
-    assert_eq!(rt; spelled_len(record), bytes.len());
-    assert_eq!(rt; decode(&out), Step::Record(*record, bytes.len()));
+    assert!(rt; out.as_slice() == bytes);
+    assert!(rt; spelled_len(record) == bytes.len());
+    assert!(rt; decode(&out) == Step::Record(*record, bytes.len()));
     out.extend_from_slice(b"more")?;
-    assert_eq!(rt; decode(&out), Step::Record(*record, bytes.len()));
+    assert!(rt; decode(&out) == Step::Record(*record, bytes.len()));
     Ok(())
 }
 
@@ -100,8 +100,8 @@ fn op_end_with_its_deed(rt: HostRuntime) -> Result<(), Fail> {
     let bytes =
         b"\x01\x00\x00\x00\x00\x00\x00\x00\x00\x00\x00\x00\x01\x00\x00\x00\x00\x00\x00\x00\x07\
           \x00\x00\x00\x00\x00\x00\x00\x00hello";
-    assert_eq!(rt; deed.as_slice(), bytes.as_slice());
-    assert_eq!(rt; decode_deed(bytes), Some(append));
+    assert!(rt; deed.as_slice() == bytes.as_slice());
+    assert!(rt; decode_deed(bytes) == Some(append));
     let op_end = Record::OpEnd {
         txn: FIRST,
         operation: 1,
@@ -121,8 +121,8 @@ fn op_end_with_its_deed(rt: HostRuntime) -> Result<(), Fail> {
 
 // The deed is written as these bytes, and read from them.
 fn is_spelled(rt: &impl Abort, deed: &Deed, bytes: &[u8]) {
-    assert_eq!(rt; encode_deed(deed).as_slice(), bytes);
-    assert_eq!(rt; decode_deed(bytes), Some(*deed));
+    assert!(rt; encode_deed(deed).as_slice() == bytes);
+    assert!(rt; decode_deed(bytes) == Some(*deed));
 }
 
 fn is_no_deed(bytes: &[u8]) -> bool {
@@ -162,9 +162,9 @@ fn begins_so(
 {
     let mut out = Vec::new(alloc);
     encode(record, &mut out)?;
-    assert_eq!(rt; out.len(), size);
+    assert!(rt; out.len() == size);
     assert!(rt; out.starts_with(head));
-    assert_eq!(rt; decode(&out), Step::Record(*record, size));
+    assert!(rt; decode(&out) == Step::Record(*record, size));
     Ok(())
 }
 
@@ -200,7 +200,7 @@ fn short_and_bad(rt: HostRuntime) {
         &[0, 0, 0, 17],
     ];
     for bytes in short {
-        assert_eq!(rt; decode(bytes), Step::Short);
+        assert!(rt; decode(bytes) == Step::Short);
     }
     let bad: [&[u8]; 5] = [
         &[0, 0, 0, 9, 6],
@@ -210,7 +210,7 @@ fn short_and_bad(rt: HostRuntime) {
         &[1],
     ];
     for bytes in bad {
-        assert_eq!(rt; decode(bytes), Step::Bad);
+        assert!(rt; decode(bytes) == Step::Bad);
     }
 }
 
@@ -273,7 +273,7 @@ fn told(sender: u32) -> DeedBytes
 fn room_for_an_operation(rt: HostRuntime) {
     let images = [[0; 256], [7; 256]];
     let deed = Deed::Close { sender: 3 };
-    assert_eq!(rt; told(3).as_slice(), b"\x03\0\0\0\x03".as_slice());
-    assert_eq!(rt; room_left(1148, &images, &deed), Some(0));
-    assert_eq!(rt; room_left(1147, &images, &deed), None);
+    assert!(rt; told(3).as_slice() == b"\x03\0\0\0\x03".as_slice());
+    assert!(rt; room_left(1148, &images, &deed) == Some(0));
+    assert!(rt; room_left(1147, &images, &deed) == None);
 }

@@ -271,7 +271,7 @@ fn a_session_cut_anywhere_is_answered_the_same(rt: HostRuntime) -> Result<(), Fa
             serve_fed(&mut session, &mut store, second, &mut out)?,
             "cut at {cut}"
         );
-        assert_eq!(rt; out.as_slice(), &ANSWERED[..], "cut at {cut}");
+        assert!(rt; out.as_slice() == &ANSWERED[..], "cut at {cut}");
     }
     Ok(())
 }
@@ -287,11 +287,8 @@ fn a_fault_aborts_and_is_not_answered(rt: HostRuntime) -> Result<(), Fail> {
     assert!(rt; serve_fed(&mut session, &mut store, fed, &mut out)?);
     let fed = feed(&mut frames, &[2, 1])?;
     assert!(rt; !serve_fed(&mut session, &mut store, fed, &mut out)?);
-    assert_eq!(rt; out.as_slice(), &ANSWERED[..22]);
-    assert_eq!(rt;
-        (store.aborted, store.undos_asked, store.to_undo),
-        (1, 4, 0)
-    );
+    assert!(rt; out.as_slice() == &ANSWERED[..22]);
+    assert!(rt; store.aborted == 1 && store.undos_asked == 4 && store.to_undo == 0);
     assert!(rt; input(&mut session, Request::Begin).is_none() && answer_left(&session).is_none());
     Ok(())
 }
@@ -325,7 +322,7 @@ fn an_operation_under_way_is_finished_when_the_connection_is_lost(
     }
     let action = lost(&mut session);
     assert!(rt; !carry_out(&mut session, &mut store, action, &mut out)?);
-    assert_eq!(rt; (store.slots_left, store.aborted, store.to_undo), (0, 1, 0));
-    assert_eq!(rt; out.len(), 19);
+    assert!(rt; store.slots_left == 0 && store.aborted == 1 && store.to_undo == 0);
+    assert!(rt; out.len() == 19);
     Ok(())
 }

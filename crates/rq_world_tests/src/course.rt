@@ -8,6 +8,8 @@ use rq_model::txn::{Lsn, Sub, Txn};
 use rq_page::layout::Layout;
 use rq_restart::restart::Report;
 use std::alloc::{AllocError, Global};
+use std::process::Abort;
+use std::test::Fail;
 
 /// The first transaction of the first incarnation.
 pub const FIRST: Txn = Txn {
@@ -110,9 +112,21 @@ pub const fn restarted(incarnation: u64, records: u64) -> Told {
     })
 }
 
-/// Lets this happen to a small store, and then that. Answers the number of the first step that came to something else,
-/// 0 where there is none.
-pub fn first_fault(alloc: Global, first: &[Step], then: &[Step]) -> Result<u64, AllocError> {
+/// Lets this happen to a small store, and then that: each step comes to what it says. A test with several cases tells
+/// them by their numbers.
+pub fn check(
+    rt: &(impl Abort + AllocGlobal),
+    case: u64,
+    first: &[Step],
+    then: &[Step],
+) -> Result<(), Fail> {
+    let fault = first_fault(rt.alloc(), first, then)?;
+    assert_eq!(rt; fault, 0, "case {case}");
+    Ok(())
+}
+
+// The number of the first step that came to something else, 0 where there is none.
+fn first_fault(alloc: Global, first: &[Step], then: &[Step]) -> Result<u64, AllocError> {
     let mut course = Course {
         alloc,
         happenings: Vec::new(alloc),

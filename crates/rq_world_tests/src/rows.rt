@@ -1,5 +1,5 @@
 //! Worked courses: one message, from its send over a crash to its receive, or to a receive that is undone.
-use crate::course::{ALL, Ask, FIRST, Images, SECOND, Sent, Step, Text, first_fault, restarted};
+use crate::course::{ALL, Ask, FIRST, Images, SECOND, Sent, Step, Text, check, restarted};
 use crate::told::Told;
 use rq_model::refusal::Refusal;
 use rq_model::txn::{Sub, Txn};
@@ -44,8 +44,7 @@ fn a_forced_message_is_received_after_a_crash(rt: HostRuntime) -> Result<(), Fai
         Step::Call(Ask::Begin, Told::Begun(AGAIN)),
         Step::Receive(AGAIN, 0, 7, Text::Hello, 7),
     ];
-    assert_eq!(rt; first_fault(rt.alloc(), &course, &[])?, 0);
-    Ok(())
+    check(&rt, 0, &course, &[])
 }
 
 // Up to the second commit. Nothing but the first opening is forced.
@@ -68,15 +67,14 @@ fn a_crash_takes_back_what_is_not_forced(rt: HostRuntime) -> Result<(), Fail> {
         Step::Restart(restarted(2, 2)),
         Step::HoldsNothing,
     ];
-    assert_eq!(rt; first_fault(rt.alloc(), &sent_and_received(), &lost)?, 0);
+    check(&rt, 0, &sent_and_received(), &lost)?;
     let kept = [
         Step::Call(Ask::Force, Told::Forced(9)),
         Step::Crash(0, Images::Unsaid, 9),
         Step::Restart(restarted(2, 10)),
         Step::Holds(sent(1, Text::A, false)),
     ];
-    assert_eq!(rt; first_fault(rt.alloc(), &sent_and_received(), &kept)?, 0);
-    Ok(())
+    check(&rt, 0, &sent_and_received(), &kept)
 }
 
 #[test]
@@ -86,8 +84,7 @@ fn a_crash_may_keep_the_first_records_that_are_not_forced(rt: HostRuntime) -> Re
         Step::Restart(restarted(2, 6)),
         Step::Holds(sent(1, Text::A, true)),
     ];
-    assert_eq!(rt; first_fault(rt.alloc(), &sent_and_received(), &end)?, 0);
-    Ok(())
+    check(&rt, 0, &sent_and_received(), &end)
 }
 
 // The second device call of the force is the force itself: what it appended before may outlive the crash.
@@ -108,14 +105,13 @@ fn a_force_that_fails_leaves_it_to_the_crash(rt: HostRuntime) -> Result<(), Fail
         Step::Restart(restarted(2, 6)),
         Step::Holds(sent(1, Text::A, true)),
     ];
-    assert_eq!(rt; first_fault(rt.alloc(), &course, &kept)?, 0);
+    check(&rt, 0, &course, &kept)?;
     let lost = [
         Step::Crash(0, Images::Unsaid, 1),
         Step::Restart(restarted(2, 2)),
         Step::HoldsNothing,
     ];
-    assert_eq!(rt; first_fault(rt.alloc(), &course, &lost)?, 0);
-    Ok(())
+    check(&rt, 0, &course, &lost)
 }
 
 // One message is sent and committed, and another transaction receives it and aborts. Nothing but the first opening is
@@ -156,7 +152,7 @@ fn a_message_that_was_put_back_outlives_a_crash(rt: HostRuntime) -> Result<(), F
             Step::Call(Ask::Begin, Told::Begun(AGAIN)),
             Step::Receive(AGAIN, 0, 1, Text::A, 14),
         ];
-        assert_eq!(rt; first_fault(rt.alloc(), &put_back(), &end)?, 0);
+        check(&rt, 0, &put_back(), &end)?;
     }
     Ok(())
 }
@@ -170,11 +166,7 @@ fn a_crash_in_the_midst_of_an_abort(rt: HostRuntime) -> Result<(), Fail> {
             Step::Restart(Told::Shut(Refusal::Unfinished)),
             Step::Restart(Told::Shut(Refusal::Unfinished)),
         ];
-        assert_eq!(rt;
-            first_fault(rt.alloc(), &put_back(), &end)?,
-            0,
-            "{keep} kept"
-        );
+        check(&rt, keep, &put_back(), &end)?;
     }
     for keep in [4, 11] {
         let records = u64::saturating_add(keep, 1);
@@ -183,11 +175,7 @@ fn a_crash_in_the_midst_of_an_abort(rt: HostRuntime) -> Result<(), Fail> {
             Step::Restart(restarted(2, records.saturating_add(1))),
             Step::Holds(sent(1, Text::A, true)),
         ];
-        assert_eq!(rt;
-            first_fault(rt.alloc(), &put_back(), &end)?,
-            0,
-            "{keep} kept"
-        );
+        check(&rt, keep, &put_back(), &end)?;
     }
     Ok(())
 }
@@ -235,6 +223,5 @@ fn the_calls_of_an_abort_touch_no_device(rt: HostRuntime) -> Result<(), Fail> {
         ),
         Step::Holds(sent(1, Text::A, true)),
     ];
-    assert_eq!(rt; first_fault(rt.alloc(), &course, &end)?, 0);
-    Ok(())
+    check(&rt, 0, &course, &end)
 }

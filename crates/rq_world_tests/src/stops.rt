@@ -1,5 +1,5 @@
 //! The power fails at each device call of a force, of a page write and of a restart.
-use crate::course::{ALL, Ask, FIRST, Images, SECOND, Sent, Step, Text, first_fault, restarted};
+use crate::course::{ALL, Ask, FIRST, Images, SECOND, Sent, Step, Text, check, restarted};
 use crate::told::Told;
 use rq_model::refusal::Refusal;
 use rq_model::txn::Txn;
@@ -23,6 +23,9 @@ const ALSO_WAITS: Sent = Sent {
 
 /// Images whose places are not said are the newest.
 const NEWEST: Images = Images::Unsaid;
+
+/// What each call of a store that is not open is answered.
+const FAILED: Told = Told::Refused(Refusal::Failed);
 
 // One message is sent and committed: of five records the first is forced. The commit is the eighth happening.
 const fn sent() -> [Step; 4] {
@@ -57,18 +60,14 @@ fn stops_in_a_force(rt: HostRuntime) -> Result<(), Fail> {
                 Step::Restart(restarted(2, 6)),
                 Step::Holds(WAITS),
             ];
-            assert_eq!(rt;
-                first_fault(rt.alloc(), &sent(), &kept)?,
-                0,
-                "stop {n}, {keep} kept"
-            );
+            check(&rt, n, &sent(), &kept)?;
         }
         let lost = [
             Step::StopIn(Ask::Force, n, 0, NEWEST, Told::Crashed(1)),
             Step::Restart(restarted(2, 2)),
             Step::HoldsNothing,
         ];
-        assert_eq!(rt; first_fault(rt.alloc(), &sent(), &lost)?, 0, "stop {n}");
+        check(&rt, n, &sent(), &lost)?;
     }
     Ok(())
 }
@@ -81,14 +80,14 @@ fn stops_in_a_hand_over_and_the_force_behind_it(rt: HostRuntime) -> Result<(), F
         Step::Restart(restarted(2, 6)),
         Step::Holds(WAITS),
     ];
-    assert_eq!(rt; first_fault(rt.alloc(), &sent(), &in_append)?, 0);
+    check(&rt, 0, &sent(), &in_append)?;
     let in_force = [
         Step::Call(Ask::HandOver, Told::HandedOver),
         Step::StopIn(Ask::Force, 1, 0, NEWEST, Told::Crashed(1)),
         Step::Restart(restarted(2, 2)),
         Step::HoldsNothing,
     ];
-    assert_eq!(rt; first_fault(rt.alloc(), &sent(), &in_force)?, 0);
+    check(&rt, 0, &sent(), &in_force)?;
     let behind = [
         Step::Call(Ask::HandOver, Told::HandedOver),
         Step::StopIn(Ask::Force, 2, 0, NEWEST, Told::Forced(5)),
@@ -96,8 +95,7 @@ fn stops_in_a_hand_over_and_the_force_behind_it(rt: HostRuntime) -> Result<(), F
         Step::Restart(restarted(2, 6)),
         Step::Holds(WAITS),
     ];
-    assert_eq!(rt; first_fault(rt.alloc(), &sent(), &behind)?, 0);
-    Ok(())
+    check(&rt, 0, &sent(), &behind)
 }
 
 // The write that the power fails in is made: the image at place 1 has all changes of page 1, and the restart none to
@@ -121,7 +119,7 @@ fn stops_in_a_page_write(rt: HostRuntime) -> Result<(), Fail> {
             Step::Call(Ask::Write(2), Told::Written),
             Step::Holds(WAITS),
         ];
-        assert_eq!(rt; first_fault(rt.alloc(), &sent(), &end)?, 0);
+        check(&rt, 0, &sent(), &end)?;
     }
     Ok(())
 }
@@ -151,11 +149,7 @@ fn each_image_that_was_written_may_be_left(rt: HostRuntime) -> Result<(), Fail> 
             Step::Call(Ask::Write(1), again),
             Step::HoldsBoth(WAITS, ALSO_WAITS),
         ];
-        assert_eq!(rt;
-            first_fault(rt.alloc(), &sent(), &end)?,
-            0,
-            "the image at {place}"
-        );
+        check(&rt, place, &sent(), &end)?;
     }
     Ok(())
 }
@@ -170,7 +164,7 @@ fn stops_in_a_restart(rt: HostRuntime) -> Result<(), Fail> {
             Step::Restart(restarted(2, 6)),
             Step::Holds(WAITS),
         ];
-        assert_eq!(rt; first_fault(rt.alloc(), &crashed(), &lost)?, 0, "stop {n}");
+        check(&rt, n, &crashed(), &lost)?;
         let kept = [
             Step::RestartStop(n, ALL, Told::Crashed(if n < 6 { 5 } else { 6 })),
             Step::Restart(if n < 6 {
@@ -180,11 +174,7 @@ fn stops_in_a_restart(rt: HostRuntime) -> Result<(), Fail> {
             }),
             Step::Holds(WAITS),
         ];
-        assert_eq!(rt;
-            first_fault(rt.alloc(), &crashed(), &kept)?,
-            0,
-            "stop {n}, all kept"
-        );
+        check(&rt, n, &crashed(), &kept)?;
     }
     for n in [0, 8, u64::MAX] {
         let whole = [
@@ -193,7 +183,7 @@ fn stops_in_a_restart(rt: HostRuntime) -> Result<(), Fail> {
             Step::RestartStop(n, 0, restarted(3, 7)),
             Step::Holds(WAITS),
         ];
-        assert_eq!(rt; first_fault(rt.alloc(), &crashed(), &whole)?, 0, "stop {n}");
+        check(&rt, n, &crashed(), &whole)?;
     }
     Ok(())
 }
@@ -208,8 +198,7 @@ fn restarts_that_are_stopped_one_after_the_other(rt: HostRuntime) -> Result<(), 
         Step::Restart(restarted(4, 8)),
         Step::Holds(WAITS),
     ];
-    assert_eq!(rt; first_fault(rt.alloc(), &crashed(), &end)?, 0);
-    Ok(())
+    check(&rt, 0, &crashed(), &end)
 }
 
 // What was armed for a call is armed no more behind it.
@@ -232,7 +221,7 @@ fn a_stop_that_a_call_does_not_come_to(rt: HostRuntime) -> Result<(), Fail> {
             Step::Restart(restarted(2, 6)),
             Step::Holds(WAITS),
         ];
-        assert_eq!(rt; first_fault(rt.alloc(), &sent(), &end)?, 0, "stop {n}");
+        check(&rt, n, &sent(), &end)?;
     }
     Ok(())
 }
@@ -260,8 +249,7 @@ fn an_acknowledgement_of_no_commit_is_nothing(rt: HostRuntime) -> Result<(), Fai
         Step::Restart(restarted(2, 6)),
         Step::Ack(8, Told::NotGiven),
     ];
-    assert_eq!(rt; first_fault(rt.alloc(), &sent(), &end)?, 0);
-    Ok(())
+    check(&rt, 0, &sent(), &end)
 }
 
 // Two commits, of which the first alone is forced: the eighth happening and the sixteenth.
@@ -278,8 +266,7 @@ fn each_commit_has_its_own_receipt(rt: HostRuntime) -> Result<(), Fail> {
         Step::Ack(16, Told::Given(SECOND, 9)),
         Step::Ack(8, Told::Given(FIRST, 5)),
     ];
-    assert_eq!(rt; first_fault(rt.alloc(), &sent(), &end)?, 0);
-    Ok(())
+    check(&rt, 0, &sent(), &end)
 }
 
 // A store runs until it crashes, also where it has failed. The append failed, and the store with it: the crash hands
@@ -298,36 +285,37 @@ fn a_restart_of_an_open_store_is_nothing(rt: HostRuntime) -> Result<(), Fail> {
         Step::Restart(restarted(2, 2)),
         Step::HoldsNothing,
     ];
-    assert_eq!(rt; first_fault(rt.alloc(), &sent(), &end)?, 0);
-    Ok(())
+    check(&rt, 0, &sent(), &end)
+}
+
+#[test]
+fn calls_of_a_store_that_was_never_open(rt: HostRuntime) -> Result<(), Fail> {
+    let fresh = [
+        Step::Call(Ask::Begin, FAILED),
+        Step::StopIn(Ask::Force, 1, 0, NEWEST, FAILED),
+        Step::Ack(1, Told::Nothing),
+        Step::Crash(0, NEWEST, 0),
+        Step::Call(Ask::Force, FAILED),
+        Step::Restart(restarted(1, 1)),
+        Step::HoldsNothing,
+    ];
+    check(&rt, 0, &fresh, &[])
 }
 
 #[test]
 fn calls_of_a_store_that_is_not_open(rt: HostRuntime) -> Result<(), Fail> {
-    let failed = Told::Refused(Refusal::Failed);
-    let fresh = [
-        Step::Call(Ask::Begin, failed),
-        Step::StopIn(Ask::Force, 1, 0, NEWEST, failed),
-        Step::Ack(1, Told::Nothing),
-        Step::Crash(0, NEWEST, 0),
-        Step::Call(Ask::Force, failed),
-        Step::Restart(restarted(1, 1)),
-        Step::HoldsNothing,
-    ];
-    assert_eq!(rt; first_fault(rt.alloc(), &fresh, &[])?, 0);
     let end = [
-        Step::Call(Ask::Begin, failed),
-        Step::Call(Ask::StartReceive(FIRST), failed),
-        Step::Call(Ask::HandOver, failed),
-        Step::Call(Ask::Write(9), failed),
-        Step::StopIn(Ask::Force, 1, 0, NEWEST, failed),
-        Step::Ack(8, failed),
+        Step::Call(Ask::Begin, FAILED),
+        Step::Call(Ask::StartReceive(FIRST), FAILED),
+        Step::Call(Ask::HandOver, FAILED),
+        Step::Call(Ask::Write(9), FAILED),
+        Step::StopIn(Ask::Force, 1, 0, NEWEST, FAILED),
+        Step::Ack(8, FAILED),
         Step::Crash(0, NEWEST, 5),
         Step::Restart(restarted(2, 6)),
         Step::Holds(WAITS),
     ];
-    assert_eq!(rt; first_fault(rt.alloc(), &crashed(), &end)?, 0);
-    Ok(())
+    check(&rt, 0, &crashed(), &end)
 }
 
 // The restart fails in its force: the record that it appended is not forced, and a crash of a store that is not open
@@ -346,8 +334,7 @@ fn a_crash_of_a_store_that_is_not_open_leaves_all(rt: HostRuntime) -> Result<(),
         Step::Call(Ask::Write(1), Told::NotWritten),
         Step::Holds(WAITS),
     ];
-    assert_eq!(rt; first_fault(rt.alloc(), &sent(), &end)?, 0);
-    Ok(())
+    check(&rt, 0, &sent(), &end)
 }
 
 // Each device call of a restart fails in turn, and the next restart opens the store. A record that was appended and not
@@ -369,11 +356,7 @@ fn a_restart_that_a_device_fails(rt: HostRuntime) -> Result<(), Fail> {
             Step::Restart(opened),
             Step::Holds(WAITS),
         ];
-        assert_eq!(rt;
-            first_fault(rt.alloc(), &crashed(), &end)?,
-            0,
-            "failure {n}"
-        );
+        check(&rt, n, &crashed(), &end)?;
     }
     Ok(())
 }
