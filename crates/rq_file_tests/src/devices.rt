@@ -91,33 +91,33 @@ fn a_log_in_a_file_reads_as_one_in_memory(rt: HostRuntime) -> Result<(), Fail> {
     let path = "file_log_test/log";
     let mut log = log_in(file_of(&rt, path)?)?;
     let mut other = mem_log(rt.alloc(), &[])?;
-    assert!(rt; read_alike(&mut log, &mut other)?);
-    append_one(&mut log)?;
-    append_one(&mut other)?;
-    assert!(rt; read_alike(&mut log, &mut other)?);
-    force(&mut log)?;
-    append_two(&mut log)?;
-    append_two(&mut other)?;
-    append_one(&mut log)?;
-    append_one(&mut other)?;
-    assert!(rt; read_alike(&mut log, &mut other)?);
-    assert_eq!(rt; eight_from(&mut log, 9)?, (8, [21, 22, 23, 0, 0, 0, 0, 0]));
-    assert_eq!(rt; eight_from(&mut log, 19)?, (2, [1, 11, 7, 7, 7, 7, 7, 7]));
-    assert_eq!(rt; eight_from(&mut log, 21)?.0, 0);
-    assert_eq!(rt; log_failures(&log), 0);
+    assert!(rt; read_alike(&mut log, &mut other) == Ok(true));
+    assert!(rt; append_one(&mut log) == Ok(()));
+    assert!(rt; append_one(&mut other) == Ok(()));
+    assert!(rt; read_alike(&mut log, &mut other) == Ok(true));
+    assert!(rt; force(&mut log) == Ok(()));
+    assert!(rt; append_two(&mut log) == Ok(()));
+    assert!(rt; append_two(&mut other) == Ok(()));
+    assert!(rt; append_one(&mut log) == Ok(()));
+    assert!(rt; append_one(&mut other) == Ok(()));
+    assert!(rt; read_alike(&mut log, &mut other) == Ok(true));
+    assert!(rt; eight_from(&mut log, 9) == Ok((8, [21, 22, 23, 0, 0, 0, 0, 0])));
+    assert!(rt; eight_from(&mut log, 19) == Ok((2, [1, 11, 7, 7, 7, 7, 7, 7])));
+    assert!(rt; eight_from(&mut log, 21) == Ok((0, [7; 8])));
+    assert!(rt; log_failures(&log) == 0);
     let held = [
         0, 0, 0, 1, 11, 0, 0, 0, 3, 21, 22, 23, 0, 0, 0, 0, 0, 0, 0, 1, 11,
     ];
-    assert_eq!(rt; fs::read(&rt, path)?.as_slice(), held.as_slice());
+    assert!(rt; fs::read(&rt, path)?.as_slice() == held.as_slice());
 
     // opened again, it goes on where it was
     drop(log);
     let mut log = log_in(file_of(&rt, path)?)?;
-    assert!(rt; read_alike(&mut log, &mut other)?);
-    append_two(&mut log)?;
-    append_two(&mut other)?;
-    assert!(rt; read_alike(&mut log, &mut other)?);
-    assert_eq!(rt; fs::read(&rt, path)?.len(), 32);
+    assert!(rt; read_alike(&mut log, &mut other) == Ok(true));
+    assert!(rt; append_two(&mut log) == Ok(()));
+    assert!(rt; append_two(&mut other) == Ok(()));
+    assert!(rt; read_alike(&mut log, &mut other) == Ok(true));
+    assert!(rt; fs::read(&rt, path)?.len() == 32);
     fs::remove_dir_all(&rt, "file_log_test")?;
     Ok(())
 }
@@ -131,32 +131,32 @@ fn pages_in_a_file_read_as_those_in_memory(rt: HostRuntime) -> Result<(), Fail> 
     file.set_len(8193)?;
     let mut pages = pages_in(file)?;
     let mut other = mem_pages(rt.alloc())?;
-    assert!(rt; show_alike(&mut pages, &mut other)?);
-    write(&mut pages, 1, 5)?;
-    write(&mut other, 1, 5)?;
-    assert!(rt; show_alike(&mut pages, &mut other)?);
-    sync(&mut pages)?;
-    write(&mut pages, 0, 9)?;
-    write(&mut pages, 1, 6)?;
-    write(&mut other, 0, 9)?;
-    write(&mut other, 1, 6)?;
-    assert!(rt; show_alike(&mut pages, &mut other)?);
+    assert!(rt; show_alike(&mut pages, &mut other) == Ok(true));
+    assert!(rt; write(&mut pages, 1, 5) == Ok(()));
+    assert!(rt; write(&mut other, 1, 5) == Ok(()));
+    assert!(rt; show_alike(&mut pages, &mut other) == Ok(true));
+    assert!(rt; sync(&mut pages) == Ok(()));
+    assert!(rt; write(&mut pages, 0, 9) == Ok(()));
+    assert!(rt; write(&mut pages, 1, 6) == Ok(()));
+    assert!(rt; write(&mut other, 0, 9) == Ok(()));
+    assert!(rt; write(&mut other, 1, 6) == Ok(()));
+    assert!(rt; show_alike(&mut pages, &mut other) == Ok(true));
 
     // a page that is not there is neither read nor written, and that is no end of the others
-    assert_eq!(rt; write(&mut pages, 2, 1), Err(DeviceFailed));
-    assert_eq!(rt; read_page(&mut pages, 2, &mut [0; PAGE]), Err(DeviceFailed));
-    assert_eq!(rt; page_failures(&pages), 2);
-    assert!(rt; show_alike(&mut pages, &mut other)?);
+    assert!(rt; write(&mut pages, 2, 1) == Err(DeviceFailed));
+    assert!(rt; read_page(&mut pages, 2, &mut [0; PAGE]) == Err(DeviceFailed));
+    assert!(rt; page_failures(&pages) == 2);
+    assert!(rt; show_alike(&mut pages, &mut other) == Ok(true));
 
     // opened again, it holds the same
     drop(pages);
     let held = fs::read(&rt, path)?;
-    assert_eq!(rt; held.len(), 8193);
+    assert!(rt; held.len() == 8193);
     assert!(rt; are_all(&held, 0, 4096, 9));
     assert!(rt; are_all(&held, 4096, 4096, 6));
     assert!(rt; are_all(&held, 8192, 1, 0));
     let mut pages = pages_in(file_of(&rt, path)?)?;
-    assert!(rt; show_alike(&mut pages, &mut other)?);
+    assert!(rt; show_alike(&mut pages, &mut other) == Ok(true));
     fs::remove_dir_all(&rt, "file_pages_test")?;
     Ok(())
 }
@@ -167,11 +167,11 @@ fn a_file_is_open_once_at_a_time(rt: HostRuntime) -> Result<(), Fail> {
     let path = "file_lock_test/log";
     let first = log_in(file_of(&rt, path)?)?;
     let refused = log_in(file_of(&rt, path)?).err().map(|error| error.kind());
-    assert_eq!(rt; refused, Some(ErrorKind::WouldBlock));
+    assert!(rt; refused == Some(ErrorKind::WouldBlock));
     let refused = pages_in(file_of(&rt, path)?)
         .err()
         .map(|error| error.kind());
-    assert_eq!(rt; refused, Some(ErrorKind::WouldBlock));
+    assert!(rt; refused == Some(ErrorKind::WouldBlock));
     drop(first);
     assert!(rt; log_in(file_of(&rt, path)?).is_ok());
     fs::remove_dir_all(&rt, "file_lock_test")?;
@@ -186,21 +186,21 @@ fn after_a_failed_write_every_call_fails(rt: HostRuntime) -> Result<(), Fail> {
     fs::write(&rt, path, [0u8; 4096].as_slice())?;
     let mut pages = pages_in(File::open(&rt, path)?)?;
     let mut image = [7; PAGE];
-    read_page(&mut pages, 0, &mut image)?;
-    assert_eq!(rt; write(&mut pages, 0, 1), Err(DeviceFailed));
-    assert_eq!(rt; read_page(&mut pages, 0, &mut image), Err(DeviceFailed));
-    assert_eq!(rt; sync(&mut pages), Err(DeviceFailed));
-    assert_eq!(rt; write(&mut pages, 0, 1), Err(DeviceFailed));
-    assert_eq!(rt; page_failures(&pages), 4);
+    assert!(rt; read_page(&mut pages, 0, &mut image) == Ok(()));
+    assert!(rt; write(&mut pages, 0, 1) == Err(DeviceFailed));
+    assert!(rt; read_page(&mut pages, 0, &mut image) == Err(DeviceFailed));
+    assert!(rt; sync(&mut pages) == Err(DeviceFailed));
+    assert!(rt; write(&mut pages, 0, 1) == Err(DeviceFailed));
+    assert!(rt; page_failures(&pages) == 4);
     drop(pages);
 
     let mut log = log_in(File::open(&rt, path)?)?;
-    assert_eq!(rt; eight_from(&mut log, 4090)?.0, 6);
-    assert_eq!(rt; append_one(&mut log), Err(DeviceFailed));
-    assert_eq!(rt; eight_from(&mut log, 0), Err(DeviceFailed));
-    assert_eq!(rt; force(&mut log), Err(DeviceFailed));
-    assert_eq!(rt; append_one(&mut log), Err(DeviceFailed));
-    assert_eq!(rt; log_failures(&log), 4);
+    assert!(rt; eight_from(&mut log, 4090) == Ok((6, [0, 0, 0, 0, 0, 0, 7, 7])));
+    assert!(rt; append_one(&mut log) == Err(DeviceFailed));
+    assert!(rt; eight_from(&mut log, 0) == Err(DeviceFailed));
+    assert!(rt; force(&mut log) == Err(DeviceFailed));
+    assert!(rt; append_one(&mut log) == Err(DeviceFailed));
+    assert!(rt; log_failures(&log) == 4);
     fs::remove_dir_all(&rt, "file_stop_test")?;
     Ok(())
 }

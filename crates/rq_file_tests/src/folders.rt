@@ -25,8 +25,8 @@ fn check<R: Abort + AllocGlobal + Files<File = File>>(
     let layout = Layout::new(1, 2).ok_or("a small store")?;
     let mut output = Vec::new(rt.alloc());
     let ended = run_format(rt, &mut output, folder, &layout);
-    assert_eq!(rt; output.as_slice(), wanted.as_bytes());
-    assert_eq!(rt; ended, status);
+    assert!(rt; output.as_slice() == wanted.as_bytes());
+    assert!(rt; ended == status);
     Ok(())
 }
 
@@ -38,33 +38,30 @@ fn is_there(rt: &HostRuntime, path: &str) -> bool {
 fn a_store_is_made_in_a_folder(rt: HostRuntime) -> Result<(), Fail> {
     make_folder(&rt, FOLDER)?;
     check(&rt, FOLDER, "formatted 1 2\n", 0)?;
-    assert_eq!(rt; fs::metadata(&rt, LOG)?.len(), 0);
+    assert!(rt; fs::metadata(&rt, LOG)?.len() == 0);
     let pages = fs::read(&rt, PAGES)?;
-    assert_eq!(rt; pages.len(), 4 * 4096);
+    assert!(rt; pages.len() == 4 * 4096);
 
     // page 0: LSN 0, number 0, kind 0; slot 1: the mark, version 1, one directory page, two cell pages
     let mark = b"RQMSTORE\0\0\0\x01\0\0\0\x01\0\0\0\x02".as_slice();
     assert!(rt; are_all(&pages, 0, 256, 0));
-    assert_eq!(rt; part(&pages, 256, 20), mark);
+    assert!(rt; part(&pages, 256, 20) == mark);
     assert!(rt; are_all(&pages, 276, 3820, 0));
 
     // page 1: number 1, kind 1; each slot open, with its sender
     let header = [0, 0, 0, 0, 0, 0, 0, 0, 0, 0, 0, 1, 1];
-    assert_eq!(rt; part(&pages, 4096, 13), header.as_slice());
+    assert!(rt; part(&pages, 4096, 13) == header.as_slice());
     for sender in 0..15u8 {
         let slot = 4352 + 256 * usize::from(sender);
-        assert_eq!(rt;
-            part(&pages, slot, 8),
-            [1, 0, 0, 0, 0, 0, 0, sender].as_slice()
-        );
+        assert!(rt; part(&pages, slot, 8) == [1, 0, 0, 0, 0, 0, 0, sender].as_slice());
         assert!(rt; are_all(&pages, slot + 8, 248, 0));
     }
 
     // pages 2 and 3: kind 2, and no cell is used
     let header = [0, 0, 0, 0, 0, 0, 0, 0, 0, 0, 0, 2, 2];
-    assert_eq!(rt; part(&pages, 8192, 13), header.as_slice());
+    assert!(rt; part(&pages, 8192, 13) == header.as_slice());
     let header = [0, 0, 0, 0, 0, 0, 0, 0, 0, 0, 0, 3, 2];
-    assert_eq!(rt; part(&pages, 12288, 13), header.as_slice());
+    assert!(rt; part(&pages, 12288, 13) == header.as_slice());
     assert!(rt; are_all(&pages, 8205, 4083, 0));
     assert!(rt; are_all(&pages, 12301, 4083, 0));
     fs::remove_dir_all(&rt, FOLDER)?;
@@ -78,17 +75,11 @@ fn a_store_that_is_there_stays(rt: HostRuntime) -> Result<(), Fail> {
     fs::write(&rt, "format_again_test/log", b"kept".as_slice())?;
     check(&rt, folder, "fault exists\n", 1)?;
     assert!(rt; !is_there(&rt, "format_again_test/pages"));
-    assert_eq!(rt;
-        fs::read(&rt, "format_again_test/log")?.as_slice(),
-        b"kept".as_slice()
-    );
+    assert!(rt; fs::read(&rt, "format_again_test/log")?.as_slice() == b"kept".as_slice());
     fs::rename(&rt, "format_again_test/log", "format_again_test/pages")?;
     check(&rt, folder, "fault exists\n", 1)?;
     assert!(rt; !is_there(&rt, "format_again_test/log"));
-    assert_eq!(rt;
-        fs::read(&rt, "format_again_test/pages")?.as_slice(),
-        b"kept".as_slice()
-    );
+    assert!(rt; fs::read(&rt, "format_again_test/pages")?.as_slice() == b"kept".as_slice());
     fs::remove_file(&rt, "format_again_test/pages")?;
     check(&rt, folder, "formatted 1 2\n", 0)?;
     check(&rt, folder, "fault exists\n", 1)?;
@@ -113,13 +104,13 @@ fn a_store_is_open_once_at_a_time(rt: HostRuntime) -> Result<(), Fail> {
     let none = open_folder(&rt, "open_test", Unknown)
         .err()
         .map(|error| error.kind());
-    assert_eq!(rt; none, Some(ErrorKind::NotFound));
+    assert!(rt; none == Some(ErrorKind::NotFound));
     check(&rt, "open_test", "formatted 1 2\n", 0)?;
     let first = open_folder(&rt, "open_test", Unknown)?;
     let refused = open_folder(&rt, "open_test", Unknown)
         .err()
         .map(|error| error.kind());
-    assert_eq!(rt; refused, Some(ErrorKind::WouldBlock));
+    assert!(rt; refused == Some(ErrorKind::WouldBlock));
     drop(first);
     assert!(rt; open_folder(&rt, "open_test", Unknown).is_ok());
     fs::remove_dir_all(&rt, "open_test")?;

@@ -162,18 +162,18 @@ fn a_store_in_files_is_the_one_in_memory(rt: HostRuntime) -> Result<(), Fail> {
 
     // what they hold
     let restart = b"\0\0\0\x09\x07\0\0\0\0\0\0\0\x01".as_slice();
-    assert_eq!(rt; held_log.len(), 1190);
-    assert_eq!(rt; part(&held_log, 0, 13), restart);
-    assert_eq!(rt; part(&held_log, 1105, 64), OPERATION_END);
-    assert_eq!(rt; part(&held_log, 1169, 21), COMMIT);
-    assert_eq!(rt; part(&held_pages, 8448, CELL.len()), CELL);
+    assert!(rt; held_log.len() == 1190);
+    assert!(rt; part(&held_log, 0, 13) == restart);
+    assert!(rt; part(&held_log, 1105, 64) == OPERATION_END);
+    assert!(rt; part(&held_log, 1169, 21) == COMMIT);
+    assert!(rt; part(&held_pages, 8448, CELL.len()) == CELL);
     assert!(rt; are_all(&held_pages, 8448 + 45, 211, 0));
-    assert_eq!(rt; part(&held_pages, 4352, DIRECTORY.len()), DIRECTORY);
+    assert!(rt; part(&held_pages, 4352, DIRECTORY.len()) == DIRECTORY);
     assert!(rt; are_all(&held_pages, 4352 + 48, 208, 0));
 
     // opened again
     let (incarnation, outcome) = found(&rt, "store_test", Unknown)?;
-    assert_eq!(rt; incarnation, 2);
+    assert!(rt; incarnation == 2);
     assert!(rt; is_hello(&outcome));
     fs::remove_dir_all(&rt, "store_test")?;
     Ok(())

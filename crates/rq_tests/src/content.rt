@@ -131,13 +131,11 @@ fn what_is_not_committed_is_left_out(rt: HostRuntime) -> Result<(), Fail> {
     let Ok(groups) = content(rt.alloc(), &pages, &transactions) else {
         return Err(Fail::from("content"));
     };
-    assert_eq!(rt; groups.len(), 15);
+    assert!(rt; groups.len() == 15);
     let group = groups.get(3).ok_or("sender 3")?;
-    assert_eq!(rt;
-        (group.sent, group.last_tag, group.received, group.closed),
-        (2, 8, 0, false)
-    );
-    assert_eq!(rt; group.rest.len(), 2);
-    assert_eq!(rt; (group.rest[0].tag, group.rest[1].tag), (7, 8));
+    assert!(rt; group.sent == 2 && group.last_tag == 8);
+    assert!(rt; group.received == 0 && !group.closed);
+    assert!(rt; group.rest.len() == 2);
+    assert!(rt; group.rest[0].tag == 7 && group.rest[1].tag == 8);
     Ok(())
 }

@@ -49,28 +49,22 @@ fn sent(act: Act) -> Option<Message> {
 fn one_send(rt: HostRuntime) -> Result<(), Fail> {
     let mut queue = opened(rt.alloc(), 2, 15);
     let txn = begin(&mut queue)?;
-    assert_eq!(rt;
-        txn,
-        Txn {
-            incarnation: 1,
-            count: 1
-        }
-    );
+    assert!(rt; txn.incarnation == 1 && txn.count == 1);
     let number = start_send(&mut queue, txn, 0, 7, b"hello")?;
-    assert_eq!(rt; number, 1);
-    assert_eq!(rt; step(&mut queue, txn, number)?, Some(2));
-    assert_eq!(rt; step(&mut queue, txn, number)?, Some(3));
-    assert_eq!(rt; step(&mut queue, txn, number)?, None);
+    assert!(rt; number == 1);
+    assert!(rt; step(&mut queue, txn, number) == Ok(Some(2)));
+    assert!(rt; step(&mut queue, txn, number) == Ok(Some(3)));
+    assert!(rt; step(&mut queue, txn, number) == Ok(None));
     let message = sent(finish(&mut queue, txn, number)?).ok_or("not sent")?;
-    assert_eq!(rt; (message.sender, message.tag), (0, 7));
-    assert_eq!(rt; message.body.as_slice(), b"hello".as_slice());
-    assert_eq!(rt; first_of_two(&queue)?, (0, 0, 0, false, 0));
-    assert_eq!(rt; commit(&mut queue, txn)?, 5);
+    assert!(rt; message.sender == 0 && message.tag == 7);
+    assert!(rt; message.body.as_slice() == b"hello".as_slice());
+    assert!(rt; first_of_two(&queue)? == (0, 0, 0, false, 0));
+    assert!(rt; commit(&mut queue, txn) == Ok(5));
     hand_over(&queue)?;
-    assert_eq!(rt; acknowledged(&queue, txn, 5)?, false);
-    assert_eq!(rt; force(&mut queue)?, 5);
-    assert_eq!(rt; acknowledged(&queue, txn, 5)?, true);
-    assert_eq!(rt; first_of_two(&queue)?, (1, 7, 0, false, 1));
+    assert!(rt; acknowledged(&queue, txn, 5) == Ok(false));
+    assert!(rt; force(&mut queue) == Ok(5));
+    assert!(rt; acknowledged(&queue, txn, 5) == Ok(true));
+    assert!(rt; first_of_two(&queue)? == (1, 7, 0, false, 1));
     assert!(rt; rests_on(&queue, b"hello")?);
     Ok(())
 }
@@ -78,7 +72,7 @@ fn one_send(rt: HostRuntime) -> Result<(), Fail> {
 #[test]
 fn refusals(rt: HostRuntime) -> Result<(), Fail> {
     let mut shut = Reference::new(rt.alloc(), 1, 1);
-    assert_eq!(rt; begin(&mut shut), Err(Refusal::Failed));
+    assert!(rt; begin(&mut shut) == Err(Refusal::Failed));
     let mut queue = opened(rt.alloc(), 1, 1);
     let first = begin(&mut queue)?;
     let none = Txn {
@@ -86,13 +80,10 @@ fn refusals(rt: HostRuntime) -> Result<(), Fail> {
         count: 9,
     };
     let long = [0; 217];
-    assert_eq!(rt; commit(&mut queue, none), Err(Refusal::UnknownTransaction));
-    assert_eq!(rt;
-        send(&mut queue, first, 1, b"a"),
-        Err(Refusal::UnknownSender)
-    );
-    assert_eq!(rt; send(&mut queue, first, 0, &long), Err(Refusal::TooLong));
-    assert_eq!(rt; step(&mut queue, first, 1), Err(Refusal::UnknownOperation));
+    assert!(rt; commit(&mut queue, none) == Err(Refusal::UnknownTransaction));
+    assert!(rt; send(&mut queue, first, 1, b"a") == Err(Refusal::UnknownSender));
+    assert!(rt; send(&mut queue, first, 0, &long) == Err(Refusal::TooLong));
+    assert!(rt; step(&mut queue, first, 1) == Err(Refusal::UnknownOperation));
     Ok(())
 }
 
@@ -107,20 +98,17 @@ fn refusals_beside_a_send(rt: HostRuntime) -> Result<(), Fail> {
     let first = begin(&mut queue)?;
     let second = begin(&mut queue)?;
     let number = send(&mut queue, first, 0, b"a")?;
-    assert_eq!(rt; finish(&mut queue, first, number), Err(Refusal::Unfinished));
-    assert_eq!(rt; commit(&mut queue, first), Err(Refusal::Unfinished));
+    assert!(rt; finish(&mut queue, first, number) == Err(Refusal::Unfinished));
+    assert!(rt; commit(&mut queue, first) == Err(Refusal::Unfinished));
     assert!(rt; content(&queue).is_err());
-    assert_eq!(rt; send(&mut queue, second, 0, b"b"), Err(Refusal::SenderBusy));
+    assert!(rt; send(&mut queue, second, 0, b"b") == Err(Refusal::SenderBusy));
     for _ in 0..2 {
         let _ = step(&mut queue, first, number)?;
     }
     let _ = finish(&mut queue, first, number)?;
-    assert_eq!(rt;
-        start_send(&mut queue, first, 0, 2, b"c"),
-        Err(Refusal::Full)
-    );
+    assert!(rt; start_send(&mut queue, first, 0, 2, b"c") == Err(Refusal::Full));
     start_abort(&mut queue, second)?;
-    assert_eq!(rt; commit(&mut queue, second), Err(Refusal::NotOpen));
+    assert!(rt; commit(&mut queue, second) == Err(Refusal::NotOpen));
     Ok(())
 }
 
@@ -128,12 +116,6 @@ fn refusals_beside_a_send(rt: HostRuntime) -> Result<(), Fail> {
 fn restart_begins_anew(rt: HostRuntime) -> Result<(), Fail> {
     let mut queue = opened_again(rt.alloc(), 1, 15);
     let txn = begin(&mut queue)?;
-    assert_eq!(rt;
-        txn,
-        Txn {
-            incarnation: 2,
-            count: 1
-        }
-    );
+    assert!(rt; txn.incarnation == 2 && txn.count == 1);
     Ok(())
 }

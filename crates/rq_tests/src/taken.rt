@@ -94,8 +94,8 @@ fn takes_nothing<P: PageDevice + Drop, L: LogDevice + Drop>(kept: &mut Kept<P, L
 fn the_audit_holds_what_was_answered(rt: HostRuntime) -> Result<(), Fail> {
     let mut kept = small_store(rt.alloc())?;
     let (number, receipt) = make_four(&mut kept)?;
-    assert_eq!(rt; receipt.number(), number);
-    assert_eq!(rt; take_four(&mut kept), Some([true; 4]));
+    assert!(rt; receipt.number() == number);
+    assert!(rt; take_four(&mut kept) == Some([true; 4]));
     assert!(rt; takes_nothing(&mut kept));
     Ok(())
 }
