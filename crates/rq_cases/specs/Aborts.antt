@@ -29,7 +29,7 @@ use Rattle.rq_engine.specs.declared.event.Outcome.{Outcome}
 use Rattle.rq_engine.specs.declared.event.Outcome.TheVariants as outcome
 use Rattle.rq_engine.specs.declared.event.Progress.TheVariants as progress
 use Rattle.rq_engine.specs.declared.event.Reply.TheVariants as reply
-use Rattle.rq_cases.specs.Closes.{did_close}
+use Rattle.rq_cases.specs.Closes.{closed, did_close}
 use Rattle.rq_cases.specs.Run.{begun, did_send, did_take, group_counted, lists, log_4, no_ends, send_sub, sends_to_0, sent, taken, waits_of_0}
 use Rattle.rq_cases.specs.Sends.{stranger}
 use Rattle.rq_cases.specs.Store.{cells_1, cells_2, closed_pages, fill_cell, free_cell, group, group_page, group_slot, groups_1, one_closed, one_sent, one_taken, pages_with, sent_pages, sizes, taken_pages, written}
@@ -165,6 +165,10 @@ abbrev pub older_started : State
 older_started = record two_left {
   rows = record (aborting_row t1 (did_send ∷ record did_send { lsn = 9 } ∷ []) 2) { under = Some (send_back_under 0) } ∷ [];
 }
+
+-- 1.1, which has closed, is turned to abort
+abbrev pub close_turned : State
+close_turned = record closed { rows = aborting_row t1 (did_close ∷ []) 1 ∷ [] }
 
 abbrev pub Turns : State → Txn → State → Type 0
 Turns s t new = ListsSay s (event.StartAbort t) reply.Aborting new
