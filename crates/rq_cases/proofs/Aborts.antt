@@ -5,6 +5,8 @@ use Rattle.rq_model.specs.declared.record.Deed.{Deed}
 use Rattle.rq_model.specs.declared.record.Deed.TheVariants.{Append, Close, UnlinkHead}
 use Rattle.rq_model.specs.declared.record.Record.{Record}
 use Rattle.rq_model.specs.declared.record.Record.TheVariants.{Restart}
+use Rattle.rq_model.specs.History.Call.{Finish, Start_abort, Step, Undo_next}
+use Rattle.rq_model.specs.Replay.Reply.{Gave_aborting, Gave_lsn, Gave_sub, Gave_undone}
 use Rattle.rq_page.specs.declared.cell.Cell.{Cell}
 use Rattle.rq_page.specs.declared.directory.Directory.{Directory}
 use Rattle.rq_page.specs.Cells.{free_bytes}
@@ -33,12 +35,16 @@ use Rattle.rq_store.specs.Steps.{IsPutIn}
 use Rattle.rq_store.proofs.RowLists.{found_gone}
 use Rattle.rq_sound.specs.Plans.{IsPlannedFrom}
 use Rattle.rq_sound.specs.Rows.{comp_end}
+use Rattle.rq_sound.specs.Steps.{Steps}
+use Rattle.rq_sound.proofs.AbortSteps.{abort_steps}
+use Rattle.rq_engine.proofs.AbortCalls.{none_done, undo_done, undone_done}
+use Rattle.rq_engine.proofs.Standing.{step_steps}
 use Rattle.rq_engine.specs.Aborts.{IsUndoPlan}
 use Rattle.rq_engine.specs.Answers.{IsMade}
 use Rattle.rq_engine.specs.Moves.{with_taken}
-use Rattle.rq_cases.specs.Aborts.{AbortsAreJudged, Undoes, back_started, count_back, counted_back, emptied, emptied_pages, groups_back, older_started, open_under, send_back_sub, send_back_under, take_back_under, two_left, undone_pages}
+use Rattle.rq_cases.specs.Aborts.{AbortsAreJudged, Undoes, aborting_row, turned, undoing_row, undone, back_started, count_back, counted_back, emptied, emptied_pages, groups_back, older_started, open_under, send_back_sub, send_back_under, take_back_under, two_left, undone_pages}
 use Rattle.rq_cases.specs.Closes.{did_close}
-use Rattle.rq_cases.specs.Run.{did_send, did_take, waits_of_0}
+use Rattle.rq_cases.specs.Run.{done_row, sent, did_send, did_take, waits_of_0}
 use Rattle.rq_cases.specs.Store.{cells_1, cells_2, closed_pages, free_cell, group, groups_1, one_closed, one_sent, one_taken, page_image, sent_pages, sizes, taken_pages}
 use Rattle.rq_cases.proofs.Closes.{closes_first, finish_close}
 use Rattle.rq_cases.proofs.Images.{first_written, length-free, written_long}
@@ -172,6 +178,33 @@ is_back = record {
   slots = slots_put sizes emptied_pages undone_pages 17 count_back.after 6 (omega arith) back_written back_put.others;
   put_in = back_put;
 }
+
+-- the calls of the send's abort are steps
+turn_steps : Steps sent (Start_abort t1) Gave_aborting turned
+turn_steps =
+    abort_steps.starts_abort sent (done_row t1 did_send) running.finish_send.sound refl
+    (record { at_row = refl; idle = refl })
+    refl
+
+start_steps : Steps turned (Undo_next t1) (Gave_sub t1 2) back_started
+start_steps =
+    undo_done turned t1 2 did_send (refl, (refl, (refl, (refl, tt)))) (refl, refl, refl, refl) back_started
+    (send_back_under 0) refl refl (λ page of. refl) send_planned refl refl turn_steps.sound
+
+first_steps : Steps back_started (Step t1 2) (Gave_lsn 5) emptied
+first_steps =
+    step_steps back_started start_steps.sound t1 (undoing_row t1 did_send (send_back_under 0)) (send_back_under 0)
+    free_cell emptied_pages refl refl refl is_emptied.slots emptied_put cell_told.1 free_told.1 refl
+
+second_steps : Steps emptied (Step t1 2) (Gave_lsn 6) counted_back
+second_steps =
+    step_steps emptied first_steps.sound t1 (undoing_row t1 did_send (send_back_under 1)) (send_back_under 1) count_back
+    undone_pages refl refl refl is_back.slots back_put sent_told.1 new_told.1 refl
+
+undone_steps : Steps counted_back (Finish t1 2) Gave_undone undone
+undone_steps =
+    undone_done counted_back undone send_back_sub 4 (sends 0) refl (omega arith) (refl, (omega arith, refl)) refl
+    second_steps.sound
 
 -- what lists begin with
 abbrev count_of : {X : Type 0} → List X → ℕ
@@ -317,6 +350,15 @@ aborts_judged = record {
       (let f = ap first_record (sym same ∙ ap (λ (x : State). x.records) h.1) in cc f);
   ended_and_waits = λ s new t other h. other (ap (λ (x : State). x.waiting) h.1);
   ended_and_forced = λ s new t other h. other (ap (λ (x : State). x.forced) h.1);
+  turn_steps = turn_steps;
+  start_steps = start_steps;
+  first_steps = first_steps;
+  second_steps = second_steps;
+  undone_steps = undone_steps;
+  none_steps = none_done undone t1 3 refl (refl, refl, refl, refl) undone_steps.sound;
+  end_steps =
+      abort_steps.ends_abort undone (aborting_row t1 [] 2) undone_steps.sound refl (record { at_row = refl; idle = refl })
+      refl refl refl;
   ended_and_another_row = λ s new t q off other h.
       other (ap (λ (x : State). found_row q x.rows) h.1 ∙ found_gone t q s.rows off);
 }

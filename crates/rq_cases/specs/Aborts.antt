@@ -5,6 +5,8 @@ use Rattle.rq_model.specs.declared.record.Record.{Record}
 use Rattle.rq_model.specs.declared.record.Record.TheVariants.{AbortEnd, Commit, CompEnd}
 use Rattle.rq_model.specs.declared.txn.Sub.{Sub}
 use Rattle.rq_model.specs.declared.txn.Txn.{Txn}
+use Rattle.rq_model.specs.History.Call.{End_abort, Finish, Start_abort, Step, Undo_next}
+use Rattle.rq_model.specs.Replay.Reply.{Gave_aborted, Gave_aborting, Gave_lsn, Gave_none, Gave_sub, Gave_undone}
 use Rattle.rq_page.specs.declared.cell.Cell.{Cell}
 use Rattle.rq_page.specs.declared.directory.Directory.{Directory}
 use Rattle.rq_page.specs.Directories.{new_directory}
@@ -22,6 +24,7 @@ use Rattle.rq_txn.specs.declared.Finished.{Finished}
 use Rattle.rq_txn.specs.Rows.{Row, Under, found_row}
 use Rattle.rq_store.specs.State.{State}
 use Rattle.rq_store.specs.Steps.{page_op}
+use Rattle.rq_sound.specs.Steps.{Steps}
 use Rattle.rq_engine.specs.Aborts.{IsUndoPlan}
 use Rattle.rq_engine.specs.Lists.{ListsSay}
 use Rattle.rq_engine.specs.declared.event.Event.TheVariants as event
@@ -267,3 +270,11 @@ pub record AbortsAreJudged : Type 0 where
   pub ended_and_forced : (s new : State) (t : Txn) → new.forced ≢ s.forced → Ends s t new → ⊥
   pub ended_and_another_row : (s new : State) (t q : Txn) → q ≢ t → found_row q new.rows ≢ found_row q s.rows
       → Ends s t new → ⊥
+  -- each call of the send's abort is a step of the model
+  pub turn_steps : Steps sent (Start_abort t1) Gave_aborting turned
+  pub start_steps : Steps turned (Undo_next t1) (Gave_sub t1 2) back_started
+  pub first_steps : Steps back_started (Step t1 2) (Gave_lsn 5) emptied
+  pub second_steps : Steps emptied (Step t1 2) (Gave_lsn 6) counted_back
+  pub undone_steps : Steps counted_back (Finish t1 2) Gave_undone undone
+  pub none_steps : Steps undone (Undo_next t1) Gave_none undone
+  pub end_steps : Steps undone (End_abort t1) Gave_aborted aborted
