@@ -1,5 +1,5 @@
 -- A log at its bound.
-use Rattle.std.proofs.Common.{◌≡◌, ⊎_elim, ℕ, zero, suc, ◌+◌, ◌-◌, ◌*◌, ◌^◌, ◌≤◌, ◌<◌, Bool, false, true, not, nat_lt, List, [], ◌∷◌, length, drop, replicate, Some, None, refl, sym, ap, ◌∙◌, subst, inl, inr, arith}
+use Rattle.std.proofs.Common.{◌≡◌, ⊎_elim, ℕ, zero, suc, ◌+◌, ◌-◌, ◌*◌, ◌^◌, ◌≤◌, ◌<◌, Bool, false, true, not, nat_lt, cond, List, [], ◌∷◌, length, drop, replicate, Option, Some, None, refl, sym, ap, ◌∙◌, subst, inl, inr, arith}
 use Rattle.std.specs.List.{filter, slice_index, sum_by}
 use Rattle.std.proofs.lemmas.Bool.{cases_Bool, lt-ltb, ltb-true}
 use Rattle.rq_model.specs.declared.record.Record.{Record}
@@ -17,7 +17,7 @@ use Rattle.rq_model.specs.History.Entry.{Committed, Started}
 use Rattle.rq_model.specs.History.Job.{Ending, Sending}
 use Rattle.rq_model.specs.Replay.{Number}
 use Rattle.rq_model.specs.Replay.Reply.{Gave_refusal}
-use Rattle.rq_model.specs.Tests.{NoneHolds, Passes, first_of, log_full, ready_tests, tests}
+use Rattle.rq_model.specs.Tests.{NoneHolds, Passes, first_of, log_full, owed, ready_tests, tests}
 use Rattle.rq_model.specs.Unended.{any_record, lost, operation_ended, operations, unfinished, workers}
 use Rattle.rq_model.proofs.Lists.{same_self}
 use Rattle.rq_disk.specs.Device.{Images}
@@ -59,6 +59,7 @@ use Rattle.rq_restart.specs.Repeating.{Paged, Repeats}
 use Rattle.rq_restart.specs.Restarting.{LogStops}
 use Rattle.rq_restart.proofs.Parsing.{one_log}
 use Rattle.rq_core.specs.Devices.{mem_log, mem_pages}
+use Rattle.rq_cases.specs.Aborts.{close_turned, turned, undone}
 use Rattle.rq_cases.specs.Applied.{Makes, MeetsAll}
 use Rattle.rq_cases.specs.Bounds.{BoundsAreJudged, Closes, Commits, IsFullForClose, IsFullForSend, Sends, just_opened, one_begun, one_committed, only_one, restarts}
 use Rattle.rq_cases.specs.Closes.{close_under}
@@ -426,6 +427,18 @@ kept = record {
   few = λ g. (let e : slice_index (waits_of_0 0) g ≡ 0 = none_waits 15 g in omega (arith, e));
 }
 
+-- with nothing under way, what a call counts as is all that is counted
+room_for : (n cost : ℕ) (s : State) → sum_by owed (ledger_of s).open_ones ≡ 0 → n + cost ≤ 2 ^ 50
+    → log_full (record (ledger_of s) { records = n }) cost ≡ false
+room_for n cost s none le = not_less _ _ (omega (arith, none, le))
+
+no_room_for : (n cost : ℕ) (s : State) → sum_by owed (ledger_of s).open_ones ≡ 0 → 2 ^ 50 < n + cost
+    → log_full (record (ledger_of s) { records = n }) cost ≡ true
+no_room_for n cost s none low = lt-ltb _ _ (omega (arith, none, low))
+
+abbrev when_full : Bool → Option Refusal
+when_full full = cond full (Some why.LogFull) None
+
 pub bounds : BoundsAreJudged
 bounds = record {
   sound = begun_sound;
@@ -444,6 +457,13 @@ bounds = record {
   close_where_it_is_full = not_closed;
   fits_beside = λ n le. not_less _ _ (omega (arith, le));
   full_beside_it = λ n le. lt-ltb _ _ (omega (arith, le));
+  undo_fits = λ n le. ap when_full (room_for n 4 turned refl le);
+  undo_is_full = λ n low. ap when_full (no_room_for n 4 turned refl low);
+  open_fits = λ n le. ap when_full (room_for n 2 close_turned refl le);
+  open_is_full = λ n low. ap when_full (no_room_for n 2 close_turned refl low);
+  end_fits = λ n le. ap when_full (room_for n 1 undone refl le);
+  end_is_full = λ n low. ap when_full (no_room_for n 1 undone refl low);
+  nothing_left_fits = λ n. refl;
   before_the_commit = meets;
   commit_made = λ n pages log number le of at h. commit_whole n pages log h number le of at;
   commit_refused = λ n pages log le low h. refused_whole n pages log h le low;

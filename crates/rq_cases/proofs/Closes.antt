@@ -103,7 +103,7 @@ step_close =
     step_steps close_started start_close.sound t1 (busy_row t1 (close_under 0)) (close_under 0) set_closed closed_pages
     refl refl refl is_marked.slots mark_put new_told.1 closed_told.1 refl
 
-finish_close : Steps marked (Finish t1 1) Gave_closed closed
+pub finish_close : Steps marked (Finish t1 1) Gave_closed closed
 finish_close =
     finish_steps marked step_close.sound t1 (busy_row t1 (close_under 1)) (close_under 1) (Close 0) (waits_of_0 0) refl
     refl refl refl (λ g. omega arith) refl
@@ -120,11 +120,11 @@ begin_behind : Steps close_committed Begin (Gave_txn t2) closed_before
 begin_behind = abort_steps.begins close_committed commit_close.sound refl refl
 
 -- what a list of writes does first
-abbrev is_closed : Slot → Bool
+abbrev pub is_closed : Slot → Bool
 is_closed (Sender g d) = d.closed
 is_closed _ = false
 
-abbrev closes_first : List Write → Bool
+abbrev pub closes_first : List Write → Bool
 closes_first [] = false
 closes_first (w ∷ ws) = is_closed w.after
 

@@ -1,24 +1,27 @@
 -- A call beside an operation that is under way.
-use Rattle.std.proofs.Common.{◌≡◌, ◌⊎◌, ℕ, true, List, [], ◌∷◌, Option, Some, None, refl, sym, ap, ◌∙◌, subst, inl, inr, arith, ◌/◌, false}
+use Rattle.std.proofs.Common.{◌≡◌, ◌⊎◌, ℕ, true, List, [], ◌∷◌, Option, Some, None, refl, sym, ap, ◌∙◌, subst, inl, inr, arith, ◌/◌, ◌||◌, false}
 use Rattle.std.specs.Prelude.{Vec}
 use Rattle.std.specs.declared.alloc.Global.{Global}
+use Rattle.rq_model.specs.declared.record.Deed.{Deed}
+use Rattle.rq_model.specs.declared.record.Deed.TheVariants.{Close}
 use Rattle.rq_model.specs.declared.refusal.Refusal.{Refusal}
 use Rattle.rq_model.specs.declared.refusal.Refusal.TheVariants as why
 use Rattle.rq_model.specs.declared.txn.Sub.{Sub}
 use Rattle.rq_model.specs.declared.txn.Txn.{Txn}
 use Rattle.rq_model.specs.History.{Call}
-use Rattle.rq_model.specs.History.Call.{Start_close, Start_send}
+use Rattle.rq_model.specs.History.Call.{Start_close, Start_send, Undo_next}
 use Rattle.rq_model.specs.History.Entry.{Refused}
 use Rattle.rq_model.specs.Legal.{Legal}
 use Rattle.rq_model.specs.Tests.{Passes, first_of, tests}
 use Rattle.rq_model.specs.Words.{In}
 use Rattle.rq_disk.specs.declared.mem_log.MemLog.{MemLog}
 use Rattle.rq_disk.specs.declared.mem_pages.MemPages.{MemPages}
-use Rattle.rq_views.specs.WorkedItems.{t1, t2}
+use Rattle.rq_views.specs.WorkedItems.{t1, t2, sizes as wide}
 use Rattle.std.proofs.lemmas.Bool.{true≢false}
 use Rattle.rq_page.specs.Sizes.{directory_at}
-use Rattle.rq_views.specs.Plans.{deed_sender}
-use Rattle.rq_txn.specs.Rows.{Row, Under, change_row, fresh_row, row_started, deed_of, latched_by}
+use Rattle.rq_views.specs.Plans.{Turn, deed_sender}
+use Rattle.rq_views.specs.Plans.Turn.{Did, Undid}
+use Rattle.rq_txn.specs.Rows.{Row, Under, change_row, fresh_row, row_started, deed_of, latched_by, latched_in}
 use Rattle.rq_sound.specs.Sound.{IsSound}
 use Rattle.rq_store.specs.State.{State, ledger_of, size_of}
 use Rattle.rq_log.specs.Crash.{LeavesOnly}
@@ -32,8 +35,9 @@ use Rattle.rq_engine.specs.Opened.{OpenStore}
 use Rattle.rq_engine.specs.Says.{call_of}
 use Rattle.rq_engine.specs.declared.event.Reply.{Reply}
 use Rattle.rq_engine.specs.declared.event.Reply.TheVariants as reply
+use Rattle.rq_cases.specs.Aborts.{close_turned, undone}
 use Rattle.rq_cases.specs.Applied.{Makes}
-use Rattle.rq_cases.specs.Latches.{LatchesAreJudged, beside, other_close, other_send}
+use Rattle.rq_cases.specs.Latches.{LatchesAreJudged, beside, close_far, close_next, closing_beside, other_close, other_send}
 use Rattle.rq_cases.specs.Opened.{over}
 use Rattle.rq_cases.specs.Run.{busy_row, log_1, send_started, send_under}
 use Rattle.rq_cases.specs.Store.{formatted_pages, sizes}
@@ -44,7 +48,7 @@ use Rattle.rq_cases.proofs.Held.{leaves_beginning, pages_now, same_beginning}
 use Rattle.rq_cases.proofs.Running as one
 use Rattle.rq_cases.proofs.Several as running
 use Rattle.rq_sound.specs.Course.{one_under}
-use Rattle.rq_sound.specs.Latching.{IsLatched}
+use Rattle.rq_sound.specs.Latching.{Begins, IsLatched, NeedsLatched}
 use Rattle.rq_sound.proofs.Instance.{instance_sound}
 use Rattle.rq_sound.proofs.WorkedCalls.{latches_judged, one_sound}
 use Rattle.rq_sound.proofs.Standings.{directory_latched}
@@ -227,6 +231,22 @@ close_latched pages log h =
           (leaves_beginning log log_1 h.1 log_1 1 0 (omega arith) refl) stays;
     }
 
+-- the inverse of a close needs the page of its group's directory slot
+abbrev aside : State
+aside = closing_beside sizes 1 close_next
+
+undo_needs : (turn : Turn) → Begins aside (Undo_next t1) turn → NeedsLatched aside turn
+undo_needs (Did d) b = absurd b
+undo_needs (Undid d) b = subst (λ (x : Deed). NeedsLatched aside (Undid x)) b (inl refl)
+
+undo_needs_none : (s : State) → latched_in s.rows 1 ≡ false → NeedsLatched s (Undid (Close 0)) → ⊥
+undo_needs_none s off (inl y) = true≢false (sym y ∙ ap (λ b. b || false) off)
+undo_needs_none s off (inr x) = (let e = x.0 in cc e)
+
+begins_none : (turn : Turn) → Begins undone (Undo_next t1) turn → ⊥
+begins_none (Did d) b = b
+begins_none (Undid d) b = b
+
 pub latches : LatchesAreJudged
 latches = record {
   sound = beside_sound;
@@ -243,4 +263,8 @@ latches = record {
   close_latched_by_nobody = λ pages log new a. (let e = a.cause (tt, tt) running.begin_again.sound in cc e);
   close_latched_elsewhere = λ images pages log new h a.
       close_unlatched (one_under images) (one_sound images h) t2 15 refl (a.latched (one_sound images h));
+  undo_latched = record { some = (Undid (Close 0), refl); each = undo_needs };
+  undo_latched_elsewhere = λ h. undo_needs_none (closing_beside wide 15 close_far) refl (h.each (Undid (Close 0)) refl);
+  undo_latched_by_nobody = λ h. undo_needs_none close_turned refl (h.each (Undid (Close 0)) refl);
+  nothing_left_latched = λ h. begins_none h.some.0 h.some.1;
 }

@@ -10,6 +10,7 @@ mod Asks
 mod Sound
 mod Bytes
 mod Held
+mod Aborts
 mod Applied
 mod Worlds
 mod Courses

@@ -1,15 +1,17 @@
 -- A log at its bound: calls that just fit, and calls that are refused.
-use Rattle.std.specs.Prelude.{◌≡◌, ℕ, zero, suc, ◌+◌, ◌-◌, ◌*◌, ◌^◌, ◌<◌, ◌≤◌, Bool, false, true, List, [], ◌∷◌, length}
+use Rattle.std.specs.Prelude.{◌≡◌, ℕ, zero, suc, ◌+◌, ◌-◌, ◌*◌, ◌^◌, ◌<◌, ◌≤◌, Bool, false, true, List, [], ◌∷◌, length, Option, Some, None}
 use Rattle.std.specs.List.{sum_by}
 use Rattle.rq_model.specs.declared.record.Record.{Record}
 use Rattle.rq_model.specs.declared.record.Record.TheVariants.{Commit as Commit_record}
+use Rattle.rq_model.specs.declared.refusal.Refusal.{Refusal}
 use Rattle.rq_model.specs.declared.refusal.Refusal.TheVariants as why
 use Rattle.rq_model.specs.declared.txn.Txn.{Txn}
-use Rattle.rq_model.specs.History.Call.{Commit, Start_close, Start_send}
+use Rattle.rq_model.specs.History.{Call}
+use Rattle.rq_model.specs.History.Call.{Commit, End_abort, Start_close, Start_send, Undo_next}
 use Rattle.rq_model.specs.Incarnations.{incarnation_of}
 use Rattle.rq_model.specs.Replay.{Number}
 use Rattle.rq_model.specs.Replay.Reply.{Gave_commit, Gave_refusal, Gave_sub}
-use Rattle.rq_model.specs.Tests.{log_full}
+use Rattle.rq_model.specs.Tests.{first_of, log_full, tests}
 use Rattle.rq_disk.specs.declared.mem_log.MemLog.{MemLog}
 use Rattle.rq_disk.specs.declared.mem_pages.MemPages.{MemPages}
 use Rattle.rq_txn.specs.Rows.{fresh_row, without_row}
@@ -17,7 +19,7 @@ use Rattle.rq_groups.specs.Ends.{released}
 use Rattle.rq_store.specs.Opening.{next_restart, opened}
 use Rattle.rq_store.specs.Sound.{takes_one}
 use Rattle.rq_sound.specs.Sound.{IsSound}
-use Rattle.rq_store.specs.State.{State, ledger_of}
+use Rattle.rq_store.specs.State.{State, ledger_of, size_of}
 use Rattle.rq_sound.specs.Steps.{Steps}
 use Rattle.rq_engine.specs.Kept.{IsKept, total_of}
 use Rattle.rq_engine.specs.Lists.{done_by}
@@ -26,6 +28,8 @@ use Rattle.rq_engine.specs.Opened.{OpenStore}
 use Rattle.rq_engine.specs.declared.event.CommitNo.{CommitNo}
 use Rattle.rq_engine.specs.declared.event.Event.TheVariants as event
 use Rattle.rq_engine.specs.declared.event.Reply.TheVariants as reply
+use Rattle.rq_views.specs.WorkedItems.{t1}
+use Rattle.rq_cases.specs.Aborts.{close_turned, turned, undone}
 use Rattle.rq_cases.specs.Applied.{Makes, MeetsAll}
 use Rattle.rq_cases.specs.Opened.{over}
 use Rattle.rq_cases.specs.Openings.{Checked, IsRefused}
@@ -89,6 +93,10 @@ IsFullForClose n new = Steps (one_begun n) (Start_close (only_one n) 0) (Gave_re
 abbrev pub full_beside : ℕ → Bool
 full_beside n = log_full (record (ledger_of send_started) { records = n }) 1
 
+-- what the first test says that holds of a call, over a log of so many records
+abbrev pub first_at : ℕ → State → Call → Option Refusal
+first_at n s c = first_of (tests (size_of sizes) (record (ledger_of s) { records = n }) c)
+
 pub record BoundsAreJudged : Type 0 where
   -- over a log of n + 1 records
   pub sound : (n : ℕ) → IsSound (one_begun n)
@@ -112,6 +120,15 @@ pub record BoundsAreJudged : Type 0 where
   -- what an operation under way has yet to log is kept for it: here two writes and its end
   pub fits_beside : (n : ℕ) → n + 4 ≤ 2 ^ 50 → full_beside n ≡ false
   pub full_beside_it : (n : ℕ) → 2 ^ 50 < n + 4 → full_beside n ≡ true
+  -- the inverse of a send takes four at most, that of a close two, and the end of an abort one
+  pub undo_fits : (n : ℕ) → n + 4 ≤ 2 ^ 50 → first_at n turned (Undo_next t1) ≡ None
+  pub undo_is_full : (n : ℕ) → 2 ^ 50 < n + 4 → first_at n turned (Undo_next t1) ≡ Some why.LogFull
+  pub open_fits : (n : ℕ) → n + 2 ≤ 2 ^ 50 → first_at n close_turned (Undo_next t1) ≡ None
+  pub open_is_full : (n : ℕ) → 2 ^ 50 < n + 2 → first_at n close_turned (Undo_next t1) ≡ Some why.LogFull
+  pub end_fits : (n : ℕ) → n + 1 ≤ 2 ^ 50 → first_at n undone (End_abort t1) ≡ None
+  pub end_is_full : (n : ℕ) → 2 ^ 50 < n + 1 → first_at n undone (End_abort t1) ≡ Some why.LogFull
+  -- what has nothing left takes none
+  pub nothing_left_fits : (n : ℕ) → first_at n undone (Undo_next t1) ≡ None
   -- the whole call, over devices in memory
   pub before_the_commit : (n : ℕ) (pages : MemPages) (log : MemLog)
       → Hold pages formatted_pages log (restarts (suc n)) → MeetsAll (over (one_begun n) pages log)

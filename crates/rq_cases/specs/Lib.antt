@@ -9,6 +9,7 @@ pub mod Sends
 pub mod Receives
 pub mod Asks
 pub mod Opened
+pub mod Aborts
 pub mod Applied
 pub mod Worlds
 pub mod Courses

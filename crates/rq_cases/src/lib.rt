@@ -1,6 +1,7 @@
 //! Worked cases for the words that contracts of several crates use: of each, what meets it and what it rules out.
 #![tactic(auto)]
 
+ghost use Rattle.rq_cases.specs.Aborts.{AbortsAreJudged};
 ghost use Rattle.rq_cases.specs.Applied.{CallsAreApplied, CallsAreNotApplied};
 ghost use Rattle.rq_cases.specs.Asks.{AsksAreJudged};
 ghost use Rattle.rq_cases.specs.Audits.{AuditsAreJudged};
@@ -100,6 +101,12 @@ pub fn receives_are_judged()
 /// behind it; and what is none.
 pub fn closes_are_judged()
     ensures { ClosesAreJudged }
+{}
+
+/// Aborts of a send, a receive and a close: their start, the plan, start, steps and end of each inverse, and the end of
+/// an abort; and what is none.
+pub fn aborts_are_judged()
+    ensures { AbortsAreJudged }
 {}
 
 /// Receipts, page writes and contents, which change no list.
