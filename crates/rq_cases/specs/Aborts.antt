@@ -1,4 +1,4 @@
--- Aborts: what their calls make of a store's lists, where a send, a receive or a close is taken back, and what they don't.
+-- Aborts: what their calls make of a store's lists, and of what an inverse is planned; and what they don't.
 use Rattle.std.specs.Prelude.{◌≡◌, ◌≢◌, ℕ, true, List, [], ◌∷◌, reverse, Some, None}
 use Rattle.rq_model.specs.declared.record.Deed.TheVariants.{Close, UnlinkHead}
 use Rattle.rq_model.specs.declared.record.Record.{Record}
@@ -118,8 +118,8 @@ log_counted = page_op t1 2 count_back ∷ log_emptied
 abbrev pub log_undone : List Record
 log_undone = CompEnd t1 2 4 ∷ log_counted
 
--- 1.1, which has sent, is turned to abort; the inverse of its send is started, its slots are written, it is finished; the
--- abort is ended
+-- 1.1, which has sent, is turned to abort; the inverse of its send is started, its slots are written, it is finished;
+-- the abort is ended
 abbrev pub turned : State
 turned = lists (aborting_row t1 (did_send ∷ []) 1 ∷ []) sends_to_0 sent_pages log_4 1 1 1 0
 
@@ -166,7 +166,8 @@ two_left = record turned { rows = aborting_row t1 (did_send ∷ record did_send 
 
 abbrev pub older_started : State
 older_started = record two_left {
-  rows = record (aborting_row t1 (did_send ∷ record did_send { lsn = 9 } ∷ []) 2) { under = Some (send_back_under 0) } ∷ [];
+  rows =
+      record (aborting_row t1 (did_send ∷ record did_send { lsn = 9 } ∷ []) 2) { under = Some (send_back_under 0) } ∷ [];
 }
 
 -- 1.1, which has closed, is turned to abort
