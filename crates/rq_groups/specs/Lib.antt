@@ -1,3 +1,4 @@
 pub mod Ends
 pub mod Waiting
+pub mod Sent
 pub mod Sides

@@ -1,16 +1,18 @@
-//! Who holds which ends of groups, and how many messages of each wait.
+//! Who holds which ends of groups, how many messages of each wait, and what each sender has sent.
 #![tactic(auto)]
 
 ghost use Rattle.std.specs.Prelude.{◌≡◌, [], cond, drop, not, IfOk, OnErr, reverse};
 ghost use Rattle.rq_groups.specs.Ends.{has_held, is_free_for, with_held, released};
 ghost use Rattle.rq_groups.specs.Sides.{with_end, holds_end, without_newest};
 
+mod sent;
 mod waiting;
 
 use rq_model::refusal::NoMemory;
 use rq_model::txn::Txn;
 use std::alloc::Global;
 use std::marker::Model;
+pub use sent::{LastTag, Sent};
 pub use waiting::Waiting;
 
 /// An end that a transaction holds.

@@ -11,12 +11,15 @@ use Rattle.rq_model.specs.declared.record.Record.TheVariants.{Commit as Commit_r
 use Rattle.rq_model.specs.Words.{In, Op, same_txn, sent_for, taken_from}
 use Rattle.rq_model.specs.Words.Op.{Send, Take, End}
 use Rattle.rq_model.specs.Counts.{AllBelow}
-use Rattle.rq_model.specs.Ledger.{Done, rest_in}
+use Rattle.rq_model.specs.Ledger.{Done, rest_in, group_in}
 use Rattle.rq_model.specs.Tests.{count_rest, below, is_sent}
 use Rattle.rq_model.specs.Content.{said, has_end}
 use Rattle.rq_model.specs.Commits.{op_of, told, ops_told, committed_of}
 use Rattle.rq_model.proofs.Lists.{same_self, same_is}
 use Rattle.rq_model.proofs.Counts.{commit_counts, taken_within, rest_more}
+use Rattle.rq_model.proofs.Shown.{group_more}
+use Rattle.rq_model.specs.History.{Group}
+use Rattle.rq_model.specs.Content.{tag_after}
 use Rattle.rq_page.specs.Sizes.{Sizes, sender_count}
 use Rattle.rq_views.specs.Log.Item.{Commit}
 use Rattle.rq_views.specs.Items.{items, layout_of, operation}
@@ -29,6 +32,9 @@ use Rattle.rq_views.proofs.OpenCounts.{ops_in_store}
 use Rattle.rq_txn.specs.declared.Finished.{Finished}
 use Rattle.rq_groups.specs.Ends.{HeldEnds}
 use Rattle.rq_groups.specs.Waiting.{waits}
+use Rattle.rq_groups.specs.Sent.{SentBy, sent_count, sent_tag}
+use Rattle.rq_store.specs.Sends.{KeepsSends}
+use Rattle.rq_sound.specs.Calls.{sends_for}
 use Rattle.rq_store.specs.State.{op_done}
 use Rattle.rq_model.specs.Incarnations.{incarnation_of}
 use Rattle.rq_store.specs.Rows.{placed, placed_one, HasWaiting, is_under}
@@ -202,3 +208,17 @@ module _ (z : Sizes) (log : List Record) (ends : HeldEnds) (rows : List Row) (i 
         waited = now_waiting;
         covered = λ q j. more_waits z log ends q waiting ws q.under (λ g m. (let v = waited g m in omega (arith, v))) (k.each q (gone t rows q j).0).going (c.covered q (gone t rows q j).0);
       }
+
+  -- what is kept of each sender's sends is what the commits tell then
+  module _ (sent new : SentBy) (kept : KeepsSends z log sent) (counts : (g : ℕ) → g < sender_count z → sent_count new g ≡ sent_count sent g + sends_in g r)
+      (tags : (g : ℕ) → g < sender_count z → sent_tag new g ≡ tag_after (sent_tag sent g) (sends_for g r)) where
+    own_sends : (g : ℕ) → filter_map (sent_for g) done.ops ≡ sends_for g r
+    own_sends g = ap (λ (l : List Op). filter_map (sent_for g) l) ops_are
+
+    pub sends_commit : KeepsSends z (x ∷ log) new
+    sends_commit = record {
+      counts = λ g m. counts g m ∙ ap (λ n. n + sends_in g r) (kept.counts g m) ∙ ap (λ l. (group_in (committed_of log) g).sent + length l) (sym (own_sends g))
+          ∙ sym (ap (λ (y : Group). y.sent) (group_more (committed_of log) done g (taken_within log whole.rules g)));
+      tags = λ g m. tags g m ∙ ap (λ n. tag_after n (sends_for g r)) (kept.tags g m) ∙ ap (tag_after (group_in (committed_of log) g).last_tag) (sym (own_sends g))
+          ∙ sym (ap (λ (y : Group). y.last_tag) (group_more (committed_of log) done g (taken_within log whole.rules g)));
+    }

@@ -110,6 +110,7 @@ module _ (s : State) (k : IsSound s) where
     fits = k.fits;
     standing = k.standing;
     counted = k.counted;
+    sent = k.sent;
     forced = omega arith;
   }
 
@@ -124,6 +125,7 @@ module _ (s : State) (k : IsSound s) where
     fits = k.fits;
     standing = k.standing;
     counted = k.counted;
+    sent = k.sent;
     forced = k.forced;
   }
 
@@ -195,7 +197,7 @@ calls_keep = record {
   steps = λ s r u w images k m. step_sound s k r u w images m.at_row m.under m.next (within u.writes u.made w m.next) m.before m.after m.made.image m.made.page m.made.others m.made.superblock m.made.headers;
   finishes = λ s r u d ws k m fewer. finish_sound s k r u d ws m.at_row m.under m.aim_is m.made fewer;
   undoes = λ s r u lsn d ws k m more. undo s k r u lsn d ws m more;
-  commits = λ s r cells ws k m. commit_sound s k r cells ws m.idle.at_row m.idle.idle m.forward m.freed m.waits;
+  commits = λ s r cells ws ss k m. commit_sound s k r cells ws ss m.idle.at_row m.idle.idle m.forward m.freed m.waits m.counts m.tags;
   starts_abort = λ s r k m. start_abort_sound s k r m.at_row m.idle;
   ends_abort = λ s r k m empty. end_abort_sound s k r m.at_row m.idle empty;
   forces = force_sound;
@@ -225,4 +227,4 @@ pub one_under : OneUnderWayIsSound
 one_under = instance_sound
 
 pub opened_is : OpenedIsSound
-opened_is z images log range whole none_unfinished none_lost pages fits = instance_sound (opened z images log) (opening.opened_sound z images log range whole none_unfinished none_lost pages fits)
+opened_is z images log range whole none_unfinished none_lost pages fits = instance_sound (opened z images log) (opening.opened_sound z images log range whole none_unfinished none_lost pages fits) (opening.sends_here z images log range whole none_unfinished none_lost pages)

@@ -10,6 +10,7 @@ use Rattle.rq_level.specs.Writes.{writes_of}
 use Rattle.rq_level.specs.declared.writes.SlotWrite.{SlotWrite}
 use Rattle.std.proofs.lemmas.Option.{same_Some}
 use Rattle.rq_groups.specs.Waiting.{waits}
+use Rattle.rq_groups.specs.Sent.{SentBy, sent_count, sent_tag}
 use Rattle.rq_store.proofs.Spelling.{AreSpelt, items_back}
 use Rattle.rq_txn.specs.Rows.{row_aborting, fresh_row, latched_by}
 use Rattle.rq_sound.specs.Counted.{sends_in}
@@ -17,7 +18,7 @@ use Rattle.rq_sound.specs.Sound.{IsSound}
 use Rattle.rq_sound.specs.Starts.{MayUndo}
 use Rattle.rq_sound.specs.Calls.{IsNextWrite, MayCommit}
 use Rattle.rq_sound.specs.Course as course
-use Rattle.rq_sound.specs.Course.{Frames, AreMade, cell_a, group_a, cell_b, group_b, cell_back, group_back, send_a, send_b, undo_a, with_made, row_a, row_b, row_done, row_undoing, row_empty, row_sent, sent, two_under, wrote_cell_a, wrote_cell_b, wrote_group_a, done_a, aborts_a, undoes_a, freed_cell, undid_group, undone_a, aborted_a, wrote_group_b, done_b, committed_b, both_begun}
+use Rattle.rq_sound.specs.Course.{Frames, AreMade, cell_a, group_a, cell_b, group_b, cell_back, group_back, send_a, send_b, undo_a, with_made, row_a, row_b, row_done, row_undoing, row_empty, row_sent, sent, IsCounted, two_under, wrote_cell_a, wrote_cell_b, wrote_group_a, done_a, aborts_a, undoes_a, freed_cell, undid_group, undone_a, aborted_a, wrote_group_b, done_b, committed_b, both_begun}
 use Rattle.rq_sound.specs.Worked.{AbortBesideASend}
 use Rattle.rq_sound.proofs.Contracts.{calls_keep}
 use Rattle.rq_sound.proofs.Spelt.{used_a, free_a as none_a, used_b, free_b as none_b, new_of_a, has_a, undid_a, new_of_b, has_b, told, back}
@@ -68,8 +69,8 @@ may_undo v = record {
   newest = refl;
 }
 
-may_commit : (v : Frames) (ws : List ℕ) → ((g : ℕ) → g < 30 → waits ws g ≡ waits (done_b v).waiting g + sends_in g row_sent) → MayCommit (done_b v) row_sent (done_b v).cells_in_use ws
-may_commit v ws h = record { idle = record { at_row = refl; idle = refl }; forward = refl; freed = omega arith; waits = h }
+may_commit : (v : Frames) (ws : List ℕ) (ss : SentBy) → IsCounted v ws ss → MayCommit (done_b v) row_sent (done_b v).cells_in_use ws ss
+may_commit v ws ss h = record { idle = record { at_row = refl; idle = refl }; forward = refl; freed = omega arith; waits = h.waits; counts = h.counts; tags = h.tags }
 
 module _ (v : Frames) (m : AreMade v) where
   pub next_a : IsNextWrite (two_under v.start) (row_a 0) send_a cell_a v.cell_of_a
@@ -111,8 +112,12 @@ module _ (v : Frames) (m : AreMade v) where
   s16 : IsSound (done_b v)
   s16 = calls_keep.finishes (wrote_group_b v) (row_b 2) (with_made 2 send_b) (sends 15) (wrote_group_b v).waiting s15 (record { at_row = refl; under = refl; aim_is = refl; made = refl }) (λ g. omega arith)
 
-  pub s17 : (ws : List ℕ) → ((g : ℕ) → g < 30 → waits ws g ≡ waits (done_b v).waiting g + sends_in g row_sent) → IsSound (committed_b v ws)
-  s17 ws h = calls_keep.commits (done_b v) row_sent (done_b v).cells_in_use ws s16 (may_commit v ws h)
+  pub s17 : (ws : List ℕ) (ss : SentBy) → IsCounted v ws ss → IsSound (committed_b v ws ss)
+  s17 ws ss h = calls_keep.commits (done_b v) row_sent (done_b v).cells_in_use ws ss s16 (may_commit v ws ss h)
+
+  -- the commit's send is the first of sender 15
+  once : (ws : List ℕ) (ss : SentBy) → IsCounted v ws ss → (sent_count ss 15 ≡ 1) × (sent_tag ss 15 ≡ 7)
+  once ws ss h = let k = (s17 ws ss h).sent in (k.counts 15 (omega arith), k.tags 15 (omega arith))
 
 pub abort_beside : AbortBesideASend
 abort_beside = record {
@@ -126,10 +131,15 @@ abort_beside = record {
   not_aborting = λ v m. false≢true m.aborting;
   undo_ready = λ v. record { at_row = refl; under = refl; aim_is = refl; made = refl };
   may_commit = may_commit;
-  commit_of_aborting = λ v cells ws m. true≢false m.forward;
+  commit_of_aborting = λ v cells ws ss m. true≢false m.forward;
+  commit_of_another_tag = λ v cells ws ss m e. (let h = m.tags 15 (omega arith) in omega (arith, e, h));
+  commit_of_no_tag = λ v cells ws m. (let h = m.counts 15 (omega arith) in omega (arith, h));
+  none_sent = λ v m. (s16 v m).sent;
+  sent_too_early = λ v ss k e. (let h = k.counts 15 (omega arith) in omega (arith, e, h));
+  sent_once = λ v ws ss m h. once v m ws ss h;
   undoing = s10;
   aborted = s14;
-  committed = λ v ws m h. s17 v m ws h;
+  committed = λ v ws ss m h. s17 v m ws ss h;
   send_steps = λ v m. deed_steps.starts (both_begun v.start) (fresh_row t1) send_a (sends 0) (begun_sound v.start m.start) (first v.start m.start) (refl, (refl, (refl, (refl, (refl, (refl, (refl, (refl, (refl, (refl, tt))))))))));
   undo_steps = λ v m. abort_steps.starts_inverse (aborts_a v) (row_aborting row_done) undo_a [] sent (s9 v m) refl (may_undo v) refl;
   abort_steps = λ v m. abort_steps.ends_abort (undone_a v) row_empty (s13 v m) refl (record { at_row = refl; idle = refl }) refl refl refl;

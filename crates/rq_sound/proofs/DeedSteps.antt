@@ -30,6 +30,7 @@ use Rattle.rq_views.proofs.Holding.{committed_is_group, tag_and_body, view_holds
 use Rattle.rq_views.proofs.Settled.{rest_shown}
 use Rattle.rq_level.specs.Writes.{write_of, writes_of}
 use Rattle.rq_txn.specs.declared.Finished.{Finished}
+use Rattle.rq_groups.specs.Sent.{SentBy}
 use Rattle.rq_groups.specs.Ends.{HeldEnds, has_held, is_free_for}
 use Rattle.rq_groups.specs.Waiting.{waits}
 use Rattle.rq_groups.proofs.Holders.{held_with_same, held_with_other}
@@ -229,7 +230,7 @@ module _ (s : State) (k : IsSound s) where
           stays_forced = omega arith;
         }
 
-  module _ (running : s.failed ≡ false) (r : Row) (cells : ℕ) (ws : List ℕ) (m : MayCommit s r cells ws) (room : log_full (ledger_of s) 1 ≡ false) where
+  module _ (running : s.failed ≡ false) (r : Row) (cells : ℕ) (ws : List ℕ) (ss : SentBy) (m : MayCommit s r cells ws ss) (room : log_full (ledger_of s) 1 ≡ false) where
     row : In r s.rows
     row = (found_in r.txn s.rows r m.idle.at_row).0
 
@@ -239,7 +240,7 @@ module _ (s : State) (k : IsSound s) where
         ap ops_told (sym (own_deeds s.sizes r.txn s.records k.log.reads own.running (own.forward m.forward))) ∙ ap (λ ps. ops_told (say ps)) own.done ∙ told_placed r.finished
 
     abbrev new : State
-    new = committed s r cells ws
+    new = committed s r cells ws ss
 
     abbrev done : Done
     done = record { txn = r.txn; lsn = length s.records + 1; ops = ops_of (found r.txn (open_ones_of s.ends s.rows)) }
@@ -259,7 +260,7 @@ module _ (s : State) (k : IsSound s) where
           says = (refl, refl);
           legal = ((h.0, (h.1.0, (h.1.1.0, (h.1.1.1.0, (room, tt))))), refl);
           after = commit_after;
-          sound = calls_keep.commits s r cells ws k m;
+          sound = calls_keep.commits s r cells ws ss k m;
           goes_on = (1, refl);
           stays_forced = omega arith;
         }
@@ -323,5 +324,5 @@ deed_steps = record {
   none_from = λ s r g k m below free none passes. none_from_steps s k r m g below free none passes;
   none = λ s r k m none passes. none_steps s k r m none passes;
   finishes = λ s r u d ws k running m fewer. finish s k running r u d ws m fewer;
-  commits = λ s r cells ws k running m room. commit s k running r cells ws m room;
+  commits = λ s r cells ws ss k running m room. commit s k running r cells ws ss m room;
 }

@@ -15,6 +15,9 @@ use Rattle.rq_views.proofs.Overlay.{put_agree}
 use Rattle.rq_txn.specs.declared.Finished.{Finished}
 use Rattle.rq_groups.specs.Ends.{HeldEnds}
 use Rattle.rq_groups.specs.Waiting.{waits}
+use Rattle.rq_groups.specs.Sent.{SentBy, sent_count, sent_tag}
+use Rattle.rq_model.specs.Content.{tag_after}
+use Rattle.rq_sound.specs.Calls.{sends_for}
 use Rattle.rq_views.specs.Claims.{appends_of}
 use Rattle.rq_store.specs.Fitting.{left_by, image_in}
 use Rattle.rq_store.specs.Steps.{page_op, op_end, took}
@@ -33,7 +36,7 @@ use Rattle.rq_sound.proofs.Starts.{MayStart, HasEnds, stands_start, counts_start
 use Rattle.rq_sound.proofs.Writing.{whole_step, stands_step, counts_step}
 use Rattle.rq_sound.proofs.Ending.{whole_finish, stands_finish, counts_finish}
 use Rattle.rq_sound.proofs.Undoing.{aborts, whole_undo, stands_undo, counts_undo}
-use Rattle.rq_sound.proofs.Commits.{whole_commit, stands_commit, counts_commit}
+use Rattle.rq_sound.proofs.Commits.{whole_commit, stands_commit, counts_commit, sends_commit}
 use Rattle.rq_sound.proofs.Aborting.{stands_aborting, counts_aborting, whole_abort, stands_abort, counts_abort}
 
 module _ (s : State) (k : IsSound s) where
@@ -55,6 +58,7 @@ module _ (s : State) (k : IsSound s) where
     fits = k.fits;
     standing = stands_begin z log s.ends s.rows s.incarnation s.begins s.cells_in_use s.waiting k.log k.standing k.counted;
     counted = counts_begin z log s.ends s.rows s.incarnation s.begins s.cells_in_use s.waiting k.log k.standing k.counted;
+    sent = k.sent;
     forced = k.forced;
   }
 
@@ -71,6 +75,7 @@ module _ (s : State) (k : IsSound s) where
     fits = k.fits;
     standing = stands_start z log s.ends after s.rows s.incarnation s.begins s.cells_in_use s.waiting k.log k.standing k.counted k.incarnation k.some r u m h;
     counted = counts_start z log s.ends after s.rows s.incarnation s.begins s.cells_in_use s.waiting k.log k.standing k.counted k.incarnation k.some r u m h;
+    sent = k.sent;
     forced = k.forced;
   }
 
@@ -97,6 +102,7 @@ module _ (s : State) (k : IsSound s) where
       fits = fits_written z log x (record { page = w.at / 16; slot = w.at % 16; after = w.after }) refl s.images images k.fits slot written others superblock headers slots_now;
       standing = stands_step z log s.ends s.rows s.incarnation s.begins s.cells_in_use s.waiting k.log k.standing k.counted k.incarnation k.some r u w at_row under next more old_slot slot;
       counted = counts_step z log s.ends s.rows s.incarnation s.begins s.cells_in_use s.waiting k.log k.standing k.counted k.incarnation k.some r u w at_row under next more old_slot slot;
+      sent = k.sent;
       forced = (let f = k.forced in omega (arith, f));
     }
 
@@ -113,6 +119,7 @@ module _ (s : State) (k : IsSound s) where
     fits = fits_more z (op_end r.txn u.number d) log (image_in s.images) k.fits;
     standing = stands_finish z log s.ends s.rows s.incarnation s.begins s.cells_in_use s.waiting ws k.log k.standing k.counted k.incarnation k.some r u d at_row under aim made fewer;
     counted = counts_finish z log s.ends s.rows s.incarnation s.begins s.cells_in_use s.waiting ws k.log k.standing k.counted k.incarnation k.some r u d at_row under aim made fewer;
+    sent = k.sent;
     forced = (let f = k.forced in omega (arith, f));
   }
 
@@ -134,14 +141,17 @@ module _ (s : State) (k : IsSound s) where
       fits = fits_more z (comp_end r.txn u.number lsn) log (image_in s.images) k.fits;
       standing = stands_undo z log s.ends s.rows s.incarnation s.begins s.cells_in_use s.waiting ws k.log k.standing k.counted k.incarnation k.some r u lsn d at_row under aim made more;
       counted = counts_undo z log s.ends s.rows s.incarnation s.begins s.cells_in_use s.waiting ws k.log k.standing k.counted k.incarnation k.some r u lsn d at_row under aim made more;
+      sent = k.sent;
       forced = (let f = k.forced in omega (arith, f));
     }
 
   -- a transaction commits
-  pub commit_sound : (r : Row) (now : ℕ) (ws : List ℕ) → found_row r.txn s.rows ≡ Some r → r.under ≡ None → r.aborting ≡ false → now + takes_all r ≡ s.cells_in_use
+  pub commit_sound : (r : Row) (now : ℕ) (ws : List ℕ) (ss : SentBy) → found_row r.txn s.rows ≡ Some r → r.under ≡ None → r.aborting ≡ false → now + takes_all r ≡ s.cells_in_use
       → ((g : ℕ) → g < sender_count s.sizes → waits ws g ≡ waits s.waiting g + sends_in g r)
-      → IsSound (record s { rows = without_row r.txn s.rows; ends = without_ends r.txn s.ends; records = Commit r.txn ∷ log; cells_in_use = now; waiting = ws })
-  commit_sound r now ws at_row idle open_one freed waited = record {
+      → ((g : ℕ) → g < sender_count s.sizes → sent_count ss g ≡ sent_count s.sent g + sends_in g r)
+      → ((g : ℕ) → g < sender_count s.sizes → sent_tag ss g ≡ tag_after (sent_tag s.sent g) (sends_for g r))
+      → IsSound (record s { rows = without_row r.txn s.rows; ends = without_ends r.txn s.ends; records = Commit r.txn ∷ log; cells_in_use = now; waiting = ws; sent = ss })
+  commit_sound r now ws ss at_row idle open_one freed waited counts tags = record {
     range = k.range;
     log = whole_commit z log s.ends s.rows s.incarnation s.begins s.cells_in_use now s.waiting ws k.log k.standing k.counted k.incarnation k.some r at_row idle open_one freed waited;
     incarnation = k.incarnation;
@@ -151,6 +161,7 @@ module _ (s : State) (k : IsSound s) where
     fits = fits_more z (Commit r.txn) log (image_in s.images) k.fits;
     standing = stands_commit z log s.ends s.rows s.incarnation s.begins s.cells_in_use now s.waiting ws k.log k.standing k.counted k.incarnation k.some r at_row idle open_one freed waited;
     counted = counts_commit z log s.ends s.rows s.incarnation s.begins s.cells_in_use now s.waiting ws k.log k.standing k.counted k.incarnation k.some r at_row idle open_one freed waited;
+    sent = sends_commit z log s.ends s.rows s.incarnation s.begins s.cells_in_use now s.waiting ws k.log k.standing k.counted k.incarnation k.some r at_row idle open_one freed waited s.sent ss k.sent counts tags;
     forced = (let f = k.forced in omega (arith, f));
   }
 
@@ -166,6 +177,7 @@ module _ (s : State) (k : IsSound s) where
     fits = k.fits;
     standing = stands_aborting z log s.ends s.rows s.incarnation s.begins s.cells_in_use s.waiting k.log k.standing k.counted k.incarnation k.some r at_row idle;
     counted = counts_aborting z log s.ends s.rows s.incarnation s.begins s.cells_in_use s.waiting k.log k.standing k.counted k.incarnation k.some r at_row idle;
+    sent = k.sent;
     forced = k.forced;
   }
 
@@ -182,5 +194,6 @@ module _ (s : State) (k : IsSound s) where
     fits = fits_more z (AbortEnd r.txn) log (image_in s.images) k.fits;
     standing = stands_abort z log s.ends s.rows s.incarnation s.begins s.cells_in_use s.waiting k.log k.standing k.counted k.incarnation k.some r at_row idle empty;
     counted = counts_abort z log s.ends s.rows s.incarnation s.begins s.cells_in_use s.waiting k.log k.standing k.counted k.incarnation k.some r at_row idle empty;
+    sent = k.sent;
     forced = (let f = k.forced in omega (arith, f));
   }

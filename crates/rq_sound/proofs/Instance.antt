@@ -29,6 +29,7 @@ use Rattle.rq_store.specs.Fitting.{left_by}
 use Rattle.rq_store.specs.Rows as one_row
 use Rattle.rq_store.specs.Rows.{placed, placed_one, is_under, unmade}
 use Rattle.rq_store.specs.Sound as one_sound
+use Rattle.rq_store.specs.Sends.{KeepsSends}
 use Rattle.rq_store.specs.Whole.{IsWhole}
 use Rattle.rq_store.proofs.Holders.{placed_first}
 use Rattle.rq_store.proofs.RowLists.{found_in}
@@ -148,7 +149,7 @@ some_going (r ∷ rows) = elim (cases_Bool (is_some r.under)) [
   ]
 ]
 
-module _ (s : State) (k : one_sound.IsSound s) where
+module _ (s : State) (k : one_sound.IsSound s) (kept : KeepsSends s.sizes s.records s.sent) where
   abbrev z : Sizes
   z = s.sizes
 
@@ -274,5 +275,6 @@ module _ (s : State) (k : one_sound.IsSound s) where
     fits = k.fits;
     standing = stands;
     counted = counts;
+    sent = kept;
     forced = k.forced;
   }

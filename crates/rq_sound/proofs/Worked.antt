@@ -46,7 +46,7 @@ plan_b = record { directory = new_directory; new = 65; old = None; used = omega 
 
 module _ (images : List (List ℕ)) (h : AreFormatted sizes images) where
   pub begun_sound : IsSound (both_begun images)
-  begun_sound = calls_keep.begins _ (calls_keep.begins _ (instance_sound _ (formatted.sound sizes images range h)))
+  begun_sound = calls_keep.begins _ (calls_keep.begins _ (instance_sound _ (formatted.sound sizes images range h) (formatted.sends sizes images range h)))
 
   none_used : (both_begun images).cells_in_use ≡ 0
   none_used = sym begun_sound.counted.committed

@@ -76,7 +76,7 @@ refusals_judged = record {
 pub waits_judged : WaitsAreJudged
 waits_judged = record {
   none = λ images h g below free. (let e = (one_sound images h).counted.waited g below in omega (arith, e));
-  one = λ v ws h. (omega arith, refl, (let e = h 15 (omega arith) in let n : sends_in 15 row_sent ≡ 1 = refl in omega (arith, e, n)));
+  one = λ v ws ss h. (omega arith, refl, (let e = h.waits 15 (omega arith) in let n : sends_in 15 row_sent ≡ 1 = refl in omega (arith, e, n)));
 }
 
 -- what stands in a slot, by the worked log

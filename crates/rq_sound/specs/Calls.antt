@@ -1,10 +1,12 @@
 -- What each call makes of a store, and what it needs.
-use Rattle.std.specs.Prelude.{◌≡◌, ◌≢◌, ℕ, ◌+◌, ◌-◌, ◌/◌, ◌%◌, ◌<◌, ◌≤◌, true, false, List, ◌∷◌, length, Some, None}
-use Rattle.std.specs.List.{slice_get}
+use Rattle.std.specs.Prelude.{◌≡◌, ◌≢◌, ℕ, ◌+◌, ◌-◌, ◌/◌, ◌%◌, ◌<◌, ◌≤◌, true, false, List, ◌∷◌, length, map, Some, None}
+use Rattle.std.specs.List.{slice_get, filter_map}
 use Rattle.rq_model.specs.declared.txn.Txn.{Txn}
+use Rattle.rq_model.specs.declared.message.Message.{Message}
 use Rattle.rq_model.specs.declared.record.Deed.{Deed}
 use Rattle.rq_model.specs.declared.record.Record.TheVariants.{Commit, AbortEnd}
-use Rattle.rq_model.specs.Words.{front}
+use Rattle.rq_model.specs.Words.{front, sent_for}
+use Rattle.rq_model.specs.Content.{tag_after}
 use Rattle.rq_page.specs.Sizes.{page_count, sender_count}
 use Rattle.rq_page.specs.Slots.{IsSlotOf, held_in}
 use Rattle.rq_page.specs.Formatted.{IsFormatted, IsHeaderOf}
@@ -15,11 +17,12 @@ use Rattle.rq_views.specs.Stored.{slots_in}
 use Rattle.rq_level.specs.declared.writes.SlotWrite.{SlotWrite}
 use Rattle.rq_groups.specs.Ends.{HeldEnds, released}
 use Rattle.rq_groups.specs.Waiting.{waits}
+use Rattle.rq_groups.specs.Sent.{SentBy, sent_count, sent_tag}
 use Rattle.rq_store.specs.Fitting.{image_in}
 use Rattle.rq_store.specs.Steps.{page_op, op_end}
 use Rattle.rq_txn.specs.declared.Aim.{Aim}
 use Rattle.rq_txn.specs.Rows.{Under, Row, found_row, change_row, without_row, fresh_row, row_started, row_stepped, row_finished, row_undone, row_aborting}
-use Rattle.rq_store.specs.State.{State}
+use Rattle.rq_store.specs.State.{State, op_done}
 use Rattle.rq_sound.specs.Rows.{comp_end}
 use Rattle.rq_sound.specs.Counted.{appends_aim, takes_all, sends_in}
 
@@ -103,21 +106,29 @@ abbrev pub without_ends : Row → HeldEnds → HeldEnds
 without_ends r ends = record { sending = released r.txn ends.sending; receiving = released r.txn ends.receiving }
 
 -- a transaction commits
-abbrev pub committed : State → Row → ℕ → List ℕ → State
-committed s r cells waiting = record s {
+abbrev pub committed : State → Row → ℕ → List ℕ → SentBy → State
+committed s r cells waiting sent = record s {
   rows = without_row r.txn s.rows;
   ends = without_ends r s.ends;
   records = Commit r.txn ∷ s.records;
   cells_in_use = cells;
   waiting = waiting;
+  sent = sent;
 }
 
--- it may: it doesn't abort; the cells of what it took are free then, and what it sent waits
-pub record MayCommit (s : State) (r : Row) (cells : ℕ) (waiting : List ℕ) : Type 0 where
+-- what it sent for g, in order
+abbrev pub sends_for : ℕ → Row → List Message
+sends_for g r = filter_map (sent_for g) (map op_done r.finished)
+
+-- it may: it doesn't abort; the cells of what it took are free then, and what it sent waits, and is counted, the last
+-- with its tag
+pub record MayCommit (s : State) (r : Row) (cells : ℕ) (waiting : List ℕ) (sent : SentBy) : Type 0 where
   pub idle : IsIdle s r
   pub forward : r.aborting ≡ false
   pub freed : cells + takes_all r ≡ s.cells_in_use
   pub waits : (g : ℕ) → g < sender_count s.sizes → waits waiting g ≡ waits s.waiting g + sends_in g r
+  pub counts : (g : ℕ) → g < sender_count s.sizes → sent_count sent g ≡ sent_count s.sent g + sends_in g r
+  pub tags : (g : ℕ) → g < sender_count s.sizes → sent_tag sent g ≡ tag_after (sent_tag s.sent g) (sends_for g r)
 
 -- a transaction starts to abort
 abbrev pub aborting : State → Row → State

@@ -1,7 +1,8 @@
 -- A worked course over a store that was just formatted: two sends are under way at once; one ends, and its transaction
 -- aborts and undoes it while the other is still under way, which ends then and is committed.
 use Rattle.std.proofs.Common.{arith}
-use Rattle.std.specs.Prelude.{ℕ, ◌/◌, ◌%◌, ◌<◌, ◌^◌, List, [], ◌∷◌}
+use Rattle.std.specs.Prelude.{◌≡◌, ℕ, ◌+◌, ◌/◌, ◌%◌, ◌<◌, ◌^◌, List, [], ◌∷◌}
+use Rattle.rq_model.specs.Content.{tag_after}
 use Rattle.rq_page.specs.Slots.{slot_bytes}
 use Rattle.rq_page.specs.Slots.Slot.{Sender}
 use Rattle.rq_views.specs.Log.{Write}
@@ -9,13 +10,16 @@ use Rattle.rq_views.specs.Plans.{directory_tail_unlinked}
 use Rattle.rq_views.specs.WorkedItems.{sizes, t1, t2, cell, sends, new_a, end_a, new_b, end_b, sent_a, free_a}
 use Rattle.rq_level.specs.declared.writes.SlotWrite.{SlotWrite}
 use Rattle.rq_txn.specs.declared.Finished.{Finished}
+use Rattle.rq_groups.specs.Waiting.{waits}
+use Rattle.rq_groups.specs.Sent.{SentBy, sent_count, sent_tag}
 use Rattle.rq_store.specs.Opening.{opened}
 use Rattle.rq_store.specs.Worked.{AreFormatted}
 use Rattle.rq_txn.specs.Rows.{Under, Row, fresh_row, row_started, row_finished, row_undone, row_aborting}
 use Rattle.rq_store.specs.State.{State}
 use Rattle.rq_txn.specs.declared.Aim.TheVariants as aims
 use Rattle.rq_sound.specs.Starts.{with_end}
-use Rattle.rq_sound.specs.Calls.{begun, started, stepped, finished, undone, aborting, aborted, committed, IsPutIn}
+use Rattle.rq_sound.specs.Calls.{begun, started, stepped, finished, undone, aborting, aborted, committed, sends_for, IsPutIn}
+use Rattle.rq_sound.specs.Counted.{sends_in}
 
 -- a slot write with the bytes of what it leaves
 abbrev pub spelled : (w : Write) → w.at / 16 < 2 ^ 32 → 0 < w.at % 16 → SlotWrite
@@ -145,8 +149,14 @@ done_b v = finished (wrote_group_b v) (row_b 2) (with_made 2 send_b) (sends 15) 
 abbrev pub row_sent : Row
 row_sent = row_finished (record { lsn = 11; deed = sends 15 }) (row_b 2)
 
-abbrev pub committed_b : Frames → List ℕ → State
-committed_b v waiting = committed (done_b v) row_sent (done_b v).cells_in_use waiting
+abbrev pub committed_b : Frames → List ℕ → SentBy → State
+committed_b v waiting counts = committed (done_b v) row_sent (done_b v).cells_in_use waiting counts
+
+-- its message waits then, and is counted
+pub record IsCounted (v : Frames) (waiting : List ℕ) (counts : SentBy) : Type 0 where
+  pub waits : (g : ℕ) → g < 30 → waits waiting g ≡ waits (done_b v).waiting g + sends_in g row_sent
+  pub counts : (g : ℕ) → g < 30 → sent_count counts g ≡ sent_count (done_b v).sent g + sends_in g row_sent
+  pub tags : (g : ℕ) → g < 30 → sent_tag counts g ≡ tag_after (sent_tag (done_b v).sent g) (sends_for g row_sent)
 
 -- each write of the course is made in the pages
 pub record AreMade (v : Frames) : Type 0 where

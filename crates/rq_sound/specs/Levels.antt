@@ -20,6 +20,7 @@ use Rattle.rq_level.specs.Kept.{Kept, IsLowest, NoneToTake, SomeFree, flag_at, n
 use Rattle.rq_txn.specs.declared.Finished.{Finished}
 use Rattle.rq_groups.specs.Ends.{HeldEnds}
 use Rattle.rq_txn.specs.Rows.{AreDistinct, Row, Under, any_under, latched_in}
+use Rattle.rq_groups.specs.Sent.{SentBy}
 use Rattle.rq_store.specs.State.{State}
 use Rattle.rq_txn.specs.declared.Aim.TheVariants as aims
 use Rattle.rq_sound.specs.Calls.{IsIdle, IsNextWrite, IsReady, aborted, aborting, begun, committed, finished, started, stepped, undone}
@@ -109,8 +110,8 @@ pub record CellsStayKept : Type 0 where
   pub undoes : (s : State) (r : Row) (u : Under) (lsn : ℕ) (d : Deed) (waiting : List ℕ) (k : Kept) → AreDistinct s.rows
       → IsReady s r u (aims.Undoing lsn d) → KeepsCells s k → KeepsCells (undone s r u lsn d waiting) k
   pub begins : (s : State) (k : Kept) → KeepsCells s k → KeepsCells (begun s) k
-  pub commits : (s : State) (r : Row) (cells : ℕ) (waiting : List ℕ) (k : Kept) → AreDistinct s.rows → IsIdle s r
-      → KeepsCells s k → KeepsCells (committed s r cells waiting) k
+  pub commits : (s : State) (r : Row) (cells : ℕ) (waiting : List ℕ) (sent : SentBy) (k : Kept) → AreDistinct s.rows
+      → IsIdle s r → KeepsCells s k → KeepsCells (committed s r cells waiting sent) k
   pub starts_abort : (s : State) (r : Row) (k : Kept) → KeepsCells s k → KeepsCells (aborting s r) k
   pub ends_abort : (s : State) (r : Row) (k : Kept) → AreDistinct s.rows → IsIdle s r → KeepsCells s k
       → KeepsCells (aborted s r) k

@@ -5,6 +5,7 @@ use Rattle.rq_page.specs.Sizes.{IsInRange}
 use Rattle.rq_views.specs.Stored.{slots_in}
 use Rattle.rq_store.specs.State.{State}
 use Rattle.rq_store.specs.Fitting.{left_by, image_in, oldest, FitsLog}
+use Rattle.rq_store.specs.Sends.{KeepsSends}
 use Rattle.rq_store.specs.Whole.{IsWhole}
 use Rattle.rq_sound.specs.Standing.{AreStanding}
 use Rattle.rq_sound.specs.Counted.{AreCounted}
@@ -21,4 +22,5 @@ pub record IsSound (s : State) : Type 0 where
   pub fits : FitsLog s.sizes (image_in s.images) s.records
   pub standing : AreStanding s.sizes s.records s.ends s.rows s.incarnation s.begins
   pub counted : AreCounted s.sizes s.records s.rows s.cells_in_use s.waiting
+  pub sent : KeepsSends s.sizes s.records s.sent
   pub forced : s.forced ≤ length s.records

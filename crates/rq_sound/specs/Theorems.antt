@@ -28,8 +28,10 @@ use Rattle.rq_level.specs.declared.writes.SlotWrite.{SlotWrite}
 use Rattle.rq_txn.specs.declared.Finished.{Finished}
 use Rattle.rq_groups.specs.Ends.{is_free_for}
 use Rattle.rq_groups.specs.Waiting.{waits}
+use Rattle.rq_groups.specs.Sent.{SentBy}
 use Rattle.rq_store.specs.Fitting.{left_by, image_in, FitsLog}
 use Rattle.rq_store.specs.Opening.{opened}
+use Rattle.rq_store.specs.Sends.{KeepsSends}
 use Rattle.rq_store.specs.Sound as one_sound
 use Rattle.rq_store.specs.State.{size_of, op_done, job_of, State, ledger_of, open_of}
 use Rattle.rq_store.specs.Steps.{took, gave_done}
@@ -58,8 +60,8 @@ pub record CallsKeepSoundness : Type 0 where
   pub undoes : (s : State) (r : Row) (u : Under) (lsn : ℕ) (d : Deed) (waiting : List ℕ) → IsSound s
       → IsReady s r u (aims.Undoing lsn d) → ((g : ℕ) → waits waiting g ≡ waits s.waiting g + took g d)
       → IsSound (undone s r u lsn d waiting)
-  pub commits : (s : State) (r : Row) (cells : ℕ) (waiting : List ℕ) → IsSound s → MayCommit s r cells waiting
-      → IsSound (committed s r cells waiting)
+  pub commits : (s : State) (r : Row) (cells : ℕ) (waiting : List ℕ) (sent : SentBy) → IsSound s
+      → MayCommit s r cells waiting sent → IsSound (committed s r cells waiting sent)
   pub starts_abort : (s : State) (r : Row) → IsSound s → IsIdle s r → IsSound (aborting s r)
   pub ends_abort : (s : State) (r : Row) → IsSound s → IsIdle s r → r.finished ≡ [] → IsSound (aborted s r)
   pub forces : (s : State) → IsSound s → IsSound (forced s)
@@ -155,15 +157,15 @@ pub record DeedsAreSteps : Type 0 where
   pub finishes : (s : State) (r : Row) (u : Under) (d : Deed) (waiting : List ℕ) → IsSound s → s.failed ≡ false
       → IsReady s r u (aims.Doing d) → ((g : ℕ) → waits waiting g ≡ waits s.waiting g - took g d)
       → Steps s (Call.Finish r.txn u.number) (gave_done d) (finished s r u d waiting)
-  pub commits : (s : State) (r : Row) (cells : ℕ) (waiting : List ℕ) → IsSound s → s.failed ≡ false
-      → MayCommit s r cells waiting → log_full (ledger_of s) 1 ≡ false
+  pub commits : (s : State) (r : Row) (cells : ℕ) (waiting : List ℕ) (sent : SentBy) → IsSound s → s.failed ≡ false
+      → MayCommit s r cells waiting sent → log_full (ledger_of s) 1 ≡ false
       → Steps s (Call.Commit r.txn) (Reply.Gave_commit (record { txn = r.txn; lsn = length s.records + 1 }))
-      (committed s r cells waiting)
+      (committed s r cells waiting sent)
 
--- A store with one operation at most under way, a send or a receive, that is sound as one of these, is sound; and its
--- ledger is the same.
+-- A store with one operation at most under way, a send or a receive, that is sound as one of these, is sound, where it
+-- keeps what the commits of its log sent; and its ledger is the same.
 abbrev pub OneUnderWayIsSound : Type 0
-OneUnderWayIsSound = (s : State) → one_sound.IsSound s → IsSound s
+OneUnderWayIsSound = (s : State) → one_sound.IsSound s → KeepsSends s.sizes s.records s.sent → IsSound s
 
 -- so a store that opens over a log in which everything has ended is sound
 abbrev pub OpenedIsSound : Type 0

@@ -10,17 +10,17 @@ use Rattle.rq_model.specs.Words.{In, same_txn}
 use Rattle.rq_views.specs.WorkedItems.{sizes, t1, t2, sends}
 use Rattle.rq_txn.specs.declared.Finished.{Finished}
 use Rattle.rq_groups.specs.Ends.{has_held}
-use Rattle.rq_groups.specs.Waiting.{waits}
+use Rattle.rq_groups.specs.Sent.{SentBy, sent_count, sent_tag}
+use Rattle.rq_store.specs.Sends.{KeepsSends}
 use Rattle.rq_store.specs.Worked.{AreFormatted}
 use Rattle.rq_txn.specs.Rows.{Under, Row, fresh_row, row_aborting, latched_by}
 use Rattle.rq_store.specs.State.{State}
 use Rattle.rq_txn.specs.declared.Aim.TheVariants as aims
-use Rattle.rq_sound.specs.Counted.{sends_in}
 use Rattle.rq_sound.specs.Sound.{IsSound}
 use Rattle.rq_sound.specs.Starts.{MayDo, MayUndo}
 use Rattle.rq_sound.specs.Calls.{IsNextWrite, IsReady, IsIdle, MayCommit}
 use Rattle.rq_sound.specs.Steps.{Steps}
-use Rattle.rq_sound.specs.Course.{send_a, send_b, cell_a, group_a, both_begun, one_under, two_under, Frames, AreMade, with_made, row_a, wrote_cell_a, wrote_group_a, sent, done_a, row_done, aborts_a, undo_a, row_undoing, undoes_a, undid_group, undone_a, aborted_a, done_b, row_sent, committed_b}
+use Rattle.rq_sound.specs.Course.{send_a, send_b, cell_a, group_a, both_begun, one_under, two_under, Frames, AreMade, with_made, row_a, wrote_cell_a, wrote_group_a, sent, done_a, row_done, aborts_a, undo_a, row_undoing, undoes_a, undid_group, undone_a, aborted_a, done_b, row_sent, committed_b, IsCounted}
 
 -- two sends may be under way at once, but not where they meet on a page or at an end
 pub record TwoUnderWay : Type 0 where
@@ -65,16 +65,25 @@ pub record AbortBesideASend : Type 0 where
   pub may_undo : (v : Frames) → MayUndo (aborts_a v) (row_aborting row_done) undo_a [] sent
   pub not_aborting : (v : Frames) → MayUndo (done_a v) row_done undo_a [] sent → ⊥
   pub undo_ready : (v : Frames) → IsReady (undid_group v) (row_undoing 2) (with_made 2 undo_a) (aims.Undoing 5 (sends 0))
-  pub may_commit : (v : Frames) (waiting : List ℕ)
-      → ((g : ℕ) → g < 30 → waits waiting g ≡ waits (done_b v).waiting g + sends_in g row_sent)
-      → MayCommit (done_b v) row_sent (done_b v).cells_in_use waiting
-  pub commit_of_aborting : (v : Frames) (cells : ℕ) (waiting : List ℕ)
-      → MayCommit (aborts_a v) (row_aborting row_done) cells waiting → ⊥
+  pub may_commit : (v : Frames) (waiting : List ℕ) (counts : SentBy) → IsCounted v waiting counts
+      → MayCommit (done_b v) row_sent (done_b v).cells_in_use waiting counts
+  pub commit_of_aborting : (v : Frames) (cells : ℕ) (waiting : List ℕ) (counts : SentBy)
+      → MayCommit (aborts_a v) (row_aborting row_done) cells waiting counts → ⊥
+  -- a commit that has the tag of another send, or of none
+  pub commit_of_another_tag : (v : Frames) (cells : ℕ) (waiting : List ℕ) (counts : SentBy)
+      → MayCommit (done_b v) row_sent cells waiting counts → sent_tag counts 15 ≡ 8 → ⊥
+  pub commit_of_no_tag : (v : Frames) (cells : ℕ) (waiting : List ℕ)
+      → MayCommit (done_b v) row_sent cells waiting (done_b v).sent → ⊥
   pub undoing : (v : Frames) → AreMade v → IsSound (undoes_a v)
   pub aborted : (v : Frames) → AreMade v → IsSound (aborted_a v)
-  pub committed : (v : Frames) (waiting : List ℕ) → AreMade v
-      → ((g : ℕ) → g < 30 → waits waiting g ≡ waits (done_b v).waiting g + sends_in g row_sent)
-      → IsSound (committed_b v waiting)
+  pub committed : (v : Frames) (waiting : List ℕ) (counts : SentBy) → AreMade v → IsCounted v waiting counts
+      → IsSound (committed_b v waiting counts)
+  -- what is kept of sends: none of a send that is done and not committed, and the committed one with its tag
+  pub none_sent : (v : Frames) → AreMade v → KeepsSends sizes (done_b v).records (done_b v).sent
+  pub sent_too_early : (v : Frames) (counts : SentBy) → KeepsSends sizes (done_b v).records counts
+      → sent_count counts 15 ≡ 1 → ⊥
+  pub sent_once : (v : Frames) (waiting : List ℕ) (counts : SentBy) → AreMade v → IsCounted v waiting counts
+      → (sent_count counts 15 ≡ 1) × (sent_tag counts 15 ≡ 7)
   -- the first send, the inverse and the abort's end are steps of the model; an abort that starts twice is none
   pub send_steps : (v : Frames) → AreMade v
       → Steps (both_begun v.start) (Call.Start_send t1 (record { sender = 0; tag = 7; body = 104 ∷ [] }))

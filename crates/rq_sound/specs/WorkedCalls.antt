@@ -17,6 +17,7 @@ use Rattle.rq_level.specs.ChainPlans.{CanSend, job_wanted}
 use Rattle.rq_level.specs.Kept.{Kept}
 use Rattle.rq_level.specs.Ops.{Job, chain_job}
 use Rattle.rq_level.specs.Ops.Doing.{Send}
+use Rattle.rq_groups.specs.Sent.{SentBy}
 use Rattle.rq_groups.specs.Waiting.{waits}
 use Rattle.rq_store.specs.Worked.{AreFormatted}
 use Rattle.rq_txn.specs.Rows.{fresh_row, any_under, latched_in}
@@ -33,7 +34,7 @@ use Rattle.rq_sound.specs.Chosen.{KeepsBeside, KnowsFirst}
 use Rattle.rq_sound.specs.Levels.{AreLatched, IsGathered, KeepsCells, to_write}
 use Rattle.rq_sound.specs.Wants.{AreGivenOf}
 use Rattle.rq_sound.specs.Gathering.{AreGivenFrom, IsToDo, IsToUndo, IsWantedOf}
-use Rattle.rq_sound.specs.Course.{send_a, send_b, both_begun, one_under, two_under, Frames, AreMade, wrote_cell_a, wrote_cell_b, wrote_group_a, done_b, row_sent, committed_b}
+use Rattle.rq_sound.specs.Course.{send_a, send_b, both_begun, one_under, two_under, Frames, AreMade, wrote_cell_a, wrote_cell_b, wrote_group_a, done_b, committed_b, IsCounted}
 
 abbrev pub message_for : ℕ → Message
 message_for g = record { sender = g; tag = 7; body = 104 ∷ [] }
@@ -66,9 +67,8 @@ pub record RefusalsAreJudged : Type 0 where
 -- no message waits while the first send is under way; once the send for sender 15 is committed, its message waits
 pub record WaitsAreJudged : Type 0 where
   pub none : (images : List (List ℕ)) → AreFormatted sizes images → NoneWaits (one_under images) t2
-  pub one : (v : Frames) (waiting : List ℕ)
-      → ((g : ℕ) → g < 30 → waits waiting g ≡ waits (done_b v).waiting g + sends_in g row_sent)
-      → WaitsFor (begun (committed_b v waiting)) (next_txn (committed_b v waiting)) 15
+  pub one : (v : Frames) (waiting : List ℕ) (counts : SentBy) → IsCounted v waiting counts
+      → WaitsFor (begun (committed_b v waiting counts)) (next_txn (committed_b v waiting counts)) 15
 
 -- while the first send is under way, the page of sender 15 tells of it; once that of sender 0 is written it tells of a
 -- message that whole operations have not sent

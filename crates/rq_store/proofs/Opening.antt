@@ -12,7 +12,7 @@ use Rattle.rq_model.specs.declared.record.Record.TheVariants as records
 use Rattle.rq_model.specs.declared.record.Deed.{Deed}
 use Rattle.rq_model.specs.Words.{same_txn, has_txn}
 use Rattle.rq_model.specs.Deeds.{deed_in}
-use Rattle.rq_model.specs.Ledger.{Done, Ledger, after, rest_in, kept_in}
+use Rattle.rq_model.specs.Ledger.{Done, Ledger, after, rest_in, kept_in, sent_in, tag_of}
 use Rattle.rq_model.specs.History.Entry.{Restarted}
 use Rattle.rq_model.specs.Tests.{below, count_rest}
 use Rattle.rq_model.specs.Content.{Ending, ending, ending_by, kept, deeds, has_end}
@@ -38,6 +38,8 @@ use Rattle.rq_views.proofs.Overlay.{same_is as same_op_is}
 use Rattle.rq_views.proofs.Strangers.{has_end_same}
 use Rattle.rq_views.proofs.Rules.{ended}
 use Rattle.rq_views.proofs.Settled.{settled_counts, rest_shown}
+use Rattle.rq_views.proofs.Holding.{committed_is_group}
+use Rattle.rq_groups.specs.Sent.{sent_count, sent_tag}
 use Rattle.rq_groups.specs.Waiting.{waits}
 use Rattle.rq_store.proofs.Begun.{begun_all}
 use Rattle.rq_store.specs.State.{ledger_of}
@@ -45,7 +47,8 @@ use Rattle.rq_model.specs.Incarnations.{InOrder, IsNext, incarnation_of, incarna
 use Rattle.rq_store.specs.Sound.{IsSound, IsSettled}
 use Rattle.rq_store.specs.Whole.{IsWhole}
 use Rattle.rq_store.specs.Fitting.{left_by, image_in, FitsLog}
-use Rattle.rq_store.specs.Opening.{next_restart, opened, messages_told, waiting_in}
+use Rattle.rq_store.specs.Opening.{next_restart, opened, messages_told, waiting_in, sent_told, tag_told, sent_in_slots}
+use Rattle.rq_store.specs.Sends.{KeepsSends}
 use Rattle.rq_store.proofs.Fitting.{fits_more}
 use Rattle.rq_store.proofs.Forcing.{all_within}
 use Rattle.rq_store.proofs.Grouping.{groups_of}
@@ -370,6 +373,31 @@ module _ (z : Sizes) (images : List (List ℕ)) (log : List Record) (range : IsI
       let f = rest_shown z g log w.rules w.reads in
       let h = v.shows.sent in
       omega (arith, a, b, c, e, f, h)
+
+  -- and what each sender's sends come to
+  pub sends_here : KeepsSends z new_log (sent_in_slots z images)
+  sends_here = record { counts = λ g m. count_here g m; tags = λ g m. tag_here g m } where
+    group_view : (g : ℕ) → view (items z log) g ≡ committed (items z log) g
+    group_view g = settled_view g (items z log) (groups_of z log w) settled
+
+    count_here : (g : ℕ) → g < sender_count z → sent_count (sent_in_slots z images) g ≡ length (sent_in (committed_of log) g)
+    count_here g m =
+        let v = views (layout_of z) (items z log) g (store_is_layout z) w.legal m (λ o. subst (Spares g) (sym (idle_writes (layout_of z) (items z log) o w.legal (idle o))) tt) in
+        let a : sent_count (sent_in_slots z images) g ≡ sent_told (slots_in z images (directory_at g)) = told_below (λ s. sent_told (slots_in z images (directory_at s))) (sender_count z) g m in
+        let b : sent_told (slots_in z images (directory_at g)) ≡ v.directory.sent = ap sent_told (pages (directory_at g) ∙ v.at) in
+        let c : length (view (items z log) g).messages ≡ length v.shows.nodes = ap (λ (l : List (ℕ × List ℕ)). length l) v.shows.messages ∙ length-map v.shows.nodes message in
+        let d : length (view (items z log) g).messages ≡ length (committed (items z log) g).messages = ap (λ (x : View). length x.messages) (group_view g) in
+        let e : (view (items z log) g).received ≡ (committed (items z log) g).received = ap (λ (x : View). x.received) (group_view g) in
+        let f = (committed_is_group z g log w.rules w.reads).sent in
+        let h = v.shows.sent in
+        omega (arith, a, b, c, d, e, f, h, v.shows.received)
+
+    tag_here : (g : ℕ) → g < sender_count z → sent_tag (sent_in_slots z images) g ≡ tag_of (sent_in (committed_of log) g)
+    tag_here g m =
+        let v = views (layout_of z) (items z log) g (store_is_layout z) w.legal m (λ o. subst (Spares g) (sym (idle_writes (layout_of z) (items z log) o w.legal (idle o))) tt) in
+        told_below (λ s. tag_told (slots_in z images (directory_at s))) (sender_count z) g m
+        ∙ ap tag_told (pages (directory_at g) ∙ v.at) ∙ sym v.shows.last_tag ∙ ap (λ (x : View). x.last_tag) (group_view g)
+        ∙ (committed_is_group z g log w.rules w.reads).last_tag
 
   -- the open store goes back to it
   pub opened_sound : FitsLog z (image_in images) log → IsSound (opened z images log)

@@ -6,7 +6,8 @@ use Rattle.rq_page.specs.Pages.{lsn_of}
 use Rattle.rq_page.specs.Sizes.{Sizes, IsInRange}
 use Rattle.rq_txn.specs.Rows.{Row, AreDistinct, found_row}
 use Rattle.rq_store.specs.Fitting.{FitsLog, HoldsPage, IsStamp, image_in, oldest}
-use Rattle.rq_store.specs.Opening.{FitsUpTo, opened}
+use Rattle.rq_store.specs.Opening.{FitsUpTo, opened, next_restart, sent_in_slots}
+use Rattle.rq_store.specs.Sends.{KeepsSends}
 use Rattle.rq_store.specs.Sound.{IsSound}
 use Rattle.rq_store.specs.Whole.{IsWhole}
 use Rattle.rq_store.specs.Worked.{AreFormatted, WorkedSound}
@@ -28,6 +29,9 @@ module _ (z : Sizes) (images : List (List ℕ)) (range : IsInRange z) (h : AreFo
 
   pub sound : IsSound (opened z images [])
   sound = opening.opened_sound z images [] range (whole_empty z) refl refl (redone_slots z [] images tt up_to) fits
+
+  pub sends : KeepsSends z (next_restart [] ∷ []) (sent_in_slots z images)
+  sends = opening.sends_here z images [] range (whole_empty z) refl refl (redone_slots z [] images tt up_to)
 
   pub counts_one : IsSound (record (opened z images []) { cells_in_use = (opened z images []).cells_in_use + 1 }) → ⊥
   counts_one k = let a = sound.cells in let b = k.cells in omega (arith, a, b)

@@ -8,3 +8,4 @@ pub mod Worked
 pub mod Theorems
 pub mod Whole
 pub mod Rows
+pub mod Sends

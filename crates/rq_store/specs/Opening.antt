@@ -9,6 +9,7 @@ use Rattle.rq_page.specs.Slots.{Slot, IsSlotOf}
 use Rattle.rq_page.specs.Slots.Slot.{Free, Used, Sender}
 use Rattle.rq_page.specs.Formatted.{count_in}
 use Rattle.rq_views.specs.Stored.{slots_in, count_used}
+use Rattle.rq_groups.specs.Sent.{SentBy}
 use Rattle.rq_store.specs.State.{State}
 use Rattle.rq_model.specs.Incarnations.{incarnation_of}
 use Rattle.rq_store.specs.Whole.{IsWhole}
@@ -51,6 +52,24 @@ messages_told (Sender s d) = d.sent - d.received
 abbrev pub waiting_in : Sizes → List (List ℕ) → List ℕ
 waiting_in z images = map (λ s. messages_told (slots_in z images (directory_at s))) (below (sender_count z))
 
+-- how many messages a directory slot says were sent, and the last one's tag
+abbrev pub sent_told : Slot → ℕ
+sent_told Free = 0
+sent_told (Used c) = 0
+sent_told (Sender s d) = d.sent
+
+abbrev pub tag_told : Slot → ℕ
+tag_told Free = 0
+tag_told (Used c) = 0
+tag_told (Sender s d) = d.last_tag
+
+-- what each sender's sends come to where nothing is open
+abbrev pub sent_in_slots : Sizes → List (List ℕ) → SentBy
+sent_in_slots z images = record {
+  counts = map (λ s. sent_told (slots_in z images (directory_at s))) (below (sender_count z));
+  tags = map (λ s. tag_told (slots_in z images (directory_at s))) (below (sender_count z));
+}
+
 -- the open store: of the next incarnation, with nothing begun and all records forced
 abbrev pub opened : Sizes → List (List ℕ) → List Record → State
 opened z images log = record {
@@ -65,6 +84,7 @@ opened z images log = record {
   begins = 0;
   cells_in_use = count_used z (slots_in z images);
   waiting = waiting_in z images;
+  sent = sent_in_slots z images;
 }
 
 -- a record that tells a write of a slot of the store, no number of whose slot is beyond the record's LSN, and whose

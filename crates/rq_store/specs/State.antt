@@ -18,6 +18,7 @@ use Rattle.rq_txn.specs.declared.Aim.{Aim}
 use Rattle.rq_txn.specs.declared.Aim.TheVariants.{Doing, Undoing}
 use Rattle.rq_txn.specs.Rows.{Row, Under}
 use Rattle.rq_groups.specs.Ends.{HeldEnds, held_by}
+use Rattle.rq_groups.specs.Sent.{SentBy}
 
 -- The transactions that have not ended and the ends that they hold, the pages' images, and the records of the log, the
 -- newest first.
@@ -34,6 +35,8 @@ pub record State : Type 0 where
   pub cells_in_use : ℕ
   -- by sender, how many messages wait: they are committed, and nobody has taken them
   pub waiting : List ℕ
+  -- by sender, how many messages are committed, and the last one's tag
+  pub sent : SentBy
 
 abbrev pub size_of : Sizes → Size
 size_of z = record { senders = sender_count z; cells = cell_count z }
