@@ -102,7 +102,7 @@ module _ (s : State) (k : IsSound s) where
       fits = fits_written z log x (record { page = w.at / 16; slot = w.at % 16; after = w.after }) refl s.images images k.fits slot written others superblock headers slots_now;
       standing = stands_step z log s.ends s.rows s.incarnation s.begins s.cells_in_use s.waiting k.log k.standing k.counted k.incarnation k.some r u w at_row under next more old_slot slot;
       counted = counts_step z log s.ends s.rows s.incarnation s.begins s.cells_in_use s.waiting k.log k.standing k.counted k.incarnation k.some r u w at_row under next more old_slot slot;
-      sent = k.sent;
+      sent = record { counts = k.sent.counts; tags = k.sent.tags };
       forced = (let f = k.forced in omega (arith, f));
     }
 
@@ -119,7 +119,7 @@ module _ (s : State) (k : IsSound s) where
     fits = fits_more z (op_end r.txn u.number d) log (image_in s.images) k.fits;
     standing = stands_finish z log s.ends s.rows s.incarnation s.begins s.cells_in_use s.waiting ws k.log k.standing k.counted k.incarnation k.some r u d at_row under aim made fewer;
     counted = counts_finish z log s.ends s.rows s.incarnation s.begins s.cells_in_use s.waiting ws k.log k.standing k.counted k.incarnation k.some r u d at_row under aim made fewer;
-    sent = k.sent;
+    sent = record { counts = k.sent.counts; tags = k.sent.tags };
     forced = (let f = k.forced in omega (arith, f));
   }
 
@@ -141,7 +141,7 @@ module _ (s : State) (k : IsSound s) where
       fits = fits_more z (comp_end r.txn u.number lsn) log (image_in s.images) k.fits;
       standing = stands_undo z log s.ends s.rows s.incarnation s.begins s.cells_in_use s.waiting ws k.log k.standing k.counted k.incarnation k.some r u lsn d at_row under aim made more;
       counted = counts_undo z log s.ends s.rows s.incarnation s.begins s.cells_in_use s.waiting ws k.log k.standing k.counted k.incarnation k.some r u lsn d at_row under aim made more;
-      sent = k.sent;
+      sent = record { counts = k.sent.counts; tags = k.sent.tags };
       forced = (let f = k.forced in omega (arith, f));
     }
 
@@ -194,6 +194,6 @@ module _ (s : State) (k : IsSound s) where
     fits = fits_more z (AbortEnd r.txn) log (image_in s.images) k.fits;
     standing = stands_abort z log s.ends s.rows s.incarnation s.begins s.cells_in_use s.waiting k.log k.standing k.counted k.incarnation k.some r at_row idle empty;
     counted = counts_abort z log s.ends s.rows s.incarnation s.begins s.cells_in_use s.waiting k.log k.standing k.counted k.incarnation k.some r at_row idle empty;
-    sent = k.sent;
+    sent = record { counts = k.sent.counts; tags = k.sent.tags };
     forced = (let f = k.forced in omega (arith, f));
   }

@@ -150,13 +150,13 @@ abbrev pub row_sent : Row
 row_sent = row_finished (record { lsn = 11; deed = sends 15 }) (row_b 2)
 
 abbrev pub committed_b : Frames → List ℕ → SentBy → State
-committed_b v waiting counts = committed (done_b v) row_sent (done_b v).cells_in_use waiting counts
+committed_b v waiting kept = committed (done_b v) row_sent (done_b v).cells_in_use waiting kept
 
 -- its message waits then, and is counted
-pub record IsCounted (v : Frames) (waiting : List ℕ) (counts : SentBy) : Type 0 where
+pub record IsCounted (v : Frames) (waiting : List ℕ) (kept : SentBy) : Type 0 where
   pub waits : (g : ℕ) → g < 30 → waits waiting g ≡ waits (done_b v).waiting g + sends_in g row_sent
-  pub counts : (g : ℕ) → g < 30 → sent_count counts g ≡ sent_count (done_b v).sent g + sends_in g row_sent
-  pub tags : (g : ℕ) → g < 30 → sent_tag counts g ≡ tag_after (sent_tag (done_b v).sent g) (sends_for g row_sent)
+  pub counts : (g : ℕ) → g < 30 → sent_count kept g ≡ sent_count (done_b v).sent g + sends_in g row_sent
+  pub tags : (g : ℕ) → g < 30 → sent_tag kept g ≡ tag_after (sent_tag (done_b v).sent g) (sends_for g row_sent)
 
 -- each write of the course is made in the pages
 pub record AreMade (v : Frames) : Type 0 where

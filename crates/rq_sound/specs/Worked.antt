@@ -65,25 +65,25 @@ pub record AbortBesideASend : Type 0 where
   pub may_undo : (v : Frames) → MayUndo (aborts_a v) (row_aborting row_done) undo_a [] sent
   pub not_aborting : (v : Frames) → MayUndo (done_a v) row_done undo_a [] sent → ⊥
   pub undo_ready : (v : Frames) → IsReady (undid_group v) (row_undoing 2) (with_made 2 undo_a) (aims.Undoing 5 (sends 0))
-  pub may_commit : (v : Frames) (waiting : List ℕ) (counts : SentBy) → IsCounted v waiting counts
-      → MayCommit (done_b v) row_sent (done_b v).cells_in_use waiting counts
-  pub commit_of_aborting : (v : Frames) (cells : ℕ) (waiting : List ℕ) (counts : SentBy)
-      → MayCommit (aborts_a v) (row_aborting row_done) cells waiting counts → ⊥
+  pub may_commit : (v : Frames) (waiting : List ℕ) (kept : SentBy) → IsCounted v waiting kept
+      → MayCommit (done_b v) row_sent (done_b v).cells_in_use waiting kept
+  pub commit_of_aborting : (v : Frames) (cells : ℕ) (waiting : List ℕ) (kept : SentBy)
+      → MayCommit (aborts_a v) (row_aborting row_done) cells waiting kept → ⊥
   -- a commit that has the tag of another send, or of none
-  pub commit_of_another_tag : (v : Frames) (cells : ℕ) (waiting : List ℕ) (counts : SentBy)
-      → MayCommit (done_b v) row_sent cells waiting counts → sent_tag counts 15 ≡ 8 → ⊥
+  pub commit_of_another_tag : (v : Frames) (cells : ℕ) (waiting : List ℕ) (kept : SentBy)
+      → MayCommit (done_b v) row_sent cells waiting kept → sent_tag kept 15 ≡ 8 → ⊥
   pub commit_of_no_tag : (v : Frames) (cells : ℕ) (waiting : List ℕ)
       → MayCommit (done_b v) row_sent cells waiting (done_b v).sent → ⊥
   pub undoing : (v : Frames) → AreMade v → IsSound (undoes_a v)
   pub aborted : (v : Frames) → AreMade v → IsSound (aborted_a v)
-  pub committed : (v : Frames) (waiting : List ℕ) (counts : SentBy) → AreMade v → IsCounted v waiting counts
-      → IsSound (committed_b v waiting counts)
+  pub committed : (v : Frames) (waiting : List ℕ) (kept : SentBy) → AreMade v → IsCounted v waiting kept
+      → IsSound (committed_b v waiting kept)
   -- what is kept of sends: none of a send that is done and not committed, and the committed one with its tag
   pub none_sent : (v : Frames) → AreMade v → KeepsSends sizes (done_b v).records (done_b v).sent
-  pub sent_too_early : (v : Frames) (counts : SentBy) → KeepsSends sizes (done_b v).records counts
-      → sent_count counts 15 ≡ 1 → ⊥
-  pub sent_once : (v : Frames) (waiting : List ℕ) (counts : SentBy) → AreMade v → IsCounted v waiting counts
-      → (sent_count counts 15 ≡ 1) × (sent_tag counts 15 ≡ 7)
+  pub sent_too_early : (v : Frames) (kept : SentBy) → KeepsSends sizes (done_b v).records kept
+      → sent_count kept 15 ≡ 1 → ⊥
+  pub sent_once : (v : Frames) (waiting : List ℕ) (kept : SentBy) → AreMade v → IsCounted v waiting kept
+      → (sent_count kept 15 ≡ 1) × (sent_tag kept 15 ≡ 7)
   -- the first send, the inverse and the abort's end are steps of the model; an abort that starts twice is none
   pub send_steps : (v : Frames) → AreMade v
       → Steps (both_begun v.start) (Call.Start_send t1 (record { sender = 0; tag = 7; body = 104 ∷ [] }))

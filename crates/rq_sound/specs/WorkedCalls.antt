@@ -67,8 +67,8 @@ pub record RefusalsAreJudged : Type 0 where
 -- no message waits while the first send is under way; once the send for sender 15 is committed, its message waits
 pub record WaitsAreJudged : Type 0 where
   pub none : (images : List (List ℕ)) → AreFormatted sizes images → NoneWaits (one_under images) t2
-  pub one : (v : Frames) (waiting : List ℕ) (counts : SentBy) → IsCounted v waiting counts
-      → WaitsFor (begun (committed_b v waiting counts)) (next_txn (committed_b v waiting counts)) 15
+  pub one : (v : Frames) (waiting : List ℕ) (kept : SentBy) → IsCounted v waiting kept
+      → WaitsFor (begun (committed_b v waiting kept)) (next_txn (committed_b v waiting kept)) 15
 
 -- while the first send is under way, the page of sender 15 tells of it; once that of sender 0 is written it tells of a
 -- message that whole operations have not sent
