@@ -14,13 +14,13 @@ use Rattle.rq_model.specs.declared.refusal.Refusal.TheVariants as why
 use Rattle.rq_model.specs.Words.{is_some, same_txn}
 use Rattle.rq_views.specs.Plans.{deed_sender}
 use Rattle.rq_model.specs.History.{Call}
-use Rattle.rq_model.specs.History.Call.{Commit, Step, Finish, Show}
+use Rattle.rq_model.specs.History.Call.{Commit, Step, Finish, Show, Last_tag}
 use Rattle.rq_model.specs.History.Entry.{Ready, Shown}
 use Rattle.rq_model.specs.Ledger.{Open, found, runs}
 use Rattle.rq_model.specs.Legal.{OnFound}
 use Rattle.rq_model.specs.Tests.{has_under, is_aborting, steps_left, log_full, tests, first_of, NoneHolds, ready_tests}
 use Rattle.rq_model.specs.Replay.{Reply as Gave}
-use Rattle.rq_model.specs.Replay.Reply.{Gave_lsn, Gave_commit, Gave_ready, Gave_content}
+use Rattle.rq_model.specs.Replay.Reply.{Gave_lsn, Gave_commit, Gave_ready, Gave_content, Gave_tag}
 use Rattle.rq_page.specs.Sizes.{Sizes}
 use Rattle.rq_level.specs.declared.writes.SlotWrite.{SlotWrite}
 use Rattle.rq_level.specs.Writes.{IsSlotWrite, AreSlotWrites}
@@ -28,6 +28,12 @@ use Rattle.rq_txn.specs.declared.Finished.{Finished}
 use Rattle.rq_txn.specs.declared.Aim.{Aim}
 use Rattle.rq_txn.specs.declared.Aim.TheVariants.{Doing}
 use Rattle.rq_txn.specs.Rows.{Row, Under, deed_of, found_row, finished_of, any_under, change_row, without_row, row_stepped, row_finished, row_taken_back}
+use Rattle.rq_groups.specs.Sent.{sent_count, sent_tag}
+use Rattle.rq_model.specs.Content.{tag_after}
+use Rattle.rq_sound.specs.Calls.{sends_for}
+use Rattle.rq_sound.proofs.Unchanged.{unchanged}
+use Rattle.rq_engine.specs.Moves.{with_tags}
+use Rattle.rq_engine.proofs.Tags.{count-with_tags, tag-with_tags}
 use Rattle.rq_groups.specs.Ends.{HeldEnds, released}
 use Rattle.rq_store.specs.State.{State, ledger_of, size_of, owed_one, owed_under, job_under, left_under, phase_of}
 use Rattle.rq_groups.specs.Waiting.{waits}
@@ -319,10 +325,10 @@ commit_range s f o res n t k h =
     (omega (arith, a, c), omega (arith, b, d))
 
 pub commit_kept : (s : State) (f : Bool) (o res n : ℕ) (t : Txn) (x : Record) (ends : HeldEnds) (cells : ℕ) → IsKept s f o res → HasNothingUnderWay s t n → log_full (ledger_of s) 1 ≡ false
-    → IsKept (record s { rows = without_row t s.rows; ends = ends; records = x ∷ s.records; cells_in_use = cells; waiting = with_sends (finished_of (found_row t s.rows)) s.waiting }) f o res
+    → IsKept (record s { rows = without_row t s.rows; ends = ends; records = x ∷ s.records; cells_in_use = cells; waiting = with_sends (finished_of (found_row t s.rows)) s.waiting; sent = with_tags (finished_of (found_row t s.rows)) s.sent }) f o res
 commit_kept s f o res n t x ends cells k h room =
     let r = found_of (λ r. (r.under ≡ None) × (n ≡ r.number + 1)) (found_row t s.rows) h in
-    subst (λ (q : Option Row). IsKept (record s { rows = without_row t s.rows; ends = ends; records = x ∷ s.records; cells_in_use = cells; waiting = with_sends (finished_of q) s.waiting }) f o res) (sym r.1)
+    subst (λ (q : Option Row). IsKept (record s { rows = without_row t s.rows; ends = ends; records = x ∷ s.records; cells_in_use = cells; waiting = with_sends (finished_of q) s.waiting; sent = with_tags (finished_of q) s.sent }) f o res) (sym r.1)
     (kept_committed s f o res k t r.0 r.1 x ends cells r.2.0 (not_full s 1 room))
 
 -- there is room for what it sent
@@ -332,8 +338,15 @@ commit_room s f o res t k g = at (found_row t s.rows) refl where
   at None e = let a = k.few g in let b = k.count in omega (arith, a, b)
   at (Some r) e = let a = k.few g in let b = k.count in let c = sum_at done_one t s.rows r e in omega (arith, a, b, c)
 
+-- and it can be counted
+pub commit_counts : (s : State) (f : Bool) (o res : ℕ) (t : Txn) → IsKept s f o res → (g : ℕ) → sent_count s.sent g + length (finished_of (found_row t s.rows)) < 2 ^ 64
+commit_counts s f o res t k g = at (found_row t s.rows) refl where
+  at : (q : Option Row) → found_row t s.rows ≡ q → sent_count s.sent g + length (finished_of q) < 2 ^ 64
+  at None e = let a = k.sent.few g in let b = k.count in omega (arith, a, b)
+  at (Some r) e = let a = k.sent.few g in let b = k.count in let c = sum_at done_one t s.rows r e in omega (arith, a, b, c)
+
 pub commit_done : (s : State) (f : Bool) (o res n lsn cells : ℕ) (t : Txn) → IsKept s f o res → s.failed ≡ false → NoneHolds (ready_tests (ledger_of s) t false) → HasNothingUnderWay s t n → log_full (ledger_of s) 1 ≡ false → lsn ≡ length s.records + 1 → cells ≡ s.cells_in_use - sum_by takes_one (finished_of (found_row t s.rows)) → IsSound s
-    → Steps s (Commit t) (Gave_commit (record { txn = t; lsn = lsn })) (record s { rows = without_row t s.rows; ends = record { sending = released t s.ends.sending; receiving = released t s.ends.receiving }; records = records.Commit t ∷ s.records; cells_in_use = cells; waiting = with_sends (finished_of (found_row t s.rows)) s.waiting })
+    → Steps s (Commit t) (Gave_commit (record { txn = t; lsn = lsn })) (record s { rows = without_row t s.rows; ends = record { sending = released t s.ends.sending; receiving = released t s.ends.receiving }; records = records.Commit t ∷ s.records; cells_in_use = cells; waiting = with_sends (finished_of (found_row t s.rows)) s.waiting; sent = with_tags (finished_of (found_row t s.rows)) s.sent })
 commit_done s f o res n lsn cells t c running tested h room at freed k =
     let r = found_of (λ r. (r.under ≡ None) × (n ≡ r.number + 1)) (found_row t s.rows) h in
     let fs = finished_of (found_row t s.rows) in
@@ -345,8 +358,16 @@ commit_done s f o res n lsn cells t c running tested h room at freed k =
     let enough : sum_by takes_one r.0.finished ≤ s.cells_in_use = omega (arith, part, used) in
     let waited : (g : ℕ) → g < sender_count s.sizes → waits (with_sends fs s.waiting) g ≡ waits s.waiting g + sends_in g r.0 =
     (λ g m. ap (λ l. waits (with_sends l s.waiting) g) own ∙ waits-with_sends r.0.finished s.waiting g (let l = c.senders in omega (arith, l, m))) in
-    subst (λ (m : ℕ). Steps s (Commit t) (Gave_commit (record { txn = t; lsn = m })) (record s { rows = without_row t s.rows; ends = record { sending = released t s.ends.sending; receiving = released t s.ends.receiving }; records = records.Commit t ∷ s.records; cells_in_use = cells; waiting = with_sends fs s.waiting })) (sym at)
-    (commit_steps s k t r.0 cells (with_sends fs s.waiting) r.1 r.2.0 forward (omega (arith, freed, taken, enough)) waited running room)
+    let counted : (g : ℕ) → g < sender_count s.sizes → sent_count (with_tags fs s.sent) g ≡ sent_count s.sent g + sends_in g r.0 =
+    (λ g m. ap (λ l. sent_count (with_tags l s.sent) g) own ∙ count-with_tags r.0.finished s.sent g (let l = c.sent.counts in omega (arith, l, m))) in
+    let tagged : (g : ℕ) → g < sender_count s.sizes → sent_tag (with_tags fs s.sent) g ≡ tag_after (sent_tag s.sent g) (sends_for g r.0) =
+    (λ g m. ap (λ l. sent_tag (with_tags l s.sent) g) own ∙ tag-with_tags r.0.finished s.sent g (let l = c.sent.tags in omega (arith, l, m))) in
+    subst (λ (m : ℕ). Steps s (Commit t) (Gave_commit (record { txn = t; lsn = m })) (record s { rows = without_row t s.rows; ends = record { sending = released t s.ends.sending; receiving = released t s.ends.receiving }; records = records.Commit t ∷ s.records; cells_in_use = cells; waiting = with_sends fs s.waiting; sent = with_tags fs s.sent })) (sym at)
+    (commit_steps s k t r.0 cells (with_sends fs s.waiting) (with_tags fs s.sent) r.1 r.2.0 forward (omega (arith, freed, taken, enough)) waited counted tagged running room)
+
+-- what a sender's committed sends come to
+pub tag_told : (s : State) (g sent tag : ℕ) → s.failed ≡ false → g < sender_count s.sizes → sent ≡ sent_count s.sent g → tag ≡ sent_tag s.sent g → IsSound s → Steps s (Last_tag g) (Gave_tag sent tag) s
+tag_told s g sent tag running below counted tagged k = rw (counted ∙ k.sent.counts g below, tagged ∙ k.sent.tags g below) (unchanged.tells s g k running below)
 
 -- the content
 pub content_done : (s : State) (groups : List Group) → s.failed ≡ false → any_under s.rows ≡ false → groups ≡ map (group_in (committed_of s.records)) (below (sender_count s.sizes)) → IsSound s → Steps s Show (Gave_content groups) s

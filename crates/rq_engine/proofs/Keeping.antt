@@ -10,6 +10,9 @@ use Rattle.rq_model.specs.Words.{In, front}
 use Rattle.rq_page.specs.Sizes.{Sizes}
 use Rattle.rq_txn.specs.declared.Finished.{Finished}
 use Rattle.rq_txn.specs.Rows.{Row, Under, found_row, change_row, without_row, fresh_row, row_started, row_stepped, row_aborting, row_finished, row_taken_back, under_stepped}
+use Rattle.rq_engine.specs.Kept.{AreSendsKept}
+use Rattle.rq_engine.specs.Moves.{with_tags}
+use Rattle.rq_engine.proofs.Tags.{sends_on, sends_more}
 use Rattle.rq_groups.specs.Ends.{HeldEnds}
 use Rattle.rq_store.specs.State.{State, owed_by, owed_one, owed_under}
 use Rattle.rq_store.proofs.RowLists.{found_in, changed, distinct_change, distinct_gone, gone}
@@ -60,6 +63,7 @@ kept_begun s f o res k =
       ];
       senders = k.senders;
       few = λ g. (let c = sum_by-cons done_one (fresh_row t) s.rows in let d = k.few g in omega (arith, c, d));
+      sent = sends_on k.sent (let c = sum_by-cons done_one (fresh_row t) s.rows in omega (arith, c));
     }
 
 -- one more is done, or the newest is undone
@@ -110,6 +114,7 @@ module _ (s : State) (f : Bool) (o res : ℕ) (k : IsKept s f o res) (t : Txn) (
         rows = changed_rows (row_started u) (length s.records + owed_by (change_row t (row_started u) s.rows)) (λ q. refl) (omega (arith, total)) (record { mine = row.mine; low = row.low; high = row.high; number = (let n = row.number in omega (arith, n, number, total)); done = row.done; under = h });
         senders = k.senders;
         few = λ g. (let c = rows_sum done_one t (row_started u) s.rows (λ q i e. refl) in let d = k.few g in omega (arith, c, d));
+        sent = sends_on k.sent (let c = rows_sum done_one t (row_started u) s.rows (λ q i e. refl) in omega (arith, c));
       }
 
   pub kept_stepped : (u : Under) (x : Record) (images : List (List ℕ)) (left : ℕ) → r.under ≡ Some u → u.made < length u.writes → left + 546 ≡ res
@@ -135,6 +140,7 @@ module _ (s : State) (f : Bool) (o res : ℕ) (k : IsKept s f o res) (t : Txn) (
         rows = changed_rows row_stepped (length (x ∷ s.records) + owed_by (change_row t row_stepped s.rows)) (λ q. refl) (omega (arith, same)) (record { mine = row.mine; low = row.low; high = row.high; number = (let n = row.number in omega (arith, n, same)); done = row.done; under = subst (λ (y : Option Under). UnderKept s.sizes (under_stepped y)) (sym under) (record { number = h.number; made = omega (arith, more); slots = h.slots; sender = h.sender; fits = h.fits }) });
         senders = k.senders;
         few = λ g. (let c = rows_sum done_one t row_stepped s.rows (λ q i e. refl) in let d = k.few g in omega (arith, c, d));
+        sent = sends_on k.sent (let c = rows_sum done_one t row_stepped s.rows (λ q i e. refl) in omega (arith, c));
       }
 
   pub kept_finished : (u : Under) (x : Record) (end : Finished) (left : ℕ) (d : Deed) → r.under ≡ Some u → u.made ≡ length u.writes → left + end_bytes u.aim ≡ res → IsDoneKept s.sizes end
@@ -164,6 +170,10 @@ module _ (s : State) (f : Bool) (o res : ℕ) (k : IsKept s f o res) (t : Txn) (
             let m = k.few g in
             let n = few_taken d0 s.waiting g in
             omega (arith, p, q, m, n));
+        sent = sends_on k.sent
+            (let p = rows_one done_one t (row_finished end) s.rows r k.distinct at_row in
+            let q : done_one (row_finished end r) ≡ done_one r + 1 = length-append r.finished (end ∷ []) in
+            omega (arith, p, q));
       }
 
   -- an inverse ends
@@ -194,6 +204,10 @@ module _ (s : State) (f : Bool) (o res : ℕ) (k : IsKept s f o res) (t : Txn) (
             let m = k.few g in
             let n = more_taken d0 s.waiting g in
             omega (arith, p, q, m, n));
+        sent = sends_on k.sent
+            (let p = rows_one done_one t row_taken_back s.rows r k.distinct at_row in
+            let q : done_one (row_taken_back r) ≤ done_one r = (let h = length-front r.finished in omega (arith, h)) in
+            omega (arith, p, q));
       }
 
   -- a transaction is turned to abort
@@ -212,6 +226,7 @@ module _ (s : State) (f : Bool) (o res : ℕ) (k : IsKept s f o res) (t : Txn) (
         rows = changed_rows row_aborting (length s.records + owed_by (change_row t row_aborting s.rows)) (λ q. refl) (omega (arith, a)) (record { mine = row.mine; low = row.low; high = row.high; number = (let n = row.number in omega (arith, n, a)); done = row.done; under = row.under });
         senders = k.senders;
         few = λ g. (let c = rows_sum done_one t row_aborting s.rows (λ q i e. refl) in let d = k.few g in omega (arith, c, d));
+        sent = sends_on k.sent (let c = rows_sum done_one t row_aborting s.rows (λ q i e. refl) in omega (arith, c));
       }
 
   -- an abort ends
@@ -232,10 +247,11 @@ module _ (s : State) (f : Bool) (o res : ℕ) (k : IsKept s f o res) (t : Txn) (
         rows = λ q i. row_more s.sizes s.incarnation s.begins s.begins (total_of s) (length (x ∷ s.records) + owed_by (without_row t s.rows)) q (omega arith) (omega (arith, a, c)) (k.rows q (gone t s.rows q i).0);
         senders = k.senders;
         few = λ g. (let p = rows_without done_one t s.rows r k.distinct at_row in let m = k.few g in omega (arith, p, m));
+        sent = sends_on k.sent (let p = rows_without done_one t s.rows r k.distinct at_row in omega (arith, p));
       }
 
   pub kept_committed : (x : Record) (ends : HeldEnds) (cells : ℕ) → r.under ≡ None → total_of s + 1 ≤ 2 ^ 50
-      → IsKept (record s { rows = without_row t s.rows; ends = ends; records = x ∷ s.records; cells_in_use = cells; waiting = with_sends r.finished s.waiting }) f o res
+      → IsKept (record s { rows = without_row t s.rows; ends = ends; records = x ∷ s.records; cells_in_use = cells; waiting = with_sends r.finished s.waiting; sent = with_tags r.finished s.sent }) f o res
   kept_committed x ends cells none fits =
       let a = rows_without owed_one t s.rows r k.distinct at_row in
       let b = rows_without room_one t s.rows r k.distinct at_row in
@@ -251,6 +267,7 @@ module _ (s : State) (f : Bool) (o res : ℕ) (k : IsKept s f o res) (t : Txn) (
         rows = λ q i. row_more s.sizes s.incarnation s.begins s.begins (total_of s) (length (x ∷ s.records) + owed_by (without_row t s.rows)) q (omega arith) (omega (arith, a, c)) (k.rows q (gone t s.rows q i).0);
         senders = length-with_sends r.finished s.waiting ∙ k.senders;
         few = λ g. (let p = rows_without done_one t s.rows r k.distinct at_row in let m = k.few g in let n = few_sends r.finished s.waiting g in omega (arith, p, m, n));
+        sent = sends_more r.finished s.sent k.sent (let p = rows_without done_one t s.rows r k.distinct at_row in omega (arith, p));
       }
 
 -- what a device did, and whether it failed, is all that changed
@@ -265,8 +282,9 @@ kept_device s f g o res left forced failed log k same room fails = record {
   rows = λ r i. subst (λ (l : List Record). IsRowKept s.sizes s.incarnation s.begins (length l + owed_by s.rows) r) (sym same) (k.rows r i);
   senders = k.senders;
   few = λ g. subst (λ (l : List Record). waits s.waiting g + sum_by done_one s.rows ≤ length l) (sym same) (k.few g);
+  sent = subst (λ (l : List Record). AreSendsKept s.sizes (length l) (sum_by done_one s.rows) s.sent) (sym same) k.sent;
 }
 
 -- the ends are of no account to it, nor is room that was taken and given back
 pub kept_back : (s : State) (f : Bool) (o res left : ℕ) (ends : HeldEnds) → IsKept s f o res → left ≡ res → IsKept (record s { ends = ends }) f o left
-kept_back s f o res left ends k e = record { incarnation = k.incarnation; fails = k.fails; owes = k.owes; room = (let a = k.room in omega (arith, a, e)); count = k.count; distinct = k.distinct; rows = k.rows; senders = k.senders; few = k.few }
+kept_back s f o res left ends k e = record { incarnation = k.incarnation; fails = k.fails; owes = k.owes; room = (let a = k.room in omega (arith, a, e)); count = k.count; distinct = k.distinct; rows = k.rows; senders = k.senders; few = k.few; sent = k.sent }

@@ -1,6 +1,7 @@
 pub mod Opened
 pub mod Passing
 pub mod Waits
+pub mod Tags
 pub mod Keeping
 pub mod Refusals
 pub mod Standing

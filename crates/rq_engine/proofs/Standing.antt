@@ -28,6 +28,9 @@ use Rattle.rq_level.specs.declared.writes.SlotWrite.{SlotWrite}
 use Rattle.rq_txn.specs.declared.Aim.{Aim}
 use Rattle.rq_txn.specs.declared.Aim.TheVariants.{Doing}
 use Rattle.rq_txn.specs.Rows.{Row, Under, change_row, deed_of, found_row, row_finished, row_started, row_stepped, without_row}
+use Rattle.rq_groups.specs.Sent.{SentBy, sent_count, sent_tag}
+use Rattle.rq_model.specs.Content.{tag_after}
+use Rattle.rq_sound.specs.Calls.{sends_for}
 use Rattle.rq_groups.specs.Ends.{is_free_for, released, with_held}
 use Rattle.rq_groups.specs.Waiting.{waits}
 use Rattle.rq_store.specs.Fitting.{left_by}
@@ -93,12 +96,13 @@ finish_steps s k t r u d ws at_row under aim made waited running =
     at_own s t r (λ q. Steps s (Finish q u.number) (gave_done d) (record s { rows = change_row q (row_finished (record { lsn = length s.records + 1; deed = d })) s.rows; records = op_end q u.number d ∷ s.records; waiting = ws })) at_row
     (λ e. deed_steps.finishes s r u d ws k running (record { at_row = e; under = under; aim_is = aim; made = made }) waited)
 
-pub commit_steps : (s : State) (k : IsSound s) (t : Txn) (r : Row) (cells : ℕ) (ws : List ℕ) → found_row t s.rows ≡ Some r → r.under ≡ None → r.aborting ≡ false → cells + takes_all r ≡ s.cells_in_use
-    → ((g : ℕ) → g < sender_count s.sizes → waits ws g ≡ waits s.waiting g + sends_in g r) → s.failed ≡ false → log_full (ledger_of s) 1 ≡ false
-    → Steps s (Commit t) (Gave_commit (record { txn = t; lsn = length s.records + 1 })) (record s { rows = without_row t s.rows; ends = record { sending = released t s.ends.sending; receiving = released t s.ends.receiving }; records = records.Commit t ∷ s.records; cells_in_use = cells; waiting = ws })
-commit_steps s k t r cells ws at_row idle forward freed waited running room =
-    at_own s t r (λ q. Steps s (Commit q) (Gave_commit (record { txn = q; lsn = length s.records + 1 })) (record s { rows = without_row q s.rows; ends = record { sending = released q s.ends.sending; receiving = released q s.ends.receiving }; records = records.Commit q ∷ s.records; cells_in_use = cells; waiting = ws })) at_row
-    (λ e. deed_steps.commits s r cells ws k running (record { idle = record { at_row = e; idle = idle }; forward = forward; freed = freed; waits = waited }) room)
+pub commit_steps : (s : State) (k : IsSound s) (t : Txn) (r : Row) (cells : ℕ) (ws : List ℕ) (ss : SentBy) → found_row t s.rows ≡ Some r → r.under ≡ None → r.aborting ≡ false → cells + takes_all r ≡ s.cells_in_use
+    → ((g : ℕ) → g < sender_count s.sizes → waits ws g ≡ waits s.waiting g + sends_in g r) → ((g : ℕ) → g < sender_count s.sizes → sent_count ss g ≡ sent_count s.sent g + sends_in g r)
+    → ((g : ℕ) → g < sender_count s.sizes → sent_tag ss g ≡ tag_after (sent_tag s.sent g) (sends_for g r)) → s.failed ≡ false → log_full (ledger_of s) 1 ≡ false
+    → Steps s (Commit t) (Gave_commit (record { txn = t; lsn = length s.records + 1 })) (record s { rows = without_row t s.rows; ends = record { sending = released t s.ends.sending; receiving = released t s.ends.receiving }; records = records.Commit t ∷ s.records; cells_in_use = cells; waiting = ws; sent = ss })
+commit_steps s k t r cells ws ss at_row idle forward freed waited counted tagged running room =
+    at_own s t r (λ q. Steps s (Commit q) (Gave_commit (record { txn = q; lsn = length s.records + 1 })) (record s { rows = without_row q s.rows; ends = record { sending = released q s.ends.sending; receiving = released q s.ends.receiving }; records = records.Commit q ∷ s.records; cells_in_use = cells; waiting = ws; sent = ss })) at_row
+    (λ e. deed_steps.commits s r cells ws ss k running (record { idle = record { at_row = e; idle = idle }; forward = forward; freed = freed; waits = waited; counts = counted; tags = tagged }) room)
 
 -- what is planned on pages that nobody has latched
 module _ (s : State) (k : IsSound s) (r : Row) (u : Under) (at_row : found_row r.txn s.rows ≡ Some r) (idle : r.under ≡ None) (free : AreUnlatched s u.writes) (number : u.number ≡ r.number + 1) where

@@ -17,7 +17,7 @@ use Rattle.rq_views.specs.Plans.{deed_sender}
 use Rattle.rq_engine.specs.Moves.{with_sent, with_sends, with_taken, without_taken}
 
 -- how many messages the deed sends for g
-abbrev sent_one : ℕ → Deed → ℕ
+abbrev pub sent_one : ℕ → Deed → ℕ
 sent_one g d = length (filter_map (sent_for g) (op_of (said d) ∷ []))
 
 length-with_sent : (d : Deed) (ws : List ℕ) → length (with_sent d ws) ≡ length ws
@@ -42,7 +42,7 @@ waits-with_sent (Append s n tag previous body) ws g m = elim (cases_eq g s) [
 waits-with_sent (UnlinkHead s n tag body) ws g m = omega arith
 waits-with_sent (Close s) ws g m = omega arith
 
-sent_more : (g : ℕ) (f : Finished) (fs : List Finished) → length (filter_map (sent_for g) (map op_done (f ∷ fs))) ≡ sent_one g f.deed + length (filter_map (sent_for g) (map op_done fs))
+pub sent_more : (g : ℕ) (f : Finished) (fs : List Finished) → length (filter_map (sent_for g) (map op_done (f ∷ fs))) ≡ sent_one g f.deed + length (filter_map (sent_for g) (map op_done fs))
 sent_more g f fs = one g f.deed where
   one : (g : ℕ) (d : Deed) → length (filter_map (sent_for g) (op_of (said d) ∷ map op_done fs)) ≡ sent_one g d + length (filter_map (sent_for g) (map op_done fs))
   one g (Append s n tag previous body) = elim (cases_Bool (nat_eq s g)) [ inl y ↦ rw y (omega arith) | inr n ↦ rw n (omega arith) ]

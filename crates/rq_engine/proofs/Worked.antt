@@ -18,7 +18,7 @@ use Rattle.rq_store.specs.Fitting.{image_in}
 use Rattle.rq_store.specs.Opening.{opened}
 use Rattle.rq_sound.specs.Sound.{IsSound}
 use Rattle.rq_store.specs.Worked.{AreFormatted}
-use Rattle.rq_store.proofs.WorkedSound.{sound}
+use Rattle.rq_store.proofs.WorkedSound.{sound, sends}
 use Rattle.rq_sound.proofs.Instance.{instance_sound}
 use Rattle.rq_engine.specs.Crash.{IsCut}
 use Rattle.rq_engine.specs.Devices.{EachPair, Path}
@@ -41,7 +41,7 @@ as_it_is s k told = record {
 -- so of one that was just formatted and opened
 opened_cut : (z : Sizes) (images : List (List ℕ)) → IsInRange z → AreFormatted z images
     → IsCut (opened z images []) (image_in images) (spelled (opened z images []).records)
-opened_cut z images range h = as_it_is (opened z images []) (instance_sound (opened z images []) (sound z images range h)) ((omega arith, omega arith), tt)
+opened_cut z images range h = as_it_is (opened z images []) (instance_sound (opened z images []) (sound z images range h) (sends z images range h)) ((omega arith, omega arith), tt)
 
 -- bytes with no record in them are the log of none
 no_records : (log : List Record) → AreSpelled log → length (spelled log) < 4 → log ≡ []

@@ -12,6 +12,7 @@ use Rattle.rq_txn.specs.declared.Aim.{Aim}
 use Rattle.rq_txn.specs.declared.Aim.TheVariants.{Doing, Undoing}
 use Rattle.rq_txn.specs.declared.Finished.{Finished}
 use Rattle.rq_txn.specs.Rows.{Row, Under, AreDistinct, deed_of}
+use Rattle.rq_groups.specs.Sent.{SentBy, sent_count}
 use Rattle.rq_groups.specs.Waiting.{waits}
 use Rattle.rq_store.specs.State.{State, owed_by}
 
@@ -67,6 +68,13 @@ total_of s = length s.records + owed_by s.rows
 abbrev pub done_one : Row → ℕ
 done_one r = length r.finished
 
+-- A number and a tag is kept of each sender; no sender has more committed messages, with those that open transactions may
+-- have sent, than there are records.
+pub record AreSendsKept (z : Sizes) (records done : ℕ) (sent : SentBy) : Type 0 where
+  pub counts : length sent.counts ≡ sender_count z
+  pub tags : length sent.tags ≡ sender_count z
+  pub few : (g : ℕ) → sent_count sent g + done ≤ records
+
 -- The room in the log for what operations under way have yet to log is reserved, and no more, and with it the log is
 -- not over its greatest length. No more messages wait, with those that open transactions may have sent, than there are
 -- records.
@@ -80,6 +88,7 @@ pub record IsKept (s : State) (failed : Bool) (owed reserved : ℕ) : Type 0 whe
   pub rows : (r : Row) → In r s.rows → IsRowKept s.sizes s.incarnation s.begins (total_of s) r
   pub senders : length s.waiting ≡ sender_count s.sizes
   pub few : (g : ℕ) → waits s.waiting g + sum_by done_one s.rows ≤ length s.records
+  pub sent : AreSendsKept s.sizes (length s.records) (sum_by done_one s.rows) s.sent
 
 -- and when its log was last forced, a crash would have left that log alone
 pub record IsEngine {L : Type 0} (g : log_device.Ghosts L) (s : State) (log : Logged L) (owed : ℕ) : Type 0 where

@@ -13,6 +13,8 @@ use Rattle.rq_groups.specs.declared.End.{End}
 use Rattle.rq_groups.specs.declared.End.TheVariants.{Sending, Receiving}
 use Rattle.rq_groups.specs.Ends.{is_free_for, released}
 use Rattle.rq_groups.specs.Sides.{with_end}
+use Rattle.rq_groups.specs.declared.sent.LastTag.{LastTag}
+use Rattle.rq_groups.specs.Sent.{sent_count, sent_tag}
 use Rattle.rq_groups.specs.Waiting.{waits}
 use Rattle.rq_txn.specs.declared.Finished.{Finished}
 use Rattle.rq_txn.specs.declared.Aim.TheVariants.{Doing}
@@ -24,7 +26,7 @@ use Rattle.rq_store.specs.Steps.{op_end, gave_done}
 use Rattle.rq_engine.specs.Aborts.{IsAborted, IsAborting, IsUndone, UndoSays}
 use Rattle.rq_engine.specs.Closes.{IsClosePlan}
 use Rattle.rq_engine.specs.Answers.{IsUnderWay, IsMade, HasNothingUnderWay}
-use Rattle.rq_engine.specs.Moves.{with_sends, without_taken}
+use Rattle.rq_engine.specs.Moves.{with_sends, with_tags, without_taken}
 use Rattle.rq_engine.specs.Says.{outcome_of, receipt_of}
 use Rattle.rq_engine.specs.declared.event.CommitNo.{CommitNo}
 use Rattle.rq_engine.specs.declared.event.Event.{Event}
@@ -115,7 +117,7 @@ abbrev pub done_by : State → Txn → List Finished
 done_by s t = finished_of (found_row t s.rows)
 
 -- A transaction with nothing under way was committed: its record is the newest, its row and its ends are gone, what it
--- sent waits, and the cells of what it took are free.
+-- sent waits and is counted, the last with its tag, and the cells of what it took are free.
 pub record IsCommitted (old : State) (t : Txn) (number : CommitNo) (new : State) : Type 0 where
   pub txn : number.txn ≡ t
   pub lsn : number.lsn ≡ length old.records + 1
@@ -126,6 +128,7 @@ pub record IsCommitted (old : State) (t : Txn) (number : CommitNo) (new : State)
     records = Commit t ∷ old.records;
     cells_in_use = old.cells_in_use - sum_by takes_one (done_by old t);
     waiting = with_sends (done_by old t) old.waiting;
+    sent = with_tags (done_by old t) old.sent;
   }
 
 -- a receipt is given where the commit is of this incarnation and its record is forced
@@ -133,6 +136,13 @@ abbrev pub AcknowledgedSays : State → CommitNo → Option Receipt → State �
 AcknowledgedSays old number given new =
     (receipt_of given ≡ receipt (nat_eq number.txn.incarnation old.incarnation && not (nat_lt old.forced number.lsn))
     number.txn number.lsn) × (new ≡ old)
+
+-- the sender is one of the store; how many messages of it are committed, and the tag of the last one
+pub record LastTagSays (old : State) (sender : ℕ) (last : LastTag) (new : State) : Type 0 where
+  pub of_the_store : sender < sender_count old.sizes
+  pub sent : last.sent ≡ sent_count old.sent sender
+  pub tag : last.tag ≡ sent_tag old.sent sender
+  pub lists : new ≡ old
 
 -- what each reply says that its event made of the lists; of a refusal another clause tells
 abbrev pub AfterBegin : State → Reply → State → Type 0
@@ -213,6 +223,11 @@ AfterWritePage old (reply.Written w) new = new ≡ old
 AfterWritePage old (reply.Refused r) new = Unit {0}
 AfterWritePage old _ new = ⊥
 
+abbrev pub AfterLastTag : State → ℕ → Reply → State → Type 0
+AfterLastTag old sender (reply.LastTag last) new = LastTagSays old sender last new
+AfterLastTag old sender (reply.Refused r) new = Unit {0}
+AfterLastTag old sender _ new = ⊥
+
 abbrev pub AfterContent : State → Reply → State → Type 0
 AfterContent old (reply.Content groups) new = new ≡ old
 AfterContent old (reply.Refused r) new = Unit {0}
@@ -235,4 +250,5 @@ ListsSay old (event.Acknowledged number) r new = AfterAcknowledged old number r 
 ListsSay old event.HandOver r new = AfterHandOver old r new
 ListsSay old event.Force r new = AfterForce old r new
 ListsSay old (event.WritePage page) r new = AfterWritePage old r new
+ListsSay old (event.LastTag sender) r new = AfterLastTag old sender r new
 ListsSay old event.Content r new = AfterContent old r new

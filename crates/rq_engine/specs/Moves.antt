@@ -1,9 +1,10 @@
--- What sends and takes make of what waits.
+-- What sends and takes make of what waits, and of what each sender has sent.
 use Rattle.std.specs.Prelude.{ℕ, List, [], ◌∷◌}
 use Rattle.rq_model.specs.declared.record.Deed.{Deed}
 use Rattle.rq_model.specs.declared.record.Deed.TheVariants.{Append, UnlinkHead}
 use Rattle.rq_txn.specs.declared.Finished.{Finished}
 use Rattle.rq_groups.specs.Waiting.{more_waiting, fewer_waiting}
+use Rattle.rq_groups.specs.Sent.{SentBy, with_one_more}
 
 -- a message that was sent waits
 abbrev pub with_sent : Deed → List ℕ → List ℕ
@@ -14,6 +15,16 @@ with_sent _ ws = ws
 abbrev pub with_sends : List Finished → List ℕ → List ℕ
 with_sends [] ws = ws
 with_sends (f ∷ fs) ws = with_sends fs (with_sent f.deed ws)
+
+-- a message that was sent is its sender's last one
+abbrev pub with_tag : Deed → SentBy → SentBy
+with_tag (Append s n tag previous body) sent = with_one_more s tag sent
+with_tag _ sent = sent
+
+-- so is the last of those that these operations sent for it
+abbrev pub with_tags : List Finished → SentBy → SentBy
+with_tags [] sent = sent
+with_tags (f ∷ fs) sent = with_tags fs (with_tag f.deed sent)
 
 -- a message that was taken waits no more
 abbrev pub without_taken : Deed → List ℕ → List ℕ

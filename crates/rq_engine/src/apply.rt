@@ -142,6 +142,10 @@ impl<P: PageDevice, L: LogDevice> Engine<P, L> {
                 Ok(written) => Reply::Written(written),
                 Err(refusal) => Reply::Refused(refusal),
             },
+            Event::LastTag(sender) => match self.last_tag(*sender) {
+                Ok(last) => Reply::LastTag(last),
+                Err(refusal) => Reply::Refused(refusal),
+            },
             Event::Content => match self.content() {
                 Ok(groups) => Reply::Content(groups),
                 Err(refusal) => Reply::Refused(refusal),

@@ -11,6 +11,7 @@ ghost use Rattle.rq_log.specs.Spelled.{spelled, AreSpelled, IsBeginning};
 ghost use Rattle.rq_record.specs.Spelling.{IsInRange, spelling};
 ghost use Rattle.rq_txn.specs.Rows.{found_row, fresh_row, without_row};
 ghost use Rattle.rq_page.specs.Sizes.{sender_count};
+ghost use Rattle.rq_groups.specs.Sent.{sent_count};
 ghost use Rattle.rq_groups.specs.Waiting.{waits};
 ghost use Rattle.rq_sound.specs.Sound.{IsSound};
 ghost use Rattle.rq_engine.specs.Opened.{LeavesDevices, NotWritten};
@@ -20,9 +21,9 @@ ghost use Rattle.rq_engine.specs.Lists.{IsBegun, IsCommitted};
 ghost use Rattle.rq_engine.specs.Says.{commit_number, receipt_of};
 
 use crate::event::{CommitNo, Receipt};
-use crate::moves::{add_sends, count_takes};
+use crate::moves::{add_sends, count_sends, count_takes};
 use rq_disk::{LogDevice, PageDevice};
-use rq_groups::{Ends, Waiting};
+use rq_groups::{Ends, Sent, Waiting};
 use rq_log::Log;
 use rq_model::limits::LOG_LIMIT;
 use rq_model::record::Record;
@@ -52,6 +53,8 @@ pub struct Engine<P: PageDevice, L: LogDevice> {
     pub(crate) cells_in_use: u64,
     /// By sender, the committed messages that nobody has taken.
     pub(crate) waiting: Waiting,
+    /// By sender, how many messages are committed, and the tag of the last one.
+    pub(crate) sent: Sent,
     /// The records that operations under way have yet to log.
     pub(crate) owed: u64,
 }
@@ -75,6 +78,7 @@ impl<P: PageDevice, L: LogDevice> Model for Engine<P, L> {
         begins = e.begins;
         cells_in_use = e.cells_in_use;
         waiting = e.waiting;
+        sent = e.sent;
       };
       pages = e.pages.device;
       log = e.log.device;
@@ -93,6 +97,7 @@ impl<P: PageDevice, L: LogDevice> Model for Engine<P, L> {
       begins = e.begins;
       cells_in_use = e.cells_in_use;
       waiting = e.waiting;
+      sent = e.sent;
     }) e.log e.owed };
 }
 
@@ -103,6 +108,7 @@ impl<P: PageDevice + Drop, L: LogDevice + Drop> Engine<P, L> {
         pages: Pages<P>,
         log: Log<L>,
         waiting: Waiting,
+        sent: Sent,
         incarnation: u64,
         cells_in_use: u64,
     ) -> Self
@@ -113,6 +119,9 @@ impl<P: PageDevice + Drop, L: LogDevice + Drop> Engine<P, L> {
         requires durable { WasDurable L.LogDevice log }
         requires senders { length waiting ≡ sender_count pages.sizes }
         requires few { (g : ℕ) → waits waiting g ≤ length log.records }
+        requires counts { length sent.counts ≡ sender_count pages.sizes }
+        requires tags { length sent.tags ≡ sender_count pages.sizes }
+        requires few_sent { (g : ℕ) → sent_count sent g ≤ length log.records }
         ensures { result ≡ record {
           state = record {
             sizes = pages.sizes;
@@ -126,6 +135,7 @@ impl<P: PageDevice + Drop, L: LogDevice + Drop> Engine<P, L> {
             begins = 0;
             cells_in_use = cells_in_use;
             waiting = waiting;
+            sent = sent;
           };
           pages = pages.device;
           log = log.device;
@@ -143,6 +153,7 @@ impl<P: PageDevice + Drop, L: LogDevice + Drop> Engine<P, L> {
             begins: 0,
             cells_in_use,
             waiting,
+            sent,
             owed: 0,
         }
     }
@@ -163,6 +174,7 @@ impl<P: PageDevice + Drop, L: LogDevice + Drop> Engine<P, L> {
             begins: _,
             cells_in_use: _,
             waiting: _,
+            sent: _,
             owed: _,
         } = self;
         (pages.give_back(), log.give_back())
@@ -225,7 +237,7 @@ impl<P: PageDevice, L: LogDevice> Engine<P, L> {
     }
 
     /// Commits a transaction: writes its Commit record, releases its ends and ends it. What it sent waits from then on,
-    /// and the cells of what it took are free. The commit is durable once that record is forced.
+    /// and counts as sent, and the cells of what it took are free. The commit is durable once that record is forced.
     ///
     /// # Errors
     /// `Failed`, `UnknownTransaction`, `NotOpen`, `Unfinished`, `LogFull`, `NoMemory`.
@@ -249,6 +261,7 @@ impl<P: PageDevice, L: LogDevice> Engine<P, L> {
         let lsn = self.log.append(&commit);
         let finished = self.transactions.finished(txn);
         add_sends(&mut self.waiting, finished);
+        count_sends(&mut self.sent, finished);
         self.cells_in_use = self.cells_in_use.saturating_sub(count_takes(finished));
         self.ends.release(txn);
         self.transactions.end(txn);

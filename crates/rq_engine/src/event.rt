@@ -2,6 +2,7 @@
 ghost use Rattle.std.specs.Prelude.{◌≡◌};
 
 pub use rq_content::GroupContent;
+pub use rq_groups::LastTag;
 use rq_model::message::Message;
 use rq_model::refusal::Refusal;
 use rq_model::txn::{Lsn, Sub, Txn};
@@ -109,6 +110,7 @@ pub enum Event {
     HandOver,
     Force,
     WritePage(u32),
+    LastTag(u32),
     Content,
 }
 
@@ -141,6 +143,8 @@ pub enum Reply {
     Forced(Lsn),
     /// What was done for the page.
     Written(Written),
+    /// What the sender's committed sends come to.
+    LastTag(LastTag),
     /// The committed content, by sender.
     Content(Vec<GroupContent>),
     /// The call was refused.

@@ -7,6 +7,7 @@ mod cells;
 mod closes;
 pub mod engine;
 pub mod event;
+mod last;
 mod moves;
 mod operations;
 mod pages;

@@ -1,12 +1,13 @@
 //! What finished operations sent and took.
 ghost use Rattle.std.specs.Prelude.{◌≡◌, ◌+◌, ◌<◌, ◌^◌, ℕ, length};
 ghost use Rattle.std.specs.List.{sum_by};
+ghost use Rattle.rq_groups.specs.Sent.{sent_count};
 ghost use Rattle.rq_groups.specs.Waiting.{waits};
 ghost use Rattle.rq_store.specs.Sound.{takes_one};
 ghost use Rattle.rq_views.specs.Claims.{appends_of};
-ghost use Rattle.rq_engine.specs.Moves.{with_sends, with_taken, without_taken};
+ghost use Rattle.rq_engine.specs.Moves.{with_sends, with_taken, with_tags, without_taken};
 
-use rq_groups::Waiting;
+use rq_groups::{Sent, Waiting};
 use rq_model::record::Deed;
 use rq_txn::Finished;
 
@@ -18,6 +19,18 @@ pub(crate) fn add_sends(waiting: &mut Waiting, finished: &[Finished])
     for done in finished {
         if let Deed::Append { sender, .. } = &done.deed {
             waiting.add(*sender, 1);
+        }
+    }
+}
+
+/// Counts the messages that these operations sent, and keeps the tag of each sender's last one.
+pub(crate) fn count_sends(sent: &mut Sent, finished: &[Finished])
+    requires room { (s : ℕ) → sent_count sent.old s + length finished.now < 2 ^ 64 }
+    ensures { sent.new ≡ with_tags finished.now sent.old }
+{
+    for done in finished {
+        if let Deed::Append { sender, tag, .. } = &done.deed {
+            sent.add(*sender, *tag);
         }
     }
 }

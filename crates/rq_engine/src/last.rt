@@ -1,0 +1,32 @@
+//! What a sender's committed sends come to.
+ghost use Rattle.std.specs.Prelude.{◌≡◌, ◌↔◌, ◌⊎◌, true, Err, IfErr, IfOk};
+ghost use Rattle.rq_model.specs.History.Call.{Last_tag};
+ghost use Rattle.rq_model.specs.Replay.Reply.{Gave_tag};
+ghost use Rattle.rq_engine.specs.Answers.{AnswersLegally};
+ghost use Rattle.rq_engine.specs.Lists.{LastTagSays};
+
+use crate::engine::Engine;
+use crate::event::LastTag;
+use rq_disk::{LogDevice, PageDevice};
+use rq_model::refusal::Refusal;
+
+impl<P: PageDevice, L: LogDevice> Engine<P, L> {
+    /// How many messages of the sender are committed, and the tag of the last one. Neither memory nor a device is
+    /// asked.
+    ///
+    /// # Errors
+    /// `Failed`, `UnknownSender`.
+    pub fn last_tag(&self, sender: u32) -> Result<LastTag, Refusal>
+        ensures answered { AnswersLegally P.PageDevice L.LogDevice self.now (Last_tag sender)
+            (λ last. Gave_tag last.sent last.tag) result self.now }
+        ensures lists { IfOk result (λ last. LastTagSays self.now.state sender last self.now.state) }
+        ensures failed { (result ≡ Err Refusal.Failed) ↔ (self.now.state.failed ≡ true) }
+        ensures refusal { IfErr result (λ r. (r ≡ Refusal.Failed) ⊎ (r ≡ Refusal.UnknownSender)) }
+    {
+        self.check_running()?;
+        if sender >= self.pages.layout().senders() {
+            return Err(Refusal::UnknownSender);
+        }
+        Ok(self.sent.last_tag(sender))
+    }
+}
