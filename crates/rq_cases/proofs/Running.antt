@@ -14,7 +14,8 @@ use Rattle.rq_views.specs.Log.{Slots, Write}
 use Rattle.rq_views.specs.WorkedItems.{cell, t1, t2, takes}
 use Rattle.rq_views.specs.Stored.{slots_in, count_used}
 use Rattle.rq_txn.specs.Rows.{fresh_row}
-use Rattle.rq_store.specs.Opening.{messages_told, opened}
+use Rattle.rq_store.specs.Opening.{messages_told, opened, sent_told, tag_told}
+use Rattle.rq_groups.specs.Sent.{SentBy}
 use Rattle.rq_store.specs.Plans.{IsSendPlan, IsTakePlan}
 use Rattle.rq_store.specs.Sound.{IsSound}
 use Rattle.rq_store.specs.State.{State}
@@ -50,10 +51,20 @@ waiting_of q = map (λ s. messages_told (q (directory_at s))) (below 15)
 first_waiting : waiting_of (slots_in sizes formatted_pages) ≡ waits_of_0 0
 first_waiting = ap waiting_of first_slots
 
+abbrev sent_of : Slots → SentBy
+sent_of q = record {
+  counts = map (λ s. sent_told (q (directory_at s))) (below 15);
+  tags = map (λ s. tag_told (q (directory_at s))) (below 15);
+}
+
+first_sent : sent_of (slots_in sizes formatted_pages) ≡ fresh.sent
+first_sent = ap sent_of first_slots
+
 first_is : first_state ≡ fresh
 first_is =
     ap (λ (n : ℕ). record first_state { cells_in_use = n }) first_cells
     ∙ ap (λ (ws : List ℕ). record first_state { cells_in_use = 0; waiting = ws }) first_waiting
+    ∙ ap (λ (sent : SentBy). record first_state { cells_in_use = 0; waiting = waits_of_0 0; sent = sent }) first_sent
 
 pub fresh_sound : IsSound fresh
 fresh_sound = subst IsSound first_is first_sound

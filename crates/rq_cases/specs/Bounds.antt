@@ -23,7 +23,7 @@ use Rattle.rq_store.specs.State.{State, ledger_of, size_of}
 use Rattle.rq_sound.specs.Steps.{Steps}
 use Rattle.rq_engine.specs.Kept.{IsKept, total_of}
 use Rattle.rq_engine.specs.Lists.{done_by}
-use Rattle.rq_engine.specs.Moves.{with_sends}
+use Rattle.rq_engine.specs.Moves.{with_sends, with_tags}
 use Rattle.rq_engine.specs.Opened.{OpenStore}
 use Rattle.rq_engine.specs.declared.event.CommitNo.{CommitNo}
 use Rattle.rq_engine.specs.declared.event.Event.TheVariants as event
@@ -65,6 +65,7 @@ one_committed n = record (one_begun n) {
   records = Commit_record (only_one n) ∷ (one_begun n).records;
   cells_in_use = (one_begun n).cells_in_use - sum_by takes_one (done_by (one_begun n) (only_one n));
   waiting = with_sends (done_by (one_begun n) (only_one n)) (one_begun n).waiting;
+  sent = with_tags (done_by (one_begun n) (only_one n)) (one_begun n).sent;
 }
 
 -- its commit is answered

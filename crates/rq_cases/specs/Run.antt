@@ -100,7 +100,12 @@ lists rows ends images records forced begins cells waits = record {
   begins = begins;
   cells_in_use = cells;
   waiting = waits_of_0 waits;
+  sent = record { counts = replicate 15 0; tags = replicate 15 0 };
 }
+
+-- the message of sender 0 is committed
+abbrev pub one_sent : State → State
+one_sent s = record s { sent = record { counts = 1 ∷ replicate 14 0; tags = 7 ∷ replicate 14 0 } }
 
 -- it was just opened; 1.1 is begun, its send is started, one slot and then the other is written, the send is finished
 abbrev pub fresh : State
@@ -123,26 +128,26 @@ sent = lists (done_row t1 did_send ∷ []) sends_to_0 sent_pages log_4 1 1 1 0
 
 -- 1.1 is committed, and the log is forced
 abbrev pub committed : State
-committed = lists [] no_ends sent_pages log_5 1 1 1 1
+committed = one_sent (lists [] no_ends sent_pages log_5 1 1 1 1)
 
 abbrev pub forced : State
-forced = lists [] no_ends sent_pages log_5 5 1 1 1
+forced = one_sent (lists [] no_ends sent_pages log_5 5 1 1 1)
 
 -- 1.2 is begun, its receive is started, its slots are written, it is finished; 1.2 is committed
 abbrev pub begun_again : State
-begun_again = lists (fresh_row t2 ∷ []) no_ends sent_pages log_5 5 2 1 1
+begun_again = one_sent (lists (fresh_row t2 ∷ []) no_ends sent_pages log_5 5 2 1 1)
 
 abbrev pub take_started : State
-take_started = lists (busy_row t2 (take_under 0) ∷ []) takes_from_0 sent_pages log_5 5 2 1 1
+take_started = one_sent (lists (busy_row t2 (take_under 0) ∷ []) takes_from_0 sent_pages log_5 5 2 1 1)
 
 abbrev pub cell_freed : State
-cell_freed = lists (busy_row t2 (take_under 1) ∷ []) takes_from_0 freed_pages log_6 5 2 1 1
+cell_freed = one_sent (lists (busy_row t2 (take_under 1) ∷ []) takes_from_0 freed_pages log_6 5 2 1 1)
 
 abbrev pub take_counted : State
-take_counted = lists (busy_row t2 (take_under 2) ∷ []) takes_from_0 taken_pages log_7 5 2 1 1
+take_counted = one_sent (lists (busy_row t2 (take_under 2) ∷ []) takes_from_0 taken_pages log_7 5 2 1 1)
 
 abbrev pub taken : State
-taken = lists (done_row t2 did_take ∷ []) takes_from_0 taken_pages log_8 5 2 1 0
+taken = one_sent (lists (done_row t2 did_take ∷ []) takes_from_0 taken_pages log_8 5 2 1 0)
 
 abbrev pub all_committed : State
-all_committed = lists [] no_ends taken_pages log_9 5 2 0 0
+all_committed = one_sent (lists [] no_ends taken_pages log_9 5 2 0 0)

@@ -21,7 +21,7 @@ use Rattle.rq_store.specs.Opening.{FitsUpTo, IsCounted, opened, next_restart, Is
 use Rattle.rq_store.specs.Fitting.{FitsPage, AllFit, image_in, oldest}
 use Rattle.rq_store.proofs.Fitting.{oldest_all}
 use Rattle.rq_store.proofs.Cutting.{all_fit_longer, no_more_fit}
-use Rattle.rq_store.proofs.Opening.{opened_sound}
+use Rattle.rq_store.proofs.Opening.{opened_sound, sends_here}
 use Rattle.rq_sound.proofs.Instance.{instance_sound}
 use Rattle.rq_store.proofs.Redoing.{redone_slots}
 use Rattle.rq_store.proofs.Bounds.{fits_counted}
@@ -97,6 +97,7 @@ module _ (older : List Record) (xs : List Record) (same : older ≡ reverse xs) 
       let none_lost : lost older ≡ [] = sym (noted_working z older left.whole.legal left.whole.reads) ∙ ap (λ (n : Analysis). n.working) (sym noted_is) ∙ ended.1 in
       instance_sound (opened z images older) (opened_sound z images older pool.range left.whole none_unfinished none_lost (redone_slots z older images left.whole.in_store fits)
       (record { superblock = pool.superblock; headers = pool.headers; pages = λ p low high. (fits p low high).fits }))
+      (sends_here z images older pool.range left.whole none_unfinished none_lost (redone_slots z older images left.whole.in_store fits))
 
   pub shut_is : (z : Sizes) (image : ℕ → List ℕ) (e : Refusal) (last before now : ℕ) → last ≡ h.incarnation → (untouched : Type 0) → BeginsNot e (length older) last before now untouched → MayBeShut (IsLeft z image older) older e before now
   shut_is z image why.NoMemory last before now is untouched b = b.0

@@ -3,6 +3,7 @@ use Rattle.std.specs.Prelude.{◌≡◌, ◌⊎◌, ℕ, ◌+◌, ◌%◌, ◌^�
 use Rattle.rq_model.specs.declared.record.Record.{Record}
 use Rattle.rq_model.specs.declared.refusal.Refusal.{Refusal}
 use Rattle.rq_model.specs.declared.refusal.Refusal.TheVariants as why
+use Rattle.rq_groups.specs.Sent.{SentBy, sent_count}
 use Rattle.rq_groups.specs.Waiting.{waits}
 use Rattle.rq_page.specs.Sizes.{Sizes, page_count, sender_count}
 use Rattle.rq_model.specs.Incarnations.{incarnation_of}
@@ -16,7 +17,7 @@ use Rattle.rq_log.specs.Scanned as log_read
 use Rattle.rq_log.specs.Logged.{Logged, WasDurable}
 use Rattle.rq_log.specs.Crash.{LeavesOnly}
 use Rattle.rq_log.specs.Spelled.{spelled, AreSpelled}
-use Rattle.rq_store.specs.Opening.{IsLeft, next_restart, waiting_in}
+use Rattle.rq_store.specs.Opening.{IsLeft, next_restart, sent_in_slots, waiting_in}
 use Rattle.rq_restart.specs.Repeating.{Paged}
 use Rattle.rq_restart.specs.Checked.{IsEnded, IsGoneThrough, as_read}
 use Rattle.rq_restart.specs.Refused.{WhyShut, IsFirstFault}
@@ -66,11 +67,15 @@ pub record IsReady {L : Type 0} (g : log_device.Ghosts L) (incarnation : ℕ) (l
   pub durable : g.honest log.device → Only (spelled log.records) (g.may_leave log.device)
   pub settled : WasDurable g log
 
--- by sender, how many messages wait, as the directory tells: no more than there are records
-pub record AreWaiting (z : Sizes) (images : List (List ℕ)) (count : ℕ) (waiting : List ℕ) : Type 0 where
+-- by sender, how many messages wait and what its sends come to, as the directory tells: no more than there are records
+pub record AreTold (z : Sizes) (images : List (List ℕ)) (count : ℕ) (waiting : List ℕ) (sent : SentBy) : Type 0 where
   pub told : waiting ≡ waiting_in z images
   pub senders : length waiting ≡ sender_count z
   pub few : (g : ℕ) → waits waiting g ≤ count
+  pub told_sent : sent ≡ sent_in_slots z images
+  pub counts : length sent.counts ≡ sender_count z
+  pub tags : length sent.tags ≡ sender_count z
+  pub few_sent : (g : ℕ) → sent_count sent g ≤ count
 
 -- bytes of a log in which everything has ended, with the record that begins the next incarnation behind
 pub record IsBegunOn (read bytes : List ℕ) : Type 0 where

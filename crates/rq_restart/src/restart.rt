@@ -19,17 +19,16 @@ ghost use Rattle.rq_store.specs.Fitting.{AllFit, image_in};
 ghost use Rattle.rq_engine.specs.Crash.{AreFit};
 ghost use Rattle.rq_engine.specs.Opened.{pooled};
 ghost use Rattle.rq_restart.specs.Repeating.{paged};
-ghost use Rattle.rq_restart.specs.Restarting.{IsReadAs, IsLeftOn, IsReady, AreWaiting, IsBegun, Reports, Stops, WasLeftOrIs, BeginsAtMost, LogStops, IsRefusedFor, WasChecked};
+ghost use Rattle.rq_restart.specs.Restarting.{IsReadAs, IsLeftOn, IsReady, AreTold, IsBegun, Reports, Stops, WasLeftOrIs, BeginsAtMost, LogStops, IsRefusedFor, WasChecked};
 ghost use Rattle.rq_restart.specs.Refused.{BeginsNot, MayBeShut, WhyShut};
 ghost use Rattle.rq_restart.specs.Checked.{IsEnded, IsGoneThrough};
 ghost use Rattle.rq_engine.specs.Devices.{Path, EachPair};
 ghost use Rattle.rq_restart.specs.Underway.{OfStores, IsLeftOrGoesOn, pages_left, log_left};
 
 use crate::redo::{first_fault, miscounted_page, repeat_history};
-use crate::waiting::count_waiting;
+use crate::waiting::{Told, told_groups};
 use rq_disk::{LogDevice, PageDevice};
 use rq_engine::engine::Engine;
-use rq_groups::Waiting;
 use rq_log::{Log, Scan};
 use rq_model::limits::LOG_LIMIT;
 use rq_model::record::Record;
@@ -59,7 +58,7 @@ struct Opened<P: PageDevice, L: LogDevice> {
     log: Log<L>,
     // How many cells hold a message.
     cells: u32,
-    waiting: Waiting,
+    told: Told,
     report: Report,
 }
 
@@ -169,14 +168,15 @@ fn reopen<P: PageDevice + Drop, L: LogDevice + Drop>(
         pages,
         log,
         cells,
-        waiting,
+        told,
         report,
     } = open(alloc, pages, log)?;
     let engine = Engine::open(
         alloc,
         pages,
         log,
-        waiting,
+        told.waiting,
+        told.sent,
         report.incarnation,
         u64::from(cells),
     );
@@ -198,8 +198,8 @@ fn open<P: PageDevice + Drop, L: LogDevice + Drop>(
         → IsSuperblock opened.pages.sizes (P.seen pages 0)) }
     ensures cells { IfOk result (λ opened. opened.cells
         ≡ count_used opened.pages.sizes (slots_in opened.pages.sizes opened.pages.images)) }
-    ensures waiting { IfOk result (λ opened. AreWaiting opened.pages.sizes opened.pages.images
-        (length opened.log.records) opened.waiting) }
+    ensures told { IfOk result (λ opened. AreTold opened.pages.sizes opened.pages.images
+        (length opened.log.records) opened.told.waiting opened.told.sent) }
     ensures sound { IfOk result (λ o. (older : List Record) → IsReadAs L.LogDevice log o.log.device older
         → IsLeftOn P.PageDevice o.pages.sizes pages o.pages.device older
         → IsSound (opened o.pages.sizes o.pages.images older)) }
@@ -251,8 +251,8 @@ fn restart_log<P: PageDevice + Drop, L: LogDevice + Drop>(
     ensures sizes { IfOk result (λ opened. opened.pages.sizes ≡ pages.sizes) }
     ensures cells { IfOk result (λ opened. opened.cells
         ≡ count_used opened.pages.sizes (slots_in opened.pages.sizes opened.pages.images)) }
-    ensures waiting { IfOk result (λ opened. AreWaiting opened.pages.sizes opened.pages.images
-        (length opened.log.records) opened.waiting) }
+    ensures told { IfOk result (λ opened. AreTold opened.pages.sizes opened.pages.images
+        (length opened.log.records) opened.told.waiting opened.told.sent) }
     ensures sound { IfOk result (λ o. (older : List Record) → IsReadAs L.LogDevice log o.log.device older
         → IsLeft pages.sizes (image_in pages.images) older → IsSound (opened pages.sizes o.pages.images older)) }
     // What an engine may be opened over.
@@ -278,13 +278,13 @@ fn restart_log<P: PageDevice + Drop, L: LogDevice + Drop>(
     let Scan { records, log } = Log::scan(alloc, log);
     match log {
         Ok(mut log) => match go_on(alloc, &mut pages, &mut log, &records) {
-            Ok((waiting, report)) => {
+            Ok((told, report)) => {
                 let cells = pages.used_cells();
                 Ok(Opened {
                     pages,
                     log,
                     cells,
-                    waiting,
+                    told,
                     report,
                 })
             }
@@ -307,13 +307,13 @@ fn restart_log<P: PageDevice + Drop, L: LogDevice + Drop>(
 }
 
 // Goes through the log, whose records these are, and begins the next incarnation. The pages are as it says then. Gives
-// how many messages wait, too.
+// what its directory tells, too.
 fn go_on<P: PageDevice + Drop, L: LogDevice + Drop>(
     alloc: Global,
     pages: &mut Pages<P>,
     log: &mut Log<L>,
     records: &[Record],
-) -> Result<(Waiting, Report), Refusal>
+) -> Result<(Told, Report), Refusal>
     requires records { log.old.records ≡ reverse records.now }
     requires running { log.old.failed ≡ false }
     // What the log comes to.
@@ -323,8 +323,8 @@ fn go_on<P: PageDevice + Drop, L: LogDevice + Drop>(
         begun.1.unfinished begun.1.lost) }
     ensures sound { OnOk result (IsLeft pages.old.sizes (image_in pages.old.images) log.old.records
         → IsSound (opened pages.old.sizes pages.new.images log.old.records)) }
-    ensures waiting { IfOk result (λ begun. AreWaiting pages.new.sizes pages.new.images
-        (length log.new.records) begun.0) }
+    ensures told { IfOk result (λ begun. AreTold pages.new.sizes pages.new.images
+        (length log.new.records) begun.0.waiting begun.0.sent) }
     ensures ready { IfOk result (λ begun. IsReady L.LogDevice begun.1.incarnation log.new) }
     // What is left of both devices.
     ensures pages { pages.new.device ≡ pages.old.device }
@@ -357,9 +357,9 @@ fn go_on<P: PageDevice + Drop, L: LogDevice + Drop>(
     if !history.is_settled() {
         return Err(Refusal::Unfinished);
     }
-    let waiting = count_waiting(alloc, pages)?;
+    let told = told_groups(alloc, pages)?;
     match begin_incarnation(log, history.incarnation()) {
-        Ok(report) => Ok((waiting, report)),
+        Ok(report) => Ok((told, report)),
         Err(refusal) => Err(refusal),
     }
 }

@@ -1,25 +1,39 @@
-//! Counting the messages that wait in a store in which nothing is open.
+//! What the directory of a store in which nothing is open tells of each sender: what waits, and what it sent.
 ghost use Rattle.std.specs.Prelude.{◌≡◌, IfOk};
-ghost use Rattle.rq_store.specs.Opening.{waiting_in};
+ghost use Rattle.rq_store.specs.Opening.{sent_in_slots, waiting_in};
 
 use rq_disk::PageDevice;
-use rq_groups::Waiting;
+use rq_groups::{LastTag, Sent, Waiting};
 use rq_model::refusal::NoMemory;
 use rq_pool::Pages;
 use std::alloc::Global;
 
-/// By sender, how many messages wait: those that were sent and not received, as the directory tells.
-pub(crate) fn count_waiting<P: PageDevice + Drop>(
+/// By sender, how many messages wait, and what its sends come to.
+#[derive(Drop)]
+pub(crate) struct Told {
+    pub waiting: Waiting,
+    pub sent: Sent,
+}
+
+/// What the directory tells: of each sender those messages wait that were sent and not received.
+pub(crate) fn told_groups<P: PageDevice + Drop>(
     alloc: Global,
     pages: &Pages<P>,
-) -> Result<Waiting, NoMemory>
-    ensures { IfOk result (λ waiting. waiting ≡ waiting_in pages.now.sizes pages.now.images) }
+) -> Result<Told, NoMemory>
+    ensures waiting { IfOk result (λ told. told.waiting ≡ waiting_in pages.now.sizes pages.now.images) }
+    ensures sent { IfOk result (λ told. told.sent ≡ sent_in_slots pages.now.sizes pages.now.images) }
 {
     let senders = pages.layout().senders();
     let mut waiting = Waiting::new(alloc, senders)?;
+    let mut sent = Sent::new(alloc, senders)?;
     for sender in 0..senders {
         let group = pages.group(sender);
         waiting.add(sender, group.sent.saturating_sub(group.received));
+        let last = LastTag {
+            sent: group.sent,
+            tag: group.last_tag,
+        };
+        sent.set(sender, last);
     }
-    Ok(waiting)
+    Ok(Told { waiting, sent })
 }

@@ -190,6 +190,7 @@ impl Script {
             Command::Ack(txn) => self.ack(txn),
             Command::Force => self.ask(Event::Force),
             Command::Write(page) => self.ask(Event::WritePage(page)),
+            Command::Last(sender) => self.ask(Event::LastTag(sender)),
             Command::Dump => self.ask(Event::Content),
             Command::Fail(_) | Command::Crash(..) | Command::Restart => {
                 Reply::Refused(Refusal::Failed)

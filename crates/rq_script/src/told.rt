@@ -1,5 +1,5 @@
 //! What a command came to, and the line that says so.
-use rq_engine::event::{GroupContent, Outcome, Progress, Reply, Written};
+use rq_engine::event::{GroupContent, LastTag, Outcome, Progress, Reply, Written};
 use rq_model::message::Message;
 use rq_model::refusal::Refusal;
 use rq_model::txn::Sub;
@@ -83,6 +83,7 @@ fn print_reply(output: &mut Vec<u8>, reply: &Reply) -> io::Result<()> {
         Reply::Forced(lsn) => print_number(output, "forced", *lsn),
         Reply::Written(Written::Done) => print_word(output, "written"),
         Reply::Written(Written::Nothing) => print_word(output, "nothing"),
+        Reply::LastTag(last) => print_last(output, *last),
         Reply::Content(groups) => print_content(output, groups),
         Reply::Refused(refusal) => print_refusal(output, *refusal),
     }
@@ -119,6 +120,13 @@ fn print_message(output: &mut Vec<u8>, message: &Message) -> io::Result<()> {
         print_body(output, message)?;
     }
     end_line(output)
+}
+
+// `last 2 7`
+fn print_last(output: &mut Vec<u8>, last: LastTag) -> io::Result<()> {
+    let sent = last.sent;
+    let tag = last.tag;
+    writeln!(output, "last {sent} {tag}")
 }
 
 // A line for each sender with a committed send or close.

@@ -321,6 +321,7 @@ fn copy_of(alloc: Global, reply: &Reply) -> Result<Reply, AllocError>
         Reply::HandedOver => Reply::HandedOver,
         Reply::Forced(lsn) => Reply::Forced(*lsn),
         Reply::Written(written) => Reply::Written(*written),
+        Reply::LastTag(last) => Reply::LastTag(*last),
         Reply::Content(groups) => Reply::Content(copy_of_groups(alloc, groups)?),
         Reply::Refused(refusal) => Reply::Refused(*refusal),
     })

@@ -57,6 +57,7 @@ pub(crate) fn same_event(event: &Event, other: &Event) -> bool
         (Event::HandOver, Event::HandOver) => true,
         (Event::Force, Event::Force) => true,
         (Event::WritePage(page), Event::WritePage(other)) => *page == *other,
+        (Event::LastTag(sender), Event::LastTag(other)) => *sender == *other,
         (Event::Content, Event::Content) => true,
         _ => false,
     }
@@ -79,6 +80,7 @@ pub(crate) fn same_reply(reply: &Reply, other: &Reply) -> bool
         (Reply::HandedOver, Reply::HandedOver) => true,
         (Reply::Forced(lsn), Reply::Forced(other)) => *lsn == *other,
         (Reply::Written(written), Reply::Written(other)) => *written == *other,
+        (Reply::LastTag(last), Reply::LastTag(other)) => *last == *other,
         (Reply::Content(groups), Reply::Content(other)) => same_groups(groups, other),
         (Reply::Refused(refusal), Reply::Refused(other)) => *refusal == *other,
         _ => false,

@@ -300,6 +300,7 @@ fn ask_lists_once(queue: &mut Reference, event: &Event) -> Result<Answer, Refusa
         | Event::StartClose { .. }
         | Event::UndoNext(_)
         | Event::EndAbort(_)
+        | Event::LastTag(_)
         | Event::WritePage(_) => Ok(Answer::Unlisted),
     }
 }
@@ -332,7 +333,7 @@ fn answer_of(reply: &Reply) -> Answer {
         Reply::Forced(lsn) => Answer::Forced(*lsn),
         Reply::Aborting => Answer::Aborting,
         Reply::NoMessage | Reply::NothingLeft | Reply::Aborted => Answer::Other,
-        Reply::Written(_) => Answer::Other,
+        Reply::Written(_) | Reply::LastTag(_) => Answer::Other,
         Reply::Content(_) => Answer::Content,
         Reply::Refused(refusal) => Answer::Refused(*refusal),
     }

@@ -246,6 +246,7 @@ impl Chains {
             Event::EndAbort(txn) => self.end_abort(*txn),
             Event::Force => Ok(self.force()),
             Event::WritePage(page) => self.write(*page),
+            Event::LastTag(_) => Ok(Told::Other),
             Event::Content => Ok(Told::Content),
             Event::Acknowledged(_) | Event::HandOver => Ok(Told::Other),
         }

@@ -194,9 +194,46 @@ fn written_pages_that_a_crash_took_back_are_made_again(rt: HostRuntime) -> Resul
     check(
         &rt,
         1,
-        "begin\nsend 1.1 0 7 a\ncommit 1.1\nforce\nwrite 1\nwrite 2\ncrash 0 old\nrestart\ndump\n",
-        "begun 1.1\nsent\ncommit 5\nforced 5\nwritten\nwritten\ncrashed 5\nrestarted 2 unfinished 0 lost 0\n0 open sent 1 received 0: a\n",
+        "begin\nsend 1.1 0 7 a\ncommit 1.1\nforce\nwrite 1\nwrite 2\ncrash 0 old\nrestart\ndump\nlast 0\nlast 1\nlast 15\n",
+        "begun 1.1\nsent\ncommit 5\nforced 5\nwritten\nwritten\ncrashed 5\nrestarted 2 unfinished 0 lost 0\n0 open sent 1 received 0: a\nlast 1 7\nlast 0 0\nrefused 7 UnknownSender\n",
         0,
+    )
+}
+
+// Only what is committed counts, and a message that was taken counts still.
+#[test]
+fn the_last_tag_is_that_of_the_last_committed_send(rt: HostRuntime) -> Result<(), Fail> {
+    check_to_its_end(
+        &rt,
+        1,
+        1,
+        &[
+            ("last 0", "last 0 0"),
+            ("begin", "begun 1.1"),
+            ("begin", "begun 1.2"),
+            ("begin", "begun 1.3"),
+            ("send 1.1 0 7 a", "sent"),
+            ("send 1.1 0 18446744073709551615 b", "sent"),
+            ("send 1.1 2 5 c", "sent"),
+            ("last 0", "last 0 0"),
+            ("commit 1.1", "commit 12"),
+            ("last 0", "last 2 18446744073709551615"),
+            ("last 1", "last 0 0"),
+            ("last 2", "last 1 5"),
+            ("send 1.2 0 9 d", "sent"),
+            ("recv-from 1.3 0", "msg 0 7 a"),
+            ("last 0", "last 2 18446744073709551615"),
+            ("abort 1.2", "aborted"),
+            ("commit 1.3", "commit 26"),
+            ("last 0", "last 2 18446744073709551615"),
+            ("last 4294967295", "refused 7 UnknownSender"),
+            ("fail force", "armed"),
+            ("force", "refused 15 DiskWrite"),
+            ("last 0", "refused 2 Failed"),
+            ("last 15", "refused 2 Failed"),
+            ("last", "fault line 24"),
+        ],
+        1,
     )
 }
 

@@ -1,5 +1,5 @@
 //! What a call answers, as a plain value.
-use rq_engine::event::{CommitNo, Outcome, Progress, Reply, Written};
+use rq_engine::event::{CommitNo, LastTag, Outcome, Progress, Reply, Written};
 use rq_model::message::Message;
 use rq_model::refusal::Refusal;
 use rq_model::txn::{Lsn, Sub, Txn};
@@ -23,6 +23,7 @@ pub enum Told {
     Forced(Lsn),
     Written,
     NotWritten,
+    Last(LastTag),
     Content,
     Refused(Refusal),
     /// What no call of these tests answers.
@@ -45,6 +46,7 @@ pub fn told_by(reply: &Reply) -> Told {
         Reply::Forced(lsn) => Told::Forced(*lsn),
         Reply::Written(Written::Done) => Told::Written,
         Reply::Written(Written::Nothing) => Told::NotWritten,
+        Reply::LastTag(last) => Told::Last(*last),
         Reply::Content(_) => Told::Content,
         Reply::Refused(refusal) => Told::Refused(*refusal),
         _ => Told::Other,

@@ -74,6 +74,7 @@ pub(crate) fn heard_in(reply: &Reply) -> Heard
         Reply::HandedOver => Heard::Other,
         Reply::Forced(_) => Heard::Other,
         Reply::Written(_) => Heard::Other,
+        Reply::LastTag(_) => Heard::Other,
         Reply::Content(_) => Heard::Other,
         Reply::Refused(refusal) => Heard::Refused(*refusal),
     }

@@ -122,6 +122,7 @@ fn is_start(event: &Event) -> bool
         Event::HandOver => false,
         Event::Force => false,
         Event::WritePage(_) => false,
+        Event::LastTag(_) => false,
         Event::Content => false,
     }
 }

@@ -196,7 +196,7 @@ impl Drawing {
     }
 
     fn other_call(&mut self) -> Result<Event, AllocError> {
-        Ok(match self.random.below(26) {
+        Ok(match self.random.below(27) {
             0..3 => self.begin(),
             3..8 => self.send()?,
             8..18 if self.fills => self.send()?,
@@ -218,6 +218,7 @@ impl Drawing {
             24 => Event::StartAbort(self.txn()),
             25 if self.random.is_first_of(2) => Event::UndoNext(self.txn()),
             25 => Event::EndAbort(self.txn()),
+            26 => Event::LastTag(self.sender()),
             _ => Event::Commit(self.txn()),
         })
     }

@@ -2,7 +2,7 @@
 use crate::disk::{CELLS, DIRECTORY, Disk, Record};
 use crate::told::Told;
 use rq_core::happening::{Choice, Happening};
-use rq_engine::event::{Event, GroupContent};
+use rq_engine::event::{Event, GroupContent, LastTag};
 use rq_model::message::{Body, Message};
 use rq_model::reference::rows::{Act, CommittedTxn};
 use rq_model::refusal::Refusal;
@@ -232,6 +232,11 @@ impl Lists {
             } else {
                 Told::NotWritten
             }),
+            Event::LastTag(sender) if *sender >= SENDERS => Err(Refusal::UnknownSender),
+            Event::LastTag(sender) => Ok(Told::Last(LastTag {
+                sent: self.sent(*sender) as u64,
+                tag: self.last_tag(*sender),
+            })),
             Event::Content if self.is_busy() => Err(Refusal::Unfinished),
             Event::Content => Ok(Told::Content),
         }
@@ -675,13 +680,17 @@ impl Lists {
         true
     }
 
+    // The tag of the last message that a committed transaction sent for a sender, 0 where there is none.
+    fn last_tag(&self, sender: u32) -> u64 {
+        match self.nth_sent(sender, self.sent(sender).saturating_sub(1)) {
+            Some(message) => message.tag,
+            None => 0,
+        }
+    }
+
     fn is_group(&self, group: &GroupContent, sender: u32) -> bool {
         let sent = self.sent(sender);
         let received = self.received(sender);
-        let last_tag = match self.nth_sent(sender, sent.saturating_sub(1)) {
-            Some(message) => message.tag,
-            None => 0,
-        };
         if group.rest.len() != sent.saturating_sub(received) {
             return false;
         }
@@ -693,7 +702,7 @@ impl Lists {
         }
         group.sent == sent as u64
             && group.received == received as u64
-            && group.last_tag == last_tag
+            && group.last_tag == self.last_tag(sender)
             && group.closed == self.is_ended(sender)
     }
 

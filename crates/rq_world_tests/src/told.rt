@@ -1,6 +1,6 @@
 //! What a happening comes to, as a plain value.
 use rq_core::happening::Entry;
-use rq_engine::event::{CommitNo, Outcome, Progress, Receipt, Reply, Written};
+use rq_engine::event::{CommitNo, LastTag, Outcome, Progress, Receipt, Reply, Written};
 use rq_model::message::Message;
 use rq_model::refusal::Refusal;
 use rq_model::txn::{Lsn, Sub, Txn};
@@ -29,6 +29,7 @@ pub enum Told {
     Forced(Lsn),
     Written,
     NotWritten,
+    Last(LastTag),
     Content,
     Refused(Refusal),
     Crashed(u64),
@@ -71,6 +72,7 @@ fn told_by(reply: &Reply) -> Told {
         Reply::Forced(lsn) => Told::Forced(*lsn),
         Reply::Written(Written::Done) => Told::Written,
         Reply::Written(Written::Nothing) => Told::NotWritten,
+        Reply::LastTag(last) => Told::Last(*last),
         Reply::Content(_) => Told::Content,
         Reply::Refused(refusal) => Told::Refused(*refusal),
     }

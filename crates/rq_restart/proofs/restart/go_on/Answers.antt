@@ -5,12 +5,12 @@ use Rattle.rq_page.specs.Sizes.{page_count}
 use Rattle.rq_pool.specs.Pooled.{IsPool}
 use Rattle.rq_store.specs.Opening.{IsCounted}
 use Rattle.rq_store.specs.Fitting.{image_in}
-use Rattle.rq_restart.specs.Restarting.{AreWaiting}
+use Rattle.rq_restart.specs.Restarting.{AreTold}
 use Rattle.rq_restart.specs.Refused.{WhyShut}
 use Rattle.rq_restart.specs.Repeating.{paged}
 use Rattle.rq_restart.proofs.Moments.{begun_moment}
 use Rattle.rq_restart.proofs.Restarts.{one_more, last_is, begun_is, ended_is, ended_not, shut_for, repeated_order, stops_shut, beyond_read, beyond_then, gone_is, settled_left, sound_is, shut_is, counted_left, counted_redone}
-use Rattle.rq_restart.proofs.Counting.{are_waiting}
+use Rattle.rq_restart.proofs.Counting.{are_told}
 use Rattle.rq_restart.proofs.restart.go_on.Goals as goal
 
 pub returns-in-Some-clause-err : goal.returns-in-Some-clause-err
@@ -53,8 +53,8 @@ returns-in-Ok-clause-sound g c =
     let same = c.in_ok-history.ensures.sizes in
     sound_is c.args.log.now.records c.args.records.now c.requires.records c.in_ok-history.history c.in_ok-history.ensures.ok c.args.pages.now.sizes (image_in c.args.pages.now.images) c.repeat_history.new.pages.images (subst (λ y. IsPool y c.repeat_history.new.pages.images) same c.in_default-miscounted_page.ensures.pool) (c.is_settled.ensures.0 c.if-not-is_settled.false) c.in_ok-history.ensures.redone
 
-pub returns-in-Ok-clause-waiting : goal.returns-in-Ok-clause-waiting
-returns-in-Ok-clause-waiting g c =
+pub returns-in-Ok-clause-told : goal.returns-in-Ok-clause-told
+returns-in-Ok-clause-told g c =
     let z = c.repeat_history.new.pages.sizes in
     let images = c.repeat_history.new.pages.images in
     let count : ℕ = length c.args.records.now in
@@ -63,7 +63,7 @@ returns-in-Ok-clause-waiting g c =
     let older = ap length c.requires.records in
     let reversed = length-reverse c.args.records.now in
     let records : count + 1 ≡ length c.begin_incarnation.new.log.records = omega (arith, longer, older, reversed) in
-    subst (λ n. AreWaiting z images n c.in_ok-waiting.waiting) records (are_waiting z images count c.in_ok-waiting.waiting c.in_ok-waiting.ensures counted)
+    subst (λ n. AreTold z images n c.in_ok-told.told.waiting c.in_ok-told.told.sent) records (are_told z images count c.in_ok-told.told.waiting c.in_ok-told.told.sent c.in_ok-told.ensures.waiting c.in_ok-told.ensures.sent counted)
 
 pub returns-clause-err : goal.returns-clause-err
 returns-clause-err g c =
