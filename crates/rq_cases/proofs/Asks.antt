@@ -67,6 +67,13 @@ asks = record {
   page_written = λ s page w. refl;
   page_written_and_changed = λ s new page w other h. other h;
   page_answered_otherwise = λ s new page lsn h. h;
+  last_told = λ last number tag. record { of_the_store = omega arith; sent = number; tag = tag; lists = refl };
+  last_of_none = λ last number tag. record { of_the_store = omega arith; sent = number; tag = tag; lists = refl };
+  uncommitted_told = λ last new number h. (let e = h.sent in omega (arith, e, number));
+  another_tag_told = λ last new tag h. (let e = h.tag in omega (arith, e, tag));
+  last_of_a_stranger = λ last new h. (let e = h.of_the_store in omega (arith, e));
+  last_told_and_changed = λ s new g last other h. other h.lists;
+  last_answered_otherwise = λ s new g h. h;
   shown = λ s groups. refl;
   shown_and_changed = λ s new groups other h. other h;
   content_answered_otherwise = λ s new h. h;

@@ -30,7 +30,7 @@ use Rattle.rq_level.specs.Writes.{AreSlotWrites}
 use Rattle.rq_txn.specs.declared.Finished.{Finished}
 use Rattle.rq_groups.specs.Waiting.{waits}
 use Rattle.rq_engine.specs.Lists.{done_by}
-use Rattle.rq_engine.specs.Moves.{with_sends}
+use Rattle.rq_engine.specs.Moves.{with_sends, with_tags}
 use Rattle.rq_engine.specs.declared.event.CommitNo.{CommitNo}
 use Rattle.rq_store.specs.Sound.{takes_one}
 use Rattle.rq_txn.specs.Rows.{Row, found_row, fresh_row, finished_of}
@@ -40,10 +40,12 @@ use Rattle.rq_store.specs.State.{State, ledger_of, size_of}
 use Rattle.rq_sound.specs.Steps.{Steps}
 use Rattle.rq_store.specs.Whole.{IsWhole}
 use Rattle.rq_store.proofs.Beginning.{begin_sound}
-use Rattle.rq_store.proofs.Committing.{commit_steps}
 use Rattle.rq_store.proofs.Cutting.{fits_log_longer}
 use Rattle.rq_store.proofs.Formatting.{formatted_fits}
-use Rattle.rq_store.proofs.Opening.{opened_sound, restarted_whole}
+use Rattle.rq_store.proofs.Opening.{opened_sound, restarted_whole, sends_here}
+use Rattle.rq_store.specs.Sends.{KeepsSends}
+use Rattle.rq_groups.specs.Sent.{sent_count, sent_tag}
+use Rattle.rq_sound.proofs.DeedSteps.{deed_steps}
 use Rattle.rq_store.proofs.SendStarts.{start_steps}
 use Rattle.rq_store.proofs.WorkedSound.{whole_empty}
 use Rattle.rq_engine.specs.Kept.{IsKept, IsRowKept}
@@ -76,7 +78,7 @@ use Rattle.rq_cases.proofs.Openings.{formatted_are, only_read}
 use Rattle.rq_cases.proofs.Pages.{are_formatted, cell_told, free_told, new_told, range, sent_told}
 use Rattle.rq_cases.proofs.Restarting.{counted_read, pages_seen_are}
 use Rattle.rq_cases.proofs.Running as one
-use Rattle.rq_cases.proofs.Several.{steps_of}
+use Rattle.rq_cases.proofs.Several.{steps_of, still}
 use Rattle.rq_sound.proofs.Instance.{instance_sound}
 use Rattle.rq_store.specs.Sound as one_sound
 
@@ -132,11 +134,17 @@ open_one n =
     opened_sound sizes formatted_pages (restarts n) range (whole n) (none_unfinished n) (none_lost n)
     (λ a. one.first_sound.pages a ∙ sym (same_slots n a)) (fit n)
 
+-- it keeps that nothing was sent
+kept : (n : ℕ) → KeepsSends sizes (next_restart (restarts n) ∷ restarts n) (just_opened n).sent
+kept n =
+    sends_here sizes formatted_pages (restarts n) range (whole n) (none_unfinished n) (none_lost n)
+    (λ a. one.first_sound.pages a ∙ sym (same_slots n a))
+
 begun_one : (n : ℕ) → one_sound.IsSound (one_begun n)
 begun_one n = begin_sound (just_opened n) (open_one n)
 
 begun_sound : (n : ℕ) → IsSound (one_begun n)
-begun_sound n = instance_sound (one_begun n) (begun_one n)
+begun_sound n = instance_sound (one_begun n) (begun_one n) (still refl (kept n))
 
 -- tests that all pass tell no refusal
 pub none_first : (tests : List (Bool × Refusal)) → NoneHolds tests → first_of tests ≡ None
@@ -194,12 +202,12 @@ module _ (n : ℕ) where
   at_row = rw (same_self t) refl
 
   commits : n + 2 ≤ 2 ^ 50 → (new : State) × Commits n (record { txn = t; lsn = length s.records + 1 }) new
-  commits le = (_, steps_of (commit_steps s (begun_one n) t (fresh_row t) s.cells_in_use s.waiting at_row refl (omega arith) (λ g low. omega arith) refl (commit_free le)))
+  commits le = (_, deed_steps.commits s (fresh_row t) s.cells_in_use s.waiting s.sent (begun_sound n) refl (record { idle = record { at_row = at_row; idle = refl }; forward = refl; freed = omega arith; waits = λ g low. omega arith; counts = λ g low. omega arith; tags = λ g low. refl }) (commit_free le))
 
   sends : n + 5 ≤ 2 ^ 50 → (new : State) × Sends n 1 new
   sends le =
       let none = one.first_cells in
-      (_, steps_of (start_steps s (begun_one n) t (fresh_row t) (send_under 0) 0 7 (104 ∷ []) at_row refl refl one.send_plan refl (omega (arith, none)) (send_passes le)))
+      (_, steps_of (still refl (kept n)) (start_steps s (begun_one n) t (fresh_row t) (send_under 0) 0 7 (104 ∷ []) at_row refl refl one.send_plan refl (omega (arith, none)) (send_passes le)))
 
   send_refused : 2 ^ 50 < n + 5 → IsFullForSend n s
   send_refused le =
@@ -240,9 +248,14 @@ module _ (n : ℕ) where
         let taken : sum_by takes_one (done_by s t) ≡ 0 = ap (sum_by takes_one) none_done in
         let ws : (g : ℕ) → waits (with_sends (done_by s t) s.waiting) g ≡ waits s.waiting g =
         (λ g. ap (λ (fs : List Finished). waits (with_sends fs s.waiting) g) none_done) in
+        let counted : (g : ℕ) → sent_count (with_tags (done_by s t) s.sent) g ≡ sent_count s.sent g =
+        (λ g. ap (λ (fs : List Finished). sent_count (with_tags fs s.sent) g) none_done) in
+        let tagged : (g : ℕ) → sent_tag (with_tags (done_by s t) s.sent) g ≡ sent_tag s.sent g =
+        (λ g. ap (λ (fs : List Finished). sent_tag (with_tags fs s.sent) g) none_done) in
         let made : Commits n (record { txn = t; lsn = length s.records + 1 }) (one_committed n) =
-        steps_of (commit_steps s (begun_one n) t (fresh_row t) (one_committed n).cells_in_use (one_committed n).waiting at_row
-        refl (omega (arith, taken)) (λ g low. (let e = ws g in omega (arith, e))) refl (commit_free le)) in
+        deed_steps.commits s (fresh_row t) (one_committed n).cells_in_use (one_committed n).waiting (one_committed n).sent (begun_sound n) refl
+        (record { idle = record { at_row = at_row; idle = refl }; forward = refl; freed = omega (arith, taken); waits = λ g low. (let e = ws g in omega (arith, e)); counts = λ g low. (let e = counted g in omega (arith, e)); tags = λ g low. tagged g })
+        (commit_free le) in
         let steps : Commits n (commit_number number) (one_committed n) =
         subst (λ (x : Number). Commits n x (one_committed n)) (sym is) made in
         record {

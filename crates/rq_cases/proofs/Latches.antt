@@ -54,7 +54,7 @@ use Rattle.rq_sound.proofs.WorkedCalls.{latches_judged, one_sound}
 use Rattle.rq_sound.proofs.Standings.{directory_latched}
 
 beside_sound : IsSound beside
-beside_sound = instance_sound beside (begin_sound send_started one.start_send.sound)
+beside_sound = instance_sound beside (begin_sound send_started one.start_send.sound) (running.still refl running.nothing_sent)
 
 -- no test tells a refusal
 abbrev first_test : List ℕ → Option Refusal

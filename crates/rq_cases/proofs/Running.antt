@@ -6,6 +6,8 @@ use Rattle.rq_store.specs.Sound.{sends_in}
 use Rattle.rq_store.specs.Steps.{took}
 use Rattle.rq_model.specs.Tests.{below}
 use Rattle.rq_model.specs.History.Call.{Begin, Start_send, Start_receive, Step, Finish, Commit, Force}
+use Rattle.rq_model.specs.History.{Call}
+use Rattle.rq_model.specs.Replay.{Reply}
 use Rattle.rq_model.specs.Replay.Reply.{Gave_txn, Gave_sub, Gave_lsn, Gave_sent, Gave_message, Gave_commit, Gave_forced}
 use Rattle.rq_page.specs.Directories.{new_directory}
 use Rattle.rq_page.specs.Sizes.{directory_at}
@@ -139,9 +141,44 @@ sent_waits : (g : ℕ) → g < 15 → waits (waits_of_0 1) g ≡ waits (waits_of
 sent_waits zero low = refl
 sent_waits (suc g) low = (let e : nat_eq 0 (suc g) ≡ false = grind (arith, nat_tests) in rw e (omega arith))
 
+-- what is kept of each sender's sends is of no account where one operation at most is under way
+keeping : {old new : State} {call : Call} {gave : Reply} (kept : SentBy) → Steps old call gave new → Steps old call gave (record new { sent = kept })
+keeping kept k =
+    let s = k.sound in
+    record {
+      entry = k.entry;
+      says = k.says;
+      legal = k.legal;
+      after = k.after;
+      sound = record {
+        range = s.range;
+        log = s.log;
+        incarnation = s.incarnation;
+        begun = s.begun;
+        some = s.some;
+        strangers = s.strangers;
+        pages = s.pages;
+        fits = s.fits;
+        rows = s.rows;
+        distinct = s.distinct;
+        others = s.others;
+        one_going = s.one_going;
+        sending = s.sending;
+        receiving = s.receiving;
+        cells = s.cells;
+        bound = s.bound;
+        used = s.used;
+        waiting = s.waiting;
+        covered = s.covered;
+        forced = s.forced;
+      };
+      goes_on = k.goes_on;
+      stays_forced = k.stays_forced;
+    }
+
 pub commit_send : Steps sent (Commit t1) (Gave_commit (record { txn = t1; lsn = 5 })) committed
 commit_send =
-    commit_steps sent finish_send.sound t1 (done_row t1 did_send) 1 (waits_of_0 1) refl refl refl sent_waits refl refl
+    keeping committed.sent (commit_steps sent finish_send.sound t1 (done_row t1 did_send) 1 (waits_of_0 1) refl refl refl sent_waits refl refl)
 
 pub force : Steps committed Force (Gave_forced 5) forced
 force = force_steps committed commit_send.sound refl

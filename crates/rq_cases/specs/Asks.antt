@@ -4,13 +4,14 @@ use Rattle.std.specs.declared.alloc.Global.{Global}
 use Rattle.rq_content.specs.declared.GroupContent.{GroupContent}
 use Rattle.rq_views.specs.WorkedItems.{t1}
 use Rattle.rq_pool.specs.declared.Written.{Written}
+use Rattle.rq_groups.specs.declared.sent.LastTag.{LastTag}
 use Rattle.rq_store.specs.State.{State}
 use Rattle.rq_engine.specs.Lists.{ListsSay}
 use Rattle.rq_engine.specs.declared.event.CommitNo.{CommitNo}
 use Rattle.rq_engine.specs.declared.event.Event.TheVariants as event
 use Rattle.rq_engine.specs.declared.event.Receipt.{Receipt}
 use Rattle.rq_engine.specs.declared.event.Reply.TheVariants as reply
-use Rattle.rq_cases.specs.Run.{committed, forced}
+use Rattle.rq_cases.specs.Run.{committed, forced, sent}
 
 -- the commit's receipt is asked for, and this is given
 abbrev pub Acknowledges : State → CommitNo → Option Receipt → State → Type 0
@@ -44,6 +45,21 @@ pub record AsksAreJudged : Type 0 where
       → ListsSay s (event.WritePage page) (reply.Written w) new → ⊥
   pub page_answered_otherwise : (s new : State) (page lsn : ℕ)
       → ListsSay s (event.WritePage page) (reply.Forced lsn) new → ⊥
+  -- what a sender's committed sends come to is told: of the one that sent, of one that did not; never of a send that is not
+  -- committed, nor with another tag, nor of no sender of the store
+  pub last_told : (last : LastTag) → last.sent ≡ 1 → last.tag ≡ 7
+      → ListsSay committed (event.LastTag 0) (reply.LastTag last) committed
+  pub last_of_none : (last : LastTag) → last.sent ≡ 0 → last.tag ≡ 0
+      → ListsSay committed (event.LastTag 1) (reply.LastTag last) committed
+  pub uncommitted_told : (last : LastTag) (new : State) → last.sent ≡ 1
+      → ListsSay sent (event.LastTag 0) (reply.LastTag last) new → ⊥
+  pub another_tag_told : (last : LastTag) (new : State) → last.tag ≡ 8
+      → ListsSay committed (event.LastTag 0) (reply.LastTag last) new → ⊥
+  pub last_of_a_stranger : (last : LastTag) (new : State)
+      → ListsSay committed (event.LastTag 15) (reply.LastTag last) new → ⊥
+  pub last_told_and_changed : (s new : State) (g : ℕ) (last : LastTag) → new ≢ s
+      → ListsSay s (event.LastTag g) (reply.LastTag last) new → ⊥
+  pub last_answered_otherwise : (s new : State) (g : ℕ) → ListsSay s (event.LastTag g) reply.NoMessage new → ⊥
   -- the content is shown
   pub shown : (s : State) (groups : Vec GroupContent Global) → ListsSay s event.Content (reply.Content groups) s
   pub shown_and_changed : (s new : State) (groups : Vec GroupContent Global) → new ≢ s
