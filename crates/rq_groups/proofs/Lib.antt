@@ -1,2 +1,3 @@
+pub mod Flagged
 pub mod Holders
 pub mod Waits

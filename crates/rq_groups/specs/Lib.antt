@@ -1,3 +1,4 @@
 pub mod Ends
+pub mod Flags
 pub mod Waiting
 pub mod Sides
