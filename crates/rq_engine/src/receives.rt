@@ -1,6 +1,5 @@
 //! Receives.
-ghost use Rattle.std.specs.Bool.{OnFalse, OnTrue};
-ghost use Rattle.std.specs.Prelude.{◌≡◌, ◌≢◌, ◌↔◌, Err, ◌⊎◌, ◌+◌, ◌<◌, ◌≤◌, IfOk, IfErr, IfSome, IfNone, None, OnOk, OnErr, ℕ, Some, true, false};
+ghost use Rattle.std.specs.Prelude.{◌≡◌, ◌≢◌, ◌↔◌, Err, ◌⊎◌, ◌+◌, ◌<◌, ◌≤◌, ◌^◌, IfOk, IfErr, IfSome, IfNone, None, OnOk, OnErr, ℕ, Some, true, false};
 ghost use Rattle.rq_model.specs.History.{Call};
 ghost use Rattle.rq_model.specs.History.Call.{Start_receive, Start_receive_from};
 ghost use Rattle.rq_model.specs.Tests.{NoneHolds, log_full, ready_tests};
@@ -142,23 +141,15 @@ impl<P: PageDevice, L: LogDevice> Engine<P, L> {
         }
     }
 
-    // How many senders the store has.
-    fn senders(&self) -> u32
-        ensures { result ≡ sender_count self.now.state.sizes }
+    // The least sender at or after this one of which a message waits that the transaction may take.
+    fn next_waiting(&self, txn: Txn, from: u32) -> Option<u32>
+        ensures waits { IfSome result (λ sender. WaitsFor self.now.state txn sender) }
+        ensures first { IfSome result (λ sender. (from ≤ sender)
+            × ((g : ℕ) → from ≤ g → g < sender → WaitsFor self.now.state txn g → ⊥)) }
+        ensures room { IfSome result (λ sender. sender + 1 < 2 ^ 32) }
+        ensures none { IfNone result ((g : ℕ) → from ≤ g → WaitsFor self.now.state txn g → ⊥) }
     {
-        self.pages.layout().senders()
-    }
-
-    // Whether a message of the sender waits that the transaction may take.
-    fn waits_for(&self, txn: Txn, sender: u32) -> bool
-        requires { sender < sender_count self.now.state.sizes }
-        ensures some { OnTrue result (WaitsFor self.now.state txn sender) }
-        ensures none { OnFalse result (WaitsFor self.now.state txn sender → ⊥) }
-    {
-        if self.waiting.count(sender) == 0 {
-            return false;
-        }
-        self.ends.may_receive(txn, sender)
+        self.waiting.next_for(&self.ends, txn, from)
     }
 
     // A sender of which a message waits for the transaction, with the plan of its receive, and how many bytes its
@@ -178,13 +169,12 @@ impl<P: PageDevice, L: LogDevice> Engine<P, L> {
         ensures plain { IfErr result (λ r. r ≢ Refusal.Failed) }
         ensures refused { IsSound self.now.state → IfErr result (λ r. r ≡ Refusal.NoMemory) }
     {
-        for sender in 0..self.senders() {
-            if !self.waits_for(txn, sender) {
-                continue;
-            }
+        let mut from = 0;
+        while let Some(sender) = self.next_waiting(txn, from) {
             if let Some((plan, room)) = self.plan_take(sender)? {
                 return Ok(Some((sender, plan, room)));
             }
+            from = sender + 1;
         }
         Ok(None)
     }

@@ -1,3 +1,4 @@
+pub mod Flagged
 pub mod Holders
 pub mod Sents
 pub mod Waits

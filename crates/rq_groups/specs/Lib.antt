@@ -1,4 +1,5 @@
 pub mod Ends
+pub mod Flags
 pub mod Waiting
 pub mod Sent
 pub mod Sides

@@ -5,6 +5,7 @@ ghost use Rattle.std.specs.Prelude.{◌≡◌, [], cond, drop, not, IfOk, OnErr,
 ghost use Rattle.rq_groups.specs.Ends.{has_held, is_free_for, with_held, released};
 ghost use Rattle.rq_groups.specs.Sides.{with_end, holds_end, without_newest};
 
+mod index;
 mod sent;
 mod waiting;
 

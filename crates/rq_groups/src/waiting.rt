@@ -1,9 +1,10 @@
 //! How many committed messages of each sender wait to be taken.
-ghost use Rattle.std.specs.Prelude.{◌≡◌, ◌+◌, ◌<◌, ◌≤◌, ◌^◌, ℕ, true, length, IfOk, IfSome, IfNone};
+ghost use Rattle.std.specs.Prelude.{◌≡◌, ◌+◌, ◌<◌, ◌≤◌, ◌^◌, ℕ, true, length, slice_set, IfOk, IfSome, IfNone};
 ghost use Rattle.rq_groups.specs.Ends.{is_free_for};
 ghost use Rattle.rq_groups.specs.Waiting.{waits, more_waiting, fewer_waiting};
 
 use crate::Ends;
+use crate::index::Index;
 use rq_model::refusal::NoMemory;
 use rq_model::txn::Txn;
 use std::alloc::Global;
@@ -14,16 +15,21 @@ use std::marker::Model;
 #[derive(Drop)]
 pub struct Waiting {
     counts: Vec<u64>,
+    // The senders of which a message waits.
+    index: Index,
 }
 
 impl Model for Waiting {
-    ghost use Rattle.std.specs.Prelude.{ℕ, List, length, ◌<◌, ◌^◌};
+    ghost use Rattle.std.specs.Prelude.{ℕ, List, length, ◌*◌, ◌<◌, ◌≤◌, ◌^◌};
+    ghost use Rattle.rq_groups.specs.Flags.{AreFlags};
 
     ghost Value = { List ℕ };
 
     ghost view = { λ w. w.counts.items };
 
-    ghost invariant = { λ w. length w.counts.items < 2 ^ 32 };
+    ghost invariant = { λ w. (length w.counts.items < 2 ^ 32)
+        × (length w.counts.items ≤ 64 * length w.index.flags.items)
+        × AreFlags w.index.flags.items w.counts.items };
 }
 
 impl Waiting {
@@ -35,8 +41,9 @@ impl Waiting {
         ensures senders { IfOk result (λ waiting. length waiting ≡ senders) }
         ensures none { IfOk result (λ waiting. (s : ℕ) → waits waiting s ≡ 0) }
     {
+        let index = Index::new(alloc, senders)?;
         match vec![in alloc; 0; senders as usize] {
-            Ok(counts) => Ok(Waiting { counts }),
+            Ok(counts) => Ok(Waiting { counts, index }),
             Err(_) => Err(NoMemory),
         }
     }
@@ -61,8 +68,10 @@ impl Waiting {
         requires room { waits self.old sender + count < 2 ^ 64 }
         ensures { self.new ≡ more_waiting sender count self.old }
     {
-        if (sender as usize) < self.counts.len() {
-            self.counts[sender as usize] += count;
+        let place = sender as usize;
+        if place < self.counts.len() {
+            let waiting = self.counts[place] + count;
+            self.set(place, waiting);
         }
     }
 
@@ -70,10 +79,51 @@ impl Waiting {
     pub fn take(&mut self, sender: u32)
         ensures { self.new ≡ fewer_waiting sender self.old }
     {
-        if (sender as usize) < self.counts.len() {
-            let count = self.counts[sender as usize];
-            self.counts[sender as usize] = count.saturating_sub(1);
+        let place = sender as usize;
+        if place < self.counts.len() {
+            let waiting = self.counts[place].saturating_sub(1);
+            self.set(place, waiting);
         }
+    }
+
+    // Has so many messages of a sender wait.
+    fn set(&mut self, place: usize, waiting: u64)
+        requires { place < length self.old }
+        ensures { self.new ≡ slice_set self.old place waiting }
+    {
+        self.counts[place] = waiting;
+        self.index.put(place, waiting > 0);
+    }
+
+    /// The least sender at or after this one of which a message waits.
+    pub fn next_with_message(&self, from: u32) -> Option<u32>
+        ensures some { IfSome result (λ s. (from ≤ s) × (s < length self.now) × (1 ≤ waits self.now s)
+            × ((t : ℕ) → from ≤ t → t < s → waits self.now t ≡ 0)) }
+        ensures none { IfNone result ((t : ℕ) → from ≤ t → waits self.now t ≡ 0) }
+        ensures few { length self.now < 2 ^ 32 }
+    {
+        let place = self.index.next(from as usize)?;
+        Some(place as u32)
+    }
+
+    /// The least sender at or after this one of which a message waits, and whose receiving end no other transaction
+    /// holds; none where there is no such sender.
+    pub fn next_for(&self, ends: &Ends, txn: Txn, from: u32) -> Option<u32>
+        ensures some { IfSome result (λ s. (from ≤ s) × (s < length self.now) × (1 ≤ waits self.now s)
+            × (is_free_for txn s ends.now.receiving ≡ true) × ((t : ℕ) → from ≤ t → t < s
+            → is_free_for txn t ends.now.receiving ≡ true → waits self.now t ≡ 0)) }
+        ensures none { IfNone result ((t : ℕ) → from ≤ t → is_free_for txn t ends.now.receiving ≡ true
+            → waits self.now t ≡ 0) }
+        ensures few { length self.now < 2 ^ 32 }
+    {
+        let mut next = from;
+        while let Some(sender) = self.next_with_message(next) {
+            if ends.may_receive(txn, sender) {
+                return Some(sender);
+            }
+            next = sender + 1;
+        }
+        None
     }
 
     /// A sender of which a message waits, and whose receiving end no other transaction holds; none where there
@@ -84,11 +134,6 @@ impl Waiting {
         ensures none { IfNone result ((s : ℕ) → s < length self.now → is_free_for txn s ends.now.receiving ≡ true
             → waits self.now s ≡ 0) }
     {
-        for sender in 0..self.senders() {
-            if self.count(sender) > 0 && ends.may_receive(txn, sender) {
-                return Some(sender);
-            }
-        }
-        None
+        self.next_for(ends, txn, 0)
     }
 }

@@ -1,0 +1,165 @@
+//! A set of places, of which the next one is found without a look at each.
+ghost use Rattle.std.specs.Prelude.{◌≡◌, ◌≢◌, ℕ, ◌+◌, ◌*◌, ◌/◌, ◌<◌, ◌≤◌, ◌^◌, length, slice_index, cond, IfOk};
+ghost use Rattle.std.specs.Int.{bit_at};
+ghost use Rattle.rq_groups.specs.Flags.{flag_at, AreFlags, IsNextFlag, IsNextInWord, OthersStay};
+
+use rq_model::refusal::NoMemory;
+use std::alloc::Global;
+
+/// A set of places below a bound, by a flag for each. Its memory is taken when it is made.
+#[derive(Drop)]
+pub(crate) struct Index {
+    // A flag for each place.
+    flags: Vec<u64>,
+    // A flag for each word of these in which one is set.
+    words: Vec<u64>,
+    ghost room: { length flags.items ≤ 64 * length words.items },
+    ghost few: { length flags.items < 2 ^ 32 },
+    ghost few_words: { length words.items < 2 ^ 32 },
+    ghost summed: { AreFlags words.items flags.items },
+}
+
+impl Index {
+    /// No place, of as many.
+    ///
+    /// # Errors
+    /// `NoMemory`.
+    pub(crate) fn new(alloc: Global, places: u32) -> Result<Index, NoMemory>
+        ensures room { IfOk result (λ index. places ≤ 64 * length index.flags.items) }
+        ensures none { IfOk result (λ index. (k : ℕ) → flag_at index.flags.items k ≡ 0) }
+    {
+        let flags = unset(alloc, places as usize)?;
+        let words = unset(alloc, flags.len())?;
+        Ok(Index { flags, words })
+    }
+
+    /// Has a place in the set, or out of it.
+    pub(crate) fn put(&mut self, place: usize, present: bool)
+        requires { place < 64 * length self.old.flags.items }
+        ensures put { flag_at self.new.flags.items place ≡ cond present 1 0 }
+        ensures others { OthersStay place self.old.flags.items self.new.flags.items }
+        ensures same { length self.new.flags.items ≡ length self.old.flags.items }
+    {
+        if present {
+            self.insert(place);
+        } else {
+            self.remove(place);
+        }
+    }
+
+    // Puts a place in.
+    fn insert(&mut self, place: usize)
+        requires { place < 64 * length self.old.flags.items }
+        ensures set { flag_at self.new.flags.items place ≡ 1 }
+        ensures others { OthersStay place self.old.flags.items self.new.flags.items }
+        ensures same { length self.new.flags.items ≡ length self.old.flags.items }
+    {
+        set_flag(&mut self.flags, place);
+        set_flag(&mut self.words, place / 64);
+    }
+
+    // Takes a place out.
+    fn remove(&mut self, place: usize)
+        requires { place < 64 * length self.old.flags.items }
+        ensures clear { flag_at self.new.flags.items place ≡ 0 }
+        ensures others { OthersStay place self.old.flags.items self.new.flags.items }
+        ensures same { length self.new.flags.items ≡ length self.old.flags.items }
+    {
+        clear_flag(&mut self.flags, place);
+        if self.flags[place / 64] == 0 {
+            clear_flag(&mut self.words, place / 64);
+        }
+    }
+
+    /// The least place of the set at or after this one.
+    pub(crate) fn next(&self, from: usize) -> Option<usize>
+        ensures { IsNextFlag self.now.flags.items from result }
+    {
+        if let Some(place) = next_in_word(&self.flags, from) {
+            return Some(place);
+        }
+        match next_flag(&self.words, from / 64 + 1) {
+            Some(word) => Some(word * 64 + lowest(self.flags[word])),
+            None => None,
+        }
+    }
+}
+
+// Words of flags that are not set, for as many places.
+fn unset(alloc: Global, places: usize) -> Result<Vec<u64>, NoMemory>
+    ensures room { IfOk result (λ words. places < 64 * length words.items) }
+    ensures few { IfOk result (λ words. length words.items ≡ places / 64 + 1) }
+    ensures empty { IfOk result (λ words. (w : ℕ) → slice_index words.items w ≡ 0) }
+    ensures none { IfOk result (λ words. (k : ℕ) → flag_at words.items k ≡ 0) }
+{
+    match vec![in alloc; 0; places / 64 + 1] {
+        Ok(words) => Ok(words),
+        Err(_) => Err(NoMemory),
+    }
+}
+
+// Sets a flag.
+fn set_flag(words: &mut Vec<u64>, place: usize)
+    requires { place < 64 * length words.old.items }
+    ensures set { flag_at words.new.items place ≡ 1 }
+    ensures others { OthersStay place words.old.items words.new.items }
+    ensures apart { (w : ℕ) → w ≢ place / 64 → slice_index words.new.items w ≡ slice_index words.old.items w }
+    ensures same { length words.new.items ≡ length words.old.items }
+{
+    let word = words[place / 64];
+    words[place / 64] = word | 1 << (place % 64);
+}
+
+// Clears a flag.
+fn clear_flag(words: &mut Vec<u64>, place: usize)
+    requires { place < 64 * length words.old.items }
+    ensures clear { flag_at words.new.items place ≡ 0 }
+    ensures others { OthersStay place words.old.items words.new.items }
+    ensures apart { (w : ℕ) → w ≢ place / 64 → slice_index words.new.items w ≡ slice_index words.old.items w }
+    ensures fewer { slice_index words.new.items (place / 64) ≤ slice_index words.old.items (place / 64) }
+    ensures same { length words.new.items ≡ length words.old.items }
+{
+    let word = words[place / 64];
+    words[place / 64] = word & !(1 << (place % 64));
+}
+
+// The least flag that is set at or after this one, in its word.
+fn next_in_word(words: &[u64], from: usize) -> Option<usize>
+    requires { length words.now < 2 ^ 32 }
+    ensures { IsNextInWord words.now from result }
+{
+    if from / 64 >= words.len() {
+        return None;
+    }
+    let rest = words[from / 64] >> (from % 64);
+    if rest == 0 {
+        return None;
+    }
+    Some(from + lowest(rest))
+}
+
+// The least flag that is set at or after this one.
+fn next_flag(words: &[u64], from: usize) -> Option<usize>
+    requires { length words.now < 2 ^ 32 }
+    ensures { IsNextFlag words.now from result }
+{
+    if let Some(place) = next_in_word(words, from) {
+        return Some(place);
+    }
+    for word in from / 64 + 1..words.len() {
+        if words[word] != 0 {
+            return Some(word * 64 + lowest(words[word]));
+        }
+    }
+    None
+}
+
+// The place of the lowest bit that is set.
+fn lowest(word: u64) -> usize
+    requires { 1 ≤ word }
+    ensures within { result < 64 }
+    ensures set { bit_at word result ≡ 1 }
+    ensures first { (i : ℕ) → i < result → bit_at word i ≡ 0 }
+{
+    word.trailing_zeros() as usize
+}
