@@ -1,12 +1,12 @@
 //! The queue as plain lists, with no pages: what an engine is compared with. Its contract is the
 //! definitions: each call is answered as the ledger says.
-ghost use Rattle.std.specs.Prelude.{◌≡◌, ◌<◌, ◌≤◌, IfOk, IfErr, OnErr, OnOk};
+ghost use Rattle.std.specs.Prelude.{◌≡◌, ◌<◌, ◌≤◌, IfOk, IfErr, OnErr, OnOk, map, true};
 ghost use Rattle.rq_model.specs.History.Call.{Begin, Commit, Finish, Show, Step, Acknowledge, Start_abort, End_abort, Hand_over, Force, Last_tag};
 ghost use Rattle.rq_model.specs.History.Entry.{Begun, Shown, Committed, Acknowledged, Aborting, Aborted, Handed_over, Forced, Told, Crash, Restarted};
 ghost use Rattle.rq_model.specs.Ledger.{empty, kept_in};
 ghost use Rattle.rq_model.specs.Ledger.Phase.{Shut};
 ghost use Rattle.rq_model.specs.Legal.{At, IsUpTo};
-ghost use Rattle.rq_model.specs.Reference.{May, MayBeRefused, next, ComesTo, FindsReady, IsUnready, IsBusy, IsIdle, StandsAt, finish_entry, job_of, step_entry};
+ghost use Rattle.rq_model.specs.Reference.{May, MayBeRefused, next, ComesTo, FindsReady, IsUnready, IsBusy, IsIdle, StandsAt, finish_entry, job_of, open_of, step_entry};
 ghost use Rattle.rq_model.specs.declared.refusal.Refusal.TheVariants.{NoMemory};
 
 use crate::limits::TRANSACTION_LIMIT;
@@ -88,6 +88,64 @@ impl Reference {
             records: 0,
             forced: 0,
             durable: 0,
+        }
+    }
+
+    /// The running incarnation; 0 where none has begun.
+    pub fn incarnation(&self) -> u64
+        ensures { result ≡ self.now.ledger.incarnation }
+    {
+        self.incarnation
+    }
+
+    /// How many records the log has.
+    pub fn records(&self) -> u64
+        ensures { result ≡ self.now.ledger.records }
+    {
+        self.records
+    }
+
+    /// How many of them are forced.
+    pub fn forced(&self) -> u64
+        ensures { result ≡ self.now.ledger.forced }
+    {
+        self.forced
+    }
+
+    /// The transactions that have not ended, the newest first.
+    pub fn open_txns(&self) -> &[OpenTxn]
+        ensures { map open_of result.now ≡ self.now.ledger.open_ones }
+    {
+        &self.open_txns
+    }
+
+    /// Whether a restart may open the store in this incarnation, with this many records.
+    pub fn may_restart(&self, incarnation: u64, records: u64) -> bool
+        ensures shut { result ≡ true → self.now.ledger.phase ≡ Shut }
+        ensures newer { result ≡ true → self.now.ledger.incarnation < incarnation }
+        ensures longer { result ≡ true → self.now.ledger.records < records }
+    {
+        if self.running {
+            return false;
+        }
+        if incarnation <= self.incarnation {
+            return false;
+        }
+        records > self.records
+    }
+
+    /// Whether a crash may leave this many records of the log.
+    pub fn may_crash(&self, records: u64) -> bool
+        ensures forced { result ≡ true → self.now.ledger.forced ≤ records }
+        ensures up_to { result ≡ true → IsUpTo self.now.ledger.records self.now.ledger.phase records }
+    {
+        if records < self.forced {
+            return false;
+        }
+        if self.running {
+            records <= self.records
+        } else {
+            true
         }
     }
 
