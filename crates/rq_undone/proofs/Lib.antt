@@ -1,0 +1,4 @@
+pub mod Noting
+mod Lists
+mod Spots
+mod Undos
