@@ -7,7 +7,8 @@ use Rattle.rq_model.specs.Words.{In}
 use Rattle.rq_model.proofs.Lists.{In-filter}
 use Rattle.rq_views.specs.Log.{same_op}
 use Rattle.rq_views.proofs.Overlay.{same_is, same_self}
-use Rattle.rq_undone.specs.Analysis.{Spot, spot_of, has_sub, with_sub, without_sub, without_newest, without_spots}
+use Rattle.rq_undone.specs.declared.history.Spot.{Spot}
+use Rattle.rq_undone.specs.Analysis.{spot_of, has_sub, with_sub, without_sub, without_newest, without_spots}
 use Rattle.rq_undone.specs.Pages.{any_spot}
 
 pub not_not : (b : Bool) → not b ≡ true → b ≡ false

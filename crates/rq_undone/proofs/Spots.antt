@@ -16,7 +16,8 @@ use Rattle.rq_views.specs.Items.{items, item_of, layout_of, operation}
 use Rattle.rq_views.proofs.Overlay.{same_is as op_is, same_self as op_self}
 use Rattle.rq_store.specs.Fitting.{left_by}
 use Rattle.rq_store.specs.Whole.{BeforesAreSlots}
-use Rattle.rq_undone.specs.Analysis.{Spot, spot_of, without_newest, without_spots, analysis}
+use Rattle.rq_undone.specs.declared.history.Spot.{Spot}
+use Rattle.rq_undone.specs.Analysis.{spot_of, without_newest, without_spots, analysis}
 use Rattle.rq_undone.proofs.Lists.{rest, own_newest, own_none, other_newest, other_none, in_newest, in_spots, in_with, with_in, in_without, without_in, op_other}
 
 abbrev pub IsLegal : Sizes → List Record → Type 0

@@ -20,7 +20,8 @@ use Rattle.rq_views.proofs.Overlay.{same_self as op_self}
 use Rattle.rq_store.specs.Fitting.{left_by}
 use Rattle.rq_store.specs.Whole.{IsWhole}
 use Rattle.rq_store.proofs.Opening.{idle_log}
-use Rattle.rq_undone.specs.Analysis.{Spot, Analysis, analysis, spot_of, without_sub, without_spots, without_newest}
+use Rattle.rq_undone.specs.declared.history.Spot.{Spot}
+use Rattle.rq_undone.specs.Analysis.{Analysis, analysis, spot_of, without_sub, without_spots, without_newest}
 use Rattle.rq_undone.specs.Pages.{IsSpent, IsNextUndo, UndoesBehind, IsUndone, void_of, undo_of, work}
 use Rattle.rq_undone.specs.Pages.IsNextUndo.{Voids, Undoes}
 use Rattle.rq_undone.specs.Theorems.{IsUndoneFrom}

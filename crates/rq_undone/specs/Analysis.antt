@@ -9,14 +9,7 @@ use Rattle.rq_model.specs.Words.{same_txn, has_txn}
 use Rattle.rq_views.specs.Log.{same_op}
 use Rattle.rq_views.specs.Items.{operation}
 use Rattle.rq_model.specs.Incarnations.{incarnation_one}
-
--- a slot write that may have to be undone: the LSN of its record, whose it is, and what stood in the slot before
-pub record Spot : Type 0 where
-  pub lsn : ℕ
-  pub by : Sub
-  pub page : ℕ
-  pub slot : ℕ
-  pub before : List ℕ
+use Rattle.rq_undone.specs.declared.history.Spot.{Spot}
 
 -- the incarnation, the operations that wrote a slot and have no end, their writes that are not undone, the newest first,
 -- and the transactions that finished an operation and have no end

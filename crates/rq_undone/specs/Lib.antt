@@ -1,3 +1,4 @@
 pub mod Analysis
 pub mod Pages
+pub mod Least
 pub mod Theorems

@@ -5,7 +5,8 @@ use Rattle.rq_model.specs.declared.txn.Sub.{Sub}
 use Rattle.rq_model.specs.declared.record.Record.{Record}
 use Rattle.rq_model.specs.declared.record.Record.TheVariants.{PageUndo, OpVoid}
 use Rattle.rq_model.specs.Words.{same_txn}
-use Rattle.rq_undone.specs.Analysis.{Spot, Analysis, analysis, has_sub, spot_of}
+use Rattle.rq_undone.specs.declared.history.Spot.{Spot}
+use Rattle.rq_undone.specs.Analysis.{Analysis, analysis, has_sub, spot_of}
 
 -- rising number: by incarnation, then count, then operation
 abbrev pub txn_less : Txn → Txn → Bool

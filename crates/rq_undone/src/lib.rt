@@ -3,7 +3,11 @@
 //! The definitions stand in specs/, the theorems are the contracts of the functions here.
 #![tactic(auto)]
 
+mod history;
+
 ghost use Rattle.rq_undone.specs.Theorems.{UndosKeepLogsWhole, UndoneLogsAreWhole, UnendedAreCounted};
+
+pub use history::{History, Spot};
 
 /// Each record by which an operation without an end is undone leaves a whole log, with less to do.
 pub fn undos_keep_logs_whole()
