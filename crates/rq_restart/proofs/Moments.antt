@@ -10,7 +10,7 @@ use Rattle.rq_log.specs.Logged.{Logged, WasLeftOrGoesOn}
 use Rattle.rq_log.specs.Spelled.{spelled, AreSpelled, GoesOn}
 use Rattle.rq_log.proofs.Moments.{started, weaker, joined}
 use Rattle.rq_store.specs.Opening.{next_restart}
-use Rattle.rq_restart.specs.Analysis.{Analysis, analysis}
+use Rattle.rq_undone.specs.Analysis.{Analysis, analysis}
 use Rattle.rq_restart.proofs.Restarts.{last_is}
 use Rattle.rq_restart.proofs.Parsing.{one_log, AreSpelled-drop}
 use Rattle.rq_restart.specs.Restarting.{IsRead, IsBegunOn, WasLeftOrIs, BeginsAtMost}

@@ -27,7 +27,7 @@ use Rattle.rq_restart.specs.Repeating.{paged}
 use Rattle.rq_engine.specs.Devices.{EachPair, Path}
 use Rattle.rq_restart.specs.Underway.{IsSomeStore, IsLeftOrGoesOn, pages_left, log_left}
 use Rattle.rq_engine.specs.Devices.Path.{Start, Pages, Log}
-use Rattle.rq_restart.proofs.Noting.{noted_unfinished, noted_working, pairs_of}
+use Rattle.rq_undone.proofs.Noting.{noted_unfinished, noted_working, pairs_of}
 use Rattle.rq_restart.proofs.Parsing.{one_log}
 
 -- in a legal log that has ended, no operation is unfinished and no transaction lost

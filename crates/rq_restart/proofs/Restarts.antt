@@ -25,12 +25,12 @@ use Rattle.rq_store.proofs.Opening.{opened_sound}
 use Rattle.rq_sound.proofs.Instance.{instance_sound}
 use Rattle.rq_store.proofs.Redoing.{redone_slots}
 use Rattle.rq_store.proofs.Bounds.{fits_counted}
-use Rattle.rq_restart.specs.Analysis.{Analysis, analysis}
+use Rattle.rq_undone.specs.Analysis.{Analysis, analysis}
 use Rattle.rq_restart.specs.Restarting.{IsBegun, LogStops, IsRefusedFor, WasChecked}
 use Rattle.rq_restart.specs.Refused.{BeginsNot, MayBeShut, StopsAt, WhyShut}
 use Rattle.rq_restart.specs.Checked.{IsEnded, IsGoneThrough, IsBeyond, as_read}
 use Rattle.rq_restart.specs.Repeating.{Paged, paged, Repeats, AreCounted, IsFirstBad, IsFirstUncounted}
-use Rattle.rq_restart.proofs.Noting.{noted_incarnation, noted_unfinished, noted_working, no_pairs, pairs_of, few_incarnations}
+use Rattle.rq_undone.proofs.Noting.{noted_incarnation, noted_unfinished, noted_working, no_pairs, pairs_of, few_incarnations}
 
 -- what follows from what an Ok says
 pub on_ok : {T E A B : Type 0} (r : Result T E) → (A → B) → OnOk r A → OnOk r B

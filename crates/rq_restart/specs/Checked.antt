@@ -4,7 +4,7 @@ use Rattle.rq_model.specs.declared.record.Record.{Record}
 use Rattle.rq_page.specs.Sizes.{Sizes, page_count}
 use Rattle.rq_store.specs.Fitting.{image_in}
 use Rattle.rq_model.specs.Unended.{unfinished}
-use Rattle.rq_restart.specs.Analysis.{analysis}
+use Rattle.rq_undone.specs.Analysis.{analysis}
 use Rattle.rq_restart.specs.Repeating.{Paged, Repeats, AreCounted, IsFirstUncounted}
 
 -- every operation and every transaction in the log has its end

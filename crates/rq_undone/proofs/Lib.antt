@@ -1,6 +1,6 @@
 pub mod Noting
-mod Lists
-mod Spots
-mod Undos
+pub mod Lists
+pub mod Spots
+pub mod Undos
 mod Places
 mod Next

@@ -7,7 +7,7 @@ use Rattle.rq_model.specs.declared.txn.Txn.{Txn}
 use Rattle.rq_model.specs.declared.record.Record.{Record}
 use Rattle.rq_model.specs.Words.{In}
 use Rattle.rq_model.specs.Content.{content, deeds, has_commit, no_group, with_deeds}
-use Rattle.rq_model.specs.Incarnations.{ArePlain, is_plain}
+use Rattle.rq_model.specs.Incarnations.{ArePlain, Extends, is_plain}
 use Rattle.rq_model.specs.Unended as unended
 use Rattle.rq_model.proofs.Cuts.{plain_commits}
 use Rattle.rq_page.specs.Sizes.{Sizes, address}
@@ -22,7 +22,7 @@ use Rattle.rq_store.specs.Whole.{IsWhole}
 use Rattle.rq_store.proofs.Opening.{idle_log}
 use Rattle.rq_undone.specs.declared.history.Spot.{Spot}
 use Rattle.rq_undone.specs.Analysis.{Analysis, analysis, spot_of, without_sub, without_spots, without_newest}
-use Rattle.rq_undone.specs.Pages.{IsSpent, IsNextUndo, UndoesBehind, IsUndone, void_of, undo_of, work}
+use Rattle.rq_undone.specs.Pages.{IsSpent, IsNextUndo, UndoesBehind, IsUndoing, IsUndone, void_of, undo_of, work}
 use Rattle.rq_undone.specs.Pages.IsNextUndo.{Voids, Undoes}
 use Rattle.rq_undone.specs.Theorems.{IsUndoneFrom}
 use Rattle.rq_undone.proofs.Lists.{sub_in, none_own, filter_le, filter_less}
@@ -170,4 +170,27 @@ module _ (z : Sizes) (log front : List Record) (w : IsWhole z log) (h : UndoesBe
   }
 
 pub undone_from : (z : Sizes) (log last : List Record) → IsWhole z log → IsUndone log last → IsUndoneFrom z log last
-undone_from z log last w h = subst (λ l. IsUndoneFrom z log l) h.are (undone_all z log h.front w h.undoes (ap (λ l. (analysis l).unfinished) h.are ∙ h.none))
+undone_from z log last w h =
+    let u = h.undoing in
+    subst (λ l. IsUndoneFrom z log l) u.are (undone_all z log u.front w u.undoes (ap (λ l. (analysis l).unfinished) u.are ∙ h.none))
+
+-- on the way there the log is whole too, and has what it had
+pub undoing_whole : (z : Sizes) (log last : List Record) → IsWhole z log → IsUndoing log last → IsWhole z last
+undoing_whole z log last w h = subst (IsWhole z) h.are (behind_whole z log h.front w h.undoes)
+
+pub undoing_extends : (log last : List Record) → IsUndoing log last → Extends log last
+undoing_extends log last h = (h.front, h.are, behind_plain log h.front h.undoes)
+
+pub undoing_working : (z : Sizes) (log last : List Record) → IsUndoing log last → (analysis last).working ≡ (analysis log).working
+undoing_working z log last h = ap (λ l. (analysis l).working) (sym h.are) ∙ behind_working z log h.front h.undoes
+
+-- no record yet, and one more
+pub undoing_none : (log : List Record) → IsUndoing log log
+undoing_none log = record { front = []; are = refl; undoes = tt }
+
+pub undoing_more : (log last : List Record) (r : Record) → IsUndoing log last → IsNextUndo (analysis last) r → IsUndoing log (r ∷ last)
+undoing_more log last r h next = record {
+  front = r ∷ h.front;
+  are = ap (λ l. r ∷ l) h.are;
+  undoes = (subst (λ l. IsNextUndo (analysis l) r) (sym h.are) next, h.undoes);
+}

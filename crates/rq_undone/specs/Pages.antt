@@ -45,11 +45,15 @@ abbrev pub UndoesBehind : List Record → List Record → Type 0
 UndoesBehind log [] = Unit {0}
 UndoesBehind log (r ∷ front) = IsNextUndo (analysis (front ++ log)) r × UndoesBehind log front
 
--- the log with the records behind by which all operations without an end are undone
-pub record IsUndone (log now : List Record) : Type 0 where
+-- the log with such records behind
+pub record IsUndoing (log now : List Record) : Type 0 where
   pub front : List Record
   pub are : front ++ log ≡ now
   pub undoes : UndoesBehind log front
+
+-- and with all by which operations without an end are undone
+pub record IsUndone (log now : List Record) : Type 0 where
+  pub undoing : IsUndoing log now
   pub none : (analysis now).unfinished ≡ []
 
 -- what is left to do

@@ -1,7 +1,7 @@
 use Rattle.std.proofs.Common.{◌∙◌}
-use Rattle.rq_restart.proofs.Noting.{noted_unfinished, noted_working, no_pairs}
+use Rattle.rq_undone.proofs.Noting.{noted_unfinished, noted_working, no_pairs}
 use Rattle.rq_restart.proofs.Paths.{none_unfinished, none_lost}
-use Rattle.rq_restart.specs.Analysis.{analysis}
+use Rattle.rq_undone.specs.Analysis.{analysis}
 use Rattle.rq_restart.proofs.laws.ended_is_settled.Goals as goal
 
 pub returns : goal.returns
