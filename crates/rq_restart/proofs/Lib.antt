@@ -9,3 +9,4 @@ pub mod Paths
 pub mod Worked
 pub mod Tallying
 pub mod Undos
+pub mod Begun

@@ -21,8 +21,9 @@ use Rattle.rq_undone.specs.Pages.IsNextUndo.{Voids, Undoes}
 use Rattle.rq_undone.proofs.Lists.{in_newest, in_spots, in_with, in_without, sub_in}
 use Rattle.rq_undone.proofs.Noting.{noted_incarnation}
 use Rattle.rq_undone.proofs.Undos.{undo_leaves_less, undoing_more, undoing_none}
-use Rattle.rq_restart.specs.Repeating.{Belongs, IsRepeated, Marks, Paged, Repeats}
+use Rattle.rq_restart.specs.Repeating.{AreCounted, Belongs, IsRepeated, Marks, Paged, Repeats}
 use Rattle.rq_restart.specs.Undoing.{StepStops, UndoStops}
+use Rattle.rq_restart.proofs.Begun.{counted_more}
 
 -- what a log's records say is in range, and so is what is noted of them
 abbrev IsOpInRange : Sub → Type 0
@@ -89,12 +90,14 @@ module _ (z y : Sizes) (log : List Record) (r : Record) (h : Analysis) (is : h �
 pub record IsGoingOn (z : Sizes) (log last : List Record) (first now : Paged) : Type 0 where
   pub undoing : IsUndoing log last
   pub repeated : (start : Paged) → Repeats z log start first → Repeats z last start now
+  pub counted : AreCounted z (length log) first → AreCounted z (length last) now
 
 module _ (z y : Sizes) (log last : List Record) (first now : Paged) (sizes : y ≡ z) (k : IsGoingOn z log last first now) where
   pub going_more : (r : Record) (h : Analysis) (grown : List Record) (after : Paged) → h ≡ analysis last → IsNextUndo h r → grown ≡ r ∷ last → IsRepeated y last r now after → IsGoingOn z log grown first after
   going_more r h grown after is next more one = subst (λ l. IsGoingOn z log l first after) (sym more) (record {
     undoing = undoing_more log last r k.undoing (subst (λ j. IsNextUndo j r) is next);
     repeated = λ start before. (now, k.repeated start before, subst (λ x. IsRepeated x last r now after) sizes one);
+    counted = λ before. subst (λ n. AreCounted z n after) (let e : length last + 1 ≡ length (r ∷ last) = omega arith in e) (counted_more z last r now after (subst (λ x. IsRepeated x last r now after) sizes one) (k.counted before));
   })
 
   pub going_less : (r : Record) (h after : Analysis) (grown : List Record) → h ≡ analysis last → IsNextUndo h r → grown ≡ r ∷ last → after ≡ analysis grown → work after < work h
@@ -123,4 +126,4 @@ module _ (z y : Sizes) (log last : List Record) (first now : Paged) (sizes : y �
   going_stops r h _ is next s start before = absurd s
 
 pub going_none : (z : Sizes) (log : List Record) (first : Paged) → IsGoingOn z log log first first
-going_none z log first = record { undoing = undoing_none log; repeated = λ start before. before }
+going_none z log first = record { undoing = undoing_none log; repeated = λ start before. before; counted = λ before. before }

@@ -2,7 +2,7 @@
 ghost use Rattle.std.specs.Prelude.{◌≡◌, ◌∷◌, ◌+◌, ◌^◌, ◌≤◌, IfErr, OnOk, false, length};
 ghost use Rattle.rq_undone.specs.Analysis.{analysis};
 ghost use Rattle.rq_undone.specs.Pages.{IsNextUndo, IsUndone};
-ghost use Rattle.rq_restart.specs.Repeating.{Belongs, IsRepeated, Paged, Repeats, paged};
+ghost use Rattle.rq_restart.specs.Repeating.{AreCounted, Belongs, IsRepeated, Paged, Repeats, paged};
 ghost use Rattle.rq_restart.specs.Undoing.{StepStops, UndoStops};
 
 use crate::redo::repeat;
@@ -32,6 +32,8 @@ pub(crate) fn undo_unfinished<P: PageDevice + Drop, L: LogDevice + Drop>(
     ensures history { OnOk result (history.new ≡ analysis log.new.records) }
     ensures repeated { OnOk result ((first : Paged) → Repeats pages.old.sizes log.old.records first (paged pages.old)
         → Repeats pages.old.sizes log.new.records first (paged pages.new)) }
+    ensures counted { OnOk result (AreCounted pages.old.sizes (length log.old.records) (paged pages.old)
+        → AreCounted pages.old.sizes (length log.new.records) (paged pages.new)) }
     ensures stops { IfErr result (λ e. (first : Paged) → Repeats pages.old.sizes log.old.records first (paged pages.old)
         → UndoStops pages.old.sizes log.old.records first e) }
     ensures sizes { pages.new.sizes ≡ pages.old.sizes }
