@@ -66,7 +66,7 @@ if_err (Ok x) f h = h
 if_err (Err e) f h = f e h
 
 module _ (older : List Record) (xs : List Record) (same : older ≡ reverse xs) (h : Analysis) (k : h ≡ analysis (reverse xs)) where
-  noted_is : h ≡ analysis older
+  pub noted_is : h ≡ analysis older
   noted_is = k ∙ ap analysis (sym same)
 
   pub last_is : (last : ℕ) → last ≡ h.incarnation → last ≡ incarnation_of older
@@ -139,8 +139,11 @@ module _ (z : Sizes) (older xs : List Record) (same : older ≡ reverse xs) (fir
   stops_shut (why.Damaged (damage.Record lsn)) before now untouched equal here h = (inl (subst (λ l. IsFirstBad z l first lsn) (sym same) h), here)
   stops_shut _ before now untouched equal here h = absurd h
 
-  again : (last : Paged) → Repeats z (reverse xs) first last → Repeats z older first last
+  pub again : (last : Paged) → Repeats z (reverse xs) first last → Repeats z older first last
   again last h = subst (λ l. Repeats z l first last) (sym same) h
+
+  pub counted_is : (y : Sizes) (last : Paged) → AreCounted y (length xs) last → AreCounted y (length older) last
+  counted_is y last h = subst (λ n. AreCounted y n last) count h
 
   -- no number was beyond it
   pub gone_is : (last : Paged) → Repeats z (reverse xs) first last → AreCounted z (length xs) first → (y : Sizes) → y ≡ z → AreCounted y (length xs) last → IsGoneThrough z older first last

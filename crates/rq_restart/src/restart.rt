@@ -8,6 +8,7 @@ ghost use Rattle.rq_log.specs.Spelled.{spelled, AreSpelled};
 ghost use Rattle.rq_record.specs.Spelling.{IsRecord};
 ghost use Rattle.rq_page.specs.Sizes.{Sizes};
 ghost use Rattle.rq_disk.specs.Device.{Only};
+ghost use Rattle.rq_pool.specs.Pooled.{IsPool};
 ghost use Rattle.rq_pool.specs.Reading.{IsSuperblock, OnlyRead};
 ghost use Rattle.rq_model.specs.Commits.{committed_of};
 ghost use Rattle.rq_model.specs.Ledger.{Ledger, after};
@@ -393,6 +394,7 @@ fn begin_next<P: PageDevice + Drop, L: LogDevice + Drop>(
     ensures ready { IfOk result (λ begun. IsReady L.LogDevice begun.1.incarnation log.new) }
     // What is left of both devices.
     ensures sizes { pages.new.sizes ≡ pages.old.sizes }
+    ensures pool { OnOk result (IsPool pages.new.sizes pages.new.images) }
     ensures pages { pages.new.device ≡ pages.old.device }
     ensures honest { L.honest log.new.device → L.honest log.old.device }
     ensures any_moment { L.honest log.new.device → AreSpelled log.old.records

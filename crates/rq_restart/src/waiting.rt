@@ -1,5 +1,6 @@
 //! Counting the messages that wait in a store in which nothing is open.
 ghost use Rattle.std.specs.Prelude.{◌≡◌, IfOk};
+ghost use Rattle.rq_pool.specs.Pooled.{IsPool};
 ghost use Rattle.rq_store.specs.Opening.{waiting_in};
 
 use rq_disk::PageDevice;
@@ -13,7 +14,8 @@ pub(crate) fn count_waiting<P: PageDevice + Drop>(
     alloc: Global,
     pages: &Pages<P>,
 ) -> Result<Waiting, NoMemory>
-    ensures { IfOk result (λ waiting. waiting ≡ waiting_in pages.now.sizes pages.now.images) }
+    ensures waiting { IfOk result (λ waiting. waiting ≡ waiting_in pages.now.sizes pages.now.images) }
+    ensures pool { IsPool pages.now.sizes pages.now.images }
 {
     let senders = pages.layout().senders();
     let mut waiting = Waiting::new(alloc, senders)?;

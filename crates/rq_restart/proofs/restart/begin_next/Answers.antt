@@ -43,7 +43,7 @@ returns-in-Ok-clause-waiting g c =
     let count : ℕ = length c.undo_unfinished.new.log.records in
     let counted : AreCounted z count (paged c.undo_unfinished.new.pages) = subst (λ y. AreCounted y count (paged c.undo_unfinished.new.pages)) (sym undo.sizes) (undo.counted c.requires.counted) in
     let longer : count + 1 ≡ length c.begin_incarnation.new.log.records = (let e : length c.begin_incarnation.new.log.records ≡ length (records.Restart (c.incarnation.result + 1) ∷ c.undo_unfinished.new.log.records) = ap length c.in-Ok.ensures.records in omega (arith, e)) in
-    subst (λ n. AreWaiting z images n c.in_ok-waiting.waiting) longer (are_waiting z images count c.in_ok-waiting.waiting c.in_ok-waiting.ensures counted)
+    subst (λ n. AreWaiting z images n c.in_ok-waiting.waiting) longer (are_waiting z images count c.in_ok-waiting.waiting c.in_ok-waiting.ensures.waiting counted)
 
 pub returns-in-Ok-clause-any_moment : goal.returns-in-Ok-clause-any_moment
 returns-in-Ok-clause-any_moment g c = λ h are read.

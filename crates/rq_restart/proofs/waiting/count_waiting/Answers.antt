@@ -3,8 +3,8 @@ use Rattle.rq_page.specs.Sizes.{sender_count}
 use Rattle.rq_restart.proofs.Counting.{CountedTo, all_counted, told}
 use Rattle.rq_restart.proofs.waiting.count_waiting.Goals as goal
 
-pub returns : goal.returns
-returns g c =
+pub returns-clause-waiting : goal.returns-clause-waiting
+returns-clause-waiting g c =
     let z = c.args.pages.now.sizes in
     let waiting = c.loop-sender.waiting in
     let of_layout : sender_count c.layout.result ≡ sender_count z = ap sender_count c.layout.ensures.sizes in
