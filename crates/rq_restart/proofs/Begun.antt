@@ -1,5 +1,5 @@
 -- What undoing leaves of a store that was left as a crash may leave one.
-use Rattle.std.proofs.Common.{◌≡◌, ◌≢◌, ◌⊎◌, ℕ, zero, suc, ◌+◌, ◌-◌, ◌<◌, ◌≤◌, ◌^◌, false, List, [], ◌∷◌, ◌++◌, length, drop, Option, Some, None, inl, inr, refl, sym, ◌∙◌, ap, subst, arith}
+use Rattle.std.proofs.Common.{◌≡◌, ℕ, zero, suc, ◌+◌, ◌-◌, ◌<◌, ◌≤◌, ◌^◌, false, List, [], ◌∷◌, ◌++◌, length, drop, Option, Some, None, inl, inr, refl, sym, ◌∙◌, ap, subst, arith}
 use Rattle.std.proofs.lemmas.Bool.{cases_eq, cases_lt}
 use Rattle.std.proofs.lemmas.List.{drop_at, length-drop, length-map}
 use Rattle.rq_model.specs.declared.record.Record.{Record}
@@ -8,19 +8,22 @@ use Rattle.rq_model.specs.declared.refusal.Refusal.TheVariants as why
 use Rattle.rq_model.specs.declared.refusal.Damage.TheVariants as damage
 use Rattle.rq_model.specs.declared.record.Record.TheVariants as records
 use Rattle.rq_model.specs.Incarnations.{InOrder, incarnation_of}
-use Rattle.rq_model.specs.Unended.{unfinished, lost}
-use Rattle.rq_page.specs.Sizes.{Sizes, page_count}
+use Rattle.rq_model.specs.Unended.{lost}
+use Rattle.rq_page.specs.Sizes.{Sizes}
 use Rattle.rq_page.specs.Pages.{IsWritten, lsn_of, slot_of}
 use Rattle.rq_page.specs.Formatted.{count_in}
 use Rattle.rq_pool.specs.Pooled.{IsPool}
 use Rattle.rq_log.specs.Logged.{Logged}
 use Rattle.rq_log.specs.Spelled.{spelled, AreSpelled, GoesOn}
 use Rattle.rq_views.specs.InStore.{InStore}
-use Rattle.rq_views.specs.Stored.{slots_in}
+use Rattle.rq_views.specs.Stored.{count_used, slots_in}
 use Rattle.rq_sound.specs.Sound.{IsSound}
 use Rattle.rq_sound.proofs.Instance.{instance_sound}
-use Rattle.rq_store.specs.Opening.{FitsUpTo, IsCounted, IsLeft, IsSoundWrite, MayRedo, Redoes, opened, next_restart}
-use Rattle.rq_store.specs.Fitting.{FitsLog, ToldWrite, image_in, left_by, oldest, told_by}
+use Rattle.rq_store.specs.Opening.{FitsUpTo, IsCounted, IsLeft, IsSoundWrite, MayRedo, Redoes, opened, next_restart, waiting_in}
+use Rattle.rq_store.specs.State.{State}
+use Rattle.rq_model.specs.Commits.{committed_of}
+use Rattle.rq_model.proofs.Cuts.{extends_commits}
+use Rattle.rq_store.specs.Fitting.{ToldWrite, image_in, oldest, told_by}
 use Rattle.rq_store.specs.Steps.{Continues}
 use Rattle.rq_store.specs.Whole.{IsWhole}
 use Rattle.rq_store.proofs.Bounds.{may_redo}
@@ -33,11 +36,11 @@ use Rattle.rq_undone.specs.Pages.{IsNextUndo, IsUndoing, IsUndone, UndoesBehind}
 use Rattle.rq_undone.specs.Pages.IsNextUndo.{Voids, Undoes}
 use Rattle.rq_undone.specs.Theorems.{IsUndoneFrom}
 use Rattle.rq_undone.proofs.Noting.{few_incarnations, noted_incarnation, noted_unfinished, noted_working, pair_of}
-use Rattle.rq_undone.proofs.Undos.{undo_keeps_whole, undoing_whole, undone_from}
+use Rattle.rq_undone.proofs.Undos.{behind_plain, undo_keeps_whole, undoing_whole, undone_from}
 use Rattle.rq_restart.specs.Checked.{IsEnded, WasGoneThrough}
 use Rattle.rq_restart.specs.Refused.{BeginsNot, MayBeShut, WhyNotBegun, WhyShut}
-use Rattle.rq_restart.specs.Restarting.{IsBegun, IsBegunBehind, Reports}
-use Rattle.rq_restart.specs.Repeating.{AreCounted, Belongs, IsRepeated, Paged, Repeats}
+use Rattle.rq_restart.specs.Restarting.{IsBegun, IsBegunBehind, IsOpenedOver, Reports}
+use Rattle.rq_restart.specs.Repeating.{AreCounted, IsRepeated, Paged, Repeats}
 use Rattle.rq_restart.specs.Undoing.{IsBadUndo, UndoStops}
 use Rattle.rq_restart.proofs.Parsing.{AreSpelled-drop, one_log}
 
@@ -232,3 +235,44 @@ begun_behind log undone r kept seen bytes u ended is are read now on =
       some = omega (arith, a, b, c, d);
       is = on.is ∙ ap (λ q. spelled (drop on.lost (q ∷ undone))) is;
     }
+
+-- ---- what is opened
+
+-- an engine over the log and its pages
+abbrev pub engine_over : Sizes → List (List ℕ) → List Record → ℕ → ℕ → ℕ → List ℕ → State
+engine_over z images rs forced incarnation cells waiting = record {
+  sizes = z;
+  rows = [];
+  ends = record { sending = []; receiving = [] };
+  images = images;
+  records = rs;
+  forced = forced;
+  failed = false;
+  incarnation = incarnation;
+  begins = 0;
+  cells_in_use = cells;
+  waiting = waiting;
+}
+
+pub opened_over : {L : Type 0} (z : Sizes) (images : List (List ℕ)) (log : List Record) (new : Logged L) (incarnation cells : ℕ) (waiting : List ℕ) → IsBegun log new → incarnation ≡ incarnation_of log + 1 → cells ≡ count_used z (slots_in z images) → waiting ≡ waiting_in z images
+    → IsOpenedOver log (engine_over z images new.records new.forced incarnation cells waiting)
+opened_over z images log new incarnation cells waiting b number used waits =
+    let undone = b.undone in
+    let all : List Record = next_restart undone ∷ undone in
+    let last : drop 1 new.records ≡ undone = ap (drop 1) b.records in
+    let forced : new.forced ≡ length all = b.forced ∙ ap length b.records in
+    let i : incarnation ≡ incarnation_of undone + 1 = number ∙ ap (λ n. n + 1) (sym (undoing_incarnation log undone b.undoes.undoing)) in (
+      subst (IsUndone log) (sym last) b.undoes,
+      ap (λ rs. engine_over z images rs new.forced incarnation cells waiting) b.records
+          ∙ ap (λ n. engine_over z images all n incarnation cells waiting) forced
+          ∙ ap (λ n. engine_over z images all (length all) n cells waiting) i
+          ∙ ap (λ n. engine_over z images all (length all) (incarnation_of undone + 1) n waiting) used
+          ∙ ap (λ w. engine_over z images all (length all) (incarnation_of undone + 1) (count_used z (slots_in z images)) w) waits
+          ∙ ap (opened z images) (sym last),
+    )
+
+pub begun_commits : {L : Type 0} (log : List Record) (new : Logged L) → IsBegun log new → committed_of new.records ≡ committed_of log
+begun_commits log new b =
+    let r = next_restart b.undone in
+    let u = b.undoes.undoing in
+    ap committed_of b.records ∙ extends_commits log (r ∷ b.undone) (r ∷ u.front, ap (λ l. r ∷ l) u.are, (refl, behind_plain log u.front u.undoes))

@@ -1,18 +1,12 @@
 -- What a crash at any moment of a restart leaves of the log.
-use Rattle.std.proofs.Common.{zero, suc, ◌≤◌, drop, inl, inr, ◌⊎◌, ⊎_elim, Result, Ok, Err, IfErr, ◌≡◌, ℕ, ◌+◌, List, [], ◌∷◌, length, reverse, refl, sym, ◌∙◌, ap, subst, arith}
-use Rattle.std.proofs.lemmas.List.{length-drop}
+use Rattle.std.proofs.Common.{inl, inr, ◌⊎◌, ⊎_elim, Result, Ok, Err, IfErr, ◌≡◌, ℕ, List, ◌∷◌, refl, ◌∙◌, subst}
 use Rattle.rq_model.specs.declared.record.Record.{Record}
-use Rattle.rq_model.specs.declared.record.Record.TheVariants as records
 use Rattle.rq_disk.specs.declared.device.LogDevice.{Ghosts}
-use Rattle.rq_record.specs.Spelling.{IsRecord}
 use Rattle.rq_log.specs.Crash.{LeavesOnly}
 use Rattle.rq_log.specs.Logged.{Logged, WasLeftOrGoesOn}
 use Rattle.rq_log.specs.Spelled.{spelled, AreSpelled, GoesOn}
 use Rattle.rq_log.proofs.Moments.{started, weaker, joined}
 use Rattle.rq_store.specs.Opening.{next_restart}
-use Rattle.rq_undone.specs.Analysis.{Analysis, analysis}
-use Rattle.rq_restart.proofs.Restarts.{last_is}
-use Rattle.rq_restart.proofs.Parsing.{one_log, AreSpelled-drop}
 use Rattle.rq_restart.specs.Restarting.{IsRead, IsBegunOn, WasLeftOrBegun, WasLeftOrForced, BeginsAtMost}
 use Rattle.rq_undone.specs.Pages.{IsUndone}
 use Rattle.rq_restart.proofs.Begun.{begun_behind}

@@ -10,7 +10,6 @@ ghost use Rattle.rq_undone.specs.Analysis.{analysis};
 ghost use Rattle.rq_restart.specs.Repeating.{paged, Repeats, Marks, IsMarked};
 ghost use Rattle.rq_restart.specs.Refused.{StopsIn, StopsAt, IsFirstFault};
 
-use rq_undone::History;
 use rq_disk::PageDevice;
 use rq_model::record::{Record, Slot};
 use rq_model::refusal::{Damage, Refusal};
@@ -19,6 +18,7 @@ use rq_page::addr::Addr;
 use rq_page::layout::{Layout, SLOTS};
 use rq_page::page::Page;
 use rq_pool::Pages;
+use rq_undone::History;
 use std::alloc::Global;
 
 /// The first page whose LSN, or a number in whose slots, is greater than the number of records.
@@ -107,11 +107,7 @@ pub(crate) fn first_fault<P: PageDevice + Drop>(
 }
 
 /// Makes what a record writes, where its page is older. False where the record doesn't fit the store.
-pub(crate) fn repeat<P: PageDevice + Drop>(
-    pages: &mut Pages<P>,
-    lsn: Lsn,
-    record: &Record,
-) -> bool
+pub(crate) fn repeat<P: PageDevice + Drop>(pages: &mut Pages<P>, lsn: Lsn, record: &Record) -> bool
     ensures redone { IsTrue result → Redoes (told_by «record».now) lsn (image_in pages.old.images)
         (image_in pages.new.images) }
     ensures marked { IsTrue result → Marks (told_by «record».now) lsn (paged pages.old) pages.new.changed }

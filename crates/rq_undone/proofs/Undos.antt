@@ -129,7 +129,7 @@ behind_whole : (z : Sizes) (log front : List Record) → IsWhole z log → Undoe
 behind_whole z log [] w h = w
 behind_whole z log (r ∷ front) w h = undo_keeps_whole z (front ++ log) r (behind_whole z log front w h.1) h.0
 
-behind_plain : (log front : List Record) → UndoesBehind log front → ArePlain front
+pub behind_plain : (log front : List Record) → UndoesBehind log front → ArePlain front
 behind_plain log [] h = tt
 behind_plain log (r ∷ front) h = (undo_is_plain (analysis (front ++ log)) r h.0, behind_plain log front h.1)
 

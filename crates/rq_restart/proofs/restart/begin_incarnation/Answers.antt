@@ -1,7 +1,7 @@
 use Rattle.std.proofs.Common.{rules, arith, ◌≡◌, ◌+◌, ◌∷◌}
 use Rattle.rq_model.specs.declared.record.Record.TheVariants as records
 use Rattle.rq_record.specs.Spelling.{IsRecord}
-use Rattle.rq_restart.proofs.Moments.{forced_behind, untouched}
+use Rattle.rq_restart.proofs.Moments.{forced_behind}
 use Rattle.rq_restart.proofs.restart.begin_incarnation.Goals as goal
 
 pub returns-in_err-records-clause-any_moment : goal.returns-in_err-records-clause-any_moment

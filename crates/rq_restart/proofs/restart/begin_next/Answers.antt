@@ -1,8 +1,6 @@
-use Rattle.std.proofs.Common.{◌≡◌, ◌+◌, ◌≤◌, ◌<◌, ◌∷◌, ℕ, length, ap, refl, sym, ◌∙◌, subst, arith}
+use Rattle.std.proofs.Common.{◌≡◌, ◌+◌, ◌∷◌, ℕ, length, ap, sym, ◌∙◌, subst, arith}
 use Rattle.rq_model.specs.declared.record.Record.TheVariants as records
-use Rattle.rq_page.specs.Sizes.{page_count}
-use Rattle.rq_store.specs.Opening.{IsCounted, next_restart}
-use Rattle.rq_store.specs.Fitting.{image_in}
+use Rattle.rq_store.specs.Opening.{next_restart}
 use Rattle.rq_undone.specs.Analysis.{Analysis}
 use Rattle.rq_restart.specs.Refused.{WhyNotBegun}
 use Rattle.rq_restart.specs.Repeating.{AreCounted, paged}

@@ -1,6 +1,5 @@
-use Rattle.std.proofs.Common.{rules, drop, ◌≡◌, ◌+◌, ◌≤◌, ◌<◌, ℕ, length, ap, IsTrue, refl, sym, ◌∙◌, subst, arith}
+use Rattle.std.proofs.Common.{rules, drop, ◌≡◌, ◌<◌, length, ap, IsTrue, refl, sym, ◌∙◌, subst}
 use Rattle.std.proofs.lemmas.Bool.{false≢true}
-use Rattle.std.proofs.lemmas.List.{length-reverse}
 use Rattle.rq_page.specs.Sizes.{page_count}
 use Rattle.rq_pool.specs.Pooled.{IsPool}
 use Rattle.rq_store.specs.Opening.{IsCounted}
@@ -107,8 +106,7 @@ returns-in-Ok-clause-checked g c =
     let ended = ended_is older c.args.records.now c.requires.records c.in_ok-history.history c.in_ok-history.ensures.ok (c.is_settled.ensures.0 c.if-not-is_settled.false) in
     let before : Repeats z older (paged c.args.pages.now) (paged mid) = again z older c.args.records.now c.requires.records (paged c.args.pages.now) (paged mid) c.in_ok-history.ensures.repeated in
     let gone = gone_is z older c.args.records.now c.requires.records (paged c.args.pages.now) (paged mid) c.in_ok-history.ensures.repeated c.in_default.ensures.none mid.sizes same c.in_default-miscounted_page.ensures.none in
-    let all = c.in-Ok.ensures.repeated in
-    (
+    let all = c.in-Ok.ensures.repeated in (
       ended,
       all.undone,
       record {

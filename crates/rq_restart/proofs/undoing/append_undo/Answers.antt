@@ -1,4 +1,4 @@
-use Rattle.std.proofs.Common.{◌≡◌, ◌+◌, length, ap, refl, sym, ◌∙◌, IsTrue}
+use Rattle.std.proofs.Common.{◌+◌, ap, refl}
 use Rattle.std.proofs.lemmas.Bool.{false≢true}
 use Rattle.rq_restart.specs.Repeating.{paged}
 use Rattle.rq_restart.proofs.Undos.{belongs_then, one_repeated, undo_range}
@@ -11,13 +11,15 @@ append-requires-clause-record g c = undo_range c.args.log.now.records c.args.his
 pub returns-then-not-is_next-clause-stops : goal.returns-then-not-is_next-clause-stops
 returns-then-not-is_next-clause-stops g c =
     let z = c.args.pages.now.sizes in
-    let log = c.args.log.now.records in
-    (ap (λ n. n + 1) c.last-lsn.ensures, λ b.
-    let k = belongs_then z z log c.args.undo.now c.args.history.now c.requires.history refl (c.last-lsn.result + 1) (ap (λ n. n + 1) c.last-lsn.ensures) (paged c.args.pages.now) b in
-    elim c.then-not-is_next.branch [
-      | then-not-is_next-via-then-not-is_next w ↦ absurd (false≢true (rw w.if-not-is_next.true at (c.in_ok-is_next.ensures.next.1 k.0)))
-      | then-not-is_next-via-else-not-is_next+then-not-repeat w ↦ w.repeat.ensures.refused w.if-not-repeat.true k.1
-    ])
+    let log = c.args.log.now.records in (
+      ap (λ n. n + 1) c.last-lsn.ensures,
+      λ b.
+          let k = belongs_then z z log c.args.undo.now c.args.history.now c.requires.history refl (c.last-lsn.result + 1) (ap (λ n. n + 1) c.last-lsn.ensures) (paged c.args.pages.now) b in
+          elim c.then-not-is_next.branch [
+            | then-not-is_next-via-then-not-is_next w ↦ absurd (false≢true (rw w.if-not-is_next.true at (c.in_ok-is_next.ensures.next.1 k.0)))
+            | then-not-is_next-via-else-not-is_next+then-not-repeat w ↦ w.repeat.ensures.refused w.if-not-repeat.true k.1
+          ],
+    )
 
 pub returns-clause-repeated : goal.returns-clause-repeated
 returns-clause-repeated g c =

@@ -1,4 +1,4 @@
-use Rattle.std.proofs.Common.{rules, ◌≡◌, ◌∙◌, sym}
+use Rattle.std.proofs.Common.{rules, ◌∙◌}
 use Rattle.rq_restart.specs.Repeating.{Paged, Repeats, paged}
 use Rattle.rq_restart.specs.Undoing.{UndoStops}
 use Rattle.rq_restart.proofs.Undos.{going_less, going_more, going_stops}
