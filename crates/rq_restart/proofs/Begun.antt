@@ -180,7 +180,8 @@ module _ (log undone : List Record) (u : IsUndone log undone) (h : Analysis) (no
     incarnation_is = told.0 ∙ ap (λ n. n + 1) (last_is ∙ undoing_incarnation log undone u.undoing);
     records_are = told.1;
     unfinished_are = λ w. told.2 ∙ sym (length-map (analysis log).unfinished pair_of) ∙ ap length (noted_unfinished z log w.legal);
-    lost_are = λ w. told.3 ∙ ap length (sym ended ∙ noted_working z log w.legal w.reads);
+    lost_are = told.3;
+    none_lost = λ w. sym (noted_working z log w.legal w.reads) ∙ ended;
   }
 
   -- why the incarnation was not begun

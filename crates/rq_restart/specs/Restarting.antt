@@ -38,13 +38,14 @@ pub record IsBegun {L : Type 0} (older : List Record) (log : Logged L) : Type 0 
 abbrev pub IsOpenedOver : List Record → State → Type 0
 IsOpenedOver older s = IsUndone older (drop 1 s.records) × (s ≡ opened s.sizes s.images (drop 1 s.records))
 
--- What is reported: the next incarnation, how many records are in the log, and of a whole log how many operations were
--- unfinished in it and how many transactions lost.
+-- What is reported: the next incarnation, how many records are in the log, of a whole log how many operations were
+-- unfinished in it, and that no transaction was lost.
 pub record Reports (z : Sizes) (older records : List Record) (incarnation count undone gone : ℕ) : Type 0 where
   pub incarnation_is : incarnation ≡ incarnation_of older + 1
   pub records_are : count ≡ length records
   pub unfinished_are : IsWhole z older → undone ≡ length (unfinished older)
-  pub lost_are : IsWhole z older → gone ≡ length (lost older)
+  pub lost_are : gone ≡ 0
+  pub none_lost : IsWhole z older → lost older ≡ []
 
 -- why a restart was refused, with the failures of the pages' device before and after it, and those of the log's
 abbrev pub Stops : Type 0 → List Record → Refusal → ℕ → ℕ → ℕ → ℕ → Type 0
