@@ -32,7 +32,7 @@ use Rattle.rq_store.specs.Fitting.{AllFit}
 use Rattle.rq_engine.specs.Crash.{AreFit}
 use Rattle.rq_engine.specs.Devices.{EachPair}
 use Rattle.rq_restart.specs.Once.{OneLogEach, OneSizeEach}
-use Rattle.rq_restart.specs.Restarting.{IsReadAs, IsLeftOn, Reports, Stops}
+use Rattle.rq_restart.specs.Restarting.{IsReadAs, IsLeftOn, IsOpenedOver, Reports, Stops}
 use Rattle.rq_restart.specs.Underway.{IsLeftOrGoesOn, OfStores, pages_left, log_left}
 use Rattle.rq_restart.specs.declared.restart.Report.{Report as Restart_report}
 use Rattle.rq_restart.specs.declared.restart.Stopped.{Stopped}
@@ -121,18 +121,19 @@ shut_ends z course pages log fifo stay law ran =
 -- a restart, by its clauses
 module _ (pages : MemPages) (log : MemLog) (one : OneLogEach) where
   pub opens : (r : Result (Engine × Restart_report) (Stopped MemPages MemLog)) → OneSizeEach → ((size : Size) → RestartGoesOn size)
-      → IfOk r (λ o. (older : List Record) → IsReadAs mem_log log o.0.log older → Reports older o.1.incarnation o.1.records o.1.unfinished o.1.lost)
+      → IfOk r (λ o. (older : List Record) → IsReadAs mem_log log o.0.log older → Reports o.0.state.sizes older o.0.state.records o.1.incarnation o.1.records o.1.unfinished o.1.lost)
+      → IfOk r (λ o. (older : List Record) → IsReadAs mem_log log o.0.log older → IsOpenedOver older o.0.state)
       → IfOk r (λ o. mem_pages.honest o.0.pages → IsSuperblock o.0.state.sizes (mem_pages.seen pages 0))
       → IfOk r (λ o. (older : List Record) → IsReadAs mem_log log o.0.log older → IsLeftOn mem_pages o.0.state.sizes pages o.0.pages older → IsSound o.0.state)
       → IfOk r (λ o. (older : List Record) → IsReadAs mem_log log o.0.log older → IsLeftOn mem_pages o.0.state.sizes pages o.0.pages older → (ledger : Ledger) → ledger.committed ≡ committed_of older → ledger_of o.0.state ≡ after (Restarted_entry o.1.incarnation o.1.records) ledger)
       → IfOk r (λ o. (older : List Record) → IsReadAs mem_log log o.0.log older → AllFit (mem_pages.may_be pages) o.0.state.sizes older → AreFit mem_pages o.0)
       → IfOk r (λ o. GoesOn MayRestart (Is_shut pages log) (Restarted (report_of o.1)) (Is_open o.0))
-  opens (Err e) size_once goes report sizes sound entry fit = tt
-  opens (Ok o) size_once goes report sizes sound entry fit = λ z course x may ran.
-      let w = reopened mem_pages mem_log (λ d. tt) (λ d. tt) z some_page some_log one size_once (goes (size_of z)) ran.history pages log o.1 o.0 ran.legal ran.stands report sizes sound entry fit in
+  opens (Err e) size_once goes report value sizes sound entry fit = tt
+  opens (Ok o) size_once goes report value sizes sound entry fit = λ z course x may ran.
+      let w = reopened mem_pages mem_log (λ d. tt) (λ d. tt) z some_page some_log one size_once (goes (size_of z)) ran.history pages log o.1 o.0 ran.legal ran.stands report value sizes sound entry fit in
       record {
         history = Restarted_entry o.1.incarnation o.1.records ∷ ran.history;
-        tells = (ran.history, ran.tells, (may, w.unfinished, w.lost, refl));
+        tells = (ran.history, ran.tells, (may, w.lost, refl));
         legal = w.legal;
         stands = w.stands;
         counted = tt;

@@ -47,7 +47,10 @@ use Rattle.rq_engine.specs.declared.event.Outcome.TheVariants as outcome
 use Rattle.rq_engine.specs.declared.event.Progress.TheVariants as progress
 use Rattle.rq_engine.specs.declared.event.Reply.{Reply}
 use Rattle.rq_engine.specs.declared.event.Reply.TheVariants as reply
-use Rattle.rq_restart.specs.Restarting.{IsReadAs, IsLeftOn, Reports, Stops}
+use Rattle.rq_restart.specs.Restarting.{IsReadAs, IsLeftOn, IsOpenedOver, Reports, Stops}
+use Rattle.rq_undone.specs.Theorems.{IsUndoneFrom}
+use Rattle.rq_undone.proofs.Undos.{undone_from}
+use Rattle.rq_restart.proofs.Begun.{undoing_incarnation}
 use Rattle.rq_restart.specs.declared.restart.Report.{Report as Restart_report}
 use Rattle.rq_restart.specs.Underway.{IsStore, IsSomeStore, IsLeftOrGoesOn}
 use Rattle.rq_restart.specs.Once.{OneLogEach, AsManyAsTheLog, OneSizeEach}
@@ -280,21 +283,29 @@ module _ {P L : Type 0} (p : page_device.Ghosts P) (l : log_device.Ghosts L) (ho
           let same : x.0 ≡ now = one x.0 now store.are_spelled told (sym store.is ∙ reads) in
           subst (FitsLog z (with_image (p.seen pages) q c)) same store.left.fits
 
+    -- what was added to a log, and then more
+    plain_join : (a b : List Record) → ArePlain a → ArePlain b → ArePlain (a ++ b)
+    plain_join [] b h k = k
+    plain_join (r ∷ a) b h k = (h.0, plain_join a b h.1 k)
+
+    extends_join : (a b c : List Record) → Extends a b → Extends b c → Extends a c
+    extends_join a b c g h = (h.0 ++ g.0, append_assoc h.0 g.0 a ∙ ap (λ k. h.0 ++ k) g.1 ∙ h.1, plain_join h.0 g.0 h.2 g.2)
+
     -- a restart that opened the store
     pub record IsReopened (h : List Entry) (report : Restart_report) (new : OpenStore P L) : Type 0 where
-      pub unfinished : report.unfinished ≡ 0
       pub lost : report.lost ≡ 0
       pub legal : IsLegal (size_of z) (Restarted_entry report.incarnation report.records ∷ h)
       pub stands : IsOpen p l z (Restarted_entry report.incarnation report.records ∷ h) new
 
     pub reopened : (size_once : OneSizeEach) (goes : RestartGoesOn (size_of z)) (h : List Entry) (pages : P) (log : L) (report : Restart_report) (new : OpenStore P L) → IsLegal (size_of z) h → IsShut p l z h pages log
-        → ((older : List Record) → IsReadAs l log new.log older → Reports older report.incarnation report.records report.unfinished report.lost)
+        → ((older : List Record) → IsReadAs l log new.log older → Reports new.state.sizes older new.state.records report.incarnation report.records report.unfinished report.lost)
+        → ((older : List Record) → IsReadAs l log new.log older → IsOpenedOver older new.state)
         → (p.honest new.pages → IsSuperblock new.state.sizes (p.seen pages 0))
         → ((older : List Record) → IsReadAs l log new.log older → IsLeftOn p new.state.sizes pages new.pages older → IsSound new.state)
         → ((older : List Record) → IsReadAs l log new.log older → IsLeftOn p new.state.sizes pages new.pages older → (ledger : Ledger) → ledger.committed ≡ committed_of older → ledger_of new.state ≡ after (Restarted_entry report.incarnation report.records) ledger)
         → ((older : List Record) → IsReadAs l log new.log older → AllFit (p.may_be pages) new.state.sizes older → AreFit p new)
         → IsReopened h report new
-    reopened size_once goes h pages log report new legal s reports sizes sound entry fit =
+    reopened size_once goes h pages log report new legal s reports value sizes sound entry fit =
         let x = s.left (p.seen pages) (l.seen log) (some_p pages) (some_l log) in
         let now = x.0 in
         let store : IsStore z now (p.seen pages) (l.seen log) = x.2 in
@@ -302,12 +313,16 @@ module _ {P L : Type 0} (p : page_device.Ghosts P) (l : log_device.Ghosts L) (ho
         let is : new.state.sizes ≡ z = size_once new.state.sizes z (p.seen pages 0) (sizes (honest_p new.pages)) (record { range = s.range; formatted = store.left.fits.superblock }) in
         let on : IsLeftOn p new.state.sizes pages new.pages now = record { honest = honest_p new.pages; left = subst (λ y. IsLeft y (p.seen pages) now) (sym is) store.left } in
         let told = reports now read in
-        let law = goes h s.older now legal s.phase s.ties x.1 store.left.whole.order in
-        let e : Restarted_entry (incarnation_of now + 1) (length (next_restart now ∷ now)) ≡ Restarted_entry report.incarnation report.records =
-        ap (λ n. Restarted_entry n (length (next_restart now ∷ now))) (sym told.incarnation_is) ∙ ap (Restarted_entry report.incarnation) (let n = told.records_are in omega (arith, n)) in
-        let content : (ledger h).committed ≡ committed_of now = ap (λ (k : Ledger). k.committed) (sym law.ledger) in
+        let opened = value now read in
+        let undone = drop 1 new.state.records in
+        let from : IsUndoneFrom z now undone = undone_from z now undone store.left.whole opened.0 in
+        let law = goes h s.older undone legal s.phase s.ties (extends_join s.older now undone x.1 from.extends) from.whole.order in
+        let all : report.records ≡ length (next_restart undone ∷ undone) = told.records_are ∙ ap (λ (y : State). length y.records) opened.1 in
+        let begun : report.incarnation ≡ incarnation_of undone + 1 = told.incarnation_is ∙ ap (λ n. n + 1) (sym (undoing_incarnation now undone opened.0.undoing)) in
+        let e : Restarted_entry (incarnation_of undone + 1) (length (next_restart undone ∷ undone)) ≡ Restarted_entry report.incarnation report.records =
+        ap (λ n. Restarted_entry n (length (next_restart undone ∷ undone))) (sym begun) ∙ ap (Restarted_entry report.incarnation) (sym all) in
+        let content : (ledger h).committed ≡ committed_of now = ap (λ (k : Ledger). k.committed) (sym law.ledger) ∙ from.committed in
         record {
-          unfinished = told.unfinished_are;
           lost = told.lost_are;
           legal = subst (λ entry. IsLegal (size_of z) (entry ∷ h)) e law.legal;
           stands = record {
@@ -317,14 +332,6 @@ module _ {P L : Type 0} (p : page_device.Ghosts P) (l : log_device.Ghosts L) (ho
             fit = fit now read (subst (λ y. AllFit (p.may_be pages) y now) (sym is) (all_fit h pages log now s store.are_spelled store.is));
           };
         }
-
-    -- what was added to a log, and then more
-    plain_join : (a b : List Record) → ArePlain a → ArePlain b → ArePlain (a ++ b)
-    plain_join [] b h k = k
-    plain_join (r ∷ a) b h k = (h.0, plain_join a b h.1 k)
-
-    extends_join : (a b c : List Record) → Extends a b → Extends b c → Extends a c
-    extends_join a b c g h = (h.0 ++ g.0, append_assoc h.0 g.0 a ∙ ap (λ k. h.0 ++ k) g.1 ∙ h.1, plain_join h.0 g.0 h.2 g.2)
 
     -- the log of a store that is shut, as it is read
     pub record IsReadOf (older : List Record) (pages : P) (log : L) : Type 0 where

@@ -135,7 +135,7 @@ abbrev pub Adds : Course → Happening → Answer → List Entry → List Entry 
 Adds course x (Answered reply) older h = AddsCall (called course x) reply older h
 Adds course x (Crashed records) older h = MayCrashIt x (ledger older).phase
     × (h ≡ Crash_entry (kept_in records (ledger older).committed) records ∷ older)
-Adds course x (Restarted report) older h = IsTrue (restarts x) × (report.unfinished ≡ 0) × (report.lost ≡ 0)
+Adds course x (Restarted report) older h = IsTrue (restarts x) × (report.lost ≡ 0)
     × (h ≡ Restarted_entry report.incarnation report.records ∷ older)
 Adds course x (Refused refusal) older h = IsTrue (restarts x) × MayStayShut refusal × ((ledger older).phase ≡ Shut)
     × (h ≡ older)

@@ -10,9 +10,9 @@ use Rattle.rq_store.specs.Fitting.{oldest, told_by}
 use Rattle.rq_store.proofs.Fitting.{oldest_all}
 use Rattle.rq_store.proofs.Redoing.{oldest_store, redo_one}
 use Rattle.rq_store.proofs.Bounds.{may_redo}
-use Rattle.rq_restart.specs.Analysis.{Analysis, analysis, analysis_after}
+use Rattle.rq_undone.specs.Analysis.{Analysis, analysis, analysis_after}
 use Rattle.rq_restart.specs.Repeating.{Paged, Marks, Belongs, Repeats, IsFirstBad}
-use Rattle.rq_restart.proofs.Noting.{noted_incarnation}
+use Rattle.rq_undone.proofs.Noting.{noted_incarnation}
 
 oldest_first : (xs : List Record) (n : ℕ) → oldest n (reverse xs) ≡ reverse (take n xs)
 oldest_first xs n =
@@ -41,16 +41,16 @@ module _ (z : Sizes) (image : ℕ → List ℕ) (xs : List Record) (i : ℕ) (r 
   within : i + 1 ≤ length log
   within = let a : length (reverse xs) ≡ length xs = length-reverse xs in omega (arith, a, lt)
 
-  pub noted_more : (h k : Analysis) → h ≡ analysis (oldest i log) → k ≡ analysis_after r h → k ≡ analysis (oldest (i + 1) log)
-  noted_more h k e f = f ∙ ap (analysis_after r) e ∙ ap analysis (sym grows)
+  count : length (oldest i log) ≡ i
+  count = let a : length (reverse xs) ≡ length xs = length-reverse xs in let b : length (oldest i log) ≡ length log - (length log - i) = length-drop (length log - i) log in omega (arith, a, b, lt)
+
+  pub noted_more : (h k : Analysis) → h ≡ analysis (oldest i log) → k ≡ analysis_after (i + 1) r h → k ≡ analysis (oldest (i + 1) log)
+  noted_more h k e f = f ∙ ap (analysis_after (i + 1) r) e ∙ ap (λ n. analysis_after (n + 1) r (analysis (oldest i log))) (sym count) ∙ ap analysis (sym grows)
 
   pub redone_more : (old new : ℕ → List ℕ) → Redoes (told_by r) (i + 1) old new → (IsLeft z image log → FitsUpTo z old log i) → IsLeft z image log → FitsUpTo z new log (i + 1)
   redone_more old new redo h left =
       let store : InStore z (r ∷ oldest i log) = subst (λ l. InStore z l) grows (oldest_store z log (i + 1) left.whole.in_store) in
       redo_one z log i r grows within store.0 old new redo (h left)
-
-  count : length (oldest i log) ≡ i
-  count = let a : length (reverse xs) ≡ length xs = length-reverse xs in let b : length (oldest i log) ≡ length log - (length log - i) = length-drop (length log - i) log in omega (arith, a, b, lt)
 
   belongs : (h : Analysis) → h ≡ analysis (oldest i log) → (mid : Paged) → (y : Sizes) → y ≡ z → IsNext h.incarnation r → MayRedo y mid.image (i + 1) r → Belongs z (oldest i log) r mid
   belongs h e mid y sizes next may = record {

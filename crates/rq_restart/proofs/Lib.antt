@@ -1,4 +1,3 @@
-pub mod Noting
 pub mod Going
 pub mod Restarts
 pub mod Parsing
@@ -9,3 +8,5 @@ pub mod Moments
 pub mod Paths
 pub mod Worked
 pub mod Tallying
+pub mod Undos
+pub mod Begun

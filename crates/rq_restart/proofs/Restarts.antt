@@ -1,36 +1,32 @@
 -- What a restart makes of a store that was left as a crash may leave one.
-use Rattle.std.proofs.Common.{◌≡◌, ℕ, ◌+◌, ◌<◌, ◌≤◌, List, [], ◌∷◌, length, reverse, false, refl, sym, ◌∙◌, ap, subst, inl, inr, arith, ◌^◌, Bool, replicate, Result, Ok, Err, OnOk, IfOk, IfErr}
+use Rattle.std.proofs.Common.{◌≡◌, ℕ, ◌+◌, ◌<◌, ◌≤◌, List, [], ◌∷◌, length, reverse, false, sym, ◌∙◌, ap, subst, inl, inr, arith, ◌^◌, Bool, replicate, Result, Ok, Err, OnOk, IfOk, IfErr}
 use Rattle.std.proofs.lemmas.List.{length-reverse}
 use Rattle.rq_model.specs.declared.record.Record.{Record}
-use Rattle.rq_model.specs.declared.record.Record.TheVariants as records
 use Rattle.rq_model.specs.declared.refusal.Refusal.{Refusal}
 use Rattle.rq_model.specs.declared.refusal.Refusal.TheVariants as why
 use Rattle.rq_model.specs.declared.refusal.Damage.TheVariants as damage
-use Rattle.rq_model.specs.Unended.{unfinished, lost}
+use Rattle.rq_model.specs.Unended.{lost}
 use Rattle.rq_page.specs.Sizes.{Sizes, page_count}
 use Rattle.rq_page.specs.Formatted.{IsFormatted, IsHeaderOf}
 use Rattle.rq_disk.specs.declared.device.PageDevice.{Ghosts}
 use Rattle.rq_disk.specs.declared.device.LogDevice as log_device
 use Rattle.rq_log.specs.Spelled.{spelled, AreSpelled}
-use Rattle.rq_pool.specs.Pooled.{Pooled, IsPool}
+use Rattle.rq_pool.specs.Pooled.{Pooled}
 use Rattle.rq_pool.specs.Reading.{IsSuperblock, ArePages, AreSeen, OnlyRead}
 use Rattle.rq_log.specs.Logged.{Logged}
-use Rattle.rq_model.specs.Incarnations.{incarnation_of, InOrder}
-use Rattle.rq_sound.specs.Sound.{IsSound}
-use Rattle.rq_store.specs.Opening.{FitsUpTo, IsCounted, opened, next_restart, IsLeft}
+use Rattle.rq_model.specs.Incarnations.{incarnation_of}
+use Rattle.rq_store.specs.Opening.{FitsUpTo, IsCounted, next_restart, IsLeft}
 use Rattle.rq_store.specs.Fitting.{FitsPage, AllFit, image_in, oldest}
 use Rattle.rq_store.proofs.Fitting.{oldest_all}
 use Rattle.rq_store.proofs.Cutting.{all_fit_longer, no_more_fit}
-use Rattle.rq_store.proofs.Opening.{opened_sound, sends_here}
-use Rattle.rq_sound.proofs.Instance.{instance_sound}
-use Rattle.rq_store.proofs.Redoing.{redone_slots}
 use Rattle.rq_store.proofs.Bounds.{fits_counted}
-use Rattle.rq_restart.specs.Analysis.{Analysis, analysis}
+use Rattle.rq_undone.specs.Analysis.{Analysis, analysis}
 use Rattle.rq_restart.specs.Restarting.{IsBegun, LogStops, IsRefusedFor, WasChecked}
-use Rattle.rq_restart.specs.Refused.{BeginsNot, MayBeShut, StopsAt, WhyShut}
-use Rattle.rq_restart.specs.Checked.{IsEnded, IsGoneThrough, IsBeyond, as_read}
+use Rattle.rq_restart.specs.Refused.{StopsAt, WhyShut}
+use Rattle.rq_restart.specs.Checked.{IsEnded, IsGoneThrough, IsBeyond, IsUndoneOn, as_read}
 use Rattle.rq_restart.specs.Repeating.{Paged, paged, Repeats, AreCounted, IsFirstBad, IsFirstUncounted}
-use Rattle.rq_restart.proofs.Noting.{noted_incarnation, noted_unfinished, noted_working, no_pairs, pairs_of, few_incarnations}
+use Rattle.rq_undone.proofs.Noting.{noted_incarnation, noted_working}
+use Rattle.rq_restart.proofs.Begun.{begun_continues}
 
 -- what follows from what an Ok says
 pub on_ok : {T E A B : Type 0} (r : Result T E) → (A → B) → OnOk r A → OnOk r B
@@ -65,66 +61,21 @@ if_err (Ok x) f h = h
 if_err (Err e) f h = f e h
 
 module _ (older : List Record) (xs : List Record) (same : older ≡ reverse xs) (h : Analysis) (k : h ≡ analysis (reverse xs)) where
-  noted_is : h ≡ analysis older
+  pub noted_is : h ≡ analysis older
   noted_is = k ∙ ap analysis (sym same)
 
   pub last_is : (last : ℕ) → last ≡ h.incarnation → last ≡ incarnation_of older
   last_is last e = e ∙ ap (λ (n : Analysis). n.incarnation) noted_is ∙ noted_incarnation older
 
-  pub begun_is : {L : Type 0} (log : Logged L) (last : ℕ) → last ≡ h.incarnation → log.records ≡ records.Restart (last + 1) ∷ older → (log.forced ≡ length log.records) × (log.failed ≡ false) → IsBegun older log
-  begun_is log last e r f = record { records = r ∙ ap (λ n. records.Restart (n + 1) ∷ older) (last_is last e); forced = f.0; running = f.1 }
+  -- nothing is noted exactly where every transaction that did something has ended
+  pub ended_is : h.working ≡ [] → IsEnded older
+  ended_is none = ap (λ (n : Analysis). n.working) (sym noted_is) ∙ none
 
-  -- nothing is noted exactly where everything in the log has ended
-  pub ended_is : (h.unfinished ≡ []) × (h.working ≡ []) → IsEnded older
-  ended_is none = (ap (λ (n : Analysis). n.unfinished) (sym noted_is) ∙ none.0, ap (λ (n : Analysis). n.working) (sym noted_is) ∙ none.1)
+  pub ended_not : (h.working ≡ [] → ⊥) → IsEnded older → ⊥
+  ended_not some none = some (ap (λ (n : Analysis). n.working) noted_is ∙ none)
 
-  pub ended_not : ((h.unfinished ≡ []) × (h.working ≡ []) → ⊥) → IsEnded older → ⊥
-  ended_not some none = some (ap (λ (n : Analysis). n.unfinished) noted_is ∙ none.0, ap (λ (n : Analysis). n.working) noted_is ∙ none.1)
-
-  -- everything has ended exactly where nothing is noted
-  pub settled_left : (z : Sizes) (image : ℕ → List ℕ) → IsLeft z image older → unfinished older ≡ [] → lost older ≡ [] → (h.unfinished ≡ []) × (h.working ≡ [])
-  settled_left z image left u l = (
-    ap (λ (n : Analysis). n.unfinished) noted_is ∙ no_pairs (analysis older).unfinished (noted_unfinished z older left.whole.legal ∙ u),
-    ap (λ (n : Analysis). n.working) noted_is ∙ noted_working z older left.whole.legal left.whole.reads ∙ l,
-  )
-
-  pub sound_is : (z : Sizes) (image : ℕ → List ℕ) (images : List (List ℕ)) → IsPool z images → (h.unfinished ≡ []) × (h.working ≡ []) → (IsLeft z image (reverse xs) → FitsUpTo z (image_in images) (reverse xs) (length xs)) → IsLeft z image older → IsSound (opened z images older)
-  sound_is z image images pool ended redone left =
-      let there : IsLeft z image (reverse xs) = subst (λ l. IsLeft z image l) same left in
-      let count : length xs ≡ length older = sym (length-reverse xs) ∙ ap length (sym same) in
-      let fits : FitsUpTo z (image_in images) older (length older) = subst (λ n. FitsUpTo z (image_in images) older n) count (subst (λ l. FitsUpTo z (image_in images) l (length xs)) (sym same) (redone there)) in
-      let none_unfinished : unfinished older ≡ [] = sym (noted_unfinished z older left.whole.legal) ∙ ap pairs_of (ap (λ (n : Analysis). n.unfinished) (sym noted_is) ∙ ended.0) in
-      let none_lost : lost older ≡ [] = sym (noted_working z older left.whole.legal left.whole.reads) ∙ ap (λ (n : Analysis). n.working) (sym noted_is) ∙ ended.1 in
-      instance_sound (opened z images older) (opened_sound z images older pool.range left.whole none_unfinished none_lost (redone_slots z older images left.whole.in_store fits)
-      (record { superblock = pool.superblock; headers = pool.headers; pages = λ p low high. (fits p low high).fits }))
-      (sends_here z images older pool.range left.whole none_unfinished none_lost (redone_slots z older images left.whole.in_store fits))
-
-  pub shut_is : (z : Sizes) (image : ℕ → List ℕ) (e : Refusal) (last before now : ℕ) → last ≡ h.incarnation → (untouched : Type 0) → BeginsNot e (length older) last before now untouched → MayBeShut (IsLeft z image older) older e before now
-  shut_is z image why.NoMemory last before now is untouched b = b.0
-  shut_is z image why.DiskWrite last before now is untouched b = b
-  shut_is z image why.LogFull last before now is untouched b = λ left. elim b.0 [
-    | inl full ↦ full
-    | inr many ↦ let few = few_incarnations older left.whole.order in let e = last_is last is in omega (arith, few, e, many)
-  ]
-  shut_is z image _ last before now is untouched b = absurd b
-
-  -- why the incarnation was not begun is why the store stays shut
-  pub shut_for : (z : Sizes) (e : Refusal) (last before now : ℕ) → last ≡ h.incarnation → (untouched : Type 0) (first now_paged : Paged) → InOrder older → IsEnded older → IsGoneThrough z older first now_paged
-      → BeginsNot e (length older) last before now untouched → WhyShut z older first e before now untouched
-  shut_for z why.NoMemory last before now is untouched first paged order ended gone b = b
-  shut_for z why.DiskWrite last before now is untouched first paged order ended gone b = (b, ended, (paged, gone))
-  shut_for z why.LogFull last before now is untouched first paged order ended gone b = (full, ended, (paged, gone), b.1) where
-    full : 2 ^ 50 ≤ length older
-    full = elim b.0 [
-      | inl is_full ↦ is_full
-      | inr many ↦ let few = few_incarnations older order in let e = last_is last is in omega (arith, few, e, many)
-    ]
-  shut_for z _ last before now is untouched first paged order ended gone b = absurd b
-
--- what was gone through is in order
-pub repeated_order : (z : Sizes) (log : List Record) (first last : Paged) → Repeats z log first last → InOrder log
-repeated_order z [] first last r = tt
-repeated_order z (q ∷ log) first last r = (r.2.belongs.next, repeated_order z log first r.0 r.1)
+  pub settled_left : (z : Sizes) (image : ℕ → List ℕ) → IsLeft z image older → lost older ≡ [] → h.working ≡ []
+  settled_left z image left l = ap (λ (n : Analysis). n.working) noted_is ∙ noted_working z older left.whole.legal left.whole.reads ∙ l
 
 -- of a device that was left alone, what follows from that
 pub shut_by : {U V : Type 0} (z : Sizes) (log : List Record) (first : Paged) (e : Refusal) (before now : ℕ) → (U → V) → WhyShut z log first e before now U → WhyShut z log first e before now V
@@ -143,7 +94,7 @@ module _ {P L : Type 0} (p : Ghosts P) (l : log_device.Ghosts L) (pages : P) (lo
   first_is = ap (λ (f : List Bool). record { image = image_in loaded.images; changed = f }) unchanged
 
   pub was_checked : (now : Pooled P) (records : List Record) (new : L) → now.sizes ≡ loaded.sizes → now.device ≡ loaded.device
-      → ((older : List Record) × AreSpelled older × (l.honest new → l.seen log ≡ spelled older) × IsGoneThrough loaded.sizes older (paged loaded) (paged now) × IsEnded older × (records ≡ next_restart older ∷ older) × (length older < 2 ^ 50))
+      → ((older : List Record) × AreSpelled older × (l.honest new → l.seen log ≡ spelled older) × IsEnded older × (undone : List Record) × IsUndoneOn loaded.sizes older undone (paged loaded) (paged now) × (records ≡ next_restart undone ∷ undone) × (length undone < 2 ^ 50))
       → WasChecked p l pages log now.sizes (paged now) records now.device new
   was_checked now records new same device h =
       subst (λ d. WasChecked p l pages log now.sizes (paged now) records d new) (sym device)
@@ -154,10 +105,11 @@ module _ {P L : Type 0} (p : Ghosts P) (l : log_device.Ghosts L) (pages : P) (lo
         older = h.0;
         are_spelled = h.1;
         reads = h.2;
-        gone_through = subst (λ first. IsGoneThrough loaded.sizes h.0 first (paged now)) first_is h.3;
-        ended = h.4;
-        begun = h.5;
-        room = h.6;
+        ended = h.3;
+        undone = h.4;
+        undone_on = subst (λ first. IsUndoneOn loaded.sizes h.0 h.4 first (paged now)) first_is h.5;
+        begun = h.6;
+        room = h.7;
       }))
 
   pub was_refused : (e : Refusal) (new_pages : P) (new_log : L) → new_pages ≡ loaded.device → p.faults loaded.device ≡ p.faults pages → LogStops l loaded.sizes (paged loaded) e log new_log → IsRefusedFor p l pages log e new_pages new_log
@@ -179,11 +131,14 @@ module _ (z : Sizes) (older xs : List Record) (same : older ≡ reverse xs) (fir
   -- why going through it stopped is why the store stays shut
   pub stops_shut : (e : Refusal) (before now : ℕ) (untouched : Type 0) → now ≡ before → untouched → StopsAt z (reverse xs) first e → WhyShut z older first e before now untouched
   stops_shut why.NoMemory before now untouched equal here h = (equal, here)
-  stops_shut (why.Damaged (damage.Record lsn)) before now untouched equal here h = (subst (λ l. IsFirstBad z l first lsn) (sym same) h, here)
+  stops_shut (why.Damaged (damage.Record lsn)) before now untouched equal here h = (inl (subst (λ l. IsFirstBad z l first lsn) (sym same) h), here)
   stops_shut _ before now untouched equal here h = absurd h
 
-  again : (last : Paged) → Repeats z (reverse xs) first last → Repeats z older first last
+  pub again : (last : Paged) → Repeats z (reverse xs) first last → Repeats z older first last
   again last h = subst (λ l. Repeats z l first last) (sym same) h
+
+  pub counted_is : (y : Sizes) (last : Paged) → AreCounted y (length xs) last → AreCounted y (length older) last
+  counted_is y last h = subst (λ n. AreCounted y n last) count h
 
   -- no number was beyond it
   pub gone_is : (last : Paged) → Repeats z (reverse xs) first last → AreCounted z (length xs) first → (y : Sizes) → y ≡ z → AreCounted y (length xs) last → IsGoneThrough z older first last
@@ -246,5 +201,6 @@ told_on z seen images are read = subst (λ b. IsSuperblock z b) (read 0 (omega a
 pub fit_begun : {P L : Type 0} (g : Ghosts P) (old new : P) (z : Sizes) (older : List Record) (log : Logged L)
     → IsBegun older log → OnlyRead g old new → AllFit (g.may_be old) z older → AllFit (g.may_be new) z (oldest log.forced log.records)
 fit_begun g old new z older log begun read f =
-    let all : oldest log.forced log.records ≡ next_restart older ∷ older = ap (λ n. oldest n log.records) begun.forced ∙ oldest_all log.records ∙ begun.records in
-    subst (λ l. AllFit (g.may_be new) z l) (sym all) (all_fit_longer (g.may_be new) z older (next_restart older ∷ older) (1, refl) (no_more_fit (g.may_be old) (g.may_be new) z older read.crash f))
+    let now : List Record = next_restart begun.undone ∷ begun.undone in
+    let all : oldest log.forced log.records ≡ now = ap (λ n. oldest n log.records) begun.forced ∙ oldest_all log.records ∙ begun.records in
+    subst (λ l. AllFit (g.may_be new) z l) (sym all) (all_fit_longer (g.may_be new) z older now (begun_continues older begun.undone (next_restart begun.undone) begun.undoes.undoing) (no_more_fit (g.may_be old) (g.may_be new) z older read.crash f))

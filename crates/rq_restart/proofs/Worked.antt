@@ -62,13 +62,13 @@ no_store z images s = by s.0 s.1.are_spelled s.1.is where
       let long = long_spelling r are.0 in
       omega (arith, n, m, long)
 
--- of a whole log, that everything has ended is that nothing is unfinished or lost: so it is of one that a restart
+-- of a whole log, that every transaction has ended is that none is lost: so it is of one that a restart
 -- ended, and not of one that a crash stopped
 restarted_ended : IsEnded (spelled_log restarted)
-restarted_ended = (refl, refl)
+restarted_ended = refl
 
 stopped_not_ended : IsEnded (spelled_log stopped) → ⊥
-stopped_not_ended e = let none = e.0 in cc none
+stopped_not_ended e = cc e
 
 -- a log in which a transaction is committed twice is not whole
 not_whole : (z : Sizes) (t : Txn) → IsWhole z (records.Commit t ∷ records.Commit t ∷ []) → ⊥

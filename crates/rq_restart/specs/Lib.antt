@@ -1,5 +1,4 @@
 pub mod Formatting
-pub mod Analysis
 pub mod Repeating
 pub mod Restarting
 pub mod Underway
@@ -7,3 +6,4 @@ pub mod Ended
 pub mod Once
 pub mod Checked
 pub mod Refused
+pub mod Undoing

@@ -1,5 +1,5 @@
 -- What a restart finds.
-use Rattle.std.specs.Prelude.{◌≡◌, ◌⊎◌, ℕ, ◌+◌, ◌%◌, ◌^◌, ◌<◌, ◌≤◌, false, List, [], ◌∷◌, length}
+use Rattle.std.specs.Prelude.{◌≡◌, ◌⊎◌, ℕ, ◌+◌, ◌%◌, ◌^◌, ◌<◌, ◌≤◌, false, List, [], ◌∷◌, drop, length}
 use Rattle.rq_model.specs.declared.record.Record.{Record}
 use Rattle.rq_model.specs.declared.refusal.Refusal.{Refusal}
 use Rattle.rq_model.specs.declared.refusal.Refusal.TheVariants as why
@@ -16,32 +16,45 @@ use Rattle.rq_pool.specs.Reading.{ArePages, AreSeen}
 use Rattle.rq_log.specs.Scanned as log_read
 use Rattle.rq_log.specs.Logged.{Logged, WasDurable}
 use Rattle.rq_log.specs.Crash.{LeavesOnly}
-use Rattle.rq_log.specs.Spelled.{spelled, AreSpelled}
-use Rattle.rq_store.specs.Opening.{IsLeft, next_restart, sent_in_slots, waiting_in}
+use Rattle.rq_log.specs.Spelled.{spelled, AreSpelled, GoesOn}
+use Rattle.rq_store.specs.Opening.{IsLeft, next_restart, opened, sent_in_slots, waiting_in}
+use Rattle.rq_store.specs.State.{State}
+use Rattle.rq_store.specs.Whole.{IsWhole}
+use Rattle.rq_undone.specs.Pages.{IsUndone}
+use Rattle.rq_restart.specs.Undoing.{IsAtBound}
 use Rattle.rq_restart.specs.Repeating.{Paged}
-use Rattle.rq_restart.specs.Checked.{IsEnded, IsGoneThrough, as_read}
+use Rattle.rq_restart.specs.Checked.{IsEnded, IsUndoneOn, as_read}
 use Rattle.rq_restart.specs.Refused.{WhyShut, IsFirstFault}
 
--- the log has one record more, which begins the incarnation after the last, and all its records are forced
+-- Behind the log that was read stand the records by which operations without an end are undone, and then one that begins
+-- the incarnation after the last. All are forced.
 pub record IsBegun {L : Type 0} (older : List Record) (log : Logged L) : Type 0 where
-  pub records : log.records ≡ next_restart older ∷ older
+  pub undone : List Record
+  pub undoes : IsUndone older undone
+  pub records : log.records ≡ next_restart undone ∷ undone
   pub forced : log.forced ≡ length log.records
   pub running : log.failed ≡ false
 
--- what is reported: the next incarnation, one record more, and nothing that was undone
-pub record Reports (older : List Record) (incarnation count undone gone : ℕ) : Type 0 where
+-- What was opened: over the log that was read with the records behind by which operations without an end are undone.
+abbrev pub IsOpenedOver : List Record → State → Type 0
+IsOpenedOver older s = IsUndone older (drop 1 s.records) × (s ≡ opened s.sizes s.images (drop 1 s.records))
+
+-- What is reported: the next incarnation, how many records are in the log, of a whole log how many operations were
+-- unfinished in it, and that no transaction was lost.
+pub record Reports (z : Sizes) (older records : List Record) (incarnation count undone gone : ℕ) : Type 0 where
   pub incarnation_is : incarnation ≡ incarnation_of older + 1
-  pub records_are : count ≡ length older + 1
-  pub unfinished_are : undone ≡ 0
+  pub records_are : count ≡ length records
+  pub unfinished_are : IsWhole z older → undone ≡ length (unfinished older)
   pub lost_are : gone ≡ 0
+  pub none_lost : IsWhole z older → lost older ≡ []
 
 -- why a restart was refused, with the failures of the pages' device before and after it, and those of the log's
 abbrev pub Stops : Type 0 → List Record → Refusal → ℕ → ℕ → ℕ → ℕ → Type 0
 Stops left log why.NoMemory before now old new = Unit {0}
 Stops left log why.DiskRead before now old new = (now ≡ (before + 1) % 2 ^ 64) ⊎ (new ≡ (old + 1) % 2 ^ 64)
 Stops left log why.DiskWrite before now old new = new ≡ (old + 1) % 2 ^ 64
-Stops left log why.LogFull before now old new = left → 2 ^ 50 ≤ length log
-Stops left log why.Unfinished before now old new = left → unfinished log ≡ [] → lost log ≡ [] → ⊥
+Stops left log why.LogFull before now old new = left → IsAtBound log
+Stops left log why.Unfinished before now old new = left → lost log ≡ [] → ⊥
 Stops left log (why.Damaged d) before now old new = left → ⊥
 Stops left log _ before now old new = ⊥
 
@@ -77,21 +90,35 @@ pub record AreTold (z : Sizes) (images : List (List ℕ)) (count : ℕ) (waiting
   pub tags : length sent.tags ≡ sender_count z
   pub few_sent : (g : ℕ) → sent_count sent g ≤ count
 
--- bytes of a log in which everything has ended, with the record that begins the next incarnation behind
+-- Bytes of a log with the first of the records behind it by which operations without an end are undone and the next
+-- incarnation is begun.
+pub record IsBegunBehind (older : List Record) (bytes : List ℕ) : Type 0 where
+  pub undone : List Record
+  pub undoes : IsUndone older undone
+  pub are_spelled : AreSpelled (next_restart undone ∷ undone)
+  pub ended : IsEnded older
+  -- so many of the newest lack
+  pub lacks : ℕ
+  pub some : lacks + length older ≤ length undone + 1
+  pub is : bytes ≡ spelled (drop lacks (next_restart undone ∷ undone))
+
+-- those of the log that was read
 pub record IsBegunOn (read bytes : List ℕ) : Type 0 where
   pub older : List Record
-  pub are_spelled : AreSpelled (next_restart older ∷ older)
   pub reads : read ≡ spelled older
-  pub ended : IsEnded older
-  pub is : bytes ≡ spelled (next_restart older ∷ older)
+  pub begun : IsBegunBehind older bytes
 
 module _ {L : Type 0} (g : log_device.Ghosts L) where
-  -- a crash might have left it of the log before, or it is these records, of which this is so
-  abbrev pub WasLeftOrIs : L → Type 0 → List Record → List ℕ → Type 0
-  WasLeftOrIs old so records c = g.may_leave old c ⊎ (so × (c ≡ spelled records))
+  -- a crash might have left it of the log before, or it is what was read with the first of the records behind
+  abbrev pub WasLeftOrBegun : L → List Record → List ℕ → Type 0
+  WasLeftOrBegun old older c = g.may_leave old c ⊎ IsBegunBehind older c
 
-  -- whatever a crash at any moment leaves of the log: what it might have left before, or what was read and the record
-  -- that begins the next incarnation
+  -- the same of these records, of which so many were forced
+  abbrev pub WasLeftOrForced : L → List Record → ℕ → List ℕ → Type 0
+  WasLeftOrForced old records kept c = g.may_leave old c ⊎ (AreSpelled records × GoesOn records kept (g.seen old) c)
+
+  -- whatever a crash at any moment leaves of the log: what it might have left before, or what was read with the first of
+  -- the records behind
   abbrev pub BeginsAtMost : L → L → Type 0
   BeginsAtMost old new = g.honest new → LeavesOnly g old new (λ c. g.may_leave old c ⊎ IsBegunOn (g.seen old) c)
 
@@ -120,7 +147,7 @@ module _ {P L : Type 0} (p : page_device.Ghosts P) (l : log_device.Ghosts L) (pa
       × LogStops l z (as_read z images) e log new_log)
 
   -- what was checked where it was not: every page as it was read, the log, each record of it and each before-image, and
-  -- the pages that history was repeated on
+  -- the pages that history was repeated on, with the records that undo
   pub record WasChecked (z : Sizes) (last : Paged) (records : List Record) (new_pages : P) (new_log : L) : Type 0 where
     pub images : List (List ℕ)
     pub sound : ArePages z images
@@ -128,7 +155,8 @@ module _ {P L : Type 0} (p : page_device.Ghosts P) (l : log_device.Ghosts L) (pa
     pub older : List Record
     pub are_spelled : AreSpelled older
     pub reads : l.honest new_log → l.seen log ≡ spelled older
-    pub gone_through : IsGoneThrough z older (as_read z images) last
     pub ended : IsEnded older
-    pub begun : records ≡ next_restart older ∷ older
-    pub room : length older < 2 ^ 50
+    pub undone : List Record
+    pub undone_on : IsUndoneOn z older undone (as_read z images) last
+    pub begun : records ≡ next_restart undone ∷ undone
+    pub room : length undone < 2 ^ 50

@@ -2,8 +2,7 @@
 ghost use Rattle.rq_restart.specs.Ended.{EndedIsSettled};
 ghost use Rattle.rq_restart.specs.Once.{AsManyAsTheLog, OneLogEach, OneSizeEach};
 
-/// Of every whole log: what a restart asks before it opens it is that no operation is unfinished and no transaction
-/// lost.
+/// Of every whole log: what a restart asks before it opens it is that no transaction is lost.
 pub fn ended_is_settled()
     ensures { EndedIsSettled }
 {}

@@ -2,8 +2,8 @@
 #![tactic(auto)]
 
 pub mod format;
-mod history;
 pub mod laws;
 mod redo;
 pub mod restart;
+mod undoing;
 mod waiting;

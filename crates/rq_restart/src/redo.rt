@@ -6,11 +6,10 @@ ghost use Rattle.rq_page.specs.Slots.{IsSlotOf};
 ghost use Rattle.rq_pool.specs.Pooled.{IsPool};
 ghost use Rattle.rq_store.specs.Opening.{IsRedone, Redoes, IsSoundTold, MayRedo, FitsUpTo, IsCounted, IsLeft};
 ghost use Rattle.rq_store.specs.Fitting.{ToldWrite, told_by, image_in};
-ghost use Rattle.rq_restart.specs.Analysis.{analysis};
+ghost use Rattle.rq_undone.specs.Analysis.{analysis};
 ghost use Rattle.rq_restart.specs.Repeating.{paged, Repeats, Marks, IsMarked};
 ghost use Rattle.rq_restart.specs.Refused.{StopsIn, StopsAt, IsFirstFault};
 
-use crate::history::History;
 use rq_disk::PageDevice;
 use rq_model::record::{Record, Slot};
 use rq_model::refusal::{Damage, Refusal};
@@ -19,6 +18,7 @@ use rq_page::addr::Addr;
 use rq_page::layout::{Layout, SLOTS};
 use rq_page::page::Page;
 use rq_pool::Pages;
+use rq_undone::History;
 use std::alloc::Global;
 
 /// The first page whose LSN, or a number in whose slots, is greater than the number of records.
@@ -78,7 +78,7 @@ pub(crate) fn repeat_history<P: PageDevice + Drop>(
     for index in 0..records.len() {
         let record = &records[index];
         let lsn = index as u64 + 1;
-        let is_next = history.note(record)?;
+        let is_next = history.note(lsn, record)?;
         if !is_next || !repeat(pages, lsn, record) {
             return Err(Refusal::Damaged(Damage::Record(lsn)));
         }
@@ -106,8 +106,8 @@ pub(crate) fn first_fault<P: PageDevice + Drop>(
     }
 }
 
-// Makes what a record writes, where its page is older. False where the record doesn't fit the store.
-fn repeat<P: PageDevice + Drop>(pages: &mut Pages<P>, lsn: Lsn, record: &Record) -> bool
+/// Makes what a record writes, where its page is older. False where the record doesn't fit the store.
+pub(crate) fn repeat<P: PageDevice + Drop>(pages: &mut Pages<P>, lsn: Lsn, record: &Record) -> bool
     ensures redone { IsTrue result → Redoes (told_by «record».now) lsn (image_in pages.old.images)
         (image_in pages.new.images) }
     ensures marked { IsTrue result → Marks (told_by «record».now) lsn (paged pages.old) pages.new.changed }

@@ -8,6 +8,7 @@ ghost use Rattle.rq_log.specs.Spelled.{spelled, AreSpelled};
 ghost use Rattle.rq_record.specs.Spelling.{IsRecord};
 ghost use Rattle.rq_page.specs.Sizes.{Sizes};
 ghost use Rattle.rq_disk.specs.Device.{Only};
+ghost use Rattle.rq_pool.specs.Pooled.{IsPool};
 ghost use Rattle.rq_pool.specs.Reading.{IsSuperblock, OnlyRead};
 ghost use Rattle.rq_model.specs.Commits.{committed_of};
 ghost use Rattle.rq_model.specs.Ledger.{Ledger, after};
@@ -18,14 +19,16 @@ ghost use Rattle.rq_store.specs.Opening.{opened, next_restart, IsLeft};
 ghost use Rattle.rq_store.specs.Fitting.{AllFit, image_in};
 ghost use Rattle.rq_engine.specs.Crash.{AreFit};
 ghost use Rattle.rq_engine.specs.Opened.{pooled};
-ghost use Rattle.rq_restart.specs.Repeating.{paged};
-ghost use Rattle.rq_restart.specs.Restarting.{IsReadAs, IsLeftOn, IsReady, AreTold, IsBegun, Reports, Stops, WasLeftOrIs, BeginsAtMost, LogStops, IsRefusedFor, WasChecked};
-ghost use Rattle.rq_restart.specs.Refused.{BeginsNot, MayBeShut, WhyShut};
-ghost use Rattle.rq_restart.specs.Checked.{IsEnded, IsGoneThrough};
+ghost use Rattle.rq_restart.specs.Repeating.{AreCounted, Paged, Repeats, paged};
+ghost use Rattle.rq_undone.specs.Analysis.{analysis};
+ghost use Rattle.rq_restart.specs.Restarting.{IsReadAs, IsLeftOn, IsReady, AreTold, IsBegun, IsOpenedOver, Reports, Stops, WasLeftOrBegun, WasLeftOrForced, BeginsAtMost, LogStops, IsRefusedFor, WasChecked};
+ghost use Rattle.rq_restart.specs.Refused.{BeginsNot, MayBeShut, WhyNotBegun, WhyShut};
+ghost use Rattle.rq_restart.specs.Checked.{HasRepeated, IsEnded, IsUndoneOn};
 ghost use Rattle.rq_engine.specs.Devices.{Path, EachPair};
 ghost use Rattle.rq_restart.specs.Underway.{OfStores, IsLeftOrGoesOn, pages_left, log_left};
 
 use crate::redo::{first_fault, miscounted_page, repeat_history};
+use crate::undoing::undo_unfinished;
 use crate::waiting::{Told, told_groups};
 use rq_disk::{LogDevice, PageDevice};
 use rq_engine::engine::Engine;
@@ -35,6 +38,7 @@ use rq_model::record::Record;
 use rq_model::refusal::{Damage, Refusal};
 use rq_pool::Pages;
 use rq_record::{shows_fits, spelled_len};
+use rq_undone::History;
 use std::alloc::Global;
 
 /// What a restart found and did.
@@ -42,9 +46,9 @@ use std::alloc::Global;
 pub struct Report {
     /// The incarnation that begins.
     pub incarnation: u64,
-    /// How many operations had no end, and are undone: so far 0, since such a log is refused.
+    /// How many operations had no end, and are undone.
     pub unfinished: u64,
-    /// How many transactions had neither Commit nor AbortEnd, and are undone: so far 0, too.
+    /// How many transactions had neither Commit nor AbortEnd, and are undone: so far 0, since such a log is refused.
     pub lost: u64,
     /// How many records are now in the log.
     pub records: u64,
@@ -70,13 +74,13 @@ pub struct Stopped<P, L> {
     pub log: L,
 }
 
-/// Opens a store: reads and checks its pages and its log, repeats history on the pages, and forces the
-/// Restart record of a new incarnation.
+/// Opens a store: reads and checks its pages and its log, repeats history on the pages, undoes operations that have no
+/// end, and forces the records of that with the Restart record of a new incarnation.
 ///
 /// # Errors
 /// `NoMemory`; `DiskRead` or `DiskWrite` where a device fails, `Damaged` where a page or a record
-/// breaks the format, `Unfinished` where the log holds an operation or a transaction that has not
-/// ended, `LogFull` where there is no room for the Restart record.
+/// breaks the format, `Unfinished` where the log holds a transaction that finished an operation and has not
+/// ended, `LogFull` where there is no room for the records.
 pub fn restart<P: PageDevice + Drop, L: LogDevice + Drop>(
     alloc: Global,
     pages: P,
@@ -84,10 +88,10 @@ pub fn restart<P: PageDevice + Drop, L: LogDevice + Drop>(
 ) -> Result<(Engine<P, L>, Report), Stopped<P, L>>
     // What an opened store is, over the log as it was read.
     ensures report { IfOk result (λ o. (older : List Record) → IsReadAs L.LogDevice log o.0.log older
-        → Reports older o.1.incarnation o.1.records o.1.unfinished o.1.lost) }
+        → Reports o.0.state.sizes older o.0.state.records o.1.incarnation o.1.records o.1.unfinished o.1.lost) }
     ensures sizes { IfOk result (λ o. P.honest o.0.pages → IsSuperblock o.0.state.sizes (P.seen pages 0)) }
     ensures value { IfOk result (λ o. (older : List Record) → IsReadAs L.LogDevice log o.0.log older
-        → o.0.state ≡ opened o.0.state.sizes o.0.state.images older) }
+        → IsOpenedOver older o.0.state) }
     ensures sound { IfOk result (λ o. (older : List Record) → IsReadAs L.LogDevice log o.0.log older
         → IsLeftOn P.PageDevice o.0.state.sizes pages o.0.pages older → IsSound o.0.state) }
     ensures entry { IfOk result (λ o. (older : List Record) → IsReadAs L.LogDevice log o.0.log older →
@@ -134,10 +138,10 @@ fn reopen<P: PageDevice + Drop, L: LogDevice + Drop>(
 ) -> Result<(Engine<P, L>, Report), Stopped<P, L>>
     // What is opened, over the log as it was read.
     ensures report { IfOk result (λ o. (older : List Record) → IsReadAs L.LogDevice log o.0.log older
-        → Reports older o.1.incarnation o.1.records o.1.unfinished o.1.lost) }
+        → Reports o.0.state.sizes older o.0.state.records o.1.incarnation o.1.records o.1.unfinished o.1.lost) }
     ensures sizes { IfOk result (λ o. P.honest o.0.pages → IsSuperblock o.0.state.sizes (P.seen pages 0)) }
     ensures value { IfOk result (λ o. (older : List Record) → IsReadAs L.LogDevice log o.0.log older
-        → o.0.state ≡ opened o.0.state.sizes o.0.state.images older) }
+        → IsOpenedOver older o.0.state) }
     ensures sound { IfOk result (λ o. (older : List Record) → IsReadAs L.LogDevice log o.0.log older
         → IsLeftOn P.PageDevice o.0.state.sizes pages o.0.pages older → IsSound o.0.state) }
     ensures committed { IfOk result (λ o. (older : List Record) → IsReadAs L.LogDevice log o.0.log older
@@ -193,7 +197,8 @@ fn open<P: PageDevice + Drop, L: LogDevice + Drop>(
     ensures begun { IfOk result (λ opened. (older : List Record) → IsReadAs L.LogDevice log opened.log.device older
         → IsBegun older opened.log) }
     ensures report { IfOk result (λ opened. (older : List Record) → IsReadAs L.LogDevice log opened.log.device older
-        → Reports older opened.report.incarnation opened.report.records opened.report.unfinished opened.report.lost) }
+        → Reports opened.pages.sizes older opened.log.records opened.report.incarnation opened.report.records
+        opened.report.unfinished opened.report.lost) }
     ensures sizes { IfOk result (λ opened. P.honest opened.pages.device
         → IsSuperblock opened.pages.sizes (P.seen pages 0)) }
     ensures cells { IfOk result (λ opened. opened.cells
@@ -202,7 +207,7 @@ fn open<P: PageDevice + Drop, L: LogDevice + Drop>(
         (length opened.log.records) opened.told.waiting opened.told.sent) }
     ensures sound { IfOk result (λ o. (older : List Record) → IsReadAs L.LogDevice log o.log.device older
         → IsLeftOn P.PageDevice o.pages.sizes pages o.pages.device older
-        → IsSound (opened o.pages.sizes o.pages.images older)) }
+        → IsSound (opened o.pages.sizes o.pages.images (drop 1 o.log.records))) }
     // What an engine may be opened over.
     ensures ready { IfOk result (λ o. IsReady L.LogDevice o.report.incarnation o.log) }
     // What is left of both devices, on each answer.
@@ -247,14 +252,16 @@ fn restart_log<P: PageDevice + Drop, L: LogDevice + Drop>(
     ensures begun { IfOk result (λ opened. (older : List Record) → IsReadAs L.LogDevice log opened.log.device older
         → IsBegun older opened.log) }
     ensures report { IfOk result (λ opened. (older : List Record) → IsReadAs L.LogDevice log opened.log.device older
-        → Reports older opened.report.incarnation opened.report.records opened.report.unfinished opened.report.lost) }
+        → Reports opened.pages.sizes older opened.log.records opened.report.incarnation opened.report.records
+        opened.report.unfinished opened.report.lost) }
     ensures sizes { IfOk result (λ opened. opened.pages.sizes ≡ pages.sizes) }
     ensures cells { IfOk result (λ opened. opened.cells
         ≡ count_used opened.pages.sizes (slots_in opened.pages.sizes opened.pages.images)) }
     ensures told { IfOk result (λ opened. AreTold opened.pages.sizes opened.pages.images
         (length opened.log.records) opened.told.waiting opened.told.sent) }
     ensures sound { IfOk result (λ o. (older : List Record) → IsReadAs L.LogDevice log o.log.device older
-        → IsLeft pages.sizes (image_in pages.images) older → IsSound (opened pages.sizes o.pages.images older)) }
+        → IsLeft pages.sizes (image_in pages.images) older
+        → IsSound (opened pages.sizes o.pages.images (drop 1 o.log.records))) }
     // What an engine may be opened over.
     ensures ready { IfOk result (λ o. IsReady L.LogDevice o.report.incarnation o.log) }
     // What is left of both devices, on each answer.
@@ -264,8 +271,9 @@ fn restart_log<P: PageDevice + Drop, L: LogDevice + Drop>(
     ensures any_moment_back { IfErr result (λ stopped. BeginsAtMost L.LogDevice log stopped.log) }
     // What was checked, or why it was refused.
     ensures checked { IfOk result (λ o. (older : List Record) × AreSpelled older × (L.honest o.log.device →
-        L.seen log ≡ spelled older) × IsGoneThrough pages.sizes older (paged pages) (paged o.pages) ×
-        IsEnded older × (o.log.records ≡ next_restart older ∷ older) × (length older < 2 ^ 50)) }
+        L.seen log ≡ spelled older) × IsEnded older × (undone : List Record)
+        × IsUndoneOn pages.sizes older undone (paged pages) (paged o.pages)
+        × (o.log.records ≡ next_restart undone ∷ undone) × (length undone < 2 ^ 50)) }
     ensures refused { IfErr result (λ stopped. LogStops L.LogDevice pages.sizes
         (paged pages) stopped.refusal log stopped.log) }
     ensures room { IfOk result (λ o. o.log.reserved ≡ 0) }
@@ -306,8 +314,8 @@ fn restart_log<P: PageDevice + Drop, L: LogDevice + Drop>(
     }
 }
 
-// Goes through the log, whose records these are, and begins the next incarnation. The pages are as it says then. Gives
-// what its directory tells, too.
+// Goes through the log, whose records these are, undoes what has no end in it, and begins the next incarnation. The pages
+// are as it says then. Gives what the directory tells, too.
 fn go_on<P: PageDevice + Drop, L: LogDevice + Drop>(
     alloc: Global,
     pages: &mut Pages<P>,
@@ -319,10 +327,10 @@ fn go_on<P: PageDevice + Drop, L: LogDevice + Drop>(
     // What the log comes to.
     ensures begun { OnOk result (IsBegun log.old.records log.new) }
     ensures sizes { pages.new.sizes ≡ pages.old.sizes }
-    ensures report { IfOk result (λ begun. Reports log.old.records begun.1.incarnation begun.1.records
-        begun.1.unfinished begun.1.lost) }
+    ensures report { IfOk result (λ begun. Reports pages.old.sizes log.old.records log.new.records begun.1.incarnation
+        begun.1.records begun.1.unfinished begun.1.lost) }
     ensures sound { OnOk result (IsLeft pages.old.sizes (image_in pages.old.images) log.old.records
-        → IsSound (opened pages.old.sizes pages.new.images log.old.records)) }
+        → IsSound (opened pages.old.sizes pages.new.images (drop 1 log.new.records))) }
     ensures told { IfOk result (λ begun. AreTold pages.new.sizes pages.new.images
         (length log.new.records) begun.0.waiting begun.0.sent) }
     ensures ready { IfOk result (λ begun. IsReady L.LogDevice begun.1.incarnation log.new) }
@@ -332,11 +340,11 @@ fn go_on<P: PageDevice + Drop, L: LogDevice + Drop>(
     ensures any_moment { L.honest log.new.device → AreSpelled log.old.records
         → L.seen log.old.device ≡ spelled log.old.records
         → LeavesOnly L.LogDevice log.old.device log.new.device
-        (WasLeftOrIs L.LogDevice log.old.device (IsEnded log.old.records × IsRecord (next_restart log.old.records))
-        (next_restart log.old.records ∷ log.old.records)) }
+        (WasLeftOrBegun L.LogDevice log.old.device log.old.records) }
     // What was checked, or why it was refused.
-    ensures checked { OnOk result (IsGoneThrough pages.old.sizes log.old.records (paged pages.old) (paged pages.new) ×
-        IsEnded log.old.records) }
+    ensures checked { OnOk result (IsEnded log.old.records × (undone : List Record)
+        × IsUndoneOn pages.old.sizes log.old.records undone (paged pages.old) (paged pages.new)
+        × (log.new.records ≡ next_restart undone ∷ undone)) }
     ensures shut { IfErr result (λ e. WhyShut pages.old.sizes log.old.records (paged pages.old) e
         (L.faults log.old.device) (L.faults log.new.device) (log.new.device ≡ log.old.device)) }
     // Room, failures, and what a refusal says of a store that was left so.
@@ -347,7 +355,7 @@ fn go_on<P: PageDevice + Drop, L: LogDevice + Drop>(
         (L.faults log.new.device)) }
 {
     let as_read = miscounted_page(pages, records.len() as u64);
-    let history = repeat_history(alloc, pages, records)?;
+    let mut history = repeat_history(alloc, pages, records)?;
     if let Some(page) = as_read {
         return Err(Refusal::Damaged(Damage::Page(page)));
     }
@@ -357,31 +365,78 @@ fn go_on<P: PageDevice + Drop, L: LogDevice + Drop>(
     if !history.is_settled() {
         return Err(Refusal::Unfinished);
     }
+    match begin_next(alloc, pages, log, &mut history) {
+        Ok(begun) => Ok(begun),
+        Err(refusal) => Err(refusal),
+    }
+}
+
+// Undoes operations that have no end in the log, of which this is the history, and begins the next incarnation. Gives what
+// the directory tells, too.
+fn begin_next<P: PageDevice + Drop, L: LogDevice + Drop>(
+    alloc: Global,
+    pages: &mut Pages<P>,
+    log: &mut Log<L>,
+    history: &mut History,
+) -> Result<(Told, Report), Refusal>
+    requires history { history.old ≡ analysis log.old.records }
+    requires ended { IsEnded log.old.records }
+    requires running { log.old.failed ≡ false }
+    requires counted { AreCounted pages.old.sizes (length log.old.records) (paged pages.old) }
+    // What the log and the pages come to.
+    ensures begun { OnOk result (IsBegun log.old.records log.new) }
+    ensures repeated { OnOk result (HasRepeated pages.old.sizes log.old.records log.new.records (paged pages.old)
+        (paged pages.new)) }
+    ensures report { IfOk result (λ begun. Reports pages.old.sizes log.old.records log.new.records begun.1.incarnation
+        begun.1.records begun.1.unfinished begun.1.lost) }
+    ensures told { IfOk result (λ begun. AreTold pages.new.sizes pages.new.images
+        (length log.new.records) begun.0.waiting begun.0.sent) }
+    ensures ready { IfOk result (λ begun. IsReady L.LogDevice begun.1.incarnation log.new) }
+    // What is left of both devices.
+    ensures sizes { pages.new.sizes ≡ pages.old.sizes }
+    ensures pool { OnOk result (IsPool pages.new.sizes pages.new.images) }
+    ensures pages { pages.new.device ≡ pages.old.device }
+    ensures honest { L.honest log.new.device → L.honest log.old.device }
+    ensures any_moment { L.honest log.new.device → AreSpelled log.old.records
+        → L.seen log.old.device ≡ spelled log.old.records
+        → LeavesOnly L.LogDevice log.old.device log.new.device
+        (WasLeftOrBegun L.LogDevice log.old.device log.old.records) }
+    // Room, failures, and why it was refused.
+    ensures room { OnOk result (log.new.reserved ≡ log.old.reserved) }
+    ensures cause { OnOk result (L.faults log.new.device ≡ L.faults log.old.device) }
+    ensures stops { IfErr result (λ e. (first : Paged) → Repeats pages.old.sizes log.old.records first (paged pages.old)
+        → WhyNotBegun pages.old.sizes log.old.records first e (L.faults log.old.device) (L.faults log.new.device)
+        (log.new.device ≡ log.old.device)) }
+{
+    let unfinished = history.unfinished();
+    undo_unfinished(pages, log, history)?;
     let told = told_groups(alloc, pages)?;
-    match begin_incarnation(log, history.incarnation()) {
+    match begin_incarnation(log, history.incarnation(), unfinished) {
         Ok(report) => Ok((told, report)),
         Err(refusal) => Err(refusal),
     }
 }
 
-fn begin_incarnation<L: LogDevice + Drop>(log: &mut Log<L>, last: u64) -> Result<Report, Refusal>
+fn begin_incarnation<L: LogDevice + Drop>(
+    log: &mut Log<L>,
+    last: u64,
+    unfinished: u64,
+) -> Result<Report, Refusal>
     requires { log.old.failed ≡ false }
     ensures records { OnOk result (log.new.records ≡ records.Restart (last + 1) ∷ log.old.records) }
     ensures forced { OnOk result ((log.new.forced ≡ length log.new.records) × (log.new.failed ≡ false)) }
     ensures report { IfOk result (λ report. (report.incarnation ≡ last + 1) × (report.records ≡ length log.new.records)
-        × (report.unfinished ≡ 0) × (report.lost ≡ 0)) }
+        × (report.unfinished ≡ unfinished) × (report.lost ≡ 0)) }
     ensures ready { IfOk result (λ report. IsReady L.LogDevice report.incarnation log.new) }
     ensures cause { OnOk result (L.faults log.new.device ≡ L.faults log.old.device) }
     ensures honest { L.honest log.new.device → L.honest log.old.device }
-    ensures any_moment { L.honest log.new.device → AreSpelled log.old.records
-        → L.seen log.old.device ≡ spelled log.old.records
-        → LeavesOnly L.LogDevice log.old.device log.new.device
-        (WasLeftOrIs L.LogDevice log.old.device (IsRecord (records.Restart (last + 1)))
-        (records.Restart (last + 1) ∷ log.old.records)) }
+    ensures any_moment { L.honest log.new.device → LeavesOnly L.LogDevice log.old.device log.new.device
+        (WasLeftOrForced L.LogDevice log.old.device (records.Restart (last + 1) ∷ log.old.records) log.old.forced) }
     ensures room { OnOk result (log.new.reserved ≡ log.old.reserved) }
     ensures err { IfErr result (λ e. BeginsNot e (length log.old.records) last (L.faults log.old.device) (L.faults
         log.new.device) (log.new.device ≡ log.old.device)) }
 {
+    log.shows_kept();
     if log.last() >= LOG_LIMIT {
         return Err(Refusal::LogFull);
     }
@@ -395,7 +450,7 @@ fn begin_incarnation<L: LogDevice + Drop>(log: &mut Log<L>, last: u64) -> Result
     let records = log.force()?;
     Ok(Report {
         incarnation,
-        unfinished: 0,
+        unfinished,
         lost: 0,
         records,
     })

@@ -1,5 +1,6 @@
 //! What the directory of a store in which nothing is open tells of each sender: what waits, and what it sent.
 ghost use Rattle.std.specs.Prelude.{◌≡◌, IfOk};
+ghost use Rattle.rq_pool.specs.Pooled.{IsPool};
 ghost use Rattle.rq_store.specs.Opening.{sent_in_slots, waiting_in};
 
 use rq_disk::PageDevice;
@@ -22,6 +23,7 @@ pub(crate) fn told_groups<P: PageDevice + Drop>(
 ) -> Result<Told, NoMemory>
     ensures waiting { IfOk result (λ told. told.waiting ≡ waiting_in pages.now.sizes pages.now.images) }
     ensures sent { IfOk result (λ told. told.sent ≡ sent_in_slots pages.now.sizes pages.now.images) }
+    ensures pool { IsPool pages.now.sizes pages.now.images }
 {
     let senders = pages.layout().senders();
     let mut waiting = Waiting::new(alloc, senders)?;

@@ -1,7 +1,7 @@
 use Rattle.std.proofs.Common.{◌≡◌, reverse}
 use Rattle.rq_store.specs.Opening.{FitsUpTo, IsLeft}
 use Rattle.rq_store.specs.Fitting.{oldest, image_in}
-use Rattle.rq_restart.specs.Analysis.{analysis}
+use Rattle.rq_undone.specs.Analysis.{analysis}
 use Rattle.rq_restart.specs.Repeating.{paged, Repeats}
 use Rattle.rq_restart.proofs.redo.repeat_history.Given as goal
 

@@ -1,4 +1,4 @@
-use Rattle.std.proofs.Common.{◌≡◌, length, reverse, sym, ap, subst, inl, inr, arith}
+use Rattle.std.proofs.Common.{◌≡◌, drop, length, reverse, sym, ap, subst, inl, inr, arith}
 use Rattle.rq_sound.specs.Sound.{IsSound}
 use Rattle.rq_store.specs.Opening.{opened, IsLeft}
 use Rattle.rq_store.specs.Fitting.{image_in}
@@ -24,14 +24,16 @@ returns-in-Ok-go_on-clause-report g c =
     let read = rw c.in-Ok.is at c.scan-records.ensures.read in
     let same : c.in-Ok.log.records ≡ older = log_is older c.in-Ok.log.records (reverse c.scan-records.result.records.items) _ r.are_spelled r.reads read.0 c.scan-records.ensures.spelled (read.1 (c.go_on.ensures.honest r.honest)) in
     let t = c.in-Ok-go_on.report in
-    subst (λ l. Reports l t.incarnation t.records t.unfinished t.lost) same c.in-Ok-go_on.ensures.report
+    let z = c.go_on.new.pages.sizes in
+    let now = c.go_on.new.log.records in
+    subst (λ l. Reports z l now t.incarnation t.records t.unfinished t.lost) same (subst (λ y. Reports y c.in-Ok.log.records now t.incarnation t.records t.unfinished t.lost) (sym c.go_on.ensures.sizes) c.in-Ok-go_on.ensures.report)
 
 pub returns-in-Ok-go_on-clause-sound : goal.returns-in-Ok-go_on-clause-sound
 returns-in-Ok-go_on-clause-sound g c =
     λ older r.
     let read = rw c.in-Ok.is at c.scan-records.ensures.read in
     let same : c.in-Ok.log.records ≡ older = log_is older c.in-Ok.log.records (reverse c.scan-records.result.records.items) _ r.are_spelled r.reads read.0 c.scan-records.ensures.spelled (read.1 (c.go_on.ensures.honest r.honest)) in
-    subst (λ l. IsLeft c.args.pages.sizes (image_in c.args.pages.images) l → IsSound (opened c.args.pages.sizes c.go_on.new.pages.images l)) same c.in-Ok-go_on.ensures.sound
+    subst (λ l. IsLeft c.args.pages.sizes (image_in c.args.pages.images) l → IsSound (opened c.args.pages.sizes c.go_on.new.pages.images (drop 1 c.go_on.new.log.records))) same c.in-Ok-go_on.ensures.sound
 
 pub returns-in-Ok-clause-err : goal.returns-in-Ok-clause-err
 returns-in-Ok-clause-err g c =
@@ -76,7 +78,7 @@ returns-in-Ok-go_on-clause-checked g c =
     let told = c.scan-records.ensures in
     let read = rw c.in-Ok.is at told.read in
     let went = c.in-Ok-go_on.ensures in
-    (c.in-Ok.log.records, subst AreSpelled (sym read.0) told.spelled, (λ h. read.1 (c.go_on.ensures.honest h)), went.checked.0, went.checked.1, went.begun.records, (let n = went.ready.count in let e = ap length went.begun.records in omega (arith, n, e)))
+    (c.in-Ok.log.records, subst AreSpelled (sym read.0) told.spelled, (λ h. read.1 (c.go_on.ensures.honest h)), went.checked.0, went.checked.1, went.checked.2, went.checked.3, (let n = went.ready.count in let e = ap length went.checked.3 in omega (arith, n, e)))
 
 pub returns-in-Ok-clause-refused : goal.returns-in-Ok-clause-refused
 returns-in-Ok-clause-refused g c =

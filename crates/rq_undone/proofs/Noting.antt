@@ -21,7 +21,7 @@ use Rattle.rq_views.specs.Items.{items, layout_of, operation, ReadsItsDeeds}
 use Rattle.rq_views.proofs.Strangers.{has_end_same}
 use Rattle.rq_model.specs.Incarnations.{InOrder, incarnation_of}
 use Rattle.rq_store.proofs.Opening.{over_same}
-use Rattle.rq_restart.specs.Analysis.{Analysis, analysis, has_sub, with_sub, without_sub, with_txn, without_txn}
+use Rattle.rq_undone.specs.Analysis.{Analysis, analysis, has_sub, with_sub, without_sub, with_txn, without_txn}
 
 pub noted_incarnation : (log : List Record) → (analysis log).incarnation ≡ incarnation_of log
 noted_incarnation [] = refl
@@ -82,7 +82,7 @@ txn_more f ts t e = elim (cases_Bool (has_txn t ts)) [
   | inr off ↦ let k : has_txn t (filter f ts) ≡ false = txn_kept f ts t e ∙ off in rw off (rw k (filter_behind f ts t e))
 ]
 
-abbrev pair_of : Sub → Txn × ℕ
+abbrev pub pair_of : Sub → Txn × ℕ
 pair_of o = (o.txn, o.number)
 
 abbrev pub pairs_of : List Sub → List (Txn × ℕ)

@@ -1,9 +1,9 @@
 use Rattle.rq_views.specs.Log.{same_op}
 use Rattle.std.specs.List.{list_any}
 use Rattle.std.proofs.Common.{◌≡◌, true, ap, sym, ◌∙◌}
-use Rattle.rq_restart.specs.Analysis.{Analysis, has_sub}
-use Rattle.rq_restart.proofs.Noting.{any_sub, sub_there}
-use Rattle.rq_restart.proofs.history.History.begin_operation.Goals as goal
+use Rattle.rq_undone.specs.Analysis.{Analysis, has_sub}
+use Rattle.rq_undone.proofs.Noting.{any_sub, sub_there}
+use Rattle.rq_undone.proofs.history.History.begin_operation.Goals as goal
 
 pub returns-then-contains-clause-ok : goal.returns-then-contains-clause-ok
 returns-then-contains-clause-ok c =

@@ -1,9 +1,9 @@
 use Rattle.std.proofs.Common.{◌≡◌, true, ap, sym, ◌∙◌}
 use Rattle.rq_model.specs.Words.{same_txn, has_txn}
 use Rattle.std.specs.List.{list_any}
-use Rattle.rq_restart.specs.Analysis.{Analysis}
-use Rattle.rq_restart.proofs.Noting.{any_txn, txn_there}
-use Rattle.rq_restart.proofs.history.History.begin_transaction.Goals as goal
+use Rattle.rq_undone.specs.Analysis.{Analysis}
+use Rattle.rq_undone.proofs.Noting.{any_txn, txn_there}
+use Rattle.rq_undone.proofs.history.History.begin_transaction.Goals as goal
 
 pub returns-then-contains-clause-ok : goal.returns-then-contains-clause-ok
 returns-then-contains-clause-ok c =

@@ -1,0 +1,129 @@
+-- Undoing operations that have no end, record by record.
+use Rattle.std.proofs.Common.{◌≡◌, ℕ, ◌+◌, ◌<◌, List, [], ◌∷◌, length, inl, inr, refl, sym, ◌∙◌, ap, subst, arith}
+use Rattle.rq_model.specs.declared.record.Record.{Record}
+use Rattle.rq_model.specs.declared.record.Record.TheVariants.{PageOp, PageUndo, OpEnd, OpVoid, CompEnd, Commit, Restart, AbortEnd}
+use Rattle.rq_model.specs.declared.refusal.Refusal.{Refusal}
+use Rattle.rq_model.specs.declared.refusal.Refusal.TheVariants as why
+use Rattle.rq_model.specs.declared.refusal.Damage.TheVariants as damage
+use Rattle.rq_model.specs.declared.txn.Sub.{Sub}
+use Rattle.rq_model.specs.Words.{In}
+use Rattle.rq_model.specs.Incarnations.{IsNext, incarnation_of}
+use Rattle.rq_page.specs.Sizes.{Sizes}
+use Rattle.rq_record.specs.Spelling.{IsInRange, IsSlotNumber, IsTxnInRange}
+use Rattle.rq_log.specs.Spelled.{AreSpelled}
+use Rattle.rq_views.specs.Items.{operation}
+use Rattle.rq_store.specs.Opening.{MayRedo, Redoes}
+use Rattle.rq_store.specs.Fitting.{told_by}
+use Rattle.rq_undone.specs.declared.history.Spot.{Spot}
+use Rattle.rq_undone.specs.Analysis.{Analysis, analysis}
+use Rattle.rq_undone.specs.Pages.{IsNextUndo, IsUndoing, IsUndone, work}
+use Rattle.rq_undone.specs.Pages.IsNextUndo.{Voids, Undoes}
+use Rattle.rq_undone.proofs.Lists.{in_newest, in_spots, in_with, in_without, sub_in}
+use Rattle.rq_undone.proofs.Noting.{noted_incarnation}
+use Rattle.rq_undone.proofs.Undos.{undo_leaves_less, undoing_more, undoing_none}
+use Rattle.rq_restart.specs.Repeating.{AreCounted, Belongs, IsRepeated, Marks, Paged, Repeats}
+use Rattle.rq_restart.specs.Undoing.{StepStops, UndoStops}
+use Rattle.rq_restart.proofs.Begun.{counted_more}
+
+-- what a log's records say is in range, and so is what is noted of them
+abbrev IsOpInRange : Sub → Type 0
+IsOpInRange o = IsTxnInRange o.txn × (0 < o.number)
+
+noted_range : (log : List Record) → AreSpelled log → (o : Sub) → In o (analysis log).unfinished → IsOpInRange o
+noted_range [] a o h = absurd h
+noted_range (PageOp t n page slot before after ∷ log) a o h = elim (in_with (operation t n) (analysis log).unfinished o h) [
+  | inl e ↦ subst IsOpInRange (sym e) (a.0.0.0, a.0.0.1)
+  | inr i ↦ noted_range log a.1 o i
+]
+noted_range (PageUndo t n undone page slot after ∷ log) a o h = noted_range log a.1 o h
+noted_range (OpEnd t n level deed ∷ log) a o h = noted_range log a.1 o (in_without (operation t n) (analysis log).unfinished o h).0
+noted_range (OpVoid t n ∷ log) a o h = noted_range log a.1 o (in_without (operation t n) (analysis log).unfinished o h).0
+noted_range (CompEnd t n undone ∷ log) a o h = noted_range log a.1 o (in_without (operation t n) (analysis log).unfinished o h).0
+noted_range (Commit t ∷ log) a o h = noted_range log a.1 o h
+noted_range (Restart i ∷ log) a o h = noted_range log a.1 o h
+noted_range (AbortEnd t ∷ log) a o h = noted_range log a.1 o h
+
+abbrev IsSpotInRange : Spot → Type 0
+IsSpotInRange p = IsOpInRange p.by × (0 < p.lsn) × IsSlotNumber p.slot
+
+spot_range : (log : List Record) → AreSpelled log → (p : Spot) → In p (analysis log).spots → IsSpotInRange p
+spot_range [] a p h = absurd h
+spot_range (PageOp t n page slot before after ∷ log) a p h = elim h [
+  | inl e ↦ subst IsSpotInRange (sym e) ((a.0.0.0, a.0.0.1), omega arith, a.0.0.2)
+  | inr i ↦ spot_range log a.1 p i
+]
+spot_range (PageUndo t n undone page slot after ∷ log) a p h = spot_range log a.1 p (in_newest (operation t n) (analysis log).spots p h)
+spot_range (OpEnd t n level deed ∷ log) a p h = spot_range log a.1 p (in_spots (operation t n) (analysis log).spots p h).0
+spot_range (OpVoid t n ∷ log) a p h = spot_range log a.1 p (in_spots (operation t n) (analysis log).spots p h).0
+spot_range (CompEnd t n undone ∷ log) a p h = spot_range log a.1 p (in_spots (operation t n) (analysis log).spots p h).0
+spot_range (Commit t ∷ log) a p h = spot_range log a.1 p h
+spot_range (Restart i ∷ log) a p h = spot_range log a.1 p h
+spot_range (AbortEnd t ∷ log) a p h = spot_range log a.1 p h
+
+pub undo_range : (log : List Record) (h : Analysis) (r : Record) → h ≡ analysis log → AreSpelled log → IsNextUndo h r → IsInRange r
+undo_range log h r e a next = by (subst (λ k. IsNextUndo k r) e next) where
+  by : IsNextUndo (analysis log) r → IsInRange r
+  by (Voids o s least is) = rw is (noted_range log a o (sub_in o (analysis log).unfinished s.unfinished))
+  by (Undoes p ps none spots is) =
+      let k = spot_range log a p (rw spots (inl refl)) in
+      rw is (k.0.0, k.0.1, k.1, k.2)
+
+-- one record more is repeated, or doesn't belong
+module _ (z y : Sizes) (log : List Record) (r : Record) (h : Analysis) (is : h ≡ analysis log) (sizes : y ≡ z) (count : ℕ) (all : count ≡ length log + 1) where
+  order : (n : ℕ) → n ≡ h.incarnation → n ≡ incarnation_of log
+  order n e = e ∙ ap (λ (k : Analysis). k.incarnation) is ∙ noted_incarnation log
+
+  pub one_repeated : (old new : Paged) → IsNext h.incarnation r → MayRedo y old.image count r → Redoes (told_by r) count old.image new.image → Marks (told_by r) count old new.changed → IsRepeated z log r old new
+  one_repeated old new next may redone marked = record {
+    belongs = record { next = subst (λ n. IsNext n r) (order h.incarnation refl) next; may = subst (λ x. MayRedo x old.image (length log + 1) r) sizes (subst (λ n. MayRedo y old.image n r) all may) };
+    redone = subst (λ n. Redoes (told_by r) n old.image new.image) all redone;
+    marked = subst (λ n. Marks (told_by r) n old new.changed) all marked;
+  }
+
+  pub belongs_then : (old : Paged) → Belongs z log r old → IsNext h.incarnation r × MayRedo y old.image count r
+  belongs_then old b = (
+    subst (λ n. IsNext n r) (sym (order h.incarnation refl)) b.next,
+    subst (λ n. MayRedo y old.image n r) (sym all) (subst (λ x. MayRedo x old.image (length log + 1) r) (sym sizes) b.may),
+  )
+
+-- what is kept between two such records: what was undone, on the pages too
+pub record IsGoingOn (z : Sizes) (log last : List Record) (first now : Paged) : Type 0 where
+  pub undoing : IsUndoing log last
+  pub repeated : (start : Paged) → Repeats z log start first → Repeats z last start now
+  pub counted : AreCounted z (length log) first → AreCounted z (length last) now
+
+module _ (z y : Sizes) (log last : List Record) (first now : Paged) (sizes : y ≡ z) (k : IsGoingOn z log last first now) where
+  pub going_more : (r : Record) (h : Analysis) (grown : List Record) (after : Paged) → h ≡ analysis last → IsNextUndo h r → grown ≡ r ∷ last → IsRepeated y last r now after → IsGoingOn z log grown first after
+  going_more r h grown after is next more one = subst (λ l. IsGoingOn z log l first after) (sym more) (record {
+    undoing = undoing_more log last r k.undoing (subst (λ j. IsNextUndo j r) is next);
+    repeated = λ start before. (now, k.repeated start before, subst (λ x. IsRepeated x last r now after) sizes one);
+    counted = λ before. subst (λ n. AreCounted z n after) (let e : length last + 1 ≡ length (r ∷ last) = omega arith in e) (counted_more z last r now after (subst (λ x. IsRepeated x last r now after) sizes one) (k.counted before));
+  })
+
+  pub going_less : (r : Record) (h after : Analysis) (grown : List Record) → h ≡ analysis last → IsNextUndo h r → grown ≡ r ∷ last → after ≡ analysis grown → work after < work h
+  going_less r h after grown is next more noted =
+      let less : work (analysis (r ∷ last)) < work (analysis last) = undo_leaves_less last r (subst (λ j. IsNextUndo j r) is next) in
+      let a : work after ≡ work (analysis (r ∷ last)) = ap work (noted ∙ ap analysis more) in
+      let b : work h ≡ work (analysis last) = ap work is in
+      omega (arith, less, a, b)
+
+  pub going_done : (h : Analysis) → h ≡ analysis last → h.unfinished ≡ [] → IsUndone log last
+  going_done h is none = record { undoing = k.undoing; none = ap (λ (j : Analysis). j.unfinished) (sym is) ∙ none }
+
+  pub going_stops : (r : Record) (h : Analysis) (e : Refusal) → h ≡ analysis last → IsNextUndo h r → StepStops (length last) (Belongs y last r now) e → (start : Paged) → Repeats z log start first → UndoStops z log start e
+  going_stops r h why.NoMemory is next s start before = tt
+  going_stops r h why.LogFull is next s start before = record { undone = last; undoing = k.undoing; full = s }
+  going_stops r h (why.Damaged (damage.Record lsn)) is next s start before = record {
+    undone = last;
+    undoing = k.undoing;
+    newest = r;
+    next = subst (λ j. IsNextUndo j r) is next;
+    place = s.0;
+    mid = now;
+    repeated = k.repeated start before;
+    bad = λ b. s.1 (subst (λ x. Belongs x last r now) (sym sizes) b);
+  }
+  going_stops r h _ is next s start before = absurd s
+
+pub going_none : (z : Sizes) (log : List Record) (first : Paged) → IsGoingOn z log log first first
+going_none z log first = record { undoing = undoing_none log; repeated = λ start before. before; counted = λ before. before }

@@ -1,0 +1,41 @@
+-- Undoing operations that have no end, and where that stops.
+use Rattle.std.specs.Prelude.{◌≡◌, ℕ, ◌+◌, ◌^◌, ◌≤◌, List, length}
+use Rattle.rq_model.specs.declared.record.Record.{Record}
+use Rattle.rq_model.specs.declared.refusal.Refusal.{Refusal}
+use Rattle.rq_model.specs.declared.refusal.Refusal.TheVariants as why
+use Rattle.rq_model.specs.declared.refusal.Damage.TheVariants as damage
+use Rattle.rq_page.specs.Sizes.{Sizes}
+use Rattle.rq_undone.specs.Analysis.{analysis}
+use Rattle.rq_undone.specs.Pages.{IsNextUndo, IsUndoing}
+use Rattle.rq_restart.specs.Repeating.{Paged, Belongs, Repeats}
+
+-- the log, with the records behind that undo some of it, is at its greatest length
+pub record IsAtBound (log : List Record) : Type 0 where
+  pub undone : List Record
+  pub undoing : IsUndoing log undone
+  pub full : 2 ^ 50 ≤ length undone
+
+-- the record that would undo the next of it, which would have this LSN, doesn't belong there
+pub record IsBadUndo (z : Sizes) (log : List Record) (first : Paged) (lsn : ℕ) : Type 0 where
+  pub undone : List Record
+  pub undoing : IsUndoing log undone
+  pub newest : Record
+  pub next : IsNextUndo (analysis undone) newest
+  pub place : lsn ≡ length undone + 1
+  pub mid : Paged
+  pub repeated : Repeats z undone first mid
+  pub bad : Belongs z undone newest mid → ⊥
+
+-- why the operations of a log that have no end were not undone, once history was repeated
+abbrev pub UndoStops : Sizes → List Record → Paged → Refusal → Type 0
+UndoStops z log first why.NoMemory = Unit {0}
+UndoStops z log first why.LogFull = IsAtBound log
+UndoStops z log first (why.Damaged (damage.Record lsn)) = IsBadUndo z log first lsn
+UndoStops z log first _ = ⊥
+
+-- why one such record was not made behind so many
+abbrev pub StepStops : ℕ → Type 0 → Refusal → Type 0
+StepStops count belongs why.NoMemory = Unit {0}
+StepStops count belongs why.LogFull = 2 ^ 50 ≤ count
+StepStops count belongs (why.Damaged (damage.Record lsn)) = (lsn ≡ count + 1) × (belongs → ⊥)
+StepStops count belongs _ = ⊥

@@ -1,0 +1,6 @@
+pub mod Noting
+pub mod Lists
+pub mod Spots
+pub mod Undos
+mod Places
+mod Next

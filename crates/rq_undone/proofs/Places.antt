@@ -1,0 +1,77 @@
+-- Slot writes that stand in the order of their records, and as contracts see them, the newest first.
+use Rattle.std.proofs.Common.{◌≡◌, ℕ, suc, ◌+◌, ◌<◌, Bool, true, false, List, [], ◌∷◌, ◌++◌, ◌||◌, length, take, drop, get_or, reverse, refl, sym, ◌∙◌, ap, inl, inr, arith}
+use Rattle.std.specs.List.{filter}
+use Rattle.std.proofs.Math.Seq.{split_at}
+use Rattle.std.proofs.lemmas.Bool.{cases_Bool, or_parts}
+use Rattle.std.proofs.lemmas.List.{reverse-append}
+use Rattle.rq_model.specs.declared.txn.Sub.{Sub}
+use Rattle.rq_undone.specs.declared.history.Spot.{Spot}
+use Rattle.rq_undone.specs.Analysis.{Analysis, spot_of, without_newest}
+use Rattle.rq_undone.specs.Pages.{any_spot}
+
+filter_behind : {X : Type 0} (f : X → Bool) (xs ys : List X) → filter f (xs ++ ys) ≡ filter f xs ++ filter f ys
+filter_behind f [] ys = refl
+filter_behind f (x ∷ xs) ys = elim (cases_Bool (f x)) [ inl y ↦ rw y (ap (λ l. x ∷ l) (filter_behind f xs ys)) | inr n ↦ rw n (filter_behind f xs ys) ]
+
+with_nothing : {X : Type 0} (ys : List X) → ys ≡ ys ++ []
+with_nothing [] = refl
+with_nothing (y ∷ ys) = ap (λ l. y ∷ l) (with_nothing ys)
+
+pub filter_reverse : {X : Type 0} (f : X → Bool) (xs : List X) → reverse (filter f xs) ≡ filter f (reverse xs)
+filter_reverse f [] = refl
+filter_reverse f (x ∷ xs) =
+    let e : filter f (reverse (x ∷ xs)) ≡ filter f (reverse xs) ++ filter f (x ∷ []) = ap (filter f) (reverse-append (x ∷ []) xs) ∙ filter_behind f (reverse xs) (x ∷ []) in
+    elim (cases_Bool (f x)) [
+      | inl y ↦ let one : filter f (x ∷ []) ≡ x ∷ [] = rw y refl in rw y (reverse-append (x ∷ []) (filter f xs) ∙ ap (λ l. l ++ x ∷ []) (filter_reverse f xs) ∙ ap (λ l. filter f (reverse xs) ++ l) (sym one) ∙ sym e)
+      | inr n ↦ let one : filter f (x ∷ []) ≡ [] = rw n refl in rw n (filter_reverse f xs ∙ with_nothing (filter f (reverse xs)) ∙ ap (λ l. filter f (reverse xs) ++ l) (sym one) ∙ sym e)
+    ]
+
+any_behind : (o : Sub) (ps qs : List Spot) → any_spot o (ps ++ qs) ≡ (any_spot o ps || any_spot o qs)
+any_behind o [] qs = refl
+any_behind o (p ∷ ps) qs = elim (cases_Bool (spot_of o p)) [ inl y ↦ rw y refl | inr n ↦ rw n (any_behind o ps qs) ]
+
+or_turned : (b c : Bool) → (b || (c || false)) ≡ (c || b)
+or_turned true true = refl
+or_turned true false = refl
+or_turned false true = refl
+or_turned false false = refl
+
+pub any_reverse : (o : Sub) (ps : List Spot) → any_spot o (reverse ps) ≡ any_spot o ps
+any_reverse o [] = refl
+any_reverse o (p ∷ ps) =
+    ap (any_spot o) (reverse-append (p ∷ []) ps) ∙ any_behind o (reverse ps) (p ∷ []) ∙ ap (λ b. b || (spot_of o p || false)) (any_reverse o ps) ∙ or_turned (any_spot o ps) (spot_of o p)
+
+-- where the first of these is the newest of the operation's
+newest_front : (o : Sub) (ps : List Spot) (p : Spot) (qs : List Spot) → any_spot o ps ≡ false → spot_of o p ≡ true → without_newest o (ps ++ p ∷ qs) ≡ ps ++ qs
+newest_front o [] p qs none own = rw own refl
+newest_front o (x ∷ ps) p qs none own = let k = or_parts (spot_of o x) (any_spot o ps) none in rw k.0 (ap (λ l. x ∷ l) (newest_front o ps p qs k.1 own))
+
+none_newest : (o : Sub) (ps : List Spot) → any_spot o ps ≡ false → without_newest o ps ≡ ps
+none_newest o [] none = refl
+none_newest o (p ∷ ps) none = let k = or_parts (spot_of o p) (any_spot o ps) none in rw k.0 (ap (λ l. p ∷ l) (none_newest o ps k.1))
+
+pub taken_back : (o : Sub) (ps : List Spot) (i : ℕ) (d : Spot) → i < length ps → spot_of o (get_or ps i d) ≡ true → any_spot o (drop (i + 1) ps) ≡ false
+    → reverse (take i ps ++ drop (i + 1) ps) ≡ without_newest o (reverse ps)
+taken_back o ps i d lt own none =
+    let next : i + 1 ≡ suc i = omega arith in
+    let behind = drop (i + 1) ps in
+    let cut : ps ≡ take i ps ++ get_or ps i d ∷ behind = split_at ps i d lt ∙ ap (λ n. take i ps ++ get_or ps i d ∷ drop n ps) (sym next) in
+    let turned : reverse ps ≡ reverse behind ++ get_or ps i d ∷ reverse (take i ps) = ap reverse cut ∙ reverse_cut (take i ps) (get_or ps i d) behind in
+    reverse-append (take i ps) behind
+    ∙ sym (newest_front o (reverse behind) (get_or ps i d) (reverse (take i ps)) (any_reverse o behind ∙ none) own)
+    ∙ ap (without_newest o) (sym turned)
+  where
+    joined : (xs : List Spot) (y : Spot) (zs : List Spot) → (xs ++ y ∷ []) ++ zs ≡ xs ++ y ∷ zs
+    joined [] y zs = refl
+    joined (x ∷ xs) y zs = ap (λ l. x ∷ l) (joined xs y zs)
+
+    reverse_cut : (xs : List Spot) (y : Spot) (zs : List Spot) → reverse (xs ++ y ∷ zs) ≡ reverse zs ++ y ∷ reverse xs
+    reverse_cut xs y zs = reverse-append xs (y ∷ zs) ∙ ap (λ l. l ++ reverse xs) (reverse-append (y ∷ []) zs) ∙ joined (reverse zs) y (reverse xs)
+
+-- as a slice that was looked through tells
+pub taken_in : (o : Sub) (now ps : List Spot) (i : ℕ) (d : Spot) → now ≡ ps → i < length now → spot_of o (get_or now i d) ≡ true → any_spot o (drop (i + 1) now) ≡ false
+    → reverse (take i ps ++ drop (i + 1) ps) ≡ without_newest o (reverse ps)
+taken_in o now ps i d same lt own none = ap (λ l. reverse (take i l ++ drop (i + 1) l)) (sym same) ∙ taken_back o now i d lt own none ∙ ap (λ l. without_newest o (reverse l)) same
+
+pub none_taken : (o : Sub) (h : Analysis) → any_spot o h.spots ≡ false → h ≡ record h { spots = without_newest o h.spots }
+none_taken o h none = ap (λ (l : List Spot). record h { spots = l }) (sym (none_newest o h.spots none))

@@ -1,0 +1,4 @@
+pub mod Analysis
+pub mod Pages
+pub mod Least
+pub mod Theorems

@@ -1,0 +1,319 @@
+//! What the records of a log say of incarnations, operations and transactions.
+ghost use Rattle.std.specs.Prelude.{◌≡◌, ◌↔◌, ◌≤◌, ◌<◌, ◌+◌, IsTrue, IfOk, IfErr, IfSome, IfNone, OnOk, OnErr, [], ◌∷◌, Some, true, false, drop, length, reverse, slice_index_or};
+ghost use Rattle.rq_model.specs.Incarnations.{IsNext, IsOf};
+ghost use Rattle.rq_undone.specs.Analysis.{analysis, analysis_after, spot_of, with_sub, without_newest, without_spots, without_sub, with_txn, without_txn};
+ghost use Rattle.rq_undone.specs.Pages.{IsNextUndo, any_spot, op_less, undo_of, void_of};
+ghost use Rattle.rq_undone.specs.Least.{least_in, lesser_in};
+
+use rq_model::record::{Record, Slot};
+use rq_model::refusal::Refusal;
+use rq_model::txn::{Lsn, Sub, Txn};
+use std::alloc::Global;
+use std::marker::Model;
+
+/// A slot write that may have to be undone.
+#[derive(Clone, Copy)]
+pub struct Spot {
+    /// The LSN of its record.
+    pub lsn: Lsn,
+    /// Whose it is.
+    pub by: Sub,
+    pub page: u32,
+    pub slot: u8,
+    /// What stood in the slot before.
+    pub before: Slot,
+}
+
+/// What the records of a log come to, one after the other: the last incarnation, the operations that wrote a slot and have
+/// no end, with their writes that are not undone, and the transactions that finished an operation and have no end.
+#[derive(Drop)]
+pub struct History {
+    incarnation: u64,
+    unfinished: Vec<Sub>,
+    /// In the order of their records.
+    spots: Vec<Spot>,
+    working: Vec<Txn>,
+}
+
+impl Model for History {
+    ghost use Rattle.std.specs.Prelude.{reverse};
+    ghost use Rattle.rq_undone.specs.Analysis.{Analysis};
+
+    ghost Value = { Analysis };
+
+    ghost view = { λ h. record {
+      incarnation = h.incarnation;
+      unfinished = h.unfinished.items;
+      spots = reverse h.spots.items;
+      working = h.working.items;
+    } };
+}
+
+impl History {
+    /// No record.
+    pub fn new(alloc: Global) -> Self
+        ensures { result ≡ analysis [] }
+    {
+        History {
+            incarnation: 0,
+            unfinished: Vec::new(alloc),
+            spots: Vec::new(alloc),
+            working: Vec::new(alloc),
+        }
+    }
+
+    /// The last incarnation, 0 where there is none.
+    pub fn incarnation(&self) -> u64
+        ensures { result ≡ self.now.incarnation }
+    {
+        self.incarnation
+    }
+
+    /// Whether every transaction that finished an operation has its end.
+    pub fn is_settled(&self) -> bool
+        ensures { IsTrue result ↔ (self.now.working ≡ []) }
+    {
+        self.working.is_empty()
+    }
+
+    /// How many operations have no end.
+    pub fn unfinished(&self) -> u64
+        ensures { result ≡ length self.now.unfinished }
+    {
+        self.unfinished.len() as u64
+    }
+
+    /// Takes the next record, which has this LSN. False where it doesn't belong to the running incarnation, or isn't the
+    /// next.
+    ///
+    /// # Errors
+    /// `NoMemory`.
+    pub fn note(&mut self, lsn: Lsn, record: &Record) -> Result<bool, Refusal>
+        ensures next { IfOk result (λ is_next. IsTrue is_next ↔ IsNext self.old.incarnation «record».now) }
+        ensures noted { OnOk result (self.new ≡ analysis_after lsn «record».now self.old) }
+        ensures err { IfErr result (λ e. e ≡ Refusal.NoMemory) }
+    {
+        match record {
+            Record::Restart { incarnation } => {
+                let is_next = self.incarnation < u64::MAX && *incarnation == self.incarnation + 1;
+                self.incarnation = *incarnation;
+                Ok(is_next)
+            }
+            Record::PageOp {
+                txn,
+                operation,
+                page,
+                slot,
+                before,
+                ..
+            } => {
+                let by = sub(txn, *operation);
+                self.begin_operation(by)?;
+                self.add_spot(Spot {
+                    lsn,
+                    by,
+                    page: *page,
+                    slot: *slot,
+                    before: *before,
+                })?;
+                Ok(self.is_ours(txn))
+            }
+            Record::PageUndo { txn, operation, .. } => {
+                self.take_back(sub(txn, *operation));
+                Ok(self.is_ours(txn))
+            }
+            Record::OpEnd { txn, operation, .. } => {
+                self.end_operation(sub(txn, *operation));
+                self.begin_transaction(*txn)?;
+                Ok(self.is_ours(txn))
+            }
+            Record::OpVoid { txn, operation } => {
+                self.end_operation(sub(txn, *operation));
+                Ok(self.is_ours(txn))
+            }
+            Record::CompEnd { txn, operation, .. } => {
+                self.end_operation(sub(txn, *operation));
+                Ok(self.is_ours(txn))
+            }
+            Record::Commit { txn } | Record::AbortEnd { txn } => {
+                self.end_transaction(*txn);
+                Ok(self.is_ours(txn))
+            }
+        }
+    }
+
+    /// The next record by which operations without an end are undone; none where all have their end.
+    pub fn next_undo(&self) -> Option<Record>
+        ensures some { IfSome result (λ r. IsNextUndo self.now r) }
+        ensures none { IfNone result (self.now.unfinished ≡ []) }
+    {
+        match least_spent(&self.unfinished, &self.spots) {
+            Some(spent) => Some(void_record(spent)),
+            None => match self.spots.last() {
+                Some(newest) => Some(undo_record(newest)),
+                None => None,
+            },
+        }
+    }
+
+    fn is_ours(&self, txn: &Txn) -> bool
+        ensures { IsTrue result ↔ IsOf self.now.incarnation (Some txn.now) }
+    {
+        self.incarnation > 0 && txn.incarnation == self.incarnation
+    }
+
+    fn begin_operation(&mut self, begun: Sub) -> Result<(), Refusal>
+        ensures ok { OnOk result (self.new ≡ record self.old { unfinished = with_sub begun self.old.unfinished }) }
+        ensures err { IfErr result (λ e. e ≡ Refusal.NoMemory) }
+    {
+        if self.unfinished.contains(&begun) {
+            return Ok(());
+        }
+        match self.unfinished.push(begun) {
+            Ok(()) => Ok(()),
+            Err(_) => Err(Refusal::NoMemory),
+        }
+    }
+
+    fn add_spot(&mut self, spot: Spot) -> Result<(), Refusal>
+        ensures ok { OnOk result (self.new ≡ record self.old { spots = spot ∷ self.old.spots }) }
+        ensures err { IfErr result (λ e. e ≡ Refusal.NoMemory) }
+    {
+        match self.spots.push(spot) {
+            Ok(()) => Ok(()),
+            Err(_) => Err(Refusal::NoMemory),
+        }
+    }
+
+    // The newest write of the operation is undone.
+    fn take_back(&mut self, undone: Sub)
+        ensures { self.new ≡ record self.old { spots = without_newest undone self.old.spots } }
+    {
+        if let Some(place) = newest_of(&self.spots, undone) {
+            self.spots.remove(place);
+        }
+    }
+
+    fn end_operation(&mut self, ended: Sub)
+        ensures { self.new ≡ record self.old {
+          unfinished = without_sub ended self.old.unfinished;
+          spots = without_spots ended self.old.spots;
+        } }
+    {
+        self.unfinished.retain(|sub| ended != *sub);
+        self.spots.retain(|spot| spot.by != ended);
+    }
+
+    fn begin_transaction(&mut self, txn: Txn) -> Result<(), Refusal>
+        ensures ok { OnOk result (self.new ≡ record self.old { working = with_txn txn self.old.working }) }
+        ensures err { IfErr result (λ e. e ≡ Refusal.NoMemory) }
+    {
+        if self.working.contains(&txn) {
+            return Ok(());
+        }
+        match self.working.push(txn) {
+            Ok(()) => Ok(()),
+            Err(_) => Err(Refusal::NoMemory),
+        }
+    }
+
+    fn end_transaction(&mut self, txn: Txn)
+        ensures { self.new ≡ record self.old { working = without_txn txn self.old.working } }
+    {
+        self.working.retain(|open| txn != *open);
+    }
+}
+
+// The number of a transaction's operation.
+fn sub(txn: &Txn, operation: u64) -> Sub
+    ensures { result ≡ record { txn = txn.now; number = operation } }
+{
+    Sub {
+        txn: *txn,
+        number: operation,
+    }
+}
+
+fn void_record(sub: Sub) -> Record
+    ensures { result ≡ void_of sub }
+{
+    Record::OpVoid {
+        txn: sub.txn,
+        operation: sub.number,
+    }
+}
+
+fn undo_record(spot: &Spot) -> Record
+    ensures { result ≡ undo_of spot.now }
+{
+    Record::PageUndo {
+        txn: spot.by.txn,
+        operation: spot.by.number,
+        undone: spot.lsn,
+        page: spot.page,
+        slot: spot.slot,
+        after: spot.before,
+    }
+}
+
+// The place of the newest of these writes that is the operation's.
+fn newest_of(spots: &[Spot], sub: Sub) -> Option<usize>
+    ensures place { IfSome result (λ i. i < length spots.now) }
+    ensures own { IfSome result (λ i. (d : Spot) → spot_of sub (slice_index_or spots.now i d) ≡ true) }
+    ensures newest { IfSome result (λ i. any_spot sub (drop (i + 1) spots.now) ≡ false) }
+    ensures none { IfNone result (any_spot sub spots.now ≡ false) }
+{
+    let mut place = spots.len();
+    while place > 0 {
+        place -= 1;
+        if spots[place].by == sub {
+            return Some(place);
+        }
+    }
+    None
+}
+
+// Whether one of these writes is the operation's.
+fn has_spot(spots: &[Spot], sub: Sub) -> bool
+    ensures { result ≡ any_spot sub spots.now }
+{
+    for spot in spots {
+        if spot.by == sub {
+            return true;
+        }
+    }
+    false
+}
+
+// Of these operations the least of which none of these writes is.
+fn least_spent(unfinished: &[Sub], spots: &[Spot]) -> Option<Sub>
+    ensures { result ≡ least_in spots.now unfinished.now }
+{
+    let mut place = unfinished.len();
+    let mut least = None;
+    while place > 0 {
+        place -= 1;
+        let sub = unfinished[place];
+        if !has_spot(spots, sub) {
+            least = Some(lesser(sub, least));
+        }
+    }
+    least
+}
+
+fn lesser(sub: Sub, least: Option<Sub>) -> Sub
+    ensures { result ≡ lesser_in sub least }
+{
+    match least {
+        None => sub,
+        Some(other) => { if is_less(other, sub) { other } else { sub } }
+    }
+}
+
+fn is_less(a: Sub, b: Sub) -> bool
+    ensures { result ≡ op_less a b }
+{
+    a.txn.incarnation < b.txn.incarnation
+        || (a.txn.incarnation == b.txn.incarnation && a.txn.count < b.txn.count)
+        || (a.txn == b.txn && a.number < b.number)
+}
