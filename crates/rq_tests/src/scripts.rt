@@ -1135,3 +1135,85 @@ fn a_store_that_failed_aborts_nothing(rt: HostRuntime) -> Result<(), Fail> {
         ],
     )
 }
+
+// A send that a crash cut off between two of its slots is undone slot by slot, whichever images the crash left.
+#[test]
+fn an_operation_without_an_end_is_undone(rt: HostRuntime) -> Result<(), Fail> {
+    for crash in ["crash 0", "crash 0 old"] {
+        check_each(
+            &rt,
+            1,
+            1,
+            &[
+                ("begin", "begun 1.1"),
+                ("open-send 1.1 0 1 x", "op 1.1 1"),
+                ("step 1.1 1", "lsn 2"),
+                ("force", "forced 2"),
+                ("write 2", "written"),
+                (crash, "crashed 2"),
+                ("restart", "restarted 2 unfinished 1 lost 0"),
+                ("dump", "empty"),
+                ("force", "forced 5"),
+                ("begin", "begun 2.1"),
+                ("send 2.1 0 2 y", "sent"),
+                ("commit 2.1", "commit 9"),
+                ("dump", "0 open sent 1 received 0: y"),
+                ("crash 0", "crashed 5"),
+                ("restart", "restarted 3 unfinished 0 lost 0"),
+                ("dump", "empty"),
+            ],
+        )?;
+    }
+    Ok(())
+}
+
+#[test]
+fn operations_of_several_transactions_are_undone(rt: HostRuntime) -> Result<(), Fail> {
+    check_each(
+        &rt,
+        2,
+        2,
+        &[
+            ("begin", "begun 1.1"),
+            ("begin", "begun 1.2"),
+            ("open-send 1.1 0 1 x", "op 1.1 1"),
+            ("open-send 1.2 15 1 y", "op 1.2 1"),
+            ("step 1.1 1", "lsn 2"),
+            ("step 1.2 1", "lsn 3"),
+            ("force", "forced 3"),
+            ("crash 0", "crashed 3"),
+            ("restart", "restarted 2 unfinished 2 lost 0"),
+            ("dump", "empty"),
+            ("force", "forced 8"),
+        ],
+    )
+}
+
+// A receive that is undone leaves the message where it was, and what was sent before is not undone.
+#[test]
+fn a_receive_without_an_end_is_undone(rt: HostRuntime) -> Result<(), Fail> {
+    for (kept, left, forced) in [("1", "crashed 6", "forced 9"), ("2", "crashed 7", "forced 11")] {
+        let crash = format!(in rt.alloc(); "crash {kept}")?;
+        check_each(
+            &rt,
+            1,
+            1,
+            &[
+                ("begin", "begun 1.1"),
+                ("send 1.1 0 7 a", "sent"),
+                ("commit 1.1", "commit 5"),
+                ("force", "forced 5"),
+                ("begin", "begun 1.2"),
+                ("recv 1.2", "msg 0 7 a"),
+                (crash.as_str(), left),
+                ("restart", "restarted 2 unfinished 1 lost 0"),
+                ("dump", "0 open sent 1 received 0: a"),
+                ("last 0", "last 1 7"),
+                ("force", forced),
+                ("begin", "begun 2.1"),
+                ("recv 2.1", "msg 0 7 a"),
+            ],
+        )?;
+    }
+    Ok(())
+}

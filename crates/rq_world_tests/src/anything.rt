@@ -21,6 +21,7 @@ const WANTED: Met = Met {
     aborted: 150,
     crashed: 20,
     opened: 25,
+    unfinished: 20,
 };
 
 /// What was met of aborts.
@@ -34,10 +35,15 @@ struct Met {
     crashed: u64,
     /// Stores that were opened behind one that outlived the crash.
     opened: u64,
+    /// Operations without an end that restarts undid.
+    unfinished: u64,
 }
 
 impl Met {
     fn note(&mut self, told: &Told, was_aborting: bool, holds_abort: bool) {
+        if let Told::Restarted(report) = told {
+            self.unfinished = self.unfinished.saturating_add(report.unfinished);
+        }
         let met = match told {
             Told::Undone => &mut self.undone,
             Told::Aborted => &mut self.aborted,
@@ -53,6 +59,7 @@ impl Met {
             && self.aborted >= wanted.aborted
             && self.crashed >= wanted.crashed
             && self.opened >= wanted.opened
+            && self.unfinished >= wanted.unfinished
     }
 }
 
@@ -153,6 +160,7 @@ fn anything_happens(rt: HostRuntime) -> Result<(), Fail> {
         aborted: 0,
         crashed: 0,
         opened: 0,
+        unfinished: 0,
     };
     for seed in FIRST..FIRST + LISTS {
         assert_eq!(rt;

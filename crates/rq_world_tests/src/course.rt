@@ -104,9 +104,14 @@ struct Course {
 
 /// What a restart tells that begins this incarnation, with so many records in the log.
 pub const fn restarted(incarnation: u64, records: u64) -> Told {
+    restarted_undoing(incarnation, 0, records)
+}
+
+/// The same, which undid so many operations without an end.
+pub const fn restarted_undoing(incarnation: u64, unfinished: u64, records: u64) -> Told {
     Told::Restarted(Report {
         incarnation,
-        unfinished: 0,
+        unfinished,
         lost: 0,
         records,
     })

@@ -22,6 +22,10 @@ pub enum Record {
     End(Txn, u64),
     /// The end of an inverse.
     Undone(Txn),
+    /// The slot write of a transaction's operation without an end is undone that has this LSN.
+    Back(Txn, u32, Lsn),
+    /// The end of an operation that was undone so.
+    Void(Txn),
     Commit(Txn),
     Abort(Txn),
 }
@@ -197,8 +201,10 @@ impl Disk {
     // Makes the change of a record, where its page is older.
     fn apply(&mut self, record: Record, lsn: Lsn) {
         match record {
-            Record::Write(_, DIRECTORY) => self.directory.change(lsn),
-            Record::Write(_, _) => self.cells.change(lsn),
+            Record::Write(_, DIRECTORY) | Record::Back(_, DIRECTORY, _) => {
+                self.directory.change(lsn)
+            }
+            Record::Write(_, _) | Record::Back(_, _, _) => self.cells.change(lsn),
             _ => {}
         }
     }
@@ -297,18 +303,19 @@ impl Disk {
         self.read()
     }
 
-    /// Opens the store, whose records are all handed over: reads everything, makes the changes that pages lack, and
-    /// forces the record of the opening, the newest then. Answers how many openings there were. What is unfinished is
-    /// not opened yet.
-    pub fn open(&mut self) -> Result<u64, Refusal> {
+    /// Opens the store, whose records are all handed over: reads everything, makes the changes that pages lack, undoes
+    /// operations without an end, and forces the record of the opening, the newest then. Answers how many openings there
+    /// were, and how many operations were undone. A transaction without an end is not undone yet.
+    pub fn open(&mut self) -> Result<(u64, u64), Refusal> {
         self.read_all()?;
         if !self.is_settled(self.len()) {
             return Err(Refusal::Unfinished);
         }
         self.load();
+        let undone = self.undo_unfinished()?;
         self.add(Record::Restart)?;
         match self.force() {
-            Ok(_) => Ok(self.openings()),
+            Ok(_) => Ok((self.openings(), undone)),
             Err(refusal) => {
                 self.records.truncate(self.handed);
                 Err(refusal)
@@ -328,6 +335,100 @@ impl Disk {
         }
     }
 
+    // Undoes operations without an end, and answers how many there were. Those of which nothing is left to undo have
+    // their end first, by rising number.
+    fn undo_unfinished(&mut self) -> Result<u64, Refusal> {
+        let most = self.records.len();
+        let mut undone: u64 = 0;
+        for _ in 0..most {
+            let Some(txn) = self.least_spent() else {
+                break;
+            };
+            self.add(Record::Void(txn))?;
+            undone = undone.saturating_add(1);
+        }
+        for _ in 0..most {
+            let Some((lsn, txn, page)) = self.newest_spot() else {
+                break;
+            };
+            self.add(Record::Back(txn, page, lsn))?;
+            if !self.has_spot(txn) {
+                self.add(Record::Void(txn))?;
+                undone = undone.saturating_add(1);
+            }
+        }
+        Ok(undone)
+    }
+
+    // The newest slot write of an operation without an end that is not undone: its LSN, its transaction and its page.
+    fn newest_spot(&self) -> Option<(Lsn, Txn, u32)> {
+        let mut newest = None;
+        for (index, record) in self.records.iter().enumerate() {
+            if let Record::Write(txn, page) = record {
+                let lsn = (index as u64).saturating_add(1);
+                if !self.is_over(lsn, *txn) && !self.is_back(lsn) {
+                    newest = Some((lsn, *txn, *page));
+                }
+            }
+        }
+        newest
+    }
+
+    fn has_spot(&self, txn: Txn) -> bool {
+        for (index, record) in self.records.iter().enumerate() {
+            match record {
+                Record::Write(wrote, _) if *wrote == txn => {
+                    let lsn = (index as u64).saturating_add(1);
+                    if !self.is_over(lsn, txn) && !self.is_back(lsn) {
+                        return true;
+                    }
+                }
+                _ => {}
+            }
+        }
+        false
+    }
+
+    // The least transaction that has an operation without an end, all of whose writes are undone.
+    fn least_spent(&self) -> Option<Txn> {
+        let mut least: Option<Txn> = None;
+        for (index, record) in self.records.iter().enumerate() {
+            if let Record::Write(txn, _) = record {
+                let lsn = (index as u64).saturating_add(1);
+                if !self.is_over(lsn, *txn) && !self.has_spot(*txn) && is_before(*txn, least) {
+                    least = Some(*txn);
+                }
+            }
+        }
+        least
+    }
+
+    // Whether the operation of this slot write has its end.
+    fn is_over(&self, lsn: Lsn, txn: Txn) -> bool {
+        for record in self.records.iter().skip(lsn as usize) {
+            match record {
+                Record::End(ended, _) | Record::Undone(ended) | Record::Void(ended)
+                    if *ended == txn =>
+                {
+                    return true;
+                }
+                _ => {}
+            }
+        }
+        false
+    }
+
+    // Whether the slot write with this LSN is undone.
+    fn is_back(&self, lsn: Lsn) -> bool {
+        for record in &self.records {
+            match record {
+                Record::Back(_, _, undone) if *undone == lsn => return true,
+                _ => {}
+            }
+        }
+        false
+    }
+
     fn openings(&self) -> u64 {
         let mut openings: u64 = 0;
         for record in &self.records {
@@ -338,12 +439,12 @@ impl Disk {
         openings
     }
 
-    /// Whether each transaction that did something in the first records has its end among them: its commit, or that of
-    /// its abort.
+    /// Whether each transaction that finished something in the first records has its end among them: its commit, or that
+    /// of its abort.
     pub fn is_settled(&self, count: u64) -> bool {
         for record in self.records.iter().take(count as usize) {
             match record {
-                Record::Write(txn, _) | Record::End(txn, _) | Record::Undone(txn) => {
+                Record::End(txn, _) => {
                     if !self.is_ended(*txn, count) {
                         return false;
                     }
@@ -403,6 +504,17 @@ impl Disk {
     }
 }
 
+// Whether it comes before that one by number; before none.
+fn is_before(txn: Txn, other: Option<Txn>) -> bool {
+    match other {
+        Some(other) => {
+            txn.incarnation < other.incarnation
+                || (txn.incarnation == other.incarnation && txn.count < other.count)
+        }
+        None => true,
+    }
+}
+
 // The place that is said of a page; the newest where none is.
 fn place_in(places: &[u64], page: u32) -> u64 {
     match places.get(page as usize) {
@@ -418,6 +530,8 @@ fn bytes_of(record: &Record) -> u64 {
         Record::Write(_, _) => 546,
         Record::End(_, deed) => deed.saturating_add(30),
         Record::Undone(_) => 37,
+        Record::Back(_, _, _) => 298,
+        Record::Void(_) => 29,
         Record::Commit(_) | Record::Abort(_) => 21,
     }
 }

@@ -153,13 +153,13 @@ impl Lists {
             return Told::Running;
         }
         match self.disk.open() {
-            Ok(incarnation) => {
+            Ok((incarnation, unfinished)) => {
                 self.open = true;
                 self.incarnation = incarnation;
                 self.begins = 0;
                 Told::Restarted(Report {
                     incarnation,
-                    unfinished: 0,
+                    unfinished,
                     lost: 0,
                     records: self.disk.len(),
                 })
@@ -711,12 +711,12 @@ impl Lists {
         self.open
     }
 
-    /// Whether it can't be opened any more: what its log holds is unfinished.
+    /// Whether it can't be opened any more: a transaction in its log finished something and has no end.
     pub fn is_stuck(&self) -> bool {
         !self.open && !self.disk.is_settled(self.disk.len())
     }
 
-    /// Whether nothing that a crash may keep is unfinished.
+    /// Whether no transaction that finished something is without an end in what a crash may keep.
     pub fn is_settled(&self) -> bool {
         self.disk.is_settled(self.disk.len())
     }

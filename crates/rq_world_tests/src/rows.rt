@@ -1,5 +1,5 @@
 //! Worked courses: one message, from its send over a crash to its receive, or to a receive that is undone.
-use crate::course::{ALL, Ask, FIRST, Images, SECOND, Sent, Step, Text, check, restarted};
+use crate::course::{ALL, Ask, FIRST, Images, SECOND, Sent, Step, Text, check, restarted, restarted_undoing};
 use crate::told::Told;
 use rq_model::refusal::Refusal;
 use rq_model::txn::{Sub, Txn};
@@ -157,10 +157,19 @@ fn a_message_that_was_put_back_outlives_a_crash(rt: HostRuntime) -> Result<(), F
     Ok(())
 }
 
-// Of the records behind the commit all have to outlive the crash, or none: undo in a restart is not built yet.
+// A receive without an end is undone slot by slot. Of the records behind its end all have to outlive the crash: a
+// transaction without an end is not undone yet.
 #[test]
 fn a_crash_in_the_midst_of_an_abort(rt: HostRuntime) -> Result<(), Fail> {
-    for keep in 5..11 {
+    for (keep, records) in [(5, 9), (6, 11)] {
+        let end = [
+            Step::Crash(keep, Images::Unsaid, u64::saturating_add(keep, 1)),
+            Step::Restart(restarted_undoing(2, 1, records)),
+            Step::Holds(sent(1, Text::A, true)),
+        ];
+        check(&rt, keep, &put_back(), &end)?;
+    }
+    for keep in 7..11 {
         let end = [
             Step::Crash(keep, Images::Unsaid, u64::saturating_add(keep, 1)),
             Step::Restart(Told::Shut(Refusal::Unfinished)),
