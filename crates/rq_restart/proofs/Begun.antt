@@ -19,7 +19,8 @@ use Rattle.rq_views.specs.InStore.{InStore}
 use Rattle.rq_views.specs.Stored.{count_used, slots_in}
 use Rattle.rq_sound.specs.Sound.{IsSound}
 use Rattle.rq_sound.proofs.Instance.{instance_sound}
-use Rattle.rq_store.specs.Opening.{FitsUpTo, IsCounted, IsLeft, IsSoundWrite, MayRedo, Redoes, opened, next_restart, waiting_in}
+use Rattle.rq_groups.specs.Sent.{SentBy}
+use Rattle.rq_store.specs.Opening.{FitsUpTo, IsCounted, IsLeft, IsSoundWrite, MayRedo, Redoes, opened, next_restart, waiting_in, sent_in_slots}
 use Rattle.rq_store.specs.State.{State}
 use Rattle.rq_model.specs.Commits.{committed_of}
 use Rattle.rq_model.proofs.Cuts.{extends_commits}
@@ -241,8 +242,8 @@ begun_behind log undone r kept seen bytes u ended is are read now on =
 -- ---- what is opened
 
 -- an engine over the log and its pages
-abbrev pub engine_over : Sizes → List (List ℕ) → List Record → ℕ → ℕ → ℕ → List ℕ → State
-engine_over z images rs forced incarnation cells waiting = record {
+abbrev pub engine_over : Sizes → List (List ℕ) → List Record → ℕ → ℕ → ℕ → List ℕ → SentBy → State
+engine_over z images rs forced incarnation cells waiting sent = record {
   sizes = z;
   rows = [];
   ends = record { sending = []; receiving = [] };
@@ -254,22 +255,24 @@ engine_over z images rs forced incarnation cells waiting = record {
   begins = 0;
   cells_in_use = cells;
   waiting = waiting;
+  sent = sent;
 }
 
-pub opened_over : {L : Type 0} (z : Sizes) (images : List (List ℕ)) (log : List Record) (new : Logged L) (incarnation cells : ℕ) (waiting : List ℕ) → IsBegun log new → incarnation ≡ incarnation_of log + 1 → cells ≡ count_used z (slots_in z images) → waiting ≡ waiting_in z images
-    → IsOpenedOver log (engine_over z images new.records new.forced incarnation cells waiting)
-opened_over z images log new incarnation cells waiting b number used waits =
+pub opened_over : {L : Type 0} (z : Sizes) (images : List (List ℕ)) (log : List Record) (new : Logged L) (incarnation cells : ℕ) (waiting : List ℕ) (sent : SentBy) → IsBegun log new → incarnation ≡ incarnation_of log + 1 → cells ≡ count_used z (slots_in z images) → waiting ≡ waiting_in z images → sent ≡ sent_in_slots z images
+    → IsOpenedOver log (engine_over z images new.records new.forced incarnation cells waiting sent)
+opened_over z images log new incarnation cells waiting sent b number used waits told =
     let undone = b.undone in
     let all : List Record = next_restart undone ∷ undone in
     let last : drop 1 new.records ≡ undone = ap (drop 1) b.records in
     let forced : new.forced ≡ length all = b.forced ∙ ap length b.records in
     let i : incarnation ≡ incarnation_of undone + 1 = number ∙ ap (λ n. n + 1) (sym (undoing_incarnation log undone b.undoes.undoing)) in (
       subst (IsUndone log) (sym last) b.undoes,
-      ap (λ rs. engine_over z images rs new.forced incarnation cells waiting) b.records
-          ∙ ap (λ n. engine_over z images all n incarnation cells waiting) forced
-          ∙ ap (λ n. engine_over z images all (length all) n cells waiting) i
-          ∙ ap (λ n. engine_over z images all (length all) (incarnation_of undone + 1) n waiting) used
-          ∙ ap (λ w. engine_over z images all (length all) (incarnation_of undone + 1) (count_used z (slots_in z images)) w) waits
+      ap (λ rs. engine_over z images rs new.forced incarnation cells waiting sent) b.records
+          ∙ ap (λ n. engine_over z images all n incarnation cells waiting sent) forced
+          ∙ ap (λ n. engine_over z images all (length all) n cells waiting sent) i
+          ∙ ap (λ n. engine_over z images all (length all) (incarnation_of undone + 1) n waiting sent) used
+          ∙ ap (λ w. engine_over z images all (length all) (incarnation_of undone + 1) (count_used z (slots_in z images)) w sent) waits
+          ∙ ap (λ x. engine_over z images all (length all) (incarnation_of undone + 1) (count_used z (slots_in z images)) (waiting_in z images) x) told
           ∙ ap (opened z images) (sym last),
     )
 

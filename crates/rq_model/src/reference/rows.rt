@@ -19,21 +19,6 @@ pub enum Act {
 pub enum Work {
     /// To send a message.
     Sending(Message),
-    /// To receive from the sender's group.
-    Taking(u32),
-    /// To close the sender's group.
-    Closing(u32),
-    /// To undo what its transaction did last and has not undone.
-    Undoing,
-}
-
-/// What a finished operation came to.
-#[derive(Clone, Copy, Debug, PartialEq, Eq)]
-pub enum Finished {
-    /// It did this.
-    Done(Act),
-    /// It undid what its transaction did last and had not undone.
-    Undone,
 }
 
 /// A transaction that has not ended.
