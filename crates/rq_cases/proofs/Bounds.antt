@@ -53,6 +53,8 @@ use Rattle.rq_engine.specs.declared.event.Reply.TheVariants as reply
 use Rattle.rq_engine.proofs.Crashing.{fit_kept, runs_through_cuts}
 use Rattle.rq_engine.proofs.Refusals.{refuse, refuse_full}
 use Rattle.rq_engine.proofs.Standing.{close_steps}
+use Rattle.rq_undone.specs.Analysis.{analysis}
+use Rattle.rq_undone.proofs.Undos.{nothing_undone, undoing_none}
 use Rattle.rq_restart.specs.Checked.{IsEnded, IsGoneThrough}
 use Rattle.rq_restart.specs.Refused.{IsFirstFault}
 use Rattle.rq_restart.specs.Repeating.{Paged, Repeats}
@@ -330,8 +332,16 @@ repeats (suc n) = (
 )
 
 ended : (n : ℕ) → IsEnded (restarts n)
-ended zero = (refl, refl)
+ended zero = refl
 ended (suc n) = ended n
+
+no_operation : (n : ℕ) → (analysis (restarts n)).unfinished ≡ []
+no_operation zero = refl
+no_operation (suc n) = no_operation n
+
+no_spot : (n : ℕ) → (analysis (restarts n)).spots ≡ []
+no_spot zero = refl
+no_spot (suc n) = no_spot n
 
 gone : (n : ℕ) → IsGoneThrough sizes (restarts n) read_pages read_pages
 gone n = record {
@@ -349,8 +359,9 @@ module _ (n : ℕ) (pages : MemPages) (log : MemLog) (h : Hold pages formatted_p
     older = restarts n;
     are_spelled = are_spelled n (omega (arith, low));
     reads = λ honest. log_seen log (restarts n) h.1;
-    gone_through = gone n;
     ended = ended n;
+    undone = restarts n;
+    undone_on = record { gone_through = (read_pages, gone n); undoes = record { undoing = undoing_none (restarts n); none = no_operation n }; repeated = repeats n };
     begun = refl;
     room = (let e = length_is n in omega (arith, e, low));
   }
@@ -368,7 +379,7 @@ module _ (n : ℕ) (pages : MemPages) (log : MemLog) (h : Hold pages formatted_p
           restarts n,
           are_spelled n low,
           λ honest. log_seen log (restarts n) h.1,
-          (omega (arith, e, le), ended n, (read_pages, gone n), only_read log),
+          (record { undone = restarts n; undoing = undoing_none (restarts n); full = omega (arith, e, le) }, ended n, (read_pages, gone n), only_read log),
         ),
       )
 
@@ -381,8 +392,11 @@ module _ (n : ℕ) (pages : MemPages) (log : MemLog) (h : Hold pages formatted_p
       let same : restarts n ≡ r.0 = one_log (restarts n) r.0 (are_spelled n (omega (arith, low))) r.1 (sym (log_seen log (restarts n) h.1) ∙ r.2 tt) in
       let e = length_is n in
       let d : length (restarts n) ≡ length r.0 = ap (λ (x : List Record). length x) same in
-      let long = r.3.0 in
-      omega (arith, low, e, d, long)
+      let b = r.3.0 in
+      let undone : b.undone ≡ r.0 = nothing_undone r.0 b.undone (subst (λ l. (analysis l).unfinished ≡ []) same (no_operation n)) (subst (λ l. (analysis l).spots ≡ []) same (no_spot n)) b.undoing in
+      let f : length b.undone ≡ length r.0 = ap (λ (x : List Record). length x) undone in
+      let long = b.full in
+      omega (arith, low, e, d, f, long)
 
 -- the room of an operation under way
 none_waits : (n g : ℕ) → slice_index (replicate n 0) g ≡ 0

@@ -49,7 +49,13 @@ use Rattle.rq_cases.proofs.Held.{log_left, log_now, log_seen, only_records, runs
 use Rattle.rq_cases.proofs.Logs.{no_record}
 use Rattle.rq_cases.proofs.Pages.{are_formatted, range}
 use Rattle.rq_cases.proofs.Reading.{cells_missing, first_block, no_header, sent_sound}
-use Rattle.rq_cases.proofs.Restarting.{formatted_fit, gone, gone_4, group_lsn, is_restart, made_there, no_cell_lsn, odd_bad, odd_record, open_4, pages_seen_are, repeats_1, repeats_5, same_log}
+use Rattle.rq_undone.specs.Pages.{IsUndone}
+use Rattle.rq_undone.proofs.Undos.{undoing_extends, undoing_none, undoing_working}
+use Rattle.rq_restart.proofs.Paths.{kept, kept_extends, kept_spelled, older_spelled}
+use Rattle.rq_model.specs.Commits.{committed_of}
+use Rattle.rq_model.specs.Ledger.{Done}
+use Rattle.rq_model.proofs.Cuts.{extends_commits}
+use Rattle.rq_cases.proofs.Restarting.{begun_commit, formatted_fit, gone, gone_4, group_lsn, is_restart, made_there, no_cell_lsn, odd_bad, odd_record, open_4, pages_seen_are, repeats_1, repeats_5, same_log}
 use Rattle.rq_cases.proofs.Several as running
 use Rattle.rq_cases.proofs.Worlds.{leaves_store, ran_crashed, shuts_with_less, whole}
 
@@ -78,7 +84,7 @@ none_seen pages n = ap (λ (seen : Images). seen 2) (pages_seen_are pages no_cel
 
 -- the log that was read
 module _ (pages : MemPages) (log new : MemLog) (last : Paged) (records : List Record) (k : Checked pages log new last records) where
-  read_is : (r : Record) (older : List Record) → records ≡ r ∷ older → older ≡ k.older
+  read_is : (r : Record) (older : List Record) → records ≡ r ∷ older → older ≡ k.undone
   read_is r older e = ap rest_of (sym e ∙ k.begun)
 
   none_missing : AreNewPages pages no_cells → ⊥
@@ -89,10 +95,14 @@ module _ (pages : MemPages) (log new : MemLog) (last : Paged) (records : List Re
 -- it was not gone through on pages that stayed
 stayed : (pages : MemPages) (log new : MemLog) → AreNewPages pages formatted_pages → Checked pages log new read_pages log_next → ⊥
 stayed pages log new n k =
-    let same : log_5 ≡ k.older = read_is pages log new read_pages log_next k (Restart 2) log_5 refl in
+    let same : log_5 ≡ k.undone = read_is pages log new read_pages log_next k (Restart 2) log_5 refl in
     let seen = k.seen tt 2 (omega arith) ∙ ap (λ (seen : Images). seen 2) (pages_seen_are pages formatted_pages n) in
     made_there (as_read sizes k.images) read_pages (ap lsn_of seen ∙ no_cell_lsn) no_cell_lsn
-    (subst (λ (l : List Record). IsGoneThrough sizes l (as_read sizes k.images) read_pages) (sym same) k.gone_through)
+    (subst (λ (l : List Record). Repeats sizes l (as_read sizes k.images) read_pages) (sym same) k.undone_on.repeated)
+
+-- nothing is to be undone
+none_undone : IsUndone log_5 log_5
+none_undone = record { undoing = undoing_none log_5; none = refl }
 
 pub checks : ChecksAreJudged
 checks = record {
@@ -103,28 +113,30 @@ checks = record {
     older = log_5;
     are_spelled = records_spelled;
     reads = λ honest. log_seen log log_5 h.1;
-    gone_through = gone;
-    ended = (refl, refl);
+    ended = refl;
+    undone = log_5;
+    undone_on = record { gone_through = (repeated_pages, gone); undoes = none_undone; repeated = repeats_5 };
     begun = refl;
     room = omega arith;
   };
   not_repeated = λ pages log new l n k. stayed pages log new n k;
   no_record = λ pages log new last k. (let f : 0 ≡ 1 = ap is_restart k.begun in omega (arith, f));
   another_incarnation = λ pages log new last k.
-      (let same : log_5 ≡ k.older = read_is pages log new last (Restart 3 ∷ log_5) k (Restart 3) log_5 refl in
-      let one : 1 ≡ incarnation_of k.older = ap incarnation_of same in
-      let f : 3 ≡ incarnation_of k.older + 1 = ap begins k.begun in
+      (let same : log_5 ≡ k.undone = read_is pages log new last (Restart 3 ∷ log_5) k (Restart 3) log_5 refl in
+      let one : 1 ≡ incarnation_of k.undone = ap incarnation_of same in
+      let f : 3 ≡ incarnation_of k.undone + 1 = ap begins k.begun in
       omega (arith, one, f));
   one_open = λ pages log new last k.
-      open_4 (same_log k.older log_4 k.ended (sym (read_is pages log new last (Restart 2 ∷ log_4) k (Restart 2) log_4 refl)));
+      open_4 (same_log k.undone log_4 (undoing_working sizes k.older k.undone k.undone_on.undoes.undoing ∙ k.ended) (sym (read_is pages log new last (Restart 2 ∷ log_4) k (Restart 2) log_4 refl)));
   another_log = λ pages log new last n k.
-      (let same : log_5 ≡ k.older = read_is pages log new last log_next k (Restart 2) log_5 refl in
-      let e : spelled log_1 ≡ spelled k.older = sym (log_seen log log_1 n) ∙ k.reads tt in
-      let f : 1 ≡ 5 = ap (λ (l : List Record). length l) (one_log log_1 k.older first_spelled k.are_spelled e ∙ sym same) in
+      (let same : log_5 ≡ k.undone = read_is pages log new last log_next k (Restart 2) log_5 refl in
+      let older : log_1 ≡ k.older = one_log log_1 k.older first_spelled k.are_spelled (sym (log_seen log log_1 n) ∙ k.reads tt) in
+      let c : committed_of log_5 ≡ committed_of log_1 = ap committed_of same ∙ extends_commits k.older k.undone (undoing_extends k.older k.undone k.undone_on.undoes.undoing) ∙ ap committed_of (sym older) in
+      let f : 1 ≡ 0 = ap (λ (l : List Done). length l) c in
       omega (arith, f));
   page_of_none = λ pages log new last records n k. none_missing pages log new last records k n;
   no_room = λ pages log new last r records long k.
-      (let e : length (r ∷ records) ≡ length (next_restart k.older ∷ k.older) = ap (λ (l : List Record). length l) k.begun in
+      (let e : length (r ∷ records) ≡ length (next_restart k.undone ∷ k.undone) = ap (λ (l : List Record). length l) k.begun in
       let room = k.room in
       omega (arith, e, room, long));
 }
@@ -162,7 +174,7 @@ all_ended : (z : Sizes) (first : Paged) (old new : MemLog) → IsNewLog old log_
 all_ended z first old new n s =
     let u = unfinished_read z first old new s in
     let same : log_5 ≡ u.0 = one_log log_5 u.0 records_spelled u.1 (sym (log_seen old log_5 n) ∙ u.2) in
-    u.3 (same_log log_5 u.0 (refl, refl) same)
+    u.3 (same_log log_5 u.0 refl same)
 
 open_here : (d : MemLog) → IsNewLog d log_4 → Stops why.Unfinished d d
 open_here d n = inr (log_4, records_spelled.1, λ honest. log_seen d log_4 n, (open_4, (repeated_pages, gone_4), only_read d))
@@ -327,8 +339,8 @@ refusals = record {
   told_otherwise = told_so;
   begins_not_for_room = λ last before. (inl (omega arith), tt);
   begins_not_of_five = λ s. ⊎_elim (λ e. omega (arith, e)) (λ e. omega (arith, e)) s.0;
-  may_be_shut = λ left none lost. cc lost;
-  may_not_be_shut = λ s. s tt refl refl;
+  may_be_shut = λ left lost. cc lost;
+  may_not_be_shut = λ s. s tt refl;
   damaged_though_left = λ d s. s tt;
 }
 
@@ -346,7 +358,11 @@ module _ (old new : MemLog) (n : IsNewLog old log_5) where
   as_it_was_or_begun : (c : List ℕ) → IsBeginning log_next 5 c → mem_log.may_leave old c ⊎ IsBegunOn (mem_log.seen old) c
   as_it_was_or_begun c b = at b.0 b.1 b.2 where
     at : (lost : ℕ) → lost + 5 ≤ 6 → c ≡ spelled (drop lost log_next) → mem_log.may_leave old c ⊎ IsBegunOn (mem_log.seen old) c
-    at zero le e = inr (record { older = log_5; are_spelled = next_spelled; reads = log_seen old log_5 n; ended = (refl, refl); is = e })
+    at zero le e = inr (record {
+      older = log_5;
+      reads = log_seen old log_5 n;
+      begun = record { undone = log_5; undoes = none_undone; are_spelled = next_spelled; ended = refl; lacks = 0; some = omega arith; is = e };
+    })
     at (suc zero) le e = inl (subst (mem_log.may_leave old) (sym e) (log_left old log_5 n))
     at (suc (suc lost)) le e = absurd (omega (arith, le))
 
@@ -355,11 +371,17 @@ module _ (old new : MemLog) (n : IsNewLog old log_5) where
       weaker mem_log old new (IsBeginning log_next 5) (λ c. mem_log.may_leave old c ⊎ IsBegunOn (mem_log.seen old) c)
       (runs_through log_next 5 1 next_spelled (omega arith) old new n f) as_it_was_or_begun
 
--- what is left then is no log without that record
-begun_without : (read : List ℕ) (log : List Record) → AreSpelled log → is_restart log ≡ 0 → IsBegunOn read (spelled log) → ⊥
-begun_without read log told none k =
-    let f : is_restart log ≡ 1 = ap is_restart (one_log log (next_restart k.older ∷ k.older) told k.are_spelled k.is) in
-    omega (arith, none, f)
+-- what is left then is no log with less than was read
+begun_with_less : (read : List ℕ) → read ≡ spelled log_5 → IsBegunOn read (spelled log_4) → ⊥
+begun_with_less read is b =
+    let bytes = spelled log_4 in
+    let older : log_5 ≡ b.older = one_log log_5 b.older records_spelled (older_spelled b.older bytes b.begun) (sym is ∙ b.reads) in
+    let now : log_4 ≡ kept b.older bytes b.begun = one_log log_4 (kept b.older bytes b.begun) records_spelled.1 (kept_spelled b.older bytes b.begun) b.begun.is in
+    let more = kept_extends b.older bytes b.begun in
+    let a = length-append more.0 b.older in
+    let c : length (more.0 ++ b.older) ≡ 4 = ap (λ (l : List Record). length l) (more.1 ∙ sym now) in
+    let d : length b.older ≡ 5 = ap (λ (l : List Record). length l) (sym older) in
+    omega (arith, a, c, d)
 
 -- plain records behind
 abbrev newest_is_plain : List Record → Bool
@@ -384,9 +406,13 @@ next_fit = fits_log_longer sizes (image_in formatted_pages) [] log_next (6, refl
 
 pub beginnings : BeginningsAreJudged
 beginnings = record {
-  begun = λ d. record { records = refl; forced = refl; running = refl };
-  begun_without_a_record = λ d b. (let f : 5 ≡ 6 = ap (λ (l : List Record). length l) b.records in omega (arith, f));
-  begun_the_same = λ d b. (let f : 1 ≡ 2 = ap begins b.records in omega (arith, f));
+  begun = λ d. record { undone = log_5; undoes = none_undone; records = refl; forced = refl; running = refl };
+  begun_without_a_record = λ d b. (let f : 0 ≡ 1 = ap is_restart b.records in omega (arith, f));
+  begun_the_same = λ d b.
+      (let same : log_5 ≡ b.undone = ap rest_of b.records in
+      let one : 1 ≡ incarnation_of b.undone = ap incarnation_of same in
+      let f : 1 ≡ incarnation_of b.undone + 1 = ap begins b.records in
+      omega (arith, one, f));
   begun_and_not_forced = λ d b. (let f : 5 ≡ 6 = b.forced in omega (arith, f));
   begun_and_failed = λ d b. (let f = b.running in cc f);
   ready = λ d n. record {
@@ -409,11 +435,11 @@ beginnings = record {
   record_lost = λ old new n left b.
       ⊎_elim
       (λ may. (let f : 4 ≡ 5 = same_length log_4 log_5 records_spelled.1 records_spelled (only_records old log_5 n (spelled log_4) may) in omega (arith, f)))
-      (begun_without (mem_log.seen old) log_4 records_spelled.1 refl) ((b tt).each (spelled log_4) left);
+      (begun_with_less (mem_log.seen old) (log_seen old log_5 n)) ((b tt).each (spelled log_4) left);
   commit_added = λ old new n left b.
       ⊎_elim
       (λ may. (let f : 2 ≡ 1 = same_length (Commit t1 ∷ log_1) log_1 commit_spelled first_spelled (only_records old log_1 n (spelled (Commit t1 ∷ log_1)) may) in omega (arith, f)))
-      (begun_without (mem_log.seen old) (Commit t1 ∷ log_1) commit_spelled refl)
+      (λ k. begun_commit (subst (λ read. IsBegunOn read (spelled (Commit t1 ∷ log_1))) (log_seen old log_1 n) k))
       ((b tt).each (spelled (Commit t1 ∷ log_1)) left);
   of_stores = λ pages log new h honest z read told is each.
       one_log read log_5 told records_spelled (sym is ∙ log_seen log log_5 h.1);

@@ -22,6 +22,11 @@ use Rattle.rq_store.proofs.Cutting.{fits_log_longer}
 use Rattle.rq_store.proofs.Formatting.{formatted_fits}
 use Rattle.rq_restart.specs.Repeating.{AreCounted, Belongs, IsFirstBad, IsRepeated, Paged, Repeats}
 use Rattle.rq_restart.specs.Restarting.{IsBegunOn, IsLeftOn}
+use Rattle.rq_restart.specs.Undoing.{IsAtBound}
+use Rattle.rq_restart.proofs.Paths.{kept, kept_extends, kept_spelled, older_spelled}
+use Rattle.rq_model.specs.Commits.{committed_of}
+use Rattle.rq_model.proofs.Cuts.{extends_commits}
+use Rattle.rq_undone.proofs.Undos.{nothing_undone, undoing_none}
 use Rattle.rq_restart.specs.Checked.{IsEnded, IsGoneThrough}
 use Rattle.rq_restart.proofs.Parsing.{one_log}
 use Rattle.rq_core.specs.Devices.{mem_pages}
@@ -196,9 +201,8 @@ pub gone_4 : IsGoneThrough sizes log_4 read_pages repeated_pages
 gone_4 = record { repeated = repeats_4; counted_read = counted_read 4; counted = counted_last 4 (omega arith) }
 
 -- the write of the cell was made, whatever the pages were between
-pub made_there : (first last : Paged) → lsn_of (first.image 2) ≡ 0 → lsn_of (last.image 2) ≡ 0 → IsGoneThrough sizes log_5 first last → ⊥
-made_there first last none still g =
-    let five = g.repeated in
+pub made_there : (first last : Paged) → lsn_of (first.image 2) ≡ 0 → lsn_of (last.image 2) ≡ 0 → Repeats sizes log_5 first last → ⊥
+made_there first last none still five =
     let four = five.1 in
     let three = four.1 in
     let two = three.1 in
@@ -228,36 +232,57 @@ first_belongs : IsFirstBad sizes (odd_record ∷ log_1) read_pages 1 → ⊥
 first_belongs b = b.bad (subst (BelongsIn b.mid) b.are (record { next = refl; may = record { write = tt; before = tt } }))
 
 pub open_4 : IsEnded log_4 → ⊥
-open_4 e = (let f = e.1 in cc f)
+open_4 e = cc e
+
+pub not_at_bound : IsAtBound log_5 → ⊥
+not_at_bound b =
+    let e : length b.undone ≡ 5 = ap length (nothing_undone log_5 b.undone refl refl b.undoing) in
+    let full = b.full in
+    omega (arith, e, full)
 
 begun_open : IsBegunOn (spelled log_4) (spelled (Restart 2 ∷ log_4)) → ⊥
-begun_open b = open_4 (same_log b.older log_4 b.ended (sym (one_log log_4 b.older records_spelled.1 b.are_spelled.1 b.reads)))
+begun_open b = open_4 (same_log b.older log_4 b.begun.ended (sym (one_log log_4 b.older records_spelled.1 (older_spelled b.older (spelled (Restart 2 ∷ log_4)) b.begun) b.reads)))
 
-begun_commit : IsBegunOn (spelled log_1) (spelled (Commit t1 ∷ log_1)) → ⊥
+pub begun_commit : IsBegunOn (spelled log_1) (spelled (Commit t1 ∷ log_1)) → ⊥
 begun_commit b =
-    let e : Commit t1 ∷ log_1 ≡ next_restart b.older ∷ b.older = one_log (Commit t1 ∷ log_1) (next_restart b.older ∷ b.older) (records_spelled.0, first_spelled) b.are_spelled b.is in
-    let f : 0 ≡ 1 = ap is_restart e in
-    omega (arith, f)
+    let bytes = spelled (Commit t1 ∷ log_1) in
+    let older : log_1 ≡ b.older = one_log log_1 b.older first_spelled (older_spelled b.older bytes b.begun) b.reads in
+    let now : Commit t1 ∷ log_1 ≡ kept b.older bytes b.begun = one_log (Commit t1 ∷ log_1) (kept b.older bytes b.begun) (records_spelled.0, first_spelled) (kept_spelled b.older bytes b.begun) b.begun.is in
+    let same : committed_of (Commit t1 ∷ log_1) ≡ committed_of log_1 = ap committed_of now ∙ extends_commits b.older (kept b.older bytes b.begun) (kept_extends b.older bytes b.begun) ∙ ap committed_of (sym older) in
+    let count : 1 ≡ 0 = ap length same in
+    omega (arith, count)
 
 pub restarts : RestartsAreJudged
 restarts = record {
-  reports = record { incarnation_is = refl; records_are = refl; unfinished_are = refl; lost_are = refl };
+  reports = record { incarnation_is = refl; records_are = refl; unfinished_are = λ w. refl; lost_are = refl; none_lost = λ w. refl };
   reports_the_same_incarnation = λ n undone gone r. (let e : 1 ≡ 2 = r.incarnation_is in omega (arith, e));
   reports_no_record = λ i undone gone r. (let e : 5 ≡ 6 = r.records_are in omega (arith, e));
-  reports_what_was_undone = λ i n gone r. (let e : 1 ≡ 0 = r.unfinished_are in omega (arith, e));
+  reports_one_lost = λ i n undone r. (let e : 1 ≡ 0 = r.lost_are in omega (arith, e));
   read_as = λ d n. record { honest = tt; are_spelled = records_spelled; reads = log_seen d log_5 n };
   read_as_less = λ d new n r.
       (let e : 5 ≡ 4 = ap (λ (l : List Record). length l) (one_log log_5 log_4 records_spelled r.are_spelled (sym (log_seen d log_5 n) ∙ r.reads)) in omega (arith, e));
   left_on = λ d n. record { honest = tt; left = left_here d n };
   left_ahead = not_left;
-  ended = (refl, refl);
+  ended = refl;
   transaction_open = open_4;
-  operation_open = λ e. (let f = e.0 in cc f);
-  begun_on = record { older = log_5; are_spelled = ((omega arith, omega arith), records_spelled); reads = refl; ended = (refl, refl); is = refl };
+  operation_open = refl;
+  begun_on = record {
+    older = log_5;
+    reads = refl;
+    begun = record {
+      undone = log_5;
+      undoes = record { undoing = undoing_none log_5; none = refl };
+      are_spelled = ((omega arith, omega arith), records_spelled);
+      ended = refl;
+      lacks = 0;
+      some = omega arith;
+      is = refl;
+    };
+  };
   begun_where_one_is_open = begun_open;
   begun_by_a_commit = begun_commit;
   gone_through = gone;
-  not_repeated = made_there read_pages read_pages no_cell_lsn no_cell_lsn;
+  not_repeated = λ g. made_there read_pages read_pages no_cell_lsn no_cell_lsn g.repeated;
   bad_record = record { older = log_1; newest = odd_record; are = refl; place = refl; mid = read_pages; repeated = repeats_1; bad = odd_bad };
   bad_record_elsewhere = first_belongs;
   page_beyond = record {
@@ -269,12 +294,12 @@ restarts = record {
   page_beyond_is_not_the_first = λ b.
       (let w : lsn_of (page_image 3 1 1 groups_1) ≤ 1 = (b.first 1 (omega arith) (omega arith)).lsn in let e = group_lsn in omega (arith, e, w));
   unfinished = (open_4, (repeated_pages, gone_4), tt);
-  unfinished_though_ended = λ s. s.0 (refl, refl);
-  log_full_of_five = λ s. (let e : 2 ^ 50 ≤ 5 = s.0 in omega (arith, e));
+  unfinished_though_ended = λ s. s.0 refl;
+  log_full_of_five = λ s. not_at_bound s.0;
   disk_without_a_failure = λ s. (let e = s.0 in omega (arith, e));
   touched = λ s. s.2;
-  stops_unfinished = λ l u n. cc n;
-  stops_though_ended = λ s. s tt refl refl;
+  stops_unfinished = λ l n. cc n;
+  stops_though_ended = λ s. s tt refl;
   stops_for_damage = λ d s. s tt;
   stops_for_another = λ s. s;
 }

@@ -32,20 +32,21 @@ abbrev pub Shuts : List Record → Refusal → Type 0 → Type 0
 Shuts log r untouched = WhyShut sizes log read_pages r 0 0 untouched
 
 pub record RestartsAreJudged : Type 0 where
-  pub reports : Reports log_5 2 6 0 0
-  pub reports_the_same_incarnation : (n undone gone : ℕ) → Reports log_5 1 n undone gone → ⊥
-  pub reports_no_record : (i undone gone : ℕ) → Reports log_5 i 5 undone gone → ⊥
-  pub reports_what_was_undone : (i n gone : ℕ) → Reports log_5 i n 1 gone → ⊥
+  pub reports : Reports sizes log_5 (Restart 2 ∷ log_5) 2 6 0 0
+  pub reports_the_same_incarnation : (n undone gone : ℕ) → Reports sizes log_5 (Restart 2 ∷ log_5) 1 n undone gone
+      → ⊥
+  pub reports_no_record : (i undone gone : ℕ) → Reports sizes log_5 (Restart 2 ∷ log_5) i 5 undone gone → ⊥
+  pub reports_one_lost : (i n undone : ℕ) → Reports sizes log_5 (Restart 2 ∷ log_5) i n undone 1 → ⊥
   -- what was read, and what was left
   pub read_as : (d : MemLog) → IsNewLog d log_5 → IsReadAs mem_log d d log_5
   pub read_as_less : (d new : MemLog) → IsNewLog d log_5 → IsReadAs mem_log d new log_4 → ⊥
   pub left_on : (d : MemPages) → AreNewPages d formatted_pages → IsLeftOn mem_pages sizes d d log_5
   pub left_ahead : (d new : MemPages) → AreNewPages d sent_pages → IsLeftOn mem_pages sizes d new log_1 → ⊥
-  -- everything in the log has ended
+  -- every transaction in the log that did something has ended, whatever its operations
   pub ended : IsEnded log_5
   pub transaction_open : IsEnded log_4 → ⊥
-  pub operation_open : IsEnded log_2 → ⊥
-  -- the next incarnation is begun behind what was read, where everything has ended
+  pub operation_open : IsEnded log_2
+  -- the next incarnation is begun behind what was read, where they all have
   pub begun_on : IsBegunOn (spelled log_5) (spelled (Restart 2 ∷ log_5))
   pub begun_where_one_is_open : IsBegunOn (spelled log_4) (spelled (Restart 2 ∷ log_4)) → ⊥
   pub begun_by_a_commit : IsBegunOn (spelled log_1) (spelled (Commit t1 ∷ log_1)) → ⊥

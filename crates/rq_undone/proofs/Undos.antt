@@ -21,7 +21,7 @@ use Rattle.rq_store.specs.Fitting.{left_by}
 use Rattle.rq_store.specs.Whole.{IsWhole}
 use Rattle.rq_store.proofs.Opening.{idle_log}
 use Rattle.rq_undone.specs.declared.history.Spot.{Spot}
-use Rattle.rq_undone.specs.Analysis.{Analysis, analysis, spot_of, without_sub, without_spots, without_newest}
+use Rattle.rq_undone.specs.Analysis.{Analysis, analysis, has_sub, spot_of, without_sub, without_spots, without_newest}
 use Rattle.rq_undone.specs.Pages.{IsSpent, IsNextUndo, UndoesBehind, IsUndoing, IsUndone, void_of, undo_of, work}
 use Rattle.rq_undone.specs.Pages.IsNextUndo.{Voids, Undoes}
 use Rattle.rq_undone.specs.Theorems.{IsUndoneFrom}
@@ -194,3 +194,19 @@ undoing_more log last r h next = record {
   are = ap (λ l. r ∷ l) h.are;
   undoes = (subst (λ l. IsNextUndo (analysis l) r) (sym h.are) next, h.undoes);
 }
+
+-- where nothing is to be undone, nothing is
+nothing_next : (h : Analysis) (r : Record) → h.unfinished ≡ [] → h.spots ≡ [] → IsNextUndo h r → ⊥
+nothing_next h r none no_spots (Voids o s least e) = false≢true (sym (ap (has_sub o) none) ∙ s.unfinished)
+nothing_next h r none no_spots (Undoes p ps spent spots e) = some_not_none (sym spots ∙ no_spots) where
+  some_not_none : p ∷ ps ≡ [] → ⊥
+  some_not_none k = cc k
+
+nothing_behind : (log front : List Record) → (analysis log).unfinished ≡ [] → (analysis log).spots ≡ [] → UndoesBehind log front → front ≡ []
+nothing_behind log [] none no_spots h = refl
+nothing_behind log (r ∷ front) none no_spots h =
+    let e = nothing_behind log front none no_spots h.1 in
+    absurd (nothing_next (analysis log) r none no_spots (subst (λ f. IsNextUndo (analysis (f ++ log)) r) e h.0))
+
+pub nothing_undone : (log last : List Record) → (analysis log).unfinished ≡ [] → (analysis log).spots ≡ [] → IsUndoing log last → last ≡ log
+nothing_undone log last none no_spots h = sym h.are ∙ ap (λ f. f ++ log) (nothing_behind log h.front none no_spots h.undoes)
