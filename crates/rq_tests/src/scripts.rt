@@ -1065,14 +1065,13 @@ fn an_abort_outlives_a_crash(rt: HostRuntime) -> Result<(), Fail> {
     Ok(())
 }
 
-// Before the last record of an abort its transaction is lost, or in the midst of an inverse unfinished, too: neither is
-// opened yet.
+// Before the last record of an abort its transaction is lost, which no restart undoes yet, in the midst of an inverse too.
 #[test]
 fn an_abort_in_its_midst_is_not_opened_yet(rt: HostRuntime) -> Result<(), Fail> {
     for (crash, crashed) in [
         ("crash all", "crashed 14"),
         ("crash 12", "crashed 13"),
-        ("crash 5", "crashed 6"),
+        ("crash 8", "crashed 9"),
     ] {
         check_to_its_end(
             &rt,
@@ -1107,6 +1106,31 @@ fn an_abort_in_its_midst_is_not_opened_yet(rt: HostRuntime) -> Result<(), Fail> 
         ],
         1,
     )
+}
+
+// Where none of what it sent has its end, the restart undoes the send that was cut.
+#[test]
+fn an_abort_of_what_was_cut_is_not_needed(rt: HostRuntime) -> Result<(), Fail> {
+    for (crash, crashed) in [("crash 5", "crashed 6"), ("crash 7", "crashed 8")] {
+        check_each(
+            &rt,
+            1,
+            1,
+            &[
+                ("begin", "begun 1.1"),
+                ("send 1.1 0 1 a", "sent"),
+                ("commit 1.1", "commit 5"),
+                ("begin", "begun 1.2"),
+                ("send 1.2 0 2 b", "sent"),
+                ("start-abort 1.2", "aborting"),
+                (crash, crashed),
+                ("restart", "restarted 2 unfinished 1 lost 0"),
+                ("dump", "0 open sent 1 received 0: a"),
+                ("last 0", "last 1 1"),
+            ],
+        )?;
+    }
+    Ok(())
 }
 
 #[test]
