@@ -348,7 +348,7 @@ fn a_store_that_cannot_be_read_is_not_opened(rt: HostRuntime) -> Result<(), Fail
 }
 
 #[test]
-fn an_unfinished_transaction_is_not_opened_yet(rt: HostRuntime) -> Result<(), Fail> {
+fn a_lost_transaction_is_not_opened_yet(rt: HostRuntime) -> Result<(), Fail> {
     check(
         &rt,
         1,
@@ -1216,7 +1216,10 @@ fn operations_of_several_transactions_are_undone(rt: HostRuntime) -> Result<(), 
 // A receive that is undone leaves the message where it was, and what was sent before is not undone.
 #[test]
 fn a_receive_without_an_end_is_undone(rt: HostRuntime) -> Result<(), Fail> {
-    for (kept, left, forced) in [("1", "crashed 6", "forced 9"), ("2", "crashed 7", "forced 11")] {
+    for (kept, left, forced) in [
+        ("1", "crashed 6", "forced 9"),
+        ("2", "crashed 7", "forced 11"),
+    ] {
         let crash = format!(in rt.alloc(); "crash {kept}")?;
         check_each(
             &rt,

@@ -408,8 +408,7 @@ impl Disk {
         for record in self.records.iter().skip(lsn as usize) {
             match record {
                 Record::End(ended, _) | Record::Undone(ended) | Record::Void(ended)
-                    if *ended == txn =>
-                {
+                    if *ended == txn => {
                     return true;
                 }
                 _ => {}

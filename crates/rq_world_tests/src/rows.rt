@@ -1,5 +1,7 @@
 //! Worked courses: one message, from its send over a crash to its receive, or to a receive that is undone.
-use crate::course::{ALL, Ask, FIRST, Images, SECOND, Sent, Step, Text, check, restarted, restarted_undoing};
+use crate::course::{
+    ALL, Ask, FIRST, Images, SECOND, Sent, Step, Text, check, restarted, restarted_undoing,
+};
 use crate::told::Told;
 use rq_model::refusal::Refusal;
 use rq_model::txn::{Sub, Txn};
