@@ -311,7 +311,29 @@ fn a_store_that_cannot_be_read_is_not_opened(rt: HostRuntime) -> Result<(), Fail
 }
 
 #[test]
-fn an_unfinished_transaction_is_not_opened_yet(rt: HostRuntime) -> Result<(), Fail> {
+fn an_unfinished_operation_is_undone(rt: HostRuntime) -> Result<(), Fail> {
+    check(
+        &rt,
+        1,
+        "begin\nopen-send 1.1 0 1 x\nstep 1.1 1\nforce\nwrite 2\ncrash 0\nrestart\ndump\nforce\n",
+        "begun 1.1\nop 1.1 1\nlsn 2\nforced 2\nwritten\ncrashed 2\nrestarted 2 unfinished 1 lost 0\nempty\nforced 5\n",
+        0,
+    )
+}
+
+#[test]
+fn unfinished_operations_are_undone_newest_first(rt: HostRuntime) -> Result<(), Fail> {
+    check(
+        &rt,
+        2,
+        "begin\nbegin\nopen-send 1.1 0 1 x\nopen-send 1.2 15 1 y\nstep 1.1 1\nstep 1.2 1\nforce\ncrash 0\nrestart\ndump\nforce\n",
+        "begun 1.1\nbegun 1.2\nop 1.1 1\nop 1.2 1\nlsn 2\nlsn 3\nforced 3\ncrashed 3\nrestarted 2 unfinished 2 lost 0\nempty\nforced 8\n",
+        0,
+    )
+}
+
+#[test]
+fn a_lost_transaction_is_not_opened_yet(rt: HostRuntime) -> Result<(), Fail> {
     check(
         &rt,
         1,
