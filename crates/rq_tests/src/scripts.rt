@@ -323,8 +323,9 @@ fn an_unfinished_operation_is_undone(rt: HostRuntime) -> Result<(), Fail> {
 
 #[test]
 fn unfinished_operations_are_undone_newest_first(rt: HostRuntime) -> Result<(), Fail> {
-    check(
+    check_wide(
         &rt,
+        2,
         2,
         "begin\nbegin\nopen-send 1.1 0 1 x\nopen-send 1.2 15 1 y\nstep 1.1 1\nstep 1.2 1\nforce\ncrash 0\nrestart\ndump\nforce\n",
         "begun 1.1\nbegun 1.2\nop 1.1 1\nop 1.2 1\nlsn 2\nlsn 3\nforced 3\ncrashed 3\nrestarted 2 unfinished 2 lost 0\nempty\nforced 8\n",
