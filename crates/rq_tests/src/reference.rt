@@ -5,7 +5,7 @@ use crate::lists::{
 };
 use rq_model::message::Message;
 use rq_model::reference::Reference;
-use rq_model::reference::rows::Act;
+use rq_model::reference::rows::{Act, Finished};
 use rq_model::refusal::Refusal;
 use rq_model::txn::Txn;
 use std::test::Fail;
@@ -38,9 +38,9 @@ fn rests_on(queue: &Reference, bytes: &[u8]) -> Result<bool, Fail> {
     Ok(message.body.as_slice() == bytes)
 }
 
-fn sent(act: Act) -> Option<Message> {
-    match act {
-        Act::Sent(message) => Some(message),
+fn sent(finished: Finished) -> Option<Message> {
+    match finished {
+        Finished::Done(Act::Sent(message)) => Some(message),
         _ => None,
     }
 }

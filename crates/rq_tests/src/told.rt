@@ -20,11 +20,18 @@ pub enum Told {
     NothingLeft,
     Aborted,
     Committed(Txn, Lsn),
+    /// Whether a receipt was given.
+    Acknowledged(bool),
+    HandedOver,
     Forced(Lsn),
     Written,
     NotWritten,
+    /// How many messages a sender sent, and the tag of the last.
+    LastTag(u64, u64),
     Content,
     Refused(Refusal),
+    /// A store was opened in this incarnation, with so many records.
+    Opened(u64, Lsn),
     /// What no call of these tests answers.
     Other,
 }
@@ -42,12 +49,13 @@ pub fn told_by(reply: &Reply) -> Told {
         Reply::Aborting => Told::Aborting,
         Reply::NothingLeft => Told::NothingLeft,
         Reply::Aborted => Told::Aborted,
+        Reply::Acknowledged(receipt) => Told::Acknowledged(receipt.is_some()),
+        Reply::HandedOver => Told::HandedOver,
         Reply::Forced(lsn) => Told::Forced(*lsn),
         Reply::Written(Written::Done) => Told::Written,
         Reply::Written(Written::Nothing) => Told::NotWritten,
         Reply::Content(_) => Told::Content,
         Reply::Refused(refusal) => Told::Refused(*refusal),
-        _ => Told::Other,
     }
 }
 
