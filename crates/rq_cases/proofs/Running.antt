@@ -16,7 +16,7 @@ use Rattle.rq_views.specs.Log.{Slots, Write}
 use Rattle.rq_views.specs.WorkedItems.{cell, t1, t2, takes}
 use Rattle.rq_views.specs.Stored.{slots_in, count_used}
 use Rattle.rq_txn.specs.Rows.{fresh_row}
-use Rattle.rq_store.specs.Opening.{messages_told, opened, sent_told, tag_told}
+use Rattle.rq_store.specs.Opening.{messages_told, opened, sent_told as count_told, tag_told}
 use Rattle.rq_groups.specs.Sent.{SentBy}
 use Rattle.rq_store.specs.Plans.{IsSendPlan, IsTakePlan}
 use Rattle.rq_store.specs.Sound.{IsSound}
@@ -55,7 +55,7 @@ first_waiting = ap waiting_of first_slots
 
 abbrev sent_of : Slots → SentBy
 sent_of q = record {
-  counts = map (λ s. sent_told (q (directory_at s))) (below 15);
+  counts = map (λ s. count_told (q (directory_at s))) (below 15);
   tags = map (λ s. tag_told (q (directory_at s))) (below 15);
 }
 
