@@ -43,6 +43,7 @@ use Rattle.rq_store.proofs.Beginning.{begin_sound}
 use Rattle.rq_store.proofs.Cutting.{fits_log_longer}
 use Rattle.rq_store.proofs.Formatting.{formatted_fits}
 use Rattle.rq_store.proofs.Opening.{opened_sound, restarted_whole, sends_here}
+use Rattle.rq_store.specs.Opening.{next_restart}
 use Rattle.rq_store.specs.Sends.{KeepsSends}
 use Rattle.rq_groups.specs.Sent.{sent_count, sent_tag}
 use Rattle.rq_sound.proofs.DeedSteps.{deed_steps}
@@ -137,8 +138,8 @@ open_one n =
     (λ a. one.first_sound.pages a ∙ sym (same_slots n a)) (fit n)
 
 -- it keeps that nothing was sent
-kept : (n : ℕ) → KeepsSends sizes (next_restart (restarts n) ∷ restarts n) (just_opened n).sent
-kept n =
+keeps_sends : (n : ℕ) → KeepsSends sizes (next_restart (restarts n) ∷ restarts n) (just_opened n).sent
+keeps_sends n =
     sends_here sizes formatted_pages (restarts n) range (whole n) (none_unfinished n) (none_lost n)
     (λ a. one.first_sound.pages a ∙ sym (same_slots n a))
 
@@ -146,7 +147,7 @@ begun_one : (n : ℕ) → one_sound.IsSound (one_begun n)
 begun_one n = begin_sound (just_opened n) (open_one n)
 
 begun_sound : (n : ℕ) → IsSound (one_begun n)
-begun_sound n = instance_sound (one_begun n) (begun_one n) (still refl (kept n))
+begun_sound n = instance_sound (one_begun n) (begun_one n) (still refl (keeps_sends n))
 
 -- tests that all pass tell no refusal
 pub none_first : (tests : List (Bool × Refusal)) → NoneHolds tests → first_of tests ≡ None
@@ -209,7 +210,7 @@ module _ (n : ℕ) where
   sends : n + 5 ≤ 2 ^ 50 → (new : State) × Sends n 1 new
   sends le =
       let none = one.first_cells in
-      (_, steps_of (still refl (kept n)) (start_steps s (begun_one n) t (fresh_row t) (send_under 0) 0 7 (104 ∷ []) at_row refl refl one.send_plan refl (omega (arith, none)) (send_passes le)))
+      (_, steps_of (still refl (keeps_sends n)) (start_steps s (begun_one n) t (fresh_row t) (send_under 0) 0 7 (104 ∷ []) at_row refl refl one.send_plan refl (omega (arith, none)) (send_passes le)))
 
   send_refused : 2 ^ 50 < n + 5 → IsFullForSend n s
   send_refused le =
@@ -452,6 +453,7 @@ kept = record {
   rows = one_row;
   senders = refl;
   few = λ g. (let e : slice_index (waits_of_0 0) g ≡ 0 = none_waits 15 g in omega (arith, e));
+  sent = record { counts = refl; tags = refl; few = λ g. (let e : slice_index (replicate 15 0) g ≡ 0 = none_waits 15 g in omega (arith, e)) };
 }
 
 -- with nothing under way, what a call counts as is all that is counted

@@ -113,8 +113,8 @@ begin_beside = abort_steps.begins closed finish_close.sound refl refl
 
 commit_close : Steps closed (Commit t1) (Gave_commit (record { txn = t1; lsn = 4 })) close_committed
 commit_close =
-    commit_steps closed finish_close.sound t1 (done_row t1 did_close) 0 (waits_of_0 0) refl refl refl refl
-    (λ g low. omega arith) refl refl
+    commit_steps closed finish_close.sound t1 (done_row t1 did_close) 0 (waits_of_0 0) closed.sent refl refl refl refl
+    (λ g low. omega arith) (λ g low. omega arith) (λ g low. refl) refl refl
 
 begin_behind : Steps close_committed Begin (Gave_txn t2) closed_before
 begin_behind = abort_steps.begins close_committed commit_close.sound refl refl

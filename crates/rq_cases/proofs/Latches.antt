@@ -135,6 +135,7 @@ module _ (pages : MemPages) (log : MemLog) (new : OpenStore MemPages MemLog) (bo
     answered reply.HandedOver a = absurd a.lists
     answered (reply.Forced lsn) a = absurd a.lists
     answered (reply.Written w) a = absurd a.lists
+    answered (reply.LastTag last) a = absurd a.lists
     answered (reply.Content groups) a = absurd a.lists
     answered (reply.Refused r) a = refused r a
 

@@ -54,8 +54,8 @@ tag_one : (d : Deed) (fs : List Finished) (sent : SentBy) (g : ℕ) → g < leng
 tag_one (Append s n tag previous body) fs sent g m = elim (cases_eq g s) [
   | inl e ↦
       rw (eq-eqb s g (sym e))
-          (ap (λ t. tag_after t (filter_map (sent_for g) (map op_done fs))) (ap (sent_tag (with_one_more s tag sent)) e ∙ tag_same s (sent_count sent s + 1) tag sent (omega (arith, m, e)))
-          ∙ tag_behind (sent_tag sent g) (record { sender = s; tag = tag; body = body }) (filter_map (sent_for g) (map op_done fs)))
+      (ap (λ t. tag_after t (filter_map (sent_for g) (map op_done fs))) (ap (sent_tag (with_one_more s tag sent)) e ∙ tag_same s (sent_count sent s + 1) tag sent (omega (arith, m, e)))
+      ∙ tag_behind (sent_tag sent g) (record { sender = s; tag = tag; body = body }) (filter_map (sent_for g) (map op_done fs)))
   | inr ne ↦ rw (ne_eqb s g (λ e. ne (sym e))) (ap (λ t. tag_after t (filter_map (sent_for g) (map op_done fs))) (tag_other s (sent_count sent s + 1) tag sent g ne))
 ]
 tag_one (UnlinkHead s n tag body) fs sent g m = refl

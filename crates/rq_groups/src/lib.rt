@@ -11,9 +11,9 @@ mod waiting;
 
 use rq_model::refusal::NoMemory;
 use rq_model::txn::Txn;
+pub use sent::{LastTag, Sent};
 use std::alloc::Global;
 use std::marker::Model;
-pub use sent::{LastTag, Sent};
 pub use waiting::Waiting;
 
 /// An end that a transaction holds.
