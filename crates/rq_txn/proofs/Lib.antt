@@ -1,2 +1,3 @@
-pub mod Finding
-pub mod Standing
+mod Finding
+mod Placing
+mod Standing

@@ -8,10 +8,14 @@ use rq_model::limits::TRANSACTION_LIMIT;
 use rq_model::record::Deed;
 use rq_model::refusal::NoMemory;
 use rq_model::txn::{Lsn, Txn};
+use scans::any_latches;
+use slab::Slab;
 use std::alloc::Global;
 use std::marker::Model;
+use table::{Place, key_of, place_of};
 
 mod scans;
+mod table;
 
 /// An operation that is finished and not undone.
 #[derive(Clone, Copy)]
@@ -65,20 +69,23 @@ pub struct Transaction {
 }
 
 impl Transaction {
-    ghost use Rattle.std.specs.Prelude.{◌≡◌, ◌<◌, IfSome, IsSome, OnErr, OnOk, length};
+    ghost use Rattle.std.specs.Prelude.{◌≡◌, ◌<◌, IfOk, IfSome, IsSome, OnErr, OnOk, length, not};
+    ghost use Rattle.rq_model.specs.Words.{is_some};
     ghost use Rattle.rq_txn.specs.Rows.{row_aborting, row_finished, row_of, row_started, row_stepped, row_taken_back, under_of};
 
-    // The operation is under way.
-    fn start(&mut self, operation: Operation) -> Result<(), NoMemory>
+    // The operation is under way. Answers whether none was before.
+    fn start(&mut self, operation: Operation) -> Result<bool, NoMemory>
         ensures ok { OnOk result (row_of self.new ≡ row_started (under_of operation) (row_of self.old)) }
+        ensures newly { IfOk result (λ newly. newly ≡ not (is_some (row_of self.old).under)) }
         ensures err { OnErr result (row_of self.new ≡ row_of self.old) }
     {
         if self.finished.try_reserve(1).is_err() {
             return Err(NoMemory);
         }
+        let newly = self.under_way.is_none();
         self.number = operation.number;
         self.under_way = Some(operation);
-        Ok(())
+        Ok(newly)
     }
 
     // One more write of the operation under way is made.
@@ -107,12 +114,22 @@ impl Transaction {
         self.aborting = true;
     }
 
-    // What it did last is undone, and nothing is under way.
-    fn undo(&mut self)
-        ensures { row_of self.new ≡ row_taken_back (row_of self.old) }
+    // It is no more. Answers whether it had an operation under way.
+    fn end(self) -> bool
+        ensures { result ≡ is_some (row_of self).under }
     {
+        self.under_way.is_some()
+    }
+
+    // What it did last is undone, and nothing is under way. Answers whether something was before.
+    fn undo(&mut self) -> bool
+        ensures row { row_of self.new ≡ row_taken_back (row_of self.old) }
+        ensures was { result ≡ is_some (row_of self.old).under }
+    {
+        let was = self.under_way.is_some();
         let _ = self.finished.pop();
         self.under_way = None;
+        was
     }
 }
 
@@ -120,23 +137,30 @@ impl Transaction {
 #[derive(Drop)]
 pub struct Transactions {
     alloc: Global,
-    rows: Vec<Transaction>,
+    rows: Slab<Transaction>,
+    // Where they stand, in the order of their begins.
+    places: Vec<Place>,
+    // How many have an operation under way.
+    busy: usize,
 }
 
 impl Model for Transactions {
-    ghost use Rattle.std.specs.Prelude.{List, map, reverse};
-    ghost use Rattle.rq_txn.specs.Rows.{AreDistinct, Row, row_of};
+    ghost use Rattle.std.specs.Prelude.{List, reverse};
+    ghost use Rattle.rq_txn.specs.Rows.{Row};
 
     ghost Value = { List Row };
 
-    ghost view = { λ t. reverse (map row_of t.rows.items) };
+    ghost use Rattle.rq_txn.specs.Places.{IsKeptBy, rows_in};
 
-    ghost invariant = { λ t. AreDistinct (map row_of t.rows.items) };
+    ghost view = { λ t. reverse (rows_in t.rows t.places.items) };
+
+    ghost invariant = { λ t. IsKeptBy t.rows t.places.items t.busy };
 }
 
 impl Transactions {
-    ghost use Rattle.std.specs.Prelude.{◌≡◌, ◌<◌, ◌≤◌, [], ◌∷◌, IfSome, IsSome, MatchOption, OnErr, OnOk, length, map, nat_lt, not, reverse};
-    ghost use Rattle.rq_txn.specs.Rows.{AreDistinct, any_under, change_row, finished_of, found_row, fresh_row, latched_in, row_aborting, row_finished, row_of, row_started, row_stepped, row_taken_back, under_of, without_row};
+    ghost use Rattle.std.specs.Prelude.{◌≡◌, ◌<◌, ◌≤◌, [], ◌∷◌, IfSome, IsSome, MatchOption, OnErr, OnOk, length, nat_lt, not, reverse, slice_index_or};
+    ghost use Rattle.rq_model.specs.Words.{In};
+    ghost use Rattle.rq_txn.specs.Rows.{AreDistinct, Row, any_under, change_row, finished_of, found_row, fresh_row, latched_in, row_aborting, row_finished, row_of, row_started, row_stepped, row_taken_back, under_of, without_row};
 
     /// No transaction.
     pub fn new(alloc: Global) -> Self
@@ -144,7 +168,9 @@ impl Transactions {
     {
         Transactions {
             alloc,
-            rows: Vec::new(alloc),
+            rows: Slab::new(alloc),
+            places: Vec::new(alloc),
+            busy: 0,
         }
     }
 
@@ -152,31 +178,33 @@ impl Transactions {
     pub fn is_full(&self) -> bool
         ensures { result ≡ not (nat_lt (length self.now) 4096) }
     {
-        self.rows.len() >= TRANSACTION_LIMIT
+        self.places.len() >= TRANSACTION_LIMIT
     }
 
-    /// Adds a transaction that has done nothing.
+    /// Adds a transaction that has done nothing, whose count is greater than those of the others.
     ///
     /// # Errors
     /// `NoMemory`: nothing changed.
     pub fn begin(&mut self, txn: Txn) -> Result<(), NoMemory>
         requires incarnation { 1 ≤ txn.incarnation }
         requires count { 1 ≤ txn.count }
-        requires new { found_row txn self.old ≡ None }
+        requires rising { (row : Row) → In row self.old → row.txn.count < txn.count }
         ensures ok { OnOk result (self.new ≡ fresh_row txn ∷ self.old) }
         ensures err { OnErr result (self.new ≡ self.old) }
     {
-        let fresh = Transaction {
+        if self.places.try_reserve(1).is_err() || self.rows.reserve(1).is_err() {
+            return Err(NoMemory);
+        }
+        let key = self.rows.insert_reserved(Transaction {
             txn,
             aborting: false,
             finished: Vec::new(self.alloc),
             number: 0,
             under_way: None,
-        };
-        match self.rows.push(fresh) {
-            Ok(()) => Ok(()),
-            Err(_) => Err(NoMemory),
-        }
+        });
+        let count = txn.count;
+        self.places.push(Place { count, key }).unwrap();
+        Ok(())
     }
 
     /// The transaction of this number, if it has not ended.
@@ -189,8 +217,10 @@ impl Transactions {
         ensures numbered { IfSome result (λ row. IfSome row.now.under_way (λ operation. 1 ≤ operation.number)) }
         ensures distinct { AreDistinct self.now }
     {
-        let place = scans::place_of(&self.rows, txn)?;
-        Some(&self.rows[place])
+        match key_of(&self.rows, &self.places, txn) {
+            Some(key) => Some(&self.rows[key]),
+            None => None,
+        }
     }
 
     /// The operations of a transaction that are finished and not undone: none where it has ended.
@@ -211,10 +241,16 @@ impl Transactions {
         ensures ok { OnOk result (self.new ≡ change_row txn (row_started (under_of operation)) self.old) }
         ensures err { OnErr result (self.new ≡ self.old) }
     {
-        let Some(place) = scans::place_of(&self.rows, txn) else {
+        let Some(key) = key_of(&self.rows, &self.places, txn) else {
             return Ok(());
         };
-        self.rows[place].start(operation)
+        match self.rows[key].start(operation) {
+            Ok(newly) => {
+                self.busy += usize::from(newly);
+                Ok(())
+            }
+            Err(wanting) => Err(wanting),
+        }
     }
 
     /// One more write of the transaction's operation under way is made.
@@ -223,8 +259,8 @@ impl Transactions {
             IfSome row.under (λ under. under.made < length under.writes)) }
         ensures { self.new ≡ change_row txn row_stepped self.old }
     {
-        if let Some(place) = scans::place_of(&self.rows, txn) {
-            self.rows[place].step();
+        if let Some(key) = key_of(&self.rows, &self.places, txn) {
+            self.rows[key].step();
         }
     }
 
@@ -233,8 +269,9 @@ impl Transactions {
         requires { IfSome (found_row txn self.old) (λ row. IsSome row.under) }
         ensures { self.new ≡ change_row txn (row_finished finished) self.old }
     {
-        if let Some(place) = scans::place_of(&self.rows, txn) {
-            self.rows[place].finish(finished);
+        if let Some(key) = key_of(&self.rows, &self.places, txn) {
+            self.rows[key].finish(finished);
+            self.busy -= 1;
         }
     }
 
@@ -242,8 +279,8 @@ impl Transactions {
     pub fn start_abort(&mut self, txn: Txn)
         ensures { self.new ≡ change_row txn row_aborting self.old }
     {
-        if let Some(place) = scans::place_of(&self.rows, txn) {
-            self.rows[place].abort();
+        if let Some(key) = key_of(&self.rows, &self.places, txn) {
+            self.rows[key].abort();
         }
     }
 
@@ -251,8 +288,9 @@ impl Transactions {
     pub fn undo(&mut self, txn: Txn)
         ensures { self.new ≡ change_row txn row_taken_back self.old }
     {
-        if let Some(place) = scans::place_of(&self.rows, txn) {
-            self.rows[place].undo();
+        if let Some(key) = key_of(&self.rows, &self.places, txn) {
+            let was = self.rows[key].undo();
+            self.busy -= usize::from(was);
         }
     }
 
@@ -260,28 +298,39 @@ impl Transactions {
     pub fn end(&mut self, txn: Txn)
         ensures { self.new ≡ without_row txn self.old }
     {
-        self.rows.retain(|row| row.txn != txn);
+        if let Some(place) = place_of(&self.rows, &self.places, txn) {
+            let key = self.places.remove(place).key;
+            let was = self.rows.remove(key).end();
+            self.busy -= usize::from(was);
+        }
     }
 
     /// Whether some transaction has an operation under way.
     pub fn any_under_way(&self) -> bool
         ensures { result ≡ any_under self.now }
     {
-        scans::any_under_way(&self.rows)
+        self.busy > 0
     }
 
     /// Whether some operation under way has latched the page: it is that of one of its writes, made or not.
     pub fn has_latched(&self, page: u64) -> bool
         ensures { result ≡ latched_in self.now page }
     {
-        scans::any_latches(&self.rows, page)
+        any_latches(&self.rows, &self.places, page)
     }
 
-    /// The transactions, in the order of their begins.
-    pub fn rows(&self) -> &[Transaction]
-        ensures rows { reverse (map row_of result.now) ≡ self.now }
-        ensures distinct { AreDistinct self.now }
+    /// How many there are.
+    pub fn len(&self) -> usize
+        ensures { result ≡ length self.now }
     {
-        &self.rows
+        self.places.len()
+    }
+
+    /// The transaction at a place, in the order of the begins.
+    pub fn at(&self, place: usize) -> &Transaction
+        requires { place < length self.now }
+        ensures { (d : Row) → slice_index_or (reverse self.now) place d ≡ row_of result.now }
+    {
+        &self.rows[self.places[place].key]
     }
 }

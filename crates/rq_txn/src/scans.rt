@@ -1,35 +1,14 @@
 //! Looks over the rows of transactions.
 ghost use Rattle.std.specs.Prelude.{◌≡◌, ◌/◌, map};
 ghost use Rattle.rq_level.specs.Given.{has_page};
-ghost use Rattle.rq_txn.specs.Rows.{PlaceOf, any_under, latched_in, row_of};
+ghost use Rattle.slab.specs.Slab.{get};
+ghost use Rattle.rq_txn.specs.Places.{latched_at, rows_in};
+ghost use Rattle.rq_txn.specs.Rows.{latched_in};
 
 use crate::Transaction;
+use crate::table::Place;
 use rq_level::SlotWrite;
-use rq_model::txn::Txn;
-
-/// Where the transaction's row stands.
-pub fn place_of(rows: &[Transaction], txn: Txn) -> Option<usize>
-    ensures { PlaceOf rows.now txn result }
-{
-    for (place, row) in rows.iter().enumerate() {
-        if row.txn == txn {
-            return Some(place);
-        }
-    }
-    None
-}
-
-/// Whether some row has an operation under way.
-pub fn any_under_way(rows: &[Transaction]) -> bool
-    ensures { result ≡ any_under (map row_of rows.now) }
-{
-    for row in rows {
-        if row.under_way.is_some() {
-            return true;
-        }
-    }
-    false
-}
+use slab::Slab;
 
 /// Whether one of the writes is on the page.
 fn any_on(writes: &[SlotWrite], page: u64) -> bool
@@ -43,16 +22,29 @@ fn any_on(writes: &[SlotWrite], page: u64) -> bool
     false
 }
 
-/// Whether some row's operation under way has latched the page.
-pub fn any_latches(rows: &[Transaction], page: u64) -> bool
-    ensures { result ≡ latched_in (map row_of rows.now) page }
+/// Whether some transaction's operation under way has latched the page.
+pub fn any_latches(rows: &Slab<Transaction>, places: &[Place], page: u64) -> bool
+    ensures { result ≡ latched_in (rows_in rows.now places.now) page }
 {
-    for row in rows {
-        if let Some(operation) = &row.under_way {
-            if any_on(&operation.writes, page) {
-                return true;
-            }
+    for place in places {
+        if latches(rows, place.key, page) {
+            return true;
         }
     }
     false
+}
+
+// Whether the operation under way of the transaction in this slot has latched the page.
+fn latches(rows: &Slab<Transaction>, key: usize, page: u64) -> bool
+    ensures { result ≡ latched_at (get rows.now key) page }
+{
+    match rows.get(key) {
+        Some(
+            Transaction {
+                under_way: Some(operation),
+                ..
+            },
+        ) => any_on(&operation.writes, page),
+        _ => false,
+    }
 }
