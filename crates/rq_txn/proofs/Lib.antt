@@ -1,3 +1,3 @@
-mod Finding
+pub mod Finding
 mod Placing
 mod Standing
