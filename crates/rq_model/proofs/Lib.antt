@@ -12,6 +12,7 @@ pub mod Histories
 pub mod LogRows
 pub mod Within
 pub mod Plainly
+pub mod Receives
 pub mod Counts
 pub mod Cuts
 pub mod EntryKinds

@@ -16,7 +16,7 @@ use Rattle.rq_model.specs.Legal.{IsDoneBy}
 use Rattle.rq_model.specs.Tests.{below, count_rest}
 use Rattle.rq_model.specs.Ledger.{Open, Done, Ledger, change, without, found, tag_of, rest_in}
 use Rattle.rq_model.proofs.Lists.{same_is, same_self}
-use Rattle.rq_model.specs.Reference.{StandsAt, job_of, op_done, op_of, open_of, Numbered, Rising}
+use Rattle.rq_model.specs.Reference.{StandsAt, job_of, op_of, open_of, Numbered, Rising}
 use Rattle.rq_model.specs.Ledger.{kept_in}
 
 pub kept_within : (n : ℕ) (c : List Done) → kept_in n c ≤ length c
@@ -220,9 +220,3 @@ pub same_row : (rows : List OpenTxn) (k : ℕ) (m r : OpenTxn) → k < length ro
 same_row [] k m r l e g = absurd (omega arith)
 same_row (x ∷ rows) zero m r l e g = e ∙ sym g
 same_row (x ∷ rows) (suc k) m r l e g = same_row rows k m r (omega arith) e g
-
-pub answers_done : (l : Ledger) (o : Open) (w : Work) → IsDoneBy l o (Some (job_of w)) (op_done w)
-answers_done l o (Sending m) = refl
-
-pub answers_with : (l : Ledger) (o : Open) (j : Option Job) (w : Work) (p : Op) → j ≡ Some (job_of w) → p ≡ op_done w → IsDoneBy l o j p
-answers_with l o j w p e g = rw (e, g) (answers_done l o w)

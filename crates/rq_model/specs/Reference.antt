@@ -1,24 +1,25 @@
 -- The queue as plain lists: what its rows stand for in the ledger, and what its calls answer.
-use Rattle.std.specs.Prelude.{◌≡◌, ℕ, ◌+◌, ◌-◌, ◌<◌, ◌≤◌, Bool, true, false, cond, List, [], ◌∷◌, Option, Some, None, nat_lt, map, length, IsTrue, not, slice_index_or}
+use Rattle.std.specs.Prelude.{◌≡◌, ℕ, ◌+◌, ◌-◌, ◌<◌, ◌≤◌, Bool, true, false, cond, List, [], ◌∷◌, Option, Some, None, nat_lt, map, length, IsTrue, not, slice_index_or, ◌++◌}
+use Rattle.std.specs.List.{filter}
 use Rattle.rq_model.specs.declared.txn.Txn.{Txn}
 use Rattle.rq_model.specs.declared.refusal.Refusal.{Refusal}
 use Rattle.rq_model.specs.declared.refusal.Refusal.TheVariants.{Failed, UnknownTransaction, UnknownOperation, NotOpen, Unfinished, DiskRead, Latched, PoolFull, DiskWrite, Damaged, NotForced}
 use Rattle.rq_model.specs.declared.reference.rows.Act.{Act}
 use Rattle.rq_model.specs.declared.reference.rows.Act.TheVariants.{Sent, Taken, Closed}
 use Rattle.rq_model.specs.declared.reference.rows.Work.{Work}
-use Rattle.rq_model.specs.declared.reference.rows.Work.TheVariants.{Sending as Sending_work}
+use Rattle.rq_model.specs.declared.reference.rows.Work.TheVariants.{Sending as Sending_work, Taking as Taking_work, Closing as Closing_work, Undoing as Undoing_work}
 use Rattle.rq_model.specs.declared.reference.rows.OpenTxn.{OpenTxn}
 use Rattle.rq_model.specs.declared.reference.rows.CommittedTxn.{CommittedTxn}
 use Rattle.rq_model.specs.declared.message.Message.{Message}
-use Rattle.rq_model.specs.Words.{Op, is_some}
+use Rattle.rq_model.specs.Words.{Op, is_some, first, front, has_number}
 use Rattle.rq_model.specs.Words.Op.{Send, Take, End}
 use Rattle.rq_model.specs.History.{Job, Call, Entry}
-use Rattle.rq_model.specs.History.Job.{Sending}
-use Rattle.rq_model.specs.History.Entry.{Refused, Ready, Stepped}
-use Rattle.rq_model.specs.Ledger.{Open, Done, Ledger, Phase, runs, after, found, kept_in}
+use Rattle.rq_model.specs.History.Job.{Sending, Taking, Ending, Undoing}
+use Rattle.rq_model.specs.History.Entry.{Refused, Ready, Stepped, Did, Undid, Started, None_free, None_from, None_left}
+use Rattle.rq_model.specs.Ledger.{Open, Done, Ledger, Phase, runs, after, found, kept_in, add_number}
 use Rattle.rq_model.specs.Ledger.Phase.{Running, Shut}
-use Rattle.rq_model.specs.Legal.{Legal}
-use Rattle.rq_model.specs.Tests.{Size, is_aborting, is_busy, NoneHolds, first_of, has_under, ready_tests}
+use Rattle.rq_model.specs.Legal.{Legal, IsDoneBy}
+use Rattle.rq_model.specs.Tests.{Size, is_aborting, is_busy, NoneHolds, first_of, has_under, ready_tests, below, gives}
 
 -- a reference runs, or is not open: it has no device that could fail
 abbrev pub phase_of : Bool → Phase
@@ -58,10 +59,9 @@ op_of (Closed s) = End s
 
 abbrev pub job_of : Work → Job
 job_of (Sending_work m) = Sending m
-
--- what is done once the work is
-abbrev pub op_done : Work → Op
-op_done (Sending_work m) = Send m
+job_of (Taking_work s) = Taking s
+job_of (Closing_work s) = Ending s
+job_of Undoing_work = Undoing
 
 abbrev pub under_of : Option Work → Option Job
 under_of None = None
@@ -145,3 +145,59 @@ message_of sender tag body = record { sender = sender; tag = tag; body = body }
 abbrev pub step_entry : Txn → ℕ → Option ℕ → Entry
 step_entry t n None = Ready t n
 step_entry t n (Some lsn) = Stepped t n lsn
+
+-- a receive's answer: the group that it takes from and its number, or none where no free group holds a message
+abbrev pub receive_entry : Txn → Option (ℕ × ℕ) → Entry
+receive_entry t None = None_free t
+receive_entry t (Some given) = Started t given.1 (Taking given.0)
+
+-- the same, from one group
+abbrev pub receive_from_entry : Txn → ℕ → Option ℕ → Entry
+receive_from_entry t s None = None_from t s
+receive_from_entry t s (Some n) = Started t n (Taking s)
+
+-- an undo's answer: the number of the inverse, or none where nothing is left
+abbrev pub undo_entry : Txn → Option ℕ → Entry
+undo_entry t None = None_left t
+undo_entry t (Some n) = Started t n Undoing
+
+-- what is finished: an operation, or the inverse of one
+abbrev pub finish_entry : Txn → ℕ → Option Act → Entry
+finish_entry t n (Some a) = Did t n (op_of a)
+finish_entry t n None = Undid t n
+
+-- the operation under way comes to this
+abbrev pub ComesTo : Ledger → Open → Job → Option Act → Type 0
+ComesTo l o job (Some a) = IsDoneBy l o (Some job) (op_of a)
+ComesTo l o job None = job ≡ Undoing
+
+-- what a transaction did, once this is finished too
+abbrev pub ops_with : Option Act → List Op → List Op
+ops_with (Some a) ops = ops ++ op_of a ∷ []
+ops_with None ops = front ops
+
+-- the ends that a transaction holds once it does this too
+abbrev pub sending_with : Job → List ℕ → List ℕ
+sending_with (Sending m) ns = add_number m.sender ns
+sending_with (Ending s) ns = add_number s ns
+sending_with _ ns = ns
+
+abbrev pub receiving_with : Job → List ℕ → List ℕ
+receiving_with (Taking s) ns = add_number s ns
+receiving_with _ ns = ns
+
+abbrev pub op_in : Option Act → Option Op
+op_in None = None
+op_in (Some a) = Some (op_of a)
+
+-- the groups that are free for the transaction and hold a message for it
+abbrev pub receivable : Size → Ledger → Txn → List ℕ
+receivable z l t = filter (gives l t (found t l.open_ones)) (below z.senders)
+
+-- the one that is asked for, if it is among them; else the first
+abbrev pub pick : ℕ → List ℕ → Option ℕ
+pick s ns = cond (has_number s ns) (Some s) (first ns)
+
+abbrev pub group_of : Option (ℕ × ℕ) → Option ℕ
+group_of None = None
+group_of (Some given) = Some given.0

@@ -1,25 +1,24 @@
 //! The queue as plain lists, with no pages: what an engine is compared with. Its contract is the
 //! definitions: each call is answered as the ledger says.
-ghost use Rattle.std.specs.Prelude.{◌≡◌, ◌<◌, ◌≤◌, ◌||◌, cond, false, nat_eq, nat_lt, IfOk, IfErr, OnErr, OnOk};
-ghost use Rattle.rq_model.specs.History.Call.{Begin, Commit, Finish, Show, Start_send, Step, Acknowledge, Start_abort, Hand_over, Force};
-ghost use Rattle.rq_model.specs.History.Entry.{Begun, Did, Shown, Started, Committed, Acknowledged, Aborting, Handed_over, Forced, Crash, Restarted};
-ghost use Rattle.rq_model.specs.Ledger.{empty, ended_in, found, in_chain, kept_in};
+ghost use Rattle.std.specs.Prelude.{◌≡◌, ◌<◌, ◌≤◌, IfOk, IfErr, OnErr, OnOk, map, true};
+ghost use Rattle.rq_model.specs.History.Call.{Begin, Commit, Finish, Show, Step, Acknowledge, Start_abort, End_abort, Hand_over, Force, Last_tag};
+ghost use Rattle.rq_model.specs.History.Entry.{Begun, Shown, Committed, Acknowledged, Aborting, Aborted, Handed_over, Forced, Told, Crash, Restarted};
+ghost use Rattle.rq_model.specs.Ledger.{empty, kept_in};
 ghost use Rattle.rq_model.specs.Ledger.Phase.{Shut};
-ghost use Rattle.rq_model.specs.Reference.{May, MayBeRefused, next, FindsReady, IsUnready, IsBusy, IsIdle, StandsAt, message_of, op_of, step_entry};
-ghost use Rattle.rq_model.specs.History.Job.{Sending};
-ghost use Rattle.rq_model.specs.Legal.{IsUpTo};
-ghost use Rattle.rq_model.specs.Tests.{Passes, cells_in_use, free_to_send, has_closed, log_full};
+ghost use Rattle.rq_model.specs.Legal.{At, IsUpTo};
+ghost use Rattle.rq_model.specs.Reference.{May, MayBeRefused, next, ComesTo, FindsReady, IsUnready, IsBusy, IsIdle, StandsAt, finish_entry, job_of, open_of, step_entry};
+ghost use Rattle.rq_model.specs.declared.refusal.Refusal.TheVariants.{NoMemory};
 
 use crate::limits::TRANSACTION_LIMIT;
-use crate::message::{Body, Message};
 use crate::reference::rows::{Act, CommittedTxn, GroupContent, OpenTxn, Work};
 use crate::refusal::Refusal;
 use crate::txn::{Lsn, Txn};
-use std::alloc::{AllocError, Global};
+use std::alloc::Global;
 use std::marker::Model;
 
 pub mod rows;
 mod scans;
+mod starts;
 
 /// The queue as plain lists. Contracts see its sizes and its ledger. What a call refuses, it refuses as
 /// the ledger says, or with `NoMemory` where an allocation failed or a count passes 64 bits.
@@ -89,6 +88,64 @@ impl Reference {
             records: 0,
             forced: 0,
             durable: 0,
+        }
+    }
+
+    /// The running incarnation; 0 where none has begun.
+    pub fn incarnation(&self) -> u64
+        ensures { result ≡ self.now.ledger.incarnation }
+    {
+        self.incarnation
+    }
+
+    /// How many records the log has.
+    pub fn records(&self) -> u64
+        ensures { result ≡ self.now.ledger.records }
+    {
+        self.records
+    }
+
+    /// How many of them are forced.
+    pub fn forced(&self) -> u64
+        ensures { result ≡ self.now.ledger.forced }
+    {
+        self.forced
+    }
+
+    /// The transactions that have not ended, the newest first.
+    pub fn open_txns(&self) -> &[OpenTxn]
+        ensures { map open_of result.now ≡ self.now.ledger.open_ones }
+    {
+        &self.open_txns
+    }
+
+    /// Whether a restart may open the store in this incarnation, with this many records.
+    pub fn may_restart(&self, incarnation: u64, records: u64) -> bool
+        ensures shut { result ≡ true → self.now.ledger.phase ≡ Shut }
+        ensures newer { result ≡ true → self.now.ledger.incarnation < incarnation }
+        ensures longer { result ≡ true → self.now.ledger.records < records }
+    {
+        if self.running {
+            return false;
+        }
+        if incarnation <= self.incarnation {
+            return false;
+        }
+        records > self.records
+    }
+
+    /// Whether a crash may leave this many records of the log.
+    pub fn may_crash(&self, records: u64) -> bool
+        ensures forced { result ≡ true → self.now.ledger.forced ≤ records }
+        ensures up_to { result ≡ true → IsUpTo self.now.ledger.records self.now.ledger.phase records }
+    {
+        if records < self.forced {
+            return false;
+        }
+        if self.running {
+            records <= self.records
+        } else {
+            true
         }
     }
 
@@ -298,100 +355,6 @@ impl Reference {
         }
     }
 
-    /// Whether the sender's group is closed, by a commit or by the transaction at this place.
-    fn is_closed_for(&self, txn: Txn, place: usize, sender: u32) -> bool
-        requires { StandsAt self.now.ledger txn place }
-        ensures { result ≡ (ended_in self.now.ledger.committed sender || has_closed sender
-            (found txn self.now.ledger.open_ones)) }
-    {
-        if scans::is_closed(&self.committed, sender) {
-            return true;
-        }
-        let row = &self.open_txns[place];
-        scans::closes(&row.acts, sender)
-    }
-
-    /// Whether every cell is in use.
-    fn is_full(&self) -> Result<bool, AllocError>
-        ensures { IfOk result (λ full. full ≡ nat_eq (cells_in_use self.now.size self.now.ledger) self.now.size.cells) }
-    {
-        scans::fills(
-            self.alloc,
-            &self.committed,
-            &self.open_txns,
-            self.senders,
-            self.cells,
-        )
-    }
-
-    /// Whether `more` records, with those that operations under way have yet to log, would pass the
-    /// greatest log.
-    fn is_log_full(&self, more: u64) -> bool
-        ensures { result ≡ log_full self.now.ledger more }
-    {
-        scans::log_full(&self.open_txns, self.records, more)
-    }
-
-    /// Whether no other transaction holds the sender's sending end.
-    fn is_free_to_send(&self, txn: Txn, sender: u32) -> bool
-        ensures { result ≡ free_to_send txn sender self.now.ledger.open_ones }
-    {
-        scans::is_free_to_send(&self.open_txns, txn, sender)
-    }
-
-    /// Whether the store has this sender.
-    fn has_sender(&self, sender: u32) -> bool
-        ensures { result ≡ nat_lt sender self.now.size.senders }
-    {
-        sender < self.senders
-    }
-
-    /// How many slots a send for the sender writes.
-    fn send_writes(&self, sender: u32) -> Result<u8, AllocError>
-        ensures { IfOk result (λ count. count ≡ cond (nat_eq (in_chain self.now.ledger sender) 0) 2 3) }
-    {
-        let length = scans::chain_length(self.alloc, &self.committed, &self.open_txns, sender)?;
-        Ok(if length == 0 { 2 } else { 3 })
-    }
-
-    /// Where the transaction stands that may send this, and the message.
-    fn sending_place(
-        &self,
-        txn: Txn,
-        sender: u32,
-        tag: u64,
-        body: &[u8],
-    ) -> Result<(usize, Message), Refusal>
-        ensures stands { IfOk result (λ p. StandsAt self.now.ledger txn p.0) }
-        ensures passes { IfOk result (λ p. Passes self.now.size self.now.ledger (Start_send txn p.1)) }
-        ensures message { IfOk result (λ p. p.1 ≡ message_of sender tag body.now) }
-        ensures refused { IfErr result (λ r. MayBeRefused self.now (Start_send txn (message_of sender tag body.now)) r) }
-    {
-        let place = self.ready_place(txn, false)?;
-        if !self.has_sender(sender) {
-            return Err(Refusal::UnknownSender);
-        }
-        let Some(body) = Body::new(body) else {
-            return Err(Refusal::TooLong);
-        };
-        if !self.is_free_to_send(txn, sender) {
-            return Err(Refusal::SenderBusy);
-        }
-        if self.is_closed_for(txn, place, sender) {
-            return Err(Refusal::Closed);
-        }
-        let Ok(full) = self.is_full() else {
-            return Err(Refusal::NoMemory);
-        };
-        if full {
-            return Err(Refusal::Full);
-        }
-        if self.is_log_full(4) {
-            return Err(Refusal::LogFull);
-        }
-        Ok((place, Message { sender, tag, body }))
-    }
-
     /// Where the transaction stands that has an operation under way under this number, and its work.
     fn busy_place(&self, txn: Txn, number: u64) -> Result<(usize, Work), Refusal>
         ensures ok { IfOk result (λ p. IsBusy self.now.ledger txn number p.0 p.1) }
@@ -439,51 +402,32 @@ impl Reference {
         Ok(Some(self.records))
     }
 
-    /// Starts a send, and answers the operation's number.
-    ///
-    /// # Errors
-    /// `Failed`, `UnknownTransaction`, `NotOpen`, `Unfinished`, `UnknownSender`, `TooLong`, `SenderBusy`,
-    /// `Closed`, `Full`, `LogFull`, `NoMemory`.
-    pub fn start_send(
-        &mut self,
-        txn: Txn,
-        sender: u32,
-        tag: u64,
-        body: &[u8],
-    ) -> Result<u64, Refusal>
-        ensures ok { IfOk result (λ n. May self.old (Started txn n (Sending (message_of sender tag body.now)))) }
-        ensures step { IfOk result (λ n. self.new ≡ next
-            (Started txn n (Sending (message_of sender tag body.now))) self.old) }
-        ensures refused { IfErr result (λ r. MayBeRefused self.old (Start_send txn (message_of sender tag body.now)) r) }
-        ensures same { OnErr result (self.new ≡ self.old) }
+    /// What the operation under way of the transaction at this place does where it is finished now: none
+    /// where it undoes what the transaction did last.
+    fn outcome(&self, txn: Txn, place: usize, work: Work) -> Result<Option<Act>, Refusal>
+        requires { StandsAt self.now.ledger txn place }
+        ensures ok { IfOk result (λ f. At self.now.ledger txn (λ o. ComesTo self.now.ledger o (job_of work) f)) }
+        ensures refused { IfErr result (λ r. r ≡ NoMemory) }
     {
-        let (place, message) = self.sending_place(txn, sender, tag, body)?;
-        let Ok(left) = self.send_writes(sender) else {
-            return Err(Refusal::NoMemory);
-        };
-        let row = &self.open_txns[place];
-        let number = row.number;
-        if number == u64::MAX {
-            return Err(Refusal::NoMemory);
+        match work {
+            Work::Sending(message) => Ok(Some(Act::Sent(message))),
+            Work::Taking(sender) => match self.next_for(txn, place, sender) {
+                Ok(Some(message)) => Ok(Some(Act::Taken(message))),
+                _ => Err(Refusal::NoMemory),
+            },
+            Work::Closing(sender) => Ok(Some(Act::Closed(sender))),
+            Work::Undoing => Ok(None),
         }
-        let Ok(sending) = scans::with_number(self.alloc, &row.sending, sender) else {
-            return Err(Refusal::NoMemory);
-        };
-        let row = &mut self.open_txns[place];
-        row.number = number + 1;
-        row.work = Some(Work::Sending(message));
-        row.left = left;
-        row.sending = sending;
-        Ok(number + 1)
     }
 
-    /// Finishes an operation that has no write left, and answers what it did.
+    /// Finishes an operation that has no write left, and answers what it did: none where it undid what
+    /// its transaction did last and had not undone.
     ///
     /// # Errors
     /// `Failed`, `UnknownOperation`, `Unfinished`, `NoMemory`.
-    pub fn finish(&mut self, txn: Txn, number: u64) -> Result<Act, Refusal>
-        ensures ok { IfOk result (λ act. May self.old (Did txn number (op_of act))) }
-        ensures step { IfOk result (λ act. self.new ≡ next (Did txn number (op_of act)) self.old) }
+    pub fn finish(&mut self, txn: Txn, number: u64) -> Result<Option<Act>, Refusal>
+        ensures ok { IfOk result (λ f. May self.old (finish_entry txn number f)) }
+        ensures step { IfOk result (λ f. self.new ≡ next (finish_entry txn number f) self.old) }
         ensures refused { IfErr result (λ r. MayBeRefused self.old (Finish txn number) r) }
         ensures same { OnErr result (self.new ≡ self.old) }
     {
@@ -495,14 +439,60 @@ impl Reference {
         if self.records == u64::MAX {
             return Err(Refusal::NoMemory);
         }
-        let act = scans::done_by(work);
-        let Ok(acts) = scans::with_act(self.alloc, &row.acts, &act) else {
+        let Ok(finished) = self.outcome(txn, place, work) else {
+            return Err(Refusal::NoMemory);
+        };
+        let row = &self.open_txns[place];
+        let Ok(acts) = scans::acts_with(self.alloc, &row.acts, &finished) else {
             return Err(Refusal::NoMemory);
         };
         let row = &mut self.open_txns[place];
         row.acts = acts;
         row.work = None;
         self.records += 1;
-        Ok(act)
+        Ok(finished)
+    }
+
+    /// Ends an abort: all that the transaction did is undone.
+    ///
+    /// # Errors
+    /// `Failed`, `UnknownTransaction`, `NotOpen`, `Unfinished`, `LogFull`.
+    pub fn end_abort(&mut self, txn: Txn) -> Result<(), Refusal>
+        ensures ok { OnOk result (May self.old (Aborted txn)) }
+        ensures step { OnOk result (self.new ≡ next (Aborted txn) self.old) }
+        ensures refused { IfErr result (λ r. MayBeRefused self.old (End_abort txn) r) }
+        ensures same { OnErr result (self.new ≡ self.old) }
+    {
+        let place = self.ready_place(txn, true)?;
+        let row = &self.open_txns[place];
+        if scans::has_any(&row.acts) {
+            return Err(Refusal::Unfinished);
+        }
+        if self.is_log_full(1) {
+            return Err(Refusal::LogFull);
+        }
+        drop(self.open_txns.remove(place));
+        self.records += 1;
+        Ok(())
+    }
+
+    /// How many messages of the sender are committed, and the tag of the last; 0 where there is none.
+    ///
+    /// # Errors
+    /// `Failed`, `UnknownSender`, `NoMemory`.
+    pub fn last_tag(&self, sender: u32) -> Result<(u64, u64), Refusal>
+        ensures ok { IfOk result (λ told. May self.now (Told sender told.0 told.1)) }
+        ensures refused { IfErr result (λ r. MayBeRefused self.now (Last_tag sender) r) }
+    {
+        if !self.running {
+            return Err(Refusal::Failed);
+        }
+        if sender >= self.senders {
+            return Err(Refusal::UnknownSender);
+        }
+        match scans::sent(self.alloc, &self.committed, sender) {
+            Ok(sent) => Ok((sent.len() as u64, scans::last_tag(&sent))),
+            Err(_) => Err(Refusal::NoMemory),
+        }
     }
 }

@@ -19,6 +19,12 @@ pub enum Act {
 pub enum Work {
     /// To send a message.
     Sending(Message),
+    /// To receive from the sender's group.
+    Taking(u32),
+    /// To close the sender's group.
+    Closing(u32),
+    /// To undo what its transaction did last and has not undone.
+    Undoing,
 }
 
 /// A transaction that has not ended.

@@ -1,10 +1,10 @@
 //! Looks over the rows of the reference.
 ghost use Rattle.rq_model.specs.Ledger.{add_number, any_ends, ended_in, group_in, own_sends, own_takes, rest_in, sent_in, tag_of, taken_in};
-ghost use Rattle.rq_model.specs.Tests.{any_busy, below, count_rest, free_to_send, owed, pending};
+ghost use Rattle.rq_model.specs.Tests.{any_busy, below, count_rest, free_to_receive, free_to_send, is_sending, owed, pending};
 ghost use Rattle.rq_model.specs.Ledger.{kept_in};
-ghost use Rattle.rq_model.specs.Reference.{PlaceOf, done_of, op_done, op_of, open_of};
-ghost use Rattle.rq_model.specs.Words.{has_number, sent_for, taken_from};
-ghost use Rattle.std.specs.List.{filter_map, sum_by};
+ghost use Rattle.rq_model.specs.Reference.{PlaceOf, done_of, job_of, op_in, op_of, open_of, ops_with, pick, receiving_with, sending_with};
+ghost use Rattle.rq_model.specs.Words.{first, front, has_number, is_some, last, sent_for, taken_from};
+ghost use Rattle.std.specs.List.{filter_map, slice_get, sum_by};
 ghost use Rattle.std.specs.Prelude.{[], ◌∷◌, ◌≡◌, ◌+◌, ◌-◌, ◌++◌, ◌^◌, ◌≤◌, IfOk, OnOk, drop, length, map, min, nat_eq, nat_lt};
 
 use crate::limits::LOG_LIMIT;
@@ -275,22 +275,118 @@ pub fn with_number(alloc: Global, numbers: &[u32], number: u32) -> Result<Vec<u3
     Ok(all)
 }
 
-/// What an operation has done once its work is.
-pub fn done_by(work: Work) -> Act
-    ensures { op_of result ≡ op_done work }
+/// What its operations did, once this is finished too.
+pub fn acts_with(
+    alloc: Global,
+    acts: &[Act],
+    finished: &Option<Act>,
+) -> Result<Vec<Act>, AllocError>
+    ensures { IfOk result (λ all. map op_of all.items ≡ ops_with finished.now (map op_of acts.now)) }
 {
-    match work {
-        Work::Sending(message) => Act::Sent(message),
+    match finished {
+        Some(act) => with_act(alloc, acts, act),
+        None => without_last(alloc, acts),
     }
 }
 
 /// The acts, with one more behind.
-pub fn with_act(alloc: Global, acts: &[Act], act: &Act) -> Result<Vec<Act>, AllocError>
-    ensures { IfOk result (λ all. all.items ≡ acts.now ++ act.now ∷ []) }
+fn with_act(alloc: Global, acts: &[Act], act: &Act) -> Result<Vec<Act>, AllocError>
+    ensures { IfOk result (λ all. map op_of all.items ≡ map op_of acts.now ++ op_of act.now ∷ []) }
 {
     let mut all = Vec::from_slice(alloc, acts)?;
     all.push(*act)?;
     Ok(all)
+}
+
+/// The acts without the last.
+fn without_last(alloc: Global, acts: &[Act]) -> Result<Vec<Act>, AllocError>
+    ensures { IfOk result (λ all. map op_of all.items ≡ front (map op_of acts.now)) }
+{
+    let kept = acts.len().saturating_sub(1);
+    let all = Vec::from_slice(alloc, &acts[..kept])?;
+    Ok(all)
+}
+
+/// The last of these.
+pub fn last(acts: &[Act]) -> Option<Act>
+    ensures { op_in result ≡ last (map op_of acts.now) }
+{
+    let count = acts.len();
+    if count == 0 {
+        return None;
+    }
+    Some(acts[count - 1])
+}
+
+/// Whether something was done.
+pub fn has_any(acts: &[Act]) -> bool
+    ensures { result ≡ is_some (first (map op_of acts.now)) }
+{
+    acts.len() > 0
+}
+
+/// Whether there is a group.
+pub fn has_group(groups: &[u32]) -> bool
+    ensures { result ≡ is_some (first groups.now) }
+{
+    groups.len() > 0
+}
+
+/// The message at this place, from 0, if there is one.
+pub fn nth(messages: &[Message], place: usize) -> Option<Message>
+    ensures { result ≡ slice_get messages.now place }
+{
+    if place < messages.len() {
+        Some(messages[place])
+    } else {
+        None
+    }
+}
+
+/// What the transaction received from the sender, and has not undone.
+pub fn own_takes(alloc: Global, row: &OpenTxn, sender: u32) -> Result<Vec<Message>, AllocError>
+    ensures { IfOk result (λ all. all.items ≡ own_takes sender (open_of row.now)) }
+{
+    let mut all = Vec::new(alloc);
+    push_taken(&mut all, &row.acts, sender)?;
+    Ok(all)
+}
+
+/// The senders whose sending end the transaction holds once it does this too.
+pub fn sending_with(alloc: Global, row: &OpenTxn, work: &Work) -> Result<Vec<u32>, AllocError>
+    ensures { IfOk result (λ all. all.items ≡ sending_with (job_of work.now) row.now.sending.items) }
+{
+    match work {
+        Work::Sending(message) => with_number(alloc, &row.sending, message.sender),
+        Work::Closing(sender) => with_number(alloc, &row.sending, *sender),
+        Work::Taking(_) => Vec::from_slice(alloc, &row.sending),
+        Work::Undoing => Vec::from_slice(alloc, &row.sending),
+    }
+}
+
+/// The senders whose receiving end the transaction holds once it does this too.
+pub fn receiving_with(alloc: Global, row: &OpenTxn, work: &Work) -> Result<Vec<u32>, AllocError>
+    ensures { IfOk result (λ all. all.items ≡ receiving_with (job_of work.now) row.now.receiving.items) }
+{
+    match work {
+        Work::Taking(sender) => with_number(alloc, &row.receiving, *sender),
+        Work::Sending(_) => Vec::from_slice(alloc, &row.receiving),
+        Work::Closing(_) => Vec::from_slice(alloc, &row.receiving),
+        Work::Undoing => Vec::from_slice(alloc, &row.receiving),
+    }
+}
+
+/// The group that is asked for, if it is among these; else the first.
+pub fn pick(groups: &[u32], asked: u32) -> Option<u32>
+    ensures { result ≡ pick asked groups.now }
+{
+    if has_number(groups, asked) {
+        return Some(asked);
+    }
+    if groups.is_empty() {
+        return None;
+    }
+    Some(groups[0])
 }
 
 /// Whether one of these closed the sender's group.
@@ -331,6 +427,18 @@ pub fn has_number(numbers: &[u32], number: u32) -> bool
     false
 }
 
+/// Whether no other transaction holds the sender's receiving end.
+pub fn is_free_to_receive(rows: &[OpenTxn], txn: Txn, sender: u32) -> bool
+    ensures { result ≡ free_to_receive txn sender (map open_of rows.now) }
+{
+    for row in rows {
+        if row.txn != txn && has_number(&row.receiving, sender) {
+            return false;
+        }
+    }
+    true
+}
+
 /// Whether no other transaction holds the sender's sending end.
 pub fn is_free_to_send(rows: &[OpenTxn], txn: Txn, sender: u32) -> bool
     ensures { result ≡ free_to_send txn sender (map open_of rows.now) }
@@ -343,14 +451,24 @@ pub fn is_free_to_send(rows: &[OpenTxn], txn: Txn, sender: u32) -> bool
     true
 }
 
+/// Whether a send of the transaction is under way.
+fn is_sending(row: &OpenTxn) -> bool
+    ensures { result ≡ is_sending (open_of row.now).under }
+{
+    match row.work {
+        Some(Work::Sending(_)) => true,
+        Some(Work::Taking(_)) => false,
+        Some(Work::Closing(_)) => false,
+        Some(Work::Undoing) => false,
+        None => false,
+    }
+}
+
 /// The cells of a transaction's sends: those finished and not undone, and one under way.
 pub fn pending(row: &OpenTxn) -> u128
     ensures { result ≡ pending (open_of row.now) }
 {
-    let mut count = match row.work {
-        Some(Work::Sending(_)) => 1,
-        _ => 0,
-    };
+    let mut count = u128::from(is_sending(row));
     for act in &row.acts {
         if let Act::Sent(_) = act {
             count += 1;
