@@ -19,7 +19,7 @@ KeepsTxn f = (r : Row) → (f r).txn ≡ r.txn
 same_swap : (a b : Txn) → same_txn a b ≡ false → same_txn b a ≡ false
 same_swap a b h = elim (cases_Bool (same_txn b a)) [ inl t ↦ absurd (not_same a b h (sym (same_is b a t))) | inr f ↦ f ]
 
-same_of : (a b : Txn) → a ≡ b → same_txn a b ≡ true
+pub same_of : (a b : Txn) → a ≡ b → same_txn a b ≡ true
 same_of a b e = ap (λ u. same_txn u b) e ∙ same_self b
 
 -- ---- one row

@@ -1,2 +1,4 @@
 pub mod Finding
-pub mod Standing
+mod Placing
+mod Standing
+mod Tallying

@@ -1,5 +1,5 @@
 -- The transactions that have not ended, the newest first.
-use Rattle.std.specs.Prelude.{◌≡◌, ℕ, ◌+◌, ◌/◌, ◌<◌, Bool, true, false, cond, not, ◌||◌, List, [], ◌∷◌, ◌++◌, Option, Some, None, map, length, slice_index_or}
+use Rattle.std.specs.Prelude.{◌≡◌, ℕ, ◌+◌, ◌/◌, Bool, true, false, cond, not, ◌||◌, List, [], ◌∷◌, ◌++◌, Option, Some, None, map}
 use Rattle.std.specs.List.{filter}
 use Rattle.rq_model.specs.declared.txn.Txn.{Txn}
 use Rattle.rq_model.specs.declared.record.Deed.{Deed}
@@ -116,12 +116,6 @@ latched_under (Some u) p = latched_by u p
 abbrev pub latched_in : List Row → ℕ → Bool
 latched_in [] p = false
 latched_in (r ∷ rows) p = latched_under r.under p || latched_in rows p
-
--- where the transaction's row stands
-abbrev pub PlaceOf : List Transaction → Txn → Option ℕ → Type 0
-PlaceOf rows t None = found_row t (map row_of rows) ≡ None
-PlaceOf rows t (Some i) = (i < length rows) × ((d : Transaction) → (slice_index_or rows i d).txn ≡ t)
-    × ((d : Transaction) → found_row t (map row_of rows) ≡ Some (row_of (slice_index_or rows i d)))
 
 -- what a transaction has finished and not undone: nothing where it has no row
 abbrev pub finished_of : Option Row → List Finished

@@ -8,10 +8,14 @@ use rq_model::limits::TRANSACTION_LIMIT;
 use rq_model::record::Deed;
 use rq_model::refusal::NoMemory;
 use rq_model::txn::{Lsn, Txn};
+use slab::Slab;
 use std::alloc::Global;
 use std::marker::Model;
+use table::{Place, key_of, place_of};
+use tally::Tally;
 
-mod scans;
+mod table;
+mod tally;
 
 /// An operation that is finished and not undone.
 #[derive(Clone, Copy)]
@@ -65,19 +69,26 @@ pub struct Transaction {
 }
 
 impl Transaction {
-    ghost use Rattle.std.specs.Prelude.{◌≡◌, ◌<◌, IfSome, IsSome, OnErr, OnOk, length};
+    ghost use Rattle.std.specs.Prelude.{◌≡◌, ◌<◌, [], IfSome, IsSome, None, OnErr, OnOk, Some, length};
     ghost use Rattle.rq_txn.specs.Rows.{row_aborting, row_finished, row_of, row_started, row_stepped, row_taken_back, under_of};
+    ghost use Rattle.rq_txn.specs.Tallies.{HasRoom, IsCounted, Latches, Moves};
 
-    // The operation is under way.
-    fn start(&mut self, operation: Operation) -> Result<(), NoMemory>
+    // The operation is under way, in place of one that was.
+    fn start(&mut self, operation: Operation, tally: &mut Tally) -> Result<(), NoMemory>
+        requires counted { IsCounted (row_of self.old).under tally.old }
+        requires room { HasRoom tally.old }
         ensures ok { OnOk result (row_of self.new ≡ row_started (under_of operation) (row_of self.old)) }
+        ensures moved { OnOk result (Moves (row_of self.old).under (Some (under_of operation)) tally.old tally.new) }
         ensures err { OnErr result (row_of self.new ≡ row_of self.old) }
+        ensures same { OnErr result (Latches [] tally.old tally.new) }
     {
         if self.finished.try_reserve(1).is_err() {
             return Err(NoMemory);
         }
+        tally.reserve(&operation.writes)?;
+        tally.add(&operation.writes);
         self.number = operation.number;
-        self.under_way = Some(operation);
+        tally.release(self.under_way.replace(operation));
         Ok(())
     }
 
@@ -92,12 +103,14 @@ impl Transaction {
     }
 
     // The operation under way is finished.
-    fn finish(&mut self, finished: Finished)
-        requires { IsSome self.old.under_way }
-        ensures { row_of self.new ≡ row_finished finished (row_of self.old) }
+    fn finish(&mut self, finished: Finished, tally: &mut Tally)
+        requires busy { IsSome self.old.under_way }
+        requires counted { IsCounted (row_of self.old).under tally.old }
+        ensures row { row_of self.new ≡ row_finished finished (row_of self.old) }
+        ensures moved { Moves (row_of self.old).under None tally.old tally.new }
     {
         self.finished.push(finished).unwrap();
-        self.under_way = None;
+        tally.release(self.under_way.take());
     }
 
     // It is aborting.
@@ -107,12 +120,22 @@ impl Transaction {
         self.aborting = true;
     }
 
+    // It is no more, nor is its operation under way.
+    fn end(self, tally: &mut Tally)
+        requires { IsCounted (row_of self).under tally.old }
+        ensures { Moves (row_of self).under None tally.old tally.new }
+    {
+        tally.release(self.under_way);
+    }
+
     // What it did last is undone, and nothing is under way.
-    fn undo(&mut self)
-        ensures { row_of self.new ≡ row_taken_back (row_of self.old) }
+    fn undo(&mut self, tally: &mut Tally)
+        requires { IsCounted (row_of self.old).under tally.old }
+        ensures row { row_of self.new ≡ row_taken_back (row_of self.old) }
+        ensures moved { Moves (row_of self.old).under None tally.old tally.new }
     {
         let _ = self.finished.pop();
-        self.under_way = None;
+        tally.release(self.under_way.take());
     }
 }
 
@@ -120,23 +143,30 @@ impl Transaction {
 #[derive(Drop)]
 pub struct Transactions {
     alloc: Global,
-    rows: Vec<Transaction>,
+    rows: Slab<Transaction>,
+    // Where they stand, in the order of their begins.
+    places: Vec<Place>,
+    // Their operations under way, counted.
+    tally: Tally,
 }
 
 impl Model for Transactions {
-    ghost use Rattle.std.specs.Prelude.{List, map, reverse};
-    ghost use Rattle.rq_txn.specs.Rows.{AreDistinct, Row, row_of};
+    ghost use Rattle.std.specs.Prelude.{List, reverse};
+    ghost use Rattle.rq_txn.specs.Rows.{Row};
 
     ghost Value = { List Row };
 
-    ghost view = { λ t. reverse (map row_of t.rows.items) };
+    ghost use Rattle.rq_txn.specs.Places.{IsKeptBy, rows_in};
 
-    ghost invariant = { λ t. AreDistinct (map row_of t.rows.items) };
+    ghost view = { λ t. reverse (rows_in t.rows t.places.items) };
+
+    ghost invariant = { λ t. IsKeptBy t.rows t.places.items t.tally };
 }
 
 impl Transactions {
-    ghost use Rattle.std.specs.Prelude.{◌≡◌, ◌<◌, ◌≤◌, [], ◌∷◌, IfSome, IsSome, MatchOption, OnErr, OnOk, length, map, nat_lt, not, reverse};
-    ghost use Rattle.rq_txn.specs.Rows.{AreDistinct, any_under, change_row, finished_of, found_row, fresh_row, latched_in, row_aborting, row_finished, row_of, row_started, row_stepped, row_taken_back, under_of, without_row};
+    ghost use Rattle.std.specs.Prelude.{◌≡◌, ◌<◌, ◌≤◌, [], ◌∷◌, IfSome, IsSome, MatchOption, OnErr, OnOk, length, nat_lt, not, reverse, slice_index_or};
+    ghost use Rattle.rq_model.specs.Words.{In, last};
+    ghost use Rattle.rq_txn.specs.Rows.{AreDistinct, Row, any_under, change_row, finished_of, found_row, fresh_row, latched_in, row_aborting, row_finished, row_of, row_started, row_stepped, row_taken_back, under_of, without_row};
 
     /// No transaction.
     pub fn new(alloc: Global) -> Self
@@ -144,7 +174,9 @@ impl Transactions {
     {
         Transactions {
             alloc,
-            rows: Vec::new(alloc),
+            rows: Slab::new(alloc),
+            places: Vec::new(alloc),
+            tally: Tally::new(alloc),
         }
     }
 
@@ -152,35 +184,37 @@ impl Transactions {
     pub fn is_full(&self) -> bool
         ensures { result ≡ not (nat_lt (length self.now) 4096) }
     {
-        self.rows.len() >= TRANSACTION_LIMIT
+        self.places.len() >= TRANSACTION_LIMIT
     }
 
-    /// Adds a transaction that has done nothing.
+    /// Adds a transaction that has done nothing, whose count is greater than those of the others.
     ///
     /// # Errors
     /// `NoMemory`: nothing changed.
     pub fn begin(&mut self, txn: Txn) -> Result<(), NoMemory>
         requires incarnation { 1 ≤ txn.incarnation }
         requires count { 1 ≤ txn.count }
-        requires new { found_row txn self.old ≡ None }
+        requires rising { (row : Row) → In row self.old → row.txn.count < txn.count }
         ensures ok { OnOk result (self.new ≡ fresh_row txn ∷ self.old) }
         ensures err { OnErr result (self.new ≡ self.old) }
     {
-        let fresh = Transaction {
+        if self.places.try_reserve(1).is_err() || self.rows.reserve(1).is_err() {
+            return Err(NoMemory);
+        }
+        let key = self.rows.insert_reserved(Transaction {
             txn,
             aborting: false,
             finished: Vec::new(self.alloc),
             number: 0,
             under_way: None,
-        };
-        match self.rows.push(fresh) {
-            Ok(()) => Ok(()),
-            Err(_) => Err(NoMemory),
-        }
+        });
+        let count = txn.count;
+        self.places.push(Place { count, key }).unwrap();
+        Ok(())
     }
 
-    /// The transaction of this number, if it has not ended.
-    pub fn get(&self, txn: Txn) -> Option<&Transaction>
+    /// How the transaction of this number stands, if it has not ended.
+    pub fn state(&self, txn: Txn) -> Option<&Transaction>
         ensures found { MatchOption result (found_row txn self.now ≡ None)
             (λ row. found_row txn self.now ≡ Some (row_of row.now)) }
         ensures named { IfSome result (λ row. row.now.txn ≡ txn) }
@@ -189,18 +223,27 @@ impl Transactions {
         ensures numbered { IfSome result (λ row. IfSome row.now.under_way (λ operation. 1 ≤ operation.number)) }
         ensures distinct { AreDistinct self.now }
     {
-        let place = scans::place_of(&self.rows, txn)?;
-        Some(&self.rows[place])
+        match key_of(&self.rows, &self.places, txn) {
+            Some(key) => Some(&self.rows[key]),
+            None => None,
+        }
     }
 
     /// The operations of a transaction that are finished and not undone: none where it has ended.
     pub fn finished(&self, txn: Txn) -> &[Finished]
         ensures { result.now ≡ finished_of (found_row txn self.now) }
     {
-        match self.get(txn) {
+        match self.state(txn) {
             Some(row) => &row.finished,
             None => &[],
         }
+    }
+
+    /// What the transaction did last and has not undone: none where nothing is left to undo, or it has ended.
+    pub fn next_undo(&self, txn: Txn) -> Option<Finished>
+        ensures { result ≡ last (finished_of (found_row txn self.now)) }
+    {
+        self.finished(txn).last().copied()
     }
 
     /// Puts an operation of the transaction under way, with room for its end.
@@ -211,10 +254,10 @@ impl Transactions {
         ensures ok { OnOk result (self.new ≡ change_row txn (row_started (under_of operation)) self.old) }
         ensures err { OnErr result (self.new ≡ self.old) }
     {
-        let Some(place) = scans::place_of(&self.rows, txn) else {
+        let Some(key) = key_of(&self.rows, &self.places, txn) else {
             return Ok(());
         };
-        self.rows[place].start(operation)
+        self.rows[key].start(operation, &mut self.tally)
     }
 
     /// One more write of the transaction's operation under way is made.
@@ -223,18 +266,18 @@ impl Transactions {
             IfSome row.under (λ under. under.made < length under.writes)) }
         ensures { self.new ≡ change_row txn row_stepped self.old }
     {
-        if let Some(place) = scans::place_of(&self.rows, txn) {
-            self.rows[place].step();
+        if let Some(key) = key_of(&self.rows, &self.places, txn) {
+            self.rows[key].step();
         }
     }
 
-    /// The transaction's operation under way is finished.
-    pub fn finish(&mut self, txn: Txn, finished: Finished)
+    /// The transaction's operation under way is finished, and came to this.
+    pub fn note(&mut self, txn: Txn, finished: Finished)
         requires { IfSome (found_row txn self.old) (λ row. IsSome row.under) }
         ensures { self.new ≡ change_row txn (row_finished finished) self.old }
     {
-        if let Some(place) = scans::place_of(&self.rows, txn) {
-            self.rows[place].finish(finished);
+        if let Some(key) = key_of(&self.rows, &self.places, txn) {
+            self.rows[key].finish(finished, &mut self.tally);
         }
     }
 
@@ -242,8 +285,8 @@ impl Transactions {
     pub fn start_abort(&mut self, txn: Txn)
         ensures { self.new ≡ change_row txn row_aborting self.old }
     {
-        if let Some(place) = scans::place_of(&self.rows, txn) {
-            self.rows[place].abort();
+        if let Some(key) = key_of(&self.rows, &self.places, txn) {
+            self.rows[key].abort();
         }
     }
 
@@ -251,8 +294,8 @@ impl Transactions {
     pub fn undo(&mut self, txn: Txn)
         ensures { self.new ≡ change_row txn row_taken_back self.old }
     {
-        if let Some(place) = scans::place_of(&self.rows, txn) {
-            self.rows[place].undo();
+        if let Some(key) = key_of(&self.rows, &self.places, txn) {
+            self.rows[key].undo(&mut self.tally);
         }
     }
 
@@ -260,28 +303,38 @@ impl Transactions {
     pub fn end(&mut self, txn: Txn)
         ensures { self.new ≡ without_row txn self.old }
     {
-        self.rows.retain(|row| row.txn != txn);
+        if let Some(place) = place_of(&self.rows, &self.places, txn) {
+            let key = self.places.remove(place).key;
+            self.rows.remove(key).end(&mut self.tally);
+        }
     }
 
     /// Whether some transaction has an operation under way.
     pub fn any_under_way(&self) -> bool
         ensures { result ≡ any_under self.now }
     {
-        scans::any_under_way(&self.rows)
+        self.tally.any()
     }
 
     /// Whether some operation under way has latched the page: it is that of one of its writes, made or not.
     pub fn has_latched(&self, page: u64) -> bool
         ensures { result ≡ latched_in self.now page }
     {
-        scans::any_latches(&self.rows, page)
+        self.tally.has_latched(page)
     }
 
-    /// The transactions, in the order of their begins.
-    pub fn rows(&self) -> &[Transaction]
-        ensures rows { reverse (map row_of result.now) ≡ self.now }
-        ensures distinct { AreDistinct self.now }
+    /// How many there are.
+    pub fn len(&self) -> usize
+        ensures { result ≡ length self.now }
     {
-        &self.rows
+        self.places.len()
+    }
+
+    /// The transaction at a place, in the order of the begins.
+    pub fn at(&self, place: usize) -> &Transaction
+        requires { place < length self.now }
+        ensures { (d : Row) → slice_index_or (reverse self.now) place d ≡ row_of result.now }
+    {
+        &self.rows[self.places[place].key]
     }
 }

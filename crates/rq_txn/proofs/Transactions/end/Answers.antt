@@ -1,16 +1,22 @@
-use Rattle.std.proofs.Common.{not, rules}
-use Rattle.std.proofs.lemmas.Fn.{filter_same}
-use Rattle.rq_model.specs.Words.{same_txn}
-use Rattle.rq_txn.specs.declared.Transaction.{Transaction}
-use Rattle.rq_txn.proofs.Standing.{distinct_left, seen_without}
+use Rattle.rq_txn.proofs.Placing.{kept_ended, seen_ended, seen_left, counted_ended}
 use Rattle.rq_txn.proofs.Transactions.end.Goals as goal
+
+pub end-requires : goal.end-requires
+end-requires c =
+    let i = c.self.inside in
+    counted_ended i.rows i.places.items c.deref.result.now i.tally c.in-Some.place c.args.txn c.remove-key.result c.remove.result c.self.invariant c.deref.ensures.value c.in-Some.ensures c.remove-key.ensures.value c.remove.ensures.value
 
 pub invariant_of-self : goal.invariant_of-self
 invariant_of-self c =
-    let e = filter_same _ (λ (r : Transaction). not (same_txn r.txn c.args.txn)) _ (λ x b f' k. search rules) _ _ c.retain.ensures.filtered in
-    distinct_left c.args.txn c.self.inside.rows.items c.retain.new.self.items c.self.invariant e
+    let i = c.self.inside in
+    kept_ended i.rows c.remove.new.self i.places.items c.deref.result.now c.remove-key.new.self.items i.tally c.end.new.tally c.in-Some.place c.args.txn c.remove-key.result c.remove.result c.self.invariant c.deref.ensures.value c.in-Some.ensures c.remove-key.ensures.value c.remove.ensures.value c.remove.ensures.updates c.remove.ensures.len c.remove-key.ensures.items c.end.ensures
 
-pub returns : goal.returns
-returns c =
-    let e = filter_same _ (λ (r : Transaction). not (same_txn r.txn c.args.txn)) _ (λ x b f' k. search rules) _ _ c.retain.ensures.filtered in
-    seen_without c.args.txn c.self.inside.rows.items c.retain.new.self.items c.args.self.now c.self.view_is e
+pub returns-in-Some : goal.returns-in-Some
+returns-in-Some c =
+    let i = c.self.inside in
+    seen_ended i.rows c.remove.new.self i.places.items c.deref.result.now c.remove-key.new.self.items i.tally c.in-Some.place c.args.self.now c.args.txn c.remove-key.result c.remove.result c.self.invariant c.self.view_is c.deref.ensures.value c.in-Some.ensures c.remove-key.ensures.value c.remove.ensures.value c.remove.ensures.updates c.remove-key.ensures.items
+
+pub returns-in_default : goal.returns-in_default
+returns-in_default c =
+    let i = c.self.inside in
+    seen_left i.rows i.places.items c.deref.result.now i.tally c.args.self.now c.args.txn c.self.invariant c.self.view_is c.deref.ensures.value c.in_default.ensures

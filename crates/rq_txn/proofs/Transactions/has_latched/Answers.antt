@@ -1,7 +1,6 @@
-use Rattle.std.proofs.Common.{ap, ◌∙◌, map}
-use Rattle.rq_txn.specs.Rows.{latched_in, row_of}
-use Rattle.rq_txn.proofs.Standing.{seen_latched}
+use Rattle.std.proofs.Common.{◌∙◌}
+use Rattle.rq_txn.proofs.Placing.{latched_seen}
 use Rattle.rq_txn.proofs.Transactions.has_latched.Goals as goal
 
 pub returns : goal.returns
-returns c = c.any_latches.ensures ∙ ap (λ l. latched_in (map row_of l) c.args.page) c.deref.ensures.value ∙ seen_latched c.args.page c.self.inside.rows.items c.args.self.now c.self.view_is
+returns c = c.has_latched.ensures ∙ latched_seen c.args.page c.self.inside.rows c.self.inside.places.items c.self.inside.tally c.args.self.now c.self.invariant c.self.view_is

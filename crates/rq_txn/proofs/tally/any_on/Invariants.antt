@@ -1,6 +1,6 @@
 use Rattle.std.proofs.Common.{◌≡◌, ◌/◌, map, drop}
 use Rattle.rq_level.specs.Given.{has_page}
-use Rattle.rq_txn.proofs.scans.any_on.Given as goal
+use Rattle.rq_txn.proofs.tally.any_on.Given as goal
 
 -- the search of what is left is the search of all
 abbrev pub invariant-loop-write : goal.invariant-loop-write
