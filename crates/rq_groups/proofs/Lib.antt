@@ -1,4 +1,6 @@
+pub mod Chained
 pub mod Flagged
 pub mod Holders
+pub mod Orders
 pub mod Sents
 pub mod Waits

@@ -1,7 +1,7 @@
 -- What each sender's sends come to after one more.
-use Rattle.std.proofs.Common.{◌≡◌, ◌≢◌, ℕ, ◌+◌, ◌<◌, List, length}
+use Rattle.std.proofs.Common.{◌≡◌, ◌≢◌, ℕ, ◌<◌, length}
 use Rattle.std.proofs.lemmas.List.{length-set, get_or-set_same, get_or-set_other}
-use Rattle.rq_groups.specs.Sent.{SentBy, sent_count, sent_tag, with_last, with_one_more}
+use Rattle.rq_groups.specs.Sent.{SentBy, sent_count, sent_tag, with_last}
 
 pub length-counts : (s n tag : ℕ) (sent : SentBy) → length (with_last s n tag sent).counts ≡ length sent.counts
 length-counts s n tag sent = length-set sent.counts s n

@@ -1,3 +1,6 @@
+pub mod Changes
+pub mod Heads
+pub mod Chains
 pub mod Ends
 pub mod Flags
 pub mod Waiting

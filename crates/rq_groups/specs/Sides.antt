@@ -1,14 +1,24 @@
 -- Either end of a group, as one that is held.
-use Rattle.std.specs.Prelude.{Bool, cond, drop}
+use Rattle.std.specs.Prelude.{◌≡◌, Bool, cond, drop, take, [], ◌∷◌}
 use Rattle.rq_model.specs.declared.txn.Txn.{Txn}
 use Rattle.rq_groups.specs.declared.End.{End}
 use Rattle.rq_groups.specs.declared.End.TheVariants.{Sending, Receiving}
-use Rattle.rq_groups.specs.Ends.{HeldEnds, has_held, with_held}
+use Rattle.rq_groups.specs.Ends.{HeldEnds, has_held, is_free_for, with_held}
 
 -- t holds the end
 abbrev pub holds_end : Txn → End → HeldEnds → Bool
 holds_end t (Sending s) ends = has_held t s ends.sending
 holds_end t (Receiving s) ends = has_held t s ends.receiving
+
+-- no transaction but t holds the end
+abbrev pub is_free_end : Txn → End → HeldEnds → Bool
+is_free_end t (Sending s) ends = is_free_for t s ends.sending
+is_free_end t (Receiving s) ends = is_free_for t s ends.receiving
+
+-- the end is the one that was taken last on its side, by t
+abbrev pub IsNewest : Txn → End → HeldEnds → Type 0
+IsNewest t (Sending s) ends = take 1 ends.sending ≡ record { txn = t; sender = s } ∷ []
+IsNewest t (Receiving s) ends = take 1 ends.receiving ≡ record { txn = t; sender = s } ∷ []
 
 -- t holds the end too
 abbrev pub with_end : Txn → End → HeldEnds → HeldEnds

@@ -1,17 +1,22 @@
 //! Who holds which ends of groups, how many messages of each wait, and what each sender has sent.
 #![tactic(auto)]
 
-ghost use Rattle.std.specs.Prelude.{◌≡◌, [], cond, drop, not, IfOk, OnErr, reverse};
-ghost use Rattle.rq_groups.specs.Ends.{has_held, is_free_for, with_held, released};
-ghost use Rattle.rq_groups.specs.Sides.{with_end, holds_end, without_newest};
+ghost use Rattle.std.specs.Prelude.{◌≡◌, [], not, true, IfOk, OnErr};
+ghost use Rattle.rq_groups.specs.Ends.{has_held, is_free_for, released, with_held};
+ghost use Rattle.rq_groups.specs.Sides.{IsNewest, holds_end, is_free_end, with_end, without_newest};
 
+mod changes;
+mod heads;
 mod index;
 mod sent;
+mod side;
 mod waiting;
 
+use rq_model::limits::TRANSACTION_LIMIT;
 use rq_model::refusal::NoMemory;
 use rq_model::txn::Txn;
 pub use sent::{LastTag, Sent};
+use side::Side;
 use std::alloc::Global;
 use std::marker::Model;
 pub use waiting::Waiting;
@@ -37,76 +42,84 @@ pub enum End {
 /// The ends that transactions hold. Contracts see the lists of them, the newest first.
 #[derive(Drop)]
 pub struct Ends {
-    sending: Vec<Held>,
-    receiving: Vec<Held>,
+    sending: Side,
+    receiving: Side,
 }
 
 impl Model for Ends {
-    ghost use Rattle.std.specs.Prelude.{reverse};
     ghost use Rattle.rq_groups.specs.Ends.{HeldEnds};
 
     ghost Value = { HeldEnds };
 
-    ghost view = { λ e. record { sending = reverse e.sending.items; receiving = reverse e.receiving.items } };
+    ghost view = { λ e. record { sending = e.sending; receiving = e.receiving } };
 }
 
 impl Ends {
-    /// No end is held.
-    pub fn new(alloc: Global) -> Self
-        ensures sending { result.sending ≡ [] }
-        ensures receiving { result.receiving ≡ [] }
+    /// No end is held, of as many senders. Takes all memory that ends of theirs will need.
+    ///
+    /// # Errors
+    /// `NoMemory`.
+    pub fn new(alloc: Global, senders: u32) -> Result<Ends, NoMemory>
+        ensures sending { IfOk result (λ ends. ends.sending ≡ []) }
+        ensures receiving { IfOk result (λ ends. ends.receiving ≡ []) }
     {
-        Ends {
-            sending: Vec::new(alloc),
-            receiving: Vec::new(alloc),
-        }
+        let transactions = TRANSACTION_LIMIT.min(senders as usize);
+        let sending = Side::new(alloc, senders, transactions)?;
+        let receiving = Side::new(alloc, senders, transactions)?;
+        Ok(Ends { sending, receiving })
     }
 
     /// Whether no other transaction holds the sender's sending end.
     pub fn may_send(&self, txn: Txn, sender: u32) -> bool
         ensures { result ≡ is_free_for txn sender self.now.sending }
     {
-        is_free(&self.sending, txn, sender)
+        self.sending.is_free(txn, sender)
     }
 
     /// Whether no other transaction holds the sender's receiving end.
     pub fn may_receive(&self, txn: Txn, sender: u32) -> bool
         ensures { result ≡ is_free_for txn sender self.now.receiving }
     {
-        is_free(&self.receiving, txn, sender)
+        self.receiving.is_free(txn, sender)
     }
 
-    /// Gives the sender's sending end to the transaction, and answers whether it did not hold it before.
+    /// Gives the sender's sending end, that no other transaction holds, to this one, and answers whether it did not hold
+    /// it before.
     ///
     /// # Errors
-    /// `NoMemory`: nothing changed.
+    /// As `take`.
     pub fn take_send(&mut self, txn: Txn, sender: u32) -> Result<bool, NoMemory>
+        requires free { is_free_for txn sender self.old.sending ≡ true }
         ensures taken { IfOk result (λ _. self.new ≡ record self.old
             { sending = with_held txn sender self.old.sending }) }
         ensures newly { IfOk result (λ new. new ≡ not (has_held txn sender self.old.sending)) }
         ensures same { OnErr result (self.new ≡ self.old) }
     {
-        take(&mut self.sending, txn, sender)
+        self.sending.take(txn, sender)
     }
 
-    /// Gives the sender's receiving end to the transaction, and answers whether it did not hold it before.
+    /// Gives the sender's receiving end, that no other transaction holds, to this one, and answers whether it did not
+    /// hold it before.
     ///
     /// # Errors
-    /// `NoMemory`: nothing changed.
+    /// As `take`.
     pub fn take_receive(&mut self, txn: Txn, sender: u32) -> Result<bool, NoMemory>
+        requires free { is_free_for txn sender self.old.receiving ≡ true }
         ensures taken { IfOk result (λ _. self.new ≡ record self.old
             { receiving = with_held txn sender self.old.receiving }) }
         ensures newly { IfOk result (λ new. new ≡ not (has_held txn sender self.old.receiving)) }
         ensures same { OnErr result (self.new ≡ self.old) }
     {
-        take(&mut self.receiving, txn, sender)
+        self.receiving.take(txn, sender)
     }
 
-    /// Gives an end to the transaction, and answers whether it did not hold it before.
+    /// Gives an end that no other transaction holds to this one, and answers whether it did not hold it before.
     ///
     /// # Errors
-    /// `NoMemory`: nothing changed.
+    /// `NoMemory`: nothing changed. So where the sender is none of those that there is room for, or more transactions
+    /// hold ends than a store may have.
     pub fn take(&mut self, txn: Txn, end: End) -> Result<bool, NoMemory>
+        requires free { is_free_end txn end self.old ≡ true }
         ensures taken { IfOk result (λ _. self.new ≡ with_end txn end self.old) }
         ensures newly { IfOk result (λ new. new ≡ not (holds_end txn end self.old)) }
         ensures same { OnErr result (self.new ≡ self.old) }
@@ -117,31 +130,18 @@ impl Ends {
         }
     }
 
-    /// Undoes the last `take`, which was of this end, and whose answer says whether the end was newly held.
-    pub fn undo_take(&mut self, end: End, newly: bool)
+    /// Undoes the last `take`, which was of this end by this transaction, and whose answer says whether the end was
+    /// newly held.
+    pub fn undo_take(&mut self, txn: Txn, end: End, newly: bool)
+        requires newest { newly ≡ true → IsNewest txn end self.old }
         ensures { self.new ≡ without_newest end newly self.old }
     {
+        if !newly {
+            return;
+        }
         match end {
-            End::Sending(_) => self.undo_take_send(newly),
-            End::Receiving(_) => self.undo_take_receive(newly),
-        }
-    }
-
-    /// Undoes the last `take_send`, whose answer says whether the end was newly held.
-    pub fn undo_take_send(&mut self, newly: bool)
-        ensures { self.new ≡ record self.old { sending = cond newly (drop 1 self.old.sending) self.old.sending } }
-    {
-        if newly {
-            give_back_last(&mut self.sending);
-        }
-    }
-
-    /// Undoes the last `take_receive`, whose answer says whether the end was newly held.
-    pub fn undo_take_receive(&mut self, newly: bool)
-        ensures { self.new ≡ record self.old { receiving = cond newly (drop 1 self.old.receiving) self.old.receiving } }
-    {
-        if newly {
-            give_back_last(&mut self.receiving);
+            End::Sending(sender) => self.sending.undo_take(txn, sender),
+            End::Receiving(sender) => self.receiving.undo_take(txn, sender),
         }
     }
 
@@ -152,60 +152,7 @@ impl Ends {
           receiving = released txn self.old.receiving;
         } }
     {
-        give_back(&mut self.sending, txn);
-        give_back(&mut self.receiving, txn);
+        self.sending.release(txn);
+        self.receiving.release(txn);
     }
-}
-
-// Whether no other transaction holds the end.
-fn is_free(ends: &[Held], txn: Txn, sender: u32) -> bool
-    ensures { result ≡ is_free_for txn sender ends.now }
-{
-    for held in ends {
-        if held.txn != txn && held.sender == sender {
-            return false;
-        }
-    }
-    true
-}
-
-// Whether the transaction holds the end.
-fn has(ends: &[Held], txn: Txn, sender: u32) -> bool
-    ensures { result ≡ has_held txn sender ends.now }
-{
-    for held in ends {
-        if held.txn == txn && held.sender == sender {
-            return true;
-        }
-    }
-    false
-}
-
-// Gives the end to the transaction, and answers whether it did not hold it before.
-fn take(ends: &mut Vec<Held>, txn: Txn, sender: u32) -> Result<bool, NoMemory>
-    ensures taken { IfOk result (λ _. reverse ends.new.items ≡ with_held txn sender (reverse ends.old.items)) }
-    ensures newly { IfOk result (λ new. new ≡ not (has_held txn sender (reverse ends.old.items))) }
-    ensures same { OnErr result (ends.new.items ≡ ends.old.items) }
-{
-    if has(ends, txn, sender) {
-        return Ok(false);
-    }
-    match ends.push(Held { txn, sender }) {
-        Ok(()) => Ok(true),
-        Err(_) => Err(NoMemory),
-    }
-}
-
-// Gives back every end that the transaction holds.
-fn give_back(ends: &mut Vec<Held>, txn: Txn)
-    ensures { reverse ends.new.items ≡ released txn (reverse ends.old.items) }
-{
-    ends.retain(|held| held.txn != txn);
-}
-
-// Gives back the end that was taken last.
-fn give_back_last(ends: &mut Vec<Held>)
-    ensures { reverse ends.new.items ≡ drop 1 (reverse ends.old.items) }
-{
-    let _ = ends.pop();
 }
