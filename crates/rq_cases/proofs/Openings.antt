@@ -30,7 +30,7 @@ use Rattle.rq_store.proofs.Cutting.{fits_log_longer}
 use Rattle.rq_engine.proofs.Standing.{refused_steps}
 use Rattle.rq_store.proofs.Formatting.{formatted_fits}
 use Rattle.rq_store.proofs.Opening.{restarted_whole}
-use Rattle.rq_restart.specs.Checked.{IsBeyond, IsEnded, IsGoneThrough, as_read}
+use Rattle.rq_restart.specs.Checked.{IsBeyond, IsEnded, as_read}
 use Rattle.rq_restart.specs.Refused.{IsFirstFault, TellsDamage}
 use Rattle.rq_restart.specs.Repeating.{IsFirstBad, Paged, Repeats}
 use Rattle.rq_restart.specs.Restarting.{BeginsAtMost, IsBegunOn, IsRead, LogStops}

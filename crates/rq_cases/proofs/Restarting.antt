@@ -1,5 +1,5 @@
 -- What a restart finds, makes and refuses.
-use Rattle.std.proofs.Common.{◌≡◌, ℕ, zero, suc, ◌≤◌, ◌<◌, ◌^◌, List, [], ◌∷◌, length, false, true, refl, sym, ap, ◌∙◌, subst, inl, inr, arith}
+use Rattle.std.proofs.Common.{◌≡◌, ℕ, zero, suc, ◌≤◌, ◌<◌, List, [], ◌∷◌, length, false, true, refl, sym, ap, ◌∙◌, subst, inl, inr, arith}
 use Rattle.rq_model.specs.declared.record.Record.{Record}
 use Rattle.rq_model.specs.declared.record.Record.TheVariants.{Commit, Restart}
 use Rattle.rq_disk.specs.Memory.{fresh_pages, reads}
@@ -16,7 +16,7 @@ use Rattle.rq_page.specs.Slots.{held_in}
 use Rattle.rq_page.specs.Sizes.{sender_at}
 use Rattle.rq_views.specs.WorkedItems.{cell, sends, t1}
 use Rattle.rq_store.specs.Fitting.{FitsLog, image_in}
-use Rattle.rq_store.specs.Opening.{IsLeft, next_restart}
+use Rattle.rq_store.specs.Opening.{IsLeft}
 use Rattle.rq_store.specs.Steps.{op_end, page_op}
 use Rattle.rq_store.proofs.Cutting.{fits_log_longer}
 use Rattle.rq_store.proofs.Formatting.{formatted_fits}

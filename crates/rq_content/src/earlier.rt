@@ -1,13 +1,12 @@
 //! A sender's directory slot, without what transactions that have not ended did.
-ghost use Rattle.std.specs.Prelude.{◌≡◌, OnOk, map};
-ghost use Rattle.rq_txn.specs.Rows.{row_of};
+ghost use Rattle.std.specs.Prelude.{◌≡◌, OnOk, reverse};
 ghost use Rattle.rq_content.specs.Read.{before_of, start, without_deed, without_all, without_oldest, without_send};
 
 use rq_model::message::Message;
 use rq_model::record::Deed;
 use rq_model::refusal::NoMemory;
 use rq_page::directory::Directory;
-use rq_txn::{Finished, Transaction};
+use rq_txn::{Finished, Transactions};
 use std::alloc::Global;
 
 /// What a directory slot says of a sender, without deeds that are not committed.
@@ -37,11 +36,16 @@ impl Earlier {
     }
 
     /// Leaves out what transactions did to the sender, the oldest first.
-    pub fn leave_out_rows(&mut self, sender: u32, rows: &[Transaction]) -> Result<(), NoMemory>
-        ensures { OnOk result (before_of self.new ≡ without_oldest sender (map row_of rows.now) (before_of self.old)) }
+    pub fn leave_out_rows(
+        &mut self,
+        sender: u32,
+        transactions: &Transactions,
+    ) -> Result<(), NoMemory>
+        ensures { OnOk result (before_of self.new
+            ≡ without_oldest sender (reverse transactions.now) (before_of self.old)) }
     {
-        for row in rows {
-            self.leave_out_all(sender, &row.finished)?;
+        for place in 0..transactions.len() {
+            self.leave_out_all(sender, &transactions.at(place).finished)?;
         }
         Ok(())
     }

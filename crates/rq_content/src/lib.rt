@@ -100,7 +100,7 @@ fn group_content<P: PageDevice>(
 {
     let directory = pages.group(sender);
     let mut earlier = Earlier::of(alloc, &directory);
-    earlier.leave_out_rows(sender, transactions.rows())?;
+    earlier.leave_out_rows(sender, transactions)?;
     let Earlier {
         sent,
         previous,

@@ -1,5 +1,5 @@
 -- Each function of a world, over the devices in memory.
-use Rattle.rq_model.specs.Causes.{HasCause, IsCaused, writes_out}
+use Rattle.rq_model.specs.Causes.{HasCause, writes_out}
 use Rattle.std.proofs.Common.{◌↔◌, Bool, false, ◌≡◌, List, [], ◌∷◌, arith, refl, sym, ◌∙◌, ap, subst, true, Some, Result, Ok, Err, IfOk, IfErr}
 use Rattle.rq_model.specs.declared.record.Record.{Record}
 use Rattle.rq_model.specs.declared.refusal.Refusal.{Refusal}
@@ -9,8 +9,7 @@ use Rattle.rq_model.specs.History.Entry.{Restarted as Restarted_entry, Refused a
 use Rattle.rq_model.specs.Commits.{committed_of}
 use Rattle.rq_model.specs.Ledger.{Ledger, Phase, after, ledger, runs}
 use Rattle.rq_model.specs.Ledger.Phase.{Running as Runs, Shut}
-use Rattle.rq_model.specs.History.Call.{Begin, Start_send, Start_receive, Start_receive_from, Start_close, Step, Finish, Commit, Acknowledge, Start_abort, Undo_next, End_abort, Hand_over, Force, Write_page, Last_tag, Show}
-use Rattle.rq_model.specs.Legal.{Legal, IsLegal}
+use Rattle.rq_model.specs.Legal.{IsLegal}
 use Rattle.rq_model.specs.Tests.{Size, any_busy}
 use Rattle.rq_model.specs.Promises.{AcknowledgedStay, CrashGoesOn, FifoThroughout, RestartGoesOn, ShutCrashGoesOn, StillStoreRefuses}
 use Rattle.rq_model.specs.Replay.{Says}
@@ -47,7 +46,7 @@ use Rattle.rq_core.specs.Happenings.Happening.{Stops_in}
 use Rattle.rq_core.specs.Happenings.{EndsWithoutCrash, MayRestart, is_no_crash}
 use Rattle.rq_core.specs.Views.{report_of}
 use Rattle.rq_core.proofs.Devices.{some_page, some_log}
-use Rattle.rq_core.proofs.Worlds.{caused, may_stay, read_of, reopened, stays_shut, IsGivenUp, calls, refused, leaves_open, leaves_shut, still, headline}
+use Rattle.rq_core.proofs.Worlds.{caused, may_stay, read_of, reopened, stays_shut, IsGivenUp, calls, leaves_open, leaves_shut, still, headline}
 
 abbrev Engine : Type 0
 Engine = OpenStore MemPages MemLog

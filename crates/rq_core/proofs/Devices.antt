@@ -1,15 +1,14 @@
 -- What is so of the devices of a world.
-use Rattle.std.proofs.Common.{rules, ◌≡◌, ℕ, zero, suc, ◌+◌, ◌<◌, ◌≤◌, List, [], ◌++◌, length, take, drop, refl, sym, ◌∙◌, ap, subst, arith}
+use Rattle.std.proofs.Common.{rules, ◌≡◌, ℕ, zero, suc, List, [], ◌++◌, drop, refl, sym, ◌∙◌, ap, subst, arith}
 use Rattle.std.proofs.lemmas.List.{append-nil, take_all, drop_all}
-use Rattle.rq_model.specs.declared.record.Record.{Record}
-use Rattle.rq_disk.specs.Device.{Images, Leaves, Only}
-use Rattle.rq_disk.specs.Memory.{LogState, MayBe, MayLeave, crashed_log, fresh_log, log_reads, log_seen, pages_seen, reads}
+use Rattle.rq_disk.specs.Device.{Leaves, Only}
+use Rattle.rq_disk.specs.Memory.{LogState, MayBe, MayLeave, fresh_log, log_reads, log_seen, pages_seen, reads}
 use Rattle.rq_disk.specs.Records.{HoldsRecords, first_records, record_size}
 use Rattle.rq_disk.specs.Shown.{log_of, pages_of}
 use Rattle.rq_disk.specs.declared.mem_log.MemLog.{MemLog}
 use Rattle.rq_disk.specs.declared.mem_pages.MemPages.{MemPages}
-use Rattle.rq_page.specs.Sizes.{Sizes, IsInRange, page_count}
-use Rattle.rq_store.specs.Fitting.{AllFit, FitsLog}
+use Rattle.rq_page.specs.Sizes.{Sizes, IsInRange}
+use Rattle.rq_store.specs.Fitting.{AllFit}
 use Rattle.rq_store.specs.Whole.{IsWhole}
 use Rattle.rq_core.specs.Devices.{mem_pages, mem_log}
 use Rattle.rq_core.specs.Runs.{IsFresh}

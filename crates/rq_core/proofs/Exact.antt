@@ -6,7 +6,7 @@ use Rattle.rq_model.specs.Words.{In}
 use Rattle.rq_model.specs.History.{Entry, rest}
 use Rattle.rq_model.specs.Groups.{group}
 use Rattle.rq_model.specs.Ledger.{Ledger, Open, found, group_in, ledger, own_takes, rest_in}
-use Rattle.rq_model.specs.Legal.{At, IsLegal, OnFound}
+use Rattle.rq_model.specs.Legal.{IsLegal, OnFound}
 use Rattle.rq_model.specs.Tests.{Size, any_gives, below, free_to_receive, gives, holds_for}
 use Rattle.rq_core.specs.Always.{GivesTo, NoneIsExact}
 

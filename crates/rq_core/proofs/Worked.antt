@@ -1,12 +1,11 @@
 -- Worked courses.
-use Rattle.std.proofs.Common.{rules, ◌≡◌, ℕ, refl, List, [], ◌∷◌, Some, None, true, false, take, ap, arith, ◌≤◌, ◌<◌, sym, ◌∙◌, zero, suc, nat_eq}
+use Rattle.std.proofs.Common.{rules, ◌≡◌, ℕ, refl, List, ◌∷◌, true, false, ap, arith, ◌≤◌, ◌<◌, sym, ◌∙◌, zero, suc, nat_eq}
 use Rattle.std.proofs.lemmas.Bool.Decides.{nat_tests}
-use Rattle.rq_model.specs.declared.txn.Txn.{Txn}
 use Rattle.rq_model.specs.declared.refusal.Refusal.TheVariants.{Failed}
 use Rattle.rq_model.specs.Words.Op.{Send}
 use Rattle.rq_model.specs.History.{Entry}
 use Rattle.rq_model.specs.History.Call.{Acknowledge}
-use Rattle.rq_model.specs.History.Job.{Sending, Taking}
+use Rattle.rq_model.specs.History.Job.{Sending}
 use Rattle.rq_model.specs.History.Entry.{Begun, Started, Stepped, Did, Committed, Acknowledged, Forced, Refused as Refused_entry}
 use Rattle.rq_model.specs.Ledger.{fresh_one, ledger}
 use Rattle.rq_model.specs.Tests.{free_to_receive, holds_for, any_busy}

@@ -13,7 +13,7 @@ use Rattle.rq_model.specs.History.Call.{Hand_over}
 use Rattle.rq_model.specs.History.Entry.{Crash as Crash_entry, Restarted as Restarted_entry}
 use Rattle.rq_model.specs.Incarnations.{Extends, Ties, ArePlain, incarnation_of}
 use Rattle.rq_model.specs.Commits.{committed_of}
-use Rattle.rq_model.specs.Ledger.{Done, Ledger, ledger, after, kept_in}
+use Rattle.rq_model.specs.Ledger.{Ledger, ledger, after, kept_in}
 use Rattle.rq_model.specs.Ledger.Phase.{Shut}
 use Rattle.rq_model.specs.Legal.{Legal, IsLegal}
 use Rattle.rq_model.specs.Tests.{any_busy}
@@ -55,7 +55,7 @@ use Rattle.rq_restart.specs.declared.restart.Report.{Report as Restart_report}
 use Rattle.rq_restart.specs.Underway.{IsStore, IsSomeStore, IsLeftOrGoesOn}
 use Rattle.rq_restart.specs.Once.{OneLogEach, AsManyAsTheLog, OneSizeEach}
 use Rattle.rq_core.specs.Happenings.{Happening, Course, Tells, AddsCall, called, is_of_device, MayStayShut}
-use Rattle.rq_core.specs.Happenings.Answer.{Answered, Crashed, Refused}
+use Rattle.rq_core.specs.Happenings.Answer.{Answered, Crashed}
 use Rattle.rq_core.specs.Headline.{LeavesStores, LeftLast, IsHeadline}
 use Rattle.rq_core.specs.World.{World, IsShut, IsOpen, Ran, CanCrash}
 use Rattle.rq_core.specs.World.World.{Is_shut, Is_open}

@@ -1,5 +1,5 @@
 -- What holds of every history with legal replies.
-use Rattle.std.specs.Prelude.{◌≡◌, ℕ, ◌<◌, List, [], ◌∷◌, length, true}
+use Rattle.std.specs.Prelude.{◌≡◌, ℕ, ◌<◌, List, ◌∷◌, length, true}
 use Rattle.rq_model.specs.declared.txn.Txn.{Txn}
 use Rattle.rq_model.specs.History.{Entry, rest}
 use Rattle.rq_model.specs.declared.refusal.Refusal.TheVariants.{Latched}

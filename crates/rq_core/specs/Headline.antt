@@ -7,7 +7,6 @@ use Rattle.rq_model.specs.History.{Entry, commits}
 use Rattle.rq_model.specs.History.Entry.{Acknowledged, Committed}
 use Rattle.rq_model.specs.Legal.{IsLegal}
 use Rattle.rq_model.specs.Promises.{FifoThroughout, EndsInCrash}
-use Rattle.rq_disk.specs.Device.{Images}
 use Rattle.rq_disk.specs.declared.device.LogDevice as log_device
 use Rattle.rq_disk.specs.declared.device.PageDevice as page_device
 use Rattle.rq_page.specs.Sizes.{Sizes}

@@ -1,5 +1,5 @@
 -- What the functions of a world do, over devices in memory.
-use Rattle.std.specs.Prelude.{◌≡◌, List, [], ◌∷◌, Some, IsTrue}
+use Rattle.std.specs.Prelude.{◌≡◌, [], ◌∷◌, Some}
 use Rattle.rq_model.specs.History.{Call}
 use Rattle.rq_model.specs.declared.refusal.Refusal.{Refusal}
 use Rattle.rq_disk.specs.declared.mem_log.MemLog.{MemLog}

@@ -1,12 +1,12 @@
 -- Worked courses: the history that one tells, and courses and histories that are refused.
-use Rattle.std.specs.Prelude.{◌≡◌, ℕ, List, [], ◌∷◌, Some, None, true, false, take}
+use Rattle.std.specs.Prelude.{ℕ, List, [], ◌∷◌, Some, None, true, false, take}
 use Rattle.rq_model.specs.declared.txn.Txn.{Txn}
 use Rattle.rq_model.specs.declared.message.Message.{Message}
 use Rattle.rq_model.specs.declared.refusal.Refusal.TheVariants.{DiskWrite, Failed, Damaged, Latched, NoMemory}
 use Rattle.rq_model.specs.declared.refusal.Damage.TheVariants as damage
 use Rattle.rq_model.specs.Words.Op.{Send}
 use Rattle.rq_model.specs.History.{Entry}
-use Rattle.rq_model.specs.History.Call.{Begin, Start_send, Start_receive, Step, Finish, Commit as Commit_call, Acknowledge, Force}
+use Rattle.rq_model.specs.History.Call.{Begin, Start_send, Step, Finish, Commit as Commit_call, Acknowledge, Force}
 use Rattle.rq_model.specs.History.Job.{Sending, Taking}
 use Rattle.rq_model.specs.History.Entry.{Begun, Started, Stepped, Did, Committed, Acknowledged, Forced, Shown, None_free, Refused as Refused_entry, Crash as Crash_entry, Restarted as Restarted_entry}
 use Rattle.rq_model.specs.Legal.{IsLegal}

@@ -3,7 +3,7 @@ use Rattle.std.specs.Prelude.{◌≡◌, ℕ, List}
 use Rattle.rq_model.specs.declared.record.Record.{Record}
 use Rattle.rq_model.specs.History.{Entry}
 use Rattle.rq_model.specs.Incarnations.{Extends, Ties}
-use Rattle.rq_model.specs.Ledger.{Ledger, Phase, ledger}
+use Rattle.rq_model.specs.Ledger.{ledger}
 use Rattle.rq_model.specs.Ledger.Phase.{Shut}
 use Rattle.rq_model.specs.Legal.{IsLegal}
 use Rattle.rq_disk.specs.Device.{Images}

@@ -1,7 +1,7 @@
 -- What the calls of an abort answer, from what their bodies found and made.
-use Rattle.std.proofs.Common.{◌≡◌, ℕ, ◌+◌, ◌-◌, ◌<◌, ◌≤◌, ◌&&◌, ◌||◌, ◌++◌, List, [], ◌∷◌, length, map, refl, sym, ◌∙◌, ap, subst, Bool, true, false, not, nat_lt, Option, Some, None, IfSome, option_map, arith, inl, inr}
-use Rattle.std.specs.List.{slice_get, sum_by}
-use Rattle.std.proofs.lemmas.Bool.{cases_Bool, eq-eqb, false≢true, true≢false}
+use Rattle.std.proofs.Common.{◌≡◌, ℕ, ◌+◌, ◌-◌, ◌<◌, ◌&&◌, ◌||◌, ◌++◌, List, [], ◌∷◌, length, refl, sym, ◌∙◌, ap, subst, Bool, true, false, not, Option, Some, None, IfSome, option_map, arith, inl, inr}
+use Rattle.std.specs.List.{sum_by}
+use Rattle.std.proofs.lemmas.Bool.{cases_Bool, eq-eqb, false≢true}
 use Rattle.std.proofs.lemmas.Option.{same_Some}
 use Rattle.std.proofs.lemmas.List.{length-append}
 use Rattle.std.proofs.lemmas.List.Sums.{sum_by_push}
@@ -16,14 +16,14 @@ use Rattle.rq_model.specs.declared.refusal.Refusal.TheVariants as why
 use Rattle.rq_model.specs.Causes.{HasCause}
 use Rattle.rq_model.specs.History.{Call}
 use Rattle.rq_model.specs.History.Call.{End_abort, Finish, Start_abort, Undo_next}
-use Rattle.rq_model.specs.Ledger.{Open, found, runs}
+use Rattle.rq_model.specs.Ledger.{found, runs}
 use Rattle.rq_model.specs.Legal.{OnFound}
 use Rattle.rq_model.specs.Reference.{IsUnready}
 use Rattle.rq_model.specs.Replay.Reply.{Gave_aborted, Gave_aborting, Gave_none, Gave_sub, Gave_undone}
-use Rattle.rq_model.specs.Tests.{NoneHolds, Passes, first_of, has_done, is_aborting, is_busy, log_full, newest, ready_tests, turned, undo_cost}
+use Rattle.rq_model.specs.Tests.{NoneHolds, Passes, first_of, has_done, is_aborting, is_busy, log_full, newest, ready_tests, undo_cost}
 use Rattle.rq_model.specs.Words.{In, first, front, is_some, last, last_or, same_txn}
 use Rattle.rq_model.proofs.Lists.{same_is}
-use Rattle.rq_page.specs.Sizes.{cell_count, sender_count}
+use Rattle.rq_page.specs.Sizes.{cell_count}
 use Rattle.rq_views.specs.Chain.{View}
 use Rattle.rq_views.specs.Claims.{appends_of, takes_of}
 use Rattle.rq_views.specs.Log.{Slots}
@@ -32,23 +32,17 @@ use Rattle.rq_views.specs.Items.{items}
 use Rattle.rq_views.specs.Legal.{open_deeds, view}
 use Rattle.rq_views.specs.Plans.{deed_sender}
 use Rattle.rq_views.specs.Stored.{slots_in, count_used}
-use Rattle.rq_level.specs.declared.writes.SlotWrite.{SlotWrite}
-use Rattle.rq_txn.specs.declared.Aim.{Aim}
 use Rattle.rq_txn.specs.declared.Aim.TheVariants.{Undoing}
 use Rattle.rq_txn.specs.declared.Finished.{Finished}
-use Rattle.rq_txn.specs.declared.Operation.{Operation}
-use Rattle.rq_txn.specs.Rows.{AreDistinct, Row, Under, any_under, change_row, found_row, row_aborting, row_started, row_taken_back, row_undone, under_way_of, without_row}
+use Rattle.rq_txn.specs.Rows.{AreDistinct, Row, Under, any_under, change_row, found_row, row_aborting, row_started, row_taken_back, row_undone, without_row}
 use Rattle.rq_txn.proofs.Finding.{change_none}
 use Rattle.rq_groups.specs.Ends.{HeldEnds, released}
-use Rattle.rq_groups.specs.Waiting.{waits}
 use Rattle.rq_store.specs.State.{State, job_under, ledger_of, op_done, open_of, phase_of, size_of}
 use Rattle.rq_store.specs.Rows.{placed}
 use Rattle.rq_store.specs.Sound.{takes_one}
 use Rattle.rq_store.proofs.Grouping.{groups_of}
 use Rattle.rq_store.proofs.RowLists.{found_in}
-use Rattle.rq_sound.specs.Calls.{IsIdle}
 use Rattle.rq_sound.specs.Counted.{appends_aim, takes_all}
-use Rattle.rq_sound.specs.Groups.{slots_now}
 use Rattle.rq_sound.specs.Plans.{AreUnlatched}
 use Rattle.rq_sound.specs.Rows.{comp_end}
 use Rattle.rq_sound.specs.Sound.{IsSound}
@@ -58,10 +52,11 @@ use Rattle.rq_sound.proofs.FreeCells.{open_is, room_to_put_back}
 use Rattle.rq_sound.proofs.Groups.{slots_are}
 use Rattle.rq_sound.proofs.Planned.{plans_start}
 use Rattle.rq_sound.proofs.Refusals.{tests_read}
-use Rattle.rq_engine.specs.Aborts.{HasFree, IsTurnedBack, IsUndoPlan, MayBeUndone, UndoIsLatched}
+use Rattle.rq_inverses.specs.Inverses.{HasFree, MayBeUndone}
+use Rattle.rq_engine.specs.Aborts.{IsTurnedBack, IsUndoPlan, UndoIsLatched}
 use Rattle.rq_engine.specs.Answers.{HasNothingUnderWay, IsUnderWay, Refuses}
 use Rattle.rq_engine.specs.Moves.{with_taken}
-use Rattle.rq_engine.proofs.Calls.{AllMade, Going, going_of}
+use Rattle.rq_engine.proofs.Calls.{AllMade, going_of}
 use Rattle.rq_engine.proofs.Latches.{undo_busy}
 use Rattle.rq_engine.specs.Kept.{IsKept}
 use Rattle.rq_engine.proofs.Keeping.{kept_aborted, kept_aborting}
@@ -138,17 +133,6 @@ last_some (g ∷ fs) f e = at g fs f e where
   at : (g : Finished) (fs : List Finished) (f : Finished) → Some (last_or g fs) ≡ Some f → g ∷ fs ≡ front (g ∷ fs) ++ f ∷ []
   at g [] f e = let same : g ≡ f = cc e in ap (λ y. y ∷ []) same
   at g (h ∷ fs) f e = ap (λ l. g ∷ l) (at h fs f e)
-
--- the last stands at the end
-pub last_get : (fs : List Finished) → last fs ≡ slice_get fs (length fs - 1)
-last_get [] = refl
-last_get (f ∷ fs) = at f fs where
-  end : (f : Finished) (fs : List Finished) → Some (last_or f fs) ≡ slice_get (f ∷ fs) (length fs)
-  end f [] = refl
-  end f (g ∷ fs) = end g fs
-
-  at : (f : Finished) (fs : List Finished) → Some (last_or f fs) ≡ slice_get (f ∷ fs) (length (f ∷ fs) - 1)
-  at f fs = end f fs ∙ ap (slice_get (f ∷ fs)) (let e : length fs ≡ length (f ∷ fs) - 1 = omega arith in e)
 
 -- what is so of all is so of the last
 pub last_kept : (P : Finished → Type 0) (fs : List Finished) (o : Option Finished) → last fs ≡ o → ((f : Finished) → In f fs → P f) → IfSome o P

@@ -1,5 +1,5 @@
 -- What a close answers, from what its tests found.
-use Rattle.std.proofs.Common.{◌≡◌, ℕ, ◌+◌, ◌<◌, ◌≤◌, ◌||◌, refl, sym, ◌∙◌, ap, subst, true, false, not, nat_lt, Some, None, arith}
+use Rattle.std.proofs.Common.{◌≡◌, ℕ, ◌+◌, ◌<◌, ◌≤◌, ◌||◌, refl, sym, ◌∙◌, ap, subst, true, false, not, nat_lt, None}
 use Rattle.std.proofs.lemmas.Bool.{lt-ltb, le-ltb}
 use Rattle.rq_model.specs.declared.txn.Txn.{Txn}
 use Rattle.rq_model.specs.declared.refusal.Refusal.TheVariants as why

@@ -31,6 +31,10 @@ kept_at s f o res t r k e = k.rows r (found_in t s.rows r e).0
 pub under_at : (s : State) (f : Bool) (o res : ℕ) (t : Txn) (r : Row) (u : Under) → IsKept s f o res → found_row t s.rows ≡ Some r → r.under ≡ Some u → IsUnderKept s.sizes u
 under_at s f o res t r u k e under = subst (UnderKept s.sizes) under (kept_at s f o res t r k e).under
 
+-- the next count is greater than those of all rows
+pub next_rises : (s : State) (f : Bool) (o res : ℕ) → IsKept s f o res → (r : Row) → In r s.rows → r.txn.count < s.begins + 1
+next_rises s f o res k r i = let high = (k.rows r i).high in omega arith
+
 -- the next number has no row
 pub new_number : (s : State) (f : Bool) (o res : ℕ) → IsKept s f o res → found_row (record { incarnation = s.incarnation; count = s.begins + 1 }) s.rows ≡ None
 new_number s f o res k = at (found_row (record { incarnation = s.incarnation; count = s.begins + 1 }) s.rows) refl where

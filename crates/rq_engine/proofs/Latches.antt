@@ -1,6 +1,6 @@
 -- What is latched, exactly: whether a planned send or receive meets others' pages, and what that makes of the call.
-use Rattle.std.proofs.Common.{◌≡◌, ℕ, ◌+◌, ◌/◌, ◌<◌, ◌≤◌, ◌++◌, ◌||◌, ◌⊎◌, List, [], ◌∷◌, length, reverse, refl, sym, ◌∙◌, ap, subst, Bool, true, false, nat_eq, Option, Some, None, Result, Ok, Err, inl, inr, arith, IsTrue}
-use Rattle.std.proofs.lemmas.Bool.{cases_Bool, cases_eq, false≢true, or_left, or_right, true≢false}
+use Rattle.std.proofs.Common.{◌≡◌, ℕ, ◌/◌, ◌<◌, ◌||◌, List, [], ◌∷◌, length, reverse, refl, sym, ◌∙◌, ap, subst, Bool, true, false, nat_eq, Option, Some, None, Result, Ok, Err, inl, inr, arith, IsTrue}
+use Rattle.std.proofs.lemmas.Bool.{cases_Bool, false≢true, or_left, or_right, true≢false}
 use Rattle.rq_model.specs.declared.message.Message.{Message}
 use Rattle.rq_model.specs.declared.record.Deed.{Deed}
 use Rattle.rq_model.specs.declared.record.Deed.TheVariants.{Append, UnlinkHead, Close}
@@ -16,10 +16,10 @@ use Rattle.rq_model.specs.History.Job.{Sending, Taking, Ending}
 use Rattle.rq_model.specs.Reference.{without_pages}
 use Rattle.rq_page.specs.declared.cell.Cell.{Cell}
 use Rattle.rq_page.specs.declared.directory.Directory.{Directory}
-use Rattle.rq_page.specs.Sizes.{IsCellAddress, cell_count, directory_at}
-use Rattle.rq_page.specs.Slots.Slot.{Free, Used, Sender}
+use Rattle.rq_page.specs.Sizes.{cell_count, directory_at}
+use Rattle.rq_page.specs.Slots.Slot.{Used, Sender}
 use Rattle.rq_views.specs.Items.{layout_of}
-use Rattle.rq_views.specs.Plans.{Turn, append_writes, directory_write, unlink_head_writes}
+use Rattle.rq_views.specs.Plans.{Turn, append_writes, unlink_head_writes}
 use Rattle.rq_views.specs.Plans.Turn.{Did, Undid}
 use Rattle.rq_level.specs.declared.writes.SlotWrite.{SlotWrite}
 use Rattle.std.proofs.lemmas.List.{length-map, length-reverse}
@@ -28,21 +28,23 @@ use Rattle.rq_views.specs.Log.{Write}
 use Rattle.rq_level.specs.Writes.{write_of, writes_of}
 use Rattle.rq_chain.specs.Neighbours.{cell_beside}
 use Rattle.rq_txn.specs.declared.Finished.{Finished}
-use Rattle.rq_txn.specs.Rows.{Row, Under, any_under, found_row, latched_in}
+use Rattle.rq_txn.specs.Rows.{Row, any_under, found_row, latched_in}
 use Rattle.rq_store.specs.Plans.{Stands_at, WaitsFor}
 use Rattle.rq_store.specs.State.{State, job_of}
 use Rattle.rq_sound.specs.Groups.{slots_now}
-use Rattle.rq_sound.specs.Latching.{AllFreeLatched, Begins, IsLatched, NeedsLatched, any_latched, at_head, at_tail, before_tail, behind_head, head_in, named, needed, next_in, tail_in}
-use Rattle.rq_sound.specs.Plans.{AreOff, AreUnlatched}
+use Rattle.rq_sound.specs.Latching.{Begins, IsLatched, NeedsLatched, any_latched, at_head, at_tail, before_tail, head_in, named, next_in, tail_in}
+use Rattle.rq_sound.specs.Plans.{AreUnlatched}
 use Rattle.rq_sound.specs.Sound.{IsSound}
 use Rattle.rq_sound.proofs.Contracts.{planned}
 use Rattle.rq_sound.proofs.Groups.{all_stand, none_latched}
 use Rattle.rq_sound.proofs.UsedCells.{some_free}
 use Rattle.rq_sound.proofs.Latching.{latched_exact}
-use Rattle.rq_sound.proofs.LatchLists.{any_join, off_named}
+use Rattle.rq_sound.proofs.LatchLists.{any_join}
 use Rattle.rq_sound.proofs.Levels.{are_off, relinked_off}
-use Rattle.rq_engine.specs.Applied.{LatchedReply, OnLatched, StartsUnlatched, TakesUnlatched}
-use Rattle.rq_engine.specs.Aborts.{MayBeUndone, UndoIsLatched}
+use Rattle.rq_inverses.proofs.Planned.{any_left, any_right, beside_off}
+use Rattle.rq_inverses.specs.Inverses.{MayBeUndone}
+use Rattle.rq_engine.specs.Applied.{LatchedReply, OnLatched, TakesUnlatched}
+use Rattle.rq_engine.specs.Aborts.{UndoIsLatched}
 use Rattle.rq_engine.specs.Closes.{close_latched}
 use Rattle.rq_engine.specs.Says.{begun_reply, undo_reply}
 use Rattle.rq_engine.specs.Sends.{AreSendSlots, SendIsLatched, take_latched}
@@ -72,27 +74,6 @@ any_busy rows (a ∷ xs) h = elim (cases_Bool (latched_in rows (a / 16))) [
   | inl y ↦ latched_busy rows (a / 16) y
   | inr n ↦ any_busy rows xs (ap (λ b. b || any_latched rows xs) (sym n) ∙ h)
 ]
-
--- one of these slots, or of those, is on a latched page
-pub any_left : (rows : List Row) (xs ys : List ℕ) → any_latched rows xs ≡ true → any_latched rows (xs ++ ys) ≡ true
-any_left rows [] ys h = absurd (false≢true h)
-any_left rows (x ∷ xs) ys h = elim (cases_Bool (latched_in rows (x / 16))) [
-  | inl y ↦ or_left (latched_in rows (x / 16)) (any_latched rows (xs ++ ys)) y
-  | inr n ↦ or_right (latched_in rows (x / 16)) (any_latched rows (xs ++ ys)) (any_left rows xs ys (ap (λ b. b || any_latched rows xs) (sym n) ∙ h))
-]
-
-pub any_right : (rows : List Row) (xs ys : List ℕ) → any_latched rows ys ≡ true → any_latched rows (xs ++ ys) ≡ true
-any_right rows [] ys h = h
-any_right rows (x ∷ xs) ys h = or_right (latched_in rows (x / 16)) (any_latched rows (xs ++ ys)) (any_right rows xs ys h)
-
--- ---- a cell beside
-
-pub beside_off : (s : State) (a : ℕ) (o : Option Cell) → Stands_at (slots_now s) a o → any_latched s.rows (named a) ≡ false → (c : Cell) → o ≡ Some c → latched_in s.rows (a / 16) ≡ false
-beside_off s a None there off c is = cc
-beside_off s a (Some x) there off c is = off_named s.rows a off (elim (cases_eq a 0) [
-  | inl e ↦ absurd (let bad : Free ≡ Used x = sym (ap (slots_now s) e) ∙ there in cc)
-  | inr ne ↦ omega (arith, ne)
-])
 
 -- ---- sends
 
@@ -318,10 +299,6 @@ one_write z us w is =
     let b = length-reverse (writes_of z us) in
     let c : length (writes_of z us) ≡ length us = length-map us (write_of z) in
     omega (arith, a, b, c)
-
--- a close that is planned is on nobody's pages
-pub mark_off : (s : State) (g : ℕ) (d new : Directory) → latched_in s.rows (directory_at g / 16) ≡ false → (ws : List SlotWrite) → reverse (writes_of s.sizes ws) ≡ directory_write (layout_of s.sizes) g d new ∷ [] → AreUnlatched s ws
-mark_off s g d new off ws is = are_off s ws _ is (off, tt)
 
 -- what the starts say is what their replies say
 pub undo_reply_latched : (s : State) (c : Call) (x : Result (Option Sub) Refusal) → TakesUnlatched s c x → LatchedReply s c (undo_reply x)

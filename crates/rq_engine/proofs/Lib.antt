@@ -1,5 +1,4 @@
 pub mod Opened
-pub mod Passing
 pub mod Waits
 pub mod Tags
 pub mod Keeping

@@ -16,7 +16,7 @@ use Rattle.std.specs.Option.{is_some as option_is_some}
 use Rattle.rq_txn.specs.declared.Operation.{Operation}
 use Rattle.rq_txn.specs.Rows.{Row, Under, found_row, under_way_of, any_under}
 use Rattle.rq_store.specs.State.{State, owed_by, ledger_of, size_of, open_of, job_under, phase_of}
-use Rattle.rq_store.proofs.Opens.{found_open, open_found, owed_is, count_is}
+use Rattle.rq_store.proofs.Opens.{found_open, open_found, owed_is}
 use Rattle.rq_engine.proofs.Standing.{refused_steps}
 use Rattle.rq_page.specs.Sizes.{Sizes}
 use Rattle.rq_content.specs.Read.{StopsFor, IsBroken, damaged_for}

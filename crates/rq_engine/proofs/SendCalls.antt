@@ -11,7 +11,7 @@ use Rattle.rq_model.specs.Ledger.{found, ended_in}
 use Rattle.rq_model.specs.Tests.{Passes, is_busy, NoneHolds, free_to_send, has_closed, log_full, cells_in_use, ready_tests}
 use Rattle.rq_model.specs.Reference.{message_of}
 use Rattle.rq_page.specs.declared.directory.Directory.{Directory}
-use Rattle.rq_page.specs.Sizes.{Sizes, sender_count, cell_count, directory_at, IsCellAddress}
+use Rattle.rq_page.specs.Sizes.{Sizes, sender_count, cell_count, directory_at}
 use Rattle.rq_page.specs.declared.cell.Cell.{Cell}
 use Rattle.rq_page.specs.Slots.{Slot}
 use Rattle.rq_page.specs.Slots.Slot.{Free, Used, Sender}
@@ -19,14 +19,13 @@ use Rattle.rq_views.specs.Chain.{Node, last, Linked, message}
 use Rattle.rq_views.specs.Log.{Slots, cell_in, cells_of}
 use Rattle.rq_views.specs.Legal.{view}
 use Rattle.rq_views.specs.Items.{items, layout_of}
-use Rattle.rq_views.specs.Stored.{slots_in, count_used, is_used}
+use Rattle.rq_views.specs.Stored.{slots_in, count_used}
 use Rattle.rq_views.proofs.Chains.{last_is}
 use Rattle.rq_views.proofs.Totals.{log_total}
 use Rattle.rq_views.proofs.Laws.{shows_here}
 use Rattle.rq_txn.proofs.Finding.{found_change_same}
 use Rattle.rq_level.specs.declared.writes.SlotWrite.{SlotWrite}
-use Rattle.rq_level.specs.Writes.{IsFirstAt}
-use Rattle.rq_txn.specs.Rows.{Row, Under, found_row, any_under, change_row, latched_in, row_started}
+use Rattle.rq_txn.specs.Rows.{Row, Under, found_row, change_row, latched_in, row_started}
 use Rattle.rq_groups.specs.declared.Held.{Held}
 use Rattle.rq_groups.specs.declared.End.{End}
 use Rattle.rq_groups.specs.declared.End.TheVariants.{Sending, Receiving}
@@ -50,7 +49,7 @@ use Rattle.rq_engine.specs.Answers.{Refuses, HasNothingUnderWay, OnUnder}
 use Rattle.rq_model.specs.Legal.{OnFound}
 use Rattle.rq_chain.specs.declared.ChainPlan.{ChainPlan as Plan}
 use Rattle.rq_engine.specs.Kept.{IsKept, IsUnderKept, end_bytes}
-use Rattle.rq_engine.specs.Sends.{under_plan, AreLatchedBelow, FitsPlan, FitsUnder, HasRoom, SendIsLatched, TakesLowest}
+use Rattle.rq_engine.specs.Sends.{under_plan, FitsPlan, FitsUnder, HasRoom, SendIsLatched}
 use Rattle.rq_engine.proofs.Keeping.{kept_started}
 use Rattle.rq_engine.proofs.Refusals.{not_full, refuse, found_of, on_found, found_some, found_none}
 
@@ -209,8 +208,3 @@ going_started s rows t n plan P ready is holds =
     let found : found_row t rows ≡ Some (row_started (under_plan n plan) r.0) =
     ap (found_row t) is ∙ found_change_same t (row_started (under_plan n plan)) s.rows (λ q. refl) ∙ ap (option_map (row_started (under_plan n plan))) r.1 in
     on_found (λ q. OnUnder n P q q.under) (found_row t rows) (row_started (under_plan n plan) r.0) found (refl, holds (row_started (under_plan n plan) r.0))
-
--- the lowest free cell that may be taken is taken first
-pub takes_lowest : (s : State) (a : ℕ) (ws : List SlotWrite) → IsFirstAt a ws → AreLatchedBelow s.sizes (slots_in s.sizes s.images) s.rows a → TakesLowest s ws
-takes_lowest s a [] at lowest = absurd at
-takes_lowest s a (w ∷ ws) at lowest = subst (AreLatchedBelow s.sizes (slots_in s.sizes s.images) s.rows) (sym at) lowest

@@ -1,5 +1,5 @@
 -- What a sound store gives the calls.
-use Rattle.std.proofs.Common.{◌≡◌, ℕ, ◌+◌, ◌-◌, ◌/◌, ◌%◌, ◌<◌, ◌≤◌, ◌^◌, ◌&&◌, ◌||◌, List, [], ◌∷◌, length, refl, sym, ◌∙◌, ap, subst, Bool, true, false, not, nat_eq, nat_lt, Option, Some, None, arith}
+use Rattle.std.proofs.Common.{◌≡◌, ℕ, ◌+◌, ◌-◌, ◌/◌, ◌%◌, ◌<◌, ◌≤◌, ◌&&◌, List, ◌∷◌, length, refl, ◌∙◌, ap, subst, Bool, true, false, nat_lt, Some, None, arith}
 use Rattle.std.specs.List.{slice_get}
 use Rattle.std.proofs.lemmas.Bool.{and_from, lt-ltb}
 use Rattle.rq_model.specs.declared.txn.Txn.{Txn}
@@ -9,23 +9,18 @@ use Rattle.rq_model.specs.declared.record.Record.TheVariants as records
 use Rattle.rq_model.specs.declared.refusal.Refusal.{Refusal}
 use Rattle.rq_model.specs.declared.refusal.Refusal.TheVariants.{DiskWrite}
 use Rattle.rq_model.specs.Deeds.{deed_in, spelled_deed}
-use Rattle.rq_model.specs.Words.{In}
 use Rattle.rq_model.specs.History.{Call}
-use Rattle.rq_model.specs.History.Call.{Start_close, Begin, Commit, Start_send, Start_receive, Start_receive_from, Step, Finish, Force, Hand_over}
+use Rattle.rq_model.specs.History.Call.{Start_close, Commit, Start_send, Start_receive, Start_receive_from, Step, Finish, Force, Hand_over}
 use Rattle.rq_model.specs.History.Entry.{Refused}
 use Rattle.rq_model.specs.Ledger.{after, found}
 use Rattle.rq_model.specs.Legal.{LegalRefusal}
 use Rattle.rq_model.specs.Tests.{Passes, any_gives, below, gives, log_full}
-use Rattle.rq_model.specs.Replay.Reply.{Gave_sub, Gave_none, Gave_refusal, Gave_lsn, Gave_commit, Gave_forced, Gave_handed_over, Gave_txn}
-use Rattle.rq_page.specs.Sizes.{sender_count, cell_count, directory_at}
-use Rattle.rq_views.specs.Items.{items, layout_of}
-use Rattle.rq_views.specs.Legal.{view}
-use Rattle.rq_views.specs.Plans.{ShowsAt}
+use Rattle.rq_model.specs.Replay.Reply.{Gave_sub, Gave_none, Gave_refusal, Gave_lsn, Gave_commit, Gave_forced, Gave_handed_over}
+use Rattle.rq_page.specs.Sizes.{sender_count}
 use Rattle.rq_views.specs.Log.{put}
 use Rattle.rq_views.specs.Stored.{slots_in}
 use Rattle.rq_page.specs.Slots.{IsSlotOf, held_in}
 use Rattle.rq_level.specs.declared.writes.SlotWrite.{SlotWrite}
-use Rattle.rq_txn.specs.declared.Aim.{Aim}
 use Rattle.rq_txn.specs.declared.Aim.TheVariants.{Doing}
 use Rattle.rq_txn.specs.Rows.{Row, Under, change_row, deed_of, found_row, row_finished, row_started, row_stepped, without_row}
 use Rattle.rq_groups.specs.Sent.{SentBy, sent_count, sent_tag}
@@ -33,13 +28,11 @@ use Rattle.rq_model.specs.Content.{tag_after}
 use Rattle.rq_sound.specs.Calls.{sends_for}
 use Rattle.rq_groups.specs.Ends.{is_free_for, released, with_held}
 use Rattle.rq_groups.specs.Waiting.{waits}
-use Rattle.rq_store.specs.Fitting.{left_by}
 use Rattle.rq_store.specs.Plans.{IsSendPlan, IsTakePlan, NoneWaits, WaitsFor}
 use Rattle.rq_store.specs.State.{State, ledger_of, size_of}
 use Rattle.rq_store.specs.Steps.{IsPutIn, gave_done, op_end, page_op, took}
 use Rattle.rq_store.proofs.RowLists.{found_in}
 use Rattle.rq_engine.specs.Closes.{IsClosePlan}
-use Rattle.rq_sound.specs.Calls.{next_txn}
 use Rattle.rq_sound.specs.Counted.{appends_aim, sends_in, takes_all}
 use Rattle.rq_sound.specs.Plans.{AreUnlatched, IsNew}
 use Rattle.rq_sound.specs.Sound.{IsSound}

@@ -1,20 +1,20 @@
 -- A planned operation as one that is under way, the room that it takes, and which pages are latched.
-use Rattle.std.specs.Prelude.{◌≡◌, ◌⊎◌, ℕ, ◌+◌, ◌*◌, ◌/◌, ◌<◌, ◌≤◌, ◌^◌, Bool, false, List, [], ◌∷◌, true, length}
+use Rattle.std.specs.Prelude.{◌≡◌, ◌⊎◌, ℕ, ◌+◌, ◌*◌, ◌/◌, ◌<◌, ◌≤◌, ◌^◌, Bool, false, List, true, length}
 use Rattle.rq_model.specs.Deeds.{spelled_deed}
 use Rattle.rq_page.specs.Sizes.{Sizes, IsCellAddress, directory_at, sender_count}
 use Rattle.rq_page.specs.Slots.Slot.{Free, Sender}
-use Rattle.rq_views.specs.Log.{Slots}
 use Rattle.rq_views.specs.Plans.{deed_sender}
 use Rattle.rq_level.specs.declared.writes.SlotWrite.{SlotWrite}
 use Rattle.rq_chain.specs.declared.ChainPlan.{ChainPlan as Plan}
 use Rattle.rq_chain.specs.Neighbours.{IsGroupOf, IsNeighbour, cell_beside}
 use Rattle.rq_level.specs.Writes.{AreSlotWrites}
 use Rattle.rq_txn.specs.declared.Aim.TheVariants.{Doing}
-use Rattle.rq_txn.specs.Rows.{Row, Under, deed_of, latched_in}
+use Rattle.rq_txn.specs.Rows.{Under, deed_of, latched_in}
 use Rattle.rq_store.specs.Plans.{Stands_at}
 use Rattle.rq_store.specs.State.{State, owed_by}
 use Rattle.rq_sound.specs.Groups.{slots_now}
 use Rattle.rq_sound.specs.Latching.{AllFreeLatched, any_latched, at_tail, behind_head, named}
+use Rattle.rq_inverses.specs.Found.{AreLatchedBelow, FirstIsLowest}
 use Rattle.rq_engine.specs.Kept.{EndFits, end_bytes}
 use Rattle.rq_engine.specs.declared.cells.SendSlots.{SendSlots}
 
@@ -22,18 +22,9 @@ use Rattle.rq_engine.specs.declared.cells.SendSlots.{SendSlots}
 abbrev pub HasRoom : State → List SlotWrite → Type 0
 HasRoom s ws = length s.records + owed_by s.rows + (length ws + 1) ≤ 2 ^ 50
 
--- each free cell below this one is on a latched page
-abbrev pub AreLatchedBelow : Sizes → Slots → List Row → ℕ → Type 0
-AreLatchedBelow z slots rows a = (b : ℕ) → IsCellAddress z b → b < a → slots b ≡ Free → latched_in rows (b / 16) ≡ true
-
--- and each free cell is
-abbrev pub AreAllLatched : Sizes → Slots → List Row → Type 0
-AreAllLatched z slots rows = (a : ℕ) → IsCellAddress z a → slots a ≡ Free → latched_in rows (a / 16) ≡ true
-
 -- the first of the writes is of the lowest free cell on a page that nobody has latched
 abbrev pub TakesLowest : State → List SlotWrite → Type 0
-TakesLowest s [] = ⊥
-TakesLowest s (w ∷ ws) = AreLatchedBelow s.sizes (slots_now s) s.rows w.at
+TakesLowest s ws = FirstIsLowest s.sizes (slots_now s) s.rows ws
 
 -- a send for the group needs a latched page, or a cell of which none is free on another
 abbrev pub SendIsLatched : State → ℕ → Type 0

@@ -91,7 +91,7 @@ impl<P: PageDevice, L: LogDevice> Engine<P, L> {
         ensures refused { IfErr result (λ r. IsUnready (ledger_of self.now.state) txn true r) }
     {
         self.check_running()?;
-        let Some(row) = self.transactions.get(txn) else {
+        let Some(row) = self.transactions.state(txn) else {
             return Err(Refusal::UnknownTransaction);
         };
         if !row.aborting {
@@ -100,6 +100,6 @@ impl<P: PageDevice, L: LogDevice> Engine<P, L> {
         if row.under_way.is_some() {
             return Err(Refusal::Unfinished);
         }
-        Ok((row.number + 1, row.finished.last().copied()))
+        Ok((row.number + 1, self.transactions.next_undo(txn)))
     }
 }

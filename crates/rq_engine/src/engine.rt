@@ -109,9 +109,11 @@ impl<P: PageDevice + Drop, L: LogDevice + Drop> Engine<P, L> {
         log: Log<L>,
         waiting: Waiting,
         sent: Sent,
+        ends: Ends,
         incarnation: u64,
         cells_in_use: u64,
     ) -> Self
+        requires free { ends ≡ record { sending = []; receiving = [] } }
         requires begun { 1 ≤ incarnation }
         requires running { log.failed ≡ false }
         requires count { length log.records ≤ 2 ^ 50 }
@@ -147,7 +149,7 @@ impl<P: PageDevice + Drop, L: LogDevice + Drop> Engine<P, L> {
             pages,
             log,
             transactions: Transactions::new(alloc),
-            ends: Ends::new(alloc),
+            ends,
             failed: false,
             incarnation,
             begins: 0,
@@ -385,7 +387,7 @@ impl<P: PageDevice, L: LogDevice> Engine<P, L> {
         ensures refused { IfErr result (λ r. IsUnready (ledger_of self.now.state) txn false r) }
     {
         self.check_running()?;
-        let Some(row) = self.transactions.get(txn) else {
+        let Some(row) = self.transactions.state(txn) else {
             return Err(Refusal::UnknownTransaction);
         };
         if row.aborting {

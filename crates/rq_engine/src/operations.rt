@@ -82,7 +82,7 @@ impl<P: PageDevice, L: LogDevice> Engine<P, L> {
         ensures found { MatchOption result (IsNotUnderWay self.now.state sub)
             (λ o. IsUnderWay self.now.state sub (λ r u. u ≡ under_of o.now)) }
     {
-        let row = self.transactions.get(sub.txn)?;
+        let row = self.transactions.state(sub.txn)?;
         match &row.under_way {
             Some(operation) if operation.number == sub.number => Some(operation),
             _ => None,
@@ -166,7 +166,7 @@ impl<P: PageDevice, L: LogDevice> Engine<P, L> {
         shows_size(&record);
         let lsn = self.log.append(&record);
         let finished = Finished { lsn, deed: *deed };
-        self.transactions.finish(sub.txn, finished);
+        self.transactions.note(sub.txn, finished);
         leave_out_taken(&mut self.waiting, deed);
         self.owed -= 1;
     }

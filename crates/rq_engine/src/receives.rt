@@ -239,13 +239,7 @@ impl<P: PageDevice, L: LogDevice> Engine<P, L> {
         ensures none { IfNone result ((at ≡ 0) ⊎ (cell_in (slots_in self.now.state.sizes self.now.state.images at)
             ≡ None)) }
     {
-        if at.is_none() {
-            return None;
-        }
-        match self.pages.cell(at) {
-            Some(cell) => Some(Neighbour { at, cell }),
-            None => None,
-        }
+        rq_inverses::cell_at(&self.pages, at)
     }
 }
 

@@ -17,12 +17,13 @@ ghost use Rattle.rq_engine.specs.Applied.{OnLatched, StartsUnlatched};
 ghost use Rattle.rq_engine.specs.Lists.{IsSendStarted};
 ghost use Rattle.rq_engine.specs.Sends.{under_plan, AreSendSlots, FitsPlan, SendIsLatched, TakesLowest};
 
-use crate::cells::{SendSlots, lowest_free};
+use crate::cells::SendSlots;
 use crate::engine::Engine;
 use crate::starts::{CHAIN_OPERATION, room_of};
 use rq_chain::{ChainPlan, Group, append};
 use rq_disk::{LogDevice, PageDevice};
 use rq_groups::End;
+use rq_inverses::lowest_free;
 use rq_model::limits::LOG_LIMIT;
 use rq_model::message::Body;
 use rq_model::refusal::{Damage, Refusal};

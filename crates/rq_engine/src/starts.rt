@@ -1,5 +1,5 @@
 //! What starts of operations have in common.
-ghost use Rattle.std.specs.Prelude.{◌≡◌, ◌+◌, ◌*◌, ◌<◌, ◌≤◌, IfErr, IfSome, IfNone, None, Some, OnOk, OnErr, false, length};
+ghost use Rattle.std.specs.Prelude.{◌≡◌, ◌+◌, ◌*◌, ◌<◌, ◌≤◌, IfErr, IfSome, IfNone, None, Some, OnOk, OnErr, false, true, length};
 ghost use Rattle.rq_model.specs.Deeds.{deed_in, spelled_deed};
 ghost use Rattle.rq_record.specs.Deeds.{IsDeedInRange};
 ghost use Rattle.rq_model.specs.Tests.{log_full};
@@ -7,7 +7,7 @@ ghost use Rattle.rq_page.specs.Sizes.{IsLink};
 ghost use Rattle.rq_views.specs.Log.{cell_in};
 ghost use Rattle.rq_views.specs.Stored.{slots_in};
 ghost use Rattle.rq_txn.specs.Rows.{change_row, row_started, under_of};
-ghost use Rattle.rq_groups.specs.Sides.{with_end};
+ghost use Rattle.rq_groups.specs.Sides.{is_free_end, with_end};
 ghost use Rattle.rq_chain.specs.Neighbours.{IsNeighbour, cell_beside};
 ghost use Rattle.rq_store.specs.State.{ledger_of};
 ghost use Rattle.rq_sound.specs.Latching.{any_latched, named};
@@ -54,23 +54,14 @@ impl<P: PageDevice, L: LogDevice> Engine<P, L> {
         ensures free { IfNone result ((0 < at) × (cell_in (slots_in self.now.state.sizes self.now.state.images at)
             ≡ None)) }
     {
-        if at.is_none() {
-            return Some(None);
-        }
-        match self.pages.cell(at) {
-            Some(cell) => Some(Some(Neighbour { at, cell })),
-            None => None,
-        }
+        rq_inverses::neighbour(&self.pages, at)
     }
 
     // Whether others have latched the page of the slot that a link names: not where it names none.
     pub(crate) fn is_latched(&self, at: Addr) -> bool
         ensures { result ≡ any_latched self.now.state.rows (named at) }
     {
-        if at.is_none() {
-            return false;
-        }
-        self.transactions.has_latched(at.page())
+        rq_inverses::is_latched(&self.transactions, at)
     }
 
     // Takes the room of an operation, and then lets it begin.
@@ -83,6 +74,7 @@ impl<P: PageDevice, L: LogDevice> Engine<P, L> {
         room: usize,
     ) -> Result<(), Refusal>
         requires ready { HasNothingUnderWay self.old.state txn number }
+        requires free { is_free_end txn end self.old.state.ends ≡ true }
         requires fits { FitsPlan self.old.state.sizes plan room }
         requires log { HasRoom self.old.state plan.writes.items }
         ensures started { OnOk result (self.new.state ≡ record self.old.state {
@@ -105,7 +97,7 @@ impl<P: PageDevice, L: LogDevice> Engine<P, L> {
         match self.launch(txn, operation, room) {
             Ok(()) => Ok(()),
             Err(refusal) => {
-                self.ends.undo_take(end, newly);
+                self.ends.undo_take(txn, end, newly);
                 Err(refusal)
             }
         }

@@ -4,36 +4,30 @@ ghost use Rattle.rq_model.specs.History.Call.{Undo_next};
 ghost use Rattle.rq_model.specs.Tests.{undo_cost};
 ghost use Rattle.rq_model.specs.Commits.{op_of};
 ghost use Rattle.rq_model.specs.Content.{said};
-ghost use Rattle.rq_page.specs.Sizes.{directory_at, sender_count};
-ghost use Rattle.rq_views.specs.Items.{items};
-ghost use Rattle.rq_views.specs.Legal.{view};
+ghost use Rattle.rq_page.specs.Sizes.{sender_count};
 ghost use Rattle.rq_views.specs.Plans.{Undid, deed_sender};
 ghost use Rattle.rq_views.specs.Stored.{slots_in};
 ghost use Rattle.rq_level.specs.Writes.{AreSlotWrites};
-ghost use Rattle.rq_txn.specs.Rows.{change_row, latched_in, row_started};
-ghost use Rattle.rq_sound.specs.Groups.{slots_now};
-ghost use Rattle.rq_sound.specs.Latching.{any_latched, before_tail};
-ghost use Rattle.rq_sound.specs.Plans.{AreUnlatched, IsMarking, IsReceiveBack, IsSendBack, IsPlannedFrom};
+ghost use Rattle.rq_txn.specs.Rows.{change_row, row_started};
+ghost use Rattle.rq_sound.specs.Plans.{AreUnlatched, IsPlannedFrom};
 ghost use Rattle.rq_sound.specs.Sound.{IsSound};
+ghost use Rattle.rq_inverses.specs.Inverses.{MayBeUndone};
 ghost use Rattle.rq_engine.specs.Opened.{LeavesDevices};
 ghost use Rattle.rq_engine.specs.Answers.{AnswersLegally};
 ghost use Rattle.rq_engine.specs.Applied.{TakesUnlatched};
 ghost use Rattle.rq_engine.specs.Kept.{IsDoneKept};
 ghost use Rattle.rq_engine.specs.Receives.{started_of};
-ghost use Rattle.rq_engine.specs.Sends.{HasRoom, TakesLowest};
-ghost use Rattle.rq_engine.specs.Aborts.{HasFree, IsTurnedBack, UndoIsLatched, UndoSays, UndoTakesLowest, AreBackSlots, BackIsLatched, IsFreeGroup, MayBeUndone};
+ghost use Rattle.rq_engine.specs.Sends.{HasRoom};
+ghost use Rattle.rq_engine.specs.Aborts.{IsTurnedBack, UndoIsLatched, UndoSays, UndoTakesLowest};
 
-use crate::cells::{BackSlots, lowest_free};
 use crate::engine::Engine;
 use crate::starts::{CHAIN_OPERATION, MARK_OPERATION};
-use rq_chain::{Group, Neighbour, mark, put_back, unlink_tail};
 use rq_disk::{LogDevice, PageDevice};
+use rq_inverses::plan_inverse;
 use rq_level::SlotWrite;
-use rq_model::message::Body;
 use rq_model::record::{Deed, Record};
-use rq_model::refusal::{Damage, Refusal};
+use rq_model::refusal::Refusal;
 use rq_model::txn::{Sub, Txn};
-use rq_page::addr::Addr;
 use rq_record::{PAGE_OP_BYTES, shows_size, spelled_len};
 use rq_txn::{Aim, Finished, Operation};
 
@@ -125,8 +119,7 @@ impl<P: PageDevice, L: LogDevice> Engine<P, L> {
         self.launch(txn, operation, room)
     }
 
-    // The writes that take back what a finished operation did, from the slots as they are; none where they need a page
-    // that others have latched.
+    // The writes that take back what a finished operation did; none where they need a page that others have latched.
     fn plan_undo(&self, deed: &Deed) -> Result<Option<Vec<SlotWrite>>, Refusal>
         requires { deed_sender deed.now < sender_count self.now.state.sizes }
         // The plan.
@@ -144,188 +137,6 @@ impl<P: PageDevice, L: LogDevice> Engine<P, L> {
         ensures refused { IsSound self.now.state → MayBeUndone self.now.state deed.now
             → IfErr result (λ r. r ≡ Refusal.NoMemory) }
     {
-        match deed {
-            Deed::Append {
-                sender,
-                previous,
-                ..
-            } => self.plan_unlink_tail(*sender, *previous),
-            Deed::UnlinkHead {
-                sender,
-                tag,
-                body,
-                ..
-            } => self.plan_put_back(*sender, *tag, *body),
-            Deed::Close { sender } => self.plan_reopen(*sender),
-        }
+        plan_inverse(self.alloc, &self.pages, &self.transactions, deed)
     }
-
-    // The writes that take the last message off a group's chain; none where they need a page that others have latched.
-    fn plan_unlink_tail(
-        &self,
-        sender: u32,
-        previous: u64,
-    ) -> Result<Option<Vec<SlotWrite>>, Refusal>
-        requires { sender < sender_count self.now.state.sizes }
-        // The plan.
-        ensures plan { IfOk result (λ found. IfSome found (λ writes. IsSendBack self.now.state.sizes
-            (slots_in self.now.state.sizes self.now.state.images) writes.items sender previous)) }
-        ensures slots { IfOk result (λ found. IfSome found (λ writes. AreSlotWrites self.now.state.sizes writes.items)) }
-        // Latches, exactly.
-        ensures free { IfOk result (λ found. IfSome found (λ writes. AreUnlatched self.now.state writes.items)) }
-        ensures unlatched { IfOk result (λ found. IfSome found
-            (λ _. any_latched self.now.state.rows (before_tail (slots_now self.now.state) sender) ≡ false)) }
-        ensures latched { IfOk result (λ found. IfNone found
-            (any_latched self.now.state.rows (before_tail (slots_now self.now.state) sender) ≡ true)) }
-        // Why there is none otherwise.
-        ensures plain { IfErr result (λ r. r ≢ Refusal.Failed) }
-        ensures refused { IsSound self.now.state
-            → 0 < length (view (items self.now.state.sizes self.now.state.records) sender).messages
-            → IfErr result (λ r. r ≡ Refusal.NoMemory) }
-    {
-        let Some(group) = self.free_group(sender) else {
-            return Ok(None);
-        };
-        let directory = &group.directory;
-        if directory.received >= directory.sent {
-            return Err(self.damaged(sender));
-        }
-        if self.is_latched(directory.tail) {
-            return Ok(None);
-        }
-        let Some(tail) = self.cell_at(directory.tail) else {
-            return Err(self.damaged(sender));
-        };
-        if self.is_latched(preceding(&tail)) {
-            return Ok(None);
-        }
-        let Some(front) = self.neighbour(preceding(&tail)) else {
-            return Err(self.damaged(sender));
-        };
-        let layout = self.pages.layout();
-        let writes = unlink_tail(self.alloc, &layout, &group, &tail, front, previous)?;
-        Ok(Some(writes))
-    }
-
-    // The writes that put a message back in front of a group's chain; none where they need a page that others have
-    // latched.
-    fn plan_put_back(
-        &self,
-        sender: u32,
-        tag: u64,
-        body: Body,
-    ) -> Result<Option<Vec<SlotWrite>>, Refusal>
-        requires { sender < sender_count self.now.state.sizes }
-        // The plan.
-        ensures plan { IfOk result (λ found. IfSome found (λ writes. IsReceiveBack self.now.state.sizes
-            (slots_in self.now.state.sizes self.now.state.images) writes.items sender tag body)) }
-        ensures slots { IfOk result (λ found. IfSome found (λ writes. AreSlotWrites self.now.state.sizes writes.items)) }
-        ensures lowest { IfOk result (λ found. IfSome found (λ writes. TakesLowest self.now.state writes.items)) }
-        // Latches, exactly.
-        ensures free { IfOk result (λ found. IfSome found (λ writes. AreUnlatched self.now.state writes.items)) }
-        ensures unlatched { IfOk result (λ found. IfSome found (λ _. BackIsLatched self.now.state sender → ⊥)) }
-        ensures latched { IfOk result (λ found. IfNone found (BackIsLatched self.now.state sender)) }
-        // Why there is none otherwise.
-        ensures plain { IfErr result (λ r. r ≢ Refusal.Failed) }
-        ensures refused { IsSound self.now.state
-            → 0 < (view (items self.now.state.sizes self.now.state.records) sender).received → HasFree self.now.state
-            → IfErr result (λ r. r ≡ Refusal.NoMemory) }
-    {
-        match self.back_slots(sender)? {
-            None => Ok(None),
-            Some(slots) => {
-                let layout = self.pages.layout();
-                let BackSlots { group, head, free } = slots;
-                let writes = put_back(self.alloc, &layout, &group, head, free, tag, body)?;
-                Ok(Some(writes))
-            }
-        }
-    }
-
-    // What a put-back for the group is planned from; none where it needs a page that others have latched.
-    fn back_slots(&self, sender: u32) -> Result<Option<BackSlots>, Refusal>
-        requires { sender < sender_count self.now.state.sizes }
-        ensures slots { IfOk result (λ found. IfSome found (λ slots. AreBackSlots self.now.state sender slots)) }
-        ensures latched { IfOk result (λ found. IfNone found (BackIsLatched self.now.state sender)) }
-        ensures plain { IfErr result (λ r. r ≢ Refusal.Failed) }
-        ensures refused { IsSound self.now.state
-            → 0 < (view (items self.now.state.sizes self.now.state.records) sender).received → HasFree self.now.state
-            → IfErr result (λ r. ⊥) }
-    {
-        let Some(group) = self.free_group(sender) else {
-            return Ok(None);
-        };
-        let directory = &group.directory;
-        if directory.received == 0 {
-            return Err(self.damaged(sender));
-        }
-        if self.is_latched(directory.head) {
-            return Ok(None);
-        }
-        let Some(head) = self.neighbour(directory.head) else {
-            return Err(self.damaged(sender));
-        };
-        let Some(free) = lowest_free(&self.pages, &self.transactions) else {
-            if self.pages.free_cell().is_none() {
-                return Err(self.damaged(sender));
-            }
-            return Ok(None);
-        };
-        Ok(Some(BackSlots { group, head, free }))
-    }
-
-    // The write that opens a closed group again; none where it needs a page that others have latched.
-    fn plan_reopen(&self, sender: u32) -> Result<Option<Vec<SlotWrite>>, Refusal>
-        requires { sender < sender_count self.now.state.sizes }
-        ensures plan { IfOk result (λ found. IfSome found (λ writes. IsMarking self.now.state.sizes
-            (slots_in self.now.state.sizes self.now.state.images) writes.items sender false)) }
-        ensures slots { IfOk result (λ found. IfSome found (λ writes. AreSlotWrites self.now.state.sizes writes.items)) }
-        ensures free { IfOk result (λ found. IfSome found (λ writes. AreUnlatched self.now.state writes.items)) }
-        ensures unlatched { IfOk result (λ found. IfSome found
-            (λ _. latched_in self.now.state.rows (directory_at sender / 16) ≡ false)) }
-        ensures latched { IfOk result (λ found. IfNone found
-            (latched_in self.now.state.rows (directory_at sender / 16) ≡ true)) }
-        ensures refused { IfErr result (λ r. r ≡ Refusal.NoMemory) }
-    {
-        let Some(group) = self.free_group(sender) else {
-            return Ok(None);
-        };
-        let layout = self.pages.layout();
-        let writes = mark(self.alloc, &layout, &group, false)?;
-        Ok(Some(writes))
-    }
-
-    // A sender's directory slot, where nobody has latched its page.
-    fn free_group(&self, sender: u32) -> Option<Group>
-        requires { sender < sender_count self.now.state.sizes }
-        ensures group { IfSome result (λ group. IsFreeGroup self.now.state sender group) }
-        ensures latched { IfNone result (latched_in self.now.state.rows (directory_at sender / 16) ≡ true) }
-    {
-        let at = self.pages.layout().directory_of(sender);
-        if self.transactions.has_latched(at.page()) {
-            return None;
-        }
-        let directory = self.pages.group(sender);
-        Some(Group {
-            at,
-            sender,
-            directory,
-        })
-    }
-
-    // That the page of a sender's directory slot is not as a sound store has it.
-    fn damaged(&self, sender: u32) -> Refusal
-        requires { sender < sender_count self.now.state.sizes }
-        ensures { result ≢ Refusal.Failed }
-    {
-        let at = self.pages.layout().directory_of(sender);
-        Refusal::Damaged(Damage::Page(at.page() as u32))
-    }
-}
-
-// Where the cell before this one stands.
-fn preceding(cell: &Neighbour) -> Addr
-    ensures { result ≡ cell.now.cell.prev }
-{
-    cell.cell.prev
 }

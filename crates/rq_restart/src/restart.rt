@@ -181,6 +181,7 @@ fn reopen<P: PageDevice + Drop, L: LogDevice + Drop>(
         log,
         told.waiting,
         told.sent,
+        told.ends,
         report.incarnation,
         u64::from(cells),
     );

@@ -1,19 +1,21 @@
 //! What the directory of a store in which nothing is open tells of each sender: what waits, and what it sent.
-ghost use Rattle.std.specs.Prelude.{◌≡◌, IfOk};
+ghost use Rattle.std.specs.Prelude.{◌≡◌, [], IfOk};
 ghost use Rattle.rq_pool.specs.Pooled.{IsPool};
 ghost use Rattle.rq_store.specs.Opening.{sent_in_slots, waiting_in};
 
 use rq_disk::PageDevice;
-use rq_groups::{LastTag, Sent, Waiting};
+use rq_groups::{Ends, LastTag, Sent, Waiting};
 use rq_model::refusal::NoMemory;
 use rq_pool::Pages;
 use std::alloc::Global;
 
-/// By sender, how many messages wait, and what its sends come to.
+/// By sender, how many messages wait, and what its sends come to; and the ends, of which none is held.
 #[derive(Drop)]
 pub(crate) struct Told {
     pub waiting: Waiting,
     pub sent: Sent,
+    pub ends: Ends,
+    ghost free: { ends ≡ record { sending = []; receiving = [] } },
 }
 
 /// What the directory tells: of each sender those messages wait that were sent and not received.
@@ -37,5 +39,10 @@ pub(crate) fn told_groups<P: PageDevice + Drop>(
         };
         sent.set(sender, last);
     }
-    Ok(Told { waiting, sent })
+    let ends = Ends::new(alloc, senders)?;
+    Ok(Told {
+        waiting,
+        sent,
+        ends,
+    })
 }

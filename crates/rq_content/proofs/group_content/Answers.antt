@@ -1,5 +1,5 @@
-use Rattle.std.proofs.Common.{rules, ◌≡◌, ◌-◌, ◌++◌, length, map, ◌∙◌}
-use Rattle.rq_txn.specs.Rows.{row_of}
+use Rattle.std.proofs.Common.{rules, ◌≡◌, ◌-◌, ◌++◌, length, reverse, ◌∙◌}
+use Rattle.std.proofs.lemmas.List.{reverse-reverse}
 use Rattle.rq_content.specs.Read.{Before, before_of, or_else, met, cells_in, StopsFor}
 use Rattle.rq_content.proofs.OneRead.{Has, has_read, or_else_is, shown_is, stops_for}
 use Rattle.rq_content.proofs.group_content.Goals as goal
@@ -12,7 +12,7 @@ returns-in_err-add_chain-clause-refused g c =
     let s = c.args.sender in
     let d = c.group-directory.result in
     let b : Before = before_of c.leave_out_rows.new.self in
-    let has : Has z images rows s d b = has_read z images (map row_of c.rows.result.now) rows s d (before_of c.of-earlier.result) b c.group-directory.ensures.held c.of-earlier.ensures c.rows.ensures.rows c.in_ok-leave_out_rows.ensures in
+    let has : Has z images rows s d b = has_read z images (reverse rows) rows s d (before_of c.of-earlier.result) b c.group-directory.ensures.held c.of-earlier.ensures (reverse-reverse rows) c.in_ok-leave_out_rows.ensures in
     let count : c.saturating_sub-count.result ≡ b.sent - d.received = search rules in
     let stops : StopsFor z images rows c.in_err-add_chain.field-0.0 = stops_for z images rows s d b c.saturating_sub-count.result c.in_err-add_chain.field-0.0 has c.requires count c.in_err-add_chain.ensures.refused in
     search (rules, stops)
@@ -25,7 +25,7 @@ returns-clause-read g c =
     let s = c.args.sender in
     let d = c.group-directory.result in
     let b : Before = before_of c.leave_out_rows.new.self in
-    let has : Has z images rows s d b = has_read z images (map row_of c.rows.result.now) rows s d (before_of c.of-earlier.result) b c.group-directory.ensures.held c.of-earlier.ensures c.rows.ensures.rows c.in_ok-leave_out_rows.ensures in
+    let has : Has z images rows s d b = has_read z images (reverse rows) rows s d (before_of c.of-earlier.result) b c.group-directory.ensures.held c.of-earlier.ensures (reverse-reverse rows) c.in_ok-leave_out_rows.ensures in
     let tag : c.unwrap_or.result ≡ or_else b.previous d.last_tag = c.unwrap_or.ensures ∙ or_else_is c.leave_out_rows.new.self.previous d.last_tag in
     let received : c.saturating_sub-received.result ≡ d.received - length b.taken = search rules in
     let count : c.saturating_sub-count.result ≡ b.sent - d.received = search rules in

@@ -1,7 +1,7 @@
-use Rattle.std.proofs.Common.{◌≡◌, ℕ, ◌+◌, ◌-◌, ◌<◌, ◌≤◌, suc, length, sym, ◌∙◌, ap, arith, option_map}
+use Rattle.std.proofs.Common.{◌-◌, sym, ◌∙◌, ap, arith, option_map}
 use Rattle.rq_model.specs.History.Call.{Acknowledge}
 use Rattle.rq_core.specs.Views.{commit_told}
-use Rattle.rq_core.proofs.Courses.{nth_told, none_past}
+use Rattle.rq_core.proofs.Courses.{nth_told}
 use Rattle.rq_core.proofs.world.committed.Goals as goal
 
 pub returns : goal.returns

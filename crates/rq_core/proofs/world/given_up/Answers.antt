@@ -1,4 +1,4 @@
-use Rattle.std.proofs.Common.{subst, ap}
+use Rattle.std.proofs.Common.{subst}
 use Rattle.rq_store.specs.State.{size_of}
 use Rattle.rq_core.specs.Runs.{Ran}
 use Rattle.rq_core.specs.Views.{world_of}

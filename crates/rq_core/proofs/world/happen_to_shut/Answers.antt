@@ -1,4 +1,4 @@
-use Rattle.std.proofs.Common.{◌∷◌, inl, inr, option_map, refl, Some, ap, ◌∙◌, subst, sym}
+use Rattle.std.proofs.Common.{◌∷◌, inl, inr, option_map, refl, ap, ◌∙◌, subst, sym}
 use Rattle.rq_model.specs.History.Call.{Acknowledge}
 use Rattle.rq_engine.specs.Says.{call_of}
 use Rattle.rq_core.specs.Happenings.{acknowledging, nth}

@@ -1,4 +1,4 @@
-use Rattle.std.proofs.Common.{subst, sym, ap, ◌∙◌}
+use Rattle.std.proofs.Common.{subst, sym, ap}
 use Rattle.rq_store.specs.State.{size_of}
 use Rattle.rq_core.specs.Devices.{mem_pages, mem_log}
 use Rattle.rq_model.specs.Ledger.{ledger}

@@ -34,3 +34,8 @@ pub returns-clause-committed : goal.returns-clause-committed
 returns-clause-committed g c =
     let opened = c.in_ok-pages in
     rw c.open-engine.ensures (λ older r. begun_commits older opened.field-0.log (opened.ensures.begun older r))
+
+pub returns-clause-report : goal.returns-clause-report
+returns-clause-report g c =
+    let opened = c.in_ok-pages in
+    rw c.open-engine.ensures (λ older r. opened.ensures.report older r)

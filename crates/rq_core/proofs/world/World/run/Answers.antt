@@ -1,9 +1,6 @@
-use Rattle.std.proofs.Common.{◌+◌, ◌∷◌, ◌++◌, [], length, map, take, get_or, refl, sym, ◌∙◌, ap, subst, arith}
-use Rattle.std.proofs.Math.Seq.{take-suc}
+use Rattle.std.proofs.Common.{◌+◌, ◌∷◌, [], length, map, take, sym, ◌∙◌, ap, subst, arith}
 use Rattle.std.proofs.lemmas.List.{length_push, take_all}
-use Rattle.rq_core.specs.Devices.{mem_pages, mem_log}
-use Rattle.rq_core.specs.Happenings.{course_of}
-use Rattle.rq_core.specs.Runs.{IsHeadline, Ran}
+use Rattle.rq_core.specs.Runs.{Ran}
 use Rattle.rq_core.specs.World.World.{Is_shut}
 use Rattle.rq_core.specs.Views.{answer_in, course, happens, world_of}
 use Rattle.rq_core.proofs.Arms.{begins}

@@ -6,15 +6,15 @@ use Rattle.rq_model.specs.Replay.Reply.{Gave_txn}
 use Rattle.rq_txn.specs.Rows.{fresh_row}
 use Rattle.rq_sound.specs.Steps.{Steps}
 use Rattle.rq_sound.proofs.AbortSteps.{abort_steps}
-use Rattle.rq_engine.proofs.Keeping.{new_number, kept_begun}
+use Rattle.rq_engine.proofs.Keeping.{next_rises, kept_begun}
 use Rattle.rq_engine.proofs.Refusals.{few}
 use Rattle.rq_engine.proofs.Opened.{state_is}
 use Rattle.rq_engine.proofs.Listing.{next_of, begun_lists}
 use Rattle.rq_engine.specs.Lists.{IsBegun}
 use Rattle.rq_engine.proofs.engine.Engine.begin.Goals as goal
 
-pub begin-requires-clause-new : goal.begin-requires-clause-new
-begin-requires-clause-new g c = new_number _ _ _ _ c.self.invariant.kept
+pub begin-requires-clause-rising : goal.begin-requires-clause-rising
+begin-requires-clause-rising g c = next_rises _ _ _ _ c.self.invariant.kept
 
 abbrev next : State → Txn
 next s = record { incarnation = s.incarnation; count = s.begins + 1 }

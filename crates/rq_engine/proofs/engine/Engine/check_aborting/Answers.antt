@@ -1,12 +1,11 @@
-use Rattle.std.proofs.Common.{◌≡◌, ◌-◌, List, length, refl, sym, ap, ◌∙◌, arith, subst}
-use Rattle.std.specs.List.{slice_get}
-use Rattle.rq_model.specs.Words.{In}
+use Rattle.std.proofs.Common.{Option, refl, sym, ap, ◌∙◌, arith, subst}
+use Rattle.rq_model.specs.Words.{In, last}
 use Rattle.rq_txn.specs.declared.Finished.{Finished}
 use Rattle.rq_store.specs.State.{State}
-use Rattle.rq_txn.specs.Rows.{found_row}
+use Rattle.rq_txn.specs.Rows.{Row, finished_of, found_row}
 use Rattle.rq_engine.proofs.Keeping.{kept_at}
 use Rattle.rq_engine.specs.Kept.{IsDoneKept}
-use Rattle.rq_engine.proofs.AbortCalls.{last_get, last_kept, turned_back, back_unknown, not_aborting, back_unfinished, back_ready}
+use Rattle.rq_engine.proofs.AbortCalls.{last_kept, turned_back, back_unknown, not_aborting, back_unfinished, back_ready}
 use Rattle.rq_engine.proofs.Refusals.{some_way, no_way}
 use Rattle.rq_engine.proofs.Opened.{state_is}
 use Rattle.rq_engine.proofs.engine.Engine.check_aborting.Goals as goal
@@ -37,9 +36,9 @@ returns-clause-passes g c =
 pub returns-clause-ready : goal.returns-clause-ready
 returns-clause-ready g c =
     turned_back c.args.self.now.state c.args.txn _ _ (ap (λ (s : State). found_row c.args.txn s.rows) (sym (state_is c.self.view_is)) ∙ c.in-Some.ensures.found)
-    (no_way _ (sym c.if-is_some.ensures), refl, c.if-not-row.false, last_get c.in-Some.row.now.finished.items ∙ sym (c.copied.ensures ∙ c.last.ensures.value ∙ ap (λ (l : List Finished). slice_get l (length l - 1)) c.deref.ensures.value))
+    (no_way _ (sym c.if-is_some.ensures), refl, c.if-not-row.false, sym (c.next_undo.ensures ∙ ap (λ (o : Option Row). last (finished_of o)) c.in-Some.ensures.found))
 
 pub returns-clause-kept : goal.returns-clause-kept
 returns-clause-kept g c =
     let row = kept_at _ _ _ _ c.args.txn _ c.self.invariant.kept c.in-Some.ensures.found in
-    last_kept (λ f. IsDoneKept c.args.self.now.state.sizes f) c.in-Some.row.now.finished.items c.copied.result (last_get c.in-Some.row.now.finished.items ∙ sym (c.copied.ensures ∙ c.last.ensures.value ∙ ap (λ (l : List Finished). slice_get l (length l - 1)) c.deref.ensures.value)) (subst (λ (s : State). (f : Finished) → In f c.in-Some.row.now.finished.items → IsDoneKept s.sizes f) (state_is c.self.view_is) row.done)
+    last_kept (λ f. IsDoneKept c.args.self.now.state.sizes f) c.in-Some.row.now.finished.items c.next_undo.result (sym (c.next_undo.ensures ∙ ap (λ (o : Option Row). last (finished_of o)) c.in-Some.ensures.found)) (subst (λ (s : State). (f : Finished) → In f c.in-Some.row.now.finished.items → IsDoneKept s.sizes f) (state_is c.self.view_is) row.done)

@@ -1,4 +1,4 @@
-use Rattle.std.proofs.Common.{refl, sym, ap, ◌∙◌, false}
+use Rattle.std.proofs.Common.{refl, sym, ap, ◌∙◌}
 use Rattle.rq_txn.specs.Rows.{any_under}
 use Rattle.rq_store.specs.State.{State}
 use Rattle.rq_engine.proofs.Calls.{content_done, content_busy}

@@ -33,7 +33,7 @@ invariant_of-self g c =
     let room : c.append-lsn.new.self.reserved + (30 + length (spelled_deed c.args.deed.now)) ≡ c.self.inside.log.reserved = (let a = c.append-lsn.ensures.reserved in let b = c.shows_size.ensures in omega (arith, a, b, d)) in
     let failed : c.self.inside.log.failed ≡ c.append-lsn.new.self.failed = c.self.invariant.kept.fails (ap (λ (s : State). s.failed) (state_is c.self.view_is) ∙ c.requires.running) ∙ sym c.append-lsn.ensures.failed in
     record {
-      kept = rw (c.finish.ensures, c.leave_out_taken.ensures, c.append-lsn.ensures.records, c.append-lsn.ensures.forced, sym failed)
+      kept = rw (c.note.ensures, c.leave_out_taken.ensures, c.append-lsn.ensures.records, c.append-lsn.ensures.forced, sym failed)
           (end_kept _ _ _ _ c.self.invariant.kept c.args.sub (Doing c.args.deed.now) h c.args.deed.now _ _ c.append-lsn.new.self.reserved room (let l = c.append-lsn.ensures.lsn in let r = ap length c.append-lsn.ensures.records in omega (arith, l, r)) refl);
       durable = rw (c.append-lsn.ensures.settled) c.self.invariant.durable;
     }

@@ -1,5 +1,5 @@
-use Rattle.std.proofs.Common.{◌≡◌, sym, ap, ◌∙◌, subst, arith, false, None}
-use Rattle.rq_model.specs.Tests.{NoneHolds, log_full, ready_tests}
+use Rattle.std.proofs.Common.{◌≡◌, sym, ap, ◌∙◌, subst, arith, None}
+use Rattle.rq_model.specs.Tests.{log_full}
 use Rattle.rq_store.specs.State.{State, ledger_of}
 use Rattle.rq_engine.specs.Aborts.{IsTurnedBack}
 use Rattle.rq_engine.specs.Answers.{HasNothingUnderWay}

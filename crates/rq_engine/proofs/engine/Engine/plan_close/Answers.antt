@@ -1,13 +1,13 @@
 use Rattle.std.proofs.Common.{◌≡◌, ◌/◌, ◌∷◌, [], true, false, sym, ap, ◌∙◌, subst, reverse, refl, arith}
 use Rattle.rq_page.specs.Sizes.{Sizes, directory_at}
-use Rattle.rq_page.specs.Slots.Slot.{Sender}
 use Rattle.rq_views.specs.Items.{layout_of}
 use Rattle.rq_views.specs.Plans.{directory_write}
 use Rattle.rq_views.specs.Stored.{slots_in}
 use Rattle.rq_level.specs.Writes.{writes_of}
 use Rattle.rq_txn.specs.Rows.{latched_in}
 use Rattle.rq_store.specs.State.{State}
-use Rattle.rq_engine.proofs.Latches.{mark_off, one_write}
+use Rattle.rq_inverses.proofs.Planned.{mark_off}
+use Rattle.rq_engine.proofs.Latches.{one_write}
 use Rattle.rq_engine.proofs.Opened.{state_is}
 use Rattle.rq_engine.proofs.engine.Engine.plan_close.Goals as goal
 

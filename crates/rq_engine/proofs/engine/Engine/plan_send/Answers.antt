@@ -1,4 +1,4 @@
-use Rattle.std.proofs.Common.{◌≡◌, sym, ap, ◌∙◌, subst, reverse}
+use Rattle.std.proofs.Common.{◌≡◌, ap, ◌∙◌, subst, reverse}
 use Rattle.rq_page.specs.Sizes.{Sizes}
 use Rattle.rq_views.specs.Items.{layout_of}
 use Rattle.rq_views.specs.Plans.{append_writes}

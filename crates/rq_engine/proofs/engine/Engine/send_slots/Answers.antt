@@ -1,4 +1,4 @@
-use Rattle.std.proofs.Common.{◌≡◌, ℕ, ◌<◌, ◌≤◌, ◌/◌, ◌^◌, true, false, sym, refl, ap, ◌∙◌, subst, arith, inr}
+use Rattle.std.proofs.Common.{◌≡◌, ◌≤◌, ◌/◌, ◌^◌, true, false, sym, refl, ap, ◌∙◌, subst, arith, inr}
 use Rattle.rq_page.specs.Sizes.{IsCellAddress, cell_count, directory_at}
 use Rattle.rq_page.specs.Slots.{IsDirectoryOf}
 use Rattle.rq_page.specs.Slots.Slot.{Sender}
@@ -6,7 +6,7 @@ use Rattle.rq_views.specs.Stored.{slots_in, count_used}
 use Rattle.rq_txn.specs.Rows.{latched_in}
 use Rattle.rq_store.specs.State.{State}
 use Rattle.rq_engine.specs.Kept.{total_of}
-use Rattle.rq_engine.specs.Sends.{AreAllLatched, AreLatchedBelow}
+use Rattle.rq_inverses.specs.Found.{AreAllLatched, AreLatchedBelow}
 use Rattle.rq_engine.proofs.Latches.{directory_latched, tail_latched}
 use Rattle.rq_engine.proofs.SendCalls.{sent_within, tail_there, some_free}
 use Rattle.rq_engine.proofs.Opened.{state_is, unfound_told}

@@ -2,7 +2,7 @@ use Rattle.std.proofs.Common.{false, sym, ap, ◌∙◌, subst}
 use Rattle.rq_model.specs.Tests.{NoneHolds, ready_tests}
 use Rattle.rq_store.specs.State.{State, ledger_of}
 use Rattle.rq_engine.specs.Answers.{HasNothingUnderWay}
-use Rattle.rq_engine.proofs.AbortCalls.{abort_done, abort_kept, refuse_turn}
+use Rattle.rq_engine.proofs.AbortCalls.{abort_done, abort_kept}
 use Rattle.rq_engine.proofs.Calls.{from_inside}
 use Rattle.rq_engine.proofs.Opened.{state_is}
 use Rattle.rq_engine.proofs.engine.Engine.start_abort.Goals as goal

@@ -1,6 +1,5 @@
-use Rattle.std.proofs.Common.{◌≡◌, ◌+◌, ◌≤◌, ap, sym, ◌∙◌, refl, subst, arith, length, ℕ, true, false}
+use Rattle.std.proofs.Common.{◌≡◌, refl, arith, length, ℕ, true, false}
 use Rattle.rq_views.specs.Stored.{slots_in}
-use Rattle.rq_store.specs.State.{State}
 use Rattle.rq_sound.specs.Plans.{AreUnlatched}
 use Rattle.rq_engine.specs.Closes.{IsClosePlan, close_latched}
 use Rattle.rq_engine.specs.Sends.{under_plan}

@@ -1,4 +1,4 @@
-use Rattle.std.proofs.Common.{◌≡◌, arith, length, ◌+◌, ap, sym, ◌∙◌, refl, subst, List, ℕ}
+use Rattle.std.proofs.Common.{arith, ◌+◌, ap, ◌∙◌, refl, subst, List, ℕ}
 use Rattle.rq_store.specs.State.{State}
 use Rattle.rq_engine.proofs.Latches.{send_latched, send_unlatched}
 use Rattle.rq_engine.proofs.Refusals.{no_memory}

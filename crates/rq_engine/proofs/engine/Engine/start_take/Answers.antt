@@ -1,6 +1,4 @@
-use Rattle.std.proofs.Common.{◌≡◌, ◌+◌, ◌≤◌, refl, subst, arith, length}
-use Rattle.rq_model.specs.History.{Call}
-use Rattle.rq_engine.proofs.Refusals.{no_memory}
+use Rattle.std.proofs.Common.{refl, arith}
 use Rattle.rq_engine.proofs.SendCalls.{has_room}
 use Rattle.rq_engine.proofs.TakeCalls.{take_done, take_memory}
 use Rattle.rq_engine.specs.Sends.{under_plan}

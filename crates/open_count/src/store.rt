@@ -1,0 +1,25 @@
+//! The store that is called.
+use rq_disk::{MemLog, MemPages, Switch};
+use rq_engine::engine::Engine;
+use rq_page::layout::Layout;
+use rq_restart::format::format;
+use rq_restart::restart::restart;
+use std::alloc::Global;
+
+/// An engine over devices in memory.
+pub type Store = Engine<MemPages, MemLog>;
+
+/// A store of this layout, formatted and opened.
+pub fn new_engine(alloc: Global, layout: Layout) -> Option<Store> {
+    let switch = Switch::new(alloc).ok()?;
+    let for_log = switch.share().ok()?;
+    let mut pages = MemPages::zeroed(alloc, layout.pages(), switch).ok()?;
+    let log = MemLog::new(alloc, Vec::new(alloc), for_log);
+    if format(&mut pages, &layout).is_err() {
+        return None;
+    }
+    match restart(alloc, pages, log) {
+        Ok((engine, _)) => Some(engine),
+        Err(_) => None,
+    }
+}
