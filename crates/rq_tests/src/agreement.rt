@@ -4,7 +4,6 @@ ghost use Rattle.std.specs.Prelude.{◌≡◌, IfOk};
 
 use crate::calls::{answered, crashed, devices, formatted, given_back, opened};
 use crate::lists;
-use rq_content::GroupContent;
 use rq_disk::{MemLog, MemPages, PageChoice};
 use rq_engine::event::{CommitNo, Event, Outcome, Progress, Reply};
 use rq_model::reference::Reference;
@@ -234,7 +233,7 @@ impl Pair {
         let Reply::Content(groups) = self.ask_engine(Event::Content)? else {
             return Err("no content");
         };
-        if !agree_on_content(&groups, &listed) {
+        if !lists::agree_on_content(&groups, &listed) {
             return Err("the lists hold something else");
         }
         match groups.first() {
@@ -312,9 +311,9 @@ fn stepped(lsn: Option<Lsn>) -> Answer {
     }
 }
 
-fn finished(act: Act) -> Answer {
-    match act {
-        Act::Sent(_) => Answer::Sent,
+fn finished(finished: Option<Act>) -> Answer {
+    match finished {
+        Some(Act::Sent(_)) => Answer::Sent,
         _ => Answer::Other,
     }
 }
@@ -337,26 +336,6 @@ fn answer_of(reply: &Reply) -> Answer {
         Reply::Content(_) => Answer::Content,
         Reply::Refused(refusal) => Answer::Refused(*refusal),
     }
-}
-
-fn agree_on_content(groups: &[GroupContent], listed: &[ListedGroup]) -> bool {
-    if groups.len() != listed.len() {
-        return false;
-    }
-    for (group, of_lists) in groups.iter().zip(listed.iter()) {
-        if !agree_on_group(group, of_lists) {
-            return false;
-        }
-    }
-    true
-}
-
-fn agree_on_group(group: &GroupContent, listed: &ListedGroup) -> bool {
-    group.sent == listed.sent
-        && group.last_tag == listed.last_tag
-        && group.received == listed.received
-        && group.closed == listed.closed
-        && group.rest.as_slice() == listed.rest.as_slice()
 }
 
 // Lists of the store's size, opened.

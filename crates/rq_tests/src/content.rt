@@ -58,7 +58,7 @@ fn open_with(alloc: Global, deeds: &[Deed]) -> Result<Transactions, Fail> {
             lsn: 1,
             deed: *deed,
         };
-        transactions.finish(txn, finished);
+        transactions.note(txn, finished);
     }
     Ok(transactions)
 }

@@ -1,7 +1,9 @@
 //! Courses of several transactions that a seed gives. A course is drawn beside the plain lists, so that most of its
 //! numbers are good.
-use crate::chains::{Chains, PAGES, SENDERS, Seen};
+use crate::chains::{Chains, PAGES, SENDERS, Seen, Tally};
+use crate::moves::Move;
 use crate::random::Random;
+use crate::told::Told;
 use rq_engine::event::Event;
 use rq_model::txn::{Sub, Txn};
 use std::alloc::{AllocError, Global};
@@ -30,6 +32,8 @@ struct Shape {
     closes: u64,
     /// How many senders of each directory page.
     senders: u64,
+    /// One move of so many is a crash, where one may be; none, where this is 0.
+    crashes: u64,
 }
 
 /// A course that is being drawn.
@@ -39,102 +43,183 @@ struct Drawing {
     random: Random,
     shape: Shape,
     chains: Chains,
-    events: Vec<Event>,
+    met: Tally,
+    moves: Vec<Move>,
+    // The places of the commits.
+    commits: Vec<u64>,
 }
 
 /// The course of a seed. At its end every transaction has ended, all is forced and written, and the content is asked
 /// for.
-pub fn drawn(alloc: Global, seed: u64) -> Result<Vec<Event>, AllocError> {
+pub fn drawn(alloc: Global, seed: u64) -> Result<Vec<Move>, AllocError> {
     let mut drawing = Drawing {
         alloc,
         random: Random::new(seed),
         shape: shape_of(seed),
         chains: Chains::new(alloc)?,
-        events: Vec::new(alloc),
+        met: Tally::new(alloc)?,
+        moves: Vec::new(alloc),
+        commits: Vec::new(alloc),
     };
     for _ in 0..drawing.shape.length {
-        let event = drawing.next()?;
-        drawing.add(event)?;
+        let next = drawing.next()?;
+        drawing.add(next)?;
     }
     for _ in 0..END {
         drawing.end_one()?;
     }
     drawing.write_all()?;
-    drawing.add(Event::Content)?;
+    drawing.add(Move::Call(Event::Content))?;
     let Drawing {
         alloc: _,
         random: _,
         shape: _,
         chains: _,
-        events,
+        met: _,
+        moves,
+        commits: _,
     } = drawing;
-    Ok(events)
+    Ok(moves)
 }
 
 // Courses that fill the store, that keep it full, that keep it nearly empty, that have few groups, and that abort often.
 fn shape_of(seed: u64) -> Shape {
-    match seed % 5 {
-        0 => Shape {
-            length: 1200,
-            filling: 700,
-            sends: 30,
-            takes: 12,
-            commits: 4,
-            aborts: 2,
-            closes: 0,
-            senders: 4,
-        },
-        1 => Shape {
-            length: 900,
-            filling: 0,
-            sends: 24,
-            takes: 10,
-            commits: 5,
-            aborts: 2,
-            closes: 0,
-            senders: 3,
-        },
-        2 => Shape {
-            length: 300,
-            filling: 0,
-            sends: 4,
-            takes: 6,
-            commits: 2,
-            aborts: 1,
-            closes: 0,
-            senders: 3,
-        },
-        3 => Shape {
-            length: 500,
-            filling: 0,
-            sends: 9,
-            takes: 6,
-            commits: 2,
-            aborts: 0,
-            closes: 0,
-            senders: 1,
-        },
-        _ => Shape {
-            length: 900,
-            filling: 0,
-            sends: 24,
-            takes: 24,
-            commits: 4,
-            aborts: 4,
-            closes: 2,
-            senders: 7,
+    match seed % 33 {
+        0 => FILLING,
+        1 => FULL,
+        2 => CLOSING,
+        _ => match seed % 3 {
+            0 => NEARLY_EMPTY,
+            1 => FEW_GROUPS,
+            _ => ABORTING,
         },
     }
 }
 
+const FILLING: Shape = Shape {
+    length: 1200,
+    filling: 700,
+    sends: 30,
+    takes: 12,
+    commits: 4,
+    aborts: 2,
+    closes: 0,
+    senders: 4,
+    crashes: 0,
+};
+
+const FULL: Shape = Shape {
+    length: 900,
+    filling: 0,
+    sends: 24,
+    takes: 10,
+    commits: 5,
+    aborts: 2,
+    closes: 0,
+    senders: 3,
+    crashes: 300,
+};
+
+const CLOSING: Shape = Shape {
+    length: 900,
+    filling: 0,
+    sends: 24,
+    takes: 24,
+    commits: 4,
+    aborts: 4,
+    closes: 2,
+    senders: 7,
+    crashes: 0,
+};
+
+const NEARLY_EMPTY: Shape = Shape {
+    length: 160,
+    filling: 0,
+    sends: 4,
+    takes: 6,
+    commits: 2,
+    aborts: 1,
+    closes: 0,
+    senders: 3,
+    crashes: 40,
+};
+
+const FEW_GROUPS: Shape = Shape {
+    length: 200,
+    filling: 0,
+    sends: 9,
+    takes: 6,
+    commits: 2,
+    aborts: 0,
+    closes: 0,
+    senders: 1,
+    crashes: 60,
+};
+
+const ABORTING: Shape = Shape {
+    length: 200,
+    filling: 0,
+    sends: 12,
+    takes: 12,
+    commits: 4,
+    aborts: 4,
+    closes: 1,
+    senders: 5,
+    crashes: 60,
+};
+
 impl Drawing {
-    fn add(&mut self, event: Event) -> Result<(), AllocError> {
-        let _ = self.chains.call(&event, LOWEST)?;
-        self.events.push(event)?;
+    fn add(&mut self, next: Move) -> Result<(), AllocError> {
+        match &next {
+            Move::Call(event) => {
+                if let Told::Committed(_, _) = self.chains.call(event, LOWEST, &mut self.met)? {
+                    self.commits.push(self.moves.len() as u64)?;
+                }
+            }
+            Move::Crash { keep, newest } => {
+                self.chains.crash(*keep, *newest, &mut self.met)?;
+            }
+            Move::Acknowledge(_) => {}
+        }
+        self.moves.push(next)?;
         Ok(())
     }
 
-    fn next(&mut self) -> Result<Event, AllocError> {
+    fn next(&mut self) -> Result<Move, AllocError> {
+        if self.is_crash() {
+            if let Some(crash) = self.crash() {
+                return Ok(crash);
+            }
+        }
+        if self.random.is_first_of(30) {
+            return Ok(Move::Acknowledge(self.commit_place()));
+        }
+        Ok(Move::Call(self.next_call()?))
+    }
+
+    fn is_crash(&mut self) -> bool {
+        self.shape.crashes > 0 && self.random.is_first_of(self.shape.crashes)
+    }
+
+    // Of one of the last commits, most times.
+    fn commit_place(&mut self) -> u64 {
+        let back = self.random.below(4).saturating_add(1);
+        let place = (self.commits.len() as u64).saturating_sub(back);
+        match self.commits.get(place as usize) {
+            Some(place) => *place,
+            None => 0,
+        }
+    }
+
+    // A crash behind which a restart may open the store.
+    fn crash(&mut self) -> Option<Move> {
+        let place = self.random.next();
+        let newest = self.random.is_first_of(2);
+        let keep = self.chains.settled_keep(place)?;
+        Some(Move::Crash { keep, newest })
+    }
+
+    fn next_call(&mut self) -> Result<Event, AllocError> {
         let open = self.chains.open_count();
         if open == 0 || (open < OPEN && self.random.is_first_of(8)) {
             return Ok(Event::Begin);
@@ -189,13 +274,17 @@ impl Drawing {
         }
     }
 
-    // It shows which pages have changed.
+    // A page write shows which pages have changed.
     fn output(&mut self) -> Event {
-        if self.random.is_first_of(3) {
-            Event::Force
-        } else {
-            let bound = u64::from(PAGES).saturating_add(1);
-            Event::WritePage((self.random.below(bound) & 7) as u32)
+        match self.random.below(12) {
+            0 | 1 | 2 => Event::Force,
+            3 => Event::HandOver,
+            4 => Event::Content,
+            5 | 6 => Event::LastTag(self.sender()),
+            _ => {
+                let bound = u64::from(PAGES).saturating_add(1);
+                Event::WritePage((self.random.below(bound) & 7) as u32)
+            }
         }
     }
 
@@ -219,11 +308,12 @@ impl Drawing {
             length: _,
             filling,
             senders: _,
+            crashes: _,
         } = self.shape;
         let commits = sends.saturating_add(commits);
         let takes = commits.saturating_add(takes);
         let aborts = takes.saturating_add(aborts);
-        let all = if (self.events.len() as u64) < filling {
+        let all = if (self.moves.len() as u64) < filling {
             commits
         } else {
             aborts.saturating_add(closes)
@@ -290,9 +380,9 @@ impl Drawing {
     }
 
     fn write_all(&mut self) -> Result<(), AllocError> {
-        self.add(Event::Force)?;
+        self.add(Move::Call(Event::Force))?;
         for page in 0..PAGES {
-            self.add(Event::WritePage(page))?;
+            self.add(Move::Call(Event::WritePage(page)))?;
         }
         Ok(())
     }
@@ -302,12 +392,12 @@ impl Drawing {
         let Some(seen) = self.chains.first_to_go_on() else {
             return Ok(());
         };
-        self.add(match seen.under_way {
+        self.add(Move::Call(match seen.under_way {
             Some((sub, 0)) => Event::Finish(sub),
             Some((sub, _)) => Event::Step(sub),
             None if !seen.aborting => Event::Commit(seen.txn),
             None if seen.has_done => Event::UndoNext(seen.txn),
             None => Event::EndAbort(seen.txn),
-        })
+        }))
     }
 }

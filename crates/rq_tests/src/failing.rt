@@ -1,11 +1,11 @@
 //! Each device call of a run fails once, in turn: it is answered as a failure of the device, every call behind it as of
-//! a failed store, and what was acknowledged outlives the crash that follows.
+//! a failed store, and a crash that follows leaves what was committed and forced, and nothing else.
 use crate::calls::{answered, crashed, devices, formatted, handed_over, opened};
 use rq_content::GroupContent;
 use rq_disk::{MemLog, MemPages, Mishap, PageChoice, Switch};
-use rq_engine::event::{CommitNo, Event, Progress, Reply};
+use rq_engine::event::{CommitNo, Event, Outcome, Progress, Reply};
 use rq_model::refusal::Refusal;
-use rq_model::txn::Txn;
+use rq_model::txn::{Sub, Txn};
 use rq_page::layout::Layout;
 use rq_restart::restart::Stopped;
 use rq_shared::kept::Kept;
@@ -17,29 +17,61 @@ type Trouble = &'static str;
 
 type Store = Kept<MemPages, MemLog>;
 
-/// A call of a run, of the transaction that was begun last, or for the commit that was made last.
+/// A call of a run, of the transaction that was begun last or named since, for the first sender, or for the commit that
+/// was made last.
 #[derive(Clone, Copy)]
 enum Call {
     Begin,
-    Send(&'static [u8]),
-    Receive,
+    /// The calls behind it are of the transaction of this count.
+    As(u64),
+    /// A tag, and the bytes of a body.
+    Send(u64, &'static [u8]),
+    /// A send that is refused, since the group is closed.
+    SendToClosed,
+    /// A receive of these bytes.
+    Receive(&'static [u8]),
+    Close,
+    /// An abort from its start to its end.
+    Abort,
+    StartAbort,
+    /// The inverse of what was done last, from its start to its end.
+    Undo,
+    EndAbort,
     Commit,
-    Acknowledge,
+    /// Whether a receipt is given.
+    Acknowledge(bool),
     HandOver,
     Force,
     Write(u32),
 }
 
-/// The calls of a run up to its crash, the unforced records that outlive it, and what the first sender's group holds
-/// then: messages sent and received by committed transactions, and the bodies of the rest. Of a run with a failed call
-/// that is so where its last commit was acknowledged.
+/// What the first sender's group holds: of committed transactions the messages that they sent, the tag of the last, those
+/// that they received, and whether one closed it; and the bodies of the rest.
+#[derive(Clone, Copy)]
+struct Left {
+    sent: u64,
+    last_tag: u64,
+    received: u64,
+    closed: bool,
+    rest: &'static [&'static [u8]],
+}
+
+/// Before the first commit.
+const NOTHING: Left = Left {
+    sent: 0,
+    last_tag: 0,
+    received: 0,
+    closed: false,
+    rest: &[],
+};
+
+/// The calls of a run up to its crash, the unforced records that outlive it, and what is left then: where no force was
+/// made, and where one was, two were, and so on.
 #[derive(Drop)]
 struct Plan {
     calls: &'static [Call],
     keep: u64,
-    sent: u64,
-    received: u64,
-    rest: &'static [&'static [u8]],
+    left: &'static [Left],
 }
 
 /// A run over devices of which one call fails.
@@ -51,8 +83,8 @@ struct Run {
     failures: u32,
     /// Whether a call of the plan was.
     is_cut: bool,
-    /// Whether the last commit was acknowledged.
-    is_acknowledged: bool,
+    /// How many forces were made.
+    forces: usize,
     txn: Txn,
     number: Option<CommitNo>,
 }
@@ -64,7 +96,7 @@ impl Run {
             switch,
             failures: 0,
             is_cut: false,
-            is_acknowledged: false,
+            forces: 0,
             txn: Txn {
                 incarnation: 0,
                 count: 0,
@@ -112,29 +144,63 @@ impl Run {
         }
     }
 
-    // Makes the calls, up to the first that is refused, which the device has to be the cause of. The store has failed
-    // then.
+    // Makes the calls. The device has to be the cause of the first refusal, and the store has failed then.
     fn make_all(&mut self, store: &mut Store, calls: &[Call]) -> Result<(), Trouble> {
         for call in calls {
-            if let Err(refusal) = self.make(store, *call) {
+            if self.is_cut {
+                self.make_of_failed(store, *call)?;
+            } else if let Err(refusal) = self.make(store, *call) {
                 self.is_cut = true;
                 self.count(refusal)?;
-                return is_failed(store);
+                is_failed(store)?;
             }
         }
         Ok(())
     }
 
+    // A call of a store that failed.
+    fn make_of_failed(&mut self, store: &mut Store, call: Call) -> Result<(), Trouble> {
+        let asks = match call {
+            Call::As(_) => false,
+            Call::Acknowledge(_) => self.number.is_some(),
+            _ => true,
+        };
+        if !asks || self.make(store, call) == Err(Refusal::Failed) {
+            Ok(())
+        } else {
+            Err("a call of a failed store")
+        }
+    }
+
     fn make(&mut self, store: &mut Store, call: Call) -> Result<(), Refusal> {
         match call {
             Call::Begin => self.ask(store, Event::Begin),
-            Call::Send(body) => self.send(store, body),
-            Call::Receive => carry_out(store, Event::StartReceive(self.txn)),
+            Call::As(count) => {
+                self.txn.count = count;
+                Ok(())
+            }
             Call::Commit => self.ask(store, Event::Commit(self.txn)),
-            Call::Acknowledge => self.acknowledge(store),
+            Call::Acknowledge(wanted) => self.acknowledge(store, wanted),
             Call::HandOver => self.ask(store, Event::HandOver),
-            Call::Force => self.ask(store, Event::Force),
+            Call::Force => self.force(store),
             Call::Write(page) => self.ask(store, Event::WritePage(page)),
+            call => self.operate(store, call),
+        }
+    }
+
+    // A call of the transaction that starts an operation, or belongs to its abort.
+    fn operate(&mut self, store: &mut Store, call: Call) -> Result<(), Refusal> {
+        let txn = self.txn;
+        match call {
+            Call::Send(tag, body) => self.send(store, tag, body),
+            Call::SendToClosed => self.send_to_closed(store),
+            Call::Receive(body) => receive(store, txn, body),
+            Call::Close => close(store, txn),
+            Call::Abort => abort(store, txn),
+            Call::StartAbort => self.ask(store, Event::StartAbort(txn)),
+            Call::Undo => undo(store, txn),
+            Call::EndAbort => self.ask(store, Event::EndAbort(txn)),
+            _ => Err(Refusal::UnknownOperation),
         }
     }
 
@@ -148,38 +214,52 @@ impl Run {
         Ok(())
     }
 
-    fn send(&mut self, store: &mut Store, body: &[u8]) -> Result<(), Refusal> {
+    fn force(&mut self, store: &mut Store) -> Result<(), Refusal> {
+        self.ask(store, Event::Force)?;
+        self.forces = self.forces.saturating_add(1);
+        Ok(())
+    }
+
+    fn send(&mut self, store: &mut Store, tag: u64, body: &[u8]) -> Result<(), Refusal> {
         let Ok(body) = Vec::from_slice(self.alloc, body) else {
             return Err(Refusal::NoMemory);
         };
         let start = Event::StartSend {
             txn: self.txn,
             sender: 0,
-            tag: 7,
+            tag,
             body,
         };
-        carry_out(store, start)
+        let reply = carry_out(store, start)?;
+        holding(is_sent(&reply))
     }
 
-    fn acknowledge(&mut self, store: &mut Store) -> Result<(), Refusal> {
+    fn send_to_closed(&mut self, store: &mut Store) -> Result<(), Refusal> {
+        match self.send(store, 2, b"b") {
+            Err(Refusal::Closed) => Ok(()),
+            Err(refusal) => Err(refusal),
+            Ok(()) => Err(Refusal::UnknownOperation),
+        }
+    }
+
+    fn acknowledge(&mut self, store: &mut Store, wanted: bool) -> Result<(), Refusal> {
         let Some(number) = self.number else {
             return Err(Refusal::UnknownTransaction);
         };
         let reply = ask(store, Event::Acknowledged(number))?;
-        self.is_acknowledged = is_given(&reply);
-        Ok(())
+        holding(is_given(&reply) == wanted)
     }
 
     // What is left after a crash: buffered records are handed over, which no failure meets, and so many of the unforced
     // ones outlive it.
-    fn crash(&mut self, store: Store, plan: &Plan) -> Result<(), Trouble> {
+    fn crash(&mut self, store: Store, plan: &Plan, choice: PageChoice) -> Result<(), Trouble> {
         let (pages, log) = handed_over(store, &self.switch);
-        let (pages, log) = crashed(pages, log, PageChoice::Synced, plan.keep);
+        let (pages, log) = crashed(pages, log, choice, plan.keep);
         let mut store = self.open(pages, log)?;
-        if self.is_cut && !self.is_acknowledged {
-            return Ok(());
+        match plan.left.get(self.forces) {
+            Some(left) => is_left(&mut store, left),
+            None => Err("a force too many"),
         }
-        is_left(&mut store, plan)
     }
 }
 
@@ -190,18 +270,117 @@ fn ask(store: &mut Store, event: Event) -> Result<Reply, Refusal> {
     }
 }
 
-// An operation from its start to its end.
-fn carry_out(store: &mut Store, start: Event) -> Result<(), Refusal> {
-    let Reply::Started(sub) = ask(store, start)? else {
-        return Err(Refusal::UnknownOperation);
-    };
+// An operation from its start to its end: what the end is answered.
+fn carry_out(store: &mut Store, start: Event) -> Result<Reply, Refusal> {
+    match ask(store, start)? {
+        Reply::Started(sub) => carry_through(store, sub),
+        _ => Err(Refusal::UnknownOperation),
+    }
+}
+
+fn carry_through(store: &mut Store, sub: Sub) -> Result<Reply, Refusal> {
     for _ in 0..4 {
-        if let Reply::Stepped(Progress::Ready) = ask(store, Event::Step(sub))? {
-            ask(store, Event::Finish(sub))?;
-            return Ok(());
+        if is_ready(store, sub)? {
+            return ask(store, Event::Finish(sub));
         }
     }
     Err(Refusal::Unfinished)
+}
+
+// Makes the next step of an operation. Whether none is left.
+fn is_ready(store: &mut Store, sub: Sub) -> Result<bool, Refusal> {
+    match ask(store, Event::Step(sub))? {
+        Reply::Stepped(Progress::Ready) => Ok(true),
+        _ => Ok(false),
+    }
+}
+
+// That what is wanted of a reply holds.
+fn holding(holds: bool) -> Result<(), Refusal> {
+    if holds {
+        Ok(())
+    } else {
+        Err(Refusal::UnknownOperation)
+    }
+}
+
+fn close(store: &mut Store, txn: Txn) -> Result<(), Refusal> {
+    let reply = carry_out(store, Event::StartClose { txn, sender: 0 })?;
+    holding(is_closed(&reply))
+}
+
+fn undo(store: &mut Store, txn: Txn) -> Result<(), Refusal> {
+    let reply = carry_out(store, Event::UndoNext(txn))?;
+    holding(is_undone(&reply))
+}
+
+fn receive(store: &mut Store, txn: Txn, body: &[u8]) -> Result<(), Refusal> {
+    let reply = carry_out(store, Event::StartReceive(txn))?;
+    holding(is_message(&reply, body))
+}
+
+fn is_sent(reply: &Reply) -> bool {
+    match reply {
+        Reply::Finished(Outcome::Sent) => true,
+        _ => false,
+    }
+}
+
+fn is_closed(reply: &Reply) -> bool {
+    match reply {
+        Reply::Finished(Outcome::Closed) => true,
+        _ => false,
+    }
+}
+
+fn is_undone(reply: &Reply) -> bool {
+    match reply {
+        Reply::Finished(Outcome::Undone) => true,
+        _ => false,
+    }
+}
+
+fn is_message(reply: &Reply, body: &[u8]) -> bool {
+    match reply {
+        Reply::Finished(Outcome::Message(message)) => message.body.as_slice() == body,
+        _ => false,
+    }
+}
+
+fn abort(store: &mut Store, txn: Txn) -> Result<(), Refusal> {
+    ask(store, Event::StartAbort(txn))?;
+    for _ in 0..4 {
+        if is_all_undone(store, txn)? {
+            return end_abort(store, txn);
+        }
+    }
+    Err(Refusal::Unfinished)
+}
+
+// Takes back what the transaction did last. Whether nothing was left.
+fn is_all_undone(store: &mut Store, txn: Txn) -> Result<bool, Refusal> {
+    match ask(store, Event::UndoNext(txn))? {
+        Reply::NothingLeft => Ok(true),
+        Reply::Started(sub) => carry_back(store, sub),
+        _ => Err(Refusal::UnknownOperation),
+    }
+}
+
+// Carries an inverse through. Something may be left then.
+fn carry_back(store: &mut Store, sub: Sub) -> Result<bool, Refusal> {
+    let reply = carry_through(store, sub)?;
+    if is_undone(&reply) {
+        Ok(false)
+    } else {
+        Err(Refusal::UnknownOperation)
+    }
+}
+
+fn end_abort(store: &mut Store, txn: Txn) -> Result<(), Refusal> {
+    match ask(store, Event::EndAbort(txn))? {
+        Reply::Aborted => Ok(()),
+        _ => Err(Refusal::UnknownOperation),
+    }
 }
 
 fn is_given(reply: &Reply) -> bool {
@@ -218,29 +397,31 @@ fn is_failed(store: &mut Store) -> Result<(), Trouble> {
     }
 }
 
-fn is_left(store: &mut Store, plan: &Plan) -> Result<(), Trouble> {
+fn is_left(store: &mut Store, left: &Left) -> Result<(), Trouble> {
     let Ok(Reply::Content(groups)) = ask(store, Event::Content) else {
         return Err("no content");
     };
     match groups.first() {
-        Some(group) if holds(group, plan) => Ok(()),
+        Some(group) if holds(group, left) => Ok(()),
         _ => Err("something else is left"),
     }
 }
 
-fn holds(group: &GroupContent, plan: &Plan) -> bool {
-    group.sent == plan.sent
-        && group.received == plan.received
-        && group.rest.len() == plan.rest.len()
+fn holds(group: &GroupContent, left: &Left) -> bool {
+    group.sent == left.sent
+        && group.last_tag == left.last_tag
+        && group.received == left.received
+        && group.closed == left.closed
+        && group.rest.len() == left.rest.len()
         && group
             .rest
             .iter()
-            .zip(plan.rest.iter())
+            .zip(left.rest.iter())
             .all(|(message, body)| message.body.as_slice() == *body)
 }
 
 // A run whose nth device call fails, through a crash; whether it made so many.
-fn run_failing(alloc: Global, plan: &Plan, n: u64) -> Result<bool, Trouble> {
+fn run_failing(alloc: Global, plan: &Plan, choice: PageChoice, n: u64) -> Result<bool, Trouble> {
     let layout = Layout::new(1, 1).ok_or("a small store")?;
     let (switch, mut pages, log) = devices(alloc, &layout).map_err(|_| "memory")?;
     switch.arm_call(n, Mishap::Fail);
@@ -248,7 +429,7 @@ fn run_failing(alloc: Global, plan: &Plan, n: u64) -> Result<bool, Trouble> {
     run.format(&mut pages, &layout)?;
     let mut store = run.open(pages, log)?;
     run.make_all(&mut store, plan.calls)?;
-    run.crash(store, plan)?;
+    run.crash(store, plan, choice)?;
     let is_met = run.switch.calls() >= n;
     if run.failures != u32::from(is_met) {
         return Err("a failure that nobody told, or one too many");
@@ -256,10 +437,14 @@ fn run_failing(alloc: Global, plan: &Plan, n: u64) -> Result<bool, Trouble> {
     Ok(is_met)
 }
 
-// Each device call of the plan fails in turn; how many there are.
+// Each device call of the plan fails in turn, whichever image of a page the crash leaves; how many there are.
 fn calls_failing(alloc: Global, plan: &Plan) -> Result<u64, Trouble> {
     for n in 1..100 {
-        if !run_failing(alloc, plan, n)? {
+        let newest = run_failing(alloc, plan, PageChoice::Newest, n)?;
+        if run_failing(alloc, plan, PageChoice::Synced, n)? != newest {
+            return Err("a call that depends on the crash");
+        }
+        if !newest {
             return Ok(n - 1);
         }
     }
@@ -273,36 +458,49 @@ fn a_message_that_is_forced(rt: HostRuntime) -> Result<(), Fail> {
     let plan = Plan {
         calls: &[
             Call::Begin,
-            Call::Send(b"hello"),
+            Call::Send(7, b"hello"),
             Call::Commit,
-            Call::Acknowledge,
+            Call::Acknowledge(false),
             Call::Force,
-            Call::Acknowledge,
+            Call::Acknowledge(true),
         ],
         keep: 0,
-        sent: 1,
-        received: 0,
-        rest: &[b"hello"],
+        left: &[
+            NOTHING,
+            Left {
+                sent: 1,
+                last_tag: 7,
+                rest: &[b"hello"],
+                ..NOTHING
+            },
+        ],
     };
     assert!(rt; calls_failing(rt.alloc(), &plan)? >= 18);
     Ok(())
 }
+
+// What the first message of `a` leaves.
+const ONE: Left = Left {
+    sent: 1,
+    last_tag: 1,
+    received: 0,
+    closed: false,
+    rest: &[b"a"],
+};
 
 #[test]
 fn a_receive_that_is_not_forced(rt: HostRuntime) -> Result<(), Fail> {
     let plan = Plan {
         calls: &[
             Call::Begin,
-            Call::Send(b"a"),
+            Call::Send(1, b"a"),
             Call::Commit,
             Call::Begin,
-            Call::Receive,
+            Call::Receive(b"a"),
             Call::Commit,
         ],
         keep: 4,
-        sent: 1,
-        received: 0,
-        rest: &[b"a"],
+        left: &[ONE],
     };
     assert!(rt; calls_failing(rt.alloc(), &plan)? >= 16);
     Ok(())
@@ -314,22 +512,123 @@ fn a_receive_that_is_forced_and_its_pages(rt: HostRuntime) -> Result<(), Fail> {
     let plan = Plan {
         calls: &[
             Call::Begin,
-            Call::Send(b"a"),
+            Call::Send(1, b"a"),
             Call::Commit,
             Call::Begin,
-            Call::Receive,
+            Call::Receive(b"a"),
             Call::HandOver,
             Call::Commit,
             Call::Force,
-            Call::Acknowledge,
+            Call::Acknowledge(true),
             Call::Write(1),
             Call::Write(2),
         ],
         keep: 0,
-        sent: 1,
-        received: 1,
-        rest: &[],
+        left: &[
+            NOTHING,
+            Left {
+                received: 1,
+                rest: &[],
+                ..ONE
+            },
+        ],
     };
     assert!(rt; calls_failing(rt.alloc(), &plan)? >= 21);
+    Ok(())
+}
+
+// A send and a receive are undone beside a message that stays: three forces, five hand-overs and two writes of pages.
+#[test]
+fn aborts_that_are_forced(rt: HostRuntime) -> Result<(), Fail> {
+    let plan = Plan {
+        calls: &[
+            Call::Begin,
+            Call::Begin,
+            Call::Begin,
+            Call::As(1),
+            Call::Send(1, b"a"),
+            Call::HandOver,
+            Call::Commit,
+            Call::Acknowledge(false),
+            Call::Force,
+            Call::Acknowledge(true),
+            Call::As(2),
+            Call::Send(2, b"b"),
+            Call::HandOver,
+            Call::As(3),
+            Call::Receive(b"a"),
+            Call::HandOver,
+            Call::As(2),
+            Call::Abort,
+            Call::HandOver,
+            Call::As(3),
+            Call::StartAbort,
+            Call::Undo,
+            Call::HandOver,
+            Call::EndAbort,
+            Call::Force,
+            Call::Write(1),
+            Call::Write(2),
+            Call::Force,
+        ],
+        keep: 0,
+        left: &[NOTHING, ONE, ONE, ONE],
+    };
+    assert!(rt; calls_failing(rt.alloc(), &plan)? >= 28);
+    Ok(())
+}
+
+// A close is undone and another is committed behind a message, which is received then: three forces, four hand-overs and
+// three writes of pages.
+#[test]
+fn closes_that_are_forced(rt: HostRuntime) -> Result<(), Fail> {
+    let plan = Plan {
+        calls: &[
+            Call::Begin,
+            Call::Begin,
+            Call::Begin,
+            Call::As(1),
+            Call::Close,
+            Call::HandOver,
+            Call::Abort,
+            Call::Force,
+            Call::As(2),
+            Call::Send(1, b"a"),
+            Call::Close,
+            Call::HandOver,
+            Call::SendToClosed,
+            Call::Commit,
+            Call::Acknowledge(false),
+            Call::Force,
+            Call::Acknowledge(true),
+            Call::Write(2),
+            Call::As(3),
+            Call::SendToClosed,
+            Call::Receive(b"a"),
+            Call::HandOver,
+            Call::Commit,
+            Call::HandOver,
+            Call::Force,
+            Call::Acknowledge(true),
+            Call::Write(1),
+            Call::Write(2),
+        ],
+        keep: 0,
+        left: &[
+            NOTHING,
+            NOTHING,
+            Left {
+                closed: true,
+                ..ONE
+            },
+            Left {
+                received: 1,
+                closed: true,
+                rest: &[],
+                ..ONE
+            },
+        ],
+    };
+    assert!(rt; calls_failing(rt.alloc(), &plan)? >= 28);
     Ok(())
 }

@@ -17,6 +17,8 @@ mod failing;
 #[cfg(test)]
 mod lists;
 #[cfg(test)]
+mod moves;
+#[cfg(test)]
 mod random;
 #[cfg(test)]
 mod reference;

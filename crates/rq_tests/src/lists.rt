@@ -1,6 +1,7 @@
 //! Calls of the queue as plain lists for tests. They promise nothing, so that what makes many of them is checked fast.
+use rq_content::GroupContent as ShownGroup;
 use rq_model::reference::Reference;
-use rq_model::reference::rows::{Act, GroupContent};
+use rq_model::reference::rows::{Act, GroupContent, OpenTxn};
 use rq_model::refusal::Refusal;
 use rq_model::txn::{Lsn, Txn};
 use std::alloc::Global;
@@ -25,6 +26,16 @@ pub fn begin(lists: &mut Reference) -> Result<Txn, Refusal> {
     lists.begin()
 }
 
+pub fn may_send(
+    lists: &Reference,
+    txn: Txn,
+    sender: u32,
+    tag: u64,
+    body: &[u8],
+) -> Result<(), Refusal> {
+    lists.may_send(txn, sender, tag, body)
+}
+
 pub fn start_send(
     lists: &mut Reference,
     txn: Txn,
@@ -35,11 +46,55 @@ pub fn start_send(
     lists.start_send(txn, sender, tag, body)
 }
 
+pub fn receivable(lists: &Reference, txn: Txn) -> Result<Vec<u32>, Refusal> {
+    lists.receivable(txn)
+}
+
+pub fn start_receive(
+    lists: &mut Reference,
+    txn: Txn,
+    asked: u32,
+) -> Result<Option<(u32, u64)>, Refusal> {
+    lists.start_receive(txn, asked)
+}
+
+pub fn may_receive_from(lists: &Reference, txn: Txn, sender: u32) -> Result<bool, Refusal> {
+    lists.may_receive_from(txn, sender)
+}
+
+pub fn start_receive_from(
+    lists: &mut Reference,
+    txn: Txn,
+    sender: u32,
+) -> Result<Option<u64>, Refusal> {
+    lists.start_receive_from(txn, sender)
+}
+
+pub fn may_close(lists: &Reference, txn: Txn, sender: u32) -> Result<(), Refusal> {
+    lists.may_close(txn, sender)
+}
+
+pub fn start_close(lists: &mut Reference, txn: Txn, sender: u32) -> Result<u64, Refusal> {
+    lists.start_close(txn, sender)
+}
+
+pub fn undoable(lists: &Reference, txn: Txn) -> Result<Option<Act>, Refusal> {
+    lists.undoable(txn)
+}
+
+pub fn undo_next(lists: &mut Reference, txn: Txn) -> Result<Option<u64>, Refusal> {
+    lists.undo_next(txn)
+}
+
+pub fn end_abort(lists: &mut Reference, txn: Txn) -> Result<(), Refusal> {
+    lists.end_abort(txn)
+}
+
 pub fn step(lists: &mut Reference, txn: Txn, number: u64) -> Result<Option<Lsn>, Refusal> {
     lists.step(txn, number)
 }
 
-pub fn finish(lists: &mut Reference, txn: Txn, number: u64) -> Result<Act, Refusal> {
+pub fn finish(lists: &mut Reference, txn: Txn, number: u64) -> Result<Option<Act>, Refusal> {
     lists.finish(txn, number)
 }
 
@@ -63,6 +118,62 @@ pub fn force(lists: &mut Reference) -> Result<Lsn, Refusal> {
     lists.force()
 }
 
+pub fn last_tag(lists: &Reference, sender: u32) -> Result<(u64, u64), Refusal> {
+    lists.last_tag(sender)
+}
+
 pub fn content(lists: &Reference) -> Result<Vec<GroupContent>, Refusal> {
     lists.content()
+}
+
+/// The transactions that have not ended.
+pub fn open_txns(lists: &Reference) -> &[OpenTxn] {
+    lists.open_txns()
+}
+
+pub fn records(lists: &Reference) -> Lsn {
+    lists.records()
+}
+
+pub fn forced(lists: &Reference) -> Lsn {
+    lists.forced()
+}
+
+pub fn incarnation(lists: &Reference) -> u64 {
+    lists.incarnation()
+}
+
+/// A crash that leaves so many records, where it may.
+pub fn crash(lists: &mut Reference, records: Lsn) {
+    if lists.may_crash(records) {
+        lists.crash(records);
+    }
+}
+
+/// A restart in this incarnation, with so many records, where it may be.
+pub fn restart(lists: &mut Reference, incarnation: u64, records: Lsn) {
+    if lists.may_restart(incarnation, records) {
+        lists.restart(incarnation, records);
+    }
+}
+
+/// Whether a store shows what the lists do.
+pub fn agree_on_content(shown: &[ShownGroup], listed: &[GroupContent]) -> bool {
+    if shown.len() != listed.len() {
+        return false;
+    }
+    for (group, of_lists) in shown.iter().zip(listed.iter()) {
+        if !agree_on_group(group, of_lists) {
+            return false;
+        }
+    }
+    true
+}
+
+fn agree_on_group(shown: &ShownGroup, listed: &GroupContent) -> bool {
+    shown.sent == listed.sent
+        && shown.last_tag == listed.last_tag
+        && shown.received == listed.received
+        && shown.closed == listed.closed
+        && shown.rest.as_slice() == listed.rest.as_slice()
 }

@@ -38,9 +38,9 @@ fn rests_on(queue: &Reference, bytes: &[u8]) -> Result<bool, Fail> {
     Ok(message.body.as_slice() == bytes)
 }
 
-fn sent(act: Act) -> Option<Message> {
-    match act {
-        Act::Sent(message) => Some(message),
+fn sent(finished: Option<Act>) -> Option<Message> {
+    match finished {
+        Some(Act::Sent(message)) => Some(message),
         _ => None,
     }
 }

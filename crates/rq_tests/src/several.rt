@@ -1,91 +1,215 @@
-//! Several operations under way at once: courses that a seed gives, of an engine beside the plain lists. Each answer is
-//! told by the lists, and so is which start is refused for a latched page.
-use crate::calls::{answered, devices, formatted, opened};
-use crate::chains::{Chains, Kind};
+//! Anything that a store is asked, with several operations under way at once, crashes and restarts: courses that a seed
+//! gives, of an engine beside the plain lists. Each answer is told by the lists, and so is which start is refused for a
+//! latched page.
+use crate::calls::{answered, crashed, devices, formatted, handed_over, opened};
+use crate::chains::{Chains, Kind, Tally};
 use crate::drawn::{LOWEST, drawn};
+use crate::moves::Move;
 use crate::told::{Told, told_by};
 use rq_content::GroupContent;
-use rq_disk::{LogDevice, MemLog, MemPages, PageDevice};
-use rq_engine::event::{Event, Reply};
+use rq_disk::{MemLog, MemPages, PageChoice, Switch};
+use rq_engine::event::{CommitNo, Event, Reply};
 use rq_model::refusal::Refusal;
 use rq_model::txn::Sub;
 use rq_page::layout::Layout;
+use rq_restart::restart::Report;
 use rq_shared::kept::Kept;
 use std::alloc::{AllocError, Global};
 use std::test::Fail;
 
 /// How many courses there are, of the seeds from 0.
-const COURSES: u64 = 75;
+const COURSES: u64 = 1000;
 
 /// What has to be met, all courses taken together, and how often at least.
-const WANTED: [(Kind, u64); 42] = [
-    (Kind::Beside, 200),
-    (Kind::HigherCell, 300),
-    (Kind::OtherGroup, 150),
-    (Kind::SendDirectory, 1500),
-    (Kind::SendTail, 600),
-    (Kind::SendCells, 60),
-    (Kind::TakeDirectory, 250),
-    (Kind::TakeHead, 150),
-    (Kind::TakeNext, 15),
-    (Kind::TakeNextOpen, 2),
-    (Kind::TakeAny, 700),
-    (Kind::CloseDirectory, 20),
-    (Kind::Close, 5),
-    (Kind::CloseEmpty, 10),
-    (Kind::Closed, 30),
-    (Kind::SendUndone, 200),
-    (Kind::TakeUndone, 100),
-    (Kind::CloseUndone, 10),
-    (Kind::HigherBack, 30),
-    (Kind::UnsendDirectory, 500),
-    (Kind::UnsendTail, 200),
-    (Kind::UnsendBefore, 10),
-    (Kind::BackDirectory, 200),
-    (Kind::BackHead, 50),
-    (Kind::BackCells, 5),
-    (Kind::ReopenDirectory, 10),
-    (Kind::NothingLeft, 30),
-    (Kind::Aborted, 300),
-    (Kind::EarlyEnd, 100),
-    (Kind::NotOpen, 200),
-    (Kind::NotAborting, 100),
-    (Kind::Full, 400),
-    (Kind::SenderBusy, 2000),
-    (Kind::ReceiverBusy, 300),
-    (Kind::NoMessage, 750),
-    (Kind::NotForced, 400),
-    (Kind::Written, 300),
-    (Kind::Unfinished, 900),
-    (Kind::UnknownTransaction, 200),
-    (Kind::UnknownOperation, 200),
-    (Kind::UnknownSender, 8),
-    (Kind::TooLong, 100),
+const WANTED: [(Kind, u64); 71] = [
+    (Kind::Beside, 1300),
+    (Kind::HigherCell, 1700),
+    (Kind::OtherGroup, 430),
+    (Kind::SendDirectory, 4900),
+    (Kind::SendTail, 1900),
+    (Kind::SendCells, 160),
+    (Kind::TakeDirectory, 650),
+    (Kind::TakeHead, 360),
+    (Kind::TakeNext, 31),
+    (Kind::TakeNextOpen, 19),
+    (Kind::TakeAny, 2400),
+    (Kind::CloseDirectory, 130),
+    (Kind::Close, 38),
+    (Kind::CloseEmpty, 160),
+    (Kind::SendUndone, 1200),
+    (Kind::TakeUndone, 430),
+    (Kind::CloseUndone, 72),
+    (Kind::HigherBack, 90),
+    (Kind::UnsendDirectory, 1900),
+    (Kind::UnsendTail, 820),
+    (Kind::UnsendBefore, 37),
+    (Kind::BackDirectory, 770),
+    (Kind::BackHead, 140),
+    (Kind::BackCells, 12),
+    (Kind::ReopenDirectory, 120),
+    (Kind::EarlyEnd, 610),
+    (Kind::NotAborting, 900),
+    (Kind::Lost, 800),
+    (Kind::SendCut, 500),
+    (Kind::TakeCut, 110),
+    (Kind::CloseCut, 8),
+    (Kind::TwoCut, 50),
+    (Kind::Begun, 12_000),
+    (Kind::SendStarted, 7300),
+    (Kind::TakeStarted, 490),
+    (Kind::AnyTakeStarted, 1600),
+    (Kind::CloseStarted, 200),
+    (Kind::UndoStarted, 1700),
+    (Kind::NoneFrom, 5600),
+    (Kind::NoneOfAny, 4200),
+    (Kind::Stepped, 25_000),
+    (Kind::Ready, 1100),
+    (Kind::Sent, 6600),
+    (Kind::Received, 1900),
+    (Kind::GroupClosed, 190),
+    (Kind::Undone, 1700),
+    (Kind::Committed, 7300),
+    (Kind::Aborting, 2600),
+    (Kind::NothingLeft, 240),
+    (Kind::Aborted, 2400),
+    (Kind::Given, 1500),
+    (Kind::NotGiven, 2500),
+    (Kind::HandedOver, 790),
+    (Kind::Forced, 2700),
+    (Kind::Written, 2400),
+    (Kind::NotWritten, 2900),
+    (Kind::LastTag, 1500),
+    (Kind::Content, 630),
+    (Kind::Opened, 1000),
+    (Kind::UnknownTransaction, 1300),
+    (Kind::NotOpen, 1800),
+    (Kind::Unfinished, 5700),
+    (Kind::ContentUnfinished, 680),
+    (Kind::UnknownSender, 34),
+    (Kind::TooLong, 420),
+    (Kind::SenderBusy, 9100),
+    (Kind::Closed, 200),
+    (Kind::ReceiverBusy, 930),
+    (Kind::Full, 1300),
+    (Kind::NotForced, 1400),
+    (Kind::UnknownOperation, 1300),
 ];
 
-/// The first call that is answered otherwise than it should be, counted from 1.
+type Store = Kept<MemPages, MemLog>;
+
+/// The first move that comes to something else than it should, counted from 1.
 #[derive(Clone, Copy, Debug, PartialEq, Eq)]
 struct Fault {
-    call: u64,
-    answered: Told,
+    place: u64,
+    told: Told,
     wanted: Told,
 }
 
-/// What the engine answered to a course, and the content at its end.
+/// What the moves of a course came to, and each content that was shown. Once a store could not be opened, no move is made.
 #[derive(Drop)]
 struct Answers {
     told: Vec<Told>,
-    content: Vec<GroupContent>,
+    contents: Vec<Vec<GroupContent>>,
 }
 
-// A formatted store of two directory and three cell pages, opened.
-fn wide_store(alloc: Global) -> Result<Kept<MemPages, MemLog>, &'static str> {
-    let layout = Layout::new(2, 3).ok_or("a store")?;
-    let (_, mut pages, log) = devices(alloc, &layout).map_err(|_| "devices")?;
-    formatted(&mut pages, &layout).map_err(|_| "format")?;
-    match opened(alloc, pages, log) {
-        Ok((store, _)) => Ok(store),
-        Err(_) => Err("restart"),
+/// A store through a course.
+#[derive(Drop)]
+struct Course {
+    alloc: Global,
+    switch: Switch,
+    /// None where a restart was refused.
+    store: Option<Store>,
+    /// The number that each move gave, of a commit.
+    numbers: Vec<Option<CommitNo>>,
+    answers: Answers,
+}
+
+impl Course {
+    // A formatted store of two directory and three cell pages, opened.
+    fn open(alloc: Global) -> Result<Course, &'static str> {
+        let layout = Layout::new(2, 3).ok_or("a store")?;
+        let (switch, mut pages, log) = devices(alloc, &layout).map_err(|_| "devices")?;
+        formatted(&mut pages, &layout).map_err(|_| "format")?;
+        let store = match opened(alloc, pages, log) {
+            Ok((store, _)) => store,
+            Err(_) => return Err("restart"),
+        };
+        Ok(Course {
+            alloc,
+            switch,
+            store: Some(store),
+            numbers: Vec::new(alloc),
+            answers: Answers {
+                told: Vec::new(alloc),
+                contents: Vec::new(alloc),
+            },
+        })
+    }
+
+    fn make(&mut self, next: &Move) -> Result<(), AllocError> {
+        let (told, number) = match next {
+            Move::Call(event) => self.call(event.clone()?)?,
+            Move::Acknowledge(place) => (self.acknowledge(*place)?, None),
+            Move::Crash { keep, newest } => (self.crash(*keep, *newest)?, None),
+        };
+        self.answers.told.push(told)?;
+        self.numbers.push(number)?;
+        Ok(())
+    }
+
+    fn call(&mut self, event: Event) -> Result<(Told, Option<CommitNo>), AllocError> {
+        let Some(store) = &mut self.store else {
+            return Ok((Told::Other, None));
+        };
+        let reply = answered(store, 1, event);
+        if wants_memory(&reply) {
+            return Err(AllocError);
+        }
+        let told = told_by(&reply);
+        match reply {
+            Reply::Committed(number) => Ok((told, Some(number))),
+            Reply::Content(groups) => {
+                self.answers.contents.push(groups)?;
+                Ok((told, None))
+            }
+            _ => Ok((told, None)),
+        }
+    }
+
+    fn acknowledge(&mut self, place: u64) -> Result<Told, AllocError> {
+        match self.numbers.get(place as usize).copied() {
+            Some(Some(number)) => Ok(self.call(Event::Acknowledged(number))?.0),
+            _ => Ok(Told::Other),
+        }
+    }
+
+    fn crash(&mut self, keep: u64, newest: bool) -> Result<Told, AllocError> {
+        let Some(store) = self.store.take() else {
+            return Ok(Told::Other);
+        };
+        let (pages, log) = handed_over(store, &self.switch);
+        let choice = if newest {
+            PageChoice::Newest
+        } else {
+            PageChoice::Synced
+        };
+        let (pages, log) = crashed(pages, log, choice, keep);
+        match opened(self.alloc, pages, log) {
+            Ok((store, report)) => {
+                self.store = Some(store);
+                Ok(told_of_opening(&report))
+            }
+            Err(stopped) if stopped.refusal == Refusal::NoMemory => Err(AllocError),
+            Err(stopped) => Ok(Told::Refused(stopped.refusal)),
+        }
+    }
+}
+
+fn told_of_opening(report: &Report) -> Told {
+    Told::Opened {
+        incarnation: report.incarnation,
+        unfinished: report.unfinished,
+        records: report.records,
     }
 }
 
@@ -97,114 +221,125 @@ fn wants_memory(reply: &Reply) -> bool {
     )
 }
 
-fn make_calls<P: PageDevice + Drop, L: LogDevice + Drop>(
-    alloc: Global,
-    store: &mut Kept<P, L>,
-    events: &[Event],
-) -> Result<Answers, AllocError> {
-    let mut told = Vec::new(alloc);
-    let mut content = Vec::new(alloc);
-    for event in events {
-        let reply = answered(store, 1, event.clone()?);
-        if wants_memory(&reply) {
-            return Err(AllocError);
-        }
-        told.push(told_by(&reply))?;
-        if let Reply::Content(groups) = reply {
-            content = groups;
-        }
+fn played(alloc: Global, moves: &[Move]) -> Result<Answers, &'static str> {
+    let mut course = Course::open(alloc)?;
+    for next in moves {
+        course.make(next).map_err(|_| "memory")?;
     }
-    Ok(Answers { told, content })
+    let Course {
+        alloc: _,
+        switch: _,
+        store: _,
+        numbers: _,
+        answers,
+    } = course;
+    Ok(answers)
 }
 
-fn run(alloc: Global, events: &[Event]) -> Result<Answers, &'static str> {
-    let mut store = wide_store(alloc)?;
-    make_calls(alloc, &mut store, events).map_err(|_| "memory")
-}
-
-// The first call of the course that the lists answer otherwise. What is worth counting of each call is added to `met`.
+// The first move of the course that the lists tell otherwise. What is worth counting of each is added to `met`.
 fn compared(
     alloc: Global,
-    events: &[Event],
+    moves: &[Move],
     answers: &Answers,
-    met: &mut Vec<Kind>,
+    met: &mut Tally,
 ) -> Result<Option<Fault>, AllocError> {
     let mut chains = Chains::new(alloc)?;
-    for place in 0..events.len() {
-        if let (Some(event), Some(told)) = (events.get(place), answers.told.get(place)) {
-            let wanted = chains.call(event, picked(events, &answers.told, place))?;
-            met.push(chains.kind())?;
+    let mut shown: usize = 0;
+    for place in 0..moves.len() {
+        if let (Some(next), Some(told)) = (moves.get(place), answers.told.get(place)) {
+            let wanted = wanted_of(&mut chains, next, moves, &answers.told, place, met)?;
             if wanted != *told {
                 return Ok(Some(fault_at(place, *told, wanted)));
             }
+            if wanted == Told::Content {
+                if !is_shown(&chains, answers, shown) {
+                    return Ok(Some(fault_at(place, Told::Other, wanted)));
+                }
+                shown = shown.saturating_add(1);
+            }
         }
     }
-    if answers.told.len() == events.len() && chains.is_content(&answers.content) {
+    if answers.told.len() == moves.len() {
         Ok(None)
     } else {
-        Ok(Some(fault_at(events.len(), Told::Other, Told::Content)))
+        Ok(Some(fault_at(moves.len(), Told::Other, Told::Other)))
     }
 }
 
-fn fault_at(place: usize, answered: Told, wanted: Told) -> Fault {
+fn wanted_of(
+    chains: &mut Chains,
+    next: &Move,
+    moves: &[Move],
+    told: &[Told],
+    place: usize,
+    met: &mut Tally,
+) -> Result<Told, AllocError> {
+    match next {
+        Move::Call(event) => chains.call(event, picked(moves, told, place), met),
+        Move::Acknowledge(n) => match told.get(*n as usize) {
+            Some(Told::Committed(txn, lsn)) if (*n as usize) < place => {
+                Ok(chains.acknowledge(*txn, *lsn, met))
+            }
+            _ => Ok(Told::Other),
+        },
+        Move::Crash { keep, newest } => chains.crash(*keep, *newest, met),
+    }
+}
+
+fn is_shown(chains: &Chains, answers: &Answers, shown: usize) -> bool {
+    match answers.contents.get(shown) {
+        Some(groups) => chains.is_content(groups),
+        None => false,
+    }
+}
+
+fn fault_at(place: usize, told: Told, wanted: Told) -> Fault {
     Fault {
-        call: (place as u64).saturating_add(1),
-        answered,
+        place: (place as u64).saturating_add(1),
+        told,
         wanted,
     }
 }
 
 // The sender that the receive which starts here takes from, as its finish tells: an engine may choose any.
-fn picked(events: &[Event], answers: &[Told], place: usize) -> u32 {
-    let Some(Told::Started(sub)) = answers.get(place).copied() else {
+fn picked(moves: &[Move], told: &[Told], place: usize) -> u32 {
+    let Some(Told::Started(sub)) = told.get(place).copied() else {
         return LOWEST;
     };
-    for later in place..events.len() {
-        if let Some(Told::Message(message)) = answers.get(later) {
-            if is_finish_of(events, later, sub) {
+    for later in place..moves.len() {
+        match told.get(later) {
+            Some(Told::Message(message)) if is_finish_of(moves, later, sub) => {
                 return message.sender;
             }
+            Some(Told::Opened { .. }) => return LOWEST,
+            _ => {}
         }
     }
     LOWEST
 }
 
-fn is_finish_of(events: &[Event], place: usize, sub: Sub) -> bool {
-    match events.get(place) {
-        Some(Event::Finish(finished)) => *finished == sub,
+fn is_finish_of(moves: &[Move], place: usize, sub: Sub) -> bool {
+    match moves.get(place) {
+        Some(Move::Call(Event::Finish(finished))) => *finished == sub,
         _ => false,
     }
 }
 
-fn first_fault(
-    alloc: Global,
-    seed: u64,
-    met: &mut Vec<Kind>,
-) -> Result<Option<Fault>, &'static str> {
-    let events = drawn(alloc, seed).map_err(|_| "memory")?;
-    let answers = run(alloc, &events)?;
-    compared(alloc, &events, &answers, met).map_err(|_| "memory")
-}
-
-fn count(met: &[Kind], kind: Kind) -> u64 {
-    let mut count: u64 = 0;
-    for other in met {
-        if *other == kind {
-            count = count.saturating_add(1);
-        }
-    }
-    count
+fn first_fault(alloc: Global, seed: u64, met: &mut Tally) -> Result<Option<Fault>, &'static str> {
+    let moves = drawn(alloc, seed).map_err(|_| "memory")?;
+    let answers = played(alloc, &moves)?;
+    compared(alloc, &moves, &answers, met).map_err(|_| "memory")
 }
 
 #[test]
-fn several_operations_go_on_at_once(rt: HostRuntime) -> Result<(), Fail> {
-    let mut met = Vec::new(rt.alloc());
+fn courses_are_answered_as_the_lists_answer(rt: HostRuntime) -> Result<(), Fail> {
+    let mut met = Tally::new(rt.alloc())?;
     for seed in 0..COURSES {
         let fault = first_fault(rt.alloc(), seed, &mut met)?;
         assert_eq!(rt; fault, None, "the course of seed {seed}");
     }
     for (kind, least) in WANTED {
-        let count = count(&met, kind);
+        let count = met.count(kind);
         assert!(rt; count >= least, "{kind:?} was met {count} times");
     }
     Ok(())

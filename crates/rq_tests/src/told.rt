@@ -20,12 +20,21 @@ pub enum Told {
     NothingLeft,
     Aborted,
     Committed(Txn, Lsn),
+    /// Whether a receipt was given.
+    Acknowledged(bool),
+    HandedOver,
     Forced(Lsn),
     Written,
     NotWritten,
     Last(LastTag),
     Content,
     Refused(Refusal),
+    /// A store was opened in this incarnation, and so many operations without an end were undone; with so many records.
+    Opened {
+        incarnation: u64,
+        unfinished: u64,
+        records: Lsn,
+    },
     /// What no call of these tests answers.
     Other,
 }
@@ -43,13 +52,14 @@ pub fn told_by(reply: &Reply) -> Told {
         Reply::Aborting => Told::Aborting,
         Reply::NothingLeft => Told::NothingLeft,
         Reply::Aborted => Told::Aborted,
+        Reply::Acknowledged(receipt) => Told::Acknowledged(receipt.is_some()),
+        Reply::HandedOver => Told::HandedOver,
         Reply::Forced(lsn) => Told::Forced(*lsn),
         Reply::Written(Written::Done) => Told::Written,
         Reply::Written(Written::Nothing) => Told::NotWritten,
         Reply::LastTag(last) => Told::Last(*last),
         Reply::Content(_) => Told::Content,
         Reply::Refused(refusal) => Told::Refused(*refusal),
-        _ => Told::Other,
     }
 }
 
