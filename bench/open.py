@@ -1,0 +1,98 @@
+#!/usr/bin/env python3
+"""Times transactions beside 4,095 others that stay open, and beside one; and a receive in a store of 15,000 groups.
+
+Each of the others has begun and done nothing, or has sent, or has received, each for a group of its own. What is timed
+begins, makes one operation for the last group, and commits or aborts it. A run goes through few transactions, and one
+through many; what both have in common is taken off, so that nothing of a store's opening is counted. The ways run by
+turns. The aim is that the many take at most 1.3 times as long as the one, in the middle of the runs.
+
+Build the program before (`rt run` in crates/open_count).
+
+    python3 bench/open.py [--program crates/open_count/out/open_count] [--runs 9] [ROW..]
+"""
+import argparse
+import statistics
+import subprocess
+import sys
+import time
+
+MOST_OPEN = 4095
+AIM = 1.3
+# More than what is open, in whole pages.
+DIRECTORY = 280
+CELLS = 1024
+FEW = 500
+
+
+class Row:
+    """The words of two cases, but for how many transactions: `many` in the longer run of each."""
+
+    def __init__(self, name, base, other, many):
+        self.name = name
+        self.cases = (base, other)
+        self.many = many
+
+
+def beside(kind, other, many):
+    """A kind of transaction beside one other, and beside as many as there may be."""
+    messages = many if kind == "receive" else 0
+    one, most = ([kind, DIRECTORY, CELLS, other, n, messages] for n in (1, MOST_OPEN))
+    return Row(f"{kind} beside {MOST_OPEN} that have {other}, and beside 1", one, most, many)
+
+
+def rows():
+    """All that is compared."""
+    for kind, many in (("send", 6500), ("receive", 6500), ("commit", 50500), ("abort", 6500)):
+        for other in ("begun", "sent", "received"):
+            yield beside(kind, other, many)
+    # The same number of pages; all messages are of the last group.
+    small, large = (["receive", pages, 2000 - pages, "begun", 0, 6500] for pages in (1, 1000))
+    yield Row("receive in 15,000 groups of which one has messages, and in 15", small, large, 6500)
+
+
+def run(program, case, transactions):
+    """Seconds of one run."""
+    words = [str(word) for word in (*case, transactions)]
+    start = time.monotonic()
+    ended = subprocess.run([program, *words], capture_output=True, text=True)
+    seconds = time.monotonic() - start
+    if ended.returncode != 0 or ended.stdout != f"{transactions} transactions\n":
+        sys.exit(f"{program} {words}: status {ended.returncode}, {ended.stdout!r}, {ended.stderr!r}")
+    return seconds
+
+
+def each(program, case, many):
+    """Microseconds a transaction, without what a run of few takes too."""
+    few = run(program, case, FEW)
+    return (run(program, case, many) - few) / (many - FEW) * 1e6
+
+
+def timed(program, row, runs):
+    """The times of both cases, by turns."""
+    times = ([], [])
+    for turn in range(runs):
+        for place in (0, 1) if turn % 2 == 0 else (1, 0):
+            times[place].append(each(program, row.cases[place], row.many))
+    return times
+
+
+def main():
+    parser = argparse.ArgumentParser(description=__doc__, formatter_class=argparse.RawDescriptionHelpFormatter)
+    parser.add_argument("--program", default="crates/open_count/out/open_count")
+    parser.add_argument("--runs", type=int, default=9)
+    parser.add_argument("row", nargs="*", help="words of the rows to be timed; all where there are none")
+    words = parser.parse_args()
+    for row in rows():
+        if words.row and not all(word in row.name.split() for word in words.row):
+            continue
+        base, other = timed(words.program, row, words.runs)
+        middle, best = (f(other) / f(base) for f in (statistics.median, min))
+        print(
+            f"{row.name}: {statistics.median(base):.2f} and {statistics.median(other):.2f} us in the middle of "
+            f"{words.runs} runs, {middle:.2f} times as long, {best:.2f} at best; the aim is {AIM}",
+            flush=True,
+        )
+
+
+if __name__ == "__main__":
+    main()
