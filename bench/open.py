@@ -4,13 +4,16 @@
 Each of the others has begun and done nothing, or has sent, or has received, each for a group of its own. What is timed
 begins, makes one operation for the last group, and commits or aborts it. A run goes through few transactions, and one
 through many; what both have in common is taken off, so that nothing of a store's opening is counted. The ways run by
-turns. The aim is that the many take at most 1.3 times as long as the one, in the middle of the runs.
+turns. The aim is that the many take at most 1.3 times as long as the one, in the middle of the runs. With
+`--instructions` valgrind counts instructions instead, in one run of each: they are the same whatever else the machine
+does.
 
 Build the program before (`rt run` in crates/open_count).
 
-    python3 bench/open.py [--program crates/open_count/out/open_count] [--runs 9] [ROW..]
+    python3 bench/open.py [--program crates/open_count/out/open_count] [--runs 9 | --instructions] [ROW..]
 """
 import argparse
+import re
 import statistics
 import subprocess
 import sys
@@ -22,6 +25,9 @@ AIM = 1.3
 DIRECTORY = 280
 CELLS = 1024
 FEW = 500
+# Where instructions are counted.
+COUNTED_FEW = 100
+COUNTED_MANY = 600
 
 
 class Row:
@@ -67,6 +73,22 @@ def each(program, case, many):
     return (run(program, case, many) - few) / (many - FEW) * 1e6
 
 
+def counted(program, case):
+    """Instructions a transaction, without what a run of few takes too."""
+    return (count(program, case, COUNTED_MANY) - count(program, case, COUNTED_FEW)) / (COUNTED_MANY - COUNTED_FEW)
+
+
+def count(program, case, transactions):
+    """Instructions of one run."""
+    words = [str(word) for word in (*case, transactions)]
+    tool = ["valgrind", "--tool=callgrind", "--callgrind-out-file=/dev/null"]
+    ended = subprocess.run([*tool, program, *words], capture_output=True, text=True)
+    told = re.search(r"Collected : (\d+)", ended.stderr)
+    if ended.returncode != 0 or ended.stdout != f"{transactions} transactions\n" or not told:
+        sys.exit(f"{program} {words}: status {ended.returncode}, {ended.stdout!r}, {ended.stderr!r}")
+    return int(told[1])
+
+
 def timed(program, row, runs):
     """The times of both cases, by turns."""
     times = ([], [])
@@ -80,10 +102,15 @@ def main():
     parser = argparse.ArgumentParser(description=__doc__, formatter_class=argparse.RawDescriptionHelpFormatter)
     parser.add_argument("--program", default="crates/open_count/out/open_count")
     parser.add_argument("--runs", type=int, default=9)
+    parser.add_argument("--instructions", action="store_true")
     parser.add_argument("row", nargs="*", help="words of the rows to be timed; all where there are none")
     words = parser.parse_args()
     for row in rows():
         if words.row and not all(word in row.name.split() for word in words.row):
+            continue
+        if words.instructions:
+            base, other = (counted(words.program, case) for case in row.cases)
+            print(f"{row.name}: {base:.0f} and {other:.0f} instructions, {other / base:.2f} times as many", flush=True)
             continue
         base, other = timed(words.program, row, words.runs)
         middle, best = (f(other) / f(base) for f in (statistics.median, min))
