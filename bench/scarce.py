@@ -1,26 +1,77 @@
 #!/usr/bin/env python3
-"""Runs the scripts of crates/scarce with one allocation failing, each in turn: what it prints has to be the same.
+"""Runs the scripts of crates/scarce with one allocation failing, each in turn: what they print has to be the same.
 
-The program is run before any proof of it, by `rt try`, which takes half a minute a run.
+Build the program before (`rt run` in crates/scarce). A library that the loader puts in front of the C library's has the
+allocation fail; it is built with `cc`.
 
-    python3 bench/scarce.py [FIRST LAST]
+    python3 bench/scarce.py [PROGRAM]
 """
+import os
 import pathlib
 import subprocess
 import sys
+import tempfile
 
 CRATE = pathlib.Path("crates/scarce")
 
+SHIM = """#define _GNU_SOURCE
+#include <dlfcn.h>
+#include <errno.h>
+#include <stddef.h>
+#include <stdio.h>
+#include <stdlib.h>
+
+/* Has the allocation fail whose number is FAIL_AT, from 1. */
+static long made;
+
+static int fails(void) {
+    static long at = -1;
+    if (at < 0) { const char *word = getenv("FAIL_AT"); at = word ? atol(word) : 0; }
+    return ++made == at;
+}
+
+void *malloc(size_t size) {
+    static void *(*next)(size_t);
+    if (!next) next = (void *(*)(size_t)) dlsym(RTLD_NEXT, "malloc");
+    if (fails()) { errno = ENOMEM; return NULL; }
+    return next(size);
+}
+
+void *realloc(void *old, size_t size) {
+    static void *(*next)(void *, size_t);
+    if (!next) next = (void *(*)(void *, size_t)) dlsym(RTLD_NEXT, "realloc");
+    if (fails()) { errno = ENOMEM; return NULL; }
+    return next(old, size);
+}
+
+__attribute__((destructor)) static void tell(void) {
+    fprintf(stderr, "%ld\\n", made);
+}
+"""
+
+
+def run(program, library, number):
+    """Whether it prints what it should where this allocation fails (none of 0), and how many it made."""
+    words = dict(os.environ, LD_PRELOAD=library, FAIL_AT=str(number))
+    ended = subprocess.run([program], env=words, capture_output=True)
+    same = ended.returncode == 0 and ended.stdout == (CRATE / "stdout").read_bytes()
+    return same, int(ended.stderr.split()[-1])
+
 
 def main():
-    first, last = (int(word) for word in sys.argv[1:]) if len(sys.argv) == 3 else (1, 300)
-    wanted = (CRATE / "stdout").read_bytes()
-    for number in range(first, last + 1):
-        words = ["rt", "try", "--fail-alloc", str(number)]
-        ended = subprocess.run(words, cwd=CRATE, capture_output=True)
-        if ended.returncode != 0 or ended.stdout != wanted:
-            sys.exit(f"allocation {number}: status {ended.returncode}, {ended.stdout!r}, {ended.stderr!r}")
-        print(f"allocation {number}: the same", flush=True)
+    program = sys.argv[1] if len(sys.argv) > 1 else str(CRATE / "out" / "scarce")
+    with tempfile.TemporaryDirectory() as folder:
+        source = pathlib.Path(folder) / "shim.c"
+        source.write_text(SHIM)
+        library = str(pathlib.Path(folder) / "shim.so")
+        subprocess.run(["cc", "-O2", "-shared", "-fPIC", "-o", library, str(source), "-ldl"], check=True)
+        same, made = run(program, library, 0)
+        if not same:
+            sys.exit("other lines where no allocation fails")
+        for number in range(1, made + 1):
+            if not run(program, library, number)[0]:
+                sys.exit(f"other lines where allocation {number} fails")
+        print(f"the same lines where each of {made} allocations fails")
 
 
 if __name__ == "__main__":
