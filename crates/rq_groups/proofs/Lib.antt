@@ -1,6 +1,6 @@
 pub mod Chained
-pub mod Flagged
 pub mod Holders
 pub mod Orders
 pub mod Sents
+pub mod Tails
 pub mod Waits
