@@ -131,6 +131,16 @@ pub fn open_txns(lists: &Reference) -> &[OpenTxn] {
     lists.open_txns()
 }
 
+/// The senders whose receiving end the transaction holds, the one that it took last first.
+pub fn received_by(lists: &Reference, txn: Txn) -> &[u32] {
+    for row in lists.open_txns() {
+        if row.txn == txn {
+            return &row.receiving;
+        }
+    }
+    &[]
+}
+
 pub fn records(lists: &Reference) -> Lsn {
     lists.records()
 }
@@ -143,18 +153,22 @@ pub fn incarnation(lists: &Reference) -> u64 {
     lists.incarnation()
 }
 
-/// A crash that leaves so many records, where it may.
-pub fn crash(lists: &mut Reference, records: Lsn) {
-    if lists.may_crash(records) {
+/// A crash that leaves so many records; whether it may.
+pub fn crash(lists: &mut Reference, records: Lsn) -> bool {
+    let may = lists.may_crash(records);
+    if may {
         lists.crash(records);
     }
+    may
 }
 
-/// A restart in this incarnation, with so many records, where it may be.
-pub fn restart(lists: &mut Reference, incarnation: u64, records: Lsn) {
-    if lists.may_restart(incarnation, records) {
+/// A restart in this incarnation, with so many records; whether it may be.
+pub fn restart(lists: &mut Reference, incarnation: u64, records: Lsn) -> bool {
+    let may = lists.may_restart(incarnation, records);
+    if may {
         lists.restart(incarnation, records);
     }
+    may
 }
 
 /// Whether a store shows what the lists do.

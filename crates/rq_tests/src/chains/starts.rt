@@ -60,7 +60,7 @@ impl Chains {
     /// A receive from any group takes from one whose pages are free, if there is one.
     pub(super) fn start_receive(&mut self, txn: Txn, picked: u32) -> Result<Told, Refusal> {
         let groups = lists::receivable(&self.lists, txn)?;
-        let Some(sender) = self.first_free_of(&groups, picked) else {
+        let Some(sender) = self.first_free_of(txn, &groups, picked) else {
             if groups.is_empty() {
                 lists::start_receive(&mut self.lists, txn, picked)?;
                 return Ok(Told::NoMessage);
@@ -78,17 +78,34 @@ impl Chains {
         }
     }
 
-    // The one that was picked, if no page that it needs is latched; else the first such.
-    fn first_free_of(&self, groups: &[u32], picked: u32) -> Option<u32> {
-        if groups.contains(&picked) && self.take_latched(picked).is_none() {
+    // The one that was picked, if no page that it needs is latched; else the first such: the one whose end the transaction
+    // took last, the lowest that nobody holds, another that it holds.
+    fn first_free_of(&self, txn: Txn, groups: &[u32], picked: u32) -> Option<u32> {
+        if self.may_take_from(groups, picked) {
             return Some(picked);
         }
+        let own = lists::received_by(&self.lists, txn);
+        if let Some(newest) = own.first() {
+            if self.may_take_from(groups, *newest) {
+                return Some(*newest);
+            }
+        }
         for sender in groups {
-            if self.take_latched(*sender).is_none() {
+            if !own.contains(sender) && self.may_take_from(groups, *sender) {
+                return Some(*sender);
+            }
+        }
+        for sender in own {
+            if self.may_take_from(groups, *sender) {
                 return Some(*sender);
             }
         }
         None
+    }
+
+    // Whether it is one of the groups, and no page that a receive of it needs is latched.
+    fn may_take_from(&self, groups: &[u32], sender: u32) -> bool {
+        groups.contains(&sender) && self.take_latched(sender).is_none()
     }
 
     pub(super) fn start_receive_from(&mut self, txn: Txn, sender: u32) -> Result<Told, Refusal> {
