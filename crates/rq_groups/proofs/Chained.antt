@@ -1,5 +1,5 @@
 -- The ends of a side as chains: what they tell of each end, and what is left of them after a take, its undoing and a release.
-use Rattle.std.proofs.Common.{◌≡◌, ◌≢◌, ℕ, ◌<◌, Bool, true, false, cond, not, nat_eq, ◌&&◌, ◌||◌, List, [], ◌∷◌, length, drop, take, set, Option, Some, None, refl, sym, ◌∙◌, ap, subst, inl, inr, arith}
+use Rattle.std.proofs.Common.{◌≡◌, ◌≢◌, ◌++◌, ℕ, ◌<◌, Bool, true, false, cond, not, nat_eq, ◌&&◌, ◌||◌, List, [], ◌∷◌, length, drop, take, set, Option, Some, None, refl, sym, ◌∙◌, ap, subst, inl, inr, arith}
 use Rattle.std.specs.Option.{is_some}
 use Rattle.std.proofs.lemmas.List.{get_or-set_same, get_or-set_other, get_or_past, length-set}
 use Rattle.std.proofs.lemmas.Bool.{cases_Bool, cases_eq, cases_lt, and_parts, and_from, eq-eqb, eqb-true, true≢false}
@@ -9,8 +9,8 @@ use Rattle.rq_model.specs.Words.{same_txn, has_number}
 use Rattle.rq_model.proofs.Lists.{same_is, same_self, not_same}
 use Rattle.rq_groups.specs.declared.Held.{Held}
 use Rattle.rq_groups.specs.declared.heads.Head.{Head}
-use Rattle.rq_groups.specs.declared.side.Holding.{Holding}
-use Rattle.rq_groups.specs.Ends.{has_held, is_free_for, held_by, released}
+use Rattle.rq_groups.specs.declared.places.Holding.{Holding}
+use Rattle.rq_groups.specs.Ends.{AreApart, IsTail, first_of, has_held, is_held, is_free_for, held_by, released}
 use Rattle.rq_groups.specs.Heads.{newest_of, IsTurned}
 use Rattle.rq_groups.specs.Chains.{held_at, next_of, IsChain, IsSide, AreEmptied}
 use Rattle.rq_groups.proofs.Holders.{has_is_number, held_first, held_later, held_released_same, held_released_other}
@@ -334,3 +334,74 @@ under_way_over old now newest t chain so c =
 pub none_left : (o : Option ℕ) → ((s : ℕ) → o ≡ Some s → ⊥) → o ≡ None
 none_left None n = refl
 none_left (Some s) n = absurd (n s refl)
+
+-- ---- what a chain tells of the ends of a transaction
+
+pub chain_newest : (ps : Places) (t : Txn) (o : Option ℕ) (ss : List ℕ) → IsChain ps t o ss → o ≡ first_of ss
+chain_newest ps t o [] c = c
+chain_newest ps t o (s ∷ ss) c = c.0
+
+pub chain_apart : (ps : Places) (t : Txn) (o : Option ℕ) (ss : List ℕ) → IsChain ps t o ss → AreApart ss
+chain_apart ps t o [] c = tt
+chain_apart ps t o (s ∷ ss) c = (c.1, chain_apart ps t c.2.0 ss c.2.2)
+
+pub chain_behind : (ps : Places) (t : Txn) (o : Option ℕ) (front older : List ℕ) (s : ℕ) → IsChain ps t o (front ++ s ∷ older) → held_at ps s ≡ Some (record { txn = t; next = first_of older })
+chain_behind ps t o [] older s c = c.2.1 ∙ ap (λ (n : Option ℕ). let h : Holding = record { txn = t; next = n } in Some h) (chain_newest ps t c.2.0 older c.2.2)
+chain_behind ps t o (x ∷ front) older s c = chain_behind ps t c.2.0 front older s c.2.2
+
+-- ---- the ends that somebody holds
+
+held_none : (s : ℕ) (held : List Held) → ((t : Txn) → has_held t s held ≡ false) → is_held s held ≡ false
+held_none s [] n = refl
+held_none s (h ∷ hs) n =
+    elim (cases_Bool (nat_eq h.sender s)) [
+      | inl e ↦ absurd (true≢false (sym (or_first (same_txn h.txn h.txn && nat_eq h.sender s) (has_held h.txn s hs) (and_from (same_txn h.txn h.txn) (nat_eq h.sender s) (same_self h.txn) e)) ∙ n h.txn))
+      | inr f ↦ rw f (held_none s hs (λ t. later (same_txn h.txn t && nat_eq h.sender s) (has_held t s hs) (n t)))
+    ] where
+      later : (a b : Bool) → (a || b) ≡ false → b ≡ false
+      later true b e = absurd (true≢false e)
+      later false b e = e
+
+held_some : (t : Txn) (s : ℕ) (held : List Held) → has_held t s held ≡ true → is_held s held ≡ true
+held_some t s [] e = absurd (true≢false (sym e))
+held_some t s (h ∷ hs) e =
+    elim (cases_Bool (same_txn h.txn t && nat_eq h.sender s)) [
+      | inl b ↦ or_first (nat_eq h.sender s) (is_held s hs) (and_parts (same_txn h.txn t) (nat_eq h.sender s) b).1
+      | inr n ↦ or_later (nat_eq h.sender s) (is_held s hs) (held_some t s hs (rw n at e))
+    ]
+
+pub held_is_some : (ps : Places) (hs : List Head) (held : List Held) (s : ℕ) → IsSide ps hs held → is_some (held_at ps s) ≡ is_held s held
+held_is_some ps hs held s k = at (held_at ps s) refl where
+  at : (o : Option Holding) → held_at ps s ≡ o → is_some (held_at ps s) ≡ is_held s held
+  at None e = ap is_some e ∙ sym (held_none s held (not_held ps hs held k s e))
+  at (Some h) e = ap is_some e ∙ sym (held_some h.txn s held (k.holds s h e))
+
+-- what nobody holds is free, and of what somebody holds the transaction's own
+pub free_none : (t : Txn) (s : ℕ) (held : List Held) → is_held s held ≡ false → is_free_for t s held ≡ true
+free_none t s [] e = refl
+free_none t s (h ∷ hs) e =
+    elim (cases_Bool (nat_eq h.sender s)) [
+      | inl f ↦ absurd (true≢false (sym (or_first (nat_eq h.sender s) (is_held s hs) f) ∙ e))
+      | inr n ↦ and_from (same_txn h.txn t || not (nat_eq h.sender s)) (is_free_for t s hs) (or_later (same_txn h.txn t) (not (nat_eq h.sender s)) (ap not n)) (free_none t s hs (rw n at e))
+    ]
+
+pub free_is_own : (t : Txn) (s : ℕ) (held : List Held) → is_held s held ≡ true → is_free_for t s held ≡ true → has_held t s held ≡ true
+free_is_own t s [] e f = absurd (true≢false (sym e))
+free_is_own t s (h ∷ hs) e f =
+    let p = and_parts (same_txn h.txn t || not (nat_eq h.sender s)) (is_free_for t s hs) f in
+    elim (cases_Bool (nat_eq h.sender s)) [
+      | inl a ↦ or_first (same_txn h.txn t && nat_eq h.sender s) (has_held t s hs) (and_from (same_txn h.txn t) (nat_eq h.sender s) (first (same_txn h.txn t) (nat_eq h.sender s) a p.0) a)
+      | inr n ↦ or_later (same_txn h.txn t && nat_eq h.sender s) (has_held t s hs) (free_is_own t s hs (rw n at e) p.1)
+    ] where
+      first : (a b : Bool) → b ≡ true → (a || not b) ≡ true → a ≡ true
+      first true b e g = refl
+      first false b e g = absurd (true≢false (sym g ∙ ap not e))
+
+pub own_is_free : (ps : Places) (hs : List Head) (held : List Held) (t : Txn) (s : ℕ) → IsSide ps hs held → has_held t s held ≡ true → is_free_for t s held ≡ true
+own_is_free ps hs held t s k h =
+    let a = held_there ps hs held k t s h in
+    free_held ps hs held t s (record { txn = t; next = a.0 }) k a.1 ∙ same_self t
+
+pub chain_split : (ps : Places) (hs : List Head) (held : List Held) (t : Txn) (older : List ℕ) (s : ℕ) → IsSide ps hs held → IsTail (held_by t held) (s ∷ older) → held_at ps s ≡ Some (record { txn = t; next = first_of older })
+chain_split ps hs held t older s k tail =
+    chain_behind ps t (newest_of t hs) tail.0 older s (chain_of ps t (newest_of t hs) (held_by t held) (tail.0 ++ s ∷ older) (sym tail.1) (k.chains t))

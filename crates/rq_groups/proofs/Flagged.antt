@@ -4,8 +4,8 @@ use Rattle.std.specs.Int.{bit_at, bit_not}
 use Rattle.std.proofs.lemmas.Bool.{cases_lt, cases_eq}
 use Rattle.std.proofs.lemmas.List.{length-replicate, get_or-replicate, get_or_past, get_or-set_same, get_or-set_other, get_or_read}
 use Rattle.std.proofs.lemmas.Nat.{shr-shr, shr_below}
-use Rattle.std.proofs.lemmas.Nat.Bits.{bit_at-zero, bit_at_set_same, bit_at_set_other, bit_at_clear_same, bit_at_clear_other, bit_at_above}
-use Rattle.rq_groups.specs.Flags.{flag_at, AreFlags, IsNextFlag, IsNextInWord, OthersStay}
+use Rattle.std.proofs.lemmas.Nat.Bits.{bit_at-zero, bit_at_set_same, bit_at_set_other, bit_at_clear_same, bit_at_clear_other, bit_at_above, bit_at-lt}
+use Rattle.rq_groups.specs.Flags.{flag_at, AreFlags, IsNextApart, IsNextApartInWord, IsNextFlag, IsNextInWord, OthersStay}
 
 replicated : (n w : ℕ) → get_or {A = ℕ} (replicate n 0) w 0 ≡ 0
 replicated n w =
@@ -188,4 +188,92 @@ none_at_all words from w none past k after =
     elim (cases_lt (k / 64) w) [
       | inl earlier ↦ none k after earlier
       | inr here ↦ flag_at-past words k (omega arith)
+    ]
+
+-- ---- the flags that are not set in another list
+
+flag_at-lt : (words : List ℕ) (k : ℕ) → flag_at words k < 2
+unfolding flag_at
+flag_at-lt words k = bit_at-lt (get_or words (k / 64) 0) (k % 64)
+
+-- a flag that is set is one of the list
+pub flag_within : (words : List ℕ) (k : ℕ) → flag_at words k ≡ 1 → k < 64 * length words
+flag_within words k set =
+    elim (cases_lt (k / 64) (length words)) [
+      | inl below ↦ omega arith
+      | inr past ↦ let zero = flag_at-past words k past in absurd (omega arith)
+    ]
+
+-- the bits of a word that are not set in another one
+abbrev pub IsApart : ℕ → ℕ → ℕ → Type 0
+IsApart n word other = (i : ℕ) → bit_at n i ≡ bit_at word i - bit_at other i
+
+apart_rest : (words others : List ℕ) (from n i : ℕ) → IsApart n (get_or words (from / 64) 0) (get_or others (from / 64) 0) → from % 64 + i < 64 → bit_at (n / 2 ^ (from % 64)) i ≡ flag_at words (from + i) - flag_at others (from + i)
+apart_rest words others from n i apart within =
+    let a = flag_at-rest words from i within ∙ bit_at-shifted (get_or words (from / 64) 0) (from % 64) i in
+    let b = flag_at-rest others from i within ∙ bit_at-shifted (get_or others (from / 64) 0) (from % 64) i in
+    let c = bit_at-shifted n (from % 64) i ∙ apart (from % 64 + i) in
+    omega (arith, a, b, c)
+
+pub none_apart_in_word : (words others : List ℕ) (from n : ℕ) → IsApart n (get_or words (from / 64) 0) (get_or others (from / 64) 0) → n / 2 ^ (from % 64) ≡ 0 → IsNextApartInWord words others from None
+none_apart_in_word words others from n apart empty k after here free =
+    let place : from + (k - from) ≡ k = omega arith in
+    let bit = sym (apart_rest words others from n (k - from) apart (omega arith)) ∙ ap (λ m. bit_at m (k - from)) empty ∙ bit_at-zero (k - from) in
+    let a : flag_at words (from + (k - from)) ≡ flag_at words k = ap (flag_at words) place in
+    let b : flag_at others (from + (k - from)) ≡ flag_at others k = ap (flag_at others) place in
+    omega (arith, bit, a, b, free)
+
+pub none_apart_past : (words others : List ℕ) (from : ℕ) → length words ≤ from / 64 → IsNextApartInWord words others from None
+none_apart_past words others from past k after here free = flag_at-past words k (omega arith)
+
+pub next_apart_in_word : (words others : List ℕ) (from n z : ℕ) → IsApart n (get_or words (from / 64) 0) (get_or others (from / 64) 0) → from % 64 + z < 64 → bit_at (n / 2 ^ (from % 64)) z ≡ 1 → ((i : ℕ) → i < z → bit_at (n / 2 ^ (from % 64)) i ≡ 0) → IsNextApart words others from (Some (from + z))
+next_apart_in_word words others from n z apart within one first =
+    let bit = sym (apart_rest words others from n z apart within) ∙ one in
+    let few = flag_at-lt words (from + z) in (
+      omega arith,
+      omega (arith, bit, few),
+      omega (arith, bit, few),
+      λ k after before free.
+          let place : from + (k - from) ≡ k = omega arith in
+          let zero = sym (apart_rest words others from n (k - from) apart (omega arith)) ∙ first (k - from) (omega arith) in
+          let a : flag_at words (from + (k - from)) ≡ flag_at words k = ap (flag_at words) place in
+          let b : flag_at others (from + (k - from)) ≡ flag_at others k = ap (flag_at others) place in
+          omega (arith, zero, a, b, free),
+    )
+
+-- of what is set, all up to this place is set in the others too
+abbrev pub AreWithin : List ℕ → List ℕ → ℕ → ℕ → Type 0
+AreWithin words others from last = (k : ℕ) → from ≤ k → k < last → flag_at others k ≡ 0 → flag_at words k ≡ 0
+
+pub within_next : (words others : List ℕ) (first from place : ℕ) → AreWithin words others first from → IsNextFlag words from (Some place) → AreWithin words others first place
+within_next words others first from place so next k after before free =
+    elim (cases_lt k from) [
+      | inl earlier ↦ so k after earlier free
+      | inr later ↦ next.2 k later before
+    ]
+
+pub within_word : (words others : List ℕ) (first place : ℕ) → AreWithin words others first place → IsNextApartInWord words others place None → AreWithin words others first ((place / 64 + 1) * 64)
+within_word words others first place so none k after before free =
+    elim (cases_lt k place) [
+      | inl earlier ↦ so k after earlier free
+      | inr later ↦ none k later (omega arith) free
+    ]
+
+pub apart_found : (words others : List ℕ) (first place apart : ℕ) → AreWithin words others first place → first ≤ place → IsNextApart words others place (Some apart) → IsNextApart words others first (Some apart)
+apart_found words others first place apart so from next = (
+  omega (arith, next.0),
+  next.1,
+  next.2,
+  λ k after before free.
+      elim (cases_lt k place) [
+        | inl earlier ↦ so k after earlier free
+        | inr later ↦ next.3 k later before free
+      ],
+)
+
+pub apart_none : (words others : List ℕ) (first from : ℕ) → AreWithin words others first from → IsNextFlag words from None → IsNextApart words others first None
+apart_none words others first from so none k after free =
+    elim (cases_lt k from) [
+      | inl earlier ↦ so k after earlier free
+      | inr later ↦ none k later
     ]

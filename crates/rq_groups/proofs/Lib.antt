@@ -3,4 +3,5 @@ pub mod Flagged
 pub mod Holders
 pub mod Orders
 pub mod Sents
+pub mod Tails
 pub mod Waits

@@ -1,5 +1,5 @@
 -- The heads of transactions: their order, and what is found after one of them changed.
-use Rattle.std.proofs.Common.{◌≡◌, ◌⊎◌, ℕ, zero, suc, ◌<◌, ◌≤◌, Bool, true, false, cond, nat_eq, ltb, ◌&&◌, ◌||◌, List, [], ◌∷◌, ◌++◌, length, take, drop, set, get_or, Option, Some, None, refl, sym, ◌∙◌, ap, subst, inl, inr, arith}
+use Rattle.std.proofs.Common.{◌≡◌, ◌⊎◌, ℕ, ◌-◌, zero, suc, ◌<◌, ◌≤◌, Bool, true, false, cond, nat_eq, ltb, ◌&&◌, ◌||◌, List, [], ◌∷◌, ◌++◌, length, take, drop, set, get_or, Option, Some, None, refl, sym, ◌∙◌, ap, subst, inl, inr, arith}
 use Rattle.std.proofs.lemmas.List.{take-append-drop, take-set-le, drop-set-lt, length-set, get_or-set_same}
 use Rattle.std.proofs.Math.Seq.{drop-cons}
 use Rattle.std.proofs.lemmas.Bool.{cases_Bool, cases_eq, cases_lt, lt-ltb, eq-eqb, and_from, true≢false}
@@ -262,4 +262,29 @@ pub turned_none : (hs : List Head) (t : Txn) (i : ℕ) → AreInOrder hs → IsG
 turned_none hs t i o gap = record {
   order = o;
   each = λ u. cond_same (same_txn t u) None (newest_of u hs) (λ e. sym (ap (λ w. newest_of w hs) (sym (same_is t u e)) ∙ found_none hs t i gap));
+}
+
+-- ---- the last head
+
+get_or_any : (hs : List Head) (i : ℕ) (d e : Head) → i < length hs → get_or hs i d ≡ get_or hs i e
+get_or_any [] i d e lt = absurd (omega arith)
+get_or_any (h ∷ hs) zero d e lt = refl
+get_or_any (h ∷ hs) (suc i) d e lt = get_or_any hs i d e (omega arith)
+
+pub gap_at_end : (hs : List Head) (t : Txn) (d : Head) → AreInOrder hs → (1 ≤ length hs → is_before (get_or hs (length hs - 1) d).txn t ≡ true) → IsGap hs t (length hs)
+gap_at_end hs t d order earlier = record {
+  within = omega arith;
+  before = in_take hs (length hs) (λ h. is_before h.txn t ≡ true) (λ k e lt l.
+      elim (cases_eq k (length hs - 1)) [
+        | inl last ↦ ap (λ i. is_before (get_or hs i e).txn t) last ∙ ap (λ (h : Head). is_before h.txn t) (get_or_any hs (length hs - 1) e d (omega arith)) ∙ earlier (omega arith)
+        | inr other ↦ before_trans (get_or hs k e).txn (get_or hs (length hs - 1) e).txn t (order_pair hs k (length hs - 1) e order (omega arith) (omega arith)) (ap (λ (h : Head). is_before h.txn t) (get_or_any hs (length hs - 1) e d (omega arith)) ∙ earlier (omega arith))
+      ]);
+  after = in_drop hs (length hs) (λ h. is_before t h.txn ≡ true) (λ k e ge l. absurd (omega arith));
+}
+
+pub at_end : (hs : List Head) (t : Txn) (d : Head) → AreInOrder hs → 1 ≤ length hs → (get_or hs (length hs - 1) d).txn ≡ t → IsAt hs t (length hs - 1)
+at_end hs t d order some own = record {
+  within = omega arith;
+  before = in_take hs (length hs - 1) (λ h. is_before h.txn t ≡ true) (λ k e lt l. subst (λ u. is_before (get_or hs k e).txn u ≡ true) (ap (λ (h : Head). h.txn) (get_or_any hs (length hs - 1) e d (omega arith)) ∙ own) (order_pair hs k (length hs - 1) e order lt (omega arith)));
+  own = λ e. ap (λ (h : Head). h.txn) (get_or_any hs (length hs - 1) e d (omega arith)) ∙ own;
 }

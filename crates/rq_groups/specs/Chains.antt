@@ -4,7 +4,7 @@ use Rattle.rq_model.specs.declared.txn.Txn.{Txn}
 use Rattle.rq_model.specs.Words.{has_number}
 use Rattle.rq_groups.specs.declared.Held.{Held}
 use Rattle.rq_groups.specs.declared.heads.Head.{Head}
-use Rattle.rq_groups.specs.declared.side.Holding.{Holding}
+use Rattle.rq_groups.specs.declared.places.Holding.{Holding}
 use Rattle.rq_groups.specs.Ends.{has_held, held_by}
 use Rattle.rq_groups.specs.Heads.{AreInOrder, newest_of}
 

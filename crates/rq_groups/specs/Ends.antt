@@ -1,8 +1,8 @@
 -- Who holds which ends of groups.
-use Rattle.std.specs.Prelude.{ℕ, Bool, true, false, cond, not, nat_eq, ◌&&◌, ◌||◌, List, [], ◌∷◌}
+use Rattle.std.specs.Prelude.{◌≡◌, ◌++◌, Option, Some, None, ℕ, Bool, true, false, cond, not, nat_eq, ◌&&◌, ◌||◌, List, [], ◌∷◌}
 use Rattle.std.specs.List.{filter}
 use Rattle.rq_model.specs.declared.txn.Txn.{Txn}
-use Rattle.rq_model.specs.Words.{same_txn}
+use Rattle.rq_model.specs.Words.{has_number, same_txn}
 use Rattle.rq_groups.specs.declared.Held.{Held}
 
 -- the ends held, the newest first
@@ -20,6 +20,11 @@ abbrev pub is_free_for : Txn → ℕ → List Held → Bool
 is_free_for t s [] = true
 is_free_for t s (h ∷ hs) = (same_txn h.txn t || not (nat_eq h.sender s)) && is_free_for t s hs
 
+-- somebody holds the end of s
+abbrev pub is_held : ℕ → List Held → Bool
+is_held s [] = false
+is_held s (h ∷ hs) = nat_eq h.sender s || is_held s hs
+
 -- t holds the end of s too
 abbrev pub with_held : Txn → ℕ → List Held → List Held
 with_held t s hs = cond (has_held t s hs) hs (record { txn = t; sender = s } ∷ hs)
@@ -32,3 +37,16 @@ held_by t (h ∷ hs) = cond (same_txn h.txn t) (h.sender ∷ held_by t hs) (held
 -- the ends that others hold
 abbrev pub released : Txn → List Held → List Held
 released t hs = filter (λ h. not (same_txn h.txn t)) hs
+
+abbrev pub first_of : List ℕ → Option ℕ
+first_of [] = None
+first_of (s ∷ ss) = Some s
+
+-- the list ends with these
+abbrev pub IsTail : List ℕ → List ℕ → Type 0
+IsTail ss rest = (front : List ℕ) × (front ++ rest ≡ ss)
+
+-- no number stands in the list twice
+abbrev pub AreApart : List ℕ → Type 0
+AreApart [] = Unit {0}
+AreApart (s ∷ ss) = (has_number s ss ≡ false) × AreApart ss

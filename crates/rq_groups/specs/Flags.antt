@@ -1,6 +1,9 @@
 -- A flag for each place, 64 to a word, the lowest bit first.
-use Rattle.std.specs.Prelude.{◌≡◌, ◌≢◌, ℕ, ◌/◌, ◌%◌, ◌<◌, ◌≤◌, min, List, Option, Some, None, slice_index}
+use Rattle.std.specs.Prelude.{◌≡◌, ◌≢◌, ℕ, ◌/◌, ◌%◌, ◌<◌, ◌≤◌, cond, min, List, Option, Some, None, slice_index}
+use Rattle.std.specs.Option.{is_some}
 use Rattle.std.specs.Int.{bit_at}
+use Rattle.rq_groups.specs.declared.places.Holding.{Holding}
+use Rattle.rq_groups.specs.Chains.{held_at}
 
 -- the flag at a place: 1 where it is set, 0 where it is not and beyond the end
 unfoldable pub flag_at : List ℕ → ℕ → ℕ
@@ -20,6 +23,22 @@ IsNextFlag words from (Some place) = (from ≤ place) × (flag_at words place �
 abbrev pub IsNextInWord : List ℕ → ℕ → Option ℕ → Type 0
 IsNextInWord words from None = (k : ℕ) → from ≤ k → k / 64 ≡ from / 64 → flag_at words k ≡ 0
 IsNextInWord words from (Some place) = IsNextFlag words from (Some place)
+
+-- a flag is set exactly where somebody holds the end of its place
+abbrev pub AreHolders : List ℕ → List (Option Holding) → Type 0
+AreHolders words places = (k : ℕ) → flag_at words k ≡ cond (is_some (held_at places k)) 1 0
+
+-- the least flag at or after this place that is set in the one and not in the other
+abbrev pub IsNextApart : List ℕ → List ℕ → ℕ → Option ℕ → Type 0
+IsNextApart words others from None = (k : ℕ) → from ≤ k → flag_at others k ≡ 0 → flag_at words k ≡ 0
+IsNextApart words others from (Some place) = (from ≤ place) × (flag_at words place ≡ 1) × (flag_at others place ≡ 0)
+    × ((k : ℕ) → from ≤ k → k < place → flag_at others k ≡ 0 → flag_at words k ≡ 0)
+
+-- the same, in the word of this place alone
+abbrev pub IsNextApartInWord : List ℕ → List ℕ → ℕ → Option ℕ → Type 0
+IsNextApartInWord words others from None =
+    (k : ℕ) → from ≤ k → k / 64 ≡ from / 64 → flag_at others k ≡ 0 → flag_at words k ≡ 0
+IsNextApartInWord words others from (Some place) = IsNextApart words others from (Some place)
 
 -- of all flags but this one each is as before
 abbrev pub OthersStay : ℕ → List ℕ → List ℕ → Type 0

@@ -33,8 +33,23 @@ fn first_from(heads: &[Head], txn: Txn) -> usize
     heads.partition_point(|head| comes_before(head.txn, txn))
 }
 
-// Where the transaction's head stands, or else where it would.
+// Where the transaction's head stands, or else where it would. That of the transaction that began last is the last one.
 fn find(heads: &[Head], txn: Txn) -> Result<usize, usize>
+    requires { AreInOrder heads.now }
+    ensures { MatchResult result (λ i. IsAt heads.now txn i) (λ i. IsGap heads.now txn i) }
+{
+    let end = heads.len();
+    if end == 0 || comes_before(heads[end - 1].txn, txn) {
+        return Err(end);
+    }
+    if heads[end - 1].txn == txn {
+        return Ok(end - 1);
+    }
+    find_among(heads, txn)
+}
+
+// The same, by halves.
+fn find_among(heads: &[Head], txn: Txn) -> Result<usize, usize>
     requires { AreInOrder heads.now }
     ensures { MatchResult result (λ i. IsAt heads.now txn i) (λ i. IsGap heads.now txn i) }
 {
@@ -98,5 +113,16 @@ pub(crate) fn turn_back(heads: &mut Vec<Head>, txn: Txn, before: Option<u32>)
             }
         },
         Err(_) => {}
+    }
+}
+
+/// The transaction's newest end, if it holds one.
+pub(crate) fn newest(heads: &[Head], txn: Txn) -> Option<u32>
+    requires { AreInOrder heads.now }
+    ensures { result ≡ newest_of txn heads.now }
+{
+    match find(heads, txn) {
+        Ok(place) => Some(heads[place].newest),
+        Err(_) => None,
     }
 }

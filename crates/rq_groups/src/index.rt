@@ -1,7 +1,7 @@
 //! A set of places, of which the next one is found without a look at each.
-ghost use Rattle.std.specs.Prelude.{◌≡◌, ◌≢◌, ℕ, ◌+◌, ◌*◌, ◌/◌, ◌<◌, ◌≤◌, ◌^◌, length, slice_index, cond, IfOk};
+ghost use Rattle.std.specs.Prelude.{◌≡◌, ◌≢◌, ℕ, ◌+◌, ◌-◌, ◌*◌, ◌/◌, ◌<◌, ◌≤◌, ◌^◌, length, slice_index, cond, IfOk};
 ghost use Rattle.std.specs.Int.{bit_at};
-ghost use Rattle.rq_groups.specs.Flags.{flag_at, AreFlags, IsNextFlag, IsNextInWord, OthersStay};
+ghost use Rattle.rq_groups.specs.Flags.{flag_at, AreFlags, IsNextApart, IsNextApartInWord, IsNextFlag, IsNextInWord, OthersStay};
 
 use rq_model::refusal::NoMemory;
 use std::alloc::Global;
@@ -83,6 +83,21 @@ impl Index {
             None => None,
         }
     }
+
+    /// The least place of the set at or after this one that is none of the other set.
+    pub(crate) fn next_apart(&self, others: &Index, from: usize) -> Option<usize>
+        requires { from < 2 ^ 63 }
+        ensures { IsNextApart self.now.flags.items others.now.flags.items from result }
+    {
+        let mut from = from;
+        while let Some(place) = self.next(from) {
+            if let Some(apart) = next_apart_in_word(&self.flags, &others.flags, place) {
+                return Some(apart);
+            }
+            from = (place / 64 + 1) * 64;
+        }
+        None
+    }
 }
 
 // Words of flags that are not set, for as many places.
@@ -136,6 +151,35 @@ fn next_in_word(words: &[u64], from: usize) -> Option<usize>
         return None;
     }
     Some(from + lowest(rest))
+}
+
+// The least flag at or after this one that is set here and not in the others, in its word.
+fn next_apart_in_word(words: &[u64], others: &[u64], from: usize) -> Option<usize>
+    requires { length words.now < 2 ^ 32 }
+    ensures { IsNextApartInWord words.now others.now from result }
+{
+    if from / 64 >= words.len() {
+        return None;
+    }
+    let rest = apart(words[from / 64], word_of(others, from / 64)) >> (from % 64);
+    if rest == 0 {
+        return None;
+    }
+    Some(from + lowest(rest))
+}
+
+// The bits that are set here and not in the other word.
+fn apart(word: u64, other: u64) -> u64
+    ensures { (i : ℕ) → bit_at result i ≡ bit_at word i - bit_at other i }
+{
+    word & !other
+}
+
+// A word of flags; none is set beyond the end.
+fn word_of(words: &[u64], word: usize) -> u64
+    ensures { result ≡ slice_index words.now word }
+{
+    words.get(word).copied().unwrap_or(0)
 }
 
 // The least flag that is set at or after this one.

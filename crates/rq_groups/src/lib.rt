@@ -1,13 +1,14 @@
 //! Who holds which ends of groups, how many messages of each wait, and what each sender has sent.
 #![tactic(auto)]
 
-ghost use Rattle.std.specs.Prelude.{◌≡◌, [], not, true, IfOk, OnErr};
-ghost use Rattle.rq_groups.specs.Ends.{has_held, is_free_for, released, with_held};
+ghost use Rattle.std.specs.Prelude.{◌≡◌, [], ◌∷◌, ℕ, List, not, true, IfOk, OnErr};
+ghost use Rattle.rq_groups.specs.Ends.{AreApart, IsTail, first_of, has_held, held_by, is_free_for, released, with_held};
 ghost use Rattle.rq_groups.specs.Sides.{IsNewest, holds_end, is_free_end, with_end, without_newest};
 
 mod changes;
 mod heads;
 mod index;
+mod places;
 mod sent;
 mod side;
 mod waiting;
@@ -81,6 +82,24 @@ impl Ends {
         ensures { result ≡ is_free_for txn sender self.now.receiving }
     {
         self.receiving.is_free(txn, sender)
+    }
+
+    /// The sender whose receiving end the transaction took last, of those that it holds.
+    pub fn newest_received(&self, txn: Txn) -> Option<u32>
+        ensures newest { result ≡ first_of (held_by txn self.now.receiving) }
+        ensures once { AreApart (held_by txn self.now.receiving) }
+        ensures own { (s : ℕ) → has_held txn s self.now.receiving ≡ true
+            → is_free_for txn s self.now.receiving ≡ true }
+    {
+        self.receiving.newest(txn)
+    }
+
+    /// The sender whose receiving end the holder of this one's took before it.
+    pub fn received_before(&self, sender: u32) -> Option<u32>
+        ensures { (txn : Txn) (older : List ℕ) → IsTail (held_by txn self.now.receiving) (sender ∷ older)
+            → result ≡ first_of older }
+    {
+        self.receiving.before(sender)
     }
 
     /// Gives the sender's sending end, that no other transaction holds, to this one, and answers whether it did not hold

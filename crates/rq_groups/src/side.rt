@@ -1,33 +1,26 @@
 //! The ends of one side: all senders' sending ends, or all their receiving ends.
-ghost use Rattle.std.specs.Prelude.{◌≡◌, ◌<◌, ◌≤◌, ◌∷◌, [], ℕ, List, Some, None, true, IfOk, OnErr, drop, take, length, not, slice_set};
+ghost use Rattle.std.specs.Prelude.{◌≡◌, ◌∷◌, [], ℕ, List, true, cond, IfOk, OnErr, drop, take, not};
 ghost use Rattle.rq_groups.specs.Changes.{held_after};
-ghost use Rattle.rq_groups.specs.Chains.{AreEmptied, IsChain, held_at, next_of};
-ghost use Rattle.rq_groups.specs.Ends.{has_held, is_free_for, released, with_held};
+ghost use Rattle.rq_groups.specs.Chains.{AreEmptied, IsChain};
+ghost use Rattle.rq_groups.specs.Ends.{AreApart, IsTail, first_of, has_held, held_by, is_free_for, is_held, released, with_held};
+ghost use Rattle.rq_groups.specs.Flags.{flag_at};
 
 use crate::Held;
 use crate::changes::Changes;
 use crate::heads::{self, Head};
+use crate::index::Index;
+use crate::places::{Holders, Holding};
 use rq_model::refusal::NoMemory;
 use rq_model::txn::Txn;
 use std::alloc::Global;
 use std::marker::Model;
 use std::snapshot::Snapshot;
 
-/// Who holds an end.
-#[derive(Clone, Copy)]
-pub(crate) struct Holding {
-    /// The transaction that holds it.
-    pub txn: Txn,
-    /// The sender of the end that it took before this one, if it holds one.
-    pub next: Option<u32>,
-}
-
 /// The ends of one side. Contracts see those that are held, the newest first. No call goes over all of them: the
 /// holder of an end stands at the place of its sender, and each transaction's ends are a chain.
 #[derive(Drop)]
 pub(crate) struct Side {
-    // By sender, who holds its end.
-    places: Vec<Option<Holding>>,
+    holders: Holders,
     // The transactions that hold one, each with the newest.
     heads: Vec<Head>,
     changes: Snapshot<Changes>,
@@ -44,7 +37,7 @@ impl Model for Side {
 
     ghost view = { λ s. held_after s.changes.value };
 
-    ghost invariant = { λ s. IsSide s.places.items s.heads.items (held_after s.changes.value) };
+    ghost invariant = { λ s. IsSide s.holders s.heads.items (held_after s.changes.value) };
 }
 
 impl Side {
@@ -55,12 +48,10 @@ impl Side {
     pub(crate) fn new(alloc: Global, senders: u32, transactions: usize) -> Result<Side, NoMemory>
         ensures { IfOk result (λ side. side ≡ []) }
     {
-        let Ok(places) = vec![in alloc; None; senders as usize] else {
-            return Err(NoMemory);
-        };
+        let holders = Holders::new(alloc, senders)?;
         match Vec::with_capacity(alloc, transactions) {
             Ok(heads) => Ok(Side {
-                places,
+                holders,
                 heads,
                 changes: Changes::none(),
             }),
@@ -72,7 +63,7 @@ impl Side {
     pub(crate) fn is_free(&self, txn: Txn, sender: u32) -> bool
         ensures { result ≡ is_free_for txn sender self.now }
     {
-        match holder(&self.places, sender) {
+        match self.holders.of(sender) {
             Some(holding) => holding.txn == txn,
             None => true,
         }
@@ -88,14 +79,14 @@ impl Side {
         ensures newly { IfOk result (λ new. new ≡ not (has_held txn sender self.old)) }
         ensures same { OnErr result (self.new ≡ self.old) }
     {
-        if holder(&self.places, sender).is_some() {
+        if self.holders.of(sender).is_some() {
             return Ok(false);
         }
-        if sender as usize >= self.places.len() {
+        if sender as usize >= self.holders.len() {
             return Err(NoMemory);
         }
         let next = heads::put(&mut self.heads, txn, sender)?;
-        self.places[sender as usize] = Some(Holding { txn, next });
+        self.holders.put(sender, Holding { txn, next });
         Changes::took(&mut self.changes, Held { txn, sender });
         Ok(true)
     }
@@ -105,7 +96,7 @@ impl Side {
         requires { take 1 self.old ≡ record { txn = txn; sender = sender } ∷ [] }
         ensures { self.new ≡ drop 1 self.old }
     {
-        let next = vacate(&mut self.places, sender);
+        let next = self.holders.vacate(sender);
         heads::turn_back(&mut self.heads, txn, next);
         Changes::undid(&mut self.changes);
     }
@@ -115,43 +106,45 @@ impl Side {
         ensures { self.new ≡ released txn self.old }
     {
         let newest = heads::remove(&mut self.heads, txn);
-        empty_chain(&mut self.places, newest);
+        empty_chain(&mut self.holders, newest);
         Changes::released(&mut self.changes, txn);
     }
-}
 
-// Who holds the sender's end.
-fn holder(places: &[Option<Holding>], sender: u32) -> Option<Holding>
-    ensures { result ≡ held_at places.now sender }
-{
-    places.get(sender as usize).copied().unwrap_or(None)
-}
-
-// Has nobody hold the sender's end. Answers the one that its holder took before it.
-fn vacate(places: &mut Vec<Option<Holding>>, sender: u32) -> Option<u32>
-    ensures vacant { places.new.items ≡ slice_set places.old.items sender None }
-    ensures next { result ≡ next_of (held_at places.old.items sender) }
-{
-    let place = sender as usize;
-    if place >= places.len() {
-        return None;
+    /// The senders whose end somebody holds.
+    pub(crate) fn held(&self) -> &Index
+        ensures { (s : ℕ) → flag_at result.now.flags.items s ≡ cond (is_held s self.now) 1 0 }
+    {
+        self.holders.held()
     }
-    match places[place] {
-        Some(holding) => {
-            places[place] = None;
-            holding.next
+
+    /// The sender whose end the transaction took last, of those that it holds.
+    pub(crate) fn newest(&self, txn: Txn) -> Option<u32>
+        ensures newest { result ≡ first_of (held_by txn self.now) }
+        ensures once { AreApart (held_by txn self.now) }
+        ensures own { (s : ℕ) → has_held txn s self.now ≡ true → is_free_for txn s self.now ≡ true }
+    {
+        heads::newest(&self.heads, txn)
+    }
+
+    /// The sender whose end the holder of this one took before it.
+    pub(crate) fn before(&self, sender: u32) -> Option<u32>
+        ensures { (txn : Txn) (older : List ℕ) → IsTail (held_by txn self.now) (sender ∷ older)
+            → result ≡ first_of older }
+    {
+        match self.holders.of(sender) {
+            Some(holding) => holding.next,
+            None => None,
         }
-        None => None,
     }
 }
 
 // Has nobody hold the ends of a chain.
-fn empty_chain(places: &mut Vec<Option<Holding>>, newest: Option<u32>)
-    ensures { (t : Txn) (chain : List ℕ) → IsChain places.old.items t newest chain
-        → AreEmptied places.old.items places.new.items chain [] }
+fn empty_chain(holders: &mut Holders, newest: Option<u32>)
+    ensures { (t : Txn) (chain : List ℕ) → IsChain holders.old t newest chain
+        → AreEmptied holders.old holders.new chain [] }
 {
     let mut next = newest;
     while let Some(sender) = next {
-        next = vacate(places, sender);
+        next = holders.vacate(sender);
     }
 }

@@ -1,6 +1,6 @@
 //! How many committed messages of each sender wait to be taken.
-ghost use Rattle.std.specs.Prelude.{◌≡◌, ◌+◌, ◌<◌, ◌≤◌, ◌^◌, ℕ, true, length, slice_set, IfOk, IfSome, IfNone};
-ghost use Rattle.rq_groups.specs.Ends.{is_free_for};
+ghost use Rattle.std.specs.Prelude.{◌≡◌, ◌+◌, ◌<◌, ◌≤◌, ◌^◌, ℕ, true, false, length, slice_set, IfOk, IfSome, IfNone};
+ghost use Rattle.rq_groups.specs.Ends.{has_held, is_free_for, is_held};
 ghost use Rattle.rq_groups.specs.Waiting.{waits, more_waiting, fewer_waiting};
 
 use crate::Ends;
@@ -106,34 +106,52 @@ impl Waiting {
         Some(place as u32)
     }
 
-    /// The least sender at or after this one of which a message waits, and whose receiving end no other transaction
-    /// holds; none where there is no such sender.
-    pub fn next_for(&self, ends: &Ends, txn: Txn, from: u32) -> Option<u32>
+    /// The least sender at or after this one of which a message waits, and whose receiving end nobody holds; none where
+    /// there is no such sender.
+    pub fn next_free(&self, ends: &Ends, from: u32) -> Option<u32>
         ensures some { IfSome result (λ s. (from ≤ s) × (s < length self.now) × (1 ≤ waits self.now s)
-            × (is_free_for txn s ends.now.receiving ≡ true) × ((t : ℕ) → from ≤ t → t < s
-            → is_free_for txn t ends.now.receiving ≡ true → waits self.now t ≡ 0)) }
-        ensures none { IfNone result ((t : ℕ) → from ≤ t → is_free_for txn t ends.now.receiving ≡ true
+            × (is_held s ends.now.receiving ≡ false) × ((t : ℕ) → from ≤ t → t < s
+            → is_held t ends.now.receiving ≡ false → waits self.now t ≡ 0)) }
+        ensures none { IfNone result ((t : ℕ) → from ≤ t → is_held t ends.now.receiving ≡ false
             → waits self.now t ≡ 0) }
         ensures few { length self.now < 2 ^ 32 }
     {
-        let mut next = from;
-        while let Some(sender) = self.next_with_message(next) {
-            if ends.may_receive(txn, sender) {
-                return Some(sender);
-            }
-            next = sender + 1;
-        }
-        None
+        let place = self.index.next_apart(ends.receiving.held(), from as usize)?;
+        Some(place as u32)
     }
 
     /// A sender of which a message waits, and whose receiving end no other transaction holds; none where there
-    /// is no such sender.
+    /// is no such sender. One whose end the transaction took last comes first, one that nobody holds next.
     pub fn first_for(&self, ends: &Ends, txn: Txn) -> Option<u32>
         ensures some { IfSome result (λ s. (s < length self.now) × (1 ≤ waits self.now s)
             × (is_free_for txn s ends.now.receiving ≡ true)) }
         ensures none { IfNone result ((s : ℕ) → s < length self.now → is_free_for txn s ends.now.receiving ≡ true
             → waits self.now s ≡ 0) }
     {
-        self.next_for(ends, txn, 0)
+        if let Some(sender) = ends.newest_received(txn) {
+            if self.count(sender) > 0 {
+                return Some(sender);
+            }
+        }
+        match self.next_free(ends, 0) {
+            Some(sender) => Some(sender),
+            None => self.first_own(ends, txn),
+        }
+    }
+
+    // A sender of which a message waits, and whose receiving end the transaction holds.
+    fn first_own(&self, ends: &Ends, txn: Txn) -> Option<u32>
+        ensures some { IfSome result (λ s. (s < length self.now) × (1 ≤ waits self.now s)
+            × (has_held txn s ends.now.receiving ≡ true)) }
+        ensures none { IfNone result ((s : ℕ) → has_held txn s ends.now.receiving ≡ true → waits self.now s ≡ 0) }
+    {
+        let mut next = ends.newest_received(txn);
+        while let Some(sender) = next {
+            if self.count(sender) > 0 {
+                return Some(sender);
+            }
+            next = ends.received_before(sender);
+        }
+        None
     }
 }

@@ -1,5 +1,5 @@
 -- Rows in the slots of a table: what is found, and what a change of one of them leaves.
-use Rattle.std.proofs.Common.{◌≡◌, ◌≢◌, ◌⊎◌, ℕ, zero, suc, ◌+◌, ◌<◌, ◌≤◌, Bool, true, false, cond, ◌||◌, ◌^◌, ltb, List, [], ◌∷◌, ◌++◌, length, take, drop, Option, Some, None, Result, Ok, Err, get_or, reverse, refl, sym, ◌∙◌, ap, subst, inl, inr, arith}
+use Rattle.std.proofs.Common.{◌≡◌, ◌≢◌, ◌⊎◌, ℕ, ◌-◌, zero, suc, ◌+◌, ◌<◌, ◌≤◌, Bool, true, false, cond, ◌||◌, ◌^◌, ltb, List, [], ◌∷◌, ◌++◌, length, take, drop, Option, Some, None, Result, Ok, Err, get_or, reverse, refl, sym, ◌∙◌, ap, subst, inl, inr, arith}
 use Rattle.std.proofs.lemmas.List.{map-append, length_push, length-map, get_or_default, reverse-append, length-reverse}
 use Rattle.std.proofs.lemmas.List.Sums.{sum_by-set}
 use Rattle.std.specs.List.Sorted.{IsNonDecreasingBy}
@@ -397,6 +397,23 @@ rising_at (y ∷ places) zero (suc j) d r below within =
     r.0 (get_or places j d) (in_at places j (get_or places j d) (omega arith) (λ e. get_or_default places j d e (omega arith)))
 rising_at (y ∷ places) (suc i) zero d r below within = absurd (omega arith)
 rising_at (y ∷ places) (suc i) (suc j) d r below within = rising_at places i j d r.1 (omega arith) (omega arith)
+
+-- no place is of a greater count than the last one
+pub before_last : (places : List Place) (k : ℕ) (d e : Place) → IsRising places → k < length places - 1 → (get_or places k d).count < (get_or places (length places - 1) e).count
+before_last places k d e r before =
+    let last = ap (λ (p : Place). p.count) (get_or_default places (length places - 1) d e (omega arith)) in
+    let below = rising_at places k (length places - 1) d r before (omega arith) in
+    omega (arith, last, below)
+
+pub below_last : (places : List Place) (k : ℕ) (d e : Place) → IsRising places → k < length places → (get_or places k d).count ≤ (get_or places (length places - 1) e).count
+below_last places k d e r within =
+    elim (cases_eq k (length places - 1)) [
+      | inl same ↦
+          let here = ap (λ i. (get_or places i d).count) same in
+          let last = ap (λ (p : Place). p.count) (get_or_default places (length places - 1) d e (omega arith)) in
+          omega (arith, here, last)
+      | inr other ↦ let before = before_last places k d e r (omega arith) in omega arith
+    ]
 
 pub rising_by : (places : List Place) → IsRising places → IsNonDecreasingBy (λ (p : Place). p.count) places
 rising_by places r i j d le within =

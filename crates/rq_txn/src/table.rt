@@ -15,8 +15,26 @@ pub struct Place {
     pub key: usize,
 }
 
-/// The first place of at least this count, or the end.
+/// The first place of at least this count, or the end. That of the transaction that began last is the last one.
 fn first_from(places: &[Place], count: u64) -> usize
+    requires { IsRising places.now }
+    ensures bound { result ≤ length places.now }
+    ensures below { (k : ℕ) (d : Place) → k < result → (slice_index_or places.now k d).count < count }
+    ensures above { (k : ℕ) (d : Place) → result ≤ k → k < length places.now
+        → count ≤ (slice_index_or places.now k d).count }
+{
+    let end = places.len();
+    if end == 0 || places[end - 1].count < count {
+        return end;
+    }
+    if places[end - 1].count == count {
+        return end - 1;
+    }
+    first_among(places, count)
+}
+
+// The same, by halves.
+fn first_among(places: &[Place], count: u64) -> usize
     requires { IsRising places.now }
     ensures bound { result ≤ length places.now }
     ensures below { (k : ℕ) (d : Place) → k < result → (slice_index_or places.now k d).count < count }

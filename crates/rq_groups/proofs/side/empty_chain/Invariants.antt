@@ -6,8 +6,8 @@ use Rattle.rq_groups.proofs.side.empty_chain.Given as goal
 
 -- of a chain only the rest is left
 abbrev pub invariant-loop-next : goal.invariant-loop-next
-invariant-loop-next l = IsUnderWay l.fn.places.items l.places.items l.fn.newest l.next
+invariant-loop-next l = IsUnderWay l.fn.holders l.holders l.fn.newest l.next
 
 -- each round empties a place, or is the last
 abbrev pub decreases-loop-next : goal.decreases-loop-next
-decreases-loop-next l = sum_by held_one l.places.items + cond (is_some l.next) 1 0
+decreases-loop-next l = sum_by held_one l.holders + cond (is_some l.next) 1 0

@@ -10,6 +10,6 @@ invariant_of-self c =
     let i = c.self.inside in
     let t = c.args.txn in
     let held = held_after i.changes.value in
-    let chain : IsChain i.places.items t c.remove-newest.result (held_by t held) = subst (λ (o : Option ℕ). IsChain i.places.items t o (held_by t held)) (sym c.remove-newest.ensures.old) (c.self.invariant.chains t) in
-    subst (IsSide c.empty_chain.new.places.items c.remove-newest.new.heads.items) (sym c.released.ensures)
-    (side_released i.places.items c.empty_chain.new.places.items i.heads.items c.remove-newest.new.heads.items held t c.self.invariant c.remove-newest.ensures.removed (c.empty_chain.ensures t (held_by t held) chain))
+    let chain : IsChain i.holders t c.remove-newest.result (held_by t held) = subst (λ (o : Option ℕ). IsChain i.holders t o (held_by t held)) (sym c.remove-newest.ensures.old) (c.self.invariant.chains t) in
+    subst (IsSide c.empty_chain.new.holders c.remove-newest.new.heads.items) (sym c.released.ensures)
+    (side_released i.holders c.empty_chain.new.holders i.heads.items c.remove-newest.new.heads.items held t c.self.invariant c.remove-newest.ensures.removed (c.empty_chain.ensures t (held_by t held) chain))

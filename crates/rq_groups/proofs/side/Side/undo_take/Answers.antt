@@ -16,7 +16,7 @@ turn_back-requires-clause-holds c =
     let held = held_after i.changes.value in
     let h : Held = record { txn = c.args.txn; sender = c.args.sender } in
     let first : held ≡ h ∷ drop 1 held = newest_first h held (ap (take 1) c.self.view_is ∙ c.requires) in
-    let known = newest_known i.places.items i.heads.items (drop 1 held) c.args.txn c.args.sender (subst (IsSide i.places.items i.heads.items) first c.self.invariant) in
+    let known = newest_known i.holders i.heads.items (drop 1 held) c.args.txn c.args.sender (subst (IsSide i.holders i.heads.items) first c.self.invariant) in
     subst IsSome (sym known.0) refl
 
 pub invariant_of-self : goal.invariant_of-self
@@ -25,7 +25,7 @@ invariant_of-self c =
     let held = held_after i.changes.value in
     let h : Held = record { txn = c.args.txn; sender = c.args.sender } in
     let first : held ≡ h ∷ drop 1 held = newest_first h held (ap (take 1) c.self.view_is ∙ c.requires) in
-    subst (IsSide c.vacate-next.new.places.items c.turn_back.new.heads.items) (sym c.undid.ensures)
-    (side_undone i.places.items c.vacate-next.new.places.items i.heads.items c.turn_back.new.heads.items (drop 1 held) c.args.txn c.args.sender
-    (subst (IsSide i.places.items i.heads.items) first c.self.invariant) c.vacate-next.ensures.vacant
+    subst (IsSide c.vacate-next.new.self c.turn_back.new.heads.items) (sym c.undid.ensures)
+    (side_undone i.holders c.vacate-next.new.self i.heads.items c.turn_back.new.heads.items (drop 1 held) c.args.txn c.args.sender
+    (subst (IsSide i.holders i.heads.items) first c.self.invariant) c.vacate-next.ensures.vacant
     (subst (λ (o : Option ℕ). IsTurned c.args.txn o i.heads.items c.turn_back.new.heads.items) c.vacate-next.ensures.next c.turn_back.ensures))
