@@ -1,5 +1,5 @@
 -- A flag for each place, 64 to a word, the lowest bit first.
-use Rattle.std.specs.Prelude.{◌≡◌, ◌≢◌, ℕ, ◌/◌, ◌%◌, ◌<◌, ◌≤◌, min, List, Option, Some, None, slice_index}
+use Rattle.std.specs.Prelude.{◌≡◌, ◌≢◌, ℕ, ◌*◌, ◌/◌, ◌%◌, ◌^◌, ◌<◌, ◌≤◌, min, List, Option, Some, None, length, slice_index}
 use Rattle.std.specs.Int.{bit_at}
 
 -- the flag at a place: 1 where it is set, 0 where it is not and beyond the end
@@ -9,6 +9,13 @@ flag_at words k = bit_at (slice_index words (k / 64)) (k % 64)
 -- a flag is set exactly where the number at its place is not 0
 abbrev pub AreFlags : List ℕ → List ℕ → Type 0
 AreFlags words numbers = (k : ℕ) → flag_at words k ≡ min 1 (slice_index numbers k)
+
+-- words of flags, and a flag for each of them that has one
+pub record IsSummed (words flags : List ℕ) : Type 0 where
+  pub room : length flags ≤ 64 * length words
+  pub few : length flags < 2 ^ 32
+  pub few_words : length words < 2 ^ 32
+  pub summed : AreFlags words flags
 
 -- the least flag that is set at or after this place
 abbrev pub IsNextFlag : List ℕ → ℕ → Option ℕ → Type 0
