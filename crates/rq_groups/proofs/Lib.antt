@@ -1,5 +1,4 @@
 pub mod Chained
-pub mod Flagged
 pub mod Holders
 pub mod Orders
 pub mod Sents

@@ -1,16 +1,22 @@
 -- The ends of one side, by sender: each leads to the one that its holder took before it.
-use Rattle.std.specs.Prelude.{◌≡◌, ℕ, true, false, List, [], ◌∷◌, Option, Some, None, slice_index_or}
+use Rattle.std.specs.Prelude.{◌≡◌, ℕ, true, false, cond, List, [], ◌∷◌, Option, Some, None, slice_index_or}
+use Rattle.std.specs.Option.{is_some}
 use Rattle.rq_model.specs.declared.txn.Txn.{Txn}
 use Rattle.rq_model.specs.Words.{has_number}
 use Rattle.rq_groups.specs.declared.Held.{Held}
 use Rattle.rq_groups.specs.declared.heads.Head.{Head}
 use Rattle.rq_groups.specs.declared.places.Holding.{Holding}
+use Rattle.rq_flags.specs.Flags.{flag_at}
 use Rattle.rq_groups.specs.Ends.{has_held, held_by}
 use Rattle.rq_groups.specs.Heads.{AreInOrder, newest_of}
 
 -- who holds the end of s
 abbrev pub held_at : List (Option Holding) → ℕ → Option Holding
 held_at places s = slice_index_or places s None
+
+-- a flag is set exactly where somebody holds the end of its place
+abbrev pub AreHolders : List ℕ → List (Option Holding) → Type 0
+AreHolders words places = (k : ℕ) → flag_at words k ≡ cond (is_some (held_at places k)) 1 0
 
 -- the sender of the end that the holder took before this one
 abbrev pub next_of : Option Holding → Option ℕ

@@ -2,7 +2,6 @@ pub mod Changes
 pub mod Heads
 pub mod Chains
 pub mod Ends
-pub mod Flags
 pub mod Waiting
 pub mod Sent
 pub mod Sides

@@ -7,7 +7,6 @@ ghost use Rattle.rq_groups.specs.Sides.{IsNewest, holds_end, is_free_end, with_e
 
 mod changes;
 mod heads;
-mod index;
 mod places;
 mod sent;
 mod side;

@@ -1,9 +1,8 @@
 //! Who holds the ends of one side, by sender.
 ghost use Rattle.std.specs.Prelude.{◌≡◌, ◌<◌, Some, None, IfOk, length, replicate, slice_set};
-ghost use Rattle.rq_groups.specs.Chains.{held_at, next_of};
-ghost use Rattle.rq_groups.specs.Flags.{AreHolders};
+ghost use Rattle.rq_groups.specs.Chains.{AreHolders, held_at, next_of};
 
-use crate::index::Index;
+use rq_flags::Index;
 use rq_model::refusal::NoMemory;
 use rq_model::txn::Txn;
 use std::alloc::Global;
@@ -29,14 +28,14 @@ pub(crate) struct Holders {
 impl Model for Holders {
     ghost use Rattle.std.specs.Prelude.{List, Option, length, ◌*◌, ◌≤◌};
     ghost use Rattle.rq_groups.specs.declared.places.Holding.{Holding};
-    ghost use Rattle.rq_groups.specs.Flags.{AreHolders};
+    ghost use Rattle.rq_groups.specs.Chains.{AreHolders};
 
     ghost Value = { List (Option Holding) };
 
     ghost view = { λ h. h.places.items };
 
-    ghost invariant = { λ h. (length h.places.items ≤ 64 * length h.held.flags.items)
-        × AreHolders h.held.flags.items h.places.items };
+    ghost invariant = { λ h. (length h.places.items ≤ 64 * length h.held)
+        × AreHolders h.held h.places.items };
 }
 
 impl Holders {
@@ -98,7 +97,7 @@ impl Holders {
 
     /// The senders whose end somebody holds.
     pub(crate) fn held(&self) -> &Index
-        ensures { AreHolders result.now.flags.items self.now }
+        ensures { AreHolders result.now self.now }
     {
         &self.held
     }

@@ -3,12 +3,12 @@ ghost use Rattle.std.specs.Prelude.{◌≡◌, ◌∷◌, [], ℕ, List, true, c
 ghost use Rattle.rq_groups.specs.Changes.{held_after};
 ghost use Rattle.rq_groups.specs.Chains.{AreEmptied, IsChain};
 ghost use Rattle.rq_groups.specs.Ends.{AreApart, IsTail, first_of, has_held, held_by, is_free_for, is_held, released, with_held};
-ghost use Rattle.rq_groups.specs.Flags.{flag_at};
+ghost use Rattle.rq_flags.specs.Flags.{flag_at};
 
 use crate::Held;
 use crate::changes::Changes;
 use crate::heads::{self, Head};
-use crate::index::Index;
+use rq_flags::Index;
 use crate::places::{Holders, Holding};
 use rq_model::refusal::NoMemory;
 use rq_model::txn::Txn;
@@ -112,7 +112,7 @@ impl Side {
 
     /// The senders whose end somebody holds.
     pub(crate) fn held(&self) -> &Index
-        ensures { (s : ℕ) → flag_at result.now.flags.items s ≡ cond (is_held s self.now) 1 0 }
+        ensures { (s : ℕ) → flag_at result.now s ≡ cond (is_held s self.now) 1 0 }
     {
         self.holders.held()
     }

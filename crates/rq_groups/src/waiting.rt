@@ -4,7 +4,7 @@ ghost use Rattle.rq_groups.specs.Ends.{has_held, is_free_for, is_held};
 ghost use Rattle.rq_groups.specs.Waiting.{waits, more_waiting, fewer_waiting};
 
 use crate::Ends;
-use crate::index::Index;
+use rq_flags::Index;
 use rq_model::refusal::NoMemory;
 use rq_model::txn::Txn;
 use std::alloc::Global;
@@ -21,15 +21,15 @@ pub struct Waiting {
 
 impl Model for Waiting {
     ghost use Rattle.std.specs.Prelude.{ℕ, List, length, ◌*◌, ◌<◌, ◌≤◌, ◌^◌};
-    ghost use Rattle.rq_groups.specs.Flags.{AreFlags};
+    ghost use Rattle.rq_flags.specs.Flags.{AreFlags};
 
     ghost Value = { List ℕ };
 
     ghost view = { λ w. w.counts.items };
 
     ghost invariant = { λ w. (length w.counts.items < 2 ^ 32)
-        × (length w.counts.items ≤ 64 * length w.index.flags.items)
-        × AreFlags w.index.flags.items w.counts.items };
+        × (length w.counts.items ≤ 64 * length w.index)
+        × AreFlags w.index w.counts.items };
 }
 
 impl Waiting {

@@ -1,6 +1,6 @@
 use Rattle.std.proofs.Common.{arith}
-use Rattle.rq_groups.proofs.Flagged.{next_in_later, none_so_far, none_at_all}
-use Rattle.rq_groups.proofs.index.next_flag.Goals as goal
+use Rattle.rq_flags.proofs.Flagged.{next_in_later, none_so_far, none_at_all}
+use Rattle.rq_flags.proofs.next_flag.Goals as goal
 
 pub returns-then-words-word-ne0 : goal.returns-then-words-word-ne0
 returns-then-words-word-ne0 c =

@@ -1,9 +1,6 @@
 -- A flag for each place, 64 to a word, the lowest bit first.
-use Rattle.std.specs.Prelude.{◌≡◌, ◌≢◌, ℕ, ◌/◌, ◌%◌, ◌<◌, ◌≤◌, cond, min, List, Option, Some, None, slice_index}
-use Rattle.std.specs.Option.{is_some}
+use Rattle.std.specs.Prelude.{◌≡◌, ◌≢◌, ℕ, ◌*◌, ◌/◌, ◌%◌, ◌^◌, ◌<◌, ◌≤◌, min, List, Option, Some, None, length, slice_index}
 use Rattle.std.specs.Int.{bit_at}
-use Rattle.rq_groups.specs.declared.places.Holding.{Holding}
-use Rattle.rq_groups.specs.Chains.{held_at}
 
 -- the flag at a place: 1 where it is set, 0 where it is not and beyond the end
 unfoldable pub flag_at : List ℕ → ℕ → ℕ
@@ -12,6 +9,13 @@ flag_at words k = bit_at (slice_index words (k / 64)) (k % 64)
 -- a flag is set exactly where the number at its place is not 0
 abbrev pub AreFlags : List ℕ → List ℕ → Type 0
 AreFlags words numbers = (k : ℕ) → flag_at words k ≡ min 1 (slice_index numbers k)
+
+-- words of flags, and a flag for each of them that has one
+pub record IsSummed (words flags : List ℕ) : Type 0 where
+  pub room : length flags ≤ 64 * length words
+  pub few : length flags < 2 ^ 32
+  pub few_words : length words < 2 ^ 32
+  pub summed : AreFlags words flags
 
 -- the least flag that is set at or after this place
 abbrev pub IsNextFlag : List ℕ → ℕ → Option ℕ → Type 0
@@ -23,10 +27,6 @@ IsNextFlag words from (Some place) = (from ≤ place) × (flag_at words place �
 abbrev pub IsNextInWord : List ℕ → ℕ → Option ℕ → Type 0
 IsNextInWord words from None = (k : ℕ) → from ≤ k → k / 64 ≡ from / 64 → flag_at words k ≡ 0
 IsNextInWord words from (Some place) = IsNextFlag words from (Some place)
-
--- a flag is set exactly where somebody holds the end of its place
-abbrev pub AreHolders : List ℕ → List (Option Holding) → Type 0
-AreHolders words places = (k : ℕ) → flag_at words k ≡ cond (is_some (held_at places k)) 1 0
 
 -- the least flag at or after this place that is set in the one and not in the other
 abbrev pub IsNextApart : List ℕ → List ℕ → ℕ → Option ℕ → Type 0

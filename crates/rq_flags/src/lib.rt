@@ -1,22 +1,33 @@
 //! A set of places, of which the next one is found without a look at each.
+#![tactic(auto)]
+
 ghost use Rattle.std.specs.Prelude.{◌≡◌, ◌≢◌, ℕ, ◌+◌, ◌-◌, ◌*◌, ◌/◌, ◌<◌, ◌≤◌, ◌^◌, length, slice_index, cond, IfOk};
 ghost use Rattle.std.specs.Int.{bit_at};
-ghost use Rattle.rq_groups.specs.Flags.{flag_at, AreFlags, IsNextApart, IsNextApartInWord, IsNextFlag, IsNextInWord, OthersStay};
+ghost use Rattle.rq_flags.specs.Flags.{flag_at, IsNextApart, IsNextApartInWord, IsNextFlag, IsNextInWord, OthersStay};
 
 use rq_model::refusal::NoMemory;
 use std::alloc::Global;
+use std::marker::Model;
 
-/// A set of places below a bound, by a flag for each. Its memory is taken when it is made.
+/// A set of places below a bound, by a flag for each. Its memory is taken when it is made. Contracts see the words of
+/// the flags, 64 to a word.
 #[derive(Drop)]
-pub(crate) struct Index {
+pub struct Index {
     // A flag for each place.
     flags: Vec<u64>,
     // A flag for each word of these in which one is set.
     words: Vec<u64>,
-    ghost room: { length flags.items ≤ 64 * length words.items },
-    ghost few: { length flags.items < 2 ^ 32 },
-    ghost few_words: { length words.items < 2 ^ 32 },
-    ghost summed: { AreFlags words.items flags.items },
+}
+
+impl Model for Index {
+    ghost use Rattle.std.specs.Prelude.{ℕ, List};
+    ghost use Rattle.rq_flags.specs.Flags.{IsSummed};
+
+    ghost Value = { List ℕ };
+
+    ghost view = { λ i. i.flags.items };
+
+    ghost invariant = { λ i. IsSummed i.words.items i.flags.items };
 }
 
 impl Index {
@@ -24,9 +35,9 @@ impl Index {
     ///
     /// # Errors
     /// `NoMemory`.
-    pub(crate) fn new(alloc: Global, places: u32) -> Result<Index, NoMemory>
-        ensures room { IfOk result (λ index. places ≤ 64 * length index.flags.items) }
-        ensures none { IfOk result (λ index. (k : ℕ) → flag_at index.flags.items k ≡ 0) }
+    pub fn new(alloc: Global, places: u32) -> Result<Index, NoMemory>
+        ensures room { IfOk result (λ index. places ≤ 64 * length index) }
+        ensures none { IfOk result (λ index. (k : ℕ) → flag_at index k ≡ 0) }
     {
         let flags = unset(alloc, places as usize)?;
         let words = unset(alloc, flags.len())?;
@@ -34,11 +45,11 @@ impl Index {
     }
 
     /// Has a place in the set, or out of it.
-    pub(crate) fn put(&mut self, place: usize, present: bool)
-        requires { place < 64 * length self.old.flags.items }
-        ensures put { flag_at self.new.flags.items place ≡ cond present 1 0 }
-        ensures others { OthersStay place self.old.flags.items self.new.flags.items }
-        ensures same { length self.new.flags.items ≡ length self.old.flags.items }
+    pub fn put(&mut self, place: usize, present: bool)
+        requires { place < 64 * length self.old }
+        ensures put { flag_at self.new place ≡ cond present 1 0 }
+        ensures others { OthersStay place self.old self.new }
+        ensures same { length self.new ≡ length self.old }
     {
         if present {
             self.insert(place);
@@ -49,10 +60,10 @@ impl Index {
 
     // Puts a place in.
     fn insert(&mut self, place: usize)
-        requires { place < 64 * length self.old.flags.items }
-        ensures set { flag_at self.new.flags.items place ≡ 1 }
-        ensures others { OthersStay place self.old.flags.items self.new.flags.items }
-        ensures same { length self.new.flags.items ≡ length self.old.flags.items }
+        requires { place < 64 * length self.old }
+        ensures set { flag_at self.new place ≡ 1 }
+        ensures others { OthersStay place self.old self.new }
+        ensures same { length self.new ≡ length self.old }
     {
         set_flag(&mut self.flags, place);
         set_flag(&mut self.words, place / 64);
@@ -60,10 +71,10 @@ impl Index {
 
     // Takes a place out.
     fn remove(&mut self, place: usize)
-        requires { place < 64 * length self.old.flags.items }
-        ensures clear { flag_at self.new.flags.items place ≡ 0 }
-        ensures others { OthersStay place self.old.flags.items self.new.flags.items }
-        ensures same { length self.new.flags.items ≡ length self.old.flags.items }
+        requires { place < 64 * length self.old }
+        ensures clear { flag_at self.new place ≡ 0 }
+        ensures others { OthersStay place self.old self.new }
+        ensures same { length self.new ≡ length self.old }
     {
         clear_flag(&mut self.flags, place);
         if self.flags[place / 64] == 0 {
@@ -72,8 +83,8 @@ impl Index {
     }
 
     /// The least place of the set at or after this one.
-    pub(crate) fn next(&self, from: usize) -> Option<usize>
-        ensures { IsNextFlag self.now.flags.items from result }
+    pub fn next(&self, from: usize) -> Option<usize>
+        ensures { IsNextFlag self.now from result }
     {
         if let Some(place) = next_in_word(&self.flags, from) {
             return Some(place);
@@ -85,9 +96,8 @@ impl Index {
     }
 
     /// The least place of the set at or after this one that is none of the other set.
-    pub(crate) fn next_apart(&self, others: &Index, from: usize) -> Option<usize>
-        requires { from < 2 ^ 63 }
-        ensures { IsNextApart self.now.flags.items others.now.flags.items from result }
+    pub fn next_apart(&self, others: &Index, from: usize) -> Option<usize>
+        ensures { IsNextApart self.now others.now from result }
     {
         let mut from = from;
         while let Some(place) = self.next(from) {

@@ -1,6 +1,6 @@
 use Rattle.std.proofs.Common.{arith, sym, ◌%◌}
-use Rattle.rq_groups.proofs.Flagged.{lowest_within, next_apart_in_word, none_apart_in_word, none_apart_past}
-use Rattle.rq_groups.proofs.index.next_apart_in_word.Goals as goal
+use Rattle.rq_flags.proofs.Flagged.{lowest_within, next_apart_in_word, none_apart_in_word, none_apart_past}
+use Rattle.rq_flags.proofs.next_apart_in_word.Goals as goal
 
 pub returns-then-from-words : goal.returns-then-from-words
 returns-then-from-words c = none_apart_past c.args.words.now c.args.others.now c.args.from (omega (arith, c.if-from-words.true))

@@ -1,8 +1,8 @@
 use Rattle.std.proofs.Common.{◌≡◌, ◌%◌, ◌/◌, ◌*◌, ◌^◌, ℕ, bit_or, slice_set, get_or, subst, sym, arith}
 use Rattle.std.proofs.lemmas.List.{get_or_read}
-use Rattle.rq_groups.specs.Flags.{flag_at, OthersStay}
-use Rattle.rq_groups.proofs.Flagged.{flag_at-set_same, flag_at-set_other}
-use Rattle.rq_groups.proofs.index.set_flag.Goals as goal
+use Rattle.rq_flags.specs.Flags.{flag_at, OthersStay}
+use Rattle.rq_flags.proofs.Flagged.{flag_at-set_same, flag_at-set_other}
+use Rattle.rq_flags.proofs.set_flag.Goals as goal
 
 pub returns-clause-set : goal.returns-clause-set
 returns-clause-set c =

@@ -1,6 +1,6 @@
 use Rattle.std.proofs.Common.{◌≡◌, ◌<◌, ◌≤◌, ◌/◌, ℕ}
-use Rattle.rq_groups.specs.Flags.{flag_at}
-use Rattle.rq_groups.proofs.index.next_flag.Given as goal
+use Rattle.rq_flags.specs.Flags.{flag_at}
+use Rattle.rq_flags.proofs.next_flag.Given as goal
 
 -- no flag of the words so far is set
 abbrev pub invariant-loop-word : goal.invariant-loop-word

@@ -5,7 +5,7 @@ use Rattle.std.proofs.lemmas.Bool.{cases_lt, cases_eq}
 use Rattle.std.proofs.lemmas.List.{length-replicate, get_or-replicate, get_or_past, get_or-set_same, get_or-set_other, get_or_read}
 use Rattle.std.proofs.lemmas.Nat.{shr-shr, shr_below}
 use Rattle.std.proofs.lemmas.Nat.Bits.{bit_at-zero, bit_at_set_same, bit_at_set_other, bit_at_clear_same, bit_at_clear_other, bit_at_above, bit_at-lt}
-use Rattle.rq_groups.specs.Flags.{flag_at, AreFlags, IsNextApart, IsNextApartInWord, IsNextFlag, IsNextInWord, OthersStay}
+use Rattle.rq_flags.specs.Flags.{flag_at, AreFlags, IsNextFlag, IsNextInWord, OthersStay, IsNextApart, IsNextApartInWord}
 
 replicated : (n w : ℕ) → get_or {A = ℕ} (replicate n 0) w 0 ≡ 0
 replicated n w =

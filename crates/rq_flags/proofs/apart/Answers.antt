@@ -2,7 +2,7 @@ use Rattle.std.proofs.Common.{arith, w64, inl, inr}
 use Rattle.std.specs.Int.{bit_not}
 use Rattle.std.proofs.lemmas.Bool.{cases_lt}
 use Rattle.std.proofs.lemmas.Nat.Bits.{bit_at_above, bit_at_and, bit_at_not}
-use Rattle.rq_groups.proofs.index.apart.Goals as goal
+use Rattle.rq_flags.proofs.apart.Goals as goal
 
 pub returns : goal.returns
 returns c i =

@@ -1,9 +1,9 @@
 use Rattle.std.proofs.Common.{◌≡◌, ◌%◌, ◌/◌, ◌*◌, ◌^◌, ℕ, bit_and, slice_set, get_or, subst, sym, arith, w64}
 use Rattle.std.specs.Int.{bit_not}
 use Rattle.std.proofs.lemmas.List.{get_or_read}
-use Rattle.rq_groups.specs.Flags.{flag_at, OthersStay}
-use Rattle.rq_groups.proofs.Flagged.{flag_at-clear_same, flag_at-clear_other}
-use Rattle.rq_groups.proofs.index.clear_flag.Goals as goal
+use Rattle.rq_flags.specs.Flags.{flag_at, OthersStay}
+use Rattle.rq_flags.proofs.Flagged.{flag_at-clear_same, flag_at-clear_other}
+use Rattle.rq_flags.proofs.clear_flag.Goals as goal
 
 pub returns-clause-clear : goal.returns-clause-clear
 returns-clause-clear c =

@@ -1,6 +1,6 @@
 use Rattle.std.proofs.Common.{◌%◌, ◌/◌, get_or, arith}
-use Rattle.rq_groups.proofs.Flagged.{flag_at-past, none_in_word, lowest_within, next_in_word}
-use Rattle.rq_groups.proofs.index.next_in_word.Goals as goal
+use Rattle.rq_flags.proofs.Flagged.{flag_at-past, none_in_word, lowest_within, next_in_word}
+use Rattle.rq_flags.proofs.next_in_word.Goals as goal
 
 pub returns-then-from-words : goal.returns-then-from-words
 returns-then-from-words c k after here = flag_at-past c.args.words.now k (omega arith)
