@@ -5,6 +5,7 @@ pub mod Keeping
 pub mod Refusals
 pub mod Standing
 pub mod Latches
+pub mod Free
 pub mod Inverses
 pub mod Calls
 pub mod SendCalls

@@ -8,11 +8,12 @@ ghost use Rattle.rq_page.specs.Slots.{Used};
 ghost use Rattle.rq_views.specs.Log.{cell_in};
 ghost use Rattle.rq_chain.specs.Neighbours.{IsNeighbourAt};
 ghost use Rattle.rq_views.specs.Stored.{slots_in};
+ghost use Rattle.rq_groups.specs.Ends.{has_held, is_held};
 ghost use Rattle.rq_groups.specs.Waiting.{waits};
 ghost use Rattle.rq_store.specs.State.{ledger_of};
 ghost use Rattle.rq_sound.specs.Plans.{AreUnlatched};
 ghost use Rattle.rq_sound.specs.Sound.{IsSound};
-ghost use Rattle.rq_store.specs.Plans.{IsTakePlan, WaitsFor};
+ghost use Rattle.rq_store.specs.Plans.{IsTakePlan, NoneWaits, WaitsFor};
 ghost use Rattle.rq_engine.specs.Applied.{TakesUnlatched};
 ghost use Rattle.rq_engine.specs.Opened.{LeavesDevices};
 ghost use Rattle.rq_engine.specs.Answers.{AnswersLegally, HasNothingUnderWay};
@@ -50,13 +51,13 @@ impl<P: PageDevice, L: LogDevice> Engine<P, L> {
         ensures failed { (result ≡ Err Refusal.Failed) ↔ (self.old.state.failed ≡ true) }
     {
         let number = self.check_open(txn)?;
-        if self.waiting.first_for(&self.ends, txn).is_none() {
+        let Some(first) = self.first_waiting(txn) else {
             return Ok(None);
-        }
+        };
         if self.is_log_full(CHAIN_OPERATION) {
             return Err(Refusal::LogFull);
         }
-        match self.plan_any_take(txn)? {
+        match self.plan_any_take(txn, first)? {
             None => Err(Refusal::Latched),
             Some((sender, plan, room)) => match self.start_take(txn, number, sender, plan, room) {
                 Ok(sub) => Ok(Some(sub)),
@@ -141,20 +142,31 @@ impl<P: PageDevice, L: LogDevice> Engine<P, L> {
         }
     }
 
-    // The least sender at or after this one of which a message waits that the transaction may take.
-    fn next_waiting(&self, txn: Txn, from: u32) -> Option<u32>
+    // A sender of which a message waits that the transaction may take.
+    fn first_waiting(&self, txn: Txn) -> Option<u32>
         ensures waits { IfSome result (λ sender. WaitsFor self.now.state txn sender) }
-        ensures first { IfSome result (λ sender. (from ≤ sender)
-            × ((g : ℕ) → from ≤ g → g < sender → WaitsFor self.now.state txn g → ⊥)) }
-        ensures room { IfSome result (λ sender. sender + 1 < 2 ^ 32) }
-        ensures none { IfNone result ((g : ℕ) → from ≤ g → WaitsFor self.now.state txn g → ⊥) }
+        ensures none { IfNone result (NoneWaits self.now.state txn) }
     {
-        self.waiting.next_for(&self.ends, txn, from)
+        self.waiting.first_for(&self.ends, txn)
+    }
+
+    // The least sender at or after this one of which a message waits, and whose receiving end nobody holds.
+    fn next_free(&self, from: u32) -> Option<u32>
+        ensures waits { IfSome result (λ sender. (txn : Txn) → WaitsFor self.now.state txn sender) }
+        ensures first { IfSome result (λ sender. (from ≤ sender) × ((g : ℕ) → from ≤ g → g < sender
+            → is_held g self.now.state.ends.receiving ≡ false → waits self.now.state.waiting g ≡ 0)) }
+        ensures room { IfSome result (λ sender. sender + 1 < 2 ^ 32) }
+        ensures none { IfNone result ((g : ℕ) → from ≤ g → is_held g self.now.state.ends.receiving ≡ false
+            → waits self.now.state.waiting g ≡ 0) }
+    {
+        self.waiting.next_free(&self.ends, from)
     }
 
     // A sender of which a message waits for the transaction, with the plan of its receive, and how many bytes its
-    // records take in the log; none where others have latched a page that is needed, whatever the sender.
-    fn plan_any_take(&self, txn: Txn) -> Result<Option<(u32, ChainPlan, usize)>, Refusal>
+    // records take in the log; none where others have latched a page that is needed, whatever the sender. This one is
+    // tried first.
+    fn plan_any_take(&self, txn: Txn, first: u32) -> Result<Option<(u32, ChainPlan, usize)>, Refusal>
+        requires { WaitsFor self.now.state txn first }
         ensures waits { IfOk result (λ found. IfSome found (λ planned. WaitsFor self.now.state txn planned.0)) }
         ensures plan { IfOk result (λ found. IfSome found (λ planned. (number : ℕ)
             → IsTakePlan self.now.state.sizes (slots_in self.now.state.sizes self.now.state.images)
@@ -169,14 +181,89 @@ impl<P: PageDevice, L: LogDevice> Engine<P, L> {
         ensures plain { IfErr result (λ r. r ≢ Refusal.Failed) }
         ensures refused { IsSound self.now.state → IfErr result (λ r. r ≡ Refusal.NoMemory) }
     {
+        if let Some((plan, room)) = self.plan_take(first)? {
+            return Ok(Some((first, plan, room)));
+        }
+        match self.plan_free_take(txn)? {
+            Some(planned) => Ok(Some(planned)),
+            None => self.plan_own_take(txn),
+        }
+    }
+
+    // The same, of the senders whose receiving end nobody holds.
+    fn plan_free_take(&self, txn: Txn) -> Result<Option<(u32, ChainPlan, usize)>, Refusal>
+        ensures waits { IfOk result (λ found. IfSome found (λ planned. WaitsFor self.now.state txn planned.0)) }
+        ensures plan { IfOk result (λ found. IfSome found (λ planned. (number : ℕ)
+            → IsTakePlan self.now.state.sizes (slots_in self.now.state.sizes self.now.state.images)
+            (under_plan number planned.1) planned.0)) }
+        ensures fits { IfOk result (λ found. IfSome found (λ planned. FitsPlan self.now.state.sizes planned.1 planned.2)) }
+        ensures free { IfOk result (λ found. IfSome found
+            (λ planned. AreUnlatched self.now.state planned.1.writes.items)) }
+        ensures unlatched { IfOk result (λ found. IfSome found
+            (λ planned. take_latched self.now.state planned.0 ≡ false)) }
+        ensures latched { IfOk result (λ found. IfNone found ((g : ℕ)
+            → is_held g self.now.state.ends.receiving ≡ false → WaitsFor self.now.state txn g
+            → take_latched self.now.state g ≡ true)) }
+        ensures plain { IfErr result (λ r. r ≢ Refusal.Failed) }
+        ensures refused { IsSound self.now.state → IfErr result (λ r. r ≡ Refusal.NoMemory) }
+    {
         let mut from = 0;
-        while let Some(sender) = self.next_waiting(txn, from) {
+        while let Some(sender) = self.next_free(from) {
             if let Some((plan, room)) = self.plan_take(sender)? {
                 return Ok(Some((sender, plan, room)));
             }
             from = sender + 1;
         }
         Ok(None)
+    }
+
+    // The same, of the senders whose receiving end the transaction holds.
+    fn plan_own_take(&self, txn: Txn) -> Result<Option<(u32, ChainPlan, usize)>, Refusal>
+        ensures waits { IfOk result (λ found. IfSome found (λ planned. WaitsFor self.now.state txn planned.0)) }
+        ensures plan { IfOk result (λ found. IfSome found (λ planned. (number : ℕ)
+            → IsTakePlan self.now.state.sizes (slots_in self.now.state.sizes self.now.state.images)
+            (under_plan number planned.1) planned.0)) }
+        ensures fits { IfOk result (λ found. IfSome found (λ planned. FitsPlan self.now.state.sizes planned.1 planned.2)) }
+        ensures free { IfOk result (λ found. IfSome found
+            (λ planned. AreUnlatched self.now.state planned.1.writes.items)) }
+        ensures unlatched { IfOk result (λ found. IfSome found
+            (λ planned. take_latched self.now.state planned.0 ≡ false)) }
+        ensures latched { IfOk result (λ found. IfNone found ((g : ℕ)
+            → has_held txn g self.now.state.ends.receiving ≡ true → WaitsFor self.now.state txn g
+            → take_latched self.now.state g ≡ true)) }
+        ensures plain { IfErr result (λ r. r ≢ Refusal.Failed) }
+        ensures refused { IsSound self.now.state → IfErr result (λ r. r ≡ Refusal.NoMemory) }
+    {
+        let mut next = self.ends.newest_received(txn);
+        while let Some(sender) = next {
+            if let Some((plan, room)) = self.plan_waiting(txn, sender)? {
+                return Ok(Some((sender, plan, room)));
+            }
+            next = self.ends.received_before(sender);
+        }
+        Ok(None)
+    }
+
+    // The plan of a receive from the sender's group, where it holds a message for the transaction and needs no page that
+    // others have latched.
+    fn plan_waiting(&self, txn: Txn, sender: u32) -> Result<Option<(ChainPlan, usize)>, Refusal>
+        ensures waits { IfOk result (λ found. IfSome found (λ _. WaitsFor self.now.state txn sender)) }
+        ensures plan { IfOk result (λ found. IfSome found (λ planned. (number : ℕ)
+            → IsTakePlan self.now.state.sizes (slots_in self.now.state.sizes self.now.state.images)
+            (under_plan number planned.0) sender)) }
+        ensures fits { IfOk result (λ found. IfSome found (λ planned. FitsPlan self.now.state.sizes planned.0 planned.1)) }
+        ensures free { IfOk result (λ found. IfSome found
+            (λ planned. AreUnlatched self.now.state planned.0.writes.items)) }
+        ensures unlatched { IfOk result (λ found. IfSome found (λ _. take_latched self.now.state sender ≡ false)) }
+        ensures latched { IfOk result (λ found. IfNone found (WaitsFor self.now.state txn sender
+            → take_latched self.now.state sender ≡ true)) }
+        ensures plain { IfErr result (λ r. r ≢ Refusal.Failed) }
+        ensures refused { IsSound self.now.state → IfErr result (λ r. r ≡ Refusal.NoMemory) }
+    {
+        if self.waiting.count(sender) == 0 || !self.ends.may_receive(txn, sender) {
+            return Ok(None);
+        }
+        self.plan_take(sender)
     }
 
     // The plan of a receive, from the slots as they are, and how many bytes its records take in the log; none where it

@@ -1,0 +1,35 @@
+-- Senders of which a message waits, and whose receiving end nobody holds.
+use Rattle.std.proofs.Common.{◌≡◌, ◌≤◌, ◌<◌, ℕ, true, false, List, length, Option, Some, None, Result, Ok, Err, inl, inr, arith}
+use Rattle.std.specs.Option.{IfSome, IfNone}
+use Rattle.std.specs.Result.{IfOk}
+use Rattle.std.proofs.lemmas.Bool.{cases_Bool}
+use Rattle.rq_model.specs.declared.txn.Txn.{Txn}
+use Rattle.rq_groups.specs.declared.Held.{Held}
+use Rattle.rq_groups.specs.Ends.{has_held, is_free_for, is_held}
+use Rattle.rq_groups.specs.Waiting.{waits}
+use Rattle.rq_groups.proofs.Chained.{free_is_own, free_none}
+use Rattle.rq_store.specs.State.{State}
+use Rattle.rq_store.specs.Plans.{WaitsFor}
+use Rattle.rq_engine.specs.Sends.{take_latched}
+
+-- the least such sender from this one on
+abbrev pub IsFree : List ℕ → List Held → ℕ → ℕ → Type 0
+IsFree ws hs from s = (from ≤ s) × (s < length ws) × (1 ≤ waits ws s) × (is_held s hs ≡ false) × ((t : ℕ) → from ≤ t → t < s → is_held t hs ≡ false → waits ws t ≡ 0)
+
+pub free_waits : (n : ℕ) (ws : List ℕ) (hs : List Held) (from : ℕ) (o : Option ℕ) → length ws ≡ n → IfSome o (IsFree ws hs from) → IfSome o (λ s. (t : Txn) → (s < n) × (is_free_for t s hs ≡ true) × (1 ≤ waits ws s))
+free_waits n ws hs from None e f = f
+free_waits n ws hs from (Some s) e f = λ t. (let below = f.1 in omega (arith, below, e), free_none t s hs f.3, f.2)
+
+pub free_first : (ws : List ℕ) (hs : List Held) (from : ℕ) (o : Option ℕ) → IfSome o (IsFree ws hs from) → IfSome o (λ s. (from ≤ s) × ((t : ℕ) → from ≤ t → t < s → is_held t hs ≡ false → waits ws t ≡ 0))
+free_first ws hs from None f = f
+free_first ws hs from (Some s) f = (f.0, f.4)
+
+-- where neither a group that nobody holds nor one that the transaction holds goes without a latch, none does
+pub all_latched : {A E : Type 0} (s : State) (t : Txn) (o : Result (Option A) E) → ((g : ℕ) → is_held g s.ends.receiving ≡ false → WaitsFor s t g → take_latched s g ≡ true) → IfOk o (λ found. IfNone found ((g : ℕ) → has_held t g s.ends.receiving ≡ true → WaitsFor s t g → take_latched s g ≡ true)) → IfOk o (λ found. IfNone found ((g : ℕ) → WaitsFor s t g → take_latched s g ≡ true))
+all_latched s t (Err e) free own = own
+all_latched s t (Ok (Some x)) free own = own
+all_latched s t (Ok None) free own g w =
+    elim (cases_Bool (is_held g s.ends.receiving)) [
+      | inl held ↦ own g (free_is_own t g s.ends.receiving held w.1) w
+      | inr vacant ↦ free g vacant w
+    ]

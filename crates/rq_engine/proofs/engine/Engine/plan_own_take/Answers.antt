@@ -1,0 +1,38 @@
+use Rattle.std.proofs.Common.{◌≡◌, ◌∷◌, List, ℕ, true, sym, ap, ◌∙◌, subst, Option, Some, None}
+use Rattle.rq_groups.specs.Ends.{AreApart, IsTail, first_of, held_by}
+use Rattle.rq_store.specs.State.{State}
+use Rattle.rq_store.specs.Plans.{WaitsFor}
+use Rattle.rq_engine.specs.Sends.{take_latched}
+use Rattle.rq_groups.proofs.Chained.{none_left}
+use Rattle.rq_groups.proofs.Holders.{has_is_number}
+use Rattle.rq_groups.proofs.Tails.{IsWalk, walk_begin, walk_next, walk_over, walk_shorter}
+use Rattle.rq_engine.proofs.Opened.{state_is}
+use Rattle.rq_engine.proofs.engine.Engine.plan_own_take.Goals as goal
+
+pub loop-next-smaller : goal.loop-next-smaller
+loop-next-smaller g c =
+    let s = c.args.self.now.state in
+    let own = held_by c.args.txn s.ends.receiving in
+    let P = λ (e : ℕ). WaitsFor s c.args.txn e → take_latched s e ≡ true in
+    let once : AreApart own = subst (λ (x : State). AreApart (held_by c.args.txn x.ends.receiving)) (state_is c.self.view_is) c.newest_received-next.ensures.once in
+    let follows : (older : List ℕ) → IsTail own (c.in-Some.sender ∷ older) → c.received_before-next.result ≡ first_of older =
+    λ older tail. c.received_before-next.ensures c.args.txn older (subst (λ (x : State). IsTail (held_by c.args.txn x.ends.receiving) (c.in-Some.sender ∷ older)) (sym (state_is c.self.view_is)) tail) in
+    rw c.in-Some.is (walk_shorter own c.in-Some.sender c.received_before-next.result P once (subst (λ (o : Option ℕ). IsWalk own o P) c.in-Some.is c.loop-next.invariant) follows)
+
+pub loop-next-preserved : goal.loop-next-preserved
+loop-next-preserved g c =
+    let s = c.args.self.now.state in
+    let own = held_by c.args.txn s.ends.receiving in
+    let P = λ (e : ℕ). WaitsFor s c.args.txn e → take_latched s e ≡ true in
+    let follows : (older : List ℕ) → IsTail own (c.in-Some.sender ∷ older) → c.received_before-next.result ≡ first_of older =
+    λ older tail. c.received_before-next.ensures c.args.txn older (subst (λ (x : State). IsTail (held_by c.args.txn x.ends.receiving) (c.in-Some.sender ∷ older)) (sym (state_is c.self.view_is)) tail) in
+    walk_next own c.in-Some.sender c.received_before-next.result P (subst (λ (o : Option ℕ). IsWalk own o P) c.in-Some.is c.loop-next.invariant) follows
+    (let x : ℕ = c.in_default.not-Some in ?)
+
+pub returns-clause-latched : goal.returns-clause-latched
+returns-clause-latched g c e held waits =
+    let s = c.args.self.now.state in
+    let own = held_by c.args.txn s.ends.receiving in
+    let P = λ (e : ℕ). WaitsFor s c.args.txn e → take_latched s e ≡ true in
+    let over : c.loop-next.next ≡ None = none_left c.loop-next.next c.in_default.not-Some in
+    walk_over own P (subst (λ (o : Option ℕ). IsWalk own o P) over c.loop-next.invariant) e (sym (has_is_number c.args.txn e s.ends.receiving) ∙ held) waits
