@@ -1,5 +1,5 @@
 //! What is planned from while others have latched pages.
-ghost use Rattle.std.specs.Prelude.{◌≡◌, ◌⊎◌, ◌/◌, ◌<◌, None, false, IfSome, IfNone};
+ghost use Rattle.std.specs.Prelude.{◌≡◌, ◌⊎◌, ◌-◌, ◌*◌, ◌/◌, ◌<◌, None, false, IfSome, IfNone};
 ghost use Rattle.rq_page.specs.Sizes.{IsCellAddress, IsLink};
 ghost use Rattle.rq_page.specs.Slots.Slot.{Free, Used};
 ghost use Rattle.rq_views.specs.Log.{cell_in};
@@ -13,6 +13,7 @@ ghost use Rattle.rq_inverses.specs.Found.{AreAllLatched, AreLatchedBelow};
 use rq_chain::Neighbour;
 use rq_disk::PageDevice;
 use rq_page::addr::Addr;
+use rq_page::layout::{Layout, SLOTS};
 use rq_pool::Pages;
 use rq_txn::Transactions;
 
@@ -27,13 +28,22 @@ pub fn lowest_free<P: PageDevice>(pages: &Pages<P>, transactions: &Transactions)
         (slots_in pages.now.sizes pages.now.images) transactions.now) }
 {
     let layout = pages.layout();
-    for place in 0..layout.cell_slots() {
-        let at = layout.cell_addr(place);
-        if !pages.is_used(at) && !transactions.has_latched(at.page()) {
+    let mut next = 0;
+    while let Some(at) = pages.next_free(next) {
+        if !transactions.has_latched(at.page()) {
             return Some(at);
         }
+        next = behind_page(&layout, at);
     }
     None
+}
+
+// The place among the cells at which those behind the page of this one begin.
+fn behind_page(layout: &Layout, at: Addr) -> u32
+    requires { IsCellAddress layout.now at }
+    ensures { result ≡ 15 * (at / 16 - layout.now.directory) }
+{
+    SLOTS * (at.page() - layout.directory() as u64) as u32
 }
 
 /// The cell that a link names, if it names one: `None` where that is free.

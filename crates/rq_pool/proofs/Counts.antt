@@ -156,7 +156,7 @@ pub step_none : (b : Bool) (used next : ℕ) → b ≡ false → next ≡ used �
 step_none b used next test step = step_if b false used next 0 test (omega arith) refl
 
 -- cells with addresses below that of a place have lower places
-lower_place : (z : Sizes) (b place : ℕ) → IsCellAddress z b → b < cell_at z place → place_of z b < place
+pub lower_place : (z : Sizes) (b place : ℕ) → IsCellAddress z b → b < cell_at z place → place_of z b < place
 lower_place z b place is lt =
     let e : cell_at z (place_of z b) ≡ b = (places_are_cells z b is).1 in
     elim (cases_lt (place_of z b) place) [
@@ -167,15 +167,9 @@ lower_place z b place is lt =
       ]
     ]
 
-pub lower_used : (z : Sizes) (q : Slots) (place at : ℕ) → at ≡ cell_at z place → ((i : ℕ) → i < place → is_used (q (cell_at z i)) ≡ true)
-    → (b : ℕ) → IsCellAddress z b → b < at → is_used (q b) ≡ true
-lower_used z q place at e each b is lt =
-    let low : b < cell_at z place = less_along b at (cell_at z place) lt e in
-    ap (λ a. is_used (q a)) (sym ((places_are_cells z b is).1)) ∙ each (place_of z b) (lower_place z b place is low)
-
 -- every cell is used
-pub all_used : (z : Sizes) (q : Slots) (n : ℕ) → cell_count z ≤ n → ((i : ℕ) → i < n → is_used (q (cell_at z i)) ≡ true) → count_used z q ≡ cell_count z
-all_used z q n high each = all_passed (λ i. is_used (q (cell_at z i))) (cell_count z) (λ i lt. each i (omega arith))
+pub all_used : (z : Sizes) (q : Slots) → ((a : ℕ) → IsCellAddress z a → is_used (q a) ≡ true) → count_used z q ≡ cell_count z
+all_used z q each = all_passed (λ i. is_used (q (cell_at z i))) (cell_count z) (λ i lt. each (cell_at z i) ((cells_have_places z i lt).0))
 
 -- the count with one cell more
 used_by : (x : Slot) → is_used x ≡ is_some (cell_in x)

@@ -2,6 +2,7 @@ pub mod Readings
 pub mod Counts
 pub mod Framed
 pub mod Slots
+pub mod Indexes
 pub mod Stands
 pub mod Writings
 pub mod Kept

@@ -1,4 +1,5 @@
 pub mod Pooled
 pub mod Frames
+pub mod Indexed
 pub mod Reading
 pub mod Writing

@@ -3,7 +3,7 @@
 
 ghost use Rattle.std.specs.Prelude.{◌≡◌, ◌≢◌, ◌↔◌, ◌<◌, ◌≤◌, ◌+◌, ◌^◌, ◌/◌, ◌%◌, ℕ, true, false, IsSome, IfSome, IfNone, IfErr, IfOk, OnOk, OnErr, length, replicate, slice_set};
 ghost use Rattle.std.specs.Bool.{OnFalse};
-ghost use Rattle.rq_page.specs.Sizes.{IsCellAddress, page_count, sender_count, cell_count, directory_at};
+ghost use Rattle.rq_page.specs.Sizes.{IsCellAddress, page_count, sender_count, cell_count, directory_at, place_of};
 ghost use Rattle.rq_page.specs.Pages.{IsWritten};
 ghost use Rattle.rq_page.specs.Slots.{Free, Sender, held_in, IsSlotOf, IsCellOf, IsDirectoryOf};
 ghost use Rattle.rq_views.specs.Log.{cell_in, put};
@@ -12,13 +12,16 @@ ghost use Rattle.rq_pool.specs.Pooled.{IsPool, image_at, is_changed};
 ghost use Rattle.rq_pool.specs.Reading.{HasAnswered, NotReadAgain, OnlyRead as WasRead};
 
 mod frames;
+mod free;
 mod reading;
 
 use crate::frames::{mark_written, set_page, write_slot};
+use crate::free::{index_cells, note_page, note_slot};
 use crate::reading::{read_again, read_frames, read_superblock};
 use rq_disk::PageDevice;
+use rq_flags::Index;
 use rq_model::record::Slot;
-use rq_model::refusal::Refusal;
+use rq_model::refusal::{NoMemory, Refusal};
 use rq_model::txn::Lsn;
 use rq_page::addr::Addr;
 use rq_page::cell::{Cell, CellSlot};
@@ -51,11 +54,14 @@ pub struct Pages<P: PageDevice> {
     device: P,
     layout: Layout,
     frames: Vec<Frame>,
+    // The places of the free cells among the cells.
+    free: Index,
 }
 
 impl<P: PageDevice> Model for Pages<P> {
     ghost use Rattle.rq_pool.specs.Pooled.{Pooled, AreOver};
     ghost use Rattle.rq_pool.specs.Frames.{images_of, changed_of};
+    ghost use Rattle.rq_pool.specs.Indexed.{IsFreeIndex};
 
     ghost Value = { Pooled P };
 
@@ -67,7 +73,7 @@ impl<P: PageDevice> Model for Pages<P> {
     } };
 
     ghost invariant = { λ p. AreOver P.PageDevice p.device p.layout (images_of p.frames.items)
-        (changed_of p.frames.items) };
+        (changed_of p.frames.items) × IsFreeIndex p.layout (images_of p.frames.items) p.free };
 }
 
 /// Pages that could not be had: why, and their device.
@@ -97,13 +103,21 @@ impl<P: PageDevice + Drop> Pages<P> {
             Ok(first) => first,
             Err(refusal) => return Err(Stopped { refusal, device }),
         };
-        match read_frames(alloc, &mut device, &layout, superblock) {
-            Ok(frames) => Ok(Pages {
+        let frames = match read_frames(alloc, &mut device, &layout, superblock) {
+            Ok(frames) => frames,
+            Err(refusal) => return Err(Stopped { refusal, device }),
+        };
+        match index_cells(alloc, &layout, &frames) {
+            Ok(free) => Ok(Pages {
                 device,
                 layout,
                 frames,
+                free,
             }),
-            Err(refusal) => Err(Stopped { refusal, device }),
+            Err(NoMemory) => Err(Stopped {
+                refusal: Refusal::NoMemory,
+                device,
+            }),
         }
     }
 
@@ -115,6 +129,7 @@ impl<P: PageDevice + Drop> Pages<P> {
             device,
             layout: _,
             frames: _,
+            free: _,
         } = self;
         device
     }
@@ -179,6 +194,7 @@ impl<P: PageDevice> Pages<P> {
         ensures pool { IsPool self.new.sizes self.new.images }
     {
         write_slot(&mut self.frames, at, image, lsn);
+        note_slot(&mut self.free, &self.layout, &self.frames, at);
     }
 
     /// Writes a page to the device, where it has a change that was not written and the log is forced up to its
@@ -244,6 +260,7 @@ impl<P: PageDevice> Pages<P> {
         match read_again(&mut self.device, &self.layout, number) {
             Ok(page) => {
                 set_page(&mut self.frames, number, page);
+                note_page(&mut self.free, &self.layout, &self.frames, number);
                 Ok(())
             }
             Err(refusal) => Err(refusal),
@@ -283,14 +300,24 @@ impl<P: PageDevice> Pages<P> {
         ensures full { IfNone result (count_used self.now.sizes (slots_in self.now.sizes self.now.images)
             ≡ cell_count self.now.sizes) }
     {
-        let layout = self.layout();
-        for place in 0..layout.cell_slots() {
-            let at = layout.cell_addr(place);
-            if !self.is_used(at) {
-                return Some(at);
-            }
+        self.next_free(0)
+    }
+
+    /// The free cell with the lowest address whose place among the cells is this one or a later one; none where each of
+    /// these is used.
+    pub fn next_free(&self, from: u32) -> Option<Addr>
+        ensures cell { IfSome result (λ a. IsCellAddress self.now.sizes a) }
+        ensures free { IfSome result (λ a. slots_in self.now.sizes self.now.images a ≡ Free) }
+        ensures from { IfSome result (λ a. from ≤ place_of self.now.sizes a) }
+        ensures lowest { IfSome result (λ a. (b : ℕ) → IsCellAddress self.now.sizes b → from ≤ place_of self.now.sizes b
+            → b < a → is_used (slots_in self.now.sizes self.now.images b) ≡ true) }
+        ensures none { IfNone result ((b : ℕ) → IsCellAddress self.now.sizes b → from ≤ place_of self.now.sizes b
+            → is_used (slots_in self.now.sizes self.now.images b) ≡ true) }
+    {
+        match self.free.next(from as usize) {
+            Some(place) => Some(self.layout.cell_addr(place as u32)),
+            None => None,
         }
-        None
     }
 
     /// How many cells are used.

@@ -5,7 +5,7 @@ use Rattle.rq_pool.proofs.Pages.fix.Goals as goal
 
 pub returns-in-Err-clause-err : goal.returns-in-Err-clause-err
 returns-in-Err-clause-err g c = λ h.
-    let i = c.self.invariant in
+    let i = c.self.invariant.0 in
     let z = c.self.inside.layout in
     let high = rw (← c.self.view_is) at c.requires.high in
     let same = rw (← c.self.view_is) at c.requires.clean in

@@ -1,5 +1,6 @@
 use Rattle.std.proofs.Common.{ap}
 use Rattle.rq_pool.specs.Pooled.{Pooled}
+use Rattle.rq_pool.proofs.Indexes.{index_written}
 use Rattle.rq_pool.proofs.Over.{over_set}
 use Rattle.rq_pool.proofs.Kept.{pool_written}
 use Rattle.rq_pool.proofs.Pages.set_slot.Goals as goal
@@ -7,11 +8,16 @@ use Rattle.rq_pool.proofs.Pages.set_slot.Goals as goal
 pub invariant_of-self : goal.invariant_of-self
 invariant_of-self g c =
     let wrote = c.write_slot.ensures in
-    over_set g.P.PageDevice _ _ _ _ _ _ _ c.self.invariant
-    (pool_written _ _ _ _ _ _ _ (ap (λ (v : Pooled _). v.sizes) c.self.view_is) c.self.invariant.pool c.requires.place.page_low c.requires.image wrote.count wrote.page wrote.header wrote.others)
-    (rw (← c.self.view_is) at c.requires.place.page_high) wrote.changed wrote.others
+    let note = c.note_slot.ensures in
+    let kept = c.self.invariant in
+    let high = rw (← c.self.view_is) at c.requires.place.page_high in (
+      over_set g.P.PageDevice _ _ _ _ _ _ _ kept.0
+          (pool_written _ _ _ _ _ _ _ (ap (λ (v : Pooled _). v.sizes) c.self.view_is) kept.0.pool c.requires.place.page_low c.requires.image wrote.count wrote.page wrote.header wrote.others)
+          high wrote.changed wrote.others,
+      index_written _ _ _ _ _ _ _ _ kept.1 high wrote.page wrote.others (rw c.deref.ensures.value at note.noted) note.others note.same,
+    )
 
 pub returns-clause-pool : goal.returns-clause-pool
 returns-clause-pool g c =
     let wrote = c.write_slot.ensures in
-    pool_written _ _ _ _ _ _ _ (ap (λ (v : Pooled _). v.sizes) c.self.view_is) c.self.invariant.pool c.requires.place.page_low c.requires.image wrote.count wrote.page wrote.header wrote.others
+    pool_written _ _ _ _ _ _ _ (ap (λ (v : Pooled _). v.sizes) c.self.view_is) c.self.invariant.0.pool c.requires.place.page_low c.requires.image wrote.count wrote.page wrote.header wrote.others

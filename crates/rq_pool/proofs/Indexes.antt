@@ -1,0 +1,93 @@
+-- The index of the free cells is kept.
+use Rattle.std.proofs.Common.{◌≡◌, ◌≢◌, ℕ, ◌*◌, ◌/◌, ◌%◌, ◌<◌, ◌≤◌, Bool, true, false, cond, nat_lt, List, length, refl, sym, ap, ◌∙◌, arith, inl, inr}
+use Rattle.std.specs.Prelude.{Option, None, Some, IfSome, IfNone}
+use Rattle.std.proofs.lemmas.Bool.{cases_eq}
+use Rattle.rq_flags.specs.Flags.{flag_at, IsNextFlag}
+use Rattle.rq_page.specs.Sizes.{Sizes, IsCellAddress, cell_count, cell_at, page_count, place_of}
+use Rattle.rq_page.specs.Slots.{Free, held_in}
+use Rattle.rq_page.specs.Pages.{slot_of, IsWritten}
+use Rattle.rq_page.proofs.Addresses.{cells_have_places, places_are_cells}
+use Rattle.rq_views.specs.Log.{Slots}
+use Rattle.rq_views.specs.Stored.{slots_in, slot_at, is_used, count_used}
+use Rattle.rq_pool.specs.Pooled.{image_at}
+use Rattle.rq_pool.specs.Indexed.{free_flag, IsNoted, IsFreeIndex}
+use Rattle.rq_pool.proofs.Counts.{all_used, lower_place}
+
+-- the flags of the cells before a place are noted, and no later one is set
+pub record AreNotedBelow (z : Sizes) (images : List (List ℕ)) (flags : List ℕ) (n : ℕ) : Type 0 where
+  pub room : cell_count z ≤ 64 * length flags
+  pub below : (k : ℕ) → k < n → IsNoted z images flags k
+  pub later : (k : ℕ) → n ≤ k → flag_at flags k ≡ 0
+
+-- the flags of a page's cells before a slot are noted, and all others are as before
+pub record AreNotedOf (z : Sizes) (images : List (List ℕ)) (old flags : List ℕ) (page slot : ℕ) : Type 0 where
+  pub noted : (k : ℕ) → k < cell_count z → cell_at z k / 16 ≡ page → cell_at z k % 16 < slot → IsNoted z images flags k
+  pub others : (k : ℕ) → cell_at z k / 16 ≢ page → flag_at flags k ≡ flag_at old k
+  pub same : length flags ≡ length old
+
+-- a cell whose slot is as it was
+slot_stays : (z : Sizes) (old new : List (List ℕ)) (a : ℕ) → slot_at new a ≡ slot_at old a → slots_in z new a ≡ slots_in z old a
+slot_stays z old new a same = ap (λ (bytes : List ℕ). cond (nat_lt 0 (a % 16)) (held_in z (a / 16) bytes) Free) same
+
+-- slots of other pages, and other slots of a page that was written
+page_stays : (old new : List (List ℕ)) (page a : ℕ) → ((p : ℕ) → p ≢ page → image_at new p ≡ image_at old p) → a / 16 ≢ page → slot_at new a ≡ slot_at old a
+page_stays old new page a others off = ap (slot_of (a % 16)) (others (a / 16) off)
+
+rest_stays : (old new : List (List ℕ)) (at a : ℕ) (image : List ℕ) (lsn : ℕ) → IsWritten (image_at old (at / 16)) (image_at new (at / 16)) (at % 16) image lsn
+    → ((p : ℕ) → p ≢ at / 16 → image_at new p ≡ image_at old p) → 1 ≤ a % 16 → a ≢ at → slot_at new a ≡ slot_at old a
+rest_stays old new at a image lsn written others low other =
+    elim (cases_eq (a / 16) (at / 16)) [
+      | inl page ↦
+          ap (λ (p : ℕ). slot_of (a % 16) (image_at new p)) page ∙ written.others (a % 16) low (omega arith) (λ same. other (omega (arith, page, same))) ∙ ap (λ (p : ℕ). slot_of (a % 16) (image_at old p)) (sym page)
+      | inr another ↦ page_stays old new (at / 16) a others another
+    ]
+
+-- a slot was written, and noted
+pub index_written : (z : Sizes) (old new : List (List ℕ)) (flags now : List ℕ) (at : ℕ) (image : List ℕ) (lsn : ℕ) → IsFreeIndex z old flags → at / 16 < page_count z
+    → IsWritten (image_at old (at / 16)) (image_at new (at / 16)) (at % 16) image lsn → ((p : ℕ) → p ≢ at / 16 → image_at new p ≡ image_at old p)
+    → ((k : ℕ) → k < cell_count z → cell_at z k ≡ at → IsNoted z new now k) → ((k : ℕ) → cell_at z k ≢ at → flag_at now k ≡ flag_at flags k) → length now ≡ length flags
+    → IsFreeIndex z new now
+index_written z old new flags now at image lsn index high written elsewhere noted others same = record {
+  room = let r = index.room in omega (arith, r, same);
+  cells = λ k lt. elim (cases_eq (cell_at z k) at) [
+    | inl here ↦ noted k lt here
+    | inr other ↦
+        let slot : slot_at new (cell_at z k) ≡ slot_at old (cell_at z k) = rest_stays old new at (cell_at z k) image lsn written elsewhere ((cells_have_places z k lt).0.slot) other in
+        others k other ∙ index.cells k lt ∙ ap free_flag (sym (slot_stays z old new (cell_at z k) slot))
+  ];
+  beyond = λ k past. others k (λ e. absurd (omega (arith, e, high, past))) ∙ index.beyond k past;
+}
+
+-- ---- what the index tells
+
+module _ (z : Sizes) (images : List (List ℕ)) (flags : List ℕ) (index : IsFreeIndex z images flags) where
+  by_no_flag : (b : Bool) → ◌≡◌ {A = ℕ} (cond b 0 1) 0 → b ≡ true
+  by_no_flag true e = refl
+  by_no_flag false e = absurd (omega (arith, e))
+
+  -- a place whose flag is not set is that of a used cell
+  pub used_there : (b : ℕ) → IsCellAddress z b → flag_at flags (place_of z b) ≡ 0 → is_used (slots_in z images b) ≡ true
+  used_there b is clear =
+      let p = places_are_cells z b is in
+      ap (λ a. is_used (slots_in z images a)) (sym p.1) ∙ by_no_flag (is_used (slots_in z images (cell_at z (place_of z b)))) (sym (index.cells (place_of z b) p.0) ∙ clear)
+
+  -- cells between a place and the next one in the index are used
+  pub used_between : (from place a : ℕ) → a ≡ cell_at z place → IsNextFlag flags from (Some place) → (b : ℕ) → IsCellAddress z b → from ≤ place_of z b → b < a → is_used (slots_in z images b) ≡ true
+  used_between from place a here next b is after lt =
+      used_there b is (next.2 (place_of z b) after (lower_place z b place is (omega (arith, lt, here))))
+
+  pub used_from : (from : ℕ) → IsNextFlag flags from None → (b : ℕ) → IsCellAddress z b → from ≤ place_of z b → is_used (slots_in z images b) ≡ true
+  used_from from none b is after = used_there b is (none (place_of z b) after)
+
+-- ---- the lowest free cell
+
+pub lowest_of_all : (z : Sizes) (q : Slots) (r : Option ℕ)
+    → IfSome r (λ a. (b : ℕ) → IsCellAddress z b → 0 ≤ place_of z b → b < a → is_used (q b) ≡ true)
+    → IfSome r (λ a. (b : ℕ) → IsCellAddress z b → b < a → is_used (q b) ≡ true)
+lowest_of_all z q None h = h
+lowest_of_all z q (Some a) h = λ b is lt. h b is (omega arith) lt
+
+pub none_of_all : (z : Sizes) (q : Slots) (r : Option ℕ) → IfNone r ((b : ℕ) → IsCellAddress z b → 0 ≤ place_of z b → is_used (q b) ≡ true)
+    → IfNone r (count_used z q ≡ cell_count z)
+none_of_all z q None h = all_used z q (λ b is. h b is (omega arith))
+none_of_all z q (Some a) h = h
