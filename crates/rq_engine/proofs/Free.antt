@@ -1,5 +1,5 @@
 -- Senders of which a message waits, and whose receiving end nobody holds.
-use Rattle.std.proofs.Common.{◌≡◌, ◌≤◌, ◌<◌, ℕ, true, false, List, length, Option, Some, None, Result, Ok, Err, inl, inr, arith}
+use Rattle.std.proofs.Common.{◌≡◌, ◌≤◌, ◌<◌, ℕ, true, false, List, length, Option, Some, None, Result, Ok, Err, inl, inr, refl, arith}
 use Rattle.std.specs.Option.{IfSome, IfNone}
 use Rattle.std.specs.Result.{IfOk}
 use Rattle.std.proofs.lemmas.Bool.{cases_Bool}
@@ -28,8 +28,13 @@ free_first ws hs from (Some s) f = (f.0, f.4)
 pub all_latched : {A E : Type 0} (s : State) (t : Txn) (o : Result (Option A) E) → ((g : ℕ) → is_held g s.ends.receiving ≡ false → WaitsFor s t g → take_latched s g ≡ true) → IfOk o (λ found. IfNone found ((g : ℕ) → has_held t g s.ends.receiving ≡ true → WaitsFor s t g → take_latched s g ≡ true)) → IfOk o (λ found. IfNone found ((g : ℕ) → WaitsFor s t g → take_latched s g ≡ true))
 all_latched s t (Err e) free own = own
 all_latched s t (Ok (Some x)) free own = own
-all_latched s t (Ok None) free own g w =
-    elim (cases_Bool (is_held g s.ends.receiving)) [
+all_latched s t (Ok None) free own =
+    λ g w. elim (cases_Bool (is_held g s.ends.receiving)) [
       | inl held ↦ own g (free_is_own t g s.ends.receiving held w.1) w
       | inr vacant ↦ free g vacant w
     ]
+
+-- what is nothing that it could be is none
+pub left_none : {X : Type 0} (P : Type 0) (o : Option X) → ((x : X) → o ≡ Some x → ⊥) → IfNone o P → P
+left_none P None n p = p
+left_none P (Some x) n p = absurd (n x refl)

@@ -165,7 +165,11 @@ impl<P: PageDevice, L: LogDevice> Engine<P, L> {
     // A sender of which a message waits for the transaction, with the plan of its receive, and how many bytes its
     // records take in the log; none where others have latched a page that is needed, whatever the sender. This one is
     // tried first.
-    fn plan_any_take(&self, txn: Txn, first: u32) -> Result<Option<(u32, ChainPlan, usize)>, Refusal>
+    fn plan_any_take(
+        &self,
+        txn: Txn,
+        first: u32,
+    ) -> Result<Option<(u32, ChainPlan, usize)>, Refusal>
         requires { WaitsFor self.now.state txn first }
         ensures waits { IfOk result (λ found. IfSome found (λ planned. WaitsFor self.now.state txn planned.0)) }
         ensures plan { IfOk result (λ found. IfSome found (λ planned. (number : ℕ)

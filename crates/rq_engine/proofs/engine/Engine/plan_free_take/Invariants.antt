@@ -1,4 +1,4 @@
-use Rattle.std.proofs.Common.{◌≡◌, ◌-◌, ◌<◌, ◌≤◌, ℕ, true, false}
+use Rattle.std.proofs.Common.{◌≡◌, ◌-◌, ◌<◌, ℕ, true, false}
 use Rattle.rq_page.specs.Sizes.{sender_count}
 use Rattle.rq_groups.specs.Ends.{is_held}
 use Rattle.rq_store.specs.Plans.{WaitsFor}

@@ -1,11 +1,12 @@
-use Rattle.std.proofs.Common.{◌≡◌, ◌∷◌, List, ℕ, true, sym, ap, ◌∙◌, subst, Option, Some, None}
+use Rattle.std.proofs.Common.{◌≡◌, ◌∷◌, List, ℕ, true, sym, ◌∙◌, subst, Option, None}
 use Rattle.rq_groups.specs.Ends.{AreApart, IsTail, first_of, held_by}
 use Rattle.rq_store.specs.State.{State}
 use Rattle.rq_store.specs.Plans.{WaitsFor}
 use Rattle.rq_engine.specs.Sends.{take_latched}
 use Rattle.rq_groups.proofs.Chained.{none_left}
 use Rattle.rq_groups.proofs.Holders.{has_is_number}
-use Rattle.rq_groups.proofs.Tails.{IsWalk, walk_begin, walk_next, walk_over, walk_shorter}
+use Rattle.rq_groups.proofs.Tails.{IsWalk, walk_next, walk_over, walk_shorter}
+use Rattle.rq_engine.proofs.Free.{left_none}
 use Rattle.rq_engine.proofs.Opened.{state_is}
 use Rattle.rq_engine.proofs.engine.Engine.plan_own_take.Goals as goal
 
@@ -27,7 +28,7 @@ loop-next-preserved g c =
     let follows : (older : List ℕ) → IsTail own (c.in-Some.sender ∷ older) → c.received_before-next.result ≡ first_of older =
     λ older tail. c.received_before-next.ensures c.args.txn older (subst (λ (x : State). IsTail (held_by c.args.txn x.ends.receiving) (c.in-Some.sender ∷ older)) (sym (state_is c.self.view_is)) tail) in
     walk_next own c.in-Some.sender c.received_before-next.result P (subst (λ (o : Option ℕ). IsWalk own o P) c.in-Some.is c.loop-next.invariant) follows
-    (let x : ℕ = c.in_default.not-Some in ?)
+    (left_none (P c.in-Some.sender) c.in_ok-plan.field-0 c.in_default-2.not-Some c.in_ok-plan.ensures.latched)
 
 pub returns-clause-latched : goal.returns-clause-latched
 returns-clause-latched g c e held waits =

@@ -1,4 +1,4 @@
-use Rattle.std.proofs.Common.{◌≡◌, ◌≤◌, true}
+use Rattle.std.proofs.Common.{◌≡◌, true}
 use Rattle.rq_groups.specs.Ends.{held_by}
 use Rattle.rq_store.specs.Plans.{WaitsFor}
 use Rattle.rq_groups.proofs.Tails.{IsWalk, left_from}
