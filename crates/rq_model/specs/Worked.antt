@@ -150,6 +150,14 @@ undoing = Aborted (txn 1 1) ∷ None_left (txn 1 1) ∷ Undid (txn 1 1) 2 ∷ Re
 abbrev pub committed_once : List Entry
 committed_once = Committed (txn 1 1) 5 ∷ (sent (txn 1 1) 1 hello 2 ++ (Begun (txn 1 1) ∷ opened))
 
+-- the same before the commit
+abbrev pub sent_once : List Entry
+sent_once = sent (txn 1 1) 1 hello 2 ++ (Begun (txn 1 1) ∷ opened)
+
+-- the message is taken, and all is forced before a crash
+abbrev pub taken_and_opened : List Entry
+taken_and_opened = Restarted 2 10 ∷ Crash 2 9 ∷ Forced 9 ∷ sent_and_got
+
 abbrev pub failed_force : List Entry
 failed_force = Refused Force DiskWrite ∷ committed_once
 
@@ -216,6 +224,20 @@ pub record AreWorked : Type 0 where
       ∷ Stepped (txn 1 1) 1 2 ∷ Started (txn 1 1) 1 (Sending hello) ∷ Begun (txn 1 1) ∷ opened) → ⊥
   pub told_last : IsLegal small (Told 0 1 7 ∷ committed_once)
   pub told_another : IsLegal small (Told 0 1 8 ∷ committed_once) → ⊥
+  pub told_more : IsLegal small (Told 0 2 7 ∷ committed_once) → ⊥
+  pub told_fewer : IsLegal small (Told 0 0 7 ∷ committed_once) → ⊥
+  pub told_of_another_sender : IsLegal small (Told 1 0 0 ∷ committed_once)
+  pub told_of_no_sender : IsLegal small (Told 15 0 0 ∷ committed_once) → ⊥
+  pub told_before_commit : IsLegal small (Told 0 0 0 ∷ sent_once)
+  pub told_too_early : IsLegal small (Told 0 1 7 ∷ sent_once) → ⊥
+  pub told_tag_too_early : IsLegal small (Told 0 0 7 ∷ sent_once) → ⊥
+  pub told_without_undone : IsLegal small (Told 0 1 1 ∷ both_undone)
+  pub told_undone : IsLegal small (Told 0 2 2 ∷ both_undone) → ⊥
+  pub told_tag_of_undone : IsLegal small (Told 0 1 2 ∷ both_undone) → ⊥
+  pub told_after_take_and_restart : IsLegal small (Told 0 1 1 ∷ taken_and_opened)
+  pub told_without_taken : IsLegal small (Told 0 0 0 ∷ taken_and_opened) → ⊥
+  pub told_after_loss : IsLegal small (Told 0 0 0 ∷ all_lost)
+  pub told_lost : IsLegal small (Told 0 1 1 ∷ all_lost) → ⊥
   pub latched_where_one_waits : IsLegal small (Refused (Start_receive (txn 1 2)) Latched ∷ Begun (txn 1 2)
       ∷ committed_once)
   pub latched_for_nothing : IsLegal small (Refused (Start_receive (txn 1 1)) Latched ∷ Begun (txn 1 1) ∷ opened) → ⊥

@@ -1,6 +1,6 @@
 //! The queue as plain lists, with no pages: what an engine is compared with. Its contract is the
 //! definitions: each call is answered as the ledger says.
-ghost use Rattle.std.specs.Prelude.{◌≡◌, ◌<◌, ◌≤◌, IfOk, IfErr, OnErr, OnOk, map, true};
+ghost use Rattle.std.specs.Prelude.{◌≡◌, ◌≢◌, ◌↔◌, ◌<◌, ◌≤◌, ◌-◌, ◌^◌, IfOk, IfErr, OnErr, OnOk, map, true};
 ghost use Rattle.rq_model.specs.History.Call.{Begin, Commit, Finish, Show, Step, Acknowledge, Start_abort, End_abort, Hand_over, Force, Last_tag};
 ghost use Rattle.rq_model.specs.History.Entry.{Begun, Shown, Committed, Acknowledged, Aborting, Aborted, Handed_over, Forced, Told, Crash, Restarted};
 ghost use Rattle.rq_model.specs.Ledger.{empty, kept_in};
@@ -121,9 +121,7 @@ impl Reference {
 
     /// Whether a restart may open the store in this incarnation, with this many records.
     pub fn may_restart(&self, incarnation: u64, records: u64) -> bool
-        ensures shut { result ≡ true → self.now.ledger.phase ≡ Shut }
-        ensures newer { result ≡ true → self.now.ledger.incarnation < incarnation }
-        ensures longer { result ≡ true → self.now.ledger.records < records }
+        ensures { (result ≡ true) ↔ May self.now (Restarted incarnation records) }
     {
         if self.running {
             return false;
@@ -136,8 +134,7 @@ impl Reference {
 
     /// Whether a crash may leave this many records of the log.
     pub fn may_crash(&self, records: u64) -> bool
-        ensures forced { result ≡ true → self.now.ledger.forced ≤ records }
-        ensures up_to { result ≡ true → IsUpTo self.now.ledger.records self.now.ledger.phase records }
+        ensures { (result ≡ true) ↔ May self.now (Crash (kept_in records self.now.ledger.committed) records) }
     {
         if records < self.forced {
             return false;
@@ -227,6 +224,7 @@ impl Reference {
     pub fn acknowledged(&self, txn: Txn, lsn: Lsn) -> Result<bool, Refusal>
         ensures ok { IfOk result (λ given. May self.now (Acknowledged txn lsn given)) }
         ensures refused { IfErr result (λ r. MayBeRefused self.now (Acknowledge txn lsn) r) }
+        ensures memory { IfErr result (λ r. r ≢ NoMemory) }
     {
         if !self.running {
             return Err(Refusal::Failed);
@@ -241,6 +239,7 @@ impl Reference {
     pub fn hand_over(&self) -> Result<(), Refusal>
         ensures ok { OnOk result (May self.now Handed_over) }
         ensures refused { IfErr result (λ r. MayBeRefused self.now Hand_over r) }
+        ensures memory { IfErr result (λ r. r ≢ NoMemory) }
     {
         if self.running {
             Ok(())
@@ -258,6 +257,7 @@ impl Reference {
         ensures step { IfOk result (λ lsn. self.new ≡ next (Forced lsn) self.old) }
         ensures refused { IfErr result (λ r. MayBeRefused self.old Force r) }
         ensures same { OnErr result (self.new ≡ self.old) }
+        ensures memory { IfErr result (λ r. r ≢ NoMemory) }
     {
         if !self.running {
             return Err(Refusal::Failed);
@@ -271,6 +271,7 @@ impl Reference {
     fn ready_place(&self, txn: Txn, aborting: bool) -> Result<usize, Refusal>
         ensures ok { IfOk result (λ i. FindsReady self.now.ledger txn aborting i) }
         ensures refused { IfErr result (λ r. IsUnready self.now.ledger txn aborting r) }
+        ensures memory { IfErr result (λ r. r ≢ NoMemory) }
     {
         if !self.running {
             return Err(Refusal::Failed);
@@ -297,6 +298,7 @@ impl Reference {
         ensures step { OnOk result (self.new ≡ next (Aborting txn) self.old) }
         ensures refused { IfErr result (λ r. MayBeRefused self.old (Start_abort txn) r) }
         ensures same { OnErr result (self.new ≡ self.old) }
+        ensures memory { IfErr result (λ r. r ≢ NoMemory) }
     {
         let place = self.ready_place(txn, false)?;
         let row = &mut self.open_txns[place];
@@ -359,6 +361,7 @@ impl Reference {
     fn busy_place(&self, txn: Txn, number: u64) -> Result<(usize, Work), Refusal>
         ensures ok { IfOk result (λ p. IsBusy self.now.ledger txn number p.0 p.1) }
         ensures refused { IfErr result (λ r. IsIdle self.now.ledger txn number r) }
+        ensures memory { IfErr result (λ r. r ≢ NoMemory) }
     {
         if !self.running {
             return Err(Refusal::Failed);
@@ -386,6 +389,7 @@ impl Reference {
         ensures step { IfOk result (λ lsn. self.new ≡ next (step_entry txn number lsn) self.old) }
         ensures refused { IfErr result (λ r. MayBeRefused self.old (Step txn number) r) }
         ensures same { OnErr result (self.new ≡ self.old) }
+        ensures memory { IfErr result (λ r. r ≡ NoMemory → self.old.ledger.records ≡ 2 ^ 64 - 1) }
     {
         let (place, _) = self.busy_place(txn, number)?;
         let row = &self.open_txns[place];
@@ -462,6 +466,7 @@ impl Reference {
         ensures step { OnOk result (self.new ≡ next (Aborted txn) self.old) }
         ensures refused { IfErr result (λ r. MayBeRefused self.old (End_abort txn) r) }
         ensures same { OnErr result (self.new ≡ self.old) }
+        ensures memory { IfErr result (λ r. r ≢ NoMemory) }
     {
         let place = self.ready_place(txn, true)?;
         let row = &self.open_txns[place];

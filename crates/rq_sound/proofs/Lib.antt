@@ -49,3 +49,5 @@ pub mod Gathering
 pub mod WorkedCalls
 pub mod KeptCells
 pub mod Chosen
+pub mod Holders
+pub mod Sharing

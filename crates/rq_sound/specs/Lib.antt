@@ -19,3 +19,5 @@ pub mod Wants
 pub mod Gathering
 pub mod WorkedCalls
 pub mod Chosen
+pub mod Holders
+pub mod Sharing

@@ -7,6 +7,8 @@
 
 pub mod calls;
 
+ghost use Rattle.rq_sound.specs.Holders.{ViewsAreOfHolders};
+ghost use Rattle.rq_sound.specs.Sharing.{HoldersAreJudged};
 ghost use Rattle.rq_sound.specs.Theorems.{CallsKeepSoundness, InversesCanBePlanned, TestsAreAnswered, AbortsAreSteps, DeedsAreSteps, OneUnderWayIsSound, OpenedIsSound};
 ghost use Rattle.rq_sound.specs.Worked.{AbortBesideASend, NotSound, TwoUnderWay};
 
@@ -39,6 +41,12 @@ pub fn deeds_are_steps()
     ensures { DeedsAreSteps }
 {}
 
+/// While transactions are open a group's chain holds what is committed of it and not received, less the first messages,
+/// which the transaction that holds its receiving end took, and then those that the one that holds its sending end sent.
+pub fn views_are_of_holders()
+    ensures { ViewsAreOfHolders }
+{}
+
 /// A store that is sound with one operation under way at most is sound.
 pub fn one_under_way_is_sound()
     ensures { OneUnderWayIsSound }
@@ -63,4 +71,10 @@ pub fn unsound_stores()
 /// what may not come yet.
 pub fn an_abort_goes_on_beside_a_send()
     ensures { AbortBesideASend }
+{}
+
+/// Worked: two transactions are open, one of which has taken the committed message of a sender, and the other sent one
+/// behind it; and what no sound store shows then.
+pub fn holders_are_judged()
+    ensures { HoldersAreJudged }
 {}

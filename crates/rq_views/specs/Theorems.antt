@@ -25,12 +25,12 @@ abbrev pub IdleSlotsShowTheFold : Type 0
 IdleSlotsShowTheFold = (l : Places) (log : List Item) (s : ℕ) → IsLayout l → IsLegalLog l log → s < l.senders
     → ((o : Sub) → Spares s ((state_of l log).writes o)) → ShowsAt l (state_of l log).slots s (view log s)
 
--- the deeds of one that holds an end of the sender
+-- what a transaction did at an end of the sender, neither committed nor undone
 abbrev pub side_of : (Deed → Bool) → List Item → Txn → List Deed
 side_of f log t = side f (open_deeds t log)
 
--- One transaction at most holds each end, and the view is what is committed, without what the receiving holder took,
--- and then what the sending holder sent.
+-- One transaction at most has such deeds at each end, and the view is what is committed, without what the one at the
+-- receiving end took, and then what the one at the sending end sent.
 pub record IsHeldBy (log : List Item) (s : ℕ) : Type 0 where
   pub sender : Txn
   pub taker : Txn

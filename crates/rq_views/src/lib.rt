@@ -89,9 +89,10 @@ pub fn rules_keep_groups()
     ensures { RulesKeepGroups }
 {}
 
-/// Over every legal log that keeps the rules, one transaction at most holds each end of a sender, and the sender's
-/// chain, once whole operations are counted, is what is committed, without what the receiving holder took, and then
-/// what the sending holder sent.
+/// Over every legal log that keeps the rules, one transaction at most has deeds at each end of a sender that are neither
+/// committed nor undone, and the sender's chain, once whole operations are counted, is what is committed, without what
+/// the one at the receiving end took, and then what the one at the sending end sent. Of a transaction that undid all that
+/// it did at an end, and holds it on, nothing is said.
 pub fn views_are_holders()
     ensures { ViewsAreHolders }
 {}

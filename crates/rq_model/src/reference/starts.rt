@@ -1,5 +1,5 @@
 //! The starts of operations: what a transaction may start, and how it starts it.
-ghost use Rattle.std.specs.Prelude.{◌≡◌, ◌+◌, ◌||◌, ◌&&◌, IfOk, IfErr, OnErr, OnOk, Some, length, nat_eq, nat_lt};
+ghost use Rattle.std.specs.Prelude.{◌≡◌, ◌≢◌, ◌+◌, ◌||◌, ◌&&◌, IfOk, IfErr, OnErr, OnOk, Some, length, nat_eq, nat_lt};
 ghost use Rattle.std.specs.List.{slice_get};
 ghost use Rattle.rq_model.specs.History.Call.{Start_send, Start_receive, Start_receive_from, Start_close, Undo_next};
 ghost use Rattle.rq_model.specs.History.Entry.{Started};
@@ -278,6 +278,7 @@ impl Reference {
         ensures stands { IfOk result (λ place. StandsAt self.now.ledger txn place) }
         ensures passes { OnOk result (Passes self.now.size self.now.ledger (Start_close txn sender)) }
         ensures refused { IfErr result (λ r. MayBeRefused self.now (Start_close txn sender) r) }
+        ensures memory { IfErr result (λ r. r ≢ NoMemory) }
     {
         let place = self.ready_place(txn, false)?;
         if !self.has_sender(sender) {
@@ -302,6 +303,7 @@ impl Reference {
     pub fn may_close(&self, txn: Txn, sender: u32) -> Result<(), Refusal>
         ensures ok { OnOk result (Passes self.now.size self.now.ledger (Start_close txn sender)) }
         ensures refused { IfErr result (λ r. MayBeRefused self.now (Start_close txn sender) r) }
+        ensures memory { IfErr result (λ r. r ≢ NoMemory) }
     {
         let _ = self.closing_place(txn, sender)?;
         Ok(())
@@ -455,6 +457,7 @@ impl Reference {
         ensures passes { OnOk result (Passes self.now.size self.now.ledger (Undo_next txn)) }
         ensures newest { IfOk result (λ p. op_in p.1 ≡ newest (found txn self.now.ledger.open_ones)) }
         ensures refused { IfErr result (λ r. MayBeRefused self.now (Undo_next txn) r) }
+        ensures memory { IfErr result (λ r. r ≢ NoMemory) }
     {
         let place = self.ready_place(txn, true)?;
         let Some(act) = self.newest(txn, place) else {
@@ -474,6 +477,7 @@ impl Reference {
         ensures ok { OnOk result (Passes self.now.size self.now.ledger (Undo_next txn)) }
         ensures newest { IfOk result (λ act. op_in act ≡ newest (found txn self.now.ledger.open_ones)) }
         ensures refused { IfErr result (λ r. MayBeRefused self.now (Undo_next txn) r) }
+        ensures memory { IfErr result (λ r. r ≢ NoMemory) }
     {
         let (_, act) = self.undoing_place(txn)?;
         Ok(act)
