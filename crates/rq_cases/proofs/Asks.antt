@@ -8,7 +8,14 @@ use Rattle.rq_store.specs.State.{State}
 use Rattle.rq_engine.specs.Says.{commit_number}
 use Rattle.rq_engine.specs.declared.event.CommitNo.{CommitNo}
 use Rattle.rq_engine.specs.declared.event.Receipt.{Receipt}
-use Rattle.rq_cases.specs.Asks.{AsksAreJudged, Acknowledges, IsOfSend}
+use Rattle.rq_store.specs.Opening.{sent_told as count_in, tag_told as tag_in}
+use Rattle.rq_groups.specs.Sent.{sent_count, sent_tag}
+use Rattle.rq_page.specs.Slots.Slot.{Sender}
+use Rattle.rq_views.specs.Stored.{slots_in}
+use Rattle.rq_cases.specs.Asks.{AsksAreJudged, Acknowledges, IsOfSend, opened_again}
+use Rattle.rq_cases.specs.Store.{one_taken, sizes, taken_pages}
+use Rattle.rq_cases.proofs.Pages.{taken_told}
+use Rattle.rq_cases.proofs.Running.{commit_take}
 
 -- the receipt of a commit of the first incarnation, where so many records are forced
 abbrev given_at : ℕ → Txn → ℕ → Option Number
@@ -53,6 +60,16 @@ another s new number r other h =
     let f = h.0 ∙ ap (λ (x : Bool). receipt x number.txn number.lsn) off in
     cc f
 
+-- the directory slot of sender 0 as the run left it, and what a store that opens over it keeps
+slot_left : slots_in sizes taken_pages 17 ≡ Sender 0 one_taken
+slot_left = commit_take.sound.pages 17 ∙ taken_told.0
+
+count_kept : sent_count opened_again.sent 0 ≡ 1
+count_kept = ap count_in slot_left
+
+tag_kept : sent_tag opened_again.sent 0 ≡ 7
+tag_kept = ap tag_in slot_left
+
 pub asks : AsksAreJudged
 asks = record {
   before_the_force = λ number is. (sym (asked 1 number is), refl);
@@ -69,8 +86,20 @@ asks = record {
   page_answered_otherwise = λ s new page lsn h. h;
   last_told = λ last number tag. record { of_the_store = omega arith; sent = number; tag = tag; lists = refl };
   last_of_none = λ last number tag. record { of_the_store = omega arith; sent = number; tag = tag; lists = refl };
-  uncommitted_told = λ last new number h. (let e = h.sent in omega (arith, e, number));
+  none_told = λ last new number h. (let e = h.sent in omega (arith, e, number));
+  another_number_told = λ last new number h. (let e = h.sent in omega (arith, e, number));
   another_tag_told = λ last new tag h. (let e = h.tag in omega (arith, e, tag));
+  told_before_the_commit = λ last number tag. record { of_the_store = omega arith; sent = number; tag = tag; lists = refl };
+  uncommitted_told = λ last new number h. (let e = h.sent in omega (arith, e, number));
+  uncommitted_tag_told = λ last new tag h. (let e = h.tag in omega (arith, e, tag));
+  told_after_the_abort = λ last number tag. record { of_the_store = omega arith; sent = number; tag = tag; lists = refl };
+  aborted_told = λ last new number h. (let e = h.sent in omega (arith, e, number));
+  aborted_tag_told = λ last new tag h. (let e = h.tag in omega (arith, e, tag));
+  told_after_the_take = λ last number tag. record { of_the_store = omega arith; sent = number; tag = tag; lists = refl };
+  told_after_the_restart = λ last number tag. record { of_the_store = omega arith; sent = number ∙ sym count_kept; tag = tag ∙ sym tag_kept; lists = refl };
+  forgotten_with_the_take = λ last new number h. (let e = h.sent in omega (arith, e, number));
+  forgotten_with_the_restart = λ last new number h. (let e = h.sent ∙ count_kept in omega (arith, e, number));
+  tag_forgotten_with_the_restart = λ last new tag h. (let e = h.tag ∙ tag_kept in omega (arith, e, tag));
   last_of_a_stranger = λ last new h. (let e = h.of_the_store in omega (arith, e));
   last_told_and_changed = λ s new g last other h. other h.lists;
   last_answered_otherwise = λ s new g h. h;
