@@ -6,7 +6,7 @@ use Rattle.rq_model.specs.declared.record.Record.TheVariants.{AbortEnd, Commit, 
 use Rattle.rq_model.specs.declared.txn.Sub.{Sub}
 use Rattle.rq_model.specs.declared.txn.Txn.{Txn}
 use Rattle.rq_model.specs.History.Call.{End_abort, Finish, Start_abort, Step, Undo_next}
-use Rattle.rq_model.specs.Replay.Reply.{Gave_aborted, Gave_aborting, Gave_lsn, Gave_none, Gave_sub, Gave_undone}
+use Rattle.rq_model.specs.Replay.Reply.{Gave_aborted, Gave_aborting, Gave_lsn, Gave_nothing_left, Gave_sub, Gave_undone}
 use Rattle.rq_page.specs.declared.cell.Cell.{Cell}
 use Rattle.rq_page.specs.declared.directory.Directory.{Directory}
 use Rattle.rq_page.specs.Directories.{new_directory}
@@ -277,5 +277,5 @@ pub record AbortsAreJudged : Type 0 where
   pub first_steps : Steps back_started (Step t1 2) (Gave_lsn 5) emptied
   pub second_steps : Steps emptied (Step t1 2) (Gave_lsn 6) counted_back
   pub undone_steps : Steps counted_back (Finish t1 2) Gave_undone undone
-  pub none_steps : Steps undone (Undo_next t1) Gave_none undone
+  pub none_steps : Steps undone (Undo_next t1) Gave_nothing_left undone
   pub end_steps : Steps undone (End_abort t1) Gave_aborted aborted

@@ -19,7 +19,7 @@ use Rattle.rq_model.specs.History.Call.{End_abort, Finish, Start_abort, Undo_nex
 use Rattle.rq_model.specs.Ledger.{found, runs}
 use Rattle.rq_model.specs.Legal.{OnFound}
 use Rattle.rq_model.specs.Reference.{IsUnready}
-use Rattle.rq_model.specs.Replay.Reply.{Gave_aborted, Gave_aborting, Gave_none, Gave_sub, Gave_undone}
+use Rattle.rq_model.specs.Replay.Reply.{Gave_aborted, Gave_aborting, Gave_nothing_left, Gave_sub, Gave_undone}
 use Rattle.rq_model.specs.Tests.{NoneHolds, Passes, first_of, has_done, is_aborting, is_busy, log_full, newest, ready_tests, undo_cost}
 use Rattle.rq_model.specs.Words.{In, first, front, is_some, last, last_or, same_txn}
 use Rattle.rq_model.proofs.Lists.{same_is}
@@ -219,10 +219,10 @@ aborted_done s t n running back room k =
 
 -- ---- inverses
 
-pub none_done : (s : State) (t : Txn) (n : ℕ) → s.failed ≡ false → IsTurnedBack s t n None → IsSound s → Steps s (Undo_next t) Gave_none s
+pub none_done : (s : State) (t : Txn) (n : ℕ) → s.failed ≡ false → IsTurnedBack s t n None → IsSound s → Steps s (Undo_next t) Gave_nothing_left s
 none_done s t n running back k =
     let r = turned_row s t n None back in
-    at_own s t r.0 (λ q. Steps s (Undo_next q) Gave_none s) r.1
+    at_own s t r.0 (λ q. Steps s (Undo_next q) Gave_nothing_left s) r.1
     (λ e. abort_steps.none_left s r.0 k running (record { at_row = e; idle = r.2.0 }) r.2.2 (last_none r.0.finished r.2.3))
 
 module _ (s : State) (t : Txn) (n : ℕ) (f : Finished) (h : NoneHolds (ready_tests (ledger_of s) t true)) (back : IsTurnedBack s t n (Some f)) where

@@ -19,7 +19,7 @@ use Rattle.rq_sound.specs.Steps.{Steps}
 use Rattle.rq_engine.specs.Answers.{AnswersLegally, HasNothingUnderWay}
 use Rattle.rq_engine.specs.Opened.{AreHonest, OpenStore}
 use Rattle.rq_engine.specs.Aborts.{UndoSays}
-use Rattle.rq_engine.specs.Receives.{started_of}
+use Rattle.rq_engine.specs.Receives.{started_of, undoing_of}
 use Rattle.rq_engine.specs.Moves.{with_sends}
 use Rattle.rq_engine.specs.Says.{begun_reply, call_of, gave, undo_reply}
 use Rattle.rq_engine.specs.Lists.{IsBegun, IsCommitted, TakeSays, TakeFromSays, ListsSay, done_by}
@@ -80,7 +80,7 @@ begun_answered p l old call (Ok None) y e new is says reply h k = rw (is, reply)
 begun_answered p l old call (Err r) y e new is says reply h k = rw (is, reply) (says h k).0
 
 -- so is that to the start of an inverse
-pub undo_answered : {P L : Type 0} (p : page_device.Ghosts P) (l : log_device.Ghosts L) (old : OpenStore P L) (call : Call) (x : Result (Option Sub) Refusal) (y : Reply) (e : Event) (new : OpenStore P L) → call_of e ≡ call → AnswersLegally p l old call started_of x new → y ≡ undo_reply x
+pub undo_answered : {P L : Type 0} (p : page_device.Ghosts P) (l : log_device.Ghosts L) (old : OpenStore P L) (call : Call) (x : Result (Option Sub) Refusal) (y : Reply) (e : Event) (new : OpenStore P L) → call_of e ≡ call → AnswersLegally p l old call undoing_of x new → y ≡ undo_reply x
     → AreHonest p l new → IsSound old.state → Steps old.state (call_of e) (gave y) new.state
 undo_answered p l old call (Ok (Some sub)) y e new is says reply h k = rw (is, reply) (says h k)
 undo_answered p l old call (Ok None) y e new is says reply h k = rw (is, reply) (says h k)

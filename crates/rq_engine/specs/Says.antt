@@ -7,7 +7,7 @@ use Rattle.rq_model.specs.declared.refusal.Refusal.{Refusal}
 use Rattle.rq_model.specs.History.{Call}
 use Rattle.rq_model.specs.History.Call.{Begin as Call_begin, Start_send as Call_start_send, Start_receive as Call_start_receive, Start_receive_from as Call_start_receive_from, Start_close as Call_start_close, Write_page as Call_write_page, Step as Call_step, Finish as Call_finish, Commit as Call_commit, Acknowledge as Call_acknowledge, Start_abort as Call_start_abort, Undo_next as Call_undo_next, End_abort as Call_end_abort, Hand_over as Call_hand_over, Force as Call_force, Last_tag as Call_last_tag, Show as Call_show}
 use Rattle.rq_model.specs.Replay.{Number, Reply as Gave}
-use Rattle.rq_model.specs.Replay.Reply.{Gave_txn, Gave_sub, Gave_lsn, Gave_forced, Gave_ready, Gave_sent, Gave_message, Gave_closed, Gave_undone, Gave_handed_over, Gave_aborting, Gave_aborted, Gave_commit, Gave_receipt, Gave_none, Gave_written, Gave_tag, Gave_content, Gave_refusal}
+use Rattle.rq_model.specs.Replay.Reply.{Gave_nothing_left, Gave_txn, Gave_sub, Gave_lsn, Gave_forced, Gave_ready, Gave_sent, Gave_message, Gave_closed, Gave_undone, Gave_handed_over, Gave_aborting, Gave_aborted, Gave_commit, Gave_receipt, Gave_none, Gave_written, Gave_tag, Gave_content, Gave_refusal}
 use Rattle.rq_content.specs.Read.{group_of}
 use Rattle.rq_model.specs.declared.txn.Sub.{Sub}
 use Rattle.rq_disk.specs.Device.{Only}
@@ -84,7 +84,7 @@ gave (reply.Finished o) = outcome_of o
 gave (reply.Committed number) = Gave_commit (commit_number number)
 gave (reply.Acknowledged given) = Gave_receipt (receipt_of given)
 gave reply.Aborting = Gave_aborting
-gave reply.NothingLeft = Gave_none
+gave reply.NothingLeft = Gave_nothing_left
 gave reply.Aborted = Gave_aborted
 gave reply.HandedOver = Gave_handed_over
 gave (reply.Forced lsn) = Gave_forced lsn

@@ -16,7 +16,7 @@ ghost use Rattle.rq_engine.specs.Opened.{LeavesDevices};
 ghost use Rattle.rq_engine.specs.Answers.{AnswersLegally};
 ghost use Rattle.rq_engine.specs.Applied.{TakesUnlatched};
 ghost use Rattle.rq_engine.specs.Kept.{IsDoneKept};
-ghost use Rattle.rq_engine.specs.Receives.{started_of};
+ghost use Rattle.rq_engine.specs.Receives.{undoing_of};
 ghost use Rattle.rq_engine.specs.Sends.{HasRoom};
 ghost use Rattle.rq_engine.specs.Aborts.{IsTurnedBack, UndoIsLatched, UndoSays, UndoTakesLowest};
 
@@ -50,7 +50,7 @@ impl<P: PageDevice, L: LogDevice> Engine<P, L> {
     /// `Failed`, `UnknownTransaction`, `NotOpen` where it is not aborting, `Unfinished`, `LogFull`, `Latched`,
     /// `NoMemory`; of a store that is not sound also `Damaged`.
     pub fn undo_next(&mut self, txn: Txn) -> Result<Option<Sub>, Refusal>
-        ensures answered { AnswersLegally P.PageDevice L.LogDevice self.old (Undo_next txn) started_of result self.new }
+        ensures answered { AnswersLegally P.PageDevice L.LogDevice self.old (Undo_next txn) undoing_of result self.new }
         ensures sizes { self.new.state.sizes ≡ self.old.state.sizes }
         ensures lists { IfOk result (λ started. UndoSays self.old.state txn started self.new.state) }
         ensures latched { IsSound self.old.state → TakesUnlatched self.old.state (Undo_next txn) result }

@@ -22,6 +22,7 @@ pub data Reply : Type 0 where
   Gave_txn : (t : Txn) → Reply
   Gave_sub : (t : Txn) (number : ℕ) → Reply
   Gave_none : Reply
+  Gave_nothing_left : Reply
   Gave_lsn : (lsn : ℕ) → Reply
   Gave_ready : Reply
   Gave_sent : Reply
@@ -58,7 +59,7 @@ Says (Finish t n) Gave_undone e = e ≡ Undid t n
 Says (Commit t) (Gave_commit c) e = (c.txn ≡ t) × (e ≡ Committed t c.lsn)
 Says (Start_abort t) Gave_aborting e = e ≡ Aborting t
 Says (Undo_next t) (Gave_sub u n) e = (u ≡ t) × (e ≡ Started t n Undoing)
-Says (Undo_next t) Gave_none e = e ≡ None_left t
+Says (Undo_next t) Gave_nothing_left e = e ≡ None_left t
 Says (End_abort t) Gave_aborted e = e ≡ Aborted t
 Says (Acknowledge t lsn) (Gave_receipt None) e = e ≡ Acknowledged t lsn false
 Says (Acknowledge t lsn) (Gave_receipt (Some c)) e = (c ≡ record { txn = t; lsn = lsn }) × (e ≡ Acknowledged t lsn true)

@@ -14,7 +14,7 @@ use Rattle.rq_model.specs.Tests.{Size}
 use Rattle.rq_model.specs.Legal.{Legal}
 use Rattle.rq_model.specs.Commits.{committed_of, told}
 use Rattle.rq_model.specs.Replay.{Number, Reply, Says, Replays}
-use Rattle.rq_model.specs.Replay.Reply.{Gave_txn, Gave_sub, Gave_none, Gave_lsn, Gave_ready, Gave_sent, Gave_message, Gave_closed, Gave_undone, Gave_handed_over, Gave_forced, Gave_aborting, Gave_aborted, Gave_commit, Gave_receipt, Gave_written, Gave_tag, Gave_content, Gave_refusal}
+use Rattle.rq_model.specs.Replay.Reply.{Gave_txn, Gave_sub, Gave_none, Gave_nothing_left, Gave_lsn, Gave_ready, Gave_sent, Gave_message, Gave_closed, Gave_undone, Gave_handed_over, Gave_forced, Gave_aborting, Gave_aborted, Gave_commit, Gave_receipt, Gave_written, Gave_tag, Gave_content, Gave_refusal}
 use Rattle.rq_model.proofs.EntryKinds.{Kind, kind}
 use Rattle.rq_model.proofs.EntryKinds.Kind.{Plain, Commits, Forces, Crashes, Restarts}
 use Rattle.rq_model.proofs.Same.{In-append}
@@ -73,7 +73,7 @@ never_break (Finish t n) Gave_undone e s = ap is_break s
 never_break (Commit t) (Gave_commit c) e s = ap is_break s.1
 never_break (Start_abort t) Gave_aborting e s = ap is_break s
 never_break (Undo_next t) (Gave_sub u n) e s = ap is_break s.1
-never_break (Undo_next t) Gave_none e s = ap is_break s
+never_break (Undo_next t) Gave_nothing_left e s = ap is_break s
 never_break (End_abort t) Gave_aborted e s = ap is_break s
 never_break (Acknowledge t lsn) (Gave_receipt None) e s = ap is_break s
 never_break (Acknowledge t lsn) (Gave_receipt (Some c)) e s = ap is_break s.1

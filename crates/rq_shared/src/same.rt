@@ -70,7 +70,8 @@ pub(crate) fn same_reply(reply: &Reply, other: &Reply) -> bool
     match (reply, other) {
         (Reply::Begun(txn), Reply::Begun(other)) => *txn == *other,
         (Reply::Started(sub), Reply::Started(other)) => *sub == *other,
-        (Reply::NoMessage | Reply::NothingLeft, Reply::NoMessage | Reply::NothingLeft) => true,
+        (Reply::NoMessage, Reply::NoMessage) => true,
+        (Reply::NothingLeft, Reply::NothingLeft) => true,
         (Reply::Stepped(progress), Reply::Stepped(other)) => *progress == *other,
         (Reply::Finished(outcome), Reply::Finished(other)) => same_outcome(outcome, other),
         (Reply::Committed(number), Reply::Committed(other)) => *number == *other,

@@ -175,7 +175,7 @@ module _ (s : State) (k : IsSound s) (running : s.failed ≡ false) where
         stays_forced = omega arith;
       }
 
-  none_left : (r : Row) → IsIdle s r → r.aborting ≡ true → r.finished ≡ [] → Steps s (Call.Undo_next r.txn) Reply.Gave_none s
+  none_left : (r : Row) → IsIdle s r → r.aborting ≡ true → r.finished ≡ [] → Steps s (Call.Undo_next r.txn) Reply.Gave_nothing_left s
   none_left r m aborts empty =
       let h = is_ready r true m (ap not aborts) in
       let done : last (map op_done r.finished) ≡ None = ap (λ (fs : List Finished). last (map op_done fs)) empty in

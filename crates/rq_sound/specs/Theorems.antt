@@ -127,7 +127,7 @@ pub record AbortsAreSteps : Type 0 where
       → ((g : ℕ) → waits waiting g ≡ waits s.waiting g + took g d)
       → Steps s (Call.Finish r.txn u.number) Reply.Gave_undone (undone s r u lsn d waiting)
   pub none_left : (s : State) (r : Row) → IsSound s → s.failed ≡ false → IsIdle s r → r.aborting ≡ true
-      → r.finished ≡ [] → Steps s (Call.Undo_next r.txn) Reply.Gave_none s
+      → r.finished ≡ [] → Steps s (Call.Undo_next r.txn) Reply.Gave_nothing_left s
   pub ends_abort : (s : State) (r : Row) → IsSound s → s.failed ≡ false → IsIdle s r → r.aborting ≡ true
       → r.finished ≡ [] → log_full (ledger_of s) 1 ≡ false
       → Steps s (Call.End_abort r.txn) Reply.Gave_aborted (aborted s r)
