@@ -1,0 +1,3 @@
+pub mod Moving
+pub mod Settled
+pub mod Found

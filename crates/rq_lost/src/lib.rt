@@ -1,0 +1,26 @@
+//! What undoing lost transactions by their inverses makes of a store, apart from any code.
+//!
+//! The definitions stand in specs/, the theorems are the contracts of the functions here.
+#![tactic(auto)]
+
+ghost use Rattle.rq_lost.specs.Theorems.{AbortedLogsAreSettled, AbortsKeepLogsWhole, InversesAreFound, SettledStoresHaveEnded};
+
+/// Each move of an abort leaves a sound store over a whole log, which has at most a record more, no Commit and no OpEnd.
+pub fn aborts_keep_logs_whole()
+    ensures { AbortsKeepLogsWhole }
+{}
+
+/// The log of a sound store in which every transaction has ended has nothing unfinished and nobody lost.
+pub fn settled_stores_have_ended()
+    ensures { SettledStoresHaveEnded }
+{}
+
+/// The newest deed of a transaction with nothing under way can be undone, and meets no latch where nothing is under way.
+pub fn inverses_are_found()
+    ensures { InversesAreFound }
+{}
+
+/// Once every transaction is aborted the log has nothing unfinished, nobody lost, and the commits that it had.
+pub fn aborted_logs_are_settled()
+    ensures { AbortedLogsAreSettled }
+{}
