@@ -1,3 +1,5 @@
 pub mod Moving
 pub mod Settled
 pub mod Found
+pub mod Workers
+pub mod Ends

@@ -43,7 +43,7 @@ worker_one t (Some x) ts ds ih i e = elim (cases_Bool (same_txn x.txn t)) [
 ]
 
 -- whoever ended an operation has a deed
-worker_deeds : (t : Txn) (log : List Record) → In t (workers log) → deeds (λ u. same_txn u t) log ≡ [] → ⊥
+pub worker_deeds : (t : Txn) (log : List Record) → In t (workers log) → deeds (λ u. same_txn u t) log ≡ [] → ⊥
 worker_deeds t [] i e = i
 worker_deeds t (r ∷ log) i e = worker_one t (ending r) (workers log) (deeds (λ u. same_txn u t) log) (worker_deeds t log) i e
 

@@ -1,2 +1,3 @@
+pub mod Lost
 pub mod Moves
 pub mod Theorems

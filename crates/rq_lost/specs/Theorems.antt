@@ -1,9 +1,11 @@
 -- What holds of undoing lost transactions by their inverses.
-use Rattle.std.specs.Prelude.{◌≡◌, false, List, [], ◌∷◌, ◌++◌}
+use Rattle.std.specs.Prelude.{◌≡◌, ℕ, false, List, [], ◌∷◌, ◌++◌}
 use Rattle.rq_model.specs.declared.record.Deed.{Deed}
+use Rattle.rq_model.specs.declared.record.Record.{Record}
 use Rattle.rq_model.specs.Commits.{committed_of}
 use Rattle.rq_model.specs.Incarnations.{Extends}
 use Rattle.rq_model.specs.Unended.{unfinished, lost}
+use Rattle.rq_page.specs.Sizes.{Sizes}
 use Rattle.rq_txn.specs.declared.Finished.{Finished}
 use Rattle.rq_txn.specs.Rows.{Row, any_under}
 use Rattle.rq_store.specs.State.{State}
@@ -12,6 +14,7 @@ use Rattle.rq_sound.specs.Calls.{IsIdle}
 use Rattle.rq_sound.specs.Groups.{slots_now}
 use Rattle.rq_sound.specs.Sound.{IsSound}
 use Rattle.rq_inverses.specs.Inverses.{InverseIsLatched, MayBeUndone}
+use Rattle.rq_lost.specs.Lost.{IsRepeated, lost_store}
 use Rattle.rq_lost.specs.Moves.{AreAborted, IsAbortMove}
 
 -- Each move of an abort leaves a sound store over a whole log. What it adds to the log is no Commit and no OpEnd.
@@ -41,3 +44,9 @@ pub record AbortedLogsAreSettled : Type 0 where
   pub committed : (s now : State) → AreAborted s now → committed_of now.records ≡ committed_of s.records
   pub unfinished : (s now : State) → IsSound s → AreAborted s now → unfinished now.records ≡ []
   pub lost : (s now : State) → IsSound s → AreAborted s now → lost now.records ≡ []
+
+-- The store that a crash leaves, with the transactions that it stopped as rows to be undone, is sound: what undoes them
+-- are the moves that a running store makes.
+abbrev pub LostStoresAreSound : Type 0
+LostStoresAreSound = (z : Sizes) (images : List (List ℕ)) (log : List Record) (forced : ℕ)
+    → IsRepeated z images log forced → IsSound (lost_store z images log forced)

@@ -3,7 +3,7 @@
 //! The definitions stand in specs/, the theorems are the contracts of the functions here.
 #![tactic(auto)]
 
-ghost use Rattle.rq_lost.specs.Theorems.{AbortedLogsAreSettled, AbortsKeepLogsWhole, InversesAreFound, SettledStoresHaveEnded};
+ghost use Rattle.rq_lost.specs.Theorems.{AbortedLogsAreSettled, AbortsKeepLogsWhole, InversesAreFound, LostStoresAreSound, SettledStoresHaveEnded};
 
 /// Each move of an abort leaves a sound store over a whole log, which has at most a record more, no Commit and no OpEnd.
 pub fn aborts_keep_logs_whole()
@@ -23,4 +23,9 @@ pub fn inverses_are_found()
 /// Once every transaction is aborted the log has nothing unfinished, nobody lost, and the commits that it had.
 pub fn aborted_logs_are_settled()
     ensures { AbortedLogsAreSettled }
+{}
+
+/// The store that a crash leaves, with the transactions that it stopped as rows to be undone, is sound.
+pub fn lost_stores_are_sound()
+    ensures { LostStoresAreSound }
 {}
