@@ -1,18 +1,18 @@
 -- The ends that lost transactions used: each has one user.
 use Rattle.std.proofs.Common.{◌≡◌, ℕ, Bool, true, false, not, ◌&&◌, ◌||◌, ◌⊎◌, nat_eq, List, [], ◌∷◌, map, Option, Some, None, inl, inr, refl, sym, ◌∙◌, ap, subst}
-use Rattle.std.proofs.lemmas.Bool.{cases_Bool, true≢false, false≢true, or_parts, or_cases, and_parts, and_from, eq-eqb, eqb-true}
+use Rattle.std.proofs.lemmas.Bool.{cases_Bool, false≢true, or_parts, or_cases, and_parts, and_from, eqb-true}
 use Rattle.rq_model.specs.declared.txn.Txn.{Txn}
 use Rattle.rq_model.specs.declared.record.Record.{Record}
 use Rattle.rq_model.specs.Words.{In, is_some, same_txn, has_txn}
 use Rattle.rq_model.specs.Content.{Ending, Said, ending, kept, deeds, has_end, ends_txn}
 use Rattle.rq_model.specs.Content.Said.{Added, Removed, Ended}
-use Rattle.rq_model.specs.Rules.{EndingMay, KeepsRules, MayEnd, any_use, holds, uses_receive, uses_send}
+use Rattle.rq_model.specs.Rules.{EndingMay, KeepsRules, any_use, holds, uses_receive, uses_send}
 use Rattle.rq_model.specs.Unended.{lost}
-use Rattle.rq_model.proofs.Lists.{same_is, same_self}
+use Rattle.rq_model.proofs.Lists.{same_is}
 use Rattle.rq_page.specs.Sizes.{Sizes}
 use Rattle.rq_groups.specs.declared.Held.{Held}
 use Rattle.rq_groups.specs.Ends.{has_held, with_held}
-use Rattle.rq_txn.specs.Rows.{Row, AreDistinct, found_row}
+use Rattle.rq_txn.specs.Rows.{AreDistinct, found_row}
 use Rattle.rq_views.proofs.OpenCounts.{AreApart}
 use Rattle.rq_store.specs.Sound.{AreEnds}
 use Rattle.rq_sound.specs.Standing.{HoldsAll}
@@ -158,7 +158,7 @@ row_none z log t (u ∷ ts) e = elim (cases_Bool (same_txn u t)) [
   | inr n ↦ rw n (row_none z log t ts (rw n at e))
 ]
 
-none_row : (z : Sizes) (log : List Record) (t : Txn) (ts : List Txn) → has_txn t ts ≡ false → found_row t (map (lost_row z log) ts) ≡ None
+pub none_row : (z : Sizes) (log : List Record) (t : Txn) (ts : List Txn) → has_txn t ts ≡ false → found_row t (map (lost_row z log) ts) ≡ None
 none_row z log t [] n = refl
 none_row z log t (u ∷ ts) n = let p = or_parts (same_txn u t) (has_txn t ts) n in rw p.0 (none_row z log t ts p.1)
 

@@ -3,3 +3,5 @@ pub mod Settled
 pub mod Found
 pub mod Workers
 pub mod Ends
+pub mod Counts
+pub mod Store

@@ -1,5 +1,5 @@
-use Rattle.rq_lost.proofs.Ends.{sends_stand}
+use Rattle.rq_lost.proofs.Store.{lost_sound}
 use Rattle.rq_lost.proofs.lost_stores_are_sound.Goals as goal
 
 pub returns : goal.returns
-returns c = ?
+returns c = lost_sound
