@@ -5,3 +5,4 @@ pub mod Workers
 pub mod Ends
 pub mod Counts
 pub mod Store
+pub mod Working

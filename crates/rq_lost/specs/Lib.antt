@@ -1,3 +1,4 @@
 pub mod Lost
 pub mod Moves
+pub mod Work
 pub mod Theorems

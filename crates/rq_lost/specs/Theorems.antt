@@ -1,5 +1,5 @@
 -- What holds of undoing lost transactions by their inverses.
-use Rattle.std.specs.Prelude.{◌≡◌, ℕ, false, List, [], ◌∷◌, ◌++◌}
+use Rattle.std.specs.Prelude.{◌≡◌, ℕ, ◌<◌, false, List, [], ◌∷◌, ◌++◌}
 use Rattle.rq_model.specs.declared.record.Deed.{Deed}
 use Rattle.rq_model.specs.declared.record.Record.{Record}
 use Rattle.rq_model.specs.Commits.{committed_of}
@@ -15,6 +15,7 @@ use Rattle.rq_sound.specs.Groups.{slots_now}
 use Rattle.rq_sound.specs.Sound.{IsSound}
 use Rattle.rq_inverses.specs.Inverses.{InverseIsLatched, MayBeUndone}
 use Rattle.rq_lost.specs.Lost.{IsRepeated, lost_store}
+use Rattle.rq_lost.specs.Work.{abort_work}
 use Rattle.rq_lost.specs.Moves.{AreAborted, IsAbortMove}
 
 -- Each move of an abort leaves a sound store over a whole log. What it adds to the log is no Commit and no OpEnd.
@@ -50,3 +51,7 @@ pub record AbortedLogsAreSettled : Type 0 where
 abbrev pub LostStoresAreSound : Type 0
 LostStoresAreSound = (z : Sizes) (images : List (List ℕ)) (log : List Record) (forced : ℕ)
     → IsRepeated z images log forced → IsSound (lost_store z images log forced)
+
+-- Each move of an abort of a sound store leaves less to do, so that they come to an end.
+abbrev pub AbortsEnd : Type 0
+AbortsEnd = (s now : State) → IsSound s → IsAbortMove s now → abort_work now < abort_work s

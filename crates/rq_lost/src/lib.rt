@@ -3,7 +3,7 @@
 //! The definitions stand in specs/, the theorems are the contracts of the functions here.
 #![tactic(auto)]
 
-ghost use Rattle.rq_lost.specs.Theorems.{AbortedLogsAreSettled, AbortsKeepLogsWhole, InversesAreFound, LostStoresAreSound, SettledStoresHaveEnded};
+ghost use Rattle.rq_lost.specs.Theorems.{AbortedLogsAreSettled, AbortsEnd, AbortsKeepLogsWhole, InversesAreFound, LostStoresAreSound, SettledStoresHaveEnded};
 
 /// Each move of an abort leaves a sound store over a whole log, which has at most a record more, no Commit and no OpEnd.
 pub fn aborts_keep_logs_whole()
@@ -28,4 +28,9 @@ pub fn aborted_logs_are_settled()
 /// The store that a crash leaves, with the transactions that it stopped as rows to be undone, is sound.
 pub fn lost_stores_are_sound()
     ensures { LostStoresAreSound }
+{}
+
+/// Each move of an abort leaves less to do.
+pub fn aborts_end()
+    ensures { AbortsEnd }
 {}
