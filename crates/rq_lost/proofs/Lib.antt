@@ -6,3 +6,4 @@ pub mod Ends
 pub mod Counts
 pub mod Store
 pub mod Working
+pub mod Stopping

@@ -26,7 +26,7 @@ move_commits s now m =
     let x = move_extends s now m in
     ap committed_of (sym x.1) ∙ plain_commits x.0 s.records x.2
 
-moves_sound : (s : State) (ns : List State) → IsSound s → MovesBehind s ns → IsSound (newest_store s ns)
+pub moves_sound : (s : State) (ns : List State) → IsSound s → MovesBehind s ns → IsSound (newest_store s ns)
 moves_sound s [] k h = k
 moves_sound s (n ∷ ns) k h = move_sound (newest_store s ns) n (moves_sound s ns k h.1) h.0
 

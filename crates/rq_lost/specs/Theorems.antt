@@ -1,22 +1,28 @@
 -- What holds of undoing lost transactions by their inverses.
-use Rattle.std.specs.Prelude.{◌≡◌, ℕ, ◌<◌, false, List, [], ◌∷◌, ◌++◌}
+use Rattle.std.specs.Prelude.{◌≡◌, ℕ, ◌+◌, ◌<◌, ◌≤◌, false, List, [], ◌∷◌, ◌++◌, length, drop}
 use Rattle.rq_model.specs.declared.record.Deed.{Deed}
 use Rattle.rq_model.specs.declared.record.Record.{Record}
+use Rattle.rq_model.specs.declared.txn.Txn.{Txn}
+use Rattle.rq_model.specs.Words.{In}
 use Rattle.rq_model.specs.Commits.{committed_of}
+use Rattle.rq_model.specs.Content.{content}
 use Rattle.rq_model.specs.Incarnations.{Extends}
 use Rattle.rq_model.specs.Unended.{unfinished, lost}
 use Rattle.rq_page.specs.Sizes.{Sizes}
 use Rattle.rq_txn.specs.declared.Finished.{Finished}
 use Rattle.rq_txn.specs.Rows.{Row, any_under}
-use Rattle.rq_store.specs.State.{State}
+use Rattle.rq_store.specs.Opening.{opened}
+use Rattle.rq_store.specs.State.{State, ledger_of}
 use Rattle.rq_store.specs.Whole.{IsWhole}
 use Rattle.rq_sound.specs.Calls.{IsIdle}
 use Rattle.rq_sound.specs.Groups.{slots_now}
 use Rattle.rq_sound.specs.Sound.{IsSound}
+use Rattle.rq_undone.specs.Pages.{IsUndone}
+use Rattle.rq_undone.specs.Theorems.{IsUndoneFrom}
 use Rattle.rq_inverses.specs.Inverses.{InverseIsLatched, MayBeUndone}
 use Rattle.rq_lost.specs.Lost.{IsRepeated, lost_store}
 use Rattle.rq_lost.specs.Work.{abort_work}
-use Rattle.rq_lost.specs.Moves.{AreAborted, IsAbortMove}
+use Rattle.rq_lost.specs.Moves.{AreAborted, IsAbortMove, MovesBehind, newest_store}
 
 -- Each move of an abort leaves a sound store over a whole log. What it adds to the log is no Commit and no OpEnd.
 pub record AbortsKeepLogsWhole : Type 0 where
@@ -55,3 +61,37 @@ LostStoresAreSound = (z : Sizes) (images : List (List ℕ)) (log : List Record) 
 -- Each move of an abort of a sound store leaves less to do, so that they come to an end.
 abbrev pub AbortsEnd : Type 0
 AbortsEnd = (s now : State) → IsSound s → IsAbortMove s now → abort_work now < abort_work s
+
+-- What a store is once all of its lost transactions are aborted: its log is that with plain records behind, which is
+-- whole, with the content and the commits that it had, nothing unfinished and nobody lost; and the store that opens over
+-- it is sound, and shows these commits.
+pub record IsRestored (z : Sizes) (log : List Record) (now : State) : Type 0 where
+  pub sizes : now.sizes ≡ z
+  pub whole : IsWhole z now.records
+  pub extends : Extends log now.records
+  pub committed : committed_of now.records ≡ committed_of log
+  pub content : (g : ℕ) → content now.records g ≡ content log g
+  pub unfinished : unfinished now.records ≡ []
+  pub lost : lost now.records ≡ []
+  pub opens : IsSound (opened now.sizes now.images now.records)
+  pub shows : (ledger_of (opened now.sizes now.images now.records)).committed ≡ committed_of log
+
+abbrev pub LostStoresOpen : Type 0
+LostStoresOpen = (z : Sizes) (images : List (List ℕ)) (log : List Record) (forced : ℕ) (now : State)
+    → IsRepeated z images log forced → AreAborted (lost_store z images log forced) now → IsRestored z log now
+
+-- What a crash leaves of the moves of aborts: a whole log with the content and the commits that it had, in which nobody
+-- is lost who was not. Once the inverse that was cut off is undone by pages, that is so still, and restart goes on.
+pub record IsStopped (z : Sizes) (log cut : List Record) : Type 0 where
+  pub whole : IsWhole z cut
+  pub extends : Extends log cut
+  pub committed : committed_of cut ≡ committed_of log
+  pub content : (g : ℕ) → content cut g ≡ content log g
+  pub none_new : (t : Txn) → In t (lost cut) → In t (lost log)
+  pub again : (last : List Record) → IsUndone cut last → IsUndoneFrom z cut last
+
+-- wherever the crash cuts the records that the moves added
+abbrev pub AbortsMayStop : Type 0
+AbortsMayStop = (s : State) (stores : List State) (n : ℕ) → IsSound s → MovesBehind s stores
+    → n + length s.records ≤ length (newest_store s stores).records
+    → IsStopped s.sizes s.records (drop n (newest_store s stores).records)

@@ -3,7 +3,7 @@
 //! The definitions stand in specs/, the theorems are the contracts of the functions here.
 #![tactic(auto)]
 
-ghost use Rattle.rq_lost.specs.Theorems.{AbortedLogsAreSettled, AbortsEnd, AbortsKeepLogsWhole, InversesAreFound, LostStoresAreSound, SettledStoresHaveEnded};
+ghost use Rattle.rq_lost.specs.Theorems.{AbortedLogsAreSettled, AbortsEnd, AbortsKeepLogsWhole, AbortsMayStop, InversesAreFound, LostStoresAreSound, LostStoresOpen, SettledStoresHaveEnded};
 
 /// Each move of an abort leaves a sound store over a whole log, which has at most a record more, no Commit and no OpEnd.
 pub fn aborts_keep_logs_whole()
@@ -33,4 +33,16 @@ pub fn lost_stores_are_sound()
 /// Each move of an abort leaves less to do.
 pub fn aborts_end()
     ensures { AbortsEnd }
+{}
+
+/// Once all lost transactions are aborted the log has the content that it had, and the store that opens over it is
+/// sound.
+pub fn lost_stores_open()
+    ensures { LostStoresOpen }
+{}
+
+/// A crash may stop the aborts anywhere: what it leaves is a whole log with the content that it had, from which a restart
+/// goes on.
+pub fn aborts_may_stop()
+    ensures { AbortsMayStop }
 {}
