@@ -7,3 +7,4 @@ pub mod Counts
 pub mod Store
 pub mod Working
 pub mod Stopping
+pub mod Turning

@@ -1,4 +1,5 @@
 pub mod Lost
 pub mod Moves
+pub mod Turns
 pub mod Work
 pub mod Theorems

@@ -1,5 +1,5 @@
 -- What holds of undoing lost transactions by their inverses.
-use Rattle.std.specs.Prelude.{◌≡◌, ℕ, ◌+◌, ◌<◌, ◌≤◌, false, List, [], ◌∷◌, ◌++◌, length, drop}
+use Rattle.std.specs.Prelude.{◌≡◌, ◌≢◌, ℕ, reverse, ◌+◌, ◌<◌, ◌≤◌, false, List, [], ◌∷◌, ◌++◌, length, drop}
 use Rattle.rq_model.specs.declared.record.Deed.{Deed}
 use Rattle.rq_model.specs.declared.record.Record.{Record}
 use Rattle.rq_model.specs.declared.txn.Txn.{Txn}
@@ -10,17 +10,25 @@ use Rattle.rq_model.specs.Incarnations.{Extends}
 use Rattle.rq_model.specs.Unended.{unfinished, lost}
 use Rattle.rq_page.specs.Sizes.{Sizes}
 use Rattle.rq_txn.specs.declared.Finished.{Finished}
-use Rattle.rq_txn.specs.Rows.{Row, any_under}
+use Rattle.rq_txn.specs.declared.Aim.TheVariants as aims
+use Rattle.rq_txn.specs.Rows.{Row, Under, any_under}
+use Rattle.rq_level.specs.Writes.{writes_of}
+use Rattle.rq_views.specs.Items.{layout_of}
+use Rattle.rq_views.specs.Log.{HasBefores, Write}
+use Rattle.rq_views.specs.Plans.{IsPlan}
+use Rattle.rq_views.specs.Plans.Turn.{Undid}
+use Rattle.rq_store.specs.Fitting.{left_by}
 use Rattle.rq_store.specs.Opening.{opened}
 use Rattle.rq_store.specs.State.{State, ledger_of}
 use Rattle.rq_store.specs.Whole.{IsWhole}
-use Rattle.rq_sound.specs.Calls.{IsIdle}
+use Rattle.rq_sound.specs.Calls.{IsIdle, aborted, started}
 use Rattle.rq_sound.specs.Groups.{slots_now}
 use Rattle.rq_sound.specs.Sound.{IsSound}
 use Rattle.rq_undone.specs.Pages.{IsUndone}
 use Rattle.rq_undone.specs.Theorems.{IsUndoneFrom}
 use Rattle.rq_inverses.specs.Inverses.{InverseIsLatched, MayBeUndone}
 use Rattle.rq_lost.specs.Lost.{IsRepeated, lost_store}
+use Rattle.rq_lost.specs.Turns.{AreAborting, EndsNext, NextTurn, TakesBackNext}
 use Rattle.rq_lost.specs.Work.{abort_work}
 use Rattle.rq_lost.specs.Moves.{AreAborted, IsAbortMove, MovesBehind, newest_store}
 
@@ -95,3 +103,26 @@ abbrev pub AbortsMayStop : Type 0
 AbortsMayStop = (s : State) (stores : List State) (n : ℕ) → IsSound s → MovesBehind s stores
     → n + length s.records ≤ length (newest_store s stores).records
     → IsStopped s.sizes s.records (drop n (newest_store s stores).records)
+
+-- Where transactions are left to be undone and nothing is under way, one is next: of those with nothing left to undo the
+-- one of the least number, which may end; else the one with the newest deed of all, whose inverse can be planned and may
+-- start. Whoever is to be undone stays so.
+pub record AbortsHaveTurns : Type 0 where
+  pub next : (s : State) → IsSound s → s.rows ≢ [] → NextTurn s.rows
+  pub ends : (s : State) (r : Row) → IsSound s → any_under s.rows ≡ false → AreAborting s.rows → EndsNext s.rows r
+      → IsAbortMove s (aborted s r)
+  pub plans : (s : State) (r : Row) (rest : List Finished) (f : Finished) → IsSound s → any_under s.rows ≡ false
+      → TakesBackNext s.rows r rest f
+      → (ws : List Write) × IsPlan (layout_of s.sizes) (Undid f.deed) ws
+      × HasBefores ws (left_by s.sizes s.records).slots
+  pub starts : (s : State) (r : Row) (rest : List Finished) (f : Finished) (u : Under) → IsSound s
+      → any_under s.rows ≡ false → AreAborting s.rows → TakesBackNext s.rows r rest f → u.number ≡ r.number + 1
+      → u.made ≡ 0 → u.aim ≡ aims.Undoing f.lsn f.deed
+      → IsPlan (layout_of s.sizes) (Undid f.deed) (reverse (writes_of s.sizes u.writes))
+      → HasBefores (reverse (writes_of s.sizes u.writes)) (left_by s.sizes s.records).slots
+      → IsAbortMove s (started s r u s.ends)
+  pub stay : (s now : State) → IsAbortMove s now → AreAborting s.rows → AreAborting now.rows
+  pub lost : (z : Sizes) (images : List (List ℕ)) (log : List Record) (forced : ℕ)
+      → AreAborting (lost_store z images log forced).rows
+  pub idle : (z : Sizes) (images : List (List ℕ)) (log : List Record) (forced : ℕ)
+      → any_under (lost_store z images log forced).rows ≡ false

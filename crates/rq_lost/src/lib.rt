@@ -3,7 +3,7 @@
 //! The definitions stand in specs/, the theorems are the contracts of the functions here.
 #![tactic(auto)]
 
-ghost use Rattle.rq_lost.specs.Theorems.{AbortedLogsAreSettled, AbortsEnd, AbortsKeepLogsWhole, AbortsMayStop, InversesAreFound, LostStoresAreSound, LostStoresOpen, SettledStoresHaveEnded};
+ghost use Rattle.rq_lost.specs.Theorems.{AbortedLogsAreSettled, AbortsEnd, AbortsHaveTurns, AbortsKeepLogsWhole, AbortsMayStop, InversesAreFound, LostStoresAreSound, LostStoresOpen, SettledStoresHaveEnded};
 
 /// Each move of an abort leaves a sound store over a whole log, which has at most a record more, no Commit and no OpEnd.
 pub fn aborts_keep_logs_whole()
@@ -45,4 +45,9 @@ pub fn lost_stores_open()
 /// goes on.
 pub fn aborts_may_stop()
     ensures { AbortsMayStop }
+{}
+
+/// Where transactions are left to be undone, one is next, and what is done to it may be done.
+pub fn aborts_have_turns()
+    ensures { AbortsHaveTurns }
 {}
