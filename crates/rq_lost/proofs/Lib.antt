@@ -8,3 +8,4 @@ pub mod Store
 pub mod Working
 pub mod Stopping
 pub mod Turning
+pub mod Worked

@@ -95,7 +95,7 @@ cut_extends n log now x within =
     let b = length-append x.0 log in
     (drop n x.0, sym (drop-append-le n x.0 log (omega (arith, a, b, within))) ∙ ap (drop n) x.1, plain_drop n x.0 x.2)
 
-stopped_at : (z : Sizes) (log cut : List Record) → IsWhole z log → IsWhole z cut → Extends log cut → IsStopped z log cut
+pub stopped_at : (z : Sizes) (log cut : List Record) → IsWhole z log → IsWhole z cut → Extends log cut → IsStopped z log cut
 stopped_at z log cut w v x = record {
   whole = v;
   extends = x;

@@ -3,3 +3,4 @@ pub mod Moves
 pub mod Turns
 pub mod Work
 pub mod Theorems
+pub mod Worked

@@ -4,6 +4,7 @@
 #![tactic(auto)]
 
 ghost use Rattle.rq_lost.specs.Theorems.{AbortedLogsAreSettled, AbortsEnd, AbortsHaveTurns, AbortsKeepLogsWhole, AbortsMayStop, InversesAreFound, LostStoresAreSound, LostStoresOpen, SettledStoresHaveEnded};
+ghost use Rattle.rq_lost.specs.Worked.{LostAreJudged, StopsAreJudged, TurnsAreJudged};
 
 /// Each move of an abort leaves a sound store over a whole log, which has at most a record more, no Commit and no OpEnd.
 pub fn aborts_keep_logs_whole()
@@ -50,4 +51,19 @@ pub fn aborts_may_stop()
 /// Where transactions are left to be undone, one is next, and what is done to it may be done.
 pub fn aborts_have_turns()
     ensures { AbortsHaveTurns }
+{}
+
+/// Worked: one transaction sent and took when a crash came, and is lost.
+pub fn lost_are_judged()
+    ensures { LostAreJudged }
+{}
+
+/// Worked: what it took goes back before what it sent.
+pub fn turns_are_judged()
+    ensures { TurnsAreJudged }
+{}
+
+/// Worked: a crash stops its undoing.
+pub fn stops_are_judged()
+    ensures { StopsAreJudged }
 {}
