@@ -8,18 +8,21 @@ use Rattle.rq_model.specs.declared.record.Record.{Record}
 use Rattle.rq_model.specs.declared.record.Record.TheVariants as records
 use Rattle.rq_model.specs.Words.{In}
 use Rattle.rq_model.specs.Content.{content, ending, ends_txn, has_end}
-use Rattle.rq_model.specs.Incarnations.{ArePlain, Extends, is_plain}
+use Rattle.rq_model.specs.Incarnations.{incarnation_of, ArePlain, Extends, is_plain}
 use Rattle.rq_model.specs.Ledger.{Done, group_in}
 use Rattle.rq_model.specs.Unended.{add_txn, lost, workers}
-use Rattle.rq_model.proofs.Cuts.{extends_commits, extends_join}
+use Rattle.rq_model.proofs.Cuts.{extends_commits, extends_incarnation, extends_join}
 use Rattle.rq_model.proofs.Lists.{In-filter}
 use Rattle.rq_model.proofs.Told.{content_is}
-use Rattle.rq_page.specs.Sizes.{Sizes}
+use Rattle.rq_page.specs.Sizes.{Sizes, IsInRange}
+use Rattle.rq_views.specs.Stored.{slots_in}
+use Rattle.rq_store.specs.Fitting.{FitsLog, image_in, left_by, oldest}
 use Rattle.rq_store.specs.State.{State}
 use Rattle.rq_store.specs.Whole.{IsWhole}
 use Rattle.rq_store.proofs.Cutting.{whole_dropped}
 use Rattle.rq_sound.specs.Sound.{IsSound}
 use Rattle.rq_sound.proofs.Contracts.{opened_is}
+use Rattle.rq_undone.specs.Pages.{IsUndone}
 use Rattle.rq_undone.proofs.Undos.{undone_from}
 use Rattle.rq_lost.specs.Moves.{AreAborted, IsAbortMove, MovesBehind, newest_store}
 use Rattle.rq_lost.specs.Moves.IsAbortMove.{Starts, Writes, Undoes, Ends}
@@ -136,3 +139,21 @@ restored s now k a =
 
 pub lost_restored : (z : Sizes) (images : List (List ℕ)) (log : List Record) (forced : ℕ) (now : State) → IsRepeated z images log forced → AreAborted (lost_store z images log forced) now → IsRestored z log now
 lost_restored z images log forced now h a = restored (lost_store z images log forced) now (lost_sound z images log forced h) a
+
+-- a restart goes on from there
+pub stop_repeated : (z : Sizes) (images : List (List ℕ)) (log cut last : List Record) (forced : ℕ) → IsInRange z → 1 ≤ incarnation_of log → IsStopped z log cut → IsUndone cut last
+    → incarnation_of (oldest forced last) ≡ incarnation_of last → forced ≤ length last → ((a : ℕ) → slots_in z images a ≡ (left_by z last).slots a) → FitsLog z (image_in images) last → IsRepeated z images last forced
+stop_repeated z images log cut last forced range some h u begun within pages fits =
+    let done = h.again last u in
+    let a = extends_incarnation log cut h.extends h.whole.order in
+    let b = extends_incarnation cut last done.extends done.whole.order in
+    record {
+      range = range;
+      whole = done.whole;
+      none_unfinished = done.none_unfinished;
+      some = omega (arith, some, a, b);
+      begun = begun;
+      within = within;
+      pages = pages;
+      fits = fits;
+    }

@@ -1,9 +1,9 @@
 -- Somebody is next, and the move is there.
-use Rattle.std.proofs.Common.{◌≡◌, ◌≢◌, ◌⊎◌, ℕ, ◌+◌, ◌<◌, ◌≤◌, false, cond, List, [], ◌∷◌, ◌++◌, length, map, reverse, inl, inr, refl, sym, ◌∙◌, ap, subst, arith}
+use Rattle.std.proofs.Common.{Bool, ◌≡◌, ◌≢◌, ◌⊎◌, ℕ, ◌+◌, ◌<◌, ◌≤◌, false, cond, List, [], ◌∷◌, ◌++◌, length, map, reverse, inl, inr, refl, sym, ◌∙◌, ap, subst, arith, true}
 use Rattle.std.proofs.lemmas.Bool.{cases_Bool, cases_lt}
 use Rattle.rq_model.specs.declared.txn.Txn.{Txn}
 use Rattle.rq_model.specs.Words.{In, same_txn}
-use Rattle.rq_model.proofs.Lists.{In-map}
+use Rattle.rq_model.proofs.Lists.{In-map, same_is}
 use Rattle.rq_views.specs.Items.{items, layout_of}
 use Rattle.rq_views.specs.Legal.{Placed, open_deeds, rest_placed}
 use Rattle.rq_views.specs.Log.{HasBefores, Item, Write}
@@ -19,7 +19,7 @@ use Rattle.rq_store.specs.Rows.{placed, placed_one}
 use Rattle.rq_store.specs.State.{State}
 use Rattle.rq_store.proofs.Holders.{placed_first, placed_more}
 use Rattle.rq_store.proofs.Others.{none_of}
-use Rattle.rq_store.proofs.RowLists.{found_here, gone, none_under}
+use Rattle.rq_store.proofs.RowLists.{found_here, gone, none_under, unique}
 use Rattle.rq_sound.specs.Calls.{IsIdle, aborted, started}
 use Rattle.rq_sound.specs.Sound.{IsSound}
 use Rattle.rq_sound.proofs.Contracts.{planned}
@@ -178,7 +178,74 @@ in_parts (z ∷ xs) y x i = elim i [
   | inr j ↦ elim (in_parts xs y x j) [ inl k ↦ inl (inr k) | inr e ↦ inr e ]
 ]
 
+-- no two transactions have a deed at one place
+in_shorter : (b : Bool) (ps qs : List Placed) (p : Placed) → (In p ps → In p qs) → In p (cond b ps qs) → In p qs
+in_shorter true ps qs p h i = h i
+in_shorter false ps qs p h i = i
+
+in_rest_placed : (ps : List Placed) (p : Placed) → In p (rest_placed ps) → In p ps
+in_rest_placed [] p i = i
+in_rest_placed (x ∷ ps) p i = inr i
+
+-- the deed is the newest of the log, or one before
+newest_or : (b : Bool) (x : Placed) (ps : List Placed) (p : Placed) → In p (cond b (x ∷ ps) ps) → ((b ≡ true) × (p ≡ x)) ⊎ In p ps
+newest_or true x ps p i = elim i [ inl e ↦ inl (refl, e) | inr j ↦ inr j ]
+newest_or false x ps p i = inr i
+
+owner : (t u : Txn) (log : List Item) (p q : Placed) → In p (open_deeds t log) → In q (open_deeds u log) → p.lsn ≡ q.lsn → t ≡ u
+owner t u [] p q i j e = absurd i
+owner t u (PageOp o w ∷ log) p q i j e = owner t u log p q i j e
+owner t u (PageUndo o n at after ∷ log) p q i j e = owner t u log p q i j e
+owner t u (OpVoid o ∷ log) p q i j e = owner t u log p q i j e
+owner t u (AbortEnd v ∷ log) p q i j e = owner t u log p q i j e
+owner t u (Restart n ∷ log) p q i j e = owner t u log p q i j e
+owner t u (CompEnd o n ∷ log) p q i j e =
+    owner t u log p q
+    (in_shorter (same_txn o.txn t) (rest_placed (open_deeds t log)) (open_deeds t log) p (in_rest_placed (open_deeds t log) p) i)
+    (in_shorter (same_txn o.txn u) (rest_placed (open_deeds u log)) (open_deeds u log) q (in_rest_placed (open_deeds u log) q) j) e
+owner t u (Commit v ∷ log) p q i j e =
+    owner t u log p q
+    (in_shorter (same_txn v t) [] (open_deeds t log) p (λ x. absurd x) i)
+    (in_shorter (same_txn v u) [] (open_deeds u log) q (λ x. absurd x) j) e
+owner t u (OpEnd o d ∷ log) p q i j e =
+    let x : Placed = record { lsn = length log + 1; deed = d } in
+    elim (newest_or (same_txn o.txn t) x (open_deeds t log) p i) [
+      | inl y ↦ elim (newest_or (same_txn o.txn u) x (open_deeds u log) q j) [
+        | inl z ↦ sym (same_is o.txn t y.0) ∙ same_is o.txn u z.0
+        | inr z ↦ (let a = open_within u log q z in let b : p.lsn ≡ length log + 1 = ap (λ (w : Placed). w.lsn) y.1 in absurd (omega (arith, a, b, e)))
+      ]
+      | inr y ↦ elim (newest_or (same_txn o.txn u) x (open_deeds u log) q j) [
+        | inl z ↦ (let a = open_within t log p y in let b : q.lsn ≡ length log + 1 = ap (λ (w : Placed). w.lsn) z.1 in absurd (omega (arith, a, b, e)))
+        | inr z ↦ owner t u log p q y z e
+      ]
+    ]
+
+same_numbers : (a b : Txn) → a.incarnation ≡ b.incarnation → a.count ≡ b.count → a ≡ b
+same_numbers a b i c = ap (λ (n : ℕ). record { incarnation = n; count = a.count }) i ∙ ap (λ (n : ℕ). record { incarnation = b.incarnation; count = n }) c
+
 module _ (s : State) (k : IsSound s) where
+  -- no more than one is next
+  pub one_ends : (r q : Row) → EndsNext s.rows r → EndsNext s.rows q → r ≡ q
+  one_ends r q n m =
+      let a = n.least q m.row m.empty in
+      let b = m.least r n.row n.empty in
+      let i = (k.standing.each r n.row).of_incarnation ∙ sym (k.standing.each q m.row).of_incarnation in
+      unique s.rows r q k.standing.distinct n.row m.row (same_numbers r.txn q.txn i (omega (arith, a, b)))
+
+  last_in : (r : Row) (rest : List Finished) (f : Finished) → r.finished ≡ rest ++ f ∷ [] → In f r.finished
+  last_in r rest f e = subst (In f) (sym e) (in_last rest f)
+
+  deed_of_row : (r : Row) (f : Finished) → In r s.rows → In f r.finished → In (placed_one f) (open_deeds r.txn (items s.sizes s.records))
+  deed_of_row r f j i = subst (In (placed_one f)) (sym (k.standing.each r j).done) (in_placed r.finished f i)
+
+  pub one_back : (r q : Row) (rest others : List Finished) (f g : Finished) → TakesBackNext s.rows r rest f → TakesBackNext s.rows q others g → r ≡ q
+  one_back r q rest others f g n m =
+      let i = last_in r rest f n.last in
+      let j = last_in q others g m.last in
+      let a = n.newest q g m.row j in
+      let b = m.newest r f n.row i in
+      unique s.rows r q k.standing.distinct n.row m.row (owner r.txn q.txn (items s.sizes s.records) (placed_one f) (placed_one g) (deed_of_row r f n.row i) (deed_of_row q g m.row j) (omega (arith, a, b)))
+
   -- the last of a row is its newest
   row_newest : (q : Row) (g : Finished) → In q s.rows → In g q.finished → g.lsn ≤ newest_lsn q.finished
   row_newest q g j i = elim (nil_or q.finished) [

@@ -6,9 +6,10 @@ use Rattle.rq_model.specs.declared.txn.Txn.{Txn}
 use Rattle.rq_model.specs.Words.{In}
 use Rattle.rq_model.specs.Commits.{committed_of}
 use Rattle.rq_model.specs.Content.{content}
-use Rattle.rq_model.specs.Incarnations.{Extends}
+use Rattle.rq_model.specs.Incarnations.{Extends, incarnation_of}
 use Rattle.rq_model.specs.Unended.{unfinished, lost}
-use Rattle.rq_page.specs.Sizes.{Sizes}
+use Rattle.rq_page.specs.Sizes.{Sizes, IsInRange}
+use Rattle.rq_views.specs.Stored.{slots_in}
 use Rattle.rq_txn.specs.declared.Finished.{Finished}
 use Rattle.rq_txn.specs.declared.Aim.TheVariants as aims
 use Rattle.rq_txn.specs.Rows.{Row, Under, any_under}
@@ -17,7 +18,7 @@ use Rattle.rq_views.specs.Items.{layout_of}
 use Rattle.rq_views.specs.Log.{HasBefores, Write}
 use Rattle.rq_views.specs.Plans.{IsPlan}
 use Rattle.rq_views.specs.Plans.Turn.{Undid}
-use Rattle.rq_store.specs.Fitting.{left_by}
+use Rattle.rq_store.specs.Fitting.{FitsLog, image_in, left_by, oldest}
 use Rattle.rq_store.specs.Opening.{opened}
 use Rattle.rq_store.specs.State.{State, ledger_of}
 use Rattle.rq_store.specs.Whole.{IsWhole}
@@ -106,9 +107,14 @@ AbortsMayStop = (s : State) (stores : List State) (n : ℕ) → IsSound s → Mo
 
 -- Where transactions are left to be undone and nothing is under way, one is next: of those with nothing left to undo the
 -- one of the least number, which may end; else the one with the newest deed of all, whose inverse can be planned and may
--- start. Whoever is to be undone stays so.
+-- start. No more than one is next, and whoever is to be undone stays so.
 pub record AbortsHaveTurns : Type 0 where
   pub next : (s : State) → IsSound s → s.rows ≢ [] → NextTurn s.rows
+  pub one_ends : (s : State) (r q : Row) → IsSound s → EndsNext s.rows r → EndsNext s.rows q → r ≡ q
+  pub one_back : (s : State) (r q : Row) (rest others : List Finished) (f g : Finished) → IsSound s
+      → TakesBackNext s.rows r rest f → TakesBackNext s.rows q others g → r ≡ q
+  pub not_both : (s : State) (r q : Row) (rest : List Finished) (f : Finished) → EndsNext s.rows r
+      → TakesBackNext s.rows q rest f → ⊥
   pub ends : (s : State) (r : Row) → IsSound s → any_under s.rows ≡ false → AreAborting s.rows → EndsNext s.rows r
       → IsAbortMove s (aborted s r)
   pub plans : (s : State) (r : Row) (rest : List Finished) (f : Finished) → IsSound s → any_under s.rows ≡ false
@@ -126,3 +132,19 @@ pub record AbortsHaveTurns : Type 0 where
       → AreAborting (lost_store z images log forced).rows
   pub idle : (z : Sizes) (images : List (List ℕ)) (log : List Record) (forced : ℕ)
       → any_under (lost_store z images log forced).rows ≡ false
+
+-- A restart over what a crash left of them goes on: once the inverse that was cut off is undone by pages, and the pages
+-- hold what that log leaves, the store with lost transactions is there again, of whom each was lost before. The content
+-- and the commits are what they were.
+pub record StopsAreRepeated : Type 0 where
+  pub repeated : (z : Sizes) (images : List (List ℕ)) (log cut last : List Record) (forced : ℕ) → IsInRange z
+      → 1 ≤ incarnation_of log → IsStopped z log cut → IsUndone cut last
+      → incarnation_of (oldest forced last) ≡ incarnation_of last → forced ≤ length last
+      → ((a : ℕ) → slots_in z images a ≡ (left_by z last).slots a) → FitsLog z (image_in images) last
+      → IsRepeated z images last forced
+  pub none_new : (z : Sizes) (log cut last : List Record) (t : Txn) → IsStopped z log cut → IsUndone cut last
+      → In t (lost last) → In t (lost log)
+  pub content : (z : Sizes) (log cut last : List Record) (g : ℕ) → IsStopped z log cut → IsUndone cut last
+      → content last g ≡ content log g
+  pub committed : (z : Sizes) (log cut last : List Record) → IsStopped z log cut → IsUndone cut last
+      → committed_of last ≡ committed_of log

@@ -3,7 +3,7 @@
 //! The definitions stand in specs/, the theorems are the contracts of the functions here.
 #![tactic(auto)]
 
-ghost use Rattle.rq_lost.specs.Theorems.{AbortedLogsAreSettled, AbortsEnd, AbortsHaveTurns, AbortsKeepLogsWhole, AbortsMayStop, InversesAreFound, LostStoresAreSound, LostStoresOpen, SettledStoresHaveEnded};
+ghost use Rattle.rq_lost.specs.Theorems.{AbortedLogsAreSettled, AbortsEnd, AbortsHaveTurns, AbortsKeepLogsWhole, AbortsMayStop, InversesAreFound, LostStoresAreSound, LostStoresOpen, SettledStoresHaveEnded, StopsAreRepeated};
 ghost use Rattle.rq_lost.specs.Worked.{LostAreJudged, StopsAreJudged, TurnsAreJudged};
 
 /// Each move of an abort leaves a sound store over a whole log, which has at most a record more, no Commit and no OpEnd.
@@ -51,6 +51,12 @@ pub fn aborts_may_stop()
 /// Where transactions are left to be undone, one is next, and what is done to it may be done.
 pub fn aborts_have_turns()
     ensures { AbortsHaveTurns }
+{}
+
+/// A restart over what a crash left of the aborts goes on: the store with lost transactions is there again, with the
+/// content that it had.
+pub fn stops_are_repeated()
+    ensures { StopsAreRepeated }
 {}
 
 /// Worked: one transaction sent and took when a crash came, and is lost.
