@@ -9,3 +9,4 @@ pub mod Working
 pub mod Stopping
 pub mod Turning
 pub mod Worked
+pub mod WorkedMoves

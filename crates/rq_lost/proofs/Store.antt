@@ -51,13 +51,13 @@ module _ (z : Sizes) (log : List Record) (whole : IsWhole z log) (none : unfinis
       idle = λ n. idle (operation t n);
     }
     | inr running ↦ (
-      let nothing = no_deeds t log (not_lost log t off running) in
-      record {
-        settled = none_open z t log whole.reads nothing;
-        unused = λ e. nothing;
-        idle = λ n. idle (operation t n);
-      }
-    )
+        let nothing = no_deeds t log (not_lost log t off running) in
+        record {
+          settled = none_open z t log whole.reads nothing;
+          unused = λ e. nothing;
+          idle = λ n. idle (operation t n);
+        }
+        )
   ]
 
   stands : AreStanding z log (lost_ends log) (lost_rows z log) (incarnation_of log) (begins_in log)

@@ -39,14 +39,22 @@ greatest_row f q [] = (q, inl refl, λ p i. elim i [ inl e ↦ (let a : f p ≡ 
 greatest_row f q (x ∷ qs) =
     let g = greatest_row f x qs in
     elim (cases_lt (f g.0) (f q)) [
-      | inl lt ↦ (q, inl refl, λ p i. elim i [
-        | inl e ↦ (let a : f p ≡ f q = ap f e in omega (arith, a))
-        | inr j ↦ (let a = g.2 p j in omega (arith, a, lt))
-      ])
-      | inr ge ↦ (g.0, inr g.1, λ p i. elim i [
-        | inl e ↦ (let a : f p ≡ f q = ap f e in omega (arith, a, ge))
-        | inr j ↦ g.2 p j
-      ])
+      | inl lt ↦ (
+        q,
+        inl refl,
+        λ p i. elim i [
+          | inl e ↦ (let a : f p ≡ f q = ap f e in omega (arith, a))
+          | inr j ↦ (let a = g.2 p j in omega (arith, a, lt))
+        ],
+      )
+      | inr ge ↦ (
+        g.0,
+        inr g.1,
+        λ p i. elim i [
+          | inl e ↦ (let a : f p ≡ f q = ap f e in omega (arith, a, ge))
+          | inr j ↦ g.2 p j
+        ],
+      )
     ]
 
 nil_or : (fs : List Finished) → (fs ≡ []) ⊎ (fs ≢ [])
@@ -61,27 +69,47 @@ least_empty : (f : Row → ℕ) (qs : List Row) → ((q : Row) → In q qs → q
 least_empty f [] = inl (λ q i. absurd i)
 least_empty f (x ∷ qs) = elim (nil_or x.finished) [
   | inl none ↦ elim (least_empty f qs) [
-    | inl all ↦ inr (x, inl refl, none, λ p i e. elim i [
-      | inl is ↦ (let a : f p ≡ f x = ap f is in omega (arith, a))
-      | inr j ↦ absurd (all p j e)
-    ])
-    | inr g ↦ elim (cases_lt (f x) (f g.0)) [
-      | inl lt ↦ inr (x, inl refl, none, λ p i e. elim i [
+    | inl all ↦ inr (
+      x,
+      inl refl,
+      none,
+      λ p i e. elim i [
         | inl is ↦ (let a : f p ≡ f x = ap f is in omega (arith, a))
-        | inr j ↦ (let a = g.3 p j e in omega (arith, a, lt))
-      ])
-      | inr ge ↦ inr (g.0, inr g.1, g.2, λ p i e. elim i [
-        | inl is ↦ (let a : f p ≡ f x = ap f is in omega (arith, a, ge))
-        | inr j ↦ g.3 p j e
-      ])
+        | inr j ↦ absurd (all p j e)
+      ],
+    )
+    | inr g ↦ elim (cases_lt (f x) (f g.0)) [
+      | inl lt ↦ inr (
+        x,
+        inl refl,
+        none,
+        λ p i e. elim i [
+          | inl is ↦ (let a : f p ≡ f x = ap f is in omega (arith, a))
+          | inr j ↦ (let a = g.3 p j e in omega (arith, a, lt))
+        ],
+      )
+      | inr ge ↦ inr (
+        g.0,
+        inr g.1,
+        g.2,
+        λ p i e. elim i [
+          | inl is ↦ (let a : f p ≡ f x = ap f is in omega (arith, a, ge))
+          | inr j ↦ g.3 p j e
+        ],
+      )
     ]
   ]
   | inr some ↦ elim (least_empty f qs) [
     | inl all ↦ inl (λ q i. elim i [ inl is ↦ (λ e. some (sym (ap (λ (y : Row). y.finished) is) ∙ e)) | inr j ↦ all q j ])
-    | inr g ↦ inr (g.0, inr g.1, g.2, λ p i e. elim i [
-      | inl is ↦ absurd (some (sym (ap (λ (y : Row). y.finished) is) ∙ e))
-      | inr j ↦ g.3 p j e
-    ])
+    | inr g ↦ inr (
+      g.0,
+      inr g.1,
+      g.2,
+      λ p i e. elim i [
+        | inl is ↦ absurd (some (sym (ap (λ (y : Row). y.finished) is) ∙ e))
+        | inr j ↦ g.3 p j e
+      ],
+    )
   ]
 ]
 

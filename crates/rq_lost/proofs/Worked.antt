@@ -24,7 +24,7 @@ range = record { directory_low = omega arith; directory_high = omega arith; cell
 whole : IsWhole sizes log_two
 whole = whole_dropped sizes 4 (spelled_log stopped) worked_store.stopped_whole
 
-repeats : (images : List (List ℕ)) → AreRepeated images → IsRepeated sizes images log_two 11
+pub repeats : (images : List (List ℕ)) → AreRepeated images → IsRepeated sizes images log_two 11
 repeats images h = record {
   range = range;
   whole = whole;
@@ -56,7 +56,7 @@ lost_judged = record {
   still_waits = λ images k. (let e : 2 ≡ 1 = k.counted.waited 0 (omega arith) in omega (arith, e));
 }
 
-only_row : (r : Row) → In r (lost_rows sizes log_two) → r ≡ row_two
+pub only_row : (r : Row) → In r (lost_rows sizes log_two) → r ≡ row_two
 only_row r i = elim i [ inl e ↦ e | inr j ↦ absurd j ]
 
 only_deeds : (g : Finished) → In g (sent_two ∷ took_two ∷ []) → g.lsn ≤ 11

@@ -4,3 +4,4 @@ pub mod Turns
 pub mod Work
 pub mod Theorems
 pub mod Worked
+pub mod WorkedMoves

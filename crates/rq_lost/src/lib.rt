@@ -5,6 +5,7 @@
 
 ghost use Rattle.rq_lost.specs.Theorems.{AbortedLogsAreSettled, AbortsEnd, AbortsHaveTurns, AbortsKeepLogsWhole, AbortsMayStop, InversesAreFound, LostStoresAreSound, LostStoresOpen, SettledStoresHaveEnded, StopsAreRepeated};
 ghost use Rattle.rq_lost.specs.Worked.{LostAreJudged, StopsAreJudged, TurnsAreJudged};
+ghost use Rattle.rq_lost.specs.WorkedMoves.{MovesAreJudged};
 
 /// Each move of an abort leaves a sound store over a whole log, which has at most a record more, no Commit and no OpEnd.
 pub fn aborts_keep_logs_whole()
@@ -72,4 +73,9 @@ pub fn turns_are_judged()
 /// Worked: a crash stops its undoing.
 pub fn stops_are_judged()
     ensures { StopsAreJudged }
+{}
+
+/// Worked: what undoes it, move by move.
+pub fn moves_are_judged()
+    ensures { MovesAreJudged }
 {}
