@@ -10,3 +10,4 @@ pub mod Stopping
 pub mod Turning
 pub mod Worked
 pub mod WorkedMoves
+pub mod Owing

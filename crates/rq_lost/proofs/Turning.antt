@@ -57,7 +57,7 @@ greatest_row f q (x ∷ qs) =
       )
     ]
 
-nil_or : (fs : List Finished) → (fs ≡ []) ⊎ (fs ≢ [])
+pub nil_or : (fs : List Finished) → (fs ≡ []) ⊎ (fs ≢ [])
 nil_or [] = inl refl
 nil_or (f ∷ fs) = inr (λ e. cc e)
 
@@ -124,7 +124,7 @@ newest_last [] f = refl
 newest_last (g ∷ []) f = refl
 newest_last (g ∷ h ∷ rest) f = newest_last (h ∷ rest) f
 
-split_last : (fs : List Finished) → fs ≢ [] → (rest : List Finished) × (f : Finished) × (fs ≡ rest ++ f ∷ [])
+pub split_last : (fs : List Finished) → fs ≢ [] → (rest : List Finished) × (f : Finished) × (fs ≡ rest ++ f ∷ [])
 split_last [] ne = absurd (ne refl)
 split_last (f ∷ []) ne = ([], f, refl)
 split_last (f ∷ g ∷ fs) ne = let h = split_last (g ∷ fs) (λ e. cc e) in (f ∷ h.0, h.1, ap (λ l. f ∷ l) h.2)
@@ -192,7 +192,7 @@ in_last : {X : Type 0} (xs : List X) (x : X) → In x (xs ++ x ∷ [])
 in_last [] x = inl refl
 in_last (z ∷ xs) x = inr (in_last xs x)
 
-in_placed : (fs : List Finished) (g : Finished) → In g fs → In (placed_one g) (placed fs)
+pub in_placed : (fs : List Finished) (g : Finished) → In g fs → In (placed_one g) (placed fs)
 in_placed [] g i = absurd i
 in_placed (f ∷ fs) g i = subst (In (placed_one g)) (sym (placed_first f fs)) (elim i [
   | inl e ↦ subst (λ (x : Finished). In (placed_one g) (placed fs ++ placed_one x ∷ [])) e (in_last (placed fs) (placed_one g))

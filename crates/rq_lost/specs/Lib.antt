@@ -1,3 +1,4 @@
+pub mod Dues
 pub mod Lost
 pub mod Moves
 pub mod Turns

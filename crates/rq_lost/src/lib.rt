@@ -3,6 +3,7 @@
 //! The definitions stand in specs/, the theorems are the contracts of the functions here.
 #![tactic(auto)]
 
+ghost use Rattle.rq_lost.specs.Dues.{DuesAreNext};
 ghost use Rattle.rq_lost.specs.Theorems.{AbortedLogsAreSettled, AbortsEnd, AbortsHaveTurns, AbortsKeepLogsWhole, AbortsMayStop, InversesAreFound, LostStoresAreSound, LostStoresOpen, SettledStoresHaveEnded, StopsAreRepeated};
 ghost use Rattle.rq_lost.specs.Worked.{LostAreJudged, StopsAreJudged, TurnsAreJudged};
 ghost use Rattle.rq_lost.specs.WorkedMoves.{MovesAreJudged};
@@ -58,6 +59,11 @@ pub fn aborts_have_turns()
 /// content that it had.
 pub fn stops_are_repeated()
     ensures { StopsAreRepeated }
+{}
+
+/// What is to be taken back next stands first on a stack that the records of the log make.
+pub fn dues_are_next()
+    ensures { DuesAreNext }
 {}
 
 /// Worked: one transaction sent and took when a crash came, and is lost.
