@@ -1,12 +1,13 @@
 -- The store with the transactions that a crash stopped is sound.
-use Rattle.std.proofs.Common.{◌≡◌, ℕ, false, arith, List, [], Some, None, inl, inr, refl, sym, ◌∙◌, ap, subst}
+use Rattle.std.proofs.Common.{◌∷◌, ◌≡◌, ℕ, false, arith, List, [], Some, None, inl, inr, refl, sym, ◌∙◌, ap, subst, ◌≢◌, ◌≤◌, ◌+◌}
 use Rattle.std.proofs.lemmas.Bool.{cases_Bool, true≢false}
 use Rattle.rq_model.specs.declared.txn.Txn.{Txn}
 use Rattle.rq_model.specs.declared.txn.Sub.{Sub}
 use Rattle.rq_model.specs.declared.record.Record.{Record}
+use Rattle.rq_model.specs.declared.record.Record.TheVariants as records
 use Rattle.rq_model.specs.Words.{In, has_txn}
 use Rattle.rq_model.specs.Content.{has_end}
-use Rattle.rq_model.specs.Incarnations.{incarnation_of}
+use Rattle.rq_model.specs.Incarnations.{IsNext, incarnation_of, incarnation_one}
 use Rattle.rq_model.specs.Unended.{lost, unfinished}
 use Rattle.rq_model.proofs.Lists.{In-map}
 use Rattle.rq_page.specs.Sizes.{Sizes}
@@ -85,3 +86,18 @@ lost_sound z images log forced h = record {
   sent = keeps_sends z log;
   forced = h.within;
 }
+
+-- a log that is not empty begins with a restart
+next_some : (i : ℕ) (r : Record) → IsNext i r → 1 ≤ incarnation_one r i
+next_some i (records.Restart j) h = (let e : j ≡ i + 1 = h in omega (arith, e))
+next_some i (records.PageOp t n page slot before after) h = h.0
+next_some i (records.PageUndo t n undone page slot after) h = h.0
+next_some i (records.OpEnd t n level deed) h = h.0
+next_some i (records.OpVoid t n) h = h.0
+next_some i (records.CompEnd t n undone) h = h.0
+next_some i (records.Commit t) h = h.0
+next_some i (records.AbortEnd t) h = h.0
+
+pub some_incarnation : (z : Sizes) (log : List Record) → IsWhole z log → lost log ≢ [] → 1 ≤ incarnation_of log
+some_incarnation z [] w ne = absurd (ne refl)
+some_incarnation z (r ∷ log) w ne = next_some (incarnation_of log) r w.order.0

@@ -14,7 +14,8 @@ use Rattle.rq_store.proofs.Cutting.{whole_dropped}
 use Rattle.rq_store.proofs.Worked.{worked_store}
 use Rattle.rq_sound.specs.Sound.{IsSound}
 use Rattle.rq_lost.specs.Lost.{IsRepeated, lost_rows}
-use Rattle.rq_lost.specs.Worked.{AreRepeated, LostAreJudged, StopsAreJudged, TurnsAreJudged, log_two, row_two, sent_two, store_two, took_two}
+use Rattle.rq_lost.specs.Worked.{AreRepeated, LostAreJudged, StopsAreJudged, TurnsAreJudged, log_two, row_two, sent_due, sent_two, store_two, took_due, took_two}
+use Rattle.rq_lost.proofs.Owing.{first_due}
 use Rattle.rq_lost.proofs.Stopping.{stopped_at}
 use Rattle.rq_lost.proofs.Store.{lost_sound}
 
@@ -76,6 +77,10 @@ turns_judged = record {
   not_older = λ r n. (let a : 11 ≤ 8 = n.newest row_two took_two (inl refl) (inr (inl refl)) in absurd (omega (arith, a)));
   not_yet = λ r n. (let bad = sym (ap (λ (y : Row). y.finished) (only_row r n.row)) ∙ n.empty in cc bad);
   work = λ images. refl;
+  stack = refl;
+  stack_then = refl;
+  first = λ images h. first_due (store_two images) (sounds images h) took_due (sent_due ∷ []) refl;
+  not_first = λ images n. (let a : 11 ≤ 8 = n.newest row_two took_two (inl refl) (inr (inl refl)) in absurd (omega (arith, a)));
 }
 
 extends : Extends log_two (spelled_log stopped)

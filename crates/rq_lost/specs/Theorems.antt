@@ -62,10 +62,11 @@ pub record AbortedLogsAreSettled : Type 0 where
   pub lost : (s now : State) → IsSound s → AreAborted s now → lost now.records ≡ []
 
 -- The store that a crash leaves, with the transactions that it stopped as rows to be undone, is sound: what undoes them
--- are the moves that a running store makes.
-abbrev pub LostStoresAreSound : Type 0
-LostStoresAreSound = (z : Sizes) (images : List (List ℕ)) (log : List Record) (forced : ℕ)
-    → IsRepeated z images log forced → IsSound (lost_store z images log forced)
+-- are the moves that a running store makes. A log with a lost transaction is of some incarnation.
+pub record LostStoresAreSound : Type 0 where
+  pub sound : (z : Sizes) (images : List (List ℕ)) (log : List Record) (forced : ℕ) → IsRepeated z images log forced
+      → IsSound (lost_store z images log forced)
+  pub some : (z : Sizes) (log : List Record) → IsWhole z log → lost log ≢ [] → 1 ≤ incarnation_of log
 
 -- Each move of an abort of a sound store leaves less to do, so that they come to an end.
 abbrev pub AbortsEnd : Type 0

@@ -12,6 +12,7 @@ use Rattle.rq_store.specs.Fitting.{FitsLog, image_in, left_by}
 use Rattle.rq_store.specs.State.{State}
 use Rattle.rq_store.specs.Worked.{spelled_log}
 use Rattle.rq_sound.specs.Sound.{IsSound}
+use Rattle.rq_lost.specs.Dues.{Due, IsNewestDue, dues}
 use Rattle.rq_lost.specs.Lost.{IsRepeated, lost_ends, lost_rows, lost_store}
 use Rattle.rq_lost.specs.Theorems.{IsRestored, IsStopped}
 use Rattle.rq_lost.specs.Turns.{EndsNext, TakesBackNext}
@@ -26,6 +27,12 @@ sent_two = record { lsn = 8; deed = sends 15 }
 
 abbrev pub took_two : Finished
 took_two = record { lsn = 11; deed = takes 0 }
+
+abbrev pub sent_due : Due
+sent_due = record { txn = t2; lsn = 8; deed = sends 15 }
+
+abbrev pub took_due : Due
+took_due = record { txn = t2; lsn = 11; deed = takes 0 }
 
 abbrev pub row_two : Row
 row_two = record {
@@ -70,6 +77,11 @@ pub record TurnsAreJudged : Type 0 where
   pub not_older : (r : Row) → TakesBackNext (lost_rows sizes log_two) r [] sent_two → ⊥
   pub not_yet : (r : Row) → EndsNext (lost_rows sizes log_two) r → ⊥
   pub work : (images : List (List ℕ)) → abort_work (store_two images) ≡ 11
+  -- so it is on the stack, also once a crash came when the message was back
+  pub stack : dues log_two ≡ took_due ∷ sent_due ∷ []
+  pub stack_then : dues (spelled_log stopped) ≡ sent_due ∷ []
+  pub first : (images : List (List ℕ)) → AreRepeated images → IsNewestDue (store_two images) took_due
+  pub not_first : (images : List (List ℕ)) → IsNewestDue (store_two images) sent_due → ⊥
 
 -- a crash may come when the message is back and its own is being taken back; nothing commits t2; and where nothing is
 -- undone the store is not restored
