@@ -11,3 +11,4 @@ pub mod Turning
 pub mod Worked
 pub mod WorkedMoves
 pub mod Owing
+pub mod Recovering

@@ -39,11 +39,11 @@ move_sizes s now (Writes r u w images lsn d aim next e) = ap (λ (x : State). x.
 move_sizes s now (Undoes r u lsn d waiting ready more e) = ap (λ (x : State). x.sizes) e
 move_sizes s now (Ends r idle aborting none e) = ap (λ (x : State). x.sizes) e
 
-moves_sizes : (s : State) (ns : List State) → MovesBehind s ns → (newest_store s ns).sizes ≡ s.sizes
+pub moves_sizes : (s : State) (ns : List State) → MovesBehind s ns → (newest_store s ns).sizes ≡ s.sizes
 moves_sizes s [] h = refl
 moves_sizes s (n ∷ ns) h = move_sizes (newest_store s ns) n h.0 ∙ moves_sizes s ns h.1
 
-moves_extend : (s : State) (ns : List State) → MovesBehind s ns → Extends s.records (newest_store s ns).records
+pub moves_extend : (s : State) (ns : List State) → MovesBehind s ns → Extends s.records (newest_store s ns).records
 moves_extend s [] h = ([], refl, tt)
 moves_extend s (n ∷ ns) h = extends_join s.records (newest_store s ns).records n.records (moves_extend s ns h.1) (move_extends (newest_store s ns) n h.0)
 
@@ -92,7 +92,7 @@ plain_drop zero xs h = h
 plain_drop (suc n) [] h = h
 plain_drop (suc n) (x ∷ xs) h = plain_drop n xs h.1
 
-cut_extends : (n : ℕ) (log now : List Record) → Extends log now → n + length log ≤ length now → Extends log (drop n now)
+pub cut_extends : (n : ℕ) (log now : List Record) → Extends log now → n + length log ≤ length now → Extends log (drop n now)
 cut_extends n log now x within =
     let a : length (x.0 ++ log) ≡ length now = ap length x.1 in
     let b = length-append x.0 log in

@@ -22,7 +22,7 @@ use Rattle.rq_lost.proofs.Store.{lost_sound}
 range : IsInRange sizes
 range = record { directory_low = omega arith; directory_high = omega arith; cells_low = omega arith; cells_high = omega arith }
 
-whole : IsWhole sizes log_two
+pub whole : IsWhole sizes log_two
 whole = whole_dropped sizes 4 (spelled_log stopped) worked_store.stopped_whole
 
 pub repeats : (images : List (List ℕ)) → AreRepeated images → IsRepeated sizes images log_two 11

@@ -24,8 +24,11 @@ use Rattle.rq_lost.specs.Moves.{AreAborted, IsAbortMove}
 use Rattle.rq_lost.specs.Moves.IsAbortMove.{Starts, Writes, Undoes, Ends}
 use Rattle.rq_lost.specs.Worked.{log_two, row_two, sent_two, store_two, took_two}
 use Rattle.rq_lost.specs.WorkedMoves.{AreMade, MovesAreJudged, Pages, back, cell_back, cell_freed, cell_is_back, cell_is_free, ended, group_back, group_is_back, group_is_left, group_left, put_back, row_back, row_empty, row_sent, row_unlinking, started_back, started_unlink, unlink, unlinked}
+use Rattle.rq_undone.proofs.Undos.{undoing_none}
+use Rattle.rq_lost.specs.Recovered.IsRecovered.{AllAborted}
+use Rattle.rq_lost.proofs.Recovering.{recovered_from}
 use Rattle.rq_lost.proofs.Stopping.{lost_restored}
-use Rattle.rq_lost.proofs.Worked.{only_row, repeats}
+use Rattle.rq_lost.proofs.Worked.{only_row, repeats, whole}
 
 -- what stands in the directory slots
 at_a : IsLink sizes 49
@@ -174,6 +177,8 @@ pub moves_judged : MovesAreJudged
 moves_judged = record {
   goes = goes;
   restored = λ v m. lost_restored sizes v.start log_two 11 (ended v) (repeats v.start m.start) (goes v m);
+  recovered = λ v m. AllAborted log_two v.start 11 (ended v) (record { undoing = undoing_none log_two; none = refl }) (repeats v.start m.start) (goes v m) refl;
+  not_before = λ h. (let e = (recovered_from sizes log_two log_two whole h).none_lost in cc e);
   first_work = λ v. refl;
   last_work = λ v. refl;
   not_ended = λ v a. (let e = a.none in cc e);

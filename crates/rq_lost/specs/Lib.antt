@@ -6,3 +6,4 @@ pub mod Work
 pub mod Theorems
 pub mod Worked
 pub mod WorkedMoves
+pub mod Recovered

@@ -9,6 +9,7 @@ use Rattle.rq_store.specs.State.{State}
 use Rattle.rq_sound.specs.Calls.{IsPutIn, aborted, started, stepped, undone}
 use Rattle.rq_sound.specs.Course.{spelled, with_made}
 use Rattle.rq_lost.specs.Moves.{AreAborted, IsAbortMove}
+use Rattle.rq_lost.specs.Recovered.{IsRecovered}
 use Rattle.rq_lost.specs.Theorems.{IsRestored}
 use Rattle.rq_lost.specs.Work.{abort_work}
 use Rattle.rq_lost.specs.Worked.{AreRepeated, log_two, row_two, sent_two, store_two}
@@ -97,6 +98,9 @@ pub record AreMade (v : Pages) : Type 0 where
 pub record MovesAreJudged : Type 0 where
   pub goes : (v : Pages) → AreMade v → AreAborted (store_two v.start) (ended v)
   pub restored : (v : Pages) → AreMade v → IsRestored logs.sizes log_two (ended v)
+  -- so the log is recovered, and was not before
+  pub recovered : (v : Pages) → AreMade v → IsRecovered logs.sizes log_two (ended v).records
+  pub not_before : IsRecovered logs.sizes log_two log_two → ⊥
   -- the work that is left falls
   pub first_work : (v : Pages) → abort_work (started_back v) ≡ 9
   pub last_work : (v : Pages) → abort_work (unlinked v) ≡ 1

@@ -4,6 +4,7 @@
 #![tactic(auto)]
 
 ghost use Rattle.rq_lost.specs.Dues.{DuesAreNext};
+ghost use Rattle.rq_lost.specs.Recovered.{RecoveredLogsAreWhole};
 ghost use Rattle.rq_lost.specs.Theorems.{AbortedLogsAreSettled, AbortsEnd, AbortsHaveTurns, AbortsKeepLogsWhole, AbortsMayStop, InversesAreFound, LostStoresAreSound, LostStoresOpen, SettledStoresHaveEnded, StopsAreRepeated};
 ghost use Rattle.rq_lost.specs.Worked.{LostAreJudged, StopsAreJudged, TurnsAreJudged};
 ghost use Rattle.rq_lost.specs.WorkedMoves.{MovesAreJudged};
@@ -64,6 +65,12 @@ pub fn stops_are_repeated()
 /// What is to be taken back next stands first on a stack that the records of the log make.
 pub fn dues_are_next()
     ensures { DuesAreNext }
+{}
+
+/// A log that a restart recovers is whole, with the content that it had, and nothing is unfinished or lost in it; wherever
+/// a crash stops that, a restart goes on.
+pub fn recovered_logs_are_whole()
+    ensures { RecoveredLogsAreWhole }
 {}
 
 /// Worked: one transaction sent and took when a crash came, and is lost.
