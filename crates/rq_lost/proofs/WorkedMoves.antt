@@ -22,13 +22,16 @@ use Rattle.rq_sound.specs.Starts.{MayUndo}
 use Rattle.rq_sound.proofs.Spelt as spelt
 use Rattle.rq_lost.specs.Moves.{AreAborted, IsAbortMove}
 use Rattle.rq_lost.specs.Moves.IsAbortMove.{Starts, Writes, Undoes, Ends}
+use Rattle.rq_model.specs.Words.{In}
+use Rattle.rq_txn.specs.declared.Finished.{Finished}
+use Rattle.rq_lost.specs.Turns.{EndsNext, MovesInTurn, TakesBackNext}
 use Rattle.rq_lost.specs.Worked.{log_two, row_two, sent_two, store_two, took_two}
-use Rattle.rq_lost.specs.WorkedMoves.{AreMade, MovesAreJudged, Pages, back, cell_back, cell_freed, cell_is_back, cell_is_free, ended, group_back, group_is_back, group_is_left, group_left, put_back, row_back, row_empty, row_sent, row_unlinking, started_back, started_unlink, unlink, unlinked}
+use Rattle.rq_lost.specs.WorkedMoves.{stores_of, AreMade, MovesAreJudged, Pages, back, cell_back, cell_freed, ended, group_back, group_is_back, group_is_left, group_left, put_back, row_back, row_empty, row_sent, row_unlinking, unlink}
 use Rattle.rq_undone.proofs.Undos.{undoing_none}
 use Rattle.rq_lost.specs.Recovered.IsRecovered.{AllAborted}
-use Rattle.rq_lost.proofs.Recovering.{recovered_from}
+use Rattle.rq_lost.proofs.Recovering.{behind, recovered_from}
 use Rattle.rq_lost.proofs.Stopping.{lost_restored}
-use Rattle.rq_lost.proofs.Worked.{only_row, repeats, whole}
+use Rattle.rq_lost.proofs.Worked.{only_row, repeats, turns_judged, whole}
 
 -- what stands in the directory slots
 at_a : IsLink sizes 49
@@ -128,31 +131,48 @@ waits_again ws (suc g) =
     let b : took (suc g) (takes 0) ≡ 0 = rw (ne_eqb 0 (suc g) (λ e. omega (arith, e))) refl in
     omega (arith, a, b)
 
+one_row : (p r : Row) → In r (p ∷ []) → r ≡ p
+one_row p r i = elim i [ inl e ↦ e | inr j ↦ absurd j ]
+
+turn_unlink : TakesBackNext (row_sent ∷ []) row_sent [] sent_two
+turn_unlink = record {
+  row = inl refl;
+  last = refl;
+  some = λ q i e. (let bad = sym (ap (λ (y : Row). y.finished) (one_row row_sent q i)) ∙ e in cc bad);
+  newest = λ q g i j. elim (subst (In g) (ap (λ (y : Row). y.finished) (one_row row_sent q i)) j) [
+    | inl e ↦ (let a : g.lsn ≡ 8 = ap (λ (x : Finished). x.lsn) e in omega (arith, a))
+    | inr l ↦ absurd l
+  ];
+}
+
+turn_end : EndsNext (row_empty ∷ []) row_empty
+turn_end = record {
+  row = inl refl;
+  empty = refl;
+  least = λ q i e. (let a : q.txn.count ≡ 2 = ap (λ (y : Row). y.txn.count) (one_row row_empty q i) in omega (arith, a));
+}
+
 module _ (v : Pages) (m : AreMade v) where
-  goes : AreAborted (store_two v.start) (ended v)
-  goes = record {
-    stores = ended v ∷ unlinked v ∷ group_is_left v ∷ cell_is_free v ∷ started_unlink v ∷ back v ∷ group_is_back v ∷ cell_is_back v ∷ started_back v ∷ [];
-    last = refl;
-    moves = (
-      Ends row_empty (record { at_row = refl; idle = refl }) refl refl refl,
+  in_turn : MovesInTurn (store_two v.start) (stores_of v)
+  in_turn = (
+    (Ends row_empty (record { at_row = refl; idle = refl }) refl refl refl, (refl, turn_end)),
+    (
+      (Undoes (row_unlinking 2) (with_made 2 unlink) 8 (sends 15) (group_is_left v).waiting (record { at_row = refl; under = refl; aim_is = refl; made = refl }) (λ g. omega arith) refl, tt),
       (
-        Undoes (row_unlinking 2) (with_made 2 unlink) 8 (sends 15) (group_is_left v).waiting (record { at_row = refl; under = refl; aim_is = refl; made = refl }) (λ g. omega arith) refl,
+        (Writes (row_unlinking 1) (with_made 1 unlink) group_left v.fourth 8 (sends 15) refl (record { at_row = refl; under = refl; next = refl; before = (spelt.told 33 _ spelt.has_b).1; after = (spelt.told 33 _ left_stands).1; made = m.fourth }) refl, tt),
         (
-          Writes (row_unlinking 1) (with_made 1 unlink) group_left v.fourth 8 (sends 15) refl (record { at_row = refl; under = refl; next = refl; before = (spelt.told 33 _ spelt.has_b).1; after = (spelt.told 33 _ left_stands).1; made = m.fourth }) refl,
+          (Writes (row_unlinking 0) unlink cell_freed v.third 8 (sends 15) refl (record { at_row = refl; under = refl; next = refl; before = (spelt.told 65 _ spelt.used_b).1; after = (spelt.told 65 _ spelt.free_b).1; made = m.third }) refl, tt),
           (
-            Writes (row_unlinking 0) unlink cell_freed v.third 8 (sends 15) refl (record { at_row = refl; under = refl; next = refl; before = (spelt.told 65 _ spelt.used_b).1; after = (spelt.told 65 _ spelt.free_b).1; made = m.third }) refl,
+            (Starts row_sent unlink [] sent_two (may_unlink v) refl, (refl, turn_unlink)),
             (
-              Starts row_sent unlink [] sent_two (may_unlink v) refl,
+              (Undoes (row_back 2) (with_made 2 put_back) 11 (takes 0) (1 ∷ drop 1 (group_is_back v).waiting) (record { at_row = refl; under = refl; aim_is = refl; made = refl }) (λ g. waits_again (drop 1 (group_is_back v).waiting) g) refl, tt),
               (
-                Undoes (row_back 2) (with_made 2 put_back) 11 (takes 0) (1 ∷ drop 1 (group_is_back v).waiting) (record { at_row = refl; under = refl; aim_is = refl; made = refl }) (λ g. waits_again (drop 1 (group_is_back v).waiting) g) refl,
+                (Writes (row_back 1) (with_made 1 put_back) group_back v.second 11 (takes 0) refl (record { at_row = refl; under = refl; next = refl; before = (spelt.told 17 _ taken_stands).1; after = (spelt.told 17 _ back_stands).1; made = m.second }) refl, tt),
                 (
-                  Writes (row_back 1) (with_made 1 put_back) group_back v.second 11 (takes 0) refl (record { at_row = refl; under = refl; next = refl; before = (spelt.told 17 _ taken_stands).1; after = (spelt.told 17 _ back_stands).1; made = m.second }) refl,
+                  (Writes (row_back 0) put_back cell_back v.first 11 (takes 0) refl (record { at_row = refl; under = refl; next = refl; before = (spelt.told 49 _ spelt.free_a).1; after = (spelt.told 49 _ spelt.used_a).1; made = m.first }) refl, tt),
                   (
-                    Writes (row_back 0) put_back cell_back v.first 11 (takes 0) refl (record { at_row = refl; under = refl; next = refl; before = (spelt.told 49 _ spelt.free_a).1; after = (spelt.told 49 _ spelt.used_a).1; made = m.first }) refl,
-                    (
-                      Starts row_two put_back (sent_two ∷ []) took_two (may_put_back v) refl,
-                      tt,
-                    ),
+                    (Starts row_two put_back (sent_two ∷ []) took_two (may_put_back v) refl, (refl, turns_judged.newest)),
+                    tt,
                   ),
                 ),
               ),
@@ -160,9 +180,11 @@ module _ (v : Pages) (m : AreMade v) where
           ),
         ),
       ),
-    );
-    none = refl;
-  }
+    ),
+  )
+
+  goes : AreAborted (store_two v.start) (ended v)
+  goes = record { stores = stores_of v; last = refl; moves = behind (store_two v.start) (stores_of v) in_turn; none = refl }
 
 never : (v : Pages) → IsAbortMove (store_two v.start) (aborted (store_two v.start) row_two) → ⊥
 never v (Starts r u rest f may e) = (let bad = ap (λ (s : State). s.records) e in cc bad)
@@ -175,9 +197,10 @@ never v (Ends r idle aborting none e) =
 
 pub moves_judged : MovesAreJudged
 moves_judged = record {
+  in_turn = in_turn;
   goes = goes;
   restored = λ v m. lost_restored sizes v.start log_two 11 (ended v) (repeats v.start m.start) (goes v m);
-  recovered = λ v m. AllAborted log_two v.start 11 (ended v) (record { undoing = undoing_none log_two; none = refl }) (repeats v.start m.start) (goes v m) refl;
+  recovered = λ v m. AllAborted log_two v.start 11 (stores_of v) (record { undoing = undoing_none log_two; none = refl }) (repeats v.start m.start) (in_turn v m) refl refl;
   not_before = λ h. (let e = (recovered_from sizes log_two log_two whole h).none_lost in cc e);
   first_work = λ v. refl;
   last_work = λ v. refl;

@@ -1,5 +1,5 @@
 -- A log as a restart leaves it on its way, and at its end: operations without an end are undone by pages, and then lost
--- transactions by their inverses.
+-- transactions by their inverses, one after the other, each in its turn.
 use Rattle.std.specs.Prelude.{◌≡◌, ℕ, ◌+◌, ◌≤◌, List, [], ◌∷◌, length, drop}
 use Rattle.rq_model.specs.declared.record.Record.{Record}
 use Rattle.rq_model.specs.Commits.{committed_of}
@@ -12,22 +12,24 @@ use Rattle.rq_store.specs.State.{State}
 use Rattle.rq_store.specs.Whole.{IsWhole}
 use Rattle.rq_undone.specs.Pages.{IsUndoing, IsUndone}
 use Rattle.rq_lost.specs.Lost.{IsRepeated, lost_store}
-use Rattle.rq_lost.specs.Moves.{AreAborted, MovesBehind, newest_store}
+use Rattle.rq_lost.specs.Moves.{newest_store}
+use Rattle.rq_lost.specs.Turns.{MovesInTurn}
 use Rattle.rq_lost.specs.Theorems.{IsStopped}
 
 -- on the way
 pub data IsRecovering (z : Sizes) (log now : List Record) : Type 0 where
   Undoing : IsUndoing log now → IsRecovering z log now
   Aborting : (undone : List Record) (images : List (List ℕ)) (forced : ℕ) (stores : List State) → IsUndone log undone
-      → IsRepeated z images undone forced → MovesBehind (lost_store z images undone forced) stores
+      → IsRepeated z images undone forced → MovesInTurn (lost_store z images undone forced) stores
       → (newest_store (lost_store z images undone forced) stores).records ≡ now → IsRecovering z log now
 
 -- at the end: nobody was lost, or all are aborted
 pub data IsRecovered (z : Sizes) (log now : List Record) : Type 0 where
   NoneLost : IsUndone log now → lost now ≡ [] → IsRecovered z log now
-  AllAborted : (undone : List Record) (images : List (List ℕ)) (forced : ℕ) (s : State) → IsUndone log undone
-      → IsRepeated z images undone forced → AreAborted (lost_store z images undone forced) s → s.records ≡ now
-      → IsRecovered z log now
+  AllAborted : (undone : List Record) (images : List (List ℕ)) (forced : ℕ) (stores : List State) → IsUndone log undone
+      → IsRepeated z images undone forced → MovesInTurn (lost_store z images undone forced) stores
+      → (newest_store (lost_store z images undone forced) stores).rows ≡ []
+      → (newest_store (lost_store z images undone forced) stores).records ≡ now → IsRecovered z log now
 
 -- What a log is once it is recovered: whole, as it was; with the content and the commits that it had; with nothing
 -- unfinished and nobody lost; so that the record that begins the next incarnation may stand behind it.

@@ -11,6 +11,7 @@ use Rattle.rq_sound.specs.Course.{spelled, with_made}
 use Rattle.rq_lost.specs.Moves.{AreAborted, IsAbortMove}
 use Rattle.rq_lost.specs.Recovered.{IsRecovered}
 use Rattle.rq_lost.specs.Theorems.{IsRestored}
+use Rattle.rq_lost.specs.Turns.{MovesInTurn}
 use Rattle.rq_lost.specs.Work.{abort_work}
 use Rattle.rq_lost.specs.Worked.{AreRepeated, log_two, row_two, sent_two, store_two}
 use Rattle.rq_views.specs.WorkedItems as logs
@@ -87,6 +88,10 @@ row_empty = row_undone [] (row_unlinking 2)
 abbrev pub ended : Pages → State
 ended v = aborted (unlinked v) row_empty
 
+abbrev pub stores_of : Pages → List State
+stores_of v =
+    ended v ∷ unlinked v ∷ group_is_left v ∷ cell_is_free v ∷ started_unlink v ∷ back v ∷ group_is_back v ∷ cell_is_back v ∷ started_back v ∷ []
+
 -- each write is made in the pages
 pub record AreMade (v : Pages) : Type 0 where
   pub start : AreRepeated v.start
@@ -96,6 +101,7 @@ pub record AreMade (v : Pages) : Type 0 where
   pub fourth : IsPutIn (cell_is_free v) group_left v.fourth
 
 pub record MovesAreJudged : Type 0 where
+  pub in_turn : (v : Pages) → AreMade v → MovesInTurn (store_two v.start) (stores_of v)
   pub goes : (v : Pages) → AreMade v → AreAborted (store_two v.start) (ended v)
   pub restored : (v : Pages) → AreMade v → IsRestored logs.sizes log_two (ended v)
   -- so the log is recovered, and was not before
