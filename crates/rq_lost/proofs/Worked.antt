@@ -5,7 +5,7 @@ use Rattle.std.proofs.lemmas.List.{length-append}
 use Rattle.rq_model.specs.Incarnations.{Extends}
 use Rattle.rq_model.specs.Words.{In}
 use Rattle.rq_page.specs.Sizes.{IsInRange}
-use Rattle.rq_views.specs.WorkedItems.{sizes, t2, stopped}
+use Rattle.rq_views.specs.WorkedItems.{sizes, t1, t2, stopped}
 use Rattle.rq_txn.specs.declared.Finished.{Finished}
 use Rattle.rq_txn.specs.Rows.{Row}
 use Rattle.rq_store.specs.Whole.{IsWhole}
@@ -14,7 +14,7 @@ use Rattle.rq_store.proofs.Cutting.{whole_dropped}
 use Rattle.rq_store.proofs.Worked.{worked_store}
 use Rattle.rq_sound.specs.Sound.{IsSound}
 use Rattle.rq_lost.specs.Lost.{IsRepeated, lost_rows}
-use Rattle.rq_lost.specs.Worked.{AreRepeated, LostAreJudged, StopsAreJudged, TurnsAreJudged, log_two, row_two, sent_due, sent_two, store_two, took_due, took_two}
+use Rattle.rq_lost.specs.Worked.{AreRepeated, LostAreJudged, StopsAreJudged, TurnsAreJudged, TwoAreJudged, left_with, log_two, row_two, sent_due, sent_two, store_two, took_due, took_two}
 use Rattle.rq_lost.proofs.Owing.{first_due}
 use Rattle.rq_lost.proofs.Stopping.{stopped_at}
 use Rattle.rq_lost.proofs.Store.{lost_sound}
@@ -66,6 +66,9 @@ only_deeds g i = elim i [
   | inr j ↦ elim j [ inl e ↦ (let a : g.lsn ≡ 11 = ap (λ (x : Finished). x.lsn) e in omega (arith, a)) | inr l ↦ absurd l ]
 ]
 
+one_deed : (g f : Finished) → f.lsn ≤ 8 → In g (f ∷ []) → g.lsn ≤ 8
+one_deed g f le i = elim i [ inl e ↦ (let a : g.lsn ≡ f.lsn = ap (λ (x : Finished). x.lsn) e in omega (arith, a, le)) | inr l ↦ absurd l ]
+
 pub turns_judged : TurnsAreJudged
 turns_judged = record {
   newest = record {
@@ -81,6 +84,36 @@ turns_judged = record {
   stack_then = refl;
   first = λ images h. first_due (store_two images) (sounds images h) took_due (sent_due ∷ []) refl;
   not_first = λ images n. (let a : 11 ≤ 8 = n.newest row_two took_two (inl refl) (inr (inl refl)) in absurd (omega (arith, a)));
+}
+
+pub two_judged : TwoAreJudged
+two_judged = record {
+  newest = record {
+    row = inl refl;
+    last = refl;
+    some = λ q i e. elim i [
+      | inl a ↦ (let bad = sym (ap (λ (y : Row). y.finished) a) ∙ e in cc bad)
+      | inr j ↦ elim j [ inl a ↦ (let bad = sym (ap (λ (y : Row). y.finished) a) ∙ e in cc bad) | inr l ↦ absurd l ]
+    ];
+    newest = λ q g i j. elim i [
+      | inl a ↦ one_deed g sent_two (omega arith) (subst (In g) (ap (λ (y : Row). y.finished) a) j)
+      | inr k ↦ elim k [
+        | inl a ↦ one_deed g (record sent_two { lsn = 5 }) (omega arith) (subst (In g) (ap (λ (y : Row). y.finished) a) j)
+        | inr l ↦ absurd l
+      ]
+    ];
+  };
+  not_older = λ r f e n. (let a : 8 ≤ f.lsn = n.newest (left_with t2 (sent_two ∷ [])) sent_two (inl refl) (inl refl) in absurd (omega (arith, a, e)));
+  ends_first = λ r rest f n. n.some (left_with t1 []) (inl refl) refl;
+  least = record {
+    row = inr (inl refl);
+    empty = refl;
+    least = λ q i e. elim i [
+      | inl a ↦ (let c : q.txn.count ≡ 2 = ap (λ (y : Row). y.txn.count) a in omega (arith, c))
+      | inr j ↦ elim j [ inl a ↦ (let c : q.txn.count ≡ 1 = ap (λ (y : Row). y.txn.count) a in omega (arith, c)) | inr l ↦ absurd l ]
+    ];
+  };
+  not_later = λ n. (let a : 2 ≤ 1 = n.least (left_with t1 []) (inr (inl refl)) refl in absurd (omega (arith, a)));
 }
 
 extends : Extends log_two (spelled_log stopped)

@@ -1,9 +1,10 @@
 -- Worked: t1 sent a message for sender 0 and committed; t2 sent one for sender 15 and took the first when a crash came.
 use Rattle.std.specs.Prelude.{◌≡◌, ℕ, true, false, List, [], ◌∷◌, None}
+use Rattle.rq_model.specs.declared.txn.Txn.{Txn}
 use Rattle.rq_model.specs.declared.record.Record.{Record}
 use Rattle.rq_model.specs.declared.record.Record.TheVariants.{Commit}
 use Rattle.rq_views.specs.Stored.{slots_in}
-use Rattle.rq_views.specs.WorkedItems.{sizes, t2, sends, takes, done_two, stopped}
+use Rattle.rq_views.specs.WorkedItems.{sizes, t1, t2, sends, takes, done_two, stopped}
 use Rattle.rq_txn.specs.declared.Finished.{Finished}
 use Rattle.rq_txn.specs.Rows.{Row}
 use Rattle.rq_groups.specs.Ends.{has_held}
@@ -82,6 +83,27 @@ pub record TurnsAreJudged : Type 0 where
   pub stack_then : dues (spelled_log stopped) ≡ sent_due ∷ []
   pub first : (images : List (List ℕ)) → AreRepeated images → IsNewestDue (store_two images) took_due
   pub not_first : (images : List (List ℕ)) → IsNewestDue (store_two images) sent_due → ⊥
+
+-- a row with what is left to undo
+abbrev pub left_with : Txn → List Finished → Row
+left_with t fs = record { txn = t; aborting = true; finished = fs; number = 1; under = None }
+
+-- two transactions, whose deeds stand at 5 and 8; and two with nothing left
+abbrev pub two_left : List Row
+two_left = left_with t2 (sent_two ∷ []) ∷ left_with t1 (record sent_two { lsn = 5 } ∷ []) ∷ []
+
+abbrev pub two_empty : List Row
+two_empty = left_with t2 [] ∷ left_with t1 [] ∷ []
+
+-- the newest deed of both goes first, but not where somebody has nothing left; of two with nothing left the one of the
+-- lesser number ends first
+pub record TwoAreJudged : Type 0 where
+  pub newest : TakesBackNext two_left (left_with t2 (sent_two ∷ [])) [] sent_two
+  pub not_older : (r : Row) (f : Finished) → f.lsn ≡ 5 → TakesBackNext two_left r [] f → ⊥
+  pub ends_first : (r : Row) (rest : List Finished) (f : Finished)
+      → TakesBackNext (left_with t1 [] ∷ two_left) r rest f → ⊥
+  pub least : EndsNext two_empty (left_with t1 [])
+  pub not_later : EndsNext two_empty (left_with t2 []) → ⊥
 
 -- a crash may come when the message is back and its own is being taken back; nothing commits t2; and where nothing is
 -- undone the store is not restored
