@@ -1,0 +1,14 @@
+pub mod Moving
+pub mod Settled
+pub mod Found
+pub mod Workers
+pub mod Ends
+pub mod Counts
+pub mod Store
+pub mod Working
+pub mod Stopping
+pub mod Turning
+pub mod Worked
+pub mod WorkedMoves
+pub mod Owing
+pub mod Recovering

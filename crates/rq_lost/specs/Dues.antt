@@ -1,0 +1,61 @@
+-- What is to be taken back, as a stack: the deeds of a log that no Commit and no inverse names, the newest first.
+use Rattle.std.specs.Prelude.{◌≡◌, ℕ, ◌+◌, ◌≤◌, Bool, not, cond, List, [], ◌∷◌, ◌++◌, length, Some}
+use Rattle.std.specs.List.{filter}
+use Rattle.rq_model.specs.declared.txn.Txn.{Txn}
+use Rattle.rq_model.specs.declared.record.Deed.{Deed}
+use Rattle.rq_model.specs.declared.record.Record.{Record}
+use Rattle.rq_model.specs.declared.record.Record.TheVariants.{CompEnd, Commit, OpEnd}
+use Rattle.rq_model.specs.Deeds.{deed_in}
+use Rattle.rq_model.specs.Words.{In, same_txn}
+use Rattle.rq_views.specs.Items.{told_deed}
+use Rattle.rq_txn.specs.declared.Finished.{Finished}
+use Rattle.rq_txn.specs.Rows.{Row, found_row}
+use Rattle.rq_store.specs.State.{State}
+use Rattle.rq_sound.specs.Sound.{IsSound}
+
+-- a deed with whose it is and the LSN of its OpEnd
+pub record Due : Type 0 where
+  pub txn : Txn
+  pub lsn : ℕ
+  pub deed : Deed
+
+abbrev pub due_of : Txn → Due → Bool
+due_of t d = same_txn d.txn t
+
+-- all but the newest of the transaction's
+abbrev pub but_newest : Txn → List Due → List Due
+but_newest t [] = []
+but_newest t (d ∷ ds) = cond (due_of t d) ds (d ∷ but_newest t ds)
+
+-- those of others
+abbrev pub but_own : Txn → List Due → List Due
+but_own t ds = filter (λ d. not (due_of t d)) ds
+
+abbrev pub dues_after : ℕ → Record → List Due → List Due
+dues_after n (OpEnd t m level deed) ds = record { txn = t; lsn = n; deed = told_deed (deed_in deed) } ∷ ds
+dues_after n (CompEnd t m undone) ds = but_newest t ds
+dues_after n (Commit t) ds = but_own t ds
+dues_after n _ ds = ds
+
+abbrev pub dues : List Record → List Due
+dues [] = []
+dues (r ∷ log) = dues_after (length log + 1) r (dues log)
+
+abbrev pub finished_due : Due → Finished
+finished_due d = record { lsn = d.lsn; deed = d.deed }
+
+-- the due is the last of its transaction's row, and the newest of all
+pub record IsNewestDue (s : State) (d : Due) : Type 0 where
+  pub row : Row
+  pub rest : List Finished
+  pub at_row : found_row d.txn s.rows ≡ Some row
+  pub last : row.finished ≡ rest ++ finished_due d ∷ []
+  pub newest : (q : Row) (g : Finished) → In q s.rows → In g q.finished → g.lsn ≤ d.lsn
+
+-- Of a sound store the first due is what is taken back next, the rest are due once its inverse has ended, and where
+-- nothing is due nobody has anything left.
+pub record DuesAreNext : Type 0 where
+  pub first : (s : State) (d : Due) (ds : List Due) → IsSound s → dues s.records ≡ d ∷ ds → IsNewestDue s d
+  pub rest : (log : List Record) (d : Due) (ds : List Due) (n undone : ℕ) → dues log ≡ d ∷ ds
+      → dues (CompEnd d.txn n undone ∷ log) ≡ ds
+  pub none : (s : State) (r : Row) → IsSound s → dues s.records ≡ [] → In r s.rows → r.finished ≡ []

@@ -1,0 +1,99 @@
+//! What undoing lost transactions by their inverses makes of a store, apart from any code.
+//!
+//! The definitions stand in specs/, the theorems are the contracts of the functions here.
+#![tactic(auto)]
+
+ghost use Rattle.rq_lost.specs.Dues.{DuesAreNext};
+ghost use Rattle.rq_lost.specs.Recovered.{RecoveredLogsAreWhole};
+ghost use Rattle.rq_lost.specs.Theorems.{AbortedLogsAreSettled, AbortsEnd, AbortsHaveTurns, AbortsKeepLogsWhole, AbortsMayStop, InversesAreFound, LostStoresAreSound, LostStoresOpen, SettledStoresHaveEnded, StopsAreRepeated};
+ghost use Rattle.rq_lost.specs.Worked.{LostAreJudged, StopsAreJudged, TurnsAreJudged, TwoAreJudged};
+ghost use Rattle.rq_lost.specs.WorkedMoves.{MovesAreJudged};
+
+/// Each move of an abort leaves a sound store over a whole log, which has at most a record more, no Commit and no OpEnd.
+pub fn aborts_keep_logs_whole()
+    ensures { AbortsKeepLogsWhole }
+{}
+
+/// The log of a sound store in which every transaction has ended has nothing unfinished and nobody lost.
+pub fn settled_stores_have_ended()
+    ensures { SettledStoresHaveEnded }
+{}
+
+/// The newest deed of a transaction with nothing under way can be undone, and meets no latch where nothing is under way.
+pub fn inverses_are_found()
+    ensures { InversesAreFound }
+{}
+
+/// Once every transaction is aborted the log has nothing unfinished, nobody lost, and the commits that it had.
+pub fn aborted_logs_are_settled()
+    ensures { AbortedLogsAreSettled }
+{}
+
+/// The store that a crash leaves, with the transactions that it stopped as rows to be undone, is sound.
+pub fn lost_stores_are_sound()
+    ensures { LostStoresAreSound }
+{}
+
+/// Each move of an abort leaves less to do.
+pub fn aborts_end()
+    ensures { AbortsEnd }
+{}
+
+/// Once all lost transactions are aborted the log has the content that it had, and the store that opens over it is
+/// sound.
+pub fn lost_stores_open()
+    ensures { LostStoresOpen }
+{}
+
+/// A crash may stop the aborts anywhere: what it leaves is a whole log with the content that it had, from which a restart
+/// goes on.
+pub fn aborts_may_stop()
+    ensures { AbortsMayStop }
+{}
+
+/// Where transactions are left to be undone, one is next, and what is done to it may be done.
+pub fn aborts_have_turns()
+    ensures { AbortsHaveTurns }
+{}
+
+/// A restart over what a crash left of the aborts goes on: the store with lost transactions is there again, with the
+/// content that it had.
+pub fn stops_are_repeated()
+    ensures { StopsAreRepeated }
+{}
+
+/// What is to be taken back next stands first on a stack that the records of the log make.
+pub fn dues_are_next()
+    ensures { DuesAreNext }
+{}
+
+/// A log that a restart recovers is whole, with the content that it had, and nothing is unfinished or lost in it; wherever
+/// a crash stops that, a restart goes on.
+pub fn recovered_logs_are_whole()
+    ensures { RecoveredLogsAreWhole }
+{}
+
+/// Worked: one transaction sent and took when a crash came, and is lost.
+pub fn lost_are_judged()
+    ensures { LostAreJudged }
+{}
+
+/// Worked: what it took goes back before what it sent.
+pub fn turns_are_judged()
+    ensures { TurnsAreJudged }
+{}
+
+/// Worked: a crash stops its undoing.
+pub fn stops_are_judged()
+    ensures { StopsAreJudged }
+{}
+
+/// Worked: what undoes it, move by move.
+pub fn moves_are_judged()
+    ensures { MovesAreJudged }
+{}
+
+/// Worked: two transactions are left to be undone.
+pub fn two_are_judged()
+    ensures { TwoAreJudged }
+{}
