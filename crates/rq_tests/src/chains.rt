@@ -1,6 +1,6 @@
-//! A store of two directory and three cell pages beside the queue as plain lists: which cells its chains hold, which
-//! pages are latched by the operations under way, and which have changes to write. What a call answers is told by the
-//! lists; where pages are in its way, or are what it asks for, by these.
+//! A store's pages beside the queue as plain lists: which cells its chains hold, which pages are latched by the
+//! operations under way, and which have changes to write. What a call answers is told by the lists; where pages are in
+//! its way, or are what it asks for, by these.
 use crate::lists;
 use crate::told::Told;
 use rq_content::GroupContent;
@@ -18,19 +18,36 @@ mod starts;
 
 pub use kinds::{Kind, Tally};
 
-/// The senders: fifteen for each directory page.
-pub const SENDERS: u32 = 30;
-
-/// The cells, one for each message.
-const ROOM: u64 = 45;
-
-/// The pages: the superblock's, two of the directory, three of cells.
-pub const PAGES: u32 = 6;
-
-/// The first cell page, and the slots of each.
-const FIRST_CELLS: u32 = 3;
-
+/// Senders of a directory page, and slots of a cell page.
 const SLOTS: u32 = 15;
+
+/// How many pages a store has, behind the superblock's: of the directory, and of cells behind those.
+#[derive(Clone, Copy)]
+pub struct Pages {
+    pub directory: u32,
+    pub cells: u32,
+}
+
+impl Pages {
+    /// All pages, the superblock's too.
+    pub fn count(&self) -> u32 {
+        self.first_of_cells().saturating_add(self.cells)
+    }
+
+    /// How many senders there are.
+    pub fn senders(&self) -> u32 {
+        self.directory.saturating_mul(SLOTS)
+    }
+
+    // How many messages have room.
+    fn room(&self) -> u64 {
+        u64::from(self.cells.saturating_mul(SLOTS))
+    }
+
+    fn first_of_cells(&self) -> u32 {
+        self.directory.saturating_add(1)
+    }
+}
 
 /// No page.
 const NONE: u32 = 0;
@@ -117,6 +134,7 @@ struct Settled {
 #[derive(Drop)]
 pub struct Chains {
     alloc: Global,
+    store: Pages,
     lists: Reference,
     /// The cells of all chains, each chain's in order.
     links: Vec<Link>,
@@ -131,14 +149,15 @@ pub struct Chains {
 
 impl Chains {
     /// An empty store that was opened for the first time.
-    pub fn new(alloc: Global) -> Result<Chains, AllocError> {
+    pub fn new(alloc: Global, store: Pages) -> Result<Chains, AllocError> {
         let mut chains = Chains {
             alloc,
-            lists: lists::opened(alloc, SENDERS, ROOM),
+            store,
+            lists: lists::opened(alloc, store.senders(), store.room()),
             links: Vec::new(alloc),
             works: Vec::new(alloc),
             writes: Vec::new(alloc),
-            pages: new_pages(alloc)?,
+            pages: new_pages(alloc, store.count())?,
             settled: Vec::new(alloc),
             kind: Kind::Other,
         };
@@ -358,9 +377,9 @@ impl Chains {
     }
 }
 
-fn new_pages(alloc: Global) -> Result<Vec<Page>, AllocError> {
+fn new_pages(alloc: Global, count: u32) -> Result<Vec<Page>, AllocError> {
     let mut pages = Vec::new(alloc);
-    for _ in 0..PAGES {
+    for _ in 0..count {
         pages.push(Page {
             lsn: 0,
             written: 0,

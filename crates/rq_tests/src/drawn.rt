@@ -1,6 +1,6 @@
 //! Courses of several transactions that a seed gives. A course is drawn beside the plain lists, so that most of its
 //! numbers are good.
-use crate::chains::{Chains, PAGES, SENDERS, Seen, Tally};
+use crate::chains::{Chains, Pages, Seen, Tally};
 use crate::moves::Move;
 use crate::random::Random;
 use crate::told::Told;
@@ -42,6 +42,7 @@ struct Drawing {
     alloc: Global,
     random: Random,
     shape: Shape,
+    store: Pages,
     chains: Chains,
     met: Tally,
     moves: Vec<Move>,
@@ -51,12 +52,13 @@ struct Drawing {
 
 /// The course of a seed. At its end every transaction has ended, all is forced and written, and the content is asked
 /// for.
-pub fn drawn(alloc: Global, seed: u64) -> Result<Vec<Move>, AllocError> {
+pub fn drawn(alloc: Global, seed: u64, store: Pages) -> Result<Vec<Move>, AllocError> {
     let mut drawing = Drawing {
         alloc,
         random: Random::new(seed),
         shape: shape_of(seed),
-        chains: Chains::new(alloc)?,
+        store,
+        chains: Chains::new(alloc, store)?,
         met: Tally::new(alloc)?,
         moves: Vec::new(alloc),
         commits: Vec::new(alloc),
@@ -74,6 +76,7 @@ pub fn drawn(alloc: Global, seed: u64) -> Result<Vec<Move>, AllocError> {
         alloc: _,
         random: _,
         shape: _,
+        store: _,
         chains: _,
         met: _,
         moves,
@@ -81,6 +84,31 @@ pub fn drawn(alloc: Global, seed: u64) -> Result<Vec<Move>, AllocError> {
     } = drawing;
     Ok(moves)
 }
+
+/// The pages of the store that the course of a seed is for. Courses that fill it, or keep it full, are for the usual one.
+pub fn pages_of(seed: u64) -> Pages {
+    match (seed % 33, seed % 7) {
+        (0 | 1, _) => USUAL,
+        (_, 3) => SMALL,
+        (_, 5) => LARGE,
+        _ => USUAL,
+    }
+}
+
+const USUAL: Pages = Pages {
+    directory: 2,
+    cells: 3,
+};
+
+const SMALL: Pages = Pages {
+    directory: 1,
+    cells: 2,
+};
+
+const LARGE: Pages = Pages {
+    directory: 3,
+    cells: 4,
+};
 
 // Courses that fill the store, that keep it full, that keep it nearly empty, that have few groups, and that abort often.
 fn shape_of(seed: u64) -> Shape {
@@ -225,7 +253,7 @@ impl Drawing {
             return Ok(Event::Begin);
         }
         if self.random.is_first_of(40) {
-            return Ok(self.stray());
+            return self.stray();
         }
         if self.random.is_first_of(12) {
             return Ok(self.output());
@@ -258,20 +286,27 @@ impl Drawing {
     }
 
     // Of a number that is most times none that is there.
-    fn stray(&mut self) -> Event {
+    fn stray(&mut self) -> Result<Event, AllocError> {
         let txn = Txn {
             incarnation: self.random.below(3),
             count: self.random.below(60),
         };
-        let number = self.random.below(4);
-        match self.random.below(8) {
+        let sub = Sub {
+            txn,
+            number: self.random.below(4),
+        };
+        Ok(match self.random.below(12) {
             0 => Event::StartReceive(txn),
-            1 | 2 => Event::Step(Sub { txn, number }),
-            3 | 4 => Event::Finish(Sub { txn, number }),
+            1 | 2 => Event::Step(sub),
+            3 | 4 => Event::Finish(sub),
             5 => Event::Commit(txn),
             6 => Event::StartAbort(txn),
-            _ => Event::EndAbort(txn),
-        }
+            7 => Event::EndAbort(txn),
+            8 => Event::UndoNext(txn),
+            9 => self.send(txn)?,
+            10 => self.close(txn),
+            _ => self.take_from(txn),
+        })
     }
 
     // A page write shows which pages have changed.
@@ -282,8 +317,8 @@ impl Drawing {
             4 => Event::Content,
             5 | 6 => Event::LastTag(self.sender()),
             _ => {
-                let bound = u64::from(PAGES).saturating_add(1);
-                Event::WritePage((self.random.below(bound) & 7) as u32)
+                let bound = u64::from(self.store.count()).saturating_add(1);
+                Event::WritePage((self.random.below(bound) & 15) as u32)
             }
         }
     }
@@ -329,21 +364,29 @@ impl Drawing {
         } else if drawn < aborts {
             Event::StartAbort(txn)
         } else {
-            Event::StartClose {
-                txn,
-                sender: self.sender(),
-            }
+            self.close(txn)
         })
+    }
+
+    fn close(&mut self, txn: Txn) -> Event {
+        Event::StartClose {
+            txn,
+            sender: self.sender(),
+        }
     }
 
     fn take(&mut self, txn: Txn) -> Event {
         if self.random.is_first_of(2) {
             Event::StartReceive(txn)
         } else {
-            Event::StartReceiveFrom {
-                txn,
-                sender: self.sender(),
-            }
+            self.take_from(txn)
+        }
+    }
+
+    fn take_from(&mut self, txn: Txn) -> Event {
+        Event::StartReceiveFrom {
+            txn,
+            sender: self.sender(),
         }
     }
 
@@ -365,23 +408,20 @@ impl Drawing {
         })
     }
 
-    // Most times one of the few, of either directory page.
+    // Most times one of the few, of any directory page.
     fn sender(&mut self) -> u32 {
-        let bound = u64::from(SENDERS).saturating_add(1);
         if self.random.is_first_of(30) {
-            return (self.random.below(bound) & 31) as u32;
+            let bound = u64::from(self.store.senders()).saturating_add(1);
+            return (self.random.below(bound) & 63) as u32;
         }
-        let sender = self.random.below(self.shape.senders);
-        if self.random.is_first_of(2) {
-            (sender & 7) as u32
-        } else {
-            (sender.saturating_add(15) & 31) as u32
-        }
+        let few = self.random.below(self.shape.senders);
+        let page = self.random.below(u64::from(self.store.directory));
+        (few.saturating_add(page.saturating_mul(15)) & 63) as u32
     }
 
     fn write_all(&mut self) -> Result<(), AllocError> {
         self.add(Move::Call(Event::Force))?;
-        for page in 0..PAGES {
+        for page in 0..self.store.count() {
             self.add(Move::Call(Event::WritePage(page)))?;
         }
         Ok(())

@@ -143,18 +143,22 @@ pub fn incarnation(lists: &Reference) -> u64 {
     lists.incarnation()
 }
 
-/// A crash that leaves so many records, where it may.
-pub fn crash(lists: &mut Reference, records: Lsn) {
-    if lists.may_crash(records) {
+/// A crash that leaves so many records; whether it may.
+pub fn crash(lists: &mut Reference, records: Lsn) -> bool {
+    let may = lists.may_crash(records);
+    if may {
         lists.crash(records);
     }
+    may
 }
 
-/// A restart in this incarnation, with so many records, where it may be.
-pub fn restart(lists: &mut Reference, incarnation: u64, records: Lsn) {
-    if lists.may_restart(incarnation, records) {
+/// A restart in this incarnation, with so many records; whether it may be.
+pub fn restart(lists: &mut Reference, incarnation: u64, records: Lsn) -> bool {
+    let may = lists.may_restart(incarnation, records);
+    if may {
         lists.restart(incarnation, records);
     }
+    may
 }
 
 /// Whether a store shows what the lists do.

@@ -2,8 +2,8 @@
 //! gives, of an engine beside the plain lists. Each answer is told by the lists, and so is which start is refused for a
 //! latched page.
 use crate::calls::{answered, crashed, devices, formatted, handed_over, opened};
-use crate::chains::{Chains, Kind, Tally};
-use crate::drawn::{LOWEST, drawn};
+use crate::chains::{Chains, Kind, Pages, Tally};
+use crate::drawn::{LOWEST, drawn, pages_of};
 use crate::moves::Move;
 use crate::told::{Told, told_by};
 use rq_content::GroupContent;
@@ -25,15 +25,15 @@ const WANTED: [(Kind, u64); 71] = [
     (Kind::Beside, 1300),
     (Kind::HigherCell, 1700),
     (Kind::OtherGroup, 430),
-    (Kind::SendDirectory, 4900),
+    (Kind::SendDirectory, 5100),
     (Kind::SendTail, 1900),
-    (Kind::SendCells, 160),
-    (Kind::TakeDirectory, 650),
+    (Kind::SendCells, 180),
+    (Kind::TakeDirectory, 680),
     (Kind::TakeHead, 360),
     (Kind::TakeNext, 31),
     (Kind::TakeNextOpen, 19),
     (Kind::TakeAny, 2400),
-    (Kind::CloseDirectory, 130),
+    (Kind::CloseDirectory, 140),
     (Kind::Close, 38),
     (Kind::CloseEmpty, 160),
     (Kind::SendUndone, 1200),
@@ -42,25 +42,25 @@ const WANTED: [(Kind, u64); 71] = [
     (Kind::HigherBack, 90),
     (Kind::UnsendDirectory, 1900),
     (Kind::UnsendTail, 820),
-    (Kind::UnsendBefore, 37),
-    (Kind::BackDirectory, 770),
+    (Kind::UnsendBefore, 30),
+    (Kind::BackDirectory, 810),
     (Kind::BackHead, 140),
     (Kind::BackCells, 12),
     (Kind::ReopenDirectory, 120),
-    (Kind::EarlyEnd, 610),
-    (Kind::NotAborting, 900),
-    (Kind::Lost, 800),
+    (Kind::EarlyEnd, 620),
+    (Kind::NotAborting, 940),
+    (Kind::Lost, 820),
     (Kind::SendCut, 500),
     (Kind::TakeCut, 110),
-    (Kind::CloseCut, 8),
+    (Kind::CloseCut, 9),
     (Kind::TwoCut, 50),
     (Kind::Begun, 12_000),
     (Kind::SendStarted, 7300),
-    (Kind::TakeStarted, 490),
+    (Kind::TakeStarted, 500),
     (Kind::AnyTakeStarted, 1600),
     (Kind::CloseStarted, 200),
     (Kind::UndoStarted, 1700),
-    (Kind::NoneFrom, 5600),
+    (Kind::NoneFrom, 5700),
     (Kind::NoneOfAny, 4200),
     (Kind::Stepped, 25_000),
     (Kind::Ready, 1100),
@@ -75,21 +75,21 @@ const WANTED: [(Kind, u64); 71] = [
     (Kind::Given, 1500),
     (Kind::NotGiven, 2500),
     (Kind::HandedOver, 790),
-    (Kind::Forced, 2700),
+    (Kind::Forced, 2800),
     (Kind::Written, 2400),
-    (Kind::NotWritten, 2900),
+    (Kind::NotWritten, 3000),
     (Kind::LastTag, 1500),
     (Kind::Content, 630),
     (Kind::Opened, 1000),
-    (Kind::UnknownTransaction, 1300),
-    (Kind::NotOpen, 1800),
+    (Kind::UnknownTransaction, 1800),
+    (Kind::NotOpen, 1900),
     (Kind::Unfinished, 5700),
     (Kind::ContentUnfinished, 680),
-    (Kind::UnknownSender, 34),
-    (Kind::TooLong, 420),
-    (Kind::SenderBusy, 9100),
-    (Kind::Closed, 200),
-    (Kind::ReceiverBusy, 930),
+    (Kind::UnknownSender, 39),
+    (Kind::TooLong, 450),
+    (Kind::SenderBusy, 9200),
+    (Kind::Closed, 230),
+    (Kind::ReceiverBusy, 1000),
     (Kind::Full, 1300),
     (Kind::NotForced, 1400),
     (Kind::UnknownOperation, 1300),
@@ -125,9 +125,9 @@ struct Course {
 }
 
 impl Course {
-    // A formatted store of two directory and three cell pages, opened.
-    fn open(alloc: Global) -> Result<Course, &'static str> {
-        let layout = Layout::new(2, 3).ok_or("a store")?;
+    // A formatted store of so many pages, opened.
+    fn open(alloc: Global, store: Pages) -> Result<Course, &'static str> {
+        let layout = Layout::new(store.directory, store.cells).ok_or("a store")?;
         let (switch, mut pages, log) = devices(alloc, &layout).map_err(|_| "devices")?;
         formatted(&mut pages, &layout).map_err(|_| "format")?;
         let store = match opened(alloc, pages, log) {
@@ -209,6 +209,7 @@ fn told_of_opening(report: &Report) -> Told {
     Told::Opened {
         incarnation: report.incarnation,
         unfinished: report.unfinished,
+        lost: report.lost,
         records: report.records,
     }
 }
@@ -221,8 +222,8 @@ fn wants_memory(reply: &Reply) -> bool {
     )
 }
 
-fn played(alloc: Global, moves: &[Move]) -> Result<Answers, &'static str> {
-    let mut course = Course::open(alloc)?;
+fn played(alloc: Global, store: Pages, moves: &[Move]) -> Result<Answers, &'static str> {
+    let mut course = Course::open(alloc, store)?;
     for next in moves {
         course.make(next).map_err(|_| "memory")?;
     }
@@ -239,11 +240,12 @@ fn played(alloc: Global, moves: &[Move]) -> Result<Answers, &'static str> {
 // The first move of the course that the lists tell otherwise. What is worth counting of each is added to `met`.
 fn compared(
     alloc: Global,
+    store: Pages,
     moves: &[Move],
     answers: &Answers,
     met: &mut Tally,
 ) -> Result<Option<Fault>, AllocError> {
-    let mut chains = Chains::new(alloc)?;
+    let mut chains = Chains::new(alloc, store)?;
     let mut shown: usize = 0;
     for place in 0..moves.len() {
         if let (Some(next), Some(told)) = (moves.get(place), answers.told.get(place)) {
@@ -326,9 +328,10 @@ fn is_finish_of(moves: &[Move], place: usize, sub: Sub) -> bool {
 }
 
 fn first_fault(alloc: Global, seed: u64, met: &mut Tally) -> Result<Option<Fault>, &'static str> {
-    let moves = drawn(alloc, seed).map_err(|_| "memory")?;
-    let answers = played(alloc, &moves)?;
-    compared(alloc, &moves, &answers, met).map_err(|_| "memory")
+    let store = pages_of(seed);
+    let moves = drawn(alloc, seed, store).map_err(|_| "memory")?;
+    let answers = played(alloc, store, &moves)?;
+    compared(alloc, store, &moves, &answers, met).map_err(|_| "memory")
 }
 
 #[test]

@@ -29,10 +29,12 @@ pub enum Told {
     Last(LastTag),
     Content,
     Refused(Refusal),
-    /// A store was opened in this incarnation, and so many operations without an end were undone; with so many records.
+    /// A store was opened in this incarnation, and so many operations without an end were undone, and transactions lost;
+    /// with so many records.
     Opened {
         incarnation: u64,
         unfinished: u64,
+        lost: u64,
         records: Lsn,
     },
     /// What no call of these tests answers.

@@ -1,5 +1,5 @@
 //! The cells of the chains, and which pages are latched.
-use super::{Aim, Cell, Chains, FIRST_CELLS, Link, NONE, PAGES, Reach, SLOTS, Work};
+use super::{Aim, Cell, Chains, Link, NONE, Reach, SLOTS, Work};
 use crate::chains::Kind;
 use rq_model::txn::Sub;
 use std::alloc::AllocError;
@@ -84,7 +84,7 @@ impl Chains {
 
     /// The lowest free cell, of all pages or of those that nobody has latched.
     pub(super) fn lowest_free(&self, latched_too: bool) -> Option<Cell> {
-        for page in FIRST_CELLS..PAGES {
+        for page in self.store.first_of_cells()..self.store.count() {
             if latched_too || !self.is_latched(page) {
                 let found = self.lowest_free_on(page);
                 if found.is_some() {
@@ -169,5 +169,5 @@ pub fn mark_of(sender: u32) -> Reach {
 
 /// The directory page of a sender.
 pub fn directory_of(sender: u32) -> u32 {
-    if sender < 15 { 1 } else { 2 }
+    (sender / SLOTS).saturating_add(1)
 }

@@ -71,7 +71,8 @@ impl Chains {
     }
 
     /// A crash that keeps so many unforced records, and of each page its newest image or the one at the last sync; and
-    /// the restart behind it, which undoes the writes of operations without an end.
+    /// the restart behind it, which undoes the writes of operations without an end. No transaction that finished something
+    /// is lost by it.
     pub fn crash(&mut self, keep: u64, newest: bool, met: &mut Tally) -> Result<Told, AllocError> {
         let forced = lists::forced(&self.lists);
         let all = lists::records(&self.lists);
@@ -83,16 +84,21 @@ impl Chains {
             met.meet(Kind::Lost);
         }
         let incarnation = lists::incarnation(&self.lists).saturating_add(1);
-        lists::crash(&mut self.lists, records);
+        if !lists::crash(&mut self.lists, records) {
+            return Ok(Told::Other);
+        }
         self.come_back(place, newest)?;
         let (unfinished, last) = self.undo_writes(records, met);
         let records = last.saturating_add(1);
-        lists::restart(&mut self.lists, incarnation, records);
+        if !lists::restart(&mut self.lists, incarnation, records) {
+            return Ok(Told::Other);
+        }
         self.note_settled()?;
         met.meet(Kind::Opened);
         Ok(Told::Opened {
             incarnation,
             unfinished,
+            lost: 0,
             records,
         })
     }
