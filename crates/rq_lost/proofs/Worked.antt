@@ -1,11 +1,11 @@
 -- The worked log with a lost transaction.
-use Rattle.std.proofs.Common.{◌≡◌, ℕ, ◌+◌, ◌≤◌, ◌++◌, List, [], ◌∷◌, length, take, inl, inr, refl, sym, ◌∙◌, ap, subst, arith}
-use Rattle.std.proofs.lemmas.Bool.{false≢true}
+use Rattle.std.proofs.Common.{◌≡◌, ℕ, ◌+◌, ◌≤◌, ◌++◌, List, [], ◌∷◌, length, take, inl, inr, refl, sym, ◌∙◌, ap, subst, arith, true, false, ◌<◌}
+use Rattle.std.proofs.lemmas.Bool.{false≢true, or_cases}
 use Rattle.std.proofs.lemmas.List.{length-append}
 use Rattle.rq_model.specs.Incarnations.{Extends}
 use Rattle.rq_model.specs.Words.{In}
 use Rattle.rq_page.specs.Sizes.{IsInRange}
-use Rattle.rq_views.specs.WorkedItems.{sizes, t1, t2, stopped}
+use Rattle.rq_views.specs.WorkedItems.{sizes, t1, t2, cell, takes, stopped}
 use Rattle.rq_txn.specs.declared.Finished.{Finished}
 use Rattle.rq_txn.specs.Rows.{Row}
 use Rattle.rq_store.specs.Whole.{IsWhole}
@@ -14,9 +14,21 @@ use Rattle.rq_store.proofs.Cutting.{whole_dropped}
 use Rattle.rq_store.proofs.Worked.{worked_store}
 use Rattle.rq_sound.specs.Sound.{IsSound}
 use Rattle.rq_lost.specs.Lost.{IsRepeated, lost_rows}
-use Rattle.rq_lost.specs.Worked.{AreRepeated, LostAreJudged, StopsAreJudged, TurnsAreJudged, TwoAreJudged, left_with, log_two, row_two, sent_due, sent_two, store_two, took_due, took_two}
+use Rattle.rq_lost.specs.Worked.{InversesAreJudged, undone_two, AreRepeated, LostAreJudged, StopsAreJudged, TurnsAreJudged, TwoAreJudged, left_with, log_two, row_two, sent_due, sent_two, store_two, took_due, took_two}
 use Rattle.rq_lost.proofs.Owing.{first_due}
-use Rattle.rq_lost.proofs.Stopping.{stopped_at}
+use Rattle.rq_model.specs.declared.txn.Sub.{Sub}
+use Rattle.rq_page.specs.Slots.{slot_bytes}
+use Rattle.rq_page.specs.Slots.Slot.{Used}
+use Rattle.rq_views.specs.Items.{operation}
+use Rattle.rq_views.specs.Log.{same_op}
+use Rattle.rq_views.proofs.Overlay.{same_is as op_is}
+use Rattle.rq_inverses.specs.Inverses.{MayBeUndone}
+use Rattle.rq_undone.specs.declared.history.Spot.{Spot}
+use Rattle.rq_undone.specs.Analysis.{has_sub}
+use Rattle.rq_undone.specs.Pages.{IsUndone, op_less}
+use Rattle.rq_undone.specs.Pages.IsNextUndo.{Voids, Undoes}
+use Rattle.rq_lost.proofs.Found.{free_of_latches, may_be_undone}
+use Rattle.rq_lost.proofs.Stopping.{stop_repeated, stopped_at}
 use Rattle.rq_lost.proofs.Store.{lost_sound}
 
 range : IsInRange sizes
@@ -119,8 +131,44 @@ two_judged = record {
 extends : Extends log_two (spelled_log stopped)
 extends = (take 4 (spelled_log stopped), refl, (refl, (refl, (refl, (refl, tt)))))
 
+-- the one operation without an end, and its write
+abbrev open_op : Sub
+open_op = operation t2 4
+
+abbrev open_spot : Spot
+open_spot = record { lsn = 15; by = open_op; page = 4; slot = 1; before = slot_bytes (Used (cell 15)) }
+
+only_op : (o : Sub) → has_sub o (open_op ∷ []) ≡ true → o ≡ open_op
+only_op o h = elim (or_cases (same_op open_op o) false h) [ inl y ↦ sym (op_is open_op o y) | inr n ↦ absurd (false≢true n) ]
+
+undone : IsUndone (spelled_log stopped) undone_two
+undone = record {
+  undoing = record {
+    front = take 2 undone_two;
+    are = refl;
+    undoes = (
+      Voids open_op (record { unfinished = refl; none = refl }) (λ p h. ap (λ o. op_less o open_op) (only_op p h.unfinished)) refl,
+      (Undoes open_spot [] (λ o h. h) refl refl, tt),
+    );
+  };
+  none = refl;
+}
+
+pub inverses_judged : InversesAreJudged
+inverses_judged = record {
+  found = found;
+  unlatched = λ images h l. free_of_latches (store_two images) (takes 0) (sounds images h) (found images h) refl l;
+  not_taken = λ images m. (let a : 0 < 0 = m.0 in absurd (omega (arith, a)));
+} where
+  found : (images : List (List ℕ)) → AreRepeated images → MayBeUndone (store_two images) (takes 0)
+  found images h = may_be_undone (store_two images) row_two (sent_two ∷ []) took_two (sounds images h) (record { at_row = refl; idle = refl }) refl
+
 pub stops_judged : StopsAreJudged
 stops_judged = record {
+  undone = undone;
+  not_undone = λ h. (let e = h.none in cc e);
+  again = λ images pages fits. stop_repeated sizes images log_two (spelled_log stopped) undone_two 17 range (omega arith) (stopped_at sizes log_two (spelled_log stopped) whole worked_store.stopped_whole extends) undone refl (omega arith) pages fits;
+  rows_again = refl;
   stops = stopped_at sizes log_two (spelled_log stopped) whole worked_store.stopped_whole extends;
   committed = λ h. (let e = h.committed in cc e);
   cut_short = λ h. (let e = ap length h.extends.1 in let a : length (h.extends.0 ++ spelled_log stopped) ≡ length h.extends.0 + 15 = length-append h.extends.0 (spelled_log stopped) in absurd (omega (arith, e, a)));

@@ -1,10 +1,10 @@
 -- Worked: t1 sent a message for sender 0 and committed; t2 sent one for sender 15 and took the first when a crash came.
-use Rattle.std.specs.Prelude.{◌≡◌, ℕ, true, false, List, [], ◌∷◌, None}
+use Rattle.std.specs.Prelude.{◌≡◌, ℕ, true, false, List, [], ◌∷◌, None, drop}
 use Rattle.rq_model.specs.declared.txn.Txn.{Txn}
 use Rattle.rq_model.specs.declared.record.Record.{Record}
 use Rattle.rq_model.specs.declared.record.Record.TheVariants.{Commit}
 use Rattle.rq_views.specs.Stored.{slots_in}
-use Rattle.rq_views.specs.WorkedItems.{sizes, t1, t2, sends, takes, done_two, stopped}
+use Rattle.rq_views.specs.WorkedItems.{sizes, t1, t2, sends, takes, done_two, stopped, taken_back}
 use Rattle.rq_txn.specs.declared.Finished.{Finished}
 use Rattle.rq_txn.specs.Rows.{Row}
 use Rattle.rq_groups.specs.Ends.{has_held}
@@ -13,6 +13,9 @@ use Rattle.rq_store.specs.Fitting.{FitsLog, image_in, left_by}
 use Rattle.rq_store.specs.State.{State}
 use Rattle.rq_store.specs.Worked.{spelled_log}
 use Rattle.rq_sound.specs.Sound.{IsSound}
+use Rattle.rq_inverses.specs.Inverses.{InverseIsLatched, MayBeUndone}
+use Rattle.rq_sound.specs.Groups.{slots_now}
+use Rattle.rq_undone.specs.Pages.{IsUndone}
 use Rattle.rq_lost.specs.Dues.{Due, IsNewestDue, dues}
 use Rattle.rq_lost.specs.Lost.{IsRepeated, lost_ends, lost_rows, lost_store}
 use Rattle.rq_lost.specs.Theorems.{IsRestored, IsStopped}
@@ -72,6 +75,13 @@ pub record LostAreJudged : Type 0 where
       → IsSound (record (store_two images) { ends = record { sending = []; receiving = [] } }) → ⊥
   pub still_waits : (images : List (List ℕ)) → IsSound (record (store_two images) { waiting = 1 ∷ [] }) → ⊥
 
+-- what t2 took can be undone, and needs no page that anybody has latched; another message was not taken
+pub record InversesAreJudged : Type 0 where
+  pub found : (images : List (List ℕ)) → AreRepeated images → MayBeUndone (store_two images) (takes 0)
+  pub unlatched : (images : List (List ℕ)) → AreRepeated images
+      → InverseIsLatched sizes (slots_now (store_two images)) (store_two images).rows (takes 0) → ⊥
+  pub not_taken : (images : List (List ℕ)) → MayBeUndone (store_two images) (takes 15) → ⊥
+
 -- what t2 took goes back first, and then what it sent; until then it doesn't end
 pub record TurnsAreJudged : Type 0 where
   pub newest : TakesBackNext (lost_rows sizes log_two) row_two (sent_two ∷ []) took_two
@@ -105,6 +115,13 @@ pub record TwoAreJudged : Type 0 where
   pub least : EndsNext two_empty (left_with t1 [])
   pub not_later : EndsNext two_empty (left_with t2 []) → ⊥
 
+-- the log once the inverse that the crash stopped is undone by pages: its message is still to be taken back
+abbrev pub undone_two : List Record
+undone_two = drop 3 (spelled_log taken_back)
+
+abbrev pub row_again : Row
+row_again = record { txn = t2; aborting = true; finished = sent_two ∷ []; number = 4; under = None }
+
 -- a crash may come when the message is back and its own is being taken back; nothing commits t2; and where nothing is
 -- undone the store is not restored
 pub record StopsAreJudged : Type 0 where
@@ -112,3 +129,9 @@ pub record StopsAreJudged : Type 0 where
   pub committed : IsStopped sizes log_two (Commit t2 ∷ log_two) → ⊥
   pub cut_short : IsStopped sizes (spelled_log stopped) log_two → ⊥
   pub nothing_undone : (images : List (List ℕ)) → IsRestored sizes log_two (store_two images) → ⊥
+  -- a restart undoes by pages what was cut off, and goes on with what is left
+  pub undone : IsUndone (spelled_log stopped) undone_two
+  pub not_undone : IsUndone (spelled_log stopped) (spelled_log stopped) → ⊥
+  pub again : (images : List (List ℕ)) → ((a : ℕ) → slots_in sizes images a ≡ (left_by sizes undone_two).slots a)
+      → FitsLog sizes (image_in images) undone_two → IsRepeated sizes images undone_two 17
+  pub rows_again : lost_rows sizes undone_two ≡ row_again ∷ []

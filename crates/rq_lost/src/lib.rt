@@ -6,7 +6,7 @@
 ghost use Rattle.rq_lost.specs.Dues.{DuesAreNext};
 ghost use Rattle.rq_lost.specs.Recovered.{RecoveredLogsAreWhole};
 ghost use Rattle.rq_lost.specs.Theorems.{AbortedLogsAreSettled, AbortsEnd, AbortsHaveTurns, AbortsKeepLogsWhole, AbortsMayStop, InversesAreFound, LostStoresAreSound, LostStoresOpen, SettledStoresHaveEnded, StopsAreRepeated};
-ghost use Rattle.rq_lost.specs.Worked.{LostAreJudged, StopsAreJudged, TurnsAreJudged, TwoAreJudged};
+ghost use Rattle.rq_lost.specs.Worked.{InversesAreJudged, LostAreJudged, StopsAreJudged, TurnsAreJudged, TwoAreJudged};
 ghost use Rattle.rq_lost.specs.WorkedMoves.{MovesAreJudged};
 
 /// Each move of an abort leaves a sound store over a whole log, which has at most a record more, no Commit and no OpEnd.
@@ -96,4 +96,9 @@ pub fn moves_are_judged()
 /// Worked: two transactions are left to be undone.
 pub fn two_are_judged()
     ensures { TwoAreJudged }
+{}
+
+/// Worked: what a lost transaction took can be put back.
+pub fn inverses_are_judged()
+    ensures { InversesAreJudged }
 {}
