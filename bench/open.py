@@ -1,5 +1,6 @@
 #!/usr/bin/env python3
-"""Times transactions beside 4,095 others that stay open, and beside one; and a receive in a store of 15,000 groups.
+"""Times transactions beside 4,095 others that stay open, and beside one; a receive in a store of 15,000 groups; and a
+send and a receive in the greatest store, nearly empty and nearly full.
 
 Each of the others has begun and done nothing, or has sent, or has received, each for a group of its own. What is timed
 begins, makes one operation for the last group, and commits or aborts it. A run goes through few transactions, and one
@@ -54,6 +55,10 @@ def rows():
     # The same number of pages; all messages are of the last group.
     small, large = (["receive", pages, 2000 - pages, "begun", 0, 6500] for pages in (1, 1000))
     yield Row("receive in 15,000 groups of which one has messages, and in 15", small, large, 6500)
+    # The greatest store, with few cells used and with most.
+    for kind, few in (("send", 0), ("receive", 20500)):
+        empty, full = ([kind, 1, 65536, "begun", 0, messages] for messages in (few, 900000))
+        yield Row(f"{kind} with 900,000 of 983,040 cells used, and with {few}", empty, full, 20500)
 
 
 def run(program, case, transactions):
