@@ -11,4 +11,5 @@ pub mod Turning
 pub mod Worked
 pub mod WorkedMoves
 pub mod Owing
+pub mod Stack
 pub mod Recovering

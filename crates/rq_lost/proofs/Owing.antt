@@ -21,7 +21,8 @@ use Rattle.rq_store.specs.State.{State}
 use Rattle.rq_store.proofs.Holders.{placed_more}
 use Rattle.rq_store.proofs.RowLists.{found_in}
 use Rattle.rq_sound.specs.Sound.{IsSound}
-use Rattle.rq_lost.specs.Dues.{Due, IsNewestDue, but_newest, but_own, due_of, dues}
+use Rattle.rq_lost.specs.declared.dues.Due.{Due}
+use Rattle.rq_lost.specs.Dues.{IsNewestDue, but_newest, but_own, due_of, dues}
 use Rattle.rq_lost.proofs.Turning.{in_placed, nil_or, split_last}
 
 abbrev placed_due : Due → Placed

@@ -1,8 +1,7 @@
 -- What is to be taken back, as a stack: the deeds of a log that no Commit and no inverse names, the newest first.
-use Rattle.std.specs.Prelude.{◌≡◌, ℕ, ◌+◌, ◌≤◌, Bool, not, cond, List, [], ◌∷◌, ◌++◌, length, Some}
+use Rattle.std.specs.Prelude.{◌≡◌, ℕ, ◌+◌, ◌≤◌, Bool, false, not, ◌||◌, cond, List, [], ◌∷◌, ◌++◌, length, Some}
 use Rattle.std.specs.List.{filter}
 use Rattle.rq_model.specs.declared.txn.Txn.{Txn}
-use Rattle.rq_model.specs.declared.record.Deed.{Deed}
 use Rattle.rq_model.specs.declared.record.Record.{Record}
 use Rattle.rq_model.specs.declared.record.Record.TheVariants.{CompEnd, Commit, OpEnd}
 use Rattle.rq_model.specs.Deeds.{deed_in}
@@ -12,12 +11,7 @@ use Rattle.rq_txn.specs.declared.Finished.{Finished}
 use Rattle.rq_txn.specs.Rows.{Row, found_row}
 use Rattle.rq_store.specs.State.{State}
 use Rattle.rq_sound.specs.Sound.{IsSound}
-
--- a deed with whose it is and the LSN of its OpEnd
-pub record Due : Type 0 where
-  pub txn : Txn
-  pub lsn : ℕ
-  pub deed : Deed
+use Rattle.rq_lost.specs.declared.dues.Due.{Due}
 
 abbrev pub due_of : Txn → Due → Bool
 due_of t d = same_txn d.txn t
@@ -26,6 +20,11 @@ due_of t d = same_txn d.txn t
 abbrev pub but_newest : Txn → List Due → List Due
 but_newest t [] = []
 but_newest t (d ∷ ds) = cond (due_of t d) ds (d ∷ but_newest t ds)
+
+-- something of the transaction's is due
+abbrev pub any_due : Txn → List Due → Bool
+any_due t [] = false
+any_due t (d ∷ ds) = due_of t d || any_due t ds
 
 -- those of others
 abbrev pub but_own : Txn → List Due → List Due

@@ -16,7 +16,8 @@ use Rattle.rq_sound.specs.Sound.{IsSound}
 use Rattle.rq_inverses.specs.Inverses.{InverseIsLatched, MayBeUndone}
 use Rattle.rq_sound.specs.Groups.{slots_now}
 use Rattle.rq_undone.specs.Pages.{IsUndone}
-use Rattle.rq_lost.specs.Dues.{Due, IsNewestDue, dues}
+use Rattle.rq_lost.specs.declared.dues.Due.{Due}
+use Rattle.rq_lost.specs.Dues.{IsNewestDue, dues}
 use Rattle.rq_lost.specs.Lost.{IsRepeated, lost_ends, lost_rows, lost_store}
 use Rattle.rq_lost.specs.Theorems.{IsRestored, IsStopped}
 use Rattle.rq_lost.specs.Turns.{EndsNext, TakesBackNext}

@@ -3,11 +3,15 @@
 //! The definitions stand in specs/, the theorems are the contracts of the functions here.
 #![tactic(auto)]
 
+mod dues;
+
 ghost use Rattle.rq_lost.specs.Dues.{DuesAreNext};
 ghost use Rattle.rq_lost.specs.Recovered.{RecoveredLogsAreWhole};
 ghost use Rattle.rq_lost.specs.Theorems.{AbortedLogsAreSettled, AbortsEnd, AbortsHaveTurns, AbortsKeepLogsWhole, AbortsMayStop, InversesAreFound, LostStoresAreSound, LostStoresOpen, SettledStoresHaveEnded, StopsAreRepeated};
 ghost use Rattle.rq_lost.specs.Worked.{InversesAreJudged, LostAreJudged, StopsAreJudged, TurnsAreJudged, TwoAreJudged};
 ghost use Rattle.rq_lost.specs.WorkedMoves.{MovesAreJudged};
+
+pub use dues::{Due, Dues};
 
 /// Each move of an abort leaves a sound store over a whole log, which has at most a record more, no Commit and no OpEnd.
 pub fn aborts_keep_logs_whole()
