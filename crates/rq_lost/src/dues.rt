@@ -31,6 +31,7 @@ pub struct Dues {
 
 impl Model for Dues {
     ghost use Rattle.std.specs.Prelude.{List, reverse};
+    ghost use Rattle.rq_lost.specs.declared.dues.Due.{Due};
 
     ghost Value = { List Due };
 
@@ -91,10 +92,11 @@ impl Dues {
         ensures ok { OnOk result (self.new ≡ due ∷ self.old) }
         ensures err { OnErr result (self.new ≡ self.old) }
     {
-        match self.dues.push(due) {
-            Ok(()) => Ok(()),
-            Err(_) => Err(NoMemory),
+        if self.dues.try_reserve(1).is_err() {
+            return Err(NoMemory);
         }
+        self.dues.push(due).unwrap();
+        Ok(())
     }
 
     // The newest of the transaction's is taken back.
