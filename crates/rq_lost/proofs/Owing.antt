@@ -22,11 +22,11 @@ use Rattle.rq_store.proofs.Holders.{placed_more}
 use Rattle.rq_store.proofs.RowLists.{found_in}
 use Rattle.rq_sound.specs.Sound.{IsSound}
 use Rattle.rq_lost.specs.declared.dues.Due.{Due}
-use Rattle.rq_lost.specs.Dues.{IsNewestDue, but_newest, but_own, due_of, dues}
+use Rattle.rq_lost.specs.Dues.{IsNewestDue, but_newest, but_own, deed_due, due_of, dues}
 use Rattle.rq_lost.proofs.Turning.{in_placed, nil_or, split_last}
 
 abbrev placed_due : Due → Placed
-placed_due d = record { lsn = d.lsn; deed = d.deed }
+placed_due d = record { lsn = d.lsn; deed = deed_due d }
 
 abbrev owned_due : Due → Owned
 owned_due d = record { txn = d.txn; placed = placed_due d }

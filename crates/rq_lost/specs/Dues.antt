@@ -2,6 +2,7 @@
 use Rattle.std.specs.Prelude.{◌≡◌, ℕ, ◌+◌, ◌≤◌, Bool, false, not, ◌||◌, cond, List, [], ◌∷◌, ◌++◌, length, Some}
 use Rattle.std.specs.List.{filter}
 use Rattle.rq_model.specs.declared.txn.Txn.{Txn}
+use Rattle.rq_model.specs.declared.record.Deed.{Deed}
 use Rattle.rq_model.specs.declared.record.Record.{Record}
 use Rattle.rq_model.specs.declared.record.Record.TheVariants.{CompEnd, Commit, OpEnd}
 use Rattle.rq_model.specs.Deeds.{deed_in}
@@ -31,7 +32,7 @@ abbrev pub but_own : Txn → List Due → List Due
 but_own t ds = filter (λ d. not (due_of t d)) ds
 
 abbrev pub dues_after : ℕ → Record → List Due → List Due
-dues_after n (OpEnd t m level deed) ds = record { txn = t; lsn = n; deed = told_deed (deed_in deed) } ∷ ds
+dues_after n (OpEnd t m level deed) ds = record { txn = t; lsn = n; deed = deed } ∷ ds
 dues_after n (CompEnd t m undone) ds = but_newest t ds
 dues_after n (Commit t) ds = but_own t ds
 dues_after n _ ds = ds
@@ -40,8 +41,11 @@ abbrev pub dues : List Record → List Due
 dues [] = []
 dues (r ∷ log) = dues_after (length log + 1) r (dues log)
 
+abbrev pub deed_due : Due → Deed
+deed_due d = told_deed (deed_in d.deed)
+
 abbrev pub finished_due : Due → Finished
-finished_due d = record { lsn = d.lsn; deed = d.deed }
+finished_due d = record { lsn = d.lsn; deed = deed_due d }
 
 -- the due is the last of its transaction's row, and the newest of all
 pub record IsNewestDue (s : State) (d : Due) : Type 0 where

@@ -1,8 +1,6 @@
 //! What is to be taken back, as the records of a log tell it one after the other.
 ghost use Rattle.std.specs.Prelude.{◌≡◌, ◌∷◌, ◌+◌, ◌<◌, [], IfSome, IfNone, MatchOption, OnOk, OnErr, Some, List, true, false, drop, length, slice_index_or};
-ghost use Rattle.rq_model.specs.Deeds.{deed_in};
-ghost use Rattle.rq_views.specs.Items.{told_deed};
-ghost use Rattle.rq_lost.specs.Dues.{any_due, but_newest, but_own, due_of, dues, dues_after};
+ghost use Rattle.rq_lost.specs.Dues.{any_due, but_newest, but_own, deed_due, due_of, dues, dues_after};
 
 use rq_model::record::{Deed, DeedBytes, Record};
 use rq_model::refusal::NoMemory;
@@ -19,7 +17,7 @@ pub struct Due {
     /// The LSN of its OpEnd.
     pub lsn: Lsn,
     /// What that says was done.
-    pub deed: Deed,
+    pub deed: DeedBytes,
 }
 
 /// What is to be taken back of the transactions of a log that have no Commit. Contracts see it as a stack, the newest first.
@@ -27,6 +25,18 @@ pub struct Due {
 pub struct Dues {
     /// In the order of their records.
     dues: Vec<Due>,
+}
+
+impl Due {
+    /// What was done; the close of the first group where the bytes are no deed's.
+    pub fn told(&self) -> Deed
+        ensures { result ≡ deed_due self.now }
+    {
+        match decode_deed(self.deed.as_slice()) {
+            Some(deed) => deed,
+            None => Deed::Close { sender: 0 },
+        }
+    }
 }
 
 impl Model for Dues {
@@ -60,7 +70,7 @@ impl Dues {
             Record::OpEnd { txn, deed, .. } => self.add(Due {
                 txn: *txn,
                 lsn,
-                deed: deed_of(deed),
+                deed: *deed,
             }),
             Record::CompEnd { txn, .. } => {
                 self.take_back(*txn);
@@ -92,11 +102,10 @@ impl Dues {
         ensures ok { OnOk result (self.new ≡ due ∷ self.old) }
         ensures err { OnErr result (self.new ≡ self.old) }
     {
-        if self.dues.try_reserve(1).is_err() {
-            return Err(NoMemory);
+        match self.dues.push(due) {
+            Ok(()) => Ok(()),
+            Err(_) => Err(NoMemory),
         }
-        self.dues.push(due).unwrap();
-        Ok(())
     }
 
     // The newest of the transaction's is taken back.
@@ -113,16 +122,6 @@ impl Dues {
         ensures { self.new ≡ but_own txn self.old }
     {
         self.dues.retain(|due| due.txn != txn);
-    }
-}
-
-// The deed that an OpEnd tells; the close of the first group where it tells none.
-fn deed_of(bytes: &DeedBytes) -> Deed
-    ensures { result ≡ told_deed (deed_in bytes.now) }
-{
-    match decode_deed(bytes.as_slice()) {
-        Some(deed) => deed,
-        None => Deed::Close { sender: 0 },
     }
 }
 
