@@ -1,5 +1,6 @@
 -- Worked: t1 sent a message for sender 0 and committed; t2 sent one for sender 15 and took the first when a crash came.
 use Rattle.std.specs.Prelude.{◌≡◌, ℕ, true, false, List, [], ◌∷◌, None, drop}
+use Rattle.rq_model.specs.Deeds.{spelled_deed}
 use Rattle.rq_model.specs.declared.txn.Txn.{Txn}
 use Rattle.rq_model.specs.declared.record.Record.{Record}
 use Rattle.rq_model.specs.declared.record.Record.TheVariants.{Commit}
@@ -34,10 +35,10 @@ abbrev pub took_two : Finished
 took_two = record { lsn = 11; deed = takes 0 }
 
 abbrev pub sent_due : Due
-sent_due = record { txn = t2; lsn = 8; deed = sends 15 }
+sent_due = record { txn = t2; lsn = 8; deed = spelled_deed (sends 15) }
 
 abbrev pub took_due : Due
-took_due = record { txn = t2; lsn = 11; deed = takes 0 }
+took_due = record { txn = t2; lsn = 11; deed = spelled_deed (takes 0) }
 
 abbrev pub row_two : Row
 row_two = record {
