@@ -12,4 +12,5 @@ pub mod Worked
 pub mod WorkedMoves
 pub mod Owing
 pub mod Stack
+pub mod Choosing
 pub mod Recovering

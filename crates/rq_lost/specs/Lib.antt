@@ -3,6 +3,7 @@ pub mod Lost
 pub mod Moves
 pub mod Turns
 pub mod Work
+pub mod Choices
 pub mod Theorems
 pub mod Worked
 pub mod WorkedMoves

@@ -5,6 +5,7 @@
 
 mod dues;
 
+ghost use Rattle.rq_lost.specs.Choices.{TurnsAreChosen};
 ghost use Rattle.rq_lost.specs.Dues.{DuesAreNext};
 ghost use Rattle.rq_lost.specs.Recovered.{RecoveredLogsAreWhole};
 ghost use Rattle.rq_lost.specs.Theorems.{AbortedLogsAreSettled, AbortsEnd, AbortsHaveTurns, AbortsKeepLogsWhole, AbortsMayStop, InversesAreFound, LostStoresAreSound, LostStoresOpen, SettledStoresHaveEnded, StopsAreRepeated};
@@ -69,6 +70,11 @@ pub fn stops_are_repeated()
 /// What is to be taken back next stands first on a stack that the records of the log make.
 pub fn dues_are_next()
     ensures { DuesAreNext }
+{}
+
+/// The transactions that are lost in the log, with that stack, tell which of them is next, and what is done to it.
+pub fn turns_are_chosen()
+    ensures { TurnsAreChosen }
 {}
 
 /// A log that a restart recovers is whole, with the content that it had, and nothing is unfinished or lost in it; wherever
