@@ -13,4 +13,5 @@ pub mod WorkedMoves
 pub mod Owing
 pub mod Stack
 pub mod Choosing
+pub mod Numbering
 pub mod Recovering

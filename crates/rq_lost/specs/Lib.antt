@@ -4,6 +4,7 @@ pub mod Moves
 pub mod Turns
 pub mod Work
 pub mod Choices
+pub mod Numbers
 pub mod Theorems
 pub mod Worked
 pub mod WorkedMoves

@@ -3,16 +3,21 @@
 //! The definitions stand in specs/, the theorems are the contracts of the functions here.
 #![tactic(auto)]
 
+mod choices;
 mod dues;
+mod numbers;
 
 ghost use Rattle.rq_lost.specs.Choices.{TurnsAreChosen};
 ghost use Rattle.rq_lost.specs.Dues.{DuesAreNext};
+ghost use Rattle.rq_lost.specs.Numbers.{NumbersAreKept};
 ghost use Rattle.rq_lost.specs.Recovered.{RecoveredLogsAreWhole};
 ghost use Rattle.rq_lost.specs.Theorems.{AbortedLogsAreSettled, AbortsEnd, AbortsHaveTurns, AbortsKeepLogsWhole, AbortsMayStop, InversesAreFound, LostStoresAreSound, LostStoresOpen, SettledStoresHaveEnded, StopsAreRepeated};
 ghost use Rattle.rq_lost.specs.Worked.{InversesAreJudged, LostAreJudged, StopsAreJudged, TurnsAreJudged, TwoAreJudged};
 ghost use Rattle.rq_lost.specs.WorkedMoves.{MovesAreJudged};
 
+pub use choices::next_end;
 pub use dues::{Due, Dues};
+pub use numbers::Numbers;
 
 /// Each move of an abort leaves a sound store over a whole log, which has at most a record more, no Commit and no OpEnd.
 pub fn aborts_keep_logs_whole()
@@ -75,6 +80,11 @@ pub fn dues_are_next()
 /// The transactions that are lost in the log, with that stack, tell which of them is next, and what is done to it.
 pub fn turns_are_chosen()
     ensures { TurnsAreChosen }
+{}
+
+/// The number of a transaction's next operation is told by a list that the records of the log make.
+pub fn numbers_are_kept()
+    ensures { NumbersAreKept }
 {}
 
 /// A log that a restart recovers is whole, with the content that it had, and nothing is unfinished or lost in it; wherever
