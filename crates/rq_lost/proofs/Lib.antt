@@ -15,3 +15,4 @@ pub mod Stack
 pub mod Choosing
 pub mod Numbering
 pub mod Recovering
+pub mod Walking

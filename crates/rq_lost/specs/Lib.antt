@@ -9,3 +9,4 @@ pub mod Theorems
 pub mod Worked
 pub mod WorkedMoves
 pub mod Recovered
+pub mod Walk

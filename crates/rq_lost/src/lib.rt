@@ -12,6 +12,7 @@ ghost use Rattle.rq_lost.specs.Dues.{DuesAreNext};
 ghost use Rattle.rq_lost.specs.Numbers.{NumbersAreKept};
 ghost use Rattle.rq_lost.specs.Recovered.{RecoveredLogsAreWhole};
 ghost use Rattle.rq_lost.specs.Theorems.{AbortedLogsAreSettled, AbortsEnd, AbortsHaveTurns, AbortsKeepLogsWhole, AbortsMayStop, InversesAreFound, LostStoresAreSound, LostStoresOpen, SettledStoresHaveEnded, StopsAreRepeated};
+ghost use Rattle.rq_lost.specs.Walk.{AbortsGoOn};
 ghost use Rattle.rq_lost.specs.Worked.{InversesAreJudged, LostAreJudged, StopsAreJudged, TurnsAreJudged, TwoAreJudged};
 ghost use Rattle.rq_lost.specs.WorkedMoves.{MovesAreJudged};
 
@@ -85,6 +86,12 @@ pub fn turns_are_chosen()
 /// The number of a transaction's next operation is told by a list that the records of the log make.
 pub fn numbers_are_kept()
     ensures { NumbersAreKept }
+{}
+
+/// A program whose pages and log are those of a store on its way makes the record, and the write, that are next, and is on
+/// its way then.
+pub fn aborts_go_on()
+    ensures { AbortsGoOn }
 {}
 
 /// A log that a restart recovers is whole, with the content that it had, and nothing is unfinished or lost in it; wherever
