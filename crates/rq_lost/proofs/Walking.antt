@@ -59,7 +59,9 @@ without_changed t f (r ∷ rows) same = elim (cases_Bool (same_txn r.txn t)) [
   | inl y ↦
       let e : same_txn (f r).txn t ≡ true = ap (λ (u : Txn). same_txn u t) (same r) ∙ y in
       rw (y, e) (without_changed t f rows same)
-  | inr n ↦ rw n (ap (λ (l : List Row). r ∷ l) (without_changed t f rows same))
+  | inr n ↦
+      let e : without_row t (r ∷ change_row t f rows) ≡ r ∷ without_row t rows = rw n (ap (λ (l : List Row). r ∷ l) (without_changed t f rows same)) in
+      rw n e
 ]
 
 none_changed : (t : Txn) (f : Row → Row) (rows : List Row) → ((r : Row) → (f r).under ≡ None) → any_under (without_row t rows) ≡ false → any_under (change_row t f rows) ≡ false
@@ -76,7 +78,7 @@ none_changed t f (r ∷ rows) off e = elim (cases_Bool (same_txn r.txn t)) [
 ]
 
 -- one message more waits of a sender
-one_more : ℕ → List ℕ → List ℕ
+abbrev one_more : ℕ → List ℕ → List ℕ
 one_more zero [] = 1 ∷ []
 one_more zero (w ∷ ws) = (w + 1) ∷ ws
 one_more (suc s) [] = 0 ∷ one_more s []
