@@ -61,7 +61,7 @@ filter_twice f g (x ∷ xs) = elim (cases_Bool (g x)) [
   | inr n ↦ rw n (elim (cases_Bool (f x)) [ inl z ↦ rw z (filter_twice f g xs) | inr z ↦ rw z (ap (λ l. x ∷ l) (filter_twice f g xs)) ])
 ]
 
-lost_ended : (t : Txn) (log : List Record) → lost (records.AbortEnd t ∷ log) ≡ filter (λ u. not (same_txn t u)) (lost log)
+pub lost_ended : (t : Txn) (log : List Record) → lost (records.AbortEnd t ∷ log) ≡ filter (λ u. not (same_txn t u)) (lost log)
 lost_ended t log = filter_twice (λ (u : Txn). same_txn t u) (has_end log) (workers log)
 
 pub lost_first : (z : Sizes) (log : List Record) (ts : List Txn) → txns (map (lost_row z log) ts) ≡ ts
@@ -165,6 +165,9 @@ looked ds (t ∷ ts) = elim (cases_Bool (any_due t ds)) [
   | inl y ↦ rw y (looked_past ds t ts (least_free ds ts) y (looked ds ts))
   | inr n ↦ rw n (looked_at ds t ts (least_free ds ts) n (looked ds ts))
 ]
+
+pub least_there : (ds : List Due) (ts : List Txn) (t : Txn) → least_free ds ts ≡ Some t → In t ts
+least_there ds ts t e = (let h : IsLeast ds ts t = subst (IsLooked ds ts) e (looked ds ts) in h.there)
 
 in_txns : (rows : List Row) (r : Row) → In r rows → In r.txn (txns rows)
 in_txns [] r i = absurd i

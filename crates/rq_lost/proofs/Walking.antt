@@ -1,7 +1,7 @@
 -- What a program does whose log and pages are those of a store on its way.
-use Rattle.std.proofs.Common.{◌≡◌, ◌≢◌, ℕ, zero, suc, ◌+◌, ◌/◌, ◌%◌, Bool, true, false, not, cond, nat_eq, ◌||◌, List, [], ◌∷◌, ◌++◌, length, Option, Some, None, option_map, inl, inr, refl, sym, ◌∙◌, ap, subst, arith}
-use Rattle.std.specs.List.{slice_get}
-use Rattle.std.proofs.lemmas.Bool.{cases_Bool, false≢true, or_parts, or_from, cases_eq, eq-eqb, ne_eqb}
+use Rattle.std.proofs.Common.{◌≡◌, ◌≢◌, ◌<◌, ◌≤◌, ℕ, zero, suc, ◌+◌, ◌/◌, ◌%◌, Bool, true, false, not, cond, nat_eq, ◌||◌, List, [], ◌∷◌, ◌++◌, length, Option, Some, None, option_map, inl, inr, refl, sym, ◌∙◌, ap, subst, arith}
+use Rattle.std.specs.List.{filter, slice_get}
+use Rattle.std.proofs.lemmas.Bool.{cases_Bool, false≢true, true≢false, or_parts, or_from, cases_eq, eq-eqb, ne_eqb}
 use Rattle.rq_model.specs.declared.record.Deed.{Deed}
 use Rattle.rq_model.specs.declared.record.Deed.TheVariants.{Append, UnlinkHead, Close}
 use Rattle.rq_model.specs.declared.record.Record.{Record}
@@ -37,13 +37,21 @@ use Rattle.rq_lost.specs.Moves.{IsAbortMove, newest_store}
 use Rattle.rq_lost.specs.Moves.IsAbortMove.{Starts, Writes, Undoes, Ends}
 use Rattle.rq_lost.specs.Numbers.{number_of, numbers}
 use Rattle.rq_lost.specs.Turns.{IsInTurn, MovesInTurn}
-use Rattle.rq_lost.specs.Walk.{AbortsGoOn, IsBetween, IsCome, IsWithin, showing}
-use Rattle.rq_lost.proofs.Choosing.{chosen_back, chosen_done, chosen_ends, lost_stay}
+use Rattle.rq_undone.specs.Pages.{IsUndone}
+use Rattle.rq_model.proofs.Lists.{same_self}
+use Rattle.rq_lost.specs.Lost.{IsRepeated, lost_store}
+use Rattle.rq_lost.specs.Recovered.{IsRecovered, IsRecovering}
+use Rattle.rq_lost.specs.Recovered.IsRecovered.{AllAborted}
+use Rattle.rq_lost.specs.Recovered.IsRecovering.{Aborting}
+use Rattle.rq_lost.proofs.Owing.{rest_due}
+use Rattle.rq_lost.proofs.Store.{lost_sound}
+use Rattle.rq_lost.specs.Walk.{AbortsComeToAnEnd, AbortsGoOn, rounds_left, IsBetween, IsCome, IsWithin, showing}
+use Rattle.rq_lost.proofs.Choosing.{chosen_back, chosen_done, chosen_ends, least_there, lost_ended, lost_first, lost_stay}
 use Rattle.rq_lost.proofs.Moving.{moves_sound}
 use Rattle.rq_lost.proofs.Numbering.{row_number}
 use Rattle.rq_lost.proofs.Recovering.{behind}
 use Rattle.rq_lost.proofs.Stopping.{moves_sizes}
-use Rattle.rq_lost.proofs.Turning.{still_aborting}
+use Rattle.rq_lost.proofs.Turning.{lost_aborting, lost_idle, still_aborting}
 
 -- who else has something under way
 none_without : (t : Txn) (rows : List Row) → any_under rows ≡ false → any_under (without_row t rows) ≡ false
@@ -224,4 +232,50 @@ aborts_go_on = record {
   closes = λ base images log t n lsn deed ws k h. close base k h.stores images log h.come t n lsn deed ws (length ws) h.row h.of h.at_row h.under h.alone refl;
   ends = λ base images log t k b e. end base k b.stores images log b.come b.idle t e;
   done = λ base images log b k none nothing. finish base k b.stores images log b.come none nothing;
+}
+
+-- less is left
+filter_le : {X : Type 0} (p : X → Bool) (xs : List X) → length (filter p xs) ≤ length xs
+filter_le p [] = omega arith
+filter_le p (y ∷ xs) = elim (cases_Bool (p y)) [
+  | inl t ↦ rw t (omega (arith, filter_le p xs))
+  | inr n ↦ rw n (omega (arith, filter_le p xs))
+]
+
+filter_less : {X : Type 0} (p : X → Bool) (xs : List X) (x : X) → In x xs → p x ≡ false → length (filter p xs) < length xs
+filter_less p [] x h k = absurd h
+filter_less p (y ∷ xs) x h k = elim (cases_Bool (p y)) [
+  | inl t ↦ rw t (elim h [ inl e ↦ absurd (true≢false (sym t ∙ ap p (sym e) ∙ k)) | inr i ↦ omega (arith, filter_less p xs x i k) ])
+  | inr n ↦ rw n (omega (arith, filter_le p xs))
+]
+
+back_less : (log : List Record) (d : Due) (ds : List Due) (n lsn : ℕ) → dues log ≡ d ∷ ds → rounds_left (comp_end d.txn n lsn ∷ log) < rounds_left log
+back_less log d ds n lsn e =
+    let a : length (dues (comp_end d.txn n lsn ∷ log)) ≡ length ds = ap length (rest_due log d ds n lsn e) in
+    let b : length (dues log) ≡ length (d ∷ ds) = ap length e in
+    let c : length (d ∷ ds) ≡ length ds + 1 = omega arith in
+    let k : length (lost (comp_end d.txn n lsn ∷ log)) ≡ length (lost log) = refl in
+    omega (arith, a, b, c, k)
+
+end_less : (log : List Record) (t : Txn) → least_free (dues log) (lost log) ≡ Some t → rounds_left (AbortEnd t ∷ log) < rounds_left log
+end_less log t e =
+    let off : not (same_txn t t) ≡ false = ap not (same_self t) in
+    let a = filter_less (λ (u : Txn). not (same_txn t u)) (lost log) t (least_there (dues log) (lost log) t e) off in
+    let b : length (lost (AbortEnd t ∷ log)) ≡ length (filter (λ (u : Txn). not (same_txn t u)) (lost log)) = ap length (lost_ended t log) in
+    omega (arith, a, b)
+
+pub aborts_come : AbortsComeToAnEnd
+aborts_come = record {
+  first = λ z images log forced. record {
+    stores = [];
+    come = record { turns = tt; images_are = refl; records_are = refl; lost = lost_first z log (lost log); aborting = lost_aborting z log };
+    idle = lost_idle z log;
+  };
+  less_back = back_less;
+  less_end = end_less;
+  between = λ z log undone images forced now last u r k. Aborting undone images forced k.stores u r k.come.turns k.come.records_are;
+  within = λ z log undone images forced now last t n lsn deed ws made u r k. Aborting undone images forced k.stores u r k.come.turns k.come.records_are;
+  recovered = λ z log undone images forced now last u r k none nothing.
+      AllAborted undone images forced k.stores u r k.come.turns
+      (finish (lost_store z images undone forced) (lost_sound z images undone forced r) k.stores now last k.come none nothing) k.come.records_are;
 }

@@ -1,11 +1,12 @@
 -- A store whose transactions are undone, as its pages and its log show it: between two inverses, and within one.
-use Rattle.std.specs.Prelude.{◌≡◌, ℕ, ◌+◌, ◌/◌, ◌%◌, false, List, [], ◌∷◌, length, Some, None}
+use Rattle.std.specs.Prelude.{◌≡◌, ℕ, ◌<◌, ◌+◌, ◌/◌, ◌%◌, false, List, [], ◌∷◌, length, Some, None}
 use Rattle.std.specs.List.{slice_get}
 use Rattle.rq_model.specs.declared.record.Deed.{Deed}
 use Rattle.rq_model.specs.declared.record.Record.{Record}
 use Rattle.rq_model.specs.declared.record.Record.TheVariants.{AbortEnd}
 use Rattle.rq_model.specs.declared.txn.Txn.{Txn}
 use Rattle.rq_model.specs.Unended.{lost}
+use Rattle.rq_page.specs.Sizes.{Sizes}
 use Rattle.rq_page.specs.Slots.{IsSlotOf}
 use Rattle.rq_views.specs.Plans.Turn.{Undid}
 use Rattle.rq_views.specs.Stored.{slots_in}
@@ -19,11 +20,14 @@ use Rattle.rq_sound.specs.Calls.{IsPutIn}
 use Rattle.rq_sound.specs.Plans.{IsPlannedFrom}
 use Rattle.rq_sound.specs.Rows.{comp_end}
 use Rattle.rq_sound.specs.Sound.{IsSound}
+use Rattle.rq_undone.specs.Pages.{IsUndone}
 use Rattle.rq_lost.specs.declared.dues.Due.{Due}
 use Rattle.rq_lost.specs.Choices.{AreLost, least_free}
 use Rattle.rq_lost.specs.Dues.{deed_due, dues}
+use Rattle.rq_lost.specs.Lost.{IsRepeated, lost_store}
 use Rattle.rq_lost.specs.Moves.{newest_store}
 use Rattle.rq_lost.specs.Numbers.{number_of, numbers}
+use Rattle.rq_lost.specs.Recovered.{IsRecovered, IsRecovering}
 use Rattle.rq_lost.specs.Turns.{AreAborting, MovesInTurn}
 
 -- moves in turn came to a store with these pages and this log, in which each transaction is lost and to be undone
@@ -80,3 +84,28 @@ pub record AbortsGoOn : Type 0 where
   -- where there is none, and nothing is due, all are undone
   pub done : (base : State) (images : List (List ℕ)) (log : List Record) (k : IsBetween base images log) → IsSound base
       → least_free (dues log) (lost log) ≡ None → dues log ≡ [] → (newest_store base k.stores).rows ≡ []
+
+-- what is left, as a program counts it
+abbrev pub rounds_left : List Record → ℕ
+rounds_left log = length (lost log) + length (dues log)
+
+-- It sets out where history is repeated, each round leaves less, and at each moment its log is that of a restart on its
+-- way; at the end it is recovered.
+pub record AbortsComeToAnEnd : Type 0 where
+  pub first : (z : Sizes) (images : List (List ℕ)) (log : List Record) (forced : ℕ)
+      → IsBetween (lost_store z images log forced) images log
+  pub less_back : (log : List Record) (d : Due) (ds : List Due) (n lsn : ℕ) → dues log ≡ d ∷ ds
+      → rounds_left (comp_end d.txn n lsn ∷ log) < rounds_left log
+  pub less_end : (log : List Record) (t : Txn) → least_free (dues log) (lost log) ≡ Some t
+      → rounds_left (AbortEnd t ∷ log) < rounds_left log
+  pub between : (z : Sizes) (log undone : List Record) (images : List (List ℕ)) (forced : ℕ) (now : List (List ℕ))
+      (last : List Record) → IsUndone log undone → IsRepeated z images undone forced
+      → IsBetween (lost_store z images undone forced) now last → IsRecovering z log last
+  pub within : (z : Sizes) (log undone : List Record) (images : List (List ℕ)) (forced : ℕ) (now : List (List ℕ))
+      (last : List Record) (t : Txn) (n lsn : ℕ) (deed : Deed) (ws : List SlotWrite) (made : ℕ) → IsUndone log undone
+      → IsRepeated z images undone forced
+      → IsWithin (lost_store z images undone forced) now last t n lsn deed ws made → IsRecovering z log last
+  pub recovered : (z : Sizes) (log undone : List Record) (images : List (List ℕ)) (forced : ℕ) (now : List (List ℕ))
+      (last : List Record) → IsUndone log undone → IsRepeated z images undone forced
+      → IsBetween (lost_store z images undone forced) now last → least_free (dues last) (lost last) ≡ None
+      → dues last ≡ [] → IsRecovered z log last
