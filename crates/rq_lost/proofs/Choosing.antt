@@ -1,5 +1,5 @@
 -- Which transaction is next is told by the stack and the transactions that are lost.
-use Rattle.std.proofs.Common.{◌≡◌, ◌≢◌, ℕ, ◌≤◌, ◌++◌, Bool, true, false, not, cond, nat_lt, ◌||◌, List, [], ◌∷◌, map, Option, Some, None, inl, inr, refl, sym, ◌∙◌, ap, subst, arith}
+use Rattle.std.proofs.Common.{◌≡◌, ◌≢◌, ℕ, ◌≤◌, Bool, true, false, not, nat_lt, ◌||◌, List, [], ◌∷◌, map, Option, Some, None, inl, inr, refl, sym, ◌∙◌, ap, subst, arith}
 use Rattle.std.specs.List.{filter}
 use Rattle.std.proofs.lemmas.Bool.{cases_Bool, true≢false, false≢true, false_from_ne_true, or_parts}
 use Rattle.std.proofs.lemmas.Bool.Decides.{nat_tests}
@@ -11,10 +11,8 @@ use Rattle.rq_model.specs.Unended.{lost, workers}
 use Rattle.rq_model.specs.Words.{In, same_txn}
 use Rattle.rq_model.proofs.Lists.{In-map, same_is, same_self}
 use Rattle.rq_page.specs.Sizes.{Sizes}
-use Rattle.rq_views.specs.Items.{items}
-use Rattle.rq_views.specs.Legal.{Placed, open_deeds}
 use Rattle.rq_txn.specs.declared.Finished.{Finished}
-use Rattle.rq_txn.specs.Rows.{Row, change_row, change_row_one, row_started, row_stepped, row_undone, without_row}
+use Rattle.rq_txn.specs.Rows.{Row, change_row, row_started, row_stepped, row_undone, without_row}
 use Rattle.rq_store.specs.Rows.{placed, placed_one}
 use Rattle.rq_store.specs.State.{State}
 use Rattle.rq_store.proofs.Holders.{placed_more}
@@ -142,21 +140,21 @@ looked_at ds t ts None n h = record {
 }
 looked_at ds t ts (Some o) n h = elim (cases_Bool (nat_lt o.count t.count)) [
   | inl y ↦ rw y (record {
-      there = inr h.there;
-      free = h.free;
-      least = λ u i m. elim i [
-        | inl e ↦ (let a : u.count ≡ t.count = ap (λ (v : Txn). v.count) e in let b = lt_is o.count t.count y in omega (arith, a, b))
-        | inr j ↦ h.least u j m
-      ];
-    })
+    there = inr h.there;
+    free = h.free;
+    least = λ u i m. elim i [
+      | inl e ↦ (let a : u.count ≡ t.count = ap (λ (v : Txn). v.count) e in let b = lt_is o.count t.count y in omega (arith, a, b))
+      | inr j ↦ h.least u j m
+    ];
+  })
   | inr z ↦ rw z (record {
-      there = inl refl;
-      free = n;
-      least = λ u i m. elim i [
-        | inl e ↦ (let a : u.count ≡ t.count = ap (λ (v : Txn). v.count) e in omega (arith, a))
-        | inr j ↦ (let a = h.least u j m in let b = not_lt o.count t.count z in omega (arith, a, b))
-      ];
-    })
+    there = inl refl;
+    free = n;
+    least = λ u i m. elim i [
+      | inl e ↦ (let a : u.count ≡ t.count = ap (λ (v : Txn). v.count) e in omega (arith, a))
+      | inr j ↦ (let a = h.least u j m in let b = not_lt o.count t.count z in omega (arith, a, b))
+    ];
+  })
 ]
 
 looked : (ds : List Due) (ts : List Txn) → IsLooked ds ts (least_free ds ts)
@@ -188,28 +186,35 @@ module _ (s : State) (k : IsSound s) (are : AreLost s) where
   chosen_ends t e =
       let h : IsLeast (dues s.records) (lost s.records) t = subst (IsLooked (dues s.records) (lost s.records)) e (looked (dues s.records) (lost s.records)) in
       let m = In-map (λ (r : Row). r.txn) s.rows t (subst (In t) (sym are) h.there) in
-      let free : any_due m.0.txn (dues s.records) ≡ false = ap (λ (u : Txn). any_due u (dues s.records)) (sym m.2) ∙ h.free in
-      (m.0, sym m.2, record {
-        row = m.1;
-        empty = none_left s k m.0 m.1 free;
-        least = λ q j none.
-            let off : any_due q.txn (dues s.records) ≡ false = false_from_ne_true (any_due q.txn (dues s.records)) (λ y. some_left s k q j y none) in
-            let a = h.least q.txn (row_lost q j) off in
-            let b : t.count ≡ m.0.txn.count = ap (λ (u : Txn). u.count) m.2 in
-            omega (arith, a, b);
-      })
+      let free : any_due m.0.txn (dues s.records) ≡ false = ap (λ (u : Txn). any_due u (dues s.records)) (sym m.2) ∙ h.free in (
+        m.0,
+        sym m.2,
+        record {
+          row = m.1;
+          empty = none_left s k m.0 m.1 free;
+          least = λ q j none.
+              let off : any_due q.txn (dues s.records) ≡ false = false_from_ne_true (any_due q.txn (dues s.records)) (λ y. some_left s k q j y none) in
+              let a = h.least q.txn (row_lost q j) off in
+              let b : t.count ≡ m.0.txn.count = ap (λ (u : Txn). u.count) m.2 in
+              omega (arith, a, b);
+        },
+      )
 
   pub chosen_back : (d : Due) (ds : List Due) → least_free (dues s.records) (lost s.records) ≡ None → dues s.records ≡ d ∷ ds
       → (r : Row) × (rest : List Finished) × (r.txn ≡ d.txn) × TakesBackNext s.rows r rest (finished_due d)
   chosen_back d ds e first =
       let n = first_due s k d ds first in
-      let at = found_in d.txn s.rows n.row n.at_row in
-      (n.row, n.rest, at.1, record {
-        row = at.0;
-        last = n.last;
-        some = λ q j. some_left s k q j (all_due e q j);
-        newest = n.newest;
-      })
+      let at = found_in d.txn s.rows n.row n.at_row in (
+        n.row,
+        n.rest,
+        at.1,
+        record {
+          row = at.0;
+          last = n.last;
+          some = λ q j. some_left s k q j (all_due e q j);
+          newest = n.newest;
+        },
+      )
 
   pub chosen_done : least_free (dues s.records) (lost s.records) ≡ None → dues s.records ≡ [] → s.rows ≡ []
   chosen_done e none = nothing_in s.rows (λ r j. false≢true (ap (any_due r.txn) (sym none) ∙ all_due e r j))

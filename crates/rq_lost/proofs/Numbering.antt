@@ -1,5 +1,5 @@
 -- The greatest number is kept.
-use Rattle.std.proofs.Common.{◌≡◌, ℕ, ◌+◌, ◌≤◌, max, nat_lt, Bool, true, false, not, cond, ◌||◌, List, [], ◌∷◌, ◌++◌, Option, Some, None, inl, inr, refl, sym, ◌∙◌, ap, arith}
+use Rattle.std.proofs.Common.{◌≡◌, ℕ, ◌+◌, ◌≤◌, max, nat_lt, true, false, cond, ◌||◌, List, [], ◌∷◌, ◌++◌, None, inl, inr, refl, sym, ◌∙◌, ap, arith}
 use Rattle.std.proofs.lemmas.Bool.{cases_Bool, or_parts}
 use Rattle.std.proofs.lemmas.Bool.Decides.{nat_tests}
 use Rattle.rq_model.specs.declared.txn.Sub.{Sub}
@@ -8,7 +8,7 @@ use Rattle.rq_model.specs.declared.record.Record.{Record}
 use Rattle.rq_model.specs.declared.record.Record.TheVariants as records
 use Rattle.rq_model.specs.Content.{has_end}
 use Rattle.rq_model.specs.Words.{In, same_txn}
-use Rattle.rq_model.proofs.Lists.{same_is, same_self}
+use Rattle.rq_model.proofs.Lists.{same_is}
 use Rattle.rq_page.specs.Sizes.{Sizes}
 use Rattle.rq_views.specs.Items.{items, operation}
 use Rattle.rq_views.specs.Numbers.{greatest}
@@ -40,12 +40,12 @@ number_with : (t : Txn) (o : Sub) (os : List Sub) → number_of t (with_number o
 number_with t o os = elim (cases_Bool (nat_lt (number_of o.txn os) o.number)) [
   | inl y ↦ rw y (number_behind t os o)
   | inr n ↦ rw n (elim (cases_Bool (same_txn o.txn t)) [
-      | inl own ↦
-          let a : number_of o.txn os ≡ number_of t os = ap (λ (u : Txn). number_of u os) (same_is o.txn t own) in
-          let b = not_lt (number_of o.txn os) o.number n in
-          rw own (within o.number (number_of t os) (omega (arith, a, b)))
-      | inr off ↦ rw off (with_none (number_of t os))
-    ])
+    | inl own ↦
+        let a : number_of o.txn os ≡ number_of t os = ap (λ (u : Txn). number_of u os) (same_is o.txn t own) in
+        let b = not_lt (number_of o.txn os) o.number n in
+        rw own (within o.number (number_of t os) (omega (arith, a, b)))
+    | inr off ↦ rw off (with_none (number_of t os))
+  ])
 ] where
   within : (a b : ℕ) → a ≤ b → b ≡ max a b
   within a b le = omega (arith, le)

@@ -1,7 +1,7 @@
 -- What a program does whose log and pages are those of a store on its way.
-use Rattle.std.proofs.Common.{◌≡◌, ◌≢◌, ◌<◌, ◌≤◌, ℕ, zero, suc, ◌+◌, ◌/◌, ◌%◌, Bool, true, false, not, cond, nat_eq, ◌||◌, List, [], ◌∷◌, ◌++◌, length, Option, Some, None, option_map, inl, inr, refl, sym, ◌∙◌, ap, subst, arith}
+use Rattle.std.proofs.Common.{◌≡◌, ◌≢◌, ◌<◌, ◌≤◌, ℕ, zero, suc, ◌+◌, ◌/◌, ◌%◌, Bool, true, false, not, ◌||◌, List, [], ◌∷◌, length, Option, Some, None, option_map, inl, inr, refl, sym, ◌∙◌, ap, subst, arith}
 use Rattle.std.specs.List.{filter, slice_get}
-use Rattle.std.proofs.lemmas.Bool.{cases_Bool, false≢true, true≢false, or_parts, or_from, cases_eq, eq-eqb, ne_eqb}
+use Rattle.std.proofs.lemmas.Bool.{cases_Bool, true≢false, or_parts, or_from, cases_eq, eq-eqb, ne_eqb}
 use Rattle.rq_model.specs.declared.record.Deed.{Deed}
 use Rattle.rq_model.specs.declared.record.Deed.TheVariants.{Append, UnlinkHead, Close}
 use Rattle.rq_model.specs.declared.record.Record.{Record}
@@ -9,15 +9,13 @@ use Rattle.rq_model.specs.declared.record.Record.TheVariants.{AbortEnd}
 use Rattle.rq_model.specs.declared.txn.Txn.{Txn}
 use Rattle.rq_model.specs.Unended.{lost}
 use Rattle.rq_model.specs.Words.{In, is_some, same_txn}
-use Rattle.rq_page.specs.Sizes.{Sizes}
 use Rattle.rq_page.specs.Slots.{IsSlotOf}
 use Rattle.rq_views.specs.Plans.Turn.{Undid}
 use Rattle.rq_views.specs.Stored.{slots_in}
 use Rattle.rq_level.specs.declared.writes.SlotWrite.{SlotWrite}
 use Rattle.rq_groups.specs.Waiting.{waits}
 use Rattle.rq_txn.specs.declared.Aim.TheVariants as aims
-use Rattle.rq_txn.specs.declared.Finished.{Finished}
-use Rattle.rq_txn.specs.Rows.{Row, Under, any_under, change_row, found_row, row_started, row_stepped, row_undone, under_stepped, without_row}
+use Rattle.rq_txn.specs.Rows.{Row, Under, any_under, change_row, found_row, row_started, row_stepped, under_stepped, without_row}
 use Rattle.rq_txn.proofs.Finding.{found_change_same}
 use Rattle.rq_store.specs.State.{State}
 use Rattle.rq_store.specs.Steps.{page_op, took}
@@ -31,16 +29,14 @@ use Rattle.rq_sound.specs.Starts.{MayUndo}
 use Rattle.rq_sound.proofs.Groups.{none_latched}
 use Rattle.rq_sound.proofs.Planned.{plans_start}
 use Rattle.rq_lost.specs.declared.dues.Due.{Due}
-use Rattle.rq_lost.specs.Choices.{AreLost, least_free}
+use Rattle.rq_lost.specs.Choices.{least_free}
 use Rattle.rq_lost.specs.Dues.{deed_due, dues, finished_due}
 use Rattle.rq_lost.specs.Moves.{IsAbortMove, newest_store}
 use Rattle.rq_lost.specs.Moves.IsAbortMove.{Starts, Writes, Undoes, Ends}
 use Rattle.rq_lost.specs.Numbers.{number_of, numbers}
-use Rattle.rq_lost.specs.Turns.{IsInTurn, MovesInTurn}
-use Rattle.rq_undone.specs.Pages.{IsUndone}
+use Rattle.rq_lost.specs.Turns.{IsInTurn}
 use Rattle.rq_model.proofs.Lists.{same_self}
-use Rattle.rq_lost.specs.Lost.{IsRepeated, lost_store}
-use Rattle.rq_lost.specs.Recovered.{IsRecovered, IsRecovering}
+use Rattle.rq_lost.specs.Lost.{lost_store}
 use Rattle.rq_lost.specs.Recovered.IsRecovered.{AllAborted}
 use Rattle.rq_lost.specs.Recovered.IsRecovering.{Aborting}
 use Rattle.rq_lost.proofs.Owing.{rest_due}
@@ -111,12 +107,15 @@ others_wait (suc s) (w ∷ ws) (suc g) ne = others_wait s ws g (λ e. ne (ap suc
 some_wait : (d : Deed) (ws : List ℕ) → (now : List ℕ) × ((g : ℕ) → waits now g ≡ waits ws g + took g d)
 some_wait (Append s n tag previous body) ws = (ws, λ g. omega arith)
 some_wait (Close s) ws = (ws, λ g. omega arith)
-some_wait (UnlinkHead s n tag body) ws = (one_more s ws, λ g. elim (cases_eq s g) [
-  | inl e ↦
-      let a : waits (one_more s ws) g ≡ waits ws g + 1 = subst (λ x. waits (one_more s ws) x ≡ waits ws x + 1) e (one_waits s ws) in
-      rw (eq-eqb s g e) a
-  | inr ne ↦ (let a = others_wait s ws g ne in rw (ne_eqb s g ne) (omega (arith, a)))
-])
+some_wait (UnlinkHead s n tag body) ws = (
+  one_more s ws,
+  λ g. elim (cases_eq s g) [
+    | inl e ↦
+        let a : waits (one_more s ws) g ≡ waits ws g + 1 = subst (λ x. waits (one_more s ws) x ≡ waits ws x + 1) e (one_waits s ws) in
+        rw (eq-eqb s g e) a
+    | inr ne ↦ (let a = others_wait s ws g ne in rw (ne_eqb s g ne) (omega (arith, a)))
+  ],
+)
 
 -- a write that is made in the pages is so of any state with these sizes, pages and records
 put_as : (base s : State) (images now : List (List ℕ)) (log : List Record) (w : SlotWrite) → base.sizes ≡ s.sizes → images ≡ s.images → log ≡ s.records → IsPutIn (showing base images log) w now → IsPutIn s w now
@@ -179,7 +178,7 @@ module _ (base : State) (k : IsSound base) (stores : List State) (images : List 
       record {
         stores = aborted s r ∷ stores;
         come = step (aborted s r) (Ends r (idle_row r off h.2.row) (c.aborting r h.2.row) h.2.empty refl) images (AbortEnd t ∷ log) (off, h.2) c.images_are
-        (ap (λ (x : Txn). AbortEnd x ∷ s.records) h.1 ∙ ap (λ (l : List Record). AbortEnd t ∷ l) c.records_are);
+            (ap (λ (x : Txn). AbortEnd x ∷ s.records) h.1 ∙ ap (λ (l : List Record). AbortEnd t ∷ l) c.records_are);
         idle = none_without r.txn s.rows off;
       }
 
@@ -206,7 +205,7 @@ module _ (base : State) (k : IsSound base) (stores : List State) (images : List 
         record {
           stores = stepped s r u w now ∷ stores;
           come = step (stepped s r u w now) (Writes r u w now lsn deed refl may refl) now (page_op t n w ∷ log) tt refl
-          (ap (λ (x : Txn). page_op x n w ∷ s.records) of ∙ ap (λ (l : List Record). page_op t n w ∷ l) c.records_are);
+              (ap (λ (x : Txn). page_op x n w ∷ s.records) of ∙ ap (λ (l : List Record). page_op t n w ∷ l) c.records_are);
           row = row_stepped r;
           of = of;
           at_row = found_change_same r.txn row_stepped s.rows (λ q. refl) ∙ ap (λ (o : Option Row). option_map row_stepped o) at;
@@ -221,7 +220,7 @@ module _ (base : State) (k : IsSound base) (stores : List State) (images : List 
         record {
           stores = undone s r u lsn deed more.0 ∷ stores;
           come = step (undone s r u lsn deed more.0) (Undoes r u lsn deed more.0 ready more.1 refl) images (comp_end t n lsn ∷ log) tt c.images_are
-          (ap (λ (x : Txn). comp_end x n lsn ∷ s.records) of ∙ ap (λ (l : List Record). comp_end t n lsn ∷ l) c.records_are);
+              (ap (λ (x : Txn). comp_end x n lsn ∷ s.records) of ∙ ap (λ (l : List Record). comp_end t n lsn ∷ l) c.records_are);
           idle = none_changed r.txn _ s.rows (λ q. refl) (ap (λ (x : Txn). any_under (without_row x s.rows)) of ∙ alone);
         }
 

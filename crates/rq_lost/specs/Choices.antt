@@ -1,5 +1,5 @@
 -- Which transaction is next, as it is looked for by the stack of what is to be taken back.
-use Rattle.std.specs.Prelude.{◌≡◌, nat_lt, cond, ℕ, List, [], ◌∷◌, ◌++◌, map, Option, Some, None}
+use Rattle.std.specs.Prelude.{◌≡◌, nat_lt, cond, ℕ, List, [], ◌∷◌, map, Option, Some, None}
 use Rattle.rq_model.specs.declared.txn.Txn.{Txn}
 use Rattle.rq_model.specs.declared.record.Record.{Record}
 use Rattle.rq_model.specs.Unended.{lost}

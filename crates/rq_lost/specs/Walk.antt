@@ -11,11 +11,10 @@ use Rattle.rq_page.specs.Slots.{IsSlotOf}
 use Rattle.rq_views.specs.Plans.Turn.{Undid}
 use Rattle.rq_views.specs.Stored.{slots_in}
 use Rattle.rq_level.specs.declared.writes.SlotWrite.{SlotWrite}
-use Rattle.rq_groups.specs.Waiting.{waits}
 use Rattle.rq_txn.specs.declared.Aim.TheVariants as aims
-use Rattle.rq_txn.specs.Rows.{Row, Under, any_under, found_row, without_row}
+use Rattle.rq_txn.specs.Rows.{Row, any_under, found_row, without_row}
 use Rattle.rq_store.specs.State.{State}
-use Rattle.rq_store.specs.Steps.{page_op, took}
+use Rattle.rq_store.specs.Steps.{page_op}
 use Rattle.rq_sound.specs.Calls.{IsPutIn}
 use Rattle.rq_sound.specs.Plans.{IsPlannedFrom}
 use Rattle.rq_sound.specs.Rows.{comp_end}
