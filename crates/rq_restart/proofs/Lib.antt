@@ -10,3 +10,4 @@ pub mod Worked
 pub mod Tallying
 pub mod Undos
 pub mod Begun
+pub mod Showing
