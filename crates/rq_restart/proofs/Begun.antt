@@ -45,45 +45,6 @@ use Rattle.rq_restart.specs.Repeating.{AreCounted, IsRepeated, Paged, Repeats}
 use Rattle.rq_restart.specs.Undoing.{IsBadUndo, UndoStops}
 use Rattle.rq_restart.proofs.Parsing.{AreSpelled-drop, one_log}
 
--- ---- pages
-
--- the next of a log's first records
-oldest_step : (n : ℕ) (log : List Record) → n < length log → (r : Record) × (drop n log ≡ r ∷ drop (suc n) log)
-oldest_step n [] lt = absurd (omega (arith, lt))
-oldest_step zero (r ∷ log) lt = (r, refl)
-oldest_step (suc n) (r ∷ log) lt = oldest_step n log (omega (arith, lt))
-
-none_oldest : (log : List Record) → drop (length log) log ≡ []
-none_oldest [] = refl
-none_oldest (r ∷ log) = none_oldest log
-
-module _ (z : Sizes) (log : List Record) (first : Paged) (left : IsLeft z first.image log) where
-  -- pages that the first records were repeated on are as these leave them
-  pub up_to : (k : ℕ) → k ≤ length log → (mid : Paged) → Repeats z (oldest k log) first mid → FitsUpTo z mid.image log k
-  up_to zero le mid h =
-      let none : oldest 0 log ≡ [] = ap (λ n. drop n log) (let e : length log - 0 ≡ length log = omega arith in e) ∙ none_oldest log in
-      let same : mid ≡ first = subst (λ l. Repeats z l first mid) none h in
-      subst (λ (p : Paged). FitsUpTo z p.image log 0) (sym same) (redo_none z log first.image left.fits)
-  up_to (suc k) le mid h =
-      let next = oldest_step (length log - suc k) log (omega (arith, le)) in
-      let one : suc (length log - suc k) ≡ length log - k = omega (arith, le) in
-      let up : suc k ≡ k + 1 = omega arith in
-      let grows : oldest (suc k) log ≡ next.0 ∷ oldest k log = next.1 ∙ ap (λ n. next.0 ∷ drop n log) one in
-      let grown : oldest (k + 1) log ≡ next.0 ∷ oldest k log = ap (λ n. oldest n log) (sym up) ∙ grows in
-      let r : Repeats z (next.0 ∷ oldest k log) first mid = subst (λ l. Repeats z l first mid) grows h in
-      let d = length-drop (length log - k) log in
-      let count : length (oldest k log) ≡ k = omega (arith, d, le) in
-      let within : k + 1 ≤ length log = omega (arith, le) in
-      let redone : Redoes (told_by next.0) (k + 1) r.0.image mid.image = subst (λ n. Redoes (told_by next.0) (n + 1) r.0.image mid.image) count r.2.redone in
-      subst (λ n. FitsUpTo z mid.image log n) (sym up)
-      (redo_one z log k next.0 grown within (in_store (k + 1) next.0 (oldest k log) grown).0 r.0.image mid.image redone (up_to k (omega (arith, le)) r.0 r.1))
-    where
-      in_store : (n : ℕ) (q : Record) (older : List Record) → oldest n log ≡ q ∷ older → InStore z (q ∷ older)
-      in_store n q older e = subst (InStore z) e (oldest_store z log n left.whole.in_store)
-
-  pub all_up_to : (last : Paged) → Repeats z log first last → FitsUpTo z last.image log (length log)
-  all_up_to last h = up_to (length log) (omega arith) last (subst (λ l. Repeats z l first last) (sym (oldest_all log)) h)
-
 -- a store's pages fit the log with records behind
 pub left_undoing : (z : Sizes) (image : ℕ → List ℕ) (log undone : List Record) → IsLeft z image log → IsUndoing log undone → IsLeft z image undone
 left_undoing z image log undone left u = record {
@@ -120,41 +81,7 @@ begun_sound z first last images log undone are pool ended u repeated left =
     (record { superblock = pool.superblock; headers = pool.headers; pages = λ p low high. (fits p low high).fits }))
     (sends_here z images undone pool.range from.whole from.none_unfinished none_lost (redone_slots z undone images from.whole.in_store fits))
 
--- ---- counts
-
--- no number of the pages is beyond the log, once one record more is repeated
-pub counted_more : (z : Sizes) (log : List Record) (r : Record) (old new : Paged) → IsRepeated z log r old new → AreCounted z (length log) old → AreCounted z (length log + 1) new
-counted_more z log r old new one all p low high = by (told_by r) one.redone one.belongs.may.write where
-  n : ℕ
-  n = length log
-
-  kept : (image : List ℕ) → IsCounted z n p image → IsCounted z (n + 1) p image
-  kept image c = record { lsn = omega (arith, c.lsn); slots = λ j a b. (let s = c.slots j a b in omega (arith, s)) }
-
-  by : (w : Option ToldWrite) → Redoes w (n + 1) old.image new.image → IsSoundWrite z (n + 1) w → IsCounted z (n + 1) p (new.image p)
-  by None same sound = subst (IsCounted z (n + 1) p) (sym (same p)) (kept (old.image p) (all p low high))
-  by (Some w) made sound = elim (cases_eq p w.page) [
-    | inr ne ↦ subst (IsCounted z (n + 1) p) (sym (made.others p ne)) (kept (old.image p) (all p low high))
-    | inl same ↦ subst (λ q. IsCounted z (n + 1) q (new.image q)) (sym same) (elim (cases_lt (lsn_of (old.image w.page)) (n + 1)) [
-      | inr ge ↦ subst (IsCounted z (n + 1) w.page) (sym (made.kept ge)) (subst (λ q. IsCounted z (n + 1) q (old.image q)) same (kept (old.image p) (all p low high)))
-      | inl lt ↦ written (subst (λ q. IsCounted z n q (old.image q)) same (all p low high)) (made.made lt)
-    ])
-  ] where
-    written : IsCounted z n w.page (old.image w.page) → IsWritten (old.image w.page) (new.image w.page) w.slot w.after (n + 1) → IsCounted z (n + 1) w.page (new.image w.page)
-    written c is = record {
-      lsn = (let e = is.lsn in omega (arith, e));
-      slots = λ j a b. elim (cases_eq j w.slot) [
-        | inl here ↦ subst (λ m. count_in z w.page (slot_of m (new.image w.page)) ≤ n + 1) (sym here) (subst (λ bytes. count_in z w.page bytes ≤ n + 1) (sym is.slot) sound.count)
-        | inr there ↦ subst (λ bytes. count_in z w.page bytes ≤ n + 1) (sym (is.others j a b there)) (let s = c.slots j a b in omega (arith, s))
-      ];
-    }
-
 -- ---- what is begun
-
--- what was gone through is in order
-pub repeated_order : (z : Sizes) (log : List Record) (first last : Paged) → Repeats z log first last → InOrder log
-repeated_order z [] first last r = tt
-repeated_order z (q ∷ log) first last r = (r.2.belongs.next, repeated_order z log first r.0 r.1)
 
 same_incarnation : (log : List Record) (r : Record) → IsNextUndo (analysis log) r → incarnation_of (r ∷ log) ≡ incarnation_of log
 same_incarnation log r (Voids o s least e) = rw e refl

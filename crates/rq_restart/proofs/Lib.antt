@@ -11,3 +11,6 @@ pub mod Tallying
 pub mod Undos
 pub mod Begun
 pub mod Showing
+pub mod Repeated
+pub mod DueLists
+pub mod Aborts

@@ -59,18 +59,19 @@ pub data IsOnItsWay (base : State) (log : List Record) : Type 0 where
 
 -- Records by which lost transactions are undone came behind the log and were repeated on the pages; a store of which the
 -- one was so is one of which the other is.
-pub record HasGoneOn {P : Type 0} (log now : List Record) (old new : Pooled P) (before after : State → Type 0) : Type 0 where
+pub record HasGoneOn {P : Type 0} (z : Sizes) (log now : List Record) (old new : Pooled P) (before after : State → Type 0)
+    : Type 0 where
   pub aborting : IsAborting log now
-  pub repeated : (first : Paged) → Repeats old.sizes log first (paged old) → Repeats old.sizes now first (paged new)
-  pub counted : AreCounted old.sizes (length log) (paged old) → AreCounted old.sizes (length now) (paged new)
-  pub shown : OfStore old.sizes before after
+  pub repeated : (first : Paged) → Repeats z log first (paged old) → Repeats z now first (paged new)
+  pub counted : AreCounted z (length log) (paged old) → AreCounted z (length now) (paged new)
+  pub shown : OfStore z before after
 
 -- the log with such records behind is at its greatest length, and shows such a store on its way
-pub record IsFull {P : Type 0} (log : List Record) (old : Pooled P) (before : State → Type 0) : Type 0 where
+pub record IsFull (z : Sizes) (log : List Record) (before : State → Type 0) : Type 0 where
   pub last : List Record
   pub aborting : IsAborting log last
   pub full : 2 ^ 50 ≤ length last
-  pub way : OfStore old.sizes before (λ base. IsOnItsWay base last)
+  pub way : OfStore z before (λ base. IsOnItsWay base last)
 
 -- the next such record doesn't belong behind these, or what is to be taken back next cannot be
 pub data IsBadStep (z : Sizes) (first : Paged) (last : List Record) (lsn : ℕ) : Type 0 where
@@ -80,26 +81,31 @@ pub data IsBadStep (z : Sizes) (first : Paged) (last : List Record) (lsn : ℕ) 
 
 -- Damage is told of this record where the next such record doesn't belong there, or what the OpEnd with this LSN tells
 -- cannot be taken back. So it is of no such store.
-pub record IsBadAbort {P : Type 0} (log : List Record) (old : Pooled P) (before : State → Type 0) (lsn : ℕ) : Type 0 where
+pub record IsBadAbort {P : Type 0} (z : Sizes) (log : List Record) (old : Pooled P) (before : State → Type 0) (lsn : ℕ)
+    : Type 0 where
   pub last : List Record
   pub aborting : IsAborting log last
-  pub bad : (first : Paged) → Repeats old.sizes log first (paged old) → IsBadStep old.sizes first last lsn
-  pub none : OfStore old.sizes before (λ base. ⊥)
+  pub bad : (first : Paged) → Repeats z log first (paged old) → IsBadStep z first last lsn
+  pub none : OfStore z before (λ base. ⊥)
 
 -- why lost transactions were not undone
-abbrev pub AbortStops : {P : Type 0} → List Record → Pooled P → (State → Type 0) → Refusal → Type 0
-AbortStops log old before why.NoMemory = Unit {0}
-AbortStops log old before why.LogFull = IsFull log old before
-AbortStops log old before (why.Damaged (damage.Record lsn)) = IsBadAbort log old before lsn
-AbortStops log old before _ = ⊥
+abbrev pub AbortStops : {P : Type 0} → Sizes → List Record → Pooled P → (State → Type 0) → Refusal → Type 0
+AbortStops z log old before why.NoMemory = Unit {0}
+AbortStops z log old before why.LogFull = IsFull z log before
+AbortStops z log old before (why.Damaged (damage.Record lsn)) = IsBadAbort z log old before lsn
+AbortStops z log old before _ = ⊥
 
 -- what is due is told by no deed, or by one of a sender that the store has not
 abbrev pub IsNoDeed : Sizes → Due → Type 0
 IsNoDeed z due = (deed : Deed) → deed_in due.deed ≡ Some deed → sender_count z ≤ deed_sender deed
 
+-- of no sound store with these pages, and with nothing under way, that what is due can be taken back
+abbrev pub IsNotUndone : Sizes → List (List ℕ) → Due → Type 0
+IsNotUndone z images due = (s : State) → IsSound s → s.sizes ≡ z → s.images ≡ images → any_under s.rows ≡ false
+    → In due (dues s.records) → MayBeUndone s (deed_due due) → ⊥
+
 -- why what is due was not planned to be taken back
-abbrev pub PlanStops : {P : Type 0} → Pooled P → Due → Refusal → Type 0
-PlanStops old due why.NoMemory = Unit {0}
-PlanStops old due (why.Damaged (damage.Record lsn)) = (lsn ≡ due.lsn) × ((s : State) → IsSound s → s.sizes ≡ old.sizes
-    → s.images ≡ old.images → any_under s.rows ≡ false → In due (dues s.records) → MayBeUndone s (deed_due due) → ⊥)
-PlanStops old due _ = ⊥
+abbrev pub PlanStops : Sizes → List (List ℕ) → Due → Refusal → Type 0
+PlanStops z images due why.NoMemory = Unit {0}
+PlanStops z images due (why.Damaged (damage.Record lsn)) = (lsn ≡ due.lsn) × IsNotUndone z images due
+PlanStops z images due _ = ⊥

@@ -46,12 +46,12 @@ pub(crate) fn abort_lost<P: PageDevice + Drop, L: LogDevice + Drop>(
 ) -> Result<(), Refusal>
     requires found { AreFindings findings.old log.old.records }
     requires running { log.old.failed ≡ false }
-    ensures gone_on { OnOk result (HasGoneOn log.old.records log.new.records pages.old pages.new
+    ensures gone_on { OnOk result (HasGoneOn pages.old.sizes log.old.records log.new.records pages.old pages.new
         (IsShown log.old.records pages.old) (IsShown log.new.records pages.new)) }
     ensures ended { OnOk result (IsEnded log.new.records) }
     ensures none { OnOk result (IsEnded log.old.records → (log.new.records ≡ log.old.records) × (pages.new ≡ pages.old)) }
     ensures found { OnOk result (AreFindings findings.new log.new.records) }
-    ensures stops { IfErr result (λ e. AbortStops log.old.records pages.old
+    ensures stops { IfErr result (λ e. AbortStops pages.old.sizes log.old.records pages.old
         (IsShown log.old.records pages.old) e) }
     ensures sizes { pages.new.sizes ≡ pages.old.sizes }
     ensures device { pages.new.device ≡ pages.old.device }
@@ -74,11 +74,11 @@ fn end_idle<P: PageDevice + Drop, L: LogDevice + Drop>(
 ) -> Result<(), Refusal>
     requires found { AreFindings findings.old log.old.records }
     requires running { log.old.failed ≡ false }
-    ensures gone_on { OnOk result (HasGoneOn log.old.records log.new.records pages.old pages.new
+    ensures gone_on { OnOk result (HasGoneOn pages.old.sizes log.old.records log.new.records pages.old pages.new
         (IsShown log.old.records pages.old) (IsShown log.new.records pages.new)) }
     ensures none { OnOk result (least_free findings.new.dues findings.new.history.working ≡ None) }
     ensures found { OnOk result (AreFindings findings.new log.new.records) }
-    ensures stops { IfErr result (λ e. AbortStops log.old.records pages.old
+    ensures stops { IfErr result (λ e. AbortStops pages.old.sizes log.old.records pages.old
         (IsShown log.old.records pages.old) e) }
     ensures sizes { pages.new.sizes ≡ pages.old.sizes }
     ensures device { pages.new.device ≡ pages.old.device }
@@ -102,11 +102,11 @@ fn take_back_all<P: PageDevice + Drop, L: LogDevice + Drop>(
     requires found { AreFindings findings.old log.old.records }
     requires none { least_free findings.old.dues findings.old.history.working ≡ None }
     requires running { log.old.failed ≡ false }
-    ensures gone_on { OnOk result (HasGoneOn log.old.records log.new.records pages.old pages.new
+    ensures gone_on { OnOk result (HasGoneOn pages.old.sizes log.old.records log.new.records pages.old pages.new
         (IsShown log.old.records pages.old) (IsShown log.new.records pages.new)) }
     ensures ended { OnOk result (IsEnded log.new.records) }
     ensures found { OnOk result (AreFindings findings.new log.new.records) }
-    ensures stops { IfErr result (λ e. AbortStops log.old.records pages.old
+    ensures stops { IfErr result (λ e. AbortStops pages.old.sizes log.old.records pages.old
         (IsShown log.old.records pages.old) e) }
     ensures sizes { pages.new.sizes ≡ pages.old.sizes }
     ensures device { pages.new.device ≡ pages.old.device }
@@ -135,12 +135,12 @@ fn take_back<P: PageDevice + Drop, L: LogDevice + Drop>(
     requires none { least_free findings.old.dues findings.old.history.working ≡ None }
     requires first { (older : List Due) × (findings.old.dues ≡ due.now ∷ older) }
     requires running { log.old.failed ≡ false }
-    ensures gone_on { OnOk result (HasGoneOn log.old.records log.new.records pages.old pages.new
+    ensures gone_on { OnOk result (HasGoneOn pages.old.sizes log.old.records log.new.records pages.old pages.new
         (IsShown log.old.records pages.old) (IsShown log.new.records pages.new)) }
     ensures rest { OnOk result (findings.old.dues ≡ due.now ∷ findings.new.dues) }
     ensures working { OnOk result (findings.new.history.working ≡ findings.old.history.working) }
     ensures found { OnOk result (AreFindings findings.new log.new.records) }
-    ensures stops { IfErr result (λ e. AbortStops log.old.records pages.old
+    ensures stops { IfErr result (λ e. AbortStops pages.old.sizes log.old.records pages.old
         (IsShown log.old.records pages.old) e) }
     ensures sizes { pages.new.sizes ≡ pages.old.sizes }
     ensures device { pages.new.device ≡ pages.old.device }
@@ -175,13 +175,13 @@ fn make_all<P: PageDevice + Drop, L: LogDevice + Drop>(
     requires number { 0 < operation }
     requires slots { AreSlotWrites pages.old.sizes writes.now }
     requires running { log.old.failed ≡ false }
-    ensures gone_on { OnOk result (HasGoneOn log.old.records log.new.records pages.old pages.new
+    ensures gone_on { OnOk result (HasGoneOn pages.old.sizes log.old.records log.new.records pages.old pages.new
         (IsShownWithin log.old.records pages.old due.now operation writes.now 0)
         (IsShownWithin log.new.records pages.new due.now operation writes.now (length writes.now))) }
     ensures rest { OnOk result ((findings.new.dues ≡ findings.old.dues)
         × (findings.new.history.working ≡ findings.old.history.working)) }
     ensures found { OnOk result (AreFindings findings.new log.new.records) }
-    ensures stops { IfErr result (λ e. AbortStops log.old.records pages.old
+    ensures stops { IfErr result (λ e. AbortStops pages.old.sizes log.old.records pages.old
         (IsShownWithin log.old.records pages.old due.now operation writes.now 0) e) }
     ensures sizes { pages.new.sizes ≡ pages.old.sizes }
     ensures device { pages.new.device ≡ pages.old.device }
@@ -215,7 +215,7 @@ fn plan<P: PageDevice>(alloc: Global, pages: &Pages<P>, due: &Due) -> Result<Vec
     ensures plan { IfOk result (λ writes. IsPlannedFrom pages.now.sizes (slots_in pages.now.sizes pages.now.images)
         writes.items (Undid (deed_due due.now))) }
     ensures slots { IfOk result (λ writes. AreSlotWrites pages.now.sizes writes.items) }
-    ensures stops { IfErr result (λ e. PlanStops pages.now due.now e) }
+    ensures stops { IfErr result (λ e. PlanStops pages.now.sizes pages.now.images due.now e) }
 {
     let Some(deed) = deed_in_store(pages, due) else {
         return Err(Refusal::Damaged(Damage::Record(due.lsn)));

@@ -1,8 +1,9 @@
 //! Records that a restart makes behind the log that it read.
-ghost use Rattle.std.specs.Prelude.{◌≡◌, ◌∷◌, ◌+◌, IfErr, OnOk, false, length};
+ghost use Rattle.std.specs.Prelude.{◌≡◌, ◌∷◌, ◌+◌, IfErr, OnOk, None, false, length};
 ghost use Rattle.rq_log.specs.Spelled.{AreSpelled};
 ghost use Rattle.rq_pool.specs.Pooled.{IsPool};
 ghost use Rattle.rq_record.specs.Spelling.{IsInRange};
+ghost use Rattle.rq_store.specs.Fitting.{told_by};
 ghost use Rattle.rq_restart.specs.Found.{AreFindings};
 ghost use Rattle.rq_restart.specs.Repeating.{Belongs, IsRepeated, paged};
 ghost use Rattle.rq_restart.specs.Undoing.{StepStops};
@@ -36,6 +37,7 @@ pub(crate) fn append<P: PageDevice + Drop, L: LogDevice + Drop>(
     ensures repeated { OnOk result (IsRepeated pages.old.sizes log.old.records undo.now (paged pages.old)
         (paged pages.new)) }
     ensures pool { OnOk result (IsPool pages.new.sizes pages.new.images) }
+    ensures same { OnOk result (told_by undo.now ≡ None → pages.new ≡ pages.old) }
     ensures stops { IfErr result (λ e. StepStops (length log.old.records)
         (Belongs pages.old.sizes log.old.records undo.now (paged pages.old)) e) }
     ensures sizes { pages.new.sizes ≡ pages.old.sizes }
@@ -60,8 +62,8 @@ pub(crate) fn append<P: PageDevice + Drop, L: LogDevice + Drop>(
     Ok(())
 }
 
-// That the pages are those of a store.
-fn shows_pool<P: PageDevice>(pages: &Pages<P>)
+/// That the pages are those of a store.
+pub(crate) fn shows_pool<P: PageDevice>(pages: &Pages<P>)
     ensures { IsPool pages.now.sizes pages.now.images }
 {
     pages.layout();

@@ -1,5 +1,5 @@
 //! Going through a log: each slot write that is not on its page yet is made there.
-ghost use Rattle.std.specs.Prelude.{◌≡◌, ◌↔◌, ◌≤◌, ◌<◌, ◌+◌, ℕ, List, IsTrue, false, IfOk, IfErr, IfSome, IfNone, OnOk, length, reverse};
+ghost use Rattle.std.specs.Prelude.{◌≡◌, ◌↔◌, ◌≤◌, ◌<◌, ◌+◌, ℕ, List, IsTrue, None, false, IfOk, IfErr, IfSome, IfNone, OnOk, length, reverse};
 ghost use Rattle.rq_page.specs.Sizes.{page_count};
 ghost use Rattle.rq_page.specs.Pages.{lsn_of, slot_of};
 ghost use Rattle.rq_page.specs.Slots.{IsSlotOf};
@@ -111,6 +111,7 @@ pub(crate) fn repeat<P: PageDevice + Drop>(pages: &mut Pages<P>, lsn: Lsn, recor
     ensures redone { IsTrue result → Redoes (told_by «record».now) lsn (image_in pages.old.images)
         (image_in pages.new.images) }
     ensures marked { IsTrue result → Marks (told_by «record».now) lsn (paged pages.old) pages.new.changed }
+    ensures same { told_by «record».now ≡ None → pages.new ≡ pages.old }
     ensures checked { IsTrue result → MayRedo pages.old.sizes (image_in pages.old.images) lsn «record».now }
     ensures refused { result ≡ false → MayRedo pages.old.sizes (image_in pages.old.images) lsn «record».now → ⊥ }
     ensures sizes { pages.new.sizes ≡ pages.old.sizes }

@@ -1,11 +1,12 @@
 //! Undoing operations that have no end, slot by slot.
 ghost use Rattle.std.specs.Prelude.{◌≡◌, IfErr, OnOk, false, length};
+ghost use Rattle.rq_pool.specs.Pooled.{IsPool};
 ghost use Rattle.rq_undone.specs.Pages.{IsUndone};
 ghost use Rattle.rq_restart.specs.Found.{AreFindings};
 ghost use Rattle.rq_restart.specs.Repeating.{AreCounted, Paged, Repeats, paged};
 ghost use Rattle.rq_restart.specs.Undoing.{UndoStops};
 
-use crate::appending::append;
+use crate::appending::{append, shows_pool};
 use crate::findings::Findings;
 use rq_disk::{LogDevice, PageDevice};
 use rq_log::Log;
@@ -31,6 +32,7 @@ pub(crate) fn undo_unfinished<P: PageDevice + Drop, L: LogDevice + Drop>(
         → Repeats pages.old.sizes log.new.records first (paged pages.new)) }
     ensures counted { OnOk result (AreCounted pages.old.sizes (length log.old.records) (paged pages.old)
         → AreCounted pages.old.sizes (length log.new.records) (paged pages.new)) }
+    ensures pool { OnOk result (IsPool pages.new.sizes pages.new.images) }
     ensures stops { IfErr result (λ e. (first : Paged) → Repeats pages.old.sizes log.old.records first (paged pages.old)
         → UndoStops pages.old.sizes log.old.records first e) }
     ensures sizes { pages.new.sizes ≡ pages.old.sizes }
@@ -42,5 +44,6 @@ pub(crate) fn undo_unfinished<P: PageDevice + Drop, L: LogDevice + Drop>(
     while let Some(undo) = findings.history.next_undo() {
         append(pages, log, findings, &undo)?;
     }
+    shows_pool(pages);
     Ok(())
 }
