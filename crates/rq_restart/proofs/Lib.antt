@@ -14,3 +14,4 @@ pub mod Showing
 pub mod Repeated
 pub mod DueLists
 pub mod Aborts
+pub mod Rounds
