@@ -83,7 +83,8 @@ pub fn turns_are_chosen()
     ensures { TurnsAreChosen }
 {}
 
-/// The number of a transaction's next operation is told by a list that the records of the log make.
+/// The number of a transaction's next operation is told by a list that the records of the log make, in which no
+/// transaction stands twice.
 pub fn numbers_are_kept()
     ensures { NumbersAreKept }
 {}
