@@ -16,3 +16,4 @@ pub mod Choosing
 pub mod Numbering
 pub mod Recovering
 pub mod Walking
+pub mod Logging

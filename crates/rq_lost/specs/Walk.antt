@@ -15,6 +15,7 @@ use Rattle.rq_txn.specs.declared.Aim.TheVariants as aims
 use Rattle.rq_txn.specs.Rows.{Row, any_under, found_row, without_row}
 use Rattle.rq_store.specs.State.{State}
 use Rattle.rq_store.specs.Steps.{page_op}
+use Rattle.rq_store.specs.Whole.{IsWhole}
 use Rattle.rq_sound.specs.Calls.{IsPutIn}
 use Rattle.rq_sound.specs.Plans.{IsPlannedFrom}
 use Rattle.rq_sound.specs.Rows.{comp_end}
@@ -83,6 +84,24 @@ pub record AbortsGoOn : Type 0 where
   -- where there is none, and nothing is due, all are undone
   pub done : (base : State) (images : List (List ℕ)) (log : List Record) (k : IsBetween base images log) → IsSound base
       → least_free (dues log) (lost log) ≡ None → dues log ≡ [] → (newest_store base k.stores).rows ≡ []
+
+-- The log of a program on its way is whole, and stays so by the record that is next, whether or not the pages follow.
+pub record LogsOnTheWayAreWhole : Type 0 where
+  pub between : (base : State) (images : List (List ℕ)) (log : List Record) → IsSound base
+      → IsBetween base images log → IsWhole base.sizes log
+  pub within : (base : State) (images : List (List ℕ)) (log : List Record) (t : Txn) (n lsn : ℕ) (deed : Deed)
+      (ws : List SlotWrite) (made : ℕ) → IsSound base → IsWithin base images log t n lsn deed ws made
+      → IsWhole base.sizes log
+  pub writes : (base : State) (images : List (List ℕ)) (log : List Record) (t : Txn) (n lsn : ℕ) (deed : Deed)
+      (ws : List SlotWrite) (made : ℕ) (w : SlotWrite) → IsSound base
+      → IsWithin base images log t n lsn deed ws made → slice_get ws made ≡ Some w
+      → IsSlotOf base.sizes (w.at / 16) (w.at % 16) w.before → IsSlotOf base.sizes (w.at / 16) (w.at % 16) w.after
+      → IsWhole base.sizes (page_op t n w ∷ log)
+  pub closes : (base : State) (images : List (List ℕ)) (log : List Record) (t : Txn) (n lsn : ℕ) (deed : Deed)
+      (ws : List SlotWrite) → IsSound base → IsWithin base images log t n lsn deed ws (length ws)
+      → IsWhole base.sizes (comp_end t n lsn ∷ log)
+  pub ends : (base : State) (images : List (List ℕ)) (log : List Record) (t : Txn) → IsSound base
+      → IsBetween base images log → least_free (dues log) (lost log) ≡ Some t → IsWhole base.sizes (AbortEnd t ∷ log)
 
 -- what is left, as a program counts it
 abbrev pub rounds_left : List Record → ℕ

@@ -12,7 +12,7 @@ ghost use Rattle.rq_lost.specs.Dues.{DuesAreNext};
 ghost use Rattle.rq_lost.specs.Numbers.{NumbersAreKept};
 ghost use Rattle.rq_lost.specs.Recovered.{RecoveredLogsAreWhole};
 ghost use Rattle.rq_lost.specs.Theorems.{AbortedLogsAreSettled, AbortsEnd, AbortsHaveTurns, AbortsKeepLogsWhole, AbortsMayStop, InversesAreFound, LostStoresAreSound, LostStoresOpen, SettledStoresHaveEnded, StopsAreRepeated};
-ghost use Rattle.rq_lost.specs.Walk.{AbortsComeToAnEnd, AbortsGoOn};
+ghost use Rattle.rq_lost.specs.Walk.{AbortsComeToAnEnd, AbortsGoOn, LogsOnTheWayAreWhole};
 ghost use Rattle.rq_lost.specs.Worked.{InversesAreJudged, LostAreJudged, StopsAreJudged, TurnsAreJudged, TwoAreJudged};
 ghost use Rattle.rq_lost.specs.WorkedMoves.{MovesAreJudged};
 
@@ -98,6 +98,11 @@ pub fn aborts_go_on()
 /// It sets out where history is repeated, and comes to an end, at which the log is recovered.
 pub fn aborts_come_to_an_end()
     ensures { AbortsComeToAnEnd }
+{}
+
+/// At each moment its log is whole, and stays so by the record that is next.
+pub fn logs_on_the_way_are_whole()
+    ensures { LogsOnTheWayAreWhole }
 {}
 
 /// A log that a restart recovers is whole, with the content that it had, and nothing is unfinished or lost in it; wherever
