@@ -17,3 +17,4 @@ pub mod Numbering
 pub mod Recovering
 pub mod Walking
 pub mod Logging
+pub mod WorkedWalk

@@ -15,6 +15,7 @@ ghost use Rattle.rq_lost.specs.Theorems.{AbortedLogsAreSettled, AbortsEnd, Abort
 ghost use Rattle.rq_lost.specs.Walk.{AbortsComeToAnEnd, AbortsGoOn, LogsOnTheWayAreWhole};
 ghost use Rattle.rq_lost.specs.Worked.{InversesAreJudged, LostAreJudged, StopsAreJudged, TurnsAreJudged, TwoAreJudged};
 ghost use Rattle.rq_lost.specs.WorkedMoves.{MovesAreJudged};
+ghost use Rattle.rq_lost.specs.WorkedWalk.{WalksAreJudged};
 
 pub use choices::next_end;
 pub use dues::{Due, Dues};
@@ -129,6 +130,11 @@ pub fn stops_are_judged()
 /// Worked: what undoes it, move by move.
 pub fn moves_are_judged()
     ensures { MovesAreJudged }
+{}
+
+/// Worked: the same moves, as a program's pages and log show them.
+pub fn walks_are_judged()
+    ensures { WalksAreJudged }
 {}
 
 /// Worked: two transactions are left to be undone.
