@@ -18,3 +18,4 @@ pub mod Recovering
 pub mod Walking
 pub mod Logging
 pub mod WorkedWalk
+pub mod Planning

@@ -12,7 +12,7 @@ ghost use Rattle.rq_lost.specs.Dues.{DuesAreNext};
 ghost use Rattle.rq_lost.specs.Numbers.{NumbersAreKept};
 ghost use Rattle.rq_lost.specs.Recovered.{RecoveredLogsAreWhole};
 ghost use Rattle.rq_lost.specs.Theorems.{AbortedLogsAreSettled, AbortsEnd, AbortsHaveTurns, AbortsKeepLogsWhole, AbortsMayStop, InversesAreFound, LostStoresAreSound, LostStoresOpen, SettledStoresHaveEnded, StopsAreRepeated};
-ghost use Rattle.rq_lost.specs.Walk.{AbortsComeToAnEnd, AbortsGoOn, LogsOnTheWayAreWhole};
+ghost use Rattle.rq_lost.specs.Walk.{AbortsComeToAnEnd, AbortsGoOn, DuesCanBeUndone, LogsOnTheWayAreWhole};
 ghost use Rattle.rq_lost.specs.Worked.{InversesAreJudged, LostAreJudged, StopsAreJudged, TurnsAreJudged, TwoAreJudged};
 ghost use Rattle.rq_lost.specs.WorkedMoves.{MovesAreJudged};
 ghost use Rattle.rq_lost.specs.WorkedWalk.{WalksAreJudged};
@@ -99,6 +99,11 @@ pub fn aborts_go_on()
 /// It sets out where history is repeated, and comes to an end, at which the log is recovered.
 pub fn aborts_come_to_an_end()
     ensures { AbortsComeToAnEnd }
+{}
+
+/// What is due first tells a deed of a sender that the store has, and may be undone in a sound store with these pages.
+pub fn dues_can_be_undone()
+    ensures { DuesCanBeUndone }
 {}
 
 /// At each moment its log is whole, and stays so by the record that is next.
