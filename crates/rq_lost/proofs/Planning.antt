@@ -1,5 +1,5 @@
 -- What is due first can be taken back.
-use Rattle.std.proofs.Common.{◌≡◌, ◌<◌, ℕ, ◌+◌, not, List, [], ◌∷◌, length, Option, Some, None, false, inl, inr, refl, sym, ◌∙◌, ap, subst}
+use Rattle.std.proofs.Common.{◌≡◌, ◌<◌, ℕ, not, List, [], ◌∷◌, Option, Some, None, inl, inr, sym, ◌∙◌, ap, subst}
 use Rattle.std.proofs.lemmas.Bool.{cases_Bool}
 use Rattle.rq_model.specs.declared.record.Deed.{Deed}
 use Rattle.rq_model.specs.declared.record.Record.{Record}
@@ -21,7 +21,7 @@ use Rattle.rq_sound.specs.Sound.{IsSound}
 use Rattle.rq_sound.proofs.Groups.{none_latched}
 use Rattle.rq_lost.specs.declared.dues.Due.{Due}
 use Rattle.rq_lost.specs.Choices.{least_free}
-use Rattle.rq_lost.specs.Dues.{but_newest, but_own, deed_due, due_of, dues, finished_due}
+use Rattle.rq_lost.specs.Dues.{but_newest, deed_due, due_of, dues, finished_due}
 use Rattle.rq_lost.specs.Moves.{newest_store}
 use Rattle.rq_lost.specs.Walk.{DuesCanBeUndone, IsBetween, ShowsUndone}
 use Rattle.rq_lost.proofs.Choosing.{chosen_back}

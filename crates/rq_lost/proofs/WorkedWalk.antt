@@ -6,7 +6,7 @@ use Rattle.rq_model.specs.declared.record.Record.TheVariants.{AbortEnd}
 use Rattle.rq_model.specs.declared.txn.Txn.{Txn}
 use Rattle.rq_model.specs.Words.{In}
 use Rattle.rq_views.specs.Items.{items, operation}
-use Rattle.rq_views.specs.Legal.{Placed, open_deeds, under_way}
+use Rattle.rq_views.specs.Legal.{Placed, open_deeds, under_way, view}
 use Rattle.rq_views.specs.Numbers.{greatest}
 use Rattle.rq_views.specs.WorkedItems.{sizes, t1, t2, sends, takes}
 use Rattle.rq_level.specs.declared.writes.SlotWrite.{SlotWrite}
@@ -17,15 +17,18 @@ use Rattle.rq_store.specs.State.{State}
 use Rattle.rq_store.proofs.Holders.{placed_more}
 use Rattle.rq_store.proofs.Others.{none_of}
 use Rattle.rq_store.proofs.RowLists.{found_in, none_under}
+use Rattle.rq_store.specs.Whole.{IsWhole}
 use Rattle.rq_sound.specs.Sound.{IsSound}
 use Rattle.rq_sound.specs.Standing.{IsAsPlanned, IsRow}
+use Rattle.rq_sound.proofs.Spelt as spelt
 use Rattle.rq_lost.specs.Moves.{newest_store}
 use Rattle.rq_lost.specs.Turns.{AreAborting}
-use Rattle.rq_lost.specs.Walk.{IsBetween, IsCome, IsWithin}
-use Rattle.rq_lost.specs.Worked.{log_two, store_two}
-use Rattle.rq_lost.specs.WorkedMoves.{AreMade, Pages, cell_is_back, ended, group_is_back, put_back, row_back, row_empty, started_back, stores_of, unlinked}
+use Rattle.rq_lost.specs.Walk.{IsBetween, IsCome, IsWithin, ShowsUndone}
+use Rattle.rq_lost.specs.Worked.{log_two, sent_due, store_two, took_due}
+use Rattle.rq_lost.specs.WorkedMoves.{AreMade, Pages, cell_back, cell_is_back, ended, group_is_back, put_back, row_back, row_empty, started_back, stores_of, unlinked}
 use Rattle.rq_lost.specs.WorkedWalk.{WalksAreJudged}
-use Rattle.rq_lost.proofs.Logging.{come_sizes, come_sound, come_whole}
+use Rattle.rq_lost.proofs.Logging.{come_sizes, come_sound, come_whole, write_whole}
+use Rattle.rq_lost.proofs.Planning.{due_may}
 use Rattle.rq_lost.proofs.Recovering.{recovering_stops}
 use Rattle.rq_lost.proofs.Walking.{aborts_come, aborts_go_on}
 use Rattle.rq_lost.proofs.Worked.{repeats, sounds, stops_judged, whole}
@@ -56,6 +59,15 @@ module _ (base : State) (stores : List State) (images : List (List ℕ)) (log : 
           let idle = none_of r.under (none_under s.rows r off i.0) in
           subst (λ (u : Txn). under_way (operation u n) (items s.sizes s.records) ≡ false) i.1
           (((come_sound base stores images log k c).standing.each r i.0).idle n (ap (is_under n) idle))
+
+ended_early : IsWhole sizes (AbortEnd t2 ∷ log_two) → ⊥
+ended_early w = (let e = w.legal.0.empty in cc e)
+
+none_taken : (images : List (List ℕ)) → ShowsUndone sizes images log_two (takes 15) → ⊥
+none_taken images h =
+    let e : (view (items h.store.sizes h.store.records) 15).received ≡ 0 = ap (λ (l : List Record). (view (items h.store.sizes l) 15).received) h.records_are ∙ ap (λ z. (view (items z log_two) 15).received) h.stands.sizes in
+    let a = h.may.0 in
+    absurd (omega (arith, a, e))
 
 module _ (v : Pages) (m : AreMade v) where
   abbrev base : State
@@ -110,11 +122,6 @@ module _ (v : Pages) (m : AreMade v) where
   at_end : IsBetween base v.fourth (ended v).records
   at_end = aborts_go_on.ends base v.fourth (unlinked v).records t2 sound all_back refl
 
-  gone : (images : List (List ℕ)) → IsBetween base images (AbortEnd t2 ∷ log_two) → ⊥
-  gone images h =
-      let e = (come_whole base h.stores images (AbortEnd t2 ∷ log_two) sound h.come).legal.0.empty in
-      cc e
-
   -- what the row with the inverse has
   module _ (images : List (List ℕ)) (t : Txn) (n lsn : ℕ) (d : Deed) (ws : List SlotWrite) (made : ℕ) (h : IsWithin base images log_two t n lsn d ws made) where
     abbrev u : Under
@@ -161,8 +168,12 @@ walks_judged = record {
   recovering = λ v m. aborts_come.within sizes log_two log_two v.start 11 v.first (cell_is_back v).records t2 3 11 (takes 0) put_back.writes 1 (undone v m) (repeats v.start m.start) (one_made v m);
   recovered = λ v m. aborts_come.recovered sizes log_two log_two v.start 11 v.fourth (ended v).records (undone v m) (repeats v.start m.start) (at_end v m) refl refl;
   no_commit = λ h. stops_judged.committed (recovering_stops sizes log_two _ 0 whole h (omega arith));
+  may_be = λ v m. due_may (store_two v.start) v.start log_two took_due (sent_due ∷ []) (sound v m) (aborts_come.first sizes v.start log_two 11) refl refl;
+  not_taken = none_taken;
+  stays_whole = λ v m. write_whole (store_two v.start) v.start log_two t2 3 11 (takes 0) put_back.writes 0 cell_back (sound v m) (begun v m) refl (spelt.told 49 _ spelt.free_a).1 (spelt.told 49 _ spelt.used_a).1;
+  not_whole = ended_early;
   not_between = λ v images m h. (let e = nobody (store_two v.start) h.stores images (cell_is_back v).records (sound v m) h.come h.idle t2 3 in cc e);
-  not_gone = λ v images m h. gone v m images h;
+  not_gone = λ v images m h. ended_early (come_whole (store_two v.start) h.stores images (AbortEnd t2 ∷ log_two) (sound v m) h.come);
   not_older = λ v images n made ws m h. (let e : 11 ≡ 8 = ap newest_lsn (newest v m images t2 n 8 (sends 15) ws made h).1 in omega (arith, e));
   not_other = λ v images n lsn made d ws m h. (let e = (newest v m images t1 n lsn d ws made h).1 in cc e);
   not_next = λ v images lsn d ws m h. (let e = numbered v m images t2 4 lsn d ws 0 h in omega (arith, e));

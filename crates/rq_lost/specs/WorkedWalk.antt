@@ -5,10 +5,11 @@ use Rattle.rq_model.specs.declared.record.Record.TheVariants.{AbortEnd, Commit}
 use Rattle.rq_model.specs.Unended.{lost}
 use Rattle.rq_views.specs.WorkedItems.{sizes, t1, t2, sends, takes}
 use Rattle.rq_level.specs.declared.writes.SlotWrite.{SlotWrite}
+use Rattle.rq_store.specs.Whole.{IsWhole}
 use Rattle.rq_lost.specs.Choices.{least_free}
 use Rattle.rq_lost.specs.Dues.{dues}
 use Rattle.rq_lost.specs.Recovered.{IsRecovered, IsRecovering}
-use Rattle.rq_lost.specs.Walk.{IsBetween, IsWithin, rounds_left}
+use Rattle.rq_lost.specs.Walk.{IsBetween, IsWithin, ShowsUndone, rounds_left}
 use Rattle.rq_lost.specs.Worked.{log_two, store_two}
 use Rattle.rq_lost.specs.WorkedMoves.{AreMade, Pages, back, cell_is_back, ended, group_is_back, put_back, unlinked}
 
@@ -34,6 +35,12 @@ pub record WalksAreJudged : Type 0 where
   pub recovering : (v : Pages) → AreMade v → IsRecovering sizes log_two (cell_is_back v).records
   pub recovered : (v : Pages) → AreMade v → IsRecovered sizes log_two (ended v).records
   pub no_commit : IsRecovering sizes log_two (Commit t2 ∷ log_two) → ⊥
+  -- What t2 took may be undone, and no message of sender 15 was taken. Once the first write has its record the log is
+  -- whole; it is not where t2 ends before all is taken back.
+  pub may_be : (v : Pages) → AreMade v → ShowsUndone sizes v.start log_two (takes 0)
+  pub not_taken : (images : List (List ℕ)) → ShowsUndone sizes images log_two (takes 15) → ⊥
+  pub stays_whole : (v : Pages) → AreMade v → IsWhole sizes (cell_is_back v).records
+  pub not_whole : IsWhole sizes (AbortEnd t2 ∷ log_two) → ⊥
   -- Not between two inverses where a write of one is made; nor where t2 ended before all was taken back.
   pub not_between : (v : Pages) (images : List (List ℕ)) → AreMade v
       → IsBetween (store_two v.start) images (cell_is_back v).records → ⊥
