@@ -1,5 +1,5 @@
 -- What is due first can be taken back.
-use Rattle.std.proofs.Common.{◌≡◌, ◌<◌, ℕ, not, List, [], ◌∷◌, Option, Some, None, inl, inr, sym, ◌∙◌, ap, subst}
+use Rattle.std.proofs.Common.{◌≡◌, ◌<◌, ℕ, not, List, [], ◌∷◌, Option, Some, None, inl, inr, false, sym, ◌∙◌, ap, subst}
 use Rattle.std.proofs.lemmas.Bool.{cases_Bool}
 use Rattle.rq_model.specs.declared.record.Deed.{Deed}
 use Rattle.rq_model.specs.declared.record.Record.{Record}
@@ -13,12 +13,14 @@ use Rattle.rq_page.specs.Sizes.{Sizes, sender_count}
 use Rattle.rq_views.specs.InStore.{InStore}
 use Rattle.rq_views.specs.Items.{ReadsItsDeeds, told_deed}
 use Rattle.rq_views.specs.Plans.{deed_sender}
+use Rattle.rq_txn.specs.Rows.{any_under}
 use Rattle.rq_store.specs.State.{State}
 use Rattle.rq_store.specs.Whole.{IsWhole}
 use Rattle.rq_store.proofs.Others.{none_of}
 use Rattle.rq_store.proofs.RowLists.{found_here, none_under}
 use Rattle.rq_sound.specs.Sound.{IsSound}
 use Rattle.rq_sound.proofs.Groups.{none_latched}
+use Rattle.rq_inverses.specs.Inverses.{StandsOn}
 use Rattle.rq_lost.specs.declared.dues.Due.{Due}
 use Rattle.rq_lost.specs.Choices.{least_free}
 use Rattle.rq_lost.specs.Dues.{but_newest, deed_due, due_of, dues, finished_due}
@@ -56,6 +58,10 @@ reads_in z (records.Restart j ∷ log) d r s i = reads_in z log d r.1 s.1 i
 pub due_reads : (z : Sizes) (log : List Record) (d : Due) → IsWhole z log → In d (dues log) → (deed_in d.deed ≡ Some (deed_due d)) × (deed_sender (deed_due d) < sender_count z)
 due_reads z log d w i = reads_in z log d w.reads w.in_store i
 
+-- a store with nothing under way stands on its pages with no rows
+pub stands_idle : (s : State) (z : Sizes) (pages : List (List ℕ)) → s.sizes ≡ z → s.images ≡ pages → any_under s.rows ≡ false → StandsOn s z pages []
+stands_idle s z pages sizes images idle = record { sizes = sizes; images = images; latches = λ p. none_latched s.rows p idle }
+
 pub due_may : (base : State) (images : List (List ℕ)) (log : List Record) (d : Due) (ds : List Due) → IsSound base → IsBetween base images log → least_free (dues log) (lost log) ≡ None → dues log ≡ d ∷ ds
     → ShowsUndone base.sizes images log (deed_due d)
 due_may base images log d ds k b none first =
@@ -65,7 +71,7 @@ due_may base images log d ds k b none first =
     record {
       store = s;
       sound = sound;
-      stands = record { sizes = come_sizes base b.stores images log k b.come; images = b.come.images_are; latches = λ p. none_latched s.rows p b.idle };
+      stands = stands_idle s base.sizes images (come_sizes base b.stores images log k b.come) b.come.images_are b.idle;
       records_are = b.come.records_are;
       idle = b.idle;
       may = may_be_undone s h.0 h.1 (finished_due d) sound
