@@ -16,3 +16,6 @@ pub mod Choosing
 pub mod Numbering
 pub mod Recovering
 pub mod Walking
+pub mod Logging
+pub mod WorkedWalk
+pub mod Planning

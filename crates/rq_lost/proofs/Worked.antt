@@ -49,7 +49,7 @@ repeats images h = record {
   fits = h.fits;
 }
 
-sounds : (images : List (List ℕ)) → AreRepeated images → IsSound (store_two images)
+pub sounds : (images : List (List ℕ)) → AreRepeated images → IsSound (store_two images)
 sounds images h = lost_sound sizes images log_two 11 (repeats images h)
 
 pub lost_judged : LostAreJudged

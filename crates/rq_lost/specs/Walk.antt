@@ -5,9 +5,12 @@ use Rattle.rq_model.specs.declared.record.Deed.{Deed}
 use Rattle.rq_model.specs.declared.record.Record.{Record}
 use Rattle.rq_model.specs.declared.record.Record.TheVariants.{AbortEnd}
 use Rattle.rq_model.specs.declared.txn.Txn.{Txn}
+use Rattle.rq_model.specs.Deeds.{deed_in}
 use Rattle.rq_model.specs.Unended.{lost}
-use Rattle.rq_page.specs.Sizes.{Sizes}
+use Rattle.rq_model.specs.Words.{In}
+use Rattle.rq_page.specs.Sizes.{Sizes, sender_count}
 use Rattle.rq_page.specs.Slots.{IsSlotOf}
+use Rattle.rq_views.specs.Plans.{deed_sender}
 use Rattle.rq_views.specs.Plans.Turn.{Undid}
 use Rattle.rq_views.specs.Stored.{slots_in}
 use Rattle.rq_level.specs.declared.writes.SlotWrite.{SlotWrite}
@@ -15,10 +18,12 @@ use Rattle.rq_txn.specs.declared.Aim.TheVariants as aims
 use Rattle.rq_txn.specs.Rows.{Row, any_under, found_row, without_row}
 use Rattle.rq_store.specs.State.{State}
 use Rattle.rq_store.specs.Steps.{page_op}
+use Rattle.rq_store.specs.Whole.{IsWhole}
 use Rattle.rq_sound.specs.Calls.{IsPutIn}
 use Rattle.rq_sound.specs.Plans.{IsPlannedFrom}
 use Rattle.rq_sound.specs.Rows.{comp_end}
 use Rattle.rq_sound.specs.Sound.{IsSound}
+use Rattle.rq_inverses.specs.Inverses.{MayBeUndone, StandsOn}
 use Rattle.rq_undone.specs.Pages.{IsUndone}
 use Rattle.rq_lost.specs.declared.dues.Due.{Due}
 use Rattle.rq_lost.specs.Choices.{AreLost, least_free}
@@ -83,6 +88,42 @@ pub record AbortsGoOn : Type 0 where
   -- where there is none, and nothing is due, all are undone
   pub done : (base : State) (images : List (List ℕ)) (log : List Record) (k : IsBetween base images log) → IsSound base
       → least_free (dues log) (lost log) ≡ None → dues log ≡ [] → (newest_store base k.stores).rows ≡ []
+
+-- The log of a program on its way is whole, and stays so by the record that is next, whether or not the pages follow.
+pub record LogsOnTheWayAreWhole : Type 0 where
+  pub between : (base : State) (images : List (List ℕ)) (log : List Record) → IsSound base
+      → IsBetween base images log → IsWhole base.sizes log
+  pub within : (base : State) (images : List (List ℕ)) (log : List Record) (t : Txn) (n lsn : ℕ) (deed : Deed)
+      (ws : List SlotWrite) (made : ℕ) → IsSound base → IsWithin base images log t n lsn deed ws made
+      → IsWhole base.sizes log
+  pub writes : (base : State) (images : List (List ℕ)) (log : List Record) (t : Txn) (n lsn : ℕ) (deed : Deed)
+      (ws : List SlotWrite) (made : ℕ) (w : SlotWrite) → IsSound base
+      → IsWithin base images log t n lsn deed ws made → slice_get ws made ≡ Some w
+      → IsSlotOf base.sizes (w.at / 16) (w.at % 16) w.before → IsSlotOf base.sizes (w.at / 16) (w.at % 16) w.after
+      → IsWhole base.sizes (page_op t n w ∷ log)
+  pub closes : (base : State) (images : List (List ℕ)) (log : List Record) (t : Txn) (n lsn : ℕ) (deed : Deed)
+      (ws : List SlotWrite) → IsSound base → IsWithin base images log t n lsn deed ws (length ws)
+      → IsWhole base.sizes (comp_end t n lsn ∷ log)
+  pub ends : (base : State) (images : List (List ℕ)) (log : List Record) (t : Txn) → IsSound base
+      → IsBetween base images log → least_free (dues log) (lost log) ≡ Some t → IsWhole base.sizes (AbortEnd t ∷ log)
+
+-- a sound store with these pages and this log, in which nothing is under way, and the deed may be undone
+pub record ShowsUndone (z : Sizes) (images : List (List ℕ)) (log : List Record) (deed : Deed) : Type 0 where
+  pub store : State
+  pub sound : IsSound store
+  pub stands : StandsOn store z images []
+  pub records_are : store.records ≡ log
+  pub idle : any_under store.rows ≡ false
+  pub may : MayBeUndone store deed
+
+-- What is due first can be taken back: its OpEnd tells a deed of a sender that the store has, and the plan of its inverse,
+-- by the pages alone, is refused for memory only (`plan_inverse` says that of any such store).
+pub record DuesCanBeUndone : Type 0 where
+  pub reads : (z : Sizes) (log : List Record) (d : Due) → IsWhole z log → In d (dues log)
+      → (deed_in d.deed ≡ Some (deed_due d)) × (deed_sender (deed_due d) < sender_count z)
+  pub may : (base : State) (images : List (List ℕ)) (log : List Record) (d : Due) (ds : List Due) → IsSound base
+      → IsBetween base images log → least_free (dues log) (lost log) ≡ None → dues log ≡ d ∷ ds
+      → ShowsUndone base.sizes images log (deed_due d)
 
 -- what is left, as a program counts it
 abbrev pub rounds_left : List Record → ℕ

@@ -12,9 +12,10 @@ ghost use Rattle.rq_lost.specs.Dues.{DuesAreNext};
 ghost use Rattle.rq_lost.specs.Numbers.{NumbersAreKept};
 ghost use Rattle.rq_lost.specs.Recovered.{RecoveredLogsAreWhole};
 ghost use Rattle.rq_lost.specs.Theorems.{AbortedLogsAreSettled, AbortsEnd, AbortsHaveTurns, AbortsKeepLogsWhole, AbortsMayStop, InversesAreFound, LostStoresAreSound, LostStoresOpen, SettledStoresHaveEnded, StopsAreRepeated};
-ghost use Rattle.rq_lost.specs.Walk.{AbortsComeToAnEnd, AbortsGoOn};
+ghost use Rattle.rq_lost.specs.Walk.{AbortsComeToAnEnd, AbortsGoOn, DuesCanBeUndone, LogsOnTheWayAreWhole};
 ghost use Rattle.rq_lost.specs.Worked.{InversesAreJudged, LostAreJudged, StopsAreJudged, TurnsAreJudged, TwoAreJudged};
 ghost use Rattle.rq_lost.specs.WorkedMoves.{MovesAreJudged};
+ghost use Rattle.rq_lost.specs.WorkedWalk.{WalksAreJudged};
 
 pub use choices::next_end;
 pub use dues::{Due, Dues};
@@ -83,7 +84,8 @@ pub fn turns_are_chosen()
     ensures { TurnsAreChosen }
 {}
 
-/// The number of a transaction's next operation is told by a list that the records of the log make.
+/// The number of a transaction's next operation is told by a list that the records of the log make, in which no
+/// transaction stands twice.
 pub fn numbers_are_kept()
     ensures { NumbersAreKept }
 {}
@@ -97,6 +99,16 @@ pub fn aborts_go_on()
 /// It sets out where history is repeated, and comes to an end, at which the log is recovered.
 pub fn aborts_come_to_an_end()
     ensures { AbortsComeToAnEnd }
+{}
+
+/// What is due first tells a deed of a sender that the store has, and may be undone in a sound store with these pages.
+pub fn dues_can_be_undone()
+    ensures { DuesCanBeUndone }
+{}
+
+/// At each moment its log is whole, and stays so by the record that is next.
+pub fn logs_on_the_way_are_whole()
+    ensures { LogsOnTheWayAreWhole }
 {}
 
 /// A log that a restart recovers is whole, with the content that it had, and nothing is unfinished or lost in it; wherever
@@ -123,6 +135,11 @@ pub fn stops_are_judged()
 /// Worked: what undoes it, move by move.
 pub fn moves_are_judged()
     ensures { MovesAreJudged }
+{}
+
+/// Worked: the same moves, as a program's pages and log show them.
+pub fn walks_are_judged()
+    ensures { WalksAreJudged }
 {}
 
 /// Worked: two transactions are left to be undone.

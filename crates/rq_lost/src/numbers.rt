@@ -1,6 +1,6 @@
 //! The numbers of running transactions' operations, as the records of a log tell them one after the other.
 ghost use Rattle.std.specs.Prelude.{◌≡◌, OnOk, OnErr, List, [], ◌∷◌};
-ghost use Rattle.rq_lost.specs.Numbers.{number_of, numbers, numbers_after, numbers_but, with_number};
+ghost use Rattle.rq_lost.specs.Numbers.{number_of, numbers, numbers_after, numbers_but, numbers_left, with_number};
 
 use rq_model::record::Record;
 use rq_model::refusal::NoMemory;
@@ -8,8 +8,7 @@ use rq_model::txn::{Sub, Txn};
 use std::alloc::Global;
 use std::marker::Model;
 
-/// The numbers of operations of the transactions that have neither Commit nor AbortEnd, each greater than those of its
-/// transaction before it.
+/// The greatest numbers of operations of the transactions that have neither Commit nor AbortEnd, one a transaction.
 #[derive(Drop)]
 pub struct Numbers {
     numbers: Vec<Sub>,
@@ -71,9 +70,20 @@ impl Numbers {
             return Ok(());
         }
         match self.numbers.push(Sub { txn, number }) {
-            Ok(()) => Ok(()),
+            Ok(()) => {
+                self.leave(txn, number);
+                Ok(())
+            }
             Err(_) => Err(NoMemory),
         }
+    }
+
+    // Of the transaction's numbers this one alone is left.
+    fn leave(&mut self, txn: Txn, number: u64)
+        ensures { self.new ≡ numbers_left txn number self.old }
+    {
+        self.numbers
+            .retain(|sub| txn != sub.txn || sub.number == number);
     }
 
     fn end(&mut self, txn: Txn)
