@@ -1,0 +1,4 @@
+pub mod Chains
+pub mod Cover
+pub mod Faults
+pub mod Sound
