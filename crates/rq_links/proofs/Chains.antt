@@ -10,7 +10,7 @@ use Rattle.rq_page.specs.Slots.Slot.{Sender}
 use Rattle.rq_views.specs.Chain.{Cells, Node, Linked, first, last}
 use Rattle.rq_views.specs.Log.{Slots, cells_of}
 use Rattle.rq_views.proofs.Chains.{first_append, last_append}
-use Rattle.rq_links.specs.Links.{addresses, AreOnce, IsChain}
+use Rattle.rq_links.specs.Links.{addresses, AreOnce, AreChains, IsChain}
 
 -- a cell of a chain carries its sender and one of its numbers
 pub record IsCellIn (m : Cells) (s q n a : ℕ) : Type 0 where
@@ -166,3 +166,11 @@ chain_same q s ns ms c d =
     let e : c.directory ≡ d.directory = sender_same q (directory_at s) s c.directory d.directory c.at d.at in
     let k : Linked (cells_of q) s 0 (c.directory.received + 1) ms 0 = subst (λ (x : Directory). Linked (cells_of q) s 0 (x.received + 1) ms 0) (sym e) d.linked in
     linked_same (cells_of q) s 0 (c.directory.received + 1) ns ms c.linked k (sym c.head ∙ ap (λ (x : Directory). x.head) e ∙ d.head)
+
+-- whole chains of all senders, and no cell in two of them or twice
+pub chains_of : (n : ℕ) (q : Slots) (cs : ℕ → List Node) → ((s : ℕ) → s < n → IsChain q s (cs s)) → AreChains n q cs
+chains_of n q cs w = record {
+  whole = w;
+  once = λ s lt. chain_once q s (cs s) (w s lt);
+  apart = λ r s a i j. chain_apart q r s a (cs r) (cs s) (w r i) (w s j);
+}

@@ -1,4 +1,6 @@
 pub mod Chains
 pub mod Cover
 pub mod Faults
+pub mod Followed
 pub mod Sound
+pub mod Walks

@@ -30,7 +30,7 @@ use Rattle.rq_store.proofs.Opening.{idle_log}
 use Rattle.rq_sound.specs.Sound.{IsSound}
 use Rattle.rq_links.specs.Links.{addresses, AreChains, AreLinked, IsChain, IsMet}
 use Rattle.rq_links.specs.Theorems.{SoundStoresAreLinked}
-use Rattle.rq_links.proofs.Chains.{chain_once, chain_apart}
+use Rattle.rq_links.proofs.Chains.{chains_of}
 use Rattle.rq_links.proofs.Cover.{all_met}
 
 -- a chain that shows a view is whole
@@ -52,14 +52,6 @@ picked n s f (inr ge) = []
 picked_is : (n s : ℕ) (f : (s < n) → List Node) (P : List Node → Type 0) → ((lt : s < n) → P (f lt)) → s < n → (d : (s < n) ⊎ (n ≤ s)) → P (picked n s f d)
 picked_is n s f P h lt (inl l) = h l
 picked_is n s f P h lt (inr ge) = absurd (omega (arith, lt, ge))
-
--- whole chains of all senders, and no cell in two of them or twice
-pub chains_of : (n : ℕ) (q : Slots) (cs : ℕ → List Node) → ((s : ℕ) → s < n → IsChain q s (cs s)) → AreChains n q cs
-chains_of n q cs w = record {
-  whole = w;
-  once = λ s lt. chain_once q s (cs s) (w s lt);
-  apart = λ r s a i j. chain_apart q r s a (cs r) (cs s) (w r i) (w s j);
-}
 
 used_in_place : (z : Sizes) (a : ℕ) (x : Slot) → is_used x ≡ true → IsInPlace z a x → IsCellAddress z a
 used_in_place z a Free e h = absurd (false≢true e)

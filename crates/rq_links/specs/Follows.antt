@@ -1,8 +1,9 @@
 -- What is noted of cells while chains are followed.
-use Rattle.std.specs.Prelude.{◌≡◌, ℕ, ◌<◌, ◌⊎◌, List, Option, Some}
+use Rattle.std.specs.Prelude.{◌≡◌, ℕ, ◌+◌, ◌<◌, ◌≤◌, ◌⊎◌, List, Some}
 use Rattle.rq_model.specs.Words.{In}
 use Rattle.rq_page.specs.declared.cell.Cell.{Cell}
-use Rattle.rq_page.specs.Sizes.{Sizes, IsCellAddress, IsLink, cell_at, cell_count}
+use Rattle.rq_page.specs.declared.directory.Directory.{Directory}
+use Rattle.rq_page.specs.Sizes.{Sizes, cell_at, cell_count}
 use Rattle.rq_flags.specs.Flags.{flag_at}
 use Rattle.rq_views.specs.Chain.{Cells, Node}
 use Rattle.rq_views.specs.Log.{Slots}
@@ -17,6 +18,10 @@ pub record IsLinkedCell (m : Cells) (s sequence before at next : ℕ) : Type 0 w
   pub number : cell.sequence ≡ sequence
   pub prev : cell.prev ≡ before
   pub next_is : cell.next ≡ next
+
+-- a chain that was followed to its last cell ends as its directory slot says
+abbrev pub EndsSo : Directory → ℕ → ℕ → Type 0
+EndsSo d last next = (d.received ≤ d.sent) × (next ≡ 0) × (last ≡ d.tail)
 
 -- the flags of these cells are set beside those that were set
 pub record AreNoted (z : Sizes) (old new : List ℕ) (ns : List Node) : Type 0 where
