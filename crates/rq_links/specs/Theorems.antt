@@ -19,6 +19,7 @@ pub record SoundStoresAreLinked : Type 0 where
   pub open_store : (z : Sizes) (images : List (List ℕ)) (log : List Record) → IsSound (opened z images log)
       → AreLinked z (slots_in z images)
 
--- No page is named where the chains are whole.
-abbrev pub LinkedHaveNoFault : Type 0
-LinkedHaveNoFault = (z : Sizes) (q : Slots) (page : ℕ) → AreLinked z q → IsFault z q page → ⊥
+-- A page is named only where the chains are not whole, and then it is one page.
+pub record FaultsAreExact : Type 0 where
+  pub none : (z : Sizes) (q : Slots) (page : ℕ) → AreLinked z q → IsFault z q page → ⊥
+  pub one : (z : Sizes) (q : Slots) (page other : ℕ) → IsFault z q page → IsFault z q other → page ≡ other
