@@ -1,6 +1,5 @@
 -- Chains as lists of cells: no cell stands twice, and none in two of them; and how one is followed.
-use Rattle.std.proofs.Common.{◌≡◌, ◌≢◌, ℕ, ◌+◌, ◌<◌, ◌≤◌, ◌⊎◌, inl, inr, List, [], ◌∷◌, ◌++◌, length, map, refl, sym, ◌∙◌, ap, subst, arith, Option, Some, None}
-use Rattle.std.proofs.lemmas.List.{length-append}
+use Rattle.std.proofs.Common.{◌≡◌, ℕ, ◌+◌, ◌<◌, ◌≤◌, inl, inr, List, [], ◌∷◌, ◌++◌, length, refl, sym, ◌∙◌, ap, subst, arith, Option, Some}
 use Rattle.rq_model.specs.Words.{In}
 use Rattle.rq_page.specs.declared.cell.Cell.{Cell}
 use Rattle.rq_page.specs.declared.directory.Directory.{Directory}
@@ -9,7 +8,7 @@ use Rattle.rq_page.specs.Slots.{Slot}
 use Rattle.rq_page.specs.Slots.Slot.{Sender}
 use Rattle.rq_views.specs.Chain.{Cells, Node, Linked, first, last}
 use Rattle.rq_views.specs.Log.{Slots, cells_of}
-use Rattle.rq_views.proofs.Chains.{first_append, last_append}
+use Rattle.rq_views.proofs.Chains.{first_append}
 use Rattle.rq_links.specs.Links.{addresses, AreOnce, AreChains, IsChain}
 
 -- a cell of a chain carries its sender and one of its numbers
@@ -24,12 +23,12 @@ pub linked_in : (m : Cells) (s p q : ℕ) (ns : List Node) (z a : ℕ) → Linke
 linked_in m s p q [] z a h i = absurd i
 linked_in m s p q (n ∷ ns) z a h i = elim i [
   | inl e ↦ record {
-      cell = record { sender = s; sequence = q; tag = n.tag; body = n.body; next = first ns z; prev = p };
-      held = ap m e ∙ h.1;
-      sender = refl;
-      low = omega arith;
-      high = omega arith;
-    }
+    cell = record { sender = s; sequence = q; tag = n.tag; body = n.body; next = first ns z; prev = p };
+    held = ap m e ∙ h.1;
+    sender = refl;
+    low = omega arith;
+    high = omega arith;
+  }
   | inr j ↦
       let k = linked_in m s n.at (q + 1) ns z a h.2 j in
       record {
@@ -49,11 +48,11 @@ pub linked_once : (m : Cells) (s p q : ℕ) (ns : List Node) (z : ℕ) → Linke
 linked_once m s p q [] z h = tt
 linked_once m s p q (n ∷ ns) z h = (
   (λ i.
-    let k = linked_in m s n.at (q + 1) ns z n.at h.2 i in
-    let c : Cell = record { sender = s; sequence = q; tag = n.tag; body = n.body; next = first ns z; prev = p } in
-    let e : q ≡ k.cell.sequence = ap (λ (x : Cell). x.sequence) (some_same m n.at c k.cell h.1 k.held) in
-    let l = k.low in
-    absurd (omega arith)),
+      let k = linked_in m s n.at (q + 1) ns z n.at h.2 i in
+      let c : Cell = record { sender = s; sequence = q; tag = n.tag; body = n.body; next = first ns z; prev = p } in
+      let e : q ≡ k.cell.sequence = ap (λ (x : Cell). x.sequence) (some_same m n.at c k.cell h.1 k.held) in
+      let l = k.low in
+      absurd (omega arith)),
   linked_once m s n.at (q + 1) ns z h.2,
 )
 

@@ -1,7 +1,7 @@
 -- Cells in chains, counted: where as many are used as stand in chains, each used one stands in one.
-use Rattle.std.proofs.Common.{◌≡◌, ◌≢◌, ℕ, zero, suc, ◌+◌, ◌<◌, ◌≤◌, ◌⊎◌, inl, inr, List, [], ◌∷◌, ◌++◌, length, Bool, true, false, cond, nat_eq, refl, sym, ◌∙◌, ap, subst, arith, Option, Some, None}
+use Rattle.std.proofs.Common.{◌≡◌, ◌≢◌, ℕ, zero, suc, ◌+◌, ◌<◌, ◌≤◌, ◌⊎◌, inl, inr, List, [], ◌∷◌, ◌++◌, length, true, false, cond, nat_eq, refl, sym, ◌∙◌, ap, subst, arith, Option, Some, None}
 use Rattle.std.specs.List.{sum_by}
-use Rattle.std.proofs.lemmas.Bool.{cases_Bool, cases_eq, cases_order, eq-eqb, or_left, or_right}
+use Rattle.std.proofs.lemmas.Bool.{cases_Bool, cases_eq, cases_order, eq-eqb}
 use Rattle.std.proofs.lemmas.List.{length-append, length-map}
 use Rattle.std.proofs.lemmas.List.Sums.{length-filter}
 use Rattle.rq_model.specs.Tests.{below}
@@ -16,7 +16,7 @@ use Rattle.rq_views.specs.Chain.{Node}
 use Rattle.rq_views.specs.Log.{Slots, cell_in, cells_of}
 use Rattle.rq_views.specs.Stored.{is_used, count_used}
 use Rattle.rq_views.proofs.Chains.{no_eq}
-use Rattle.rq_links.specs.Links.{addresses, AreOnce, AreChains, IsChain, IsMet}
+use Rattle.rq_links.specs.Links.{addresses, AreOnce, AreChains, IsMet}
 use Rattle.rq_links.proofs.Chains.{linked_in}
 
 pub in_append : (a : ℕ) (xs ys : List ℕ) → In a (xs ++ ys) → In a xs ⊎ In a ys
@@ -140,10 +140,10 @@ joined_once zero q cs c = tt
 joined_once (suc n) q cs c =
     once_append (joined cs n) (addresses (cs n)) (joined_once n q cs (chains_fewer n (suc n) q cs (omega arith) c)) (c.once n (omega arith))
     (λ a i j.
-      let m = joined_met cs n a i in
-      let b = m.below in
-      let e = c.apart m.sender n a (omega arith) (omega arith) m.met j in
-      omega (arith, b, e))
+    let m = joined_met cs n a i in
+    let b = m.below in
+    let e = c.apart m.sender n a (omega arith) (omega arith) m.met j in
+    omega (arith, b, e))
 
 joined_length : (cs : ℕ → List Node) (n : ℕ) → length (joined cs n) ≡ sum_by (λ s. length (cs s)) (below n)
 joined_length cs zero = refl
@@ -182,7 +182,7 @@ all_met z q cs c cells count a used =
     ]) in
     let one : sum_by f (below (cell_count z)) ≡ length l = covers z l (joined_once (sender_count z) q cs c) (λ b i. cells b (met_used (sender_count z) q cs b c (met b i))) in
     let two : count_used z q ≡ sum_by g (below (cell_count z)) = length-filter (λ i. is_used (q (cell_at z i))) (below (cell_count z)) in
-    let same : sum_by f (below (cell_count z)) ≡ sum_by g (below (cell_count z)) = one ∙ joined_length cs (sender_count z) ∙ sym count ∙ two in
+    let same : sum_by f (below (cell_count z)) ≡ sum_by g (below (cell_count z)) = let long = joined_length cs (sender_count z) in omega (arith, one, long, count, two) in
     let here : f k ≡ g k = sum_meets f g (cell_count z) low same k p.0 in
     let set : g k ≡ 1 = ap (λ b. cond (is_used (q b)) 1 0) p.1 ∙ ap (λ b. cond b 1 0) used in
     let i : In (cell_at z k) l = mark_in (cell_at z k) l (here ∙ set) in

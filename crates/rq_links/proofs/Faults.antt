@@ -5,7 +5,7 @@ use Rattle.rq_model.specs.Words.{In}
 use Rattle.rq_page.specs.Sizes.{Sizes, directory_at, sender_count}
 use Rattle.rq_views.specs.Chain.{Node}
 use Rattle.rq_views.specs.Log.{Slots}
-use Rattle.rq_links.specs.Links.{addresses, AreChains, AreLinked, IsMet, IsFirstBroken, IsFirstUnmet, IsFault}
+use Rattle.rq_links.specs.Links.{AreChains, AreLinked, IsMet, IsFirstBroken, IsFirstUnmet, IsFault}
 use Rattle.rq_links.specs.Theorems.{FaultsAreExact}
 use Rattle.rq_links.proofs.Chains.{chain_same}
 

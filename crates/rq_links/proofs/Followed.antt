@@ -1,5 +1,5 @@
 -- Chains that were followed one after the other, and the cells that none of them met.
-use Rattle.std.proofs.Common.{◌≡◌, ◌≢◌, ℕ, ◌+◌, ◌/◌, ◌%◌, ◌<◌, ◌≤◌, inl, inr, List, [], Bool, true, false, cond, nat_eq, nat_lt, refl, sym, ◌∙◌, ap, subst, arith, Option, Some, None}
+use Rattle.std.proofs.Common.{◌≡◌, ◌≢◌, ℕ, ◌+◌, ◌/◌, ◌%◌, ◌<◌, ◌≤◌, inl, inr, List, [], true, false, cond, nat_eq, nat_lt, refl, sym, ◌∙◌, ap, subst, arith, Option, Some, None}
 use Rattle.std.proofs.lemmas.Bool.{cases_Bool, cases_eq, cases_order, eq-eqb, false≢true, ltb-true}
 use Rattle.rq_model.specs.Words.{In}
 use Rattle.rq_page.specs.Kinds.{kind_of}
@@ -50,10 +50,10 @@ followed_more z q n old new a f =
       added = λ k lt m. elim (cases_eq m.sender n) [
         | inl e ↦ f.noted.added k lt (subst (λ ns. In (cell_at z k) (addresses ns)) (with_own a.chains n f.nodes m.sender e) m.met)
         | inr ne ↦ f.noted.kept k (a.added k lt (record {
-            sender = m.sender;
-            below = (let b = m.below in omega (arith, b, ne));
-            met = subst (λ ns. In (cell_at z k) (addresses ns)) (with_other a.chains n f.nodes m.sender ne) m.met;
-          }))
+          sender = m.sender;
+          below = (let b = m.below in omega (arith, b, ne));
+          met = subst (λ ns. In (cell_at z k) (addresses ns)) (with_other a.chains n f.nodes m.sender ne) m.met;
+        }))
       ];
       only = λ k e. elim (f.noted.only k e) [
         | inl o ↦

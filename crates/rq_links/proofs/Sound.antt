@@ -1,22 +1,20 @@
 -- The slots that a whole log leaves, with nothing under way, have whole chains.
-use Rattle.std.proofs.Common.{◌≡◌, ℕ, ◌+◌, ◌<◌, ◌≤◌, ◌⊎◌, inl, inr, List, [], ◌∷◌, length, map, true, false, refl, sym, ◌∙◌, ap, subst, cond, arith, Option, Some}
+use Rattle.std.proofs.Common.{◌≡◌, ℕ, ◌<◌, ◌≤◌, ◌⊎◌, inl, inr, List, [], length, true, false, sym, ◌∙◌, ap, subst, arith}
 use Rattle.std.specs.List.{sum_by}
-use Rattle.std.proofs.lemmas.Bool.{cases_lt, true≢false, false≢true}
+use Rattle.std.proofs.lemmas.Bool.{cases_lt, false≢true}
 use Rattle.std.proofs.lemmas.List.{length-map}
-use Rattle.std.proofs.lemmas.List.Sums.{length-filter}
 use Rattle.rq_model.specs.declared.record.Record.{Record}
 use Rattle.rq_model.specs.declared.txn.Sub.{Sub}
 use Rattle.rq_model.specs.Tests.{below}
-use Rattle.rq_model.specs.Unended.{unfinished}
 use Rattle.rq_model.proofs.Counts.{sum_same}
-use Rattle.rq_page.specs.Sizes.{Sizes, IsCellAddress, cell_at, cell_count, directory_at, sender_count}
+use Rattle.rq_page.specs.Sizes.{Sizes, IsCellAddress, sender_count}
 use Rattle.rq_page.specs.Slots.{Slot}
 use Rattle.rq_page.specs.Slots.Slot.{Free, Used, Sender}
-use Rattle.rq_views.specs.Chain.{Cells, View, Node, Linked, message}
-use Rattle.rq_views.specs.InStore.{InStore, AllStand, IsInPlace}
+use Rattle.rq_views.specs.Chain.{View, Node, message}
+use Rattle.rq_views.specs.InStore.{InStore, IsInPlace}
 use Rattle.rq_views.specs.Items.{items, layout_of}
 use Rattle.rq_views.specs.Legal.{IsLegalLog, under_way, view}
-use Rattle.rq_views.specs.Log.{Slots, cell_in, cells_of, state_of}
+use Rattle.rq_views.specs.Log.{Slots}
 use Rattle.rq_views.specs.Plans.{ShowsAt, Spares}
 use Rattle.rq_views.specs.Stored.{is_used, count_used, slots_in}
 use Rattle.rq_views.proofs.Counting.{quiet_counts}
@@ -24,11 +22,8 @@ use Rattle.rq_views.proofs.Idle.{idle_quiet, idle_writes}
 use Rattle.rq_views.proofs.Stands.{slots_stand, store_is_layout}
 use Rattle.rq_views.proofs.Views.{views}
 use Rattle.rq_store.specs.Fitting.{left_by}
-use Rattle.rq_store.specs.Opening.{next_restart, opened}
-use Rattle.rq_store.specs.Whole.{IsWhole}
 use Rattle.rq_store.proofs.Opening.{idle_log}
-use Rattle.rq_sound.specs.Sound.{IsSound}
-use Rattle.rq_links.specs.Links.{addresses, AreChains, AreLinked, IsChain, IsMet}
+use Rattle.rq_links.specs.Links.{AreLinked, IsChain}
 use Rattle.rq_links.specs.Theorems.{SoundStoresAreLinked}
 use Rattle.rq_links.proofs.Chains.{chains_of}
 use Rattle.rq_links.proofs.Cover.{all_met}

@@ -1,11 +1,11 @@
 -- How a sender's chain is followed, cell by cell.
-use Rattle.std.proofs.Common.{◌≡◌, ◌≢◌, ℕ, ◌+◌, ◌<◌, ◌≤◌, ◌⊎◌, ◌↔◌, Bool, IsTrue, inl, inr, List, [], ◌∷◌, ◌++◌, length, refl, sym, ◌∙◌, ap, subst, arith}
+use Rattle.std.proofs.Common.{◌≡◌, ℕ, ◌+◌, ◌<◌, ◌≤◌, ◌↔◌, Bool, IsTrue, inl, inr, List, [], ◌∷◌, ◌++◌, length, refl, sym, ◌∙◌, ap, subst, arith}
 use Rattle.std.specs.Bool.{OnTrue, OnFalse}
 use Rattle.std.proofs.lemmas.Bool.{cases_eq, false≢true, OnTrue_from, OnFalse_from}
 use Rattle.std.proofs.lemmas.List.{length-append, map-append}
 use Rattle.rq_model.specs.Words.{In}
 use Rattle.rq_page.specs.declared.directory.Directory.{Directory}
-use Rattle.rq_page.specs.Sizes.{Sizes, IsCellAddress, IsLink, cell_at, cell_count, directory_at, place_of}
+use Rattle.rq_page.specs.Sizes.{Sizes, IsCellAddress, IsLink, cell_at, directory_at, place_of}
 use Rattle.rq_page.specs.Slots.Slot.{Sender}
 use Rattle.rq_page.proofs.Addresses.{cells_have_places, places_are_cells}
 use Rattle.rq_flags.specs.Flags.{flag_at, OthersStay}

@@ -1,22 +1,22 @@
 -- The worked chains.
-use Rattle.std.proofs.Common.{◌≡◌, ◌≢◌, ℕ, suc, ◌+◌, ◌/◌, ◌%◌, ◌<◌, ◌≤◌, ◌==◌, ◌&&◌, ◌⊎◌, inl, inr, List, [], ◌∷◌, length, Bool, true, false, cond, nat_eq, nat_lt, nat_le, refl, sym, ◌∙◌, ap, subst, arith, Option, Some, None}
-use Rattle.std.proofs.lemmas.Bool.{cases_Bool, cases_eq, false≢true, eq-eqb}
+use Rattle.std.proofs.Common.{◌≡◌, ◌≢◌, ℕ, ◌+◌, ◌/◌, ◌%◌, ◌<◌, ◌≤◌, ◌&&◌, ◌⊎◌, inl, inr, List, [], ◌∷◌, length, true, false, cond, nat_eq, nat_lt, nat_le, refl, sym, ◌∙◌, ap, subst, arith, Option, Some}
+use Rattle.std.proofs.lemmas.Bool.{cases_Bool, cases_eq, false≢true}
 use Rattle.rq_model.specs.Words.{In}
 use Rattle.rq_page.specs.declared.cell.Cell.{Cell}
 use Rattle.rq_page.specs.declared.directory.Directory.{Directory}
-use Rattle.rq_page.specs.Sizes.{Sizes, directory_at, sender_at, sender_count}
+use Rattle.rq_page.specs.Sizes.{Sizes, directory_at, sender_at}
 use Rattle.rq_page.specs.Slots.{Slot}
-use Rattle.rq_page.specs.Slots.Slot.{Free, Used, Sender}
+use Rattle.rq_page.specs.Slots.Slot.{Used, Sender}
 use Rattle.rq_page.proofs.Addresses.{senders_have_slots}
 use Rattle.rq_views.specs.Chain.{Cells, Node, Linked, first, last}
-use Rattle.rq_views.specs.Items.{formatted_at, layout_of}
+use Rattle.rq_views.specs.Items.{formatted_at}
 use Rattle.rq_views.specs.Legal.{empty_directory}
 use Rattle.rq_views.specs.Log.{Slots, put, cells_of}
 use Rattle.rq_views.specs.Stored.{is_used}
 use Rattle.rq_views.proofs.Chains.{no_eq}
 use Rattle.rq_views.proofs.Overlay.{put_at, put_off}
 use Rattle.rq_views.proofs.Stands.{store_is_layout}
-use Rattle.rq_links.specs.Links.{addresses, AreChains, AreLinked, IsChain, IsFault, IsFirstBroken, IsFirstUnmet, IsMet}
+use Rattle.rq_links.specs.Links.{addresses, AreLinked, IsChain, IsFault, IsMet}
 use Rattle.rq_links.specs.Worked.{smallest, group, fourth, fifth, store, with_third, with_shared, WorkedChains}
 use Rattle.rq_links.proofs.Chains.{chains_of, none_left, sender_same}
 
@@ -140,8 +140,7 @@ chain_each q held b c others s lt = elim (cases_eq s 0) [
 -- the directory slots of the other senders stand elsewhere
 apart_from : (s : ℕ) → s < 15 → s ≢ 0 → (directory_at s ≢ 17) × (directory_at s < 32)
 apart_from s lt ne =
-    let p = senders_have_slots smallest s lt in
-    (
+    let p = senders_have_slots smallest s lt in (
       (λ e. let k : sender_at (directory_at s / 16) (directory_at s % 16) ≡ 0 = ap (λ a. sender_at (a / 16) (a % 16)) e in ne (sym p.3 ∙ k)),
       (let high = p.1 in below_two (directory_at s) high),
     )

@@ -1,6 +1,6 @@
 -- Worked: chains over the smallest store, of 15 senders and 15 cells. The directory slots of senders 0 and 1 stand at 17
 -- and 18, the first three cells at 33, 34 and 35.
-use Rattle.std.specs.Prelude.{ℕ, [], ◌∷◌, false}
+use Rattle.std.specs.Prelude.{[], ◌∷◌, false}
 use Rattle.rq_page.specs.declared.cell.Cell.{Cell}
 use Rattle.rq_page.specs.declared.directory.Directory.{Directory}
 use Rattle.rq_page.specs.Sizes.{Sizes}

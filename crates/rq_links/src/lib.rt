@@ -4,7 +4,6 @@
 ghost use Rattle.std.specs.Prelude.{◌≡◌, ◌↔◌, ◌*◌, ◌+◌, ◌<◌, ◌≤◌, ℕ, List, length, true, IsTrue, IfOk, IfSome, IfNone};
 ghost use Rattle.std.specs.Bool.{OnTrue, OnFalse};
 ghost use Rattle.rq_flags.specs.Flags.{flag_at};
-
 ghost use Rattle.rq_page.specs.Sizes.{IsCellAddress, IsLink, cell_count, sender_count};
 ghost use Rattle.rq_views.specs.Chain.{Node};
 ghost use Rattle.rq_views.specs.Log.{cells_of};
@@ -13,7 +12,6 @@ ghost use Rattle.rq_links.specs.Follows.{AreFollowed, EndsSo, IsFollowed, IsLink
 ghost use Rattle.rq_links.specs.Links.{AreLinked, IsChain, IsFault, IsFirstBroken, IsFirstUnmet};
 ghost use Rattle.rq_links.specs.Theorems.{FaultsAreExact, SoundStoresAreLinked};
 ghost use Rattle.rq_links.specs.Worked.{WorkedChains};
-
 
 use rq_disk::PageDevice;
 use rq_flags::Index;
@@ -34,10 +32,7 @@ use std::alloc::Global;
 ///
 /// # Errors
 /// `NoMemory`.
-pub fn first_broken<P: PageDevice>(
-    alloc: Global,
-    pages: &Pages<P>,
-) -> Result<Option<u32>, NoMemory>
+pub fn first_broken<P: PageDevice>(alloc: Global, pages: &Pages<P>) -> Result<Option<u32>, NoMemory>
     ensures whole { IfOk result (λ page. IfNone page (AreLinked pages.now.sizes
         (slots_in pages.now.sizes pages.now.images))) }
     ensures fault { IfOk result (λ page. IfSome page (λ number. IsFault pages.now.sizes

@@ -1,9 +1,9 @@
-use Rattle.std.proofs.Common.{rules, ◌≡◌, ◌*◌, ◌<◌, ◌≤◌, length, ap, sym, ◌∙◌, subst, arith}
+use Rattle.std.proofs.Common.{◌≡◌, ◌≤◌, ap, sym, ◌∙◌, subst, arith}
 use Rattle.rq_page.specs.declared.directory.Directory.{Directory}
 use Rattle.rq_page.specs.Sizes.{Sizes, cell_count, place_of}
 use Rattle.rq_flags.specs.Flags.{flag_at, OthersStay}
 use Rattle.rq_views.specs.Stored.{slots_in}
-use Rattle.rq_links.proofs.Walks.{walk_begins, walk_goes, walk_stops, ends_whole, ends_broken}
+use Rattle.rq_links.proofs.Walks.{walk_goes, walk_stops, ends_whole, ends_broken}
 use Rattle.rq_links.proofs.follow.Goals as goal
 
 pub returns-in_default-clause-broken : goal.returns-in_default-clause-broken
