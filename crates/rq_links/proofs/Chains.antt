@@ -9,6 +9,7 @@ use Rattle.rq_page.specs.Slots.Slot.{Sender}
 use Rattle.rq_views.specs.Chain.{Cells, Node, Linked, first, last}
 use Rattle.rq_views.specs.Log.{Slots, cells_of}
 use Rattle.rq_views.proofs.Chains.{first_append}
+use Rattle.rq_links.specs.Follows.{IsLinkedCell}
 use Rattle.rq_links.specs.Links.{addresses, AreOnce, AreChains, IsChain}
 
 -- a cell of a chain carries its sender and one of its numbers
@@ -87,7 +88,7 @@ linked_more m s p q (n ∷ ns) at c h low e sender number prev =
     let P : ℕ → Type 0 = λ k. m n.at ≡ Some (record { sender = s; sequence = q; tag = n.tag; body = n.body; next = k; prev = p }) in
     (h.0, subst P (sym next) h.1, linked_more m s n.at (q + 1) ns at c h.2 low e sender (omega (arith, number)) prev)
 
--- What is left of a whole chain behind those of its cells that were followed to `at`.
+-- what is left of a whole chain, `all`, once its first cells, ns, were followed, which lead to `at`
 pub record IsRest (m : Cells) (s p q : ℕ) (ns all : List Node) (at : ℕ) : Type 0 where
   pub rest : List Node
   pub linked : Linked m s (last p ns) (q + length ns) rest 0
@@ -119,25 +120,21 @@ rest_of_chain m s p q (n ∷ ns) (x ∷ all) at h k e =
       ends = ap (λ i. last i all) (sym e) ∙ r.ends;
     }
 
--- where cells are left, one of them stands here, and it is the next one
-pub record IsNextCell (m : Cells) (s p q at : ℕ) : Type 0 where
-  pub cell : Cell
-  pub some : 0 < at
-  pub held : m at ≡ Some cell
-  pub sender : cell.sender ≡ s
-  pub number : cell.sequence ≡ q
-  pub prev : cell.prev ≡ p
-
-pub next_of_rest : (m : Cells) (s p q : ℕ) (ns : List Node) (at : ℕ) → Linked m s p q ns 0 → first ns 0 ≡ at → 0 < length ns → IsNextCell m s p q at
+-- where cells are left, the next one stands here
+pub next_of_rest : (m : Cells) (s p q : ℕ) (ns : List Node) (at : ℕ) → Linked m s p q ns 0 → first ns 0 ≡ at → 0 < length ns → (next : ℕ) × IsLinkedCell m s q p at next
 next_of_rest m s p q [] at h e l = absurd (omega arith)
-next_of_rest m s p q (n ∷ ns) at h e l = record {
-  cell = record { sender = s; sequence = q; tag = n.tag; body = n.body; next = first ns 0; prev = p };
-  some = subst (λ a. 0 < a) e h.0;
-  held = ap m (sym e) ∙ h.1;
-  sender = refl;
-  number = refl;
-  prev = refl;
-}
+next_of_rest m s p q (n ∷ ns) at h e l = (
+  first ns 0,
+  record {
+    cell = record { sender = s; sequence = q; tag = n.tag; body = n.body; next = first ns 0; prev = p };
+    some = subst (λ a. 0 < a) e h.0;
+    held = ap m (sym e) ∙ h.1;
+    sender = refl;
+    number = refl;
+    prev = refl;
+    next_is = refl;
+  },
+)
 
 -- where none is left, the last cell met was the last
 pub none_left : (rest : List Node) (p at : ℕ) → length rest ≡ 0 → first rest 0 ≡ at → (at ≡ 0) × (last p rest ≡ p)
@@ -148,6 +145,7 @@ none_left (n ∷ rest) p at l e = absurd (omega arith)
 pub sender_same : (q : Slots) (a s : ℕ) (d e : Directory) → q a ≡ Sender s d → q a ≡ Sender s e → d ≡ e
 sender_same q a s d e x y = let k : ◌≡◌ {A = Slot} (Sender s d) (Sender s e) = sym x ∙ y in cc
 
+-- chains that begin at one cell are one
 linked_same : (m : Cells) (s p q : ℕ) (ns ms : List Node) → Linked m s p q ns 0 → Linked m s p q ms 0 → first ns 0 ≡ first ms 0 → addresses ns ≡ addresses ms
 linked_same m s p q [] [] h k e = refl
 linked_same m s p q [] (x ∷ ms) h k e = absurd (let low = k.0 in omega (arith, e, low))

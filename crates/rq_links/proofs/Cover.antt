@@ -45,6 +45,7 @@ once_append (x ∷ xs) ys h k none = (
 abbrev pub mark : ℕ → List ℕ → ℕ
 mark a l = cond (has_number a l) 1 0
 
+-- what is found in a list stands in it
 has_in : (a : ℕ) (l : List ℕ) → has_number a l ≡ true → In a l
 has_in a [] e = absurd (let k : false ≡ true = e in cc)
 has_in a (x ∷ l) e = elim (cases_eq a x) [
@@ -121,6 +122,7 @@ joined cs (suc n) = joined cs n ++ addresses (cs n)
 pub met_more : (n k : ℕ) (cs : ℕ → List Node) (a : ℕ) → n ≤ k → IsMet n cs a → IsMet k cs a
 met_more n k cs a le m = record { sender = m.sender; below = (let b = m.below in omega arith); met = m.met }
 
+-- each of these is met
 joined_met : (cs : ℕ → List Node) (n a : ℕ) → In a (joined cs n) → IsMet n cs a
 joined_met cs zero a h = absurd h
 joined_met cs (suc n) a h = elim (in_append a (joined cs n) (addresses (cs n)) h) [
@@ -184,6 +186,6 @@ all_met z q cs c cells count a used =
     let two : count_used z q ≡ sum_by g (below (cell_count z)) = length-filter (λ i. is_used (q (cell_at z i))) (below (cell_count z)) in
     let same : sum_by f (below (cell_count z)) ≡ sum_by g (below (cell_count z)) = let long = joined_length cs (sender_count z) in omega (arith, one, long, count, two) in
     let here : f k ≡ g k = sum_meets f g (cell_count z) low same k p.0 in
-    let set : g k ≡ 1 = ap (λ b. cond (is_used (q b)) 1 0) p.1 ∙ ap (λ b. cond b 1 0) used in
+    let set : g k ≡ 1 = ◌∙◌ {b = cond (is_used (q a)) 1 0} (ap (λ b. cond (is_used (q b)) 1 0) p.1) (ap (λ b. cond b 1 0) used) in
     let i : In (cell_at z k) l = mark_in (cell_at z k) l (here ∙ set) in
     met a (subst (λ b. In b l) p.1 i)

@@ -136,7 +136,8 @@ module _ (z : Sizes) (q : Slots) (s : ℕ) (d : Directory) (old met : List ℕ) 
       let many = w.many in
       let l : 0 < length r.rest = let a = r.many in let b = sent in omega (arith, a, b, many, lt) in
       let k = next_of_rest (cells_of q) s (last 0 w.nodes) (d.received + 1 + length w.nodes) r.rest at r.linked r.begins l in
-      (k.cell.next, record { cell = k.cell; some = k.some; held = k.held; sender = k.sender; number = (let e = k.number in omega (arith, e, many)); prev = k.prev ∙ sym w.behind; next_is = refl })
+      let number : d.received + 1 + length w.nodes ≡ count + 1 = omega (arith, many) in
+      (k.0, subst (λ n. IsLinkedCell (cells_of q) s n before at k.0) number (subst (λ p. IsLinkedCell (cells_of q) s (d.received + 1 + length w.nodes) p at k.0) (sym w.behind) k.1))
 
   pub counts_up : d.received ≤ d.sent
   counts_up = let e = sent in omega (arith, e)

@@ -9,7 +9,7 @@ use Rattle.rq_views.specs.Chain.{Cells, Node}
 use Rattle.rq_views.specs.Log.{Slots}
 use Rattle.rq_links.specs.Links.{addresses, AreChains, IsChain, IsMet}
 
--- a cell of s with this number stands here, behind the one that it should
+-- a cell of s with this number stands here; it names this one before it, and leads to the next
 pub record IsLinkedCell (m : Cells) (s sequence before at next : ℕ) : Type 0 where
   pub cell : Cell
   pub some : 0 < at

@@ -46,7 +46,8 @@ pub record AreLinked (z : Sizes) (q : Slots) : Type 0 where
   pub whole : AreChains (sender_count z) q chains
   pub all : (a : ℕ) → is_used (q a) ≡ true → IsMet (sender_count z) chains a
 
--- the page has the directory slot of the first sender that has no whole chain
+-- The page has the directory slot of the first sender that has no whole chain. A chain that meets a cell of another is
+-- not whole, as a cell carries one sender.
 pub record IsFirstBroken (z : Sizes) (q : Slots) (page : ℕ) : Type 0 where
   pub sender : ℕ
   pub below : sender < sender_count z

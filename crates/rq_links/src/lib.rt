@@ -21,13 +21,13 @@ use rq_page::directory::Directory;
 use rq_pool::Pages;
 use std::alloc::Global;
 
-/// The page to be named where the chains of the senders are not whole; none where they are.
+/// Where the chains of the senders are not whole, the page to be named; none where they are.
 ///
 /// A sender's chain is whole where the cells from its head on, each by the link of the one before, are used, carry the
-/// sender and the sequence numbers from received + 1 to sent in order, and name the cell before; and the last one is its
-/// tail. Each used cell is to stand in one.
+/// sender and the sequence numbers from received + 1 to sent in order, and name the one before, and the last one is its
+/// tail; where nothing is left, it has neither head nor tail. Each used cell is to stand in one chain.
 ///
-/// It is the page of the directory slot of the first sender whose chain is not whole; else the first page with a used
+/// The page is that of the directory slot of the first sender whose chain is not whole; else the first one with a used
 /// cell that is in no chain.
 ///
 /// # Errors
@@ -88,15 +88,15 @@ fn follow<P: PageDevice>(pages: &Pages<P>, sender: u32, met: &mut Index) -> bool
     is_end(&group, before, at)
 }
 
-// Whether a chain may end so: what is behind its last cell, and where that stands.
+// Whether a chain that was followed to its last cell ends as the directory says.
 fn is_end(group: &Directory, last: Addr, next: Addr) -> bool
     ensures { IsTrue result ↔ EndsSo group.now last next }
 {
     group.received <= group.sent && next.is_none() && last == group.tail
 }
 
-// The link of the cell at an address, where that is the sender's with this number, behind the one that it should; else
-// none.
+// The link of the cell at an address, where that cell is used, carries the sender and this number, and names the one
+// before it; else none.
 fn linked_cell<P: PageDevice>(
     pages: &Pages<P>,
     sender: u32,

@@ -11,7 +11,7 @@ returns-then-not-is_noted-clause-unmet g c =
     let images = c.args.pages.now.images in
     let k = c.loop-place.place in
     let place : c.cell_addr-at.result ≡ cell_at z k = c.cell_addr-at.ensures.value ∙ ap (λ (l : Sizes). cell_at l k) c.layout-layout.ensures.sizes in
-    let used : is_used (slots_in z images (cell_at z k)) ≡ true = ap (λ a. is_used (slots_in z images a)) (sym {b = cell_at z k} place) ∙ sym c.if-is_used.ensures.used in
+    let used : is_used (slots_in z images (cell_at z k)) ≡ true = ap (λ a. is_used (slots_in z images a)) (sym {b = cell_at z k} place) ∙ sym {b = is_used (slots_in z images c.cell_addr-at.result)} c.if-is_used.ensures.used in
     let of_layout : cell_count c.layout-layout.result ≡ cell_count z = ap cell_count c.layout-layout.ensures.sizes in
     let number = c.cell_slots-place-end.ensures.number in
     let below : k < cell_count z = let lt = c.loop-place-test.true in omega (arith, lt, number, of_layout) in
