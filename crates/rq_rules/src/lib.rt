@@ -1,0 +1,17 @@
+//! Whether a record may stand behind a log: what no legal log of a store lacks, asked of the next record.
+//!
+//! The definitions stand in specs/, the theorems are the contracts of the functions here.
+#![tactic(auto)]
+
+mod checking;
+mod ended;
+
+ghost use Rattle.rq_rules.specs.Theorems.{WholeLogsFollow};
+
+pub use checking::follows;
+pub use ended::Ended;
+
+/// The records of a whole log follow the rules: no sound store is refused for them.
+pub fn whole_logs_follow()
+    ensures { WholeLogsFollow }
+{}
