@@ -1,3 +1,7 @@
 pub mod Keys
 pub mod Ends
 pub mod Operations
+pub mod Lists
+pub mod Writes
+pub mod Owed
+pub mod Judging
