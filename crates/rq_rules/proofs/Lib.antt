@@ -5,3 +5,4 @@ pub mod Lists
 pub mod Writes
 pub mod Owed
 pub mod Judging
+pub mod Whole
