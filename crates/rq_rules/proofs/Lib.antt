@@ -6,3 +6,4 @@ pub mod Writes
 pub mod Owed
 pub mod Judging
 pub mod Whole
+pub mod Worked

@@ -7,6 +7,7 @@ mod checking;
 mod ended;
 
 ghost use Rattle.rq_rules.specs.Theorems.{WholeLogsFollow};
+ghost use Rattle.rq_rules.specs.Worked.{RulesAreJudged};
 
 pub use checking::follows;
 pub use ended::Ended;
@@ -14,4 +15,9 @@ pub use ended::Ended;
 /// The records of a whole log follow the rules: no sound store is refused for them.
 pub fn whole_logs_follow()
     ensures { WholeLogsFollow }
+{}
+
+/// Worked: for each rule, records that follow it and records that break it.
+pub fn rules_are_judged()
+    ensures { RulesAreJudged }
 {}
