@@ -80,45 +80,41 @@ module _ (log : List Record) (f : FollowAll log) where
         ]
 
     from : FollowsRules log (records.PageOp t n page slot before after) → Passes (analysis log) (dues log) (numbers log) (ended log) (records.PageOp t n page slot before after)
-    from q = (running t w.1 w.0.1 q.running, elim (cases_Bool (has_op (operation t n) log)) [
-      | inl y ↦ inl (open_from (operation t n) y q.going)
-      | inr off ↦ inr (q.numbered off ∙ ap (λ (k : ℕ). k + 1) (sym (number_kept log t q.running)))
-    ])
-  judged (records.PageUndo t n undone page slot after) w =
-      (
-        λ p. let k = open_parts (operation t n) p.1 in record { running = runs t w.1 w.0.1 p.0; going = k.1; begun = k.0; numbered = tt; undoes = ap first (sym (spots_kept log f (operation t n) k.1)) ∙ p.2; takes_back = tt; reads = tt },
-        λ q. (running t w.1 w.0.1 q.running, open_from (operation t n) q.begun q.going, ap first (spots_kept log f (operation t n) q.going) ∙ q.undoes),
-      )
-  judged (records.OpEnd t n level deed) w =
-      (
-        λ p. let k = open_parts (operation t n) p.1 in record { running = runs t w.1 w.0.1 p.0; going = k.1; begun = k.0; numbered = tt; undoes = tt; takes_back = tt; reads = (p.2, p.3) },
-        λ q. (running t w.1 w.0.1 q.running, open_from (operation t n) q.begun q.going, q.reads.0, q.reads.1),
-      )
-  judged (records.OpVoid t n) w =
-      (
-        λ p. let k = open_parts (operation t n) p.1 in record { running = runs t w.1 w.0.1 p.0; going = k.1; begun = k.0; numbered = tt; undoes = tt; takes_back = tt; reads = tt },
-        λ q. (running t w.1 w.0.1 q.running, open_from (operation t n) q.begun q.going),
-      )
-  judged (records.CompEnd t n undone) w =
-      (
-        λ p. let k = open_parts (operation t n) p.1 in let run = runs t w.1 w.0.1 p.0 in record { running = run; going = k.1; begun = k.0; numbered = tt; undoes = tt; takes_back = sym (due_kept log f t run) ∙ p.2; reads = tt },
-        λ q. (running t w.1 w.0.1 q.running, open_from (operation t n) q.begun q.going, due_kept log f t q.running ∙ q.takes_back),
-      )
-  judged (records.Commit t) w =
-      (
-        λ p. record { running = runs t w.1 w.0.1 p; going = tt; begun = tt; numbered = tt; undoes = tt; takes_back = tt; reads = tt },
-        λ q. running t w.1 w.0.1 q.running,
-      )
-  judged (records.AbortEnd t) w =
-      (
-        λ p. record { running = runs t w.1 w.0.1 p; going = tt; begun = tt; numbered = tt; undoes = tt; takes_back = tt; reads = tt },
-        λ q. running t w.1 w.0.1 q.running,
-      )
-  judged (records.Restart i) w =
-      (
-        λ p. record { running = tt; going = tt; begun = tt; numbered = tt; undoes = tt; takes_back = tt; reads = tt },
-        λ q. tt,
-      )
+    from q = (
+      running t w.1 w.0.1 q.running,
+      elim (cases_Bool (has_op (operation t n) log)) [
+        | inl y ↦ inl (open_from (operation t n) y q.going)
+        | inr off ↦ inr (q.numbered off ∙ ap (λ (k : ℕ). k + 1) (sym (number_kept log t q.running)))
+      ],
+    )
+  judged (records.PageUndo t n undone page slot after) w = (
+    λ p. let k = open_parts (operation t n) p.1 in record { running = runs t w.1 w.0.1 p.0; going = k.1; begun = k.0; numbered = tt; undoes = ap first (sym (spots_kept log f (operation t n) k.1)) ∙ p.2; takes_back = tt; reads = tt },
+    λ q. (running t w.1 w.0.1 q.running, open_from (operation t n) q.begun q.going, ap first (spots_kept log f (operation t n) q.going) ∙ q.undoes),
+  )
+  judged (records.OpEnd t n level deed) w = (
+    λ p. let k = open_parts (operation t n) p.1 in record { running = runs t w.1 w.0.1 p.0; going = k.1; begun = k.0; numbered = tt; undoes = tt; takes_back = tt; reads = (p.2, p.3) },
+    λ q. (running t w.1 w.0.1 q.running, open_from (operation t n) q.begun q.going, q.reads.0, q.reads.1),
+  )
+  judged (records.OpVoid t n) w = (
+    λ p. let k = open_parts (operation t n) p.1 in record { running = runs t w.1 w.0.1 p.0; going = k.1; begun = k.0; numbered = tt; undoes = tt; takes_back = tt; reads = tt },
+    λ q. (running t w.1 w.0.1 q.running, open_from (operation t n) q.begun q.going),
+  )
+  judged (records.CompEnd t n undone) w = (
+    λ p. let k = open_parts (operation t n) p.1 in let run = runs t w.1 w.0.1 p.0 in record { running = run; going = k.1; begun = k.0; numbered = tt; undoes = tt; takes_back = sym (due_kept log f t run) ∙ p.2; reads = tt },
+    λ q. (running t w.1 w.0.1 q.running, open_from (operation t n) q.begun q.going, due_kept log f t q.running ∙ q.takes_back),
+  )
+  judged (records.Commit t) w = (
+    λ p. record { running = runs t w.1 w.0.1 p; going = tt; begun = tt; numbered = tt; undoes = tt; takes_back = tt; reads = tt },
+    λ q. running t w.1 w.0.1 q.running,
+  )
+  judged (records.AbortEnd t) w = (
+    λ p. record { running = runs t w.1 w.0.1 p; going = tt; begun = tt; numbered = tt; undoes = tt; takes_back = tt; reads = tt },
+    λ q. running t w.1 w.0.1 q.running,
+  )
+  judged (records.Restart i) w = (
+    λ p. record { running = tt; going = tt; begun = tt; numbered = tt; undoes = tt; takes_back = tt; reads = tt },
+    λ q. tt,
+  )
 
 pub judged_by : (log : List Record) (r : Record) (h : Analysis) (ds : List Due) (os : List Sub) (ns : List ℕ) → IsKept log h ds os ns → FollowAll log → InOrder (r ∷ log) → Passes h ds os ns r ↔ FollowsRules log r
 judged_by log r h ds os ns k f w =

@@ -34,18 +34,13 @@ pub fn follows(
 }
 
 // By what is kept alone.
-fn passes(
-    history: &History,
-    dues: &Dues,
-    numbers: &Numbers,
-    ended: &Ended,
-    record: &Record,
-) -> bool
+fn passes(history: &History, dues: &Dues, numbers: &Numbers, ended: &Ended, record: &Record) -> bool
     ensures { IsTrue result ↔ Passes history.now dues.now numbers.now ended.now «record».now }
 {
     match record {
         Record::PageOp { txn, operation, .. } => {
-            !ended.has(*txn) && (history.is_unfinished(sub(txn, *operation)) || is_new(numbers, txn, *operation))
+            !ended.has(*txn)
+                && (history.is_unfinished(sub(txn, *operation)) || is_new(numbers, txn, *operation))
         }
         Record::PageUndo {
             txn,
@@ -64,8 +59,12 @@ fn passes(
             operation,
             level,
             deed,
-        } => !ended.has(*txn) && history.is_unfinished(sub(txn, *operation)) && *level == 1 && can_be_read(deed),
-        Record::OpVoid { txn, operation } => !ended.has(*txn) && history.is_unfinished(sub(txn, *operation)),
+        } => !ended.has(*txn)
+            && history.is_unfinished(sub(txn, *operation))
+            && *level == 1
+            && can_be_read(deed),
+        Record::OpVoid { txn, operation } => !ended.has(*txn)
+            && history.is_unfinished(sub(txn, *operation)),
         Record::CompEnd {
             txn,
             operation,
@@ -99,7 +98,14 @@ fn is_new(numbers: &Numbers, txn: &Txn, operation: u64) -> bool
 }
 
 // Whether the operation's newest write that stands has this LSN and place, and these bytes before it.
-fn undoes_newest(history: &History, sub: Sub, undone: Lsn, page: u32, slot: u8, after: &Slot) -> bool
+fn undoes_newest(
+    history: &History,
+    sub: Sub,
+    undone: Lsn,
+    page: u32,
+    slot: u8,
+    after: &Slot,
+) -> bool
     ensures { IsTrue result ↔ (first (filter (spot_of sub) history.now.spots)
         ≡ Some (spot_at undone sub page slot after.now)) }
 {
