@@ -6,4 +6,5 @@ pub mod Writes
 pub mod Owed
 pub mod Judging
 pub mod Whole
+pub mod Telling
 pub mod Worked

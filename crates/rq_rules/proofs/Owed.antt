@@ -22,11 +22,11 @@ abbrev rest : {X : Type 0} → List X → List X
 rest [] = []
 rest (x ∷ xs) = xs
 
-abbrev is_left : Txn → List Record → ℕ → Bool
+abbrev pub is_left : Txn → List Record → ℕ → Bool
 is_left t log n = not (any_record (takes_back t n) log)
 
 -- the newest stands first, and all are below this one
-abbrev AreBelow : ℕ → List ℕ → Type 0
+abbrev pub AreBelow : ℕ → List ℕ → Type 0
 AreBelow n [] = Unit {0}
 AreBelow n (m ∷ ms) = (m < n) × AreBelow m ms
 
@@ -41,7 +41,7 @@ below_filter f n (m ∷ ns) h = elim (cases_Bool (f m)) [
   | inr off ↦ rw off (let a = h.0 in below_more m n (filter f ns) (omega (arith, a)) (below_filter f m ns h.1))
 ]
 
-all_below : (n : ℕ) (ns : List ℕ) (m : ℕ) → AreBelow n ns → In m ns → m < n
+pub all_below : (n : ℕ) (ns : List ℕ) (m : ℕ) → AreBelow n ns → In m ns → m < n
 all_below n [] m h i = absurd i
 all_below n (k ∷ ns) m h i = elim i [
   | inl e ↦ (let b = h.0 in omega (arith, e, b))
@@ -51,7 +51,7 @@ all_below n (k ∷ ns) m h i = elim i [
 older_below : (t : Txn) (log : List Record) → AreBelow (length log + 1) (ends_of t log) → AreBelow (suc (length log) + 1) (ends_of t log)
 older_below t log h = below_more (length log + 1) (suc (length log) + 1) (ends_of t log) (omega arith) h
 
-ends_below : (t : Txn) (log : List Record) → AreBelow (length log + 1) (ends_of t log)
+pub ends_below : (t : Txn) (log : List Record) → AreBelow (length log + 1) (ends_of t log)
 ends_below t [] = tt
 ends_below t (records.OpEnd u n level deed ∷ log) = elim (cases_Bool (same_txn u t)) [
   | inl y ↦ rw y (omega arith, ends_below t log)
@@ -65,7 +65,7 @@ ends_below t (records.Commit u ∷ log) = older_below t log (ends_below t log)
 ends_below t (records.AbortEnd u ∷ log) = older_below t log (ends_below t log)
 ends_below t (records.Restart i ∷ log) = older_below t log (ends_below t log)
 
-names_older : (t : Txn) (log : List Record) (n : ℕ) → first (left_of t log) ≡ Some n → n < length log + 1
+pub names_older : (t : Txn) (log : List Record) (n : ℕ) → first (left_of t log) ≡ Some n → n < length log + 1
 names_older t log n e =
     let k = In-filter (is_left t log) (ends_of t log) n (first_in (left_of t log) n e) in
     all_below (length log + 1) (ends_of t log) n (ends_below t log) k.0

@@ -20,11 +20,11 @@ use Rattle.rq_rules.proofs.Lists.{filter_same, filter_twice, first_in, first_spl
 abbrev spots : List Record → List Spot
 spots log = (analysis log).spots
 
-abbrev stands : Sub → List Record → Spot → Bool
+abbrev pub stands : Sub → List Record → Spot → Bool
 stands o log p = not (any_record (undoes o p.lsn) log)
 
 -- the newest stands first, and all have an LSN below this one
-abbrev AreBelow : ℕ → List Spot → Type 0
+abbrev pub AreBelow : ℕ → List Spot → Type 0
 AreBelow n [] = Unit {0}
 AreBelow n (p ∷ ps) = (p.lsn < n) × AreBelow p.lsn ps
 
@@ -39,7 +39,7 @@ below_filter f n (p ∷ ps) h = elim (cases_Bool (f p)) [
   | inr m ↦ rw m (let a = h.0 in below_more p.lsn n (filter f ps) (omega (arith, a)) (below_filter f p.lsn ps h.1))
 ]
 
-all_below : (n : ℕ) (ps : List Spot) (p : Spot) → AreBelow n ps → In p ps → p.lsn < n
+pub all_below : (n : ℕ) (ps : List Spot) (p : Spot) → AreBelow n ps → In p ps → p.lsn < n
 all_below n [] p h i = absurd i
 all_below n (q ∷ ps) p h i = elim i [
   | inl e ↦ (let a : p.lsn ≡ q.lsn = ap (λ (x : Spot). x.lsn) e in let b = h.0 in omega (arith, a, b))
@@ -50,7 +50,7 @@ all_below n (q ∷ ps) p h i = elim i [
 older_below : (o : Sub) (log : List Record) → AreBelow (length log + 1) (writes_of o log) → AreBelow (suc (length log) + 1) (writes_of o log)
 older_below o log h = below_more (length log + 1) (suc (length log) + 1) (writes_of o log) (omega arith) h
 
-writes_below : (o : Sub) (log : List Record) → AreBelow (length log + 1) (writes_of o log)
+pub writes_below : (o : Sub) (log : List Record) → AreBelow (length log + 1) (writes_of o log)
 writes_below o [] = tt
 writes_below o (records.PageOp t n page slot before after ∷ log) = elim (cases_Bool (same_op (operation t n) o)) [
   | inl y ↦ rw y (omega arith, writes_below o log)
@@ -65,7 +65,7 @@ writes_below o (records.AbortEnd t ∷ log) = older_below o log (writes_below o 
 writes_below o (records.Restart i ∷ log) = older_below o log (writes_below o log)
 
 -- what a PageUndo names is a record behind it
-names_older : (o : Sub) (log : List Record) (p : Spot) → first (standing o log) ≡ Some p → p.lsn < length log + 1
+pub names_older : (o : Sub) (log : List Record) (p : Spot) → first (standing o log) ≡ Some p → p.lsn < length log + 1
 names_older o log p e =
     let k = In-filter (stands o log) (writes_of o log) p (first_in (standing o log) p e) in
     all_below (length log + 1) (writes_of o log) p (writes_below o log) k.0
