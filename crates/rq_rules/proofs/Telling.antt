@@ -10,6 +10,7 @@ use Rattle.rq_model.specs.Words.{In, first, same_txn}
 use Rattle.rq_model.proofs.Lists.{In-filter, same_is, same_self}
 use Rattle.rq_views.specs.Log.{same_op}
 use Rattle.rq_views.specs.Items.{operation}
+use Rattle.rq_views.specs.Numbers.{number_in}
 use Rattle.rq_views.proofs.Overlay.{same_is as op_is, same_self as op_self}
 use Rattle.rq_undone.specs.declared.history.Spot.{Spot}
 use Rattle.rq_undone.specs.Analysis.{spot_at}
@@ -221,3 +222,48 @@ taken_told : (log : List Record) (t : Txn) (n lsn : ℕ) → FollowAll (records.
 taken_told log t n lsn f =
     let k = end_named log t lsn f.0.takes_back in
     record { number = k.0.0; level = k.0.1; deed = k.0.2; there = k.0.3; not_named = end_not_named t k.0.0 k.0.1 lsn k.0.2 log f.1 k.0.3 k.1 }
+
+-- an operation with a number beyond the greatest before the record is the record's
+one_of : (t : Txn) (n : ℕ) (o : Sub) (log : List Record) → (has_op o log ≡ false → o.number ≡ greatest_number o.txn log + 1)
+    → (n ≤ greatest_number t log → has_op (operation t n) log ≡ true) → n ≤ max (number_in t (Some o)) (greatest_number t log)
+    → (same_op o (operation t n) || has_op (operation t n) log) ≡ true
+one_of t n o log new rest le = elim (cases_lt (greatest_number t log) n) [
+  | inr within ↦ or_right (same_op o (operation t n)) (has_op (operation t n) log) (rest within)
+  | inl beyond ↦ elim (cases_Bool (same_txn o.txn t)) [
+    | inr other ↦ (let k : n ≤ max 0 (greatest_number t log) = rw other at le in absurd (omega (arith, k, beyond)))
+    | inl own ↦
+        let is : o.txn ≡ t = same_is o.txn t own in
+        let k : n ≤ max o.number (greatest_number t log) = rw own at le in
+        elim (cases_Bool (has_op o log)) [
+          | inl y ↦
+              let a : o.number ≤ greatest_number o.txn log = within_greatest o.txn o.number log y in
+              let b : greatest_number o.txn log ≡ greatest_number t log = ap (λ (u : Txn). greatest_number u log) is in
+              absurd (omega (arith, a, b, k, beyond))
+          | inr off ↦
+              let a : o.number ≡ greatest_number o.txn log + 1 = new off in
+              let b : greatest_number o.txn log ≡ greatest_number t log = ap (λ (u : Txn). greatest_number u log) is in
+              let c : o.number ≡ n = omega (arith, a, b, k, beyond) in
+              or_left (same_op o (operation t n)) (has_op (operation t n) log) (and_from (same_txn o.txn t) (nat_eq o.number n) own (eq-eqb o.number n c))
+        ]
+  ]
+]
+
+none_more : (g n : ℕ) → n ≤ max 0 g → n ≤ g
+none_more g n le = omega (arith, le)
+
+has_begun : (o : Sub) (log : List Record) → has_op o log ≡ true → has_op o log ≡ false → o.number ≡ greatest_number o.txn log + 1
+has_begun o log y off = absurd (true≢false (sym y ∙ off))
+
+no_gaps : (log : List Record) (t : Txn) (n : ℕ) → FollowAll log → 1 ≤ n → n ≤ greatest_number t log → has_op (operation t n) log ≡ true
+no_gaps [] t n f low le = absurd (omega (arith, low, le))
+no_gaps (records.PageOp u m page slot before after ∷ log) t n f low le = one_of t n (operation u m) log f.0.numbered (no_gaps log t n f.1 low) le
+no_gaps (records.PageUndo u m undone page slot after ∷ log) t n f low le = one_of t n (operation u m) log (has_begun (operation u m) log f.0.begun) (no_gaps log t n f.1 low) le
+no_gaps (records.OpEnd u m level deed ∷ log) t n f low le = one_of t n (operation u m) log (has_begun (operation u m) log f.0.begun) (no_gaps log t n f.1 low) le
+no_gaps (records.OpVoid u m ∷ log) t n f low le = one_of t n (operation u m) log (has_begun (operation u m) log f.0.begun) (no_gaps log t n f.1 low) le
+no_gaps (records.CompEnd u m undone ∷ log) t n f low le = one_of t n (operation u m) log (has_begun (operation u m) log f.0.begun) (no_gaps log t n f.1 low) le
+no_gaps (records.Commit u ∷ log) t n f low le = no_gaps log t n f.1 low (none_more (greatest_number t log) n le)
+no_gaps (records.AbortEnd u ∷ log) t n f low le = no_gaps log t n f.1 low (none_more (greatest_number t log) n le)
+no_gaps (records.Restart i ∷ log) t n f low le = no_gaps log t n f.1 low (none_more (greatest_number t log) n le)
+
+pub rules_told : RulesTell
+rules_told = record { undone = undone_told; taken_back = taken_told; no_gaps = no_gaps }
