@@ -1,6 +1,5 @@
 -- What is asked by what is kept is that the record follows the rules.
-use Rattle.std.proofs.Common.{◌≡◌, ◌↔◌, ◌⊎◌, ℕ, ◌+◌, ◌≤◌, Bool, true, false, not, ◌&&◌, ◌||◌, List, [], ◌∷◌, Option, None, Some, inl, inr, refl, sym, ◌∙◌, ap, subst, arith}
-use Rattle.std.specs.List.{filter}
+use Rattle.std.proofs.Common.{◌≡◌, ◌↔◌, ℕ, ◌+◌, Bool, true, false, not, ◌&&◌, ◌||◌, List, [], ◌∷◌, inl, inr, refl, sym, ◌∙◌, ap, subst, arith}
 use Rattle.std.proofs.lemmas.Bool.{cases_Bool, false≢true, true≢false, false_from_ne_true, or_parts}
 use Rattle.rq_model.specs.declared.txn.Txn.{Txn}
 use Rattle.rq_model.specs.declared.txn.Sub.{Sub}
@@ -11,13 +10,12 @@ use Rattle.rq_model.specs.Incarnations.{InOrder, incarnation_of}
 use Rattle.rq_model.specs.Words.{first, has_number}
 use Rattle.rq_views.specs.Items.{operation}
 use Rattle.rq_views.specs.Legal.{is_of}
-use Rattle.rq_undone.specs.declared.history.Spot.{Spot}
-use Rattle.rq_undone.specs.Analysis.{Analysis, analysis, has_sub, spot_at, spot_of}
+use Rattle.rq_undone.specs.Analysis.{Analysis, analysis, has_sub}
 use Rattle.rq_lost.specs.declared.dues.Due.{Due}
 use Rattle.rq_lost.specs.Dues.{dues}
-use Rattle.rq_lost.specs.Numbers.{number_of, numbers}
-use Rattle.rq_rules.specs.Kept.{IsKept, Passes, ended, lsn_due}
-use Rattle.rq_rules.specs.Rules.{FollowAll, FollowsRules, ends_op, greatest_number, has_op, has_op_end, left_of, op_of, standing}
+use Rattle.rq_lost.specs.Numbers.{numbers}
+use Rattle.rq_rules.specs.Kept.{IsKept, Passes, ended}
+use Rattle.rq_rules.specs.Rules.{FollowAll, FollowsRules, ends_op, greatest_number, has_op, has_op_end, op_of}
 use Rattle.rq_rules.proofs.Ends.{ended_kept}
 use Rattle.rq_rules.proofs.Operations.{number_kept, unfinished_kept, within_greatest}
 use Rattle.rq_rules.proofs.Owed.{due_kept}

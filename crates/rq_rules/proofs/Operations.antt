@@ -1,7 +1,6 @@
 -- The operations that have begun and have no end are kept, and the greatest number.
-use Rattle.std.proofs.Common.{◌≡◌, ℕ, ◌+◌, ◌≤◌, Bool, true, false, not, ◌||◌, ◌&&◌, max, List, [], ◌∷◌, ◌++◌, Option, None, Some, inl, inr, refl, sym, ◌∙◌, ap, arith}
-use Rattle.std.specs.List.{filter}
-use Rattle.std.proofs.lemmas.Bool.{cases_Bool, or_cases, or_left, false≢true, true≢false}
+use Rattle.std.proofs.Common.{◌≡◌, ℕ, ◌≤◌, Bool, true, false, not, ◌||◌, ◌&&◌, max, List, [], ◌∷◌, ◌++◌, inl, inr, refl, sym, ◌∙◌, ap, arith}
+use Rattle.std.proofs.lemmas.Bool.{cases_Bool, or_left, false≢true}
 use Rattle.rq_model.specs.declared.txn.Txn.{Txn}
 use Rattle.rq_model.specs.declared.txn.Sub.{Sub}
 use Rattle.rq_model.specs.declared.record.Record.{Record}
@@ -12,7 +11,7 @@ use Rattle.rq_views.specs.Log.{same_op}
 use Rattle.rq_views.specs.Items.{item_of, items, operation}
 use Rattle.rq_views.specs.Legal.{began, is_end, is_of, of_op, over}
 use Rattle.rq_views.specs.Numbers.{greatest, number_in}
-use Rattle.rq_views.proofs.Overlay.{same_is as op_is, same_self as op_self}
+use Rattle.rq_views.proofs.Overlay.{same_is as op_is}
 use Rattle.rq_views.proofs.Numbers.{began_within}
 use Rattle.rq_undone.specs.Analysis.{analysis, has_sub, with_sub, without_sub}
 use Rattle.rq_lost.specs.Numbers.{number_of, numbers}

@@ -1,6 +1,6 @@
 -- What is named by a log whose records follow the rules.
-use Rattle.std.proofs.Common.{◌≡◌, ℕ, suc, ◌+◌, ◌<◌, ◌≤◌, Bool, true, false, not, ◌||◌, ◌&&◌, cond, max, nat_eq, List, [], ◌∷◌, length, Option, None, Some, inl, inr, refl, sym, ◌∙◌, ap, subst, arith, ◌⊎◌}
-use Rattle.std.proofs.lemmas.Bool.{and_from, cases_Bool, cases_lt, eq-eqb, eqb-true, false≢true, true≢false, false_from_ne_true, ne_eqb, or_left, or_parts, or_right}
+use Rattle.std.proofs.Common.{◌≡◌, ℕ, ◌+◌, ◌<◌, ◌≤◌, Bool, true, false, not, ◌||◌, ◌&&◌, max, nat_eq, List, [], ◌∷◌, length, Some, inl, inr, refl, sym, ◌∙◌, ap, subst, arith, ◌⊎◌}
+use Rattle.std.proofs.lemmas.Bool.{and_from, cases_Bool, cases_lt, eq-eqb, eqb-true, false≢true, true≢false, ne_eqb, or_left, or_parts, or_right}
 use Rattle.rq_model.specs.declared.txn.Txn.{Txn}
 use Rattle.rq_model.specs.declared.txn.Sub.{Sub}
 use Rattle.rq_model.specs.declared.record.Record.{Record}
@@ -11,10 +11,10 @@ use Rattle.rq_model.proofs.Lists.{In-filter, same_is, same_self}
 use Rattle.rq_views.specs.Log.{same_op}
 use Rattle.rq_views.specs.Items.{operation}
 use Rattle.rq_views.specs.Numbers.{number_in}
-use Rattle.rq_views.proofs.Overlay.{same_is as op_is, same_self as op_self}
+use Rattle.rq_views.proofs.Overlay.{same_self as op_self}
 use Rattle.rq_undone.specs.declared.history.Spot.{Spot}
 use Rattle.rq_undone.specs.Analysis.{spot_at}
-use Rattle.rq_rules.specs.Rules.{FollowAll, FollowsRules, ends_of, greatest_number, has_op, left_of, op_of, standing, takes_back, undoes, writes_of}
+use Rattle.rq_rules.specs.Rules.{FollowAll, FollowsRules, ends_of, greatest_number, has_op, left_of, standing, takes_back, undoes, writes_of}
 use Rattle.rq_rules.specs.Theorems.{IsEndOf, IsWriteOf, RulesTell, names_end, names_write, record_at}
 use Rattle.rq_rules.proofs.Lists.{first_in}
 use Rattle.rq_rules.proofs.Operations.{within_greatest}

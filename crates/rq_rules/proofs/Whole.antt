@@ -1,16 +1,15 @@
 -- The records of a whole log follow the rules.
-use Rattle.std.proofs.Common.{◌≡◌, ℕ, ◌+◌, ◌*◌, ◌≤◌, Bool, true, false, not, ◌||◌, ◌&&◌, List, [], ◌∷◌, length, map, Option, None, Some, inl, inr, refl, sym, ◌∙◌, ap, subst, arith}
+use Rattle.std.proofs.Common.{◌≡◌, ℕ, ◌+◌, ◌≤◌, true, false, List, [], ◌∷◌, map, Some, inl, inr, refl, sym, ◌∙◌, ap, subst, arith}
 use Rattle.std.specs.List.{filter}
 use Rattle.std.proofs.lemmas.Bool.{cases_Bool, false≢true, true≢false, false_from_ne_true, or_cases}
 use Rattle.rq_model.specs.declared.txn.Txn.{Txn}
 use Rattle.rq_model.specs.declared.txn.Sub.{Sub}
 use Rattle.rq_model.specs.declared.record.Record.{Record}
 use Rattle.rq_model.specs.declared.record.Record.TheVariants as records
-use Rattle.rq_model.specs.declared.record.Deed.{Deed}
 use Rattle.rq_model.specs.declared.record.Deed.TheVariants.{Append, UnlinkHead, Close}
 use Rattle.rq_model.specs.Content.{has_end}
 use Rattle.rq_model.specs.Deeds.{deed_in}
-use Rattle.rq_model.specs.Words.{In, first, is_some, same_txn}
+use Rattle.rq_model.specs.Words.{first, is_some, same_txn}
 use Rattle.rq_model.proofs.Lists.{In-filter, same_is}
 use Rattle.rq_page.specs.Sizes.{Sizes, address}
 use Rattle.rq_page.specs.Slots.{Slot, IsSlotOf, held_in, slot_bytes}
@@ -33,7 +32,7 @@ use Rattle.rq_undone.proofs.Spots.{Place, lsn_of, own_lsns, own_writes, spot_bef
 use Rattle.rq_lost.specs.declared.dues.Due.{Due}
 use Rattle.rq_lost.specs.Dues.{due_of, dues}
 use Rattle.rq_lost.proofs.Owing.{own_dues, placed_due}
-use Rattle.rq_rules.specs.Rules.{FollowAll, FollowsRules, has_op, has_op_end, left_of, standing}
+use Rattle.rq_rules.specs.Rules.{FollowAll, FollowsRules, left_of, standing}
 use Rattle.rq_rules.specs.Theorems.{WholeLogsFollow}
 use Rattle.rq_rules.proofs.Lists.{first_in}
 use Rattle.rq_rules.proofs.Operations.{greatest_same, has_op_end_same, has_op_same}

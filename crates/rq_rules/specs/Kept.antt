@@ -3,14 +3,12 @@ use Rattle.std.specs.Prelude.{◌≡◌, ℕ, ◌+◌, ◌⊎◌, true, false, L
 use Rattle.std.specs.List.{filter}
 use Rattle.std.specs.Ordering.{nat_cmp}
 use Rattle.std.specs.BTreeSet.{insert_key}
-use Rattle.rq_model.specs.declared.txn.Txn.{Txn}
 use Rattle.rq_model.specs.declared.txn.Sub.{Sub}
 use Rattle.rq_model.specs.declared.record.Record.{Record}
 use Rattle.rq_model.specs.declared.record.Record.TheVariants.{PageOp, PageUndo, OpEnd, OpVoid, CompEnd, Commit, AbortEnd, Restart}
 use Rattle.rq_model.specs.Words.{first, has_number, is_some}
 use Rattle.rq_model.specs.Deeds.{deed_in}
 use Rattle.rq_views.specs.Items.{operation}
-use Rattle.rq_undone.specs.declared.history.Spot.{Spot}
 use Rattle.rq_undone.specs.Analysis.{Analysis, analysis, has_sub, spot_at, spot_of}
 use Rattle.rq_lost.specs.declared.dues.Due.{Due}
 use Rattle.rq_lost.specs.Dues.{due_of, dues}

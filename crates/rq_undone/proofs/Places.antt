@@ -1,5 +1,5 @@
 -- Slot writes that stand in the order of their records, and as contracts see them, the newest first.
-use Rattle.std.proofs.Common.{◌≡◌, ℕ, suc, ◌+◌, ◌<◌, Bool, true, false, List, [], ◌∷◌, ◌++◌, ◌||◌, Option, Some, None, length, take, drop, get_or, reverse, refl, sym, ◌∙◌, ap, inl, inr, arith}
+use Rattle.std.proofs.Common.{◌≡◌, ℕ, suc, ◌+◌, ◌<◌, Bool, true, false, List, [], ◌∷◌, ◌++◌, ◌||◌, Some, None, length, take, drop, get_or, reverse, refl, sym, ◌∙◌, ap, inl, inr, arith}
 use Rattle.std.specs.List.{filter}
 use Rattle.std.proofs.Math.Seq.{split_at}
 use Rattle.std.proofs.lemmas.Bool.{cases_Bool, or_parts}

@@ -1,4 +1,3 @@
-use Rattle.std.proofs.Common.{◌≡◌, ◌↔◌}
 use Rattle.rq_rules.proofs.Judging.{judged_by}
 use Rattle.rq_rules.proofs.checking.follows.Goals as goal
 

@@ -1,4 +1,4 @@
-use Rattle.std.proofs.Common.{List, ap, ◌∙◌, ℕ}
+use Rattle.std.proofs.Common.{ap, ◌∙◌}
 use Rattle.rq_model.specs.Words.{has_number}
 use Rattle.rq_rules.proofs.Keys.{has_key}
 use Rattle.rq_rules.proofs.ended.Ended.has.Goals as goal

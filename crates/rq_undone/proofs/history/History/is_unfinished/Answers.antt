@@ -1,5 +1,5 @@
 use Rattle.std.specs.List.{list_any}
-use Rattle.std.proofs.Common.{ap, sym, ◌∙◌}
+use Rattle.std.proofs.Common.{ap, ◌∙◌}
 use Rattle.rq_views.specs.Log.{same_op}
 use Rattle.rq_undone.specs.Analysis.{Analysis, has_sub}
 use Rattle.rq_undone.proofs.Noting.{any_sub}

@@ -1,7 +1,6 @@
-use Rattle.std.proofs.Common.{◌≡◌, List, Option, Some, None, reverse, get_or, ap, sym, ◌∙◌}
+use Rattle.std.proofs.Common.{Some, ap, sym, ◌∙◌}
 use Rattle.std.specs.List.{filter}
 use Rattle.rq_model.specs.Words.{first}
-use Rattle.rq_undone.specs.declared.history.Spot.{Spot}
 use Rattle.rq_undone.specs.Analysis.{Analysis, spot_of}
 use Rattle.rq_undone.specs.Pages.{any_spot}
 use Rattle.rq_undone.proofs.Places.{newest_there, none_there}
