@@ -1,16 +1,19 @@
 -- What an inverse is planned from: its pages are nobody's, and of a sound store it finds what it needs.
 use Rattle.std.proofs.Common.{◌≡◌, ℕ, ◌+◌, ◌-◌, ◌/◌, ◌<◌, ◌||◌, ◌++◌, ◌⊎◌, List, [], ◌∷◌, length, reverse, refl, sym, ◌∙◌, ap, subst, true, false, Option, Some, None, inl, inr, arith}
-use Rattle.std.specs.Prelude.{IfSome}
+use Rattle.std.specs.Option.{is_some}
+use Rattle.std.specs.Prelude.{IfNone, IfSome}
 use Rattle.std.proofs.lemmas.Bool.{cases_Bool, cases_eq, or_left, or_right, true≢false, false≢true}
 use Rattle.std.proofs.lemmas.List.{reverse-append, reverse-reverse}
 use Rattle.rq_page.specs.declared.cell.Cell.{Cell}
 use Rattle.rq_page.specs.declared.directory.Directory.{Directory}
-use Rattle.rq_page.specs.Sizes.{Sizes, directory_at, sender_count}
+use Rattle.rq_page.specs.Sizes.{Sizes, cell_count, directory_at, sender_count}
+use Rattle.rq_page.specs.Slots.{Slot}
 use Rattle.rq_page.specs.Slots.Slot.{Free, Used, Sender}
 use Rattle.rq_views.specs.Items.{items, layout_of}
 use Rattle.rq_views.specs.Legal.{view}
 use Rattle.rq_views.specs.Log.{Slots, Write, cell_in}
 use Rattle.rq_views.specs.Plans.{directory_put_back, directory_write, put_back_writes, unlink_tail_writes, with_prev}
+use Rattle.rq_views.specs.Stored.{count_used, slots_in}
 use Rattle.rq_level.specs.declared.writes.SlotWrite.{SlotWrite}
 use Rattle.rq_level.specs.Writes.{IsFirstAt, write_of, writes_of}
 use Rattle.rq_chain.specs.Neighbours.{cell_beside}
@@ -25,12 +28,16 @@ use Rattle.rq_sound.proofs.Groups.{slots_tell}
 use Rattle.rq_sound.proofs.LatchLists.{any_join, off_named}
 use Rattle.rq_sound.proofs.Levels.{are_off, relinked_off}
 use Rattle.rq_inverses.specs.Found.{AreLatchedBelow, FirstIsLowest}
-use Rattle.rq_inverses.specs.Inverses.{AreBackSlots, PutBackIsLatched}
+use Rattle.rq_inverses.specs.Inverses.{AreBackSlots, HasFree, PutBackIsLatched, StandsOn}
 use Rattle.rq_inverses.specs.declared.inverses.BackSlots.{BackSlots}
 
 -- what is said of what is found
 pub some_told : {X : Type 0} (P : X → Type 0) (o : Option X) (x : X) → o ≡ Some x → IfSome o P → P x
 some_told P o x e h = subst (λ (y : Option _). IfSome y P) e h
+
+pub unfound_told : {X : Type 0} (P : Type 0) (o : Option X) → is_some o ≡ false → IfNone o P → P
+unfound_told P None e h = h
+unfound_told P (Some x) e h = absurd (true≢false e)
 
 -- ---- a store that has these pages and rows, and nothing else
 
@@ -149,42 +156,53 @@ back_first z us x tag body is = at (cell_beside x.head) is where
   at None e = first_at z us (first ∷ []) new e
   at (Some c) e = first_at z us (first ∷ record { at = x.group.directory.head; before = Used c; after = Used (with_prev x.free c) } ∷ []) new e
 
--- ---- what a sound store holds
+-- ---- what a sound store holds that stands on these pages
 
 stands_cell : (z : Sizes) (q : Slots) (a g n : ℕ) → StandsAt z q a g n → cell_in (q a) ≡ None → ⊥
 stands_cell z q a g n h none = let bad : None ≡ Some h.cell = sym none ∙ ap cell_in h.at in cc
 
-module _ (s : State) (k : IsSound s) (g : ℕ) (d : Directory) (below : g < sender_count s.sizes) (off : latched_in s.rows (directory_at g / 16) ≡ false) (at : slots_now s (directory_at g) ≡ Sender g d) where
-  abbrev t : TellsGroup s g d
-  t = slots_tell.tells s g d k below off at
+module _ (s : State) (z : Sizes) (images : List (List ℕ)) (rows : List Row) (on : StandsOn s z images rows) where
+  -- its slots are those of the pages
+  stands_slots : slots_now s ≡ slots_in z images
+  stands_slots = ap (λ z. slots_in z s.images) on.sizes ∙ ap (slots_in z) on.images
 
-  -- a group with a message in its chain
-  module _ (some : 0 < length (view (items s.sizes s.records) g).messages) where
-    pub some_sent : d.received < d.sent
-    some_sent = (let a = t.sent in omega (arith, a, some))
+  stands_here : (a : ℕ) (x : Slot) → slots_in z images a ≡ x → slots_now s a ≡ x
+  stands_here a x h = ap (λ (q : Slots). q a) stands_slots ∙ h
 
-    pub tail_there : (d.tail ≡ 0) ⊎ (cell_in (slots_now s d.tail) ≡ None) → ⊥
-    tail_there h =
-        let x = t.tail some_sent in
-        elim h [
-          | inl e ↦ let p = x.place.above in absurd (omega (arith, e, p))
-          | inr none ↦ stands_cell s.sizes (slots_now s) d.tail g d.sent x none
-        ]
+  pub stands_free : HasFree s → count_used z (slots_in z images) < cell_count z
+  stands_free h = subst (λ y. count_used y (slots_in z images) < cell_count y) on.sizes (subst (λ q. count_used s.sizes q < cell_count s.sizes) stands_slots h)
 
-    pub front_there : (c : Cell) → slots_now s d.tail ≡ Used c → 0 < c.prev → cell_in (slots_now s c.prev) ≡ None → ⊥
-    front_there c here pos none =
-        let x = t.front c some_sent here in
-        elim (cases_eq (d.received + 1) d.sent) [
-          | inl e ↦ let z = x.one e in absurd (omega (arith, z, pos))
-          | inr ne ↦ stands_cell s.sizes (slots_now s) c.prev g (d.sent - 1) (x.more (let m = some_sent in omega (arith, m, ne))) none
-        ]
+  module _ (k : IsSound s) (g : ℕ) (d : Directory) (below : g < sender_count z) (off : latched_in rows (directory_at g / 16) ≡ false) (at : slots_in z images (directory_at g) ≡ Sender g d) where
+    abbrev t : TellsGroup s g d
+    t = slots_tell.tells s g d k (subst (λ z. g < sender_count z) (sym on.sizes) below) (on.latches (directory_at g / 16) ∙ off) (stands_here (directory_at g) (Sender g d) at)
 
-  -- a group of which something was received
-  pub some_received : 0 < (view (items s.sizes s.records) g).received → d.received ≡ 0 → ⊥
-  some_received pos none = let a = t.received in absurd (omega (arith, a, pos, none))
+    -- a group with a message in its chain
+    module _ (some : 0 < length (view (items s.sizes s.records) g).messages) where
+      pub some_sent : d.received < d.sent
+      some_sent = (let a = t.sent in omega (arith, a, some))
 
-  pub head_there : 0 < d.head → cell_in (slots_now s d.head) ≡ None → ⊥
-  head_there pos none = elim (cases_eq d.received d.sent) [
-    | inl e ↦ let z = (t.empty e).0 in absurd (omega (arith, z, pos))
-    | inr ne ↦ stands_cell s.sizes (slots_now s) d.head g (d.received + 1) (t.head (let m = t.sent in omega (arith, m, ne))) none
-  ]
+      pub tail_there : (d.tail ≡ 0) ⊎ (cell_in (slots_in z images d.tail) ≡ None) → ⊥
+      tail_there h =
+          let x = t.tail some_sent in
+          elim h [
+            | inl e ↦ let p = x.place.above in absurd (omega (arith, e, p))
+            | inr none ↦ stands_cell s.sizes (slots_now s) d.tail g d.sent x (ap (λ (q : Slots). cell_in (q d.tail)) stands_slots ∙ none)
+          ]
+
+      pub front_there : (c : Cell) → slots_in z images d.tail ≡ Used c → 0 < c.prev → cell_in (slots_in z images c.prev) ≡ None → ⊥
+      front_there c here pos none =
+          let x = t.front c some_sent (stands_here d.tail (Used c) here) in
+          elim (cases_eq (d.received + 1) d.sent) [
+            | inl e ↦ let z = x.one e in absurd (omega (arith, z, pos))
+            | inr ne ↦ stands_cell s.sizes (slots_now s) c.prev g (d.sent - 1) (x.more (let m = some_sent in omega (arith, m, ne))) (ap (λ (q : Slots). cell_in (q c.prev)) stands_slots ∙ none)
+          ]
+
+    -- a group of which something was received
+    pub some_received : 0 < (view (items s.sizes s.records) g).received → d.received ≡ 0 → ⊥
+    some_received pos none = let a = t.received in absurd (omega (arith, a, pos, none))
+
+    pub head_there : 0 < d.head → cell_in (slots_in z images d.head) ≡ None → ⊥
+    head_there pos none = elim (cases_eq d.received d.sent) [
+      | inl e ↦ let z = (t.empty e).0 in absurd (omega (arith, z, pos))
+      | inr ne ↦ stands_cell s.sizes (slots_now s) d.head g (d.received + 1) (t.head (let m = t.sent in omega (arith, m, ne))) (ap (λ (q : Slots). cell_in (q d.head)) stands_slots ∙ none)
+    ]

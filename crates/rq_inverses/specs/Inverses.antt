@@ -22,9 +22,11 @@ use Rattle.rq_inverses.specs.declared.inverses.BackSlots.{BackSlots}
 
 -- ---- stores
 
--- a store with these pages and these rows
-abbrev pub with_pages : State → Sizes → List (List ℕ) → List Row → State
-with_pages s z images rows = record s { sizes = z; images = images; rows = rows }
+-- a store with these pages, in which the pages are latched that these rows have latched
+pub record StandsOn (s : State) (z : Sizes) (pages : List (List ℕ)) (rows : List Row) : Type 0 where
+  pub sizes : s.sizes ≡ z
+  pub images : s.images ≡ pages
+  pub latches : (p : ℕ) → latched_in s.rows p ≡ latched_in rows p
 
 -- some cell is free
 abbrev pub HasFree : State → Type 0

@@ -13,7 +13,7 @@ ghost use Rattle.rq_sound.specs.Latching.{any_latched, before_tail};
 ghost use Rattle.rq_sound.specs.Plans.{IsMarking, IsReceiveBack, IsSendBack, IsPlannedFrom};
 ghost use Rattle.rq_sound.specs.Sound.{IsSound};
 ghost use Rattle.rq_inverses.specs.Found.{FirstIsLowest};
-ghost use Rattle.rq_inverses.specs.Inverses.{AreBackSlots, AreNobodys, HasFree, InverseIsLatched, InverseTakesLowest, IsFreeGroup, MayBeUndone, PutBackIsLatched, with_pages};
+ghost use Rattle.rq_inverses.specs.Inverses.{AreBackSlots, AreNobodys, HasFree, InverseIsLatched, InverseTakesLowest, IsFreeGroup, MayBeUndone, PutBackIsLatched, StandsOn};
 
 use crate::found::{cell_at, is_latched, lowest_free, neighbour};
 use rq_chain::{Group, Neighbour, mark, put_back, unlink_tail};
@@ -61,8 +61,8 @@ pub fn plan_inverse<P: PageDevice>(
         (slots_in pages.now.sizes pages.now.images) transactions.now deed.now)) }
     // Why there is none otherwise.
     ensures plain { IfErr result (λ r. r ≢ Refusal.Failed) }
-    ensures refused { (s : State) → IsSound (with_pages s pages.now.sizes pages.now.images transactions.now)
-        → MayBeUndone (with_pages s pages.now.sizes pages.now.images transactions.now) deed.now
+    ensures refused { (s : State) → StandsOn s pages.now.sizes pages.now.images transactions.now → IsSound s
+        → MayBeUndone s deed.now
         → IfErr result (λ r. r ≡ Refusal.NoMemory) }
 {
     match deed {
@@ -102,8 +102,8 @@ fn plan_unlink_tail<P: PageDevice>(
         (before_tail (slots_in pages.now.sizes pages.now.images) sender) ≡ true)) }
     // Why there is none otherwise.
     ensures plain { IfErr result (λ r. r ≢ Refusal.Failed) }
-    ensures refused { (s : State) → IsSound (with_pages s pages.now.sizes pages.now.images transactions.now)
-        → 0 < length (view (items pages.now.sizes s.records) sender).messages
+    ensures refused { (s : State) → StandsOn s pages.now.sizes pages.now.images transactions.now → IsSound s
+        → 0 < length (view (items s.sizes s.records) sender).messages
         → IfErr result (λ r. r ≡ Refusal.NoMemory) }
 {
     let Some(group) = free_group(pages, transactions, sender) else {
@@ -154,9 +154,9 @@ fn plan_put_back<P: PageDevice>(
         (slots_in pages.now.sizes pages.now.images) transactions.now sender)) }
     // Why there is none otherwise.
     ensures plain { IfErr result (λ r. r ≢ Refusal.Failed) }
-    ensures refused { (s : State) → IsSound (with_pages s pages.now.sizes pages.now.images transactions.now)
-        → 0 < (view (items pages.now.sizes s.records) sender).received
-        → HasFree (with_pages s pages.now.sizes pages.now.images transactions.now)
+    ensures refused { (s : State) → StandsOn s pages.now.sizes pages.now.images transactions.now → IsSound s
+        → 0 < (view (items s.sizes s.records) sender).received
+        → HasFree s
         → IfErr result (λ r. r ≡ Refusal.NoMemory) }
 {
     match back_slots(pages, transactions, sender)? {
@@ -182,9 +182,9 @@ fn back_slots<P: PageDevice>(
     ensures latched { IfOk result (λ found. IfNone found (PutBackIsLatched pages.now.sizes
         (slots_in pages.now.sizes pages.now.images) transactions.now sender)) }
     ensures plain { IfErr result (λ r. r ≢ Refusal.Failed) }
-    ensures refused { (s : State) → IsSound (with_pages s pages.now.sizes pages.now.images transactions.now)
-        → 0 < (view (items pages.now.sizes s.records) sender).received
-        → HasFree (with_pages s pages.now.sizes pages.now.images transactions.now)
+    ensures refused { (s : State) → StandsOn s pages.now.sizes pages.now.images transactions.now → IsSound s
+        → 0 < (view (items s.sizes s.records) sender).received
+        → HasFree s
         → IfErr result (λ r. ⊥) }
 {
     let Some(group) = free_group(pages, transactions, sender) else {

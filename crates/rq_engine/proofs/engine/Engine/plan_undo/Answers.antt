@@ -1,19 +1,19 @@
-use Rattle.std.proofs.Common.{◌≡◌, refl, sym, subst}
+use Rattle.std.proofs.Common.{sym, ap, subst}
 use Rattle.std.specs.Prelude.{IfOk, IfSome}
+use Rattle.rq_txn.specs.Rows.{latched_in}
 use Rattle.rq_store.specs.State.{State}
-use Rattle.rq_sound.specs.Sound.{IsSound}
-use Rattle.rq_inverses.specs.Inverses.{MayBeUndone, with_pages}
 use Rattle.rq_engine.specs.Aborts.{UndoIsLatched}
 use Rattle.rq_engine.proofs.Opened.{state_is}
 use Rattle.rq_engine.proofs.engine.Engine.plan_undo.Goals as goal
 
 pub returns-clause-refused : goal.returns-clause-refused
 returns-clause-refused g c k may =
-    let s = c.args.self.now.state in
-    let i = c.self.inside in
-    let same : with_pages s i.pages.sizes i.pages.images i.transactions ≡ s =
-    subst (λ (x : State). with_pages x i.pages.sizes i.pages.images i.transactions ≡ x) (state_is c.self.view_is) refl in
-    c.plan_inverse.ensures.refused s (subst IsSound (sym same) k) (subst (λ (x : State). MayBeUndone x c.args.deed.now) (sym same) may)
+    let e = state_is c.self.view_is in
+    c.plan_inverse.ensures.refused c.args.self.now.state (record {
+      sizes = ap (λ (s : State). s.sizes) (sym e);
+      images = ap (λ (s : State). s.images) (sym e);
+      latches = λ p. ap (λ (s : State). latched_in s.rows p) (sym e);
+    }) k may
 
 pub returns-clause-unlatched : goal.returns-clause-unlatched
 returns-clause-unlatched g c = subst (λ (s : State). IfOk c.plan_inverse.result (λ found. IfSome found (λ _. UndoIsLatched s c.args.deed.now → ⊥))) (state_is c.self.view_is) c.plan_inverse.ensures.unlatched
