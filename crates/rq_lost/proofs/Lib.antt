@@ -11,4 +11,11 @@ pub mod Turning
 pub mod Worked
 pub mod WorkedMoves
 pub mod Owing
+pub mod Stack
+pub mod Choosing
+pub mod Numbering
 pub mod Recovering
+pub mod Walking
+pub mod Logging
+pub mod WorkedWalk
+pub mod Planning

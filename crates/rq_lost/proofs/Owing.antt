@@ -21,11 +21,12 @@ use Rattle.rq_store.specs.State.{State}
 use Rattle.rq_store.proofs.Holders.{placed_more}
 use Rattle.rq_store.proofs.RowLists.{found_in}
 use Rattle.rq_sound.specs.Sound.{IsSound}
-use Rattle.rq_lost.specs.Dues.{Due, IsNewestDue, but_newest, but_own, due_of, dues}
+use Rattle.rq_lost.specs.declared.dues.Due.{Due}
+use Rattle.rq_lost.specs.Dues.{IsNewestDue, but_newest, but_own, deed_due, due_of, dues}
 use Rattle.rq_lost.proofs.Turning.{in_placed, nil_or, split_last}
 
-abbrev placed_due : Due → Placed
-placed_due d = record { lsn = d.lsn; deed = d.deed }
+abbrev pub placed_due : Due → Placed
+placed_due d = record { lsn = d.lsn; deed = deed_due d }
 
 abbrev owned_due : Due → Owned
 owned_due d = record { txn = d.txn; placed = placed_due d }
@@ -66,7 +67,7 @@ map_own t (d ∷ ds) = elim (cases_Bool (same_txn d.txn t)) [
   | inr n ↦ rw n (map_own t ds)
 ]
 
-own_dues : (z : Sizes) (log : List Record) (t : Txn) → map placed_due (filter (due_of t) (dues log)) ≡ open_deeds t (items z log)
+pub own_dues : (z : Sizes) (log : List Record) (t : Txn) → map placed_due (filter (due_of t) (dues log)) ≡ open_deeds t (items z log)
 own_dues z log t = sym (map_own t (dues log)) ∙ ap (λ (l : List Owned). map placed_of (filter (owned_by t) l)) (dues_are z log) ∙ own_open t (items z log)
 
 -- the newest stands first

@@ -49,7 +49,7 @@ repeats images h = record {
   fits = h.fits;
 }
 
-sounds : (images : List (List ℕ)) → AreRepeated images → IsSound (store_two images)
+pub sounds : (images : List (List ℕ)) → AreRepeated images → IsSound (store_two images)
 sounds images h = lost_sound sizes images log_two 11 (repeats images h)
 
 pub lost_judged : LostAreJudged
@@ -96,6 +96,10 @@ turns_judged = record {
   stack_then = refl;
   first = λ images h. first_due (store_two images) (sounds images h) took_due (sent_due ∷ []) refl;
   not_first = λ images n. (let a : 11 ≤ 8 = n.newest row_two took_two (inl refl) (inr (inl refl)) in absurd (omega (arith, a)));
+  none_ends = refl;
+  then_ends = refl;
+  numbered = refl;
+  rounds = refl;
 }
 
 pub two_judged : TwoAreJudged

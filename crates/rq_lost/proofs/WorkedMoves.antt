@@ -131,7 +131,7 @@ waits_again ws (suc g) =
     let b : took (suc g) (takes 0) ≡ 0 = rw (ne_eqb 0 (suc g) (λ e. omega (arith, e))) refl in
     omega (arith, a, b)
 
-one_row : (p r : Row) → In r (p ∷ []) → r ≡ p
+pub one_row : (p r : Row) → In r (p ∷ []) → r ≡ p
 one_row p r i = elim i [ inl e ↦ e | inr j ↦ absurd j ]
 
 turn_unlink : TakesBackNext (row_sent ∷ []) row_sent [] sent_two

@@ -1,5 +1,5 @@
 -- What is to be taken back, as a stack: the deeds of a log that no Commit and no inverse names, the newest first.
-use Rattle.std.specs.Prelude.{◌≡◌, ℕ, ◌+◌, ◌≤◌, Bool, not, cond, List, [], ◌∷◌, ◌++◌, length, Some}
+use Rattle.std.specs.Prelude.{◌≡◌, ℕ, ◌+◌, ◌≤◌, Bool, false, not, ◌||◌, cond, List, [], ◌∷◌, ◌++◌, length, Some}
 use Rattle.std.specs.List.{filter}
 use Rattle.rq_model.specs.declared.txn.Txn.{Txn}
 use Rattle.rq_model.specs.declared.record.Deed.{Deed}
@@ -12,12 +12,7 @@ use Rattle.rq_txn.specs.declared.Finished.{Finished}
 use Rattle.rq_txn.specs.Rows.{Row, found_row}
 use Rattle.rq_store.specs.State.{State}
 use Rattle.rq_sound.specs.Sound.{IsSound}
-
--- a deed with whose it is and the LSN of its OpEnd
-pub record Due : Type 0 where
-  pub txn : Txn
-  pub lsn : ℕ
-  pub deed : Deed
+use Rattle.rq_lost.specs.declared.dues.Due.{Due}
 
 abbrev pub due_of : Txn → Due → Bool
 due_of t d = same_txn d.txn t
@@ -27,12 +22,17 @@ abbrev pub but_newest : Txn → List Due → List Due
 but_newest t [] = []
 but_newest t (d ∷ ds) = cond (due_of t d) ds (d ∷ but_newest t ds)
 
+-- something of the transaction's is due
+abbrev pub any_due : Txn → List Due → Bool
+any_due t [] = false
+any_due t (d ∷ ds) = due_of t d || any_due t ds
+
 -- those of others
 abbrev pub but_own : Txn → List Due → List Due
 but_own t ds = filter (λ d. not (due_of t d)) ds
 
 abbrev pub dues_after : ℕ → Record → List Due → List Due
-dues_after n (OpEnd t m level deed) ds = record { txn = t; lsn = n; deed = told_deed (deed_in deed) } ∷ ds
+dues_after n (OpEnd t m level deed) ds = record { txn = t; lsn = n; deed = deed } ∷ ds
 dues_after n (CompEnd t m undone) ds = but_newest t ds
 dues_after n (Commit t) ds = but_own t ds
 dues_after n _ ds = ds
@@ -41,8 +41,11 @@ abbrev pub dues : List Record → List Due
 dues [] = []
 dues (r ∷ log) = dues_after (length log + 1) r (dues log)
 
+abbrev pub deed_due : Due → Deed
+deed_due d = told_deed (deed_in d.deed)
+
 abbrev pub finished_due : Due → Finished
-finished_due d = record { lsn = d.lsn; deed = d.deed }
+finished_due d = record { lsn = d.lsn; deed = deed_due d }
 
 -- the due is the last of its transaction's row, and the newest of all
 pub record IsNewestDue (s : State) (d : Due) : Type 0 where

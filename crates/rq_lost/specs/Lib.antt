@@ -3,7 +3,11 @@ pub mod Lost
 pub mod Moves
 pub mod Turns
 pub mod Work
+pub mod Choices
+pub mod Numbers
 pub mod Theorems
 pub mod Worked
 pub mod WorkedMoves
 pub mod Recovered
+pub mod Walk
+pub mod WorkedWalk

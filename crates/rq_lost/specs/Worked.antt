@@ -1,5 +1,7 @@
 -- Worked: t1 sent a message for sender 0 and committed; t2 sent one for sender 15 and took the first when a crash came.
-use Rattle.std.specs.Prelude.{◌≡◌, ℕ, true, false, List, [], ◌∷◌, None, drop}
+use Rattle.std.specs.Prelude.{◌≡◌, ℕ, true, false, List, [], ◌∷◌, None, drop, Some}
+use Rattle.rq_model.specs.Unended.{lost}
+use Rattle.rq_model.specs.Deeds.{spelled_deed}
 use Rattle.rq_model.specs.declared.txn.Txn.{Txn}
 use Rattle.rq_model.specs.declared.record.Record.{Record}
 use Rattle.rq_model.specs.declared.record.Record.TheVariants.{Commit}
@@ -16,7 +18,11 @@ use Rattle.rq_sound.specs.Sound.{IsSound}
 use Rattle.rq_inverses.specs.Inverses.{InverseIsLatched, MayBeUndone}
 use Rattle.rq_sound.specs.Groups.{slots_now}
 use Rattle.rq_undone.specs.Pages.{IsUndone}
-use Rattle.rq_lost.specs.Dues.{Due, IsNewestDue, dues}
+use Rattle.rq_lost.specs.declared.dues.Due.{Due}
+use Rattle.rq_lost.specs.Choices.{least_free}
+use Rattle.rq_lost.specs.Numbers.{number_of, numbers}
+use Rattle.rq_lost.specs.Walk.{rounds_left}
+use Rattle.rq_lost.specs.Dues.{IsNewestDue, dues}
 use Rattle.rq_lost.specs.Lost.{IsRepeated, lost_ends, lost_rows, lost_store}
 use Rattle.rq_lost.specs.Theorems.{IsRestored, IsStopped}
 use Rattle.rq_lost.specs.Turns.{EndsNext, TakesBackNext}
@@ -33,10 +39,10 @@ abbrev pub took_two : Finished
 took_two = record { lsn = 11; deed = takes 0 }
 
 abbrev pub sent_due : Due
-sent_due = record { txn = t2; lsn = 8; deed = sends 15 }
+sent_due = record { txn = t2; lsn = 8; deed = spelled_deed (sends 15) }
 
 abbrev pub took_due : Due
-took_due = record { txn = t2; lsn = 11; deed = takes 0 }
+took_due = record { txn = t2; lsn = 11; deed = spelled_deed (takes 0) }
 
 abbrev pub row_two : Row
 row_two = record {
@@ -93,6 +99,12 @@ pub record TurnsAreJudged : Type 0 where
   pub stack_then : dues (spelled_log stopped) ≡ sent_due ∷ []
   pub first : (images : List (List ℕ)) → AreRepeated images → IsNewestDue (store_two images) took_due
   pub not_first : (images : List (List ℕ)) → IsNewestDue (store_two images) sent_due → ⊥
+  -- nobody ends while something is due of t2; once nothing is, t2 does
+  pub none_ends : least_free (dues log_two) (lost log_two) ≡ None
+  pub then_ends : least_free [] (lost log_two) ≡ Some t2
+  -- the number of its next inverse is one more than this
+  pub numbered : number_of t2 (numbers log_two) ≡ row_two.number
+  pub rounds : rounds_left log_two ≡ 3
 
 -- a row with what is left to undo
 abbrev pub left_with : Txn → List Finished → Row

@@ -3,13 +3,25 @@
 //! The definitions stand in specs/, the theorems are the contracts of the functions here.
 #![tactic(auto)]
 
+mod choices;
+mod dues;
+mod numbers;
+
+ghost use Rattle.rq_lost.specs.Choices.{TurnsAreChosen};
 ghost use Rattle.rq_lost.specs.Dues.{DuesAreNext};
+ghost use Rattle.rq_lost.specs.Numbers.{NumbersAreKept};
 ghost use Rattle.rq_lost.specs.Recovered.{RecoveredLogsAreWhole};
 ghost use Rattle.rq_lost.specs.Theorems.{AbortedLogsAreSettled, AbortsEnd, AbortsHaveTurns, AbortsKeepLogsWhole, AbortsMayStop, InversesAreFound, LostStoresAreSound, LostStoresOpen, SettledStoresHaveEnded, StopsAreRepeated};
+ghost use Rattle.rq_lost.specs.Walk.{AbortsComeToAnEnd, AbortsGoOn, DuesCanBeUndone, LogsOnTheWayAreWhole};
 ghost use Rattle.rq_lost.specs.Worked.{InversesAreJudged, LostAreJudged, StopsAreJudged, TurnsAreJudged, TwoAreJudged};
 ghost use Rattle.rq_lost.specs.WorkedMoves.{MovesAreJudged};
+ghost use Rattle.rq_lost.specs.WorkedWalk.{WalksAreJudged};
 
-/// Each move of an abort leaves a sound store over a whole log. What it puts behind that is no Commit and no OpEnd.
+pub use choices::next_end;
+pub use dues::{Due, Dues};
+pub use numbers::Numbers;
+
+/// Each move of an abort leaves a sound store over a whole log, which has at most a record more, no Commit and no OpEnd.
 pub fn aborts_keep_logs_whole()
     ensures { AbortsKeepLogsWhole }
 {}
@@ -45,14 +57,13 @@ pub fn lost_stores_open()
     ensures { LostStoresOpen }
 {}
 
-/// A crash may cut the records of aborts anywhere: what it leaves is a whole log with the content that it had, from which a restart
+/// A crash may stop the aborts anywhere: what it leaves is a whole log with the content that it had, from which a restart
 /// goes on.
 pub fn aborts_may_stop()
     ensures { AbortsMayStop }
 {}
 
-/// Where transactions are left to be undone, one is next; where nothing is under way and all are aborting, what is done to
-/// it may be done.
+/// Where transactions are left to be undone, one is next, and what is done to it may be done.
 pub fn aborts_have_turns()
     ensures { AbortsHaveTurns }
 {}
@@ -68,8 +79,40 @@ pub fn dues_are_next()
     ensures { DuesAreNext }
 {}
 
+/// The transactions that are lost in the log, with that stack, tell which of them is next, and what is done to it.
+pub fn turns_are_chosen()
+    ensures { TurnsAreChosen }
+{}
+
+/// The number of a transaction's next operation is told by a list that the records of the log make, in which no
+/// transaction stands twice.
+pub fn numbers_are_kept()
+    ensures { NumbersAreKept }
+{}
+
+/// A program whose pages and log are those of a store on its way makes the record, and the write, that are next, and is on
+/// its way then.
+pub fn aborts_go_on()
+    ensures { AbortsGoOn }
+{}
+
+/// It sets out where history is repeated, and comes to an end, at which the log is recovered.
+pub fn aborts_come_to_an_end()
+    ensures { AbortsComeToAnEnd }
+{}
+
+/// What is due first tells a deed of a sender that the store has, and may be undone in a sound store with these pages.
+pub fn dues_can_be_undone()
+    ensures { DuesCanBeUndone }
+{}
+
+/// At each moment its log is whole, and stays so by the record that is next.
+pub fn logs_on_the_way_are_whole()
+    ensures { LogsOnTheWayAreWhole }
+{}
+
 /// A log that a restart recovers is whole, with the content that it had, and nothing is unfinished or lost in it; wherever
-/// a crash cuts the records that were put behind it, a restart goes on.
+/// a crash stops that, a restart goes on.
 pub fn recovered_logs_are_whole()
     ensures { RecoveredLogsAreWhole }
 {}
@@ -92,6 +135,11 @@ pub fn stops_are_judged()
 /// Worked: what undoes it, move by move.
 pub fn moves_are_judged()
     ensures { MovesAreJudged }
+{}
+
+/// Worked: the same moves, as a program's pages and log show them.
+pub fn walks_are_judged()
+    ensures { WalksAreJudged }
 {}
 
 /// Worked: two transactions are left to be undone.

@@ -76,6 +76,13 @@ impl History {
         self.working.is_empty()
     }
 
+    /// The transactions that finished an operation and have no end.
+    pub fn working(&self) -> &[Txn]
+        ensures { result.now ≡ self.now.working }
+    {
+        &self.working
+    }
+
     /// How many operations have no end.
     pub fn unfinished(&self) -> u64
         ensures { result ≡ length self.now.unfinished }

@@ -1,0 +1,73 @@
+-- Dues that stand in the order of their records, and as contracts see them, the newest first.
+use Rattle.std.proofs.Common.{◌≡◌, ℕ, suc, ◌+◌, ◌<◌, Bool, true, false, List, [], ◌∷◌, ◌++◌, ◌||◌, length, take, drop, get_or, reverse, refl, sym, ◌∙◌, ap, inl, inr, arith}
+use Rattle.std.specs.List.{filter}
+use Rattle.std.proofs.Math.Seq.{split_at}
+use Rattle.std.proofs.lemmas.Bool.{cases_Bool, or_parts}
+use Rattle.std.proofs.lemmas.List.{reverse-append}
+use Rattle.rq_model.specs.declared.txn.Txn.{Txn}
+use Rattle.rq_lost.specs.declared.dues.Due.{Due}
+use Rattle.rq_lost.specs.Dues.{any_due, but_newest, due_of}
+
+filter_behind : {X : Type 0} (f : X → Bool) (xs ys : List X) → filter f (xs ++ ys) ≡ filter f xs ++ filter f ys
+filter_behind f [] ys = refl
+filter_behind f (x ∷ xs) ys = elim (cases_Bool (f x)) [ inl y ↦ rw y (ap (λ l. x ∷ l) (filter_behind f xs ys)) | inr n ↦ rw n (filter_behind f xs ys) ]
+
+with_nothing : {X : Type 0} (ys : List X) → ys ≡ ys ++ []
+with_nothing [] = refl
+with_nothing (y ∷ ys) = ap (λ l. y ∷ l) (with_nothing ys)
+
+pub filter_reverse : {X : Type 0} (f : X → Bool) (xs : List X) → reverse (filter f xs) ≡ filter f (reverse xs)
+filter_reverse f [] = refl
+filter_reverse f (x ∷ xs) =
+    let e : filter f (reverse (x ∷ xs)) ≡ filter f (reverse xs) ++ filter f (x ∷ []) = ap (filter f) (reverse-append (x ∷ []) xs) ∙ filter_behind f (reverse xs) (x ∷ []) in
+    elim (cases_Bool (f x)) [
+      | inl y ↦ let one : filter f (x ∷ []) ≡ x ∷ [] = rw y refl in rw y (reverse-append (x ∷ []) (filter f xs) ∙ ap (λ l. l ++ x ∷ []) (filter_reverse f xs) ∙ ap (λ l. filter f (reverse xs) ++ l) (sym one) ∙ sym e)
+      | inr n ↦ let one : filter f (x ∷ []) ≡ [] = rw n refl in rw n (filter_reverse f xs ∙ with_nothing (filter f (reverse xs)) ∙ ap (λ l. filter f (reverse xs) ++ l) (sym one) ∙ sym e)
+    ]
+
+any_behind : (t : Txn) (ps qs : List Due) → any_due t (ps ++ qs) ≡ (any_due t ps || any_due t qs)
+any_behind t [] qs = refl
+any_behind t (p ∷ ps) qs = elim (cases_Bool (due_of t p)) [ inl y ↦ rw y refl | inr n ↦ rw n (any_behind t ps qs) ]
+
+or_turned : (b c : Bool) → (b || (c || false)) ≡ (c || b)
+or_turned true true = refl
+or_turned true false = refl
+or_turned false true = refl
+or_turned false false = refl
+
+pub any_reverse : (t : Txn) (ps : List Due) → any_due t (reverse ps) ≡ any_due t ps
+any_reverse t [] = refl
+any_reverse t (p ∷ ps) =
+    ap (any_due t) (reverse-append (p ∷ []) ps) ∙ any_behind t (reverse ps) (p ∷ []) ∙ ap (λ b. b || (due_of t p || false)) (any_reverse t ps) ∙ or_turned (any_due t ps) (due_of t p)
+
+-- where the first of these is the newest of the transaction's
+newest_front : (t : Txn) (ps : List Due) (p : Due) (qs : List Due) → any_due t ps ≡ false → due_of t p ≡ true → but_newest t (ps ++ p ∷ qs) ≡ ps ++ qs
+newest_front t [] p qs none own = rw own refl
+newest_front t (x ∷ ps) p qs none own = let k = or_parts (due_of t x) (any_due t ps) none in rw k.0 (ap (λ l. x ∷ l) (newest_front t ps p qs k.1 own))
+
+pub none_newest : (t : Txn) (ps : List Due) → any_due t ps ≡ false → but_newest t ps ≡ ps
+none_newest t [] none = refl
+none_newest t (p ∷ ps) none = let k = or_parts (due_of t p) (any_due t ps) none in rw k.0 (ap (λ l. p ∷ l) (none_newest t ps k.1))
+
+taken_back : (t : Txn) (ps : List Due) (i : ℕ) (d : Due) → i < length ps → due_of t (get_or ps i d) ≡ true → any_due t (drop (i + 1) ps) ≡ false
+    → reverse (take i ps ++ drop (i + 1) ps) ≡ but_newest t (reverse ps)
+taken_back t ps i d lt own none =
+    let next : i + 1 ≡ suc i = omega arith in
+    let behind = drop (i + 1) ps in
+    let cut : ps ≡ take i ps ++ get_or ps i d ∷ behind = split_at ps i d lt ∙ ap (λ n. take i ps ++ get_or ps i d ∷ drop n ps) (sym next) in
+    let turned : reverse ps ≡ reverse behind ++ get_or ps i d ∷ reverse (take i ps) = ap reverse cut ∙ reverse_cut (take i ps) (get_or ps i d) behind in
+    reverse-append (take i ps) behind
+    ∙ sym (newest_front t (reverse behind) (get_or ps i d) (reverse (take i ps)) (any_reverse t behind ∙ none) own)
+    ∙ ap (but_newest t) (sym turned)
+  where
+    joined : (xs : List Due) (y : Due) (zs : List Due) → (xs ++ y ∷ []) ++ zs ≡ xs ++ y ∷ zs
+    joined [] y zs = refl
+    joined (x ∷ xs) y zs = ap (λ l. x ∷ l) (joined xs y zs)
+
+    reverse_cut : (xs : List Due) (y : Due) (zs : List Due) → reverse (xs ++ y ∷ zs) ≡ reverse zs ++ y ∷ reverse xs
+    reverse_cut xs y zs = reverse-append xs (y ∷ zs) ∙ ap (λ l. l ++ reverse xs) (reverse-append (y ∷ []) zs) ∙ joined (reverse zs) y (reverse xs)
+
+-- as a slice that was looked through tells
+pub taken_in : (t : Txn) (now ps : List Due) (i : ℕ) (d : Due) → now ≡ ps → i < length now → due_of t (get_or now i d) ≡ true → any_due t (drop (i + 1) now) ≡ false
+    → reverse (take i ps ++ drop (i + 1) ps) ≡ but_newest t (reverse ps)
+taken_in t now ps i d same lt own none = ap (λ l. reverse (take i l ++ drop (i + 1) l)) (sym same) ∙ taken_back t now i d lt own none ∙ ap (λ l. but_newest t (reverse l)) same
