@@ -12,6 +12,8 @@ mod fields;
 #[cfg(test)]
 mod frames;
 #[cfg(test)]
+mod links;
+#[cfg(test)]
 mod logs;
 #[cfg(test)]
 mod pages;

@@ -1,0 +1,9 @@
+use Rattle.rq_views.specs.Stored.{slots_in}
+use Rattle.rq_links.proofs.Followed.{AreSeen}
+use Rattle.rq_links.proofs.first_unmet.Given as goal
+
+-- the used cells so far are noted
+abbrev pub invariant-loop-place : goal.invariant-loop-place
+invariant-loop-place g l = record {
+  seen : AreSeen l.fn.pages.sizes (slots_in l.fn.pages.sizes l.fn.pages.images) l.fn.met l.place;
+}

@@ -1,0 +1,4 @@
+pub mod Links
+pub mod Follows
+pub mod Theorems
+pub mod Worked
