@@ -1,5 +1,5 @@
 -- Undoing lost transactions, record by record.
-use Rattle.std.proofs.Common.{◌≡◌, ℕ, ◌+◌, ◌≤◌, ◌^◌, Bool, true, false, List, [], ◌∷◌, ◌++◌, length, map, Option, Some, None, inl, inr, refl, sym, ◌∙◌, ap, subst, arith}
+use Rattle.std.proofs.Common.{◌≡◌, ℕ, ◌+◌, ◌≤◌, ◌^◌, Bool, true, false, not, ◌<◌, List, [], ◌∷◌, ◌++◌, length, map, Option, Some, None, inl, inr, refl, sym, ◌∙◌, ap, subst, arith}
 use Rattle.std.proofs.lemmas.List.{append_assoc}
 use Rattle.rq_model.specs.declared.record.Record.{Record}
 use Rattle.rq_model.specs.declared.record.Record.TheVariants as records
@@ -9,15 +9,21 @@ use Rattle.rq_model.specs.declared.refusal.Damage.TheVariants as damage
 use Rattle.rq_model.specs.declared.txn.Txn.{Txn}
 use Rattle.rq_model.specs.Incarnations.{ArePlain, Extends, incarnation_of, is_plain}
 use Rattle.rq_model.specs.Unended.{lost}
-use Rattle.rq_model.specs.Words.{In}
+use Rattle.rq_model.specs.Words.{In, same_txn}
 use Rattle.rq_page.specs.Sizes.{Sizes}
 use Rattle.rq_pool.specs.Pooled.{Pooled}
 use Rattle.rq_txn.specs.Rows.{Row}
 use Rattle.rq_store.specs.State.{State}
 use Rattle.rq_store.specs.Whole.{IsWhole}
 use Rattle.rq_sound.specs.Sound.{IsSound}
-use Rattle.rq_undone.specs.Analysis.{analysis}
+use Rattle.rq_undone.specs.Analysis.{Analysis, analysis, without_txn}
+use Rattle.rq_undone.proofs.Lists.{filter_less}
+use Rattle.rq_lost.specs.Choices.{least_free}
+use Rattle.rq_lost.proofs.Choosing.{least_there}
+use Rattle.rq_model.proofs.Lists.{same_self}
 use Rattle.rq_undone.proofs.Noting.{noted_working}
+use Rattle.rq_restart.specs.declared.findings.Findings.{Findings}
+use Rattle.rq_restart.specs.Found.{AreFindings}
 use Rattle.rq_restart.specs.Aborting.{AbortStops, AreOfAborts, HasGoneOn, IsAborting, IsBadAbort, IsFull, IsOnItsWay, OfStore, is_of_abort}
 use Rattle.rq_restart.specs.Aborting.IsBadStep.{BadRecord}
 use Rattle.rq_restart.specs.Repeating.{AreCounted, Belongs, IsRepeated, Paged, Repeats, paged}
@@ -100,9 +106,6 @@ module _ {P : Type 0} (z : Sizes) (log : List Record) (r : Record) (old new : Po
   }
   one_stops _ s way belongs = absurd s
 
-pub gone_none : {P : Type 0} (z : Sizes) (log : List Record) (old : Pooled P) (before : State → Type 0) → HasGoneOn z log log old old before before
-gone_none z log old before = record { aborting = aborting_none log; repeated = λ first h. h; counted = λ h. h; shown = λ base k same b. b }
-
 module _ {P : Type 0} (z : Sizes) (log mid : List Record) (old now : Pooled P) (before between : State → Type 0) (g : HasGoneOn z log mid old now before between) where
   pub gone_join : (last : List Record) (new : Pooled P) (after : State → Type 0) → HasGoneOn z mid last now new between after → HasGoneOn z log last old new before after
   gone_join last new after h = record {
@@ -128,6 +131,24 @@ module _ {P : Type 0} (z : Sizes) (log mid : List Record) (old now : Pooled P) (
   }
   stops_join _ s = absurd s
 
+-- no record came, and a store of which the one is so is one of which the other is
+pub none_gone : {P : Type 0} (z : Sizes) (log : List Record) (old : Pooled P) (before after : State → Type 0) → OfStore z before after → HasGoneOn z log log old old before after
+none_gone z log old before after f = record { aborting = aborting_none log; repeated = λ first h. h; counted = λ h. h; shown = f }
+
+-- it holds of the stores of which something else is so, where that leads to it
+pub stops_before : {P : Type 0} (z : Sizes) (log : List Record) (old : Pooled P) (before here : State → Type 0) (e : Refusal) → OfStore z before here → AbortStops z log old here e → AbortStops z log old before e
+stops_before z log old before here e f s = stops_join z log log old old before here (none_gone z log old before here f) e s
+
 -- of a whole log those that are noted are lost
 pub working_lost : (z : Sizes) (log : List Record) → IsWhole z log → (analysis log).working ≡ lost log
 working_lost z log w = noted_working z log w.legal w.reads
+
+-- the next of those that have no end is one of them, and fewer are left once it has its end
+pub ended_less : (log now : List Record) (f g : Findings) (t : Txn) → AreFindings f log → AreFindings g now → now ≡ records.AbortEnd t ∷ log → least_free f.dues f.history.working ≡ Some t → length g.history.working < length f.history.working
+ended_less log now f g t are then grown e =
+    let there : In t f.history.working = least_there f.dues f.history.working t e in
+    let off : not (same_txn t t) ≡ false = ap not (same_self t) in
+    let less = filter_less (λ (u : Txn). not (same_txn t u)) f.history.working t there off in
+    let same : g.history.working ≡ without_txn t f.history.working = ap (λ (h : Analysis). h.working) (then.history ∙ ap analysis grown) ∙ ap (λ (h : Analysis). without_txn t h.working) (sym are.history) in
+    let n : length g.history.working ≡ length (without_txn t f.history.working) = ap length same in
+    omega (arith, less, n)

@@ -1,5 +1,5 @@
 -- What a log says of what is due in it, and of the transactions that have no end.
-use Rattle.std.proofs.Common.{◌≡◌, ℕ, ◌+◌, ◌<◌, Bool, true, false, not, nat_lt, ◌||◌, List, [], ◌∷◌, length, Option, Some, None, inl, inr, ◌⊎◌, refl, sym, ◌∙◌, ap, subst, arith}
+use Rattle.std.proofs.Common.{◌≡◌, ℕ, ◌+◌, ◌<◌, Bool, true, false, not, nat_lt, ◌||◌, List, [], ◌∷◌, ◌++◌, length, Option, Some, None, inl, inr, ◌⊎◌, refl, sym, ◌∙◌, ap, subst, arith}
 use Rattle.std.specs.List.{filter}
 use Rattle.std.proofs.lemmas.Bool.{cases_Bool, true≢false, false≢true}
 use Rattle.std.proofs.lemmas.Option.{same_Some}
@@ -54,19 +54,6 @@ IsDueInRange d = IsTxnInRange d.txn × (0 < d.lsn)
 
 pub due_range : (log : List Record) → AreSpelled log → (d : Due) → In d (dues log) → IsDueInRange d
 due_range log a d i = due_told IsDueInRange AreSpelled (λ r older h. h.1) (λ t n level deed older h. (h.0.0.0, omega arith)) log a d i
-
-pub due_in_store : (z : Sizes) (log : List Record) → InStore z log → (d : Due) → In d (dues log) → deed_sender (deed_due d) < sender_count z
-due_in_store z log h d i = due_told (λ d. deed_sender (deed_due d) < sender_count z) (InStore z) (λ r older k. k.1) (λ t n level deed older k. k.0) log h d i
-
-abbrev IsRead : Due → Type 0
-IsRead d = (deed : Deed) × (deed_in d.deed ≡ Some deed)
-
-pub due_read : (log : List Record) → ReadsItsDeeds log → (d : Due) → In d (dues log) → IsRead d
-due_read log h d i = due_told IsRead ReadsItsDeeds (λ r older k. k.1) (λ t n level deed older k. k.0.1) log h d i
-
--- the deed that is read is what is due
-pub deed_is : (d : Due) (deed : Deed) → deed_in d.deed ≡ Some deed → deed_due d ≡ deed
-deed_is d deed e = ap told_deed e
 
 -- transactions without an end are in range
 with_in : (t : Txn) (ts : List Txn) (x : Txn) → In x (with_txn t ts) → (x ≡ t) ⊎ In x ts

@@ -15,3 +15,5 @@ pub mod Repeated
 pub mod DueLists
 pub mod Aborts
 pub mod Rounds
+pub mod Results
+pub mod Planning

@@ -1,9 +1,8 @@
 -- The records by which one lost transaction after the other is undone, of a store that is shown.
-use Rattle.std.proofs.Common.{◌≡◌, ◌≢◌, ◌||◌, ℕ, zero, suc, ◌+◌, ◌/◌, ◌%◌, ◌<◌, ◌≤◌, ◌^◌, max, nat_eq, Bool, true, false, List, [], ◌∷◌, length, map, All, Option, Some, None, inl, inr, refl, sym, ◌∙◌, ap, subst, arith}
+use Rattle.std.proofs.Common.{◌≡◌, ◌≢◌, ◌||◌, ℕ, zero, suc, ◌+◌, ◌/◌, ◌%◌, ◌<◌, ◌≤◌, ◌^◌, max, nat_eq, Bool, true, false, List, [], ◌∷◌, length, map, get_or, Option, Some, None, inl, inr, refl, sym, ◌∙◌, ap, subst, arith}
 use Rattle.std.specs.List.{slice_get}
 use Rattle.std.proofs.lemmas.Bool.{cases_lt, and_parts, or_cases, eqb-true, false≢true}
 use Rattle.std.proofs.lemmas.List.{length-map}
-use Rattle.std.proofs.lemmas.Option.{same_Some}
 use Rattle.rq_model.specs.declared.record.Record.{Record}
 use Rattle.rq_model.specs.declared.record.Record.TheVariants as records
 use Rattle.rq_model.specs.declared.refusal.Refusal.{Refusal}
@@ -23,28 +22,28 @@ use Rattle.rq_views.specs.Plans.Turn.{Undid}
 use Rattle.rq_views.specs.Stored.{slots_in}
 use Rattle.rq_views.proofs.Numbers.{all_begun, began_within}
 use Rattle.rq_level.specs.declared.writes.SlotWrite.{SlotWrite}
-use Rattle.rq_level.specs.Writes.{AreSlotWrites, IsSlotWrite}
+use Rattle.rq_level.specs.Writes.{IsSlotWrite}
 use Rattle.rq_txn.specs.Rows.{Row}
 use Rattle.rq_store.specs.State.{State}
 use Rattle.rq_store.specs.Steps.{page_op}
 use Rattle.rq_store.specs.Whole.{IsWhole}
 use Rattle.rq_store.specs.Fitting.{image_in}
-use Rattle.rq_store.proofs.RowLists.{found_here, none_under}
-use Rattle.rq_store.proofs.Others.{none_of}
 use Rattle.rq_sound.specs.Plans.{IsPlannedFrom}
 use Rattle.rq_sound.specs.Rows.{comp_end}
 use Rattle.rq_sound.specs.Sound.{IsSound}
-use Rattle.rq_undone.specs.Analysis.{analysis}
+use Rattle.rq_undone.specs.Analysis.{Analysis, analysis}
 use Rattle.rq_lost.specs.declared.dues.Due.{Due}
 use Rattle.rq_lost.specs.Choices.{least_free}
-use Rattle.rq_lost.specs.Dues.{any_due, deed_due, dues, finished_due}
+use Rattle.rq_lost.specs.Dues.{any_due, deed_due, dues}
 use Rattle.rq_lost.specs.Moves.{newest_store}
 use Rattle.rq_lost.specs.Numbers.{number_of, numbers}
-use Rattle.rq_lost.specs.Walk.{IsBetween, IsWithin}
-use Rattle.rq_lost.proofs.Choosing.{chosen_back}
-use Rattle.rq_lost.proofs.Found.{may_be_undone}
+use Rattle.rq_lost.specs.Walk.{IsBetween, IsWithin, ShowsUndone}
+use Rattle.rq_lost.proofs.Choosing.{chosen_back, least_there}
+use Rattle.rq_lost.proofs.Logging.{write_whole}
 use Rattle.rq_lost.proofs.Moving.{moves_sound}
 use Rattle.rq_lost.proofs.Numbering.{kept}
+use Rattle.rq_lost.proofs.Owing.{rest_due}
+use Rattle.rq_lost.proofs.Planning.{due_may}
 use Rattle.rq_lost.proofs.Recovering.{behind}
 use Rattle.rq_lost.proofs.Stopping.{moves_sizes}
 use Rattle.rq_lost.proofs.Walking.{aborts_go_on}
@@ -55,8 +54,7 @@ use Rattle.rq_restart.specs.Aborting.IsOnItsWay.{Between, Within}
 use Rattle.rq_restart.specs.Found.{AreFindings}
 use Rattle.rq_restart.specs.Repeating.{Belongs, IsRepeated, paged}
 use Rattle.rq_restart.proofs.Aborts.{aborting_none, working_lost}
-use Rattle.rq_restart.proofs.DueLists.{due_read}
-use Rattle.rq_restart.proofs.Showing.{belongs_next, between_holds, put_next, within_holds, within_whole}
+use Rattle.rq_restart.proofs.Showing.{belongs_next, between_holds, put_next, within_holds}
 
 -- ---- numbers
 
@@ -82,6 +80,10 @@ rises l t r log g h = elim (cases_lt (greatest t log + 1) (greatest t (r ∷ log
 few_numbers : (l : Places) (t : Txn) (log : List Item) → IsLegalLog l log → AreNumbered log → greatest t log ≤ length log
 few_numbers l t [] g h = omega arith
 few_numbers l t (r ∷ log) g h = (let a = rises l t r log g h in let b = few_numbers l t log g.1 h.1 in omega (arith, a, b))
+
+-- the next that is found is one of those that have no end
+pub least_in : (log : List Record) (f : Findings) → AreFindings f log → (t : Txn) → least_free f.dues f.history.working ≡ Some t → In t (analysis log).working
+least_in log f are t e = subst (In t) (ap (λ h. h.working) are.history) (least_there f.dues f.history.working t e)
 
 -- ---- a store that is shown
 
@@ -151,15 +153,8 @@ module _ {P : Type 0} (z : Sizes) (log : List Record) (old : Pooled P) (f : Find
 
     not_planned : IsNotUndone z old.images d → OfStore z shown (λ base. ⊥)
     not_planned bad base k same b =
-        let s = newest_store base b.stores in
-        let moves = behind base b.stores b.come.turns in
-        let sound : IsSound s = moves_sound base b.stores k moves in
-        let records = b.come.records_are in
-        let h = chosen_back s sound b.come.lost d ds (subst (λ l. least_free (dues l) (lost l) ≡ None) (sym records) (least_is None none base k same b)) (ap dues records ∙ first_is) in
-        let r = h.0 in
-        let idle = record { at_row = found_here s.rows r sound.standing.distinct h.3.row; idle = none_of r.under (none_under s.rows r b.idle h.3.row) } in
-        let there : In d (dues s.records) = subst (In d) (sym (ap dues records ∙ first_is)) (inl refl) in
-        bad s sound (moves_sizes base b.stores moves ∙ same) b.come.images_are b.idle there (may_be_undone s r h.1 (finished_due d) sound idle h.3.last)
+        let may : ShowsUndone base.sizes old.images log (deed_due d) = due_may base old.images log d ds k b (least_is None none base k same b) first_is in
+        bad log (subst (In d) (sym first_is) (inl refl)) (subst (λ y. ShowsUndone y old.images log (deed_due d)) same may)
 
     pub plan_stops : (e : Refusal) → PlanStops z old.images d e → AbortStops z log old shown e
     plan_stops why.NoMemory s = tt
@@ -172,7 +167,7 @@ module _ {P : Type 0} (z : Sizes) (log : List Record) (old : Pooled P) (f : Find
     plan_stops _ s = absurd s
 
     -- its inverse has a number
-    pub few_operations : 2 ^ 64 ≤ number_of d.txn f.numbers + 1 → length log + 1 < 2 ^ 64 → OfStore z shown (λ base. ⊥)
+    pub few_operations : 2 ^ 64 ≤ number_of d.txn f.numbers + 1 → length log < 2 ^ 50 → OfStore z shown (λ base. ⊥)
     few_operations many few base k same b =
         let s = newest_store base b.stores in
         let moves = behind base b.stores b.come.turns in
@@ -189,11 +184,6 @@ module _ {P : Type 0} (z : Sizes) (log : List Record) (old : Pooled P) (f : Find
 
 -- ---- an inverse under way
 
-all_get : (z : Sizes) (ws : List SlotWrite) (n : ℕ) (w : SlotWrite) → AreSlotWrites z ws → slice_get ws n ≡ Some w → IsSlotWrite z w
-all_get z [] n w h e = absurd (cc e)
-all_get z (x ∷ ws) zero w h e = subst (IsSlotWrite z) (same_Some e) h.0
-all_get z (x ∷ ws) (suc n) w h e = all_get z ws n w h.1 e
-
 module _ {P : Type 0} (z : Sizes) (log : List Record) (old : Pooled P) (d : Due) (n : ℕ) (ws : List SlotWrite) (made : ℕ) where
   abbrev within : State → Type 0
   within = IsShownWithin log old d n ws made
@@ -202,14 +192,11 @@ module _ {P : Type 0} (z : Sizes) (log : List Record) (old : Pooled P) (d : Due)
   within_way base k same i = Within old.images d.txn n d.lsn (deed_due d) ws made i
 
   -- its next write
-  module _ (w : SlotWrite) (next : slice_get ws made ≡ Some w) (slots : AreSlotWrites z ws) where
-    is_slot : IsSlotWrite z w
-    is_slot = all_get z ws made w slots next
-
+  module _ (w : SlotWrite) (next : slice_get ws made ≡ Some w) (is_slot : IsSlotWrite z w) where
     whole : (base : State) → IsSound base → base.sizes ≡ z → within base → IsWhole base.sizes (page_op d.txn n w ∷ log)
     whole base k same i =
         let s : IsSlotWrite base.sizes w = subst (λ y. IsSlotWrite y w) (sym same) is_slot in
-        within_whole base old.images log d.txn n d.lsn (deed_due d) ws made k i w next s.before s.after
+        write_whole base old.images log d.txn n d.lsn (deed_due d) ws made w k i next s.before s.after
 
     pub write_belongs : OfStore z within (λ base. Belongs z log (page_op d.txn n w) (paged old))
     write_belongs base k same i =
@@ -239,3 +226,25 @@ module _ {P : Type 0} (z : Sizes) (log : List Record) (old : Pooled P) (d : Due)
 
   pub close_shown : (new : Pooled P) → new ≡ old → OfStore z all_made (IsShown (comp_end d.txn n d.lsn ∷ log) new)
   close_shown new is base k same i = subst (λ (p : Pooled P). IsBetween base p.images (comp_end d.txn n d.lsn ∷ log)) (sym is) (closed base k i)
+
+-- ---- what is found behind a record
+
+-- as a loop finds it
+pub get_there : (ws : List SlotWrite) (i : ℕ) (w : SlotWrite) → i < length ws → w ≡ get_or ws i w → slice_get ws i ≡ Some w
+get_there [] i w lt e = absurd (omega (arith, lt))
+get_there (x ∷ ws) zero w lt e = ap (λ y. Some y) (sym e)
+get_there (x ∷ ws) (suc i) w lt e = get_there ws i w (omega (arith, lt)) e
+
+-- a write leaves what is due, and the transactions that have no end
+pub write_rest : (log now : List Record) (f h : Findings) (t : Txn) (n : ℕ) (w : SlotWrite) → AreFindings f log → AreFindings h now → now ≡ page_op t n w ∷ log → (h.dues ≡ f.dues) × (h.history.working ≡ f.history.working)
+write_rest log now f h t n w are then grown = (
+  then.dues ∙ ap dues grown ∙ sym are.dues,
+  ap (λ (x : Analysis). x.working) (then.history ∙ ap analysis grown) ∙ ap (λ (x : Analysis). x.working) (sym are.history),
+)
+
+-- the end of an inverse takes off what was due first
+pub close_rest : (log now : List Record) (f h : Findings) (d : Due) (older : List Due) (n lsn : ℕ) → AreFindings f log → AreFindings h now → now ≡ comp_end d.txn n lsn ∷ log → f.dues ≡ d ∷ older → (h.dues ≡ older) × (h.history.working ≡ f.history.working)
+close_rest log now f h d older n lsn are then grown first = (
+  then.dues ∙ ap dues grown ∙ rest_due log d older n lsn (sym are.dues ∙ first),
+  ap (λ (x : Analysis). x.working) (then.history ∙ ap analysis grown) ∙ ap (λ (x : Analysis). x.working) (sym are.history),
+)

@@ -1,19 +1,16 @@
 -- Pages that hold what a log leaves, and the next record of a store on its way.
 use Rattle.std.proofs.Common.{◌≡◌, ℕ, zero, suc, ◌+◌, ◌-◌, ◌/◌, ◌%◌, ◌<◌, ◌≤◌, Bool, List, [], ◌∷◌, length, drop, Some, refl, sym, ◌∙◌, ap, subst, arith}
-use Rattle.std.specs.List.{slice_get}
 use Rattle.rq_model.specs.declared.record.Deed.{Deed}
 use Rattle.rq_model.specs.declared.record.Record.{Record}
 use Rattle.rq_model.specs.declared.txn.Txn.{Txn}
 use Rattle.rq_page.specs.Sizes.{Sizes, address, page_count}
 use Rattle.rq_page.specs.Pages.{lsn_of}
-use Rattle.rq_page.specs.Slots.{IsSlotOf, held_in}
+use Rattle.rq_page.specs.Slots.{held_in}
 use Rattle.rq_pool.specs.Pooled.{IsPool}
 use Rattle.rq_views.specs.Log.{put}
 use Rattle.rq_views.specs.Stored.{slots_in}
 use Rattle.rq_views.proofs.Overlay.{put_agree}
 use Rattle.rq_level.specs.declared.writes.SlotWrite.{SlotWrite}
-use Rattle.rq_txn.specs.declared.Aim.TheVariants as aims
-use Rattle.rq_txn.specs.Rows.{Under}
 use Rattle.rq_store.specs.Fitting.{FitsLog, FitsPage, HoldsPage, image_in, left_by, oldest, told_by}
 use Rattle.rq_store.specs.Opening.{FitsUpTo, MayRedo, Redoes}
 use Rattle.rq_store.specs.State.{State}
@@ -25,7 +22,6 @@ use Rattle.rq_store.proofs.Redoing.{redo_one, redone_slots}
 use Rattle.rq_store.proofs.Stepping.{address_is}
 use Rattle.rq_sound.specs.Calls.{IsPutIn}
 use Rattle.rq_sound.specs.Sound.{IsSound}
-use Rattle.rq_sound.proofs.Writing.{whole_step}
 use Rattle.rq_lost.specs.Moves.{newest_store}
 use Rattle.rq_lost.specs.Walk.{IsBetween, IsCome, IsWithin, showing}
 use Rattle.rq_lost.proofs.Moving.{moves_sound}
@@ -93,11 +89,6 @@ module _ (base : State) (images now : List (List ℕ)) (log : List Record) (t : 
         headers = pool.headers;
       }
 
-get_within : (ws : List SlotWrite) (n : ℕ) (w : SlotWrite) → slice_get ws n ≡ Some w → n < length ws
-get_within [] n w e = absurd (cc e)
-get_within (x ∷ ws) zero w e = omega arith
-get_within (x ∷ ws) (suc n) w e = (let k = get_within ws n w e in omega (arith, k))
-
 -- the pages and the log of a store that moves came to
 module _ (base : State) (k : IsSound base) (stores : List State) (images : List (List ℕ)) (log : List Record) (c : IsCome base stores images log) where
   abbrev s : State
@@ -115,24 +106,10 @@ module _ (base : State) (k : IsSound base) (stores : List State) (images : List 
   pub come_holds : HoldsLog base.sizes images log
   come_holds = subst (HoldsLog base.sizes images) c.records_are (subst (λ i. HoldsLog base.sizes i s.records) c.images_are (subst (λ y. HoldsLog y s.images s.records) sizes holds))
 
--- so it is between two inverses, and within one, where the next write leaves a whole log
+-- so it is between two inverses, and within one
 pub between_holds : (base : State) (images : List (List ℕ)) (log : List Record) → IsSound base → IsBetween base images log → HoldsLog base.sizes images log
 between_holds base images log k b = come_holds base k b.stores images log b.come
 
 module _ (base : State) (images : List (List ℕ)) (log : List Record) (t : Txn) (n lsn : ℕ) (deed : Deed) (ws : List SlotWrite) (made : ℕ) (k : IsSound base) (i : IsWithin base images log t n lsn deed ws made) where
   pub within_holds : HoldsLog base.sizes images log
   within_holds = come_holds base k i.stores images log i.come
-
-  pub within_whole : (w : SlotWrite) → slice_get ws made ≡ Some w → IsSlotOf base.sizes (w.at / 16) (w.at % 16) w.before → IsSlotOf base.sizes (w.at / 16) (w.at % 16) w.after → IsWhole base.sizes (page_op t n w ∷ log)
-  within_whole w next before after =
-      let s = newest_store base i.stores in
-      let m = behind base i.stores i.come.turns in
-      let same : s.sizes ≡ base.sizes = moves_sizes base i.stores m in
-      let sound : IsSound s = moves_sound base i.stores k m in
-      let u : Under = record { number = n; writes = ws; made = made; aim = aims.Undoing lsn deed } in
-      let there : IsWhole s.sizes (page_op i.row.txn n w ∷ s.records) =
-      whole_step s.sizes s.records s.ends s.rows s.incarnation s.begins s.cells_in_use s.waiting sound.log sound.standing sound.counted sound.incarnation sound.some i.row u w i.at_row i.under next (get_within ws made w next)
-      (subst (λ z. IsSlotOf z (w.at / 16) (w.at % 16) w.before) (sym same) before) (subst (λ z. IsSlotOf z (w.at / 16) (w.at % 16) w.after) (sym same) after) in
-      subst (λ l. IsWhole base.sizes (page_op t n w ∷ l)) i.come.records_are
-      (subst (λ (x : Txn). IsWhole base.sizes (page_op x n w ∷ s.records)) i.of
-      (subst (λ z. IsWhole z (page_op i.row.txn n w ∷ s.records)) same there))

@@ -13,13 +13,11 @@ use Rattle.rq_page.specs.Sizes.{Sizes, sender_count}
 use Rattle.rq_views.specs.Plans.{deed_sender}
 use Rattle.rq_level.specs.declared.writes.SlotWrite.{SlotWrite}
 use Rattle.rq_pool.specs.Pooled.{Pooled}
-use Rattle.rq_txn.specs.Rows.{any_under}
 use Rattle.rq_store.specs.State.{State}
 use Rattle.rq_sound.specs.Sound.{IsSound}
-use Rattle.rq_inverses.specs.Inverses.{MayBeUndone}
 use Rattle.rq_lost.specs.declared.dues.Due.{Due}
 use Rattle.rq_lost.specs.Dues.{deed_due, dues}
-use Rattle.rq_lost.specs.Walk.{IsBetween, IsWithin}
+use Rattle.rq_lost.specs.Walk.{IsBetween, IsWithin, ShowsUndone}
 use Rattle.rq_restart.specs.Repeating.{AreCounted, Belongs, Paged, Repeats, paged}
 
 -- a record by which lost transactions are undone
@@ -99,13 +97,18 @@ AbortStops z log old before _ = ⊥
 abbrev pub IsNoDeed : Sizes → Due → Type 0
 IsNoDeed z due = (deed : Deed) → deed_in due.deed ≡ Some deed → sender_count z ≤ deed_sender deed
 
--- of no sound store with these pages, and with nothing under way, that what is due can be taken back
+-- no pages and log in which it is due show a store in which it can be taken back
 abbrev pub IsNotUndone : Sizes → List (List ℕ) → Due → Type 0
-IsNotUndone z images due = (s : State) → IsSound s → s.sizes ≡ z → s.images ≡ images → any_under s.rows ≡ false
-    → In due (dues s.records) → MayBeUndone s (deed_due due) → ⊥
+IsNotUndone z images due =
+    (log : List Record) → In due (dues log) → ShowsUndone z images log (deed_due due) → ⊥
 
 -- why what is due was not planned to be taken back
 abbrev pub PlanStops : Sizes → List (List ℕ) → Due → Refusal → Type 0
 PlanStops z images due why.NoMemory = Unit {0}
 PlanStops z images due (why.Damaged (damage.Record lsn)) = (lsn ≡ due.lsn) × IsNotUndone z images due
 PlanStops z images due _ = ⊥
+
+-- why the OpEnd with this LSN is not taken back
+abbrev pub blamed_on : ℕ → Refusal → Refusal
+blamed_on lsn why.NoMemory = why.NoMemory
+blamed_on lsn _ = why.Damaged (damage.Record lsn)

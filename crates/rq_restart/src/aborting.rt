@@ -10,10 +10,9 @@ ghost use Rattle.rq_sound.specs.Plans.{IsPlannedFrom};
 ghost use Rattle.rq_lost.specs.declared.dues.Due.{Due};
 ghost use Rattle.rq_lost.specs.Choices.{least_free};
 ghost use Rattle.rq_lost.specs.Dues.{deed_due};
-ghost use Rattle.rq_log.specs.Spelled.{AreSpelled};
 ghost use Rattle.rq_record.specs.Spelling.{IsTxnInRange};
 ghost use Rattle.rq_store.specs.Steps.{page_op};
-ghost use Rattle.rq_restart.specs.Aborting.{AbortStops, HasGoneOn, IsNoDeed, IsShown, IsShownWithin, PlanStops};
+ghost use Rattle.rq_restart.specs.Aborting.{AbortStops, HasGoneOn, IsNoDeed, blamed_on, IsShown, IsShownWithin, PlanStops};
 ghost use Rattle.rq_restart.specs.Checked.{IsEnded};
 ghost use Rattle.rq_restart.specs.Found.{AreFindings};
 
@@ -24,8 +23,10 @@ use rq_inverses::plan_inverse;
 use rq_level::SlotWrite;
 use rq_log::Log;
 use rq_lost::{Due, next_end};
+use rq_model::limits::LOG_LIMIT;
 use rq_model::record::{Deed, Record};
 use rq_model::refusal::{Damage, Refusal};
+use rq_model::txn::Lsn;
 use rq_pool::Pages;
 use rq_record::decode_deed;
 use rq_txn::Transactions;
@@ -148,6 +149,10 @@ fn take_back<P: PageDevice + Drop, L: LogDevice + Drop>(
         × (log.new.failed ≡ false) × (log.new.settled ≡ log.old.settled) }
     ensures room { OnOk result (log.new.reserved ≡ log.old.reserved) }
 {
+    log.shows_kept();
+    if log.last() >= LOG_LIMIT {
+        return Err(Refusal::LogFull);
+    }
     let writes = plan(alloc, pages, due)?;
     let Some(operation) = findings.numbers.greatest(due.txn).checked_add(1) else {
         return Err(Refusal::Damaged(Damage::Record(due.lsn)));
@@ -158,7 +163,8 @@ fn take_back<P: PageDevice + Drop, L: LogDevice + Drop>(
         operation,
         undone: due.lsn,
     };
-    append(pages, log, findings, &end)
+    append(pages, log, findings, &end)?;
+    Ok(())
 }
 
 // Makes the writes by which what is due is taken back, each with its record.
@@ -171,7 +177,7 @@ fn make_all<P: PageDevice + Drop, L: LogDevice + Drop>(
     writes: &[SlotWrite],
 ) -> Result<(), Refusal>
     requires found { AreFindings findings.old log.old.records }
-    requires txn { AreSpelled log.old.records → IsTxnInRange due.now.txn }
+    requires txn { IsTxnInRange due.now.txn }
     requires number { 0 < operation }
     requires slots { AreSlotWrites pages.old.sizes writes.now }
     requires running { log.old.failed ≡ false }
@@ -223,8 +229,18 @@ fn plan<P: PageDevice>(alloc: Global, pages: &Pages<P>, due: &Due) -> Result<Vec
     let nobody = Transactions::new(alloc);
     match plan_inverse(alloc, pages, &nobody, &deed) {
         Ok(Some(writes)) => Ok(writes),
-        Err(Refusal::NoMemory) => Err(Refusal::NoMemory),
-        _ => Err(Refusal::Damaged(Damage::Record(due.lsn))),
+        Ok(None) => Err(Refusal::Damaged(Damage::Record(due.lsn))),
+        Err(refusal) => Err(blamed(due.lsn, refusal)),
+    }
+}
+
+// Why the OpEnd with this LSN is not taken back: memory is wanting, or what it tells cannot be.
+fn blamed(lsn: Lsn, refusal: Refusal) -> Refusal
+    ensures { result ≡ blamed_on lsn refusal }
+{
+    match refusal {
+        Refusal::NoMemory => Refusal::NoMemory,
+        _ => Refusal::Damaged(Damage::Record(lsn)),
     }
 }
 

@@ -4,7 +4,8 @@ use Rattle.rq_store.specs.Opening.{opened, IsLeft}
 use Rattle.rq_store.specs.Fitting.{image_in}
 use Rattle.rq_pool.specs.Reading.{IsSuperblock}
 use Rattle.rq_restart.specs.Restarting.{IsLeftOn}
-use Rattle.rq_restart.proofs.Restarts.{was_checked, was_refused, if_ok_all, if_ok_both, left_read, told_on}
+use Rattle.rq_restart.proofs.Results.{if_ok_all, if_ok_both}
+use Rattle.rq_restart.proofs.Restarts.{was_checked, was_refused, left_read, told_on}
 use Rattle.rq_restart.proofs.Moments.{if_err_both}
 use Rattle.rq_restart.proofs.Loading.{load_shut, shut_log, one_size}
 use Rattle.rq_restart.proofs.restart.open.Goals as goal
