@@ -1,6 +1,6 @@
 -- Undoing lost transactions, record by record.
 use Rattle.std.proofs.Common.{◌≡◌, ℕ, ◌+◌, ◌≤◌, ◌^◌, Bool, true, false, not, ◌<◌, List, [], ◌∷◌, ◌++◌, length, map, Option, Some, None, inl, inr, refl, sym, ◌∙◌, ap, subst, arith}
-use Rattle.std.proofs.lemmas.List.{append_assoc}
+use Rattle.std.proofs.lemmas.List.{append_assoc, drop_at}
 use Rattle.rq_model.specs.declared.record.Record.{Record}
 use Rattle.rq_model.specs.declared.record.Record.TheVariants as records
 use Rattle.rq_model.specs.declared.refusal.Refusal.{Refusal}
@@ -28,6 +28,8 @@ use Rattle.rq_restart.specs.Aborting.{AbortStops, AreOfAborts, HasGoneOn, IsAbor
 use Rattle.rq_restart.specs.Aborting.IsBadStep.{BadRecord}
 use Rattle.rq_restart.specs.Repeating.{AreCounted, Belongs, IsRepeated, Paged, Repeats, paged}
 use Rattle.rq_restart.specs.Undoing.{StepStops}
+use Rattle.rq_log.specs.Spelled.{AreSpelled}
+use Rattle.rq_restart.proofs.Parsing.{AreSpelled-drop}
 use Rattle.rq_restart.proofs.Repeated.{counted_more}
 
 -- ---- records
@@ -65,6 +67,10 @@ aborts_plain (r ∷ rs) h = (abort_plain r h.0, aborts_plain rs h.1)
 
 pub aborting_extends : (log now : List Record) → IsAborting log now → Extends log now
 aborting_extends log now a = (a.front, a.are, aborts_plain a.front a.aborts)
+
+-- the log before them was spelled
+pub spelled_before : (log now : List Record) → IsAborting log now → AreSpelled now → AreSpelled log
+spelled_before log now a h = subst AreSpelled (drop_at a.front log (length a.front) refl) (AreSpelled-drop (length a.front) (a.front ++ log) (subst AreSpelled (sym a.are) h))
 
 same_one : (r : Record) (log : List Record) → is_of_abort r ≡ true → incarnation_of (r ∷ log) ≡ incarnation_of log
 same_one (records.PageOp t n page slot before after) log e = refl
@@ -130,6 +136,10 @@ module _ {P : Type 0} (z : Sizes) (log mid : List Record) (old now : Pooled P) (
     none = λ base k same b. s.none base k same (g.shown base k same b);
   }
   stops_join _ s = absurd s
+
+-- what was so of a store is so still
+pub gone_keeping : {P : Type 0} (z : Sizes) (log now : List Record) (old new : Pooled P) (before after : State → Type 0) → HasGoneOn z log now old new before after → HasGoneOn z log now old new before before
+gone_keeping z log now old new before after g = record { aborting = g.aborting; repeated = g.repeated; counted = g.counted; shown = λ base k same b. b }
 
 -- no record came, and a store of which the one is so is one of which the other is
 pub none_gone : {P : Type 0} (z : Sizes) (log : List Record) (old : Pooled P) (before after : State → Type 0) → OfStore z before after → HasGoneOn z log log old old before after

@@ -10,6 +10,8 @@ pub mod Worked
 pub mod Tallying
 pub mod Undos
 pub mod Begun
+pub mod Lefts
+pub mod Mending
 pub mod Showing
 pub mod Repeated
 pub mod DueLists

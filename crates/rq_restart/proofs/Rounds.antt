@@ -31,7 +31,7 @@ use Rattle.rq_store.specs.Fitting.{image_in}
 use Rattle.rq_sound.specs.Plans.{IsPlannedFrom}
 use Rattle.rq_sound.specs.Rows.{comp_end}
 use Rattle.rq_sound.specs.Sound.{IsSound}
-use Rattle.rq_undone.specs.Analysis.{Analysis, analysis}
+use Rattle.rq_undone.specs.Analysis.{Analysis, analysis, without_txn}
 use Rattle.rq_lost.specs.declared.dues.Due.{Due}
 use Rattle.rq_lost.specs.Choices.{least_free}
 use Rattle.rq_lost.specs.Dues.{any_due, deed_due, dues}
@@ -51,9 +51,11 @@ use Rattle.rq_restart.specs.declared.findings.Findings.{Findings}
 use Rattle.rq_restart.specs.Aborting.{AbortStops, IsNotUndone, IsOnItsWay, IsShown, IsShownWithin, OfStore, PlanStops}
 use Rattle.rq_restart.specs.Aborting.IsBadStep.{BadDue}
 use Rattle.rq_restart.specs.Aborting.IsOnItsWay.{Between, Within}
+use Rattle.rq_restart.specs.Checked.{IsEnded}
 use Rattle.rq_restart.specs.Found.{AreFindings}
 use Rattle.rq_restart.specs.Repeating.{Belongs, IsRepeated, paged}
 use Rattle.rq_restart.proofs.Aborts.{aborting_none, working_lost}
+use Rattle.rq_restart.proofs.DueLists.{nobody_left, one_next}
 use Rattle.rq_restart.proofs.Showing.{belongs_next, between_holds, put_next, within_holds}
 
 -- ---- numbers
@@ -182,6 +184,23 @@ module _ {P : Type 0} (z : Sizes) (log : List Record) (old : Pooled P) (f : Find
         ap (number_of d.txn) are.numbers ∙ ap (λ l. number_of d.txn (numbers l)) (sym b.come.records_are) ∙ ap (λ t. number_of t (numbers s.records)) (sym r.1) in
         omega (arith, many, few, e, low, count, all, same_number)
 
+-- what is due first is taken back, and its transaction has nothing more
+module _ {P : Type 0} (z : Sizes) (log mid : List Record) (old now : Pooled P) (f h : Findings) (are : AreFindings f log) (then : AreFindings h mid) (d : Due) (first : f.dues ≡ d ∷ h.dues) (none : least_free f.dues f.history.working ≡ None)
+    (working : h.history.working ≡ f.history.working) (off : any_due d.txn h.dues ≡ false) (shown_then : OfStore z (IsShown log old) (IsShown mid now)) where
+  next_is : (base : State) → IsSound base → base.sizes ≡ z → IsShown log old base → least_free h.dues h.history.working ≡ Some d.txn
+  next_is base k same b =
+      ap (least_free h.dues) working
+      ∙ one_next d h.dues f.history.working off (ap (λ ds. least_free ds f.history.working) (sym first) ∙ none) (first_lost z log old f are d h.dues first none base k same b)
+
+  pub next_belongs : OfStore z (IsShown log old) (λ base. Belongs z mid (records.AbortEnd d.txn) (paged now))
+  next_belongs base k same b = end_belongs z mid now h then d.txn (next_is base k same b) base k same (shown_then base k same b)
+
+  pub next_shown : (new : Pooled P) → new ≡ now → OfStore z (IsShown log old) (IsShown (records.AbortEnd d.txn ∷ mid) new)
+  next_shown new is base k same b = end_shown z mid now h then d.txn (next_is base k same b) new is base k same (shown_then base k same b)
+
+  pub next_way : OfStore z (IsShown log old) (λ base. IsOnItsWay base mid)
+  next_way base k same b = Between now.images (shown_then base k same b)
+
 -- ---- an inverse under way
 
 module _ {P : Type 0} (z : Sizes) (log : List Record) (old : Pooled P) (d : Due) (n : ℕ) (ws : List SlotWrite) (made : ℕ) where
@@ -248,3 +267,14 @@ close_rest log now f h d older n lsn are then grown first = (
   then.dues ∙ ap dues grown ∙ rest_due log d older n lsn (sym are.dues ∙ first),
   ap (λ (x : Analysis). x.working) (then.history ∙ ap analysis grown) ∙ ap (λ (x : Analysis). x.working) (sym are.history),
 )
+
+-- the end of a transaction leaves what is due, and takes it off those that have no end
+pub end_rest : (log now : List Record) (f h : Findings) (t : Txn) → AreFindings f log → AreFindings h now → now ≡ records.AbortEnd t ∷ log → (h.dues ≡ f.dues) × (h.history.working ≡ without_txn t f.history.working)
+end_rest log now f h t are then grown = (
+  then.dues ∙ ap dues grown ∙ sym are.dues,
+  ap (λ (x : Analysis). x.working) (then.history ∙ ap analysis grown) ∙ ap (λ (x : Analysis). without_txn t x.working) (sym are.history),
+)
+
+-- where nothing is due, and nobody has an end left to be made, all have ended
+pub all_ended : (log : List Record) (f : Findings) → AreFindings f log → f.dues ≡ [] → least_free f.dues f.history.working ≡ None → IsEnded log
+all_ended log f are nothing none = ap (λ (x : Analysis). x.working) (sym are.history) ∙ nobody_left f.history.working (ap (λ ds. least_free ds f.history.working) (sym nothing) ∙ none)

@@ -1,5 +1,5 @@
 //! Undoing lost transactions, one after the other, by the inverses of what they did.
-ghost use Rattle.std.specs.Prelude.{◌≡◌, ◌∷◌, ◌<◌, IfOk, IfErr, IfSome, IfNone, OnOk, Some, None, false, List, length};
+ghost use Rattle.std.specs.Prelude.{◌≡◌, ◌∷◌, ◌<◌, IfOk, IfErr, IfSome, IfNone, OnOk, OnErr, Some, None, false, List, length};
 ghost use Rattle.rq_model.specs.Deeds.{deed_in};
 ghost use Rattle.rq_page.specs.Sizes.{sender_count};
 ghost use Rattle.rq_views.specs.Plans.Turn.{Undid};
@@ -54,6 +54,7 @@ pub(crate) fn abort_lost<P: PageDevice + Drop, L: LogDevice + Drop>(
     ensures found { OnOk result (AreFindings findings.new log.new.records) }
     ensures stops { IfErr result (λ e. AbortStops pages.old.sizes log.old.records pages.old
         (IsShown log.old.records pages.old) e) }
+    ensures some { OnErr result (IsEnded log.old.records → ⊥) }
     ensures sizes { pages.new.sizes ≡ pages.old.sizes }
     ensures device { pages.new.device ≡ pages.old.device }
     ensures log { (log.new.device ≡ log.old.device) × (log.new.forced ≡ log.old.forced)
@@ -64,7 +65,8 @@ pub(crate) fn abort_lost<P: PageDevice + Drop, L: LogDevice + Drop>(
         return Ok(());
     }
     end_idle(pages, log, findings)?;
-    take_back_all(alloc, pages, log, findings)
+    take_back_all(alloc, pages, log, findings)?;
+    Ok(())
 }
 
 // Ends the transactions without an end that have nothing left to be taken back.
