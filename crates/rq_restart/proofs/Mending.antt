@@ -127,7 +127,7 @@ module _ {P : Type 0} (z : Sizes) (log undone : List Record) (mid : Pooled P) (u
         by (d ∷ ds) e =
             let s = newest_store base after.stores in
             let c = after.come in
-            let n = first_due s (come_sound base sound after.stores new.images now c) d ds (ap dues c.records_are ∙ e) in
+            let n = first_due s (come_sound base after.stores new.images now sound c) d ds (ap dues c.records_are ∙ e) in
             let none : s.rows ≡ [] = no_rows s.rows (c.lost ∙ ap lost c.records_are ∙ none_lost) in
             absurd (let bad : None ≡ Some n.row = ap (found_row d.txn) (sym none) ∙ n.at_row in cc bad)
 
