@@ -47,8 +47,9 @@ use Rattle.rq_restart.proofs.Repeated.{all_up_to, repeated_order, up_to}
 
 -- the log with the records that mend it, and one more, goes on from it
 pub mended_continues : (log mended : List Record) → IsMended log mended → Continues log mended
-mended_continues log mended m = front_continues log mended (m.aborting.front ++ m.undoes.undoing.front)
-(append_assoc m.aborting.front m.undoes.undoing.front log ∙ ap (λ l. m.aborting.front ++ l) m.undoes.undoing.are ∙ m.aborting.are)
+mended_continues log mended m =
+    front_continues log mended (m.aborting.front ++ m.undoes.undoing.front)
+    (append_assoc m.aborting.front m.undoes.undoing.front log ∙ ap (λ l. m.aborting.front ++ l) m.undoes.undoing.are ∙ m.aborting.are)
 
 pub one_continues : (log mended : List Record) (r : Record) → Continues log mended → Continues log (r ∷ mended)
 one_continues log mended r c = (suc c.0, c.1)
