@@ -1,5 +1,5 @@
 -- Undoing lost transactions, record by record.
-use Rattle.std.proofs.Common.{◌≡◌, ℕ, ◌+◌, ◌≤◌, ◌^◌, Bool, true, false, not, ◌<◌, List, [], ◌∷◌, ◌++◌, length, map, Option, Some, None, inl, inr, refl, sym, ◌∙◌, ap, subst, arith}
+use Rattle.std.proofs.Common.{◌≡◌, ◌+◌, true, false, not, ◌<◌, List, [], ◌∷◌, ◌++◌, length, Some, refl, sym, ◌∙◌, ap, subst, arith}
 use Rattle.std.proofs.lemmas.List.{append_assoc, drop_at}
 use Rattle.rq_model.specs.declared.record.Record.{Record}
 use Rattle.rq_model.specs.declared.record.Record.TheVariants as records
@@ -12,10 +12,8 @@ use Rattle.rq_model.specs.Unended.{lost}
 use Rattle.rq_model.specs.Words.{In, same_txn}
 use Rattle.rq_page.specs.Sizes.{Sizes}
 use Rattle.rq_pool.specs.Pooled.{Pooled}
-use Rattle.rq_txn.specs.Rows.{Row}
 use Rattle.rq_store.specs.State.{State}
 use Rattle.rq_store.specs.Whole.{IsWhole}
-use Rattle.rq_sound.specs.Sound.{IsSound}
 use Rattle.rq_undone.specs.Analysis.{Analysis, analysis, without_txn}
 use Rattle.rq_undone.proofs.Lists.{filter_less}
 use Rattle.rq_lost.specs.Choices.{least_free}
@@ -24,9 +22,9 @@ use Rattle.rq_model.proofs.Lists.{same_self}
 use Rattle.rq_undone.proofs.Noting.{noted_working}
 use Rattle.rq_restart.specs.declared.findings.Findings.{Findings}
 use Rattle.rq_restart.specs.Found.{AreFindings}
-use Rattle.rq_restart.specs.Aborting.{AbortStops, AreOfAborts, HasGoneOn, IsAborting, IsBadAbort, IsFull, IsOnItsWay, OfStore, is_of_abort}
+use Rattle.rq_restart.specs.Aborting.{AbortStops, AreOfAborts, HasGoneOn, IsAborting, IsOnItsWay, OfStore, is_of_abort}
 use Rattle.rq_restart.specs.Aborting.IsBadStep.{BadRecord}
-use Rattle.rq_restart.specs.Repeating.{AreCounted, Belongs, IsRepeated, Paged, Repeats, paged}
+use Rattle.rq_restart.specs.Repeating.{AreCounted, Belongs, IsRepeated, paged}
 use Rattle.rq_restart.specs.Undoing.{StepStops}
 use Rattle.rq_log.specs.Spelled.{AreSpelled}
 use Rattle.rq_restart.proofs.Parsing.{AreSpelled-drop}

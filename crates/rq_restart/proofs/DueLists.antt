@@ -1,25 +1,17 @@
 -- What a log says of what is due in it, and of the transactions that have no end.
-use Rattle.std.proofs.Common.{◌≡◌, ℕ, ◌+◌, ◌<◌, Bool, true, false, not, nat_lt, ◌||◌, List, [], ◌∷◌, ◌++◌, length, Option, Some, None, inl, inr, ◌⊎◌, refl, sym, ◌∙◌, ap, subst, arith}
-use Rattle.std.specs.List.{filter}
-use Rattle.std.proofs.lemmas.Bool.{cases_Bool, true≢false, false≢true}
-use Rattle.std.proofs.lemmas.Option.{same_Some}
-use Rattle.rq_model.specs.declared.record.Deed.{Deed}
+use Rattle.std.proofs.Common.{◌≡◌, ℕ, ◌+◌, ◌<◌, true, false, not, nat_lt, List, [], ◌∷◌, ◌++◌, length, Option, Some, None, inl, inr, ◌⊎◌, refl, sym, ◌∙◌, ap, subst, arith}
+use Rattle.std.proofs.lemmas.Bool.{cases_Bool, true≢false}
 use Rattle.rq_model.specs.declared.record.Record.{Record}
 use Rattle.rq_model.specs.declared.record.Record.TheVariants.{PageOp, PageUndo, OpEnd, OpVoid, CompEnd, Commit, Restart, AbortEnd}
 use Rattle.rq_model.specs.declared.txn.Txn.{Txn}
-use Rattle.rq_model.specs.Deeds.{deed_in}
 use Rattle.rq_model.specs.Words.{In, has_txn, same_txn}
 use Rattle.rq_model.proofs.Lists.{In-filter, same_is, same_self}
-use Rattle.rq_page.specs.Sizes.{Sizes, sender_count}
 use Rattle.rq_record.specs.Spelling.{IsTxnInRange}
 use Rattle.rq_log.specs.Spelled.{AreSpelled}
-use Rattle.rq_views.specs.InStore.{InStore}
-use Rattle.rq_views.specs.Items.{ReadsItsDeeds, told_deed}
-use Rattle.rq_views.specs.Plans.{deed_sender}
 use Rattle.rq_undone.specs.Analysis.{analysis, with_txn, without_txn}
 use Rattle.rq_lost.specs.declared.dues.Due.{Due}
 use Rattle.rq_lost.specs.Choices.{least_free, lesser_in}
-use Rattle.rq_lost.specs.Dues.{any_due, but_newest, but_own, deed_due, due_of, dues}
+use Rattle.rq_lost.specs.Dues.{any_due, but_newest, but_own, due_of, dues}
 
 -- those that stay were there
 newest_in : (t : Txn) (ds : List Due) (d : Due) → In d (but_newest t ds) → In d ds

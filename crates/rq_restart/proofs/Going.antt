@@ -12,7 +12,7 @@ use Rattle.rq_store.proofs.Redoing.{oldest_store, redo_one}
 use Rattle.rq_store.proofs.Bounds.{may_redo}
 use Rattle.rq_undone.specs.Analysis.{Analysis, analysis, analysis_after}
 use Rattle.rq_lost.specs.Dues.{dues, dues_after}
-use Rattle.rq_lost.specs.Numbers.{numbers, numbers_after}
+use Rattle.rq_lost.specs.Numbers.{numbers_after}
 use Rattle.rq_restart.specs.declared.findings.Findings.{Findings}
 use Rattle.rq_restart.specs.Found.{AreFindings, findings_after}
 use Rattle.rq_restart.specs.Repeating.{Paged, Marks, Belongs, Repeats, IsFirstBad}

@@ -1,5 +1,5 @@
 -- What mends a log: operations without an end are undone by pages, and then lost transactions by their inverses.
-use Rattle.std.proofs.Common.{◌≡◌, ◌≢◌, ℕ, ◌+◌, ◌≤◌, ◌^◌, ◌++◌, List, [], ◌∷◌, length, map, Option, Some, None, inl, inr, refl, sym, ◌∙◌, ap, subst, arith}
+use Rattle.std.proofs.Common.{◌≡◌, ◌≢◌, ◌++◌, List, [], ◌∷◌, length, map, Some, None, inl, inr, refl, sym, ◌∙◌, ap, subst, arith}
 use Rattle.rq_model.specs.declared.record.Record.{Record}
 use Rattle.rq_model.specs.declared.refusal.Refusal.{Refusal}
 use Rattle.rq_model.specs.declared.refusal.Refusal.TheVariants as why
@@ -13,12 +13,11 @@ use Rattle.rq_txn.specs.Rows.{Row, found_row}
 use Rattle.rq_store.specs.Fitting.{image_in}
 use Rattle.rq_store.specs.Opening.{FitsUpTo, IsLeft}
 use Rattle.rq_store.specs.State.{State}
-use Rattle.rq_store.specs.Whole.{IsWhole}
 use Rattle.rq_store.proofs.Fitting.{oldest_all}
 use Rattle.rq_store.proofs.Redoing.{redone_slots}
 use Rattle.rq_sound.specs.Sound.{IsSound}
-use Rattle.rq_undone.specs.Analysis.{Analysis, analysis}
-use Rattle.rq_undone.specs.Pages.{IsNextUndo, IsUndoing, IsUndone, UndoesBehind}
+use Rattle.rq_undone.specs.Analysis.{analysis}
+use Rattle.rq_undone.specs.Pages.{IsNextUndo, IsUndone, UndoesBehind}
 use Rattle.rq_undone.specs.Pages.IsNextUndo.{Voids, Undoes}
 use Rattle.rq_undone.specs.Theorems.{IsUndoneFrom}
 use Rattle.rq_undone.proofs.Undos.{undone_from}
@@ -38,7 +37,7 @@ use Rattle.rq_lost.proofs.Walking.{aborts_come}
 use Rattle.rq_restart.specs.Aborting.{AbortStops, HasGoneOn, IsFull, IsOnItsWay, IsShown}
 use Rattle.rq_restart.specs.Aborting.IsOnItsWay.{Between, Within}
 use Rattle.rq_restart.specs.Checked.{IsEnded}
-use Rattle.rq_restart.specs.Mended.{HasNoRoom, IsMended, MendStops}
+use Rattle.rq_restart.specs.Mended.{MendStops}
 use Rattle.rq_restart.specs.Repeating.{Paged, Repeats, paged}
 use Rattle.rq_restart.specs.Undoing.{UndoStops}
 use Rattle.rq_restart.proofs.Aborts.{aborting_none, working_lost}

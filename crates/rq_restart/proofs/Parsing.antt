@@ -106,7 +106,7 @@ stopped_shut g left z older rs old new (why.Damaged d) r k h = absurd (not_damag
 stopped_shut g left z older rs old new _ r k h = absurd h
 
 -- why the log was not read is why the store stays shut
-pub scan_shut : {L : Type 0} (g : Ghosts L) (left : Type 0) (older rs : List Record) (old new : L) (e told : Refusal) (z : Sizes) (first : Paged) → IsReadAs g old new older → AreSpelled rs → StopsFor g e rs old new → IsFirstFault z rs first e told
+pub scan_shut : {L : Type 0} (g : Ghosts L) (left : Type 0) (z : Sizes) (older rs : List Record) (old new : L) (e told : Refusal) (first : Paged) → IsReadAs g old new older → AreSpelled rs → StopsFor g e rs old new → IsFirstFault z rs first e told
     → MayBeShut left z older told (g.faults old) (g.faults new)
-scan_shut g left older rs old new e told z first r k h (inl same) = subst (λ x. MayBeShut left z older x (g.faults old) (g.faults new)) (sym same.0) (stopped_shut g left z older rs old new e r k h)
-scan_shut g left older rs old new e told z first r k h (inr damaged) = absurd (not_damaged g older rs old new e r k h damaged.0)
+scan_shut g left z older rs old new e told first r k h (inl same) = subst (λ x. MayBeShut left z older x (g.faults old) (g.faults new)) (sym same.0) (stopped_shut g left z older rs old new e r k h)
+scan_shut g left z older rs old new e told first r k h (inr damaged) = absurd (not_damaged g older rs old new e r k h damaged.0)

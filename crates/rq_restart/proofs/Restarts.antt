@@ -1,5 +1,5 @@
 -- What a restart makes of a store that was left as a crash may leave one.
-use Rattle.std.proofs.Common.{◌≡◌, ℕ, ◌+◌, ◌<◌, ◌≤◌, List, [], ◌∷◌, length, reverse, false, sym, ◌∙◌, ap, subst, inl, inr, arith, ◌^◌, Bool, replicate, Result, Ok, Err, OnOk, IfOk, IfErr}
+use Rattle.std.proofs.Common.{◌≡◌, ℕ, ◌+◌, ◌<◌, ◌≤◌, List, ◌∷◌, length, reverse, false, sym, ◌∙◌, ap, subst, inl, inr, ◌⊎◌, ⊎_elim, arith, ◌^◌, Bool, replicate}
 use Rattle.std.proofs.lemmas.List.{length-reverse}
 use Rattle.rq_model.specs.declared.record.Record.{Record}
 use Rattle.rq_model.specs.declared.refusal.Refusal.{Refusal}
@@ -19,7 +19,8 @@ use Rattle.rq_store.specs.Fitting.{FitsPage, AllFit, image_in, oldest}
 use Rattle.rq_store.proofs.Fitting.{oldest_all}
 use Rattle.rq_store.proofs.Cutting.{all_fit_longer, no_more_fit}
 use Rattle.rq_store.proofs.Bounds.{fits_counted}
-use Rattle.rq_restart.specs.Restarting.{IsBegun, LogStops, IsRefusedFor, WasChecked}
+use Rattle.rq_log.proofs.Moments.{weaker}
+use Rattle.rq_restart.specs.Restarting.{BeginsAtMost, BeginsFrom, IsBegun, IsBegunFrom, IsBegunOn, LogStops, IsRefusedFor, WasChecked}
 use Rattle.rq_restart.specs.Refused.{StopsAt, WhyShut}
 use Rattle.rq_restart.specs.declared.findings.Findings.{Findings}
 use Rattle.rq_restart.specs.Checked.{IsGoneThrough, IsBeyond, as_read}
@@ -78,6 +79,17 @@ module _ {P L : Type 0} (p : Ghosts P) (l : log_device.Ghosts L) (pages : P) (lo
         ap p.faults device ∙ cause,
         subst (λ first. LogStops l loaded.sizes first e log new_log) first_is h,
       )
+
+  -- what a crash leaves of the log, beside the pages that were read
+  pub begins_from : (new_pages : P) (new_log : L) → new_pages ≡ loaded.device → BeginsAtMost l loaded.sizes (image_in loaded.images) log new_log → BeginsFrom p l pages log new_pages new_log
+  begins_from new_pages new_log device begins h =
+      weaker l log new_log (λ c. l.may_leave log c ⊎ IsBegunOn loaded.sizes (image_in loaded.images) (l.seen log) c) (λ c. l.may_leave log c ⊎ IsBegunFrom p l pages log new_pages c) (begins h)
+      (λ c. ⊎_elim (λ was. inl was) (λ on. inr (record {
+        sizes = loaded.sizes;
+        images = loaded.images;
+        were = record { sound = sound; seen = λ honest. seen (subst p.honest device honest) };
+        begun = on;
+      })))
 
 -- what going through a log as it was read said, said of the log
 module _ (z : Sizes) (older xs : List Record) (same : older ≡ reverse xs) (first : Paged) where

@@ -1,5 +1,5 @@
 -- The records by which one lost transaction after the other is undone, of a store that is shown.
-use Rattle.std.proofs.Common.{◌≡◌, ◌≢◌, ◌||◌, ℕ, zero, suc, ◌+◌, ◌/◌, ◌%◌, ◌<◌, ◌≤◌, ◌^◌, max, nat_eq, Bool, true, false, List, [], ◌∷◌, length, map, get_or, Option, Some, None, inl, inr, refl, sym, ◌∙◌, ap, subst, arith}
+use Rattle.std.proofs.Common.{◌≡◌, ℕ, zero, suc, ◌+◌, ◌<◌, ◌≤◌, ◌^◌, nat_eq, true, false, List, [], ◌∷◌, length, map, get_or, Option, Some, None, inl, inr, refl, sym, ◌∙◌, ap, subst, arith}
 use Rattle.std.specs.List.{slice_get}
 use Rattle.std.proofs.lemmas.Bool.{cases_lt, and_parts, or_cases, eqb-true, false≢true}
 use Rattle.std.proofs.lemmas.List.{length-map}
@@ -27,7 +27,6 @@ use Rattle.rq_txn.specs.Rows.{Row}
 use Rattle.rq_store.specs.State.{State}
 use Rattle.rq_store.specs.Steps.{page_op}
 use Rattle.rq_store.specs.Whole.{IsWhole}
-use Rattle.rq_store.specs.Fitting.{image_in}
 use Rattle.rq_sound.specs.Plans.{IsPlannedFrom}
 use Rattle.rq_sound.specs.Rows.{comp_end}
 use Rattle.rq_sound.specs.Sound.{IsSound}
@@ -45,7 +44,6 @@ use Rattle.rq_lost.proofs.Numbering.{kept}
 use Rattle.rq_lost.proofs.Owing.{rest_due}
 use Rattle.rq_lost.proofs.Planning.{due_may}
 use Rattle.rq_lost.proofs.Recovering.{behind}
-use Rattle.rq_lost.proofs.Stopping.{moves_sizes}
 use Rattle.rq_lost.proofs.Walking.{aborts_go_on}
 use Rattle.rq_restart.specs.declared.findings.Findings.{Findings}
 use Rattle.rq_restart.specs.Aborting.{AbortStops, IsNotUndone, IsOnItsWay, IsShown, IsShownWithin, OfStore, PlanStops}

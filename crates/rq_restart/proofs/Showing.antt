@@ -1,5 +1,5 @@
 -- Pages that hold what a log leaves, and the next record of a store on its way.
-use Rattle.std.proofs.Common.{◌≡◌, ℕ, zero, suc, ◌+◌, ◌-◌, ◌/◌, ◌%◌, ◌<◌, ◌≤◌, Bool, List, [], ◌∷◌, length, drop, Some, refl, sym, ◌∙◌, ap, subst, arith}
+use Rattle.std.proofs.Common.{◌≡◌, ℕ, ◌+◌, ◌-◌, ◌/◌, ◌%◌, ◌<◌, ◌≤◌, Bool, List, ◌∷◌, length, drop, sym, ◌∙◌, ap, subst, arith}
 use Rattle.rq_model.specs.declared.record.Deed.{Deed}
 use Rattle.rq_model.specs.declared.record.Record.{Record}
 use Rattle.rq_model.specs.declared.txn.Txn.{Txn}
@@ -11,8 +11,8 @@ use Rattle.rq_views.specs.Log.{put}
 use Rattle.rq_views.specs.Stored.{slots_in}
 use Rattle.rq_views.proofs.Overlay.{put_agree}
 use Rattle.rq_level.specs.declared.writes.SlotWrite.{SlotWrite}
-use Rattle.rq_store.specs.Fitting.{FitsLog, FitsPage, HoldsPage, image_in, left_by, oldest, told_by}
-use Rattle.rq_store.specs.Opening.{FitsUpTo, MayRedo, Redoes}
+use Rattle.rq_store.specs.Fitting.{FitsLog, HoldsPage, image_in, left_by, oldest, told_by}
+use Rattle.rq_store.specs.Opening.{FitsUpTo, Redoes}
 use Rattle.rq_store.specs.State.{State}
 use Rattle.rq_store.specs.Steps.{page_op}
 use Rattle.rq_store.specs.Whole.{IsWhole}
@@ -27,7 +27,7 @@ use Rattle.rq_lost.specs.Walk.{IsBetween, IsCome, IsWithin, showing}
 use Rattle.rq_lost.proofs.Moving.{moves_sound}
 use Rattle.rq_lost.proofs.Recovering.{behind}
 use Rattle.rq_lost.proofs.Stopping.{moves_sizes}
-use Rattle.rq_restart.specs.Repeating.{Belongs, IsRepeated, Paged}
+use Rattle.rq_restart.specs.Repeating.{Belongs}
 
 -- pages that fit a whole log, and hold what it leaves
 pub record HoldsLog (z : Sizes) (images : List (List ℕ)) (log : List Record) : Type 0 where

@@ -1,6 +1,4 @@
-use Rattle.std.proofs.Common.{◌≡◌, rules, subst, ap, sym, ◌∙◌}
-use Rattle.std.proofs.lemmas.Bool.{false≢true}
-use Rattle.rq_undone.specs.Analysis.{Analysis}
+use Rattle.std.proofs.Common.{rules, subst}
 use Rattle.rq_restart.specs.Aborting.{AbortStops, HasGoneOn, IsShown}
 use Rattle.rq_restart.proofs.Aborts.{gone_join, stops_join}
 use Rattle.rq_restart.proofs.aborting.abort_lost.Goals as goal

@@ -1,9 +1,7 @@
-use Rattle.std.proofs.Common.{◌≡◌, ◌<◌, ◌∷◌, List, Some, rules, length, refl, ◌∙◌, sym, ap, subst, arith}
+use Rattle.std.proofs.Common.{◌≡◌, ◌∷◌, Some, rules, length, refl, ◌∙◌, sym, ap, subst}
 use Rattle.rq_model.specs.declared.record.Record.TheVariants as records
 use Rattle.rq_model.specs.declared.record.Record.{Record}
-use Rattle.rq_model.specs.declared.txn.Txn.{Txn}
 use Rattle.rq_page.specs.Sizes.{Sizes}
-use Rattle.rq_undone.specs.Analysis.{Analysis, without_txn}
 use Rattle.rq_lost.specs.Choices.{least_free}
 use Rattle.rq_restart.specs.Aborting.{AbortStops, HasGoneOn, IsShown}
 use Rattle.rq_restart.specs.Repeating.{Belongs, IsRepeated, paged}

@@ -1,4 +1,4 @@
-use Rattle.std.proofs.Common.{◌≡◌, refl, sym, subst}
+use Rattle.std.proofs.Common.{refl, sym, subst}
 use Rattle.rq_restart.specs.Aborting.{PlanStops}
 use Rattle.rq_restart.proofs.Planning.{always_deed, never_latched, why_not_planned}
 use Rattle.rq_restart.proofs.aborting.plan.Goals as goal

@@ -1,12 +1,11 @@
-use Rattle.std.proofs.Common.{◌≡◌, ◌+◌, ◌∷◌, ℕ, rules, length, ap, sym, ◌∙◌, subst, arith}
+use Rattle.std.proofs.Common.{◌≡◌, ◌+◌, ◌∷◌, ℕ, length, ap, sym, ◌∙◌, subst, arith}
 use Rattle.rq_model.specs.declared.record.Record.TheVariants as records
 use Rattle.rq_store.specs.Opening.{IsLeft, next_restart}
 use Rattle.rq_undone.specs.Analysis.{Analysis}
-use Rattle.rq_restart.specs.Mended.{HasRepeated, MendStops}
 use Rattle.rq_restart.specs.Refused.{WhyNotBegun}
-use Rattle.rq_restart.specs.Repeating.{AreCounted, Paged, Repeats, paged}
+use Rattle.rq_restart.specs.Repeating.{AreCounted, paged}
 use Rattle.rq_restart.specs.Restarting.{AreTold}
-use Rattle.rq_restart.proofs.Begun.{begins, begun_is, last_is, mend_not_begun, not_begun, reports}
+use Rattle.rq_restart.proofs.Begun.{begins, begun_is, last_is, not_begun, reports}
 use Rattle.rq_restart.proofs.Counting.{are_told}
 use Rattle.rq_restart.proofs.Moments.{begun_moment}
 use Rattle.rq_restart.proofs.restart.begin_next.Goals as goal

@@ -1,4 +1,4 @@
-use Rattle.std.proofs.Common.{rules, drop, ◌≡◌, ◌<◌, length, ap, IsTrue, refl, sym, ◌∙◌, subst}
+use Rattle.std.proofs.Common.{rules, drop, ◌≡◌, ◌<◌, length, ap, refl, sym, ◌∙◌, subst}
 use Rattle.rq_page.specs.Sizes.{page_count}
 use Rattle.rq_pool.specs.Pooled.{IsPool}
 use Rattle.rq_store.specs.Opening.{IsCounted}

@@ -1,8 +1,7 @@
-use Rattle.std.proofs.Common.{◌≡◌, ◌∷◌, List, rules, subst, ap, sym, ◌∙◌, length}
+use Rattle.std.proofs.Common.{rules, subst, ap, sym, ◌∙◌, length}
 use Rattle.rq_undone.specs.Analysis.{Analysis}
 use Rattle.rq_pool.specs.Pooled.{IsPool}
 use Rattle.rq_restart.specs.Aborting.{AbortStops, HasGoneOn, IsShown}
-use Rattle.rq_restart.specs.Checked.{IsEnded}
 use Rattle.rq_restart.specs.Mended.{MendStops}
 use Rattle.rq_restart.specs.Repeating.{AreCounted, Paged, Repeats, paged}
 use Rattle.rq_restart.proofs.Mending.{abort_mends_not, recovered_is, undo_mends_not, undone_working}
