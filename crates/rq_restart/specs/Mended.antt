@@ -51,6 +51,7 @@ pub record HasNoRoom (z : Sizes) (left : Type 0) (log : List Record) : Type 0 wh
   pub undoing : IsUndoing log undone
   pub now : List Record
   pub aborting : IsAborting undone now
+  pub none_lost : IsEnded log → now ≡ undone
   pub full : 2 ^ 50 ≤ length now
   pub recovering : left → IsRecovering z log now
 
