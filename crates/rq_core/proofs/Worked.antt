@@ -37,9 +37,9 @@ judged = record {
   refused_for_damage = λ h t. t.2.1;
   damaged_while_open = λ h t. t.2.2;
   failed_without_a_write = λ h t. cc t.2.2;
-  latched_with_nothing_under_way = λ h t. cc (sym (ap (λ (k : List Entry). any_busy (ledger k).open_ones) t.1.2.2) ∙ t.2.2);
+  latched_with_nothing_under_way = λ h t. cc (sym (ap (λ (k : List Entry). any_busy (ledger k).open_ones) t.1.2.1) ∙ t.2.2);
   memory_of_a_step = λ h t. cc t.2.2;
-  refused_while_open = λ h t. cc (sym (ap (λ (k : List Entry). (ledger k).phase) t.1.2.2) ∙ t.2.2);
+  refused_while_open = λ h t. cc (sym (ap (λ (k : List Entry). (ledger k).phase) t.1.2.1) ∙ t.2.2);
   acknowledged_of_no_commit = λ h t. t.2;
   answered_before_the_first = λ h t. t.2;
   loses_what_was_left = λ h a. (let e : 3 ≤ 1 = a.0.forced in omega (arith, e));
