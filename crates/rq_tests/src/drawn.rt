@@ -32,7 +32,7 @@ struct Shape {
     closes: u64,
     /// How many senders of each directory page.
     senders: u64,
-    /// One move of so many is a crash, where one may be; none, where this is 0.
+    /// One move of so many is a crash; none, where this is 0.
     crashes: u64,
 }
 
@@ -239,11 +239,11 @@ impl Drawing {
         }
     }
 
-    // A crash behind which a restart may open the store.
+    // A crash that keeps some of the records that are not forced, or none or all.
     fn crash(&mut self) -> Option<Move> {
         let place = self.random.next();
         let newest = self.random.is_first_of(2);
-        let keep = self.chains.settled_keep(place)?;
+        let keep = self.chains.keep_of(place)?;
         Some(Move::Crash { keep, newest })
     }
 
