@@ -6,6 +6,7 @@ use crate::told::{Told, told_of};
 use rq_core::happening::{Entry, Happening};
 use rq_engine::event::{Event, Reply};
 use rq_model::txn::Sub;
+use rq_restart::restart::Report;
 use std::alloc::{AllocError, Global};
 use std::test::Fail;
 
@@ -20,46 +21,143 @@ const WANTED: Met = Met {
     undone: 150,
     aborted: 150,
     crashed: 20,
+    stopped: 1,
     opened: 25,
     unfinished: 20,
+    lost: 1,
+    several: 1,
+    both: 1,
+    once: 1,
+    twice: 1,
+    thrice: 1,
 };
 
-/// What was met of aborts.
+/// What was met of aborts, and of what a crash cut off.
 #[derive(Clone, Copy, Debug)]
 struct Met {
     /// Inverses that were finished.
     undone: u64,
     /// Aborts that were ended.
     aborted: u64,
-    /// Crashes in the midst of one.
+    /// Crashes in the midst of one, and those of them that came in a call.
     crashed: u64,
+    stopped: u64,
     /// Stores that were opened behind one that outlived the crash.
     opened: u64,
     /// Operations without an end that restarts undid.
     unfinished: u64,
+    /// Transactions without an end that restarts undid.
+    lost: u64,
+    /// Restarts that undid more than one, and that undid operations beside one.
+    several: u64,
+    both: u64,
+    /// Restarts that were stopped with some of their records made: the first, the second and the third of a row.
+    once: u64,
+    twice: u64,
+    thrice: u64,
+}
+
+/// A list as far as it was gone through.
+#[derive(Clone, Copy)]
+struct Before {
+    /// Whether a transaction is aborting.
+    is_aborting: bool,
+    /// How many records the log has.
+    records: u64,
+    /// How many restarts were stopped one after the other, each with some of its records made.
+    row: u64,
 }
 
 impl Met {
-    fn note(&mut self, told: &Told, was_aborting: bool, holds_abort: bool) {
-        if let Told::Restarted(report) = told {
-            self.unfinished = self.unfinished.saturating_add(report.unfinished);
+    // Nothing yet.
+    const fn nothing() -> Met {
+        Met {
+            undone: 0,
+            aborted: 0,
+            crashed: 0,
+            stopped: 0,
+            opened: 0,
+            unfinished: 0,
+            lost: 0,
+            several: 0,
+            both: 0,
+            once: 0,
+            twice: 0,
+            thrice: 0,
         }
-        let met = match told {
-            Told::Undone => &mut self.undone,
-            Told::Aborted => &mut self.aborted,
-            Told::Crashed(_) if was_aborting => &mut self.crashed,
-            Told::Restarted(_) if holds_abort => &mut self.opened,
-            _ => return,
-        };
-        *met = met.saturating_add(1);
+    }
+
+    fn note(&mut self, happening: &Happening, told: &Told, before: Before, holds_abort: bool) {
+        if let Told::Restarted(report) = told {
+            self.note_report(report);
+        }
+        if before.is_aborting && is_stopped_call(happening, told) {
+            add(&mut self.stopped, 1);
+        }
+        match told {
+            Told::Undone => add(&mut self.undone, 1),
+            Told::Aborted => add(&mut self.aborted, 1),
+            Told::Crashed(_) if before.is_aborting => add(&mut self.crashed, 1),
+            Told::Restarted(_) if holds_abort => add(&mut self.opened, 1),
+            _ => {}
+        }
+    }
+
+    fn note_report(&mut self, report: &Report) {
+        add(&mut self.unfinished, report.unfinished);
+        add(&mut self.lost, report.lost);
+        if report.lost > 1 {
+            add(&mut self.several, 1);
+        }
+        if report.lost > 0 && report.unfinished > 0 {
+            add(&mut self.both, 1);
+        }
+    }
+
+    // So many restarts were stopped one after the other.
+    fn note_row(&mut self, row: u64) {
+        match row {
+            1 => add(&mut self.once, 1),
+            2 => add(&mut self.twice, 1),
+            3 => add(&mut self.thrice, 1),
+            _ => {}
+        }
     }
 
     fn has_all_of(&self, wanted: &Met) -> bool {
         self.undone >= wanted.undone
             && self.aborted >= wanted.aborted
             && self.crashed >= wanted.crashed
+            && self.stopped >= wanted.stopped
             && self.opened >= wanted.opened
             && self.unfinished >= wanted.unfinished
+            && self.lost >= wanted.lost
+            && self.several >= wanted.several
+            && self.both >= wanted.both
+            && self.once >= wanted.once
+            && self.twice >= wanted.twice
+            && self.thrice >= wanted.thrice
+    }
+}
+
+fn add(met: &mut u64, more: u64) {
+    *met = met.saturating_add(more);
+}
+
+fn is_stopped_call(happening: &Happening, told: &Told) -> bool {
+    match (happening, told) {
+        (Happening::StopIn(..), Told::Crashed(_)) => true,
+        _ => false,
+    }
+}
+
+// How many restarts were stopped one after the other, with this happening, that came to this.
+fn row_behind(happening: &Happening, told: &Told, before: Before) -> u64 {
+    match (happening, told) {
+        (Happening::RestartStop(..), Told::Crashed(records)) if *records > before.records => {
+            before.row.saturating_add(1)
+        }
+        _ => 0,
     }
 }
 
@@ -81,14 +179,21 @@ fn compared(
         return Ok(u64::MAX);
     }
     let mut lists = Lists::new(alloc)?;
+    let mut row = 0;
     for place in 0..happenings.len() {
         if let Some(happening) = happenings.get(place) {
-            let was_aborting = lists.aborting().is_some();
+            let before = Before {
+                is_aborting: lists.aborting().is_some(),
+                records: lists.records(),
+                row,
+            };
             let told = lists.happen(happening, picked(happenings, entries, place))?;
             if !is_told(&lists, entries, place, told) {
                 return Ok((place as u64).saturating_add(1));
             }
-            met.note(&told, was_aborting, lists.holds_abort());
+            met.note(happening, &told, before, lists.holds_abort());
+            row = row_behind(happening, &told, before);
+            met.note_row(row);
         }
     }
     Ok(0)
@@ -155,13 +260,7 @@ fn is_finish_of(event: &Event, sub: Sub) -> bool {
 
 #[test]
 fn anything_happens(rt: HostRuntime) -> Result<(), Fail> {
-    let mut met = Met {
-        undone: 0,
-        aborted: 0,
-        crashed: 0,
-        opened: 0,
-        unfinished: 0,
-    };
+    let mut met = Met::nothing();
     for seed in FIRST..FIRST + LISTS {
         assert_eq!(rt;
             first_fault(rt.alloc(), seed, &mut met)?,
