@@ -5,6 +5,7 @@ use crate::lists::Lists;
 use crate::told::{Told, told_of};
 use rq_core::happening::{Entry, Happening};
 use rq_engine::event::{Event, Reply};
+use rq_model::refusal::Refusal;
 use rq_model::txn::Sub;
 use rq_restart::restart::Report;
 use std::alloc::{AllocError, Global};
@@ -18,23 +19,26 @@ const LISTS: u64 = 300;
 
 /// So many of what is counted have to be met at least, all lists taken together.
 const WANTED: Met = Met {
+    full: 140,
     undone: 150,
-    aborted: 150,
-    crashed: 20,
-    stopped: 1,
-    opened: 25,
-    unfinished: 20,
-    lost: 1,
-    several: 1,
-    both: 1,
-    once: 1,
-    twice: 1,
-    thrice: 1,
+    aborted: 190,
+    crashed: 30,
+    stopped: 6,
+    opened: 290,
+    unfinished: 70,
+    lost: 130,
+    several: 12,
+    both: 39,
+    once: 210,
+    twice: 42,
+    thrice: 11,
 };
 
 /// What was met of aborts, and of what a crash cut off.
 #[derive(Clone, Copy, Debug)]
 struct Met {
+    /// Sends that were refused since every cell is in use.
+    full: u64,
     /// Inverses that were finished.
     undone: u64,
     /// Aborts that were ended.
@@ -72,6 +76,7 @@ impl Met {
     // Nothing yet.
     const fn nothing() -> Met {
         Met {
+            full: 0,
             undone: 0,
             aborted: 0,
             crashed: 0,
@@ -95,6 +100,7 @@ impl Met {
             add(&mut self.stopped, 1);
         }
         match told {
+            Told::Refused(Refusal::Full) => add(&mut self.full, 1),
             Told::Undone => add(&mut self.undone, 1),
             Told::Aborted => add(&mut self.aborted, 1),
             Told::Crashed(_) if before.is_aborting => add(&mut self.crashed, 1),
@@ -125,7 +131,8 @@ impl Met {
     }
 
     fn has_all_of(&self, wanted: &Met) -> bool {
-        self.undone >= wanted.undone
+        self.full >= wanted.full
+            && self.undone >= wanted.undone
             && self.aborted >= wanted.aborted
             && self.crashed >= wanted.crashed
             && self.stopped >= wanted.stopped
