@@ -14,6 +14,7 @@ use std::alloc::{AllocError, Global};
 mod cells;
 mod crashes;
 mod kinds;
+mod mending;
 mod starts;
 
 pub use kinds::{Kind, Tally};

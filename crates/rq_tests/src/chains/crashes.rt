@@ -1,9 +1,8 @@
 //! Crashes, and the restarts behind them.
-use super::cells::{directory_of, mark_of};
-use super::{
-    Aim, Chains, Done, Kind, Moment, NONE, Page, Reach, SlotWrite, Tally, Work, page_written,
-};
+use super::mending::Mending;
+use super::{Aim, Chains, Kind, Moment, Page, Tally};
 use crate::lists;
+use crate::moves::Cut;
 use crate::told::Told;
 use rq_model::reference::rows::OpenTxn;
 use rq_model::txn::{Lsn, Sub, Txn};
@@ -82,27 +81,30 @@ impl Chains {
         }
     }
 
-    /// A crash that keeps so many unforced records, and of each page its newest image or the one at the last sync; and
-    /// the restart behind it, which undoes the writes of operations without an end, and then transactions without one.
-    pub fn crash(&mut self, keep: u64, newest: bool, met: &mut Tally) -> Result<Told, AllocError> {
+    /// A crash, the restarts behind it that are stopped, and the one that is not.
+    pub fn crash(&mut self, cut: &Cut, met: &mut Tally) -> Result<Told, AllocError> {
         let forced = lists::forced(&self.lists);
         let all = lists::records(&self.lists);
-        let kept = std::cmp::min(forced.saturating_add(keep), all);
+        let kept = std::cmp::min(forced.saturating_add(cut.keep), all);
         let Some(place) = self.moment_at(kept) else {
             return Ok(Told::Other);
         };
         if kept < all {
             met.meet(Kind::Shorter);
         }
-        let incarnation = lists::incarnation(&self.lists).saturating_add(1);
+        let before = lists::incarnation(&self.lists);
         if !lists::crash(&mut self.lists, kept) {
             return Ok(Told::Other);
         }
-        let lost = self.come_back(place, newest)?;
-        self.count_lost(&lost, met);
-        let (unfinished, last) = self.undo_writes(kept, met);
-        let last = self.undo_lost(&lost, last, met)?;
-        let records = last.saturating_add(1);
+        let lost = self.come_back(place, cut.newest)?;
+        self.count_cut(&lost, met);
+        let mut mending = Mending::new(self.alloc, lost, kept, before);
+        let stopped = self.stop_all(&mut mending, cut, met)?;
+        let unfinished = self.unfinished(&mending);
+        let lost = mending.lost_count();
+        self.mend(&mut mending, u64::MAX, met)?;
+        let incarnation = mending.incarnation();
+        let records = mending.records();
         if !lists::restart(&mut self.lists, incarnation, records) {
             return Ok(Told::Other);
         }
@@ -111,9 +113,34 @@ impl Chains {
         Ok(Told::Opened {
             incarnation,
             unfinished,
-            lost: lost.len() as u64,
+            lost,
             records,
+            stopped,
         })
+    }
+
+    // Restarts that are stopped, and how many records each leaves.
+    fn stop_all(
+        &mut self,
+        mending: &mut Mending,
+        cut: &Cut,
+        met: &mut Tally,
+    ) -> Result<[Lsn; 3], AllocError> {
+        let mut stopped = [0; 3];
+        let mut kind = Kind::Other;
+        for (stop, left) in cut.stops.iter().zip(stopped.iter_mut()) {
+            if let Some(keep) = stop {
+                let before = mending.records();
+                self.mend(mending, *keep, met)?;
+                self.stop(mending, met);
+                *left = mending.records();
+                if *left > before {
+                    kind = behind(kind);
+                }
+            }
+        }
+        met.meet(kind);
+        Ok(stopped)
     }
 
     // The chains and pages are as they were at that moment. Gives the transactions that are lost then.
@@ -147,7 +174,7 @@ impl Chains {
         Ok(begun)
     }
 
-    fn count_lost(&self, lost: &[Txn], met: &mut Tally) {
+    fn count_cut(&self, lost: &[Txn], met: &mut Tally) {
         match lost.len() {
             0 => {}
             1 => met.meet(Kind::OneLost),
@@ -155,6 +182,30 @@ impl Chains {
         }
         if self.is_cut_beside(lost) {
             met.meet(Kind::CutBesideLost);
+        }
+        for txn in lost {
+            if !self.has_done(*txn) {
+                met.meet(Kind::EndWanting);
+            }
+        }
+        self.count_operations(met);
+    }
+
+    // Operations without an end.
+    fn count_operations(&self, met: &mut Tally) {
+        let mut operations: u64 = 0;
+        for place in 0..self.writes.len() {
+            if let Some(write) = self.writes.get(place) {
+                if self.is_last_of(place, write.sub) {
+                    operations = operations.saturating_add(1);
+                    if is_inverse(write.act) && write.left > 0 {
+                        met.meet(Kind::BetweenSteps);
+                    }
+                }
+            }
+        }
+        if operations > 1 {
+            met.meet(Kind::TwoCut);
         }
     }
 
@@ -169,153 +220,11 @@ impl Chains {
         }
         false
     }
-
-    // Those of which nothing is left to undo have their end first. Then what the others did is undone, the newest of all
-    // first; each has its end behind the last of it. The last record.
-    fn undo_lost(
-        &mut self,
-        lost: &[Txn],
-        records: Lsn,
-        met: &mut Tally,
-    ) -> Result<Lsn, AllocError> {
-        let mut last = records;
-        for txn in lost {
-            if !self.has_done(*txn) {
-                last = last.saturating_add(1);
-                met.meet(Kind::EndWanting);
-            }
-        }
-        for _ in 0..self.done.len() {
-            if let Some(done) = self.done.pop() {
-                last = self.undo_deed(&done, last, met)?;
-                if !self.has_done(done.txn) {
-                    last = last.saturating_add(1);
-                }
-            }
-        }
-        Ok(last)
-    }
-
-    fn has_done(&self, txn: Txn) -> bool {
-        for done in &self.done {
-            if done.txn == txn {
-                return true;
-            }
-        }
-        false
-    }
-
-    // An inverse, from its first slot write to its end. The last record.
-    fn undo_deed(&mut self, done: &Done, records: Lsn, met: &mut Tally) -> Result<Lsn, AllocError> {
-        let act = inverse_of(done.act);
-        met.meet(kind_of_undone(act));
-        let Some(reach) = self.reach_back(act) else {
-            return Ok(records);
-        };
-        let mut last = records;
-        let writes = writes_of(&reach);
-        for made in 0..writes {
-            last = last.saturating_add(1);
-            self.change(page_written(&reach, writes.saturating_sub(made)), last);
-        }
-        let sub = Sub {
-            txn: done.txn,
-            number: 0,
-        };
-        self.change_chain(&Work { sub, act, reach })?;
-        Ok(last.saturating_add(1))
-    }
-
-    // What an inverse touches where nobody has latched a page.
-    fn reach_back(&self, act: Aim) -> Option<Reach> {
-        match act {
-            Aim::Unsend(sender) => {
-                let (last, before) = self.last_two(sender)?;
-                Some(Reach {
-                    cell: Some(last),
-                    pages: [last.page, before, directory_of(sender)],
-                })
-            }
-            Aim::PutBack(sender) => {
-                let cell = self.lowest_free(true)?;
-                Some(Reach {
-                    cell: Some(cell),
-                    pages: [cell.page, self.nth_page(sender, 0), directory_of(sender)],
-                })
-            }
-            Aim::Reopen(sender) => Some(mark_of(sender)),
-            Aim::Append(_) | Aim::Unlink(_) | Aim::Close(_) => None,
-        }
-    }
-
-    // The newest write of all is undone first. Each has a record, and changes its page; behind the last of an operation
-    // there is one more. How many operations there were, and the last record.
-    fn undo_writes(&mut self, records: Lsn, met: &mut Tally) -> (u64, Lsn) {
-        self.count_between_steps(met);
-        let mut last = records;
-        let mut unfinished: u64 = 0;
-        for _ in 0..self.writes.len() {
-            if let Some(write) = self.writes.pop() {
-                last = last.saturating_add(1);
-                self.change(write.page, last);
-                if !self.has_writes_of(write.sub) {
-                    last = last.saturating_add(1);
-                    unfinished = unfinished.saturating_add(1);
-                    met.meet(kind_of_cut(&write));
-                }
-            }
-        }
-        if unfinished > 1 {
-            met.meet(Kind::TwoCut);
-        }
-        (unfinished, last)
-    }
-
-    // Inverses of which some writes are made, and not all.
-    fn count_between_steps(&self, met: &mut Tally) {
-        for place in 0..self.writes.len() {
-            if let Some(write) = self.writes.get(place) {
-                if is_inverse(write.act) && write.left > 0 && self.is_last_of(place, write.sub) {
-                    met.meet(Kind::BetweenSteps);
-                }
-            }
-        }
-    }
-
-    // Whether no write behind this place is of the operation.
-    fn is_last_of(&self, place: usize, sub: Sub) -> bool {
-        for write in self.writes.iter().skip(place.saturating_add(1)) {
-            if write.sub == sub {
-                return false;
-            }
-        }
-        true
-    }
-
-    fn has_writes_of(&self, sub: Sub) -> bool {
-        for write in &self.writes {
-            if write.sub == sub {
-                return true;
-            }
-        }
-        false
-    }
 }
 
 // Whether it has started nothing, or its first operation is under way.
 fn has_finished_nothing(row: &OpenTxn) -> bool {
     row.number == 0 || (row.number == 1 && row.work.is_some())
-}
-
-fn kind_of_cut(write: &SlotWrite) -> Kind {
-    match write.act {
-        Aim::Append(_) => Kind::SendCut,
-        Aim::Unlink(_) => Kind::TakeCut,
-        Aim::Close(_) => Kind::CloseCut,
-        Aim::Unsend(_) => Kind::UnsendCut,
-        Aim::PutBack(_) => Kind::BackCut,
-        Aim::Reopen(_) => Kind::ReopenCut,
-    }
 }
 
 fn is_inverse(act: Aim) -> bool {
@@ -325,30 +234,11 @@ fn is_inverse(act: Aim) -> bool {
     }
 }
 
-// What undoes it.
-fn inverse_of(act: Aim) -> Aim {
-    match act {
-        Aim::Append(sender) | Aim::Unsend(sender) => Aim::Unsend(sender),
-        Aim::Unlink(sender) | Aim::PutBack(sender) => Aim::PutBack(sender),
-        Aim::Close(sender) | Aim::Reopen(sender) => Aim::Reopen(sender),
+// One restart more was stopped.
+fn behind(kind: Kind) -> Kind {
+    match kind {
+        Kind::StoppedOnce => Kind::StoppedTwice,
+        Kind::StoppedTwice => Kind::StoppedThrice,
+        _ => Kind::StoppedOnce,
     }
-}
-
-fn kind_of_undone(act: Aim) -> Kind {
-    match act {
-        Aim::Append(_) | Aim::Unsend(_) => Kind::SendLost,
-        Aim::Unlink(_) | Aim::PutBack(_) => Kind::TakeLost,
-        Aim::Close(_) | Aim::Reopen(_) => Kind::CloseLost,
-    }
-}
-
-// How many slots an operation writes.
-fn writes_of(reach: &Reach) -> u8 {
-    let mut writes: u8 = 0;
-    for page in reach.pages {
-        if page != NONE {
-            writes = writes.saturating_add(1);
-        }
-    }
-    writes
 }

@@ -5,7 +5,7 @@ use rq_model::refusal::Refusal;
 use std::alloc::{AllocError, Global};
 
 /// How many kinds there are.
-const KINDS: u64 = 83;
+const KINDS: u64 = 89;
 
 /// What is worth counting of a call.
 #[derive(Clone, Copy, Debug, PartialEq, Eq)]
@@ -77,6 +77,15 @@ pub enum Kind {
     TakeLost,
     CloseLost,
     EndWanting,
+    /// Of one restart, of two and of three behind a crash that were stopped some records are left.
+    StoppedOnce,
+    StoppedTwice,
+    StoppedThrice,
+    /// A restart is stopped between two slot writes of an inverse, before the end of an operation of which all is undone,
+    /// and before the end of a transaction of which all is undone.
+    StoppedInInverse,
+    StoppedBeforeVoid,
+    StoppedBeforeEnd,
     /// Each answer of each call.
     Begun,
     SendStarted,
