@@ -29,6 +29,7 @@ const WANTED: Met = Met {
     lost: 130,
     several: 12,
     both: 39,
+    idle: 3,
     once: 210,
     twice: 42,
     thrice: 11,
@@ -55,6 +56,9 @@ struct Met {
     /// Restarts that undid more than one, and that undid operations beside one.
     several: u64,
     both: u64,
+    /// Restarts that were stopped with some of their records made, the first of them the end of a transaction that had
+    /// nothing left to undo, beside one that had.
+    idle: u64,
     /// Restarts that were stopped with some of their records made: the first, the second and the third of a row.
     once: u64,
     twice: u64,
@@ -68,6 +72,8 @@ struct Before {
     is_aborting: bool,
     /// How many records the log has.
     records: u64,
+    /// Whether a transaction without an end has nothing left to undo, beside one that has.
+    has_idle: bool,
     /// How many restarts were stopped one after the other, each with some of its records made.
     row: u64,
 }
@@ -86,6 +92,7 @@ impl Met {
             lost: 0,
             several: 0,
             both: 0,
+            idle: 0,
             once: 0,
             twice: 0,
             thrice: 0,
@@ -120,8 +127,11 @@ impl Met {
         }
     }
 
-    // So many restarts were stopped one after the other.
-    fn note_row(&mut self, row: u64) {
+    // So many restarts were stopped one after the other, the last one over a log that was as told.
+    fn note_row(&mut self, row: u64, before: Before) {
+        if row > 0 && before.has_idle {
+            add(&mut self.idle, 1);
+        }
         match row {
             1 => add(&mut self.once, 1),
             2 => add(&mut self.twice, 1),
@@ -141,6 +151,7 @@ impl Met {
             && self.lost >= wanted.lost
             && self.several >= wanted.several
             && self.both >= wanted.both
+            && self.idle >= wanted.idle
             && self.once >= wanted.once
             && self.twice >= wanted.twice
             && self.thrice >= wanted.thrice
@@ -192,6 +203,7 @@ fn compared(
             let before = Before {
                 is_aborting: lists.aborting().is_some(),
                 records: lists.records(),
+                has_idle: lists.has_idle_beside(),
                 row,
             };
             let told = lists.happen(happening, picked(happenings, entries, place))?;
@@ -200,7 +212,7 @@ fn compared(
             }
             met.note(happening, &told, before, lists.holds_abort());
             row = row_behind(happening, &told, before);
-            met.note_row(row);
+            met.note_row(row, before);
         }
     }
     Ok(0)

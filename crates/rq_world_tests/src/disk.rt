@@ -542,6 +542,11 @@ impl Disk {
         newest
     }
 
+    /// Whether a transaction that finished something has nothing left to undo, beside one that has, and neither has an end.
+    pub fn has_idle_beside(&self) -> bool {
+        self.least_idle().is_some() && self.newest_due().is_some()
+    }
+
     /// The LSN of the end of the newest operation of a transaction that is not undone; 0 where there is none.
     pub fn newest_due_of(&self, txn: Txn) -> Lsn {
         let mut newest = 0;

@@ -72,6 +72,10 @@ impl Drawing {
         if self.opened && !self.random.is_first_of(3) {
             return Ok(Happening::Call(Event::WritePage(self.page())));
         }
+        // the restart behind it ends one of them first, and then undoes the other
+        if self.lists.has_idle_beside() && self.random.is_first_of(4) {
+            return Ok(Happening::Crash(self.choice_of(u64::MAX)?));
+        }
         match self.random.below(if self.fills { 400 } else { 50 }) {
             0 => Ok(Happening::Ack(self.random.below(LENGTH))),
             1 => Ok(self.failure()),
@@ -140,6 +144,10 @@ impl Drawing {
             2 | 3 => self.random.below(5),
             _ => self.random.below(24),
         };
+        self.choice_of(keep)
+    }
+
+    fn choice_of(&mut self, keep: u64) -> Result<Choice, AllocError> {
         let mut pages = Vec::new(self.alloc);
         for _ in 0..self.random.below(5) {
             let place = match self.random.below(5) {
@@ -174,6 +182,7 @@ impl Drawing {
             }
             None if self.lists.open_count() == 0 && !self.random.is_first_of(3) => Ok(Event::Begin),
             None if !self.random.is_first_of(3) => match self.lists.aborting() {
+                Some((_, false)) if self.random.is_first_of(2) => self.other_call(),
                 Some((txn, has_done)) => Ok(self.abort_on(txn, has_done)),
                 None => self.other_call(),
             },

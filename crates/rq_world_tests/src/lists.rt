@@ -727,6 +727,11 @@ impl Lists {
         self.disk.is_failing()
     }
 
+    /// Whether a transaction without an end has nothing left to undo, beside one that has.
+    pub fn has_idle_beside(&self) -> bool {
+        self.disk.has_idle_beside()
+    }
+
     /// How many records the log has.
     pub fn records(&self) -> u64 {
         self.disk.len()

@@ -299,6 +299,9 @@ const APPEND: u64 = 7;
 /// The call behind it, the force.
 const FORCE: u64 = 8;
 
+/// The append where the log has fewer than 4,096 bytes, and is read twice.
+const SHORT_APPEND: u64 = 6;
+
 #[test]
 fn restarts_that_are_stopped_go_on(rt: HostRuntime) -> Result<(), Fail> {
     let last = LastTag { sent: 1, tag: 1 };
@@ -339,6 +342,82 @@ fn a_restart_is_stopped_at_each_of_its_records(rt: HostRuntime) -> Result<(), Fa
             ];
             check(&rt, keep, &cut_in_an_inverse(), &end)?;
         }
+    }
+    Ok(())
+}
+
+// One transaction has undone what it sent, and another one has sent: the first one's end is the restart's first record.
+#[test]
+fn lost_transactions_with_nothing_left_end_first(rt: HostRuntime) -> Result<(), Fail> {
+    let inverse = operation(FIRST, 2);
+    let course = [
+        Step::Restart(restarted(1, 1)),
+        Step::Call(Ask::Begin, Told::Begun(FIRST)),
+        Step::Send(FIRST, 0, 1, Text::A, 2),
+        Step::Call(Ask::StartAbort(FIRST), Told::Aborting),
+        Step::Call(Ask::UndoNext(FIRST), Told::Started(inverse)),
+        Step::Call(Ask::Step(inverse), Told::Stepped(5)),
+        Step::Call(Ask::Step(inverse), Told::Stepped(6)),
+        Step::Call(Ask::Finish(inverse), Told::Undone),
+        Step::Call(Ask::Begin, Told::Begun(SECOND)),
+        Step::Send(SECOND, 1, 1, Text::B, 8),
+        Step::Crash(ALL, Images::Unsaid, 10),
+    ];
+    for (keep, opened) in [
+        (0, restarted_losing(2, 0, 2, 16)),
+        (1, restarted_losing(2, 0, 1, 16)),
+        (2, restarted_losing(2, 1, 1, 19)),
+        (3, restarted_losing(2, 1, 1, 21)),
+        (4, restarted_losing(2, 0, 1, 16)),
+        (5, restarted(2, 16)),
+        (6, restarted(3, 17)),
+    ] {
+        let end = [
+            Step::RestartStop(
+                SHORT_APPEND,
+                keep,
+                Told::Crashed(u64::saturating_add(keep, 10)),
+            ),
+            Step::Restart(opened),
+            Step::HoldsNothing,
+        ];
+        check(&rt, keep, &course, &end)?;
+    }
+    Ok(())
+}
+
+// Two transactions sent. The one that did later has its end at once behind its inverse.
+#[test]
+fn each_lost_transaction_ends_behind_its_last_inverse(rt: HostRuntime) -> Result<(), Fail> {
+    let course = [
+        Step::Restart(restarted(1, 1)),
+        Step::Call(Ask::Begin, Told::Begun(FIRST)),
+        Step::Send(FIRST, 0, 1, Text::A, 2),
+        Step::Call(Ask::Begin, Told::Begun(SECOND)),
+        Step::Send(SECOND, 1, 1, Text::B, 5),
+        Step::Crash(ALL, Images::Unsaid, 7),
+    ];
+    for (keep, opened) in [
+        (0, restarted_losing(2, 0, 2, 16)),
+        (1, restarted_losing(2, 1, 2, 19)),
+        (2, restarted_losing(2, 1, 2, 21)),
+        (3, restarted_losing(2, 0, 2, 16)),
+        (4, restarted_losing(2, 0, 1, 16)),
+        (5, restarted_losing(2, 1, 1, 19)),
+        (6, restarted_losing(2, 1, 1, 21)),
+        (7, restarted_losing(2, 0, 1, 16)),
+        (8, restarted(2, 16)),
+    ] {
+        let end = [
+            Step::RestartStop(
+                SHORT_APPEND,
+                keep,
+                Told::Crashed(u64::saturating_add(keep, 7)),
+            ),
+            Step::Restart(opened),
+            Step::HoldsNothing,
+        ];
+        check(&rt, keep, &course, &end)?;
     }
     Ok(())
 }
