@@ -24,7 +24,7 @@ pub enum Command<'a> {
     Last(u32),
     Fail(CallKind),
     Crash(Keep, Images),
-    /// With the place among its calls of the devices at which it stops; 0 where it does not.
+    /// With the place of the device call at which it stops; 0 where it does not.
     Restart(u64),
     Dump,
 }

@@ -347,15 +347,17 @@ impl Script {
         report
     }
 
-    // Begins to open the store after a crash, up to the append of its records, and leaves it as the machine does that
-    // stops at this call. Each record that the restart makes counts as a call, and the force behind them as one more. Where
-    // it makes fewer, the store is opened.
+    // Opens the store after a crash up to the append of its records, and leaves it as the machine does that stops at this
+    // call. Each record that the restart makes counts as a call, though all go out in one, and the force behind them as one
+    // more. Where there are fewer, the store is opened.
     fn stop_in_restart(&mut self, pages: MemPages, log: MemLog, stop: u64) -> Told {
         let before = log.records();
         self.switch.arm_kind(CallKind::Write, Mishap::Stop);
-        match restart(self.alloc, pages, log) {
+        let restarted = restart(self.alloc, pages, log);
+        let has_stopped = self.has_stopped();
+        match restarted {
             Ok((engine, report)) => Told::Restarted(self.run_on(engine, report)),
-            Err(stopped) if self.has_stopped() => {
+            Err(stopped) if has_stopped => {
                 self.leave_at(stopped.pages, stopped.log, before, stop)
             }
             Err(stopped) => Told::Fault(stopped.refusal),
@@ -369,8 +371,8 @@ impl Script {
         stopped
     }
 
-    // The records of a restart are appended behind those before. Keeps what is made up to the call that the machine stops
-    // at; where there is no such call, none of them, and opens the store.
+    // Behind the records before stand all those of a restart. Keeps what is made up to the call that the machine stops at;
+    // where the restart makes no such call, opens the store.
     fn leave_at(&mut self, pages: MemPages, log: MemLog, before: u64, stop: u64) -> Told {
         let made = log.records().saturating_sub(before);
         let pages = pages.crash(PageChoice::Newest);

@@ -73,8 +73,10 @@ pub fn stopped(
     keep: u64,
 ) -> Result<(MemPages, MemLog), AllocError> {
     switch.arm_kind(CallKind::Write, Mishap::Stop);
-    match restart(alloc, pages, log) {
-        Err(stopped) if has_stopped(switch) => {
+    let restarted = restart(alloc, pages, log);
+    let stops = has_stopped(switch);
+    match restarted {
+        Err(stopped) if stops => {
             Ok(crashed(stopped.pages, stopped.log, PageChoice::Newest, keep))
         }
         _ => Err(AllocError),

@@ -7,7 +7,7 @@ use rq_engine::event::Event;
 use rq_model::txn::{Sub, Txn};
 use std::alloc::{AllocError, Global};
 
-/// How many happenings a list has at most.
+/// How many happenings a list has.
 const LENGTH: u64 = 160;
 
 /// A list that is being drawn.
