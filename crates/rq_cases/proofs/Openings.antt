@@ -464,7 +464,7 @@ beginnings = record {
       cc e);
   refuses_without_cause = λ r. (let e = (r running.force.sound).1 in cc e);
 } where
-  told_of : (Q : Sizes → List Record → Type 0) (pages : MemPages) (log new : MemLog) → Hold pages formatted_pages log log_5 → OfStores mem_pages mem_log pages log new Q → Q sizes log_5
+  told_of : (Q : Sizes → List Record → Type 0) (pages : MemPages) (log new : MemLog) → Hold pages formatted_pages log log_5 → OfStores mem_pages mem_log pages log pages new Q → Q sizes log_5
   told_of Q pages log new h q =
       q tt tt sizes log_5 records_spelled (log_seen log log_5 h.1)
       (λ images bytes a b. (log_5, leaves_store pages log h images bytes a b))
