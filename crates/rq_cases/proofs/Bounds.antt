@@ -406,15 +406,19 @@ module _ (n : ℕ) (pages : MemPages) (log : MemLog) (h : Hold pages formatted_p
           restarts n,
           are_spelled n low,
           λ honest. log_seen log (restarts n) h.1,
-          (record {
-            undone = restarts n;
-            undoing = undoing_none (restarts n);
-            now = restarts n;
-            aborting = aborting_none (restarts n);
-            none_lost = λ e. refl;
-            full = omega (arith, e, le);
-            recovering = λ left. Undoing (undoing_none (restarts n));
-          }, (read_pages, gone n), only_read log),
+          (
+            record {
+              undone = restarts n;
+              undoing = undoing_none (restarts n);
+              now = restarts n;
+              aborting = aborting_none (restarts n);
+              none_lost = λ e. refl;
+              full = omega (arith, e, le);
+              recovering = λ left. Undoing (undoing_none (restarts n));
+            },
+            (read_pages, gone n),
+            only_read log,
+          ),
         ),
       )
 

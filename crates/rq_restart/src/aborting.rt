@@ -219,7 +219,11 @@ fn written(due: &Due, operation: u64, write: &SlotWrite) -> Record
 }
 
 // The writes that take back what is due, over the slots as they are. Nobody has latched a page.
-fn plan<P: PageDevice>(alloc: Global, pages: &Pages<P>, due: &Due) -> Result<Vec<SlotWrite>, Refusal>
+fn plan<P: PageDevice>(
+    alloc: Global,
+    pages: &Pages<P>,
+    due: &Due,
+) -> Result<Vec<SlotWrite>, Refusal>
     ensures plan { IfOk result (λ writes. IsPlannedFrom pages.now.sizes (slots_in pages.now.sizes pages.now.images)
         writes.items (Undid (deed_due due.now))) }
     ensures slots { IfOk result (λ writes. AreSlotWrites pages.now.sizes writes.items) }

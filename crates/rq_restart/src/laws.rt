@@ -2,7 +2,7 @@
 ghost use Rattle.rq_restart.specs.Ended.{EndedIsSettled};
 ghost use Rattle.rq_restart.specs.Once.{AsManyAsTheLog, OneLogEach, OneSizeEach};
 
-/// Of every whole log: what a restart asks before it opens it is that no transaction is lost.
+/// Of every whole log: all that finished an operation have their end exactly where no transaction is lost.
 pub fn ended_is_settled()
     ensures { EndedIsSettled }
 {}
