@@ -197,22 +197,21 @@ impl Disk {
 
     /// Adds a record, and answers its LSN.
     pub fn add(&mut self, record: Record) -> Result<Lsn, Refusal> {
+        let page = page_of(&record);
         if self.records.push(record).is_err() {
             return Err(Refusal::NoMemory);
         }
         let lsn = self.len();
-        self.apply(record, lsn);
+        self.change(page, lsn);
         Ok(lsn)
     }
 
-    // Makes the change of a record, where its page is older.
-    fn apply(&mut self, record: Record, lsn: Lsn) {
-        match record {
-            Record::Write(_, DIRECTORY) | Record::Back(_, DIRECTORY, _) => {
-                self.directory.change(lsn)
-            }
-            Record::Write(_, _) | Record::Back(_, _, _) => self.cells.change(lsn),
-            _ => {}
+    // Makes the change of the record with this LSN on its page, where that is older.
+    fn change(&mut self, page: Option<u32>, lsn: Lsn) {
+        match page {
+            Some(DIRECTORY) => self.directory.change(lsn),
+            Some(_) => self.cells.change(lsn),
+            None => {}
         }
     }
 
@@ -340,11 +339,14 @@ impl Disk {
         self.directory.load();
         self.cells.load();
         for index in 0..self.records.len() {
-            let Some(record) = self.records.get(index).copied() else {
-                return;
-            };
-            self.apply(record, (index as u64).saturating_add(1));
+            let page = self.page_at(index);
+            self.change(page, (index as u64).saturating_add(1));
         }
+    }
+
+    // The page that the record at this place changes.
+    fn page_at(&self, index: usize) -> Option<u32> {
+        page_of(self.records.get(index)?)
     }
 
     // Undoes operations without an end, and answers how many there were. Those of which nothing is left to undo have
@@ -691,5 +693,14 @@ fn deed_bytes(act: &Act) -> u64 {
         Act::Sent(message) => (message.body.as_slice().len() as u64).saturating_add(29),
         Act::Taken(message) => (message.body.as_slice().len() as u64).saturating_add(21),
         Act::Closed(_) => 5,
+    }
+}
+
+// The page that a record changes.
+fn page_of(record: &Record) -> Option<u32> {
+    match record {
+        Record::Write(_, page) => Some(*page),
+        Record::Back(_, page, _) => Some(*page),
+        _ => None,
     }
 }

@@ -8,6 +8,7 @@ use crate::told::Told;
 use rq_engine::event::LastTag;
 use rq_model::refusal::Refusal;
 use rq_model::txn::{Sub, Txn};
+use std::process::Abort;
 use std::test::Fail;
 
 /// The first transaction behind a restart.
@@ -334,16 +335,24 @@ fn a_restart_is_stopped_at_each_of_its_records(rt: HostRuntime) -> Result<(), Fa
         (11, restarted_losing(2, 0, 0, 26)),
         (12, restarted_losing(3, 0, 0, 27)),
     ] {
-        for call in [APPEND, FORCE] {
-            let end = [
-                Step::RestartStop(call, keep, Told::Crashed(u64::saturating_add(keep, 14))),
-                Step::Restart(opened),
-                Step::Holds(sent(1, Text::A, true)),
-            ];
-            check(&rt, keep, &cut_in_an_inverse(), &end)?;
-        }
+        stopped_and_made_again(&rt, APPEND, keep, opened)?;
+        stopped_and_made_again(&rt, FORCE, keep, opened)?;
     }
     Ok(())
+}
+
+fn stopped_and_made_again(
+    rt: &(impl Abort + AllocGlobal),
+    call: u64,
+    keep: u64,
+    opened: Told,
+) -> Result<(), Fail> {
+    let end = [
+        Step::RestartStop(call, keep, Told::Crashed(u64::saturating_add(keep, 14))),
+        Step::Restart(opened),
+        Step::Holds(sent(1, Text::A, true)),
+    ];
+    check(rt, keep, &cut_in_an_inverse(), &end)
 }
 
 // One transaction has undone what it sent, and another one has sent: the first one's end is the restart's first record.
