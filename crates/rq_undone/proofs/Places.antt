@@ -1,13 +1,15 @@
 -- Slot writes that stand in the order of their records, and as contracts see them, the newest first.
-use Rattle.std.proofs.Common.{◌≡◌, ℕ, suc, ◌+◌, ◌<◌, Bool, true, false, List, [], ◌∷◌, ◌++◌, ◌||◌, length, take, drop, get_or, reverse, refl, sym, ◌∙◌, ap, inl, inr, arith}
+use Rattle.std.proofs.Common.{◌≡◌, ℕ, suc, ◌+◌, ◌<◌, Bool, true, false, List, [], ◌∷◌, ◌++◌, ◌||◌, Some, None, length, take, drop, get_or, reverse, refl, sym, ◌∙◌, ap, inl, inr, arith}
 use Rattle.std.specs.List.{filter}
 use Rattle.std.proofs.Math.Seq.{split_at}
 use Rattle.std.proofs.lemmas.Bool.{cases_Bool, or_parts}
 use Rattle.std.proofs.lemmas.List.{reverse-append}
 use Rattle.rq_model.specs.declared.txn.Sub.{Sub}
+use Rattle.rq_model.specs.Words.{first}
 use Rattle.rq_undone.specs.declared.history.Spot.{Spot}
 use Rattle.rq_undone.specs.Analysis.{Analysis, spot_of, without_newest}
 use Rattle.rq_undone.specs.Pages.{any_spot}
+use Rattle.rq_undone.proofs.Lists.{none_own}
 
 filter_behind : {X : Type 0} (f : X → Bool) (xs ys : List X) → filter f (xs ++ ys) ≡ filter f xs ++ filter f ys
 filter_behind f [] ys = refl
@@ -50,23 +52,25 @@ none_newest : (o : Sub) (ps : List Spot) → any_spot o ps ≡ false → without
 none_newest o [] none = refl
 none_newest o (p ∷ ps) none = let k = or_parts (spot_of o p) (any_spot o ps) none in rw k.0 (ap (λ l. p ∷ l) (none_newest o ps k.1))
 
+joined : (xs : List Spot) (y : Spot) (zs : List Spot) → (xs ++ y ∷ []) ++ zs ≡ xs ++ y ∷ zs
+joined [] y zs = refl
+joined (x ∷ xs) y zs = ap (λ l. x ∷ l) (joined xs y zs)
+
+reverse_cut : (xs : List Spot) (y : Spot) (zs : List Spot) → reverse (xs ++ y ∷ zs) ≡ reverse zs ++ y ∷ reverse xs
+reverse_cut xs y zs = reverse-append xs (y ∷ zs) ∙ ap (λ l. l ++ reverse xs) (reverse-append (y ∷ []) zs) ∙ joined (reverse zs) y (reverse xs)
+
+turned_at : (ps : List Spot) (i : ℕ) (d : Spot) → i < length ps → reverse ps ≡ reverse (drop (i + 1) ps) ++ get_or ps i d ∷ reverse (take i ps)
+turned_at ps i d lt =
+    let next : i + 1 ≡ suc i = omega arith in
+    ap reverse (split_at ps i d lt ∙ ap (λ n. take i ps ++ get_or ps i d ∷ drop n ps) (sym next)) ∙ reverse_cut (take i ps) (get_or ps i d) (drop (i + 1) ps)
+
 pub taken_back : (o : Sub) (ps : List Spot) (i : ℕ) (d : Spot) → i < length ps → spot_of o (get_or ps i d) ≡ true → any_spot o (drop (i + 1) ps) ≡ false
     → reverse (take i ps ++ drop (i + 1) ps) ≡ without_newest o (reverse ps)
 taken_back o ps i d lt own none =
-    let next : i + 1 ≡ suc i = omega arith in
     let behind = drop (i + 1) ps in
-    let cut : ps ≡ take i ps ++ get_or ps i d ∷ behind = split_at ps i d lt ∙ ap (λ n. take i ps ++ get_or ps i d ∷ drop n ps) (sym next) in
-    let turned : reverse ps ≡ reverse behind ++ get_or ps i d ∷ reverse (take i ps) = ap reverse cut ∙ reverse_cut (take i ps) (get_or ps i d) behind in
     reverse-append (take i ps) behind
     ∙ sym (newest_front o (reverse behind) (get_or ps i d) (reverse (take i ps)) (any_reverse o behind ∙ none) own)
-    ∙ ap (without_newest o) (sym turned)
-  where
-    joined : (xs : List Spot) (y : Spot) (zs : List Spot) → (xs ++ y ∷ []) ++ zs ≡ xs ++ y ∷ zs
-    joined [] y zs = refl
-    joined (x ∷ xs) y zs = ap (λ l. x ∷ l) (joined xs y zs)
-
-    reverse_cut : (xs : List Spot) (y : Spot) (zs : List Spot) → reverse (xs ++ y ∷ zs) ≡ reverse zs ++ y ∷ reverse xs
-    reverse_cut xs y zs = reverse-append xs (y ∷ zs) ∙ ap (λ l. l ++ reverse xs) (reverse-append (y ∷ []) zs) ∙ joined (reverse zs) y (reverse xs)
+    ∙ ap (without_newest o) (sym (turned_at ps i d lt))
 
 -- as a slice that was looked through tells
 pub taken_in : (o : Sub) (now ps : List Spot) (i : ℕ) (d : Spot) → now ≡ ps → i < length now → spot_of o (get_or now i d) ≡ true → any_spot o (drop (i + 1) now) ≡ false
@@ -75,3 +79,21 @@ taken_in o now ps i d same lt own none = ap (λ l. reverse (take i l ++ drop (i 
 
 pub none_taken : (o : Sub) (h : Analysis) → any_spot o h.spots ≡ false → h ≡ record h { spots = without_newest o h.spots }
 none_taken o h none = ap (λ (l : List Spot). record h { spots = l }) (sym (none_newest o h.spots none))
+
+-- the first of the operation's, where none before it is one
+first_front : (o : Sub) (ps : List Spot) (p : Spot) (qs : List Spot) → any_spot o ps ≡ false → spot_of o p ≡ true → first (filter (spot_of o) (ps ++ p ∷ qs)) ≡ Some p
+first_front o [] p qs none own = rw own refl
+first_front o (x ∷ ps) p qs none own = let k = or_parts (spot_of o x) (any_spot o ps) none in rw k.0 (first_front o ps p qs k.1 own)
+
+pub newest_there : (o : Sub) (now ps : List Spot) (i : ℕ) (d : Spot) → now ≡ ps → i < length now → spot_of o (get_or now i d) ≡ true → any_spot o (drop (i + 1) now) ≡ false
+    → Some (get_or ps i d) ≡ first (filter (spot_of o) (reverse ps))
+newest_there o now ps i d same lt own none =
+    ap (λ (l : List Spot). Some (get_or l i d)) (sym same)
+    ∙ sym (first_front o (reverse behind) (get_or now i d) (reverse (take i now)) (any_reverse o behind ∙ none) own)
+    ∙ ap (λ l. first (filter (spot_of o) l)) (sym (turned_at now i d lt)) ∙ ap (λ l. first (filter (spot_of o) (reverse l))) same
+  where
+    behind : List Spot
+    behind = drop (i + 1) now
+
+pub none_there : (o : Sub) (ps : List Spot) → any_spot o ps ≡ false → None ≡ first (filter (spot_of o) (reverse ps))
+none_there o ps none = ap first (sym (none_own o (reverse ps) (any_reverse o ps ∙ none)))

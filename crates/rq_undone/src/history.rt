@@ -1,7 +1,9 @@
 //! What the records of a log say of incarnations, operations and transactions.
 ghost use Rattle.std.specs.Prelude.{◌≡◌, ◌↔◌, ◌≤◌, ◌<◌, ◌+◌, IsTrue, IfOk, IfErr, IfSome, IfNone, OnOk, OnErr, [], ◌∷◌, Some, true, false, drop, length, reverse, slice_index_or};
+ghost use Rattle.std.specs.List.{filter};
 ghost use Rattle.rq_model.specs.Incarnations.{IsNext, IsOf};
-ghost use Rattle.rq_undone.specs.Analysis.{analysis, analysis_after, spot_of, with_sub, without_newest, without_spots, without_sub, with_txn, without_txn};
+ghost use Rattle.rq_model.specs.Words.{first};
+ghost use Rattle.rq_undone.specs.Analysis.{analysis, analysis_after, has_sub, spot_of, with_sub, without_newest, without_spots, without_sub, with_txn, without_txn};
 ghost use Rattle.rq_undone.specs.Pages.{IsNextUndo, any_spot, op_less, undo_of, void_of};
 ghost use Rattle.rq_undone.specs.Least.{least_in, lesser_in};
 
@@ -88,6 +90,23 @@ impl History {
         ensures { result ≡ length self.now.unfinished }
     {
         self.unfinished.len() as u64
+    }
+
+    /// Whether the operation wrote a slot and has no end.
+    pub fn is_unfinished(&self, sub: Sub) -> bool
+        ensures { result ≡ has_sub sub self.now.unfinished }
+    {
+        self.unfinished.contains(&sub)
+    }
+
+    /// The newest write of the operation that is not undone.
+    pub fn spot(&self, sub: Sub) -> Option<Spot>
+        ensures { result ≡ first (filter (spot_of sub) self.now.spots) }
+    {
+        match newest_of(&self.spots, sub) {
+            Some(place) => Some(self.spots[place]),
+            None => None,
+        }
     }
 
     /// Takes the next record, which has this LSN. False where it doesn't belong to the running incarnation, or isn't the

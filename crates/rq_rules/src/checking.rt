@@ -1,0 +1,139 @@
+//! Whether the next record follows the rules, by what is kept of those before it.
+ghost use Rattle.std.specs.Prelude.{◌≡◌, ◌↔◌, ◌+◌, ℕ, List, IsTrue, ◌∷◌, Some, true};
+ghost use Rattle.std.specs.List.{filter};
+ghost use Rattle.rq_model.specs.declared.record.Record.{Record as AnyRecord};
+ghost use Rattle.rq_model.specs.Deeds.{deed_in};
+ghost use Rattle.rq_model.specs.Incarnations.{InOrder};
+ghost use Rattle.rq_model.specs.Words.{first, is_some};
+ghost use Rattle.rq_undone.specs.Analysis.{spot_at, spot_of};
+ghost use Rattle.rq_lost.specs.Dues.{due_of};
+ghost use Rattle.rq_lost.specs.Numbers.{number_of};
+ghost use Rattle.rq_rules.specs.Kept.{IsKept, Passes, lsn_due};
+ghost use Rattle.rq_rules.specs.Rules.{FollowAll, FollowsRules};
+
+use crate::ended::Ended;
+use rq_lost::{Dues, Numbers};
+use rq_model::record::{DeedBytes, Record, Slot};
+use rq_model::txn::{Lsn, Sub, Txn};
+use rq_record::decode_deed;
+use rq_undone::History;
+
+/// Whether the record may stand behind the log of which these are kept, whose records followed the rules. It is the next
+/// of its incarnation.
+pub fn follows(
+    history: &History,
+    dues: &Dues,
+    numbers: &Numbers,
+    ended: &Ended,
+    record: &Record,
+) -> bool
+    ensures { (log : List AnyRecord) → IsKept log history.now dues.now numbers.now ended.now → FollowAll log
+        → InOrder («record».now ∷ log) → (IsTrue result ↔ FollowsRules log «record».now) }
+{
+    passes(history, dues, numbers, ended, record)
+}
+
+// By what is kept alone.
+fn passes(history: &History, dues: &Dues, numbers: &Numbers, ended: &Ended, record: &Record) -> bool
+    ensures { IsTrue result ↔ Passes history.now dues.now numbers.now ended.now «record».now }
+{
+    match record {
+        Record::PageOp { txn, operation, .. } => {
+            !ended.has(*txn)
+                && (history.is_unfinished(sub(txn, *operation)) || is_new(numbers, txn, *operation))
+        }
+        Record::PageUndo {
+            txn,
+            operation,
+            undone,
+            page,
+            slot,
+            after,
+        } => {
+            !ended.has(*txn)
+                && history.is_unfinished(sub(txn, *operation))
+                && undoes_newest(history, sub(txn, *operation), *undone, *page, *slot, after)
+        }
+        Record::OpEnd {
+            txn,
+            operation,
+            level,
+            deed,
+        } => !ended.has(*txn)
+            && history.is_unfinished(sub(txn, *operation))
+            && *level == 1
+            && can_be_read(deed),
+        Record::OpVoid { txn, operation } => !ended.has(*txn)
+            && history.is_unfinished(sub(txn, *operation)),
+        Record::CompEnd {
+            txn,
+            operation,
+            undone,
+        } => {
+            !ended.has(*txn)
+                && history.is_unfinished(sub(txn, *operation))
+                && takes_back_newest(dues, *txn, *undone)
+        }
+        Record::Commit { txn } => !ended.has(*txn),
+        Record::AbortEnd { txn } => !ended.has(*txn),
+        Record::Restart { .. } => true,
+    }
+}
+
+// The number of a transaction's operation.
+fn sub(txn: &Txn, operation: u64) -> Sub
+    ensures { result ≡ record { txn = txn.now; number = operation } }
+{
+    Sub {
+        txn: *txn,
+        number: operation,
+    }
+}
+
+// Whether the operation is the next of its transaction.
+fn is_new(numbers: &Numbers, txn: &Txn, operation: u64) -> bool
+    ensures { IsTrue result ↔ (operation ≡ number_of txn.now numbers.now + 1) }
+{
+    operation > 0 && numbers.greatest(*txn) == operation - 1
+}
+
+// Whether the operation's newest write that stands has this LSN and place, and these bytes before it.
+fn undoes_newest(
+    history: &History,
+    sub: Sub,
+    undone: Lsn,
+    page: u32,
+    slot: u8,
+    after: &Slot,
+) -> bool
+    ensures { IsTrue result ↔ (first (filter (spot_of sub) history.now.spots)
+        ≡ Some (spot_at undone sub page slot after.now)) }
+{
+    match history.spot(sub) {
+        Some(spot) => {
+            spot.by == sub
+                && spot.lsn == undone
+                && spot.page == page
+                && spot.slot == slot
+                && spot.before == *after
+        }
+        None => false,
+    }
+}
+
+// Whether the newest of the transaction's dues has this LSN.
+fn takes_back_newest(dues: &Dues, txn: Txn, undone: Lsn) -> bool
+    ensures { IsTrue result ↔ (lsn_due (first (filter (due_of txn) dues.now)) ≡ Some undone) }
+{
+    match dues.next_of(txn) {
+        Some(due) => due.lsn == undone,
+        None => false,
+    }
+}
+
+// Whether these are the bytes of a deed.
+fn can_be_read(deed: &DeedBytes) -> bool
+    ensures { IsTrue result ↔ (is_some (deed_in deed.now) ≡ true) }
+{
+    decode_deed(deed.as_slice()).is_some()
+}
