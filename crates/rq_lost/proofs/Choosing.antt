@@ -67,7 +67,7 @@ lost_first z log [] = refl
 lost_first z log (t ∷ ts) = ap (λ (l : List Txn). t ∷ l) (lost_first z log ts)
 
 pub lost_stay : (s now : State) → IsAbortMove s now → AreLost s → AreLost now
-lost_stay s now (Starts r u rest f may e) k = subst AreLost (sym e) (txns_changed r.txn (row_started u) s.rows (λ q. refl) ∙ k)
+lost_stay s now (Starts r u rest f may lowest e) k = subst AreLost (sym e) (txns_changed r.txn (row_started u) s.rows (λ q. refl) ∙ k)
 lost_stay s now (Writes r u w images lsn d aim next e) k = subst AreLost (sym e) (txns_changed r.txn row_stepped s.rows (λ q. refl) ∙ k)
 lost_stay s now (Undoes r u lsn d waiting ready more e) k = subst AreLost (sym e) (txns_changed r.txn (row_undone _) s.rows (λ q. refl) ∙ k)
 lost_stay s now (Ends r idle aborting none e) k = subst AreLost (sym e)

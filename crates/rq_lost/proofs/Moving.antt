@@ -10,13 +10,13 @@ use Rattle.rq_lost.specs.Moves.{AreAborted, IsAbortMove, MovesBehind, newest_sto
 use Rattle.rq_lost.specs.Moves.IsAbortMove.{Starts, Writes, Undoes, Ends}
 
 pub move_sound : (s now : State) → IsSound s → IsAbortMove s now → IsSound now
-move_sound s now k (Starts r u rest f may e) = subst IsSound (sym e) (calls_keep.starts_inverse s r u rest f k may)
+move_sound s now k (Starts r u rest f may lowest e) = subst IsSound (sym e) (calls_keep.starts_inverse s r u rest f k may)
 move_sound s now k (Writes r u w images lsn d aim next e) = subst IsSound (sym e) (calls_keep.steps s r u w images k next)
 move_sound s now k (Undoes r u lsn d waiting ready more e) = subst IsSound (sym e) (calls_keep.undoes s r u lsn d waiting k ready more)
 move_sound s now k (Ends r idle aborting none e) = subst IsSound (sym e) (calls_keep.ends_abort s r k idle none)
 
 pub move_extends : (s now : State) → IsAbortMove s now → Extends s.records now.records
-move_extends s now (Starts r u rest f may e) = subst (λ (x : State). Extends s.records x.records) (sym e) ([], refl, tt)
+move_extends s now (Starts r u rest f may lowest e) = subst (λ (x : State). Extends s.records x.records) (sym e) ([], refl, tt)
 move_extends s now (Writes r u w images lsn d aim next e) = subst (λ (x : State). Extends s.records x.records) (sym e) (_ ∷ [], refl, (refl, tt))
 move_extends s now (Undoes r u lsn d waiting ready more e) = subst (λ (x : State). Extends s.records x.records) (sym e) (_ ∷ [], refl, (refl, tt))
 move_extends s now (Ends r idle aborting none e) = subst (λ (x : State). Extends s.records x.records) (sym e) (_ ∷ [], refl, (refl, tt))

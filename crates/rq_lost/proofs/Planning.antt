@@ -1,7 +1,8 @@
 -- What is due first can be taken back.
-use Rattle.std.proofs.Common.{◌≡◌, ◌<◌, ℕ, not, List, [], ◌∷◌, Option, Some, None, inl, inr, false, sym, ◌∙◌, ap, subst}
-use Rattle.std.proofs.lemmas.Bool.{cases_Bool}
+use Rattle.std.proofs.Common.{◌≡◌, ◌<◌, ◌/◌, ◌++◌, ℕ, not, List, [], ◌∷◌, Option, Some, None, inl, inr, refl, true, false, sym, ◌∙◌, ap, subst, arith}
+use Rattle.std.proofs.lemmas.Bool.{cases_Bool, eq-eqb}
 use Rattle.rq_model.specs.declared.record.Deed.{Deed}
+use Rattle.rq_model.specs.declared.record.Deed.TheVariants.{Append, UnlinkHead, Close}
 use Rattle.rq_model.specs.declared.record.Record.{Record}
 use Rattle.rq_model.specs.declared.record.Record.TheVariants as records
 use Rattle.rq_model.specs.declared.txn.Txn.{Txn}
@@ -9,23 +10,35 @@ use Rattle.rq_model.specs.Deeds.{deed_in}
 use Rattle.rq_model.specs.Unended.{lost}
 use Rattle.rq_model.specs.Words.{In}
 use Rattle.rq_model.proofs.Lists.{In-filter}
-use Rattle.rq_page.specs.Sizes.{Sizes, sender_count}
+use Rattle.rq_page.specs.Sizes.{Sizes, directory_at, sender_count}
 use Rattle.rq_views.specs.InStore.{InStore}
-use Rattle.rq_views.specs.Items.{ReadsItsDeeds, told_deed}
+use Rattle.rq_views.specs.Chain.{View}
+use Rattle.rq_views.specs.Items.{ReadsItsDeeds, items, told_deed}
+use Rattle.rq_views.specs.Legal.{open_deeds, view}
+use Rattle.rq_views.specs.Log.{Slots}
+use Rattle.rq_views.specs.Stored.{slots_in}
 use Rattle.rq_views.specs.Plans.{deed_sender}
-use Rattle.rq_txn.specs.Rows.{any_under}
+use Rattle.rq_views.proofs.CanUndo.{can_undo_sent, can_undo_taken}
+use Rattle.rq_txn.specs.declared.Finished.{Finished}
+use Rattle.rq_txn.specs.Rows.{Row, any_under}
+use Rattle.rq_store.specs.Rows.{placed}
 use Rattle.rq_store.specs.State.{State}
+use Rattle.rq_store.proofs.Grouping.{groups_of}
 use Rattle.rq_store.specs.Whole.{IsWhole}
 use Rattle.rq_store.proofs.Others.{none_of}
-use Rattle.rq_store.proofs.RowLists.{found_here, none_under}
+use Rattle.rq_store.proofs.RowLists.{found_here, found_in, none_under}
 use Rattle.rq_sound.specs.Sound.{IsSound}
-use Rattle.rq_sound.proofs.Groups.{none_latched}
+use Rattle.rq_sound.specs.Calls.{IsIdle}
+use Rattle.rq_sound.specs.Groups.{TellsGroup, slots_now}
+use Rattle.rq_sound.proofs.FreeCells.{open_is}
+use Rattle.rq_sound.proofs.Groups.{none_latched, slots_tell}
+use Rattle.rq_sound.proofs.Planned.{sent_last}
 use Rattle.rq_inverses.specs.Inverses.{StandsOn}
 use Rattle.rq_lost.specs.declared.dues.Due.{Due}
 use Rattle.rq_lost.specs.Choices.{least_free}
 use Rattle.rq_lost.specs.Dues.{but_newest, deed_due, due_of, dues, finished_due}
 use Rattle.rq_lost.specs.Moves.{newest_store}
-use Rattle.rq_lost.specs.Walk.{DuesCanBeUndone, IsBetween, ShowsUndone}
+use Rattle.rq_lost.specs.Walk.{DuesCanBeUndone, IsBetween, ShowsUndone, StandsLast}
 use Rattle.rq_lost.proofs.Choosing.{chosen_back}
 use Rattle.rq_lost.proofs.Found.{may_be_undone}
 use Rattle.rq_lost.proofs.Logging.{come_sizes, come_sound}
@@ -62,20 +75,55 @@ due_reads z log d w i = reads_in z log d w.reads w.in_store i
 pub stands_idle : (s : State) (z : Sizes) (pages : List (List ℕ)) → s.sizes ≡ z → s.images ≡ pages → any_under s.rows ≡ false → StandsOn s z pages []
 stands_idle s z pages sizes images idle = record { sizes = sizes; images = images; latches = λ p. none_latched s.rows p idle }
 
+-- where nothing is under way, the slots show that a transaction's newest deed was done last at its end
+last_stands : (s : State) (r : Row) (rest : List Finished) (f : Finished) → IsSound s → IsIdle s r → any_under s.rows ≡ false → r.finished ≡ rest ++ f ∷ [] → deed_sender f.deed < sender_count s.sizes → StandsLast (slots_now s) f.deed
+last_stands s r rest f k m idle newest below = at f.deed refl below where
+  q : Slots
+  q = slots_now s
+
+  here : (d : Deed) → f.deed ≡ d → open_deeds r.txn (items s.sizes s.records) ≡ record { lsn = f.lsn; deed = d } ∷ placed rest
+  here d e = open_is s.sizes s.records s.ends s.rows s.incarnation s.begins s.cells_in_use s.waiting k.standing k.counted k.log r (found_in r.txn s.rows r m.at_row).0 m.idle rest f newest
+      ∙ ap (λ (x : Deed). record { lsn = f.lsn; deed = x } ∷ placed rest) e
+
+  at : (d : Deed) → f.deed ≡ d → deed_sender d < sender_count s.sizes → StandsLast q d
+  at (Append g n tag previous body) e low =
+      let shows = slots_tell.shows s g k low (slots_tell.none_latched s (directory_at g / 16) idle) in
+      let d = shows.directory in
+      let tells : TellsGroup s g d = slots_tell.tells s g d k low (slots_tell.none_latched s (directory_at g / 16) idle) shows.at in
+      let number = sent_last (items s.sizes s.records) r.txn f.lsn g n tag previous body (placed rest) (groups_of s.sizes s.records k.log) (here (Append g n tag previous body) e) in
+      let received = tells.received in
+      let sent = tells.sent in
+      let is : d.sent ≡ n = (let a = number.0 in omega (arith, a, received, sent)) in
+      let tail = tells.tail (let b = number.1 in omega (arith, b, sent)) in
+      record { directory = d; at = shows.at; last = (is, record { cell = tail.cell; stands = tail.at; number = tail.sequence ∙ is }) }
+  at (UnlinkHead g n tag body) e low =
+      let shows = slots_tell.shows s g k low (slots_tell.none_latched s (directory_at g / 16) idle) in
+      let tells : TellsGroup s g shows.directory = slots_tell.tells s g shows.directory k low (slots_tell.none_latched s (directory_at g / 16) idle) shows.at in
+      let x = can_undo_taken g (items s.sizes s.records) r.txn f.lsn g n tag body (placed rest) (groups_of s.sizes s.records k.log) (here (UnlinkHead g n tag body) e) (eq-eqb g g refl) in
+      record { directory = shows.directory; at = shows.at; last = sym tells.received ∙ x.0 }
+  at (Close g) e low =
+      let shows = slots_tell.shows s g k low (slots_tell.none_latched s (directory_at g / 16) idle) in
+      let tells : TellsGroup s g shows.directory = slots_tell.tells s g shows.directory k low (slots_tell.none_latched s (directory_at g / 16) idle) shows.at in
+      let x = can_undo_sent g (items s.sizes s.records) r.txn (record { lsn = f.lsn; deed = Close g }) (placed rest) (groups_of s.sizes s.records k.log) (here (Close g) e) (eq-eqb g g refl) in
+      record { directory = shows.directory; at = shows.at; last = sym tells.closed ∙ ap (λ (v : View). v.closed) x.1 }
+
 pub due_may : (base : State) (images : List (List ℕ)) (log : List Record) (d : Due) (ds : List Due) → IsSound base → IsBetween base images log → least_free (dues log) (lost log) ≡ None → dues log ≡ d ∷ ds
     → ShowsUndone base.sizes images log (deed_due d)
 due_may base images log d ds k b none first =
     let s = newest_store base b.stores in
     let sound = come_sound base b.stores images log k b.come in
     let h = chosen_back s sound b.come.lost d ds (subst (λ l. least_free (dues l) (lost l) ≡ None) (sym b.come.records_are) none) (ap dues b.come.records_are ∙ first) in
+    let m : IsIdle s h.0 = record { at_row = found_here s.rows h.0 sound.standing.distinct h.3.row; idle = none_of h.0.under (none_under s.rows h.0 b.idle h.3.row) } in
+    let sizes : s.sizes ≡ base.sizes = come_sizes base b.stores images log k b.come in
+    let below : deed_sender (deed_due d) < sender_count s.sizes = (due_reads s.sizes s.records d sound.log (subst (In d) (sym (ap dues b.come.records_are ∙ first)) (inl refl))).1 in
     record {
       store = s;
       sound = sound;
-      stands = stands_idle s base.sizes images (come_sizes base b.stores images log k b.come) b.come.images_are b.idle;
+      stands = stands_idle s base.sizes images sizes b.come.images_are b.idle;
       records_are = b.come.records_are;
       idle = b.idle;
-      may = may_be_undone s h.0 h.1 (finished_due d) sound
-          (record { at_row = found_here s.rows h.0 sound.standing.distinct h.3.row; idle = none_of h.0.under (none_under s.rows h.0 b.idle h.3.row) }) h.3.last;
+      may = may_be_undone s h.0 h.1 (finished_due d) sound m h.3.last;
+      last = subst (λ z. StandsLast (slots_in z images) (deed_due d)) sizes (subst (λ x. StandsLast (slots_in s.sizes x) (deed_due d)) b.come.images_are (last_stands s h.0 h.1 (finished_due d) sound m b.idle h.3.last below));
     }
 
 pub dues_undone : DuesCanBeUndone

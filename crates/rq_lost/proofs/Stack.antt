@@ -1,10 +1,11 @@
 -- Dues that stand in the order of their records, and as contracts see them, the newest first.
-use Rattle.std.proofs.Common.{◌≡◌, ℕ, suc, ◌+◌, ◌<◌, Bool, true, false, List, [], ◌∷◌, ◌++◌, ◌||◌, length, take, drop, get_or, reverse, refl, sym, ◌∙◌, ap, inl, inr, arith}
+use Rattle.std.proofs.Common.{◌≡◌, ℕ, suc, ◌+◌, ◌<◌, Bool, true, false, List, [], ◌∷◌, ◌++◌, ◌||◌, Some, None, length, take, drop, get_or, reverse, refl, sym, ◌∙◌, ap, inl, inr, arith}
 use Rattle.std.specs.List.{filter}
 use Rattle.std.proofs.Math.Seq.{split_at}
 use Rattle.std.proofs.lemmas.Bool.{cases_Bool, or_parts}
 use Rattle.std.proofs.lemmas.List.{reverse-append}
 use Rattle.rq_model.specs.declared.txn.Txn.{Txn}
+use Rattle.rq_model.specs.Words.{first}
 use Rattle.rq_lost.specs.declared.dues.Due.{Due}
 use Rattle.rq_lost.specs.Dues.{any_due, but_newest, due_of}
 
@@ -49,25 +50,50 @@ pub none_newest : (t : Txn) (ps : List Due) → any_due t ps ≡ false → but_n
 none_newest t [] none = refl
 none_newest t (p ∷ ps) none = let k = or_parts (due_of t p) (any_due t ps) none in rw k.0 (ap (λ l. p ∷ l) (none_newest t ps k.1))
 
+joined : (xs : List Due) (y : Due) (zs : List Due) → (xs ++ y ∷ []) ++ zs ≡ xs ++ y ∷ zs
+joined [] y zs = refl
+joined (x ∷ xs) y zs = ap (λ l. x ∷ l) (joined xs y zs)
+
+reverse_cut : (xs : List Due) (y : Due) (zs : List Due) → reverse (xs ++ y ∷ zs) ≡ reverse zs ++ y ∷ reverse xs
+reverse_cut xs y zs = reverse-append xs (y ∷ zs) ∙ ap (λ l. l ++ reverse xs) (reverse-append (y ∷ []) zs) ∙ joined (reverse zs) y (reverse xs)
+
+turned_at : (ps : List Due) (i : ℕ) (d : Due) → i < length ps → reverse ps ≡ reverse (drop (i + 1) ps) ++ get_or ps i d ∷ reverse (take i ps)
+turned_at ps i d lt =
+    let next : i + 1 ≡ suc i = omega arith in
+    ap reverse (split_at ps i d lt ∙ ap (λ n. take i ps ++ get_or ps i d ∷ drop n ps) (sym next)) ∙ reverse_cut (take i ps) (get_or ps i d) (drop (i + 1) ps)
+
 taken_back : (t : Txn) (ps : List Due) (i : ℕ) (d : Due) → i < length ps → due_of t (get_or ps i d) ≡ true → any_due t (drop (i + 1) ps) ≡ false
     → reverse (take i ps ++ drop (i + 1) ps) ≡ but_newest t (reverse ps)
 taken_back t ps i d lt own none =
-    let next : i + 1 ≡ suc i = omega arith in
     let behind = drop (i + 1) ps in
-    let cut : ps ≡ take i ps ++ get_or ps i d ∷ behind = split_at ps i d lt ∙ ap (λ n. take i ps ++ get_or ps i d ∷ drop n ps) (sym next) in
-    let turned : reverse ps ≡ reverse behind ++ get_or ps i d ∷ reverse (take i ps) = ap reverse cut ∙ reverse_cut (take i ps) (get_or ps i d) behind in
     reverse-append (take i ps) behind
     ∙ sym (newest_front t (reverse behind) (get_or ps i d) (reverse (take i ps)) (any_reverse t behind ∙ none) own)
-    ∙ ap (but_newest t) (sym turned)
-  where
-    joined : (xs : List Due) (y : Due) (zs : List Due) → (xs ++ y ∷ []) ++ zs ≡ xs ++ y ∷ zs
-    joined [] y zs = refl
-    joined (x ∷ xs) y zs = ap (λ l. x ∷ l) (joined xs y zs)
-
-    reverse_cut : (xs : List Due) (y : Due) (zs : List Due) → reverse (xs ++ y ∷ zs) ≡ reverse zs ++ y ∷ reverse xs
-    reverse_cut xs y zs = reverse-append xs (y ∷ zs) ∙ ap (λ l. l ++ reverse xs) (reverse-append (y ∷ []) zs) ∙ joined (reverse zs) y (reverse xs)
+    ∙ ap (but_newest t) (sym (turned_at ps i d lt))
 
 -- as a slice that was looked through tells
 pub taken_in : (t : Txn) (now ps : List Due) (i : ℕ) (d : Due) → now ≡ ps → i < length now → due_of t (get_or now i d) ≡ true → any_due t (drop (i + 1) now) ≡ false
     → reverse (take i ps ++ drop (i + 1) ps) ≡ but_newest t (reverse ps)
 taken_in t now ps i d same lt own none = ap (λ l. reverse (take i l ++ drop (i + 1) l)) (sym same) ∙ taken_back t now i d lt own none ∙ ap (λ l. but_newest t (reverse l)) same
+
+-- none of these is the transaction's
+none_own : (t : Txn) (ps : List Due) → any_due t ps ≡ false → filter (due_of t) ps ≡ []
+none_own t [] none = refl
+none_own t (p ∷ ps) none = let k = or_parts (due_of t p) (any_due t ps) none in rw k.0 (none_own t ps k.1)
+
+-- the first of the transaction's, where none before it is one
+first_front : (t : Txn) (ps : List Due) (p : Due) (qs : List Due) → any_due t ps ≡ false → due_of t p ≡ true → first (filter (due_of t) (ps ++ p ∷ qs)) ≡ Some p
+first_front t [] p qs none own = rw own refl
+first_front t (x ∷ ps) p qs none own = let k = or_parts (due_of t x) (any_due t ps) none in rw k.0 (first_front t ps p qs k.1 own)
+
+pub newest_there : (t : Txn) (now ps : List Due) (i : ℕ) (d : Due) → now ≡ ps → i < length now → due_of t (get_or now i d) ≡ true → any_due t (drop (i + 1) now) ≡ false
+    → Some (get_or ps i d) ≡ first (filter (due_of t) (reverse ps))
+newest_there t now ps i d same lt own none =
+    ap (λ (l : List Due). Some (get_or l i d)) (sym same)
+    ∙ sym (first_front t (reverse behind) (get_or now i d) (reverse (take i now)) (any_reverse t behind ∙ none) own)
+    ∙ ap (λ l. first (filter (due_of t) l)) (sym (turned_at now i d lt)) ∙ ap (λ l. first (filter (due_of t) (reverse l))) same
+  where
+    behind : List Due
+    behind = drop (i + 1) now
+
+pub none_there : (t : Txn) (ps : List Due) → any_due t ps ≡ false → None ≡ first (filter (due_of t) (reverse ps))
+none_there t ps none = ap first (sym (none_own t (reverse ps) (any_reverse t ps ∙ none)))

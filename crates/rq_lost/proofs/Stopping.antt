@@ -34,7 +34,7 @@ use Rattle.rq_lost.proofs.Store.{lost_sound}
 use Rattle.rq_lost.proofs.Workers.{not_not}
 
 move_sizes : (s now : State) → IsAbortMove s now → now.sizes ≡ s.sizes
-move_sizes s now (Starts r u rest f may e) = ap (λ (x : State). x.sizes) e
+move_sizes s now (Starts r u rest f may lowest e) = ap (λ (x : State). x.sizes) e
 move_sizes s now (Writes r u w images lsn d aim next e) = ap (λ (x : State). x.sizes) e
 move_sizes s now (Undoes r u lsn d waiting ready more e) = ap (λ (x : State). x.sizes) e
 move_sizes s now (Ends r idle aborting none e) = ap (λ (x : State). x.sizes) e

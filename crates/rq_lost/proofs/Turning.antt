@@ -27,6 +27,8 @@ use Rattle.rq_sound.proofs.Groups.{none_latched}
 use Rattle.rq_model.specs.declared.record.Record.{Record}
 use Rattle.rq_model.specs.Unended.{lost}
 use Rattle.rq_page.specs.Sizes.{Sizes}
+use Rattle.rq_inverses.specs.Inverses.{InverseTakesLowest}
+use Rattle.rq_sound.specs.Groups.{slots_now}
 use Rattle.rq_lost.specs.Lost.{lost_row, lost_rows}
 use Rattle.rq_lost.specs.Moves.{IsAbortMove}
 use Rattle.rq_lost.specs.Moves.IsAbortMove.{Starts, Writes, Undoes, Ends}
@@ -327,8 +329,9 @@ module _ (s : State) (k : IsSound s) where
       → u.number ≡ r.number + 1 → u.made ≡ 0 → u.aim ≡ aims.Undoing f.lsn f.deed
       → IsPlan (layout_of s.sizes) (Undid f.deed) (reverse (writes_of s.sizes u.writes))
       → HasBefores (reverse (writes_of s.sizes u.writes)) (left_by s.sizes s.records).slots
+      → InverseTakesLowest s.sizes (slots_now s) s.rows f.deed u.writes
       → IsAbortMove s (started s r u s.ends)
-  starts_next r rest f u off all n number made aim plan fits =
+  starts_next r rest f u off all n number made aim plan fits lowest =
       let idle = idle_row r off n.row in
       Starts r u rest f (record {
         planned = record {
@@ -343,7 +346,7 @@ module _ (s : State) (k : IsSound s) where
         aim = aim;
         aborting = all r n.row;
         newest = n.last;
-      }) refl
+      }) lowest refl
 
 -- who is to be undone stays so
 kept_one : (t : Txn) (f : Row → Row) (rows : List Row) → ((r : Row) → (f r).aborting ≡ r.aborting) → AreAborting rows → AreAborting (change_row t f rows)
@@ -355,7 +358,7 @@ kept_one t f rows same all q j =
     ]
 
 pub still_aborting : (s now : State) → IsAbortMove s now → AreAborting s.rows → AreAborting now.rows
-still_aborting s now (Starts r u rest f may e) all = subst (λ (n : State). AreAborting n.rows) (sym e) (kept_one r.txn (row_started u) s.rows (λ q. refl) all)
+still_aborting s now (Starts r u rest f may lowest e) all = subst (λ (n : State). AreAborting n.rows) (sym e) (kept_one r.txn (row_started u) s.rows (λ q. refl) all)
 still_aborting s now (Writes r u w images lsn d aim next e) all = subst (λ (n : State). AreAborting n.rows) (sym e) (kept_one r.txn row_stepped s.rows (λ q. refl) all)
 still_aborting s now (Undoes r u lsn d waiting ready more e) all = subst (λ (n : State). AreAborting n.rows) (sym e) (kept_one r.txn (row_undone _) s.rows (λ q. refl) all)
 still_aborting s now (Ends r idle aborting none e) all = subst (λ (n : State). AreAborting n.rows) (sym e) (λ q j. all q (gone r.txn s.rows q j).0)

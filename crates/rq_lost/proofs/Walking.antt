@@ -28,6 +28,10 @@ use Rattle.rq_sound.specs.Sound.{IsSound}
 use Rattle.rq_sound.specs.Starts.{MayUndo}
 use Rattle.rq_sound.proofs.Groups.{none_latched}
 use Rattle.rq_sound.proofs.Planned.{plans_start}
+use Rattle.rq_inverses.specs.Inverses.{InverseTakesLowest}
+use Rattle.rq_sound.specs.Groups.{slots_now}
+use Rattle.rq_page.specs.Sizes.{Sizes}
+use Rattle.rq_views.specs.Log.{Slots}
 use Rattle.rq_lost.specs.declared.dues.Due.{Due}
 use Rattle.rq_lost.specs.Choices.{least_free}
 use Rattle.rq_lost.specs.Dues.{deed_due, dues, finished_due}
@@ -126,6 +130,13 @@ put_as base s images now log w a b c k =
     (subst (λ l. IsPutIn (record base { images = images; records = l }) w now) c k)) in
     record { image = over.image; page = over.page; others = over.others; superblock = over.superblock; headers = over.headers }
 
+-- the lowest free cell of all is the lowest on a page that nobody has latched
+lowest_of : (z : Sizes) (q : Slots) (rows : List Row) (d : Deed) (ws : List SlotWrite) → InverseTakesLowest z q [] d ws → InverseTakesLowest z q rows d ws
+lowest_of z q rows (Append g n tag previous body) ws h = tt
+lowest_of z q rows (UnlinkHead g n tag body) [] h = absurd h
+lowest_of z q rows (UnlinkHead g n tag body) (w ∷ ws) h = λ b c lt free. absurd (true≢false (sym (h b c lt free)))
+lowest_of z q rows (Close g) ws h = tt
+
 module _ (base : State) (k : IsSound base) (stores : List State) (images : List (List ℕ)) (log : List Record) (c : IsCome base stores images log) where
   abbrev s : State
   s = newest_store base stores
@@ -149,8 +160,9 @@ module _ (base : State) (k : IsSound base) (stores : List State) (images : List 
   idle_row r off j = record { at_row = found_here s.rows r sound.standing.distinct j; idle = none_of r.under (none_under s.rows r off j) }
 
   pub begin : any_under s.rows ≡ false → (d : Due) (ds : List Due) (ws : List SlotWrite) → least_free (dues log) (lost log) ≡ None → dues log ≡ d ∷ ds
-      → IsPlannedFrom base.sizes (slots_in base.sizes images) ws (Undid (deed_due d)) → IsWithin base images log d.txn (number_of d.txn (numbers log) + 1) d.lsn (deed_due d) ws 0
-  begin off d ds ws none first plan =
+      → IsPlannedFrom base.sizes (slots_in base.sizes images) ws (Undid (deed_due d)) → InverseTakesLowest base.sizes (slots_in base.sizes images) [] (deed_due d) ws
+      → IsWithin base images log d.txn (number_of d.txn (numbers log) + 1) d.lsn (deed_due d) ws 0
+  begin off d ds ws none first plan low =
       let h = chosen_back s sound c.lost d ds (subst (λ l. least_free (dues l) (lost l) ≡ None) (sym c.records_are) none) (ap dues c.records_are ∙ first) in
       let r = h.0 in
       let t = h.3 in
@@ -161,9 +173,12 @@ module _ (base : State) (k : IsSound base) (stores : List State) (images : List 
       subst (λ z. IsPlannedFrom z (slots_in z s.images) ws (Undid (deed_due d))) (sym sizes) (subst (λ x. IsPlannedFrom base.sizes (slots_in base.sizes x) ws (Undid (deed_due d))) (sym c.images_are) plan) in
       let may : MayUndo s r u h.1 (finished_due d) = plans_start.inverses s r u h.1 (finished_due d) sound
       (record { idle = i; number = ap (λ (n : ℕ). n + 1) e; made = refl; aim_is = refl; free = λ p x. none_latched s.rows p off }) over (c.aborting r t.row) t.last in
+      let lowest : InverseTakesLowest s.sizes (slots_now s) s.rows (deed_due d) ws =
+      subst (λ z. InverseTakesLowest z (slots_in z s.images) s.rows (deed_due d) ws) (sym sizes)
+      (subst (λ x. InverseTakesLowest base.sizes (slots_in base.sizes x) s.rows (deed_due d) ws) (sym c.images_are) (lowest_of base.sizes (slots_in base.sizes images) s.rows (deed_due d) ws low)) in
       record {
         stores = started s r u s.ends ∷ stores;
-        come = step (started s r u s.ends) (Starts r u h.1 (finished_due d) may refl) images log (off, t) c.images_are c.records_are;
+        come = step (started s r u s.ends) (Starts r u h.1 (finished_due d) may lowest refl) images log (off, t) c.images_are c.records_are;
         row = row_started u r;
         of = h.2;
         at_row = found_change_same r.txn (row_started u) s.rows (λ q. refl) ∙ ap (λ (o : Option Row). option_map (row_started u) o) i.at_row;
@@ -226,7 +241,7 @@ module _ (base : State) (k : IsSound base) (stores : List State) (images : List 
 
 pub aborts_go_on : AbortsGoOn
 aborts_go_on = record {
-  begins = λ base images log d ds ws k b none first plan. begin base k b.stores images log b.come b.idle d ds ws none first plan;
+  begins = λ base images log d ds ws k b none first plan low. begin base k b.stores images log b.come b.idle d ds ws none first plan low;
   makes = λ base images now log t n lsn deed ws made w k h next before after put. make base k h.stores images log h.come t n lsn deed ws made h.row h.of h.at_row h.under h.alone w now next before after put;
   closes = λ base images log t n lsn deed ws k h. close base k h.stores images log h.come t n lsn deed ws (length ws) h.row h.of h.at_row h.under h.alone refl;
   ends = λ base images log t k b e. end base k b.stores images log b.come b.idle t e;

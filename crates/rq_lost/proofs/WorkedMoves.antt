@@ -20,6 +20,8 @@ use Rattle.rq_sound.specs.Calls.{aborted}
 use Rattle.rq_sound.specs.Course.{with_made}
 use Rattle.rq_sound.specs.Starts.{MayUndo}
 use Rattle.rq_sound.proofs.Spelt as spelt
+use Rattle.rq_inverses.specs.Inverses.{InverseTakesLowest}
+use Rattle.rq_views.specs.Stored.{slots_in}
 use Rattle.rq_lost.specs.Moves.{AreAborted, IsAbortMove}
 use Rattle.rq_lost.specs.Moves.IsAbortMove.{Starts, Writes, Undoes, Ends}
 use Rattle.rq_model.specs.Words.{In}
@@ -152,6 +154,10 @@ turn_end = record {
   least = λ q i e. (let a : q.txn.count ≡ 2 = ap (λ (y : Row). y.txn.count) (one_row row_empty q i) in omega (arith, a));
 }
 
+-- no cell stands before the first one
+first_cell_lowest : (v : Pages) → InverseTakesLowest sizes (slots_in sizes v.start) (store_two v.start).rows (takes 0) put_back.writes
+first_cell_lowest v = λ b c lt e. (let above = c.above in absurd (omega (arith, above, lt)))
+
 module _ (v : Pages) (m : AreMade v) where
   in_turn : MovesInTurn (store_two v.start) (stores_of v)
   in_turn = (
@@ -163,7 +169,7 @@ module _ (v : Pages) (m : AreMade v) where
         (
           (Writes (row_unlinking 0) unlink cell_freed v.third 8 (sends 15) refl (record { at_row = refl; under = refl; next = refl; before = (spelt.told 65 _ spelt.used_b).1; after = (spelt.told 65 _ spelt.free_b).1; made = m.third }) refl, tt),
           (
-            (Starts row_sent unlink [] sent_two (may_unlink v) refl, (refl, turn_unlink)),
+            (Starts row_sent unlink [] sent_two (may_unlink v) tt refl, (refl, turn_unlink)),
             (
               (Undoes (row_back 2) (with_made 2 put_back) 11 (takes 0) (1 ∷ drop 1 (group_is_back v).waiting) (record { at_row = refl; under = refl; aim_is = refl; made = refl }) (λ g. waits_again (drop 1 (group_is_back v).waiting) g) refl, tt),
               (
@@ -171,7 +177,7 @@ module _ (v : Pages) (m : AreMade v) where
                 (
                   (Writes (row_back 0) put_back cell_back v.first 11 (takes 0) refl (record { at_row = refl; under = refl; next = refl; before = (spelt.told 49 _ spelt.free_a).1; after = (spelt.told 49 _ spelt.used_a).1; made = m.first }) refl, tt),
                   (
-                    (Starts row_two put_back (sent_two ∷ []) took_two (may_put_back v) refl, (refl, turns_judged.newest)),
+                    (Starts row_two put_back (sent_two ∷ []) took_two (may_put_back v) (first_cell_lowest v) refl, (refl, turns_judged.newest)),
                     tt,
                   ),
                 ),
@@ -187,7 +193,7 @@ module _ (v : Pages) (m : AreMade v) where
   goes = record { stores = stores_of v; last = refl; moves = behind (store_two v.start) (stores_of v) in_turn; none = refl }
 
 never : (v : Pages) → IsAbortMove (store_two v.start) (aborted (store_two v.start) row_two) → ⊥
-never v (Starts r u rest f may e) = (let bad = ap (λ (s : State). s.records) e in cc bad)
+never v (Starts r u rest f may lowest e) = (let bad = ap (λ (s : State). s.records) e in cc bad)
 never v (Writes r u w images lsn d aim next e) = (let bad = ap (λ (s : State). s.records) e in cc bad)
 never v (Undoes r u lsn d waiting ready more e) = (let bad = ap (λ (s : State). s.records) e in cc bad)
 never v (Ends r idle aborting none e) =

@@ -49,7 +49,7 @@ some_left (y ∷ xs) zero x e = omega arith
 some_left (y ∷ xs) (suc i) x e = let a = some_left xs i x e in omega (arith, a)
 
 pub move_less : (s now : State) → IsSound s → IsAbortMove s now → abort_work now < abort_work s
-move_less s now k (Starts r u rest f may e) =
+move_less s now k (Starts r u rest f may lowest e) =
     let p = may.planned in
     let a = rows_one row_work r.txn (row_started u) s.rows r k.standing.distinct p.at_row in
     let short = inverse_is_short _ f.deed _ p.plan in

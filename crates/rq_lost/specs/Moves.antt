@@ -8,13 +8,16 @@ use Rattle.rq_txn.specs.Rows.{Row, Under}
 use Rattle.rq_groups.specs.Waiting.{waits}
 use Rattle.rq_store.specs.State.{State}
 use Rattle.rq_store.specs.Steps.{took}
+use Rattle.rq_sound.specs.Groups.{slots_now}
 use Rattle.rq_sound.specs.Starts.{MayUndo}
+use Rattle.rq_inverses.specs.Inverses.{InverseTakesLowest}
 use Rattle.rq_sound.specs.Calls.{IsIdle, IsNextWrite, IsReady, aborted, started, stepped, undone}
 
--- an inverse starts, makes a write or ends, or the abort ends
+-- an inverse starts, into the lowest free cell where it puts a message back, makes a write or ends, or the abort ends
 pub data IsAbortMove (s now : State) : Type 0 where
   Starts : (r : Row) (u : Under) (rest : List Finished) (f : Finished) → MayUndo s r u rest f
-      → now ≡ started s r u s.ends → IsAbortMove s now
+      → InverseTakesLowest s.sizes (slots_now s) s.rows f.deed u.writes → now ≡ started s r u s.ends
+      → IsAbortMove s now
   Writes : (r : Row) (u : Under) (w : SlotWrite) (images : List (List ℕ)) (lsn : ℕ) (d : Deed)
       → u.aim ≡ aims.Undoing lsn d → IsNextWrite s r u w images → now ≡ stepped s r u w images → IsAbortMove s now
   Undoes : (r : Row) (u : Under) (lsn : ℕ) (d : Deed) (waiting : List ℕ) → IsReady s r u (aims.Undoing lsn d)

@@ -27,7 +27,7 @@ use Rattle.rq_sound.specs.Groups.{slots_now}
 use Rattle.rq_sound.specs.Sound.{IsSound}
 use Rattle.rq_undone.specs.Pages.{IsUndone}
 use Rattle.rq_undone.specs.Theorems.{IsUndoneFrom}
-use Rattle.rq_inverses.specs.Inverses.{InverseIsLatched, MayBeUndone}
+use Rattle.rq_inverses.specs.Inverses.{InverseIsLatched, MayBeUndone, InverseTakesLowest}
 use Rattle.rq_lost.specs.Lost.{IsRepeated, lost_store}
 use Rattle.rq_lost.specs.Turns.{AreAborting, EndsNext, NextTurn, TakesBackNext}
 use Rattle.rq_lost.specs.Work.{abort_work}
@@ -127,7 +127,7 @@ pub record AbortsHaveTurns : Type 0 where
       → u.made ≡ 0 → u.aim ≡ aims.Undoing f.lsn f.deed
       → IsPlan (layout_of s.sizes) (Undid f.deed) (reverse (writes_of s.sizes u.writes))
       → HasBefores (reverse (writes_of s.sizes u.writes)) (left_by s.sizes s.records).slots
-      → IsAbortMove s (started s r u s.ends)
+      → InverseTakesLowest s.sizes (slots_now s) s.rows f.deed u.writes → IsAbortMove s (started s r u s.ends)
   pub stay : (s now : State) → IsAbortMove s now → AreAborting s.rows → AreAborting now.rows
   pub lost : (z : Sizes) (images : List (List ℕ)) (log : List Record) (forced : ℕ)
       → AreAborting (lost_store z images log forced).rows

@@ -30,7 +30,7 @@ pub data NextTurn (rows : List Row) : Type 0 where
 
 -- a move is in turn: an inverse starts, and a transaction ends, only where nothing is under way, and where it is next
 abbrev pub IsInTurn : (s now : State) → IsAbortMove s now → Type 0
-IsInTurn s now (Starts r u rest f may e) = (any_under s.rows ≡ false) × TakesBackNext s.rows r rest f
+IsInTurn s now (Starts r u rest f may lowest e) = (any_under s.rows ≡ false) × TakesBackNext s.rows r rest f
 IsInTurn s now (Writes r u w images lsn d aim next e) = Unit {0}
 IsInTurn s now (Undoes r u lsn d waiting ready more e) = Unit {0}
 IsInTurn s now (Ends r idle aborting none e) = (any_under s.rows ≡ false) × EndsNext s.rows r

@@ -1,15 +1,20 @@
 -- A store whose transactions are undone, as its pages and its log show it: between two inverses, and within one.
-use Rattle.std.specs.Prelude.{◌≡◌, ℕ, ◌<◌, ◌+◌, ◌/◌, ◌%◌, false, List, [], ◌∷◌, length, Some, None}
+use Rattle.std.specs.Prelude.{◌≡◌, ℕ, ◌<◌, ◌+◌, ◌/◌, ◌%◌, true, false, List, [], ◌∷◌, length, Some, None}
 use Rattle.std.specs.List.{slice_get}
 use Rattle.rq_model.specs.declared.record.Deed.{Deed}
+use Rattle.rq_model.specs.declared.record.Deed.TheVariants.{Append, UnlinkHead, Close}
 use Rattle.rq_model.specs.declared.record.Record.{Record}
 use Rattle.rq_model.specs.declared.record.Record.TheVariants.{AbortEnd}
 use Rattle.rq_model.specs.declared.txn.Txn.{Txn}
 use Rattle.rq_model.specs.Deeds.{deed_in}
 use Rattle.rq_model.specs.Unended.{lost}
 use Rattle.rq_model.specs.Words.{In}
-use Rattle.rq_page.specs.Sizes.{Sizes, sender_count}
+use Rattle.rq_page.specs.declared.cell.Cell.{Cell}
+use Rattle.rq_page.specs.declared.directory.Directory.{Directory}
+use Rattle.rq_page.specs.Sizes.{Sizes, directory_at, sender_count}
 use Rattle.rq_page.specs.Slots.{IsSlotOf}
+use Rattle.rq_page.specs.Slots.Slot.{Sender, Used}
+use Rattle.rq_views.specs.Log.{Slots}
 use Rattle.rq_views.specs.Plans.{deed_sender}
 use Rattle.rq_views.specs.Plans.Turn.{Undid}
 use Rattle.rq_views.specs.Stored.{slots_in}
@@ -23,7 +28,7 @@ use Rattle.rq_sound.specs.Calls.{IsPutIn}
 use Rattle.rq_sound.specs.Plans.{IsPlannedFrom}
 use Rattle.rq_sound.specs.Rows.{comp_end}
 use Rattle.rq_sound.specs.Sound.{IsSound}
-use Rattle.rq_inverses.specs.Inverses.{MayBeUndone, StandsOn}
+use Rattle.rq_inverses.specs.Inverses.{InverseTakesLowest, MayBeUndone, StandsOn}
 use Rattle.rq_undone.specs.Pages.{IsUndone}
 use Rattle.rq_lost.specs.declared.dues.Due.{Due}
 use Rattle.rq_lost.specs.Choices.{AreLost, least_free}
@@ -65,10 +70,11 @@ showing base images log = record base { images = images; records = log }
 
 -- What a program does whose log and pages are so: it makes the record and the write that are next.
 pub record AbortsGoOn : Type 0 where
-  -- what is due first is planned over the slots as they are
+  -- what is due first is planned over the slots as they are, a message into the lowest free cell
   pub begins : (base : State) (images : List (List ℕ)) (log : List Record) (d : Due) (ds : List Due)
       (ws : List SlotWrite) → IsSound base → IsBetween base images log → least_free (dues log) (lost log) ≡ None
       → dues log ≡ d ∷ ds → IsPlannedFrom base.sizes (slots_in base.sizes images) ws (Undid (deed_due d))
+      → InverseTakesLowest base.sizes (slots_in base.sizes images) [] (deed_due d) ws
       → IsWithin base images log d.txn (number_of d.txn (numbers log) + 1) d.lsn (deed_due d) ws 0
   -- the next write, on the pages too
   pub makes : (base : State) (images now : List (List ℕ)) (log : List Record) (t : Txn) (n lsn : ℕ) (deed : Deed)
@@ -107,7 +113,26 @@ pub record LogsOnTheWayAreWhole : Type 0 where
   pub ends : (base : State) (images : List (List ℕ)) (log : List Record) (t : Txn) → IsSound base
       → IsBetween base images log → least_free (dues log) (lost log) ≡ Some t → IsWhole base.sizes (AbortEnd t ∷ log)
 
--- a sound store with these pages and this log, in which nothing is under way, and the deed may be undone
+-- a cell with this number stands at the address
+pub record HasNumber (q : Slots) (a n : ℕ) : Type 0 where
+  pub cell : Cell
+  pub stands : q a ≡ Used cell
+  pub number : cell.sequence ≡ n
+
+-- what was sent is the last that its group counts, and stands last; what was received is the last that it counts; what
+-- was closed is closed
+abbrev pub IsLastOf : Slots → Directory → Deed → Type 0
+IsLastOf q d (Append g n tag previous body) = (d.sent ≡ n) × HasNumber q d.tail n
+IsLastOf q d (UnlinkHead g n tag body) = d.received ≡ n
+IsLastOf q d (Close g) = d.closed ≡ true
+
+-- as the slots have it, the deed was done last at its end of its group
+pub record StandsLast (q : Slots) (deed : Deed) : Type 0 where
+  pub directory : Directory
+  pub at : q (directory_at (deed_sender deed)) ≡ Sender (deed_sender deed) directory
+  pub last : IsLastOf q directory deed
+
+-- a sound store with these pages and this log, in which nothing is under way, and the deed was done last and may be undone
 pub record ShowsUndone (z : Sizes) (images : List (List ℕ)) (log : List Record) (deed : Deed) : Type 0 where
   pub store : State
   pub sound : IsSound store
@@ -115,9 +140,11 @@ pub record ShowsUndone (z : Sizes) (images : List (List ℕ)) (log : List Record
   pub records_are : store.records ≡ log
   pub idle : any_under store.rows ≡ false
   pub may : MayBeUndone store deed
+  pub last : StandsLast (slots_in z images) deed
 
--- What is due first can be taken back: its OpEnd tells a deed of a sender that the store has, and the plan of its inverse,
--- by the pages alone, is refused for memory only (`plan_inverse` says that of any such store).
+-- What is due first can be taken back: its OpEnd tells a deed of a sender that the store has, the slots show that it was
+-- done last, and the plan of its inverse, by the pages alone, is refused for memory only (`plan_inverse` says that of any
+-- such store).
 pub record DuesCanBeUndone : Type 0 where
   pub reads : (z : Sizes) (log : List Record) (d : Due) → IsWhole z log → In d (dues log)
       → (deed_in d.deed ≡ Some (deed_due d)) × (deed_sender (deed_due d) < sender_count z)

@@ -1,5 +1,7 @@
 //! What is to be taken back, as the records of a log tell it one after the other.
 ghost use Rattle.std.specs.Prelude.{◌≡◌, ◌∷◌, ◌+◌, ◌<◌, [], IfSome, IfNone, MatchOption, OnOk, OnErr, Some, List, true, false, drop, length, slice_index_or};
+ghost use Rattle.std.specs.List.{filter};
+ghost use Rattle.rq_model.specs.Words.{first};
 ghost use Rattle.rq_lost.specs.Dues.{any_due, but_newest, but_own, deed_due, due_of, dues, dues_after};
 
 use rq_model::record::{Deed, DeedBytes, Record};
@@ -89,6 +91,16 @@ impl Dues {
         ensures { MatchOption result (self.now ≡ []) (λ due. (older : List Due) × (self.now ≡ due ∷ older)) }
     {
         self.dues.last().copied()
+    }
+
+    /// What is taken back next of what the transaction did.
+    pub fn next_of(&self, txn: Txn) -> Option<Due>
+        ensures { result ≡ first (filter (due_of txn) self.now) }
+    {
+        match newest_of(&self.dues, txn) {
+            Some(place) => Some(self.dues[place]),
+            None => None,
+        }
     }
 
     /// Whether something of the transaction's is to be taken back.
