@@ -10,3 +10,15 @@ pub mod Worked
 pub mod Tallying
 pub mod Undos
 pub mod Begun
+pub mod Lefts
+pub mod Mending
+pub mod Showing
+pub mod Repeated
+pub mod DueLists
+pub mod Aborts
+pub mod Rounds
+pub mod Results
+pub mod Planning
+pub mod Linking
+pub mod Lasting
+pub mod Following

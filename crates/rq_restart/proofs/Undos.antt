@@ -7,7 +7,6 @@ use Rattle.rq_model.specs.declared.refusal.Refusal.TheVariants as why
 use Rattle.rq_model.specs.declared.refusal.Damage.TheVariants as damage
 use Rattle.rq_model.specs.declared.txn.Sub.{Sub}
 use Rattle.rq_model.specs.Words.{In}
-use Rattle.rq_model.specs.Incarnations.{IsNext, incarnation_of}
 use Rattle.rq_page.specs.Sizes.{Sizes}
 use Rattle.rq_record.specs.Spelling.{IsInRange, IsSlotNumber, IsTxnInRange}
 use Rattle.rq_log.specs.Spelled.{AreSpelled}
@@ -19,11 +18,11 @@ use Rattle.rq_undone.specs.Analysis.{Analysis, analysis}
 use Rattle.rq_undone.specs.Pages.{IsNextUndo, IsUndoing, IsUndone, work}
 use Rattle.rq_undone.specs.Pages.IsNextUndo.{Voids, Undoes}
 use Rattle.rq_undone.proofs.Lists.{in_newest, in_spots, in_with, in_without, sub_in}
-use Rattle.rq_undone.proofs.Noting.{noted_incarnation}
 use Rattle.rq_undone.proofs.Undos.{undo_leaves_less, undoing_more, undoing_none}
+use Rattle.rq_restart.specs.Found.{MayFollow}
 use Rattle.rq_restart.specs.Repeating.{AreCounted, Belongs, IsRepeated, Marks, Paged, Repeats}
 use Rattle.rq_restart.specs.Undoing.{StepStops, UndoStops}
-use Rattle.rq_restart.proofs.Begun.{counted_more}
+use Rattle.rq_restart.proofs.Repeated.{counted_more}
 
 -- what a log's records say is in range, and so is what is noted of them
 abbrev IsOpInRange : Sub → Type 0
@@ -69,20 +68,17 @@ undo_range log h r e a next = by (subst (λ k. IsNextUndo k r) e next) where
       rw is (k.0.0, k.0.1, k.1, k.2)
 
 -- one record more is repeated, or doesn't belong
-module _ (z y : Sizes) (log : List Record) (r : Record) (h : Analysis) (is : h ≡ analysis log) (sizes : y ≡ z) (count : ℕ) (all : count ≡ length log + 1) where
-  order : (n : ℕ) → n ≡ h.incarnation → n ≡ incarnation_of log
-  order n e = e ∙ ap (λ (k : Analysis). k.incarnation) is ∙ noted_incarnation log
-
-  pub one_repeated : (old new : Paged) → IsNext h.incarnation r → MayRedo y old.image count r → Redoes (told_by r) count old.image new.image → Marks (told_by r) count old new.changed → IsRepeated z log r old new
+module _ (z y : Sizes) (log : List Record) (r : Record) (sizes : y ≡ z) (count : ℕ) (all : count ≡ length log + 1) where
+  pub one_repeated : (old new : Paged) → MayFollow log r → MayRedo y old.image count r → Redoes (told_by r) count old.image new.image → Marks (told_by r) count old new.changed → IsRepeated z log r old new
   one_repeated old new next may redone marked = record {
-    belongs = record { next = subst (λ n. IsNext n r) (order h.incarnation refl) next; may = subst (λ x. MayRedo x old.image (length log + 1) r) sizes (subst (λ n. MayRedo y old.image n r) all may) };
+    belongs = record { next = next.next; follows = next.follows; may = subst (λ x. MayRedo x old.image (length log + 1) r) sizes (subst (λ n. MayRedo y old.image n r) all may) };
     redone = subst (λ n. Redoes (told_by r) n old.image new.image) all redone;
     marked = subst (λ n. Marks (told_by r) n old new.changed) all marked;
   }
 
-  pub belongs_then : (old : Paged) → Belongs z log r old → IsNext h.incarnation r × MayRedo y old.image count r
+  pub belongs_then : (old : Paged) → Belongs z log r old → MayFollow log r × MayRedo y old.image count r
   belongs_then old b = (
-    subst (λ n. IsNext n r) (sym (order h.incarnation refl)) b.next,
+    record { next = b.next; follows = b.follows },
     subst (λ n. MayRedo y old.image n r) (sym all) (subst (λ x. MayRedo x old.image (length log + 1) r) (sym sizes) b.may),
   )
 

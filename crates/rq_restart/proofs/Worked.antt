@@ -6,7 +6,7 @@ use Rattle.rq_model.specs.declared.record.Record.TheVariants as records
 use Rattle.rq_disk.specs.Device.{Images, Only}
 use Rattle.rq_disk.specs.declared.device.LogDevice as log_device
 use Rattle.rq_disk.specs.declared.device.PageDevice as page_device
-use Rattle.rq_page.specs.Sizes.{Sizes}
+use Rattle.rq_page.specs.Sizes.{Sizes, IsInRange}
 use Rattle.rq_page.specs.Pages.{lsn_of, slot_of}
 use Rattle.rq_record.specs.Spelling.{spelling}
 use Rattle.rq_record.proofs.Whole.{long_spelling}
@@ -19,14 +19,19 @@ use Rattle.rq_model.specs.Content.{has_end}
 use Rattle.rq_model.proofs.Lists.{same_self}
 use Rattle.rq_views.specs.WorkedItems.{stopped, restarted}
 use Rattle.rq_store.specs.Worked.{spelled_log}
+use Rattle.rq_rules.specs.Rules.{FollowsRules}
 use Rattle.rq_restart.specs.Checked.{IsEnded}
 use Rattle.rq_restart.specs.Repeating.{Paged, Repeats}
 use Rattle.rq_engine.specs.Devices.{EachPair}
 use Rattle.rq_restart.specs.Underway.{IsSomeStore}
 
+-- a Restart record follows the rules behind any log
+restart_follows : (log : List Record) (i : ℕ) → FollowsRules log (records.Restart i)
+restart_follows log i = record { running = tt; going = tt; begun = tt; numbered = tt; undoes = tt; takes_back = tt; reads = tt }
+
 -- a log of one Restart record is gone through on any pages, which stay as they are
 begun : (z : Sizes) (first : Paged) → Repeats z (records.Restart 1 ∷ []) first first
-begun z first = (first, refl, record { belongs = record { next = refl; may = record { write = tt; before = tt } }; redone = λ p. refl; marked = refl })
+begun z first = (first, refl, record { belongs = record { next = refl; follows = restart_follows [] 1; may = record { write = tt; before = tt } }; redone = λ p. refl; marked = refl })
 
 -- one that begins with a record of a transaction is not
 not_begun : (z : Sizes) (first last : Paged) (t : Txn) → Repeats z (records.Commit t ∷ []) first last → ⊥
@@ -48,8 +53,8 @@ not_before z first last t n page slot before after older other r =
 whole_empty : (z : Sizes) → IsWhole z []
 whole_empty z = record { legal = tt; told = tt; rules = tt; reads = tt; in_store = tt; befores = tt; order = tt; room = tt; numbers = tt }
 
-formatted_store : {P L : Type 0} (p : page_device.Ghosts P) (l : log_device.Ghosts L) (z : Sizes) (pages : P) (log : L) → AllFit (p.may_be pages) z [] → Only [] (l.may_leave log) → EachPair p l pages log (IsSomeStore z)
-formatted_store p l z pages log fit only images bytes a b = ([], record { are_spelled = tt; is = only bytes b; left = record { whole = whole_empty z; fits = fits_log (p.may_be pages) z [] images fit a } })
+formatted_store : {P L : Type 0} (p : page_device.Ghosts P) (l : log_device.Ghosts L) (z : Sizes) (pages : P) (log : L) → IsInRange z → AllFit (p.may_be pages) z [] → Only [] (l.may_leave log) → EachPair p l pages log (IsSomeStore z)
+formatted_store p l z pages log range fit only images bytes a b = ([], record { range = range; are_spelled = tt; is = only bytes b; left = record { whole = whole_empty z; fits = fits_log (p.may_be pages) z [] images fit a } })
 
 -- a log of one byte is none
 no_store : (z : Sizes) (images : Images) → IsSomeStore z images (0 ∷ []) → ⊥

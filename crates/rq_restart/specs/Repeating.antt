@@ -1,11 +1,15 @@
 -- Going through a log: what is made of the pages, one record after the other, and where it stops.
-use Rattle.std.specs.Prelude.{◌≡◌, ℕ, ◌+◌, ◌<◌, ◌≤◌, Bool, true, List, [], ◌∷◌, length, slice_set, Option, Some, None}
+use Rattle.std.specs.Prelude.{◌≡◌, ℕ, ◌+◌, ◌/◌, ◌%◌, ◌<◌, ◌≤◌, Bool, true, cond, nat_lt, List, [], ◌∷◌, length, slice_set, Option, Some, None}
 use Rattle.rq_model.specs.declared.record.Record.{Record}
 use Rattle.rq_disk.specs.Device.{Images}
 use Rattle.rq_page.specs.Sizes.{Sizes, page_count}
-use Rattle.rq_page.specs.Pages.{lsn_of}
+use Rattle.rq_page.specs.Pages.{lsn_of, slot_of}
+use Rattle.rq_page.specs.Slots.{held_in}
+use Rattle.rq_page.specs.Slots.Slot.{Free}
 use Rattle.rq_pool.specs.Pooled.{Pooled}
+use Rattle.rq_views.specs.Log.{Slots}
 use Rattle.rq_model.specs.Incarnations.{IsNext, incarnation_of}
+use Rattle.rq_rules.specs.Rules.{FollowsRules}
 use Rattle.rq_store.specs.Opening.{MayRedo, Redoes, IsCounted}
 use Rattle.rq_store.specs.Fitting.{ToldWrite, told_by, oldest, image_in}
 
@@ -17,6 +21,10 @@ pub record Paged : Type 0 where
 abbrev pub paged : {P : Type 0} → Pooled P → Paged
 paged pages = record { image = image_in pages.images; changed = pages.changed }
 
+-- what the slots of these pages hold
+abbrev pub slots_on : Sizes → Paged → Slots
+slots_on z pages a = cond (nat_lt 0 (a % 16)) (held_in z (a / 16) (slot_of (a % 16) (pages.image (a / 16)))) Free
+
 -- a page that is written, as it is older than the record, counts as changed then; nothing else does
 pub record IsMarked (w : ToldWrite) (lsn : ℕ) (old : Paged) (changed : List Bool) : Type 0 where
   pub made : lsn_of (old.image w.page) < lsn → changed ≡ slice_set old.changed w.page true
@@ -26,10 +34,11 @@ abbrev pub Marks : Option ToldWrite → ℕ → Paged → List Bool → Type 0
 Marks None lsn old changed = changed ≡ old.changed
 Marks (Some w) lsn old changed = IsMarked w lsn old changed
 
--- the record belongs behind these: it is the next of its incarnation, what it writes may stand there, and where its
--- page is older, its before-image stands there
+-- the record belongs behind these: it is the next of its incarnation and follows the rules of a log, what it writes may
+-- stand there, and where its page is older, its before-image stands there
 pub record Belongs (z : Sizes) (older : List Record) (r : Record) (old : Paged) : Type 0 where
   pub next : IsNext (incarnation_of older) r
+  pub follows : FollowsRules older r
   pub may : MayRedo z old.image (length older + 1) r
 
 -- it was checked, and its write was made where its page is older

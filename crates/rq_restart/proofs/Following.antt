@@ -1,0 +1,30 @@
+-- Whether the next record may follow those of which these are the findings.
+use Rattle.std.proofs.Common.{◌≡◌, ◌↔◌, Bool, true, false, IsTrue, ℕ, List, ◌∷◌, sym, ◌∙◌, ap, subst}
+use Rattle.std.proofs.lemmas.Bool.{false≢true}
+use Rattle.rq_model.specs.declared.record.Record.{Record}
+use Rattle.rq_model.specs.Incarnations.{InOrder, IsNext, incarnation_of}
+use Rattle.rq_undone.specs.Analysis.{Analysis}
+use Rattle.rq_undone.proofs.Noting.{noted_incarnation}
+use Rattle.rq_rules.specs.Kept.{IsKept}
+use Rattle.rq_rules.specs.Rules.{FollowAll, FollowsRules}
+use Rattle.rq_restart.specs.declared.findings.Findings.{Findings}
+use Rattle.rq_restart.specs.Found.{AreFindings, MayFollow}
+
+module _ (f : Findings) (log : List Record) (r : Record) (are : AreFindings f log) (is_next : Bool) where
+  same : incarnation_of log ≡ f.history.incarnation
+  same = sym (ap (λ (h : Analysis). h.incarnation) are.history ∙ noted_incarnation log)
+
+  kept : IsKept log f.history f.dues f.numbers f.ended
+  kept = record { history = are.history; dues = are.dues; numbers = are.numbers; ended = are.ended }
+
+  -- it is the next of its incarnation, so the rules tell
+  pub may_follow : (follows : Bool) → (IsTrue is_next ↔ IsNext f.history.incarnation r) → ((l : List Record) → IsKept l f.history f.dues f.numbers f.ended → FollowAll l → InOrder (r ∷ l) → IsTrue follows ↔ FollowsRules l r)
+      → is_next ≡ true → IsTrue follows ↔ MayFollow log r
+  may_follow follows next tell is =
+      let first : IsNext (incarnation_of log) r = subst (λ n. IsNext n r) (sym same) (next.0 is) in
+      let tells : IsTrue follows ↔ FollowsRules log r = tell log kept are.follow (first, are.order) in
+      (λ y. record { next = first; follows = tells.0 y }, λ m. tells.1 m.follows)
+
+  -- it is not
+  pub not_next : (IsTrue is_next ↔ IsNext f.history.incarnation r) → is_next ≡ false → IsTrue is_next ↔ MayFollow log r
+  not_next next off = (λ y. absurd (false≢true (sym off ∙ y)), λ m. next.1 (subst (λ n. IsNext n r) same m.next))

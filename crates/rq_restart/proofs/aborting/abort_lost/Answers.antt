@@ -1,0 +1,30 @@
+use Rattle.std.proofs.Common.{rules, subst}
+use Rattle.rq_restart.specs.Aborting.{AbortStops, AbortsBehind, HasGoneOn, IsAborting, IsShown}
+use Rattle.rq_restart.proofs.Aborts.{aborting_join, aborts_join, gone_join, stops_join}
+use Rattle.rq_restart.proofs.aborting.abort_lost.Goals as goal
+
+pub returns-in_err-take_back_all-clause-stops : goal.returns-in_err-take_back_all-clause-stops
+returns-in_err-take_back_all-clause-stops g c =
+    let made = c.in_ok-end_idle.ensures in
+    let z = c.args.pages.now.sizes in
+    let log = c.args.log.now.records in
+    let old = c.args.pages.now in
+    let mid = c.end_idle.new.log.records in
+    let now = c.end_idle.new.pages in
+    let e = c.in_err-take_back_all.field-0.0 in
+    let here : AbortStops z (IsAborting mid) mid now (IsShown mid now) e = subst (λ y. AbortStops y (IsAborting mid) mid now (IsShown mid now) e) made.sizes c.in_err-take_back_all.ensures.stops in
+    let h : AbortStops z (IsAborting log) log old (IsShown log old) e = stops_join z (AbortsBehind log mid) log mid old now (IsShown log old) (IsShown mid now) made.gone_on (IsAborting mid) (IsAborting log) (λ a l. aborting_join log mid l a) e here in
+    search (rules, h)
+
+pub returns-clause-gone_on : goal.returns-clause-gone_on
+returns-clause-gone_on g c =
+    let made = c.in_ok-end_idle.ensures in
+    let z = c.args.pages.now.sizes in
+    let log = c.args.log.now.records in
+    let old = c.args.pages.now in
+    let mid = c.end_idle.new.log.records in
+    let now = c.end_idle.new.pages in
+    let last = c.take_back_all.new.log.records in
+    let new = c.take_back_all.new.pages in
+    let here : HasGoneOn z (AbortsBehind mid last) mid last now new (IsShown mid now) (IsShown last new) = subst (λ y. HasGoneOn y (AbortsBehind mid last) mid last now new (IsShown mid now) (IsShown last new)) made.sizes c.in_ok-take_back_all.ensures.gone_on in
+    gone_join z (AbortsBehind log mid) log mid old now (IsShown log old) (IsShown mid now) made.gone_on (AbortsBehind mid last) (AbortsBehind log last) last new (IsShown last new) (aborts_join log mid last) here

@@ -1,0 +1,170 @@
+-- Undoing lost transactions, and where that stops.
+use Rattle.std.specs.Prelude.{◌≡◌, ◌⊎◌, ℕ, ◌+◌, ◌^◌, ◌<◌, ◌≤◌, List, [], ◌∷◌, length, Some, None}
+use Rattle.rq_model.specs.declared.record.Deed.{Deed}
+use Rattle.rq_model.specs.declared.record.Record.{Record}
+use Rattle.rq_model.specs.declared.record.Record.TheVariants.{AbortEnd}
+use Rattle.rq_model.specs.declared.refusal.Refusal.{Refusal}
+use Rattle.rq_model.specs.declared.refusal.Refusal.TheVariants as why
+use Rattle.rq_model.specs.declared.refusal.Damage.TheVariants as damage
+use Rattle.rq_model.specs.declared.txn.Txn.{Txn}
+use Rattle.rq_model.specs.Words.{In}
+use Rattle.rq_model.specs.Deeds.{deed_in}
+use Rattle.rq_page.specs.Sizes.{Sizes, sender_count}
+use Rattle.rq_views.specs.Plans.{deed_sender}
+use Rattle.rq_views.specs.Stored.{slots_in}
+use Rattle.rq_level.specs.declared.writes.SlotWrite.{SlotWrite}
+use Rattle.rq_pool.specs.Pooled.{Pooled}
+use Rattle.rq_store.specs.Fitting.{image_in}
+use Rattle.rq_store.specs.State.{State}
+use Rattle.rq_store.specs.Steps.{page_op}
+use Rattle.rq_sound.specs.Rows.{comp_end}
+use Rattle.rq_sound.specs.Sound.{IsSound}
+use Rattle.rq_lost.specs.declared.dues.Due.{Due}
+use Rattle.rq_undone.specs.Analysis.{analysis}
+use Rattle.rq_lost.specs.Choices.{least_free}
+use Rattle.rq_lost.specs.Dues.{deed_due, dues}
+use Rattle.rq_lost.specs.Numbers.{number_of, numbers}
+use Rattle.rq_lost.specs.Walk.{IsBetween, IsWithin, ShowsUndone, StandsLast}
+use Rattle.rq_restart.specs.Repeating.{AreCounted, Belongs, Paged, Repeats, paged}
+
+-- the log with the records of these writes of an operation behind, the first of them the oldest
+abbrev pub with_writes : Txn → ℕ → List SlotWrite → List Record → List Record
+with_writes t n [] log = log
+with_writes t n (w ∷ ws) log = with_writes t n ws (page_op t n w ∷ log)
+
+-- what is done in its turn: a transaction ends, or what is due is taken back by such an operation with these writes
+pub data Round : Type 0 where
+  Ends : (txn : Txn) → Round
+  TakesBack : (due : Due) (number : ℕ) (writes : List SlotWrite) → Round
+
+-- the records of it, behind a log
+abbrev pub after_round : Round → List Record → List Record
+after_round (Ends t) log = AbortEnd t ∷ log
+after_round (TakesBack d n ws) log = comp_end d.txn n d.lsn ∷ with_writes d.txn n ws log
+
+-- of all these, the newest first
+abbrev pub after_rounds : List Round → List Record → List Record
+after_rounds [] log = log
+after_rounds (r ∷ rs) log = after_round r (after_rounds rs log)
+
+-- Behind this log what is due first is to be taken back, by its transaction's next operation: nobody without an end has
+-- nothing due.
+pub record IsTakenNext (log : List Record) (d : Due) (n : ℕ) : Type 0 where
+  pub older : List Due
+  pub first : dues log ≡ d ∷ older
+  pub nobody : least_free (dues log) (analysis log).working ≡ None
+  pub number : n ≡ number_of d.txn (numbers log) + 1
+
+-- Of those without an end that have nothing due the one of the least number ends next; where there is none, what is due
+-- first is taken back.
+abbrev pub IsNextRound : List Record → Round → Type 0
+IsNextRound log (Ends t) = least_free (dues log) (analysis log).working ≡ Some t
+IsNextRound log (TakesBack d n ws) = IsTakenNext log d n
+
+abbrev pub AreRounds : List Record → List Round → Type 0
+AreRounds log [] = Unit {0}
+AreRounds log (r ∷ rs) = IsNextRound (after_rounds rs log) r × AreRounds log rs
+
+-- the log with such rounds behind, each in its turn
+pub record AbortsBehind (log now : List Record) : Type 0 where
+  pub rounds : List Round
+  pub turns : AreRounds log rounds
+  pub are : after_rounds rounds log ≡ now
+
+-- the same, and some writes of the next
+pub data IsAborting (log now : List Record) : Type 0 where
+  Between : AbortsBehind log now → IsAborting log now
+  Within : (older : List Record) (d : Due) (n : ℕ) (ws : List SlotWrite) → AbortsBehind log older
+      → IsTakenNext older d n → with_writes d.txn n ws older ≡ now → IsAborting log now
+
+-- the log with the records of some writes of an operation behind
+pub record IsMaking (t : Txn) (n : ℕ) (log now : List Record) : Type 0 where
+  pub writes : List SlotWrite
+  pub are : with_writes t n writes log ≡ now
+
+-- where the one is so of a sound store of these sizes, the other is
+abbrev pub OfStore : Sizes → (State → Type 0) → (State → Type 0) → Type 0
+OfStore z before after = (base : State) → IsSound base → base.sizes ≡ z → before base → after base
+
+-- the pages and the log show the store, with nothing under way
+abbrev pub IsShown : {P : Type 0} → List Record → Pooled P → State → Type 0
+IsShown log pages base = IsBetween base pages.images log
+
+-- they show the store with what is due being taken back, by so many of these writes
+abbrev pub IsShownWithin : {P : Type 0} → List Record → Pooled P → Due → ℕ → List SlotWrite → ℕ → State → Type 0
+IsShownWithin log pages d n ws made base = IsWithin base pages.images log d.txn n d.lsn (deed_due d) ws made
+
+-- some pages and this log show the store on its way
+pub data IsOnItsWay (base : State) (log : List Record) : Type 0 where
+  Between : (images : List (List ℕ)) → IsBetween base images log → IsOnItsWay base log
+  Within : (images : List (List ℕ)) (t : Txn) (n lsn : ℕ) (deed : Deed) (ws : List SlotWrite) (made : ℕ)
+      → IsWithin base images log t n lsn deed ws made → IsOnItsWay base log
+
+-- Records came behind the log, as is said of them, and were repeated on the pages; a store of which the one was so is one
+-- of which the other is.
+pub record HasGoneOn {P : Type 0} (z : Sizes) (behind : Type 0) (log now : List Record) (old new : Pooled P)
+    (before after : State → Type 0) : Type 0 where
+  pub aborting : behind
+  pub repeated : (first : Paged) → Repeats z log first (paged old) → Repeats z now first (paged new)
+  pub counted : AreCounted z (length log) (paged old) → AreCounted z (length now) (paged new)
+  pub shown : OfStore z before after
+
+-- the log with records behind, of which this is so, is at its greatest length, and shows such a store on its way
+pub record IsFull (z : Sizes) (behind : List Record → Type 0) (before : State → Type 0) : Type 0 where
+  pub last : List Record
+  pub aborting : behind last
+  pub full : 2 ^ 50 ≤ length last
+  pub way : OfStore z before (λ base. IsOnItsWay base last)
+
+-- what is due is told by no deed, or by one of a sender that the store has not, or that was not done last at its end of
+-- its group
+abbrev pub IsNoDeed : Sizes → List (List ℕ) → Due → Type 0
+IsNoDeed z images due = (deed : Deed) → deed_in due.deed ≡ Some deed → deed_sender deed < sender_count z
+    → StandsLast (slots_in z images) deed → ⊥
+
+-- no pages and log in which it is due show a store in which it can be taken back
+abbrev pub IsNotUndone : Sizes → List (List ℕ) → Due → Type 0
+IsNotUndone z images due =
+    (log : List Record) → In due (dues log) → ShowsUndone z images log (deed_due due) → ⊥
+
+-- Behind the log that these pages are of, what is due cannot be taken back: no store that pages and log show could do it,
+-- or its transaction has had 2^64 - 1 operations.
+abbrev pub CannotBeTaken : Sizes → List (List ℕ) → List Record → Due → Type 0
+CannotBeTaken z images log due = IsNotUndone z images due ⊎ (2 ^ 64 ≤ number_of due.txn (numbers log) + 1)
+
+-- The next record that goes on so would stand here and doesn't belong there; or what is due first, told by the OpEnd with
+-- this LSN, is to be taken back next and cannot be.
+pub data IsBadStep (z : Sizes) (behind : List Record → Type 0) (first : Paged) (last : List Record) (lsn : ℕ) : Type 0 where
+  BadRecord : (newest : Record) (mid : Paged) → behind (newest ∷ last) → lsn ≡ length last + 1
+      → Repeats z last first mid → (Belongs z last newest mid → ⊥) → IsBadStep z behind first last lsn
+  BadDue : (due : Due) (older : List Due) (images : List (List ℕ)) (mid : Paged) → dues last ≡ due ∷ older
+      → least_free (dues last) (analysis last).working ≡ None → lsn ≡ due.lsn → mid.image ≡ image_in images
+      → Repeats z last first mid → CannotBeTaken z images last due → IsBadStep z behind first last lsn
+
+-- Damage is told of this record where the next such record doesn't belong there, or what the OpEnd with this LSN tells
+-- cannot be taken back. So it is of no such store.
+pub record IsBadAbort {P : Type 0} (z : Sizes) (behind : List Record → Type 0) (log : List Record) (old : Pooled P)
+    (before : State → Type 0) (lsn : ℕ) : Type 0 where
+  pub last : List Record
+  pub aborting : behind last
+  pub bad : (first : Paged) → Repeats z log first (paged old) → IsBadStep z behind first last lsn
+  pub none : OfStore z before (λ base. ⊥)
+
+-- why lost transactions were not undone
+abbrev pub AbortStops : {P : Type 0} → Sizes → (List Record → Type 0) → List Record → Pooled P → (State → Type 0) → Refusal
+    → Type 0
+AbortStops z behind log old before why.NoMemory = Unit {0}
+AbortStops z behind log old before why.LogFull = IsFull z behind before
+AbortStops z behind log old before (why.Damaged (damage.Record lsn)) = IsBadAbort z behind log old before lsn
+AbortStops z behind log old before _ = ⊥
+
+-- why what is due was not planned to be taken back
+abbrev pub PlanStops : Sizes → List (List ℕ) → Due → Refusal → Type 0
+PlanStops z images due why.NoMemory = Unit {0}
+PlanStops z images due (why.Damaged (damage.Record lsn)) = (lsn ≡ due.lsn) × IsNotUndone z images due
+PlanStops z images due _ = ⊥
+
+-- why the OpEnd with this LSN is not taken back
+abbrev pub blamed_on : ℕ → Refusal → Refusal
+blamed_on lsn why.NoMemory = why.NoMemory
+blamed_on lsn _ = why.Damaged (damage.Record lsn)

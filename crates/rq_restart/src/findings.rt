@@ -1,0 +1,64 @@
+//! What a restart keeps of a log as it goes through it.
+ghost use Rattle.std.specs.Prelude.{◌≡◌, ◌↔◌, ◌+◌, List, IsTrue, IfOk, IfErr, OnOk, [], length};
+ghost use Rattle.rq_model.specs.declared.record.Record.{Record as AnyRecord};
+ghost use Rattle.rq_restart.specs.Found.{AreFindings, MayFollow, findings_after};
+
+use rq_lost::{Dues, Numbers};
+use rq_model::record::Record;
+use rq_model::refusal::Refusal;
+use rq_model::txn::Lsn;
+use rq_rules::{Ended, follows};
+use rq_undone::History;
+use std::alloc::Global;
+
+/// What the records of a log come to, one after the other.
+#[derive(Drop)]
+pub(crate) struct Findings {
+    /// Incarnations, and what has no end.
+    pub history: History,
+    /// What transactions without an end finished, and did not take back.
+    pub dues: Dues,
+    /// The numbers of their operations.
+    pub numbers: Numbers,
+    /// Which transactions of the running incarnation have ended.
+    pub ended: Ended,
+}
+
+impl Findings {
+    /// Of no record.
+    pub(crate) fn new(alloc: Global) -> Self
+        ensures { AreFindings result [] }
+    {
+        Findings {
+            history: History::new(alloc),
+            dues: Dues::new(alloc),
+            numbers: Numbers::new(alloc),
+            ended: Ended::new(alloc),
+        }
+    }
+
+    /// Takes the next record, which has this LSN. False where it may not come there: it doesn't belong to the running
+    /// incarnation, isn't the next, or breaks the rules of a log.
+    ///
+    /// # Errors
+    /// `NoMemory`.
+    pub(crate) fn note(&mut self, lsn: Lsn, record: &Record) -> Result<bool, Refusal>
+        ensures next { IfOk result (λ is_next. (log : List AnyRecord) → AreFindings self.old log
+            → (IsTrue is_next ↔ MayFollow log «record».now)) }
+        ensures noted { OnOk result (self.new ≡ findings_after lsn «record».now self.old) }
+        ensures err { IfErr result (λ e. e ≡ Refusal.NoMemory) }
+    {
+        let follows = follows(
+            &self.history,
+            &self.dues,
+            &self.numbers,
+            &self.ended,
+            record,
+        );
+        self.dues.note(lsn, record)?;
+        self.numbers.note(record)?;
+        self.ended.note(record)?;
+        let is_next = self.history.note(lsn, record)?;
+        Ok(is_next && follows)
+    }
+}
