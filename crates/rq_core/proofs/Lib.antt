@@ -4,3 +4,4 @@ pub mod Devices
 pub mod Worked
 pub mod Worlds
 pub mod Exact
+pub mod Unended

@@ -1,11 +1,11 @@
 -- What may happen to a store, what is answered, and the history that this tells.
-use Rattle.std.specs.Prelude.{◌≡◌, ℕ, zero, suc, Bool, true, false, IsTrue, List, [], ◌∷◌, Option, Some, None, map, reverse, slice_get}
+use Rattle.std.specs.Prelude.{◌≡◌, ℕ, ◌+◌, ◌≤◌, zero, suc, Bool, true, false, IsTrue, List, [], ◌∷◌, Option, Some, None, map, reverse, slice_get}
 use Rattle.rq_model.specs.declared.refusal.Refusal.{Refusal}
 use Rattle.rq_model.specs.declared.refusal.Refusal.TheVariants as why
 use Rattle.rq_model.specs.History.{Entry, Call}
 use Rattle.rq_model.specs.History.Call.{Acknowledge}
 use Rattle.rq_model.specs.History.Entry.{Crash as Crash_entry, Restarted as Restarted_entry}
-use Rattle.rq_model.specs.Ledger.{Phase, ledger, kept_in}
+use Rattle.rq_model.specs.Ledger.{Ledger, Phase, ledger, kept_in}
 use Rattle.rq_model.specs.Ledger.Phase.{Running as Runs, Shut}
 use Rattle.rq_model.specs.Replay.{Reply, Says}
 use Rattle.rq_model.specs.Causes.{IsCaused, writes_out}
@@ -109,13 +109,12 @@ MayCrashIt (Stops_in call) phase = (phase ≡ Runs) × (writes_out call ≡ true
 MayCrashIt Stops_restart phase = phase ≡ Shut
 MayCrashIt _ phase = ⊥
 
--- why a store that a crash left may stay shut: never for what stands on its devices, but for what is not undone yet
+-- why a store that a crash left may stay shut: never for what stands on its devices
 abbrev pub MayStayShut : Refusal → Type 0
 MayStayShut why.NoMemory = Unit {0}
 MayStayShut why.DiskRead = Unit {0}
 MayStayShut why.DiskWrite = Unit {0}
 MayStayShut why.LogFull = Unit {0}
-MayStayShut why.Unfinished = Unit {0}
 MayStayShut _ = ⊥
 
 -- by it a device's failure is told
@@ -130,12 +129,17 @@ AddsCall None reply older h = ⊥
 AddsCall (Some call) reply older h = (e : Entry) × Says call reply e × IsCaused (any_busy (ledger older).open_ones) call reply
     × (h ≡ e ∷ older)
 
+-- What a restart reports is in the log: behind the records that there were stands an end of each operation and of each
+-- transaction that had none, and then its own record.
+abbrev pub CountsEnds : Ledger → Report → Type 0
+CountsEnds l report = l.records + report.unfinished + report.lost + 1 ≤ report.records
+
 -- what a happening with its answer makes of the history
 abbrev pub Adds : Course → Happening → Answer → List Entry → List Entry → Type 0
 Adds course x (Answered reply) older h = AddsCall (called course x) reply older h
 Adds course x (Crashed records) older h = MayCrashIt x (ledger older).phase
     × (h ≡ Crash_entry (kept_in records (ledger older).committed) records ∷ older)
-Adds course x (Restarted report) older h = IsTrue (restarts x) × (report.lost ≡ 0)
+Adds course x (Restarted report) older h = IsTrue (restarts x) × CountsEnds (ledger older) report
     × (h ≡ Restarted_entry report.incarnation report.records ∷ older)
 Adds course x (Refused refusal) older h = IsTrue (restarts x) × MayStayShut refusal × ((ledger older).phase ≡ Shut)
     × (h ≡ older)

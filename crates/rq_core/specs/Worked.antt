@@ -59,7 +59,7 @@ happened =
     ∷ (Fails, Nothing)
     ∷ (Restarts, Refused DiskWrite)
     ∷ (Crashes, Crashed 8)
-    ∷ (Restarts, Restarted (report 4 1 0 9))
+    ∷ (Restarts, Restarted (report 4 0 0 9))
     ∷ (Acknowledges 7, Answered (Gave_receipt None))
     ∷ []
 
@@ -121,6 +121,9 @@ pub record AreJudged : Type 0 where
   pub call_that_crashes : TellsNothing [] (Asks Begin) (Crashed 0)
   pub crash_left_out : TellsNothing [] Crashes Nothing
   pub restart_answered_as_a_call : TellsNothing [] Restarts (Answered (Gave_txn (txn 1 1)))
+  -- an operation was undone, or a transaction, and has no end in the log
+  pub undone_without_an_end : TellsNothing [] Restarts (Restarted (report 1 1 0 1))
+  pub aborted_without_an_end : TellsNothing [] Restarts (Restarted (report 1 0 1 1))
   pub running_while_shut : TellsNothing [] Restarts Running
   pub refused_for_damage : TellsNothing [] Restarts (Refused (Damaged (damage.Page 0)))
   pub damaged_while_open : TellsNothing ((Restarts, Restarted (report 1 0 0 1)) ∷ []) (Asks Begin)
@@ -132,7 +135,6 @@ pub record AreJudged : Type 0 where
   pub memory_of_a_step : TellsNothing ((Restarts, Restarted (report 1 0 0 1)) ∷ []) (Asks (Step (txn 1 1) 1))
       (Answered (Gave_refusal NoMemory))
   pub refused_while_open : TellsNothing ((Restarts, Restarted (report 1 0 0 1)) ∷ []) Restarts (Refused NoMemory)
-  pub lost_at_all : TellsNothing [] Restarts (Restarted (report 1 0 1 1))
   pub acknowledged_of_no_commit : TellsNothing ((Asks Begin, Answered (Gave_txn (txn 1 1))) ∷ []) (Acknowledges 1)
       (Answered (Gave_receipt None))
   pub answered_before_the_first : TellsNothing [] (Acknowledges 0) (Answered (Gave_receipt None))
