@@ -24,7 +24,10 @@ pub enum Command<'a> {
     Last(u32),
     Fail(CallKind),
     Crash(Keep, Images),
+    /// One that goes to its end.
     Restart,
+    /// One that the machine stops in, once so many of its records are kept.
+    StopInRestart(u64),
     Dump,
 }
 
@@ -101,6 +104,7 @@ fn with_words<'a>(name: &[u8], rest: &'a [u8]) -> Option<Command<'a>> {
         b"last" => Some(Command::Last(short_number(rest)?)),
         b"fail" => Some(Command::Fail(device_call(rest)?)),
         b"crash" => crash(rest),
+        b"restart" => Some(Command::StopInRestart(number(rest)?)),
         _ => None,
     }
 }

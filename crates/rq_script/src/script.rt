@@ -4,6 +4,7 @@ ghost use Rattle.std.specs.Prelude.{◌≤◌, IfOk};
 use crate::command::{Command, Images, Keep, Post};
 use crate::told::{LINE_ROOM, Told};
 use rq_disk::{CallKind, MemLog, MemPages, Mishap, PageChoice, Switch};
+use rq_engine::engine::Engine;
 use rq_engine::event::{CommitNo, Event, Outcome, Progress, Reply};
 use rq_model::refusal::Refusal;
 use rq_model::txn::{Sub, Txn};
@@ -155,7 +156,8 @@ impl Script {
 
     fn carry_out(&mut self, number: u64, line: &[u8]) -> Told {
         match Command::parse(line) {
-            Some(Command::Restart) => self.restart(),
+            Some(Command::Restart) => self.restart(None),
+            Some(Command::StopInRestart(records)) => self.restart(Some(records)),
             Some(_) if !self.is_open() => Told::refused(Refusal::Failed),
             Some(Command::Crash(keep, images)) => self.crash(keep, images),
             Some(Command::Fail(kind)) => self.arm(kind),
@@ -192,9 +194,8 @@ impl Script {
             Command::Write(page) => self.ask(Event::WritePage(page)),
             Command::Last(sender) => self.ask(Event::LastTag(sender)),
             Command::Dump => self.ask(Event::Content),
-            Command::Fail(_) | Command::Crash(..) | Command::Restart => {
-                Reply::Refused(Refusal::Failed)
-            }
+            Command::Fail(_) | Command::Crash(..) | Command::Restart | Command::StopInRestart(_) =>
+                { Reply::Refused(Refusal::Failed) }
         }
     }
 
@@ -311,31 +312,78 @@ impl Script {
         Told::Crashed(records)
     }
 
-    // Opens the store after a crash.
-    fn restart(&mut self) -> Told {
+    // Opens the store after a crash, or stops in that once so many records are kept.
+    fn restart(&mut self, stop: Option<u64>) -> Told {
         match mem::replace(&mut self.store, Store::Lost) {
             Store::Open(kept) => {
                 self.store = Store::Open(kept);
                 Told::Running
             }
-            Store::Crashed { pages, log } => match self.reopen(pages, log) {
-                Ok(report) => Told::Restarted(report),
-                Err(refusal) => Told::Fault(refusal),
+            Store::Crashed { pages, log } => match stop {
+                None => self.open_again(pages, log),
+                Some(records) => self.stop_in_restart(pages, log, records),
             },
             Store::Lost => Told::Fault(Refusal::Failed),
         }
     }
 
+    fn open_again(&mut self, pages: MemPages, log: MemLog) -> Told {
+        match self.reopen(pages, log) {
+            Ok(report) => Told::Restarted(report),
+            Err(refusal) => Told::Fault(refusal),
+        }
+    }
+
     fn reopen(&mut self, pages: MemPages, log: MemLog) -> Result<Report, Refusal> {
         match restart(self.alloc, pages, log) {
-            Ok((engine, report)) => {
-                self.store = Store::Open(Kept::new(self.alloc, engine));
-                self.commits.clear();
-                self.failed = false;
-                Ok(report)
-            }
+            Ok((engine, report)) => Ok(self.run_on(engine, report)),
             Err(stopped) => Err(stopped.refusal),
         }
+    }
+
+    // The store is open.
+    fn run_on(&mut self, engine: Engine<MemPages, MemLog>, report: Report) -> Report {
+        self.store = Store::Open(Kept::new(self.alloc, engine));
+        self.commits.clear();
+        self.failed = false;
+        report
+    }
+
+    // Opens the store after a crash up to the append of its records, and leaves it as the machine does that stops once so
+    // many of them are kept. Where there are no more than that, the store is opened.
+    fn stop_in_restart(&mut self, pages: MemPages, log: MemLog, kept: u64) -> Told {
+        let before = log.records();
+        self.switch.arm_kind(CallKind::Write, Mishap::Stop);
+        let restarted = restart(self.alloc, pages, log);
+        let has_stopped = self.has_stopped();
+        match restarted {
+            Ok((engine, report)) => Told::Restarted(self.run_on(engine, report)),
+            Err(stopped) if has_stopped => {
+                self.leave_with(stopped.pages, stopped.log, before, kept)
+            }
+            Err(stopped) => Told::Fault(stopped.refusal),
+        }
+    }
+
+    // Whether the machine stopped; it runs again.
+    fn has_stopped(&self) -> bool {
+        let stopped = self.switch.is_stopped();
+        self.switch.reset();
+        stopped
+    }
+
+    // Behind the records before stand all those of a restart. Keeps the first so many of these; where they are no more than
+    // that, opens the store.
+    fn leave_with(&mut self, pages: MemPages, log: MemLog, before: u64, kept: u64) -> Told {
+        let made = log.records().saturating_sub(before);
+        let pages = pages.crash(PageChoice::Newest);
+        if kept >= made {
+            return self.open_again(pages, log.crash(0));
+        }
+        let log = log.crash(kept);
+        let records = log.records();
+        self.store = Store::Crashed { pages, log };
+        Told::Stopped(records)
     }
 }
 
