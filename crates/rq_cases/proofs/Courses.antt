@@ -16,7 +16,7 @@ use Rattle.rq_core.specs.Worked.{first_entries, txn}
 use Rattle.rq_cases.specs.Courses.{CausesAreJudged, FindsNothing, NoneIsJudged, StopsAreJudged, opened, opened_history, took}
 
 told_opened : Tells opened opened_history
-told_opened = ([], refl, (refl, refl, refl))
+told_opened = ([], refl, (refl, omega arith, refl))
 
 pub stops : StopsAreJudged
 stops = record {

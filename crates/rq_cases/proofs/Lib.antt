@@ -20,6 +20,7 @@ mod Restarting
 mod Logs
 mod Audits
 mod Openings
+mod Mending
 mod Stamps
 mod Bounds
 mod Crashes

@@ -19,6 +19,7 @@ pub mod Restarting
 pub mod Logs
 pub mod Audits
 pub mod Openings
+pub mod Mending
 pub mod Stamps
 pub mod Bounds
 pub mod Crashes

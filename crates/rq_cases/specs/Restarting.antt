@@ -1,5 +1,5 @@
 -- What a restart finds, makes and refuses, over the worked run.
-use Rattle.std.specs.Prelude.{ℕ, List, [], ◌∷◌, false, true}
+use Rattle.std.specs.Prelude.{ℕ, List, [], ◌∷◌, length, false, true}
 use Rattle.rq_model.specs.declared.record.Record.{Record}
 use Rattle.rq_model.specs.declared.refusal.Refusal.{Refusal}
 use Rattle.rq_model.specs.declared.record.Record.TheVariants.{Commit, Restart}
@@ -10,15 +10,17 @@ use Rattle.rq_disk.specs.declared.mem_pages.MemPages.{MemPages}
 use Rattle.rq_log.specs.Spelled.{spelled}
 use Rattle.rq_views.specs.WorkedItems.{t1}
 use Rattle.rq_store.specs.Fitting.{image_in}
+use Rattle.rq_store.specs.Opening.{IsLeft}
 use Rattle.rq_store.specs.Steps.{page_op}
 use Rattle.rq_restart.specs.Repeating.{IsFirstBad, IsFirstUncounted, Paged}
 use Rattle.rq_restart.specs.Restarting.{IsBegunOn, IsLeftOn, IsReadAs, Reports, Stops}
+use Rattle.rq_restart.specs.Mended.{IsUnlinked}
 use Rattle.rq_restart.specs.Refused.{WhyShut}
 use Rattle.rq_restart.specs.Checked.{IsEnded, IsGoneThrough, as_read}
 use Rattle.rq_core.specs.Devices.{mem_log, mem_pages}
 use Rattle.rq_cases.specs.Opened.{AreNewPages, IsNewLog}
 use Rattle.rq_cases.specs.Run.{log_1, log_2, log_4, log_5}
-use Rattle.rq_cases.specs.Store.{formatted_pages, free_cell, sent_pages, sizes}
+use Rattle.rq_cases.specs.Store.{fill_cell, formatted_pages, free_cell, sent_pages, sizes}
 
 -- the pages as they were read, and once the log of the send is gone through
 abbrev pub read_pages : Paged
@@ -37,6 +39,8 @@ pub record RestartsAreJudged : Type 0 where
       → ⊥
   pub reports_no_record : (i undone gone : ℕ) → Reports sizes log_5 (Restart 2 ∷ log_5) i 5 undone gone → ⊥
   pub reports_one_lost : (i n undone : ℕ) → Reports sizes log_5 (Restart 2 ∷ log_5) i n undone 1 → ⊥
+  pub one_lost : (records : List Record) → Reports sizes log_4 records 2 (length records) 0 1
+  pub none_lost : (records : List Record) (i n undone : ℕ) → Reports sizes log_4 records i n undone 0 → ⊥
   -- what was read, and what was left
   pub read_as : (d : MemLog) → IsNewLog d log_5 → IsReadAs mem_log d d log_5
   pub read_as_less : (d new : MemLog) → IsNewLog d log_5 → IsReadAs mem_log d new log_4 → ⊥
@@ -46,25 +50,28 @@ pub record RestartsAreJudged : Type 0 where
   pub ended : IsEnded log_5
   pub transaction_open : IsEnded log_4 → ⊥
   pub operation_open : IsEnded log_2
-  -- the next incarnation is begun behind what was read, where they all have
-  pub begun_on : IsBegunOn (spelled log_5) (spelled (Restart 2 ∷ log_5))
-  pub begun_where_one_is_open : IsBegunOn (spelled log_4) (spelled (Restart 2 ∷ log_4)) → ⊥
-  pub begun_by_a_commit : IsBegunOn (spelled log_1) (spelled (Commit t1 ∷ log_1)) → ⊥
+  -- the next incarnation is begun behind what was read, where they all have, and else once the others are undone
+  pub begun_on : IsBegunOn sizes (image_in formatted_pages) (spelled log_5) (spelled (Restart 2 ∷ log_5))
+  pub begun_where_one_is_open : IsBegunOn sizes (image_in formatted_pages) (spelled log_4)
+      (spelled (Restart 2 ∷ log_4)) → ⊥
+  pub begun_by_a_commit : IsBegunOn sizes (image_in formatted_pages) (spelled log_1) (spelled (Commit t1 ∷ log_1)) → ⊥
   -- the log is gone through, and history repeated where a page is older
   pub gone_through : IsGoneThrough sizes log_5 read_pages repeated_pages
   pub not_repeated : IsGoneThrough sizes log_5 read_pages read_pages → ⊥
   -- a record whose before-image doesn't stand there, and a page that is beyond the log
   pub bad_record : IsFirstBad sizes (page_op t1 1 free_cell ∷ log_1) read_pages 2
+  -- nor does one that breaks the rules of a log: an operation that has another number than 1
+  pub bad_rule : IsFirstBad sizes (page_op t1 2 fill_cell ∷ log_1) read_pages 2
   pub bad_record_elsewhere : IsFirstBad sizes (page_op t1 1 free_cell ∷ log_1) read_pages 1 → ⊥
   pub page_beyond : IsFirstUncounted sizes 1 repeated_pages 1
   pub page_beyond_is_not_the_first : IsFirstUncounted sizes 1 repeated_pages 2 → ⊥
   -- why it is refused
-  pub unfinished : Shuts log_4 why.Unfinished (Unit {0})
-  pub unfinished_though_ended : Shuts log_5 why.Unfinished (Unit {0}) → ⊥
+  pub unfinished : Shuts log_4 why.Unfinished (Unit {0}) → ⊥
   pub log_full_of_five : Shuts log_5 why.LogFull (Unit {0}) → ⊥
   pub disk_without_a_failure : Shuts log_5 why.DiskWrite (Unit {0}) → ⊥
-  pub touched : Shuts log_4 why.Unfinished ⊥ → ⊥
-  pub stops_unfinished : Stops (Unit {0}) log_4 why.Unfinished 0 0 0 0
-  pub stops_though_ended : Stops (Unit {0}) log_5 why.Unfinished 0 0 0 0 → ⊥
-  pub stops_for_damage : (d : Damage) → Stops (Unit {0}) log_5 (why.Damaged d) 0 0 0 0 → ⊥
-  pub stops_for_another : Stops (Unit {0}) log_5 why.Full 0 0 0 0 → ⊥
+  -- nor for chains, as they are whole once history is repeated; and where it is left so, for no damage at all
+  pub chains_are_whole : (page : ℕ) → IsUnlinked sizes log_5 read_pages page → ⊥
+  pub stops_unfinished : Stops (Unit {0}) sizes log_4 why.Unfinished 0 0 0 0 → ⊥
+  pub stops_for_damage : (d : Damage) → Stops (IsLeft sizes (image_in formatted_pages) log_4) sizes log_4
+      (why.Damaged d) 0 0 0 0 → ⊥
+  pub stops_for_another : Stops (Unit {0}) sizes log_5 why.Full 0 0 0 0 → ⊥

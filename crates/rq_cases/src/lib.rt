@@ -17,6 +17,7 @@ ghost use Rattle.rq_cases.specs.Latches.{LatchesAreJudged};
 ghost use Rattle.rq_cases.specs.Lists.{ListsAreJudged};
 ghost use Rattle.rq_cases.specs.Logs.{LogsAreJudged};
 ghost use Rattle.rq_cases.specs.Openings.{BeginningsAreJudged, ChecksAreJudged, RefusalsAreJudged};
+ghost use Rattle.rq_cases.specs.Mending.{MendsAreJudged};
 ghost use Rattle.rq_cases.specs.Reading.{CellsAreJudged, ReadingsAreJudged};
 ghost use Rattle.rq_cases.specs.Receives.{ReceivesAreJudged};
 ghost use Rattle.rq_cases.specs.Replies.{ContentsAreJudged, ReceiptsAreJudged, RepliesAreJudged};
@@ -199,6 +200,11 @@ pub fn audits_are_judged()
 /// What a restart has checked: pages, log and history; and what it hasn't.
 pub fn checks_are_judged()
     ensures { ChecksAreJudged }
+{}
+
+/// What undoes what has no end in a log: a lost transaction, in its turn, and operations; and what does not.
+pub fn mends_are_judged()
+    ensures { MendsAreJudged }
 {}
 
 /// Why a restart was refused, and where: for its pages or for its log; and refusals without their reason.
