@@ -1,0 +1,280 @@
+//! Pages that are damaged, and which is named first.
+use crate::bytes::{
+    BEGUN, COMMIT, FIRST_CELL, FREE, Images, T1, cell, count, end, fill, first_cell, formatted,
+    group, page, record, refused, sent, sent_once, set_slot, spelled, told_on, write, written,
+};
+use rq_model::record::{Record, Slot};
+use rq_model::refusal::Refusal;
+use std::alloc::Global;
+use std::test::Fail;
+
+// What is refused of the log of one committed message, over pages that were written, where a byte of one is another.
+fn changed(alloc: Global, number: usize, at: usize, value: u8) -> Option<Refusal> {
+    let mut images = written();
+    change(&mut images, number, at, value);
+    told_on(
+        alloc,
+        &images,
+        &[BEGUN, fill(), count(), sent_once(), COMMIT],
+    )
+}
+
+fn change(images: &mut Images, number: usize, at: usize, value: u8) {
+    if let Some(image) = images.get_mut(number) {
+        if let Some(byte) = image.get_mut(at) {
+            *byte = value;
+        }
+    }
+}
+
+// Pages with these slots of sender 0 and in the first two cells, each as the first record left it.
+fn linked(directory: Slot, first: Slot, second: Slot) -> Images {
+    let mut images = formatted();
+    set_slot(&mut images[1], 1, 1, &directory);
+    set_slot(&mut images[2], 1, 1, &first);
+    set_slot(&mut images[2], 2, 1, &second);
+    images
+}
+
+// What is refused of them over a log of six records, none of which writes.
+fn broken(alloc: Global, directory: Slot, first: Slot, second: Slot) -> Option<Refusal> {
+    told_on(alloc, &linked(directory, first, second), &six())
+}
+
+fn six() -> [Record; 6] {
+    [
+        BEGUN,
+        Record::Restart { incarnation: 2 },
+        Record::Restart { incarnation: 3 },
+        Record::Restart { incarnation: 4 },
+        Record::Restart { incarnation: 5 },
+        Record::Restart { incarnation: 6 },
+    ]
+}
+
+#[test]
+fn pages_that_were_written_are_opened(rt: HostRuntime) -> Result<(), Fail> {
+    let alloc = rt.alloc();
+    assert!(rt;
+        told_on(
+            alloc,
+            &written(),
+            &[BEGUN, fill(), count(), sent_once(), COMMIT]
+        ) == None
+    );
+    assert!(rt; told_on(alloc, &written(), &[BEGUN, fill(), count()]) == None);
+    Ok(())
+}
+
+#[test]
+fn superblocks(rt: HostRuntime) -> Result<(), Fail> {
+    let alloc = rt.alloc();
+    assert!(rt; changed(alloc, 0, 256, 0) == page(0));
+    // its LSN, number and kind, the zeros of its header and slots, the version and the sizes
+    assert!(rt; changed(alloc, 0, 7, 1) == page(0));
+    assert!(rt; changed(alloc, 0, 11, 1) == page(0));
+    assert!(rt; changed(alloc, 0, 12, 1) == page(0));
+    assert!(rt; changed(alloc, 0, 13, 1) == page(0));
+    assert!(rt; changed(alloc, 0, 276, 1) == page(0));
+    assert!(rt; changed(alloc, 0, 4095, 1) == page(0));
+    assert!(rt; changed(alloc, 0, 267, 2) == page(0));
+    assert!(rt; changed(alloc, 0, 271, 0) == page(0));
+    assert!(rt; changed(alloc, 0, 275, 0) == page(0));
+    assert!(rt; changed(alloc, 0, 273, 2) == page(0));
+    Ok(())
+}
+
+#[test]
+fn headers(rt: HostRuntime) -> Result<(), Fail> {
+    let alloc = rt.alloc();
+    assert!(rt; changed(alloc, 1, 12, 2) == page(1));
+    assert!(rt; changed(alloc, 1, 11, 2) == page(1));
+    assert!(rt; changed(alloc, 1, 255, 1) == page(1));
+    assert!(rt; changed(alloc, 2, 12, 1) == page(2));
+    assert!(rt; changed(alloc, 2, 8, 1) == page(2));
+    assert!(rt; changed(alloc, 2, 13, 1) == page(2));
+    Ok(())
+}
+
+#[test]
+fn numbers_beyond_the_log(rt: HostRuntime) -> Result<(), Fail> {
+    let alloc = rt.alloc();
+    assert!(rt; changed(alloc, 1, 7, 9) == page(1));
+    assert!(rt; changed(alloc, 2, 7, 6) == page(2));
+    assert!(rt; changed(alloc, 2, 7, 5) == None);
+    // more sent than there are records
+    let mut images = formatted();
+    set_slot(&mut images[1], 15, 1, &group(14, 2, 2, 0, 0));
+    assert!(rt; told_on(alloc, &images, &[BEGUN]) == page(1));
+    set_slot(&mut images[1], 15, 1, &group(14, 1, 1, 0, 0));
+    assert!(rt; told_on(alloc, &images, &[BEGUN]) == None);
+    Ok(())
+}
+
+#[test]
+fn slots(rt: HostRuntime) -> Result<(), Fail> {
+    let alloc = rt.alloc();
+    // of a cell its state, a zero, its length, its sender and number, its links, and the zeros behind its body
+    assert!(rt; changed(alloc, 2, 256, 2) == page(2));
+    assert!(rt; changed(alloc, 2, 256, 0) == page(2));
+    assert!(rt; changed(alloc, 2, 257, 1) == page(2));
+    assert!(rt; changed(alloc, 2, 259, 217) == page(2));
+    assert!(rt; changed(alloc, 2, 263, 15) == page(2));
+    assert!(rt; changed(alloc, 2, 271, 0) == page(2));
+    assert!(rt; changed(alloc, 2, 287, 31) == page(2));
+    assert!(rt; changed(alloc, 2, 295, 32) == page(2));
+    assert!(rt; changed(alloc, 2, 301, 1) == page(2));
+    // of a group its state, its zeros, its sender, what is received and its links
+    assert!(rt; changed(alloc, 1, 256, 0) == page(1));
+    assert!(rt; changed(alloc, 1, 256, 3) == page(1));
+    assert!(rt; changed(alloc, 1, 257, 1) == page(1));
+    assert!(rt; changed(alloc, 1, 263, 1) == page(1));
+    assert!(rt; changed(alloc, 1, 279, 2) == page(1));
+    assert!(rt; changed(alloc, 1, 295, 48) == page(1));
+    assert!(rt; changed(alloc, 1, 303, 17) == page(1));
+    assert!(rt; changed(alloc, 1, 304, 1) == page(1));
+    Ok(())
+}
+
+#[test]
+fn chains(rt: HostRuntime) -> Result<(), Fail> {
+    let alloc = rt.alloc();
+    assert!(rt; changed(alloc, 2, 263, 1) == page(1));
+    let two = group(0, 5, 3, FIRST_CELL, FIRST_CELL + 1);
+    let fourth = cell(0, 4, 0, FIRST_CELL + 1);
+    let fifth = cell(0, 5, FIRST_CELL, 0);
+    assert!(rt; broken(alloc, two, fourth, fifth) == None);
+    // a cell that is free, of another sender, with another number, or that names another before it or behind
+    assert!(rt; broken(alloc, two, FREE, fifth) == page(1));
+    assert!(rt; broken(alloc, two, fourth, FREE) == page(1));
+    assert!(rt; broken(alloc, two, fourth, cell(1, 5, FIRST_CELL, 0)) == page(1));
+    assert!(rt; broken(alloc, two, cell(0, 3, 0, FIRST_CELL + 1), fifth) == page(1));
+    assert!(rt; broken(alloc, two, fourth, cell(0, 4, FIRST_CELL, 0)) == page(1));
+    assert!(rt;
+        broken(
+            alloc,
+            two,
+            cell(0, 4, FIRST_CELL + 1, FIRST_CELL + 1),
+            fifth
+        ) == page(1)
+    );
+    assert!(rt; broken(alloc, two, fourth, cell(0, 5, 0, 0)) == page(1));
+    assert!(rt; broken(alloc, two, cell(0, 4, 0, 0), fifth) == page(1));
+    assert!(rt; broken(alloc, two, fourth, cell(0, 5, FIRST_CELL, FIRST_CELL)) == page(1));
+    // another head or tail, and others than two that wait
+    assert!(rt;
+        broken(
+            alloc,
+            group(0, 5, 3, FIRST_CELL + 1, FIRST_CELL + 1),
+            fourth,
+            fifth
+        ) == page(1)
+    );
+    assert!(rt; broken(alloc, group(0, 5, 3, FIRST_CELL, FIRST_CELL), fourth, fifth) == page(1));
+    assert!(rt; broken(alloc, group(0, 5, 3, 0, 0), fourth, fifth) == page(1));
+    assert!(rt;
+        broken(
+            alloc,
+            group(0, 4, 3, FIRST_CELL, FIRST_CELL + 1),
+            fourth,
+            fifth
+        ) == page(1)
+    );
+    assert!(rt;
+        broken(
+            alloc,
+            group(0, 6, 3, FIRST_CELL, FIRST_CELL + 1),
+            fourth,
+            fifth
+        ) == page(1)
+    );
+    assert!(rt;
+        broken(
+            alloc,
+            group(0, 3, 3, FIRST_CELL, FIRST_CELL + 1),
+            fourth,
+            fifth
+        ) == page(1)
+    );
+    assert!(rt; broken(alloc, group(0, 3, 3, 0, 0), FREE, FREE) == None);
+    Ok(())
+}
+
+#[test]
+fn cells_in_no_chain(rt: HostRuntime) -> Result<(), Fail> {
+    let alloc = rt.alloc();
+    let none = group(0, 3, 3, 0, 0);
+    assert!(rt; broken(alloc, none, first_cell(), FREE) == page(2));
+    assert!(rt; broken(alloc, none, FREE, cell(14, 6, 0, 0)) == page(2));
+    // a chain that is broken is named before
+    let one = group(0, 5, 3, FIRST_CELL, FIRST_CELL + 1);
+    assert!(rt; broken(alloc, one, cell(7, 4, 0, 0), FREE) == page(1));
+    Ok(())
+}
+
+#[test]
+fn several_faults(rt: HostRuntime) -> Result<(), Fail> {
+    let alloc = rt.alloc();
+    let bad_log = [BEGUN, BEGUN];
+    // the superblock, then pages by number, then the log
+    let mut images = written();
+    change(&mut images, 0, 256, 0);
+    change(&mut images, 1, 12, 2);
+    assert!(rt; told_on(alloc, &images, &bad_log) == page(0));
+    let mut images = written();
+    change(&mut images, 1, 256, 3);
+    change(&mut images, 2, 12, 1);
+    assert!(rt; told_on(alloc, &images, &bad_log) == page(1));
+    let mut images = written();
+    change(&mut images, 2, 12, 1);
+    assert!(rt; told_on(alloc, &images, &bad_log) == page(2));
+    // the log, then numbers beyond it, then what cannot be taken back, then chains
+    let mut images = written();
+    change(&mut images, 1, 7, 9);
+    assert!(rt; told_on(alloc, &images, &bad_log) == record(2));
+    assert!(rt;
+        told_on(
+            alloc,
+            &images,
+            &[BEGUN, fill(), count(), end(T1, 1, &sent(0, 2))]
+        ) == page(1)
+    );
+    let mut images = written();
+    change(&mut images, 2, 263, 1);
+    assert!(rt;
+        told_on(
+            alloc,
+            &images,
+            &[BEGUN, fill(), count(), end(T1, 1, &sent(0, 2))]
+        ) == record(4)
+    );
+    assert!(rt;
+        told_on(
+            alloc,
+            &images,
+            &[BEGUN, fill(), count(), sent_once(), COMMIT]
+        ) == page(1)
+    );
+    Ok(())
+}
+
+// A record whose before-image doesn't stand there comes before bytes that are no record, and these before a number of a
+// page that is beyond the log.
+#[test]
+fn records_in_their_order(rt: HostRuntime) -> Result<(), Fail> {
+    let alloc = rt.alloc();
+    let odd = write(T1, 1, (2, 1), first_cell(), FREE);
+    let Ok(mut log) = spelled(alloc, &[BEGUN, odd]) else {
+        return Err(Fail::from("memory"));
+    };
+    log.push(0)?;
+    assert!(rt; refused(alloc, &formatted(), &log) == record(2));
+    let Ok(mut log) = spelled(alloc, &[BEGUN]) else {
+        return Err(Fail::from("memory"));
+    };
+    log.push(0)?;
+    let mut images = formatted();
+    change(&mut images, 1, 7, 9);
+    assert!(rt; refused(alloc, &images, &log) == record(2));
+    Ok(())
+}
