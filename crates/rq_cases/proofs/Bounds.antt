@@ -61,7 +61,12 @@ use Rattle.rq_undone.proofs.Undos.{nothing_undone, undoing_none}
 use Rattle.rq_restart.specs.Checked.{IsEnded, IsGoneThrough}
 use Rattle.rq_restart.specs.Refused.{IsFirstFault}
 use Rattle.rq_restart.specs.Repeating.{Paged, Repeats}
+use Rattle.rq_undone.specs.Pages.{IsUndone}
+use Rattle.rq_restart.specs.Mended.{IsMended}
 use Rattle.rq_restart.specs.Restarting.{LogStops}
+use Rattle.rq_restart.proofs.Aborts.{aborting_none, working_lost}
+use Rattle.rq_lost.specs.Recovered.IsRecovered.{NoneLost}
+use Rattle.rq_lost.specs.Recovered.IsRecovering.{Undoing}
 use Rattle.rq_restart.proofs.Parsing.{one_log}
 use Rattle.rq_core.specs.Devices.{mem_log, mem_pages}
 use Rattle.rq_cases.specs.Aborts.{close_turned, turned, undone}
@@ -364,6 +369,15 @@ gone n = record {
   counted = counted_read (length (restarts n));
 }
 
+undoes : (n : ℕ) → IsUndone (restarts n) (restarts n)
+undoes n = record { undoing = undoing_none (restarts n); none = no_operation n }
+
+mends : (n : ℕ) → IsMended (restarts n) (restarts n)
+mends n = record { undone = restarts n; undoes = undoes n; aborting = aborting_none (restarts n); ended = ended n; none_lost = λ e. refl }
+
+lost_none : (n : ℕ) → IsWhole sizes (restarts n) → lost (restarts n) ≡ []
+lost_none n w = sym (working_lost sizes (restarts n) w) ∙ ended n
+
 module _ (n : ℕ) (pages : MemPages) (log : MemLog) (h : Hold pages formatted_pages log (restarts n)) where
   checked : (new : MemLog) → n < 2 ^ 50 → Checked pages log new read_pages (restarts (suc n))
   checked new low = record {
@@ -373,9 +387,8 @@ module _ (n : ℕ) (pages : MemPages) (log : MemLog) (h : Hold pages formatted_p
     older = restarts n;
     are_spelled = are_spelled n (omega (arith, low));
     reads = λ honest. log_seen log (restarts n) h.1;
-    ended = ended n;
-    undone = restarts n;
-    undone_on = record { gone_through = (read_pages, gone n); undoes = record { undoing = undoing_none (restarts n); none = no_operation n }; repeated = repeats n };
+    mended = restarts n;
+    mended_on = record { gone_through = (read_pages, gone n); mends = mends n; repeated = repeats n; recovered = λ left. NoneLost (undoes n) (lost_none n left.whole) };
     begun = refl;
     room = (let e = length_is n in omega (arith, e, low));
   }
@@ -393,7 +406,15 @@ module _ (n : ℕ) (pages : MemPages) (log : MemLog) (h : Hold pages formatted_p
           restarts n,
           are_spelled n low,
           λ honest. log_seen log (restarts n) h.1,
-          (record { undone = restarts n; undoing = undoing_none (restarts n); full = omega (arith, e, le) }, ended n, (read_pages, gone n), only_read log),
+          (record {
+            undone = restarts n;
+            undoing = undoing_none (restarts n);
+            now = restarts n;
+            aborting = aborting_none (restarts n);
+            none_lost = λ e. refl;
+            full = omega (arith, e, le);
+            recovering = λ left. Undoing (undoing_none (restarts n));
+          }, (read_pages, gone n), only_read log),
         ),
       )
 
@@ -408,7 +429,7 @@ module _ (n : ℕ) (pages : MemPages) (log : MemLog) (h : Hold pages formatted_p
       let d : length (restarts n) ≡ length r.0 = ap (λ (x : List Record). length x) same in
       let b = r.3.0 in
       let undone : b.undone ≡ r.0 = nothing_undone r.0 b.undone (subst (λ l. (analysis l).unfinished ≡ []) same (no_operation n)) (subst (λ l. (analysis l).spots ≡ []) same (no_spot n)) b.undoing in
-      let f : length b.undone ≡ length r.0 = ap (λ (x : List Record). length x) undone in
+      let f : length b.now ≡ length r.0 = ap (λ (x : List Record). length x) (b.none_lost (subst IsEnded same (ended n)) ∙ undone) in
       let long = b.full in
       omega (arith, low, e, d, f, long)
 

@@ -16,7 +16,7 @@ use Rattle.rq_core.specs.Worked.{first_entries, txn}
 use Rattle.rq_cases.specs.Courses.{CausesAreJudged, FindsNothing, NoneIsJudged, StopsAreJudged, opened, opened_history, took}
 
 told_opened : Tells opened opened_history
-told_opened = ([], refl, (refl, refl, refl))
+told_opened = ([], refl, (refl, refl))
 
 pub stops : StopsAreJudged
 stops = record {
@@ -29,7 +29,7 @@ stops = record {
   of_a_store_that_failed = λ h t.
       cc (sym (ap (λ (k : List Entry). (ledger k).phase) (t.1.2.3 ∙ ap (λ (e : Entry). e ∷ t.1.0) t.1.2.1)) ∙ t.2.0.0);
   of_a_store_that_is_shut = λ h t. cc (sym (ap (λ (k : List Entry). (ledger k).phase) t.1) ∙ t.2.0.0);
-  in_a_restart_of_an_open_store = λ h t. cc (sym (ap (λ (k : List Entry). (ledger k).phase) t.1.2.2) ∙ t.2.0);
+  in_a_restart_of_an_open_store = λ h t. cc (sym (ap (λ (k : List Entry). (ledger k).phase) t.1.2.1) ∙ t.2.0);
   not_met = (opened_history, told_opened, (Forced 1, refl, tt, refl));
   left_out = λ h t. t.2.0;
   answered_as_a_restart = λ h t. cc t.2.0;

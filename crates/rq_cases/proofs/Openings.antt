@@ -24,13 +24,17 @@ use Rattle.rq_page.specs.Sizes.{Sizes}
 use Rattle.rq_pool.specs.Reading.{ArePages, IsDamaged, IsSoundPage, IsSuperblock}
 use Rattle.rq_views.specs.WorkedItems.{cell, t1}
 use Rattle.rq_store.specs.Fitting.{FitsLog, image_in, oldest}
-use Rattle.rq_store.specs.Opening.{next_restart}
+use Rattle.rq_store.specs.Opening.{IsLeft, next_restart}
 use Rattle.rq_store.specs.State.{ledger_of, size_of}
 use Rattle.rq_store.proofs.Cutting.{fits_log_longer}
 use Rattle.rq_engine.proofs.Standing.{refused_steps}
 use Rattle.rq_store.proofs.Formatting.{formatted_fits}
 use Rattle.rq_store.proofs.Opening.{restarted_whole}
-use Rattle.rq_restart.specs.Checked.{IsBeyond, IsEnded, as_read}
+use Rattle.rq_restart.specs.Checked.{IsBeyond, as_read}
+use Rattle.rq_restart.specs.Mended.{IsMended}
+use Rattle.rq_restart.proofs.Aborts.{aborting_none}
+use Rattle.rq_restart.proofs.Begun.{mended_extends}
+use Rattle.rq_lost.specs.Recovered.IsRecovered.{NoneLost}
 use Rattle.rq_restart.specs.Refused.{IsFirstFault, TellsDamage}
 use Rattle.rq_restart.specs.Repeating.{IsFirstBad, Paged, Repeats}
 use Rattle.rq_restart.specs.Restarting.{BeginsAtMost, IsBegunOn, IsRead, LogStops}
@@ -50,12 +54,12 @@ use Rattle.rq_cases.proofs.Logs.{no_record}
 use Rattle.rq_cases.proofs.Pages.{are_formatted, range}
 use Rattle.rq_cases.proofs.Reading.{cells_missing, first_block, no_header, sent_sound}
 use Rattle.rq_undone.specs.Pages.{IsUndone}
-use Rattle.rq_undone.proofs.Undos.{undoing_extends, undoing_none, undoing_working}
+use Rattle.rq_undone.proofs.Undos.{undoing_none}
 use Rattle.rq_restart.proofs.Paths.{kept, kept_extends, kept_spelled, older_spelled}
 use Rattle.rq_model.specs.Commits.{committed_of}
 use Rattle.rq_model.specs.Ledger.{Done}
 use Rattle.rq_model.proofs.Cuts.{extends_commits}
-use Rattle.rq_cases.proofs.Restarting.{begun_commit, formatted_fit, gone, gone_4, group_lsn, is_restart, made_there, no_cell_lsn, odd_bad, odd_record, open_4, pages_seen_are, repeats_1, repeats_5, same_log}
+use Rattle.rq_cases.proofs.Restarting.{begun_commit, formatted_fit, gone, group_lsn, is_restart, made_there, no_cell_lsn, odd_bad, odd_record, open_4, pages_seen_are, repeats_1, repeats_5, same_log}
 use Rattle.rq_cases.proofs.Several as running
 use Rattle.rq_cases.proofs.Worlds.{leaves_store, ran_crashed, shuts_with_less, whole}
 
@@ -84,7 +88,7 @@ none_seen pages n = ap (λ (seen : Images). seen 2) (pages_seen_are pages no_cel
 
 -- the log that was read
 module _ (pages : MemPages) (log new : MemLog) (last : Paged) (records : List Record) (k : Checked pages log new last records) where
-  read_is : (r : Record) (older : List Record) → records ≡ r ∷ older → older ≡ k.undone
+  read_is : (r : Record) (older : List Record) → records ≡ r ∷ older → older ≡ k.mended
   read_is r older e = ap rest_of (sym e ∙ k.begun)
 
   none_missing : AreNewPages pages no_cells → ⊥
@@ -95,14 +99,17 @@ module _ (pages : MemPages) (log new : MemLog) (last : Paged) (records : List Re
 -- it was not gone through on pages that stayed
 stayed : (pages : MemPages) (log new : MemLog) → AreNewPages pages formatted_pages → Checked pages log new read_pages log_next → ⊥
 stayed pages log new n k =
-    let same : log_5 ≡ k.undone = read_is pages log new read_pages log_next k (Restart 2) log_5 refl in
+    let same : log_5 ≡ k.mended = read_is pages log new read_pages log_next k (Restart 2) log_5 refl in
     let seen = k.seen tt 2 (omega arith) ∙ ap (λ (seen : Images). seen 2) (pages_seen_are pages formatted_pages n) in
     made_there (as_read sizes k.images) read_pages (ap lsn_of seen ∙ no_cell_lsn) no_cell_lsn
-    (subst (λ (l : List Record). Repeats sizes l (as_read sizes k.images) read_pages) (sym same) k.undone_on.repeated)
+    (subst (λ (l : List Record). Repeats sizes l (as_read sizes k.images) read_pages) (sym same) k.mended_on.repeated)
 
 -- nothing is to be undone
 none_undone : IsUndone log_5 log_5
 none_undone = record { undoing = undoing_none log_5; none = refl }
+
+pub none_mended : IsMended log_5 log_5
+none_mended = record { undone = log_5; undoes = none_undone; aborting = aborting_none log_5; ended = refl; none_lost = λ e. refl }
 
 pub checks : ChecksAreJudged
 checks = record {
@@ -113,30 +120,29 @@ checks = record {
     older = log_5;
     are_spelled = records_spelled;
     reads = λ honest. log_seen log log_5 h.1;
-    ended = refl;
-    undone = log_5;
-    undone_on = record { gone_through = (repeated_pages, gone); undoes = none_undone; repeated = repeats_5 };
+    mended = log_5;
+    mended_on = record { gone_through = (repeated_pages, gone); mends = none_mended; repeated = repeats_5; recovered = λ left. NoneLost none_undone refl };
     begun = refl;
     room = omega arith;
   };
   not_repeated = λ pages log new l n k. stayed pages log new n k;
   no_record = λ pages log new last k. (let f : 0 ≡ 1 = ap is_restart k.begun in omega (arith, f));
   another_incarnation = λ pages log new last k.
-      (let same : log_5 ≡ k.undone = read_is pages log new last (Restart 3 ∷ log_5) k (Restart 3) log_5 refl in
-      let one : 1 ≡ incarnation_of k.undone = ap incarnation_of same in
-      let f : 3 ≡ incarnation_of k.undone + 1 = ap begins k.begun in
+      (let same : log_5 ≡ k.mended = read_is pages log new last (Restart 3 ∷ log_5) k (Restart 3) log_5 refl in
+      let one : 1 ≡ incarnation_of k.mended = ap incarnation_of same in
+      let f : 3 ≡ incarnation_of k.mended + 1 = ap begins k.begun in
       omega (arith, one, f));
   one_open = λ pages log new last k.
-      open_4 (same_log k.undone log_4 (undoing_working sizes k.older k.undone k.undone_on.undoes.undoing ∙ k.ended) (sym (read_is pages log new last (Restart 2 ∷ log_4) k (Restart 2) log_4 refl)));
+      open_4 (same_log k.mended log_4 k.mended_on.mends.ended (sym (read_is pages log new last (Restart 2 ∷ log_4) k (Restart 2) log_4 refl)));
   another_log = λ pages log new last n k.
-      (let same : log_5 ≡ k.undone = read_is pages log new last log_next k (Restart 2) log_5 refl in
+      (let same : log_5 ≡ k.mended = read_is pages log new last log_next k (Restart 2) log_5 refl in
       let older : log_1 ≡ k.older = one_log log_1 k.older first_spelled k.are_spelled (sym (log_seen log log_1 n) ∙ k.reads tt) in
-      let c : committed_of log_5 ≡ committed_of log_1 = ap committed_of same ∙ extends_commits k.older k.undone (undoing_extends k.older k.undone k.undone_on.undoes.undoing) ∙ ap committed_of (sym older) in
+      let c : committed_of log_5 ≡ committed_of log_1 = ap committed_of same ∙ extends_commits k.older k.mended (mended_extends k.older k.mended k.mended_on.mends) ∙ ap committed_of (sym older) in
       let f : 1 ≡ 0 = ap (λ (l : List Done). length l) c in
       omega (arith, f));
   page_of_none = λ pages log new last records n k. none_missing pages log new last records k n;
   no_room = λ pages log new last r records long k.
-      (let e : length (r ∷ records) ≡ length (next_restart k.undone ∷ k.undone) = ap (λ (l : List Record). length l) k.begun in
+      (let e : length (r ∷ records) ≡ length (next_restart k.mended ∷ k.mended) = ap (λ (l : List Record). length l) k.begun in
       let room = k.room in
       omega (arith, e, room, long));
 }
@@ -161,23 +167,21 @@ no_first_page z first old new (inl l) = at l.4 where
 no_first_page z first old new (inr r) =
     ⊎_elim (λ u. (let low = u.low in omega (arith, low))) (λ u. (let low = u.1.low in omega (arith, low))) r.3.0.beyond
 
--- as unfinished only where something is, and then the log was only read
-unfinished_read : (z : Sizes) (first : Paged) (old new : MemLog) → LogStops mem_log z first why.Unfinished old new
-    → ((older : List Record) × AreSpelled older × (mem_log.seen old ≡ spelled older) × (IsEnded older → ⊥) × IsRead mem_log old new)
-unfinished_read z first old new (inl l) = absurd (at l.4) where
+-- nor as unfinished
+never_unfinished : (z : Sizes) (first : Paged) (old new : MemLog) → LogStops mem_log z first why.Unfinished old new → ⊥
+never_unfinished z first old new (inl l) = at l.4 where
   at : IsFirstFault z l.0 first l.2 why.Unfinished → ⊥
   at (inl f) = subst (λ (r : Refusal). StopsFor mem_log r l.0 old new) (sym f.0) l.3
   at (inr f) = f.1
-unfinished_read z first old new (inr r) = (r.0, r.1, r.2 tt, r.3.0, r.3.2)
+never_unfinished z first old new (inr r) = r.3
 
-all_ended : (z : Sizes) (first : Paged) (old new : MemLog) → IsNewLog old log_5 → LogStops mem_log z first why.Unfinished old new → ⊥
-all_ended z first old new n s =
-    let u = unfinished_read z first old new s in
-    let same : log_5 ≡ u.0 = one_log log_5 u.0 records_spelled u.1 (sym (log_seen old log_5 n) ∙ u.2) in
-    u.3 (same_log log_5 u.0 refl same)
-
-open_here : (d : MemLog) → IsNewLog d log_4 → Stops why.Unfinished d d
-open_here d n = inr (log_4, records_spelled.1, λ honest. log_seen d log_4 n, (open_4, (repeated_pages, gone_4), only_read d))
+-- where there is no room the log was only read
+full_read : (z : Sizes) (first : Paged) (old new : MemLog) → LogStops mem_log z first why.LogFull old new → IsRead mem_log old new
+full_read z first old new (inl l) = absurd (at l.4) where
+  at : IsFirstFault z l.0 first l.2 why.LogFull → ⊥
+  at (inl f) = subst (λ (r : Refusal). StopsFor mem_log r l.0 old new) (sym f.0) l.3
+  at (inr f) = f.1
+full_read z first old new (inr r) = r.3.2
 
 -- records with a byte behind them
 bytes_seen : (d : MemLog) (bytes : List ℕ) → HoldsBytes d bytes → mem_log.seen d ≡ bytes
@@ -301,20 +305,10 @@ refusals = record {
     inr (log_1, first_spelled, λ honest. log_seen log log_1 h.1, (group_ahead, only_read log)),
   );
   read_failed = λ pages new log e. inl (e, refl);
-  unfinished = λ pages log h. inr (
-    sizes,
-    formatted_pages,
-    formatted_are,
-    λ honest p low. sym (ap (λ (seen : Images). seen p) (pages_seen_are pages formatted_pages h.0)),
-    refl,
-    open_here log h.1,
-  );
-  though_all_ended = λ pages new_pages log new_log n s. ⊎_elim (λ p. p.0) (λ l. all_ended l.0 _ log new_log n l.5) s;
-  log_touched = λ pages new_pages log new_log other s.
-      ⊎_elim (λ p. p.0) (λ l. other (unfinished_read l.0 _ log new_log l.5).4.same) s;
+  unfinished = λ pages new_pages log new_log s. ⊎_elim (λ p. p.0) (λ l. never_unfinished l.0 _ log new_log l.5) s;
+  log_touched = λ pages new_pages log new_log other s. ⊎_elim (λ p. p.0) (λ l. other (full_read l.0 _ log new_log l.5).same) s;
   otherwise = λ pages new_pages log new_log s. ⊎_elim (λ p. p.0) (λ l. never_stops l.0 _ log new_log l.5) s;
-  one_open = open_here;
-  none_open = λ old new n s. all_ended sizes read_pages old new n s;
+  one_open = λ old new s. never_unfinished sizes read_pages old new s;
   damaged_behind = λ d h. inl (
     log_1,
     first_spelled,
@@ -339,8 +333,8 @@ refusals = record {
   told_otherwise = told_so;
   begins_not_for_room = λ last before. (inl (omega arith), tt);
   begins_not_of_five = λ s. ⊎_elim (λ e. omega (arith, e)) (λ e. omega (arith, e)) s.0;
-  may_be_shut = λ left lost. cc lost;
-  may_not_be_shut = λ s. s tt refl;
+  may_be_shut = refl;
+  may_not_be_shut = λ s. s;
   damaged_though_left = λ d s. s tt;
 }
 
@@ -355,29 +349,30 @@ same_length a b h k e = ap (λ (l : List Record). length l) (one_log a b h k e)
 
 -- the record of the next incarnation is added, and forced
 module _ (old new : MemLog) (n : IsNewLog old log_5) where
-  as_it_was_or_begun : (c : List ℕ) → IsBeginning log_next 5 c → mem_log.may_leave old c ⊎ IsBegunOn (mem_log.seen old) c
+  as_it_was_or_begun : (c : List ℕ) → IsBeginning log_next 5 c → mem_log.may_leave old c ⊎ IsBegunOn sizes (image_in formatted_pages) (mem_log.seen old) c
   as_it_was_or_begun c b = at b.0 b.1 b.2 where
-    at : (lost : ℕ) → lost + 5 ≤ 6 → c ≡ spelled (drop lost log_next) → mem_log.may_leave old c ⊎ IsBegunOn (mem_log.seen old) c
+    at : (lost : ℕ) → lost + 5 ≤ 6 → c ≡ spelled (drop lost log_next) → mem_log.may_leave old c ⊎ IsBegunOn sizes (image_in formatted_pages) (mem_log.seen old) c
     at zero le e = inr (record {
       older = log_5;
       reads = log_seen old log_5 n;
-      begun = record { undone = log_5; undoes = none_undone; are_spelled = next_spelled; ended = refl; lacks = 0; some = omega arith; is = e };
+      begun = record { mended = log_5; mends = none_mended; recovered = λ left. NoneLost none_undone refl; are_spelled = next_spelled; lacks = 0; some = omega arith; is = e };
     })
     at (suc zero) le e = inl (subst (mem_log.may_leave old) (sym e) (log_left old log_5 n))
     at (suc (suc lost)) le e = absurd (omega (arith, le))
 
-  added : IsForcedSince old new (spelled (Restart 2 ∷ [])) → BeginsAtMost mem_log old new
+  added : IsForcedSince old new (spelled (Restart 2 ∷ [])) → BeginsAtMost mem_log sizes (image_in formatted_pages) old new
   added f honest =
-      weaker mem_log old new (IsBeginning log_next 5) (λ c. mem_log.may_leave old c ⊎ IsBegunOn (mem_log.seen old) c)
+      weaker mem_log old new (IsBeginning log_next 5) (λ c. mem_log.may_leave old c ⊎ IsBegunOn sizes (image_in formatted_pages) (mem_log.seen old) c)
       (runs_through log_next 5 1 next_spelled (omega arith) old new n f) as_it_was_or_begun
 
 -- what is left then is no log with less than was read
-begun_with_less : (read : List ℕ) → read ≡ spelled log_5 → IsBegunOn read (spelled log_4) → ⊥
+begun_with_less : (read : List ℕ) → read ≡ spelled log_5 → IsBegunOn sizes (image_in formatted_pages) read (spelled log_4) → ⊥
 begun_with_less read is b =
     let bytes = spelled log_4 in
-    let older : log_5 ≡ b.older = one_log log_5 b.older records_spelled (older_spelled b.older bytes b.begun) (sym is ∙ b.reads) in
-    let now : log_4 ≡ kept b.older bytes b.begun = one_log log_4 (kept b.older bytes b.begun) records_spelled.1 (kept_spelled b.older bytes b.begun) b.begun.is in
-    let more = kept_extends b.older bytes b.begun in
+    let left : Type 0 = IsLeft sizes (image_in formatted_pages) b.older in
+    let older : log_5 ≡ b.older = one_log log_5 b.older records_spelled (older_spelled sizes left b.older bytes b.begun) (sym is ∙ b.reads) in
+    let now : log_4 ≡ kept sizes left b.older bytes b.begun = one_log log_4 (kept sizes left b.older bytes b.begun) records_spelled.1 (kept_spelled sizes left b.older bytes b.begun) b.begun.is in
+    let more = kept_extends sizes left b.older bytes b.begun in
     let a = length-append more.0 b.older in
     let c : length (more.0 ++ b.older) ≡ 4 = ap (λ (l : List Record). length l) (more.1 ∙ sym now) in
     let d : length b.older ≡ 5 = ap (λ (l : List Record). length l) (sym older) in
@@ -406,12 +401,12 @@ next_fit = fits_log_longer sizes (image_in formatted_pages) [] log_next (6, refl
 
 pub beginnings : BeginningsAreJudged
 beginnings = record {
-  begun = λ d. record { undone = log_5; undoes = none_undone; records = refl; forced = refl; running = refl };
+  begun = λ d. record { mended = log_5; mends = none_mended; records = refl; forced = refl; running = refl };
   begun_without_a_record = λ d b. (let f : 0 ≡ 1 = ap is_restart b.records in omega (arith, f));
   begun_the_same = λ d b.
-      (let same : log_5 ≡ b.undone = ap rest_of b.records in
-      let one : 1 ≡ incarnation_of b.undone = ap incarnation_of same in
-      let f : 1 ≡ incarnation_of b.undone + 1 = ap begins b.records in
+      (let same : log_5 ≡ b.mended = ap rest_of b.records in
+      let one : 1 ≡ incarnation_of b.mended = ap incarnation_of same in
+      let f : 1 ≡ incarnation_of b.mended + 1 = ap begins b.records in
       omega (arith, one, f));
   begun_and_not_forced = λ d b. (let f : 5 ≡ 6 = b.forced in omega (arith, f));
   begun_and_failed = λ d b. (let f = b.running in cc f);
@@ -430,7 +425,7 @@ beginnings = record {
       (let f : 5 ≡ 6 = same_length log_5 log_next records_spelled next_spelled (sym (log_seen d log_5 n) ∙ r.reads tt) in omega (arith, f));
   ready_and_not_forced = λ d may r.
       (let f : 5 ≡ 6 = same_length log_5 log_next records_spelled next_spelled (r.durable tt (spelled log_5) may) in omega (arith, f));
-  nothing_done = λ d honest. started mem_log d (λ c. mem_log.may_leave d c ⊎ IsBegunOn (mem_log.seen d) c) (λ c left. inl (log_now d c left));
+  nothing_done = λ d honest. started mem_log d (λ c. mem_log.may_leave d c ⊎ IsBegunOn sizes (image_in formatted_pages) (mem_log.seen d) c) (λ c left. inl (log_now d c left));
   record_forced = λ old new n f. added old new n f;
   record_lost = λ old new n left b.
       ⊎_elim
@@ -439,9 +434,9 @@ beginnings = record {
   commit_added = λ old new n left b.
       ⊎_elim
       (λ may. (let f : 2 ≡ 1 = same_length (Commit t1 ∷ log_1) log_1 commit_spelled first_spelled (only_records old log_1 n (spelled (Commit t1 ∷ log_1)) may) in omega (arith, f)))
-      (λ k. begun_commit (subst (λ read. IsBegunOn read (spelled (Commit t1 ∷ log_1))) (log_seen old log_1 n) k))
+      (λ k. begun_commit (subst (λ read. IsBegunOn sizes (image_in formatted_pages) read (spelled (Commit t1 ∷ log_1))) (log_seen old log_1 n) k))
       ((b tt).each (spelled (Commit t1 ∷ log_1)) left);
-  of_stores = λ pages log new h honest z read told is each.
+  of_stores = λ pages log new h seen honest z read told is each.
       one_log read log_5 told records_spelled (sym is ∙ log_seen log log_5 h.1);
   of_other_stores = λ pages log new h q.
       (let e : 5 ≡ 4 = ap (λ (l : List Record). length l) (told_of (λ z read. read ≡ log_4) pages log new h q) in omega (arith, e));
@@ -449,6 +444,7 @@ beginnings = record {
   goes_on = λ log. (
     log_next,
     record {
+      range = range;
       are_spelled = next_spelled;
       is = refl;
       left = record { whole = restarted_whole sizes log_5 whole refl refl; fits = next_fit };
@@ -468,7 +464,7 @@ beginnings = record {
       cc e);
   refuses_without_cause = λ r. (let e = (r running.force.sound).1 in cc e);
 } where
-  told_of : (Q : Sizes → List Record → Type 0) (pages : MemPages) (log new : MemLog) → Hold pages formatted_pages log log_5 → OfStores mem_pages mem_log pages log new Q → Q sizes log_5
+  told_of : (Q : Sizes → List Record → Type 0) (pages : MemPages) (log new : MemLog) → Hold pages formatted_pages log log_5 → OfStores mem_pages mem_log pages log pages new Q → Q sizes log_5
   told_of Q pages log new h q =
-      q tt sizes log_5 records_spelled (log_seen log log_5 h.1)
+      q tt tt sizes log_5 records_spelled (log_seen log log_5 h.1)
       (λ images bytes a b. (log_5, leaves_store pages log h images bytes a b))

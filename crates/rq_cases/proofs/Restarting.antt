@@ -1,11 +1,12 @@
 -- What a restart finds, makes and refuses.
-use Rattle.std.proofs.Common.{◌≡◌, ℕ, zero, suc, ◌≤◌, ◌<◌, List, [], ◌∷◌, length, false, true, refl, sym, ap, ◌∙◌, subst, inl, inr, arith}
+use Rattle.std.proofs.Common.{◌≡◌, ℕ, zero, suc, ◌≤◌, ◌<◌, List, [], ◌∷◌, ◌++◌, length, take, drop, false, true, refl, sym, ap, ◌∙◌, subst, inl, inr, arith}
 use Rattle.rq_model.specs.declared.record.Record.{Record}
 use Rattle.rq_model.specs.declared.record.Record.TheVariants.{Commit, Restart}
 use Rattle.rq_disk.specs.Memory.{fresh_pages, reads}
 use Rattle.rq_disk.specs.declared.mem_pages.MemPages.{MemPages}
 use Rattle.rq_log.specs.Spelled.{spelled}
 use Rattle.std.proofs.lemmas.Bool.{cases_eq}
+use Rattle.std.proofs.lemmas.List.{take-append-drop}
 use Rattle.rq_bytes.specs.Number.{number_at}
 use Rattle.rq_page.specs.declared.directory.DirectorySlot.{DirectorySlot}
 use Rattle.rq_page.specs.Cells.{cell_bytes, free_bytes}
@@ -16,22 +17,29 @@ use Rattle.rq_page.specs.Slots.{held_in}
 use Rattle.rq_page.specs.Sizes.{sender_at}
 use Rattle.rq_views.specs.WorkedItems.{cell, sends, t1}
 use Rattle.rq_store.specs.Fitting.{FitsLog, image_in}
-use Rattle.rq_store.specs.Opening.{IsLeft}
+use Rattle.rq_store.specs.Opening.{IsLeft, next_restart}
+use Rattle.rq_store.specs.Whole.{IsWhole}
+use Rattle.rq_store.proofs.Cutting.{whole_dropped}
 use Rattle.rq_store.specs.Steps.{op_end, page_op}
 use Rattle.rq_store.proofs.Cutting.{fits_log_longer}
 use Rattle.rq_store.proofs.Formatting.{formatted_fits}
 use Rattle.rq_restart.specs.Repeating.{AreCounted, Belongs, IsFirstBad, IsRepeated, Paged, Repeats}
 use Rattle.rq_restart.specs.Restarting.{IsBegunOn, IsLeftOn}
-use Rattle.rq_restart.specs.Undoing.{IsAtBound}
+use Rattle.rq_restart.proofs.Aborts.{aborting_none}
+use Rattle.rq_restart.proofs.Begun.{mended_incarnation}
+use Rattle.rq_lost.specs.Recovered.IsRecovered.{NoneLost}
+use Rattle.rq_lost.proofs.Recovering.{recovered_from}
 use Rattle.rq_restart.proofs.Paths.{kept, kept_extends, kept_spelled, older_spelled}
 use Rattle.rq_model.specs.Commits.{committed_of}
-use Rattle.rq_model.proofs.Cuts.{extends_commits}
+use Rattle.rq_model.specs.Incarnations.{InOrder, incarnation_of}
+use Rattle.rq_model.specs.declared.refusal.Refusal.TheVariants as why
+use Rattle.rq_model.proofs.Cuts.{extends_commits, incarnation_grows}
 use Rattle.rq_undone.proofs.Undos.{nothing_undone, undoing_none}
 use Rattle.rq_restart.specs.Checked.{IsEnded, IsGoneThrough}
 use Rattle.rq_restart.proofs.Parsing.{one_log}
 use Rattle.rq_core.specs.Devices.{mem_pages}
 use Rattle.rq_cases.specs.Opened.{AreNewPages}
-use Rattle.rq_cases.specs.Restarting.{RestartsAreJudged, read_pages, repeated_pages}
+use Rattle.rq_cases.specs.Restarting.{RestartsAreJudged, Shuts, read_pages, repeated_pages}
 use Rattle.rq_cases.specs.Run.{log_1, log_2, log_3, log_4, log_5}
 use Rattle.rq_cases.specs.Store.{cells_0, cells_1, count_sent, fill_cell, filled_pages, formatted_pages, free_cell, groups_0, groups_1, group, one_sent, page_image, sent_pages, sizes}
 use Rattle.rq_cases.proofs.Bytes.{first_spelled, records_spelled}
@@ -72,6 +80,10 @@ not_left d new n l =
 -- two logs of one spelling
 pub same_log : (a b : List Record) → IsEnded a → a ≡ b → IsEnded b
 same_log a b h e = subst IsEnded e h
+
+abbrev rest_of : List Record → List Record
+rest_of [] = []
+rest_of (r ∷ rs) = rs
 
 abbrev pub is_restart : List Record → ℕ
 is_restart (Restart i ∷ log) = 1
@@ -234,30 +246,60 @@ first_belongs b = b.bad (subst (BelongsIn b.mid) b.are (record { next = refl; ma
 pub open_4 : IsEnded log_4 → ⊥
 open_4 e = cc e
 
-pub not_at_bound : IsAtBound log_5 → ⊥
-not_at_bound b =
-    let e : length b.undone ≡ 5 = ap length (nothing_undone log_5 b.undone refl refl b.undoing) in
+pub none_full : (untouched : Type 0) → Shuts log_5 why.LogFull untouched → ⊥
+none_full untouched s =
+    let b = s.0 in
+    let e : length b.now ≡ 5 = ap length (b.none_lost refl ∙ nothing_undone log_5 b.undone refl refl b.undoing) in
     let full = b.full in
     omega (arith, e, full)
 
-begun_open : IsBegunOn (spelled log_4) (spelled (Restart 2 ∷ log_4)) → ⊥
-begun_open b = open_4 (same_log b.older log_4 b.begun.ended (sym (one_log log_4 b.older records_spelled.1 (older_spelled b.older (spelled (Restart 2 ∷ log_4)) b.begun) b.reads)))
+formatted_fit_4 : FitsLog sizes (image_in formatted_pages) log_4
+formatted_fit_4 = fits_log_longer sizes (image_in formatted_pages) [] log_4 (4, refl) (formatted_fits sizes (image_in formatted_pages) range are_formatted)
 
-pub begun_commit : IsBegunOn (spelled log_1) (spelled (Commit t1 ∷ log_1)) → ⊥
+pub whole_5 : IsWhole sizes log_5
+whole_5 = running.commit_send.sound.log
+
+whole_4 : IsWhole sizes log_4
+whole_4 = whole_dropped sizes 1 log_5 whole_5
+
+begun_open : IsBegunOn sizes (image_in formatted_pages) (spelled log_4) (spelled (Restart 2 ∷ log_4)) → ⊥
+begun_open b =
+    let bytes = spelled (Restart 2 ∷ log_4) in
+    let left : Type 0 = IsLeft sizes (image_in formatted_pages) b.older in
+    let older : log_4 ≡ b.older = one_log log_4 b.older records_spelled.1 (older_spelled sizes left b.older bytes b.begun) b.reads in
+    let now : Restart 2 ∷ log_4 ≡ kept sizes left b.older bytes b.begun =
+    one_log (Restart 2 ∷ log_4) (kept sizes left b.older bytes b.begun) ((omega arith, omega arith), records_spelled.1) (kept_spelled sizes left b.older bytes b.begun) b.begun.is in
+    let here : left = subst (IsLeft sizes (image_in formatted_pages)) older (record { whole = whole_4; fits = formatted_fit_4 }) in
+    let from = recovered_from sizes b.older b.begun.mended here.whole (b.begun.recovered here) in
+    let one : incarnation_of b.begun.mended ≡ 1 = mended_incarnation b.older b.begun.mended b.begun.mends ∙ ap incarnation_of (sym older) in
+    at b.begun.mended b.begun.lacks now b.begun.mends.ended one from.whole.order where
+      at : (mended : List Record) (n : ℕ) → Restart 2 ∷ log_4 ≡ drop n (next_restart mended ∷ mended) → IsEnded mended → incarnation_of mended ≡ 1 → InOrder mended → ⊥
+      at mended zero e ended one order = open_4 (same_log mended log_4 ended (sym (ap rest_of e)))
+      at mended (suc n) e ended one order =
+          let whole : take n mended ++ drop n mended ≡ mended = take-append-drop n mended in
+          let grows = incarnation_grows (take n mended) (drop n mended) (subst InOrder (sym whole) order) in
+          let two : 2 ≡ incarnation_of (drop n mended) = ap incarnation_of e in
+          let all : incarnation_of (take n mended ++ drop n mended) ≡ incarnation_of mended = ap incarnation_of whole in
+          omega (arith, grows, two, all, one)
+
+pub begun_commit : IsBegunOn sizes (image_in formatted_pages) (spelled log_1) (spelled (Commit t1 ∷ log_1)) → ⊥
 begun_commit b =
     let bytes = spelled (Commit t1 ∷ log_1) in
-    let older : log_1 ≡ b.older = one_log log_1 b.older first_spelled (older_spelled b.older bytes b.begun) b.reads in
-    let now : Commit t1 ∷ log_1 ≡ kept b.older bytes b.begun = one_log (Commit t1 ∷ log_1) (kept b.older bytes b.begun) (records_spelled.0, first_spelled) (kept_spelled b.older bytes b.begun) b.begun.is in
-    let same : committed_of (Commit t1 ∷ log_1) ≡ committed_of log_1 = ap committed_of now ∙ extends_commits b.older (kept b.older bytes b.begun) (kept_extends b.older bytes b.begun) ∙ ap committed_of (sym older) in
+    let left : Type 0 = IsLeft sizes (image_in formatted_pages) b.older in
+    let older : log_1 ≡ b.older = one_log log_1 b.older first_spelled (older_spelled sizes left b.older bytes b.begun) b.reads in
+    let now : Commit t1 ∷ log_1 ≡ kept sizes left b.older bytes b.begun = one_log (Commit t1 ∷ log_1) (kept sizes left b.older bytes b.begun) (records_spelled.0, first_spelled) (kept_spelled sizes left b.older bytes b.begun) b.begun.is in
+    let same : committed_of (Commit t1 ∷ log_1) ≡ committed_of log_1 = ap committed_of now ∙ extends_commits b.older (kept sizes left b.older bytes b.begun) (kept_extends sizes left b.older bytes b.begun) ∙ ap committed_of (sym older) in
     let count : 1 ≡ 0 = ap length same in
     omega (arith, count)
 
 pub restarts : RestartsAreJudged
 restarts = record {
-  reports = record { incarnation_is = refl; records_are = refl; unfinished_are = λ w. refl; lost_are = refl; none_lost = λ w. refl };
+  reports = record { incarnation_is = refl; records_are = refl; unfinished_are = λ w. refl; lost_are = λ w. refl };
   reports_the_same_incarnation = λ n undone gone r. (let e : 1 ≡ 2 = r.incarnation_is in omega (arith, e));
   reports_no_record = λ i undone gone r. (let e : 5 ≡ 6 = r.records_are in omega (arith, e));
-  reports_one_lost = λ i n undone r. (let e : 1 ≡ 0 = r.lost_are in omega (arith, e));
+  reports_one_lost = λ i n undone r. (let e : 1 ≡ 0 = r.lost_are whole_5 in omega (arith, e));
+  one_lost = λ records. record { incarnation_is = refl; records_are = refl; unfinished_are = λ w. refl; lost_are = λ w. refl };
+  none_lost = λ records i n undone r. (let e : 0 ≡ 1 = r.lost_are whole_4 in omega (arith, e));
   read_as = λ d n. record { honest = tt; are_spelled = records_spelled; reads = log_seen d log_5 n };
   read_as_less = λ d new n r.
       (let e : 5 ≡ 4 = ap (λ (l : List Record). length l) (one_log log_5 log_4 records_spelled r.are_spelled (sym (log_seen d log_5 n) ∙ r.reads)) in omega (arith, e));
@@ -270,10 +312,10 @@ restarts = record {
     older = log_5;
     reads = refl;
     begun = record {
-      undone = log_5;
-      undoes = record { undoing = undoing_none log_5; none = refl };
+      mended = log_5;
+      mends = record { undone = log_5; undoes = record { undoing = undoing_none log_5; none = refl }; aborting = aborting_none log_5; ended = refl; none_lost = λ e. refl };
+      recovered = λ left. NoneLost (record { undoing = undoing_none log_5; none = refl }) refl;
       are_spelled = ((omega arith, omega arith), records_spelled);
-      ended = refl;
       lacks = 0;
       some = omega arith;
       is = refl;
@@ -293,13 +335,11 @@ restarts = record {
   };
   page_beyond_is_not_the_first = λ b.
       (let w : lsn_of (page_image 3 1 1 groups_1) ≤ 1 = (b.first 1 (omega arith) (omega arith)).lsn in let e = group_lsn in omega (arith, e, w));
-  unfinished = (open_4, (repeated_pages, gone_4), tt);
-  unfinished_though_ended = λ s. s.0 refl;
-  log_full_of_five = λ s. not_at_bound s.0;
+  unfinished = λ s. s;
+  log_full_of_five = none_full (Unit {0});
   disk_without_a_failure = λ s. (let e = s.0 in omega (arith, e));
   touched = λ s. s.2;
-  stops_unfinished = λ l n. cc n;
-  stops_though_ended = λ s. s tt refl;
+  stops_unfinished = λ s. s;
   stops_for_damage = λ d s. s tt;
   stops_for_another = λ s. s;
 }

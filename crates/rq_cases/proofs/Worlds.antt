@@ -53,7 +53,7 @@ use Rattle.rq_cases.proofs.Several as running
 
 -- the worked courses tell their histories
 told_7 : Tells (course_to 7) (first_entries 7)
-told_7 = (first_entries 6, (first_entries 5, (first_entries 4, (first_entries 3, (first_entries 2, (first_entries 1, (first_entries 0, refl, (refl, refl, refl)), (Begun (txn 1 1), refl, tt, refl)), (Started (txn 1 1) 1 (Sending hello), (refl, refl), tt, refl)), (Stepped (txn 1 1) 1 2, refl, tt, refl)), (Stepped (txn 1 1) 1 3, refl, tt, refl)), (Did (txn 1 1) 1 (Send hello), (hello, refl), tt, refl)), (Committed (txn 1 1) 5, (refl, refl), tt, refl))
+told_7 = (first_entries 6, (first_entries 5, (first_entries 4, (first_entries 3, (first_entries 2, (first_entries 1, (first_entries 0, refl, (refl, refl)), (Begun (txn 1 1), refl, tt, refl)), (Started (txn 1 1) 1 (Sending hello), (refl, refl), tt, refl)), (Stepped (txn 1 1) 1 2, refl, tt, refl)), (Stepped (txn 1 1) 1 3, refl, tt, refl)), (Did (txn 1 1) 1 (Send hello), (hello, refl), tt, refl)), (Committed (txn 1 1) 5, (refl, refl), tt, refl))
 
 pub told_9 : Tells (course_to 9) (first_entries 9)
 told_9 = (first_entries 8, (first_entries 7, told_7, (Acknowledged (txn 1 1) 5 false, refl, tt, refl)), (Forced 5, refl, tt, refl))
@@ -95,6 +95,7 @@ module _ (pages : MemPages) (log : MemLog) where
   -- whatever a crash leaves of both is the store
   pub leaves_store : Hold pages formatted_pages log log_5 → (images : Images) (bytes : List ℕ) → Leaves (mem_pages.may_be pages) images → mem_log.may_leave log bytes → IsStore sizes log_5 images bytes
   leaves_store h images bytes a b = record {
+    range = range;
     are_spelled = records_spelled;
     is = only_records log log_5 h.1 bytes b;
     left = record {
@@ -147,6 +148,7 @@ worlds = record {
   fresh = λ pages log h. record {
     range = range;
     left = λ images bytes a b. record {
+      range = range;
       are_spelled = tt;
       is = only_records log [] h.1 bytes b;
       left = record {

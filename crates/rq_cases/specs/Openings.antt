@@ -85,17 +85,14 @@ pub record RefusalsAreJudged : Type 0 where
   pub read_failed : (pages new : MemPages) (log : MemLog)
       → mem_pages.faults new ≡ (mem_pages.faults pages + 1) % 2 ^ 64 → IsRefused pages log why.DiskRead new log
   -- for its log
-  pub unfinished : (pages : MemPages) (log : MemLog) → Hold pages formatted_pages log log_4
-      → IsRefused pages log why.Unfinished pages log
-  pub though_all_ended : (pages new_pages : MemPages) (log new_log : MemLog) → IsNewLog log log_5
+  pub unfinished : (pages new_pages : MemPages) (log new_log : MemLog)
       → IsRefused pages log why.Unfinished new_pages new_log → ⊥
   pub log_touched : (pages new_pages : MemPages) (log new_log : MemLog)
-      → mem_log.seen new_log ≢ mem_log.seen log → IsRefused pages log why.Unfinished new_pages new_log → ⊥
+      → mem_log.seen new_log ≢ mem_log.seen log → IsRefused pages log why.LogFull new_pages new_log → ⊥
   pub otherwise : (pages new_pages : MemPages) (log new_log : MemLog)
       → IsRefused pages log why.Full new_pages new_log → ⊥
   -- and where, behind which records
-  pub one_open : (d : MemLog) → IsNewLog d log_4 → Stops why.Unfinished d d
-  pub none_open : (old new : MemLog) → IsNewLog old log_5 → Stops why.Unfinished old new → ⊥
+  pub one_open : (old new : MemLog) → Stops why.Unfinished old new → ⊥
   pub damaged_behind : (d : MemLog) → HoldsBytes d (spelled log_1 ++ 0 ∷ [])
       → Stops (why.Damaged (damage.Record 2)) d d
   pub damaged_elsewhere : (old new : MemLog) → HoldsBytes old (spelled log_1 ++ 0 ∷ [])
@@ -115,9 +112,9 @@ pub record RefusalsAreJudged : Type 0 where
   -- why no incarnation was begun
   pub begins_not_for_room : (last before : ℕ) → BeginsNot why.LogFull (2 ^ 50) last before before (Unit {0})
   pub begins_not_of_five : BeginsNot why.LogFull 5 1 0 0 (Unit {0}) → ⊥
-  pub may_be_shut : MayBeShut (Unit {0}) log_4 why.Unfinished 0 0
-  pub may_not_be_shut : MayBeShut (Unit {0}) log_5 why.Unfinished 0 0 → ⊥
-  pub damaged_though_left : (d : Damage) → MayBeShut (Unit {0}) log_5 (why.Damaged d) 0 0 → ⊥
+  pub may_be_shut : MayBeShut (Unit {0}) sizes log_4 why.NoMemory 0 0
+  pub may_not_be_shut : MayBeShut (Unit {0}) sizes log_4 why.Unfinished 0 0 → ⊥
+  pub damaged_though_left : (d : Damage) → MayBeShut (Unit {0}) sizes log_5 (why.Damaged d) 0 0 → ⊥
 
 -- a log of these records, all of them forced, over a device
 abbrev pub logged : List Record → MemLog → Logged MemLog
@@ -147,20 +144,22 @@ pub record BeginningsAreJudged : Type 0 where
   pub ready_and_not_forced : (d : MemLog) → mem_log.may_leave d (spelled log_5)
       → IsReady mem_log 2 (logged log_next d) → ⊥
   -- at each moment a crash leaves the log as it was, or with that record
-  pub nothing_done : (d : MemLog) → BeginsAtMost mem_log d d
+  pub nothing_done : (d : MemLog) → BeginsAtMost mem_log sizes (image_in formatted_pages) d d
   pub record_forced : (old new : MemLog) → IsNewLog old log_5 → IsForcedSince old new (spelled (Restart 2 ∷ []))
-      → BeginsAtMost mem_log old new
+      → BeginsAtMost mem_log sizes (image_in formatted_pages) old new
   pub record_lost : (old new : MemLog) → IsNewLog old log_5
-      → mem_log.left_since new (mem_log.moment old) (spelled log_4) → BeginsAtMost mem_log old new → ⊥
+      → mem_log.left_since new (mem_log.moment old) (spelled log_4)
+      → BeginsAtMost mem_log sizes (image_in formatted_pages) old new → ⊥
   pub commit_added : (old new : MemLog) → IsNewLog old log_1
-      → mem_log.left_since new (mem_log.moment old) (spelled (Commit t1 ∷ log_1)) → BeginsAtMost mem_log old new → ⊥
+      → mem_log.left_since new (mem_log.moment old) (spelled (Commit t1 ∷ log_1))
+      → BeginsAtMost mem_log sizes (image_in formatted_pages) old new → ⊥
   -- what is said of devices that hold a store is said of these
   pub of_stores : (pages : MemPages) (log new : MemLog) → Hold pages formatted_pages log log_5
-      → OfStores mem_pages mem_log pages log new (λ z read. read ≡ log_5)
+      → OfStores mem_pages mem_log pages log pages new (λ z read. read ≡ log_5)
   pub of_other_stores : (pages : MemPages) (log new : MemLog) → Hold pages formatted_pages log log_5
-      → OfStores mem_pages mem_log pages log new (λ z read. read ≡ log_4) → ⊥
+      → OfStores mem_pages mem_log pages log pages new (λ z read. read ≡ log_4) → ⊥
   pub of_no_store : (pages : MemPages) (log new : MemLog) → Hold pages formatted_pages log log_5
-      → OfStores mem_pages mem_log pages log new (λ z read. ⊥) → ⊥
+      → OfStores mem_pages mem_log pages log pages new (λ z read. ⊥) → ⊥
   pub goes_on : (log : MemLog) → IsLeftOrGoesOn mem_log log sizes log_5 (image_in formatted_pages) (spelled log_next)
   pub goes_on_with_a_commit : (log : MemLog) (images : Images) → IsNewLog log log_1
       → IsLeftOrGoesOn mem_log log sizes log_1 images (spelled (Commit t1 ∷ log_1)) → ⊥

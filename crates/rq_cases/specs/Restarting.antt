@@ -1,5 +1,5 @@
 -- What a restart finds, makes and refuses, over the worked run.
-use Rattle.std.specs.Prelude.{ℕ, List, [], ◌∷◌, false, true}
+use Rattle.std.specs.Prelude.{ℕ, List, [], ◌∷◌, length, false, true}
 use Rattle.rq_model.specs.declared.record.Record.{Record}
 use Rattle.rq_model.specs.declared.refusal.Refusal.{Refusal}
 use Rattle.rq_model.specs.declared.record.Record.TheVariants.{Commit, Restart}
@@ -37,6 +37,8 @@ pub record RestartsAreJudged : Type 0 where
       → ⊥
   pub reports_no_record : (i undone gone : ℕ) → Reports sizes log_5 (Restart 2 ∷ log_5) i 5 undone gone → ⊥
   pub reports_one_lost : (i n undone : ℕ) → Reports sizes log_5 (Restart 2 ∷ log_5) i n undone 1 → ⊥
+  pub one_lost : (records : List Record) → Reports sizes log_4 records 2 (length records) 0 1
+  pub none_lost : (records : List Record) (i n undone : ℕ) → Reports sizes log_4 records i n undone 0 → ⊥
   -- what was read, and what was left
   pub read_as : (d : MemLog) → IsNewLog d log_5 → IsReadAs mem_log d d log_5
   pub read_as_less : (d new : MemLog) → IsNewLog d log_5 → IsReadAs mem_log d new log_4 → ⊥
@@ -46,10 +48,11 @@ pub record RestartsAreJudged : Type 0 where
   pub ended : IsEnded log_5
   pub transaction_open : IsEnded log_4 → ⊥
   pub operation_open : IsEnded log_2
-  -- the next incarnation is begun behind what was read, where they all have
-  pub begun_on : IsBegunOn (spelled log_5) (spelled (Restart 2 ∷ log_5))
-  pub begun_where_one_is_open : IsBegunOn (spelled log_4) (spelled (Restart 2 ∷ log_4)) → ⊥
-  pub begun_by_a_commit : IsBegunOn (spelled log_1) (spelled (Commit t1 ∷ log_1)) → ⊥
+  -- the next incarnation is begun behind what was read, where they all have, and else once the others are undone
+  pub begun_on : IsBegunOn sizes (image_in formatted_pages) (spelled log_5) (spelled (Restart 2 ∷ log_5))
+  pub begun_where_one_is_open : IsBegunOn sizes (image_in formatted_pages) (spelled log_4)
+      (spelled (Restart 2 ∷ log_4)) → ⊥
+  pub begun_by_a_commit : IsBegunOn sizes (image_in formatted_pages) (spelled log_1) (spelled (Commit t1 ∷ log_1)) → ⊥
   -- the log is gone through, and history repeated where a page is older
   pub gone_through : IsGoneThrough sizes log_5 read_pages repeated_pages
   pub not_repeated : IsGoneThrough sizes log_5 read_pages read_pages → ⊥
@@ -59,12 +62,10 @@ pub record RestartsAreJudged : Type 0 where
   pub page_beyond : IsFirstUncounted sizes 1 repeated_pages 1
   pub page_beyond_is_not_the_first : IsFirstUncounted sizes 1 repeated_pages 2 → ⊥
   -- why it is refused
-  pub unfinished : Shuts log_4 why.Unfinished (Unit {0})
-  pub unfinished_though_ended : Shuts log_5 why.Unfinished (Unit {0}) → ⊥
+  pub unfinished : Shuts log_4 why.Unfinished (Unit {0}) → ⊥
   pub log_full_of_five : Shuts log_5 why.LogFull (Unit {0}) → ⊥
   pub disk_without_a_failure : Shuts log_5 why.DiskWrite (Unit {0}) → ⊥
-  pub touched : Shuts log_4 why.Unfinished ⊥ → ⊥
-  pub stops_unfinished : Stops (Unit {0}) log_4 why.Unfinished 0 0 0 0
-  pub stops_though_ended : Stops (Unit {0}) log_5 why.Unfinished 0 0 0 0 → ⊥
-  pub stops_for_damage : (d : Damage) → Stops (Unit {0}) log_5 (why.Damaged d) 0 0 0 0 → ⊥
-  pub stops_for_another : Stops (Unit {0}) log_5 why.Full 0 0 0 0 → ⊥
+  pub touched : Shuts log_4 why.LogFull ⊥ → ⊥
+  pub stops_unfinished : Stops (Unit {0}) sizes log_4 why.Unfinished 0 0 0 0 → ⊥
+  pub stops_for_damage : (d : Damage) → Stops (Unit {0}) sizes log_4 (why.Damaged d) 0 0 0 0 → ⊥
+  pub stops_for_another : Stops (Unit {0}) sizes log_5 why.Full 0 0 0 0 → ⊥

@@ -1,6 +1,6 @@
 -- Each function of a world, over the devices in memory.
 use Rattle.rq_model.specs.Causes.{HasCause, writes_out}
-use Rattle.std.proofs.Common.{◌↔◌, Bool, false, ◌≡◌, List, [], ◌∷◌, arith, refl, sym, ◌∙◌, ap, subst, true, Some, Result, Ok, Err, IfOk, IfErr}
+use Rattle.std.proofs.Common.{◌↔◌, Bool, false, ◌≡◌, List, [], ◌∷◌, arith, refl, sym, ◌∙◌, ap, subst, true, Some, Result, Ok, Err, IfOk, IfErr, drop}
 use Rattle.rq_model.specs.declared.record.Record.{Record}
 use Rattle.rq_model.specs.declared.refusal.Refusal.{Refusal}
 use Rattle.rq_model.specs.declared.refusal.Refusal.TheVariants as why
@@ -31,6 +31,7 @@ use Rattle.rq_store.specs.Fitting.{AllFit}
 use Rattle.rq_engine.specs.Crash.{AreFit}
 use Rattle.rq_engine.specs.Devices.{EachPair}
 use Rattle.rq_restart.specs.Once.{OneLogEach, OneSizeEach}
+use Rattle.rq_lost.specs.Recovered.{IsRecovered}
 use Rattle.rq_restart.specs.Restarting.{IsReadAs, IsLeftOn, IsOpenedOver, Reports, Stops}
 use Rattle.rq_restart.specs.Underway.{IsLeftOrGoesOn, OfStores, pages_left, log_left}
 use Rattle.rq_restart.specs.declared.restart.Report.{Report as Restart_report}
@@ -124,32 +125,33 @@ module _ (pages : MemPages) (log : MemLog) (one : OneLogEach) where
       → IfOk r (λ o. (older : List Record) → IsReadAs mem_log log o.0.log older → IsOpenedOver older o.0.state)
       → IfOk r (λ o. mem_pages.honest o.0.pages → IsSuperblock o.0.state.sizes (mem_pages.seen pages 0))
       → IfOk r (λ o. (older : List Record) → IsReadAs mem_log log o.0.log older → IsLeftOn mem_pages o.0.state.sizes pages o.0.pages older → IsSound o.0.state)
+      → IfOk r (λ o. (older : List Record) → IsReadAs mem_log log o.0.log older → IsLeftOn mem_pages o.0.state.sizes pages o.0.pages older → IsRecovered o.0.state.sizes older (drop 1 o.0.state.records))
       → IfOk r (λ o. (older : List Record) → IsReadAs mem_log log o.0.log older → IsLeftOn mem_pages o.0.state.sizes pages o.0.pages older → (ledger : Ledger) → ledger.committed ≡ committed_of older → ledger_of o.0.state ≡ after (Restarted_entry o.1.incarnation o.1.records) ledger)
       → IfOk r (λ o. (older : List Record) → IsReadAs mem_log log o.0.log older → AllFit (mem_pages.may_be pages) o.0.state.sizes older → AreFit mem_pages o.0)
       → IfOk r (λ o. GoesOn MayRestart (Is_shut pages log) (Restarted (report_of o.1)) (Is_open o.0))
-  opens (Err e) size_once goes report value sizes sound entry fit = tt
-  opens (Ok o) size_once goes report value sizes sound entry fit = λ z course x may ran.
-      let w = reopened mem_pages mem_log (λ d. tt) (λ d. tt) z some_page some_log one size_once (goes (size_of z)) ran.history pages log o.1 o.0 ran.legal ran.stands report value sizes sound entry fit in
+  opens (Err e) size_once goes report value sizes sound recovered entry fit = tt
+  opens (Ok o) size_once goes report value sizes sound recovered entry fit = λ z course x may ran.
+      let w = reopened mem_pages mem_log (λ d. tt) (λ d. tt) z some_page some_log one size_once (goes (size_of z)) ran.history pages log o.1 o.0 ran.legal ran.stands report value sizes sound recovered entry fit in
       record {
         history = Restarted_entry o.1.incarnation o.1.records ∷ ran.history;
-        tells = (ran.history, ran.tells, (may, w.lost, refl));
+        tells = (ran.history, ran.tells, (may, refl));
         legal = w.legal;
         stands = w.stands;
         counted = tt;
       }
 
   pub stays : (r : Result (Engine × Restart_report) (Stopped MemPages MemLog))
-      → OfStores mem_pages mem_log pages log (log_left r) (λ z read. EachPair mem_pages mem_log (pages_left r) (log_left r) (IsLeftOrGoesOn mem_log log z read))
+      → OfStores mem_pages mem_log pages log (pages_left r) (log_left r) (λ z read. EachPair mem_pages mem_log (pages_left r) (log_left r) (IsLeftOrGoesOn mem_log log z read))
       → IfErr r (λ s. (z : Sizes) → IsSuperblock z (mem_pages.seen pages 0) → (older : List Record) → IsReadAs mem_log log s.log older
-      → Stops (IsLeftOn mem_pages z pages s.pages older) older s.refusal (mem_pages.faults pages) (mem_pages.faults s.pages) (mem_log.faults log) (mem_log.faults s.log))
+      → Stops (IsLeftOn mem_pages z pages s.pages older) z older s.refusal (mem_pages.faults pages) (mem_pages.faults s.pages) (mem_log.faults log) (mem_log.faults s.log))
       → IfErr r (λ s. GoesOnShut pages log s.pages s.log s.refusal)
   stays (Ok o) crash err = tt
   stays (Err s) crash err = λ z course ran.
       let here : IsShut mem_pages mem_log z ran.history pages log = ran.stands in
       let read = read_of mem_pages mem_log (λ d. tt) (λ d. tt) z some_page some_log one ran.history pages log here in
-      let leaves = crash tt z read.read read.told read.reads read.each in (
+      let leaves = crash tt tt z read.read read.told read.reads read.each in (
         stays_shut mem_pages mem_log (λ d. tt) (λ d. tt) z some_page some_log one ran.history pages s.pages log s.log here read leaves,
-        may_stay s.refusal (IsLeftOn mem_pages z pages s.pages read.read) read.read (mem_pages.faults pages) (mem_pages.faults s.pages) (mem_log.faults log) (mem_log.faults s.log)
+        may_stay s.refusal (IsLeftOn mem_pages z pages s.pages read.read) z read.read (mem_pages.faults pages) (mem_pages.faults s.pages) (mem_log.faults log) (mem_log.faults s.log)
             (record { honest = tt; left = read.left })
             (err z (record { range = here.range; formatted = read.left.fits.superblock }) read.read (record { honest = tt; are_spelled = read.told; reads = read.reads })),
       )

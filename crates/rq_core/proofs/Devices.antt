@@ -56,6 +56,7 @@ pub formatted : (z : Sizes) (pages : MemPages) (log : MemLog) (bytes : List ℕ)
 formatted z pages log bytes range fit is none = record {
   range = range;
   left = λ images c a b. record {
+    range = range;
     are_spelled = tt;
     is = fresh_only (log_of log) bytes c is b ∙ none;
     left = record {

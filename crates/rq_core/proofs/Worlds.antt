@@ -25,7 +25,7 @@ use Rattle.rq_disk.specs.Records.{HoldsRecords}
 use Rattle.rq_disk.specs.declared.device.LogDevice as log_device
 use Rattle.rq_disk.specs.declared.device.PageDevice as page_device
 use Rattle.rq_log.specs.Spelled.{spelled, AreSpelled}
-use Rattle.rq_page.specs.Sizes.{Sizes}
+use Rattle.rq_page.specs.Sizes.{Sizes, IsInRange}
 use Rattle.rq_pool.specs.Reading.{IsSuperblock}
 use Rattle.rq_store.specs.State.{State, ledger_of, size_of, phase_of}
 use Rattle.rq_sound.specs.Sound.{IsSound}
@@ -48,9 +48,9 @@ use Rattle.rq_engine.specs.declared.event.Progress.TheVariants as progress
 use Rattle.rq_engine.specs.declared.event.Reply.{Reply}
 use Rattle.rq_engine.specs.declared.event.Reply.TheVariants as reply
 use Rattle.rq_restart.specs.Restarting.{IsReadAs, IsLeftOn, IsOpenedOver, Reports, Stops}
-use Rattle.rq_undone.specs.Theorems.{IsUndoneFrom}
-use Rattle.rq_undone.proofs.Undos.{undone_from}
-use Rattle.rq_restart.proofs.Begun.{undoing_incarnation}
+use Rattle.rq_lost.specs.Recovered.{IsRecovered, IsRecoveredFrom}
+use Rattle.rq_lost.proofs.Recovering.{recovered_from}
+use Rattle.rq_restart.proofs.Begun.{mended_incarnation}
 use Rattle.rq_restart.specs.declared.restart.Report.{Report as Restart_report}
 use Rattle.rq_restart.specs.Underway.{IsStore, IsSomeStore, IsLeftOrGoesOn}
 use Rattle.rq_restart.specs.Once.{OneLogEach, AsManyAsTheLog, OneSizeEach}
@@ -205,7 +205,7 @@ module _ {P L : Type 0} (p : page_device.Ghosts P) (l : log_device.Ghosts L) (ho
       let j = g.sound.incarnation in
       let ties : Ties (ledger h) log = record { committed = g.at.committed; records = g.at.records; incarnation = omega (arith, i, j) } in (
         kept,
-        record { are_spelled = c.told; is = c.spells; left = left },
+        record { range = subst IsInRange g.sizes g.sound.range; are_spelled = c.told; is = c.spells; left = left },
         law h (take c.lost log) kept legal (subst (Ties (ledger h)) (sym whole) ties) left.whole.rules (omega (arith, f, n, m)) (omega (arith, i, begun)),
       )
 
@@ -293,7 +293,6 @@ module _ {P L : Type 0} (p : page_device.Ghosts P) (l : log_device.Ghosts L) (ho
 
     -- a restart that opened the store
     pub record IsReopened (h : List Entry) (report : Restart_report) (new : OpenStore P L) : Type 0 where
-      pub lost : report.lost ≡ 0
       pub legal : IsLegal (size_of z) (Restarted_entry report.incarnation report.records ∷ h)
       pub stands : IsOpen p l z (Restarted_entry report.incarnation report.records ∷ h) new
 
@@ -302,10 +301,11 @@ module _ {P L : Type 0} (p : page_device.Ghosts P) (l : log_device.Ghosts L) (ho
         → ((older : List Record) → IsReadAs l log new.log older → IsOpenedOver older new.state)
         → (p.honest new.pages → IsSuperblock new.state.sizes (p.seen pages 0))
         → ((older : List Record) → IsReadAs l log new.log older → IsLeftOn p new.state.sizes pages new.pages older → IsSound new.state)
+        → ((older : List Record) → IsReadAs l log new.log older → IsLeftOn p new.state.sizes pages new.pages older → IsRecovered new.state.sizes older (drop 1 new.state.records))
         → ((older : List Record) → IsReadAs l log new.log older → IsLeftOn p new.state.sizes pages new.pages older → (ledger : Ledger) → ledger.committed ≡ committed_of older → ledger_of new.state ≡ after (Restarted_entry report.incarnation report.records) ledger)
         → ((older : List Record) → IsReadAs l log new.log older → AllFit (p.may_be pages) new.state.sizes older → AreFit p new)
         → IsReopened h report new
-    reopened size_once goes h pages log report new legal s reports value sizes sound entry fit =
+    reopened size_once goes h pages log report new legal s reports value sizes sound recovered entry fit =
         let x = s.left (p.seen pages) (l.seen log) (some_p pages) (some_l log) in
         let now = x.0 in
         let store : IsStore z now (p.seen pages) (l.seen log) = x.2 in
@@ -314,16 +314,15 @@ module _ {P L : Type 0} (p : page_device.Ghosts P) (l : log_device.Ghosts L) (ho
         let on : IsLeftOn p new.state.sizes pages new.pages now = record { honest = honest_p new.pages; left = subst (λ y. IsLeft y (p.seen pages) now) (sym is) store.left } in
         let told = reports now read in
         let opened = value now read in
-        let undone = drop 1 new.state.records in
-        let from : IsUndoneFrom z now undone = undone_from z now undone store.left.whole opened.0 in
-        let law = goes h s.older undone legal s.phase s.ties (extends_join s.older now undone x.1 from.extends) from.whole.order in
-        let all : report.records ≡ length (next_restart undone ∷ undone) = told.records_are ∙ ap (λ (y : State). length y.records) opened.1 in
-        let begun : report.incarnation ≡ incarnation_of undone + 1 = told.incarnation_is ∙ ap (λ n. n + 1) (sym (undoing_incarnation now undone opened.0.undoing)) in
-        let e : Restarted_entry (incarnation_of undone + 1) (length (next_restart undone ∷ undone)) ≡ Restarted_entry report.incarnation report.records =
-        ap (λ n. Restarted_entry n (length (next_restart undone ∷ undone))) (sym begun) ∙ ap (Restarted_entry report.incarnation) (sym all) in
+        let mended = drop 1 new.state.records in
+        let from : IsRecoveredFrom z now mended = recovered_from z now mended store.left.whole (subst (λ y. IsRecovered y now mended) is (recovered now read on)) in
+        let law = goes h s.older mended legal s.phase s.ties (extends_join s.older now mended x.1 from.extends) from.whole.order in
+        let all : report.records ≡ length (next_restart mended ∷ mended) = told.records_are ∙ ap (λ (y : State). length y.records) opened.1 in
+        let begun : report.incarnation ≡ incarnation_of mended + 1 = told.incarnation_is ∙ ap (λ n. n + 1) (sym (mended_incarnation now mended opened.0)) in
+        let e : Restarted_entry (incarnation_of mended + 1) (length (next_restart mended ∷ mended)) ≡ Restarted_entry report.incarnation report.records =
+        ap (λ n. Restarted_entry n (length (next_restart mended ∷ mended))) (sym begun) ∙ ap (Restarted_entry report.incarnation) (sym all) in
         let content : (ledger h).committed ≡ committed_of now = ap (λ (k : Ledger). k.committed) (sym law.ledger) ∙ from.committed in
         record {
-          lost = told.lost_are;
           legal = subst (λ entry. IsLegal (size_of z) (entry ∷ h)) e law.legal;
           stands = record {
             sizes = is;
@@ -382,11 +381,10 @@ module _ {P L : Type 0} (p : page_device.Ghosts P) (l : log_device.Ghosts L) (ho
   }
 
 -- why a store that was left so was not opened
-pub may_stay : (r : Refusal) (left : Type 0) (older : List Record) (a b c d : ℕ) → left → Stops left older r a b c d → MayStayShut r
-may_stay why.NoMemory left older a b c d there s = tt
-may_stay why.DiskRead left older a b c d there s = tt
-may_stay why.DiskWrite left older a b c d there s = tt
-may_stay why.LogFull left older a b c d there s = tt
-may_stay why.Unfinished left older a b c d there s = tt
-may_stay (why.Damaged e) left older a b c d there s = absurd (s there)
-may_stay _ left older a b c d there s = absurd s
+pub may_stay : (r : Refusal) (left : Type 0) (z : Sizes) (older : List Record) (a b c d : ℕ) → left → Stops left z older r a b c d → MayStayShut r
+may_stay why.NoMemory left z older a b c d there s = tt
+may_stay why.DiskRead left z older a b c d there s = tt
+may_stay why.DiskWrite left z older a b c d there s = tt
+may_stay why.LogFull left z older a b c d there s = tt
+may_stay (why.Damaged e) left z older a b c d there s = absurd (s there)
+may_stay _ left z older a b c d there s = absurd s

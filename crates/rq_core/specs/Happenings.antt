@@ -109,13 +109,12 @@ MayCrashIt (Stops_in call) phase = (phase ≡ Runs) × (writes_out call ≡ true
 MayCrashIt Stops_restart phase = phase ≡ Shut
 MayCrashIt _ phase = ⊥
 
--- why a store that a crash left may stay shut: never for what stands on its devices, but for what is not undone yet
+-- why a store that a crash left may stay shut: never for what stands on its devices
 abbrev pub MayStayShut : Refusal → Type 0
 MayStayShut why.NoMemory = Unit {0}
 MayStayShut why.DiskRead = Unit {0}
 MayStayShut why.DiskWrite = Unit {0}
 MayStayShut why.LogFull = Unit {0}
-MayStayShut why.Unfinished = Unit {0}
 MayStayShut _ = ⊥
 
 -- by it a device's failure is told
@@ -135,7 +134,7 @@ abbrev pub Adds : Course → Happening → Answer → List Entry → List Entry 
 Adds course x (Answered reply) older h = AddsCall (called course x) reply older h
 Adds course x (Crashed records) older h = MayCrashIt x (ledger older).phase
     × (h ≡ Crash_entry (kept_in records (ledger older).committed) records ∷ older)
-Adds course x (Restarted report) older h = IsTrue (restarts x) × (report.lost ≡ 0)
+Adds course x (Restarted report) older h = IsTrue (restarts x)
     × (h ≡ Restarted_entry report.incarnation report.records ∷ older)
 Adds course x (Refused refusal) older h = IsTrue (restarts x) × MayStayShut refusal × ((ledger older).phase ≡ Shut)
     × (h ≡ older)

@@ -132,7 +132,6 @@ pub record AreJudged : Type 0 where
   pub memory_of_a_step : TellsNothing ((Restarts, Restarted (report 1 0 0 1)) ∷ []) (Asks (Step (txn 1 1) 1))
       (Answered (Gave_refusal NoMemory))
   pub refused_while_open : TellsNothing ((Restarts, Restarted (report 1 0 0 1)) ∷ []) Restarts (Refused NoMemory)
-  pub lost_at_all : TellsNothing [] Restarts (Restarted (report 1 0 1 1))
   pub acknowledged_of_no_commit : TellsNothing ((Asks Begin, Answered (Gave_txn (txn 1 1))) ∷ []) (Acknowledges 1)
       (Answered (Gave_receipt None))
   pub answered_before_the_first : TellsNothing [] (Acknowledges 0) (Answered (Gave_receipt None))

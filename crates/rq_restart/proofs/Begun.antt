@@ -1,99 +1,62 @@
 -- What undoing leaves of a store that was left as a crash may leave one.
-use Rattle.std.proofs.Common.{◌≡◌, ℕ, zero, suc, ◌+◌, ◌-◌, ◌<◌, ◌≤◌, ◌^◌, false, List, [], ◌∷◌, ◌++◌, length, drop, Option, Some, None, inl, inr, refl, sym, ◌∙◌, ap, subst, arith}
-use Rattle.std.proofs.lemmas.Bool.{cases_eq, cases_lt}
-use Rattle.std.proofs.lemmas.List.{drop_at, length-drop, length-map}
+use Rattle.std.proofs.Common.{◌≡◌, ℕ, suc, ◌+◌, ◌-◌, ◌≤◌, ◌^◌, ◌++◌, false, List, [], ◌∷◌, length, drop, inl, inr, refl, sym, ◌∙◌, ap, subst, arith, append_assoc}
+use Rattle.std.proofs.lemmas.List.{length-drop, length-map}
 use Rattle.rq_model.specs.declared.record.Record.{Record}
 use Rattle.rq_model.specs.declared.refusal.Refusal.{Refusal}
 use Rattle.rq_model.specs.declared.refusal.Refusal.TheVariants as why
 use Rattle.rq_model.specs.declared.refusal.Damage.TheVariants as damage
 use Rattle.rq_model.specs.declared.record.Record.TheVariants as records
-use Rattle.rq_model.specs.Incarnations.{InOrder, incarnation_of}
-use Rattle.rq_model.specs.Unended.{lost}
+use Rattle.rq_model.specs.Incarnations.{Extends, incarnation_of}
+use Rattle.rq_model.specs.Commits.{committed_of}
+use Rattle.rq_model.proofs.Cuts.{extends_commits, extends_join}
 use Rattle.rq_page.specs.Sizes.{Sizes}
-use Rattle.rq_page.specs.Pages.{IsWritten, lsn_of, slot_of}
-use Rattle.rq_page.specs.Formatted.{count_in}
 use Rattle.rq_pool.specs.Pooled.{IsPool}
 use Rattle.rq_log.specs.Logged.{Logged}
 use Rattle.rq_log.specs.Spelled.{spelled, AreSpelled, GoesOn}
-use Rattle.rq_views.specs.InStore.{InStore}
 use Rattle.rq_views.specs.Stored.{count_used, slots_in}
 use Rattle.rq_sound.specs.Sound.{IsSound}
 use Rattle.rq_sound.proofs.Instance.{instance_sound}
 use Rattle.rq_groups.specs.Sent.{SentBy}
-use Rattle.rq_store.specs.Opening.{FitsUpTo, IsCounted, IsLeft, IsSoundWrite, MayRedo, Redoes, opened, next_restart, waiting_in, sent_in_slots}
+use Rattle.rq_store.specs.Opening.{FitsUpTo, IsLeft, MayRedo, opened, next_restart, waiting_in, sent_in_slots}
 use Rattle.rq_store.specs.State.{State}
-use Rattle.rq_model.specs.Commits.{committed_of}
-use Rattle.rq_model.proofs.Cuts.{extends_commits}
-use Rattle.rq_store.specs.Fitting.{ToldWrite, image_in, oldest, told_by}
+use Rattle.rq_store.specs.Fitting.{image_in, oldest}
 use Rattle.rq_store.specs.Steps.{Continues}
 use Rattle.rq_store.specs.Whole.{IsWhole}
 use Rattle.rq_store.proofs.Bounds.{may_redo}
 use Rattle.rq_store.proofs.Cutting.{fits_log_longer}
-use Rattle.rq_store.proofs.Fitting.{oldest_all}
 use Rattle.rq_store.proofs.Opening.{opened_sound, sends_here}
-use Rattle.rq_store.proofs.Redoing.{oldest_store, redo_none, redo_one, redone_slots}
+use Rattle.rq_store.proofs.Redoing.{redone_slots}
 use Rattle.rq_undone.specs.Analysis.{Analysis, analysis}
-use Rattle.rq_undone.specs.Pages.{IsNextUndo, IsUndoing, IsUndone, UndoesBehind}
+use Rattle.rq_undone.specs.Pages.{IsNextUndo, IsUndoing, UndoesBehind}
 use Rattle.rq_undone.specs.Pages.IsNextUndo.{Voids, Undoes}
-use Rattle.rq_undone.specs.Theorems.{IsUndoneFrom}
 use Rattle.rq_undone.proofs.Noting.{few_incarnations, noted_incarnation, noted_unfinished, noted_working, pair_of}
-use Rattle.rq_undone.proofs.Undos.{behind_plain, undo_keeps_whole, undoing_whole, undone_from}
-use Rattle.rq_restart.specs.Checked.{IsEnded, WasGoneThrough}
+use Rattle.rq_undone.proofs.Undos.{undo_keeps_whole, undoing_extends}
+use Rattle.rq_lost.specs.Recovered.{IsRecovered, IsRecoveredFrom}
+use Rattle.rq_lost.proofs.Recovering.{recovered_from}
+use Rattle.rq_restart.specs.Checked.{WasGoneThrough}
+use Rattle.rq_restart.specs.Mended.{IsMended, MendStops}
 use Rattle.rq_restart.specs.Refused.{BeginsNot, MayBeShut, WhyNotBegun, WhyShut}
 use Rattle.rq_restart.specs.Restarting.{IsBegun, IsBegunBehind, IsOpenedOver, Reports}
-use Rattle.rq_restart.specs.Repeating.{AreCounted, IsRepeated, Paged, Repeats}
-use Rattle.rq_restart.specs.Undoing.{IsBadUndo, UndoStops}
+use Rattle.rq_restart.specs.Repeating.{Paged, Repeats}
+use Rattle.rq_restart.specs.Undoing.{IsBadUndo}
+use Rattle.rq_restart.proofs.Aborts.{aborting_extends, aborting_incarnation}
+use Rattle.rq_restart.proofs.Lefts.{front_continues, left_longer, left_undoing}
+use Rattle.rq_restart.proofs.Mending.{recovered_on}
 use Rattle.rq_restart.proofs.Parsing.{AreSpelled-drop, one_log}
+use Rattle.rq_restart.proofs.Repeated.{all_up_to, repeated_order, up_to}
 
--- ---- pages
+-- the log with the records that mend it, and one more, goes on from it
+pub mended_continues : (log mended : List Record) → IsMended log mended → Continues log mended
+mended_continues log mended m =
+    front_continues log mended (m.aborting.front ++ m.undoes.undoing.front)
+    (append_assoc m.aborting.front m.undoes.undoing.front log ∙ ap (λ l. m.aborting.front ++ l) m.undoes.undoing.are ∙ m.aborting.are)
 
--- the next of a log's first records
-oldest_step : (n : ℕ) (log : List Record) → n < length log → (r : Record) × (drop n log ≡ r ∷ drop (suc n) log)
-oldest_step n [] lt = absurd (omega (arith, lt))
-oldest_step zero (r ∷ log) lt = (r, refl)
-oldest_step (suc n) (r ∷ log) lt = oldest_step n log (omega (arith, lt))
+pub one_continues : (log mended : List Record) (r : Record) → Continues log mended → Continues log (r ∷ mended)
+one_continues log mended r c = (suc c.0, c.1)
 
-none_oldest : (log : List Record) → drop (length log) log ≡ []
-none_oldest [] = refl
-none_oldest (r ∷ log) = none_oldest log
-
-module _ (z : Sizes) (log : List Record) (first : Paged) (left : IsLeft z first.image log) where
-  -- pages that the first records were repeated on are as these leave them
-  pub up_to : (k : ℕ) → k ≤ length log → (mid : Paged) → Repeats z (oldest k log) first mid → FitsUpTo z mid.image log k
-  up_to zero le mid h =
-      let none : oldest 0 log ≡ [] = ap (λ n. drop n log) (let e : length log - 0 ≡ length log = omega arith in e) ∙ none_oldest log in
-      let same : mid ≡ first = subst (λ l. Repeats z l first mid) none h in
-      subst (λ (p : Paged). FitsUpTo z p.image log 0) (sym same) (redo_none z log first.image left.fits)
-  up_to (suc k) le mid h =
-      let next = oldest_step (length log - suc k) log (omega (arith, le)) in
-      let one : suc (length log - suc k) ≡ length log - k = omega (arith, le) in
-      let up : suc k ≡ k + 1 = omega arith in
-      let grows : oldest (suc k) log ≡ next.0 ∷ oldest k log = next.1 ∙ ap (λ n. next.0 ∷ drop n log) one in
-      let grown : oldest (k + 1) log ≡ next.0 ∷ oldest k log = ap (λ n. oldest n log) (sym up) ∙ grows in
-      let r : Repeats z (next.0 ∷ oldest k log) first mid = subst (λ l. Repeats z l first mid) grows h in
-      let d = length-drop (length log - k) log in
-      let count : length (oldest k log) ≡ k = omega (arith, d, le) in
-      let within : k + 1 ≤ length log = omega (arith, le) in
-      let redone : Redoes (told_by next.0) (k + 1) r.0.image mid.image = subst (λ n. Redoes (told_by next.0) (n + 1) r.0.image mid.image) count r.2.redone in
-      subst (λ n. FitsUpTo z mid.image log n) (sym up)
-      (redo_one z log k next.0 grown within (in_store (k + 1) next.0 (oldest k log) grown).0 r.0.image mid.image redone (up_to k (omega (arith, le)) r.0 r.1))
-    where
-      in_store : (n : ℕ) (q : Record) (older : List Record) → oldest n log ≡ q ∷ older → InStore z (q ∷ older)
-      in_store n q older e = subst (InStore z) e (oldest_store z log n left.whole.in_store)
-
-  pub all_up_to : (last : Paged) → Repeats z log first last → FitsUpTo z last.image log (length log)
-  all_up_to last h = up_to (length log) (omega arith) last (subst (λ l. Repeats z l first last) (sym (oldest_all log)) h)
-
--- a store's pages fit the log with records behind
-pub left_undoing : (z : Sizes) (image : ℕ → List ℕ) (log undone : List Record) → IsLeft z image log → IsUndoing log undone → IsLeft z image undone
-left_undoing z image log undone left u = record {
-  whole = undoing_whole z log undone left.whole u;
-  fits = fits_log_longer z image log undone (length u.front, ap (drop (length u.front)) (sym u.are) ∙ drop_at u.front log (length u.front) refl) left.fits;
-}
-
--- the log with records behind goes on from it
-pub begun_continues : (log undone : List Record) (r : Record) → IsUndoing log undone → Continues log (r ∷ undone)
-begun_continues log undone r u = (suc (length u.front), ap (drop (length u.front)) (sym u.are) ∙ drop_at u.front log (length u.front) refl)
+-- it extends the log, and is of its incarnation
+pub mended_extends : (log mended : List Record) → IsMended log mended → Extends log mended
+mended_extends log mended m = extends_join log m.undone mended (undoing_extends log m.undone m.undoes.undoing) (aborting_extends m.undone mended m.aborting)
 
 -- of a store that was left so, each record that undoes something belongs where it stands
 pub no_bad_undo : (z : Sizes) (log : List Record) (first : Paged) (lsn : ℕ) → IsLeft z first.image log → IsBadUndo z log first lsn → ⊥
@@ -109,52 +72,18 @@ no_bad_undo z log first lsn left b =
     let may : MayRedo z b.mid.image (k + 1) b.newest = may_redo z grown b.mid.image k b.newest w.legal w.in_store w.befores (omega arith) grows fits in
     b.bad (record { next = w.order.0; may = may })
 
--- once all is undone, the store that opens over the log is sound
-pub begun_sound : (z : Sizes) (first last : Paged) (images : List (List ℕ)) (log undone : List Record) → last.image ≡ image_in images → IsPool z images → IsEnded log → IsUndone log undone → Repeats z undone first last → IsLeft z first.image log → IsSound (opened z images undone)
-begun_sound z first last images log undone are pool ended u repeated left =
-    let there = left_undoing z first.image log undone left u.undoing in
-    let from : IsUndoneFrom z log undone = undone_from z log undone left.whole u in
-    let none_lost : lost undone ≡ [] = from.lost ∙ sym (noted_working z log left.whole.legal left.whole.reads) ∙ ended in
-    let fits : FitsUpTo z (image_in images) undone (length undone) = subst (λ f. FitsUpTo z f undone (length undone)) are (all_up_to z undone first there last repeated) in
-    instance_sound (opened z images undone) (opened_sound z images undone pool.range from.whole from.none_unfinished none_lost (redone_slots z undone images from.whole.in_store fits)
+-- once it is recovered, the store that opens over the log is sound
+pub begun_sound : (z : Sizes) (first last : Paged) (images : List (List ℕ)) (log mended : List Record) → last.image ≡ image_in images → IsPool z images → IsMended log mended → IsRecovered z log mended → Repeats z mended first last → IsLeft z first.image log → IsSound (opened z images mended)
+begun_sound z first last images log mended are pool m recovered repeated left =
+    let from : IsRecoveredFrom z log mended = recovered_from z log mended left.whole recovered in
+    let there = left_longer z first.image log mended left from.whole (mended_continues log mended m) in
+    let fits : FitsUpTo z (image_in images) mended (length mended) = subst (λ f. FitsUpTo z f mended (length mended)) are (all_up_to z mended first there last repeated) in
+    let slots = redone_slots z mended images from.whole.in_store fits in
+    instance_sound (opened z images mended) (opened_sound z images mended pool.range from.whole from.none_unfinished from.none_lost slots
     (record { superblock = pool.superblock; headers = pool.headers; pages = λ p low high. (fits p low high).fits }))
-    (sends_here z images undone pool.range from.whole from.none_unfinished none_lost (redone_slots z undone images from.whole.in_store fits))
-
--- ---- counts
-
--- no number of the pages is beyond the log, once one record more is repeated
-pub counted_more : (z : Sizes) (log : List Record) (r : Record) (old new : Paged) → IsRepeated z log r old new → AreCounted z (length log) old → AreCounted z (length log + 1) new
-counted_more z log r old new one all p low high = by (told_by r) one.redone one.belongs.may.write where
-  n : ℕ
-  n = length log
-
-  kept : (image : List ℕ) → IsCounted z n p image → IsCounted z (n + 1) p image
-  kept image c = record { lsn = omega (arith, c.lsn); slots = λ j a b. (let s = c.slots j a b in omega (arith, s)) }
-
-  by : (w : Option ToldWrite) → Redoes w (n + 1) old.image new.image → IsSoundWrite z (n + 1) w → IsCounted z (n + 1) p (new.image p)
-  by None same sound = subst (IsCounted z (n + 1) p) (sym (same p)) (kept (old.image p) (all p low high))
-  by (Some w) made sound = elim (cases_eq p w.page) [
-    | inr ne ↦ subst (IsCounted z (n + 1) p) (sym (made.others p ne)) (kept (old.image p) (all p low high))
-    | inl same ↦ subst (λ q. IsCounted z (n + 1) q (new.image q)) (sym same) (elim (cases_lt (lsn_of (old.image w.page)) (n + 1)) [
-      | inr ge ↦ subst (IsCounted z (n + 1) w.page) (sym (made.kept ge)) (subst (λ q. IsCounted z (n + 1) q (old.image q)) same (kept (old.image p) (all p low high)))
-      | inl lt ↦ written (subst (λ q. IsCounted z n q (old.image q)) same (all p low high)) (made.made lt)
-    ])
-  ] where
-    written : IsCounted z n w.page (old.image w.page) → IsWritten (old.image w.page) (new.image w.page) w.slot w.after (n + 1) → IsCounted z (n + 1) w.page (new.image w.page)
-    written c is = record {
-      lsn = (let e = is.lsn in omega (arith, e));
-      slots = λ j a b. elim (cases_eq j w.slot) [
-        | inl here ↦ subst (λ m. count_in z w.page (slot_of m (new.image w.page)) ≤ n + 1) (sym here) (subst (λ bytes. count_in z w.page bytes ≤ n + 1) (sym is.slot) sound.count)
-        | inr there ↦ subst (λ bytes. count_in z w.page bytes ≤ n + 1) (sym (is.others j a b there)) (let s = c.slots j a b in omega (arith, s))
-      ];
-    }
+    (sends_here z images mended pool.range from.whole from.none_unfinished from.none_lost slots)
 
 -- ---- what is begun
-
--- what was gone through is in order
-pub repeated_order : (z : Sizes) (log : List Record) (first last : Paged) → Repeats z log first last → InOrder log
-repeated_order z [] first last r = tt
-repeated_order z (q ∷ log) first last r = (r.2.belongs.next, repeated_order z log first r.0 r.1)
 
 same_incarnation : (log : List Record) (r : Record) → IsNextUndo (analysis log) r → incarnation_of (r ∷ log) ≡ incarnation_of log
 same_incarnation log r (Voids o s least e) = rw e refl
@@ -167,76 +96,84 @@ behind_incarnation log (r ∷ front) h = same_incarnation (front ++ log) r h.0 �
 pub undoing_incarnation : (log undone : List Record) → IsUndoing log undone → incarnation_of undone ≡ incarnation_of log
 undoing_incarnation log undone u = ap incarnation_of (sym u.are) ∙ behind_incarnation log u.front u.undoes
 
-module _ (log undone : List Record) (u : IsUndone log undone) (h : Analysis) (noted : h ≡ analysis undone) (last : ℕ) (is : last ≡ h.incarnation) where
-  pub last_is : last ≡ incarnation_of undone
-  last_is = is ∙ ap (λ (n : Analysis). n.incarnation) noted ∙ noted_incarnation undone
+pub mended_incarnation : (log mended : List Record) → IsMended log mended → incarnation_of mended ≡ incarnation_of log
+mended_incarnation log mended m = aborting_incarnation m.undone mended m.aborting ∙ undoing_incarnation log m.undone m.undoes.undoing
 
-  pub begins : (now : List Record) → now ≡ records.Restart (last + 1) ∷ undone → now ≡ next_restart undone ∷ undone
-  begins now e = e ∙ ap (λ n. records.Restart (n + 1) ∷ undone) last_is
+module _ (log mended : List Record) (m : IsMended log mended) (h : Analysis) (noted : h ≡ analysis mended) (last : ℕ) (is : last ≡ h.incarnation) where
+  pub last_is : last ≡ incarnation_of mended
+  last_is = is ∙ ap (λ (n : Analysis). n.incarnation) noted ∙ noted_incarnation mended
 
-  pub begun_is : {L : Type 0} (new : Logged L) → new.records ≡ records.Restart (last + 1) ∷ undone → (new.forced ≡ length new.records) × (new.failed ≡ false) → IsBegun log new
-  begun_is new e f = record { undone = undone; undoes = u; records = begins new.records e; forced = f.0; running = f.1 }
+  pub begins : (now : List Record) → now ≡ records.Restart (last + 1) ∷ mended → now ≡ next_restart mended ∷ mended
+  begins now e = e ∙ ap (λ n. records.Restart (n + 1) ∷ mended) last_is
 
-  pub reports : (z : Sizes) (now : List Record) (incarnation count unfinished_count gone : ℕ) → IsEnded log → (incarnation ≡ last + 1) × (count ≡ length now) × (unfinished_count ≡ length (analysis log).unfinished) × (gone ≡ 0) → Reports z log now incarnation count unfinished_count gone
-  reports z now incarnation count unfinished_count gone ended told = record {
-    incarnation_is = told.0 ∙ ap (λ n. n + 1) (last_is ∙ undoing_incarnation log undone u.undoing);
+  pub begun_is : {L : Type 0} (new : Logged L) → new.records ≡ records.Restart (last + 1) ∷ mended → (new.forced ≡ length new.records) × (new.failed ≡ false) → IsBegun log new
+  begun_is new e f = record { mended = mended; mends = m; records = begins new.records e; forced = f.0; running = f.1 }
+
+  pub reports : (z : Sizes) (now : List Record) (incarnation count unfinished_count gone : ℕ)
+      → (incarnation ≡ last + 1) × (count ≡ length now) × (unfinished_count ≡ length (analysis log).unfinished) × (gone ≡ length (analysis log).working) → Reports z log now incarnation count unfinished_count gone
+  reports z now incarnation count unfinished_count gone told = record {
+    incarnation_is = told.0 ∙ ap (λ n. n + 1) (last_is ∙ mended_incarnation log mended m);
     records_are = told.1;
     unfinished_are = λ w. told.2 ∙ sym (length-map (analysis log).unfinished pair_of) ∙ ap length (noted_unfinished z log w.legal);
-    lost_are = told.3;
-    none_lost = λ w. sym (noted_working z log w.legal w.reads) ∙ ended;
+    lost_are = λ w. told.3 ∙ ap length (noted_working z log w.legal w.reads);
   }
 
   -- why the incarnation was not begun
-  pub not_begun : (z : Sizes) (first now_paged : Paged) (e : Refusal) (before now : ℕ) (untouched : Type 0) → Repeats z undone first now_paged → BeginsNot e (length undone) last before now untouched → WhyNotBegun z log first e before now untouched
-  not_begun z first now_paged why.NoMemory before now untouched repeated b = b
-  not_begun z first now_paged why.DiskWrite before now untouched repeated b = b
-  not_begun z first now_paged why.LogFull before now untouched repeated b = (record { undone = undone; undoing = u.undoing; full = full }, b.1) where
-    full : 2 ^ 50 ≤ length undone
+  pub not_begun : (z : Sizes) (first now_paged : Paged) (e : Refusal) (before now : ℕ) (untouched : Type 0) → Repeats z mended first now_paged → (IsLeft z first.image log → IsRecovered z log mended)
+      → BeginsNot e (length mended) last before now untouched → WhyNotBegun z log first e before now untouched
+  not_begun z first now_paged why.NoMemory before now untouched repeated recovered b = b
+  not_begun z first now_paged why.DiskWrite before now untouched repeated recovered b = b
+  not_begun z first now_paged why.LogFull before now untouched repeated recovered b = (record { undone = m.undone; undoing = m.undoes.undoing; now = mended; aborting = m.aborting; none_lost = m.none_lost; full = full; recovering = λ left. recovered_on z log mended (recovered left) }, b.1) where
+    full : 2 ^ 50 ≤ length mended
     full = elim b.0 [
       | inl is_full ↦ is_full
-      | inr many ↦ let few = few_incarnations undone (repeated_order z undone first now_paged repeated) in let e = last_is in omega (arith, few, e, many)
+      | inr many ↦ let few = few_incarnations mended (repeated_order z mended first now_paged repeated) in let e = last_is in omega (arith, few, e, many)
     ]
-  not_begun z first now_paged _ before now untouched repeated b = absurd b
+  not_begun z first now_paged _ before now untouched repeated recovered b = absurd b
 
--- why undoing stopped is why nothing was begun
-pub undo_not_begun : (z : Sizes) (log : List Record) (first : Paged) (e : Refusal) (before now : ℕ) (untouched : Type 0) → now ≡ before → untouched → UndoStops z log first e → WhyNotBegun z log first e before now untouched
-undo_not_begun z log first why.NoMemory before now untouched same here s = (same, here)
-undo_not_begun z log first why.LogFull before now untouched same here s = (s, here)
-undo_not_begun z log first (why.Damaged (damage.Record lsn)) before now untouched same here s = (s, here)
-undo_not_begun z log first _ before now untouched same here s = absurd s
+-- why the log was not mended is why nothing was begun
+pub mend_not_begun : (z : Sizes) (log : List Record) (first : Paged) (e : Refusal) (before now : ℕ) (untouched : Type 0) → now ≡ before → untouched → MendStops z log first e → WhyNotBegun z log first e before now untouched
+mend_not_begun z log first why.NoMemory before now untouched same here s = (same, here)
+mend_not_begun z log first why.LogFull before now untouched same here s = (s, here)
+mend_not_begun z log first (why.Damaged (damage.Record lsn)) before now untouched same here s = (s, here)
+mend_not_begun z log first _ before now untouched same here s = absurd s
 
 -- and why the store stays shut
-pub not_begun_shut : (z : Sizes) (log : List Record) (first : Paged) (e : Refusal) (before now : ℕ) (untouched : Type 0) → IsEnded log → WasGoneThrough z log first → WhyNotBegun z log first e before now untouched → WhyShut z log first e before now untouched
-not_begun_shut z log first why.NoMemory before now untouched ended gone s = s
-not_begun_shut z log first why.LogFull before now untouched ended gone s = (s.0, ended, gone, s.1)
-not_begun_shut z log first why.DiskWrite before now untouched ended gone s = (s, ended, gone)
-not_begun_shut z log first (why.Damaged (damage.Record lsn)) before now untouched ended gone s = (inr (s.0, ended, gone), s.1)
-not_begun_shut z log first _ before now untouched ended gone s = absurd s
+pub not_begun_shut : (z : Sizes) (log : List Record) (first : Paged) (e : Refusal) (before now : ℕ) (untouched : Type 0) → WasGoneThrough z log first → WhyNotBegun z log first e before now untouched → WhyShut z log first e before now untouched
+not_begun_shut z log first why.NoMemory before now untouched gone s = s
+not_begun_shut z log first why.LogFull before now untouched gone s = (s.0, gone, s.1)
+not_begun_shut z log first why.DiskWrite before now untouched gone s = (s, gone)
+not_begun_shut z log first (why.Damaged (damage.Record lsn)) before now untouched gone s = (inr (s.0, gone), s.1)
+not_begun_shut z log first _ before now untouched gone s = absurd s
 
-pub not_begun_left : (z : Sizes) (log : List Record) (first : Paged) (e : Refusal) (before now : ℕ) (untouched : Type 0) → WhyNotBegun z log first e before now untouched → MayBeShut (IsLeft z first.image log) log e before now
+pub not_begun_left : (z : Sizes) (log : List Record) (first : Paged) (e : Refusal) (before now : ℕ) (untouched : Type 0) → WhyNotBegun z log first e before now untouched → MayBeShut (IsLeft z first.image log) z log e before now
 not_begun_left z log first why.NoMemory before now untouched s = s.0
-not_begun_left z log first why.LogFull before now untouched s = λ left. s.0
+not_begun_left z log first why.LogFull before now untouched s = λ left. record { now = s.0.now; recovering = s.0.recovering left; full = s.0.full }
 not_begun_left z log first why.DiskWrite before now untouched s = s
-not_begun_left z log first (why.Damaged (damage.Record lsn)) before now untouched s = λ left. no_bad_undo z log first lsn left s.0
+not_begun_left z log first (why.Damaged (damage.Record lsn)) before now untouched s = λ left. elim s.0 [
+  | inl undo ↦ no_bad_undo z log first lsn left undo
+  | inr mend ↦ mend.none left
+]
 not_begun_left z log first _ before now untouched s = absurd s
 
 -- the records behind, as they were forced
-pub begun_behind : (log undone : List Record) (r : Record) (kept : ℕ) (seen bytes : List ℕ) → IsUndone log undone → IsEnded log → r ≡ next_restart undone → AreSpelled log → seen ≡ spelled log → AreSpelled (r ∷ undone) → GoesOn (r ∷ undone) kept seen bytes → IsBegunBehind log bytes
-begun_behind log undone r kept seen bytes u ended is are read now on =
-    let n : ℕ = length (drop on.behind (r ∷ undone)) in
-    let same : drop on.behind (r ∷ undone) ≡ log = one_log (drop on.behind (r ∷ undone)) log (AreSpelled-drop on.behind (r ∷ undone) now) are (sym on.reads ∙ read) in
+pub begun_behind : (z : Sizes) (left : Type 0) (log mended : List Record) (r : Record) (kept : ℕ) (seen bytes : List ℕ) → IsMended log mended → (left → IsRecovered z log mended) → r ≡ next_restart mended → AreSpelled log → seen ≡ spelled log → AreSpelled (r ∷ mended)
+    → GoesOn (r ∷ mended) kept seen bytes → IsBegunBehind z left log bytes
+begun_behind z left log mended r kept seen bytes m recovered is are read now on =
+    let n : ℕ = length (drop on.behind (r ∷ mended)) in
+    let same : drop on.behind (r ∷ mended) ≡ log = one_log (drop on.behind (r ∷ mended)) log (AreSpelled-drop on.behind (r ∷ mended) now) are (sym on.reads ∙ read) in
     let a : n ≡ length log = ap length same in
-    let b : n ≡ length (r ∷ undone) - on.behind = length-drop on.behind (r ∷ undone) in
+    let b : n ≡ length (r ∷ mended) - on.behind = length-drop on.behind (r ∷ mended) in
     let c = on.within in
     let d = on.some in
     record {
-      undone = undone;
-      undoes = u;
-      are_spelled = subst (λ q. AreSpelled (q ∷ undone)) is now;
-      ended = ended;
+      mended = mended;
+      mends = m;
+      recovered = recovered;
+      are_spelled = subst (λ q. AreSpelled (q ∷ mended)) is now;
       lacks = on.lost;
       some = omega (arith, a, b, c, d);
-      is = on.is ∙ ap (λ q. spelled (drop on.lost (q ∷ undone))) is;
+      is = on.is ∙ ap (λ q. spelled (drop on.lost (q ∷ mended))) is;
     }
 
 -- ---- what is opened
@@ -261,23 +198,20 @@ engine_over z images rs forced incarnation cells waiting sent = record {
 pub opened_over : {L : Type 0} (z : Sizes) (images : List (List ℕ)) (log : List Record) (new : Logged L) (incarnation cells : ℕ) (waiting : List ℕ) (sent : SentBy) → IsBegun log new → incarnation ≡ incarnation_of log + 1 → cells ≡ count_used z (slots_in z images) → waiting ≡ waiting_in z images → sent ≡ sent_in_slots z images
     → IsOpenedOver log (engine_over z images new.records new.forced incarnation cells waiting sent)
 opened_over z images log new incarnation cells waiting sent b number used waits told =
-    let undone = b.undone in
-    let all : List Record = next_restart undone ∷ undone in
-    let last : drop 1 new.records ≡ undone = ap (drop 1) b.records in
+    let mended = b.mended in
+    let all : List Record = next_restart mended ∷ mended in
+    let last : drop 1 new.records ≡ mended = ap (drop 1) b.records in
     let forced : new.forced ≡ length all = b.forced ∙ ap length b.records in
-    let i : incarnation ≡ incarnation_of undone + 1 = number ∙ ap (λ n. n + 1) (sym (undoing_incarnation log undone b.undoes.undoing)) in (
-      subst (IsUndone log) (sym last) b.undoes,
+    let i : incarnation ≡ incarnation_of mended + 1 = number ∙ ap (λ n. n + 1) (sym (mended_incarnation log mended b.mends)) in (
+      subst (IsMended log) (sym last) b.mends,
       ap (λ rs. engine_over z images rs new.forced incarnation cells waiting sent) b.records
           ∙ ap (λ n. engine_over z images all n incarnation cells waiting sent) forced
           ∙ ap (λ n. engine_over z images all (length all) n cells waiting sent) i
-          ∙ ap (λ n. engine_over z images all (length all) (incarnation_of undone + 1) n waiting sent) used
-          ∙ ap (λ w. engine_over z images all (length all) (incarnation_of undone + 1) (count_used z (slots_in z images)) w sent) waits
-          ∙ ap (λ x. engine_over z images all (length all) (incarnation_of undone + 1) (count_used z (slots_in z images)) (waiting_in z images) x) told
+          ∙ ap (λ n. engine_over z images all (length all) (incarnation_of mended + 1) n waiting sent) used
+          ∙ ap (λ w. engine_over z images all (length all) (incarnation_of mended + 1) (count_used z (slots_in z images)) w sent) waits
+          ∙ ap (λ x. engine_over z images all (length all) (incarnation_of mended + 1) (count_used z (slots_in z images)) (waiting_in z images) x) told
           ∙ ap (opened z images) (sym last),
     )
 
 pub begun_commits : {L : Type 0} (log : List Record) (new : Logged L) → IsBegun log new → committed_of new.records ≡ committed_of log
-begun_commits log new b =
-    let r = next_restart b.undone in
-    let u = b.undoes.undoing in
-    ap committed_of b.records ∙ extends_commits log (r ∷ b.undone) (r ∷ u.front, ap (λ l. r ∷ l) u.are, (refl, behind_plain log u.front u.undoes))
+begun_commits log new b = ap committed_of b.records ∙ extends_commits log b.mended (mended_extends log b.mended b.mends)

@@ -11,6 +11,10 @@ use Rattle.rq_store.proofs.Fitting.{oldest_all}
 use Rattle.rq_store.proofs.Redoing.{oldest_store, redo_one}
 use Rattle.rq_store.proofs.Bounds.{may_redo}
 use Rattle.rq_undone.specs.Analysis.{Analysis, analysis, analysis_after}
+use Rattle.rq_lost.specs.Dues.{dues, dues_after}
+use Rattle.rq_lost.specs.Numbers.{numbers_after}
+use Rattle.rq_restart.specs.declared.findings.Findings.{Findings}
+use Rattle.rq_restart.specs.Found.{AreFindings, findings_after}
 use Rattle.rq_restart.specs.Repeating.{Paged, Marks, Belongs, Repeats, IsFirstBad}
 use Rattle.rq_undone.proofs.Noting.{noted_incarnation}
 
@@ -22,6 +26,14 @@ oldest_first xs n =
     let d : length (reverse (drop n xs)) ≡ length (reverse xs) - n = omega (arith, a, b, c) in
     let e : reverse xs ≡ reverse (drop n xs) ++ reverse (take n xs) = ap reverse (sym (take-append-drop n xs)) ∙ reverse-append (take n xs) (drop n xs) in
     ap (drop (length (reverse xs) - n)) e ∙ drop_at (reverse (drop n xs)) (reverse (take n xs)) (length (reverse xs) - n) d
+
+-- what is found with one record more
+pub found_next : (f k : Findings) (log : List Record) (r : Record) (lsn : ℕ) → lsn ≡ length log + 1 → AreFindings f log → k ≡ findings_after lsn r f → AreFindings k (r ∷ log)
+found_next f k log r lsn place are e = record {
+  history = ap (λ (x : Findings). x.history) e ∙ ap (analysis_after lsn r) are.history ∙ ap (λ n. analysis_after n r (analysis log)) place;
+  dues = ap (λ (x : Findings). x.dues) e ∙ ap (dues_after lsn r) are.dues ∙ ap (λ n. dues_after n r (dues log)) place;
+  numbers = ap (λ (x : Findings). x.numbers) e ∙ ap (numbers_after r) are.numbers;
+}
 
 -- the next record
 pub oldest_next : (xs : List Record) (i : ℕ) (d : Record) → i < length xs → oldest (i + 1) (reverse xs) ≡ get_or xs i d ∷ oldest i (reverse xs)
@@ -44,8 +56,8 @@ module _ (z : Sizes) (image : ℕ → List ℕ) (xs : List Record) (i : ℕ) (r 
   count : length (oldest i log) ≡ i
   count = let a : length (reverse xs) ≡ length xs = length-reverse xs in let b : length (oldest i log) ≡ length log - (length log - i) = length-drop (length log - i) log in omega (arith, a, b, lt)
 
-  pub noted_more : (h k : Analysis) → h ≡ analysis (oldest i log) → k ≡ analysis_after (i + 1) r h → k ≡ analysis (oldest (i + 1) log)
-  noted_more h k e f = f ∙ ap (analysis_after (i + 1) r) e ∙ ap (λ n. analysis_after (n + 1) r (analysis (oldest i log))) (sym count) ∙ ap analysis (sym grows)
+  pub found_more : (f k : Findings) → AreFindings f (oldest i log) → k ≡ findings_after (i + 1) r f → AreFindings k (oldest (i + 1) log)
+  found_more f k are e = subst (λ l. AreFindings k l) (sym grows) (found_next f k (oldest i log) r (i + 1) (ap (λ n. n + 1) (sym count)) are e)
 
   pub redone_more : (old new : ℕ → List ℕ) → Redoes (told_by r) (i + 1) old new → (IsLeft z image log → FitsUpTo z old log i) → IsLeft z image log → FitsUpTo z new log (i + 1)
   redone_more old new redo h left =

@@ -10,3 +10,12 @@ pub mod Worked
 pub mod Tallying
 pub mod Undos
 pub mod Begun
+pub mod Lefts
+pub mod Mending
+pub mod Showing
+pub mod Repeated
+pub mod DueLists
+pub mod Aborts
+pub mod Rounds
+pub mod Results
+pub mod Planning

@@ -10,6 +10,7 @@ use Rattle.rq_disk.specs.declared.device.PageDevice.{Ghosts}
 use Rattle.rq_pool.specs.Reading.{IsSuperblock, IsDamaged, StopsFor}
 use Rattle.rq_store.specs.Opening.{IsLeft}
 use Rattle.rq_restart.specs.Restarting.{IsLeftOn, Stops}
+use Rattle.rq_restart.specs.Mended.{IsAtBound}
 use Rattle.rq_restart.specs.Refused.{MayBeShut}
 
 -- a superblock tells one size
@@ -29,17 +30,16 @@ sound z seen older page block left (inr (y, bad)) =
     bad.bad (record { header = there.fits.headers page bad.low bad.high; slots = (there.fits.pages page bad.low bad.high).slots })
 
 -- why the pages were not read is why the store stays shut
-pub load_shut : {P : Type 0} (g : Ghosts P) (z : Sizes) (old new : P) (older : List Record) (e : Refusal) (log : ℕ) → IsSuperblock z (g.seen old 0) → StopsFor g e old new → Stops (IsLeftOn g z old new older) older e (g.faults old) (g.faults new) log log
+pub load_shut : {P : Type 0} (g : Ghosts P) (z : Sizes) (old new : P) (older : List Record) (e : Refusal) (log : ℕ) → IsSuperblock z (g.seen old 0) → StopsFor g e old new → Stops (IsLeftOn g z old new older) z older e (g.faults old) (g.faults new) log log
 load_shut g z old new older why.NoMemory log block h = tt
 load_shut g z old new older why.DiskRead log block h = inl h
 load_shut g z old new older (why.Damaged (damage.Page page)) log block h = λ on. sound z (g.seen old) older page block on.left (h.0 on.honest)
 load_shut g z old new older _ log block h = absurd h
 
-pub shut_log : (left there : Type 0) → (left → there) → (older : List Record) (e : Refusal) (before now old new : ℕ) → MayBeShut there older e old new → Stops left older e before now old new
-shut_log left there f older why.NoMemory before now old new h = tt
-shut_log left there f older why.DiskRead before now old new h = inr h
-shut_log left there f older why.DiskWrite before now old new h = h
-shut_log left there f older why.LogFull before now old new h = λ l. h (f l)
-shut_log left there f older why.Unfinished before now old new h = λ l. h (f l)
-shut_log left there f older (why.Damaged d) before now old new h = λ l. h (f l)
-shut_log left there f older _ before now old new h = absurd h
+pub shut_log : (left there : Type 0) (z y : Sizes) (older : List Record) → (left → there × (y ≡ z)) → (e : Refusal) (before now old new : ℕ) → MayBeShut there y older e old new → Stops left z older e before now old new
+shut_log left there z y older f why.NoMemory before now old new h = tt
+shut_log left there z y older f why.DiskRead before now old new h = inr h
+shut_log left there z y older f why.DiskWrite before now old new h = h
+shut_log left there z y older f why.LogFull before now old new h = λ l. let k = f l in subst (λ x. IsAtBound x older) k.1 (h k.0)
+shut_log left there z y older f (why.Damaged d) before now old new h = λ l. h (f l).0
+shut_log left there z y older f _ before now old new h = absurd h

@@ -8,9 +8,12 @@ use Rattle.rq_log.specs.Spelled.{spelled, AreSpelled, GoesOn}
 use Rattle.rq_log.proofs.Moments.{started, weaker, joined}
 use Rattle.rq_store.specs.Opening.{next_restart}
 use Rattle.rq_restart.specs.Restarting.{IsRead, IsBegunOn, WasLeftOrBegun, WasLeftOrForced, BeginsAtMost}
-use Rattle.rq_undone.specs.Pages.{IsUndone}
+use Rattle.rq_disk.specs.Device.{Images}
+use Rattle.rq_page.specs.Sizes.{Sizes}
+use Rattle.rq_store.specs.Opening.{IsLeft}
+use Rattle.rq_lost.specs.Recovered.{IsRecovered}
+use Rattle.rq_restart.specs.Mended.{IsMended}
 use Rattle.rq_restart.proofs.Begun.{begun_behind}
-use Rattle.rq_restart.specs.Checked.{IsEnded}
 
 module _ {L : Type 0} (g : Ghosts L) (only_now : (d : L) (c : List ℕ) → g.left_since d (g.moment d) c → g.may_leave d c) where
   -- nothing is done
@@ -30,26 +33,27 @@ forced_behind g old new log kept records same grown forced are run =
           (subst (λ rs. LeavesOnly g old new (λ c. g.may_leave old c ⊎ GoesOn rs log.forced (g.seen old) c)) grown (subst (λ d. LeavesOnly g d new (λ c. g.may_leave d c ⊎ GoesOn log.records log.forced (g.seen d) c)) same run))
 
 -- they undo what has no end, and begin the next incarnation
-pub begun_moment : {L : Type 0} (g : Ghosts L) (older undone : List Record) (r : Record) (kept : ℕ) (old mid new : L) → mid ≡ old → IsUndone older undone → IsEnded older → r ≡ next_restart undone → AreSpelled older → g.seen old ≡ spelled older
-    → LeavesOnly g mid new (WasLeftOrForced g mid (r ∷ undone) kept) → LeavesOnly g old new (WasLeftOrBegun g old older)
-begun_moment g older undone r kept old mid new same u ended is are read run =
-    weaker g old new (WasLeftOrForced g old (r ∷ undone) kept) (WasLeftOrBegun g old older) (subst (λ d. LeavesOnly g d new (WasLeftOrForced g d (r ∷ undone) kept)) same run)
-    (λ c. ⊎_elim (λ was. inl was) (λ on. inr (begun_behind older undone r kept (g.seen old) c u ended is are read on.0 on.1)))
+pub begun_moment : {L : Type 0} (g : Ghosts L) (z : Sizes) (left : Type 0) (older mended : List Record) (r : Record) (kept : ℕ) (old mid new : L) → mid ≡ old → IsMended older mended → (left → IsRecovered z older mended) → r ≡ next_restart mended → AreSpelled older → g.seen old ≡ spelled older
+    → LeavesOnly g mid new (WasLeftOrForced g mid (r ∷ mended) kept) → LeavesOnly g old new (WasLeftOrBegun g z left old older)
+begun_moment g z left older mended r kept old mid new same m recovered is are read run =
+    weaker g old new (WasLeftOrForced g old (r ∷ mended) kept) (WasLeftOrBegun g z left old older) (subst (λ d. LeavesOnly g d new (WasLeftOrForced g d (r ∷ mended) kept)) same run)
+    (λ c. ⊎_elim (λ was. inl was) (λ on. inr (begun_behind z left older mended r kept (g.seen old) c m recovered is are read on.0 on.1)))
 
-module _ {L : Type 0} (g : Ghosts L) where
+-- beside these pages
+module _ {L : Type 0} (g : Ghosts L) (z : Sizes) (images : Images) where
   -- the log was only read
-  pub only_read : (old new : L) → LeavesOnly g old new (g.may_leave old) → BeginsAtMost g old new
-  only_read old new run h = weaker g old new (g.may_leave old) (λ c. g.may_leave old c ⊎ IsBegunOn (g.seen old) c) run (λ c was. inl was)
+  pub only_read : (old new : L) → LeavesOnly g old new (g.may_leave old) → BeginsAtMost g z images old new
+  only_read old new run h = weaker g old new (g.may_leave old) (λ c. g.may_leave old c ⊎ IsBegunOn z images (g.seen old) c) run (λ c was. inl was)
 
   -- it was read whole, and then gone on with
   pub read_first : (old mid new : L) (older : List Record) → (g.honest new → g.honest mid) → (g.honest mid → g.seen old ≡ spelled older) → AreSpelled older → g.seen mid ≡ g.seen old
       → ((c : List ℕ) → g.may_leave mid c → g.may_leave old c) → LeavesOnly g old mid (g.may_leave old)
-      → (g.honest new → AreSpelled older → g.seen mid ≡ spelled older → LeavesOnly g mid new (WasLeftOrBegun g mid older)) → BeginsAtMost g old new
+      → (g.honest new → AreSpelled older → g.seen mid ≡ spelled older → LeavesOnly g mid new (WasLeftOrBegun g z (IsLeft z images older) mid older)) → BeginsAtMost g z images old new
   read_first old mid new older falls reads are same crash run rest h =
       let read = reads (falls h) in
-      joined g old mid new (λ c. g.may_leave old c ⊎ IsBegunOn (g.seen old) c)
-      (weaker g old mid (g.may_leave old) (λ c. g.may_leave old c ⊎ IsBegunOn (g.seen old) c) run (λ c was. inl was))
-      (weaker g mid new (WasLeftOrBegun g mid older) (λ c. g.may_leave old c ⊎ IsBegunOn (g.seen old) c) (rest h are (same ∙ read))
+      joined g old mid new (λ c. g.may_leave old c ⊎ IsBegunOn z images (g.seen old) c)
+      (weaker g old mid (g.may_leave old) (λ c. g.may_leave old c ⊎ IsBegunOn z images (g.seen old) c) run (λ c was. inl was))
+      (weaker g mid new (WasLeftOrBegun g z (IsLeft z images older) mid older) (λ c. g.may_leave old c ⊎ IsBegunOn z images (g.seen old) c) (rest h are (same ∙ read))
       (λ c. ⊎_elim (λ was. inl (crash c was)) (λ is. inr (record { older = older; reads = read; begun = is }))))
 
 pub if_err_both : {T E : Type 0} {A B C : E → Type 0} (r : Result T E) → ((x : E) → A x → B x → C x) → IfErr r A → IfErr r B → IfErr r C

@@ -99,14 +99,14 @@ not_damaged g older rs old new (why.Damaged (damage.Record lsn)) r k h told = no
 not_damaged g older rs old new (why.Damaged (damage.Page page)) r k h told = absurd h
 not_damaged g older rs old new _ r k h told = absurd told
 
-stopped_shut : {L : Type 0} (g : Ghosts L) (left : Type 0) (older rs : List Record) (old new : L) (e : Refusal) → IsReadAs g old new older → AreSpelled rs → StopsFor g e rs old new → MayBeShut left older e (g.faults old) (g.faults new)
-stopped_shut g left older rs old new why.NoMemory r k h = h
-stopped_shut g left older rs old new why.DiskRead r k h = h
-stopped_shut g left older rs old new (why.Damaged d) r k h = absurd (not_damaged g older rs old new (why.Damaged d) r k h tt)
-stopped_shut g left older rs old new _ r k h = absurd h
+stopped_shut : {L : Type 0} (g : Ghosts L) (left : Type 0) (z : Sizes) (older rs : List Record) (old new : L) (e : Refusal) → IsReadAs g old new older → AreSpelled rs → StopsFor g e rs old new → MayBeShut left z older e (g.faults old) (g.faults new)
+stopped_shut g left z older rs old new why.NoMemory r k h = h
+stopped_shut g left z older rs old new why.DiskRead r k h = h
+stopped_shut g left z older rs old new (why.Damaged d) r k h = absurd (not_damaged g older rs old new (why.Damaged d) r k h tt)
+stopped_shut g left z older rs old new _ r k h = absurd h
 
 -- why the log was not read is why the store stays shut
-pub scan_shut : {L : Type 0} (g : Ghosts L) (left : Type 0) (older rs : List Record) (old new : L) (e told : Refusal) (z : Sizes) (first : Paged) → IsReadAs g old new older → AreSpelled rs → StopsFor g e rs old new → IsFirstFault z rs first e told
-    → MayBeShut left older told (g.faults old) (g.faults new)
-scan_shut g left older rs old new e told z first r k h (inl same) = subst (λ x. MayBeShut left older x (g.faults old) (g.faults new)) (sym same.0) (stopped_shut g left older rs old new e r k h)
-scan_shut g left older rs old new e told z first r k h (inr damaged) = absurd (not_damaged g older rs old new e r k h damaged.0)
+pub scan_shut : {L : Type 0} (g : Ghosts L) (left : Type 0) (z : Sizes) (older rs : List Record) (old new : L) (e told : Refusal) (first : Paged) → IsReadAs g old new older → AreSpelled rs → StopsFor g e rs old new → IsFirstFault z rs first e told
+    → MayBeShut left z older told (g.faults old) (g.faults new)
+scan_shut g left z older rs old new e told first r k h (inl same) = subst (λ x. MayBeShut left z older x (g.faults old) (g.faults new)) (sym same.0) (stopped_shut g left z older rs old new e r k h)
+scan_shut g left z older rs old new e told first r k h (inr damaged) = absurd (not_damaged g older rs old new e r k h damaged.0)

@@ -1,11 +1,10 @@
 -- What a restart makes of a store that was left as a crash may leave one.
-use Rattle.std.proofs.Common.{◌≡◌, ℕ, ◌+◌, ◌<◌, ◌≤◌, List, [], ◌∷◌, length, reverse, false, sym, ◌∙◌, ap, subst, inl, inr, arith, ◌^◌, Bool, replicate, Result, Ok, Err, OnOk, IfOk, IfErr}
+use Rattle.std.proofs.Common.{◌≡◌, ℕ, ◌+◌, ◌<◌, ◌≤◌, List, ◌∷◌, length, reverse, false, sym, ◌∙◌, ap, subst, inl, inr, ◌⊎◌, ⊎_elim, arith, ◌^◌, Bool, replicate}
 use Rattle.std.proofs.lemmas.List.{length-reverse}
 use Rattle.rq_model.specs.declared.record.Record.{Record}
 use Rattle.rq_model.specs.declared.refusal.Refusal.{Refusal}
 use Rattle.rq_model.specs.declared.refusal.Refusal.TheVariants as why
 use Rattle.rq_model.specs.declared.refusal.Damage.TheVariants as damage
-use Rattle.rq_model.specs.Unended.{lost}
 use Rattle.rq_page.specs.Sizes.{Sizes, page_count}
 use Rattle.rq_page.specs.Formatted.{IsFormatted, IsHeaderOf}
 use Rattle.rq_disk.specs.declared.device.PageDevice.{Ghosts}
@@ -14,75 +13,34 @@ use Rattle.rq_log.specs.Spelled.{spelled, AreSpelled}
 use Rattle.rq_pool.specs.Pooled.{Pooled}
 use Rattle.rq_pool.specs.Reading.{IsSuperblock, ArePages, AreSeen, OnlyRead}
 use Rattle.rq_log.specs.Logged.{Logged}
-use Rattle.rq_model.specs.Incarnations.{incarnation_of}
 use Rattle.rq_store.specs.Opening.{FitsUpTo, IsCounted, next_restart, IsLeft}
+use Rattle.rq_store.specs.Steps.{Continues}
 use Rattle.rq_store.specs.Fitting.{FitsPage, AllFit, image_in, oldest}
 use Rattle.rq_store.proofs.Fitting.{oldest_all}
 use Rattle.rq_store.proofs.Cutting.{all_fit_longer, no_more_fit}
 use Rattle.rq_store.proofs.Bounds.{fits_counted}
-use Rattle.rq_undone.specs.Analysis.{Analysis, analysis}
-use Rattle.rq_restart.specs.Restarting.{IsBegun, LogStops, IsRefusedFor, WasChecked}
+use Rattle.rq_log.proofs.Moments.{weaker}
+use Rattle.rq_restart.specs.Restarting.{BeginsAtMost, BeginsFrom, IsBegun, IsBegunFrom, IsBegunOn, LogStops, IsRefusedFor, WasChecked}
 use Rattle.rq_restart.specs.Refused.{StopsAt, WhyShut}
-use Rattle.rq_restart.specs.Checked.{IsEnded, IsGoneThrough, IsBeyond, IsUndoneOn, as_read}
+use Rattle.rq_restart.specs.declared.findings.Findings.{Findings}
+use Rattle.rq_restart.specs.Checked.{IsGoneThrough, IsBeyond, as_read}
+use Rattle.rq_restart.specs.Found.{AreFindings}
+use Rattle.rq_restart.specs.Mended.{IsMendedOn}
 use Rattle.rq_restart.specs.Repeating.{Paged, paged, Repeats, AreCounted, IsFirstBad, IsFirstUncounted}
-use Rattle.rq_undone.proofs.Noting.{noted_incarnation, noted_working}
-use Rattle.rq_restart.proofs.Begun.{begun_continues}
-
--- what follows from what an Ok says
-pub on_ok : {T E A B : Type 0} (r : Result T E) → (A → B) → OnOk r A → OnOk r B
-on_ok (Ok x) f h = f h
-on_ok (Err e) f h = h
-
-pub on_ok_both : {T E A B C : Type 0} (r : Result T E) → (A → B → C) → OnOk r A → OnOk r B → OnOk r C
-on_ok_both (Ok x) f h k = f h k
-on_ok_both (Err e) f h k = h
-
-pub if_ok : {T E : Type 0} {A B : T → Type 0} (r : Result T E) → ((x : T) → A x → B x) → IfOk r A → IfOk r B
-if_ok (Ok x) f h = f x h
-if_ok (Err e) f h = h
-
-pub if_ok_both : {T E : Type 0} {A B C : T → Type 0} (r : Result T E) → ((x : T) → A x → B x → C x) → IfOk r A → IfOk r B → IfOk r C
-if_ok_both (Ok x) f h k = f x h k
-if_ok_both (Err e) f h k = h
-
-pub if_ok_all : {T E : Type 0} {A B C D : T → Type 0} (r : Result T E) → ((x : T) → A x → B x → C x → D x) → IfOk r A → IfOk r B → IfOk r C → IfOk r D
-if_ok_all (Ok x) f h k l = f x h k l
-if_ok_all (Err e) f h k l = h
-
-pub if_ok_with : {T E B : Type 0} {A C : T → Type 0} (r : Result T E) → ((x : T) → A x → B → C x) → IfOk r A → OnOk r B → IfOk r C
-if_ok_with (Ok x) f h k = f x h k
-if_ok_with (Err e) f h k = h
+use Rattle.rq_restart.proofs.Begun.{mended_continues, one_continues}
 
 pub one_more : {r : Record} {log older : List Record} (n : ℕ) → n ≡ length log → log ≡ r ∷ older → n ≡ length older + 1
 one_more {r} {log} {older} n e f = let g : length log ≡ length (r ∷ older) = ap length f in omega (arith, e, g)
 
-pub if_err : {T E : Type 0} {A B : E → Type 0} (r : Result T E) → ((x : E) → A x → B x) → IfErr r A → IfErr r B
-if_err (Ok x) f h = h
-if_err (Err e) f h = f e h
-
-module _ (older : List Record) (xs : List Record) (same : older ≡ reverse xs) (h : Analysis) (k : h ≡ analysis (reverse xs)) where
-  pub noted_is : h ≡ analysis older
-  noted_is = k ∙ ap analysis (sym same)
-
-  pub last_is : (last : ℕ) → last ≡ h.incarnation → last ≡ incarnation_of older
-  last_is last e = e ∙ ap (λ (n : Analysis). n.incarnation) noted_is ∙ noted_incarnation older
-
-  -- nothing is noted exactly where every transaction that did something has ended
-  pub ended_is : h.working ≡ [] → IsEnded older
-  ended_is none = ap (λ (n : Analysis). n.working) (sym noted_is) ∙ none
-
-  pub ended_not : (h.working ≡ [] → ⊥) → IsEnded older → ⊥
-  ended_not some none = some (ap (λ (n : Analysis). n.working) noted_is ∙ none)
-
-  pub settled_left : (z : Sizes) (image : ℕ → List ℕ) → IsLeft z image older → lost older ≡ [] → h.working ≡ []
-  settled_left z image left l = ap (λ (n : Analysis). n.working) noted_is ∙ noted_working z older left.whole.legal left.whole.reads ∙ l
+-- what is found of the records is found of the log
+pub found_is : (older xs : List Record) (f : Findings) → older ≡ reverse xs → AreFindings f (reverse xs) → AreFindings f older
+found_is older xs f same are = subst (AreFindings f) (sym same) are
 
 -- of a device that was left alone, what follows from that
 pub shut_by : {U V : Type 0} (z : Sizes) (log : List Record) (first : Paged) (e : Refusal) (before now : ℕ) → (U → V) → WhyShut z log first e before now U → WhyShut z log first e before now V
 shut_by z log first why.NoMemory before now f h = (h.0, f h.1)
-shut_by z log first why.LogFull before now f h = (h.0, h.1, h.2, f h.3)
+shut_by z log first why.LogFull before now f h = (h.0, h.1, f h.2)
 shut_by z log first why.DiskWrite before now f h = h
-shut_by z log first why.Unfinished before now f h = (h.0, h.1, f h.2)
 shut_by z log first (why.Damaged (damage.Record lsn)) before now f h = (h.0, f h.1)
 shut_by z log first (why.Damaged (damage.Page page)) before now f h = (h.0, f h.1)
 shut_by z log first _ before now f h = absurd h
@@ -94,7 +52,7 @@ module _ {P L : Type 0} (p : Ghosts P) (l : log_device.Ghosts L) (pages : P) (lo
   first_is = ap (λ (f : List Bool). record { image = image_in loaded.images; changed = f }) unchanged
 
   pub was_checked : (now : Pooled P) (records : List Record) (new : L) → now.sizes ≡ loaded.sizes → now.device ≡ loaded.device
-      → ((older : List Record) × AreSpelled older × (l.honest new → l.seen log ≡ spelled older) × IsEnded older × (undone : List Record) × IsUndoneOn loaded.sizes older undone (paged loaded) (paged now) × (records ≡ next_restart undone ∷ undone) × (length undone < 2 ^ 50))
+      → ((older : List Record) × AreSpelled older × (l.honest new → l.seen log ≡ spelled older) × (mended : List Record) × IsMendedOn loaded.sizes older mended (paged loaded) (paged now) × (records ≡ next_restart mended ∷ mended) × (length mended < 2 ^ 50))
       → WasChecked p l pages log now.sizes (paged now) records now.device new
   was_checked now records new same device h =
       subst (λ d. WasChecked p l pages log now.sizes (paged now) records d new) (sym device)
@@ -105,11 +63,10 @@ module _ {P L : Type 0} (p : Ghosts P) (l : log_device.Ghosts L) (pages : P) (lo
         older = h.0;
         are_spelled = h.1;
         reads = h.2;
-        ended = h.3;
-        undone = h.4;
-        undone_on = subst (λ first. IsUndoneOn loaded.sizes h.0 h.4 first (paged now)) first_is h.5;
-        begun = h.6;
-        room = h.7;
+        mended = h.3;
+        mended_on = subst (λ first. IsMendedOn loaded.sizes h.0 h.3 first (paged now)) first_is h.4;
+        begun = h.5;
+        room = h.6;
       }))
 
   pub was_refused : (e : Refusal) (new_pages : P) (new_log : L) → new_pages ≡ loaded.device → p.faults loaded.device ≡ p.faults pages → LogStops l loaded.sizes (paged loaded) e log new_log → IsRefusedFor p l pages log e new_pages new_log
@@ -122,6 +79,17 @@ module _ {P L : Type 0} (p : Ghosts P) (l : log_device.Ghosts L) (pages : P) (lo
         ap p.faults device ∙ cause,
         subst (λ first. LogStops l loaded.sizes first e log new_log) first_is h,
       )
+
+  -- what a crash leaves of the log, beside the pages that were read
+  pub begins_from : (new_pages : P) (new_log : L) → new_pages ≡ loaded.device → BeginsAtMost l loaded.sizes (image_in loaded.images) log new_log → BeginsFrom p l pages log new_pages new_log
+  begins_from new_pages new_log device begins h =
+      weaker l log new_log (λ c. l.may_leave log c ⊎ IsBegunOn loaded.sizes (image_in loaded.images) (l.seen log) c) (λ c. l.may_leave log c ⊎ IsBegunFrom p l pages log new_pages c) (begins h)
+      (λ c. ⊎_elim (λ was. inl was) (λ on. inr (record {
+        sizes = loaded.sizes;
+        images = loaded.images;
+        were = record { sound = sound; seen = λ honest. seen (subst p.honest device honest) };
+        begun = on;
+      })))
 
 -- what going through a log as it was read said, said of the log
 module _ (z : Sizes) (older xs : List Record) (same : older ≡ reverse xs) (first : Paged) where
@@ -201,6 +169,7 @@ told_on z seen images are read = subst (λ b. IsSuperblock z b) (read 0 (omega a
 pub fit_begun : {P L : Type 0} (g : Ghosts P) (old new : P) (z : Sizes) (older : List Record) (log : Logged L)
     → IsBegun older log → OnlyRead g old new → AllFit (g.may_be old) z older → AllFit (g.may_be new) z (oldest log.forced log.records)
 fit_begun g old new z older log begun read f =
-    let now : List Record = next_restart begun.undone ∷ begun.undone in
+    let now : List Record = next_restart begun.mended ∷ begun.mended in
     let all : oldest log.forced log.records ≡ now = ap (λ n. oldest n log.records) begun.forced ∙ oldest_all log.records ∙ begun.records in
-    subst (λ l. AllFit (g.may_be new) z l) (sym all) (all_fit_longer (g.may_be new) z older now (begun_continues older begun.undone (next_restart begun.undone) begun.undoes.undoing) (no_more_fit (g.may_be old) (g.may_be new) z older read.crash f))
+    let goes : Continues older now = one_continues older begun.mended (next_restart begun.mended) (mended_continues older begun.mended begun.mends) in
+    subst (λ l. AllFit (g.may_be new) z l) (sym all) (all_fit_longer (g.may_be new) z older now goes (no_more_fit (g.may_be old) (g.may_be new) z older read.crash f))

@@ -23,7 +23,7 @@ use Rattle.rq_undone.proofs.Noting.{noted_incarnation}
 use Rattle.rq_undone.proofs.Undos.{undo_leaves_less, undoing_more, undoing_none}
 use Rattle.rq_restart.specs.Repeating.{AreCounted, Belongs, IsRepeated, Marks, Paged, Repeats}
 use Rattle.rq_restart.specs.Undoing.{StepStops, UndoStops}
-use Rattle.rq_restart.proofs.Begun.{counted_more}
+use Rattle.rq_restart.proofs.Repeated.{counted_more}
 
 -- what a log's records say is in range, and so is what is noted of them
 abbrev IsOpInRange : Sub → Type 0

@@ -6,7 +6,7 @@ use Rattle.rq_model.specs.declared.record.Record.TheVariants as records
 use Rattle.rq_disk.specs.Device.{Images, Only}
 use Rattle.rq_disk.specs.declared.device.LogDevice as log_device
 use Rattle.rq_disk.specs.declared.device.PageDevice as page_device
-use Rattle.rq_page.specs.Sizes.{Sizes}
+use Rattle.rq_page.specs.Sizes.{Sizes, IsInRange}
 use Rattle.rq_page.specs.Pages.{lsn_of, slot_of}
 use Rattle.rq_record.specs.Spelling.{spelling}
 use Rattle.rq_record.proofs.Whole.{long_spelling}
@@ -48,8 +48,8 @@ not_before z first last t n page slot before after older other r =
 whole_empty : (z : Sizes) → IsWhole z []
 whole_empty z = record { legal = tt; told = tt; rules = tt; reads = tt; in_store = tt; befores = tt; order = tt; room = tt; numbers = tt }
 
-formatted_store : {P L : Type 0} (p : page_device.Ghosts P) (l : log_device.Ghosts L) (z : Sizes) (pages : P) (log : L) → AllFit (p.may_be pages) z [] → Only [] (l.may_leave log) → EachPair p l pages log (IsSomeStore z)
-formatted_store p l z pages log fit only images bytes a b = ([], record { are_spelled = tt; is = only bytes b; left = record { whole = whole_empty z; fits = fits_log (p.may_be pages) z [] images fit a } })
+formatted_store : {P L : Type 0} (p : page_device.Ghosts P) (l : log_device.Ghosts L) (z : Sizes) (pages : P) (log : L) → IsInRange z → AllFit (p.may_be pages) z [] → Only [] (l.may_leave log) → EachPair p l pages log (IsSomeStore z)
+formatted_store p l z pages log range fit only images bytes a b = ([], record { range = range; are_spelled = tt; is = only bytes b; left = record { whole = whole_empty z; fits = fits_log (p.may_be pages) z [] images fit a } })
 
 -- a log of one byte is none
 no_store : (z : Sizes) (images : Images) → IsSomeStore z images (0 ∷ []) → ⊥

@@ -1,11 +1,9 @@
 -- What a restart checked of the pages and the log.
-use Rattle.std.specs.Prelude.{◌≡◌, ◌⊎◌, ℕ, false, List, [], ◌∷◌, length, replicate}
+use Rattle.std.specs.Prelude.{◌≡◌, ◌⊎◌, ℕ, false, List, [], length, replicate}
 use Rattle.rq_model.specs.declared.record.Record.{Record}
 use Rattle.rq_page.specs.Sizes.{Sizes, page_count}
 use Rattle.rq_store.specs.Fitting.{image_in}
-use Rattle.rq_store.specs.Opening.{next_restart}
 use Rattle.rq_undone.specs.Analysis.{analysis}
-use Rattle.rq_undone.specs.Pages.{IsUndone}
 use Rattle.rq_restart.specs.Repeating.{Paged, Repeats, AreCounted, IsFirstUncounted}
 
 -- every transaction in the log that finished an operation has its end
@@ -36,17 +34,3 @@ WasRepeated z log first = (last : Paged) × Repeats z log first last
 -- the pages as they were read, none of which counts as changed
 abbrev pub as_read : Sizes → List (List ℕ) → Paged
 as_read z images = record { image = image_in images; changed = replicate (page_count z) false }
-
--- Then what had no end in the log was undone by records behind it, which were repeated on the pages too.
-pub record IsUndoneOn (z : Sizes) (log undone : List Record) (first last : Paged) : Type 0 where
-  pub gone_through : WasGoneThrough z log first
-  pub undoes : IsUndone log undone
-  pub repeated : Repeats z undone first last
-
--- From pages that history was repeated on: behind the log stand the records that undo what has no end in it, and the one
--- that begins the next incarnation, and the first of these were repeated on the pages too.
-pub record HasRepeated (z : Sizes) (log now : List Record) (old new : Paged) : Type 0 where
-  pub undone : List Record
-  pub undoes : IsUndone log undone
-  pub begun : now ≡ next_restart undone ∷ undone
-  pub repeated : (first : Paged) → Repeats z log first old → Repeats z undone first new

@@ -7,3 +7,6 @@ pub mod Once
 pub mod Checked
 pub mod Refused
 pub mod Undoing
+pub mod Found
+pub mod Aborting
+pub mod Mended

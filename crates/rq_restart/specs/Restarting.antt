@@ -1,5 +1,5 @@
 -- What a restart finds.
-use Rattle.std.specs.Prelude.{◌≡◌, ◌⊎◌, ℕ, ◌+◌, ◌%◌, ◌^◌, ◌<◌, ◌≤◌, false, List, [], ◌∷◌, drop, length}
+use Rattle.std.specs.Prelude.{◌≡◌, ◌⊎◌, ℕ, ◌+◌, ◌%◌, ◌^◌, ◌<◌, ◌≤◌, false, List, ◌∷◌, drop, length}
 use Rattle.rq_model.specs.declared.record.Record.{Record}
 use Rattle.rq_model.specs.declared.refusal.Refusal.{Refusal}
 use Rattle.rq_model.specs.declared.refusal.Refusal.TheVariants as why
@@ -8,7 +8,7 @@ use Rattle.rq_groups.specs.Waiting.{waits}
 use Rattle.rq_page.specs.Sizes.{Sizes, page_count, sender_count}
 use Rattle.rq_model.specs.Incarnations.{incarnation_of}
 use Rattle.rq_model.specs.Unended.{unfinished, lost}
-use Rattle.rq_disk.specs.Device.{Only}
+use Rattle.rq_disk.specs.Device.{Images, Only}
 use Rattle.rq_disk.specs.declared.device.LogDevice as log_device
 use Rattle.rq_disk.specs.declared.device.PageDevice as page_device
 use Rattle.rq_pool.specs.Reading as pages_read
@@ -20,43 +20,42 @@ use Rattle.rq_log.specs.Spelled.{spelled, AreSpelled, GoesOn}
 use Rattle.rq_store.specs.Opening.{IsLeft, next_restart, opened, sent_in_slots, waiting_in}
 use Rattle.rq_store.specs.State.{State}
 use Rattle.rq_store.specs.Whole.{IsWhole}
-use Rattle.rq_undone.specs.Pages.{IsUndone}
-use Rattle.rq_restart.specs.Undoing.{IsAtBound}
+use Rattle.rq_store.specs.Fitting.{image_in}
+use Rattle.rq_lost.specs.Recovered.{IsRecovered}
+use Rattle.rq_restart.specs.Mended.{IsAtBound, IsMended, IsMendedOn}
 use Rattle.rq_restart.specs.Repeating.{Paged}
-use Rattle.rq_restart.specs.Checked.{IsEnded, IsUndoneOn, as_read}
+use Rattle.rq_restart.specs.Checked.{as_read}
 use Rattle.rq_restart.specs.Refused.{WhyShut, IsFirstFault}
 
--- Behind the log that was read stand the records by which operations without an end are undone, and then one that begins
--- the incarnation after the last. All are forced.
+-- Behind the log that was read stand the records by which what has no end is undone, and then one that begins the
+-- incarnation after the last. All are forced.
 pub record IsBegun {L : Type 0} (older : List Record) (log : Logged L) : Type 0 where
-  pub undone : List Record
-  pub undoes : IsUndone older undone
-  pub records : log.records ≡ next_restart undone ∷ undone
+  pub mended : List Record
+  pub mends : IsMended older mended
+  pub records : log.records ≡ next_restart mended ∷ mended
   pub forced : log.forced ≡ length log.records
   pub running : log.failed ≡ false
 
--- What was opened: over the log that was read with the records behind by which operations without an end are undone.
+-- what was opened: over the log that was read with the records behind by which what has no end is undone
 abbrev pub IsOpenedOver : List Record → State → Type 0
-IsOpenedOver older s = IsUndone older (drop 1 s.records) × (s ≡ opened s.sizes s.images (drop 1 s.records))
+IsOpenedOver older s = IsMended older (drop 1 s.records) × (s ≡ opened s.sizes s.images (drop 1 s.records))
 
--- What is reported: the next incarnation, how many records are in the log, of a whole log how many operations were
--- unfinished in it, and that no transaction was lost.
+-- What is reported: the next incarnation, how many records are in the log, and of a whole log how many operations were
+-- unfinished in it, and how many transactions lost.
 pub record Reports (z : Sizes) (older records : List Record) (incarnation count undone gone : ℕ) : Type 0 where
   pub incarnation_is : incarnation ≡ incarnation_of older + 1
   pub records_are : count ≡ length records
   pub unfinished_are : IsWhole z older → undone ≡ length (unfinished older)
-  pub lost_are : gone ≡ 0
-  pub none_lost : IsWhole z older → lost older ≡ []
+  pub lost_are : IsWhole z older → gone ≡ length (lost older)
 
 -- why a restart was refused, with the failures of the pages' device before and after it, and those of the log's
-abbrev pub Stops : Type 0 → List Record → Refusal → ℕ → ℕ → ℕ → ℕ → Type 0
-Stops left log why.NoMemory before now old new = Unit {0}
-Stops left log why.DiskRead before now old new = (now ≡ (before + 1) % 2 ^ 64) ⊎ (new ≡ (old + 1) % 2 ^ 64)
-Stops left log why.DiskWrite before now old new = new ≡ (old + 1) % 2 ^ 64
-Stops left log why.LogFull before now old new = left → IsAtBound log
-Stops left log why.Unfinished before now old new = left → lost log ≡ [] → ⊥
-Stops left log (why.Damaged d) before now old new = left → ⊥
-Stops left log _ before now old new = ⊥
+abbrev pub Stops : Type 0 → Sizes → List Record → Refusal → ℕ → ℕ → ℕ → ℕ → Type 0
+Stops left z log why.NoMemory before now old new = Unit {0}
+Stops left z log why.DiskRead before now old new = (now ≡ (before + 1) % 2 ^ 64) ⊎ (new ≡ (old + 1) % 2 ^ 64)
+Stops left z log why.DiskWrite before now old new = new ≡ (old + 1) % 2 ^ 64
+Stops left z log why.LogFull before now old new = left → IsAtBound z log
+Stops left z log (why.Damaged d) before now old new = left → ⊥
+Stops left z log _ before now old new = ⊥
 
 -- an honest device held these records as it was read
 pub record IsReadAs {L : Type 0} (g : log_device.Ghosts L) (old new : L) (older : List Record) : Type 0 where
@@ -90,37 +89,38 @@ pub record AreTold (z : Sizes) (images : List (List ℕ)) (count : ℕ) (waiting
   pub tags : length sent.tags ≡ sender_count z
   pub few_sent : (g : ℕ) → sent_count sent g ≤ count
 
--- Bytes of a log with the first of the records behind it by which operations without an end are undone and the next
--- incarnation is begun.
-pub record IsBegunBehind (older : List Record) (bytes : List ℕ) : Type 0 where
-  pub undone : List Record
-  pub undoes : IsUndone older undone
-  pub are_spelled : AreSpelled (next_restart undone ∷ undone)
-  pub ended : IsEnded older
+-- Bytes of a log with the first of the records behind it by which what has no end is undone and the next incarnation is
+-- begun; of a store that was left so, these recover the log.
+pub record IsBegunBehind (z : Sizes) (left : Type 0) (older : List Record) (bytes : List ℕ) : Type 0 where
+  pub mended : List Record
+  pub mends : IsMended older mended
+  pub recovered : left → IsRecovered z older mended
+  pub are_spelled : AreSpelled (next_restart mended ∷ mended)
   -- so many of the newest lack
   pub lacks : ℕ
-  pub some : lacks + length older ≤ length undone + 1
-  pub is : bytes ≡ spelled (drop lacks (next_restart undone ∷ undone))
+  pub some : lacks + length older ≤ length mended + 1
+  pub is : bytes ≡ spelled (drop lacks (next_restart mended ∷ mended))
 
--- those of the log that was read
-pub record IsBegunOn (read bytes : List ℕ) : Type 0 where
+-- those of the log that was read, beside these pages
+pub record IsBegunOn (z : Sizes) (images : Images) (read bytes : List ℕ) : Type 0 where
   pub older : List Record
   pub reads : read ≡ spelled older
-  pub begun : IsBegunBehind older bytes
+  pub begun : IsBegunBehind z (IsLeft z images older) older bytes
 
 module _ {L : Type 0} (g : log_device.Ghosts L) where
   -- a crash might have left it of the log before, or it is what was read with the first of the records behind
-  abbrev pub WasLeftOrBegun : L → List Record → List ℕ → Type 0
-  WasLeftOrBegun old older c = g.may_leave old c ⊎ IsBegunBehind older c
+  abbrev pub WasLeftOrBegun : Sizes → Type 0 → L → List Record → List ℕ → Type 0
+  WasLeftOrBegun z left old older c = g.may_leave old c ⊎ IsBegunBehind z left older c
 
   -- the same of these records, of which so many were forced
   abbrev pub WasLeftOrForced : L → List Record → ℕ → List ℕ → Type 0
   WasLeftOrForced old records kept c = g.may_leave old c ⊎ (AreSpelled records × GoesOn records kept (g.seen old) c)
 
-  -- whatever a crash at any moment leaves of the log: what it might have left before, or what was read with the first of
-  -- the records behind
-  abbrev pub BeginsAtMost : L → L → Type 0
-  BeginsAtMost old new = g.honest new → LeavesOnly g old new (λ c. g.may_leave old c ⊎ IsBegunOn (g.seen old) c)
+  -- whatever a crash at any moment leaves of the log beside these pages: what it might have left before, or what was read
+  -- with the first of the records behind
+  abbrev pub BeginsAtMost : Sizes → Images → L → L → Type 0
+  BeginsAtMost z images old new =
+      g.honest new → LeavesOnly g old new (λ c. g.may_leave old c ⊎ IsBegunOn z images (g.seen old) c)
 
   -- the device of a log was only read
   pub record IsRead (old new : L) : Type 0 where
@@ -146,6 +146,23 @@ module _ {P L : Type 0} (p : page_device.Ghosts P) (l : log_device.Ghosts L) (pa
       × (p.honest new_pages → AreSeen (p.seen pages) images (page_count z)) × (p.faults new_pages ≡ p.faults pages)
       × LogStops l z (as_read z images) e log new_log)
 
+  -- the pages were read, and are those of a store of these sizes
+  pub record WereRead (new_pages : P) (z : Sizes) (images : List (List ℕ)) : Type 0 where
+    pub sound : ArePages z images
+    pub seen : p.honest new_pages → AreSeen (p.seen pages) images (page_count z)
+
+  -- bytes of the log that was read with the first of the records behind, beside the pages that were read
+  pub record IsBegunFrom (new_pages : P) (bytes : List ℕ) : Type 0 where
+    pub sizes : Sizes
+    pub images : List (List ℕ)
+    pub were : WereRead new_pages sizes images
+    pub begun : IsBegunOn sizes (image_in images) (l.seen log) bytes
+
+  -- whatever a crash at any moment leaves of the log: what it might have left before, or such bytes
+  abbrev pub BeginsFrom : P → L → Type 0
+  BeginsFrom new_pages new_log =
+      l.honest new_log → LeavesOnly l log new_log (λ c. l.may_leave log c ⊎ IsBegunFrom new_pages c)
+
   -- what was checked where it was not: every page as it was read, the log, each record of it and each before-image, and
   -- the pages that history was repeated on, with the records that undo
   pub record WasChecked (z : Sizes) (last : Paged) (records : List Record) (new_pages : P) (new_log : L) : Type 0 where
@@ -155,8 +172,7 @@ module _ {P L : Type 0} (p : page_device.Ghosts P) (l : log_device.Ghosts L) (pa
     pub older : List Record
     pub are_spelled : AreSpelled older
     pub reads : l.honest new_log → l.seen log ≡ spelled older
-    pub ended : IsEnded older
-    pub undone : List Record
-    pub undone_on : IsUndoneOn z older undone (as_read z images) last
-    pub begun : records ≡ next_restart undone ∷ undone
-    pub room : length undone < 2 ^ 50
+    pub mended : List Record
+    pub mended_on : IsMendedOn z older mended (as_read z images) last
+    pub begun : records ≡ next_restart mended ∷ mended
+    pub room : length mended < 2 ^ 50

@@ -7,7 +7,7 @@ use Rattle.rq_disk.specs.Device.{Images}
 use Rattle.rq_disk.specs.declared.device.LogDevice as log_device
 use Rattle.rq_disk.specs.declared.device.PageDevice as page_device
 use Rattle.rq_log.specs.Spelled.{spelled, AreSpelled}
-use Rattle.rq_page.specs.Sizes.{Sizes}
+use Rattle.rq_page.specs.Sizes.{Sizes, IsInRange}
 use Rattle.rq_store.specs.Opening.{IsLeft}
 use Rattle.rq_engine.specs.Opened.{OpenStore}
 use Rattle.rq_engine.specs.Devices.{EachPair}
@@ -16,6 +16,7 @@ use Rattle.rq_restart.specs.declared.restart.Stopped.{Stopped}
 
 -- these are the pages and the log of a store: a legal log of this spelling, and pages that fit it
 pub record IsStore (z : Sizes) (log : List Record) (images : Images) (bytes : List ℕ) : Type 0 where
+  pub range : IsInRange z
   pub are_spelled : AreSpelled log
   pub is : bytes ≡ spelled log
   pub left : IsLeft z images log
@@ -29,10 +30,10 @@ IsLeftOrGoesOn l log z read images bytes = (now : List Record) × IsStore z now 
     × (l.may_leave log bytes ⊎ Extends read now)
 
 -- where each pair that a crash might have left before is a store, and this was read of the log, then so says Q
-abbrev pub OfStores : {P L : Type 0} → page_device.Ghosts P → log_device.Ghosts L → P → L → L
+abbrev pub OfStores : {P L : Type 0} → page_device.Ghosts P → log_device.Ghosts L → P → L → P → L
     → (Sizes → List Record → Type 0) → Type 0
-OfStores p l pages log new_log Q =
-    l.honest new_log → (z : Sizes) (read : List Record) → AreSpelled read → l.seen log ≡ spelled read
+OfStores p l pages log new_pages new_log Q =
+    p.honest new_pages → l.honest new_log → (z : Sizes) (read : List Record) → AreSpelled read → l.seen log ≡ spelled read
     → EachPair p l pages log (IsSomeStore z) → Q z read
 
 -- both devices as a restart leaves them

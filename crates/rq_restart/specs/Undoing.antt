@@ -9,8 +9,8 @@ use Rattle.rq_undone.specs.Analysis.{analysis}
 use Rattle.rq_undone.specs.Pages.{IsNextUndo, IsUndoing}
 use Rattle.rq_restart.specs.Repeating.{Paged, Belongs, Repeats}
 
--- the log, with the records behind that undo some of it, is at its greatest length
-pub record IsAtBound (log : List Record) : Type 0 where
+-- the log, with the records behind that undo operations of it, is at its greatest length
+pub record IsFullUndo (log : List Record) : Type 0 where
   pub undone : List Record
   pub undoing : IsUndoing log undone
   pub full : 2 ^ 50 ≤ length undone
@@ -29,7 +29,7 @@ pub record IsBadUndo (z : Sizes) (log : List Record) (first : Paged) (lsn : ℕ)
 -- why the operations of a log that have no end were not undone, once history was repeated
 abbrev pub UndoStops : Sizes → List Record → Paged → Refusal → Type 0
 UndoStops z log first why.NoMemory = Unit {0}
-UndoStops z log first why.LogFull = IsAtBound log
+UndoStops z log first why.LogFull = IsFullUndo log
 UndoStops z log first (why.Damaged (damage.Record lsn)) = IsBadUndo z log first lsn
 UndoStops z log first _ = ⊥
 

@@ -1,6 +1,9 @@
 //! Opening a store: going through its log. And formatting a new one.
 #![tactic(auto)]
 
+mod aborting;
+mod appending;
+mod findings;
 pub mod format;
 pub mod laws;
 mod redo;

@@ -1,15 +1,16 @@
 //! Going through a log: each slot write that is not on its page yet is made there.
-ghost use Rattle.std.specs.Prelude.{◌≡◌, ◌↔◌, ◌≤◌, ◌<◌, ◌+◌, ℕ, List, IsTrue, false, IfOk, IfErr, IfSome, IfNone, OnOk, length, reverse};
+ghost use Rattle.std.specs.Prelude.{◌≡◌, ◌↔◌, ◌≤◌, ◌<◌, ◌+◌, ℕ, List, IsTrue, None, false, IfOk, IfErr, IfSome, IfNone, OnOk, length, reverse};
 ghost use Rattle.rq_page.specs.Sizes.{page_count};
 ghost use Rattle.rq_page.specs.Pages.{lsn_of, slot_of};
 ghost use Rattle.rq_page.specs.Slots.{IsSlotOf};
 ghost use Rattle.rq_pool.specs.Pooled.{IsPool};
 ghost use Rattle.rq_store.specs.Opening.{IsRedone, Redoes, IsSoundTold, MayRedo, FitsUpTo, IsCounted, IsLeft};
 ghost use Rattle.rq_store.specs.Fitting.{ToldWrite, told_by, image_in};
-ghost use Rattle.rq_undone.specs.Analysis.{analysis};
+ghost use Rattle.rq_restart.specs.Found.{AreFindings};
 ghost use Rattle.rq_restart.specs.Repeating.{paged, Repeats, Marks, IsMarked};
 ghost use Rattle.rq_restart.specs.Refused.{StopsIn, StopsAt, IsFirstFault};
 
+use crate::findings::Findings;
 use rq_disk::PageDevice;
 use rq_model::record::{Record, Slot};
 use rq_model::refusal::{Damage, Refusal};
@@ -18,7 +19,6 @@ use rq_page::addr::Addr;
 use rq_page::layout::{Layout, SLOTS};
 use rq_page::page::Page;
 use rq_pool::Pages;
-use rq_undone::History;
 use std::alloc::Global;
 
 /// The first page whose LSN, or a number in whose slots, is greater than the number of records.
@@ -63,8 +63,8 @@ pub(crate) fn repeat_history<P: PageDevice + Drop>(
     alloc: Global,
     pages: &mut Pages<P>,
     records: &[Record],
-) -> Result<History, Refusal>
-    ensures ok { IfOk result (λ history. history ≡ analysis (reverse records.now)) }
+) -> Result<Findings, Refusal>
+    ensures ok { IfOk result (λ findings. AreFindings findings (reverse records.now)) }
     ensures repeated { OnOk result (Repeats pages.old.sizes (reverse records.now) (paged pages.old) (paged pages.new)) }
     ensures redone { OnOk result (IsLeft pages.old.sizes (image_in pages.old.images) (reverse records.now)
         → FitsUpTo pages.old.sizes (image_in pages.new.images) (reverse records.now) (length records.now)) }
@@ -74,16 +74,16 @@ pub(crate) fn repeat_history<P: PageDevice + Drop>(
     ensures sizes { pages.new.sizes ≡ pages.old.sizes }
     ensures device { pages.new.device ≡ pages.old.device }
 {
-    let mut history = History::new(alloc);
+    let mut findings = Findings::new(alloc);
     for index in 0..records.len() {
         let record = &records[index];
         let lsn = index as u64 + 1;
-        let is_next = history.note(lsn, record)?;
+        let is_next = findings.note(lsn, record)?;
         if !is_next || !repeat(pages, lsn, record) {
             return Err(Refusal::Damaged(Damage::Record(lsn)));
         }
     }
-    Ok(history)
+    Ok(findings)
 }
 
 /// Why a store stays shut over a log whose reading stopped behind these records: the first of them that doesn't
@@ -111,6 +111,7 @@ pub(crate) fn repeat<P: PageDevice + Drop>(pages: &mut Pages<P>, lsn: Lsn, recor
     ensures redone { IsTrue result → Redoes (told_by «record».now) lsn (image_in pages.old.images)
         (image_in pages.new.images) }
     ensures marked { IsTrue result → Marks (told_by «record».now) lsn (paged pages.old) pages.new.changed }
+    ensures same { told_by «record».now ≡ None → pages.new ≡ pages.old }
     ensures checked { IsTrue result → MayRedo pages.old.sizes (image_in pages.old.images) lsn «record».now }
     ensures refused { result ≡ false → MayRedo pages.old.sizes (image_in pages.old.images) lsn «record».now → ⊥ }
     ensures sizes { pages.new.sizes ≡ pages.old.sizes }

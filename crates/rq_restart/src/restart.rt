@@ -20,13 +20,16 @@ ghost use Rattle.rq_store.specs.Fitting.{AllFit, image_in};
 ghost use Rattle.rq_engine.specs.Crash.{AreFit};
 ghost use Rattle.rq_engine.specs.Opened.{pooled};
 ghost use Rattle.rq_restart.specs.Repeating.{AreCounted, Paged, Repeats, paged};
-ghost use Rattle.rq_undone.specs.Analysis.{analysis};
-ghost use Rattle.rq_restart.specs.Restarting.{IsReadAs, IsLeftOn, IsReady, AreTold, IsBegun, IsOpenedOver, Reports, Stops, WasLeftOrBegun, WasLeftOrForced, BeginsAtMost, LogStops, IsRefusedFor, WasChecked};
+ghost use Rattle.rq_lost.specs.Recovered.{IsRecovered};
+ghost use Rattle.rq_restart.specs.Restarting.{IsReadAs, IsLeftOn, IsReady, AreTold, IsBegun, IsOpenedOver, Reports, Stops, WasLeftOrBegun, WasLeftOrForced, BeginsAtMost, BeginsFrom, LogStops, IsRefusedFor, WasChecked};
 ghost use Rattle.rq_restart.specs.Refused.{BeginsNot, MayBeShut, WhyNotBegun, WhyShut};
-ghost use Rattle.rq_restart.specs.Checked.{HasRepeated, IsEnded, IsUndoneOn};
+ghost use Rattle.rq_restart.specs.Found.{AreFindings};
+ghost use Rattle.rq_restart.specs.Mended.{HasRepeated, IsMended, IsMendedOn, MendStops};
 ghost use Rattle.rq_engine.specs.Devices.{Path, EachPair};
 ghost use Rattle.rq_restart.specs.Underway.{OfStores, IsLeftOrGoesOn, pages_left, log_left};
 
+use crate::aborting::abort_lost;
+use crate::findings::Findings;
 use crate::redo::{first_fault, miscounted_page, repeat_history};
 use crate::undoing::undo_unfinished;
 use crate::waiting::{Told, told_groups};
@@ -38,7 +41,6 @@ use rq_model::record::Record;
 use rq_model::refusal::{Damage, Refusal};
 use rq_pool::Pages;
 use rq_record::{shows_fits, spelled_len};
-use rq_undone::History;
 use std::alloc::Global;
 
 /// What a restart found and did.
@@ -48,7 +50,7 @@ pub struct Report {
     pub incarnation: u64,
     /// How many operations had no end, and are undone.
     pub unfinished: u64,
-    /// How many transactions had neither Commit nor AbortEnd, and are undone: so far 0, since such a log is refused.
+    /// How many transactions had finished an operation, and had neither Commit nor AbortEnd, and are undone.
     pub lost: u64,
     /// How many records are now in the log.
     pub records: u64,
@@ -75,12 +77,12 @@ pub struct Stopped<P, L> {
 }
 
 /// Opens a store: reads and checks its pages and its log, repeats history on the pages, undoes operations that have no
-/// end, and forces the records of that with the Restart record of a new incarnation.
+/// end by their slots and transactions that have none by inverses, and forces the records of that with the Restart record
+/// of a new incarnation.
 ///
 /// # Errors
 /// `NoMemory`; `DiskRead` or `DiskWrite` where a device fails, `Damaged` where a page or a record
-/// breaks the format, `Unfinished` where the log holds a transaction that finished an operation and has not
-/// ended, `LogFull` where there is no room for the records.
+/// breaks the format, `LogFull` where there is no room for the records.
 pub fn restart<P: PageDevice + Drop, L: LogDevice + Drop>(
     alloc: Global,
     pages: P,
@@ -94,6 +96,9 @@ pub fn restart<P: PageDevice + Drop, L: LogDevice + Drop>(
         → IsOpenedOver older o.0.state) }
     ensures sound { IfOk result (λ o. (older : List Record) → IsReadAs L.LogDevice log o.0.log older
         → IsLeftOn P.PageDevice o.0.state.sizes pages o.0.pages older → IsSound o.0.state) }
+    ensures recovered { IfOk result (λ o. (older : List Record) → IsReadAs L.LogDevice log o.0.log older
+        → IsLeftOn P.PageDevice o.0.state.sizes pages o.0.pages older
+        → IsRecovered o.0.state.sizes older (drop 1 o.0.state.records)) }
     ensures entry { IfOk result (λ o. (older : List Record) → IsReadAs L.LogDevice log o.0.log older →
         IsLeftOn P.PageDevice o.0.state.sizes pages o.0.pages older → (ledger : Ledger) →
         ledger.committed ≡ committed_of older → ledger_of o.0.state ≡ after (Restarted o.1.incarnation o.1.records)
@@ -105,11 +110,13 @@ pub fn restart<P: PageDevice + Drop, L: LogDevice + Drop>(
     ensures durable { IfOk result (λ o. L.honest o.0.log → Only (spelled o.0.state.records) (L.may_leave o.0.log)) }
     // What is left of both devices, and by a crash at any moment, on each answer.
     ensures pages { OnlyRead P.PageDevice pages (pages_left result) }
-    ensures any_moment { BeginsAtMost L.LogDevice log (log_left result) }
-    ensures path { OfStores P.PageDevice L.LogDevice pages log (log_left result) (λ z read.
+    ensures any_moment { BeginsFrom P.PageDevice L.LogDevice pages log (pages_left result) (log_left result) }
+    ensures path { OfStores P.PageDevice L.LogDevice pages log (pages_left result) (log_left result)
+        (λ z read.
         Path P.PageDevice L.LogDevice (IsLeftOrGoesOn L.LogDevice log z read) pages log (pages_left result)
         (log_left result)) }
-    ensures crash { OfStores P.PageDevice L.LogDevice pages log (log_left result) (λ z read.
+    ensures crash { OfStores P.PageDevice L.LogDevice pages log (pages_left result) (log_left result)
+        (λ z read.
         EachPair P.PageDevice L.LogDevice (pages_left result) (log_left result) (IsLeftOrGoesOn L.LogDevice log z
         read)) }
     // What was checked, or why it was refused.
@@ -124,7 +131,7 @@ pub fn restart<P: PageDevice + Drop, L: LogDevice + Drop>(
     ensures cause { IfOk result (λ o. (P.faults o.0.pages ≡ P.faults pages) × (L.faults o.0.log ≡ L.faults log)) }
     ensures err { IfErr result (λ stopped. (z : Sizes) → IsSuperblock z (P.seen pages 0) → (older : List Record)
         → IsReadAs L.LogDevice log stopped.log older → Stops
-        (IsLeftOn P.PageDevice z pages stopped.pages older) older stopped.refusal (P.faults pages)
+        (IsLeftOn P.PageDevice z pages stopped.pages older) z older stopped.refusal (P.faults pages)
         (P.faults stopped.pages) (L.faults log) (L.faults stopped.log)) }
 {
     reopen(alloc, pages, log)
@@ -152,8 +159,9 @@ fn reopen<P: PageDevice + Drop, L: LogDevice + Drop>(
     // What is left of both devices, on each answer.
     ensures pages { IfOk result (λ o. OnlyRead P.PageDevice pages o.0.pages) }
     ensures pages_back { IfErr result (λ stopped. OnlyRead P.PageDevice pages stopped.pages) }
-    ensures any_moment { IfOk result (λ o. BeginsAtMost L.LogDevice log o.0.log) }
-    ensures any_moment_back { IfErr result (λ stopped. BeginsAtMost L.LogDevice log stopped.log) }
+    ensures any_moment { IfOk result (λ o. BeginsFrom P.PageDevice L.LogDevice pages log o.0.pages o.0.log) }
+    ensures any_moment_back { IfErr result (λ stopped. BeginsFrom P.PageDevice L.LogDevice pages log stopped.pages
+        stopped.log) }
     // What was checked, or why it was refused.
     ensures checked { IfOk result (λ o. WasChecked P.PageDevice L.LogDevice pages log o.0.state.sizes
         (paged (pooled o.0)) o.0.state.records o.0.pages o.0.log) }
@@ -165,7 +173,7 @@ fn reopen<P: PageDevice + Drop, L: LogDevice + Drop>(
     ensures cause { IfOk result (λ o. (P.faults o.0.pages ≡ P.faults pages) × (L.faults o.0.log ≡ L.faults log)) }
     ensures err { IfErr result (λ stopped. (z : Sizes) → IsSuperblock z (P.seen pages 0) → (older : List Record)
         → IsReadAs L.LogDevice log stopped.log older → Stops
-        (IsLeftOn P.PageDevice z pages stopped.pages older) older stopped.refusal (P.faults pages)
+        (IsLeftOn P.PageDevice z pages stopped.pages older) z older stopped.refusal (P.faults pages)
         (P.faults stopped.pages) (L.faults log) (L.faults stopped.log)) }
 {
     let Opened {
@@ -214,8 +222,9 @@ fn open<P: PageDevice + Drop, L: LogDevice + Drop>(
     // What is left of both devices, on each answer.
     ensures pages { IfOk result (λ o. OnlyRead P.PageDevice pages o.pages.device) }
     ensures pages_back { IfErr result (λ stopped. OnlyRead P.PageDevice pages stopped.pages) }
-    ensures any_moment { IfOk result (λ o. BeginsAtMost L.LogDevice log o.log.device) }
-    ensures any_moment_back { IfErr result (λ stopped. BeginsAtMost L.LogDevice log stopped.log) }
+    ensures any_moment { IfOk result (λ o. BeginsFrom P.PageDevice L.LogDevice pages log o.pages.device o.log.device) }
+    ensures any_moment_back { IfErr result (λ stopped. BeginsFrom P.PageDevice L.LogDevice pages log stopped.pages
+        stopped.log) }
     // What was checked, or why it was refused.
     ensures checked { IfOk result (λ o. WasChecked P.PageDevice L.LogDevice pages log o.pages.sizes
         (paged o.pages) o.log.records o.pages.device o.log.device) }
@@ -227,7 +236,7 @@ fn open<P: PageDevice + Drop, L: LogDevice + Drop>(
         × (L.faults o.log.device ≡ L.faults log)) }
     ensures err { IfErr result (λ stopped. (z : Sizes) → IsSuperblock z (P.seen pages 0) → (older : List Record)
         → IsReadAs L.LogDevice log stopped.log older → Stops
-        (IsLeftOn P.PageDevice z pages stopped.pages older) older stopped.refusal (P.faults pages)
+        (IsLeftOn P.PageDevice z pages stopped.pages older) z older stopped.refusal (P.faults pages)
         (P.faults stopped.pages) (L.faults log) (L.faults stopped.log)) }
 {
     match Pages::load(alloc, pages) {
@@ -268,20 +277,21 @@ fn restart_log<P: PageDevice + Drop, L: LogDevice + Drop>(
     // What is left of both devices, on each answer.
     ensures pages { IfOk result (λ o. o.pages.device ≡ pages.device) }
     ensures pages_back { IfErr result (λ stopped. stopped.pages ≡ pages.device) }
-    ensures any_moment { IfOk result (λ o. BeginsAtMost L.LogDevice log o.log.device) }
-    ensures any_moment_back { IfErr result (λ stopped. BeginsAtMost L.LogDevice log stopped.log) }
+    ensures any_moment { IfOk result (λ o. BeginsAtMost L.LogDevice pages.sizes (image_in pages.images) log o.log.device) }
+    ensures any_moment_back { IfErr result (λ stopped. BeginsAtMost L.LogDevice pages.sizes (image_in pages.images) log
+        stopped.log) }
     // What was checked, or why it was refused.
     ensures checked { IfOk result (λ o. (older : List Record) × AreSpelled older × (L.honest o.log.device →
-        L.seen log ≡ spelled older) × IsEnded older × (undone : List Record)
-        × IsUndoneOn pages.sizes older undone (paged pages) (paged o.pages)
-        × (o.log.records ≡ next_restart undone ∷ undone) × (length undone < 2 ^ 50)) }
+        L.seen log ≡ spelled older) × (mended : List Record)
+        × IsMendedOn pages.sizes older mended (paged pages) (paged o.pages)
+        × (o.log.records ≡ next_restart mended ∷ mended) × (length mended < 2 ^ 50)) }
     ensures refused { IfErr result (λ stopped. LogStops L.LogDevice pages.sizes
         (paged pages) stopped.refusal log stopped.log) }
     ensures room { IfOk result (λ o. o.log.reserved ≡ 0) }
     // Failures of the log's device, counted; and what a refusal says of a store that was left so.
     ensures cause { IfOk result (λ o. L.faults o.log.device ≡ L.faults log) }
     ensures err { IfErr result (λ stopped. (older : List Record) → IsReadAs L.LogDevice log stopped.log older
-        → MayBeShut (IsLeft pages.sizes (image_in pages.images) older) older stopped.refusal (L.faults log)
+        → MayBeShut (IsLeft pages.sizes (image_in pages.images) older) pages.sizes older stopped.refusal (L.faults log)
         (L.faults stopped.log)) }
 {
     let Scan { records, log } = Log::scan(alloc, log);
@@ -341,47 +351,44 @@ fn go_on<P: PageDevice + Drop, L: LogDevice + Drop>(
     ensures any_moment { L.honest log.new.device → AreSpelled log.old.records
         → L.seen log.old.device ≡ spelled log.old.records
         → LeavesOnly L.LogDevice log.old.device log.new.device
-        (WasLeftOrBegun L.LogDevice log.old.device log.old.records) }
+        (WasLeftOrBegun L.LogDevice pages.old.sizes (IsLeft pages.old.sizes (image_in pages.old.images)
+        log.old.records) log.old.device log.old.records) }
     // What was checked, or why it was refused.
-    ensures checked { OnOk result (IsEnded log.old.records × (undone : List Record)
-        × IsUndoneOn pages.old.sizes log.old.records undone (paged pages.old) (paged pages.new)
-        × (log.new.records ≡ next_restart undone ∷ undone)) }
+    ensures checked { OnOk result ((mended : List Record)
+        × IsMendedOn pages.old.sizes log.old.records mended (paged pages.old) (paged pages.new)
+        × (log.new.records ≡ next_restart mended ∷ mended)) }
     ensures shut { IfErr result (λ e. WhyShut pages.old.sizes log.old.records (paged pages.old) e
         (L.faults log.old.device) (L.faults log.new.device) (log.new.device ≡ log.old.device)) }
     // Room, failures, and what a refusal says of a store that was left so.
     ensures room { OnOk result (log.new.reserved ≡ log.old.reserved) }
     ensures cause { OnOk result (L.faults log.new.device ≡ L.faults log.old.device) }
     ensures err { IfErr result (λ e. MayBeShut (IsLeft pages.old.sizes
-        (image_in pages.old.images) log.old.records) log.old.records e (L.faults log.old.device)
+        (image_in pages.old.images) log.old.records) pages.old.sizes log.old.records e (L.faults log.old.device)
         (L.faults log.new.device)) }
 {
     let as_read = miscounted_page(pages, records.len() as u64);
-    let mut history = repeat_history(alloc, pages, records)?;
+    let mut findings = repeat_history(alloc, pages, records)?;
     if let Some(page) = as_read {
         return Err(Refusal::Damaged(Damage::Page(page)));
     }
     if let Some(redone) = miscounted_page(pages, records.len() as u64) {
         return Err(Refusal::Damaged(Damage::Page(redone)));
     }
-    if !history.is_settled() {
-        return Err(Refusal::Unfinished);
-    }
-    match begin_next(alloc, pages, log, &mut history) {
+    match begin_next(alloc, pages, log, &mut findings) {
         Ok(begun) => Ok(begun),
         Err(refusal) => Err(refusal),
     }
 }
 
-// Undoes operations that have no end in the log, of which this is the history, and begins the next incarnation. Gives what
-// the directory tells, too.
+// Undoes what has no end in the log, of which these are the findings, and begins the next incarnation. Gives what the
+// directory tells, too.
 fn begin_next<P: PageDevice + Drop, L: LogDevice + Drop>(
     alloc: Global,
     pages: &mut Pages<P>,
     log: &mut Log<L>,
-    history: &mut History,
+    findings: &mut Findings,
 ) -> Result<(Told, Report), Refusal>
-    requires history { history.old ≡ analysis log.old.records }
-    requires ended { IsEnded log.old.records }
+    requires found { AreFindings findings.old log.old.records }
     requires running { log.old.failed ≡ false }
     requires counted { AreCounted pages.old.sizes (length log.old.records) (paged pages.old) }
     // What the log and the pages come to.
@@ -398,10 +405,11 @@ fn begin_next<P: PageDevice + Drop, L: LogDevice + Drop>(
     ensures pool { OnOk result (IsPool pages.new.sizes pages.new.images) }
     ensures pages { pages.new.device ≡ pages.old.device }
     ensures honest { L.honest log.new.device → L.honest log.old.device }
-    ensures any_moment { L.honest log.new.device → AreSpelled log.old.records
-        → L.seen log.old.device ≡ spelled log.old.records
+    ensures any_moment { (first : Paged) → Repeats pages.old.sizes log.old.records first (paged pages.old)
+        → L.honest log.new.device → AreSpelled log.old.records → L.seen log.old.device ≡ spelled log.old.records
         → LeavesOnly L.LogDevice log.old.device log.new.device
-        (WasLeftOrBegun L.LogDevice log.old.device log.old.records) }
+        (WasLeftOrBegun L.LogDevice pages.old.sizes (IsLeft pages.old.sizes first.image log.old.records)
+        log.old.device log.old.records) }
     // Room, failures, and why it was refused.
     ensures room { OnOk result (log.new.reserved ≡ log.old.reserved) }
     ensures cause { OnOk result (L.faults log.new.device ≡ L.faults log.old.device) }
@@ -409,25 +417,60 @@ fn begin_next<P: PageDevice + Drop, L: LogDevice + Drop>(
         → WhyNotBegun pages.old.sizes log.old.records first e (L.faults log.old.device) (L.faults log.new.device)
         (log.new.device ≡ log.old.device)) }
 {
-    let unfinished = history.unfinished();
-    undo_unfinished(pages, log, history)?;
+    let unfinished = findings.history.unfinished();
+    let lost = mend(alloc, pages, log, findings)?;
     let told = told_groups(alloc, pages)?;
-    match begin_incarnation(log, history.incarnation(), unfinished) {
+    match begin_incarnation(log, findings.history.incarnation(), unfinished, lost) {
         Ok(report) => Ok((told, report)),
         Err(refusal) => Err(refusal),
     }
+}
+
+// Undoes what has no end in the log, of which these are the findings: operations, and then transactions. Gives how many
+// of the latter there were.
+fn mend<P: PageDevice + Drop, L: LogDevice + Drop>(
+    alloc: Global,
+    pages: &mut Pages<P>,
+    log: &mut Log<L>,
+    findings: &mut Findings,
+) -> Result<u64, Refusal>
+    requires found { AreFindings findings.old log.old.records }
+    requires running { log.old.failed ≡ false }
+    ensures mends { OnOk result (IsMended log.old.records log.new.records) }
+    ensures repeated { OnOk result ((first : Paged) → Repeats pages.old.sizes log.old.records first (paged pages.old)
+        → Repeats pages.old.sizes log.new.records first (paged pages.new)) }
+    ensures counted { OnOk result (AreCounted pages.old.sizes (length log.old.records) (paged pages.old)
+        → AreCounted pages.old.sizes (length log.new.records) (paged pages.new)) }
+    ensures recovered { OnOk result ((first : Paged) → Repeats pages.old.sizes log.old.records first (paged pages.old)
+        → IsLeft pages.old.sizes first.image log.old.records → IsRecovered pages.old.sizes log.old.records
+        log.new.records) }
+    ensures lost { IfOk result (λ count. count ≡ length findings.old.history.working) }
+    ensures found { OnOk result (AreFindings findings.new log.new.records) }
+    ensures stops { IfErr result (λ e. (first : Paged) → Repeats pages.old.sizes log.old.records first (paged pages.old)
+        → MendStops pages.old.sizes log.old.records first e) }
+    ensures sizes { pages.new.sizes ≡ pages.old.sizes }
+    ensures device { pages.new.device ≡ pages.old.device }
+    ensures log { (log.new.device ≡ log.old.device) × (log.new.forced ≡ log.old.forced)
+        × (log.new.failed ≡ false) × (log.new.settled ≡ log.old.settled) }
+    ensures room { OnOk result (log.new.reserved ≡ log.old.reserved) }
+{
+    undo_unfinished(pages, log, findings)?;
+    let lost = findings.history.working().len() as u64;
+    abort_lost(alloc, pages, log, findings)?;
+    Ok(lost)
 }
 
 fn begin_incarnation<L: LogDevice + Drop>(
     log: &mut Log<L>,
     last: u64,
     unfinished: u64,
+    lost: u64,
 ) -> Result<Report, Refusal>
     requires { log.old.failed ≡ false }
     ensures records { OnOk result (log.new.records ≡ records.Restart (last + 1) ∷ log.old.records) }
     ensures forced { OnOk result ((log.new.forced ≡ length log.new.records) × (log.new.failed ≡ false)) }
     ensures report { IfOk result (λ report. (report.incarnation ≡ last + 1) × (report.records ≡ length log.new.records)
-        × (report.unfinished ≡ unfinished) × (report.lost ≡ 0)) }
+        × (report.unfinished ≡ unfinished) × (report.lost ≡ lost)) }
     ensures ready { IfOk result (λ report. IsReady L.LogDevice report.incarnation log.new) }
     ensures cause { OnOk result (L.faults log.new.device ≡ L.faults log.old.device) }
     ensures honest { L.honest log.new.device → L.honest log.old.device }
@@ -452,7 +495,7 @@ fn begin_incarnation<L: LogDevice + Drop>(
     Ok(Report {
         incarnation,
         unfinished,
-        lost: 0,
+        lost,
         records,
     })
 }

@@ -24,7 +24,8 @@ pub enum Command<'a> {
     Last(u32),
     Fail(CallKind),
     Crash(Keep, Images),
-    Restart,
+    /// With the place of the device call at which it stops; 0 where it does not.
+    Restart(u64),
     Dump,
 }
 
@@ -69,7 +70,7 @@ fn plain(name: &[u8]) -> Option<Command<'static>> {
     match name {
         b"begin" => Some(Command::Begin),
         b"force" => Some(Command::Force),
-        b"restart" => Some(Command::Restart),
+        b"restart" => Some(Command::Restart(0)),
         b"dump" => Some(Command::Dump),
         _ => None,
     }
@@ -101,6 +102,7 @@ fn with_words<'a>(name: &[u8], rest: &'a [u8]) -> Option<Command<'a>> {
         b"last" => Some(Command::Last(short_number(rest)?)),
         b"fail" => Some(Command::Fail(device_call(rest)?)),
         b"crash" => crash(rest),
+        b"restart" => Some(Command::Restart(number(rest)?)),
         _ => None,
     }
 }

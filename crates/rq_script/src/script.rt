@@ -4,6 +4,7 @@ ghost use Rattle.std.specs.Prelude.{◌≤◌, IfOk};
 use crate::command::{Command, Images, Keep, Post};
 use crate::told::{LINE_ROOM, Told};
 use rq_disk::{CallKind, MemLog, MemPages, Mishap, PageChoice, Switch};
+use rq_engine::engine::Engine;
 use rq_engine::event::{CommitNo, Event, Outcome, Progress, Reply};
 use rq_model::refusal::Refusal;
 use rq_model::txn::{Sub, Txn};
@@ -155,7 +156,7 @@ impl Script {
 
     fn carry_out(&mut self, number: u64, line: &[u8]) -> Told {
         match Command::parse(line) {
-            Some(Command::Restart) => self.restart(),
+            Some(Command::Restart(stop)) => self.restart(stop),
             Some(_) if !self.is_open() => Told::refused(Refusal::Failed),
             Some(Command::Crash(keep, images)) => self.crash(keep, images),
             Some(Command::Fail(kind)) => self.arm(kind),
@@ -192,7 +193,7 @@ impl Script {
             Command::Write(page) => self.ask(Event::WritePage(page)),
             Command::Last(sender) => self.ask(Event::LastTag(sender)),
             Command::Dump => self.ask(Event::Content),
-            Command::Fail(_) | Command::Crash(..) | Command::Restart => {
+            Command::Fail(_) | Command::Crash(..) | Command::Restart(_) => {
                 Reply::Refused(Refusal::Failed)
             }
         }
@@ -311,31 +312,77 @@ impl Script {
         Told::Crashed(records)
     }
 
-    // Opens the store after a crash.
-    fn restart(&mut self) -> Told {
+    // Opens the store after a crash, or stops in that.
+    fn restart(&mut self, stop: u64) -> Told {
         match mem::replace(&mut self.store, Store::Lost) {
             Store::Open(kept) => {
                 self.store = Store::Open(kept);
                 Told::Running
             }
-            Store::Crashed { pages, log } => match self.reopen(pages, log) {
-                Ok(report) => Told::Restarted(report),
-                Err(refusal) => Told::Fault(refusal),
-            },
+            Store::Crashed { pages, log } if stop == 0 => self.open_again(pages, log),
+            Store::Crashed { pages, log } => self.stop_in_restart(pages, log, stop),
             Store::Lost => Told::Fault(Refusal::Failed),
+        }
+    }
+
+    fn open_again(&mut self, pages: MemPages, log: MemLog) -> Told {
+        match self.reopen(pages, log) {
+            Ok(report) => Told::Restarted(report),
+            Err(refusal) => Told::Fault(refusal),
         }
     }
 
     fn reopen(&mut self, pages: MemPages, log: MemLog) -> Result<Report, Refusal> {
         match restart(self.alloc, pages, log) {
-            Ok((engine, report)) => {
-                self.store = Store::Open(Kept::new(self.alloc, engine));
-                self.commits.clear();
-                self.failed = false;
-                Ok(report)
-            }
+            Ok((engine, report)) => Ok(self.run_on(engine, report)),
             Err(stopped) => Err(stopped.refusal),
         }
+    }
+
+    // The store is open.
+    fn run_on(&mut self, engine: Engine<MemPages, MemLog>, report: Report) -> Report {
+        self.store = Store::Open(Kept::new(self.alloc, engine));
+        self.commits.clear();
+        self.failed = false;
+        report
+    }
+
+    // Opens the store after a crash up to the append of its records, and leaves it as the machine does that stops at this
+    // call. Each record that the restart makes counts as a call, though all go out in one, and the force behind them as one
+    // more. Where there are fewer, the store is opened.
+    fn stop_in_restart(&mut self, pages: MemPages, log: MemLog, stop: u64) -> Told {
+        let before = log.records();
+        self.switch.arm_kind(CallKind::Write, Mishap::Stop);
+        let restarted = restart(self.alloc, pages, log);
+        let has_stopped = self.has_stopped();
+        match restarted {
+            Ok((engine, report)) => Told::Restarted(self.run_on(engine, report)),
+            Err(stopped) if has_stopped => {
+                self.leave_at(stopped.pages, stopped.log, before, stop)
+            }
+            Err(stopped) => Told::Fault(stopped.refusal),
+        }
+    }
+
+    // Whether the machine stopped; it runs again.
+    fn has_stopped(&self) -> bool {
+        let stopped = self.switch.is_stopped();
+        self.switch.reset();
+        stopped
+    }
+
+    // Behind the records before stand all those of a restart. Keeps what is made up to the call that the machine stops at;
+    // where the restart makes no such call, opens the store.
+    fn leave_at(&mut self, pages: MemPages, log: MemLog, before: u64, stop: u64) -> Told {
+        let made = log.records().saturating_sub(before);
+        let pages = pages.crash(PageChoice::Newest);
+        if stop > made.saturating_add(1) {
+            return self.open_again(pages, log.crash(0));
+        }
+        let log = log.crash(stop);
+        let records = log.records();
+        self.store = Store::Crashed { pages, log };
+        Told::Stopped(records)
     }
 }
 

@@ -23,6 +23,8 @@ pub enum Told {
     Running,
     /// The store was opened.
     Restarted(Report),
+    /// The machine stopped in a restart, after which this many records are left.
+    Stopped(u64),
     /// The store could not be opened. The script ends.
     Fault(Refusal),
     /// The line of this number is no command. The script ends.
@@ -59,6 +61,7 @@ impl Told {
             Told::Crashed(records) => print_number(output, "crashed", *records),
             Told::Running => print_word(output, "running"),
             Told::Restarted(report) => print_report(output, *report),
+            Told::Stopped(records) => print_number(output, "stopped", *records),
             Told::Fault(refusal) => print_fault(output, *refusal),
             Told::NoCommand(number) => print_number(output, "fault line", *number),
         }

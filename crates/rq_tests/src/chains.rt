@@ -14,6 +14,7 @@ use std::alloc::{AllocError, Global};
 mod cells;
 mod crashes;
 mod kinds;
+mod mending;
 mod starts;
 
 pub use kinds::{Kind, Tally};
@@ -82,12 +83,20 @@ struct Work {
     reach: Reach,
 }
 
-/// A slot write of an operation that has no end yet, and its page.
+/// A slot write of an operation that has no end yet, its page, and how many writes were to come behind it.
 #[derive(Clone, Copy)]
 struct SlotWrite {
     sub: Sub,
     act: Aim,
     page: u32,
+    left: u8,
+}
+
+/// What a transaction that has no end did, and has not undone.
+#[derive(Clone, Copy)]
+struct Done {
+    txn: Txn,
+    act: Aim,
 }
 
 /// What an operation does to the chain of a sender.
@@ -120,14 +129,16 @@ struct Page {
     synced: Lsn,
 }
 
-/// A moment at which each transaction that has not ended has finished nothing: a crash that comes back to it is followed
-/// by a restart that undoes the writes of operations under way.
+/// The moment at which the log got to so many records: a crash that keeps these comes back to it.
 #[derive(Drop)]
-struct Settled {
+struct Moment {
     records: Lsn,
     links: Vec<Link>,
     writes: Vec<SlotWrite>,
     pages: Vec<Page>,
+    done: Vec<Done>,
+    /// The transactions that had not ended, and had finished an operation.
+    begun: Vec<Txn>,
 }
 
 /// The lists, and the pages beside them.
@@ -142,8 +153,10 @@ pub struct Chains {
     /// Their slot writes, the oldest first.
     writes: Vec<SlotWrite>,
     pages: Vec<Page>,
-    /// The moments that a crash may come back to, the oldest first.
-    settled: Vec<Settled>,
+    /// What transactions without an end did, in the order in which it was finished.
+    done: Vec<Done>,
+    /// The moments that a crash may come back to, the oldest first: one for each number of records.
+    moments: Vec<Moment>,
     kind: Kind,
 }
 
@@ -158,10 +171,11 @@ impl Chains {
             works: Vec::new(alloc),
             writes: Vec::new(alloc),
             pages: new_pages(alloc, store.count())?,
-            settled: Vec::new(alloc),
+            done: Vec::new(alloc),
+            moments: Vec::new(alloc),
             kind: Kind::Other,
         };
-        chains.note_settled()?;
+        chains.note_moment()?;
         Ok(chains)
     }
 
@@ -179,7 +193,7 @@ impl Chains {
             Err(Refusal::NoMemory) => return Err(AllocError),
             Err(refusal) => Told::Refused(refusal),
         };
-        self.note_settled()?;
+        self.note_moment()?;
         met.meet(self.kind);
         met.meet(kinds::kind_of(event, &told));
         Ok(told)
@@ -210,7 +224,7 @@ impl Chains {
             Event::StartClose { txn, sender } => self.start_close(*txn, *sender),
             Event::Step(sub) => self.step(*sub),
             Event::Finish(sub) => self.finish(*sub),
-            Event::Commit(txn) => Ok(Told::Committed(*txn, lists::commit(&mut self.lists, *txn)?)),
+            Event::Commit(txn) => self.commit(*txn),
             Event::StartAbort(txn) => {
                 lists::start_abort(&mut self.lists, *txn)?;
                 Ok(Told::Aborting)
@@ -260,6 +274,7 @@ impl Chains {
             sub,
             act: work.act,
             page,
+            left: left.saturating_sub(1),
         })?;
         Ok(())
     }
@@ -275,10 +290,55 @@ impl Chains {
         let Some(work) = self.take_work(sub) else {
             return Ok(Told::Other);
         };
-        if self.change_chain(&work).is_err() || self.forget_writes(sub).is_err() {
+        if self.change_chain(&work).is_err()
+            || self.forget_writes(sub).is_err()
+            || self.note_done(&work).is_err()
+        {
             return Err(Refusal::NoMemory);
         }
         Ok(told_of(finished))
+    }
+
+    // An inverse takes back what its transaction did last.
+    fn note_done(&mut self, work: &Work) -> Result<(), AllocError> {
+        let txn = work.sub.txn;
+        match work.act {
+            Aim::Append(_) | Aim::Unlink(_) | Aim::Close(_) => self
+                .done
+                .push(Done { txn, act: work.act })?,
+            Aim::Unsend(_) | Aim::PutBack(_) | Aim::Reopen(_) => self.forget_last(txn),
+        }
+        Ok(())
+    }
+
+    fn forget_last(&mut self, txn: Txn) {
+        for back in 0..self.done.len() {
+            let place = self.done.len().saturating_sub(1).saturating_sub(back);
+            if self.is_done_by(place, txn) && place < self.done.len() {
+                self.done.remove(place);
+                return;
+            }
+        }
+    }
+
+    fn is_done_by(&self, place: usize, txn: Txn) -> bool {
+        match self.done.get(place) {
+            Some(done) => done.txn == txn,
+            None => false,
+        }
+    }
+
+    // What it did stays done.
+    fn commit(&mut self, txn: Txn) -> Result<Told, Refusal> {
+        let lsn = lists::commit(&mut self.lists, txn)?;
+        let mut others = Vec::new(self.alloc);
+        for done in &self.done {
+            if done.txn != txn && others.push(*done).is_err() {
+                return Err(Refusal::NoMemory);
+            }
+        }
+        self.done = others;
+        Ok(Told::Committed(txn, lsn))
     }
 
     // What is left to undo is told by its own name.

@@ -1,7 +1,7 @@
 //! Courses of several transactions that a seed gives. A course is drawn beside the plain lists, so that most of its
 //! numbers are good.
 use crate::chains::{Chains, Pages, Seen, Tally};
-use crate::moves::Move;
+use crate::moves::{Cut, Move};
 use crate::random::Random;
 use crate::told::Told;
 use rq_engine::event::Event;
@@ -32,7 +32,7 @@ struct Shape {
     closes: u64,
     /// How many senders of each directory page.
     senders: u64,
-    /// One move of so many is a crash, where one may be; none, where this is 0.
+    /// One move of so many is a crash; none, where this is 0.
     crashes: u64,
 }
 
@@ -48,6 +48,23 @@ struct Drawing {
     moves: Vec<Move>,
     // The places of the commits.
     commits: Vec<u64>,
+}
+
+// The stops of a restart that a seed gives: none in one half.
+fn stops_of(seed: u64) -> [Option<u64>; 3] {
+    let mut random = Random::new(seed);
+    let count = if random.is_first_of(2) {
+        0
+    } else {
+        random.below(3).saturating_add(1)
+    };
+    let mut stops = [None; 3];
+    for (before, stop) in (0..3).zip(stops.iter_mut()) {
+        if before < count {
+            *stop = Some(random.below(14));
+        }
+    }
+    stops
 }
 
 /// The course of a seed. At its end every transaction has ended, all is forced and written, and the content is asked
@@ -204,8 +221,8 @@ impl Drawing {
                     self.commits.push(self.moves.len() as u64)?;
                 }
             }
-            Move::Crash { keep, newest } => {
-                self.chains.crash(*keep, *newest, &mut self.met)?;
+            Move::Crash(cut) => {
+                self.chains.crash(cut, &mut self.met)?;
             }
             Move::Acknowledge(_) => {}
         }
@@ -239,12 +256,16 @@ impl Drawing {
         }
     }
 
-    // A crash behind which a restart may open the store.
+    // A crash that keeps some of the records that are not forced, or none or all.
     fn crash(&mut self) -> Option<Move> {
         let place = self.random.next();
         let newest = self.random.is_first_of(2);
-        let keep = self.chains.settled_keep(place)?;
-        Some(Move::Crash { keep, newest })
+        let keep = self.chains.keep_of(place)?;
+        Some(Move::Crash(Cut {
+            keep,
+            newest,
+            stops: stops_of(place),
+        }))
     }
 
     fn next_call(&mut self) -> Result<Event, AllocError> {

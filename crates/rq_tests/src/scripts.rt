@@ -276,6 +276,10 @@ fn a_line_that_is_no_command_is_a_fault(rt: HostRuntime) -> Result<(), Fail> {
         "fail",
         "fail sync",
         "fail read ",
+        "restart ",
+        "restart all",
+        "restart 1 old",
+        "restart 18446744073709551616",
         "dump\r",
     ] {
         let script = format!(in rt.alloc(); "begin\n{line}\nbegin\n")?;
@@ -348,13 +352,13 @@ fn a_store_that_cannot_be_read_is_not_opened(rt: HostRuntime) -> Result<(), Fail
 }
 
 #[test]
-fn a_lost_transaction_is_not_opened_yet(rt: HostRuntime) -> Result<(), Fail> {
+fn a_lost_transaction_is_undone(rt: HostRuntime) -> Result<(), Fail> {
     check(
         &rt,
         1,
-        "begin\nsend 1.1 0 1 x\ncrash all\nrestart\n",
-        "begun 1.1\nsent\ncrashed 4\nfault 6 Unfinished\n",
-        1,
+        "begin\nsend 1.1 0 1 x\ncrash all\nrestart\ndump\nforce\n",
+        "begun 1.1\nsent\ncrashed 4\nrestarted 2 unfinished 0 lost 1\nempty\nforced 9\n",
+        0,
     )
 }
 
@@ -1065,15 +1069,31 @@ fn an_abort_outlives_a_crash(rt: HostRuntime) -> Result<(), Fail> {
     Ok(())
 }
 
-// Before the last record of an abort its transaction is lost, which no restart undoes yet, in the midst of an inverse too.
+// Before the last record of an abort its transaction is lost. In the midst of an inverse that is undone first, slot by
+// slot, and begun anew.
 #[test]
-fn an_abort_in_its_midst_is_not_opened_yet(rt: HostRuntime) -> Result<(), Fail> {
-    for (crash, crashed) in [
-        ("crash all", "crashed 14"),
-        ("crash 12", "crashed 13"),
-        ("crash 8", "crashed 9"),
+fn an_abort_in_its_midst_is_ended(rt: HostRuntime) -> Result<(), Fail> {
+    for (crash, crashed, restarted, forced) in [
+        (
+            "crash all",
+            "crashed 14",
+            "restarted 2 unfinished 1 lost 1",
+            "forced 26",
+        ),
+        (
+            "crash 12",
+            "crashed 13",
+            "restarted 2 unfinished 0 lost 1",
+            "forced 23",
+        ),
+        (
+            "crash 8",
+            "crashed 9",
+            "restarted 2 unfinished 0 lost 1",
+            "forced 15",
+        ),
     ] {
-        check_to_its_end(
+        check_each(
             &rt,
             1,
             1,
@@ -1088,12 +1108,19 @@ fn an_abort_in_its_midst_is_not_opened_yet(rt: HostRuntime) -> Result<(), Fail> 
                 ("undo 1.2", "op 1.2 3"),
                 ("step 1.2 3", "lsn 14"),
                 (crash, crashed),
-                ("restart", "fault 6 Unfinished"),
+                ("restart", restarted),
+                ("dump", "0 open sent 1 received 0: a"),
+                ("force", forced),
             ],
-            1,
         )?;
     }
-    check_to_its_end(
+    Ok(())
+}
+
+// All is undone, and the record of the end alone is wanting.
+#[test]
+fn an_abort_of_which_the_end_is_wanting_is_ended(rt: HostRuntime) -> Result<(), Fail> {
+    check_each(
         &rt,
         1,
         1,
@@ -1102,10 +1129,272 @@ fn an_abort_in_its_midst_is_not_opened_yet(rt: HostRuntime) -> Result<(), Fail> 
             ("send 1.1 0 1 a", "sent"),
             ("abort 1.1", "aborted"),
             ("crash 6", "crashed 7"),
-            ("restart", "fault 6 Unfinished"),
+            ("restart", "restarted 2 unfinished 0 lost 1"),
+            ("dump", "empty"),
+            ("force", "forced 9"),
         ],
-        1,
     )
+}
+
+// Two transactions were under way, one behind the other in the same group: the later one is undone first.
+#[test]
+fn lost_transactions_are_undone_the_newest_first(rt: HostRuntime) -> Result<(), Fail> {
+    check_each(
+        &rt,
+        1,
+        1,
+        &[
+            ("begin", "begun 1.1"),
+            ("send 1.1 0 1 a", "sent"),
+            ("commit 1.1", "commit 5"),
+            ("begin", "begun 1.2"),
+            ("send 1.2 0 2 b", "sent"),
+            ("begin", "begun 1.3"),
+            ("recv 1.3", "msg 0 1 a"),
+            ("crash all", "crashed 13"),
+            ("restart", "restarted 2 unfinished 0 lost 2"),
+            ("dump", "0 open sent 1 received 0: a"),
+            ("force", "forced 24"),
+        ],
+    )
+}
+
+#[test]
+fn a_commit_beside_a_lost_transaction_is_kept(rt: HostRuntime) -> Result<(), Fail> {
+    check_each(
+        &rt,
+        1,
+        1,
+        &[
+            ("begin", "begun 1.1"),
+            ("send 1.1 0 1 a", "sent"),
+            ("commit 1.1", "commit 5"),
+            ("begin", "begun 1.2"),
+            ("send 1.2 0 2 b", "sent"),
+            ("begin", "begun 1.3"),
+            ("recv 1.3", "msg 0 1 a"),
+            ("commit 1.3", "commit 14"),
+            ("crash all", "crashed 14"),
+            ("restart", "restarted 2 unfinished 0 lost 1"),
+            ("dump", "0 open sent 1 received 1:"),
+            ("force", "forced 19"),
+        ],
+    )
+}
+
+// Every cell but the one that the receive has left is in use.
+#[test]
+fn a_lost_receive_from_a_full_store_is_undone(rt: HostRuntime) -> Result<(), Fail> {
+    check_each(
+        &rt,
+        1,
+        1,
+        &[
+            ("begin", "begun 1.1"),
+            ("send 1.1 0 1 a", "sent"),
+            ("send 1.1 0 2 b", "sent"),
+            ("send 1.1 0 3 c", "sent"),
+            ("send 1.1 0 4 d", "sent"),
+            ("send 1.1 0 5 e", "sent"),
+            ("send 1.1 0 6 f", "sent"),
+            ("send 1.1 0 7 g", "sent"),
+            ("send 1.1 0 8 h", "sent"),
+            ("send 1.1 0 9 i", "sent"),
+            ("send 1.1 0 10 j", "sent"),
+            ("send 1.1 0 11 k", "sent"),
+            ("send 1.1 0 12 l", "sent"),
+            ("send 1.1 0 13 m", "sent"),
+            ("send 1.1 0 14 n", "sent"),
+            ("send 1.1 0 15 o", "sent"),
+            ("commit 1.1", "commit 61"),
+            ("begin", "begun 1.2"),
+            ("recv 1.2", "msg 0 1 a"),
+            ("crash all", "crashed 65"),
+            ("restart", "restarted 2 unfinished 0 lost 1"),
+            (
+                "dump",
+                "0 open sent 15 received 0: a b c d e f g h i j k l m n o",
+            ),
+            ("force", "forced 71"),
+        ],
+    )
+}
+
+// The first has undone what it did, so that its end is the first record; the other's send is undone behind it.
+#[test]
+fn lost_transactions_with_nothing_left_end_first(rt: HostRuntime) -> Result<(), Fail> {
+    check_each(
+        &rt,
+        1,
+        1,
+        &[
+            ("begin", "begun 1.1"),
+            ("send 1.1 0 1 a", "sent"),
+            ("start-abort 1.1", "aborting"),
+            ("undo 1.1", "op 1.1 2"),
+            ("step 1.1 2", "lsn 5"),
+            ("step 1.1 2", "lsn 6"),
+            ("finish 1.1 2", "undone"),
+            ("begin", "begun 1.2"),
+            ("send 1.2 1 1 b", "sent"),
+            ("crash all", "crashed 10"),
+            ("restart 1", "stopped 11"),
+            ("restart", "restarted 2 unfinished 0 lost 1"),
+            ("dump", "empty"),
+            ("force", "forced 16"),
+        ],
+    )
+}
+
+// The later one has its end at once behind the last of its inverses.
+#[test]
+fn each_lost_transaction_ends_behind_its_last_inverse(rt: HostRuntime) -> Result<(), Fail> {
+    check_each(
+        &rt,
+        1,
+        1,
+        &[
+            ("begin", "begun 1.1"),
+            ("send 1.1 0 1 a", "sent"),
+            ("begin", "begun 1.2"),
+            ("send 1.2 1 1 b", "sent"),
+            ("crash all", "crashed 7"),
+            ("restart 4", "stopped 11"),
+            ("restart", "restarted 2 unfinished 0 lost 1"),
+            ("dump", "empty"),
+            ("force", "forced 16"),
+        ],
+    )
+}
+
+// A close and a receive of one transaction, between which another one has committed.
+#[test]
+fn a_lost_close_is_undone(rt: HostRuntime) -> Result<(), Fail> {
+    check_each(
+        &rt,
+        1,
+        1,
+        &[
+            ("begin", "begun 1.1"),
+            ("send 1.1 0 1 a", "sent"),
+            ("commit 1.1", "commit 5"),
+            ("begin", "begun 1.2"),
+            ("close 1.2 0", "closed"),
+            ("begin", "begun 1.3"),
+            ("close 1.3 1", "closed"),
+            ("commit 1.3", "commit 10"),
+            ("recv 1.2", "msg 0 1 a"),
+            ("crash all", "crashed 13"),
+            ("restart", "restarted 2 unfinished 0 lost 1"),
+            (
+                "dump",
+                "0 open sent 1 received 0: a\n1 closed sent 0 received 0:",
+            ),
+            ("force", "forced 20"),
+            ("begin", "begun 2.1"),
+            ("send 2.1 0 2 b", "sent"),
+            ("send 2.1 1 2 b", "refused 10 Closed"),
+        ],
+    )
+}
+
+// The machine stops in two restarts, and the third goes on from there.
+#[test]
+fn restarts_that_are_stopped_go_on(rt: HostRuntime) -> Result<(), Fail> {
+    check_each(
+        &rt,
+        1,
+        1,
+        &[
+            ("begin", "begun 1.1"),
+            ("send 1.1 0 1 a", "sent"),
+            ("commit 1.1", "commit 5"),
+            ("begin", "begun 1.2"),
+            ("send 1.2 0 2 b", "sent"),
+            ("send 1.2 0 3 c", "sent"),
+            ("start-abort 1.2", "aborting"),
+            ("undo 1.2", "op 1.2 3"),
+            ("step 1.2 3", "lsn 14"),
+            ("crash all", "crashed 14"),
+            ("restart 1", "stopped 15"),
+            ("restart 2", "stopped 17"),
+            ("restart", "restarted 2 unfinished 1 lost 1"),
+            ("dump", "0 open sent 1 received 0: a"),
+            ("last 0", "last 1 1"),
+            ("force", "forced 29"),
+        ],
+    )
+}
+
+// The same, stopped once, at each place: an inverse that is cut off is undone slot by slot, and begun anew. The restart
+// makes twelve records, and forces them.
+#[test]
+fn a_restart_is_stopped_at_each_of_its_records(rt: HostRuntime) -> Result<(), Fail> {
+    for (stop, stopped, restarted, forced) in [
+        ("restart 1", "stopped 15", "2 unfinished 1 lost 1", "26"),
+        ("restart 2", "stopped 16", "2 unfinished 0 lost 1", "26"),
+        ("restart 3", "stopped 17", "2 unfinished 1 lost 1", "29"),
+        ("restart 4", "stopped 18", "2 unfinished 1 lost 1", "31"),
+        ("restart 5", "stopped 19", "2 unfinished 1 lost 1", "33"),
+        ("restart 6", "stopped 20", "2 unfinished 0 lost 1", "26"),
+        ("restart 7", "stopped 21", "2 unfinished 1 lost 1", "29"),
+        ("restart 8", "stopped 22", "2 unfinished 1 lost 1", "31"),
+        ("restart 9", "stopped 23", "2 unfinished 1 lost 1", "33"),
+        ("restart 10", "stopped 24", "2 unfinished 0 lost 1", "26"),
+        ("restart 11", "stopped 25", "2 unfinished 0 lost 0", "26"),
+        ("restart 12", "stopped 26", "3 unfinished 0 lost 0", "27"),
+        ("restart 13", "stopped 26", "3 unfinished 0 lost 0", "27"),
+    ] {
+        let restarted = format!(in rt.alloc(); "restarted {restarted}")?;
+        let forced = format!(in rt.alloc(); "forced {forced}")?;
+        check_each(
+            &rt,
+            1,
+            1,
+            &[
+                ("begin", "begun 1.1"),
+                ("send 1.1 0 1 a", "sent"),
+                ("commit 1.1", "commit 5"),
+                ("begin", "begun 1.2"),
+                ("send 1.2 0 2 b", "sent"),
+                ("send 1.2 0 3 c", "sent"),
+                ("start-abort 1.2", "aborting"),
+                ("undo 1.2", "op 1.2 3"),
+                ("step 1.2 3", "lsn 14"),
+                ("crash all", "crashed 14"),
+                (stop, stopped),
+                ("dump", "refused 2 Failed"),
+                ("restart", restarted.as_str()),
+                ("dump", "0 open sent 1 received 0: a"),
+                ("force", forced.as_str()),
+            ],
+        )?;
+    }
+    Ok(())
+}
+
+// A restart of a store with nothing to undo makes one record, and forces it.
+#[test]
+fn a_restart_that_makes_fewer_calls_is_not_stopped(rt: HostRuntime) -> Result<(), Fail> {
+    for stop in ["restart 0", "restart 3", "restart 18446744073709551615"] {
+        check_each(
+            &rt,
+            1,
+            1,
+            &[
+                (stop, "running"),
+                ("begin", "begun 1.1"),
+                ("send 1.1 0 1 a", "sent"),
+                ("commit 1.1", "commit 5"),
+                ("crash all", "crashed 5"),
+                (stop, "restarted 2 unfinished 0 lost 0"),
+                ("dump", "0 open sent 1 received 0: a"),
+                (stop, "running"),
+                ("force", "forced 6"),
+            ],
+        )?;
+    }
+    Ok(())
 }
 
 // Where none of what it sent has its end, the restart undoes the send that was cut.

@@ -1,16 +1,16 @@
 //! Anything that a store is asked, with several operations under way at once, crashes and restarts: courses that a seed
 //! gives, of an engine beside the plain lists. Each answer is told by the lists, and so is which start is refused for a
 //! latched page.
-use crate::calls::{answered, crashed, devices, formatted, handed_over, opened};
+use crate::calls::{answered, crashed, devices, formatted, handed_over, opened, stopped};
 use crate::chains::{Chains, Kind, Pages, Tally};
 use crate::drawn::{LOWEST, drawn, pages_of};
-use crate::moves::Move;
+use crate::moves::{Cut, Move};
 use crate::told::{Told, told_by};
 use rq_content::GroupContent;
 use rq_disk::{MemLog, MemPages, PageChoice, Switch};
 use rq_engine::event::{CommitNo, Event, Reply};
 use rq_model::refusal::Refusal;
-use rq_model::txn::Sub;
+use rq_model::txn::{Lsn, Sub};
 use rq_page::layout::Layout;
 use rq_restart::restart::Report;
 use rq_shared::kept::Kept;
@@ -21,7 +21,7 @@ use std::test::Fail;
 const COURSES: u64 = 1000;
 
 /// What has to be met, all courses taken together, and how often at least.
-const WANTED: [(Kind, u64); 71] = [
+const WANTED: [(Kind, u64); 88] = [
     (Kind::Beside, 1300),
     (Kind::HigherCell, 1700),
     (Kind::OtherGroup, 430),
@@ -49,11 +49,28 @@ const WANTED: [(Kind, u64); 71] = [
     (Kind::ReopenDirectory, 120),
     (Kind::EarlyEnd, 620),
     (Kind::NotAborting, 940),
-    (Kind::Lost, 820),
-    (Kind::SendCut, 500),
-    (Kind::TakeCut, 110),
+    (Kind::Shorter, 1100),
+    (Kind::SendCut, 760),
+    (Kind::TakeCut, 150),
     (Kind::CloseCut, 9),
-    (Kind::TwoCut, 50),
+    (Kind::UnsendCut, 190),
+    (Kind::BackCut, 48),
+    (Kind::ReopenCut, 3),
+    (Kind::TwoCut, 100),
+    (Kind::BetweenSteps, 36),
+    (Kind::OneLost, 600),
+    (Kind::MoreLost, 220),
+    (Kind::CutBesideLost, 290),
+    (Kind::SendLost, 1500),
+    (Kind::TakeLost, 320),
+    (Kind::CloseLost, 35),
+    (Kind::EndWanting, 15),
+    (Kind::StoppedOnce, 290),
+    (Kind::StoppedTwice, 270),
+    (Kind::StoppedThrice, 220),
+    (Kind::StoppedInInverse, 100),
+    (Kind::StoppedBeforeVoid, 50),
+    (Kind::StoppedBeforeEnd, 46),
     (Kind::Begun, 12_000),
     (Kind::SendStarted, 7300),
     (Kind::TakeStarted, 500),
@@ -80,7 +97,7 @@ const WANTED: [(Kind, u64); 71] = [
     (Kind::NotWritten, 3000),
     (Kind::LastTag, 1500),
     (Kind::Content, 630),
-    (Kind::Opened, 1000),
+    (Kind::Opened, 1600),
     (Kind::UnknownTransaction, 1800),
     (Kind::NotOpen, 1900),
     (Kind::Unfinished, 5700),
@@ -150,7 +167,7 @@ impl Course {
         let (told, number) = match next {
             Move::Call(event) => self.call(event.clone()?)?,
             Move::Acknowledge(place) => (self.acknowledge(*place)?, None),
-            Move::Crash { keep, newest } => (self.crash(*keep, *newest)?, None),
+            Move::Crash(cut) => (self.crash(cut)?, None),
         };
         self.answers.told.push(told)?;
         self.numbers.push(number)?;
@@ -183,34 +200,57 @@ impl Course {
         }
     }
 
-    fn crash(&mut self, keep: u64, newest: bool) -> Result<Told, AllocError> {
+    fn crash(&mut self, cut: &Cut) -> Result<Told, AllocError> {
         let Some(store) = self.store.take() else {
             return Ok(Told::Other);
         };
         let (pages, log) = handed_over(store, &self.switch);
-        let choice = if newest {
+        let choice = if cut.newest {
             PageChoice::Newest
         } else {
             PageChoice::Synced
         };
-        let (pages, log) = crashed(pages, log, choice, keep);
+        let (pages, log) = crashed(pages, log, choice, cut.keep);
+        let (pages, log, records) = self.stop_all(pages, log, cut)?;
         match opened(self.alloc, pages, log) {
             Ok((store, report)) => {
                 self.store = Some(store);
-                Ok(told_of_opening(&report))
+                Ok(told_of_opening(&report, records))
             }
             Err(stopped) if stopped.refusal == Refusal::NoMemory => Err(AllocError),
             Err(stopped) => Ok(Told::Refused(stopped.refusal)),
         }
     }
+
+    // Restarts that are stopped, and how many records each leaves.
+    fn stop_all(
+        &self,
+        pages: MemPages,
+        log: MemLog,
+        cut: &Cut,
+    ) -> Result<(MemPages, MemLog, [Lsn; 3]), AllocError> {
+        let mut pages = pages;
+        let mut log = log;
+        let mut records = [0; 3];
+        for (stop, left) in cut.stops.iter().zip(records.iter_mut()) {
+            if let Some(keep) = stop {
+                let (pages_left, log_left) = stopped(self.alloc, &self.switch, pages, log, *keep)?;
+                pages = pages_left;
+                log = log_left;
+                *left = log.records();
+            }
+        }
+        Ok((pages, log, records))
+    }
 }
 
-fn told_of_opening(report: &Report) -> Told {
+fn told_of_opening(report: &Report, stopped: [Lsn; 3]) -> Told {
     Told::Opened {
         incarnation: report.incarnation,
         unfinished: report.unfinished,
         lost: report.lost,
         records: report.records,
+        stopped,
     }
 }
 
@@ -284,7 +324,7 @@ fn wanted_of(
             }
             _ => Ok(Told::Other),
         },
-        Move::Crash { keep, newest } => chains.crash(*keep, *newest, met),
+        Move::Crash(cut) => chains.crash(cut, met),
     }
 }
 

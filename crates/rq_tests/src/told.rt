@@ -30,12 +30,13 @@ pub enum Told {
     Content,
     Refused(Refusal),
     /// A store was opened in this incarnation, and so many operations without an end were undone, and transactions lost;
-    /// with so many records.
+    /// with so many records. Each restart that was stopped before had left so many; 0 where there was none.
     Opened {
         incarnation: u64,
         unfinished: u64,
         lost: u64,
         records: Lsn,
+        stopped: [Lsn; 3],
     },
     /// What no call of these tests answers.
     Other,

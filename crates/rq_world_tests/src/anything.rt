@@ -5,7 +5,9 @@ use crate::lists::Lists;
 use crate::told::{Told, told_of};
 use rq_core::happening::{Entry, Happening};
 use rq_engine::event::{Event, Reply};
+use rq_model::refusal::Refusal;
 use rq_model::txn::Sub;
+use rq_restart::restart::Report;
 use std::alloc::{AllocError, Global};
 use std::test::Fail;
 
@@ -17,49 +19,163 @@ const LISTS: u64 = 300;
 
 /// So many of what is counted have to be met at least, all lists taken together.
 const WANTED: Met = Met {
+    full: 140,
     undone: 150,
-    aborted: 150,
-    crashed: 20,
-    opened: 25,
-    unfinished: 20,
+    aborted: 190,
+    crashed: 30,
+    stopped: 6,
+    opened: 290,
+    unfinished: 70,
+    lost: 130,
+    several: 12,
+    both: 39,
+    idle: 3,
+    once: 210,
+    twice: 42,
+    thrice: 11,
 };
 
-/// What was met of aborts.
+/// What was met of aborts, and of what a crash cut off.
 #[derive(Clone, Copy, Debug)]
 struct Met {
+    /// Sends that were refused since every cell is in use.
+    full: u64,
     /// Inverses that were finished.
     undone: u64,
     /// Aborts that were ended.
     aborted: u64,
-    /// Crashes in the midst of one.
+    /// Crashes in the midst of one, and those of them that came in a call.
     crashed: u64,
+    stopped: u64,
     /// Stores that were opened behind one that outlived the crash.
     opened: u64,
     /// Operations without an end that restarts undid.
     unfinished: u64,
+    /// Transactions without an end that restarts undid.
+    lost: u64,
+    /// Restarts that undid more than one, and that undid operations beside one.
+    several: u64,
+    both: u64,
+    /// Restarts that were stopped with some of their records made, the first of them the end of a transaction that had
+    /// nothing left to undo, beside one that had.
+    idle: u64,
+    /// Restarts that were stopped with some of their records made: the first, the second and the third of a row.
+    once: u64,
+    twice: u64,
+    thrice: u64,
+}
+
+/// A list as far as it was gone through.
+#[derive(Clone, Copy)]
+struct Before {
+    /// Whether a transaction is aborting.
+    is_aborting: bool,
+    /// How many records the log has.
+    records: u64,
+    /// Whether a transaction without an end has nothing left to undo, beside one that has.
+    has_idle: bool,
+    /// How many restarts were stopped one after the other, each with some of its records made.
+    row: u64,
 }
 
 impl Met {
-    fn note(&mut self, told: &Told, was_aborting: bool, holds_abort: bool) {
-        if let Told::Restarted(report) = told {
-            self.unfinished = self.unfinished.saturating_add(report.unfinished);
+    // Nothing yet.
+    const fn nothing() -> Met {
+        Met {
+            full: 0,
+            undone: 0,
+            aborted: 0,
+            crashed: 0,
+            stopped: 0,
+            opened: 0,
+            unfinished: 0,
+            lost: 0,
+            several: 0,
+            both: 0,
+            idle: 0,
+            once: 0,
+            twice: 0,
+            thrice: 0,
         }
-        let met = match told {
-            Told::Undone => &mut self.undone,
-            Told::Aborted => &mut self.aborted,
-            Told::Crashed(_) if was_aborting => &mut self.crashed,
-            Told::Restarted(_) if holds_abort => &mut self.opened,
-            _ => return,
-        };
-        *met = met.saturating_add(1);
+    }
+
+    fn note(&mut self, happening: &Happening, told: &Told, before: Before, holds_abort: bool) {
+        if let Told::Restarted(report) = told {
+            self.note_report(report);
+        }
+        if before.is_aborting && is_stopped_call(happening, told) {
+            add(&mut self.stopped, 1);
+        }
+        match told {
+            Told::Refused(Refusal::Full) => add(&mut self.full, 1),
+            Told::Undone => add(&mut self.undone, 1),
+            Told::Aborted => add(&mut self.aborted, 1),
+            Told::Crashed(_) if before.is_aborting => add(&mut self.crashed, 1),
+            Told::Restarted(_) if holds_abort => add(&mut self.opened, 1),
+            _ => {}
+        }
+    }
+
+    fn note_report(&mut self, report: &Report) {
+        add(&mut self.unfinished, report.unfinished);
+        add(&mut self.lost, report.lost);
+        if report.lost > 1 {
+            add(&mut self.several, 1);
+        }
+        if report.lost > 0 && report.unfinished > 0 {
+            add(&mut self.both, 1);
+        }
+    }
+
+    // So many restarts were stopped one after the other, the last one over a log that was as told.
+    fn note_row(&mut self, row: u64, before: Before) {
+        if row > 0 && before.has_idle {
+            add(&mut self.idle, 1);
+        }
+        match row {
+            1 => add(&mut self.once, 1),
+            2 => add(&mut self.twice, 1),
+            3 => add(&mut self.thrice, 1),
+            _ => {}
+        }
     }
 
     fn has_all_of(&self, wanted: &Met) -> bool {
-        self.undone >= wanted.undone
+        self.full >= wanted.full
+            && self.undone >= wanted.undone
             && self.aborted >= wanted.aborted
             && self.crashed >= wanted.crashed
+            && self.stopped >= wanted.stopped
             && self.opened >= wanted.opened
             && self.unfinished >= wanted.unfinished
+            && self.lost >= wanted.lost
+            && self.several >= wanted.several
+            && self.both >= wanted.both
+            && self.idle >= wanted.idle
+            && self.once >= wanted.once
+            && self.twice >= wanted.twice
+            && self.thrice >= wanted.thrice
+    }
+}
+
+fn add(met: &mut u64, more: u64) {
+    *met = met.saturating_add(more);
+}
+
+fn is_stopped_call(happening: &Happening, told: &Told) -> bool {
+    match (happening, told) {
+        (Happening::StopIn(..), Told::Crashed(_)) => true,
+        _ => false,
+    }
+}
+
+// How many restarts were stopped one after the other, with this happening, that came to this.
+fn row_behind(happening: &Happening, told: &Told, before: Before) -> u64 {
+    match (happening, told) {
+        (Happening::RestartStop(..), Told::Crashed(records)) if *records > before.records => {
+            before.row.saturating_add(1)
+        }
+        _ => 0,
     }
 }
 
@@ -81,14 +197,22 @@ fn compared(
         return Ok(u64::MAX);
     }
     let mut lists = Lists::new(alloc)?;
+    let mut row = 0;
     for place in 0..happenings.len() {
         if let Some(happening) = happenings.get(place) {
-            let was_aborting = lists.aborting().is_some();
+            let before = Before {
+                is_aborting: lists.aborting().is_some(),
+                records: lists.records(),
+                has_idle: lists.has_idle_beside(),
+                row,
+            };
             let told = lists.happen(happening, picked(happenings, entries, place))?;
             if !is_told(&lists, entries, place, told) {
                 return Ok((place as u64).saturating_add(1));
             }
-            met.note(&told, was_aborting, lists.holds_abort());
+            met.note(happening, &told, before, lists.holds_abort());
+            row = row_behind(happening, &told, before);
+            met.note_row(row, before);
         }
     }
     Ok(0)
@@ -155,13 +279,7 @@ fn is_finish_of(event: &Event, sub: Sub) -> bool {
 
 #[test]
 fn anything_happens(rt: HostRuntime) -> Result<(), Fail> {
-    let mut met = Met {
-        undone: 0,
-        aborted: 0,
-        crashed: 0,
-        opened: 0,
-        unfinished: 0,
-    };
+    let mut met = Met::nothing();
     for seed in FIRST..FIRST + LISTS {
         assert_eq!(rt;
             first_fault(rt.alloc(), seed, &mut met)?,

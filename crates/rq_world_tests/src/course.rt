@@ -26,12 +26,21 @@ pub const SECOND: Txn = Txn {
 /// All records.
 pub const ALL: u64 = u64::MAX;
 
+/// The third one.
+pub const THIRD: Txn = Txn {
+    incarnation: 1,
+    count: 3,
+};
+
 /// A body.
 #[derive(Clone, Copy)]
 pub enum Text {
     A,
     B,
+    C,
     Hello,
+    /// The letter at this place of the alphabet, from 0.
+    Letter(usize),
 }
 
 /// Of each page, by number, the place of the image that a crash leaves; the pages that are not said are at their
@@ -58,6 +67,7 @@ pub enum Ask {
     HandOver,
     Force,
     Write(u32),
+    LastTag(u32),
 }
 
 /// The one message that was sent for a sender, with its tag and body. It waits, or is received.
@@ -78,10 +88,20 @@ pub enum Step {
     Send(Txn, u32, u64, Text, Lsn),
     /// The first operation of a transaction, a receive of a group's only message, from its start to its end, as above.
     Receive(Txn, u32, u64, Text, Lsn),
+    /// A send to a group that holds messages, from its start to its end: its number, and the rest as above. It has four
+    /// records.
+    SendBehind(Sub, u32, u64, Text, Lsn),
+    /// A receive of the first of a group's messages, as above.
+    ReceiveFirst(Sub, u32, u64, Text, Lsn),
+    /// The first operation of a transaction, a send, is started.
+    StartSend(Txn, u32, u64, Text),
     /// The content: this message, and nothing else.
     Holds(Sent),
     /// The content: these messages, and nothing else.
     HoldsBoth(Sent, Sent),
+    /// The content: so many messages of the first sender, which wait, and nothing else. Their tags count from 1, their
+    /// bodies are the letters.
+    HoldsLetters(usize),
     /// The content: nothing.
     HoldsNothing,
     Ack(u64, Told),
@@ -109,10 +129,15 @@ pub const fn restarted(incarnation: u64, records: u64) -> Told {
 
 /// The same, which undid so many operations without an end.
 pub const fn restarted_undoing(incarnation: u64, unfinished: u64, records: u64) -> Told {
+    restarted_losing(incarnation, unfinished, 0, records)
+}
+
+/// The same, which undid so many operations and then so many transactions without an end.
+pub const fn restarted_losing(incarnation: u64, unfinished: u64, lost: u64, records: u64) -> Told {
     Told::Restarted(Report {
         incarnation,
         unfinished,
-        lost: 0,
+        lost,
         records,
     })
 }
@@ -160,34 +185,57 @@ impl Text {
         match self {
             Text::A => b"a",
             Text::B => b"b",
+            Text::C => b"c",
             Text::Hello => b"hello",
+            Text::Letter(place) => letter(place),
         }
+    }
+}
+
+// The letter at this place of the alphabet.
+fn letter(place: usize) -> &'static [u8] {
+    let letters: &'static [u8] = b"abcdefghijklmnopqrstuvwxyz";
+    match letters.chunks(1).nth(place) {
+        Some(letter) => letter,
+        None => &[],
     }
 }
 
 impl Course {
     fn add_all(&mut self, steps: &[Step]) -> Result<(), AllocError> {
         for step in steps {
-            match step {
-                Step::Send(txn, ..) | Step::Receive(txn, ..) => {
-                    let start = made(self.alloc, step)?;
-                    self.add_operation(*txn, start)?;
-                }
-                _ => self.happenings.push(made(self.alloc, step)?)?,
+            let happening = made(self.alloc, step)?;
+            self.happenings.push(happening)?;
+            if let Some((sub, writes)) = operation_of(step) {
+                self.go_through(sub, writes)?;
             }
         }
         Ok(())
     }
 
-    // An operation of two slot writes, the first of its transaction.
-    fn add_operation(&mut self, txn: Txn, start: Happening) -> Result<(), AllocError> {
-        let sub = Sub { txn, number: 1 };
-        self.happenings.push(start)?;
-        for _ in 0..3 {
+    // An operation of so many slot writes, behind its start.
+    fn go_through(&mut self, sub: Sub, writes: u64) -> Result<(), AllocError> {
+        for _ in 0..writes {
             self.happenings.push(Happening::Call(Event::Step(sub)))?;
         }
+        self.happenings.push(Happening::Call(Event::Step(sub)))?;
         self.happenings.push(Happening::Call(Event::Finish(sub)))?;
         Ok(())
+    }
+}
+
+// The operation that a step is from its start to its end, and how many slots it writes.
+fn operation_of(step: &Step) -> Option<(Sub, u64)> {
+    match step {
+        Step::Send(txn, ..) | Step::Receive(txn, ..) => {
+            let sub = Sub {
+                txn: *txn,
+                number: 1,
+            };
+            Some((sub, 2))
+        }
+        Step::SendBehind(sub, ..) | Step::ReceiveFirst(sub, ..) => Some((*sub, 3)),
+        _ => None,
     }
 }
 
@@ -195,14 +243,15 @@ impl Course {
 fn made(alloc: Global, step: &Step) -> Result<Happening, AllocError> {
     Ok(match step {
         Step::Call(ask, _) => Happening::Call(event(ask)),
-        Step::Send(txn, sender, tag, text, _) => Happening::Call(Event::StartSend {
-            txn: *txn,
-            sender: *sender,
-            tag: *tag,
-            body: Vec::from_slice(alloc, text.bytes())?,
-        }),
+        Step::Send(txn, sender, tag, text, _) | Step::StartSend(txn, sender, tag, text) => {
+            Happening::Call(start_of(alloc, *txn, *sender, *tag, *text)?)
+        }
+        Step::SendBehind(sub, sender, tag, text, _) => {
+            Happening::Call(start_of(alloc, sub.txn, *sender, *tag, *text)?)
+        }
         Step::Receive(txn, ..) => Happening::Call(Event::StartReceive(*txn)),
-        Step::Holds(_) | Step::HoldsBoth(..) | Step::HoldsNothing => {
+        Step::ReceiveFirst(sub, ..) => Happening::Call(Event::StartReceive(sub.txn)),
+        Step::Holds(_) | Step::HoldsBoth(..) | Step::HoldsLetters(_) | Step::HoldsNothing => {
             Happening::Call(Event::Content)
         }
         Step::Ack(n, _) => Happening::Ack(*n),
@@ -215,6 +264,22 @@ fn made(alloc: Global, step: &Step) -> Result<Happening, AllocError> {
         Step::RestartStop(n, keep, _) => {
             Happening::RestartStop(*n, choice(alloc, *keep, Images::Unsaid)?)
         }
+    })
+}
+
+// The start of a send.
+fn start_of(
+    alloc: Global,
+    txn: Txn,
+    sender: u32,
+    tag: u64,
+    text: Text,
+) -> Result<Event, AllocError> {
+    Ok(Event::StartSend {
+        txn,
+        sender,
+        tag,
+        body: Vec::from_slice(alloc, text.bytes())?,
     })
 }
 
@@ -241,6 +306,7 @@ fn event(ask: &Ask) -> Event {
         Ask::HandOver => Event::HandOver,
         Ask::Force => Event::Force,
         Ask::Write(page) => Event::WritePage(*page),
+        Ask::LastTag(sender) => Event::LastTag(*sender),
     }
 }
 
@@ -260,6 +326,7 @@ fn compared(entries: &[Entry], first: &[Step], then: &[Step]) -> u64 {
 fn entries_of(step: &Step) -> usize {
     match step {
         Step::Send(..) | Step::Receive(..) => 5,
+        Step::SendBehind(..) | Step::ReceiveFirst(..) => 6,
         _ => 1,
     }
 }
@@ -267,18 +334,27 @@ fn entries_of(step: &Step) -> usize {
 // Whether the entries from this place on are what the step is to come to.
 fn is_so(entries: &[Entry], place: usize, step: &Step) -> bool {
     match step {
-        Step::Send(txn, _, _, _, first) => {
-            is_operation(entries, place, *txn, *first)
-                && tells(entries, place.saturating_add(4), Told::Sent)
+        Step::Send(_, _, _, _, first) | Step::SendBehind(_, _, _, _, first) => {
+            is_gone_through(entries, place, step, *first)
+                && tells(entries, last_of(place, step), Told::Sent)
         }
-        Step::Receive(txn, sender, tag, text, first) => {
-            is_operation(entries, place, *txn, *first)
-                && is_received(entries, place.saturating_add(4), *sender, *tag, *text)
+        Step::Receive(_, sender, tag, text, first)
+        | Step::ReceiveFirst(_, sender, tag, text, first) => {
+            is_gone_through(entries, place, step, *first)
+                && is_received(entries, last_of(place, step), *sender, *tag, *text)
         }
-        Step::Holds(_) | Step::HoldsBoth(..) | Step::HoldsNothing => match entries.get(place) {
-            Some(entry) => is_content(entry, step),
-            None => false,
-        },
+        Step::StartSend(txn, ..) => {
+            let sub = Sub {
+                txn: *txn,
+                number: 1,
+            };
+            tells(entries, place, Told::Started(sub))
+        }
+        Step::Holds(_) | Step::HoldsBoth(..) | Step::HoldsLetters(_) | Step::HoldsNothing =>
+            match entries.get(place) {
+                Some(entry) => is_content(entry, step),
+                None => false,
+            },
         _ => tells(entries, place, told_for(step)),
     }
 }
@@ -303,13 +379,32 @@ fn tells(entries: &[Entry], place: usize, told: Told) -> bool {
     }
 }
 
-// Whether an operation starts at this place and makes two slot writes.
-fn is_operation(entries: &[Entry], place: usize, txn: Txn, first: Lsn) -> bool {
-    let second = first.saturating_add(1);
-    tells(entries, place, Told::Started(Sub { txn, number: 1 }))
-        && tells(entries, place.saturating_add(1), Told::Stepped(first))
-        && tells(entries, place.saturating_add(2), Told::Stepped(second))
-        && tells(entries, place.saturating_add(3), Told::Ready)
+// The last entry of a step that begins at this place.
+fn last_of(place: usize, step: &Step) -> usize {
+    place.saturating_add(entries_of(step)).saturating_sub(1)
+}
+
+// Whether the operation that the step is starts at this place, and makes its slot writes.
+fn is_gone_through(entries: &[Entry], place: usize, step: &Step, first: Lsn) -> bool {
+    match operation_of(step) {
+        Some((sub, writes)) => {
+            tells(entries, place, Told::Started(sub))
+                && are_made(entries, place.saturating_add(1), writes, first)
+                && tells(entries, last_of(place, step).saturating_sub(1), Told::Ready)
+        }
+        None => false,
+    }
+}
+
+// Whether so many slot writes are made from this place on.
+fn are_made(entries: &[Entry], place: usize, writes: u64, first: Lsn) -> bool {
+    for made in 0..writes {
+        let told = Told::Stepped(first.saturating_add(made));
+        if !tells(entries, place.saturating_add(made as usize), told) {
+            return false;
+        }
+    }
+    true
 }
 
 fn is_received(entries: &[Entry], place: usize, sender: u32, tag: u64, text: Text) -> bool {
@@ -344,6 +439,7 @@ fn hold(groups: &[GroupContent], step: &Step) -> bool {
             Step::Holds(sent) if sent.sender == sender => holds(group, sent),
             Step::HoldsBoth(sent, _) if sent.sender == sender => holds(group, sent),
             Step::HoldsBoth(_, sent) if sent.sender == sender => holds(group, sent),
+            Step::HoldsLetters(count) if sender == 0 => holds_letters(group, *count),
             _ => is_empty(group),
         };
         if !is_right {
@@ -368,6 +464,26 @@ fn holds(group: &GroupContent, sent: &Sent) -> bool {
         && group.received == u64::from(!sent.waits)
         && !group.closed
         && is_rest(&group.rest, sent)
+}
+
+fn holds_letters(group: &GroupContent, count: usize) -> bool {
+    for place in 0..group.rest.len() {
+        match group.rest.get(place) {
+            Some(message)
+                if is_message(
+                    message,
+                    0,
+                    (place as u64).saturating_add(1),
+                    Text::Letter(place),
+                ) => {}
+            _ => return false,
+        }
+    }
+    group.rest.len() == count
+        && group.sent == count as u64
+        && group.last_tag == count as u64
+        && group.received == 0
+        && !group.closed
 }
 
 fn is_rest(rest: &[Message], sent: &Sent) -> bool {

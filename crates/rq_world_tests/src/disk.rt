@@ -12,16 +12,26 @@ pub const CELLS: u32 = 2;
 /// The bytes that a log is read by.
 const CHUNK: u64 = 4096;
 
+/// What an operation did, as far as a restart that undoes it tells by its records.
+#[derive(Clone, Copy)]
+pub enum Deed {
+    /// A message of this sender was sent, with so many bytes.
+    Sent(u32, u64),
+    /// One was taken.
+    Taken(u32, u64),
+    Closed,
+}
+
 /// A record of the log, as far as it is looked at here.
 #[derive(Clone, Copy)]
 pub enum Record {
     Restart,
     /// A slot write of a transaction, on this page.
     Write(Txn, u32),
-    /// The end of an operation, with so many bytes that say what was done.
-    End(Txn, u64),
-    /// The end of an inverse.
-    Undone(Txn),
+    /// The end of an operation that did this.
+    End(Txn, Deed),
+    /// The end of an inverse, by which the operation is undone whose end has that LSN.
+    Undone(Txn, Lsn),
     /// The slot write of a transaction's operation without an end is undone that has this LSN.
     Back(Txn, u32, Lsn),
     /// The end of an operation that was undone so.
@@ -39,6 +49,17 @@ struct Images {
     lsn: Lsn,
     /// Whether it was changed since it was read or written.
     changed: bool,
+}
+
+/// What an opening came to.
+#[derive(Clone, Copy)]
+pub struct Opening {
+    /// How many openings there were, this one too.
+    pub incarnation: u64,
+    /// How many operations without an end were undone.
+    pub unfinished: u64,
+    /// How many transactions were that had finished something and had no end.
+    pub lost: u64,
 }
 
 /// What a device call meets.
@@ -138,11 +159,6 @@ impl Disk {
         self.forced as u64
     }
 
-    /// How many outlive a crash beside those that are forced, if all do.
-    pub fn unforced(&self) -> u64 {
-        (self.records.len() as u64).saturating_sub(self.forced as u64)
-    }
-
     /// The nth call from now fails.
     pub fn fail(&mut self, n: u64) {
         self.failing = self.number_of(n);
@@ -190,22 +206,21 @@ impl Disk {
 
     /// Adds a record, and answers its LSN.
     pub fn add(&mut self, record: Record) -> Result<Lsn, Refusal> {
+        let page = page_of(&record);
         if self.records.push(record).is_err() {
             return Err(Refusal::NoMemory);
         }
         let lsn = self.len();
-        self.apply(record, lsn);
+        self.change(page, lsn);
         Ok(lsn)
     }
 
-    // Makes the change of a record, where its page is older.
-    fn apply(&mut self, record: Record, lsn: Lsn) {
-        match record {
-            Record::Write(_, DIRECTORY) | Record::Back(_, DIRECTORY, _) => {
-                self.directory.change(lsn)
-            }
-            Record::Write(_, _) | Record::Back(_, _, _) => self.cells.change(lsn),
-            _ => {}
+    // Makes the change of the record with this LSN on its page, where that is older.
+    fn change(&mut self, page: Option<u32>, lsn: Lsn) {
+        match page {
+            Some(DIRECTORY) => self.directory.change(lsn),
+            Some(_) => self.cells.change(lsn),
+            None => {}
         }
     }
 
@@ -290,32 +305,37 @@ impl Disk {
 
     // Reads three pages, and the log until a read finds its end.
     fn read_all(&mut self) -> Result<(), Refusal> {
+        for _ in 0..self.reads() {
+            self.read()?;
+        }
+        Ok(())
+    }
+
+    /// How many reads an opening makes.
+    pub fn reads(&self) -> u64 {
         let mut bytes: u64 = 0;
         for record in &self.records {
             bytes = bytes.saturating_add(bytes_of(record));
         }
-        for _ in 0..3 {
-            self.read()?;
-        }
-        for _ in 0..bytes.div_ceil(CHUNK) {
-            self.read()?;
-        }
-        self.read()
+        bytes.div_ceil(CHUNK).saturating_add(4)
     }
 
     /// Opens the store, whose records are all handed over: reads everything, makes the changes that pages lack, undoes
-    /// operations without an end, and forces the record of the opening, the newest then. Answers how many openings there
-    /// were, and how many operations were undone. A transaction without an end is not undone yet.
-    pub fn open(&mut self) -> Result<(u64, u64), Refusal> {
+    /// operations without an end and then transactions without one, and forces the records of that with the one of the
+    /// opening, the newest then.
+    pub fn open(&mut self) -> Result<Opening, Refusal> {
         self.read_all()?;
-        if !self.is_settled(self.len()) {
-            return Err(Refusal::Unfinished);
-        }
         self.load();
-        let undone = self.undo_unfinished()?;
+        let unfinished = self.undo_unfinished()?;
+        let lost = self.lost();
+        self.undo_lost()?;
         self.add(Record::Restart)?;
         match self.force() {
-            Ok(_) => Ok((self.openings(), undone)),
+            Ok(_) => Ok(Opening {
+                incarnation: self.openings(),
+                unfinished,
+                lost,
+            }),
             Err(refusal) => {
                 self.records.truncate(self.handed);
                 Err(refusal)
@@ -328,11 +348,14 @@ impl Disk {
         self.directory.load();
         self.cells.load();
         for index in 0..self.records.len() {
-            let Some(record) = self.records.get(index).copied() else {
-                return;
-            };
-            self.apply(record, (index as u64).saturating_add(1));
+            let page = self.page_at(index);
+            self.change(page, (index as u64).saturating_add(1));
         }
+    }
+
+    // The page that the record at this place changes.
+    fn page_at(&self, index: usize) -> Option<u32> {
+        page_of(self.records.get(index)?)
     }
 
     // Undoes operations without an end, and answers how many there were. Those of which nothing is left to undo have
@@ -407,7 +430,7 @@ impl Disk {
     fn is_over(&self, lsn: Lsn, txn: Txn) -> bool {
         for record in self.records.iter().skip(lsn as usize) {
             match record {
-                Record::End(ended, _) | Record::Undone(ended) | Record::Void(ended)
+                Record::End(ended, _) | Record::Undone(ended, _) | Record::Void(ended)
                     if *ended == txn => {
                     return true;
                 }
@@ -438,24 +461,34 @@ impl Disk {
         openings
     }
 
-    /// Whether each transaction that finished something in the first records has its end among them: its commit, or that
-    /// of its abort.
-    pub fn is_settled(&self, count: u64) -> bool {
-        for record in self.records.iter().take(count as usize) {
+    // How many transactions finished something, and have no end.
+    fn lost(&self) -> u64 {
+        let mut lost: u64 = 0;
+        for (index, record) in self.records.iter().enumerate() {
             match record {
-                Record::End(txn, _) => {
-                    if !self.is_ended(*txn, count) {
-                        return false;
-                    }
+                Record::End(txn, _) if self.is_first_end(index, *txn) && !self.is_ended(*txn) => {
+                    lost = lost.saturating_add(1);
                 }
+                _ => {}
+            }
+        }
+        lost
+    }
+
+    // Whether the transaction finished nothing before this place.
+    fn is_first_end(&self, index: usize, txn: Txn) -> bool {
+        for record in self.records.iter().take(index) {
+            match record {
+                Record::End(ended, _) if *ended == txn => return false,
                 _ => {}
             }
         }
         true
     }
 
-    fn is_ended(&self, txn: Txn, count: u64) -> bool {
-        for record in self.records.iter().take(count as usize) {
+    // Whether the transaction has its end: its commit, or that of its abort.
+    fn is_ended(&self, txn: Txn) -> bool {
+        for record in &self.records {
             match record {
                 Record::Commit(ended) | Record::Abort(ended) if *ended == txn => return true,
                 _ => {}
@@ -464,12 +497,138 @@ impl Disk {
         false
     }
 
+    // Undoes the transactions that finished something and have no end. Those of which nothing is left to undo have their
+    // end first, by rising number. Then what the others did is undone, the newest of all first; each has its end behind
+    // the last of it.
+    fn undo_lost(&mut self) -> Result<(), Refusal> {
+        let most = self.records.len();
+        for _ in 0..most {
+            let Some(txn) = self.least_idle() else {
+                break;
+            };
+            self.add(Record::Abort(txn))?;
+        }
+        for _ in 0..most {
+            let Some((lsn, txn, deed)) = self.newest_due() else {
+                break;
+            };
+            self.undo(lsn, txn, deed)?;
+            if self.newest_due_of(txn) == 0 {
+                self.add(Record::Abort(txn))?;
+            }
+        }
+        Ok(())
+    }
+
+    // The least transaction that finished something, has no end, and has nothing left to undo.
+    fn least_idle(&self) -> Option<Txn> {
+        let mut least: Option<Txn> = None;
+        for record in &self.records {
+            match record {
+                Record::End(txn, _)
+                    if !self.is_ended(*txn)
+                        && self.newest_due_of(*txn) == 0
+                        && is_before(*txn, least) => {
+                    least = Some(*txn);
+                }
+                _ => {}
+            }
+        }
+        least
+    }
+
+    // The newest operation that is to be undone of a transaction without an end: the LSN of its end, its transaction, and
+    // what it did.
+    fn newest_due(&self) -> Option<(Lsn, Txn, Deed)> {
+        let mut newest = None;
+        for (index, record) in self.records.iter().enumerate() {
+            let lsn = (index as u64).saturating_add(1);
+            match record {
+                Record::End(txn, deed) if !self.is_undone(lsn) && !self.is_ended(*txn) => {
+                    newest = Some((lsn, *txn, *deed));
+                }
+                _ => {}
+            }
+        }
+        newest
+    }
+
+    /// Whether a transaction that finished something has nothing left to undo, beside one that has, and neither has an end.
+    pub fn has_idle_beside(&self) -> bool {
+        self.least_idle().is_some() && self.newest_due().is_some()
+    }
+
+    /// The LSN of the end of the newest operation of a transaction that is not undone; 0 where there is none.
+    pub fn newest_due_of(&self, txn: Txn) -> Lsn {
+        let mut newest = 0;
+        for (index, record) in self.records.iter().enumerate() {
+            let lsn = (index as u64).saturating_add(1);
+            match record {
+                Record::End(ended, _) if *ended == txn && !self.is_undone(lsn) => newest = lsn,
+                _ => {}
+            }
+        }
+        newest
+    }
+
+    // Whether an inverse has undone the operation whose end has this LSN.
+    fn is_undone(&self, lsn: Lsn) -> bool {
+        for record in &self.records {
+            match record {
+                Record::Undone(_, undone) if *undone == lsn => return true,
+                _ => {}
+            }
+        }
+        false
+    }
+
+    // An inverse, from its first slot write to its end. The last write is of the directory, those before it are of cells.
+    fn undo(&mut self, lsn: Lsn, txn: Txn, deed: Deed) -> Result<(), Refusal> {
+        for _ in 1..self.writes_to_undo(&deed) {
+            self.add(Record::Write(txn, CELLS))?;
+        }
+        self.add(Record::Write(txn, DIRECTORY))?;
+        self.add(Record::Undone(txn, lsn))?;
+        Ok(())
+    }
+
+    // How many slots are written to undo what was done. The directory is written, the cell of a message, and that of the
+    // one beside: of a message that goes, of the one before it, and of a message that comes back, of the one that was
+    // first.
+    fn writes_to_undo(&self, deed: &Deed) -> u8 {
+        match deed {
+            Deed::Sent(sender, _) if self.length(*sender) == 1 => 2,
+            Deed::Taken(sender, _) if self.length(*sender) == 0 => 2,
+            Deed::Closed => 1,
+            _ => 3,
+        }
+    }
+
+    // How many messages a sender's chain has: all that were sent and not taken, but those that are undone.
+    fn length(&self, sender: u32) -> u64 {
+        let mut sent: u64 = 0;
+        let mut taken: u64 = 0;
+        for (index, record) in self.records.iter().enumerate() {
+            let lsn = (index as u64).saturating_add(1);
+            match record {
+                Record::End(_, Deed::Sent(by, _)) if *by == sender && !self.is_undone(lsn) => {
+                    sent = sent.saturating_add(1);
+                }
+                Record::End(_, Deed::Taken(by, _)) if *by == sender && !self.is_undone(lsn) => {
+                    taken = taken.saturating_add(1);
+                }
+                _ => {}
+            }
+        }
+        sent.saturating_sub(taken)
+    }
+
     /// Whether the end of an abort stands behind that of an inverse.
     pub fn holds_abort(&self) -> bool {
         let mut has_undone = false;
         for record in &self.records {
             match record {
-                Record::Undone(_) => has_undone = true,
+                Record::Undone(_, _) => has_undone = true,
                 Record::Abort(_) if has_undone => return true,
                 _ => {}
             }
@@ -527,10 +686,28 @@ fn bytes_of(record: &Record) -> u64 {
     match record {
         Record::Restart => 13,
         Record::Write(_, _) => 546,
-        Record::End(_, deed) => deed.saturating_add(30),
-        Record::Undone(_) => 37,
+        Record::End(_, deed) => deed_bytes(deed).saturating_add(30),
+        Record::Undone(_, _) => 37,
         Record::Back(_, _, _) => 298,
         Record::Void(_) => 29,
         Record::Commit(_) | Record::Abort(_) => 21,
+    }
+}
+
+// The bytes that say what an operation did.
+fn deed_bytes(deed: &Deed) -> u64 {
+    match deed {
+        Deed::Sent(_, body) => body.saturating_add(29),
+        Deed::Taken(_, body) => body.saturating_add(21),
+        Deed::Closed => 5,
+    }
+}
+
+// The page that a record changes.
+fn page_of(record: &Record) -> Option<u32> {
+    match record {
+        Record::Write(_, page) => Some(*page),
+        Record::Back(_, page, _) => Some(*page),
+        _ => None,
     }
 }

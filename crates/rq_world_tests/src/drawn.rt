@@ -7,11 +7,8 @@ use rq_engine::event::Event;
 use rq_model::txn::{Sub, Txn};
 use std::alloc::{AllocError, Global};
 
-/// How many happenings a list has at most.
+/// How many happenings a list has.
 const LENGTH: u64 = 160;
-
-/// How many more there are once the store can't be opened any more.
-const BEHIND: u64 = 3;
 
 /// A list that is being drawn.
 #[derive(Drop)]
@@ -26,8 +23,6 @@ struct Drawing {
     opened: bool,
     // Whether it sends and doesn't receive, and little else happens: the store fills up.
     fills: bool,
-    // So many happenings are to come.
-    left: u64,
 }
 
 /// The list of a seed.
@@ -40,12 +35,9 @@ pub fn drawn(alloc: Global, seed: u64) -> Result<Vec<Happening>, AllocError> {
         commits: Vec::new(alloc),
         opened: false,
         fills: seed % 4 == 0,
-        left: LENGTH,
     };
     for _ in 0..LENGTH {
-        if drawing.left > 0 {
-            drawing.draw()?;
-        }
+        drawing.draw()?;
     }
     let Drawing {
         alloc: _,
@@ -55,7 +47,6 @@ pub fn drawn(alloc: Global, seed: u64) -> Result<Vec<Happening>, AllocError> {
         commits: _,
         opened: _,
         fills: _,
-        left: _,
     } = drawing;
     Ok(happenings)
 }
@@ -70,10 +61,6 @@ impl Drawing {
         if let Told::Committed(_, _) = told {
             self.commits.push(self.happenings.len() as u64)?;
         }
-        self.left = self.left.saturating_sub(1);
-        if self.lists.is_stuck() {
-            self.left = std::cmp::min(self.left, BEHIND);
-        }
         Ok(())
     }
 
@@ -84,6 +71,10 @@ impl Drawing {
         // it shows which image was left
         if self.opened && !self.random.is_first_of(3) {
             return Ok(Happening::Call(Event::WritePage(self.page())));
+        }
+        // the restart behind it ends one of them first, and then undoes the other
+        if self.lists.has_idle_beside() && self.random.is_first_of(4) {
+            return Ok(Happening::Crash(self.choice_of(u64::MAX)?));
         }
         match self.random.below(if self.fills { 400 } else { 50 }) {
             0 => Ok(Happening::Ack(self.random.below(LENGTH))),
@@ -102,16 +93,27 @@ impl Drawing {
     }
 
     fn of_shut(&mut self) -> Result<Happening, AllocError> {
-        match self.random.below(10) {
-            0 | 1 => {
-                let n = self.random.below(11);
+        match self.random.below(12) {
+            0..4 => {
+                let n = self.call_of_restart();
                 Ok(Happening::RestartStop(n, self.choice()?))
             }
-            2 => Ok(Happening::Crash(self.choice()?)),
-            3 if self.random.is_first_of(2) => Ok(Happening::Call(self.call()?)),
-            3 => Ok(self.acknowledgement()),
-            4 => Ok(self.failure()),
+            4 => Ok(Happening::Crash(self.choice()?)),
+            5 if self.random.is_first_of(2) => Ok(Happening::Call(self.call()?)),
+            5 => Ok(self.acknowledgement()),
+            6 => Ok(self.failure()),
             _ => Ok(Happening::Restart),
+        }
+    }
+
+    // A device call of a restart, or one behind its last. Most times its append, which a crash may cut between any two of
+    // its records.
+    fn call_of_restart(&mut self) -> u64 {
+        let append = self.lists.reads().saturating_add(1);
+        if self.random.is_first_of(4) {
+            self.random.below(append.saturating_add(3))
+        } else {
+            append
         }
     }
 
@@ -134,16 +136,18 @@ impl Drawing {
         }
     }
 
-    // What a crash keeps: most times so that the store can be opened again.
+    // What a crash keeps.
     fn choice(&mut self) -> Result<Choice, AllocError> {
-        let mut keep = match self.random.below(4) {
+        let keep = match self.random.below(6) {
             0 => 0,
             1 => u64::MAX,
+            2 | 3 => self.random.below(5),
             _ => self.random.below(24),
         };
-        if !self.random.is_first_of(6) {
-            keep = self.lists.settled_keep(keep);
-        }
+        self.choice_of(keep)
+    }
+
+    fn choice_of(&mut self, keep: u64) -> Result<Choice, AllocError> {
         let mut pages = Vec::new(self.alloc);
         for _ in 0..self.random.below(5) {
             let place = match self.random.below(5) {
@@ -178,6 +182,7 @@ impl Drawing {
             }
             None if self.lists.open_count() == 0 && !self.random.is_first_of(3) => Ok(Event::Begin),
             None if !self.random.is_first_of(3) => match self.lists.aborting() {
+                Some((_, false)) if self.random.is_first_of(2) => self.other_call(),
                 Some((txn, has_done)) => Ok(self.abort_on(txn, has_done)),
                 None => self.other_call(),
             },
@@ -207,7 +212,7 @@ impl Drawing {
             },
             14 => Event::Step(self.sub()),
             15 => Event::Finish(self.sub()),
-            16 | 17 => self.force(),
+            16 | 17 => Event::Force,
             18 => Event::HandOver,
             19 | 20 => Event::WritePage(self.page()),
             21 => Event::Content,
@@ -227,15 +232,6 @@ impl Drawing {
     fn begin(&mut self) -> Event {
         if self.lists.open_count() < 3 {
             Event::Begin
-        } else {
-            Event::Commit(self.txn())
-        }
-    }
-
-    // A force, most times where nothing is unfinished.
-    fn force(&mut self) -> Event {
-        if self.lists.is_settled() || self.random.is_first_of(6) {
-            Event::Force
         } else {
             Event::Commit(self.txn())
         }

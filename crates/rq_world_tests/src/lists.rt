@@ -1,5 +1,5 @@
 //! The queue as plain lists: what each happening has to come to, given what came before it.
-use crate::disk::{CELLS, DIRECTORY, Disk, Record};
+use crate::disk::{CELLS, DIRECTORY, Deed, Disk, Opening, Record};
 use crate::told::Told;
 use rq_core::happening::{Choice, Happening};
 use rq_engine::event::{Event, GroupContent, LastTag};
@@ -153,14 +153,19 @@ impl Lists {
             return Told::Running;
         }
         match self.disk.open() {
-            Ok((incarnation, unfinished)) => {
+            Ok(opening) => {
+                let Opening {
+                    incarnation,
+                    unfinished,
+                    lost,
+                } = opening;
                 self.open = true;
                 self.incarnation = incarnation;
                 self.begins = 0;
                 Told::Restarted(Report {
                     incarnation,
                     unfinished,
-                    lost: 0,
+                    lost,
                     records: self.disk.len(),
                 })
             }
@@ -390,11 +395,12 @@ impl Lists {
         if work.left > 0 {
             return Err(Refusal::Unfinished);
         }
-        self.disk.add(if work.undoes {
-            Record::Undone(sub.txn)
+        let end = if work.undoes {
+            Record::Undone(sub.txn, self.disk.newest_due_of(sub.txn))
         } else {
-            Record::End(sub.txn, deed_bytes(&work.act))
-        })?;
+            Record::End(sub.txn, deed_of(&work.act))
+        };
+        self.disk.add(end)?;
         let Some(row) = self.rows.get_mut(place) else {
             return Ok(Told::Other);
         };
@@ -711,16 +717,6 @@ impl Lists {
         self.open
     }
 
-    /// Whether it can't be opened any more: a transaction in its log finished something and has no end.
-    pub fn is_stuck(&self) -> bool {
-        !self.open && !self.disk.is_settled(self.disk.len())
-    }
-
-    /// Whether no transaction that finished something is without an end in what a crash may keep.
-    pub fn is_settled(&self) -> bool {
-        self.disk.is_settled(self.disk.len())
-    }
-
     /// Whether the end of an abort that undid something is in the log.
     pub fn holds_abort(&self) -> bool {
         self.disk.holds_abort()
@@ -731,17 +727,19 @@ impl Lists {
         self.disk.is_failing()
     }
 
-    /// At most so many unforced records for a crash to keep, after which the store can be opened; or so many, where
-    /// there are none.
-    pub fn settled_keep(&self, keep: u64) -> u64 {
-        let most = std::cmp::min(keep, self.disk.unforced());
-        for less in 0..most {
-            let count = self.disk.forced().saturating_add(most.saturating_sub(less));
-            if self.disk.is_settled(count) {
-                return most.saturating_sub(less);
-            }
-        }
-        0
+    /// Whether a transaction without an end has nothing left to undo, beside one that has.
+    pub fn has_idle_beside(&self) -> bool {
+        self.disk.has_idle_beside()
+    }
+
+    /// How many records the log has.
+    pub fn records(&self) -> u64 {
+        self.disk.len()
+    }
+
+    /// How many reads a restart makes, before it appends and forces.
+    pub fn reads(&self) -> u64 {
+        self.disk.reads()
     }
 
     /// How many transactions have not ended.
@@ -813,6 +811,14 @@ fn end_work(row: &mut Row, act: Act) -> Result<(), Refusal> {
     Ok(())
 }
 
+fn deed_of(act: &Act) -> Deed {
+    match act {
+        Act::Sent(message) => Deed::Sent(message.sender, message.body.as_slice().len() as u64),
+        Act::Taken(message) => Deed::Taken(message.sender, message.body.as_slice().len() as u64),
+        Act::Closed(_) => Deed::Closed,
+    }
+}
+
 fn told_of_act(act: &Act) -> Told {
     match act {
         Act::Sent(_) => Told::Sent,
@@ -865,13 +871,4 @@ fn takes_in(acts: &[Act], sender: u32) -> usize {
         }
     }
     takes
-}
-
-// The bytes that say what an operation did.
-fn deed_bytes(act: &Act) -> u64 {
-    match act {
-        Act::Sent(message) => (message.body.as_slice().len() as u64).saturating_add(29),
-        Act::Taken(message) => (message.body.as_slice().len() as u64).saturating_add(21),
-        Act::Closed(_) => 5,
-    }
 }

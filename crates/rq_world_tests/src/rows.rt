@@ -1,10 +1,14 @@
-//! Worked courses: one message, from its send over a crash to its receive, or to a receive that is undone.
+//! Worked courses: one message, from its send over a crash to its receive, or to a receive that is undone; and what a
+//! crash cuts off of a few transactions.
 use crate::course::{
-    ALL, Ask, FIRST, Images, SECOND, Sent, Step, Text, check, restarted, restarted_undoing,
+    ALL, Ask, FIRST, Images, SECOND, Sent, Step, THIRD, Text, check, restarted, restarted_losing,
+    restarted_undoing,
 };
 use crate::told::Told;
+use rq_engine::event::LastTag;
 use rq_model::refusal::Refusal;
 use rq_model::txn::{Sub, Txn};
+use std::process::Abort;
 use std::test::Fail;
 
 /// The first transaction behind a restart.
@@ -159,34 +163,293 @@ fn a_message_that_was_put_back_outlives_a_crash(rt: HostRuntime) -> Result<(), F
     Ok(())
 }
 
-// A receive without an end is undone slot by slot. Of the records behind its end all have to outlive the crash: a
-// transaction without an end is not undone yet.
+// A receive without an end is undone slot by slot, and so is an inverse without one. Behind its end the receive is
+// undone by an inverse, unless one has its end already; and the transaction is ended, unless it has been.
 #[test]
 fn a_crash_in_the_midst_of_an_abort(rt: HostRuntime) -> Result<(), Fail> {
-    for (keep, records) in [(5, 9), (6, 11)] {
+    for (keep, opened) in [
+        (4, restarted(2, 6)),
+        (5, restarted_undoing(2, 1, 9)),
+        (6, restarted_undoing(2, 1, 11)),
+        (7, restarted_losing(2, 0, 1, 13)),
+        (8, restarted_losing(2, 1, 1, 16)),
+        (9, restarted_losing(2, 1, 1, 18)),
+        (10, restarted_losing(2, 0, 1, 13)),
+        (11, restarted(2, 13)),
+    ] {
         let end = [
             Step::Crash(keep, Images::Unsaid, u64::saturating_add(keep, 1)),
-            Step::Restart(restarted_undoing(2, 1, records)),
+            Step::Restart(opened),
             Step::Holds(sent(1, Text::A, true)),
         ];
         check(&rt, keep, &put_back(), &end)?;
     }
-    for keep in 7..11 {
-        let end = [
-            Step::Crash(keep, Images::Unsaid, u64::saturating_add(keep, 1)),
-            Step::Restart(Told::Shut(Refusal::Unfinished)),
-            Step::Restart(Told::Shut(Refusal::Unfinished)),
-        ];
-        check(&rt, keep, &put_back(), &end)?;
+    Ok(())
+}
+
+// The operation of this number of a transaction.
+const fn operation(txn: Txn, number: u64) -> Sub {
+    Sub { txn, number }
+}
+
+// One message is committed. Another transaction sends behind it, and a third one receives it. Nothing but the first
+// opening is forced.
+const fn sent_behind_and_received() -> [Step; 8] {
+    [
+        Step::Restart(restarted(1, 1)),
+        Step::Call(Ask::Begin, Told::Begun(FIRST)),
+        Step::Send(FIRST, 0, 1, Text::A, 2),
+        Step::Call(Ask::Commit(FIRST), Told::Committed(FIRST, 5)),
+        Step::Call(Ask::Begin, Told::Begun(SECOND)),
+        Step::SendBehind(operation(SECOND, 1), 0, 2, Text::B, 6),
+        Step::Call(Ask::Begin, Told::Begun(THIRD)),
+        Step::ReceiveFirst(operation(THIRD, 1), 0, 1, Text::A, 10),
+    ]
+}
+
+#[test]
+fn two_lost_transactions_are_undone(rt: HostRuntime) -> Result<(), Fail> {
+    let both = [
+        Step::Crash(ALL, Images::Unsaid, 13),
+        Step::Restart(restarted_losing(2, 0, 2, 24)),
+        Step::Holds(sent(1, Text::A, true)),
+        Step::Call(Ask::Force, Told::Forced(24)),
+    ];
+    check(&rt, 0, &sent_behind_and_received(), &both)?;
+    let one = [
+        Step::Call(Ask::Commit(THIRD), Told::Committed(THIRD, 14)),
+        Step::Crash(ALL, Images::Unsaid, 14),
+        Step::Restart(restarted_losing(2, 0, 1, 19)),
+        Step::Holds(sent(1, Text::A, false)),
+        Step::Call(Ask::Force, Told::Forced(19)),
+    ];
+    check(&rt, 1, &sent_behind_and_received(), &one)
+}
+
+// Fifteen messages fill the store. The first is received, and comes back into the one cell that is free.
+#[test]
+fn a_lost_receive_from_a_full_store_is_undone(rt: HostRuntime) -> Result<(), Fail> {
+    let mut course = Vec::new(rt.alloc());
+    course.push(Step::Restart(restarted(1, 1)))?;
+    course.push(Step::Call(Ask::Begin, Told::Begun(FIRST)))?;
+    course.push(Step::Send(FIRST, 0, 1, Text::Letter(0), 2))?;
+    for place in 1..15 {
+        let number = u64::saturating_add(place as u64, 1);
+        let first = u64::saturating_add(u64::saturating_mul(place as u64, 4), 1);
+        course.push(Step::SendBehind(
+            operation(FIRST, number),
+            0,
+            number,
+            Text::Letter(place),
+            first,
+        ))?;
     }
-    for keep in [4, 11] {
-        let records = u64::saturating_add(keep, 1);
+    let end = [
+        Step::Call(Ask::Commit(FIRST), Told::Committed(FIRST, 61)),
+        Step::Call(Ask::Begin, Told::Begun(SECOND)),
+        Step::ReceiveFirst(operation(SECOND, 1), 0, 1, Text::Letter(0), 62),
+        Step::Crash(ALL, Images::Unsaid, 65),
+        Step::Restart(restarted_losing(2, 0, 1, 71)),
+        Step::HoldsLetters(15),
+        Step::Call(Ask::Force, Told::Forced(71)),
+    ];
+    check(&rt, 0, &course, &end)
+}
+
+// A send is cut off behind its first slot, which is written to the disk. Whichever image is left, nothing is there.
+#[test]
+fn a_send_that_is_cut_off_is_undone(rt: HostRuntime) -> Result<(), Fail> {
+    for images in [Images::Unsaid, Images::Three(0, 0, 0)] {
+        let course = [
+            Step::Restart(restarted(1, 1)),
+            Step::Call(Ask::Begin, Told::Begun(FIRST)),
+            Step::StartSend(FIRST, 0, 1, Text::Hello),
+            Step::Call(Ask::Step(operation(FIRST, 1)), Told::Stepped(2)),
+            Step::Call(Ask::Force, Told::Forced(2)),
+            Step::Call(Ask::Write(2), Told::Written),
+            Step::Crash(0, images, 2),
+            Step::Restart(restarted_undoing(2, 1, 5)),
+            Step::HoldsNothing,
+        ];
+        check(&rt, 0, &course, &[])?;
+    }
+    Ok(())
+}
+
+// One message is committed. Another transaction sends two behind it, aborts, and is cut off behind the first slot of its
+// first inverse: fourteen records are left.
+const fn cut_in_an_inverse() -> [Step; 11] {
+    [
+        Step::Restart(restarted(1, 1)),
+        Step::Call(Ask::Begin, Told::Begun(FIRST)),
+        Step::Send(FIRST, 0, 1, Text::A, 2),
+        Step::Call(Ask::Commit(FIRST), Told::Committed(FIRST, 5)),
+        Step::Call(Ask::Begin, Told::Begun(SECOND)),
+        Step::SendBehind(operation(SECOND, 1), 0, 2, Text::B, 6),
+        Step::SendBehind(operation(SECOND, 2), 0, 3, Text::C, 10),
+        Step::Call(Ask::StartAbort(SECOND), Told::Aborting),
+        Step::Call(Ask::UndoNext(SECOND), Told::Started(operation(SECOND, 3))),
+        Step::Call(Ask::Step(operation(SECOND, 3)), Told::Stepped(14)),
+        Step::Crash(ALL, Images::Unsaid, 14),
+    ]
+}
+
+/// A restart of that store reads three pages, and the log three times. This is its next device call, the append.
+const APPEND: u64 = 7;
+
+/// The call behind it, the force.
+const FORCE: u64 = 8;
+
+/// The append where the log has fewer than 4,096 bytes, and is read twice.
+const SHORT_APPEND: u64 = 6;
+
+#[test]
+fn restarts_that_are_stopped_go_on(rt: HostRuntime) -> Result<(), Fail> {
+    let last = LastTag { sent: 1, tag: 1 };
+    let end = [
+        Step::RestartStop(APPEND, 1, Told::Crashed(15)),
+        Step::RestartStop(APPEND, 2, Told::Crashed(17)),
+        Step::Restart(restarted_losing(2, 1, 1, 29)),
+        Step::Holds(sent(1, Text::A, true)),
+        Step::Call(Ask::LastTag(0), Told::Last(last)),
+        Step::Call(Ask::Force, Told::Forced(29)),
+    ];
+    check(&rt, 0, &cut_in_an_inverse(), &end)
+}
+
+// The restart makes twelve records. Between any two of them, a second one goes on with what is left to do.
+#[test]
+fn a_restart_is_stopped_at_each_of_its_records(rt: HostRuntime) -> Result<(), Fail> {
+    for (keep, opened) in [
+        (0, restarted_losing(2, 1, 1, 26)),
+        (1, restarted_losing(2, 1, 1, 26)),
+        (2, restarted_losing(2, 0, 1, 26)),
+        (3, restarted_losing(2, 1, 1, 29)),
+        (4, restarted_losing(2, 1, 1, 31)),
+        (5, restarted_losing(2, 1, 1, 33)),
+        (6, restarted_losing(2, 0, 1, 26)),
+        (7, restarted_losing(2, 1, 1, 29)),
+        (8, restarted_losing(2, 1, 1, 31)),
+        (9, restarted_losing(2, 1, 1, 33)),
+        (10, restarted_losing(2, 0, 1, 26)),
+        (11, restarted_losing(2, 0, 0, 26)),
+        (12, restarted_losing(3, 0, 0, 27)),
+    ] {
+        stopped_and_made_again(&rt, APPEND, keep, opened)?;
+        stopped_and_made_again(&rt, FORCE, keep, opened)?;
+    }
+    Ok(())
+}
+
+fn stopped_and_made_again(
+    rt: &(impl Abort + AllocGlobal),
+    call: u64,
+    keep: u64,
+    opened: Told,
+) -> Result<(), Fail> {
+    let end = [
+        Step::RestartStop(call, keep, Told::Crashed(u64::saturating_add(keep, 14))),
+        Step::Restart(opened),
+        Step::Holds(sent(1, Text::A, true)),
+    ];
+    check(rt, keep, &cut_in_an_inverse(), &end)
+}
+
+// One transaction has undone what it sent, and another one has sent: the first one's end is the restart's first record.
+#[test]
+fn lost_transactions_with_nothing_left_end_first(rt: HostRuntime) -> Result<(), Fail> {
+    let inverse = operation(FIRST, 2);
+    let course = [
+        Step::Restart(restarted(1, 1)),
+        Step::Call(Ask::Begin, Told::Begun(FIRST)),
+        Step::Send(FIRST, 0, 1, Text::A, 2),
+        Step::Call(Ask::StartAbort(FIRST), Told::Aborting),
+        Step::Call(Ask::UndoNext(FIRST), Told::Started(inverse)),
+        Step::Call(Ask::Step(inverse), Told::Stepped(5)),
+        Step::Call(Ask::Step(inverse), Told::Stepped(6)),
+        Step::Call(Ask::Finish(inverse), Told::Undone),
+        Step::Call(Ask::Begin, Told::Begun(SECOND)),
+        Step::Send(SECOND, 1, 1, Text::B, 8),
+        Step::Crash(ALL, Images::Unsaid, 10),
+    ];
+    for (keep, opened) in [
+        (0, restarted_losing(2, 0, 2, 16)),
+        (1, restarted_losing(2, 0, 1, 16)),
+        (2, restarted_losing(2, 1, 1, 19)),
+        (3, restarted_losing(2, 1, 1, 21)),
+        (4, restarted_losing(2, 0, 1, 16)),
+        (5, restarted(2, 16)),
+        (6, restarted(3, 17)),
+    ] {
         let end = [
-            Step::Crash(keep, Images::Unsaid, records),
-            Step::Restart(restarted(2, records.saturating_add(1))),
+            Step::RestartStop(
+                SHORT_APPEND,
+                keep,
+                Told::Crashed(u64::saturating_add(keep, 10)),
+            ),
+            Step::Restart(opened),
+            Step::HoldsNothing,
+        ];
+        check(&rt, keep, &course, &end)?;
+    }
+    Ok(())
+}
+
+// Two transactions sent. The one that did later has its end at once behind its inverse.
+#[test]
+fn each_lost_transaction_ends_behind_its_last_inverse(rt: HostRuntime) -> Result<(), Fail> {
+    let course = [
+        Step::Restart(restarted(1, 1)),
+        Step::Call(Ask::Begin, Told::Begun(FIRST)),
+        Step::Send(FIRST, 0, 1, Text::A, 2),
+        Step::Call(Ask::Begin, Told::Begun(SECOND)),
+        Step::Send(SECOND, 1, 1, Text::B, 5),
+        Step::Crash(ALL, Images::Unsaid, 7),
+    ];
+    for (keep, opened) in [
+        (0, restarted_losing(2, 0, 2, 16)),
+        (1, restarted_losing(2, 1, 2, 19)),
+        (2, restarted_losing(2, 1, 2, 21)),
+        (3, restarted_losing(2, 0, 2, 16)),
+        (4, restarted_losing(2, 0, 1, 16)),
+        (5, restarted_losing(2, 1, 1, 19)),
+        (6, restarted_losing(2, 1, 1, 21)),
+        (7, restarted_losing(2, 0, 1, 16)),
+        (8, restarted(2, 16)),
+    ] {
+        let end = [
+            Step::RestartStop(
+                SHORT_APPEND,
+                keep,
+                Told::Crashed(u64::saturating_add(keep, 7)),
+            ),
+            Step::Restart(opened),
+            Step::HoldsNothing,
+        ];
+        check(&rt, keep, &course, &end)?;
+    }
+    Ok(())
+}
+
+// Reads leave nothing behind; a stop that the restart doesn't come to is none.
+#[test]
+fn a_restart_is_stopped_in_its_reads_or_not_at_all(rt: HostRuntime) -> Result<(), Fail> {
+    for call in 1..APPEND {
+        let end = [
+            Step::RestartStop(call, ALL, Told::Crashed(14)),
+            Step::Restart(restarted_losing(2, 1, 1, 26)),
             Step::Holds(sent(1, Text::A, true)),
         ];
-        check(&rt, keep, &put_back(), &end)?;
+        check(&rt, call, &cut_in_an_inverse(), &end)?;
+    }
+    for call in [0, 9] {
+        let end = [
+            Step::RestartStop(call, 0, restarted_losing(2, 1, 1, 26)),
+            Step::Crash(0, Images::Unsaid, 26),
+            Step::Restart(restarted(3, 27)),
+            Step::Holds(sent(1, Text::A, true)),
+        ];
+        check(&rt, call, &cut_in_an_inverse(), &end)?;
     }
     Ok(())
 }

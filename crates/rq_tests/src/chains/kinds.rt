@@ -5,7 +5,7 @@ use rq_model::refusal::Refusal;
 use std::alloc::{AllocError, Global};
 
 /// How many kinds there are.
-const KINDS: u64 = 72;
+const KINDS: u64 = 89;
 
 /// What is worth counting of a call.
 #[derive(Clone, Copy, Debug, PartialEq, Eq)]
@@ -55,12 +55,37 @@ pub enum Kind {
     /// What an aborting transaction may do is refused to an open one.
     NotAborting,
     /// A crash takes records.
-    Lost,
-    /// A restart undoes the writes of a send, a receive and a close without an end, and of two operations at once.
+    Shorter,
+    /// A restart undoes the writes of a send, a receive and a close without an end, of the inverses of these, and of two
+    /// operations at once.
     SendCut,
     TakeCut,
     CloseCut,
+    UnsendCut,
+    BackCut,
+    ReopenCut,
     TwoCut,
+    /// Of an inverse without an end some writes are made, and not all.
+    BetweenSteps,
+    /// A restart undoes one transaction that had finished something, and more than one.
+    OneLost,
+    MoreLost,
+    /// It undoes the writes of an operation of another transaction than one of those.
+    CutBesideLost,
+    /// It undoes a send, a receive and a close of one of those; and of one of those nothing is left to undo.
+    SendLost,
+    TakeLost,
+    CloseLost,
+    EndWanting,
+    /// Of one restart, of two and of three behind a crash that were stopped some records are left.
+    StoppedOnce,
+    StoppedTwice,
+    StoppedThrice,
+    /// A restart is stopped between two slot writes of an inverse, before the end of an operation of which all is undone,
+    /// and before the end of a transaction of which all is undone.
+    StoppedInInverse,
+    StoppedBeforeVoid,
+    StoppedBeforeEnd,
     /// Each answer of each call.
     Begun,
     SendStarted,

@@ -5,7 +5,7 @@ use Rattle.rq_store.specs.Fitting.{FitsLog}
 use Rattle.rq_store.proofs.Formatting.{formatted_fits}
 use Rattle.rq_store.proofs.Cutting.{only_fit}
 use Rattle.rq_restart.proofs.Formats.{formatted_all, other_written, others_synced, first_written, first_synced, within_written, within_synced}
-use Rattle.rq_restart.proofs.Restarts.{on_ok}
+use Rattle.rq_restart.proofs.Results.{on_ok}
 use Rattle.rq_restart.proofs.format.format.Goals as goal
 
 pub returns-clause-fits : goal.returns-clause-fits

@@ -4,7 +4,8 @@ use Rattle.rq_store.specs.Opening.{opened, IsLeft}
 use Rattle.rq_store.specs.Fitting.{image_in}
 use Rattle.rq_pool.specs.Reading.{IsSuperblock}
 use Rattle.rq_restart.specs.Restarting.{IsLeftOn}
-use Rattle.rq_restart.proofs.Restarts.{was_checked, was_refused, if_ok_all, if_ok_both, left_read, told_on}
+use Rattle.rq_restart.proofs.Results.{if_ok_all, if_ok_both}
+use Rattle.rq_restart.proofs.Restarts.{begins_from, was_checked, was_refused, left_read, told_on}
 use Rattle.rq_restart.proofs.Moments.{if_err_both}
 use Rattle.rq_restart.proofs.Loading.{load_shut, shut_log, one_size}
 use Rattle.rq_restart.proofs.restart.open.Goals as goal
@@ -37,11 +38,12 @@ returns-in-Ok-clause-err g c =
     let images = c.in-Ok.pages.images in
     if_err_both c.restart_log.result
     (λ s d h. λ z block older r.
-    shut_log (IsLeftOn P z c.args.pages s.pages older) (IsLeft y (image_in images) older)
+    shut_log (IsLeftOn P z c.args.pages s.pages older) (IsLeft y (image_in images) older) z y older
     (λ on.
     let read = c.in-Ok.ensures.seen (subst P.honest d on.honest) in
-    left_read y seen images older read (subst (λ x. IsLeft x seen older) (one_size z y (seen 0) block (told_on y seen images c.in-Ok.ensures.pages read)) on.left))
-    older s.refusal (P.faults c.args.pages) (P.faults s.pages) (g.L.LogDevice.faults c.args.log) (g.L.LogDevice.faults s.log) (h older r))
+    let same = one_size z y (seen 0) block (told_on y seen images c.in-Ok.ensures.pages read) in
+    (left_read y seen images older read (subst (λ x. IsLeft x seen older) same on.left), sym same))
+    s.refusal (P.faults c.args.pages) (P.faults s.pages) (g.L.LogDevice.faults c.args.log) (g.L.LogDevice.faults s.log) (h older r))
     c.restart_log.ensures.pages_back c.restart_log.ensures.err
 
 pub returns-in-Err-clause-err : goal.returns-in-Err-clause-err
@@ -65,3 +67,17 @@ returns-in-Ok-clause-refused g c =
 
 pub returns-in-Err-clause-refused : goal.returns-in-Err-clause-refused
 returns-in-Err-clause-refused g c = inl (c.in-Err.ensures.stopped, refl)
+
+pub returns-in-Ok-clause-any_moment : goal.returns-in-Ok-clause-any_moment
+returns-in-Ok-clause-any_moment g c =
+    let loaded = c.in-Ok.ensures in
+    if_ok_both c.restart_log.result
+    (λ o d h. begins_from g.P.PageDevice g.L.LogDevice c.args.pages c.args.log c.in-Ok.pages loaded.pages loaded.seen loaded.changed o.pages.device o.log.device d h)
+    c.restart_log.ensures.pages c.restart_log.ensures.any_moment
+
+pub returns-in-Ok-clause-any_moment_back : goal.returns-in-Ok-clause-any_moment_back
+returns-in-Ok-clause-any_moment_back g c =
+    let loaded = c.in-Ok.ensures in
+    if_err_both c.restart_log.result
+    (λ s d h. begins_from g.P.PageDevice g.L.LogDevice c.args.pages c.args.log c.in-Ok.pages loaded.pages loaded.seen loaded.changed s.pages s.log d h)
+    c.restart_log.ensures.pages_back c.restart_log.ensures.any_moment_back

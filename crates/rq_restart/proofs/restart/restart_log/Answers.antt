@@ -45,40 +45,40 @@ returns-in-Ok-clause-err g c =
     let image = image_in c.args.pages.images in
     let z = c.args.pages.sizes in
     let last = c.give_back-in-Err-go_on.result in
-    subst (λ l. MayBeShut (IsLeft z image l) l c.in-Err-go_on.refusal (faults c.args.log) (faults last)) same
-    (subst (λ n. MayBeShut (IsLeft z image c.in-Ok.log.records) c.in-Ok.log.records c.in-Err-go_on.refusal n (faults last)) cause
-    (subst (λ d. MayBeShut (IsLeft z image c.in-Ok.log.records) c.in-Ok.log.records c.in-Err-go_on.refusal (faults c.in-Ok.log.device) (faults d)) (sym c.give_back-in-Err-go_on.ensures) c.in-Err-go_on.ensures.err))
+    subst (λ l. MayBeShut (IsLeft z image l) z l c.in-Err-go_on.refusal (faults c.args.log) (faults last)) same
+    (subst (λ n. MayBeShut (IsLeft z image c.in-Ok.log.records) z c.in-Ok.log.records c.in-Err-go_on.refusal n (faults last)) cause
+    (subst (λ d. MayBeShut (IsLeft z image c.in-Ok.log.records) z c.in-Ok.log.records c.in-Err-go_on.refusal (faults c.in-Ok.log.device) (faults d)) (sym c.give_back-in-Err-go_on.ensures) c.in-Err-go_on.ensures.err))
 
 pub returns-clause-err : goal.returns-clause-err
 returns-clause-err g c =
     λ older r.
     let h = rw c.in-Err.is at c.scan-records.ensures.stopped in
-    scan_shut g.L.LogDevice (IsLeft c.args.pages.sizes (image_in c.args.pages.images) older) older (reverse c.scan-records.result.records.items) c.args.log c.in-Err.stopped.device c.in-Err.stopped.refusal c.first_fault-refusal.result c.args.pages.sizes (paged c.args.pages) r c.scan-records.ensures.spelled h (rw c.deref-in-Err.ensures.value at c.first_fault-refusal.ensures.fault)
+    scan_shut g.L.LogDevice (IsLeft c.args.pages.sizes (image_in c.args.pages.images) older) c.args.pages.sizes older (reverse c.scan-records.result.records.items) c.args.log c.in-Err.stopped.device c.in-Err.stopped.refusal c.first_fault-refusal.result (paged c.args.pages) r c.scan-records.ensures.spelled h (rw c.deref-in-Err.ensures.value at c.first_fault-refusal.ensures.fault)
 
 pub returns-in-Ok-go_on-clause-any_moment : goal.returns-in-Ok-go_on-clause-any_moment
 returns-in-Ok-go_on-clause-any_moment g c =
     let told = c.scan-records.ensures in
     let read = rw c.in-Ok.is at told.read in
-    read_first g.L.LogDevice c.args.log c.in-Ok.log.device c.go_on.new.log.device c.in-Ok.log.records c.go_on.ensures.honest read.1 (subst AreSpelled (sym read.0) told.spelled) (rw c.in-Ok.is at told.seen) (rw c.in-Ok.is at told.crash)
+    read_first g.L.LogDevice c.args.pages.sizes (image_in c.args.pages.images) c.args.log c.in-Ok.log.device c.go_on.new.log.device c.in-Ok.log.records c.go_on.ensures.honest read.1 (subst AreSpelled (sym read.0) told.spelled) (rw c.in-Ok.is at told.seen) (rw c.in-Ok.is at told.crash)
     (rw c.in-Ok.is at told.any_moment) c.go_on.ensures.any_moment
 
 pub returns-in-Ok-clause-any_moment_back : goal.returns-in-Ok-clause-any_moment_back
 returns-in-Ok-clause-any_moment_back g c =
     let told = c.scan-records.ensures in
     let read = rw c.in-Ok.is at told.read in
-    subst (λ new. BeginsAtMost g.L.LogDevice c.args.log new) (sym c.give_back-in-Err-go_on.ensures)
-    (read_first g.L.LogDevice c.args.log c.in-Ok.log.device c.go_on.new.log.device c.in-Ok.log.records c.go_on.ensures.honest read.1 (subst AreSpelled (sym read.0) told.spelled) (rw c.in-Ok.is at told.seen) (rw c.in-Ok.is at told.crash)
+    subst (λ new. BeginsAtMost g.L.LogDevice c.args.pages.sizes (image_in c.args.pages.images) c.args.log new) (sym c.give_back-in-Err-go_on.ensures)
+    (read_first g.L.LogDevice c.args.pages.sizes (image_in c.args.pages.images) c.args.log c.in-Ok.log.device c.go_on.new.log.device c.in-Ok.log.records c.go_on.ensures.honest read.1 (subst AreSpelled (sym read.0) told.spelled) (rw c.in-Ok.is at told.seen) (rw c.in-Ok.is at told.crash)
     (rw c.in-Ok.is at told.any_moment) c.go_on.ensures.any_moment)
 
 pub returns-clause-any_moment_back : goal.returns-clause-any_moment_back
-returns-clause-any_moment_back g c = only_read g.L.LogDevice c.args.log c.in-Err.stopped.device (rw c.in-Err.is at c.scan-records.ensures.any_moment)
+returns-clause-any_moment_back g c = only_read g.L.LogDevice c.args.pages.sizes (image_in c.args.pages.images) c.args.log c.in-Err.stopped.device (rw c.in-Err.is at c.scan-records.ensures.any_moment)
 
 pub returns-in-Ok-go_on-clause-checked : goal.returns-in-Ok-go_on-clause-checked
 returns-in-Ok-go_on-clause-checked g c =
     let told = c.scan-records.ensures in
     let read = rw c.in-Ok.is at told.read in
     let went = c.in-Ok-go_on.ensures in
-    (c.in-Ok.log.records, subst AreSpelled (sym read.0) told.spelled, (λ h. read.1 (c.go_on.ensures.honest h)), went.checked.0, went.checked.1, went.checked.2, went.checked.3, (let n = went.ready.count in let e = ap length went.checked.3 in omega (arith, n, e)))
+    (c.in-Ok.log.records, subst AreSpelled (sym read.0) told.spelled, (λ h. read.1 (c.go_on.ensures.honest h)), went.checked.0, went.checked.1, went.checked.2, (let n = went.ready.count in let e = ap length went.checked.2 in omega (arith, n, e)))
 
 pub returns-in-Ok-clause-refused : goal.returns-in-Ok-clause-refused
 returns-in-Ok-clause-refused g c =

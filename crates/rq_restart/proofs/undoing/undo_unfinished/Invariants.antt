@@ -1,13 +1,13 @@
 use Rattle.std.proofs.Common.{◌≡◌, false}
-use Rattle.rq_undone.specs.Analysis.{analysis}
 use Rattle.rq_undone.specs.Pages.{work}
+use Rattle.rq_restart.specs.Found.{AreFindings}
 use Rattle.rq_restart.specs.Repeating.{paged}
 use Rattle.rq_restart.proofs.Undos.{IsGoingOn}
 use Rattle.rq_restart.proofs.undoing.undo_unfinished.Given as goal
 
 abbrev pub invariant-loop-undo : goal.invariant-loop-undo
 invariant-loop-undo g l = record {
-  history : l.history ≡ analysis l.log.records;
+  found : AreFindings l.findings l.log.records;
   undoing : IsGoingOn l.fn.pages.sizes l.fn.log.records l.log.records (paged l.fn.pages) (paged l.pages);
   sizes : l.pages.sizes ≡ l.fn.pages.sizes;
   device : l.pages.device ≡ l.fn.pages.device;
@@ -16,4 +16,4 @@ invariant-loop-undo g l = record {
 }
 
 abbrev pub decreases-loop-undo : goal.decreases-loop-undo
-decreases-loop-undo g l = work l.history
+decreases-loop-undo g l = work l.findings.history

@@ -1,0 +1,155 @@
+-- What a log says of what is due in it, and of the transactions that have no end.
+use Rattle.std.proofs.Common.{◌≡◌, ℕ, ◌+◌, ◌<◌, true, false, not, nat_lt, List, [], ◌∷◌, ◌++◌, length, Option, Some, None, inl, inr, ◌⊎◌, refl, sym, ◌∙◌, ap, subst, arith}
+use Rattle.std.proofs.lemmas.Bool.{cases_Bool, true≢false}
+use Rattle.rq_model.specs.declared.record.Record.{Record}
+use Rattle.rq_model.specs.declared.record.Record.TheVariants.{PageOp, PageUndo, OpEnd, OpVoid, CompEnd, Commit, Restart, AbortEnd}
+use Rattle.rq_model.specs.declared.txn.Txn.{Txn}
+use Rattle.rq_model.specs.Words.{In, has_txn, same_txn}
+use Rattle.rq_model.proofs.Lists.{In-filter, same_is, same_self}
+use Rattle.rq_record.specs.Spelling.{IsTxnInRange}
+use Rattle.rq_log.specs.Spelled.{AreSpelled}
+use Rattle.rq_undone.specs.Analysis.{analysis, with_txn, without_txn}
+use Rattle.rq_lost.specs.declared.dues.Due.{Due}
+use Rattle.rq_lost.specs.Choices.{least_free, lesser_in}
+use Rattle.rq_lost.specs.Dues.{any_due, but_newest, but_own, due_of, dues}
+
+-- those that stay were there
+newest_in : (t : Txn) (ds : List Due) (d : Due) → In d (but_newest t ds) → In d ds
+newest_in t [] d i = i
+newest_in t (x ∷ ds) d i = elim (cases_Bool (same_txn x.txn t)) [
+  | inl y ↦ inr (rw y at i)
+  | inr n ↦ (let j : In d (x ∷ but_newest t ds) = rw n at i in elim j [ inl e ↦ inl e | inr k ↦ inr (newest_in t ds d k) ])
+]
+
+own_in : (t : Txn) (ds : List Due) (d : Due) → In d (but_own t ds) → In d ds
+own_in t ds d i = (In-filter (λ (x : Due). not (due_of t x)) ds d i).0
+
+-- what is due is told by an OpEnd of the log
+pub due_told : (P : Due → Type 0) (Q : List Record → Type 0) → ((r : Record) (log : List Record) → Q (r ∷ log) → Q log)
+    → ((t : Txn) (n level : ℕ) (deed : List ℕ) (log : List Record) → Q (OpEnd t n level deed ∷ log) → P (record { txn = t; lsn = length log + 1; deed = deed }))
+    → (log : List Record) → Q log → (d : Due) → In d (dues log) → P d
+due_told P Q older one [] q d i = absurd i
+due_told P Q older one (OpEnd t n level deed ∷ log) q d i = elim i [
+  | inl e ↦ subst P (sym e) (one t n level deed log q)
+  | inr j ↦ due_told P Q older one log (older (OpEnd t n level deed) log q) d j
+]
+due_told P Q older one (CompEnd t n undone ∷ log) q d i = due_told P Q older one log (older (CompEnd t n undone) log q) d (newest_in t (dues log) d i)
+due_told P Q older one (Commit t ∷ log) q d i = due_told P Q older one log (older (Commit t) log q) d (own_in t (dues log) d i)
+due_told P Q older one (PageOp t n page slot before after ∷ log) q d i = due_told P Q older one log (older (PageOp t n page slot before after) log q) d i
+due_told P Q older one (PageUndo t n undone page slot after ∷ log) q d i = due_told P Q older one log (older (PageUndo t n undone page slot after) log q) d i
+due_told P Q older one (OpVoid t n ∷ log) q d i = due_told P Q older one log (older (OpVoid t n) log q) d i
+due_told P Q older one (Restart n ∷ log) q d i = due_told P Q older one log (older (Restart n) log q) d i
+due_told P Q older one (AbortEnd t ∷ log) q d i = due_told P Q older one log (older (AbortEnd t) log q) d i
+
+abbrev IsDueInRange : Due → Type 0
+IsDueInRange d = IsTxnInRange d.txn × (0 < d.lsn)
+
+pub due_range : (log : List Record) → AreSpelled log → (d : Due) → In d (dues log) → IsDueInRange d
+due_range log a d i = due_told IsDueInRange AreSpelled (λ r older h. h.1) (λ t n level deed older h. (h.0.0.0, omega arith)) log a d i
+
+-- transactions without an end are in range
+with_in : (t : Txn) (ts : List Txn) (x : Txn) → In x (with_txn t ts) → (x ≡ t) ⊎ In x ts
+with_in t ts x i = elim (cases_Bool (has_txn t ts)) [
+  | inl y ↦ inr (rw y at i)
+  | inr n ↦ by ts (rw n at i)
+] where
+  by : (us : List Txn) → In x (us ++ t ∷ []) → (x ≡ t) ⊎ In x us
+  by [] j = elim j [ inl e ↦ inl e | inr k ↦ absurd k ]
+  by (u ∷ us) j = elim j [ inl e ↦ inr (inl e) | inr k ↦ elim (by us k) [ inl e ↦ inl e | inr m ↦ inr (inr m) ] ]
+
+pub working_range : (log : List Record) → AreSpelled log → (t : Txn) → In t (analysis log).working → IsTxnInRange t
+working_range [] a t i = absurd i
+working_range (OpEnd u n level deed ∷ log) a t i = elim (with_in u (analysis log).working t i) [
+  | inl e ↦ subst IsTxnInRange (sym e) a.0.0.0
+  | inr j ↦ working_range log a.1 t j
+]
+working_range (Commit u ∷ log) a t i = working_range log a.1 t (In-filter (λ (x : Txn). not (same_txn u x)) (analysis log).working t i).0
+working_range (AbortEnd u ∷ log) a t i = working_range log a.1 t (In-filter (λ (x : Txn). not (same_txn u x)) (analysis log).working t i).0
+working_range (PageOp u n page slot before after ∷ log) a t i = working_range log a.1 t i
+working_range (PageUndo u n undone page slot after ∷ log) a t i = working_range log a.1 t i
+working_range (OpVoid u n ∷ log) a t i = working_range log a.1 t i
+working_range (CompEnd u n undone ∷ log) a t i = working_range log a.1 t i
+working_range (Restart n ∷ log) a t i = working_range log a.1 t i
+
+-- ---- which transaction is next, once the first due is taken back
+
+-- each of these has something due
+abbrev AllOwe : List Due → List Txn → Type 0
+AllOwe ds [] = Unit {0}
+AllOwe ds (t ∷ ts) = (any_due t ds ≡ true) × AllOwe ds ts
+
+all_owe : (ds : List Due) (ts : List Txn) → least_free ds ts ≡ None → AllOwe ds ts
+all_owe ds [] e = tt
+all_owe ds (t ∷ ts) e = elim (cases_Bool (any_due t ds)) [
+  | inl y ↦ (y, all_owe ds ts (rw y at e))
+  | inr n ↦ (let bad : Some (lesser_in t (least_free ds ts)) ≡ None = rw n at e in absurd (cc bad))
+]
+
+none_owes : (ds : List Due) (ts : List Txn) → AllOwe ds ts → least_free ds ts ≡ None
+none_owes ds [] h = refl
+none_owes ds (t ∷ ts) h = rw h.0 (none_owes ds ts h.1)
+
+-- of nothing due all are free
+pub nobody_left : (ts : List Txn) → least_free [] ts ≡ None → ts ≡ []
+nobody_left [] e = refl
+nobody_left (t ∷ ts) e = absurd (cc e)
+
+module _ (d : Due) (ds : List Due) where
+  turned : (t : Txn) → same_txn d.txn t ≡ false → any_due t (d ∷ ds) ≡ true → any_due t ds ≡ true
+  turned t n y = rw n at y
+
+  still_owe : (ts : List Txn) → any_due d.txn ds ≡ true → AllOwe (d ∷ ds) ts → AllOwe ds ts
+  still_owe [] y h = tt
+  still_owe (t ∷ ts) y h = (
+    elim (cases_Bool (same_txn d.txn t)) [
+      | inl same ↦ ap (λ (u : Txn). any_due u ds) (sym (same_is d.txn t same)) ∙ y
+      | inr other ↦ turned t other h.0
+    ],
+    still_owe ts y h.1,
+  )
+
+  -- it has more due
+  pub none_then : (ts : List Txn) → any_due d.txn ds ≡ true → least_free (d ∷ ds) ts ≡ None → least_free ds ts ≡ None
+  none_then ts y e = none_owes ds ts (still_owe ts y (all_owe (d ∷ ds) ts e))
+
+  others_owe : (ts : List Txn) → AllOwe (d ∷ ds) ts → AllOwe ds (without_txn d.txn ts)
+  others_owe [] h = tt
+  others_owe (t ∷ ts) h = elim (cases_Bool (same_txn d.txn t)) [
+    | inl same ↦ rw same (others_owe ts h.1)
+    | inr other ↦ rw other (turned t other h.0, others_owe ts h.1)
+  ]
+
+  -- it has not, and is ended
+  pub none_behind : (ts : List Txn) → least_free (d ∷ ds) ts ≡ None → least_free ds (without_txn d.txn ts) ≡ None
+  none_behind ts e = none_owes ds (without_txn d.txn ts) (others_owe ts (all_owe (d ∷ ds) ts e))
+
+  abbrev IsOneOf : List Txn → Type 0
+  IsOneOf ts = ((least_free ds ts ≡ None) × (In d.txn ts → ⊥)) ⊎ (least_free ds ts ≡ Some d.txn)
+
+  lesser_self : (t : Txn) → lesser_in t (Some t) ≡ t
+  lesser_self t = elim (cases_Bool (nat_lt t.count t.count)) [ inl y ↦ rw y refl | inr n ↦ rw n refl ]
+
+  is_one : (ts : List Txn) → any_due d.txn ds ≡ false → AllOwe (d ∷ ds) ts → IsOneOf ts
+  is_one [] n h = inl (refl, λ i. i)
+  is_one (t ∷ ts) n h = elim (cases_Bool (same_txn d.txn t)) [
+    | inl same ↦
+        let e : d.txn ≡ t = same_is d.txn t same in
+        let off : any_due t ds ≡ false = ap (λ (u : Txn). any_due u ds) (sym e) ∙ n in
+        inr (rw off (elim (is_one ts n h.1) [
+          | inl none ↦ ap (λ (o : Option Txn). Some (lesser_in t o)) none.0 ∙ ap (λ (u : Txn). Some u) (sym e)
+          | inr some ↦ ap (λ (o : Option Txn). Some (lesser_in t o)) (some ∙ ap (λ (u : Txn). Some u) e) ∙ ap (λ (u : Txn). Some u) (lesser_self t ∙ sym e)
+        ]))
+    | inr other ↦
+        let y : any_due t ds ≡ true = turned t other h.0 in
+        elim (is_one ts n h.1) [
+          | inl none ↦ inl (rw y none.0, λ i. elim i [ inl e ↦ true≢false (sym (same_self d.txn) ∙ ap (same_txn d.txn) e ∙ other) | inr j ↦ none.1 j ])
+          | inr some ↦ inr (rw y some)
+        ]
+  ]
+
+  -- it has not, and is next
+  pub one_next : (ts : List Txn) → any_due d.txn ds ≡ false → least_free (d ∷ ds) ts ≡ None → In d.txn ts → least_free ds ts ≡ Some d.txn
+  one_next ts n e i = elim (is_one ts n (all_owe (d ∷ ds) ts e)) [
+    | inl none ↦ absurd (none.1 i)
+    | inr some ↦ some
+  ]

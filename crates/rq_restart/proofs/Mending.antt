@@ -1,0 +1,169 @@
+-- What mends a log: operations without an end are undone by pages, and then lost transactions by their inverses.
+use Rattle.std.proofs.Common.{◌≡◌, ◌≢◌, ◌++◌, List, [], ◌∷◌, length, map, Some, None, inl, inr, refl, sym, ◌∙◌, ap, subst, arith}
+use Rattle.rq_model.specs.declared.record.Record.{Record}
+use Rattle.rq_model.specs.declared.refusal.Refusal.{Refusal}
+use Rattle.rq_model.specs.declared.refusal.Refusal.TheVariants as why
+use Rattle.rq_model.specs.declared.refusal.Damage.TheVariants as damage
+use Rattle.rq_model.specs.declared.txn.Txn.{Txn}
+use Rattle.rq_model.specs.Incarnations.{incarnation_of}
+use Rattle.rq_model.specs.Unended.{lost}
+use Rattle.rq_page.specs.Sizes.{Sizes}
+use Rattle.rq_pool.specs.Pooled.{IsPool, Pooled}
+use Rattle.rq_txn.specs.Rows.{Row, found_row}
+use Rattle.rq_store.specs.Fitting.{image_in}
+use Rattle.rq_store.specs.Opening.{FitsUpTo, IsLeft}
+use Rattle.rq_store.specs.State.{State}
+use Rattle.rq_store.proofs.Fitting.{oldest_all}
+use Rattle.rq_store.proofs.Redoing.{redone_slots}
+use Rattle.rq_sound.specs.Sound.{IsSound}
+use Rattle.rq_undone.specs.Analysis.{analysis}
+use Rattle.rq_undone.specs.Pages.{IsNextUndo, IsUndone, UndoesBehind}
+use Rattle.rq_undone.specs.Pages.IsNextUndo.{Voids, Undoes}
+use Rattle.rq_undone.specs.Theorems.{IsUndoneFrom}
+use Rattle.rq_undone.proofs.Undos.{undone_from}
+use Rattle.rq_lost.specs.declared.dues.Due.{Due}
+use Rattle.rq_lost.specs.Choices.{least_free}
+use Rattle.rq_lost.specs.Dues.{dues}
+use Rattle.rq_lost.specs.Lost.{IsRepeated, lost_store}
+use Rattle.rq_lost.specs.Moves.{newest_store}
+use Rattle.rq_lost.specs.Recovered.{IsRecovered, IsRecovering}
+use Rattle.rq_lost.specs.Recovered.IsRecovered.{AllAborted, NoneLost}
+use Rattle.rq_lost.specs.Recovered.IsRecovering.{Aborting, Undoing}
+use Rattle.rq_lost.specs.Walk.{IsBetween}
+use Rattle.rq_lost.proofs.Owing.{first_due}
+use Rattle.rq_lost.proofs.Logging.{come_sound}
+use Rattle.rq_lost.proofs.Store.{lost_sound, some_incarnation}
+use Rattle.rq_lost.proofs.Walking.{aborts_come}
+use Rattle.rq_restart.specs.Aborting.{AbortStops, HasGoneOn, IsFull, IsOnItsWay, IsShown}
+use Rattle.rq_restart.specs.Aborting.IsOnItsWay.{Between, Within}
+use Rattle.rq_restart.specs.Checked.{IsEnded}
+use Rattle.rq_restart.specs.Mended.{MendStops}
+use Rattle.rq_restart.specs.Repeating.{Paged, Repeats, paged}
+use Rattle.rq_restart.specs.Undoing.{UndoStops}
+use Rattle.rq_restart.proofs.Aborts.{aborting_none, working_lost}
+use Rattle.rq_restart.proofs.Lefts.{left_undoing}
+use Rattle.rq_restart.proofs.Repeated.{all_up_to}
+use Rattle.rq_restart.proofs.Showing.{between_holds}
+
+-- undoing by pages leaves the transactions that have no end
+same_one : (log : List Record) (r : Record) → IsNextUndo (analysis log) r → (analysis (r ∷ log)).working ≡ (analysis log).working
+same_one log r (Voids o s least e) = rw e refl
+same_one log r (Undoes p ps none f e) = rw e refl
+
+same_behind : (log front : List Record) → UndoesBehind log front → (analysis (front ++ log)).working ≡ (analysis log).working
+same_behind log [] h = refl
+same_behind log (r ∷ front) h = same_one (front ++ log) r h.0 ∙ same_behind log front h.1
+
+pub undone_working : (log undone : List Record) → IsUndone log undone → (analysis undone).working ≡ (analysis log).working
+undone_working log undone u = ap (λ l. (analysis l).working) (sym u.undoing.are) ∙ same_behind log u.undoing.front u.undoing.undoes
+
+-- at its end a restart has been on its way
+pub recovered_on : (z : Sizes) (log now : List Record) → IsRecovered z log now → IsRecovering z log now
+recovered_on z log now (NoneLost u none) = Undoing u.undoing
+recovered_on z log now (AllAborted last images forced stores u rep moves none are) = Aborting last images forced stores u rep moves are
+
+no_rows : (rows : List Row) → map (λ r. r.txn) rows ≡ [] → rows ≡ []
+no_rows [] e = refl
+no_rows (r ∷ rows) e = absurd (cc e)
+
+-- what is undone by pages of a store that was left so, on pages that it was repeated on
+module _ {P : Type 0} (z : Sizes) (log undone : List Record) (mid : Pooled P) (u : IsUndone log undone) (pool : IsPool z mid.images) (first : Paged) (left : IsLeft z first.image log) (repeated : Repeats z undone first (paged mid)) where
+  there : IsLeft z first.image undone
+  there = left_undoing z first.image log undone left u.undoing
+
+  from : IsUndoneFrom z log undone
+  from = undone_from z log undone left.whole u
+
+  fits : FitsUpTo z (image_in mid.images) undone (length undone)
+  fits = all_up_to z undone first there (paged mid) repeated
+
+  abbrev base : State
+  base = lost_store z mid.images undone (length undone)
+
+  module _ (some : IsEnded undone → ⊥) where
+    some_lost : lost undone ≢ []
+    some_lost e = some (working_lost z undone from.whole ∙ e)
+
+    is_repeated : IsRepeated z mid.images undone (length undone)
+    is_repeated = record {
+      range = pool.range;
+      whole = from.whole;
+      none_unfinished = from.none_unfinished;
+      some = some_incarnation z undone from.whole some_lost;
+      begun = ap incarnation_of (oldest_all undone);
+      within = omega arith;
+      pages = redone_slots z undone mid.images from.whole.in_store fits;
+      fits = record { superblock = pool.superblock; headers = pool.headers; pages = λ p low high. (fits p low high).fits };
+    }
+
+    sound : IsSound base
+    sound = lost_sound z mid.images undone (length undone) is_repeated
+
+    shown : IsShown undone mid base
+    shown = aborts_come.first z mid.images undone (length undone)
+
+    pub on_its_way : (last : List Record) → IsOnItsWay base last → IsRecovering z log last
+    on_its_way last (Between images b) = aborts_come.between z log undone mid.images (length undone) images last u is_repeated b
+    on_its_way last (Within images t n lsn deed ws made i) = aborts_come.within z log undone mid.images (length undone) images last t n lsn deed ws made u is_repeated i
+
+    pub full_recovering : (s : IsFull z undone (IsShown undone mid)) → IsRecovering z log s.last
+    full_recovering s = on_its_way s.last (s.way base sound refl shown)
+
+    pub none_bad : ((b : State) → IsSound b → b.sizes ≡ z → IsShown undone mid b → ⊥) → ⊥
+    none_bad f = f base sound refl shown
+
+    module _ (now : List Record) (new : Pooled P) (g : HasGoneOn z undone now mid new (IsShown undone mid) (IsShown now new)) (ended : IsEnded now) where
+      after : IsBetween base new.images now
+      after = g.shown base sound refl shown
+
+      none_lost : lost now ≡ []
+      none_lost = sym (working_lost z now (between_holds base new.images now sound after).whole) ∙ ended
+
+      nothing_due : dues now ≡ []
+      nothing_due = by (dues now) refl where
+        by : (ds : List Due) → dues now ≡ ds → ds ≡ []
+        by [] e = refl
+        by (d ∷ ds) e =
+            let s = newest_store base after.stores in
+            let c = after.come in
+            let n = first_due s (come_sound base after.stores new.images now sound c) d ds (ap dues c.records_are ∙ e) in
+            let none : s.rows ≡ [] = no_rows s.rows (c.lost ∙ ap lost c.records_are ∙ none_lost) in
+            absurd (let bad : None ≡ Some n.row = ap (found_row d.txn) (sym none) ∙ n.at_row in cc bad)
+
+      pub all_recovered : IsRecovered z log now
+      all_recovered = aborts_come.recovered z log undone mid.images (length undone) new.images now u is_repeated after (ap (least_free (dues now)) none_lost) nothing_due
+
+  -- so the log is recovered
+  pub recovered_is : (now : List Record) (new : Pooled P) → HasGoneOn z undone now mid new (IsShown undone mid) (IsShown now new) → IsEnded now → (IsEnded undone → now ≡ undone) → IsRecovered z log now
+  recovered_is now new g ended none = by (analysis undone).working refl where
+    by : (ts : List Txn) → (analysis undone).working ≡ ts → IsRecovered z log now
+    by [] e = subst (IsRecovered z log) (sym (none e)) (NoneLost u (sym (working_lost z undone from.whole) ∙ e))
+    by (t ∷ ts) e = all_recovered (λ bad. (let k : t ∷ ts ≡ [] = sym e ∙ bad in cc k)) now new g ended
+
+-- why operations were not undone, or then transactions, is why the log was not mended
+pub undo_mends_not : (z : Sizes) (log : List Record) (first : Paged) (e : Refusal) → UndoStops z log first e → MendStops z log first e
+undo_mends_not z log first why.NoMemory s = tt
+undo_mends_not z log first why.LogFull s = record { undone = s.undone; undoing = s.undoing; now = s.undone; aborting = aborting_none s.undone; none_lost = λ e. refl; full = s.full; recovering = λ left. Undoing s.undoing }
+undo_mends_not z log first (why.Damaged (damage.Record lsn)) s = inl s
+undo_mends_not z log first _ s = absurd s
+
+pub abort_mends_not : {P : Type 0} (z : Sizes) (log undone : List Record) (mid : Pooled P) → IsUndone log undone → IsPool z mid.images → (IsEnded undone → ⊥) → (first : Paged) → Repeats z undone first (paged mid) → (e : Refusal) → AbortStops z undone mid (IsShown undone mid) e → MendStops z log first e
+abort_mends_not z log undone mid u pool some first repeated why.NoMemory s = tt
+abort_mends_not z log undone mid u pool some first repeated why.LogFull s = record {
+  undone = undone;
+  undoing = u.undoing;
+  now = s.last;
+  aborting = s.aborting;
+  none_lost = λ e. absurd (some (undone_working log undone u ∙ e));
+  full = s.full;
+  recovering = λ left. full_recovering z log undone mid u pool first left repeated some s;
+}
+abort_mends_not z log undone mid u pool some first repeated (why.Damaged (damage.Record lsn)) s = inr (record {
+  undone = undone;
+  undoes = u;
+  last = s.last;
+  aborting = s.aborting;
+  bad = s.bad first repeated;
+  none = λ left. none_bad z log undone mid u pool first left repeated some s.none;
+})
+abort_mends_not z log undone mid u pool some first repeated _ s = absurd s

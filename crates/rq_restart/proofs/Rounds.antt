@@ -1,0 +1,278 @@
+-- The records by which one lost transaction after the other is undone, of a store that is shown.
+use Rattle.std.proofs.Common.{◌≡◌, ℕ, zero, suc, ◌+◌, ◌<◌, ◌≤◌, ◌^◌, nat_eq, true, false, List, [], ◌∷◌, length, map, get_or, Option, Some, None, inl, inr, refl, sym, ◌∙◌, ap, subst, arith}
+use Rattle.std.specs.List.{slice_get}
+use Rattle.std.proofs.lemmas.Bool.{cases_lt, and_parts, or_cases, eqb-true, false≢true}
+use Rattle.std.proofs.lemmas.List.{length-map}
+use Rattle.rq_model.specs.declared.record.Record.{Record}
+use Rattle.rq_model.specs.declared.record.Record.TheVariants as records
+use Rattle.rq_model.specs.declared.refusal.Refusal.{Refusal}
+use Rattle.rq_model.specs.declared.refusal.Refusal.TheVariants as why
+use Rattle.rq_model.specs.declared.refusal.Damage.TheVariants as damage
+use Rattle.rq_model.specs.declared.txn.Sub.{Sub}
+use Rattle.rq_model.specs.declared.txn.Txn.{Txn}
+use Rattle.rq_model.specs.Unended.{lost}
+use Rattle.rq_model.specs.Words.{In, same_txn}
+use Rattle.rq_page.specs.Sizes.{Sizes}
+use Rattle.rq_pool.specs.Pooled.{IsPool, Pooled}
+use Rattle.rq_views.specs.Items.{items, item_of, layout_of, operation}
+use Rattle.rq_views.specs.Legal.{IsLegalLog, began, is_of, of_op}
+use Rattle.rq_views.specs.Log.{Item, Places}
+use Rattle.rq_views.specs.Numbers.{AreNumbered, greatest, number_in}
+use Rattle.rq_views.specs.Plans.Turn.{Undid}
+use Rattle.rq_views.specs.Stored.{slots_in}
+use Rattle.rq_views.proofs.Numbers.{all_begun, began_within}
+use Rattle.rq_level.specs.declared.writes.SlotWrite.{SlotWrite}
+use Rattle.rq_level.specs.Writes.{IsSlotWrite}
+use Rattle.rq_txn.specs.Rows.{Row}
+use Rattle.rq_store.specs.State.{State}
+use Rattle.rq_store.specs.Steps.{page_op}
+use Rattle.rq_store.specs.Whole.{IsWhole}
+use Rattle.rq_sound.specs.Plans.{IsPlannedFrom}
+use Rattle.rq_sound.specs.Rows.{comp_end}
+use Rattle.rq_sound.specs.Sound.{IsSound}
+use Rattle.rq_undone.specs.Analysis.{Analysis, analysis, without_txn}
+use Rattle.rq_lost.specs.declared.dues.Due.{Due}
+use Rattle.rq_lost.specs.Choices.{least_free}
+use Rattle.rq_lost.specs.Dues.{any_due, deed_due, dues}
+use Rattle.rq_lost.specs.Moves.{newest_store}
+use Rattle.rq_lost.specs.Numbers.{number_of, numbers}
+use Rattle.rq_lost.specs.Walk.{IsBetween, IsWithin, ShowsUndone}
+use Rattle.rq_lost.proofs.Choosing.{chosen_back, least_there}
+use Rattle.rq_lost.proofs.Logging.{write_whole}
+use Rattle.rq_lost.proofs.Moving.{moves_sound}
+use Rattle.rq_lost.proofs.Numbering.{kept}
+use Rattle.rq_lost.proofs.Owing.{rest_due}
+use Rattle.rq_lost.proofs.Planning.{due_may}
+use Rattle.rq_lost.proofs.Recovering.{behind}
+use Rattle.rq_lost.proofs.Walking.{aborts_go_on}
+use Rattle.rq_restart.specs.declared.findings.Findings.{Findings}
+use Rattle.rq_restart.specs.Aborting.{AbortStops, IsNotUndone, IsOnItsWay, IsShown, IsShownWithin, OfStore, PlanStops}
+use Rattle.rq_restart.specs.Aborting.IsBadStep.{BadDue}
+use Rattle.rq_restart.specs.Aborting.IsOnItsWay.{Between, Within}
+use Rattle.rq_restart.specs.Checked.{IsEnded}
+use Rattle.rq_restart.specs.Found.{AreFindings}
+use Rattle.rq_restart.specs.Repeating.{Belongs, IsRepeated, paged}
+use Rattle.rq_restart.proofs.Aborts.{aborting_none, working_lost}
+use Rattle.rq_restart.proofs.DueLists.{nobody_left, one_next}
+use Rattle.rq_restart.proofs.Showing.{belongs_next, between_holds, put_next, within_holds}
+
+-- ---- numbers
+
+one_is : (t : Txn) (n : ℕ) (o : Option Sub) → is_of (operation t n) o ≡ true → number_in t o ≡ n
+one_is t n None e = absurd (false≢true e)
+one_is t n (Some o) e =
+    let k = and_parts (same_txn o.txn t) (nat_eq o.number n) e in
+    rw k.0 (eqb-true o.number n k.1)
+
+-- a record raises it by one at most
+rises : (l : Places) (t : Txn) (r : Item) (log : List Item) → IsLegalLog l (r ∷ log) → AreNumbered (r ∷ log) → greatest t (r ∷ log) ≤ greatest t log + 1
+rises l t r log g h = elim (cases_lt (greatest t log + 1) (greatest t (r ∷ log))) [
+  | inr low ↦ low
+  | inl high ↦
+      let n : ℕ = greatest t log + 1 in
+      let y : began (operation t n) (r ∷ log) ≡ true = all_begun l t n (r ∷ log) g h (omega arith) (omega (arith, high)) in
+      elim (or_cases (is_of (operation t n) (of_op r)) (began (operation t n) log) y) [
+        | inl own ↦ (let e = one_is t n (of_op r) own in absurd (omega (arith, e, high)))
+        | inr older ↦ (let w = began_within t n log older in absurd (omega (arith, w)))
+      ]
+]
+
+few_numbers : (l : Places) (t : Txn) (log : List Item) → IsLegalLog l log → AreNumbered log → greatest t log ≤ length log
+few_numbers l t [] g h = omega arith
+few_numbers l t (r ∷ log) g h = (let a = rises l t r log g h in let b = few_numbers l t log g.1 h.1 in omega (arith, a, b))
+
+-- the next that is found is one of those that have no end
+pub least_in : (log : List Record) (f : Findings) → AreFindings f log → (t : Txn) → least_free f.dues f.history.working ≡ Some t → In t (analysis log).working
+least_in log f are t e = subst (In t) (ap (λ h. h.working) are.history) (least_there f.dues f.history.working t e)
+
+-- ---- a store that is shown
+
+module _ {P : Type 0} (z : Sizes) (log : List Record) (old : Pooled P) (f : Findings) (are : AreFindings f log) where
+  abbrev shown : State → Type 0
+  shown = IsShown log old
+
+  whole_shown : (base : State) → IsSound base → base.sizes ≡ z → shown base → IsWhole z log
+  whole_shown base k same b = subst (λ y. IsWhole y log) same (between_holds base old.images log k b).whole
+
+  -- those that are found to have no end are lost
+  pub found_lost : (base : State) → IsSound base → base.sizes ≡ z → shown base → f.history.working ≡ lost log
+  found_lost base k same b = ap (λ h. h.working) are.history ∙ working_lost z log (whole_shown base k same b)
+
+  least_is : (o : Option Txn) → least_free f.dues f.history.working ≡ o → (base : State) → IsSound base → base.sizes ≡ z → shown base → least_free (dues log) (lost log) ≡ o
+  least_is o e base k same b = ap (λ ts. least_free (dues log) ts) (sym (found_lost base k same b)) ∙ ap (λ ds. least_free ds f.history.working) (sym are.dues) ∙ e
+
+  pub shown_way : OfStore z shown (λ base. IsOnItsWay base log)
+  shown_way base k same b = Between old.images b
+
+  -- the end of the next that has nothing due
+  module _ (t : Txn) (e : least_free f.dues f.history.working ≡ Some t) where
+    then : (base : State) → IsSound base → base.sizes ≡ z → shown base → IsBetween base old.images (records.AbortEnd t ∷ log)
+    then base k same b = aborts_go_on.ends base old.images log t k b (least_is (Some t) e base k same b)
+
+    pub end_belongs : OfStore z shown (λ base. Belongs z log (records.AbortEnd t) (paged old))
+    end_belongs base k same b =
+        let h = between_holds base old.images log k b in
+        let w = (between_holds base old.images (records.AbortEnd t ∷ log) k (then base k same b)).whole in
+        subst (λ y. Belongs y log (records.AbortEnd t) (paged old)) same (belongs_next base.sizes old.images log (records.AbortEnd t) h w old.changed)
+
+    pub end_shown : (new : Pooled P) → new ≡ old → OfStore z shown (IsShown (records.AbortEnd t ∷ log) new)
+    end_shown new is base k same b = subst (λ (p : Pooled P). IsBetween base p.images (records.AbortEnd t ∷ log)) (sym is) (then base k same b)
+
+  -- what is due first
+  module _ (d : Due) (ds : List Due) (first : f.dues ≡ d ∷ ds) (none : least_free f.dues f.history.working ≡ None) where
+    first_is : dues log ≡ d ∷ ds
+    first_is = sym are.dues ∙ first
+
+    row : (base : State) → (k : IsSound base) → base.sizes ≡ z → (b : shown base) → (r : Row) × (r.txn ≡ d.txn) × In r (newest_store base b.stores).rows
+    row base k same b =
+        let s = newest_store base b.stores in
+        let sound : IsSound s = moves_sound base b.stores k (behind base b.stores b.come.turns) in
+        let records = b.come.records_are in
+        let h = chosen_back s sound b.come.lost d ds (subst (λ l. least_free (dues l) (lost l) ≡ None) (sym records) (least_is None none base k same b)) (ap dues records ∙ first_is) in
+        (h.0, h.2, h.3.row)
+
+    -- its transaction is lost
+    pub first_lost : OfStore z shown (λ base. In d.txn f.history.working)
+    first_lost base k same b =
+        let s = newest_store base b.stores in
+        let r = row base k same b in
+        let there : In r.0.txn (lost s.records) = subst (In r.0.txn) b.come.lost (in_txns s.rows r.0 r.2) in
+        subst (In d.txn) (ap lost b.come.records_are ∙ sym (found_lost base k same b)) (subst (λ t. In t (lost s.records)) r.1 there)
+      where
+        in_txns : (rows : List Row) (q : Row) → In q rows → In q.txn (map (λ r. r.txn) rows)
+        in_txns [] q i = absurd i
+        in_txns (x ∷ rows) q i = elim i [ inl e ↦ inl (ap (λ (y : Row). y.txn) e) | inr j ↦ inr (in_txns rows q j) ]
+
+    -- it can be planned
+    pub begin_shown : (ws : List SlotWrite) (n : ℕ) → IsPlannedFrom z (slots_in z old.images) ws (Undid (deed_due d)) → n ≡ number_of d.txn f.numbers + 1 → OfStore z shown (IsShownWithin log old d n ws 0)
+    begin_shown ws n plan number base k same b =
+        let planned : IsPlannedFrom base.sizes (slots_in base.sizes old.images) ws (Undid (deed_due d)) = subst (λ y. IsPlannedFrom y (slots_in y old.images) ws (Undid (deed_due d))) (sym same) plan in
+        let e : number_of d.txn (numbers log) + 1 ≡ n = ap (λ m. number_of d.txn m + 1) (sym are.numbers) ∙ sym number in
+        subst (λ m. IsWithin base old.images log d.txn m d.lsn (deed_due d) ws 0) e
+        (aborts_go_on.begins base old.images log d ds ws k b (least_is None none base k same b) first_is planned)
+
+    not_planned : IsNotUndone z old.images d → OfStore z shown (λ base. ⊥)
+    not_planned bad base k same b =
+        let may : ShowsUndone base.sizes old.images log (deed_due d) = due_may base old.images log d ds k b (least_is None none base k same b) first_is in
+        bad log (subst (In d) (sym first_is) (inl refl)) (subst (λ y. ShowsUndone y old.images log (deed_due d)) same may)
+
+    pub plan_stops : (e : Refusal) → PlanStops z old.images d e → AbortStops z log old shown e
+    plan_stops why.NoMemory s = tt
+    plan_stops (why.Damaged (damage.Record lsn)) s = record {
+      last = log;
+      aborting = aborting_none log;
+      bad = λ first h. BadDue d ds first_is s.0;
+      none = not_planned s.1;
+    }
+    plan_stops _ s = absurd s
+
+    -- its inverse has a number
+    pub few_operations : 2 ^ 64 ≤ number_of d.txn f.numbers + 1 → length log < 2 ^ 50 → OfStore z shown (λ base. ⊥)
+    few_operations many few base k same b =
+        let s = newest_store base b.stores in
+        let moves = behind base b.stores b.come.turns in
+        let sound : IsSound s = moves_sound base b.stores k moves in
+        let r = row base k same b in
+        let running = (sound.standing.each r.0 r.2).running in
+        let e : number_of r.0.txn (numbers s.records) ≡ greatest r.0.txn (items s.sizes s.records) = kept s.sizes s.records r.0.txn running in
+        let low : greatest r.0.txn (items s.sizes s.records) ≤ length (items s.sizes s.records) = few_numbers (layout_of s.sizes) r.0.txn (items s.sizes s.records) sound.log.legal sound.log.numbers in
+        let count : length (items s.sizes s.records) ≡ length s.records = length-map s.records (item_of s.sizes) in
+        let all : length s.records ≡ length log = ap length b.come.records_are in
+        let same_number : number_of d.txn f.numbers ≡ number_of r.0.txn (numbers s.records) =
+        ap (number_of d.txn) are.numbers ∙ ap (λ l. number_of d.txn (numbers l)) (sym b.come.records_are) ∙ ap (λ t. number_of t (numbers s.records)) (sym r.1) in
+        omega (arith, many, few, e, low, count, all, same_number)
+
+-- what is due first is taken back, and its transaction has nothing more
+module _ {P : Type 0} (z : Sizes) (log mid : List Record) (old now : Pooled P) (f h : Findings) (are : AreFindings f log) (then : AreFindings h mid) (d : Due) (first : f.dues ≡ d ∷ h.dues) (none : least_free f.dues f.history.working ≡ None)
+    (working : h.history.working ≡ f.history.working) (off : any_due d.txn h.dues ≡ false) (shown_then : OfStore z (IsShown log old) (IsShown mid now)) where
+  next_is : (base : State) → IsSound base → base.sizes ≡ z → IsShown log old base → least_free h.dues h.history.working ≡ Some d.txn
+  next_is base k same b =
+      ap (least_free h.dues) working
+      ∙ one_next d h.dues f.history.working off (ap (λ ds. least_free ds f.history.working) (sym first) ∙ none) (first_lost z log old f are d h.dues first none base k same b)
+
+  pub next_belongs : OfStore z (IsShown log old) (λ base. Belongs z mid (records.AbortEnd d.txn) (paged now))
+  next_belongs base k same b = end_belongs z mid now h then d.txn (next_is base k same b) base k same (shown_then base k same b)
+
+  pub next_shown : (new : Pooled P) → new ≡ now → OfStore z (IsShown log old) (IsShown (records.AbortEnd d.txn ∷ mid) new)
+  next_shown new is base k same b = end_shown z mid now h then d.txn (next_is base k same b) new is base k same (shown_then base k same b)
+
+  pub next_way : OfStore z (IsShown log old) (λ base. IsOnItsWay base mid)
+  next_way base k same b = Between now.images (shown_then base k same b)
+
+-- ---- an inverse under way
+
+module _ {P : Type 0} (z : Sizes) (log : List Record) (old : Pooled P) (d : Due) (n : ℕ) (ws : List SlotWrite) (made : ℕ) where
+  abbrev within : State → Type 0
+  within = IsShownWithin log old d n ws made
+
+  pub within_way : OfStore z within (λ base. IsOnItsWay base log)
+  within_way base k same i = Within old.images d.txn n d.lsn (deed_due d) ws made i
+
+  -- its next write
+  module _ (w : SlotWrite) (next : slice_get ws made ≡ Some w) (is_slot : IsSlotWrite z w) where
+    whole : (base : State) → IsSound base → base.sizes ≡ z → within base → IsWhole base.sizes (page_op d.txn n w ∷ log)
+    whole base k same i =
+        let s : IsSlotWrite base.sizes w = subst (λ y. IsSlotWrite y w) (sym same) is_slot in
+        write_whole base old.images log d.txn n d.lsn (deed_due d) ws made w k i next s.before s.after
+
+    pub write_belongs : OfStore z within (λ base. Belongs z log (page_op d.txn n w) (paged old))
+    write_belongs base k same i =
+        let h = within_holds base old.images log d.txn n d.lsn (deed_due d) ws made k i in
+        subst (λ y. Belongs y log (page_op d.txn n w) (paged old)) same (belongs_next base.sizes old.images log (page_op d.txn n w) h (whole base k same i) old.changed)
+
+    pub write_shown : (new : Pooled P) → IsPool z new.images → IsRepeated z log (page_op d.txn n w) (paged old) (paged new) → OfStore z within (IsShownWithin (page_op d.txn n w ∷ log) new d n ws (made + 1))
+    write_shown new pool one base k same i =
+        let s : IsSlotWrite base.sizes w = subst (λ y. IsSlotWrite y w) (sym same) is_slot in
+        let h = within_holds base old.images log d.txn n d.lsn (deed_due d) ws made k i in
+        aborts_go_on.makes base old.images new.images log d.txn n d.lsn (deed_due d) ws made w k i next s.before s.after
+        (put_next base old.images new.images log d.txn n w h (whole base k same i) (subst (λ y. IsPool y new.images) (sym same) pool) one.redone)
+
+-- its end
+module _ {P : Type 0} (z : Sizes) (log : List Record) (old : Pooled P) (d : Due) (n : ℕ) (ws : List SlotWrite) where
+  abbrev all_made : State → Type 0
+  all_made = IsShownWithin log old d n ws (length ws)
+
+  closed : (base : State) → IsSound base → all_made base → IsBetween base old.images (comp_end d.txn n d.lsn ∷ log)
+  closed base k i = aborts_go_on.closes base old.images log d.txn n d.lsn (deed_due d) ws k i
+
+  pub close_belongs : OfStore z all_made (λ base. Belongs z log (comp_end d.txn n d.lsn) (paged old))
+  close_belongs base k same i =
+      let h = within_holds base old.images log d.txn n d.lsn (deed_due d) ws (length ws) k i in
+      let w = (between_holds base old.images (comp_end d.txn n d.lsn ∷ log) k (closed base k i)).whole in
+      subst (λ y. Belongs y log (comp_end d.txn n d.lsn) (paged old)) same (belongs_next base.sizes old.images log (comp_end d.txn n d.lsn) h w old.changed)
+
+  pub close_shown : (new : Pooled P) → new ≡ old → OfStore z all_made (IsShown (comp_end d.txn n d.lsn ∷ log) new)
+  close_shown new is base k same i = subst (λ (p : Pooled P). IsBetween base p.images (comp_end d.txn n d.lsn ∷ log)) (sym is) (closed base k i)
+
+-- ---- what is found behind a record
+
+-- as a loop finds it
+pub get_there : (ws : List SlotWrite) (i : ℕ) (w : SlotWrite) → i < length ws → w ≡ get_or ws i w → slice_get ws i ≡ Some w
+get_there [] i w lt e = absurd (omega (arith, lt))
+get_there (x ∷ ws) zero w lt e = ap (λ y. Some y) (sym e)
+get_there (x ∷ ws) (suc i) w lt e = get_there ws i w (omega (arith, lt)) e
+
+-- a write leaves what is due, and the transactions that have no end
+pub write_rest : (log now : List Record) (f h : Findings) (t : Txn) (n : ℕ) (w : SlotWrite) → AreFindings f log → AreFindings h now → now ≡ page_op t n w ∷ log → (h.dues ≡ f.dues) × (h.history.working ≡ f.history.working)
+write_rest log now f h t n w are then grown = (
+  then.dues ∙ ap dues grown ∙ sym are.dues,
+  ap (λ (x : Analysis). x.working) (then.history ∙ ap analysis grown) ∙ ap (λ (x : Analysis). x.working) (sym are.history),
+)
+
+-- the end of an inverse takes off what was due first
+pub close_rest : (log now : List Record) (f h : Findings) (d : Due) (older : List Due) (n lsn : ℕ) → AreFindings f log → AreFindings h now → now ≡ comp_end d.txn n lsn ∷ log → f.dues ≡ d ∷ older → (h.dues ≡ older) × (h.history.working ≡ f.history.working)
+close_rest log now f h d older n lsn are then grown first = (
+  then.dues ∙ ap dues grown ∙ rest_due log d older n lsn (sym are.dues ∙ first),
+  ap (λ (x : Analysis). x.working) (then.history ∙ ap analysis grown) ∙ ap (λ (x : Analysis). x.working) (sym are.history),
+)
+
+-- the end of a transaction leaves what is due, and takes it off those that have no end
+pub end_rest : (log now : List Record) (f h : Findings) (t : Txn) → AreFindings f log → AreFindings h now → now ≡ records.AbortEnd t ∷ log → (h.dues ≡ f.dues) × (h.history.working ≡ without_txn t f.history.working)
+end_rest log now f h t are then grown = (
+  then.dues ∙ ap dues grown ∙ sym are.dues,
+  ap (λ (x : Analysis). x.working) (then.history ∙ ap analysis grown) ∙ ap (λ (x : Analysis). without_txn t x.working) (sym are.history),
+)
+
+-- where nothing is due, and nobody has an end left to be made, all have ended
+pub all_ended : (log : List Record) (f : Findings) → AreFindings f log → f.dues ≡ [] → least_free f.dues f.history.working ≡ None → IsEnded log
+all_ended log f are nothing none = ap (λ (x : Analysis). x.working) (sym are.history) ∙ nobody_left f.history.working (ap (λ ds. least_free ds f.history.working) (sym nothing) ∙ none)

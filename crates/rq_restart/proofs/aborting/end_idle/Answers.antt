@@ -1,0 +1,66 @@
+use Rattle.std.proofs.Common.{◌≡◌, ◌∷◌, Some, rules, length, refl, ◌∙◌, sym, ap, subst}
+use Rattle.rq_model.specs.declared.record.Record.TheVariants as records
+use Rattle.rq_model.specs.declared.record.Record.{Record}
+use Rattle.rq_page.specs.Sizes.{Sizes}
+use Rattle.rq_lost.specs.Choices.{least_free}
+use Rattle.rq_restart.specs.Aborting.{AbortStops, HasGoneOn, IsShown}
+use Rattle.rq_restart.specs.Repeating.{Belongs, IsRepeated, paged}
+use Rattle.rq_restart.specs.Undoing.{StepStops}
+use Rattle.rq_restart.proofs.Aborts.{ended_less, gone_join, one_gone, one_stops, stops_join}
+use Rattle.rq_restart.proofs.DueLists.{working_range}
+use Rattle.rq_restart.proofs.Rounds.{end_belongs, end_shown, least_in, shown_way}
+use Rattle.rq_restart.proofs.aborting.end_idle.Goals as goal
+
+pub append-requires-clause-range : goal.append-requires-clause-range
+append-requires-clause-range g c = λ are.
+    let kept = c.loop-txn.invariant in
+    let e : least_free c.loop-txn.findings.dues c.loop-txn.findings.history.working ≡ Some c.in-Some.txn = ap (least_free c.loop-txn.findings.dues) (sym c.working.ensures) ∙ sym c.in-Some.ensures in
+    working_range c.loop-txn.log.records are c.in-Some.txn (least_in c.loop-txn.log.records c.loop-txn.findings kept.found c.in-Some.txn e)
+
+pub loop-txn-smaller : goal.loop-txn-smaller
+loop-txn-smaller g c =
+    let kept = c.loop-txn.invariant in
+    let e : least_free c.loop-txn.findings.dues c.loop-txn.findings.history.working ≡ Some c.in-Some.txn = ap (least_free c.loop-txn.findings.dues) (sym c.working.ensures) ∙ sym c.in-Some.ensures in
+    ended_less c.loop-txn.log.records c.append.new.log.records c.loop-txn.findings c.append.new.findings c.in-Some.txn kept.found c.in_ok-append.ensures.found c.in_ok-append.ensures.records e
+
+pub loop-txn-preserved : goal.loop-txn-preserved
+loop-txn-preserved g c =
+    let kept = c.loop-txn.invariant in
+    let made = c.in_ok-append.ensures in
+    let z : Sizes = c.args.pages.now.sizes in
+    let first = c.args.log.now.records in
+    let log = c.loop-txn.log.records in
+    let t = c.in-Some.txn in
+    let r : Record = records.AbortEnd t in
+    let old = c.loop-txn.pages in
+    let new = c.append.new.pages in
+    let e : least_free c.loop-txn.findings.dues c.loop-txn.findings.history.working ≡ Some t = ap (least_free c.loop-txn.findings.dues) (sym c.working.ensures) ∙ sym c.in-Some.ensures in
+    let one : IsRepeated z log r (paged old) (paged new) = subst (λ y. IsRepeated y log r (paged old) (paged new)) kept.sizes made.repeated in
+    let next : HasGoneOn z log (r ∷ log) old new (IsShown log old) (IsShown (r ∷ log) new) =
+    one_gone z log r old new (IsShown log old) (IsShown (r ∷ log) new) refl one (end_shown z log old c.loop-txn.findings kept.found t e new (made.same refl)) in
+    record {
+      found = made.found;
+      gone = subst (λ l. HasGoneOn z first l c.args.pages.now new (IsShown first c.args.pages.now) (IsShown l new)) (sym made.records)
+          (gone_join z first log c.args.pages.now old (IsShown first c.args.pages.now) (IsShown log old) kept.gone (r ∷ log) new (IsShown (r ∷ log) new) next);
+      sizes = made.sizes ∙ kept.sizes;
+      device = made.device ∙ kept.device;
+      log = (made.log.0 ∙ kept.log.0, made.log.1 ∙ kept.log.1, made.log.2, made.log.3 ∙ kept.log.3);
+      room = made.room ∙ kept.room;
+    }
+
+pub returns-in_err-append-clause-stops : goal.returns-in_err-append-clause-stops
+returns-in_err-append-clause-stops g c =
+    let kept = c.loop-txn.invariant in
+    let z : Sizes = c.args.pages.now.sizes in
+    let first = c.args.log.now.records in
+    let log = c.loop-txn.log.records in
+    let t = c.in-Some.txn in
+    let r : Record = records.AbortEnd t in
+    let old = c.loop-txn.pages in
+    let e : least_free c.loop-txn.findings.dues c.loop-txn.findings.history.working ≡ Some t = ap (least_free c.loop-txn.findings.dues) (sym c.working.ensures) ∙ sym c.in-Some.ensures in
+    let refusal = c.in_err-append.field-0.0 in
+    let step : StepStops (length log) (Belongs z log r (paged old)) refusal = subst (λ y. StepStops (length log) (Belongs y log r (paged old)) refusal) kept.sizes c.in_err-append.ensures.stops in
+    let here : AbortStops z log old (IsShown log old) refusal =
+    one_stops z log r old old (IsShown log old) (IsShown log old) refl refusal step (shown_way z log old c.loop-txn.findings kept.found) (end_belongs z log old c.loop-txn.findings kept.found t e) in
+    let h : AbortStops z first c.args.pages.now (IsShown first c.args.pages.now) refusal = stops_join z first log c.args.pages.now old (IsShown first c.args.pages.now) (IsShown log old) kept.gone refusal here in
+    search (rules, h)

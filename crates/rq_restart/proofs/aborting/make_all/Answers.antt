@@ -1,0 +1,83 @@
+use Rattle.std.proofs.Common.{◌≡◌, ◌∷◌, ◌+◌, Some, rules, length, refl, ◌∙◌, sym, ap, subst, arith}
+use Rattle.std.specs.List.{slice_get}
+use Rattle.rq_model.specs.declared.record.Record.{Record}
+use Rattle.rq_page.specs.Sizes.{Sizes}
+use Rattle.rq_pool.specs.Pooled.{IsPool}
+use Rattle.rq_record.specs.Spelling.{IsInRange}
+use Rattle.rq_store.specs.Steps.{page_op}
+use Rattle.rq_level.specs.Writes.{IsSlotWrite}
+use Rattle.rq_level.specs.declared.writes.SlotWrite.{SlotWrite}
+use Rattle.rq_restart.specs.Aborting.{AbortStops, HasGoneOn, IsShownWithin}
+use Rattle.rq_restart.specs.Repeating.{Belongs, IsRepeated, paged}
+use Rattle.rq_restart.specs.Undoing.{StepStops}
+use Rattle.rq_restart.proofs.Aborts.{gone_join, one_gone, one_stops, stops_join}
+use Rattle.rq_restart.proofs.Rounds.{write_belongs, write_rest, write_shown, within_way, get_there}
+use Rattle.rq_restart.proofs.aborting.make_all.Goals as goal
+
+pub append-requires-clause-range : goal.append-requires-clause-range
+append-requires-clause-range g c = λ are.
+    let w : SlotWrite = c.index-writes-index.result in
+    subst IsInRange (sym c.written-undo.ensures) (c.requires.txn, c.requires.number, (let k = w.slot in omega (arith, k), omega arith))
+
+pub loop-index-preserved : goal.loop-index-preserved
+loop-index-preserved g c =
+    let kept = c.loop-index.invariant in
+    let made = c.in_ok-append.ensures in
+    let z : Sizes = c.args.pages.now.sizes in
+    let first = c.args.log.now.records in
+    let log = c.loop-index.log.records in
+    let d = c.args.due.now in
+    let n = c.args.operation in
+    let ws = c.args.writes.now in
+    let i = c.loop-index.index in
+    let w : SlotWrite = c.index-writes-index.result in
+    let r : Record = page_op d.txn n w in
+    let is : c.written-undo.result ≡ r = c.written-undo.ensures in
+    let old = c.loop-index.pages in
+    let new = c.append.new.pages in
+    let next : slice_get ws i ≡ Some w = get_there ws i w c.loop-index-test.true c.index-writes-index.is in
+    let one : IsRepeated z log r (paged old) (paged new) = subst (λ y. IsRepeated y log r (paged old) (paged new)) kept.sizes (subst (λ q. IsRepeated old.sizes log q (paged old) (paged new)) is made.repeated) in
+    let pool : IsPool z new.images = subst (λ y. IsPool y new.images) (made.sizes ∙ kept.sizes) made.pool in
+    let slot : IsSlotWrite z w = subst (IsSlotWrite z) (sym c.index-writes-index.is) (c.requires.slots i w c.loop-index-test.true) in
+    let shown = write_shown z log old d n ws i w next slot new pool one in
+    let before = IsShownWithin first c.args.pages.now d n ws 0 in
+    let here = IsShownWithin log old d n ws i in
+    let after = IsShownWithin (r ∷ log) new d n ws (i + 1) in
+    let step : HasGoneOn z log (r ∷ log) old new here after = one_gone z log r old new here after refl one shown in
+    let grown : c.append.new.log.records ≡ r ∷ log = made.records ∙ ap (λ q. q ∷ log) is in
+    let rest = write_rest log c.append.new.log.records c.loop-index.findings c.append.new.findings d.txn n w kept.found made.found grown in
+    record {
+      found = made.found;
+      gone = subst (λ l. HasGoneOn z first l c.args.pages.now new before (IsShownWithin l new d n ws (i + 1))) (sym grown)
+          (gone_join z first log c.args.pages.now old before here kept.gone (r ∷ log) new after step);
+      dues = rest.0 ∙ kept.dues;
+      working = rest.1 ∙ kept.working;
+      sizes = made.sizes ∙ kept.sizes;
+      device = made.device ∙ kept.device;
+      log = (made.log.0 ∙ kept.log.0, made.log.1 ∙ kept.log.1, made.log.2, made.log.3 ∙ kept.log.3);
+      room = made.room ∙ kept.room;
+    }
+
+pub returns-in_err-append-clause-stops : goal.returns-in_err-append-clause-stops
+returns-in_err-append-clause-stops g c =
+    let kept = c.loop-index.invariant in
+    let z : Sizes = c.args.pages.now.sizes in
+    let first = c.args.log.now.records in
+    let log = c.loop-index.log.records in
+    let d = c.args.due.now in
+    let n = c.args.operation in
+    let ws = c.args.writes.now in
+    let i = c.loop-index.index in
+    let w : SlotWrite = c.index-writes-index.result in
+    let r : Record = page_op d.txn n w in
+    let old = c.loop-index.pages in
+    let next : slice_get ws i ≡ Some w = get_there ws i w c.loop-index-test.true c.index-writes-index.is in
+    let slot : IsSlotWrite z w = subst (IsSlotWrite z) (sym c.index-writes-index.is) (c.requires.slots i w c.loop-index-test.true) in
+    let refusal = c.in_err-append.field-0.0 in
+    let before = IsShownWithin first c.args.pages.now d n ws 0 in
+    let here = IsShownWithin log old d n ws i in
+    let step : StepStops (length log) (Belongs z log r (paged old)) refusal =
+    subst (λ y. StepStops (length log) (Belongs y log r (paged old)) refusal) kept.sizes (subst (λ q. StepStops (length log) (Belongs old.sizes log q (paged old)) refusal) c.written-undo.ensures c.in_err-append.ensures.stops) in
+    let now : AbortStops z log old here refusal = one_stops z log r old old here here refl refusal step (within_way z log old d n ws i) (write_belongs z log old d n ws i w next slot) in
+    let h : AbortStops z first c.args.pages.now before refusal = stops_join z first log c.args.pages.now old before here kept.gone refusal now in
+    search (rules, h)

@@ -1,0 +1,16 @@
+use Rattle.std.proofs.Common.{◌≡◌, false}
+use Rattle.rq_restart.specs.Aborting.{HasGoneOn, IsShownWithin}
+use Rattle.rq_restart.specs.Found.{AreFindings}
+use Rattle.rq_restart.proofs.aborting.make_all.Given as goal
+
+abbrev pub invariant-loop-index : goal.invariant-loop-index
+invariant-loop-index g l = record {
+  found : AreFindings l.findings l.log.records;
+  gone : HasGoneOn l.fn.pages.sizes l.fn.log.records l.log.records l.fn.pages l.pages (IsShownWithin l.fn.log.records l.fn.pages l.due l.operation l.writes 0) (IsShownWithin l.log.records l.pages l.due l.operation l.writes l.index);
+  dues : l.findings.dues ≡ l.fn.findings.dues;
+  working : l.findings.history.working ≡ l.fn.findings.history.working;
+  sizes : l.pages.sizes ≡ l.fn.pages.sizes;
+  device : l.pages.device ≡ l.fn.pages.device;
+  log : (l.log.device ≡ l.fn.log.device) × (l.log.forced ≡ l.fn.log.forced) × (l.log.failed ≡ false) × (l.log.settled ≡ l.fn.log.settled);
+  room : l.log.reserved ≡ l.fn.log.reserved;
+}

@@ -1,0 +1,137 @@
+use Rattle.std.proofs.Common.{◌≡◌, ◌∷◌, None, rules, length, false, inl, refl, ◌∙◌, sym, ap, subst, arith}
+use Rattle.rq_model.specs.declared.record.Record.{Record}
+use Rattle.rq_model.specs.declared.record.Record.TheVariants as records
+use Rattle.rq_model.specs.Words.{In}
+use Rattle.rq_page.specs.Sizes.{Sizes}
+use Rattle.rq_log.specs.Spelled.{AreSpelled}
+use Rattle.rq_undone.specs.Analysis.{without_txn}
+use Rattle.rq_lost.specs.Choices.{least_free}
+use Rattle.rq_lost.specs.Dues.{any_due, dues}
+use Rattle.rq_restart.specs.Aborting.{AbortStops, HasGoneOn, IsShown}
+use Rattle.rq_restart.specs.Repeating.{Belongs, IsRepeated, paged}
+use Rattle.rq_restart.specs.Undoing.{StepStops}
+use Rattle.rq_restart.proofs.Aborts.{gone_join, gone_keeping, one_gone, one_stops, spelled_before, stops_join}
+use Rattle.rq_restart.proofs.DueLists.{due_range, none_behind, none_then}
+use Rattle.rq_restart.proofs.Rounds.{all_ended, end_rest, next_belongs, next_shown, next_way}
+use Rattle.rq_restart.proofs.aborting.take_back_all.Goals as goal
+
+pub take_back-requires-clause-first : goal.take_back-requires-clause-first
+take_back-requires-clause-first g c = c.in-Some.ensures
+
+pub append-requires-clause-range : goal.append-requires-clause-range
+append-requires-clause-range g c = λ are.
+    let log = c.loop-due.log.records in
+    let first = c.in-Some.ensures in
+    let d = c.in-Some.due in
+    let before : AreSpelled log = spelled_before log c.take_back.new.log.records c.in_ok-take_back.ensures.gone_on.aborting are in
+    let there : In d (dues log) = subst (In d) (sym first.1 ∙ c.loop-due.invariant.found.dues) (inl refl) in
+    (due_range log before d there).0
+
+pub loop-due-smaller : goal.loop-due-smaller
+loop-due-smaller g c = (let e = ap length c.in_ok-take_back.ensures.rest in omega (arith, e))
+
+pub loop-due-preserved : goal.loop-due-preserved
+loop-due-preserved g c =
+    let kept = c.loop-due.invariant in
+    let made = c.in_ok-take_back.ensures in
+    let z : Sizes = c.args.pages.now.sizes in
+    let first = c.args.log.now.records in
+    let start = c.args.pages.now in
+    let log = c.loop-due.log.records in
+    let old = c.loop-due.pages in
+    let mid = c.take_back.new.log.records in
+    let new = c.take_back.new.pages in
+    let d = c.in-Some.due in
+    let f = c.loop-due.findings in
+    let h = c.take_back.new.findings in
+    let step : HasGoneOn z log mid old new (IsShown log old) (IsShown mid new) = subst (λ y. HasGoneOn y log mid old new (IsShown log old) (IsShown mid new)) kept.sizes made.gone_on in
+    let none : least_free (d ∷ h.dues) f.history.working ≡ None = ap (λ ds. least_free ds f.history.working) (sym made.rest) ∙ kept.none in
+    record {
+      found = made.found;
+      none = ap (least_free h.dues) made.working ∙ none_then d h.dues f.history.working (sym (c.if-not-owes.ensures)) none;
+      gone = gone_join z first log start old (IsShown first start) (IsShown log old) kept.gone mid new (IsShown mid new) step;
+      sizes = made.sizes ∙ kept.sizes;
+      device = made.device ∙ kept.device;
+      log = (made.log.0 ∙ kept.log.0, made.log.1 ∙ kept.log.1, made.log.2, made.log.3 ∙ kept.log.3);
+      room = made.room ∙ kept.room;
+    }
+
+pub returns-in_err-take_back-clause-stops : goal.returns-in_err-take_back-clause-stops
+returns-in_err-take_back-clause-stops g c =
+    let kept = c.loop-due.invariant in
+    let z : Sizes = c.args.pages.now.sizes in
+    let first = c.args.log.now.records in
+    let start = c.args.pages.now in
+    let log = c.loop-due.log.records in
+    let old = c.loop-due.pages in
+    let e = c.in_err-take_back.field-0.0 in
+    let here : AbortStops z log old (IsShown log old) e = subst (λ y. AbortStops y log old (IsShown log old) e) kept.sizes c.in_err-take_back.ensures.stops in
+    let h : AbortStops z first start (IsShown first start) e = stops_join z first log start old (IsShown first start) (IsShown log old) kept.gone e here in
+    search (rules, h)
+
+pub loop-due-preserved-in-Continue-branch-2 : goal.loop-due-preserved-in-Continue-branch-2
+loop-due-preserved-in-Continue-branch-2 g c =
+    let kept = c.loop-due.invariant in
+    let made = c.in_ok-take_back.ensures in
+    let last = c.in_ok-append.ensures in
+    let z : Sizes = c.args.pages.now.sizes in
+    let first = c.args.log.now.records in
+    let start = c.args.pages.now in
+    let log = c.loop-due.log.records in
+    let old = c.loop-due.pages in
+    let mid = c.take_back.new.log.records in
+    let now = c.take_back.new.pages in
+    let new = c.append.new.pages in
+    let d = c.in-Some.due in
+    let f = c.loop-due.findings in
+    let h = c.take_back.new.findings in
+    let r : Record = records.AbortEnd d.txn in
+    let here = IsShown log old in
+    let same_sizes : now.sizes ≡ z = made.sizes ∙ kept.sizes in
+    let step : HasGoneOn z log mid old now here (IsShown mid now) = subst (λ y. HasGoneOn y log mid old now here (IsShown mid now)) kept.sizes made.gone_on in
+    let off : any_due d.txn h.dues ≡ false = sym c.if-not-owes.ensures in
+    let none : least_free (d ∷ h.dues) f.history.working ≡ None = ap (λ ds. least_free ds f.history.working) (sym made.rest) ∙ kept.none in
+    let one : IsRepeated z mid r (paged now) (paged new) = subst (λ y. IsRepeated y mid r (paged now) (paged new)) same_sizes last.repeated in
+    let ends : HasGoneOn z mid (r ∷ mid) now new here (IsShown (r ∷ mid) new) =
+    one_gone z mid r now new here (IsShown (r ∷ mid) new) refl one (next_shown z log mid old now f h kept.found made.found d made.rest kept.none made.working off step.shown new (last.same refl)) in
+    let rest = end_rest mid c.append.new.log.records h c.append.new.findings d.txn made.found last.found last.records in
+    record {
+      found = last.found;
+      none = ap (λ ds. least_free ds c.append.new.findings.history.working) rest.0 ∙ ap (least_free h.dues) (rest.1 ∙ ap (without_txn d.txn) made.working) ∙ none_behind d h.dues f.history.working none;
+      gone = subst (λ l. HasGoneOn z first l start new (IsShown first start) (IsShown l new)) (sym last.records)
+          (gone_join z first log start old (IsShown first start) here kept.gone (r ∷ mid) new (IsShown (r ∷ mid) new)
+          (gone_join z log mid old now here here (gone_keeping z log mid old now here (IsShown mid now) step) (r ∷ mid) new (IsShown (r ∷ mid) new) ends));
+      sizes = last.sizes ∙ same_sizes;
+      device = last.device ∙ made.device ∙ kept.device;
+      log = (last.log.0 ∙ made.log.0 ∙ kept.log.0, last.log.1 ∙ made.log.1 ∙ kept.log.1, last.log.2, last.log.3 ∙ made.log.3 ∙ kept.log.3);
+      room = last.room ∙ made.room ∙ kept.room;
+    }
+
+pub returns-in_err-append-clause-stops : goal.returns-in_err-append-clause-stops
+returns-in_err-append-clause-stops g c =
+    let kept = c.loop-due.invariant in
+    let made = c.in_ok-take_back.ensures in
+    let z : Sizes = c.args.pages.now.sizes in
+    let first = c.args.log.now.records in
+    let start = c.args.pages.now in
+    let log = c.loop-due.log.records in
+    let old = c.loop-due.pages in
+    let mid = c.take_back.new.log.records in
+    let now = c.take_back.new.pages in
+    let d = c.in-Some.due in
+    let f = c.loop-due.findings in
+    let h = c.take_back.new.findings in
+    let r : Record = records.AbortEnd d.txn in
+    let here = IsShown log old in
+    let e = c.in_err-append.field-0.0 in
+    let step : HasGoneOn z log mid old now here (IsShown mid now) = subst (λ y. HasGoneOn y log mid old now here (IsShown mid now)) kept.sizes made.gone_on in
+    let off : any_due d.txn h.dues ≡ false = sym c.if-not-owes.ensures in
+    let bad : StepStops (length mid) (Belongs z mid r (paged now)) e = subst (λ y. StepStops (length mid) (Belongs y mid r (paged now)) e) (made.sizes ∙ kept.sizes) c.in_err-append.ensures.stops in
+    let ends : AbortStops z mid now here e =
+    one_stops z mid r now now here here refl e bad (next_way z log mid old now f h kept.found made.found d made.rest kept.none made.working off step.shown) (next_belongs z log mid old now f h kept.found made.found d made.rest kept.none made.working off step.shown) in
+    let then : AbortStops z log old here e = stops_join z log mid old now here here (gone_keeping z log mid old now here (IsShown mid now) step) e ends in
+    let k : AbortStops z first start (IsShown first start) e = stops_join z first log start old (IsShown first start) here kept.gone e then in
+    search (rules, k)
+
+pub returns-clause-ended : goal.returns-clause-ended
+returns-clause-ended g c = all_ended c.loop-due.log.records c.loop-due.findings c.loop-due.invariant.found c.in_default.ensures c.loop-due.invariant.none

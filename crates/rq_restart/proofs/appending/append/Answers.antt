@@ -1,0 +1,29 @@
+use Rattle.std.proofs.Common.{◌+◌, ap, refl}
+use Rattle.std.proofs.lemmas.Bool.{false≢true}
+use Rattle.rq_restart.specs.Repeating.{paged}
+use Rattle.rq_restart.proofs.Undos.{belongs_then, one_repeated}
+use Rattle.rq_restart.proofs.appending.append.Goals as goal
+use Rattle.rq_restart.proofs.appending.append.Goals.{then-not-is_next-via-then-not-is_next, then-not-is_next-via-else-not-is_next+then-not-repeat}
+
+pub append-requires-clause-record : goal.append-requires-clause-record
+append-requires-clause-record g c = c.requires.range c.shows_kept.ensures.log.spelled
+
+pub returns-then-not-is_next-clause-stops : goal.returns-then-not-is_next-clause-stops
+returns-then-not-is_next-clause-stops g c =
+    let z = c.args.pages.now.sizes in
+    let log = c.args.log.now.records in (
+      ap (λ n. n + 1) c.last-lsn.ensures,
+      λ b.
+          let k = belongs_then z z log c.args.undo.now c.args.findings.now.history c.requires.found.history refl (c.last-lsn.result + 1) (ap (λ n. n + 1) c.last-lsn.ensures) (paged c.args.pages.now) b in
+          elim c.then-not-is_next.branch [
+            | then-not-is_next-via-then-not-is_next w ↦ absurd (false≢true (rw w.if-not-is_next.true at (c.in_ok-is_next.ensures.next.1 k.0)))
+            | then-not-is_next-via-else-not-is_next+then-not-repeat w ↦ w.repeat.ensures.refused w.if-not-repeat.true k.1
+          ],
+    )
+
+pub returns-clause-repeated : goal.returns-clause-repeated
+returns-clause-repeated g c =
+    let z = c.args.pages.now.sizes in
+    let log = c.args.log.now.records in
+    one_repeated z z log c.args.undo.now c.args.findings.now.history c.requires.found.history refl (c.last-lsn.result + 1) (ap (λ n. n + 1) c.last-lsn.ensures) (paged c.args.pages.now) (paged c.repeat.new.pages)
+    (c.in_ok-is_next.ensures.next.0 c.if-not-is_next.false) (c.if-not-repeat.ensures.checked refl) (c.if-not-repeat.ensures.redone refl) (c.if-not-repeat.ensures.marked refl)

@@ -1,0 +1,73 @@
+-- What a restart makes of a log: the records by which it undoes what has no end, behind it.
+use Rattle.std.specs.Prelude.{◌≡◌, ◌⊎◌, ℕ, ◌^◌, ◌≤◌, List, ◌∷◌, length}
+use Rattle.rq_model.specs.declared.record.Record.{Record}
+use Rattle.rq_model.specs.declared.refusal.Refusal.{Refusal}
+use Rattle.rq_model.specs.declared.refusal.Refusal.TheVariants as why
+use Rattle.rq_model.specs.declared.refusal.Damage.TheVariants as damage
+use Rattle.rq_page.specs.Sizes.{Sizes}
+use Rattle.rq_store.specs.Opening.{IsLeft, next_restart}
+use Rattle.rq_undone.specs.Pages.{IsUndoing, IsUndone}
+use Rattle.rq_lost.specs.Recovered.{IsRecovered, IsRecovering}
+use Rattle.rq_restart.specs.Aborting.{IsAborting, IsBadStep}
+use Rattle.rq_restart.specs.Checked.{IsEnded, WasGoneThrough}
+use Rattle.rq_restart.specs.Repeating.{Paged, Repeats}
+use Rattle.rq_restart.specs.Undoing.{IsBadUndo}
+
+-- Behind the log stand the records by which operations without an end are undone, and then those by which lost
+-- transactions are, none where every transaction had its end. All have it then.
+pub record IsMended (log mended : List Record) : Type 0 where
+  pub undone : List Record
+  pub undoes : IsUndone log undone
+  pub aborting : IsAborting undone mended
+  pub ended : IsEnded mended
+  pub none_lost : IsEnded log → mended ≡ undone
+
+-- The pages went through the log, and the records that mend it were repeated on them too. Of a store that was left so,
+-- they recover it.
+pub record IsMendedOn (z : Sizes) (log mended : List Record) (first last : Paged) : Type 0 where
+  pub gone_through : WasGoneThrough z log first
+  pub mends : IsMended log mended
+  pub repeated : Repeats z mended first last
+  pub recovered : IsLeft z first.image log → IsRecovered z log mended
+
+-- From pages that history was repeated on: behind the log stand the records that mend it, and the one that begins the
+-- next incarnation, and the first of these were repeated on the pages too. Of a store that was left so, they recover it.
+pub record HasRepeated (z : Sizes) (log now : List Record) (old new : Paged) : Type 0 where
+  pub mended : List Record
+  pub mends : IsMended log mended
+  pub begun : now ≡ next_restart mended ∷ mended
+  pub repeated : (first : Paged) → Repeats z log first old → Repeats z mended first new
+  pub recovered : (first : Paged) → Repeats z log first old → IsLeft z first.image log → IsRecovered z log mended
+
+-- the log, with the records behind that recover some of it, is at its greatest length
+pub record IsAtBound (z : Sizes) (log : List Record) : Type 0 where
+  pub now : List Record
+  pub recovering : IsRecovering z log now
+  pub full : 2 ^ 50 ≤ length now
+
+-- the same of any log: of a store that was left so, they recover some of it
+pub record HasNoRoom (z : Sizes) (left : Type 0) (log : List Record) : Type 0 where
+  pub undone : List Record
+  pub undoing : IsUndoing log undone
+  pub now : List Record
+  pub aborting : IsAborting undone now
+  pub none_lost : IsEnded log → now ≡ undone
+  pub full : 2 ^ 50 ≤ length now
+  pub recovering : left → IsRecovering z log now
+
+-- What would undo the next lost transaction doesn't belong there, or what it did, told by the OpEnd with this LSN, cannot
+-- be taken back. So it is of no store that was left so.
+pub record IsBadMend (z : Sizes) (log : List Record) (first : Paged) (lsn : ℕ) : Type 0 where
+  pub undone : List Record
+  pub undoes : IsUndone log undone
+  pub last : List Record
+  pub aborting : IsAborting undone last
+  pub bad : IsBadStep z first last lsn
+  pub none : IsLeft z first.image log → ⊥
+
+-- why the log was not mended
+abbrev pub MendStops : Sizes → List Record → Paged → Refusal → Type 0
+MendStops z log first why.NoMemory = Unit {0}
+MendStops z log first why.LogFull = HasNoRoom z (IsLeft z first.image log) log
+MendStops z log first (why.Damaged (damage.Record lsn)) = IsBadUndo z log first lsn ⊎ IsBadMend z log first lsn
+MendStops z log first _ = ⊥

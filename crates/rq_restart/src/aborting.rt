@@ -1,0 +1,272 @@
+//! Undoing lost transactions, one after the other, by the inverses of what they did.
+ghost use Rattle.std.specs.Prelude.{◌≡◌, ◌∷◌, ◌<◌, IfOk, IfErr, IfSome, IfNone, OnOk, OnErr, Some, None, false, List, length};
+ghost use Rattle.rq_model.specs.Deeds.{deed_in};
+ghost use Rattle.rq_page.specs.Sizes.{sender_count};
+ghost use Rattle.rq_views.specs.Plans.Turn.{Undid};
+ghost use Rattle.rq_views.specs.Plans.{deed_sender};
+ghost use Rattle.rq_views.specs.Stored.{slots_in};
+ghost use Rattle.rq_level.specs.Writes.{AreSlotWrites};
+ghost use Rattle.rq_sound.specs.Plans.{IsPlannedFrom};
+ghost use Rattle.rq_lost.specs.declared.dues.Due.{Due};
+ghost use Rattle.rq_lost.specs.Choices.{least_free};
+ghost use Rattle.rq_lost.specs.Dues.{deed_due};
+ghost use Rattle.rq_record.specs.Spelling.{IsTxnInRange};
+ghost use Rattle.rq_store.specs.Steps.{page_op};
+ghost use Rattle.rq_restart.specs.Aborting.{AbortStops, HasGoneOn, IsNoDeed, blamed_on, IsShown, IsShownWithin, PlanStops};
+ghost use Rattle.rq_restart.specs.Checked.{IsEnded};
+ghost use Rattle.rq_restart.specs.Found.{AreFindings};
+
+use crate::appending::append;
+use crate::findings::Findings;
+use rq_disk::{LogDevice, PageDevice};
+use rq_inverses::plan_inverse;
+use rq_level::SlotWrite;
+use rq_log::Log;
+use rq_lost::{Due, next_end};
+use rq_model::limits::LOG_LIMIT;
+use rq_model::record::{Deed, Record};
+use rq_model::refusal::{Damage, Refusal};
+use rq_model::txn::Lsn;
+use rq_pool::Pages;
+use rq_record::decode_deed;
+use rq_txn::Transactions;
+use std::alloc::Global;
+
+/// Undoes the transactions that have no end: those first that have nothing left to be taken back, by rising number, and
+/// then what the others did, the newest of all first, each with its end behind the last that it did. The records of it
+/// are made behind the log, of which these are the findings, and nothing is handed over.
+///
+/// # Errors
+/// `NoMemory`; `LogFull` where the log is at its greatest length; `Damaged` with the number of the OpEnd that cannot be
+/// taken back, or of a record that would not belong where it has to stand.
+pub(crate) fn abort_lost<P: PageDevice + Drop, L: LogDevice + Drop>(
+    alloc: Global,
+    pages: &mut Pages<P>,
+    log: &mut Log<L>,
+    findings: &mut Findings,
+) -> Result<(), Refusal>
+    requires found { AreFindings findings.old log.old.records }
+    requires running { log.old.failed ≡ false }
+    ensures gone_on { OnOk result (HasGoneOn pages.old.sizes log.old.records log.new.records pages.old pages.new
+        (IsShown log.old.records pages.old) (IsShown log.new.records pages.new)) }
+    ensures ended { OnOk result (IsEnded log.new.records) }
+    ensures none { OnOk result (IsEnded log.old.records → (log.new.records ≡ log.old.records) × (pages.new ≡ pages.old)) }
+    ensures found { OnOk result (AreFindings findings.new log.new.records) }
+    ensures stops { IfErr result (λ e. AbortStops pages.old.sizes log.old.records pages.old
+        (IsShown log.old.records pages.old) e) }
+    ensures some { OnErr result (IsEnded log.old.records → ⊥) }
+    ensures sizes { pages.new.sizes ≡ pages.old.sizes }
+    ensures device { pages.new.device ≡ pages.old.device }
+    ensures log { (log.new.device ≡ log.old.device) × (log.new.forced ≡ log.old.forced)
+        × (log.new.failed ≡ false) × (log.new.settled ≡ log.old.settled) }
+    ensures room { OnOk result (log.new.reserved ≡ log.old.reserved) }
+{
+    if findings.history.is_settled() {
+        return Ok(());
+    }
+    end_idle(pages, log, findings)?;
+    take_back_all(alloc, pages, log, findings)?;
+    Ok(())
+}
+
+// Ends the transactions without an end that have nothing left to be taken back.
+fn end_idle<P: PageDevice + Drop, L: LogDevice + Drop>(
+    pages: &mut Pages<P>,
+    log: &mut Log<L>,
+    findings: &mut Findings,
+) -> Result<(), Refusal>
+    requires found { AreFindings findings.old log.old.records }
+    requires running { log.old.failed ≡ false }
+    ensures gone_on { OnOk result (HasGoneOn pages.old.sizes log.old.records log.new.records pages.old pages.new
+        (IsShown log.old.records pages.old) (IsShown log.new.records pages.new)) }
+    ensures none { OnOk result (least_free findings.new.dues findings.new.history.working ≡ None) }
+    ensures found { OnOk result (AreFindings findings.new log.new.records) }
+    ensures stops { IfErr result (λ e. AbortStops pages.old.sizes log.old.records pages.old
+        (IsShown log.old.records pages.old) e) }
+    ensures sizes { pages.new.sizes ≡ pages.old.sizes }
+    ensures device { pages.new.device ≡ pages.old.device }
+    ensures log { (log.new.device ≡ log.old.device) × (log.new.forced ≡ log.old.forced)
+        × (log.new.failed ≡ false) × (log.new.settled ≡ log.old.settled) }
+    ensures room { OnOk result (log.new.reserved ≡ log.old.reserved) }
+{
+    while let Some(txn) = next_end(findings.history.working(), &findings.dues) {
+        append(pages, log, findings, &Record::AbortEnd { txn })?;
+    }
+    Ok(())
+}
+
+// Takes back what transactions without an end did, the newest first, and ends each once all of it is taken back.
+fn take_back_all<P: PageDevice + Drop, L: LogDevice + Drop>(
+    alloc: Global,
+    pages: &mut Pages<P>,
+    log: &mut Log<L>,
+    findings: &mut Findings,
+) -> Result<(), Refusal>
+    requires found { AreFindings findings.old log.old.records }
+    requires none { least_free findings.old.dues findings.old.history.working ≡ None }
+    requires running { log.old.failed ≡ false }
+    ensures gone_on { OnOk result (HasGoneOn pages.old.sizes log.old.records log.new.records pages.old pages.new
+        (IsShown log.old.records pages.old) (IsShown log.new.records pages.new)) }
+    ensures ended { OnOk result (IsEnded log.new.records) }
+    ensures found { OnOk result (AreFindings findings.new log.new.records) }
+    ensures stops { IfErr result (λ e. AbortStops pages.old.sizes log.old.records pages.old
+        (IsShown log.old.records pages.old) e) }
+    ensures sizes { pages.new.sizes ≡ pages.old.sizes }
+    ensures device { pages.new.device ≡ pages.old.device }
+    ensures log { (log.new.device ≡ log.old.device) × (log.new.forced ≡ log.old.forced)
+        × (log.new.failed ≡ false) × (log.new.settled ≡ log.old.settled) }
+    ensures room { OnOk result (log.new.reserved ≡ log.old.reserved) }
+{
+    while let Some(due) = findings.dues.newest() {
+        take_back(alloc, pages, log, findings, &due)?;
+        if !findings.dues.owes(due.txn) {
+            append(pages, log, findings, &Record::AbortEnd { txn: due.txn })?;
+        }
+    }
+    Ok(())
+}
+
+// Takes back what is due first.
+fn take_back<P: PageDevice + Drop, L: LogDevice + Drop>(
+    alloc: Global,
+    pages: &mut Pages<P>,
+    log: &mut Log<L>,
+    findings: &mut Findings,
+    due: &Due,
+) -> Result<(), Refusal>
+    requires found { AreFindings findings.old log.old.records }
+    requires none { least_free findings.old.dues findings.old.history.working ≡ None }
+    requires first { (older : List Due) × (findings.old.dues ≡ due.now ∷ older) }
+    requires running { log.old.failed ≡ false }
+    ensures gone_on { OnOk result (HasGoneOn pages.old.sizes log.old.records log.new.records pages.old pages.new
+        (IsShown log.old.records pages.old) (IsShown log.new.records pages.new)) }
+    ensures rest { OnOk result (findings.old.dues ≡ due.now ∷ findings.new.dues) }
+    ensures working { OnOk result (findings.new.history.working ≡ findings.old.history.working) }
+    ensures found { OnOk result (AreFindings findings.new log.new.records) }
+    ensures stops { IfErr result (λ e. AbortStops pages.old.sizes log.old.records pages.old
+        (IsShown log.old.records pages.old) e) }
+    ensures sizes { pages.new.sizes ≡ pages.old.sizes }
+    ensures device { pages.new.device ≡ pages.old.device }
+    ensures log { (log.new.device ≡ log.old.device) × (log.new.forced ≡ log.old.forced)
+        × (log.new.failed ≡ false) × (log.new.settled ≡ log.old.settled) }
+    ensures room { OnOk result (log.new.reserved ≡ log.old.reserved) }
+{
+    log.shows_kept();
+    if log.last() >= LOG_LIMIT {
+        return Err(Refusal::LogFull);
+    }
+    let writes = plan(alloc, pages, due)?;
+    let Some(operation) = findings.numbers.greatest(due.txn).checked_add(1) else {
+        return Err(Refusal::Damaged(Damage::Record(due.lsn)));
+    };
+    make_all(pages, log, findings, due, operation, &writes)?;
+    let end = Record::CompEnd {
+        txn: due.txn,
+        operation,
+        undone: due.lsn,
+    };
+    append(pages, log, findings, &end)?;
+    Ok(())
+}
+
+// Makes the writes by which what is due is taken back, each with its record.
+fn make_all<P: PageDevice + Drop, L: LogDevice + Drop>(
+    pages: &mut Pages<P>,
+    log: &mut Log<L>,
+    findings: &mut Findings,
+    due: &Due,
+    operation: u64,
+    writes: &[SlotWrite],
+) -> Result<(), Refusal>
+    requires found { AreFindings findings.old log.old.records }
+    requires txn { IsTxnInRange due.now.txn }
+    requires number { 0 < operation }
+    requires slots { AreSlotWrites pages.old.sizes writes.now }
+    requires running { log.old.failed ≡ false }
+    ensures gone_on { OnOk result (HasGoneOn pages.old.sizes log.old.records log.new.records pages.old pages.new
+        (IsShownWithin log.old.records pages.old due.now operation writes.now 0)
+        (IsShownWithin log.new.records pages.new due.now operation writes.now (length writes.now))) }
+    ensures rest { OnOk result ((findings.new.dues ≡ findings.old.dues)
+        × (findings.new.history.working ≡ findings.old.history.working)) }
+    ensures found { OnOk result (AreFindings findings.new log.new.records) }
+    ensures stops { IfErr result (λ e. AbortStops pages.old.sizes log.old.records pages.old
+        (IsShownWithin log.old.records pages.old due.now operation writes.now 0) e) }
+    ensures sizes { pages.new.sizes ≡ pages.old.sizes }
+    ensures device { pages.new.device ≡ pages.old.device }
+    ensures log { (log.new.device ≡ log.old.device) × (log.new.forced ≡ log.old.forced)
+        × (log.new.failed ≡ false) × (log.new.settled ≡ log.old.settled) }
+    ensures room { OnOk result (log.new.reserved ≡ log.old.reserved) }
+{
+    for index in 0..writes.len() {
+        let undo = written(due, operation, &writes[index]);
+        append(pages, log, findings, &undo)?;
+    }
+    Ok(())
+}
+
+// The record of a write by which what is due is taken back.
+fn written(due: &Due, operation: u64, write: &SlotWrite) -> Record
+    ensures { result ≡ page_op due.now.txn operation write.now }
+{
+    Record::PageOp {
+        txn: due.txn,
+        operation,
+        page: write.at.page() as u32,
+        slot: write.at.slot(),
+        before: write.before,
+        after: write.after,
+    }
+}
+
+// The writes that take back what is due, over the slots as they are. Nobody has latched a page.
+fn plan<P: PageDevice>(alloc: Global, pages: &Pages<P>, due: &Due) -> Result<Vec<SlotWrite>, Refusal>
+    ensures plan { IfOk result (λ writes. IsPlannedFrom pages.now.sizes (slots_in pages.now.sizes pages.now.images)
+        writes.items (Undid (deed_due due.now))) }
+    ensures slots { IfOk result (λ writes. AreSlotWrites pages.now.sizes writes.items) }
+    ensures stops { IfErr result (λ e. PlanStops pages.now.sizes pages.now.images due.now e) }
+{
+    let Some(deed) = deed_in_store(pages, due) else {
+        return Err(Refusal::Damaged(Damage::Record(due.lsn)));
+    };
+    let nobody = Transactions::new(alloc);
+    match plan_inverse(alloc, pages, &nobody, &deed) {
+        Ok(Some(writes)) => Ok(writes),
+        Ok(None) => Err(Refusal::Damaged(Damage::Record(due.lsn))),
+        Err(refusal) => Err(blamed(due.lsn, refusal)),
+    }
+}
+
+// Why the OpEnd with this LSN is not taken back: memory is wanting, or what it tells cannot be.
+fn blamed(lsn: Lsn, refusal: Refusal) -> Refusal
+    ensures { result ≡ blamed_on lsn refusal }
+{
+    match refusal {
+        Refusal::NoMemory => Refusal::NoMemory,
+        _ => Refusal::Damaged(Damage::Record(lsn)),
+    }
+}
+
+// What is due, where the bytes are those of a deed for a sender of the store.
+fn deed_in_store<P: PageDevice>(pages: &Pages<P>, due: &Due) -> Option<Deed>
+    ensures some { IfSome result (λ deed. deed_in due.now.deed ≡ Some deed) }
+    ensures sender { IfSome result (λ deed. deed_sender deed < sender_count pages.now.sizes) }
+    ensures none { IfNone result (IsNoDeed pages.now.sizes due.now) }
+{
+    let deed = decode_deed(due.deed.as_slice())?;
+    if sender_of(&deed) < pages.layout().senders() {
+        Some(deed)
+    } else {
+        None
+    }
+}
+
+// Whose group a deed is of.
+fn sender_of(deed: &Deed) -> u32
+    ensures { result ≡ deed_sender deed.now }
+{
+    match deed {
+        Deed::Append { sender, .. } => *sender,
+        Deed::UnlinkHead { sender, .. } => *sender,
+        Deed::Close { sender } => *sender,
+    }
+}

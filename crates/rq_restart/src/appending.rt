@@ -1,0 +1,70 @@
+//! Records that a restart makes behind the log that it read.
+ghost use Rattle.std.specs.Prelude.{◌≡◌, ◌∷◌, ◌+◌, IfErr, OnOk, None, false, length};
+ghost use Rattle.rq_log.specs.Spelled.{AreSpelled};
+ghost use Rattle.rq_pool.specs.Pooled.{IsPool};
+ghost use Rattle.rq_record.specs.Spelling.{IsInRange};
+ghost use Rattle.rq_store.specs.Fitting.{told_by};
+ghost use Rattle.rq_restart.specs.Found.{AreFindings};
+ghost use Rattle.rq_restart.specs.Repeating.{Belongs, IsRepeated, paged};
+ghost use Rattle.rq_restart.specs.Undoing.{StepStops};
+
+use crate::findings::Findings;
+use crate::redo::repeat;
+use rq_disk::{LogDevice, PageDevice};
+use rq_log::Log;
+use rq_model::limits::LOG_LIMIT;
+use rq_model::record::Record;
+use rq_model::refusal::{Damage, Refusal};
+use rq_pool::Pages;
+use rq_record::{shows_fits, spelled_len};
+
+/// Appends a record that undoes something, and makes what it writes on the pages. The log hands nothing over.
+///
+/// # Errors
+/// `NoMemory`; `LogFull` where the log is at its greatest length; `Damaged` with the number of the record where it doesn't
+/// belong there.
+pub(crate) fn append<P: PageDevice + Drop, L: LogDevice + Drop>(
+    pages: &mut Pages<P>,
+    log: &mut Log<L>,
+    findings: &mut Findings,
+    undo: &Record,
+) -> Result<(), Refusal>
+    requires found { AreFindings findings.old log.old.records }
+    requires running { log.old.failed ≡ false }
+    requires range { AreSpelled log.old.records → IsInRange undo.now }
+    ensures records { OnOk result (log.new.records ≡ undo.now ∷ log.old.records) }
+    ensures found { OnOk result (AreFindings findings.new log.new.records) }
+    ensures repeated { OnOk result (IsRepeated pages.old.sizes log.old.records undo.now (paged pages.old)
+        (paged pages.new)) }
+    ensures pool { OnOk result (IsPool pages.new.sizes pages.new.images) }
+    ensures same { OnOk result (told_by undo.now ≡ None → pages.new ≡ pages.old) }
+    ensures stops { IfErr result (λ e. StepStops (length log.old.records)
+        (Belongs pages.old.sizes log.old.records undo.now (paged pages.old)) e) }
+    ensures sizes { pages.new.sizes ≡ pages.old.sizes }
+    ensures device { pages.new.device ≡ pages.old.device }
+    ensures log { (log.new.device ≡ log.old.device) × (log.new.forced ≡ log.old.forced)
+        × (log.new.failed ≡ false) × (log.new.settled ≡ log.old.settled) }
+    ensures room { OnOk result (log.new.reserved ≡ log.old.reserved) }
+{
+    log.shows_kept();
+    if log.last() >= LOG_LIMIT {
+        return Err(Refusal::LogFull);
+    }
+    let lsn = log.last() + 1;
+    shows_fits(undo);
+    log.reserve(spelled_len(undo))?;
+    let is_next = findings.note(lsn, undo)?;
+    if !is_next || !repeat(pages, lsn, undo) {
+        return Err(Refusal::Damaged(Damage::Record(lsn)));
+    }
+    log.append(undo);
+    shows_pool(pages);
+    Ok(())
+}
+
+/// That the pages are those of a store.
+pub(crate) fn shows_pool<P: PageDevice>(pages: &Pages<P>)
+    ensures { IsPool pages.now.sizes pages.now.images }
+{
+    pages.layout();
+}
