@@ -1,0 +1,6 @@
+mod Superblock
+mod Following
+mod Told
+mod Gathered
+mod Replies
+mod Judged

@@ -1,0 +1,76 @@
+-- A level that is told of slots as they are.
+use Rattle.std.proofs.Common.{◌≡◌, ℕ, ◌+◌, ◌/◌, ◌%◌, ◌<◌, ◌≤◌, cond, suc, drop, slice_index_or, List, ◌∷◌, length, Option, Some, refl, sym, ◌∙◌, ap, subst, arith}
+use Rattle.std.proofs.lemmas.Bool.{lt-ltb}
+use Rattle.std.proofs.lemmas.List.{drop_all}
+use Rattle.std.proofs.Math.Seq.{drop-cons}
+use Rattle.rq_page.specs.Formatted.{IsFormatted}
+use Rattle.rq_page.specs.Pages.{slot_of}
+use Rattle.rq_page.specs.Sizes.{Sizes, IsCellAddress, IsInRange, cell_at, cell_count, directory_at, sender_count}
+use Rattle.rq_page.specs.Slots.{held_in}
+use Rattle.rq_page.specs.Slots.Slot.{Free}
+use Rattle.rq_page.proofs.Addresses.{cells_have_places, senders_have_slots}
+use Rattle.rq_views.specs.Stored.{IsStoreSlot, slot_at, slots_in}
+use Rattle.rq_level.specs.declared.writes.SlotWrite.{SlotWrite}
+use Rattle.rq_level.specs.Kept.{Kept, noted}
+use Rattle.rq_level.specs.Meaning.{meaning_of}
+use Rattle.rq_level.specs.Writes.{AreSlotWrites}
+use Rattle.rq_planner.proofs.Superblock.{sizes_told}
+use Rattle.rq_sound.specs.Chosen.{KeepsBeside, KnowsFirst, places_of}
+use Rattle.rq_sound.specs.Levels.{KeepsCells}
+use Rattle.rq_sound.proofs.Chosen.{noted_known, planned_kept}
+use Rattle.rq_txn.specs.Rows.{Row}
+use Rattle.rq_planner.specs.Asked.{known}
+
+-- ---- the sizes
+
+pub first_noted : (n a : ℕ) (k after : Kept) (z : Sizes) (image bytes : List ℕ) → n ≡ 1 → a ≡ 1 → after ≡ (meaning_of n).note k a bytes → IsInRange z → IsFormatted z 0 image → bytes ≡ slot_of 1 image → after ≡ record k { sizes = Some z }
+unfolding meaning_of
+first_noted n a k after z image bytes one first e range is at =
+    e ∙ ap (λ (m : ℕ). (meaning_of m).note k a bytes) one ∙ ap (λ (m : ℕ). noted k m bytes) first ∙ ap (λ (o : Option Sizes). record k { sizes = o }) (sizes_told z image bytes range is at)
+
+-- ---- slots
+
+pub slot_is : (z : Sizes) (images : List (List ℕ)) (a : ℕ) → IsStoreSlot z a → slots_in z images a ≡ held_in z (a / 16) (slot_at images a)
+slot_is z images a h = ap (λ b. cond b (held_in z (a / 16) (slot_at images a)) Free) (lt-ltb 0 (a % 16) (let low = h.slot in omega (arith, low)))
+
+pub group_stands : (z : Sizes) (a g : ℕ) → a ≡ directory_at g → g < sender_count z → IsStoreSlot z a
+group_stands z a g e inside = subst (IsStoreSlot z) (sym e) (
+    let place = senders_have_slots z g inside in
+    let high = place.1 in
+    record { page_low = place.0; page_high = omega (arith, high); slot = place.2 }
+    )
+
+pub cell_stands : (z : Sizes) (a : ℕ) → IsCellAddress z a → IsStoreSlot z a
+cell_stands z a c = record { page_low = (let low = c.above in omega (arith, low)); page_high = c.below; slot = c.slot }
+
+module _ (z : Sizes) (images : List (List ℕ)) where
+  -- the level was told the sizes
+  pub begins : (k after : Kept) → cell_count z ≤ length k.free → cell_count z ≤ length k.reserved → after ≡ record k { sizes = Some z } → KnowsFirst z (slots_in z images) after 0
+  begins k after free chosen e = subst (λ (x : Kept). KnowsFirst z (slots_in z images) x 0) (sym e) (noted_known.told z (slots_in z images) (record k { sizes = Some z }) refl free chosen)
+
+  pub knows_group : (k after : Kept) (a g : ℕ) → a ≡ directory_at g → g < sender_count z → after ≡ noted k a (slot_at images a) → KnowsFirst z (slots_in z images) k 0 → KnowsFirst z (slots_in z images) after 0
+  knows_group k after a g at inside e h =
+      let stands = group_stands z a g at inside in
+      subst (λ (x : Kept). KnowsFirst z (slots_in z images) x 0) (sym e) (noted_known.notes z (slots_in z images) k 0 a (slot_at images a) stands (slot_is z images a stands) h)
+
+  pub knows_cell : (k after : Kept) (a count : ℕ) → a ≡ cell_at z count → count < cell_count z → after ≡ noted k a (slot_at images a) → KnowsFirst z (slots_in z images) k count → KnowsFirst z (slots_in z images) after (count + 1)
+  knows_cell k after a count at inside e h =
+      let stands = cell_stands z (cell_at z count) (cells_have_places z count inside).0 in
+      let e : after ≡ noted k (cell_at z count) (slot_at images (cell_at z count)) = e ∙ ap (λ (n : ℕ). noted k n (slot_at images n)) at in
+      subst (λ (x : Kept). KnowsFirst z (slots_in z images) x (count + 1)) (sym e) (noted_known.notes_next z (slots_in z images) k count (slot_at images (cell_at z count)) inside (slot_is z images (cell_at z count) stands) h)
+
+  -- a slot of a plan is told as it is
+  pub one_back : (rows : List Row) (k after : Kept) (a : ℕ) (planned : List ℕ) → IsStoreSlot z a → after ≡ noted k a (slot_at images a) → KeepsBeside (known z images rows) k (a ∷ planned) → KeepsBeside (known z images rows) after planned
+  one_back rows k after a planned stands e h =
+      subst (λ (x : Kept). KeepsBeside (known z images rows) x planned) (sym e) (planned_kept.notes (known z images rows) k a (slot_at images a) planned stands (slot_is z images a stands) h)
+
+  pub rest_back : (rows : List Row) (k after : Kept) (ws : List SlotWrite) (i : ℕ) (w : SlotWrite) → w ≡ slice_index_or ws i w → i < length ws → AreSlotWrites z ws → after ≡ noted k w.at (slot_at images w.at)
+      → KeepsBeside (known z images rows) k (places_of (drop i ws)) → KeepsBeside (known z images rows) after (places_of (drop (i + 1) ws))
+  rest_back rows k after ws i w is lt stand e h =
+      let stands : IsStoreSlot z w.at = subst (λ (x : SlotWrite). IsStoreSlot z x.at) (sym is) (stand i w lt).place in
+      let next : suc i ≡ i + 1 = omega arith in
+      let here : drop i ws ≡ w ∷ drop (i + 1) ws = drop-cons ws i w lt ∙ ap (λ (x : SlotWrite). x ∷ drop (suc i) ws) (sym is) ∙ ap (λ (n : ℕ). w ∷ drop n ws) next in
+      one_back rows k after w.at (places_of (drop (i + 1) ws)) stands e (subst (λ (us : List SlotWrite). KeepsBeside (known z images rows) k (places_of us)) here h)
+
+  pub all_back : (rows : List Row) (k : Kept) (ws : List SlotWrite) (i : ℕ) → length ws ≤ i → KeepsBeside (known z images rows) k (places_of (drop i ws)) → KeepsCells (known z images rows) k
+  all_back rows k ws i past h = planned_kept.given_back (known z images rows) k (subst (λ (us : List SlotWrite). KeepsBeside (known z images rows) k (places_of us)) (drop_all i ws past) h)

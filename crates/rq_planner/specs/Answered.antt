@@ -1,0 +1,140 @@
+-- What a store is answered that asks the level of chains for a plan.
+use Rattle.std.specs.Prelude.{◌≡◌, ◌≢◌, ◌⊎◌, ℕ, ◌≤◌, ◌<◌, ◌^◌, true, false, List, [], ◌∷◌, ◌++◌, length, Option, None, Some, Result, Ok, Err, IfErr, IfOk, IfSome, IfNone}
+use Rattle.rq_model.specs.declared.record.Deed.{Deed}
+use Rattle.rq_model.specs.declared.record.Deed.TheVariants.{Append, UnlinkHead, Close as Close_deed}
+use Rattle.rq_model.specs.declared.refusal.Refusal.{Refusal}
+use Rattle.rq_model.specs.declared.refusal.Refusal.TheVariants as why
+use Rattle.rq_model.specs.Deeds.{spelled_deed}
+use Rattle.rq_page.specs.Sizes.{Sizes, cell_count}
+use Rattle.rq_views.specs.Items.{items}
+use Rattle.rq_views.specs.Legal.{view}
+use Rattle.rq_views.specs.Log.{Slots}
+use Rattle.rq_views.specs.Plans.Turn.{Did, Undid}
+use Rattle.rq_level.specs.ChainPlans.{IsInverse}
+use Rattle.rq_level.specs.declared.slots.Given.{Given}
+use Rattle.rq_level.specs.declared.writes.Outcome.{Outcome}
+use Rattle.rq_level.specs.declared.writes.Outcome.TheVariants as gives
+use Rattle.rq_level.specs.declared.writes.Plan.{Plan}
+use Rattle.rq_level.specs.declared.writes.SlotWrite.{SlotWrite}
+use Rattle.rq_level.specs.Kept.{Kept}
+use Rattle.rq_level.specs.Ops.{Doing}
+use Rattle.rq_level.specs.Ops.Doing.{Send, Receive, Close}
+use Rattle.rq_level.specs.Writes.{AreSlotWrites}
+use Rattle.rq_txn.specs.declared.Finished.{Finished}
+use Rattle.rq_txn.specs.Rows.{Row}
+use Rattle.rq_groups.specs.Waiting.{waits}
+use Rattle.rq_store.specs.State.{State}
+use Rattle.rq_sound.specs.Calls.{IsIdle}
+use Rattle.rq_sound.specs.Chosen.{KeepsBeside, places_of}
+use Rattle.rq_sound.specs.Gathering.{AreGivenFrom}
+use Rattle.rq_sound.specs.Groups.{slots_now}
+use Rattle.rq_sound.specs.Latching.{any_latched}
+use Rattle.rq_sound.specs.Levels.{IsGathered, MayFollow}
+use Rattle.rq_sound.specs.Sound.{IsSound}
+use Rattle.rq_sound.specs.Wants.{AreGivenOf}
+use Rattle.rq_inverses.specs.Found.{AreAllLatched, FirstIsLowest}
+use Rattle.rq_inverses.specs.Inverses.{InverseIsLatched, InverseTakesLowest}
+use Rattle.rq_planner.specs.Asked.{Asked, known, needed_by, slots_for}
+use Rattle.rq_planner.specs.Asked.Asked.{Do, Undo}
+
+-- slots of the store were given as they are, of pages that nobody has latched
+pub record HasGathered (s : State) (given : List Given) : Type 0 where
+  pub from : AreGivenFrom s given
+  pub gathered : IsGathered s given
+
+-- all that is needed for what is asked
+pub record HasGatheredFor (s : State) (given : List Given) (asked : Option Asked) : Type 0 where
+  pub has : HasGathered s given
+  pub all : AreGivenOf s given (needed_by (slots_now s) asked)
+
+-- ---- plans
+
+-- the deed is what is asked for, its numbers aside, which the store tells
+abbrev pub IsDeedFor : Doing → Deed → Type 0
+IsDeedFor (Send g tag body) (Append h n t previous b) = (h ≡ g) × (t ≡ tag) × (b ≡ body)
+IsDeedFor (Receive g) (UnlinkHead h n tag body) = h ≡ g
+IsDeedFor (Close g) (Close_deed h) = h ≡ g
+IsDeedFor _ _ = ⊥
+
+-- what the end of an operation answers that did this
+abbrev pub answer_of : Deed → Outcome
+answer_of (Append g n tag previous body) = gives.Sent
+answer_of (UnlinkHead g n tag body) = gives.Message (record { sender = g; tag = tag; body = body })
+answer_of (Close_deed g) = gives.Closed
+
+-- a message is sent into the lowest free cell on a page that nobody has latched
+abbrev pub SendTakesLowest : Sizes → Slots → List Row → Doing → List SlotWrite → Type 0
+SendTakesLowest z q rows (Send g tag body) ws = FirstIsLowest z q rows ws
+SendTakesLowest z q rows (Receive g) ws = Unit {0}
+SendTakesLowest z q rows (Close g) ws = Unit {0}
+
+-- The plan of what is to be done, over the slots as they are, on pages that nobody has latched: with its deed, and what
+-- its end answers.
+pub record IsPlanOf (s : State) (d : Doing) (p : Plan) : Type 0 where
+  pub deed : Deed
+  pub asked : IsDeedFor d deed
+  pub told : p.deed ≡ spelled_deed deed
+  pub answer : p.reply ≡ Some (answer_of deed)
+  pub follows : MayFollow s p (Did deed)
+  pub slots : AreSlotWrites s.sizes p.writes.items
+  pub lowest : SendTakesLowest s.sizes (slots_now s) s.rows d p.writes.items
+
+-- the plan of what takes back a deed
+pub record IsPlanBack (s : State) (d : Deed) (p : Plan) : Type 0 where
+  pub inverse : IsInverse p
+  pub follows : MayFollow s p (Undid d)
+  pub slots : AreSlotWrites s.sizes p.writes.items
+  pub lowest : InverseTakesLowest s.sizes (slots_now s) s.rows d p.writes.items
+
+abbrev pub IsPlanFor : State → Asked → Plan → Type 0
+IsPlanFor s (Do d) p = IsPlanOf s d p
+IsPlanFor s (Undo d) p = IsPlanBack s d p
+
+-- ---- when there is one
+
+-- what is asked needs a latched page, or a cell of which none is free on another
+abbrev pub IsHeldUp : State → Asked → Type 0
+IsHeldUp s (Do (Send g tag body)) = (any_latched s.rows (slots_for (slots_now s) (Do (Send g tag body))) ≡ true)
+    ⊎ AreAllLatched s.sizes (slots_now s) s.rows
+IsHeldUp s (Do d) = any_latched s.rows (slots_for (slots_now s) (Do d)) ≡ true
+IsHeldUp s (Undo d) = InverseIsLatched s.sizes (slots_now s) s.rows d
+
+-- the deed that a transaction with nothing under way did last and has not undone
+pub record IsNewestDeed (s : State) (d : Deed) : Type 0 where
+  pub row : Row
+  pub older : List Finished
+  pub lsn : ℕ
+  pub idle : IsIdle s row
+  pub last : row.finished ≡ older ++ record { lsn = lsn; deed = d } ∷ []
+
+-- A sound store may do it, but for latches: a send where it is not full, a receive where a message waits, a close where
+-- the group is open, and what takes back the newest deed of a transaction.
+abbrev pub MayBeAsked : State → Asked → Type 0
+MayBeAsked s (Do (Send g tag body)) = (s.cells_in_use < cell_count s.sizes) × (length s.records ≤ 2 ^ 50)
+MayBeAsked s (Do (Receive g)) = 1 ≤ waits s.waiting g
+MayBeAsked s (Do (Close g)) = (view (items s.sizes s.records) g).closed ≡ false
+MayBeAsked s (Undo d) = IsNewestDeed s d
+
+-- ---- the answer
+
+-- what the level answers, with no plan where it is for latches
+abbrev pub unless_latched : Result Plan Refusal → Result (Option Plan) Refusal
+unless_latched (Ok p) = Ok (Some p)
+unless_latched (Err why.Latched) = Ok None
+unless_latched (Err r) = Err r
+
+-- What is answered to what is asked, and what the level keeps then.
+pub record IsAnswered (s : State) (k : Kept) (asked : Option Asked) (answer : Result (Option Plan) Refusal) (after : Kept)
+    : Type 0 where
+  -- the plan, and the level knows the cell that it chose
+  pub plan : IfOk answer (λ found. IfSome found (λ p. (a : Asked) → asked ≡ Some a → IsPlanFor s a p))
+  pub chosen : IfOk answer (λ found. IfSome found (λ p. KeepsBeside s after (places_of p.writes.items)))
+  -- there is none exactly where latches hold it up
+  pub free : IfOk answer (λ found. IfSome found (λ p. (a : Asked) → asked ≡ Some a → IsHeldUp s a → ⊥))
+  pub latched : IfOk answer (λ found. IfNone found ((a : Asked) → asked ≡ Some a → IsHeldUp s a))
+  pub none : IfOk answer (λ found. IfNone found (after ≡ k))
+  -- it is refused for memory alone, of a sound store with these pages and rows that may do it
+  pub refused : IfErr answer (λ r. after ≡ k)
+  pub plain : IfErr answer (λ r. (r ≢ why.Failed) × (r ≢ why.Latched))
+  pub memory : (whole : State) → known whole.sizes whole.images whole.rows ≡ s → IsSound whole
+      → (a : Asked) → asked ≡ Some a → MayBeAsked whole a → IfErr answer (λ r. r ≡ why.NoMemory)

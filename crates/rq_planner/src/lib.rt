@@ -1,0 +1,14 @@
+//! How a store has an operation planned by a level: the slots that the level wants are gathered, each as it is, and it plans
+//! from these, on pages that nobody has latched.
+//!
+//! A plan that doesn't start is given back, and a level that is told a store knows its cells.
+#![tactic(auto, unfolding(rq_level::specs::Meaning::meaning_of))]
+
+mod gathering;
+mod planning;
+mod telling;
+mod worked;
+
+pub use planning::{plan, plan_back};
+pub use telling::{give_back, tell_store};
+pub use worked::answers_are_judged;

@@ -1,0 +1,96 @@
+//! Plans of operations, and of what takes them back.
+ghost use Rattle.std.specs.Prelude.{◌≡◌, Some, [], false};
+ghost use Rattle.rq_sound.specs.Levels.{AreLatched, KeepsCells};
+ghost use Rattle.rq_planner.specs.Answered.{IsAnswered, unless_latched};
+ghost use Rattle.rq_planner.specs.Asked.{IsOfStore, asked_by, seen, undone_by};
+
+use crate::gathering::gather;
+use rq_disk::PageDevice;
+use rq_level::{Level, Op, PageSet, Plan, Slots};
+use rq_model::record::Record;
+use rq_model::refusal::{Damage, Refusal};
+use rq_pool::Pages;
+use rq_txn::Transactions;
+use std::alloc::Global;
+
+/// Has the level plan an operation from the slots as they are, which are gathered into `slots`, and with the set of the
+/// pages that operations under way have latched; `None` where it needs one of these, and only there.
+///
+/// # Errors
+/// `NoMemory`; of a store that is not sound, or where the operation may not be done, also `Damaged`.
+pub fn plan<P: PageDevice, B: Level>(
+    alloc: Global,
+    pages: &Pages<P>,
+    transactions: &Transactions,
+    latched: &PageSet,
+    level: &mut B,
+    op: &Op,
+    slots: &mut Slots,
+) -> Result<Option<Plan>, Refusal>
+    requires number { B.level level.old ≡ 1 }
+    requires cells { KeepsCells (seen pages.now transactions.now) (B.kept level.old) }
+    requires latched { AreLatched (seen pages.now transactions.now) latched.now.pages }
+    requires none { slots.old ≡ [] }
+    requires forward { op.now.undo ≡ false }
+    requires asked { IsOfStore pages.now.sizes (asked_by op.now) }
+    ensures same { B.level level.new ≡ 1 }
+    ensures answered { IsAnswered (seen pages.now transactions.now) (B.kept level.old) (asked_by op.now) result
+        (B.kept level.new) }
+{
+    match gather(pages, transactions, level, op, slots) {
+        Ok(true) => found(level.plan(alloc, op, slots, latched)),
+        Ok(false) => Ok(None),
+        Err(refusal) => Err(refusal),
+    }
+}
+
+/// Has the level plan what takes back the operation whose end the record is, as `plan` does.
+///
+/// # Errors
+/// `NoMemory`; of a store that is not sound, or where the operation may not be undone, also `Damaged`.
+pub fn plan_back<P: PageDevice, B: Level>(
+    alloc: Global,
+    pages: &Pages<P>,
+    transactions: &Transactions,
+    latched: &PageSet,
+    level: &mut B,
+    told: &Record,
+    slots: &mut Slots,
+) -> Result<Option<Plan>, Refusal>
+    requires number { B.level level.old ≡ 1 }
+    requires cells { KeepsCells (seen pages.now transactions.now) (B.kept level.old) }
+    requires latched { AreLatched (seen pages.now transactions.now) latched.now.pages }
+    requires none { slots.old ≡ [] }
+    requires asked { IsOfStore pages.now.sizes (undone_by told.now) }
+    ensures same { B.level level.new ≡ 1 }
+    ensures answered { IsAnswered (seen pages.now transactions.now) (B.kept level.old) (undone_by told.now) result
+        (B.kept level.new) }
+{
+    let Record::OpEnd {
+        level: number,
+        deed,
+        ..
+    } = told
+    else {
+        return Err(Refusal::Damaged(Damage::Page(0)));
+    };
+    let Ok(op) = Op::undo(alloc, *number, deed.as_slice()) else {
+        return Err(Refusal::NoMemory);
+    };
+    match gather(pages, transactions, level, &op, slots) {
+        Ok(true) => found(level.undo(alloc, told, slots, latched)),
+        Ok(false) => Ok(None),
+        Err(refusal) => Err(refusal),
+    }
+}
+
+// What a level answers, with none where it is for latches.
+fn found(answer: Result<Plan, Refusal>) -> Result<Option<Plan>, Refusal>
+    ensures { result ≡ unless_latched answer }
+{
+    match answer {
+        Ok(plan) => Ok(Some(plan)),
+        Err(Refusal::Latched) => Ok(None),
+        Err(refusal) => Err(refusal),
+    }
+}
