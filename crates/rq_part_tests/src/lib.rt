@@ -18,6 +18,8 @@ mod logs;
 #[cfg(test)]
 mod pages;
 #[cfg(test)]
+mod planner;
+#[cfg(test)]
 mod pool;
 #[cfg(test)]
 mod records;

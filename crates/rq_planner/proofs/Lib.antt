@@ -1,5 +1,3 @@
-mod Superblock
-mod Following
 mod Told
 mod Gathered
 mod Replies

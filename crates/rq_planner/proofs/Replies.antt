@@ -42,7 +42,6 @@ use Rattle.rq_sound.proofs.Levels.{levels_plan, levels_refuse, writes_latched}
 use Rattle.rq_sound.proofs.Wants.{levels_find}
 use Rattle.rq_inverses.specs.Found.{AreAllLatched, AreLatchedBelow}
 use Rattle.rq_inverses.proofs.Planned.{takes_lowest}
-use Rattle.rq_planner.proofs.Following.{follows}
 use Rattle.rq_planner.specs.Asked.{Asked, IsOfStore, asked_by, asked_in, doing_sender, known, needed_by, to_do, to_undo, undone_by}
 use Rattle.rq_planner.specs.Asked.Asked.{Do, Undo}
 use Rattle.rq_planner.specs.Answered.{HasGatheredFor, IsAnswered, IsHeldUp, IsNewestDeed, IsPlanBack, IsPlanFor, IsPlanOf, MayBeAsked, unless_latched}
@@ -121,7 +120,7 @@ module _ (s : State) (given : List Given) (h : IsGathered s given) where
 -- the cell that is taken is none of a latched page, and those below it are
 module _ (s : State) (k : Kept) (latched : List ℕ) (keeps : KeepsCells s k) (on : AreLatched s latched) (new : ℕ) (low : IsLowest s.sizes k latched new) where
   not_all : AreAllLatched s.sizes (slots_now s) s.rows → ⊥
-  not_all all = let x = follows.lowest s k latched new keeps on low in true≢false (sym (all new x.0 x.1) ∙ x.2)
+  not_all all = let x = levels_plan.lowest s k latched new keeps on low in true≢false (sym (all new x.0 x.1) ∙ x.2)
 
   -- those below it are
   below : AreLatchedBelow s.sizes (slots_now s) s.rows new
@@ -171,7 +170,7 @@ module _ (s : State) (k : Kept) (given : List Given) (latched : List ℕ) (keeps
     asked = (refl, refl, refl);
     told = m.deed;
     answer = m.reply;
-    follows = follows.sent s k given latched g tag body p after h.has.gathered keeps on m;
+    follows = levels_plan.sent s k given latched g tag body p after h.has.gathered keeps on m;
     slots = m.slots;
     lowest = takes_lowest s.sizes (slots_now s) s.rows m.new p.writes.items
         (first_new s.sizes p.writes.items m.can.directory.tail m.can.old _ _ _ m.writes) (below s k latched keeps on m.new m.lowest);
@@ -181,7 +180,7 @@ module _ (s : State) (k : Kept) (given : List Given) (latched : List ℕ) (keeps
     asked = refl;
     told = m.deed;
     answer = m.reply;
-    follows = follows.received s k given g p after h.has.gathered m;
+    follows = levels_plan.received s k given g p after h.has.gathered m;
     slots = m.slots;
     lowest = tt;
   }
@@ -190,7 +189,7 @@ module _ (s : State) (k : Kept) (given : List Given) (latched : List ℕ) (keeps
     asked = refl;
     told = m.deed;
     answer = m.reply;
-    follows = follows.closed s k given g p after h.has.gathered m;
+    follows = levels_plan.closed s k given g p after h.has.gathered m;
     slots = m.marked.slots;
     lowest = tt;
   }
@@ -203,20 +202,20 @@ module _ (s : State) (k : Kept) (given : List Given) (latched : List ℕ) (keeps
   undo_plan : (d : Deed) (p : Plan) (after : Kept) → HasGatheredFor s given (Some (Undo d)) → Undoes (Some s.sizes) (Some d) k given latched (Ok p) after → IsPlanBack s d p
   undo_plan (Append g n tag previous body) p after h m = record {
     inverse = m.inverse;
-    follows = follows.unsent s k given g n tag previous body p after h.has.gathered m;
+    follows = levels_plan.unsent s k given g n tag previous body p after h.has.gathered m;
     slots = m.slots;
     lowest = tt;
   }
   undo_plan (UnlinkHead g n tag body) p after h m = record {
     inverse = m.inverse;
-    follows = follows.returned s k given latched g n tag body p after h.has.gathered keeps on m;
+    follows = levels_plan.returned s k given latched g n tag body p after h.has.gathered keeps on m;
     slots = m.slots;
     lowest = takes_lowest s.sizes (slots_now s) s.rows m.new p.writes.items
         (first_new s.sizes p.writes.items m.can.directory.head m.can.old _ _ _ m.writes) (below s k latched keeps on m.new m.lowest);
   }
   undo_plan (Close_deed g) p after h m = record {
     inverse = m.inverse;
-    follows = follows.reopened s k given g p after h.has.gathered m;
+    follows = levels_plan.reopened s k given g p after h.has.gathered m;
     slots = m.marked.slots;
     lowest = tt;
   }
