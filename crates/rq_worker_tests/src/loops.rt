@@ -9,7 +9,7 @@ use rq_engine::event::{Event, Outcome, Reply};
 use rq_model::refusal::Refusal;
 use rq_model::txn::Txn;
 use rq_shared::kept::Kept;
-use rq_shared::mark::Mark;
+use rq_shared::mark::{Mark, MarkPass};
 use rq_shared::shared::Shared;
 use rq_shared::sharing::Sharing;
 use rq_workers::acts::Ended;
@@ -178,6 +178,14 @@ fn a_latched_inverse_is_tried_again(rt: HostRuntime) -> Result<(), Fail> {
     Ok(())
 }
 
+// What the mark tells a pass.
+fn told(mark: &Mark, reader: &mut MarkPass) -> u64
+    requires { reader.old.table ≡ mark.now }
+    ensures { reader.new.table ≡ mark.now }
+{
+    mark.read(reader)
+}
+
 // The mark as another pass reads it, before and after a log writer whose gate lets it through once; and what its force
 // answered.
 fn marked<G: Sharing, R: Wait>(
@@ -199,7 +207,7 @@ fn marked<G: Sharing, R: Wait>(
     let mut steps = SharedSteps::new(rt, shared.front(), writer, &mark, seat, stamps);
     let txn = begun(&mut steps)?;
     committed(&mut steps, txn)?;
-    let before = mark.read(&mut reader);
+    let before = told(&mark, &mut reader);
     let left = AtomicU64::new(1);
     let mut worker = Worker::new(lets_through(BEFORE_FORCE, &left), steps);
     worker.write_log(rt);
@@ -208,7 +216,7 @@ fn marked<G: Sharing, R: Wait>(
         Reply::Forced(lsn) => *lsn,
         _ => 0,
     };
-    Some((before, mark.read(&mut reader), forced))
+    Some((before, told(&mark, &mut reader), forced))
 }
 
 fn mark_of<R: Wait>(rt: &R, alloc: Global) -> Option<(u64, u64, u64)> {
