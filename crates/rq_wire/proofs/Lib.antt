@@ -1,5 +1,4 @@
 pub mod Fronts
 pub mod Spells
-pub mod Faults
 pub mod Streams
 pub mod Worked

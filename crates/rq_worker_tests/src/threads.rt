@@ -17,14 +17,12 @@ use rq_shared::tied::tied;
 use rq_workers::acts::Ended;
 use rq_workers::gate::{BETWEEN_STEPS, Gate};
 use rq_workers::shared::SharedSteps;
-use rq_workers::trail::Trail;
 use rq_workers::worker::Worker;
 use std::alloc::{AllocError, Global};
 use std::marker::Brand;
-use std::snapshot::Snapshot;
 use std::sync::Wait;
 use std::sync::atomic::{AtomicU64, Ordering};
-use std::sync::ledger::Blank;
+use std::sync::ledger::{Blank, Ledger};
 use std::test::Fail;
 use std::thread;
 use std::thread::{Threads, join};
@@ -39,7 +37,7 @@ struct Common {
 
 /// What a thread has of its own.
 #[derive(Drop)]
-struct Own<G: Sharing> {
+struct Own<G: Ledger> {
     pass: Pass<G>,
     seat: MarkPass,
 }
@@ -48,21 +46,15 @@ struct Own<G: Sharing> {
 #[derive(Drop)]
 struct HeldBetween<'a> {
     common: &'a Common,
-    answers: Snapshot<Trail<(u32, bool)>>,
 }
 
 impl Gate for HeldBetween<'_> {
-    ghost answers = { λ gate. gate.answers.value };
+    ghost says = { λ gate point passed. Unit {0} };
 
-    fn pass(&mut self, point: u32) -> bool {
-        let passed = point != BETWEEN_STEPS || self.is_let_go();
-        Trail::note(&mut self.answers, &(point, passed));
-        passed
-    }
-}
-
-impl HeldBetween<'_> {
-    fn is_let_go(&self) -> bool {
+    fn pass(&self, point: u32) -> bool {
+        if point != BETWEEN_STEPS {
+            return true;
+        }
         self.common.first_is_held.store(1, Ordering::SeqCst);
         comes(&self.common.second_has_committed)
     }
@@ -70,15 +62,12 @@ impl HeldBetween<'_> {
 
 /// Lets its thread through.
 #[derive(Drop)]
-struct Open {
-    answers: Snapshot<Trail<(u32, bool)>>,
-}
+struct Open;
 
 impl Gate for Open {
-    ghost answers = { λ gate. gate.answers.value };
+    ghost says = { λ gate point passed. Unit {0} };
 
-    fn pass(&mut self, point: u32) -> bool {
-        Trail::note(&mut self.answers, &(point, true));
+    fn pass(&self, _point: u32) -> bool {
         true
     }
 }
@@ -112,11 +101,7 @@ fn work_first<P: PageDevice + Drop, L: LogDevice + Drop, G: Sharing, R: Wait>(
     let mut steps = SharedSteps::new(rt, front, pass, &common.mark, seat, stamps);
     let txn = begun(&mut steps)?;
     let start = send_of(alloc, txn, 0, b'x').ok()?;
-    let gate = HeldBetween {
-        common,
-        answers: Trail::empty(),
-    };
-    let mut worker = Worker::new(gate, steps);
+    let mut worker = Worker::new(HeldBetween { common }, steps);
     let sent = worker.run(rt, &start) == Ended::Finished(Outcome::Sent) && worker.goes_on();
     let mut steps = worker.into_steps();
     let number = committed(&mut steps, txn)?;
@@ -144,10 +129,7 @@ fn work_second<P: PageDevice + Drop, L: LogDevice + Drop, G: Sharing, R: Wait>(
     let txn = begun(&mut steps)?;
     let turn = comes(&common.first_is_held);
     let start = send_of(alloc, txn, 15, b'y').ok()?;
-    let gate = Open {
-        answers: Trail::empty(),
-    };
-    let mut worker = Worker::new(gate, steps);
+    let mut worker = Worker::new(Open, steps);
     let sent = worker.run(rt, &start) == Ended::Finished(Outcome::Sent);
     let mut steps = worker.into_steps();
     let number = committed(&mut steps, txn)?;
@@ -273,19 +255,12 @@ fn share<
     L: LogDevice + Drop + Send,
     G: Sharing + Send + Sync,
     R: Threads + Wait + Sync,
->(
-    rt: &R,
-    alloc: Global,
-    engine: Engine<P, L>,
-    blank: Blank,
-    taking: Blank,
-    take: bool,
-) -> Option<Seen<P, L>>
-    requires name { (blank.name ≡ G.name) × (taking.name ≡ G.taking) }
-    requires parts { (blank.parts ≡ G.parts) × (blank.parts ≡ 1024) × (taking.parts ≡ 1024) }
+>(rt: &R, alloc: Global, engine: Engine<P, L>, blank: Blank, take: bool) -> Option<Seen<P, L>>
+    requires name { blank.name ≡ G.name }
+    requires parts { (blank.parts ≡ G.parts) × (blank.parts ≡ 1024) }
     requires sound { WasSound P.PageDevice L.LogDevice G.premise engine }
 {
-    let mut shared = Shared::<P, L, G>::new(alloc, engine, blank, taking);
+    let mut shared = Shared::<P, L, G>::new(alloc, engine, blank);
     let pass = shared.pass()?;
     let other = shared.pass()?;
     let mut three = shared.pass()?;
@@ -305,7 +280,7 @@ fn share<
     let (one, stamps, number) = first?;
     let (two, others, other_number) = second?;
     let tie = if take {
-        Some(tie_of(shared.take_audit(rt, &mut three).entries(), stamps, others))
+        Some(tie_of(shared.take_audit(rt).entries(), stamps, others))
     } else {
         None
     };
@@ -326,8 +301,7 @@ fn look<R: Threads + Wait + Sync>(
     take: bool,
 ) -> Option<Seen<MemPages, MemLog>> {
     let engine = wide_engine(alloc).ok()?;
-    let taking = Blank::new(1024);
-    share::<MemPages, MemLog, Brand, R>(rt, alloc, engine, Blank::new(1024), taking, take)
+    share::<MemPages, MemLog, Brand, R>(rt, alloc, engine, Blank::new(1024), take)
 }
 
 #[test]

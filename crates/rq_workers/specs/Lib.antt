@@ -4,4 +4,3 @@ pub mod Forcing
 pub mod Acts
 pub mod Loops
 pub mod Operations
-pub mod Keeping

@@ -1,2 +1,0 @@
-mod Owning
-mod Carrying
