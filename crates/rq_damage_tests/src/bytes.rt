@@ -12,21 +12,21 @@ use rq_page::page::Page;
 use rq_restart::restart::restart;
 use std::alloc::{AllocError, Global};
 
-pub const T1: Txn = Txn {
+pub const FIRST: Txn = Txn {
     incarnation: 1,
     count: 1,
 };
 
-pub const T2: Txn = Txn {
+pub const SECOND: Txn = Txn {
     incarnation: 1,
     count: 2,
 };
 
 pub const BEGUN: Record = Record::Restart { incarnation: 1 };
 
-pub const COMMIT: Record = Record::Commit { txn: T1 };
+pub const COMMIT: Record = Record::Commit { txn: FIRST };
 
-pub const ABORT_END: Record = Record::AbortEnd { txn: T1 };
+pub const ABORT_END: Record = Record::AbortEnd { txn: FIRST };
 
 /// The slot of a free cell.
 pub const FREE: Slot = [0; SLOT_BYTES];
@@ -156,17 +156,17 @@ pub fn undo(txn: Txn, operation: u64, undone: u64, at: (u32, u8), after: Slot) -
 
 /// The first transaction writes its message into the first cell.
 pub fn fill() -> Record {
-    write(T1, 1, (2, 1), FREE, first_cell())
+    write(FIRST, 1, (2, 1), FREE, first_cell())
 }
 
 /// And then its sender's directory slot.
 pub fn count() -> Record {
-    write(T1, 1, (1, 1), new_group(), one_sent())
+    write(FIRST, 1, (1, 1), new_group(), one_sent())
 }
 
 /// The end of that.
 pub fn sent_once() -> Record {
-    end(T1, 1, &sent(0, 1))
+    end(FIRST, 1, &sent(0, 1))
 }
 
 // ---- bytes

@@ -1,8 +1,8 @@
 //! Logs whose records break a rule of a log, and the first that does.
 use crate::bytes::{
-    ABORT_END, BEGUN, COMMIT, FREE, T1, T2, count, end, end_of, fill, first_cell, formatted, group,
-    new_group, one_sent, page, record, refused, sent, sent_once, set_slot, spelled, told, told_on,
-    undo, write,
+    ABORT_END, BEGUN, COMMIT, FIRST, FREE, SECOND, count, end, end_of, fill, first_cell, formatted,
+    group, new_group, one_sent, page, record, refused, sent, sent_once, set_slot, spelled, told,
+    told_on, undo, write,
 };
 use rq_model::record::Record;
 use rq_model::refusal::Refusal;
@@ -22,7 +22,10 @@ fn restart(incarnation: u64) -> Record {
 }
 
 fn void(operation: u64) -> Record {
-    Record::OpVoid { txn: T1, operation }
+    Record::OpVoid {
+        txn: FIRST,
+        operation,
+    }
 }
 
 fn comp_end(txn: Txn, operation: u64, undone: u64) -> Record {
@@ -35,25 +38,25 @@ fn comp_end(txn: Txn, operation: u64, undone: u64) -> Record {
 
 // The write of the first cell is undone.
 fn undone_write() -> Record {
-    undo(T1, 1, 2, (2, 1), FREE)
+    undo(FIRST, 1, 2, (2, 1), FREE)
 }
 
 // What was sent is taken back, slot by slot, and that ends.
 fn count_back() -> Record {
-    write(T1, 2, (1, 1), one_sent(), new_group())
+    write(FIRST, 2, (1, 1), one_sent(), new_group())
 }
 
 fn cell_back() -> Record {
-    write(T1, 2, (2, 1), first_cell(), FREE)
+    write(FIRST, 2, (2, 1), first_cell(), FREE)
 }
 
 fn taken_back() -> Record {
-    comp_end(T1, 2, 4)
+    comp_end(FIRST, 2, 4)
 }
 
 // The write of a cell in which something else stands.
 fn odd_write() -> Record {
-    write(T1, 1, (2, 1), first_cell(), FREE)
+    write(FIRST, 1, (2, 1), first_cell(), FREE)
 }
 
 // What is refused of the log of one committed message where a byte of it is another.
@@ -103,14 +106,19 @@ fn bytes_that_are_no_record(rt: HostRuntime) -> Result<(), Fail> {
     assert!(rt; cut(alloc, 1170) == record(5));
     assert!(rt; cut(alloc, 1) == record(1));
     // an operation of no number, a slot of no page, a write undone that none is
-    assert!(rt; told(alloc, &[BEGUN, write(T1, 0, (2, 1), FREE, first_cell())]) == record(2));
-    assert!(rt; told(alloc, &[BEGUN, write(T1, 1, (2, 0), FREE, first_cell())]) == record(2));
-    assert!(rt; told(alloc, &[BEGUN, write(T1, 1, (2, 16), FREE, first_cell())]) == record(2));
-    assert!(rt; told(alloc, &[BEGUN, fill(), undo(T1, 1, 0, (2, 1), FREE)]) == record(3));
+    assert!(rt; told(alloc, &[BEGUN, write(FIRST, 0, (2, 1), FREE, first_cell())]) == record(2));
+    assert!(rt; told(alloc, &[BEGUN, write(FIRST, 1, (2, 0), FREE, first_cell())]) == record(2));
     assert!(rt;
         told(
             alloc,
-            &[BEGUN, fill(), count(), end_of(T1, 1, 0, &sent(0, 1))]
+            &[BEGUN, write(FIRST, 1, (2, 16), FREE, first_cell())]
+        ) == record(2)
+    );
+    assert!(rt; told(alloc, &[BEGUN, fill(), undo(FIRST, 1, 0, (2, 1), FREE)]) == record(3));
+    assert!(rt;
+        told(
+            alloc,
+            &[BEGUN, fill(), count(), end_of(FIRST, 1, 0, &sent(0, 1))]
         ) == record(4)
     );
     Ok(())
@@ -140,7 +148,7 @@ fn transactions_of_another_incarnation(rt: HostRuntime) -> Result<(), Fail> {
 #[test]
 fn records_behind_the_end_of_their_transaction(rt: HostRuntime) -> Result<(), Fail> {
     let alloc = rt.alloc();
-    let again = write(T1, 2, (2, 2), FREE, first_cell());
+    let again = write(FIRST, 2, (2, 2), FREE, first_cell());
     assert!(rt; told(alloc, &[BEGUN, fill(), count(), sent_once(), COMMIT, again]) == record(6));
     assert!(rt;
         told(
@@ -162,7 +170,7 @@ fn records_behind_the_end_of_their_transaction(rt: HostRuntime) -> Result<(), Fa
 #[test]
 fn records_behind_the_end_of_their_operation(rt: HostRuntime) -> Result<(), Fail> {
     let alloc = rt.alloc();
-    let again = write(T1, 1, (2, 2), FREE, first_cell());
+    let again = write(FIRST, 1, (2, 2), FREE, first_cell());
     assert!(rt; told(alloc, &[BEGUN, fill(), count(), sent_once(), again]) == record(5));
     assert!(rt; told(alloc, &[BEGUN, fill(), count(), sent_once(), sent_once()]) == record(5));
     assert!(rt; told(alloc, &[BEGUN, fill(), count(), sent_once(), void(1)]) == record(5));
@@ -204,7 +212,7 @@ fn records_behind_the_end_of_an_inverse(rt: HostRuntime) -> Result<(), Fail> {
             ]
         ) == None
     );
-    let again = write(T1, 2, (2, 1), FREE, first_cell());
+    let again = write(FIRST, 2, (2, 1), FREE, first_cell());
     assert!(rt;
         told(
             alloc,
@@ -243,42 +251,52 @@ fn writes_that_are_no_slots_of_the_store(rt: HostRuntime) -> Result<(), Fail> {
     let alloc = rt.alloc();
     assert!(rt; changed(alloc, 45, 9) == record(2));
     // the superblock, a page past the last
-    assert!(rt; told(alloc, &[BEGUN, write(T1, 1, (0, 1), FREE, FREE)]) == record(2));
-    assert!(rt; told(alloc, &[BEGUN, write(T1, 1, (3, 1), FREE, first_cell())]) == record(2));
+    assert!(rt; told(alloc, &[BEGUN, write(FIRST, 1, (0, 1), FREE, FREE)]) == record(2));
+    assert!(rt; told(alloc, &[BEGUN, write(FIRST, 1, (3, 1), FREE, first_cell())]) == record(2));
     // a cell in the directory, a group among the cells, and another sender's
     assert!(rt;
         told(
             alloc,
-            &[BEGUN, write(T1, 1, (1, 1), new_group(), first_cell())]
+            &[BEGUN, write(FIRST, 1, (1, 1), new_group(), first_cell())]
         ) == record(2)
     );
-    assert!(rt; told(alloc, &[BEGUN, write(T1, 1, (2, 1), FREE, one_sent())]) == record(2));
+    assert!(rt; told(alloc, &[BEGUN, write(FIRST, 1, (2, 1), FREE, one_sent())]) == record(2));
     let other = group(1, 0, 0, 0, 0);
-    assert!(rt; told(alloc, &[BEGUN, write(T1, 1, (1, 1), new_group(), other)]) == record(2));
+    assert!(rt; told(alloc, &[BEGUN, write(FIRST, 1, (1, 1), new_group(), other)]) == record(2));
     // more sent than there are records, and received than sent
     let many = group(0, 3, 3, 0, 0);
-    assert!(rt; told(alloc, &[BEGUN, write(T1, 1, (1, 1), new_group(), many)]) == record(2));
+    assert!(rt; told(alloc, &[BEGUN, write(FIRST, 1, (1, 1), new_group(), many)]) == record(2));
     let enough = group(0, 2, 2, 0, 0);
-    assert!(rt; told(alloc, &[BEGUN, write(T1, 1, (1, 1), new_group(), enough)]) == None);
+    assert!(rt;
+        told(
+            alloc,
+            &[BEGUN, write(FIRST, 1, (1, 1), new_group(), enough)]
+        ) == None
+    );
     let less = group(0, 1, 2, 0, 0);
-    assert!(rt; told(alloc, &[BEGUN, write(T1, 1, (1, 1), new_group(), less)]) == record(2));
+    assert!(rt; told(alloc, &[BEGUN, write(FIRST, 1, (1, 1), new_group(), less)]) == record(2));
     Ok(())
 }
 
 #[test]
 fn writes_that_are_undone_wrongly(rt: HostRuntime) -> Result<(), Fail> {
     let alloc = rt.alloc();
-    assert!(rt; told(alloc, &[BEGUN, fill(), undo(T1, 1, 2, (2, 1), FREE)]) == None);
+    assert!(rt; told(alloc, &[BEGUN, fill(), undo(FIRST, 1, 2, (2, 1), FREE)]) == None);
     // no PageOp, one that comes later, another place, another operation, other bytes, and one that is undone
-    assert!(rt; told(alloc, &[BEGUN, fill(), undo(T1, 1, 1, (2, 1), FREE)]) == record(3));
-    assert!(rt; told(alloc, &[BEGUN, fill(), undo(T1, 1, 3, (2, 1), FREE)]) == record(3));
-    assert!(rt; told(alloc, &[BEGUN, fill(), undo(T1, 1, 2, (2, 2), FREE)]) == record(3));
-    assert!(rt; told(alloc, &[BEGUN, fill(), undo(T1, 1, 2, (1, 1), new_group())]) == record(3));
-    assert!(rt; told(alloc, &[BEGUN, fill(), undo(T2, 1, 2, (2, 1), FREE)]) == record(3));
+    assert!(rt; told(alloc, &[BEGUN, fill(), undo(FIRST, 1, 1, (2, 1), FREE)]) == record(3));
+    assert!(rt; told(alloc, &[BEGUN, fill(), undo(FIRST, 1, 3, (2, 1), FREE)]) == record(3));
+    assert!(rt; told(alloc, &[BEGUN, fill(), undo(FIRST, 1, 2, (2, 2), FREE)]) == record(3));
     assert!(rt;
         told(
             alloc,
-            &[BEGUN, fill(), undo(T1, 1, 2, (2, 1), first_cell())]
+            &[BEGUN, fill(), undo(FIRST, 1, 2, (1, 1), new_group())]
+        ) == record(3)
+    );
+    assert!(rt; told(alloc, &[BEGUN, fill(), undo(SECOND, 1, 2, (2, 1), FREE)]) == record(3));
+    assert!(rt;
+        told(
+            alloc,
+            &[BEGUN, fill(), undo(FIRST, 1, 2, (2, 1), first_cell())]
         ) == record(3)
     );
     assert!(rt; told(alloc, &[BEGUN, fill(), undone_write(), undone_write()]) == record(4));
@@ -298,7 +316,7 @@ fn inverses_of_what_is_not_there(rt: HostRuntime) -> Result<(), Fail> {
                 sent_once(),
                 count_back(),
                 cell_back(),
-                comp_end(T1, 2, 3)
+                comp_end(FIRST, 2, 3)
             ]
         ) == record(7)
     );
@@ -312,14 +330,14 @@ fn inverses_of_what_is_not_there(rt: HostRuntime) -> Result<(), Fail> {
                 sent_once(),
                 count_back(),
                 cell_back(),
-                comp_end(T1, 2, 7)
+                comp_end(FIRST, 2, 7)
             ]
         ) == record(7)
     );
     // one that is taken back, and another transaction's
-    let end = comp_end(T1, 2, 4);
-    let more = write(T1, 3, (2, 2), FREE, first_cell());
-    let twice = comp_end(T1, 3, 4);
+    let end = comp_end(FIRST, 2, 4);
+    let more = write(FIRST, 3, (2, 2), FREE, first_cell());
+    let twice = comp_end(FIRST, 3, 4);
     assert!(rt;
         told(
             alloc,
@@ -336,7 +354,7 @@ fn inverses_of_what_is_not_there(rt: HostRuntime) -> Result<(), Fail> {
             ]
         ) == record(9)
     );
-    let other = write(T2, 1, (2, 2), FREE, first_cell());
+    let other = write(SECOND, 1, (2, 2), FREE, first_cell());
     assert!(rt;
         told(
             alloc,
@@ -346,7 +364,7 @@ fn inverses_of_what_is_not_there(rt: HostRuntime) -> Result<(), Fail> {
                 count(),
                 sent_once(),
                 other,
-                comp_end(T2, 1, 4)
+                comp_end(SECOND, 1, 4)
             ]
         ) == record(6)
     );
@@ -361,37 +379,42 @@ fn deeds_that_cannot_be_read(rt: HostRuntime) -> Result<(), Fail> {
     assert!(rt;
         told(
             alloc,
-            &[BEGUN, fill(), count(), end_of(T1, 1, 2, &deed), COMMIT]
-        ) == record(4)
-    );
-    assert!(rt; told(alloc, &[BEGUN, fill(), count(), end(T1, 1, &[4]), COMMIT]) == record(4));
-    assert!(rt;
-        told(
-            alloc,
-            &[BEGUN, fill(), count(), end(T1, 1, &CUT_SENT), COMMIT]
+            &[BEGUN, fill(), count(), end_of(FIRST, 1, 2, &deed), COMMIT]
         ) == record(4)
     );
     assert!(rt;
         told(
             alloc,
-            &[BEGUN, fill(), count(), end(T1, 1, &sent(0, 0)), COMMIT]
+            &[BEGUN, fill(), count(), end(FIRST, 1, &[4]), COMMIT]
         ) == record(4)
     );
     assert!(rt;
         told(
             alloc,
-            &[BEGUN, fill(), count(), end(T1, 1, &CUT_RECEIVED), COMMIT]
+            &[BEGUN, fill(), count(), end(FIRST, 1, &CUT_SENT), COMMIT]
+        ) == record(4)
+    );
+    assert!(rt;
+        told(
+            alloc,
+            &[BEGUN, fill(), count(), end(FIRST, 1, &sent(0, 0)), COMMIT]
+        ) == record(4)
+    );
+    assert!(rt;
+        told(
+            alloc,
+            &[BEGUN, fill(), count(), end(FIRST, 1, &CUT_RECEIVED), COMMIT]
         ) == record(4)
     );
     let closed = [3, 0, 0, 0, 0, 0];
     assert!(rt;
         told(
             alloc,
-            &[BEGUN, fill(), count(), end(T1, 1, &closed), COMMIT]
+            &[BEGUN, fill(), count(), end(FIRST, 1, &closed), COMMIT]
         ) == record(4)
     );
     // of a sender that the store has not it can be read
-    let stranger = end(T1, 1, &sent(15, 1));
+    let stranger = end(FIRST, 1, &sent(15, 1));
     assert!(rt; told(alloc, &[BEGUN, fill(), count(), stranger, COMMIT]) == None);
     Ok(())
 }
@@ -408,7 +431,7 @@ fn before_images_that_do_not_stand_there(rt: HostRuntime) -> Result<(), Fail> {
         told_on(
             alloc,
             &images,
-            &[BEGUN, odd_write(), undo(T1, 1, 2, (2, 1), first_cell())]
+            &[BEGUN, odd_write(), undo(FIRST, 1, 2, (2, 1), first_cell())]
         ) == page(2)
     );
     Ok(())
@@ -417,15 +440,15 @@ fn before_images_that_do_not_stand_there(rt: HostRuntime) -> Result<(), Fail> {
 #[test]
 fn numbers_of_operations_with_gaps(rt: HostRuntime) -> Result<(), Fail> {
     let alloc = rt.alloc();
-    assert!(rt; told(alloc, &[BEGUN, write(T1, 2, (2, 1), FREE, first_cell())]) == record(2));
-    let third = write(T1, 3, (2, 2), FREE, first_cell());
+    assert!(rt; told(alloc, &[BEGUN, write(FIRST, 2, (2, 1), FREE, first_cell())]) == record(2));
+    let third = write(FIRST, 3, (2, 2), FREE, first_cell());
     assert!(rt; told(alloc, &[BEGUN, fill(), count(), sent_once(), third]) == record(5));
-    let second = write(T1, 2, (2, 2), FREE, first_cell());
+    let second = write(FIRST, 2, (2, 2), FREE, first_cell());
     assert!(rt; told(alloc, &[BEGUN, fill(), count(), sent_once(), second]) == None);
     // another transaction counts from 1
-    let other = write(T2, 2, (2, 2), FREE, first_cell());
+    let other = write(SECOND, 2, (2, 2), FREE, first_cell());
     assert!(rt; told(alloc, &[BEGUN, fill(), count(), sent_once(), other]) == record(5));
-    let first = write(T2, 1, (2, 2), FREE, first_cell());
+    let first = write(SECOND, 1, (2, 2), FREE, first_cell());
     assert!(rt; told(alloc, &[BEGUN, fill(), count(), sent_once(), first]) == None);
     Ok(())
 }

@@ -1,6 +1,6 @@
 //! Pages that are damaged, and which is named first.
 use crate::bytes::{
-    BEGUN, COMMIT, FIRST_CELL, FREE, Images, T1, cell, count, end, fill, first_cell, formatted,
+    BEGUN, COMMIT, FIRST, FIRST_CELL, FREE, Images, cell, count, end, fill, first_cell, formatted,
     group, page, record, refused, sent, sent_once, set_slot, spelled, told_on, write, written,
 };
 use rq_model::record::{Record, Slot};
@@ -236,7 +236,7 @@ fn several_faults(rt: HostRuntime) -> Result<(), Fail> {
         told_on(
             alloc,
             &images,
-            &[BEGUN, fill(), count(), end(T1, 1, &sent(0, 2))]
+            &[BEGUN, fill(), count(), end(FIRST, 1, &sent(0, 2))]
         ) == page(1)
     );
     let mut images = written();
@@ -245,7 +245,7 @@ fn several_faults(rt: HostRuntime) -> Result<(), Fail> {
         told_on(
             alloc,
             &images,
-            &[BEGUN, fill(), count(), end(T1, 1, &sent(0, 2))]
+            &[BEGUN, fill(), count(), end(FIRST, 1, &sent(0, 2))]
         ) == record(4)
     );
     assert!(rt;
@@ -263,7 +263,7 @@ fn several_faults(rt: HostRuntime) -> Result<(), Fail> {
 #[test]
 fn records_in_their_order(rt: HostRuntime) -> Result<(), Fail> {
     let alloc = rt.alloc();
-    let odd = write(T1, 1, (2, 1), first_cell(), FREE);
+    let odd = write(FIRST, 1, (2, 1), first_cell(), FREE);
     let Ok(mut log) = spelled(alloc, &[BEGUN, odd]) else {
         return Err(Fail::from("memory"));
     };

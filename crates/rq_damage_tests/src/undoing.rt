@@ -1,14 +1,15 @@
 //! Logs of which a restart cannot take back what a transaction without an end did.
 use crate::bytes::{
-    BEGUN, COMMIT, FIRST_CELL, FREE, Images, T1, T2, cell, count, end, fill, first_cell, formatted,
-    group, new_group, one_sent, received, record, sent, sent_once, set_slot, told, told_on, write,
+    BEGUN, COMMIT, FIRST, FIRST_CELL, FREE, Images, SECOND, cell, count, end, fill, first_cell,
+    formatted, group, new_group, one_sent, received, record, sent, sent_once, set_slot, told,
+    told_on, write,
 };
 use rq_model::record::{Record, Slot};
 use std::test::Fail;
 
 // The first transaction writes its sender's directory slot, and nothing else.
 fn made(after: Slot) -> Record {
-    write(T1, 1, (1, 1), new_group(), after)
+    write(FIRST, 1, (1, 1), new_group(), after)
 }
 
 // And tells so that one message was sent and received.
@@ -22,8 +23,14 @@ fn two_lost(newest: Record) -> [Record; 6] {
         BEGUN,
         fill(),
         count(),
-        end(T1, 1, &sent(0, 2)),
-        write(T2, 1, (1, 2), group(1, 0, 0, 0, 0), group(1, 1, 1, 0, 0)),
+        end(FIRST, 1, &sent(0, 2)),
+        write(
+            SECOND,
+            1,
+            (1, 2),
+            group(1, 0, 0, 0, 0),
+            group(1, 1, 1, 0, 0),
+        ),
         newest,
     ]
 }
@@ -47,12 +54,12 @@ fn closed() -> Slot {
 fn what_can_be_taken_back(rt: HostRuntime) -> Result<(), Fail> {
     let alloc = rt.alloc();
     assert!(rt; told(alloc, &[BEGUN, fill(), count(), sent_once()]) == None);
-    let close = end(T1, 1, &[3, 0, 0, 0, 0]);
+    let close = end(FIRST, 1, &[3, 0, 0, 0, 0]);
     assert!(rt; told(alloc, &[BEGUN, made(closed()), close]) == None);
     // what was sent and committed is received by a transaction that is lost
-    let take = write(T2, 1, (1, 1), one_sent(), group(0, 1, 1, 0, 0));
-    let free = write(T2, 1, (2, 1), first_cell(), FREE);
-    let took = end(T2, 1, &received(0, 1));
+    let take = write(SECOND, 1, (1, 1), one_sent(), group(0, 1, 1, 0, 0));
+    let free = write(SECOND, 1, (2, 1), first_cell(), FREE);
+    let took = end(SECOND, 1, &received(0, 1));
     assert!(rt;
         told(
             alloc,
@@ -74,17 +81,22 @@ fn what_can_be_taken_back(rt: HostRuntime) -> Result<(), Fail> {
 #[test]
 fn deeds_of_senders_that_the_store_has_not(rt: HostRuntime) -> Result<(), Fail> {
     let alloc = rt.alloc();
-    assert!(rt; told(alloc, &[BEGUN, fill(), count(), end(T1, 1, &sent(15, 1))]) == record(4));
     assert!(rt;
         told(
             alloc,
-            &[BEGUN, fill(), count(), end(T1, 1, &received(15, 1))]
+            &[BEGUN, fill(), count(), end(FIRST, 1, &sent(15, 1))]
         ) == record(4)
     );
     assert!(rt;
         told(
             alloc,
-            &[BEGUN, fill(), count(), end(T1, 1, &[3, 0, 0, 0, 15])]
+            &[BEGUN, fill(), count(), end(FIRST, 1, &received(15, 1))]
+        ) == record(4)
+    );
+    assert!(rt;
+        told(
+            alloc,
+            &[BEGUN, fill(), count(), end(FIRST, 1, &[3, 0, 0, 0, 15])]
         ) == record(4)
     );
     Ok(())
@@ -94,49 +106,49 @@ fn deeds_of_senders_that_the_store_has_not(rt: HostRuntime) -> Result<(), Fail> 
 fn sends_that_do_not_stand_last(rt: HostRuntime) -> Result<(), Fail> {
     let alloc = rt.alloc();
     // another number than was sent
-    assert!(rt; told(alloc, &[BEGUN, fill(), count(), end(T1, 1, &sent(0, 2))]) == record(4));
+    assert!(rt; told(alloc, &[BEGUN, fill(), count(), end(FIRST, 1, &sent(0, 2))]) == record(4));
     // no tail, a tail that is free, and one with another number
     let no_tail = made(group(0, 1, 0, 0, 0));
     assert!(rt; told(alloc, &[BEGUN, no_tail, sent_once()]) == record(3));
     let no_cell = made(one_sent());
     assert!(rt; told(alloc, &[BEGUN, no_cell, sent_once()]) == record(3));
-    let second = write(T1, 1, (2, 1), FREE, cell(0, 2, 0, 0));
+    let second = write(FIRST, 1, (2, 1), FREE, cell(0, 2, 0, 0));
     assert!(rt; told(alloc, &[BEGUN, second, count(), sent_once()]) == record(4));
     // the cell before it is free
-    let behind = write(T1, 1, (2, 1), FREE, cell(0, 2, FIRST_CELL + 1, 0));
+    let behind = write(FIRST, 1, (2, 1), FREE, cell(0, 2, FIRST_CELL + 1, 0));
     let two = write(
-        T1,
+        FIRST,
         1,
         (1, 1),
         new_group(),
         group(0, 2, 0, FIRST_CELL + 1, FIRST_CELL),
     );
-    assert!(rt; told(alloc, &[BEGUN, behind, two, end(T1, 1, &sent(0, 2))]) == record(4));
+    assert!(rt; told(alloc, &[BEGUN, behind, two, end(FIRST, 1, &sent(0, 2))]) == record(4));
     Ok(())
 }
 
 #[test]
 fn receives_that_cannot_be_put_back(rt: HostRuntime) -> Result<(), Fail> {
     let alloc = rt.alloc();
-    assert!(rt; told(alloc, &[BEGUN, one_taken(), end(T1, 1, &received(0, 1))]) == None);
+    assert!(rt; told(alloc, &[BEGUN, one_taken(), end(FIRST, 1, &received(0, 1))]) == None);
     // another number than was received last, no cell that is free, and a head that is free
-    assert!(rt; told(alloc, &[BEGUN, one_taken(), end(T1, 1, &received(0, 2))]) == record(3));
+    assert!(rt; told(alloc, &[BEGUN, one_taken(), end(FIRST, 1, &received(0, 2))]) == record(3));
     assert!(rt;
         told_on(
             alloc,
             &full(),
-            &[BEGUN, one_taken(), end(T1, 1, &received(0, 1))]
+            &[BEGUN, one_taken(), end(FIRST, 1, &received(0, 1))]
         ) == record(3)
     );
     let head = made(group(0, 2, 1, FIRST_CELL + 1, FIRST_CELL + 1));
-    assert!(rt; told(alloc, &[BEGUN, head, end(T1, 1, &received(0, 1))]) == record(3));
+    assert!(rt; told(alloc, &[BEGUN, head, end(FIRST, 1, &received(0, 1))]) == record(3));
     Ok(())
 }
 
 #[test]
 fn closes_that_are_open(rt: HostRuntime) -> Result<(), Fail> {
     let alloc = rt.alloc();
-    let close = end(T1, 1, &[3, 0, 0, 0, 0]);
+    let close = end(FIRST, 1, &[3, 0, 0, 0, 0]);
     assert!(rt; told(alloc, &[BEGUN, made(group(0, 1, 1, 0, 0)), close]) == record(3));
     Ok(())
 }
@@ -145,7 +157,7 @@ fn closes_that_are_open(rt: HostRuntime) -> Result<(), Fail> {
 #[test]
 fn the_newest_is_named(rt: HostRuntime) -> Result<(), Fail> {
     let alloc = rt.alloc();
-    assert!(rt; told(alloc, &two_lost(end(T2, 1, &received(1, 2)))) == record(6));
-    assert!(rt; told(alloc, &two_lost(end(T2, 1, &received(1, 1)))) == record(4));
+    assert!(rt; told(alloc, &two_lost(end(SECOND, 1, &received(1, 2)))) == record(6));
+    assert!(rt; told(alloc, &two_lost(end(SECOND, 1, &received(1, 1)))) == record(4));
     Ok(())
 }
