@@ -1,16 +1,14 @@
 -- How many cells are used.
-use Rattle.std.proofs.Common.{◌≡◌, ◌≢◌, ℕ, ◌+◌, ◌<◌, ◌≤◌, ◌==◌, Bool, true, false, cond, if◌then◌else◌, Option, [], ◌∷◌, length, refl, sym, ap, ◌∙◌, arith, inl, inr, zero, suc, length-append, subst, add-one}
+use Rattle.std.proofs.Common.{◌≡◌, ◌≢◌, ℕ, ◌+◌, ◌<◌, ◌≤◌, ◌==◌, Bool, true, false, cond, if◌then◌else◌, [], ◌∷◌, length, refl, sym, ap, ◌∙◌, arith, inl, inr, zero, suc, length-append, subst, add-one}
 use Rattle.std.proofs.lemmas.Bool.{cases_lt}
 use Rattle.std.proofs.lemmas.Bool.Decides.{nat_tests}
 use Rattle.std.proofs.lemmas.List.Elements.{filter-append}
 use Rattle.std.specs.List.{filter}
-use Rattle.std.specs.Option.{is_some}
 use Rattle.rq_model.specs.Tests.{below}
 use Rattle.rq_page.specs.Sizes.{Sizes, IsCellAddress, cell_count, cell_at, place_of}
 use Rattle.rq_page.proofs.Addresses.{cells_have_places, places_are_cells, cells_rise}
-use Rattle.rq_page.specs.Slots.{Slot, Free, Used, Sender}
-use Rattle.rq_page.specs.declared.cell.Cell.{Cell}
-use Rattle.rq_views.specs.Log.{Slots, put, cell_in}
+use Rattle.rq_page.specs.Slots.{Slot}
+use Rattle.rq_views.specs.Log.{Slots, put}
 use Rattle.rq_views.specs.Stored.{is_used, count_used}
 
 -- 1 for a test that is passed
@@ -172,15 +170,10 @@ pub all_used : (z : Sizes) (q : Slots) → ((a : ℕ) → IsCellAddress z a → 
 all_used z q each = all_passed (λ i. is_used (q (cell_at z i))) (cell_count z) (λ i lt. each (cell_at z i) ((cells_have_places z i lt).0))
 
 -- the count with one cell more
-used_by : (x : Slot) → is_used x ≡ is_some (cell_in x)
-used_by Free = refl
-used_by (Used c) = refl
-used_by (Sender s d) = refl
-
-pub used_more : (z : Sizes) (q : Slots) (n at : ℕ) (cell : Option Cell) (used next : ℕ) → used ≡ used_below z q n → at ≡ cell_at z n → cell_in (q at) ≡ cell → next ≡ used + one_of (is_some cell)
+pub used_more : (z : Sizes) (q : Slots) (n at : ℕ) (told : Bool) (used next : ℕ) → used ≡ used_below z q n → at ≡ cell_at z n → told ≡ is_used (q at) → next ≡ used + one_of told
     → next ≡ used_below z q (n + 1)
-used_more z q n at cell used next so_far place held step =
+used_more z q n at told used next so_far place is step =
     let f : ℕ → Bool = λ i. is_used (q (cell_at z i)) in
-    let here : one_of (f n) ≡ one_of (is_some cell) = ap (λ a. one_of (is_used (q a))) (sym place) ∙ ap one_of (used_by (q at)) ∙ ap (λ o. one_of (is_some o)) held in
+    let here : one_of (f n) ≡ one_of told = ap (λ a. one_of (is_used (q a))) (sym place) ∙ ap one_of (sym is) in
     let more : passed f (n + 1) ≡ passed f n + one_of (f n) = passed_more f n in
-    step ∙ add_same used (passed f n) (one_of (is_some cell)) (one_of (f n)) so_far (sym here) ∙ sym more
+    step ∙ add_same used (passed f n) (one_of told) (one_of (f n)) so_far (sym here) ∙ sym more

@@ -327,7 +327,7 @@ impl<P: PageDevice> Pages<P> {
         let layout = self.layout();
         let mut used = 0;
         for place in 0..layout.cell_slots() {
-            if self.cell(layout.cell_addr(place)).is_some() {
+            if self.is_used(layout.cell_addr(place)) {
                 used += 1;
             }
         }

@@ -6,10 +6,10 @@ use Rattle.rq_model.specs.declared.record.Record.{Record}
 use Rattle.rq_model.specs.declared.record.Record.TheVariants as records
 use Rattle.rq_model.specs.Content.{has_end}
 use Rattle.rq_model.specs.Incarnations.{InOrder, incarnation_of}
-use Rattle.rq_model.specs.Words.{has_number, same_txn}
+use Rattle.rq_model.specs.Words.{same_txn}
 use Rattle.rq_model.proofs.Lists.{same_is}
-use Rattle.rq_rules.specs.Kept.{ended}
-use Rattle.rq_rules.proofs.Keys.{has_more}
+use Rattle.rq_rules.specs.Kept.{ended, has_count}
+use Rattle.rq_rules.proofs.Counts.{counts_more, none_counted}
 
 or_none : (b : Bool) → (b || false) ≡ b
 or_none true = refl
@@ -44,22 +44,22 @@ one_of : (u t : Txn) (i : ℕ) → u.incarnation ≡ i → t.incarnation ≡ i �
 one_of u t i a b = let e : nat_eq u.incarnation t.incarnation ≡ true = eq-eqb u.incarnation t.incarnation (a ∙ sym b) in rw e refl
 
 -- what is kept tells of each transaction of the running incarnation whether it has ended
-pub ended_kept : (log : List Record) (t : Txn) → InOrder log → t.incarnation ≡ incarnation_of log → has_number t.count (ended log) ≡ has_end log t
-ended_kept [] t o e = refl
+pub ended_kept : (log : List Record) (t : Txn) → InOrder log → t.incarnation ≡ incarnation_of log → has_count t.count (ended log) ≡ has_end log t
+ended_kept [] t o e = none_counted t.count
 ended_kept (records.PageOp u n page slot before after ∷ log) t o e = ended_kept log t o.1 e
 ended_kept (records.PageUndo u n undone page slot after ∷ log) t o e = ended_kept log t o.1 e
 ended_kept (records.OpEnd u n level deed ∷ log) t o e = ended_kept log t o.1 e
 ended_kept (records.OpVoid u n ∷ log) t o e = ended_kept log t o.1 e
 ended_kept (records.CompEnd u n undone ∷ log) t o e = ended_kept log t o.1 e
 ended_kept (records.Restart i ∷ log) t o e =
-    sym (false_from_ne_true (has_end log t) (λ h.
+    none_counted t.count ∙ sym (false_from_ne_true (has_end log t) (λ h.
     let a = ended_before log t o.1 h in
     let k : i ≡ incarnation_of log + 1 = o.0 in
     let b : t.incarnation ≡ i = e in
     absurd (omega (arith, a, k, b))))
 ended_kept (records.Commit u ∷ log) t o e =
-    has_more t.count u.count (ended log) ∙ ap (λ b. b || has_number t.count (ended log)) (one_of u t (incarnation_of log) o.0.1 e ∙ sym (or_none (same_txn u t)))
+    counts_more t.count u.count (ended log) ∙ ap (λ b. b || has_count t.count (ended log)) (one_of u t (incarnation_of log) o.0.1 e ∙ sym (or_none (same_txn u t)))
     ∙ ap (λ b. (same_txn u t || false) || b) (ended_kept log t o.1 e)
 ended_kept (records.AbortEnd u ∷ log) t o e =
-    has_more t.count u.count (ended log) ∙ ap (λ b. b || has_number t.count (ended log)) (one_of u t (incarnation_of log) o.0.1 e)
+    counts_more t.count u.count (ended log) ∙ ap (λ b. b || has_count t.count (ended log)) (one_of u t (incarnation_of log) o.0.1 e)
     ∙ ap (λ b. same_txn u t || b) (ended_kept log t o.1 e)

@@ -7,14 +7,14 @@ use Rattle.rq_model.specs.declared.record.Record.{Record}
 use Rattle.rq_model.specs.declared.record.Record.TheVariants as records
 use Rattle.rq_model.specs.Content.{has_end}
 use Rattle.rq_model.specs.Incarnations.{InOrder, incarnation_of}
-use Rattle.rq_model.specs.Words.{first, has_number}
+use Rattle.rq_model.specs.Words.{first}
 use Rattle.rq_views.specs.Items.{operation}
 use Rattle.rq_views.specs.Legal.{is_of}
 use Rattle.rq_undone.specs.Analysis.{Analysis, analysis, has_sub}
 use Rattle.rq_lost.specs.declared.dues.Due.{Due}
 use Rattle.rq_lost.specs.Dues.{dues}
 use Rattle.rq_lost.specs.Numbers.{numbers}
-use Rattle.rq_rules.specs.Kept.{IsKept, Passes, ended}
+use Rattle.rq_rules.specs.Kept.{Counts, IsKept, Passes, ended, has_count}
 use Rattle.rq_rules.specs.Rules.{FollowAll, FollowsRules, ends_op, greatest_number, has_op, has_op_end, op_of}
 use Rattle.rq_rules.proofs.Ends.{ended_kept}
 use Rattle.rq_rules.proofs.Operations.{number_kept, unfinished_kept, within_greatest}
@@ -49,10 +49,10 @@ module _ (log : List Record) (f : FollowAll log) where
 
   -- a transaction of the running incarnation
   module _ (t : Txn) (w : InOrder log) (e : t.incarnation ≡ incarnation_of log) where
-    runs : has_number t.count (ended log) ≡ false → has_end log t ≡ false
+    runs : has_count t.count (ended log) ≡ false → has_end log t ≡ false
     runs k = sym (ended_kept log t w e) ∙ k
 
-    running : has_end log t ≡ false → has_number t.count (ended log) ≡ false
+    running : has_end log t ≡ false → has_count t.count (ended log) ≡ false
     running k = ended_kept log t w e ∙ k
 
   -- an operation with the next number has not begun
@@ -114,9 +114,9 @@ module _ (log : List Record) (f : FollowAll log) where
     λ q. tt,
   )
 
-pub judged_by : (log : List Record) (r : Record) (h : Analysis) (ds : List Due) (os : List Sub) (ns : List ℕ) → IsKept log h ds os ns → FollowAll log → InOrder (r ∷ log) → Passes h ds os ns r ↔ FollowsRules log r
+pub judged_by : (log : List Record) (r : Record) (h : Analysis) (ds : List Due) (os : List Sub) (ns : Counts) → IsKept log h ds os ns → FollowAll log → InOrder (r ∷ log) → Passes h ds os ns r ↔ FollowsRules log r
 judged_by log r h ds os ns k f w =
-    let a : Passes (analysis log) (dues log) (numbers log) ns r ↔ FollowsRules log r = subst (λ (x : List ℕ). Passes (analysis log) (dues log) (numbers log) x r ↔ FollowsRules log r) (sym k.ended) (judged log f r w) in
+    let a : Passes (analysis log) (dues log) (numbers log) ns r ↔ FollowsRules log r = subst (λ (x : Counts). Passes (analysis log) (dues log) (numbers log) x r ↔ FollowsRules log r) (sym k.ended) (judged log f r w) in
     let b : Passes (analysis log) (dues log) os ns r ↔ FollowsRules log r = subst (λ (x : List Sub). Passes (analysis log) (dues log) x ns r ↔ FollowsRules log r) (sym k.numbers) a in
     let d : Passes (analysis log) ds os ns r ↔ FollowsRules log r = subst (λ (x : List Due). Passes (analysis log) x os ns r ↔ FollowsRules log r) (sym k.dues) b in
     subst (λ (x : Analysis). Passes x ds os ns r ↔ FollowsRules log r) (sym k.history) d

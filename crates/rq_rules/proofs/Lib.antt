@@ -1,4 +1,5 @@
 pub mod Keys
+pub mod Counts
 pub mod Ends
 pub mod Operations
 pub mod Lists

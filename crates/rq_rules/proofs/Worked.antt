@@ -86,6 +86,7 @@ rules_judged = record {
   another_level = λ h. (let e : 2 ≡ 1 = h.reads.0 in absurd (omega (arith, e)));
   no_deed = λ h. false≢true h.reads.1;
   keeps_one = refl;
+  keeps_second = refl;
   keeps_both = refl;
   keeps_none = refl;
 }

@@ -1,5 +1,5 @@
 -- What is kept of a log, by which its next record is judged.
-use Rattle.std.specs.Prelude.{◌≡◌, ℕ, ◌+◌, ◌⊎◌, true, false, List, [], ◌∷◌, Option, Some, None}
+use Rattle.std.specs.Prelude.{◌≡◌, ℕ, ◌+◌, ◌⊎◌, Bool, true, false, not, ◌&&◌, ◌||◌, cond, nat_eq, nat_lt, List, [], ◌∷◌, Option, Some, None}
 use Rattle.std.specs.List.{filter}
 use Rattle.std.specs.Ordering.{nat_cmp}
 use Rattle.std.specs.BTreeSet.{insert_key}
@@ -14,44 +14,71 @@ use Rattle.rq_lost.specs.declared.dues.Due.{Due}
 use Rattle.rq_lost.specs.Dues.{due_of, dues}
 use Rattle.rq_lost.specs.Numbers.{number_of, numbers}
 
-abbrev pub ended_after : Record → List ℕ → List ℕ
-ended_after (Commit t) ns = insert_key nat_cmp ns t.count
-ended_after (AbortEnd t) ns = insert_key nat_cmp ns t.count
-ended_after (Restart i) ns = []
-ended_after _ ns = ns
+-- numbers: all from 1 up to one, and others
+pub record Counts : Type 0 where
+  pub up_to : ℕ
+  pub others : List ℕ
 
--- the counts of the running incarnation's transactions that have a Commit or an AbortEnd, in rising order
-abbrev pub ended : List Record → List ℕ
-ended [] = []
+-- the number is one of them
+abbrev pub has_count : ℕ → Counts → Bool
+has_count n c = (nat_lt 0 n && not (nat_lt c.up_to n)) || has_number n c.others
+
+-- the first of them is the one behind all
+abbrev pub comes_next : ℕ → List ℕ → Bool
+comes_next k [] = false
+comes_next k (x ∷ xs) = nat_eq x (k + 1)
+
+-- all up to one and others, of which those that come next are among all
+abbrev pub joined : ℕ → List ℕ → Counts
+joined k [] = record { up_to = k; others = [] }
+joined k (x ∷ xs) = cond (nat_eq x (k + 1)) (joined x xs) (record { up_to = k; others = x ∷ xs })
+
+-- with one number more
+abbrev pub with_count : ℕ → Counts → Counts
+with_count n c = cond (nat_eq n (c.up_to + 1)) (joined n c.others)
+    (record { up_to = c.up_to; others = insert_key nat_cmp c.others n })
+
+abbrev pub no_counts : Counts
+no_counts = record { up_to = 0; others = [] }
+
+abbrev pub ended_after : Record → Counts → Counts
+ended_after (Commit t) c = with_count t.count c
+ended_after (AbortEnd t) c = with_count t.count c
+ended_after (Restart i) c = no_counts
+ended_after _ c = c
+
+-- the counts of the running incarnation's transactions that have a Commit or an AbortEnd
+abbrev pub ended : List Record → Counts
+ended [] = no_counts
 ended (r ∷ log) = ended_after r (ended log)
 
 -- these are what is kept of the log
-pub record IsKept (log : List Record) (h : Analysis) (ds : List Due) (os : List Sub) (ns : List ℕ) : Type 0 where
+pub record IsKept (log : List Record) (h : Analysis) (ds : List Due) (os : List Sub) (c : Counts) : Type 0 where
   pub history : h ≡ analysis log
   pub dues : ds ≡ dues log
   pub numbers : os ≡ numbers log
-  pub ended : ns ≡ ended log
+  pub ended : c ≡ ended log
 
 abbrev pub lsn_due : Option Due → Option ℕ
 lsn_due None = None
 lsn_due (Some d) = Some d.lsn
 
 -- what is asked of a record by what is kept
-abbrev pub Passes : Analysis → List Due → List Sub → List ℕ → Record → Type 0
-Passes h ds os ns (PageOp t n page slot before after) =
-    (has_number t.count ns ≡ false)
+abbrev pub Passes : Analysis → List Due → List Sub → Counts → Record → Type 0
+Passes h ds os c (PageOp t n page slot before after) =
+    (has_count t.count c ≡ false)
     × ((has_sub (operation t n) h.unfinished ≡ true) ⊎ (n ≡ number_of t os + 1))
-Passes h ds os ns (PageUndo t n undone page slot after) =
-    (has_number t.count ns ≡ false)
+Passes h ds os c (PageUndo t n undone page slot after) =
+    (has_count t.count c ≡ false)
     × (has_sub (operation t n) h.unfinished ≡ true)
     × (first (filter (spot_of (operation t n)) h.spots) ≡ Some (spot_at undone (operation t n) page slot after))
-Passes h ds os ns (OpEnd t n level deed) =
-    (has_number t.count ns ≡ false)
+Passes h ds os c (OpEnd t n level deed) =
+    (has_count t.count c ≡ false)
     × (has_sub (operation t n) h.unfinished ≡ true) × (level ≡ 1) × (is_some (deed_in deed) ≡ true)
-Passes h ds os ns (OpVoid t n) = (has_number t.count ns ≡ false) × (has_sub (operation t n) h.unfinished ≡ true)
-Passes h ds os ns (CompEnd t n undone) =
-    (has_number t.count ns ≡ false)
+Passes h ds os c (OpVoid t n) = (has_count t.count c ≡ false) × (has_sub (operation t n) h.unfinished ≡ true)
+Passes h ds os c (CompEnd t n undone) =
+    (has_count t.count c ≡ false)
     × (has_sub (operation t n) h.unfinished ≡ true) × (lsn_due (first (filter (due_of t) ds)) ≡ Some undone)
-Passes h ds os ns (Commit t) = has_number t.count ns ≡ false
-Passes h ds os ns (AbortEnd t) = has_number t.count ns ≡ false
-Passes h ds os ns (Restart i) = Unit {0}
+Passes h ds os c (Commit t) = has_count t.count c ≡ false
+Passes h ds os c (AbortEnd t) = has_count t.count c ≡ false
+Passes h ds os c (Restart i) = Unit {0}

@@ -3,7 +3,7 @@ use Rattle.std.specs.Prelude.{◌≡◌, ℕ, List, [], ◌∷◌}
 use Rattle.rq_model.specs.declared.txn.Txn.{Txn}
 use Rattle.rq_model.specs.declared.record.Record.{Record}
 use Rattle.rq_model.specs.declared.record.Record.TheVariants.{PageOp, PageUndo, OpEnd, OpVoid, CompEnd, Commit, AbortEnd, Restart}
-use Rattle.rq_rules.specs.Kept.{ended}
+use Rattle.rq_rules.specs.Kept.{ended, no_counts}
 use Rattle.rq_rules.specs.Rules.{FollowAll, FollowsRules}
 
 abbrev pub t1 : Txn
@@ -91,6 +91,7 @@ pub record RulesAreJudged : Type 0 where
   pub another_level : FollowsRules begun (OpEnd t1 1 2 close) → ⊥
   pub no_deed : FollowsRules begun (OpEnd t1 1 1 (7 ∷ [])) → ⊥
   -- which transactions have ended is kept by their counts, until a Restart
-  pub keeps_one : ended committed ≡ 1 ∷ []
-  pub keeps_both : ended (AbortEnd t1 ∷ Commit t2 ∷ begun) ≡ 1 ∷ 2 ∷ []
-  pub keeps_none : ended (Restart 2 ∷ committed) ≡ []
+  pub keeps_one : ended committed ≡ record { up_to = 1; others = [] }
+  pub keeps_second : ended (Commit t2 ∷ begun) ≡ record { up_to = 0; others = 2 ∷ [] }
+  pub keeps_both : ended (AbortEnd t1 ∷ Commit t2 ∷ begun) ≡ record { up_to = 2; others = [] }
+  pub keeps_none : ended (Restart 2 ∷ committed) ≡ no_counts
