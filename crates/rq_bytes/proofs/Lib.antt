@@ -1,3 +1,4 @@
 pub mod Placed
 pub mod Overlaid
 pub mod Strings
+pub mod Compared

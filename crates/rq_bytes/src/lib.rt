@@ -6,6 +6,7 @@ ghost use Rattle.std.specs.Bool.{OnTrue, OnFalse};
 ghost use Rattle.rq_bytes.specs.Number.{overlaid, number_at, with_number, WrittenIsRead, OthersReadAsBefore, LengthStays};
 
 pub mod end;
+pub mod equal;
 
 use byteorder::{BigEndian, ByteOrder};
 

@@ -7,6 +7,7 @@ use crate::addr::Addr;
 use crate::numbers::{u16_at, u32_at, u64_at};
 use byteorder::{BigEndian, ByteOrder};
 use rq_bytes::Fields;
+use rq_bytes::equal::are_equal;
 use rq_model::message::{BODY_LIMIT, Body};
 use rq_model::record::{SLOT_BYTES, Slot};
 
@@ -85,7 +86,7 @@ impl CellSlot {
         ensures only { (held : CellSlot) → IsCellSlot held → cell_slot_bytes held ≡ bytes.now → result ≡ Some held }
     {
         let held = CellSlot::read(bytes)?;
-        if held.encode() == *bytes {
+        if are_equal(&held.encode(), bytes) {
             Some(held)
         } else {
             None

@@ -7,6 +7,7 @@ use crate::addr::Addr;
 use crate::numbers::{u32_at, u64_at};
 use byteorder::{BigEndian, ByteOrder};
 use rq_bytes::Fields;
+use rq_bytes::equal::are_equal;
 use rq_model::record::{SLOT_BYTES, Slot};
 
 // The bytes of a directory slot before its zeros.
@@ -74,7 +75,7 @@ impl DirectorySlot {
         if held.directory.received > held.directory.sent {
             return None;
         }
-        if held.encode() == *bytes {
+        if are_equal(&held.encode(), bytes) {
             Some(held)
         } else {
             None

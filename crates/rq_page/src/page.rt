@@ -9,6 +9,7 @@ use crate::layout::PageKind;
 use crate::numbers::u64_at;
 use byteorder::{BigEndian, ByteOrder};
 use rq_bytes::Fields;
+use rq_bytes::equal::are_equal;
 use rq_model::record::{SLOT_BYTES, Slot};
 use rq_model::txn::Lsn;
 use std::marker::Model;
@@ -118,7 +119,7 @@ impl Page {
         ensures { IsTrue result ↔ (header_of self.now ≡ header_bytes lsn number (kind_byte kind)) }
     {
         let wanted = header(lsn, number, kind);
-        self.bytes[..SLOT_BYTES] == wanted[..]
+        are_equal(&self.bytes[..SLOT_BYTES], &wanted)
     }
 
     /// Pages with the same header and the same slots are the same.

@@ -48,10 +48,10 @@ joined_same n k (x ∷ xs) = elim (cases_Bool (nat_eq x (k + 1))) [
   | inl e ↦
       let is : x ≡ k + 1 = eqb-true x (k + 1) e in
       rw e (
-        joined_same n x xs ∙ ap (λ (y : ℕ). (nat_lt 0 n && not (nat_lt y n)) || has_number n xs) is
-        ∙ ap (λ b. b || has_number n xs) (one_further n k)
-        ∙ around (nat_eq (k + 1) n) (nat_lt 0 n && not (nat_lt k n)) (has_number n xs)
-        ∙ ap (λ (y : ℕ). (nat_lt 0 n && not (nat_lt k n)) || (nat_eq y n || has_number n xs)) (sym is)
+      joined_same n x xs ∙ ap (λ (y : ℕ). (nat_lt 0 n && not (nat_lt y n)) || has_number n xs) is
+      ∙ ap (λ b. b || has_number n xs) (one_further n k)
+      ∙ around (nat_eq (k + 1) n) (nat_lt 0 n && not (nat_lt k n)) (has_number n xs)
+      ∙ ap (λ (y : ℕ). (nat_lt 0 n && not (nat_lt k n)) || (nat_eq y n || has_number n xs)) (sym is)
       )
   | inr o ↦ rw o refl
 ]
@@ -61,15 +61,15 @@ counts_more n k c = elim (cases_Bool (nat_eq k (c.up_to + 1))) [
   | inl e ↦
       let is : k ≡ c.up_to + 1 = eqb-true k (c.up_to + 1) e in
       rw e (
-        joined_same n k c.others ∙ ap (λ (y : ℕ). (nat_lt 0 n && not (nat_lt y n)) || has_number n c.others) is
-        ∙ ap (λ b. b || has_number n c.others) (one_further n c.up_to)
-        ∙ grouped (nat_eq (c.up_to + 1) n) (nat_lt 0 n && not (nat_lt c.up_to n)) (has_number n c.others)
-        ∙ ap (λ (y : ℕ). nat_eq y n || ((nat_lt 0 n && not (nat_lt c.up_to n)) || has_number n c.others)) (sym is)
+      joined_same n k c.others ∙ ap (λ (y : ℕ). (nat_lt 0 n && not (nat_lt y n)) || has_number n c.others) is
+      ∙ ap (λ b. b || has_number n c.others) (one_further n c.up_to)
+      ∙ grouped (nat_eq (c.up_to + 1) n) (nat_lt 0 n && not (nat_lt c.up_to n)) (has_number n c.others)
+      ∙ ap (λ (y : ℕ). nat_eq y n || ((nat_lt 0 n && not (nat_lt c.up_to n)) || has_number n c.others)) (sym is)
       )
   | inr o ↦ rw o (
       ap (λ b. (nat_lt 0 n && not (nat_lt c.up_to n)) || b) (has_more n k c.others)
       ∙ turned (nat_lt 0 n && not (nat_lt c.up_to n)) (nat_eq k n) (has_number n c.others)
-    )
+      )
 ]
 
 -- what is not within is among the others, or nowhere

@@ -1,6 +1,5 @@
-use Rattle.std.proofs.Common.{◌≡◌, true, false, List, ℕ, nat_eq, Some, sym, ap, ◌∙◌, arith}
-use Rattle.std.proofs.lemmas.Cmp.{nat_list_eq_equiv}
-use lib.Pointwise.{pointwise}
+use Rattle.std.proofs.Common.{◌≡◌, true, false, List, ℕ, Some, sym, ap, ◌∙◌, arith}
+use Rattle.std.proofs.lemmas.Bool.{true≢false}
 use Rattle.rq_page.specs.declared.directory.DirectorySlot.{DirectorySlot}
 use Rattle.rq_page.specs.Directories.{directory_in, directory_bytes}
 use Rattle.rq_page.proofs.DirectoryBytes.{directory_in-directory_bytes}
@@ -13,14 +12,14 @@ returns-then-held-clause-only c = λ held is e.
     let sent : c.read-held.result.directory.sent ≡ held.directory.sent = ap (λ (x : DirectorySlot). x.directory.sent) same in
     absurd (omega (arith, received, sent, is.received))
 
-pub returns-then-eq-clause-only : goal.returns-then-eq-clause-only
-returns-then-eq-clause-only c = λ held is e.
+pub returns-then-are_equal-clause-only : goal.returns-then-are_equal-clause-only
+returns-then-are_equal-clause-only c = λ held is e.
     ap Some (c.read-held.ensures ∙ ap directory_in (sym e) ∙ directory_in-directory_bytes held is)
 
-pub returns-else-eq-clause-only : goal.returns-else-eq-clause-only
-returns-else-eq-clause-only c = λ held is e.
+pub returns-else-are_equal-clause-only : goal.returns-else-are_equal-clause-only
+returns-else-are_equal-clause-only c = λ held is e.
     let bytes : List ℕ = c.args.bytes.now in
     let whole : c.encode.result ≡ bytes =
     c.encode.ensures ∙ ap directory_bytes (c.read-held.ensures ∙ ap directory_in (sym e) ∙ directory_in-directory_bytes held is) ∙ e in
-    let clash : false ≡ true = c.if-eq.ensures ∙ ap (λ x. pointwise nat_eq x bytes) whole ∙ nat_list_eq_equiv.refl bytes in
-    cc
+    let same : c.are_equal.result ≡ true = c.are_equal.ensures.1 whole in
+    absurd (true≢false (sym same ∙ c.if-are_equal.false))
