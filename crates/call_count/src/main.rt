@@ -87,7 +87,9 @@ fn batches_of<P: PageDevice + Drop, L: LogDevice + Drop, R: Wait>(
     let mut tally = Tally::none();
     for _ in 0..batches {
         steps = batch(rt, alloc, steps, sender)?;
-        tally = tally.and(Tally::of(steps.kept().take().entries()));
+        let mut kept = steps.into_kept();
+        tally = tally.and(Tally::of(kept.take().entries()));
+        steps = KeptSteps::new(kept, 1);
     }
     Some((steps, tally))
 }
@@ -95,5 +97,6 @@ fn batches_of<P: PageDevice + Drop, L: LogDevice + Drop, R: Wait>(
 // All calls through a shared engine, each sender on a thread of its own.
 fn by_four<R: Threads + Wait + Sync>(rt: &R, alloc: Global, batches: u32) -> Option<Tally> {
     let engine = small_engine(alloc)?;
-    share::<MemPages, MemLog, Brand, R>(rt, alloc, engine, Blank::new(1024), batches)
+    let taking = Blank::new(1024);
+    share::<MemPages, MemLog, Brand, R>(rt, alloc, engine, Blank::new(1024), taking, batches)
 }

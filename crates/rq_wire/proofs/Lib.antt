@@ -1,4 +1,5 @@
 pub mod Fronts
 pub mod Spells
+pub mod Faults
 pub mod Streams
 pub mod Worked

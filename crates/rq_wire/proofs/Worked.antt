@@ -1,11 +1,13 @@
 -- Worked streams: what the laws say of them, and what they rule out.
-use Rattle.std.proofs.Common.{◌≡◌, ℕ, true, false, List, [], ◌∷◌, ◌++◌, replicate, refl}
+use Rattle.std.proofs.Common.{◌≡◌, ℕ, zero, suc, true, false, List, [], ◌∷◌, ◌++◌, replicate, refl, sym, ◌∙◌, arith, inl}
 use Rattle.rq_wire.specs.declared.request.Request.TheVariants.{Begin, Send, LastTag}
 use Rattle.rq_wire.specs.declared.look.Front.TheVariants.{Frame, Fault, More}
 use Rattle.rq_wire.specs.Looks.{looks}
 use Rattle.rq_wire.specs.Spelling.{frame, spelled}
-use Rattle.rq_bytes.specs.Number.{number}
+use Rattle.rq_bytes.specs.Number.{AreBytes, number}
 use Rattle.rq_wire.specs.Stream.{AreRequests}
+use Rattle.rq_wire.specs.Faults.{IsFault}
+use Rattle.rq_wire.proofs.Faults.{faults_are_told}
 
 -- a send of `hello` for sender 0 with tag 7
 abbrev hello : List ℕ
@@ -62,3 +64,23 @@ no_bytes = refl
 no_bytes_spelled : spelled (LastTag 300) ≡ 0 ∷ 5 ∷ 8 ∷ 0 ∷ 0 ∷ 1 ∷ 44 ∷ []
 unfolding spelled frame number
 no_bytes_spelled = refl
+
+-- a length of 0 is a fault in a client's words; the half of a receive is none
+no_length_is_a_fault : IsFault (0 ∷ 0 ∷ [])
+no_length_is_a_fault = inl (omega arith, inl refl)
+
+abbrev half : List ℕ
+half = 0 ∷ 5 ∷ 4 ∷ 0 ∷ 0 ∷ []
+
+half_bytes : AreBytes half
+half_bytes zero = omega arith
+half_bytes (suc zero) = omega arith
+half_bytes (suc (suc zero)) = omega arith
+half_bytes (suc (suc (suc zero))) = omega arith
+half_bytes (suc (suc (suc (suc zero)))) = omega arith
+half_bytes (suc (suc (suc (suc (suc i))))) = omega arith
+
+half_a_receive_is_none : IsFault half → ⊥
+half_a_receive_is_none h =
+    let told : More ≡ Fault = sym half_a_receive ∙ (faults_are_told half half_bytes).1 h in
+    absurd (cc)

@@ -1,4 +1,5 @@
 //! Laws of frames, for proofs.
+ghost use Rattle.rq_wire.specs.Faults.{FaultsAreTold, MoreIsAwaited};
 ghost use Rattle.rq_wire.specs.Stream.{SpelledIsRead, ReadIsSpelled, FrontsAreSpelled, OneAnswer, NoneBeginsAnother, FramesCount};
 
 /// The frame of a request is read as that request, whatever stands behind it.
@@ -14,6 +15,17 @@ pub fn read_is_spelled()
 /// Requests stand at the front of some bytes exactly where their frames do, one after the other.
 pub fn fronts_are_spelled()
     ensures { FrontsAreSpelled }
+{}
+
+/// A fault is told exactly where there is one: a length of 0 or over 512 as soon as its two bytes are there, a kind that is
+/// no request's as soon as its byte is there, or all that the length counts, where no request's frame is.
+pub fn faults_are_told()
+    ensures { FaultsAreTold }
+{}
+
+/// More bytes are waited for exactly where there is neither a fault nor a request's frame.
+pub fn more_is_awaited()
+    ensures { MoreIsAwaited }
 {}
 
 /// Bytes have one list of requests, and a fault or none: these do not depend on how the bytes were cut.

@@ -2,23 +2,25 @@
 ghost use Rattle.std.specs.Prelude.{◌≡◌};
 ghost use Rattle.rq_shared.specs.Entries.{WasSound};
 
-use crate::stores::{KeepStamps, begun, committed, send_of, small_engine};
+use crate::stores::{KeepStamps, begun, called, committed, send_of, small_engine};
 use rq_disk::{LogDevice, MemLog, MemPages, PageDevice};
 use rq_engine::engine::Engine;
 use rq_engine::event::{Event, Outcome, Reply};
 use rq_model::refusal::Refusal;
 use rq_model::txn::Txn;
 use rq_shared::kept::Kept;
-use rq_shared::mark::Mark;
+use rq_shared::mark::{Mark, MarkPass};
 use rq_shared::shared::Shared;
 use rq_shared::sharing::Sharing;
 use rq_workers::acts::Ended;
 use rq_workers::gate::{BEFORE_AGAIN, BEFORE_FORCE, Gate};
 use rq_workers::kept::KeptSteps;
 use rq_workers::shared::SharedSteps;
+use rq_workers::trail::Trail;
 use rq_workers::worker::Worker;
 use std::alloc::Global;
 use std::marker::Brand;
+use std::snapshot::Snapshot;
 use std::sync::Wait;
 use std::sync::atomic::{AtomicU64, Ordering};
 use std::sync::ledger::Blank;
@@ -29,18 +31,29 @@ use std::test::Fail;
 struct Often<'a> {
     point: u32,
     left: &'a AtomicU64,
+    answers: Snapshot<Trail<(u32, bool)>>,
+}
+
+// Lets through so often at this point.
+fn lets_through(point: u32, left: &AtomicU64) -> Often<'_> {
+    Often {
+        point,
+        left,
+        answers: Trail::empty(),
+    }
 }
 
 impl Gate for Often<'_> {
-    ghost says = { λ gate point passed. Unit {0} };
+    ghost answers = { λ gate. gate.answers.value };
 
-    fn pass(&self, point: u32) -> bool {
+    fn pass(&mut self, point: u32) -> bool {
         let left = self.left.load(Ordering::SeqCst);
-        if point != self.point || left == 0 {
-            return false;
+        let passed = point == self.point && left > 0;
+        if passed {
+            self.left.store(left - 1, Ordering::SeqCst);
         }
-        self.left.store(left - 1, Ordering::SeqCst);
-        true
+        Trail::note(&mut self.answers, &(point, passed));
+        passed
     }
 }
 
@@ -51,16 +64,11 @@ fn send_beside<R: Wait>(rt: &R, alloc: Global, left: &AtomicU64) -> Option<(Ende
     let first = begun(&mut steps)?;
     let second = begun(&mut steps)?;
     let other = send_of(alloc, first, 0, b'x').ok()?;
-    drop(steps.kept().step(1, other));
+    drop(called(&mut steps, other));
     let start = send_of(alloc, second, 1, b'x').ok()?;
-    let gate = Often {
-        point: BEFORE_AGAIN,
-        left,
-    };
-    let mut worker = Worker::new(gate, steps);
+    let mut worker = Worker::new(lets_through(BEFORE_AGAIN, left), steps);
     let ended = worker.run(rt, &start);
-    let mut steps = worker.into_steps();
-    Some((ended, steps.kept().entries().len()))
+    Some((ended, worker.into_steps().into_kept().entries().len()))
 }
 
 #[test]
@@ -82,11 +90,7 @@ fn send_stopped<R: Wait>(rt: &R, alloc: Global) -> Option<(Ended, bool)> {
     let txn = begun(&mut steps)?;
     let start = send_of(alloc, txn, 1, b'x').ok()?;
     let left = AtomicU64::new(0);
-    let gate = Often {
-        point: BEFORE_AGAIN,
-        left: &left,
-    };
-    let mut worker = Worker::new(gate, steps);
+    let mut worker = Worker::new(lets_through(BEFORE_AGAIN, &left), steps);
     Some((worker.run(rt, &start), worker.goes_on()))
 }
 
@@ -112,11 +116,7 @@ fn aborting<R: Wait>(
     let txn = begun(&mut steps)?;
     let start = send_of(alloc, txn, 1, b'x').ok()?;
     let left = AtomicU64::new(0);
-    let gate = Often {
-        point: BEFORE_AGAIN,
-        left: &left,
-    };
-    let mut worker = Worker::new(gate, steps);
+    let mut worker = Worker::new(lets_through(BEFORE_AGAIN, &left), steps);
     if worker.run(rt, &start) != Ended::Finished(Outcome::Sent) {
         return None;
     }
@@ -124,9 +124,9 @@ fn aborting<R: Wait>(
     if is_beside {
         let second = begun(&mut steps)?;
         let other = send_of(alloc, second, 2, b'y').ok()?;
-        drop(steps.kept().step(1, other));
+        drop(called(&mut steps, other));
     }
-    drop(steps.kept().step(1, Event::StartAbort(txn)));
+    drop(called(&mut steps, Event::StartAbort(txn)));
     Some((txn, steps))
 }
 
@@ -134,16 +134,15 @@ fn aborting<R: Wait>(
 fn undone_twice<R: Wait>(rt: &R, alloc: Global) -> Option<(Ended, Ended, usize)> {
     let (txn, steps) = aborting(rt, alloc, false)?;
     let left = AtomicU64::new(0);
-    let gate = Often {
-        point: BEFORE_AGAIN,
-        left: &left,
-    };
-    let mut worker = Worker::new(gate, steps);
+    let mut worker = Worker::new(lets_through(BEFORE_AGAIN, &left), steps);
     let undo = Event::UndoNext(txn);
     let first = worker.run(rt, &undo);
     let second = worker.run(rt, &undo);
-    let mut steps = worker.into_steps();
-    Some((first, second, steps.kept().entries().len()))
+    Some((
+        first,
+        second,
+        worker.into_steps().into_kept().entries().len(),
+    ))
 }
 
 // An inverse is gone through as any operation is: its start, two steps, a third that says that all are made, its finish.
@@ -161,14 +160,9 @@ fn an_inverse_is_gone_through(rt: HostRuntime) -> Result<(), Fail> {
 // calls made.
 fn undone_beside<R: Wait>(rt: &R, alloc: Global, left: &AtomicU64) -> Option<(Ended, usize)> {
     let (txn, steps) = aborting(rt, alloc, true)?;
-    let gate = Often {
-        point: BEFORE_AGAIN,
-        left,
-    };
-    let mut worker = Worker::new(gate, steps);
+    let mut worker = Worker::new(lets_through(BEFORE_AGAIN, left), steps);
     let ended = worker.run(rt, &Event::UndoNext(txn));
-    let mut steps = worker.into_steps();
-    Some((ended, steps.kept().entries().len()))
+    Some((ended, worker.into_steps().into_kept().entries().len()))
 }
 
 #[test]
@@ -184,6 +178,14 @@ fn a_latched_inverse_is_tried_again(rt: HostRuntime) -> Result<(), Fail> {
     Ok(())
 }
 
+// What the mark tells a pass.
+fn told(mark: &Mark, reader: &mut MarkPass) -> u64
+    requires { reader.old.table ≡ mark.now }
+    ensures { reader.new.table ≡ mark.now }
+{
+    mark.read(reader)
+}
+
 // The mark as another pass reads it, before and after a log writer whose gate lets it through once; and what its force
 // answered.
 fn marked<G: Sharing, R: Wait>(
@@ -191,12 +193,13 @@ fn marked<G: Sharing, R: Wait>(
     alloc: Global,
     engine: Engine<MemPages, MemLog>,
     blank: Blank,
+    taking: Blank,
 ) -> Option<(u64, u64, u64)>
-    requires name { blank.name ≡ G.name }
-    requires parts { (blank.parts ≡ G.parts) × (blank.parts ≡ 1024) }
+    requires name { (blank.name ≡ G.name) × (taking.name ≡ G.taking) }
+    requires parts { (blank.parts ≡ G.parts) × (blank.parts ≡ 1024) × (taking.parts ≡ 1024) }
     requires sound { WasSound ⟦<MemPages as PageDevice>⟧ ⟦<MemLog as LogDevice>⟧ G.premise engine }
 {
-    let mut shared = Shared::<MemPages, MemLog, G>::new(alloc, engine, blank);
+    let mut shared = Shared::<MemPages, MemLog, G>::new(alloc, engine, blank, taking);
     let writer = shared.pass()?;
     let (mark, mut seat) = Mark::new(alloc).ok()?;
     let mut reader = mark.split(&mut seat);
@@ -204,24 +207,21 @@ fn marked<G: Sharing, R: Wait>(
     let mut steps = SharedSteps::new(rt, shared.front(), writer, &mark, seat, stamps);
     let txn = begun(&mut steps)?;
     committed(&mut steps, txn)?;
-    let before = mark.read(&mut reader);
+    let before = told(&mark, &mut reader);
     let left = AtomicU64::new(1);
-    let gate = Often {
-        point: BEFORE_FORCE,
-        left: &left,
-    };
-    let mut worker = Worker::new(gate, steps);
+    let mut worker = Worker::new(lets_through(BEFORE_FORCE, &left), steps);
     worker.write_log(rt);
     let (_, _, kept) = worker.into_steps().into_parts();
     let forced = match kept.stamps.last()?.reply() {
         Reply::Forced(lsn) => *lsn,
         _ => 0,
     };
-    Some((before, mark.read(&mut reader), forced))
+    Some((before, told(&mark, &mut reader), forced))
 }
 
 fn mark_of<R: Wait>(rt: &R, alloc: Global) -> Option<(u64, u64, u64)> {
-    marked::<Brand, R>(rt, alloc, small_engine(alloc).ok()?, Blank::new(1024))
+    let engine = small_engine(alloc).ok()?;
+    marked::<Brand, R>(rt, alloc, engine, Blank::new(1024), Blank::new(1024))
 }
 
 #[test]
@@ -235,14 +235,9 @@ fn a_log_writer_leaves_the_mark_at_its_lsn(rt: HostRuntime) -> Result<(), Fail> 
 fn run_of_a_force<R: Wait>(rt: &R, alloc: Global) -> Option<(Ended, usize)> {
     let steps = KeptSteps::new(Kept::new(alloc, small_engine(alloc).ok()?), 1);
     let left = AtomicU64::new(9);
-    let gate = Often {
-        point: BEFORE_FORCE,
-        left: &left,
-    };
-    let mut worker = Worker::new(gate, steps);
+    let mut worker = Worker::new(lets_through(BEFORE_FORCE, &left), steps);
     let ended = worker.run(rt, &Event::Force);
-    let mut steps = worker.into_steps();
-    Some((ended, steps.kept().entries().len()))
+    Some((ended, worker.into_steps().into_kept().entries().len()))
 }
 
 #[test]

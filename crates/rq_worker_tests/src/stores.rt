@@ -62,6 +62,11 @@ pub fn send_of(alloc: Global, txn: Txn, sender: u32, byte: u8) -> Result<Event, 
     })
 }
 
+/// The stamp of a call.
+pub fn called<S: Steps>(steps: &mut S, event: Event) -> Stamped {
+    steps.call(event)
+}
+
 /// Begins a transaction.
 pub fn begun<S: Steps>(steps: &mut S) -> Option<Txn> {
     let stamped = steps.call(Event::Begin);

@@ -17,12 +17,14 @@ use rq_shared::tied::tied;
 use rq_workers::acts::Ended;
 use rq_workers::gate::{BETWEEN_STEPS, Gate};
 use rq_workers::shared::SharedSteps;
+use rq_workers::trail::Trail;
 use rq_workers::worker::Worker;
 use std::alloc::{AllocError, Global};
 use std::marker::Brand;
+use std::snapshot::Snapshot;
 use std::sync::Wait;
 use std::sync::atomic::{AtomicU64, Ordering};
-use std::sync::ledger::{Blank, Ledger};
+use std::sync::ledger::Blank;
 use std::test::Fail;
 use std::thread;
 use std::thread::{Threads, join};
@@ -37,7 +39,7 @@ struct Common {
 
 /// What a thread has of its own.
 #[derive(Drop)]
-struct Own<G: Ledger> {
+struct Own<G: Sharing> {
     pass: Pass<G>,
     seat: MarkPass,
 }
@@ -46,15 +48,21 @@ struct Own<G: Ledger> {
 #[derive(Drop)]
 struct HeldBetween<'a> {
     common: &'a Common,
+    answers: Snapshot<Trail<(u32, bool)>>,
 }
 
 impl Gate for HeldBetween<'_> {
-    ghost says = { λ gate point passed. Unit {0} };
+    ghost answers = { λ gate. gate.answers.value };
 
-    fn pass(&self, point: u32) -> bool {
-        if point != BETWEEN_STEPS {
-            return true;
-        }
+    fn pass(&mut self, point: u32) -> bool {
+        let passed = point != BETWEEN_STEPS || self.is_let_go();
+        Trail::note(&mut self.answers, &(point, passed));
+        passed
+    }
+}
+
+impl HeldBetween<'_> {
+    fn is_let_go(&self) -> bool {
         self.common.first_is_held.store(1, Ordering::SeqCst);
         comes(&self.common.second_has_committed)
     }
@@ -62,12 +70,15 @@ impl Gate for HeldBetween<'_> {
 
 /// Lets its thread through.
 #[derive(Drop)]
-struct Open;
+struct Open {
+    answers: Snapshot<Trail<(u32, bool)>>,
+}
 
 impl Gate for Open {
-    ghost says = { λ gate point passed. Unit {0} };
+    ghost answers = { λ gate. gate.answers.value };
 
-    fn pass(&self, _point: u32) -> bool {
+    fn pass(&mut self, point: u32) -> bool {
+        Trail::note(&mut self.answers, &(point, true));
         true
     }
 }
@@ -101,7 +112,11 @@ fn work_first<P: PageDevice + Drop, L: LogDevice + Drop, G: Sharing, R: Wait>(
     let mut steps = SharedSteps::new(rt, front, pass, &common.mark, seat, stamps);
     let txn = begun(&mut steps)?;
     let start = send_of(alloc, txn, 0, b'x').ok()?;
-    let mut worker = Worker::new(HeldBetween { common }, steps);
+    let gate = HeldBetween {
+        common,
+        answers: Trail::empty(),
+    };
+    let mut worker = Worker::new(gate, steps);
     let sent = worker.run(rt, &start) == Ended::Finished(Outcome::Sent) && worker.goes_on();
     let mut steps = worker.into_steps();
     let number = committed(&mut steps, txn)?;
@@ -129,7 +144,10 @@ fn work_second<P: PageDevice + Drop, L: LogDevice + Drop, G: Sharing, R: Wait>(
     let txn = begun(&mut steps)?;
     let turn = comes(&common.first_is_held);
     let start = send_of(alloc, txn, 15, b'y').ok()?;
-    let mut worker = Worker::new(Open, steps);
+    let gate = Open {
+        answers: Trail::empty(),
+    };
+    let mut worker = Worker::new(gate, steps);
     let sent = worker.run(rt, &start) == Ended::Finished(Outcome::Sent);
     let mut steps = worker.into_steps();
     let number = committed(&mut steps, txn)?;
@@ -255,12 +273,19 @@ fn share<
     L: LogDevice + Drop + Send,
     G: Sharing + Send + Sync,
     R: Threads + Wait + Sync,
->(rt: &R, alloc: Global, engine: Engine<P, L>, blank: Blank, take: bool) -> Option<Seen<P, L>>
-    requires name { blank.name ≡ G.name }
-    requires parts { (blank.parts ≡ G.parts) × (blank.parts ≡ 1024) }
+>(
+    rt: &R,
+    alloc: Global,
+    engine: Engine<P, L>,
+    blank: Blank,
+    taking: Blank,
+    take: bool,
+) -> Option<Seen<P, L>>
+    requires name { (blank.name ≡ G.name) × (taking.name ≡ G.taking) }
+    requires parts { (blank.parts ≡ G.parts) × (blank.parts ≡ 1024) × (taking.parts ≡ 1024) }
     requires sound { WasSound P.PageDevice L.LogDevice G.premise engine }
 {
-    let mut shared = Shared::<P, L, G>::new(alloc, engine, blank);
+    let mut shared = Shared::<P, L, G>::new(alloc, engine, blank, taking);
     let pass = shared.pass()?;
     let other = shared.pass()?;
     let mut three = shared.pass()?;
@@ -280,7 +305,7 @@ fn share<
     let (one, stamps, number) = first?;
     let (two, others, other_number) = second?;
     let tie = if take {
-        Some(tie_of(shared.take_audit(rt).entries(), stamps, others))
+        Some(tie_of(shared.take_audit(rt, &mut three).entries(), stamps, others))
     } else {
         None
     };
@@ -301,7 +326,8 @@ fn look<R: Threads + Wait + Sync>(
     take: bool,
 ) -> Option<Seen<MemPages, MemLog>> {
     let engine = wide_engine(alloc).ok()?;
-    share::<MemPages, MemLog, Brand, R>(rt, alloc, engine, Blank::new(1024), take)
+    let taking = Blank::new(1024);
+    share::<MemPages, MemLog, Brand, R>(rt, alloc, engine, Blank::new(1024), taking, take)
 }
 
 #[test]
