@@ -68,6 +68,7 @@ other_deed (Close g) body e f d = d
 none_answer : (images : List (List ℕ)) → Answers images 1 (Ok None) knows
 none_answer images = record {
   plan = tt;
+  slots = tt;
   chosen = tt;
   free = tt;
   latched = λ a e. subst (IsHeldUp (beside images)) (let same : to_send 1 ≡ a = cc in same) (held images);
@@ -80,6 +81,7 @@ none_answer images = record {
 memory_answer : (images : List (List ℕ)) → Answers images 15 (Err why.NoMemory) knows
 memory_answer images = record {
   plan = tt;
+  slots = tt;
   chosen = tt;
   free = tt;
   latched = tt;

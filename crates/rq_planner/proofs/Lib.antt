@@ -2,4 +2,4 @@ mod Told
 mod Gathered
 mod Replies
 mod Judged
-mod Knowing
+pub mod Knowing
