@@ -1,4 +1,4 @@
-use Rattle.std.proofs.Common.{◌≡◌, ◌/◌, false, ℕ, sym, ap, ◌∙◌, subst, refl, reverse, arith, inl, inr}
+use Rattle.std.proofs.Common.{◌≡◌, ◌/◌, ◌<◌, ◌≤◌, length, Option, Some, None, false, ℕ, sym, ap, ◌∙◌, subst, refl, reverse, arith, inl, inr}
 use Rattle.rq_page.specs.declared.cell.Cell.{Cell}
 use Rattle.rq_page.specs.Sizes.{Sizes, directory_at}
 use Rattle.rq_page.specs.Slots.Slot.{Sender}
@@ -17,7 +17,27 @@ use Rattle.rq_sound.specs.Latching.{any_latched, named}
 use Rattle.rq_engine.proofs.Latches.{take_off}
 use Rattle.rq_engine.proofs.TakeCalls.{sent_more, head_there, next_there}
 use Rattle.rq_engine.proofs.Opened.{state_is}
+use Rattle.std.specs.Prelude.{MatchOption}
+use Rattle.rq_model.specs.declared.record.Deed.{Deed}
+use Rattle.rq_page.specs.Sizes.{sender_count}
+use Rattle.rq_views.specs.Plans.{deed_sender}
+use Rattle.rq_level.specs.Writes.{AreSlotWrites}
 use Rattle.rq_engine.proofs.engine.Engine.plan_take.Goals as goal
+
+few : {X : Type 0} (o : Option X) (n : ℕ) → MatchOption o (n ≡ 2) (λ _. n ≡ 3) → n ≤ 3
+few None n e = omega (arith, e)
+few (Some x) n e = omega (arith, e)
+
+pub returns-clause-fits : goal.returns-clause-fits
+returns-clause-fits g c = record {
+  sender = subst (λ (d : Deed). deed_sender d < sender_count c.args.self.now.state.sizes) (sym c.in_ok-plan.ensures.deed) c.requires;
+  slots = subst (λ (z : Sizes). AreSlotWrites z c.in_ok-plan.plan.writes.items) (c.layout-layout.ensures.sizes ∙ ap (λ (s : State). s.sizes) (state_is c.self.view_is)) c.in_ok-plan.ensures.slots;
+  count = few c.in-Some-neighbour.next (length c.in_ok-plan.plan.writes.items) c.in_ok-plan.ensures.count;
+  deed_low = c.room_of-room.ensures.low;
+  deed_high = c.room_of-room.ensures.high;
+  reads = c.room_of-room.ensures.reads (subst IsDeedInRange (sym c.in_ok-plan.ensures.deed) (omega arith));
+  room_is = c.room_of-room.ensures.room;
+}
 
 pub returns-then-directory-clause-refused : goal.returns-then-directory-clause-refused
 returns-then-directory-clause-refused g c k wait =
