@@ -17,6 +17,7 @@ ghost use Rattle.rq_store.specs.State.{ledger_of};
 ghost use Rattle.rq_sound.specs.Sound.{IsSound};
 ghost use Rattle.rq_store.specs.Opening.{opened, next_restart, IsLeft};
 ghost use Rattle.rq_store.specs.Fitting.{AllFit, image_in};
+ghost use Rattle.rq_planner.specs.Answered.{KnowsCells};
 ghost use Rattle.rq_engine.specs.Crash.{AreFit};
 ghost use Rattle.rq_engine.specs.Opened.{pooled};
 ghost use Rattle.rq_links.specs.Links.{AreLinked};
@@ -195,6 +196,7 @@ fn reopen<P: PageDevice + Drop, L: LogDevice + Drop>(
         told.ends,
         report.incarnation,
         u64::from(cells),
+        told.planner,
     );
     Ok((engine, report))
 }
@@ -217,6 +219,7 @@ fn open<P: PageDevice + Drop, L: LogDevice + Drop>(
         ≡ count_used opened.pages.sizes (slots_in opened.pages.sizes opened.pages.images)) }
     ensures told { IfOk result (λ opened. AreTold opened.pages.sizes opened.pages.images
         (length opened.log.records) opened.told.waiting opened.told.sent) }
+    ensures known { IfOk result (λ opened. KnowsCells opened.pages.sizes opened.pages.images opened.told.planner) }
     ensures sound { IfOk result (λ o. (older : List Record) → IsReadAs L.LogDevice log o.log.device older
         → IsLeftOn P.PageDevice o.pages.sizes pages o.pages.device older
         → IsSound (opened o.pages.sizes o.pages.images (drop 1 o.log.records))) }
@@ -272,6 +275,7 @@ fn restart_log<P: PageDevice + Drop, L: LogDevice + Drop>(
         ≡ count_used opened.pages.sizes (slots_in opened.pages.sizes opened.pages.images)) }
     ensures told { IfOk result (λ opened. AreTold opened.pages.sizes opened.pages.images
         (length opened.log.records) opened.told.waiting opened.told.sent) }
+    ensures known { IfOk result (λ opened. KnowsCells opened.pages.sizes opened.pages.images opened.told.planner) }
     ensures sound { IfOk result (λ o. (older : List Record) → IsReadAs L.LogDevice log o.log.device older
         → IsLeft pages.sizes (image_in pages.images) older
         → IsSound (opened pages.sizes o.pages.images (drop 1 o.log.records))) }
@@ -347,6 +351,7 @@ fn go_on<P: PageDevice + Drop, L: LogDevice + Drop>(
         → IsSound (opened pages.old.sizes pages.new.images (drop 1 log.new.records))) }
     ensures told { IfOk result (λ begun. AreTold pages.new.sizes pages.new.images
         (length log.new.records) begun.0.waiting begun.0.sent) }
+    ensures known { IfOk result (λ begun. KnowsCells pages.new.sizes pages.new.images begun.0.planner) }
     ensures ready { IfOk result (λ begun. IsReady L.LogDevice begun.1.incarnation log.new) }
     // What is left of both devices.
     ensures pages { pages.new.device ≡ pages.old.device }
@@ -402,6 +407,7 @@ fn begin_next<P: PageDevice + Drop, L: LogDevice + Drop>(
         begun.1.records begun.1.unfinished begun.1.lost) }
     ensures told { IfOk result (λ begun. AreTold pages.new.sizes pages.new.images
         (length log.new.records) begun.0.waiting begun.0.sent) }
+    ensures known { IfOk result (λ begun. KnowsCells pages.new.sizes pages.new.images begun.0.planner) }
     ensures ready { IfOk result (λ begun. IsReady L.LogDevice begun.1.incarnation log.new) }
     // What is left of both devices.
     ensures sizes { pages.new.sizes ≡ pages.old.sizes }
