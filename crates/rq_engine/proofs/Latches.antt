@@ -1,6 +1,6 @@
 -- What is latched, exactly: whether a planned send or receive meets others' pages, and what that makes of the call.
 use Rattle.std.proofs.Common.{◌≡◌, ℕ, ◌/◌, ◌<◌, ◌||◌, List, [], ◌∷◌, length, reverse, refl, sym, ◌∙◌, ap, subst, Bool, true, false, nat_eq, Option, Some, None, Result, Ok, Err, inl, inr, arith, IsTrue}
-use Rattle.std.proofs.lemmas.Bool.{cases_Bool, false≢true, or_left, or_right, true≢false}
+use Rattle.std.proofs.lemmas.Bool.{cases_Bool, false≢true, or_left, true≢false}
 use Rattle.rq_model.specs.declared.message.Message.{Message}
 use Rattle.rq_model.specs.declared.record.Deed.{Deed}
 use Rattle.rq_model.specs.declared.record.Deed.TheVariants.{Append, UnlinkHead, Close}
@@ -14,12 +14,8 @@ use Rattle.rq_model.specs.Words.{last}
 use Rattle.rq_model.specs.History.Call.{Start_close, Start_send, Start_receive, Start_receive_from, Undo_next}
 use Rattle.rq_model.specs.History.Job.{Sending, Taking, Ending}
 use Rattle.rq_model.specs.Reference.{without_pages}
-use Rattle.rq_page.specs.declared.cell.Cell.{Cell}
-use Rattle.rq_page.specs.declared.directory.Directory.{Directory}
 use Rattle.rq_page.specs.Sizes.{cell_count, directory_at}
-use Rattle.rq_page.specs.Slots.Slot.{Used, Sender}
-use Rattle.rq_views.specs.Items.{layout_of}
-use Rattle.rq_views.specs.Plans.{Turn, unlink_head_writes}
+use Rattle.rq_views.specs.Plans.{Turn}
 use Rattle.rq_views.specs.Plans.Turn.{Did, Undid}
 use Rattle.rq_level.specs.declared.writes.SlotWrite.{SlotWrite}
 use Rattle.std.proofs.lemmas.List.{length-map, length-reverse}
@@ -28,19 +24,15 @@ use Rattle.rq_views.specs.Log.{Write}
 use Rattle.rq_level.specs.Writes.{write_of, writes_of}
 use Rattle.rq_txn.specs.declared.Finished.{Finished}
 use Rattle.rq_txn.specs.Rows.{Row, any_under, found_row, latched_in}
-use Rattle.rq_store.specs.Plans.{Stands_at, WaitsFor}
+use Rattle.rq_store.specs.Plans.{WaitsFor}
 use Rattle.rq_store.specs.State.{State, job_of}
 use Rattle.rq_sound.specs.Groups.{slots_now}
-use Rattle.rq_sound.specs.Latching.{Begins, IsLatched, NeedsLatched, any_latched, at_head, at_tail, before_tail, head_in, named, next_in}
-use Rattle.rq_sound.specs.Plans.{AreUnlatched}
+use Rattle.rq_sound.specs.Latching.{Begins, IsLatched, NeedsLatched, any_latched, at_head, at_tail, before_tail, named}
 use Rattle.rq_sound.specs.Sound.{IsSound}
 use Rattle.rq_sound.proofs.Contracts.{planned}
 use Rattle.rq_sound.proofs.Groups.{all_stand, none_latched}
 use Rattle.rq_sound.proofs.UsedCells.{some_free}
 use Rattle.rq_sound.proofs.Latching.{latched_exact}
-use Rattle.rq_sound.proofs.LatchLists.{any_join}
-use Rattle.rq_sound.proofs.Levels.{are_off, relinked_off}
-use Rattle.rq_inverses.proofs.Planned.{any_left, any_right, beside_off}
 use Rattle.rq_inverses.specs.Inverses.{MayBeUndone}
 use Rattle.rq_engine.specs.Applied.{LatchedReply, OnLatched, TakesUnlatched}
 use Rattle.rq_engine.specs.Aborts.{UndoIsLatched}
@@ -72,31 +64,6 @@ any_busy rows (a ∷ xs) h = elim (cases_Bool (latched_in rows (a / 16))) [
   | inl y ↦ latched_busy rows (a / 16) y
   | inr n ↦ any_busy rows xs (ap (λ b. b || any_latched rows xs) (sym n) ∙ h)
 ]
-
--- ---- receives
-
-pub take_directory : (s : State) (g : ℕ) → latched_in s.rows (directory_at g / 16) ≡ true → take_latched s g ≡ true
-take_directory s g h = or_left (latched_in s.rows (directory_at g / 16)) _ h
-
-module _ (s : State) (g : ℕ) (d : Directory) (at : slots_now s (directory_at g) ≡ Sender g d) where
-  pub take_head : any_latched s.rows (named d.head) ≡ true → take_latched s g ≡ true
-  take_head h = any_left s.rows (at_head (slots_now s) g) (named (next_in (slots_now s (head_in (slots_now s (directory_at g))))))
-      (or_right (latched_in s.rows (directory_at g / 16)) _ (ap (λ x. any_latched s.rows (named (head_in x))) at ∙ h))
-
-  pub take_next : (c : Cell) → slots_now s d.head ≡ Used c → any_latched s.rows (named c.next) ≡ true → take_latched s g ≡ true
-  take_next c here h = any_right s.rows (at_head (slots_now s) g) (named (next_in (slots_now s (head_in (slots_now s (directory_at g))))))
-      (ap (λ x. any_latched s.rows (named (next_in (slots_now s (head_in x))))) at ∙ ap (λ x. any_latched s.rows (named (next_in x))) here ∙ h)
-
--- what is planned from such slots is on nobody's pages, and needs none
-module _ (s : State) (g : ℕ) (d : Directory) (c : Cell) (next : Option Cell) (directory : latched_in s.rows (directory_at g / 16) ≡ false)
-    (head_is : slots_now s d.head ≡ Used c) (head : any_latched s.rows (named d.head) ≡ false) (beside : Stands_at (slots_now s) c.next next) (behind : any_latched s.rows (named c.next) ≡ false) where
-  pub take_off : (ws : List SlotWrite) → reverse (writes_of s.sizes ws) ≡ unlink_head_writes (layout_of s.sizes) g d c next → AreUnlatched s ws
-  take_off ws is = are_off s ws _ is (directory, relinked_off s c.next next _ _ (beside_off s c.next next beside behind) (beside_off s d.head (Some c) head_is head c refl, tt))
-
-  pub take_free : slots_now s (directory_at g) ≡ Sender g d → take_latched s g ≡ false
-  take_free at = any_join s.rows (at_head (slots_now s) g) (named (next_in (slots_now s (head_in (slots_now s (directory_at g))))))
-      (any_join s.rows (directory_at g ∷ []) (named (head_in (slots_now s (directory_at g)))) (ap (λ b. b || false) directory) (ap (λ x. any_latched s.rows (named (head_in x))) at ∙ head))
-      (ap (λ x. any_latched s.rows (named (next_in (slots_now s (head_in x))))) at ∙ ap (λ x. any_latched s.rows (named (next_in x))) head_is ∙ behind)
 
 -- ---- calls
 

@@ -1,14 +1,24 @@
 -- What the level plans, as the engine's starts have it.
-use Rattle.std.proofs.Common.{◌≡◌, ℕ, ◌+◌, ◌*◌, ◌/◌, ◌<◌, ◌≤◌, List, [], ◌∷◌, length, refl, sym, ◌∙◌, ap, subst, inl, inr, true, false, Option, Some, None, Result, Ok, Err, arith}
+use Rattle.std.proofs.Common.{◌≡◌, ℕ, ◌+◌, ◌*◌, ◌/◌, ◌%◌, ◌<◌, ◌≤◌, cond, nat_lt, List, [], ◌∷◌, length, refl, sym, ◌∙◌, ap, subst, inl, inr, true, false, Option, Some, None, Result, Ok, Err, arith}
 use Rattle.std.specs.Global.{Vec}
 use Rattle.std.specs.Option.{IfSome, IfNone}
 use Rattle.std.specs.Result.{IfOk}
-use Rattle.std.proofs.lemmas.Bool.{false_from_ne_true, or_cases, or_left, true≢false}
+use Rattle.std.proofs.lemmas.Bool.{cases_Bool, false_from_ne_true, ltb-true, or_cases, or_left, true≢false}
 use Rattle.rq_model.specs.declared.record.Deed.{Deed}
 use Rattle.rq_model.specs.declared.record.Deed.TheVariants.{Append, UnlinkHead, Close as Close_deed}
 use Rattle.rq_model.specs.Deeds.{deed_in, spelled_deed}
-use Rattle.rq_page.specs.Sizes.{Sizes, directory_at, sender_count}
-use Rattle.rq_page.specs.Slots.Slot.{Free, Used}
+use Rattle.rq_page.specs.declared.cell.Cell.{Cell}
+use Rattle.rq_page.specs.declared.cell.CellSlot.{CellSlot}
+use Rattle.rq_page.specs.declared.layout.PageKind.{PageKind}
+use Rattle.rq_page.specs.declared.layout.PageKind.TheVariants as kinds
+use Rattle.rq_page.specs.Cells.{cell_slot_in}
+use Rattle.rq_page.specs.Directories.{directory_in}
+use Rattle.rq_page.specs.Kinds.{kind_of}
+use Rattle.rq_page.specs.Sizes.{IsCellAddress, Sizes, directory_at, sender_count}
+use Rattle.rq_page.specs.Slots.{held_for, held_in, of_cell_slot}
+use Rattle.rq_page.specs.Slots.Slot.{Free, Sender, Used}
+use Rattle.rq_views.specs.Stored.{slot_at, slots_in}
+use Rattle.rq_views.proofs.Stands.{page_of_cells}
 use Rattle.rq_views.specs.Log.{Slots}
 use Rattle.rq_views.specs.Plans.{deed_sender, with_next, with_prev}
 use Rattle.rq_views.specs.Plans.Turn.{Did}
@@ -20,16 +30,16 @@ use Rattle.rq_level.specs.Writes.{AreSlotWrites}
 use Rattle.rq_chain.specs.declared.ChainPlan.{ChainPlan}
 use Rattle.rq_txn.specs.declared.Aim.TheVariants as aims
 use Rattle.rq_txn.specs.Rows.{latched_in}
-use Rattle.rq_store.specs.Plans.{IsSendPlan}
+use Rattle.rq_store.specs.Plans.{IsSendPlan, IsTakePlan}
 use Rattle.rq_store.specs.State.{State}
 use Rattle.rq_sound.specs.Groups.{slots_now}
-use Rattle.rq_sound.specs.Plans.{AreUnlatched, IsMarking, IsPlannedFrom, IsSend}
+use Rattle.rq_sound.specs.Plans.{AreUnlatched, IsMarking, IsPlannedFrom, IsReceive, IsSend}
 use Rattle.rq_planner.specs.Answered.{IsDeedFor, IsHeldUp, IsPlanOf, SendTakesLowest}
 use Rattle.rq_planner.specs.Asked.{Asked, asked_by, asked_in, doing_sender, to_do}
 use Rattle.rq_planner.specs.Asked.Asked.{Do}
 use Rattle.rq_engine.specs.Closes.{IsClosePlan, close_latched}
 use Rattle.rq_engine.specs.Plans.{IsDeedPlan, bare}
-use Rattle.rq_engine.specs.Sends.{under_plan}
+use Rattle.rq_engine.specs.Sends.{take_latched, under_plan}
 use Rattle.rq_engine.proofs.Latches.{one_write}
 use Rattle.rq_engine.proofs.Inverses.{of_writes, relinked_count}
 
@@ -159,6 +169,48 @@ module _ (s : State) (g n : ℕ) (plan : ChainPlan) (room : ℕ) (below : g < se
         }
     at (UnlinkHead x m t b) is same p = absurd same
     at (Close_deed x) is same p = absurd same
+
+-- what holds a message is a cell
+used_cell : (z : Sizes) (images : List (List ℕ)) (a : ℕ) (c : Cell) → slots_in z images a ≡ Used c → IsCellAddress z a
+used_cell z images a c e = elim (cases_Bool (nat_lt 0 (a % 16))) [
+  | inl y ↦ at y (kind_of z (a / 16)) refl (sym (ap (λ b. cond b (held_in z (a / 16) (slot_at images a)) Free) y) ∙ e)
+  | inr n ↦ let bad : Free ≡ Used c = sym (ap (λ b. cond b (held_in z (a / 16) (slot_at images a)) Free) n) ∙ e in absurd (cc)
+]
+  where
+    of_cell : (x : CellSlot) → of_cell_slot x ≡ Used c → (k : nat_lt 0 (a % 16) ≡ true) → kind_of z (a / 16) ≡ Some kinds.Cells → IsCellAddress z a
+    of_cell x e y k = let p = page_of_cells z (a / 16) k in record { above = p.0; below = p.1; slot = ltb-true 0 (a % 16) y }
+
+    at : nat_lt 0 (a % 16) ≡ true → (k : Option PageKind) → kind_of z (a / 16) ≡ k → held_for k (slot_at images a) ≡ Used c → IsCellAddress z a
+    at y None k e = absurd (let bad : Free ≡ Used c = e in cc)
+    at y (Some kinds.Superblock) k e = absurd (let bad : Free ≡ Used c = e in cc)
+    at y (Some kinds.Directory) k e = absurd (let bad : Sender (directory_in (slot_at images a)).sender (directory_in (slot_at images a)).directory ≡ Used c = e in cc)
+    at y (Some kinds.Cells) k e = of_cell (cell_slot_in (slot_at images a)) e y k
+
+pub take_plan : (s : State) (g n : ℕ) (plan : ChainPlan) (room : ℕ) → g < sender_count s.sizes → IsDeedPlan s (Receive g) plan room → IsTakePlan s.sizes (slots_now s) (under_plan n plan) g
+take_plan s g n plan room below h = at plan.deed refl h.asked h.planned where
+  at : (e : Deed) → plan.deed ≡ e → IsDeedFor (Receive g) e → IsPlannedFrom s.sizes (slots_now s) plan.writes.items (Did e) → IsTakePlan s.sizes (slots_now s) (under_plan n plan) g
+  at (UnlinkHead x m t b) is same p =
+      let e : UnlinkHead x m t b ≡ UnlinkHead g m t b = ap (λ i. UnlinkHead i m t b) same in
+      let q : IsReceive s.sizes (slots_now s) plan.writes.items g m t b = subst (λ (i : Deed). IsPlannedFrom s.sizes (slots_now s) plan.writes.items (Did i)) e p in
+      record {
+        directory = q.directory;
+        cell = q.cell;
+        next = q.next;
+        made = refl;
+        below = below;
+        directory_is = q.directory_is;
+        head = used_cell s.sizes s.images q.directory.head q.cell q.head_is;
+        head_is = q.head_is;
+        beside = q.beside;
+        aim = ap (λ (i : Deed). aims.Doing i) (is ∙ e ∙ ap (λ i. UnlinkHead g i t b) q.sequence ∙ ap (λ i. UnlinkHead g (q.directory.received + 1) i b) q.tag_is ∙ ap (λ i. UnlinkHead g (q.directory.received + 1) q.cell.tag i) q.body_is);
+        writes = q.writes;
+        reads = h.reads;
+      }
+  at (Append x m t previous b) is same p = absurd same
+  at (Close_deed x) is same p = absurd same
+
+pub take_free : (s : State) (g : ℕ) → (IsHeldUp (bare s) (Do (Receive g)) → ⊥) → take_latched s g ≡ false
+take_free s g h = false_from_ne_true (take_latched s g) h
 
 -- a close needs the page of its directory slot
 pub close_held : (s : State) (g : ℕ) → IsHeldUp (bare s) (Do (Close g)) → close_latched s g ≡ true
