@@ -2,6 +2,10 @@
 use Rattle.std.proofs.Common.{◌≡◌, ⊎_elim, ℕ, zero, suc, ◌+◌, ◌-◌, ◌*◌, ◌^◌, ◌≤◌, ◌<◌, Bool, false, true, not, nat_lt, cond, List, [], ◌∷◌, length, drop, replicate, Option, Some, None, refl, sym, ap, ◌∙◌, subst, inl, inr, arith}
 use Rattle.std.specs.List.{filter, slice_index, sum_by}
 use Rattle.std.proofs.lemmas.Bool.{cases_Bool, lt-ltb, ltb-true}
+use Rattle.rq_bytes.specs.Number.{AreBytes}
+use Rattle.rq_record.specs.Deeds.{IsDeed}
+use Rattle.rq_record.proofs.DeedParts.{deeds_are_told}
+use Rattle.rq_views.specs.WorkedItems as worked
 use Rattle.rq_model.specs.declared.record.Record.{Record}
 use Rattle.rq_model.specs.declared.refusal.Refusal.{Refusal}
 use Rattle.rq_model.specs.declared.refusal.Refusal.TheVariants as why
@@ -469,6 +473,13 @@ slots_are (suc zero) d low = record {
 }
 slots_are (suc (suc k)) d low = absurd (omega (arith, low))
 
+one_byte : AreBytes (104 ∷ [])
+one_byte zero = omega arith
+one_byte (suc i) = omega arith
+
+sends_deed : IsDeed (worked.sends 0)
+sends_deed = (omega arith, (omega arith, omega arith, omega arith, omega arith, (omega arith, one_byte)))
+
 one_row : (r : Row) → In r send_started.rows → IsRowKept sizes 1 1 4 r
 one_row r (inl e) = subst (λ (x : Row). IsRowKept sizes 1 1 4 x) (sym e) (record {
   mine = refl;
@@ -476,7 +487,7 @@ one_row r (inl e) = subst (λ (x : Row). IsRowKept sizes 1 1 4 x) (sym e) (recor
   high = omega arith;
   number = omega arith;
   done = λ f none. absurd none;
-  under = record { number = omega arith; made = omega arith; slots = slots_are; sender = omega arith; fits = (omega arith, omega arith) };
+  under = record { number = omega arith; made = omega arith; slots = slots_are; sender = omega arith; fits = (omega arith, omega arith, deeds_are_told (worked.sends 0) sends_deed) };
 })
 one_row r (inr none) = absurd none
 
