@@ -129,6 +129,26 @@ impl<L: LogDevice> LogReader<L> {
         // The device.
         ensures cause { OnOk result (L.faults self.new.device ≡ L.faults self.old.device) }
         ensures first { self.new.first ≡ self.old.first }
+        ensures reading { IsReading L.LogDevice self.new }
+        ensures count { length self.new.records < 2 ^ 64 }
+    {
+        let next = self.read_next();
+        self.shows_read();
+        next
+    }
+
+    // Reads the next record; what it says but what is so of each reader.
+    fn read_next(&mut self) -> Result<Option<Record>, Refusal>
+        // What is read then.
+        ensures some { IfOk result (λ next. IfSome next (λ r. self.new.records ≡ r ∷ self.old.records)) }
+        ensures none { IfOk result (λ next. IfNone next ((self.new.records ≡ self.old.records)
+            × (L.honest self.new.device → L.seen self.new.first ≡ spelled self.new.records))) }
+        // Why nothing was.
+        ensures same { OnErr result (self.new.records ≡ self.old.records) }
+        ensures err { IfErr result (λ e. StopsFor L.LogDevice e self.old.records self.old.device self.new.device) }
+        // The device.
+        ensures cause { OnOk result (L.faults self.new.device ≡ L.faults self.old.device) }
+        ensures first { self.new.first ≡ self.old.first }
     {
         self.stream.fill()?;
         self.stream.shows_at();

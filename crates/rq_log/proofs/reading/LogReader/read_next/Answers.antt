@@ -5,7 +5,7 @@ use Rattle.rq_record.specs.Decoding.{IsFront}
 use Rattle.rq_log.specs.Reading.{HasMost, IsDamagedBehind, KeepsRead}
 use Rattle.rq_log.proofs.Keeping.{damaged, filled, next_fits, taken}
 use Rattle.rq_log.proofs.Runs.{is_some}
-use Rattle.rq_log.proofs.reading.LogReader.next.Goals as goal
+use Rattle.rq_log.proofs.reading.LogReader.read_next.Goals as goal
 
 pub overflow_add-result : goal.overflow_add-result
 overflow_add-result g c =
