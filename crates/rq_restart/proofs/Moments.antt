@@ -7,7 +7,8 @@ use Rattle.rq_log.specs.Logged.{Logged, WasLeftOrGoesOn}
 use Rattle.rq_log.specs.Spelled.{spelled, AreSpelled, GoesOn}
 use Rattle.rq_log.proofs.Moments.{started, weaker, joined}
 use Rattle.rq_store.specs.Opening.{next_restart}
-use Rattle.rq_restart.specs.Restarting.{IsRead, IsBegunOn, WasLeftOrBegun, WasLeftOrForced, BeginsAtMost}
+use Rattle.rq_log.specs.Reading.{IsRead}
+use Rattle.rq_restart.specs.Restarting.{IsBegunOn, WasLeftOrBegun, WasLeftOrForced, BeginsAtMost}
 use Rattle.rq_disk.specs.Device.{Images}
 use Rattle.rq_page.specs.Sizes.{Sizes}
 use Rattle.rq_store.specs.Opening.{IsLeft}
@@ -21,7 +22,7 @@ module _ {L : Type 0} (g : Ghosts L) (only_now : (d : L) (c : List ℕ) → g.le
   untouched d Q = started g d (λ c. g.may_leave d c ⊎ Q c) (λ c left. inl (only_now d c left))
 
   pub still : (d : L) → IsRead g d d
-  still d = record { same = refl; leaves = λ c left. left; moments = started g d (g.may_leave d) (only_now d) }
+  still d = record { same = refl; honest = λ h. h; leaves = λ c left. left; moments = started g d (g.may_leave d) (only_now d) }
 
 -- records are forced behind what was read
 pub forced_behind : {L : Type 0} (g : Ghosts L) (old new : L) (log : Logged L) (kept : ℕ) (records : List Record) → log.device ≡ old → log.records ≡ records → log.forced ≡ kept → AreSpelled records → LeavesOnly g log.device new (WasLeftOrGoesOn g log) → LeavesOnly g old new (WasLeftOrForced g old records kept)
