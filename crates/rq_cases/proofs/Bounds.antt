@@ -23,7 +23,7 @@ use Rattle.rq_model.proofs.Lists.{same_self}
 use Rattle.rq_disk.specs.Device.{Images}
 use Rattle.rq_disk.specs.declared.mem_log.MemLog.{MemLog}
 use Rattle.rq_disk.specs.declared.mem_pages.MemPages.{MemPages}
-use Rattle.rq_log.specs.Scanned.{StopsFor}
+use Rattle.rq_log.specs.Reading.{StopsFor}
 use Rattle.rq_log.specs.Spelled.{AreSpelled}
 use Rattle.rq_page.specs.Sizes.{Sizes}
 use Rattle.rq_level.specs.Writes.{AreSlotWrites}
@@ -59,7 +59,7 @@ use Rattle.rq_engine.proofs.Standing.{close_steps}
 use Rattle.rq_undone.specs.Analysis.{analysis}
 use Rattle.rq_undone.proofs.Undos.{nothing_undone, undoing_none}
 use Rattle.rq_restart.specs.Checked.{IsEnded, IsGoneThrough}
-use Rattle.rq_restart.specs.Refused.{IsFirstFault}
+use Rattle.rq_restart.specs.Refused.{IsBadNext}
 use Rattle.rq_links.specs.Links.{AreLinked}
 use Rattle.rq_links.proofs.Sound.{sound_linked}
 use Rattle.rq_restart.specs.Repeating.{Paged, Repeats, slots_on}
@@ -436,10 +436,7 @@ module _ (n : ℕ) (pages : MemPages) (log : MemLog) (h : Hold pages formatted_p
       )
 
   fits_restart : (z : Sizes) (first : Paged) (new : MemLog) → n < 2 ^ 50 → LogStops mem_log z first why.LogFull log new → ⊥
-  fits_restart z first new low (inl l) = at l.4 where
-    at : IsFirstFault z l.0 first l.2 why.LogFull → ⊥
-    at (inl f) = subst (λ (r : Refusal). StopsFor mem_log r l.0 log new) (sym f.0) l.3
-    at (inr f) = f.1
+  fits_restart z first new low (inl l) = ⊎_elim (λ s. s) (λ b. (let e = b.told in cc e)) l.why
   fits_restart z first new low (inr r) =
       let same : restarts n ≡ r.0 = one_log (restarts n) r.0 (are_spelled n (omega (arith, low))) r.1 (sym (log_seen log (restarts n) h.1) ∙ r.2 tt) in
       let e = length_is n in

@@ -143,9 +143,9 @@ least_more z records w ws low high false e (Some q) is = (is.0, is.1, (λ a. is.
 least_more z records w ws low high true e None is = (low, high, (λ a. (let le = a.0 refl in let lt = ltb-true records w.number e in omega (arith, le, lt))), (λ r lt. ((λ same. absurd (omega (arith, lt, same))), is r)))
 least_more z records w ws low high true e (Some q) is = elim (cases_lt w.page q) [
   | inl less ↦ subst (λ m. IsLeast z records (w ∷ ws) (Some m)) (let m : w.page ≡ min w.page q = omega (arith, less) in m)
-    (low, high, (λ a. (let le = a.0 refl in let lt = ltb-true records w.number e in omega (arith, le, lt))), (λ r lt. ((λ same. absurd (omega (arith, lt, same))), is.3 r (omega (arith, lt, less)))))
+      (low, high, (λ a. (let le = a.0 refl in let lt = ltb-true records w.number e in omega (arith, le, lt))), (λ r lt. ((λ same. absurd (omega (arith, lt, same))), is.3 r (omega (arith, lt, less)))))
   | inr more ↦ subst (λ m. IsLeast z records (w ∷ ws) (Some m)) (let m : q ≡ min w.page q = omega (arith, more) in m)
-    (is.0, is.1, (λ a. is.2 a.1), (λ r lt. ((λ same. absurd (omega (arith, lt, same, more))), is.3 r lt)))
+      (is.0, is.1, (λ a. is.2 a.1), (λ r lt. ((λ same. absurd (omega (arith, lt, same, more))), is.3 r lt)))
 ]
 
 pub least_is : (z : Sizes) (records : ℕ) (numbers : List WrittenOver) → AreOfPages z numbers → IsLeast z records numbers (least_beyond records numbers)

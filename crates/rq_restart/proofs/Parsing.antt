@@ -111,10 +111,10 @@ pub stopped_shut : {L : Type 0} (g : Ghosts L) (z : Sizes) (older : List Record)
 stopped_shut g z older first old new e r s = elim s.why [
   | inl stops ↦ by e stops
   | inr bad ↦ subst (λ x. MayBeShut (IsLeft z first.image older) z older x (g.faults old) (g.faults new)) (sym bad.told) (λ left.
-    let begins = bad.begins r.honest in
-    let f = are_first older (bad.newest ∷ s.front) begins.0 r.are_spelled (bad.is_record, s.are_spelled) (sym r.reads ∙ begins.1) in
-    let one : length (bad.newest ∷ s.front) ≡ length s.front + 1 = omega arith in
-    bad.bad (left_belongs z older s.front bad.newest first s.mid (ap (λ n. oldest n older) (sym one) ∙ f.0) (omega (arith, f.1, one)) left s.repeated))
+      let begins = bad.begins r.honest in
+      let f = are_first older (bad.newest ∷ s.front) begins.0 r.are_spelled (bad.is_record, s.are_spelled) (sym r.reads ∙ begins.1) in
+      let one : length (bad.newest ∷ s.front) ≡ length s.front + 1 = omega arith in
+      bad.bad (left_belongs z older s.front bad.newest first s.mid (ap (λ n. oldest n older) (sym one) ∙ f.0) (omega (arith, f.1, one)) left s.repeated))
 ] where
   by : (x : Refusal) → StopsFor g x s.front old new → MayBeShut (IsLeft z first.image older) z older x (g.faults old) (g.faults new)
   by why.NoMemory h = h

@@ -97,7 +97,11 @@ impl Overwritten {
         while left > 0 {
             left -= 1;
             let over = self.numbers[left];
-            let page = if over.number > records { Some(over.page) } else { None };
+            let page = if over.number > records {
+                Some(over.page)
+            } else {
+                None
+            };
             first = lesser_page(page, first);
         }
         first

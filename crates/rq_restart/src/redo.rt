@@ -77,7 +77,10 @@ pub(crate) fn check_numbers<P: PageDevice + Drop>(
         → AreKept pages.now.sizes records first (paged pages.now) overwritten.now.numbers.items
         → NamesFirst pages.now.sizes records first e) }
 {
-    match lesser_page(miscounted_page(pages, records), overwritten.first_beyond(records)) {
+    match lesser_page(
+        miscounted_page(pages, records),
+        overwritten.first_beyond(records),
+    ) {
         Some(page) => Err(Refusal::Damaged(Damage::Page(page))),
         None => Ok(()),
     }
@@ -212,10 +215,16 @@ fn make<P: PageDevice + Drop>(pages: &mut Pages<P>, lsn: Lsn, record: &Record)
 {
     match record {
         Record::PageOp {
-            page, slot, after, ..
+            page,
+            slot,
+            after,
+            ..
         } => redo(pages, lsn, *page, *slot, after),
         Record::PageUndo {
-            page, slot, after, ..
+            page,
+            slot,
+            after,
+            ..
         } => redo(pages, lsn, *page, *slot, after),
         _ => {}
     }
@@ -247,13 +256,7 @@ fn is_over<P: PageDevice + Drop>(
 }
 
 // Writes the slot, if the page is older. It is one that the store has.
-fn redo<P: PageDevice + Drop>(
-    pages: &mut Pages<P>,
-    lsn: Lsn,
-    page: u32,
-    slot: u8,
-    after: &Slot,
-)
+fn redo<P: PageDevice + Drop>(pages: &mut Pages<P>, lsn: Lsn, page: u32, slot: u8, after: &Slot)
     requires { IsSlotOf pages.old.sizes page slot after.now }
     ensures redone { IsRedone (record { page = page; slot = slot; after = after.now }) lsn (image_in pages.old.images)
         (image_in pages.new.images) }

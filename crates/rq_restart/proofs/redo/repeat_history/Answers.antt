@@ -22,8 +22,8 @@ loop-gone-preserved g c =
     let made = c.in-Ok.ensures in
     let one : IsRepeated z front r (paged c.loop-gone.pages) (paged c.repeat_next.new.pages) = subst (λ (y : Sizes). IsRepeated y front r (paged c.loop-gone.pages) (paged c.repeat_next.new.pages)) so_far.sizes (made.repeated front place so_far.found) in
     let kept : AreKept z c.last.result (paged c.args.pages.now) (paged c.repeat_next.new.pages) c.repeat_next.new.gone.overwritten.numbers.items =
-        subst (λ (y : Sizes). AreKept y c.last.result (paged c.args.pages.now) (paged c.repeat_next.new.pages) c.repeat_next.new.gone.overwritten.numbers.items) so_far.sizes
-        (made.kept (paged c.args.pages.now) (length front) place (subst (λ (y : Sizes). AreKept y (length front) (paged c.args.pages.now) (paged c.loop-gone.pages) c.loop-gone.gone.overwritten.numbers.items) (sym so_far.sizes) so_far.kept)) in
+    subst (λ (y : Sizes). AreKept y c.last.result (paged c.args.pages.now) (paged c.repeat_next.new.pages) c.repeat_next.new.gone.overwritten.numbers.items) so_far.sizes
+    (made.kept (paged c.args.pages.now) (length front) place (subst (λ (y : Sizes). AreKept y (length front) (paged c.args.pages.now) (paged c.loop-gone.pages) c.loop-gone.gone.overwritten.numbers.items) (sym so_far.sizes) so_far.kept)) in
     record {
       found = subst (AreFindings c.repeat_next.new.gone.findings) (sym grown) (made.found front place so_far.found);
       repeated = subst (λ (l : List Record). Repeats z l (paged c.args.pages.now) (paged c.repeat_next.new.pages)) (sym grown) (paged c.loop-gone.pages, so_far.repeated, one);
@@ -47,7 +47,7 @@ returns-in-Err-clause-stopped g c =
     let place : c.last.result ≡ length front + 1 = c.last.ensures ∙ size in
     let now = c.next.ensures.reading in
     let first = c.next.new.self.first in
-    let begins = λ h. subst (λ (rs : List Record). BeginsWith rs (l.seen first)) grown (now.begins h) in
+    let begins : l.honest c.next.new.self.device → BeginsWith (r ∷ front) (l.seen first) = λ h. subst (λ (rs : List Record). BeginsWith rs (l.seen first)) grown (now.begins h) in
     let counted : l.faults c.next.new.self.device ≡ l.faults first = c.in_ok-record.ensures.cause ∙ so_far.counted ∙ ap l.faults (sym (c.next.ensures.first ∙ so_far.first)) in
     let not : NotRepeated z front r (paged c.loop-gone.pages) c.in-Err.refusal = subst (λ (y : Sizes). NotRepeated y front r (paged c.loop-gone.pages) c.in-Err.refusal) so_far.sizes (c.in-Err.ensures.not front place so_far.found) in
     stopped_next l z (paged c.args.pages.now) first c.next.new.self.device front r (paged c.loop-gone.pages) c.in-Err.refusal (subst AreSpelled grown now.are_spelled) begins so_far.repeated now.read counted not

@@ -28,11 +28,14 @@ returns-in-Ok-begin_next-clause-checked g c = λ first before k.
     let all = c.in-Ok-begin_next.ensures.repeated in (
       all.mended,
       record {
-        gone_through = (paged c.args.pages.now, record {
-          repeated = before;
-          counted_read = subst (λ m. AreCounted z m first) n (c.in-Ok.ensures.read first (subst (λ m. AreKept z m first (paged c.args.pages.now) c.args.gone.now.overwritten.numbers.items) (sym n) k));
-          counted = subst (λ m. AreCounted z m (paged c.args.pages.now)) n c.in-Ok.ensures.counted;
-        });
+        gone_through = (
+          paged c.args.pages.now,
+          record {
+            repeated = before;
+            counted_read = subst (λ m. AreCounted z m first) n (c.in-Ok.ensures.read first (subst (λ m. AreKept z m first (paged c.args.pages.now) c.args.gone.now.overwritten.numbers.items) (sym n) k));
+            counted = subst (λ m. AreCounted z m (paged c.args.pages.now)) n c.in-Ok.ensures.counted;
+          },
+        );
         mends = all.mends;
         repeated = all.repeated first before;
         linked = all.linked;

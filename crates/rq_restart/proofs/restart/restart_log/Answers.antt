@@ -7,6 +7,7 @@ use Rattle.rq_store.specs.Opening.{opened, IsLeft}
 use Rattle.rq_store.specs.Fitting.{image_in}
 use Rattle.rq_restart.specs.Restarting.{BeginsAtMost, IsBegun, Reports, WasLeftOrBegun}
 use Rattle.rq_log.specs.Reading.{IsRead}
+use Rattle.rq_log.specs.Spelled.{spelled, AreSpelled}
 use Rattle.rq_restart.specs.Refused.{MayBeShut, WhyShut}
 use Rattle.rq_restart.specs.Repeating.{Repeats, paged}
 use Rattle.rq_restart.specs.Overwritten.{AreKept}
@@ -80,7 +81,8 @@ returns-in-Ok-go_on-clause-any_moment g c =
     let z = c.args.pages.sizes in
     let image = image_in c.args.pages.images in
     let log = c.in-Ok.log in
-    let moment = λ h are reads. subst (λ (y : Sizes). LeavesOnly g.L.LogDevice log.device c.go_on.new.log.device (WasLeftOrBegun g.L.LogDevice y (IsLeft y image log.records) log.device log.records)) sizes (c.go_on.ensures.any_moment first repeated h are reads) in
+    let moment : g.L.LogDevice.honest c.go_on.new.log.device → AreSpelled log.records → g.L.LogDevice.seen log.device ≡ spelled log.records
+    → LeavesOnly g.L.LogDevice log.device c.go_on.new.log.device (WasLeftOrBegun g.L.LogDevice z (IsLeft z image log.records) log.device log.records) = λ h are reads. subst (λ (y : Sizes). LeavesOnly g.L.LogDevice log.device c.go_on.new.log.device (WasLeftOrBegun g.L.LogDevice y (IsLeft y image log.records) log.device log.records)) sizes (c.go_on.ensures.any_moment first repeated h are reads) in
     read_first g.L.LogDevice z image c.args.log log.device c.go_on.new.log.device log.records c.go_on.ensures.honest read.whole read.spelled read.read.same read.read.leaves read.read.moments moment
 
 pub returns-in-Ok-clause-any_moment_back : goal.returns-in-Ok-clause-any_moment_back
@@ -94,7 +96,8 @@ returns-in-Ok-clause-any_moment_back g c =
     let z = c.args.pages.sizes in
     let image = image_in c.args.pages.images in
     let log = c.in-Ok.log in
-    let moment = λ h are reads. subst (λ (y : Sizes). LeavesOnly g.L.LogDevice log.device c.go_on.new.log.device (WasLeftOrBegun g.L.LogDevice y (IsLeft y image log.records) log.device log.records)) sizes (c.go_on.ensures.any_moment first repeated h are reads) in
+    let moment : g.L.LogDevice.honest c.go_on.new.log.device → AreSpelled log.records → g.L.LogDevice.seen log.device ≡ spelled log.records
+    → LeavesOnly g.L.LogDevice log.device c.go_on.new.log.device (WasLeftOrBegun g.L.LogDevice z (IsLeft z image log.records) log.device log.records) = λ h are reads. subst (λ (y : Sizes). LeavesOnly g.L.LogDevice log.device c.go_on.new.log.device (WasLeftOrBegun g.L.LogDevice y (IsLeft y image log.records) log.device log.records)) sizes (c.go_on.ensures.any_moment first repeated h are reads) in
     subst (λ new. BeginsAtMost g.L.LogDevice z image c.args.log new) (sym c.give_back-in-Err-go_on.ensures)
     (read_first g.L.LogDevice z image c.args.log log.device c.go_on.new.log.device log.records c.go_on.ensures.honest read.whole read.spelled read.read.same read.read.leaves read.read.moments moment)
 
