@@ -20,7 +20,7 @@ use Rattle.rq_store.specs.Fitting.{image_in}
 use Rattle.rq_store.specs.Steps.{page_op}
 use Rattle.rq_engine.specs.Answers.{Refuses}
 use Rattle.rq_restart.specs.Refused.{BeginsNot, MayBeShut}
-use Rattle.rq_restart.specs.Repeating.{Paged}
+use Rattle.rq_restart.specs.Repeating.{Paged, Repeats}
 use Rattle.rq_restart.specs.Restarting.{BeginsAtMost, IsBegun, IsReady, IsRefusedFor, LogStops, WasChecked}
 use Rattle.rq_restart.specs.Underway.{IsLeftOrGoesOn, OfStores}
 use Rattle.rq_core.specs.Devices.{mem_log, mem_pages}

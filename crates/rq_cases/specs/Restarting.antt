@@ -5,6 +5,7 @@ use Rattle.rq_model.specs.declared.refusal.Refusal.{Refusal}
 use Rattle.rq_model.specs.declared.record.Record.TheVariants.{Commit, Restart}
 use Rattle.rq_model.specs.declared.refusal.Damage.{Damage}
 use Rattle.rq_model.specs.declared.refusal.Refusal.TheVariants as why
+use Rattle.rq_model.specs.declared.refusal.Damage.TheVariants as damage
 use Rattle.rq_disk.specs.declared.mem_log.MemLog.{MemLog}
 use Rattle.rq_disk.specs.declared.mem_pages.MemPages.{MemPages}
 use Rattle.rq_log.specs.Spelled.{spelled}
@@ -13,10 +14,9 @@ use Rattle.rq_store.specs.Fitting.{image_in}
 use Rattle.rq_store.specs.Opening.{IsLeft}
 use Rattle.rq_store.specs.Steps.{page_op}
 use Rattle.rq_restart.specs.Repeating.{IsFirstUncounted, Paged}
-use Rattle.rq_restart.specs.Refused.{NotRepeated}
 use Rattle.rq_restart.specs.Restarting.{IsBegunOn, IsLeftOn, IsReadAs, Reports, Stops}
 use Rattle.rq_restart.specs.Mended.{IsUnlinked}
-use Rattle.rq_restart.specs.Refused.{WhyShut}
+use Rattle.rq_restart.specs.Refused.{NotRepeated, WhyShut}
 use Rattle.rq_restart.specs.Checked.{IsEnded, IsGoneThrough, as_read}
 use Rattle.rq_core.specs.Devices.{mem_log, mem_pages}
 use Rattle.rq_cases.specs.Opened.{AreNewPages, IsNewLog}
