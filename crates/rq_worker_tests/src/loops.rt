@@ -2,20 +2,22 @@
 ghost use Rattle.std.specs.Prelude.{◌≡◌};
 ghost use Rattle.rq_shared.specs.Entries.{WasSound};
 
-use crate::stores::{KeepStamps, begun, called, committed, send_of, small_engine};
+use crate::stores::{
+    KeepStamps, begun, called, calls_made, committed, is_sent, small_engine, small_steps,
+    start_of_send,
+};
 use rq_disk::{LogDevice, MemLog, MemPages, PageDevice};
 use rq_engine::engine::Engine;
 use rq_engine::event::{Event, Outcome, Reply};
 use rq_model::refusal::Refusal;
 use rq_model::txn::Txn;
-use rq_shared::kept::Kept;
 use rq_shared::mark::{Mark, MarkPass};
 use rq_shared::shared::Shared;
 use rq_shared::sharing::Sharing;
 use rq_workers::acts::Ended;
 use rq_workers::gate::{BEFORE_AGAIN, BEFORE_FORCE, Gate};
-use rq_workers::kept::KeptSteps;
 use rq_workers::shared::SharedSteps;
+use rq_workers::steps::Steps;
 use rq_workers::trail::Trail;
 use rq_workers::worker::Worker;
 use std::alloc::Global;
@@ -57,18 +59,45 @@ impl Gate for Often<'_> {
     }
 }
 
-// What comes of a send while another transaction's is under way, where the gate lets it be tried again so often; and the
-// calls made, with the two begins and the other's start.
+// The functions that follow, and those of `stores`, promise nothing, and most know of no store: so a test of many calls is
+// checked fast.
+
+// What comes of the operation that this call starts, behind a gate.
+fn run_by<S: Steps, R: Wait>(rt: &R, gate: Often<'_>, steps: S, start: &Event) -> (Ended, S) {
+    let mut worker = Worker::new(gate, steps);
+    let ended = worker.run(rt, start);
+    (ended, worker.into_steps())
+}
+
+// The same, where the gate says no everywhere; and whether the worker goes on.
+fn run_stopped<S: Steps + Drop, R: Wait>(rt: &R, steps: S, start: &Event) -> (Ended, bool) {
+    let left = AtomicU64::new(0);
+    let mut worker = Worker::new(lets_through(BEFORE_AGAIN, &left), steps);
+    let ended = worker.run(rt, start);
+    (ended, worker.goes_on())
+}
+
+// Starts a send of another transaction, and leaves it under way.
+fn send_under_way<S: Steps>(alloc: Global, steps: &mut S, sender: u32) -> Option<()> {
+    let (_, start) = start_of_send(alloc, steps, sender, b'y')?;
+    drop(called(steps, start));
+    Some(())
+}
+
+// The start of a send while another transaction's is under way.
+fn start_beside<S: Steps>(alloc: Global, steps: &mut S) -> Option<Event> {
+    send_under_way(alloc, steps, 0)?;
+    let (_, start) = start_of_send(alloc, steps, 1, b'x')?;
+    Some(start)
+}
+
+// What comes of that, where the gate lets it be tried again so often; and the calls made, with the two begins and the
+// other's start.
 fn send_beside<R: Wait>(rt: &R, alloc: Global, left: &AtomicU64) -> Option<(Ended, usize)> {
-    let mut steps = KeptSteps::new(Kept::new(alloc, small_engine(alloc).ok()?), 1);
-    let first = begun(&mut steps)?;
-    let second = begun(&mut steps)?;
-    let other = send_of(alloc, first, 0, b'x').ok()?;
-    drop(called(&mut steps, other));
-    let start = send_of(alloc, second, 1, b'x').ok()?;
-    let mut worker = Worker::new(lets_through(BEFORE_AGAIN, left), steps);
-    let ended = worker.run(rt, &start);
-    Some((ended, worker.into_steps().into_kept().entries().len()))
+    let mut steps = small_steps(alloc).ok()?;
+    let start = start_beside(alloc, &mut steps)?;
+    let (ended, steps) = run_by(rt, lets_through(BEFORE_AGAIN, left), steps, &start);
+    Some((ended, calls_made(steps)))
 }
 
 #[test]
@@ -86,12 +115,9 @@ fn a_latched_start_is_tried_again(rt: HostRuntime) -> Result<(), Fail> {
 
 // What comes of a send where the gate says no everywhere, and whether the worker goes on.
 fn send_stopped<R: Wait>(rt: &R, alloc: Global) -> Option<(Ended, bool)> {
-    let mut steps = KeptSteps::new(Kept::new(alloc, small_engine(alloc).ok()?), 1);
-    let txn = begun(&mut steps)?;
-    let start = send_of(alloc, txn, 1, b'x').ok()?;
-    let left = AtomicU64::new(0);
-    let mut worker = Worker::new(lets_through(BEFORE_AGAIN, &left), steps);
-    Some((worker.run(rt, &start), worker.goes_on()))
+    let mut steps = small_steps(alloc).ok()?;
+    let (_, start) = start_of_send(alloc, &mut steps, 1, b'x')?;
+    Some(run_stopped(rt, steps, &start))
 }
 
 #[test]
@@ -105,44 +131,41 @@ fn a_started_operation_is_gone_through(rt: HostRuntime) -> Result<(), Fail> {
     Ok(())
 }
 
-// A transaction that sent a message and aborts, of a store under its audit: seven calls were made, and two more where
-// another one's send is under way.
-fn aborting<R: Wait>(
+// Turns a transaction round. Another's send is under way then, where that is wanted.
+fn turned<S: Steps>(alloc: Global, steps: &mut S, txn: Txn, is_beside: bool) -> Option<()> {
+    if is_beside {
+        send_under_way(alloc, steps, 2)?;
+    }
+    drop(called(steps, Event::StartAbort(txn)));
+    Some(())
+}
+
+// A transaction that sent a message and aborts: seven calls were made, and two more where another one's send is under way.
+fn aborting<S: Steps + Drop, R: Wait>(
     rt: &R,
     alloc: Global,
+    steps: S,
     is_beside: bool,
-) -> Option<(Txn, KeptSteps<MemPages, MemLog>)> {
-    let mut steps = KeptSteps::new(Kept::new(alloc, small_engine(alloc).ok()?), 1);
-    let txn = begun(&mut steps)?;
-    let start = send_of(alloc, txn, 1, b'x').ok()?;
+) -> Option<(Txn, S)> {
+    let mut steps = steps;
+    let (txn, start) = start_of_send(alloc, &mut steps, 1, b'x')?;
     let left = AtomicU64::new(0);
-    let mut worker = Worker::new(lets_through(BEFORE_AGAIN, &left), steps);
-    if worker.run(rt, &start) != Ended::Finished(Outcome::Sent) {
+    let (ended, mut steps) = run_by(rt, lets_through(BEFORE_AGAIN, &left), steps, &start);
+    if !is_sent(&ended) {
         return None;
     }
-    let mut steps = worker.into_steps();
-    if is_beside {
-        let second = begun(&mut steps)?;
-        let other = send_of(alloc, second, 2, b'y').ok()?;
-        drop(called(&mut steps, other));
-    }
-    drop(called(&mut steps, Event::StartAbort(txn)));
+    turned(alloc, &mut steps, txn, is_beside)?;
     Some((txn, steps))
 }
 
 // What comes of undoing its send, and of undoing again; and the calls made.
 fn undone_twice<R: Wait>(rt: &R, alloc: Global) -> Option<(Ended, Ended, usize)> {
-    let (txn, steps) = aborting(rt, alloc, false)?;
+    let (txn, steps) = aborting(rt, alloc, small_steps(alloc).ok()?, false)?;
     let left = AtomicU64::new(0);
-    let mut worker = Worker::new(lets_through(BEFORE_AGAIN, &left), steps);
     let undo = Event::UndoNext(txn);
-    let first = worker.run(rt, &undo);
-    let second = worker.run(rt, &undo);
-    Some((
-        first,
-        second,
-        worker.into_steps().into_kept().entries().len(),
-    ))
+    let (first, steps) = run_by(rt, lets_through(BEFORE_AGAIN, &left), steps, &undo);
+    let (second, steps) = run_by(rt, lets_through(BEFORE_AGAIN, &left), steps, &undo);
+    Some((first, second, calls_made(steps)))
 }
 
 // An inverse is gone through as any operation is: its start, two steps, a third that says that all are made, its finish.
@@ -159,10 +182,14 @@ fn an_inverse_is_gone_through(rt: HostRuntime) -> Result<(), Fail> {
 // What comes of undoing its send while another's is under way, where the gate lets it be tried again so often; and the
 // calls made.
 fn undone_beside<R: Wait>(rt: &R, alloc: Global, left: &AtomicU64) -> Option<(Ended, usize)> {
-    let (txn, steps) = aborting(rt, alloc, true)?;
-    let mut worker = Worker::new(lets_through(BEFORE_AGAIN, left), steps);
-    let ended = worker.run(rt, &Event::UndoNext(txn));
-    Some((ended, worker.into_steps().into_kept().entries().len()))
+    let (txn, steps) = aborting(rt, alloc, small_steps(alloc).ok()?, true)?;
+    let (ended, steps) = run_by(
+        rt,
+        lets_through(BEFORE_AGAIN, left),
+        steps,
+        &Event::UndoNext(txn),
+    );
+    Some((ended, calls_made(steps)))
 }
 
 #[test]
@@ -233,11 +260,10 @@ fn a_log_writer_leaves_the_mark_at_its_lsn(rt: HostRuntime) -> Result<(), Fail> 
 
 // What comes of a force that the runner is asked for, and how many calls were made.
 fn run_of_a_force<R: Wait>(rt: &R, alloc: Global) -> Option<(Ended, usize)> {
-    let steps = KeptSteps::new(Kept::new(alloc, small_engine(alloc).ok()?), 1);
     let left = AtomicU64::new(9);
-    let mut worker = Worker::new(lets_through(BEFORE_FORCE, &left), steps);
-    let ended = worker.run(rt, &Event::Force);
-    Some((ended, worker.into_steps().into_kept().entries().len()))
+    let gate = lets_through(BEFORE_FORCE, &left);
+    let (ended, steps) = run_by(rt, gate, small_steps(alloc).ok()?, &Event::Force);
+    Some((ended, calls_made(steps)))
 }
 
 #[test]

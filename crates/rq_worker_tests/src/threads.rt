@@ -3,20 +3,21 @@ ghost use Rattle.std.specs.Prelude.{◌≡◌};
 ghost use Rattle.rq_shared.specs.Entries.{WasSound};
 
 use crate::stores::{
-    KeepStamps, begun, committed, has_sent, opened, receipt, send_of, wide_engine,
+    KeepStamps, committed, has_sent, is_sent, opened, receipt, start_of_send, wide_engine,
 };
 use rq_disk::{LogDevice, MemLog, MemPages, PageChoice, PageDevice};
 use rq_engine::engine::Engine;
-use rq_engine::event::{CommitNo, Event, Outcome, Receipt};
+use rq_engine::event::{CommitNo, Event, Receipt};
+use rq_model::txn::Txn;
 use rq_shared::kept::{AuditEntry, Stamped};
 use rq_shared::mark::{Mark, MarkPass};
 use rq_shared::room::Pass;
 use rq_shared::shared::{Closed, Front, Shared};
 use rq_shared::sharing::Sharing;
 use rq_shared::tied::tied;
-use rq_workers::acts::Ended;
 use rq_workers::gate::{BETWEEN_STEPS, Gate};
 use rq_workers::shared::SharedSteps;
+use rq_workers::steps::Steps;
 use rq_workers::trail::Trail;
 use rq_workers::worker::Worker;
 use std::alloc::{AllocError, Global};
@@ -97,6 +98,22 @@ fn comes(word: &AtomicU64) -> bool {
 /// What a thread gives back: its pass, its stamps, and its commit.
 type Worked<G> = (Pass<G>, Vec<Stamped>, CommitNo);
 
+// Carries out a send, behind a gate, and commits: whether it was sent with no turn that the gate refused, and the commit.
+fn run_and_commit<H: Gate + Drop, S: Steps, R: Wait>(
+    rt: &R,
+    gate: H,
+    steps: S,
+    txn: Txn,
+    start: &Event,
+) -> (bool, Option<CommitNo>, S) {
+    let mut worker = Worker::new(gate, steps);
+    let ended = worker.run(rt, start);
+    let goes_on = worker.goes_on();
+    let mut steps = worker.into_steps();
+    let number = committed(&mut steps, txn);
+    (is_sent(&ended) && goes_on, number, steps)
+}
+
 // Sends x for sender 0, and is held behind the first step of its send until the other thread has committed.
 fn work_first<P: PageDevice + Drop, L: LogDevice + Drop, G: Sharing, R: Wait>(
     rt: &R,
@@ -110,22 +127,14 @@ fn work_first<P: PageDevice + Drop, L: LogDevice + Drop, G: Sharing, R: Wait>(
     let Own { pass, seat } = own;
     let stamps = KeepStamps::new(alloc);
     let mut steps = SharedSteps::new(rt, front, pass, &common.mark, seat, stamps);
-    let txn = begun(&mut steps)?;
-    let start = send_of(alloc, txn, 0, b'x').ok()?;
+    let (txn, start) = start_of_send(alloc, &mut steps, 0, b'x')?;
     let gate = HeldBetween {
         common,
         answers: Trail::empty(),
     };
-    let mut worker = Worker::new(gate, steps);
-    let sent = worker.run(rt, &start) == Ended::Finished(Outcome::Sent) && worker.goes_on();
-    let mut steps = worker.into_steps();
-    let number = committed(&mut steps, txn)?;
+    let (is_done, number, steps) = run_and_commit(rt, gate, steps, txn, &start);
     let (pass, _, kept) = steps.into_parts();
-    if sent {
-        Some((pass, kept.stamps, number))
-    } else {
-        None
-    }
+    worked(pass, kept.stamps, number, is_done)
 }
 
 // Sends y for sender 15 and commits, while the other thread is held within its send.
@@ -141,22 +150,27 @@ fn work_second<P: PageDevice + Drop, L: LogDevice + Drop, G: Sharing, R: Wait>(
     let Own { pass, seat } = own;
     let stamps = KeepStamps::new(alloc);
     let mut steps = SharedSteps::new(rt, front, pass, &common.mark, seat, stamps);
-    let txn = begun(&mut steps)?;
+    let (txn, start) = start_of_send(alloc, &mut steps, 15, b'y')?;
     let turn = comes(&common.first_is_held);
-    let start = send_of(alloc, txn, 15, b'y').ok()?;
     let gate = Open {
         answers: Trail::empty(),
     };
-    let mut worker = Worker::new(gate, steps);
-    let sent = worker.run(rt, &start) == Ended::Finished(Outcome::Sent);
-    let mut steps = worker.into_steps();
-    let number = committed(&mut steps, txn)?;
+    let (is_done, number, steps) = run_and_commit(rt, gate, steps, txn, &start);
     common.second_has_committed.store(1, Ordering::SeqCst);
     let (pass, _, kept) = steps.into_parts();
-    if sent && turn {
-        Some((pass, kept.stamps, number))
-    } else {
-        None
+    worked(pass, kept.stamps, number, is_done && turn)
+}
+
+// What a thread gives back, where it did its work.
+fn worked<G: Sharing>(
+    pass: Pass<G>,
+    stamps: Vec<Stamped>,
+    number: Option<CommitNo>,
+    is_done: bool,
+) -> Option<Worked<G>> {
+    match number {
+        Some(number) if is_done => Some((pass, stamps, number)),
+        _ => None,
     }
 }
 
