@@ -3,8 +3,10 @@ use rq_engine::event::{Event, Reply};
 use rq_model::txn::Txn;
 use rq_workers::gate::{BEFORE_AGAIN, Gate};
 use rq_workers::steps::Steps;
+use rq_workers::trail::Trail;
 use rq_workers::worker::Worker;
 use std::alloc::{AllocError, Global};
+use std::snapshot::Snapshot;
 use std::sync::Wait;
 use std::thread;
 
@@ -16,15 +18,18 @@ const ROUNDS_A_BATCH: u32 = 64;
 
 /// Lets its thread through, and others run before a call is tried again.
 #[derive(Drop)]
-struct Polite;
+struct Polite {
+    answers: Snapshot<Trail<(u32, bool)>>,
+}
 
 impl Gate for Polite {
-    ghost says = { λ gate point passed. Unit {0} };
+    ghost answers = { λ gate. gate.answers.value };
 
-    fn pass(&self, point: u32) -> bool {
+    fn pass(&mut self, point: u32) -> bool {
         if point == BEFORE_AGAIN {
             thread::yield_now();
         }
+        Trail::note(&mut self.answers, &(point, true));
         true
     }
 }
@@ -74,7 +79,10 @@ fn send_of(alloc: Global, txn: Txn, sender: u32) -> Result<Event, AllocError> {
 
 // Goes through the operation of a transaction, and commits.
 fn committed<S: Steps + Drop, R: Wait>(rt: &R, steps: S, txn: Txn, start: &Event) -> S {
-    let mut worker = Worker::new(Polite, steps);
+    let gate = Polite {
+        answers: Trail::empty(),
+    };
+    let mut worker = Worker::new(gate, steps);
     let _ = worker.run(rt, start);
     let mut steps = worker.into_steps();
     let stamped = steps.call(Event::Commit(txn));

@@ -1,0 +1,117 @@
+-- How a session is carried on, call by call.
+use Rattle.std.proofs.Common.{◌≡◌, Bool, List, [], ◌∷◌, ◌++◌, refl, sym, ap, ◌∙◌, subst, inl, inr}
+use Rattle.std.specs.Prelude.{Option, Some, None}
+use Rattle.rq_engine.specs.Says.{call_of, gave}
+use Rattle.rq_engine.specs.declared.event.Event.{Event}
+use Rattle.rq_shared.specs.declared.kept.Stamped.{Stamped}
+use Rattle.rq_session.specs.declared.calls.Action.{Action}
+use Rattle.rq_session.specs.declared.calls.Action.TheVariants.{Do, Again, Await, Answer, End}
+use Rattle.rq_session.specs.declared.calls.Ask.{Ask}
+use Rattle.rq_session.specs.declared.calls.Told.{Told}
+use Rattle.rq_session.specs.declared.session.Session.{Session}
+use Rattle.rq_session.specs.declared.stage.Stage.{Stage}
+use Rattle.rq_session.specs.Rules.{after_told}
+use Rattle.rq_session.specs.Stages.{own}
+use Rattle.rq_session.specs.Laws.{IsOwn, NamesOwn}
+use Rattle.rq_session.proofs.EachTurn.{each_reply}
+use Rattle.rq_serving.specs.Words.{asked, told_by, IsOwnCall}
+use Rattle.rq_serving.specs.Carried.{IsAsked, IsCome, IsTold, IsCall, IsTurn, Turns, IsStray, IsGoing, IsCarried, AreOwn, CallsAreOwn}
+use Rattle.rq_serving.specs.declared.serving.Came.{Came}
+use Rattle.rq_serving.specs.declared.serving.Came.TheVariants as came
+use Rattle.rq_serving.proofs.Owning.{own_calls}
+
+turn : (m : Session) (a : Action) (ask : Ask) (s : Stamped) (e : Event) (o : Option Told) (next : Action) (after : Session)
+    → IsAsked a ask → s.event ≡ e → call_of e ≡ asked ask → told_by (gave s.reply) ≡ o → IsTold m o (Some next) after
+    → IsTurn m.lost m.stage a s after.stage next
+turn m a ask s e (Some told) next after i is calls says t = record {
+  ask = ask;
+  asks = i;
+  event = ap call_of is ∙ calls;
+  told = told;
+  says = says;
+  stage = t.2;
+  action = t.0;
+}
+turn m a ask s e None next after i is calls says t = absurd t
+
+still_lost : (m : Session) (o : Option Told) (next : Option Action) (after : Session) → IsTold m o next after
+    → after.lost ≡ m.lost
+still_lost m (Some told) (Some next) after t = t.1
+still_lost m (Some told) None after t = absurd t
+still_lost m None (Some next) after t = absurd t
+still_lost m None None after t = ap (λ (s : Session). s.lost) t
+
+told_nothing : (m : Session) (o : Option Told) (after : Session) → IsTold m o None after → o ≡ None
+told_nothing m (Some told) after t = absurd t
+told_nothing m None after t = refl
+
+module _ {S : Type 0} (made_by handed_to : S → List Stamped) where
+  pub begins : (s : S) (b : Session) (first : Action) → IsGoing made_by handed_to s s b first b first
+  begins s b first = record { stamps = []; made = refl; handed = refl; lost = refl; turns = (refl, refl) }
+
+  -- the step interface and the session are the same
+  pub stays : (old mid new : S) (b : Session) (first : Action) (m after : Session) (a : Action)
+      → IsGoing made_by handed_to old mid b first m a → new ≡ mid → after ≡ m
+      → IsGoing made_by handed_to old new b first after a
+  stays old mid new b first m after a g same is =
+      subst (λ (s : S). IsGoing made_by handed_to old s b first after a) (sym same)
+      (subst (λ (s : Session). IsGoing made_by handed_to old mid b first s a) (sym is) g)
+
+  pub one_more : (old mid new : S) (b : Session) (first : Action) (m after : Session) (a next : Action) (ask : Ask) (e : Event)
+      → IsGoing made_by handed_to old mid b first m a → IsAsked a ask → call_of e ≡ asked ask
+      → IsCall made_by handed_to mid new e m (Some next) after → IsGoing made_by handed_to old new b first after next
+  one_more old mid new b first m after a next ask e g i calls c = record {
+    stamps = c.stamp ∷ g.stamps;
+    made = c.made ∙ ap (λ l. c.stamp ∷ l) g.made;
+    handed = c.handed ∙ ap (λ l. c.stamp ∷ l) g.handed;
+    lost = still_lost m (told_by (gave c.stamp.reply)) (Some next) after c.tells ∙ g.lost;
+    turns =
+        let t = turn m a ask c.stamp e (told_by (gave c.stamp.reply)) next after i c.event calls refl c.tells in
+        (m.stage, a, g.turns, subst (λ l. IsTurn l m.stage a c.stamp after.stage next) g.lost t);
+  }
+
+  pub comes : (old new : S) (b : Session) (first : Action) (after : Session) (next : Action) (c : Came)
+      → IsGoing made_by handed_to old new b first after next → IsCome next c
+      → IsCarried made_by handed_to old new b first after c
+  comes old new b first after next c g i = record {
+    stamps = g.stamps;
+    made = g.made;
+    handed = g.handed;
+    lost = g.lost;
+    goes = inl (next, g.turns, i);
+  }
+
+  pub strays : (old mid new : S) (b : Session) (first : Action) (m after : Session) (a : Action) (ask : Ask) (e : Event)
+      → IsGoing made_by handed_to old mid b first m a → IsAsked a ask → call_of e ≡ asked ask
+      → IsCall made_by handed_to mid new e m None after → IsCarried made_by handed_to old new b first after came.Ended
+  strays old mid new b first m after a ask e g i calls c = record {
+    stamps = c.stamp ∷ g.stamps;
+    made = c.made ∙ ap (λ l. c.stamp ∷ l) g.made;
+    handed = c.handed ∙ ap (λ l. c.stamp ∷ l) g.handed;
+    lost = still_lost m (told_by (gave c.stamp.reply)) None after c.tells ∙ g.lost;
+    goes = inr (m.stage, a, g.turns, ask, i, ap call_of c.event ∙ calls, told_nothing m (told_by (gave c.stamp.reply)) after c.tells, refl);
+  }
+
+-- a call that is asked for where the transaction is this one
+its_own : (s : Stage) (a : Action) (ask : Ask) → NamesOwn s a → IsAsked a ask → IsOwn (own s) ask
+its_own s (Do asks) ask n i = subst (IsOwn (own s)) i n
+its_own s (Again asks) ask n i = subst (IsOwn (own s)) i n
+its_own s (Await commit) ask n i = absurd i
+its_own s (Answer answer) ask n i = absurd i
+its_own s End ask n i = absurd i
+
+named : (lost : Bool) (from : Stage) (first : Action) (stamps : List Stamped) (to : Stage) (next : Action)
+    → NamesOwn from first → Turns lost from first stamps to next → NamesOwn to next
+named lost from first [] to next n t =
+    subst (λ s. NamesOwn s next) (sym t.0) (subst (NamesOwn from) (sym t.1) n)
+named lost from first (s ∷ older) to next n t =
+    subst (λ z. NamesOwn z next) (sym t.3.stage)
+    (subst (NamesOwn (after_told lost t.0 t.3.told).stage) (sym t.3.action) (each_reply lost t.0 t.3.told).own_call)
+
+pub calls_are_own : CallsAreOwn
+calls_are_own lost from first [] to next n t = tt
+calls_are_own lost from first (s ∷ older) to next n t =
+    let here = its_own t.0 t.1 t.3.ask (named lost from first older t.0 t.1 n t.2) t.3.asks in (
+      subst (IsOwnCall (own t.0)) (sym t.3.event) (own_calls (own t.0) t.3.ask here),
+      calls_are_own lost from first older t.0 t.1 n t.2,
+    )

@@ -1,0 +1,29 @@
+use Rattle.std.proofs.Common.{◌≡◌, subst}
+use Rattle.std.specs.Prelude.{Option, Some, None}
+use Rattle.rq_session.specs.declared.calls.Action.{Action}
+use Rattle.rq_serving.specs.Carried.{IsCall}
+use Rattle.rq_serving.proofs.Carrying.{begins, stays, one_more, comes, strays}
+use Rattle.rq_serving.proofs.serving.Serving.carried.Goals as goal
+
+pub loop-init : goal.loop-init
+loop-init g c = begins g.S.Steps.made g.S.Steps.told c.args.self.now.steps c.args.self.now.session c.args.first
+
+pub returns-in-Err : goal.returns-in-Err
+returns-in-Err g c =
+    let same = c.asked.ensures.same in
+    comes g.S.Steps.made g.S.Steps.told _ _ _ _ _ _ _
+    (stays g.S.Steps.made g.S.Steps.told _ _ _ _ _ _ _ _ c.loop.invariant same.0 same.1) c.in-Err.ensures.came
+
+pub returns-in-None-called : goal.returns-in-None-called
+returns-in-None-called g c =
+    let same = c.asked.ensures.same in
+    let called = subst (λ (o : Option Action). IsCall g.S.Steps.made g.S.Steps.told c.asked.new.self.steps c.called.new.self.steps c.event_of.result c.asked.new.self.session o c.called.new.self.session) c.in-None-called.is c.called.ensures in
+    strays g.S.Steps.made g.S.Steps.told _ _ _ _ _ _ _ _ c.in-Ok.ask c.event_of.result
+    (stays g.S.Steps.made g.S.Steps.told _ _ _ _ _ _ _ _ c.loop.invariant same.0 same.1) c.in-Ok.ensures.asks c.event_of.ensures called
+
+pub loop-preserved : goal.loop-preserved
+loop-preserved g c =
+    let same = c.asked.ensures.same in
+    let called = subst (λ (o : Option Action). IsCall g.S.Steps.made g.S.Steps.told c.asked.new.self.steps c.called.new.self.steps c.event_of.result c.asked.new.self.session o c.called.new.self.session) c.in-Some-called.is c.called.ensures in
+    one_more g.S.Steps.made g.S.Steps.told _ _ _ _ _ _ _ _ _ c.in-Ok.ask c.event_of.result
+    (stays g.S.Steps.made g.S.Steps.told _ _ _ _ _ _ _ _ c.loop.invariant same.0 same.1) c.in-Ok.ensures.asks c.event_of.ensures called
