@@ -8,7 +8,7 @@ mod store;
 mod tally;
 mod threads;
 
-use crate::rounds::{SENDERS, batch};
+use crate::rounds::{CALLERS, batch, sender_of};
 use crate::store::small_engine;
 use crate::tally::Tally;
 use crate::threads::share;
@@ -63,12 +63,12 @@ fn words<R: AllocGlobal + Env>(rt: &R) -> io::Result<(u32, u32)> {
     Ok((threads, batches))
 }
 
-// All calls through a kept engine, one sender after the other.
+// All calls through a kept engine, one caller after the other.
 fn by_one<R: Wait>(rt: &R, alloc: Global, batches: u32) -> Option<Tally> {
     let mut steps = KeptSteps::new(Kept::new(alloc, small_engine(alloc)?), 1);
     let mut tally = Tally::none();
-    for sender in 0..SENDERS {
-        let (after, of_sender) = batches_of(rt, alloc, steps, sender, batches)?;
+    for caller in 0..CALLERS {
+        let (after, of_sender) = batches_of(rt, alloc, steps, sender_of(caller), batches)?;
         steps = after;
         tally = tally.and(of_sender);
     }

@@ -1,6 +1,7 @@
 //! The calls that are made, through any step interface.
 use rq_engine::event::{Event, Reply};
 use rq_model::txn::Txn;
+use rq_page::layout::SLOTS;
 use rq_workers::gate::{BEFORE_AGAIN, Gate};
 use rq_workers::steps::Steps;
 use rq_workers::trail::Trail;
@@ -10,8 +11,8 @@ use std::snapshot::Snapshot;
 use std::sync::Wait;
 use std::thread;
 
-/// How many senders there are.
-pub const SENDERS: u32 = 4;
+/// How many callers there are.
+pub const CALLERS: u32 = 4;
 
 /// How many rounds a sender goes through before the audit is taken.
 const ROUNDS_A_BATCH: u32 = 64;
@@ -32,6 +33,11 @@ impl Gate for Polite {
         Trail::note(&mut self.answers, &(point, true));
         true
     }
+}
+
+/// The sender for which a caller calls: each has a directory page of its own.
+pub fn sender_of(caller: u32) -> u32 {
+    SLOTS.wrapping_mul(caller)
 }
 
 /// So many rounds for a sender that the audit is to be taken.

@@ -2,7 +2,7 @@
 ghost use Rattle.std.specs.Prelude.{◌≡◌, IfSome};
 ghost use Rattle.rq_shared.specs.Entries.{WasSound};
 
-use crate::rounds::batch;
+use crate::rounds::{batch, sender_of};
 use crate::tally::Tally;
 use rq_disk::{LogDevice, PageDevice};
 use rq_engine::engine::Engine;
@@ -137,12 +137,12 @@ pub fn share<
     let mut shared = Shared::<P, L, G>::new(alloc, engine, blank, taking);
     let (mark, mut seat) = Mark::new(alloc).ok()?;
     let first = Pair {
-        one: own_of(&mut shared, &mark, &mut seat, 0)?,
-        other: own_of(&mut shared, &mark, &mut seat, 1)?,
+        one: own_of(&mut shared, &mark, &mut seat, sender_of(0))?,
+        other: own_of(&mut shared, &mark, &mut seat, sender_of(1))?,
     };
     let second = Pair {
-        one: own_of(&mut shared, &mark, &mut seat, 2)?,
-        other: own_of(&mut shared, &mark, &mut seat, 3)?,
+        one: own_of(&mut shared, &mark, &mut seat, sender_of(2))?,
+        other: own_of(&mut shared, &mark, &mut seat, sender_of(3))?,
     };
     let common = Common { mark, batches };
     let ((a, b), (c, d)) = four(rt, alloc, shared.front(), first, second, &common);

@@ -1,21 +1,25 @@
 -- How a session is carried on, call by call.
-use Rattle.std.proofs.Common.{◌≡◌, Bool, List, [], ◌∷◌, ◌++◌, refl, sym, ap, ◌∙◌, subst, inl, inr}
+use Rattle.std.proofs.Common.{◌≡◌, Bool, true, false, cond, List, [], ◌∷◌, ◌++◌, refl, sym, ap, ◌∙◌, subst, inl, inr}
 use Rattle.std.specs.Prelude.{Option, Some, None}
-use Rattle.rq_engine.specs.Says.{call_of, gave}
+use Rattle.rq_engine.specs.Says.{call_of, commit_number, gave}
+use Rattle.rq_engine.specs.declared.event.CommitNo.{CommitNo}
 use Rattle.rq_engine.specs.declared.event.Event.{Event}
 use Rattle.rq_shared.specs.declared.kept.Stamped.{Stamped}
 use Rattle.rq_session.specs.declared.calls.Action.{Action}
 use Rattle.rq_session.specs.declared.calls.Action.TheVariants.{Do, Again, Await, Answer, End}
 use Rattle.rq_session.specs.declared.calls.Ask.{Ask}
+use Rattle.rq_session.specs.declared.calls.Commit.{Commit}
 use Rattle.rq_session.specs.declared.calls.Told.{Told}
+use Rattle.rq_session.specs.declared.calls.Told.TheVariants as told
 use Rattle.rq_session.specs.declared.session.Session.{Session}
 use Rattle.rq_session.specs.declared.stage.Stage.{Stage}
-use Rattle.rq_session.specs.Rules.{after_told}
-use Rattle.rq_session.specs.Stages.{own}
-use Rattle.rq_session.specs.Laws.{IsOwn, NamesOwn}
+use Rattle.rq_session.specs.declared.stage.Stage.TheVariants as stages
+use Rattle.rq_session.specs.Rules.{after_told, ended, is_commit_of, next as next_at}
+use Rattle.rq_session.specs.Stages.{own, txn_held}
+use Rattle.rq_session.specs.Laws.{AwaitsOwn, IsOwn, NamesOwn, awaited}
 use Rattle.rq_session.proofs.EachTurn.{each_reply}
-use Rattle.rq_serving.specs.Words.{asked, told_by, IsOwnCall}
-use Rattle.rq_serving.specs.Carried.{IsAsked, IsCome, IsTold, IsCall, IsTurn, Turns, IsStray, IsGoing, IsCarried, AreOwn, CallsAreOwn}
+use Rattle.rq_serving.specs.Words.{asked, commit_told, told_by, IsOwnCall}
+use Rattle.rq_serving.specs.Carried.{IsAsked, IsCome, IsTold, IsCall, IsTurn, Turns, IsStray, IsGoing, IsCarried, AreOwn, AskedIsOwn, AwaitsNumber, CallsAreOwn}
 use Rattle.rq_serving.specs.declared.serving.Came.{Came}
 use Rattle.rq_serving.specs.declared.serving.Came.TheVariants as came
 use Rattle.rq_serving.proofs.Owning.{own_calls}
@@ -108,10 +112,47 @@ named lost from first (s ∷ older) to next n t =
     subst (λ z. NamesOwn z next) (sym t.3.stage)
     (subst (NamesOwn (after_told lost t.0 t.3.told).stage) (sym t.3.action) (each_reply lost t.0 t.3.told).own_call)
 
-pub calls_are_own : CallsAreOwn
-calls_are_own lost from first [] to next n t = tt
-calls_are_own lost from first (s ∷ older) to next n t =
-    let here = its_own t.0 t.1 t.3.ask (named lost from first older t.0 t.1 n t.2) t.3.asks in (
-      subst (IsOwnCall (own t.0)) (sym t.3.event) (own_calls (own t.0) t.3.ask here),
-      calls_are_own lost from first older t.0 t.1 n t.2,
+pub asked_is_own : AskedIsOwn
+asked_is_own s a ask n i = own_calls (own s) ask (its_own s a ask n i)
+
+own_turns : (lost : Bool) (from : Stage) (first : Action) (stamps : List Stamped) (to : Stage) (next : Action)
+    → NamesOwn from first → (t : Turns lost from first stamps to next) → AreOwn lost from first stamps to next t
+own_turns lost from first [] to next n t = tt
+own_turns lost from first (s ∷ older) to next n t =
+    let here = asked_is_own t.0 t.1 t.3.ask (named lost from first older t.0 t.1 n t.2) t.3.asks in (
+      subst (IsOwnCall (own t.0)) (sym t.3.event) here,
+      own_turns lost from first older t.0 t.1 n t.2,
     )
+
+pub calls_are_own : CallsAreOwn
+calls_are_own lost from first stamps to next n t =
+    (own_turns lost from first stamps to next n t, named lost from first stamps to next n t)
+
+-- ---- its own commit
+
+kept : (s : Stage) (what : Told) (o : Option Commit) (number : Option CommitNo) → AwaitsOwn s what o
+    → ((c : Commit) → what ≡ told.Committed c → ⊥) → AwaitsNumber (awaited s) number → AwaitsNumber o number
+kept s what None number a n k = tt
+kept (stages.Commit h) (told.Committed now) (Some commit) number a n k = absurd (n now refl)
+kept (stages.Commit h) what (Some commit) number a n k = absurd a
+kept (stages.Await before) what (Some commit) number a n k =
+    subst (λ (c : Commit). AwaitsNumber (Some c) number) (sym a) k
+kept s what (Some commit) number a n k = absurd a
+
+-- what is told is no commit: what was kept is still that of what is awaited
+pub keeps_number : (lost : Bool) (s : Stage) (what : Told) (number : Option CommitNo)
+    → ((c : Commit) → what ≡ told.Committed c → ⊥) → AwaitsNumber (awaited s) number
+    → AwaitsNumber (awaited (after_told lost s what).stage) number
+keeps_number lost s what number n k =
+    kept s what (awaited (after_told lost s what).stage) number (each_reply lost s what).own_commit n k
+
+mine : (n : CommitNo) (b : Bool)
+    → AwaitsNumber (awaited (cond b (next_at (Await (commit_told (commit_number n))) (stages.Await (commit_told (commit_number n)))) ended).stage) (Some n)
+mine n true = refl
+mine n false = tt
+
+-- a commit is told, and its number kept
+pub takes_number : (lost : Bool) (s : Stage) (n : CommitNo)
+    → AwaitsNumber (awaited (after_told lost s (told.Committed (commit_told (commit_number n)))).stage) (Some n)
+takes_number lost (stages.Commit h) n = mine n (is_commit_of (txn_held h) (commit_told (commit_number n)))
+takes_number lost s n = tt

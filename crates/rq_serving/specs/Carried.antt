@@ -1,22 +1,24 @@
 -- How a session goes on: the calls that are made for it, and what comes of them.
-use Rattle.std.specs.Prelude.{◌≡◌, ◌⊎◌, Bool, true, Option, Some, None, List, [], ◌∷◌, ◌++◌}
-use Rattle.rq_engine.specs.Says.{call_of, gave}
+use Rattle.std.specs.Prelude.{◌≡◌, ◌⊎◌, Bool, true, false, Option, Some, None, List, [], ◌∷◌, ◌++◌}
+use Rattle.rq_engine.specs.Says.{call_of, commit_number, gave}
 use Rattle.rq_engine.specs.declared.event.CommitNo.{CommitNo}
 use Rattle.rq_engine.specs.declared.event.Event.{Event}
-use Rattle.rq_engine.specs.declared.event.Event.TheVariants.{Acknowledged}
+use Rattle.rq_engine.specs.declared.event.Event.TheVariants.{Acknowledged, Force}
 use Rattle.rq_shared.specs.declared.kept.Stamped.{Stamped}
 use Rattle.rq_session.specs.declared.calls.Action.{Action}
 use Rattle.rq_session.specs.declared.calls.Action.TheVariants.{Do, Again, Await, Answer, End}
 use Rattle.rq_session.specs.declared.calls.Ask.{Ask}
+use Rattle.rq_session.specs.declared.calls.Ask.TheVariants as asks
+use Rattle.rq_session.specs.declared.calls.Commit.{Commit as Commit_told}
 use Rattle.rq_session.specs.declared.calls.Told.{Told}
 use Rattle.rq_session.specs.declared.session.Session.{Session}
 use Rattle.rq_session.specs.declared.stage.Stage.{Stage}
 use Rattle.rq_session.specs.Rules.{after_told, after_loss, taken, call_in, answer_in}
 use Rattle.rq_session.specs.Stages.{own}
-use Rattle.rq_session.specs.Laws.{NamesOwn}
+use Rattle.rq_session.specs.Laws.{NamesOwn, awaited}
 use Rattle.rq_wire.specs.declared.answers.Answer.{Answer as Answered_with}
 use Rattle.rq_wire.specs.declared.request.Request.{Request}
-use Rattle.rq_serving.specs.Words.{asked, told_by, IsOwnCall}
+use Rattle.rq_serving.specs.Words.{asked, commit_told, told_by, IsOwnCall}
 use Rattle.rq_serving.specs.declared.serving.Came.{Came}
 use Rattle.rq_serving.specs.declared.serving.Came.TheVariants as came
 
@@ -31,10 +33,16 @@ abbrev pub came_with : Option Answered_with → Came
 came_with (Some answer) = came.Answered answer
 came_with None = came.Ended
 
--- what comes where no call is to be made, or none more
+-- the call is one of an operation under way
+abbrev pub under_way : Ask → Bool
+under_way (asks.Step sub) = true
+under_way (asks.Finish sub) = true
+under_way _ = false
+
+-- what comes where no call is to be made, or none more: an operation under way is gone through
 abbrev pub IsCome : Action → Came → Type 0
 IsCome (Do ask) c = ⊥
-IsCome (Again ask) c = c ≡ came.Ended
+IsCome (Again ask) c = (under_way ask ≡ false) × (c ≡ came.Ended)
 IsCome (Await commit) c = c ≡ came.Waits commit.lsn
 IsCome (Answer answer) c = c ≡ came.Answered answer
 IsCome End c = c ≡ came.Ended
@@ -131,6 +139,26 @@ pub record IsAskedFor {S : Type 0} (made_by handed_to : S → List Stamped) (old
   pub asks : IsCall made_by handed_to old mid (Acknowledged number) before next told
   pub goes : CarriesOn made_by handed_to mid new told next after c
 
+-- a force was made, and its stamp handed on
+pub record IsForce {S : Type 0} (made_by forced_by handed_to : S → List Stamped) (old new : S) : Type 0 where
+  pub stamp : Stamped
+  pub event : stamp.event ≡ Force
+  pub made : made_by new ≡ stamp ∷ made_by old
+  pub forced : forced_by new ≡ stamp ∷ forced_by old
+  pub handed : handed_to new ≡ stamp ∷ handed_to old
+
+-- ---- its own commit
+
+-- the commit that is awaited, where there is one, is that of this number
+abbrev pub AwaitsNumber : Option Commit_told → Option CommitNo → Type 0
+AwaitsNumber None number = Unit {0}
+AwaitsNumber (Some commit) None = ⊥
+AwaitsNumber (Some commit) (Some number) = commit_told (commit_number number) ≡ commit
+
+-- where the number that is kept was that of the commit awaited, it still is
+abbrev pub KeepsNumber : Session → Option CommitNo → Session → Option CommitNo → Type 0
+KeepsNumber old was new now = AwaitsNumber (awaited old.stage) was → AwaitsNumber (awaited new.stage) now
+
 -- ---- its own transaction
 
 -- each of these calls was for the transaction that the session had then
@@ -140,8 +168,14 @@ AreOwn lost from first [] to next t = Unit {0}
 AreOwn lost from first (s ∷ older) to next t =
     IsOwnCall (own t.0) (call_of s.event) × AreOwn lost from first older t.0 t.1 t.2
 
--- what is called for a session names no transaction but its own, and a begin comes only where it has none
+-- what is called for a session names no transaction but its own, and a begin comes only where it has none; so does what
+-- is to be done next, and where that is to wait, it is for the commit that the session awaits
 abbrev pub CallsAreOwn : Type 0
 CallsAreOwn =
     (lost : Bool) (from : Stage) (first : Action) (stamps : List Stamped) (to : Stage) (next : Action)
-    → NamesOwn from first → (t : Turns lost from first stamps to next) → AreOwn lost from first stamps to next t
+    → NamesOwn from first → (t : Turns lost from first stamps to next)
+    → AreOwn lost from first stamps to next t × NamesOwn to next
+
+-- a call that is to be made is one for the transaction that the session has then
+abbrev pub AskedIsOwn : Type 0
+AskedIsOwn = (s : Stage) (a : Action) (ask : Ask) → NamesOwn s a → IsAsked a ask → IsOwnCall (own s) (asked ask)

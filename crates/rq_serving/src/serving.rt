@@ -1,8 +1,9 @@
 //! A session that is served: its calls are made through a step interface, and a gate is asked where others may go on.
-ghost use Rattle.std.specs.Prelude.{◌≡◌, IfOk, IfErr, IfSome, None, false};
+ghost use Rattle.std.specs.Prelude.{◌≡◌, IfOk, IfErr, IfSome, IfNone, None, false};
 ghost use Rattle.rq_session.specs.declared.stage.Held.TheVariants.{Free};
 ghost use Rattle.rq_session.specs.declared.stage.Stage.TheVariants.{Rest};
-ghost use Rattle.rq_serving.specs.Carried.{CarriesOn, IsAsked, IsAskedFor, IsCall, IsCarried, IsCome, IsLost, IsServed};
+ghost use Rattle.rq_session.specs.Laws.{awaited};
+ghost use Rattle.rq_serving.specs.Carried.{CarriesOn, IsAsked, IsAskedFor, IsCall, IsCarried, IsCome, IsForce, IsLost, IsServed, KeepsNumber, under_way};
 
 use crate::words::{event_of, told_of};
 use rq_engine::event::{CommitNo, Event, Reply};
@@ -21,7 +22,8 @@ pub enum Came {
     Answered(Answer),
     /// The commit with this LSN waits for its receipt, and with it the request for its answer.
     Waits(Lsn),
-    /// The session has ended, or the gate said no before a call that starts nothing under way.
+    /// The session has ended, or the gate said no before a call is made again that is none of an operation under way; or
+    /// there was nothing to be done: a request came while a commit waits, or a receipt was asked for where none does.
     Ended,
 }
 
@@ -52,7 +54,8 @@ impl<G: Gate, S: Steps> Serving<G, S> {
     /// Carries a request out: makes the calls that the session asks for, one after the other, until there is an answer,
     /// or a commit waits for its receipt, or the session ends.
     pub fn request<R: Wait>(&mut self, rt: &R, request: Request) -> Came
-        ensures { IsServed S.made S.told self.old.steps self.new.steps self.old.session request self.new.session result }
+        ensures served { IsServed S.made S.told self.old.steps self.new.steps self.old.session request self.new.session result }
+        ensures number { KeepsNumber self.old.session self.old.number self.new.session self.new.number }
     {
         if let Some(ask) = self.session.input(request) {
             return self.carried(rt, Action::Do(ask));
@@ -63,11 +66,18 @@ impl<G: Gate, S: Steps> Serving<G, S> {
         }
     }
 
-    /// Asks whether the commit that waits is durable. The caller waits before it asks again.
+    /// Asks whether the commit that waits is durable. The caller waits before it asks again. Where none waits there is
+    /// nothing to ask.
     pub fn ask_receipt<R: Wait>(&mut self, rt: &R) -> Came
-        ensures some { IfSome self.old.number (λ number. IsAskedFor S.made S.told self.old.steps self.new.steps number
-            self.old.session self.new.session result) }
+        ensures some { IfSome (awaited self.old.session.stage) (λ commit. IfSome self.old.number (λ number. IsAskedFor
+            S.made S.told self.old.steps self.new.steps number self.old.session self.new.session result)) }
+        ensures none { IfNone (awaited self.old.session.stage) ((result ≡ Came.Ended)
+            × (self.new.steps ≡ self.old.steps) × (self.new.session ≡ self.old.session)) }
+        ensures number { KeepsNumber self.old.session self.old.number self.new.session self.new.number }
     {
+        if self.session.awaited().is_none() {
+            return Came::Ended;
+        }
         match self.number {
             Some(number) => self.asked_for(rt, number),
             None => Came::Ended,
@@ -76,15 +86,21 @@ impl<G: Gate, S: Steps> Serving<G, S> {
 
     /// Finishes the operation under way and aborts the transaction, once the connection has ended or was at fault.
     pub fn lose<R: Wait>(&mut self, rt: &R) -> Came
-        ensures { IsLost S.made S.told self.old.steps self.new.steps self.old.session self.new.session result }
+        ensures lost { IsLost S.made S.told self.old.steps self.new.steps self.old.session self.new.session result }
+        ensures number { KeepsNumber self.old.session self.old.number self.new.session self.new.number }
     {
         let action = self.session.lost();
         self.carried(rt, action)
     }
 
-    /// The step interface, for calls that are none of the session's.
-    pub fn steps(&mut self) -> &mut S {
-        &mut self.steps
+    /// Forces, which is no call of the session's, and hands the stamp on. The session is as before.
+    pub fn force(&mut self)
+        ensures force { IsForce S.made S.forced S.told self.old.steps self.new.steps }
+        ensures same { (self.new.gate ≡ self.old.gate) × (self.new.session ≡ self.old.session)
+            × (self.new.number ≡ self.old.number) }
+    {
+        let stamped = self.steps.force();
+        self.steps.seen(stamped);
     }
 
     /// The gate and the step interface.
@@ -102,7 +118,8 @@ impl<G: Gate, S: Steps> Serving<G, S> {
 
     // Asks once for the receipt of a commit, and goes on with what that told.
     fn asked_for<R: Wait>(&mut self, rt: &R, number: CommitNo) -> Came
-        ensures { IsAskedFor S.made S.told self.old.steps self.new.steps number self.old.session self.new.session result }
+        ensures asked { IsAskedFor S.made S.told self.old.steps self.new.steps number self.old.session self.new.session result }
+        ensures number { KeepsNumber self.old.session self.old.number self.new.session self.new.number }
     {
         match self.called(Event::Acknowledged(number)) {
             Some(action) => self.carried(rt, action),
@@ -112,7 +129,8 @@ impl<G: Gate, S: Steps> Serving<G, S> {
 
     // Does what is to be done, until the session asks for nothing more.
     fn carried<R: Wait>(&mut self, rt: &R, first: Action) -> Came
-        ensures { IsCarried S.made S.told self.old.steps self.new.steps self.old.session first self.new.session result }
+        ensures carried { IsCarried S.made S.told self.old.steps self.new.steps self.old.session first self.new.session result }
+        ensures number { KeepsNumber self.old.session self.old.number self.new.session self.new.number }
     {
         let mut action = first;
         for _ in rt.forever() {
@@ -153,7 +171,8 @@ impl<G: Gate, S: Steps> Serving<G, S> {
     // Makes a call, and tells the session what came of it: what is to be done next. None where no call of a session is
     // answered so.
     fn called(&mut self, event: Event) -> Option<Action>
-        ensures { IsCall S.made S.told self.old.steps self.new.steps event self.old.session result self.new.session }
+        ensures call { IsCall S.made S.told self.old.steps self.new.steps event self.old.session result self.new.session }
+        ensures number { KeepsNumber self.old.session self.old.number self.new.session self.new.number }
     {
         let stamped = self.steps.call(event);
         if let Reply::Committed(number) = stamped.reply() {
@@ -170,6 +189,8 @@ impl<G: Gate, S: Steps> Serving<G, S> {
 }
 
 // Whether the call is one of an operation that is under way.
-fn is_under_way(ask: &Ask) -> bool {
+fn is_under_way(ask: &Ask) -> bool
+    ensures { result ≡ under_way ask.now }
+{
     matches!(ask, Ask::Step(_) | Ask::Finish(_))
 }

@@ -111,9 +111,8 @@ fn lose<S: Steps, R: Wait>(rt: &R, serving: &mut Serving<Open, S>) -> bool {
 }
 
 // A force, as a log writer makes one while a commit waits.
-fn force<S: Steps>(steps: &mut S) {
-    let stamped = steps.force();
-    steps.seen(stamped);
+fn force<S: Steps>(serving: &mut Serving<Open, S>) {
+    serving.force();
 }
 
 // The commit that waits for its receipt.
@@ -146,7 +145,7 @@ fn served<S: Steps, R: Wait>(
     if waiting(&ask_receipt(rt, serving)) != lsn {
         return Err("answered before its force");
     }
-    force(serving.steps());
+    force(serving);
     Ok(answered(ask_receipt(rt, serving)))
 }
 
