@@ -1,7 +1,7 @@
 -- How a session is carried on, call by call.
 use Rattle.std.proofs.Common.{◌≡◌, Bool, true, false, cond, List, [], ◌∷◌, ◌++◌, refl, sym, ap, ◌∙◌, subst, inl, inr}
 use Rattle.std.specs.Prelude.{Option, Some, None}
-use Rattle.rq_engine.specs.Says.{call_of, commit_number, gave}
+use Rattle.rq_engine.specs.Says.{call_of, gave}
 use Rattle.rq_engine.specs.declared.event.CommitNo.{CommitNo}
 use Rattle.rq_engine.specs.declared.event.Event.{Event}
 use Rattle.rq_shared.specs.declared.kept.Stamped.{Stamped}
@@ -18,8 +18,8 @@ use Rattle.rq_session.specs.Rules.{after_told, ended, is_commit_of, next as next
 use Rattle.rq_session.specs.Stages.{own, txn_held}
 use Rattle.rq_session.specs.Laws.{AwaitsOwn, IsOwn, NamesOwn, awaited}
 use Rattle.rq_session.proofs.EachTurn.{each_reply}
-use Rattle.rq_serving.specs.Words.{asked, commit_told, told_by, IsOwnCall}
-use Rattle.rq_serving.specs.Carried.{IsAsked, IsCome, IsTold, IsCall, IsTurn, Turns, IsStray, IsGoing, IsCarried, AreOwn, AskedIsOwn, AwaitsNumber, CallsAreOwn}
+use Rattle.rq_serving.specs.Words.{asked, told_by, IsOwnCall}
+use Rattle.rq_serving.specs.Carried.{IsAsked, IsCome, IsTold, IsCall, IsTurn, Turns, IsStray, IsGoing, IsCarried, AreOwn, AskedIsOwn, AwaitsNumber, CallsAreOwn, KeepsNumber, NumberAfter}
 use Rattle.rq_serving.specs.declared.serving.Came.{Came}
 use Rattle.rq_serving.specs.declared.serving.Came.TheVariants as came
 use Rattle.rq_serving.proofs.Owning.{own_calls}
@@ -45,9 +45,9 @@ still_lost m (Some told) None after t = absurd t
 still_lost m None (Some next) after t = absurd t
 still_lost m None None after t = ap (λ (s : Session). s.lost) t
 
-told_nothing : (m : Session) (o : Option Told) (after : Session) → IsTold m o None after → o ≡ None
+told_nothing : (m : Session) (o : Option Told) (after : Session) → IsTold m o None after → (o ≡ None) × (after ≡ m)
 told_nothing m (Some told) after t = absurd t
-told_nothing m None after t = refl
+told_nothing m None after t = (refl, t)
 
 module _ {S : Type 0} (made_by handed_to : S → List Stamped) where
   pub begins : (s : S) (b : Session) (first : Action) → IsGoing made_by handed_to s s b first b first
@@ -93,7 +93,18 @@ module _ {S : Type 0} (made_by handed_to : S → List Stamped) where
     made = c.made ∙ ap (λ l. c.stamp ∷ l) g.made;
     handed = c.handed ∙ ap (λ l. c.stamp ∷ l) g.handed;
     lost = still_lost m (told_by (gave c.stamp.reply)) None after c.tells ∙ g.lost;
-    goes = inr (m.stage, a, g.turns, ask, i, ap call_of c.event ∙ calls, told_nothing m (told_by (gave c.stamp.reply)) after c.tells, refl);
+    goes =
+        let none = told_nothing m (told_by (gave c.stamp.reply)) after c.tells in
+        let at = ap (λ (x : Session). x.stage) none.1 in
+        inr (
+          a,
+          subst (λ (t : Stage). Turns b.lost b.stage first g.stamps t a) (sym at) g.turns,
+          ask,
+          i,
+          ap call_of c.event ∙ calls,
+          none.0,
+          refl,
+        );
   }
 
 -- a call that is asked for where the transaction is this one
@@ -130,29 +141,53 @@ calls_are_own lost from first stamps to next n t =
 
 -- ---- its own commit
 
-kept : (s : Stage) (what : Told) (o : Option Commit) (number : Option CommitNo) → AwaitsOwn s what o
-    → ((c : Commit) → what ≡ told.Committed c → ⊥) → AwaitsNumber (awaited s) number → AwaitsNumber o number
+-- what is told is no commit
+IsOther : Told → Type 0
+IsOther (told.Committed commit) = ⊥
+IsOther _ = Unit {0}
+
+kept : (s : Stage) (what : Told) (o : Option Commit) (number : Option CommitNo) → AwaitsOwn s what o → IsOther what
+    → AwaitsNumber (awaited s) number → AwaitsNumber o number
 kept s what None number a n k = tt
-kept (stages.Commit h) (told.Committed now) (Some commit) number a n k = absurd (n now refl)
+kept (stages.Commit h) (told.Committed now) (Some commit) number a n k = absurd n
 kept (stages.Commit h) what (Some commit) number a n k = absurd a
 kept (stages.Await before) what (Some commit) number a n k =
     subst (λ (c : Commit). AwaitsNumber (Some c) number) (sym a) k
 kept s what (Some commit) number a n k = absurd a
 
--- what is told is no commit: what was kept is still that of what is awaited
-pub keeps_number : (lost : Bool) (s : Stage) (what : Told) (number : Option CommitNo)
-    → ((c : Commit) → what ≡ told.Committed c → ⊥) → AwaitsNumber (awaited s) number
-    → AwaitsNumber (awaited (after_told lost s what).stage) number
-keeps_number lost s what number n k =
-    kept s what (awaited (after_told lost s what).stage) number (each_reply lost s what).own_commit n k
+mine : (b : Bool) (c : Commit) (old new : Option CommitNo) → NumberAfter old (Some (told.Committed c)) new
+    → AwaitsNumber (awaited (cond b (next_at (Await c) (stages.Await c)) ended).stage) new
+mine true c old new n = subst (AwaitsNumber (Some c)) (sym n.1) n.2
+mine false c old new n = tt
 
-mine : (n : CommitNo) (b : Bool)
-    → AwaitsNumber (awaited (cond b (next_at (Await (commit_told (commit_number n))) (stages.Await (commit_told (commit_number n)))) ended).stage) (Some n)
-mine n true = refl
-mine n false = tt
+other : (lost : Bool) (s : Stage) (what : Told) (old new : Option CommitNo) → IsOther what → new ≡ old
+    → AwaitsNumber (awaited s) old → AwaitsNumber (awaited (after_told lost s what).stage) new
+other lost s what old new i n k =
+    let to = awaited (after_told lost s what).stage in
+    subst (AwaitsNumber to) (sym n) (kept s what to old (each_reply lost s what).own_commit i k)
 
--- a commit is told, and its number kept
-pub takes_number : (lost : Bool) (s : Stage) (n : CommitNo)
-    → AwaitsNumber (awaited (after_told lost s (told.Committed (commit_told (commit_number n)))).stage) (Some n)
-takes_number lost (stages.Commit h) n = mine n (is_commit_of (txn_held h) (commit_told (commit_number n)))
-takes_number lost s n = tt
+told_keeps : (lost : Bool) (s : Stage) (what : Told) (old new : Option CommitNo) → NumberAfter old (Some what) new
+    → AwaitsNumber (awaited s) old → AwaitsNumber (awaited (after_told lost s what).stage) new
+told_keeps lost (stages.Commit h) (told.Committed c) old new n k = mine (is_commit_of (txn_held h) c) c old new n
+told_keeps lost s (told.Committed c) old new n k = tt
+told_keeps lost s what old new n k = other lost s what old new tt n k
+
+-- the session was told something
+pub keeps_number : (lost : Bool) (s : Stage) (o : Option Told) (what : Told) (to : Stage) (old new : Option CommitNo)
+    → o ≡ Some what → to ≡ (after_told lost s what).stage → NumberAfter old o new → KeepsNumber s old to new
+keeps_number lost s o what to old new is at n k =
+    subst (λ (t : Stage). AwaitsNumber (awaited t) new) (sym at)
+    (told_keeps lost s what old new (subst (λ (x : Option Told). NumberAfter old x new) is n) k)
+
+pub keeps_on : (a b c : Stage) (x y z : Option CommitNo) → KeepsNumber a x b y → KeepsNumber b y c z → KeepsNumber a x c z
+keeps_on a b c x y z first second k = second (first k)
+
+pub stays_kept : (a b c : Stage) (x y z : Option CommitNo) → KeepsNumber a x b y → c ≡ b → z ≡ y → KeepsNumber a x c z
+stays_kept a b c x y z first at is k =
+    subst (λ (t : Stage). AwaitsNumber (awaited t) z) (sym at) (subst (AwaitsNumber (awaited b)) (sym is) (first k))
+
+-- the session was told nothing
+pub stays_there : (s to : Stage) (o : Option Told) (old new : Option CommitNo) → o ≡ None → to ≡ s → NumberAfter old o new
+    → KeepsNumber s old to new
+stays_there s to o old new none at n =
+    stays_kept s s to old old new (λ k. k) at (subst (λ (x : Option Told). NumberAfter old x new) none n)

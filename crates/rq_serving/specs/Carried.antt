@@ -11,6 +11,7 @@ use Rattle.rq_session.specs.declared.calls.Ask.{Ask}
 use Rattle.rq_session.specs.declared.calls.Ask.TheVariants as asks
 use Rattle.rq_session.specs.declared.calls.Commit.{Commit as Commit_told}
 use Rattle.rq_session.specs.declared.calls.Told.{Told}
+use Rattle.rq_session.specs.declared.calls.Told.TheVariants.{Committed}
 use Rattle.rq_session.specs.declared.session.Session.{Session}
 use Rattle.rq_session.specs.declared.stage.Stage.{Stage}
 use Rattle.rq_session.specs.Rules.{after_told, after_loss, taken, call_in, answer_in}
@@ -79,11 +80,11 @@ Turns lost from first [] to next = (to ≡ from) × (next ≡ first)
 Turns lost from first (s ∷ older) to next =
     (mid : Stage) × (a : Action) × Turns lost from first older mid a × IsTurn lost mid a s to next
 
--- the last call was answered as none of a session is: the session ends
-abbrev pub IsStray : Bool → Stage → Action → List Stamped → Came → Type 0
-IsStray lost from first [] c = ⊥
-IsStray lost from first (s ∷ older) c =
-    (mid : Stage) × (a : Action) × Turns lost from first older mid a × (ask : Ask) × IsAsked a ask
+-- the last call was answered as none of a session is: it ends, and stands where it stood before that call
+abbrev pub IsStray : Bool → Stage → Action → List Stamped → Stage → Came → Type 0
+IsStray lost from first [] to c = ⊥
+IsStray lost from first (s ∷ older) to c =
+    (a : Action) × Turns lost from first older to a × (ask : Ask) × IsAsked a ask
     × (call_of s.event ≡ asked ask) × (told_by (gave s.reply) ≡ None) × (c ≡ came.Ended)
 
 -- A session was carried on from what it was to do, by calls through the step interface alone, each of which it asked for,
@@ -104,7 +105,7 @@ pub record IsCarried {S : Type 0} (made_by handed_to : S → List Stamped) (old 
   pub handed : handed_to new ≡ stamps ++ handed_to old
   pub lost : after.lost ≡ before.lost
   pub goes : ((next : Action) × Turns before.lost before.stage first stamps after.stage next × IsCome next c)
-      ⊎ IsStray before.lost before.stage first stamps c
+      ⊎ IsStray before.lost before.stage first stamps after.stage c
 
 -- what came of a request: it was carried on with the call that it asks for, or had its answer with no call
 abbrev pub IsServed : {S : Type 0} → (S → List Stamped) → (S → List Stamped) → S → S → Session → Request → Session → Came
@@ -155,9 +156,15 @@ AwaitsNumber None number = Unit {0}
 AwaitsNumber (Some commit) None = ⊥
 AwaitsNumber (Some commit) (Some number) = commit_told (commit_number number) ≡ commit
 
--- where the number that is kept was that of the commit awaited, it still is
-abbrev pub KeepsNumber : Session → Option CommitNo → Session → Option CommitNo → Type 0
-KeepsNumber old was new now = AwaitsNumber (awaited old.stage) was → AwaitsNumber (awaited new.stage) now
+-- the number that is kept, once this was told: that of the commit, where one was told, and else the one from before
+abbrev pub NumberAfter : Option CommitNo → Option Told → Option CommitNo → Type 0
+NumberAfter old (Some (Committed commit)) new =
+    (number : CommitNo) × (new ≡ Some number) × (commit_told (commit_number number) ≡ commit)
+NumberAfter old what new = new ≡ old
+
+-- where the number that is kept was that of the commit awaited at the one stage, it is at the other
+abbrev pub KeepsNumber : Stage → Option CommitNo → Stage → Option CommitNo → Type 0
+KeepsNumber old was new now = AwaitsNumber (awaited old) was → AwaitsNumber (awaited new) now
 
 -- ---- its own transaction
 

@@ -3,7 +3,9 @@ ghost use Rattle.std.specs.Prelude.{◌≡◌, IfOk, IfErr, IfSome, IfNone, None
 ghost use Rattle.rq_session.specs.declared.stage.Held.TheVariants.{Free};
 ghost use Rattle.rq_session.specs.declared.stage.Stage.TheVariants.{Rest};
 ghost use Rattle.rq_session.specs.Laws.{awaited};
-ghost use Rattle.rq_serving.specs.Carried.{CarriesOn, IsAsked, IsAskedFor, IsCall, IsCarried, IsCome, IsForce, IsLost, IsServed, KeepsNumber, under_way};
+ghost use Rattle.rq_serving.specs.Carried.{CarriesOn, IsAsked, IsAskedFor, IsCall, IsCarried, IsCome, IsForce, IsLost, IsServed, KeepsNumber, NumberAfter, under_way};
+ghost use Rattle.rq_engine.specs.Says.{gave};
+ghost use Rattle.rq_serving.specs.Words.{told_by};
 
 use crate::words::{event_of, told_of};
 use rq_engine::event::{CommitNo, Event, Reply};
@@ -55,7 +57,7 @@ impl<G: Gate, S: Steps> Serving<G, S> {
     /// or a commit waits for its receipt, or the session ends.
     pub fn request<R: Wait>(&mut self, rt: &R, request: Request) -> Came
         ensures served { IsServed S.made S.told self.old.steps self.new.steps self.old.session request self.new.session result }
-        ensures number { KeepsNumber self.old.session self.old.number self.new.session self.new.number }
+        ensures number { KeepsNumber self.old.session.stage self.old.number self.new.session.stage self.new.number }
     {
         if let Some(ask) = self.session.input(request) {
             return self.carried(rt, Action::Do(ask));
@@ -73,7 +75,7 @@ impl<G: Gate, S: Steps> Serving<G, S> {
             S.made S.told self.old.steps self.new.steps number self.old.session self.new.session result)) }
         ensures none { IfNone (awaited self.old.session.stage) ((result ≡ Came.Ended)
             × (self.new.steps ≡ self.old.steps) × (self.new.session ≡ self.old.session)) }
-        ensures number { KeepsNumber self.old.session self.old.number self.new.session self.new.number }
+        ensures number { KeepsNumber self.old.session.stage self.old.number self.new.session.stage self.new.number }
     {
         if self.session.awaited().is_none() {
             return Came::Ended;
@@ -87,7 +89,7 @@ impl<G: Gate, S: Steps> Serving<G, S> {
     /// Finishes the operation under way and aborts the transaction, once the connection has ended or was at fault.
     pub fn lose<R: Wait>(&mut self, rt: &R) -> Came
         ensures lost { IsLost S.made S.told self.old.steps self.new.steps self.old.session self.new.session result }
-        ensures number { KeepsNumber self.old.session self.old.number self.new.session self.new.number }
+        ensures number { KeepsNumber self.old.session.stage self.old.number self.new.session.stage self.new.number }
     {
         let action = self.session.lost();
         self.carried(rt, action)
@@ -119,7 +121,7 @@ impl<G: Gate, S: Steps> Serving<G, S> {
     // Asks once for the receipt of a commit, and goes on with what that told.
     fn asked_for<R: Wait>(&mut self, rt: &R, number: CommitNo) -> Came
         ensures asked { IsAskedFor S.made S.told self.old.steps self.new.steps number self.old.session self.new.session result }
-        ensures number { KeepsNumber self.old.session self.old.number self.new.session self.new.number }
+        ensures number { KeepsNumber self.old.session.stage self.old.number self.new.session.stage self.new.number }
     {
         match self.called(Event::Acknowledged(number)) {
             Some(action) => self.carried(rt, action),
@@ -130,7 +132,7 @@ impl<G: Gate, S: Steps> Serving<G, S> {
     // Does what is to be done, until the session asks for nothing more.
     fn carried<R: Wait>(&mut self, rt: &R, first: Action) -> Came
         ensures carried { IsCarried S.made S.told self.old.steps self.new.steps self.old.session first self.new.session result }
-        ensures number { KeepsNumber self.old.session self.old.number self.new.session self.new.number }
+        ensures number { KeepsNumber self.old.session.stage self.old.number self.new.session.stage self.new.number }
     {
         let mut action = first;
         for _ in rt.forever() {
@@ -172,19 +174,27 @@ impl<G: Gate, S: Steps> Serving<G, S> {
     // answered so.
     fn called(&mut self, event: Event) -> Option<Action>
         ensures call { IsCall S.made S.told self.old.steps self.new.steps event self.old.session result self.new.session }
-        ensures number { KeepsNumber self.old.session self.old.number self.new.session self.new.number }
+        ensures number { KeepsNumber self.old.session.stage self.old.number self.new.session.stage self.new.number }
     {
         let stamped = self.steps.call(event);
-        if let Reply::Committed(number) = stamped.reply() {
-            self.number = Some(*number);
-        }
         let told = told_of(stamped.reply());
+        self.number = number_after(self.number, stamped.reply());
         self.steps.seen(stamped);
         let told = told?;
         if told == Told::Written {
             self.gate.pass(BETWEEN_STEPS);
         }
         Some(self.session.reply(&told))
+    }
+}
+
+// The number that is kept once this was replied: that of a commit just now, or the one from before.
+fn number_after(number: Option<CommitNo>, reply: &Reply) -> Option<CommitNo>
+    ensures { NumberAfter number (told_by (gave reply.now)) result }
+{
+    match reply {
+        Reply::Committed(number) => Some(*number),
+        _ => number,
     }
 }
 

@@ -1,5 +1,5 @@
 //! A store for tests, and what it holds once a session is over.
-use rq_disk::{LogDevice, MemLog, MemPages, PageDevice, Switch};
+use rq_disk::{CallKind, LogDevice, MemLog, MemPages, Mishap, PageDevice, Switch};
 use rq_engine::engine::Engine;
 use rq_page::layout::Layout;
 use rq_restart::format::format;
@@ -8,8 +8,22 @@ use std::alloc::Global;
 
 /// A store of one directory and one cell page over devices in memory, formatted and opened.
 pub fn small_engine(alloc: Global) -> Result<Engine<MemPages, MemLog>, &'static str> {
-    let layout = Layout::new(1, 1).ok_or("a small store")?;
+    engine_over(alloc, Switch::new(alloc).map_err(|_| "memory")?)
+}
+
+/// Such a store whose next force fails.
+pub fn failing_engine(alloc: Global) -> Result<Engine<MemPages, MemLog>, &'static str> {
     let switch = Switch::new(alloc).map_err(|_| "memory")?;
+    let Ok(for_store) = switch.share() else {
+        return Err("memory");
+    };
+    let engine = engine_over(alloc, for_store)?;
+    switch.arm_kind(CallKind::Force, Mishap::Fail);
+    Ok(engine)
+}
+
+fn engine_over(alloc: Global, switch: Switch) -> Result<Engine<MemPages, MemLog>, &'static str> {
+    let layout = Layout::new(1, 1).ok_or("a small store")?;
     let Ok(for_log) = switch.share() else {
         return Err("memory");
     };

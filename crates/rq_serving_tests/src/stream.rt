@@ -1,5 +1,5 @@
 //! A session over a store in memory: its bytes cut anywhere, faults, and connections that are lost.
-use crate::stores::{small_engine, told};
+use crate::stores::{failing_engine, small_engine, told};
 use bytes::BytesMut;
 use rq_disk::{MemLog, MemPages};
 use rq_model::refusal::NoMemory;
@@ -11,7 +11,7 @@ use rq_workers::gate::Gate;
 use rq_workers::kept::KeptSteps;
 use rq_workers::steps::Steps;
 use rq_workers::trail::Trail;
-use std::alloc::Global;
+use std::alloc::{AllocError, Global};
 use std::snapshot::Snapshot;
 use std::sync::Wait;
 use std::test::Fail;
@@ -46,6 +46,32 @@ const HALF: [u8; 28] = [
 // What both are answered: Begun 1.1, Sent.
 const BEGUN_AND_SENT: [u8; 22] = [
     0, 0x11, 0x81, 0, 0, 0, 0, 0, 0, 0, 1, 0, 0, 0, 0, 0, 0, 0, 1, 0, 1, 0x82,
+];
+
+// Begin.
+const BEGIN: [u8; 3] = [0, 1, 1];
+
+// The head of a Send 0 7 whose body has 217 bytes, one more than there is room for.
+const LONG: [u8; 15] = [0, 0xe6, 2, 0, 0, 0, 0, 0, 0, 0, 0, 0, 0, 0, 7];
+
+// The head of such a Send 15 7, where the last sender is 14.
+const UNKNOWN: [u8; 15] = [0, 0xe6, 2, 0, 0, 0, 0xf, 0, 0, 0, 0, 0, 0, 0, 7];
+
+// The head of a Send 14 7 whose body has 216 bytes.
+const LONGEST: [u8; 15] = [0, 0xe5, 2, 0, 0, 0, 0xe, 0, 0, 0, 0, 0, 0, 0, 7];
+
+// What these are answered: Begun 1.1, TooLong, UnknownSender, Sent.
+const REFUSED_TWICE: [u8; 30] = [
+    0, 0x11, 0x81, 0, 0, 0, 0, 0, 0, 0, 1, 0, 0, 0, 0, 0, 0, 0, 1, 0, 2, 0xff, 8, 0, 2, 0xff, 7, 0,
+    1, 0x82,
+];
+
+// Begin, Commit, Begin.
+const COMMITTED: [u8; 9] = [0, 1, 1, 0, 1, 6, 0, 1, 1];
+
+// What these are answered where the force behind the Commit fails: Begun 1.1, and Failed twice.
+const FAILED_TWICE: [u8; 27] = [
+    0, 0x11, 0x81, 0, 0, 0, 0, 0, 0, 0, 1, 0, 0, 0, 0, 0, 0, 0, 1, 0, 2, 0xff, 2, 0, 2, 0xff, 2,
 ];
 
 /// Lets its worker through.
@@ -232,6 +258,12 @@ fn opened(alloc: Global) -> Result<Connection<Store>, &'static str> {
     Ok(connected(alloc, steps))
 }
 
+// A connection to one whose next force fails.
+fn opened_failing(alloc: Global) -> Result<Connection<Store>, &'static str> {
+    let steps = KeptSteps::new(Kept::new(alloc, failing_engine(alloc)?), 1);
+    Ok(connected(alloc, steps))
+}
+
 // What is seen of a connection that brings these bytes, cut here.
 fn seen_of<R: Wait>(rt: &R, alloc: Global, stream: &[u8], cut: usize) -> Result<Seen, Fail> {
     let mut connection = opened(alloc)?;
@@ -296,5 +328,54 @@ fn a_lost_connection_aborts(rt: HostRuntime) -> Result<(), Fail> {
     let seen = seen_lost(&rt, rt.alloc(), &HALF)?;
     assert!(rt; wrote(&seen, &BEGUN_AND_SENT) && seen.is_over);
     assert!(rt; seen.content == Some((0, 0, true)));
+    Ok(())
+}
+
+// Puts the head of a Send and its body behind these bytes.
+fn add_send(bytes: &mut Vec<u8>, head: &[u8], len: usize) -> Result<(), AllocError> {
+    bytes.extend_from_slice(head)?;
+    for _ in 0..len {
+        bytes.push(b'x')?;
+    }
+    Ok(())
+}
+
+// A Begin, a Send that is too long by one, one of no sender, and one that is as long as it may be.
+fn longest_sends(alloc: Global) -> Result<Vec<u8>, AllocError> {
+    let mut bytes = Vec::new(alloc);
+    bytes.extend_from_slice(&BEGIN)?;
+    add_send(&mut bytes, &LONG, 217)?;
+    add_send(&mut bytes, &UNKNOWN, 217)?;
+    add_send(&mut bytes, &LONGEST, 216)?;
+    Ok(bytes)
+}
+
+#[test]
+fn a_send_that_is_too_long_is_refused(rt: HostRuntime) -> Result<(), Fail> {
+    let bytes = longest_sends(rt.alloc())?;
+    for cut in 0..=bytes.len() {
+        let seen = seen_of(&rt, rt.alloc(), &bytes, cut)?;
+        assert!(rt;
+            wrote(&seen, &REFUSED_TWICE) && !seen.is_over,
+            "cut at {cut}"
+        );
+        assert!(rt; seen.content == Some((0, 0, true)), "cut at {cut}");
+    }
+    Ok(())
+}
+
+// What is seen of a connection to a store whose next force fails.
+fn seen_failing<R: Wait>(rt: &R, alloc: Global, stream: &[u8]) -> Result<Seen, Fail> {
+    let mut connection = opened_failing(alloc)?;
+    connection.take(rt, stream)?;
+    Ok(left_by(connection))
+}
+
+// The commit waits while the store fails: it is told so, and has no receipt.
+#[test]
+fn a_commit_that_waits_is_told_of_a_failure(rt: HostRuntime) -> Result<(), Fail> {
+    let seen = seen_failing(&rt, rt.alloc(), &COMMITTED)?;
+    assert!(rt; wrote(&seen, &FAILED_TWICE) && !seen.is_over);
+    assert!(rt; seen.content.is_none(), "the store shows nothing any more");
     Ok(())
 }

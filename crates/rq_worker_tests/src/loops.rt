@@ -15,7 +15,7 @@ use rq_shared::mark::{Mark, MarkPass};
 use rq_shared::shared::Shared;
 use rq_shared::sharing::Sharing;
 use rq_workers::acts::Ended;
-use rq_workers::gate::{BEFORE_AGAIN, BEFORE_FORCE, Gate};
+use rq_workers::gate::{BEFORE_AGAIN, BEFORE_FORCE, BEFORE_WRITE, Gate};
 use rq_workers::shared::SharedSteps;
 use rq_workers::steps::Steps;
 use rq_workers::trail::Trail;
@@ -296,6 +296,30 @@ fn mark_of<R: Wait>(rt: &R, alloc: Global) -> Option<(u64, u64, u64)> {
 fn a_log_writer_leaves_the_mark_at_its_lsn(rt: HostRuntime) -> Result<(), Fail> {
     let seen = mark_of(&rt, rt.alloc()).ok_or("a force")?;
     assert_eq!(rt; seen, (0, 2, 2), "the records are Restart and Commit");
+    Ok(())
+}
+
+// The pages that a page writer asks for whose gate lets it through so often, in order.
+fn pages_written<R: Wait>(rt: &R, alloc: Global, left: &AtomicU64) -> Option<Vec<u32>> {
+    let gate = lets_through(BEFORE_WRITE, left);
+    let mut worker = Worker::new(gate, small_steps(alloc).ok()?);
+    worker.write_pages(rt, 3);
+    let kept = worker.into_steps().into_kept();
+    let mut pages = Vec::new(alloc);
+    for entry in kept.entries() {
+        let Event::WritePage(page) = entry.event() else {
+            return None;
+        };
+        pages.push(*page).ok()?;
+    }
+    Some(pages)
+}
+
+#[test]
+fn a_page_writer_goes_round(rt: HostRuntime) -> Result<(), Fail> {
+    let left = AtomicU64::new(5);
+    let pages = pages_written(&rt, rt.alloc(), &left).ok_or("a store")?;
+    assert!(rt; pages.as_slice() == [0, 1, 2, 0, 1].as_slice());
     Ok(())
 }
 

@@ -1,7 +1,8 @@
 //! The step interface over a kept engine of one thread.
-ghost use Rattle.std.specs.Prelude.{◌≡◌, ◌≤◌, ◌∷◌, ◌++◌, length};
+ghost use Rattle.std.specs.Prelude.{◌≡◌, ◌≤◌, ◌+◌, ◌∷◌, ◌++◌, length, IfSome, IfNone};
+ghost use Rattle.rq_engine.specs.Says.{call_of};
 ghost use Rattle.rq_shared.specs.Calls.{IsStepOf};
-ghost use Rattle.rq_workers.specs.Forcing.{most_forced};
+ghost use Rattle.rq_workers.specs.Forcing.{lsn_forced, most_forced};
 ghost use Rattle.rq_workers.specs.Keeping.{entries_left};
 
 use crate::steps::Steps;
@@ -89,17 +90,45 @@ impl<P: PageDevice + Drop, L: LogDevice + Drop> Steps for KeptSteps<P, L> {
         stamped
     }
 
-    fn force(&mut self) -> Stamped {
+    fn force(&mut self) -> Stamped
+        ensures event { result.event ≡ Event.Force }
+        ensures made { self.new.made.value ≡ result ∷ self.old.made.value }
+        ensures forced { self.new.forced.value ≡ result ∷ self.old.forced.value }
+        ensures told { self.new.told.value ≡ self.old.told.value }
+        ensures lacked { length self.new.lacked.value ≡ length self.old.lacked.value }
+        ensures shown { (most_forced self.old.forced.value ≤ most_forced self.new.forced.value)
+            × (lsn_forced result.reply ≤ most_forced self.new.forced.value) }
+        ensures stepped { IsStepOf P.PageDevice L.LogDevice self.old.kept self.old.pass Event.Force result self.new.kept }
+        ensures given { (self.new.pass ≡ self.old.pass) × (self.new.begun.value ≡ self.old.begun.value) }
+    {
         let stamped = self.call(Event::Force);
         Trail::note(&mut self.forced, &stamped);
         stamped
     }
 
-    fn seen(&mut self, stamped: Stamped) {
+    fn seen(&mut self, stamped: Stamped)
+        ensures made { self.new.made.value ≡ self.old.made.value }
+        ensures forced { self.new.forced.value ≡ self.old.forced.value }
+        ensures told { self.new.told.value ≡ stamped ∷ self.old.told.value }
+        ensures lacked { length self.new.lacked.value ≡ length self.old.lacked.value }
+        ensures shown { most_forced self.old.forced.value ≤ most_forced self.new.forced.value }
+        ensures kept { (self.new.kept ≡ self.old.kept) × (self.new.pass ≡ self.old.pass)
+            × (self.new.begun.value ≡ self.old.begun.value) }
+    {
         Trail::note(&mut self.told, &stamped);
     }
 
-    fn copy(&mut self, event: &Event) -> Option<Event> {
+    fn copy(&mut self, event: &Event) -> Option<Event>
+        ensures copy { IfSome result (λ copy. (call_of copy ≡ call_of event.now)
+            × (length self.new.lacked.value ≡ length self.old.lacked.value)) }
+        ensures lacked { IfNone result (length self.new.lacked.value ≡ length self.old.lacked.value + 1) }
+        ensures made { self.new.made.value ≡ self.old.made.value }
+        ensures forced { self.new.forced.value ≡ self.old.forced.value }
+        ensures told { self.new.told.value ≡ self.old.told.value }
+        ensures shown { most_forced self.old.forced.value ≤ most_forced self.new.forced.value }
+        ensures kept { (self.new.kept ≡ self.old.kept) × (self.new.pass ≡ self.old.pass)
+            × (self.new.begun.value ≡ self.old.begun.value) }
+    {
         let copy = event.clone().ok();
         if copy.is_none() {
             Trail::note(&mut self.lacked, &());

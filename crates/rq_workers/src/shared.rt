@@ -35,7 +35,9 @@ pub struct DropStamps {
 
 impl DropStamps {
     /// No stamp was handed over yet.
-    pub fn new() -> Self {
+    pub fn new() -> Self
+        ensures { result.handed.value ≡ [] }
+    {
         DropStamps {
             handed: Trail::empty(),
         }
@@ -105,6 +107,7 @@ impl<'a, P: PageDevice + Drop, L: LogDevice + Drop, G: Sharing, R: Wait, K: Keep
         ensures taken { IsTaken P.PageDevice L.LogDevice G.premise result }
         ensures counted { CountsTaken self.old.pass (length result.audit) self.new.pass }
         ensures calls { (self.new.made.value ≡ self.old.made.value) × (self.new.forced.value ≡ self.old.forced.value) }
+        ensures lacked { self.new.lacked.value ≡ self.old.lacked.value }
         ensures seat { self.new.seat ≡ self.old.seat }
         ensures told { K.handed self.new.keep ≡ K.handed self.old.keep }
     {
@@ -150,6 +153,7 @@ impl<'a, P: PageDevice + Drop, L: LogDevice + Drop, G: Sharing, R: Wait, K: Keep
         ensures lacked { length self.new.lacked.value ≡ length self.old.lacked.value }
         ensures shown { self.old.seat.saw ≤ self.new.seat.saw }
         ensures called { IsCalled self.old.pass event result self.new.pass }
+        ensures seat { self.new.seat ≡ self.old.seat }
     {
         let stamped = self.front.call(self.rt, &mut self.pass, event);
         Trail::note(&mut self.made, &stamped);
