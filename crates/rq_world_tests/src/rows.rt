@@ -294,14 +294,11 @@ const fn cut_in_an_inverse() -> [Step; 11] {
     ]
 }
 
-/// A restart of that store reads three pages, and the log three times. This is its next device call, the append.
-const APPEND: u64 = 7;
+/// A restart of that store reads three pages, and the log once. This is its next device call, the append.
+const APPEND: u64 = 5;
 
 /// The call behind it, the force.
-const FORCE: u64 = 8;
-
-/// The append where the log has fewer than 4,096 bytes, and is read twice.
-const SHORT_APPEND: u64 = 6;
+const FORCE: u64 = 6;
 
 #[test]
 fn restarts_that_are_stopped_go_on(rt: HostRuntime) -> Result<(), Fail> {
@@ -385,11 +382,7 @@ fn lost_transactions_with_nothing_left_end_first(rt: HostRuntime) -> Result<(), 
         (6, restarted(3, 17)),
     ] {
         let end = [
-            Step::RestartStop(
-                SHORT_APPEND,
-                keep,
-                Told::Crashed(u64::saturating_add(keep, 10)),
-            ),
+            Step::RestartStop(APPEND, keep, Told::Crashed(u64::saturating_add(keep, 10))),
             Step::Restart(opened),
             Step::HoldsNothing,
         ];
@@ -421,11 +414,7 @@ fn each_lost_transaction_ends_behind_its_last_inverse(rt: HostRuntime) -> Result
         (8, restarted(2, 16)),
     ] {
         let end = [
-            Step::RestartStop(
-                SHORT_APPEND,
-                keep,
-                Told::Crashed(u64::saturating_add(keep, 7)),
-            ),
+            Step::RestartStop(APPEND, keep, Told::Crashed(u64::saturating_add(keep, 7))),
             Step::Restart(opened),
             Step::HoldsNothing,
         ];
@@ -445,7 +434,7 @@ fn a_restart_is_stopped_in_its_reads_or_not_at_all(rt: HostRuntime) -> Result<()
         ];
         check(&rt, call, &cut_in_an_inverse(), &end)?;
     }
-    for call in [0, 9] {
+    for call in [0, 7] {
         let end = [
             Step::RestartStop(call, 0, restarted_losing(2, 1, 1, 26)),
             Step::Crash(0, Images::Unsaid, 26),
