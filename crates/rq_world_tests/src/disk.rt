@@ -138,6 +138,7 @@ impl Images {
 
 // How far a log of so many bytes is read, and how many of them are taken; how many reads there were, and whether one came
 // short.
+#[derive(Drop)]
 struct Window {
     total: u64,
     read: u64,
