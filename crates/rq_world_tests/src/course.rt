@@ -150,26 +150,51 @@ pub fn check(
     first: &[Step],
     then: &[Step],
 ) -> Result<(), Fail> {
-    let fault = first_fault(rt.alloc(), first, then)?;
+    check_in(rt, 1, case, first, then)
+}
+
+/// The same of a store of two directory and two cell pages.
+pub fn check_wide(
+    rt: &(impl Abort + AllocGlobal),
+    case: u64,
+    first: &[Step],
+    then: &[Step],
+) -> Result<(), Fail> {
+    check_in(rt, 2, case, first, then)
+}
+
+fn check_in(
+    rt: &(impl Abort + AllocGlobal),
+    pages: u32,
+    case: u64,
+    first: &[Step],
+    then: &[Step],
+) -> Result<(), Fail> {
+    let fault = first_fault(rt.alloc(), pages, first, then)?;
     assert_eq!(rt; fault, 0, "case {case}");
     Ok(())
 }
 
 // The number of the first step that came to something else, 0 where there is none.
-fn first_fault(alloc: Global, first: &[Step], then: &[Step]) -> Result<u64, AllocError> {
+fn first_fault(
+    alloc: Global,
+    pages: u32,
+    first: &[Step],
+    then: &[Step],
+) -> Result<u64, AllocError> {
     let mut course = Course {
         alloc,
         happenings: Vec::new(alloc),
     };
     course.add_all(first)?;
     course.add_all(then)?;
-    let entries = run(alloc, &course.happenings)?;
+    let entries = run(alloc, pages, &course.happenings)?;
     Ok(compared(&entries, first, then))
 }
 
-/// What these happenings come to in a small store: one directory page and one cell page.
-pub fn run(alloc: Global, happenings: &[Happening]) -> Result<Vec<Entry>, AllocError> {
-    let Some(layout) = Layout::new(1, 1) else {
+/// What these happenings come to in a store of so many directory pages, and as many cell pages.
+pub fn run(alloc: Global, pages: u32, happenings: &[Happening]) -> Result<Vec<Entry>, AllocError> {
+    let Some(layout) = Layout::new(pages, pages) else {
         return Ok(Vec::new(alloc));
     };
     let Outcome {
