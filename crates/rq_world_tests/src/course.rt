@@ -104,6 +104,8 @@ pub enum Step {
     HoldsLetters(usize),
     /// The content: nothing.
     HoldsNothing,
+    /// The content of a store of two directory pages: nothing.
+    HoldsNothingWide,
     Ack(u64, Told),
     /// The nth device call from now fails.
     Fail(u64),
@@ -276,9 +278,11 @@ fn made(alloc: Global, step: &Step) -> Result<Happening, AllocError> {
         }
         Step::Receive(txn, ..) => Happening::Call(Event::StartReceive(*txn)),
         Step::ReceiveFirst(sub, ..) => Happening::Call(Event::StartReceive(sub.txn)),
-        Step::Holds(_) | Step::HoldsBoth(..) | Step::HoldsLetters(_) | Step::HoldsNothing => {
-            Happening::Call(Event::Content)
-        }
+        Step::Holds(_)
+        | Step::HoldsBoth(..)
+        | Step::HoldsLetters(_)
+        | Step::HoldsNothing
+        | Step::HoldsNothingWide => Happening::Call(Event::Content),
         Step::Ack(n, _) => Happening::Ack(*n),
         Step::Fail(n) => Happening::Fail(*n),
         Step::Crash(keep, images, _) => Happening::Crash(choice(alloc, *keep, *images)?),
@@ -375,11 +379,14 @@ fn is_so(entries: &[Entry], place: usize, step: &Step) -> bool {
             };
             tells(entries, place, Told::Started(sub))
         }
-        Step::Holds(_) | Step::HoldsBoth(..) | Step::HoldsLetters(_) | Step::HoldsNothing =>
-            match entries.get(place) {
-                Some(entry) => is_content(entry, step),
-                None => false,
-            },
+        Step::Holds(_)
+        | Step::HoldsBoth(..)
+        | Step::HoldsLetters(_)
+        | Step::HoldsNothing
+        | Step::HoldsNothingWide => match entries.get(place) {
+            Some(entry) => is_content(entry, step),
+            None => false,
+        },
         _ => tells(entries, place, told_for(step)),
     }
 }
@@ -445,10 +452,18 @@ fn is_received(entries: &[Entry], place: usize, sender: u32, tag: u64, text: Tex
 fn is_content(entry: &Entry, step: &Step) -> bool {
     match entry {
         Entry::Answered(reply) => match reply {
-            Reply::Content(groups) => groups.len() == 15 && hold(groups, step),
+            Reply::Content(groups) => groups.len() == senders(step) && hold(groups, step),
             _ => false,
         },
         _ => false,
+    }
+}
+
+// How many senders a store has, as this step says of it.
+fn senders(step: &Step) -> usize {
+    match step {
+        Step::HoldsNothingWide => 30,
+        _ => 15,
     }
 }
 

@@ -514,7 +514,7 @@ const WIDE_APPEND: u64 = 7;
 fn operations_of_several_transactions_are_undone(rt: HostRuntime) -> Result<(), Fail> {
     let end = [
         Step::Restart(restarted_undoing(2, 2, 8)),
-        Step::HoldsNothing,
+        Step::HoldsNothingWide,
     ];
     check_wide(&rt, 0, &two_under_way(), &end)
 }
@@ -538,7 +538,7 @@ fn a_restart_that_undoes_two_operations_is_stopped(rt: HostRuntime) -> Result<()
                 Told::Crashed(u64::saturating_add(keep, 3)),
             ),
             Step::Restart(opened),
-            Step::HoldsNothing,
+            Step::HoldsNothingWide,
         ];
         check_wide(&rt, keep, &two_under_way(), &end)?;
     }
