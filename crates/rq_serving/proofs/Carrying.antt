@@ -142,7 +142,7 @@ calls_are_own lost from first stamps to next n t =
 -- ---- its own commit
 
 -- what is told is no commit
-IsOther : Told → Type 0
+abbrev IsOther : Told → Type 0
 IsOther (told.Committed commit) = ⊥
 IsOther _ = Unit {0}
 

@@ -181,10 +181,18 @@ impl<G: Gate, S: Steps> Serving<G, S> {
         self.number = number_after(self.number, stamped.reply());
         self.steps.seen(stamped);
         let told = told?;
-        if told == Told::Written {
+        self.passes_behind(&told);
+        Some(self.session.reply(&told))
+    }
+
+    // Asks the gate behind a slot that was written. An operation under way is gone through, whatever it says.
+    fn passes_behind(&mut self, told: &Told)
+        ensures same { (self.new.steps ≡ self.old.steps) × (self.new.session ≡ self.old.session)
+            × (self.new.number ≡ self.old.number) }
+    {
+        if *told == Told::Written {
             self.gate.pass(BETWEEN_STEPS);
         }
-        Some(self.session.reply(&told))
     }
 }
 
