@@ -2,8 +2,9 @@
 """Times calls through a kept engine on one thread, and the same calls through a shared one on four with a pass each.
 
 Each of four senders goes through 19,200 rounds of two transactions, one that sends and one that receives what it sent:
-begin, start, three steps, finish, commit. One operation is under way at a time, so a start that is Latched is tried
-again; Latched ones are not counted as calls. The audit is taken after every 64 rounds of a sender, in both ways. The
+begin, start, three steps, finish, commit. Each sender has a directory page of its own, and operations of all of them are
+under way at once; a receive may find its cell's page latched by another's send. A start that is Latched is tried again;
+Latched ones are not counted as calls. The audit is taken after every 64 rounds of a sender, in both ways. The
 ways run by turns, and what a way takes with no round is taken off. The aim is that the shared way takes at most 1.5
 times as long a call, in the middle of the runs: the best of them is one in which threads hardly met.
 

@@ -8,7 +8,7 @@ mod store;
 mod tally;
 mod threads;
 
-use crate::rounds::{SENDERS, batch};
+use crate::rounds::{CALLERS, batch, sender_of};
 use crate::store::small_engine;
 use crate::tally::Tally;
 use crate::threads::share;
@@ -63,12 +63,12 @@ fn words<R: AllocGlobal + Env>(rt: &R) -> io::Result<(u32, u32)> {
     Ok((threads, batches))
 }
 
-// All calls through a kept engine, one sender after the other.
+// All calls through a kept engine, one caller after the other.
 fn by_one<R: Wait>(rt: &R, alloc: Global, batches: u32) -> Option<Tally> {
     let mut steps = KeptSteps::new(Kept::new(alloc, small_engine(alloc)?), 1);
     let mut tally = Tally::none();
-    for sender in 0..SENDERS {
-        let (after, of_sender) = batches_of(rt, alloc, steps, sender, batches)?;
+    for caller in 0..CALLERS {
+        let (after, of_sender) = batches_of(rt, alloc, steps, sender_of(caller), batches)?;
         steps = after;
         tally = tally.and(of_sender);
     }
@@ -86,14 +86,25 @@ fn batches_of<P: PageDevice + Drop, L: LogDevice + Drop, R: Wait>(
     let mut steps = steps;
     let mut tally = Tally::none();
     for _ in 0..batches {
-        steps = batch(rt, alloc, steps, sender)?;
-        tally = tally.and(Tally::of(steps.kept().take().entries()));
+        let (after, of_batch) = counted(batch(rt, alloc, steps, sender)?);
+        steps = after;
+        tally = tally.and(of_batch);
     }
     Some((steps, tally))
+}
+
+// What the calls come to whose entries are in the audit, which is taken.
+fn counted<P: PageDevice + Drop, L: LogDevice + Drop>(
+    steps: KeptSteps<P, L>,
+) -> (KeptSteps<P, L>, Tally) {
+    let mut kept = steps.into_kept();
+    let tally = Tally::of(kept.take().entries());
+    (KeptSteps::new(kept, 1), tally)
 }
 
 // All calls through a shared engine, each sender on a thread of its own.
 fn by_four<R: Threads + Wait + Sync>(rt: &R, alloc: Global, batches: u32) -> Option<Tally> {
     let engine = small_engine(alloc)?;
-    share::<MemPages, MemLog, Brand, R>(rt, alloc, engine, Blank::new(1024), batches)
+    let taking = Blank::new(1024);
+    share::<MemPages, MemLog, Brand, R>(rt, alloc, engine, Blank::new(1024), taking, batches)
 }

@@ -1,32 +1,43 @@
 //! The calls that are made, through any step interface.
 use rq_engine::event::{Event, Reply};
 use rq_model::txn::Txn;
+use rq_page::layout::SLOTS;
 use rq_workers::gate::{BEFORE_AGAIN, Gate};
 use rq_workers::steps::Steps;
+use rq_workers::trail::Trail;
 use rq_workers::worker::Worker;
 use std::alloc::{AllocError, Global};
+use std::snapshot::Snapshot;
 use std::sync::Wait;
 use std::thread;
 
-/// How many senders there are.
-pub const SENDERS: u32 = 4;
+/// How many callers there are.
+pub const CALLERS: u32 = 4;
 
 /// How many rounds a sender goes through before the audit is taken.
 const ROUNDS_A_BATCH: u32 = 64;
 
 /// Lets its thread through, and others run before a call is tried again.
 #[derive(Drop)]
-struct Polite;
+struct Polite {
+    answers: Snapshot<Trail<(u32, bool)>>,
+}
 
 impl Gate for Polite {
-    ghost says = { λ gate point passed. Unit {0} };
+    ghost answers = { λ gate. gate.answers.value };
 
-    fn pass(&self, point: u32) -> bool {
+    fn pass(&mut self, point: u32) -> bool {
         if point == BEFORE_AGAIN {
             thread::yield_now();
         }
+        Trail::note(&mut self.answers, &(point, true));
         true
     }
+}
+
+/// The sender for which a caller calls: each has a directory page of its own.
+pub fn sender_of(caller: u32) -> u32 {
+    SLOTS.wrapping_mul(caller)
 }
 
 /// So many rounds for a sender that the audit is to be taken.
@@ -74,7 +85,10 @@ fn send_of(alloc: Global, txn: Txn, sender: u32) -> Result<Event, AllocError> {
 
 // Goes through the operation of a transaction, and commits.
 fn committed<S: Steps + Drop, R: Wait>(rt: &R, steps: S, txn: Txn, start: &Event) -> S {
-    let mut worker = Worker::new(Polite, steps);
+    let gate = Polite {
+        answers: Trail::empty(),
+    };
+    let mut worker = Worker::new(gate, steps);
     let _ = worker.run(rt, start);
     let mut steps = worker.into_steps();
     let stamped = steps.call(Event::Commit(txn));

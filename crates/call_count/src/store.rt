@@ -1,4 +1,5 @@
 //! The store that is called.
+use crate::rounds::CALLERS;
 use rq_disk::{MemLog, MemPages, Switch};
 use rq_engine::engine::Engine;
 use rq_page::layout::Layout;
@@ -6,9 +7,9 @@ use rq_restart::format::format;
 use rq_restart::restart::restart;
 use std::alloc::Global;
 
-/// A store of one directory and one cell page over devices in memory, formatted and opened.
+/// A store over devices in memory, formatted and opened, with a directory page and a cell page for each caller.
 pub fn small_engine(alloc: Global) -> Option<Engine<MemPages, MemLog>> {
-    let layout = Layout::new(1, 1)?;
+    let layout = Layout::new(CALLERS, CALLERS)?;
     let switch = Switch::new(alloc).ok()?;
     let for_log = switch.share().ok()?;
     let mut pages = MemPages::zeroed(alloc, layout.pages(), switch).ok()?;

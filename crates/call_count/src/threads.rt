@@ -2,7 +2,7 @@
 ghost use Rattle.std.specs.Prelude.{◌≡◌, IfSome};
 ghost use Rattle.rq_shared.specs.Entries.{WasSound};
 
-use crate::rounds::batch;
+use crate::rounds::{batch, sender_of};
 use crate::tally::Tally;
 use rq_disk::{LogDevice, PageDevice};
 use rq_engine::engine::Engine;
@@ -13,7 +13,7 @@ use rq_shared::sharing::Sharing;
 use rq_workers::shared::{DropStamps, SharedSteps};
 use std::alloc::Global;
 use std::sync::Wait;
-use std::sync::ledger::{Blank, Ledger};
+use std::sync::ledger::Blank;
 use std::thread::{Threads, join};
 
 /// What the threads share beside the engine: the mark, and how many batches each goes through.
@@ -25,7 +25,7 @@ struct Common {
 
 /// What a thread has of its own: its pass, its seat at the mark, and the sender for which it calls.
 #[derive(Drop)]
-struct Own<G: Ledger> {
+struct Own<G: Sharing> {
     pass: Pass<G>,
     seat: MarkPass,
     sender: u32,
@@ -49,7 +49,7 @@ fn work<P: PageDevice + Drop, L: LogDevice + Drop, G: Sharing, R: Wait>(
     let mut tally = Tally::none();
     for _ in 0..common.batches {
         steps = batch(rt, alloc, steps, sender)?;
-        tally = tally.and(Tally::of(front.take_audit(rt).entries()));
+        tally = tally.and(Tally::of(steps.take_audit().entries()));
     }
     Some(tally)
 }
@@ -83,7 +83,7 @@ fn two<
 
 /// What two threads have of their own.
 #[derive(Drop)]
-struct Pair<G: Ledger> {
+struct Pair<G: Sharing> {
     one: Own<G>,
     other: Own<G>,
 }
@@ -122,20 +122,27 @@ pub fn share<
     L: LogDevice + Drop + Send,
     G: Sharing + Send + Sync,
     R: Threads + Wait + Sync,
->(rt: &R, alloc: Global, engine: Engine<P, L>, blank: Blank, batches: u32) -> Option<Tally>
-    requires name { blank.name ≡ G.name }
-    requires parts { (blank.parts ≡ G.parts) × (blank.parts ≡ 1024) }
+>(
+    rt: &R,
+    alloc: Global,
+    engine: Engine<P, L>,
+    blank: Blank,
+    taking: Blank,
+    batches: u32,
+) -> Option<Tally>
+    requires name { (blank.name ≡ G.name) × (taking.name ≡ G.taking) }
+    requires parts { (blank.parts ≡ G.parts) × (blank.parts ≡ 1024) × (taking.parts ≡ 1024) }
     requires sound { WasSound P.PageDevice L.LogDevice G.premise engine }
 {
-    let mut shared = Shared::<P, L, G>::new(alloc, engine, blank);
+    let mut shared = Shared::<P, L, G>::new(alloc, engine, blank, taking);
     let (mark, mut seat) = Mark::new(alloc).ok()?;
     let first = Pair {
-        one: own_of(&mut shared, &mark, &mut seat, 0)?,
-        other: own_of(&mut shared, &mark, &mut seat, 1)?,
+        one: own_of(&mut shared, &mark, &mut seat, sender_of(0))?,
+        other: own_of(&mut shared, &mark, &mut seat, sender_of(1))?,
     };
     let second = Pair {
-        one: own_of(&mut shared, &mark, &mut seat, 2)?,
-        other: own_of(&mut shared, &mark, &mut seat, 3)?,
+        one: own_of(&mut shared, &mark, &mut seat, sender_of(2))?,
+        other: own_of(&mut shared, &mark, &mut seat, sender_of(3))?,
     };
     let common = Common { mark, batches };
     let ((a, b), (c, d)) = four(rt, alloc, shared.front(), first, second, &common);

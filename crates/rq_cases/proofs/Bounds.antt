@@ -2,6 +2,10 @@
 use Rattle.std.proofs.Common.{◌≡◌, ⊎_elim, ℕ, zero, suc, ◌+◌, ◌-◌, ◌*◌, ◌^◌, ◌≤◌, ◌<◌, Bool, false, true, not, nat_lt, cond, List, [], ◌∷◌, length, drop, replicate, Option, Some, None, refl, sym, ap, ◌∙◌, subst, inl, inr, arith}
 use Rattle.std.specs.List.{filter, slice_index, sum_by}
 use Rattle.std.proofs.lemmas.Bool.{cases_Bool, lt-ltb, ltb-true}
+use Rattle.rq_bytes.specs.Number.{AreBytes}
+use Rattle.rq_record.specs.Deeds.{IsDeed}
+use Rattle.rq_record.proofs.DeedParts.{deeds_are_told}
+use Rattle.rq_views.specs.WorkedItems as worked
 use Rattle.rq_model.specs.declared.record.Record.{Record}
 use Rattle.rq_model.specs.declared.refusal.Refusal.{Refusal}
 use Rattle.rq_model.specs.declared.refusal.Refusal.TheVariants as why
@@ -23,7 +27,6 @@ use Rattle.rq_model.proofs.Lists.{same_self}
 use Rattle.rq_disk.specs.Device.{Images}
 use Rattle.rq_disk.specs.declared.mem_log.MemLog.{MemLog}
 use Rattle.rq_disk.specs.declared.mem_pages.MemPages.{MemPages}
-use Rattle.rq_log.specs.Scanned.{StopsFor}
 use Rattle.rq_log.specs.Spelled.{AreSpelled}
 use Rattle.rq_page.specs.Sizes.{Sizes}
 use Rattle.rq_level.specs.Writes.{AreSlotWrites}
@@ -59,7 +62,6 @@ use Rattle.rq_engine.proofs.Standing.{close_steps}
 use Rattle.rq_undone.specs.Analysis.{analysis}
 use Rattle.rq_undone.proofs.Undos.{nothing_undone, undoing_none}
 use Rattle.rq_restart.specs.Checked.{IsEnded, IsGoneThrough}
-use Rattle.rq_restart.specs.Refused.{IsFirstFault}
 use Rattle.rq_links.specs.Links.{AreLinked}
 use Rattle.rq_links.proofs.Sound.{sound_linked}
 use Rattle.rq_restart.specs.Repeating.{Paged, Repeats, slots_on}
@@ -436,10 +438,7 @@ module _ (n : ℕ) (pages : MemPages) (log : MemLog) (h : Hold pages formatted_p
       )
 
   fits_restart : (z : Sizes) (first : Paged) (new : MemLog) → n < 2 ^ 50 → LogStops mem_log z first why.LogFull log new → ⊥
-  fits_restart z first new low (inl l) = at l.4 where
-    at : IsFirstFault z l.0 first l.2 why.LogFull → ⊥
-    at (inl f) = subst (λ (r : Refusal). StopsFor mem_log r l.0 log new) (sym f.0) l.3
-    at (inr f) = f.1
+  fits_restart z first new low (inl l) = ⊎_elim (λ s. s) (λ b. (let e = b.told in cc e)) l.why
   fits_restart z first new low (inr r) =
       let same : restarts n ≡ r.0 = one_log (restarts n) r.0 (are_spelled n (omega (arith, low))) r.1 (sym (log_seen log (restarts n) h.1) ∙ r.2 tt) in
       let e = length_is n in
@@ -469,6 +468,13 @@ slots_are (suc zero) d low = record {
 }
 slots_are (suc (suc k)) d low = absurd (omega (arith, low))
 
+one_byte : AreBytes (104 ∷ [])
+one_byte zero = omega arith
+one_byte (suc i) = omega arith
+
+sends_deed : IsDeed (worked.sends 0)
+sends_deed = (omega arith, (omega arith, omega arith, omega arith, omega arith, (omega arith, one_byte)))
+
 one_row : (r : Row) → In r send_started.rows → IsRowKept sizes 1 1 4 r
 one_row r (inl e) = subst (λ (x : Row). IsRowKept sizes 1 1 4 x) (sym e) (record {
   mine = refl;
@@ -476,7 +482,7 @@ one_row r (inl e) = subst (λ (x : Row). IsRowKept sizes 1 1 4 x) (sym e) (recor
   high = omega arith;
   number = omega arith;
   done = λ f none. absurd none;
-  under = record { number = omega arith; made = omega arith; slots = slots_are; sender = omega arith; fits = (omega arith, omega arith) };
+  under = record { number = omega arith; made = omega arith; slots = slots_are; sender = omega arith; fits = (omega arith, omega arith, deeds_are_told (worked.sends 0) sends_deed) };
 })
 one_row r (inr none) = absurd none
 

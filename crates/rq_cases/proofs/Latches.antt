@@ -17,7 +17,7 @@ use Rattle.rq_model.specs.Words.{In}
 use Rattle.rq_disk.specs.declared.mem_log.MemLog.{MemLog}
 use Rattle.rq_disk.specs.declared.mem_pages.MemPages.{MemPages}
 use Rattle.rq_views.specs.WorkedItems.{t1, t2, sizes as wide}
-use Rattle.std.proofs.lemmas.Bool.{true≢false}
+use Rattle.std.proofs.lemmas.Bool.{or_left, true≢false}
 use Rattle.rq_page.specs.Sizes.{directory_at}
 use Rattle.rq_views.specs.Plans.{Turn, deed_sender}
 use Rattle.rq_views.specs.Plans.Turn.{Did, Undid}
@@ -27,7 +27,8 @@ use Rattle.rq_store.specs.State.{State, ledger_of, size_of}
 use Rattle.rq_log.specs.Crash.{LeavesOnly}
 use Rattle.rq_log.specs.Spelled.{IsBeginning}
 use Rattle.rq_store.proofs.Beginning.{begin_sound}
-use Rattle.rq_engine.proofs.Latches.{close_refused, close_unlatched, directory_latched as own_latched, send_latched}
+use Rattle.rq_engine.proofs.Latches.{close_refused, close_unlatched, send_latched}
+use Rattle.rq_engine.specs.Sends.{SendIsLatched}
 use Rattle.rq_engine.proofs.Standing.{refused_steps}
 use Rattle.rq_engine.proofs.Crashing.{runs_through_cuts}
 use Rattle.rq_core.specs.Devices.{mem_log, mem_pages}
@@ -138,6 +139,10 @@ module _ (pages : MemPages) (log : MemLog) (new : OpenStore MemPages MemLog) (bo
     answered (reply.LastTag last) a = absurd a.lists
     answered (reply.Content groups) a = absurd a.lists
     answered (reply.Refused r) a = refused r a
+
+-- a send whose sender's page is latched
+own_latched : (s : State) (g : ℕ) → latched_in s.rows (directory_at g / 16) ≡ true → SendIsLatched s g
+own_latched s g h = inl (or_left (latched_in s.rows (directory_at g / 16)) _ h)
 
 -- both may come
 module _ (pages : MemPages) (log : MemLog) (body : Vec ℕ Global) (empty : body.items ≡ []) (h : Hold pages formatted_pages log log_1) where

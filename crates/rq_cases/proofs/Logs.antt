@@ -67,10 +67,10 @@ logs = record {
       let k = length-append (spelled []) (spelling (Restart 1)) in
       let long = long_spelling (Restart 1) first_spelled.0 in
       omega (arith, n, m, k, long));
-  damaged = (refl, record { rest = 0 ∷ []; some = λ e. cc e; bad = no_record; is = refl });
-  damaged_elsewhere = λ s. (let n : 3 ≡ 2 = s.0 in omega (arith, n));
+  damaged = record { rest = 0 ∷ []; some = λ e. cc e; bad = no_record; is = refl };
   nothing_behind = λ d. d.some (none_behind (spelled log_1) d.rest d.is);
-  page_damaged = λ s. s;
+  damaged_elsewhere = λ old new s. (let n : 3 ≡ 2 = s.0 in omega (arith, n));
+  page_damaged = λ old new s. s;
   memory = λ d. refl;
   read_failed_without_a_failure = λ d low e. omega (arith, low, e);
   damaged_with_all_read = λ d n s. (let b = s.1 tt in b.some (none_behind (spelled log_5) b.rest (sym (log_seen d log_5 n) ∙ b.is)));

@@ -1,6 +1,6 @@
 -- What a restart has checked, what it leaves of a log, and why it was refused.
-use Rattle.std.proofs.Common.{◌≡◌, ◌⊎◌, ⊎_elim, ℕ, zero, suc, ◌+◌, ◌-◌, ◌≤◌, ◌<◌, Bool, false, true, List, [], ◌∷◌, ◌++◌, length, drop, refl, sym, ap, ◌∙◌, subst, inl, inr, arith, length-append}
-use Rattle.std.proofs.lemmas.List.{append-nil, length-drop}
+use Rattle.std.proofs.Common.{◌≡◌, ◌⊎◌, ⊎_elim, ℕ, zero, suc, ◌+◌, ◌-◌, ◌≤◌, ◌<◌, Bool, false, true, List, [], ◌∷◌, ◌++◌, length, drop, refl, sym, ap, ◌∙◌, subst, inl, inr, arith, append_assoc, length-append}
+use Rattle.std.proofs.lemmas.List.{append-nil}
 use Rattle.rq_model.specs.declared.record.Record.{Record}
 use Rattle.rq_model.specs.declared.record.Record.TheVariants.{Commit, Restart}
 use Rattle.rq_model.specs.declared.refusal.Refusal.{Refusal}
@@ -13,17 +13,19 @@ use Rattle.rq_disk.specs.Device.{Images}
 use Rattle.rq_disk.specs.Memory.{log_reads}
 use Rattle.rq_disk.specs.declared.mem_log.MemLog.{MemLog}
 use Rattle.rq_disk.specs.declared.mem_pages.MemPages.{MemPages}
-use Rattle.rq_log.specs.Scanned.{IsDamagedBehind, StopsFor}
+use Rattle.rq_record.specs.Spelling.{spelling}
+use Rattle.rq_log.specs.Reading.{IsDamagedBehind, IsRead, StopsFor}
 use Rattle.rq_log.specs.Spelled.{AreSpelled, IsBeginning, spelled}
 use Rattle.rq_log.proofs.Moments.{started, weaker}
 use Rattle.rq_record.proofs.Spelled.{length-spelling_restart}
+use Rattle.rq_record.proofs.Whole.{one_spelling}
 use Rattle.rq_page.specs.Cells.{cell_bytes}
 use Rattle.rq_page.specs.Formatted.{IsHeaderOf}
 use Rattle.rq_page.specs.Pages.{lsn_of, slot_of}
 use Rattle.rq_page.specs.Sizes.{Sizes}
 use Rattle.rq_pool.specs.Reading.{ArePages, IsDamaged, IsSoundPage, IsSuperblock}
 use Rattle.rq_views.specs.WorkedItems.{cell, t1}
-use Rattle.rq_store.specs.Fitting.{FitsLog, image_in, oldest}
+use Rattle.rq_store.specs.Fitting.{FitsLog, image_in}
 use Rattle.rq_store.specs.Opening.{IsLeft, next_restart}
 use Rattle.rq_store.specs.State.{ledger_of, size_of}
 use Rattle.rq_store.proofs.Cutting.{fits_log_longer}
@@ -35,12 +37,12 @@ use Rattle.rq_restart.specs.Mended.{IsMended}
 use Rattle.rq_restart.proofs.Aborts.{aborts_none}
 use Rattle.rq_restart.proofs.Begun.{mended_extends}
 use Rattle.rq_lost.specs.Recovered.IsRecovered.{NoneLost}
-use Rattle.rq_restart.specs.Refused.{IsFirstFault, TellsDamage}
 use Rattle.rq_links.specs.Links.{AreLinked}
 use Rattle.rq_links.proofs.Sound.{sound_linked}
 use Rattle.rq_restart.proofs.Linking.{fault_within}
-use Rattle.rq_restart.specs.Repeating.{IsFirstBad, Paged, Repeats, slots_on}
-use Rattle.rq_restart.specs.Restarting.{BeginsAtMost, IsBegunOn, IsRead, LogStops}
+use Rattle.rq_restart.specs.Repeating.{Paged, Repeats, slots_on}
+use Rattle.rq_restart.specs.Refused.{IsBadNext}
+use Rattle.rq_restart.specs.Restarting.{BeginsAtMost, IsBegunOn, LogStops}
 use Rattle.rq_restart.proofs.Parsing.{no_damage, one_log}
 use Rattle.rq_restart.specs.Underway.{OfStores}
 use Rattle.rq_core.specs.Devices.{mem_log, mem_pages}
@@ -156,39 +158,27 @@ checks = record {
 
 -- a log that was only read
 pub only_read : (d : MemLog) → IsRead mem_log d d
-only_read d = record { same = refl; leaves = λ c may. may; moments = started mem_log d (mem_log.may_leave d) (λ c left. log_now d c left) }
+only_read d = record { same = refl; honest = λ h. h; leaves = λ c may. may; moments = started mem_log d (mem_log.may_leave d) (λ c left. log_now d c left) }
 
 -- no log is refused so for these
 never_stops : (z : Sizes) (first : Paged) (old new : MemLog) → LogStops mem_log z first why.Full old new → ⊥
-never_stops z first old new (inl l) = at l.4 where
-  at : IsFirstFault z l.0 first l.2 why.Full → ⊥
-  at (inl f) = subst (λ (r : Refusal). StopsFor mem_log r l.0 old new) (sym f.0) l.3
-  at (inr f) = f.1
+never_stops z first old new (inl l) = ⊎_elim (λ s. s) (λ b. (let e = b.told in cc e)) l.why
 never_stops z first old new (inr r) = r.3
 
 no_first_page : (z : Sizes) (first : Paged) (old new : MemLog) → LogStops mem_log z first (why.Damaged (damage.Page 0)) old new → ⊥
-no_first_page z first old new (inl l) = at l.4 where
-  at : IsFirstFault z l.0 first l.2 (why.Damaged (damage.Page 0)) → ⊥
-  at (inl f) = subst (λ (r : Refusal). StopsFor mem_log r l.0 old new) (sym f.0) l.3
-  at (inr f) = f.1
+no_first_page z first old new (inl l) = ⊎_elim (λ s. s) (λ b. (let e = b.told in cc e)) l.why
 no_first_page z first old new (inr r) =
-    ⊎_elim (λ b. ⊎_elim (λ u. (let low = u.low in omega (arith, low))) (λ u. (let low = u.1.low in omega (arith, low))) b.beyond)
+    ⊎_elim (λ b. (let low = b.beyond.low in omega (arith, low)))
     (λ u. (let low = fault_within z u.0.last 0 u.0.fault in omega (arith, low))) r.3.0
 
 -- nor as unfinished
 never_unfinished : (z : Sizes) (first : Paged) (old new : MemLog) → LogStops mem_log z first why.Unfinished old new → ⊥
-never_unfinished z first old new (inl l) = at l.4 where
-  at : IsFirstFault z l.0 first l.2 why.Unfinished → ⊥
-  at (inl f) = subst (λ (r : Refusal). StopsFor mem_log r l.0 old new) (sym f.0) l.3
-  at (inr f) = f.1
+never_unfinished z first old new (inl l) = ⊎_elim (λ s. s) (λ b. (let e = b.told in cc e)) l.why
 never_unfinished z first old new (inr r) = r.3
 
 -- where there is no room the log was only read
 full_read : (z : Sizes) (first : Paged) (old new : MemLog) → LogStops mem_log z first why.LogFull old new → IsRead mem_log old new
-full_read z first old new (inl l) = absurd (at l.4) where
-  at : IsFirstFault z l.0 first l.2 why.LogFull → ⊥
-  at (inl f) = subst (λ (r : Refusal). StopsFor mem_log r l.0 old new) (sym f.0) l.3
-  at (inr f) = f.1
+full_read z first old new (inl l) = l.read
 full_read z first old new (inr r) = r.3.2
 
 -- records with a byte behind them
@@ -206,44 +196,35 @@ damaged_there d records h = record {
 odd_spelled : AreSpelled odd_log
 odd_spelled = (free_is, first_spelled)
 
-fault_first : IsFirstFault sizes odd_log read_pages (why.Damaged (damage.Record 3)) (why.Damaged (damage.Record 2))
-fault_first = inr (
-  tt,
-  record { older = log_1; newest = odd_record; are = refl; place = refl; mid = read_pages; repeated = repeats_1; bad = odd_bad },
-)
+-- the number of the record that is blamed
+abbrev blamed_in : Refusal → ℕ
+blamed_in (why.Damaged (damage.Record lsn)) = lsn
+blamed_in _ = 0
 
 -- a device of fourteen bytes holds one record at most
 module _ (old new : MemLog) (h : HoldsBytes old (spelled log_1 ++ 0 ∷ [])) where
-  few : (front : List Record) → AreSpelled front → IsDamagedBehind front (mem_log.seen old) → length front ≤ 1
-  few front told d =
+  few : (front : List Record) (rest : List ℕ) → AreSpelled front → mem_log.seen old ≡ spelled front ++ rest → length front ≤ 1
+  few front rest told d =
       let long = long_log front told in
-      let e : length (spelled log_1 ++ 0 ∷ []) ≡ length (spelled front ++ d.rest) = ap length (sym (bytes_seen old (spelled log_1 ++ 0 ∷ []) h) ∙ d.is) in
+      let e : length (spelled log_1 ++ 0 ∷ []) ≡ length (spelled front ++ rest) = ap length (sym (bytes_seen old (spelled log_1 ++ 0 ∷ []) h) ∙ d) in
       let a = length-append (spelled log_1) (0 ∷ []) in
-      let b = length-append (spelled front) d.rest in
+      let b = length-append (spelled front) rest in
       let first : length (spelled log_1) ≡ 13 = length-spelling_restart 1 in
       omega (arith, long, e, a, b, first)
 
-  -- where reading stopped for damage, it stands behind what was read
-  behind : (front : List Record) (r : Refusal) → TellsDamage r → StopsFor mem_log r front old new → IsDamagedBehind front (mem_log.seen old)
-  behind front (why.Damaged (damage.Record lsn)) told s = s.1 tt
-  behind front (why.Damaged (damage.Page page)) told s = absurd s
-  behind front _ told s = absurd told
-
   third : Stops (why.Damaged (damage.Record 3)) old new → ⊥
-  third (inl l) = at l.4 where
-    at : IsFirstFault sizes l.0 read_pages l.2 (why.Damaged (damage.Record 3)) → ⊥
-    at (inl f) =
-        let s : StopsFor mem_log (why.Damaged (damage.Record 3)) l.0 old new = subst (λ (r : Refusal). StopsFor mem_log r l.0 old new) (sym f.0) l.3 in
-        let n : 3 ≡ length l.0 + 1 = s.0 in
-        let m = few l.0 l.1 (s.1 tt) in
+  third (inl l) = at l.why where
+    at : StopsFor mem_log (why.Damaged (damage.Record 3)) l.front old new ⊎ IsBadNext mem_log sizes l.front l.mid (why.Damaged (damage.Record 3)) old new → ⊥
+    at (inl s) =
+        let n : 3 ≡ length l.front + 1 = s.0 in
+        let d = s.1 tt in
+        let m = few l.front d.rest l.are_spelled d.is in
         omega (arith, n, m)
-    at (inr f) =
-        let m = few l.0 l.1 (behind l.0 l.2 f.0 l.3) in
-        let b : IsFirstBad sizes l.0 read_pages 3 = f.1 in
-        let p = b.place in
-        let e : length (oldest 3 l.0) ≡ length (b.newest ∷ b.older) = ap (λ (x : List Record). length x) b.are in
-        let d = length-drop (length l.0 - 3) l.0 in
-        omega (arith, m, p, e, d)
+    at (inr b) =
+        let n : 3 ≡ length l.front + 1 = ap blamed_in b.told in
+        let begins = b.begins tt in
+        let m : length (b.newest ∷ l.front) ≤ 1 = few (b.newest ∷ l.front) begins.0 (b.is_record, l.are_spelled) begins.1 in
+        omega (arith, n, m)
   third (inr r) = no_damage r.0 log_1 r.1 first_spelled (subst (λ (b : List ℕ). IsDamagedBehind log_1 b) (r.2 tt) (damaged_there old log_1 h))
 
 -- behind a record that doesn't belong the log is not gone through
@@ -260,17 +241,27 @@ odd_stops last r =
       };
     })
 
-not_first : IsFirstFault sizes odd_log read_pages (why.Damaged (damage.Record 3)) (why.Damaged (damage.Record 3)) → ⊥
-not_first (inl f) = (let w = f.1 tt in odd_stops w.0 w.1)
-not_first (inr f) =
-    let b : IsFirstBad sizes odd_log read_pages 3 = f.1 in
-    let p = b.place in
-    let e : 2 ≡ length (b.newest ∷ b.older) = ap (λ (x : List Record). length x) b.are in
-    omega (arith, p, e)
+-- where two are at fault, the second is not blamed: all in front of it would belong
+module _ (old new : MemLog) (h : HoldsBytes old (spelled odd_log ++ 0 ∷ [])) where
+  both_read : (front : List Record) (rest : List ℕ) → length front ≡ 2 → AreSpelled front → mem_log.seen old ≡ spelled front ++ rest → odd_log ≡ front
+  both_read [] rest two told is = absurd (omega (arith, two))
+  both_read (a ∷ []) rest two told is = absurd (omega (arith, two))
+  both_read (b ∷ a ∷ []) rest two told is =
+      let e : spelled odd_log ++ 0 ∷ [] ≡ spelled (b ∷ a ∷ []) ++ rest = sym (bytes_seen old (spelled odd_log ++ 0 ∷ []) h) ∙ is in
+      let whole = sym (append_assoc (spelled log_1) (spelling odd_record) (0 ∷ [])) ∙ e ∙ append_assoc (spelled (a ∷ [])) (spelling b) rest in
+      let first = one_spelling (Restart 1) a (spelling odd_record ++ 0 ∷ []) (spelling b ++ rest) first_spelled.0 told.1.0 whole in
+      let second = one_spelling odd_record b (0 ∷ []) rest free_is told.0 first.1 in
+      ap (λ (r : Record). odd_record ∷ r ∷ []) first.0 ∙ ap (λ (r : Record). r ∷ a ∷ []) second.0
+  both_read (c ∷ b ∷ a ∷ front) rest two told is = absurd (omega (arith, two))
 
-told_so : (z : Sizes) (front : List Record) (first : Paged) → IsFirstFault z front first why.DiskRead why.NoMemory → ⊥
-told_so z front first (inl f) = (let e = f.0 in cc e)
-told_so z front first (inr f) = f.0
+  not_second : Stops (why.Damaged (damage.Record 3)) old new → ⊥
+  not_second (inl l) =
+      let begins = l.begins tt in
+      let two : length l.front ≡ 2 =
+      ⊎_elim (λ s. (let n : 3 ≡ length l.front + 1 = s.0 in omega (arith, n))) (λ b. (let n : 3 ≡ length l.front + 1 = ap blamed_in b.told in omega (arith, n))) l.why in
+      let same : odd_log ≡ l.front = both_read l.front begins.0 two l.are_spelled begins.1 in
+      odd_stops l.mid (subst (λ (front : List Record). Repeats sizes front read_pages l.mid) (sym same) l.repeated)
+  not_second (inr r) = no_damage r.0 odd_log r.1 odd_spelled (subst (λ (b : List ℕ). IsDamagedBehind odd_log b) (r.2 tt) (damaged_there old odd_log h))
 
 -- what is damaged of the pages
 first_seen : (pages : MemPages) → AreNewPages pages formatted_pages → mem_pages.seen pages 0 ≡ superblock
@@ -289,12 +280,12 @@ group_ahead = record {
     refl,
     record { belongs = record { next = refl; follows = follow_5.1.1.1.1.0; may = record { write = tt; before = tt } }; redone = λ p. refl; marked = refl },
   );
-  beyond = inl (record {
+  beyond = record {
     low = omega arith;
     high = omega arith;
     bad = λ c. (let w : lsn_of (page_image 3 1 1 groups_1) ≤ 1 = c.lsn in let e = group_lsn in omega (arith, e, w));
     first = λ p low less. absurd (omega (arith, low, less));
-  });
+  };
 }
 
 pub refusals : RefusalsAreJudged
@@ -318,28 +309,52 @@ refusals = record {
   log_touched = λ pages new_pages log new_log other s. ⊎_elim (λ p. p.0) (λ l. other (full_read l.0 _ log new_log l.5).same) s;
   otherwise = λ pages new_pages log new_log s. ⊎_elim (λ p. p.0) (λ l. never_stops l.0 _ log new_log l.5) s;
   one_open = λ old new s. never_unfinished sizes read_pages old new s;
-  damaged_behind = λ d h. inl (
-    log_1,
-    first_spelled,
-    why.Damaged (damage.Record 2),
-    (refl, λ honest. damaged_there d log_1 h, refl),
-    inl (refl, λ told. (read_pages, repeats_1)),
-    only_read d,
-  );
+  damaged_behind = λ d h. inl (record {
+    front = log_1;
+    are_spelled = first_spelled;
+    begins = λ honest. (0 ∷ [], bytes_seen d (spelled log_1 ++ 0 ∷ []) h);
+    mid = read_pages;
+    repeated = repeats_1;
+    why = inl (refl, λ honest. damaged_there d log_1 h, refl);
+    read = only_read d;
+  });
   damaged_elsewhere = third;
-  first_of_two = λ d h. inl (
-    odd_log,
-    odd_spelled,
-    why.Damaged (damage.Record 3),
-    (refl, λ honest. damaged_there d odd_log h, refl),
-    fault_first,
-    only_read d,
-  );
-  as_it_stopped = inl (refl, λ told. absurd told);
-  damage_behind = inl (refl, λ told. (repeated_pages, repeats_5));
-  fault_before = fault_first;
-  not_the_first = not_first;
-  told_otherwise = told_so;
+  first_of_two = λ d h. inl (record {
+    front = log_1;
+    are_spelled = first_spelled;
+    begins = λ honest. (spelling odd_record ++ 0 ∷ [], bytes_seen d (spelled odd_log ++ 0 ∷ []) h ∙ append_assoc (spelled log_1) (spelling odd_record) (0 ∷ []));
+    mid = read_pages;
+    repeated = repeats_1;
+    why = inr (record {
+      newest = odd_record;
+      is_record = free_is;
+      begins = λ honest. (0 ∷ [], bytes_seen d (spelled odd_log ++ 0 ∷ []) h);
+      told = refl;
+      bad = odd_bad;
+      counted = refl;
+    });
+    read = only_read d;
+  });
+  second_of_two = not_second;
+  memory_wanting = λ d. inl (record {
+    front = [];
+    are_spelled = tt;
+    begins = λ honest. (mem_log.seen d, refl);
+    mid = read_pages;
+    repeated = refl;
+    why = inl refl;
+    read = only_read d;
+  });
+  damage_behind = λ d h. inl (record {
+    front = log_5;
+    are_spelled = records_spelled;
+    begins = λ honest. (0 ∷ [], bytes_seen d (spelled log_5 ++ 0 ∷ []) h);
+    mid = repeated_pages;
+    repeated = repeats_5;
+    why = inl (refl, λ honest. damaged_there d log_5 h, refl);
+    read = only_read d;
+  });
+  none_behind_a_bad_one = odd_stops;
   begins_not_for_room = λ last before. (inl (omega arith), tt);
   begins_not_of_five = λ s. ⊎_elim (λ e. omega (arith, e)) (λ e. omega (arith, e)) s.0;
   may_be_shut = refl;

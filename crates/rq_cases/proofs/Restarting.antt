@@ -25,7 +25,7 @@ use Rattle.rq_store.proofs.Cutting.{fits_log_longer}
 use Rattle.rq_store.proofs.Formatting.{formatted_fits}
 use Rattle.rq_rules.specs.Rules.{FollowAll}
 use Rattle.rq_rules.proofs.Whole.{whole_logs}
-use Rattle.rq_restart.specs.Repeating.{AreCounted, Belongs, IsFirstBad, IsRepeated, Paged, Repeats}
+use Rattle.rq_restart.specs.Repeating.{AreCounted, Belongs, IsRepeated, Paged, Repeats}
 use Rattle.rq_restart.specs.Restarting.{IsBegunOn, IsLeftOn}
 use Rattle.rq_restart.proofs.Aborts.{aborts_none}
 use Rattle.rq_restart.proofs.Begun.{mended_incarnation}
@@ -249,13 +249,6 @@ odd_bad b =
     let e = sym free_told.0 ∙ ap (held_in sizes 2) (sym first_cell_stands ∙ stands) ∙ cell_told.0 in
     cc e
 
-abbrev BelongsIn : Paged → List Record → Type 0
-BelongsIn mid [] = ⊥
-BelongsIn mid (r ∷ older) = Belongs sizes older r mid
-
-first_belongs : IsFirstBad sizes (odd_record ∷ log_1) read_pages 1 → ⊥
-first_belongs b = b.bad (subst (BelongsIn b.mid) b.are (record { next = refl; follows = follow_5.1.1.1.1.0; may = record { write = tt; before = tt } }))
-
 pub open_4 : IsEnded log_4 → ⊥
 open_4 e = cc e
 
@@ -345,9 +338,9 @@ restarts = record {
   begun_by_a_commit = begun_commit;
   gone_through = gone;
   not_repeated = λ g. made_there read_pages read_pages no_cell_lsn no_cell_lsn g.repeated;
-  bad_record = record { older = log_1; newest = odd_record; are = refl; place = refl; mid = read_pages; repeated = repeats_1; bad = odd_bad };
-  bad_rule = record { older = log_1; newest = page_op t1 2 fill_cell; are = refl; place = refl; mid = read_pages; repeated = repeats_1; bad = another_number };
-  bad_record_elsewhere = first_belongs;
+  bad_record = (refl, odd_bad);
+  bad_rule = (refl, another_number);
+  bad_record_elsewhere = λ n. (let e : 1 ≡ 2 = n.0 in omega (arith, e));
   page_beyond = record {
     low = omega arith;
     high = omega arith;

@@ -6,7 +6,7 @@ use Rattle.rq_disk.specs.declared.mem_log.MemLog.{MemLog}
 use Rattle.rq_model.specs.declared.record.Record.TheVariants.{Commit, Restart}
 use Rattle.rq_views.specs.WorkedItems.{t1}
 use Rattle.rq_store.specs.Whole.{IsWhole}
-use Rattle.rq_log.specs.Scanned.{BeginsWith, IsDamagedBehind, StopsAt, StopsFor}
+use Rattle.rq_log.specs.Reading.{BeginsWith, IsDamagedBehind, StopsFor}
 use Rattle.rq_log.specs.Spelled.{AreSpelled, GoesOn, IsBeginning, spelled}
 use Rattle.rq_core.specs.Devices.{mem_log}
 use Rattle.rq_cases.specs.Opened.{IsNewLog}
@@ -30,10 +30,10 @@ pub record LogsAreJudged : Type 0 where
   -- bytes that begin with records, and damage behind them
   pub begins : BeginsWith log_1 (spelled log_5)
   pub begins_not : BeginsWith log_1 (0 ∷ []) → ⊥
-  pub damaged : StopsAt (why.Damaged (damage.Record 2)) log_1 (spelled log_1 ++ 0 ∷ [])
-  pub damaged_elsewhere : StopsAt (why.Damaged (damage.Record 3)) log_1 (spelled log_1 ++ 0 ∷ []) → ⊥
+  pub damaged : IsDamagedBehind log_1 (spelled log_1 ++ 0 ∷ [])
   pub nothing_behind : IsDamagedBehind log_1 (spelled log_1) → ⊥
-  pub page_damaged : StopsAt (why.Damaged (damage.Page 1)) log_1 (spelled log_1) → ⊥
+  pub damaged_elsewhere : (old new : MemLog) → StopsFor mem_log (why.Damaged (damage.Record 3)) log_1 old new → ⊥
+  pub page_damaged : (old new : MemLog) → StopsFor mem_log (why.Damaged (damage.Page 1)) log_1 old new → ⊥
   -- a device that is read
   pub memory : (d : MemLog) → StopsFor mem_log why.NoMemory log_1 d d
   pub read_failed_without_a_failure : (d : MemLog) → mem_log.faults d < 2 ^ 64

@@ -19,8 +19,8 @@ use Rattle.rq_views.specs.WorkedItems.{t1, t2}
 use Rattle.rq_store.specs.Fitting.{image_in}
 use Rattle.rq_store.specs.Steps.{page_op}
 use Rattle.rq_engine.specs.Answers.{Refuses}
-use Rattle.rq_restart.specs.Refused.{BeginsNot, IsFirstFault, MayBeShut}
-use Rattle.rq_restart.specs.Repeating.{Paged}
+use Rattle.rq_restart.specs.Refused.{BeginsNot, MayBeShut}
+use Rattle.rq_restart.specs.Repeating.{Paged, Repeats}
 use Rattle.rq_restart.specs.Restarting.{BeginsAtMost, IsBegun, IsReady, IsRefusedFor, LogStops, WasChecked}
 use Rattle.rq_restart.specs.Underway.{IsLeftOrGoesOn, OfStores}
 use Rattle.rq_core.specs.Devices.{mem_log, mem_pages}
@@ -99,16 +99,12 @@ pub record RefusalsAreJudged : Type 0 where
       → Stops (why.Damaged (damage.Record 3)) old new → ⊥
   pub first_of_two : (d : MemLog) → HoldsBytes d (spelled odd_log ++ 0 ∷ [])
       → Stops (why.Damaged (damage.Record 2)) d d
-  -- damage behind records is told only where all of these belong
-  pub as_it_stopped : IsFirstFault sizes log_1 read_pages why.NoMemory why.NoMemory
-  pub damage_behind : IsFirstFault sizes log_5 read_pages (why.Damaged (damage.Record 6))
-      (why.Damaged (damage.Record 6))
-  pub fault_before : IsFirstFault sizes odd_log read_pages (why.Damaged (damage.Record 3))
-      (why.Damaged (damage.Record 2))
-  pub not_the_first : IsFirstFault sizes odd_log read_pages (why.Damaged (damage.Record 3))
-      (why.Damaged (damage.Record 3)) → ⊥
-  pub told_otherwise : (z : Sizes) (front : List Record) (first : Paged)
-      → IsFirstFault z front first why.DiskRead why.NoMemory → ⊥
+  pub second_of_two : (old new : MemLog) → HoldsBytes old (spelled odd_log ++ 0 ∷ [])
+      → Stops (why.Damaged (damage.Record 3)) old new → ⊥
+  -- behind records that all belong and are repeated
+  pub memory_wanting : (d : MemLog) → Stops why.NoMemory d d
+  pub damage_behind : (d : MemLog) → HoldsBytes d (spelled log_5 ++ 0 ∷ []) → Stops (why.Damaged (damage.Record 6)) d d
+  pub none_behind_a_bad_one : (last : Paged) → Repeats sizes odd_log read_pages last → ⊥
   -- why no incarnation was begun
   pub begins_not_for_room : (last before : ℕ) → BeginsNot why.LogFull (2 ^ 50) last before before (Unit {0})
   pub begins_not_of_five : BeginsNot why.LogFull 5 1 0 0 (Unit {0}) → ⊥

@@ -5,6 +5,7 @@ use Rattle.rq_model.specs.declared.refusal.Refusal.{Refusal}
 use Rattle.rq_model.specs.declared.record.Record.TheVariants.{Commit, Restart}
 use Rattle.rq_model.specs.declared.refusal.Damage.{Damage}
 use Rattle.rq_model.specs.declared.refusal.Refusal.TheVariants as why
+use Rattle.rq_model.specs.declared.refusal.Damage.TheVariants as damage
 use Rattle.rq_disk.specs.declared.mem_log.MemLog.{MemLog}
 use Rattle.rq_disk.specs.declared.mem_pages.MemPages.{MemPages}
 use Rattle.rq_log.specs.Spelled.{spelled}
@@ -12,10 +13,10 @@ use Rattle.rq_views.specs.WorkedItems.{t1}
 use Rattle.rq_store.specs.Fitting.{image_in}
 use Rattle.rq_store.specs.Opening.{IsLeft}
 use Rattle.rq_store.specs.Steps.{page_op}
-use Rattle.rq_restart.specs.Repeating.{IsFirstBad, IsFirstUncounted, Paged}
+use Rattle.rq_restart.specs.Repeating.{IsFirstUncounted, Paged}
 use Rattle.rq_restart.specs.Restarting.{IsBegunOn, IsLeftOn, IsReadAs, Reports, Stops}
 use Rattle.rq_restart.specs.Mended.{IsUnlinked}
-use Rattle.rq_restart.specs.Refused.{WhyShut}
+use Rattle.rq_restart.specs.Refused.{NotRepeated, WhyShut}
 use Rattle.rq_restart.specs.Checked.{IsEnded, IsGoneThrough, as_read}
 use Rattle.rq_core.specs.Devices.{mem_log, mem_pages}
 use Rattle.rq_cases.specs.Opened.{AreNewPages, IsNewLog}
@@ -59,10 +60,11 @@ pub record RestartsAreJudged : Type 0 where
   pub gone_through : IsGoneThrough sizes log_5 read_pages repeated_pages
   pub not_repeated : IsGoneThrough sizes log_5 read_pages read_pages → ⊥
   -- a record whose before-image doesn't stand there, and a page that is beyond the log
-  pub bad_record : IsFirstBad sizes (page_op t1 1 free_cell ∷ log_1) read_pages 2
+  pub bad_record : NotRepeated sizes log_1 (page_op t1 1 free_cell) read_pages (why.Damaged (damage.Record 2))
   -- nor does one that breaks the rules of a log: an operation that has another number than 1
-  pub bad_rule : IsFirstBad sizes (page_op t1 2 fill_cell ∷ log_1) read_pages 2
-  pub bad_record_elsewhere : IsFirstBad sizes (page_op t1 1 free_cell ∷ log_1) read_pages 1 → ⊥
+  pub bad_rule : NotRepeated sizes log_1 (page_op t1 2 fill_cell) read_pages (why.Damaged (damage.Record 2))
+  pub bad_record_elsewhere : NotRepeated sizes log_1 (page_op t1 1 free_cell) read_pages
+      (why.Damaged (damage.Record 1)) → ⊥
   pub page_beyond : IsFirstUncounted sizes 1 repeated_pages 1
   pub page_beyond_is_not_the_first : IsFirstUncounted sizes 1 repeated_pages 2 → ⊥
   -- why it is refused

@@ -155,7 +155,10 @@ fn happen_to_open(
             switch.arm_call(*n, Mishap::Fail);
             Ok((Store::Open(engine), Entry::Nothing))
         }
-        Happening::Crash(choice) => Ok(crash_open(switch, engine, choice.keep, images(choice)?)),
+        Happening::Crash(choice) => {
+            let images = images(choice)?;
+            Ok(crash_open(switch, engine, choice.keep, images))
+        }
         Happening::StopIn(event, n, choice) => {
             let images = images(choice)?;
             Ok(stop_in(switch, engine, event, *n, choice.keep, images))

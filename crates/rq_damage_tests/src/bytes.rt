@@ -310,7 +310,11 @@ pub fn written() -> Images {
     images
 }
 
-fn devices(alloc: Global, images: &Images, log: &[u8]) -> Result<(MemPages, MemLog), AllocError> {
+fn devices(
+    alloc: Global,
+    images: &[[u8; PAGE]],
+    log: &[u8],
+) -> Result<(MemPages, MemLog), AllocError> {
     let switch = Switch::new(alloc)?;
     let pages = MemPages::new(alloc, images.to_vec(alloc)?, switch.share()?)?;
     let log = MemLog::new(alloc, log.to_vec(alloc)?, switch);
@@ -318,7 +322,7 @@ fn devices(alloc: Global, images: &Images, log: &[u8]) -> Result<(MemPages, MemL
 }
 
 /// What a restart refuses of these images and bytes; none where it opens the store.
-pub fn refused(alloc: Global, images: &Images, log: &[u8]) -> Option<Refusal> {
+pub fn refused(alloc: Global, images: &[[u8; PAGE]], log: &[u8]) -> Option<Refusal> {
     match devices(alloc, images, log) {
         Ok((pages, log)) => match restart(alloc, pages, log) {
             Ok(_) => None,

@@ -4,7 +4,7 @@ use crate::bytes::{
     group, new_group, one_sent, page, record, refused, sent, sent_once, set_slot, spelled, told,
     told_on, undo, write,
 };
-use rq_model::record::Record;
+use rq_model::record::{Record, Slot};
 use rq_model::refusal::Refusal;
 use rq_model::txn::Txn;
 use std::alloc::Global;
@@ -450,5 +450,52 @@ fn numbers_of_operations_with_gaps(rt: HostRuntime) -> Result<(), Fail> {
     assert!(rt; told(alloc, &[BEGUN, fill(), count(), sent_once(), other]) == record(5));
     let first = write(SECOND, 1, (2, 2), FREE, first_cell());
     assert!(rt; told(alloc, &[BEGUN, fill(), count(), sent_once(), first]) == None);
+    Ok(())
+}
+
+#[test]
+fn ends_of_what_did_not_begin(rt: HostRuntime) -> Result<(), Fail> {
+    let alloc = rt.alloc();
+    assert!(rt; told(alloc, &[BEGUN, sent_once()]) == record(2));
+    assert!(rt; told(alloc, &[BEGUN, void(1)]) == record(2));
+    assert!(rt; told(alloc, &[BEGUN, fill(), count(), sent_once(), taken_back()]) == record(5));
+    Ok(())
+}
+
+// The slot of sender 0 once its message was sent, and it closed.
+fn closed_behind() -> Slot {
+    let mut slot = one_sent();
+    slot[0] = 2;
+    slot
+}
+
+// A transaction that sent and closed; and its inverse by which the operation with this end is undone.
+fn sent_and_closed(undone: u64) -> [Record; 8] {
+    [
+        BEGUN,
+        fill(),
+        count(),
+        sent_once(),
+        write(FIRST, 2, (1, 1), one_sent(), closed_behind()),
+        end(FIRST, 2, &[3, 0, 0, 0, 0]),
+        write(FIRST, 3, (1, 1), closed_behind(), one_sent()),
+        comp_end(FIRST, 3, undone),
+    ]
+}
+
+#[test]
+fn what_is_undone_before_what_is_newer(rt: HostRuntime) -> Result<(), Fail> {
+    let alloc = rt.alloc();
+    assert!(rt; told(alloc, &[BEGUN, fill(), count(), undone_write()]) == record(4));
+    assert!(rt; told(alloc, &sent_and_closed(6)) == None);
+    assert!(rt; told(alloc, &sent_and_closed(4)) == record(8));
+    Ok(())
+}
+
+// An operation without an end, whose transaction has committed: the record that would undo it does not belong.
+#[test]
+fn a_commit_amid_an_operation(rt: HostRuntime) -> Result<(), Fail> {
+    let alloc = rt.alloc();
+    assert!(rt; told(alloc, &[BEGUN, fill(), COMMIT]) == record(4));
     Ok(())
 }

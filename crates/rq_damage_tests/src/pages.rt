@@ -3,6 +3,7 @@ use crate::bytes::{
     BEGUN, COMMIT, FIRST, FIRST_CELL, FREE, Images, cell, count, end, fill, first_cell, formatted,
     group, page, record, refused, sent, sent_once, set_slot, spelled, told_on, write, written,
 };
+use rq_disk::PAGE;
 use rq_model::record::{Record, Slot};
 use rq_model::refusal::Refusal;
 use std::alloc::Global;
@@ -276,5 +277,23 @@ fn records_in_their_order(rt: HostRuntime) -> Result<(), Fail> {
     let mut images = formatted();
     change(&mut images, 1, 7, 9);
     assert!(rt; refused(alloc, &images, &log) == record(2));
+    Ok(())
+}
+
+#[test]
+fn pages_of_another_number_than_the_store(rt: HostRuntime) -> Result<(), Fail> {
+    let alloc = rt.alloc();
+    let mut more = formatted().to_vec(alloc)?;
+    more.push([7; PAGE])?;
+    assert!(rt;
+        refused(alloc, &more, &[]) == None,
+        "those behind are not the store's"
+    );
+    let mut images = formatted();
+    images[0][275] = 2;
+    assert!(rt;
+        refused(alloc, &images, &[]) == Some(Refusal::DiskRead),
+        "one is missing"
+    );
     Ok(())
 }

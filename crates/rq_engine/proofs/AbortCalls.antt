@@ -42,6 +42,7 @@ use Rattle.rq_store.specs.Rows.{placed}
 use Rattle.rq_store.specs.Sound.{takes_one}
 use Rattle.rq_store.proofs.Grouping.{groups_of}
 use Rattle.rq_store.proofs.RowLists.{found_in}
+use Rattle.rq_planner.specs.Answered.{IsNewestDeed}
 use Rattle.rq_sound.specs.Counted.{appends_aim, takes_all}
 use Rattle.rq_sound.specs.Plans.{AreUnlatched}
 use Rattle.rq_sound.specs.Rows.{comp_end}
@@ -243,6 +244,18 @@ module _ (s : State) (t : Txn) (n : ℕ) (f : Finished) (h : NoneHolds (ready_te
       let test : (is_some (newest (found t (ledger_of s).open_ones)) && log_full (ledger_of s) (undo_cost (newest (found t (ledger_of s).open_ones)))) ≡ false =
       rw (some_left) (ap (log_full (ledger_of s)) cost_found ∙ room) in
       (h.0, (h.1.0, (h.1.1.0, (h.1.1.1.0, (test, tt)))))
+
+  -- it is the newest deed of a transaction with nothing under way
+  pub is_newest : IsNewestDeed s f.deed
+  is_newest =
+      let r : (r : Row) × (found_row t s.rows ≡ Some r) × ((r.under ≡ None) × (n ≡ r.number + 1) × (r.aborting ≡ true) × (last r.finished ≡ Some f)) = turned_row s t n (Some f) back in
+      record {
+        row = r.0;
+        older = front r.0.finished;
+        lsn = f.lsn;
+        idle = record { at_row = ap (λ (q : Txn). found_row q s.rows) (found_in t s.rows r.0 r.1).1 ∙ r.1; idle = r.2.0 };
+        last = last_some r.0.finished f r.2.3;
+      }
 
   -- what it needs is there
   pub may_be_undone : IsSound s → MayBeUndone s f.deed

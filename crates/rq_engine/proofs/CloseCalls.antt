@@ -11,11 +11,15 @@ use Rattle.rq_model.specs.Tests.{Passes, NoneHolds, free_to_send, has_closed, lo
 use Rattle.rq_page.specs.declared.directory.Directory.{Directory}
 use Rattle.rq_page.specs.Sizes.{sender_count, directory_at}
 use Rattle.rq_page.specs.Slots.Slot.{Sender}
+use Rattle.rq_views.specs.Items.{items}
+use Rattle.rq_views.specs.Legal.{view}
 use Rattle.rq_views.specs.Stored.{slots_in}
 use Rattle.rq_chain.specs.declared.ChainPlan.{ChainPlan as Plan}
 use Rattle.rq_txn.specs.Rows.{found_row, change_row, row_started}
 use Rattle.rq_groups.specs.Ends.{is_free_for, with_held}
 use Rattle.rq_store.specs.State.{State, ledger_of, size_of}
+use Rattle.rq_store.proofs.RowLists.{found_in}
+use Rattle.rq_sound.proofs.Groups.{slots_tell}
 use Rattle.rq_sound.specs.Plans.{AreUnlatched}
 use Rattle.rq_sound.specs.Sound.{IsSound}
 use Rattle.rq_sound.specs.Steps.{Steps}
@@ -51,6 +55,14 @@ module _ (s : State) (t : Txn) (e : ℕ) (h : NoneHolds (ready_tests (ledger_of 
 
       pub closed : d.closed ≡ true → Refuses s call why.Closed
       closed c k = refuse s call why.Closed refl tt (rw (h.0, h.1.0, h.1.1.0, h.1.1.1.0, known, free_by k, closed_by k, c) refl) k
+
+      -- the group is open
+      pub is_open : d.closed ≡ false → (k : IsSound s) → (view (items s.sizes s.records) e).closed ≡ false
+      is_open c k =
+          let ready = ready_row s t h in
+          let r = found_of (λ r. (r.under ≡ None) × (ready.0 ≡ r.number + 1)) (found_row t s.rows) ready.1 in
+          let own = found_in t s.rows r.0 r.1 in
+          slots_tell.flag s r.0 e d k (record { at_row = ap (λ (q : Txn). found_row q s.rows) own.1 ∙ r.1; idle = r.2.0 }) below (ap (λ (q : Txn). is_free_for q e s.ends.sending) own.1 ∙ free) at ∙ c
 
       module _ (open_now : d.closed ≡ false) where
         pub log_is_full : log_full (ledger_of s) 2 ≡ true → Refuses s call why.LogFull

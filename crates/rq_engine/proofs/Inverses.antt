@@ -18,11 +18,11 @@ use Rattle.rq_sound.specs.Plans.{IsPlannedFrom}
 
 -- ---- how many writes there are
 
-relinked_count : (at : ℕ) (o : Option Cell) (f : Cell → Cell) (ws : List Write) → length (relinked at o f ws) ≤ length ws + 1
+pub relinked_count : (at : ℕ) (o : Option Cell) (f : Cell → Cell) (ws : List Write) → length (relinked at o f ws) ≤ length ws + 1
 relinked_count at None f ws = omega arith
 relinked_count at (Some c) f ws = omega arith
 
-of_writes : (z : Sizes) (us : List SlotWrite) (ws : List Write) → reverse (writes_of z us) ≡ ws → length us ≡ length ws
+pub of_writes : (z : Sizes) (us : List SlotWrite) (ws : List Write) → reverse (writes_of z us) ≡ ws → length us ≡ length ws
 of_writes z us ws is =
     let a : length (reverse (writes_of z us)) ≡ length ws = ap length is in
     let b = length-reverse (writes_of z us) in

@@ -1,6 +1,6 @@
 -- What is latched, exactly: whether a planned send or receive meets others' pages, and what that makes of the call.
 use Rattle.std.proofs.Common.{◌≡◌, ℕ, ◌/◌, ◌<◌, ◌||◌, List, [], ◌∷◌, length, reverse, refl, sym, ◌∙◌, ap, subst, Bool, true, false, nat_eq, Option, Some, None, Result, Ok, Err, inl, inr, arith, IsTrue}
-use Rattle.std.proofs.lemmas.Bool.{cases_Bool, false≢true, or_left, or_right, true≢false}
+use Rattle.std.proofs.lemmas.Bool.{cases_Bool, false≢true, or_left, true≢false}
 use Rattle.rq_model.specs.declared.message.Message.{Message}
 use Rattle.rq_model.specs.declared.record.Deed.{Deed}
 use Rattle.rq_model.specs.declared.record.Deed.TheVariants.{Append, UnlinkHead, Close}
@@ -14,41 +14,31 @@ use Rattle.rq_model.specs.Words.{last}
 use Rattle.rq_model.specs.History.Call.{Start_close, Start_send, Start_receive, Start_receive_from, Undo_next}
 use Rattle.rq_model.specs.History.Job.{Sending, Taking, Ending}
 use Rattle.rq_model.specs.Reference.{without_pages}
-use Rattle.rq_page.specs.declared.cell.Cell.{Cell}
-use Rattle.rq_page.specs.declared.directory.Directory.{Directory}
 use Rattle.rq_page.specs.Sizes.{cell_count, directory_at}
-use Rattle.rq_page.specs.Slots.Slot.{Used, Sender}
-use Rattle.rq_views.specs.Items.{layout_of}
-use Rattle.rq_views.specs.Plans.{Turn, append_writes, unlink_head_writes}
+use Rattle.rq_views.specs.Plans.{Turn}
 use Rattle.rq_views.specs.Plans.Turn.{Did, Undid}
 use Rattle.rq_level.specs.declared.writes.SlotWrite.{SlotWrite}
 use Rattle.std.proofs.lemmas.List.{length-map, length-reverse}
 use Rattle.rq_page.specs.Sizes.{Sizes}
 use Rattle.rq_views.specs.Log.{Write}
 use Rattle.rq_level.specs.Writes.{write_of, writes_of}
-use Rattle.rq_chain.specs.Neighbours.{cell_beside}
 use Rattle.rq_txn.specs.declared.Finished.{Finished}
 use Rattle.rq_txn.specs.Rows.{Row, any_under, found_row, latched_in}
-use Rattle.rq_store.specs.Plans.{Stands_at, WaitsFor}
+use Rattle.rq_store.specs.Plans.{WaitsFor}
 use Rattle.rq_store.specs.State.{State, job_of}
 use Rattle.rq_sound.specs.Groups.{slots_now}
-use Rattle.rq_sound.specs.Latching.{Begins, IsLatched, NeedsLatched, any_latched, at_head, at_tail, before_tail, head_in, named, next_in, tail_in}
-use Rattle.rq_sound.specs.Plans.{AreUnlatched}
+use Rattle.rq_sound.specs.Latching.{Begins, IsLatched, NeedsLatched, any_latched, at_head, at_tail, before_tail, named}
 use Rattle.rq_sound.specs.Sound.{IsSound}
 use Rattle.rq_sound.proofs.Contracts.{planned}
 use Rattle.rq_sound.proofs.Groups.{all_stand, none_latched}
 use Rattle.rq_sound.proofs.UsedCells.{some_free}
 use Rattle.rq_sound.proofs.Latching.{latched_exact}
-use Rattle.rq_sound.proofs.LatchLists.{any_join}
-use Rattle.rq_sound.proofs.Levels.{are_off, relinked_off}
-use Rattle.rq_inverses.proofs.Planned.{any_left, any_right, beside_off}
 use Rattle.rq_inverses.specs.Inverses.{MayBeUndone}
 use Rattle.rq_engine.specs.Applied.{LatchedReply, OnLatched, TakesUnlatched}
 use Rattle.rq_engine.specs.Aborts.{UndoIsLatched}
 use Rattle.rq_engine.specs.Closes.{close_latched}
 use Rattle.rq_engine.specs.Says.{begun_reply, undo_reply}
-use Rattle.rq_engine.specs.Sends.{AreSendSlots, SendIsLatched, take_latched}
-use Rattle.rq_engine.specs.declared.cells.SendSlots.{SendSlots}
+use Rattle.rq_engine.specs.Sends.{SendIsLatched, take_latched}
 
 -- ---- a link's page
 
@@ -74,57 +64,6 @@ any_busy rows (a ∷ xs) h = elim (cases_Bool (latched_in rows (a / 16))) [
   | inl y ↦ latched_busy rows (a / 16) y
   | inr n ↦ any_busy rows xs (ap (λ b. b || any_latched rows xs) (sym n) ∙ h)
 ]
-
--- ---- sends
-
--- what is planned from these slots is on nobody's pages, and needs none
-module _ (s : State) (g : ℕ) (x : SendSlots) (a : AreSendSlots s g x) where
-  pub slots_off : (ws : List SlotWrite) (tag : ℕ) (body : List ℕ) → reverse (writes_of s.sizes ws) ≡ append_writes (layout_of s.sizes) x.group.sender x.group.directory x.free tag body (cell_beside x.tail) → AreUnlatched s ws
-  slots_off ws tag body is = are_off s ws _ is (
-    subst (λ n. latched_in s.rows (directory_at n / 16) ≡ false) (sym a.sender) a.directory_off,
-    relinked_off s x.group.directory.tail (cell_beside x.tail) _ _ (beside_off s x.group.directory.tail (cell_beside x.tail) a.beside a.tail_off) (a.cell_off, tt),
-  )
-
-  pub slots_free : SendIsLatched s g → ⊥
-  slots_free h = elim h [
-    | inl y ↦ true≢false (sym y ∙ off)
-    | inr all ↦ true≢false (sym (all x.free a.cell a.free) ∙ a.cell_off)
-  ]
-    where
-      off : any_latched s.rows (at_tail (slots_now s) g) ≡ false
-      off = any_join s.rows (directory_at g ∷ []) (named (tail_in (slots_now s (directory_at g)))) (ap (λ b. b || false) a.directory_off) (ap (λ y. any_latched s.rows (named (tail_in y))) a.directory_is ∙ a.tail_off)
-
--- a send whose directory slot, or whose tail, is on a latched page
-pub directory_latched : (s : State) (g : ℕ) → latched_in s.rows (directory_at g / 16) ≡ true → SendIsLatched s g
-directory_latched s g h = inl (or_left (latched_in s.rows (directory_at g / 16)) _ h)
-
-pub tail_latched : (s : State) (g : ℕ) (d : Directory) → slots_now s (directory_at g) ≡ Sender g d → any_latched s.rows (named d.tail) ≡ true → SendIsLatched s g
-tail_latched s g d at h = inl (or_right (latched_in s.rows (directory_at g / 16)) _ (ap (λ x. any_latched s.rows (named (tail_in x))) at ∙ h))
-
--- ---- receives
-
-pub take_directory : (s : State) (g : ℕ) → latched_in s.rows (directory_at g / 16) ≡ true → take_latched s g ≡ true
-take_directory s g h = or_left (latched_in s.rows (directory_at g / 16)) _ h
-
-module _ (s : State) (g : ℕ) (d : Directory) (at : slots_now s (directory_at g) ≡ Sender g d) where
-  pub take_head : any_latched s.rows (named d.head) ≡ true → take_latched s g ≡ true
-  take_head h = any_left s.rows (at_head (slots_now s) g) (named (next_in (slots_now s (head_in (slots_now s (directory_at g))))))
-      (or_right (latched_in s.rows (directory_at g / 16)) _ (ap (λ x. any_latched s.rows (named (head_in x))) at ∙ h))
-
-  pub take_next : (c : Cell) → slots_now s d.head ≡ Used c → any_latched s.rows (named c.next) ≡ true → take_latched s g ≡ true
-  take_next c here h = any_right s.rows (at_head (slots_now s) g) (named (next_in (slots_now s (head_in (slots_now s (directory_at g))))))
-      (ap (λ x. any_latched s.rows (named (next_in (slots_now s (head_in x))))) at ∙ ap (λ x. any_latched s.rows (named (next_in x))) here ∙ h)
-
--- what is planned from such slots is on nobody's pages, and needs none
-module _ (s : State) (g : ℕ) (d : Directory) (c : Cell) (next : Option Cell) (directory : latched_in s.rows (directory_at g / 16) ≡ false)
-    (head_is : slots_now s d.head ≡ Used c) (head : any_latched s.rows (named d.head) ≡ false) (beside : Stands_at (slots_now s) c.next next) (behind : any_latched s.rows (named c.next) ≡ false) where
-  pub take_off : (ws : List SlotWrite) → reverse (writes_of s.sizes ws) ≡ unlink_head_writes (layout_of s.sizes) g d c next → AreUnlatched s ws
-  take_off ws is = are_off s ws _ is (directory, relinked_off s c.next next _ _ (beside_off s c.next next beside behind) (beside_off s d.head (Some c) head_is head c refl, tt))
-
-  pub take_free : slots_now s (directory_at g) ≡ Sender g d → take_latched s g ≡ false
-  take_free at = any_join s.rows (at_head (slots_now s) g) (named (next_in (slots_now s (head_in (slots_now s (directory_at g))))))
-      (any_join s.rows (directory_at g ∷ []) (named (head_in (slots_now s (directory_at g)))) (ap (λ b. b || false) directory) (ap (λ x. any_latched s.rows (named (head_in x))) at ∙ head))
-      (ap (λ x. any_latched s.rows (named (next_in (slots_now s (head_in x))))) at ∙ ap (λ x. any_latched s.rows (named (next_in x))) head_is ∙ behind)
 
 -- ---- calls
 

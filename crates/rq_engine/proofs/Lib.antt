@@ -7,6 +7,7 @@ pub mod Standing
 pub mod Latches
 pub mod Free
 pub mod Inverses
+pub mod Leveled
 pub mod Calls
 pub mod SendCalls
 pub mod TakeCalls

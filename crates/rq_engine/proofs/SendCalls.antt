@@ -1,7 +1,6 @@
 -- What a send answers, from what its tests found.
-use Rattle.std.proofs.Common.{◌≡◌, ℕ, ◌+◌, ◌*◌, ◌<◌, ◌≤◌, ◌/◌, ◌||◌, List, [], ◌∷◌, length, drop, refl, sym, option_map, ◌∙◌, ap, subst, Bool, true, false, not, cond, nat_eq, nat_lt, Option, Some, None, arith, inl, inr}
+use Rattle.std.proofs.Common.{◌≡◌, ℕ, ◌+◌, ◌*◌, ◌<◌, ◌≤◌, ◌||◌, List, length, drop, refl, sym, option_map, ◌∙◌, ap, subst, Bool, true, false, not, cond, nat_eq, nat_lt, Option, Some, None, arith, inl, inr}
 use Rattle.std.proofs.lemmas.Bool.{cases_Bool, false_from_ne_true, eqb-true, eq-eqb, lt-ltb, le-ltb}
-use Rattle.std.proofs.lemmas.List.{length-map}
 use Rattle.rq_model.specs.declared.txn.Txn.{Txn}
 use Rattle.rq_model.specs.declared.refusal.Refusal.TheVariants as why
 use Rattle.rq_model.specs.Words.{is_some}
@@ -15,17 +14,11 @@ use Rattle.rq_page.specs.Sizes.{Sizes, sender_count, cell_count, directory_at}
 use Rattle.rq_page.specs.declared.cell.Cell.{Cell}
 use Rattle.rq_page.specs.Slots.{Slot}
 use Rattle.rq_page.specs.Slots.Slot.{Free, Used, Sender}
-use Rattle.rq_views.specs.Chain.{Node, last, Linked, message}
-use Rattle.rq_views.specs.Log.{Slots, cell_in, cells_of}
-use Rattle.rq_views.specs.Legal.{view}
-use Rattle.rq_views.specs.Items.{items, layout_of}
-use Rattle.rq_views.specs.Stored.{slots_in, count_used}
-use Rattle.rq_views.proofs.Chains.{last_is}
-use Rattle.rq_views.proofs.Totals.{log_total}
-use Rattle.rq_views.proofs.Laws.{shows_here}
+use Rattle.rq_views.specs.Log.{Slots, cell_in}
+use Rattle.rq_views.specs.Stored.{slots_in}
 use Rattle.rq_txn.proofs.Finding.{found_change_same}
 use Rattle.rq_level.specs.declared.writes.SlotWrite.{SlotWrite}
-use Rattle.rq_txn.specs.Rows.{Row, Under, found_row, change_row, latched_in, row_started}
+use Rattle.rq_txn.specs.Rows.{Row, Under, found_row, change_row, row_started}
 use Rattle.rq_groups.specs.declared.Held.{Held}
 use Rattle.rq_groups.specs.declared.End.{End}
 use Rattle.rq_groups.specs.declared.End.TheVariants.{Sending, Receiving}
@@ -34,14 +27,13 @@ use Rattle.rq_groups.specs.Ends.{HeldEnds, has_held, with_held, is_free_for}
 use Rattle.rq_store.specs.State.{State, ledger_of, size_of, job_under}
 use Rattle.rq_store.specs.Plans.{Stands_at, IsSendPlan}
 use Rattle.rq_sound.specs.Sound.{IsSound}
-use Rattle.rq_store.specs.Fitting.{left_by}
 use Rattle.rq_store.proofs.RowLists.{found_in}
 use Rattle.rq_sound.specs.Steps.{Steps}
 use Rattle.rq_sound.proofs.FreeEnds.{free_is}
 use Rattle.rq_sound.proofs.Asked.{cells_are}
 use Rattle.rq_sound.specs.Plans.{AreUnlatched}
-use Rattle.rq_sound.proofs.Contracts.{answered, shows}
-use Rattle.rq_sound.proofs.Groups.{room_left, slots_tell}
+use Rattle.rq_sound.proofs.Contracts.{answered}
+use Rattle.rq_sound.proofs.Groups.{slots_tell}
 use Rattle.rq_engine.proofs.Latches.{send_busy}
 use Rattle.rq_engine.proofs.Standing.{refused_steps, start_steps}
 use Rattle.rq_model.specs.Replay.Reply.{Gave_sub}
@@ -124,34 +116,6 @@ used_from (Sender q d) c e = cc
 pub stands_used : (q : Slots) (a : ℕ) (c : Cell) → cell_in (q a) ≡ Some c → Stands_at q a (Some c)
 stands_used q a c e = used_from (q a) c e
 
-module _ (s : State) (k : IsSound s) where
-  -- no more was sent than there are records
-  pub sent_within : (e : ℕ) (d : Directory) → e < sender_count s.sizes → latched_in s.rows (directory_at e / 16) ≡ false → slots_in s.sizes s.images (directory_at e) ≡ Sender e d → d.sent ≤ length s.records
-  sent_within e d below off at =
-      let here = shows_here (layout_of s.sizes) (left_by s.sizes s.records).slots e (view (items s.sizes s.records) e) d (sym at ∙ k.pages (directory_at e)) (shows s k e below off) in
-      let total = log_total s.sizes s.records e in
-      let size : length (view (items s.sizes s.records) e).messages ≡ length here.nodes = ap length here.messages ∙ length-map here.nodes message in
-      let sent = here.sent in
-      let received = here.received in
-      omega (arith, total, size, sent, received)
-
-  -- a chain's last cell is used
-  pub tail_there : (e : ℕ) (d : Directory) → e < sender_count s.sizes → latched_in s.rows (directory_at e / 16) ≡ false → slots_in s.sizes s.images (directory_at e) ≡ Sender e d → 0 < d.tail → cell_in (slots_in s.sizes s.images d.tail) ≡ None → ⊥
-  tail_there e d below off at pos free =
-      let here = shows_here (layout_of s.sizes) (left_by s.sizes s.records).slots e (view (items s.sizes s.records) e) d (sym at ∙ k.pages (directory_at e)) (shows s k e below off) in
-      cell here.nodes here.linked here.tail
-    where
-      cell : (ns : List Node) → Linked (cells_of (left_by s.sizes s.records).slots) e 0 (d.received + 1) ns 0 → d.tail ≡ last 0 ns → ⊥
-      cell [] l t = omega (arith, pos, t)
-      cell (x ∷ ns) l t =
-          let r = last_is (cells_of (left_by s.sizes s.records).slots) e 0 (d.received + 1) x ns 0 l in
-          let bad : None ≡ Some r.0 = sym free ∙ ap cell_in (k.pages d.tail) ∙ ap (cells_of (left_by s.sizes s.records).slots) t ∙ r.1 in
-          cc
-
-  -- where cells are left, some cell is free
-  pub some_free : s.cells_in_use < cell_count s.sizes → count_used s.sizes (slots_in s.sizes s.images) ≡ cell_count s.sizes → ⊥
-  some_free room full = let few = room_left s k room in omega (arith, few, full)
-
 -- where the log is not full for so many records, it has room for a plan of no more
 pub has_room : (s : State) (ws : List SlotWrite) (more : ℕ) → log_full (ledger_of s) more ≡ false → length ws + 1 ≤ more → HasRoom s ws
 has_room s ws more full few = let left = not_full s more full in omega (arith, left, few)
@@ -170,7 +134,7 @@ start_kept s f o res room t u k h left fits =
 
 -- what is planned fits as an operation
 pub plan_fits : (z : Sizes) (n room : ℕ) (plan : Plan) → FitsPlan z plan room → FitsUnder z (under_plan n plan) room
-plan_fits z n room plan fits = record { made = refl; slots = fits.slots; sender = fits.sender; fits = (fits.deed_low, fits.deed_high); room_is = (let e = fits.room_is in omega (arith, e)) }
+plan_fits z n room plan fits = record { made = refl; slots = fits.slots; sender = fits.sender; fits = (fits.deed_low, fits.deed_high, fits.reads); room_is = (let e = fits.room_is in omega (arith, e)) }
 
 undone_held : (t : Txn) (e : ℕ) (hs : List Held) (newly : Bool) → newly ≡ not (has_held t e hs) → cond newly (drop 1 (with_held t e hs)) (with_held t e hs) ≡ hs
 undone_held t e hs newly h = elim (cases_Bool (has_held t e hs)) [

@@ -1,7 +1,6 @@
 -- What a receive answers, from what its tests found.
-use Rattle.std.proofs.Common.{◌≡◌, ℕ, ◌+◌, ◌/◌, ◌<◌, ◌≤◌, ◌&&◌, length, refl, sym, ◌∙◌, ap, subst, Bool, true, false, not, nat_lt, Some, None, arith, inl, inr}
+use Rattle.std.proofs.Common.{◌≡◌, ℕ, ◌+◌, ◌<◌, ◌≤◌, ◌&&◌, refl, sym, ◌∙◌, ap, subst, Bool, true, false, not, nat_lt, Some, None, inl, inr}
 use Rattle.std.proofs.lemmas.Bool.{lt-ltb, le-ltb, true≢false}
-use Rattle.std.proofs.lemmas.List.{length-map}
 use Rattle.rq_model.specs.declared.txn.Txn.{Txn}
 use Rattle.rq_model.specs.declared.refusal.Refusal.TheVariants as why
 use Rattle.rq_model.specs.History.{Call}
@@ -9,33 +8,21 @@ use Rattle.rq_model.specs.History.Call.{Start_receive, Start_receive_from}
 use Rattle.rq_model.specs.Ledger.{found, runs}
 use Rattle.rq_model.specs.Tests.{Passes, NoneHolds, below, any_gives, gives, free_to_receive, log_full, ready_tests}
 use Rattle.rq_model.specs.Replay.Reply.{Gave_sub, Gave_none, Gave_refusal}
-use Rattle.rq_page.specs.declared.cell.Cell.{Cell}
-use Rattle.rq_page.specs.declared.directory.Directory.{Directory}
-use Rattle.rq_page.specs.Sizes.{sender_count, directory_at}
-use Rattle.rq_page.specs.Slots.Slot.{Used, Sender}
-use Rattle.rq_views.specs.Chain.{Shows}
-use Rattle.rq_views.specs.Log.{cell_in, cells_of}
-use Rattle.rq_views.specs.Legal.{view}
-use Rattle.rq_views.specs.Items.{items, layout_of}
+use Rattle.rq_page.specs.Sizes.{sender_count}
 use Rattle.rq_views.specs.Stored.{slots_in}
-use Rattle.rq_views.proofs.Laws.{shows_here}
-use Rattle.rq_txn.specs.Rows.{Row, found_row, any_under, change_row, latched_in, row_started}
+use Rattle.rq_txn.specs.Rows.{Row, found_row, any_under, change_row, row_started}
 use Rattle.rq_groups.specs.Ends.{is_free_for, with_held}
 use Rattle.rq_groups.specs.Waiting.{waits}
 use Rattle.rq_store.specs.State.{State, ledger_of, phase_of, size_of}
 use Rattle.rq_sound.specs.Sound.{IsSound}
-use Rattle.rq_store.specs.Fitting.{left_by}
 use Rattle.rq_store.specs.Plans.{IsTakePlan, NoneWaits, WaitsFor}
 use Rattle.rq_sound.specs.Steps.{Steps}
 use Rattle.rq_sound.proofs.FreeEnds.{free_to_take}
 use Rattle.rq_sound.specs.Groups.{slots_now}
 use Rattle.rq_sound.specs.Latching.{behind_head}
 use Rattle.rq_sound.specs.Plans.{AreUnlatched}
-use Rattle.rq_sound.proofs.Contracts.{shows}
 use Rattle.rq_engine.proofs.Latches.{any_busy}
 use Rattle.rq_engine.proofs.Standing.{refused_steps, take_steps, take_from_steps, gives_one, gives_none, some_gives, none_gives, none_steps, none_from_steps}
-use Rattle.rq_store.proofs.TakePlans.{head_stands, next_stands}
-use Rattle.rq_sound.proofs.Groups.{waits_in_chain}
 use Rattle.rq_chain.specs.declared.ChainPlan.{ChainPlan as Plan}
 use Rattle.rq_engine.specs.Answers.{Refuses, HasNothingUnderWay}
 use Rattle.rq_model.specs.Causes.{HasCause}
@@ -136,33 +123,3 @@ module _ (s : State) (t : Txn) (h : NoneHolds (ready_tests (ledger_of s) t false
           where
             after : State
             after = record s { rows = change_row t (row_started (under_plan n plan)) s.rows; ends = record { sending = s.ends.sending; receiving = with_held t e s.ends.receiving } }
-
--- what a sound store shows of a sender of which a message waits
-module _ (s : State) (k : IsSound s) (e : ℕ) (d : Directory) (m : e < sender_count s.sizes) (off : latched_in s.rows (directory_at e / 16) ≡ false) (at : slots_in s.sizes s.images (directory_at e) ≡ Sender e d) (wait : 1 ≤ waits s.waiting e) where
-  here : Shows (cells_of (left_by s.sizes s.records).slots) e d (view (items s.sizes s.records) e)
-  here = shows_here (layout_of s.sizes) (left_by s.sizes s.records).slots e (view (items s.sizes s.records) e) d (sym at ∙ k.pages (directory_at e)) (shows s k e m off)
-
-  more : 0 < length (view (items s.sizes s.records) e).messages
-  more = let a = waits_in_chain s k e m in omega (arith, a, wait)
-
-  head : (0 < d.head) × ((c : Cell) × ((left_by s.sizes s.records).slots d.head ≡ Used c))
-  head = head_stands (left_by s.sizes s.records).slots e d (view (items s.sizes s.records) e) here more
-
-  -- more was sent than received
-  pub sent_more : d.received < d.sent
-  sent_more =
-      let a = here.sent in
-      let b : length (view (items s.sizes s.records) e).messages ≡ length here.nodes = ap length here.messages ∙ length-map here.nodes _ in
-      let c = more in
-      omega (arith, a, b, c)
-
-  -- the first cell is used
-  pub head_there : (0 < d.head) × (cell_in (slots_in s.sizes s.images d.head) ≡ None → ⊥)
-  head_there = (head.0, λ none. (let bad : None ≡ Some head.1.0 = sym none ∙ ap cell_in (k.pages d.head ∙ head.1.1) in cc))
-
-  -- and so is the one that it names
-  pub next_there : (c : Cell) → slots_in s.sizes s.images d.head ≡ Used c → 0 < c.next → cell_in (slots_in s.sizes s.images c.next) ≡ None → ⊥
-  next_there c is pos none =
-      let x = next_stands (left_by s.sizes s.records).slots e d (view (items s.sizes s.records) e) c here head.0 (sym (k.pages d.head) ∙ is) pos in
-      let bad : None ≡ Some x.0 = sym none ∙ ap cell_in (k.pages c.next) ∙ x.1 in
-      cc

@@ -2,11 +2,12 @@
 use Rattle.std.specs.Prelude.{◌≡◌, ℕ, ◌+◌, ◌-◌, ◌*◌, ◌^◌, ◌<◌, ◌≤◌, Bool, false, length, Option, Some, None}
 use Rattle.std.specs.List.{sum_by}
 use Rattle.rq_model.specs.Words.{In}
-use Rattle.rq_model.specs.Deeds.{spelled_deed}
+use Rattle.rq_model.specs.Deeds.{deed_in, spelled_deed}
 use Rattle.rq_disk.specs.declared.device.LogDevice as log_device
 use Rattle.rq_log.specs.Logged.{Logged, WasDurable}
 use Rattle.rq_page.specs.Sizes.{Sizes, sender_count}
 use Rattle.rq_views.specs.Plans.{deed_sender}
+use Rattle.rq_level.specs.Kept.{Kept}
 use Rattle.rq_level.specs.Writes.{AreSlotWrites}
 use Rattle.rq_txn.specs.declared.Aim.{Aim}
 use Rattle.rq_txn.specs.declared.Aim.TheVariants.{Doing, Undoing}
@@ -15,6 +16,7 @@ use Rattle.rq_txn.specs.Rows.{Row, Under, AreDistinct, deed_of}
 use Rattle.rq_groups.specs.Sent.{SentBy, sent_count}
 use Rattle.rq_groups.specs.Waiting.{waits}
 use Rattle.rq_store.specs.State.{State, owed_by}
+use Rattle.rq_planner.specs.Answered.{KnowsCells}
 
 -- the bytes of the record that ends an operation
 abbrev pub end_bytes : Aim → ℕ
@@ -29,9 +31,9 @@ room_of (Some u) = 546 * (length u.writes - u.made) + end_bytes u.aim
 abbrev pub room_one : Row → ℕ
 room_one r = room_of r.under
 
--- what its record will say is in range
+-- what its record will say is in range, and a deed's bytes tell the deed
 abbrev pub EndFits : Aim → Type 0
-EndFits (Doing d) = (1 ≤ length (spelled_deed d)) × (length (spelled_deed d) ≤ 256)
+EndFits (Doing d) = (1 ≤ length (spelled_deed d)) × (length (spelled_deed d) ≤ 256) × (deed_in (spelled_deed d) ≡ Some d)
 EndFits (Undoing lsn d) = 1 ≤ lsn
 
 -- what is so of an operation under way
@@ -50,6 +52,7 @@ UnderKept z (Some u) = IsUnderKept z u
 pub record IsDoneKept (z : Sizes) (f : Finished) : Type 0 where
   pub lsn : 1 ≤ f.lsn
   pub sender : deed_sender f.deed < sender_count z
+  pub reads : deed_in (spelled_deed f.deed) ≡ Some f.deed
 
 -- what is so of a transaction that has not ended, where no more than so many records are logged or owed
 pub record IsRowKept (z : Sizes) (incarnation begins total : ℕ) (r : Row) : Type 0 where
@@ -90,7 +93,9 @@ pub record IsKept (s : State) (failed : Bool) (owed reserved : ℕ) : Type 0 whe
   pub few : (g : ℕ) → waits s.waiting g + sum_by done_one s.rows ≤ length s.records
   pub sent : AreSendsKept s.sizes (length s.records) (sum_by done_one s.rows) s.sent
 
--- and when its log was last forced, a crash would have left that log alone
-pub record IsEngine {L : Type 0} (g : log_device.Ghosts L) (s : State) (log : Logged L) (owed : ℕ) : Type 0 where
+-- And when its log was last forced, a crash would have left that log alone; and its level knows the cells.
+pub record IsEngine {L : Type 0} (g : log_device.Ghosts L) (s : State) (log : Logged L) (owed : ℕ) (known : Kept)
+    : Type 0 where
   pub kept : IsKept s log.failed owed log.reserved
   pub durable : WasDurable g log
+  pub cells : KnowsCells s.sizes s.images known

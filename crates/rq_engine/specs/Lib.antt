@@ -5,6 +5,7 @@ pub mod Receives
 pub mod Kept
 pub mod Answers
 pub mod Sends
+pub mod Plans
 pub mod Closes
 pub mod Aborts
 pub mod Crash

@@ -1,22 +1,18 @@
 -- A planned operation as one that is under way, the room that it takes, and which pages are latched.
-use Rattle.std.specs.Prelude.{◌≡◌, ◌⊎◌, ℕ, ◌+◌, ◌*◌, ◌/◌, ◌<◌, ◌≤◌, ◌^◌, Bool, false, List, true, length}
-use Rattle.rq_model.specs.Deeds.{spelled_deed}
-use Rattle.rq_page.specs.Sizes.{Sizes, IsCellAddress, directory_at, sender_count}
-use Rattle.rq_page.specs.Slots.Slot.{Free, Sender}
+use Rattle.std.specs.Prelude.{◌≡◌, ◌⊎◌, ℕ, ◌+◌, ◌*◌, ◌<◌, ◌≤◌, ◌^◌, Bool, List, true, length, Some}
+use Rattle.rq_model.specs.Deeds.{deed_in, spelled_deed}
+use Rattle.rq_page.specs.Sizes.{Sizes, sender_count}
 use Rattle.rq_views.specs.Plans.{deed_sender}
 use Rattle.rq_level.specs.declared.writes.SlotWrite.{SlotWrite}
 use Rattle.rq_chain.specs.declared.ChainPlan.{ChainPlan as Plan}
-use Rattle.rq_chain.specs.Neighbours.{IsGroupOf, IsNeighbour, cell_beside}
 use Rattle.rq_level.specs.Writes.{AreSlotWrites}
 use Rattle.rq_txn.specs.declared.Aim.TheVariants.{Doing}
-use Rattle.rq_txn.specs.Rows.{Under, deed_of, latched_in}
-use Rattle.rq_store.specs.Plans.{Stands_at}
+use Rattle.rq_txn.specs.Rows.{Under, deed_of}
 use Rattle.rq_store.specs.State.{State, owed_by}
 use Rattle.rq_sound.specs.Groups.{slots_now}
-use Rattle.rq_sound.specs.Latching.{AllFreeLatched, any_latched, at_tail, behind_head, named}
-use Rattle.rq_inverses.specs.Found.{AreLatchedBelow, FirstIsLowest}
+use Rattle.rq_sound.specs.Latching.{AllFreeLatched, any_latched, at_tail, behind_head}
+use Rattle.rq_inverses.specs.Found.{FirstIsLowest}
 use Rattle.rq_engine.specs.Kept.{EndFits, end_bytes}
-use Rattle.rq_engine.specs.declared.cells.SendSlots.{SendSlots}
 
 -- the log has room for the records of so many writes, and an end, behind those that are owed
 abbrev pub HasRoom : State → List SlotWrite → Type 0
@@ -29,22 +25,6 @@ TakesLowest s ws = FirstIsLowest s.sizes (slots_now s) s.rows ws
 -- a send for the group needs a latched page, or a cell of which none is free on another
 abbrev pub SendIsLatched : State → ℕ → Type 0
 SendIsLatched s g = (any_latched s.rows (at_tail (slots_now s) g) ≡ true) ⊎ AllFreeLatched s
-
--- What a send for the group is planned from, on pages that nobody has latched: its directory slot, the cell at the end of
--- its chain, and the lowest free cell.
-pub record AreSendSlots (s : State) (g : ℕ) (x : SendSlots) : Type 0 where
-  pub group : IsGroupOf s.sizes x.group
-  pub sender : x.group.sender ≡ g
-  pub room : x.group.directory.sent ≤ 2 ^ 50
-  pub directory_is : slots_now s (directory_at g) ≡ Sender g x.group.directory
-  pub tail : IsNeighbour s.sizes x.group.directory.tail x.tail
-  pub beside : Stands_at (slots_now s) x.group.directory.tail (cell_beside x.tail)
-  pub cell : IsCellAddress s.sizes x.free
-  pub free : slots_now s x.free ≡ Free
-  pub lowest : AreLatchedBelow s.sizes (slots_now s) s.rows x.free
-  pub directory_off : latched_in s.rows (directory_at g / 16) ≡ false
-  pub tail_off : any_latched s.rows (named x.group.directory.tail) ≡ false
-  pub cell_off : latched_in s.rows (x.free / 16) ≡ false
 
 -- a receive of the group needs a latched page
 abbrev pub take_latched : State → ℕ → Bool
@@ -69,4 +49,5 @@ pub record FitsPlan (z : Sizes) (plan : Plan) (room : ℕ) : Type 0 where
   pub count : length plan.writes.items ≤ 3
   pub deed_low : 1 ≤ length (spelled_deed plan.deed)
   pub deed_high : length (spelled_deed plan.deed) ≤ 256
+  pub reads : deed_in (spelled_deed plan.deed) ≡ Some plan.deed
   pub room_is : room ≡ length plan.writes.items * 546 + (30 + length (spelled_deed plan.deed))

@@ -4,6 +4,8 @@ ghost use Rattle.rq_model.specs.History.Call.{Start_close};
 ghost use Rattle.rq_model.specs.Replay.Reply.{Gave_sub};
 ghost use Rattle.rq_model.specs.Tests.{NoneHolds, Passes, log_full, ready_tests};
 ghost use Rattle.rq_page.specs.Sizes.{sender_count};
+ghost use Rattle.rq_views.specs.Items.{items};
+ghost use Rattle.rq_views.specs.Legal.{view};
 ghost use Rattle.rq_views.specs.Stored.{slots_in};
 ghost use Rattle.rq_groups.specs.Ends.{is_free_for};
 ghost use Rattle.rq_store.specs.State.{ledger_of, size_of};
@@ -17,11 +19,11 @@ ghost use Rattle.rq_engine.specs.Closes.{IsClosePlan, close_latched};
 ghost use Rattle.rq_engine.specs.Sends.{under_plan, FitsPlan, HasRoom};
 
 use crate::engine::Engine;
-use crate::starts::{MARK_OPERATION, room_of};
-use rq_chain::{ChainPlan, Group, mark};
+use crate::starts::MARK_OPERATION;
+use rq_chain::ChainPlan;
 use rq_disk::{LogDevice, PageDevice};
 use rq_groups::End;
-use rq_model::record::Deed;
+use rq_level::Op;
 use rq_model::refusal::Refusal;
 use rq_model::txn::{Sub, Txn};
 
@@ -31,7 +33,7 @@ impl<P: PageDevice, L: LogDevice> Engine<P, L> {
     ///
     /// # Errors
     /// `Failed`, `UnknownTransaction`, `NotOpen`, `Unfinished`, `UnknownSender`, `SenderBusy`, `Closed`, `LogFull`,
-    /// `Latched`, `NoMemory`.
+    /// `Latched`, `NoMemory`; of a store that is not sound also `Damaged`.
     pub fn start_close(&mut self, txn: Txn, sender: u32) -> Result<Sub, Refusal>
         ensures answered { AnswersLegally P.PageDevice L.LogDevice self.old
             (Start_close txn sender) (λ sub. Gave_sub sub.txn sub.number) result self.new }
@@ -45,12 +47,15 @@ impl<P: PageDevice, L: LogDevice> Engine<P, L> {
     {
         let number = self.check_open(txn)?;
         self.check_close(txn, sender)?;
-        match self.plan_close(sender)? {
-            None => Err(Refusal::Latched),
-            Some((plan, room)) => match self.start(txn, number, End::Sending(sender), plan, room) {
-                Ok(()) => Ok(Sub { txn, number }),
-                Err(refusal) => Err(refusal),
-            },
+        match self.plan_close(sender) {
+            Ok(None) => Err(Refusal::Latched),
+            Ok(Some((plan, room))) => {
+                match self.start(txn, number, End::Sending(sender), plan, room) {
+                    Ok(()) => Ok(Sub { txn, number }),
+                    Err(refusal) => Err(refusal),
+                }
+            }
+            Err(refusal) => Err(refusal),
         }
     }
 
@@ -67,6 +72,8 @@ impl<P: PageDevice, L: LogDevice> Engine<P, L> {
         ensures sender { OnOk result (sender < sender_count self.now.state.sizes) }
         ensures free { OnOk result (is_free_for txn sender self.now.state.ends.sending ≡ true) }
         ensures log { OnOk result (log_full (ledger_of self.now.state) 2 ≡ false) }
+        ensures unclosed { IsSound self.now.state → NoneHolds (ready_tests (ledger_of self.now.state) txn false)
+            → OnOk result ((view (items self.now.state.sizes self.now.state.records) sender).closed ≡ false) }
     {
         if sender >= self.pages.layout().senders() {
             return Err(Refusal::UnknownSender);
@@ -85,35 +92,26 @@ impl<P: PageDevice, L: LogDevice> Engine<P, L> {
 
     // The plan of a close, from the slots as they are, and how many bytes its records take in the log; none where it
     // needs a page that others have latched.
-    fn plan_close(&self, sender: u32) -> Result<Option<(ChainPlan, usize)>, Refusal>
-        requires { sender < sender_count self.now.state.sizes }
+    fn plan_close(&mut self, sender: u32) -> Result<Option<(ChainPlan, usize)>, Refusal>
+        requires { sender < sender_count self.old.state.sizes }
+        ensures same { self.new ≡ self.old }
         ensures plan { IfOk result (λ found. IfSome found (λ planned. (number : ℕ)
-            → IsClosePlan self.now.state.sizes (slots_in self.now.state.sizes self.now.state.images)
+            → IsClosePlan self.old.state.sizes (slots_in self.old.state.sizes self.old.state.images)
             (under_plan number planned.0) sender)) }
-        ensures fits { IfOk result (λ found. IfSome found (λ planned. FitsPlan self.now.state.sizes planned.0 planned.1)) }
+        ensures fits { IfOk result (λ found. IfSome found (λ planned. FitsPlan self.old.state.sizes planned.0 planned.1)) }
         ensures one { IfOk result (λ found. IfSome found (λ planned. length planned.0.writes.items ≡ 1)) }
         ensures free { IfOk result (λ found. IfSome found
-            (λ planned. AreUnlatched self.now.state planned.0.writes.items)) }
-        ensures unlatched { IfOk result (λ found. IfSome found (λ _. close_latched self.now.state sender ≡ false)) }
-        ensures latched { IfOk result (λ found. IfNone found (close_latched self.now.state sender ≡ true)) }
-        ensures refused { IfErr result (λ r. r ≡ Refusal.NoMemory) }
+            (λ planned. AreUnlatched self.old.state planned.0.writes.items)) }
+        ensures unlatched { IfOk result (λ found. IfSome found (λ _. close_latched self.old.state sender ≡ false)) }
+        ensures latched { IfOk result (λ found. IfNone found (close_latched self.old.state sender ≡ true)) }
+        ensures plain { IfErr result (λ r. r ≢ Refusal.Failed) }
+        ensures refused { IsSound self.old.state
+            → (view (items self.old.state.sizes self.old.state.records) sender).closed ≡ false
+            → IfErr result (λ r. r ≡ Refusal.NoMemory) }
     {
-        let layout = self.pages.layout();
-        let at = layout.directory_of(sender);
-        if self.transactions.has_latched(at.page()) {
-            return Ok(None);
-        }
-        let group = Group {
-            at,
-            sender,
-            directory: self.pages.group(sender),
+        let Ok(op) = Op::close(self.alloc, sender) else {
+            return Err(Refusal::NoMemory);
         };
-        let writes = mark(self.alloc, &layout, &group, true)?;
-        let plan = ChainPlan {
-            writes,
-            deed: Deed::Close { sender },
-        };
-        let room = room_of(&plan);
-        Ok(Some((plan, room)))
+        self.plan_deed(&op)
     }
 }

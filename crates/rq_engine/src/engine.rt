@@ -14,6 +14,7 @@ ghost use Rattle.rq_page.specs.Sizes.{sender_count};
 ghost use Rattle.rq_groups.specs.Sent.{sent_count};
 ghost use Rattle.rq_groups.specs.Waiting.{waits};
 ghost use Rattle.rq_sound.specs.Sound.{IsSound};
+ghost use Rattle.rq_planner.specs.Answered.{KnowsCells};
 ghost use Rattle.rq_engine.specs.Opened.{LeavesDevices, NotWritten};
 ghost use Rattle.rq_engine.specs.Crash.{AreFit, LeavesCut};
 ghost use Rattle.rq_engine.specs.Answers.{AnswersLegally, HasNothingUnderWay};
@@ -22,6 +23,7 @@ ghost use Rattle.rq_engine.specs.Says.{commit_number, receipt_of};
 
 use crate::event::{CommitNo, Receipt};
 use crate::moves::{add_sends, count_sends, count_takes};
+use rq_chain::ChainLevel;
 use rq_disk::{LogDevice, PageDevice};
 use rq_groups::{Ends, Sent, Waiting};
 use rq_log::Log;
@@ -29,6 +31,7 @@ use rq_model::limits::LOG_LIMIT;
 use rq_model::record::Record;
 use rq_model::refusal::Refusal;
 use rq_model::txn::{Lsn, Txn};
+use rq_planner::Planner;
 use rq_pool::Pages;
 use rq_record::spelled_len;
 use rq_txn::Transactions;
@@ -57,6 +60,8 @@ pub struct Engine<P: PageDevice, L: LogDevice> {
     pub(crate) sent: Sent,
     /// The records that operations under way have yet to log.
     pub(crate) owed: u64,
+    /// What plans its operations, told of each slot that is written.
+    pub(crate) planner: Planner<ChainLevel>,
 }
 
 impl<P: PageDevice, L: LogDevice> Model for Engine<P, L> {
@@ -98,11 +103,12 @@ impl<P: PageDevice, L: LogDevice> Model for Engine<P, L> {
       cells_in_use = e.cells_in_use;
       waiting = e.waiting;
       sent = e.sent;
-    }) e.log e.owed };
+    }) e.log e.owed e.planner };
 }
 
 impl<P: PageDevice + Drop, L: LogDevice + Drop> Engine<P, L> {
-    /// The engine of a store whose log ends with the Restart record of this incarnation.
+    /// The engine of a store whose log ends with the Restart record of this incarnation, with a planner that was told of
+    /// each cell.
     pub fn open(
         alloc: Global,
         pages: Pages<P>,
@@ -112,6 +118,7 @@ impl<P: PageDevice + Drop, L: LogDevice + Drop> Engine<P, L> {
         ends: Ends,
         incarnation: u64,
         cells_in_use: u64,
+        planner: Planner<ChainLevel>,
     ) -> Self
         requires free { ends ≡ record { sending = []; receiving = [] } }
         requires begun { 1 ≤ incarnation }
@@ -124,6 +131,7 @@ impl<P: PageDevice + Drop, L: LogDevice + Drop> Engine<P, L> {
         requires counts { length sent.counts ≡ sender_count pages.sizes }
         requires tags { length sent.tags ≡ sender_count pages.sizes }
         requires few_sent { (g : ℕ) → sent_count sent g ≤ length log.records }
+        requires known { KnowsCells pages.sizes pages.images planner }
         ensures { result ≡ record {
           state = record {
             sizes = pages.sizes;
@@ -157,6 +165,7 @@ impl<P: PageDevice + Drop, L: LogDevice + Drop> Engine<P, L> {
             waiting,
             sent,
             owed: 0,
+            planner,
         }
     }
 
@@ -178,6 +187,7 @@ impl<P: PageDevice + Drop, L: LogDevice + Drop> Engine<P, L> {
             waiting: _,
             sent: _,
             owed: _,
+            planner: _,
         } = self;
         (pages.give_back(), log.give_back())
     }

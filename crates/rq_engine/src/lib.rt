@@ -3,7 +3,6 @@
 
 mod aborts;
 mod apply;
-mod cells;
 mod closes;
 pub mod engine;
 pub mod event;
@@ -11,6 +10,7 @@ mod last;
 mod moves;
 mod operations;
 mod pages;
+mod plans;
 mod receives;
 mod sends;
 mod starts;

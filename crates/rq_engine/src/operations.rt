@@ -27,7 +27,7 @@ use rq_record::{encode_deed, shows_size};
 use rq_txn::{Aim, Finished, Operation};
 
 /// The level of the chain operations.
-const CHAIN_LEVEL: u8 = 1;
+pub(crate) const CHAIN_LEVEL: u8 = 1;
 
 impl<P: PageDevice, L: LogDevice> Engine<P, L> {
     /// Makes the next slot write of an operation, with its record. Takes no memory and touches no device.
@@ -139,6 +139,7 @@ impl<P: PageDevice, L: LogDevice> Engine<P, L> {
         shows_size(&record);
         let lsn = self.log.append(&record);
         self.pages.set_slot(write.at, &write.after, lsn);
+        self.planner.note(write.at, &write.after);
         self.transactions.step(sub.txn);
         self.owed -= 1;
         lsn

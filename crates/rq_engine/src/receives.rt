@@ -3,10 +3,7 @@ ghost use Rattle.std.specs.Prelude.{◌≡◌, ◌≢◌, ◌↔◌, Err, ◌⊎
 ghost use Rattle.rq_model.specs.History.{Call};
 ghost use Rattle.rq_model.specs.History.Call.{Start_receive, Start_receive_from};
 ghost use Rattle.rq_model.specs.Tests.{NoneHolds, log_full, ready_tests};
-ghost use Rattle.rq_page.specs.Sizes.{IsLink, sender_count};
-ghost use Rattle.rq_page.specs.Slots.{Used};
-ghost use Rattle.rq_views.specs.Log.{cell_in};
-ghost use Rattle.rq_chain.specs.Neighbours.{IsNeighbourAt};
+ghost use Rattle.rq_page.specs.Sizes.{sender_count};
 ghost use Rattle.rq_views.specs.Stored.{slots_in};
 ghost use Rattle.rq_groups.specs.Ends.{has_held, is_held};
 ghost use Rattle.rq_groups.specs.Waiting.{waits};
@@ -22,13 +19,13 @@ ghost use Rattle.rq_engine.specs.Receives.{IsTakeCall, started_of};
 ghost use Rattle.rq_engine.specs.Sends.{under_plan, FitsPlan, take_latched};
 
 use crate::engine::Engine;
-use crate::starts::{CHAIN_OPERATION, room_of};
-use rq_chain::{ChainPlan, Group, Neighbour, unlink_head};
+use crate::starts::CHAIN_OPERATION;
+use rq_chain::ChainPlan;
 use rq_disk::{LogDevice, PageDevice};
 use rq_groups::End;
-use rq_model::refusal::{Damage, Refusal};
+use rq_level::Op;
+use rq_model::refusal::Refusal;
 use rq_model::txn::{Sub, Txn};
-use rq_page::addr::Addr;
 
 impl<P: PageDevice, L: LogDevice> Engine<P, L> {
     /// Starts a receive from some group that holds a message for the transaction, and takes everything that its steps
@@ -57,12 +54,15 @@ impl<P: PageDevice, L: LogDevice> Engine<P, L> {
         if self.is_log_full(CHAIN_OPERATION) {
             return Err(Refusal::LogFull);
         }
-        match self.plan_any_take(txn, first)? {
-            None => Err(Refusal::Latched),
-            Some((sender, plan, room)) => match self.start_take(txn, number, sender, plan, room) {
-                Ok(sub) => Ok(Some(sub)),
-                Err(refusal) => Err(refusal),
-            },
+        match self.plan_any_take(txn, first) {
+            Ok(None) => Err(Refusal::Latched),
+            Ok(Some((sender, plan, room))) => {
+                match self.start_take(txn, number, sender, plan, room) {
+                    Ok(sub) => Ok(Some(sub)),
+                    Err(refusal) => Err(refusal),
+                }
+            }
+            Err(refusal) => Err(refusal),
         }
     }
 
@@ -98,12 +98,13 @@ impl<P: PageDevice, L: LogDevice> Engine<P, L> {
         if self.is_log_full(CHAIN_OPERATION) {
             return Err(Refusal::LogFull);
         }
-        match self.plan_take(sender)? {
-            None => Err(Refusal::Latched),
-            Some((plan, room)) => match self.start_take(txn, number, sender, plan, room) {
+        match self.plan_take(sender) {
+            Ok(None) => Err(Refusal::Latched),
+            Ok(Some((plan, room))) => match self.start_take(txn, number, sender, plan, room) {
                 Ok(sub) => Ok(Some(sub)),
                 Err(refusal) => Err(refusal),
             },
+            Err(refusal) => Err(refusal),
         }
     }
 
@@ -166,24 +167,25 @@ impl<P: PageDevice, L: LogDevice> Engine<P, L> {
     // records take in the log; none where others have latched a page that is needed, whatever the sender. This one is
     // tried first.
     fn plan_any_take(
-        &self,
+        &mut self,
         txn: Txn,
         first: u32,
     ) -> Result<Option<(u32, ChainPlan, usize)>, Refusal>
-        requires { WaitsFor self.now.state txn first }
-        ensures waits { IfOk result (λ found. IfSome found (λ planned. WaitsFor self.now.state txn planned.0)) }
+        requires { WaitsFor self.old.state txn first }
+        ensures same { self.new ≡ self.old }
+        ensures waits { IfOk result (λ found. IfSome found (λ planned. WaitsFor self.old.state txn planned.0)) }
         ensures plan { IfOk result (λ found. IfSome found (λ planned. (number : ℕ)
-            → IsTakePlan self.now.state.sizes (slots_in self.now.state.sizes self.now.state.images)
+            → IsTakePlan self.old.state.sizes (slots_in self.old.state.sizes self.old.state.images)
             (under_plan number planned.1) planned.0)) }
-        ensures fits { IfOk result (λ found. IfSome found (λ planned. FitsPlan self.now.state.sizes planned.1 planned.2)) }
+        ensures fits { IfOk result (λ found. IfSome found (λ planned. FitsPlan self.old.state.sizes planned.1 planned.2)) }
         ensures free { IfOk result (λ found. IfSome found
-            (λ planned. AreUnlatched self.now.state planned.1.writes.items)) }
+            (λ planned. AreUnlatched self.old.state planned.1.writes.items)) }
         ensures unlatched { IfOk result (λ found. IfSome found
-            (λ planned. take_latched self.now.state planned.0 ≡ false)) }
-        ensures latched { IfOk result (λ found. IfNone found ((g : ℕ) → WaitsFor self.now.state txn g
-            → take_latched self.now.state g ≡ true)) }
+            (λ planned. take_latched self.old.state planned.0 ≡ false)) }
+        ensures latched { IfOk result (λ found. IfNone found ((g : ℕ) → WaitsFor self.old.state txn g
+            → take_latched self.old.state g ≡ true)) }
         ensures plain { IfErr result (λ r. r ≢ Refusal.Failed) }
-        ensures refused { IsSound self.now.state → IfErr result (λ r. r ≡ Refusal.NoMemory) }
+        ensures refused { IsSound self.old.state → IfErr result (λ r. r ≡ Refusal.NoMemory) }
     {
         if let Some((plan, room)) = self.plan_take(first)? {
             return Ok(Some((first, plan, room)));
@@ -195,21 +197,22 @@ impl<P: PageDevice, L: LogDevice> Engine<P, L> {
     }
 
     // The same, of the senders whose receiving end nobody holds.
-    fn plan_free_take(&self, txn: Txn) -> Result<Option<(u32, ChainPlan, usize)>, Refusal>
-        ensures waits { IfOk result (λ found. IfSome found (λ planned. WaitsFor self.now.state txn planned.0)) }
+    fn plan_free_take(&mut self, txn: Txn) -> Result<Option<(u32, ChainPlan, usize)>, Refusal>
+        ensures same { self.new ≡ self.old }
+        ensures waits { IfOk result (λ found. IfSome found (λ planned. WaitsFor self.old.state txn planned.0)) }
         ensures plan { IfOk result (λ found. IfSome found (λ planned. (number : ℕ)
-            → IsTakePlan self.now.state.sizes (slots_in self.now.state.sizes self.now.state.images)
+            → IsTakePlan self.old.state.sizes (slots_in self.old.state.sizes self.old.state.images)
             (under_plan number planned.1) planned.0)) }
-        ensures fits { IfOk result (λ found. IfSome found (λ planned. FitsPlan self.now.state.sizes planned.1 planned.2)) }
+        ensures fits { IfOk result (λ found. IfSome found (λ planned. FitsPlan self.old.state.sizes planned.1 planned.2)) }
         ensures free { IfOk result (λ found. IfSome found
-            (λ planned. AreUnlatched self.now.state planned.1.writes.items)) }
+            (λ planned. AreUnlatched self.old.state planned.1.writes.items)) }
         ensures unlatched { IfOk result (λ found. IfSome found
-            (λ planned. take_latched self.now.state planned.0 ≡ false)) }
+            (λ planned. take_latched self.old.state planned.0 ≡ false)) }
         ensures latched { IfOk result (λ found. IfNone found ((g : ℕ)
-            → is_held g self.now.state.ends.receiving ≡ false → WaitsFor self.now.state txn g
-            → take_latched self.now.state g ≡ true)) }
+            → is_held g self.old.state.ends.receiving ≡ false → WaitsFor self.old.state txn g
+            → take_latched self.old.state g ≡ true)) }
         ensures plain { IfErr result (λ r. r ≢ Refusal.Failed) }
-        ensures refused { IsSound self.now.state → IfErr result (λ r. r ≡ Refusal.NoMemory) }
+        ensures refused { IsSound self.old.state → IfErr result (λ r. r ≡ Refusal.NoMemory) }
     {
         let mut from = 0;
         while let Some(sender) = self.next_free(from) {
@@ -222,21 +225,22 @@ impl<P: PageDevice, L: LogDevice> Engine<P, L> {
     }
 
     // The same, of the senders whose receiving end the transaction holds.
-    fn plan_own_take(&self, txn: Txn) -> Result<Option<(u32, ChainPlan, usize)>, Refusal>
-        ensures waits { IfOk result (λ found. IfSome found (λ planned. WaitsFor self.now.state txn planned.0)) }
+    fn plan_own_take(&mut self, txn: Txn) -> Result<Option<(u32, ChainPlan, usize)>, Refusal>
+        ensures same { self.new ≡ self.old }
+        ensures waits { IfOk result (λ found. IfSome found (λ planned. WaitsFor self.old.state txn planned.0)) }
         ensures plan { IfOk result (λ found. IfSome found (λ planned. (number : ℕ)
-            → IsTakePlan self.now.state.sizes (slots_in self.now.state.sizes self.now.state.images)
+            → IsTakePlan self.old.state.sizes (slots_in self.old.state.sizes self.old.state.images)
             (under_plan number planned.1) planned.0)) }
-        ensures fits { IfOk result (λ found. IfSome found (λ planned. FitsPlan self.now.state.sizes planned.1 planned.2)) }
+        ensures fits { IfOk result (λ found. IfSome found (λ planned. FitsPlan self.old.state.sizes planned.1 planned.2)) }
         ensures free { IfOk result (λ found. IfSome found
-            (λ planned. AreUnlatched self.now.state planned.1.writes.items)) }
+            (λ planned. AreUnlatched self.old.state planned.1.writes.items)) }
         ensures unlatched { IfOk result (λ found. IfSome found
-            (λ planned. take_latched self.now.state planned.0 ≡ false)) }
+            (λ planned. take_latched self.old.state planned.0 ≡ false)) }
         ensures latched { IfOk result (λ found. IfNone found ((g : ℕ)
-            → has_held txn g self.now.state.ends.receiving ≡ true → WaitsFor self.now.state txn g
-            → take_latched self.now.state g ≡ true)) }
+            → has_held txn g self.old.state.ends.receiving ≡ true → WaitsFor self.old.state txn g
+            → take_latched self.old.state g ≡ true)) }
         ensures plain { IfErr result (λ r. r ≢ Refusal.Failed) }
-        ensures refused { IsSound self.now.state → IfErr result (λ r. r ≡ Refusal.NoMemory) }
+        ensures refused { IsSound self.old.state → IfErr result (λ r. r ≡ Refusal.NoMemory) }
     {
         let mut next = self.ends.newest_received(txn);
         while let Some(sender) = next {
@@ -250,19 +254,20 @@ impl<P: PageDevice, L: LogDevice> Engine<P, L> {
 
     // The plan of a receive from the sender's group, where it holds a message for the transaction and needs no page that
     // others have latched.
-    fn plan_waiting(&self, txn: Txn, sender: u32) -> Result<Option<(ChainPlan, usize)>, Refusal>
-        ensures waits { IfOk result (λ found. IfSome found (λ _. WaitsFor self.now.state txn sender)) }
+    fn plan_waiting(&mut self, txn: Txn, sender: u32) -> Result<Option<(ChainPlan, usize)>, Refusal>
+        ensures same { self.new ≡ self.old }
+        ensures waits { IfOk result (λ found. IfSome found (λ _. WaitsFor self.old.state txn sender)) }
         ensures plan { IfOk result (λ found. IfSome found (λ planned. (number : ℕ)
-            → IsTakePlan self.now.state.sizes (slots_in self.now.state.sizes self.now.state.images)
+            → IsTakePlan self.old.state.sizes (slots_in self.old.state.sizes self.old.state.images)
             (under_plan number planned.0) sender)) }
-        ensures fits { IfOk result (λ found. IfSome found (λ planned. FitsPlan self.now.state.sizes planned.0 planned.1)) }
+        ensures fits { IfOk result (λ found. IfSome found (λ planned. FitsPlan self.old.state.sizes planned.0 planned.1)) }
         ensures free { IfOk result (λ found. IfSome found
-            (λ planned. AreUnlatched self.now.state planned.0.writes.items)) }
-        ensures unlatched { IfOk result (λ found. IfSome found (λ _. take_latched self.now.state sender ≡ false)) }
-        ensures latched { IfOk result (λ found. IfNone found (WaitsFor self.now.state txn sender
-            → take_latched self.now.state sender ≡ true)) }
+            (λ planned. AreUnlatched self.old.state planned.0.writes.items)) }
+        ensures unlatched { IfOk result (λ found. IfSome found (λ _. take_latched self.old.state sender ≡ false)) }
+        ensures latched { IfOk result (λ found. IfNone found (WaitsFor self.old.state txn sender
+            → take_latched self.old.state sender ≡ true)) }
         ensures plain { IfErr result (λ r. r ≢ Refusal.Failed) }
-        ensures refused { IsSound self.now.state → IfErr result (λ r. r ≡ Refusal.NoMemory) }
+        ensures refused { IsSound self.old.state → IfErr result (λ r. r ≡ Refusal.NoMemory) }
     {
         if self.waiting.count(sender) == 0 || !self.ends.may_receive(txn, sender) {
             return Ok(None);
@@ -272,71 +277,27 @@ impl<P: PageDevice, L: LogDevice> Engine<P, L> {
 
     // The plan of a receive, from the slots as they are, and how many bytes its records take in the log; none where it
     // needs a page that others have latched.
-    fn plan_take(&self, sender: u32) -> Result<Option<(ChainPlan, usize)>, Refusal>
-        requires { sender < sender_count self.now.state.sizes }
+    fn plan_take(&mut self, sender: u32) -> Result<Option<(ChainPlan, usize)>, Refusal>
+        requires { sender < sender_count self.old.state.sizes }
+        ensures same { self.new ≡ self.old }
         // The plan.
         ensures plan { IfOk result (λ found. IfSome found (λ planned. (number : ℕ)
-            → IsTakePlan self.now.state.sizes (slots_in self.now.state.sizes self.now.state.images)
+            → IsTakePlan self.old.state.sizes (slots_in self.old.state.sizes self.old.state.images)
             (under_plan number planned.0) sender)) }
-        ensures fits { IfOk result (λ found. IfSome found (λ planned. FitsPlan self.now.state.sizes planned.0 planned.1)) }
+        ensures fits { IfOk result (λ found. IfSome found (λ planned. FitsPlan self.old.state.sizes planned.0 planned.1)) }
         // Latches, exactly.
         ensures free { IfOk result (λ found. IfSome found
-            (λ planned. AreUnlatched self.now.state planned.0.writes.items)) }
-        ensures unlatched { IfOk result (λ found. IfSome found (λ _. take_latched self.now.state sender ≡ false)) }
-        ensures latched { IfOk result (λ found. IfNone found (take_latched self.now.state sender ≡ true)) }
+            (λ planned. AreUnlatched self.old.state planned.0.writes.items)) }
+        ensures unlatched { IfOk result (λ found. IfSome found (λ _. take_latched self.old.state sender ≡ false)) }
+        ensures latched { IfOk result (λ found. IfNone found (take_latched self.old.state sender ≡ true)) }
         // Why there is none otherwise.
         ensures plain { IfErr result (λ r. r ≢ Refusal.Failed) }
-        ensures refused { IsSound self.now.state → 1 ≤ waits self.now.state.waiting sender
+        ensures refused { IsSound self.old.state → 1 ≤ waits self.old.state.waiting sender
             → IfErr result (λ r. r ≡ Refusal.NoMemory) }
     {
-        let layout = self.pages.layout();
-        let at = layout.directory_of(sender);
-        if self.transactions.has_latched(at.page()) {
-            return Ok(None);
-        }
-        let directory = self.pages.group(sender);
-        let damaged = Refusal::Damaged(Damage::Page(at.page() as u32));
-        if directory.received >= directory.sent {
-            return Err(damaged);
-        }
-        if self.is_latched(directory.head) {
-            return Ok(None);
-        }
-        let Some(head) = self.cell_at(directory.head) else {
-            return Err(damaged);
+        let Ok(op) = Op::receive(self.alloc, sender) else {
+            return Err(Refusal::NoMemory);
         };
-        if self.is_latched(following(&head)) {
-            return Ok(None);
-        }
-        let Some(next) = self.neighbour(following(&head)) else {
-            return Err(damaged);
-        };
-        let group = Group {
-            at,
-            sender,
-            directory,
-        };
-        let plan = unlink_head(self.alloc, &layout, &group, &head, next)?;
-        let room = room_of(&plan);
-        Ok(Some((plan, room)))
+        self.plan_deed(&op)
     }
-
-    // The cell that a link names. Not there where it names none, or one that is free.
-    pub(crate) fn cell_at(&self, at: Addr) -> Option<Neighbour>
-        requires { IsLink self.now.state.sizes at }
-        ensures place { IfSome result (λ cell. IsNeighbourAt self.now.state.sizes at cell) }
-        ensures stands { IfSome result (λ cell. slots_in self.now.state.sizes self.now.state.images at
-            ≡ Used cell.cell) }
-        ensures none { IfNone result ((at ≡ 0) ⊎ (cell_in (slots_in self.now.state.sizes self.now.state.images at)
-            ≡ None)) }
-    {
-        rq_inverses::cell_at(&self.pages, at)
-    }
-}
-
-// Where the cell behind this one stands.
-fn following(cell: &Neighbour) -> Addr
-    ensures { result ≡ cell.now.cell.next }
-{
-    cell.cell.next
 }

@@ -15,18 +15,16 @@ ghost use Rattle.rq_engine.specs.Opened.{LeavesDevices};
 ghost use Rattle.rq_engine.specs.Answers.{AnswersLegally, IsUnderWay, HasNothingUnderWay, Refuses};
 ghost use Rattle.rq_engine.specs.Applied.{OnLatched, StartsUnlatched};
 ghost use Rattle.rq_engine.specs.Lists.{IsSendStarted};
-ghost use Rattle.rq_engine.specs.Sends.{under_plan, AreSendSlots, FitsPlan, SendIsLatched, TakesLowest};
+ghost use Rattle.rq_engine.specs.Sends.{under_plan, FitsPlan, SendIsLatched, TakesLowest};
 
-use crate::cells::SendSlots;
 use crate::engine::Engine;
-use crate::starts::{CHAIN_OPERATION, room_of};
-use rq_chain::{ChainPlan, Group, append};
+use crate::starts::CHAIN_OPERATION;
+use rq_chain::ChainPlan;
 use rq_disk::{LogDevice, PageDevice};
 use rq_groups::End;
-use rq_inverses::lowest_free;
-use rq_model::limits::LOG_LIMIT;
+use rq_level::Op;
 use rq_model::message::Body;
-use rq_model::refusal::{Damage, Refusal};
+use rq_model::refusal::Refusal;
 use rq_model::txn::{Sub, Txn};
 
 impl<P: PageDevice, L: LogDevice> Engine<P, L> {
@@ -112,76 +110,33 @@ impl<P: PageDevice, L: LogDevice> Engine<P, L> {
     // The plan of a send, from the slots as they are, and how many bytes its records take in the log; none where it
     // needs a page that others have latched.
     fn plan_send(
-        &self,
+        &mut self,
         sender: u32,
         tag: u64,
         body: Body,
     ) -> Result<Option<(ChainPlan, usize)>, Refusal>
-        requires { sender < sender_count self.now.state.sizes }
+        requires { sender < sender_count self.old.state.sizes }
+        ensures same { self.new ≡ self.old }
         // The plan.
         ensures plan { IfOk result (λ found. IfSome found (λ planned. (number : ℕ)
-            → IsSendPlan self.now.state.sizes (slots_in self.now.state.sizes self.now.state.images)
+            → IsSendPlan self.old.state.sizes (slots_in self.old.state.sizes self.old.state.images)
             (under_plan number planned.0) sender tag body)) }
         ensures lowest { IfOk result (λ found. IfSome found
-            (λ planned. TakesLowest self.now.state planned.0.writes.items)) }
-        ensures fits { IfOk result (λ found. IfSome found (λ planned. FitsPlan self.now.state.sizes planned.0 planned.1)) }
+            (λ planned. TakesLowest self.old.state planned.0.writes.items)) }
+        ensures fits { IfOk result (λ found. IfSome found (λ planned. FitsPlan self.old.state.sizes planned.0 planned.1)) }
         // Latches, exactly.
         ensures free { IfOk result (λ found. IfSome found
-            (λ planned. AreUnlatched self.now.state planned.0.writes.items)) }
-        ensures unlatched { IfOk result (λ found. IfSome found (λ _. SendIsLatched self.now.state sender → ⊥)) }
-        ensures latched { IfOk result (λ found. IfNone found (SendIsLatched self.now.state sender)) }
+            (λ planned. AreUnlatched self.old.state planned.0.writes.items)) }
+        ensures unlatched { IfOk result (λ found. IfSome found (λ _. SendIsLatched self.old.state sender → ⊥)) }
+        ensures latched { IfOk result (λ found. IfNone found (SendIsLatched self.old.state sender)) }
         // Why there is none otherwise.
         ensures plain { IfErr result (λ r. r ≢ Refusal.Failed) }
-        ensures refused { IsSound self.now.state → self.now.state.cells_in_use < cell_count self.now.state.sizes
+        ensures refused { IsSound self.old.state → self.old.state.cells_in_use < cell_count self.old.state.sizes
             → IfErr result (λ r. r ≡ Refusal.NoMemory) }
     {
-        match self.send_slots(sender)? {
-            None => Ok(None),
-            Some(slots) => {
-                let layout = self.pages.layout();
-                let SendSlots { group, tail, free } = slots;
-                let plan = append(self.alloc, &layout, &group, tail, free, tag, body)?;
-                let room = room_of(&plan);
-                Ok(Some((plan, room)))
-            }
-        }
-    }
-
-    // What a send for the group is planned from; none where it needs a page that others have latched.
-    fn send_slots(&self, sender: u32) -> Result<Option<SendSlots>, Refusal>
-        requires { sender < sender_count self.now.state.sizes }
-        ensures slots { IfOk result (λ found. IfSome found (λ slots. AreSendSlots self.now.state sender slots)) }
-        ensures latched { IfOk result (λ found. IfNone found (SendIsLatched self.now.state sender)) }
-        ensures plain { IfErr result (λ r. r ≢ Refusal.Failed) }
-        ensures refused { IsSound self.now.state → self.now.state.cells_in_use < cell_count self.now.state.sizes
-            → IfErr result (λ r. ⊥) }
-    {
-        let at = self.pages.layout().directory_of(sender);
-        if self.transactions.has_latched(at.page()) {
-            return Ok(None);
-        }
-        let directory = self.pages.group(sender);
-        let damaged = Refusal::Damaged(Damage::Page(at.page() as u32));
-        if directory.sent > LOG_LIMIT {
-            return Err(damaged);
-        }
-        if self.is_latched(directory.tail) {
-            return Ok(None);
-        }
-        let Some(tail) = self.neighbour(directory.tail) else {
-            return Err(damaged);
+        let Ok(op) = Op::send(self.alloc, sender, tag, body.as_slice()) else {
+            return Err(Refusal::NoMemory);
         };
-        let Some(free) = lowest_free(&self.pages, &self.transactions) else {
-            if self.pages.free_cell().is_none() {
-                return Err(damaged);
-            }
-            return Ok(None);
-        };
-        let group = Group {
-            at,
-            sender,
-            directory,
-        };
-        Ok(Some(SendSlots { group, tail, free }))
+        self.plan_deed(&op)
     }
 }

@@ -1,28 +1,21 @@
 //! What starts of operations have in common.
-ghost use Rattle.std.specs.Prelude.{◌≡◌, ◌+◌, ◌*◌, ◌<◌, ◌≤◌, IfErr, IfSome, IfNone, None, Some, OnOk, OnErr, false, true, length};
+ghost use Rattle.std.specs.Prelude.{◌≡◌, ◌+◌, ◌*◌, ◌<◌, ◌≤◌, IfErr, Some, OnOk, OnErr, false, true, length};
 ghost use Rattle.rq_model.specs.Deeds.{deed_in, spelled_deed};
 ghost use Rattle.rq_record.specs.Deeds.{IsDeedInRange};
 ghost use Rattle.rq_model.specs.Tests.{log_full};
-ghost use Rattle.rq_page.specs.Sizes.{IsLink};
-ghost use Rattle.rq_views.specs.Log.{cell_in};
-ghost use Rattle.rq_views.specs.Stored.{slots_in};
 ghost use Rattle.rq_txn.specs.Rows.{change_row, row_started, under_of};
 ghost use Rattle.rq_groups.specs.Sides.{is_free_end, with_end};
-ghost use Rattle.rq_chain.specs.Neighbours.{IsNeighbour, cell_beside};
 ghost use Rattle.rq_store.specs.State.{ledger_of};
-ghost use Rattle.rq_sound.specs.Latching.{any_latched, named};
-ghost use Rattle.rq_store.specs.Plans.{Stands_at};
 ghost use Rattle.rq_engine.specs.Opened.{LeavesDevices};
 ghost use Rattle.rq_engine.specs.Answers.{HasNothingUnderWay};
 ghost use Rattle.rq_engine.specs.Sends.{under_plan, FitsPlan, FitsUnder, HasRoom};
 
 use crate::engine::Engine;
-use rq_chain::{ChainPlan, Neighbour};
+use rq_chain::ChainPlan;
 use rq_disk::{LogDevice, PageDevice};
 use rq_groups::End;
 use rq_model::refusal::Refusal;
 use rq_model::txn::Txn;
-use rq_page::addr::Addr;
 use rq_record::{OP_END_BYTES, PAGE_OP_BYTES, encode_deed};
 use rq_txn::{Aim, Operation};
 
@@ -45,25 +38,6 @@ pub(crate) fn room_of(plan: &ChainPlan) -> usize
 }
 
 impl<P: PageDevice, L: LogDevice> Engine<P, L> {
-    // The cell that a link names: none where it names none. Not there where that cell is free.
-    pub(crate) fn neighbour(&self, at: Addr) -> Option<Option<Neighbour>>
-        requires { IsLink self.now.state.sizes at }
-        ensures neighbour { IfSome result (λ beside. IsNeighbour self.now.state.sizes at beside) }
-        ensures stands { IfSome result (λ beside. Stands_at (slots_in self.now.state.sizes self.now.state.images) at
-            (cell_beside beside)) }
-        ensures free { IfNone result ((0 < at) × (cell_in (slots_in self.now.state.sizes self.now.state.images at)
-            ≡ None)) }
-    {
-        rq_inverses::neighbour(&self.pages, at)
-    }
-
-    // Whether others have latched the page of the slot that a link names: not where it names none.
-    pub(crate) fn is_latched(&self, at: Addr) -> bool
-        ensures { result ≡ any_latched self.now.state.rows (named at) }
-    {
-        rq_inverses::is_latched(&self.transactions, at)
-    }
-
     // Takes the room of an operation, and then lets it begin.
     pub(crate) fn start(
         &mut self,

@@ -4,14 +4,13 @@ ghost use Rattle.rq_model.specs.History.Call.{Undo_next};
 ghost use Rattle.rq_model.specs.Tests.{undo_cost};
 ghost use Rattle.rq_model.specs.Commits.{op_of};
 ghost use Rattle.rq_model.specs.Content.{said};
-ghost use Rattle.rq_page.specs.Sizes.{sender_count};
-ghost use Rattle.rq_views.specs.Plans.{Undid, deed_sender};
+ghost use Rattle.rq_views.specs.Plans.{Undid};
 ghost use Rattle.rq_views.specs.Stored.{slots_in};
 ghost use Rattle.rq_level.specs.Writes.{AreSlotWrites};
 ghost use Rattle.rq_txn.specs.Rows.{change_row, row_started};
 ghost use Rattle.rq_sound.specs.Plans.{AreUnlatched, IsPlannedFrom};
 ghost use Rattle.rq_sound.specs.Sound.{IsSound};
-ghost use Rattle.rq_inverses.specs.Inverses.{MayBeUndone};
+ghost use Rattle.rq_planner.specs.Answered.{IsNewestDeed};
 ghost use Rattle.rq_engine.specs.Opened.{LeavesDevices};
 ghost use Rattle.rq_engine.specs.Answers.{AnswersLegally};
 ghost use Rattle.rq_engine.specs.Applied.{TakesUnlatched};
@@ -21,14 +20,14 @@ ghost use Rattle.rq_engine.specs.Sends.{HasRoom};
 ghost use Rattle.rq_engine.specs.Aborts.{IsTurnedBack, UndoIsLatched, UndoSays, UndoTakesLowest};
 
 use crate::engine::Engine;
+use crate::operations::CHAIN_LEVEL;
 use crate::starts::{CHAIN_OPERATION, MARK_OPERATION};
 use rq_disk::{LogDevice, PageDevice};
-use rq_inverses::plan_inverse;
 use rq_level::SlotWrite;
 use rq_model::record::{Deed, Record};
 use rq_model::refusal::Refusal;
 use rq_model::txn::{Sub, Txn};
-use rq_record::{PAGE_OP_BYTES, shows_size, spelled_len};
+use rq_record::{PAGE_OP_BYTES, encode_deed, shows_size, spelled_len};
 use rq_txn::{Aim, Finished, Operation};
 
 /// What the inverse of an operation is counted as where it starts.
@@ -65,7 +64,7 @@ impl<P: PageDevice, L: LogDevice> Engine<P, L> {
         if self.is_log_full(undo_records(&done.deed)) {
             return Err(Refusal::LogFull);
         }
-        match self.plan_undo(&done.deed) {
+        match self.plan_undo(txn, number, &done) {
             Ok(None) => Err(Refusal::Latched),
             Ok(Some(writes)) => match self.start_undo(txn, number, &done, writes) {
                 Ok(()) => Ok(Some(Sub { txn, number })),
@@ -120,23 +119,40 @@ impl<P: PageDevice, L: LogDevice> Engine<P, L> {
     }
 
     // The writes that take back what a finished operation did; none where they need a page that others have latched.
-    fn plan_undo(&self, deed: &Deed) -> Result<Option<Vec<SlotWrite>>, Refusal>
-        requires { deed_sender deed.now < sender_count self.now.state.sizes }
+    fn plan_undo(
+        &mut self,
+        txn: Txn,
+        number: u64,
+        done: &Finished,
+    ) -> Result<Option<Vec<SlotWrite>>, Refusal>
+        requires { IsDoneKept self.old.state.sizes done.now }
+        ensures same { self.new ≡ self.old }
         // The plan.
-        ensures plan { IfOk result (λ found. IfSome found (λ writes. IsPlannedFrom self.now.state.sizes
-            (slots_in self.now.state.sizes self.now.state.images) writes.items (Undid deed.now))) }
-        ensures slots { IfOk result (λ found. IfSome found (λ writes. AreSlotWrites self.now.state.sizes writes.items)) }
+        ensures plan { IfOk result (λ found. IfSome found (λ writes. IsPlannedFrom self.old.state.sizes
+            (slots_in self.old.state.sizes self.old.state.images) writes.items (Undid done.now.deed))) }
+        ensures slots { IfOk result (λ found. IfSome found (λ writes. AreSlotWrites self.old.state.sizes writes.items)) }
         ensures lowest { IfOk result (λ found. IfSome found
-            (λ writes. UndoTakesLowest self.now.state deed.now writes.items)) }
+            (λ writes. UndoTakesLowest self.old.state done.now.deed writes.items)) }
         // Latches, exactly.
-        ensures free { IfOk result (λ found. IfSome found (λ writes. AreUnlatched self.now.state writes.items)) }
-        ensures unlatched { IfOk result (λ found. IfSome found (λ _. UndoIsLatched self.now.state deed.now → ⊥)) }
-        ensures latched { IfOk result (λ found. IfNone found (UndoIsLatched self.now.state deed.now)) }
+        ensures free { IfOk result (λ found. IfSome found (λ writes. AreUnlatched self.old.state writes.items)) }
+        ensures unlatched { IfOk result (λ found. IfSome found (λ _. UndoIsLatched self.old.state done.now.deed → ⊥)) }
+        ensures latched { IfOk result (λ found. IfNone found (UndoIsLatched self.old.state done.now.deed)) }
         // Why there is none otherwise.
         ensures plain { IfErr result (λ r. r ≢ Refusal.Failed) }
-        ensures refused { IsSound self.now.state → MayBeUndone self.now.state deed.now
+        ensures refused { IsSound self.old.state → IsNewestDeed self.old.state done.now.deed
             → IfErr result (λ r. r ≡ Refusal.NoMemory) }
     {
-        plan_inverse(self.alloc, &self.pages, &self.transactions, deed)
+        // The level reads the deed alone.
+        let end = Record::OpEnd {
+            txn,
+            operation: number,
+            level: CHAIN_LEVEL,
+            deed: encode_deed(&done.deed),
+        };
+        match self.plan_back(&end) {
+            Ok(Some(plan)) => Ok(Some(plan.writes)),
+            Ok(None) => Ok(None),
+            Err(refusal) => Err(refusal),
+        }
     }
 }

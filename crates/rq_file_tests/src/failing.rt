@@ -36,9 +36,23 @@ enum Call {
     Write(u32),
 }
 
-/// The calls of a run up to its end, the bytes of the log that outlive it (all where there are fewer), and the messages
-/// that are left then of the one sender: how many were sent and received by committed transactions, and the rest. Of a
-/// run with a failed call that is so where its last commit was acknowledged, and what outlives it is what was forced.
+/// The messages of the one sender: how many were sent and received by committed transactions, and the rest.
+#[derive(Drop)]
+struct Left {
+    sent: u64,
+    received: u64,
+    rest: &'static [&'static [u8]],
+}
+
+const NOTHING: Left = Left {
+    sent: 0,
+    received: 0,
+    rest: &[],
+};
+
+/// The calls of a run up to its end, the bytes of the log that outlive it (all where there are fewer), and what is left
+/// then. Of a run with a failed call what outlives it is what was forced: all of that where its last commit was
+/// acknowledged, which it is behind the one force alone, and else nothing.
 #[derive(Drop)]
 struct Plan {
     folder: &'static str,
@@ -46,9 +60,7 @@ struct Plan {
     log: &'static str,
     calls: &'static [Call],
     keep: u64,
-    sent: u64,
-    received: u64,
-    rest: &'static [&'static [u8]],
+    left: Left,
 }
 
 /// A run over files of which one call fails.
@@ -220,9 +232,9 @@ impl Run {
         self.forced = length_of(rt, plan.log)?;
         let mut store = self.open(rt, plan)?;
         if self.is_cut && !self.is_acknowledged {
-            return Ok(());
+            return is_left(&mut store, &NOTHING);
         }
-        is_left(&mut store, plan)
+        is_left(&mut store, &plan.left)
     }
 }
 
@@ -249,24 +261,24 @@ fn is_failed(store: &mut Store) -> Result<(), Trouble> {
     }
 }
 
-fn is_left(store: &mut Store, plan: &Plan) -> Result<(), Trouble> {
+fn is_left(store: &mut Store, left: &Left) -> Result<(), Trouble> {
     let Ok(Reply::Content(groups)) = ask(store, &Event::Content) else {
         return Err("no content");
     };
     match groups.first() {
-        Some(group) if holds(group, plan) => Ok(()),
+        Some(group) if holds(group, left) => Ok(()),
         _ => Err("something else is left"),
     }
 }
 
-fn holds(group: &GroupContent, plan: &Plan) -> bool {
-    group.sent == plan.sent
-        && group.received == plan.received
-        && group.rest.len() == plan.rest.len()
+fn holds(group: &GroupContent, left: &Left) -> bool {
+    group.sent == left.sent
+        && group.received == left.received
+        && group.rest.len() == left.rest.len()
         && group
             .rest
             .iter()
-            .zip(plan.rest.iter())
+            .zip(left.rest.iter())
             .all(|(message, body)| message.body.as_slice() == *body)
 }
 
@@ -322,9 +334,11 @@ fn a_message_that_is_forced(rt: HostRuntime) -> Result<(), Fail> {
             Call::Acknowledge,
         ],
         keep: u64::MAX,
-        sent: 1,
-        received: 0,
-        rest: &[b"hello"],
+        left: Left {
+            sent: 1,
+            received: 0,
+            rest: &[b"hello"],
+        },
     };
     assert!(rt; calls_failing(&rt, &plan)? >= 18);
     Ok(())
@@ -347,9 +361,11 @@ fn a_receive_that_is_not_forced(rt: HostRuntime) -> Result<(), Fail> {
             Call::HandOver,
         ],
         keep: 1186,
-        sent: 1,
-        received: 0,
-        rest: &[b"a"],
+        left: Left {
+            sent: 1,
+            received: 0,
+            rest: &[b"a"],
+        },
     };
     assert!(rt; calls_failing(&rt, &plan)? >= 16);
     Ok(())
@@ -376,9 +392,11 @@ fn a_receive_that_is_forced_and_its_pages(rt: HostRuntime) -> Result<(), Fail> {
             Call::Write(2),
         ],
         keep: u64::MAX,
-        sent: 1,
-        received: 1,
-        rest: &[],
+        left: Left {
+            sent: 1,
+            received: 1,
+            rest: &[],
+        },
     };
     assert!(rt; calls_failing(&rt, &plan)? >= 21);
     Ok(())

@@ -94,6 +94,8 @@ fn a_folder_is_never_made(rt: HostRuntime) -> Result<(), Fail> {
     assert!(rt; !is_there(&rt, "format_none_test/none"));
     fs::write(&rt, "format_none_test/file", b"".as_slice())?;
     check(&rt, "format_none_test/file", "fault open\n", 1)?;
+    check(&rt, "", "fault open\n", 1)?;
+    assert!(rt; !is_there(&rt, "pages") && !is_there(&rt, "log"));
     fs::remove_dir_all(&rt, "format_none_test")?;
     Ok(())
 }

@@ -49,7 +49,8 @@ fn print_formatted<W: Write>(writer: &mut W, layout: &Layout) -> io::Result<()> 
 /// both files too.
 ///
 /// # Errors
-/// `Exists` where either name is taken; `Open` where a file or its lock, or the folder, cannot be had; `Refused` with
+/// `Exists` where either name is taken; `Open` where a file or its lock, or the folder, cannot be had, as where no folder
+/// is named; `Refused` with
 /// `NoMemory` where a path cannot be made, and with `DiskWrite` where a file or the folder fails. Unless both files
 /// could be made none is left (but the pages, where removing them fails); after that what was made is left.
 pub fn format_folder<R: Files<File = File> + AllocGlobal>(
@@ -57,6 +58,9 @@ pub fn format_folder<R: Files<File = File> + AllocGlobal>(
     folder: &str,
     layout: &Layout,
 ) -> Result<(), Fault> {
+    if folder.is_empty() {
+        return Err(Fault::Open);
+    }
     let pages = path_of(rt, folder, PAGES)?;
     let log = path_of(rt, folder, LOG)?;
     if is_taken(rt, &pages)? || is_taken(rt, &log)? {
@@ -162,7 +166,7 @@ fn format_pages(file: File, layout: &Layout) -> Result<(), Fault> {
 
 // Makes the names in a folder durable.
 fn sync_folder<R: Files<File = File>>(rt: &R, folder: &str) -> Result<(), Fault> {
-    let Ok(folder) = File::open(rt, if folder.is_empty() { "." } else { folder }) else {
+    let Ok(folder) = File::open(rt, folder) else {
         return Err(Fault::Open);
     };
     folder.sync_all().map_err(write_failed)

@@ -4,3 +4,4 @@ pub mod EachLevel
 pub mod Doings
 pub mod Noting
 pub mod Counted
+pub mod Superblock

@@ -49,6 +49,7 @@ pub record IsSent (z : Sizes) (k : Kept) (given : List Given) (latched : List �
   pub writes : reverse (writes_of z p.writes.items) ≡ append_writes (layout_of z) s can.directory new tag body can.old
   pub slots : AreSlotWrites z p.writes.items
   pub deed : p.deed ≡ spelled_deed (Append s (can.directory.sent + 1) tag can.directory.last_tag body)
+  pub reads : deed_in p.deed ≡ Some (Append s (can.directory.sent + 1) tag can.directory.last_tag body)
   pub reply : p.reply ≡ Some gives.Sent
   pub kept : after ≡ reserved_at z k new
 
@@ -70,6 +71,7 @@ pub record IsReceived (z : Sizes) (k : Kept) (given : List Given) (s : ℕ) (p :
   pub writes : reverse (writes_of z p.writes.items) ≡ unlink_head_writes (layout_of z) s can.directory can.cell can.next
   pub slots : AreSlotWrites z p.writes.items
   pub deed : p.deed ≡ spelled_deed (UnlinkHead s (can.directory.received + 1) can.cell.tag can.cell.body)
+  pub reads : deed_in p.deed ≡ Some (UnlinkHead s (can.directory.received + 1) can.cell.tag can.cell.body)
   pub reply : p.reply ≡ Some (gives.Message (record { sender = s; tag = can.cell.tag; body = can.cell.body }))
   pub kept : after ≡ k
 
@@ -91,6 +93,7 @@ pub record IsMarked (z : Sizes) (given : List Given) (s : ℕ) (closed : Bool) (
 pub record IsClosed (z : Sizes) (k : Kept) (given : List Given) (s : ℕ) (p : Plan) (after : Kept) : Type 0 where
   pub marked : IsMarked z given s true p
   pub deed : p.deed ≡ spelled_deed (Close_deed s)
+  pub reads : deed_in p.deed ≡ Some (Close_deed s)
   pub reply : p.reply ≡ Some gives.Closed
   pub kept : after ≡ k
 

@@ -1,5 +1,5 @@
 //! Slots that a level is given, and sets of pages.
-ghost use Rattle.std.specs.Prelude.{◌≡◌, ◌+◌, ◌≤◌, ◌∷◌, ◌++◌, [], None, Some, not, IfOk, OnOk, OnErr, MatchOption, length};
+ghost use Rattle.std.specs.Prelude.{◌≡◌, ◌+◌, ◌<◌, ◌≤◌, ◌∷◌, ◌++◌, [], None, Some, nat_eq, not, IfOk, OnOk, OnErr, MatchOption, length};
 ghost use Rattle.std.specs.List.{filter};
 ghost use Rattle.rq_level.specs.Given.{given_at, has_page, meets};
 
@@ -55,6 +55,13 @@ impl Slots {
         }
     }
 
+    /// Has none given any more. What memory was taken for them is kept.
+    pub fn clear(&mut self)
+        ensures { self.new ≡ [] }
+    {
+        self.given.clear();
+    }
+
     /// The slot at an address, where it was given.
     pub fn get(&self, at: Addr) -> Option<&Slot>
         ensures { MatchOption result (given_at at self.now ≡ None) (λ bytes. given_at at self.now ≡ Some bytes.now) }
@@ -85,6 +92,15 @@ impl Model for PageSet {
 }
 
 impl PageSet {
+    /// No page.
+    pub fn new(alloc: Global) -> Self
+        ensures { result.pages ≡ [] }
+    {
+        PageSet {
+            pages: Vec::new(alloc),
+        }
+    }
+
     /// No page, with room for so many.
     ///
     /// # Errors
@@ -110,6 +126,37 @@ impl PageSet {
             Ok(()) => Ok(()),
             Err(_) => Err(NoMemory),
         }
+    }
+
+    /// Makes room for so many pages more.
+    ///
+    /// # Errors
+    /// `NoMemory`: the pages stay.
+    pub fn reserve(&mut self, count: usize) -> Result<(), NoMemory>
+        ensures pages { self.new.pages ≡ self.old.pages }
+        ensures room { OnOk result (length self.old.pages + count ≤ self.new.room) }
+        ensures more { self.old.room ≤ self.new.room }
+    {
+        match self.pages.try_reserve(count) {
+            Ok(()) => Ok(()),
+            Err(_) => Err(NoMemory),
+        }
+    }
+
+    /// Adds a page, for which there is room.
+    pub fn put(&mut self, page: u32)
+        requires { length self.old.pages < self.old.room }
+        ensures pages { self.new.pages ≡ self.old.pages ++ page ∷ [] }
+        ensures room { self.old.room ≤ self.new.room }
+    {
+        self.pages.push(page).unwrap();
+    }
+
+    /// Takes out a page.
+    pub fn remove(&mut self, page: u32)
+        ensures { self.new ≡ record { pages = filter (λ p. not (nat_eq p page)) self.old.pages; room = self.old.room } }
+    {
+        self.pages.retain(|one| *one != page);
     }
 
     /// Whether a page is in it.

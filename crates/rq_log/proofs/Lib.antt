@@ -1,3 +1,5 @@
+pub mod Keeping
 pub mod Kept
 pub mod Moments
 pub mod Runs
+pub mod Streams

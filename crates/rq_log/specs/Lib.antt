@@ -1,5 +1,5 @@
 pub mod Crash
 pub mod Logged
 pub mod PastRecords
-pub mod Scanned
+pub mod Reading
 pub mod Spelled

@@ -10,9 +10,10 @@ ghost use Rattle.rq_log.specs.Spelled.{spelled, AreSpelled, IsBeginning};
 
 mod past;
 mod reading;
+mod stream;
 
 use crate::past::Past;
-use crate::reading::read_records;
+pub use crate::reading::LogReader;
 use rq_disk::LogDevice;
 use rq_model::record::Record;
 use rq_model::refusal::{NoMemory, Refusal};
@@ -70,63 +71,41 @@ pub struct Stopped<L> {
     pub device: L,
 }
 
-/// What was read of a device: the whole records at its front, and the log, where there is nothing else.
-#[derive(Drop)]
-pub struct Scan<L: LogDevice> {
-    /// The records, the oldest first.
-    pub records: Vec<Record>,
-    pub log: Result<Log<L>, Stopped<L>>,
-}
-
 impl<L: LogDevice + Drop> Log<L> {
-    ghost use Rattle.rq_log.specs.Scanned.{BeginsWith, StopsFor, device_of};
+    ghost use Rattle.std.specs.Prelude.{false};
+    ghost use Rattle.rq_log.specs.Reading.{IsRead};
 
-    /// Reads a device from its front: the whole records there, and the log, where there is nothing behind
-    /// them. None of them counts as forced: a crash may still lose what was read, unless it is forced. Else it
-    /// is stopped: by `DiskRead`, `NoMemory`, or `Damaged` with the number of the first record that is none.
-    pub fn scan(alloc: Global, mut device: L) -> Scan<L>
-        // What was read, and the log where nothing stands behind it.
-        ensures spelled { AreSpelled (reverse result.records.items) }
-        ensures front { L.honest (device_of result.log) → BeginsWith (reverse result.records.items) (L.seen device) }
-        ensures read { IfOk result.log (λ log. (log.records ≡ reverse result.records.items)
-            × (L.honest log.device → L.seen device ≡ spelled log.records)) }
-        ensures log { IfOk result.log (λ log. (log.forced ≡ 0) × (log.pending ≡ 0) × (log.reserved ≡ 0) ×
-            (log.failed ≡ false) × (log.settled ≡ device)) }
-        // Why it was not.
-        ensures stopped { IfErr result.log (λ stopped.
-            StopsFor L.LogDevice stopped.refusal (reverse result.records.items) device stopped.device) }
-        ensures cause { OnOk result.log (L.faults (device_of result.log) ≡ L.faults device) }
-        // The device was only read.
-        ensures seen { L.seen (device_of result.log) ≡ L.seen device }
-        ensures honest { L.honest (device_of result.log) → L.honest device }
-        ensures crash { (c : List ℕ) → L.may_leave (device_of result.log) c → L.may_leave device c }
-        ensures any_moment { LeavesOnly L.LogDevice device (device_of result.log) (L.may_leave device) }
+    // The log with these records, all that the device reads as, if it is honest. None of them counts as forced.
+    pub(crate) fn of_records(
+        alloc: Global,
+        device: L,
+        settled: Snapshot<L>,
+        past: Snapshot<Past>,
+        last: Lsn,
+    ) -> Log<L>
+        requires spelled { AreSpelled past.value }
+        requires count { last ≡ length past.value }
+        requires read { IsRead L.LogDevice settled.value device }
+        requires whole { L.honest device → L.seen settled.value ≡ spelled past.value }
+        ensures { result ≡ record {
+          records = past.value;
+          forced = 0;
+          pending = 0;
+          reserved = 0;
+          failed = false;
+          device = device;
+          settled = settled.value;
+        } }
     {
-        let settled = Snapshot::of(&device);
-        let mut records = Vec::new(alloc);
-        let mut past = Past::empty();
-        match read_records(alloc, &mut device, &mut records, &mut past) {
-            Ok(()) => {
-                let last = records.len() as u64;
-                let log = Log {
-                    device,
-                    settled,
-                    past,
-                    buffer: Vec::new(alloc),
-                    reserved: 0,
-                    last,
-                    forced: 0,
-                    failed: false,
-                };
-                Scan {
-                    records,
-                    log: Ok(log),
-                }
-            }
-            Err(refusal) => Scan {
-                records,
-                log: Err(Stopped { refusal, device }),
-            },
+        Log {
+            device,
+            settled,
+            past,
+            buffer: Vec::new(alloc),
+            reserved: 0,
+            last,
+            forced: 0,
+            failed: false,
         }
     }
 

@@ -1,92 +1,166 @@
-//! Reads the records of a device.
-ghost use Rattle.std.specs.Prelude.{◌≡◌, ◌+◌, ◌%◌, ◌^◌, OnOk, IfOk, IfErr, ℕ, List, [], reverse};
-ghost use Rattle.rq_log.specs.Crash.{LeavesOnly};
-ghost use Rattle.rq_log.specs.Scanned.{BeginsWith, StopsAt, StopsFor, IsDamagedBehind};
-ghost use Rattle.rq_log.specs.Spelled.{spelled, AreSpelled};
+//! Reads the records of a device, one after the other.
+ghost use Rattle.std.specs.Prelude.{◌≡◌, ◌^◌, ◌<◌, ◌∷◌, IfOk, IfErr, IfSome, IfNone, OnOk, OnErr, length};
+ghost use Rattle.rq_log.specs.Reading.{IsReading, StopsFor};
+ghost use Rattle.rq_log.specs.Spelled.{spelled};
 
 use crate::past::Past;
+use crate::stream::Stream;
+use crate::{Log, Stopped};
 use rq_disk::LogDevice;
 use rq_model::record::Record;
 use rq_model::refusal::{Damage, Refusal};
-use rq_record::{Step, decode, framed};
+use rq_model::txn::Lsn;
+use rq_record::{Step, decode};
 use std::alloc::Global;
+use std::marker::Model;
 use std::snapshot::Snapshot;
 
-/// Reads the whole records at the front of a device. `Ok`: there is nothing behind them.
-pub(crate) fn read_records<L: LogDevice>(
-    alloc: Global,
-    device: &mut L,
-    records: &mut Vec<Record>,
-    past: &mut Snapshot<Past>,
-) -> Result<(), Refusal>
-    requires records { records.old.items ≡ [] }
-    requires past { past.old.value ≡ [] }
-    ensures past { past.new.value ≡ reverse records.new.items }
-    ensures spelled { AreSpelled past.new.value }
-    ensures front { L.honest device.new → BeginsWith past.new.value (L.seen device.old) }
-    ensures ok { OnOk result ((L.honest device.new → L.seen device.old ≡ spelled past.new.value)
-        × (L.faults device.new ≡ L.faults device.old)) }
-    ensures err { IfErr result (λ e. StopsFor L.LogDevice e past.new.value device.old device.new) }
-    ensures seen { L.seen device.new ≡ L.seen device.old }
-    ensures honest { L.honest device.new → L.honest device.old }
-    ensures crash { (c : List ℕ) → L.may_leave device.new c → L.may_leave device.old c }
-    ensures any_moment { LeavesOnly L.LogDevice device.old device.new (L.may_leave device.old) }
-{
-    let bytes = read_all(alloc, device)?;
-    take_records(&bytes, records, past)
+/// A device whose records are read, from its front on, and are not kept. Contracts see those that were.
+#[derive(Drop)]
+pub struct LogReader<L: LogDevice> {
+    stream: Stream<L>,
+    // the device as it was before
+    first: Snapshot<L>,
+    past: Snapshot<Past>,
+    last: Lsn,
 }
 
-// Reads all bytes.
-fn read_all<L: LogDevice>(alloc: Global, device: &mut L) -> Result<Vec<u8>, Refusal>
-    ensures ok { IfOk result (λ bytes. (L.honest device.new → bytes.items ≡ L.seen device.old)
-        × (L.faults device.new ≡ L.faults device.old)) }
-    ensures err { IfErr result (λ e. StopsFor L.LogDevice e [] device.old device.new) }
-    ensures seen { L.seen device.new ≡ L.seen device.old }
-    ensures honest { L.honest device.new → L.honest device.old }
-    ensures crash { (c : List ℕ) → L.may_leave device.new c → L.may_leave device.old c }
-    ensures any_moment { LeavesOnly L.LogDevice device.old device.new (L.may_leave device.old) }
-{
-    let mut bytes = Vec::new(alloc);
-    let mut chunk = [0; 4096];
-    loop {
-        let Ok(count) = device.read(bytes.len() as u64, &mut chunk) else {
-            return Err(Refusal::DiskRead);
-        };
-        if count == 0 {
-            return Ok(bytes);
-        }
-        if bytes.extend_from_slice(&chunk[..count]).is_err() {
-            return Err(Refusal::NoMemory);
-        }
+impl<L: LogDevice> Model for LogReader<L> {
+    ghost use Rattle.rq_log.specs.Reading.{LogRead, KeepsRead};
+
+    ghost Value = { LogRead L };
+
+    ghost view = { λ r. record {
+      records = r.past.value;
+      device = r.stream.device;
+      first = r.first.value;
+    } };
+
+    ghost invariant = { λ r. KeepsRead L.LogDevice r.past.value r.stream r.first.value r.last };
+}
+
+impl<L: LogDevice + Drop> LogReader<L> {
+    ghost use Rattle.std.specs.Prelude.{[], false};
+
+    /// No record is read yet.
+    ///
+    /// # Errors
+    /// `NoMemory`.
+    pub fn new(alloc: Global, device: L) -> Result<LogReader<L>, Stopped<L>>
+        ensures ok { IfOk result (λ r. r ≡ record { records = []; device = device; first = device }) }
+        ensures err { IfErr result (λ stopped. (stopped.refusal ≡ Refusal.NoMemory) × (stopped.device ≡ device)) }
+    {
+        let first = Snapshot::of(&device);
+        let stream = Stream::new(alloc, device)?;
+        Ok(LogReader {
+            stream,
+            first,
+            past: Past::empty(),
+            last: 0,
+        })
+    }
+
+    /// The log whose records were read, all of them. None of them counts as forced: a crash may still lose what was
+    /// read, unless it is forced.
+    pub fn into_log(self, alloc: Global) -> Log<L>
+        requires whole { L.honest self.device → L.seen self.first ≡ spelled self.records }
+        ensures { result ≡ record {
+          records = self.records;
+          forced = 0;
+          pending = 0;
+          reserved = 0;
+          failed = false;
+          device = self.device;
+          settled = self.first;
+        } }
+    {
+        let LogReader {
+            stream,
+            first,
+            past,
+            last,
+        } = self;
+        Log::of_records(alloc, stream.give_back(), first, past, last)
+    }
+
+    /// The device, as it is.
+    pub fn give_back(self) -> L
+        ensures { result ≡ self.device }
+    {
+        let LogReader {
+            stream,
+            first: _,
+            past: _,
+            last: _,
+        } = self;
+        stream.give_back()
     }
 }
 
-// Takes the whole records at the front of some bytes. `Ok`: there is nothing behind them.
-fn take_records(
-    bytes: &[u8],
-    records: &mut Vec<Record>,
-    past: &mut Snapshot<Past>,
-) -> Result<(), Refusal>
-    requires records { records.old.items ≡ [] }
-    requires past { past.old.value ≡ [] }
-    ensures past { past.new.value ≡ reverse records.new.items }
-    ensures spelled { AreSpelled past.new.value }
-    ensures front { BeginsWith past.new.value bytes.now }
-    ensures ok { OnOk result (bytes.now ≡ spelled past.new.value) }
-    ensures err { IfErr result (λ e. StopsAt e past.new.value bytes.now) }
-{
-    framed();
-    let mut rest = bytes;
-    while !rest.is_empty() {
-        let Step::Record(record, used) = decode(rest) else {
-            let lsn = records.len() as u64 + 1;
-            return Err(Refusal::Damaged(Damage::Record(lsn)));
-        };
-        if records.push(record).is_err() {
-            return Err(Refusal::NoMemory);
-        }
-        Past::note(past, &record);
-        rest = &rest[used..];
+impl<L: LogDevice> LogReader<L> {
+    /// What is so of each reader, for proofs: it runs no code.
+    pub fn shows_read(&self)
+        ensures reading { IsReading L.LogDevice self.now }
+        ensures count { length self.now.records < 2 ^ 64 }
+    {
+        let _last = self.last;
     }
-    Ok(())
+
+    /// The LSN of the last record that was read: how many were.
+    pub fn last(&self) -> Lsn
+        ensures { result ≡ length self.now.records }
+    {
+        self.last
+    }
+
+    /// Reads the next record. `None`: all are read, and no byte is left.
+    ///
+    /// # Errors
+    /// `Damaged` with the LSN of the next record, where bytes are left and no whole record stands at their front;
+    /// `DiskRead`; `NoMemory` where a number of 64 bits can't count the bytes.
+    pub fn next(&mut self) -> Result<Option<Record>, Refusal>
+        // What is read then.
+        ensures some { IfOk result (λ next. IfSome next (λ r. self.new.records ≡ r ∷ self.old.records)) }
+        ensures none { IfOk result (λ next. IfNone next ((self.new.records ≡ self.old.records)
+            × (L.honest self.new.device → L.seen self.new.first ≡ spelled self.new.records))) }
+        // Why nothing was.
+        ensures same { OnErr result (self.new.records ≡ self.old.records) }
+        ensures err { IfErr result (λ e. StopsFor L.LogDevice e self.old.records self.old.device self.new.device) }
+        // The device.
+        ensures cause { OnOk result (L.faults self.new.device ≡ L.faults self.old.device) }
+        ensures first { self.new.first ≡ self.old.first }
+        ensures reading { IsReading L.LogDevice self.new }
+        ensures count { length self.new.records < 2 ^ 64 }
+    {
+        let next = self.read_next();
+        self.shows_read();
+        next
+    }
+
+    // Reads the next record; what it says but what is so of each reader.
+    fn read_next(&mut self) -> Result<Option<Record>, Refusal>
+        // What is read then.
+        ensures some { IfOk result (λ next. IfSome next (λ r. self.new.records ≡ r ∷ self.old.records)) }
+        ensures none { IfOk result (λ next. IfNone next ((self.new.records ≡ self.old.records)
+            × (L.honest self.new.device → L.seen self.new.first ≡ spelled self.new.records))) }
+        // Why nothing was.
+        ensures same { OnErr result (self.new.records ≡ self.old.records) }
+        ensures err { IfErr result (λ e. StopsFor L.LogDevice e self.old.records self.old.device self.new.device) }
+        // The device.
+        ensures cause { OnOk result (L.faults self.new.device ≡ L.faults self.old.device) }
+        ensures first { self.new.first ≡ self.old.first }
+    {
+        self.stream.fill()?;
+        self.stream.shows_at();
+        let Step::Record(record, used) = decode(self.stream.unread()) else {
+            if self.stream.unread().is_empty() {
+                return Ok(None);
+            }
+            return Err(Refusal::Damaged(Damage::Record(self.last + 1)));
+        };
+        self.stream.skip(used);
+        Past::note(&mut self.past, &record);
+        self.last += 1;
+        Ok(Some(record))
+    }
 }

@@ -1,8 +1,9 @@
 ghost use Rattle.std.specs.Prelude.{◌≡◌, IfOk, OnOk, false};
+ghost use Rattle.rq_log.specs.Spelled.{spelled};
 ghost use Rattle.rq_record.specs.Spelling.{IsInRange};
 
 use rq_disk::{CallKind, DeviceFailed, LogDevice, MemLog, Mishap, Switch};
-use rq_log::{Log, Scan, Stopped};
+use rq_log::{Log, LogReader, Stopped};
 use rq_model::record::Record;
 use rq_model::refusal::{Damage, NoMemory, Refusal};
 use rq_model::txn::Txn;
@@ -31,13 +32,31 @@ fn device_of(alloc: Global, bytes: &[u8], switch: &Switch) -> Result<MemLog, Fai
 
 // The calls that follow promise little, so that a test of many is checked fast.
 
+// Reads on, and keeps the records.
+fn read_all<L: LogDevice>(
+    reader: &mut LogReader<L>,
+    records: &mut Vec<Record>,
+) -> Result<(), Refusal>
+    ensures whole { OnOk result (L.honest reader.new.device → L.seen reader.new.first ≡ spelled reader.new.records) }
+{
+    while let Some(record) = reader.next()? {
+        if records.push(record).is_err() {
+            return Err(Refusal::NoMemory);
+        }
+    }
+    Ok(())
+}
+
 // The records of a device, and its log.
 fn read<L: LogDevice + Drop>(alloc: Global, device: L) -> Result<(Vec<Record>, Log<L>), Refusal>
     ensures { IfOk result (λ read. read.1.failed ≡ false) }
 {
-    let Scan { records, log } = Log::scan(alloc, device);
-    match log {
-        Ok(log) => Ok((records, log)),
+    let mut records = Vec::new(alloc);
+    match LogReader::new(alloc, device) {
+        Ok(mut reader) => match read_all(&mut reader, &mut records) {
+            Ok(()) => Ok((records, reader.into_log(alloc))),
+            Err(refusal) => Err(refusal),
+        },
         Err(stopped) => {
             let Stopped { refusal, device: _ } = stopped;
             Err(refusal)
@@ -47,9 +66,12 @@ fn read<L: LogDevice + Drop>(alloc: Global, device: L) -> Result<(Vec<Record>, L
 
 // The records in front of what is none, and why the log was stopped there.
 fn stopped<L: LogDevice + Drop>(alloc: Global, device: L) -> (Vec<Record>, Option<Refusal>) {
-    let Scan { records, log } = Log::scan(alloc, device);
-    match log {
-        Ok(_) => (records, None),
+    let mut records = Vec::new(alloc);
+    match LogReader::new(alloc, device) {
+        Ok(mut reader) => match read_all(&mut reader, &mut records) {
+            Ok(()) => (records, None),
+            Err(refusal) => (records, Some(refusal)),
+        },
         Err(stopped) => {
             let Stopped { refusal, device: _ } = stopped;
             (records, Some(refusal))

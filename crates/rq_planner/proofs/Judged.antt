@@ -1,14 +1,21 @@
 -- Worked: what is answered while a send for sender 0 is under way.
-use Rattle.std.proofs.Common.{◌≡◌, ⊎_elim, ℕ, List, [], ◌∷◌, true, None, Some, Ok, Err, refl, sym, ◌∙◌, ap, subst, inl, arith}
-use Rattle.std.proofs.lemmas.Bool.{false≢true}
+use Rattle.std.proofs.Common.{◌≡◌, ◌≢◌, ⊎_elim, ℕ, ◌/◌, ◌<◌, ◌||◌, List, [], ◌∷◌, Bool, true, false, Option, None, Some, Result, Ok, Err, refl, sym, ◌∙◌, ap, subst, inl, inr, arith}
+use Rattle.std.proofs.lemmas.Bool.{false≢true, true≢false}
 use Rattle.rq_model.specs.declared.record.Deed.{Deed}
 use Rattle.rq_model.specs.declared.record.Deed.TheVariants.{Append, UnlinkHead, Close}
+use Rattle.rq_model.specs.declared.refusal.Damage.{Damage}
 use Rattle.rq_model.specs.declared.refusal.Refusal.TheVariants as why
 use Rattle.rq_model.specs.Deeds.{spelled_deed}
 use Rattle.rq_page.specs.Sizes.{directory_at}
+use Rattle.rq_page.specs.Slots.{Slot}
 use Rattle.rq_page.specs.Slots.Slot.{Sender}
+use Rattle.rq_page.specs.declared.directory.Directory.{Directory}
 use Rattle.rq_page.specs.Directories.{new_directory}
 use Rattle.rq_views.specs.WorkedItems.{sizes}
+use Rattle.rq_level.specs.declared.writes.Plan.{Plan}
+use Rattle.rq_level.specs.Given.{GivenHolds, HoldsBytes, given_at}
+use Rattle.rq_level.specs.Kept.{Kept}
+use Rattle.rq_level.specs.Ops.{Doing, doing_in}
 use Rattle.rq_level.specs.Ops.Doing.{Send}
 use Rattle.rq_store.specs.Worked.{AreFormatted}
 use Rattle.rq_sound.specs.Course.{both_begun, one_under}
@@ -18,8 +25,9 @@ use Rattle.rq_sound.specs.Wants.{AreGivenOf}
 use Rattle.rq_sound.specs.WorkedCalls.{given_b, job_b}
 use Rattle.rq_sound.proofs.Worked.{begun_sound}
 use Rattle.rq_sound.proofs.WorkedCalls.{latches_judged, levels_judged, one_sound, wants_judged}
-use Rattle.rq_planner.specs.Asked.{asked_by, asked_sender, to_do}
-use Rattle.rq_planner.specs.Answered.{HasGathered, HasGatheredFor, IsDeedFor, IsHeldUp}
+use Rattle.rq_planner.specs.Asked.{Asked, asked_by, asked_sender, needed_by, to_do}
+use Rattle.rq_planner.specs.Asked.Asked.{Do}
+use Rattle.rq_planner.specs.Answered.{HasGathered, HasGatheredFor, IsAnswered, IsDeedFor, IsHeldUp, IsPlanOf}
 use Rattle.rq_planner.specs.Worked.{Answers, AnswersAreJudged, beside, knows, to_send}
 
 module _ (images : List (List ℕ)) (h : AreFormatted sizes images) where
@@ -60,6 +68,7 @@ other_deed (Close g) body e f d = d
 none_answer : (images : List (List ℕ)) → Answers images 1 (Ok None) knows
 none_answer images = record {
   plan = tt;
+  slots = tt;
   chosen = tt;
   free = tt;
   latched = λ a e. subst (IsHeldUp (beside images)) (let same : to_send 1 ≡ a = cc in same) (held images);
@@ -72,6 +81,7 @@ none_answer images = record {
 memory_answer : (images : List (List ℕ)) → Answers images 15 (Err why.NoMemory) knows
 memory_answer images = record {
   plan = tt;
+  slots = tt;
   chosen = tt;
   free = tt;
   latched = tt;

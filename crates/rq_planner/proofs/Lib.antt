@@ -1,6 +1,5 @@
-mod Superblock
-mod Following
 mod Told
 mod Gathered
 mod Replies
 mod Judged
+pub mod Knowing

@@ -28,8 +28,8 @@ use Rattle.rq_level.specs.Kept.{Kept, IsLowest, NoneToTake, flag_at}
 use Rattle.rq_level.specs.Meaning.{meaning_of}
 use Rattle.rq_level.specs.Ops.{Doing, Job, doing_in}
 use Rattle.rq_level.specs.Ops.Doing.{Send, Receive, Close}
-use Rattle.rq_level.specs.Writes.{IsFirstAt, write_of, writes_of}
-use Rattle.rq_txn.specs.Rows.{latched_in}
+use Rattle.rq_level.specs.Writes.{AreSlotWrites, IsFirstAt, write_of, writes_of}
+use Rattle.rq_txn.specs.Rows.{Row, latched_in}
 use Rattle.rq_store.specs.State.{State}
 use Rattle.rq_sound.specs.Chosen.{KeepsBeside, places_of}
 use Rattle.rq_sound.specs.Groups.{slots_now}
@@ -42,7 +42,6 @@ use Rattle.rq_sound.proofs.Levels.{levels_plan, levels_refuse, writes_latched}
 use Rattle.rq_sound.proofs.Wants.{levels_find}
 use Rattle.rq_inverses.specs.Found.{AreAllLatched, AreLatchedBelow}
 use Rattle.rq_inverses.proofs.Planned.{takes_lowest}
-use Rattle.rq_planner.proofs.Following.{follows}
 use Rattle.rq_planner.specs.Asked.{Asked, IsOfStore, asked_by, asked_in, doing_sender, known, needed_by, to_do, to_undo, undone_by}
 use Rattle.rq_planner.specs.Asked.Asked.{Do, Undo}
 use Rattle.rq_planner.specs.Answered.{HasGatheredFor, IsAnswered, IsHeldUp, IsNewestDeed, IsPlanBack, IsPlanFor, IsPlanOf, MayBeAsked, unless_latched}
@@ -56,9 +55,11 @@ module _ (s : State) (k : Kept) (a : Asked) where
   for_one : (P : Asked → Type 0) → P a → (b : Asked) → Some a ≡ Some b → P b
   for_one P h b e = subst P (some_is a b e) h
 
-  planned_answer : (after : Kept) (p : Plan) → IsPlanFor s a p → (IsHeldUp s a → ⊥) → KeepsBeside s after (places_of p.writes.items) → IsAnswered s k (Some a) (Ok (Some p)) after
-  planned_answer after p is off beside = record {
+  planned_answer : (after : Kept) (p : Plan) → IsPlanFor s a p → AreSlotWrites s.sizes p.writes.items → (IsHeldUp s a → ⊥)
+      → ((rows : List Row) → KeepsCells (record s { rows = rows }) k → KeepsBeside (record s { rows = rows }) after (places_of p.writes.items)) → IsAnswered s k (Some a) (Ok (Some p)) after
+  planned_answer after p is slots off beside = record {
     plan = for_one (λ b. IsPlanFor s b p) is;
+    slots = slots;
     chosen = beside;
     free = for_one (λ b. IsHeldUp s b → ⊥) off;
     latched = tt;
@@ -71,6 +72,7 @@ module _ (s : State) (k : Kept) (a : Asked) where
   latched_answer : (after : Kept) → after ≡ k → IsHeldUp s a → IsAnswered s k (Some a) (Ok None) after
   latched_answer after same held = record {
     plan = tt;
+    slots = tt;
     chosen = tt;
     free = tt;
     latched = for_one (IsHeldUp s) held;
@@ -83,6 +85,7 @@ module _ (s : State) (k : Kept) (a : Asked) where
   refused_answer : (after : Kept) (r : Refusal) → after ≡ k → r ≢ why.Failed → r ≢ why.Latched → ((whole : State) → known whole.sizes whole.images whole.rows ≡ s → IsSound whole → MayBeAsked whole a → r ≡ why.NoMemory) → IsAnswered s k (Some a) (Err r) after
   refused_answer after r same failed latched memory = record {
     plan = tt;
+    slots = tt;
     chosen = tt;
     free = tt;
     latched = tt;
@@ -99,6 +102,7 @@ module _ (s : State) (k : Kept) (a : Asked) where
 unread_answer : (s : State) (k after : Kept) (r : Refusal) → after ≡ k → r ≢ why.Failed → r ≢ why.Latched → IsAnswered s k None (Err r) after
 unread_answer s k after r same failed latched = record {
   plan = tt;
+  slots = tt;
   chosen = tt;
   free = tt;
   latched = tt;
@@ -121,7 +125,7 @@ module _ (s : State) (given : List Given) (h : IsGathered s given) where
 -- the cell that is taken is none of a latched page, and those below it are
 module _ (s : State) (k : Kept) (latched : List ℕ) (keeps : KeepsCells s k) (on : AreLatched s latched) (new : ℕ) (low : IsLowest s.sizes k latched new) where
   not_all : AreAllLatched s.sizes (slots_now s) s.rows → ⊥
-  not_all all = let x = follows.lowest s k latched new keeps on low in true≢false (sym (all new x.0 x.1) ∙ x.2)
+  not_all all = let x = levels_plan.lowest s k latched new keeps on low in true≢false (sym (all new x.0 x.1) ∙ x.2)
 
   -- those below it are
   below : AreLatchedBelow s.sizes (slots_now s) s.rows new
@@ -170,8 +174,9 @@ module _ (s : State) (k : Kept) (given : List Given) (latched : List ℕ) (keeps
     deed = Append g (m.can.directory.sent + 1) tag m.can.directory.last_tag body;
     asked = (refl, refl, refl);
     told = m.deed;
+    reads = m.reads;
     answer = m.reply;
-    follows = follows.sent s k given latched g tag body p after h.has.gathered keeps on m;
+    follows = levels_plan.sent s k given latched g tag body p after h.has.gathered keeps on m;
     slots = m.slots;
     lowest = takes_lowest s.sizes (slots_now s) s.rows m.new p.writes.items
         (first_new s.sizes p.writes.items m.can.directory.tail m.can.old _ _ _ m.writes) (below s k latched keeps on m.new m.lowest);
@@ -180,8 +185,9 @@ module _ (s : State) (k : Kept) (given : List Given) (latched : List ℕ) (keeps
     deed = UnlinkHead g (m.can.directory.received + 1) m.can.cell.tag m.can.cell.body;
     asked = refl;
     told = m.deed;
+    reads = m.reads;
     answer = m.reply;
-    follows = follows.received s k given g p after h.has.gathered m;
+    follows = levels_plan.received s k given g p after h.has.gathered m;
     slots = m.slots;
     lowest = tt;
   }
@@ -189,8 +195,9 @@ module _ (s : State) (k : Kept) (given : List Given) (latched : List ℕ) (keeps
     deed = Close_deed g;
     asked = refl;
     told = m.deed;
+    reads = m.reads;
     answer = m.reply;
-    follows = follows.closed s k given g p after h.has.gathered m;
+    follows = levels_plan.closed s k given g p after h.has.gathered m;
     slots = m.marked.slots;
     lowest = tt;
   }
@@ -203,20 +210,20 @@ module _ (s : State) (k : Kept) (given : List Given) (latched : List ℕ) (keeps
   undo_plan : (d : Deed) (p : Plan) (after : Kept) → HasGatheredFor s given (Some (Undo d)) → Undoes (Some s.sizes) (Some d) k given latched (Ok p) after → IsPlanBack s d p
   undo_plan (Append g n tag previous body) p after h m = record {
     inverse = m.inverse;
-    follows = follows.unsent s k given g n tag previous body p after h.has.gathered m;
+    follows = levels_plan.unsent s k given g n tag previous body p after h.has.gathered m;
     slots = m.slots;
     lowest = tt;
   }
   undo_plan (UnlinkHead g n tag body) p after h m = record {
     inverse = m.inverse;
-    follows = follows.returned s k given latched g n tag body p after h.has.gathered keeps on m;
+    follows = levels_plan.returned s k given latched g n tag body p after h.has.gathered keeps on m;
     slots = m.slots;
     lowest = takes_lowest s.sizes (slots_now s) s.rows m.new p.writes.items
         (first_new s.sizes p.writes.items m.can.directory.head m.can.old _ _ _ m.writes) (below s k latched keeps on m.new m.lowest);
   }
   undo_plan (Close_deed g) p after h m = record {
     inverse = m.inverse;
-    follows = follows.reopened s k given g p after h.has.gathered m;
+    follows = levels_plan.reopened s k given g p after h.has.gathered m;
     slots = m.marked.slots;
     lowest = tt;
   }
@@ -316,13 +323,13 @@ module _ (s : State) (k : Kept) (given : List Given) (latched : List ℕ) (keeps
   by_doing : (job : Job) (o : Option Doing) (answer : Result Plan Refusal) → HasGatheredFor s given (to_do o) → IsOfStore s.sizes (to_do o) → chain_plans k job given latched answer after
       → Plans (Some s.sizes) o k given latched answer after → IsAnswered s k (to_do o) (unless_latched answer) after
   by_doing job None answer h inside law m = unread answer m
-  by_doing job (Some d) (Ok p) h inside law m = planned_answer s k (Do d) after p (do_plan s k given latched keeps on d p after h m) (do_free s k given latched keeps on d p after h m) (planned_kept.plans s k job given latched p after keeps law)
+  by_doing job (Some d) (Ok p) h inside law m = planned_answer s k (Do d) after p (do_plan s k given latched keeps on d p after h m) (do_plan s k given latched keeps on d p after h m).slots (do_free s k given latched keeps on d p after h m) (λ rows kept. planned_kept.plans (record s { rows = rows }) k job given latched p after kept law)
   by_doing job (Some d) (Err r) h inside law m = do_refused d r h (inside (Do d) refl) m
 
   by_deed : (told : Record) (o : Option Deed) (answer : Result Plan Refusal) → HasGatheredFor s given (to_undo o) → chain_undoes k told given latched answer after
       → Undoes (Some s.sizes) o k given latched answer after → IsAnswered s k (to_undo o) (unless_latched answer) after
   by_deed told None answer h law m = unread answer m
-  by_deed told (Some d) (Ok p) h law m = planned_answer s k (Undo d) after p (undo_plan s k given latched keeps on d p after h m) (undo_free s k given latched keeps on d p after h m) (planned_kept.undoes s k told given latched p after keeps law)
+  by_deed told (Some d) (Ok p) h law m = planned_answer s k (Undo d) after p (undo_plan s k given latched keeps on d p after h m) (undo_plan s k given latched keeps on d p after h m).slots (undo_free s k given latched keeps on d p after h m) (λ rows kept. planned_kept.undoes (record s { rows = rows }) k told given latched p after kept law)
   by_deed told (Some d) (Err r) h law m = undo_refused d r h m
 
   pub plan_answered : (n : ℕ) (job : Job) (answer : Result Plan Refusal) → n ≡ 1 → job.undo ≡ false → HasGatheredFor s given (asked_by job) → IsOfStore s.sizes (asked_by job)

@@ -14,7 +14,7 @@ use Rattle.rq_level.specs.declared.writes.SlotWrite.{SlotWrite}
 use Rattle.rq_level.specs.Kept.{Kept, noted}
 use Rattle.rq_level.specs.Meaning.{meaning_of}
 use Rattle.rq_level.specs.Writes.{AreSlotWrites}
-use Rattle.rq_planner.proofs.Superblock.{sizes_told}
+use Rattle.rq_level.proofs.Superblock.{sizes_told}
 use Rattle.rq_sound.specs.Chosen.{KeepsBeside, KnowsFirst, places_of}
 use Rattle.rq_sound.specs.Levels.{KeepsCells}
 use Rattle.rq_sound.proofs.Chosen.{noted_known, planned_kept}

@@ -4,7 +4,7 @@ use Rattle.rq_model.specs.declared.record.Deed.{Deed}
 use Rattle.rq_model.specs.declared.record.Deed.TheVariants.{Append, UnlinkHead, Close as Close_deed}
 use Rattle.rq_model.specs.declared.refusal.Refusal.{Refusal}
 use Rattle.rq_model.specs.declared.refusal.Refusal.TheVariants as why
-use Rattle.rq_model.specs.Deeds.{spelled_deed}
+use Rattle.rq_model.specs.Deeds.{deed_in, spelled_deed}
 use Rattle.rq_page.specs.Sizes.{Sizes, cell_count}
 use Rattle.rq_views.specs.Items.{items}
 use Rattle.rq_views.specs.Legal.{view}
@@ -29,7 +29,7 @@ use Rattle.rq_sound.specs.Chosen.{KeepsBeside, places_of}
 use Rattle.rq_sound.specs.Gathering.{AreGivenFrom}
 use Rattle.rq_sound.specs.Groups.{slots_now}
 use Rattle.rq_sound.specs.Latching.{any_latched}
-use Rattle.rq_sound.specs.Levels.{IsGathered, MayFollow}
+use Rattle.rq_sound.specs.Levels.{IsGathered, KeepsCells, MayFollow}
 use Rattle.rq_sound.specs.Sound.{IsSound}
 use Rattle.rq_sound.specs.Wants.{AreGivenOf}
 use Rattle.rq_inverses.specs.Found.{AreAllLatched, FirstIsLowest}
@@ -68,12 +68,13 @@ SendTakesLowest z q rows (Send g tag body) ws = FirstIsLowest z q rows ws
 SendTakesLowest z q rows (Receive g) ws = Unit {0}
 SendTakesLowest z q rows (Close g) ws = Unit {0}
 
--- The plan of what is to be done, over the slots as they are, on pages that nobody has latched: with its deed, and what
--- its end answers.
+-- The plan of what is to be done, over the slots as they are, on pages that nobody has latched: with its deed, which its
+-- bytes tell, and what its end answers.
 pub record IsPlanOf (s : State) (d : Doing) (p : Plan) : Type 0 where
   pub deed : Deed
   pub asked : IsDeedFor d deed
   pub told : p.deed ≡ spelled_deed deed
+  pub reads : deed_in p.deed ≡ Some deed
   pub answer : p.reply ≡ Some (answer_of deed)
   pub follows : MayFollow s p (Did deed)
   pub slots : AreSlotWrites s.sizes p.writes.items
@@ -126,15 +127,32 @@ unless_latched (Err r) = Err r
 -- What is answered to what is asked, and what the level keeps then.
 pub record IsAnswered (s : State) (k : Kept) (asked : Option Asked) (answer : Result (Option Plan) Refusal) (after : Kept)
     : Type 0 where
-  -- the plan, and the level knows the cell that it chose
+  -- the plan, and the level knows the cell that it chose, whatever else is under way on these pages
   pub plan : IfOk answer (λ found. IfSome found (λ p. (a : Asked) → asked ≡ Some a → IsPlanFor s a p))
-  pub chosen : IfOk answer (λ found. IfSome found (λ p. KeepsBeside s after (places_of p.writes.items)))
+  pub slots : IfOk answer (λ found. IfSome found (λ p. AreSlotWrites s.sizes p.writes.items))
+  pub chosen : IfOk answer (λ found. IfSome found (λ p. (rows : List Row) → KeepsCells (record s { rows = rows }) k
+      → KeepsBeside (record s { rows = rows }) after (places_of p.writes.items)))
   -- there is none exactly where latches hold it up
   pub free : IfOk answer (λ found. IfSome found (λ p. (a : Asked) → asked ≡ Some a → IsHeldUp s a → ⊥))
   pub latched : IfOk answer (λ found. IfNone found ((a : Asked) → asked ≡ Some a → IsHeldUp s a))
   pub none : IfOk answer (λ found. IfNone found (after ≡ k))
   -- it is refused for memory alone, of a sound store with these pages and rows that may do it
   pub refused : IfErr answer (λ r. after ≡ k)
+  pub plain : IfErr answer (λ r. (r ≢ why.Failed) × (r ≢ why.Latched))
+  pub memory : (whole : State) → known whole.sizes whole.images whole.rows ≡ s → IsSound whole
+      → (a : Asked) → asked ≡ Some a → MayBeAsked whole a → IfErr answer (λ r. r ≡ why.NoMemory)
+
+-- ---- by a planner
+
+-- A level knows the cells of a store with these pages, whatever is under way there: it has chosen none of them.
+abbrev pub KnowsCells : Sizes → List (List ℕ) → Kept → Type 0
+KnowsCells z images k = KeepsCells (known z images []) k
+
+-- What is answered to what is asked, where the level keeps no cell chosen behind it.
+pub record IsPlanned (s : State) (asked : Option Asked) (answer : Result (Option Plan) Refusal) : Type 0 where
+  pub plan : IfOk answer (λ found. IfSome found (λ p. (a : Asked) → asked ≡ Some a → IsPlanFor s a p))
+  pub free : IfOk answer (λ found. IfSome found (λ p. (a : Asked) → asked ≡ Some a → IsHeldUp s a → ⊥))
+  pub latched : IfOk answer (λ found. IfNone found ((a : Asked) → asked ≡ Some a → IsHeldUp s a))
   pub plain : IfErr answer (λ r. (r ≢ why.Failed) × (r ≢ why.Latched))
   pub memory : (whole : State) → known whole.sizes whole.images whole.rows ≡ s → IsSound whole
       → (a : Asked) → asked ≡ Some a → MayBeAsked whole a → IfErr answer (λ r. r ≡ why.NoMemory)

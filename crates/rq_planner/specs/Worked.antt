@@ -5,9 +5,10 @@ use Rattle.rq_model.specs.declared.refusal.Damage.{Damage}
 use Rattle.rq_model.specs.declared.refusal.Refusal.{Refusal}
 use Rattle.rq_model.specs.declared.refusal.Refusal.TheVariants as why
 use Rattle.rq_model.specs.Deeds.{spelled_deed}
+use Rattle.rq_level.specs.declared.slots.Given.{Given}
 use Rattle.rq_level.specs.declared.writes.Plan.{Plan}
 use Rattle.rq_level.specs.Kept.{Kept}
-use Rattle.rq_level.specs.Ops.Doing.{Send}
+use Rattle.rq_level.specs.Ops.Doing.{Send, Receive}
 use Rattle.rq_store.specs.State.{State}
 use Rattle.rq_store.specs.Worked.{AreFormatted}
 use Rattle.rq_views.specs.WorkedItems.{sizes}

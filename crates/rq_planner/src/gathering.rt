@@ -1,5 +1,5 @@
 //! Gathers the slots that a level wants.
-ghost use Rattle.std.specs.Prelude.{◌≡◌, [], IfErr, IfOk, Some, true};
+ghost use Rattle.std.specs.Prelude.{◌≡◌, IfErr, IfOk, Some, true};
 ghost use Rattle.std.specs.Bool.{OnFalse, OnTrue};
 ghost use Rattle.rq_sound.specs.Groups.{slots_now};
 ghost use Rattle.rq_sound.specs.Latching.{any_latched};
@@ -12,7 +12,7 @@ use rq_model::refusal::Refusal;
 use rq_pool::Pages;
 use rq_txn::Transactions;
 
-/// Gathers what the level wants to see for an operation, each slot as it is, where none was given yet. Answers false where one of them is on a page
+/// Gathers what the level wants to see for an operation, each slot as it is. Answers false where one of them is on a page
 /// that an operation under way has latched.
 ///
 /// # Errors
@@ -27,13 +27,13 @@ pub(crate) fn gather<P: PageDevice, B: Level>(
     requires number { B.level level.now ≡ 1 }
     requires told { (B.kept level.now).sizes ≡ Some pages.now.sizes }
     requires asked { IsOfStore pages.now.sizes (asked_by op.now) }
-    requires none { slots.old ≡ [] }
     ensures all { IfOk result (λ all. OnTrue all
         (HasGatheredFor (seen pages.now transactions.now) slots.new (asked_by op.now))) }
     ensures latched { IfOk result (λ all. OnFalse all (any_latched transactions.now
         (needed_by (slots_now (seen pages.now transactions.now)) (asked_by op.now)) ≡ true)) }
     ensures refusal { IfErr result (λ r. r ≡ Refusal.NoMemory) }
 {
+    slots.clear();
     while let Want::Slot(at) = level.want(op, slots) {
         if transactions.has_latched(at.page()) {
             return Ok(false);

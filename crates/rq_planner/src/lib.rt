@@ -5,10 +5,12 @@
 #![tactic(auto, unfolding(rq_level::specs::Meaning::meaning_of))]
 
 mod gathering;
+mod planner;
 mod planning;
 mod telling;
 mod worked;
 
+pub use planner::Planner;
 pub use planning::{plan, plan_back};
 pub use telling::{give_back, tell_store};
 pub use worked::answers_are_judged;

@@ -1,20 +1,20 @@
 //! Plans of operations, and of what takes them back.
-ghost use Rattle.std.specs.Prelude.{◌≡◌, Some, [], false};
-ghost use Rattle.rq_sound.specs.Levels.{AreLatched, KeepsCells};
+ghost use Rattle.std.specs.Prelude.{◌≡◌, Some, false};
+ghost use Rattle.rq_sound.specs.Levels.{KeepsCells};
 ghost use Rattle.rq_planner.specs.Answered.{IsAnswered, unless_latched};
 ghost use Rattle.rq_planner.specs.Asked.{IsOfStore, asked_by, seen, undone_by};
 
 use crate::gathering::gather;
 use rq_disk::PageDevice;
-use rq_level::{Level, Op, PageSet, Plan, Slots};
+use rq_level::{Level, Op, Plan, Slots};
 use rq_model::record::Record;
 use rq_model::refusal::{Damage, Refusal};
 use rq_pool::Pages;
 use rq_txn::Transactions;
 use std::alloc::Global;
 
-/// Has the level plan an operation from the slots as they are, which are gathered into `slots`, and with the set of the
-/// pages that operations under way have latched; `None` where it needs one of these, and only there.
+/// Has the level plan an operation from the slots as they are, which are gathered into `slots`; `None` where it needs a
+/// page that an operation under way has latched, and only there.
 ///
 /// # Errors
 /// `NoMemory`; of a store that is not sound, or where the operation may not be done, also `Damaged`.
@@ -22,15 +22,12 @@ pub fn plan<P: PageDevice, B: Level>(
     alloc: Global,
     pages: &Pages<P>,
     transactions: &Transactions,
-    latched: &PageSet,
     level: &mut B,
     op: &Op,
     slots: &mut Slots,
 ) -> Result<Option<Plan>, Refusal>
     requires number { B.level level.old ≡ 1 }
     requires cells { KeepsCells (seen pages.now transactions.now) (B.kept level.old) }
-    requires latched { AreLatched (seen pages.now transactions.now) latched.now.pages }
-    requires none { slots.old ≡ [] }
     requires forward { op.now.undo ≡ false }
     requires asked { IsOfStore pages.now.sizes (asked_by op.now) }
     ensures same { B.level level.new ≡ 1 }
@@ -38,7 +35,7 @@ pub fn plan<P: PageDevice, B: Level>(
         (B.kept level.new) }
 {
     match gather(pages, transactions, level, op, slots) {
-        Ok(true) => found(level.plan(alloc, op, slots, latched)),
+        Ok(true) => found(level.plan(alloc, op, slots, transactions.latched())),
         Ok(false) => Ok(None),
         Err(refusal) => Err(refusal),
     }
@@ -52,15 +49,12 @@ pub fn plan_back<P: PageDevice, B: Level>(
     alloc: Global,
     pages: &Pages<P>,
     transactions: &Transactions,
-    latched: &PageSet,
     level: &mut B,
     told: &Record,
     slots: &mut Slots,
 ) -> Result<Option<Plan>, Refusal>
     requires number { B.level level.old ≡ 1 }
     requires cells { KeepsCells (seen pages.now transactions.now) (B.kept level.old) }
-    requires latched { AreLatched (seen pages.now transactions.now) latched.now.pages }
-    requires none { slots.old ≡ [] }
     requires asked { IsOfStore pages.now.sizes (undone_by told.now) }
     ensures same { B.level level.new ≡ 1 }
     ensures answered { IsAnswered (seen pages.now transactions.now) (B.kept level.old) (undone_by told.now) result
@@ -78,7 +72,7 @@ pub fn plan_back<P: PageDevice, B: Level>(
         return Err(Refusal::NoMemory);
     };
     match gather(pages, transactions, level, &op, slots) {
-        Ok(true) => found(level.undo(alloc, told, slots, latched)),
+        Ok(true) => found(level.undo(alloc, told, slots, transactions.latched())),
         Ok(false) => Ok(None),
         Err(refusal) => Err(refusal),
     }

@@ -146,20 +146,9 @@ pub not_begun_shut : (z : Sizes) (log : List Record) (first : Paged) (e : Refusa
 not_begun_shut z log first why.NoMemory before now untouched gone s = s
 not_begun_shut z log first why.LogFull before now untouched gone s = (s.0, gone, s.1)
 not_begun_shut z log first why.DiskWrite before now untouched gone s = (s, gone)
-not_begun_shut z log first (why.Damaged (damage.Record lsn)) before now untouched gone s = (inr (s.0, gone), s.1)
+not_begun_shut z log first (why.Damaged (damage.Record lsn)) before now untouched gone s = (s.0, gone, s.1)
 not_begun_shut z log first (why.Damaged (damage.Page page)) before now untouched gone s = (inr (s.0, gone), s.1)
 not_begun_shut z log first _ before now untouched gone s = absurd s
-
-pub not_begun_left : (z : Sizes) (log : List Record) (first : Paged) (e : Refusal) (before now : ℕ) (untouched : Type 0) → WhyNotBegun z log first e before now untouched → MayBeShut (IsLeft z first.image log) z log e before now
-not_begun_left z log first why.NoMemory before now untouched s = s.0
-not_begun_left z log first why.LogFull before now untouched s = λ left. record { now = s.0.now; recovering = s.0.recovering left; full = s.0.full }
-not_begun_left z log first why.DiskWrite before now untouched s = s
-not_begun_left z log first (why.Damaged (damage.Record lsn)) before now untouched s = λ left. elim s.0 [
-  | inl undo ↦ no_bad_undo z log first lsn left undo
-  | inr mend ↦ mend.none left
-]
-not_begun_left z log first (why.Damaged (damage.Page page)) before now untouched s = s.0.none
-not_begun_left z log first _ before now untouched s = absurd s
 
 -- the records behind, as they were forced
 pub begun_behind : (z : Sizes) (left : Type 0) (log mended : List Record) (r : Record) (kept : ℕ) (seen bytes : List ℕ) → IsMended log mended → (left → IsRecovered z log mended) → r ≡ next_restart mended → AreSpelled log → seen ≡ spelled log → AreSpelled (r ∷ mended)

@@ -1,6 +1,13 @@
 -- Going through a log, one record after the other.
-use Rattle.std.proofs.Common.{◌≡◌, ℕ, zero, suc, ◌+◌, ◌-◌, ◌<◌, ◌≤◌, List, [], ◌∷◌, ◌++◌, length, take, drop, reverse, get_or, sym, ◌∙◌, ap, subst, arith}
-use Rattle.std.proofs.lemmas.List.{reverse-append, take-append-drop, drop_at, length-reverse, length-drop, take_more}
+use Rattle.std.proofs.Common.{◌≡◌, ◌⊎◌, inl, inr, ℕ, ◌+◌, ◌-◌, ◌%◌, ◌^◌, ◌≤◌, List, ◌∷◌, ◌++◌, length, drop, sym, ◌∙◌, ap, subst, arith, append_assoc}
+use Rattle.std.proofs.lemmas.List.{drop-drop}
+use Rattle.rq_model.specs.declared.refusal.Refusal.{Refusal}
+use Rattle.rq_model.specs.declared.refusal.Refusal.TheVariants as why
+use Rattle.rq_model.specs.declared.refusal.Damage.TheVariants as damage
+use Rattle.rq_disk.specs.declared.device.LogDevice.{Ghosts}
+use Rattle.rq_record.specs.Spelling.{spelling}
+use Rattle.rq_log.specs.Reading.{BeginsWith, IsDamagedBehind, IsRead, StopsFor}
+use Rattle.rq_log.specs.Spelled.{spelled, AreSpelled}
 use Rattle.rq_model.specs.declared.record.Record.{Record}
 use Rattle.rq_page.specs.Sizes.{Sizes}
 use Rattle.rq_views.specs.InStore.{InStore}
@@ -19,16 +26,9 @@ use Rattle.rq_rules.specs.Kept.{ended_after}
 use Rattle.rq_rules.proofs.Whole.{whole_logs}
 use Rattle.rq_restart.specs.declared.findings.Findings.{Findings}
 use Rattle.rq_restart.specs.Found.{AreFindings, MayFollow, findings_after}
-use Rattle.rq_restart.specs.Repeating.{Paged, Marks, Belongs, Repeats, IsFirstBad}
-
-oldest_first : (xs : List Record) (n : ℕ) → oldest n (reverse xs) ≡ reverse (take n xs)
-oldest_first xs n =
-    let a : length (reverse xs) ≡ length xs = length-reverse xs in
-    let b : length (reverse (drop n xs)) ≡ length (drop n xs) = length-reverse (drop n xs) in
-    let c : length (drop n xs) ≡ length xs - n = length-drop n xs in
-    let d : length (reverse (drop n xs)) ≡ length (reverse xs) - n = omega (arith, a, b, c) in
-    let e : reverse xs ≡ reverse (drop n xs) ++ reverse (take n xs) = ap reverse (sym (take-append-drop n xs)) ∙ reverse-append (take n xs) (drop n xs) in
-    ap (drop (length (reverse xs) - n)) e ∙ drop_at (reverse (drop n xs)) (reverse (take n xs)) (length (reverse xs) - n) d
+use Rattle.rq_restart.specs.Refused.{IsBadNext, IsStoppedBehind, NotRepeated}
+use Rattle.rq_restart.specs.Repeating.{Belongs, IsRepeated, Marks, Paged, Repeats}
+use Rattle.rq_restart.proofs.Repeated.{up_to}
 
 -- what is found with one record more
 pub found_next : (f k : Findings) (log : List Record) (r : Record) (lsn : ℕ) → lsn ≡ length log + 1 → AreFindings f log → MayFollow log r → k ≡ findings_after lsn r f → AreFindings k (r ∷ log)
@@ -41,74 +41,71 @@ found_next f k log r lsn place are may e = record {
   follow = (may.follows, are.follow);
 }
 
--- the next record
-pub oldest_next : (xs : List Record) (i : ℕ) (d : Record) → i < length xs → oldest (i + 1) (reverse xs) ≡ get_or xs i d ∷ oldest i (reverse xs)
-oldest_next xs i d lt = oldest_first xs (i + 1) ∙ ap reverse (take_more xs i d lt) ∙ reverse-append (take i xs) (get_or xs i d ∷ []) ∙ ap (λ l. get_or xs i d ∷ l) (sym (oldest_first xs i))
+-- one record more is repeated
+pub repeated_one : (z : Sizes) (older : List Record) (r : Record) (lsn : ℕ) (old new : Paged) → lsn ≡ length older + 1 → MayFollow older r → MayRedo z old.image lsn r → Redoes (told_by r) lsn old.image new.image → Marks (told_by r) lsn old new.changed
+    → IsRepeated z older r old new
+repeated_one z older r lsn old new place next may redone marked = record {
+  belongs = record { next = next.next; follows = next.follows; may = subst (λ n. MayRedo z old.image n r) place may };
+  redone = subst (λ n. Redoes (told_by r) n old.image new.image) place redone;
+  marked = subst (λ n. Marks (told_by r) n old new.changed) place marked;
+}
 
--- as a loop finds it
-pub oldest_item : (xs : List Record) (i : ℕ) (r : Record) → i < length xs → r ≡ get_or xs i r → oldest (i + 1) (reverse xs) ≡ r ∷ oldest i (reverse xs)
-oldest_item xs i r lt e = oldest_next xs i r lt ∙ ap (λ q. q ∷ oldest i (reverse xs)) (sym e)
+-- memory is wanting
+pub not_for_memory : (z : Sizes) (older : List Record) (r : Record) (mid : Paged) (e : Refusal) → e ≡ why.NoMemory → NotRepeated z older r mid e
+not_for_memory z older r mid e is = subst (NotRepeated z older r mid) (sym is) tt
 
-pub at_end : (xs : List Record) → oldest (length xs) (reverse xs) ≡ reverse xs
-at_end xs = ap (λ n. oldest n (reverse xs)) (sym (length-reverse xs)) ∙ oldest_all (reverse xs)
+-- bytes that begin with a record more begin without it
+begins_before : (r : Record) (front : List Record) (bytes : List ℕ) → BeginsWith (r ∷ front) bytes → BeginsWith front bytes
+begins_before r front bytes h = (spelling r ++ h.0, h.1 ∙ append_assoc (spelled front) (spelling r) h.0)
 
-module _ (z : Sizes) (image : ℕ → List ℕ) (xs : List Record) (i : ℕ) (r : Record) (lt : i < length xs) (grows : oldest (i + 1) (reverse xs) ≡ r ∷ oldest i (reverse xs)) where
-  abbrev log : List Record
-  log = reverse xs
+module _ {L : Type 0} (g : Ghosts L) (z : Sizes) (first : Paged) (old new : L) where
+  -- what stopped the reading, with the device as it was first
+  pub stops_from : (e : Refusal) (front : List Record) (mid : L) → g.seen mid ≡ g.seen old → g.faults mid ≡ g.faults old → StopsFor g e front mid new → StopsFor g e front old new
+  stops_from why.NoMemory front mid seen faults h = h ∙ faults
+  stops_from why.DiskRead front mid seen faults h = subst (λ n. g.faults new ≡ (n + 1) % 2 ^ 64) faults h
+  stops_from (why.Damaged (damage.Record lsn)) front mid seen faults h = (h.0, (λ honest. subst (IsDamagedBehind front) seen (h.1 honest)), h.2 ∙ faults)
+  stops_from _ front mid seen faults h = absurd h
 
-  within : i + 1 ≤ length log
-  within = let a : length (reverse xs) ≡ length xs = length-reverse xs in omega (arith, a, lt)
-
-  count : length (oldest i log) ≡ i
-  count = let a : length (reverse xs) ≡ length xs = length-reverse xs in let b : length (oldest i log) ≡ length log - (length log - i) = length-drop (length log - i) log in omega (arith, a, b, lt)
-
-  pub found_more : (f k : Findings) → AreFindings f (oldest i log) → MayFollow (oldest i log) r → k ≡ findings_after (i + 1) r f → AreFindings k (oldest (i + 1) log)
-  found_more f k are may e = subst (λ l. AreFindings k l) (sym grows) (found_next f k (oldest i log) r (i + 1) (ap (λ n. n + 1) (sym count)) are may e)
-
-  pub redone_more : (old new : ℕ → List ℕ) → Redoes (told_by r) (i + 1) old new → (IsLeft z image log → FitsUpTo z old log i) → IsLeft z image log → FitsUpTo z new log (i + 1)
-  redone_more old new redo h left =
-      let store : InStore z (r ∷ oldest i log) = subst (λ l. InStore z l) grows (oldest_store z log (i + 1) left.whole.in_store) in
-      redo_one z log i r grows within store.0 old new redo (h left)
-
-  belongs : (mid : Paged) → (y : Sizes) → y ≡ z → MayFollow (oldest i log) r → MayRedo y mid.image (i + 1) r → Belongs z (oldest i log) r mid
-  belongs mid y sizes next may = record {
-    next = next.next;
-    follows = next.follows;
-    may = subst (λ n. MayRedo z mid.image (n + 1) r) (sym count) (subst (λ x. MayRedo x mid.image (i + 1) r) sizes may);
-  }
-
-  -- one record more is repeated
-  pub repeated_more : (first mid last : Paged) → (y : Sizes) → y ≡ z → Repeats z (oldest i log) first mid → MayFollow (oldest i log) r → MayRedo y mid.image (i + 1) r
-      → Redoes (told_by r) (i + 1) mid.image last.image → Marks (told_by r) (i + 1) mid last.changed → Repeats z (oldest (i + 1) log) first last
-  repeated_more first mid last y sizes before next may redone marked =
-      subst (λ l. Repeats z l first last) (sym grows) (
-        mid,
-        before,
-        record {
-          belongs = belongs mid y sizes next may;
-          redone = subst (λ n. Redoes (told_by r) (n + 1) mid.image last.image) (sym count) redone;
-          marked = subst (λ n. Marks (told_by r) (n + 1) mid last.changed) (sym count) marked;
-        },
-      )
-
-  -- the next record is the first that doesn't belong
-  pub first_bad : (first mid : Paged) → (y : Sizes) → y ≡ z → Repeats z (oldest i log) first mid → (MayFollow (oldest i log) r → MayRedo y mid.image (i + 1) r → ⊥) → IsFirstBad z log first (i + 1)
-  first_bad first mid y sizes before bad = record {
-    older = oldest i log;
-    newest = r;
-    are = grows;
-    place = ap (λ n. n + 1) (sym count);
+  -- the record that was read was not repeated
+  pub stopped_next : (front : List Record) (r : Record) (mid : Paged) (e : Refusal) → AreSpelled (r ∷ front) → (g.honest new → BeginsWith (r ∷ front) (g.seen old)) → Repeats z front first mid → IsRead g old new → g.faults new ≡ g.faults old
+      → NotRepeated z front r mid e → IsStoppedBehind g z first e old new
+  stopped_next front r mid e are begins repeated read counted not = record {
+    front = front;
+    are_spelled = are.1;
+    begins = λ h. begins_before r front (g.seen old) (begins h);
     mid = mid;
-    repeated = before;
-    bad = λ b. bad (record { next = b.next; follows = b.follows })
-        (subst (λ x. MayRedo x mid.image (i + 1) r) (sym sizes) (subst (λ n. MayRedo z mid.image (n + 1) r) count b.may));
-  }
+    repeated = repeated;
+    why = by e not;
+    read = read;
+  } where
+    by : (x : Refusal) → NotRepeated z front r mid x → StopsFor g x front old new ⊎ IsBadNext g z front mid x old new
+    by why.NoMemory h = inl counted
+    by (why.Damaged (damage.Record lsn)) h = inr (record {
+      newest = r;
+      is_record = are.0;
+      begins = begins;
+      told = ap (λ n. why.Damaged (damage.Record n)) h.0;
+      bad = h.1;
+      counted = counted;
+    })
+    by _ h = absurd h
 
-  -- of a store that was left so, the next record may follow those before it
-  pub left_follows : IsLeft z image log → MayFollow (oldest i log) r
-  left_follows left =
-      let w : IsWhole z (r ∷ oldest i log) = subst (IsWhole z) grows (whole_dropped z (length log - (i + 1)) log left.whole) in
-      record { next = w.order.0; follows = whole_logs.one z (oldest i log) r w }
-
-  pub may_be_redone : (old : ℕ → List ℕ) → (IsLeft z image log → FitsUpTo z old log i) → IsLeft z image log → MayRedo z old (i + 1) r
-  may_be_redone old h left = may_redo z log old i r left.whole.legal left.whole.in_store left.whole.befores within grows (h left)
+-- of a store that was left so, a record of its log belongs behind those before it
+pub left_belongs : (z : Sizes) (log front : List Record) (r : Record) (first mid : Paged) → oldest (length front + 1) log ≡ r ∷ front → length front + 1 ≤ length log → IsLeft z first.image log → Repeats z front first mid → Belongs z front r mid
+left_belongs z log front r first mid grows within left repeated =
+    let i = length front in
+    let before : oldest i log ≡ front = shorter log i r front grows within in
+    let grown : oldest (i + 1) log ≡ r ∷ oldest i log = grows ∙ ap (λ l. r ∷ l) (sym before) in
+    let fits : FitsUpTo z mid.image log i = up_to z log first left i (omega (arith, within)) mid (subst (λ l. Repeats z l first mid) (sym before) repeated) in
+    let w : IsWhole z (r ∷ front) = subst (IsWhole z) grows (whole_dropped z (length log - (i + 1)) log left.whole) in
+    let rules = whole_logs.one z front r w in
+    record {
+      next = w.order.0;
+      follows = rules;
+      may = may_redo z log mid.image i r left.whole.legal left.whole.in_store left.whole.befores within grown fits;
+    }
+  where
+    shorter : (log : List Record) (i : ℕ) (r : Record) (front : List Record) → oldest (i + 1) log ≡ r ∷ front → i + 1 ≤ length log → oldest i log ≡ front
+    shorter log i r front grows within =
+        let one : length log - i ≡ (length log - (i + 1)) + 1 = omega (arith, within) in
+        ap (λ n. drop n log) one ∙ sym (drop-drop 1 (length log - (i + 1)) log) ∙ ap (drop 1) grows

@@ -22,3 +22,4 @@ pub mod Planning
 pub mod Linking
 pub mod Lasting
 pub mod Following
+pub mod Numbers

@@ -1,5 +1,5 @@
 -- What a crash at any moment of a restart leaves of the log.
-use Rattle.std.proofs.Common.{inl, inr, ◌⊎◌, ⊎_elim, Result, Ok, Err, IfErr, ◌≡◌, ℕ, List, ◌∷◌, refl, ◌∙◌, subst}
+use Rattle.std.proofs.Common.{inl, inr, ◌⊎◌, ⊎_elim, Result, Ok, Err, IfErr, ◌≡◌, ℕ, List, ◌∷◌, refl, ◌∙◌, subst, [], ap, sym}
 use Rattle.rq_model.specs.declared.record.Record.{Record}
 use Rattle.rq_disk.specs.declared.device.LogDevice.{Ghosts}
 use Rattle.rq_log.specs.Crash.{LeavesOnly}
@@ -7,7 +7,12 @@ use Rattle.rq_log.specs.Logged.{Logged, WasLeftOrGoesOn}
 use Rattle.rq_log.specs.Spelled.{spelled, AreSpelled, GoesOn}
 use Rattle.rq_log.proofs.Moments.{started, weaker, joined}
 use Rattle.rq_store.specs.Opening.{next_restart}
-use Rattle.rq_restart.specs.Restarting.{IsRead, IsBegunOn, WasLeftOrBegun, WasLeftOrForced, BeginsAtMost}
+use Rattle.rq_log.specs.Reading.{IsRead, StopsFor}
+use Rattle.rq_model.specs.declared.refusal.Refusal.{Refusal}
+use Rattle.rq_model.specs.declared.refusal.Refusal.TheVariants as why
+use Rattle.rq_restart.specs.Refused.{IsStoppedBehind}
+use Rattle.rq_restart.specs.Repeating.{Paged}
+use Rattle.rq_restart.specs.Restarting.{IsBegunOn, WasLeftOrBegun, WasLeftOrForced, BeginsAtMost}
 use Rattle.rq_disk.specs.Device.{Images}
 use Rattle.rq_page.specs.Sizes.{Sizes}
 use Rattle.rq_store.specs.Opening.{IsLeft}
@@ -21,7 +26,19 @@ module _ {L : Type 0} (g : Ghosts L) (only_now : (d : L) (c : List ℕ) → g.le
   untouched d Q = started g d (λ c. g.may_leave d c ⊎ Q c) (λ c left. inl (only_now d c left))
 
   pub still : (d : L) → IsRead g d d
-  still d = record { same = refl; leaves = λ c left. left; moments = started g d (g.may_leave d) (only_now d) }
+  still d = record { same = refl; honest = λ h. h; leaves = λ c left. left; moments = started g d (g.may_leave d) (only_now d) }
+
+-- memory was wanting before anything was read
+pub stopped_at_once : {L : Type 0} (g : Ghosts L) (only_now : (d : L) (c : List ℕ) → g.left_since d (g.moment d) c → g.may_leave d c) (z : Sizes) (first : Paged) (e : Refusal) (old new : L) → e ≡ why.NoMemory → new ≡ old → IsStoppedBehind g z first e old new
+stopped_at_once g only_now z first e old new is same = record {
+  front = [];
+  are_spelled = tt;
+  begins = λ h. (g.seen old, refl);
+  mid = first;
+  repeated = refl;
+  why = inl (subst (λ x. StopsFor g x [] old new) (sym is) (ap g.faults same));
+  read = subst (λ d. IsRead g old d) (sym same) (still g only_now old);
+}
 
 -- records are forced behind what was read
 pub forced_behind : {L : Type 0} (g : Ghosts L) (old new : L) (log : Logged L) (kept : ℕ) (records : List Record) → log.device ≡ old → log.records ≡ records → log.forced ≡ kept → AreSpelled records → LeavesOnly g log.device new (WasLeftOrGoesOn g log) → LeavesOnly g old new (WasLeftOrForced g old records kept)

@@ -1,19 +1,22 @@
 -- Bytes are the spelling of one log at most, and what spells a log has no damage behind its first records.
-use Rattle.std.proofs.Common.{◌≡◌, ℕ, zero, suc, drop, List, [], ◌∷◌, ◌++◌, length, reverse, refl, sym, ◌∙◌, ap, subst, inl, inr, arith, append_assoc, length-append}
-use Rattle.std.proofs.lemmas.List.{append-nil, reverse-append, reverse-reverse}
+use Rattle.std.proofs.Common.{◌≡◌, ◌+◌, ◌-◌, ◌≤◌, ℕ, zero, suc, drop, List, [], ◌∷◌, ◌++◌, length, reverse, refl, sym, ◌∙◌, ap, subst, inl, inr, arith, append_assoc, length-append}
+use Rattle.std.proofs.lemmas.List.{append-nil, drop_at, reverse-append, reverse-reverse}
 use Rattle.rq_model.specs.declared.record.Record.{Record}
 use Rattle.rq_record.specs.Spelling.{IsRecord, spelling}
 use Rattle.rq_record.proofs.Whole.{one_spelling, long_spelling}
 use Rattle.rq_disk.specs.declared.device.LogDevice.{Ghosts}
 use Rattle.rq_log.specs.Spelled.{spelled, AreSpelled}
-use Rattle.rq_log.specs.Scanned.{IsDamagedBehind, StopsFor}
+use Rattle.rq_log.specs.Reading.{IsDamagedBehind, StopsFor}
 use Rattle.rq_model.specs.declared.refusal.Refusal.{Refusal}
 use Rattle.rq_model.specs.declared.refusal.Refusal.TheVariants as why
 use Rattle.rq_model.specs.declared.refusal.Damage.TheVariants as damage
 use Rattle.rq_page.specs.Sizes.{Sizes}
 use Rattle.rq_restart.specs.Repeating.{Paged}
 use Rattle.rq_restart.specs.Restarting.{IsReadAs}
-use Rattle.rq_restart.specs.Refused.{MayBeShut, TellsDamage, IsFirstFault}
+use Rattle.rq_restart.specs.Refused.{IsStoppedBehind, MayBeShut}
+use Rattle.rq_store.specs.Opening.{IsLeft}
+use Rattle.rq_store.specs.Fitting.{oldest}
+use Rattle.rq_restart.proofs.Going.{left_belongs}
 
 -- the spellings, the first record's first
 abbrev in_row : List Record → List ℕ
@@ -93,20 +96,28 @@ no_damage a b h k d = by r.others r.is r.are where
 pub log_is : (older log rs : List Record) (bytes : List ℕ) → AreSpelled older → bytes ≡ spelled older → log ≡ rs → AreSpelled rs → bytes ≡ spelled log → log ≡ older
 log_is older log rs bytes are e same k f = one_log log older (subst AreSpelled (sym same) k) are (sym f ∙ e)
 
--- an honest device that held a log is not damaged behind its first records
-not_damaged : {L : Type 0} (g : Ghosts L) (older rs : List Record) (old new : L) (e : Refusal) → IsReadAs g old new older → AreSpelled rs → StopsFor g e rs old new → TellsDamage e → ⊥
-not_damaged g older rs old new (why.Damaged (damage.Record lsn)) r k h told = no_damage older rs r.are_spelled k (subst (λ b. IsDamagedBehind rs b) r.reads (h.1 r.honest))
-not_damaged g older rs old new (why.Damaged (damage.Page page)) r k h told = absurd h
-not_damaged g older rs old new _ r k h told = absurd told
+-- records that stand in front of what spells a log are its first
+pub are_first : (log front : List Record) (rest : List ℕ) → AreSpelled log → AreSpelled front → spelled log ≡ spelled front ++ rest → (oldest (length front) log ≡ front) × (length front ≤ length log)
+are_first log front rest h k e =
+    let r = rest_of log front rest h k e in
+    let whole : log ≡ reverse r.others ++ front = sym (reverse-reverse log) ∙ ap reverse r.whole ∙ reverse-append (reverse front) r.others ∙ ap (λ l. reverse r.others ++ l) (reverse-reverse front) in
+    let a = length-append (reverse r.others) front in
+    let b : length log ≡ length (reverse r.others ++ front) = ap length whole in
+    let gone : length (reverse r.others) ≡ length log - length front = omega (arith, a, b) in
+    (ap (drop (length log - length front)) whole ∙ drop_at (reverse r.others) front (length log - length front) gone, omega (arith, a, b))
 
-stopped_shut : {L : Type 0} (g : Ghosts L) (left : Type 0) (z : Sizes) (older rs : List Record) (old new : L) (e : Refusal) → IsReadAs g old new older → AreSpelled rs → StopsFor g e rs old new → MayBeShut left z older e (g.faults old) (g.faults new)
-stopped_shut g left z older rs old new why.NoMemory r k h = h
-stopped_shut g left z older rs old new why.DiskRead r k h = h
-stopped_shut g left z older rs old new (why.Damaged d) r k h = absurd (not_damaged g older rs old new (why.Damaged d) r k h tt)
-stopped_shut g left z older rs old new _ r k h = absurd h
-
--- why the log was not read is why the store stays shut
-pub scan_shut : {L : Type 0} (g : Ghosts L) (left : Type 0) (z : Sizes) (older rs : List Record) (old new : L) (e told : Refusal) (first : Paged) → IsReadAs g old new older → AreSpelled rs → StopsFor g e rs old new → IsFirstFault z rs first e told
-    → MayBeShut left z older told (g.faults old) (g.faults new)
-scan_shut g left z older rs old new e told first r k h (inl same) = subst (λ x. MayBeShut left z older x (g.faults old) (g.faults new)) (sym same.0) (stopped_shut g left z older rs old new e r k h)
-scan_shut g left z older rs old new e told first r k h (inr damaged) = absurd (not_damaged g older rs old new e r k h damaged.0)
+-- why going through the log stopped is why the store stays shut
+pub stopped_shut : {L : Type 0} (g : Ghosts L) (z : Sizes) (older : List Record) (first : Paged) (old new : L) (e : Refusal) → IsReadAs g old new older → IsStoppedBehind g z first e old new → MayBeShut (IsLeft z first.image older) z older e (g.faults old) (g.faults new)
+stopped_shut g z older first old new e r s = elim s.why [
+  | inl stops ↦ by e stops
+  | inr bad ↦ subst (λ x. MayBeShut (IsLeft z first.image older) z older x (g.faults old) (g.faults new)) (sym bad.told) (λ left.
+      let begins = bad.begins r.honest in
+      let f = are_first older (bad.newest ∷ s.front) begins.0 r.are_spelled (bad.is_record, s.are_spelled) (sym r.reads ∙ begins.1) in
+      let one : length (bad.newest ∷ s.front) ≡ length s.front + 1 = omega arith in
+      bad.bad (left_belongs z older s.front bad.newest first s.mid (ap (λ n. oldest n older) (sym one) ∙ f.0) (omega (arith, f.1, one)) left s.repeated))
+] where
+  by : (x : Refusal) → StopsFor g x s.front old new → MayBeShut (IsLeft z first.image older) z older x (g.faults old) (g.faults new)
+  by why.NoMemory h = h
+  by why.DiskRead h = h
+  by (why.Damaged (damage.Record lsn)) h = λ left. no_damage older s.front r.are_spelled s.are_spelled (subst (λ b. IsDamagedBehind s.front b) r.reads (h.1 r.honest))
+  by _ h = absurd h

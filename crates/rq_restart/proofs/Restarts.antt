@@ -21,27 +21,19 @@ use Rattle.rq_store.proofs.Cutting.{all_fit_longer, no_more_fit}
 use Rattle.rq_store.proofs.Bounds.{fits_counted}
 use Rattle.rq_log.proofs.Moments.{weaker}
 use Rattle.rq_restart.specs.Restarting.{BeginsAtMost, BeginsFrom, IsBegun, IsBegunFrom, IsBegunOn, LogStops, IsRefusedFor, WasChecked}
-use Rattle.rq_restart.specs.Refused.{StopsAt, WhyShut}
-use Rattle.rq_restart.specs.declared.findings.Findings.{Findings}
-use Rattle.rq_restart.specs.Checked.{IsGoneThrough, IsBeyond, as_read}
-use Rattle.rq_restart.specs.Found.{AreFindings}
+use Rattle.rq_restart.specs.Refused.{MayBeShut, WhyShut}
+use Rattle.rq_restart.specs.Overwritten.{NamesFirst}
+use Rattle.rq_restart.specs.Checked.{as_read}
 use Rattle.rq_restart.specs.Mended.{IsMendedOn}
-use Rattle.rq_restart.specs.Repeating.{Paged, paged, Repeats, AreCounted, IsFirstBad, IsFirstUncounted}
-use Rattle.rq_restart.proofs.Begun.{mended_continues, one_continues}
-
-pub one_more : {r : Record} {log older : List Record} (n : ℕ) → n ≡ length log → log ≡ r ∷ older → n ≡ length older + 1
-one_more {r} {log} {older} n e f = let g : length log ≡ length (r ∷ older) = ap length f in omega (arith, e, g)
-
--- what is found of the records is found of the log
-pub found_is : (older xs : List Record) (f : Findings) → older ≡ reverse xs → AreFindings f (reverse xs) → AreFindings f older
-found_is older xs f same are = subst (AreFindings f) (sym same) are
+use Rattle.rq_restart.specs.Repeating.{Paged, paged, Repeats}
+use Rattle.rq_restart.proofs.Begun.{mended_continues, no_bad_undo, one_continues}
 
 -- of a device that was left alone, what follows from that
 pub shut_by : {U V : Type 0} (z : Sizes) (log : List Record) (first : Paged) (e : Refusal) (before now : ℕ) → (U → V) → WhyShut z log first e before now U → WhyShut z log first e before now V
 shut_by z log first why.NoMemory before now f h = (h.0, f h.1)
 shut_by z log first why.LogFull before now f h = (h.0, h.1, f h.2)
 shut_by z log first why.DiskWrite before now f h = h
-shut_by z log first (why.Damaged (damage.Record lsn)) before now f h = (h.0, f h.1)
+shut_by z log first (why.Damaged (damage.Record lsn)) before now f h = (h.0, h.1, f h.2)
 shut_by z log first (why.Damaged (damage.Page page)) before now f h = (h.0, f h.1)
 shut_by z log first _ before now f h = absurd h
 
@@ -91,64 +83,29 @@ module _ {P L : Type 0} (p : Ghosts P) (l : log_device.Ghosts L) (pages : P) (lo
         begun = on;
       })))
 
--- what going through a log as it was read said, said of the log
-module _ (z : Sizes) (older xs : List Record) (same : older ≡ reverse xs) (first : Paged) where
-  count : length xs ≡ length older
-  count = sym (length-reverse xs) ∙ ap length (sym same)
-
-  -- why going through it stopped is why the store stays shut
-  pub stops_shut : (e : Refusal) (before now : ℕ) (untouched : Type 0) → now ≡ before → untouched → StopsAt z (reverse xs) first e → WhyShut z older first e before now untouched
-  stops_shut why.NoMemory before now untouched equal here h = (equal, here)
-  stops_shut (why.Damaged (damage.Record lsn)) before now untouched equal here h = (inl (subst (λ l. IsFirstBad z l first lsn) (sym same) h), here)
-  stops_shut _ before now untouched equal here h = absurd h
-
-  pub again : (last : Paged) → Repeats z (reverse xs) first last → Repeats z older first last
-  again last h = subst (λ l. Repeats z l first last) (sym same) h
-
-  pub counted_is : (y : Sizes) (last : Paged) → AreCounted y (length xs) last → AreCounted y (length older) last
-  counted_is y last h = subst (λ n. AreCounted y n last) count h
-
-  -- no number was beyond it
-  pub gone_is : (last : Paged) → Repeats z (reverse xs) first last → AreCounted z (length xs) first → (y : Sizes) → y ≡ z → AreCounted y (length xs) last → IsGoneThrough z older first last
-  gone_is last h as_read y sizes then = record {
-    repeated = again last h;
-    counted_read = subst (λ n. AreCounted z n first) count as_read;
-    counted = subst (λ n. AreCounted z n last) count (subst (λ x. AreCounted x (length xs) last) sizes then);
-  }
-
-  -- a page had one as it was read
-  pub beyond_read : (last : Paged) (page : ℕ) → Repeats z (reverse xs) first last → 1 ≤ page → page < page_count z → (IsCounted z (length xs) page (first.image page) → ⊥)
-      → ((p : ℕ) → 1 ≤ p → p < page → IsCounted z (length xs) p (first.image p)) → IsBeyond z older first page
-  beyond_read last page h low high bad before = record {
-    last = last;
-    repeated = again last h;
-    beyond = inl (subst (λ n. IsFirstUncounted z n first page) count (record { low = low; high = high; bad = bad; first = before }));
-  }
-
-  -- a page has one now
-  pub beyond_then : (last : Paged) (page : ℕ) → Repeats z (reverse xs) first last → AreCounted z (length xs) first → (y : Sizes) → y ≡ z → 1 ≤ page → page < page_count y → (IsCounted y (length xs) page (last.image page) → ⊥)
-      → ((p : ℕ) → 1 ≤ p → p < page → IsCounted y (length xs) p (last.image p)) → IsBeyond z older first page
-  beyond_then last page h as_read y sizes low high bad before = record {
-    last = last;
-    repeated = again last h;
-    beyond = inr (
-      subst (λ n. AreCounted z n first) count as_read,
-      subst (λ n. IsFirstUncounted z n last page) count (subst (λ x. IsFirstUncounted x (length xs) last page) sizes (record { low = low; high = high; bad = bad; first = before })),
-    );
-  }
-
 -- the numbers of pages that were left so are within the log
-pub counted_left : (z : Sizes) (image : ℕ → List ℕ) (older xs : List Record) (p : ℕ) → older ≡ reverse xs → IsLeft z image older → 1 ≤ p → p < page_count z → IsCounted z (length xs) p (image p)
-counted_left z image older xs p same left low high =
-    let count : length older ≡ length xs = ap length same ∙ length-reverse xs in
-    subst (λ n. IsCounted z n p (image p)) count (fits_counted z older p (image p) left.whole.legal (left.fits.pages p low high))
+counted_left : (z : Sizes) (image : ℕ → List ℕ) (older : List Record) (p : ℕ) → IsLeft z image older → 1 ≤ p → p < page_count z → IsCounted z (length older) p (image p)
+counted_left z image older p left low high = fits_counted z older p (image p) left.whole.legal (left.fits.pages p low high)
 
--- the numbers of pages that history was repeated on are within the log
-pub counted_redone : (z : Sizes) (image : ℕ → List ℕ) (images : List (List ℕ)) (older xs : List Record) (p : ℕ) → older ≡ reverse xs → IsLeft z image older → (IsLeft z image (reverse xs) → FitsUpTo z (image_in images) (reverse xs) (length xs)) → 1 ≤ p → p < page_count z → IsCounted z (length xs) p (image_in images p)
-counted_redone z image images older xs p same left redone low high =
-    let there : IsLeft z image (reverse xs) = subst (λ l. IsLeft z image l) same left in
-    let fits : FitsPage z (reverse xs) p (image_in images p) = (redone there p low high).fits in
-    subst (λ n. IsCounted z n p (image_in images p)) (length-reverse xs) (fits_counted z (reverse xs) p (image_in images p) there.whole.legal fits)
+-- the first page with a number beyond the log, once history is repeated
+pub beyond_shut : (z : Sizes) (older : List Record) (first last : Paged) (e : Refusal) (before now : ℕ) (untouched : Type 0) → Repeats z older first last → untouched → NamesFirst z (length older) first e → WhyShut z older first e before now untouched
+beyond_shut z older first last (why.Damaged (damage.Page page)) before now untouched repeated here h = (inl (record { last = last; repeated = repeated; beyond = h }), here)
+beyond_shut z older first last _ before now untouched repeated here h = absurd h
+
+-- why a store stays shut tells why it may
+pub shut_left : (z : Sizes) (older : List Record) (first : Paged) (e : Refusal) (before now : ℕ) (untouched : Type 0) → WhyShut z older first e before now untouched → MayBeShut (IsLeft z first.image older) z older e before now
+shut_left z older first why.NoMemory before now untouched h = h.0
+shut_left z older first why.LogFull before now untouched h = λ left. record { now = h.0.now; recovering = h.0.recovering left; full = h.0.full }
+shut_left z older first why.DiskWrite before now untouched h = h.0
+shut_left z older first (why.Damaged (damage.Record lsn)) before now untouched h = λ left. elim h.0 [
+  | inl undo ↦ no_bad_undo z older first lsn left undo
+  | inr mend ↦ mend.none left
+]
+shut_left z older first (why.Damaged (damage.Page page)) before now untouched h = λ left. elim h.0 [
+  | inl beyond ↦ beyond.beyond.bad (counted_left z first.image older page left beyond.beyond.low beyond.beyond.high)
+  | inr unlinked ↦ unlinked.0.none left
+]
+shut_left z older first _ before now untouched h = absurd h
 
 -- what was left on a device was left in the pages that are read of it
 pub left_read : (z : Sizes) (seen : ℕ → List ℕ) (images : List (List ℕ)) (older : List Record) → AreSeen seen images (page_count z) → IsLeft z seen older → IsLeft z (image_in images) older

@@ -1,5 +1,5 @@
 -- What a restart checked of the pages and the log.
-use Rattle.std.specs.Prelude.{◌≡◌, ◌⊎◌, ℕ, false, List, [], length, replicate}
+use Rattle.std.specs.Prelude.{◌≡◌, ℕ, false, List, [], length, replicate}
 use Rattle.rq_model.specs.declared.record.Record.{Record}
 use Rattle.rq_page.specs.Sizes.{Sizes, page_count}
 use Rattle.rq_store.specs.Fitting.{image_in}
@@ -20,16 +20,11 @@ pub record IsGoneThrough (z : Sizes) (log : List Record) (first last : Paged) : 
 abbrev pub WasGoneThrough : Sizes → List Record → Paged → Type 0
 WasGoneThrough z log first = (last : Paged) × IsGoneThrough z log first last
 
--- This page is the first with a number beyond the log as the pages were read, or where none had one then, once history
--- was repeated.
+-- this page is the first with a number beyond the log as the pages were read, and history was repeated
 pub record IsBeyond (z : Sizes) (log : List Record) (first : Paged) (page : ℕ) : Type 0 where
   pub last : Paged
   pub repeated : Repeats z log first last
   pub beyond : IsFirstUncounted z (length log) first page
-      ⊎ (AreCounted z (length log) first × IsFirstUncounted z (length log) last page)
-
-abbrev pub WasRepeated : Sizes → List Record → Paged → Type 0
-WasRepeated z log first = (last : Paged) × Repeats z log first last
 
 -- the pages as they were read, none of which counts as changed
 abbrev pub as_read : Sizes → List (List ℕ) → Paged

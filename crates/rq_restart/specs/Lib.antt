@@ -10,3 +10,4 @@ pub mod Undoing
 pub mod Found
 pub mod Aborting
 pub mod Mended
+pub mod Overwritten

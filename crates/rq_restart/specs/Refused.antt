@@ -1,27 +1,46 @@
 -- Why a restart did not open a store, and where it stopped.
-use Rattle.std.specs.Prelude.{◌≡◌, ◌⊎◌, ℕ, ◌+◌, ◌%◌, ◌^◌, ◌≤◌, List}
+use Rattle.std.specs.Prelude.{◌≡◌, ◌⊎◌, ℕ, ◌+◌, ◌%◌, ◌^◌, ◌≤◌, List, ◌∷◌, length}
 use Rattle.rq_model.specs.declared.record.Record.{Record}
 use Rattle.rq_model.specs.declared.refusal.Refusal.{Refusal}
 use Rattle.rq_model.specs.declared.refusal.Refusal.TheVariants as why
 use Rattle.rq_model.specs.declared.refusal.Damage.TheVariants as damage
 use Rattle.rq_page.specs.Sizes.{Sizes}
+use Rattle.rq_disk.specs.declared.device.LogDevice.{Ghosts}
+use Rattle.rq_record.specs.Spelling.{IsRecord}
+use Rattle.rq_log.specs.Reading.{BeginsWith, IsRead, StopsFor}
+use Rattle.rq_log.specs.Spelled.{AreSpelled}
 use Rattle.rq_store.specs.Opening.{IsLeft}
-use Rattle.rq_restart.specs.Repeating.{Paged, IsFirstBad}
-use Rattle.rq_restart.specs.Checked.{WasGoneThrough, IsBeyond, WasRepeated}
+use Rattle.rq_restart.specs.Repeating.{Belongs, Paged, Repeats}
+use Rattle.rq_restart.specs.Checked.{WasGoneThrough, IsBeyond}
 use Rattle.rq_restart.specs.Mended.{HasNoRoom, IsAtBound, IsBadMend, IsUnlinked}
 use Rattle.rq_restart.specs.Undoing.{IsBadUndo}
 
--- going through a log stops where memory is wanting, or where the store was not left so
-abbrev pub StopsIn : Type 0 → Refusal → Type 0
-StopsIn left why.NoMemory = Unit {0}
-StopsIn left (why.Damaged d) = left → ⊥
-StopsIn left _ = ⊥
+-- why a record that was read behind these was not repeated, in its place: memory is wanting, or it doesn't belong there
+abbrev pub NotRepeated : Sizes → List Record → Record → Paged → Refusal → Type 0
+NotRepeated z front r mid why.NoMemory = Unit {0}
+NotRepeated z front r mid (why.Damaged (damage.Record lsn)) = (lsn ≡ length front + 1) × (Belongs z front r mid → ⊥)
+NotRepeated z front r mid _ = ⊥
 
--- why going through a log stopped, and at which record
-abbrev pub StopsAt : Sizes → List Record → Paged → Refusal → Type 0
-StopsAt z log first why.NoMemory = Unit {0}
-StopsAt z log first (why.Damaged (damage.Record lsn)) = IsFirstBad z log first lsn
-StopsAt z log first _ = ⊥
+module _ {L : Type 0} (g : Ghosts L) where
+  -- the record that was read behind these doesn't belong there
+  pub record IsBadNext (z : Sizes) (front : List Record) (mid : Paged) (e : Refusal) (old new : L) : Type 0 where
+    pub newest : Record
+    pub is_record : IsRecord newest
+    pub begins : g.honest new → BeginsWith (newest ∷ front) (g.seen old)
+    pub told : e ≡ why.Damaged (damage.Record (length front + 1))
+    pub bad : Belongs z front newest mid → ⊥
+    pub counted : g.faults new ≡ g.faults old
+
+  -- A log was gone through as it was read, as far as these records: each belonged where it stood and was repeated. Behind
+  -- them no more could be read or kept, or no record stands there, or one that doesn't belong.
+  pub record IsStoppedBehind (z : Sizes) (first : Paged) (e : Refusal) (old new : L) : Type 0 where
+    pub front : List Record
+    pub are_spelled : AreSpelled front
+    pub begins : g.honest new → BeginsWith front (g.seen old)
+    pub mid : Paged
+    pub repeated : Repeats z front first mid
+    pub why : StopsFor g e front old new ⊎ IsBadNext z front mid e old new
+    pub read : IsRead g old new
 
 -- why no incarnation was begun over a log, with the failures of its device before and after it, and that it was left
 -- alone
@@ -42,7 +61,7 @@ WhyNotBegun z log first (why.Damaged (damage.Record lsn)) before now untouched =
 WhyNotBegun z log first (why.Damaged (damage.Page page)) before now untouched = IsUnlinked z log first page × untouched
 WhyNotBegun z log first _ before now untouched = ⊥
 
--- Why a store over this log was not opened, and where; with the failures of the log's device before and after it, and
+-- Why a store over this log, which was read and gone through, was not opened, and where; with the failures of the log's device before and after it, and
 -- that it was left alone.
 abbrev pub WhyShut : Sizes → List Record → Paged → Refusal → ℕ → ℕ → Type 0 → Type 0
 WhyShut z log first why.NoMemory before now untouched = (now ≡ before) × untouched
@@ -50,8 +69,7 @@ WhyShut z log first why.LogFull before now untouched = HasNoRoom z (IsLeft z fir
     × WasGoneThrough z log first × untouched
 WhyShut z log first why.DiskWrite before now untouched = (now ≡ (before + 1) % 2 ^ 64) × WasGoneThrough z log first
 WhyShut z log first (why.Damaged (damage.Record lsn)) before now untouched =
-    (IsFirstBad z log first lsn
-    ⊎ ((IsBadUndo z log first lsn ⊎ IsBadMend z log first lsn) × WasGoneThrough z log first)) × untouched
+    (IsBadUndo z log first lsn ⊎ IsBadMend z log first lsn) × WasGoneThrough z log first × untouched
 WhyShut z log first (why.Damaged (damage.Page page)) before now untouched =
     (IsBeyond z log first page ⊎ (IsUnlinked z log first page × WasGoneThrough z log first)) × untouched
 WhyShut z log first _ before now untouched = ⊥
@@ -64,15 +82,3 @@ MayBeShut left z log why.DiskRead before now = now ≡ (before + 1) % 2 ^ 64
 MayBeShut left z log why.DiskWrite before now = now ≡ (before + 1) % 2 ^ 64
 MayBeShut left z log (why.Damaged d) before now = left → ⊥
 MayBeShut left z log _ before now = ⊥
-
--- it is told as damage
-abbrev pub TellsDamage : Refusal → Type 0
-TellsDamage (why.Damaged d) = Unit {0}
-TellsDamage _ = ⊥
-
--- Of a log whose reading stopped for the one refusal behind these records, the other is answered: damage behind them is
--- told only where all of them belong.
-abbrev pub IsFirstFault : Sizes → List Record → Paged → Refusal → Refusal → Type 0
-IsFirstFault z front first stopped told =
-    ((told ≡ stopped) × (TellsDamage stopped → WasRepeated z front first))
-    ⊎ (TellsDamage stopped × StopsAt z front first told)

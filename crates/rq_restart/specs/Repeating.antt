@@ -52,16 +52,6 @@ abbrev pub Repeats : Sizes → List Record → Paged → Paged → Type 0
 Repeats z [] first last = last ≡ first
 Repeats z (r ∷ older) first last = (mid : Paged) × Repeats z older first mid × IsRepeated z older r mid last
 
--- the record with this LSN doesn't belong there, and those before it do
-pub record IsFirstBad (z : Sizes) (log : List Record) (first : Paged) (lsn : ℕ) : Type 0 where
-  pub older : List Record
-  pub newest : Record
-  pub are : oldest lsn log ≡ newest ∷ older
-  pub place : lsn ≡ length older + 1
-  pub mid : Paged
-  pub repeated : Repeats z older first mid
-  pub bad : Belongs z older newest mid → ⊥
-
 -- no number of a directory or cell page is beyond a log of so many records
 abbrev pub AreCounted : Sizes → ℕ → Paged → Type 0
 AreCounted z count pages = (p : ℕ) → 1 ≤ p → p < page_count z → IsCounted z count p (pages.image p)

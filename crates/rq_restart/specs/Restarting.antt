@@ -13,7 +13,7 @@ use Rattle.rq_disk.specs.declared.device.LogDevice as log_device
 use Rattle.rq_disk.specs.declared.device.PageDevice as page_device
 use Rattle.rq_pool.specs.Reading as pages_read
 use Rattle.rq_pool.specs.Reading.{ArePages, AreSeen}
-use Rattle.rq_log.specs.Scanned as log_read
+use Rattle.rq_log.specs.Reading.{IsRead}
 use Rattle.rq_log.specs.Logged.{Logged, WasDurable}
 use Rattle.rq_log.specs.Crash.{LeavesOnly}
 use Rattle.rq_log.specs.Spelled.{spelled, AreSpelled, GoesOn}
@@ -25,7 +25,7 @@ use Rattle.rq_lost.specs.Recovered.{IsRecovered}
 use Rattle.rq_restart.specs.Mended.{IsAtBound, IsMended, IsMendedOn}
 use Rattle.rq_restart.specs.Repeating.{Paged}
 use Rattle.rq_restart.specs.Checked.{as_read}
-use Rattle.rq_restart.specs.Refused.{WhyShut, IsFirstFault}
+use Rattle.rq_restart.specs.Refused.{IsStoppedBehind, WhyShut}
 
 -- Behind the log that was read stand the records by which what has no end is undone, and then one that begins the
 -- incarnation after the last. All are forced.
@@ -122,19 +122,13 @@ module _ {L : Type 0} (g : log_device.Ghosts L) where
   BeginsAtMost z images old new =
       g.honest new → LeavesOnly g old new (λ c. g.may_leave old c ⊎ IsBegunOn z images (g.seen old) c)
 
-  -- the device of a log was only read
-  pub record IsRead (old new : L) : Type 0 where
-    pub same : g.seen new ≡ g.seen old
-    pub leaves : (c : List ℕ) → g.may_leave new c → g.may_leave old c
-    pub moments : LeavesOnly g old new (g.may_leave old)
-
-  -- Why a store with these pages was not opened over a log: its records could not be read, or they were, and then this.
+  -- Why a store with these pages was not opened over a log: going through it as it was read stopped behind some of its
+  -- records, or all of them were read and gone through, and then this.
   abbrev pub LogStops : Sizes → Paged → Refusal → L → L → Type 0
   LogStops z first e old new =
-      ((front : List Record) × AreSpelled front × (stopped : Refusal) × log_read.StopsFor g stopped front old new
-      × IsFirstFault z front first stopped e × IsRead old new)
+      IsStoppedBehind g z first e old new
       ⊎ ((older : List Record) × AreSpelled older × (g.honest new → g.seen old ≡ spelled older)
-      × WhyShut z older first e (g.faults old) (g.faults new) (IsRead old new))
+      × WhyShut z older first e (g.faults old) (g.faults new) (IsRead g old new))
 
 module _ {P L : Type 0} (p : page_device.Ghosts P) (l : log_device.Ghosts L) (pages : P) (log : L) where
   -- Why a restart was refused, and where: the pages could not be read, and the log was left alone; or they were all

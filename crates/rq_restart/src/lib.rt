@@ -6,6 +6,7 @@ mod appending;
 mod findings;
 pub mod format;
 pub mod laws;
+mod overwritten;
 mod redo;
 pub mod restart;
 mod undoing;

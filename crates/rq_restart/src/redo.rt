@@ -1,17 +1,23 @@
 //! Going through a log: each slot write that is not on its page yet is made there.
-ghost use Rattle.std.specs.Prelude.{◌≡◌, ◌↔◌, ◌≤◌, ◌<◌, ◌+◌, ℕ, List, IsTrue, None, false, IfOk, IfErr, IfSome, IfNone, OnOk, length, reverse};
+ghost use Rattle.std.specs.Prelude.{◌≡◌, ◌↔◌, ◌≤◌, ◌<◌, ◌+◌, ◌∷◌, [], ℕ, List, IsTrue, None, false, IfOk, IfErr, IfSome, IfNone, OnOk, length};
+ghost use Rattle.rq_model.specs.declared.record.Record.{Record as AnyRecord};
+ghost use Rattle.rq_log.specs.Spelled.{spelled};
 ghost use Rattle.rq_page.specs.Sizes.{page_count};
 ghost use Rattle.rq_page.specs.Pages.{lsn_of, slot_of};
 ghost use Rattle.rq_page.specs.Slots.{IsSlotOf};
 ghost use Rattle.rq_pool.specs.Pooled.{IsPool};
-ghost use Rattle.rq_store.specs.Opening.{IsRedone, Redoes, IsSoundTold, MayRedo, FitsUpTo, IsCounted, IsLeft};
+ghost use Rattle.rq_store.specs.Opening.{IsRedone, Redoes, IsSoundTold, MayRedo, IsCounted};
 ghost use Rattle.rq_store.specs.Fitting.{ToldWrite, told_by, image_in};
 ghost use Rattle.rq_restart.specs.Found.{AreFindings};
-ghost use Rattle.rq_restart.specs.Repeating.{paged, Repeats, Marks, IsMarked};
-ghost use Rattle.rq_restart.specs.Refused.{StopsIn, StopsAt, IsFirstFault};
+ghost use Rattle.rq_restart.specs.Overwritten.{AreKept, NamesFirst};
+ghost use Rattle.rq_restart.specs.Repeating.{AreCounted, IsMarked, IsRepeated, Marks, Paged, Repeats, paged};
+ghost use Rattle.rq_restart.specs.Refused.{IsStoppedBehind, NotRepeated};
 
 use crate::findings::Findings;
-use rq_disk::PageDevice;
+use crate::overwritten::{Overwritten, lesser_page};
+use rq_bytes::equal::are_equal;
+use rq_disk::{LogDevice, PageDevice};
+use rq_log::LogReader;
 use rq_model::record::{Record, Slot};
 use rq_model::refusal::{Damage, Refusal};
 use rq_model::txn::Lsn;
@@ -21,8 +27,8 @@ use rq_page::page::Page;
 use rq_pool::Pages;
 use std::alloc::Global;
 
-/// The first page whose LSN, or a number in whose slots, is greater than the number of records.
-pub(crate) fn miscounted_page<P: PageDevice + Drop>(pages: &Pages<P>, records: u64) -> Option<u32>
+// The first page whose LSN, or a number in whose slots, is greater than the number of records.
+fn miscounted_page<P: PageDevice + Drop>(pages: &Pages<P>, records: u64) -> Option<u32>
     ensures pool { IsPool pages.now.sizes pages.now.images }
     ensures none { IfNone result ((p : ℕ) → 1 ≤ p → p < page_count pages.now.sizes
         → IsCounted pages.now.sizes records p (image_in pages.now.images p)) }
@@ -57,53 +63,103 @@ fn is_counted(layout: &Layout, records: u64, number: u32, page: &Page) -> bool
     true
 }
 
-/// Goes through the log, the oldest record first: each is checked, and what it writes is made where its page
-/// is older. Stopped by `NoMemory`, or by `Damaged` with the number of the first record that doesn't fit.
-pub(crate) fn repeat_history<P: PageDevice + Drop>(
+/// That no number of a page is beyond so many records, neither now nor where it was written over; else it is refused with
+/// the first page of which one is.
+pub(crate) fn check_numbers<P: PageDevice + Drop>(
+    pages: &Pages<P>,
+    overwritten: &Overwritten,
+    records: u64,
+) -> Result<(), Refusal>
+    ensures counted { OnOk result (AreCounted pages.now.sizes records (paged pages.now)) }
+    ensures read { OnOk result ((first : Paged)
+        → AreKept pages.now.sizes records first (paged pages.now) overwritten.now.numbers.items
+        → AreCounted pages.now.sizes records first) }
+    ensures names { IfErr result (λ e. (first : Paged)
+        → AreKept pages.now.sizes records first (paged pages.now) overwritten.now.numbers.items
+        → NamesFirst pages.now.sizes records first e) }
+{
+    match lesser_page(
+        miscounted_page(pages, records),
+        overwritten.first_beyond(records),
+    ) {
+        Some(page) => Err(Refusal::Damaged(Damage::Page(page))),
+        None => Ok(()),
+    }
+}
+
+/// What going through a log gave.
+#[derive(Drop)]
+pub(crate) struct Gone {
+    pub findings: Findings,
+    pub overwritten: Overwritten,
+}
+
+/// Goes through a log as it is read: each record is checked, and what it writes is made where its page is older. None is
+/// kept.
+///
+/// # Errors
+/// `Damaged` with the number of the first record that doesn't fit, or where none stands; `DiskRead`; `NoMemory`.
+pub(crate) fn repeat_history<P: PageDevice + Drop, L: LogDevice>(
     alloc: Global,
     pages: &mut Pages<P>,
-    records: &[Record],
-) -> Result<Findings, Refusal>
-    ensures ok { IfOk result (λ findings. AreFindings findings (reverse records.now)) }
-    ensures repeated { OnOk result (Repeats pages.old.sizes (reverse records.now) (paged pages.old) (paged pages.new)) }
-    ensures redone { OnOk result (IsLeft pages.old.sizes (image_in pages.old.images) (reverse records.now)
-        → FitsUpTo pages.old.sizes (image_in pages.new.images) (reverse records.now) (length records.now)) }
-    ensures err { IfErr result (λ e. StopsIn (IsLeft pages.old.sizes (image_in pages.old.images)
-        (reverse records.now)) e) }
-    ensures stops { IfErr result (λ e. StopsAt pages.old.sizes (reverse records.now) (paged pages.old) e) }
+    reader: &mut LogReader<L>,
+) -> Result<Gone, Refusal>
+    requires none_read { reader.old.records ≡ [] }
+    requires untouched { reader.old.device ≡ reader.old.first }
+    ensures found { IfOk result (λ gone. AreFindings gone.findings reader.new.records) }
+    ensures repeated { OnOk result (Repeats pages.old.sizes reader.new.records (paged pages.old) (paged pages.new)) }
+    ensures kept { IfOk result (λ gone. AreKept pages.old.sizes (length reader.new.records) (paged pages.old)
+        (paged pages.new) gone.overwritten.numbers.items) }
+    ensures whole { OnOk result (L.honest reader.new.device
+        → L.seen reader.new.first ≡ spelled reader.new.records) }
+    ensures cause { OnOk result (L.faults reader.new.device ≡ L.faults reader.new.first) }
+    ensures stopped { IfErr result (λ e. IsStoppedBehind L.LogDevice pages.old.sizes (paged pages.old) e
+        reader.new.first reader.new.device) }
+    ensures first { reader.new.first ≡ reader.old.first }
     ensures sizes { pages.new.sizes ≡ pages.old.sizes }
     ensures device { pages.new.device ≡ pages.old.device }
 {
-    let mut findings = Findings::new(alloc);
-    for index in 0..records.len() {
-        let record = &records[index];
-        let lsn = index as u64 + 1;
-        let is_next = findings.note(lsn, record)?;
-        if !is_next || !repeat(pages, lsn, record) {
-            return Err(Refusal::Damaged(Damage::Record(lsn)));
+    let mut gone = Gone {
+        findings: Findings::new(alloc),
+        overwritten: Overwritten::new(alloc),
+    };
+    reader.shows_read();
+    while let Some(record) = reader.next()? {
+        match repeat_next(pages, &mut gone, reader.last(), &record) {
+            Ok(()) => {}
+            Err(refusal) => return Err(refusal),
         }
     }
-    Ok(findings)
+    Ok(gone)
 }
 
-/// Why a store stays shut over a log whose reading stopped behind these records: the first of them that doesn't
-/// fit, where what is behind them is damaged, or else what stopped the reading.
-pub(crate) fn first_fault<P: PageDevice + Drop>(
-    alloc: Global,
+// Checks the next record, which has this LSN, and makes what it writes where its page is older.
+fn repeat_next<P: PageDevice + Drop>(
     pages: &mut Pages<P>,
-    records: &[Record],
-    stopped: Refusal,
-) -> Refusal
-    ensures fault { IsFirstFault pages.old.sizes (reverse records.now) (paged pages.old) stopped result }
+    gone: &mut Gone,
+    lsn: Lsn,
+    record: &Record,
+) -> Result<(), Refusal>
+    ensures found { OnOk result ((older : List AnyRecord) → lsn ≡ length older + 1 → AreFindings gone.old.findings older
+        → AreFindings gone.new.findings («record».now ∷ older)) }
+    ensures repeated { OnOk result ((older : List AnyRecord) → lsn ≡ length older + 1
+        → AreFindings gone.old.findings older
+        → IsRepeated pages.old.sizes older «record».now (paged pages.old) (paged pages.new)) }
+    ensures kept { OnOk result ((first : Paged) (records : ℕ) → lsn ≡ records + 1
+        → AreKept pages.old.sizes records first (paged pages.old) gone.old.overwritten.numbers.items
+        → AreKept pages.old.sizes lsn first (paged pages.new) gone.new.overwritten.numbers.items) }
+    ensures not { IfErr result (λ e. (older : List AnyRecord) → lsn ≡ length older + 1
+        → AreFindings gone.old.findings older → NotRepeated pages.old.sizes older «record».now (paged pages.old) e) }
+    ensures sizes { pages.new.sizes ≡ pages.old.sizes }
     ensures device { pages.new.device ≡ pages.old.device }
 {
-    match stopped {
-        Refusal::Damaged(_) => match repeat_history(alloc, pages, records) {
-            Ok(_) => stopped,
-            Err(refusal) => refusal,
-        },
-        _ => stopped,
+    let is_next = gone.findings.note(lsn, record)?;
+    if !is_next || !may_repeat(pages, lsn, record) {
+        return Err(Refusal::Damaged(Damage::Record(lsn)));
     }
+    gone.overwritten.note(pages, lsn, record)?;
+    make(pages, lsn, record);
+    Ok(())
 }
 
 /// Makes what a record writes, where its page is older. False where the record doesn't fit the store.
@@ -117,6 +173,17 @@ pub(crate) fn repeat<P: PageDevice + Drop>(pages: &mut Pages<P>, lsn: Lsn, recor
     ensures sizes { pages.new.sizes ≡ pages.old.sizes }
     ensures device { pages.new.device ≡ pages.old.device }
 {
+    let may = may_repeat(pages, lsn, record);
+    if may {
+        make(pages, lsn, record);
+    }
+    may
+}
+
+// Whether a record fits the store: what it writes may stand there, over what stands there.
+fn may_repeat<P: PageDevice + Drop>(pages: &Pages<P>, lsn: Lsn, record: &Record) -> bool
+    ensures { IsTrue result ↔ MayRedo pages.now.sizes (image_in pages.now.images) lsn «record».now }
+{
     match record {
         Record::PageOp {
             page,
@@ -127,18 +194,40 @@ pub(crate) fn repeat<P: PageDevice + Drop>(pages: &mut Pages<P>, lsn: Lsn, recor
         } => {
             is_sound(&pages.layout(), lsn, *page, *slot, after)
                 && is_over(pages, lsn, *page, *slot, before)
-                && redo(pages, lsn, *page, *slot, after)
         }
         Record::PageUndo {
             page,
             slot,
             after,
             ..
-        } => {
-            is_sound(&pages.layout(), lsn, *page, *slot, after)
-                && redo(pages, lsn, *page, *slot, after)
-        }
+        } => is_sound(&pages.layout(), lsn, *page, *slot, after),
         _ => true,
+    }
+}
+
+// Makes what a record writes, where its page is older.
+fn make<P: PageDevice + Drop>(pages: &mut Pages<P>, lsn: Lsn, record: &Record)
+    requires { MayRedo pages.old.sizes (image_in pages.old.images) lsn «record».now }
+    ensures redone { Redoes (told_by «record».now) lsn (image_in pages.old.images) (image_in pages.new.images) }
+    ensures marked { Marks (told_by «record».now) lsn (paged pages.old) pages.new.changed }
+    ensures same { told_by «record».now ≡ None → pages.new ≡ pages.old }
+    ensures sizes { pages.new.sizes ≡ pages.old.sizes }
+    ensures device { pages.new.device ≡ pages.old.device }
+{
+    match record {
+        Record::PageOp {
+            page,
+            slot,
+            after,
+            ..
+        } => redo(pages, lsn, *page, *slot, after),
+        Record::PageUndo {
+            page,
+            slot,
+            after,
+            ..
+        } => redo(pages, lsn, *page, *slot, after),
+        _ => {}
     }
 }
 
@@ -164,17 +253,11 @@ fn is_over<P: PageDevice + Drop>(
         → slot_of slot (image_in pages.now.images page) ≡ before.now) }
 {
     let old = pages.page(page).unwrap();
-    old.lsn() >= lsn || old.slot(slot) == before
+    old.lsn() >= lsn || are_equal(old.slot(slot), before)
 }
 
 // Writes the slot, if the page is older. It is one that the store has.
-fn redo<P: PageDevice + Drop>(
-    pages: &mut Pages<P>,
-    lsn: Lsn,
-    page: u32,
-    slot: u8,
-    after: &Slot,
-) -> bool
+fn redo<P: PageDevice + Drop>(pages: &mut Pages<P>, lsn: Lsn, page: u32, slot: u8, after: &Slot)
     requires { IsSlotOf pages.old.sizes page slot after.now }
     ensures redone { IsRedone (record { page = page; slot = slot; after = after.now }) lsn (image_in pages.old.images)
         (image_in pages.new.images) }
@@ -182,11 +265,9 @@ fn redo<P: PageDevice + Drop>(
         (paged pages.old) pages.new.changed }
     ensures sizes { pages.new.sizes ≡ pages.old.sizes }
     ensures device { pages.new.device ≡ pages.old.device }
-    ensures made { IsTrue result }
 {
     let old = pages.page(page).unwrap();
     if old.lsn() < lsn {
         pages.set_slot(Addr::new(page, slot), after, lsn);
     }
-    true
 }

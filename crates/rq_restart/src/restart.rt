@@ -1,5 +1,5 @@
 //! Opening a store that a crash, or nothing at all, left behind.
-ghost use Rattle.std.specs.Prelude.{◌≡◌, ◌+◌, ◌^◌, ◌≤◌, ◌<◌, ◌∷◌, IfOk, IfErr, OnOk, false, length, reverse, drop, List, ℕ};
+ghost use Rattle.std.specs.Prelude.{◌≡◌, ◌+◌, ◌^◌, ◌≤◌, ◌<◌, ◌∷◌, IfOk, IfErr, OnOk, false, length, drop, List, ℕ};
 ghost use Rattle.rq_model.specs.declared.record.Record.TheVariants as records;
 ghost use Rattle.rq_model.specs.declared.record.Record.{Record};
 ghost use Rattle.rq_views.specs.Stored.{slots_in, count_used};
@@ -17,13 +17,16 @@ ghost use Rattle.rq_store.specs.State.{ledger_of};
 ghost use Rattle.rq_sound.specs.Sound.{IsSound};
 ghost use Rattle.rq_store.specs.Opening.{opened, next_restart, IsLeft};
 ghost use Rattle.rq_store.specs.Fitting.{AllFit, image_in};
+ghost use Rattle.rq_planner.specs.Answered.{KnowsCells};
 ghost use Rattle.rq_engine.specs.Crash.{AreFit};
 ghost use Rattle.rq_engine.specs.Opened.{pooled};
 ghost use Rattle.rq_links.specs.Links.{AreLinked};
 ghost use Rattle.rq_restart.specs.Repeating.{AreCounted, Paged, Repeats, paged, slots_on};
 ghost use Rattle.rq_lost.specs.Recovered.{IsRecovered};
 ghost use Rattle.rq_restart.specs.Restarting.{IsReadAs, IsLeftOn, IsReady, AreTold, IsBegun, IsOpenedOver, Reports, Stops, WasLeftOrBegun, WasLeftOrForced, BeginsAtMost, BeginsFrom, LogStops, IsRefusedFor, WasChecked};
-ghost use Rattle.rq_restart.specs.Refused.{BeginsNot, MayBeShut, WhyNotBegun, WhyShut};
+ghost use Rattle.rq_restart.specs.Refused.{BeginsNot, IsStoppedBehind, MayBeShut, WhyNotBegun, WhyShut};
+ghost use Rattle.rq_restart.specs.Overwritten.{AreKept};
+ghost use Rattle.rq_log.specs.Reading.{IsRead};
 ghost use Rattle.rq_restart.specs.Found.{AreFindings};
 ghost use Rattle.rq_restart.specs.Mended.{HasRepeated, IsMended, IsMendedOn, LinkStops, MendStops};
 ghost use Rattle.rq_engine.specs.Devices.{Path, EachPair};
@@ -32,13 +35,13 @@ ghost use Rattle.rq_restart.specs.Underway.{OfStores, IsLeftOrGoesOn, pages_left
 use crate::aborting::abort_lost;
 use crate::appending::shows_pool;
 use crate::findings::Findings;
-use crate::redo::{first_fault, miscounted_page, repeat_history};
+use crate::redo::{Gone, check_numbers, repeat_history};
 use crate::undoing::undo_unfinished;
 use crate::waiting::{Told, told_groups};
 use rq_disk::{LogDevice, PageDevice};
 use rq_engine::engine::Engine;
 use rq_links::first_broken;
-use rq_log::{Log, Scan};
+use rq_log::{Log, LogReader};
 use rq_model::limits::LOG_LIMIT;
 use rq_model::record::Record;
 use rq_model::refusal::{Damage, Refusal};
@@ -195,6 +198,7 @@ fn reopen<P: PageDevice + Drop, L: LogDevice + Drop>(
         told.ends,
         report.incarnation,
         u64::from(cells),
+        told.planner,
     );
     Ok((engine, report))
 }
@@ -217,6 +221,7 @@ fn open<P: PageDevice + Drop, L: LogDevice + Drop>(
         ≡ count_used opened.pages.sizes (slots_in opened.pages.sizes opened.pages.images)) }
     ensures told { IfOk result (λ opened. AreTold opened.pages.sizes opened.pages.images
         (length opened.log.records) opened.told.waiting opened.told.sent) }
+    ensures known { IfOk result (λ opened. KnowsCells opened.pages.sizes opened.pages.images opened.told.planner) }
     ensures sound { IfOk result (λ o. (older : List Record) → IsReadAs L.LogDevice log o.log.device older
         → IsLeftOn P.PageDevice o.pages.sizes pages o.pages.device older
         → IsSound (opened o.pages.sizes o.pages.images (drop 1 o.log.records))) }
@@ -272,6 +277,7 @@ fn restart_log<P: PageDevice + Drop, L: LogDevice + Drop>(
         ≡ count_used opened.pages.sizes (slots_in opened.pages.sizes opened.pages.images)) }
     ensures told { IfOk result (λ opened. AreTold opened.pages.sizes opened.pages.images
         (length opened.log.records) opened.told.waiting opened.told.sent) }
+    ensures known { IfOk result (λ opened. KnowsCells opened.pages.sizes opened.pages.images opened.told.planner) }
     ensures sound { IfOk result (λ o. (older : List Record) → IsReadAs L.LogDevice log o.log.device older
         → IsLeft pages.sizes (image_in pages.images) older
         → IsSound (opened pages.sizes o.pages.images (drop 1 o.log.records))) }
@@ -297,9 +303,8 @@ fn restart_log<P: PageDevice + Drop, L: LogDevice + Drop>(
         → MayBeShut (IsLeft pages.sizes (image_in pages.images) older) pages.sizes older stopped.refusal (L.faults log)
         (L.faults stopped.log)) }
 {
-    let Scan { records, log } = Log::scan(alloc, log);
-    match log {
-        Ok(mut log) => match go_on(alloc, &mut pages, &mut log, &records) {
+    match go_through(alloc, &mut pages, log) {
+        Ok((mut log, mut gone)) => match go_on(alloc, &mut pages, &mut log, &mut gone) {
             Ok((told, report)) => {
                 let cells = pages.used_cells();
                 Ok(Opened {
@@ -318,7 +323,6 @@ fn restart_log<P: PageDevice + Drop, L: LogDevice + Drop>(
         },
         Err(stopped) => {
             let rq_log::Stopped { refusal, device } = stopped;
-            let refusal = first_fault(alloc, &mut pages, &records, refusal);
             Err(Stopped {
                 refusal,
                 pages: pages.give_back(),
@@ -328,57 +332,91 @@ fn restart_log<P: PageDevice + Drop, L: LogDevice + Drop>(
     }
 }
 
-// Goes through the log, whose records these are, undoes what has no end in it, and begins the next incarnation. The pages
-// are as it says then. Gives what the directory tells, too.
+// Reads a log and repeats history on the pages, record by record.
+fn go_through<P: PageDevice + Drop, L: LogDevice + Drop>(
+    alloc: Global,
+    pages: &mut Pages<P>,
+    log: L,
+) -> Result<(Log<L>, Gone), rq_log::Stopped<L>>
+    ensures log { IfOk result (λ read. (read.0.forced ≡ 0) × (read.0.pending ≡ 0) × (read.0.reserved ≡ 0)
+        × (read.0.failed ≡ false) × (read.0.settled ≡ log)) }
+    ensures spelled { IfOk result (λ read. AreSpelled read.0.records) }
+    ensures whole { IfOk result (λ read. L.honest read.0.device → L.seen log ≡ spelled read.0.records) }
+    ensures found { IfOk result (λ read. AreFindings read.1.findings read.0.records) }
+    ensures repeated { IfOk result (λ read. Repeats pages.old.sizes read.0.records (paged pages.old)
+        (paged pages.new)) }
+    ensures kept { IfOk result (λ read. AreKept pages.old.sizes (length read.0.records) (paged pages.old)
+        (paged pages.new) read.1.overwritten.numbers.items) }
+    ensures read { IfOk result (λ read. IsRead L.LogDevice log read.0.device) }
+    ensures cause { IfOk result (λ read. L.faults read.0.device ≡ L.faults log) }
+    ensures stopped { IfErr result (λ stopped. IsStoppedBehind L.LogDevice pages.old.sizes (paged pages.old)
+        stopped.refusal log stopped.device) }
+    ensures sizes { pages.new.sizes ≡ pages.old.sizes }
+    ensures device { pages.new.device ≡ pages.old.device }
+{
+    match LogReader::new(alloc, log) {
+        Ok(mut reader) => match repeat_history(alloc, pages, &mut reader) {
+            Ok(gone) => {
+                reader.shows_read();
+                Ok((reader.into_log(alloc), gone))
+            }
+            Err(refusal) => Err(rq_log::Stopped {
+                refusal,
+                device: reader.give_back(),
+            }),
+        },
+        Err(stopped) => Err(stopped),
+    }
+}
+
+// Checks the numbers of the pages, undoes what has no end in the log, which was gone through, and begins the next
+// incarnation. The pages are as it says then. Gives what the directory tells, too.
 fn go_on<P: PageDevice + Drop, L: LogDevice + Drop>(
     alloc: Global,
     pages: &mut Pages<P>,
     log: &mut Log<L>,
-    records: &[Record],
+    gone: &mut Gone,
 ) -> Result<(Told, Report), Refusal>
-    requires records { log.old.records ≡ reverse records.now }
+    requires found { AreFindings gone.old.findings log.old.records }
     requires running { log.old.failed ≡ false }
     // What the log comes to.
     ensures begun { OnOk result (IsBegun log.old.records log.new) }
     ensures sizes { pages.new.sizes ≡ pages.old.sizes }
     ensures report { IfOk result (λ begun. Reports pages.old.sizes log.old.records log.new.records begun.1.incarnation
         begun.1.records begun.1.unfinished begun.1.lost) }
-    ensures sound { OnOk result (IsLeft pages.old.sizes (image_in pages.old.images) log.old.records
+    ensures sound { OnOk result ((first : Paged) → Repeats pages.old.sizes log.old.records first (paged pages.old)
+        → IsLeft pages.old.sizes first.image log.old.records
         → IsSound (opened pages.old.sizes pages.new.images (drop 1 log.new.records))) }
     ensures told { IfOk result (λ begun. AreTold pages.new.sizes pages.new.images
         (length log.new.records) begun.0.waiting begun.0.sent) }
+    ensures known { IfOk result (λ begun. KnowsCells pages.new.sizes pages.new.images begun.0.planner) }
     ensures ready { IfOk result (λ begun. IsReady L.LogDevice begun.1.incarnation log.new) }
     // What is left of both devices.
     ensures pages { pages.new.device ≡ pages.old.device }
     ensures honest { L.honest log.new.device → L.honest log.old.device }
-    ensures any_moment { L.honest log.new.device → AreSpelled log.old.records
-        → L.seen log.old.device ≡ spelled log.old.records
+    ensures any_moment { (first : Paged) → Repeats pages.old.sizes log.old.records first (paged pages.old)
+        → L.honest log.new.device → AreSpelled log.old.records → L.seen log.old.device ≡ spelled log.old.records
         → LeavesOnly L.LogDevice log.old.device log.new.device
-        (WasLeftOrBegun L.LogDevice pages.old.sizes (IsLeft pages.old.sizes (image_in pages.old.images)
-        log.old.records) log.old.device log.old.records) }
+        (WasLeftOrBegun L.LogDevice pages.old.sizes (IsLeft pages.old.sizes first.image log.old.records)
+        log.old.device log.old.records) }
     // What was checked, or why it was refused.
-    ensures checked { OnOk result ((mended : List Record)
-        × IsMendedOn pages.old.sizes log.old.records mended (paged pages.old) (paged pages.new)
+    ensures checked { OnOk result ((first : Paged) → Repeats pages.old.sizes log.old.records first (paged pages.old)
+        → AreKept pages.old.sizes (length log.old.records) first (paged pages.old) gone.old.overwritten.numbers.items
+        → (mended : List Record) × IsMendedOn pages.old.sizes log.old.records mended first (paged pages.new)
         × (log.new.records ≡ next_restart mended ∷ mended)) }
-    ensures shut { IfErr result (λ e. WhyShut pages.old.sizes log.old.records (paged pages.old) e
-        (L.faults log.old.device) (L.faults log.new.device) (log.new.device ≡ log.old.device)) }
+    ensures shut { IfErr result (λ e. (first : Paged) → Repeats pages.old.sizes log.old.records first (paged pages.old)
+        → AreKept pages.old.sizes (length log.old.records) first (paged pages.old) gone.old.overwritten.numbers.items
+        → WhyShut pages.old.sizes log.old.records first e (L.faults log.old.device) (L.faults log.new.device)
+        (log.new.device ≡ log.old.device)) }
     // Room, failures, and what a refusal says of a store that was left so.
     ensures room { OnOk result (log.new.reserved ≡ log.old.reserved) }
     ensures cause { OnOk result (L.faults log.new.device ≡ L.faults log.old.device) }
-    ensures err { IfErr result (λ e. MayBeShut (IsLeft pages.old.sizes
-        (image_in pages.old.images) log.old.records) pages.old.sizes log.old.records e (L.faults log.old.device)
-        (L.faults log.new.device)) }
 {
-    let as_read = miscounted_page(pages, records.len() as u64);
-    let mut findings = repeat_history(alloc, pages, records)?;
-    if let Some(page) = as_read {
-        return Err(Refusal::Damaged(Damage::Page(page)));
-    }
-    if let Some(redone) = miscounted_page(pages, records.len() as u64) {
-        return Err(Refusal::Damaged(Damage::Page(redone)));
-    }
-    match begin_next(alloc, pages, log, &mut findings) {
-        Ok(begun) => Ok(begun),
+    match check_numbers(pages, &gone.overwritten, log.last()) {
+        Ok(()) => match begin_next(alloc, pages, log, &mut gone.findings) {
+            Ok(begun) => Ok(begun),
+            Err(refusal) => Err(refusal),
+        },
         Err(refusal) => Err(refusal),
     }
 }
@@ -402,6 +440,7 @@ fn begin_next<P: PageDevice + Drop, L: LogDevice + Drop>(
         begun.1.records begun.1.unfinished begun.1.lost) }
     ensures told { IfOk result (λ begun. AreTold pages.new.sizes pages.new.images
         (length log.new.records) begun.0.waiting begun.0.sent) }
+    ensures known { IfOk result (λ begun. KnowsCells pages.new.sizes pages.new.images begun.0.planner) }
     ensures ready { IfOk result (λ begun. IsReady L.LogDevice begun.1.incarnation log.new) }
     // What is left of both devices.
     ensures sizes { pages.new.sizes ≡ pages.old.sizes }

@@ -1,20 +1,26 @@
-//! What the directory of a store in which nothing is open tells of each sender: what waits, and what it sent.
+//! What the slots of a store in which nothing is open tell: of each sender what waits and what it sent, and which cells are
+//! free.
 ghost use Rattle.std.specs.Prelude.{◌≡◌, [], IfOk};
 ghost use Rattle.rq_pool.specs.Pooled.{IsPool};
 ghost use Rattle.rq_store.specs.Opening.{sent_in_slots, waiting_in};
+ghost use Rattle.rq_planner.specs.Answered.{KnowsCells};
 
+use rq_chain::ChainLevel;
 use rq_disk::PageDevice;
 use rq_groups::{Ends, LastTag, Sent, Waiting};
 use rq_model::refusal::NoMemory;
+use rq_planner::Planner;
 use rq_pool::Pages;
 use std::alloc::Global;
 
-/// By sender, how many messages wait, and what its sends come to; and the ends, of which none is held.
+/// By sender, how many messages wait, and what its sends come to; the ends, of which none is held; and what plans
+/// operations, told of each cell.
 #[derive(Drop)]
 pub(crate) struct Told {
     pub waiting: Waiting,
     pub sent: Sent,
     pub ends: Ends,
+    pub planner: Planner<ChainLevel>,
     ghost free: { ends ≡ record { sending = []; receiving = [] } },
 }
 
@@ -25,6 +31,7 @@ pub(crate) fn told_groups<P: PageDevice + Drop>(
 ) -> Result<Told, NoMemory>
     ensures waiting { IfOk result (λ told. told.waiting ≡ waiting_in pages.now.sizes pages.now.images) }
     ensures sent { IfOk result (λ told. told.sent ≡ sent_in_slots pages.now.sizes pages.now.images) }
+    ensures known { IfOk result (λ told. KnowsCells pages.now.sizes pages.now.images told.planner) }
     ensures pool { IsPool pages.now.sizes pages.now.images }
 {
     let senders = pages.layout().senders();
@@ -40,9 +47,25 @@ pub(crate) fn told_groups<P: PageDevice + Drop>(
         sent.set(sender, last);
     }
     let ends = Ends::new(alloc, senders)?;
+    let planner = planner_of(alloc, pages)?;
     Ok(Told {
         waiting,
         sent,
         ends,
+        planner,
     })
+}
+
+// What plans operations, told of each cell.
+fn planner_of<P: PageDevice + Drop>(
+    alloc: Global,
+    pages: &Pages<P>,
+) -> Result<Planner<ChainLevel>, NoMemory>
+    ensures { IfOk result (λ planner. KnowsCells pages.now.sizes pages.now.images planner) }
+{
+    pages.shows_kept();
+    let level = ChainLevel::new(alloc)?;
+    let mut planner = Planner::new(alloc, level);
+    planner.tell(pages);
+    Ok(planner)
 }

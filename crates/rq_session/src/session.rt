@@ -1,8 +1,9 @@
 //! The session of one connection.
 ghost use Rattle.std.specs.Prelude.{◌≡◌, true, false};
+ghost use Rattle.rq_session.specs.Laws.{awaited};
 ghost use Rattle.rq_session.specs.Rules.{taken, call_in, answer_in, after_told, after_loss};
 
-use crate::calls::{Action, Ask, Told};
+use crate::calls::{Action, Ask, Commit, Told};
 use crate::held::first;
 use crate::stage::{Held, Stage};
 use crate::turns::{turn, turn_at_loss};
@@ -62,6 +63,16 @@ impl Session {
         ensures { result ≡ self.now.answer }
     {
         self.answer
+    }
+
+    /// The commit whose receipt is awaited.
+    pub fn awaited(&self) -> Option<Commit>
+        ensures { result ≡ awaited self.now.stage }
+    {
+        match self.stage {
+            Stage::Await(commit) => Some(commit),
+            _ => None,
+        }
     }
 
     /// What is to be done next, once it is told what came of the call that was asked for last. A reply that no

@@ -1,37 +1,39 @@
 //! Passes, and what lies under the lock.
 ghost use Rattle.std.specs.Prelude.{◌≡◌, ◌≢◌, ◌+◌, ℕ, [], ◌∷◌, ◌++◌, length, sum_by};
 ghost use Rattle.rq_engine.specs.Applied.{Applied};
-ghost use Rattle.rq_shared.specs.Calls.{IsCalled, IsForced, IsTakenOf};
+ghost use Rattle.rq_shared.specs.Calls.{CountsTaken, IsCalled, IsForced, IsTakenOf};
 ghost use Rattle.rq_shared.specs.Entries.{BeginsSound, OneMore, noted};
 
 use crate::kept::{Kept, Stamped, Taken, is_no_memory};
 use crate::mark::{Mark, MarkPass};
-use crate::sharing::Sharing;
+use crate::sharing::{Sharing, Taking};
 use rq_disk::{LogDevice, PageDevice};
 use rq_engine::event::{Event, Reply};
 use rq_model::refusal::Refusal;
 use std::marker::Model;
-use std::sync::ledger::{Book, Ledger, Share};
+use std::sync::ledger::{Book, Share};
 
-/// The right to make calls under a number. Contracts see the number, and how many of its calls left an entry.
+/// The right to make calls, and to take the audit, under a number. Contracts see the number, how many of its calls left an
+/// entry, and how many entries it took.
 #[derive(Drop)]
-pub struct Pass<G: Ledger> {
+pub struct Pass<G: Sharing> {
     number: u64,
     share: Share<G>,
+    taken: Share<Taking<G>>,
 }
 
-impl<G: Ledger> Model for Pass<G> {
+impl<G: Sharing> Model for Pass<G> {
     ghost use Rattle.std.specs.Prelude.{◌≡◌, ℕ};
     ghost use Rattle.rq_shared.specs.Passes.{PassView};
 
     ghost Value = { PassView };
 
-    ghost view = { λ p. record { number = p.number; calls = p.share.amount } };
+    ghost view = { λ p. record { number = p.number; calls = p.share.amount; taken = p.taken.amount } };
 
-    ghost invariant = { λ p. p.share.parts ≡ 1 };
+    ghost invariant = { λ p. (p.share.parts ≡ 1) × (p.taken.parts ≡ 1) };
 }
 
-impl<G: Ledger> Pass<G> {
+impl<G: Sharing> Pass<G> {
     /// The number under which this pass calls.
     pub fn number(&self) -> u64
         ensures { result ≡ self.now.number }
@@ -40,12 +42,13 @@ impl<G: Ledger> Pass<G> {
     }
 }
 
-/// What lies under the lock: the kept engine, and how many calls left an entry, those whose entries were taken
-/// included. Contracts see the kept engine.
+/// What lies under the lock: the kept engine, how many calls left an entry, those whose entries were taken included, and
+/// how many entries passes took. Contracts see the kept engine.
 #[derive(Drop)]
 pub(crate) struct Room<P: PageDevice, L: LogDevice, G: Sharing> {
     kept: Kept<P, L>,
     calls: Book<G>,
+    taken: Book<Taking<G>>,
 }
 
 impl<P: PageDevice, L: LogDevice, G: Sharing> Model for Room<P, L, G> {
@@ -56,28 +59,36 @@ impl<P: PageDevice, L: LogDevice, G: Sharing> Model for Room<P, L, G> {
 
     ghost view = { λ r. r.kept };
 
-    ghost invariant = { λ r. (r.kept.taken + length r.kept.audit ≡ r.calls.total)
+    ghost invariant = { λ r. (r.kept.taken + length r.kept.audit ≡ r.calls.total) × (r.kept.taken ≡ r.taken.total)
         × BeginsSound P.PageDevice L.LogDevice G.premise r.kept };
 }
 
 impl<P: PageDevice + Drop, L: LogDevice + Drop, G: Sharing> Room<P, L, G> {
-    pub(crate) fn new(kept: Kept<P, L>, calls: Book<G>) -> Self
+    pub(crate) fn new(kept: Kept<P, L>, calls: Book<G>, taken: Book<Taking<G>>) -> Self
         requires counted { kept.taken + length kept.audit ≡ calls.total }
+        requires taken { kept.taken ≡ taken.total }
         requires sound { BeginsSound P.PageDevice L.LogDevice G.premise kept }
         ensures { result ≡ kept }
     {
-        Room { kept, calls }
+        Room { kept, calls, taken }
     }
 
-    /// The kept engine. Who has all shares knows how many calls left an entry.
-    pub(crate) fn close(self, all: &mut Share<G>) -> Kept<P, L>
-        requires { all.old.parts ≡ G.parts }
+    /// The kept engine. Who has all shares knows how many calls left an entry, and how many entries were taken.
+    pub(crate) fn close(self, all: &mut Share<G>, all_taken: &mut Share<Taking<G>>) -> Kept<P, L>
+        requires calls { all.old.parts ≡ G.parts }
+        requires taken { all_taken.old.parts ≡ G.parts }
         ensures kept { result ≡ self }
         ensures count { result.taken + length result.audit ≡ all.old.amount }
+        ensures taken { result.taken ≡ all_taken.old.amount }
         ensures sound { BeginsSound P.PageDevice L.LogDevice G.premise result }
     {
-        let Room { kept, mut calls } = self;
+        let Room {
+            kept,
+            mut calls,
+            mut taken,
+        } = self;
         calls.audit(all);
+        taken.audit(all_taken);
         kept
     }
 
@@ -109,34 +120,58 @@ impl<P: PageDevice + Drop, L: LogDevice + Drop, G: Sharing> Room<P, L, G> {
         stamped
     }
 
-    /// Takes the audit. The count goes on.
-    pub(crate) fn take(&mut self) -> Taken<P, L>
+    /// Takes the audit, whose entries the pass counts. The count of calls goes on.
+    pub(crate) fn take(&mut self, pass: &mut Pass<G>) -> Taken<P, L>
         ensures taken { IsTakenOf P.PageDevice L.LogDevice self.old result }
+        ensures counted { CountsTaken pass.old (length result.audit) pass.new }
         ensures sound { BeginsSound P.PageDevice L.LogDevice G.premise self.old }
         ensures emptied { self.new.audit ≡ [] }
         ensures engine { self.new.engine ≡ self.old.engine }
     {
-        self.kept.take()
+        let taken = self.kept.take();
+        let entries = taken.entries().len() as u64;
+        self.taken.add(&mut pass.taken, entries);
+        taken
     }
 }
 
-/// A pass of this number, with one share.
-pub(crate) fn give_pass<G: Ledger>(number: u64, share: Share<G>) -> Pass<G>
-    requires { share.parts ≡ 1 }
-    ensures { (result.number ≡ number) × (result.calls ≡ share.amount) }
+/// A pass of this number, with one share of each ledger.
+pub(crate) fn give_pass<G: Sharing>(
+    number: u64,
+    share: Share<G>,
+    taken: Share<Taking<G>>,
+) -> Pass<G>
+    requires { (share.parts ≡ 1) × (taken.parts ≡ 1) }
+    ensures { (result.number ≡ number) × (result.calls ≡ share.amount) × (result.taken ≡ taken.amount) }
 {
-    Pass { number, share }
+    Pass {
+        number,
+        share,
+        taken,
+    }
 }
 
-/// All shares in one.
-pub(crate) fn gather<G: Ledger>(rest: Share<G>, passes: Vec<Pass<G>>) -> Share<G>
-    ensures parts { result.parts ≡ rest.parts + length passes.items }
-    ensures amount { result.amount ≡ rest.amount + sum_by (λ p. p.calls) passes.items }
+/// The shares of all passes, put to those that were not given out.
+pub(crate) fn gather<G: Sharing>(
+    rest: Share<G>,
+    rest_taken: Share<Taking<G>>,
+    passes: Vec<Pass<G>>,
+) -> (Share<G>, Share<Taking<G>>)
+    ensures parts { result.0.parts ≡ rest.parts + length passes.items }
+    ensures amount { result.0.amount ≡ rest.amount + sum_by (λ p. p.calls) passes.items }
+    ensures taken_parts { result.1.parts ≡ rest_taken.parts + length passes.items }
+    ensures taken { result.1.amount ≡ rest_taken.amount + sum_by (λ p. p.taken) passes.items }
 {
     let mut all = rest;
+    let mut all_taken = rest_taken;
     for pass in passes {
-        let Pass { number: _, share } = pass;
+        let Pass {
+            number: _,
+            share,
+            taken,
+        } = pass;
         all.merge(share);
+        all_taken.merge(taken);
     }
-    all
+    (all, all_taken)
 }

@@ -1,6 +1,6 @@
 //! The kept engine under one lock.
 ghost use Rattle.std.specs.Prelude.{◌≡◌, ◌+◌, length, sum_by, IfSome, IfNone};
-ghost use Rattle.rq_shared.specs.Calls.{IsCalled, IsForced, IsTaken};
+ghost use Rattle.rq_shared.specs.Calls.{CountsTaken, IsCalled, IsForced, IsTaken};
 ghost use Rattle.rq_shared.specs.Entries.{BeginsSound, Follows, WasSound};
 ghost use Rattle.rq_shared.specs.Receipts.{IsReceiptOf, IsDurable};
 ghost use Rattle.rq_model.specs.Words.{In};
@@ -12,7 +12,7 @@ ghost use Rattle.rq_engine.specs.declared.event.Receipt.{Receipt as GivenReceipt
 use crate::kept::{Kept, Stamped, Taken};
 use crate::mark::{Mark, MarkPass};
 use crate::room::{Pass, Room, gather, give_pass};
-use crate::sharing::Sharing;
+use crate::sharing::{Sharing, Taking};
 use rq_disk::{LogDevice, PageDevice};
 use rq_engine::engine::Engine;
 use rq_engine::event::{Event, Receipt};
@@ -30,6 +30,7 @@ pub const PASS_LIMIT: u64 = 1024;
 pub struct Shared<P: PageDevice, L: LogDevice, G: Sharing> {
     front: Front<P, L, G>,
     rest: Share<G>,
+    rest_taken: Share<Taking<G>>,
     given: u64,
 }
 
@@ -40,7 +41,8 @@ impl<P: PageDevice, L: LogDevice, G: Sharing> Model for Shared<P, L, G> {
 
     ghost view = { λ s. s.given };
 
-    ghost invariant = { λ s. (s.rest.parts + s.given ≡ 1024) × (s.rest.amount ≡ 0) };
+    ghost invariant = { λ s. (s.rest.parts + s.given ≡ 1024) × (s.rest.amount ≡ 0)
+        × (s.rest_taken.parts + s.given ≡ 1024) × (s.rest_taken.amount ≡ 0) };
 }
 
 /// The lock, which threads borrow.
@@ -57,27 +59,30 @@ pub struct Closed<P: PageDevice, L: LogDevice> {
 
 impl<P: PageDevice + Drop, L: LogDevice + Drop, G: Sharing> Shared<P, L, G> {
     /// Shares an engine, which under the premise of the sharing is sound, where its devices were honest. No pass is given
-    /// out, and the audit is empty.
-    pub fn new(alloc: Global, engine: Engine<P, L>, blank: Blank) -> Self
-        requires name { blank.name ≡ G.name }
-        requires parts { (blank.parts ≡ G.parts) × (blank.parts ≡ 1024) }
+    /// out, and the audit is empty. The second ledger counts the entries that are taken.
+    pub fn new(alloc: Global, engine: Engine<P, L>, blank: Blank, taking: Blank) -> Self
+        requires name { (blank.name ≡ G.name) × (taking.name ≡ G.taking) }
+        requires parts { (blank.parts ≡ G.parts) × (blank.parts ≡ 1024) × (taking.parts ≡ 1024) }
         requires sound { WasSound P.PageDevice L.LogDevice G.premise engine }
         ensures { result ≡ 0 }
     {
         let (calls, rest) = blank.open::<G>();
+        let (taken, rest_taken) = taking.open::<Taking<G>>();
         Shared {
             front: Front {
-                room: Mutex::new(Room::new(Kept::new(alloc, engine), calls)),
+                room: Mutex::new(Room::new(Kept::new(alloc, engine), calls, taken)),
             },
             rest,
+            rest_taken,
             given: 0,
         }
     }
 
-    /// The next pass: its number is one more than the passes given before, and it has counted no call. None where
-    /// `PASS_LIMIT` were given.
+    /// The next pass: its number is one more than the passes given before, and it has counted no call and no entry. None
+    /// where `PASS_LIMIT` were given.
     pub fn pass(&mut self) -> Option<Pass<G>>
-        ensures some { IfSome result (λ p. (p.number ≡ self.new) × (p.calls ≡ 0) × (self.new ≡ self.old + 1)) }
+        ensures some { IfSome result (λ p. (p.number ≡ self.new) × (p.calls ≡ 0) × (p.taken ≡ 0)
+            × (self.new ≡ self.old + 1)) }
         ensures none { IfNone result ((self.old ≡ 1024) × (self.new ≡ self.old)) }
     {
         if self.given >= PASS_LIMIT {
@@ -85,7 +90,8 @@ impl<P: PageDevice + Drop, L: LogDevice + Drop, G: Sharing> Shared<P, L, G> {
         }
         self.given += 1;
         let share = self.rest.split_off(1, 0);
-        Some(give_pass(self.given, share))
+        let taken = self.rest_taken.split_off(1, 0);
+        Some(give_pass(self.given, share, taken))
     }
 
     /// The lock, for threads to share.
@@ -117,21 +123,23 @@ impl<P: PageDevice + Drop, L: LogDevice + Drop, G: Sharing> Shared<P, L, G> {
 
     /// The entries since the audit was last taken, once the lock is free, as `Kept::take` answers them: they replay
     /// from the engine as it was then, which was sound under the premise of the sharing, where the devices were honest.
-    /// Then nothing is in the audit.
-    pub fn take_audit<R: Wait>(&self, rt: &R) -> Taken<P, L>
-        ensures { IsTaken P.PageDevice L.LogDevice G.premise result }
+    /// Then nothing is in the audit. The pass counts the entries.
+    pub fn take_audit<R: Wait>(&self, rt: &R, pass: &mut Pass<G>) -> Taken<P, L>
+        ensures taken { IsTaken P.PageDevice L.LogDevice G.premise result }
+        ensures counted { CountsTaken pass.old (length result.audit) pass.new }
     {
-        self.front.take_audit(rt)
+        self.front.take_audit(rt, pass)
     }
 
     /// Ends the sharing, once all passes are back: the audit, with the entries that were taken, has as many entries as
-    /// the passes counted calls. Where the devices were honest, the engine with which the audit begins was sound under
+    /// the passes counted calls, and so many were taken as the passes counted of those. Where the devices were honest, the engine with which the audit begins was sound under
     /// the premise of the sharing; and where it was sound, those of the receipts that are handed in whose commit and
     /// acknowledgement the audit has name commits that no crash takes any more.
     pub fn close(self, passes: Vec<Pass<G>>, receipts: &[Receipt]) -> Closed<P, L>
         requires parts { G.parts ≡ 1024 }
         requires all { length passes.items ≡ self }
         ensures count { result.kept.taken + length result.kept.audit ≡ sum_by (λ p. p.calls) passes.items }
+        ensures taken { result.kept.taken ≡ sum_by (λ p. p.taken) passes.items }
         ensures replays { Follows P.PageDevice L.LogDevice result.kept.base result.kept.audit result.kept.engine }
         ensures sound { BeginsSound P.PageDevice L.LogDevice G.premise result.kept }
         ensures receipts { AreHonest P.PageDevice L.LogDevice result.kept.engine → IsSound result.kept.base.state
@@ -141,11 +149,12 @@ impl<P: PageDevice + Drop, L: LogDevice + Drop, G: Sharing> Shared<P, L, G> {
         let Shared {
             front,
             rest,
+            rest_taken,
             given: _,
         } = self;
         let Front { room } = front;
-        let mut all = gather(rest, passes);
-        let kept = room.into_inner().close(&mut all);
+        let (mut all, mut all_taken) = gather(rest, rest_taken, passes);
+        let kept = room.into_inner().close(&mut all, &mut all_taken);
         kept.shows_kept();
         Closed { kept }
     }
@@ -176,10 +185,11 @@ impl<P: PageDevice + Drop, L: LogDevice + Drop, G: Sharing> Front<P, L, G> {
 
     /// The entries since the audit was last taken, once the lock is free, as `Kept::take` answers them: they replay
     /// from the engine as it was then, which was sound under the premise of the sharing, where the devices were honest.
-    /// Then nothing is in the audit.
-    pub fn take_audit<R: Wait>(&self, rt: &R) -> Taken<P, L>
-        ensures { IsTaken P.PageDevice L.LogDevice G.premise result }
+    /// Then nothing is in the audit. The pass counts the entries.
+    pub fn take_audit<R: Wait>(&self, rt: &R, pass: &mut Pass<G>) -> Taken<P, L>
+        ensures taken { IsTaken P.PageDevice L.LogDevice G.premise result }
+        ensures counted { CountsTaken pass.old (length result.audit) pass.new }
     {
-        self.room.lock(rt).take()
+        self.room.lock(rt).take(pass)
     }
 }

@@ -1,14 +1,33 @@
 //! What a sharing of an engine is known by, in contracts alone.
-use std::marker::Brand;
+ghost use Rattle.std.specs.Prelude.{ℕ};
+
+use std::marker::{Brand, PhantomData};
 use std::sync::ledger::Ledger;
 
-/// One sharing of an engine: the ledger of its calls, and the premise under which the engine was sound as it was shared.
-/// Whoever shares an engine picks both. The premise may always be that very fact, that it was sound.
+/// One sharing of an engine: the ledger of its calls, the name of the ledger of the entries that are taken, and the
+/// premise under which the engine was sound as it was shared. Whoever shares an engine picks them. The premise may always
+/// be that very fact, that it was sound.
 pub trait Sharing: Ledger {
     /// The premise.
     ghost premise: { Type 0 };
+
+    /// The name of the ledger of the entries that are taken.
+    ghost taking: { ℕ };
 }
 
 impl Sharing for Brand {
     ghost premise = { ⊥ };
+
+    ghost taking = { 0 };
+}
+
+/// The ledger of the entries that are taken of an audit. It has as many parts as that of the calls.
+pub struct Taking<G: Sharing> {
+    marker: PhantomData<G>,
+}
+
+impl<G: Sharing> Ledger for Taking<G> {
+    ghost name = { G.taking };
+
+    ghost parts = { G.parts };
 }

@@ -1,6 +1,6 @@
 -- What the level of chains plans, over the slots as they are.
-use Rattle.std.proofs.Common.{zero, suc, drop, ◌≡◌, ℕ, ◌/◌, ◌<◌, ◌++◌, ◌&&◌, List, [], ◌∷◌, map, reverse, refl, sym, ◌∙◌, ap, subst, Bool, true, false, not, nat_eq, Option, Some, None, inl, inr}
-use Rattle.std.proofs.lemmas.Bool.{and_from, and_parts, cases_Bool, eqb-true, false≢true, not-true, or_cases, true≢false, eq-eqb, or_left, or_right}
+use Rattle.std.proofs.Common.{zero, suc, drop, ◌≡◌, ℕ, ◌/◌, ◌%◌, ◌<◌, ◌++◌, ◌&&◌, cond, List, [], ◌∷◌, map, reverse, refl, sym, ◌∙◌, ap, subst, Bool, true, false, not, nat_eq, Option, Some, None, inl, inr}
+use Rattle.std.proofs.lemmas.Bool.{and_from, and_parts, lt-ltb, cases_Bool, eqb-true, false≢true, not-true, or_cases, true≢false, eq-eqb, or_left, or_right}
 use Rattle.std.proofs.lemmas.List.{reverse-append}
 use Rattle.rq_model.specs.declared.refusal.Refusal.{Refusal}
 use Rattle.rq_model.specs.declared.refusal.Refusal.TheVariants as why
@@ -8,11 +8,16 @@ use Rattle.rq_model.specs.declared.record.Deed.TheVariants.{UnlinkHead}
 use Rattle.rq_model.specs.Words.{has_number}
 use Rattle.rq_page.specs.declared.cell.Cell.{Cell}
 use Rattle.rq_page.specs.Sizes.{IsCellAddress, cell_at, cell_count, directory_at, place_of}
+use Rattle.rq_page.specs.declared.cell.CellSlot.{CellSlot}
+use Rattle.rq_page.specs.declared.cell.CellSlot.TheVariants as cells
+use Rattle.rq_page.specs.declared.layout.PageKind.{PageKind}
+use Rattle.rq_page.specs.Cells.{cell_slot_in}
+use Rattle.rq_page.specs.Slots.{held_for, held_in, of_cell_slot}
 use Rattle.rq_page.specs.Slots.Slot.{Free, Used, Sender}
-use Rattle.rq_page.proofs.Addresses.{cells_have_places, places_are_cells}
+use Rattle.rq_page.proofs.Addresses.{cells_have_places, kind_cells, places_are_cells}
 use Rattle.rq_views.specs.Log.{Write}
 use Rattle.rq_views.specs.Plans.{relinked}
-use Rattle.rq_views.specs.Stored.{is_used}
+use Rattle.rq_views.specs.Stored.{is_used, slot_at}
 use Rattle.rq_level.specs.declared.slots.Given.{Given}
 use Rattle.rq_level.specs.declared.writes.Plan.{Plan}
 use Rattle.rq_level.specs.declared.writes.SlotWrite.{SlotWrite}
@@ -30,8 +35,6 @@ use Rattle.rq_sound.specs.Plans.{AreOff, AreUnlatched, IsMarking}
 use Rattle.rq_sound.specs.Levels.{IsGathered, KeepsCells, AreLatched, LevelsPlanFromSlots, to_write, to_write_under, IsForLatches, LevelsRefuseExactly}
 use Rattle.rq_sound.specs.Latching.{AllFreeLatched}
 use Rattle.rq_sound.proofs.Contracts.{planned}
-use Rattle.rq_sound.proofs.Groups.{all_stand}
-use Rattle.rq_sound.proofs.UsedCells.{free_from}
 
 off_parts : (s : State) (xs ys : List Write) → AreOff s (xs ++ ys) → AreOff s xs × AreOff s ys
 off_parts s [] ys h = (tt, h)
@@ -57,16 +60,28 @@ pub relinked_off : (s : State) (at : ℕ) (o : Option Cell) (f : Cell → Cell) 
 relinked_off s at None f ws h k = k
 relinked_off s at (Some c) f ws h k = (h c refl, k)
 
+-- a cell's slot that is not used is free, whatever the pages hold
+unused_free : (x : CellSlot) → is_used (of_cell_slot x) ≡ false → of_cell_slot x ≡ Free
+unused_free cells.Free n = refl
+unused_free (cells.Used c) n = absurd (true≢false n)
+
+cell_unused : (s : State) (a : ℕ) → IsCellAddress s.sizes a → is_used (slots_now s a) ≡ false → slots_now s a ≡ Free
+cell_unused s a cell n =
+    let here : slots_now s a ≡ of_cell_slot (cell_slot_in (slot_at s.images a)) =
+    ap (λ b. cond b (held_in s.sizes (a / 16) (slot_at s.images a)) Free) (lt-ltb 0 (a % 16) cell.slot)
+    ∙ ap (λ (k : Option PageKind). held_for k (slot_at s.images a)) (kind_cells s.sizes (a / 16) cell.above cell.below) in
+    here ∙ unused_free (cell_slot_in (slot_at s.images a)) (ap is_used (sym here) ∙ n)
+
 -- the cell that the level takes is free, on a page that nobody has latched
-pub lowest_is : (s : State) (k : Kept) (latched : List ℕ) (a : ℕ) → IsSound s → KeepsCells s k → AreLatched s latched → IsLowest s.sizes k latched a → IsCellAddress s.sizes a × (slots_now s a ≡ Free) × (latched_in s.rows (a / 16) ≡ false)
-lowest_is s k latched a sound c on h =
+pub lowest_is : (s : State) (k : Kept) (latched : List ℕ) (a : ℕ) → KeepsCells s k → AreLatched s latched → IsLowest s.sizes k latched a → IsCellAddress s.sizes a × (slots_now s a ≡ Free) × (latched_in s.rows (a / 16) ≡ false)
+lowest_is s k latched a c on h =
     let at = h.at in
     let one = and_parts (flag_at k.free h.place) (not (flag_at k.reserved h.place) && not (has_page (cell_at s.sizes h.place / 16) latched)) h.may in
     let two = and_parts (not (flag_at k.reserved h.place)) (not (has_page (cell_at s.sizes h.place / 16) latched)) one.1 in
     let cell : IsCellAddress s.sizes a = subst (IsCellAddress s.sizes) (sym at) (cells_have_places s.sizes h.place h.below).0 in
     let unused : is_used (slots_now s a) ≡ false = ap (λ n. is_used (slots_now s n)) at ∙ not-true (is_used (slots_now s (cell_at s.sizes h.place))) (sym (c.free h.place h.below) ∙ one.0) in
     let off : latched_in s.rows (a / 16) ≡ false = ap (λ n. latched_in s.rows (n / 16)) at ∙ sym (on (cell_at s.sizes h.place / 16)) ∙ not-true (has_page (cell_at s.sizes h.place / 16) latched) two.1 in
-    (cell, free_from s.sizes a (slots_now s a) (all_stand s sound a) cell unused, off)
+    (cell, cell_unused s a cell unused, off)
 
 -- what an operation has yet to write is on a page that it has latched
 page_of_write : (a : ℕ) (us : List SlotWrite) → has_number a (map (λ w. w.at) us) ≡ true → has_page (a / 16) (map (λ w. w.at / 16) us) ≡ true
@@ -159,9 +174,9 @@ levels_plan = record {
   lowest = lowest_is;
   none_to_take = none_takes;
   some_free = some_known;
-  sent = λ s k given latched g tag body p after sound h c on m.
+  sent = λ s k given latched g tag body p after h c on m.
       let d = m.can.directory in
-      let x = lowest_is s k latched m.new sound c on m.lowest in (
+      let x = lowest_is s k latched m.new c on m.lowest in (
         record {
           directory = d;
           new = m.new;
@@ -177,7 +192,7 @@ levels_plan = record {
         are_off s p.writes.items _ m.writes
             (h.unlatched (directory_at g) (Sender g d) m.can.directory_is, relinked_off s d.tail m.can.old _ _ (beside_off s given h d.tail m.can.old m.can.beside) (x.2, tt)),
       );
-  received = λ s k given g p after sound h m.
+  received = λ s k given g p after h m.
       let d = m.can.directory in
       let c = m.can.cell in (
         record {
@@ -195,8 +210,8 @@ levels_plan = record {
         are_off s p.writes.items _ m.writes
             (h.unlatched (directory_at g) (Sender g d) m.can.directory_is, relinked_off s c.next m.can.next _ _ (beside_off s given h c.next m.can.next m.can.beside) (h.unlatched d.head (Used c) m.can.head_is, tt)),
       );
-  closed = λ s k given g p after sound h m. marked s given h g true p m.marked;
-  unsent = λ s k given g n tag previous body p after sound h m.
+  closed = λ s k given g p after h m. marked s given h g true p m.marked;
+  unsent = λ s k given g n tag previous body p after h m.
       let d = m.can.directory in
       let c = m.can.cell in (
         record {
@@ -211,9 +226,9 @@ levels_plan = record {
         are_off s p.writes.items _ m.writes
             (h.unlatched (directory_at g) (Sender g d) m.can.directory_is, relinked_off s c.prev m.can.front _ _ (beside_off s given h c.prev m.can.front m.can.beside) (h.unlatched d.tail (Used c) m.can.tail_is, tt)),
       );
-  returned = λ s k given latched g n tag body p after sound h c on m.
+  returned = λ s k given latched g n tag body p after h c on m.
       let d = m.can.directory in
-      let x = lowest_is s k latched m.new sound c on m.lowest in (
+      let x = lowest_is s k latched m.new c on m.lowest in (
         record {
           directory = d;
           new = m.new;
@@ -227,5 +242,5 @@ levels_plan = record {
         are_off s p.writes.items _ m.writes
             (h.unlatched (directory_at g) (Sender g d) m.can.directory_is, relinked_off s d.head m.can.old _ _ (beside_off s given h d.head m.can.old m.can.beside) (x.2, tt)),
       );
-  reopened = λ s k given g p after sound h m. marked s given h g false p m.marked;
+  reopened = λ s k given g p after h m. marked s given h g false p m.marked;
 }

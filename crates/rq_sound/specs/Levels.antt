@@ -62,10 +62,11 @@ AreLatched s latched = (p : ℕ) → has_page p latched ≡ latched_in s.rows p
 abbrev pub MayFollow : State → Plan → Turn → Type 0
 MayFollow s p turn = IsPlannedFrom s.sizes (slots_now s) p.writes.items turn × AreUnlatched s p.writes.items
 
--- What the level plans from such slots is planned from the slots as they are, and its pages are nobody's. Where it
--- finds none to take each free cell is on a latched page; and where the store is not full it knows some cell as free.
+-- What the level plans from such slots is planned from the slots as they are, and its pages are nobody's, whether the
+-- store is sound or not. Where it finds none to take each free cell is on a latched page; and where a sound store is not
+-- full it knows some cell as free.
 pub record LevelsPlanFromSlots : Type 0 where
-  pub lowest : (s : State) (k : Kept) (latched : List ℕ) (a : ℕ) → IsSound s → KeepsCells s k → AreLatched s latched
+  pub lowest : (s : State) (k : Kept) (latched : List ℕ) (a : ℕ) → KeepsCells s k → AreLatched s latched
       → IsLowest s.sizes k latched a
       → IsCellAddress s.sizes a × (slots_now s a ≡ Free) × (latched_in s.rows (a / 16) ≡ false)
   pub none_to_take : (s : State) (k : Kept) (latched : List ℕ) → KeepsCells s k → AreLatched s latched
@@ -73,21 +74,21 @@ pub record LevelsPlanFromSlots : Type 0 where
   pub some_free : (s : State) (k : Kept) → IsSound s → KeepsCells s k → s.cells_in_use < cell_count s.sizes
       → SomeFree s.sizes k
   pub sent : (s : State) (k : Kept) (given : List Given) (latched : List ℕ) (g tag : ℕ) (body : List ℕ) (p : Plan)
-      (after : Kept) → IsSound s → IsGathered s given → KeepsCells s k → AreLatched s latched
+      (after : Kept) → IsGathered s given → KeepsCells s k → AreLatched s latched
       → (m : IsSent s.sizes k given latched g tag body p after)
       → MayFollow s p (Did (Append g (m.can.directory.sent + 1) tag m.can.directory.last_tag body))
-  pub received : (s : State) (k : Kept) (given : List Given) (g : ℕ) (p : Plan) (after : Kept) → IsSound s
+  pub received : (s : State) (k : Kept) (given : List Given) (g : ℕ) (p : Plan) (after : Kept)
       → IsGathered s given → (m : IsReceived s.sizes k given g p after)
       → MayFollow s p (Did (UnlinkHead g (m.can.directory.received + 1) m.can.cell.tag m.can.cell.body))
-  pub closed : (s : State) (k : Kept) (given : List Given) (g : ℕ) (p : Plan) (after : Kept) → IsSound s
+  pub closed : (s : State) (k : Kept) (given : List Given) (g : ℕ) (p : Plan) (after : Kept)
       → IsGathered s given → IsClosed s.sizes k given g p after → MayFollow s p (Did (Close g))
   pub unsent : (s : State) (k : Kept) (given : List Given) (g n tag previous : ℕ) (body : List ℕ) (p : Plan)
-      (after : Kept) → IsSound s → IsGathered s given → IsTailUnlinked s.sizes k given g n previous p after
+      (after : Kept) → IsGathered s given → IsTailUnlinked s.sizes k given g n previous p after
       → MayFollow s p (Undid (Append g n tag previous body))
   pub returned : (s : State) (k : Kept) (given : List Given) (latched : List ℕ) (g n tag : ℕ) (body : List ℕ)
-      (p : Plan) (after : Kept) → IsSound s → IsGathered s given → KeepsCells s k → AreLatched s latched
+      (p : Plan) (after : Kept) → IsGathered s given → KeepsCells s k → AreLatched s latched
       → IsReturned s.sizes k given latched g n tag body p after → MayFollow s p (Undid (UnlinkHead g n tag body))
-  pub reopened : (s : State) (k : Kept) (given : List Given) (g : ℕ) (p : Plan) (after : Kept) → IsSound s
+  pub reopened : (s : State) (k : Kept) (given : List Given) (g : ℕ) (p : Plan) (after : Kept)
       → IsGathered s given → IsReopened s.sizes k given g p after → MayFollow s p (Undid (Close g))
 
 -- The level goes on knowing the cells: an operation that takes none starts, or one for which a cell is chosen; one that

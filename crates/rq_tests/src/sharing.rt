@@ -83,12 +83,13 @@ fn share<G: Sharing, R: Wait>(
     alloc: Global,
     engine: Engine<MemPages, MemLog>,
     blank: Blank,
+    taking: Blank,
 ) -> Result<Seen, AllocError>
-    requires name { blank.name ≡ G.name }
-    requires parts { (blank.parts ≡ G.parts) × (blank.parts ≡ 1024) }
+    requires name { (blank.name ≡ G.name) × (taking.name ≡ G.taking) }
+    requires parts { (blank.parts ≡ G.parts) × (blank.parts ≡ 1024) × (taking.parts ≡ 1024) }
     requires sound { WasSound ⟦<MemPages as PageDevice>⟧ ⟦<MemLog as LogDevice>⟧ G.premise engine }
 {
-    let mut shared = Shared::<MemPages, MemLog, G>::new(alloc, engine, blank);
+    let mut shared = Shared::<MemPages, MemLog, G>::new(alloc, engine, blank, taking);
     let Some(mut one) = shared.pass() else {
         return Err(AllocError);
     };
@@ -113,8 +114,8 @@ fn share<G: Sharing, R: Wait>(
     )?;
     let stamps = stamped(rt, alloc, shared.front(), &mut one, &first)?;
     let others = stamped(rt, alloc, shared.front(), &mut two, &second)?;
-    let taken = shared.take_audit(rt);
-    let left = shared.take_audit(rt).entries().len();
+    let taken = shared.take_audit(rt, &mut one);
+    let left = shared.take_audit(rt, &mut two).entries().len();
     Ok(seen_of(taken.entries(), left, stamps, others))
 }
 
@@ -145,7 +146,7 @@ fn seen_of(audit: &[AuditEntry], left: usize, stamps: Vec<Stamped>, others: Vec<
 
 fn look<R: Wait>(rt: &R, alloc: Global) -> Result<Seen, &'static str> {
     let engine = small_engine(alloc)?;
-    share::<Brand, R>(rt, alloc, engine, Blank::new(1024)).map_err(|_| "memory")
+    share::<Brand, R>(rt, alloc, engine, Blank::new(1024), Blank::new(1024)).map_err(|_| "memory")
 }
 
 #[test]

@@ -1,4 +1,5 @@
 pub mod Finding
+mod Counting
 mod Placing
 mod Standing
 mod Tallying

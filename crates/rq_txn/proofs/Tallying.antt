@@ -1,5 +1,5 @@
 -- Counts of operations by page: how far the writes of one are counted, and changes that no count tells.
-use Rattle.std.proofs.Common.{◌≡◌, ℕ, ◌+◌, List, [], length, drop, Option, ap, arith}
+use Rattle.std.proofs.Common.{◌≡◌, ℕ, ◌+◌, ◌-◌, ◌≤◌, List, [], length, drop, Option, ap, arith}
 use Rattle.rq_model.specs.Words.{is_some}
 use Rattle.rq_level.specs.declared.writes.SlotWrite.{SlotWrite}
 use Rattle.rq_level.specs.Given.{has_page}
@@ -7,11 +7,15 @@ use Rattle.rq_txn.specs.declared.tally.Tally.{Tally}
 use Rattle.rq_txn.specs.Rows.{Under, latched_under}
 use Rattle.rq_txn.specs.Tallies.{one_if, pages_of, latches_at, Latches, Moves}
 
+-- the writes from this place on have room in the set of latched pages
+abbrev pub HasPlacesFrom : List SlotWrite → ℕ → Tally → Type 0
+HasPlacesFrom writes i t = length t.latched.pages.pages + (length writes - i) ≤ t.latched.pages.room
+
 -- the pages of the writes are latched, but for those that are named from this place on
 abbrev pub HasLatched : List SlotWrite → ℕ → Tally → Tally → Type 0
 HasLatched writes i old new =
     (new.operations ≡ old.operations)
-    × (length new.latched.items ≡ length old.latched.items)
+    × (length new.latched.counts.items ≡ length old.latched.counts.items)
     × ((p : ℕ) → latches_at new p + one_if (has_page p (pages_of (drop i writes))) ≡ latches_at old p + one_if (has_page p (pages_of writes)))
 
 -- memory is taken, and no count changes

@@ -15,7 +15,7 @@ pages_of writes = map (λ w. w.at / 16) writes
 
 -- how many have latched the page
 abbrev pub latches_at : Tally → ℕ → ℕ
-latches_at t p = slice_index_or t.latched.items p 0
+latches_at t p = slice_index_or t.latched.counts.items p 0
 
 -- there is a count for the page of each
 abbrev pub AreWithin : ℕ → List SlotWrite → Type 0
@@ -25,11 +25,19 @@ AreWithin pages writes = All (λ w. w.at / 16 < pages) writes
 abbrev pub HasRoom : Tally → Type 0
 HasRoom t = (t.operations + 1 < 2 ^ 64) × ((p : ℕ) → latches_at t p + 1 < 2 ^ 64)
 
+-- so many pages more have room in the set of those that are latched
+abbrev pub HasPlaces : ℕ → Tally → Type 0
+HasPlaces count t = length t.latched.pages.pages + count ≤ t.latched.pages.room
+
+-- one page at most came into that set, in its room
+abbrev pub TakesPlace : Tally → Tally → Type 0
+TakesPlace old new = (length new.latched.pages.pages ≤ length old.latched.pages.pages + 1) × (old.latched.pages.room ≤ new.latched.pages.room)
+
 -- one more has latched this page
 abbrev pub IsRaised : ℕ → Tally → Tally → Type 0
 IsRaised page old new =
     (new.operations ≡ old.operations)
-    × (length new.latched.items ≡ length old.latched.items)
+    × (length new.latched.counts.items ≡ length old.latched.counts.items)
     × ((p : ℕ) → latches_at new p ≡ latches_at old p + one_if (nat_eq page p))
 
 -- one more has latched these pages

@@ -3,7 +3,7 @@
 
 ghost use Rattle.std.specs.Prelude.{◌<◌, ◌≤◌, IsSome, vec_capacity, vec_len};
 
-use rq_level::SlotWrite;
+use rq_level::{PageSet, SlotWrite};
 use rq_model::limits::TRANSACTION_LIMIT;
 use rq_model::record::Deed;
 use rq_model::refusal::NoMemory;
@@ -14,6 +14,7 @@ use std::marker::Model;
 use table::{Place, key_of, place_of};
 use tally::Tally;
 
+mod counts;
 mod table;
 mod tally;
 
@@ -164,7 +165,8 @@ impl Model for Transactions {
 }
 
 impl Transactions {
-    ghost use Rattle.std.specs.Prelude.{◌≡◌, ◌<◌, ◌≤◌, [], ◌∷◌, IfSome, IsSome, MatchOption, OnErr, OnOk, length, nat_lt, not, reverse, slice_index_or};
+    ghost use Rattle.std.specs.Prelude.{◌≡◌, ℕ, ◌<◌, ◌≤◌, [], ◌∷◌, IfSome, IsSome, MatchOption, OnErr, OnOk, length, nat_lt, not, reverse, slice_index_or};
+    ghost use Rattle.rq_level.specs.Given.{has_page};
     ghost use Rattle.rq_model.specs.Words.{In, last};
     ghost use Rattle.rq_txn.specs.Rows.{AreDistinct, Row, any_under, change_row, finished_of, found_row, fresh_row, latched_in, row_aborting, row_finished, row_of, row_started, row_stepped, row_taken_back, under_of, without_row};
 
@@ -321,6 +323,13 @@ impl Transactions {
         ensures { result ≡ latched_in self.now page }
     {
         self.tally.has_latched(page)
+    }
+
+    /// The pages that operations under way have latched.
+    pub fn latched(&self) -> &PageSet
+        ensures { (p : ℕ) → has_page p result.now.pages ≡ latched_in self.now p }
+    {
+        self.tally.latched()
     }
 
     /// How many there are.

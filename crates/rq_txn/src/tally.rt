@@ -2,30 +2,30 @@
 ghost use Rattle.std.specs.Prelude.{◌≡◌, ℕ, ◌+◌, ◌^◌, ◌<◌, ◌≤◌, [], None, OnOk, length, nat_lt};
 ghost use Rattle.rq_level.specs.Given.{has_page};
 ghost use Rattle.rq_txn.specs.Rows.{under_way_of};
-ghost use Rattle.rq_txn.specs.Tallies.{AreWithin, HasRoom, IsCounted, IsMore, IsRaised, Latches, Moves, latches_at, one_if, pages_of};
+ghost use Rattle.rq_txn.specs.Tallies.{AreWithin, HasPlaces, HasRoom, IsCounted, IsMore, IsRaised, Latches, Moves, TakesPlace, latches_at, one_if, pages_of};
 
 use crate::Operation;
-use rq_level::SlotWrite;
+use crate::counts::Counts;
+use rq_level::{PageSet, SlotWrite};
 use rq_model::refusal::NoMemory;
 use std::alloc::Global;
 
-/// How many operations are under way, and how many of them have latched each page.
+/// How many operations are under way, how many of them have latched each page, and which pages some have latched.
 #[derive(Drop)]
 pub struct Tally {
     operations: usize,
-    // By page: none behind the end.
-    latched: Vec<usize>,
+    latched: Counts,
 }
 
 impl Tally {
     /// No operation.
     pub fn new(alloc: Global) -> Self
         ensures operations { result.operations ≡ 0 }
-        ensures latched { result.latched.items ≡ [] }
+        ensures latched { result.latched.counts.items ≡ [] }
     {
         Tally {
             operations: 0,
-            latched: Vec::new(alloc),
+            latched: Counts::new(alloc),
         }
     }
 
@@ -40,7 +40,14 @@ impl Tally {
     pub fn has_latched(&self, page: u64) -> bool
         ensures { result ≡ nat_lt 0 (latches_at self.now page) }
     {
-        self.latched.get(page as usize).copied().unwrap_or(0) > 0
+        self.latched.at(page) > 0
+    }
+
+    /// The pages that operations under way have latched.
+    pub fn latched(&self) -> &PageSet
+        ensures { (p : ℕ) → has_page p result.now.pages ≡ nat_lt 0 (latches_at self.now p) }
+    {
+        self.latched.pages()
     }
 
     /// Takes the memory for an operation of these writes.
@@ -48,32 +55,21 @@ impl Tally {
     /// # Errors
     /// `NoMemory`: nothing that is counted changed.
     pub fn reserve(&mut self, writes: &[SlotWrite]) -> Result<(), NoMemory>
-        ensures within { OnOk result (AreWithin (length self.new.latched.items) writes.now) }
+        ensures within { OnOk result (AreWithin (length self.new.latched.counts.items) writes.now) }
+        ensures free { OnOk result (HasPlaces (length writes.now) self.new) }
         ensures same { Latches [] self.old self.new }
     {
+        self.latched.reserve(writes.len())?;
         for write in writes {
-            self.reserve_page(write.at.page())?;
-        }
-        Ok(())
-    }
-
-    // Takes the memory for the count of a page.
-    fn reserve_page(&mut self, page: u64) -> Result<(), NoMemory>
-        requires { page < 2 ^ 32 }
-        ensures within { OnOk result (page < length self.new.latched.items) }
-        ensures grown { length self.old.latched.items ≤ length self.new.latched.items }
-        ensures same { Latches [] self.old self.new }
-    {
-        let pages = page as usize + 1;
-        if self.latched.len() < pages && self.latched.resize(pages, 0).is_err() {
-            return Err(NoMemory);
+            self.latched.reserve_page(write.at.page())?;
         }
         Ok(())
     }
 
     /// One operation more is under way, whose writes these are.
     pub fn add(&mut self, writes: &[SlotWrite])
-        requires within { AreWithin (length self.old.latched.items) writes.now }
+        requires within { AreWithin (length self.old.latched.counts.items) writes.now }
+        requires free { HasPlaces (length writes.now) self.old }
         requires room { HasRoom self.old }
         ensures { IsMore (pages_of writes.now) self.old self.new }
     {
@@ -94,7 +90,8 @@ impl Tally {
 
     // One operation more has latched the pages of these writes.
     fn latch(&mut self, writes: &[SlotWrite])
-        requires within { AreWithin (length self.old.latched.items) writes.now }
+        requires within { AreWithin (length self.old.latched.counts.items) writes.now }
+        requires free { HasPlaces (length writes.now) self.old }
         requires room { (p : ℕ) → latches_at self.old p + 1 < 2 ^ 64 }
         ensures { Latches (pages_of writes.now) self.old self.new }
     {
@@ -121,19 +118,23 @@ impl Tally {
 
     // One more of a page.
     fn raise(&mut self, page: u64)
-        requires within { page < length self.old.latched.items }
+        requires number { page < 2 ^ 32 }
+        requires within { page < length self.old.latched.counts.items }
+        requires free { HasPlaces 1 self.old }
         requires room { latches_at self.old page + 1 < 2 ^ 64 }
-        ensures { IsRaised page self.old self.new }
+        ensures raised { IsRaised page self.old self.new }
+        ensures used { TakesPlace self.old self.new }
     {
-        self.latched[page as usize] += 1;
+        self.latched.raise(page);
     }
 
     // One less of a page.
     fn lower(&mut self, page: u64)
-        requires { 1 ≤ latches_at self.old page }
+        requires number { page < 2 ^ 32 }
+        requires some { 1 ≤ latches_at self.old page }
         ensures { IsRaised page self.new self.old }
     {
-        self.latched[page as usize] -= 1;
+        self.latched.lower(page);
     }
 }
 

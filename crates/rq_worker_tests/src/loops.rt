@@ -2,23 +2,27 @@
 ghost use Rattle.std.specs.Prelude.{◌≡◌};
 ghost use Rattle.rq_shared.specs.Entries.{WasSound};
 
-use crate::stores::{KeepStamps, begun, committed, send_of, small_engine};
+use crate::stores::{
+    KeepStamps, begun, called, calls_made, carried_out, committed, is_sent, small_engine,
+    small_steps, start_of_send,
+};
 use rq_disk::{LogDevice, MemLog, MemPages, PageDevice};
 use rq_engine::engine::Engine;
 use rq_engine::event::{Event, Outcome, Reply};
 use rq_model::refusal::Refusal;
 use rq_model::txn::Txn;
-use rq_shared::kept::Kept;
-use rq_shared::mark::Mark;
+use rq_shared::mark::{Mark, MarkPass};
 use rq_shared::shared::Shared;
 use rq_shared::sharing::Sharing;
 use rq_workers::acts::Ended;
-use rq_workers::gate::{BEFORE_AGAIN, BEFORE_FORCE, Gate};
-use rq_workers::kept::KeptSteps;
+use rq_workers::gate::{BEFORE_AGAIN, BEFORE_FORCE, BEFORE_WRITE, Gate};
 use rq_workers::shared::SharedSteps;
+use rq_workers::steps::Steps;
+use rq_workers::trail::Trail;
 use rq_workers::worker::Worker;
 use std::alloc::Global;
 use std::marker::Brand;
+use std::snapshot::Snapshot;
 use std::sync::Wait;
 use std::sync::atomic::{AtomicU64, Ordering};
 use std::sync::ledger::Blank;
@@ -29,38 +33,75 @@ use std::test::Fail;
 struct Often<'a> {
     point: u32,
     left: &'a AtomicU64,
+    answers: Snapshot<Trail<(u32, bool)>>,
 }
 
-impl Gate for Often<'_> {
-    ghost says = { λ gate point passed. Unit {0} };
-
-    fn pass(&self, point: u32) -> bool {
-        let left = self.left.load(Ordering::SeqCst);
-        if point != self.point || left == 0 {
-            return false;
-        }
-        self.left.store(left - 1, Ordering::SeqCst);
-        true
+// Lets through so often at this point.
+fn lets_through(point: u32, left: &AtomicU64) -> Often<'_> {
+    Often {
+        point,
+        left,
+        answers: Trail::empty(),
     }
 }
 
-// What comes of a send while another transaction's is under way, where the gate lets it be tried again so often; and the
-// calls made, with the two begins and the other's start.
-fn send_beside<R: Wait>(rt: &R, alloc: Global, left: &AtomicU64) -> Option<(Ended, usize)> {
-    let mut steps = KeptSteps::new(Kept::new(alloc, small_engine(alloc).ok()?), 1);
-    let first = begun(&mut steps)?;
-    let second = begun(&mut steps)?;
-    let other = send_of(alloc, first, 0, b'x').ok()?;
-    drop(steps.kept().step(1, other));
-    let start = send_of(alloc, second, 1, b'x').ok()?;
-    let gate = Often {
-        point: BEFORE_AGAIN,
-        left,
+impl Gate for Often<'_> {
+    ghost answers = { λ gate. gate.answers.value };
+
+    fn pass(&mut self, point: u32) -> bool {
+        let left = self.left.load(Ordering::SeqCst);
+        let passed = point == self.point && left > 0;
+        if passed {
+            self.left.store(left - 1, Ordering::SeqCst);
+        }
+        Trail::note(&mut self.answers, &(point, passed));
+        passed
+    }
+}
+
+// The functions that follow, and those of `stores`, promise nothing, and most know of no store: so a test of many calls is
+// checked fast.
+
+// What comes of the operation that this call starts, where the gate lets it be tried again so often.
+fn run_by<S: Steps, R: Wait>(rt: &R, left: &AtomicU64, steps: S, start: &Event) -> (Ended, S) {
+    let (ended, _, steps) = carried_out(rt, lets_through(BEFORE_AGAIN, left), steps, start);
+    (ended, steps)
+}
+
+// Starts a send of another transaction, and leaves it under way.
+fn send_under_way<S: Steps>(alloc: Global, steps: &mut S, sender: u32) -> Option<()> {
+    let (_, start) = start_of_send(alloc, steps, sender, b'y')?;
+    drop(called(steps, start));
+    Some(())
+}
+
+// The start of a send while another transaction's is under way.
+fn start_beside<S: Steps>(alloc: Global, steps: &mut S) -> Option<Event> {
+    send_under_way(alloc, steps, 0)?;
+    let (_, start) = start_of_send(alloc, steps, 1, b'x')?;
+    Some(start)
+}
+
+// What comes of that, where the gate lets it be tried again so often.
+fn run_beside<S: Steps, R: Wait>(
+    rt: &R,
+    alloc: Global,
+    left: &AtomicU64,
+    steps: S,
+) -> (Option<Ended>, S) {
+    let mut steps = steps;
+    let Some(start) = start_beside(alloc, &mut steps) else {
+        return (None, steps);
     };
-    let mut worker = Worker::new(gate, steps);
-    let ended = worker.run(rt, &start);
-    let mut steps = worker.into_steps();
-    Some((ended, steps.kept().entries().len()))
+    let (ended, steps) = run_by(rt, left, steps, &start);
+    (Some(ended), steps)
+}
+
+// The same over a store, and the calls made, with the two begins and the other's start.
+fn send_beside<R: Wait>(rt: &R, alloc: Global, left: &AtomicU64) -> Option<(Ended, usize)> {
+    let (ended, steps) = run_beside(rt, alloc, left, small_steps(alloc).ok()?);
+    let calls = calls_made(steps);
+    Some((ended?, calls))
 }
 
 #[test]
@@ -77,17 +118,21 @@ fn a_latched_start_is_tried_again(rt: HostRuntime) -> Result<(), Fail> {
 }
 
 // What comes of a send where the gate says no everywhere, and whether the worker goes on.
-fn send_stopped<R: Wait>(rt: &R, alloc: Global) -> Option<(Ended, bool)> {
-    let mut steps = KeptSteps::new(Kept::new(alloc, small_engine(alloc).ok()?), 1);
-    let txn = begun(&mut steps)?;
-    let start = send_of(alloc, txn, 1, b'x').ok()?;
-    let left = AtomicU64::new(0);
-    let gate = Often {
-        point: BEFORE_AGAIN,
-        left: &left,
+fn run_stopped<S: Steps, R: Wait>(rt: &R, alloc: Global, steps: S) -> (Option<(Ended, bool)>, S) {
+    let mut steps = steps;
+    let Some((_, start)) = start_of_send(alloc, &mut steps, 1, b'x') else {
+        return (None, steps);
     };
-    let mut worker = Worker::new(gate, steps);
-    Some((worker.run(rt, &start), worker.goes_on()))
+    let left = AtomicU64::new(0);
+    let gate = lets_through(BEFORE_AGAIN, &left);
+    let (ended, goes_on, steps) = carried_out(rt, gate, steps, &start);
+    (Some((ended, goes_on)), steps)
+}
+
+fn send_stopped<R: Wait>(rt: &R, alloc: Global) -> Option<(Ended, bool)> {
+    let (seen, steps) = run_stopped(rt, alloc, small_steps(alloc).ok()?);
+    drop(steps);
+    seen
 }
 
 #[test]
@@ -101,49 +146,58 @@ fn a_started_operation_is_gone_through(rt: HostRuntime) -> Result<(), Fail> {
     Ok(())
 }
 
-// A transaction that sent a message and aborts, of a store under its audit: seven calls were made, and two more where
-// another one's send is under way.
-fn aborting<R: Wait>(
-    rt: &R,
+// Turns a transaction round that has sent. Another's send is under way then, where that is wanted.
+fn turned<S: Steps>(
     alloc: Global,
+    steps: &mut S,
+    txn: Txn,
+    ended: &Ended,
     is_beside: bool,
-) -> Option<(Txn, KeptSteps<MemPages, MemLog>)> {
-    let mut steps = KeptSteps::new(Kept::new(alloc, small_engine(alloc).ok()?), 1);
-    let txn = begun(&mut steps)?;
-    let start = send_of(alloc, txn, 1, b'x').ok()?;
-    let left = AtomicU64::new(0);
-    let gate = Often {
-        point: BEFORE_AGAIN,
-        left: &left,
-    };
-    let mut worker = Worker::new(gate, steps);
-    if worker.run(rt, &start) != Ended::Finished(Outcome::Sent) {
+) -> Option<Txn> {
+    if !is_sent(ended) {
         return None;
     }
-    let mut steps = worker.into_steps();
     if is_beside {
-        let second = begun(&mut steps)?;
-        let other = send_of(alloc, second, 2, b'y').ok()?;
-        drop(steps.kept().step(1, other));
+        send_under_way(alloc, steps, 2)?;
     }
-    drop(steps.kept().step(1, Event::StartAbort(txn)));
-    Some((txn, steps))
+    drop(called(steps, Event::StartAbort(txn)));
+    Some(txn)
 }
 
-// What comes of undoing its send, and of undoing again; and the calls made.
-fn undone_twice<R: Wait>(rt: &R, alloc: Global) -> Option<(Ended, Ended, usize)> {
-    let (txn, steps) = aborting(rt, alloc, false)?;
-    let left = AtomicU64::new(0);
-    let gate = Often {
-        point: BEFORE_AGAIN,
-        left: &left,
+// A transaction that sent a message and aborts: seven calls were made, and two more where another one's send is under way.
+fn aborting<S: Steps, R: Wait>(
+    rt: &R,
+    alloc: Global,
+    steps: S,
+    is_beside: bool,
+) -> (Option<Txn>, S) {
+    let mut steps = steps;
+    let Some((txn, start)) = start_of_send(alloc, &mut steps, 1, b'x') else {
+        return (None, steps);
     };
-    let mut worker = Worker::new(gate, steps);
+    let (ended, mut steps) = run_by(rt, &AtomicU64::new(0), steps, &start);
+    let turned = turned(alloc, &mut steps, txn, &ended, is_beside);
+    (turned, steps)
+}
+
+// What comes of undoing its send, and of undoing again.
+fn run_twice<S: Steps, R: Wait>(rt: &R, alloc: Global, steps: S) -> (Option<(Ended, Ended)>, S) {
+    let (txn, steps) = aborting(rt, alloc, steps, false);
+    let Some(txn) = txn else {
+        return (None, steps);
+    };
+    let left = AtomicU64::new(0);
     let undo = Event::UndoNext(txn);
-    let first = worker.run(rt, &undo);
-    let second = worker.run(rt, &undo);
-    let mut steps = worker.into_steps();
-    Some((first, second, steps.kept().entries().len()))
+    let (first, steps) = run_by(rt, &left, steps, &undo);
+    let (second, steps) = run_by(rt, &left, steps, &undo);
+    (Some((first, second)), steps)
+}
+
+// The same over a store, and the calls made.
+fn undone_twice<R: Wait>(rt: &R, alloc: Global) -> Option<((Ended, Ended), usize)> {
+    let (seen, steps) = run_twice(rt, alloc, small_steps(alloc).ok()?);
+    let calls = calls_made(steps);
+    Some((seen?, calls))
 }
 
 // An inverse is gone through as any operation is: its start, two steps, a third that says that all are made, its finish.
@@ -152,23 +206,31 @@ fn an_inverse_is_gone_through(rt: HostRuntime) -> Result<(), Fail> {
     let seen = undone_twice(&rt, rt.alloc()).ok_or("an abort")?;
     assert_eq!(rt;
         seen,
-        (Ended::Finished(Outcome::Undone), Ended::NothingLeft, 13)
+        ((Ended::Finished(Outcome::Undone), Ended::NothingLeft), 13)
     );
     Ok(())
 }
 
-// What comes of undoing its send while another's is under way, where the gate lets it be tried again so often; and the
-// calls made.
-fn undone_beside<R: Wait>(rt: &R, alloc: Global, left: &AtomicU64) -> Option<(Ended, usize)> {
-    let (txn, steps) = aborting(rt, alloc, true)?;
-    let gate = Often {
-        point: BEFORE_AGAIN,
-        left,
+// What comes of undoing its send while another's is under way, where the gate lets it be tried again so often.
+fn undo_beside<S: Steps, R: Wait>(
+    rt: &R,
+    alloc: Global,
+    left: &AtomicU64,
+    steps: S,
+) -> (Option<Ended>, S) {
+    let (txn, steps) = aborting(rt, alloc, steps, true);
+    let Some(txn) = txn else {
+        return (None, steps);
     };
-    let mut worker = Worker::new(gate, steps);
-    let ended = worker.run(rt, &Event::UndoNext(txn));
-    let mut steps = worker.into_steps();
-    Some((ended, steps.kept().entries().len()))
+    let (ended, steps) = run_by(rt, left, steps, &Event::UndoNext(txn));
+    (Some(ended), steps)
+}
+
+// The same over a store, and the calls made.
+fn undone_beside<R: Wait>(rt: &R, alloc: Global, left: &AtomicU64) -> Option<(Ended, usize)> {
+    let (ended, steps) = undo_beside(rt, alloc, left, small_steps(alloc).ok()?);
+    let calls = calls_made(steps);
+    Some((ended?, calls))
 }
 
 #[test]
@@ -184,6 +246,14 @@ fn a_latched_inverse_is_tried_again(rt: HostRuntime) -> Result<(), Fail> {
     Ok(())
 }
 
+// What the mark tells a pass.
+fn told(mark: &Mark, reader: &mut MarkPass) -> u64
+    requires { reader.old.table ≡ mark.now }
+    ensures { reader.new.table ≡ mark.now }
+{
+    mark.read(reader)
+}
+
 // The mark as another pass reads it, before and after a log writer whose gate lets it through once; and what its force
 // answered.
 fn marked<G: Sharing, R: Wait>(
@@ -191,12 +261,13 @@ fn marked<G: Sharing, R: Wait>(
     alloc: Global,
     engine: Engine<MemPages, MemLog>,
     blank: Blank,
+    taking: Blank,
 ) -> Option<(u64, u64, u64)>
-    requires name { blank.name ≡ G.name }
-    requires parts { (blank.parts ≡ G.parts) × (blank.parts ≡ 1024) }
+    requires name { (blank.name ≡ G.name) × (taking.name ≡ G.taking) }
+    requires parts { (blank.parts ≡ G.parts) × (blank.parts ≡ 1024) × (taking.parts ≡ 1024) }
     requires sound { WasSound ⟦<MemPages as PageDevice>⟧ ⟦<MemLog as LogDevice>⟧ G.premise engine }
 {
-    let mut shared = Shared::<MemPages, MemLog, G>::new(alloc, engine, blank);
+    let mut shared = Shared::<MemPages, MemLog, G>::new(alloc, engine, blank, taking);
     let writer = shared.pass()?;
     let (mark, mut seat) = Mark::new(alloc).ok()?;
     let mut reader = mark.split(&mut seat);
@@ -204,24 +275,21 @@ fn marked<G: Sharing, R: Wait>(
     let mut steps = SharedSteps::new(rt, shared.front(), writer, &mark, seat, stamps);
     let txn = begun(&mut steps)?;
     committed(&mut steps, txn)?;
-    let before = mark.read(&mut reader);
+    let before = told(&mark, &mut reader);
     let left = AtomicU64::new(1);
-    let gate = Often {
-        point: BEFORE_FORCE,
-        left: &left,
-    };
-    let mut worker = Worker::new(gate, steps);
+    let mut worker = Worker::new(lets_through(BEFORE_FORCE, &left), steps);
     worker.write_log(rt);
     let (_, _, kept) = worker.into_steps().into_parts();
     let forced = match kept.stamps.last()?.reply() {
         Reply::Forced(lsn) => *lsn,
         _ => 0,
     };
-    Some((before, mark.read(&mut reader), forced))
+    Some((before, told(&mark, &mut reader), forced))
 }
 
 fn mark_of<R: Wait>(rt: &R, alloc: Global) -> Option<(u64, u64, u64)> {
-    marked::<Brand, R>(rt, alloc, small_engine(alloc).ok()?, Blank::new(1024))
+    let engine = small_engine(alloc).ok()?;
+    marked::<Brand, R>(rt, alloc, engine, Blank::new(1024), Blank::new(1024))
 }
 
 #[test]
@@ -231,18 +299,36 @@ fn a_log_writer_leaves_the_mark_at_its_lsn(rt: HostRuntime) -> Result<(), Fail> 
     Ok(())
 }
 
+// The pages that a page writer asks for whose gate lets it through so often, in order.
+fn pages_written<R: Wait>(rt: &R, alloc: Global, left: &AtomicU64) -> Option<Vec<u32>> {
+    let gate = lets_through(BEFORE_WRITE, left);
+    let mut worker = Worker::new(gate, small_steps(alloc).ok()?);
+    worker.write_pages(rt, 3);
+    let kept = worker.into_steps().into_kept();
+    let mut pages = Vec::new(alloc);
+    for entry in kept.entries() {
+        let Event::WritePage(page) = entry.event() else {
+            return None;
+        };
+        pages.push(*page).ok()?;
+    }
+    Some(pages)
+}
+
+#[test]
+fn a_page_writer_goes_round(rt: HostRuntime) -> Result<(), Fail> {
+    let left = AtomicU64::new(5);
+    let pages = pages_written(&rt, rt.alloc(), &left).ok_or("a store")?;
+    assert!(rt; pages.as_slice() == [0, 1, 2, 0, 1].as_slice());
+    Ok(())
+}
+
 // What comes of a force that the runner is asked for, and how many calls were made.
 fn run_of_a_force<R: Wait>(rt: &R, alloc: Global) -> Option<(Ended, usize)> {
-    let steps = KeptSteps::new(Kept::new(alloc, small_engine(alloc).ok()?), 1);
     let left = AtomicU64::new(9);
-    let gate = Often {
-        point: BEFORE_FORCE,
-        left: &left,
-    };
-    let mut worker = Worker::new(gate, steps);
-    let ended = worker.run(rt, &Event::Force);
-    let mut steps = worker.into_steps();
-    Some((ended, steps.kept().entries().len()))
+    let gate = lets_through(BEFORE_FORCE, &left);
+    let (ended, _, steps) = carried_out(rt, gate, small_steps(alloc).ok()?, &Event::Force);
+    Some((ended, calls_made(steps)))
 }
 
 #[test]

@@ -1,21 +1,36 @@
 //! Stores and calls for tests. They promise nothing, so that what makes many of them is checked fast.
 use rq_disk::{LogDevice, MemLog, MemPages, PageDevice, Switch};
 use rq_engine::engine::Engine;
-use rq_engine::event::{CommitNo, Event, Receipt, Reply};
+use rq_engine::event::{CommitNo, Event, Outcome, Receipt, Reply};
 use rq_model::txn::Txn;
 use rq_page::layout::Layout;
 use rq_restart::format::format;
 use rq_restart::restart::restart;
-use rq_shared::kept::Stamped;
+use rq_shared::kept::{Kept, Stamped};
+use rq_workers::acts::Ended;
+use rq_workers::gate::Gate;
+use rq_workers::kept::KeptSteps;
 use rq_workers::shared::Keep;
 use rq_workers::steps::Steps;
 use rq_workers::trail::Trail;
+use rq_workers::worker::Worker;
 use std::alloc::{AllocError, Global};
 use std::snapshot::Snapshot;
+use std::sync::Wait;
 
 /// A store of one directory and one cell page over devices in memory, formatted and opened.
 pub fn small_engine(alloc: Global) -> Result<Engine<MemPages, MemLog>, &'static str> {
     engine_of(alloc, Layout::new(1, 1).ok_or("a small store")?)
+}
+
+/// The calls of such a store, under its audit.
+pub fn small_steps(alloc: Global) -> Result<KeptSteps<MemPages, MemLog>, &'static str> {
+    Ok(KeptSteps::new(Kept::new(alloc, small_engine(alloc)?), 1))
+}
+
+/// How many calls were made.
+pub fn calls_made(steps: KeptSteps<MemPages, MemLog>) -> usize {
+    steps.into_kept().entries().len()
 }
 
 /// One of two directory and two cell pages.
@@ -62,6 +77,11 @@ pub fn send_of(alloc: Global, txn: Txn, sender: u32, byte: u8) -> Result<Event, 
     })
 }
 
+/// The stamp of a call.
+pub fn called<S: Steps>(steps: &mut S, event: Event) -> Stamped {
+    steps.call(event)
+}
+
 /// Begins a transaction.
 pub fn begun<S: Steps>(steps: &mut S) -> Option<Txn> {
     let stamped = steps.call(Event::Begin);
@@ -82,6 +102,36 @@ pub fn committed<S: Steps>(steps: &mut S, txn: Txn) -> Option<CommitNo> {
     };
     steps.seen(stamped);
     number
+}
+
+/// Begins a transaction: it, and the start of its send of this byte.
+pub fn start_of_send<S: Steps>(
+    alloc: Global,
+    steps: &mut S,
+    sender: u32,
+    byte: u8,
+) -> Option<(Txn, Event)> {
+    let txn = begun(steps)?;
+    let start = send_of(alloc, txn, sender, byte).ok()?;
+    Some((txn, start))
+}
+
+/// Whether a send came to its end.
+pub fn is_sent(ended: &Ended) -> bool {
+    matches!(ended, Ended::Finished(Outcome::Sent))
+}
+
+/// Carries out the operation that this call starts, behind a gate: what came of it, and whether the worker goes on.
+pub fn carried_out<G: Gate + Drop, S: Steps, R: Wait>(
+    rt: &R,
+    gate: G,
+    steps: S,
+    start: &Event,
+) -> (Ended, bool, S) {
+    let mut worker = Worker::new(gate, steps);
+    let ended = worker.run(rt, start);
+    let goes_on = worker.goes_on();
+    (ended, goes_on, worker.into_steps())
 }
 
 /// The receipt that the stamp gives.

@@ -3,11 +3,13 @@ ghost use Rattle.std.specs.Prelude.{◌≡◌};
 ghost use Rattle.rq_shared.specs.Entries.{WasSound};
 
 use crate::stores::{
-    KeepStamps, begun, committed, has_sent, opened, receipt, send_of, wide_engine,
+    KeepStamps, carried_out, committed, has_sent, is_sent, opened, receipt, start_of_send,
+    wide_engine,
 };
 use rq_disk::{LogDevice, MemLog, MemPages, PageChoice, PageDevice};
 use rq_engine::engine::Engine;
-use rq_engine::event::{CommitNo, Event, Outcome, Receipt};
+use rq_engine::event::{CommitNo, Event, Receipt};
+use rq_model::txn::Txn;
 use rq_shared::kept::{AuditEntry, Stamped};
 use rq_shared::mark::{Mark, MarkPass};
 use rq_shared::room::Pass;
@@ -17,12 +19,14 @@ use rq_shared::tied::tied;
 use rq_workers::acts::Ended;
 use rq_workers::gate::{BETWEEN_STEPS, Gate};
 use rq_workers::shared::SharedSteps;
-use rq_workers::worker::Worker;
+use rq_workers::steps::Steps;
+use rq_workers::trail::Trail;
 use std::alloc::{AllocError, Global};
 use std::marker::Brand;
+use std::snapshot::Snapshot;
 use std::sync::Wait;
 use std::sync::atomic::{AtomicU64, Ordering};
-use std::sync::ledger::{Blank, Ledger};
+use std::sync::ledger::Blank;
 use std::test::Fail;
 use std::thread;
 use std::thread::{Threads, join};
@@ -37,7 +41,7 @@ struct Common {
 
 /// What a thread has of its own.
 #[derive(Drop)]
-struct Own<G: Ledger> {
+struct Own<G: Sharing> {
     pass: Pass<G>,
     seat: MarkPass,
 }
@@ -46,15 +50,21 @@ struct Own<G: Ledger> {
 #[derive(Drop)]
 struct HeldBetween<'a> {
     common: &'a Common,
+    answers: Snapshot<Trail<(u32, bool)>>,
 }
 
 impl Gate for HeldBetween<'_> {
-    ghost says = { λ gate point passed. Unit {0} };
+    ghost answers = { λ gate. gate.answers.value };
 
-    fn pass(&self, point: u32) -> bool {
-        if point != BETWEEN_STEPS {
-            return true;
-        }
+    fn pass(&mut self, point: u32) -> bool {
+        let passed = point != BETWEEN_STEPS || self.is_let_go();
+        Trail::note(&mut self.answers, &(point, passed));
+        passed
+    }
+}
+
+impl HeldBetween<'_> {
+    fn is_let_go(&self) -> bool {
         self.common.first_is_held.store(1, Ordering::SeqCst);
         comes(&self.common.second_has_committed)
     }
@@ -62,12 +72,15 @@ impl Gate for HeldBetween<'_> {
 
 /// Lets its thread through.
 #[derive(Drop)]
-struct Open;
+struct Open {
+    answers: Snapshot<Trail<(u32, bool)>>,
+}
 
 impl Gate for Open {
-    ghost says = { λ gate point passed. Unit {0} };
+    ghost answers = { λ gate. gate.answers.value };
 
-    fn pass(&self, _point: u32) -> bool {
+    fn pass(&mut self, point: u32) -> bool {
+        Trail::note(&mut self.answers, &(point, true));
         true
     }
 }
@@ -86,7 +99,67 @@ fn comes(word: &AtomicU64) -> bool {
 /// What a thread gives back: its pass, its stamps, and its commit.
 type Worked<G> = (Pass<G>, Vec<Stamped>, CommitNo);
 
-// Sends x for sender 0, and is held behind the first step of its send until the other thread has committed.
+// Carries out a send, behind a gate, and commits: the commit, where it was sent with no turn that the gate refused.
+fn run_and_commit<H: Gate + Drop, S: Steps, R: Wait>(
+    rt: &R,
+    gate: H,
+    steps: S,
+    txn: Txn,
+    start: &Event,
+) -> (Option<CommitNo>, S) {
+    let (ended, goes_on, mut steps) = carried_out(rt, gate, steps, start);
+    let number = committed(&mut steps, txn);
+    (number_of(number, &ended, goes_on), steps)
+}
+
+// The commit, where the send before it came to its end and the worker goes on.
+fn number_of(number: Option<CommitNo>, ended: &Ended, goes_on: bool) -> Option<CommitNo> {
+    if goes_on && is_sent(ended) {
+        number
+    } else {
+        None
+    }
+}
+
+// Sends x for sender 0 and commits, and is held behind the first step of its send until the other thread has committed.
+fn send_held<S: Steps, R: Wait>(
+    rt: &R,
+    alloc: Global,
+    steps: S,
+    common: &Common,
+) -> (Option<CommitNo>, S) {
+    let mut steps = steps;
+    let Some((txn, start)) = start_of_send(alloc, &mut steps, 0, b'x') else {
+        return (None, steps);
+    };
+    let gate = HeldBetween {
+        common,
+        answers: Trail::empty(),
+    };
+    run_and_commit(rt, gate, steps, txn, &start)
+}
+
+// Sends y for sender 15 and commits, once the other thread is held within its send.
+fn send_meanwhile<S: Steps, R: Wait>(
+    rt: &R,
+    alloc: Global,
+    steps: S,
+    common: &Common,
+) -> (Option<CommitNo>, S) {
+    let mut steps = steps;
+    let Some((txn, start)) = start_of_send(alloc, &mut steps, 15, b'y') else {
+        return (None, steps);
+    };
+    if !comes(&common.first_is_held) {
+        return (None, steps);
+    }
+    let gate = Open {
+        answers: Trail::empty(),
+    };
+    run_and_commit(rt, gate, steps, txn, &start)
+}
+
+// What the first thread does.
 fn work_first<P: PageDevice + Drop, L: LogDevice + Drop, G: Sharing, R: Wait>(
     rt: &R,
     alloc: Global,
@@ -98,22 +171,13 @@ fn work_first<P: PageDevice + Drop, L: LogDevice + Drop, G: Sharing, R: Wait>(
 {
     let Own { pass, seat } = own;
     let stamps = KeepStamps::new(alloc);
-    let mut steps = SharedSteps::new(rt, front, pass, &common.mark, seat, stamps);
-    let txn = begun(&mut steps)?;
-    let start = send_of(alloc, txn, 0, b'x').ok()?;
-    let mut worker = Worker::new(HeldBetween { common }, steps);
-    let sent = worker.run(rt, &start) == Ended::Finished(Outcome::Sent) && worker.goes_on();
-    let mut steps = worker.into_steps();
-    let number = committed(&mut steps, txn)?;
+    let steps = SharedSteps::new(rt, front, pass, &common.mark, seat, stamps);
+    let (number, steps) = send_held(rt, alloc, steps, common);
     let (pass, _, kept) = steps.into_parts();
-    if sent {
-        Some((pass, kept.stamps, number))
-    } else {
-        None
-    }
+    worked(pass, kept.stamps, number)
 }
 
-// Sends y for sender 15 and commits, while the other thread is held within its send.
+// What the second does.
 fn work_second<P: PageDevice + Drop, L: LogDevice + Drop, G: Sharing, R: Wait>(
     rt: &R,
     alloc: Global,
@@ -125,21 +189,21 @@ fn work_second<P: PageDevice + Drop, L: LogDevice + Drop, G: Sharing, R: Wait>(
 {
     let Own { pass, seat } = own;
     let stamps = KeepStamps::new(alloc);
-    let mut steps = SharedSteps::new(rt, front, pass, &common.mark, seat, stamps);
-    let txn = begun(&mut steps)?;
-    let turn = comes(&common.first_is_held);
-    let start = send_of(alloc, txn, 15, b'y').ok()?;
-    let mut worker = Worker::new(Open, steps);
-    let sent = worker.run(rt, &start) == Ended::Finished(Outcome::Sent);
-    let mut steps = worker.into_steps();
-    let number = committed(&mut steps, txn)?;
+    let steps = SharedSteps::new(rt, front, pass, &common.mark, seat, stamps);
+    let (number, steps) = send_meanwhile(rt, alloc, steps, common);
     common.second_has_committed.store(1, Ordering::SeqCst);
     let (pass, _, kept) = steps.into_parts();
-    if sent && turn {
-        Some((pass, kept.stamps, number))
-    } else {
-        None
-    }
+    worked(pass, kept.stamps, number)
+}
+
+// What a thread gives back, where it did its work.
+fn worked<G: Sharing>(
+    pass: Pass<G>,
+    stamps: Vec<Stamped>,
+    number: Option<CommitNo>,
+) -> Option<Worked<G>> {
+    let number = number?;
+    Some((pass, stamps, number))
 }
 
 /// Whether a taken audit is tied to the stamps of both threads.
@@ -181,6 +245,22 @@ fn tie_of(audit: &[AuditEntry], stamps: Vec<Stamped>, others: Vec<Stamped>) -> T
         is_tied_to_the_other,
         is_tied_when_changed_about: tied(audit, 1, &stamps) || tied(audit, 2, &others),
     }
+}
+
+// Takes the audit, where that is wanted, and looks whether it is tied.
+fn tie_taken<P: PageDevice + Drop, L: LogDevice + Drop, G: Sharing, R: Wait>(
+    rt: &R,
+    front: &Front<P, L, G>,
+    pass: &mut Pass<G>,
+    take: bool,
+    stamps: Vec<Stamped>,
+    others: Vec<Stamped>,
+) -> Option<Tie> {
+    if !take {
+        return None;
+    }
+    let taken = front.take_audit(rt, pass);
+    Some(tie_of(taken.entries(), stamps, others))
 }
 
 // Two threads at work.
@@ -255,12 +335,19 @@ fn share<
     L: LogDevice + Drop + Send,
     G: Sharing + Send + Sync,
     R: Threads + Wait + Sync,
->(rt: &R, alloc: Global, engine: Engine<P, L>, blank: Blank, take: bool) -> Option<Seen<P, L>>
-    requires name { blank.name ≡ G.name }
-    requires parts { (blank.parts ≡ G.parts) × (blank.parts ≡ 1024) }
+>(
+    rt: &R,
+    alloc: Global,
+    engine: Engine<P, L>,
+    blank: Blank,
+    taking: Blank,
+    take: bool,
+) -> Option<Seen<P, L>>
+    requires name { (blank.name ≡ G.name) × (taking.name ≡ G.taking) }
+    requires parts { (blank.parts ≡ G.parts) × (blank.parts ≡ 1024) × (taking.parts ≡ 1024) }
     requires sound { WasSound P.PageDevice L.LogDevice G.premise engine }
 {
-    let mut shared = Shared::<P, L, G>::new(alloc, engine, blank);
+    let mut shared = Shared::<P, L, G>::new(alloc, engine, blank, taking);
     let pass = shared.pass()?;
     let other = shared.pass()?;
     let mut three = shared.pass()?;
@@ -279,11 +366,7 @@ fn share<
     let (first, second) = both(rt, alloc, shared.front(), one, two, &common);
     let (one, stamps, number) = first?;
     let (two, others, other_number) = second?;
-    let tie = if take {
-        Some(tie_of(shared.take_audit(rt).entries(), stamps, others))
-    } else {
-        None
-    };
+    let tie = tie_taken(rt, shared.front(), &mut three, take, stamps, others);
     let numbers = [number, other_number];
     let given = receipts(rt, alloc, shared.front(), &mut three, &numbers).ok()?;
     let receipts = given.len();
@@ -301,7 +384,8 @@ fn look<R: Threads + Wait + Sync>(
     take: bool,
 ) -> Option<Seen<MemPages, MemLog>> {
     let engine = wide_engine(alloc).ok()?;
-    share::<MemPages, MemLog, Brand, R>(rt, alloc, engine, Blank::new(1024), take)
+    let taking = Blank::new(1024);
+    share::<MemPages, MemLog, Brand, R>(rt, alloc, engine, Blank::new(1024), taking, take)
 }
 
 #[test]

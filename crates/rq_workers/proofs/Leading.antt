@@ -9,7 +9,7 @@ use Rattle.rq_model.specs.History.{Call}
 use Rattle.rq_engine.specs.Says.{call_of}
 use Rattle.rq_shared.specs.declared.kept.Stamped.{Stamped}
 use Rattle.rq_workers.specs.declared.acts.Act.{Act}
-use Rattle.rq_workers.specs.declared.acts.Act.TheVariants.{Asked, Made}
+use Rattle.rq_workers.specs.declared.acts.Act.TheVariants.{Asked, Lacked, Made}
 use Rattle.rq_workers.specs.declared.acts.Heard.{Heard}
 use Rattle.rq_workers.specs.declared.acts.Heard.TheVariants as heard
 use Rattle.rq_workers.specs.declared.acts.Part.{Part}
@@ -89,7 +89,7 @@ module _ {S : Type 0} (c : Call) where
       ⊎_elim
       (λ (m : (s : Snapshot Stamped) × DidOne (Made s) w x × (call_of s.value.event ≡ c) × (heard_of s.value.reply ≡ h)).
       act_on (Made m.0) r Starting (once_started h) v w x k m.1 (m.2, sym (ap after_start m.3 ∙ for_good h e)))
-      (λ (n : (x ≡ w) × (h ≡ heard.Refused NoMemory)). absurd (false≢true (sym e ∙ ap may_try_again n.1)))
+      (λ (n : DidOne Lacked w x × (h ≡ heard.Refused NoMemory)). absurd (false≢true (sym e ∙ ap may_try_again n.1)))
       d
 
   -- it was refused, and the gate asked whether to try again
@@ -100,8 +100,10 @@ module _ {S : Type 0} (c : Call) where
       act_on (Asked 4 b) r (Refused_start h) (after_asking h b) v x y
       (act_on (Made m.0) r Starting (Refused_start h) v w x k m.1 (m.2, sym (ap after_start m.3 ∙ again_start h e)))
       a (refl, refl))
-      (λ (n : (x ≡ w) × (h ≡ heard.Refused NoMemory)).
-      act_on (Asked 4 b) r Starting (after_asking h b) v w y k (subst (λ (u : Work S). DidOne (Asked 4 b) u y) n.0 a) (refl, ap (λ g. after_asking g b) n.1))
+      (λ (n : DidOne Lacked w x × (h ≡ heard.Refused NoMemory)).
+      act_on (Asked 4 b) r (Refused_start h) (after_asking h b) v x y
+      (act_on Lacked r Starting (Refused_start h) v w x k n.0 (ap Refused_start n.1))
+      a (refl, refl))
       d
 
   -- a part was called and answered for good

@@ -1,5 +1,5 @@
 -- What workers may have done, and what not.
-use Rattle.std.proofs.Common.{◌≡◌, true, false, [], ◌∷◌, refl, subst}
+use Rattle.std.proofs.Common.{◌≡◌, ◌≢◌, true, false, [], ◌∷◌, refl, subst}
 use Rattle.std.proofs.lemmas.Bool.{false≢true}
 use Rattle.std.specs.declared.snapshot.Snapshot.{Snapshot}
 use Rattle.rq_model.specs.declared.refusal.Refusal.TheVariants.{NoMemory, Latched}
@@ -15,11 +15,11 @@ use Rattle.rq_engine.specs.declared.event.Reply.{Reply}
 use Rattle.rq_engine.specs.declared.event.Reply.TheVariants.{Started, Stepped, Finished, Forced, Refused}
 use Rattle.rq_shared.specs.declared.kept.Stamped.{Stamped}
 use Rattle.rq_workers.specs.declared.acts.Act.{Act}
-use Rattle.rq_workers.specs.declared.acts.Act.TheVariants.{Asked, Made, Forced as By_force}
+use Rattle.rq_workers.specs.declared.acts.Act.TheVariants.{Asked, Lacked, Made, Forced as By_force}
 use Rattle.rq_workers.specs.declared.acts.Heard.{Heard}
 use Rattle.rq_workers.specs.declared.acts.Heard.TheVariants as heard
 use Rattle.rq_workers.specs.declared.acts.Part.TheVariants.{Step as Part_step, Finish as Part_finish}
-use Rattle.rq_workers.specs.Acts.{KeepsRule, forced_in}
+use Rattle.rq_workers.specs.Acts.{KeepsRule, asked_in, forced_in}
 use Rattle.rq_workers.specs.Forcing.{most_forced}
 use Rattle.rq_workers.specs.Loops.{IsLogWriting, IsPageWriting}
 use Rattle.rq_workers.specs.Operations.{Lead, LeadsOn}
@@ -49,6 +49,13 @@ module _ (any : Snapshot Stamped) where
   -- a force that was called as any other call
   called_to_force : IsLogWriting (Asked 1 false ∷ made Force (Forced 5) ∷ Asked 1 true ∷ []) → ⊥
   called_to_force w = w.2
+
+  -- what a gate answered is told by the acts: not where a no was left out
+  no_and_yes : asked_in (forced (Forced 5) ∷ Asked 1 true ∷ Asked 1 false ∷ []) ≡ (1, true) ∷ (1, false) ∷ []
+  no_and_yes = refl
+
+  no_left_out : asked_in (forced (Forced 5) ∷ Asked 1 true ∷ []) ≢ (1, true) ∷ (1, false) ∷ []
+  no_left_out e = absurd (cc)
 
   -- a force directly behind its gate, and none more; no other call forces, and a page is written behind its own gate alone
   forces_by_rule : KeepsRule (forced (Forced 5) ∷ Asked 1 true ∷ [])
@@ -110,6 +117,14 @@ module _ (any : Snapshot Stamped) where
     -- the gate said no at the start: nothing was started, and the refusal is the answer
     given_up : Lead start Starting (Asked 4 false ∷ made (StartReceive t) (Refused Latched) ∷ []) (Over (heard.Refused Latched))
     given_up = (Refused_start (heard.Refused Latched), (Starting, refl, (refl, refl)), (refl, refl))
+
+    -- memory was wanting for a copy of the start, and the gate said no
+    lacked : Lead start Starting (Asked 4 false ∷ Lacked ∷ []) (Over (heard.Refused NoMemory))
+    lacked = (Refused_start (heard.Refused NoMemory), (Starting, refl, refl), (refl, refl))
+
+    -- it was told as refused for memory, and neither was it called nor was memory wanting for a copy
+    never_called : Lead start Starting (Asked 4 false ∷ []) (Over (heard.Refused NoMemory)) → ⊥
+    never_called l = subst (λ s. LeadsOn start s (Asked 4 false) (Over (heard.Refused NoMemory))) l.1 l.2
 
     -- the gate said no, and an operation that was started was left
     left_in_the_midst : (h : Heard) → Lead start Starting (Asked 3 false ∷ made (Step one) (Stepped (Done 7)) ∷ made (StartReceive t) (Started one) ∷ []) (Over h) → ⊥

@@ -1,11 +1,11 @@
 -- What a worker did. The newest act is the first of a list.
-use Rattle.std.specs.Prelude.{◌≡◌, ◌≤◌, ℕ, ◌==◌, Bool, true, false, not, ◌||◌, ◌&&◌, List, [], ◌∷◌, ◌++◌}
+use Rattle.std.specs.Prelude.{◌≡◌, ◌≤◌, ℕ, ◌+◌, ◌==◌, Bool, true, false, not, ◌||◌, ◌&&◌, List, [], ◌∷◌, ◌++◌}
 use Rattle.std.specs.declared.snapshot.Snapshot.{Snapshot}
 use Rattle.rq_engine.specs.declared.event.Event.{Event}
 use Rattle.rq_engine.specs.declared.event.Event.TheVariants.{Force}
 use Rattle.rq_shared.specs.declared.kept.Stamped.{Stamped}
 use Rattle.rq_workers.specs.declared.acts.Act.{Act}
-use Rattle.rq_workers.specs.declared.acts.Act.TheVariants.{Asked, Made, Forced}
+use Rattle.rq_workers.specs.declared.acts.Act.TheVariants.{Asked, Lacked, Made, Forced}
 use Rattle.rq_workers.specs.declared.acts.Heard.{Heard}
 use Rattle.rq_model.specs.History.{Call}
 use Rattle.rq_model.specs.History.Call.{Step, Finish, Write_page}
@@ -13,10 +13,27 @@ use Rattle.rq_engine.specs.Says.{call_of}
 use Rattle.rq_workers.specs.Hearing.{heard_of, starts_one}
 use Rattle.rq_workers.specs.Forcing.{most_forced}
 
+-- the gate's answers, each with its point
+abbrev pub asked_in : List Act → List (ℕ × Bool)
+asked_in [] = []
+asked_in (Asked point passed ∷ acts) = (point, passed) ∷ asked_in acts
+asked_in (Lacked ∷ acts) = asked_in acts
+asked_in (Made s ∷ acts) = asked_in acts
+asked_in (Forced s ∷ acts) = asked_in acts
+
+-- how often memory was wanting for a copy
+abbrev pub lacked_in : List Act → ℕ
+lacked_in [] = 0
+lacked_in (Asked point passed ∷ acts) = lacked_in acts
+lacked_in (Lacked ∷ acts) = lacked_in acts + 1
+lacked_in (Made s ∷ acts) = lacked_in acts
+lacked_in (Forced s ∷ acts) = lacked_in acts
+
 -- the stamps of the calls
 abbrev pub stamps_in : List Act → List Stamped
 stamps_in [] = []
 stamps_in (Asked point passed ∷ acts) = stamps_in acts
+stamps_in (Lacked ∷ acts) = stamps_in acts
 stamps_in (Made s ∷ acts) = s.value ∷ stamps_in acts
 stamps_in (Forced s ∷ acts) = s.value ∷ stamps_in acts
 
@@ -24,6 +41,7 @@ stamps_in (Forced s ∷ acts) = s.value ∷ stamps_in acts
 abbrev pub forced_in : List Act → List Stamped
 forced_in [] = []
 forced_in (Asked point passed ∷ acts) = forced_in acts
+forced_in (Lacked ∷ acts) = forced_in acts
 forced_in (Made s ∷ acts) = forced_in acts
 forced_in (Forced s ∷ acts) = s.value ∷ forced_in acts
 
@@ -31,15 +49,9 @@ forced_in (Forced s ∷ acts) = s.value ∷ forced_in acts
 abbrev pub was_stopped : List Act → Bool
 was_stopped [] = false
 was_stopped (Asked point passed ∷ acts) = not passed || was_stopped acts
+was_stopped (Lacked ∷ acts) = was_stopped acts
 was_stopped (Made s ∷ acts) = was_stopped acts
 was_stopped (Forced s ∷ acts) = was_stopped acts
-
--- a gate may have answered so
-abbrev pub AreAnswers : (ℕ → Bool → Type 0) → List Act → Type 0
-AreAnswers says [] = Unit {0}
-AreAnswers says (Asked point passed ∷ acts) = says point passed × AreAnswers says acts
-AreAnswers says (Made s ∷ acts) = AreAnswers says acts
-AreAnswers says (Forced s ∷ acts) = AreAnswers says acts
 
 -- the newest act is a gate that was passed at this point
 abbrev pub passed_at : ℕ → List Act → Bool
@@ -58,23 +70,26 @@ may_call acts c = starts_one c
 abbrev pub KeepsRule : List Act → Type 0
 KeepsRule [] = Unit {0}
 KeepsRule (Asked point passed ∷ acts) = KeepsRule acts
+KeepsRule (Lacked ∷ acts) = KeepsRule acts
 KeepsRule (Made s ∷ acts) = (may_call acts (call_of s.value.event) ≡ true) × KeepsRule acts
 KeepsRule (Forced s ∷ acts) = (passed_at 1 acts ≡ true) × KeepsRule acts
 
--- What contracts see of a worker: what it did, and its step interface as it took it.
+-- What contracts see of a worker: what it did, and what it began with: its gate and its step interface as it took them.
 pub record Work (S : Type 0) : Type 0 where
   pub done : List Act
   pub begun : S
 
--- What is so of a worker: its gate may have answered so, and what was called, forced by the interface's own force, and
--- handed on, through its step interface since it took that is what it did; what that shows is at least what was forced,
--- and nothing was done but what may be.
-pub record IsWork {S : Type 0} (says : ℕ → Bool → Type 0) (made_by forced_by told_by : S → List Stamped) (shown_by : S → ℕ)
-    (steps begun : S) (done : List Act) (has_stopped : Bool) : Type 0 where
-  pub asked : AreAnswers says done
-  pub made : made_by steps ≡ stamps_in done ++ made_by begun
-  pub forced : forced_by steps ≡ forced_in done ++ forced_by begun
-  pub told : told_by steps ≡ stamps_in done ++ told_by begun
+-- What is so of a worker: what its gate answered since it took that, and at which points, and what was called, forced by
+-- the interface's own force, and handed on, through its step interface since it took that is what it did, and so often
+-- was memory wanting for a copy; what the interface shows is at least what was forced, and nothing was done but what may
+-- be.
+pub record IsWork {G S : Type 0} (answers_by : G → List (ℕ × Bool)) (made_by forced_by told_by : S → List Stamped)
+    (lacked_by shown_by : S → ℕ) (gate : G) (steps : S) (begun : G × S) (done : List Act) (has_stopped : Bool) : Type 0 where
+  pub asked : answers_by gate ≡ asked_in done ++ answers_by begun.0
+  pub made : made_by steps ≡ stamps_in done ++ made_by begun.1
+  pub forced : forced_by steps ≡ forced_in done ++ forced_by begun.1
+  pub told : told_by steps ≡ stamps_in done ++ told_by begun.1
+  pub lacked : lacked_by steps ≡ lacked_in done + lacked_by begun.1
   pub shown : most_forced (forced_in done) ≤ shown_by steps
   pub ruled : KeepsRule done
   pub stopped : has_stopped ≡ was_stopped done

@@ -4,3 +4,4 @@ pub mod Forcing
 pub mod Acts
 pub mod Loops
 pub mod Operations
+pub mod Keeping

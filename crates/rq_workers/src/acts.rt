@@ -13,6 +13,8 @@ use std::snapshot::Snapshot;
 pub enum Act {
     /// It asked its gate at this point, and was told whether to go on.
     Asked(u32, bool),
+    /// It asked the step interface for a copy of what it was to call, and memory was wanting for it.
+    Lacked,
     /// It made a call, which this stamp answered, and handed the stamp on.
     Made(Snapshot<Stamped>),
     /// It forced by the step interface's own force, which this stamp answered, and handed the stamp on.

@@ -1,5 +1,5 @@
 //! Where a worker asks whether to go on.
-ghost use Rattle.std.specs.Prelude.{◌≡◌, ℕ, Bool};
+ghost use Rattle.std.specs.Prelude.{◌≡◌, ℕ, Bool, List, ◌∷◌};
 
 /// Before a force.
 pub const BEFORE_FORCE: u32 = 1;
@@ -15,10 +15,10 @@ pub const BEFORE_AGAIN: u32 = 4;
 
 /// What a worker asks at each point. A gate may wait, and hold the worker up for as long as it likes.
 pub trait Gate {
-    /// It may answer so at a point.
-    ghost says: { Self → ℕ → Bool → Type 0 };
+    /// Its answers so far, each with the point at which it was asked, the newest first.
+    ghost answers: { Self → List (ℕ × Bool) };
 
     /// Whether to go on. False ends the worker's loop; an operation under way is finished first.
-    fn pass(&self, point: u32) -> bool
-        ensures { says self.now point result };
+    fn pass(&mut self, point: u32) -> bool
+        ensures { answers self.new ≡ (point, result) ∷ answers self.old };
 }

@@ -57,9 +57,9 @@ impl<G: Gate + Drop, S: Steps> Worker<G, S> {
         requires { starts_one (call_of start.now) ≡ true }
         ensures { IsTried (call_of start.now) self.old result self.new }
     {
-        match start.clone() {
-            Ok(event) => self.calls(event),
-            Err(_) => Heard::Refused(Refusal::NoMemory),
+        match self.copies(start) {
+            Some(event) => self.calls(event),
+            None => Heard::Refused(Refusal::NoMemory),
         }
     }
 

@@ -1,14 +1,15 @@
 //! The step interface over a shared engine, for one thread.
-ghost use Rattle.std.specs.Prelude.{◌≡◌, ◌≤◌, List, ◌∷◌};
+ghost use Rattle.std.specs.Prelude.{◌≡◌, ◌≤◌, ◌+◌, List, [], ◌∷◌, length, IfSome, IfNone};
+ghost use Rattle.rq_engine.specs.Says.{call_of};
 ghost use Rattle.rq_shared.specs.declared.kept.Stamped.{Stamped as Stamp};
 ghost use Rattle.rq_workers.specs.Forcing.{lsn_forced};
-ghost use Rattle.rq_shared.specs.Calls.{IsCalled, IsForced};
+ghost use Rattle.rq_shared.specs.Calls.{CountsTaken, IsCalled, IsForced, IsTaken};
 
 use crate::steps::Steps;
 use crate::trail::Trail;
 use rq_disk::{LogDevice, PageDevice};
 use rq_engine::event::Event;
-use rq_shared::kept::Stamped;
+use rq_shared::kept::{Stamped, Taken};
 use rq_shared::mark::{Mark, MarkPass};
 use rq_shared::room::Pass;
 use rq_shared::shared::Front;
@@ -34,7 +35,9 @@ pub struct DropStamps {
 
 impl DropStamps {
     /// No stamp was handed over yet.
-    pub fn new() -> Self {
+    pub fn new() -> Self
+        ensures { result.handed.value ≡ [] }
+    {
         DropStamps {
             handed: Trail::empty(),
         }
@@ -60,6 +63,7 @@ pub struct SharedSteps<'a, P: PageDevice, L: LogDevice, G: Sharing, R: Wait, K: 
     keep: K,
     made: Snapshot<Trail<Stamped>>,
     forced: Snapshot<Trail<Stamped>>,
+    lacked: Snapshot<Trail<()>>,
     ghost of_mark: { seat.table ≡ mark.now },
 }
 
@@ -71,7 +75,7 @@ impl<'a, P: PageDevice + Drop, L: LogDevice + Drop, G: Sharing, R: Wait, K: Keep
     R,
     K,
 > {
-    /// Calls under this pass, and publishes by this seat of the mark.
+    /// Calls under this pass, publishes by this seat of the mark, and hands stamps on to this keep. Nothing was called yet.
     pub fn new(
         rt: &'a R,
         front: &'a Front<P, L, G>,
@@ -81,7 +85,8 @@ impl<'a, P: PageDevice + Drop, L: LogDevice + Drop, G: Sharing, R: Wait, K: Keep
         keep: K,
     ) -> Self
         requires { seat.table ≡ mark.now }
-        ensures { (result.pass ≡ pass) × (result.seat ≡ seat) }
+        ensures given { (result.pass ≡ pass) × (result.seat ≡ seat) × (result.keep ≡ keep) }
+        ensures none { (result.made.value ≡ []) × (result.forced.value ≡ []) × (result.lacked.value ≡ []) }
     {
         SharedSteps {
             rt,
@@ -92,7 +97,21 @@ impl<'a, P: PageDevice + Drop, L: LogDevice + Drop, G: Sharing, R: Wait, K: Keep
             keep,
             made: Trail::empty(),
             forced: Trail::empty(),
+            lacked: Trail::empty(),
         }
+    }
+
+    /// The entries since the audit was last taken, those of other passes too, as `Front::take_audit` answers them. The pass
+    /// counts them.
+    pub fn take_audit(&mut self) -> Taken<P, L>
+        ensures taken { IsTaken P.PageDevice L.LogDevice G.premise result }
+        ensures counted { CountsTaken self.old.pass (length result.audit) self.new.pass }
+        ensures calls { (self.new.made.value ≡ self.old.made.value) × (self.new.forced.value ≡ self.old.forced.value) }
+        ensures lacked { self.new.lacked.value ≡ self.old.lacked.value }
+        ensures seat { self.new.seat ≡ self.old.seat }
+        ensures told { K.handed self.new.keep ≡ K.handed self.old.keep }
+    {
+        self.front.take_audit(self.rt, &mut self.pass)
     }
 
     /// The pass, the seat and what keeps the stamps.
@@ -108,6 +127,7 @@ impl<'a, P: PageDevice + Drop, L: LogDevice + Drop, G: Sharing, R: Wait, K: Keep
             keep,
             made: _,
             forced: _,
+            lacked: _,
         } = self;
         (pass, seat, keep)
     }
@@ -121,6 +141,8 @@ impl<'a, P: PageDevice + Drop, L: LogDevice + Drop, G: Sharing, R: Wait, K: Keep
 
     ghost told = { λ s. K.handed s.keep };
 
+    ghost lacked = { λ s. length s.lacked.value };
+
     ghost shown = { λ s. s.seat.saw };
 
     fn call(&mut self, event: Event) -> Stamped
@@ -128,8 +150,10 @@ impl<'a, P: PageDevice + Drop, L: LogDevice + Drop, G: Sharing, R: Wait, K: Keep
         ensures made { self.new.made.value ≡ result ∷ self.old.made.value }
         ensures forced { self.new.forced.value ≡ self.old.forced.value }
         ensures told { K.handed self.new.keep ≡ K.handed self.old.keep }
+        ensures lacked { length self.new.lacked.value ≡ length self.old.lacked.value }
         ensures shown { self.old.seat.saw ≤ self.new.seat.saw }
         ensures called { IsCalled self.old.pass event result self.new.pass }
+        ensures seat { self.new.seat ≡ self.old.seat }
     {
         let stamped = self.front.call(self.rt, &mut self.pass, event);
         Trail::note(&mut self.made, &stamped);
@@ -143,6 +167,7 @@ impl<'a, P: PageDevice + Drop, L: LogDevice + Drop, G: Sharing, R: Wait, K: Keep
         ensures made { self.new.made.value ≡ result ∷ self.old.made.value }
         ensures forced { self.new.forced.value ≡ result ∷ self.old.forced.value }
         ensures told { K.handed self.new.keep ≡ K.handed self.old.keep }
+        ensures lacked { length self.new.lacked.value ≡ length self.old.lacked.value }
         ensures shown { (self.old.seat.saw ≤ self.new.seat.saw) × (lsn_forced result.reply ≤ self.new.seat.saw) }
         ensures published { IsForced self.old.pass self.old.seat result self.new.pass self.new.seat }
     {
@@ -158,9 +183,27 @@ impl<'a, P: PageDevice + Drop, L: LogDevice + Drop, G: Sharing, R: Wait, K: Keep
         ensures made { self.new.made.value ≡ self.old.made.value }
         ensures forced { self.new.forced.value ≡ self.old.forced.value }
         ensures told { K.handed self.new.keep ≡ stamped ∷ K.handed self.old.keep }
+        ensures lacked { length self.new.lacked.value ≡ length self.old.lacked.value }
         ensures shown { self.old.seat.saw ≤ self.new.seat.saw }
         ensures pass { (self.new.pass ≡ self.old.pass) × (self.new.seat ≡ self.old.seat) }
     {
         self.keep.keep(stamped);
+    }
+
+    fn copy(&mut self, event: &Event) -> Option<Event>
+        ensures copy { IfSome result (λ copy. (call_of copy ≡ call_of event.now)
+            × (length self.new.lacked.value ≡ length self.old.lacked.value)) }
+        ensures lacked { IfNone result (length self.new.lacked.value ≡ length self.old.lacked.value + 1) }
+        ensures made { self.new.made.value ≡ self.old.made.value }
+        ensures forced { self.new.forced.value ≡ self.old.forced.value }
+        ensures told { K.handed self.new.keep ≡ K.handed self.old.keep }
+        ensures shown { self.old.seat.saw ≤ self.new.seat.saw }
+        ensures pass { (self.new.pass ≡ self.old.pass) × (self.new.seat ≡ self.old.seat) }
+    {
+        let copy = event.clone().ok();
+        if copy.is_none() {
+            Trail::note(&mut self.lacked, &());
+        }
+        copy
     }
 }

@@ -1,12 +1,13 @@
 //! How a worker calls a store.
-ghost use Rattle.std.specs.Prelude.{◌≡◌, ◌≤◌, ℕ, List, ◌∷◌};
+ghost use Rattle.std.specs.Prelude.{◌≡◌, ◌≤◌, ◌+◌, ℕ, List, ◌∷◌, IfSome, IfNone};
+ghost use Rattle.rq_engine.specs.Says.{call_of};
 ghost use Rattle.rq_workers.specs.Forcing.{lsn_forced};
 ghost use Rattle.rq_shared.specs.declared.kept.Stamped.{Stamped as Stamp};
 
 use rq_engine::event::Event;
 use rq_shared::kept::Stamped;
 
-/// The calls of a store, one at a time.
+/// The calls of a store, one at a time, and the copies of what is to be called more than once.
 pub trait Steps {
     /// The stamps of the calls made so far, the newest first.
     ghost made: { Self → List Stamp };
@@ -16,6 +17,9 @@ pub trait Steps {
 
     /// The stamps handed on so far, the newest first.
     ghost told: { Self → List Stamp };
+
+    /// How often memory was wanting for a copy.
+    ghost lacked: { Self → ℕ };
 
     /// No smaller than any LSN that `force` answered, and never falling: that of `SharedSteps` is what its seat of the mark
     /// saw.
@@ -27,6 +31,7 @@ pub trait Steps {
         ensures made { made self.new ≡ result ∷ made self.old }
         ensures forced { forced self.new ≡ forced self.old }
         ensures told { told self.new ≡ told self.old }
+        ensures lacked { lacked self.new ≡ lacked self.old }
         ensures shown { shown self.old ≤ shown self.new };
 
     /// Forces. What `shown` says is at least what was forced.
@@ -35,6 +40,7 @@ pub trait Steps {
         ensures made { made self.new ≡ result ∷ made self.old }
         ensures forced { forced self.new ≡ result ∷ forced self.old }
         ensures told { told self.new ≡ told self.old }
+        ensures lacked { lacked self.new ≡ lacked self.old }
         ensures shown { (shown self.old ≤ shown self.new) × (lsn_forced result.reply ≤ shown self.new) };
 
     /// Is handed a stamp, once it was read.
@@ -42,5 +48,15 @@ pub trait Steps {
         ensures made { made self.new ≡ made self.old }
         ensures forced { forced self.new ≡ forced self.old }
         ensures told { told self.new ≡ stamped ∷ told self.old }
+        ensures lacked { lacked self.new ≡ lacked self.old }
+        ensures shown { shown self.old ≤ shown self.new };
+
+    /// A copy of what is to be called, where there is memory for it.
+    fn copy(&mut self, event: &Event) -> Option<Event>
+        ensures copy { IfSome result (λ copy. (call_of copy ≡ call_of event.now) × (lacked self.new ≡ lacked self.old)) }
+        ensures lacked { IfNone result (lacked self.new ≡ lacked self.old + 1) }
+        ensures made { made self.new ≡ made self.old }
+        ensures forced { forced self.new ≡ forced self.old }
+        ensures told { told self.new ≡ told self.old }
         ensures shown { shown self.old ≤ shown self.new };
 }

@@ -1,7 +1,7 @@
 //! A worker: a gate and a step interface, and what was done through them.
-ghost use Rattle.std.specs.Prelude.{◌≡◌, ◌≤◌, [], ◌∷◌, ◌++◌, true, not};
+ghost use Rattle.std.specs.Prelude.{◌≡◌, ◌≤◌, ◌+◌, [], ◌∷◌, ◌++◌, true, not, IfSome, IfNone};
 ghost use Rattle.rq_engine.specs.Says.{call_of};
-ghost use Rattle.rq_workers.specs.Acts.{stamps_in, forced_in, was_stopped, passed_at, may_call, KeepsRule, DidOne, IsCalled, IsForced};
+ghost use Rattle.rq_workers.specs.Acts.{asked_in, stamps_in, forced_in, lacked_in, was_stopped, passed_at, may_call, KeepsRule, DidOne, IsCalled, IsForced};
 ghost use Rattle.rq_workers.specs.Forcing.{most_forced};
 
 use crate::acts::{Act, Heard, heard_in};
@@ -13,7 +13,7 @@ use std::marker::Model;
 use std::snapshot::Snapshot;
 
 /// A gate and a step interface, through which a worker does all that it does. Contracts see its acts, the newest first,
-/// and the step interface as the worker took it.
+/// and the gate and the step interface as the worker took them.
 #[derive(Drop)]
 pub struct Worker<G: Gate, S: Steps> {
     gate: G,
@@ -21,31 +21,34 @@ pub struct Worker<G: Gate, S: Steps> {
     // the gate said no
     stopped: bool,
     done: Snapshot<Trail<Act>>,
+    opened: Snapshot<G>,
     begun: Snapshot<S>,
 }
 
 impl<G: Gate, S: Steps> Model for Worker<G, S> {
     ghost use Rattle.rq_workers.specs.Acts.{Work, IsWork};
 
-    ghost Value = { Work S };
+    ghost Value = { Work (G × S) };
 
-    ghost view = { λ w. record { done = w.done.value; begun = w.begun.value } };
+    ghost view = { λ w. record { done = w.done.value; begun = (w.opened.value, w.begun.value) } };
 
-    ghost invariant = { λ w. IsWork (G.says w.gate) S.made S.forced S.told S.shown w.steps w.begun.value w.done.value
-        w.stopped };
+    ghost invariant = { λ w. IsWork G.answers S.made S.forced S.told S.lacked S.shown w.gate w.steps
+        (w.opened.value, w.begun.value) w.done.value w.stopped };
 }
 
 impl<G: Gate + Drop, S: Steps> Worker<G, S> {
     /// Takes a gate and a step interface, and has done nothing.
     pub fn new(gate: G, steps: S) -> Self
-        ensures { result ≡ record { done = []; begun = steps } }
+        ensures { result ≡ record { done = []; begun = (gate, steps) } }
     {
+        let opened = Snapshot::of(&gate);
         let begun = Snapshot::of(&steps);
         Worker {
             gate,
             steps,
             stopped: false,
             done: Trail::empty(),
+            opened,
             begun,
         }
     }
@@ -67,6 +70,18 @@ impl<G: Gate + Drop, S: Steps> Worker<G, S> {
         }
         Trail::note(&mut self.done, &Act::Asked(point, passed));
         passed
+    }
+
+    // A copy of what is to be called, where there is memory for it.
+    pub(crate) fn copies(&mut self, event: &Event) -> Option<Event>
+        ensures copy { IfSome result (λ copy. (call_of copy ≡ call_of event.now) × (self.new ≡ self.old)) }
+        ensures lacked { IfNone result (DidOne Act.Lacked self.old self.new) }
+    {
+        let copy = self.steps.copy(event);
+        if copy.is_none() {
+            Trail::note(&mut self.done, &Act::Lacked);
+        }
+        copy
     }
 
     // Makes a call, and hands its stamp on.
@@ -93,23 +108,39 @@ impl<G: Gate + Drop, S: Steps> Worker<G, S> {
         answer
     }
 
-    /// The step interface. What was called through it since the worker took it, forced by its own force, and handed
-    /// on, is what the worker did, and what `shown` says of it is at least what was forced. Each force came directly behind
-    /// a gate that was passed for it, each page's write too, and every other call was one of an operation.
-    pub fn into_steps(self) -> S
-        ensures made { S.made result ≡ stamps_in self.done ++ S.made self.begun }
-        ensures forced { S.forced result ≡ forced_in self.done ++ S.forced self.begun }
-        ensures told { S.told result ≡ stamps_in self.done ++ S.told self.begun }
-        ensures shown { most_forced (forced_in self.done) ≤ S.shown result }
+    /// The gate and the step interface. What the gate was asked and answered since the worker took it, and what was
+    /// called through the step interface, forced by its own force, and handed on, is what the worker did, and what `shown`
+    /// says is at least what was forced. Each force came directly behind a gate that was passed for it, each page's write
+    /// too, and every other call was one of an operation.
+    pub fn into_parts(self) -> (G, S)
+        ensures asked { G.answers result.0 ≡ asked_in self.done ++ G.answers self.begun.0 }
+        ensures made { S.made result.1 ≡ stamps_in self.done ++ S.made self.begun.1 }
+        ensures forced { S.forced result.1 ≡ forced_in self.done ++ S.forced self.begun.1 }
+        ensures told { S.told result.1 ≡ stamps_in self.done ++ S.told self.begun.1 }
+        ensures lacked { S.lacked result.1 ≡ lacked_in self.done + S.lacked self.begun.1 }
+        ensures shown { most_forced (forced_in self.done) ≤ S.shown result.1 }
         ensures ruled { KeepsRule self.done }
     {
         let Worker {
-            gate: _,
+            gate,
             steps,
             stopped: _,
             done: _,
+            opened: _,
             begun: _,
         } = self;
+        (gate, steps)
+    }
+
+    /// The step interface, as `into_parts` answers it.
+    pub fn into_steps(self) -> S
+        ensures made { S.made result ≡ stamps_in self.done ++ S.made self.begun.1 }
+        ensures forced { S.forced result ≡ forced_in self.done ++ S.forced self.begun.1 }
+        ensures told { S.told result ≡ stamps_in self.done ++ S.told self.begun.1 }
+        ensures shown { most_forced (forced_in self.done) ≤ S.shown result }
+        ensures ruled { KeepsRule self.done }
+    {
+        let (_, steps) = self.into_parts();
         steps
     }
 }

@@ -183,7 +183,7 @@ fn row_behind(happening: &Happening, told: &Told, before: Before) -> u64 {
 // none.
 fn first_fault(alloc: Global, seed: u64, met: &mut Met) -> Result<u64, AllocError> {
     let happenings = drawn(alloc, seed)?;
-    let entries = run(alloc, &happenings)?;
+    let entries = run(alloc, 1, &happenings)?;
     compared(alloc, &happenings, &entries, met)
 }
 

@@ -104,6 +104,8 @@ pub enum Step {
     HoldsLetters(usize),
     /// The content: nothing.
     HoldsNothing,
+    /// The content of a store of two directory pages: nothing.
+    HoldsNothingWide,
     Ack(u64, Told),
     /// The nth device call from now fails.
     Fail(u64),
@@ -150,26 +152,51 @@ pub fn check(
     first: &[Step],
     then: &[Step],
 ) -> Result<(), Fail> {
-    let fault = first_fault(rt.alloc(), first, then)?;
+    check_in(rt, 1, case, first, then)
+}
+
+/// The same of a store of two directory and two cell pages.
+pub fn check_wide(
+    rt: &(impl Abort + AllocGlobal),
+    case: u64,
+    first: &[Step],
+    then: &[Step],
+) -> Result<(), Fail> {
+    check_in(rt, 2, case, first, then)
+}
+
+fn check_in(
+    rt: &(impl Abort + AllocGlobal),
+    pages: u32,
+    case: u64,
+    first: &[Step],
+    then: &[Step],
+) -> Result<(), Fail> {
+    let fault = first_fault(rt.alloc(), pages, first, then)?;
     assert_eq!(rt; fault, 0, "case {case}");
     Ok(())
 }
 
 // The number of the first step that came to something else, 0 where there is none.
-fn first_fault(alloc: Global, first: &[Step], then: &[Step]) -> Result<u64, AllocError> {
+fn first_fault(
+    alloc: Global,
+    pages: u32,
+    first: &[Step],
+    then: &[Step],
+) -> Result<u64, AllocError> {
     let mut course = Course {
         alloc,
         happenings: Vec::new(alloc),
     };
     course.add_all(first)?;
     course.add_all(then)?;
-    let entries = run(alloc, &course.happenings)?;
+    let entries = run(alloc, pages, &course.happenings)?;
     Ok(compared(&entries, first, then))
 }
 
-/// What these happenings come to in a small store: one directory page and one cell page.
-pub fn run(alloc: Global, happenings: &[Happening]) -> Result<Vec<Entry>, AllocError> {
-    let Some(layout) = Layout::new(1, 1) else {
+/// What these happenings come to in a store of so many directory pages, and as many cell pages.
+pub fn run(alloc: Global, pages: u32, happenings: &[Happening]) -> Result<Vec<Entry>, AllocError> {
+    let Some(layout) = Layout::new(pages, pages) else {
         return Ok(Vec::new(alloc));
     };
     let Outcome {
@@ -251,9 +278,11 @@ fn made(alloc: Global, step: &Step) -> Result<Happening, AllocError> {
         }
         Step::Receive(txn, ..) => Happening::Call(Event::StartReceive(*txn)),
         Step::ReceiveFirst(sub, ..) => Happening::Call(Event::StartReceive(sub.txn)),
-        Step::Holds(_) | Step::HoldsBoth(..) | Step::HoldsLetters(_) | Step::HoldsNothing => {
-            Happening::Call(Event::Content)
-        }
+        Step::Holds(_)
+        | Step::HoldsBoth(..)
+        | Step::HoldsLetters(_)
+        | Step::HoldsNothing
+        | Step::HoldsNothingWide => Happening::Call(Event::Content),
         Step::Ack(n, _) => Happening::Ack(*n),
         Step::Fail(n) => Happening::Fail(*n),
         Step::Crash(keep, images, _) => Happening::Crash(choice(alloc, *keep, *images)?),
@@ -350,11 +379,14 @@ fn is_so(entries: &[Entry], place: usize, step: &Step) -> bool {
             };
             tells(entries, place, Told::Started(sub))
         }
-        Step::Holds(_) | Step::HoldsBoth(..) | Step::HoldsLetters(_) | Step::HoldsNothing =>
-            match entries.get(place) {
-                Some(entry) => is_content(entry, step),
-                None => false,
-            },
+        Step::Holds(_)
+        | Step::HoldsBoth(..)
+        | Step::HoldsLetters(_)
+        | Step::HoldsNothing
+        | Step::HoldsNothingWide => match entries.get(place) {
+            Some(entry) => is_content(entry, step),
+            None => false,
+        },
         _ => tells(entries, place, told_for(step)),
     }
 }
@@ -420,10 +452,18 @@ fn is_received(entries: &[Entry], place: usize, sender: u32, tag: u64, text: Tex
 fn is_content(entry: &Entry, step: &Step) -> bool {
     match entry {
         Entry::Answered(reply) => match reply {
-            Reply::Content(groups) => groups.len() == 15 && hold(groups, step),
+            Reply::Content(groups) => groups.len() == senders(step) && hold(groups, step),
             _ => false,
         },
         _ => false,
+    }
+}
+
+// How many senders a store has, as this step says of it.
+fn senders(step: &Step) -> usize {
+    match step {
+        Step::HoldsNothingWide => 30,
+        _ => 15,
     }
 }
 

@@ -9,8 +9,11 @@ pub const DIRECTORY: u32 = 1;
 /// Its page of cells.
 pub const CELLS: u32 = 2;
 
-/// The bytes that a log is read by.
-const CHUNK: u64 = 4096;
+/// The most bytes of a log that are read and not taken.
+const WINDOW: u64 = 65_536;
+
+/// The bytes of the longest record: where fewer are left of what was read, it is read on.
+const LONGEST: u64 = 546;
 
 /// What an operation did, as far as a restart that undoes it tells by its records.
 #[derive(Clone, Copy)]
@@ -130,6 +133,34 @@ impl Images {
     fn load(&mut self) {
         self.lsn = self.newest();
         self.changed = false;
+    }
+}
+
+// How far a log of so many bytes is read, and how many of them are taken; how many reads there were, and whether one came
+// short.
+#[derive(Drop)]
+struct Window {
+    total: u64,
+    read: u64,
+    taken: u64,
+    reads: u64,
+    is_short: bool,
+}
+
+impl Window {
+    // Reads on, where fewer bytes than the longest record has are left of what was read.
+    fn fill(&mut self) {
+        let left = self.read.saturating_sub(self.taken);
+        if self.is_short || left >= LONGEST {
+            return;
+        }
+        let behind = self.total.saturating_sub(self.read);
+        let room = WINDOW.saturating_sub(left);
+        self.is_short = behind < room;
+        self.read = self
+            .read
+            .saturating_add(if self.is_short { behind } else { room });
+        self.reads = self.reads.saturating_add(1);
     }
 }
 
@@ -303,7 +334,7 @@ impl Disk {
         }
     }
 
-    // Reads three pages, and the log until a read finds its end.
+    // Reads three pages, and the log until a read comes short.
     fn read_all(&mut self) -> Result<(), Refusal> {
         for _ in 0..self.reads() {
             self.read()?;
@@ -313,11 +344,23 @@ impl Disk {
 
     /// How many reads an opening makes.
     pub fn reads(&self) -> u64 {
-        let mut bytes: u64 = 0;
+        let mut total: u64 = 0;
         for record in &self.records {
-            bytes = bytes.saturating_add(bytes_of(record));
+            total = total.saturating_add(bytes_of(record));
         }
-        bytes.div_ceil(CHUNK).saturating_add(4)
+        let mut window = Window {
+            total,
+            read: 0,
+            taken: 0,
+            reads: 3,
+            is_short: false,
+        };
+        for record in &self.records {
+            window.fill();
+            window.taken = window.taken.saturating_add(bytes_of(record));
+        }
+        window.fill();
+        window.reads
     }
 
     /// Opens the store, whose records are all handed over: reads everything, makes the changes that pages lack, undoes

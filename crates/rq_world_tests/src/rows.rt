@@ -1,8 +1,8 @@
 //! Worked courses: one message, from its send over a crash to its receive, or to a receive that is undone; and what a
 //! crash cuts off of a few transactions.
 use crate::course::{
-    ALL, Ask, FIRST, Images, SECOND, Sent, Step, THIRD, Text, check, restarted, restarted_losing,
-    restarted_undoing,
+    ALL, Ask, FIRST, Images, SECOND, Sent, Step, THIRD, Text, check, check_wide, restarted,
+    restarted_losing, restarted_undoing,
 };
 use crate::told::Told;
 use rq_engine::event::LastTag;
@@ -294,14 +294,11 @@ const fn cut_in_an_inverse() -> [Step; 11] {
     ]
 }
 
-/// A restart of that store reads three pages, and the log three times. This is its next device call, the append.
-const APPEND: u64 = 7;
+/// A restart of that store reads three pages, and the log once. This is its next device call, the append.
+const APPEND: u64 = 5;
 
 /// The call behind it, the force.
-const FORCE: u64 = 8;
-
-/// The append where the log has fewer than 4,096 bytes, and is read twice.
-const SHORT_APPEND: u64 = 6;
+const FORCE: u64 = 6;
 
 #[test]
 fn restarts_that_are_stopped_go_on(rt: HostRuntime) -> Result<(), Fail> {
@@ -385,11 +382,7 @@ fn lost_transactions_with_nothing_left_end_first(rt: HostRuntime) -> Result<(), 
         (6, restarted(3, 17)),
     ] {
         let end = [
-            Step::RestartStop(
-                SHORT_APPEND,
-                keep,
-                Told::Crashed(u64::saturating_add(keep, 10)),
-            ),
+            Step::RestartStop(APPEND, keep, Told::Crashed(u64::saturating_add(keep, 10))),
             Step::Restart(opened),
             Step::HoldsNothing,
         ];
@@ -421,11 +414,7 @@ fn each_lost_transaction_ends_behind_its_last_inverse(rt: HostRuntime) -> Result
         (8, restarted(2, 16)),
     ] {
         let end = [
-            Step::RestartStop(
-                SHORT_APPEND,
-                keep,
-                Told::Crashed(u64::saturating_add(keep, 7)),
-            ),
+            Step::RestartStop(APPEND, keep, Told::Crashed(u64::saturating_add(keep, 7))),
             Step::Restart(opened),
             Step::HoldsNothing,
         ];
@@ -445,7 +434,7 @@ fn a_restart_is_stopped_in_its_reads_or_not_at_all(rt: HostRuntime) -> Result<()
         ];
         check(&rt, call, &cut_in_an_inverse(), &end)?;
     }
-    for call in [0, 9] {
+    for call in [0, 7] {
         let end = [
             Step::RestartStop(call, 0, restarted_losing(2, 1, 1, 26)),
             Step::Crash(0, Images::Unsaid, 26),
@@ -501,4 +490,57 @@ fn the_calls_of_an_abort_touch_no_device(rt: HostRuntime) -> Result<(), Fail> {
         Step::Holds(sent(1, Text::A, true)),
     ];
     check(&rt, 0, &course, &end)
+}
+
+// Two transactions have each written one slot of a send, of groups and cells on pages of their own.
+const fn two_under_way() -> [Step; 9] {
+    [
+        Step::Restart(restarted(1, 1)),
+        Step::Call(Ask::Begin, Told::Begun(FIRST)),
+        Step::Call(Ask::Begin, Told::Begun(SECOND)),
+        Step::StartSend(FIRST, 0, 1, Text::A),
+        Step::StartSend(SECOND, 15, 1, Text::B),
+        Step::Call(Ask::Step(operation(FIRST, 1)), Told::Stepped(2)),
+        Step::Call(Ask::Step(operation(SECOND, 1)), Told::Stepped(3)),
+        Step::Call(Ask::Force, Told::Forced(3)),
+        Step::Crash(0, Images::Unsaid, 3),
+    ]
+}
+
+/// The append of a restart of that store, which reads five pages, and the log once.
+const WIDE_APPEND: u64 = 7;
+
+#[test]
+fn operations_of_several_transactions_are_undone(rt: HostRuntime) -> Result<(), Fail> {
+    let end = [
+        Step::Restart(restarted_undoing(2, 2, 8)),
+        Step::HoldsNothingWide,
+    ];
+    check_wide(&rt, 0, &two_under_way(), &end)
+}
+
+// The restart makes five records: the newest slot is undone first, and an operation has its end at once behind its last
+// one. Between any two, a second restart goes on.
+#[test]
+fn a_restart_that_undoes_two_operations_is_stopped(rt: HostRuntime) -> Result<(), Fail> {
+    for (keep, opened) in [
+        (0, restarted_undoing(2, 2, 8)),
+        (1, restarted_undoing(2, 2, 8)),
+        (2, restarted_undoing(2, 1, 8)),
+        (3, restarted_undoing(2, 1, 8)),
+        (4, restarted(2, 8)),
+        (5, restarted(3, 9)),
+    ] {
+        let end = [
+            Step::RestartStop(
+                WIDE_APPEND,
+                keep,
+                Told::Crashed(u64::saturating_add(keep, 3)),
+            ),
+            Step::Restart(opened),
+            Step::HoldsNothingWide,
+        ];
+        check_wide(&rt, keep, &two_under_way(), &end)?;
+    }
+    Ok(())
 }

@@ -154,11 +154,11 @@ fn each_image_that_was_written_may_be_left(rt: HostRuntime) -> Result<(), Fail> 
     Ok(())
 }
 
-// A restart of this store reads three pages, and the log until a read finds its end: five device calls. The sixth
-// appends, the seventh forces.
+// A restart of this store reads three pages, and the log by a read that comes to its end: four device calls. The fifth
+// appends, the sixth forces.
 #[test]
 fn stops_in_a_restart(rt: HostRuntime) -> Result<(), Fail> {
-    for n in 1..8 {
+    for n in 1..7 {
         let lost = [
             Step::RestartStop(n, 0, Told::Crashed(5)),
             Step::Restart(restarted(2, 6)),
@@ -166,8 +166,8 @@ fn stops_in_a_restart(rt: HostRuntime) -> Result<(), Fail> {
         ];
         check(&rt, n, &crashed(), &lost)?;
         let kept = [
-            Step::RestartStop(n, ALL, Told::Crashed(if n < 6 { 5 } else { 6 })),
-            Step::Restart(if n < 6 {
+            Step::RestartStop(n, ALL, Told::Crashed(if n < 5 { 5 } else { 6 })),
+            Step::Restart(if n < 5 {
                 restarted(2, 6)
             } else {
                 restarted(3, 7)
@@ -176,7 +176,7 @@ fn stops_in_a_restart(rt: HostRuntime) -> Result<(), Fail> {
         ];
         check(&rt, n, &crashed(), &kept)?;
     }
-    for n in [0, 8, u64::MAX] {
+    for n in [0, 7, u64::MAX] {
         let whole = [
             Step::RestartStop(n, 0, restarted(2, 6)),
             Step::Crash(0, NEWEST, 6),
@@ -192,9 +192,9 @@ fn stops_in_a_restart(rt: HostRuntime) -> Result<(), Fail> {
 #[test]
 fn restarts_that_are_stopped_one_after_the_other(rt: HostRuntime) -> Result<(), Fail> {
     let end = [
-        Step::RestartStop(6, 1, Told::Crashed(6)),
-        Step::RestartStop(7, 0, Told::Crashed(6)),
-        Step::RestartStop(6, ALL, Told::Crashed(7)),
+        Step::RestartStop(5, 1, Told::Crashed(6)),
+        Step::RestartStop(6, 0, Told::Crashed(6)),
+        Step::RestartStop(5, ALL, Told::Crashed(7)),
         Step::Restart(restarted(4, 8)),
         Step::Holds(WAITS),
     ];
@@ -326,7 +326,7 @@ fn a_crash_of_a_store_that_is_not_open_leaves_all(rt: HostRuntime) -> Result<(),
         Step::Call(Ask::Force, Told::Forced(5)),
         Step::Call(Ask::Write(1), Told::Written),
         Step::Crash(0, Images::Two(0, 9), 5),
-        Step::Fail(7),
+        Step::Fail(6),
         Step::Restart(Told::Shut(Refusal::DiskWrite)),
         Step::Crash(0, Images::Three(0, 0, 0), 6),
         Step::Crash(ALL, NEWEST, 6),
@@ -346,9 +346,8 @@ fn a_restart_that_a_device_fails(rt: HostRuntime) -> Result<(), Fail> {
         (2, Refusal::DiskRead, restarted(2, 6)),
         (3, Refusal::DiskRead, restarted(2, 6)),
         (4, Refusal::DiskRead, restarted(2, 6)),
-        (5, Refusal::DiskRead, restarted(2, 6)),
-        (6, Refusal::DiskWrite, restarted(2, 6)),
-        (7, Refusal::DiskWrite, restarted(3, 7)),
+        (5, Refusal::DiskWrite, restarted(2, 6)),
+        (6, Refusal::DiskWrite, restarted(3, 7)),
     ] {
         let end = [
             Step::Fail(n),

@@ -5,6 +5,6 @@ use Rattle.call_count.proofs.by_four.Given as goal
 abbrev pub ghosts-share-G-Ledger : goal.ghosts-share-G-Ledger
 ghosts-share-G-Ledger g a = record { name = a.blank.name; parts = a.blank.parts }
 
--- the premise is that the engine which is shared is sound
+-- the premise is that the engine which is shared is sound, and the ledger of what is taken is that of the second blank
 abbrev pub ghosts-share-G-Sharing : goal.ghosts-share-G-Sharing
-ghosts-share-G-Sharing g a = record { premise = IsSound a.engine.state }
+ghosts-share-G-Sharing g a = record { premise = IsSound a.engine.state; taking = a.taking.name }

@@ -15,6 +15,6 @@ returns-in-Ok-true-clause-answered g c =
     let asked : asked_by c.in-Ok.op ≡ to_undo (deed_in c.in-OpEnd.deed) = ap asked_by c.in-Ok.ensures ∙ ap (asked_in true) c.as_slice.ensures.bytes in
     let all : HasGatheredFor s c.gather.new.slots (asked_by c.in-Ok.op) = on_true c.in-Ok-true.field-0 (HasGatheredFor s c.gather.new.slots (asked_by c.in-Ok.op)) c.in-Ok-true.field-0-test c.in-Ok-true.ensures.all in
     subst (λ (r : Result (Option Plan) Refusal). IsAnswered s (g.B.Level.kept c.args.level.now) (undone_by c.args.told.now) r (g.B.Level.kept c.undo-in-Ok-true.new.self)) (sym c.found.ensures)
-    (back_answered s (g.B.Level.kept c.args.level.now) c.gather.new.slots c.args.latched.now.pages c.requires.cells c.requires.latched (g.B.Level.kept c.undo-in-Ok-true.new.self) (g.B.Level.level c.args.level.now) c.args.told.now
+    (back_answered s (g.B.Level.kept c.args.level.now) c.gather.new.slots c.latched.result.now.pages c.requires.cells c.latched.ensures (g.B.Level.kept c.undo-in-Ok-true.new.self) (g.B.Level.level c.args.level.now) c.args.told.now
     c.in-OpEnd.txn c.in-OpEnd.operation c.in-OpEnd.number c.in-OpEnd.deed c.undo-in-Ok-true.result
     c.requires.number c.in-OpEnd.is (subst (HasGatheredFor s c.gather.new.slots) asked all) c.undo-in-Ok-true.ensures.answer)

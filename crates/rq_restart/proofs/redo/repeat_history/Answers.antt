@@ -1,61 +1,53 @@
-use Rattle.std.proofs.Common.{◌≡◌, ◌+◌, ◌∷◌, ◌∙◌, sym, subst, reverse, IsTrue, refl}
-use Rattle.std.proofs.lemmas.Bool.{false≢true}
+use Rattle.std.proofs.Common.{◌≡◌, ◌+◌, ◌∷◌, ℕ, List, length, ap, subst, sym, ◌∙◌, arith}
+use Rattle.rq_model.specs.declared.record.Record.{Record}
 use Rattle.rq_page.specs.Sizes.{Sizes}
-use Rattle.rq_store.specs.Opening.{MayRedo}
-use Rattle.rq_store.specs.Fitting.{oldest, image_in}
-use Rattle.rq_restart.specs.Repeating.{paged}
-use Rattle.rq_restart.proofs.Going.{oldest_item, found_more, redone_more, repeated_more, first_bad, left_follows, may_be_redone}
+use Rattle.rq_log.specs.Reading.{BeginsWith}
+use Rattle.rq_log.specs.Spelled.{AreSpelled}
+use Rattle.rq_restart.specs.Found.{AreFindings}
+use Rattle.rq_restart.specs.Overwritten.{AreKept}
+use Rattle.rq_restart.specs.Refused.{IsStoppedBehind, NotRepeated}
+use Rattle.rq_restart.specs.Repeating.{IsRepeated, Repeats, paged}
+use Rattle.rq_restart.proofs.Going.{stopped_next}
 use Rattle.rq_restart.proofs.redo.repeat_history.Goals as goal
-use Rattle.rq_restart.proofs.redo.repeat_history.Goals.{then-not-is_next-via-then-not-is_next, then-not-is_next-via-else-not-is_next+then-not-repeat}
 
-pub returns-then-not-is_next-clause-err : goal.returns-then-not-is_next-clause-err
-returns-then-not-is_next-clause-err g c =
-    let z : Sizes = c.args.pages.now.sizes in
-    let first = image_in c.args.pages.now.images in
-    let xs = c.args.records.now in
-    let i = c.loop-index.index in
-    let r = c.index-records-index.result in
-    let lt = c.loop-index-test.true in
-    let grows : oldest (i + 1) (reverse xs) ≡ r ∷ oldest i (reverse xs) = oldest_item xs i r lt c.index-records-index.is in
-    λ left. elim c.then-not-is_next.branch [
-      | then-not-is_next-via-then-not-is_next w ↦
-          let k : IsTrue c.in_ok-is_next.is_next = (c.in_ok-is_next.ensures.next (oldest i (reverse xs)) c.loop-index.invariant.found).1 (left_follows z first xs i r lt grows left) in
-          absurd (false≢true (rw w.if-not-is_next.true at k))
-      | then-not-is_next-via-else-not-is_next+then-not-repeat w ↦
-          w.repeat.ensures.refused w.if-not-repeat.true
-          (subst (λ (y : Sizes). MayRedo y (image_in c.loop-index.pages.images) (i + 1) r) (sym c.loop-index.invariant.sizes) (may_be_redone z first xs i r lt grows (image_in c.loop-index.pages.images) c.loop-index.invariant.redone left))
-    ]
-
-pub loop-index-preserved : goal.loop-index-preserved
-loop-index-preserved g c =
-    let z : Sizes = c.args.pages.now.sizes in
-    let first = image_in c.args.pages.now.images in
-    let xs = c.args.records.now in
-    let i = c.loop-index.index in
-    let r = c.index-records-index.result in
-    let lt = c.loop-index-test.true in
-    let grows : oldest (i + 1) (reverse xs) ≡ r ∷ oldest i (reverse xs) = oldest_item xs i r lt c.index-records-index.is in
-    let next = (c.in_ok-is_next.ensures.next (oldest i (reverse xs)) c.loop-index.invariant.found).0 c.if-not-is_next.false in
+pub loop-gone-preserved : goal.loop-gone-preserved
+loop-gone-preserved g c =
+    let z = c.args.pages.now.sizes in
+    let front = c.loop-gone.reader.records in
+    let r = c.in-Some.record in
+    let so_far = c.loop-gone.invariant in
+    let grown : c.next.new.self.records ≡ r ∷ front = rw c.in-Some.is at c.in_ok-record.ensures.some in
+    let size : length c.next.new.self.records ≡ length front + 1 = (let e = ap length grown in omega (arith, e)) in
+    let place : c.last.result ≡ length front + 1 = c.last.ensures ∙ size in
+    let made = c.in-Ok.ensures in
+    let one : IsRepeated z front r (paged c.loop-gone.pages) (paged c.repeat_next.new.pages) = subst (λ (y : Sizes). IsRepeated y front r (paged c.loop-gone.pages) (paged c.repeat_next.new.pages)) so_far.sizes (made.repeated front place so_far.found) in
+    let kept : AreKept z c.last.result (paged c.args.pages.now) (paged c.repeat_next.new.pages) c.repeat_next.new.gone.overwritten.numbers.items =
+    subst (λ (y : Sizes). AreKept y c.last.result (paged c.args.pages.now) (paged c.repeat_next.new.pages) c.repeat_next.new.gone.overwritten.numbers.items) so_far.sizes
+    (made.kept (paged c.args.pages.now) (length front) place (subst (λ (y : Sizes). AreKept y (length front) (paged c.args.pages.now) (paged c.loop-gone.pages) c.loop-gone.gone.overwritten.numbers.items) (sym so_far.sizes) so_far.kept)) in
     record {
-      found = found_more z first xs i r lt grows c.loop-index.findings c.note.new.self c.loop-index.invariant.found next c.in_ok-is_next.ensures.noted;
-      repeated = repeated_more z first xs i r lt grows (paged c.args.pages.now) (paged c.loop-index.pages) (paged c.repeat.new.pages) c.loop-index.pages.sizes c.loop-index.invariant.sizes
-          c.loop-index.invariant.repeated next (c.if-not-repeat.ensures.checked refl) (c.if-not-repeat.ensures.redone refl) (c.if-not-repeat.ensures.marked refl);
-      redone = redone_more z first xs i r lt grows (image_in c.loop-index.pages.images) (image_in c.repeat.new.pages.images) (c.if-not-repeat.ensures.redone refl) c.loop-index.invariant.redone;
-      sizes = c.repeat.ensures.sizes ∙ c.loop-index.invariant.sizes;
-      device = c.repeat.ensures.device ∙ c.loop-index.invariant.device;
+      found = subst (AreFindings c.repeat_next.new.gone.findings) (sym grown) (made.found front place so_far.found);
+      repeated = subst (λ (l : List Record). Repeats z l (paged c.args.pages.now) (paged c.repeat_next.new.pages)) (sym grown) (paged c.loop-gone.pages, so_far.repeated, one);
+      kept = subst (λ n. AreKept z n (paged c.args.pages.now) (paged c.repeat_next.new.pages) c.repeat_next.new.gone.overwritten.numbers.items) c.last.ensures kept;
+      reading = c.next.ensures.reading;
+      first = c.next.ensures.first ∙ so_far.first;
+      counted = c.in_ok-record.ensures.cause ∙ so_far.counted;
+      sizes = c.repeat_next.ensures.sizes ∙ so_far.sizes;
+      device = c.repeat_next.ensures.device ∙ so_far.device;
     }
 
-pub returns-then-not-is_next-clause-stops : goal.returns-then-not-is_next-clause-stops
-returns-then-not-is_next-clause-stops g c =
-    let z : Sizes = c.args.pages.now.sizes in
-    let first = image_in c.args.pages.now.images in
-    let xs = c.args.records.now in
-    let i = c.loop-index.index in
-    let r = c.index-records-index.result in
-    let lt = c.loop-index-test.true in
-    let grows : oldest (i + 1) (reverse xs) ≡ r ∷ oldest i (reverse xs) = oldest_item xs i r lt c.index-records-index.is in
-    first_bad z first xs i r lt grows (paged c.args.pages.now) (paged c.loop-index.pages) c.loop-index.pages.sizes c.loop-index.invariant.sizes c.loop-index.invariant.repeated
-    (λ next may. elim c.then-not-is_next.branch [
-      | then-not-is_next-via-then-not-is_next w ↦ absurd (false≢true (rw w.if-not-is_next.true at ((c.in_ok-is_next.ensures.next (oldest i (reverse xs)) c.loop-index.invariant.found).1 next)))
-      | then-not-is_next-via-else-not-is_next+then-not-repeat w ↦ w.repeat.ensures.refused w.if-not-repeat.true may
-    ])
+pub returns-in-Err-clause-stopped : goal.returns-in-Err-clause-stopped
+returns-in-Err-clause-stopped g c =
+    let l = g.L.LogDevice in
+    let z = c.args.pages.now.sizes in
+    let front = c.loop-gone.reader.records in
+    let r = c.in-Some.record in
+    let so_far = c.loop-gone.invariant in
+    let grown : c.next.new.self.records ≡ r ∷ front = rw c.in-Some.is at c.in_ok-record.ensures.some in
+    let size : length c.next.new.self.records ≡ length front + 1 = (let e = ap length grown in omega (arith, e)) in
+    let place : c.last.result ≡ length front + 1 = c.last.ensures ∙ size in
+    let now = c.next.ensures.reading in
+    let first = c.next.new.self.first in
+    let begins : l.honest c.next.new.self.device → BeginsWith (r ∷ front) (l.seen first) = λ h. subst (λ (rs : List Record). BeginsWith rs (l.seen first)) grown (now.begins h) in
+    let counted : l.faults c.next.new.self.device ≡ l.faults first = c.in_ok-record.ensures.cause ∙ so_far.counted ∙ ap l.faults (sym (c.next.ensures.first ∙ so_far.first)) in
+    let not : NotRepeated z front r (paged c.loop-gone.pages) c.in-Err.refusal = subst (λ (y : Sizes). NotRepeated y front r (paged c.loop-gone.pages) c.in-Err.refusal) so_far.sizes (c.in-Err.ensures.not front place so_far.found) in
+    stopped_next l z (paged c.args.pages.now) first c.next.new.self.device front r (paged c.loop-gone.pages) c.in-Err.refusal (subst AreSpelled grown now.are_spelled) begins so_far.repeated now.read counted not

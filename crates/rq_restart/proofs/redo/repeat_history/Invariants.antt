@@ -1,15 +1,21 @@
-use Rattle.std.proofs.Common.{◌≡◌, reverse}
-use Rattle.rq_store.specs.Opening.{FitsUpTo, IsLeft}
-use Rattle.rq_store.specs.Fitting.{oldest, image_in}
+use Rattle.std.proofs.Common.{◌≡◌, ◌-◌, ◌^◌, length}
+use Rattle.rq_log.specs.Reading.{IsReading}
 use Rattle.rq_restart.specs.Found.{AreFindings}
+use Rattle.rq_restart.specs.Overwritten.{AreKept}
 use Rattle.rq_restart.specs.Repeating.{paged, Repeats}
 use Rattle.rq_restart.proofs.redo.repeat_history.Given as goal
 
-abbrev pub invariant-loop-index : goal.invariant-loop-index
-invariant-loop-index g l = record {
-  found : AreFindings l.findings (oldest l.index (reverse l.records));
-  repeated : Repeats l.fn.pages.sizes (oldest l.index (reverse l.records)) (paged l.fn.pages) (paged l.pages);
-  redone : IsLeft l.fn.pages.sizes (image_in l.fn.pages.images) (reverse l.records) → FitsUpTo l.fn.pages.sizes (image_in l.pages.images) (reverse l.records) l.index;
+abbrev pub invariant-loop-gone : goal.invariant-loop-gone
+invariant-loop-gone g l = record {
+  found : AreFindings l.gone.findings l.reader.records;
+  repeated : Repeats l.fn.pages.sizes l.reader.records (paged l.fn.pages) (paged l.pages);
+  kept : AreKept l.fn.pages.sizes (length l.reader.records) (paged l.fn.pages) (paged l.pages) l.gone.overwritten.numbers.items;
+  reading : IsReading g.L.LogDevice l.reader;
+  first : l.reader.first ≡ l.fn.reader.first;
+  counted : g.L.LogDevice.faults l.reader.device ≡ g.L.LogDevice.faults l.fn.reader.first;
   sizes : l.pages.sizes ≡ l.fn.pages.sizes;
   device : l.pages.device ≡ l.fn.pages.device;
 }
+
+abbrev pub decreases-loop-gone : goal.decreases-loop-gone
+decreases-loop-gone g l = 2 ^ 64 - length l.reader.records

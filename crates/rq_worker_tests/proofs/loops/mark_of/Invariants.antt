@@ -5,6 +5,6 @@ use Rattle.rq_worker_tests.proofs.loops.mark_of.Given as goal
 abbrev pub ghosts-marked-G-Ledger : goal.ghosts-marked-G-Ledger
 ghosts-marked-G-Ledger g a = record { name = a.blank.name; parts = a.blank.parts }
 
--- the premise is that the engine which is shared is sound
+-- the premise is that the engine which is shared is sound, and the ledger of what is taken is that of the second blank
 abbrev pub ghosts-marked-G-Sharing : goal.ghosts-marked-G-Sharing
-ghosts-marked-G-Sharing g a = record { premise = IsSound a.engine.state }
+ghosts-marked-G-Sharing g a = record { premise = IsSound a.engine.state; taking = a.taking.name }

@@ -28,7 +28,7 @@ returns-clause-answered g c h k =
     (abort_steps.begins c.args.self.now.state k c.in_ok-check_running.ensures.running (few c.args.self.now.state 18446744073709551615 full max)))
 
 pub invariant_of-self-2 : goal.invariant_of-self-2
-invariant_of-self-2 g c = record { kept = rw (c.in_ok-begin.ensures.ok) (kept_begun _ _ _ _ c.self.invariant.kept); durable = c.self.invariant.durable }
+invariant_of-self-2 g c = record { kept = rw (c.in_ok-begin.ensures.ok) (kept_begun _ _ _ _ c.self.invariant.kept); durable = c.self.invariant.durable; cells = c.self.invariant.cells }
 
 pub returns-clause-lists : goal.returns-clause-lists
 returns-clause-lists g c =

@@ -4,7 +4,7 @@ use Rattle.rq_page.specs.Slots.Slot.{Sender}
 use Rattle.rq_views.specs.Stored.{slots_in}
 use Rattle.rq_groups.specs.Ends.{is_free_for}
 use Rattle.rq_store.specs.State.{State}
-use Rattle.rq_engine.proofs.CloseCalls.{busy, closed, log_is_full, passes, unknown}
+use Rattle.rq_engine.proofs.CloseCalls.{busy, closed, is_open, log_is_full, passes, unknown}
 use Rattle.rq_engine.proofs.Opened.{state_is}
 use Rattle.rq_engine.proofs.engine.Engine.check_close.Goals as goal
 
@@ -51,3 +51,13 @@ returns-clause-passes g c k h =
     let free : is_free_for c.args.txn c.args.sender s.ends.sending ≡ true = ap (λ (x : State). is_free_for c.args.txn c.args.sender x.ends.sending) (sym (state_is c.self.view_is)) ∙ sym c.if-not-may_send.ensures in
     let at : slots_in s.sizes s.images (directory_at c.args.sender) ≡ Sender c.args.sender c.group.result = ap (λ (x : State). slots_in x.sizes x.images (directory_at c.args.sender)) (sym (state_is c.self.view_is)) ∙ c.group.ensures.held in
     passes s c.args.txn c.args.sender h below free c.group.result at c.if-group.false (sym c.if-is_log_full.ensures) k
+
+pub returns-clause-unclosed : goal.returns-clause-unclosed
+returns-clause-unclosed g c k h =
+    let s = c.args.self.now.state in
+    let n : c.senders.result ≡ sender_count s.sizes = c.senders.ensures.number ∙ ap sender_count (c.layout.ensures.sizes ∙ ap (λ (x : State). x.sizes) (state_is c.self.view_is)) in
+    let lt = c.if-sender-senders.false in
+    let below : c.args.sender < sender_count s.sizes = omega (arith, n, lt) in
+    let free : is_free_for c.args.txn c.args.sender s.ends.sending ≡ true = ap (λ (x : State). is_free_for c.args.txn c.args.sender x.ends.sending) (sym (state_is c.self.view_is)) ∙ sym c.if-not-may_send.ensures in
+    let at : slots_in s.sizes s.images (directory_at c.args.sender) ≡ Sender c.args.sender c.group.result = ap (λ (x : State). slots_in x.sizes x.images (directory_at c.args.sender)) (sym (state_is c.self.view_is)) ∙ c.group.ensures.held in
+    is_open s c.args.txn c.args.sender h below free c.group.result at c.if-group.false k

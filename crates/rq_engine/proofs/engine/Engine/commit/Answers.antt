@@ -23,6 +23,7 @@ invariant_of-self-2 g c =
       kept = rw (c.end.ensures, c.add_sends.ensures, c.count_sends.ensures, c.finished-finished.ensures, c.append-lsn.ensures.records, c.append-lsn.ensures.forced, room, sym failed, c.in_ok-reserve.ensures.ok)
           (commit_kept _ _ _ _ c.in_ok-check_open.field-0 c.args.txn _ c.release.new.self _ c.self.invariant.kept ready full);
       durable = rw (c.append-lsn.ensures.settled, c.in_ok-reserve.ensures.ok) c.self.invariant.durable;
+      cells = c.self.invariant.cells;
     }
 
 pub returns-clause-answered : goal.returns-clause-answered

@@ -2,7 +2,7 @@ use Rattle.std.proofs.Common.{◌≡◌, ◌+◌, refl, sym, ap, ◌∙◌, subs
 use Rattle.rq_store.specs.State.{State}
 use Rattle.rq_engine.specs.Answers.{IsUnderWay}
 use Rattle.rq_model.specs.Deeds.{spelled_deed}
-use Rattle.rq_engine.proofs.Calls.{AllMade, going_range, going_owed, end_room, end_kept}
+use Rattle.rq_engine.proofs.Calls.{AllMade, going_range, going_owed, end_fits, end_room, end_kept}
 use Rattle.rq_txn.specs.declared.Aim.TheVariants.{Doing}
 use Rattle.rq_engine.proofs.Opened.{state_is}
 use Rattle.rq_engine.proofs.engine.Engine.end.Goals as goal
@@ -34,6 +34,7 @@ invariant_of-self g c =
     let failed : c.self.inside.log.failed ≡ c.append-lsn.new.self.failed = c.self.invariant.kept.fails (ap (λ (s : State). s.failed) (state_is c.self.view_is) ∙ c.requires.running) ∙ sym c.append-lsn.ensures.failed in
     record {
       kept = rw (c.note.ensures, c.leave_out_taken.ensures, c.append-lsn.ensures.records, c.append-lsn.ensures.forced, sym failed)
-          (end_kept _ _ _ _ c.self.invariant.kept c.args.sub (Doing c.args.deed.now) h c.args.deed.now _ _ c.append-lsn.new.self.reserved room (let l = c.append-lsn.ensures.lsn in let r = ap length c.append-lsn.ensures.records in omega (arith, l, r)) refl);
+          (end_kept _ _ _ _ c.self.invariant.kept c.args.sub (Doing c.args.deed.now) h c.args.deed.now _ _ c.append-lsn.new.self.reserved room (let l = c.append-lsn.ensures.lsn in let r = ap length c.append-lsn.ensures.records in omega (arith, l, r)) refl (end_fits _ _ _ _ c.self.invariant.kept c.args.sub (Doing c.args.deed.now) h).2);
       durable = rw (c.append-lsn.ensures.settled) c.self.invariant.durable;
+      cells = c.self.invariant.cells;
     }

@@ -32,6 +32,7 @@ invariant_of-self-2 g c =
       kept = rw (c.end.ensures, c.append.ensures.records, c.append.ensures.forced, room, sym failed, c.in_ok-reserve.ensures.ok)
           (aborted_kept _ _ _ _ back.0 c.args.txn _ c.release.new.self c.self.invariant.kept idle full);
       durable = rw (c.append.ensures.settled, c.in_ok-reserve.ensures.ok) c.self.invariant.durable;
+      cells = c.self.invariant.cells;
     }
 
 pub returns-clause-answered : goal.returns-clause-answered

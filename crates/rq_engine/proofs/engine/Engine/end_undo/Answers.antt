@@ -39,6 +39,7 @@ invariant_of-self g c =
       kept = rw (c.undo.ensures, c.put_in_taken.ensures, c.append-self-inside.ensures.records, c.append-self-inside.ensures.forced, sym failed)
           (undo_kept _ _ _ _ c.self.invariant.kept c.args.sub aim h c.args.deed.now _ _ c.append-self-inside.new.self.reserved room);
       durable = rw (c.append-self-inside.ensures.settled) c.self.invariant.durable;
+      cells = c.self.invariant.cells;
     }
 
 pub returns-clause-sender : goal.returns-clause-sender

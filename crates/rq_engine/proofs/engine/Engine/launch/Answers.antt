@@ -18,6 +18,7 @@ invariant_of-self-in_default g c =
     record {
       kept = rw (c.in_default.ensures.err, c.release.ensures, c.in_ok-reserve.ensures.ok) (kept_back _ _ _ _ _ _ c.self.invariant.kept (omega arith));
       durable = rw (c.release.ensures, c.in_ok-reserve.ensures.ok) c.self.invariant.durable;
+      cells = c.self.invariant.cells;
     }
 
 pub invariant_of-self-2 : goal.invariant_of-self-2
@@ -30,4 +31,5 @@ invariant_of-self-2 g c =
       kept = rw (c.in-Ok.ensures.ok, c.in_ok-reserve.ensures.ok, count)
           (start_kept _ _ _ _ c.args.room c.args.txn (under_of c.args.operation) c.self.invariant.kept ready left fits);
       durable = rw (c.in_ok-reserve.ensures.ok) c.self.invariant.durable;
+      cells = c.self.invariant.cells;
     }

@@ -11,6 +11,7 @@ use Rattle.rq_store.specs.Fitting.{image_in}
 use Rattle.rq_store.specs.Steps.{IsPutIn, page_op}
 use Rattle.rq_engine.specs.Answers.{IsUnderWay}
 use Rattle.rq_engine.proofs.Calls.{Next, going_range, going_owed, next_slot, next_room, next_more, next_kept}
+use Rattle.rq_planner.proofs.Knowing.{knows_written}
 use Rattle.rq_engine.proofs.Opened.{state_is, changed_is}
 use Rattle.rq_engine.proofs.engine.Engine.make.Goals as goal
 
@@ -58,6 +59,9 @@ invariant_of-self g c =
       kept = rw (c.step.ensures, c.set_slot.ensures.sizes, c.append-lsn.ensures.records, c.append-lsn.ensures.forced, sym failed)
           (next_kept _ _ _ _ c.self.invariant.kept c.args.sub c.args.write.now h _ c.set_slot.new.self.images c.append-lsn.new.self.reserved room);
       durable = rw (c.append-lsn.ensures.settled) c.self.invariant.durable;
+      cells = rw (c.note.ensures, c.set_slot.ensures.sizes)
+          (knows_written c.self.inside.pages.sizes c.self.inside.pages.images c.set_slot.new.self.images c.self.inside.planner c.args.write.now.at c.args.write.now.after
+          (next_slot _ _ _ _ c.self.invariant.kept c.args.sub c.args.write.now h).place c.set_slot.ensures.slots c.self.invariant.cells);
     }
 
 pub returns-clause-made : goal.returns-clause-made

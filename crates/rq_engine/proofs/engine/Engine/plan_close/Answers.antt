@@ -1,52 +1,64 @@
-use Rattle.std.proofs.Common.{◌≡◌, ◌/◌, ◌∷◌, [], true, false, sym, ap, ◌∙◌, subst, reverse, refl, arith}
-use Rattle.rq_page.specs.Sizes.{Sizes, directory_at}
-use Rattle.rq_views.specs.Items.{layout_of}
-use Rattle.rq_views.specs.Plans.{directory_write}
+use Rattle.std.proofs.Common.{◌≡◌, ℕ, length, Some, true, false, ap}
 use Rattle.rq_views.specs.Stored.{slots_in}
-use Rattle.rq_level.specs.Writes.{writes_of}
-use Rattle.rq_txn.specs.Rows.{latched_in}
-use Rattle.rq_store.specs.State.{State}
-use Rattle.rq_inverses.proofs.Planned.{mark_off}
-use Rattle.rq_engine.proofs.Latches.{one_write}
-use Rattle.rq_engine.proofs.Opened.{state_is}
+use Rattle.rq_level.specs.Ops.{Doing, Job}
+use Rattle.rq_level.specs.Ops.Doing.{Close}
+use Rattle.rq_sound.specs.Plans.{AreUnlatched}
+use Rattle.rq_planner.specs.Answered.{IsHeldUp}
+use Rattle.rq_planner.specs.Asked.{asked_by}
+use Rattle.rq_planner.specs.Asked.Asked.{Do}
+use Rattle.rq_engine.specs.Plans.{IsDeedPlan, bare}
+use Rattle.rq_engine.specs.Closes.{IsClosePlan, close_latched}
+use Rattle.rq_engine.specs.Sends.{FitsPlan, under_plan}
+use Rattle.rq_engine.proofs.Leveled.{chain_asked, close_free, close_held, close_one, close_plan, on_none, on_plan}
 use Rattle.rq_engine.proofs.engine.Engine.plan_close.Goals as goal
 
-pub returns-then-has_latched-clause-latched : goal.returns-then-has_latched-clause-latched
-returns-then-has_latched-clause-latched g c =
-    let page : directory_at c.args.sender / 16 ≡ c.page.result = sym (c.page.ensures ∙ ap (λ n. n / 16) c.directory_of-at.ensures) in
-    let on : latched_in c.args.self.now.state.rows (directory_at c.args.sender / 16) ≡ true =
-    ap (λ (s : State). latched_in s.rows (directory_at c.args.sender / 16)) (sym (state_is c.self.view_is)) ∙ ap (latched_in c.self.inside.transactions) page ∙ sym c.if-has_latched.ensures in
-    on
+pub plan_deed-requires-clause-forward : goal.plan_deed-requires-clause-forward
+plan_deed-requires-clause-forward g c = ap (λ (j : Job). j.undo) c.in-Ok.ensures.op
+
+pub plan_deed-requires-clause-asked : goal.plan_deed-requires-clause-asked
+plan_deed-requires-clause-asked g c = record { doing = Close c.args.sender; is = chain_asked c.in-Ok.op (Close c.args.sender) c.in-Ok.ensures.op c.in-Ok.ensures.told; inside = c.requires }
 
 pub returns-clause-plan : goal.returns-clause-plan
-returns-clause-plan g c number = record {
-  made = refl;
-  below = c.requires;
-  marking = record {
-    directory = c.group.result;
-    directory_is = ap (λ (s : State). slots_in s.sizes s.images (directory_at c.args.sender)) (sym (state_is c.self.view_is)) ∙ c.group.ensures.held;
-    writes = subst (λ (z : Sizes). reverse (writes_of z c.in_ok-writes.writes.items) ≡ directory_write (layout_of z) c.args.sender c.group.result (record c.group.result { closed = true }) ∷ [])
-        (c.layout-layout.ensures.sizes ∙ ap (λ (s : State). s.sizes) (state_is c.self.view_is)) c.in_ok-writes.ensures.writes;
-  };
-  aim = refl;
-  reads = c.room_of-room.ensures.reads (omega arith);
-}
+returns-clause-plan g c =
+    let s = c.args.self.now.state in
+    let asked : asked_by c.in-Ok.op ≡ Some (Do (Close c.args.sender)) = chain_asked c.in-Ok.op (Close c.args.sender) c.in-Ok.ensures.op c.in-Ok.ensures.told in
+    on_plan (λ p. (d : Doing) → asked_by c.in-Ok.op ≡ Some (Do d) → IsDeedPlan s d p.0 p.1) (λ p. (number : ℕ) → IsClosePlan s.sizes (slots_in s.sizes s.images) (under_plan number p.0) c.args.sender) c.plan_deed.result
+    (λ p h n. close_plan s c.args.sender n p.0 p.1 c.requires (h (Close c.args.sender) asked)) c.plan_deed.ensures.plan
+
+pub returns-clause-fits : goal.returns-clause-fits
+returns-clause-fits g c =
+    let s = c.args.self.now.state in
+    let asked : asked_by c.in-Ok.op ≡ Some (Do (Close c.args.sender)) = chain_asked c.in-Ok.op (Close c.args.sender) c.in-Ok.ensures.op c.in-Ok.ensures.told in
+    on_plan (λ p. (d : Doing) → asked_by c.in-Ok.op ≡ Some (Do d) → IsDeedPlan s d p.0 p.1) (λ p. FitsPlan s.sizes p.0 p.1) c.plan_deed.result
+    (λ p h. (h (Close c.args.sender) asked).fits) c.plan_deed.ensures.plan
 
 pub returns-clause-one : goal.returns-clause-one
-returns-clause-one g c = one_write _ c.in_ok-writes.writes.items _ c.in_ok-writes.ensures.writes
+returns-clause-one g c =
+    let s = c.args.self.now.state in
+    let asked : asked_by c.in-Ok.op ≡ Some (Do (Close c.args.sender)) = chain_asked c.in-Ok.op (Close c.args.sender) c.in-Ok.ensures.op c.in-Ok.ensures.told in
+    on_plan (λ p. (d : Doing) → asked_by c.in-Ok.op ≡ Some (Do d) → IsDeedPlan s d p.0 p.1) (λ p. length p.0.writes.items ≡ 1) c.plan_deed.result
+    (λ p h. close_one s c.args.sender p.0 p.1 c.requires (h (Close c.args.sender) asked)) c.plan_deed.ensures.plan
 
 pub returns-clause-free : goal.returns-clause-free
 returns-clause-free g c =
-    let page : directory_at c.args.sender / 16 ≡ c.page.result = sym (c.page.ensures ∙ ap (λ n. n / 16) c.directory_of-at.ensures) in
-    let off : latched_in c.args.self.now.state.rows (directory_at c.args.sender / 16) ≡ false =
-    ap (λ (s : State). latched_in s.rows (directory_at c.args.sender / 16)) (sym (state_is c.self.view_is)) ∙ ap (latched_in c.self.inside.transactions) page ∙ sym c.if-has_latched.ensures in
-    mark_off c.args.self.now.state c.args.sender c.group.result (record c.group.result { closed = true }) off c.in_ok-writes.writes.items
-    (subst (λ (z : Sizes). reverse (writes_of z c.in_ok-writes.writes.items) ≡ directory_write (layout_of z) c.args.sender c.group.result (record c.group.result { closed = true }) ∷ [])
-    (c.layout-layout.ensures.sizes ∙ ap (λ (s : State). s.sizes) (state_is c.self.view_is)) c.in_ok-writes.ensures.writes)
+    let s = c.args.self.now.state in
+    let asked : asked_by c.in-Ok.op ≡ Some (Do (Close c.args.sender)) = chain_asked c.in-Ok.op (Close c.args.sender) c.in-Ok.ensures.op c.in-Ok.ensures.told in
+    on_plan (λ p. (d : Doing) → asked_by c.in-Ok.op ≡ Some (Do d) → IsDeedPlan s d p.0 p.1) (λ p. AreUnlatched s p.0.writes.items) c.plan_deed.result
+    (λ p h. (h (Close c.args.sender) asked).free) c.plan_deed.ensures.plan
 
 pub returns-clause-unlatched : goal.returns-clause-unlatched
 returns-clause-unlatched g c =
-    let page : directory_at c.args.sender / 16 ≡ c.page.result = sym (c.page.ensures ∙ ap (λ n. n / 16) c.directory_of-at.ensures) in
-    let off : latched_in c.args.self.now.state.rows (directory_at c.args.sender / 16) ≡ false =
-    ap (λ (s : State). latched_in s.rows (directory_at c.args.sender / 16)) (sym (state_is c.self.view_is)) ∙ ap (latched_in c.self.inside.transactions) page ∙ sym c.if-has_latched.ensures in
-    off
+    let s = c.args.self.now.state in
+    let asked : asked_by c.in-Ok.op ≡ Some (Do (Close c.args.sender)) = chain_asked c.in-Ok.op (Close c.args.sender) c.in-Ok.ensures.op c.in-Ok.ensures.told in
+    on_plan (λ p. (d : Doing) → asked_by c.in-Ok.op ≡ Some (Do d) → IsHeldUp (bare s) (Do d) → ⊥) (λ _. close_latched s c.args.sender ≡ false) c.plan_deed.result
+    (λ p h. close_free s c.args.sender (h (Close c.args.sender) asked)) c.plan_deed.ensures.unlatched
+
+pub returns-clause-latched : goal.returns-clause-latched
+returns-clause-latched g c =
+    let s = c.args.self.now.state in
+    let asked : asked_by c.in-Ok.op ≡ Some (Do (Close c.args.sender)) = chain_asked c.in-Ok.op (Close c.args.sender) c.in-Ok.ensures.op c.in-Ok.ensures.told in
+    on_none ((d : Doing) → asked_by c.in-Ok.op ≡ Some (Do d) → IsHeldUp (bare s) (Do d)) (close_latched s c.args.sender ≡ true) c.plan_deed.result
+    (λ h. close_held s c.args.sender (h (Close c.args.sender) asked)) c.plan_deed.ensures.latched
+
+pub returns-clause-refused : goal.returns-clause-refused
+returns-clause-refused g c k may = c.plan_deed.ensures.refused k (Close c.args.sender) (chain_asked c.in-Ok.op (Close c.args.sender) c.in-Ok.ensures.op c.in-Ok.ensures.told) may

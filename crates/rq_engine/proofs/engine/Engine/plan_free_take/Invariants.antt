@@ -5,9 +5,11 @@ use Rattle.rq_store.specs.Plans.{WaitsFor}
 use Rattle.rq_engine.specs.Sends.{take_latched}
 use Rattle.rq_engine.proofs.engine.Engine.plan_free_take.Given as goal
 
--- of the senders so far none has a message to take that no latch keeps
+-- nothing changed; of the senders so far none has a message to take that no latch keeps
 abbrev pub invariant-loop-sender : goal.invariant-loop-sender
-invariant-loop-sender g l = (e : ℕ) → e < l.from → is_held e l.self.state.ends.receiving ≡ false → WaitsFor l.self.state l.fn.txn e → take_latched l.self.state e ≡ true
+invariant-loop-sender g l =
+    (l.self ≡ l.initial.self)
+    × ((e : ℕ) → e < l.from → is_held e l.initial.self.state.ends.receiving ≡ false → WaitsFor l.initial.self.state l.fn.txn e → take_latched l.initial.self.state e ≡ true)
 
 abbrev pub decreases-loop-sender : goal.decreases-loop-sender
 decreases-loop-sender g l = sender_count l.self.state.sizes - l.from

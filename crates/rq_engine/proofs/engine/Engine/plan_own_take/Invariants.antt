@@ -5,9 +5,11 @@ use Rattle.rq_groups.proofs.Tails.{IsWalk, left_from}
 use Rattle.rq_engine.specs.Sends.{take_latched}
 use Rattle.rq_engine.proofs.engine.Engine.plan_own_take.Given as goal
 
--- of the senders so far none has a message to take that no latch keeps
+-- nothing changed; of the senders so far none has a message to take that no latch keeps
 abbrev pub invariant-loop-next : goal.invariant-loop-next
-invariant-loop-next g l = IsWalk (held_by l.fn.txn l.self.state.ends.receiving) l.next (λ s. WaitsFor l.self.state l.fn.txn s → take_latched l.self.state s ≡ true)
+invariant-loop-next g l =
+    (l.self ≡ l.initial.self)
+    × IsWalk (held_by l.fn.txn l.initial.self.state.ends.receiving) l.next (λ s. WaitsFor l.initial.self.state l.fn.txn s → take_latched l.initial.self.state s ≡ true)
 
 abbrev pub decreases-loop-next : goal.decreases-loop-next
-decreases-loop-next g l = left_from l.next (held_by l.fn.txn l.self.state.ends.receiving)
+decreases-loop-next g l = left_from l.next (held_by l.fn.txn l.initial.self.state.ends.receiving)

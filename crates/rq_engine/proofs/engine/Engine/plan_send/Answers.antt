@@ -1,20 +1,78 @@
-use Rattle.std.proofs.Common.{◌≡◌, ap, ◌∙◌, subst, reverse}
-use Rattle.rq_page.specs.Sizes.{Sizes}
-use Rattle.rq_views.specs.Items.{layout_of}
-use Rattle.rq_views.specs.Plans.{append_writes}
-use Rattle.rq_level.specs.Writes.{writes_of}
-use Rattle.rq_chain.specs.Neighbours.{cell_beside}
+use Rattle.std.proofs.Common.{◌≡◌, ℕ, ◌≤◌, ◌^◌, length, Some, ap, subst, arith}
+use Rattle.rq_views.specs.Stored.{slots_in}
+use Rattle.rq_level.specs.Ops.{Doing, Job}
+use Rattle.rq_level.specs.Ops.Doing.{Send}
+use Rattle.rq_sound.specs.Plans.{AreUnlatched}
+use Rattle.rq_planner.specs.Answered.{IsHeldUp}
+use Rattle.rq_planner.specs.Asked.{asked_by}
+use Rattle.rq_planner.specs.Asked.Asked.{Do}
+use Rattle.rq_engine.specs.Plans.{IsDeedPlan, bare}
+use Rattle.rq_store.specs.Plans.{IsSendPlan}
 use Rattle.rq_store.specs.State.{State}
-use Rattle.rq_engine.specs.Sends.{AreSendSlots}
-use Rattle.rq_engine.proofs.Latches.{slots_off}
-use Rattle.rq_engine.proofs.Opened.{some_told, state_is}
+use Rattle.rq_engine.specs.Kept.{total_of}
+use Rattle.rq_engine.specs.Sends.{FitsPlan, SendIsLatched, TakesLowest, under_plan}
+use Rattle.rq_engine.proofs.Leveled.{on_none, on_plan, send_asked, send_plan}
+use Rattle.rq_engine.proofs.Opened.{state_is}
 use Rattle.rq_engine.proofs.engine.Engine.plan_send.Goals as goal
 
-pub returns-in_ok-plan-in-Some-clause-free : goal.returns-in_ok-plan-in-Some-clause-free
-returns-in_ok-plan-in-Some-clause-free g c =
+pub plan_deed-requires-clause-forward : goal.plan_deed-requires-clause-forward
+plan_deed-requires-clause-forward g c = ap (λ (j : Job). j.undo) c.in-Ok.ensures.op
+
+pub plan_deed-requires-clause-asked : goal.plan_deed-requires-clause-asked
+plan_deed-requires-clause-asked g c =
+    let short : length c.args.body ≤ 216 = c.as_slice.ensures.within in
+    record { doing = Send c.args.sender c.args.tag c.args.body; is = send_asked c.in-Ok.op c.args.sender c.args.tag c.as_slice.result.now c.args.body c.as_slice.ensures.bytes short c.in-Ok.ensures.op c.in-Ok.ensures.told; inside = c.requires }
+
+pub returns-clause-plan : goal.returns-clause-plan
+returns-clause-plan g c =
     let s = c.args.self.now.state in
-    let x = c.in-Some.slots in
-    let a : AreSendSlots s c.args.sender x = some_told (AreSendSlots s c.args.sender) c.in_ok-send_slots.field-0 x c.in-Some.is c.in_ok-send_slots.ensures.slots in
-    slots_off s c.args.sender x a c.in_ok-plan-in-Some.plan.writes.items c.args.tag c.args.body
-    (subst (λ (z : Sizes). reverse (writes_of z c.in_ok-plan-in-Some.plan.writes.items) ≡ append_writes (layout_of z) x.group.sender x.group.directory x.free c.args.tag c.args.body (cell_beside x.tail))
-    (c.layout-layout.ensures.sizes ∙ ap (λ (s : State). s.sizes) (state_is c.self.view_is)) c.in_ok-plan-in-Some.ensures.writes)
+    let short : length c.args.body ≤ 216 = c.as_slice.ensures.within in
+    let asked : asked_by c.in-Ok.op ≡ Some (Do (Send c.args.sender c.args.tag c.args.body)) = send_asked c.in-Ok.op c.args.sender c.args.tag c.as_slice.result.now c.args.body c.as_slice.ensures.bytes short c.in-Ok.ensures.op c.in-Ok.ensures.told in
+    on_plan (λ p. (d : Doing) → asked_by c.in-Ok.op ≡ Some (Do d) → IsDeedPlan s d p.0 p.1) (λ p. (number : ℕ) → IsSendPlan s.sizes (slots_in s.sizes s.images) (under_plan number p.0) c.args.sender c.args.tag c.args.body) c.plan_deed.result
+    (λ p h n. send_plan s c.args.sender n p.0 p.1 c.requires c.args.tag c.args.body (h (Send c.args.sender c.args.tag c.args.body) asked)) c.plan_deed.ensures.plan
+
+pub returns-clause-fits : goal.returns-clause-fits
+returns-clause-fits g c =
+    let s = c.args.self.now.state in
+    let short : length c.args.body ≤ 216 = c.as_slice.ensures.within in
+    let asked : asked_by c.in-Ok.op ≡ Some (Do (Send c.args.sender c.args.tag c.args.body)) = send_asked c.in-Ok.op c.args.sender c.args.tag c.as_slice.result.now c.args.body c.as_slice.ensures.bytes short c.in-Ok.ensures.op c.in-Ok.ensures.told in
+    on_plan (λ p. (d : Doing) → asked_by c.in-Ok.op ≡ Some (Do d) → IsDeedPlan s d p.0 p.1) (λ p. FitsPlan s.sizes p.0 p.1) c.plan_deed.result
+    (λ p h. (h (Send c.args.sender c.args.tag c.args.body) asked).fits) c.plan_deed.ensures.plan
+
+pub returns-clause-lowest : goal.returns-clause-lowest
+returns-clause-lowest g c =
+    let s = c.args.self.now.state in
+    let short : length c.args.body ≤ 216 = c.as_slice.ensures.within in
+    let asked : asked_by c.in-Ok.op ≡ Some (Do (Send c.args.sender c.args.tag c.args.body)) = send_asked c.in-Ok.op c.args.sender c.args.tag c.as_slice.result.now c.args.body c.as_slice.ensures.bytes short c.in-Ok.ensures.op c.in-Ok.ensures.told in
+    on_plan (λ p. (d : Doing) → asked_by c.in-Ok.op ≡ Some (Do d) → IsDeedPlan s d p.0 p.1) (λ p. TakesLowest s p.0.writes.items) c.plan_deed.result
+    (λ p h. (h (Send c.args.sender c.args.tag c.args.body) asked).lowest) c.plan_deed.ensures.plan
+
+pub returns-clause-free : goal.returns-clause-free
+returns-clause-free g c =
+    let s = c.args.self.now.state in
+    let short : length c.args.body ≤ 216 = c.as_slice.ensures.within in
+    let asked : asked_by c.in-Ok.op ≡ Some (Do (Send c.args.sender c.args.tag c.args.body)) = send_asked c.in-Ok.op c.args.sender c.args.tag c.as_slice.result.now c.args.body c.as_slice.ensures.bytes short c.in-Ok.ensures.op c.in-Ok.ensures.told in
+    on_plan (λ p. (d : Doing) → asked_by c.in-Ok.op ≡ Some (Do d) → IsDeedPlan s d p.0 p.1) (λ p. AreUnlatched s p.0.writes.items) c.plan_deed.result
+    (λ p h. (h (Send c.args.sender c.args.tag c.args.body) asked).free) c.plan_deed.ensures.plan
+
+pub returns-clause-unlatched : goal.returns-clause-unlatched
+returns-clause-unlatched g c =
+    let s = c.args.self.now.state in
+    let short : length c.args.body ≤ 216 = c.as_slice.ensures.within in
+    let asked : asked_by c.in-Ok.op ≡ Some (Do (Send c.args.sender c.args.tag c.args.body)) = send_asked c.in-Ok.op c.args.sender c.args.tag c.as_slice.result.now c.args.body c.as_slice.ensures.bytes short c.in-Ok.ensures.op c.in-Ok.ensures.told in
+    on_plan (λ p. (d : Doing) → asked_by c.in-Ok.op ≡ Some (Do d) → IsHeldUp (bare s) (Do d) → ⊥) (λ _. SendIsLatched s c.args.sender → ⊥) c.plan_deed.result
+    (λ p h. (h (Send c.args.sender c.args.tag c.args.body) asked)) c.plan_deed.ensures.unlatched
+
+pub returns-clause-latched : goal.returns-clause-latched
+returns-clause-latched g c =
+    let s = c.args.self.now.state in
+    let short : length c.args.body ≤ 216 = c.as_slice.ensures.within in
+    let asked : asked_by c.in-Ok.op ≡ Some (Do (Send c.args.sender c.args.tag c.args.body)) = send_asked c.in-Ok.op c.args.sender c.args.tag c.as_slice.result.now c.args.body c.as_slice.ensures.bytes short c.in-Ok.ensures.op c.in-Ok.ensures.told in
+    on_none ((d : Doing) → asked_by c.in-Ok.op ≡ Some (Do d) → IsHeldUp (bare s) (Do d)) (SendIsLatched s c.args.sender) c.plan_deed.result
+    (λ h. (h (Send c.args.sender c.args.tag c.args.body) asked)) c.plan_deed.ensures.latched
+
+pub returns-clause-refused : goal.returns-clause-refused
+returns-clause-refused g c k room =
+    let short : length c.args.body ≤ 216 = c.as_slice.ensures.within in
+    let count : total_of c.args.self.now.state ≤ 2 ^ 50 = subst (λ (s : State). total_of s ≤ 2 ^ 50) (state_is c.self.view_is) c.self.invariant.kept.count in
+    c.plan_deed.ensures.refused k (Send c.args.sender c.args.tag c.args.body) (send_asked c.in-Ok.op c.args.sender c.args.tag c.as_slice.result.now c.args.body c.as_slice.ensures.bytes short c.in-Ok.ensures.op c.in-Ok.ensures.told) (room, omega (arith, count))

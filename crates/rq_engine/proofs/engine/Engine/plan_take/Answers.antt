@@ -1,86 +1,57 @@
-use Rattle.std.proofs.Common.{◌≡◌, ◌/◌, false, ℕ, sym, ap, ◌∙◌, subst, refl, reverse, arith, inl, inr}
-use Rattle.rq_page.specs.declared.cell.Cell.{Cell}
-use Rattle.rq_page.specs.Sizes.{Sizes, directory_at}
-use Rattle.rq_page.specs.Slots.Slot.{Sender}
-use Rattle.rq_views.specs.Log.{cell_in}
+use Rattle.std.proofs.Common.{◌≡◌, ℕ, Some, true, false, ap}
 use Rattle.rq_views.specs.Stored.{slots_in}
-use Rattle.rq_txn.specs.Rows.{latched_in}
-use Rattle.rq_store.specs.State.{State}
-use Rattle.rq_store.specs.Plans.{Stands_at}
-use Rattle.rq_views.specs.Plans.{unlink_head_writes}
-use Rattle.rq_views.specs.Items.{layout_of}
-use Rattle.rq_txn.specs.declared.Aim.TheVariants.{Doing}
-use Rattle.rq_record.specs.Deeds.{IsDeedInRange}
-use Rattle.rq_level.specs.Writes.{writes_of}
-use Rattle.rq_chain.specs.Neighbours.{cell_beside}
-use Rattle.rq_sound.specs.Latching.{any_latched, named}
-use Rattle.rq_engine.proofs.Latches.{take_off}
-use Rattle.rq_engine.proofs.TakeCalls.{sent_more, head_there, next_there}
-use Rattle.rq_engine.proofs.Opened.{state_is}
+use Rattle.rq_level.specs.Ops.{Doing, Job}
+use Rattle.rq_level.specs.Ops.Doing.{Receive}
+use Rattle.rq_store.specs.Plans.{IsTakePlan}
+use Rattle.rq_sound.specs.Plans.{AreUnlatched}
+use Rattle.rq_planner.specs.Answered.{IsHeldUp}
+use Rattle.rq_planner.specs.Asked.{asked_by}
+use Rattle.rq_planner.specs.Asked.Asked.{Do}
+use Rattle.rq_engine.specs.Plans.{IsDeedPlan, bare}
+use Rattle.rq_engine.specs.Sends.{FitsPlan, take_latched, under_plan}
+use Rattle.rq_engine.proofs.Leveled.{chain_asked, on_none, on_plan, take_free, take_plan}
 use Rattle.rq_engine.proofs.engine.Engine.plan_take.Goals as goal
 
-pub returns-then-directory-clause-refused : goal.returns-then-directory-clause-refused
-returns-then-directory-clause-refused g c k wait =
-    let page : directory_at c.args.sender / 16 ≡ c.page.result = sym (c.page.ensures ∙ ap (λ n. n / 16) c.directory_of-at.ensures) in
-    let off : latched_in c.args.self.now.state.rows (directory_at c.args.sender / 16) ≡ false =
-    ap (λ (s : State). latched_in s.rows (directory_at c.args.sender / 16)) (sym (state_is c.self.view_is)) ∙ ap (latched_in c.self.inside.transactions) page ∙ sym c.if-has_latched.ensures in
-    let at : slots_in c.args.self.now.state.sizes c.args.self.now.state.images (directory_at c.args.sender) ≡ Sender c.args.sender c.group-directory.result = ap (λ (s : State). slots_in s.sizes s.images (directory_at c.args.sender)) (sym (state_is c.self.view_is)) ∙ c.group-directory.ensures.held in
-    let more = sent_more c.args.self.now.state k c.args.sender c.group-directory.result c.requires off at wait in
-    let less = c.if-directory.true in
-    absurd (omega (arith, more, less))
+pub plan_deed-requires-clause-forward : goal.plan_deed-requires-clause-forward
+plan_deed-requires-clause-forward g c = ap (λ (j : Job). j.undo) c.in-Ok.ensures.op
 
-pub returns-in_default-clause-refused : goal.returns-in_default-clause-refused
-returns-in_default-clause-refused g c k wait =
-    let page : directory_at c.args.sender / 16 ≡ c.page.result = sym (c.page.ensures ∙ ap (λ n. n / 16) c.directory_of-at.ensures) in
-    let off : latched_in c.args.self.now.state.rows (directory_at c.args.sender / 16) ≡ false =
-    ap (λ (s : State). latched_in s.rows (directory_at c.args.sender / 16)) (sym (state_is c.self.view_is)) ∙ ap (latched_in c.self.inside.transactions) page ∙ sym c.if-has_latched.ensures in
-    let at : slots_in c.args.self.now.state.sizes c.args.self.now.state.images (directory_at c.args.sender) ≡ Sender c.args.sender c.group-directory.result = ap (λ (s : State). slots_in s.sizes s.images (directory_at c.args.sender)) (sym (state_is c.self.view_is)) ∙ c.group-directory.ensures.held in
-    let there = head_there c.args.self.now.state k c.args.sender c.group-directory.result c.requires off at wait in
-    elim c.in_default.ensures.none [
-      | inl none ↦ absurd (let pos = there.0 in omega (arith, none, pos))
-      | inr free ↦ absurd (there.1 free)
-    ]
-
-pub returns-in_default-neighbour-clause-refused : goal.returns-in_default-neighbour-clause-refused
-returns-in_default-neighbour-clause-refused g c k wait =
-    let page : directory_at c.args.sender / 16 ≡ c.page.result = sym (c.page.ensures ∙ ap (λ n. n / 16) c.directory_of-at.ensures) in
-    let off : latched_in c.args.self.now.state.rows (directory_at c.args.sender / 16) ≡ false =
-    ap (λ (s : State). latched_in s.rows (directory_at c.args.sender / 16)) (sym (state_is c.self.view_is)) ∙ ap (latched_in c.self.inside.transactions) page ∙ sym c.if-has_latched.ensures in
-    let at : slots_in c.args.self.now.state.sizes c.args.self.now.state.images (directory_at c.args.sender) ≡ Sender c.args.sender c.group-directory.result = ap (λ (s : State). slots_in s.sizes s.images (directory_at c.args.sender)) (sym (state_is c.self.view_is)) ∙ c.group-directory.ensures.held in
-    let cell : Cell = c.in-Some.head.cell in
-    let next : c.following-2.result ≡ cell.next = c.following-2.ensures in
-    let free = c.in_default-neighbour.ensures.free in
-    let pos = free.0 in
-    absurd (next_there c.args.self.now.state k c.args.sender c.group-directory.result c.requires off at wait cell c.in-Some.ensures.stands (omega (arith, pos, next))
-    (ap (λ (a : ℕ). cell_in (slots_in c.args.self.now.state.sizes c.args.self.now.state.images a)) (sym next) ∙ free.1))
+pub plan_deed-requires-clause-asked : goal.plan_deed-requires-clause-asked
+plan_deed-requires-clause-asked g c = record { doing = Receive c.args.sender; is = chain_asked c.in-Ok.op (Receive c.args.sender) c.in-Ok.ensures.op c.in-Ok.ensures.told; inside = c.requires }
 
 pub returns-clause-plan : goal.returns-clause-plan
-returns-clause-plan g c number = record {
-  directory = c.group-directory.result;
-  cell = c.in-Some.head.cell;
-  next = cell_beside c.in-Some-neighbour.next;
-  made = refl;
-  below = c.requires;
-  directory_is = ap (λ (s : State). slots_in s.sizes s.images (directory_at c.args.sender)) (sym (state_is c.self.view_is)) ∙ c.group-directory.ensures.held;
-  head = c.in-Some.ensures.place.address;
-  head_is = c.in-Some.ensures.stands;
-  beside = subst (λ (a : ℕ). Stands_at (slots_in c.args.self.now.state.sizes c.args.self.now.state.images) a (cell_beside c.in-Some-neighbour.next)) c.following-2.ensures c.in-Some-neighbour.ensures.stands;
-  aim = ap (λ d. Doing d) c.in_ok-plan.ensures.deed;
-  writes = subst (λ (z : Sizes). reverse (writes_of z c.in_ok-plan.plan.writes.items) ≡ unlink_head_writes (layout_of z) c.args.sender c.group-directory.result c.in-Some.head.cell (cell_beside c.in-Some-neighbour.next)) (c.layout-layout.ensures.sizes ∙ ap (λ (s : State). s.sizes) (state_is c.self.view_is)) c.in_ok-plan.ensures.writes;
-  reads = c.room_of-room.ensures.reads (subst IsDeedInRange (sym c.in_ok-plan.ensures.deed) (omega arith));
-}
+returns-clause-plan g c =
+    let s = c.args.self.now.state in
+    let asked : asked_by c.in-Ok.op ≡ Some (Do (Receive c.args.sender)) = chain_asked c.in-Ok.op (Receive c.args.sender) c.in-Ok.ensures.op c.in-Ok.ensures.told in
+    on_plan (λ p. (d : Doing) → asked_by c.in-Ok.op ≡ Some (Do d) → IsDeedPlan s d p.0 p.1) (λ p. (number : ℕ) → IsTakePlan s.sizes (slots_in s.sizes s.images) (under_plan number p.0) c.args.sender) c.plan_deed.result
+    (λ p h n. take_plan s c.args.sender n p.0 p.1 c.requires (h (Receive c.args.sender) asked)) c.plan_deed.ensures.plan
+
+pub returns-clause-fits : goal.returns-clause-fits
+returns-clause-fits g c =
+    let s = c.args.self.now.state in
+    let asked : asked_by c.in-Ok.op ≡ Some (Do (Receive c.args.sender)) = chain_asked c.in-Ok.op (Receive c.args.sender) c.in-Ok.ensures.op c.in-Ok.ensures.told in
+    on_plan (λ p. (d : Doing) → asked_by c.in-Ok.op ≡ Some (Do d) → IsDeedPlan s d p.0 p.1) (λ p. FitsPlan s.sizes p.0 p.1) c.plan_deed.result
+    (λ p h. (h (Receive c.args.sender) asked).fits) c.plan_deed.ensures.plan
 
 pub returns-clause-free : goal.returns-clause-free
 returns-clause-free g c =
-    let page : directory_at c.args.sender / 16 ≡ c.page.result = sym (c.page.ensures ∙ ap (λ n. n / 16) c.directory_of-at.ensures) in
-    let off : latched_in c.args.self.now.state.rows (directory_at c.args.sender / 16) ≡ false =
-    ap (λ (s : State). latched_in s.rows (directory_at c.args.sender / 16)) (sym (state_is c.self.view_is)) ∙ ap (latched_in c.self.inside.transactions) page ∙ sym c.if-has_latched.ensures in
     let s = c.args.self.now.state in
-    let cell : Cell = c.in-Some.head.cell in
-    let next = cell_beside c.in-Some-neighbour.next in
-    take_off s c.args.sender c.group-directory.result cell next off c.in-Some.ensures.stands (sym c.if-is_latched.ensures)
-    (subst (λ (a : ℕ). Stands_at (slots_in s.sizes s.images) a next) c.following-2.ensures c.in-Some-neighbour.ensures.stands)
-    (ap (λ (a : ℕ). any_latched s.rows (named a)) (sym c.following.ensures) ∙ sym c.if-is_latched-2.ensures)
-    c.in_ok-plan.plan.writes.items
-    (subst (λ (z : Sizes). reverse (writes_of z c.in_ok-plan.plan.writes.items) ≡ unlink_head_writes (layout_of z) c.args.sender c.group-directory.result cell next)
-    (c.layout-layout.ensures.sizes ∙ ap (λ (s : State). s.sizes) (state_is c.self.view_is)) c.in_ok-plan.ensures.writes)
+    let asked : asked_by c.in-Ok.op ≡ Some (Do (Receive c.args.sender)) = chain_asked c.in-Ok.op (Receive c.args.sender) c.in-Ok.ensures.op c.in-Ok.ensures.told in
+    on_plan (λ p. (d : Doing) → asked_by c.in-Ok.op ≡ Some (Do d) → IsDeedPlan s d p.0 p.1) (λ p. AreUnlatched s p.0.writes.items) c.plan_deed.result
+    (λ p h. (h (Receive c.args.sender) asked).free) c.plan_deed.ensures.plan
+
+pub returns-clause-unlatched : goal.returns-clause-unlatched
+returns-clause-unlatched g c =
+    let s = c.args.self.now.state in
+    let asked : asked_by c.in-Ok.op ≡ Some (Do (Receive c.args.sender)) = chain_asked c.in-Ok.op (Receive c.args.sender) c.in-Ok.ensures.op c.in-Ok.ensures.told in
+    on_plan (λ p. (d : Doing) → asked_by c.in-Ok.op ≡ Some (Do d) → IsHeldUp (bare s) (Do d) → ⊥) (λ _. take_latched s c.args.sender ≡ false) c.plan_deed.result
+    (λ p h. take_free s c.args.sender (h (Receive c.args.sender) asked)) c.plan_deed.ensures.unlatched
+
+pub returns-clause-latched : goal.returns-clause-latched
+returns-clause-latched g c =
+    let s = c.args.self.now.state in
+    let asked : asked_by c.in-Ok.op ≡ Some (Do (Receive c.args.sender)) = chain_asked c.in-Ok.op (Receive c.args.sender) c.in-Ok.ensures.op c.in-Ok.ensures.told in
+    on_none ((d : Doing) → asked_by c.in-Ok.op ≡ Some (Do d) → IsHeldUp (bare s) (Do d)) (take_latched s c.args.sender ≡ true) c.plan_deed.result
+    (λ h. (h (Receive c.args.sender) asked)) c.plan_deed.ensures.latched
+
+pub returns-clause-refused : goal.returns-clause-refused
+returns-clause-refused g c k wait = c.plan_deed.ensures.refused k (Receive c.args.sender) (chain_asked c.in-Ok.op (Receive c.args.sender) c.in-Ok.ensures.op c.in-Ok.ensures.told) wait

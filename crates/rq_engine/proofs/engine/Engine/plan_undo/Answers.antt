@@ -1,19 +1,64 @@
-use Rattle.std.proofs.Common.{sym, ap, subst}
-use Rattle.std.specs.Prelude.{IfOk, IfSome}
-use Rattle.rq_txn.specs.Rows.{latched_in}
-use Rattle.rq_store.specs.State.{State}
-use Rattle.rq_engine.specs.Aborts.{UndoIsLatched}
-use Rattle.rq_engine.proofs.Opened.{state_is}
+use Rattle.std.proofs.Common.{◌≡◌, ◌<◌, Some, refl, sym, ◌∙◌, ap, subst}
+use Rattle.rq_model.specs.Deeds.{deed_in}
+use Rattle.rq_level.specs.declared.writes.Plan.{Plan}
+use Rattle.rq_page.specs.Sizes.{sender_count}
+use Rattle.rq_planner.specs.Answered.{IsHeldUp, IsPlanBack, IsPlanFor}
+use Rattle.rq_planner.specs.Asked.{Asked, asked_sender, to_undo}
+use Rattle.rq_planner.specs.Asked.Asked.{Undo}
+use Rattle.rq_engine.specs.Plans.{bare}
+use Rattle.rq_engine.proofs.Leveled.{some_asked}
+use Rattle.rq_engine.proofs.Opened.{none_told, some_told}
 use Rattle.rq_engine.proofs.engine.Engine.plan_undo.Goals as goal
 
-pub returns-clause-refused : goal.returns-clause-refused
-returns-clause-refused g c k may =
-    let e = state_is c.self.view_is in
-    c.plan_inverse.ensures.refused c.args.self.now.state (record {
-      sizes = ap (λ (s : State). s.sizes) (sym e);
-      images = ap (λ (s : State). s.images) (sym e);
-      latches = λ p. ap (λ (s : State). latched_in s.rows p) (sym e);
-    }) k may
+pub plan_back-requires : goal.plan_back-requires
+plan_back-requires g c a e =
+    let asked : to_undo (deed_in c.encode_deed.result) ≡ Some (Undo c.args.done.now.deed) = ap to_undo (ap deed_in c.encode_deed.ensures.spelled ∙ c.requires.reads) in
+    subst (λ (x : Asked). asked_sender x < sender_count c.args.self.now.state.sizes) (some_asked (Undo c.args.done.now.deed) a (sym asked ∙ e)) c.requires.sender
 
-pub returns-clause-unlatched : goal.returns-clause-unlatched
-returns-clause-unlatched g c = subst (λ (s : State). IfOk c.plan_inverse.result (λ found. IfSome found (λ _. UndoIsLatched s c.args.deed.now → ⊥))) (state_is c.self.view_is) c.plan_inverse.ensures.unlatched
+pub returns-in-Ok-Some-clause-plan : goal.returns-in-Ok-Some-clause-plan
+returns-in-Ok-Some-clause-plan g c =
+    let s = c.args.self.now.state in
+    let asked : to_undo (deed_in c.encode_deed.result) ≡ Some (Undo c.args.done.now.deed) = ap to_undo (ap deed_in c.encode_deed.ensures.spelled ∙ c.requires.reads) in
+    let p : IsPlanBack (bare s) c.args.done.now.deed c.in-Ok-Some.plan = some_told (λ (p : Plan). (a : Asked) → to_undo (deed_in c.encode_deed.result) ≡ Some a → IsPlanFor (bare s) a p) c.in-Ok-Some.field-0 _ c.in-Ok-Some.field-0-is c.in-Ok-Some.ensures.planned.plan (Undo c.args.done.now.deed) asked in
+    p.follows.0
+
+pub returns-in-Ok-Some-clause-slots : goal.returns-in-Ok-Some-clause-slots
+returns-in-Ok-Some-clause-slots g c =
+    let s = c.args.self.now.state in
+    let asked : to_undo (deed_in c.encode_deed.result) ≡ Some (Undo c.args.done.now.deed) = ap to_undo (ap deed_in c.encode_deed.ensures.spelled ∙ c.requires.reads) in
+    let p : IsPlanBack (bare s) c.args.done.now.deed c.in-Ok-Some.plan = some_told (λ (p : Plan). (a : Asked) → to_undo (deed_in c.encode_deed.result) ≡ Some a → IsPlanFor (bare s) a p) c.in-Ok-Some.field-0 _ c.in-Ok-Some.field-0-is c.in-Ok-Some.ensures.planned.plan (Undo c.args.done.now.deed) asked in
+    p.slots
+
+pub returns-in-Ok-Some-clause-lowest : goal.returns-in-Ok-Some-clause-lowest
+returns-in-Ok-Some-clause-lowest g c =
+    let s = c.args.self.now.state in
+    let asked : to_undo (deed_in c.encode_deed.result) ≡ Some (Undo c.args.done.now.deed) = ap to_undo (ap deed_in c.encode_deed.ensures.spelled ∙ c.requires.reads) in
+    let p : IsPlanBack (bare s) c.args.done.now.deed c.in-Ok-Some.plan = some_told (λ (p : Plan). (a : Asked) → to_undo (deed_in c.encode_deed.result) ≡ Some a → IsPlanFor (bare s) a p) c.in-Ok-Some.field-0 _ c.in-Ok-Some.field-0-is c.in-Ok-Some.ensures.planned.plan (Undo c.args.done.now.deed) asked in
+    p.lowest
+
+pub returns-in-Ok-Some-clause-free : goal.returns-in-Ok-Some-clause-free
+returns-in-Ok-Some-clause-free g c =
+    let s = c.args.self.now.state in
+    let asked : to_undo (deed_in c.encode_deed.result) ≡ Some (Undo c.args.done.now.deed) = ap to_undo (ap deed_in c.encode_deed.ensures.spelled ∙ c.requires.reads) in
+    let p : IsPlanBack (bare s) c.args.done.now.deed c.in-Ok-Some.plan = some_told (λ (p : Plan). (a : Asked) → to_undo (deed_in c.encode_deed.result) ≡ Some a → IsPlanFor (bare s) a p) c.in-Ok-Some.field-0 _ c.in-Ok-Some.field-0-is c.in-Ok-Some.ensures.planned.plan (Undo c.args.done.now.deed) asked in
+    p.follows.1
+
+pub returns-in-Ok-Some-clause-unlatched : goal.returns-in-Ok-Some-clause-unlatched
+returns-in-Ok-Some-clause-unlatched g c =
+    let s = c.args.self.now.state in
+    let asked : to_undo (deed_in c.encode_deed.result) ≡ Some (Undo c.args.done.now.deed) = ap to_undo (ap deed_in c.encode_deed.ensures.spelled ∙ c.requires.reads) in
+    some_told (λ (p : Plan). (a : Asked) → to_undo (deed_in c.encode_deed.result) ≡ Some a → IsHeldUp (bare s) a → ⊥) c.in-Ok-Some.field-0 _ c.in-Ok-Some.field-0-is c.in-Ok-Some.ensures.planned.free (Undo c.args.done.now.deed) asked
+
+pub returns-in-Ok-None-clause-latched : goal.returns-in-Ok-None-clause-latched
+returns-in-Ok-None-clause-latched g c =
+    let s = c.args.self.now.state in
+    let asked : to_undo (deed_in c.encode_deed.result) ≡ Some (Undo c.args.done.now.deed) = ap to_undo (ap deed_in c.encode_deed.ensures.spelled ∙ c.requires.reads) in
+    none_told ((a : Asked) → to_undo (deed_in c.encode_deed.result) ≡ Some a → IsHeldUp (bare s) a) c.in-Ok-None.field-0 c.in-Ok-None.field-0-is c.in-Ok-None.ensures.planned.latched (Undo c.args.done.now.deed) asked
+
+pub returns-in-Err-clause-plain : goal.returns-in-Err-clause-plain
+returns-in-Err-clause-plain g c = c.in-Err.ensures.planned.plain.0
+
+pub returns-in-Err-clause-refused : goal.returns-in-Err-clause-refused
+returns-in-Err-clause-refused g c k may =
+    let asked : to_undo (deed_in c.encode_deed.result) ≡ Some (Undo c.args.done.now.deed) = ap to_undo (ap deed_in c.encode_deed.ensures.spelled ∙ c.requires.reads) in
+    c.in-Err.ensures.planned.memory c.args.self.now.state refl k (Undo c.args.done.now.deed) asked may

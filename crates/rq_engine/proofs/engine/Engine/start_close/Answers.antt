@@ -1,60 +1,82 @@
-use Rattle.std.proofs.Common.{◌≡◌, refl, arith, length, ℕ, true, false}
+use Rattle.std.proofs.Common.{◌≡◌, refl, sym, ap, ◌∙◌, subst, arith, length, ℕ, true, false}
+use Rattle.rq_txn.specs.Rows.{change_row, row_started}
+use Rattle.rq_groups.specs.declared.End.TheVariants.{Sending}
+use Rattle.rq_groups.specs.Sides.{is_free_end, with_end}
+use Rattle.rq_store.specs.State.{State}
 use Rattle.rq_views.specs.Stored.{slots_in}
 use Rattle.rq_sound.specs.Plans.{AreUnlatched}
 use Rattle.rq_engine.specs.Closes.{IsClosePlan, close_latched}
-use Rattle.rq_engine.specs.Sends.{under_plan}
+use Rattle.rq_engine.specs.Answers.{HasNothingUnderWay}
+use Rattle.rq_engine.specs.Sends.{FitsPlan, HasRoom, under_plan}
 use Rattle.rq_engine.proofs.CloseCalls.{close_done, refused}
 use Rattle.rq_engine.proofs.Latches.{close_refused, close_unlatched}
 use Rattle.rq_engine.proofs.Refusals.{no_memory}
 use Rattle.rq_engine.proofs.SendCalls.{has_room}
-use Rattle.rq_engine.proofs.Opened.{none_told, some_told}
+use Rattle.rq_engine.proofs.Opened.{none_told, some_told, state_is}
 use Rattle.rq_engine.proofs.engine.Engine.start_close.Goals as goal
 
 pub start-requires-clause-log : goal.start-requires-clause-log
 start-requires-clause-log g c =
     let s = c.args.self.now.state in
-    let one = some_told (λ p. length p.0.writes.items ≡ 1) c.in_ok-plan_close.field-0 _ c.in-Some.is c.in_ok-plan_close.ensures.one in
-    has_room s c.in-Some.plan.writes.items 2 c.in_ok-check_close.ensures.log (omega (arith, one))
+    let one = some_told (λ p. length p.0.writes.items ≡ 1) c.in-Ok-Some.field-0 _ c.in-Ok-Some.field-0-is c.in-Ok-Some.ensures.one in
+    subst (λ (x : State). HasRoom x c.in-Ok-Some.plan.writes.items) (sym (state_is c.in-Ok-Some.ensures.same)) (has_room s c.in-Ok-Some.plan.writes.items 2 c.in_ok-check_close.ensures.log (omega (arith, one)))
 
 pub returns-in-Ok-clause-answered : goal.returns-in-Ok-clause-answered
 returns-in-Ok-clause-answered g c h =
     let s = c.args.self.now.state in
-    let plan = some_told (λ p. (number : ℕ) → IsClosePlan s.sizes (slots_in s.sizes s.images) (under_plan number p.0) c.args.sender) c.in_ok-plan_close.field-0 _ c.in-Some.is c.in_ok-plan_close.ensures.plan in
-    let off = some_told (λ p. AreUnlatched s p.0.writes.items) c.in_ok-plan_close.field-0 _ c.in-Some.is c.in_ok-plan_close.ensures.free in
-    close_done s c.args.txn c.args.sender c.in_ok-number.ensures.passes _ c.in_ok-number.number c.in-Some.plan
+    let plan = some_told (λ p. (number : ℕ) → IsClosePlan s.sizes (slots_in s.sizes s.images) (under_plan number p.0) c.args.sender) c.in-Ok-Some.field-0 _ c.in-Ok-Some.field-0-is c.in-Ok-Some.ensures.plan in
+    let off = some_told (λ p. AreUnlatched s p.0.writes.items) c.in-Ok-Some.field-0 _ c.in-Ok-Some.field-0-is c.in-Ok-Some.ensures.free in
+    close_done s c.args.txn c.args.sender c.in_ok-number.ensures.passes _ c.in_ok-number.number c.in-Ok-Some.plan
     c.in_ok-number.ensures.ready off (plan c.in_ok-number.number) (λ k. c.in_ok-check_close.ensures.passes k c.in_ok-number.ensures.passes)
-    c.in-Ok.ensures.started
+    (c.in-Ok.ensures.started ∙ ap (λ (x : State). record x { rows = change_row c.args.txn (row_started (under_plan c.in_ok-number.number c.in-Ok-Some.plan)) x.rows; ends = with_end c.args.txn (Sending c.args.sender) x.ends }) (state_is c.in-Ok-Some.ensures.same))
 
-pub returns-in-Err-clause-answered : goal.returns-in-Err-clause-answered
-returns-in-Err-clause-answered g c h k =
-    rw (c.in-Err.ensures.refusal, c.in-Err.ensures.refused) (no_memory c.args.self.now.state _ refl c.in_ok-number.ensures.running k)
+pub returns-in-Err-start-clause-answered : goal.returns-in-Err-start-clause-answered
+returns-in-Err-start-clause-answered g c h k =
+    rw (c.in-Err-start.ensures.refusal, c.in-Err-start.ensures.refused, c.in-Ok-Some.ensures.same) (no_memory c.args.self.now.state _ refl c.in_ok-number.ensures.running k)
 
-pub returns-in-None-clause-answered : goal.returns-in-None-clause-answered
-returns-in-None-clause-answered g c h =
+pub returns-in-Ok-None-clause-answered : goal.returns-in-Ok-None-clause-answered
+returns-in-Ok-None-clause-answered g c h =
     let s = c.args.self.now.state in
-    refused s c.args.txn c.args.sender c.in_ok-number.ensures.passes (λ k. c.in_ok-check_close.ensures.passes k c.in_ok-number.ensures.passes)
-    (none_told (close_latched s c.args.sender ≡ true) c.in_ok-plan_close.field-0 c.in-None.is c.in_ok-plan_close.ensures.latched)
+    rw (c.in-Ok-None.ensures.same) (refused s c.args.txn c.args.sender c.in_ok-number.ensures.passes (λ k. c.in_ok-check_close.ensures.passes k c.in_ok-number.ensures.passes)
+    (none_told (close_latched s c.args.sender ≡ true) c.in-Ok-None.field-0 c.in-Ok-None.field-0-is c.in-Ok-None.ensures.latched))
 
-pub returns-in-None-clause-latched : goal.returns-in-None-clause-latched
-returns-in-None-clause-latched g c k =
+pub returns-in-Ok-None-clause-latched : goal.returns-in-Ok-None-clause-latched
+returns-in-Ok-None-clause-latched g c k =
     let s = c.args.self.now.state in
-    close_refused s k c.args.txn c.args.sender (none_told (close_latched s c.args.sender ≡ true) c.in_ok-plan_close.field-0 c.in-None.is c.in_ok-plan_close.ensures.latched)
+    close_refused s k c.args.txn c.args.sender (none_told (close_latched s c.args.sender ≡ true) c.in-Ok-None.field-0 c.in-Ok-None.field-0-is c.in-Ok-None.ensures.latched)
 
 pub returns-in-Ok-clause-latched : goal.returns-in-Ok-clause-latched
 returns-in-Ok-clause-latched g c k =
     let s = c.args.self.now.state in
-    close_unlatched s k c.args.txn c.args.sender (some_told (λ _. close_latched s c.args.sender ≡ false) c.in_ok-plan_close.field-0 _ c.in-Some.is c.in_ok-plan_close.ensures.unlatched)
+    close_unlatched s k c.args.txn c.args.sender (some_told (λ _. close_latched s c.args.sender ≡ false) c.in-Ok-Some.field-0 _ c.in-Ok-Some.field-0-is c.in-Ok-Some.ensures.unlatched)
 
 pub returns-in-Ok-clause-lists : goal.returns-in-Ok-clause-lists
 returns-in-Ok-clause-lists g c =
     let s = c.args.self.now.state in
-    let plan = some_told (λ p. (number : ℕ) → IsClosePlan s.sizes (slots_in s.sizes s.images) (under_plan number p.0) c.args.sender) c.in_ok-plan_close.field-0 _ c.in-Some.is c.in_ok-plan_close.ensures.plan in (
+    let plan = some_told (λ p. (number : ℕ) → IsClosePlan s.sizes (slots_in s.sizes s.images) (under_plan number p.0) c.args.sender) c.in-Ok-Some.field-0 _ c.in-Ok-Some.field-0-is c.in-Ok-Some.ensures.plan in (
       refl,
       record {
-        under = under_plan c.in_ok-number.number c.in-Some.plan;
+        under = under_plan c.in_ok-number.number c.in-Ok-Some.plan;
         number = refl;
         ready = c.in_ok-number.ensures.ready;
         plan = plan c.in_ok-number.number;
-        lists = c.in-Ok.ensures.started;
+        lists = (c.in-Ok.ensures.started ∙ ap (λ (x : State). record x { rows = change_row c.args.txn (row_started (under_plan c.in_ok-number.number c.in-Ok-Some.plan)) x.rows; ends = with_end c.args.txn (Sending c.args.sender) x.ends }) (state_is c.in-Ok-Some.ensures.same));
       },
     )
+
+pub start-requires-clause-ready : goal.start-requires-clause-ready
+start-requires-clause-ready g c = subst (λ (x : State). HasNothingUnderWay x c.args.txn c.in_ok-number.number) (sym (state_is c.in-Ok-Some.ensures.same)) c.in_ok-number.ensures.ready
+
+pub start-requires-clause-free : goal.start-requires-clause-free
+start-requires-clause-free g c = subst (λ (x : State). is_free_end c.args.txn (Sending c.args.sender) x.ends ≡ true) (sym (state_is c.in-Ok-Some.ensures.same)) c.in_ok-check_close.ensures.free
+
+pub start-requires-clause-fits : goal.start-requires-clause-fits
+start-requires-clause-fits g c =
+    subst (λ (x : State). FitsPlan x.sizes c.in-Ok-Some.plan c.in-Ok-Some.room) (sym (state_is c.in-Ok-Some.ensures.same))
+    (some_told (λ p. FitsPlan c.args.self.now.state.sizes p.0 p.1) c.in-Ok-Some.field-0 _ c.in-Ok-Some.field-0-is c.in-Ok-Some.ensures.fits)
+
+pub returns-in-Err-clause-answered : goal.returns-in-Err-clause-answered
+returns-in-Err-clause-answered g c h k =
+    let s = c.args.self.now.state in
+    let e = c.in-Err.ensures.refused k (c.in_ok-check_close.ensures.unclosed k c.in_ok-number.ensures.passes) in
+    rw (e, c.in-Err.ensures.same) (no_memory s _ refl c.in_ok-number.ensures.running k)

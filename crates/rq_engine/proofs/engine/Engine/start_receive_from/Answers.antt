@@ -1,4 +1,4 @@
-use Rattle.std.proofs.Common.{◌≡◌, ◌<◌, ◌≤◌, true, false, sym, ap, ◌∙◌, refl, arith, inr}
+use Rattle.std.proofs.Common.{◌≡◌, ◌<◌, ◌≤◌, true, false, sym, ap, ◌∙◌, subst, refl, arith, inr}
 use Rattle.rq_model.specs.History.Call.{Start_receive_from}
 use Rattle.rq_page.specs.Sizes.{sender_count}
 use Rattle.rq_groups.specs.Ends.{is_free_for}
@@ -8,6 +8,11 @@ use Rattle.rq_engine.specs.Sends.{take_latched}
 use Rattle.rq_engine.proofs.Latches.{from_latched, from_unlatched}
 use Rattle.rq_engine.proofs.TakeCalls.{from_refused, log_is_full, receiver_busy, none_from_done}
 use Rattle.rq_engine.proofs.Opened.{none_told, some_told, state_is}
+use Rattle.rq_model.specs.Causes.{HasCause}
+use Rattle.rq_model.specs.Replay.Reply.{Gave_sub, Gave_refusal}
+use Rattle.rq_txn.specs.Rows.{any_under}
+use Rattle.rq_sound.specs.Sound.{IsSound}
+use Rattle.rq_sound.specs.Steps.{Steps}
 use Rattle.rq_engine.proofs.engine.Engine.start_receive_from.Goals as goal
 
 pub returns-then-not-may_receive-clause-answered : goal.returns-then-not-may_receive-clause-answered
@@ -24,12 +29,6 @@ returns-then-count-eq0-clause-answered g c h =
     none_from_done c.args.self.now.state c.args.txn c.in_ok-number.ensures.passes c.args.sender (omega (arith, n, lt))
     (ap (λ (s : State). is_free_for c.args.txn c.args.sender s.ends.receiving) (sym (state_is c.self.view_is)) ∙ sym c.if-not-may_receive.ensures)
     (ap (λ (s : State). waits s.waiting c.args.sender) (sym (state_is c.self.view_is)) ∙ sym c.count.ensures ∙ c.if-count-eq0.true)
-
-pub returns-in-Ok-clause-answered : goal.returns-in-Ok-clause-answered
-returns-in-Ok-clause-answered g c = c.in-Ok.ensures.answered (Start_receive_from c.args.txn c.args.sender) (inr refl)
-
-pub returns-in-Err-clause-answered : goal.returns-in-Err-clause-answered
-returns-in-Err-clause-answered g c = c.in-Err.ensures.answered (Start_receive_from c.args.txn c.args.sender) (inr refl)
 
 pub returns-then-count-eq0-clause-lists : goal.returns-then-count-eq0-clause-lists
 returns-then-count-eq0-clause-lists g c =
@@ -54,8 +53,8 @@ returns-then-is_log_full-clause-answered g c h =
     let wait : 1 ≤ waits s.waiting c.args.sender = omega (arith, count, some) in
     log_is_full s c.args.txn c.in_ok-number.ensures.passes c.args.sender below free wait (sym c.if-is_log_full.ensures) (Start_receive_from c.args.txn c.args.sender) (inr refl)
 
-pub returns-in-None-clause-answered : goal.returns-in-None-clause-answered
-returns-in-None-clause-answered g c h =
+pub returns-in-Ok-None-clause-answered : goal.returns-in-Ok-None-clause-answered
+returns-in-Ok-None-clause-answered g c h =
     let s = c.args.self.now.state in
     let n : c.senders.result ≡ sender_count s.sizes = c.senders.ensures.number ∙ ap sender_count (c.layout.ensures.sizes ∙ ap (λ (x : State). x.sizes) (state_is c.self.view_is)) in
     let lt = c.if-sender-senders.false in
@@ -64,15 +63,27 @@ returns-in-None-clause-answered g c h =
     let count : waits s.waiting c.args.sender ≡ c.count.result = ap (λ (x : State). waits x.waiting c.args.sender) (sym (state_is c.self.view_is)) ∙ sym c.count.ensures in
     let some = c.if-count-eq0.false in
     let wait : 1 ≤ waits s.waiting c.args.sender = omega (arith, count, some) in
-    from_refused s c.args.txn c.in_ok-number.ensures.passes c.args.sender below free wait (sym c.if-is_log_full.ensures)
-    (none_told (take_latched s c.args.sender ≡ true) c.in_ok-plan_take.field-0 c.in-None.is c.in_ok-plan_take.ensures.latched)
+    rw (c.in-Ok-None.ensures.same) (from_refused s c.args.txn c.in_ok-number.ensures.passes c.args.sender below free wait (sym c.if-is_log_full.ensures)
+    (none_told (take_latched s c.args.sender ≡ true) c.in-Ok-None.field-0 c.in-Ok-None.field-0-is c.in-Ok-None.ensures.latched))
 
-pub returns-in-None-clause-latched : goal.returns-in-None-clause-latched
-returns-in-None-clause-latched g c k =
+pub returns-in-Ok-None-clause-latched : goal.returns-in-Ok-None-clause-latched
+returns-in-Ok-None-clause-latched g c k =
     let s = c.args.self.now.state in
-    from_latched s k c.args.txn c.args.sender (none_told (take_latched s c.args.sender ≡ true) c.in_ok-plan_take.field-0 c.in-None.is c.in_ok-plan_take.ensures.latched)
+    from_latched s k c.args.txn c.args.sender (none_told (take_latched s c.args.sender ≡ true) c.in-Ok-None.field-0 c.in-Ok-None.field-0-is c.in-Ok-None.ensures.latched)
 
 pub returns-in-Ok-clause-latched : goal.returns-in-Ok-clause-latched
 returns-in-Ok-clause-latched g c k =
     let s = c.args.self.now.state in
-    from_unlatched s k c.args.txn c.args.sender (some_told (λ _. take_latched s c.args.sender ≡ false) c.in_ok-plan_take.field-0 _ c.in-Some.is c.in_ok-plan_take.ensures.unlatched)
+    from_unlatched s k c.args.txn c.args.sender (some_told (λ _. take_latched s c.args.sender ≡ false) c.in-Ok-Some.field-0 _ c.in-Ok-Some.field-0-is c.in-Ok-Some.ensures.unlatched)
+
+pub returns-in-Err-start_take-clause-answered : goal.returns-in-Err-start_take-clause-answered
+returns-in-Err-start_take-clause-answered g c h k =
+    let same = state_is c.in-Ok-Some.ensures.same in
+    subst (λ (x : State). Steps x (Start_receive_from c.args.txn c.args.sender) (Gave_refusal c.in-Err-start_take.refusal) c.start_take.new.self.state × HasCause (any_under x.rows) (Start_receive_from c.args.txn c.args.sender) c.in-Err-start_take.refusal) same
+    (c.in-Err-start_take.ensures.answered (Start_receive_from c.args.txn c.args.sender) (inr refl) h (subst (λ (x : State). IsSound x) (sym same) k))
+
+pub returns-in-Ok-clause-answered : goal.returns-in-Ok-clause-answered
+returns-in-Ok-clause-answered g c h k =
+    let same = state_is c.in-Ok-Some.ensures.same in
+    subst (λ (x : State). Steps x (Start_receive_from c.args.txn c.args.sender) (Gave_sub c.in-Ok.sub.txn c.in-Ok.sub.number) c.start_take.new.self.state) same
+    (c.in-Ok.ensures.answered (Start_receive_from c.args.txn c.args.sender) (inr refl) h (subst (λ (x : State). IsSound x) (sym same) k))

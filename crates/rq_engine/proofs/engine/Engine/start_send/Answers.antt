@@ -1,11 +1,15 @@
-use Rattle.std.proofs.Common.{arith, ◌+◌, ap, ◌∙◌, refl, subst, List, ℕ}
+use Rattle.std.proofs.Common.{◌≡◌, true, arith, ◌+◌, ap, sym, ◌∙◌, refl, subst, List, ℕ}
+use Rattle.rq_txn.specs.Rows.{change_row, row_started}
+use Rattle.rq_groups.specs.declared.End.TheVariants.{Sending}
+use Rattle.rq_groups.specs.Sides.{is_free_end, with_end}
+use Rattle.rq_engine.specs.Answers.{HasNothingUnderWay}
 use Rattle.rq_store.specs.State.{State}
 use Rattle.rq_engine.proofs.Latches.{send_latched, send_unlatched}
 use Rattle.rq_engine.proofs.Refusals.{no_memory}
 use Rattle.rq_engine.proofs.SendCalls.{has_room, send_done, send_refused, going_started}
 use Rattle.rq_views.specs.Stored.{slots_in}
 use Rattle.rq_sound.specs.Plans.{AreUnlatched}
-use Rattle.rq_engine.specs.Sends.{FitsPlan, SendIsLatched, TakesLowest, under_plan}
+use Rattle.rq_engine.specs.Sends.{FitsPlan, HasRoom, SendIsLatched, TakesLowest, under_plan}
 use Rattle.rq_store.specs.Plans.{IsSendPlan}
 use Rattle.rq_engine.proofs.Opened.{none_told, some_told, state_is}
 use Rattle.rq_engine.proofs.engine.Engine.start_send.Goals as goal
@@ -18,17 +22,17 @@ returns-in-Ok-clause-answered g c h =
     send_done s _ c.args.txn c.in_ok-number.number c.args.sender c.args.tag c.args.body.now c.in_ok-body.body c.in-Some.plan
     c.in_ok-number.ensures.ready c.in_ok-number.ensures.passes off c.in_ok-body.ensures.body (plan c.in_ok-number.number) c.in_ok-body.ensures.free c.in_ok-body.ensures.room
     (λ k. c.in_ok-body.ensures.passes k c.in_ok-number.ensures.passes)
-    (ap (λ (x : State). record x { cells_in_use = x.cells_in_use + 1 }) ((state_is c.self.view_is) ∙ c.in-Ok.ensures.started))
+    (ap (λ (x : State). record x { cells_in_use = x.cells_in_use + 1 }) ((state_is c.self.view_is) ∙ c.in-Ok.ensures.started ∙ ap (λ (x : State). record x { rows = change_row c.args.txn (row_started (under_plan c.in_ok-number.number c.in-Some.plan)) x.rows; ends = with_end c.args.txn (Sending c.args.sender) x.ends }) (state_is c.in_ok-plan_send.ensures.same)))
 
 pub returns-in-Err-clause-answered : goal.returns-in-Err-clause-answered
 returns-in-Err-clause-answered g c h k =
-    rw (c.in-Err.ensures.refusal, c.in-Err.ensures.refused) (no_memory c.args.self.now.state _ refl c.in_ok-number.ensures.running k)
+    rw (c.in-Err.ensures.refusal, c.in-Err.ensures.refused, c.in_ok-plan_send.ensures.same) (no_memory c.args.self.now.state _ refl c.in_ok-number.ensures.running k)
 
 pub returns-in-None-clause-answered : goal.returns-in-None-clause-answered
 returns-in-None-clause-answered g c h =
     let s = c.args.self.now.state in
-    send_refused s c.args.txn c.args.sender c.args.tag c.args.body.now (λ k. c.in_ok-body.ensures.passes k c.in_ok-number.ensures.passes) c.in_ok-body.ensures.room
-    (none_told (SendIsLatched s c.args.sender) c.in_ok-plan_send.field-0 c.in-None.is c.in_ok-plan_send.ensures.latched)
+    rw (c.in_ok-plan_send.ensures.same) (send_refused s c.args.txn c.args.sender c.args.tag c.args.body.now (λ k. c.in_ok-body.ensures.passes k c.in_ok-number.ensures.passes) c.in_ok-body.ensures.room
+    (none_told (SendIsLatched s c.args.sender) c.in_ok-plan_send.field-0 c.in-None.is c.in_ok-plan_send.ensures.latched))
 
 pub returns-in-None-clause-latched : goal.returns-in-None-clause-latched
 returns-in-None-clause-latched g c k =
@@ -46,7 +50,7 @@ returns-in-Ok-clause-lowest g c =
     let low = some_told (λ p. TakesLowest s p.0.writes.items) c.in_ok-plan_send.field-0 _ c.in-Some.is c.in_ok-plan_send.ensures.lowest in
     going_started s _ c.args.txn c.in_ok-number.number c.in-Some.plan
     (λ r u. TakesLowest s u.writes)
-    c.in_ok-number.ensures.ready (ap (λ (x : State). x.rows) (state_is c.self.view_is ∙ c.in-Ok.ensures.started)) (λ r. low)
+    c.in_ok-number.ensures.ready (ap (λ (x : State). x.rows) (state_is c.self.view_is ∙ c.in-Ok.ensures.started ∙ ap (λ (x : State). record x { rows = change_row c.args.txn (row_started (under_plan c.in_ok-number.number c.in-Some.plan)) x.rows; ends = with_end c.args.txn (Sending c.args.sender) x.ends }) (state_is c.in_ok-plan_send.ensures.same))) (λ r. low)
 
 pub returns-in-Ok-clause-lists : goal.returns-in-Ok-clause-lists
 returns-in-Ok-clause-lists g c =
@@ -58,7 +62,7 @@ returns-in-Ok-clause-lists g c =
         number = refl;
         ready = c.in_ok-number.ensures.ready;
         plan = subst (λ (x : List ℕ). IsSendPlan s.sizes (slots_in s.sizes s.images) (under_plan c.in_ok-number.number c.in-Some.plan) c.args.sender c.args.tag x) c.in_ok-body.ensures.body (plan c.in_ok-number.number);
-        lists = ap (λ (x : State). record x { cells_in_use = x.cells_in_use + 1 }) ((state_is c.self.view_is) ∙ c.in-Ok.ensures.started);
+        lists = ap (λ (x : State). record x { cells_in_use = x.cells_in_use + 1 }) ((state_is c.self.view_is) ∙ c.in-Ok.ensures.started ∙ ap (λ (x : State). record x { rows = change_row c.args.txn (row_started (under_plan c.in_ok-number.number c.in-Some.plan)) x.rows; ends = with_end c.args.txn (Sending c.args.sender) x.ends }) (state_is c.in_ok-plan_send.ensures.same));
       },
     )
 
@@ -66,4 +70,15 @@ pub start-requires-clause-log : goal.start-requires-clause-log
 start-requires-clause-log g c =
     let s = c.args.self.now.state in
     let fits = some_told (λ p. FitsPlan s.sizes p.0 p.1) c.in_ok-plan_send.field-0 _ c.in-Some.is c.in_ok-plan_send.ensures.fits in
-    has_room s c.in-Some.plan.writes.items 4 c.in_ok-body.ensures.log (let few = fits.count in omega (arith, few))
+    subst (λ (x : State). HasRoom x c.in-Some.plan.writes.items) (sym (state_is c.in_ok-plan_send.ensures.same)) (has_room s c.in-Some.plan.writes.items 4 c.in_ok-body.ensures.log (let few = fits.count in omega (arith, few)))
+
+pub start-requires-clause-ready : goal.start-requires-clause-ready
+start-requires-clause-ready g c = subst (λ (x : State). HasNothingUnderWay x c.args.txn c.in_ok-number.number) (sym (state_is c.in_ok-plan_send.ensures.same)) c.in_ok-number.ensures.ready
+
+pub start-requires-clause-free : goal.start-requires-clause-free
+start-requires-clause-free g c = subst (λ (x : State). is_free_end c.args.txn (Sending c.args.sender) x.ends ≡ true) (sym (state_is c.in_ok-plan_send.ensures.same)) c.in_ok-body.ensures.free
+
+pub start-requires-clause-fits : goal.start-requires-clause-fits
+start-requires-clause-fits g c =
+    subst (λ (x : State). FitsPlan x.sizes c.in-Some.plan c.in-Some.room) (sym (state_is c.in_ok-plan_send.ensures.same))
+    (some_told (λ p. FitsPlan c.args.self.now.state.sizes p.0 p.1) c.in_ok-plan_send.field-0 _ c.in-Some.is c.in_ok-plan_send.ensures.fits)

@@ -10,16 +10,19 @@ use Rattle.rq_views.specs.Stored.{slots_in}
 use Rattle.rq_level.specs.declared.writes.SlotWrite.{SlotWrite}
 use Rattle.rq_txn.specs.declared.Aim.TheVariants.{Undoing}
 use Rattle.rq_txn.specs.declared.Finished.{Finished}
-use Rattle.rq_txn.specs.Rows.{Under, any_under}
-use Rattle.rq_store.specs.State.{ledger_of, op_done}
+use Rattle.rq_txn.specs.Rows.{Under, any_under, change_row, row_started}
+use Rattle.rq_store.specs.State.{State, ledger_of, op_done}
 use Rattle.rq_sound.specs.Latching.{IsLatched}
 use Rattle.rq_sound.specs.Plans.{AreUnlatched, IsPlannedFrom}
 use Rattle.rq_sound.specs.Steps.{Steps}
+use Rattle.rq_engine.specs.Kept.{IsDoneKept}
+use Rattle.rq_engine.specs.Sends.{HasRoom}
+use Rattle.rq_level.specs.Writes.{AreSlotWrites}
 use Rattle.rq_engine.specs.Aborts.{IsTurnedBack, UndoIsLatched, UndoTakesLowest}
-use Rattle.rq_engine.proofs.AbortCalls.{may_be_undone, none_done, turned_newest, undo_done, undo_full, undo_refused}
+use Rattle.rq_engine.proofs.AbortCalls.{is_newest, may_be_undone, none_done, turned_newest, undo_done, undo_full, undo_refused}
 use Rattle.rq_engine.proofs.Inverses.{cost_is, few_writes}
 use Rattle.rq_engine.proofs.Latches.{memory_latched, undo_latched, undo_unlatched}
-use Rattle.rq_engine.proofs.Opened.{none_told, some_told}
+use Rattle.rq_engine.proofs.Opened.{none_told, some_told, state_is}
 use Rattle.rq_engine.proofs.Refusals.{no_memory}
 use Rattle.rq_engine.proofs.SendCalls.{has_room}
 use Rattle.rq_engine.proofs.engine.Engine.undo_next.Goals as goal
@@ -52,7 +55,7 @@ start_undo-requires-clause-log g c =
     let f = c.in-Some.done in
     let room : log_full (ledger_of s) (undo_cost (Some (op_done f))) ≡ false = ap (log_full (ledger_of s)) (sym c.undo_records.ensures) ∙ sym c.if-is_log_full.ensures in
     let plan : IsPlannedFrom s.sizes (slots_in s.sizes s.images) c.in-Ok-Some.writes.items (Undid f.deed) = some_told (λ (ws : Vec SlotWrite). IsPlannedFrom s.sizes (slots_in s.sizes s.images) ws.items (Undid f.deed)) c.in-Ok-Some.field-0 _ c.in-Ok-Some.field-0-is c.in-Ok-Some.ensures.plan in
-    has_room s c.in-Ok-Some.writes.items (undo_cost (Some (op_done f))) room (few_writes s.sizes (slots_in s.sizes s.images) c.in-Ok-Some.writes.items f.deed plan)
+    subst (λ (x : State). HasRoom x c.in-Ok-Some.writes.items) (sym (state_is c.in-Ok-Some.ensures.same)) (has_room s c.in-Ok-Some.writes.items (undo_cost (Some (op_done f))) room (few_writes s.sizes (slots_in s.sizes s.images) c.in-Ok-Some.writes.items f.deed plan))
 
 pub returns-in-Ok-None-clause-answered : goal.returns-in-Ok-None-clause-answered
 returns-in-Ok-None-clause-answered g c h =
@@ -60,8 +63,8 @@ returns-in-Ok-None-clause-answered g c h =
     let f = c.in-Some.done in
     let back : IsTurnedBack s c.args.txn c.in_ok-number.number (Some f) = subst (λ (o : Option Finished). IsTurnedBack s c.args.txn c.in_ok-number.number o) c.in-Some.is c.in_ok-number.ensures.ready in
     let room : log_full (ledger_of s) (undo_cost (Some (op_done f))) ≡ false = ap (log_full (ledger_of s)) (sym c.undo_records.ensures) ∙ sym c.if-is_log_full.ensures in
-    undo_refused s c.args.txn c.in_ok-number.number f c.in_ok-number.ensures.passes back (may_be_undone s c.args.txn c.in_ok-number.number f c.in_ok-number.ensures.passes back) room
-    (none_told (UndoIsLatched s f.deed) c.in-Ok-None.field-0 c.in-Ok-None.field-0-is c.in-Ok-None.ensures.latched)
+    rw (c.in-Ok-None.ensures.same) (undo_refused s c.args.txn c.in_ok-number.number f c.in_ok-number.ensures.passes back (may_be_undone s c.args.txn c.in_ok-number.number f c.in_ok-number.ensures.passes back) room
+    (none_told (UndoIsLatched s f.deed) c.in-Ok-None.field-0 c.in-Ok-None.field-0-is c.in-Ok-None.ensures.latched))
 
 pub returns-in-Ok-None-clause-latched : goal.returns-in-Ok-None-clause-latched
 returns-in-Ok-None-clause-latched g c k =
@@ -80,7 +83,8 @@ returns-in-Ok-clause-answered g c h =
     let plan : IsPlannedFrom s.sizes (slots_in s.sizes s.images) c.in-Ok-Some.writes.items (Undid f.deed) = some_told (λ (ws : Vec SlotWrite). IsPlannedFrom s.sizes (slots_in s.sizes s.images) ws.items (Undid f.deed)) c.in-Ok-Some.field-0 _ c.in-Ok-Some.field-0-is c.in-Ok-Some.ensures.plan in
     let off = some_told (λ (ws : Vec SlotWrite). AreUnlatched s ws.items) c.in-Ok-Some.field-0 _ c.in-Ok-Some.field-0-is c.in-Ok-Some.ensures.free in
     let u : Under = record { number = c.in_ok-number.number; writes = c.in-Ok-Some.writes.items; made = 0; aim = Undoing f.lsn f.deed } in
-    undo_done s c.args.txn c.in_ok-number.number f c.in_ok-number.ensures.passes back _ u c.in_ok-number.ensures.running refl off (record { made = refl; aim = refl; plan = plan }) room c.in-Ok.ensures.started
+    undo_done s c.args.txn c.in_ok-number.number f c.in_ok-number.ensures.passes back _ u c.in_ok-number.ensures.running refl off (record { made = refl; aim = refl; plan = plan }) room
+    (c.in-Ok.ensures.started ∙ ap (λ (x : State). record x { rows = change_row c.args.txn (row_started u) x.rows }) (state_is c.in-Ok-Some.ensures.same))
 
 pub returns-in-Ok-clause-latched : goal.returns-in-Ok-clause-latched
 returns-in-Ok-clause-latched g c k =
@@ -104,25 +108,43 @@ returns-in-Ok-clause-lists g c =
         ready = back;
         plan = record { made = refl; aim = refl; plan = plan };
         lowest = some_told (λ (ws : Vec SlotWrite). UndoTakesLowest s f.deed ws.items) c.in-Ok-Some.field-0 _ c.in-Ok-Some.field-0-is c.in-Ok-Some.ensures.lowest;
-        lists = c.in-Ok.ensures.started;
+        lists = c.in-Ok.ensures.started ∙ ap (λ (x : State). record x { rows = change_row c.args.txn (row_started (record { number = c.in_ok-number.number; writes = c.in-Ok-Some.writes.items; made = 0; aim = Undoing f.lsn f.deed })) x.rows }) (state_is c.in-Ok-Some.ensures.same);
       },
     )
 
 pub returns-in-Err-start_undo-clause-answered : goal.returns-in-Err-start_undo-clause-answered
 returns-in-Err-start_undo-clause-answered g c h k =
-    rw (c.in-Err-start_undo.ensures.refusal, c.in-Err-start_undo.ensures.refused) (no_memory c.args.self.now.state _ refl c.in_ok-number.ensures.running k)
+    rw (c.in-Err-start_undo.ensures.refusal, c.in-Err-start_undo.ensures.refused, c.in-Ok-Some.ensures.same) (no_memory c.args.self.now.state _ refl c.in_ok-number.ensures.running k)
 
 pub returns-in-Err-clause-answered : goal.returns-in-Err-clause-answered
 returns-in-Err-clause-answered g c h k =
     let s = c.args.self.now.state in
     let f = c.in-Some.done in
     let back : IsTurnedBack s c.args.txn c.in_ok-number.number (Some f) = subst (λ (o : Option Finished). IsTurnedBack s c.args.txn c.in_ok-number.number o) c.in-Some.is c.in_ok-number.ensures.ready in
-    let e = c.in-Err.ensures.refused k (may_be_undone s c.args.txn c.in_ok-number.number f c.in_ok-number.ensures.passes back k) in
-    subst (λ (r : Refusal). Steps s (Undo_next c.args.txn) (Gave_refusal r) s × HasCause (any_under s.rows) (Undo_next c.args.txn) r) (sym e) (no_memory s (Undo_next c.args.txn) refl c.in_ok-number.ensures.running k)
+    let e = c.in-Err.ensures.refused k (is_newest s c.args.txn c.in_ok-number.number f c.in_ok-number.ensures.passes back) in
+    rw (c.in-Err.ensures.same) (subst (λ (r : Refusal). Steps s (Undo_next c.args.txn) (Gave_refusal r) s × HasCause (any_under s.rows) (Undo_next c.args.txn) r) (sym e) (no_memory s (Undo_next c.args.txn) refl c.in_ok-number.ensures.running k))
 
 pub returns-in-Err-clause-latched : goal.returns-in-Err-clause-latched
 returns-in-Err-clause-latched g c k =
     let s = c.args.self.now.state in
     let f = c.in-Some.done in
     let back : IsTurnedBack s c.args.txn c.in_ok-number.number (Some f) = subst (λ (o : Option Finished). IsTurnedBack s c.args.txn c.in_ok-number.number o) c.in-Some.is c.in_ok-number.ensures.ready in
-    memory_latched (IsLatched s (Undo_next c.args.txn)) _ (c.in-Err.ensures.refused k (may_be_undone s c.args.txn c.in_ok-number.number f c.in_ok-number.ensures.passes back k))
+    memory_latched (IsLatched s (Undo_next c.args.txn)) _ (c.in-Err.ensures.refused k (is_newest s c.args.txn c.in_ok-number.number f c.in_ok-number.ensures.passes back))
+
+pub start_undo-requires-clause-ready : goal.start_undo-requires-clause-ready
+start_undo-requires-clause-ready g c =
+    subst (λ (x : State). IsTurnedBack x c.args.txn c.in_ok-number.number (Some c.in-Some.done)) (sym (state_is c.in-Ok-Some.ensures.same))
+    (subst (λ (o : Option Finished). IsTurnedBack c.args.self.now.state c.args.txn c.in_ok-number.number o) c.in-Some.is c.in_ok-number.ensures.ready)
+
+pub start_undo-requires-clause-slots : goal.start_undo-requires-clause-slots
+start_undo-requires-clause-slots g c =
+    subst (λ (x : State). AreSlotWrites x.sizes c.in-Ok-Some.writes.items) (sym (state_is c.in-Ok-Some.ensures.same))
+    (some_told (λ (ws : Vec SlotWrite). AreSlotWrites c.args.self.now.state.sizes ws.items) c.in-Ok-Some.field-0 _ c.in-Ok-Some.field-0-is c.in-Ok-Some.ensures.slots)
+
+pub start_undo-requires-clause-kept : goal.start_undo-requires-clause-kept
+start_undo-requires-clause-kept g c =
+    subst (λ (x : State). IsDoneKept x.sizes c.in-Some.done) (sym (state_is c.in-Ok-Some.ensures.same))
+    (some_told (λ (f : Finished). IsDoneKept c.args.self.now.state.sizes f) c.in_ok-number.newest _ c.in-Some.is c.in_ok-number.ensures.kept)
+
+pub plan_undo-requires : goal.plan_undo-requires
+plan_undo-requires g c = some_told (λ (f : Finished). IsDoneKept c.args.self.now.state.sizes f) c.in_ok-number.newest _ c.in-Some.is c.in_ok-number.ensures.kept

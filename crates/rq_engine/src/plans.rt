@@ -1,0 +1,87 @@
+//! Plans of operations, by the level.
+ghost use Rattle.std.specs.Prelude.{◌≡◌, ◌≢◌, IfOk, IfErr, IfSome, IfNone, MatchOption, None, Some, false};
+ghost use Rattle.rq_model.specs.Deeds.{deed_in};
+ghost use Rattle.rq_level.specs.Ops.{Doing};
+ghost use Rattle.rq_sound.specs.Sound.{IsSound};
+ghost use Rattle.rq_planner.specs.Answered.{IsHeldUp, IsPlanned, MayBeAsked};
+ghost use Rattle.rq_planner.specs.Asked.{Do, IsOfStore, asked_by, undone_by};
+ghost use Rattle.rq_engine.specs.Plans.{IsDeedPlan, IsToDo, bare};
+
+use crate::engine::Engine;
+use crate::starts::room_of;
+use rq_chain::ChainPlan;
+use rq_disk::{LogDevice, PageDevice};
+use rq_level::{Op, Plan};
+use rq_model::record::Record;
+use rq_model::refusal::{Damage, Refusal};
+use rq_record::decode_deed;
+
+impl<P: PageDevice, L: LogDevice> Engine<P, L> {
+    // The plan of an operation with its deed, and how many bytes its records take in the log; none where it needs a page
+    // that others have latched.
+    pub(crate) fn plan_deed(&mut self, op: &Op) -> Result<Option<(ChainPlan, usize)>, Refusal>
+        requires forward { op.now.undo ≡ false }
+        requires asked { IsToDo self.old.state.sizes (asked_by op.now) }
+        ensures same { self.new ≡ self.old }
+        // The plan, and latches, exactly.
+        ensures plan { IfOk result (λ found. IfSome found (λ planned. (d : Doing) → asked_by op.now ≡ Some (Do d)
+            → IsDeedPlan self.old.state d planned.0 planned.1)) }
+        ensures unlatched { IfOk result (λ found. IfSome found (λ _. (d : Doing) → asked_by op.now ≡ Some (Do d)
+            → IsHeldUp (bare self.old.state) (Do d) → ⊥)) }
+        ensures latched { IfOk result (λ found. IfNone found ((d : Doing) → asked_by op.now ≡ Some (Do d)
+            → IsHeldUp (bare self.old.state) (Do d))) }
+        // Why there is none otherwise.
+        ensures plain { IfErr result (λ r. r ≢ Refusal.Failed) }
+        ensures refused { IsSound self.old.state → (d : Doing) → asked_by op.now ≡ Some (Do d)
+            → MayBeAsked self.old.state (Do d) → IfErr result (λ r. r ≡ Refusal.NoMemory) }
+    {
+        match self.plan_op(op) {
+            Ok(Some(plan)) => match with_deed(plan) {
+                Some(plan) => {
+                    let room = room_of(&plan);
+                    Ok(Some((plan, room)))
+                }
+                None => Err(Refusal::Damaged(Damage::Page(0))),
+            },
+            Ok(None) => Ok(None),
+            Err(refusal) => Err(refusal),
+        }
+    }
+
+    // What the level plans for an operation that is to be done.
+    fn plan_op(&mut self, op: &Op) -> Result<Option<Plan>, Refusal>
+        requires forward { op.now.undo ≡ false }
+        requires asked { IsOfStore self.old.state.sizes (asked_by op.now) }
+        ensures same { self.new ≡ self.old }
+        ensures planned { IsPlanned (bare self.old.state) (asked_by op.now) result }
+    {
+        self.planner
+            .plan(self.alloc, &self.pages, &self.transactions, op)
+    }
+
+    // What the level plans to take back the operation whose end the record is.
+    pub(crate) fn plan_back(&mut self, told: &Record) -> Result<Option<Plan>, Refusal>
+        requires { IsOfStore self.old.state.sizes (undone_by told.now) }
+        ensures same { self.new ≡ self.old }
+        ensures planned { IsPlanned (bare self.old.state) (undone_by told.now) result }
+    {
+        self.planner
+            .plan_back(self.alloc, &self.pages, &self.transactions, told)
+    }
+}
+
+// A plan with the deed that its bytes tell; none where they tell none.
+fn with_deed(plan: Plan) -> Option<ChainPlan>
+    ensures { MatchOption result (deed_in plan.deed ≡ None)
+        (λ p. (p.writes ≡ plan.writes) × (deed_in plan.deed ≡ Some p.deed)) }
+{
+    let Plan {
+        writes,
+        deed,
+        reply: _,
+    } = plan;
+    let Some(deed) = decode_deed(deed.as_slice()) else {
+        return None;
+    };
+    Some(ChainPlan { writes, deed })
+}

@@ -1,0 +1,25 @@
+-- The superblock's slot tells the sizes.
+use Rattle.std.proofs.Common.{◌≡◌, ℕ, ◌&&◌, nat_le, cond, List, Bool, true, Option, Some, None, ◌∙◌, ap}
+use Rattle.std.proofs.lemmas.Bool.{and_from, le-leb}
+use Rattle.rq_bytes.specs.Number.{number_at}
+use Rattle.rq_page.specs.Formatted.{IsFormatted}
+use Rattle.rq_page.specs.Pages.{slot_of}
+use Rattle.rq_page.specs.Sizes.{Sizes, IsInRange}
+use Rattle.rq_page.proofs.Formats as formats
+use Rattle.rq_level.specs.Kept.{in_range, sizes_at, told_sizes}
+
+within : (z : Sizes) → IsInRange z → in_range z ≡ true
+within z r =
+    and_from (nat_le 1 z.directory && nat_le z.directory 1024) (nat_le 1 z.cells && nat_le z.cells 65536)
+    (and_from (nat_le 1 z.directory) (nat_le z.directory 1024) (le-leb 1 z.directory r.directory_low) (le-leb z.directory 1024 r.directory_high))
+    (and_from (nat_le 1 z.cells) (nat_le z.cells 65536) (le-leb 1 z.cells r.cells_low) (le-leb z.cells 65536 r.cells_high))
+
+both : (z : Sizes) (d c : ℕ) → d ≡ z.directory → c ≡ z.cells → (let made : Sizes = record { directory = d; cells = c } in made) ≡ z
+both z d c a b = ap (λ (n : ℕ). let made : Sizes = record { directory = n; cells = c } in made) a ∙ ap (λ (n : ℕ). let made : Sizes = record { directory = z.directory; cells = n } in made) b
+
+-- the superblock's slot tells them
+pub sizes_told : (z : Sizes) (image bytes : List ℕ) → IsInRange z → IsFormatted z 0 image → bytes ≡ slot_of 1 image → told_sizes bytes ≡ Some z
+sizes_told z image bytes range is at =
+    let told = formats.told_sizes z image range is in
+    let made : sizes_at bytes ≡ z = both z (number_at 4 12 bytes) (number_at 4 16 bytes) (ap (number_at 4 12) at ∙ told.0) (ap (number_at 4 16) at ∙ told.1) in
+    ap (λ (l : Sizes). cond (in_range l) (Some l) None) made ∙ ap (λ (b : Bool). cond b (Some z) None) (within z range)

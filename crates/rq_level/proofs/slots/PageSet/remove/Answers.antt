@@ -1,0 +1,9 @@
+use Rattle.std.proofs.Common.{◌≡◌, ℕ, nat_eq, not, rules}
+use Rattle.std.proofs.lemmas.Fn.{filter_same}
+use Rattle.rq_level.proofs.PageSets.{left_in}
+use Rattle.rq_level.proofs.slots.PageSet.remove.Goals as goal
+
+pub returns : goal.returns
+returns c =
+    let e = filter_same _ (λ (p : ℕ). not (nat_eq p c.args.page)) _ (λ x b f' k. search rules) _ _ c.retain.ensures.filtered in
+    left_in _ _ _ _ _ (λ (p : ℕ). not (nat_eq p c.args.page)) c.self.view_is e c.retain.ensures.capacity

@@ -1,0 +1,110 @@
+-- What is so of a device whose records are read stays so.
+use Rattle.std.proofs.Common.{◌≡◌, ◌≢◌, ◌⊎◌, ⊎_elim, inl, inr, ℕ, suc, ◌+◌, ◌-◌, ◌*◌, ◌^◌, ◌<◌, ◌≤◌, List, [], ◌∷◌, ◌++◌, length, take, drop, refl, sym, ◌∙◌, ap, subst, arith, append_assoc, length-append}
+use Rattle.std.proofs.lemmas.List.{append-nil, length-drop, take-append-drop}
+use Rattle.rq_model.specs.declared.record.Record.{Record}
+use Rattle.rq_disk.specs.declared.device.LogDevice.{Ghosts}
+use Rattle.rq_record.specs.Decoding.{IsFront}
+use Rattle.rq_record.specs.Spelling.{HoldsRecord, IsRecord, spelling}
+use Rattle.rq_record.proofs.Whole.{long_spelling, short_spelling}
+use Rattle.rq_log.specs.Reading.{HasMost, IsDamagedBehind, IsRead, IsReading, KeepsRead, Streamed, left_of}
+use Rattle.rq_log.specs.Spelled.{spelled, AreSpelled}
+use Rattle.rq_log.proofs.Moments.{joined, weaker}
+
+-- each record has some bytes
+few_records : (rs : List Record) → AreSpelled rs → 13 * length rs ≤ length (spelled rs)
+few_records [] are = omega arith
+few_records (r ∷ rs) are = let a = few_records rs are.1 in let b = long_spelling r are.0 in let c = length-append (spelled rs) (spelling r) in omega (arith, a, b, c)
+
+-- what is read twice is only read
+pub read_twice : {L : Type 0} (g : Ghosts L) (old mid new : L) → IsRead g old mid → IsRead g mid new → IsRead g old new
+read_twice g old mid new a b = record {
+  same = b.same ∙ a.same;
+  honest = λ h. a.honest (b.honest h);
+  leaves = λ c left. a.leaves c (b.leaves c left);
+  moments = joined g old mid new (g.may_leave old) a.moments (weaker g mid new (g.may_leave mid) (g.may_leave old) b.moments a.leaves);
+}
+
+abbrev head_of : List ℕ → ℕ
+head_of [] = 0
+head_of (n ∷ l) = n
+
+-- what stands at the front of two lists, and is no longer than the first, stands at its front
+fits_first : (a b x y : List ℕ) → a ++ b ≡ x ++ y → length x ≤ length a → (rest : List ℕ) × (a ≡ x ++ rest)
+fits_first a b [] y e le = (a, refl)
+fits_first [] b (c ∷ x) y e le = absurd (omega arith)
+fits_first (d ∷ a) b (c ∷ x) y e le =
+    let p = fits_first a b x y (ap (drop 1) e) (omega (arith, le)) in
+    (p.0, ap (λ l. d ∷ l) p.1 ∙ ap (λ n. n ∷ (x ++ p.0)) (ap head_of e))
+
+-- no record stands in front of what is left, where none stands in what was read of it
+none_left : (unread rest : List ℕ) → (HoldsRecord unread → ⊥) → (546 ≤ length unread) ⊎ (rest ≡ []) → HoldsRecord (unread ++ rest) → ⊥
+none_left unread rest none (inl most) h =
+    let size = short_spelling h.0 h.2 in
+    let p = fits_first unread rest (spelling h.0) h.1 h.3 (omega (arith, size, most)) in
+    none (h.0, p.0, h.2, p.1)
+none_left unread rest none (inr all) h = none (h.0, h.1, h.2, sym (append-nil unread) ∙ ap (λ l. unread ++ l) (sym all) ∙ h.3)
+
+none_empty : (unread rest : List ℕ) → unread ≢ [] → unread ++ rest ≢ []
+none_empty [] rest some e = some refl
+none_empty (b ∷ unread) rest some e = let n = ap length e in omega (arith, n)
+
+no_bytes : (bytes : List ℕ) → length bytes ≡ 0 → bytes ≡ []
+no_bytes [] e = refl
+no_bytes (b ∷ bytes) e = absurd (omega (arith, e))
+
+module _ {L : Type 0} (g : Ghosts L) (records : List Record) (first : L) (last : ℕ) where
+  -- the number of the next record
+  pub next_fits : (s : Streamed L) → KeepsRead g records s first last → s.at < 2 ^ 64 → last + 1 < 2 ^ 64
+  next_fits s k fits = let a = few_records records k.are_spelled in let b = k.place in let c = k.count in omega (arith, a, b, c, fits)
+
+  pub is_reading : (s : Streamed L) → KeepsRead g records s first last → IsReading g (record { records = records; device = s.device; first = first })
+  is_reading s k = record {
+    are_spelled = k.are_spelled;
+    begins = λ h. (left_of g s, k.front h);
+    read = k.read;
+  }
+
+  -- more was read
+  pub filled : (old s : Streamed L) → KeepsRead g records old first last → (g.honest s.device → left_of g s ≡ left_of g old) → s.at + length old.unread ≡ old.at + length s.unread → IsRead g old.device s.device → KeepsRead g records s first last
+  filled old s k left place read = record {
+    are_spelled = k.are_spelled;
+    count = k.count;
+    place = (let p = k.place in omega (arith, p, place));
+    front = λ h. k.front (read.honest h) ∙ ap (λ l. spelled records ++ l) (sym (left h));
+    read = read_twice g first old.device s.device k.read read;
+  }
+
+  -- the next record is taken
+  pub taken : (s new : Streamed L) (r : Record) (used : ℕ) → KeepsRead g records s first last → IsFront r used s.unread → new ≡ record s { unread = drop used s.unread } → KeepsRead g (r ∷ records) new first (last + 1)
+  taken s new r used k is same = subst (λ (x : Streamed L). KeepsRead g (r ∷ records) x first (last + 1)) (sym same) (record {
+    are_spelled = (is.0, k.are_spelled);
+    count = (let c = k.count in omega (arith, c));
+    place = (
+        let p = k.place in
+        let a = length-append (spelled records) (spelling r) in
+        let b = ap length is.2 in
+        let c = ap length (take-append-drop used s.unread) in
+        let d = length-append (take used s.unread) (drop used s.unread) in
+        omega (arith, p, a, b, c, d)
+        );
+    front = λ h. k.front h
+        ∙ ap (λ l. spelled records ++ (l ++ drop s.at (g.seen s.device))) (sym (take-append-drop used s.unread))
+        ∙ ap (λ l. spelled records ++ ((l ++ drop used s.unread) ++ drop s.at (g.seen s.device))) is.2
+        ∙ ap (λ l. spelled records ++ l) (append_assoc (spelling r) (drop used s.unread) (drop s.at (g.seen s.device)))
+        ∙ sym (append_assoc (spelled records) (spelling r) (drop used s.unread ++ drop s.at (g.seen s.device)));
+    read = k.read;
+  })
+
+  -- nothing is left
+  pub all_read : (s : Streamed L) → KeepsRead g records s first last → HasMost g 546 s → length s.unread ≡ 0 → g.honest s.device → g.seen first ≡ spelled records
+  all_read s k (inl most) none h = absurd (omega (arith, most, none))
+  all_read s k (inr all) none h = k.front h ∙ ap (λ l. spelled records ++ (s.unread ++ l)) (all h) ∙ ap (λ l. spelled records ++ (l ++ [])) (no_bytes s.unread none) ∙ append-nil (spelled records)
+
+  -- what is left is no record
+  pub damaged : (s : Streamed L) → KeepsRead g records s first last → HasMost g 546 s → (HoldsRecord s.unread → ⊥) → s.unread ≢ [] → g.honest s.device → IsDamagedBehind records (g.seen first)
+  damaged s k most none some h = record {
+    rest = left_of g s;
+    some = none_empty s.unread (drop s.at (g.seen s.device)) some;
+    bad = none_left s.unread (drop s.at (g.seen s.device)) none (⊎_elim (λ m. inl m) (λ all. inr (all h)) most);
+    is = k.front h;
+  }

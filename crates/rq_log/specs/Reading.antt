@@ -1,0 +1,88 @@
+-- What is read of a device.
+use Rattle.std.specs.Prelude.{◌≡◌, ◌≢◌, ◌⊎◌, ℕ, ◌+◌, ◌-◌, ◌%◌, ◌^◌, ◌≤◌, Bool, true, List, [], ◌++◌, length, take, drop}
+use Rattle.rq_model.specs.declared.record.Record.{Record}
+use Rattle.rq_model.specs.declared.refusal.Refusal.{Refusal}
+use Rattle.rq_model.specs.declared.refusal.Refusal.TheVariants as why
+use Rattle.rq_model.specs.declared.refusal.Damage.TheVariants as damage
+use Rattle.rq_disk.specs.declared.device.LogDevice.{Ghosts}
+use Rattle.rq_record.specs.Spelling.{HoldsRecord}
+use Rattle.rq_log.specs.Crash.{LeavesOnly}
+use Rattle.rq_log.specs.Spelled.{spelled, AreSpelled}
+
+-- a device that is read record by record
+pub record LogRead (L : Type 0) : Type 0 where
+  -- the records that were read, the newest first
+  pub records : List Record
+  pub device : L
+  -- the device as it was before anything was read of it
+  pub first : L
+
+-- bytes begin with these records
+abbrev pub BeginsWith : List Record → List ℕ → Type 0
+BeginsWith records bytes = (rest : List ℕ) × (bytes ≡ spelled records ++ rest)
+
+-- behind these records there are bytes, and no record stands at their front
+pub record IsDamagedBehind (records : List Record) (bytes : List ℕ) : Type 0 where
+  pub rest : List ℕ
+  pub some : rest ≢ []
+  pub bad : HoldsRecord rest → ⊥
+  pub is : bytes ≡ spelled records ++ rest
+
+-- bytes of a device: those that were read and are not taken, and how many were read
+pub record Streamed (L : Type 0) : Type 0 where
+  pub unread : List ℕ
+  pub at : ℕ
+  -- a read gave fewer bytes than were asked for
+  pub ended : Bool
+  pub device : L
+
+-- why no more was read, with the failures of the device before and after it
+abbrev pub Fails : Refusal → ℕ → ℕ → Type 0
+Fails why.NoMemory before now = now ≡ before
+Fails why.DiskRead before now = now ≡ (before + 1) % 2 ^ 64
+Fails _ before now = ⊥
+
+module _ {L : Type 0} (g : Ghosts L) where
+  -- the device of a log was only read
+  pub record IsRead (old new : L) : Type 0 where
+    pub same : g.seen new ≡ g.seen old
+    pub honest : g.honest new → g.honest old
+    pub leaves : (c : List ℕ) → g.may_leave new c → g.may_leave old c
+    pub moments : LeavesOnly g old new (g.may_leave old)
+
+  -- why reading a device stopped behind these records
+  abbrev pub StopsFor : Refusal → List Record → L → L → Type 0
+  StopsFor why.NoMemory records old new = g.faults new ≡ g.faults old
+  StopsFor why.DiskRead records old new = g.faults new ≡ (g.faults old + 1) % 2 ^ 64
+  StopsFor (why.Damaged (damage.Record lsn)) records old new = (lsn ≡ length records + 1)
+      × (g.honest new → IsDamagedBehind records (g.seen old)) × (g.faults new ≡ g.faults old)
+  StopsFor _ records old new = ⊥
+
+  -- what is so of each device that is read
+  pub record IsReading (r : LogRead L) : Type 0 where
+    pub are_spelled : AreSpelled r.records
+    pub begins : g.honest r.device → BeginsWith r.records (g.seen r.first)
+    pub read : IsRead r.first r.device
+
+  -- what is left of a device: what was read and is not taken, and what was not read
+  abbrev pub left_of : Streamed L → List ℕ
+  left_of s = s.unread ++ drop s.at (g.seen s.device)
+
+  -- so many bytes stand there, unless the device has no others
+  abbrev pub HasMost : ℕ → Streamed L → Type 0
+  HasMost most s = (most ≤ length s.unread) ⊎ (g.honest s.device → drop s.at (g.seen s.device) ≡ [])
+
+  -- what is so of the fields of a stream
+  pub record KeepsStream (s : Streamed L) (window : List ℕ) (start end : ℕ) : Type 0 where
+    pub order : start ≤ end
+    pub within : end ≤ length window
+    pub wide : length window ≡ 65536
+    pub none_behind : s.ended ≡ true → g.honest s.device → drop s.at (g.seen s.device) ≡ []
+
+  -- what is so of the fields of a reader
+  pub record KeepsRead (records : List Record) (s : Streamed L) (first : L) (last : ℕ) : Type 0 where
+    pub are_spelled : AreSpelled records
+    pub count : last ≡ length records
+    pub place : s.at ≡ length (spelled records) + length s.unread
+    pub front : g.honest s.device → g.seen first ≡ spelled records ++ left_of s
+    pub read : IsRead first s.device

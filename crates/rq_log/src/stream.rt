@@ -1,0 +1,167 @@
+//! Bytes of a device, from its front on, a window at a time.
+ghost use Rattle.std.specs.Prelude.{◌≡◌, ◌+◌, ◌-◌, ◌^◌, ◌<◌, ◌≤◌, ◌++◌, IfOk, IfErr, OnOk, OnErr, length, take, drop, min};
+ghost use Rattle.rq_disk.specs.Device.{FailureIsCounted};
+ghost use Rattle.rq_log.specs.Reading.{Fails, HasMost, IsRead, left_of};
+
+use crate::Stopped;
+use rq_disk::LogDevice;
+use rq_model::refusal::Refusal;
+use rq_record::PAGE_OP_BYTES;
+use std::alloc::Global;
+use std::marker::Model;
+
+/// How many bytes are read at a time.
+const WINDOW: usize = 65_536;
+
+/// A device that is read from its front, and the bytes that were read of it and are not taken yet.
+#[derive(Drop)]
+pub(crate) struct Stream<L: LogDevice> {
+    device: L,
+    window: Vec<u8>,
+    // where these bytes begin and end in the window
+    start: usize,
+    end: usize,
+    // how many bytes were read
+    at: u64,
+    // a read gave fewer bytes than were asked for
+    ended: bool,
+}
+
+impl<L: LogDevice> Model for Stream<L> {
+    ghost use Rattle.std.specs.Prelude.{◌-◌, drop, take};
+    ghost use Rattle.rq_log.specs.Reading.{Streamed, KeepsStream};
+
+    ghost Value = { Streamed L };
+
+    ghost view = { λ s. record {
+      unread = take (s.end - s.start) (drop s.start s.window.items);
+      at = s.at;
+      ended = s.ended;
+      device = s.device;
+    } };
+
+    ghost invariant = { λ s. KeepsStream L.LogDevice (record {
+      unread = take (s.end - s.start) (drop s.start s.window.items);
+      at = s.at;
+      ended = s.ended;
+      device = s.device;
+    }) s.window.items s.start s.end };
+}
+
+impl<L: LogDevice + Drop> Stream<L> {
+    ghost use Rattle.std.specs.Prelude.{[], false};
+
+    /// Nothing is read yet.
+    pub(crate) fn new(alloc: Global, device: L) -> Result<Stream<L>, Stopped<L>>
+        ensures ok { IfOk result (λ s. s ≡ record { unread = []; at = 0; ended = false; device = device }) }
+        ensures err { IfErr result (λ stopped. (stopped.refusal ≡ Refusal.NoMemory) × (stopped.device ≡ device)) }
+    {
+        match vec![in alloc; 0; WINDOW] {
+            Ok(window) => Ok(Stream {
+                device,
+                window,
+                start: 0,
+                end: 0,
+                at: 0,
+                ended: false,
+            }),
+            Err(_) => Err(Stopped {
+                refusal: Refusal::NoMemory,
+                device,
+            }),
+        }
+    }
+
+    /// The device, as it is.
+    pub(crate) fn give_back(self) -> L
+        ensures { result ≡ self.device }
+    {
+        let Stream {
+            device,
+            window: _,
+            start: _,
+            end: _,
+            at: _,
+            ended: _,
+        } = self;
+        device
+    }
+}
+
+impl<L: LogDevice> Stream<L> {
+    /// How many bytes were read, for proofs: a number of 64 bits.
+    pub(crate) fn shows_at(&self)
+        ensures { self.now.at < 2 ^ 64 }
+    {
+        let _at = self.at;
+    }
+
+    /// The bytes that were read and are not taken.
+    pub(crate) fn unread(&self) -> &[u8]
+        ensures { result.now ≡ self.now.unread }
+    {
+        &self.window[self.start..self.end]
+    }
+
+    /// Takes the first so many of them.
+    pub(crate) fn skip(&mut self, count: usize)
+        requires { count ≤ length self.old.unread }
+        ensures { self.new ≡ record self.old { unread = drop count self.old.unread } }
+    {
+        self.start += count;
+    }
+
+    /// Reads on where fewer bytes than the longest record has are left of what was read.
+    ///
+    /// # Errors
+    /// `DiskRead`; `NoMemory` where a number of 64 bits can't count the bytes.
+    pub(crate) fn fill(&mut self) -> Result<(), Refusal>
+        ensures most { OnOk result (HasMost L.LogDevice 546 self.new) }
+        ensures left { OnOk result (L.honest self.new.device → left_of L.LogDevice self.new ≡ left_of L.LogDevice self.old) }
+        ensures place { self.new.at + length self.old.unread ≡ self.old.at + length self.new.unread }
+        ensures err { OnErr result ((self.new.unread ≡ self.old.unread) × (self.new.at ≡ self.old.at)) }
+        ensures why { IfErr result (λ e. Fails e (L.faults self.old.device) (L.faults self.new.device)) }
+        ensures cause { OnOk result (L.faults self.new.device ≡ L.faults self.old.device) }
+        ensures read { IsRead L.LogDevice self.old.device self.new.device }
+    {
+        if self.ended || self.end - self.start >= PAGE_OP_BYTES {
+            return Ok(());
+        }
+        self.window.copy_within(self.start..self.end, 0);
+        self.end -= self.start;
+        self.start = 0;
+        let count = read_behind(&mut self.device, self.at, &mut self.window, self.end)?;
+        let Some(at) = self.at.checked_add(count as u64) else {
+            return Err(Refusal::NoMemory);
+        };
+        self.at = at;
+        self.end += count;
+        self.ended = self.end < WINDOW;
+        Ok(())
+    }
+}
+
+// Reads from the byte `at` on, into what is behind the first bytes of a window, and answers how many bytes.
+fn read_behind<L: LogDevice>(
+    device: &mut L,
+    at: u64,
+    window: &mut [u8],
+    end: usize,
+) -> Result<usize, Refusal>
+    requires { end ≤ length window.old }
+    ensures length { length window.new ≡ length window.old }
+    ensures front { take end window.new ≡ take end window.old }
+    ensures within { IfOk result (λ n. end + n ≤ length window.old) }
+    ensures count { IfOk result (λ n. L.honest device.new
+        → n ≡ min (length window.old - end) (length (L.seen device.old) - at)) }
+    ensures bytes { IfOk result (λ n. L.honest device.new
+        → take (end + n) window.new ≡ take end window.old ++ take n (drop at (L.seen device.old))) }
+    ensures err { IfErr result (λ e. e ≡ Refusal.DiskRead) }
+    ensures cause { FailureIsCounted (L.faults device.old) (L.faults device.new) result }
+    ensures read { IsRead L.LogDevice device.old device.new }
+{
+    match device.read(at, &mut window[end..]) {
+        Ok(count) => Ok(count),
+        Err(_) => Err(Refusal::DiskRead),
+    }
+}

@@ -1,0 +1,136 @@
+//! Planners: a level, with the slots that it is given.
+ghost use Rattle.std.specs.Prelude.{◌≡◌, ◌≤◌, false, length};
+ghost use Rattle.rq_page.specs.Sizes.{cell_count};
+ghost use Rattle.rq_level.specs.Kept.{noted};
+ghost use Rattle.rq_planner.specs.Answered.{IsPlanned, KnowsCells};
+ghost use Rattle.rq_planner.specs.Asked.{IsOfStore, asked_by, seen, undone_by};
+
+use crate::planning::{plan, plan_back};
+use crate::telling::{give_back, tell_store};
+use rq_disk::PageDevice;
+use rq_level::{Level, Op, Plan, Slots};
+use rq_model::record::{Record, Slot};
+use rq_model::refusal::Refusal;
+use rq_page::addr::Addr;
+use rq_pool::Pages;
+use rq_txn::Transactions;
+use std::alloc::Global;
+use std::marker::Model;
+
+/// A level that plans for a store, with the slots that it is given. Contracts see what the level keeps.
+///
+/// What a plan chose is given back as soon as it is planned: from the start of the operation on, the latch of its page
+/// keeps others from choosing it.
+#[derive(Drop)]
+pub struct Planner<B: Level> {
+    level: B,
+    slots: Slots,
+}
+
+impl<B: Level> Model for Planner<B> {
+    ghost use Rattle.std.specs.Prelude.{◌≡◌};
+    ghost use Rattle.rq_level.specs.Kept.{Kept};
+
+    ghost Value = { Kept };
+
+    ghost view = { λ p. B.kept p.level };
+
+    ghost invariant = { λ p. B.level p.level ≡ 1 };
+}
+
+impl<B: Level> Planner<B> {
+    /// The level as it is.
+    pub fn new(alloc: Global, level: B) -> Self
+        requires { B.level level ≡ 1 }
+        ensures { result ≡ B.kept level }
+    {
+        Planner {
+            level,
+            slots: Slots::new(alloc),
+        }
+    }
+
+    /// Tells the level a store in which nothing is under way, for whose cells it has room.
+    pub fn tell<P: PageDevice>(&mut self, pages: &Pages<P>)
+        requires free { cell_count pages.now.sizes ≤ length self.old.free }
+        requires chosen { cell_count pages.now.sizes ≤ length self.old.reserved }
+        ensures { KnowsCells pages.now.sizes pages.now.images self.new }
+    {
+        tell_store(pages, &mut self.level);
+    }
+
+    /// A slot was written. Takes no memory.
+    pub fn note(&mut self, at: Addr, bytes: &Slot)
+        ensures { self.new ≡ noted self.old at bytes.now }
+    {
+        self.level.noted(at, bytes);
+    }
+
+    /// The plan of an operation, from the slots as they are; `None` where it needs a page that an operation under way has
+    /// latched, and only there.
+    ///
+    /// # Errors
+    /// `NoMemory`; of a store that is not sound, or where the operation may not be done, also `Damaged`.
+    pub fn plan<P: PageDevice>(
+        &mut self,
+        alloc: Global,
+        pages: &Pages<P>,
+        transactions: &Transactions,
+        op: &Op,
+    ) -> Result<Option<Plan>, Refusal>
+        requires cells { KnowsCells pages.now.sizes pages.now.images self.old }
+        requires forward { op.now.undo ≡ false }
+        requires asked { IsOfStore pages.now.sizes (asked_by op.now) }
+        ensures cells { KnowsCells pages.now.sizes pages.now.images self.new }
+        ensures planned { IsPlanned (seen pages.now transactions.now) (asked_by op.now) result }
+    {
+        match plan(
+            alloc,
+            pages,
+            transactions,
+            &mut self.level,
+            op,
+            &mut self.slots,
+        ) {
+            Ok(Some(plan)) => {
+                give_back(pages, &mut self.level, &plan.writes);
+                Ok(Some(plan))
+            }
+            Ok(None) => Ok(None),
+            Err(refusal) => Err(refusal),
+        }
+    }
+
+    /// The plan of what takes back the operation whose end the record is, as `plan` does.
+    ///
+    /// # Errors
+    /// `NoMemory`; of a store that is not sound, or where the operation may not be undone, also `Damaged`.
+    pub fn plan_back<P: PageDevice>(
+        &mut self,
+        alloc: Global,
+        pages: &Pages<P>,
+        transactions: &Transactions,
+        told: &Record,
+    ) -> Result<Option<Plan>, Refusal>
+        requires cells { KnowsCells pages.now.sizes pages.now.images self.old }
+        requires asked { IsOfStore pages.now.sizes (undone_by told.now) }
+        ensures cells { KnowsCells pages.now.sizes pages.now.images self.new }
+        ensures planned { IsPlanned (seen pages.now transactions.now) (undone_by told.now) result }
+    {
+        match plan_back(
+            alloc,
+            pages,
+            transactions,
+            &mut self.level,
+            told,
+            &mut self.slots,
+        ) {
+            Ok(Some(plan)) => {
+                give_back(pages, &mut self.level, &plan.writes);
+                Ok(Some(plan))
+            }
+            Ok(None) => Ok(None),
+            Err(refusal) => Err(refusal),
+        }
+    }
+}

@@ -1,0 +1,214 @@
+//! A session that is served: its calls are made through a step interface, and a gate is asked where others may go on.
+ghost use Rattle.std.specs.Prelude.{◌≡◌, IfOk, IfErr, IfSome, IfNone, None, false};
+ghost use Rattle.rq_session.specs.declared.stage.Held.TheVariants.{Free};
+ghost use Rattle.rq_session.specs.declared.stage.Stage.TheVariants.{Rest};
+ghost use Rattle.rq_session.specs.Laws.{awaited};
+ghost use Rattle.rq_serving.specs.Carried.{CarriesOn, IsAsked, IsAskedFor, IsCall, IsCarried, IsCome, IsForce, IsLost, IsServed, KeepsNumber, NumberAfter, under_way};
+ghost use Rattle.rq_engine.specs.Says.{gave};
+ghost use Rattle.rq_serving.specs.Words.{told_by};
+
+use crate::words::{event_of, told_of};
+use rq_engine::event::{CommitNo, Event, Reply};
+use rq_model::txn::Lsn;
+use rq_session::Session;
+use rq_session::calls::{Action, Ask, Told};
+use rq_wire::{Answer, Request};
+use rq_workers::gate::{BEFORE_AGAIN, BETWEEN_STEPS, Gate};
+use rq_workers::steps::Steps;
+use std::sync::Wait;
+
+/// What came of serving a session.
+#[derive(Clone, Copy, Debug, PartialEq, Eq)]
+pub enum Came {
+    /// The answer to the request.
+    Answered(Answer),
+    /// The commit with this LSN waits for its receipt, and with it the request for its answer.
+    Waits(Lsn),
+    /// The session has ended, or the gate said no before a call is made again that is none of an operation under way; or
+    /// there was nothing to be done: a request came while a commit waits, or a receipt was asked for where none does.
+    Ended,
+}
+
+/// A session with the gate and the step interface through which it is served.
+#[derive(Drop)]
+pub struct Serving<G: Gate, S: Steps> {
+    gate: G,
+    steps: S,
+    session: Session,
+    // the commit that was answered last
+    number: Option<CommitNo>,
+}
+
+impl<G: Gate, S: Steps> Serving<G, S> {
+    /// A new session.
+    pub fn new(gate: G, steps: S) -> Self
+        ensures given { (result.gate ≡ gate) × (result.steps ≡ steps) × (result.number ≡ None) }
+        ensures session { (result.session.stage ≡ Rest Free) × (result.session.lost ≡ false) }
+    {
+        Serving {
+            gate,
+            steps,
+            session: Session::new(),
+            number: None,
+        }
+    }
+
+    /// Carries a request out: makes the calls that the session asks for, one after the other, until there is an answer,
+    /// or a commit waits for its receipt, or the session ends.
+    pub fn request<R: Wait>(&mut self, rt: &R, request: Request) -> Came
+        ensures served { IsServed S.made S.told self.old.steps self.new.steps self.old.session request self.new.session result }
+        ensures number { KeepsNumber self.old.session.stage self.old.number self.new.session.stage self.new.number }
+    {
+        if let Some(ask) = self.session.input(request) {
+            return self.carried(rt, Action::Do(ask));
+        }
+        match self.session.answer() {
+            Some(answer) => Came::Answered(answer),
+            None => Came::Ended,
+        }
+    }
+
+    /// Asks whether the commit that waits is durable. The caller waits before it asks again. Where none waits there is
+    /// nothing to ask.
+    pub fn ask_receipt<R: Wait>(&mut self, rt: &R) -> Came
+        ensures some { IfSome (awaited self.old.session.stage) (λ commit. IfSome self.old.number (λ number. IsAskedFor
+            S.made S.told self.old.steps self.new.steps number self.old.session self.new.session result)) }
+        ensures none { IfNone (awaited self.old.session.stage) ((result ≡ Came.Ended)
+            × (self.new.steps ≡ self.old.steps) × (self.new.session ≡ self.old.session)) }
+        ensures number { KeepsNumber self.old.session.stage self.old.number self.new.session.stage self.new.number }
+    {
+        if self.session.awaited().is_none() {
+            return Came::Ended;
+        }
+        match self.number {
+            Some(number) => self.asked_for(rt, number),
+            None => Came::Ended,
+        }
+    }
+
+    /// Finishes the operation under way and aborts the transaction, once the connection has ended or was at fault.
+    pub fn lose<R: Wait>(&mut self, rt: &R) -> Came
+        ensures lost { IsLost S.made S.told self.old.steps self.new.steps self.old.session self.new.session result }
+        ensures number { KeepsNumber self.old.session.stage self.old.number self.new.session.stage self.new.number }
+    {
+        let action = self.session.lost();
+        self.carried(rt, action)
+    }
+
+    /// Forces, which is no call of the session's, and hands the stamp on. The session is as before.
+    pub fn force(&mut self)
+        ensures force { IsForce S.made S.forced S.told self.old.steps self.new.steps }
+        ensures same { (self.new.gate ≡ self.old.gate) × (self.new.session ≡ self.old.session)
+            × (self.new.number ≡ self.old.number) }
+    {
+        let stamped = self.steps.force();
+        self.steps.seen(stamped);
+    }
+
+    /// The gate and the step interface.
+    pub fn into_parts(self) -> (G, S)
+        ensures { (result.0 ≡ self.gate) × (result.1 ≡ self.steps) }
+    {
+        let Serving {
+            gate,
+            steps,
+            session: _,
+            number: _,
+        } = self;
+        (gate, steps)
+    }
+
+    // Asks once for the receipt of a commit, and goes on with what that told.
+    fn asked_for<R: Wait>(&mut self, rt: &R, number: CommitNo) -> Came
+        ensures asked { IsAskedFor S.made S.told self.old.steps self.new.steps number self.old.session self.new.session result }
+        ensures number { KeepsNumber self.old.session.stage self.old.number self.new.session.stage self.new.number }
+    {
+        match self.called(Event::Acknowledged(number)) {
+            Some(action) => self.carried(rt, action),
+            None => Came::Ended,
+        }
+    }
+
+    // Does what is to be done, until the session asks for nothing more.
+    fn carried<R: Wait>(&mut self, rt: &R, first: Action) -> Came
+        ensures carried { IsCarried S.made S.told self.old.steps self.new.steps self.old.session first self.new.session result }
+        ensures number { KeepsNumber self.old.session.stage self.old.number self.new.session.stage self.new.number }
+    {
+        let mut action = first;
+        for _ in rt.forever() {
+            let ask = match self.asked(action) {
+                Ok(ask) => ask,
+                Err(came) => return came,
+            };
+            action = match self.called(event_of(ask)) {
+                Some(action) => action,
+                None => return Came::Ended,
+            };
+        }
+        unreachable!()
+    }
+
+    // The call that is to be made, or what came where there is none. Before one that is made again the gate is asked.
+    fn asked(&mut self, action: Action) -> Result<Ask, Came>
+        ensures asks { IfOk result (λ ask. IsAsked action ask) }
+        ensures came { IfErr result (λ came. IsCome action came) }
+        ensures same { (self.new.steps ≡ self.old.steps) × (self.new.session ≡ self.old.session)
+            × (self.new.number ≡ self.old.number) }
+    {
+        match action {
+            Action::Do(ask) => Ok(ask),
+            Action::Again(ask) => {
+                if self.gate.pass(BEFORE_AGAIN) || is_under_way(&ask) {
+                    Ok(ask)
+                } else {
+                    Err(Came::Ended)
+                }
+            }
+            Action::Await(commit) => Err(Came::Waits(commit.lsn)),
+            Action::Answer(answer) => Err(Came::Answered(answer)),
+            Action::End => Err(Came::Ended),
+        }
+    }
+
+    // Makes a call, and tells the session what came of it: what is to be done next. None where no call of a session is
+    // answered so.
+    fn called(&mut self, event: Event) -> Option<Action>
+        ensures call { IsCall S.made S.told self.old.steps self.new.steps event self.old.session result self.new.session }
+        ensures number { KeepsNumber self.old.session.stage self.old.number self.new.session.stage self.new.number }
+    {
+        let stamped = self.steps.call(event);
+        let told = told_of(stamped.reply());
+        self.number = number_after(self.number, stamped.reply());
+        self.steps.seen(stamped);
+        let told = told?;
+        self.passes_behind(&told);
+        Some(self.session.reply(&told))
+    }
+
+    // Asks the gate behind a slot that was written. An operation under way is gone through, whatever it says.
+    fn passes_behind(&mut self, told: &Told)
+        ensures same { (self.new.steps ≡ self.old.steps) × (self.new.session ≡ self.old.session)
+            × (self.new.number ≡ self.old.number) }
+    {
+        if *told == Told::Written {
+            self.gate.pass(BETWEEN_STEPS);
+        }
+    }
+}
+
+// The number that is kept once this was replied: that of a commit just now, or the one from before.
+fn number_after(number: Option<CommitNo>, reply: &Reply) -> Option<CommitNo>
+    ensures { NumberAfter number (told_by (gave reply.now)) result }
+{
+    match reply {
+        Reply::Committed(number) => Some(*number),
+        _ => number,
+    }
+}
+
+// Whether the call is one of an operation that is under way.
+fn is_under_way(ask: &Ask) -> bool
+    ensures { result ≡ under_way ask.now }
+{
+    matches!(ask, Ask::Step(_) | Ask::Finish(_))
+}
