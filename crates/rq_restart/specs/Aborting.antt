@@ -7,24 +7,28 @@ use Rattle.rq_model.specs.declared.refusal.Refusal.{Refusal}
 use Rattle.rq_model.specs.declared.refusal.Refusal.TheVariants as why
 use Rattle.rq_model.specs.declared.refusal.Damage.TheVariants as damage
 use Rattle.rq_model.specs.declared.txn.Txn.{Txn}
-use Rattle.rq_model.specs.Words.{In}
 use Rattle.rq_model.specs.Deeds.{deed_in}
-use Rattle.rq_page.specs.Sizes.{Sizes, sender_count}
-use Rattle.rq_views.specs.Plans.{deed_sender}
+use Rattle.rq_page.specs.Sizes.{Sizes}
+use Rattle.rq_views.specs.Log.{Slots}
+use Rattle.rq_views.specs.Plans.Turn.{Undid}
 use Rattle.rq_views.specs.Stored.{slots_in}
 use Rattle.rq_level.specs.declared.writes.SlotWrite.{SlotWrite}
+use Rattle.rq_level.specs.Writes.{AreSlotWrites}
 use Rattle.rq_pool.specs.Pooled.{Pooled}
 use Rattle.rq_store.specs.Fitting.{image_in}
 use Rattle.rq_store.specs.State.{State}
 use Rattle.rq_store.specs.Steps.{page_op}
+use Rattle.rq_sound.specs.Plans.{IsPlannedFrom}
 use Rattle.rq_sound.specs.Rows.{comp_end}
 use Rattle.rq_sound.specs.Sound.{IsSound}
+use Rattle.rq_inverses.specs.Inverses.{InverseTakesLowest}
+use Rattle.rq_planner.specs.Backs.{CanBeTakenBack}
 use Rattle.rq_lost.specs.declared.dues.Due.{Due}
 use Rattle.rq_undone.specs.Analysis.{analysis}
 use Rattle.rq_lost.specs.Choices.{least_free}
 use Rattle.rq_lost.specs.Dues.{deed_due, dues}
 use Rattle.rq_lost.specs.Numbers.{number_of, numbers}
-use Rattle.rq_lost.specs.Walk.{IsBetween, IsWithin, ShowsUndone, StandsLast}
+use Rattle.rq_lost.specs.Walk.{IsBetween, IsWithin}
 use Rattle.rq_restart.specs.Repeating.{AreCounted, Belongs, Paged, Repeats, paged}
 
 -- the log with the records of these writes of an operation behind, the first of them the oldest
@@ -116,19 +120,22 @@ pub record IsFull (z : Sizes) (behind : List Record → Type 0) (before : State 
   pub full : 2 ^ 50 ≤ length last
   pub way : OfStore z before (λ base. IsOnItsWay base last)
 
--- what is due is told by no deed, or by one of a sender that the store has not, or that was not done last at its end of
--- its group
-abbrev pub IsNoDeed : Sizes → List (List ℕ) → Due → Type 0
-IsNoDeed z images due = (deed : Deed) → deed_in due.deed ≡ Some deed → deed_sender deed < sender_count z
-    → StandsLast (slots_in z images) deed → ⊥
+-- The writes are those that take back what is due, as its level plans them over these slots: its deed was done last at its
+-- end of its group there, and a message is put back into the lowest free cell.
+pub record IsPlannedBack (z : Sizes) (q : Slots) (due : Due) (ws : List SlotWrite) : Type 0 where
+  pub deed : Deed
+  pub reads : deed_in due.deed ≡ Some deed
+  pub can : CanBeTakenBack z q deed
+  pub planned : IsPlannedFrom z q ws (Undid deed)
+  pub slots : AreSlotWrites z ws
+  pub lowest : InverseTakesLowest z q [] deed ws
 
--- no pages and log in which it is due show a store in which it can be taken back
+-- what is due is told by no deed, or by one that the slots of these pages do not show to be done last
 abbrev pub IsNotUndone : Sizes → List (List ℕ) → Due → Type 0
-IsNotUndone z images due =
-    (log : List Record) → In due (dues log) → ShowsUndone z images log (deed_due due) → ⊥
+IsNotUndone z images due = (deed : Deed) → deed_in due.deed ≡ Some deed → CanBeTakenBack z (slots_in z images) deed → ⊥
 
--- Behind the log that these pages are of, what is due cannot be taken back: no store that pages and log show could do it,
--- or its transaction has had 2^64 - 1 operations.
+-- Behind the log that these pages are of, what is due cannot be taken back: the slots do not show that it was done last, or
+-- its transaction has had 2^64 - 1 operations.
 abbrev pub CannotBeTaken : Sizes → List (List ℕ) → List Record → Due → Type 0
 CannotBeTaken z images log due = IsNotUndone z images due ⊎ (2 ^ 64 ≤ number_of due.txn (numbers log) + 1)
 

@@ -1,4 +1,6 @@
-use Rattle.std.proofs.Common.{rules, subst}
+use Rattle.std.proofs.Common.{rules, sym, subst}
+use Rattle.rq_planner.specs.Answered.{KnowsCells}
+use Rattle.rq_pool.specs.Pooled.{Pooled}
 use Rattle.rq_restart.specs.Aborting.{AbortStops, AbortsBehind, HasGoneOn, IsAborting, IsShown}
 use Rattle.rq_restart.proofs.Aborts.{aborting_join, aborts_join, gone_join, stops_join}
 use Rattle.rq_restart.proofs.aborting.abort_lost.Goals as goal
@@ -28,3 +30,6 @@ returns-clause-gone_on g c =
     let new = c.take_back_all.new.pages in
     let here : HasGoneOn z (AbortsBehind mid last) mid last now new (IsShown mid now) (IsShown last new) = subst (λ y. HasGoneOn y (AbortsBehind mid last) mid last now new (IsShown mid now) (IsShown last new)) made.sizes c.in_ok-take_back_all.ensures.gone_on in
     gone_join z (AbortsBehind log mid) log mid old now (IsShown log old) (IsShown mid now) made.gone_on (AbortsBehind mid last) (AbortsBehind log last) last new (IsShown last new) (aborts_join log mid last) here
+
+pub take_back_all-requires-clause-cells : goal.take_back_all-requires-clause-cells
+take_back_all-requires-clause-cells g c = subst (λ (p : Pooled g.P). KnowsCells p.sizes p.images c.args.planner.now) (sym c.in_ok-end_idle.ensures.same) c.requires.cells

@@ -49,6 +49,7 @@ loop-txn-preserved g c =
       device = made.device ∙ kept.device;
       log = (made.log.0 ∙ kept.log.0, made.log.1 ∙ kept.log.1, made.log.2, made.log.3 ∙ kept.log.3);
       room = made.room ∙ kept.room;
+      same = made.same refl ∙ kept.same;
     }
 
 pub returns-in_err-append-clause-stops : goal.returns-in_err-append-clause-stops

@@ -11,6 +11,7 @@ invariant-loop-txn g l = record {
   device : l.pages.device ≡ l.fn.pages.device;
   log : (l.log.device ≡ l.fn.log.device) × (l.log.forced ≡ l.fn.log.forced) × (l.log.failed ≡ false) × (l.log.settled ≡ l.fn.log.settled);
   room : l.log.reserved ≡ l.fn.log.reserved;
+  same : l.pages ≡ l.fn.pages;
 }
 
 abbrev pub decreases-loop-txn : goal.decreases-loop-txn

@@ -1,6 +1,7 @@
 use Rattle.std.proofs.Common.{◌≡◌, false}
 use Rattle.rq_restart.specs.Aborting.{HasGoneOn, IsMaking, IsShownWithin}
 use Rattle.rq_restart.specs.Found.{AreFindings}
+use Rattle.rq_planner.specs.Answered.{KnowsCells}
 use Rattle.rq_restart.proofs.aborting.make_all.Given as goal
 
 abbrev pub invariant-loop-index : goal.invariant-loop-index
@@ -13,4 +14,5 @@ invariant-loop-index g l = record {
   device : l.pages.device ≡ l.fn.pages.device;
   log : (l.log.device ≡ l.fn.log.device) × (l.log.forced ≡ l.fn.log.forced) × (l.log.failed ≡ false) × (l.log.settled ≡ l.fn.log.settled);
   room : l.log.reserved ≡ l.fn.log.reserved;
+  cells : KnowsCells l.pages.sizes l.pages.images l.planner;
 }

@@ -9,6 +9,8 @@ use Rattle.rq_level.specs.declared.writes.SlotWrite.{SlotWrite}
 use Rattle.rq_sound.specs.Plans.{IsPlannedFrom}
 use Rattle.rq_sound.specs.Rows.{comp_end}
 use Rattle.rq_inverses.specs.Inverses.{InverseTakesLowest}
+use Rattle.rq_planner.specs.Answered.{KnowsCells}
+use Rattle.rq_pool.specs.Pooled.{Pooled}
 use Rattle.rq_lost.specs.Dues.{deed_due, dues}
 use Rattle.rq_lost.specs.Numbers.{number_of, numbers}
 use Rattle.rq_undone.specs.Analysis.{Analysis, analysis}
@@ -170,3 +172,6 @@ returns-clause-working g c =
     let made = c.in_ok-make_all.ensures in
     let d = c.args.due.now in
     (close_rest c.make_all.new.log.records c.append.new.log.records c.make_all.new.findings c.append.new.findings d first.0 c.in-Some.operation d.lsn made.found c.in_ok-append.ensures.found c.in_ok-append.ensures.records (made.rest.0 ∙ first.1)).1 ∙ made.rest.1
+
+pub returns-clause-cells : goal.returns-clause-cells
+returns-clause-cells g c = subst (λ (p : Pooled g.P). KnowsCells p.sizes p.images c.make_all.new.planner) (sym (c.in_ok-append.ensures.same refl)) c.in_ok-make_all.ensures.cells

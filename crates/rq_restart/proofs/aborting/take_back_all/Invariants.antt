@@ -2,6 +2,7 @@ use Rattle.std.proofs.Common.{◌≡◌, None, false, length}
 use Rattle.rq_lost.specs.Choices.{least_free}
 use Rattle.rq_restart.specs.Aborting.{AbortsBehind, HasGoneOn, IsShown}
 use Rattle.rq_restart.specs.Found.{AreFindings}
+use Rattle.rq_planner.specs.Answered.{KnowsCells}
 use Rattle.rq_restart.proofs.aborting.take_back_all.Given as goal
 
 abbrev pub invariant-loop-due : goal.invariant-loop-due
@@ -13,6 +14,7 @@ invariant-loop-due g l = record {
   device : l.pages.device ≡ l.fn.pages.device;
   log : (l.log.device ≡ l.fn.log.device) × (l.log.forced ≡ l.fn.log.forced) × (l.log.failed ≡ false) × (l.log.settled ≡ l.fn.log.settled);
   room : l.log.reserved ≡ l.fn.log.reserved;
+  cells : KnowsCells l.pages.sizes l.pages.images l.planner;
 }
 
 abbrev pub decreases-loop-due : goal.decreases-loop-due

@@ -7,11 +7,11 @@ use Rattle.rq_restart.proofs.Linking.{unlinked_stops}
 use Rattle.rq_restart.proofs.restart.mend_whole.Goals as goal
 
 pub returns-clause-linked : goal.returns-clause-linked
-returns-clause-linked g c = subst (λ y. AreLinked y (slots_on y (paged c.mend.new.pages))) c.in_ok-lost.ensures.sizes c.in_ok-check_links.ensures.linked
+returns-clause-linked g c = subst (λ y. AreLinked y (slots_on y (paged c.mend.new.pages))) c.in_ok-mended.ensures.sizes c.in_ok-check_links.ensures.linked
 
 pub returns-in_err-check_links-clause-stops : goal.returns-in_err-check_links-clause-stops
 returns-in_err-check_links-clause-stops g c =
-    let mend = c.in_ok-lost.ensures in
+    let mend = c.in_ok-mended.ensures in
     let z = c.args.pages.now.sizes in
     let log = c.args.log.now.records in
     let mended = c.mend.new.log.records in
