@@ -47,7 +47,7 @@ use Rattle.rq_lost.proofs.Planning.{due_may, due_reads}
 use Rattle.rq_lost.proofs.Recovering.{behind}
 use Rattle.rq_lost.proofs.Walking.{aborts_go_on}
 use Rattle.rq_restart.specs.declared.findings.Findings.{Findings}
-use Rattle.rq_restart.specs.Aborting.{AbortStops, CannotBeTaken, IsAborting, IsBadStep, IsNotUndone, IsOnItsWay, IsShown, IsShownWithin, IsTakenNext, OfStore, PlanStops}
+use Rattle.rq_restart.specs.Aborting.{AbortStops, CannotBeTaken, IsAbortingFrom, IsBadStep, IsNotUndone, IsOnItsWay, IsShown, IsShownWithin, IsTakenNext, OfStore, PlanStops, RepeatedSince}
 use Rattle.rq_restart.specs.Aborting.IsBadStep.{BadDue}
 use Rattle.rq_restart.specs.Aborting.IsOnItsWay.{Between, Within}
 use Rattle.rq_restart.specs.Checked.{IsEnded}
@@ -172,14 +172,14 @@ module _ {P : Type 0} (z : Sizes) (log : List Record) (old : Pooled P) (f : Find
     taken_next n number = record { older = ds; first = first_is; nobody = nobody_is; number = number ∙ ap (λ m. number_of d.txn m + 1) are.numbers }
 
     -- it cannot be taken back
-    pub bad_due : (lsn : ℕ) → lsn ≡ d.lsn → CannotBeTaken z old.images log d → (start : Paged) → Repeats z log start (paged old) → IsBadStep z (IsAborting log) start log lsn
+    pub bad_due : (lsn : ℕ) → lsn ≡ d.lsn → CannotBeTaken z old.images log d → (start : Paged) → Repeats z log start (paged old) → IsBadStep z (IsAbortingFrom z log old) start log lsn
     bad_due lsn place why start h = BadDue d ds old.images (paged old) first_is nobody_is place refl h why
 
-    pub plan_stops : (e : Refusal) → PlanStops z old.images d e → AbortStops z (IsAborting log) log old shown e
+    pub plan_stops : (e : Refusal) → PlanStops z old.images d e → AbortStops z (IsAbortingFrom z log old) log old shown e
     plan_stops why.NoMemory s = tt
     plan_stops (why.Damaged (damage.Record lsn)) s = record {
       last = log;
-      aborting = aborting_none log;
+      aborting = aborting_none z (RepeatedSince z log (paged old)) log;
       bad = bad_due lsn s.0 (inl s.1);
       none = not_planned s.1;
     }

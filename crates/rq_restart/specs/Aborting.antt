@@ -1,5 +1,5 @@
 -- Undoing lost transactions, and where that stops.
-use Rattle.std.specs.Prelude.{◌≡◌, ◌⊎◌, ℕ, ◌+◌, ◌^◌, ◌<◌, ◌≤◌, List, [], ◌∷◌, length, Some, None}
+use Rattle.std.specs.Prelude.{◌≡◌, ◌⊎◌, ℕ, ◌+◌, ◌^◌, ◌<◌, ◌≤◌, List, [], ◌∷◌, length, take, Some, None}
 use Rattle.rq_model.specs.declared.record.Deed.{Deed}
 use Rattle.rq_model.specs.declared.record.Record.{Record}
 use Rattle.rq_model.specs.declared.record.Record.TheVariants.{AbortEnd}
@@ -29,7 +29,7 @@ use Rattle.rq_lost.specs.Choices.{least_free}
 use Rattle.rq_lost.specs.Dues.{deed_due, dues}
 use Rattle.rq_lost.specs.Numbers.{number_of, numbers}
 use Rattle.rq_lost.specs.Walk.{IsBetween, IsWithin}
-use Rattle.rq_restart.specs.Repeating.{AreCounted, Belongs, Paged, Repeats, paged}
+use Rattle.rq_restart.specs.Repeating.{AreCounted, Belongs, Paged, Repeats, paged, slots_on}
 
 -- the log with the records of these writes of an operation behind, the first of them the oldest
 abbrev pub with_writes : Txn → ℕ → List SlotWrite → List Record → List Record
@@ -75,16 +75,59 @@ pub record AbortsBehind (log now : List Record) : Type 0 where
   pub turns : AreRounds log rounds
   pub are : after_rounds rounds log ≡ now
 
--- the same, and some writes of the next
-pub data IsAborting (log now : List Record) : Type 0 where
-  Between : AbortsBehind log now → IsAborting log now
-  Within : (older : List Record) (d : Due) (n : ℕ) (ws : List SlotWrite) → AbortsBehind log older
-      → IsTakenNext older d n → with_writes d.txn n ws older ≡ now → IsAborting log now
+-- The writes are those that take back what is due, as its level plans them over these slots: its deed was done last at its
+-- end of its group there, and a message is put back into the lowest free cell.
+pub record IsPlannedBack (z : Sizes) (q : Slots) (due : Due) (ws : List SlotWrite) : Type 0 where
+  pub deed : Deed
+  pub reads : deed_in due.deed ≡ Some deed
+  pub can : CanBeTakenBack z q deed
+  pub planned : IsPlannedFrom z q ws (Undid deed)
+  pub slots : AreSlotWrites z ws
+  pub lowest : InverseTakesLowest z q [] deed ws
 
--- the log with the records of some writes of an operation behind
-pub record IsMaking (t : Txn) (n : ℕ) (log now : List Record) : Type 0 where
-  pub writes : List SlotWrite
-  pub are : with_writes t n writes log ≡ now
+-- they are so planned over some pages of which this is so
+pub record IsPlannedOn (z : Sizes) (on : Paged → Type 0) (due : Due) (ws : List SlotWrite) : Type 0 where
+  pub pages : Paged
+  pub on_pages : on pages
+  pub plan : IsPlannedBack z (slots_on z pages) due ws
+
+-- what is taken back in each round is planned over pages of which this is so, and of the log before the round
+abbrev pub ArePlanned : Sizes → (List Record → Paged → Type 0) → List Record → List Round → Type 0
+ArePlanned z on log [] = Unit {0}
+ArePlanned z on log (Ends t ∷ rs) = ArePlanned z on log rs
+ArePlanned z on log (TakesBack d n ws ∷ rs) = IsPlannedOn z (on (after_rounds rs log)) d ws × ArePlanned z on log rs
+
+-- the log with such rounds behind, each so planned
+pub record AbortsOn (z : Sizes) (on : List Record → Paged → Type 0) (log now : List Record) : Type 0 where
+  pub behind : AbortsBehind log now
+  pub planned : ArePlanned z on log behind.rounds
+
+-- the same, and some writes of the next
+pub data IsAborting (z : Sizes) (on : List Record → Paged → Type 0) (log now : List Record) : Type 0 where
+  Between : AbortsOn z on log now → IsAborting z on log now
+  Within : (older : List Record) (d : Due) (n : ℕ) (ws : List SlotWrite) (made : ℕ) → AbortsOn z on log older
+      → IsTakenNext older d n → IsPlannedOn z (on older) d ws → with_writes d.txn n (take made ws) older ≡ now
+      → IsAborting z on log now
+
+-- the log was repeated from the first pages to these
+abbrev pub RepeatedFrom : Sizes → Paged → List Record → Paged → Type 0
+RepeatedFrom z first log pages = Repeats z log first pages
+
+-- and so it was wherever the log before was repeated to those
+abbrev pub RepeatedSince : Sizes → List Record → Paged → List Record → Paged → Type 0
+RepeatedSince z log old now pages = (first : Paged) → Repeats z log first old → Repeats z now first pages
+
+-- such rounds are planned over the pages as they are, and as the records behind leave them
+abbrev pub AbortsFrom : {P : Type 0} → Sizes → List Record → Pooled P → List Record → Type 0
+AbortsFrom z log old now = AbortsOn z (RepeatedSince z log (paged old)) log now
+
+abbrev pub IsAbortingFrom : {P : Type 0} → Sizes → List Record → Pooled P → List Record → Type 0
+IsAbortingFrom z log old now = IsAborting z (RepeatedSince z log (paged old)) log now
+
+-- the log with the records of the first of these writes of an operation behind
+pub record IsMaking (t : Txn) (n : ℕ) (ws : List SlotWrite) (log now : List Record) : Type 0 where
+  pub made : ℕ
+  pub are : with_writes t n (take made ws) log ≡ now
 
 -- where the one is so of a sound store of these sizes, the other is
 abbrev pub OfStore : Sizes → (State → Type 0) → (State → Type 0) → Type 0
@@ -119,16 +162,6 @@ pub record IsFull (z : Sizes) (behind : List Record → Type 0) (before : State 
   pub aborting : behind last
   pub full : 2 ^ 50 ≤ length last
   pub way : OfStore z before (λ base. IsOnItsWay base last)
-
--- The writes are those that take back what is due, as its level plans them over these slots: its deed was done last at its
--- end of its group there, and a message is put back into the lowest free cell.
-pub record IsPlannedBack (z : Sizes) (q : Slots) (due : Due) (ws : List SlotWrite) : Type 0 where
-  pub deed : Deed
-  pub reads : deed_in due.deed ≡ Some deed
-  pub can : CanBeTakenBack z q deed
-  pub planned : IsPlannedFrom z q ws (Undid deed)
-  pub slots : AreSlotWrites z ws
-  pub lowest : InverseTakesLowest z q [] deed ws
 
 -- what is due is told by no deed, or by one that the slots of these pages do not show to be done last
 abbrev pub IsNotUndone : Sizes → List (List ℕ) → Due → Type 0

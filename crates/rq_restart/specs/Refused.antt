@@ -54,7 +54,7 @@ BeginsNot _ records last before now untouched = ⊥
 -- behind it
 abbrev pub WhyNotBegun : Sizes → List Record → Paged → Refusal → ℕ → ℕ → Type 0 → Type 0
 WhyNotBegun z log first why.NoMemory before now untouched = (now ≡ before) × untouched
-WhyNotBegun z log first why.LogFull before now untouched = HasNoRoom z (IsLeft z first.image log) log × untouched
+WhyNotBegun z log first why.LogFull before now untouched = HasNoRoom z first log × untouched
 WhyNotBegun z log first why.DiskWrite before now untouched = now ≡ (before + 1) % 2 ^ 64
 WhyNotBegun z log first (why.Damaged (damage.Record lsn)) before now untouched =
     (IsBadUndo z log first lsn ⊎ IsBadMend z log first lsn) × untouched
@@ -65,7 +65,7 @@ WhyNotBegun z log first _ before now untouched = ⊥
 -- that it was left alone.
 abbrev pub WhyShut : Sizes → List Record → Paged → Refusal → ℕ → ℕ → Type 0 → Type 0
 WhyShut z log first why.NoMemory before now untouched = (now ≡ before) × untouched
-WhyShut z log first why.LogFull before now untouched = HasNoRoom z (IsLeft z first.image log) log
+WhyShut z log first why.LogFull before now untouched = HasNoRoom z first log
     × WasGoneThrough z log first × untouched
 WhyShut z log first why.DiskWrite before now untouched = (now ≡ (before + 1) % 2 ^ 64) × WasGoneThrough z log first
 WhyShut z log first (why.Damaged (damage.Record lsn)) before now untouched =

@@ -1,5 +1,5 @@
 //! Undoing lost transactions, one after the other, by the inverses of what they did.
-ghost use Rattle.std.specs.Prelude.{◌≡◌, ◌∷◌, ◌<◌, IfOk, IfErr, OnOk, OnErr, None, false, List, [], length};
+ghost use Rattle.std.specs.Prelude.{◌≡◌, ◌∷◌, ◌<◌, IfOk, IfErr, OnOk, OnErr, None, false, List, [], length, take};
 ghost use Rattle.rq_views.specs.Plans.Turn.{Undid};
 ghost use Rattle.rq_views.specs.Stored.{slots_in};
 ghost use Rattle.rq_level.specs.Writes.{AreSlotWrites};
@@ -12,7 +12,7 @@ ghost use Rattle.rq_lost.specs.Dues.{deed_due};
 ghost use Rattle.rq_record.specs.Spelling.{IsTxnInRange};
 ghost use Rattle.rq_store.specs.Steps.{page_op};
 ghost use Rattle.rq_model.specs.Words.{In};
-ghost use Rattle.rq_restart.specs.Aborting.{AbortStops, AbortsBehind, HasGoneOn, IsAborting, IsMaking, IsPlannedBack, blamed_on, IsShown, IsShownWithin, PlanStops};
+ghost use Rattle.rq_restart.specs.Aborting.{AbortStops, AbortsFrom, HasGoneOn, IsAbortingFrom, IsMaking, IsPlannedBack, blamed_on, IsShown, IsShownWithin, PlanStops, with_writes};
 ghost use Rattle.rq_restart.specs.Checked.{IsEnded};
 ghost use Rattle.rq_restart.specs.Found.{AreFindings};
 
@@ -50,15 +50,15 @@ pub(crate) fn abort_lost<P: PageDevice + Drop, L: LogDevice + Drop, B: Level>(
     requires found { AreFindings findings.old log.old.records }
     requires running { log.old.failed ≡ false }
     requires cells { KnowsCells pages.old.sizes pages.old.images planner.old }
-    ensures gone_on { OnOk result (HasGoneOn pages.old.sizes (AbortsBehind log.old.records log.new.records)
+    ensures gone_on { OnOk result (HasGoneOn pages.old.sizes (AbortsFrom pages.old.sizes log.old.records pages.old log.new.records)
         log.old.records log.new.records pages.old pages.new (IsShown log.old.records pages.old)
         (IsShown log.new.records pages.new)) }
     ensures ended { OnOk result (IsEnded log.new.records) }
     ensures none { OnOk result (IsEnded log.old.records → (log.new.records ≡ log.old.records) × (pages.new ≡ pages.old)) }
     ensures found { OnOk result (AreFindings findings.new log.new.records) }
     ensures cells { OnOk result (KnowsCells pages.new.sizes pages.new.images planner.new) }
-    ensures stops { IfErr result (λ e. AbortStops pages.old.sizes (IsAborting log.old.records) log.old.records pages.old
-        (IsShown log.old.records pages.old) e) }
+    ensures stops { IfErr result (λ e. AbortStops pages.old.sizes (IsAbortingFrom pages.old.sizes log.old.records pages.old)
+        log.old.records pages.old (IsShown log.old.records pages.old) e) }
     ensures some { OnErr result (IsEnded log.old.records → ⊥) }
     ensures sizes { pages.new.sizes ≡ pages.old.sizes }
     ensures device { pages.new.device ≡ pages.old.device }
@@ -82,14 +82,14 @@ fn end_idle<P: PageDevice + Drop, L: LogDevice + Drop>(
 ) -> Result<(), Refusal>
     requires found { AreFindings findings.old log.old.records }
     requires running { log.old.failed ≡ false }
-    ensures gone_on { OnOk result (HasGoneOn pages.old.sizes (AbortsBehind log.old.records log.new.records)
+    ensures gone_on { OnOk result (HasGoneOn pages.old.sizes (AbortsFrom pages.old.sizes log.old.records pages.old log.new.records)
         log.old.records log.new.records pages.old pages.new (IsShown log.old.records pages.old)
         (IsShown log.new.records pages.new)) }
     ensures same { OnOk result (pages.new ≡ pages.old) }
     ensures none { OnOk result (least_free findings.new.dues findings.new.history.working ≡ None) }
     ensures found { OnOk result (AreFindings findings.new log.new.records) }
-    ensures stops { IfErr result (λ e. AbortStops pages.old.sizes (IsAborting log.old.records) log.old.records pages.old
-        (IsShown log.old.records pages.old) e) }
+    ensures stops { IfErr result (λ e. AbortStops pages.old.sizes (IsAbortingFrom pages.old.sizes log.old.records pages.old)
+        log.old.records pages.old (IsShown log.old.records pages.old) e) }
     ensures sizes { pages.new.sizes ≡ pages.old.sizes }
     ensures device { pages.new.device ≡ pages.old.device }
     ensures log { (log.new.device ≡ log.old.device) × (log.new.forced ≡ log.old.forced)
@@ -114,14 +114,14 @@ fn take_back_all<P: PageDevice + Drop, L: LogDevice + Drop, B: Level>(
     requires none { least_free findings.old.dues findings.old.history.working ≡ None }
     requires running { log.old.failed ≡ false }
     requires cells { KnowsCells pages.old.sizes pages.old.images planner.old }
-    ensures gone_on { OnOk result (HasGoneOn pages.old.sizes (AbortsBehind log.old.records log.new.records)
+    ensures gone_on { OnOk result (HasGoneOn pages.old.sizes (AbortsFrom pages.old.sizes log.old.records pages.old log.new.records)
         log.old.records log.new.records pages.old pages.new (IsShown log.old.records pages.old)
         (IsShown log.new.records pages.new)) }
     ensures ended { OnOk result (IsEnded log.new.records) }
     ensures found { OnOk result (AreFindings findings.new log.new.records) }
     ensures cells { OnOk result (KnowsCells pages.new.sizes pages.new.images planner.new) }
-    ensures stops { IfErr result (λ e. AbortStops pages.old.sizes (IsAborting log.old.records) log.old.records pages.old
-        (IsShown log.old.records pages.old) e) }
+    ensures stops { IfErr result (λ e. AbortStops pages.old.sizes (IsAbortingFrom pages.old.sizes log.old.records pages.old)
+        log.old.records pages.old (IsShown log.old.records pages.old) e) }
     ensures sizes { pages.new.sizes ≡ pages.old.sizes }
     ensures device { pages.new.device ≡ pages.old.device }
     ensures log { (log.new.device ≡ log.old.device) × (log.new.forced ≡ log.old.forced)
@@ -151,7 +151,7 @@ fn take_back<P: PageDevice + Drop, L: LogDevice + Drop, B: Level>(
     requires first { (older : List Due) × (findings.old.dues ≡ due.now ∷ older) }
     requires running { log.old.failed ≡ false }
     requires cells { KnowsCells pages.old.sizes pages.old.images planner.old }
-    ensures gone_on { OnOk result (HasGoneOn pages.old.sizes (AbortsBehind log.old.records log.new.records)
+    ensures gone_on { OnOk result (HasGoneOn pages.old.sizes (AbortsFrom pages.old.sizes log.old.records pages.old log.new.records)
         log.old.records log.new.records pages.old pages.new (IsShown log.old.records pages.old)
         (IsShown log.new.records pages.new)) }
     ensures rest { OnOk result (findings.old.dues ≡ due.now ∷ findings.new.dues) }
@@ -159,8 +159,8 @@ fn take_back<P: PageDevice + Drop, L: LogDevice + Drop, B: Level>(
     ensures working { OnOk result (findings.new.history.working ≡ findings.old.history.working) }
     ensures found { OnOk result (AreFindings findings.new log.new.records) }
     ensures cells { OnOk result (KnowsCells pages.new.sizes pages.new.images planner.new) }
-    ensures stops { IfErr result (λ e. AbortStops pages.old.sizes (IsAborting log.old.records) log.old.records pages.old
-        (IsShown log.old.records pages.old) e) }
+    ensures stops { IfErr result (λ e. AbortStops pages.old.sizes (IsAbortingFrom pages.old.sizes log.old.records pages.old)
+        log.old.records pages.old (IsShown log.old.records pages.old) e) }
     ensures sizes { pages.new.sizes ≡ pages.old.sizes }
     ensures device { pages.new.device ≡ pages.old.device }
     ensures log { (log.new.device ≡ log.old.device) × (log.new.forced ≡ log.old.forced)
@@ -204,7 +204,8 @@ fn make_all<P: PageDevice + Drop, L: LogDevice + Drop, B: Level>(
     requires running { log.old.failed ≡ false }
     requires cells { KnowsCells pages.old.sizes pages.old.images planner.old }
     ensures gone_on { OnOk result (HasGoneOn pages.old.sizes
-        (IsMaking due.now.txn operation log.old.records log.new.records) log.old.records log.new.records pages.old pages.new
+        (with_writes due.now.txn operation (take (length writes.now) writes.now) log.old.records ≡ log.new.records)
+        log.old.records log.new.records pages.old pages.new
         (IsShownWithin log.old.records pages.old due.now operation writes.now 0)
         (IsShownWithin log.new.records pages.new due.now operation writes.now (length writes.now))) }
     ensures rest { OnOk result ((findings.new.dues ≡ findings.old.dues)
@@ -212,7 +213,7 @@ fn make_all<P: PageDevice + Drop, L: LogDevice + Drop, B: Level>(
     ensures found { OnOk result (AreFindings findings.new log.new.records) }
     ensures cells { OnOk result (KnowsCells pages.new.sizes pages.new.images planner.new) }
     ensures stops { IfErr result (λ e. AbortStops pages.old.sizes
-        (IsMaking due.now.txn operation log.old.records) log.old.records pages.old
+        (IsMaking due.now.txn operation writes.now log.old.records) log.old.records pages.old
         (IsShownWithin log.old.records pages.old due.now operation writes.now 0) e) }
     ensures sizes { pages.new.sizes ≡ pages.old.sizes }
     ensures device { pages.new.device ≡ pages.old.device }

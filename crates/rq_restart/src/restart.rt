@@ -28,7 +28,7 @@ ghost use Rattle.rq_restart.specs.Refused.{BeginsNot, IsStoppedBehind, MayBeShut
 ghost use Rattle.rq_restart.specs.Overwritten.{AreKept};
 ghost use Rattle.rq_log.specs.Reading.{IsRead};
 ghost use Rattle.rq_restart.specs.Found.{AreFindings};
-ghost use Rattle.rq_restart.specs.Mended.{HasRepeated, IsMended, IsMendedOn, LinkStops, MendStops};
+ghost use Rattle.rq_restart.specs.Mended.{HasRepeated, IsMendedOn, IsMendedSince, LinkStops, MendStops};
 ghost use Rattle.rq_engine.specs.Devices.{Path, EachPair};
 ghost use Rattle.rq_restart.specs.Underway.{OfStores, IsLeftOrGoesOn, pages_left, log_left};
 
@@ -480,7 +480,7 @@ fn mend_whole<P: PageDevice + Drop, L: LogDevice + Drop>(
 ) -> Result<(u64, Planner<ChainLevel>), Refusal>
     requires found { AreFindings findings.old log.old.records }
     requires running { log.old.failed ≡ false }
-    ensures mends { OnOk result (IsMended log.old.records log.new.records) }
+    ensures mends { OnOk result (IsMendedSince pages.old.sizes log.old.records log.new.records (paged pages.old)) }
     ensures repeated { OnOk result ((first : Paged) → Repeats pages.old.sizes log.old.records first (paged pages.old)
         → Repeats pages.old.sizes log.new.records first (paged pages.new)) }
     ensures counted { OnOk result (AreCounted pages.old.sizes (length log.old.records) (paged pages.old)
@@ -528,7 +528,7 @@ fn mend<P: PageDevice + Drop, L: LogDevice + Drop>(
 ) -> Result<(u64, Planner<ChainLevel>), Refusal>
     requires found { AreFindings findings.old log.old.records }
     requires running { log.old.failed ≡ false }
-    ensures mends { OnOk result (IsMended log.old.records log.new.records) }
+    ensures mends { OnOk result (IsMendedSince pages.old.sizes log.old.records log.new.records (paged pages.old)) }
     ensures repeated { OnOk result ((first : Paged) → Repeats pages.old.sizes log.old.records first (paged pages.old)
         → Repeats pages.old.sizes log.new.records first (paged pages.new)) }
     ensures counted { OnOk result (AreCounted pages.old.sizes (length log.old.records) (paged pages.old)

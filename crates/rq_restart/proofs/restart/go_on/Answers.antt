@@ -19,7 +19,7 @@ returns-in-Ok-begin_next-clause-sound g c = λ first before left.
     let all = made.repeated in
     let pool : IsPool z new.images = subst (λ (y : Sizes). IsPool y new.images) made.sizes made.pool in
     subst (λ l. IsSound (opened z new.images l)) (ap (drop 1) (sym all.begun))
-    (begun_sound z first (paged new) new.images older all.mended refl pool all.mends (all.recovered first before left) (all.repeated first before) left)
+    (begun_sound z first (paged new) new.images older all.mended refl pool all.mends.is (all.recovered first before left) (all.repeated first before) left)
 
 pub returns-in-Ok-begin_next-clause-checked : goal.returns-in-Ok-begin_next-clause-checked
 returns-in-Ok-begin_next-clause-checked g c = λ first before k.
@@ -36,7 +36,8 @@ returns-in-Ok-begin_next-clause-checked g c = λ first before k.
             counted = subst (λ m. AreCounted z m (paged c.args.pages.now)) n c.in-Ok.ensures.counted;
           },
         );
-        mends = all.mends;
+        mends = all.mends.is;
+        planned = all.mends.planned first before;
         repeated = all.repeated first before;
         linked = all.linked;
         recovered = all.recovered first before;
