@@ -30,7 +30,7 @@ use Rattle.rq_lost.specs.Worked.{log_two, sent_due, took_due}
 use Rattle.rq_lost.proofs.Planning.{due_reads}
 use Rattle.rq_lost.proofs.WorkedWalk.{walks_judged}
 use Rattle.rq_lost.specs.WorkedMoves.{Pages, cell_back, cell_is_back, ended, group_is_back, put_back, unlink, unlinked}
-use Rattle.rq_restart.specs.Aborting.{AbortsBehind, AreRounds, IsAborting, IsNoDeed, IsNotUndone, IsTakenNext, Round, after_round, after_rounds, with_writes}
+use Rattle.rq_restart.specs.Aborting.{AbortsBehind, AreRounds, IsAborting, IsNotUndone, IsTakenNext, Round, after_round, after_rounds, with_writes}
 use Rattle.rq_restart.specs.Aborting.IsAborting.{Between, Within}
 use Rattle.rq_restart.specs.Aborting.IsBadStep.{BadDue}
 use Rattle.rq_restart.specs.Aborting.IsOnItsWay.{Within as OnWay}
@@ -38,7 +38,7 @@ use Rattle.rq_restart.specs.Aborting.Round.{Ends, TakesBack}
 use Rattle.rq_restart.specs.Mended.{IsBadMend, IsMended}
 use Rattle.rq_restart.specs.Repeating.{IsRepeated}
 use Rattle.rq_restart.proofs.Aborts.{aborting_none, aborts_none}
-use Rattle.rq_restart.proofs.Planning.{always_deed}
+use Rattle.rq_restart.proofs.Planning.{not_of_store}
 use Rattle.rq_restart.proofs.Begun as begun
 use Rattle.rq_cases.specs.Mending.{MendsAreJudged, committed_early, strange_due, strange_log}
 use Rattle.rq_cases.specs.Restarting.{read_pages, repeated_pages}
@@ -153,14 +153,8 @@ sends_deed = (omega arith, (omega arith, omega arith, omega arith, omega arith, 
 told_15 : deed_in strange_due.deed ≡ Some (sends 15)
 told_15 = deeds_are_told (sends 15) sends_deed
 
-no_deed : (images : List (List ℕ)) → IsNoDeed sizes images strange_due
-no_deed images deed e low last =
-    let same : deed ≡ sends 15 = (let k : Some deed ≡ Some (sends 15) = sym e ∙ told_15 in cc k) in
-    let high : deed_sender deed ≡ 15 = ap deed_sender same in
-    omega (arith, low, high)
-
 never_15 : (images : List (List ℕ)) → IsNotUndone sizes images strange_due
-never_15 images = always_deed sizes images strange_due (no_deed images)
+never_15 images = not_of_store sizes images strange_due (sends 15) told_15 (omega arith)
 
 strange_repeated : IsRepeated sizes log_3 (op_end t1 1 (sends 15)) repeated_pages repeated_pages
 strange_repeated = record {
