@@ -61,6 +61,7 @@ use Rattle.rq_engine.proofs.Refusals.{refuse, refuse_full}
 use Rattle.rq_engine.proofs.Standing.{close_steps}
 use Rattle.rq_undone.specs.Analysis.{analysis}
 use Rattle.rq_undone.proofs.Undos.{nothing_undone, undoing_none}
+use Rattle.rq_restart.specs.Aborting.{RepeatedFrom}
 use Rattle.rq_restart.specs.Checked.{IsEnded, IsGoneThrough}
 use Rattle.rq_links.specs.Links.{AreLinked}
 use Rattle.rq_links.proofs.Sound.{sound_linked}
