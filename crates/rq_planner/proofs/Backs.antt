@@ -219,7 +219,10 @@ can_below z q (UnlinkHead g n tag body) c = c.below
 can_below z q (Close g) c = c.below
 
 pub of_store : (z : Sizes) (asked : Option Asked) (d : Deed) → asked ≡ Some (Undo d) → deed_sender d < sender_count z → IsOfStore z asked
-of_store z asked d is low a e = subst (λ (b : Asked). asked_sender b < sender_count z) (let same : Some (Undo d) ≡ Some a = sym is ∙ e in cc same) low
+of_store z asked d is low a e =
+    let same : Some (Undo d) ≡ Some a = sym is ∙ e in
+    let one : Undo d ≡ a = cc same in
+    subst (λ (b : Asked). asked_sender b < sender_count z) one low
 
 nobody : (xs : List ℕ) → any_latched [] xs ≡ false
 nobody [] = refl
