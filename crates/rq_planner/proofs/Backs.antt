@@ -1,5 +1,5 @@
 -- The level plans what takes back a deed exactly where the slots hold what that needs.
-use Rattle.std.proofs.Common.{◌≡◌, ℕ, ◌/◌, ◌<◌, ◌++◌, not, List, [], ◌∷◌, Bool, true, false, Option, Some, None, Result, Ok, Err, IfErr, IfOk, IfSome, nat_eq, refl, sym, ◌∙◌, ap, subst, inl, inr, arith}
+use Rattle.std.proofs.Common.{◌≡◌, ℕ, ◌<◌, ◌++◌, not, List, [], ◌∷◌, true, false, Option, Some, None, Result, Ok, Err, IfErr, nat_eq, refl, sym, ◌∙◌, ap, subst, inl, inr, arith}
 use Rattle.std.proofs.lemmas.Bool.{cases_eq, eqb-true, false≢true, false_from_ne_true, true≢false}
 use Rattle.rq_model.specs.declared.record.Deed.{Deed}
 use Rattle.rq_model.specs.declared.record.Deed.TheVariants.{Append, UnlinkHead, Close}
