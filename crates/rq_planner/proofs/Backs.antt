@@ -1,5 +1,5 @@
 -- The level plans what takes back a deed exactly where the slots hold what that needs.
-use Rattle.std.proofs.Common.{◌≡◌, ℕ, ◌/◌, ◌<◌, ◌++◌, not, List, [], ◌∷◌, Bool, true, false, Option, Some, None, Result, Ok, Err, IfErr, IfOk, IfSome, nat_eq, refl, sym, ◌∙◌, ap, subst, inl, inr, arith}
+use Rattle.std.proofs.Common.{◌≡◌, ℕ, ◌<◌, ◌++◌, not, List, [], ◌∷◌, true, false, Option, Some, None, Result, Ok, Err, IfErr, nat_eq, refl, sym, ◌∙◌, ap, subst, inl, inr, arith}
 use Rattle.std.proofs.lemmas.Bool.{cases_eq, eqb-true, false≢true, false_from_ne_true, true≢false}
 use Rattle.rq_model.specs.declared.record.Deed.{Deed}
 use Rattle.rq_model.specs.declared.record.Deed.TheVariants.{Append, UnlinkHead, Close}
@@ -219,7 +219,10 @@ can_below z q (UnlinkHead g n tag body) c = c.below
 can_below z q (Close g) c = c.below
 
 pub of_store : (z : Sizes) (asked : Option Asked) (d : Deed) → asked ≡ Some (Undo d) → deed_sender d < sender_count z → IsOfStore z asked
-of_store z asked d is low a e = subst (λ (b : Asked). asked_sender b < sender_count z) (let same : Some (Undo d) ≡ Some a = sym is ∙ e in cc same) low
+of_store z asked d is low a e =
+    let same : Some (Undo d) ≡ Some a = sym is ∙ e in
+    let one : Undo d ≡ a = cc same in
+    subst (λ (b : Asked). asked_sender b < sender_count z) one low
 
 nobody : (xs : List ℕ) → any_latched [] xs ≡ false
 nobody [] = refl

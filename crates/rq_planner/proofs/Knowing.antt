@@ -1,12 +1,12 @@
 -- A level that knows the cells of a store, whatever is under way there.
-use Rattle.std.proofs.Common.{set, ◌≡◌, ◌≢◌, ℕ, ◌/◌, ◌<◌, ◌≤◌, List, [], ◌∷◌, length, refl, sym, ◌∙◌, ap, subst, Bool, true, false, not, nat_eq, Option, Some, None, Result, Ok, Err, inl, inr, arith}
+use Rattle.std.proofs.Common.{set, ◌≡◌, ◌≢◌, ℕ, ◌/◌, ◌<◌, List, length, refl, sym, ◌∙◌, ap, subst, Bool, true, false, not, nat_eq, Option, Some, Result, inl, inr, arith}
 use Rattle.std.proofs.lemmas.Bool.{cases_Bool, cases_eq, eqb-true, false≢true, false_from_ne_true, true≢false}
 use Rattle.std.proofs.lemmas.List.{length-set}
 use Rattle.rq_model.specs.declared.refusal.Refusal.{Refusal}
 use Rattle.rq_page.specs.Sizes.{Sizes, IsCellAddress, cell_at, cell_count, place_of}
 use Rattle.rq_page.specs.Slots.{held_in}
 use Rattle.rq_page.proofs.Addresses.{cells_have_places, places_are_cells}
-use Rattle.rq_views.specs.Log.{Slots, put}
+use Rattle.rq_views.specs.Log.{put}
 use Rattle.rq_views.specs.Stored.{IsStoreSlot, is_used, slot_at, slots_in}
 use Rattle.rq_views.proofs.Overlay.{put_at, put_off}
 use Rattle.rq_level.specs.declared.writes.Plan.{Plan}

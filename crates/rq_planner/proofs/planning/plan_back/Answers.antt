@@ -32,5 +32,5 @@ returns-in-Ok-true-clause-judged g c =
     c.in-OpEnd.txn c.in-OpEnd.operation c.in-OpEnd.number c.in-OpEnd.deed c.undo-in-Ok-true.result
     c.requires.number c.in-OpEnd.is (subst (HasGatheredFor s c.gather.new.slots) asked all) c.undo-in-Ok-true.ensures.answer)
 
-pub returns-in_default-OpEnd-clause-judged : goal.returns-in_default-OpEnd-clause-judged
-returns-in_default-OpEnd-clause-judged g c = record { can = tt; refused = λ d e can. absurd (tells_nothing c.args.told.now c.in_default-OpEnd.not-OpEnd d e) }
+pub returns-in_default-clause-judged : goal.returns-in_default-clause-judged
+returns-in_default-clause-judged g c = record { can = tt; refused = λ d e can. absurd (tells_nothing c.args.told.now c.in_default.not-OpEnd d e) }

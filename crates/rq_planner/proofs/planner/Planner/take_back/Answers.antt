@@ -11,7 +11,7 @@ use Rattle.rq_inverses.proofs.Planned.{some_told}
 use Rattle.rq_planner.specs.Answered.{IsPlanBack, IsPlanFor, KnowsCells}
 use Rattle.rq_planner.specs.Asked.{Asked, seen, undone_by}
 use Rattle.rq_planner.specs.Asked.Asked.{Undo}
-use Rattle.rq_planner.specs.Backs.{CanBeTakenBack, IsOfWhatCan}
+use Rattle.rq_planner.specs.Backs.{IsOfWhatCan}
 use Rattle.rq_planner.proofs.Backs.{can_below, not_held_up, of_store, taken_back}
 use Rattle.rq_planner.proofs.planner.Planner.take_back.Goals as goal
 
