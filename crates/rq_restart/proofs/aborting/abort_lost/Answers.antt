@@ -1,6 +1,5 @@
 use Rattle.std.proofs.Common.{rules, sym, subst}
-use Rattle.rq_planner.specs.Answered.{KnowsCells}
-use Rattle.rq_pool.specs.Pooled.{Pooled}
+use Rattle.rq_restart.proofs.Renewing.{cells_same}
 use Rattle.rq_restart.specs.Aborting.{AbortStops, AbortsBehind, HasGoneOn, IsAborting, IsShown}
 use Rattle.rq_restart.proofs.Aborts.{aborting_join, aborts_join, gone_join, stops_join}
 use Rattle.rq_restart.proofs.aborting.abort_lost.Goals as goal
@@ -32,4 +31,4 @@ returns-clause-gone_on g c =
     gone_join z (AbortsBehind log mid) log mid old now (IsShown log old) (IsShown mid now) made.gone_on (AbortsBehind mid last) (AbortsBehind log last) last new (IsShown last new) (aborts_join log mid last) here
 
 pub take_back_all-requires-clause-cells : goal.take_back_all-requires-clause-cells
-take_back_all-requires-clause-cells g c = subst (λ (p : Pooled g.P). KnowsCells p.sizes p.images c.args.planner.now) (sym c.in_ok-end_idle.ensures.same) c.requires.cells
+take_back_all-requires-clause-cells g c = cells_same c.args.pages.now c.end_idle.new.pages c.args.planner.now c.in_ok-end_idle.ensures.same c.requires.cells
