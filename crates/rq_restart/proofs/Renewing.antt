@@ -1,5 +1,5 @@
 -- Slots that the write of a record leaves.
-use Rattle.std.proofs.Common.{◌≡◌, ◌≢◌, ℕ, ◌/◌, ◌%◌, ◌<◌, ◌≤◌, cond, nat_lt, List, true, false, refl, sym, ◌∙◌, ap, inl, inr, arith}
+use Rattle.std.proofs.Common.{◌≡◌, ◌≢◌, ℕ, ◌/◌, ◌%◌, ◌<◌, ◌≤◌, cond, nat_lt, List, true, false, refl, sym, ◌∙◌, ap, subst, inl, inr, arith}
 use Rattle.std.proofs.lemmas.Bool.{cases_Bool, cases_eq, cases_lt, ltb-true}
 use Rattle.rq_model.specs.declared.txn.Txn.{Txn}
 use Rattle.rq_page.specs.Pages.{lsn_of, slot_of}
@@ -8,10 +8,13 @@ use Rattle.rq_page.specs.Slots.{held_in}
 use Rattle.rq_page.specs.Slots.Slot.{Free}
 use Rattle.rq_views.specs.Stored.{slot_at, slots_in}
 use Rattle.rq_level.specs.declared.writes.SlotWrite.{SlotWrite}
+use Rattle.rq_level.specs.Kept.{Kept}
+use Rattle.rq_pool.specs.Pooled.{Pooled}
 use Rattle.rq_store.specs.Fitting.{ToldWrite, image_in, told_by}
 use Rattle.rq_store.specs.Opening.{IsRedone, Redoes}
 use Rattle.rq_store.specs.Steps.{page_op}
 use Rattle.rq_store.proofs.Stepping.{address_is}
+use Rattle.rq_planner.specs.Answered.{KnowsCells}
 
 module _ (z : Sizes) (old new : List (List ℕ)) (w : ToldWrite) (lsn : ℕ) (r : IsRedone w lsn (image_in old) (image_in new)) where
   -- where the page is the one that is written
@@ -38,3 +41,7 @@ module _ (z : Sizes) (old new : List (List ℕ)) (w : ToldWrite) (lsn : ℕ) (r 
 
 pub write_elsewhere : (z : Sizes) (old new : List (List ℕ)) (t : Txn) (n lsn : ℕ) (w : SlotWrite) → Redoes (told_by (page_op t n w)) lsn (image_in old) (image_in new) → (a : ℕ) → a ≢ w.at → slots_in z new a ≡ slots_in z old a
 write_elsewhere z old new t n lsn w r a ne = elsewhere z old new (record { page = w.at / 16; slot = w.at % 16; after = w.after }) lsn r a (λ e. ne (e ∙ address_is w.at))
+
+-- pages that are what they were have the cells that they had
+pub cells_same : {P : Type 0} (old new : Pooled P) (k : Kept) → new ≡ old → KnowsCells old.sizes old.images k → KnowsCells new.sizes new.images k
+cells_same {P} old new k e h = subst (λ (p : Pooled P). KnowsCells p.sizes p.images k) (sym e) h

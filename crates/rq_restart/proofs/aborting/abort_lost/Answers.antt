@@ -1,10 +1,9 @@
-use Rattle.std.proofs.Common.{rules, sym, subst}
-use Rattle.rq_planner.specs.Answered.{KnowsCells}
-use Rattle.rq_pool.specs.Pooled.{Pooled}
+use Rattle.std.proofs.Common.{rules, subst}
 use Rattle.rq_restart.specs.Aborting.{AbortStops, AbortsFrom, HasGoneOn, IsAbortingFrom, IsShown}
-use Rattle.rq_restart.proofs.Aborts.{aborting_join, aborts_join, gone_join, stops_join}
-use Rattle.rq_restart.proofs.aborting.abort_lost.Goals as goal
 use Rattle.rq_restart.specs.Repeating.{paged}
+use Rattle.rq_restart.proofs.Aborts.{aborting_join, aborts_join, gone_join, stops_join}
+use Rattle.rq_restart.proofs.Renewing.{cells_same}
+use Rattle.rq_restart.proofs.aborting.abort_lost.Goals as goal
 
 pub returns-in_err-take_back_all-clause-stops : goal.returns-in_err-take_back_all-clause-stops
 returns-in_err-take_back_all-clause-stops g c =
@@ -33,4 +32,4 @@ returns-clause-gone_on g c =
     gone_join z (AbortsFrom z log old mid) log mid old now (IsShown log old) (IsShown mid now) made.gone_on (AbortsFrom z mid now last) (AbortsFrom z log old last) last new (IsShown last new) (aborts_join z log mid (paged old) (paged now) made.gone_on.repeated last) here
 
 pub take_back_all-requires-clause-cells : goal.take_back_all-requires-clause-cells
-take_back_all-requires-clause-cells g c = subst (λ (p : Pooled g.P). KnowsCells p.sizes p.images c.args.planner.now) (sym c.in_ok-end_idle.ensures.same) c.requires.cells
+take_back_all-requires-clause-cells g c = cells_same c.args.pages.now c.end_idle.new.pages c.args.planner.now c.in_ok-end_idle.ensures.same c.requires.cells

@@ -19,7 +19,7 @@ use Rattle.rq_restart.proofs.aborting.make_all.Goals as goal
 
 pub append-requires-clause-range : goal.append-requires-clause-range
 append-requires-clause-range g c = λ are.
-    let w : SlotWrite = c.index-write.result in
+    let w : SlotWrite = c.index-writes-index.result in
     subst IsInRange (sym c.written-undo.ensures) (c.requires.txn, c.requires.number, (let k = w.slot in omega (arith, k), omega arith))
 
 pub loop-index-preserved : goal.loop-index-preserved
@@ -33,15 +33,15 @@ loop-index-preserved g c =
     let n = c.args.operation in
     let ws = c.args.writes.now in
     let i = c.loop-index.index in
-    let w : SlotWrite = c.index-write.result in
+    let w : SlotWrite = c.index-writes-index.result in
     let r : Record = page_op d.txn n w in
     let is : c.written-undo.result ≡ r = c.written-undo.ensures in
     let old = c.loop-index.pages in
     let new = c.append.new.pages in
-    let next : slice_get ws i ≡ Some w = get_there ws i w c.loop-index-test.true c.index-write.is in
+    let next : slice_get ws i ≡ Some w = get_there ws i w c.loop-index-test.true c.index-writes-index.is in
     let one : IsRepeated z log r (paged old) (paged new) = subst (λ y. IsRepeated y log r (paged old) (paged new)) kept.sizes (subst (λ q. IsRepeated old.sizes log q (paged old) (paged new)) is made.repeated) in
     let pool : IsPool z new.images = subst (λ y. IsPool y new.images) (made.sizes ∙ kept.sizes) made.pool in
-    let slot : IsSlotWrite z w = subst (IsSlotWrite z) (sym c.index-write.is) (c.requires.slots i w c.loop-index-test.true) in
+    let slot : IsSlotWrite z w = subst (IsSlotWrite z) (sym c.index-writes-index.is) (c.requires.slots i w c.loop-index-test.true) in
     let shown = write_shown z log old d n ws i w next slot new pool one in
     let before = IsShownWithin first c.args.pages.now d n ws 0 in
     let here = IsShownWithin log old d n ws i in
@@ -65,8 +65,8 @@ loop-index-preserved g c =
 pub renew-requires : goal.renew-requires
 renew-requires g c =
     let kept = c.loop-index.invariant in
-    let w : SlotWrite = c.index-write.result in
-    let slot : IsSlotWrite c.args.pages.now.sizes w = subst (IsSlotWrite c.args.pages.now.sizes) (sym c.index-write.is) (c.requires.slots c.loop-index.index w c.loop-index-test.true) in
+    let w : SlotWrite = c.index-writes-index.result in
+    let slot : IsSlotWrite c.args.pages.now.sizes w = subst (IsSlotWrite c.args.pages.now.sizes) (sym c.index-writes-index.is) (c.requires.slots c.loop-index.index w c.loop-index-test.true) in
     subst (λ y. IsStoreSlot y w.at) (sym (c.in_ok-append.ensures.sizes ∙ kept.sizes)) slot.place
 
 pub returns-in_err-append-clause-stops : goal.returns-in_err-append-clause-stops
@@ -79,11 +79,11 @@ returns-in_err-append-clause-stops g c =
     let n = c.args.operation in
     let ws = c.args.writes.now in
     let i = c.loop-index.index in
-    let w : SlotWrite = c.index-write.result in
+    let w : SlotWrite = c.index-writes-index.result in
     let r : Record = page_op d.txn n w in
     let old = c.loop-index.pages in
-    let next : slice_get ws i ≡ Some w = get_there ws i w c.loop-index-test.true c.index-write.is in
-    let slot : IsSlotWrite z w = subst (IsSlotWrite z) (sym c.index-write.is) (c.requires.slots i w c.loop-index-test.true) in
+    let next : slice_get ws i ≡ Some w = get_there ws i w c.loop-index-test.true c.index-writes-index.is in
+    let slot : IsSlotWrite z w = subst (IsSlotWrite z) (sym c.index-writes-index.is) (c.requires.slots i w c.loop-index-test.true) in
     let refusal = c.in_err-append.field-0.0 in
     let before = IsShownWithin first c.args.pages.now d n ws 0 in
     let here = IsShownWithin log old d n ws i in

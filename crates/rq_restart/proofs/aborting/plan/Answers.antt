@@ -21,7 +21,7 @@ returns-in-Ok-clause-lowest g c =
     let q = slots_in z c.args.pages.now.images in
     lowest_is z q c.args.due.now c.in-Ok.plan.writes.items (planned_back z q c.args.due.now c.args.due.now.txn 1 1 c.in-Ok.plan c.in-Ok.ensures.plan)
 
-pub returns-clause-stops : goal.returns-clause-stops
-returns-clause-stops g c =
+pub returns-in-Err-clause-stops : goal.returns-in-Err-clause-stops
+returns-in-Err-clause-stops g c =
     subst (PlanStops c.args.pages.now.sizes c.args.pages.now.images c.args.due.now) (sym c.blamed.ensures)
     (why_not_planned c.args.pages.now.sizes c.args.pages.now.images c.args.due.now c.in-Err.refusal c.in-Err.ensures.refused)

@@ -9,8 +9,7 @@ use Rattle.rq_level.specs.declared.writes.SlotWrite.{SlotWrite}
 use Rattle.rq_sound.specs.Plans.{IsPlannedFrom}
 use Rattle.rq_sound.specs.Rows.{comp_end}
 use Rattle.rq_inverses.specs.Inverses.{InverseTakesLowest}
-use Rattle.rq_planner.specs.Answered.{KnowsCells}
-use Rattle.rq_pool.specs.Pooled.{Pooled}
+use Rattle.rq_restart.proofs.Renewing.{cells_same}
 use Rattle.rq_lost.specs.Dues.{deed_due, dues}
 use Rattle.rq_lost.specs.Numbers.{number_of, numbers}
 use Rattle.rq_undone.specs.Analysis.{Analysis, analysis}
@@ -180,4 +179,4 @@ returns-clause-working g c =
     (close_rest c.make_all.new.log.records c.append.new.log.records c.make_all.new.findings c.append.new.findings d first.0 c.in-Some.operation d.lsn made.found c.in_ok-append.ensures.found c.in_ok-append.ensures.records (made.rest.0 ∙ first.1)).1 ∙ made.rest.1
 
 pub returns-clause-cells : goal.returns-clause-cells
-returns-clause-cells g c = subst (λ (p : Pooled g.P). KnowsCells p.sizes p.images c.make_all.new.planner) (sym (c.in_ok-append.ensures.same refl)) c.in_ok-make_all.ensures.cells
+returns-clause-cells g c = cells_same c.make_all.new.pages c.append.new.pages c.make_all.new.planner (c.in_ok-append.ensures.same refl) c.in_ok-make_all.ensures.cells

@@ -10,8 +10,7 @@ use Rattle.rq_lost.specs.Dues.{any_due, dues}
 use Rattle.rq_restart.specs.Aborting.{AbortStops, AbortsFrom, HasGoneOn, IsAbortingFrom, IsShown, RepeatedSince}
 use Rattle.rq_restart.specs.Aborting.IsAborting.{Between}
 use Rattle.rq_restart.specs.Repeating.{Belongs, IsRepeated, paged}
-use Rattle.rq_planner.specs.Answered.{KnowsCells}
-use Rattle.rq_pool.specs.Pooled.{Pooled}
+use Rattle.rq_restart.proofs.Renewing.{cells_same}
 use Rattle.rq_restart.specs.Undoing.{StepStops}
 use Rattle.rq_restart.proofs.Aborts.{aborting_join, aborting_none, aborts_end, aborts_join, gone_join, gone_keeping, one_gone, one_stops, spelled_before, stops_join}
 use Rattle.rq_restart.proofs.DueLists.{due_range, none_behind, none_then}
@@ -111,7 +110,7 @@ loop-due-preserved-in-Continue-branch-2 g c =
       device = last.device ∙ made.device ∙ kept.device;
       log = (last.log.0 ∙ made.log.0 ∙ kept.log.0, last.log.1 ∙ made.log.1 ∙ kept.log.1, last.log.2, last.log.3 ∙ made.log.3 ∙ kept.log.3);
       room = last.room ∙ made.room ∙ kept.room;
-      cells = subst (λ (p : Pooled g.P). KnowsCells p.sizes p.images c.take_back.new.planner) (sym (last.same refl)) made.cells;
+      cells = cells_same now new c.take_back.new.planner (last.same refl) made.cells;
     }
 
 pub returns-in_err-append-clause-stops : goal.returns-in_err-append-clause-stops
