@@ -85,6 +85,7 @@ pub record IsBadMend (z : Sizes) (log : List Record) (first : Paged) (lsn : ℕ)
 pub record IsUnlinked (z : Sizes) (log : List Record) (first : Paged) (page : ℕ) : Type 0 where
   pub mended : List Record
   pub mends : IsMended log mended
+  pub planned : ArePlannedFrom z first log mended mends
   pub last : Paged
   pub repeated : Repeats z mended first last
   pub fault : IsFault z (slots_on z last) page

@@ -20,5 +20,5 @@ returns-in_err-check_links-clause-stops g c =
     let pool : IsPool z new.images = subst (λ y. IsPool y new.images) mend.sizes c.check_links.ensures.pool in
     let stops : LinkStops z (slots_on z (paged new)) e = subst (λ y. LinkStops y (slots_on y (paged new)) e) mend.sizes c.in_err-check_links.ensures.stops in
     let h : (first : Paged) → Repeats z log first (paged c.args.pages.now) → MendStops z log first e =
-    λ first before. unlinked_stops z log mended new first mend.mends.is pool (mend.repeated first before) (mend.recovered first before) e stops in
+    λ first before. unlinked_stops z log mended new first mend.mends.is pool (mend.repeated first before) (mend.mends.planned first before) (mend.recovered first before) e stops in
     search (rules, h)
