@@ -12,12 +12,12 @@ use Rattle.rq_restart.proofs.restart.begin_next.Goals as goal
 
 pub returns-in-Ok-clause-begun : goal.returns-in-Ok-clause-begun
 returns-in-Ok-clause-begun g c =
-    let mend = c.in_ok-mend_whole.ensures in
+    let mend = c.in_ok-lost.ensures in
     begun_is c.args.log.now.records c.mend_whole.new.log.records mend.mends.is c.mend_whole.new.findings.history mend.found.history c.incarnation.result c.incarnation.ensures c.begin_incarnation.new.log c.in-Ok.ensures.records c.in-Ok.ensures.forced
 
 pub returns-in-Ok-clause-repeated : goal.returns-in-Ok-clause-repeated
 returns-in-Ok-clause-repeated g c =
-    let mend = c.in_ok-mend_whole.ensures in
+    let mend = c.in_ok-lost.ensures in
     record {
       mended = c.mend_whole.new.log.records;
       mends = mend.mends;
@@ -29,7 +29,7 @@ returns-in-Ok-clause-repeated g c =
 
 pub returns-in-Ok-clause-report : goal.returns-in-Ok-clause-report
 returns-in-Ok-clause-report g c =
-    let mend = c.in_ok-mend_whole.ensures in
+    let mend = c.in_ok-lost.ensures in
     let told = c.in-Ok.ensures.report in
     let found = c.requires.found.history in
     reports c.args.log.now.records c.mend_whole.new.log.records mend.mends.is c.mend_whole.new.findings.history mend.found.history c.incarnation.result c.incarnation.ensures c.args.pages.now.sizes c.begin_incarnation.new.log.records
@@ -38,7 +38,7 @@ returns-in-Ok-clause-report g c =
 
 pub returns-in-Ok-clause-told : goal.returns-in-Ok-clause-told
 returns-in-Ok-clause-told g c =
-    let mend = c.in_ok-mend_whole.ensures in
+    let mend = c.in_ok-lost.ensures in
     let z = c.mend_whole.new.pages.sizes in
     let images = c.mend_whole.new.pages.images in
     let count : ℕ = length c.mend_whole.new.log.records in
@@ -48,7 +48,7 @@ returns-in-Ok-clause-told g c =
 
 pub returns-in-Ok-clause-any_moment : goal.returns-in-Ok-clause-any_moment
 returns-in-Ok-clause-any_moment g c = λ first before h are read.
-    let mend = c.in_ok-mend_whole.ensures in
+    let mend = c.in_ok-lost.ensures in
     let z = c.args.pages.now.sizes in
     let older = c.args.log.now.records in
     let mended = c.mend_whole.new.log.records in
@@ -58,7 +58,7 @@ returns-in-Ok-clause-any_moment g c = λ first before h are read.
 
 pub returns-in-Err-clause-any_moment : goal.returns-in-Err-clause-any_moment
 returns-in-Err-clause-any_moment g c = λ first before h are read.
-    let mend = c.in_ok-mend_whole.ensures in
+    let mend = c.in_ok-lost.ensures in
     let z = c.args.pages.now.sizes in
     let older = c.args.log.now.records in
     let mended = c.mend_whole.new.log.records in
@@ -68,7 +68,7 @@ returns-in-Err-clause-any_moment g c = λ first before h are read.
 
 pub returns-in-Err-clause-stops : goal.returns-in-Err-clause-stops
 returns-in-Err-clause-stops g c = λ first before.
-    let mend = c.in_ok-mend_whole.ensures in
+    let mend = c.in_ok-lost.ensures in
     let z = c.args.pages.now.sizes in
     let older = c.args.log.now.records in
     let faults = g.L.LogDevice.faults in
