@@ -385,7 +385,7 @@ gone n = record {
 undoes : (n : ℕ) → IsUndone (restarts n) (restarts n)
 undoes n = record { undoing = undoing_none (restarts n); none = no_operation n }
 
-mends : (n : ℕ) → IsMended (restarts n) (restarts n)
+abbrev mends : (n : ℕ) → IsMended (restarts n) (restarts n)
 mends n = record { undone = restarts n; undoes = undoes n; aborting = behind_none (restarts n); ended = ended n; none_lost = λ e. refl }
 
 linked : (n : ℕ) → AreLinked sizes (slots_on sizes read_pages)

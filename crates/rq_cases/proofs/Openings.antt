@@ -113,7 +113,7 @@ stayed pages log new n k =
 pub none_undone : IsUndone log_5 log_5
 none_undone = record { undoing = undoing_none log_5; none = refl }
 
-pub none_mended : IsMended log_5 log_5
+abbrev pub none_mended : IsMended log_5 log_5
 none_mended = record { undone = log_5; undoes = none_undone; aborting = behind_none log_5; ended = refl; none_lost = λ e. refl }
 
 -- the chains of the pages that history was repeated on are whole

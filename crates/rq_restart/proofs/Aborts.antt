@@ -48,14 +48,14 @@ join_turns : (xs ys : List Round) (log : List Record) → AreRounds (after_round
 join_turns [] ys log h k = k
 join_turns (x ∷ xs) ys log h k = (subst (λ l. IsNextRound l x) (sym (join_rounds xs ys log)) h.0, join_turns xs ys log h.1 k)
 
-behind_join : (a b c : List Record) → AbortsBehind a b → AbortsBehind b c → AbortsBehind a c
+abbrev behind_join : (a b c : List Record) → AbortsBehind a b → AbortsBehind b c → AbortsBehind a c
 behind_join a b c h k = record {
   rounds = k.rounds ++ h.rounds;
   turns = join_turns k.rounds h.rounds a (subst (λ l. AreRounds l k.rounds) (sym h.are) k.turns) h.turns;
   are = join_rounds k.rounds h.rounds a ∙ ap (after_rounds k.rounds) h.are ∙ k.are;
 }
 
-pub behind_none : (log : List Record) → AbortsBehind log log
+abbrev pub behind_none : (log : List Record) → AbortsBehind log log
 behind_none log = record { rounds = []; turns = tt; are = refl }
 
 -- ---- each planned
@@ -136,7 +136,9 @@ writes_snoc t n (x ∷ ws) w log = writes_snoc t n ws w (page_op t n x ∷ log)
 take_more : (ws : List SlotWrite) (i : ℕ) (w : SlotWrite) → slice_get ws i ≡ Some w → take (i + 1) ws ≡ take i ws ++ w ∷ []
 take_more [] i w e = (let no : None ≡ Some w = e in cc no)
 take_more (x ∷ ws) zero w e = (let is : Some x ≡ Some w = e in let same : x ≡ w = cc is in ap (λ y. y ∷ []) same)
-take_more (x ∷ ws) (suc i) w e = ap (λ l. x ∷ l) (take_more ws i w e)
+take_more (x ∷ ws) (suc i) w e =
+    let next : suc i + 1 ≡ suc (i + 1) = omega arith in
+    ap (λ n. take n (x ∷ ws)) next ∙ ap (λ l. x ∷ l) (take_more ws i w e)
 
 -- one more of them is made
 pub making_more : (t : Txn) (n : ℕ) (ws : List SlotWrite) (i : ℕ) (w : SlotWrite) (log now : List Record) → slice_get ws i ≡ Some w → with_writes t n (take i ws) log ≡ now → with_writes t n (take (i + 1) ws) log ≡ page_op t n w ∷ now
