@@ -28,7 +28,7 @@ use Rattle.rq_undone.proofs.Noting.{noted_working}
 use Rattle.rq_restart.specs.declared.findings.Findings.{Findings}
 use Rattle.rq_restart.specs.Found.{AreFindings}
 use Rattle.rq_lost.specs.declared.dues.Due.{Due}
-use Rattle.rq_restart.specs.Aborting.{AbortStops, AbortsBehind, AbortsOn, ArePlanned, AreRounds, HasGoneOn, IsAborting, IsBadStep, IsNextRound, IsMaking, IsOnItsWay, IsPlannedBack, IsPlannedOn, IsTakenNext, OfStore, RepeatedSince, Round, after_round, after_rounds, with_writes}
+use Rattle.rq_restart.specs.Aborting.{AbortStops, AbortsBehind, AbortsFrom, AbortsOn, ArePlanned, AreRounds, HasGoneOn, IsAborting, IsBadStep, IsNextRound, IsMaking, IsOnItsWay, IsPlannedBack, IsPlannedOn, IsTakenNext, OfStore, RepeatedSince, Round, after_round, after_rounds, with_writes}
 use Rattle.rq_restart.specs.Aborting.Round.{Ends, TakesBack}
 use Rattle.rq_restart.specs.Aborting.IsAborting.{Between, Within}
 use Rattle.rq_restart.specs.Aborting.IsBadStep.{BadDue, BadRecord}
@@ -250,6 +250,10 @@ gone_keeping z came log now old new before after g = record { aborting = g.abort
 -- no record came, and a store of which the one is so is one of which the other is
 pub none_gone : {P : Type 0} (z : Sizes) (log : List Record) (old : Pooled P) (before after : State → Type 0) → OfStore z before after → HasGoneOn z (Unit {0}) log log old old before after
 none_gone z log old before after f = record { aborting = tt; repeated = λ first h. h; counted = λ h. h; shown = f }
+
+-- nothing was ended or taken back
+pub nothing_gone : {P : Type 0} (z : Sizes) (log : List Record) (old : Pooled P) (before : State → Type 0) → HasGoneOn z (AbortsFrom z log old log) log log old old before before
+nothing_gone z log old before = record { aborting = aborts_none z (RepeatedSince z log (paged old)) log; repeated = λ first h. h; counted = λ h. h; shown = λ base k same b. b }
 
 -- it holds of the stores of which something else is so, where that leads to it
 pub stops_before : {P : Type 0} (z : Sizes) (one other : List Record → Type 0) (log : List Record) (old : Pooled P) (before here : State → Type 0) (e : Refusal) → ((l : List Record) → one l → other l) → OfStore z before here → AbortStops z one log old here e → AbortStops z other log old before e

@@ -1,7 +1,7 @@
 use Rattle.std.proofs.Common.{rules, subst}
 use Rattle.rq_restart.specs.Aborting.{AbortStops, AbortsFrom, HasGoneOn, IsAbortingFrom, IsShown}
 use Rattle.rq_restart.specs.Repeating.{paged}
-use Rattle.rq_restart.proofs.Aborts.{aborting_join, aborts_join, gone_join, stops_join}
+use Rattle.rq_restart.proofs.Aborts.{aborting_join, aborts_join, gone_join, nothing_gone, stops_join}
 use Rattle.rq_restart.proofs.Renewing.{cells_same}
 use Rattle.rq_restart.proofs.aborting.abort_lost.Goals as goal
 
@@ -33,3 +33,6 @@ returns-clause-gone_on g c =
 
 pub take_back_all-requires-clause-cells : goal.take_back_all-requires-clause-cells
 take_back_all-requires-clause-cells g c = cells_same c.args.pages.now c.end_idle.new.pages c.args.planner.now c.in_ok-end_idle.ensures.same c.requires.cells
+
+pub returns-then-is_settled-clause-gone_on : goal.returns-then-is_settled-clause-gone_on
+returns-then-is_settled-clause-gone_on g c = nothing_gone c.args.pages.now.sizes c.args.log.now.records c.args.pages.now (IsShown c.args.log.now.records c.args.pages.now)

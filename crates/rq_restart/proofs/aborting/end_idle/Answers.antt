@@ -7,7 +7,7 @@ use Rattle.rq_restart.specs.Aborting.{AbortStops, AbortsFrom, HasGoneOn, IsAbort
 use Rattle.rq_restart.specs.Aborting.IsAborting.{Between}
 use Rattle.rq_restart.specs.Repeating.{Belongs, IsRepeated, paged}
 use Rattle.rq_restart.specs.Undoing.{StepStops}
-use Rattle.rq_restart.proofs.Aborts.{aborting_join, aborting_none, aborts_end, aborts_join, ended_less, gone_join, one_gone, one_stops, stops_join}
+use Rattle.rq_restart.proofs.Aborts.{aborting_join, aborting_none, aborts_end, aborts_join, ended_less, gone_join, nothing_gone, one_gone, one_stops, stops_join}
 use Rattle.rq_restart.proofs.DueLists.{working_range}
 use Rattle.rq_restart.proofs.Rounds.{end_belongs, end_shown, least_in, least_of, shown_way}
 use Rattle.rq_restart.proofs.aborting.end_idle.Goals as goal
@@ -17,6 +17,17 @@ append-requires-clause-range g c = λ are.
     let kept = c.loop-txn.invariant in
     let e : least_free c.loop-txn.findings.dues c.loop-txn.findings.history.working ≡ Some c.in-Some.txn = ap (least_free c.loop-txn.findings.dues) (sym c.working.ensures) ∙ sym c.in-Some.ensures in
     working_range c.loop-txn.log.records are c.in-Some.txn (least_in c.loop-txn.log.records c.loop-txn.findings kept.found c.in-Some.txn e)
+
+pub loop-txn-init : goal.loop-txn-init
+loop-txn-init g c = record {
+  found = c.requires.found;
+  gone = nothing_gone c.args.pages.now.sizes c.args.log.now.records c.args.pages.now (IsShown c.args.log.now.records c.args.pages.now);
+  sizes = refl;
+  device = refl;
+  log = (refl, refl, c.requires.running, refl);
+  room = refl;
+  same = refl;
+}
 
 pub loop-txn-smaller : goal.loop-txn-smaller
 loop-txn-smaller g c =

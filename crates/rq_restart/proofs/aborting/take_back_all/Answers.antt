@@ -12,7 +12,7 @@ use Rattle.rq_restart.specs.Aborting.IsAborting.{Between}
 use Rattle.rq_restart.specs.Repeating.{Belongs, IsRepeated, paged}
 use Rattle.rq_restart.proofs.Renewing.{cells_same}
 use Rattle.rq_restart.specs.Undoing.{StepStops}
-use Rattle.rq_restart.proofs.Aborts.{aborting_join, aborting_none, aborts_end, aborts_join, gone_join, gone_keeping, one_gone, one_stops, spelled_before, stops_join}
+use Rattle.rq_restart.proofs.Aborts.{aborting_join, aborting_none, aborts_end, aborts_join, gone_join, gone_keeping, nothing_gone, one_gone, one_stops, spelled_before, stops_join}
 use Rattle.rq_restart.proofs.DueLists.{due_range, none_behind, none_then}
 use Rattle.rq_restart.proofs.Rounds.{all_ended, end_rest, ends_next, next_belongs, next_shown, next_way}
 use Rattle.rq_restart.proofs.aborting.take_back_all.Goals as goal
@@ -28,6 +28,18 @@ append-requires-clause-range g c = λ are.
     let before : AreSpelled log = spelled_before log c.take_back.new.log.records c.in_ok-take_back.ensures.gone_on.aborting.behind are in
     let there : In d (dues log) = subst (In d) (sym first.1 ∙ c.loop-due.invariant.found.dues) (inl refl) in
     (due_range log before d there).0
+
+pub loop-due-init : goal.loop-due-init
+loop-due-init g c = record {
+  found = c.requires.found;
+  none = c.requires.none;
+  gone = nothing_gone c.args.pages.now.sizes c.args.log.now.records c.args.pages.now (IsShown c.args.log.now.records c.args.pages.now);
+  sizes = refl;
+  device = refl;
+  log = (refl, refl, c.requires.running, refl);
+  room = refl;
+  cells = c.requires.cells;
+}
 
 pub loop-due-smaller : goal.loop-due-smaller
 loop-due-smaller g c = (let e = ap length c.in_ok-take_back.ensures.rest in omega (arith, e))
