@@ -1,5 +1,5 @@
 -- Undoing lost transactions, record by record.
-use Rattle.std.proofs.Common.{◌≡◌, ◌+◌, ℕ, zero, suc, true, false, not, ◌<◌, List, [], ◌∷◌, ◌++◌, length, take, None, Some, inl, inr, refl, sym, ◌∙◌, ap, subst, arith}
+use Rattle.std.proofs.Common.{◌≡◌, ◌+◌, ℕ, zero, suc, true, false, not, ◌<◌, List, [], ◌∷◌, ◌++◌, length, take, None, Some, refl, sym, ◌∙◌, ap, subst, arith}
 use Rattle.std.specs.List.{slice_get}
 use Rattle.std.proofs.lemmas.List.{drop_at, take_all}
 use Rattle.rq_model.specs.declared.record.Record.{Record}
@@ -32,7 +32,7 @@ use Rattle.rq_restart.specs.Aborting.{AbortStops, AbortsBehind, AbortsFrom, Abor
 use Rattle.rq_restart.specs.Aborting.Round.{Ends, TakesBack}
 use Rattle.rq_restart.specs.Aborting.IsAborting.{Between, Within}
 use Rattle.rq_restart.specs.Aborting.IsBadStep.{BadDue, BadRecord}
-use Rattle.rq_restart.specs.Repeating.{AreCounted, Belongs, IsRepeated, Paged, Repeats, paged, slots_on}
+use Rattle.rq_restart.specs.Repeating.{AreCounted, Belongs, IsRepeated, Paged, paged, slots_on}
 use Rattle.rq_restart.specs.Undoing.{StepStops}
 use Rattle.rq_log.specs.Spelled.{AreSpelled}
 use Rattle.rq_restart.proofs.Parsing.{AreSpelled-drop}

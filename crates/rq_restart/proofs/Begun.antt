@@ -37,7 +37,7 @@ use Rattle.rq_rules.proofs.Whole.{whole_logs}
 use Rattle.rq_restart.specs.Aborting.IsAborting.{Between}
 use Rattle.rq_restart.specs.Checked.{WasGoneThrough}
 use Rattle.rq_restart.specs.Mended.{ArePlannedFrom, IsMended, MendStops}
-use Rattle.rq_restart.specs.Refused.{BeginsNot, MayBeShut, WhyNotBegun, WhyShut}
+use Rattle.rq_restart.specs.Refused.{BeginsNot, WhyNotBegun, WhyShut}
 use Rattle.rq_restart.specs.Restarting.{IsBegun, IsBegunBehind, IsOpenedOver, Reports}
 use Rattle.rq_restart.specs.Repeating.{Paged, Repeats}
 use Rattle.rq_restart.specs.Undoing.{IsBadUndo}

@@ -9,7 +9,6 @@ use Rattle.rq_disk.specs.declared.device.LogDevice.{Ghosts}
 use Rattle.rq_record.specs.Spelling.{IsRecord}
 use Rattle.rq_log.specs.Reading.{BeginsWith, IsRead, StopsFor}
 use Rattle.rq_log.specs.Spelled.{AreSpelled}
-use Rattle.rq_store.specs.Opening.{IsLeft}
 use Rattle.rq_restart.specs.Repeating.{Belongs, Paged, Repeats}
 use Rattle.rq_restart.specs.Checked.{WasGoneThrough, IsBeyond}
 use Rattle.rq_restart.specs.Mended.{HasNoRoom, IsAtBound, IsBadMend, IsUnlinked}

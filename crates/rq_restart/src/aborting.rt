@@ -175,9 +175,7 @@ fn take_back<P: PageDevice + Drop, L: LogDevice + Drop, B: Level>(
     let Some(operation) = findings.numbers.greatest(due.txn).checked_add(1) else {
         return Err(Refusal::Damaged(Damage::Record(due.lsn)));
     };
-    make_all(
-        pages, log, findings, planner, due, operation, &writes,
-    )?;
+    make_all(pages, log, findings, planner, due, operation, &writes)?;
     let end = Record::CompEnd {
         txn: due.txn,
         operation,

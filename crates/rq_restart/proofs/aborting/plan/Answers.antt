@@ -1,6 +1,6 @@
-use Rattle.std.proofs.Common.{List, sym, subst}
+use Rattle.std.proofs.Common.{sym, subst}
 use Rattle.rq_views.specs.Stored.{slots_in}
-use Rattle.rq_restart.specs.Aborting.{IsPlannedBack, PlanStops}
+use Rattle.rq_restart.specs.Aborting.{PlanStops}
 use Rattle.rq_restart.proofs.Planning.{lowest_is, plan_is, planned_back, why_not_planned}
 use Rattle.rq_restart.proofs.aborting.plan.Goals as goal
 

@@ -1,12 +1,11 @@
-use Rattle.std.proofs.Common.{◌≡◌, drop, length, ap, refl, sym, ◌∙◌, subst}
+use Rattle.std.proofs.Common.{◌≡◌, drop, ap, refl, sym, subst}
 use Rattle.rq_page.specs.Sizes.{Sizes}
 use Rattle.rq_pool.specs.Pooled.{IsPool}
 use Rattle.rq_sound.specs.Sound.{IsSound}
-use Rattle.rq_store.specs.Opening.{IsLeft, opened}
-use Rattle.rq_restart.specs.Checked.{IsGoneThrough}
+use Rattle.rq_store.specs.Opening.{opened}
 use Rattle.rq_restart.specs.Overwritten.{AreKept, NamesFirst}
-use Rattle.rq_restart.specs.Repeating.{AreCounted, Repeats, paged}
-use Rattle.rq_restart.proofs.Begun.{begun_sound, not_begun_shut}
+use Rattle.rq_restart.specs.Repeating.{AreCounted, paged}
+use Rattle.rq_restart.proofs.Begun.{begun_sound}
 use Rattle.rq_restart.proofs.Restarts.{beyond_shut}
 use Rattle.rq_restart.proofs.restart.go_on.Goals as goal
 

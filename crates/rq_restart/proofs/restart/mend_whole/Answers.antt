@@ -1,4 +1,4 @@
-use Rattle.std.proofs.Common.{rules, sym, subst}
+use Rattle.std.proofs.Common.{rules, subst}
 use Rattle.rq_pool.specs.Pooled.{IsPool}
 use Rattle.rq_links.specs.Links.{AreLinked}
 use Rattle.rq_restart.specs.Mended.{LinkStops, MendStops}
