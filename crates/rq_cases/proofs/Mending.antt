@@ -215,13 +215,13 @@ mends = record {
   taken_back = mended;
   opened_over = λ v. (mended v, refl);
   one_taken_back = half_back;
-  half_taken_back = λ v on plan. Within log_two took_due 3 put_back.writes 1 (aborts_none items.sizes on log_two) took_next plan refl;
+  half_taken_back = λ v first plan. Within log_two took_due 3 put_back.writes 1 (aborts_none items.sizes (RepeatedFrom items.sizes first) log_two) took_next plan refl;
   not_planned = not_planned;
   nothing_taken_back = λ m. (let e = m.ended in cc e);
   not_ended = λ v m. (let e = m.ended in cc e);
   ends_early = none_ends t2;
-  another_ends = λ on. not_aborting on (AbortEnd t1) refl (none_ends t1);
-  commits = λ on. not_aborting on (Commit t2) refl no_commit;
+  another_ends = λ first. not_aborting (RepeatedFrom items.sizes first) (AbortEnd t1) refl (none_ends t1);
+  commits = λ first. not_aborting (RepeatedFrom items.sizes first) (Commit t2) refl no_commit;
   on_its_way = λ v m. OnWay v.first t2 3 11 (takes 0) put_back.writes 1 (walks_judged.one_made v m);
   strange = λ images. (refl, never_15 images);
   blames_another = λ images p. (let e = p.0 in omega (arith, e));
