@@ -61,6 +61,7 @@ use Rattle.rq_engine.proofs.Refusals.{refuse, refuse_full}
 use Rattle.rq_engine.proofs.Standing.{close_steps}
 use Rattle.rq_undone.specs.Analysis.{analysis}
 use Rattle.rq_undone.proofs.Undos.{nothing_undone, undoing_none}
+use Rattle.rq_restart.specs.Aborting.{RepeatedFrom}
 use Rattle.rq_restart.specs.Checked.{IsEnded, IsGoneThrough}
 use Rattle.rq_links.specs.Links.{AreLinked}
 use Rattle.rq_links.proofs.Sound.{sound_linked}
@@ -68,7 +69,7 @@ use Rattle.rq_restart.specs.Repeating.{Paged, Repeats, slots_on}
 use Rattle.rq_undone.specs.Pages.{IsUndone}
 use Rattle.rq_restart.specs.Mended.{IsMended}
 use Rattle.rq_restart.specs.Restarting.{LogStops}
-use Rattle.rq_restart.proofs.Aborts.{aborting_none, aborts_none, working_lost}
+use Rattle.rq_restart.proofs.Aborts.{aborting_none, behind_none, working_lost}
 use Rattle.rq_lost.specs.Recovered.IsRecovered.{NoneLost}
 use Rattle.rq_lost.specs.Recovered.IsRecovering.{Undoing}
 use Rattle.rq_restart.proofs.Parsing.{one_log}
@@ -384,8 +385,8 @@ gone n = record {
 undoes : (n : ℕ) → IsUndone (restarts n) (restarts n)
 undoes n = record { undoing = undoing_none (restarts n); none = no_operation n }
 
-mends : (n : ℕ) → IsMended (restarts n) (restarts n)
-mends n = record { undone = restarts n; undoes = undoes n; aborting = aborts_none (restarts n); ended = ended n; none_lost = λ e. refl }
+abbrev mends : (n : ℕ) → IsMended (restarts n) (restarts n)
+mends n = record { undone = restarts n; undoes = undoes n; aborting = behind_none (restarts n); ended = ended n; none_lost = λ e. refl }
 
 linked : (n : ℕ) → AreLinked sizes (slots_on sizes read_pages)
 linked n = sound_linked.left sizes (slots_on sizes read_pages) (restarts n) (whole n) (none_unfinished n) (λ a. one.first_sound.pages a ∙ sym (same_slots n a))
@@ -403,7 +404,7 @@ module _ (n : ℕ) (pages : MemPages) (log : MemLog) (h : Hold pages formatted_p
     are_spelled = are_spelled n (omega (arith, low));
     reads = λ honest. log_seen log (restarts n) h.1;
     mended = restarts n;
-    mended_on = record { gone_through = (read_pages, gone n); mends = mends n; repeated = repeats n; linked = linked n; recovered = λ left. NoneLost (undoes n) (lost_none n left.whole) };
+    mended_on = record { gone_through = (read_pages, gone n); mends = mends n; planned = tt; repeated = repeats n; linked = linked n; recovered = λ left. NoneLost (undoes n) (lost_none n left.whole) };
     begun = refl;
     room = (let e = length_is n in omega (arith, e, low));
   }
@@ -426,7 +427,7 @@ module _ (n : ℕ) (pages : MemPages) (log : MemLog) (h : Hold pages formatted_p
               undone = restarts n;
               undoing = undoing_none (restarts n);
               now = restarts n;
-              aborting = aborting_none (restarts n);
+              aborting = aborting_none sizes (RepeatedFrom sizes read_pages) (restarts n);
               none_lost = λ e. refl;
               full = omega (arith, e, le);
               recovering = λ left. Undoing (undoing_none (restarts n));

@@ -1,5 +1,5 @@
 -- What undoes what has no end in a log.
-use Rattle.std.proofs.Common.{◌≡◌, ℕ, zero, suc, ◌+◌, ◌<◌, ◌≤◌, ◌⊎◌, Bool, true, false, Option, Some, List, [], ◌∷◌, ◌++◌, length, inl, inr, refl, sym, ◌∙◌, ap, subst, arith, length-append}
+use Rattle.std.proofs.Common.{◌≡◌, ℕ, zero, suc, ◌+◌, ◌<◌, ◌≤◌, ◌⊎◌, Bool, true, false, Option, Some, List, [], ◌∷◌, ◌++◌, length, take, inl, inr, refl, sym, ◌∙◌, ap, subst, arith, length-append}
 use Rattle.std.proofs.lemmas.Bool.{false≢true, true≢false}
 use Rattle.rq_model.specs.declared.record.Record.{Record}
 use Rattle.rq_model.specs.declared.record.Record.TheVariants as records
@@ -7,6 +7,7 @@ use Rattle.rq_model.specs.declared.record.Record.TheVariants.{AbortEnd, Commit, 
 use Rattle.rq_model.specs.declared.txn.Txn.{Txn}
 use Rattle.rq_page.specs.Cells.{free_bytes}
 use Rattle.rq_level.specs.declared.writes.SlotWrite.{SlotWrite}
+use Rattle.rq_views.specs.WorkedItems as items
 use Rattle.rq_views.specs.WorkedItems.{sends, t1, t2, takes}
 use Rattle.rq_views.specs.Items.{told_deed}
 use Rattle.rq_views.specs.Plans.{deed_sender}
@@ -29,16 +30,16 @@ use Rattle.rq_lost.specs.Dues.{deed_due}
 use Rattle.rq_lost.specs.Worked.{log_two, sent_due, took_due}
 use Rattle.rq_lost.proofs.Planning.{due_reads}
 use Rattle.rq_lost.proofs.WorkedWalk.{walks_judged}
-use Rattle.rq_lost.specs.WorkedMoves.{Pages, cell_back, cell_is_back, ended, group_is_back, put_back, unlink, unlinked}
-use Rattle.rq_restart.specs.Aborting.{AbortsBehind, AreRounds, IsAborting, IsNoDeed, IsNotUndone, IsTakenNext, Round, after_round, after_rounds, with_writes}
+use Rattle.rq_lost.specs.WorkedMoves.{Pages, cell_is_back, ended, group_is_back, put_back, unlink, unlinked}
+use Rattle.rq_restart.specs.Aborting.{AbortsBehind, AreRounds, IsAborting, IsNotUndone, IsTakenNext, RepeatedFrom, Round, after_round, after_rounds, with_writes}
 use Rattle.rq_restart.specs.Aborting.IsAborting.{Between, Within}
 use Rattle.rq_restart.specs.Aborting.IsBadStep.{BadDue}
 use Rattle.rq_restart.specs.Aborting.IsOnItsWay.{Within as OnWay}
 use Rattle.rq_restart.specs.Aborting.Round.{Ends, TakesBack}
 use Rattle.rq_restart.specs.Mended.{IsBadMend, IsMended}
-use Rattle.rq_restart.specs.Repeating.{IsRepeated}
+use Rattle.rq_restart.specs.Repeating.{IsRepeated, Paged}
 use Rattle.rq_restart.proofs.Aborts.{aborting_none, aborts_none}
-use Rattle.rq_restart.proofs.Planning.{always_deed}
+use Rattle.rq_restart.proofs.Planning.{not_of_store}
 use Rattle.rq_restart.proofs.Begun as begun
 use Rattle.rq_cases.specs.Mending.{MendsAreJudged, committed_early, strange_due, strange_log}
 use Rattle.rq_cases.specs.Restarting.{read_pages, repeated_pages}
@@ -123,10 +124,20 @@ newest_write t n w [] log = refl
 newest_write t n w (x ∷ ws) log = newest_write t n x ws (page_op t n w ∷ log)
 
 -- what is no record of an abort is none behind the log
-not_aborting : (r : Record) → is_write (r ∷ log_two) ≡ false → (AbortsBehind log_two (r ∷ log_two) → ⊥) → IsAborting log_two (r ∷ log_two) → ⊥
-not_aborting r off none (Between a) = none a
-not_aborting r off none (Within older d n [] a next are) = none (subst (AbortsBehind log_two) are a)
-not_aborting r off none (Within older d n (w ∷ ws) a next are) = false≢true (sym off ∙ ap is_write (sym are) ∙ newest_write d.txn n w ws older)
+not_aborting : (on : List Record → Paged → Type 0) (r : Record) → is_write (r ∷ log_two) ≡ false → (AbortsBehind log_two (r ∷ log_two) → ⊥) → IsAborting items.sizes on log_two (r ∷ log_two) → ⊥
+not_aborting on r off none (Between a) = none a.behind
+not_aborting on r off none (Within older d n ws made a next plan are) = by (take made ws) are where
+  by : (us : List SlotWrite) → with_writes d.txn n us older ≡ r ∷ log_two → ⊥
+  by [] e = none (subst (AbortsBehind log_two) e a.behind)
+  by (w ∷ us) e = false≢true (sym off ∙ ap is_write (sym e) ∙ newest_write d.txn n w us older)
+
+not_planned : (v : Pages) → IsAborting items.sizes (λ l pages. ⊥) log_two (cell_is_back v).records → ⊥
+not_planned v (Between a) =
+    let e : (cell_is_back v).records ≡ log_two = newest_ends (cell_is_back v).records a.behind refl in
+    let n : length (cell_is_back v).records ≡ length log_two = ap length e in
+    let m : length (cell_is_back v).records ≡ length log_two + 1 = refl in
+    omega (arith, n, m)
+not_planned v (Within older d n ws made a next plan are) = absurd plan.on_pages
 
 no_commit : AbortsBehind log_two (Commit t2 ∷ log_two) → ⊥
 no_commit a =
@@ -153,14 +164,8 @@ sends_deed = (omega arith, (omega arith, omega arith, omega arith, omega arith, 
 told_15 : deed_in strange_due.deed ≡ Some (sends 15)
 told_15 = deeds_are_told (sends 15) sends_deed
 
-no_deed : (images : List (List ℕ)) → IsNoDeed sizes images strange_due
-no_deed images deed e low last =
-    let same : deed ≡ sends 15 = (let k : Some deed ≡ Some (sends 15) = sym e ∙ told_15 in cc k) in
-    let high : deed_sender deed ≡ 15 = ap deed_sender same in
-    omega (arith, low, high)
-
 never_15 : (images : List (List ℕ)) → IsNotUndone sizes images strange_due
-never_15 images = always_deed sizes images strange_due (no_deed images)
+never_15 images = not_of_store sizes images strange_due (sends 15) told_15 (omega arith)
 
 strange_repeated : IsRepeated sizes log_3 (op_end t1 1 (sends 15)) repeated_pages repeated_pages
 strange_repeated = record {
@@ -184,7 +189,7 @@ strange_mend = record {
   undone = strange_log;
   undoes = record { undoing = undoing_none strange_log; none = refl };
   last = strange_log;
-  aborting = aborting_none strange_log;
+  aborting = aborting_none sizes (RepeatedFrom sizes read_pages) strange_log;
   bad = BadDue strange_due [] sent_pages repeated_pages refl refl refl refl (repeated_pages, repeats_3, strange_repeated) (inl (never_15 sent_pages));
   none = strange_left;
 }
@@ -210,12 +215,13 @@ mends = record {
   taken_back = mended;
   opened_over = λ v. (mended v, refl);
   one_taken_back = half_back;
-  half_taken_back = λ v. Within log_two took_due 3 (cell_back ∷ []) (aborts_none log_two) took_next refl;
+  half_taken_back = λ v first plan. Within log_two took_due 3 put_back.writes 1 (aborts_none items.sizes (RepeatedFrom items.sizes first) log_two) took_next plan refl;
+  not_planned = not_planned;
   nothing_taken_back = λ m. (let e = m.ended in cc e);
   not_ended = λ v m. (let e = m.ended in cc e);
   ends_early = none_ends t2;
-  another_ends = not_aborting (AbortEnd t1) refl (none_ends t1);
-  commits = not_aborting (Commit t2) refl no_commit;
+  another_ends = λ first. not_aborting (RepeatedFrom items.sizes first) (AbortEnd t1) refl (none_ends t1);
+  commits = λ first. not_aborting (RepeatedFrom items.sizes first) (Commit t2) refl no_commit;
   on_its_way = λ v m. OnWay v.first t2 3 11 (takes 0) put_back.writes 1 (walks_judged.one_made v m);
   strange = λ images. (refl, never_15 images);
   blames_another = λ images p. (let e = p.0 in omega (arith, e));
@@ -242,6 +248,6 @@ mends = record {
       (let e : length b.undone ≡ 5 = ap length (nothing_undone log_5 b.undone refl refl b.undoing) in
       let full = b.full in
       omega (arith, e, full));
-  repeated = record { mended = log_5; mends = none_mended; begun = refl; repeated = λ first h. h; linked = sent_linked; recovered = λ first h left. NoneLost none_undone refl };
+  repeated = record { mended = log_5; mends = record { is = none_mended; planned = λ first h. tt }; begun = refl; repeated = λ first h. h; linked = sent_linked; recovered = λ first h left. NoneLost none_undone refl };
   not_begun = λ old new h. (let e = h.begun in cc e);
 }

@@ -34,7 +34,7 @@ use Rattle.rq_store.proofs.Formatting.{formatted_fits}
 use Rattle.rq_store.proofs.Opening.{restarted_whole}
 use Rattle.rq_restart.specs.Checked.{IsBeyond, as_read}
 use Rattle.rq_restart.specs.Mended.{IsMended}
-use Rattle.rq_restart.proofs.Aborts.{aborts_none}
+use Rattle.rq_restart.proofs.Aborts.{behind_none}
 use Rattle.rq_restart.proofs.Begun.{mended_extends}
 use Rattle.rq_lost.specs.Recovered.IsRecovered.{NoneLost}
 use Rattle.rq_links.specs.Links.{AreLinked}
@@ -113,8 +113,8 @@ stayed pages log new n k =
 pub none_undone : IsUndone log_5 log_5
 none_undone = record { undoing = undoing_none log_5; none = refl }
 
-pub none_mended : IsMended log_5 log_5
-none_mended = record { undone = log_5; undoes = none_undone; aborting = aborts_none log_5; ended = refl; none_lost = λ e. refl }
+abbrev pub none_mended : IsMended log_5 log_5
+none_mended = record { undone = log_5; undoes = none_undone; aborting = behind_none log_5; ended = refl; none_lost = λ e. refl }
 
 -- the chains of the pages that history was repeated on are whole
 pub sent_linked : AreLinked sizes (slots_on sizes repeated_pages)
@@ -130,7 +130,7 @@ checks = record {
     are_spelled = records_spelled;
     reads = λ honest. log_seen log log_5 h.1;
     mended = log_5;
-    mended_on = record { gone_through = (repeated_pages, gone); mends = none_mended; repeated = repeats_5; linked = sent_linked; recovered = λ left. NoneLost none_undone refl };
+    mended_on = record { gone_through = (repeated_pages, gone); mends = none_mended; planned = tt; repeated = repeats_5; linked = sent_linked; recovered = λ left. NoneLost none_undone refl };
     begun = refl;
     room = omega arith;
   };

@@ -27,7 +27,7 @@ use Rattle.rq_rules.specs.Rules.{FollowAll}
 use Rattle.rq_rules.proofs.Whole.{whole_logs}
 use Rattle.rq_restart.specs.Repeating.{AreCounted, Belongs, IsRepeated, Paged, Repeats}
 use Rattle.rq_restart.specs.Restarting.{IsBegunOn, IsLeftOn}
-use Rattle.rq_restart.proofs.Aborts.{aborts_none}
+use Rattle.rq_restart.proofs.Aborts.{behind_none}
 use Rattle.rq_restart.proofs.Begun.{mended_incarnation}
 use Rattle.rq_lost.specs.Recovered.IsRecovered.{NoneLost}
 use Rattle.rq_lost.proofs.Recovering.{recovered_from}
@@ -326,7 +326,7 @@ restarts = record {
     reads = refl;
     begun = record {
       mended = log_5;
-      mends = record { undone = log_5; undoes = record { undoing = undoing_none log_5; none = refl }; aborting = aborts_none log_5; ended = refl; none_lost = λ e. refl };
+      mends = record { undone = log_5; undoes = record { undoing = undoing_none log_5; none = refl }; aborting = behind_none log_5; ended = refl; none_lost = λ e. refl };
       recovered = λ left. NoneLost (record { undoing = undoing_none log_5; none = refl }) refl;
       are_spelled = ((omega arith, omega arith), records_spelled);
       lacks = 0;

@@ -5,9 +5,9 @@ use Rattle.rq_model.specs.declared.record.Record.TheVariants.{AbortEnd, Commit}
 use Rattle.rq_views.specs.WorkedItems as items
 use Rattle.rq_store.specs.Opening.{opened}
 use Rattle.rq_lost.specs.declared.dues.Due.{Due}
-use Rattle.rq_lost.specs.Worked.{log_two, store_two}
-use Rattle.rq_lost.specs.WorkedMoves.{AreMade, Pages, cell_is_back, ended, group_is_back, unlinked}
-use Rattle.rq_restart.specs.Aborting.{AbortsBehind, IsAborting, IsOnItsWay, PlanStops}
+use Rattle.rq_lost.specs.Worked.{log_two, store_two, took_due}
+use Rattle.rq_lost.specs.WorkedMoves.{AreMade, Pages, cell_is_back, ended, group_is_back, put_back, unlinked}
+use Rattle.rq_restart.specs.Aborting.{AbortsBehind, IsAborting, IsOnItsWay, IsPlannedOn, PlanStops, RepeatedFrom}
 use Rattle.rq_restart.specs.Mended.{HasRepeated, IsBadMend, IsMended}
 use Rattle.rq_restart.specs.Repeating.{Paged}
 use Rattle.rq_restart.specs.Restarting.{IsOpenedOver}
@@ -38,13 +38,19 @@ pub record MendsAreJudged : Type 0 where
   pub taken_back : (v : Pages) → IsMended log_two (ended v).records
   pub opened_over : (v : Pages) → IsOpenedOver log_two (opened items.sizes v.fourth (ended v).records)
   pub one_taken_back : (v : Pages) → AbortsBehind log_two (group_is_back v).records → ⊥
-  pub half_taken_back : (v : Pages) → IsAborting log_two (cell_is_back v).records
+  pub half_taken_back : (v : Pages) (first : Paged)
+      → IsPlannedOn items.sizes (RepeatedFrom items.sizes first log_two) took_due put_back.writes
+      → IsAborting items.sizes (RepeatedFrom items.sizes first) log_two (cell_is_back v).records
+  -- by no writes that are not planned
+  pub not_planned : (v : Pages) → IsAborting items.sizes (λ l pages. ⊥) log_two (cell_is_back v).records → ⊥
   pub nothing_taken_back : IsMended log_two log_two → ⊥
   pub not_ended : (v : Pages) → IsMended log_two (unlinked v).records → ⊥
   -- it doesn't end before that, nor in another's place
   pub ends_early : AbortsBehind log_two (AbortEnd t2 ∷ log_two) → ⊥
-  pub another_ends : IsAborting log_two (AbortEnd t1 ∷ log_two) → ⊥
-  pub commits : IsAborting log_two (Commit t2 ∷ log_two) → ⊥
+  pub another_ends : (first : Paged)
+      → IsAborting items.sizes (RepeatedFrom items.sizes first) log_two (AbortEnd t1 ∷ log_two) → ⊥
+  pub commits : (first : Paged)
+      → IsAborting items.sizes (RepeatedFrom items.sizes first) log_two (Commit t2 ∷ log_two) → ⊥
   -- once a record of it is there, pages and log show the store on its way
   pub on_its_way : (v : Pages) → AreMade v → IsOnItsWay (store_two v.start) (cell_is_back v).records
   -- what cannot be taken back is told by its own OpEnd, and no page is

@@ -1,13 +1,13 @@
 -- A level that knows the cells of a store, whatever is under way there.
-use Rattle.std.proofs.Common.{set, ◌≡◌, ◌≢◌, ℕ, ◌/◌, ◌<◌, ◌≤◌, List, [], ◌∷◌, length, refl, sym, ◌∙◌, ap, subst, Bool, true, false, not, nat_eq, Option, Some, None, Result, Ok, Err, inl, inr, arith}
+use Rattle.std.proofs.Common.{set, ◌≡◌, ◌≢◌, ℕ, ◌/◌, ◌<◌, List, length, refl, sym, ◌∙◌, ap, subst, Bool, true, false, not, nat_eq, Option, Some, Result, inl, inr, arith}
 use Rattle.std.proofs.lemmas.Bool.{cases_Bool, cases_eq, eqb-true, false≢true, false_from_ne_true, true≢false}
 use Rattle.std.proofs.lemmas.List.{length-set}
 use Rattle.rq_model.specs.declared.refusal.Refusal.{Refusal}
 use Rattle.rq_page.specs.Sizes.{Sizes, IsCellAddress, cell_at, cell_count, place_of}
 use Rattle.rq_page.specs.Slots.{held_in}
 use Rattle.rq_page.proofs.Addresses.{cells_have_places, places_are_cells}
-use Rattle.rq_views.specs.Log.{Slots, put}
-use Rattle.rq_views.specs.Stored.{IsStoreSlot, is_used, slots_in}
+use Rattle.rq_views.specs.Log.{put}
+use Rattle.rq_views.specs.Stored.{IsStoreSlot, is_used, slot_at, slots_in}
 use Rattle.rq_views.proofs.Overlay.{put_at, put_off}
 use Rattle.rq_level.specs.declared.writes.Plan.{Plan}
 use Rattle.rq_level.specs.Kept.{Kept, flag_at, is_cell_address, is_free_slot, noted, noted_cell, noted_in}
@@ -17,6 +17,7 @@ use Rattle.rq_sound.specs.Levels.{KeepsCells}
 use Rattle.rq_sound.proofs.KeptCells.{cell_is, flag_other, flag_same, free_by_byte, is_cell, place_is}
 use Rattle.rq_planner.specs.Asked.{Asked, known}
 use Rattle.rq_planner.specs.Answered.{IsAnswered, IsPlanned, KnowsCells}
+use Rattle.rq_planner.proofs.Told.{slot_is}
 
 -- with anything under way
 pub knows_any : (z : Sizes) (images : List (List ℕ)) (k : Kept) (rows : List Row) → KnowsCells z images k → KeepsCells (known z images rows) k
@@ -88,3 +89,12 @@ module _ (z : Sizes) (images new : List (List ℕ)) (k : Kept) (a : ℕ) (bytes 
     | inl y ↦ rw y (of_cell y)
     | inr n ↦ rw n (of_no_cell n)
   ])
+
+-- the slot is told as it is then, and no other differs
+pub knows_again : (z : Sizes) (images new : List (List ℕ)) (k after : Kept) (a : ℕ) → IsStoreSlot z a → ((b : ℕ) → b ≢ a → slots_in z new b ≡ slots_in z images b) → KnowsCells z images k → after ≡ noted k a (slot_at new a) → KnowsCells z new after
+knows_again z images new k after a store others h e = subst (KnowsCells z new) (sym e) (knows_written z images new k a (slot_at new a) store now h) where
+  now : (b : ℕ) → slots_in z new b ≡ put (slots_in z images) a (held_in z (a / 16) (slot_at new a)) b
+  now b = elim (cases_eq b a) [
+    | inl same ↦ ap (slots_in z new) same ∙ slot_is z new a store ∙ sym (put_at (slots_in z images) a (held_in z (a / 16) (slot_at new a)) b same)
+    | inr ne ↦ others b ne ∙ sym (put_off (slots_in z images) a (held_in z (a / 16) (slot_at new a)) b ne)
+  ]

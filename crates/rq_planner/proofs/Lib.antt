@@ -2,4 +2,5 @@ mod Told
 mod Gathered
 mod Replies
 mod Judged
+mod Backs
 pub mod Knowing

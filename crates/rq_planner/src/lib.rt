@@ -4,6 +4,7 @@
 //! A plan that doesn't start is given back, and a level that is told a store knows its cells.
 #![tactic(auto, unfolding(rq_level::specs::Meaning::meaning_of))]
 
+mod deeds;
 mod gathering;
 mod planner;
 mod planning;

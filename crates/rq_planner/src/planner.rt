@@ -1,16 +1,19 @@
 //! Planners: a level, with the slots that it is given.
-ghost use Rattle.std.specs.Prelude.{◌≡◌, ◌≤◌, false, length};
+ghost use Rattle.std.specs.Prelude.{◌≡◌, ◌≢◌, ℕ, List, ◌≤◌, IfErr, IfOk, false, length};
 ghost use Rattle.rq_page.specs.Sizes.{cell_count};
 ghost use Rattle.rq_level.specs.Kept.{noted};
 ghost use Rattle.rq_planner.specs.Answered.{IsPlanned, KnowsCells};
 ghost use Rattle.rq_planner.specs.Asked.{IsOfStore, asked_by, seen, undone_by};
+ghost use Rattle.rq_planner.specs.Backs.{IsRefusedBack, IsTakingBack};
+ghost use Rattle.rq_views.specs.Stored.{IsStoreSlot, slots_in};
 
+use crate::deeds::deed_of_store;
 use crate::planning::{plan, plan_back};
-use crate::telling::{give_back, tell_store};
+use crate::telling::{give_back, tell, tell_store};
 use rq_disk::PageDevice;
 use rq_level::{Level, Op, Plan, Slots};
 use rq_model::record::{Record, Slot};
-use rq_model::refusal::Refusal;
+use rq_model::refusal::{Damage, Refusal};
 use rq_page::addr::Addr;
 use rq_pool::Pages;
 use rq_txn::Transactions;
@@ -64,6 +67,16 @@ impl<B: Level> Planner<B> {
         ensures { self.new ≡ noted self.old at bytes.now }
     {
         self.level.noted(at, bytes);
+    }
+
+    /// The slot at this address may have been written, and no other. Takes no memory.
+    pub fn renew<P: PageDevice>(&mut self, pages: &Pages<P>, at: Addr)
+        requires { IsStoreSlot pages.now.sizes at }
+        ensures { (images : List (List ℕ)) → KnowsCells pages.now.sizes images self.old
+            → ((a : ℕ) → a ≢ at → slots_in pages.now.sizes pages.now.images a ≡ slots_in pages.now.sizes images a)
+            → KnowsCells pages.now.sizes pages.now.images self.new }
+    {
+        tell(pages, &mut self.level, at);
     }
 
     /// The plan of an operation, from the slots as they are; `None` where it needs a page that an operation under way has
@@ -130,6 +143,44 @@ impl<B: Level> Planner<B> {
                 Ok(Some(plan))
             }
             Ok(None) => Ok(None),
+            Err(refusal) => Err(refusal),
+        }
+    }
+
+    /// The plan of what takes back the operation whose end the record is, where nothing is under way.
+    ///
+    /// # Errors
+    /// `NoMemory`; `Damaged` where the record tells no deed that the slots as they are show to be done last.
+    pub fn take_back<P: PageDevice>(
+        &mut self,
+        alloc: Global,
+        pages: &Pages<P>,
+        told: &Record,
+    ) -> Result<Plan, Refusal>
+        requires { KnowsCells pages.now.sizes pages.now.images self.old }
+        ensures cells { KnowsCells pages.now.sizes pages.now.images self.new }
+        ensures plan { IfOk result (λ plan. IsTakingBack pages.now.sizes
+            (slots_in pages.now.sizes pages.now.images) told.now plan) }
+        ensures refused { IfErr result (λ r. IsRefusedBack pages.now.sizes
+            (slots_in pages.now.sizes pages.now.images) (undone_by told.now) r) }
+    {
+        let Some(_deed) = deed_of_store(pages, told) else {
+            return Err(Refusal::Damaged(Damage::Page(0)));
+        };
+        let nobody = Transactions::new(alloc);
+        match plan_back(
+            alloc,
+            pages,
+            &nobody,
+            &mut self.level,
+            told,
+            &mut self.slots,
+        ) {
+            Ok(Some(plan)) => {
+                give_back(pages, &mut self.level, &plan.writes);
+                Ok(plan)
+            }
+            Ok(None) => Err(Refusal::Damaged(Damage::Page(0))),
             Err(refusal) => Err(refusal),
         }
     }

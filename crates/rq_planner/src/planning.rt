@@ -3,6 +3,8 @@ ghost use Rattle.std.specs.Prelude.{◌≡◌, Some, false};
 ghost use Rattle.rq_sound.specs.Levels.{KeepsCells};
 ghost use Rattle.rq_planner.specs.Answered.{IsAnswered, unless_latched};
 ghost use Rattle.rq_planner.specs.Asked.{IsOfStore, asked_by, seen, undone_by};
+ghost use Rattle.rq_planner.specs.Backs.{IsJudgedBack};
+ghost use Rattle.rq_views.specs.Stored.{slots_in};
 
 use crate::gathering::gather;
 use rq_disk::PageDevice;
@@ -59,6 +61,8 @@ pub fn plan_back<P: PageDevice, B: Level>(
     ensures same { B.level level.new ≡ 1 }
     ensures answered { IsAnswered (seen pages.now transactions.now) (B.kept level.old) (undone_by told.now) result
         (B.kept level.new) }
+    ensures judged { IsJudgedBack pages.now.sizes (slots_in pages.now.sizes pages.now.images) (undone_by told.now)
+        result }
 {
     let Record::OpEnd {
         level: number,

@@ -59,8 +59,8 @@ fn tell_sizes<P: PageDevice, B: Level>(pages: &Pages<P>, level: &mut B)
     level.noted(Addr::new(0, 1), superblock.slot(1));
 }
 
-// Tells a level of a slot as it is.
-fn tell<P: PageDevice, B: Level>(pages: &Pages<P>, level: &mut B, at: Addr)
+/// Tells a level of a slot as it is.
+pub(crate) fn tell<P: PageDevice, B: Level>(pages: &Pages<P>, level: &mut B, at: Addr)
     requires number { B.level level.old ≡ 1 }
     requires slot { IsStoreSlot pages.now.sizes at }
     ensures same { B.level level.new ≡ 1 }

@@ -1,6 +1,7 @@
 -- Undoing lost transactions, record by record.
-use Rattle.std.proofs.Common.{◌≡◌, ◌+◌, ℕ, true, false, not, ◌<◌, List, [], ◌∷◌, ◌++◌, length, Some, inl, inr, refl, sym, ◌∙◌, ap, subst, arith}
-use Rattle.std.proofs.lemmas.List.{drop_at}
+use Rattle.std.proofs.Common.{◌≡◌, ◌+◌, ℕ, zero, suc, true, false, not, ◌<◌, List, [], ◌∷◌, ◌++◌, length, take, None, Some, refl, sym, ◌∙◌, ap, subst, arith}
+use Rattle.std.specs.List.{slice_get}
+use Rattle.std.proofs.lemmas.List.{drop_at, take_all}
 use Rattle.rq_model.specs.declared.record.Record.{Record}
 use Rattle.rq_model.specs.declared.record.Record.TheVariants as records
 use Rattle.rq_model.specs.declared.refusal.Refusal.{Refusal}
@@ -27,30 +28,17 @@ use Rattle.rq_undone.proofs.Noting.{noted_working}
 use Rattle.rq_restart.specs.declared.findings.Findings.{Findings}
 use Rattle.rq_restart.specs.Found.{AreFindings}
 use Rattle.rq_lost.specs.declared.dues.Due.{Due}
-use Rattle.rq_restart.specs.Aborting.{AbortStops, AbortsBehind, AreRounds, HasGoneOn, IsAborting, IsBadStep, IsNextRound, IsMaking, IsOnItsWay, IsTakenNext, OfStore, Round, after_round, after_rounds, with_writes}
+use Rattle.rq_restart.specs.Aborting.{AbortStops, AbortsBehind, AbortsFrom, AbortsOn, ArePlanned, AreRounds, HasGoneOn, IsAborting, IsBadStep, IsNextRound, IsMaking, IsOnItsWay, IsPlannedBack, IsPlannedOn, IsTakenNext, OfStore, RepeatedSince, Round, after_round, after_rounds, with_writes}
 use Rattle.rq_restart.specs.Aborting.Round.{Ends, TakesBack}
 use Rattle.rq_restart.specs.Aborting.IsAborting.{Between, Within}
 use Rattle.rq_restart.specs.Aborting.IsBadStep.{BadDue, BadRecord}
-use Rattle.rq_restart.specs.Repeating.{AreCounted, Belongs, IsRepeated, Paged, paged}
+use Rattle.rq_restart.specs.Repeating.{AreCounted, Belongs, IsRepeated, Paged, paged, slots_on}
 use Rattle.rq_restart.specs.Undoing.{StepStops}
 use Rattle.rq_log.specs.Spelled.{AreSpelled}
 use Rattle.rq_restart.proofs.Parsing.{AreSpelled-drop}
 use Rattle.rq_restart.proofs.Repeated.{counted_more}
 
--- ---- records
-
-pub aborts_none : (log : List Record) → AbortsBehind log log
-aborts_none log = record { rounds = []; turns = tt; are = refl }
-
-pub aborting_none : (log : List Record) → IsAborting log log
-aborting_none log = Between (aborts_none log)
-
-pub aborts_more : (log now : List Record) (r : Round) → IsNextRound now r → AbortsBehind log now → AbortsBehind log (after_round r now)
-aborts_more log now r turn a = record {
-  rounds = r ∷ a.rounds;
-  turns = (subst (λ l. IsNextRound l r) (sym a.are) turn, a.turns);
-  are = ap (after_round r) a.are;
-}
+-- ---- rounds
 
 join_rounds : (xs ys : List Round) (log : List Record) → after_rounds (xs ++ ys) log ≡ after_rounds xs (after_rounds ys log)
 join_rounds [] ys log = refl
@@ -60,40 +48,104 @@ join_turns : (xs ys : List Round) (log : List Record) → AreRounds (after_round
 join_turns [] ys log h k = k
 join_turns (x ∷ xs) ys log h k = (subst (λ l. IsNextRound l x) (sym (join_rounds xs ys log)) h.0, join_turns xs ys log h.1 k)
 
-pub aborts_join : (a b c : List Record) → AbortsBehind a b → AbortsBehind b c → AbortsBehind a c
-aborts_join a b c h k = record {
+abbrev behind_join : (a b c : List Record) → AbortsBehind a b → AbortsBehind b c → AbortsBehind a c
+behind_join a b c h k = record {
   rounds = k.rounds ++ h.rounds;
   turns = join_turns k.rounds h.rounds a (subst (λ l. AreRounds l k.rounds) (sym h.are) k.turns) h.turns;
   are = join_rounds k.rounds h.rounds a ∙ ap (after_rounds k.rounds) h.are ∙ k.are;
 }
 
-pub aborting_join : (a b c : List Record) → AbortsBehind a b → IsAborting b c → IsAborting a c
-aborting_join a b c h (Between k) = Between (aborts_join a b c h k)
-aborting_join a b c h (Within older d n ws k next are) = Within older d n ws (aborts_join a b older h k) next are
+abbrev pub behind_none : (log : List Record) → AbortsBehind log log
+behind_none log = record { rounds = []; turns = tt; are = refl }
 
--- writes of an operation
+-- ---- each planned
+
+pub plan_weaker : (z : Sizes) (one other : Paged → Type 0) → ((p : Paged) → one p → other p) → (d : Due) (ws : List SlotWrite) → IsPlannedOn z one d ws → IsPlannedOn z other d ws
+plan_weaker z one other j d ws h = record { pages = h.pages; on_pages = j h.pages h.on_pages; plan = h.plan }
+
+module _ (z : Sizes) (one other : List Record → Paged → Type 0) (j : (l : List Record) (p : Paged) → one l p → other l p) where
+  pub planned_weaker : (log : List Record) (rs : List Round) → ArePlanned z one log rs → ArePlanned z other log rs
+  planned_weaker log [] h = tt
+  planned_weaker log (Ends t ∷ rs) h = planned_weaker log rs h
+  planned_weaker log (TakesBack d n ws ∷ rs) h = (plan_weaker z (one (after_rounds rs log)) (other (after_rounds rs log)) (j (after_rounds rs log)) d ws h.0, planned_weaker log rs h.1)
+
+  aborts_weaker : (log now : List Record) → AbortsOn z one log now → AbortsOn z other log now
+  aborts_weaker log now a = record { behind = a.behind; planned = planned_weaker log a.behind.rounds a.planned }
+
+  pub aborting_weaker : (log now : List Record) → IsAborting z one log now → IsAborting z other log now
+  aborting_weaker log now (Between a) = Between (aborts_weaker log now a)
+  aborting_weaker log now (Within older d n ws made a next plan are) = Within older d n ws made (aborts_weaker log older a) next (plan_weaker z (one older) (other older) (j older) d ws plan) are
+
+module _ (z : Sizes) (on : List Record → Paged → Type 0) where
+  join_planned : (xs ys : List Round) (log : List Record) → ArePlanned z on (after_rounds ys log) xs → ArePlanned z on log ys → ArePlanned z on log (xs ++ ys)
+  join_planned [] ys log h k = k
+  join_planned (Ends t ∷ xs) ys log h k = join_planned xs ys log h k
+  join_planned (TakesBack d n ws ∷ xs) ys log h k = (subst (λ l. IsPlannedOn z (on l) d ws) (sym (join_rounds xs ys log)) h.0, join_planned xs ys log h.1 k)
+
+  pub aborts_none : (log : List Record) → AbortsOn z on log log
+  aborts_none log = record { behind = behind_none log; planned = tt }
+
+  pub aborting_none : (log : List Record) → IsAborting z on log log
+  aborting_none log = Between (aborts_none log)
+
+  -- the end of one that is next
+  pub aborts_end : (log : List Record) (t : Txn) → IsNextRound log (Ends t) → AbortsOn z on log (records.AbortEnd t ∷ log)
+  aborts_end log t turn = record { behind = record { rounds = Ends t ∷ []; turns = (turn, tt); are = refl }; planned = tt }
+
+  same_join : (a b c : List Record) → AbortsOn z on a b → AbortsOn z on b c → AbortsOn z on a c
+  same_join a b c h k = record {
+    behind = behind_join a b c h.behind k.behind;
+    planned = join_planned k.behind.rounds h.behind.rounds a (subst (λ l. ArePlanned z on l k.behind.rounds) (sym h.behind.are) k.planned) h.planned;
+  }
+
+  same_aborting : (a b c : List Record) → AbortsOn z on a b → IsAborting z on b c → IsAborting z on a c
+  same_aborting a b c h (Between k) = Between (same_join a b c h k)
+  same_aborting a b c h (Within older d n ws made k next plan are) = Within older d n ws made (same_join a b older h k) next plan are
+
+  -- the first writes of what is due first, and all of them with their end
+  pub making_aborts : (log now : List Record) (d : Due) (n : ℕ) (ws : List SlotWrite) → IsTakenNext log d n → IsPlannedOn z (on log) d ws → IsMaking d.txn n ws log now → IsAborting z on log now
+  making_aborts log now d n ws next plan m = Within log d n ws m.made (aborts_none log) next plan m.are
+
+  pub closing_aborts : (log now : List Record) (d : Due) (n : ℕ) (ws : List SlotWrite) → IsTakenNext log d n → IsPlannedOn z (on log) d ws → with_writes d.txn n ws log ≡ now → AbortsOn z on log (comp_end d.txn n d.lsn ∷ now)
+  closing_aborts log now d n ws next plan are = record {
+    behind = record { rounds = TakesBack d n ws ∷ []; turns = (next, tt); are = ap (λ l. comp_end d.txn n d.lsn ∷ l) are };
+    planned = (plan, tt);
+  }
+
+-- from pages that the log before was repeated on
+module _ (z : Sizes) (a b : List Record) (old mid : Paged) (repeated : RepeatedSince z a old b mid) where
+  since : (l : List Record) (p : Paged) → RepeatedSince z b mid l p → RepeatedSince z a old l p
+  since l p h first k = h first (repeated first k)
+
+  pub aborts_join : (c : List Record) → AbortsOn z (RepeatedSince z a old) a b → AbortsOn z (RepeatedSince z b mid) b c → AbortsOn z (RepeatedSince z a old) a c
+  aborts_join c h k = same_join z (RepeatedSince z a old) a b c h (aborts_weaker z (RepeatedSince z b mid) (RepeatedSince z a old) since b c k)
+
+  pub aborting_join : (c : List Record) → AbortsOn z (RepeatedSince z a old) a b → IsAborting z (RepeatedSince z b mid) b c → IsAborting z (RepeatedSince z a old) a c
+  aborting_join c h k = same_aborting z (RepeatedSince z a old) a b c h (aborting_weaker z (RepeatedSince z b mid) (RepeatedSince z a old) since b c k)
+
+-- what is planned over the pages as they are
+pub planned_here : (z : Sizes) (log : List Record) (old : Paged) (d : Due) (ws : List SlotWrite) → IsPlannedBack z (slots_on z old) d ws → IsPlannedOn z (RepeatedSince z log old log) d ws
+planned_here z log old d ws plan = record { pages = old; on_pages = λ first k. k; plan = plan }
+
+-- ---- writes of an operation
+
 writes_snoc : (t : Txn) (n : ℕ) (ws : List SlotWrite) (w : SlotWrite) (log : List Record) → with_writes t n (ws ++ w ∷ []) log ≡ page_op t n w ∷ with_writes t n ws log
 writes_snoc t n [] w log = refl
 writes_snoc t n (x ∷ ws) w log = writes_snoc t n ws w (page_op t n x ∷ log)
 
-pub making_none : (t : Txn) (n : ℕ) (log : List Record) → IsMaking t n log log
-making_none t n log = record { writes = []; are = refl }
+take_more : (ws : List SlotWrite) (i : ℕ) (w : SlotWrite) → slice_get ws i ≡ Some w → take (i + 1) ws ≡ take i ws ++ w ∷ []
+take_more [] i w e = (let no : None ≡ Some w = e in cc no)
+take_more (x ∷ ws) zero w e = (let is : Some x ≡ Some w = e in let same : x ≡ w = cc is in ap (λ y. y ∷ []) same)
+take_more (x ∷ ws) (suc i) w e =
+    let next : suc i + 1 ≡ suc (i + 1) = omega arith in
+    ap (λ n. take n (x ∷ ws)) next ∙ ap (λ l. x ∷ l) (take_more ws i w e)
 
-pub making_more : (t : Txn) (n : ℕ) (log now : List Record) (w : SlotWrite) → IsMaking t n log now → IsMaking t n log (page_op t n w ∷ now)
-making_more t n log now w m = record { writes = m.writes ++ w ∷ []; are = writes_snoc t n m.writes w log ∙ ap (λ l. page_op t n w ∷ l) m.are }
+-- one more of them is made
+pub making_more : (t : Txn) (n : ℕ) (ws : List SlotWrite) (i : ℕ) (w : SlotWrite) (log now : List Record) → slice_get ws i ≡ Some w → with_writes t n (take i ws) log ≡ now → with_writes t n (take (i + 1) ws) log ≡ page_op t n w ∷ now
+making_more t n ws i w log now e are = ap (λ l. with_writes t n l log) (take_more ws i w e) ∙ writes_snoc t n (take i ws) w log ∙ ap (λ l. page_op t n w ∷ l) are
 
-writes_join : (t : Txn) (n : ℕ) (xs ys : List SlotWrite) (log : List Record) → with_writes t n (xs ++ ys) log ≡ with_writes t n ys (with_writes t n xs log)
-writes_join t n [] ys log = refl
-writes_join t n (x ∷ xs) ys log = writes_join t n xs ys (page_op t n x ∷ log)
-
-pub making_join : (t : Txn) (n : ℕ) (a b c : List Record) → IsMaking t n a b → IsMaking t n b c → IsMaking t n a c
-making_join t n a b c h k = record { writes = h.writes ++ k.writes; are = writes_join t n h.writes k.writes a ∙ ap (with_writes t n k.writes) h.are ∙ k.are }
-
-pub making_aborts : (log now : List Record) (d : Due) (n : ℕ) → IsTakenNext log d n → IsMaking d.txn n log now → IsAborting log now
-making_aborts log now d n next m = Within log d n m.writes (aborts_none log) next m.are
-
-pub closing_aborts : (log now : List Record) (d : Due) (n : ℕ) → IsTakenNext log d n → IsMaking d.txn n log now → AbortsBehind log (comp_end d.txn n d.lsn ∷ now)
-closing_aborts log now d n next m = record { rounds = TakesBack d n m.writes ∷ []; turns = (next, tt); are = ap (λ l. comp_end d.txn n d.lsn ∷ l) m.are }
+pub all_made : (t : Txn) (n : ℕ) (ws : List SlotWrite) (log now : List Record) → with_writes t n (take (length ws) ws) log ≡ now → with_writes t n ws log ≡ now
+all_made t n ws log now are = ap (λ l. with_writes t n l log) (sym (take_all (length ws) ws (omega arith))) ∙ are
 
 -- they are plain records, of the same incarnation
 writes_extend : (t : Txn) (n : ℕ) (ws : List SlotWrite) (log : List Record) → Extends log (with_writes t n ws log)
@@ -162,7 +214,7 @@ module _ {P : Type 0} (z : Sizes) (behind : List Record → Type 0) (log : List 
 
 -- what stops behind the one is what stops behind the other
 module _ (z : Sizes) (one other : List Record → Type 0) (j : (l : List Record) → one l → other l) where
-  bad_weaker : (first : Paged) (last : List Record) (lsn : ℕ) → IsBadStep z one first last lsn → IsBadStep z other first last lsn
+  pub bad_weaker : (first : Paged) (last : List Record) (lsn : ℕ) → IsBadStep z one first last lsn → IsBadStep z other first last lsn
   bad_weaker first last lsn (BadRecord newest mid next place repeated bad) = BadRecord newest mid (j (newest ∷ last) next) place repeated bad
   bad_weaker first last lsn (BadDue due older images mid is nobody place same repeated bad) = BadDue due older images mid is nobody place same repeated bad
 
@@ -198,6 +250,10 @@ gone_keeping z came log now old new before after g = record { aborting = g.abort
 -- no record came, and a store of which the one is so is one of which the other is
 pub none_gone : {P : Type 0} (z : Sizes) (log : List Record) (old : Pooled P) (before after : State → Type 0) → OfStore z before after → HasGoneOn z (Unit {0}) log log old old before after
 none_gone z log old before after f = record { aborting = tt; repeated = λ first h. h; counted = λ h. h; shown = f }
+
+-- nothing was ended or taken back
+pub nothing_gone : {P : Type 0} (z : Sizes) (log : List Record) (old : Pooled P) (before : State → Type 0) → HasGoneOn z (AbortsFrom z log old log) log log old old before before
+nothing_gone z log old before = record { aborting = aborts_none z (RepeatedSince z log (paged old)) log; repeated = λ first h. h; counted = λ h. h; shown = λ base k same b. b }
 
 -- it holds of the stores of which something else is so, where that leads to it
 pub stops_before : {P : Type 0} (z : Sizes) (one other : List Record → Type 0) (log : List Record) (old : Pooled P) (before here : State → Type 0) (e : Refusal) → ((l : List Record) → one l → other l) → OfStore z before here → AbortStops z one log old here e → AbortStops z other log old before e

@@ -36,8 +36,8 @@ use Rattle.rq_lost.proofs.Recovering.{recovered_from}
 use Rattle.rq_rules.proofs.Whole.{whole_logs}
 use Rattle.rq_restart.specs.Aborting.IsAborting.{Between}
 use Rattle.rq_restart.specs.Checked.{WasGoneThrough}
-use Rattle.rq_restart.specs.Mended.{IsMended, MendStops}
-use Rattle.rq_restart.specs.Refused.{BeginsNot, MayBeShut, WhyNotBegun, WhyShut}
+use Rattle.rq_restart.specs.Mended.{ArePlannedFrom, IsMended, MendStops}
+use Rattle.rq_restart.specs.Refused.{BeginsNot, WhyNotBegun, WhyShut}
 use Rattle.rq_restart.specs.Restarting.{IsBegun, IsBegunBehind, IsOpenedOver, Reports}
 use Rattle.rq_restart.specs.Repeating.{Paged, Repeats}
 use Rattle.rq_restart.specs.Undoing.{IsBadUndo}
@@ -121,17 +121,17 @@ module _ (log mended : List Record) (m : IsMended log mended) (h : Analysis) (no
   }
 
   -- why the incarnation was not begun
-  pub not_begun : (z : Sizes) (first now_paged : Paged) (e : Refusal) (before now : ℕ) (untouched : Type 0) → Repeats z mended first now_paged → (IsLeft z first.image log → IsRecovered z log mended)
+  pub not_begun : (z : Sizes) (first now_paged : Paged) (e : Refusal) (before now : ℕ) (untouched : Type 0) → Repeats z mended first now_paged → ArePlannedFrom z first log mended m → (IsLeft z first.image log → IsRecovered z log mended)
       → BeginsNot e (length mended) last before now untouched → WhyNotBegun z log first e before now untouched
-  not_begun z first now_paged why.NoMemory before now untouched repeated recovered b = b
-  not_begun z first now_paged why.DiskWrite before now untouched repeated recovered b = b
-  not_begun z first now_paged why.LogFull before now untouched repeated recovered b = (record { undone = m.undone; undoing = m.undoes.undoing; now = mended; aborting = Between m.aborting; none_lost = m.none_lost; full = full; recovering = λ left. recovered_on z log mended (recovered left) }, b.1) where
+  not_begun z first now_paged why.NoMemory before now untouched repeated planned recovered b = b
+  not_begun z first now_paged why.DiskWrite before now untouched repeated planned recovered b = b
+  not_begun z first now_paged why.LogFull before now untouched repeated planned recovered b = (record { undone = m.undone; undoing = m.undoes.undoing; now = mended; aborting = Between (record { behind = m.aborting; planned = planned }); none_lost = m.none_lost; full = full; recovering = λ left. recovered_on z log mended (recovered left) }, b.1) where
     full : 2 ^ 50 ≤ length mended
     full = elim b.0 [
       | inl is_full ↦ is_full
       | inr many ↦ let few = few_incarnations mended (repeated_order z mended first now_paged repeated) in let e = last_is in omega (arith, few, e, many)
     ]
-  not_begun z first now_paged _ before now untouched repeated recovered b = absurd b
+  not_begun z first now_paged _ before now untouched repeated planned recovered b = absurd b
 
 -- why the log was not mended is why nothing was begun
 pub mend_not_begun : (z : Sizes) (log : List Record) (first : Paged) (e : Refusal) (before now : ℕ) (untouched : Type 0) → now ≡ before → untouched → MendStops z log first e → WhyNotBegun z log first e before now untouched

@@ -10,14 +10,10 @@ use Rattle.rq_log.specs.Reading.{BeginsWith, IsDamagedBehind, IsRead, StopsFor}
 use Rattle.rq_log.specs.Spelled.{spelled, AreSpelled}
 use Rattle.rq_model.specs.declared.record.Record.{Record}
 use Rattle.rq_page.specs.Sizes.{Sizes}
-use Rattle.rq_views.specs.InStore.{InStore}
-use Rattle.rq_model.specs.Incarnations.{InOrder}
 use Rattle.rq_store.specs.Opening.{FitsUpTo, Redoes, MayRedo, IsLeft}
 use Rattle.rq_store.specs.Fitting.{oldest, told_by}
 use Rattle.rq_store.specs.Whole.{IsWhole}
 use Rattle.rq_store.proofs.Cutting.{whole_dropped}
-use Rattle.rq_store.proofs.Fitting.{oldest_all}
-use Rattle.rq_store.proofs.Redoing.{oldest_store, redo_one}
 use Rattle.rq_store.proofs.Bounds.{may_redo}
 use Rattle.rq_undone.specs.Analysis.{analysis, analysis_after}
 use Rattle.rq_lost.specs.Dues.{dues, dues_after}

@@ -20,6 +20,6 @@ pub mod Rounds
 pub mod Results
 pub mod Planning
 pub mod Linking
-pub mod Lasting
+pub mod Renewing
 pub mod Following
 pub mod Numbers

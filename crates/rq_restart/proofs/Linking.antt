@@ -16,12 +16,12 @@ use Rattle.rq_lost.specs.Recovered.{IsRecovered}
 use Rattle.rq_links.specs.Links.{AreLinked, IsFault}
 use Rattle.rq_links.proofs.Faults.{faults_exact}
 use Rattle.rq_links.proofs.Sound.{sound_linked}
-use Rattle.rq_restart.specs.Mended.{IsMended, LinkStops, MendStops}
+use Rattle.rq_restart.specs.Mended.{ArePlannedFrom, IsMended, LinkStops, MendStops}
 use Rattle.rq_restart.specs.Repeating.{Paged, Repeats, paged, slots_on}
 use Rattle.rq_restart.proofs.Begun.{begun_sound}
 
 module _ {P : Type 0} (z : Sizes) (log mended : List Record) (new : Pooled P) (first : Paged) (mends : IsMended log mended) (pool : IsPool z new.images) (repeated : Repeats z mended first (paged new))
-    (recovered : IsLeft z first.image log → IsRecovered z log mended) where
+    (planned : ArePlannedFrom z first log mended mends) (recovered : IsLeft z first.image log → IsRecovered z log mended) where
   -- of a store that was left so they are
   left_linked : IsLeft z first.image log → AreLinked z (slots_in z new.images)
   left_linked left = sound_linked.open_store z new.images mended (begun_sound z first (paged new) new.images log mended refl pool mends (recovered left) repeated left)
@@ -31,6 +31,7 @@ module _ {P : Type 0} (z : Sizes) (log mended : List Record) (new : Pooled P) (f
   unlinked_stops (why.Damaged (damage.Page page)) s = record {
     mended = mended;
     mends = mends;
+    planned = planned;
     last = paged new;
     repeated = repeated;
     fault = s;

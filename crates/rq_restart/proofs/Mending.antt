@@ -34,13 +34,13 @@ use Rattle.rq_lost.proofs.Owing.{first_due}
 use Rattle.rq_lost.proofs.Logging.{come_sound}
 use Rattle.rq_lost.proofs.Store.{lost_sound, some_incarnation}
 use Rattle.rq_lost.proofs.Walking.{aborts_come}
-use Rattle.rq_restart.specs.Aborting.{AbortStops, AbortsBehind, HasGoneOn, IsAborting, IsFull, IsOnItsWay, IsShown}
+use Rattle.rq_restart.specs.Aborting.{AbortStops, AbortsFrom, AbortsOn, HasGoneOn, IsAborting, IsAbortingFrom, IsFull, IsOnItsWay, IsShown, RepeatedFrom, RepeatedSince}
 use Rattle.rq_restart.specs.Aborting.IsOnItsWay.{Between, Within}
 use Rattle.rq_restart.specs.Checked.{IsEnded}
-use Rattle.rq_restart.specs.Mended.{MendStops}
+use Rattle.rq_restart.specs.Mended.{IsMendedSince, MendStops}
 use Rattle.rq_restart.specs.Repeating.{Paged, Repeats, paged}
 use Rattle.rq_restart.specs.Undoing.{UndoStops}
-use Rattle.rq_restart.proofs.Aborts.{aborting_none, working_lost}
+use Rattle.rq_restart.proofs.Aborts.{aborting_none, aborting_weaker, bad_weaker, planned_weaker, working_lost}
 use Rattle.rq_restart.proofs.Lefts.{left_undoing}
 use Rattle.rq_restart.proofs.Repeated.{all_up_to}
 use Rattle.rq_restart.proofs.Showing.{between_holds}
@@ -106,13 +106,13 @@ module _ {P : Type 0} (z : Sizes) (log undone : List Record) (mid : Pooled P) (u
     on_its_way last (Between images b) = aborts_come.between z log undone mid.images (length undone) images last u is_repeated b
     on_its_way last (Within images t n lsn deed ws made i) = aborts_come.within z log undone mid.images (length undone) images last t n lsn deed ws made u is_repeated i
 
-    pub full_recovering : (s : IsFull z (IsAborting undone) (IsShown undone mid)) → IsRecovering z log s.last
+    pub full_recovering : (s : IsFull z (IsAbortingFrom z undone mid) (IsShown undone mid)) → IsRecovering z log s.last
     full_recovering s = on_its_way s.last (s.way base sound refl shown)
 
     pub none_bad : ((b : State) → IsSound b → b.sizes ≡ z → IsShown undone mid b → ⊥) → ⊥
     none_bad f = f base sound refl shown
 
-    module _ (now : List Record) (new : Pooled P) (g : HasGoneOn z (AbortsBehind undone now) undone now mid new (IsShown undone mid) (IsShown now new)) (ended : IsEnded now) where
+    module _ (now : List Record) (new : Pooled P) (g : HasGoneOn z (AbortsFrom z undone mid now) undone now mid new (IsShown undone mid) (IsShown now new)) (ended : IsEnded now) where
       after : IsBetween base new.images now
       after = g.shown base sound refl shown
 
@@ -134,7 +134,7 @@ module _ {P : Type 0} (z : Sizes) (log undone : List Record) (mid : Pooled P) (u
       all_recovered = aborts_come.recovered z log undone mid.images (length undone) new.images now u is_repeated after (ap (least_free (dues now)) none_lost) nothing_due
 
   -- so the log is recovered
-  pub recovered_is : (now : List Record) (new : Pooled P) → HasGoneOn z (AbortsBehind undone now) undone now mid new (IsShown undone mid) (IsShown now new) → IsEnded now → (IsEnded undone → now ≡ undone) → IsRecovered z log now
+  pub recovered_is : (now : List Record) (new : Pooled P) → HasGoneOn z (AbortsFrom z undone mid now) undone now mid new (IsShown undone mid) (IsShown now new) → IsEnded now → (IsEnded undone → now ≡ undone) → IsRecovered z log now
   recovered_is now new g ended none = by (analysis undone).working refl where
     by : (ts : List Txn) → (analysis undone).working ≡ ts → IsRecovered z log now
     by [] e = subst (IsRecovered z log) (sym (none e)) (NoneLost u (sym (working_lost z undone from.whole) ∙ e))
@@ -143,17 +143,17 @@ module _ {P : Type 0} (z : Sizes) (log undone : List Record) (mid : Pooled P) (u
 -- why operations were not undone, or then transactions, is why the log was not mended
 pub undo_mends_not : (z : Sizes) (log : List Record) (first : Paged) (e : Refusal) → UndoStops z log first e → MendStops z log first e
 undo_mends_not z log first why.NoMemory s = tt
-undo_mends_not z log first why.LogFull s = record { undone = s.undone; undoing = s.undoing; now = s.undone; aborting = aborting_none s.undone; none_lost = λ e. refl; full = s.full; recovering = λ left. Undoing s.undoing }
+undo_mends_not z log first why.LogFull s = record { undone = s.undone; undoing = s.undoing; now = s.undone; aborting = aborting_none z (RepeatedFrom z first) s.undone; none_lost = λ e. refl; full = s.full; recovering = λ left. Undoing s.undoing }
 undo_mends_not z log first (why.Damaged (damage.Record lsn)) s = inl s
 undo_mends_not z log first _ s = absurd s
 
-pub abort_mends_not : {P : Type 0} (z : Sizes) (log undone : List Record) (mid : Pooled P) → IsUndone log undone → IsPool z mid.images → (IsEnded undone → ⊥) → (first : Paged) → Repeats z undone first (paged mid) → (e : Refusal) → AbortStops z (IsAborting undone) undone mid (IsShown undone mid) e → MendStops z log first e
+pub abort_mends_not : {P : Type 0} (z : Sizes) (log undone : List Record) (mid : Pooled P) → IsUndone log undone → IsPool z mid.images → (IsEnded undone → ⊥) → (first : Paged) → Repeats z undone first (paged mid) → (e : Refusal) → AbortStops z (IsAbortingFrom z undone mid) undone mid (IsShown undone mid) e → MendStops z log first e
 abort_mends_not z log undone mid u pool some first repeated why.NoMemory s = tt
 abort_mends_not z log undone mid u pool some first repeated why.LogFull s = record {
   undone = undone;
   undoing = u.undoing;
   now = s.last;
-  aborting = s.aborting;
+  aborting = aborting_weaker z (RepeatedSince z undone (paged mid)) (RepeatedFrom z first) (λ l p h. h first repeated) undone s.last s.aborting;
   none_lost = λ e. absurd (some (undone_working log undone u ∙ e));
   full = s.full;
   recovering = λ left. full_recovering z log undone mid u pool first left repeated some s;
@@ -162,8 +162,16 @@ abort_mends_not z log undone mid u pool some first repeated (why.Damaged (damage
   undone = undone;
   undoes = u;
   last = s.last;
-  aborting = s.aborting;
-  bad = s.bad first repeated;
+  aborting = aborting_weaker z (RepeatedSince z undone (paged mid)) (RepeatedFrom z first) (λ l p h. h first repeated) undone s.last s.aborting;
+  bad = bad_weaker z (IsAbortingFrom z undone mid) (IsAborting z (RepeatedFrom z first) undone) (aborting_weaker z (RepeatedSince z undone (paged mid)) (RepeatedFrom z first) (λ l p h. h first repeated) undone) first s.last lsn (s.bad first repeated);
   none = λ left. none_bad z log undone mid u pool first left repeated some s.none;
 })
 abort_mends_not z log undone mid u pool some first repeated _ s = absurd s
+
+-- what mends it from there, wherever the log was repeated so
+pub mended_since : (z : Sizes) (log undone now : List Record) (old mid : Paged) → IsUndone log undone → AbortsOn z (RepeatedSince z undone mid) undone now → IsEnded now → (IsEnded log → now ≡ undone) → ((first : Paged) → Repeats z log first old → Repeats z undone first mid)
+    → IsMendedSince z log now old
+mended_since z log undone now old mid u a ended none repeated = record {
+  is = record { undone = undone; undoes = u; aborting = a.behind; ended = ended; none_lost = none };
+  planned = λ first before. planned_weaker z (RepeatedSince z undone mid) (RepeatedFrom z first) (λ l p h. h first (repeated first before)) undone a.behind.rounds a.planned;
+}

@@ -1,71 +1,140 @@
 -- What is due can be planned to be taken back.
-use Rattle.std.proofs.Common.{◌≡◌, ℕ, List, [], ◌∷◌, Some, inl, inr, refl, sym, ◌∙◌, ap, subst, false, arith}
-use Rattle.std.proofs.lemmas.Bool.{false≢true, true≢false}
+use Rattle.std.proofs.Common.{◌≡◌, ℕ, ◌/◌, ◌<◌, ◌≤◌, List, [], Option, Some, None, refl, sym, ◌∙◌, ap, subst, false, arith}
 use Rattle.rq_model.specs.declared.record.Deed.{Deed}
 use Rattle.rq_model.specs.declared.record.Deed.TheVariants.{Append, UnlinkHead, Close}
 use Rattle.rq_model.specs.declared.record.Record.{Record}
+use Rattle.rq_model.specs.declared.record.Record.TheVariants as records
 use Rattle.rq_model.specs.declared.refusal.Refusal.{Refusal}
 use Rattle.rq_model.specs.declared.refusal.Refusal.TheVariants as why
+use Rattle.rq_model.specs.declared.txn.Txn.{Txn}
 use Rattle.rq_model.specs.Deeds.{deed_in}
-use Rattle.rq_model.specs.Words.{In}
-use Rattle.rq_page.specs.Sizes.{Sizes}
+use Rattle.rq_page.specs.declared.directory.Directory.{Directory}
+use Rattle.rq_page.specs.Sizes.{Sizes, directory_at, sender_count}
+use Rattle.rq_page.specs.Slots.Slot.{Sender}
 use Rattle.rq_views.specs.Items.{told_deed}
+use Rattle.rq_views.specs.Log.{Slots}
+use Rattle.rq_views.specs.Plans.{deed_sender}
+use Rattle.rq_views.specs.Plans.Turn.{Undid}
 use Rattle.rq_views.specs.Stored.{slots_in}
-use Rattle.rq_txn.specs.Rows.{Row}
+use Rattle.rq_level.specs.declared.writes.Plan.{Plan}
+use Rattle.rq_level.specs.declared.writes.SlotWrite.{SlotWrite}
+use Rattle.rq_txn.specs.Rows.{latched_in}
 use Rattle.rq_store.specs.State.{State}
-use Rattle.rq_store.specs.Whole.{IsWhole}
-use Rattle.rq_sound.specs.Groups.{slots_now}
-use Rattle.rq_sound.specs.Latching.{any_latched, at_head, before_tail}
+use Rattle.rq_sound.specs.Groups.{TellsGroup, slots_now}
+use Rattle.rq_sound.specs.Plans.{IsPlannedFrom}
 use Rattle.rq_sound.specs.Sound.{IsSound}
-use Rattle.rq_sound.proofs.Groups.{all_stand}
+use Rattle.rq_sound.proofs.Groups.{all_stand, tells_group}
+use Rattle.rq_sound.proofs.Latching as latching
 use Rattle.rq_sound.proofs.UsedCells.{some_free}
-use Rattle.rq_inverses.specs.Inverses.{InverseIsLatched, MayBeUndone, StandsOn}
+use Rattle.rq_inverses.specs.Inverses.{InverseTakesLowest, MayBeUndone}
+use Rattle.rq_planner.specs.Asked.{to_undo}
+use Rattle.rq_planner.specs.Asked.Asked.{Undo}
+use Rattle.rq_planner.specs.Backs.{CanBeTakenBack, IsRefusedBack, IsTakingBack}
+use Rattle.rq_links.proofs.Chains.{sender_same}
 use Rattle.rq_lost.specs.declared.dues.Due.{Due}
-use Rattle.rq_lost.specs.Dues.{deed_due, dues}
-use Rattle.rq_lost.specs.Walk.{ShowsUndone}
-use Rattle.rq_lost.proofs.Planning.{due_reads}
-use Rattle.rq_restart.specs.Aborting.{IsNoDeed, IsNotUndone, PlanStops, blamed_on}
+use Rattle.rq_lost.specs.Dues.{deed_due}
+use Rattle.rq_lost.specs.Walk.{ShowsUndone, StandsLast}
+use Rattle.rq_restart.specs.Aborting.{IsNotUndone, IsPlannedBack, PlanStops, blamed_on}
+
+-- ---- what a sound store shows to be done last, with nothing under way, can be taken back
+
+module _ (s : State) (k : IsSound s) (none : (p : ℕ) → latched_in s.rows p ≡ false) where
+  can : (d : Deed) → deed_sender d < sender_count s.sizes → MayBeUndone s d → StandsLast (slots_now s) d → CanBeTakenBack s.sizes (slots_now s) d
+  can (Append g n tag previous body) low may last =
+      let off = none (directory_at g / 16) in
+      let d : Directory = latching.d s k g low off in
+      let at : slots_now s (directory_at g) ≡ Sender g d = latching.at s k g low off in
+      let told : TellsGroup s g d = tells_group s g d k low off at in
+      let more : d.received < d.sent = (let a = told.sent in omega (arith, a, may)) in
+      let is : d.sent ≡ n = ap (λ (x : Directory). x.sent) (sender_same (slots_now s) (directory_at g) g d last.directory at last.at) ∙ last.last.0 in
+      let t = latching.tail s k g low off more in
+      let c = latching.front_cell s k g low off more in
+      record {
+        below = low;
+        directory = d;
+        directory_is = at;
+        some = more;
+        sequence = is;
+        cell = t.cell;
+        tail_is = t.at;
+        last = t.sequence ∙ is;
+        front = c.cell;
+        beside = c.there;
+      }
+  can (UnlinkHead g n tag body) low may last =
+      let off = none (directory_at g / 16) in
+      let d : Directory = latching.d s k g low off in
+      let at : slots_now s (directory_at g) ≡ Sender g d = latching.at s k g low off in
+      let told : TellsGroup s g d = tells_group s g d k low off at in
+      let some : 0 < d.received = (let a = told.received in let m = may.0 in omega (arith, a, m)) in
+      let is : d.received ≡ n = ap (λ (x : Directory). x.received) (sender_same (slots_now s) (directory_at g) g d last.directory at last.at) ∙ last.last in
+      let c = latching.head_cell s k g low off in
+      let f = some_free s.sizes (slots_now s) (all_stand s k) may.1 in
+      record {
+        below = low;
+        directory = d;
+        directory_is = at;
+        some = some;
+        sequence = is;
+        old = c.cell;
+        beside = c.there;
+        cell = f.0;
+        is_cell = f.1;
+        free = f.2;
+      }
+  can (Close g) low may last = record { below = low; directory = last.directory; directory_is = last.at; closed = last.last }
+
+pub shows_can : (z : Sizes) (images : List (List ℕ)) (log : List Record) (d : Deed) → deed_sender d < sender_count z → ShowsUndone z images log d → CanBeTakenBack z (slots_in z images) d
+shows_can z images log d low shows =
+    let s = shows.store in
+    let sizes : s.sizes ≡ z = shows.stands.sizes in
+    let are : s.images ≡ images = shows.stands.images in
+    let last : StandsLast (slots_in s.sizes s.images) d = subst (λ x. StandsLast (slots_in s.sizes x) d) (sym are) (subst (λ y. StandsLast (slots_in y images) d) (sym sizes) shows.last) in
+    let below : deed_sender d < sender_count s.sizes = subst (λ y. deed_sender d < sender_count y) (sym sizes) low in
+    subst (λ y. CanBeTakenBack y (slots_in y images) d) sizes (subst (λ x. CanBeTakenBack s.sizes (slots_in s.sizes x) d) are (can s shows.sound (λ p. shows.stands.latches p) d below shows.may last))
+
+-- ---- what the level plans
 
 -- the deed that is read is what is due
-pub deed_is : (d : Due) (deed : Deed) → deed_in d.deed ≡ Some deed → deed_due d ≡ deed
+deed_is : (d : Due) (deed : Deed) → deed_in d.deed ≡ Some deed → deed_due d ≡ deed
 deed_is d deed e = ap told_deed e
 
--- where there is no row nobody has latched a page
-nobody : (xs : List ℕ) → any_latched [] xs ≡ false
-nobody [] = refl
-nobody (a ∷ xs) = nobody xs
+asked_is : (o : Option Deed) (d : Deed) → to_undo o ≡ Some (Undo d) → o ≡ Some d
+asked_is None d e = absurd (let no : None ≡ Some (Undo d) = e in cc no)
+asked_is (Some x) d e = let same : Some (Undo x) ≡ Some (Undo d) = e in cc same
 
-unlatched : (s : State) (d : Deed) → IsSound s → MayBeUndone s d → InverseIsLatched s.sizes (slots_now s) [] d → ⊥
-unlatched s (Append g n tag previous body) k may h = true≢false (sym h ∙ nobody (before_tail (slots_now s) g))
-unlatched s (UnlinkHead g n tag body) k may h = elim h [
-  | inl y ↦ true≢false (sym y ∙ nobody (at_head (slots_now s) g))
-  | inr all ↦ let f = some_free s.sizes (slots_now s) (all_stand s k) may.1 in false≢true (all f.0 f.1 f.2)
-]
-unlatched s (Close g) k may h = false≢true h
+pub planned_back : (z : Sizes) (q : Slots) (due : Due) (t : Txn) (n level : ℕ) (p : Plan) → IsTakingBack z q (records.OpEnd t n level due.deed) p → IsPlannedBack z q due p.writes.items
+planned_back z q due t n level p b = record {
+  deed = b.deed;
+  reads = asked_is (deed_in due.deed) b.deed b.reads;
+  can = b.can;
+  planned = b.planned;
+  slots = b.slots;
+  lowest = b.lowest;
+}
 
--- so an inverse that is planned for such a store meets no latch
-pub never_latched : (z : Sizes) (images : List (List ℕ)) (rows : List Row) (due : Due) (deed : Deed) → rows ≡ [] → deed_in due.deed ≡ Some deed → InverseIsLatched z (slots_in z images) rows deed → IsNotUndone z images due
-never_latched z images rows due deed none read h = λ log i shows.
-    let s = shows.store in
-    let there : InverseIsLatched z (slots_in z images) [] (deed_due due) = subst (InverseIsLatched z (slots_in z images) []) (sym (deed_is due deed read)) (subst (λ rs. InverseIsLatched z (slots_in z images) rs deed) none h) in
-    unlatched s (deed_due due) shows.sound shows.may
-    (subst (λ x. InverseIsLatched s.sizes (slots_in s.sizes x) [] (deed_due due)) (sym shows.stands.images) (subst (λ y. InverseIsLatched y (slots_in y images) [] (deed_due due)) (sym shows.stands.sizes) there))
+module _ (z : Sizes) (q : Slots) (due : Due) (ws : List SlotWrite) (b : IsPlannedBack z q due ws) where
+  pub plan_is : IsPlannedFrom z q ws (Undid (deed_due due))
+  plan_is = subst (λ (d : Deed). IsPlannedFrom z q ws (Undid d)) (sym (deed_is due b.deed b.reads)) b.planned
 
--- it is told by a deed of a sender of the store, which was done last
-pub always_deed : (z : Sizes) (images : List (List ℕ)) (due : Due) → IsNoDeed z images due → IsNotUndone z images due
-always_deed z images due none = λ log i shows.
-    let s = shows.store in
-    let whole : IsWhole z log = subst (IsWhole z) shows.records_are (subst (λ y. IsWhole y s.records) shows.stands.sizes shows.sound.log) in
-    let read = due_reads z log due whole i in
-    none (deed_due due) read.0 read.1 shows.last
+  pub lowest_is : InverseTakesLowest z q [] (deed_due due) ws
+  lowest_is = subst (λ (d : Deed). InverseTakesLowest z q [] d ws) (sym (deed_is due b.deed b.reads)) b.lowest
 
-blame_stops : (z : Sizes) (images : List (List ℕ)) (due : Due) (r : Refusal) → ((log : List Record) → In due (dues log) → ShowsUndone z images log (deed_due due) → r ≡ why.NoMemory) → PlanStops z images due (blamed_on due.lsn r)
-blame_stops z images due why.NoMemory f = tt
-blame_stops z images due (why.Damaged d) f = (refl, λ log i shows. (let e = f log i shows in cc e))
-blame_stops z images due _ f = (refl, λ log i shows. (let e = f log i shows in cc e))
+-- and why it plans nothing
+pub why_not_planned : (z : Sizes) (images : List (List ℕ)) (due : Due) (r : Refusal) → IsRefusedBack z (slots_in z images) (to_undo (deed_in due.deed)) r → PlanStops z images due (blamed_on due.lsn r)
+why_not_planned z images due why.NoMemory f = tt
+why_not_planned z images due (why.Damaged x) f = (refl, λ deed told can. (let e = f deed (ap to_undo told) can in cc e))
+why_not_planned z images due _ f = (refl, λ deed told can. (let e = f deed (ap to_undo told) can in cc e))
 
--- and it is refused for memory alone
-pub why_not_planned : (z : Sizes) (images : List (List ℕ)) (rows : List Row) (due : Due) (deed : Deed) (r : Refusal) → rows ≡ [] → deed_in due.deed ≡ Some deed
-    → ((s : State) → StandsOn s z images rows → IsSound s → MayBeUndone s deed → r ≡ why.NoMemory) → PlanStops z images due (blamed_on due.lsn r)
-why_not_planned z images rows due deed r none read refused = blame_stops z images due r
-    (λ log i shows. refused shows.store (subst (StandsOn shows.store z images) (sym none) shows.stands) shows.sound (subst (MayBeUndone shows.store) (deed_is due deed read) shows.may))
+-- a deed of a sender that the store has not is none to be taken back
+can_below : (z : Sizes) (q : Slots) (d : Deed) → CanBeTakenBack z q d → deed_sender d < sender_count z
+can_below z q (Append g n tag previous body) c = c.below
+can_below z q (UnlinkHead g n tag body) c = c.below
+can_below z q (Close g) c = c.below
+
+pub not_of_store : (z : Sizes) (images : List (List ℕ)) (due : Due) (x : Deed) → deed_in due.deed ≡ Some x → sender_count z ≤ deed_sender x → IsNotUndone z images due
+not_of_store z images due x told high deed read can =
+    let same : deed ≡ x = (let k : Some deed ≡ Some x = sym read ∙ told in cc k) in
+    let low : deed_sender deed < sender_count z = can_below z (slots_in z images) deed can in
+    let e : deed_sender deed ≡ deed_sender x = ap deed_sender same in
+    omega (arith, low, high, e)

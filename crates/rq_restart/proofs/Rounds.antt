@@ -43,11 +43,11 @@ use Rattle.rq_lost.proofs.Logging.{write_whole}
 use Rattle.rq_lost.proofs.Moving.{moves_sound}
 use Rattle.rq_lost.proofs.Numbering.{kept}
 use Rattle.rq_lost.proofs.Owing.{rest_due}
-use Rattle.rq_lost.proofs.Planning.{due_may}
+use Rattle.rq_lost.proofs.Planning.{due_may, due_reads}
 use Rattle.rq_lost.proofs.Recovering.{behind}
 use Rattle.rq_lost.proofs.Walking.{aborts_go_on}
 use Rattle.rq_restart.specs.declared.findings.Findings.{Findings}
-use Rattle.rq_restart.specs.Aborting.{AbortStops, CannotBeTaken, IsAborting, IsBadStep, IsNotUndone, IsOnItsWay, IsShown, IsShownWithin, IsTakenNext, OfStore, PlanStops}
+use Rattle.rq_restart.specs.Aborting.{AbortStops, CannotBeTaken, IsAbortingFrom, IsBadStep, IsNotUndone, IsOnItsWay, IsShown, IsShownWithin, IsTakenNext, OfStore, PlanStops, RepeatedSince}
 use Rattle.rq_restart.specs.Aborting.IsBadStep.{BadDue}
 use Rattle.rq_restart.specs.Aborting.IsOnItsWay.{Between, Within}
 use Rattle.rq_restart.specs.Checked.{IsEnded}
@@ -55,6 +55,7 @@ use Rattle.rq_restart.specs.Found.{AreFindings}
 use Rattle.rq_restart.specs.Repeating.{Belongs, IsRepeated, Paged, Repeats, paged}
 use Rattle.rq_restart.proofs.Aborts.{aborting_none, working_lost}
 use Rattle.rq_restart.proofs.DueLists.{nobody_left, one_next}
+use Rattle.rq_restart.proofs.Planning.{shows_can}
 use Rattle.rq_restart.proofs.Showing.{belongs_next, between_holds, put_next, within_holds}
 
 -- ---- numbers
@@ -160,7 +161,8 @@ module _ {P : Type 0} (z : Sizes) (log : List Record) (old : Pooled P) (f : Find
     not_planned : IsNotUndone z old.images d → OfStore z shown (λ base. ⊥)
     not_planned bad base k same b =
         let may : ShowsUndone base.sizes old.images log (deed_due d) = due_may base old.images log d ds k b (least_is None none base k same b) first_is in
-        bad log (subst (In d) (sym first_is) (inl refl)) (subst (λ y. ShowsUndone y old.images log (deed_due d)) same may)
+        let read = due_reads z log d (whole_shown base k same b) (subst (In d) (sym first_is) (inl refl)) in
+        bad (deed_due d) read.0 (shows_can z old.images log (deed_due d) read.1 (subst (λ y. ShowsUndone y old.images log (deed_due d)) same may))
 
     -- nobody without an end has nothing due
     nobody_is : least_free (dues log) (analysis log).working ≡ None
@@ -170,14 +172,14 @@ module _ {P : Type 0} (z : Sizes) (log : List Record) (old : Pooled P) (f : Find
     taken_next n number = record { older = ds; first = first_is; nobody = nobody_is; number = number ∙ ap (λ m. number_of d.txn m + 1) are.numbers }
 
     -- it cannot be taken back
-    pub bad_due : (lsn : ℕ) → lsn ≡ d.lsn → CannotBeTaken z old.images log d → (start : Paged) → Repeats z log start (paged old) → IsBadStep z (IsAborting log) start log lsn
+    pub bad_due : (lsn : ℕ) → lsn ≡ d.lsn → CannotBeTaken z old.images log d → (start : Paged) → Repeats z log start (paged old) → IsBadStep z (IsAbortingFrom z log old) start log lsn
     bad_due lsn place why start h = BadDue d ds old.images (paged old) first_is nobody_is place refl h why
 
-    pub plan_stops : (e : Refusal) → PlanStops z old.images d e → AbortStops z (IsAborting log) log old shown e
+    pub plan_stops : (e : Refusal) → PlanStops z old.images d e → AbortStops z (IsAbortingFrom z log old) log old shown e
     plan_stops why.NoMemory s = tt
     plan_stops (why.Damaged (damage.Record lsn)) s = record {
       last = log;
-      aborting = aborting_none log;
+      aborting = aborting_none z (RepeatedSince z log (paged old)) log;
       bad = bad_due lsn s.0 (inl s.1);
       none = not_planned s.1;
     }

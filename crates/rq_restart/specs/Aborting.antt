@@ -1,5 +1,5 @@
 -- Undoing lost transactions, and where that stops.
-use Rattle.std.specs.Prelude.{◌≡◌, ◌⊎◌, ℕ, ◌+◌, ◌^◌, ◌<◌, ◌≤◌, List, [], ◌∷◌, length, Some, None}
+use Rattle.std.specs.Prelude.{◌≡◌, ◌⊎◌, ℕ, ◌+◌, ◌^◌, ◌≤◌, List, [], ◌∷◌, length, take, Some, None}
 use Rattle.rq_model.specs.declared.record.Deed.{Deed}
 use Rattle.rq_model.specs.declared.record.Record.{Record}
 use Rattle.rq_model.specs.declared.record.Record.TheVariants.{AbortEnd}
@@ -7,25 +7,29 @@ use Rattle.rq_model.specs.declared.refusal.Refusal.{Refusal}
 use Rattle.rq_model.specs.declared.refusal.Refusal.TheVariants as why
 use Rattle.rq_model.specs.declared.refusal.Damage.TheVariants as damage
 use Rattle.rq_model.specs.declared.txn.Txn.{Txn}
-use Rattle.rq_model.specs.Words.{In}
 use Rattle.rq_model.specs.Deeds.{deed_in}
-use Rattle.rq_page.specs.Sizes.{Sizes, sender_count}
-use Rattle.rq_views.specs.Plans.{deed_sender}
+use Rattle.rq_page.specs.Sizes.{Sizes}
+use Rattle.rq_views.specs.Log.{Slots}
+use Rattle.rq_views.specs.Plans.Turn.{Undid}
 use Rattle.rq_views.specs.Stored.{slots_in}
 use Rattle.rq_level.specs.declared.writes.SlotWrite.{SlotWrite}
+use Rattle.rq_level.specs.Writes.{AreSlotWrites}
 use Rattle.rq_pool.specs.Pooled.{Pooled}
 use Rattle.rq_store.specs.Fitting.{image_in}
 use Rattle.rq_store.specs.State.{State}
 use Rattle.rq_store.specs.Steps.{page_op}
+use Rattle.rq_sound.specs.Plans.{IsPlannedFrom}
 use Rattle.rq_sound.specs.Rows.{comp_end}
 use Rattle.rq_sound.specs.Sound.{IsSound}
+use Rattle.rq_inverses.specs.Inverses.{InverseTakesLowest}
+use Rattle.rq_planner.specs.Backs.{CanBeTakenBack}
 use Rattle.rq_lost.specs.declared.dues.Due.{Due}
 use Rattle.rq_undone.specs.Analysis.{analysis}
 use Rattle.rq_lost.specs.Choices.{least_free}
 use Rattle.rq_lost.specs.Dues.{deed_due, dues}
 use Rattle.rq_lost.specs.Numbers.{number_of, numbers}
-use Rattle.rq_lost.specs.Walk.{IsBetween, IsWithin, ShowsUndone, StandsLast}
-use Rattle.rq_restart.specs.Repeating.{AreCounted, Belongs, Paged, Repeats, paged}
+use Rattle.rq_lost.specs.Walk.{IsBetween, IsWithin}
+use Rattle.rq_restart.specs.Repeating.{AreCounted, Belongs, Paged, Repeats, paged, slots_on}
 
 -- the log with the records of these writes of an operation behind, the first of them the oldest
 abbrev pub with_writes : Txn → ℕ → List SlotWrite → List Record → List Record
@@ -71,16 +75,59 @@ pub record AbortsBehind (log now : List Record) : Type 0 where
   pub turns : AreRounds log rounds
   pub are : after_rounds rounds log ≡ now
 
--- the same, and some writes of the next
-pub data IsAborting (log now : List Record) : Type 0 where
-  Between : AbortsBehind log now → IsAborting log now
-  Within : (older : List Record) (d : Due) (n : ℕ) (ws : List SlotWrite) → AbortsBehind log older
-      → IsTakenNext older d n → with_writes d.txn n ws older ≡ now → IsAborting log now
+-- The writes are those that take back what is due, as its level plans them over these slots: its deed was done last at its
+-- end of its group there, and a message is put back into the lowest free cell.
+pub record IsPlannedBack (z : Sizes) (q : Slots) (due : Due) (ws : List SlotWrite) : Type 0 where
+  pub deed : Deed
+  pub reads : deed_in due.deed ≡ Some deed
+  pub can : CanBeTakenBack z q deed
+  pub planned : IsPlannedFrom z q ws (Undid deed)
+  pub slots : AreSlotWrites z ws
+  pub lowest : InverseTakesLowest z q [] deed ws
 
--- the log with the records of some writes of an operation behind
-pub record IsMaking (t : Txn) (n : ℕ) (log now : List Record) : Type 0 where
-  pub writes : List SlotWrite
-  pub are : with_writes t n writes log ≡ now
+-- they are so planned over some pages of which this is so
+pub record IsPlannedOn (z : Sizes) (on : Paged → Type 0) (due : Due) (ws : List SlotWrite) : Type 0 where
+  pub pages : Paged
+  pub on_pages : on pages
+  pub plan : IsPlannedBack z (slots_on z pages) due ws
+
+-- what is taken back in each round is planned over pages of which this is so, and of the log before the round
+abbrev pub ArePlanned : Sizes → (List Record → Paged → Type 0) → List Record → List Round → Type 0
+ArePlanned z on log [] = Unit {0}
+ArePlanned z on log (Ends t ∷ rs) = ArePlanned z on log rs
+ArePlanned z on log (TakesBack d n ws ∷ rs) = IsPlannedOn z (on (after_rounds rs log)) d ws × ArePlanned z on log rs
+
+-- the log with such rounds behind, each so planned
+pub record AbortsOn (z : Sizes) (on : List Record → Paged → Type 0) (log now : List Record) : Type 0 where
+  pub behind : AbortsBehind log now
+  pub planned : ArePlanned z on log behind.rounds
+
+-- the same, and some writes of the next
+pub data IsAborting (z : Sizes) (on : List Record → Paged → Type 0) (log now : List Record) : Type 0 where
+  Between : AbortsOn z on log now → IsAborting z on log now
+  Within : (older : List Record) (d : Due) (n : ℕ) (ws : List SlotWrite) (made : ℕ) → AbortsOn z on log older
+      → IsTakenNext older d n → IsPlannedOn z (on older) d ws → with_writes d.txn n (take made ws) older ≡ now
+      → IsAborting z on log now
+
+-- the log was repeated from the first pages to these
+abbrev pub RepeatedFrom : Sizes → Paged → List Record → Paged → Type 0
+RepeatedFrom z first log pages = Repeats z log first pages
+
+-- and so it was wherever the log before was repeated to those
+abbrev pub RepeatedSince : Sizes → List Record → Paged → List Record → Paged → Type 0
+RepeatedSince z log old now pages = (first : Paged) → Repeats z log first old → Repeats z now first pages
+
+-- such rounds are planned over the pages as they are, and as the records behind leave them
+abbrev pub AbortsFrom : {P : Type 0} → Sizes → List Record → Pooled P → List Record → Type 0
+AbortsFrom z log old now = AbortsOn z (RepeatedSince z log (paged old)) log now
+
+abbrev pub IsAbortingFrom : {P : Type 0} → Sizes → List Record → Pooled P → List Record → Type 0
+IsAbortingFrom z log old now = IsAborting z (RepeatedSince z log (paged old)) log now
+
+-- the log with the records of the first of these writes of an operation behind
+pub record IsMaking (t : Txn) (n : ℕ) (ws : List SlotWrite) (log now : List Record) : Type 0 where
+  pub made : ℕ
+  pub are : with_writes t n (take made ws) log ≡ now
 
 -- where the one is so of a sound store of these sizes, the other is
 abbrev pub OfStore : Sizes → (State → Type 0) → (State → Type 0) → Type 0
@@ -116,19 +163,12 @@ pub record IsFull (z : Sizes) (behind : List Record → Type 0) (before : State 
   pub full : 2 ^ 50 ≤ length last
   pub way : OfStore z before (λ base. IsOnItsWay base last)
 
--- what is due is told by no deed, or by one of a sender that the store has not, or that was not done last at its end of
--- its group
-abbrev pub IsNoDeed : Sizes → List (List ℕ) → Due → Type 0
-IsNoDeed z images due = (deed : Deed) → deed_in due.deed ≡ Some deed → deed_sender deed < sender_count z
-    → StandsLast (slots_in z images) deed → ⊥
-
--- no pages and log in which it is due show a store in which it can be taken back
+-- what is due is told by no deed, or by one that the slots of these pages do not show to be done last
 abbrev pub IsNotUndone : Sizes → List (List ℕ) → Due → Type 0
-IsNotUndone z images due =
-    (log : List Record) → In due (dues log) → ShowsUndone z images log (deed_due due) → ⊥
+IsNotUndone z images due = (deed : Deed) → deed_in due.deed ≡ Some deed → CanBeTakenBack z (slots_in z images) deed → ⊥
 
--- Behind the log that these pages are of, what is due cannot be taken back: no store that pages and log show could do it,
--- or its transaction has had 2^64 - 1 operations.
+-- Behind the log that these pages are of, what is due cannot be taken back: the slots do not show that it was done last, or
+-- its transaction has had 2^64 - 1 operations.
 abbrev pub CannotBeTaken : Sizes → List (List ℕ) → List Record → Due → Type 0
 CannotBeTaken z images log due = IsNotUndone z images due ⊎ (2 ^ 64 ≤ number_of due.txn (numbers log) + 1)
 

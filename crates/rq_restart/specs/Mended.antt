@@ -8,7 +8,7 @@ use Rattle.rq_page.specs.Sizes.{Sizes}
 use Rattle.rq_store.specs.Opening.{IsLeft, next_restart}
 use Rattle.rq_undone.specs.Pages.{IsUndoing, IsUndone}
 use Rattle.rq_lost.specs.Recovered.{IsRecovered, IsRecovering}
-use Rattle.rq_restart.specs.Aborting.{AbortsBehind, IsAborting, IsBadStep}
+use Rattle.rq_restart.specs.Aborting.{AbortsBehind, ArePlanned, IsAborting, IsBadStep, RepeatedFrom}
 use Rattle.rq_restart.specs.Checked.{IsEnded, WasGoneThrough}
 use Rattle.rq_links.specs.Links.{AreLinked, IsFault}
 use Rattle.rq_views.specs.Log.{Slots}
@@ -24,11 +24,21 @@ pub record IsMended (log mended : List Record) : Type 0 where
   pub ended : IsEnded mended
   pub none_lost : IsEnded log → mended ≡ undone
 
--- The pages went through the log, and the records that mend it were repeated on them too. The senders' chains are whole
--- then. Of a store that was left so, the records recover it.
+-- what is taken back in the rounds of it is planned over the pages that the log before was repeated on
+abbrev pub ArePlannedFrom : Sizes → Paged → (log mended : List Record) → IsMended log mended → Type 0
+ArePlannedFrom z first log mended m = ArePlanned z (RepeatedFrom z first) m.undone m.aborting.rounds
+
+-- the same, wherever the log was repeated to these pages
+pub record IsMendedSince (z : Sizes) (log mended : List Record) (old : Paged) : Type 0 where
+  pub is : IsMended log mended
+  pub planned : (first : Paged) → Repeats z log first old → ArePlannedFrom z first log mended is
+
+-- The pages went through the log, and the records that mend it were repeated on them too, each operation of them planned
+-- from the slots as they were. The senders' chains are whole then. Of a store that was left so, the records recover it.
 pub record IsMendedOn (z : Sizes) (log mended : List Record) (first last : Paged) : Type 0 where
   pub gone_through : WasGoneThrough z log first
   pub mends : IsMended log mended
+  pub planned : ArePlannedFrom z first log mended mends
   pub repeated : Repeats z mended first last
   pub linked : AreLinked z (slots_on z last)
   pub recovered : IsLeft z first.image log → IsRecovered z log mended
@@ -38,7 +48,7 @@ pub record IsMendedOn (z : Sizes) (log mended : List Record) (first last : Paged
 -- that was left so, they recover it.
 pub record HasRepeated (z : Sizes) (log now : List Record) (old new : Paged) : Type 0 where
   pub mended : List Record
-  pub mends : IsMended log mended
+  pub mends : IsMendedSince z log mended old
   pub begun : now ≡ next_restart mended ∷ mended
   pub repeated : (first : Paged) → Repeats z log first old → Repeats z mended first new
   pub linked : AreLinked z (slots_on z new)
@@ -50,15 +60,15 @@ pub record IsAtBound (z : Sizes) (log : List Record) : Type 0 where
   pub recovering : IsRecovering z log now
   pub full : 2 ^ 50 ≤ length now
 
--- the same of any log: of a store that was left so, they recover some of it
-pub record HasNoRoom (z : Sizes) (left : Type 0) (log : List Record) : Type 0 where
+-- the same of any log, from these pages: of a store that was left so, they recover some of it
+pub record HasNoRoom (z : Sizes) (first : Paged) (log : List Record) : Type 0 where
   pub undone : List Record
   pub undoing : IsUndoing log undone
   pub now : List Record
-  pub aborting : IsAborting undone now
+  pub aborting : IsAborting z (RepeatedFrom z first) undone now
   pub none_lost : IsEnded log → now ≡ undone
   pub full : 2 ^ 50 ≤ length now
-  pub recovering : left → IsRecovering z log now
+  pub recovering : IsLeft z first.image log → IsRecovering z log now
 
 -- What would undo the next lost transaction doesn't belong there, or what it did, told by the OpEnd with this LSN, cannot
 -- be taken back. So it is of no store that was left so.
@@ -66,8 +76,8 @@ pub record IsBadMend (z : Sizes) (log : List Record) (first : Paged) (lsn : ℕ)
   pub undone : List Record
   pub undoes : IsUndone log undone
   pub last : List Record
-  pub aborting : IsAborting undone last
-  pub bad : IsBadStep z (IsAborting undone) first last lsn
+  pub aborting : IsAborting z (RepeatedFrom z first) undone last
+  pub bad : IsBadStep z (IsAborting z (RepeatedFrom z first) undone) first last lsn
   pub none : IsLeft z first.image log → ⊥
 
 -- Once the log was mended, on the pages too, the senders' chains are not whole, and this is the page to be named. So it is
@@ -75,6 +85,7 @@ pub record IsBadMend (z : Sizes) (log : List Record) (first : Paged) (lsn : ℕ)
 pub record IsUnlinked (z : Sizes) (log : List Record) (first : Paged) (page : ℕ) : Type 0 where
   pub mended : List Record
   pub mends : IsMended log mended
+  pub planned : ArePlannedFrom z first log mended mends
   pub last : Paged
   pub repeated : Repeats z mended first last
   pub fault : IsFault z (slots_on z last) page
@@ -89,7 +100,7 @@ LinkStops z q _ = ⊥
 -- why the log was not mended, or the chains are not whole once it is
 abbrev pub MendStops : Sizes → List Record → Paged → Refusal → Type 0
 MendStops z log first why.NoMemory = Unit {0}
-MendStops z log first why.LogFull = HasNoRoom z (IsLeft z first.image log) log
+MendStops z log first why.LogFull = HasNoRoom z first log
 MendStops z log first (why.Damaged (damage.Record lsn)) = IsBadUndo z log first lsn ⊎ IsBadMend z log first lsn
 MendStops z log first (why.Damaged (damage.Page page)) = IsUnlinked z log first page
 MendStops z log first _ = ⊥

@@ -9,7 +9,6 @@ use Rattle.rq_disk.specs.declared.device.LogDevice.{Ghosts}
 use Rattle.rq_record.specs.Spelling.{IsRecord}
 use Rattle.rq_log.specs.Reading.{BeginsWith, IsRead, StopsFor}
 use Rattle.rq_log.specs.Spelled.{AreSpelled}
-use Rattle.rq_store.specs.Opening.{IsLeft}
 use Rattle.rq_restart.specs.Repeating.{Belongs, Paged, Repeats}
 use Rattle.rq_restart.specs.Checked.{WasGoneThrough, IsBeyond}
 use Rattle.rq_restart.specs.Mended.{HasNoRoom, IsAtBound, IsBadMend, IsUnlinked}
@@ -54,7 +53,7 @@ BeginsNot _ records last before now untouched = ⊥
 -- behind it
 abbrev pub WhyNotBegun : Sizes → List Record → Paged → Refusal → ℕ → ℕ → Type 0 → Type 0
 WhyNotBegun z log first why.NoMemory before now untouched = (now ≡ before) × untouched
-WhyNotBegun z log first why.LogFull before now untouched = HasNoRoom z (IsLeft z first.image log) log × untouched
+WhyNotBegun z log first why.LogFull before now untouched = HasNoRoom z first log × untouched
 WhyNotBegun z log first why.DiskWrite before now untouched = now ≡ (before + 1) % 2 ^ 64
 WhyNotBegun z log first (why.Damaged (damage.Record lsn)) before now untouched =
     (IsBadUndo z log first lsn ⊎ IsBadMend z log first lsn) × untouched
@@ -65,7 +64,7 @@ WhyNotBegun z log first _ before now untouched = ⊥
 -- that it was left alone.
 abbrev pub WhyShut : Sizes → List Record → Paged → Refusal → ℕ → ℕ → Type 0 → Type 0
 WhyShut z log first why.NoMemory before now untouched = (now ≡ before) × untouched
-WhyShut z log first why.LogFull before now untouched = HasNoRoom z (IsLeft z first.image log) log
+WhyShut z log first why.LogFull before now untouched = HasNoRoom z first log
     × WasGoneThrough z log first × untouched
 WhyShut z log first why.DiskWrite before now untouched = (now ≡ (before + 1) % 2 ^ 64) × WasGoneThrough z log first
 WhyShut z log first (why.Damaged (damage.Record lsn)) before now untouched =

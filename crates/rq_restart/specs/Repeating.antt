@@ -11,7 +11,7 @@ use Rattle.rq_views.specs.Log.{Slots}
 use Rattle.rq_model.specs.Incarnations.{IsNext, incarnation_of}
 use Rattle.rq_rules.specs.Rules.{FollowsRules}
 use Rattle.rq_store.specs.Opening.{MayRedo, Redoes, IsCounted}
-use Rattle.rq_store.specs.Fitting.{ToldWrite, told_by, oldest, image_in}
+use Rattle.rq_store.specs.Fitting.{ToldWrite, told_by, image_in}
 
 -- the image of each page, and which pages count as changed
 pub record Paged : Type 0 where

@@ -1,41 +1,37 @@
 //! Undoing lost transactions, one after the other, by the inverses of what they did.
-ghost use Rattle.std.specs.Prelude.{◌≡◌, ◌↔◌, ◌∷◌, ◌<◌, IsTrue, IfOk, IfErr, IfSome, IfNone, OnOk, OnErr, Some, None, false, List, [], length};
-ghost use Rattle.rq_model.specs.Deeds.{deed_in};
-ghost use Rattle.rq_page.specs.Sizes.{IsLink, sender_count};
+ghost use Rattle.std.specs.Prelude.{◌≡◌, ◌∷◌, ◌<◌, IfOk, IfErr, OnOk, OnErr, None, false, List, [], length, take};
 ghost use Rattle.rq_views.specs.Plans.Turn.{Undid};
-ghost use Rattle.rq_views.specs.Plans.{deed_sender};
 ghost use Rattle.rq_views.specs.Stored.{slots_in};
 ghost use Rattle.rq_level.specs.Writes.{AreSlotWrites};
 ghost use Rattle.rq_sound.specs.Plans.{IsPlannedFrom};
 ghost use Rattle.rq_inverses.specs.Inverses.{InverseTakesLowest};
+ghost use Rattle.rq_planner.specs.Answered.{KnowsCells};
 ghost use Rattle.rq_lost.specs.declared.dues.Due.{Due};
 ghost use Rattle.rq_lost.specs.Choices.{least_free};
 ghost use Rattle.rq_lost.specs.Dues.{deed_due};
-ghost use Rattle.rq_lost.specs.Walk.{HasNumber, IsLastOf, StandsLast};
 ghost use Rattle.rq_record.specs.Spelling.{IsTxnInRange};
 ghost use Rattle.rq_store.specs.Steps.{page_op};
 ghost use Rattle.rq_model.specs.Words.{In};
-ghost use Rattle.rq_restart.specs.Aborting.{AbortStops, AbortsBehind, HasGoneOn, IsAborting, IsMaking, IsNoDeed, blamed_on, IsShown, IsShownWithin, PlanStops};
+ghost use Rattle.rq_restart.specs.Aborting.{AbortStops, AbortsFrom, HasGoneOn, IsAbortingFrom, IsMaking, IsPlannedBack, blamed_on, IsShown, IsShownWithin, PlanStops, with_writes};
 ghost use Rattle.rq_restart.specs.Checked.{IsEnded};
 ghost use Rattle.rq_restart.specs.Found.{AreFindings};
 
 use crate::appending::append;
 use crate::findings::Findings;
 use rq_disk::{LogDevice, PageDevice};
-use rq_inverses::{cell_at, plan_inverse};
-use rq_level::SlotWrite;
+use rq_level::{Level, SlotWrite};
 use rq_log::Log;
 use rq_lost::{Due, next_end};
 use rq_model::limits::LOG_LIMIT;
-use rq_model::record::{Deed, Record};
+use rq_model::record::Record;
 use rq_model::refusal::{Damage, Refusal};
 use rq_model::txn::Lsn;
-use rq_page::addr::Addr;
-use rq_page::directory::Directory;
+use rq_planner::Planner;
 use rq_pool::Pages;
-use rq_record::decode_deed;
-use rq_txn::Transactions;
 use std::alloc::Global;
+
+// The level of the operations whose ends a log may have.
+const OPERATION_LEVEL: u8 = 1;
 
 /// Undoes the transactions that have no end: those first that have nothing left to be taken back, by rising number, and
 /// then what the others did, the newest of all first, each with its end behind the last that it did. The records of it
@@ -44,22 +40,25 @@ use std::alloc::Global;
 /// # Errors
 /// `NoMemory`; `LogFull` where the log is at its greatest length; `Damaged` with the number of the OpEnd that cannot be
 /// taken back, or of a record that would not belong where it has to stand.
-pub(crate) fn abort_lost<P: PageDevice + Drop, L: LogDevice + Drop>(
+pub(crate) fn abort_lost<P: PageDevice + Drop, L: LogDevice + Drop, B: Level>(
     alloc: Global,
     pages: &mut Pages<P>,
     log: &mut Log<L>,
     findings: &mut Findings,
+    planner: &mut Planner<B>,
 ) -> Result<(), Refusal>
     requires found { AreFindings findings.old log.old.records }
     requires running { log.old.failed ≡ false }
-    ensures gone_on { OnOk result (HasGoneOn pages.old.sizes (AbortsBehind log.old.records log.new.records)
+    requires cells { KnowsCells pages.old.sizes pages.old.images planner.old }
+    ensures gone_on { OnOk result (HasGoneOn pages.old.sizes (AbortsFrom pages.old.sizes log.old.records pages.old log.new.records)
         log.old.records log.new.records pages.old pages.new (IsShown log.old.records pages.old)
         (IsShown log.new.records pages.new)) }
     ensures ended { OnOk result (IsEnded log.new.records) }
     ensures none { OnOk result (IsEnded log.old.records → (log.new.records ≡ log.old.records) × (pages.new ≡ pages.old)) }
     ensures found { OnOk result (AreFindings findings.new log.new.records) }
-    ensures stops { IfErr result (λ e. AbortStops pages.old.sizes (IsAborting log.old.records) log.old.records pages.old
-        (IsShown log.old.records pages.old) e) }
+    ensures cells { OnOk result (KnowsCells pages.new.sizes pages.new.images planner.new) }
+    ensures stops { IfErr result (λ e. AbortStops pages.old.sizes (IsAbortingFrom pages.old.sizes log.old.records pages.old)
+        log.old.records pages.old (IsShown log.old.records pages.old) e) }
     ensures some { OnErr result (IsEnded log.old.records → ⊥) }
     ensures sizes { pages.new.sizes ≡ pages.old.sizes }
     ensures device { pages.new.device ≡ pages.old.device }
@@ -71,7 +70,7 @@ pub(crate) fn abort_lost<P: PageDevice + Drop, L: LogDevice + Drop>(
         return Ok(());
     }
     end_idle(pages, log, findings)?;
-    take_back_all(alloc, pages, log, findings)?;
+    take_back_all(alloc, pages, log, findings, planner)?;
     Ok(())
 }
 
@@ -83,13 +82,14 @@ fn end_idle<P: PageDevice + Drop, L: LogDevice + Drop>(
 ) -> Result<(), Refusal>
     requires found { AreFindings findings.old log.old.records }
     requires running { log.old.failed ≡ false }
-    ensures gone_on { OnOk result (HasGoneOn pages.old.sizes (AbortsBehind log.old.records log.new.records)
+    ensures gone_on { OnOk result (HasGoneOn pages.old.sizes (AbortsFrom pages.old.sizes log.old.records pages.old log.new.records)
         log.old.records log.new.records pages.old pages.new (IsShown log.old.records pages.old)
         (IsShown log.new.records pages.new)) }
+    ensures same { OnOk result (pages.new ≡ pages.old) }
     ensures none { OnOk result (least_free findings.new.dues findings.new.history.working ≡ None) }
     ensures found { OnOk result (AreFindings findings.new log.new.records) }
-    ensures stops { IfErr result (λ e. AbortStops pages.old.sizes (IsAborting log.old.records) log.old.records pages.old
-        (IsShown log.old.records pages.old) e) }
+    ensures stops { IfErr result (λ e. AbortStops pages.old.sizes (IsAbortingFrom pages.old.sizes log.old.records pages.old)
+        log.old.records pages.old (IsShown log.old.records pages.old) e) }
     ensures sizes { pages.new.sizes ≡ pages.old.sizes }
     ensures device { pages.new.device ≡ pages.old.device }
     ensures log { (log.new.device ≡ log.old.device) × (log.new.forced ≡ log.old.forced)
@@ -103,22 +103,25 @@ fn end_idle<P: PageDevice + Drop, L: LogDevice + Drop>(
 }
 
 // Takes back what transactions without an end did, the newest first, and ends each once all of it is taken back.
-fn take_back_all<P: PageDevice + Drop, L: LogDevice + Drop>(
+fn take_back_all<P: PageDevice + Drop, L: LogDevice + Drop, B: Level>(
     alloc: Global,
     pages: &mut Pages<P>,
     log: &mut Log<L>,
     findings: &mut Findings,
+    planner: &mut Planner<B>,
 ) -> Result<(), Refusal>
     requires found { AreFindings findings.old log.old.records }
     requires none { least_free findings.old.dues findings.old.history.working ≡ None }
     requires running { log.old.failed ≡ false }
-    ensures gone_on { OnOk result (HasGoneOn pages.old.sizes (AbortsBehind log.old.records log.new.records)
+    requires cells { KnowsCells pages.old.sizes pages.old.images planner.old }
+    ensures gone_on { OnOk result (HasGoneOn pages.old.sizes (AbortsFrom pages.old.sizes log.old.records pages.old log.new.records)
         log.old.records log.new.records pages.old pages.new (IsShown log.old.records pages.old)
         (IsShown log.new.records pages.new)) }
     ensures ended { OnOk result (IsEnded log.new.records) }
     ensures found { OnOk result (AreFindings findings.new log.new.records) }
-    ensures stops { IfErr result (λ e. AbortStops pages.old.sizes (IsAborting log.old.records) log.old.records pages.old
-        (IsShown log.old.records pages.old) e) }
+    ensures cells { OnOk result (KnowsCells pages.new.sizes pages.new.images planner.new) }
+    ensures stops { IfErr result (λ e. AbortStops pages.old.sizes (IsAbortingFrom pages.old.sizes log.old.records pages.old)
+        log.old.records pages.old (IsShown log.old.records pages.old) e) }
     ensures sizes { pages.new.sizes ≡ pages.old.sizes }
     ensures device { pages.new.device ≡ pages.old.device }
     ensures log { (log.new.device ≡ log.old.device) × (log.new.forced ≡ log.old.forced)
@@ -126,7 +129,7 @@ fn take_back_all<P: PageDevice + Drop, L: LogDevice + Drop>(
     ensures room { OnOk result (log.new.reserved ≡ log.old.reserved) }
 {
     while let Some(due) = findings.dues.newest() {
-        take_back(alloc, pages, log, findings, &due)?;
+        take_back(alloc, pages, log, findings, planner, &due)?;
         if !findings.dues.owes(due.txn) {
             append(pages, log, findings, &Record::AbortEnd { txn: due.txn })?;
         }
@@ -135,26 +138,29 @@ fn take_back_all<P: PageDevice + Drop, L: LogDevice + Drop>(
 }
 
 // Takes back what is due first.
-fn take_back<P: PageDevice + Drop, L: LogDevice + Drop>(
+fn take_back<P: PageDevice + Drop, L: LogDevice + Drop, B: Level>(
     alloc: Global,
     pages: &mut Pages<P>,
     log: &mut Log<L>,
     findings: &mut Findings,
+    planner: &mut Planner<B>,
     due: &Due,
 ) -> Result<(), Refusal>
     requires found { AreFindings findings.old log.old.records }
     requires none { least_free findings.old.dues findings.old.history.working ≡ None }
     requires first { (older : List Due) × (findings.old.dues ≡ due.now ∷ older) }
     requires running { log.old.failed ≡ false }
-    ensures gone_on { OnOk result (HasGoneOn pages.old.sizes (AbortsBehind log.old.records log.new.records)
+    requires cells { KnowsCells pages.old.sizes pages.old.images planner.old }
+    ensures gone_on { OnOk result (HasGoneOn pages.old.sizes (AbortsFrom pages.old.sizes log.old.records pages.old log.new.records)
         log.old.records log.new.records pages.old pages.new (IsShown log.old.records pages.old)
         (IsShown log.new.records pages.new)) }
     ensures rest { OnOk result (findings.old.dues ≡ due.now ∷ findings.new.dues) }
     ensures lost { OnOk result (In due.now.txn findings.old.history.working) }
     ensures working { OnOk result (findings.new.history.working ≡ findings.old.history.working) }
     ensures found { OnOk result (AreFindings findings.new log.new.records) }
-    ensures stops { IfErr result (λ e. AbortStops pages.old.sizes (IsAborting log.old.records) log.old.records pages.old
-        (IsShown log.old.records pages.old) e) }
+    ensures cells { OnOk result (KnowsCells pages.new.sizes pages.new.images planner.new) }
+    ensures stops { IfErr result (λ e. AbortStops pages.old.sizes (IsAbortingFrom pages.old.sizes log.old.records pages.old)
+        log.old.records pages.old (IsShown log.old.records pages.old) e) }
     ensures sizes { pages.new.sizes ≡ pages.old.sizes }
     ensures device { pages.new.device ≡ pages.old.device }
     ensures log { (log.new.device ≡ log.old.device) × (log.new.forced ≡ log.old.forced)
@@ -165,11 +171,11 @@ fn take_back<P: PageDevice + Drop, L: LogDevice + Drop>(
     if log.last() >= LOG_LIMIT {
         return Err(Refusal::LogFull);
     }
-    let writes = plan(alloc, pages, due)?;
+    let writes = plan(alloc, pages, planner, due)?;
     let Some(operation) = findings.numbers.greatest(due.txn).checked_add(1) else {
         return Err(Refusal::Damaged(Damage::Record(due.lsn)));
     };
-    make_all(pages, log, findings, due, operation, &writes)?;
+    make_all(pages, log, findings, planner, due, operation, &writes)?;
     let end = Record::CompEnd {
         txn: due.txn,
         operation,
@@ -180,10 +186,11 @@ fn take_back<P: PageDevice + Drop, L: LogDevice + Drop>(
 }
 
 // Makes the writes by which what is due is taken back, each with its record.
-fn make_all<P: PageDevice + Drop, L: LogDevice + Drop>(
+fn make_all<P: PageDevice + Drop, L: LogDevice + Drop, B: Level>(
     pages: &mut Pages<P>,
     log: &mut Log<L>,
     findings: &mut Findings,
+    planner: &mut Planner<B>,
     due: &Due,
     operation: u64,
     writes: &[SlotWrite],
@@ -193,15 +200,18 @@ fn make_all<P: PageDevice + Drop, L: LogDevice + Drop>(
     requires number { 0 < operation }
     requires slots { AreSlotWrites pages.old.sizes writes.now }
     requires running { log.old.failed ≡ false }
+    requires cells { KnowsCells pages.old.sizes pages.old.images planner.old }
     ensures gone_on { OnOk result (HasGoneOn pages.old.sizes
-        (IsMaking due.now.txn operation log.old.records log.new.records) log.old.records log.new.records pages.old pages.new
+        (with_writes due.now.txn operation (take (length writes.now) writes.now) log.old.records ≡ log.new.records)
+        log.old.records log.new.records pages.old pages.new
         (IsShownWithin log.old.records pages.old due.now operation writes.now 0)
         (IsShownWithin log.new.records pages.new due.now operation writes.now (length writes.now))) }
     ensures rest { OnOk result ((findings.new.dues ≡ findings.old.dues)
         × (findings.new.history.working ≡ findings.old.history.working)) }
     ensures found { OnOk result (AreFindings findings.new log.new.records) }
+    ensures cells { OnOk result (KnowsCells pages.new.sizes pages.new.images planner.new) }
     ensures stops { IfErr result (λ e. AbortStops pages.old.sizes
-        (IsMaking due.now.txn operation log.old.records) log.old.records pages.old
+        (IsMaking due.now.txn operation writes.now log.old.records) log.old.records pages.old
         (IsShownWithin log.old.records pages.old due.now operation writes.now 0) e) }
     ensures sizes { pages.new.sizes ≡ pages.old.sizes }
     ensures device { pages.new.device ≡ pages.old.device }
@@ -210,8 +220,10 @@ fn make_all<P: PageDevice + Drop, L: LogDevice + Drop>(
     ensures room { OnOk result (log.new.reserved ≡ log.old.reserved) }
 {
     for index in 0..writes.len() {
-        let undo = written(due, operation, &writes[index]);
+        let write = &writes[index];
+        let undo = written(due, operation, write);
         append(pages, log, findings, &undo)?;
+        planner.renew(pages, write.at);
     }
     Ok(())
 }
@@ -231,11 +243,16 @@ fn written(due: &Due, operation: u64, write: &SlotWrite) -> Record
 }
 
 // The writes that take back what is due, over the slots as they are. Nobody has latched a page.
-fn plan<P: PageDevice>(
+fn plan<P: PageDevice, B: Level>(
     alloc: Global,
     pages: &Pages<P>,
+    planner: &mut Planner<B>,
     due: &Due,
 ) -> Result<Vec<SlotWrite>, Refusal>
+    requires { KnowsCells pages.now.sizes pages.now.images planner.old }
+    ensures cells { KnowsCells pages.now.sizes pages.now.images planner.new }
+    ensures back { IfOk result (λ writes. IsPlannedBack pages.now.sizes (slots_in pages.now.sizes pages.now.images)
+        due.now writes.items) }
     ensures plan { IfOk result (λ writes. IsPlannedFrom pages.now.sizes (slots_in pages.now.sizes pages.now.images)
         writes.items (Undid (deed_due due.now))) }
     ensures slots { IfOk result (λ writes. AreSlotWrites pages.now.sizes writes.items) }
@@ -243,13 +260,15 @@ fn plan<P: PageDevice>(
         (slots_in pages.now.sizes pages.now.images) [] (deed_due due.now) writes.items) }
     ensures stops { IfErr result (λ e. PlanStops pages.now.sizes pages.now.images due.now e) }
 {
-    let Some(deed) = deed_in_store(pages, due) else {
-        return Err(Refusal::Damaged(Damage::Record(due.lsn)));
+    // The level reads the deed alone.
+    let told = Record::OpEnd {
+        txn: due.txn,
+        operation: 1,
+        level: OPERATION_LEVEL,
+        deed: due.deed,
     };
-    let nobody = Transactions::new(alloc);
-    match plan_inverse(alloc, pages, &nobody, &deed) {
-        Ok(Some(writes)) => Ok(writes),
-        Ok(None) => Err(Refusal::Damaged(Damage::Record(due.lsn))),
+    match planner.take_back(alloc, pages, &told) {
+        Ok(plan) => Ok(plan.writes),
         Err(refusal) => Err(blamed(due.lsn, refusal)),
     }
 }
@@ -261,64 +280,5 @@ fn blamed(lsn: Lsn, refusal: Refusal) -> Refusal
     match refusal {
         Refusal::NoMemory => Refusal::NoMemory,
         _ => Refusal::Damaged(Damage::Record(lsn)),
-    }
-}
-
-// What is due, where the bytes are those of a deed for a sender of the store, which was done last at its end of its group.
-fn deed_in_store<P: PageDevice>(pages: &Pages<P>, due: &Due) -> Option<Deed>
-    ensures some { IfSome result (λ deed. deed_in due.now.deed ≡ Some deed) }
-    ensures sender { IfSome result (λ deed. deed_sender deed < sender_count pages.now.sizes) }
-    ensures none { IfNone result (IsNoDeed pages.now.sizes pages.now.images due.now) }
-{
-    let deed = decode_deed(due.deed.as_slice())?;
-    if sender_of(&deed) < pages.layout().senders() && stands_last(pages, &deed) {
-        Some(deed)
-    } else {
-        None
-    }
-}
-
-// Whether a deed was done last at its end of its group, as the slots have it.
-fn stands_last<P: PageDevice>(pages: &Pages<P>, deed: &Deed) -> bool
-    requires { deed_sender deed.now < sender_count pages.now.sizes }
-    ensures { IsTrue result ↔ StandsLast (slots_in pages.now.sizes pages.now.images) deed.now }
-{
-    let group = pages.group(sender_of(deed));
-    is_last_of(pages, &group, deed)
-}
-
-// The same, of its group's directory slot.
-fn is_last_of<P: PageDevice>(pages: &Pages<P>, group: &Directory, deed: &Deed) -> bool
-    requires { IsLink pages.now.sizes group.now.tail }
-    ensures { IsTrue result ↔ IsLastOf (slots_in pages.now.sizes pages.now.images) group.now deed.now }
-{
-    match deed {
-        Deed::Append { sequence, .. } => {
-            group.sent == *sequence && has_number(pages, group.tail, *sequence)
-        }
-        Deed::UnlinkHead { sequence, .. } => group.received == *sequence,
-        Deed::Close { .. } => group.closed,
-    }
-}
-
-// Whether a link names a cell with this number.
-fn has_number<P: PageDevice>(pages: &Pages<P>, at: Addr, number: u64) -> bool
-    requires { IsLink pages.now.sizes at }
-    ensures { IsTrue result ↔ HasNumber (slots_in pages.now.sizes pages.now.images) at number }
-{
-    match cell_at(pages, at) {
-        Some(found) => found.cell.sequence == number,
-        None => false,
-    }
-}
-
-// Whose group a deed is of.
-fn sender_of(deed: &Deed) -> u32
-    ensures { result ≡ deed_sender deed.now }
-{
-    match deed {
-        Deed::Append { sender, .. } => *sender,
-        Deed::UnlinkHead { sender, .. } => *sender,
-        Deed::Close { sender } => *sender,
     }
 }

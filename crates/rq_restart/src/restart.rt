@@ -28,7 +28,7 @@ ghost use Rattle.rq_restart.specs.Refused.{BeginsNot, IsStoppedBehind, MayBeShut
 ghost use Rattle.rq_restart.specs.Overwritten.{AreKept};
 ghost use Rattle.rq_log.specs.Reading.{IsRead};
 ghost use Rattle.rq_restart.specs.Found.{AreFindings};
-ghost use Rattle.rq_restart.specs.Mended.{HasRepeated, IsMended, IsMendedOn, LinkStops, MendStops};
+ghost use Rattle.rq_restart.specs.Mended.{HasRepeated, IsMendedOn, IsMendedSince, LinkStops, MendStops};
 ghost use Rattle.rq_engine.specs.Devices.{Path, EachPair};
 ghost use Rattle.rq_restart.specs.Underway.{OfStores, IsLeftOrGoesOn, pages_left, log_left};
 
@@ -37,7 +37,8 @@ use crate::appending::shows_pool;
 use crate::findings::Findings;
 use crate::redo::{Gone, check_numbers, repeat_history};
 use crate::undoing::undo_unfinished;
-use crate::waiting::{Told, told_groups};
+use crate::waiting::{Told, planner_of, told_groups};
+use rq_chain::ChainLevel;
 use rq_disk::{LogDevice, PageDevice};
 use rq_engine::engine::Engine;
 use rq_links::first_broken;
@@ -45,6 +46,7 @@ use rq_log::{Log, LogReader};
 use rq_model::limits::LOG_LIMIT;
 use rq_model::record::Record;
 use rq_model::refusal::{Damage, Refusal};
+use rq_planner::Planner;
 use rq_pool::Pages;
 use rq_record::{shows_fits, spelled_len};
 use std::alloc::Global;
@@ -460,8 +462,8 @@ fn begin_next<P: PageDevice + Drop, L: LogDevice + Drop>(
         (log.new.device ≡ log.old.device)) }
 {
     let unfinished = findings.history.unfinished();
-    let lost = mend_whole(alloc, pages, log, findings)?;
-    let told = told_groups(alloc, pages)?;
+    let (lost, planner) = mend_whole(alloc, pages, log, findings)?;
+    let told = told_groups(alloc, pages, planner)?;
     match begin_incarnation(log, findings.history.incarnation(), unfinished, lost) {
         Ok(report) => Ok((told, report)),
         Err(refusal) => Err(refusal),
@@ -469,16 +471,16 @@ fn begin_next<P: PageDevice + Drop, L: LogDevice + Drop>(
 }
 
 // Undoes what has no end in the log, of which these are the findings, and looks whether the senders' chains are whole then.
-// Gives how many transactions there were.
+// Gives how many transactions there were, and what plans operations, told of each cell.
 fn mend_whole<P: PageDevice + Drop, L: LogDevice + Drop>(
     alloc: Global,
     pages: &mut Pages<P>,
     log: &mut Log<L>,
     findings: &mut Findings,
-) -> Result<u64, Refusal>
+) -> Result<(u64, Planner<ChainLevel>), Refusal>
     requires found { AreFindings findings.old log.old.records }
     requires running { log.old.failed ≡ false }
-    ensures mends { OnOk result (IsMended log.old.records log.new.records) }
+    ensures mends { OnOk result (IsMendedSince pages.old.sizes log.old.records log.new.records (paged pages.old)) }
     ensures repeated { OnOk result ((first : Paged) → Repeats pages.old.sizes log.old.records first (paged pages.old)
         → Repeats pages.old.sizes log.new.records first (paged pages.new)) }
     ensures counted { OnOk result (AreCounted pages.old.sizes (length log.old.records) (paged pages.old)
@@ -487,7 +489,8 @@ fn mend_whole<P: PageDevice + Drop, L: LogDevice + Drop>(
         → IsLeft pages.old.sizes first.image log.old.records → IsRecovered pages.old.sizes log.old.records
         log.new.records) }
     ensures linked { OnOk result (AreLinked pages.old.sizes (slots_on pages.old.sizes (paged pages.new))) }
-    ensures lost { IfOk result (λ count. count ≡ length findings.old.history.working) }
+    ensures lost { IfOk result (λ mended. mended.0 ≡ length findings.old.history.working) }
+    ensures known { IfOk result (λ mended. KnowsCells pages.new.sizes pages.new.images mended.1) }
     ensures found { OnOk result (AreFindings findings.new log.new.records) }
     ensures stops { IfErr result (λ e. (first : Paged) → Repeats pages.old.sizes log.old.records first (paged pages.old)
         → MendStops pages.old.sizes log.old.records first e) }
@@ -497,9 +500,9 @@ fn mend_whole<P: PageDevice + Drop, L: LogDevice + Drop>(
         × (log.new.failed ≡ false) × (log.new.settled ≡ log.old.settled) }
     ensures room { OnOk result (log.new.reserved ≡ log.old.reserved) }
 {
-    let lost = mend(alloc, pages, log, findings)?;
+    let mended = mend(alloc, pages, log, findings)?;
     check_links(alloc, pages)?;
-    Ok(lost)
+    Ok(mended)
 }
 
 // That the senders' chains are whole; else it is refused with the page to be named.
@@ -516,16 +519,16 @@ fn check_links<P: PageDevice>(alloc: Global, pages: &Pages<P>) -> Result<(), Ref
 }
 
 // Undoes what has no end in the log, of which these are the findings: operations, and then transactions. Gives how many
-// of the latter there were.
+// of the latter there were, and what plans operations, told of each cell.
 fn mend<P: PageDevice + Drop, L: LogDevice + Drop>(
     alloc: Global,
     pages: &mut Pages<P>,
     log: &mut Log<L>,
     findings: &mut Findings,
-) -> Result<u64, Refusal>
+) -> Result<(u64, Planner<ChainLevel>), Refusal>
     requires found { AreFindings findings.old log.old.records }
     requires running { log.old.failed ≡ false }
-    ensures mends { OnOk result (IsMended log.old.records log.new.records) }
+    ensures mends { OnOk result (IsMendedSince pages.old.sizes log.old.records log.new.records (paged pages.old)) }
     ensures repeated { OnOk result ((first : Paged) → Repeats pages.old.sizes log.old.records first (paged pages.old)
         → Repeats pages.old.sizes log.new.records first (paged pages.new)) }
     ensures counted { OnOk result (AreCounted pages.old.sizes (length log.old.records) (paged pages.old)
@@ -533,7 +536,8 @@ fn mend<P: PageDevice + Drop, L: LogDevice + Drop>(
     ensures recovered { OnOk result ((first : Paged) → Repeats pages.old.sizes log.old.records first (paged pages.old)
         → IsLeft pages.old.sizes first.image log.old.records → IsRecovered pages.old.sizes log.old.records
         log.new.records) }
-    ensures lost { IfOk result (λ count. count ≡ length findings.old.history.working) }
+    ensures lost { IfOk result (λ mended. mended.0 ≡ length findings.old.history.working) }
+    ensures known { IfOk result (λ mended. KnowsCells pages.new.sizes pages.new.images mended.1) }
     ensures found { OnOk result (AreFindings findings.new log.new.records) }
     ensures stops { IfErr result (λ e. (first : Paged) → Repeats pages.old.sizes log.old.records first (paged pages.old)
         → MendStops pages.old.sizes log.old.records first e) }
@@ -544,9 +548,10 @@ fn mend<P: PageDevice + Drop, L: LogDevice + Drop>(
     ensures room { OnOk result (log.new.reserved ≡ log.old.reserved) }
 {
     undo_unfinished(pages, log, findings)?;
+    let mut planner = planner_of(alloc, pages)?;
     let lost = findings.history.working().len() as u64;
-    abort_lost(alloc, pages, log, findings)?;
-    Ok(lost)
+    abort_lost(alloc, pages, log, findings, &mut planner)?;
+    Ok((lost, planner))
 }
 
 fn begin_incarnation<L: LogDevice + Drop>(

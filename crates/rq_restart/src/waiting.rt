@@ -28,7 +28,9 @@ pub(crate) struct Told {
 pub(crate) fn told_groups<P: PageDevice + Drop>(
     alloc: Global,
     pages: &Pages<P>,
+    planner: Planner<ChainLevel>,
 ) -> Result<Told, NoMemory>
+    requires { KnowsCells pages.now.sizes pages.now.images planner }
     ensures waiting { IfOk result (λ told. told.waiting ≡ waiting_in pages.now.sizes pages.now.images) }
     ensures sent { IfOk result (λ told. told.sent ≡ sent_in_slots pages.now.sizes pages.now.images) }
     ensures known { IfOk result (λ told. KnowsCells pages.now.sizes pages.now.images told.planner) }
@@ -47,7 +49,6 @@ pub(crate) fn told_groups<P: PageDevice + Drop>(
         sent.set(sender, last);
     }
     let ends = Ends::new(alloc, senders)?;
-    let planner = planner_of(alloc, pages)?;
     Ok(Told {
         waiting,
         sent,
@@ -56,8 +57,8 @@ pub(crate) fn told_groups<P: PageDevice + Drop>(
     })
 }
 
-// What plans operations, told of each cell.
-fn planner_of<P: PageDevice + Drop>(
+/// What plans operations, told of each cell.
+pub(crate) fn planner_of<P: PageDevice + Drop>(
     alloc: Global,
     pages: &Pages<P>,
 ) -> Result<Planner<ChainLevel>, NoMemory>

@@ -1,6 +1,8 @@
 use Rattle.std.proofs.Common.{rules, subst}
-use Rattle.rq_restart.specs.Aborting.{AbortStops, AbortsBehind, HasGoneOn, IsAborting, IsShown}
-use Rattle.rq_restart.proofs.Aborts.{aborting_join, aborts_join, gone_join, stops_join}
+use Rattle.rq_restart.specs.Aborting.{AbortStops, AbortsFrom, HasGoneOn, IsAbortingFrom, IsShown}
+use Rattle.rq_restart.specs.Repeating.{paged}
+use Rattle.rq_restart.proofs.Aborts.{aborting_join, aborts_join, gone_join, nothing_gone, stops_join}
+use Rattle.rq_restart.proofs.Renewing.{cells_same}
 use Rattle.rq_restart.proofs.aborting.abort_lost.Goals as goal
 
 pub returns-in_err-take_back_all-clause-stops : goal.returns-in_err-take_back_all-clause-stops
@@ -12,8 +14,8 @@ returns-in_err-take_back_all-clause-stops g c =
     let mid = c.end_idle.new.log.records in
     let now = c.end_idle.new.pages in
     let e = c.in_err-take_back_all.field-0.0 in
-    let here : AbortStops z (IsAborting mid) mid now (IsShown mid now) e = subst (λ y. AbortStops y (IsAborting mid) mid now (IsShown mid now) e) made.sizes c.in_err-take_back_all.ensures.stops in
-    let h : AbortStops z (IsAborting log) log old (IsShown log old) e = stops_join z (AbortsBehind log mid) log mid old now (IsShown log old) (IsShown mid now) made.gone_on (IsAborting mid) (IsAborting log) (λ a l. aborting_join log mid l a) e here in
+    let here : AbortStops z (IsAbortingFrom z mid now) mid now (IsShown mid now) e = subst (λ y. AbortStops y (IsAbortingFrom y mid now) mid now (IsShown mid now) e) made.sizes c.in_err-take_back_all.ensures.stops in
+    let h : AbortStops z (IsAbortingFrom z log old) log old (IsShown log old) e = stops_join z (AbortsFrom z log old mid) log mid old now (IsShown log old) (IsShown mid now) made.gone_on (IsAbortingFrom z mid now) (IsAbortingFrom z log old) (λ a l. aborting_join z log mid (paged old) (paged now) made.gone_on.repeated l a) e here in
     search (rules, h)
 
 pub returns-clause-gone_on : goal.returns-clause-gone_on
@@ -26,5 +28,11 @@ returns-clause-gone_on g c =
     let now = c.end_idle.new.pages in
     let last = c.take_back_all.new.log.records in
     let new = c.take_back_all.new.pages in
-    let here : HasGoneOn z (AbortsBehind mid last) mid last now new (IsShown mid now) (IsShown last new) = subst (λ y. HasGoneOn y (AbortsBehind mid last) mid last now new (IsShown mid now) (IsShown last new)) made.sizes c.in_ok-take_back_all.ensures.gone_on in
-    gone_join z (AbortsBehind log mid) log mid old now (IsShown log old) (IsShown mid now) made.gone_on (AbortsBehind mid last) (AbortsBehind log last) last new (IsShown last new) (aborts_join log mid last) here
+    let here : HasGoneOn z (AbortsFrom z mid now last) mid last now new (IsShown mid now) (IsShown last new) = subst (λ y. HasGoneOn y (AbortsFrom y mid now last) mid last now new (IsShown mid now) (IsShown last new)) made.sizes c.in_ok-take_back_all.ensures.gone_on in
+    gone_join z (AbortsFrom z log old mid) log mid old now (IsShown log old) (IsShown mid now) made.gone_on (AbortsFrom z mid now last) (AbortsFrom z log old last) last new (IsShown last new) (aborts_join z log mid (paged old) (paged now) made.gone_on.repeated last) here
+
+pub take_back_all-requires-clause-cells : goal.take_back_all-requires-clause-cells
+take_back_all-requires-clause-cells g c = cells_same c.args.pages.now c.end_idle.new.pages c.args.planner.now c.in_ok-end_idle.ensures.same c.requires.cells
+
+pub returns-then-is_settled-clause-gone_on : goal.returns-then-is_settled-clause-gone_on
+returns-then-is_settled-clause-gone_on g c = nothing_gone c.args.pages.now.sizes c.args.log.now.records c.args.pages.now (IsShown c.args.log.now.records c.args.pages.now)

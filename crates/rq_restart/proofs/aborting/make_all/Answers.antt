@@ -1,16 +1,19 @@
-use Rattle.std.proofs.Common.{◌≡◌, ◌∷◌, ◌+◌, Some, rules, length, refl, ◌∙◌, sym, ap, subst, arith}
+use Rattle.std.proofs.Common.{◌≡◌, ◌∷◌, ◌+◌, Some, rules, length, take, ◌∙◌, sym, ap, subst, arith}
 use Rattle.std.specs.List.{slice_get}
 use Rattle.rq_model.specs.declared.record.Record.{Record}
 use Rattle.rq_page.specs.Sizes.{Sizes}
 use Rattle.rq_pool.specs.Pooled.{IsPool}
 use Rattle.rq_record.specs.Spelling.{IsInRange}
 use Rattle.rq_store.specs.Steps.{page_op}
+use Rattle.rq_views.specs.Stored.{IsStoreSlot}
+use Rattle.rq_planner.specs.Answered.{KnowsCells}
 use Rattle.rq_level.specs.Writes.{IsSlotWrite}
 use Rattle.rq_level.specs.declared.writes.SlotWrite.{SlotWrite}
-use Rattle.rq_restart.specs.Aborting.{AbortStops, HasGoneOn, IsMaking, IsShownWithin}
+use Rattle.rq_restart.specs.Aborting.{AbortStops, HasGoneOn, IsMaking, IsShownWithin, with_writes}
 use Rattle.rq_restart.specs.Repeating.{Belongs, IsRepeated, paged}
 use Rattle.rq_restart.specs.Undoing.{StepStops}
-use Rattle.rq_restart.proofs.Aborts.{gone_join, making_join, making_more, making_none, one_gone, one_stops, stops_join}
+use Rattle.rq_restart.proofs.Aborts.{gone_join, making_more, one_gone, one_stops, stops_join}
+use Rattle.rq_restart.proofs.Renewing.{write_elsewhere}
 use Rattle.rq_restart.proofs.Rounds.{write_belongs, write_rest, write_shown, within_way, get_there}
 use Rattle.rq_restart.proofs.aborting.make_all.Goals as goal
 
@@ -43,21 +46,28 @@ loop-index-preserved g c =
     let before = IsShownWithin first c.args.pages.now d n ws 0 in
     let here = IsShownWithin log old d n ws i in
     let after = IsShownWithin (r ∷ log) new d n ws (i + 1) in
-    let made_one : IsMaking d.txn n log (r ∷ log) = making_more d.txn n log log w (making_none d.txn n log) in
-    let step : HasGoneOn z (IsMaking d.txn n log (r ∷ log)) log (r ∷ log) old new here after = one_gone z (IsMaking d.txn n log (r ∷ log)) log r old new here after made_one one shown in
+    let step : HasGoneOn z (Unit {0}) log (r ∷ log) old new here after = one_gone z (Unit {0}) log r old new here after tt one shown in
     let grown : c.append.new.log.records ≡ r ∷ log = made.records ∙ ap (λ q. q ∷ log) is in
     let rest = write_rest log c.append.new.log.records c.loop-index.findings c.append.new.findings d.txn n w kept.found made.found grown in
     record {
       found = made.found;
-      gone = subst (λ l. HasGoneOn z (IsMaking d.txn n first l) first l c.args.pages.now new before (IsShownWithin l new d n ws (i + 1))) (sym grown)
-          (gone_join z (IsMaking d.txn n first log) first log c.args.pages.now old before here kept.gone (IsMaking d.txn n log (r ∷ log)) (IsMaking d.txn n first (r ∷ log)) (r ∷ log) new after (λ m k. making_more d.txn n first log w m) step);
+      gone = subst (λ l. HasGoneOn z (with_writes d.txn n (take (i + 1) ws) first ≡ l) first l c.args.pages.now new before (IsShownWithin l new d n ws (i + 1))) (sym grown)
+          (gone_join z (with_writes d.txn n (take i ws) first ≡ log) first log c.args.pages.now old before here kept.gone (Unit {0}) (with_writes d.txn n (take (i + 1) ws) first ≡ r ∷ log) (r ∷ log) new after (λ are u. making_more d.txn n ws i w first log next are) step);
       dues = rest.0 ∙ kept.dues;
       working = rest.1 ∙ kept.working;
       sizes = made.sizes ∙ kept.sizes;
       device = made.device ∙ kept.device;
       log = (made.log.0 ∙ kept.log.0, made.log.1 ∙ kept.log.1, made.log.2, made.log.3 ∙ kept.log.3);
       room = made.room ∙ kept.room;
+      cells = c.renew.ensures old.images (subst (λ y. KnowsCells y old.images c.loop-index.planner) (sym made.sizes) kept.cells) (write_elsewhere new.sizes old.images new.images d.txn n (length log + 1) w one.redone);
     }
+
+pub renew-requires : goal.renew-requires
+renew-requires g c =
+    let kept = c.loop-index.invariant in
+    let w : SlotWrite = c.index-writes-index.result in
+    let slot : IsSlotWrite c.args.pages.now.sizes w = subst (IsSlotWrite c.args.pages.now.sizes) (sym c.index-writes-index.is) (c.requires.slots c.loop-index.index w c.loop-index-test.true) in
+    subst (λ y. IsStoreSlot y w.at) (sym (c.in_ok-append.ensures.sizes ∙ kept.sizes)) slot.place
 
 pub returns-in_err-append-clause-stops : goal.returns-in_err-append-clause-stops
 returns-in_err-append-clause-stops g c =
@@ -79,7 +89,9 @@ returns-in_err-append-clause-stops g c =
     let here = IsShownWithin log old d n ws i in
     let step : StepStops (length log) (Belongs z log r (paged old)) refusal =
     subst (λ y. StepStops (length log) (Belongs y log r (paged old)) refusal) kept.sizes (subst (λ q. StepStops (length log) (Belongs old.sizes log q (paged old)) refusal) c.written-undo.ensures c.in_err-append.ensures.stops) in
-    let now : AbortStops z (IsMaking d.txn n log) log old here refusal = one_stops z (IsMaking d.txn n log) log r old here (making_none d.txn n log) (making_more d.txn n log log w (making_none d.txn n log)) refusal step (within_way z log old d n ws i) (write_belongs z log old d n ws i w next slot) in
-    let h : AbortStops z (IsMaking d.txn n first) first c.args.pages.now before refusal =
-    stops_join z (IsMaking d.txn n first log) first log c.args.pages.now old before here kept.gone (IsMaking d.txn n log) (IsMaking d.txn n first) (λ m l. making_join d.txn n first log l m) refusal now in
+    let so_far : with_writes d.txn n (take i ws) first ≡ log = kept.gone.aborting in
+    let then : with_writes d.txn n (take (i + 1) ws) first ≡ r ∷ log = making_more d.txn n ws i w first log next so_far in
+    let now : AbortStops z (IsMaking d.txn n ws first) log old here refusal = one_stops z (IsMaking d.txn n ws first) log r old here (record { made = i; are = so_far }) (record { made = i + 1; are = then }) refusal step (within_way z log old d n ws i) (write_belongs z log old d n ws i w next slot) in
+    let h : AbortStops z (IsMaking d.txn n ws first) first c.args.pages.now before refusal =
+    stops_join z (with_writes d.txn n (take i ws) first ≡ log) first log c.args.pages.now old before here kept.gone (IsMaking d.txn n ws first) (IsMaking d.txn n ws first) (λ m l k. k) refusal now in
     search (rules, h)

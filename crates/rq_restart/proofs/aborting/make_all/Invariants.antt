@@ -1,16 +1,18 @@
-use Rattle.std.proofs.Common.{◌≡◌, false}
-use Rattle.rq_restart.specs.Aborting.{HasGoneOn, IsMaking, IsShownWithin}
+use Rattle.std.proofs.Common.{◌≡◌, false, take}
+use Rattle.rq_restart.specs.Aborting.{HasGoneOn, IsShownWithin, with_writes}
 use Rattle.rq_restart.specs.Found.{AreFindings}
+use Rattle.rq_planner.specs.Answered.{KnowsCells}
 use Rattle.rq_restart.proofs.aborting.make_all.Given as goal
 
 abbrev pub invariant-loop-index : goal.invariant-loop-index
 invariant-loop-index g l = record {
   found : AreFindings l.findings l.log.records;
-  gone : HasGoneOn l.fn.pages.sizes (IsMaking l.due.txn l.operation l.fn.log.records l.log.records) l.fn.log.records l.log.records l.fn.pages l.pages (IsShownWithin l.fn.log.records l.fn.pages l.due l.operation l.writes 0) (IsShownWithin l.log.records l.pages l.due l.operation l.writes l.index);
+  gone : HasGoneOn l.fn.pages.sizes (with_writes l.due.txn l.operation (take l.index l.writes) l.fn.log.records ≡ l.log.records) l.fn.log.records l.log.records l.fn.pages l.pages (IsShownWithin l.fn.log.records l.fn.pages l.due l.operation l.writes 0) (IsShownWithin l.log.records l.pages l.due l.operation l.writes l.index);
   dues : l.findings.dues ≡ l.fn.findings.dues;
   working : l.findings.history.working ≡ l.fn.findings.history.working;
   sizes : l.pages.sizes ≡ l.fn.pages.sizes;
   device : l.pages.device ≡ l.fn.pages.device;
   log : (l.log.device ≡ l.fn.log.device) × (l.log.forced ≡ l.fn.log.forced) × (l.log.failed ≡ false) × (l.log.settled ≡ l.fn.log.settled);
   room : l.log.reserved ≡ l.fn.log.reserved;
+  cells : KnowsCells l.pages.sizes l.pages.images l.planner;
 }

@@ -7,12 +7,12 @@ use Rattle.rq_log.specs.Spelled.{AreSpelled}
 use Rattle.rq_undone.specs.Analysis.{without_txn}
 use Rattle.rq_lost.specs.Choices.{least_free}
 use Rattle.rq_lost.specs.Dues.{any_due, dues}
-use Rattle.rq_restart.specs.Aborting.{AbortStops, AbortsBehind, HasGoneOn, IsAborting, IsShown}
+use Rattle.rq_restart.specs.Aborting.{AbortStops, AbortsFrom, HasGoneOn, IsAbortingFrom, IsShown, RepeatedSince}
 use Rattle.rq_restart.specs.Aborting.IsAborting.{Between}
-use Rattle.rq_restart.specs.Aborting.Round.{Ends}
 use Rattle.rq_restart.specs.Repeating.{Belongs, IsRepeated, paged}
+use Rattle.rq_restart.proofs.Renewing.{cells_same}
 use Rattle.rq_restart.specs.Undoing.{StepStops}
-use Rattle.rq_restart.proofs.Aborts.{aborting_join, aborting_none, aborts_join, aborts_more, aborts_none, gone_join, gone_keeping, one_gone, one_stops, spelled_before, stops_join}
+use Rattle.rq_restart.proofs.Aborts.{aborting_join, aborting_none, aborts_end, aborts_join, gone_join, gone_keeping, nothing_gone, one_gone, one_stops, spelled_before, stops_join}
 use Rattle.rq_restart.proofs.DueLists.{due_range, none_behind, none_then}
 use Rattle.rq_restart.proofs.Rounds.{all_ended, end_rest, ends_next, next_belongs, next_shown, next_way}
 use Rattle.rq_restart.proofs.aborting.take_back_all.Goals as goal
@@ -25,9 +25,21 @@ append-requires-clause-range g c = λ are.
     let log = c.loop-due.log.records in
     let first = c.in-Some.ensures in
     let d = c.in-Some.due in
-    let before : AreSpelled log = spelled_before log c.take_back.new.log.records c.in_ok-take_back.ensures.gone_on.aborting are in
+    let before : AreSpelled log = spelled_before log c.take_back.new.log.records c.in_ok-take_back.ensures.gone_on.aborting.behind are in
     let there : In d (dues log) = subst (In d) (sym first.1 ∙ c.loop-due.invariant.found.dues) (inl refl) in
     (due_range log before d there).0
+
+pub loop-due-init : goal.loop-due-init
+loop-due-init g c = record {
+  found = c.requires.found;
+  none = c.requires.none;
+  gone = nothing_gone c.args.pages.now.sizes c.args.log.now.records c.args.pages.now (IsShown c.args.log.now.records c.args.pages.now);
+  sizes = refl;
+  device = refl;
+  log = (refl, refl, c.requires.running, refl);
+  room = refl;
+  cells = c.requires.cells;
+}
 
 pub loop-due-smaller : goal.loop-due-smaller
 loop-due-smaller g c = (let e = ap length c.in_ok-take_back.ensures.rest in omega (arith, e))
@@ -46,16 +58,17 @@ loop-due-preserved g c =
     let d = c.in-Some.due in
     let f = c.loop-due.findings in
     let h = c.take_back.new.findings in
-    let step : HasGoneOn z (AbortsBehind log mid) log mid old new (IsShown log old) (IsShown mid new) = subst (λ y. HasGoneOn y (AbortsBehind log mid) log mid old new (IsShown log old) (IsShown mid new)) kept.sizes made.gone_on in
+    let step : HasGoneOn z (AbortsFrom z log old mid) log mid old new (IsShown log old) (IsShown mid new) = subst (λ y. HasGoneOn y (AbortsFrom y log old mid) log mid old new (IsShown log old) (IsShown mid new)) kept.sizes made.gone_on in
     let none : least_free (d ∷ h.dues) f.history.working ≡ None = ap (λ ds. least_free ds f.history.working) (sym made.rest) ∙ kept.none in
     record {
       found = made.found;
       none = ap (least_free h.dues) made.working ∙ none_then d h.dues f.history.working (sym (c.if-not-owes.ensures)) none;
-      gone = gone_join z (AbortsBehind first log) first log start old (IsShown first start) (IsShown log old) kept.gone (AbortsBehind log mid) (AbortsBehind first mid) mid new (IsShown mid new) (aborts_join first log mid) step;
+      gone = gone_join z (AbortsFrom z first start log) first log start old (IsShown first start) (IsShown log old) kept.gone (AbortsFrom z log old mid) (AbortsFrom z first start mid) mid new (IsShown mid new) (aborts_join z first log (paged start) (paged old) kept.gone.repeated mid) step;
       sizes = made.sizes ∙ kept.sizes;
       device = made.device ∙ kept.device;
       log = (made.log.0 ∙ kept.log.0, made.log.1 ∙ kept.log.1, made.log.2, made.log.3 ∙ kept.log.3);
       room = made.room ∙ kept.room;
+      cells = made.cells;
     }
 
 pub returns-in_err-take_back-clause-stops : goal.returns-in_err-take_back-clause-stops
@@ -67,8 +80,8 @@ returns-in_err-take_back-clause-stops g c =
     let log = c.loop-due.log.records in
     let old = c.loop-due.pages in
     let e = c.in_err-take_back.field-0.0 in
-    let here : AbortStops z (IsAborting log) log old (IsShown log old) e = subst (λ y. AbortStops y (IsAborting log) log old (IsShown log old) e) kept.sizes c.in_err-take_back.ensures.stops in
-    let h : AbortStops z (IsAborting first) first start (IsShown first start) e = stops_join z (AbortsBehind first log) first log start old (IsShown first start) (IsShown log old) kept.gone (IsAborting log) (IsAborting first) (λ a l. aborting_join first log l a) e here in
+    let here : AbortStops z (IsAbortingFrom z log old) log old (IsShown log old) e = subst (λ y. AbortStops y (IsAbortingFrom y log old) log old (IsShown log old) e) kept.sizes c.in_err-take_back.ensures.stops in
+    let h : AbortStops z (IsAbortingFrom z first start) first start (IsShown first start) e = stops_join z (AbortsFrom z first start log) first log start old (IsShown first start) (IsShown log old) kept.gone (IsAbortingFrom z log old) (IsAbortingFrom z first start) (λ a l. aborting_join z first log (paged start) (paged old) kept.gone.repeated l a) e here in
     search (rules, h)
 
 pub loop-due-preserved-in-Continue-branch-2 : goal.loop-due-preserved-in-Continue-branch-2
@@ -90,25 +103,26 @@ loop-due-preserved-in-Continue-branch-2 g c =
     let r : Record = records.AbortEnd d.txn in
     let here = IsShown log old in
     let same_sizes : now.sizes ≡ z = made.sizes ∙ kept.sizes in
-    let step : HasGoneOn z (AbortsBehind log mid) log mid old now here (IsShown mid now) = subst (λ y. HasGoneOn y (AbortsBehind log mid) log mid old now here (IsShown mid now)) kept.sizes made.gone_on in
+    let step : HasGoneOn z (AbortsFrom z log old mid) log mid old now here (IsShown mid now) = subst (λ y. HasGoneOn y (AbortsFrom y log old mid) log mid old now here (IsShown mid now)) kept.sizes made.gone_on in
     let off : any_due d.txn h.dues ≡ false = sym c.if-not-owes.ensures in
     let none : least_free (d ∷ h.dues) f.history.working ≡ None = ap (λ ds. least_free ds f.history.working) (sym made.rest) ∙ kept.none in
     let one : IsRepeated z mid r (paged now) (paged new) = subst (λ y. IsRepeated y mid r (paged now) (paged new)) same_sizes last.repeated in
-    let ended : AbortsBehind mid (r ∷ mid) = aborts_more mid mid (Ends d.txn) (ends_next mid f h made.found d (ap (λ ds. least_free ds f.history.working) (sym made.rest) ∙ kept.none) made.working off made.lost) (aborts_none mid) in
-    let ends : HasGoneOn z (AbortsBehind mid (r ∷ mid)) mid (r ∷ mid) now new here (IsShown (r ∷ mid) new) =
-    one_gone z (AbortsBehind mid (r ∷ mid)) mid r now new here (IsShown (r ∷ mid) new) ended one (next_shown z log mid old now f h kept.found made.found d made.rest kept.none made.working off step.shown new (last.same refl)) in
+    let ended : AbortsFrom z mid now (r ∷ mid) = aborts_end z (RepeatedSince z mid (paged now)) mid d.txn (ends_next mid f h made.found d (ap (λ ds. least_free ds f.history.working) (sym made.rest) ∙ kept.none) made.working off made.lost) in
+    let ends : HasGoneOn z (AbortsFrom z mid now (r ∷ mid)) mid (r ∷ mid) now new here (IsShown (r ∷ mid) new) =
+    one_gone z (AbortsFrom z mid now (r ∷ mid)) mid r now new here (IsShown (r ∷ mid) new) ended one (next_shown z log mid old now f h kept.found made.found d made.rest kept.none made.working off step.shown new (last.same refl)) in
     let rest = end_rest mid c.append.new.log.records h c.append.new.findings d.txn made.found last.found last.records in
     record {
       found = last.found;
       none = ap (λ ds. least_free ds c.append.new.findings.history.working) rest.0 ∙ ap (least_free h.dues) (rest.1 ∙ ap (without_txn d.txn) made.working) ∙ none_behind d h.dues f.history.working none;
-      gone = subst (λ l. HasGoneOn z (AbortsBehind first l) first l start new (IsShown first start) (IsShown l new)) (sym last.records)
-          (gone_join z (AbortsBehind first log) first log start old (IsShown first start) here kept.gone (AbortsBehind log (r ∷ mid)) (AbortsBehind first (r ∷ mid)) (r ∷ mid) new (IsShown (r ∷ mid) new) (aborts_join first log (r ∷ mid))
-          (gone_join z (AbortsBehind log mid) log mid old now here here (gone_keeping z (AbortsBehind log mid) log mid old now here (IsShown mid now) step) (AbortsBehind mid (r ∷ mid)) (AbortsBehind log (r ∷ mid)) (r ∷ mid) new (IsShown (r ∷ mid) new)
-          (aborts_join log mid (r ∷ mid)) ends));
+      gone = subst (λ l. HasGoneOn z (AbortsFrom z first start l) first l start new (IsShown first start) (IsShown l new)) (sym last.records)
+          (gone_join z (AbortsFrom z first start log) first log start old (IsShown first start) here kept.gone (AbortsFrom z log old (r ∷ mid)) (AbortsFrom z first start (r ∷ mid)) (r ∷ mid) new (IsShown (r ∷ mid) new) (aborts_join z first log (paged start) (paged old) kept.gone.repeated (r ∷ mid))
+          (gone_join z (AbortsFrom z log old mid) log mid old now here here (gone_keeping z (AbortsFrom z log old mid) log mid old now here (IsShown mid now) step) (AbortsFrom z mid now (r ∷ mid)) (AbortsFrom z log old (r ∷ mid)) (r ∷ mid) new (IsShown (r ∷ mid) new)
+          (aborts_join z log mid (paged old) (paged now) step.repeated (r ∷ mid)) ends));
       sizes = last.sizes ∙ same_sizes;
       device = last.device ∙ made.device ∙ kept.device;
       log = (last.log.0 ∙ made.log.0 ∙ kept.log.0, last.log.1 ∙ made.log.1 ∙ kept.log.1, last.log.2, last.log.3 ∙ made.log.3 ∙ kept.log.3);
       room = last.room ∙ made.room ∙ kept.room;
+      cells = cells_same now new c.take_back.new.planner (last.same refl) made.cells;
     }
 
 pub returns-in_err-append-clause-stops : goal.returns-in_err-append-clause-stops
@@ -128,15 +142,15 @@ returns-in_err-append-clause-stops g c =
     let r : Record = records.AbortEnd d.txn in
     let here = IsShown log old in
     let e = c.in_err-append.field-0.0 in
-    let step : HasGoneOn z (AbortsBehind log mid) log mid old now here (IsShown mid now) = subst (λ y. HasGoneOn y (AbortsBehind log mid) log mid old now here (IsShown mid now)) kept.sizes made.gone_on in
+    let step : HasGoneOn z (AbortsFrom z log old mid) log mid old now here (IsShown mid now) = subst (λ y. HasGoneOn y (AbortsFrom y log old mid) log mid old now here (IsShown mid now)) kept.sizes made.gone_on in
     let off : any_due d.txn h.dues ≡ false = sym c.if-not-owes.ensures in
     let bad : StepStops (length mid) (Belongs z mid r (paged now)) e = subst (λ y. StepStops (length mid) (Belongs y mid r (paged now)) e) (made.sizes ∙ kept.sizes) c.in_err-append.ensures.stops in
-    let ended : AbortsBehind mid (r ∷ mid) = aborts_more mid mid (Ends d.txn) (ends_next mid f h made.found d (ap (λ ds. least_free ds f.history.working) (sym made.rest) ∙ kept.none) made.working off made.lost) (aborts_none mid) in
-    let ends : AbortStops z (IsAborting mid) mid now here e =
-    one_stops z (IsAborting mid) mid r now here (aborting_none mid) (Between ended) e bad (next_way z log mid old now f h kept.found made.found d made.rest kept.none made.working off step.shown) (next_belongs z log mid old now f h kept.found made.found d made.rest kept.none made.working off step.shown) in
-    let then : AbortStops z (IsAborting log) log old here e =
-    stops_join z (AbortsBehind log mid) log mid old now here here (gone_keeping z (AbortsBehind log mid) log mid old now here (IsShown mid now) step) (IsAborting mid) (IsAborting log) (λ a l. aborting_join log mid l a) e ends in
-    let k : AbortStops z (IsAborting first) first start (IsShown first start) e = stops_join z (AbortsBehind first log) first log start old (IsShown first start) here kept.gone (IsAborting log) (IsAborting first) (λ a l. aborting_join first log l a) e then in
+    let ended : AbortsFrom z mid now (r ∷ mid) = aborts_end z (RepeatedSince z mid (paged now)) mid d.txn (ends_next mid f h made.found d (ap (λ ds. least_free ds f.history.working) (sym made.rest) ∙ kept.none) made.working off made.lost) in
+    let ends : AbortStops z (IsAbortingFrom z mid now) mid now here e =
+    one_stops z (IsAbortingFrom z mid now) mid r now here (aborting_none z (RepeatedSince z mid (paged now)) mid) (Between ended) e bad (next_way z log mid old now f h kept.found made.found d made.rest kept.none made.working off step.shown) (next_belongs z log mid old now f h kept.found made.found d made.rest kept.none made.working off step.shown) in
+    let then : AbortStops z (IsAbortingFrom z log old) log old here e =
+    stops_join z (AbortsFrom z log old mid) log mid old now here here (gone_keeping z (AbortsFrom z log old mid) log mid old now here (IsShown mid now) step) (IsAbortingFrom z mid now) (IsAbortingFrom z log old) (λ a l. aborting_join z log mid (paged old) (paged now) step.repeated l a) e ends in
+    let k : AbortStops z (IsAbortingFrom z first start) first start (IsShown first start) e = stops_join z (AbortsFrom z first start log) first log start old (IsShown first start) here kept.gone (IsAbortingFrom z log old) (IsAbortingFrom z first start) (λ a l. aborting_join z first log (paged start) (paged old) kept.gone.repeated l a) e then in
     search (rules, k)
 
 pub returns-clause-ended : goal.returns-clause-ended

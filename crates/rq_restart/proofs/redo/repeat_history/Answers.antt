@@ -1,11 +1,11 @@
-use Rattle.std.proofs.Common.{◌≡◌, ◌+◌, ◌∷◌, ℕ, List, length, ap, subst, sym, ◌∙◌, arith}
+use Rattle.std.proofs.Common.{◌≡◌, ◌+◌, ◌∷◌, List, length, ap, subst, sym, ◌∙◌, arith}
 use Rattle.rq_model.specs.declared.record.Record.{Record}
 use Rattle.rq_page.specs.Sizes.{Sizes}
 use Rattle.rq_log.specs.Reading.{BeginsWith}
 use Rattle.rq_log.specs.Spelled.{AreSpelled}
 use Rattle.rq_restart.specs.Found.{AreFindings}
 use Rattle.rq_restart.specs.Overwritten.{AreKept}
-use Rattle.rq_restart.specs.Refused.{IsStoppedBehind, NotRepeated}
+use Rattle.rq_restart.specs.Refused.{NotRepeated}
 use Rattle.rq_restart.specs.Repeating.{IsRepeated, Repeats, paged}
 use Rattle.rq_restart.proofs.Going.{stopped_next}
 use Rattle.rq_restart.proofs.redo.repeat_history.Goals as goal

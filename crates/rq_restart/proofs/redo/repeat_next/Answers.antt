@@ -1,5 +1,4 @@
-use Rattle.std.proofs.Common.{◌≡◌, ◌+◌, ℕ, List, sym, subst, refl}
-use Rattle.rq_page.specs.Sizes.{Sizes}
+use Rattle.std.proofs.Common.{sym, subst}
 use Rattle.rq_store.specs.Opening.{IsSoundWrite, MayRedo, Redoes}
 use Rattle.rq_store.specs.Fitting.{image_in, told_by}
 use Rattle.rq_restart.specs.Overwritten.{AreKept, WritesOver}

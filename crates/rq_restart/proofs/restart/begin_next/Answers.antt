@@ -13,7 +13,7 @@ use Rattle.rq_restart.proofs.restart.begin_next.Goals as goal
 pub returns-in-Ok-clause-begun : goal.returns-in-Ok-clause-begun
 returns-in-Ok-clause-begun g c =
     let mend = c.in_ok-lost.ensures in
-    begun_is c.args.log.now.records c.mend_whole.new.log.records mend.mends c.mend_whole.new.findings.history mend.found.history c.incarnation.result c.incarnation.ensures c.begin_incarnation.new.log c.in-Ok.ensures.records c.in-Ok.ensures.forced
+    begun_is c.args.log.now.records c.mend_whole.new.log.records mend.mends.is c.mend_whole.new.findings.history mend.found.history c.incarnation.result c.incarnation.ensures c.begin_incarnation.new.log c.in-Ok.ensures.records c.in-Ok.ensures.forced
 
 pub returns-in-Ok-clause-repeated : goal.returns-in-Ok-clause-repeated
 returns-in-Ok-clause-repeated g c =
@@ -21,7 +21,7 @@ returns-in-Ok-clause-repeated g c =
     record {
       mended = c.mend_whole.new.log.records;
       mends = mend.mends;
-      begun = begins c.args.log.now.records c.mend_whole.new.log.records mend.mends c.mend_whole.new.findings.history mend.found.history c.incarnation.result c.incarnation.ensures c.begin_incarnation.new.log.records c.in-Ok.ensures.records;
+      begun = begins c.args.log.now.records c.mend_whole.new.log.records mend.mends.is c.mend_whole.new.findings.history mend.found.history c.incarnation.result c.incarnation.ensures c.begin_incarnation.new.log.records c.in-Ok.ensures.records;
       repeated = mend.repeated;
       linked = mend.linked;
       recovered = mend.recovered;
@@ -32,7 +32,7 @@ returns-in-Ok-clause-report g c =
     let mend = c.in_ok-lost.ensures in
     let told = c.in-Ok.ensures.report in
     let found = c.requires.found.history in
-    reports c.args.log.now.records c.mend_whole.new.log.records mend.mends c.mend_whole.new.findings.history mend.found.history c.incarnation.result c.incarnation.ensures c.args.pages.now.sizes c.begin_incarnation.new.log.records
+    reports c.args.log.now.records c.mend_whole.new.log.records mend.mends.is c.mend_whole.new.findings.history mend.found.history c.incarnation.result c.incarnation.ensures c.args.pages.now.sizes c.begin_incarnation.new.log.records
     c.in-Ok.report.incarnation c.in-Ok.report.records c.in-Ok.report.unfinished c.in-Ok.report.lost
     (told.0, told.1, told.2 ∙ c.unfinished-unfinished.ensures ∙ ap (λ (h : Analysis). length h.unfinished) found, told.3 ∙ mend.lost ∙ ap (λ (h : Analysis). length h.working) found)
 
@@ -52,8 +52,8 @@ returns-in-Ok-clause-any_moment g c = λ first before h are read.
     let z = c.args.pages.now.sizes in
     let older = c.args.log.now.records in
     let mended = c.mend_whole.new.log.records in
-    let restart : records.Restart (c.incarnation.result + 1) ≡ next_restart mended = ap (λ n. records.Restart (n + 1)) (last_is older mended mend.mends c.mend_whole.new.findings.history mend.found.history c.incarnation.result c.incarnation.ensures) in
-    begun_moment g.L.LogDevice z (IsLeft z first.image older) older mended (records.Restart (c.incarnation.result + 1)) c.mend_whole.new.log.forced c.args.log.now.device c.mend_whole.new.log.device c.begin_incarnation.new.log.device mend.log.0 mend.mends (mend.recovered first before)
+    let restart : records.Restart (c.incarnation.result + 1) ≡ next_restart mended = ap (λ n. records.Restart (n + 1)) (last_is older mended mend.mends.is c.mend_whole.new.findings.history mend.found.history c.incarnation.result c.incarnation.ensures) in
+    begun_moment g.L.LogDevice z (IsLeft z first.image older) older mended (records.Restart (c.incarnation.result + 1)) c.mend_whole.new.log.forced c.args.log.now.device c.mend_whole.new.log.device c.begin_incarnation.new.log.device mend.log.0 mend.mends.is (mend.recovered first before)
     restart are read (c.begin_incarnation.ensures.any_moment h)
 
 pub returns-in-Err-clause-any_moment : goal.returns-in-Err-clause-any_moment
@@ -62,8 +62,8 @@ returns-in-Err-clause-any_moment g c = λ first before h are read.
     let z = c.args.pages.now.sizes in
     let older = c.args.log.now.records in
     let mended = c.mend_whole.new.log.records in
-    let restart : records.Restart (c.incarnation.result + 1) ≡ next_restart mended = ap (λ n. records.Restart (n + 1)) (last_is older mended mend.mends c.mend_whole.new.findings.history mend.found.history c.incarnation.result c.incarnation.ensures) in
-    begun_moment g.L.LogDevice z (IsLeft z first.image older) older mended (records.Restart (c.incarnation.result + 1)) c.mend_whole.new.log.forced c.args.log.now.device c.mend_whole.new.log.device c.begin_incarnation.new.log.device mend.log.0 mend.mends (mend.recovered first before)
+    let restart : records.Restart (c.incarnation.result + 1) ≡ next_restart mended = ap (λ n. records.Restart (n + 1)) (last_is older mended mend.mends.is c.mend_whole.new.findings.history mend.found.history c.incarnation.result c.incarnation.ensures) in
+    begun_moment g.L.LogDevice z (IsLeft z first.image older) older mended (records.Restart (c.incarnation.result + 1)) c.mend_whole.new.log.forced c.args.log.now.device c.mend_whole.new.log.device c.begin_incarnation.new.log.device mend.log.0 mend.mends.is (mend.recovered first before)
     restart are read (c.begin_incarnation.ensures.any_moment h)
 
 pub returns-in-Err-clause-stops : goal.returns-in-Err-clause-stops
@@ -75,4 +75,4 @@ returns-in-Err-clause-stops g c = λ first before.
     let new = c.begin_incarnation.new.log.device in
     let mid = c.mend_whole.new.log.device in
     subst (λ d. WhyNotBegun z older first c.in-Err.refusal (faults d) (faults new) (new ≡ d)) mend.log.0
-    (not_begun older c.mend_whole.new.log.records mend.mends c.mend_whole.new.findings.history mend.found.history c.incarnation.result c.incarnation.ensures z first (paged c.mend_whole.new.pages) c.in-Err.refusal (faults mid) (faults new) (new ≡ mid) (mend.repeated first before) (mend.recovered first before) c.in-Err.ensures.err)
+    (not_begun older c.mend_whole.new.log.records mend.mends.is c.mend_whole.new.findings.history mend.found.history c.incarnation.result c.incarnation.ensures z first (paged c.mend_whole.new.pages) c.in-Err.refusal (faults mid) (faults new) (new ≡ mid) (mend.repeated first before) (mend.mends.planned first before) (mend.recovered first before) c.in-Err.ensures.err)

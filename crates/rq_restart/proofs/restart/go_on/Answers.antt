@@ -1,12 +1,11 @@
-use Rattle.std.proofs.Common.{◌≡◌, drop, length, ap, refl, sym, ◌∙◌, subst}
+use Rattle.std.proofs.Common.{◌≡◌, drop, ap, refl, sym, subst}
 use Rattle.rq_page.specs.Sizes.{Sizes}
 use Rattle.rq_pool.specs.Pooled.{IsPool}
 use Rattle.rq_sound.specs.Sound.{IsSound}
-use Rattle.rq_store.specs.Opening.{IsLeft, opened}
-use Rattle.rq_restart.specs.Checked.{IsGoneThrough}
+use Rattle.rq_store.specs.Opening.{opened}
 use Rattle.rq_restart.specs.Overwritten.{AreKept, NamesFirst}
-use Rattle.rq_restart.specs.Repeating.{AreCounted, Repeats, paged}
-use Rattle.rq_restart.proofs.Begun.{begun_sound, not_begun_shut}
+use Rattle.rq_restart.specs.Repeating.{AreCounted, paged}
+use Rattle.rq_restart.proofs.Begun.{begun_sound}
 use Rattle.rq_restart.proofs.Restarts.{beyond_shut}
 use Rattle.rq_restart.proofs.restart.go_on.Goals as goal
 
@@ -19,7 +18,7 @@ returns-in-Ok-begin_next-clause-sound g c = λ first before left.
     let all = made.repeated in
     let pool : IsPool z new.images = subst (λ (y : Sizes). IsPool y new.images) made.sizes made.pool in
     subst (λ l. IsSound (opened z new.images l)) (ap (drop 1) (sym all.begun))
-    (begun_sound z first (paged new) new.images older all.mended refl pool all.mends (all.recovered first before left) (all.repeated first before) left)
+    (begun_sound z first (paged new) new.images older all.mended refl pool all.mends.is (all.recovered first before left) (all.repeated first before) left)
 
 pub returns-in-Ok-begin_next-clause-checked : goal.returns-in-Ok-begin_next-clause-checked
 returns-in-Ok-begin_next-clause-checked g c = λ first before k.
@@ -36,7 +35,8 @@ returns-in-Ok-begin_next-clause-checked g c = λ first before k.
             counted = subst (λ m. AreCounted z m (paged c.args.pages.now)) n c.in-Ok.ensures.counted;
           },
         );
-        mends = all.mends;
+        mends = all.mends.is;
+        planned = all.mends.planned first before;
         repeated = all.repeated first before;
         linked = all.linked;
         recovered = all.recovered first before;

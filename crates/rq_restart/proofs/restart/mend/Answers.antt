@@ -1,23 +1,23 @@
 use Rattle.std.proofs.Common.{rules, subst, ap, sym, ◌∙◌, length}
 use Rattle.rq_undone.specs.Analysis.{Analysis}
 use Rattle.rq_pool.specs.Pooled.{IsPool}
-use Rattle.rq_restart.specs.Aborting.{AbortStops, AbortsBehind, HasGoneOn, IsAborting, IsShown}
+use Rattle.rq_restart.specs.Aborting.{AbortStops, AbortsFrom, HasGoneOn, IsAbortingFrom, IsShown}
 use Rattle.rq_restart.specs.Mended.{MendStops}
 use Rattle.rq_restart.specs.Repeating.{AreCounted, Paged, Repeats, paged}
-use Rattle.rq_restart.proofs.Mending.{abort_mends_not, recovered_is, undo_mends_not, undone_working}
+use Rattle.rq_restart.proofs.Mending.{abort_mends_not, mended_since, recovered_is, undo_mends_not, undone_working}
 use Rattle.rq_restart.proofs.restart.mend.Goals as goal
 
 pub returns-clause-mends : goal.returns-clause-mends
 returns-clause-mends g c =
     let undo = c.in_ok-undo_unfinished.ensures in
     let abort = c.in_ok-abort_lost.ensures in
-    record {
-      undone = c.undo_unfinished.new.log.records;
-      undoes = undo.undone;
-      aborting = abort.gone_on.aborting;
-      ended = abort.ended;
-      none_lost = λ e. (abort.none (undone_working c.args.log.now.records c.undo_unfinished.new.log.records undo.undone ∙ e)).0;
-    }
+    let z = c.args.pages.now.sizes in
+    let undone = c.undo_unfinished.new.log.records in
+    let mid = c.undo_unfinished.new.pages in
+    let now = c.abort_lost.new.log.records in
+    let new = c.abort_lost.new.pages in
+    let gone : HasGoneOn z (AbortsFrom z undone mid now) undone now mid new (IsShown undone mid) (IsShown now new) = subst (λ y. HasGoneOn y (AbortsFrom y undone mid now) undone now mid new (IsShown undone mid) (IsShown now new)) undo.sizes abort.gone_on in
+    mended_since z c.args.log.now.records undone now (paged c.args.pages.now) (paged mid) undo.undone gone.aborting abort.ended (λ e. (abort.none (undone_working c.args.log.now.records undone undo.undone ∙ e)).0) undo.repeated
 
 pub returns-clause-repeated : goal.returns-clause-repeated
 returns-clause-repeated g c = λ first before.
@@ -43,7 +43,7 @@ returns-clause-recovered g c = λ first before left.
     let now = c.abort_lost.new.log.records in
     let new = c.abort_lost.new.pages in
     let pool : IsPool z mid.images = subst (λ y. IsPool y mid.images) undo.sizes undo.pool in
-    let gone : HasGoneOn z (AbortsBehind undone now) undone now mid new (IsShown undone mid) (IsShown now new) = subst (λ y. HasGoneOn y (AbortsBehind undone now) undone now mid new (IsShown undone mid) (IsShown now new)) undo.sizes abort.gone_on in
+    let gone : HasGoneOn z (AbortsFrom z undone mid now) undone now mid new (IsShown undone mid) (IsShown now new) = subst (λ y. HasGoneOn y (AbortsFrom y undone mid now) undone now mid new (IsShown undone mid) (IsShown now new)) undo.sizes abort.gone_on in
     recovered_is z c.args.log.now.records undone mid undo.undone pool first left (undo.repeated first before) now new gone abort.ended (λ e. (abort.none e).0)
 
 pub returns-clause-lost : goal.returns-clause-lost
@@ -69,7 +69,7 @@ returns-in_err-abort_lost-clause-stops g c =
     let mid = c.undo_unfinished.new.pages in
     let e = c.in_err-abort_lost.field-0.0 in
     let pool : IsPool z mid.images = subst (λ y. IsPool y mid.images) undo.sizes undo.pool in
-    let stops : AbortStops z (IsAborting undone) undone mid (IsShown undone mid) e = subst (λ y. AbortStops y (IsAborting undone) undone mid (IsShown undone mid) e) undo.sizes c.in_err-abort_lost.ensures.stops in
+    let stops : AbortStops z (IsAbortingFrom z undone mid) undone mid (IsShown undone mid) e = subst (λ y. AbortStops y (IsAbortingFrom y undone mid) undone mid (IsShown undone mid) e) undo.sizes c.in_err-abort_lost.ensures.stops in
     let h : (first : Paged) → Repeats z log first (paged c.args.pages.now) → MendStops z log first e =
     λ first before. abort_mends_not z log undone mid undo.undone pool c.in_err-abort_lost.ensures.some first (undo.repeated first before) e stops in
     search (rules, h)

@@ -1,0 +1,82 @@
+-- What takes back a deed where nothing is under way, by what the slots hold.
+use Rattle.std.specs.Prelude.{◌≡◌, ℕ, ◌<◌, true, [], Option, Some, Result, IfOk, IfErr, IfSome}
+use Rattle.rq_model.specs.declared.record.Deed.{Deed}
+use Rattle.rq_model.specs.declared.record.Deed.TheVariants.{Append, UnlinkHead, Close}
+use Rattle.rq_model.specs.declared.record.Record.{Record}
+use Rattle.rq_model.specs.declared.refusal.Refusal.{Refusal}
+use Rattle.rq_model.specs.declared.refusal.Refusal.TheVariants as why
+use Rattle.rq_page.specs.declared.cell.Cell.{Cell}
+use Rattle.rq_page.specs.declared.directory.Directory.{Directory}
+use Rattle.rq_page.specs.Sizes.{Sizes, IsCellAddress, directory_at, sender_count}
+use Rattle.rq_page.specs.Slots.Slot.{Free, Used, Sender}
+use Rattle.rq_views.specs.Log.{Slots}
+use Rattle.rq_views.specs.Plans.Turn.{Undid}
+use Rattle.rq_level.specs.declared.writes.Plan.{Plan}
+use Rattle.rq_level.specs.Writes.{AreSlotWrites}
+use Rattle.rq_store.specs.Plans.{Stands_at}
+use Rattle.rq_sound.specs.Plans.{IsPlannedFrom}
+use Rattle.rq_inverses.specs.Inverses.{InverseTakesLowest}
+use Rattle.rq_planner.specs.Asked.{Asked, undone_by}
+use Rattle.rq_planner.specs.Asked.Asked.{Undo}
+
+-- of the messages that were sent for a group, the last has this number, and stands at the end of its chain
+pub record SentLast (z : Sizes) (q : Slots) (g n : ℕ) : Type 0 where
+  pub below : g < sender_count z
+  pub directory : Directory
+  pub directory_is : q (directory_at g) ≡ Sender g directory
+  pub some : directory.received < directory.sent
+  pub sequence : directory.sent ≡ n
+  pub cell : Cell
+  pub tail_is : q directory.tail ≡ Used cell
+  pub last : cell.sequence ≡ n
+  pub front : Option Cell
+  pub beside : Stands_at q cell.prev front
+
+-- of those that were received of it, the last has this number, and there is a cell to put it back into
+pub record TakenLast (z : Sizes) (q : Slots) (g n : ℕ) : Type 0 where
+  pub below : g < sender_count z
+  pub directory : Directory
+  pub directory_is : q (directory_at g) ≡ Sender g directory
+  pub some : 0 < directory.received
+  pub sequence : directory.received ≡ n
+  pub old : Option Cell
+  pub beside : Stands_at q directory.head old
+  pub cell : ℕ
+  pub is_cell : IsCellAddress z cell
+  pub free : q cell ≡ Free
+
+-- the group is closed
+pub record IsShut (z : Sizes) (q : Slots) (g : ℕ) : Type 0 where
+  pub below : g < sender_count z
+  pub directory : Directory
+  pub directory_is : q (directory_at g) ≡ Sender g directory
+  pub closed : directory.closed ≡ true
+
+-- The slots hold what the inverse of a deed needs: it was done last at its end of its group.
+abbrev pub CanBeTakenBack : Sizes → Slots → Deed → Type 0
+CanBeTakenBack z q (Append g n tag previous body) = SentLast z q g n
+CanBeTakenBack z q (UnlinkHead g n tag body) = TakenLast z q g n
+CanBeTakenBack z q (Close g) = IsShut z q g
+
+-- none is refused but for memory where it is so
+abbrev pub IsRefusedBack : Sizes → Slots → Option Asked → Refusal → Type 0
+IsRefusedBack z q asked r = (d : Deed) → asked ≡ Some (Undo d) → CanBeTakenBack z q d → r ≡ why.NoMemory
+
+-- what is planned to be taken back can be
+abbrev pub IsOfWhatCan : Sizes → Slots → Option Asked → Type 0
+IsOfWhatCan z q asked = (d : Deed) → asked ≡ Some (Undo d) → CanBeTakenBack z q d
+
+-- a deed has a plan only where the slots hold what its inverse needs, and is refused otherwise alone, but for memory
+pub record IsJudgedBack (z : Sizes) (q : Slots) (asked : Option Asked) (answer : Result (Option Plan) Refusal) : Type 0 where
+  pub can : IfOk answer (λ found. IfSome found (λ p. IsOfWhatCan z q asked))
+  pub refused : IfErr answer (λ r. IsRefusedBack z q asked r)
+
+-- The plan of what takes back the operation whose end the record is, over the slots as they are, into the lowest free cell
+-- where it puts a message back.
+pub record IsTakingBack (z : Sizes) (q : Slots) (told : Record) (p : Plan) : Type 0 where
+  pub deed : Deed
+  pub reads : undone_by told ≡ Some (Undo deed)
+  pub can : CanBeTakenBack z q deed
+  pub planned : IsPlannedFrom z q p.writes.items (Undid deed)
+  pub slots : AreSlotWrites z p.writes.items
+  pub lowest : InverseTakesLowest z q [] deed p.writes.items
