@@ -104,6 +104,11 @@ impl Switch {
         self.next_of(kind).store(code, Ordering::SeqCst);
     }
 
+    /// Whether the next device call of this kind meets what was armed for its kind.
+    pub fn is_armed(&self, kind: CallKind) -> bool {
+        self.next_of(kind).load(Ordering::SeqCst) != 0
+    }
+
     /// Whether a call has met a stop since the last reset.
     pub fn is_stopped(&self) -> bool {
         self.armed.stopped.load(Ordering::SeqCst) != 0

@@ -350,8 +350,11 @@ impl Script {
     }
 
     // Opens the store after a crash up to the append of its records, and leaves it as the machine does that stops once so
-    // many of them are kept. Where there are no more than that, the store is opened.
+    // many of them are kept. Where there are no more than that, or where that append shall fail, the store is opened.
     fn stop_in_restart(&mut self, pages: MemPages, log: MemLog, kept: u64) -> Told {
+        if self.switch.is_armed(CallKind::Write) {
+            return self.open_again(pages, log);
+        }
         let before = log.records();
         self.switch.arm_kind(CallKind::Write, Mishap::Stop);
         let restarted = restart(self.alloc, pages, log);
