@@ -14,6 +14,7 @@ use crate::tally::Tally;
 use crate::threads::share;
 use rq_disk::{LogDevice, MemLog, MemPages, PageDevice};
 use rq_engine::engine::Engine;
+use rq_levels::StoreLevel;
 use rq_shared::kept::Kept;
 use rq_workers::kept::KeptSteps;
 use std::alloc::Global;
@@ -79,10 +80,10 @@ fn by_one<R: Wait>(rt: &R, alloc: Global, batches: u32) -> Option<Tally> {
 fn batches_of<P: PageDevice + Drop, L: LogDevice + Drop, R: Wait>(
     rt: &R,
     alloc: Global,
-    steps: KeptSteps<P, L>,
+    steps: KeptSteps<P, L, StoreLevel>,
     sender: u32,
     batches: u32,
-) -> Option<(KeptSteps<P, L>, Tally)> {
+) -> Option<(KeptSteps<P, L, StoreLevel>, Tally)> {
     let mut steps = steps;
     let mut tally = Tally::none();
     for _ in 0..batches {
@@ -95,8 +96,8 @@ fn batches_of<P: PageDevice + Drop, L: LogDevice + Drop, R: Wait>(
 
 // What the calls come to whose entries are in the audit, which is taken.
 fn counted<P: PageDevice + Drop, L: LogDevice + Drop>(
-    steps: KeptSteps<P, L>,
-) -> (KeptSteps<P, L>, Tally) {
+    steps: KeptSteps<P, L, StoreLevel>,
+) -> (KeptSteps<P, L, StoreLevel>, Tally) {
     let mut kept = steps.into_kept();
     let tally = Tally::of(kept.take().entries());
     (KeptSteps::new(kept, 1), tally)

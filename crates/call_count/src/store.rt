@@ -2,13 +2,14 @@
 use crate::rounds::CALLERS;
 use rq_disk::{MemLog, MemPages, Switch};
 use rq_engine::engine::Engine;
+use rq_levels::{StoreLevel, levels_of_store};
 use rq_page::layout::Layout;
 use rq_restart::format::format;
 use rq_restart::restart::restart;
 use std::alloc::Global;
 
 /// A store over devices in memory, formatted and opened, with a directory page and a cell page for each caller.
-pub fn small_engine(alloc: Global) -> Option<Engine<MemPages, MemLog>> {
+pub fn small_engine(alloc: Global) -> Option<Engine<MemPages, MemLog, StoreLevel>> {
     let layout = Layout::new(CALLERS, CALLERS)?;
     let switch = Switch::new(alloc).ok()?;
     let for_log = switch.share().ok()?;
@@ -17,7 +18,8 @@ pub fn small_engine(alloc: Global) -> Option<Engine<MemPages, MemLog>> {
     if format(&mut pages, &layout).is_err() {
         return None;
     }
-    match restart(alloc, pages, log) {
+    let levels = levels_of_store(alloc).ok()?;
+    match restart(alloc, pages, log, levels) {
         Ok((engine, _)) => Some(engine),
         Err(_) => None,
     }

@@ -6,6 +6,7 @@ use crate::rounds::{batch, sender_of};
 use crate::tally::Tally;
 use rq_disk::{LogDevice, PageDevice};
 use rq_engine::engine::Engine;
+use rq_levels::StoreLevel;
 use rq_shared::mark::{Mark, MarkPass};
 use rq_shared::room::Pass;
 use rq_shared::shared::{Front, Shared};
@@ -38,7 +39,7 @@ type Both = (Option<Tally>, Option<Tally>);
 fn work<P: PageDevice + Drop, L: LogDevice + Drop, G: Sharing, R: Wait>(
     rt: &R,
     alloc: Global,
-    front: &Front<P, L, G>,
+    front: &Front<P, L, StoreLevel, G>,
     own: Own<G>,
     common: &Common,
 ) -> Option<Tally>
@@ -63,7 +64,7 @@ fn two<
 >(
     rt: &R,
     alloc: Global,
-    front: &Front<P, L, G>,
+    front: &Front<P, L, StoreLevel, G>,
     one: Own<G>,
     other: Own<G>,
     common: &Common,
@@ -97,7 +98,7 @@ fn four<
 >(
     rt: &R,
     alloc: Global,
-    front: &Front<P, L, G>,
+    front: &Front<P, L, StoreLevel, G>,
     first: Pair<G>,
     second: Pair<G>,
     common: &Common,
@@ -125,7 +126,7 @@ pub fn share<
 >(
     rt: &R,
     alloc: Global,
-    engine: Engine<P, L>,
+    engine: Engine<P, L, StoreLevel>,
     blank: Blank,
     taking: Blank,
     batches: u32,
@@ -151,7 +152,7 @@ pub fn share<
 
 // A pass, a seat at the mark, and a sender.
 fn own_of<P: PageDevice + Drop, L: LogDevice + Drop, G: Sharing>(
-    shared: &mut Shared<P, L, G>,
+    shared: &mut Shared<P, L, StoreLevel, G>,
     mark: &Mark,
     seat: &mut MarkPass,
     sender: u32,

@@ -1,13 +1,14 @@
 //! The store that is called.
 use rq_disk::{MemLog, MemPages, Switch};
 use rq_engine::engine::Engine;
+use rq_levels::{StoreLevel, levels_of_store};
 use rq_page::layout::Layout;
 use rq_restart::format::format;
 use rq_restart::restart::restart;
 use std::alloc::Global;
 
 /// An engine over devices in memory.
-pub type Store = Engine<MemPages, MemLog>;
+pub type Store = Engine<MemPages, MemLog, StoreLevel>;
 
 /// A store of this layout, formatted and opened.
 pub fn new_engine(alloc: Global, layout: Layout) -> Option<Store> {
@@ -18,7 +19,8 @@ pub fn new_engine(alloc: Global, layout: Layout) -> Option<Store> {
     if format(&mut pages, &layout).is_err() {
         return None;
     }
-    match restart(alloc, pages, log) {
+    let levels = levels_of_store(alloc).ok()?;
+    match restart(alloc, pages, log, levels) {
         Ok((engine, _)) => Some(engine),
         Err(_) => None,
     }

@@ -11,6 +11,7 @@ use crate::words::Words;
 use rq_disk::{FileLog, FilePages, Unknown};
 use rq_engine::engine::Engine;
 use rq_files::{format_folder, open_folder};
+use rq_levels::{StoreLevel, levels_of_store};
 use rq_page::layout::Layout;
 use rq_restart::restart::{Report, restart};
 use std::fs::File;
@@ -20,7 +21,7 @@ use std::process::ExitCode;
 use std::rt::{Env, Files};
 
 /// An engine over files.
-type Store = Engine<FilePages<Unknown>, FileLog<Unknown>>;
+type Store = Engine<FilePages<Unknown>, FileLog<Unknown>, StoreLevel>;
 
 fn main(rt: HostRuntime) -> ExitCode {
     match run(&rt) {
@@ -77,7 +78,8 @@ fn opened<R: AllocGlobal + Files<File = File>>(
     folder: &str,
 ) -> io::Result<(Store, Report)> {
     let (pages, log) = open_folder(rt, folder, Unknown)?;
-    match restart(rt.alloc(), pages, log) {
+    let levels = levels_of_store(rt.alloc()).map_err(|_| io::ErrorKind::OutOfMemory)?;
+    match restart(rt.alloc(), pages, log, levels) {
         Ok(opened) => Ok(opened),
         Err(_) => Err(io::ErrorKind::Other.into()),
     }

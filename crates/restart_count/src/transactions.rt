@@ -2,6 +2,7 @@
 use rq_disk::{LogDevice, PageDevice};
 use rq_engine::engine::Engine;
 use rq_engine::event::Progress;
+use rq_levels::StoreLevel;
 use rq_model::txn::Sub;
 
 /// More than the steps that an operation has.
@@ -12,7 +13,7 @@ const MESSAGES_A_FORCE: u32 = 256;
 
 /// Sends and receives so many messages, each by a transaction of its own, by all senders in turn, and forces them.
 pub fn exchange<P: PageDevice, L: LogDevice>(
-    engine: &mut Engine<P, L>,
+    engine: &mut Engine<P, L, StoreLevel>,
     senders: u32,
     messages: u32,
 ) -> Option<()> {
@@ -26,7 +27,7 @@ pub fn exchange<P: PageDevice, L: LogDevice>(
     force(engine)
 }
 
-fn send<P: PageDevice, L: LogDevice>(engine: &mut Engine<P, L>, sender: u32) -> Option<()> {
+fn send<P: PageDevice, L: LogDevice>(engine: &mut Engine<P, L, StoreLevel>, sender: u32) -> Option<()> {
     let txn = engine.begin().ok()?;
     let sub = engine.start_send(txn, sender, 1, &[120; 200]).ok()?;
     finish(engine, sub)?;
@@ -34,7 +35,7 @@ fn send<P: PageDevice, L: LogDevice>(engine: &mut Engine<P, L>, sender: u32) -> 
     Some(())
 }
 
-fn receive<P: PageDevice, L: LogDevice>(engine: &mut Engine<P, L>) -> Option<()> {
+fn receive<P: PageDevice, L: LogDevice>(engine: &mut Engine<P, L, StoreLevel>) -> Option<()> {
     let txn = engine.begin().ok()?;
     let sub = engine.start_receive(txn).ok()??;
     finish(engine, sub)?;
@@ -43,7 +44,7 @@ fn receive<P: PageDevice, L: LogDevice>(engine: &mut Engine<P, L>) -> Option<()>
 }
 
 // Makes the steps of an operation, and finishes it.
-fn finish<P: PageDevice, L: LogDevice>(engine: &mut Engine<P, L>, sub: Sub) -> Option<()> {
+fn finish<P: PageDevice, L: LogDevice>(engine: &mut Engine<P, L, StoreLevel>, sub: Sub) -> Option<()> {
     for _ in 0..STEPS {
         if is_ready(engine, sub)? {
             break;
@@ -54,7 +55,7 @@ fn finish<P: PageDevice, L: LogDevice>(engine: &mut Engine<P, L>, sub: Sub) -> O
 }
 
 // Makes the next step of an operation. Whether none is left.
-fn is_ready<P: PageDevice, L: LogDevice>(engine: &mut Engine<P, L>, sub: Sub) -> Option<bool> {
+fn is_ready<P: PageDevice, L: LogDevice>(engine: &mut Engine<P, L, StoreLevel>, sub: Sub) -> Option<bool> {
     match engine.step(sub) {
         Ok(Progress::Ready) => Some(true),
         Ok(Progress::Done(_)) => Some(false),
@@ -62,7 +63,7 @@ fn is_ready<P: PageDevice, L: LogDevice>(engine: &mut Engine<P, L>, sub: Sub) ->
     }
 }
 
-fn force<P: PageDevice, L: LogDevice>(engine: &mut Engine<P, L>) -> Option<()> {
+fn force<P: PageDevice, L: LogDevice>(engine: &mut Engine<P, L, StoreLevel>) -> Option<()> {
     engine.force().ok()?;
     Some(())
 }

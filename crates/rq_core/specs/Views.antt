@@ -52,6 +52,6 @@ commit_told _ = None
 abbrev pub course : List Happening → List Entry → Course
 course xs es = course_of (map happens xs) (map answer_in es)
 
-abbrev pub world_of : Store → World MemPages MemLog
+abbrev pub world_of : {B : Type 0} → Store B → World MemPages MemLog
 world_of (store.Shut pages log) = Is_shut pages log
 world_of (store.Open engine) = Is_open engine

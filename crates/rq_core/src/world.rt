@@ -16,12 +16,14 @@ use crate::happening::{Choice, Entry, Happening};
 use rq_disk::{MemLog, MemPages, Mishap, PageChoice, Switch};
 use rq_engine::engine::Engine;
 use rq_engine::event::{CommitNo, Event, Reply};
+use rq_level::Level;
 use rq_model::laws::{
     acknowledged_stay, crash_goes_on, first_in_first_out, restart_goes_on, shut_crash_goes_on,
     still_store_refuses,
 };
 use rq_model::refusal::Refusal;
 use rq_page::layout::Layout;
+use rq_planner::StoreLevels;
 use rq_restart::format::format;
 use rq_restart::laws::{one_log, one_size, records_are_the_log};
 use rq_restart::restart::{Report, Stopped, restart};
@@ -58,9 +60,9 @@ pub struct Outcome {
 }
 
 #[derive(Drop)]
-enum Store {
+enum Store<B: Level> {
     Shut(MemPages, MemLog),
-    Open(Engine<MemPages, MemLog>),
+    Open(Engine<MemPages, MemLog, B>),
 }
 
 impl World {
@@ -88,11 +90,16 @@ impl World {
 
     /// All of this happens to the store, one after the other. There is an entry for each, in order; what they
     /// tell is a history in which each reply is legal, each crash keeps what it must, and each restart opens
-    /// what was left; and whatever a crash at its end leaves is a store with exactly what is committed.
+    /// what was left; and whatever a crash at its end leaves is a store with exactly what is committed. Each restart of a
+    /// store that is not open takes the last of the sets of levels; those that are left over are dropped.
     ///
     /// # Errors
-    /// Where memory is wanting.
-    pub fn run(self, happenings: &[Happening]) -> Result<Outcome, AllocError>
+    /// Where memory is wanting, or no set of levels is left for a restart.
+    pub fn run<B: Level>(
+        self,
+        happenings: &[Happening],
+        mut sets: Vec<StoreLevels<B>>,
+    ) -> Result<Outcome, AllocError>
         ensures each { IfOk result (λ o. length o.entries.items ≡ length happenings.now) }
         ensures headline { IfOk result (λ o. IsHeadline self (course happenings.now o.entries.items) o.pages o.log) }
     {
@@ -106,7 +113,7 @@ impl World {
         let mut entries = Vec::with_capacity(alloc, happenings.len())?;
         let mut store = Store::Shut(pages, log);
         for happening in happenings {
-            let (next, entry) = happen(alloc, &switch, store, happening, &entries)?;
+            let (next, entry) = happen(alloc, &switch, store, happening, &entries, &mut sets)?;
             store = next;
             entries.push(entry)?;
         }
@@ -120,28 +127,31 @@ impl World {
 }
 
 // One happening, after those that were answered so.
-fn happen(
+fn happen<B: Level>(
     alloc: Global,
     switch: &Switch,
-    store: Store,
+    store: Store<B>,
     happening: &Happening,
     entries: &[Entry],
-) -> Result<(Store, Entry), AllocError>
+    sets: &mut Vec<StoreLevels<B>>,
+) -> Result<(Store<B>, Entry), AllocError>
     ensures { IfOk result (λ r. (z : Sizes) (c : Course) → answers_of c ≡ map answer_in entries.now
         → Ran z c (world_of store) → Ran z ((happens happening.now, answer_in r.1) ∷ c) (world_of r.0)) }
 {
     match store {
         Store::Open(engine) => happen_to_open(switch, engine, happening, entries),
-        Store::Shut(pages, log) => happen_to_shut(alloc, switch, pages, log, happening, entries),
+        Store::Shut(pages, log) => {
+            happen_to_shut(alloc, switch, pages, log, happening, entries, sets)
+        }
     }
 }
 
-fn happen_to_open(
+fn happen_to_open<B: Level>(
     switch: &Switch,
-    engine: Engine<MemPages, MemLog>,
+    engine: Engine<MemPages, MemLog, B>,
     happening: &Happening,
     entries: &[Entry],
-) -> Result<(Store, Entry), AllocError>
+) -> Result<(Store<B>, Entry), AllocError>
     ensures { IfOk result (λ r. (z : Sizes) (c : Course) → answers_of c ≡ map answer_in entries.now
         → Ran z c (Is_open engine) → Ran z ((happens happening.now, answer_in r.1) ∷ c) (world_of r.0)) }
 {
@@ -169,14 +179,15 @@ fn happen_to_open(
     }
 }
 
-fn happen_to_shut(
+fn happen_to_shut<B: Level>(
     alloc: Global,
     switch: &Switch,
     pages: MemPages,
     log: MemLog,
     happening: &Happening,
     entries: &[Entry],
-) -> Result<(Store, Entry), AllocError>
+    sets: &mut Vec<StoreLevels<B>>,
+) -> Result<(Store<B>, Entry), AllocError>
     ensures { IfOk result (λ r. (z : Sizes) (c : Course) → answers_of c ≡ map answer_in entries.now
         → Ran z c (Is_shut pages log) → Ran z ((happens happening.now, answer_in r.1) ∷ c) (world_of r.0)) }
 {
@@ -191,16 +202,37 @@ fn happen_to_shut(
             Ok((Store::Shut(pages, log), Entry::Nothing))
         }
         Happening::Crash(_) => Ok(crash_shut(pages, log)),
-        Happening::Restart => Ok(reopen(alloc, pages, log)),
+        Happening::Restart => {
+            let levels = next_set(sets)?;
+            Ok(reopen(alloc, pages, log, levels))
+        }
         Happening::RestartStop(n, choice) => {
             let images = images(choice)?;
-            Ok(reopen_stopped(alloc, switch, pages, log, *n, choice.keep, images))
+            let levels = next_set(sets)?;
+            Ok(reopen_stopped(
+                alloc,
+                switch,
+                pages,
+                log,
+                levels,
+                *n,
+                choice.keep,
+                images,
+            ))
         }
     }
 }
 
+// The levels of the next restart.
+fn next_set<B: Level>(sets: &mut Vec<StoreLevels<B>>) -> Result<StoreLevels<B>, AllocError> {
+    match sets.pop() {
+        Some(levels) => Ok(levels),
+        None => Err(AllocError),
+    }
+}
+
 // The answer to a call of a store that is not open.
-fn not_open(pages: MemPages, log: MemLog) -> (Store, Entry)
+fn not_open<B: Level>(pages: MemPages, log: MemLog) -> (Store<B>, Entry)
     ensures { (call : Call) → GoesOn (Makes call) (Is_shut pages log) (answer_in result.1) (world_of result.0) }
 {
     still_store_refuses();
@@ -211,7 +243,7 @@ fn not_open(pages: MemPages, log: MemLog) -> (Store, Entry)
 }
 
 // The power fails while the store is not open: all that its devices hold outlives it.
-fn crash_shut(pages: MemPages, log: MemLog) -> (Store, Entry)
+fn crash_shut<B: Level>(pages: MemPages, log: MemLog) -> (Store<B>, Entry)
     ensures { GoesOn (Is Crashes) (Is_shut pages log) (answer_in result.1) (world_of result.0) }
 {
     shut_crash_goes_on();
@@ -219,7 +251,7 @@ fn crash_shut(pages: MemPages, log: MemLog) -> (Store, Entry)
 }
 
 // Makes a call of an open store.
-fn ask(engine: Engine<MemPages, MemLog>, event: &Event) -> (Store, Entry)
+fn ask<B: Level>(engine: Engine<MemPages, MemLog, B>, event: &Event) -> (Store<B>, Entry)
     ensures { GoesOn (Makes (call_of event.now)) (Is_open engine) (answer_in result.1) (world_of result.0) }
 {
     let mut engine = engine;
@@ -228,12 +260,12 @@ fn ask(engine: Engine<MemPages, MemLog>, event: &Event) -> (Store, Entry)
 }
 
 // The power fails. What was not handed over yet may outlive it too, as if it had been.
-fn crash_open(
+fn crash_open<B: Level>(
     switch: &Switch,
-    engine: Engine<MemPages, MemLog>,
+    engine: Engine<MemPages, MemLog, B>,
     keep: u64,
     images: PageChoice,
-) -> (Store, Entry)
+) -> (Store<B>, Entry)
     ensures { GoesOn (Is Crashes) (Is_open engine) (answer_in result.1) (world_of result.0) }
 {
     let mut engine = engine;
@@ -247,14 +279,14 @@ fn crash_open(
 }
 
 // Makes a call; the power fails at its nth device call.
-fn stop_in(
+fn stop_in<B: Level>(
     switch: &Switch,
-    engine: Engine<MemPages, MemLog>,
+    engine: Engine<MemPages, MemLog, B>,
     event: &Event,
     n: u64,
     keep: u64,
     images: PageChoice,
-) -> (Store, Entry)
+) -> (Store<B>, Entry)
     ensures { GoesOn (Is (Stops_in (call_of event.now))) (Is_open engine) (answer_in result.1) (world_of result.0) }
 {
     let mut engine = engine;
@@ -278,10 +310,15 @@ fn is_stopped(switch: &Switch) -> bool {
 }
 
 // Opens the store.
-fn reopen(alloc: Global, pages: MemPages, log: MemLog) -> (Store, Entry)
+fn reopen<B: Level>(
+    alloc: Global,
+    pages: MemPages,
+    log: MemLog,
+    levels: StoreLevels<B>,
+) -> (Store<B>, Entry)
     ensures { GoesOn (Is Restarts) (Is_shut pages log) (answer_in result.1) (world_of result.0) }
 {
-    match try_restart(alloc, pages, log) {
+    match try_restart(alloc, pages, log, levels) {
         Ok((engine, report)) => (Store::Open(engine), Entry::Restarted(report)),
         Err(stopped) => (
             Store::Shut(stopped.pages, stopped.log),
@@ -291,19 +328,20 @@ fn reopen(alloc: Global, pages: MemPages, log: MemLog) -> (Store, Entry)
 }
 
 // Opens the store; the power fails at the nth device call of that.
-fn reopen_stopped(
+fn reopen_stopped<B: Level>(
     alloc: Global,
     switch: &Switch,
     pages: MemPages,
     log: MemLog,
+    levels: StoreLevels<B>,
     n: u64,
     keep: u64,
     images: PageChoice,
-) -> (Store, Entry)
+) -> (Store<B>, Entry)
     ensures { GoesOn (Is Stops_restart) (Is_shut pages log) (answer_in result.1) (world_of result.0) }
 {
     switch.arm_call(n, Mishap::Stop);
-    let restarted = try_restart(alloc, pages, log);
+    let restarted = try_restart(alloc, pages, log, levels);
     let power_failed = is_stopped(switch);
     match restarted {
         Ok((engine, report)) => (Store::Open(engine), Entry::Restarted(report)),
@@ -319,11 +357,12 @@ fn reopen_stopped(
 }
 
 // A restart, as it goes on with whatever led to the store.
-fn try_restart(
+fn try_restart<B: Level>(
     alloc: Global,
     pages: MemPages,
     log: MemLog,
-) -> Result<(Engine<MemPages, MemLog>, Report), Stopped<MemPages, MemLog>>
+    levels: StoreLevels<B>,
+) -> Result<(Engine<MemPages, MemLog, B>, Report), Stopped<MemPages, MemLog>>
     ensures opened { IfOk result (λ o. GoesOn MayRestart (Is_shut pages log) (Restarted (report_of o.1))
         (Is_open o.0)) }
     ensures refused { IfErr result (λ s. GoesOnShut pages log s.pages s.log s.refusal) }
@@ -331,11 +370,11 @@ fn try_restart(
     one_log();
     one_size();
     restart_goes_on();
-    restart(alloc, pages, log)
+    restart(alloc, pages, log, levels)
 }
 
 // Both devices as the crash leaves them.
-fn crash(pages: MemPages, log: MemLog, keep: u64, images: PageChoice) -> (Store, Entry)
+fn crash<B: Level>(pages: MemPages, log: MemLog, keep: u64, images: PageChoice) -> (Store<B>, Entry)
     ensures { (z : Sizes) (c : Course) (x : Happens) → CanCrash z c x pages log
         → Ran z ((x, answer_in result.1) ∷ c) (world_of result.0) }
 {
@@ -348,7 +387,7 @@ fn crash(pages: MemPages, log: MemLog, keep: u64, images: PageChoice) -> (Store,
 }
 
 // The devices of a store that is given up.
-fn given_up(store: Store) -> (MemPages, MemLog)
+fn given_up<B: Level>(store: Store<B>) -> (MemPages, MemLog)
     ensures { (z : Sizes) (c : Course) → Ran z c (world_of store) → IsHeadline z c result.0 result.1 }
 {
     first_in_first_out();

@@ -4,6 +4,7 @@ ghost use Rattle.std.specs.Prelude.{◌≤◌, length};
 
 use byteorder::{BigEndian, ByteOrder};
 use rq_disk::{MemLog, MemPages, PAGE, Switch};
+use rq_levels::levels_of_store;
 use rq_model::record::{DeedBytes, Record, SLOT_BYTES, Slot};
 use rq_model::refusal::{Damage, Refusal};
 use rq_model::txn::Txn;
@@ -323,8 +324,11 @@ fn devices(
 
 /// What a restart refuses of these images and bytes; none where it opens the store.
 pub fn refused(alloc: Global, images: &[[u8; PAGE]], log: &[u8]) -> Option<Refusal> {
+    let Ok(levels) = levels_of_store(alloc) else {
+        return Some(Refusal::NoMemory);
+    };
     match devices(alloc, images, log) {
-        Ok((pages, log)) => match restart(alloc, pages, log) {
+        Ok((pages, log)) => match restart(alloc, pages, log, levels) {
             Ok(_) => None,
             Err(stopped) => Some(stopped.refusal),
         },

@@ -12,13 +12,14 @@ ghost use Rattle.rq_engine.specs.Kept.{IsDoneKept};
 
 use crate::engine::Engine;
 use rq_disk::{LogDevice, PageDevice};
+use rq_level::Level;
 use rq_model::record::Record;
 use rq_model::refusal::Refusal;
 use rq_model::txn::Txn;
 use rq_record::spelled_len;
 use rq_txn::Finished;
 
-impl<P: PageDevice, L: LogDevice> Engine<P, L> {
+impl<P: PageDevice, L: LogDevice, B: Level> Engine<P, L, B> {
     /// Has a transaction abort: it does nothing more, and what it did is undone from then on, the newest first. Nothing
     /// is logged. Takes no memory and touches no device.
     ///

@@ -17,10 +17,11 @@ use crate::engine::Engine;
 use crate::event::{Event, Reply};
 use rq_content::{GroupContent, content};
 use rq_disk::{LogDevice, PageDevice};
+use rq_level::Level;
 use rq_model::refusal::Refusal;
 use rq_model::txn::Sub;
 
-impl<P: PageDevice, L: LogDevice> Engine<P, L> {
+impl<P: PageDevice, L: LogDevice, B: Level> Engine<P, L, B> {
     /// The committed content of each sender's group, by rising number.
     ///
     /// # Errors

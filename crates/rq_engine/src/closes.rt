@@ -23,11 +23,11 @@ use crate::starts::MARK_OPERATION;
 use rq_chain::ChainPlan;
 use rq_disk::{LogDevice, PageDevice};
 use rq_groups::End;
-use rq_level::Op;
+use rq_level::{Level, Op};
 use rq_model::refusal::Refusal;
 use rq_model::txn::{Sub, Txn};
 
-impl<P: PageDevice, L: LogDevice> Engine<P, L> {
+impl<P: PageDevice, L: LogDevice, B: Level> Engine<P, L, B> {
     /// Starts to close a sender's group: takes everything that its step and its finish will need. From its finish on the
     /// transaction sends nothing there any more, and from its commit on nobody does. What was sent waits all the same.
     ///

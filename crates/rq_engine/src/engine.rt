@@ -23,9 +23,9 @@ ghost use Rattle.rq_engine.specs.Says.{commit_number, receipt_of};
 
 use crate::event::{CommitNo, Receipt};
 use crate::moves::{add_sends, count_sends, count_takes};
-use rq_chain::ChainLevel;
 use rq_disk::{LogDevice, PageDevice};
 use rq_groups::{Ends, Sent, Waiting};
+use rq_level::Level;
 use rq_log::Log;
 use rq_model::limits::LOG_LIMIT;
 use rq_model::record::Record;
@@ -43,7 +43,7 @@ use std::marker::Model;
 /// that they hold, the images of the pages, the records of the log and how many are forced, whether the store has
 /// failed, and the counts that it keeps.
 #[derive(Drop)]
-pub struct Engine<P: PageDevice, L: LogDevice> {
+pub struct Engine<P: PageDevice, L: LogDevice, B: Level> {
     pub(crate) alloc: Global,
     pub(crate) pages: Pages<P>,
     pub(crate) log: Log<L>,
@@ -61,10 +61,10 @@ pub struct Engine<P: PageDevice, L: LogDevice> {
     /// The records that operations under way have yet to log.
     pub(crate) owed: u64,
     /// What plans its operations, told of each slot that is written.
-    pub(crate) planner: Planner<ChainLevel>,
+    pub(crate) planner: Planner<B>,
 }
 
-impl<P: PageDevice, L: LogDevice> Model for Engine<P, L> {
+impl<P: PageDevice, L: LogDevice, B: Level> Model for Engine<P, L, B> {
     ghost use Rattle.rq_engine.specs.Opened.{OpenStore};
     ghost use Rattle.rq_engine.specs.Kept.{IsEngine};
 
@@ -106,7 +106,7 @@ impl<P: PageDevice, L: LogDevice> Model for Engine<P, L> {
     }) e.log e.owed e.planner };
 }
 
-impl<P: PageDevice + Drop, L: LogDevice + Drop> Engine<P, L> {
+impl<P: PageDevice + Drop, L: LogDevice + Drop, B: Level> Engine<P, L, B> {
     /// The engine of a store whose log ends with the Restart record of this incarnation, with a planner that was told of
     /// each cell.
     pub fn open(
@@ -118,7 +118,7 @@ impl<P: PageDevice + Drop, L: LogDevice + Drop> Engine<P, L> {
         ends: Ends,
         incarnation: u64,
         cells_in_use: u64,
-        planner: Planner<ChainLevel>,
+        planner: Planner<B>,
     ) -> Self
         requires free { ends ≡ record { sending = []; receiving = [] } }
         requires begun { 1 ≤ incarnation }
@@ -193,7 +193,7 @@ impl<P: PageDevice + Drop, L: LogDevice + Drop> Engine<P, L> {
     }
 }
 
-impl<P: PageDevice, L: LogDevice> Engine<P, L> {
+impl<P: PageDevice, L: LogDevice, B: Level> Engine<P, L, B> {
     ghost use Rattle.rq_store.specs.State.{ledger_of, open_ones_of};
     ghost use Rattle.rq_model.specs.Tests.{log_full};
     ghost use Rattle.rq_model.specs.Reference.{IsUnready};

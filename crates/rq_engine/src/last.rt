@@ -8,9 +8,10 @@ ghost use Rattle.rq_engine.specs.Lists.{LastTagSays};
 use crate::engine::Engine;
 use crate::event::LastTag;
 use rq_disk::{LogDevice, PageDevice};
+use rq_level::Level;
 use rq_model::refusal::Refusal;
 
-impl<P: PageDevice, L: LogDevice> Engine<P, L> {
+impl<P: PageDevice, L: LogDevice, B: Level> Engine<P, L, B> {
     /// How many messages of the sender are committed, and the tag of the last one. Neither memory nor a device is
     /// asked.
     ///

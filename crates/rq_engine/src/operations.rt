@@ -18,7 +18,7 @@ use crate::engine::Engine;
 use crate::event::{Outcome, Progress};
 use crate::moves::{cells_given_back, leave_out_taken, put_in_taken};
 use rq_disk::{LogDevice, PageDevice};
-use rq_level::SlotWrite;
+use rq_level::{Level, SlotWrite};
 use rq_model::message::Message;
 use rq_model::record::{Deed, Record};
 use rq_model::refusal::Refusal;
@@ -29,7 +29,7 @@ use rq_txn::{Aim, Finished, Operation};
 /// The level of the chain operations.
 pub(crate) const CHAIN_LEVEL: u8 = 1;
 
-impl<P: PageDevice, L: LogDevice> Engine<P, L> {
+impl<P: PageDevice, L: LogDevice, B: Level> Engine<P, L, B> {
     /// Makes the next slot write of an operation, with its record. Takes no memory and touches no device.
     ///
     /// # Errors

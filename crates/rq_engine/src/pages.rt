@@ -10,10 +10,11 @@ ghost use Rattle.rq_engine.specs.Says.{is_done};
 
 use crate::engine::Engine;
 use rq_disk::{LogDevice, PageDevice};
+use rq_level::Level;
 use rq_model::refusal::Refusal;
 use rq_pool::Written;
 
-impl<P: PageDevice, L: LogDevice> Engine<P, L> {
+impl<P: PageDevice, L: LogDevice, B: Level> Engine<P, L, B> {
     /// Writes a page out to its device, where it has a change that was not written and the record of its last change is
     /// forced. `Nothing` where it has no such change, or the store has no such page. What was written is durable only
     /// after a sync of the device.

@@ -11,12 +11,12 @@ use crate::engine::Engine;
 use crate::starts::room_of;
 use rq_chain::ChainPlan;
 use rq_disk::{LogDevice, PageDevice};
-use rq_level::{Op, Plan};
+use rq_level::{Level, Op, Plan};
 use rq_model::record::Record;
 use rq_model::refusal::{Damage, Refusal};
 use rq_record::decode_deed;
 
-impl<P: PageDevice, L: LogDevice> Engine<P, L> {
+impl<P: PageDevice, L: LogDevice, B: Level> Engine<P, L, B> {
     // The plan of an operation with its deed, and how many bytes its records take in the log; none where it needs a page
     // that others have latched.
     pub(crate) fn plan_deed(&mut self, op: &Op) -> Result<Option<(ChainPlan, usize)>, Refusal>

@@ -23,11 +23,11 @@ use crate::starts::CHAIN_OPERATION;
 use rq_chain::ChainPlan;
 use rq_disk::{LogDevice, PageDevice};
 use rq_groups::End;
-use rq_level::Op;
+use rq_level::{Level, Op};
 use rq_model::refusal::Refusal;
 use rq_model::txn::{Sub, Txn};
 
-impl<P: PageDevice, L: LogDevice> Engine<P, L> {
+impl<P: PageDevice, L: LogDevice, B: Level> Engine<P, L, B> {
     /// Starts a receive from some group that holds a message for the transaction, and takes everything that its steps
     /// and its finish will need. None where no free group holds a message. A group is free where no other transaction
     /// holds its receiving end; it holds a message where more is committed than was taken.

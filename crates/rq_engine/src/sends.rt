@@ -22,12 +22,12 @@ use crate::starts::CHAIN_OPERATION;
 use rq_chain::ChainPlan;
 use rq_disk::{LogDevice, PageDevice};
 use rq_groups::End;
-use rq_level::Op;
+use rq_level::{Level, Op};
 use rq_model::message::Body;
 use rq_model::refusal::Refusal;
 use rq_model::txn::{Sub, Txn};
 
-impl<P: PageDevice, L: LogDevice> Engine<P, L> {
+impl<P: PageDevice, L: LogDevice, B: Level> Engine<P, L, B> {
     /// Starts a send: takes everything that its steps and its finish will need.
     ///
     /// # Errors

@@ -14,6 +14,7 @@ use crate::engine::Engine;
 use rq_chain::ChainPlan;
 use rq_disk::{LogDevice, PageDevice};
 use rq_groups::End;
+use rq_level::Level;
 use rq_model::refusal::Refusal;
 use rq_model::txn::Txn;
 use rq_record::{OP_END_BYTES, PAGE_OP_BYTES, encode_deed};
@@ -37,7 +38,7 @@ pub(crate) fn room_of(plan: &ChainPlan) -> usize
     plan.writes.len() * PAGE_OP_BYTES + end
 }
 
-impl<P: PageDevice, L: LogDevice> Engine<P, L> {
+impl<P: PageDevice, L: LogDevice, B: Level> Engine<P, L, B> {
     // Takes the room of an operation, and then lets it begin.
     pub(crate) fn start(
         &mut self,

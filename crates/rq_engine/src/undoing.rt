@@ -23,7 +23,7 @@ use crate::engine::Engine;
 use crate::operations::CHAIN_LEVEL;
 use crate::starts::{CHAIN_OPERATION, MARK_OPERATION};
 use rq_disk::{LogDevice, PageDevice};
-use rq_level::SlotWrite;
+use rq_level::{Level, SlotWrite};
 use rq_model::record::{Deed, Record};
 use rq_model::refusal::Refusal;
 use rq_model::txn::{Sub, Txn};
@@ -41,7 +41,7 @@ fn undo_records(deed: &Deed) -> u64
     }
 }
 
-impl<P: PageDevice, L: LogDevice> Engine<P, L> {
+impl<P: PageDevice, L: LogDevice, B: Level> Engine<P, L, B> {
     /// Starts to undo what an aborting transaction did last and has not undone: takes everything that the steps and the
     /// finish of the inverse will need. None where nothing is left to undo.
     ///

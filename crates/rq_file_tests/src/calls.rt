@@ -2,6 +2,7 @@
 use rq_disk::{DeviceFailed, LogDevice, PAGE, PageDevice};
 use rq_engine::engine::Engine;
 use rq_engine::event::{Event, Progress, Reply};
+use rq_levels::{StoreLevel, levels_of_store};
 use rq_model::refusal::Refusal;
 use rq_model::txn::Txn;
 use rq_page::layout::Layout;
@@ -26,18 +27,25 @@ pub fn opened<P: PageDevice + Drop, L: LogDevice + Drop>(
     alloc: Global,
     pages: P,
     log: L,
-) -> Result<(Engine<P, L>, Report), Stopped<P, L>> {
-    restart(alloc, pages, log)
+) -> Result<(Engine<P, L, StoreLevel>, Report), Stopped<P, L>> {
+    let Ok(levels) = levels_of_store(alloc) else {
+        return Err(Stopped {
+            refusal: Refusal::NoMemory,
+            pages,
+            log,
+        });
+    };
+    restart(alloc, pages, log, levels)
 }
 
 /// The devices of a store.
-pub fn given_back<P: PageDevice + Drop, L: LogDevice + Drop>(engine: Engine<P, L>) -> (P, L) {
+pub fn given_back<P: PageDevice + Drop, L: LogDevice + Drop>(engine: Engine<P, L, StoreLevel>) -> (P, L) {
     engine.give_back()
 }
 
 /// Makes a call.
 pub fn ask<P: PageDevice + Drop, L: LogDevice + Drop>(
-    engine: &mut Engine<P, L>,
+    engine: &mut Engine<P, L, StoreLevel>,
     event: &Event,
 ) -> Result<Reply, Refusal> {
     match engine.apply(event) {
@@ -48,7 +56,7 @@ pub fn ask<P: PageDevice + Drop, L: LogDevice + Drop>(
 
 /// An operation from its start to its end.
 pub fn carry_out<P: PageDevice + Drop, L: LogDevice + Drop>(
-    engine: &mut Engine<P, L>,
+    engine: &mut Engine<P, L, StoreLevel>,
     start: &Event,
 ) -> Result<Reply, Refusal> {
     let Reply::Started(sub) = ask(engine, start)? else {

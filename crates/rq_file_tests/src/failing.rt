@@ -6,6 +6,7 @@ use rq_content::GroupContent;
 use rq_disk::{FileLog, FilePages, PAGE, Unknown};
 use rq_engine::engine::Engine;
 use rq_engine::event::{CommitNo, Event, Reply};
+use rq_levels::StoreLevel;
 use rq_model::refusal::Refusal;
 use rq_model::txn::Txn;
 use rq_page::layout::Layout;
@@ -21,7 +22,7 @@ type Pages = FilePages<Unknown, Faulty>;
 
 type Log = FileLog<Unknown, Faulty>;
 
-type Store = Engine<Pages, Log>;
+type Store = Engine<Pages, Log, StoreLevel>;
 
 /// A call of a run, of the transaction that was begun last, or for the commit that was made last.
 #[derive(Clone, Copy)]

@@ -9,6 +9,7 @@ use rq_disk::{
 use rq_engine::engine::Engine;
 use rq_engine::event::{Event, Outcome, Reply};
 use rq_files::{format_folder, open_folder};
+use rq_levels::StoreLevel;
 use rq_model::refusal::Refusal;
 use rq_model::txn::Txn;
 use rq_page::layout::Layout;
@@ -39,7 +40,7 @@ fn begun(reply: Reply) -> Result<Txn, Refusal> {
 // A message is sent and committed, the log forced, and both changed pages written.
 fn send_hello<P: PageDevice + Drop, L: LogDevice + Drop>(
     alloc: Global,
-    engine: &mut Engine<P, L>,
+    engine: &mut Engine<P, L, StoreLevel>,
 ) -> Result<(), Refusal> {
     let txn = begun(ask(engine, &Event::Begin)?)?;
     carry_out(engine, &send_of(alloc, txn, 7, b"hello")?)?;

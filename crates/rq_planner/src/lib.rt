@@ -6,11 +6,14 @@
 
 mod deeds;
 mod gathering;
+mod handed;
+mod operations;
 mod planner;
 mod planning;
 mod telling;
 mod worked;
 
+pub use handed::StoreLevels;
 pub use planner::Planner;
 pub use planning::{plan, plan_back};
 pub use telling::{give_back, tell_store};

@@ -5,9 +5,12 @@ ghost use Rattle.rq_level.specs.Kept.{noted};
 ghost use Rattle.rq_planner.specs.Answered.{IsPlanned, KnowsCells};
 ghost use Rattle.rq_planner.specs.Asked.{IsOfStore, asked_by, seen, undone_by};
 ghost use Rattle.rq_planner.specs.Backs.{IsRefusedBack, IsTakingBack};
+ghost use Rattle.rq_planner.specs.Handed.{HasRoom};
 ghost use Rattle.rq_views.specs.Stored.{IsStoreSlot, slots_in};
 
 use crate::deeds::deed_of_store;
+use crate::handed::StoreLevels;
+use crate::operations::Operations;
 use crate::planning::{plan, plan_back};
 use crate::telling::{give_back, tell, tell_store};
 use rq_disk::PageDevice;
@@ -20,35 +23,31 @@ use rq_txn::Transactions;
 use std::alloc::Global;
 use std::marker::Model;
 
-/// A level that plans for a store, with the slots that it is given. Contracts see what the level keeps.
+/// The levels of a store, of which one plans operations, with the slots that it is given. Contracts see what that one keeps.
 ///
 /// What a plan chose is given back as soon as it is planned: from the start of the operation on, the latch of its page
 /// keeps others from choosing it.
 #[derive(Drop)]
 pub struct Planner<B: Level> {
-    level: B,
+    level: Operations<B>,
     slots: Slots,
 }
 
 impl<B: Level> Model for Planner<B> {
-    ghost use Rattle.std.specs.Prelude.{◌≡◌};
     ghost use Rattle.rq_level.specs.Kept.{Kept};
 
     ghost Value = { Kept };
 
-    ghost view = { λ p. B.kept p.level };
-
-    ghost invariant = { λ p. B.level p.level ≡ 1 };
+    ghost view = { λ p. p.level };
 }
 
 impl<B: Level> Planner<B> {
-    /// The level as it is.
-    pub fn new(alloc: Global, level: B) -> Self
-        requires { B.level level ≡ 1 }
-        ensures { result ≡ B.kept level }
+    /// Of these levels, as they are.
+    pub fn new(alloc: Global, levels: StoreLevels<B>) -> Self
+        ensures { HasRoom result }
     {
         Planner {
-            level,
+            level: Operations::new(levels),
             slots: Slots::new(alloc),
         }
     }

@@ -38,15 +38,15 @@ use crate::findings::Findings;
 use crate::redo::{Gone, check_numbers, repeat_history};
 use crate::undoing::undo_unfinished;
 use crate::waiting::{Told, planner_of, told_groups};
-use rq_chain::ChainLevel;
 use rq_disk::{LogDevice, PageDevice};
 use rq_engine::engine::Engine;
+use rq_level::Level;
 use rq_links::first_broken;
 use rq_log::{Log, LogReader};
 use rq_model::limits::LOG_LIMIT;
 use rq_model::record::Record;
 use rq_model::refusal::{Damage, Refusal};
-use rq_planner::Planner;
+use rq_planner::{Planner, StoreLevels};
 use rq_pool::Pages;
 use rq_record::{shows_fits, spelled_len};
 use std::alloc::Global;
@@ -67,12 +67,12 @@ pub struct Report {
 // A store whose log was gone through: its pages, with every slot as the log says, and its log, with the record
 // that begins the incarnation.
 #[derive(Drop)]
-struct Opened<P: PageDevice, L: LogDevice> {
+struct Opened<P: PageDevice, L: LogDevice, B: Level> {
     pages: Pages<P>,
     log: Log<L>,
     // How many cells hold a message.
     cells: u32,
-    told: Told,
+    told: Told<B>,
     report: Report,
 }
 
@@ -86,16 +86,17 @@ pub struct Stopped<P, L> {
 
 /// Opens a store: reads and checks its pages and its log, repeats history on the pages, undoes operations that have no
 /// end by their slots and transactions that have none by inverses, and forces the records of that with the Restart record
-/// of a new incarnation.
+/// of a new incarnation. The levels are dropped where it is refused.
 ///
 /// # Errors
 /// `NoMemory`; `DiskRead` or `DiskWrite` where a device fails, `Damaged` where a page or a record
 /// breaks the format, `LogFull` where there is no room for the records.
-pub fn restart<P: PageDevice + Drop, L: LogDevice + Drop>(
+pub fn restart<P: PageDevice + Drop, L: LogDevice + Drop, B: Level>(
     alloc: Global,
     pages: P,
     log: L,
-) -> Result<(Engine<P, L>, Report), Stopped<P, L>>
+    levels: StoreLevels<B>,
+) -> Result<(Engine<P, L, B>, Report), Stopped<P, L>>
     // What an opened store is, over the log as it was read.
     ensures report { IfOk result (λ o. (older : List Record) → IsReadAs L.LogDevice log o.0.log older
         → Reports o.0.state.sizes older o.0.state.records o.1.incarnation o.1.records o.1.unfinished o.1.lost) }
@@ -142,15 +143,16 @@ pub fn restart<P: PageDevice + Drop, L: LogDevice + Drop>(
         (IsLeftOn P.PageDevice z pages stopped.pages older) z older stopped.refusal (P.faults pages)
         (P.faults stopped.pages) (L.faults log) (L.faults stopped.log)) }
 {
-    reopen(alloc, pages, log)
+    reopen(alloc, pages, log, levels)
 }
 
 // Opens the store; what it says of each device by itself.
-fn reopen<P: PageDevice + Drop, L: LogDevice + Drop>(
+fn reopen<P: PageDevice + Drop, L: LogDevice + Drop, B: Level>(
     alloc: Global,
     pages: P,
     log: L,
-) -> Result<(Engine<P, L>, Report), Stopped<P, L>>
+    levels: StoreLevels<B>,
+) -> Result<(Engine<P, L, B>, Report), Stopped<P, L>>
     // What is opened, over the log as it was read.
     ensures report { IfOk result (λ o. (older : List Record) → IsReadAs L.LogDevice log o.0.log older
         → Reports o.0.state.sizes older o.0.state.records o.1.incarnation o.1.records o.1.unfinished o.1.lost) }
@@ -190,7 +192,7 @@ fn reopen<P: PageDevice + Drop, L: LogDevice + Drop>(
         cells,
         told,
         report,
-    } = open(alloc, pages, log)?;
+    } = open(alloc, pages, log, levels)?;
     let engine = Engine::open(
         alloc,
         pages,
@@ -206,11 +208,12 @@ fn reopen<P: PageDevice + Drop, L: LogDevice + Drop>(
 }
 
 // Goes through the log of a store and begins the next incarnation.
-fn open<P: PageDevice + Drop, L: LogDevice + Drop>(
+fn open<P: PageDevice + Drop, L: LogDevice + Drop, B: Level>(
     alloc: Global,
     pages: P,
     log: L,
-) -> Result<Opened<P, L>, Stopped<P, L>>
+    levels: StoreLevels<B>,
+) -> Result<Opened<P, L, B>, Stopped<P, L>>
     // What is opened, over the log as it was read.
     ensures begun { IfOk result (λ opened. (older : List Record) → IsReadAs L.LogDevice log opened.log.device older
         → IsBegun older opened.log) }
@@ -250,7 +253,7 @@ fn open<P: PageDevice + Drop, L: LogDevice + Drop>(
         (P.faults stopped.pages) (L.faults log) (L.faults stopped.log)) }
 {
     match Pages::load(alloc, pages) {
-        Ok(pages) => restart_log(alloc, pages, log),
+        Ok(pages) => restart_log(alloc, pages, log, levels),
         Err(stopped) => {
             let rq_pool::Stopped { refusal, device } = stopped;
             Err(Stopped {
@@ -263,11 +266,12 @@ fn open<P: PageDevice + Drop, L: LogDevice + Drop>(
 }
 
 // Reads the log, and opens the store whose pages these are.
-fn restart_log<P: PageDevice + Drop, L: LogDevice + Drop>(
+fn restart_log<P: PageDevice + Drop, L: LogDevice + Drop, B: Level>(
     alloc: Global,
     mut pages: Pages<P>,
     log: L,
-) -> Result<Opened<P, L>, Stopped<P, L>>
+    levels: StoreLevels<B>,
+) -> Result<Opened<P, L, B>, Stopped<P, L>>
     // What is opened, over the log as it was read.
     ensures begun { IfOk result (λ opened. (older : List Record) → IsReadAs L.LogDevice log opened.log.device older
         → IsBegun older opened.log) }
@@ -306,7 +310,7 @@ fn restart_log<P: PageDevice + Drop, L: LogDevice + Drop>(
         (L.faults stopped.log)) }
 {
     match go_through(alloc, &mut pages, log) {
-        Ok((mut log, mut gone)) => match go_on(alloc, &mut pages, &mut log, &mut gone) {
+        Ok((mut log, mut gone)) => match go_on(alloc, &mut pages, &mut log, &mut gone, levels) {
             Ok((told, report)) => {
                 let cells = pages.used_cells();
                 Ok(Opened {
@@ -373,12 +377,13 @@ fn go_through<P: PageDevice + Drop, L: LogDevice + Drop>(
 
 // Checks the numbers of the pages, undoes what has no end in the log, which was gone through, and begins the next
 // incarnation. The pages are as it says then. Gives what the directory tells, too.
-fn go_on<P: PageDevice + Drop, L: LogDevice + Drop>(
+fn go_on<P: PageDevice + Drop, L: LogDevice + Drop, B: Level>(
     alloc: Global,
     pages: &mut Pages<P>,
     log: &mut Log<L>,
     gone: &mut Gone,
-) -> Result<(Told, Report), Refusal>
+    levels: StoreLevels<B>,
+) -> Result<(Told<B>, Report), Refusal>
     requires found { AreFindings gone.old.findings log.old.records }
     requires running { log.old.failed ≡ false }
     // What the log comes to.
@@ -415,7 +420,7 @@ fn go_on<P: PageDevice + Drop, L: LogDevice + Drop>(
     ensures cause { OnOk result (L.faults log.new.device ≡ L.faults log.old.device) }
 {
     match check_numbers(pages, &gone.overwritten, log.last()) {
-        Ok(()) => match begin_next(alloc, pages, log, &mut gone.findings) {
+        Ok(()) => match begin_next(alloc, pages, log, &mut gone.findings, levels) {
             Ok(begun) => Ok(begun),
             Err(refusal) => Err(refusal),
         },
@@ -425,12 +430,13 @@ fn go_on<P: PageDevice + Drop, L: LogDevice + Drop>(
 
 // Undoes what has no end in the log, of which these are the findings, and begins the next incarnation. Gives what the
 // directory tells, too.
-fn begin_next<P: PageDevice + Drop, L: LogDevice + Drop>(
+fn begin_next<P: PageDevice + Drop, L: LogDevice + Drop, B: Level>(
     alloc: Global,
     pages: &mut Pages<P>,
     log: &mut Log<L>,
     findings: &mut Findings,
-) -> Result<(Told, Report), Refusal>
+    levels: StoreLevels<B>,
+) -> Result<(Told<B>, Report), Refusal>
     requires found { AreFindings findings.old log.old.records }
     requires running { log.old.failed ≡ false }
     requires counted { AreCounted pages.old.sizes (length log.old.records) (paged pages.old) }
@@ -462,7 +468,7 @@ fn begin_next<P: PageDevice + Drop, L: LogDevice + Drop>(
         (log.new.device ≡ log.old.device)) }
 {
     let unfinished = findings.history.unfinished();
-    let (lost, planner) = mend_whole(alloc, pages, log, findings)?;
+    let (lost, planner) = mend_whole(alloc, pages, log, findings, levels)?;
     let told = told_groups(alloc, pages, planner)?;
     match begin_incarnation(log, findings.history.incarnation(), unfinished, lost) {
         Ok(report) => Ok((told, report)),
@@ -472,12 +478,13 @@ fn begin_next<P: PageDevice + Drop, L: LogDevice + Drop>(
 
 // Undoes what has no end in the log, of which these are the findings, and looks whether the senders' chains are whole then.
 // Gives how many transactions there were, and what plans operations, told of each cell.
-fn mend_whole<P: PageDevice + Drop, L: LogDevice + Drop>(
+fn mend_whole<P: PageDevice + Drop, L: LogDevice + Drop, B: Level>(
     alloc: Global,
     pages: &mut Pages<P>,
     log: &mut Log<L>,
     findings: &mut Findings,
-) -> Result<(u64, Planner<ChainLevel>), Refusal>
+    levels: StoreLevels<B>,
+) -> Result<(u64, Planner<B>), Refusal>
     requires found { AreFindings findings.old log.old.records }
     requires running { log.old.failed ≡ false }
     ensures mends { OnOk result (IsMendedSince pages.old.sizes log.old.records log.new.records (paged pages.old)) }
@@ -500,7 +507,7 @@ fn mend_whole<P: PageDevice + Drop, L: LogDevice + Drop>(
         × (log.new.failed ≡ false) × (log.new.settled ≡ log.old.settled) }
     ensures room { OnOk result (log.new.reserved ≡ log.old.reserved) }
 {
-    let mended = mend(alloc, pages, log, findings)?;
+    let mended = mend(alloc, pages, log, findings, levels)?;
     check_links(alloc, pages)?;
     Ok(mended)
 }
@@ -520,12 +527,13 @@ fn check_links<P: PageDevice>(alloc: Global, pages: &Pages<P>) -> Result<(), Ref
 
 // Undoes what has no end in the log, of which these are the findings: operations, and then transactions. Gives how many
 // of the latter there were, and what plans operations, told of each cell.
-fn mend<P: PageDevice + Drop, L: LogDevice + Drop>(
+fn mend<P: PageDevice + Drop, L: LogDevice + Drop, B: Level>(
     alloc: Global,
     pages: &mut Pages<P>,
     log: &mut Log<L>,
     findings: &mut Findings,
-) -> Result<(u64, Planner<ChainLevel>), Refusal>
+    levels: StoreLevels<B>,
+) -> Result<(u64, Planner<B>), Refusal>
     requires found { AreFindings findings.old log.old.records }
     requires running { log.old.failed ≡ false }
     ensures mends { OnOk result (IsMendedSince pages.old.sizes log.old.records log.new.records (paged pages.old)) }
@@ -548,7 +556,7 @@ fn mend<P: PageDevice + Drop, L: LogDevice + Drop>(
     ensures room { OnOk result (log.new.reserved ≡ log.old.reserved) }
 {
     undo_unfinished(pages, log, findings)?;
-    let mut planner = planner_of(alloc, pages)?;
+    let mut planner = planner_of(alloc, pages, levels);
     let lost = findings.history.working().len() as u64;
     abort_lost(alloc, pages, log, findings, &mut planner)?;
     Ok((lost, planner))

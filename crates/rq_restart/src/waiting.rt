@@ -5,31 +5,31 @@ ghost use Rattle.rq_pool.specs.Pooled.{IsPool};
 ghost use Rattle.rq_store.specs.Opening.{sent_in_slots, waiting_in};
 ghost use Rattle.rq_planner.specs.Answered.{KnowsCells};
 
-use rq_chain::ChainLevel;
 use rq_disk::PageDevice;
 use rq_groups::{Ends, LastTag, Sent, Waiting};
+use rq_level::Level;
 use rq_model::refusal::NoMemory;
-use rq_planner::Planner;
+use rq_planner::{Planner, StoreLevels};
 use rq_pool::Pages;
 use std::alloc::Global;
 
 /// By sender, how many messages wait, and what its sends come to; the ends, of which none is held; and what plans
 /// operations, told of each cell.
 #[derive(Drop)]
-pub(crate) struct Told {
+pub(crate) struct Told<B: Level> {
     pub waiting: Waiting,
     pub sent: Sent,
     pub ends: Ends,
-    pub planner: Planner<ChainLevel>,
+    pub planner: Planner<B>,
     ghost free: { ends ≡ record { sending = []; receiving = [] } },
 }
 
 /// What the directory tells: of each sender those messages wait that were sent and not received.
-pub(crate) fn told_groups<P: PageDevice + Drop>(
+pub(crate) fn told_groups<P: PageDevice + Drop, B: Level>(
     alloc: Global,
     pages: &Pages<P>,
-    planner: Planner<ChainLevel>,
-) -> Result<Told, NoMemory>
+    planner: Planner<B>,
+) -> Result<Told<B>, NoMemory>
     requires { KnowsCells pages.now.sizes pages.now.images planner }
     ensures waiting { IfOk result (λ told. told.waiting ≡ waiting_in pages.now.sizes pages.now.images) }
     ensures sent { IfOk result (λ told. told.sent ≡ sent_in_slots pages.now.sizes pages.now.images) }
@@ -58,15 +58,15 @@ pub(crate) fn told_groups<P: PageDevice + Drop>(
 }
 
 /// What plans operations, told of each cell.
-pub(crate) fn planner_of<P: PageDevice + Drop>(
+pub(crate) fn planner_of<P: PageDevice + Drop, B: Level>(
     alloc: Global,
     pages: &Pages<P>,
-) -> Result<Planner<ChainLevel>, NoMemory>
-    ensures { IfOk result (λ planner. KnowsCells pages.now.sizes pages.now.images planner) }
+    levels: StoreLevels<B>,
+) -> Planner<B>
+    ensures { KnowsCells pages.now.sizes pages.now.images result }
 {
     pages.shows_kept();
-    let level = ChainLevel::new(alloc)?;
-    let mut planner = Planner::new(alloc, level);
+    let mut planner = Planner::new(alloc, levels);
     planner.tell(pages);
-    Ok(planner)
+    planner
 }

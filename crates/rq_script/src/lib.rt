@@ -5,4 +5,4 @@ mod command;
 mod script;
 mod told;
 
-pub use script::run_script;
+pub use script::{run_script, sets_wanted};

@@ -6,9 +6,11 @@ use crate::told::{LINE_ROOM, Told};
 use rq_disk::{CallKind, MemLog, MemPages, Mishap, PageChoice, Switch};
 use rq_engine::engine::Engine;
 use rq_engine::event::{CommitNo, Event, Outcome, Progress, Reply};
+use rq_level::Level;
 use rq_model::refusal::Refusal;
 use rq_model::txn::{Sub, Txn};
 use rq_page::layout::Layout;
+use rq_planner::StoreLevels;
 use rq_restart::format::format;
 use rq_restart::restart::{Report, restart};
 use rq_shared::kept::Kept;
@@ -23,12 +25,15 @@ const PASS: u64 = 1;
 const ATTEMPTS: u32 = 1000;
 
 /// Runs a script to its end, or to a fault, and answers the exit status: 0, or 1 after a fault. What its
-/// commands print is written as they are carried out. A script's refusals are lines like any other.
-pub fn run_script<R: Read, W: Write>(
+/// commands print is written as they are carried out. A script's refusals are lines like any other. The opening takes a set
+/// of levels, the last one that is left, and so does each restart; one that stops may take two. Where none is left,
+/// `fault 1 NoMemory` is printed.
+pub fn run_script<R: Read, W: Write, B: Level>(
     alloc: Global,
     reader: &mut R,
     writer: &mut W,
     layout: Layout,
+    sets: Vec<StoreLevels<B>>,
 ) -> u8
     ensures status { result ≤ 1 }
 {
@@ -37,18 +42,34 @@ pub fn run_script<R: Read, W: Write>(
         let _ = writer.write_all(b"fault input\n");
         return 1;
     }
-    match run_lines(alloc, &input, writer, layout) {
+    match run_lines(alloc, &input, writer, layout, sets) {
         Ok(status) => status,
         Err(_) => 1,
     }
 }
 
+/// How many sets of levels a script may take: one for the opening, one for each line that begins with `restart`, and one
+/// more where a number stands behind that.
+pub fn sets_wanted(script: &[u8]) -> usize {
+    let mut sets: usize = 1;
+    for line in script.split(|byte| *byte == b'\n') {
+        if line.starts_with(b"restart") {
+            sets = sets.saturating_add(1);
+        }
+        if line.starts_with(b"restart ") {
+            sets = sets.saturating_add(1);
+        }
+    }
+    sets
+}
+
 // Opens the store, and carries out the lines.
-fn run_lines<W: Write>(
+fn run_lines<W: Write, B: Level>(
     alloc: Global,
     input: &[u8],
     writer: &mut W,
     layout: Layout,
+    sets: Vec<StoreLevels<B>>,
 ) -> io::Result<u8>
     ensures status { IfOk result (λ status. status ≤ 1) }
 {
@@ -56,7 +77,7 @@ fn run_lines<W: Write>(
         writer.write_all(b"fault 1 NoMemory\n")?;
         return Ok(1);
     };
-    let opened = Script::open(alloc, layout, &mut output);
+    let opened = Script::open(alloc, layout, sets, &mut output);
     writer.write_all(&output)?;
     match opened {
         Some(mut script) => script.run(input, writer, &mut output),
@@ -74,27 +95,34 @@ fn first_line(input: &[u8]) -> (&[u8], &[u8]) {
 
 /// A store: open, or as a crash left it.
 #[derive(Drop)]
-enum Store {
-    Open(Kept<MemPages, MemLog>),
+enum Store<B: Level> {
+    Open(Kept<MemPages, MemLog, B>),
     Crashed { pages: MemPages, log: MemLog },
     Lost,
 }
 
 #[derive(Drop)]
-struct Script {
+struct Script<B: Level> {
     alloc: Global,
     switch: Switch,
-    store: Store,
+    store: Store<B>,
     /// Whether a device write has failed since the store was opened.
     failed: bool,
     /// The commits that this incarnation answered.
     commits: Vec<CommitNo>,
+    /// The sets of levels that are left; each opening takes the last of them.
+    sets: Vec<StoreLevels<B>>,
 }
 
-impl Script {
+impl<B: Level> Script<B> {
     // A formatted store, opened. What that came to is printed.
-    fn open(alloc: Global, layout: Layout, output: &mut Vec<u8>) -> Option<Script> {
-        match Script::formatted(alloc, layout) {
+    fn open(
+        alloc: Global,
+        layout: Layout,
+        sets: Vec<StoreLevels<B>>,
+        output: &mut Vec<u8>,
+    ) -> Option<Script<B>> {
+        match Script::formatted(alloc, layout, sets) {
             Ok((script, report)) => {
                 Told::Restarted(report).print(output);
                 Some(script)
@@ -106,7 +134,11 @@ impl Script {
         }
     }
 
-    fn formatted(alloc: Global, layout: Layout) -> Result<(Script, Report), Refusal> {
+    fn formatted(
+        alloc: Global,
+        layout: Layout,
+        sets: Vec<StoreLevels<B>>,
+    ) -> Result<(Script<B>, Report), Refusal> {
         let Ok((switch, mut pages, log)) = devices(alloc, &layout) else {
             return Err(Refusal::NoMemory);
         };
@@ -117,6 +149,7 @@ impl Script {
             store: Store::Lost,
             failed: false,
             commits: Vec::new(alloc),
+            sets,
         };
         let report = script.reopen(pages, log)?;
         Ok((script, report))
@@ -335,14 +368,17 @@ impl Script {
     }
 
     fn reopen(&mut self, pages: MemPages, log: MemLog) -> Result<Report, Refusal> {
-        match restart(self.alloc, pages, log) {
+        let Some(levels) = self.sets.pop() else {
+            return Err(Refusal::NoMemory);
+        };
+        match restart(self.alloc, pages, log, levels) {
             Ok((engine, report)) => Ok(self.run_on(engine, report)),
             Err(stopped) => Err(stopped.refusal),
         }
     }
 
     // The store is open.
-    fn run_on(&mut self, engine: Engine<MemPages, MemLog>, report: Report) -> Report {
+    fn run_on(&mut self, engine: Engine<MemPages, MemLog, B>, report: Report) -> Report {
         self.store = Store::Open(Kept::new(self.alloc, engine));
         self.commits.clear();
         self.failed = false;
@@ -355,9 +391,12 @@ impl Script {
         if self.switch.is_armed(CallKind::Write) {
             return self.open_again(pages, log);
         }
+        let Some(levels) = self.sets.pop() else {
+            return Told::Fault(Refusal::NoMemory);
+        };
         let before = log.records();
         self.switch.arm_kind(CallKind::Write, Mishap::Stop);
-        let restarted = restart(self.alloc, pages, log);
+        let restarted = restart(self.alloc, pages, log, levels);
         let has_stopped = self.has_stopped();
         match restarted {
             Ok((engine, report)) => Told::Restarted(self.run_on(engine, report)),

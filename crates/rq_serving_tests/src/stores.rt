@@ -1,18 +1,19 @@
 //! A store for tests, and what it holds once a session is over.
 use rq_disk::{CallKind, LogDevice, MemLog, MemPages, Mishap, PageDevice, Switch};
 use rq_engine::engine::Engine;
+use rq_levels::{StoreLevel, levels_of_store};
 use rq_page::layout::Layout;
 use rq_restart::format::format;
 use rq_restart::restart::restart;
 use std::alloc::Global;
 
 /// A store of one directory and one cell page over devices in memory, formatted and opened.
-pub fn small_engine(alloc: Global) -> Result<Engine<MemPages, MemLog>, &'static str> {
+pub fn small_engine(alloc: Global) -> Result<Engine<MemPages, MemLog, StoreLevel>, &'static str> {
     engine_over(alloc, Switch::new(alloc).map_err(|_| "memory")?)
 }
 
 /// Such a store whose next force fails.
-pub fn failing_engine(alloc: Global) -> Result<Engine<MemPages, MemLog>, &'static str> {
+pub fn failing_engine(alloc: Global) -> Result<Engine<MemPages, MemLog, StoreLevel>, &'static str> {
     let switch = Switch::new(alloc).map_err(|_| "memory")?;
     let Ok(for_store) = switch.share() else {
         return Err("memory");
@@ -22,7 +23,7 @@ pub fn failing_engine(alloc: Global) -> Result<Engine<MemPages, MemLog>, &'stati
     Ok(engine)
 }
 
-fn engine_over(alloc: Global, switch: Switch) -> Result<Engine<MemPages, MemLog>, &'static str> {
+fn engine_over(alloc: Global, switch: Switch) -> Result<Engine<MemPages, MemLog, StoreLevel>, &'static str> {
     let layout = Layout::new(1, 1).ok_or("a small store")?;
     let Ok(for_log) = switch.share() else {
         return Err("memory");
@@ -33,7 +34,11 @@ fn engine_over(alloc: Global, switch: Switch) -> Result<Engine<MemPages, MemLog>
     if format(&mut pages, &layout).is_err() {
         return Err("format");
     }
-    match restart(alloc, pages, MemLog::new(alloc, Vec::new(alloc), for_log)) {
+    let Ok(levels) = levels_of_store(alloc) else {
+        return Err("memory");
+    };
+    let log = MemLog::new(alloc, Vec::new(alloc), for_log);
+    match restart(alloc, pages, log, levels) {
         Ok((engine, _)) => Ok(engine),
         Err(_) => Err("restart"),
     }
@@ -41,7 +46,7 @@ fn engine_over(alloc: Global, switch: Switch) -> Result<Engine<MemPages, MemLog>
 
 /// How many messages of the first sender are committed, how many were received, and whether no other sender has any.
 pub fn told<P: PageDevice + Drop, L: LogDevice + Drop>(
-    engine: &Engine<P, L>,
+    engine: &Engine<P, L, StoreLevel>,
 ) -> Option<(u64, u64, bool)> {
     let groups = engine.content().ok()?;
     let mut others = 0u64;

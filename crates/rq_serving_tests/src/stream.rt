@@ -2,6 +2,7 @@
 use crate::stores::{failing_engine, small_engine, told};
 use bytes::BytesMut;
 use rq_disk::{MemLog, MemPages};
+use rq_levels::StoreLevel;
 use rq_model::refusal::NoMemory;
 use rq_model::txn::Lsn;
 use rq_serving::serving::{Came, Serving};
@@ -89,7 +90,7 @@ impl Gate for Open {
     }
 }
 
-type Store = KeptSteps<MemPages, MemLog>;
+type Store = KeptSteps<MemPages, MemLog, StoreLevel>;
 
 /// A connection: its bytes, its session over a store, and what was written to it.
 #[derive(Drop)]

@@ -6,6 +6,7 @@ use Rattle.std.proofs.sync.ledger.Book.TheSendSync as book
 use Rattle.std.specs.declared.sync.ledger.Ledger as ledger
 use Rattle.rq_disk.specs.declared.device.LogDevice as log_device
 use Rattle.rq_disk.specs.declared.device.PageDevice as page_device
+use Rattle.rq_level.specs.declared.level.Level as level
 use Rattle.rq_groups.proofs.changes.Changes.TheLaws.TheKnot as changes
 use Rattle.rq_groups.specs.contracts.Ends as Ends
 use Rattle.rq_log.proofs.past.Past.TheLaws.TheKnot as past
@@ -21,16 +22,16 @@ use Rattle.rq_shared.specs.contracts.shared.Front as Front
 ends_send : IsSend Ends.the_row
 ends_send = search (crosses, changes.crosses, sendable) depth 60 fits 20000
 
-module _ (P L : RattleType) (p : page_device.Ghosts P.Denot) (l : log_device.Ghosts L.Denot) (s : IsSend P) (t : IsSend L) where
-  engine_send : IsSend (Engine.the_row P L p l)
+module _ (P L B : RattleType) (p : page_device.Ghosts P.Denot) (l : log_device.Ghosts L.Denot) (b : level.Ghosts B.Denot) (s : IsSend P) (t : IsSend L) (u : IsSend B) where
+  engine_send : IsSend (Engine.the_row P L B p l b)
   engine_send = search (transactions.the_send, ends_send, crosses, past.crosses, sendable) depth 60 fits 20000
 
-  kept_send : IsSend (Kept.the_row P L p l)
+  kept_send : IsSend (Kept.the_row P L B p l b)
   kept_send = search (engine_send, entry.the_send, crosses, count.crosses, sendable) depth 60 fits 20000
 
   module _ (G : RattleType) (h : sharing.Ghosts G.Denot) (g : ledger.Ghosts G.Denot) where
-    room_send : IsSend (Room.the_row P L G p l h g)
+    room_send : IsSend (Room.the_row P L B G p l b h g)
     room_send = search (kept_send, book.the_send, crosses, sendable) depth 60 fits 20000
 
-    pub front_sync : IsSync (Front.the_row P L G p l h g)
+    pub front_sync : IsSync (Front.the_row P L B G p l b h g)
     front_sync = search (room_send, crosses, sendable) depth 60 fits 20000

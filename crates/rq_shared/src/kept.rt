@@ -11,6 +11,7 @@ use rq_content::GroupContent;
 use rq_disk::{LogDevice, PageDevice};
 use rq_engine::engine::Engine;
 use rq_engine::event::{Event, Reply};
+use rq_level::Level;
 use rq_model::refusal::Refusal;
 use rq_model::txn::Lsn;
 use std::alloc::{AllocError, Global};
@@ -97,17 +98,17 @@ impl Stamped {
 /// entries, and the engine as it was then, with the number of entries taken before: from that one, the entries
 /// replay to the engine.
 #[derive(Drop)]
-pub struct Kept<P: PageDevice, L: LogDevice> {
+pub struct Kept<P: PageDevice, L: LogDevice, B: Level> {
     alloc: Global,
-    engine: Engine<P, L>,
+    engine: Engine<P, L, B>,
     audit: Vec<AuditEntry>,
     // the engine as it was when the audit was last taken
-    base: Snapshot<Engine<P, L>>,
+    base: Snapshot<Engine<P, L, B>>,
     // how many entries were taken before
     taken: Snapshot<Count>,
 }
 
-impl<P: PageDevice, L: LogDevice> Model for Kept<P, L> {
+impl<P: PageDevice, L: LogDevice, B: Level> Model for Kept<P, L, B> {
     ghost use Rattle.rq_shared.specs.Entries.{Audited, Follows, entries};
 
     ghost Value = { Audited P L };
@@ -122,11 +123,11 @@ impl<P: PageDevice, L: LogDevice> Model for Kept<P, L> {
     ghost invariant = { λ k. Follows P.PageDevice L.LogDevice k.base.value (entries k.audit.items) k.engine };
 }
 
-impl<P: PageDevice + Drop, L: LogDevice + Drop> Kept<P, L> {
+impl<P: PageDevice + Drop, L: LogDevice + Drop, B: Level> Kept<P, L, B> {
     ghost use Rattle.rq_shared.specs.Entries.{Follows, OneMore, entries, noted};
 
     /// Keeps an engine. The audit is empty.
-    pub fn new(alloc: Global, engine: Engine<P, L>) -> Self
+    pub fn new(alloc: Global, engine: Engine<P, L, B>) -> Self
         ensures engine { result.engine ≡ engine }
         ensures audit { result.audit ≡ [] }
         ensures base { result.base ≡ engine }
@@ -178,7 +179,7 @@ impl<P: PageDevice + Drop, L: LogDevice + Drop> Kept<P, L> {
 
     /// The engine as it was when the audit was last taken, with the number of entries taken before, and the entries
     /// since, in order: they replay from that engine to the engine as it is. Then nothing is in the audit.
-    pub fn take(&mut self) -> Taken<P, L>
+    pub fn take(&mut self) -> Taken<P, L, B>
         ensures base { (result.base ≡ self.old.base) × (result.before ≡ self.old.taken) }
         ensures entries { result.audit ≡ self.old.audit }
         ensures replays { Follows P.PageDevice L.LogDevice result.base result.audit self.old.engine }
@@ -224,7 +225,7 @@ impl<P: PageDevice + Drop, L: LogDevice + Drop> Kept<P, L> {
     }
 
     /// The engine, as it is.
-    pub fn give_back(self) -> Engine<P, L>
+    pub fn give_back(self) -> Engine<P, L, B>
         ensures { result ≡ self.engine }
     {
         let Kept {
@@ -241,13 +242,13 @@ impl<P: PageDevice + Drop, L: LogDevice + Drop> Kept<P, L> {
 /// What `Kept::take` answers. Contracts see the engine as it was when the audit was taken before, how many entries were
 /// taken until then, and the entries since.
 #[derive(Drop)]
-pub struct Taken<P: PageDevice, L: LogDevice> {
-    base: Snapshot<Engine<P, L>>,
+pub struct Taken<P: PageDevice, L: LogDevice, B: Level> {
+    base: Snapshot<Engine<P, L, B>>,
     before: Snapshot<Count>,
     audit: Vec<AuditEntry>,
 }
 
-impl<P: PageDevice, L: LogDevice> Model for Taken<P, L> {
+impl<P: PageDevice, L: LogDevice, B: Level> Model for Taken<P, L, B> {
     ghost use Rattle.rq_shared.specs.Entries.{TakenAudit, entries};
 
     ghost Value = { TakenAudit P L };
@@ -259,7 +260,7 @@ impl<P: PageDevice, L: LogDevice> Model for Taken<P, L> {
     } };
 }
 
-impl<P: PageDevice, L: LogDevice> Taken<P, L> {
+impl<P: PageDevice, L: LogDevice, B: Level> Taken<P, L, B> {
     ghost use Rattle.rq_shared.specs.Entries.{entries};
 
     /// The entries, in order.

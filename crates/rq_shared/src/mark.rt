@@ -6,6 +6,7 @@ ghost use Rattle.rq_model.specs.Words.{In};
 use crate::kept::Kept;
 use atomic_table::{Play, Seat, Split, Table, TableRule};
 use rq_disk::{LogDevice, PageDevice};
+use rq_level::Level;
 use std::alloc::{AllocError, Global};
 use std::collections::LinkedList;
 use std::marker::Model;
@@ -101,10 +102,10 @@ impl Mark {
     }
 
     /// Publishes the forced number of the engine, whose lock the caller has.
-    pub fn publish<P: PageDevice + Drop, L: LogDevice + Drop>(
+    pub fn publish<P: PageDevice + Drop, L: LogDevice + Drop, B: Level>(
         &self,
         pass: &mut MarkPass,
-        kept: &Kept<P, L>,
+        kept: &Kept<P, L, B>,
     )
         requires { pass.old.table ≡ self.now }
         ensures table { pass.new.table ≡ pass.old.table }

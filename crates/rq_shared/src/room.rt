@@ -9,6 +9,7 @@ use crate::mark::{Mark, MarkPass};
 use crate::sharing::{Sharing, Taking};
 use rq_disk::{LogDevice, PageDevice};
 use rq_engine::event::{Event, Reply};
+use rq_level::Level;
 use rq_model::refusal::Refusal;
 use std::marker::Model;
 use std::sync::ledger::{Book, Share};
@@ -45,13 +46,13 @@ impl<G: Sharing> Pass<G> {
 /// What lies under the lock: the kept engine, how many calls left an entry, those whose entries were taken included, and
 /// how many entries passes took. Contracts see the kept engine.
 #[derive(Drop)]
-pub(crate) struct Room<P: PageDevice, L: LogDevice, G: Sharing> {
-    kept: Kept<P, L>,
+pub(crate) struct Room<P: PageDevice, L: LogDevice, B: Level, G: Sharing> {
+    kept: Kept<P, L, B>,
     calls: Book<G>,
     taken: Book<Taking<G>>,
 }
 
-impl<P: PageDevice, L: LogDevice, G: Sharing> Model for Room<P, L, G> {
+impl<P: PageDevice, L: LogDevice, B: Level, G: Sharing> Model for Room<P, L, B, G> {
     ghost use Rattle.std.specs.Prelude.{◌≡◌, ◌+◌, length};
     ghost use Rattle.rq_shared.specs.Entries.{Audited, BeginsSound};
 
@@ -63,8 +64,8 @@ impl<P: PageDevice, L: LogDevice, G: Sharing> Model for Room<P, L, G> {
         × BeginsSound P.PageDevice L.LogDevice G.premise r.kept };
 }
 
-impl<P: PageDevice + Drop, L: LogDevice + Drop, G: Sharing> Room<P, L, G> {
-    pub(crate) fn new(kept: Kept<P, L>, calls: Book<G>, taken: Book<Taking<G>>) -> Self
+impl<P: PageDevice + Drop, L: LogDevice + Drop, B: Level, G: Sharing> Room<P, L, B, G> {
+    pub(crate) fn new(kept: Kept<P, L, B>, calls: Book<G>, taken: Book<Taking<G>>) -> Self
         requires counted { kept.taken + length kept.audit ≡ calls.total }
         requires taken { kept.taken ≡ taken.total }
         requires sound { BeginsSound P.PageDevice L.LogDevice G.premise kept }
@@ -74,7 +75,7 @@ impl<P: PageDevice + Drop, L: LogDevice + Drop, G: Sharing> Room<P, L, G> {
     }
 
     /// The kept engine. Who has all shares knows how many calls left an entry, and how many entries were taken.
-    pub(crate) fn close(self, all: &mut Share<G>, all_taken: &mut Share<Taking<G>>) -> Kept<P, L>
+    pub(crate) fn close(self, all: &mut Share<G>, all_taken: &mut Share<Taking<G>>) -> Kept<P, L, B>
         requires calls { all.old.parts ≡ G.parts }
         requires taken { all_taken.old.parts ≡ G.parts }
         ensures kept { result ≡ self }
@@ -121,7 +122,7 @@ impl<P: PageDevice + Drop, L: LogDevice + Drop, G: Sharing> Room<P, L, G> {
     }
 
     /// Takes the audit, whose entries the pass counts. The count of calls goes on.
-    pub(crate) fn take(&mut self, pass: &mut Pass<G>) -> Taken<P, L>
+    pub(crate) fn take(&mut self, pass: &mut Pass<G>) -> Taken<P, L, B>
         ensures taken { IsTakenOf P.PageDevice L.LogDevice self.old result }
         ensures counted { CountsTaken pass.old (length result.audit) pass.new }
         ensures sound { BeginsSound P.PageDevice L.LogDevice G.premise self.old }

@@ -16,6 +16,7 @@ use crate::sharing::{Sharing, Taking};
 use rq_disk::{LogDevice, PageDevice};
 use rq_engine::engine::Engine;
 use rq_engine::event::{Event, Receipt};
+use rq_level::Level;
 use std::alloc::Global;
 use std::marker::Model;
 use std::sync::ledger::{Blank, Share};
@@ -27,14 +28,14 @@ pub const PASS_LIMIT: u64 = 1024;
 /// A kept engine that threads call, each under a pass. Contracts see how many passes were given; the shares that were
 /// not given out stand beside the lock.
 #[derive(Drop)]
-pub struct Shared<P: PageDevice, L: LogDevice, G: Sharing> {
-    front: Front<P, L, G>,
+pub struct Shared<P: PageDevice, L: LogDevice, B: Level, G: Sharing> {
+    front: Front<P, L, B, G>,
     rest: Share<G>,
     rest_taken: Share<Taking<G>>,
     given: u64,
 }
 
-impl<P: PageDevice, L: LogDevice, G: Sharing> Model for Shared<P, L, G> {
+impl<P: PageDevice, L: LogDevice, B: Level, G: Sharing> Model for Shared<P, L, B, G> {
     ghost use Rattle.std.specs.Prelude.{◌≡◌, ℕ, ◌+◌};
 
     ghost Value = { ℕ };
@@ -47,20 +48,20 @@ impl<P: PageDevice, L: LogDevice, G: Sharing> Model for Shared<P, L, G> {
 
 /// The lock, which threads borrow.
 #[derive(Drop)]
-pub struct Front<P: PageDevice, L: LogDevice, G: Sharing> {
-    room: Mutex<Room<P, L, G>>,
+pub struct Front<P: PageDevice, L: LogDevice, B: Level, G: Sharing> {
+    room: Mutex<Room<P, L, B, G>>,
 }
 
 /// What is left once all passes are back.
 #[derive(Drop)]
-pub struct Closed<P: PageDevice, L: LogDevice> {
-    pub kept: Kept<P, L>,
+pub struct Closed<P: PageDevice, L: LogDevice, B: Level> {
+    pub kept: Kept<P, L, B>,
 }
 
-impl<P: PageDevice + Drop, L: LogDevice + Drop, G: Sharing> Shared<P, L, G> {
+impl<P: PageDevice + Drop, L: LogDevice + Drop, B: Level, G: Sharing> Shared<P, L, B, G> {
     /// Shares an engine, which under the premise of the sharing is sound, where its devices were honest. No pass is given
     /// out, and the audit is empty. The second ledger counts the entries that are taken.
-    pub fn new(alloc: Global, engine: Engine<P, L>, blank: Blank, taking: Blank) -> Self
+    pub fn new(alloc: Global, engine: Engine<P, L, B>, blank: Blank, taking: Blank) -> Self
         requires name { (blank.name ≡ G.name) × (taking.name ≡ G.taking) }
         requires parts { (blank.parts ≡ G.parts) × (blank.parts ≡ 1024) × (taking.parts ≡ 1024) }
         requires sound { WasSound P.PageDevice L.LogDevice G.premise engine }
@@ -95,7 +96,7 @@ impl<P: PageDevice + Drop, L: LogDevice + Drop, G: Sharing> Shared<P, L, G> {
     }
 
     /// The lock, for threads to share.
-    pub fn front(&self) -> &Front<P, L, G> {
+    pub fn front(&self) -> &Front<P, L, B, G> {
         &self.front
     }
 
@@ -124,7 +125,7 @@ impl<P: PageDevice + Drop, L: LogDevice + Drop, G: Sharing> Shared<P, L, G> {
     /// The entries since the audit was last taken, once the lock is free, as `Kept::take` answers them: they replay
     /// from the engine as it was then, which was sound under the premise of the sharing, where the devices were honest.
     /// Then nothing is in the audit. The pass counts the entries.
-    pub fn take_audit<R: Wait>(&self, rt: &R, pass: &mut Pass<G>) -> Taken<P, L>
+    pub fn take_audit<R: Wait>(&self, rt: &R, pass: &mut Pass<G>) -> Taken<P, L, B>
         ensures taken { IsTaken P.PageDevice L.LogDevice G.premise result }
         ensures counted { CountsTaken pass.old (length result.audit) pass.new }
     {
@@ -135,7 +136,7 @@ impl<P: PageDevice + Drop, L: LogDevice + Drop, G: Sharing> Shared<P, L, G> {
     /// the passes counted calls, and so many were taken as the passes counted of those. Where the devices were honest, the engine with which the audit begins was sound under
     /// the premise of the sharing; and where it was sound, those of the receipts that are handed in whose commit and
     /// acknowledgement the audit has name commits that no crash takes any more.
-    pub fn close(self, passes: Vec<Pass<G>>, receipts: &[Receipt]) -> Closed<P, L>
+    pub fn close(self, passes: Vec<Pass<G>>, receipts: &[Receipt]) -> Closed<P, L, B>
         requires parts { G.parts ≡ 1024 }
         requires all { length passes.items ≡ self }
         ensures count { result.kept.taken + length result.kept.audit ≡ sum_by (λ p. p.calls) passes.items }
@@ -160,7 +161,7 @@ impl<P: PageDevice + Drop, L: LogDevice + Drop, G: Sharing> Shared<P, L, G> {
     }
 }
 
-impl<P: PageDevice + Drop, L: LogDevice + Drop, G: Sharing> Front<P, L, G> {
+impl<P: PageDevice + Drop, L: LogDevice + Drop, B: Level, G: Sharing> Front<P, L, B, G> {
     /// Makes the call that the event stands for, once the lock is free, and answers its stamp. The pass counts it, but
     /// where it is answered `NoMemory`.
     pub fn call<R: Wait>(&self, rt: &R, pass: &mut Pass<G>, event: Event) -> Stamped
@@ -186,7 +187,7 @@ impl<P: PageDevice + Drop, L: LogDevice + Drop, G: Sharing> Front<P, L, G> {
     /// The entries since the audit was last taken, once the lock is free, as `Kept::take` answers them: they replay
     /// from the engine as it was then, which was sound under the premise of the sharing, where the devices were honest.
     /// Then nothing is in the audit. The pass counts the entries.
-    pub fn take_audit<R: Wait>(&self, rt: &R, pass: &mut Pass<G>) -> Taken<P, L>
+    pub fn take_audit<R: Wait>(&self, rt: &R, pass: &mut Pass<G>) -> Taken<P, L, B>
         ensures taken { IsTaken P.PageDevice L.LogDevice G.premise result }
         ensures counted { CountsTaken pass.old (length result.audit) pass.new }
     {

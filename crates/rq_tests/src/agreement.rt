@@ -6,6 +6,7 @@ use crate::calls::{answered, crashed, devices, formatted, given_back, opened};
 use crate::lists;
 use rq_disk::{MemLog, MemPages, PageChoice};
 use rq_engine::event::{CommitNo, Event, Outcome, Progress, Reply};
+use rq_levels::StoreLevel;
 use rq_model::reference::Reference;
 use rq_model::reference::rows::{Act, GroupContent as ListedGroup};
 use rq_model::refusal::Refusal;
@@ -71,7 +72,7 @@ type Answered = (Call, Answer);
 struct Pair {
     alloc: Global,
     /// None where a crash could not be followed by a restart.
-    engine: Option<Kept<MemPages, MemLog>>,
+    engine: Option<Kept<MemPages, MemLog, StoreLevel>>,
     lists: Reference,
     txn: Txn,
     number: Option<CommitNo>,
@@ -399,7 +400,7 @@ fn reopen(
     alloc: Global,
     pages: MemPages,
     log: MemLog,
-) -> Result<(Kept<MemPages, MemLog>, Report), Trouble> {
+) -> Result<(Kept<MemPages, MemLog, StoreLevel>, Report), Trouble> {
     let Stopped {
         refusal,
         pages,

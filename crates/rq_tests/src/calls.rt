@@ -1,6 +1,7 @@
 //! Calls of a store for tests. They promise nothing, so that what makes many of them is checked fast.
 use rq_disk::{CallKind, LogDevice, MemLog, MemPages, Mishap, PageChoice, PageDevice, Switch};
 use rq_engine::event::{Event, Reply};
+use rq_levels::{StoreLevel, levels_of_store};
 use rq_model::refusal::Refusal;
 use rq_page::layout::Layout;
 use rq_restart::format::format;
@@ -26,8 +27,15 @@ pub fn opened<P: PageDevice + Drop, L: LogDevice + Drop>(
     alloc: Global,
     pages: P,
     log: L,
-) -> Result<(Kept<P, L>, Report), Stopped<P, L>> {
-    match restart(alloc, pages, log) {
+) -> Result<(Kept<P, L, StoreLevel>, Report), Stopped<P, L>> {
+    let Ok(levels) = levels_of_store(alloc) else {
+        return Err(Stopped {
+            refusal: Refusal::NoMemory,
+            pages,
+            log,
+        });
+    };
+    match restart(alloc, pages, log, levels) {
         Ok((engine, report)) => Ok((Kept::new(alloc, engine), report)),
         Err(stopped) => Err(stopped),
     }
@@ -35,7 +43,7 @@ pub fn opened<P: PageDevice + Drop, L: LogDevice + Drop>(
 
 /// Makes a call for a pass.
 pub fn answered<P: PageDevice + Drop, L: LogDevice + Drop>(
-    store: &mut Kept<P, L>,
+    store: &mut Kept<P, L, StoreLevel>,
     pass: u64,
     event: Event,
 ) -> Reply {
@@ -43,13 +51,13 @@ pub fn answered<P: PageDevice + Drop, L: LogDevice + Drop>(
 }
 
 /// The devices of a store.
-pub fn given_back<P: PageDevice + Drop, L: LogDevice + Drop>(store: Kept<P, L>) -> (P, L) {
+pub fn given_back<P: PageDevice + Drop, L: LogDevice + Drop>(store: Kept<P, L, StoreLevel>) -> (P, L) {
     store.give_back().give_back()
 }
 
 /// The devices of a store whose buffered records are handed over, which no failure meets.
 pub fn handed_over<P: PageDevice + Drop, L: LogDevice + Drop>(
-    store: Kept<P, L>,
+    store: Kept<P, L, StoreLevel>,
     switch: &Switch,
 ) -> (P, L) {
     let mut engine = store.give_back();
@@ -72,8 +80,9 @@ pub fn stopped(
     log: MemLog,
     keep: u64,
 ) -> Result<(MemPages, MemLog), AllocError> {
+    let levels = levels_of_store(alloc)?;
     switch.arm_kind(CallKind::Write, Mishap::Stop);
-    let restarted = restart(alloc, pages, log);
+    let restarted = restart(alloc, pages, log, levels);
     let stops = has_stopped(switch);
     match restarted {
         Err(stopped) if stops => {

@@ -4,6 +4,7 @@ use crate::calls::{answered, crashed, devices, formatted, handed_over, opened};
 use rq_content::GroupContent;
 use rq_disk::{MemLog, MemPages, Mishap, PageChoice, Switch};
 use rq_engine::event::{CommitNo, Event, Outcome, Progress, Reply};
+use rq_levels::StoreLevel;
 use rq_model::refusal::Refusal;
 use rq_model::txn::{Sub, Txn};
 use rq_page::layout::Layout;
@@ -15,7 +16,7 @@ use std::test::Fail;
 /// Why a run ends that should not.
 type Trouble = &'static str;
 
-type Store = Kept<MemPages, MemLog>;
+type Store = Kept<MemPages, MemLog, StoreLevel>;
 
 /// A call of a run, of the transaction that was begun last or named since, for the first sender, or for the commit that
 /// was made last.

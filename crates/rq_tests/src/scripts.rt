@@ -1,6 +1,7 @@
 //! Scripts, and what they print.
+use rq_levels::sets_of_levels;
 use rq_page::layout::Layout;
-use rq_script::run_script;
+use rq_script::{run_script, sets_wanted};
 use std::io::Write;
 use std::process::Abort;
 use std::test::Fail;
@@ -70,7 +71,8 @@ fn compare(
 ) -> Result<(), Fail> {
     let mut output = Vec::new(rt.alloc());
     let mut input = script;
-    let ended = run_script(rt.alloc(), &mut input, &mut output, layout);
+    let sets = sets_of_levels(rt.alloc(), sets_wanted(script)).map_err(|_| "memory")?;
+    let ended = run_script(rt.alloc(), &mut input, &mut output, layout, sets);
     let opened = output
         .as_slice()
         .strip_prefix(OPENED.as_bytes())

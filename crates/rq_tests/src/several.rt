@@ -9,6 +9,7 @@ use crate::told::{Told, told_by};
 use rq_content::GroupContent;
 use rq_disk::{MemLog, MemPages, PageChoice, Switch};
 use rq_engine::event::{CommitNo, Event, Reply};
+use rq_levels::StoreLevel;
 use rq_model::refusal::Refusal;
 use rq_model::txn::{Lsn, Sub};
 use rq_page::layout::Layout;
@@ -112,7 +113,7 @@ const WANTED: [(Kind, u64); 88] = [
     (Kind::UnknownOperation, 1300),
 ];
 
-type Store = Kept<MemPages, MemLog>;
+type Store = Kept<MemPages, MemLog, StoreLevel>;
 
 /// The first move that comes to something else than it should, counted from 1.
 #[derive(Clone, Copy, Debug, PartialEq, Eq)]

@@ -6,6 +6,7 @@ use crate::calls::{devices, formatted};
 use rq_disk::{LogDevice, MemLog, MemPages, PageDevice};
 use rq_engine::engine::Engine;
 use rq_engine::event::Event;
+use rq_levels::{StoreLevel, levels_of_store};
 use rq_model::txn::{Sub, Txn};
 use rq_page::layout::Layout;
 use rq_restart::restart::restart;
@@ -31,11 +32,12 @@ struct Seen {
 }
 
 // A formatted store of one directory and one cell page, opened.
-fn small_engine(alloc: Global) -> Result<Engine<MemPages, MemLog>, &'static str> {
+fn small_engine(alloc: Global) -> Result<Engine<MemPages, MemLog, StoreLevel>, &'static str> {
     let layout = Layout::new(1, 1).ok_or("a small store")?;
     let (_, mut pages, log) = devices(alloc, &layout).map_err(|_| "devices")?;
     formatted(&mut pages, &layout).map_err(|_| "format")?;
-    match restart(alloc, pages, log) {
+    let levels = levels_of_store(alloc).map_err(|_| "levels")?;
+    match restart(alloc, pages, log, levels) {
         Ok((engine, _)) => Ok(engine),
         Err(_) => Err("restart"),
     }
@@ -66,7 +68,7 @@ fn events(alloc: Global, txn: Txn, sender: u32) -> Result<Vec<Event>, AllocError
 fn stamped<G: Sharing, R: Wait>(
     rt: &R,
     alloc: Global,
-    front: &Front<MemPages, MemLog, G>,
+    front: &Front<MemPages, MemLog, StoreLevel, G>,
     pass: &mut Pass<G>,
     events: &[Event],
 ) -> Result<Vec<Stamped>, AllocError> {
@@ -81,7 +83,7 @@ fn stamped<G: Sharing, R: Wait>(
 fn share<G: Sharing, R: Wait>(
     rt: &R,
     alloc: Global,
-    engine: Engine<MemPages, MemLog>,
+    engine: Engine<MemPages, MemLog, StoreLevel>,
     blank: Blank,
     taking: Blank,
 ) -> Result<Seen, AllocError>
@@ -89,7 +91,7 @@ fn share<G: Sharing, R: Wait>(
     requires parts { (blank.parts ≡ G.parts) × (blank.parts ≡ 1024) × (taking.parts ≡ 1024) }
     requires sound { WasSound ⟦<MemPages as PageDevice>⟧ ⟦<MemLog as LogDevice>⟧ G.premise engine }
 {
-    let mut shared = Shared::<MemPages, MemLog, G>::new(alloc, engine, blank, taking);
+    let mut shared = Shared::<MemPages, MemLog, StoreLevel, G>::new(alloc, engine, blank, taking);
     let Some(mut one) = shared.pass() else {
         return Err(AllocError);
     };

@@ -2,6 +2,7 @@
 use crate::calls::{answered, devices, formatted, opened};
 use rq_disk::{LogDevice, MemLog, MemPages, PageDevice};
 use rq_engine::event::{CommitNo, Event, Receipt, Reply};
+use rq_levels::StoreLevel;
 use rq_model::txn::Txn;
 use rq_page::layout::Layout;
 use rq_shared::kept::{AuditEntry, Kept};
@@ -9,7 +10,7 @@ use std::alloc::Global;
 use std::test::Fail;
 
 // A formatted store of one directory and one cell page, opened.
-fn small_store(alloc: Global) -> Result<Kept<MemPages, MemLog>, &'static str> {
+fn small_store(alloc: Global) -> Result<Kept<MemPages, MemLog, StoreLevel>, &'static str> {
     let layout = Layout::new(1, 1).ok_or("a small store")?;
     let (_, mut pages, log) = devices(alloc, &layout).map_err(|_| "devices")?;
     formatted(&mut pages, &layout).map_err(|_| "format")?;
@@ -58,7 +59,7 @@ fn acknowledged(reply: Reply) -> Option<Receipt> {
 
 // A begin, a commit, a force and an acknowledgement, by two passes in turn: the commit, and its receipt.
 fn make_four<P: PageDevice + Drop, L: LogDevice + Drop>(
-    kept: &mut Kept<P, L>,
+    kept: &mut Kept<P, L, StoreLevel>,
 ) -> Result<(CommitNo, Receipt), &'static str> {
     let txn = begun(answered(kept, 1, Event::Begin)).ok_or("begin")?;
     let number = committed(answered(kept, 2, Event::Commit(txn))).ok_or("commit")?;
@@ -72,7 +73,7 @@ fn make_four<P: PageDevice + Drop, L: LogDevice + Drop>(
 
 // Takes the audit: whether each of its four entries is what it should be; none where there are not four.
 fn take_four<P: PageDevice + Drop, L: LogDevice + Drop>(
-    kept: &mut Kept<P, L>,
+    kept: &mut Kept<P, L, StoreLevel>,
 ) -> Option<[bool; 4]> {
     let taken = kept.take();
     let [begun, committed, forced, acknowledged] = taken.entries() else {
@@ -86,7 +87,7 @@ fn take_four<P: PageDevice + Drop, L: LogDevice + Drop>(
     ])
 }
 
-fn takes_nothing<P: PageDevice + Drop, L: LogDevice + Drop>(kept: &mut Kept<P, L>) -> bool {
+fn takes_nothing<P: PageDevice + Drop, L: LogDevice + Drop>(kept: &mut Kept<P, L, StoreLevel>) -> bool {
     kept.take().entries().is_empty()
 }
 

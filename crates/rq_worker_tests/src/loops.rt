@@ -9,6 +9,7 @@ use crate::stores::{
 use rq_disk::{LogDevice, MemLog, MemPages, PageDevice};
 use rq_engine::engine::Engine;
 use rq_engine::event::{Event, Outcome, Reply};
+use rq_levels::StoreLevel;
 use rq_model::refusal::Refusal;
 use rq_model::txn::Txn;
 use rq_shared::mark::{Mark, MarkPass};
@@ -259,7 +260,7 @@ fn told(mark: &Mark, reader: &mut MarkPass) -> u64
 fn marked<G: Sharing, R: Wait>(
     rt: &R,
     alloc: Global,
-    engine: Engine<MemPages, MemLog>,
+    engine: Engine<MemPages, MemLog, StoreLevel>,
     blank: Blank,
     taking: Blank,
 ) -> Option<(u64, u64, u64)>

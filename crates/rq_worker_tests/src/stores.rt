@@ -2,6 +2,7 @@
 use rq_disk::{LogDevice, MemLog, MemPages, PageDevice, Switch};
 use rq_engine::engine::Engine;
 use rq_engine::event::{CommitNo, Event, Outcome, Receipt, Reply};
+use rq_levels::{StoreLevel, levels_of_store};
 use rq_model::txn::Txn;
 use rq_page::layout::Layout;
 use rq_restart::format::format;
@@ -19,26 +20,26 @@ use std::snapshot::Snapshot;
 use std::sync::Wait;
 
 /// A store of one directory and one cell page over devices in memory, formatted and opened.
-pub fn small_engine(alloc: Global) -> Result<Engine<MemPages, MemLog>, &'static str> {
+pub fn small_engine(alloc: Global) -> Result<Engine<MemPages, MemLog, StoreLevel>, &'static str> {
     engine_of(alloc, Layout::new(1, 1).ok_or("a small store")?)
 }
 
 /// The calls of such a store, under its audit.
-pub fn small_steps(alloc: Global) -> Result<KeptSteps<MemPages, MemLog>, &'static str> {
+pub fn small_steps(alloc: Global) -> Result<KeptSteps<MemPages, MemLog, StoreLevel>, &'static str> {
     Ok(KeptSteps::new(Kept::new(alloc, small_engine(alloc)?), 1))
 }
 
 /// How many calls were made.
-pub fn calls_made(steps: KeptSteps<MemPages, MemLog>) -> usize {
+pub fn calls_made(steps: KeptSteps<MemPages, MemLog, StoreLevel>) -> usize {
     steps.into_kept().entries().len()
 }
 
 /// One of two directory and two cell pages.
-pub fn wide_engine(alloc: Global) -> Result<Engine<MemPages, MemLog>, &'static str> {
+pub fn wide_engine(alloc: Global) -> Result<Engine<MemPages, MemLog, StoreLevel>, &'static str> {
     engine_of(alloc, Layout::new(2, 2).ok_or("a wide store")?)
 }
 
-fn engine_of(alloc: Global, layout: Layout) -> Result<Engine<MemPages, MemLog>, &'static str> {
+fn engine_of(alloc: Global, layout: Layout) -> Result<Engine<MemPages, MemLog, StoreLevel>, &'static str> {
     let switch = Switch::new(alloc).map_err(|_| "memory")?;
     let Ok(for_log) = switch.share() else {
         return Err("memory");
@@ -58,8 +59,11 @@ pub fn opened<P: PageDevice + Drop, L: LogDevice + Drop>(
     alloc: Global,
     pages: P,
     log: L,
-) -> Result<Engine<P, L>, &'static str> {
-    match restart(alloc, pages, log) {
+) -> Result<Engine<P, L, StoreLevel>, &'static str> {
+    let Ok(levels) = levels_of_store(alloc) else {
+        return Err("memory");
+    };
+    match restart(alloc, pages, log, levels) {
         Ok((engine, _)) => Ok(engine),
         Err(_) => Err("restart"),
     }
@@ -169,7 +173,7 @@ impl Keep for KeepStamps {
 
 /// Whether this sender has sent one message, and what waits of it is one of this byte.
 pub fn has_sent<P: PageDevice + Drop, L: LogDevice + Drop>(
-    engine: &Engine<P, L>,
+    engine: &Engine<P, L, StoreLevel>,
     sender: usize,
     byte: u8,
 ) -> Result<bool, &'static str> {

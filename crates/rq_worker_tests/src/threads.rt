@@ -9,6 +9,7 @@ use crate::stores::{
 use rq_disk::{LogDevice, MemLog, MemPages, PageChoice, PageDevice};
 use rq_engine::engine::Engine;
 use rq_engine::event::{CommitNo, Event, Receipt};
+use rq_levels::StoreLevel;
 use rq_model::txn::Txn;
 use rq_shared::kept::{AuditEntry, Stamped};
 use rq_shared::mark::{Mark, MarkPass};
@@ -163,7 +164,7 @@ fn send_meanwhile<S: Steps, R: Wait>(
 fn work_first<P: PageDevice + Drop, L: LogDevice + Drop, G: Sharing, R: Wait>(
     rt: &R,
     alloc: Global,
-    front: &Front<P, L, G>,
+    front: &Front<P, L, StoreLevel, G>,
     own: Own<G>,
     common: &Common,
 ) -> Option<Worked<G>>
@@ -181,7 +182,7 @@ fn work_first<P: PageDevice + Drop, L: LogDevice + Drop, G: Sharing, R: Wait>(
 fn work_second<P: PageDevice + Drop, L: LogDevice + Drop, G: Sharing, R: Wait>(
     rt: &R,
     alloc: Global,
-    front: &Front<P, L, G>,
+    front: &Front<P, L, StoreLevel, G>,
     own: Own<G>,
     common: &Common,
 ) -> Option<Worked<G>>
@@ -220,7 +221,7 @@ struct Tie {
 struct Seen<P: PageDevice, L: LogDevice> {
     tie: Option<Tie>,
     receipts: usize,
-    closed: Closed<P, L>,
+    closed: Closed<P, L, StoreLevel>,
 }
 
 // The stamps of seven calls, the first two changed about.
@@ -250,7 +251,7 @@ fn tie_of(audit: &[AuditEntry], stamps: Vec<Stamped>, others: Vec<Stamped>) -> T
 // Takes the audit, where that is wanted, and looks whether it is tied.
 fn tie_taken<P: PageDevice + Drop, L: LogDevice + Drop, G: Sharing, R: Wait>(
     rt: &R,
-    front: &Front<P, L, G>,
+    front: &Front<P, L, StoreLevel, G>,
     pass: &mut Pass<G>,
     take: bool,
     stamps: Vec<Stamped>,
@@ -272,7 +273,7 @@ fn both<
 >(
     rt: &R,
     alloc: Global,
-    front: &Front<P, L, G>,
+    front: &Front<P, L, StoreLevel, G>,
     one: Own<G>,
     two: Own<G>,
     common: &Common,
@@ -294,7 +295,7 @@ fn both<
 fn receipts<P: PageDevice + Drop, L: LogDevice + Drop, G: Sharing, R: Wait>(
     rt: &R,
     alloc: Global,
-    front: &Front<P, L, G>,
+    front: &Front<P, L, StoreLevel, G>,
     pass: &mut Pass<G>,
     numbers: &[CommitNo],
 ) -> Result<Vec<Receipt>, AllocError> {
@@ -312,12 +313,12 @@ fn receipts<P: PageDevice + Drop, L: LogDevice + Drop, G: Sharing, R: Wait>(
 // The passes back, and the sharing at its end.
 fn ended<P: PageDevice + Drop, L: LogDevice + Drop, G: Sharing>(
     alloc: Global,
-    shared: Shared<P, L, G>,
+    shared: Shared<P, L, StoreLevel, G>,
     one: Pass<G>,
     two: Pass<G>,
     three: Pass<G>,
     given: &[Receipt],
-) -> Result<Closed<P, L>, AllocError>
+) -> Result<Closed<P, L, StoreLevel>, AllocError>
     requires parts { G.parts ≡ 1024 }
     requires all { shared ≡ 3 }
 {
@@ -338,7 +339,7 @@ fn share<
 >(
     rt: &R,
     alloc: Global,
-    engine: Engine<P, L>,
+    engine: Engine<P, L, StoreLevel>,
     blank: Blank,
     taking: Blank,
     take: bool,

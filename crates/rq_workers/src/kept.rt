@@ -9,28 +9,29 @@ use crate::steps::Steps;
 use crate::trail::Trail;
 use rq_disk::{LogDevice, PageDevice};
 use rq_engine::event::Event;
+use rq_level::Level;
 use rq_shared::kept::{Kept, Stamped};
 use std::snapshot::Snapshot;
 
 /// A kept engine that is called under this pass number. Stamps handed on are dropped; there is nobody else to be told what
 /// is forced. Its audit is that of the engine which was given, with an entry for each call behind it.
 #[derive(Drop)]
-pub struct KeptSteps<P: PageDevice, L: LogDevice> {
-    kept: Kept<P, L>,
+pub struct KeptSteps<P: PageDevice, L: LogDevice, B: Level> {
+    kept: Kept<P, L, B>,
     pass: u64,
     made: Snapshot<Trail<Stamped>>,
     forced: Snapshot<Trail<Stamped>>,
     told: Snapshot<Trail<Stamped>>,
     lacked: Snapshot<Trail<()>>,
     // as it was given
-    begun: Snapshot<Kept<P, L>>,
+    begun: Snapshot<Kept<P, L, B>>,
     ghost audit: { kept.audit ≡ begun.value.audit ++ entries_left made.value },
     ghost base: { (kept.base ≡ begun.value.base) × (kept.taken ≡ begun.value.taken) },
 }
 
-impl<P: PageDevice + Drop, L: LogDevice + Drop> KeptSteps<P, L> {
+impl<P: PageDevice + Drop, L: LogDevice + Drop, B: Level> KeptSteps<P, L, B> {
     /// Calls this engine under this number.
-    pub fn new(kept: Kept<P, L>, pass: u64) -> Self
+    pub fn new(kept: Kept<P, L, B>, pass: u64) -> Self
         ensures begun { (result.kept ≡ kept) × (result.begun.value ≡ kept) × (result.pass ≡ pass) }
     {
         let begun = Snapshot::of(&kept);
@@ -46,7 +47,7 @@ impl<P: PageDevice + Drop, L: LogDevice + Drop> KeptSteps<P, L> {
     }
 
     /// The engine: its audit is that of the one which was given, with the entries behind it that the calls since left.
-    pub fn into_kept(self) -> Kept<P, L>
+    pub fn into_kept(self) -> Kept<P, L, B>
         ensures kept { result ≡ self.kept }
         ensures audit { result.audit ≡ self.begun.value.audit ++ entries_left self.made.value }
         ensures base { (result.base ≡ self.begun.value.base) × (result.taken ≡ self.begun.value.taken) }
@@ -64,7 +65,7 @@ impl<P: PageDevice + Drop, L: LogDevice + Drop> KeptSteps<P, L> {
     }
 }
 
-impl<P: PageDevice + Drop, L: LogDevice + Drop> Steps for KeptSteps<P, L> {
+impl<P: PageDevice + Drop, L: LogDevice + Drop, B: Level> Steps for KeptSteps<P, L, B> {
     ghost made = { λ s. s.made.value };
 
     ghost forced = { λ s. s.forced.value };

@@ -9,6 +9,7 @@ use crate::steps::Steps;
 use crate::trail::Trail;
 use rq_disk::{LogDevice, PageDevice};
 use rq_engine::event::Event;
+use rq_level::Level;
 use rq_shared::kept::{Stamped, Taken};
 use rq_shared::mark::{Mark, MarkPass};
 use rq_shared::room::Pass;
@@ -54,9 +55,9 @@ impl Keep for DropStamps {
 
 /// Calls under a pass. A force also publishes to a mark.
 #[derive(Drop)]
-pub struct SharedSteps<'a, P: PageDevice, L: LogDevice, G: Sharing, R: Wait, K: Keep> {
+pub struct SharedSteps<'a, P: PageDevice, L: LogDevice, B: Level, G: Sharing, R: Wait, K: Keep> {
     rt: &'a R,
-    front: &'a Front<P, L, G>,
+    front: &'a Front<P, L, B, G>,
     pass: Pass<G>,
     mark: &'a Mark,
     seat: MarkPass,
@@ -67,10 +68,11 @@ pub struct SharedSteps<'a, P: PageDevice, L: LogDevice, G: Sharing, R: Wait, K: 
     ghost of_mark: { seat.table ≡ mark.now },
 }
 
-impl<'a, P: PageDevice + Drop, L: LogDevice + Drop, G: Sharing, R: Wait, K: Keep> SharedSteps<
+impl<'a, P: PageDevice + Drop, L: LogDevice + Drop, B: Level, G: Sharing, R: Wait, K: Keep> SharedSteps<
     'a,
     P,
     L,
+    B,
     G,
     R,
     K,
@@ -78,7 +80,7 @@ impl<'a, P: PageDevice + Drop, L: LogDevice + Drop, G: Sharing, R: Wait, K: Keep
     /// Calls under this pass, publishes by this seat of the mark, and hands stamps on to this keep. Nothing was called yet.
     pub fn new(
         rt: &'a R,
-        front: &'a Front<P, L, G>,
+        front: &'a Front<P, L, B, G>,
         pass: Pass<G>,
         mark: &'a Mark,
         seat: MarkPass,
@@ -103,7 +105,7 @@ impl<'a, P: PageDevice + Drop, L: LogDevice + Drop, G: Sharing, R: Wait, K: Keep
 
     /// The entries since the audit was last taken, those of other passes too, as `Front::take_audit` answers them. The pass
     /// counts them.
-    pub fn take_audit(&mut self) -> Taken<P, L>
+    pub fn take_audit(&mut self) -> Taken<P, L, B>
         ensures taken { IsTaken P.PageDevice L.LogDevice G.premise result }
         ensures counted { CountsTaken self.old.pass (length result.audit) self.new.pass }
         ensures calls { (self.new.made.value ≡ self.old.made.value) × (self.new.forced.value ≡ self.old.forced.value) }
@@ -133,8 +135,8 @@ impl<'a, P: PageDevice + Drop, L: LogDevice + Drop, G: Sharing, R: Wait, K: Keep
     }
 }
 
-impl<'a, P: PageDevice + Drop, L: LogDevice + Drop, G: Sharing, R: Wait, K: Keep> Steps
-    for SharedSteps<'a, P, L, G, R, K> {
+impl<'a, P: PageDevice + Drop, L: LogDevice + Drop, B: Level, G: Sharing, R: Wait, K: Keep> Steps
+    for SharedSteps<'a, P, L, B, G, R, K> {
     ghost made = { λ s. s.made.value };
 
     ghost forced = { λ s. s.forced.value };

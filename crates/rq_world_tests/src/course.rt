@@ -3,6 +3,7 @@ use crate::told::{Told, told_of};
 use rq_core::happening::{Choice, Entry, Happening};
 use rq_core::world::{Outcome, World};
 use rq_engine::event::{Event, GroupContent, Reply};
+use rq_levels::sets_of_levels;
 use rq_model::message::Message;
 use rq_model::txn::{Lsn, Sub, Txn};
 use rq_page::layout::Layout;
@@ -199,12 +200,25 @@ pub fn run(alloc: Global, pages: u32, happenings: &[Happening]) -> Result<Vec<En
     let Some(layout) = Layout::new(pages, pages) else {
         return Ok(Vec::new(alloc));
     };
+    let sets = sets_of_levels(alloc, restarts(happenings))?;
     let Outcome {
         entries,
         pages: _,
         log: _,
-    } = World::new(alloc, layout)?.run(happenings)?;
+    } = World::new(alloc, layout)?.run(happenings, sets)?;
     Ok(entries)
+}
+
+// How many of these restart.
+fn restarts(happenings: &[Happening]) -> usize {
+    let mut count = 0;
+    for happening in happenings {
+        match happening {
+            Happening::Restart | Happening::RestartStop(..) => count += 1,
+            _ => {}
+        }
+    }
+    count
 }
 
 impl Text {

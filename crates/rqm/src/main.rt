@@ -3,10 +3,15 @@
 
 mod words;
 
+use rq_chain::ChainLevel;
 use rq_files::run_format;
-use rq_script::run_script;
+use rq_level::Level;
+use rq_page::layout::Layout;
+use rq_pageops::PageLevel;
+use rq_planner::StoreLevels;
+use rq_script::{run_script, sets_wanted};
 use std::fs::File;
-use std::io;
+use std::io::{self, Read, Write};
 use std::process::ExitCode;
 use std::rt::{Env, Files};
 use words::Words;
@@ -23,11 +28,38 @@ fn run<R: Print + Eprint + Input + AllocGlobal + Env + Files<File = File>>(
 ) -> io::Result<u8> {
     let mut writer = io::writer(rt);
     Ok(match words::read(rt)? {
-        Words::Run(layout) => {
-            let mut reader = rt.reader();
-            run_script(rt.alloc(), &mut reader, &mut writer, layout)
-        }
+        Words::Run(layout) => run_input(rt, &mut writer, layout)?,
         Words::Format(folder, layout) => run_format(rt, &mut writer, folder.as_str(), &layout),
         Words::Answered(status) => status,
     })
+}
+
+// Runs the script that standard input holds. Each opening of the store has levels of its own.
+fn run_input<R: Input + AllocGlobal, W: Write>(
+    rt: &R,
+    writer: &mut W,
+    layout: Layout,
+) -> io::Result<u8> {
+    let alloc = rt.alloc();
+    let mut script = Vec::new(alloc);
+    if rt.reader().read_to_end(&mut script).is_err() {
+        writer.write_all(b"fault input\n")?;
+        return Ok(1);
+    }
+    let mut sets = Vec::new(alloc);
+    for _ in 0..sets_wanted(&script) {
+        let slots: Box<dyn Level + Send> = Box::new(alloc, PageLevel)?;
+        let Ok(level) = ChainLevel::new(alloc) else {
+            return lacks_memory(writer);
+        };
+        let chains: Box<dyn Level + Send> = Box::new(alloc, level)?;
+        sets.push(StoreLevels::new(alloc, slots, chains)?)?;
+    }
+    let mut reader = script.as_slice();
+    Ok(run_script(alloc, &mut reader, writer, layout, sets))
+}
+
+fn lacks_memory<W: Write>(writer: &mut W) -> io::Result<u8> {
+    writer.write_all(b"fault 1 NoMemory\n")?;
+    Ok(1)
 }

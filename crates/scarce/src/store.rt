@@ -2,6 +2,7 @@
 use crate::calls::ATTEMPTS;
 use rq_disk::{MemLog, MemPages, Switch};
 use rq_engine::engine::Engine;
+use rq_levels::{StoreLevel, levels_of_store};
 use rq_page::layout::Layout;
 use rq_restart::format::format;
 use rq_restart::restart::restart;
@@ -9,7 +10,7 @@ use rq_shared::kept::Kept;
 use std::alloc::Global;
 
 /// A kept engine over devices in memory.
-pub type Store = Kept<MemPages, MemLog>;
+pub type Store = Kept<MemPages, MemLog, StoreLevel>;
 
 /// A store of one directory and one cell page, formatted and opened. What memory is wanting for is tried again.
 pub fn opened(alloc: Global) -> Option<Store> {
@@ -21,7 +22,7 @@ pub fn opened(alloc: Global) -> Option<Store> {
     None
 }
 
-fn small_engine(alloc: Global) -> Option<Engine<MemPages, MemLog>> {
+fn small_engine(alloc: Global) -> Option<Engine<MemPages, MemLog, StoreLevel>> {
     let layout = Layout::new(1, 1)?;
     let switch = Switch::new(alloc).ok()?;
     let for_log = switch.share().ok()?;
@@ -30,7 +31,8 @@ fn small_engine(alloc: Global) -> Option<Engine<MemPages, MemLog>> {
     if format(&mut pages, &layout).is_err() {
         return None;
     }
-    match restart(alloc, pages, log) {
+    let levels = levels_of_store(alloc).ok()?;
+    match restart(alloc, pages, log, levels) {
         Ok((engine, _)) => Some(engine),
         Err(_) => None,
     }

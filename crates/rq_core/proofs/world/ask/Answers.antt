@@ -3,4 +3,4 @@ use Rattle.rq_core.proofs.Worlds.{calls}
 use Rattle.rq_core.proofs.world.ask.Goals as goal
 
 pub returns : goal.returns
-returns c = λ z course x is ran. calls mem_pages mem_log (λ d. tt) (λ d. tt) z course x c.args.event.now c.apply-answer.result c.args.engine c.apply-answer.new.self is c.apply-answer.ensures.applied ran
+returns g c = λ z course x is ran. calls mem_pages mem_log (λ d. tt) (λ d. tt) z course x c.args.event.now c.apply-answer.result c.args.engine c.apply-answer.new.self is c.apply-answer.ensures.applied ran

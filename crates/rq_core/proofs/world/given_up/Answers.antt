@@ -8,10 +8,10 @@ use Rattle.rq_core.proofs.Worlds.{still}
 use Rattle.rq_core.proofs.world.given_up.Goals as goal
 
 pub returns-in-Shut : goal.returns-in-Shut
-returns-in-Shut c = λ z course ran. shut_ends z course c.in-Shut.pages c.in-Shut.log (c.first_in_first_out.ensures (size_of z)) (c.acknowledged_stay.ensures (size_of z)) (c.shut_crash_goes_on.ensures (size_of z)) (subst (λ s. Ran z course (world_of s)) c.in-Shut.is ran)
+returns-in-Shut g c = λ z course ran. shut_ends z course c.in-Shut.pages c.in-Shut.log (c.first_in_first_out.ensures (size_of z)) (c.acknowledged_stay.ensures (size_of z)) (c.shut_crash_goes_on.ensures (size_of z)) (subst (λ s. Ran z course (world_of s)) c.in-Shut.is ran)
 
 pub returns-in-Open : goal.returns-in-Open
-returns-in-Open c = λ z course ran.
+returns-in-Open g c = λ z course ran.
     let there = subst (λ s. Ran z course (world_of s)) c.in-Open.is ran in
     let g = still mem_pages mem_log (λ d. tt) (λ d. tt) z there.history c.in-Open.engine there.stands in
     open_ends z course c.in-Open.engine c.give_back.result.0 c.give_back.result.1 (c.first_in_first_out.ensures (size_of z)) (c.acknowledged_stay.ensures (size_of z)) (c.crash_goes_on.ensures (size_of z)) there (c.shows_kept.ensures.cut tt g.sound g.fit)

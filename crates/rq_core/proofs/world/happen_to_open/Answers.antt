@@ -8,12 +8,12 @@ use Rattle.rq_core.specs.Views.{answer_in, happens, world_of}
 use Rattle.rq_core.proofs.world.happen_to_open.Goals as goal
 
 pub returns-in-Call : goal.returns-in-Call
-returns-in-Call c = λ z course same ran.
+returns-in-Call g c = λ z course same ran.
     subst (λ h. Ran z ((happens h, answer_in c.ask.result.1) ∷ course) (world_of c.ask.result.0)) (sym c.in-Call.is)
     (c.ask.ensures z course (Asks (call_of c.in-Call.event)) refl ran)
 
 pub returns-in-Some : goal.returns-in-Some
-returns-in-Some c = λ z course same ran.
+returns-in-Some g c = λ z course same ran.
     let n = c.in-Ack.n in
     let number = c.in-Some.number in
     let told = ap (λ l. acknowledging (nth n l)) same ∙ c.committed.ensures ∙ ap (option_map (λ k. Acknowledge k.txn k.lsn)) c.in-Some.is in
@@ -21,11 +21,11 @@ returns-in-Some c = λ z course same ran.
     (c.ask-in-Some.ensures z course (Acknowledges n) told ran)
 
 pub returns-in_ok-images-in-Crash : goal.returns-in_ok-images-in-Crash
-returns-in_ok-images-in-Crash c = λ z course same ran.
+returns-in_ok-images-in-Crash g c = λ z course same ran.
     subst (λ h. Ran z ((happens h, answer_in c.crash_open.result.1) ∷ course) (world_of c.crash_open.result.0)) (sym c.in-Crash.is)
     (c.crash_open.ensures z course Crashes refl ran)
 
 pub returns-in_ok-images-in-StopIn : goal.returns-in_ok-images-in-StopIn
-returns-in_ok-images-in-StopIn c = λ z course same ran.
+returns-in_ok-images-in-StopIn g c = λ z course same ran.
     subst (λ h. Ran z ((happens h, answer_in c.stop_in.result.1) ∷ course) (world_of c.stop_in.result.0)) (sym c.in-StopIn.is)
     (c.stop_in.ensures z course (Stops_in (call_of c.in-StopIn.event)) refl ran)

@@ -8,7 +8,7 @@ use Rattle.rq_core.specs.Views.{answer_in, happens, world_of}
 use Rattle.rq_core.proofs.world.happen_to_shut.Goals as goal
 
 pub returns-in-Some : goal.returns-in-Some
-returns-in-Some c = λ z course same ran.
+returns-in-Some g c = λ z course same ran.
     let n = c.in-Ack.n in
     let number = c.in-Some.field-0 in
     let told = ap (λ l. acknowledging (nth n l)) same ∙ c.committed.ensures ∙ ap (option_map (λ k. Acknowledge k.txn k.lsn)) c.in-Some.is in
@@ -16,7 +16,7 @@ returns-in-Some c = λ z course same ran.
     (c.not_open.ensures (Acknowledge number.txn number.lsn) z course (Acknowledges n) told ran)
 
 pub returns-in-Call : goal.returns-in-Call
-returns-in-Call c = λ z course same ran. elim c.in-Call.is [
+returns-in-Call g c = λ z course same ran. elim c.in-Call.is [
   | inl is ↦ subst (λ h. Ran z ((happens h, answer_in c.not_open-in-Call.result.1) ∷ course) (world_of c.not_open-in-Call.result.0)) (sym is.1) (c.not_open-in-Call.ensures (call_of is.0) z course (Asks (call_of is.0)) refl ran)
   | inr is ↦ subst (λ h. Ran z ((happens h, answer_in c.not_open-in-Call.result.1) ∷ course) (world_of c.not_open-in-Call.result.0)) (sym is.3) (c.not_open-in-Call.ensures (call_of is.0) z course (Stops_in (call_of is.0)) refl ran)
 ]

@@ -4,4 +4,4 @@ use Rattle.rq_core.proofs.Arms.{refuses}
 use Rattle.rq_core.proofs.world.reopen.Goals as goal
 
 pub returns-in-Err : goal.returns-in-Err
-returns-in-Err c = λ z course x is ran. refuses z course x c.args.pages c.in-Err.stopped.pages c.args.log c.in-Err.stopped.log c.in-Err.stopped.refusal (subst (MayRestart course) (sym is) refl) c.in-Err.ensures.refused ran
+returns-in-Err g c = λ z course x is ran. refuses z course x c.args.pages c.in-Err.stopped.pages c.args.log c.in-Err.stopped.log c.in-Err.stopped.refusal (subst (MayRestart course) (sym is) refl) c.in-Err.ensures.refused ran

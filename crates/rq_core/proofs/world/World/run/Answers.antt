@@ -8,13 +8,13 @@ use Rattle.rq_core.proofs.Courses.{pushed, told_so_far}
 use Rattle.rq_core.proofs.world.World.run.Goals as goal
 
 pub loop-happening-init : goal.loop-happening-init
-loop-happening-init c = record {
+loop-happening-init g c = record {
   each = ap length c.in_ok-entries.ensures.items;
   ran = subst (λ es. Ran c.args.self (course [] es) (Is_shut c.self.inside.pages c.self.inside.log)) (sym c.in_ok-entries.ensures.items) (subst (λ z. Ran z [] (Is_shut c.self.inside.pages c.self.inside.log)) c.self.view_is (begins c.self.inside.layout c.self.inside.pages c.self.inside.log c.self.invariant));
 }
 
 pub loop-happening-preserved : goal.loop-happening-preserved
-loop-happening-preserved c =
+loop-happening-preserved g c =
     let i = c.loop-happening.happening-index in
     let count = c.loop-happening.invariant.each in
     let within = c.loop-happening-test.true in
@@ -30,7 +30,7 @@ loop-happening-preserved c =
     }
 
 pub returns-clause-headline : goal.returns-clause-headline
-returns-clause-headline c =
+returns-clause-headline g c =
     let xs = c.args.happenings.now in
     let end = c.loop-happening-test.false in
     c.given_up-pages.ensures c.args.self (course xs c.loop-happening.entries.items) (subst (λ l. Ran c.args.self (course l c.loop-happening.entries.items) (world_of c.loop-happening.store)) (take_all c.loop-happening.happening-index xs end) c.loop-happening.invariant.ran)

@@ -5,7 +5,7 @@ use Rattle.rq_core.proofs.world.World.run.Given as goal
 
 -- what has happened so far, with its answers, leads to the store
 abbrev pub invariant-loop-happening : goal.invariant-loop-happening
-invariant-loop-happening l = record {
+invariant-loop-happening g l = record {
   each : length l.entries.items ≡ l.happening-index;
   ran : Ran l.fn.self (course (take l.happening-index l.happenings) l.entries.items) (world_of l.store);
 }

@@ -16,5 +16,5 @@ returns-in-Ok-Some-clause-cells g c =
     let s : State = seen c.args.pages.now c.args.transactions.now in
     let knows = subst (λ (k : Kept). KnowsCells c.args.pages.now.sizes c.args.pages.now.images k) (sym c.self.view_is) c.requires.cells in
     c.give_back.ensures.cells []
-    (rw (c.deref.ensures.value) (some_told (λ (p : Plan). (rows : List Row) → KeepsCells (record s { rows = rows }) (g.B.Level.kept c.self.inside.level) → KeepsBeside (record s { rows = rows }) (g.B.Level.kept c.plan.new.level) (places_of p.writes.items))
+    (rw (c.deref.ensures.value) (some_told (λ (p : Plan). (rows : List Row) → KeepsCells (record s { rows = rows }) c.self.inside.level → KeepsBeside (record s { rows = rows }) c.plan.new.level (places_of p.writes.items))
     c.in-Ok-Some.field-0 _ c.in-Ok-Some.field-0-is c.in-Ok-Some.ensures.answered.chosen [] knows))

@@ -8,4 +8,4 @@ pub returns : goal.returns
 returns g c = λ images known others.
     let z = c.args.pages.now.sizes in
     let before = subst (λ (k : Kept). KnowsCells z images k) (sym c.self.view_is) known in
-    knows_again z images c.args.pages.now.images (g.B.Level.kept c.self.inside.level) (g.B.Level.kept c.tell.new.level) c.args.at c.requires others before c.tell.ensures.told
+    knows_again z images c.args.pages.now.images c.self.inside.level c.tell.new.level c.args.at c.requires others before c.tell.ensures.told

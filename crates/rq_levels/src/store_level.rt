@@ -1,0 +1,123 @@
+//! One of the two levels of a store.
+ghost use Rattle.std.specs.Prelude.{◌≡◌, IfOk, length};
+
+use rq_chain::ChainLevel;
+use rq_level::{Level, Op, PageSet, Plan, Slots, Want};
+use rq_model::record::{Record, Slot};
+use rq_model::refusal::Refusal;
+use rq_model::txn::Lsn;
+use rq_page::addr::Addr;
+use rq_page::page::Page;
+use rq_pageops::PageLevel;
+use rq_planner::StoreLevels;
+use std::alloc::{AllocError, Global};
+
+/// One of the two levels of a store.
+#[derive(Drop)]
+pub enum StoreLevel {
+    /// That of single slots.
+    Slots(PageLevel),
+    /// That of chains.
+    Chains(ChainLevel),
+}
+
+impl Level for StoreLevel {
+    ghost use Rattle.rq_levels.specs.Words.{kept_of, number_of};
+
+    ghost level = { λ l. number_of l };
+
+    ghost kept = { λ l. kept_of l };
+
+    fn number(&self) -> u8 {
+        match self {
+            StoreLevel::Slots(level) => level.number(),
+            StoreLevel::Chains(level) => level.number(),
+        }
+    }
+
+    fn reads(&self, deed: &[u8]) -> bool {
+        match self {
+            StoreLevel::Slots(level) => level.reads(deed),
+            StoreLevel::Chains(level) => level.reads(deed),
+        }
+    }
+
+    fn want(&self, op: &Op, given: &Slots) -> Want {
+        match self {
+            StoreLevel::Slots(level) => level.want(op, given),
+            StoreLevel::Chains(level) => level.want(op, given),
+        }
+    }
+
+    fn plan(
+        &mut self,
+        alloc: Global,
+        op: &Op,
+        given: &Slots,
+        latched: &PageSet,
+    ) -> Result<Plan, Refusal> {
+        match self {
+            StoreLevel::Slots(level) => level.plan(alloc, op, given, latched),
+            StoreLevel::Chains(level) => level.plan(alloc, op, given, latched),
+        }
+    }
+
+    fn undo(
+        &mut self,
+        alloc: Global,
+        told: &Record,
+        given: &Slots,
+        latched: &PageSet,
+    ) -> Result<Plan, Refusal> {
+        match self {
+            StoreLevel::Slots(level) => level.undo(alloc, told, given, latched),
+            StoreLevel::Chains(level) => level.undo(alloc, told, given, latched),
+        }
+    }
+
+    fn redo(&mut self, page: &mut Page, lsn: Lsn, told: &Record) -> bool {
+        match self {
+            StoreLevel::Slots(level) => level.redo(page, lsn, told),
+            StoreLevel::Chains(level) => level.redo(page, lsn, told),
+        }
+    }
+
+    fn noted(&mut self, at: Addr, bytes: &Slot) {
+        match self {
+            StoreLevel::Slots(level) => level.noted(at, bytes),
+            StoreLevel::Chains(level) => level.noted(at, bytes),
+        }
+    }
+}
+
+/// Levels that may be handed in for any store, told of nothing yet.
+///
+/// # Errors
+/// Where memory is wanting.
+pub fn levels_of_store(alloc: Global) -> Result<StoreLevels<StoreLevel>, AllocError> {
+    let Ok(chains) = ChainLevel::new(alloc) else {
+        return Err(AllocError);
+    };
+    StoreLevels::new(
+        alloc,
+        StoreLevel::Slots(PageLevel),
+        StoreLevel::Chains(chains),
+    )
+}
+
+/// So many sets of them.
+///
+/// # Errors
+/// Where memory is wanting.
+pub fn sets_of_levels(
+    alloc: Global,
+    count: usize,
+) -> Result<Vec<StoreLevels<StoreLevel>>, AllocError>
+    ensures { IfOk result (λ sets. length sets.items ≡ count) }
+{
+    let mut sets = Vec::new(alloc);
+    for _ in 0..count {
+        sets.push(levels_of_store(alloc)?)?;
+    }
+    Ok(sets)
+}
