@@ -135,7 +135,7 @@ pub fn share<
     requires parts { (blank.parts ≡ G.parts) × (blank.parts ≡ 1024) × (taking.parts ≡ 1024) }
     requires sound { WasSound P.PageDevice L.LogDevice G.premise engine }
 {
-    let mut shared = Shared::<P, L, G>::new(alloc, engine, blank, taking);
+    let mut shared = Shared::<P, L, StoreLevel, G>::new(alloc, engine, blank, taking);
     let (mark, mut seat) = Mark::new(alloc).ok()?;
     let first = Pair {
         one: own_of(&mut shared, &mark, &mut seat, sender_of(0))?,

@@ -268,7 +268,7 @@ fn marked<G: Sharing, R: Wait>(
     requires parts { (blank.parts ≡ G.parts) × (blank.parts ≡ 1024) × (taking.parts ≡ 1024) }
     requires sound { WasSound ⟦<MemPages as PageDevice>⟧ ⟦<MemLog as LogDevice>⟧ G.premise engine }
 {
-    let mut shared = Shared::<MemPages, MemLog, G>::new(alloc, engine, blank, taking);
+    let mut shared = Shared::<MemPages, MemLog, StoreLevel, G>::new(alloc, engine, blank, taking);
     let writer = shared.pass()?;
     let (mark, mut seat) = Mark::new(alloc).ok()?;
     let mut reader = mark.split(&mut seat);

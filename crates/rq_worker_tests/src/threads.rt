@@ -348,7 +348,7 @@ fn share<
     requires parts { (blank.parts ≡ G.parts) × (blank.parts ≡ 1024) × (taking.parts ≡ 1024) }
     requires sound { WasSound P.PageDevice L.LogDevice G.premise engine }
 {
-    let mut shared = Shared::<P, L, G>::new(alloc, engine, blank, taking);
+    let mut shared = Shared::<P, L, StoreLevel, G>::new(alloc, engine, blank, taking);
     let pass = shared.pass()?;
     let other = shared.pass()?;
     let mut three = shared.pass()?;
