@@ -27,7 +27,10 @@ pub fn exchange<P: PageDevice, L: LogDevice>(
     force(engine)
 }
 
-fn send<P: PageDevice, L: LogDevice>(engine: &mut Engine<P, L, StoreLevel>, sender: u32) -> Option<()> {
+fn send<P: PageDevice, L: LogDevice>(
+    engine: &mut Engine<P, L, StoreLevel>,
+    sender: u32,
+) -> Option<()> {
     let txn = engine.begin().ok()?;
     let sub = engine.start_send(txn, sender, 1, &[120; 200]).ok()?;
     finish(engine, sub)?;
@@ -44,7 +47,10 @@ fn receive<P: PageDevice, L: LogDevice>(engine: &mut Engine<P, L, StoreLevel>) -
 }
 
 // Makes the steps of an operation, and finishes it.
-fn finish<P: PageDevice, L: LogDevice>(engine: &mut Engine<P, L, StoreLevel>, sub: Sub) -> Option<()> {
+fn finish<P: PageDevice, L: LogDevice>(
+    engine: &mut Engine<P, L, StoreLevel>,
+    sub: Sub,
+) -> Option<()> {
     for _ in 0..STEPS {
         if is_ready(engine, sub)? {
             break;
@@ -55,7 +61,10 @@ fn finish<P: PageDevice, L: LogDevice>(engine: &mut Engine<P, L, StoreLevel>, su
 }
 
 // Makes the next step of an operation. Whether none is left.
-fn is_ready<P: PageDevice, L: LogDevice>(engine: &mut Engine<P, L, StoreLevel>, sub: Sub) -> Option<bool> {
+fn is_ready<P: PageDevice, L: LogDevice>(
+    engine: &mut Engine<P, L, StoreLevel>,
+    sub: Sub,
+) -> Option<bool> {
     match engine.step(sub) {
         Ok(Progress::Ready) => Some(true),
         Ok(Progress::Done(_)) => Some(false),

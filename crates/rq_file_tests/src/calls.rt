@@ -39,7 +39,9 @@ pub fn opened<P: PageDevice + Drop, L: LogDevice + Drop>(
 }
 
 /// The devices of a store.
-pub fn given_back<P: PageDevice + Drop, L: LogDevice + Drop>(engine: Engine<P, L, StoreLevel>) -> (P, L) {
+pub fn given_back<P: PageDevice + Drop, L: LogDevice + Drop>(
+    engine: Engine<P, L, StoreLevel>,
+) -> (P, L) {
     engine.give_back()
 }
 

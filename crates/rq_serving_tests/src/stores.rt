@@ -23,7 +23,10 @@ pub fn failing_engine(alloc: Global) -> Result<Engine<MemPages, MemLog, StoreLev
     Ok(engine)
 }
 
-fn engine_over(alloc: Global, switch: Switch) -> Result<Engine<MemPages, MemLog, StoreLevel>, &'static str> {
+fn engine_over(
+    alloc: Global,
+    switch: Switch,
+) -> Result<Engine<MemPages, MemLog, StoreLevel>, &'static str> {
     let layout = Layout::new(1, 1).ok_or("a small store")?;
     let Ok(for_log) = switch.share() else {
         return Err("memory");

@@ -51,7 +51,9 @@ pub fn answered<P: PageDevice + Drop, L: LogDevice + Drop>(
 }
 
 /// The devices of a store.
-pub fn given_back<P: PageDevice + Drop, L: LogDevice + Drop>(store: Kept<P, L, StoreLevel>) -> (P, L) {
+pub fn given_back<P: PageDevice + Drop, L: LogDevice + Drop>(
+    store: Kept<P, L, StoreLevel>,
+) -> (P, L) {
     store.give_back().give_back()
 }
 

@@ -87,7 +87,9 @@ fn take_four<P: PageDevice + Drop, L: LogDevice + Drop>(
     ])
 }
 
-fn takes_nothing<P: PageDevice + Drop, L: LogDevice + Drop>(kept: &mut Kept<P, L, StoreLevel>) -> bool {
+fn takes_nothing<P: PageDevice + Drop, L: LogDevice + Drop>(
+    kept: &mut Kept<P, L, StoreLevel>,
+) -> bool {
     kept.take().entries().is_empty()
 }
 

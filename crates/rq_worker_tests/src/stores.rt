@@ -39,7 +39,10 @@ pub fn wide_engine(alloc: Global) -> Result<Engine<MemPages, MemLog, StoreLevel>
     engine_of(alloc, Layout::new(2, 2).ok_or("a wide store")?)
 }
 
-fn engine_of(alloc: Global, layout: Layout) -> Result<Engine<MemPages, MemLog, StoreLevel>, &'static str> {
+fn engine_of(
+    alloc: Global,
+    layout: Layout,
+) -> Result<Engine<MemPages, MemLog, StoreLevel>, &'static str> {
     let switch = Switch::new(alloc).map_err(|_| "memory")?;
     let Ok(for_log) = switch.share() else {
         return Err("memory");

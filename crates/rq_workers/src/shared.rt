@@ -68,15 +68,15 @@ pub struct SharedSteps<'a, P: PageDevice, L: LogDevice, B: Level, G: Sharing, R:
     ghost of_mark: { seat.table ≡ mark.now },
 }
 
-impl<'a, P: PageDevice + Drop, L: LogDevice + Drop, B: Level, G: Sharing, R: Wait, K: Keep> SharedSteps<
+impl<
     'a,
-    P,
-    L,
-    B,
-    G,
-    R,
-    K,
-> {
+    P: PageDevice + Drop,
+    L: LogDevice + Drop,
+    B: Level,
+    G: Sharing,
+    R: Wait,
+    K: Keep,
+> SharedSteps<'a, P, L, B, G, R, K> {
     /// Calls under this pass, publishes by this seat of the mark, and hands stamps on to this keep. Nothing was called yet.
     pub fn new(
         rt: &'a R,
