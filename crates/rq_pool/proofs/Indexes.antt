@@ -1,5 +1,5 @@
 -- The index of the free cells is kept.
-use Rattle.std.proofs.Common.{◌≡◌, ◌≢◌, ℕ, ◌*◌, ◌/◌, ◌%◌, ◌<◌, ◌≤◌, Bool, true, false, cond, nat_lt, List, length, refl, sym, ap, ◌∙◌, arith, inl, inr}
+use Rattle.std.proofs.Common.{◌≡◌, ◌≢◌, ℕ, ◌*◌, ◌/◌, ◌%◌, ◌<◌, ◌≤◌, Bool, true, false, cond, nat_lt, List, [], ◌∷◌, ◌++◌, ◌+◌, length, refl, sym, ap, ◌∙◌, arith, inl, inr}
 use Rattle.std.specs.Prelude.{Option, None, Some, IfSome, IfNone}
 use Rattle.std.proofs.lemmas.Bool.{cases_eq}
 use Rattle.rq_flags.specs.Flags.{flag_at, IsNextFlag}
@@ -12,12 +12,13 @@ use Rattle.rq_views.specs.Stored.{slots_in, slot_at, is_used, count_used}
 use Rattle.rq_pool.specs.Pooled.{image_at}
 use Rattle.rq_pool.specs.Indexed.{free_flag, IsNoted, IsFreeIndex}
 use Rattle.rq_pool.proofs.Counts.{all_used, lower_place}
+use Rattle.rq_pool.proofs.Readings.{earlier}
 
--- the flags of the cells before a place are noted, and no later one is set
-pub record AreNotedBelow (z : Sizes) (images : List (List ℕ)) (flags : List ℕ) (n : ℕ) : Type 0 where
+-- the flags of the cells of the first n pages are noted, and no later one is set
+pub record AreNotedTo (z : Sizes) (images : List (List ℕ)) (flags : List ℕ) (n : ℕ) : Type 0 where
   pub room : cell_count z ≤ 64 * length flags
-  pub below : (k : ℕ) → k < n → IsNoted z images flags k
-  pub later : (k : ℕ) → n ≤ k → flag_at flags k ≡ 0
+  pub noted : (k : ℕ) → k < cell_count z → cell_at z k / 16 < n → IsNoted z images flags k
+  pub later : (k : ℕ) → n ≤ cell_at z k / 16 → flag_at flags k ≡ 0
 
 -- the flags of a page's cells before a slot are noted, and all others are as before
 pub record AreNotedOf (z : Sizes) (images : List (List ℕ)) (old flags : List ℕ) (page slot : ℕ) : Type 0 where
@@ -56,6 +57,34 @@ index_written z old new flags now at image lsn index high written elsewhere note
         others k other ∙ index.cells k lt ∙ ap free_flag (sym (slot_stays z old new (cell_at z k) slot))
   ];
   beyond = λ k past. others k (λ e. absurd (omega (arith, e, high, past))) ∙ index.beyond k past;
+}
+
+-- no cell stands on the first page
+pub noted_none : (z : Sizes) (images : List (List ℕ)) (flags : List ℕ) → cell_count z ≤ 64 * length flags → ((k : ℕ) → flag_at flags k ≡ 0) → AreNotedTo z images flags 1
+noted_none z images flags room none = record { room = room; noted = λ k _ low. absurd (omega (arith, low)); later = λ k _. none k }
+
+-- one page more is read, and noted
+pub noted_more : (z : Sizes) (images new : List (List ℕ)) (flags now : List ℕ) (n : ℕ) (page : List ℕ) → new ≡ images ++ page ∷ [] → length images ≡ n → AreNotedTo z images flags n
+    → ((k : ℕ) → k < cell_count z → cell_at z k / 16 ≡ n → IsNoted z new now k) → ((k : ℕ) → cell_at z k / 16 ≢ n → flag_at now k ≡ flag_at flags k) → length now ≡ length flags
+    → AreNotedTo z new now (n + 1)
+noted_more z images new flags now n page grown count before noted others same = record {
+  room = let r = before.room in omega (arith, r, same);
+  noted = λ k lt low. elim (cases_eq (cell_at z k / 16) n) [
+    | inl here ↦ noted k lt here
+    | inr other ↦
+        let within : cell_at z k / 16 < n = omega (arith, low, other) in
+        let slot : slot_at new (cell_at z k) ≡ slot_at images (cell_at z k) = ap (slot_of (cell_at z k % 16)) (earlier images new n page grown count (cell_at z k / 16) within) in
+        others k other ∙ before.noted k lt within ∙ ap free_flag (sym (slot_stays z images new (cell_at z k) slot))
+  ];
+  later = λ k past. others k (λ e. absurd (omega (arith, e, past))) ∙ before.later k (omega (arith, past));
+}
+
+-- all pages are
+pub index_whole : (z : Sizes) (images : List (List ℕ)) (flags : List ℕ) (n : ℕ) → n ≡ page_count z → AreNotedTo z images flags n → IsFreeIndex z images flags
+index_whole z images flags n all before = record {
+  room = before.room;
+  cells = λ k lt. before.noted k lt (omega (arith, lt, all));
+  beyond = λ k past. before.later k (omega (arith, past, all));
 }
 
 -- ---- what the index tells

@@ -1,4 +1,4 @@
-use Rattle.std.proofs.Common.{◌≡◌, true, false, ap, sym, ◌∙◌, arith}
+use Rattle.std.proofs.Common.{◌≡◌, ap, ◌∙◌, arith}
 use Rattle.rq_page.specs.Sizes.{cell_at}
 use Rattle.rq_views.specs.Stored.{slots_in}
 use Rattle.rq_pool.proofs.Counts.{used_more, step_some, step_none}
