@@ -1,7 +1,7 @@
 -- The index of the free cells is kept.
-use Rattle.std.proofs.Common.{◌≡◌, ◌≢◌, ℕ, ◌*◌, ◌/◌, ◌%◌, ◌<◌, ◌≤◌, Bool, true, false, cond, nat_lt, List, [], ◌∷◌, ◌++◌, ◌+◌, length, refl, sym, ap, ◌∙◌, arith, inl, inr}
+use Rattle.std.proofs.Common.{◌≡◌, ◌≢◌, ℕ, ◌*◌, ◌/◌, ◌%◌, ◌<◌, ◌≤◌, Bool, true, false, cond, nat_lt, List, [], ◌∷◌, ◌++◌, ◌+◌, ◌-◌, length, refl, sym, ap, ◌∙◌, arith, inl, inr}
 use Rattle.std.specs.Prelude.{Option, None, Some, IfSome, IfNone}
-use Rattle.std.proofs.lemmas.Bool.{cases_eq}
+use Rattle.std.proofs.lemmas.Bool.{cases_eq, cases_lt}
 use Rattle.rq_flags.specs.Flags.{flag_at, IsNextFlag}
 use Rattle.rq_page.specs.Sizes.{Sizes, IsCellAddress, cell_count, cell_at, page_count, place_of}
 use Rattle.rq_page.specs.Slots.{Free, held_in}
@@ -11,7 +11,7 @@ use Rattle.rq_views.specs.Log.{Slots}
 use Rattle.rq_views.specs.Stored.{slots_in, slot_at, is_used, count_used}
 use Rattle.rq_pool.specs.Pooled.{image_at}
 use Rattle.rq_pool.specs.Indexed.{free_flag, IsNoted, IsFreeIndex}
-use Rattle.rq_pool.proofs.Counts.{all_used, lower_place}
+use Rattle.rq_pool.proofs.Counts.{all_used, lower_place, one_of, passed, passed_more, passed_run, used_below}
 use Rattle.rq_pool.proofs.Readings.{earlier}
 
 -- the flags of the cells of the first n pages are noted, and no later one is set
@@ -107,6 +107,38 @@ module _ (z : Sizes) (images : List (List ℕ)) (flags : List ℕ) (index : IsFr
 
   pub used_from : (from : ℕ) → IsNextFlag flags from None → (b : ℕ) → IsCellAddress z b → from ≤ place_of z b → is_used (slots_in z images b) ≡ true
   used_from from none b is after = used_there b is (none (place_of z b) after)
+
+  -- a place whose flag is set is that of a free cell
+  pub place_within : (k : ℕ) → flag_at flags k ≡ 1 → k < cell_count z
+  place_within k set = elim (cases_lt k (cell_count z)) [
+    | inl low ↦ low
+    | inr past ↦ let clear = index.beyond k (omega (arith, past)) in absurd (omega (arith, set, clear))
+  ]
+
+  by_flag : (b : Bool) → ◌≡◌ {A = ℕ} (cond b 0 1) 1 → one_of b ≡ 0
+  by_flag true e = absurd (omega (arith, e))
+  by_flag false e = refl
+
+  -- the used cells before the next free one, and up to it
+  pub count_more : (from next used : ℕ) → used ≡ used_below z (slots_in z images) from → IsNextFlag flags from (Some next)
+      → used + (next - from) ≡ used_below z (slots_in z images) (next + 1)
+  count_more from next used so_far is =
+      let f : ℕ → Bool = λ i. is_used (slots_in z images (cell_at z i)) in
+      let low : next < cell_count z = place_within next is.1 in
+      let run : passed f next ≡ passed f from + (next - from) =
+      passed_run f from next (next - from) (omega (arith, is.0)) (λ i after to. by_no_flag (f i) (sym (index.cells i (omega (arith, to, low))) ∙ is.2 i after to)) in
+      let here : one_of (f next) ≡ 0 = by_flag (f next) (sym (index.cells next low) ∙ is.1) in
+      let more : passed f (next + 1) ≡ passed f next + one_of (f next) = passed_more f next in
+      omega (arith, so_far, run, here, more)
+
+  -- and those behind the last free one
+  pub count_rest : (from used : ℕ) → used ≡ used_below z (slots_in z images) from → from ≤ cell_count z → IsNextFlag flags from None
+      → used + (cell_count z - from) ≡ count_used z (slots_in z images)
+  count_rest from used so_far within none =
+      let f : ℕ → Bool = λ i. is_used (slots_in z images (cell_at z i)) in
+      let run : passed f (cell_count z) ≡ passed f from + (cell_count z - from) =
+      passed_run f from (cell_count z) (cell_count z - from) (omega (arith, within)) (λ i after to. by_no_flag (f i) (sym (index.cells i to) ∙ none i after)) in
+      omega (arith, so_far, run)
 
 -- ---- the lowest free cell
 

@@ -317,14 +317,13 @@ impl<P: PageDevice> Pages<P> {
     pub fn used_cells(&self) -> u32
         ensures { result ≡ count_used self.now.sizes (slots_in self.now.sizes self.now.images) }
     {
-        let layout = self.layout();
         let mut used = 0;
-        for place in 0..layout.cell_slots() {
-            if self.is_used(layout.cell_addr(place)) {
-                used += 1;
-            }
+        let mut place = 0;
+        while let Some(next) = self.free.next(place) {
+            used += next - place;
+            place = next + 1;
         }
-        used
+        (used + (self.layout.cell_slots() as usize - place)) as u32
     }
 
     /// Whether a cell is used, as the first byte of its slot tells.
