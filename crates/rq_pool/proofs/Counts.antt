@@ -38,6 +38,18 @@ all_passed f (suc n) each =
     let rest : passed f n ≡ n = all_passed f n (λ i lt. each i (omega arith)) in
     passed_suc f n ∙ omega (arith, here, rest)
 
+-- where each between two numbers passes, these are counted
+pub passed_run : (f : ℕ → Bool) (n m k : ℕ) → m ≡ n + k → ((i : ℕ) → n ≤ i → i < m → f i ≡ true) → passed f m ≡ passed f n + k
+passed_run f n m zero at each =
+    let same : m ≡ n = omega (arith, at) in
+    ap (passed f) same ∙ omega arith
+passed_run f n m (suc k) at each =
+    let is : m ≡ suc (n + k) = omega (arith, at) in
+    let rest : passed f (n + k) ≡ passed f n + k = passed_run f n (n + k) k refl (λ i from to. each i from (omega (arith, to, is))) in
+    let here : one_of (f (n + k)) ≡ 1 = ap one_of (each (n + k) (omega arith) (omega (arith, is))) in
+    let more : passed f (suc (n + k)) ≡ passed f (n + k) + one_of (f (n + k)) = passed_suc f (n + k) in
+    ap (passed f) is ∙ omega (arith, rest, here, more)
+
 -- no more are counted than there are
 pub passed_le : (f : ℕ → Bool) (n : ℕ) → passed f n ≤ n
 passed_le f zero = omega arith

@@ -1,7 +1,7 @@
 -- The index of the free cells is kept.
-use Rattle.std.proofs.Common.{◌≡◌, ◌≢◌, ℕ, ◌*◌, ◌/◌, ◌%◌, ◌<◌, ◌≤◌, Bool, true, false, cond, nat_lt, List, length, refl, sym, ap, ◌∙◌, arith, inl, inr}
+use Rattle.std.proofs.Common.{◌≡◌, ◌≢◌, ℕ, ◌*◌, ◌/◌, ◌%◌, ◌<◌, ◌≤◌, Bool, true, false, cond, nat_lt, List, [], ◌∷◌, ◌++◌, ◌+◌, ◌-◌, length, refl, sym, ap, ◌∙◌, arith, inl, inr}
 use Rattle.std.specs.Prelude.{Option, None, Some, IfSome, IfNone}
-use Rattle.std.proofs.lemmas.Bool.{cases_eq}
+use Rattle.std.proofs.lemmas.Bool.{cases_eq, cases_lt}
 use Rattle.rq_flags.specs.Flags.{flag_at, IsNextFlag}
 use Rattle.rq_page.specs.Sizes.{Sizes, IsCellAddress, cell_count, cell_at, page_count, place_of}
 use Rattle.rq_page.specs.Slots.{Free, held_in}
@@ -11,13 +11,14 @@ use Rattle.rq_views.specs.Log.{Slots}
 use Rattle.rq_views.specs.Stored.{slots_in, slot_at, is_used, count_used}
 use Rattle.rq_pool.specs.Pooled.{image_at}
 use Rattle.rq_pool.specs.Indexed.{free_flag, IsNoted, IsFreeIndex}
-use Rattle.rq_pool.proofs.Counts.{all_used, lower_place}
+use Rattle.rq_pool.proofs.Counts.{all_used, lower_place, one_of, passed, passed_more, passed_run, used_below}
+use Rattle.rq_pool.proofs.Readings.{earlier}
 
--- the flags of the cells before a place are noted, and no later one is set
-pub record AreNotedBelow (z : Sizes) (images : List (List ℕ)) (flags : List ℕ) (n : ℕ) : Type 0 where
+-- the flags of the cells of the first n pages are noted, and no later one is set
+pub record AreNotedTo (z : Sizes) (images : List (List ℕ)) (flags : List ℕ) (n : ℕ) : Type 0 where
   pub room : cell_count z ≤ 64 * length flags
-  pub below : (k : ℕ) → k < n → IsNoted z images flags k
-  pub later : (k : ℕ) → n ≤ k → flag_at flags k ≡ 0
+  pub noted : (k : ℕ) → k < cell_count z → cell_at z k / 16 < n → IsNoted z images flags k
+  pub later : (k : ℕ) → n ≤ cell_at z k / 16 → flag_at flags k ≡ 0
 
 -- the flags of a page's cells before a slot are noted, and all others are as before
 pub record AreNotedOf (z : Sizes) (images : List (List ℕ)) (old flags : List ℕ) (page slot : ℕ) : Type 0 where
@@ -58,6 +59,34 @@ index_written z old new flags now at image lsn index high written elsewhere note
   beyond = λ k past. others k (λ e. absurd (omega (arith, e, high, past))) ∙ index.beyond k past;
 }
 
+-- no cell stands on the first page
+pub noted_none : (z : Sizes) (images : List (List ℕ)) (flags : List ℕ) → cell_count z ≤ 64 * length flags → ((k : ℕ) → flag_at flags k ≡ 0) → AreNotedTo z images flags 1
+noted_none z images flags room none = record { room = room; noted = λ k _ low. absurd (omega (arith, low)); later = λ k _. none k }
+
+-- one page more is read, and noted
+pub noted_more : (z : Sizes) (images new : List (List ℕ)) (flags now : List ℕ) (n : ℕ) (page : List ℕ) → new ≡ images ++ page ∷ [] → length images ≡ n → AreNotedTo z images flags n
+    → ((k : ℕ) → k < cell_count z → cell_at z k / 16 ≡ n → IsNoted z new now k) → ((k : ℕ) → cell_at z k / 16 ≢ n → flag_at now k ≡ flag_at flags k) → length now ≡ length flags
+    → AreNotedTo z new now (n + 1)
+noted_more z images new flags now n page grown count before noted others same = record {
+  room = let r = before.room in omega (arith, r, same);
+  noted = λ k lt low. elim (cases_eq (cell_at z k / 16) n) [
+    | inl here ↦ noted k lt here
+    | inr other ↦
+        let within : cell_at z k / 16 < n = omega (arith, low, other) in
+        let slot : slot_at new (cell_at z k) ≡ slot_at images (cell_at z k) = ap (slot_of (cell_at z k % 16)) (earlier images new n page grown count (cell_at z k / 16) within) in
+        others k other ∙ before.noted k lt within ∙ ap free_flag (sym (slot_stays z images new (cell_at z k) slot))
+  ];
+  later = λ k past. others k (λ e. absurd (omega (arith, e, past))) ∙ before.later k (omega (arith, past));
+}
+
+-- all pages are
+pub index_whole : (z : Sizes) (images : List (List ℕ)) (flags : List ℕ) (n : ℕ) → n ≡ page_count z → AreNotedTo z images flags n → IsFreeIndex z images flags
+index_whole z images flags n all before = record {
+  room = before.room;
+  cells = λ k lt. before.noted k lt (omega (arith, lt, all));
+  beyond = λ k past. before.later k (omega (arith, past, all));
+}
+
 -- ---- what the index tells
 
 module _ (z : Sizes) (images : List (List ℕ)) (flags : List ℕ) (index : IsFreeIndex z images flags) where
@@ -78,6 +107,38 @@ module _ (z : Sizes) (images : List (List ℕ)) (flags : List ℕ) (index : IsFr
 
   pub used_from : (from : ℕ) → IsNextFlag flags from None → (b : ℕ) → IsCellAddress z b → from ≤ place_of z b → is_used (slots_in z images b) ≡ true
   used_from from none b is after = used_there b is (none (place_of z b) after)
+
+  -- a place whose flag is set is that of a free cell
+  pub place_within : (k : ℕ) → flag_at flags k ≡ 1 → k < cell_count z
+  place_within k set = elim (cases_lt k (cell_count z)) [
+    | inl low ↦ low
+    | inr past ↦ let clear = index.beyond k (omega (arith, past)) in absurd (omega (arith, set, clear))
+  ]
+
+  by_flag : (b : Bool) → ◌≡◌ {A = ℕ} (cond b 0 1) 1 → one_of b ≡ 0
+  by_flag true e = absurd (omega (arith, e))
+  by_flag false e = refl
+
+  -- the used cells before the next free one, and up to it
+  pub count_more : (from next used : ℕ) → used ≡ used_below z (slots_in z images) from → IsNextFlag flags from (Some next)
+      → used + (next - from) ≡ used_below z (slots_in z images) (next + 1)
+  count_more from next used so_far is =
+      let f : ℕ → Bool = λ i. is_used (slots_in z images (cell_at z i)) in
+      let low : next < cell_count z = place_within next is.1 in
+      let run : passed f next ≡ passed f from + (next - from) =
+      passed_run f from next (next - from) (omega (arith, is.0)) (λ i after to. by_no_flag (f i) (sym (index.cells i (omega (arith, to, low))) ∙ is.2 i after to)) in
+      let here : one_of (f next) ≡ 0 = by_flag (f next) (sym (index.cells next low) ∙ is.1) in
+      let more : passed f (next + 1) ≡ passed f next + one_of (f next) = passed_more f next in
+      omega (arith, so_far, run, here, more)
+
+  -- and those behind the last free one
+  pub count_rest : (from used : ℕ) → used ≡ used_below z (slots_in z images) from → from ≤ cell_count z → IsNextFlag flags from None
+      → used + (cell_count z - from) ≡ count_used z (slots_in z images)
+  count_rest from used so_far within none =
+      let f : ℕ → Bool = λ i. is_used (slots_in z images (cell_at z i)) in
+      let run : passed f (cell_count z) ≡ passed f from + (cell_count z - from) =
+      passed_run f from (cell_count z) (cell_count z - from) (omega (arith, within)) (λ i after to. by_no_flag (f i) (sym (index.cells i to) ∙ none i after)) in
+      omega (arith, so_far, run)
 
 -- ---- the lowest free cell
 

@@ -1,11 +1,14 @@
 -- The slots that pages hold.
-use Rattle.std.proofs.Common.{◌≡◌, ℕ, ◌/◌, ◌%◌, ◌<◌, ◌≤◌, ◌==◌, Bool, true, false, not, cond, if◌then◌else◌, nat_lt, List, refl, sym, ◌∙◌, ap, arith}
+use Rattle.std.proofs.Common.{◌≡◌, ℕ, ◌/◌, ◌%◌, ◌<◌, ◌≤◌, ◌==◌, Bool, true, false, not, cond, if◌then◌else◌, nat_lt, List, Option, Some, refl, sym, ◌∙◌, ap, subst, arith}
 use Rattle.std.specs.Prelude.{slice_index}
 use Rattle.std.proofs.lemmas.Bool.{true≢false}
 use Rattle.std.proofs.lemmas.Bool.Decides.{nat_tests}
 use Rattle.rq_page.specs.Sizes.{Sizes, IsCellAddress, directory_at, sender_count}
-use Rattle.rq_page.specs.Slots.{Free, held_in, held_for, of_cell_slot}
-use Rattle.rq_page.specs.Cells.{cell_in, cell_slot_in}
+use Rattle.rq_page.specs.Slots.{Free, held_in, held_for, of_cell_slot, IsSlotOf, MayHold, SpellingTells}
+use Rattle.rq_page.specs.Cells.{cell_in, cell_slot_in, free_bytes}
+use Rattle.rq_page.specs.Kinds.{kind_of}
+use Rattle.rq_page.specs.declared.layout.PageKind.{PageKind}
+use Rattle.rq_page.specs.declared.layout.PageKind.TheVariants as kind
 use Rattle.rq_page.specs.declared.cell.CellSlot.{CellSlot}
 use Rattle.rq_page.specs.declared.cell.CellSlot.TheVariants as cells
 use Rattle.rq_page.proofs.Addresses.{senders_have_slots, kind_cells}
@@ -44,3 +47,9 @@ unused_free z images a is h =
       by : (x : CellSlot) → is_used (of_cell_slot x) ≡ false → of_cell_slot x ≡ Free
       by cells.Free e = refl
       by (cells.Used c) e = absurd (true≢false e)
+
+-- the bytes of a free cell are those of a slot of each page of cells
+pub free_is_slot : (z : Sizes) (page slot : ℕ) (bytes free : List ℕ) → 1 ≤ slot → slot ≤ 15 → kind_of z page ≡ Some kind.Cells → bytes ≡ free → free ≡ free_bytes → SpellingTells → IsSlotOf z page slot bytes
+free_is_slot z page slot bytes free low high is same spelled tells =
+    let may : MayHold (kind_of z page) z page slot Free = subst (λ (k : Option PageKind). MayHold k z page slot Free) (sym is) tt in
+    subst (IsSlotOf z page slot) (sym (same ∙ spelled)) ((tells z page slot Free low high may).1)

@@ -8,29 +8,8 @@ ghost use Rattle.rq_pool.specs.Indexed.{IsNoted, IsFreeIndex};
 
 use crate::Frame;
 use rq_flags::Index;
-use rq_model::refusal::NoMemory;
 use rq_page::addr::Addr;
 use rq_page::layout::{Layout, SLOTS};
-use std::alloc::Global;
-
-/// The free cells of the pages in frames.
-///
-/// # Errors
-/// `NoMemory`.
-pub(crate) fn index_cells(
-    alloc: Global,
-    layout: &Layout,
-    frames: &[Frame],
-) -> Result<Index, NoMemory>
-    requires { page_count layout.now ≤ length frames.now }
-    ensures { IfOk result (λ free. IsFreeIndex layout.now (images_of frames.now) free) }
-{
-    let mut free = Index::new(alloc, layout.cell_slots())?;
-    for place in 0..layout.cell_slots() {
-        note_slot(&mut free, layout, frames, layout.cell_addr(place));
-    }
-    Ok(free)
-}
 
 /// Notes of each cell of a page whether it is free.
 pub(crate) fn note_page(free: &mut Index, layout: &Layout, frames: &[Frame], number: u32)

@@ -16,12 +16,12 @@ mod free;
 mod reading;
 
 use crate::frames::{mark_written, set_page, write_slot};
-use crate::free::{index_cells, note_page, note_slot};
+use crate::free::{note_page, note_slot};
 use crate::reading::{read_again, read_frames, read_superblock};
 use rq_disk::PageDevice;
 use rq_flags::Index;
 use rq_model::record::Slot;
-use rq_model::refusal::{NoMemory, Refusal};
+use rq_model::refusal::Refusal;
 use rq_model::txn::Lsn;
 use rq_page::addr::Addr;
 use rq_page::cell::{Cell, CellSlot};
@@ -103,21 +103,14 @@ impl<P: PageDevice + Drop> Pages<P> {
             Ok(first) => first,
             Err(refusal) => return Err(Stopped { refusal, device }),
         };
-        let frames = match read_frames(alloc, &mut device, &layout, superblock) {
-            Ok(frames) => frames,
-            Err(refusal) => return Err(Stopped { refusal, device }),
-        };
-        match index_cells(alloc, &layout, &frames) {
-            Ok(free) => Ok(Pages {
+        match read_frames(alloc, &mut device, &layout, superblock) {
+            Ok((frames, free)) => Ok(Pages {
                 device,
                 layout,
                 frames,
                 free,
             }),
-            Err(NoMemory) => Err(Stopped {
-                refusal: Refusal::NoMemory,
-                device,
-            }),
+            Err(refusal) => Err(Stopped { refusal, device }),
         }
     }
 
@@ -324,14 +317,13 @@ impl<P: PageDevice> Pages<P> {
     pub fn used_cells(&self) -> u32
         ensures { result ≡ count_used self.now.sizes (slots_in self.now.sizes self.now.images) }
     {
-        let layout = self.layout();
         let mut used = 0;
-        for place in 0..layout.cell_slots() {
-            if self.is_used(layout.cell_addr(place)) {
-                used += 1;
-            }
+        let mut place = 0;
+        while let Some(next) = self.free.next(place) {
+            used += next - place;
+            place = next + 1;
         }
-        used
+        (used + (self.layout.cell_slots() as usize - place)) as u32
     }
 
     /// Whether a cell is used, as the first byte of its slot tells.

@@ -1,13 +1,24 @@
 //! Reads the pages of a device.
-ghost use Rattle.std.specs.Prelude.{ℕ, ◌≡◌, ◌↔◌, ◌<◌, ◌≤◌, ◌+◌, ◌%◌, ◌^◌, ◌++◌, ◌∷◌, [], false, replicate, IsTrue, IfOk, IfErr, OnOk};
+ghost use Rattle.std.specs.Prelude.{ℕ, ◌≡◌, ◌↔◌, ◌<◌, ◌≤◌, ◌+◌, ◌%◌, ◌^◌, ◌++◌, ◌∷◌, [], false, replicate, IsTrue, IfOk, IfErr, OnOk, Some};
+ghost use Rattle.std.specs.Bool.{OnTrue};
 ghost use Rattle.rq_page.specs.Sizes.{page_count};
+ghost use Rattle.rq_page.specs.Kinds.{kind_of};
+ghost use Rattle.rq_page.specs.Cells.{free_bytes};
+ghost use Rattle.rq_page.specs.Slots.{IsSlotOf};
+ghost use Rattle.rq_page.specs.declared.layout.PageKind.TheVariants as kind;
+ghost use Rattle.rq_pool.specs.Indexed.{IsFreeIndex};
 ghost use Rattle.rq_pool.specs.Frames.{images_of, changed_of};
 ghost use Rattle.rq_pool.specs.Reading.{OnlyRead, HasAnswered, IsSuperblock, IsSoundPage, ArePages, AreSeen, NotReadAgain, StopsFor};
 
 use crate::Frame;
+use crate::free::note_page;
+use rq_bytes::equal::are_equal;
 use rq_disk::{PAGE, PageDevice};
+use rq_flags::Index;
+use rq_model::record::Slot;
 use rq_model::refusal::{Damage, Refusal};
-use rq_page::layout::{Layout, SLOTS};
+use rq_page::cell::CellSlot;
+use rq_page::layout::{Layout, PageKind, SLOTS};
 use rq_page::page::Page;
 use std::alloc::Global;
 
@@ -26,20 +37,21 @@ pub(crate) fn read_superblock<P: PageDevice>(device: &mut P) -> Result<(Page, La
     }
 }
 
-/// Reads the pages behind the first, and checks each as it is read.
-#[tactic(auto, using(crate::proofs::Readings::stops_later))]
+/// Reads the pages behind the first, and checks each as it is read. Beside them, which cells are free.
+#[tactic(auto, using(crate::proofs::Readings::stops_later, crate::proofs::Indexes::noted_none, crate::proofs::Indexes::index_whole))]
 pub(crate) fn read_frames<P: PageDevice>(
     alloc: Global,
     device: &mut P,
     layout: &Layout,
     superblock: Page,
-) -> Result<Vec<Frame>, Refusal>
+) -> Result<(Vec<Frame>, Index), Refusal>
     requires superblock { IsSuperblock layout.now superblock }
     requires first { P.honest device.old → superblock ≡ P.seen device.old 0 }
-    ensures ok { IfOk result (λ frames. ArePages layout.now (images_of frames.items)) }
-    ensures seen { IfOk result (λ frames. P.honest device.new
-        → AreSeen (P.seen device.old) (images_of frames.items) (page_count layout.now)) }
-    ensures changed { IfOk result (λ frames. changed_of frames.items ≡ replicate (page_count layout.now) false) }
+    ensures ok { IfOk result (λ read. ArePages layout.now (images_of read.0.items)) }
+    ensures seen { IfOk result (λ read. P.honest device.new
+        → AreSeen (P.seen device.old) (images_of read.0.items) (page_count layout.now)) }
+    ensures changed { IfOk result (λ read. changed_of read.0.items ≡ replicate (page_count layout.now) false) }
+    ensures free { IfOk result (λ read. IsFreeIndex layout.now (images_of read.0.items) read.1) }
     ensures cause { OnOk result (P.faults device.new ≡ P.faults device.old) }
     ensures err { IfErr result (λ e. StopsFor P.PageDevice e device.old device.new) }
     ensures device { OnlyRead P.PageDevice device.old device.new }
@@ -48,12 +60,17 @@ pub(crate) fn read_frames<P: PageDevice>(
     let Ok(mut frames) = Vec::with_capacity(alloc, count as usize) else {
         return Err(Refusal::NoMemory);
     };
-    add_frame(&mut frames, superblock)?;
+    let Ok(mut free) = Index::new(alloc, layout.cell_slots()) else {
+        return Err(Refusal::NoMemory);
+    };
+    let mut page = superblock;
+    add_frame(&mut frames, &page)?;
     for number in 1..count {
-        let page = read_sound_page(device, layout, number)?;
-        add_frame(&mut frames, page)?;
+        read_sound_page(device, layout, number, &mut page)?;
+        add_frame(&mut frames, &page)?;
+        note_page(&mut free, layout, &frames, number);
     }
-    Ok(frames)
+    Ok((frames, free))
 }
 
 /// Reads a page behind the first once more, and checks it.
@@ -78,37 +95,39 @@ pub(crate) fn read_again<P: PageDevice>(
     }
 }
 
-// Reads a page behind the first, and checks it.
+// Reads a page behind the first over another, and checks it.
 fn read_sound_page<P: PageDevice>(
     device: &mut P,
     layout: &Layout,
     number: u32,
-) -> Result<Page, Refusal>
+    page: &mut Page,
+) -> Result<(), Refusal>
     requires superblock { P.honest device.old → IsSuperblock layout.now (P.seen device.old 0) }
     requires low { 0 < number }
     requires high { number < page_count layout.now }
     requires earlier { P.honest device.old → (q : ℕ) → 1 ≤ q → q < number → IsSoundPage layout.now q (P.seen device.old q) }
-    ensures ok { IfOk result (λ page. (P.honest device.new → page ≡ P.seen device.old number)
-        × IsSoundPage layout.now number page) }
+    ensures ok { OnOk result ((P.honest device.new → page.new ≡ P.seen device.old number)
+        × IsSoundPage layout.now number page.new) }
     ensures cause { OnOk result (P.faults device.new ≡ P.faults device.old) }
     ensures err { IfErr result (λ e. StopsFor P.PageDevice e device.old device.new) }
     ensures device { OnlyRead P.PageDevice device.old device.new }
 {
-    let page = read_page(device, number)?;
-    if is_sound(layout, number, &page) {
-        Ok(page)
+    read_into(device, number, page)?;
+    if is_sound(layout, number, page) {
+        Ok(())
     } else {
         Err(Refusal::Damaged(Damage::Page(number)))
     }
 }
 
-fn add_frame(frames: &mut Vec<Frame>, page: Page) -> Result<(), Refusal>
-    ensures ok { OnOk result (images_of frames.new.items ≡ images_of frames.old.items ++ page ∷ []) }
+// Puts a page into a frame at the end.
+fn add_frame(frames: &mut Vec<Frame>, page: &Page) -> Result<(), Refusal>
+    ensures ok { OnOk result (images_of frames.new.items ≡ images_of frames.old.items ++ page.now ∷ []) }
     ensures changed { OnOk result (changed_of frames.new.items ≡ changed_of frames.old.items ++ false ∷ []) }
     ensures err { IfErr result (λ e. e ≡ Refusal.NoMemory) }
 {
     let frame = Frame {
-        page,
+        page: Page::from_image(page.image()),
         changed: false,
     };
     match frames.push(frame) {
@@ -117,6 +136,7 @@ fn add_frame(frames: &mut Vec<Frame>, page: Page) -> Result<(), Refusal>
     }
 }
 
+// Reads a page.
 fn read_page<P: PageDevice>(device: &mut P, number: u32) -> Result<Page, Refusal>
     ensures ok { IfOk result (λ page. P.honest device.new → page ≡ P.seen device.old number) }
     ensures cause { OnOk result (P.faults device.new ≡ P.faults device.old) }
@@ -125,9 +145,24 @@ fn read_page<P: PageDevice>(device: &mut P, number: u32) -> Result<Page, Refusal
         × (P.faults device.new ≡ (P.faults device.old + 1) % 2 ^ 64)) }
     ensures device { OnlyRead P.PageDevice device.old device.new }
 {
-    let mut image = [0; PAGE];
-    match device.read(number, &mut image) {
-        Ok(()) => Ok(Page::from_image(&image)),
+    let mut page = Page::from_image(&[0; PAGE]);
+    match read_into(device, number, &mut page) {
+        Ok(()) => Ok(page),
+        Err(refusal) => Err(refusal),
+    }
+}
+
+// Reads a page over another.
+fn read_into<P: PageDevice>(device: &mut P, number: u32, page: &mut Page) -> Result<(), Refusal>
+    ensures ok { OnOk result (P.honest device.new → page.new ≡ P.seen device.old number) }
+    ensures cause { OnOk result (P.faults device.new ≡ P.faults device.old) }
+    ensures answered { OnOk result (HasAnswered P.PageDevice device.old device.new) }
+    ensures err { IfErr result (λ e. (e ≡ Refusal.DiskRead)
+        × (P.faults device.new ≡ (P.faults device.old + 1) % 2 ^ 64)) }
+    ensures device { OnlyRead P.PageDevice device.old device.new }
+{
+    match device.read(number, page.image_mut()) {
+        Ok(()) => Ok(()),
         Err(_) => Err(Refusal::DiskRead),
     }
 }
@@ -139,10 +174,35 @@ fn is_sound(layout: &Layout, number: u32, page: &Page) -> bool
     if !layout.check_header(number, page) {
         return false;
     }
+    let free = CellSlot::Free.encode();
     for slot in 1..SLOTS as u8 + 1 {
-        if !layout.check_slot(number, slot, page.slot(slot)) {
+        if !is_slot(layout, number, slot, page.slot(slot), &free) {
             return false;
         }
     }
     true
+}
+
+// Whether these bytes are those of a slot at its place. A free cell is known by its bytes, which are given.
+fn is_slot(layout: &Layout, number: u32, slot: u8, bytes: &Slot, free: &Slot) -> bool
+    requires low { 1 ≤ slot }
+    requires high { slot ≤ 15 }
+    requires free { free.now ≡ free_bytes }
+    ensures { IsTrue result ↔ IsSlotOf layout.now number slot bytes.now }
+{
+    if has_cells(layout, number) && are_equal(bytes, free) {
+        Layout::slots_are_spellings();
+        return true;
+    }
+    layout.check_slot(number, slot, bytes)
+}
+
+// Whether a page is one of cells.
+fn has_cells(layout: &Layout, number: u32) -> bool
+    ensures { OnTrue result (kind_of layout.now number ≡ Some kind.Cells) }
+{
+    match layout.kind(number) {
+        Some(PageKind::Cells) => true,
+        _ => false,
+    }
 }

@@ -3,6 +3,7 @@ use Rattle.rq_pool.specs.Frames.{images_of, changed_of}
 use Rattle.rq_pool.specs.Pooled.{image_at}
 use Rattle.rq_pool.specs.Reading.{OnlyRead, AreSeen}
 use Rattle.rq_pool.proofs.Readings.{AreRead}
+use Rattle.rq_pool.proofs.Indexes.{AreNotedTo}
 use Rattle.rq_pool.proofs.reading.read_frames.Given as goal
 
 abbrev pub invariant-loop-number : goal.invariant-loop-number
@@ -13,6 +14,7 @@ invariant-loop-number g l =
       superblock : image_at (images_of l.frames.items) 0 ≡ l.fn.superblock;
       seen : P.honest l.device → AreSeen (P.seen l.fn.device) (images_of l.frames.items) l.number;
       unchanged : changed_of l.frames.items ≡ replicate l.number false;
+      free : AreNotedTo l.layout (images_of l.frames.items) l.free l.number;
       faults : P.faults l.device ≡ P.faults l.fn.device;
       device : OnlyRead P l.fn.device l.device;
     }
