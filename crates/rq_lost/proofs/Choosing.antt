@@ -91,7 +91,7 @@ map_some (d ∷ ds) e = absurd (cc e)
 
 module _ (s : State) (k : IsSound s) (r : Row) (j : In r s.rows) where
   own : map placed_due (filter (due_of r.txn) (dues s.records)) ≡ placed r.finished
-  own = own_dues s.sizes s.records r.txn ∙ (k.standing.each r j).done
+  own = own_dues s.sizes s.records r.txn k.log.legal ∙ (k.standing.each r j).done
 
   none_left : any_due r.txn (dues s.records) ≡ false → r.finished ≡ []
   none_left e = elim (nil_or r.finished) [

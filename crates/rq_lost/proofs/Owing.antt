@@ -11,8 +11,8 @@ use Rattle.rq_model.specs.Deeds.{deed_in}
 use Rattle.rq_model.specs.Words.{In, same_txn}
 use Rattle.rq_model.proofs.Lists.{In-filter, In-map, same_self}
 use Rattle.rq_page.specs.Sizes.{Sizes}
-use Rattle.rq_views.specs.Items.{items, item_of, told_deed}
-use Rattle.rq_views.specs.Legal.{Placed, open_deeds}
+use Rattle.rq_views.specs.Items.{items, item_of, layout_of, told_deed}
+use Rattle.rq_views.specs.Legal.{IsLegalLog, Placed, open_deeds}
 use Rattle.rq_views.proofs.AllOpen.{Owned, all_open, but_all, but_first, own_open, owned_by, placed_of}
 use Rattle.rq_txn.specs.declared.Finished.{Finished}
 use Rattle.rq_txn.specs.Rows.{Row, found_row}
@@ -45,19 +45,29 @@ map_but_own t (d ∷ ds) = elim (cases_Bool (same_txn d.txn t)) [
   | inr n ↦ rw n (ap (λ l. owned_due d ∷ l) (map_but_own t ds))
 ]
 
--- they are the open deeds of all
-dues_are : (z : Sizes) (log : List Record) → map owned_due (dues log) ≡ all_open (items z log)
-dues_are z [] = refl
-dues_are z (records.PageOp t n page slot before after ∷ log) = dues_are z log
-dues_are z (records.PageUndo t n undone page slot after ∷ log) = dues_are z log
-dues_are z (records.OpVoid t n ∷ log) = dues_are z log
-dues_are z (records.AbortEnd t ∷ log) = dues_are z log
-dues_are z (records.Restart i ∷ log) = dues_are z log
-dues_are z (records.CompEnd t n undone ∷ log) = map_but_newest t (dues log) ∙ ap (but_first (owned_by t)) (dues_are z log)
-dues_are z (records.Commit t ∷ log) = map_but_own t (dues log) ∙ ap (but_all (owned_by t)) (dues_are z log)
-dues_are z (records.OpEnd t n level deed ∷ log) =
+-- where a transaction has nothing open, all are of others
+others_stay : (t : Txn) (xs : List Owned) → map placed_of (filter (owned_by t) xs) ≡ [] → but_all (owned_by t) xs ≡ xs
+others_stay t [] e = refl
+others_stay t (x ∷ xs) e = elim (cases_Bool (owned_by t x)) [
+  | inl y ↦ (let bad : placed_of x ∷ map placed_of (filter (owned_by t) xs) ≡ [] = rw y at e in absurd (cc bad))
+  | inr n ↦ rw n (ap (λ l. x ∷ l) (others_stay t xs (rw n at e)))
+]
+
+-- of a legal log they are the open deeds of all
+dues_are : (z : Sizes) (log : List Record) → IsLegalLog (layout_of z) (items z log) → map owned_due (dues log) ≡ all_open (items z log)
+dues_are z [] k = refl
+dues_are z (records.PageOp t n page slot before after ∷ log) k = dues_are z log k.1
+dues_are z (records.PageUndo t n undone page slot after ∷ log) k = dues_are z log k.1
+dues_are z (records.OpVoid t n ∷ log) k = dues_are z log k.1
+dues_are z (records.Restart i ∷ log) k = dues_are z log k.1
+dues_are z (records.CompEnd t n undone ∷ log) k = map_but_newest t (dues log) ∙ ap (but_first (owned_by t)) (dues_are z log k.1)
+dues_are z (records.Commit t ∷ log) k = map_but_own t (dues log) ∙ ap (but_all (owned_by t)) (dues_are z log k.1)
+dues_are z (records.AbortEnd t ∷ log) k =
+    map_but_own t (dues log) ∙ ap (but_all (owned_by t)) (dues_are z log k.1)
+    ∙ others_stay t (all_open (items z log)) (own_open t (items z log) ∙ k.0.empty)
+dues_are z (records.OpEnd t n level deed ∷ log) k =
     let d : Deed = told_deed (deed_in deed) in
-    ap (λ (l : List Owned). record { txn = t; placed = record { lsn = length log + 1; deed = d } } ∷ l) (dues_are z log)
+    ap (λ (l : List Owned). record { txn = t; placed = record { lsn = length log + 1; deed = d } } ∷ l) (dues_are z log k.1)
     ∙ ap (λ (k : ℕ). record { txn = t; placed = record { lsn = k + 1; deed = d } } ∷ all_open (items z log)) (sym (length-map log (item_of z)))
 
 map_own : (t : Txn) (ds : List Due) → map placed_of (filter (owned_by t) (map owned_due ds)) ≡ map placed_due (filter (due_of t) ds)
@@ -67,8 +77,8 @@ map_own t (d ∷ ds) = elim (cases_Bool (same_txn d.txn t)) [
   | inr n ↦ rw n (map_own t ds)
 ]
 
-pub own_dues : (z : Sizes) (log : List Record) (t : Txn) → map placed_due (filter (due_of t) (dues log)) ≡ open_deeds t (items z log)
-own_dues z log t = sym (map_own t (dues log)) ∙ ap (λ (l : List Owned). map placed_of (filter (owned_by t) l)) (dues_are z log) ∙ own_open t (items z log)
+pub own_dues : (z : Sizes) (log : List Record) (t : Txn) → IsLegalLog (layout_of z) (items z log) → map placed_due (filter (due_of t) (dues log)) ≡ open_deeds t (items z log)
+own_dues z log t k = sym (map_own t (dues log)) ∙ ap (λ (l : List Owned). map placed_of (filter (owned_by t) l)) (dues_are z log k) ∙ own_open t (items z log)
 
 -- the newest stands first
 abbrev AreBelow : ℕ → List Due → Type 0
@@ -101,10 +111,10 @@ dues_below [] = tt
 dues_below (records.PageOp t n page slot before after ∷ log) = older_below log (dues log) (dues_below log)
 dues_below (records.PageUndo t n undone page slot after ∷ log) = older_below log (dues log) (dues_below log)
 dues_below (records.OpVoid t n ∷ log) = older_below log (dues log) (dues_below log)
-dues_below (records.AbortEnd t ∷ log) = older_below log (dues log) (dues_below log)
 dues_below (records.Restart i ∷ log) = older_below log (dues log) (dues_below log)
 dues_below (records.CompEnd t n undone ∷ log) = below_newest t (suc (length log)) (dues log) (older_below log (dues log) (dues_below log))
 dues_below (records.Commit t ∷ log) = below_own t (suc (length log)) (dues log) (older_below log (dues log) (dues_below log))
+dues_below (records.AbortEnd t ∷ log) = below_own t (suc (length log)) (dues log) (older_below log (dues log) (dues_below log))
 dues_below (records.OpEnd t n level deed ∷ log) = (omega arith, below_more (length log) (length log + 1) (dues log) (omega arith) (dues_below log))
 
 all_below : (n : ℕ) (ds : List Due) (d : Due) → AreBelow n ds → In d ds → d.lsn ≤ n
@@ -124,7 +134,7 @@ module _ (s : State) (k : IsSound s) where
   -- what is finished is due
   is_due : (q : Row) (g : Finished) → In q s.rows → In g q.finished → (d : Due) × In d (dues s.records) × (g.lsn ≡ d.lsn)
   is_due q g j i =
-      let there : In (placed_one g) (map placed_due (filter (due_of q.txn) (dues s.records))) = subst (In (placed_one g)) (sym (k.standing.each q j).done ∙ sym (own_dues s.sizes s.records q.txn)) (in_placed q.finished g i) in
+      let there : In (placed_one g) (map placed_due (filter (due_of q.txn) (dues s.records))) = subst (In (placed_one g)) (sym (k.standing.each q j).done ∙ sym (own_dues s.sizes s.records q.txn k.log.legal)) (in_placed q.finished g i) in
       let m = In-map placed_due (filter (due_of q.txn) (dues s.records)) (placed_one g) there in
       let f = In-filter (due_of q.txn) (dues s.records) m.0 m.1 in
       (m.0, f.0, ap (λ (p : Placed). p.lsn) m.2)
@@ -143,7 +153,7 @@ module _ (s : State) (k : IsSound s) where
 
   module _ (d : Due) (ds : List Due) (e : dues s.records ≡ d ∷ ds) where
     opens : open_deeds d.txn (items s.sizes s.records) ≡ placed_due d ∷ map placed_due (filter (due_of d.txn) ds)
-    opens = sym (own_dues s.sizes s.records d.txn) ∙ ap (λ l. map placed_due (filter (due_of d.txn) l)) e ∙ rw (same_self d.txn) refl
+    opens = sym (own_dues s.sizes s.records d.txn k.log.legal) ∙ ap (λ l. map placed_due (filter (due_of d.txn) l)) e ∙ rw (same_self d.txn) refl
 
     newest : (q : Row) (g : Finished) → In q s.rows → In g q.finished → g.lsn ≤ d.lsn
     newest q g j i =

@@ -34,7 +34,7 @@ use Rattle.rq_page.specs.Sizes.{Sizes}
 use Rattle.rq_views.specs.Log.{Slots}
 use Rattle.rq_lost.specs.declared.dues.Due.{Due}
 use Rattle.rq_lost.specs.Choices.{least_free}
-use Rattle.rq_lost.specs.Dues.{deed_due, dues, finished_due}
+use Rattle.rq_lost.specs.Dues.{deed_due, due_of, dues, finished_due}
 use Rattle.rq_lost.specs.Moves.{IsAbortMove, newest_store}
 use Rattle.rq_lost.specs.Moves.IsAbortMove.{Starts, Writes, Undoes, Ends}
 use Rattle.rq_lost.specs.Numbers.{number_of, numbers}
@@ -276,7 +276,8 @@ end_less log t e =
     let off : not (same_txn t t) ≡ false = ap not (same_self t) in
     let a = filter_less (λ (u : Txn). not (same_txn t u)) (lost log) t (least_there (dues log) (lost log) t e) off in
     let b : length (lost (AbortEnd t ∷ log)) ≡ length (filter (λ (u : Txn). not (same_txn t u)) (lost log)) = ap length (lost_ended t log) in
-    omega (arith, a, b)
+    let c : length (dues (AbortEnd t ∷ log)) ≤ length (dues log) = filter_le (λ (d : Due). not (due_of t d)) (dues log) in
+    omega (arith, a, b, c)
 
 pub aborts_come : AbortsComeToAnEnd
 aborts_come = record {

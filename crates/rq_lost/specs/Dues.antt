@@ -1,10 +1,11 @@
--- What is to be taken back, as a stack: the deeds of a log that no Commit and no inverse names, the newest first.
+-- What is to be taken back, as a stack: the deeds of transactions with neither Commit nor AbortEnd that no inverse took
+-- back, the newest first.
 use Rattle.std.specs.Prelude.{◌≡◌, ℕ, ◌+◌, ◌≤◌, Bool, false, not, ◌||◌, cond, List, [], ◌∷◌, ◌++◌, length, Some}
 use Rattle.std.specs.List.{filter}
 use Rattle.rq_model.specs.declared.txn.Txn.{Txn}
 use Rattle.rq_model.specs.declared.record.Deed.{Deed}
 use Rattle.rq_model.specs.declared.record.Record.{Record}
-use Rattle.rq_model.specs.declared.record.Record.TheVariants.{CompEnd, Commit, OpEnd}
+use Rattle.rq_model.specs.declared.record.Record.TheVariants.{AbortEnd, CompEnd, Commit, OpEnd}
 use Rattle.rq_model.specs.Deeds.{deed_in}
 use Rattle.rq_model.specs.Words.{In, same_txn}
 use Rattle.rq_views.specs.Items.{told_deed}
@@ -32,9 +33,10 @@ abbrev pub but_own : Txn → List Due → List Due
 but_own t ds = filter (λ d. not (due_of t d)) ds
 
 abbrev pub dues_after : ℕ → Record → List Due → List Due
-dues_after n (OpEnd t m level deed) ds = record { txn = t; lsn = n; deed = deed } ∷ ds
+dues_after n (OpEnd t m level deed) ds = record { txn = t; lsn = n; level = level; deed = deed } ∷ ds
 dues_after n (CompEnd t m undone) ds = but_newest t ds
 dues_after n (Commit t) ds = but_own t ds
+dues_after n (AbortEnd t) ds = but_own t ds
 dues_after n _ ds = ds
 
 abbrev pub dues : List Record → List Due

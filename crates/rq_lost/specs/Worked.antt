@@ -39,10 +39,10 @@ abbrev pub took_two : Finished
 took_two = record { lsn = 11; deed = takes 0 }
 
 abbrev pub sent_due : Due
-sent_due = record { txn = t2; lsn = 8; deed = spelled_deed (sends 15) }
+sent_due = record { txn = t2; lsn = 8; level = 1; deed = spelled_deed (sends 15) }
 
 abbrev pub took_due : Due
-took_due = record { txn = t2; lsn = 11; deed = spelled_deed (takes 0) }
+took_due = record { txn = t2; lsn = 11; level = 1; deed = spelled_deed (takes 0) }
 
 abbrev pub row_two : Row
 row_two = record {

@@ -11,18 +11,21 @@ use rq_record::decode_deed;
 use std::alloc::Global;
 use std::marker::Model;
 
-/// What a finished operation did that no Commit and no inverse names.
+/// What a finished operation of a transaction without an end did that no inverse took back.
 #[derive(Clone, Copy)]
 pub struct Due {
     /// Whose it is.
     pub txn: Txn,
     /// The LSN of its OpEnd.
     pub lsn: Lsn,
-    /// What that says was done.
+    /// The level that this says.
+    pub level: u8,
+    /// What it says was done.
     pub deed: DeedBytes,
 }
 
-/// What is to be taken back of the transactions of a log that have no Commit. Contracts see it as a stack, the newest first.
+/// What is to be taken back of the transactions of a log that have neither Commit nor AbortEnd. Contracts see it as a
+/// stack, the newest first.
 #[derive(Drop)]
 pub struct Dues {
     /// In the order of their records.
@@ -69,17 +72,23 @@ impl Dues {
         ensures err { OnErr result (self.new ≡ self.old) }
     {
         match record {
-            Record::OpEnd { txn, deed, .. } => self.add(Due {
+            Record::OpEnd {
+                txn,
+                level,
+                deed,
+                ..
+            } => self.add(Due {
                 txn: *txn,
                 lsn,
+                level: *level,
                 deed: *deed,
             }),
             Record::CompEnd { txn, .. } => {
                 self.take_back(*txn);
                 Ok(())
             }
-            Record::Commit { txn } => {
-                self.keep(*txn);
+            Record::Commit { txn } | Record::AbortEnd { txn } => {
+                self.end(*txn);
                 Ok(())
             }
             _ => Ok(()),
@@ -129,8 +138,8 @@ impl Dues {
         }
     }
 
-    // What the transaction did stays done.
-    fn keep(&mut self, txn: Txn)
+    // The transaction has ended: nothing that it did is to be taken back.
+    fn end(&mut self, txn: Txn)
         ensures { self.new ≡ but_own txn self.old }
     {
         self.dues.retain(|due| due.txn != txn);

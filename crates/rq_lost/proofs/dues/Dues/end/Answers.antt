@@ -3,7 +3,7 @@ use Rattle.std.proofs.lemmas.Fn.{filter_same}
 use Rattle.rq_lost.specs.declared.dues.Due.{Due}
 use Rattle.rq_lost.specs.Dues.{but_own, due_of}
 use Rattle.rq_lost.proofs.Stack.{filter_reverse}
-use Rattle.rq_lost.proofs.dues.Dues.keep.Goals as goal
+use Rattle.rq_lost.proofs.dues.Dues.end.Goals as goal
 
 pub returns : goal.returns
 returns c =
