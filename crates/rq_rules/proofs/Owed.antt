@@ -162,7 +162,9 @@ dues_kept (records.CompEnd u n lsn ∷ log) f t g = elim (cases_Bool (same_txn u
 dues_kept (records.Commit u ∷ log) f t g =
     let k = or_parts (same_txn u t || false) (has_end log t) g in
     ap (map lsn_of) (other_own t u (dues log) (or_parts (same_txn u t) false k.0).0) ∙ dues_kept log f.1 t k.1
-dues_kept (records.AbortEnd u ∷ log) f t g = dues_kept log f.1 t (or_parts (same_txn u t) (has_end log t) g).1
+dues_kept (records.AbortEnd u ∷ log) f t g =
+    let k = or_parts (same_txn u t) (has_end log t) g in
+    ap (map lsn_of) (other_own t u (dues log) k.0) ∙ dues_kept log f.1 t k.1
 dues_kept (records.PageOp u n page slot before after ∷ log) f t g = dues_kept log f.1 t g
 dues_kept (records.PageUndo u n undone page slot after ∷ log) f t g = dues_kept log f.1 t g
 dues_kept (records.OpVoid u n ∷ log) f t g = dues_kept log f.1 t g

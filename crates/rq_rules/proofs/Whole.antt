@@ -147,7 +147,7 @@ module _ (z : Sizes) (log : List Record) (w : IsWhole z log) (f : FollowAll log)
   -- the newest deed that is left
   takes_newest : (t : Txn) (undone : ℕ) (ws : List Write) → has_end log t ≡ false → Undoes (layout_of z) (open_deeds t (items z log)) undone ws → first (left_of t log) ≡ Some undone
   takes_newest t undone ws run h =
-      sym (ap first (dues_kept log f t run)) ∙ told (filter (due_of t) (dues log)) (open_deeds t (items z log)) (own_dues z log t) h
+      sym (ap first (dues_kept log f t run)) ∙ told (filter (due_of t) (dues log)) (open_deeds t (items z log)) (own_dues z log t w.legal) h
     where
       told : (ds : List Due) (ps : List Placed) → map placed_due ds ≡ ps → Undoes (layout_of z) ps undone ws → first (map owed.lsn_of ds) ≡ Some undone
       told [] ps e k = absurd (subst (λ (x : List Placed). Undoes (layout_of z) x undone ws) (sym e) k)
