@@ -25,9 +25,14 @@ newest_in t (x ∷ ds) d i = elim (cases_Bool (same_txn x.txn t)) [
 own_in : (t : Txn) (ds : List Due) (d : Due) → In d (but_own t ds) → In d ds
 own_in t ds d i = (In-filter (λ (x : Due). not (due_of t x)) ds d i).0
 
+-- where nothing is the transaction's, all stay
+pub own_stay : (t : Txn) (ds : List Due) → any_due t ds ≡ false → but_own t ds ≡ ds
+own_stay t [] off = refl
+own_stay t (d ∷ ds) off = let k = or_parts (same_txn d.txn t) (any_due t ds) off in rw k.0 (ap (λ l. d ∷ l) (own_stay t ds k.1))
+
 -- what is due is told by an OpEnd of the log
 pub due_told : (P : Due → Type 0) (Q : List Record → Type 0) → ((r : Record) (log : List Record) → Q (r ∷ log) → Q log)
-    → ((t : Txn) (n level : ℕ) (deed : List ℕ) (log : List Record) → Q (OpEnd t n level deed ∷ log) → P (record { txn = t; lsn = length log + 1; deed = deed }))
+    → ((t : Txn) (n level : ℕ) (deed : List ℕ) (log : List Record) → Q (OpEnd t n level deed ∷ log) → P (record { txn = t; lsn = length log + 1; level = level; deed = deed }))
     → (log : List Record) → Q log → (d : Due) → In d (dues log) → P d
 due_told P Q older one [] q d i = absurd i
 due_told P Q older one (OpEnd t n level deed ∷ log) q d i = elim i [
@@ -40,7 +45,7 @@ due_told P Q older one (PageOp t n page slot before after ∷ log) q d i = due_t
 due_told P Q older one (PageUndo t n undone page slot after ∷ log) q d i = due_told P Q older one log (older (PageUndo t n undone page slot after) log q) d i
 due_told P Q older one (OpVoid t n ∷ log) q d i = due_told P Q older one log (older (OpVoid t n) log q) d i
 due_told P Q older one (Restart n ∷ log) q d i = due_told P Q older one log (older (Restart n) log q) d i
-due_told P Q older one (AbortEnd t ∷ log) q d i = due_told P Q older one log (older (AbortEnd t) log q) d i
+due_told P Q older one (AbortEnd t ∷ log) q d i = due_told P Q older one log (older (AbortEnd t) log q) d (own_in t (dues log) d i)
 
 abbrev IsDueInRange : Due → Type 0
 IsDueInRange d = IsTxnInRange d.txn × (0 < d.lsn)
@@ -200,7 +205,7 @@ due_working (Commit u ∷ log) d i e =
     other_in u d.txn (analysis log).working (or_parts (commits_txn d.txn (Commit u)) false k.0).0 (due_working log d (own_in u (dues log) d i) k.1)
 due_working (AbortEnd u ∷ log) d i e =
     let k = or_parts (ends_txn d.txn (AbortEnd u)) (has_end log d.txn) e in
-    other_in u d.txn (analysis log).working k.0 (due_working log d i k.1)
+    other_in u d.txn (analysis log).working k.0 (due_working log d (own_in u (dues log) d i) k.1)
 due_working (CompEnd u n undone ∷ log) d i e = due_working log d (newest_in u (dues log) d i) e
 due_working (PageOp u n page slot before after ∷ log) d i e = due_working log d i e
 due_working (PageUndo u n undone page slot after ∷ log) d i e = due_working log d i e

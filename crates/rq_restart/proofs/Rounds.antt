@@ -34,7 +34,7 @@ use Rattle.rq_undone.specs.Analysis.{Analysis, analysis, without_txn}
 use Rattle.rq_inverses.specs.Inverses.{InverseTakesLowest}
 use Rattle.rq_lost.specs.declared.dues.Due.{Due}
 use Rattle.rq_lost.specs.Choices.{least_free}
-use Rattle.rq_lost.specs.Dues.{any_due, deed_due, dues}
+use Rattle.rq_lost.specs.Dues.{any_due, but_own, deed_due, dues}
 use Rattle.rq_lost.specs.Moves.{newest_store}
 use Rattle.rq_lost.specs.Numbers.{number_of, numbers}
 use Rattle.rq_lost.specs.Walk.{IsBetween, IsWithin, ShowsUndone}
@@ -54,7 +54,7 @@ use Rattle.rq_restart.specs.Checked.{IsEnded}
 use Rattle.rq_restart.specs.Found.{AreFindings}
 use Rattle.rq_restart.specs.Repeating.{Belongs, IsRepeated, Paged, Repeats, paged}
 use Rattle.rq_restart.proofs.Aborts.{aborting_none, working_lost}
-use Rattle.rq_restart.proofs.DueLists.{nobody_left, one_next}
+use Rattle.rq_restart.proofs.DueLists.{nobody_left, one_next, own_stay}
 use Rattle.rq_restart.proofs.Planning.{shows_can}
 use Rattle.rq_restart.proofs.Showing.{belongs_next, between_holds, put_next, within_holds}
 
@@ -290,10 +290,10 @@ close_rest log now f h d older n lsn are then grown first = (
   ap (λ (x : Analysis). x.working) (then.history ∙ ap analysis grown) ∙ ap (λ (x : Analysis). x.working) (sym are.history),
 )
 
--- the end of a transaction leaves what is due, and takes it off those that have no end
-pub end_rest : (log now : List Record) (f h : Findings) (t : Txn) → AreFindings f log → AreFindings h now → now ≡ records.AbortEnd t ∷ log → (h.dues ≡ f.dues) × (h.history.working ≡ without_txn t f.history.working)
-end_rest log now f h t are then grown = (
-  then.dues ∙ ap dues grown ∙ sym are.dues,
+-- the end of a transaction with nothing due leaves what is due, and takes it off those that have no end
+pub end_rest : (log now : List Record) (f h : Findings) (t : Txn) → AreFindings f log → AreFindings h now → now ≡ records.AbortEnd t ∷ log → any_due t f.dues ≡ false → (h.dues ≡ f.dues) × (h.history.working ≡ without_txn t f.history.working)
+end_rest log now f h t are then grown off = (
+  then.dues ∙ ap dues grown ∙ ap (but_own t) (sym are.dues) ∙ own_stay t f.dues off,
   ap (λ (x : Analysis). x.working) (then.history ∙ ap analysis grown) ∙ ap (λ (x : Analysis). without_txn t x.working) (sym are.history),
 )
 

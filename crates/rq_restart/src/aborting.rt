@@ -30,9 +30,6 @@ use rq_planner::Planner;
 use rq_pool::Pages;
 use std::alloc::Global;
 
-// The level of the operations whose ends a log may have.
-const OPERATION_LEVEL: u8 = 1;
-
 /// Undoes the transactions that have no end: those first that have nothing left to be taken back, by rising number, and
 /// then what the others did, the newest of all first, each with its end behind the last that it did. The records of it
 /// are made behind the log, of which these are the findings, and nothing is handed over.
@@ -260,11 +257,11 @@ fn plan<P: PageDevice, B: Level>(
         (slots_in pages.now.sizes pages.now.images) [] (deed_due due.now) writes.items) }
     ensures stops { IfErr result (λ e. PlanStops pages.now.sizes pages.now.images due.now e) }
 {
-    // The level reads the deed alone.
+    // The number of its operation is not read.
     let told = Record::OpEnd {
         txn: due.txn,
         operation: 1,
-        level: OPERATION_LEVEL,
+        level: due.level,
         deed: due.deed,
     };
     match planner.take_back(alloc, pages, &told) {

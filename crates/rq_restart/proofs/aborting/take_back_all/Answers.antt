@@ -110,7 +110,7 @@ loop-due-preserved-in-Continue-branch-2 g c =
     let ended : AbortsFrom z mid now (r ∷ mid) = aborts_end z (RepeatedSince z mid (paged now)) mid d.txn (ends_next mid f h made.found d (ap (λ ds. least_free ds f.history.working) (sym made.rest) ∙ kept.none) made.working off made.lost) in
     let ends : HasGoneOn z (AbortsFrom z mid now (r ∷ mid)) mid (r ∷ mid) now new here (IsShown (r ∷ mid) new) =
     one_gone z (AbortsFrom z mid now (r ∷ mid)) mid r now new here (IsShown (r ∷ mid) new) ended one (next_shown z log mid old now f h kept.found made.found d made.rest kept.none made.working off step.shown new (last.same refl)) in
-    let rest = end_rest mid c.append.new.log.records h c.append.new.findings d.txn made.found last.found last.records in
+    let rest = end_rest mid c.append.new.log.records h c.append.new.findings d.txn made.found last.found last.records off in
     record {
       found = last.found;
       none = ap (λ ds. least_free ds c.append.new.findings.history.working) rest.0 ∙ ap (least_free h.dues) (rest.1 ∙ ap (without_txn d.txn) made.working) ∙ none_behind d h.dues f.history.working none;
