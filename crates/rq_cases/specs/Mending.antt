@@ -31,7 +31,7 @@ abbrev pub strange_log : List Record
 strange_log = op_end t1 1 (sends 15) ∷ log_3
 
 abbrev pub strange_due : Due
-strange_due = record { txn = t1; lsn = 4; deed = spelled_deed (sends 15) }
+strange_due = record { txn = t1; lsn = 4; level = 1; deed = spelled_deed (sends 15) }
 
 pub record MendsAreJudged : Type 0 where
   -- what the lost transaction did is taken back in its turn, the newest first, and then it ends

@@ -1,8 +1,8 @@
 //! Logs of which a restart cannot take back what a transaction without an end did.
 use crate::bytes::{
-    BEGUN, COMMIT, FIRST, FIRST_CELL, FREE, Images, SECOND, cell, count, end, fill, first_cell,
-    formatted, group, new_group, one_sent, received, record, sent, sent_once, set_slot, told,
-    told_on, write,
+    ABORT_END, BEGUN, COMMIT, FIRST, FIRST_CELL, FREE, Images, SECOND, cell, count, end, fill,
+    first_cell, formatted, group, new_group, one_sent, received, record, sent, sent_once, set_slot,
+    told, told_on, write,
 };
 use rq_model::record::{Record, Slot};
 use std::test::Fail;
@@ -17,6 +17,17 @@ fn one_taken() -> Record {
     made(group(0, 1, 1, 0, 0))
 }
 
+// The second transaction tells of the next sender that one message was sent and received.
+fn other_taken() -> Record {
+    write(
+        SECOND,
+        1,
+        (1, 2),
+        group(1, 0, 0, 0, 0),
+        group(1, 1, 1, 0, 0),
+    )
+}
+
 // A send that cannot be taken back, and behind it this end of another transaction's receive.
 fn two_lost(newest: Record) -> [Record; 6] {
     [
@@ -24,14 +35,35 @@ fn two_lost(newest: Record) -> [Record; 6] {
         fill(),
         count(),
         end(FIRST, 1, &sent(0, 2)),
-        write(
-            SECOND,
-            1,
-            (1, 2),
-            group(1, 0, 0, 0, 0),
-            group(1, 1, 1, 0, 0),
-        ),
+        other_taken(),
         newest,
+    ]
+}
+
+// A transaction that has its AbortEnd although it sent, and behind it this end of another's receive of that.
+fn left_before(newest: Record) -> [Record; 8] {
+    [
+        BEGUN,
+        fill(),
+        count(),
+        sent_once(),
+        ABORT_END,
+        write(SECOND, 1, (1, 1), one_sent(), group(0, 1, 1, 0, 0)),
+        write(SECOND, 1, (2, 1), first_cell(), FREE),
+        newest,
+    ]
+}
+
+// This end of a receive, and behind it another transaction that has its AbortEnd although it sent.
+fn left_behind(oldest: Record) -> [Record; 7] {
+    [
+        BEGUN,
+        other_taken(),
+        oldest,
+        fill(),
+        count(),
+        sent_once(),
+        ABORT_END,
     ]
 }
 
@@ -159,5 +191,18 @@ fn the_newest_is_named(rt: HostRuntime) -> Result<(), Fail> {
     let alloc = rt.alloc();
     assert!(rt; told(alloc, &two_lost(end(SECOND, 1, &received(1, 2)))) == record(6));
     assert!(rt; told(alloc, &two_lost(end(SECOND, 1, &received(1, 1)))) == record(4));
+    Ok(())
+}
+
+// What a transaction with an AbortEnd left stays done: its end is the last record that it may have.
+#[test]
+fn what_an_abort_left(rt: HostRuntime) -> Result<(), Fail> {
+    let alloc = rt.alloc();
+    assert!(rt; told(alloc, &[BEGUN, fill(), count(), sent_once(), ABORT_END]) == None);
+    // what is lost beside it is taken back, or named where it cannot be
+    assert!(rt; told(alloc, &left_before(end(SECOND, 1, &received(0, 1)))) == None);
+    assert!(rt; told(alloc, &left_before(end(SECOND, 1, &received(0, 2)))) == record(8));
+    assert!(rt; told(alloc, &left_behind(end(SECOND, 1, &received(1, 1)))) == None);
+    assert!(rt; told(alloc, &left_behind(end(SECOND, 1, &received(1, 2)))) == record(3));
     Ok(())
 }
