@@ -155,3 +155,13 @@ returns-in_err-append-clause-stops g c =
 
 pub returns-clause-ended : goal.returns-clause-ended
 returns-clause-ended g c = all_ended c.loop-due.log.records c.loop-due.findings c.loop-due.invariant.found c.in_default.ensures c.loop-due.invariant.none
+
+pub loop-due-smaller-in-Continue-branch-2 : goal.loop-due-smaller-in-Continue-branch-2
+loop-due-smaller-in-Continue-branch-2 g c =
+    let made = c.in_ok-take_back.ensures in
+    let last = c.in_ok-append.ensures in
+    let h = c.take_back.new.findings in
+    let rest = end_rest c.take_back.new.log.records c.append.new.log.records h c.append.new.findings c.in-Some.due.txn made.found last.found last.records (sym c.if-not-owes.ensures) in
+    let before = ap length made.rest in
+    let behind = ap length rest.0 in
+    omega (arith, before, behind)
