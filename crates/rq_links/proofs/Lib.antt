@@ -5,3 +5,4 @@ pub mod Followed
 pub mod Sound
 pub mod Walks
 pub mod Worked
+pub mod Nexts

@@ -1,12 +1,13 @@
 -- What is noted of cells while chains are followed.
-use Rattle.std.specs.Prelude.{◌≡◌, ℕ, ◌<◌, ◌≤◌, ◌⊎◌, List, Some}
+use Rattle.std.specs.Prelude.{◌≡◌, ℕ, ◌<◌, ◌≤◌, ◌⊎◌, true, false, List, Option, None, Some}
 use Rattle.rq_model.specs.Words.{In}
 use Rattle.rq_page.specs.declared.cell.Cell.{Cell}
 use Rattle.rq_page.specs.declared.directory.Directory.{Directory}
-use Rattle.rq_page.specs.Sizes.{Sizes, cell_at, cell_count}
+use Rattle.rq_page.specs.Sizes.{Sizes, IsCellAddress, cell_at, cell_count, place_of}
 use Rattle.rq_flags.specs.Flags.{flag_at}
 use Rattle.rq_views.specs.Chain.{Cells, Node}
 use Rattle.rq_views.specs.Log.{Slots}
+use Rattle.rq_views.specs.Stored.{is_used}
 use Rattle.rq_links.specs.Links.{addresses, AreChains, IsChain, IsMet}
 
 -- a cell of s with this number stands here; it names this one before it, and leads to the next
@@ -41,3 +42,9 @@ pub record AreFollowed (z : Sizes) (q : Slots) (n : ℕ) (met : List ℕ) : Type
   pub whole : AreChains n q chains
   pub added : (k : ℕ) → k < cell_count z → IsMet n chains (cell_at z k) → flag_at met k ≡ 1
   pub only : (k : ℕ) → flag_at met k ≡ 1 → IsMet n chains (cell_at z k)
+
+-- the free cell with the lowest address among those whose places are this one or a later one; none where each is used
+abbrev pub IsNextFree : Sizes → Slots → ℕ → Option ℕ → Type 0
+IsNextFree z q from None = (b : ℕ) → IsCellAddress z b → from ≤ place_of z b → is_used (q b) ≡ true
+IsNextFree z q from (Some a) = IsCellAddress z a × (is_used (q a) ≡ false) × (from ≤ place_of z a)
+    × ((b : ℕ) → IsCellAddress z b → from ≤ place_of z b → b < a → is_used (q b) ≡ true)

@@ -1,14 +1,14 @@
 //! Whether each sender's chain of cells is whole, and each used cell in one of them.
 #![tactic(auto)]
 
-ghost use Rattle.std.specs.Prelude.{◌≡◌, ◌↔◌, ◌*◌, ◌+◌, ◌<◌, ◌≤◌, ℕ, List, length, true, IsTrue, IfOk, IfSome, IfNone};
+ghost use Rattle.std.specs.Prelude.{◌≡◌, ◌↔◌, ◌*◌, ◌+◌, ◌<◌, ◌≤◌, ◌⊎◌, ℕ, List, Some, length, true, IsTrue, IfOk, IfSome, IfNone};
 ghost use Rattle.std.specs.Bool.{OnTrue, OnFalse};
 ghost use Rattle.rq_flags.specs.Flags.{flag_at};
-ghost use Rattle.rq_page.specs.Sizes.{IsCellAddress, IsLink, cell_count, sender_count};
+ghost use Rattle.rq_page.specs.Sizes.{IsCellAddress, IsLink, cell_at, cell_count, sender_count};
 ghost use Rattle.rq_views.specs.Chain.{Node};
 ghost use Rattle.rq_views.specs.Log.{cells_of};
 ghost use Rattle.rq_views.specs.Stored.{slots_in};
-ghost use Rattle.rq_links.specs.Follows.{AreFollowed, EndsSo, IsFollowed, IsLinkedCell};
+ghost use Rattle.rq_links.specs.Follows.{AreFollowed, EndsSo, IsFollowed, IsLinkedCell, IsNextFree};
 ghost use Rattle.rq_links.specs.Links.{AreLinked, IsChain, IsFault, IsFirstBroken, IsFirstUnmet};
 ghost use Rattle.rq_links.specs.Theorems.{FaultsAreExact, SoundStoresAreLinked};
 ghost use Rattle.rq_links.specs.Worked.{WorkedChains};
@@ -134,13 +134,66 @@ fn first_unmet<P: PageDevice>(pages: &Pages<P>, met: &Index) -> Option<u32>
         (slots_in pages.now.sizes pages.now.images) page) }
 {
     let layout = pages.layout();
+    let mut free = next_free(pages, 0);
     for place in 0..layout.cell_slots() {
         let at = layout.cell_addr(place);
-        if pages.is_used(at) && !is_noted(met, place as usize) {
+        if is_unmet(met, place, &free, at) {
             return Some(at.page() as u32);
         }
+        let next = passed(pages, &free, at, place, place + 1);
+        free = next;
     }
     None
+}
+
+// The free cell with the lowest address whose place is this one or a later one.
+fn next_free<P: PageDevice>(pages: &Pages<P>, from: u32) -> Option<Addr>
+    ensures { IsNextFree pages.now.sizes (slots_in pages.now.sizes pages.now.images) from result }
+{
+    pages.next_free(from)
+}
+
+// The same from the place behind this one on.
+fn passed<P: PageDevice>(
+    pages: &Pages<P>,
+    free: &Option<Addr>,
+    at: Addr,
+    place: u32,
+    from: u32,
+) -> Option<Addr>
+    requires at { at ≡ cell_at pages.now.sizes place }
+    requires from { from ≡ place + 1 }
+    requires free { IsNextFree pages.now.sizes (slots_in pages.now.sizes pages.now.images) place free.now }
+    ensures { IsNextFree pages.now.sizes (slots_in pages.now.sizes pages.now.images) from result }
+{
+    if is_at(free, at) {
+        return next_free(pages, from);
+    }
+    *free
+}
+
+// Whether a cell is not the next free one, and not noted.
+fn is_unmet(met: &Index, place: u32, free: &Option<Addr>, at: Addr) -> bool
+    ensures unmet { OnTrue result ((free.now ≡ Some at → ⊥) × (flag_at met.now place ≡ 1 → ⊥)) }
+    ensures met { OnFalse result ((free.now ≡ Some at) ⊎ (flag_at met.now place ≡ 1)) }
+{
+    if is_at(free, at) {
+        return false;
+    }
+    if is_noted(met, place as usize) {
+        return false;
+    }
+    true
+}
+
+// Whether the next free cell stands at an address.
+fn is_at(free: &Option<Addr>, at: Addr) -> bool
+    ensures { IsTrue result ↔ (free.now ≡ Some at) }
+{
+    match free {
+        Some(free) => free.number() == at.number(),
+        None => false,
+    }
 }
 
 // Whether a place is noted.

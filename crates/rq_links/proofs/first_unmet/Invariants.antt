@@ -1,4 +1,5 @@
 use Rattle.rq_views.specs.Stored.{slots_in}
+use Rattle.rq_links.specs.Follows.{IsNextFree}
 use Rattle.rq_links.proofs.Followed.{AreSeen}
 use Rattle.rq_links.proofs.first_unmet.Given as goal
 
@@ -6,4 +7,5 @@ use Rattle.rq_links.proofs.first_unmet.Given as goal
 abbrev pub invariant-loop-place : goal.invariant-loop-place
 invariant-loop-place g l = record {
   seen : AreSeen l.fn.pages.sizes (slots_in l.fn.pages.sizes l.fn.pages.images) l.fn.met l.place;
+  next : IsNextFree l.fn.pages.sizes (slots_in l.fn.pages.sizes l.fn.pages.images) l.place l.free;
 }
