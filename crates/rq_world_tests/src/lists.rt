@@ -32,7 +32,7 @@ struct Row {
     aborting: bool,
     /// What its finished operations did, and is not undone.
     acts: Vec<Act>,
-    /// The senders whose sending and receiving ends it holds.
+    /// The senders whose sending and receiving ends it holds, the one that it took last at the end.
     sending: Vec<u32>,
     receiving: Vec<u32>,
     /// The number of its newest operation.
@@ -71,8 +71,7 @@ impl Lists {
         })
     }
 
-    /// What happens next comes to this. A receive takes from `picked`, if it may, else from the lowest sender that it
-    /// may.
+    /// What happens next comes to this. A receive of any group takes from `picked`, if it may.
     pub fn happen(&mut self, happening: &Happening, picked: u32) -> Result<Told, AllocError> {
         let told = self.come_to(happening, picked);
         self.note(&told)?;
@@ -319,15 +318,34 @@ impl Lists {
 
     fn start_receive(&mut self, txn: Txn, picked: u32) -> Result<Told, Refusal> {
         let place = self.idle_place(txn)?;
-        if self.may_take(place, picked) {
-            return self.start_take(place, picked);
+        match self.group_for(place, picked) {
+            Some(sender) => self.start_take(place, sender),
+            None => Ok(Told::NoMessage),
         }
-        for sender in 0..SENDERS {
+    }
+
+    // The group that was picked, if the transaction at this place may take from it; else the one whose end it took last,
+    // the lowest that nobody holds, another that it holds.
+    fn group_for(&self, place: usize, picked: u32) -> Option<u32> {
+        let Some(row) = self.rows.get(place) else {
+            return None;
+        };
+        for sender in [picked, newest_of(&row.receiving)] {
             if self.may_take(place, sender) {
-                return self.start_take(place, sender);
+                return Some(sender);
             }
         }
-        Ok(Told::NoMessage)
+        for sender in 0..SENDERS {
+            if !row.receiving.contains(&sender) && self.may_take(place, sender) {
+                return Some(sender);
+            }
+        }
+        for sender in row.receiving.iter().rev() {
+            if self.may_take(place, *sender) {
+                return Some(*sender);
+            }
+        }
+        None
     }
 
     fn start_receive_from(&mut self, txn: Txn, sender: u32) -> Result<Told, Refusal> {
@@ -360,14 +378,12 @@ impl Lists {
         let Some(row) = self.rows.get_mut(place) else {
             return Ok(Told::Other);
         };
-        let held = if is_at_sending_end(&act) {
-            row.sending.push(sender_of(&act)).is_ok()
+        let ends = if is_at_sending_end(&act) {
+            &mut row.sending
         } else {
-            row.receiving.push(sender_of(&act)).is_ok()
+            &mut row.receiving
         };
-        if !held {
-            return Err(Refusal::NoMemory);
-        }
+        hold(ends, sender_of(&act))?;
         Ok(Told::Started(begin_work(row, act, false, left)))
     }
 
@@ -777,6 +793,22 @@ impl Lists {
             }
         }
         None
+    }
+}
+
+// The end of this sender is one of those that a transaction holds.
+fn hold(ends: &mut Vec<u32>, sender: u32) -> Result<(), Refusal> {
+    if !ends.contains(&sender) && ends.push(sender).is_err() {
+        return Err(Refusal::NoMemory);
+    }
+    Ok(())
+}
+
+// The sender whose end was taken last; no sender where none is held.
+fn newest_of(ends: &[u32]) -> u32 {
+    match ends.last() {
+        Some(sender) => *sender,
+        None => u32::MAX,
     }
 }
 
