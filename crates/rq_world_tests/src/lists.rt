@@ -321,8 +321,8 @@ impl Lists {
         Ok(Told::NoMessage)
     }
 
-    // The group that was picked, if the transaction at this place may take from it now; else the one whose end it took
-    // last, the lowest that nobody holds, another that it holds.
+    // The group that was picked, if the transaction at this place may take from it now. Where none is told, in the order of
+    // docs/DECISIONS.md: the one whose end it took last, the lowest that nobody holds, another that it holds.
     fn group_for(&self, place: usize, picked: u32) -> Option<u32> {
         let Some(row) = self.rows.get(place) else {
             return None;
