@@ -38,6 +38,9 @@ pub const FIRST_CELL: u64 = 33;
 /// The images of the superblock, a directory page and a cell page.
 pub type Images = [[u8; PAGE]; 3];
 
+/// The images of a superblock, two directory pages and two cell pages.
+pub type WideImages = [[u8; PAGE]; 5];
+
 /// The answer of a restart that names a record.
 pub fn record(lsn: u64) -> Option<Refusal> {
     Some(Refusal::Damaged(Damage::Record(lsn)))
@@ -291,6 +294,29 @@ pub fn formatted() -> Images {
     images[1][12] = 1;
     images[2][11] = 2;
     images[2][12] = 2;
+    images
+}
+
+/// The pages of a store of two directory and two cell pages, as it is formatted.
+pub fn formatted_wide() -> WideImages {
+    let mut images = [[0; PAGE]; 5];
+    for slot in 1..16u8 {
+        let sender = slot as u32 - 1;
+        set_slot(&mut images[1], slot, 0, &group(sender, 0, 0, 0, 0));
+        set_slot(&mut images[2], slot, 0, &group(sender + 15, 0, 0, 0, 0));
+    }
+    images[0][256..264].copy_from_slice(b"RQMSTORE");
+    images[0][267] = 1;
+    images[0][271] = 2;
+    images[0][275] = 2;
+    images[1][11] = 1;
+    images[1][12] = 1;
+    images[2][11] = 2;
+    images[2][12] = 1;
+    images[3][11] = 3;
+    images[3][12] = 2;
+    images[4][11] = 4;
+    images[4][12] = 2;
     images
 }
 

@@ -1,13 +1,19 @@
 //! Pages that are damaged, and which is named first.
 use crate::bytes::{
     BEGUN, COMMIT, FIRST, FIRST_CELL, FREE, Images, cell, count, end, fill, first_cell, formatted,
-    group, page, record, refused, sent, sent_once, set_slot, spelled, told_on, write, written,
+    formatted_wide, group, page, record, refused, sent, sent_once, set_slot, spelled, told_on,
+    write, written,
 };
 use rq_disk::PAGE;
 use rq_model::record::{Record, Slot};
 use rq_model::refusal::Refusal;
 use std::alloc::Global;
 use std::test::Fail;
+
+/// In a store of two directory and two cell pages the addresses of the first cells of both.
+const THIRD_PAGE: u64 = 49;
+
+const FOURTH_PAGE: u64 = 65;
 
 // What is refused of the log of one committed message, over pages that were written, where a byte of one is another.
 fn changed(alloc: Global, number: usize, at: usize, value: u8) -> Option<Refusal> {
@@ -40,6 +46,31 @@ fn linked(directory: Slot, first: Slot, second: Slot) -> Images {
 // What is refused of them over a log of six records, none of which writes.
 fn broken(alloc: Global, directory: Slot, first: Slot, second: Slot) -> Option<Refusal> {
     told_on(alloc, &linked(directory, first, second), &six())
+}
+
+// What is refused over the same log of a store of two directory and two cell pages, with these slots of the last sender
+// on page 1 and of the first one on page 2, and these first cells of pages 3 and 4.
+fn broken_wide(
+    alloc: Global,
+    lower: Slot,
+    upper: Slot,
+    third: Slot,
+    fourth: Slot,
+) -> Option<Refusal> {
+    let mut images = formatted_wide();
+    set_slot(&mut images[1], 15, 1, &lower);
+    set_slot(&mut images[2], 1, 1, &upper);
+    set_slot(&mut images[3], 1, 1, &third);
+    set_slot(&mut images[4], 1, 1, &fourth);
+    match spelled(alloc, &six()) {
+        Ok(log) => refused(alloc, &images, &log),
+        Err(_) => Some(Refusal::NoMemory),
+    }
+}
+
+// The slot of a group in which one message waits, the sixth, in the cell at this address.
+fn waiting(sender: u32, at: u64) -> Slot {
+    group(sender, 6, 5, at, at)
 }
 
 fn six() -> [Record; 6] {
@@ -210,6 +241,51 @@ fn cells_in_no_chain(rt: HostRuntime) -> Result<(), Fail> {
     // a chain that is broken is named before
     let one = group(0, 5, 3, FIRST_CELL, FIRST_CELL + 1);
     assert!(rt; broken(alloc, one, cell(7, 4, 0, 0), FREE) == page(1));
+    Ok(())
+}
+
+// Senders 14 and 15 stand on two pages. The one of the lower sender is named, wherever its cell would be.
+#[test]
+fn broken_chains_on_two_pages(rt: HostRuntime) -> Result<(), Fail> {
+    let alloc = rt.alloc();
+    let lower = waiting(14, FOURTH_PAGE);
+    let upper = waiting(15, THIRD_PAGE);
+    let of_lower = cell(14, 6, 0, 0);
+    let of_upper = cell(15, 6, 0, 0);
+    assert!(rt; broken_wide(alloc, lower, upper, of_upper, of_lower) == None);
+    assert!(rt; broken_wide(alloc, lower, upper, FREE, FREE) == page(1));
+    assert!(rt; broken_wide(alloc, lower, upper, of_lower, of_upper) == page(1));
+    assert!(rt; broken_wide(alloc, lower, upper, of_upper, FREE) == page(1));
+    assert!(rt; broken_wide(alloc, lower, upper, FREE, of_lower) == page(2));
+    Ok(())
+}
+
+// The lower page is named, behind a chain that is broken on any page.
+#[test]
+fn cells_in_no_chain_on_two_pages(rt: HostRuntime) -> Result<(), Fail> {
+    let alloc = rt.alloc();
+    let lower = group(14, 6, 6, 0, 0);
+    let upper = group(15, 6, 6, 0, 0);
+    let of_lower = cell(14, 6, 0, 0);
+    let of_upper = cell(15, 6, 0, 0);
+    assert!(rt; broken_wide(alloc, lower, upper, FREE, FREE) == None);
+    assert!(rt; broken_wide(alloc, lower, upper, of_lower, of_upper) == page(3));
+    assert!(rt; broken_wide(alloc, lower, upper, of_upper, of_lower) == page(3));
+    assert!(rt; broken_wide(alloc, lower, upper, FREE, of_lower) == page(4));
+    assert!(rt; broken_wide(alloc, waiting(14, THIRD_PAGE), upper, of_lower, of_upper) == page(4));
+    assert!(rt; broken_wide(alloc, lower, waiting(15, 0), of_lower, of_upper) == page(2));
+    Ok(())
+}
+
+// One chain goes over both cell pages: where it ends before its last cell, its sender's page is named.
+#[test]
+fn chains_over_two_pages(rt: HostRuntime) -> Result<(), Fail> {
+    let alloc = rt.alloc();
+    let none = group(14, 0, 0, 0, 0);
+    let two = group(15, 6, 4, FOURTH_PAGE, THIRD_PAGE);
+    let last = cell(15, 6, FOURTH_PAGE, 0);
+    assert!(rt; broken_wide(alloc, none, two, last, cell(15, 5, 0, THIRD_PAGE)) == None);
+    assert!(rt; broken_wide(alloc, none, two, last, cell(15, 5, 0, 0)) == page(2));
     Ok(())
 }
 

@@ -1428,6 +1428,115 @@ fn a_restart_of_a_settled_store_is_stopped_before_its_record(rt: HostRuntime) ->
     Ok(())
 }
 
+// A write that was armed fails in a restart that is to stop, before it does, as in a whole one: here one that takes back a
+// lost transaction, with five records.
+#[test]
+fn a_restart_with_a_write_that_fails_does_not_stop(rt: HostRuntime) -> Result<(), Fail> {
+    for stop in [
+        "restart",
+        "restart 0",
+        "restart 1",
+        "restart 4",
+        "restart 5",
+        "restart 18446744073709551615",
+    ] {
+        check_to_its_end(
+            &rt,
+            1,
+            1,
+            &[
+                ("begin", "begun 1.1"),
+                ("send 1.1 0 1 x", "sent"),
+                ("fail write", "armed"),
+                ("crash all", "crashed 4"),
+                (stop, "fault 15 DiskWrite"),
+            ],
+            1,
+        )?;
+    }
+    Ok(())
+}
+
+// So does one that undoes a send in its midst.
+#[test]
+fn a_restart_that_undoes_with_a_write_that_fails_does_not_stop(
+    rt: HostRuntime,
+) -> Result<(), Fail> {
+    for stop in [
+        "restart",
+        "restart 0",
+        "restart 2",
+        "restart 3",
+        "restart 4",
+    ] {
+        check_to_its_end(
+            &rt,
+            1,
+            1,
+            &[
+                ("begin", "begun 1.1"),
+                ("open-send 1.1 0 1 x", "op 1.1 1"),
+                ("step 1.1 1", "lsn 2"),
+                ("fail write", "armed"),
+                ("crash all", "crashed 2"),
+                (stop, "fault 15 DiskWrite"),
+            ],
+            1,
+        )?;
+    }
+    Ok(())
+}
+
+// The machine stops before the force that would fail, and what was armed meets the next restart's.
+#[test]
+fn a_restart_with_a_force_that_fails_stops_before(rt: HostRuntime) -> Result<(), Fail> {
+    for (stop, stopped) in [
+        ("restart 0", "stopped 4"),
+        ("restart 1", "stopped 5"),
+        ("restart 4", "stopped 8"),
+    ] {
+        check_to_its_end(
+            &rt,
+            1,
+            1,
+            &[
+                ("begin", "begun 1.1"),
+                ("send 1.1 0 1 x", "sent"),
+                ("fail force", "armed"),
+                ("crash all", "crashed 4"),
+                (stop, stopped),
+                ("dump", "refused 2 Failed"),
+                ("restart", "fault 15 DiskWrite"),
+            ],
+            1,
+        )?;
+    }
+    Ok(())
+}
+
+// A send in its midst is undone by one record, its end and that of the restart are the next two. Where no more are made
+// than it is to be stopped behind, the force fails.
+#[test]
+fn a_restart_that_undoes_with_a_force_that_fails_stops_before(rt: HostRuntime) -> Result<(), Fail> {
+    for (stop, stopped) in [
+        ("restart 0", "stopped 2"),
+        ("restart 2", "stopped 4"),
+        ("restart 3", "fault 15 DiskWrite"),
+    ] {
+        let commands = [
+            ("begin", "begun 1.1"),
+            ("open-send 1.1 0 1 x", "op 1.1 1"),
+            ("step 1.1 1", "lsn 2"),
+            ("fail force", "armed"),
+            ("crash all", "crashed 2"),
+            (stop, stopped),
+        ];
+        let status = u8::from(stop == "restart 3");
+        check_to_its_end(&rt, 1, 1, &commands, status)?;
+    }
+    Ok(())
+}
+
 // Where none of what it sent has its end, the restart undoes the send that was cut.
 #[test]
 fn an_abort_of_what_was_cut_is_not_needed(rt: HostRuntime) -> Result<(), Fail> {

@@ -14,18 +14,21 @@ use std::test::Fail;
 /// The seed of the first list; those behind it count on.
 const FIRST: u64 = 1;
 
-/// How many lists there are.
+/// How many lists there are. Every third one is of a store with two directory pages and two cell pages.
 const LISTS: u64 = 300;
 
 /// So many of what is counted have to be met at least, all lists taken together.
 const WANTED: Met = Met {
-    full: 140,
+    full: 80,
+    beside: 40,
+    latched: 80,
     undone: 150,
     aborted: 190,
     crashed: 30,
     stopped: 6,
     opened: 290,
     unfinished: 70,
+    many: 5,
     lost: 130,
     several: 12,
     both: 39,
@@ -40,6 +43,9 @@ const WANTED: Met = Met {
 struct Met {
     /// Sends that were refused since every cell is in use.
     full: u64,
+    /// Operations that were started beside another one, and starts that one was in the way of.
+    beside: u64,
+    latched: u64,
     /// Inverses that were finished.
     undone: u64,
     /// Aborts that were ended.
@@ -51,6 +57,8 @@ struct Met {
     opened: u64,
     /// Operations without an end that restarts undid.
     unfinished: u64,
+    /// Restarts that undid more than one.
+    many: u64,
     /// Transactions without an end that restarts undid.
     lost: u64,
     /// Restarts that undid more than one, and that undid operations beside one.
@@ -70,6 +78,8 @@ struct Met {
 struct Before {
     /// Whether a transaction is aborting.
     is_aborting: bool,
+    /// How many operations are under way.
+    works: u64,
     /// How many records the log has.
     records: u64,
     /// Whether a transaction without an end has nothing left to undo, beside one that has.
@@ -83,12 +93,15 @@ impl Met {
     const fn nothing() -> Met {
         Met {
             full: 0,
+            beside: 0,
+            latched: 0,
             undone: 0,
             aborted: 0,
             crashed: 0,
             stopped: 0,
             opened: 0,
             unfinished: 0,
+            many: 0,
             lost: 0,
             several: 0,
             both: 0,
@@ -108,6 +121,8 @@ impl Met {
         }
         match told {
             Told::Refused(Refusal::Full) => add(&mut self.full, 1),
+            Told::Refused(Refusal::Latched) => add(&mut self.latched, 1),
+            Told::Started(_) if before.works > 0 => add(&mut self.beside, 1),
             Told::Undone => add(&mut self.undone, 1),
             Told::Aborted => add(&mut self.aborted, 1),
             Told::Crashed(_) if before.is_aborting => add(&mut self.crashed, 1),
@@ -119,6 +134,9 @@ impl Met {
     fn note_report(&mut self, report: &Report) {
         add(&mut self.unfinished, report.unfinished);
         add(&mut self.lost, report.lost);
+        if report.unfinished > 1 {
+            add(&mut self.many, 1);
+        }
         if report.lost > 1 {
             add(&mut self.several, 1);
         }
@@ -142,12 +160,15 @@ impl Met {
 
     fn has_all_of(&self, wanted: &Met) -> bool {
         self.full >= wanted.full
+            && self.beside >= wanted.beside
+            && self.latched >= wanted.latched
             && self.undone >= wanted.undone
             && self.aborted >= wanted.aborted
             && self.crashed >= wanted.crashed
             && self.stopped >= wanted.stopped
             && self.opened >= wanted.opened
             && self.unfinished >= wanted.unfinished
+            && self.many >= wanted.many
             && self.lost >= wanted.lost
             && self.several >= wanted.several
             && self.both >= wanted.both
@@ -182,13 +203,15 @@ fn row_behind(happening: &Happening, told: &Told, before: Before) -> u64 {
 // The number of the first happening of the list of this seed that the plain lists tell otherwise; 0 where there is
 // none.
 fn first_fault(alloc: Global, seed: u64, met: &mut Met) -> Result<u64, AllocError> {
-    let happenings = drawn(alloc, seed)?;
-    let entries = run(alloc, 1, &happenings)?;
-    compared(alloc, &happenings, &entries, met)
+    let pages = if seed % 3 == 0 { 2 } else { 1 };
+    let happenings = drawn(alloc, seed, pages)?;
+    let entries = run(alloc, pages, &happenings)?;
+    compared(alloc, pages, &happenings, &entries, met)
 }
 
 fn compared(
     alloc: Global,
+    pages: u32,
     happenings: &[Happening],
     entries: &[Entry],
     met: &mut Met,
@@ -196,12 +219,13 @@ fn compared(
     if entries.len() != happenings.len() {
         return Ok(u64::MAX);
     }
-    let mut lists = Lists::new(alloc)?;
+    let mut lists = Lists::new(alloc, pages)?;
     let mut row = 0;
     for place in 0..happenings.len() {
         if let Some(happening) = happenings.get(place) {
             let before = Before {
                 is_aborting: lists.aborting().is_some(),
+                works: lists.work_count(),
                 records: lists.records(),
                 has_idle: lists.has_idle_beside(),
                 row,

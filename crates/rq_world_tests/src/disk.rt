@@ -1,13 +1,8 @@
 //! The devices of a store, as plain lists: the records of its log, and of each page the images that were written.
+use crate::links::{Deed, Links, NONE};
 use rq_model::refusal::Refusal;
 use rq_model::txn::{Lsn, Txn};
 use std::alloc::{AllocError, Global};
-
-/// The directory page of a small store.
-pub const DIRECTORY: u32 = 1;
-
-/// Its page of cells.
-pub const CELLS: u32 = 2;
 
 /// The most bytes of a log that are read and not taken.
 const WINDOW: u64 = 65_536;
@@ -15,26 +10,17 @@ const WINDOW: u64 = 65_536;
 /// The bytes of the longest record: where fewer are left of what was read, it is read on.
 const LONGEST: u64 = 546;
 
-/// What an operation did, as far as a restart that undoes it tells by its records.
-#[derive(Clone, Copy)]
-pub enum Deed {
-    /// A message of this sender was sent, with so many bytes.
-    Sent(u32, u64),
-    /// One was taken.
-    Taken(u32, u64),
-    Closed,
-}
-
 /// A record of the log, as far as it is looked at here.
 #[derive(Clone, Copy)]
 pub enum Record {
     Restart,
     /// A slot write of a transaction, on this page.
     Write(Txn, u32),
-    /// The end of an operation that did this.
-    End(Txn, Deed),
-    /// The end of an inverse, by which the operation is undone whose end has that LSN.
-    Undone(Txn, Lsn),
+    /// The end of an operation that did this, with the cell of a message that was sent.
+    End(Txn, Deed, u32),
+    /// The end of an inverse, by which the operation is undone whose end has that LSN, with the cell of a message that was
+    /// put back.
+    Undone(Txn, Lsn, u32),
     /// The slot write of a transaction's operation without an end is undone that has this LSN.
     Back(Txn, u32, Lsn),
     /// The end of an operation that was undone so.
@@ -81,8 +67,10 @@ pub struct Disk {
     /// How many are handed over, and how many of these are forced.
     handed: usize,
     forced: usize,
-    directory: Images,
-    cells: Images,
+    /// Those of each page, by its number.
+    images: Vec<Images>,
+    /// The cells that finished operations use.
+    links: Links,
     /// Device calls so far, and the numbers of those that fail or stop; 0 is none.
     calls: u64,
     failing: u64,
@@ -165,19 +153,29 @@ impl Window {
 }
 
 impl Disk {
-    /// The devices of a formatted store.
-    pub fn new(alloc: Global) -> Result<Disk, AllocError> {
+    /// The devices of a formatted store of so many directory pages, and as many cell pages.
+    pub fn new(alloc: Global, pages: u32) -> Result<Disk, AllocError> {
+        let links = Links::new(alloc, pages);
+        let mut images = Vec::new(alloc);
+        for _ in 0..links.page_count() {
+            images.push(Images::new(alloc)?)?;
+        }
         Ok(Disk {
             records: Vec::new(alloc),
             handed: 0,
             forced: 0,
-            directory: Images::new(alloc)?,
-            cells: Images::new(alloc)?,
+            images,
+            links,
             calls: 0,
             failing: 0,
             stopping: 0,
             stopped: false,
         })
+    }
+
+    /// The cells that finished operations use.
+    pub fn links(&self) -> &Links {
+        &self.links
     }
 
     /// How many records there are.
@@ -243,15 +241,34 @@ impl Disk {
         }
         let lsn = self.len();
         self.change(page, lsn);
+        self.link(&record)?;
         Ok(lsn)
     }
 
     // Makes the change of the record with this LSN on its page, where that is older.
-    fn change(&mut self, page: Option<u32>, lsn: Lsn) {
-        match page {
-            Some(DIRECTORY) => self.directory.change(lsn),
-            Some(_) => self.cells.change(lsn),
-            None => {}
+    fn change(&mut self, page: u32, lsn: Lsn) {
+        if let Some(images) = self.images.get_mut(page as usize) {
+            images.change(lsn);
+        }
+    }
+
+    // What a record says of an operation's end is so of the cells.
+    fn link(&mut self, record: &Record) -> Result<(), Refusal> {
+        match record {
+            Record::End(_, deed, cell) => self.links.finish(deed, *cell),
+            Record::Undone(_, undone, cell) => match self.deed_of(*undone) {
+                Some(deed) => self.links.take_back(&deed, *cell),
+                None => Ok(()),
+            },
+            _ => Ok(()),
+        }
+    }
+
+    // What the operation did whose end has this LSN.
+    fn deed_of(&self, lsn: Lsn) -> Option<Deed> {
+        match self.records.get(lsn.saturating_sub(1) as usize) {
+            Some(Record::End(_, deed, _)) => Some(*deed),
+            _ => None,
         }
     }
 
@@ -288,15 +305,10 @@ impl Disk {
     /// Writes a page that was changed, where its last record is forced; whether it did. The write that the power fails
     /// in is made.
     pub fn write(&mut self, page: u32) -> Result<bool, Refusal> {
-        let images = if page == DIRECTORY {
-            &self.directory
-        } else {
-            &self.cells
-        };
-        if (page != DIRECTORY && page != CELLS) || !images.changed {
+        let Some(lsn) = self.change_of(page) else {
             return Ok(false);
-        }
-        if images.lsn > self.forced as u64 {
+        };
+        if lsn > self.forced as u64 {
             return Err(Refusal::NotForced);
         }
         match self.meet() {
@@ -312,12 +324,18 @@ impl Disk {
         }
     }
 
+    // The LSN of a page that was changed since it was read or written.
+    fn change_of(&self, page: u32) -> Option<Lsn> {
+        match self.images.get(page as usize) {
+            Some(images) if images.changed => Some(images.lsn),
+            _ => None,
+        }
+    }
+
     // The image of the page is written.
     fn put(&mut self, page: u32) -> Result<(), Refusal> {
-        let images = if page == DIRECTORY {
-            &mut self.directory
-        } else {
-            &mut self.cells
+        let Some(images) = self.images.get_mut(page as usize) else {
+            return Ok(());
         };
         if images.written.push(images.lsn).is_err() {
             return Err(Refusal::NoMemory);
@@ -334,7 +352,7 @@ impl Disk {
         }
     }
 
-    // Reads three pages, and the log until a read comes short.
+    // Reads each page, and the log until a read comes short.
     fn read_all(&mut self) -> Result<(), Refusal> {
         for _ in 0..self.reads() {
             self.read()?;
@@ -352,7 +370,7 @@ impl Disk {
             total,
             read: 0,
             taken: 0,
-            reads: 3,
+            reads: u64::from(self.links.page_count()),
             is_short: false,
         };
         for record in &self.records {
@@ -368,7 +386,7 @@ impl Disk {
     /// opening, the newest then.
     pub fn open(&mut self) -> Result<Opening, Refusal> {
         self.read_all()?;
-        self.load();
+        self.load()?;
         let unfinished = self.undo_unfinished()?;
         let lost = self.lost();
         self.undo_lost()?;
@@ -387,18 +405,18 @@ impl Disk {
     }
 
     // The pages are read, and each record's change is made that its page lacks.
-    fn load(&mut self) {
-        self.directory.load();
-        self.cells.load();
-        for index in 0..self.records.len() {
-            let page = self.page_at(index);
-            self.change(page, (index as u64).saturating_add(1));
+    fn load(&mut self) -> Result<(), Refusal> {
+        for images in self.images.iter_mut() {
+            images.load();
         }
-    }
-
-    // The page that the record at this place changes.
-    fn page_at(&self, index: usize) -> Option<u32> {
-        page_of(self.records.get(index)?)
+        self.links.clear();
+        for index in 0..self.records.len() {
+            if let Some(record) = self.records.get(index).copied() {
+                self.change(page_of(&record), (index as u64).saturating_add(1));
+                self.link(&record)?;
+            }
+        }
+        Ok(())
     }
 
     // Undoes operations without an end, and answers how many there were. Those of which nothing is left to undo have
@@ -473,7 +491,7 @@ impl Disk {
     fn is_over(&self, lsn: Lsn, txn: Txn) -> bool {
         for record in self.records.iter().skip(lsn as usize) {
             match record {
-                Record::End(ended, _) | Record::Undone(ended, _) | Record::Void(ended)
+                Record::End(ended, _, _) | Record::Undone(ended, _, _) | Record::Void(ended)
                     if *ended == txn => {
                     return true;
                 }
@@ -509,9 +527,10 @@ impl Disk {
         let mut lost: u64 = 0;
         for (index, record) in self.records.iter().enumerate() {
             match record {
-                Record::End(txn, _) if self.is_first_end(index, *txn) && !self.is_ended(*txn) => {
-                    lost = lost.saturating_add(1);
-                }
+                Record::End(txn, _, _) if self.is_first_end(index, *txn) && !self.is_ended(*txn) =>
+                    {
+                        lost = lost.saturating_add(1);
+                    }
                 _ => {}
             }
         }
@@ -522,7 +541,7 @@ impl Disk {
     fn is_first_end(&self, index: usize, txn: Txn) -> bool {
         for record in self.records.iter().take(index) {
             match record {
-                Record::End(ended, _) if *ended == txn => return false,
+                Record::End(ended, _, _) if *ended == txn => return false,
                 _ => {}
             }
         }
@@ -568,7 +587,7 @@ impl Disk {
         let mut least: Option<Txn> = None;
         for record in &self.records {
             match record {
-                Record::End(txn, _)
+                Record::End(txn, _, _)
                     if !self.is_ended(*txn)
                         && self.newest_due_of(*txn) == 0
                         && is_before(*txn, least) => {
@@ -587,7 +606,7 @@ impl Disk {
         for (index, record) in self.records.iter().enumerate() {
             let lsn = (index as u64).saturating_add(1);
             match record {
-                Record::End(txn, deed) if !self.is_undone(lsn) && !self.is_ended(*txn) => {
+                Record::End(txn, deed, _) if !self.is_undone(lsn) && !self.is_ended(*txn) => {
                     newest = Some((lsn, *txn, *deed));
                 }
                 _ => {}
@@ -607,7 +626,7 @@ impl Disk {
         for (index, record) in self.records.iter().enumerate() {
             let lsn = (index as u64).saturating_add(1);
             match record {
-                Record::End(ended, _) if *ended == txn && !self.is_undone(lsn) => newest = lsn,
+                Record::End(ended, _, _) if *ended == txn && !self.is_undone(lsn) => newest = lsn,
                 _ => {}
             }
         }
@@ -618,52 +637,33 @@ impl Disk {
     fn is_undone(&self, lsn: Lsn) -> bool {
         for record in &self.records {
             match record {
-                Record::Undone(_, undone) if *undone == lsn => return true,
+                Record::Undone(_, undone, _) if *undone == lsn => return true,
                 _ => {}
             }
         }
         false
     }
 
-    // An inverse, from its first slot write to its end. The last write is of the directory, those before it are of cells.
+    // An inverse, from its first slot write to its end.
     fn undo(&mut self, lsn: Lsn, txn: Txn, deed: Deed) -> Result<(), Refusal> {
-        for _ in 1..self.writes_to_undo(&deed) {
-            self.add(Record::Write(txn, CELLS))?;
+        let reach = self.links.to_undo(&deed, self.lowest_free());
+        for page in reach.pages {
+            if page != NONE {
+                self.add(Record::Write(txn, page))?;
+            }
         }
-        self.add(Record::Write(txn, DIRECTORY))?;
-        self.add(Record::Undone(txn, lsn))?;
+        self.add(Record::Undone(txn, lsn, reach.cell))?;
         Ok(())
     }
 
-    // How many slots are written to undo what was done. The directory is written, the cell of a message, and that of the
-    // one beside: of a message that goes, of the one before it, and of a message that comes back, of the one that was
-    // first.
-    fn writes_to_undo(&self, deed: &Deed) -> u8 {
-        match deed {
-            Deed::Sent(sender, _) if self.length(*sender) == 1 => 2,
-            Deed::Taken(sender, _) if self.length(*sender) == 0 => 2,
-            Deed::Closed => 1,
-            _ => 3,
-        }
-    }
-
-    // How many messages a sender's chain has: all that were sent and not taken, but those that are undone.
-    fn length(&self, sender: u32) -> u64 {
-        let mut sent: u64 = 0;
-        let mut taken: u64 = 0;
-        for (index, record) in self.records.iter().enumerate() {
-            let lsn = (index as u64).saturating_add(1);
-            match record {
-                Record::End(_, Deed::Sent(by, _)) if *by == sender && !self.is_undone(lsn) => {
-                    sent = sent.saturating_add(1);
-                }
-                Record::End(_, Deed::Taken(by, _)) if *by == sender && !self.is_undone(lsn) => {
-                    taken = taken.saturating_add(1);
-                }
-                _ => {}
+    // The lowest free cell.
+    fn lowest_free(&self) -> u32 {
+        for cell in 0..self.links.senders() {
+            if !self.links.is_used(cell) {
+                return cell;
             }
         }
-        sent.saturating_sub(taken)
+        NONE
     }
 
     /// Whether the end of an abort stands behind that of an inverse.
@@ -671,7 +671,7 @@ impl Disk {
         let mut has_undone = false;
         for record in &self.records {
             match record {
-                Record::Undone(_, _) => has_undone = true,
+                Record::Undone(_, _, _) => has_undone = true,
                 Record::Abort(_) if has_undone => return true,
                 _ => {}
             }
@@ -689,8 +689,11 @@ impl Disk {
         self.records.truncate(self.handed);
         self.forced = self.records.len();
         self.handed = self.records.len();
-        self.directory.crash(place_in(places, DIRECTORY));
-        self.cells.crash(place_in(places, CELLS));
+        for page in 0..self.images.len() {
+            if let Some(images) = self.images.get_mut(page) {
+                images.crash(place_in(places, page));
+            }
+        }
         self.len()
     }
 
@@ -717,8 +720,8 @@ fn is_before(txn: Txn, other: Option<Txn>) -> bool {
 }
 
 // The place that is said of a page; the newest where none is.
-fn place_in(places: &[u64], page: u32) -> u64 {
-    match places.get(page as usize) {
+fn place_in(places: &[u64], page: usize) -> u64 {
+    match places.get(page) {
         Some(place) => *place,
         None => u64::MAX,
     }
@@ -729,8 +732,8 @@ fn bytes_of(record: &Record) -> u64 {
     match record {
         Record::Restart => 13,
         Record::Write(_, _) => 546,
-        Record::End(_, deed) => deed_bytes(deed).saturating_add(30),
-        Record::Undone(_, _) => 37,
+        Record::End(_, deed, _) => deed_bytes(deed).saturating_add(30),
+        Record::Undone(_, _, _) => 37,
         Record::Back(_, _, _) => 298,
         Record::Void(_) => 29,
         Record::Commit(_) | Record::Abort(_) => 21,
@@ -742,15 +745,14 @@ fn deed_bytes(deed: &Deed) -> u64 {
     match deed {
         Deed::Sent(_, body) => body.saturating_add(29),
         Deed::Taken(_, body) => body.saturating_add(21),
-        Deed::Closed => 5,
+        Deed::Closed(_) => 5,
     }
 }
 
 // The page that a record changes.
-fn page_of(record: &Record) -> Option<u32> {
+fn page_of(record: &Record) -> u32 {
     match record {
-        Record::Write(_, page) => Some(*page),
-        Record::Back(_, page, _) => Some(*page),
-        _ => None,
+        Record::Write(_, page) | Record::Back(_, page, _) => *page,
+        _ => NONE,
     }
 }

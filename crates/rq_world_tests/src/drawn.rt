@@ -15,6 +15,8 @@ const LENGTH: u64 = 160;
 struct Drawing {
     alloc: Global,
     random: Random,
+    // How many directory pages the store has, and cell pages.
+    pages: u32,
     lists: Lists,
     happenings: Vec<Happening>,
     // The places of the commits, from 1.
@@ -25,12 +27,13 @@ struct Drawing {
     fills: bool,
 }
 
-/// The list of a seed.
-pub fn drawn(alloc: Global, seed: u64) -> Result<Vec<Happening>, AllocError> {
+/// The list of a seed, for a store of so many directory pages and as many cell pages.
+pub fn drawn(alloc: Global, seed: u64, pages: u32) -> Result<Vec<Happening>, AllocError> {
     let mut drawing = Drawing {
         alloc,
         random: Random::new(seed),
-        lists: Lists::new(alloc)?,
+        pages,
+        lists: Lists::new(alloc, pages)?,
         happenings: Vec::new(alloc),
         commits: Vec::new(alloc),
         opened: false,
@@ -42,6 +45,7 @@ pub fn drawn(alloc: Global, seed: u64) -> Result<Vec<Happening>, AllocError> {
     let Drawing {
         alloc: _,
         random: _,
+        pages: _,
         lists: _,
         happenings,
         commits: _,
@@ -54,7 +58,6 @@ pub fn drawn(alloc: Global, seed: u64) -> Result<Vec<Happening>, AllocError> {
 impl Drawing {
     fn draw(&mut self) -> Result<(), AllocError> {
         let happening = self.next()?;
-        // a receive takes from the lowest sender
         let told = self.lists.happen(&happening, u32::MAX)?;
         self.happenings.push(happening)?;
         self.opened = is_opened(&told);
@@ -74,6 +77,10 @@ impl Drawing {
         }
         // the restart behind it ends one of them first, and then undoes the other
         if self.lists.has_idle_beside() && self.random.is_first_of(4) {
+            return Ok(Happening::Crash(self.choice_of(u64::MAX)?));
+        }
+        // the restart behind it undoes them all
+        if self.lists.work_count() > 1 && self.random.is_first_of(16) {
             return Ok(Happening::Crash(self.choice_of(u64::MAX)?));
         }
         match self.random.below(if self.fills { 400 } else { 50 }) {
@@ -149,7 +156,8 @@ impl Drawing {
 
     fn choice_of(&mut self, keep: u64) -> Result<Choice, AllocError> {
         let mut pages = Vec::new(self.alloc);
-        for _ in 0..self.random.below(5) {
+        let most = self.page_count().saturating_add(2);
+        for _ in 0..self.random.below(most) {
             let place = match self.random.below(5) {
                 0 => u64::MAX,
                 place => place.saturating_sub(1),
@@ -170,9 +178,22 @@ impl Drawing {
         Ok(Happening::StopIn(event, n, self.choice()?))
     }
 
-    // A call. Most times an operation under way goes on.
+    // Most times an operation under way goes on. Over several pages others are started beside it.
+    fn work(&mut self) -> Option<(Sub, bool)> {
+        let count = self.lists.work_count();
+        if self.pages == 1 {
+            return self.lists.work_at(0);
+        }
+        if count < 3 && self.random.is_first_of(2) {
+            return None;
+        }
+        let place = self.random.below(count);
+        self.lists.work_at(place)
+    }
+
+    // A call.
     fn call(&mut self) -> Result<Event, AllocError> {
-        match self.lists.under_way() {
+        match self.work() {
             Some((sub, is_made)) if !self.random.is_first_of(8) => {
                 if is_made && !self.random.is_first_of(4) {
                     Ok(Event::Finish(sub))
@@ -273,20 +294,31 @@ impl Drawing {
         }
     }
 
+    // Most times one of the first few of a directory page.
     fn sender(&mut self) -> u32 {
         let bound = if self.random.is_first_of(10) { 17 } else { 3 };
-        (self.random.below(bound) & 31) as u32
+        let sender = (self.random.below(bound) & 31) as u32;
+        if self.pages > 1 && self.random.is_first_of(2) {
+            sender.saturating_add(15)
+        } else {
+            sender
+        }
     }
 
     // Most times one that changes.
     fn page(&mut self) -> u32 {
+        let count = self.page_count();
         if self.random.is_first_of(8) {
-            (self.random.below(5) & 7) as u32
-        } else if self.random.is_first_of(2) {
-            1
+            (self.random.below(count.saturating_add(2)) & 7) as u32
         } else {
-            2
+            let behind = self.random.below(count.saturating_sub(1));
+            (behind.saturating_add(1) & 7) as u32
         }
+    }
+
+    // How many pages the store has.
+    fn page_count(&self) -> u64 {
+        u64::from(self.pages).saturating_mul(2).saturating_add(1)
     }
 }
 

@@ -10,6 +10,8 @@ mod disk;
 #[cfg(test)]
 mod drawn;
 #[cfg(test)]
+mod links;
+#[cfg(test)]
 mod lists;
 #[cfg(test)]
 mod random;

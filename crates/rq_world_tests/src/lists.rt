@@ -1,5 +1,6 @@
 //! The queue as plain lists: what each happening has to come to, given what came before it.
-use crate::disk::{CELLS, DIRECTORY, Deed, Disk, Opening, Record};
+use crate::disk::{Disk, Opening, Record};
+use crate::links::{Deed, NONE, Reach};
 use crate::told::Told;
 use rq_core::happening::{Choice, Happening};
 use rq_engine::event::{Event, GroupContent, LastTag};
@@ -10,18 +11,14 @@ use rq_model::txn::{Sub, Txn};
 use rq_restart::restart::Report;
 use std::alloc::{AllocError, Global};
 
-/// The senders of a small store.
-const SENDERS: u32 = 15;
-
-/// Its cells, one for each message.
-const ROOM: usize = 15;
-
-/// The operation under way of a transaction: its number, what it does or undoes, and how many slot writes are to come.
+/// The operation under way of a transaction: its number, what it does or undoes, what it writes, and how many of these
+/// slot writes are to come.
 #[derive(Clone, Copy)]
 struct Work {
     number: u64,
     act: Act,
     undoes: bool,
+    reach: Reach,
     left: u8,
 }
 
@@ -32,7 +29,7 @@ struct Row {
     aborting: bool,
     /// What its finished operations did, and is not undone.
     acts: Vec<Act>,
-    /// The senders whose sending and receiving ends it holds.
+    /// The senders whose sending and receiving ends it holds, the one that it took last at the end.
     sending: Vec<u32>,
     receiving: Vec<u32>,
     /// The number of its newest operation.
@@ -56,11 +53,11 @@ pub struct Lists {
 }
 
 impl Lists {
-    /// A formatted store that is not open.
-    pub fn new(alloc: Global) -> Result<Lists, AllocError> {
+    /// A formatted store, of so many directory pages and as many cell pages, that is not open.
+    pub fn new(alloc: Global, pages: u32) -> Result<Lists, AllocError> {
         Ok(Lists {
             alloc,
-            disk: Disk::new(alloc)?,
+            disk: Disk::new(alloc, pages)?,
             committed: Vec::new(alloc),
             rows: Vec::new(alloc),
             open: false,
@@ -71,8 +68,7 @@ impl Lists {
         })
     }
 
-    /// What happens next comes to this. A receive takes from `picked`, if it may, else from the lowest sender that it
-    /// may.
+    /// What happens next comes to this. A receive of any group takes from `picked`, if it may.
     pub fn happen(&mut self, happening: &Happening, picked: u32) -> Result<Told, AllocError> {
         let told = self.come_to(happening, picked);
         self.note(&told)?;
@@ -237,7 +233,7 @@ impl Lists {
             } else {
                 Told::NotWritten
             }),
-            Event::LastTag(sender) if *sender >= SENDERS => Err(Refusal::UnknownSender),
+            Event::LastTag(sender) if *sender >= self.senders() => Err(Refusal::UnknownSender),
             Event::LastTag(sender) => Ok(Told::Last(LastTag {
                 sent: self.sent(*sender) as u64,
                 tag: self.last_tag(*sender),
@@ -277,7 +273,7 @@ impl Lists {
         body: &[u8],
     ) -> Result<Told, Refusal> {
         let place = self.idle_place(txn)?;
-        if sender >= SENDERS {
+        if sender >= self.senders() {
             return Err(Refusal::UnknownSender);
         }
         let Some(body) = Body::new(body) else {
@@ -289,20 +285,17 @@ impl Lists {
         if self.is_closed(place, sender) {
             return Err(Refusal::Closed);
         }
-        if self.cells_in_use() >= ROOM {
+        if self.cells_in_use() >= self.senders() as usize {
             return Err(Refusal::Full);
         }
-        if self.is_busy() {
-            return Err(Refusal::Latched);
-        }
+        let reach = self.disk.links().to_send(sender, self.lowest_free());
         let act = Act::Sent(Message { sender, tag, body });
-        let left = if self.length(sender) == 0 { 2 } else { 3 };
-        self.start(place, act, left)
+        self.start(place, act, reach)
     }
 
     fn start_close(&mut self, txn: Txn, sender: u32) -> Result<Told, Refusal> {
         let place = self.idle_place(txn)?;
-        if sender >= SENDERS {
+        if sender >= self.senders() {
             return Err(Refusal::UnknownSender);
         }
         if self.is_sending_end_held(place, sender) {
@@ -311,28 +304,56 @@ impl Lists {
         if self.is_closed(place, sender) {
             return Err(Refusal::Closed);
         }
-        if self.is_busy() {
-            return Err(Refusal::Latched);
-        }
-        self.start(place, Act::Closed(sender), 1)
+        let reach = self.disk.links().to_close(sender);
+        self.start(place, Act::Closed(sender), reach)
     }
 
     fn start_receive(&mut self, txn: Txn, picked: u32) -> Result<Told, Refusal> {
         let place = self.idle_place(txn)?;
-        if self.may_take(place, picked) {
-            return self.start_take(place, picked);
+        if let Some(sender) = self.group_for(place, picked) {
+            return self.start_take(place, sender);
         }
-        for sender in 0..SENDERS {
+        for sender in 0..self.senders() {
             if self.may_take(place, sender) {
-                return self.start_take(place, sender);
+                return Err(Refusal::Latched);
             }
         }
         Ok(Told::NoMessage)
     }
 
+    // The group that was picked, if the transaction at this place may take from it now. Where none is told, in the order of
+    // docs/DECISIONS.md: the one whose end it took last, the lowest that nobody holds, another that it holds.
+    fn group_for(&self, place: usize, picked: u32) -> Option<u32> {
+        let Some(row) = self.rows.get(place) else {
+            return None;
+        };
+        if self.may_take_now(place, picked) {
+            return Some(picked);
+        }
+        let newest = newest_of(&row.receiving);
+        if self.may_take_now(place, newest) {
+            return Some(newest);
+        }
+        for sender in 0..self.senders() {
+            if !row.receiving.contains(&sender) && self.may_take_now(place, sender) {
+                return Some(sender);
+            }
+        }
+        for sender in row.receiving.iter().rev() {
+            if self.may_take_now(place, *sender) {
+                return Some(*sender);
+            }
+        }
+        None
+    }
+
+    fn may_take_now(&self, place: usize, sender: u32) -> bool {
+        self.may_take(place, sender) && !self.is_latched(&self.disk.links().to_take(sender))
+    }
+
     fn start_receive_from(&mut self, txn: Txn, sender: u32) -> Result<Told, Refusal> {
         let place = self.idle_place(txn)?;
-        if sender >= SENDERS {
+        if sender >= self.senders() {
             return Err(Refusal::UnknownSender);
         }
         if self.is_receiving_end_held(place, sender) {
@@ -345,46 +366,46 @@ impl Lists {
     }
 
     fn start_take(&mut self, place: usize, sender: u32) -> Result<Told, Refusal> {
-        if self.is_busy() {
-            return Err(Refusal::Latched);
-        }
         let Some(message) = self.nth_sent(sender, self.taken(sender)) else {
             return Ok(Told::Other);
         };
-        let left = if self.length(sender) == 1 { 2 } else { 3 };
-        self.start(place, Act::Taken(message), left)
+        let reach = self.disk.links().to_take(sender);
+        self.start(place, Act::Taken(message), reach)
     }
 
-    // The transaction at this place starts an operation, and holds an end from then on.
-    fn start(&mut self, place: usize, act: Act, left: u8) -> Result<Told, Refusal> {
+    // The transaction at this place starts an operation, where no other one under way writes on its pages, and holds an end
+    // from then on.
+    fn start(&mut self, place: usize, act: Act, reach: Reach) -> Result<Told, Refusal> {
+        if self.is_latched(&reach) || lacks_cell(&act, &reach) {
+            return Err(Refusal::Latched);
+        }
         let Some(row) = self.rows.get_mut(place) else {
             return Ok(Told::Other);
         };
-        let held = if is_at_sending_end(&act) {
-            row.sending.push(sender_of(&act)).is_ok()
+        let ends = if is_at_sending_end(&act) {
+            &mut row.sending
         } else {
-            row.receiving.push(sender_of(&act)).is_ok()
+            &mut row.receiving
         };
-        if !held {
-            return Err(Refusal::NoMemory);
-        }
-        Ok(Told::Started(begin_work(row, act, false, left)))
+        hold(ends, sender_of(&act))?;
+        Ok(Told::Started(begin_work(row, act, false, reach)))
     }
 
-    // The last slot write of an operation is of the directory, those before it are of cells.
     fn step(&mut self, sub: Sub) -> Result<Told, Refusal> {
         let (place, work) = self.work_of(sub)?;
         if work.left == 0 {
             return Ok(Told::Ready);
         }
-        let page = if work.left == 1 { DIRECTORY } else { CELLS };
+        let left = work.left.saturating_sub(1);
+        let page = work.reach.page_before(left);
         let lsn = self.disk.add(Record::Write(sub.txn, page))?;
         if let Some(row) = self.rows.get_mut(place) {
             row.work = Some(Work {
                 number: work.number,
                 act: work.act,
                 undoes: work.undoes,
-                left: work.left.saturating_sub(1),
+                reach: work.reach,
+                left,
             });
         }
         Ok(Told::Stepped(lsn))
@@ -396,9 +417,10 @@ impl Lists {
             return Err(Refusal::Unfinished);
         }
         let end = if work.undoes {
-            Record::Undone(sub.txn, self.disk.newest_due_of(sub.txn))
+            let undone = self.disk.newest_due_of(sub.txn);
+            Record::Undone(sub.txn, undone, work.reach.cell)
         } else {
-            Record::End(sub.txn, deed_of(&work.act))
+            Record::End(sub.txn, deed_of(&work.act), work.reach.cell)
         };
         self.disk.add(end)?;
         let Some(row) = self.rows.get_mut(place) else {
@@ -449,24 +471,14 @@ impl Lists {
         let Some(act) = self.last_act(place) else {
             return Ok(Told::NothingLeft);
         };
-        if self.is_busy() {
+        let links = self.disk.links();
+        let reach = links.to_undo(&deed_of(&act), self.lowest_free());
+        if self.is_latched(&reach) || lacks_cell(&act, &reach) {
             return Err(Refusal::Latched);
         }
-        let left = self.writes_to_undo(&act);
         match self.rows.get_mut(place) {
-            Some(row) => Ok(Told::Started(begin_work(row, act, true, left))),
+            Some(row) => Ok(Told::Started(begin_work(row, act, true, reach))),
             None => Ok(Told::Other),
-        }
-    }
-
-    // The directory is written, the cell of a message, and that of the one beside: of a message that goes, of the one
-    // before it, and of a message that comes back, of the one that was first.
-    fn writes_to_undo(&self, act: &Act) -> u8 {
-        match act {
-            Act::Sent(message) if self.length(message.sender) == 1 => 2,
-            Act::Taken(message) if self.length(message.sender) == 0 => 2,
-            Act::Closed(_) => 1,
-            _ => 3,
         }
     }
 
@@ -495,7 +507,7 @@ impl Lists {
         self.open && !self.failed
     }
 
-    // Whether an operation is under way. Every operation of a small store needs its one directory page.
+    // Whether an operation is under way.
     fn is_busy(&self) -> bool {
         for row in &self.rows {
             if row.work.is_some() {
@@ -503,6 +515,41 @@ impl Lists {
             }
         }
         false
+    }
+
+    // Whether an operation under way writes on one of its pages.
+    fn is_latched(&self, reach: &Reach) -> bool {
+        for page in reach.pages {
+            if self.is_page_latched(page) {
+                return true;
+            }
+        }
+        false
+    }
+
+    fn is_page_latched(&self, page: u32) -> bool {
+        for row in &self.rows {
+            match row.work {
+                Some(work) if work.reach.has(page) => return true,
+                _ => {}
+            }
+        }
+        false
+    }
+
+    // The lowest free cell on a page that no operation under way writes on.
+    fn lowest_free(&self) -> u32 {
+        let links = self.disk.links();
+        for cell in 0..links.senders() {
+            if !links.is_used(cell) && !self.is_page_latched(links.page_of(cell)) {
+                return cell;
+            }
+        }
+        NONE
+    }
+
+    fn senders(&self) -> u32 {
+        self.disk.links().senders()
     }
 
     fn place_of(&self, txn: Txn) -> Option<usize> {
@@ -619,19 +666,10 @@ impl Lists {
         taken
     }
 
-    // How many messages a sender's chain has: all that were sent and not taken.
-    fn length(&self, sender: u32) -> usize {
-        let mut sent = self.sent(sender);
-        for row in &self.rows {
-            sent = sent.saturating_add(sends_in(&row.acts, sender));
-        }
-        sent.saturating_sub(self.taken(sender))
-    }
-
     // Cells of messages that are held, or taken by transactions that have not ended, or meant for sends under way.
     fn cells_in_use(&self) -> usize {
         let mut cells: usize = 0;
-        for sender in 0..SENDERS {
+        for sender in 0..self.senders() {
             cells = cells.saturating_add(self.sent(sender));
             cells = cells.saturating_sub(self.received(sender));
             for row in &self.rows {
@@ -644,6 +682,7 @@ impl Lists {
                     number: _,
                     act: Act::Sent(_),
                     undoes: false,
+                    reach: _,
                     left: _,
                 },
             ) = row.work
@@ -674,10 +713,10 @@ impl Lists {
 
     /// Whether these groups are the committed content.
     pub fn is_content(&self, groups: &[GroupContent]) -> bool {
-        if groups.len() as u64 != u64::from(SENDERS) {
+        if groups.len() as u64 != u64::from(self.senders()) {
             return false;
         }
-        for sender in 0..SENDERS {
+        for sender in 0..self.senders() {
             match groups.get(sender as usize) {
                 Some(group) if self.is_group(group, sender) => {}
                 _ => return false,
@@ -765,30 +804,70 @@ impl Lists {
         None
     }
 
-    /// The operation under way, and whether its writes are made.
-    pub fn under_way(&self) -> Option<(Sub, bool)> {
+    /// How many operations are under way.
+    pub fn work_count(&self) -> u64 {
+        let mut count: u64 = 0;
+        for row in &self.rows {
+            if row.work.is_some() {
+                count = count.saturating_add(1);
+            }
+        }
+        count
+    }
+
+    /// The operation under way at a place among them, and whether its writes are made.
+    pub fn work_at(&self, place: u64) -> Option<(Sub, bool)> {
+        let mut before: u64 = 0;
         for row in &self.rows {
             if let Some(work) = row.work {
-                let sub = Sub {
-                    txn: row.txn,
-                    number: work.number,
-                };
-                return Some((sub, work.left == 0));
+                if before == place {
+                    let sub = Sub {
+                        txn: row.txn,
+                        number: work.number,
+                    };
+                    return Some((sub, work.left == 0));
+                }
+                before = before.saturating_add(1);
             }
         }
         None
     }
 }
 
+// Whether there is no cell for a message that is sent or put back.
+fn lacks_cell(act: &Act, reach: &Reach) -> bool {
+    match act {
+        Act::Sent(_) | Act::Taken(_) => reach.cell == NONE,
+        Act::Closed(_) => false,
+    }
+}
+
+// The end of this sender is one of those that a transaction holds.
+fn hold(ends: &mut Vec<u32>, sender: u32) -> Result<(), Refusal> {
+    if !ends.contains(&sender) && ends.push(sender).is_err() {
+        return Err(Refusal::NoMemory);
+    }
+    Ok(())
+}
+
+// The sender whose end was taken last; no sender where none is held.
+fn newest_of(ends: &[u32]) -> u32 {
+    match ends.last() {
+        Some(sender) => *sender,
+        None => u32::MAX,
+    }
+}
+
 // The next operation of a transaction is under way.
-fn begin_work(row: &mut Row, act: Act, undoes: bool, left: u8) -> Sub {
+fn begin_work(row: &mut Row, act: Act, undoes: bool, reach: Reach) -> Sub {
     let number = row.number.saturating_add(1);
     row.number = number;
     row.work = Some(Work {
         number,
         act,
         undoes,
-        left,
+        reach,
+        left: reach.writes(),
     });
     Sub {
         txn: row.txn,
@@ -815,7 +894,7 @@ fn deed_of(act: &Act) -> Deed {
     match act {
         Act::Sent(message) => Deed::Sent(message.sender, message.body.as_slice().len() as u64),
         Act::Taken(message) => Deed::Taken(message.sender, message.body.as_slice().len() as u64),
-        Act::Closed(_) => Deed::Closed,
+        Act::Closed(sender) => Deed::Closed(*sender),
     }
 }
 
