@@ -1,4 +1,7 @@
 //! How often levels are dropped that were handed in as boxes.
+ghost use Rattle.std.specs.Prelude.{◌≡◌};
+ghost use Rattle.rq_planner.specs.Handed.{HasRoom};
+
 use crate::counted::Counted;
 use rq_chain::ChainLevel;
 use rq_disk::{MemLog, MemPages, Switch};
@@ -25,13 +28,6 @@ enum Dropped {
 
 // Opens a store with boxed levels that count in one place, and gives it back.
 fn count_drops(alloc: Global, is_formatted: bool) -> Result<Dropped, AllocError> {
-    let Some(layout) = Layout::new(1, 1) else {
-        return Err(AllocError);
-    };
-    let (mut pages, log) = devices(alloc, &layout)?;
-    if is_formatted && format(&mut pages, &layout).is_err() {
-        return Err(AllocError);
-    }
     let drops = Arc::new(alloc, AtomicU64::new(0))?;
     let slots: Box<dyn Level + Send> = Box::new(
         alloc,
@@ -50,6 +46,28 @@ fn count_drops(alloc: Global, is_formatted: bool) -> Result<Dropped, AllocError>
             drops: Arc::try_clone(&drops)?,
         },
     )?;
+    open_and_close(alloc, is_formatted, slots, chains, &drops)
+}
+
+// Opens a store with these levels, and gives it back.
+fn open_and_close<B: Level>(
+    alloc: Global,
+    is_formatted: bool,
+    slots: B,
+    chains: B,
+    drops: &AtomicU64,
+) -> Result<Dropped, AllocError>
+    requires slots { B.level slots ≡ 0 }
+    requires operations { B.level chains ≡ 1 }
+    requires room { HasRoom (B.kept chains) }
+{
+    let Some(layout) = Layout::new(1, 1) else {
+        return Err(AllocError);
+    };
+    let (mut pages, log) = devices(alloc, &layout)?;
+    if is_formatted && format(&mut pages, &layout).is_err() {
+        return Err(AllocError);
+    }
     let levels = StoreLevels::new(alloc, slots, chains)?;
     Ok(match restart(alloc, pages, log, levels) {
         Ok((engine, _)) => {

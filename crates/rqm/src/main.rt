@@ -3,12 +3,9 @@
 
 mod words;
 
-use rq_chain::ChainLevel;
 use rq_files::run_format;
-use rq_level::Level;
+use rq_levels::sets_of_levels;
 use rq_page::layout::Layout;
-use rq_pageops::PageLevel;
-use rq_planner::StoreLevels;
 use rq_script::{run_script, sets_wanted};
 use std::fs::File;
 use std::io::{self, Read, Write};
@@ -46,20 +43,10 @@ fn run_input<R: Input + AllocGlobal, W: Write>(
         writer.write_all(b"fault input\n")?;
         return Ok(1);
     }
-    let mut sets = Vec::new(alloc);
-    for _ in 0..sets_wanted(&script) {
-        let slots: Box<dyn Level + Send> = Box::new(alloc, PageLevel)?;
-        let Ok(level) = ChainLevel::new(alloc) else {
-            return lacks_memory(writer);
-        };
-        let chains: Box<dyn Level + Send> = Box::new(alloc, level)?;
-        sets.push(StoreLevels::new(alloc, slots, chains)?)?;
-    }
+    let Ok(sets) = sets_of_levels(alloc, sets_wanted(&script)) else {
+        writer.write_all(b"fault 1 NoMemory\n")?;
+        return Ok(1);
+    };
     let mut reader = script.as_slice();
     Ok(run_script(alloc, &mut reader, writer, layout, sets))
-}
-
-fn lacks_memory<W: Write>(writer: &mut W) -> io::Result<u8> {
-    writer.write_all(b"fault 1 NoMemory\n")?;
-    Ok(1)
 }
