@@ -9,6 +9,7 @@ use crate::stores::{
 use rq_disk::{LogDevice, MemLog, MemPages, PageChoice, PageDevice};
 use rq_engine::engine::Engine;
 use rq_engine::event::{CommitNo, Event, Receipt};
+use rq_level::Level;
 use rq_levels::StoreLevel;
 use rq_model::txn::Txn;
 use rq_shared::kept::{AuditEntry, Stamped};
@@ -161,10 +162,10 @@ fn send_meanwhile<S: Steps, R: Wait>(
 }
 
 // What the first thread does.
-fn work_first<P: PageDevice + Drop, L: LogDevice + Drop, G: Sharing, R: Wait>(
+fn work_first<P: PageDevice + Drop, L: LogDevice + Drop, B: Level, G: Sharing, R: Wait>(
     rt: &R,
     alloc: Global,
-    front: &Front<P, L, StoreLevel, G>,
+    front: &Front<P, L, B, G>,
     own: Own<G>,
     common: &Common,
 ) -> Option<Worked<G>>
@@ -179,10 +180,10 @@ fn work_first<P: PageDevice + Drop, L: LogDevice + Drop, G: Sharing, R: Wait>(
 }
 
 // What the second does.
-fn work_second<P: PageDevice + Drop, L: LogDevice + Drop, G: Sharing, R: Wait>(
+fn work_second<P: PageDevice + Drop, L: LogDevice + Drop, B: Level, G: Sharing, R: Wait>(
     rt: &R,
     alloc: Global,
-    front: &Front<P, L, StoreLevel, G>,
+    front: &Front<P, L, B, G>,
     own: Own<G>,
     common: &Common,
 ) -> Option<Worked<G>>
@@ -218,10 +219,10 @@ struct Tie {
 
 /// What was seen once two threads had each sent a message and committed.
 #[derive(Drop)]
-struct Seen<P: PageDevice, L: LogDevice> {
+struct Seen<P: PageDevice, L: LogDevice, B: Level> {
     tie: Option<Tie>,
     receipts: usize,
-    closed: Closed<P, L, StoreLevel>,
+    closed: Closed<P, L, B>,
 }
 
 // The stamps of seven calls, the first two changed about.
@@ -249,9 +250,9 @@ fn tie_of(audit: &[AuditEntry], stamps: Vec<Stamped>, others: Vec<Stamped>) -> T
 }
 
 // Takes the audit, where that is wanted, and looks whether it is tied.
-fn tie_taken<P: PageDevice + Drop, L: LogDevice + Drop, G: Sharing, R: Wait>(
+fn tie_taken<P: PageDevice + Drop, L: LogDevice + Drop, B: Level, G: Sharing, R: Wait>(
     rt: &R,
-    front: &Front<P, L, StoreLevel, G>,
+    front: &Front<P, L, B, G>,
     pass: &mut Pass<G>,
     take: bool,
     stamps: Vec<Stamped>,
@@ -268,12 +269,13 @@ fn tie_taken<P: PageDevice + Drop, L: LogDevice + Drop, G: Sharing, R: Wait>(
 fn both<
     P: PageDevice + Drop + Send,
     L: LogDevice + Drop + Send,
+    B: Level + Send,
     G: Sharing + Send + Sync,
     R: Threads + Wait + Sync,
 >(
     rt: &R,
     alloc: Global,
-    front: &Front<P, L, StoreLevel, G>,
+    front: &Front<P, L, B, G>,
     one: Own<G>,
     two: Own<G>,
     common: &Common,
@@ -292,10 +294,10 @@ fn both<
 }
 
 // A force, and then the receipt of each commit.
-fn receipts<P: PageDevice + Drop, L: LogDevice + Drop, G: Sharing, R: Wait>(
+fn receipts<P: PageDevice + Drop, L: LogDevice + Drop, B: Level, G: Sharing, R: Wait>(
     rt: &R,
     alloc: Global,
-    front: &Front<P, L, StoreLevel, G>,
+    front: &Front<P, L, B, G>,
     pass: &mut Pass<G>,
     numbers: &[CommitNo],
 ) -> Result<Vec<Receipt>, AllocError> {
@@ -311,14 +313,14 @@ fn receipts<P: PageDevice + Drop, L: LogDevice + Drop, G: Sharing, R: Wait>(
 }
 
 // The passes back, and the sharing at its end.
-fn ended<P: PageDevice + Drop, L: LogDevice + Drop, G: Sharing>(
+fn ended<P: PageDevice + Drop, L: LogDevice + Drop, B: Level, G: Sharing>(
     alloc: Global,
-    shared: Shared<P, L, StoreLevel, G>,
+    shared: Shared<P, L, B, G>,
     one: Pass<G>,
     two: Pass<G>,
     three: Pass<G>,
     given: &[Receipt],
-) -> Result<Closed<P, L, StoreLevel>, AllocError>
+) -> Result<Closed<P, L, B>, AllocError>
     requires parts { G.parts ≡ 1024 }
     requires all { shared ≡ 3 }
 {
@@ -334,21 +336,22 @@ fn ended<P: PageDevice + Drop, L: LogDevice + Drop, G: Sharing>(
 fn share<
     P: PageDevice + Drop + Send,
     L: LogDevice + Drop + Send,
+    B: Level + Send,
     G: Sharing + Send + Sync,
     R: Threads + Wait + Sync,
 >(
     rt: &R,
     alloc: Global,
-    engine: Engine<P, L, StoreLevel>,
+    engine: Engine<P, L, B>,
     blank: Blank,
     taking: Blank,
     take: bool,
-) -> Option<Seen<P, L>>
+) -> Option<Seen<P, L, B>>
     requires name { (blank.name ≡ G.name) × (taking.name ≡ G.taking) }
     requires parts { (blank.parts ≡ G.parts) × (blank.parts ≡ 1024) × (taking.parts ≡ 1024) }
     requires sound { WasSound P.PageDevice L.LogDevice G.premise engine }
 {
-    let mut shared = Shared::<P, L, StoreLevel, G>::new(alloc, engine, blank, taking);
+    let mut shared = Shared::<P, L, B, G>::new(alloc, engine, blank, taking);
     let pass = shared.pass()?;
     let other = shared.pass()?;
     let mut three = shared.pass()?;
@@ -383,10 +386,17 @@ fn look<R: Threads + Wait + Sync>(
     rt: &R,
     alloc: Global,
     take: bool,
-) -> Option<Seen<MemPages, MemLog>> {
+) -> Option<Seen<MemPages, MemLog, StoreLevel>> {
     let engine = wide_engine(alloc).ok()?;
     let taking = Blank::new(1024);
-    share::<MemPages, MemLog, Brand, R>(rt, alloc, engine, Blank::new(1024), taking, take)
+    share::<MemPages, MemLog, StoreLevel, Brand, R>(
+        rt,
+        alloc,
+        engine,
+        Blank::new(1024),
+        taking,
+        take,
+    )
 }
 
 #[test]
