@@ -5,6 +5,7 @@ ghost use Rattle.rq_planner.specs.Handed.{HasRoom};
 use crate::counted::Counted;
 use rq_chain::ChainLevel;
 use rq_disk::{MemLog, MemPages, Switch};
+use rq_engine::engine::Engine;
 use rq_level::Level;
 use rq_levels::StoreLevel;
 use rq_page::layout::Layout;
@@ -61,32 +62,49 @@ fn open_and_close<B: Level>(
     requires operations { B.level chains ≡ 1 }
     requires room { HasRoom (B.kept chains) }
 {
+    let (pages, log) = store(alloc, is_formatted)?;
+    let Ok(levels) = StoreLevels::new(alloc, slots, chains) else {
+        return Err(AllocError);
+    };
+    match opened(alloc, pages, log, levels) {
+        Some(engine) => Ok(given_back(engine, drops)),
+        None => Ok(Dropped::Refused {
+            closed: drops.load(Ordering::SeqCst),
+        }),
+    }
+}
+
+fn opened<B: Level>(
+    alloc: Global,
+    pages: MemPages,
+    log: MemLog,
+    levels: StoreLevels<B>,
+) -> Option<Engine<MemPages, MemLog, B>> {
+    match restart(alloc, pages, log, levels) {
+        Ok((engine, _)) => Some(engine),
+        Err(_) => None,
+    }
+}
+
+fn given_back<B: Level>(engine: Engine<MemPages, MemLog, B>, drops: &AtomicU64) -> Dropped {
+    let open = drops.load(Ordering::SeqCst);
+    let (_, _) = engine.give_back();
+    Dropped::GivenBack {
+        open,
+        closed: drops.load(Ordering::SeqCst),
+    }
+}
+
+// The devices of a small store, which may be formatted.
+fn store(alloc: Global, is_formatted: bool) -> Result<(MemPages, MemLog), AllocError> {
     let Some(layout) = Layout::new(1, 1) else {
         return Err(AllocError);
     };
-    let (mut pages, log) = devices(alloc, &layout)?;
+    let switch = Switch::new(alloc)?;
+    let mut pages = MemPages::zeroed(alloc, layout.pages(), switch.share()?)?;
     if is_formatted && format(&mut pages, &layout).is_err() {
         return Err(AllocError);
     }
-    let levels = StoreLevels::new(alloc, slots, chains)?;
-    Ok(match restart(alloc, pages, log, levels) {
-        Ok((engine, _)) => {
-            let open = drops.load(Ordering::SeqCst);
-            let _ = engine.give_back();
-            Dropped::GivenBack {
-                open,
-                closed: drops.load(Ordering::SeqCst),
-            }
-        }
-        Err(_) => Dropped::Refused {
-            closed: drops.load(Ordering::SeqCst),
-        },
-    })
-}
-
-fn devices(alloc: Global, layout: &Layout) -> Result<(MemPages, MemLog), AllocError> {
-    let switch = Switch::new(alloc)?;
-    let pages = MemPages::zeroed(alloc, layout.pages(), switch.share()?)?;
     let log = MemLog::new(alloc, Vec::new(alloc), switch);
     Ok((pages, log))
 }
