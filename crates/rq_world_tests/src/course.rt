@@ -211,11 +211,10 @@ pub fn run(alloc: Global, pages: u32, happenings: &[Happening]) -> Result<Vec<En
 
 // How many of these restart.
 fn restarts(happenings: &[Happening]) -> usize {
-    let mut count = 0;
+    let mut count: usize = 0;
     for happening in happenings {
-        match happening {
-            Happening::Restart | Happening::RestartStop(..) => count += 1,
-            _ => {}
+        if let Happening::Restart | Happening::RestartStop(..) = happening {
+            count = count.saturating_add(1);
         }
     }
     count
