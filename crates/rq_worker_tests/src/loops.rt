@@ -12,6 +12,7 @@ use rq_engine::event::{Event, Outcome, Reply};
 use rq_levels::StoreLevel;
 use rq_model::refusal::Refusal;
 use rq_model::txn::Txn;
+use rq_shared::kept::Stamped;
 use rq_shared::mark::{Mark, MarkPass};
 use rq_shared::shared::Shared;
 use rq_shared::sharing::Sharing;
@@ -274,18 +275,43 @@ fn marked<G: Sharing, R: Wait>(
     let mut reader = mark.split(&mut seat);
     let stamps = KeepStamps::new(alloc);
     let mut steps = SharedSteps::new(rt, shared.front(), writer, &mark, seat, stamps);
-    let txn = begun(&mut steps)?;
-    committed(&mut steps, txn)?;
+    let done = commits_one(&mut steps);
     let before = told(&mark, &mut reader);
+    let steps = written_once(rt, steps);
+    let (_, _, kept) = steps.into_parts();
+    let after = told(&mark, &mut reader);
+    if done {
+        Some((before, after, forced_last(&kept.stamps)))
+    } else {
+        None
+    }
+}
+
+// A transaction that does nothing, committed.
+fn commits_one<S: Steps>(steps: &mut S) -> bool {
+    match begun(steps) {
+        Some(txn) => committed(steps, txn).is_some(),
+        None => false,
+    }
+}
+
+// Has a log writer at work whose gate lets it through once.
+fn written_once<S: Steps, R: Wait>(rt: &R, steps: S) -> S {
     let left = AtomicU64::new(1);
     let mut worker = Worker::new(lets_through(BEFORE_FORCE, &left), steps);
     worker.write_log(rt);
-    let (_, _, kept) = worker.into_steps().into_parts();
-    let forced = match kept.stamps.last()?.reply() {
-        Reply::Forced(lsn) => *lsn,
-        _ => 0,
-    };
-    Some((before, told(&mark, &mut reader), forced))
+    worker.into_steps()
+}
+
+// What the last of these answered to a force; else 0.
+fn forced_last(stamps: &[Stamped]) -> u64 {
+    match stamps.last() {
+        Some(stamped) => match stamped.reply() {
+            Reply::Forced(lsn) => *lsn,
+            _ => 0,
+        },
+        None => 0,
+    }
 }
 
 fn mark_of<R: Wait>(rt: &R, alloc: Global) -> Option<(u64, u64, u64)> {
