@@ -1,0 +1,124 @@
+//! How often levels are dropped that were handed in as boxes.
+ghost use Rattle.std.specs.Prelude.{◌≡◌};
+ghost use Rattle.rq_planner.specs.Handed.{HasRoom};
+
+use crate::counted::Counted;
+use rq_chain::ChainLevel;
+use rq_disk::{MemLog, MemPages, Switch};
+use rq_engine::engine::Engine;
+use rq_level::Level;
+use rq_levels::StoreLevel;
+use rq_page::layout::Layout;
+use rq_pageops::PageLevel;
+use rq_planner::StoreLevels;
+use rq_restart::format::format;
+use rq_restart::restart::restart;
+use std::alloc::{AllocError, Global};
+use std::process::Abort;
+use std::sync::Arc;
+use std::sync::atomic::{AtomicU64, Ordering};
+use std::test::Fail;
+
+// How often the two levels were dropped while the store was open, and once it was given back; or, where it was not opened,
+// once that was refused.
+#[derive(Drop)]
+enum Dropped {
+    GivenBack { open: u64, closed: u64 },
+    Refused { closed: u64 },
+}
+
+// Opens a store with boxed levels that count in one place, and gives it back.
+fn count_drops(alloc: Global, is_formatted: bool) -> Result<Dropped, AllocError> {
+    let drops = Arc::new(alloc, AtomicU64::new(0))?;
+    let slots: Box<dyn Level + Send> = Box::new(
+        alloc,
+        Counted {
+            level: StoreLevel::Slots(PageLevel),
+            drops: Arc::try_clone(&drops)?,
+        },
+    )?;
+    let Ok(level) = ChainLevel::new(alloc) else {
+        return Err(AllocError);
+    };
+    let chains: Box<dyn Level + Send> = Box::new(
+        alloc,
+        Counted {
+            level: StoreLevel::Chains(level),
+            drops: Arc::try_clone(&drops)?,
+        },
+    )?;
+    open_and_close(alloc, is_formatted, slots, chains, &drops)
+}
+
+// Opens a store with these levels, and gives it back.
+fn open_and_close<B: Level>(
+    alloc: Global,
+    is_formatted: bool,
+    slots: B,
+    chains: B,
+    drops: &AtomicU64,
+) -> Result<Dropped, AllocError>
+    requires slots { B.level slots ≡ 0 }
+    requires operations { B.level chains ≡ 1 }
+    requires room { HasRoom (B.kept chains) }
+{
+    let (pages, log) = store(alloc, is_formatted)?;
+    let Ok(levels) = StoreLevels::new(alloc, slots, chains) else {
+        return Err(AllocError);
+    };
+    match opened(alloc, pages, log, levels) {
+        Some(engine) => Ok(given_back(engine, drops)),
+        None => Ok(Dropped::Refused {
+            closed: drops.load(Ordering::SeqCst),
+        }),
+    }
+}
+
+fn opened<B: Level>(
+    alloc: Global,
+    pages: MemPages,
+    log: MemLog,
+    levels: StoreLevels<B>,
+) -> Option<Engine<MemPages, MemLog, B>> {
+    match restart(alloc, pages, log, levels) {
+        Ok((engine, _)) => Some(engine),
+        Err(_) => None,
+    }
+}
+
+fn given_back<B: Level>(engine: Engine<MemPages, MemLog, B>, drops: &AtomicU64) -> Dropped {
+    let open = drops.load(Ordering::SeqCst);
+    let (_, _) = engine.give_back();
+    Dropped::GivenBack {
+        open,
+        closed: drops.load(Ordering::SeqCst),
+    }
+}
+
+// The devices of a small store, which may be formatted.
+fn store(alloc: Global, is_formatted: bool) -> Result<(MemPages, MemLog), AllocError> {
+    let Some(layout) = Layout::new(1, 1) else {
+        return Err(AllocError);
+    };
+    let switch = Switch::new(alloc)?;
+    let mut pages = MemPages::zeroed(alloc, layout.pages(), switch.share()?)?;
+    if is_formatted && format(&mut pages, &layout).is_err() {
+        return Err(AllocError);
+    }
+    let log = MemLog::new(alloc, Vec::new(alloc), switch);
+    Ok((pages, log))
+}
+
+#[test]
+fn a_store_that_is_given_back_drops_each_level_once(rt: HostRuntime) -> Result<(), Fail> {
+    let dropped = count_drops(rt.alloc(), true).map_err(|_| "memory")?;
+    assert!(rt; matches!(&dropped, Dropped::GivenBack { open: 0, closed: 2 }));
+    Ok(())
+}
+
+#[test]
+fn a_restart_that_is_refused_drops_each_level_once(rt: HostRuntime) -> Result<(), Fail> {
+    let dropped = count_drops(rt.alloc(), false).map_err(|_| "memory")?;
+    assert!(rt; matches!(&dropped, Dropped::Refused { closed: 2 }));
+    Ok(())
+}
