@@ -1,10 +1,13 @@
-//! A set of places, of which the next one is found without a look at each.
+//! Sets of places, of which the next one is found without a look at each.
 #![tactic(auto)]
 
-ghost use Rattle.std.specs.Prelude.{◌≡◌, ◌≢◌, ℕ, ◌+◌, ◌-◌, ◌*◌, ◌/◌, ◌<◌, ◌≤◌, ◌^◌, length, slice_index, cond, IfOk};
+ghost use Rattle.std.specs.Prelude.{◌≡◌, ◌≢◌, ℕ, ◌+◌, ◌-◌, ◌*◌, ◌/◌, ◌<◌, ◌≤◌, ◌^◌, length, slice_index, cond, nat_eq, IfOk};
 ghost use Rattle.std.specs.Int.{bit_at};
 ghost use Rattle.rq_flags.specs.Flags.{flag_at, IsNextApart, IsNextApartInWord, IsNextFlag, IsNextInWord, OthersStay};
 
+mod marks;
+
+pub use crate::marks::Marks;
 use rq_model::refusal::NoMemory;
 use std::alloc::Global;
 use std::marker::Model;
@@ -56,6 +59,14 @@ impl Index {
         } else {
             self.remove(place);
         }
+    }
+
+    /// Whether a place is in the set. None is beyond the bound.
+    #[tactic(auto, unfolding(crate::specs::Flags::flag_at))]
+    pub fn has(&self, place: usize) -> bool
+        ensures { result ≡ nat_eq (flag_at self.now place) 1 }
+    {
+        (word_of(&self.flags, place / 64) >> (place % 64)) % 2 == 1
     }
 
     // Puts a place in.
