@@ -3,10 +3,12 @@ ghost use Rattle.std.specs.Prelude.{◌≡◌, ◌<◌, ◌≤◌, ◌+◌, ◌*
 ghost use Rattle.std.specs.Bool.{OnFalse, OnTrue};
 ghost use Rattle.rq_page.specs.Sizes.{cell_at, cell_count};
 ghost use Rattle.rq_level.specs.Given.{has_page};
+ghost use Rattle.rq_flags.specs.Marks.{IsLowestMark};
 ghost use Rattle.rq_level.specs.Kept.{flag_at};
 ghost use Rattle.rq_chain.specs.Cells.{Flags, IsLowestIn, NoneInPage, NoneInRun, NoneToTakeIn, is_open, noted_flags, reserved_flags, takes};
 
 use crate::flags::{flag, set_flag};
+use rq_flags::Marks;
 use rq_level::PageSet;
 use rq_model::refusal::NoMemory;
 use rq_page::layout::{CELLS_LIMIT, Layout, SLOTS};
@@ -18,12 +20,12 @@ const RUN: u32 = 256;
 
 const RUNS: u32 = CELLS_LIMIT / RUN;
 
-/// Whether each cell is free, and whether a plan has chosen it, with an index by pages and by runs of pages: what is not
-/// set there has no cell to take. Contracts see the flags.
+/// Whether each cell is free, and whether a plan has chosen it, a bit for each, with an index by pages and by runs of
+/// pages: what is not set there has no cell to take. Contracts see the flags.
 #[derive(Drop)]
 pub(crate) struct FreeCells {
-    free: Vec<bool>,
-    reserved: Vec<bool>,
+    free: Marks,
+    reserved: Marks,
     pages: Vec<bool>,
     runs: Vec<bool>,
 }
@@ -33,9 +35,9 @@ impl Model for FreeCells {
 
     ghost Value = { Flags };
 
-    ghost view = { λ c. record { free = c.free.items; reserved = c.reserved.items } };
+    ghost view = { λ c. record { free = c.free; reserved = c.reserved } };
 
-    ghost invariant = { λ c. IsIndexed (record { free = c.free.items; reserved = c.reserved.items }) c.pages.items
+    ghost invariant = { λ c. IsIndexed (record { free = c.free; reserved = c.reserved }) c.pages.items
         c.runs.items };
 }
 
@@ -46,8 +48,8 @@ impl FreeCells {
     /// `NoMemory`.
     pub fn new(alloc: Global) -> Result<FreeCells, NoMemory> {
         Ok(FreeCells {
-            free: unset(alloc, (CELLS_LIMIT * SLOTS) as usize)?,
-            reserved: unset(alloc, (CELLS_LIMIT * SLOTS) as usize)?,
+            free: Marks::new(alloc, CELLS_LIMIT * SLOTS)?,
+            reserved: Marks::new(alloc, CELLS_LIMIT * SLOTS)?,
             pages: unset(alloc, CELLS_LIMIT as usize)?,
             runs: unset(alloc, RUNS as usize)?,
         })
@@ -57,14 +59,14 @@ impl FreeCells {
     pub fn shows_room(&self)
         ensures { (length self.now.free ≡ 983040) × (length self.now.reserved ≡ 983040) }
     {
-        let _cells = self.free.len();
+        let _cells = self.free.has(0);
     }
 
-    /// Whether the cell is free.
-    pub fn is_free(&self, place: u32) -> bool
-        ensures { result ≡ flag_at self.now.free place }
+    /// The lowest cell that is free.
+    pub fn lowest_free(&self) -> Option<u32>
+        ensures { IsLowestMark self.now.free result }
     {
-        flag(&self.free, place)
+        self.free.lowest()
     }
 
     /// A cell was read or written: whether it is free. No plan has chosen it then.
@@ -72,8 +74,8 @@ impl FreeCells {
         requires { place < 983040 }
         ensures { self.new ≡ noted_flags self.old place free }
     {
-        set_flag(&mut self.free, place, free);
-        set_flag(&mut self.reserved, place, false);
+        self.free.put(place, free);
+        self.reserved.put(place, false);
         if free {
             set_flag(&mut self.pages, place / SLOTS, true);
             set_flag(&mut self.runs, place / SLOTS / RUN, true);
@@ -84,7 +86,7 @@ impl FreeCells {
     pub fn reserve(&mut self, place: u32)
         ensures { self.new ≡ reserved_flags self.old place }
     {
-        set_flag(&mut self.reserved, place, true);
+        self.reserved.put(place, true);
     }
 
     /// The lowest cell of the store that may be taken and whose page is not latched.
@@ -143,7 +145,7 @@ impl FreeCells {
     fn is_open(&self, place: u32) -> bool
         ensures { result ≡ is_open self.now place }
     {
-        flag(&self.free, place) && !flag(&self.reserved, place)
+        self.free.has(place) && !self.reserved.has(place)
     }
 
     // Whether a page may have a cell to take.

@@ -64,12 +64,10 @@ impl ChainLevel {
         ensures some { OnTrue result (SomeFree layout.now self.now) }
         ensures none { OnFalse result (NoneFree layout.now self.now) }
     {
-        for place in 0..layout.cell_slots() {
-            if self.cells.is_free(place) {
-                return true;
-            }
+        match self.cells.lowest_free() {
+            Some(place) => place < layout.cell_slots(),
+            None => false,
         }
-        false
     }
 
     /// Chooses a cell.

@@ -53,7 +53,7 @@ use Rattle.rq_sound.proofs.FreeCells.{open_is, room_to_put_back}
 use Rattle.rq_sound.proofs.Groups.{slots_are}
 use Rattle.rq_sound.proofs.Planned.{plans_start}
 use Rattle.rq_sound.proofs.Refusals.{tests_read}
-use Rattle.rq_inverses.specs.Inverses.{HasFree, MayBeUndone}
+use Rattle.rq_sound.specs.Inverses.{HasFree, MayBeUndone}
 use Rattle.rq_engine.specs.Aborts.{IsTurnedBack, IsUndoPlan, UndoIsLatched}
 use Rattle.rq_engine.specs.Answers.{HasNothingUnderWay, IsUnderWay, Refuses}
 use Rattle.rq_engine.specs.Moves.{with_taken}

@@ -33,7 +33,7 @@ use Rattle.rq_sound.proofs.Contracts.{planned}
 use Rattle.rq_sound.proofs.Groups.{all_stand, none_latched}
 use Rattle.rq_sound.proofs.UsedCells.{some_free}
 use Rattle.rq_sound.proofs.Latching.{latched_exact}
-use Rattle.rq_inverses.specs.Inverses.{MayBeUndone}
+use Rattle.rq_sound.specs.Inverses.{MayBeUndone}
 use Rattle.rq_engine.specs.Applied.{LatchedReply, OnLatched, TakesUnlatched}
 use Rattle.rq_engine.specs.Aborts.{UndoIsLatched}
 use Rattle.rq_engine.specs.Closes.{close_latched}

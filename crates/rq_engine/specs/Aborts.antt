@@ -20,7 +20,7 @@ use Rattle.rq_store.specs.State.{State}
 use Rattle.rq_sound.specs.Groups.{slots_now}
 use Rattle.rq_sound.specs.Plans.{IsPlannedFrom}
 use Rattle.rq_sound.specs.Rows.{comp_end}
-use Rattle.rq_inverses.specs.Inverses.{InverseIsLatched, InverseTakesLowest}
+use Rattle.rq_sound.specs.Inverses.{InverseIsLatched, InverseTakesLowest}
 use Rattle.rq_engine.specs.Answers.{HasNothingUnderWay, IsUnderWay}
 use Rattle.rq_engine.specs.Moves.{with_taken}
 

@@ -1,4 +1,9 @@
 //! A level that counts how often it is dropped.
+ghost use Rattle.std.specs.Prelude.{◌≡◌, IfOk};
+ghost use Rattle.rq_levels.specs.Words.{kept_of, number_of};
+ghost use Rattle.rq_planner.specs.Handed.{HasRoom};
+
+use rq_chain::ChainLevel;
 use rq_level::{Level, Op, PageSet, Plan, Slots, Want};
 use rq_levels::StoreLevel;
 use rq_model::record::{Record, Slot};
@@ -6,7 +11,8 @@ use rq_model::refusal::Refusal;
 use rq_model::txn::Lsn;
 use rq_page::addr::Addr;
 use rq_page::page::Page;
-use std::alloc::Global;
+use rq_pageops::PageLevel;
+use std::alloc::{AllocError, Global};
 use std::sync::Arc;
 use std::sync::atomic::{AtomicU64, Ordering};
 
@@ -14,6 +20,38 @@ use std::sync::atomic::{AtomicU64, Ordering};
 pub struct Counted {
     pub level: StoreLevel,
     pub drops: Arc<AtomicU64, Global>,
+}
+
+impl Counted {
+    /// The level of single slots, which counts its drops here.
+    pub fn slots(drops: &Arc<AtomicU64, Global>) -> Result<Counted, AllocError>
+        ensures { IfOk result (λ c. number_of c.level ≡ 0) }
+    {
+        match Arc::try_clone(drops) {
+            Ok(drops) => Ok(Counted {
+                level: StoreLevel::Slots(PageLevel),
+                drops,
+            }),
+            Err(_) => Err(AllocError),
+        }
+    }
+
+    /// The level of chains, which counts its drops here.
+    pub fn chains(alloc: Global, drops: &Arc<AtomicU64, Global>) -> Result<Counted, AllocError>
+        ensures number { IfOk result (λ c. number_of c.level ≡ 1) }
+        ensures room { IfOk result (λ c. HasRoom (kept_of c.level)) }
+    {
+        let Ok(level) = ChainLevel::new(alloc) else {
+            return Err(AllocError);
+        };
+        match Arc::try_clone(drops) {
+            Ok(drops) => Ok(Counted {
+                level: StoreLevel::Chains(level),
+                drops,
+            }),
+            Err(_) => Err(AllocError),
+        }
+    }
 }
 
 impl Drop for Counted {

@@ -3,13 +3,10 @@ ghost use Rattle.std.specs.Prelude.{◌≡◌};
 ghost use Rattle.rq_planner.specs.Handed.{HasRoom};
 
 use crate::counted::Counted;
-use rq_chain::ChainLevel;
 use rq_disk::{MemLog, MemPages, Switch};
 use rq_engine::engine::Engine;
 use rq_level::Level;
-use rq_levels::StoreLevel;
 use rq_page::layout::Layout;
-use rq_pageops::PageLevel;
 use rq_planner::StoreLevels;
 use rq_restart::format::format;
 use rq_restart::restart::restart;
@@ -30,23 +27,8 @@ enum Dropped {
 // Opens a store with boxed levels that count in one place, and gives it back.
 fn count_drops(alloc: Global, is_formatted: bool) -> Result<Dropped, AllocError> {
     let drops = Arc::new(alloc, AtomicU64::new(0))?;
-    let slots: Box<dyn Level + Send> = Box::new(
-        alloc,
-        Counted {
-            level: StoreLevel::Slots(PageLevel),
-            drops: Arc::try_clone(&drops)?,
-        },
-    )?;
-    let Ok(level) = ChainLevel::new(alloc) else {
-        return Err(AllocError);
-    };
-    let chains: Box<dyn Level + Send> = Box::new(
-        alloc,
-        Counted {
-            level: StoreLevel::Chains(level),
-            drops: Arc::try_clone(&drops)?,
-        },
-    )?;
+    let slots: Box<dyn Level + Send> = Box::new(alloc, Counted::slots(&drops)?)?;
+    let chains: Box<dyn Level + Send> = Box::new(alloc, Counted::chains(alloc, &drops)?)?;
     open_and_close(alloc, is_formatted, slots, chains, &drops)
 }
 

@@ -29,7 +29,7 @@ use Rattle.rq_sound.specs.Sound.{IsSound}
 use Rattle.rq_sound.proofs.FreeCells.{open_is, room_to_put_back}
 use Rattle.rq_sound.proofs.Groups.{slots_are, all_stand, none_latched}
 use Rattle.rq_sound.proofs.UsedCells.{some_free}
-use Rattle.rq_inverses.specs.Inverses.{HasFree, InverseIsLatched, MayBeUndone}
+use Rattle.rq_sound.specs.Inverses.{HasFree, InverseIsLatched, MayBeUndone}
 
 none_any : (rows : List Row) (xs : List ℕ) → any_under rows ≡ false → any_latched rows xs ≡ true → ⊥
 none_any rows [] e h = false≢true h

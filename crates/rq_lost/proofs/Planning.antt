@@ -33,7 +33,7 @@ use Rattle.rq_sound.specs.Groups.{TellsGroup, slots_now}
 use Rattle.rq_sound.proofs.FreeCells.{open_is}
 use Rattle.rq_sound.proofs.Groups.{none_latched, slots_tell}
 use Rattle.rq_sound.proofs.Planned.{sent_last}
-use Rattle.rq_inverses.specs.Inverses.{StandsOn}
+use Rattle.rq_sound.specs.Inverses.{StandsOn}
 use Rattle.rq_lost.specs.declared.dues.Due.{Due}
 use Rattle.rq_lost.specs.Choices.{least_free}
 use Rattle.rq_lost.specs.Dues.{but_newest, deed_due, due_of, dues, finished_due}

@@ -27,7 +27,7 @@ use Rattle.rq_sound.proofs.Groups.{none_latched}
 use Rattle.rq_model.specs.declared.record.Record.{Record}
 use Rattle.rq_model.specs.Unended.{lost}
 use Rattle.rq_page.specs.Sizes.{Sizes}
-use Rattle.rq_inverses.specs.Inverses.{InverseTakesLowest}
+use Rattle.rq_sound.specs.Inverses.{InverseTakesLowest}
 use Rattle.rq_sound.specs.Groups.{slots_now}
 use Rattle.rq_lost.specs.Lost.{lost_row, lost_rows}
 use Rattle.rq_lost.specs.Moves.{IsAbortMove}

@@ -28,7 +28,7 @@ use Rattle.rq_sound.specs.Sound.{IsSound}
 use Rattle.rq_sound.specs.Starts.{MayUndo}
 use Rattle.rq_sound.proofs.Groups.{none_latched}
 use Rattle.rq_sound.proofs.Planned.{plans_start}
-use Rattle.rq_inverses.specs.Inverses.{InverseTakesLowest}
+use Rattle.rq_sound.specs.Inverses.{InverseTakesLowest}
 use Rattle.rq_sound.specs.Groups.{slots_now}
 use Rattle.rq_page.specs.Sizes.{Sizes}
 use Rattle.rq_views.specs.Log.{Slots}

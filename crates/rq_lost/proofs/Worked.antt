@@ -22,7 +22,7 @@ use Rattle.rq_page.specs.Slots.Slot.{Used}
 use Rattle.rq_views.specs.Items.{operation}
 use Rattle.rq_views.specs.Log.{same_op}
 use Rattle.rq_views.proofs.Overlay.{same_is as op_is}
-use Rattle.rq_inverses.specs.Inverses.{MayBeUndone}
+use Rattle.rq_sound.specs.Inverses.{MayBeUndone}
 use Rattle.rq_undone.specs.declared.history.Spot.{Spot}
 use Rattle.rq_undone.specs.Analysis.{has_sub}
 use Rattle.rq_undone.specs.Pages.{IsUndone, op_less}

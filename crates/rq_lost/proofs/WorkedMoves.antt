@@ -20,7 +20,7 @@ use Rattle.rq_sound.specs.Calls.{aborted}
 use Rattle.rq_sound.specs.Course.{with_made}
 use Rattle.rq_sound.specs.Starts.{MayUndo}
 use Rattle.rq_sound.proofs.Spelt as spelt
-use Rattle.rq_inverses.specs.Inverses.{InverseTakesLowest}
+use Rattle.rq_sound.specs.Inverses.{InverseTakesLowest}
 use Rattle.rq_views.specs.Stored.{slots_in}
 use Rattle.rq_lost.specs.Moves.{AreAborted, IsAbortMove}
 use Rattle.rq_lost.specs.Moves.IsAbortMove.{Starts, Writes, Undoes, Ends}

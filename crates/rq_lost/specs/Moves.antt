@@ -10,7 +10,7 @@ use Rattle.rq_store.specs.State.{State}
 use Rattle.rq_store.specs.Steps.{took}
 use Rattle.rq_sound.specs.Groups.{slots_now}
 use Rattle.rq_sound.specs.Starts.{MayUndo}
-use Rattle.rq_inverses.specs.Inverses.{InverseTakesLowest}
+use Rattle.rq_sound.specs.Inverses.{InverseTakesLowest}
 use Rattle.rq_sound.specs.Calls.{IsIdle, IsNextWrite, IsReady, aborted, started, stepped, undone}
 
 -- an inverse starts, into the lowest free cell where it puts a message back, makes a write or ends, or the abort ends

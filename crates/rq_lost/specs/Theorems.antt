@@ -27,7 +27,7 @@ use Rattle.rq_sound.specs.Groups.{slots_now}
 use Rattle.rq_sound.specs.Sound.{IsSound}
 use Rattle.rq_undone.specs.Pages.{IsUndone}
 use Rattle.rq_undone.specs.Theorems.{IsUndoneFrom}
-use Rattle.rq_inverses.specs.Inverses.{InverseIsLatched, MayBeUndone, InverseTakesLowest}
+use Rattle.rq_sound.specs.Inverses.{InverseIsLatched, MayBeUndone, InverseTakesLowest}
 use Rattle.rq_lost.specs.Lost.{IsRepeated, lost_store}
 use Rattle.rq_lost.specs.Turns.{AreAborting, EndsNext, NextTurn, TakesBackNext}
 use Rattle.rq_lost.specs.Work.{abort_work}

@@ -28,7 +28,7 @@ use Rattle.rq_sound.specs.Calls.{IsPutIn}
 use Rattle.rq_sound.specs.Plans.{IsPlannedFrom}
 use Rattle.rq_sound.specs.Rows.{comp_end}
 use Rattle.rq_sound.specs.Sound.{IsSound}
-use Rattle.rq_inverses.specs.Inverses.{InverseTakesLowest, MayBeUndone, StandsOn}
+use Rattle.rq_sound.specs.Inverses.{InverseTakesLowest, MayBeUndone, StandsOn}
 use Rattle.rq_undone.specs.Pages.{IsUndone}
 use Rattle.rq_lost.specs.declared.dues.Due.{Due}
 use Rattle.rq_lost.specs.Choices.{AreLost, least_free}

@@ -15,7 +15,7 @@ use Rattle.rq_store.specs.Fitting.{FitsLog, image_in, left_by}
 use Rattle.rq_store.specs.State.{State}
 use Rattle.rq_store.specs.Worked.{spelled_log}
 use Rattle.rq_sound.specs.Sound.{IsSound}
-use Rattle.rq_inverses.specs.Inverses.{InverseIsLatched, MayBeUndone}
+use Rattle.rq_sound.specs.Inverses.{InverseIsLatched, MayBeUndone}
 use Rattle.rq_sound.specs.Groups.{slots_now}
 use Rattle.rq_undone.specs.Pages.{IsUndone}
 use Rattle.rq_lost.specs.declared.dues.Due.{Due}

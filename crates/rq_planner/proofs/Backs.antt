@@ -31,7 +31,7 @@ use Rattle.rq_sound.specs.Latching.{any_latched, at_head, at_tail, before_tail, 
 use Rattle.rq_sound.specs.Levels.{AreLatched, IsGathered, KeepsCells}
 use Rattle.rq_sound.specs.Wants.{AreGivenOf}
 use Rattle.rq_sound.proofs.Levels.{levels_plan}
-use Rattle.rq_inverses.specs.Inverses.{InverseIsLatched, InverseTakesLowest}
+use Rattle.rq_sound.specs.Inverses.{InverseIsLatched, InverseTakesLowest}
 use Rattle.rq_planner.specs.Asked.{Asked, IsOfStore, asked_sender, known, to_undo, undone_by}
 use Rattle.rq_planner.specs.Asked.Asked.{Undo}
 use Rattle.rq_planner.specs.Answered.{HasGatheredFor, IsHeldUp, IsPlanBack, unless_latched}

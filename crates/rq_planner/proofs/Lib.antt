@@ -4,3 +4,4 @@ mod Replies
 mod Judged
 mod Backs
 pub mod Knowing
+mod Options

@@ -40,11 +40,15 @@ use Rattle.rq_sound.specs.Wants.{AreGivenOf, CanUndo}
 use Rattle.rq_sound.proofs.Chosen.{planned_kept}
 use Rattle.rq_sound.proofs.Levels.{levels_plan, levels_refuse, writes_latched}
 use Rattle.rq_sound.proofs.Wants.{levels_find}
-use Rattle.rq_inverses.specs.Found.{AreAllLatched, AreLatchedBelow}
-use Rattle.rq_inverses.proofs.Planned.{takes_lowest}
+use Rattle.rq_sound.specs.Lowest.{AreAllLatched, AreLatchedBelow, FirstIsLowest}
 use Rattle.rq_planner.specs.Asked.{Asked, IsOfStore, asked_by, asked_in, doing_sender, known, needed_by, to_do, to_undo, undone_by}
 use Rattle.rq_planner.specs.Asked.Asked.{Do, Undo}
 use Rattle.rq_planner.specs.Answered.{HasGatheredFor, IsAnswered, IsHeldUp, IsNewestDeed, IsPlanBack, IsPlanFor, IsPlanOf, MayBeAsked, unless_latched}
+
+-- the first write of a plan is of the cell that it takes
+takes_lowest : (z : Sizes) (q : Slots) (rows : List Row) (a : ℕ) (ws : List SlotWrite) → IsFirstAt a ws → AreLatchedBelow z q rows a → FirstIsLowest z q rows ws
+takes_lowest z q rows a [] at lowest = absurd at
+takes_lowest z q rows a (w ∷ ws) at lowest = subst (AreLatchedBelow z q rows) (sym at) lowest
 
 -- ---- each answer
 

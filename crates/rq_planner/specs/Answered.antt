@@ -32,8 +32,8 @@ use Rattle.rq_sound.specs.Latching.{any_latched}
 use Rattle.rq_sound.specs.Levels.{IsGathered, KeepsCells, MayFollow}
 use Rattle.rq_sound.specs.Sound.{IsSound}
 use Rattle.rq_sound.specs.Wants.{AreGivenOf}
-use Rattle.rq_inverses.specs.Found.{AreAllLatched, FirstIsLowest}
-use Rattle.rq_inverses.specs.Inverses.{InverseIsLatched, InverseTakesLowest}
+use Rattle.rq_sound.specs.Lowest.{AreAllLatched, FirstIsLowest}
+use Rattle.rq_sound.specs.Inverses.{InverseIsLatched, InverseTakesLowest}
 use Rattle.rq_planner.specs.Asked.{Asked, known, needed_by, slots_for}
 use Rattle.rq_planner.specs.Asked.Asked.{Do, Undo}
 

@@ -15,7 +15,7 @@ use Rattle.rq_level.specs.declared.writes.Plan.{Plan}
 use Rattle.rq_level.specs.Writes.{AreSlotWrites}
 use Rattle.rq_store.specs.Plans.{Stands_at}
 use Rattle.rq_sound.specs.Plans.{IsPlannedFrom}
-use Rattle.rq_inverses.specs.Inverses.{InverseTakesLowest}
+use Rattle.rq_sound.specs.Inverses.{InverseTakesLowest}
 use Rattle.rq_planner.specs.Asked.{Asked, undone_by}
 use Rattle.rq_planner.specs.Asked.Asked.{Undo}
 

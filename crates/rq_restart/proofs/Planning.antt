@@ -26,7 +26,7 @@ use Rattle.rq_sound.specs.Sound.{IsSound}
 use Rattle.rq_sound.proofs.Groups.{all_stand, tells_group}
 use Rattle.rq_sound.proofs.Latching as latching
 use Rattle.rq_sound.proofs.UsedCells.{some_free}
-use Rattle.rq_inverses.specs.Inverses.{InverseTakesLowest, MayBeUndone}
+use Rattle.rq_sound.specs.Inverses.{InverseTakesLowest, MayBeUndone}
 use Rattle.rq_planner.specs.Asked.{to_undo}
 use Rattle.rq_planner.specs.Asked.Asked.{Undo}
 use Rattle.rq_planner.specs.Backs.{CanBeTakenBack, IsRefusedBack, IsTakingBack}

@@ -21,7 +21,7 @@ use Rattle.rq_store.specs.Steps.{page_op}
 use Rattle.rq_sound.specs.Plans.{IsPlannedFrom}
 use Rattle.rq_sound.specs.Rows.{comp_end}
 use Rattle.rq_sound.specs.Sound.{IsSound}
-use Rattle.rq_inverses.specs.Inverses.{InverseTakesLowest}
+use Rattle.rq_sound.specs.Inverses.{InverseTakesLowest}
 use Rattle.rq_planner.specs.Backs.{CanBeTakenBack}
 use Rattle.rq_lost.specs.declared.dues.Due.{Due}
 use Rattle.rq_undone.specs.Analysis.{analysis}

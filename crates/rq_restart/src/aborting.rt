@@ -4,7 +4,7 @@ ghost use Rattle.rq_views.specs.Plans.Turn.{Undid};
 ghost use Rattle.rq_views.specs.Stored.{slots_in};
 ghost use Rattle.rq_level.specs.Writes.{AreSlotWrites};
 ghost use Rattle.rq_sound.specs.Plans.{IsPlannedFrom};
-ghost use Rattle.rq_inverses.specs.Inverses.{InverseTakesLowest};
+ghost use Rattle.rq_sound.specs.Inverses.{InverseTakesLowest};
 ghost use Rattle.rq_planner.specs.Answered.{KnowsCells};
 ghost use Rattle.rq_lost.specs.declared.dues.Due.{Due};
 ghost use Rattle.rq_lost.specs.Choices.{least_free};

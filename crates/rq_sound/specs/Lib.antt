@@ -21,3 +21,5 @@ pub mod WorkedCalls
 pub mod Chosen
 pub mod Holders
 pub mod Sharing
+pub mod Lowest
+pub mod Inverses

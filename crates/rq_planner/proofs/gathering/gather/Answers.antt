@@ -4,7 +4,7 @@ use Rattle.rq_views.specs.Stored.{IsStoreSlot, slot_at}
 use Rattle.rq_txn.specs.Rows.{latched_in}
 use Rattle.rq_store.specs.State.{State}
 use Rattle.rq_sound.specs.Groups.{slots_now}
-use Rattle.rq_inverses.proofs.Planned.{some_told}
+use Rattle.rq_planner.proofs.Options.{some_told}
 use Rattle.rq_planner.specs.Asked.{asked_by, needed_by, seen}
 use Rattle.rq_planner.proofs.Gathered.{asks_for, asks_none, fewer_left, one_more, wanted_for}
 use Rattle.rq_planner.proofs.Told.{slot_is}

@@ -1,7 +1,7 @@
 use Rattle.std.proofs.Common.{◌≡◌, sym, ◌∙◌, subst}
 use Rattle.rq_page.specs.Formatted.{IsFormatted}
 use Rattle.rq_pool.specs.Pooled.{image_at}
-use Rattle.rq_inverses.proofs.Planned.{some_told}
+use Rattle.rq_planner.proofs.Options.{some_told}
 use Rattle.rq_planner.proofs.Told.{first_noted}
 use Rattle.rq_planner.proofs.telling.tell_sizes.Goals as goal
 

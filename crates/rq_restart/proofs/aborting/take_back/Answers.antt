@@ -8,7 +8,7 @@ use Rattle.rq_views.specs.Stored.{slots_in}
 use Rattle.rq_level.specs.declared.writes.SlotWrite.{SlotWrite}
 use Rattle.rq_sound.specs.Plans.{IsPlannedFrom}
 use Rattle.rq_sound.specs.Rows.{comp_end}
-use Rattle.rq_inverses.specs.Inverses.{InverseTakesLowest}
+use Rattle.rq_sound.specs.Inverses.{InverseTakesLowest}
 use Rattle.rq_restart.proofs.Renewing.{cells_same}
 use Rattle.rq_lost.specs.Dues.{deed_due, dues}
 use Rattle.rq_lost.specs.Numbers.{number_of, numbers}

@@ -7,7 +7,7 @@ use Rattle.rq_txn.specs.Rows.{Row}
 use Rattle.rq_store.specs.State.{State}
 use Rattle.rq_sound.specs.Chosen.{KeepsBeside, places_of}
 use Rattle.rq_sound.specs.Levels.{KeepsCells}
-use Rattle.rq_inverses.proofs.Planned.{some_told}
+use Rattle.rq_planner.proofs.Options.{some_told}
 use Rattle.rq_planner.specs.Answered.{IsPlanBack, IsPlanFor, KnowsCells}
 use Rattle.rq_planner.specs.Asked.{Asked, seen, undone_by}
 use Rattle.rq_planner.specs.Asked.Asked.{Undo}

@@ -1,24 +1,18 @@
--- What the inverse of a deed is planned from, which pages it needs, and when there is one.
-use Rattle.std.specs.Prelude.{◌≡◌, ◌⊎◌, ℕ, ◌/◌, ◌<◌, true, false, List, length, map}
+-- When the inverse of a deed needs a page that is latched, when there is one, and which cell it takes.
+use Rattle.std.specs.Prelude.{◌≡◌, ◌⊎◌, ℕ, ◌/◌, ◌<◌, true, List, length}
 use Rattle.rq_model.specs.declared.record.Deed.{Deed}
 use Rattle.rq_model.specs.declared.record.Deed.TheVariants.{Append, UnlinkHead, Close}
-use Rattle.rq_page.specs.Sizes.{Sizes, IsCellAddress, cell_count, directory_at}
-use Rattle.rq_page.specs.Slots.Slot.{Free, Sender}
+use Rattle.rq_page.specs.Sizes.{Sizes, cell_count, directory_at}
 use Rattle.rq_views.specs.Items.{items}
 use Rattle.rq_views.specs.Legal.{view}
 use Rattle.rq_views.specs.Log.{Slots}
 use Rattle.rq_views.specs.Stored.{count_used}
-use Rattle.rq_level.specs.Given.{has_page}
 use Rattle.rq_level.specs.declared.writes.SlotWrite.{SlotWrite}
-use Rattle.rq_chain.specs.declared.Group.{Group}
-use Rattle.rq_chain.specs.Neighbours.{IsGroupOf, IsNeighbour, cell_beside}
 use Rattle.rq_txn.specs.Rows.{Row, latched_in}
-use Rattle.rq_store.specs.Plans.{Stands_at}
 use Rattle.rq_store.specs.State.{State}
 use Rattle.rq_sound.specs.Groups.{slots_now}
-use Rattle.rq_sound.specs.Latching.{any_latched, at_head, before_tail, named}
-use Rattle.rq_inverses.specs.Found.{AreAllLatched, AreLatchedBelow, FirstIsLowest}
-use Rattle.rq_inverses.specs.declared.inverses.BackSlots.{BackSlots}
+use Rattle.rq_sound.specs.Latching.{any_latched, at_head, before_tail}
+use Rattle.rq_sound.specs.Lowest.{AreAllLatched, FirstIsLowest}
 
 -- ---- stores
 
@@ -41,10 +35,6 @@ MayBeUndone s (Close g) = Unit {0}
 
 -- ---- latches
 
--- none of the writes is on a page that is latched
-abbrev pub AreNobodys : List Row → List SlotWrite → Type 0
-AreNobodys rows ws = (p : ℕ) → has_page p (map (λ w. w.at / 16) ws) ≡ true → latched_in rows p ≡ false
-
 -- a put-back for the group needs a latched page, or a cell of which none is free on another
 abbrev pub PutBackIsLatched : Sizes → Slots → List Row → ℕ → Type 0
 PutBackIsLatched z q rows g = (any_latched rows (at_head q g) ≡ true) ⊎ AreAllLatched z q rows
@@ -60,25 +50,3 @@ abbrev pub InverseTakesLowest : Sizes → Slots → List Row → Deed → List S
 InverseTakesLowest z q rows (Append g n tag previous body) ws = Unit {0}
 InverseTakesLowest z q rows (UnlinkHead g n tag body) ws = FirstIsLowest z q rows ws
 InverseTakesLowest z q rows (Close g) ws = Unit {0}
-
--- ---- what an inverse is planned from
-
--- a group whose directory slot is on a page that nobody has latched
-pub record IsFreeGroup (z : Sizes) (q : Slots) (rows : List Row) (g : ℕ) (x : Group) : Type 0 where
-  pub group : IsGroupOf z x
-  pub sender : x.sender ≡ g
-  pub directory_is : q (directory_at g) ≡ Sender g x.directory
-  pub off : latched_in rows (directory_at g / 16) ≡ false
-
--- What a put-back for the group is planned from, on pages that nobody has latched: its directory slot, the cell at the
--- head of its chain, and the lowest free cell.
-pub record AreBackSlots (z : Sizes) (q : Slots) (rows : List Row) (g : ℕ) (x : BackSlots) : Type 0 where
-  pub group : IsFreeGroup z q rows g x.group
-  pub some : 0 < x.group.directory.received
-  pub head : IsNeighbour z x.group.directory.head x.head
-  pub beside : Stands_at q x.group.directory.head (cell_beside x.head)
-  pub head_off : any_latched rows (named x.group.directory.head) ≡ false
-  pub cell : IsCellAddress z x.free
-  pub free : q x.free ≡ Free
-  pub lowest : AreLatchedBelow z q rows x.free
-  pub cell_off : latched_in rows (x.free / 16) ≡ false
