@@ -1,6 +1,6 @@
 //! The levels of a store, as one type: that of single slots, and that of chains.
 //!
-//! A program may hand in any levels. This crate has them without a box, for tests and programs that count.
+//! A program may hand in any levels. This crate has them without a box, for `rqm`, tests and programs that count.
 #![tactic(auto, unfolding(rq_level::specs::Meaning::meaning_of))]
 
 mod store_level;

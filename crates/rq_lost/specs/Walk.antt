@@ -143,8 +143,8 @@ pub record ShowsUndone (z : Sizes) (images : List (List ℕ)) (log : List Record
   pub last : StandsLast (slots_in z images) deed
 
 -- What is due first can be taken back: its OpEnd tells a deed of a sender that the store has, the slots show that it was
--- done last, and the plan of its inverse, by the pages alone, is refused for memory only (`plan_inverse` says that of any
--- such store).
+-- done last, and the plan of its inverse, by the pages alone, is refused for memory only (`take_back` of `rq_planner` says
+-- that of any such store).
 pub record DuesCanBeUndone : Type 0 where
   pub reads : (z : Sizes) (log : List Record) (d : Due) → IsWhole z log → In d (dues log)
       → (deed_in d.deed ≡ Some (deed_due d)) × (deed_sender (deed_due d) < sender_count z)

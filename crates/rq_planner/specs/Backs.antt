@@ -52,7 +52,8 @@ pub record IsShut (z : Sizes) (q : Slots) (g : ℕ) : Type 0 where
   pub directory_is : q (directory_at g) ≡ Sender g directory
   pub closed : directory.closed ≡ true
 
--- The slots hold what the inverse of a deed needs: it was done last at its end of its group.
+-- The slots hold what the inverse of a deed needs: a message was sent or taken last at its end of its group; a closed group
+-- is closed.
 abbrev pub CanBeTakenBack : Sizes → Slots → Deed → Type 0
 CanBeTakenBack z q (Append g n tag previous body) = SentLast z q g n
 CanBeTakenBack z q (UnlinkHead g n tag body) = TakenLast z q g n

@@ -149,7 +149,8 @@ impl<B: Level> Planner<B> {
     /// The plan of what takes back the operation whose end the record is, where nothing is under way.
     ///
     /// # Errors
-    /// `NoMemory`; `Damaged` where the record tells no deed that the slots as they are show to be done last.
+    /// `NoMemory`; `Damaged` where the record tells no deed, or one that the slots as they are do not show to be done last
+    /// (of a close: where its group is not closed).
     pub fn take_back<P: PageDevice>(
         &mut self,
         alloc: Global,

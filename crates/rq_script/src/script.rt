@@ -26,8 +26,8 @@ const ATTEMPTS: u32 = 1000;
 
 /// Runs a script to its end, or to a fault, and answers the exit status: 0, or 1 after a fault. What its
 /// commands print is written as they are carried out. A script's refusals are lines like any other. The opening takes a set
-/// of levels, the last one that is left, and so does each restart; one that stops may take two. Where none is left,
-/// `fault 1 NoMemory` is printed.
+/// of levels, the last one that is left, and so does each restart; a `restart N` that makes no more than N records takes
+/// two. Where none is left, `fault 1 NoMemory` is printed.
 pub fn run_script<R: Read, W: Write, B: Level>(
     alloc: Global,
     reader: &mut R,
