@@ -292,7 +292,7 @@ aborts_judged = record {
       number = refl;
       ready = (refl, refl, refl, refl);
       plan = receive_planned;
-      lowest = λ a is low free. absurd (none_below a is low);
+      lowest = (λ a is low free. absurd (none_below a is low), refl);
       lists = refl;
     },
   );

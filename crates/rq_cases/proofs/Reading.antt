@@ -137,8 +137,8 @@ first_cell = record { above = omega arith; below = omega arith; slot = omega ari
 
 pub cells : CellsAreJudged
 cells = record {
-  lowest = λ pages log body. (refl, λ a is low free. absurd (below a is low));
-  not_lowest = λ pages log body s. false≢true (s.1 33 first_cell (omega arith) first_free);
+  lowest = λ pages log body. (refl, (λ a is low free. absurd (below a is low), refl));
+  not_lowest = λ pages log body s. false≢true (s.1.0 33 first_cell (omega arith) first_free);
   not_under_way = λ pages log body s. s;
   another_number = λ pages log sub of other body s.
       other (sym (subst (λ (t : Txn). IsUnderWay send_started (let x : Sub = record { txn = t; number = sub.number } in x) (λ r u. TakesLowest begun u.writes)) of s).0);

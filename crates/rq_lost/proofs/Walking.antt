@@ -131,11 +131,11 @@ put_as base s images now log w a b c k =
     record { image = over.image; page = over.page; others = over.others; superblock = over.superblock; headers = over.headers }
 
 -- the lowest free cell of all is the lowest on a page that nobody has latched
-lowest_of : (z : Sizes) (q : Slots) (rows : List Row) (d : Deed) (ws : List SlotWrite) → InverseTakesLowest z q [] d ws → InverseTakesLowest z q rows d ws
-lowest_of z q rows (Append g n tag previous body) ws h = tt
-lowest_of z q rows (UnlinkHead g n tag body) [] h = absurd h
-lowest_of z q rows (UnlinkHead g n tag body) (w ∷ ws) h = λ b c lt free. absurd (true≢false (sym (h b c lt free)))
-lowest_of z q rows (Close g) ws h = tt
+lowest_of : (z : Sizes) (q : Slots) (rows : List Row) (d : Deed) (ws : List SlotWrite) → ((p : ℕ) → latched_in rows p ≡ false) → InverseTakesLowest z q [] d ws → InverseTakesLowest z q rows d ws
+lowest_of z q rows (Append g n tag previous body) ws off h = tt
+lowest_of z q rows (UnlinkHead g n tag body) [] off h = absurd h
+lowest_of z q rows (UnlinkHead g n tag body) (w ∷ ws) off h = (λ b c lt free. absurd (true≢false (sym (h.0 b c lt free))), off (w.at / 16))
+lowest_of z q rows (Close g) ws off h = tt
 
 module _ (base : State) (k : IsSound base) (stores : List State) (images : List (List ℕ)) (log : List Record) (c : IsCome base stores images log) where
   abbrev s : State
@@ -175,7 +175,7 @@ module _ (base : State) (k : IsSound base) (stores : List State) (images : List 
       (record { idle = i; number = ap (λ (n : ℕ). n + 1) e; made = refl; aim_is = refl; free = λ p x. none_latched s.rows p off }) over (c.aborting r t.row) t.last in
       let lowest : InverseTakesLowest s.sizes (slots_now s) s.rows (deed_due d) ws =
       subst (λ z. InverseTakesLowest z (slots_in z s.images) s.rows (deed_due d) ws) (sym sizes)
-      (subst (λ x. InverseTakesLowest base.sizes (slots_in base.sizes x) s.rows (deed_due d) ws) (sym c.images_are) (lowest_of base.sizes (slots_in base.sizes images) s.rows (deed_due d) ws low)) in
+      (subst (λ x. InverseTakesLowest base.sizes (slots_in base.sizes x) s.rows (deed_due d) ws) (sym c.images_are) (lowest_of base.sizes (slots_in base.sizes images) s.rows (deed_due d) ws (λ p. none_latched s.rows p off) low)) in
       record {
         stores = started s r u s.ends ∷ stores;
         come = step (started s r u s.ends) (Starts r u h.1 (finished_due d) may lowest refl) images log (off, t) c.images_are c.records_are;

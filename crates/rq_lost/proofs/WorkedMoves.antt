@@ -156,7 +156,7 @@ turn_end = record {
 
 -- no cell stands before the first one
 first_cell_lowest : (v : Pages) → InverseTakesLowest sizes (slots_in sizes v.start) (store_two v.start).rows (takes 0) put_back.writes
-first_cell_lowest v = λ b c lt e. (let above = c.above in absurd (omega (arith, above, lt)))
+first_cell_lowest v = (λ b c lt e. (let above = c.above in absurd (omega (arith, above, lt))), refl)
 
 module _ (v : Pages) (m : AreMade v) where
   in_turn : MovesInTurn (store_two v.start) (stores_of v)

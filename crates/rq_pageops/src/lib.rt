@@ -1,4 +1,4 @@
-//! Latches of pages, and the level of single slots. Nothing stands on them yet.
+//! Latches of pages, which nothing takes yet, and the level of single slots.
 #![tactic(auto, unfolding(rq_level::specs::Meaning::meaning_of))]
 
 mod latches;

@@ -67,6 +67,7 @@ other_deed (Close g) body e f d = d
 
 none_answer : (images : List (List ℕ)) → Answers images 1 (Ok None) knows
 none_answer images = record {
+  read = refl;
   plan = tt;
   slots = tt;
   chosen = tt;
@@ -74,12 +75,14 @@ none_answer images = record {
   latched = λ a e. subst (IsHeldUp (beside images)) (let same : to_send 1 ≡ a = cc in same) (held images);
   none = refl;
   refused = tt;
+  causes = tt;
   plain = tt;
   memory = λ whole e sound a is may. tt;
 }
 
 memory_answer : (images : List (List ℕ)) → Answers images 15 (Err why.NoMemory) knows
 memory_answer images = record {
+  read = tt;
   plan = tt;
   slots = tt;
   chosen = tt;
@@ -87,6 +90,7 @@ memory_answer images = record {
   latched = tt;
   none = tt;
   refused = refl;
+  causes = tt;
   plain = ((λ e. cc), (λ e. cc));
   memory = λ whole e sound a is may. refl;
 }

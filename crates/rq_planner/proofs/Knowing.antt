@@ -31,7 +31,7 @@ knows_any z images k rows h = record {
 
 -- what is answered
 pub told : (s : State) (k after : Kept) (asked : Option Asked) (answer : Result (Option Plan) Refusal) → IsAnswered s k asked answer after → IsPlanned s asked answer
-told s k after asked answer h = record { plan = h.plan; free = h.free; latched = h.latched; plain = h.plain; memory = h.memory }
+told s k after asked answer h = record { read = h.read; plan = h.plan; free = h.free; latched = h.latched; causes = h.causes; plain = h.plain; memory = h.memory }
 
 -- ---- a slot is written
 

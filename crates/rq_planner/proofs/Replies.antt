@@ -1,5 +1,6 @@
 -- What is answered to what is asked: the level's answer, over what was gathered for it.
 use Rattle.std.proofs.Common.{◌≡◌, ◌≢◌, ⊎_elim, ℕ, ◌+◌, ◌/◌, ◌<◌, ◌≤◌, ◌++◌, not, List, [], ◌∷◌, reverse, Bool, true, false, Option, Some, None, Result, Ok, Err, refl, sym, ◌∙◌, ap, subst, inl, inr, arith}
+use Rattle.std.specs.Option.{is_some}
 use Rattle.std.proofs.lemmas.Bool.{and_from, cases_Bool, cases_eq, cases_lt, or_from, true≢false}
 use Rattle.std.proofs.lemmas.List.{reverse-append, reverse-reverse}
 use Rattle.rq_model.specs.declared.record.Deed.{Deed}
@@ -15,7 +16,7 @@ use Rattle.rq_page.specs.declared.cell.Cell.{Cell}
 use Rattle.rq_page.specs.Sizes.{Sizes, cell_at, directory_at, place_of, sender_count}
 use Rattle.rq_page.specs.Slots.Slot.{Used}
 use Rattle.rq_page.proofs.Addresses.{cells_rise, places_are_cells}
-use Rattle.rq_views.specs.Log.{Write}
+use Rattle.rq_views.specs.Log.{Slots, Write}
 use Rattle.rq_views.specs.Plans.{deed_sender, relinked}
 use Rattle.rq_views.specs.Plans.Turn.{Undid}
 use Rattle.rq_views.specs.Stored.{is_used}
@@ -43,12 +44,12 @@ use Rattle.rq_sound.proofs.Wants.{levels_find}
 use Rattle.rq_sound.specs.Lowest.{AreAllLatched, AreLatchedBelow, FirstIsLowest}
 use Rattle.rq_planner.specs.Asked.{Asked, IsOfStore, asked_by, asked_in, doing_sender, known, needed_by, to_do, to_undo, undone_by}
 use Rattle.rq_planner.specs.Asked.Asked.{Do, Undo}
-use Rattle.rq_planner.specs.Answered.{HasGatheredFor, IsAnswered, IsHeldUp, IsNewestDeed, IsPlanBack, IsPlanFor, IsPlanOf, MayBeAsked, unless_latched}
+use Rattle.rq_planner.specs.Answered.{HasGatheredFor, IsAnswered, IsHeldUp, IsNewestDeed, IsPlanBack, IsPlanFor, IsPlanOf, MayBeAsked, RefusesPlan, unless_latched}
 
 -- the first write of a plan is of the cell that it takes
-takes_lowest : (z : Sizes) (q : Slots) (rows : List Row) (a : ℕ) (ws : List SlotWrite) → IsFirstAt a ws → AreLatchedBelow z q rows a → FirstIsLowest z q rows ws
-takes_lowest z q rows a [] at lowest = absurd at
-takes_lowest z q rows a (w ∷ ws) at lowest = subst (AreLatchedBelow z q rows) (sym at) lowest
+takes_lowest : (z : Sizes) (q : Slots) (rows : List Row) (a : ℕ) (ws : List SlotWrite) → IsFirstAt a ws → AreLatchedBelow z q rows a → latched_in rows (a / 16) ≡ false → FirstIsLowest z q rows ws
+takes_lowest z q rows a [] at lowest off = absurd at
+takes_lowest z q rows a (w ∷ ws) at lowest off = (subst (AreLatchedBelow z q rows) (sym at) lowest, ap (λ n. latched_in rows (n / 16)) at ∙ off)
 
 -- ---- each answer
 
@@ -62,6 +63,7 @@ module _ (s : State) (k : Kept) (a : Asked) where
   planned_answer : (after : Kept) (p : Plan) → IsPlanFor s a p → AreSlotWrites s.sizes p.writes.items → (IsHeldUp s a → ⊥)
       → ((rows : List Row) → KeepsCells (record s { rows = rows }) k → KeepsBeside (record s { rows = rows }) after (places_of p.writes.items)) → IsAnswered s k (Some a) (Ok (Some p)) after
   planned_answer after p is slots off beside = record {
+    read = refl;
     plan = for_one (λ b. IsPlanFor s b p) is;
     slots = slots;
     chosen = beside;
@@ -69,12 +71,14 @@ module _ (s : State) (k : Kept) (a : Asked) where
     latched = tt;
     none = tt;
     refused = tt;
+    causes = tt;
     plain = tt;
     memory = λ whole e sound b is may. tt;
   }
 
   latched_answer : (after : Kept) → after ≡ k → IsHeldUp s a → IsAnswered s k (Some a) (Ok None) after
   latched_answer after same held = record {
+    read = refl;
     plan = tt;
     slots = tt;
     chosen = tt;
@@ -82,12 +86,14 @@ module _ (s : State) (k : Kept) (a : Asked) where
     latched = for_one (IsHeldUp s) held;
     none = same;
     refused = tt;
+    causes = tt;
     plain = tt;
     memory = λ whole e sound b is may. tt;
   }
 
-  refused_answer : (after : Kept) (r : Refusal) → after ≡ k → r ≢ why.Failed → r ≢ why.Latched → ((whole : State) → known whole.sizes whole.images whole.rows ≡ s → IsSound whole → MayBeAsked whole a → r ≡ why.NoMemory) → IsAnswered s k (Some a) (Err r) after
-  refused_answer after r same failed latched memory = record {
+  refused_answer : (after : Kept) (r : Refusal) → after ≡ k → RefusesPlan r → r ≢ why.Failed → r ≢ why.Latched → ((whole : State) → known whole.sizes whole.images whole.rows ≡ s → IsSound whole → MayBeAsked whole a → r ≡ why.NoMemory) → IsAnswered s k (Some a) (Err r) after
+  refused_answer after r same causes failed latched memory = record {
+    read = tt;
     plan = tt;
     slots = tt;
     chosen = tt;
@@ -95,16 +101,18 @@ module _ (s : State) (k : Kept) (a : Asked) where
     latched = tt;
     none = tt;
     refused = same;
+    causes = causes;
     plain = (failed, latched);
     memory = λ whole e sound. for_one (λ b. MayBeAsked whole b → r ≡ why.NoMemory) (memory whole e sound);
   }
 
   memory_answer : (after : Kept) → after ≡ k → IsAnswered s k (Some a) (Err why.NoMemory) after
-  memory_answer after same = refused_answer after why.NoMemory same (λ e. cc) (λ e. cc) (λ whole e sound may. refl)
+  memory_answer after same = refused_answer after why.NoMemory same tt (λ e. cc) (λ e. cc) (λ whole e sound may. refl)
 
 -- where nothing can be read
-unread_answer : (s : State) (k after : Kept) (r : Refusal) → after ≡ k → r ≢ why.Failed → r ≢ why.Latched → IsAnswered s k None (Err r) after
-unread_answer s k after r same failed latched = record {
+unread_answer : (s : State) (k after : Kept) (r : Refusal) → after ≡ k → RefusesPlan r → r ≢ why.Failed → r ≢ why.Latched → IsAnswered s k None (Err r) after
+unread_answer s k after r same causes failed latched = record {
+  read = tt;
   plan = tt;
   slots = tt;
   chosen = tt;
@@ -112,9 +120,18 @@ unread_answer s k after r same failed latched = record {
   latched = tt;
   none = tt;
   refused = same;
+  causes = causes;
   plain = (failed, latched);
   memory = λ whole e sound b is may. absurd (let no : None ≡ Some b = is in cc);
 }
+
+-- what is held up by a latch can be read
+pub held_read : (rows : List Row) (q : Slots) (asked : Option Asked) → any_latched rows (needed_by q asked) ≡ true → is_some asked ≡ true
+held_read rows q None h = absurd (true≢false (sym h))
+held_read rows q (Some a) h = refl
+
+pub memory_causes : (r : Refusal) → r ≡ why.NoMemory → RefusesPlan r
+memory_causes r e = subst RefusesPlan (sym e) tt
 
 -- ---- latches
 
@@ -130,6 +147,9 @@ module _ (s : State) (given : List Given) (h : IsGathered s given) where
 module _ (s : State) (k : Kept) (latched : List ℕ) (keeps : KeepsCells s k) (on : AreLatched s latched) (new : ℕ) (low : IsLowest s.sizes k latched new) where
   not_all : AreAllLatched s.sizes (slots_now s) s.rows → ⊥
   not_all all = let x = levels_plan.lowest s k latched new keeps on low in true≢false (sym (all new x.0 x.1) ∙ x.2)
+
+  unlatched : latched_in s.rows (new / 16) ≡ false
+  unlatched = let x = levels_plan.lowest s k latched new keeps on low in x.2
 
   -- those below it are
   below : AreLatchedBelow s.sizes (slots_now s) s.rows new
@@ -183,7 +203,7 @@ module _ (s : State) (k : Kept) (given : List Given) (latched : List ℕ) (keeps
     follows = levels_plan.sent s k given latched g tag body p after h.has.gathered keeps on m;
     slots = m.slots;
     lowest = takes_lowest s.sizes (slots_now s) s.rows m.new p.writes.items
-        (first_new s.sizes p.writes.items m.can.directory.tail m.can.old _ _ _ m.writes) (below s k latched keeps on m.new m.lowest);
+        (first_new s.sizes p.writes.items m.can.directory.tail m.can.old _ _ _ m.writes) (below s k latched keeps on m.new m.lowest) (unlatched s k latched keeps on m.new m.lowest);
   }
   do_plan (Receive g) p after h m = record {
     deed = UnlinkHead g (m.can.directory.received + 1) m.can.cell.tag m.can.cell.body;
@@ -223,7 +243,7 @@ module _ (s : State) (k : Kept) (given : List Given) (latched : List ℕ) (keeps
     follows = levels_plan.returned s k given latched g n tag body p after h.has.gathered keeps on m;
     slots = m.slots;
     lowest = takes_lowest s.sizes (slots_now s) s.rows m.new p.writes.items
-        (first_new s.sizes p.writes.items m.can.directory.head m.can.old _ _ _ m.writes) (below s k latched keeps on m.new m.lowest);
+        (first_new s.sizes p.writes.items m.can.directory.head m.can.old _ _ _ m.writes) (below s k latched keeps on m.new m.lowest) (unlatched s k latched keeps on m.new m.lowest);
   }
   undo_plan (Close_deed g) p after h m = record {
     inverse = m.inverse;
@@ -277,14 +297,14 @@ module _ (whole : State) (sound : IsSound whole) where
 module _ (s : State) (k : Kept) (given : List Given) (latched : List ℕ) (keeps : KeepsCells s k) (on : AreLatched s latched) (after : Kept) where
   damaged_do : (d : Doing) (x : Damage) → after ≡ k → HasGatheredFor s given (Some (Do d)) → doing_sender d < sender_count s.sizes → Plans (Some s.sizes) (Some d) k given latched (Err (why.Damaged x)) after
       → IsAnswered s k (Some (Do d)) (Err (why.Damaged x)) after
-  damaged_do d x same h inside m = refused_answer s k (Do d) after (why.Damaged x) same (λ e. cc) (λ e. cc)
+  damaged_do d x same h inside m = refused_answer s k (Do d) after (why.Damaged x) same tt (λ e. cc) (λ e. cc)
       (λ whole e sound may. absurd (subst (λ (t : State). KeepsCells t k → AreLatched t latched → HasGatheredFor t given (Some (Do d)) → doing_sender d < sender_count t.sizes
       → Plans (Some t.sizes) (Some d) k given latched (Err (why.Damaged x)) after → ⊥) e
       (λ a b c f w. no_doing whole sound k given latched a b x after d c f w may) keeps on h inside m))
 
   damaged_undo : (d : Deed) (x : Damage) → after ≡ k → HasGatheredFor s given (Some (Undo d)) → Undoes (Some s.sizes) (Some d) k given latched (Err (why.Damaged x)) after
       → IsAnswered s k (Some (Undo d)) (Err (why.Damaged x)) after
-  damaged_undo d x same h m = refused_answer s k (Undo d) after (why.Damaged x) same (λ e. cc) (λ e. cc)
+  damaged_undo d x same h m = refused_answer s k (Undo d) after (why.Damaged x) same tt (λ e. cc) (λ e. cc)
       (λ whole e sound may. absurd (subst (λ (t : State). KeepsCells t k → AreLatched t latched → HasGatheredFor t given (Some (Undo d))
       → Undoes (Some t.sizes) (Some d) k given latched (Err (why.Damaged x)) after → ⊥) e
       (λ a b c w. no_undoing whole sound k given latched a b x after d c w may) keeps on h m))
@@ -320,7 +340,7 @@ module _ (s : State) (k : Kept) (given : List Given) (latched : List ℕ) (keeps
 
   unread : (answer : Result Plan Refusal) → RefusesUnread k answer after → IsAnswered s k None (unless_latched answer) after
   unread (Ok p) m = absurd m
-  unread (Err (why.Damaged x)) m = unread_answer s k after (why.Damaged x) m.1 (λ e. cc) (λ e. cc)
+  unread (Err (why.Damaged x)) m = unread_answer s k after (why.Damaged x) m.1 tt (λ e. cc) (λ e. cc)
   unread (Err r) m = absurd m.0
 
   -- to do what can be read, or not

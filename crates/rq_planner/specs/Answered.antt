@@ -1,4 +1,5 @@
 -- What a store is answered that asks the level of chains for a plan.
+use Rattle.std.specs.Option.{is_some}
 use Rattle.std.specs.Prelude.{◌≡◌, ◌≢◌, ◌⊎◌, ℕ, ◌≤◌, ◌<◌, ◌^◌, true, false, List, [], ◌∷◌, ◌++◌, length, Option, None, Some, Result, Ok, Err, IfErr, IfOk, IfSome, IfNone}
 use Rattle.rq_model.specs.declared.record.Deed.{Deed}
 use Rattle.rq_model.specs.declared.record.Deed.TheVariants.{Append, UnlinkHead, Close as Close_deed}
@@ -118,6 +119,12 @@ MayBeAsked s (Undo d) = IsNewestDeed s d
 
 -- ---- the answer
 
+-- a plan is refused for memory, or for what the slots hold
+abbrev pub RefusesPlan : Refusal → Type 0
+RefusesPlan why.NoMemory = Unit {0}
+RefusesPlan (why.Damaged x) = Unit {0}
+RefusesPlan r = ⊥
+
 -- what the level answers, with no plan where it is for latches
 abbrev pub unless_latched : Result Plan Refusal → Result (Option Plan) Refusal
 unless_latched (Ok p) = Ok (Some p)
@@ -127,6 +134,8 @@ unless_latched (Err r) = Err r
 -- What is answered to what is asked, and what the level keeps then.
 pub record IsAnswered (s : State) (k : Kept) (asked : Option Asked) (answer : Result (Option Plan) Refusal) (after : Kept)
     : Type 0 where
+  -- what nothing can be read from has no plan, and no latch holds it up
+  pub read : IfOk answer (λ found. is_some asked ≡ true)
   -- the plan, and the level knows the cell that it chose, whatever else is under way on these pages
   pub plan : IfOk answer (λ found. IfSome found (λ p. (a : Asked) → asked ≡ Some a → IsPlanFor s a p))
   pub slots : IfOk answer (λ found. IfSome found (λ p. AreSlotWrites s.sizes p.writes.items))
@@ -138,6 +147,7 @@ pub record IsAnswered (s : State) (k : Kept) (asked : Option Asked) (answer : Re
   pub none : IfOk answer (λ found. IfNone found (after ≡ k))
   -- it is refused for memory alone, of a sound store with these pages and rows that may do it
   pub refused : IfErr answer (λ r. after ≡ k)
+  pub causes : IfErr answer RefusesPlan
   pub plain : IfErr answer (λ r. (r ≢ why.Failed) × (r ≢ why.Latched))
   pub memory : (whole : State) → known whole.sizes whole.images whole.rows ≡ s → IsSound whole
       → (a : Asked) → asked ≡ Some a → MayBeAsked whole a → IfErr answer (λ r. r ≡ why.NoMemory)
@@ -150,9 +160,11 @@ KnowsCells z images k = KeepsCells (known z images []) k
 
 -- What is answered to what is asked, where the level keeps no cell chosen behind it.
 pub record IsPlanned (s : State) (asked : Option Asked) (answer : Result (Option Plan) Refusal) : Type 0 where
+  pub read : IfOk answer (λ found. is_some asked ≡ true)
   pub plan : IfOk answer (λ found. IfSome found (λ p. (a : Asked) → asked ≡ Some a → IsPlanFor s a p))
   pub free : IfOk answer (λ found. IfSome found (λ p. (a : Asked) → asked ≡ Some a → IsHeldUp s a → ⊥))
   pub latched : IfOk answer (λ found. IfNone found ((a : Asked) → asked ≡ Some a → IsHeldUp s a))
+  pub causes : IfErr answer RefusesPlan
   pub plain : IfErr answer (λ r. (r ≢ why.Failed) × (r ≢ why.Latched))
   pub memory : (whole : State) → known whole.sizes whole.images whole.rows ≡ s → IsSound whole
       → (a : Asked) → asked ≡ Some a → MayBeAsked whole a → IfErr answer (λ r. r ≡ why.NoMemory)

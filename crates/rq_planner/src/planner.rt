@@ -2,9 +2,9 @@
 ghost use Rattle.std.specs.Prelude.{◌≡◌, ◌≢◌, ℕ, List, ◌≤◌, IfErr, IfOk, false, length};
 ghost use Rattle.rq_page.specs.Sizes.{cell_count};
 ghost use Rattle.rq_level.specs.Kept.{noted};
-ghost use Rattle.rq_planner.specs.Answered.{IsPlanned, KnowsCells};
+ghost use Rattle.rq_planner.specs.Answered.{IsPlanned, KnowsCells, RefusesPlan};
 ghost use Rattle.rq_planner.specs.Asked.{IsOfStore, asked_by, seen, undone_by};
-ghost use Rattle.rq_planner.specs.Backs.{IsRefusedBack, IsTakingBack};
+ghost use Rattle.rq_planner.specs.Backs.{IsJudgedBack, IsRefusedBack, IsTakingBack};
 ghost use Rattle.rq_planner.specs.Handed.{HasRoom};
 ghost use Rattle.rq_views.specs.Stored.{IsStoreSlot, slots_in};
 
@@ -79,7 +79,7 @@ impl<B: Level> Planner<B> {
     }
 
     /// The plan of an operation, from the slots as they are; `None` where it needs a page that an operation under way has
-    /// latched, and only there.
+    /// latched, or a cell of which none is free on another page, and only there.
     ///
     /// # Errors
     /// `NoMemory`; of a store that is not sound, or where the operation may not be done, also `Damaged`.
@@ -128,6 +128,8 @@ impl<B: Level> Planner<B> {
         requires asked { IsOfStore pages.now.sizes (undone_by told.now) }
         ensures cells { KnowsCells pages.now.sizes pages.now.images self.new }
         ensures planned { IsPlanned (seen pages.now transactions.now) (undone_by told.now) result }
+        ensures judged { IsJudgedBack pages.now.sizes (slots_in pages.now.sizes pages.now.images) (undone_by told.now)
+            result }
     {
         match plan_back(
             alloc,
@@ -163,6 +165,7 @@ impl<B: Level> Planner<B> {
             (slots_in pages.now.sizes pages.now.images) told.now plan) }
         ensures refused { IfErr result (λ r. IsRefusedBack pages.now.sizes
             (slots_in pages.now.sizes pages.now.images) (undone_by told.now) r) }
+        ensures causes { IfErr result RefusesPlan }
     {
         let Some(_deed) = deed_of_store(pages, told) else {
             return Err(Refusal::Damaged(Damage::Page(0)));

@@ -16,10 +16,11 @@ use rq_txn::Transactions;
 use std::alloc::Global;
 
 /// Has the level plan an operation from the slots as they are, which are gathered into `slots`; `None` where it needs a
-/// page that an operation under way has latched, and only there.
+/// page that an operation under way has latched, or a cell of which none is free on another page, and only there.
 ///
 /// # Errors
 /// `NoMemory`; of a store that is not sound, or where the operation may not be done, also `Damaged`.
+#[tactic(auto, using(crate::proofs::Replies::held_read, crate::proofs::Replies::memory_causes))]
 pub fn plan<P: PageDevice, B: Level>(
     alloc: Global,
     pages: &Pages<P>,
@@ -47,6 +48,7 @@ pub fn plan<P: PageDevice, B: Level>(
 ///
 /// # Errors
 /// `NoMemory`; of a store that is not sound, or where the operation may not be undone, also `Damaged`.
+#[tactic(auto, using(crate::proofs::Replies::held_read, crate::proofs::Replies::memory_causes))]
 pub fn plan_back<P: PageDevice, B: Level>(
     alloc: Global,
     pages: &Pages<P>,

@@ -1,5 +1,5 @@
 -- Free cells, and which of them may be taken while others have latched pages.
-use Rattle.std.specs.Prelude.{◌≡◌, ℕ, ◌/◌, ◌<◌, true, List, [], ◌∷◌}
+use Rattle.std.specs.Prelude.{◌≡◌, ℕ, ◌/◌, ◌<◌, true, false, List, [], ◌∷◌}
 use Rattle.rq_page.specs.Sizes.{Sizes, IsCellAddress}
 use Rattle.rq_page.specs.Slots.Slot.{Free}
 use Rattle.rq_views.specs.Log.{Slots}
@@ -17,4 +17,4 @@ AreAllLatched z slots rows = (a : ℕ) → IsCellAddress z a → slots a ≡ Fre
 -- the first of the writes is of the lowest free cell on a page that nobody has latched
 abbrev pub FirstIsLowest : Sizes → Slots → List Row → List SlotWrite → Type 0
 FirstIsLowest z slots rows [] = ⊥
-FirstIsLowest z slots rows (w ∷ ws) = AreLatchedBelow z slots rows w.at
+FirstIsLowest z slots rows (w ∷ ws) = AreLatchedBelow z slots rows w.at × (latched_in rows (w.at / 16) ≡ false)
