@@ -9,7 +9,7 @@ use Rattle.rq_model.specs.declared.refusal.Refusal.TheVariants as why
 use Rattle.rq_model.specs.declared.txn.Sub.{Sub}
 use Rattle.rq_model.specs.declared.txn.Txn.{Txn}
 use Rattle.rq_model.specs.History.{Call}
-use Rattle.rq_model.specs.History.Call.{Start_close, Start_send, Undo_next}
+use Rattle.rq_model.specs.History.Call.{Force, Start_close, Start_send, Undo_next}
 use Rattle.rq_model.specs.History.Entry.{Refused}
 use Rattle.rq_model.specs.Legal.{Legal}
 use Rattle.rq_model.specs.Tests.{Passes, first_of, tests}
@@ -253,6 +253,10 @@ begins_none : (turn : Turn) → Begins undone (Undo_next t1) turn → ⊥
 begins_none (Did d) b = b
 begins_none (Undid d) b = b
 
+begins_nothing : (s : State) (turn : Turn) → Begins s Force turn → ⊥
+begins_nothing s (Did d) b = b
+begins_nothing s (Undid d) b = b
+
 pub latches : LatchesAreJudged
 latches = record {
   sound = beside_sound;
@@ -269,6 +273,8 @@ latches = record {
   close_latched_by_nobody = λ pages log new a. (let e = a.cause (tt, tt) running.begin_again.sound in cc e);
   close_latched_elsewhere = λ images pages log new h a.
       close_unlatched (one_under images) (one_sound images h) t2 15 refl (a.latched (one_sound images h));
+  latched_there = (beside, refl, refl, beside_sound, close_refused beside beside_sound t2 1 refl);
+  forces_are_latched_nowhere = λ z l h. begins_nothing h.0 h.4.some.0 h.4.some.1;
   undo_latched = record { some = (Undid (Close 0), refl); each = undo_needs };
   undo_latched_elsewhere = λ h. undo_needs_none (closing_beside wide 15 close_far) refl (h.each (Undid (Close 0)) refl);
   undo_latched_by_nobody = λ h. undo_needs_none close_turned refl (h.each (Undid (Close 0)) refl);

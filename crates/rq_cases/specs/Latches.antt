@@ -5,7 +5,9 @@ use Rattle.std.proofs.Common.{arith}
 use Rattle.std.specs.declared.alloc.Global.{Global}
 use Rattle.rq_model.specs.declared.record.Deed.TheVariants.{Close}
 use Rattle.rq_model.specs.declared.refusal.Refusal.TheVariants as why
-use Rattle.rq_model.specs.History.Call.{Undo_next}
+use Rattle.rq_model.specs.History.Call.{Force, Start_close, Undo_next}
+use Rattle.rq_model.specs.Ledger.{Ledger}
+use Rattle.rq_model.specs.Tests.{Size}
 use Rattle.rq_model.specs.declared.txn.Sub.{Sub}
 use Rattle.rq_disk.specs.declared.mem_log.MemLog.{MemLog}
 use Rattle.rq_disk.specs.declared.mem_pages.MemPages.{MemPages}
@@ -19,12 +21,13 @@ use Rattle.rq_sound.specs.Course.{one_under}
 use Rattle.rq_txn.specs.Rows.{fresh_row}
 use Rattle.rq_sound.specs.Latching.{IsLatched}
 use Rattle.rq_sound.specs.Sound.{IsSound}
-use Rattle.rq_store.specs.State.{State}
+use Rattle.rq_store.specs.State.{State, ledger_of, size_of}
 use Rattle.rq_engine.specs.Opened.{OpenStore}
 use Rattle.rq_engine.specs.declared.event.Event.{Event}
 use Rattle.rq_engine.specs.declared.event.Event.TheVariants as event
 use Rattle.rq_engine.specs.declared.event.Reply.{Reply}
 use Rattle.rq_engine.specs.declared.event.Reply.TheVariants as reply
+use Rattle.rq_core.specs.Happenings.{IsLatchedThere}
 use Rattle.rq_cases.specs.Aborts.{close_turned, undone}
 use Rattle.rq_cases.specs.Applied.{Makes}
 use Rattle.rq_cases.specs.Opened.{over}
@@ -109,6 +112,9 @@ pub record LatchesAreJudged : Type 0 where
   pub close_latched_elsewhere : (images : List (List ℕ)) (pages : MemPages) (log : MemLog)
       (new : OpenStore MemPages MemLog) → AreFormatted wide images
       → Makes (over (one_under images) pages log) (event.StartClose t2 15) (reply.Refused why.Latched) new → ⊥
+  -- a history shows a store in which it is latched, and none for a call that starts nothing
+  pub latched_there : IsLatchedThere (size_of sizes) (ledger_of beside) (Start_close t2 1)
+  pub forces_are_latched_nowhere : (z : Size) (l : Ledger) → IsLatchedThere z l Force → ⊥
   -- the inverse of a close is latched where another operation has the page of its group's directory slot
   pub undo_latched : IsLatched (closing_beside sizes 1 close_next) (Undo_next t1)
   pub undo_latched_elsewhere : IsLatched (closing_beside wide 15 close_far) (Undo_next t1) → ⊥

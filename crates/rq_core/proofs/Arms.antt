@@ -70,7 +70,7 @@ open_crashes z course x old new pages log law ran g cut e f may = record {
 }
 
 -- a store that is shut, whatever a crash at its end leaves
-pub shut_crashes : (z : Sizes) (course : Course) (x : Happening) (h : List Entry) (pages : MemPages) (log : MemLog) → ShutCrashGoesOn (size_of z) → Tells course h → IsLegal (size_of z) h → (s : IsShut mem_pages mem_log z h pages log)
+pub shut_crashes : (z : Sizes) (course : Course) (x : Happening) (h : List Entry) (pages : MemPages) (log : MemLog) → ShutCrashGoesOn (size_of z) → Tells (size_of z) course h → IsLegal (size_of z) h → (s : IsShut mem_pages mem_log z h pages log)
     → ((p : Phase) → p ≡ Shut → MayCrashIt x p) → CanCrash z course x pages log
 shut_crashes z course x h pages log law tells legal s may = record {
   range = s.range;
@@ -88,7 +88,7 @@ not_open law z course x call pages log is ran =
     let s : IsShut mem_pages mem_log z ran.history pages log = ran.stands in
     record {
       history = Refused_entry call why.Failed ∷ ran.history;
-      tells = (ran.history, ran.tells, subst (λ c. AddsCall c (Gave_refusal why.Failed) ran.history (Refused_entry call why.Failed ∷ ran.history)) (sym is) (Refused_entry call why.Failed, says call, tt, refl));
+      tells = (ran.history, ran.tells, subst (λ c. AddsCall (size_of z) c (Gave_refusal why.Failed) ran.history (Refused_entry call why.Failed ∷ ran.history)) (sym is) (Refused_entry call why.Failed, says call, tt, refl, tt));
       legal = (law (size_of z) (ledger ran.history) call (ap runs s.phase), ran.legal);
       stands = record { range = s.range; phase = s.phase; older = s.older; ties = s.ties; left = s.left };
       counted = tt;

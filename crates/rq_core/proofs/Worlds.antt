@@ -8,15 +8,15 @@ use Rattle.rq_model.specs.declared.record.Record.{Record}
 use Rattle.rq_model.specs.declared.refusal.Refusal.{Refusal}
 use Rattle.rq_model.specs.declared.refusal.Refusal.TheVariants as why
 use Rattle.rq_model.specs.Words.{In, is_some}
-use Rattle.rq_model.specs.History.{Entry, commits}
+use Rattle.rq_model.specs.History.{Call, Entry, commits}
 use Rattle.rq_model.specs.History.Call.{Hand_over}
 use Rattle.rq_model.specs.History.Entry.{Crash as Crash_entry, Restarted as Restarted_entry}
 use Rattle.rq_model.specs.Incarnations.{Extends, Ties, ArePlain, incarnation_of}
 use Rattle.rq_model.specs.Commits.{committed_of}
 use Rattle.rq_model.specs.Ledger.{Ledger, ledger, after, kept_in}
 use Rattle.rq_model.specs.Ledger.Phase.{Shut}
-use Rattle.rq_model.specs.Legal.{Legal, IsLegal}
-use Rattle.rq_model.specs.Tests.{any_busy}
+use Rattle.rq_model.specs.Legal.{Legal, IsLegal, LegalRefusal}
+use Rattle.rq_model.specs.Tests.{Size, any_busy, starts}
 use Rattle.rq_model.specs.Promises.{CrashGoesOn, ShutCrashGoesOn, RestartGoesOn, EndsInCrash, crash_to}
 use Rattle.rq_model.specs.Replay.{Says}
 use Rattle.rq_model.specs.Promises.{AcknowledgedStay, FifoThroughout}
@@ -28,12 +28,13 @@ use Rattle.rq_log.specs.Spelled.{spelled, AreSpelled}
 use Rattle.rq_page.specs.Sizes.{Sizes, IsInRange}
 use Rattle.rq_pool.specs.Reading.{IsSuperblock}
 use Rattle.rq_store.specs.State.{State, ledger_of, size_of, phase_of}
+use Rattle.rq_sound.specs.Latching.{IsLatched}
 use Rattle.rq_sound.specs.Sound.{IsSound}
 use Rattle.rq_store.specs.Whole.{IsWhole}
 use Rattle.rq_store.specs.Opening.{IsLeft, next_restart}
 use Rattle.rq_store.specs.Fitting.{AllFit, FitsLog, FitsPage}
 use Rattle.rq_page.specs.Formatted.{IsFormatted, IsHeaderOf}
-use Rattle.rq_engine.specs.Applied.{Applied, RefusalLeaves, WriteFails}
+use Rattle.rq_engine.specs.Applied.{Applied, LatchedSay, RefusalLeaves, WriteFails}
 use Rattle.rq_engine.specs.Crash.{AreFit, IsCut, LeavesCut}
 use Rattle.rq_engine.specs.Devices.{EachPair}
 use Rattle.rq_engine.specs.Opened.{OpenStore}
@@ -56,7 +57,7 @@ use Rattle.rq_restart.specs.declared.restart.Report.{Report as Restart_report}
 use Rattle.rq_restart.specs.Underway.{IsStore, IsSomeStore, IsLeftOrGoesOn}
 use Rattle.rq_restart.specs.Once.{OneLogEach, AsManyAsTheLog, OneSizeEach}
 use Rattle.rq_core.specs.Views.{report_of}
-use Rattle.rq_core.specs.Happenings.{CountsEnds, Happening, Course, Tells, AddsCall, called, is_of_device, MayStayShut}
+use Rattle.rq_core.specs.Happenings.{CountsEnds, Happening, HasLatches, IsLatchedThere, Course, Tells, AddsCall, called, is_of_device, MayStayShut}
 use Rattle.rq_core.specs.Happenings.Answer.{Answered, Crashed}
 use Rattle.rq_core.specs.Headline.{LeavesStores, LeftLast, IsHeadline}
 use Rattle.rq_core.proofs.Unended.{ends_added}
@@ -112,6 +113,46 @@ caused e (reply.Finished outcome.Closed) s h = tt
 caused e (reply.Finished outcome.Undone) s h = tt
 caused e _ s h = tt
 
+-- a refusal as latched has its cause: the store that the call met
+module _ (z : Size) (l : Ledger) (s : State) (sizes : size_of s.sizes ≡ z) (is : ledger_of s ≡ l) (sound : IsSound s) where
+  starts_none : (c : Call) → starts (size_of s.sizes) (ledger_of s) c ≡ false → LegalRefusal (size_of s.sizes) (ledger_of s) c why.Latched → IsLatchedThere z l c
+  starts_none c none legal = absurd (true≢false (sym legal.1 ∙ none))
+
+  there : (c : Call) → IsLatched s c → IsLatchedThere z l c
+  there c latched = (s, sizes, is, sound, latched)
+
+  by_latches : (e : Event) → LegalRefusal (size_of s.sizes) (ledger_of s) (call_of e) why.Latched → LatchedSay s e (reply.Refused why.Latched) → IsLatchedThere z l (call_of e)
+  by_latches event.Begin legal say = starts_none (call_of event.Begin) refl legal
+  by_latches (event.StartSend txn sender tag body) legal say = there (call_of (event.StartSend txn sender tag body)) say
+  by_latches (event.StartReceive txn) legal say = there (call_of (event.StartReceive txn)) say
+  by_latches (event.StartReceiveFrom txn sender) legal say = there (call_of (event.StartReceiveFrom txn sender)) say
+  by_latches (event.StartClose txn sender) legal say = there (call_of (event.StartClose txn sender)) say
+  by_latches (event.Step sub) legal say = starts_none (call_of (event.Step sub)) refl legal
+  by_latches (event.Finish sub) legal say = starts_none (call_of (event.Finish sub)) refl legal
+  by_latches (event.Commit txn) legal say = starts_none (call_of (event.Commit txn)) refl legal
+  by_latches (event.Acknowledged number) legal say = starts_none (call_of (event.Acknowledged number)) refl legal
+  by_latches (event.StartAbort txn) legal say = starts_none (call_of (event.StartAbort txn)) refl legal
+  by_latches (event.UndoNext txn) legal say = there (call_of (event.UndoNext txn)) say
+  by_latches (event.EndAbort txn) legal say = starts_none (call_of (event.EndAbort txn)) refl legal
+  by_latches event.HandOver legal say = starts_none (call_of event.HandOver) refl legal
+  by_latches event.Force legal say = starts_none (call_of event.Force) refl legal
+  by_latches (event.WritePage page) legal say = starts_none (call_of (event.WritePage page)) refl legal
+  by_latches (event.LastTag sender) legal say = starts_none (call_of (event.LastTag sender)) refl legal
+  by_latches event.Content legal say = starts_none (call_of event.Content) refl legal
+
+has_latches : (z : Size) (l : Ledger) (e : Event) (r : Reply) (s : State) (entry : Entry) → size_of s.sizes ≡ z → ledger_of s ≡ l → IsSound s → Says (call_of e) (gave r) entry → Legal (size_of s.sizes) (ledger_of s) entry → LatchedSay s e r
+    → HasLatches z l (call_of e) (gave r)
+has_latches z l e (reply.Refused why.Latched) s entry sizes is sound says legal say =
+    by_latches z l s sizes is sound e (subst (Legal (size_of s.sizes) (ledger_of s)) says legal) say
+has_latches z l e (reply.Refused r) s entry sizes is sound says legal say = tt
+has_latches z l e (reply.Stepped progress.Ready) s entry sizes is sound says legal say = tt
+has_latches z l e (reply.Stepped (progress.Done lsn)) s entry sizes is sound says legal say = tt
+has_latches z l e (reply.Finished outcome.Sent) s entry sizes is sound says legal say = tt
+has_latches z l e (reply.Finished (outcome.Message m)) s entry sizes is sound says legal say = tt
+has_latches z l e (reply.Finished outcome.Closed) s entry sizes is sound says legal say = tt
+has_latches z l e (reply.Finished outcome.Undone) s entry sizes is sound says legal say = tt
+has_latches z l e _ s entry sizes is sound says legal say = tt
+
 module _ {P L : Type 0} (p : page_device.Ghosts P) (l : log_device.Ghosts L) (honest_p : (d : P) → p.honest d) (honest_l : (d : L) → l.honest d) (z : Sizes) where
   abbrev Ran_to : Course → World P L → Type 0
   Ran_to course w = Ran p l z course w
@@ -124,7 +165,7 @@ module _ {P L : Type 0} (p : page_device.Ghosts P) (l : log_device.Ghosts L) (ho
       let s = a.steps (honest_p new.pages, honest_l new.log) o.sound in
       record {
         history = s.entry ∷ ran.history;
-        tells = (ran.history, ran.tells, subst (λ c. AddsCall c (gave r) ran.history (s.entry ∷ ran.history)) (sym is) (s.entry, s.says, subst (λ l. IsCaused (any_busy l.open_ones) (call_of e) (gave r)) o.ledger (caused e r old.state (a.cause (honest_p new.pages, honest_l new.log) o.sound)), refl));
+        tells = (ran.history, ran.tells, subst (λ c. AddsCall (size_of z) c (gave r) ran.history (s.entry ∷ ran.history)) (sym is) (s.entry, s.says, subst (λ l. IsCaused (any_busy l.open_ones) (call_of e) (gave r)) o.ledger (caused e r old.state (a.cause (honest_p new.pages, honest_l new.log) o.sound)), refl, has_latches (size_of z) (ledger ran.history) e r old.state s.entry (ap size_of o.sizes) o.ledger o.sound s.says s.legal (a.latched o.sound)));
         legal = (subst (λ b. Legal (size_of z) b s.entry) o.ledger (subst (λ y. Legal (size_of y) (ledger_of old.state) s.entry) o.sizes s.legal), ran.legal);
         stands = record {
           sizes = a.sizes ∙ o.sizes;
@@ -381,7 +422,7 @@ module _ {P L : Type 0} (p : page_device.Ghosts P) (l : log_device.Ghosts L) (ho
           over images bytes now store (inr more) = extends_join s.older r.read now r.more more
 
   -- the headline, where an open store is given up, and where one is shut
-  pub headline : (fifo : (h : List Entry) → IsLegal (size_of z) h → FifoThroughout h) (stay : AcknowledgedStay (size_of z)) (course : Course) (h : List Entry) (pages : P) (log : L) → Tells course h → IsLegal (size_of z) h
+  pub headline : (fifo : (h : List Entry) → IsLegal (size_of z) h → FifoThroughout h) (stay : AcknowledgedStay (size_of z)) (course : Course) (h : List Entry) (pages : P) (log : L) → Tells (size_of z) course h → IsLegal (size_of z) h
       → LeavesStores p l z h pages log → LeftLast p l z course pages log → IsHeadline p l z course pages log
   headline fifo stay course h pages log tells legal leaves last = record {
     history = h;

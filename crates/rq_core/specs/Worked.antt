@@ -105,7 +105,7 @@ other = record { txn = txn 1 1; lsn = 4 }
 
 -- one happening with its answer tells no history, whatever came before it
 abbrev pub TellsNothing : Course → Happening → Answer → Type 0
-TellsNothing so_far x a = (h : List Entry) → Tells ((x, a) ∷ so_far) h → ⊥
+TellsNothing so_far x a = (h : List Entry) → Tells small ((x, a) ∷ so_far) h → ⊥
 
 -- the message of sender 0 is taken by a transaction that has not ended
 abbrev pub taking : List Entry
@@ -113,7 +113,7 @@ taking = Stepped (txn 1 2) 1 6 ∷ Started (txn 1 2) 1 (Taking 0) ∷ first_entr
 
 -- what is so of them
 pub record AreJudged : Type 0 where
-  pub told : Tells course history
+  pub told : Tells small course history
   pub legal : IsLegal small history
   -- what was not answered so tells nothing
   pub another_receipt : TellsNothing [] (Asks (Acknowledge (txn 1 1) 5)) (Answered (Gave_receipt (Some other)))

@@ -15,7 +15,7 @@ use Rattle.rq_views.specs.Stored.{slots_in}
 use Rattle.rq_level.specs.declared.writes.SlotWrite.{SlotWrite}
 use Rattle.rq_groups.specs.Waiting.{waits}
 use Rattle.rq_txn.specs.declared.Aim.TheVariants as aims
-use Rattle.rq_txn.specs.Rows.{Row, Under, any_under, change_row, found_row, row_started, row_stepped, under_stepped, without_row}
+use Rattle.rq_txn.specs.Rows.{Row, Under, any_under, change_row, found_row, row_started, row_stepped, under_stepped, without_row, latched_in}
 use Rattle.rq_txn.proofs.Finding.{found_change_same}
 use Rattle.rq_store.specs.State.{State}
 use Rattle.rq_store.specs.Steps.{page_op, took}
