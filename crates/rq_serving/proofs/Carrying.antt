@@ -1,5 +1,6 @@
 -- How a session is carried on, call by call.
-use Rattle.std.proofs.Common.{◌≡◌, Bool, true, false, cond, List, [], ◌∷◌, ◌++◌, refl, sym, ap, ◌∙◌, subst, inl, inr}
+use Rattle.std.proofs.Common.{◌≡◌, ◌||◌, ℕ, Bool, true, false, not, cond, List, [], ◌∷◌, ◌++◌, refl, sym, ap, ◌∙◌, subst, inl, inr}
+use Rattle.std.proofs.lemmas.List.{append_assoc}
 use Rattle.std.specs.Prelude.{Option, Some, None}
 use Rattle.rq_engine.specs.Says.{call_of, gave}
 use Rattle.rq_engine.specs.declared.event.CommitNo.{CommitNo}
@@ -19,24 +20,21 @@ use Rattle.rq_session.specs.Stages.{own, txn_held}
 use Rattle.rq_session.specs.Laws.{AwaitsOwn, IsOwn, NamesOwn, awaited}
 use Rattle.rq_session.proofs.EachTurn.{each_reply}
 use Rattle.rq_serving.specs.Words.{asked, told_by, IsOwnCall}
-use Rattle.rq_serving.specs.Carried.{IsAsked, IsCome, IsTold, IsCall, IsTurn, Turns, IsStray, IsGoing, IsCarried, AreOwn, AskedIsOwn, AwaitsNumber, CallsAreOwn, KeepsNumber, NumberAfter}
+use Rattle.rq_serving.specs.Asking.{Asks, Says, said_no}
+use Rattle.rq_serving.specs.Carried.{IsAsked, IsCome, IsTold, IsCall, IsMade, IsTurn, Round, Turns, IsGoing, IsCarried, AreOwn, AskedIsOwn, AwaitsNumber, CallsAreOwn, KeepsNumber, NumberAfter, has_stopped, is_again, may_call, said_in}
+use Rattle.rq_serving.specs.declared.asking.Asking.{Asking}
 use Rattle.rq_serving.specs.declared.serving.Came.{Came}
 use Rattle.rq_serving.specs.declared.serving.Came.TheVariants as came
 use Rattle.rq_serving.proofs.Owning.{own_calls}
 
-turn : (m : Session) (a : Action) (ask : Ask) (s : Stamped) (e : Event) (o : Option Told) (next : Action) (after : Session)
-    → IsAsked a ask → s.event ≡ e → call_of e ≡ asked ask → told_by (gave s.reply) ≡ o → IsTold m o (Some next) after
-    → IsTurn m.lost m.stage a s after.stage next
-turn m a ask s e (Some told) next after i is calls says t = record {
-  ask = ask;
-  asks = i;
-  event = ap call_of is ∙ calls;
-  told = told;
-  says = says;
-  stage = t.2;
-  action = t.0;
-}
-turn m a ask s e None next after i is calls says t = absurd t
+-- where one of three is no
+first_no : (a b c d e : Bool) → (b || c) ≡ (d || e) → ((a || b) || c) ≡ ((a || d) || e)
+first_no true b c d e same = refl
+first_no false b c d e same = same
+
+said_no_join : (xs ys : List (ℕ × Bool)) (b : Bool) → (said_no (xs ++ ys) || b) ≡ (said_no xs || (said_no ys || b))
+said_no_join [] ys b = refl
+said_no_join (x ∷ xs) ys b = first_no (not x.1) (said_no (xs ++ ys)) b (said_no xs) (said_no ys || b) (said_no_join xs ys b)
 
 still_lost : (m : Session) (o : Option Told) (next : Option Action) (after : Session) → IsTold m o next after
     → after.lost ≡ m.lost
@@ -49,63 +47,140 @@ told_nothing : (m : Session) (o : Option Told) (after : Session) → IsTold m o 
 told_nothing m (Some told) after t = absurd t
 told_nothing m None after t = (refl, t)
 
-module _ {S : Type 0} (made_by handed_to : S → List Stamped) where
-  pub begins : (s : S) (b : Session) (first : Action) → IsGoing made_by handed_to s s b first b first
-  begins s b first = record { stamps = []; made = refl; handed = refl; lost = refl; turns = (refl, refl) }
+turn : (lost stopped : Bool) (m : Session) (a : Action) (r : Round) (o : Option Told) (next : Action) (after : Session)
+    → IsMade stopped a r → told_by (gave r.stamp.reply) ≡ o → IsTold m o (Some next) after → m.lost ≡ lost
+    → IsTurn lost stopped m.stage a r after.stage next
+turn lost stopped m a r (Some told) next after made says t is = record {
+  call = made;
+  told = told;
+  says = says;
+  stage = t.2 ∙ ap (λ (l : Bool). (after_told l m.stage told).stage) is;
+  action = t.0 ∙ ap (λ (l : Bool). (after_told l m.stage told).action) is;
+}
+turn lost stopped m a r None next after made says t is = absurd t
+
+module _ {G S : Type 0} (answers_by : G → List (ℕ × Bool)) (made_by handed_to : S → List Stamped) where
+  says_nothing : (g : Asking G) → Says answers_by g g []
+  says_nothing g = record { answers = refl; stopped = refl }
+
+  says_more : (g h k : Asking G) (older newer : List (ℕ × Bool)) → Says answers_by g h older → Says answers_by h k newer
+      → Says answers_by g k (newer ++ older)
+  says_more g h k older newer a b = record {
+    answers = b.answers ∙ (ap (λ l. newer ++ l) a.answers ∙ sym (append_assoc newer older (answers_by g.gate)));
+    stopped = b.stopped ∙ (ap (λ l. said_no newer || l) a.stopped ∙ sym (said_no_join newer older g.stopped));
+  }
+
+  pub begins : (g : Asking G) (s : S) (b : Session) (first : Action)
+      → IsGoing answers_by made_by handed_to g g s s b first b first
+  begins g s b first = record {
+    rounds = [];
+    made = refl;
+    handed = refl;
+    says = says_nothing g;
+    lost = refl;
+    turns = (refl, refl);
+  }
 
   -- the step interface and the session are the same
-  pub stays : (old mid new : S) (b : Session) (first : Action) (m after : Session) (a : Action)
-      → IsGoing made_by handed_to old mid b first m a → new ≡ mid → after ≡ m
-      → IsGoing made_by handed_to old new b first after a
-  stays old mid new b first m after a g same is =
-      subst (λ (s : S). IsGoing made_by handed_to old s b first after a) (sym same)
-      (subst (λ (s : Session). IsGoing made_by handed_to old mid b first s a) (sym is) g)
+  stays : (g h : Asking G) (old mid new : S) (b : Session) (first : Action) (m after : Session) (a : Action)
+      → IsGoing answers_by made_by handed_to g h old mid b first m a → new ≡ mid → after ≡ m
+      → IsGoing answers_by made_by handed_to g h old new b first after a
+  stays g h old mid new b first m after a going same is =
+      subst (λ (s : S). IsGoing answers_by made_by handed_to g h old s b first after a) (sym same)
+      (subst (λ (s : Session). IsGoing answers_by made_by handed_to g h old mid b first s a) (sym is) going)
 
-  pub one_more : (old mid new : S) (b : Session) (first : Action) (m after : Session) (a next : Action) (ask : Ask) (e : Event)
-      → IsGoing made_by handed_to old mid b first m a → IsAsked a ask → call_of e ≡ asked ask
-      → IsCall made_by handed_to mid new e m (Some next) after → IsGoing made_by handed_to old new b first after next
-  one_more old mid new b first m after a next ask e g i calls c = record {
-    stamps = c.stamp ∷ g.stamps;
-    made = c.made ∙ ap (λ l. c.stamp ∷ l) g.made;
-    handed = c.handed ∙ ap (λ l. c.stamp ∷ l) g.handed;
-    lost = still_lost m (told_by (gave c.stamp.reply)) (Some next) after c.tells ∙ g.lost;
-    turns =
-        let t = turn m a ask c.stamp e (told_by (gave c.stamp.reply)) next after i c.event calls refl c.tells in
-        (m.stage, a, g.turns, subst (λ l. IsTurn l m.stage a c.stamp after.stage next) g.lost t);
+  -- the round of a call, behind these rounds
+  abbrev round : (a : Action) (s : Stamped) (asked_before : List (ℕ × Bool)) (asked_behind : List (ℕ × Bool)) → Round
+  round a s asked_before asked_behind = record { before = asked_before; stamp = s; behind = asked_behind }
+
+  is_made : (g h i k : Asking G) (old mid new : S) (b m after : Session) (first a : Action) (next : Option Action) (ask : Ask) (e : Event)
+      (going : IsGoing answers_by made_by handed_to g h old mid b first m a) (before : Asks answers_by h i (is_again a) 4)
+      → IsAsked a ask → may_call i.stopped ask ≡ true → call_of e ≡ asked ask
+      → (c : IsCall answers_by made_by handed_to i k mid new e m next after)
+      → IsMade (has_stopped going.rounds g.stopped) a (round a c.stamp before.said c.asks.said)
+  is_made g h i k old mid new b m after first a next ask e going before is may calls c = record {
+    ask = ask;
+    asks = is;
+    event = ap call_of c.event ∙ calls;
+    before = before.at;
+    may = subst (λ (x : Bool). may_call x ask ≡ true)
+        (before.says.stopped ∙ ap (λ x. said_no before.said || x) going.says.stopped) may;
+    behind = c.asks.at;
   }
 
-  pub comes : (old new : S) (b : Session) (first : Action) (after : Session) (next : Action) (c : Came)
-      → IsGoing made_by handed_to old new b first after next → IsCome next c
-      → IsCarried made_by handed_to old new b first after c
-  comes old new b first after next c g i = record {
-    stamps = g.stamps;
-    made = g.made;
-    handed = g.handed;
-    lost = g.lost;
-    goes = inl (next, g.turns, i);
-  }
+  -- what the gate said up to a call and behind it
+  all_said : (g h i k : Asking G) (old mid new : S) (b m after : Session) (first a : Action) (next : Option Action) (e : Event)
+      (going : IsGoing answers_by made_by handed_to g h old mid b first m a) (before : Asks answers_by h i (is_again a) 4)
+      (c : IsCall answers_by made_by handed_to i k mid new e m next after)
+      → Says answers_by g k (c.asks.said ++ (before.said ++ said_in going.rounds))
+  all_said g h i k old mid new b m after first a next e going before c =
+      says_more g i k (before.said ++ said_in going.rounds) c.asks.said
+      (says_more g h i (said_in going.rounds) before.said going.says before.says) c.asks.says
 
-  pub strays : (old mid new : S) (b : Session) (first : Action) (m after : Session) (a : Action) (ask : Ask) (e : Event)
-      → IsGoing made_by handed_to old mid b first m a → IsAsked a ask → call_of e ≡ asked ask
-      → IsCall made_by handed_to mid new e m None after → IsCarried made_by handed_to old new b first after came.Ended
-  strays old mid new b first m after a ask e g i calls c = record {
-    stamps = c.stamp ∷ g.stamps;
-    made = c.made ∙ ap (λ l. c.stamp ∷ l) g.made;
-    handed = c.handed ∙ ap (λ l. c.stamp ∷ l) g.handed;
-    lost = still_lost m (told_by (gave c.stamp.reply)) None after c.tells ∙ g.lost;
-    goes =
-        let none = told_nothing m (told_by (gave c.stamp.reply)) after c.tells in
-        let at = ap (λ (x : Session). x.stage) none.1 in
-        inr (
+  pub one_more : (g h i k : Asking G) (old mid mid_too new : S) (b m m_too after : Session) (first a next : Action) (ask : Ask) (e : Event)
+      → IsGoing answers_by made_by handed_to g h old mid b first m a → Asks answers_by h i (is_again a) 4
+      → mid_too ≡ mid → m_too ≡ m → IsAsked a ask × (may_call i.stopped ask ≡ true) → call_of e ≡ asked ask
+      → IsCall answers_by made_by handed_to i k mid_too new e m_too (Some next) after
+      → IsGoing answers_by made_by handed_to g k old new b first after next
+  one_more g h i k old mid mid_too new b m m_too after first a next ask e was before same is may calls c =
+      let going = stays g h old mid mid_too b first m m_too a was same is in record {
+        rounds = round a c.stamp before.said c.asks.said ∷ going.rounds;
+        made = c.made ∙ ap (λ l. c.stamp ∷ l) going.made;
+        handed = c.handed ∙ ap (λ l. c.stamp ∷ l) going.handed;
+        says = all_said g h i k old mid_too new b m_too after first a (Some next) e going before c;
+        lost = still_lost m_too (told_by (gave c.stamp.reply)) (Some next) after c.tells ∙ going.lost;
+        turns = (
+          m_too.stage,
           a,
-          subst (λ (t : Stage). Turns b.lost b.stage first g.stamps t a) (sym at) g.turns,
-          ask,
-          i,
-          ap call_of c.event ∙ calls,
-          none.0,
-          refl,
+          going.turns,
+          turn b.lost (has_stopped going.rounds g.stopped) m_too a (round a c.stamp before.said c.asks.said)
+              (told_by (gave c.stamp.reply)) next after
+              (is_made g h i k old mid_too new b m_too after first a (Some next) ask e going before may.0 may.1 calls c) refl c.tells
+              going.lost,
         );
-  }
+      }
+
+  pub comes : (g h i : Asking G) (old mid mid_too : S) (b m m_too : Session) (first next : Action) (c : Came)
+      → IsGoing answers_by made_by handed_to g h old mid b first m next → Asks answers_by h i (is_again next) 4
+      → mid_too ≡ mid → m_too ≡ m → IsCome i.stopped next c
+      → IsCarried answers_by made_by handed_to g i old mid_too b first m_too c
+  comes g h i old mid mid_too b m m_too first next c was last same is come =
+      let going = stays g h old mid mid_too b first m m_too next was same is in record {
+        rounds = going.rounds;
+        last = last.said;
+        made = going.made;
+        handed = going.handed;
+        says = says_more g h i (said_in going.rounds) last.said going.says last.says;
+        lost = going.lost;
+        goes = inl (next, going.turns, last.at, come);
+      }
+
+  pub strays : (g h i k : Asking G) (old mid mid_too new : S) (b m m_too after : Session) (first a : Action) (ask : Ask) (e : Event)
+      → IsGoing answers_by made_by handed_to g h old mid b first m a → Asks answers_by h i (is_again a) 4
+      → mid_too ≡ mid → m_too ≡ m → IsAsked a ask × (may_call i.stopped ask ≡ true) → call_of e ≡ asked ask
+      → IsCall answers_by made_by handed_to i k mid_too new e m_too None after
+      → IsCarried answers_by made_by handed_to g k old new b first after came.Ended
+  strays g h i k old mid mid_too new b m m_too after first a ask e was before same is may calls c =
+      let going = stays g h old mid mid_too b first m m_too a was same is in
+      let none = told_nothing m_too (told_by (gave c.stamp.reply)) after c.tells in
+      let at = ap (λ (x : Session). x.stage) none.1 in record {
+        rounds = round a c.stamp before.said c.asks.said ∷ going.rounds;
+        last = [];
+        made = c.made ∙ ap (λ l. c.stamp ∷ l) going.made;
+        handed = c.handed ∙ ap (λ l. c.stamp ∷ l) going.handed;
+        says = all_said g h i k old mid_too new b m_too after first a None e going before c;
+        lost = still_lost m_too (told_by (gave c.stamp.reply)) None after c.tells ∙ going.lost;
+        goes = inr (
+          refl,
+          (
+            a,
+            subst (λ (t : Stage). Turns b.lost g.stopped b.stage first going.rounds t a) (sym at) going.turns,
+            is_made g h i k old mid_too new b m_too after first a None ask e going before may.0 may.1 calls c,
+            none.0,
+            refl,
+          ),
+        );
+      }
 
 -- a call that is asked for where the transaction is this one
 its_own : (s : Stage) (a : Action) (ask : Ask) → NamesOwn s a → IsAsked a ask → IsOwn (own s) ask
@@ -115,29 +190,29 @@ its_own s (Await commit) ask n i = absurd i
 its_own s (Answer answer) ask n i = absurd i
 its_own s End ask n i = absurd i
 
-named : (lost : Bool) (from : Stage) (first : Action) (stamps : List Stamped) (to : Stage) (next : Action)
-    → NamesOwn from first → Turns lost from first stamps to next → NamesOwn to next
-named lost from first [] to next n t =
+named : (lost stopped : Bool) (from : Stage) (first : Action) (rounds : List Round) (to : Stage) (next : Action)
+    → NamesOwn from first → Turns lost stopped from first rounds to next → NamesOwn to next
+named lost stopped from first [] to next n t =
     subst (λ s. NamesOwn s next) (sym t.0) (subst (NamesOwn from) (sym t.1) n)
-named lost from first (s ∷ older) to next n t =
+named lost stopped from first (r ∷ older) to next n t =
     subst (λ z. NamesOwn z next) (sym t.3.stage)
     (subst (NamesOwn (after_told lost t.0 t.3.told).stage) (sym t.3.action) (each_reply lost t.0 t.3.told).own_call)
 
 pub asked_is_own : AskedIsOwn
 asked_is_own s a ask n i = own_calls (own s) ask (its_own s a ask n i)
 
-own_turns : (lost : Bool) (from : Stage) (first : Action) (stamps : List Stamped) (to : Stage) (next : Action)
-    → NamesOwn from first → (t : Turns lost from first stamps to next) → AreOwn lost from first stamps to next t
-own_turns lost from first [] to next n t = tt
-own_turns lost from first (s ∷ older) to next n t =
-    let here = asked_is_own t.0 t.1 t.3.ask (named lost from first older t.0 t.1 n t.2) t.3.asks in (
-      subst (IsOwnCall (own t.0)) (sym t.3.event) here,
-      own_turns lost from first older t.0 t.1 n t.2,
+own_turns : (lost stopped : Bool) (from : Stage) (first : Action) (rounds : List Round) (to : Stage) (next : Action)
+    → NamesOwn from first → (t : Turns lost stopped from first rounds to next) → AreOwn lost stopped from first rounds to next t
+own_turns lost stopped from first [] to next n t = tt
+own_turns lost stopped from first (r ∷ older) to next n t =
+    let here = asked_is_own t.0 t.1 t.3.call.ask (named lost stopped from first older t.0 t.1 n t.2) t.3.call.asks in (
+      subst (IsOwnCall (own t.0)) (sym t.3.call.event) here,
+      own_turns lost stopped from first older t.0 t.1 n t.2,
     )
 
 pub calls_are_own : CallsAreOwn
-calls_are_own lost from first stamps to next n t =
-    (own_turns lost from first stamps to next n t, named lost from first stamps to next n t)
+calls_are_own lost stopped from first rounds to next n t =
+    (own_turns lost stopped from first rounds to next n t, named lost stopped from first rounds to next n t)
 
 -- ---- its own commit
 

@@ -1,2 +1,3 @@
 mod Owning
+mod Gates
 mod Carrying

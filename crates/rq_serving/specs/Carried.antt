@@ -1,5 +1,5 @@
 -- How a session goes on: the calls that are made for it, and what comes of them.
-use Rattle.std.specs.Prelude.{◌≡◌, ◌⊎◌, Bool, true, false, Option, Some, None, List, [], ◌∷◌, ◌++◌}
+use Rattle.std.specs.Prelude.{◌≡◌, ◌⊎◌, ◌||◌, ℕ, Bool, true, false, not, Option, Some, None, List, [], ◌∷◌, ◌++◌}
 use Rattle.rq_engine.specs.Says.{call_of, commit_number, gave}
 use Rattle.rq_engine.specs.declared.event.CommitNo.{CommitNo}
 use Rattle.rq_engine.specs.declared.event.Event.{Event}
@@ -11,7 +11,7 @@ use Rattle.rq_session.specs.declared.calls.Ask.{Ask}
 use Rattle.rq_session.specs.declared.calls.Ask.TheVariants as asks
 use Rattle.rq_session.specs.declared.calls.Commit.{Commit as Commit_told}
 use Rattle.rq_session.specs.declared.calls.Told.{Told}
-use Rattle.rq_session.specs.declared.calls.Told.TheVariants.{Committed}
+use Rattle.rq_session.specs.declared.calls.Told.TheVariants.{Committed, Written}
 use Rattle.rq_session.specs.declared.session.Session.{Session}
 use Rattle.rq_session.specs.declared.stage.Stage.{Stage}
 use Rattle.rq_session.specs.Rules.{after_told, after_loss, taken, call_in, answer_in}
@@ -19,7 +19,9 @@ use Rattle.rq_session.specs.Stages.{own}
 use Rattle.rq_session.specs.Laws.{NamesOwn, awaited}
 use Rattle.rq_wire.specs.declared.answers.Answer.{Answer as Answered_with}
 use Rattle.rq_wire.specs.declared.request.Request.{Request}
+use Rattle.rq_serving.specs.Asking.{Asks, IsAskedAt, Says, said_no}
 use Rattle.rq_serving.specs.Words.{asked, commit_told, told_by, IsOwnCall}
+use Rattle.rq_serving.specs.declared.asking.Asking.{Asking}
 use Rattle.rq_serving.specs.declared.serving.Came.{Came}
 use Rattle.rq_serving.specs.declared.serving.Came.TheVariants as came
 
@@ -40,13 +42,27 @@ under_way (asks.Step sub) = true
 under_way (asks.Finish sub) = true
 under_way _ = false
 
--- what comes where no call is to be made, or none more: an operation under way is gone through
-abbrev pub IsCome : Action → Came → Type 0
-IsCome (Do ask) c = ⊥
-IsCome (Again ask) c = (under_way ask ≡ false) × (c ≡ came.Ended)
-IsCome (Await commit) c = c ≡ came.Waits commit.lsn
-IsCome (Answer answer) c = c ≡ came.Answered answer
-IsCome End c = c ≡ came.Ended
+-- Once the gate has said no, none but a call of an operation under way is made.
+abbrev pub may_call : Bool → Ask → Bool
+may_call has_stopped ask = not has_stopped || under_way ask
+
+-- the call is to be made again
+abbrev pub is_again : Action → Bool
+is_again (Again ask) = true
+is_again _ = false
+
+-- a slot was written
+abbrev pub was_written : Option Told → Bool
+was_written (Some Written) = true
+was_written _ = false
+
+-- what comes where no call is to be made, or none more
+abbrev pub IsCome : Bool → Action → Came → Type 0
+IsCome has_stopped (Do ask) c = (may_call has_stopped ask ≡ false) × (c ≡ came.Ended)
+IsCome has_stopped (Again ask) c = (may_call has_stopped ask ≡ false) × (c ≡ came.Ended)
+IsCome has_stopped (Await commit) c = c ≡ came.Waits commit.lsn
+IsCome has_stopped (Answer answer) c = c ≡ came.Answered answer
+IsCome has_stopped End c = c ≡ came.Ended
 
 -- the session was told this, and is to do that next; or it was told nothing
 abbrev pub IsTold : Session → Option Told → Option Action → Session → Type 0
@@ -55,90 +71,132 @@ IsTold old (Some told) (Some next) new = (next ≡ (after_told old.lost old.stag
 IsTold old None None new = new ≡ old
 IsTold old _ _ new = ⊥
 
--- One call was made, its stamp handed on, and the session told what it says.
-pub record IsCall {S : Type 0} (made_by handed_to : S → List Stamped) (old new : S) (e : Event) (before : Session)
-    (next : Option Action) (after : Session) : Type 0 where
+-- One call was made, its stamp handed on, the gate asked at point 3 where that is a slot's write, and the session told
+-- what the stamp says.
+pub record IsCall {G S : Type 0} (answers_by : G → List (ℕ × Bool)) (made_by handed_to : S → List Stamped)
+    (gate asked_gate : Asking G) (old new : S) (e : Event) (before : Session) (next : Option Action) (after : Session) : Type 0 where
   pub stamp : Stamped
   pub event : stamp.event ≡ e
   pub made : made_by new ≡ stamp ∷ made_by old
   pub handed : handed_to new ≡ stamp ∷ handed_to old
+  pub asks : Asks answers_by gate asked_gate (was_written (told_by (gave stamp.reply))) 3
   pub tells : IsTold before (told_by (gave stamp.reply)) next after
 
--- One turn: the call that was to be made was, this stamp answered it, and the session was told what that says.
-pub record IsTurn (lost : Bool) (from : Stage) (first : Action) (s : Stamped) (to : Stage) (next : Action) : Type 0 where
+-- One call for a session: what the gate was asked and said before it, the stamp that answered it, and what the gate was
+-- asked and said behind it.
+pub record Round : Type 0 where
+  pub before : List (ℕ × Bool)
+  pub stamp : Stamped
+  pub behind : List (ℕ × Bool)
+
+-- the stamps
+abbrev pub stamps_in : List Round → List Stamped
+stamps_in [] = []
+stamps_in (r ∷ older) = r.stamp ∷ stamps_in older
+
+-- the gate's answers
+abbrev pub said_in : List Round → List (ℕ × Bool)
+said_in [] = []
+said_in (r ∷ older) = r.behind ++ (r.before ++ said_in older)
+
+-- the gate said no in one of these rounds, or before them
+abbrev pub has_stopped : List Round → Bool → Bool
+has_stopped rounds stopped = said_no (said_in rounds) || stopped
+
+-- The call that was to be made was made. The gate was asked at point 4 before a call that is made again, and at point 3
+-- behind a slot's write; where it had said no the call is one of an operation under way.
+pub record IsMade (stopped : Bool) (first : Action) (r : Round) : Type 0 where
   pub ask : Ask
   pub asks : IsAsked first ask
-  pub event : call_of s.event ≡ asked ask
+  pub event : call_of r.stamp.event ≡ asked ask
+  pub before : IsAskedAt (is_again first) 4 r.before
+  pub may : may_call (said_no r.before || stopped) ask ≡ true
+  pub behind : IsAskedAt (was_written (told_by (gave r.stamp.reply))) 3 r.behind
+
+-- One turn: the call was made, and the session was told what its stamp says.
+pub record IsTurn (lost stopped : Bool) (from : Stage) (first : Action) (r : Round) (to : Stage) (next : Action) : Type 0 where
+  pub call : IsMade stopped first r
   pub told : Told
-  pub says : told_by (gave s.reply) ≡ Some told
+  pub says : told_by (gave r.stamp.reply) ≡ Some told
   pub stage : to ≡ (after_told lost from told).stage
   pub action : next ≡ (after_told lost from told).action
 
--- the calls that these stamps answered, the newest first, led from one stage to another, each turn by the next
-abbrev pub Turns : Bool → Stage → Action → List Stamped → Stage → Action → Type 0
-Turns lost from first [] to next = (to ≡ from) × (next ≡ first)
-Turns lost from first (s ∷ older) to next =
-    (mid : Stage) × (a : Action) × Turns lost from first older mid a × IsTurn lost mid a s to next
+-- these rounds, the newest first, led from one stage to another, each turn by the next; whether the gate had said no
+-- before is told
+abbrev pub Turns : (lost stopped : Bool) → Stage → Action → List Round → Stage → Action → Type 0
+Turns lost stopped from first [] to next = (to ≡ from) × (next ≡ first)
+Turns lost stopped from first (r ∷ older) to next =
+    (mid : Stage) × (a : Action) × Turns lost stopped from first older mid a
+    × IsTurn lost (has_stopped older stopped) mid a r to next
 
 -- the last call was answered as none of a session is: it ends, and stands where it stood before that call
-abbrev pub IsStray : Bool → Stage → Action → List Stamped → Stage → Came → Type 0
-IsStray lost from first [] to c = ⊥
-IsStray lost from first (s ∷ older) to c =
-    (a : Action) × Turns lost from first older to a × (ask : Ask) × IsAsked a ask
-    × (call_of s.event ≡ asked ask) × (told_by (gave s.reply) ≡ None) × (c ≡ came.Ended)
+abbrev pub IsStray : (lost stopped : Bool) → Stage → Action → List Round → Stage → Came → Type 0
+IsStray lost stopped from first [] to c = ⊥
+IsStray lost stopped from first (r ∷ older) to c =
+    (a : Action) × Turns lost stopped from first older to a × IsMade (has_stopped older stopped) a r
+    × (told_by (gave r.stamp.reply) ≡ None) × (c ≡ came.Ended)
 
 -- A session was carried on from what it was to do, by calls through the step interface alone, each of which it asked for,
--- and is to do this next.
-pub record IsGoing {S : Type 0} (made_by handed_to : S → List Stamped) (old new : S) (before : Session) (first : Action)
-    (after : Session) (next : Action) : Type 0 where
-  pub stamps : List Stamped
-  pub made : made_by new ≡ stamps ++ made_by old
-  pub handed : handed_to new ≡ stamps ++ handed_to old
+-- and is to do this next. The gate was asked at its points and nowhere else.
+pub record IsGoing {G S : Type 0} (answers_by : G → List (ℕ × Bool)) (made_by handed_to : S → List Stamped)
+    (gate asked_gate : Asking G) (old new : S) (before : Session) (first : Action) (after : Session) (next : Action) : Type 0 where
+  pub rounds : List Round
+  pub made : made_by new ≡ stamps_in rounds ++ made_by old
+  pub handed : handed_to new ≡ stamps_in rounds ++ handed_to old
+  pub says : Says answers_by gate asked_gate (said_in rounds)
   pub lost : after.lost ≡ before.lost
-  pub turns : Turns before.lost before.stage first stamps after.stage next
+  pub turns : Turns before.lost gate.stopped before.stage first rounds after.stage next
 
--- It was carried on so until this came.
-pub record IsCarried {S : Type 0} (made_by handed_to : S → List Stamped) (old new : S) (before : Session) (first : Action)
-    (after : Session) (c : Came) : Type 0 where
-  pub stamps : List Stamped
-  pub made : made_by new ≡ stamps ++ made_by old
-  pub handed : handed_to new ≡ stamps ++ handed_to old
+-- It was carried on so until this came. Where a call was to be made again, and the gate said no, it was asked once more
+-- than in these rounds.
+pub record IsCarried {G S : Type 0} (answers_by : G → List (ℕ × Bool)) (made_by handed_to : S → List Stamped)
+    (gate asked_gate : Asking G) (old new : S) (before : Session) (first : Action) (after : Session) (c : Came) : Type 0 where
+  pub rounds : List Round
+  pub last : List (ℕ × Bool)
+  pub made : made_by new ≡ stamps_in rounds ++ made_by old
+  pub handed : handed_to new ≡ stamps_in rounds ++ handed_to old
+  pub says : Says answers_by gate asked_gate (last ++ said_in rounds)
   pub lost : after.lost ≡ before.lost
-  pub goes : ((next : Action) × Turns before.lost before.stage first stamps after.stage next × IsCome next c)
-      ⊎ IsStray before.lost before.stage first stamps after.stage c
+  pub goes : ((next : Action) × Turns before.lost gate.stopped before.stage first rounds after.stage next
+      × IsAskedAt (is_again next) 4 last × IsCome asked_gate.stopped next c)
+      ⊎ ((last ≡ []) × IsStray before.lost gate.stopped before.stage first rounds after.stage c)
 
 -- what came of a request: it was carried on with the call that it asks for, or had its answer with no call
-abbrev pub IsServed : {S : Type 0} → (S → List Stamped) → (S → List Stamped) → S → S → Session → Request → Session → Came
-    → Type 0
-IsServed made_by handed_to old new before request after c =
+abbrev pub IsServed : {G S : Type 0} → (G → List (ℕ × Bool)) → (S → List Stamped) → (S → List Stamped) → Asking G
+    → Asking G → S → S → Session → Request → Session → Came → Type 0
+IsServed answers_by made_by handed_to gate asked_gate old new before request after c =
     let n = taken before.stage request in
     ((ask : Ask) × (mid : Session) × (call_in n.action ≡ Some ask) × (mid.lost ≡ before.lost) × (mid.stage ≡ n.stage)
-    × IsCarried made_by handed_to old new mid (Do ask) after c)
-    ⊎ ((call_in n.action ≡ None) × (new ≡ old) × (after.lost ≡ before.lost) × (after.stage ≡ n.stage)
-    × (c ≡ came_with (answer_in n.action)))
+    × IsCarried answers_by made_by handed_to gate asked_gate old new mid (Do ask) after c)
+    ⊎ ((call_in n.action ≡ None) × (new ≡ old) × (asked_gate ≡ gate) × (after.lost ≡ before.lost)
+    × (after.stage ≡ n.stage) × (c ≡ came_with (answer_in n.action)))
 
 -- what came of a connection that was lost
-abbrev pub IsLost : {S : Type 0} → (S → List Stamped) → (S → List Stamped) → S → S → Session → Session → Came → Type 0
-IsLost made_by handed_to old new before after c =
+abbrev pub IsLost : {G S : Type 0} → (G → List (ℕ × Bool)) → (S → List Stamped) → (S → List Stamped) → Asking G
+    → Asking G → S → S → Session → Session → Came → Type 0
+IsLost answers_by made_by handed_to gate asked_gate old new before after c =
     let n = after_loss before.stage in
-    (mid : Session) × (mid.lost ≡ true) × (mid.stage ≡ n.stage) × IsCarried made_by handed_to old new mid n.action after c
+    (mid : Session) × (mid.lost ≡ true) × (mid.stage ≡ n.stage)
+    × IsCarried answers_by made_by handed_to gate asked_gate old new mid n.action after c
 
 -- the session was carried on with what it is to do; where that is nothing, it ended
-abbrev pub CarriesOn : {S : Type 0} → (S → List Stamped) → (S → List Stamped) → S → S → Session → Option Action
-    → Session → Came → Type 0
-CarriesOn made_by handed_to old new before (Some first) after c =
-    IsCarried made_by handed_to old new before first after c
-CarriesOn made_by handed_to old new before None after c =
-    (new ≡ old) × (after ≡ before) × (c ≡ came.Ended)
+abbrev pub CarriesOn : {G S : Type 0} → (G → List (ℕ × Bool)) → (S → List Stamped) → (S → List Stamped) → Asking G
+    → Asking G → S → S → Session → Option Action → Session → Came → Type 0
+CarriesOn answers_by made_by handed_to gate asked_gate old new before (Some first) after c =
+    IsCarried answers_by made_by handed_to gate asked_gate old new before first after c
+CarriesOn answers_by made_by handed_to gate asked_gate old new before None after c =
+    (new ≡ old) × (asked_gate ≡ gate) × (after ≡ before) × (c ≡ came.Ended)
 
--- What came of asking for the receipt of a commit: it was asked for once, and the session carried on with what that told.
-pub record IsAskedFor {S : Type 0} (made_by handed_to : S → List Stamped) (old new : S) (number : CommitNo)
-    (before after : Session) (c : Came) : Type 0 where
+-- What came of asking for the receipt of a commit: it was asked for once, whatever the gate has said, and the session
+-- carried on with what that told.
+pub record IsAskedFor {G S : Type 0} (answers_by : G → List (ℕ × Bool)) (made_by handed_to : S → List Stamped)
+    (gate asked_gate : Asking G) (old new : S) (number : CommitNo) (before after : Session) (c : Came) : Type 0 where
   pub mid : S
+  pub mid_gate : Asking G
   pub next : Option Action
   pub told : Session
-  pub asks : IsCall made_by handed_to old mid (Acknowledged number) before next told
-  pub goes : CarriesOn made_by handed_to mid new told next after c
+  pub asks : IsCall answers_by made_by handed_to gate mid_gate old mid (Acknowledged number) before next told
+  pub goes : CarriesOn answers_by made_by handed_to mid_gate asked_gate mid new told next after c
 
 -- a force was made, and its stamp handed on
 pub record IsForce {S : Type 0} (made_by forced_by handed_to : S → List Stamped) (old new : S) : Type 0 where
@@ -169,19 +227,19 @@ KeepsNumber old was new now = AwaitsNumber (awaited old) was → AwaitsNumber (a
 -- ---- its own transaction
 
 -- each of these calls was for the transaction that the session had then
-abbrev pub AreOwn : (lost : Bool) (from : Stage) (first : Action) (stamps : List Stamped) (to : Stage) (next : Action)
-    → Turns lost from first stamps to next → Type 0
-AreOwn lost from first [] to next t = Unit {0}
-AreOwn lost from first (s ∷ older) to next t =
-    IsOwnCall (own t.0) (call_of s.event) × AreOwn lost from first older t.0 t.1 t.2
+abbrev pub AreOwn : (lost stopped : Bool) (from : Stage) (first : Action) (rounds : List Round) (to : Stage) (next : Action)
+    → Turns lost stopped from first rounds to next → Type 0
+AreOwn lost stopped from first [] to next t = Unit {0}
+AreOwn lost stopped from first (r ∷ older) to next t =
+    IsOwnCall (own t.0) (call_of r.stamp.event) × AreOwn lost stopped from first older t.0 t.1 t.2
 
 -- what is called for a session names no transaction but its own, and a begin comes only where it has none; so does what
 -- is to be done next, and where that is to wait, it is for the commit that the session awaits
 abbrev pub CallsAreOwn : Type 0
 CallsAreOwn =
-    (lost : Bool) (from : Stage) (first : Action) (stamps : List Stamped) (to : Stage) (next : Action)
-    → NamesOwn from first → (t : Turns lost from first stamps to next)
-    → AreOwn lost from first stamps to next t × NamesOwn to next
+    (lost stopped : Bool) (from : Stage) (first : Action) (rounds : List Round) (to : Stage) (next : Action)
+    → NamesOwn from first → (t : Turns lost stopped from first rounds to next)
+    → AreOwn lost stopped from first rounds to next t × NamesOwn to next
 
 -- a call that is to be made is one for the transaction that the session has then
 abbrev pub AskedIsOwn : Type 0

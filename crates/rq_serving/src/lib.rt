@@ -2,6 +2,7 @@
 //! session.
 #![tactic(auto)]
 
+pub mod asking;
 pub mod laws;
 pub mod serving;
 pub mod words;

@@ -1,19 +1,21 @@
 //! A session that is served: its calls are made through a step interface, and a gate is asked where others may go on.
-ghost use Rattle.std.specs.Prelude.{◌≡◌, IfOk, IfErr, IfSome, IfNone, None, false};
+ghost use Rattle.std.specs.Prelude.{◌≡◌, ◌∷◌, ◌||◌, IfOk, IfErr, IfSome, IfNone, None, true, false, not};
 ghost use Rattle.rq_session.specs.declared.stage.Held.TheVariants.{Free};
 ghost use Rattle.rq_session.specs.declared.stage.Stage.TheVariants.{Rest};
 ghost use Rattle.rq_session.specs.Laws.{awaited};
-ghost use Rattle.rq_serving.specs.Carried.{CarriesOn, IsAsked, IsAskedFor, IsCall, IsCarried, IsCome, IsForce, IsLost, IsServed, KeepsNumber, NumberAfter, under_way};
+ghost use Rattle.rq_serving.specs.Asking.{Asks};
+ghost use Rattle.rq_serving.specs.Carried.{CarriesOn, IsAsked, IsAskedFor, IsCall, IsCarried, IsCome, IsForce, IsLost, IsServed, KeepsNumber, NumberAfter, is_again, may_call, was_written};
 ghost use Rattle.rq_engine.specs.Says.{gave};
 ghost use Rattle.rq_serving.specs.Words.{told_by};
 
+use crate::asking::Asking;
 use crate::words::{event_of, told_of};
 use rq_engine::event::{CommitNo, Event, Reply};
 use rq_model::txn::Lsn;
 use rq_session::Session;
 use rq_session::calls::{Action, Ask, Told};
 use rq_wire::{Answer, Request};
-use rq_workers::gate::{BEFORE_AGAIN, BETWEEN_STEPS, Gate};
+use rq_workers::gate::{BEFORE_AGAIN, BEFORE_FORCE, BETWEEN_STEPS, Gate};
 use rq_workers::steps::Steps;
 use std::sync::Wait;
 
@@ -24,15 +26,17 @@ pub enum Came {
     Answered(Answer),
     /// The commit with this LSN waits for its receipt, and with it the request for its answer.
     Waits(Lsn),
-    /// The session has ended, or the gate said no before a call is made again that is none of an operation under way; or
-    /// there was nothing to be done: a request came while a commit waits, or a receipt was asked for where none does.
+    /// The session has ended, or the gate has said no and the next call would be none of an operation under way; or there
+    /// was nothing to be done: a request came while a commit waits, or a receipt was asked for where none does.
     Ended,
 }
 
-/// A session with the gate and the step interface through which it is served.
+/// A session with the gate and the step interface through which it is served. The gate is asked between two steps of an
+/// operation, and before a call is made again. Once it has said no an operation under way is finished, and no other call
+/// is made for a request or a connection that is lost.
 #[derive(Drop)]
 pub struct Serving<G: Gate, S: Steps> {
-    gate: G,
+    gate: Asking<G>,
     steps: S,
     session: Session,
     // the commit that was answered last
@@ -42,21 +46,29 @@ pub struct Serving<G: Gate, S: Steps> {
 impl<G: Gate, S: Steps> Serving<G, S> {
     /// A new session.
     pub fn new(gate: G, steps: S) -> Self
-        ensures given { (result.gate ≡ gate) × (result.steps ≡ steps) × (result.number ≡ None) }
+        ensures given { (result.gate.gate ≡ gate) × (result.steps ≡ steps) × (result.number ≡ None) }
+        ensures goes_on { result.gate.stopped ≡ false }
         ensures session { (result.session.stage ≡ Rest Free) × (result.session.lost ≡ false) }
     {
         Serving {
-            gate,
+            gate: Asking::new(gate),
             steps,
             session: Session::new(),
             number: None,
         }
     }
 
+    /// Whether the gate has not said no so far.
+    pub fn goes_on(&self) -> bool
+        ensures { result ≡ not self.now.gate.stopped }
+    {
+        !self.gate.has_stopped()
+    }
+
     /// Carries a request out: makes the calls that the session asks for, one after the other, until there is an answer,
-    /// or a commit waits for its receipt, or the session ends.
+    /// or a commit waits for its receipt, or the session ends, or the gate has said no and no operation is under way.
     pub fn request<R: Wait>(&mut self, rt: &R, request: Request) -> Came
-        ensures served { IsServed S.made S.told self.old.steps self.new.steps self.old.session request self.new.session result }
+        ensures served { IsServed G.answers S.made S.told self.old.gate self.new.gate self.old.steps self.new.steps self.old.session request self.new.session result }
         ensures number { KeepsNumber self.old.session.stage self.old.number self.new.session.stage self.new.number }
     {
         if let Some(ask) = self.session.input(request) {
@@ -68,12 +80,13 @@ impl<G: Gate, S: Steps> Serving<G, S> {
         }
     }
 
-    /// Asks whether the commit that waits is durable. The caller waits before it asks again. Where none waits there is
-    /// nothing to ask.
+    /// Asks whether the commit that waits is durable, also where the gate has said no. The caller waits before it asks
+    /// again. Where none waits there is nothing to ask.
     pub fn ask_receipt<R: Wait>(&mut self, rt: &R) -> Came
         ensures some { IfSome (awaited self.old.session.stage) (λ commit. IfSome self.old.number (λ number. IsAskedFor
-            S.made S.told self.old.steps self.new.steps number self.old.session self.new.session result)) }
-        ensures none { IfNone (awaited self.old.session.stage) ((result ≡ Came.Ended)
+            G.answers S.made S.told self.old.gate self.new.gate self.old.steps self.new.steps number self.old.session
+            self.new.session result)) }
+        ensures none { IfNone (awaited self.old.session.stage) ((result ≡ Came.Ended) × (self.new.gate ≡ self.old.gate)
             × (self.new.steps ≡ self.old.steps) × (self.new.session ≡ self.old.session)) }
         ensures number { KeepsNumber self.old.session.stage self.old.number self.new.session.stage self.new.number }
     {
@@ -86,28 +99,36 @@ impl<G: Gate, S: Steps> Serving<G, S> {
         }
     }
 
-    /// Finishes the operation under way and aborts the transaction, once the connection has ended or was at fault.
+    /// Finishes the operation under way and aborts the transaction, once the connection has ended or was at fault. Where
+    /// the gate has said no the transaction stays as it is then.
     pub fn lose<R: Wait>(&mut self, rt: &R) -> Came
-        ensures lost { IsLost S.made S.told self.old.steps self.new.steps self.old.session self.new.session result }
+        ensures lost { IsLost G.answers S.made S.told self.old.gate self.new.gate self.old.steps self.new.steps self.old.session self.new.session result }
         ensures number { KeepsNumber self.old.session.stage self.old.number self.new.session.stage self.new.number }
     {
         let action = self.session.lost();
         self.carried(rt, action)
     }
 
-    /// Forces, which is no call of the session's, and hands the stamp on. The session is as before.
-    pub fn force(&mut self)
-        ensures force { IsForce S.made S.forced S.told self.old.steps self.new.steps }
-        ensures same { (self.new.gate ≡ self.old.gate) × (self.new.session ≡ self.old.session)
-            × (self.new.number ≡ self.old.number) }
+    /// Forces where the gate lets it through, and hands the stamp on: whether it did. That is no call of the session's, which
+    /// is as before.
+    pub fn force(&mut self) -> bool
+        ensures asked { G.answers self.new.gate.gate ≡ (1, result) ∷ G.answers self.old.gate.gate }
+        ensures stopped { self.new.gate.stopped ≡ (not result || self.old.gate.stopped) }
+        ensures force { result ≡ true → IsForce S.made S.forced S.told self.old.steps self.new.steps }
+        ensures none { result ≡ false → self.new.steps ≡ self.old.steps }
+        ensures same { (self.new.session ≡ self.old.session) × (self.new.number ≡ self.old.number) }
     {
+        if !self.gate.asks(BEFORE_FORCE) {
+            return false;
+        }
         let stamped = self.steps.force();
         self.steps.seen(stamped);
+        true
     }
 
     /// The gate and the step interface.
     pub fn into_parts(self) -> (G, S)
-        ensures { (result.0 ≡ self.gate) × (result.1 ≡ self.steps) }
+        ensures { (result.0 ≡ self.gate.gate) × (result.1 ≡ self.steps) }
     {
         let Serving {
             gate,
@@ -115,12 +136,12 @@ impl<G: Gate, S: Steps> Serving<G, S> {
             session: _,
             number: _,
         } = self;
-        (gate, steps)
+        (gate.into_gate(), steps)
     }
 
     // Asks once for the receipt of a commit, and goes on with what that told.
     fn asked_for<R: Wait>(&mut self, rt: &R, number: CommitNo) -> Came
-        ensures asked { IsAskedFor S.made S.told self.old.steps self.new.steps number self.old.session self.new.session result }
+        ensures asked { IsAskedFor G.answers S.made S.told self.old.gate self.new.gate self.old.steps self.new.steps number self.old.session self.new.session result }
         ensures number { KeepsNumber self.old.session.stage self.old.number self.new.session.stage self.new.number }
     {
         match self.called(Event::Acknowledged(number)) {
@@ -131,7 +152,7 @@ impl<G: Gate, S: Steps> Serving<G, S> {
 
     // Does what is to be done, until the session asks for nothing more.
     fn carried<R: Wait>(&mut self, rt: &R, first: Action) -> Came
-        ensures carried { IsCarried S.made S.told self.old.steps self.new.steps self.old.session first self.new.session result }
+        ensures carried { IsCarried G.answers S.made S.told self.old.gate self.new.gate self.old.steps self.new.steps self.old.session first self.new.session result }
         ensures number { KeepsNumber self.old.session.stage self.old.number self.new.session.stage self.new.number }
     {
         let mut action = first;
@@ -148,51 +169,60 @@ impl<G: Gate, S: Steps> Serving<G, S> {
         unreachable!()
     }
 
-    // The call that is to be made, or what came where there is none. Before one that is made again the gate is asked.
+    // The call that is to be made, or what came where there is none, or it may not be made. Before one that is made again
+    // the gate is asked.
     fn asked(&mut self, action: Action) -> Result<Ask, Came>
-        ensures asks { IfOk result (λ ask. IsAsked action ask) }
-        ensures came { IfErr result (λ came. IsCome action came) }
+        ensures asks { IfOk result (λ ask. IsAsked action ask × (may_call self.new.gate.stopped ask ≡ true)) }
+        ensures came { IfErr result (λ came. IsCome self.new.gate.stopped action came) }
+        ensures gate { Asks G.answers self.old.gate self.new.gate (is_again action) 4 }
         ensures same { (self.new.steps ≡ self.old.steps) × (self.new.session ≡ self.old.session)
             × (self.new.number ≡ self.old.number) }
     {
-        match action {
-            Action::Do(ask) => Ok(ask),
-            Action::Again(ask) => {
-                if self.gate.pass(BEFORE_AGAIN) || is_under_way(&ask) {
-                    Ok(ask)
-                } else {
-                    Err(Came::Ended)
-                }
-            }
-            Action::Await(commit) => Err(Came::Waits(commit.lsn)),
-            Action::Answer(answer) => Err(Came::Answered(answer)),
-            Action::End => Err(Came::Ended),
-        }
+        self.gate.asks_where(is_to_be_again(&action), BEFORE_AGAIN);
+        to_be_made(action, self.gate.has_stopped())
     }
 
     // Makes a call, and tells the session what came of it: what is to be done next. None where no call of a session is
-    // answered so.
+    // answered so. Behind a slot that was written the gate is asked.
     fn called(&mut self, event: Event) -> Option<Action>
-        ensures call { IsCall S.made S.told self.old.steps self.new.steps event self.old.session result self.new.session }
+        ensures call { IsCall G.answers S.made S.told self.old.gate self.new.gate self.old.steps self.new.steps event
+            self.old.session result self.new.session }
         ensures number { KeepsNumber self.old.session.stage self.old.number self.new.session.stage self.new.number }
     {
         let stamped = self.steps.call(event);
         let told = told_of(stamped.reply());
         self.number = number_after(self.number, stamped.reply());
         self.steps.seen(stamped);
+        self.gate.asks_where(is_written(&told), BETWEEN_STEPS);
         let told = told?;
-        self.passes_behind(&told);
         Some(self.session.reply(&told))
     }
+}
 
-    // Asks the gate behind a slot that was written. An operation under way is gone through, whatever it says.
-    fn passes_behind(&mut self, told: &Told)
-        ensures same { (self.new.steps ≡ self.old.steps) × (self.new.session ≡ self.old.session)
-            × (self.new.number ≡ self.old.number) }
-    {
-        if *told == Told::Written {
-            self.gate.pass(BETWEEN_STEPS);
+// The call that is to be made, or what came where there is none. Where the gate has said no, none is made but one of an
+// operation that is under way.
+fn to_be_made(action: Action, has_stopped: bool) -> Result<Ask, Came>
+    ensures asks { IfOk result (λ ask. IsAsked action ask × (may_call has_stopped ask ≡ true)) }
+    ensures came { IfErr result (λ came. IsCome has_stopped action came) }
+{
+    match action {
+        Action::Do(ask) => {
+            if may_be_made(&ask, has_stopped) {
+                Ok(ask)
+            } else {
+                Err(Came::Ended)
+            }
         }
+        Action::Again(ask) => {
+            if may_be_made(&ask, has_stopped) {
+                Ok(ask)
+            } else {
+                Err(Came::Ended)
+            }
+        }
+        Action::Await(commit) => Err(Came::Waits(commit.lsn)),
+        Action::Answer(answer) => Err(Came::Answered(answer)),
+        Action::End => Err(Came::Ended),
     }
 }
 
@@ -206,9 +236,23 @@ fn number_after(number: Option<CommitNo>, reply: &Reply) -> Option<CommitNo>
     }
 }
 
-// Whether the call is one of an operation that is under way.
-fn is_under_way(ask: &Ask) -> bool
-    ensures { result ≡ under_way ask.now }
+// Whether a call may be made.
+fn may_be_made(ask: &Ask, has_stopped: bool) -> bool
+    ensures { result ≡ may_call has_stopped ask.now }
 {
-    matches!(ask, Ask::Step(_) | Ask::Finish(_))
+    !has_stopped || matches!(ask, Ask::Step(_) | Ask::Finish(_))
+}
+
+// Whether a call is to be made again.
+fn is_to_be_again(action: &Action) -> bool
+    ensures { result ≡ is_again action.now }
+{
+    matches!(action, Action::Again(_))
+}
+
+// Whether a slot was written.
+fn is_written(told: &Option<Told>) -> bool
+    ensures { result ≡ was_written told.now }
+{
+    matches!(told, Some(Told::Written))
 }
