@@ -1,5 +1,6 @@
 //! Reads the records of a device, one after the other.
 ghost use Rattle.std.specs.Prelude.{◌≡◌, ◌^◌, ◌<◌, ◌∷◌, IfOk, IfErr, IfSome, IfNone, OnOk, OnErr, length};
+ghost use Rattle.std.specs.Bool.{OnTrue, OnFalse};
 ghost use Rattle.rq_log.specs.Reading.{IsReading, StopsFor};
 ghost use Rattle.rq_log.specs.Spelled.{spelled};
 
@@ -10,7 +11,7 @@ use rq_disk::LogDevice;
 use rq_model::record::Record;
 use rq_model::refusal::{Damage, Refusal};
 use rq_model::txn::Lsn;
-use rq_record::{Step, decode};
+use rq_record::{Front, decode_into};
 use std::alloc::Global;
 use std::marker::Model;
 use std::snapshot::Snapshot;
@@ -116,8 +117,7 @@ impl<L: LogDevice> LogReader<L> {
     /// Reads the next record. `None`: all are read, and no byte is left.
     ///
     /// # Errors
-    /// `Damaged` with the LSN of the next record, where bytes are left and no whole record stands at their front;
-    /// `DiskRead`; `NoMemory` where a number of 64 bits can't count the bytes.
+    /// Those of `next_into`.
     pub fn next(&mut self) -> Result<Option<Record>, Refusal>
         // What is read then.
         ensures some { IfOk result (λ next. IfSome next (λ r. self.new.records ≡ r ∷ self.old.records)) }
@@ -132,16 +132,43 @@ impl<L: LogDevice> LogReader<L> {
         ensures reading { IsReading L.LogDevice self.new }
         ensures count { length self.new.records < 2 ^ 64 }
     {
-        let next = self.read_next();
+        let mut record = Record::Restart { incarnation: 0 };
+        match self.next_into(&mut record) {
+            Ok(true) => Ok(Some(record)),
+            Ok(false) => Ok(None),
+            Err(refusal) => Err(refusal),
+        }
+    }
+
+    /// Reads the next record, over a lent one. False: all are read, and no byte is left.
+    ///
+    /// # Errors
+    /// `Damaged` with the LSN of the next record, where bytes are left and no whole record stands at their front;
+    /// `DiskRead`; `NoMemory` where a number of 64 bits can't count the bytes.
+    pub fn next_into(&mut self, into: &mut Record) -> Result<bool, Refusal>
+        // What is read then.
+        ensures some { IfOk result (λ found. OnTrue found (self.new.records ≡ into.new ∷ self.old.records)) }
+        ensures none { IfOk result (λ found. OnFalse found ((self.new.records ≡ self.old.records)
+            × (L.honest self.new.device → L.seen self.new.first ≡ spelled self.new.records))) }
+        // Why nothing was.
+        ensures same { OnErr result (self.new.records ≡ self.old.records) }
+        ensures err { IfErr result (λ e. StopsFor L.LogDevice e self.old.records self.old.device self.new.device) }
+        // The device.
+        ensures cause { OnOk result (L.faults self.new.device ≡ L.faults self.old.device) }
+        ensures first { self.new.first ≡ self.old.first }
+        ensures reading { IsReading L.LogDevice self.new }
+        ensures count { length self.new.records < 2 ^ 64 }
+    {
+        let found = self.read_next(into);
         self.shows_read();
-        next
+        found
     }
 
     // Reads the next record; what it says but what is so of each reader.
-    fn read_next(&mut self) -> Result<Option<Record>, Refusal>
+    fn read_next(&mut self, into: &mut Record) -> Result<bool, Refusal>
         // What is read then.
-        ensures some { IfOk result (λ next. IfSome next (λ r. self.new.records ≡ r ∷ self.old.records)) }
-        ensures none { IfOk result (λ next. IfNone next ((self.new.records ≡ self.old.records)
+        ensures some { IfOk result (λ found. OnTrue found (self.new.records ≡ into.new ∷ self.old.records)) }
+        ensures none { IfOk result (λ found. OnFalse found ((self.new.records ≡ self.old.records)
             × (L.honest self.new.device → L.seen self.new.first ≡ spelled self.new.records))) }
         // Why nothing was.
         ensures same { OnErr result (self.new.records ≡ self.old.records) }
@@ -152,15 +179,15 @@ impl<L: LogDevice> LogReader<L> {
     {
         self.stream.fill()?;
         self.stream.shows_at();
-        let Step::Record(record, used) = decode(self.stream.unread()) else {
+        let Front::Record(used) = decode_into(self.stream.unread(), into) else {
             if self.stream.unread().is_empty() {
-                return Ok(None);
+                return Ok(false);
             }
             return Err(Refusal::Damaged(Damage::Record(self.last + 1)));
         };
         self.stream.skip(used);
-        Past::note(&mut self.past, &record);
+        Past::note(&mut self.past, into);
         self.last += 1;
-        Ok(Some(record))
+        Ok(true)
     }
 }

@@ -1,15 +1,18 @@
 -- A level that is told of slots as they are.
 use Rattle.std.proofs.Common.{◌≡◌, ℕ, ◌+◌, ◌/◌, ◌%◌, ◌<◌, ◌≤◌, cond, suc, drop, slice_index_or, List, ◌∷◌, length, Option, Some, refl, sym, ◌∙◌, ap, subst, arith}
+use Rattle.std.specs.Prelude.{IfSome}
 use Rattle.std.proofs.lemmas.Bool.{lt-ltb}
 use Rattle.std.proofs.lemmas.List.{drop_all}
 use Rattle.std.proofs.Math.Seq.{drop-cons}
 use Rattle.rq_page.specs.Formatted.{IsFormatted}
 use Rattle.rq_page.specs.Pages.{slot_of}
 use Rattle.rq_page.specs.Sizes.{Sizes, IsCellAddress, IsInRange, cell_at, cell_count, directory_at, sender_count}
-use Rattle.rq_page.specs.Slots.{held_in}
+use Rattle.rq_page.specs.Cells.{free_bytes}
+use Rattle.rq_page.specs.Slots.{SlotIsSpelling, held_in, slot_bytes}
 use Rattle.rq_page.specs.Slots.Slot.{Free}
 use Rattle.rq_page.proofs.Addresses.{cells_have_places, senders_have_slots}
 use Rattle.rq_views.specs.Stored.{IsStoreSlot, slot_at, slots_in}
+use Rattle.rq_pool.specs.Pooled.{IsPool}
 use Rattle.rq_level.specs.declared.writes.SlotWrite.{SlotWrite}
 use Rattle.rq_level.specs.Kept.{Kept, noted}
 use Rattle.rq_level.specs.Meaning.{meaning_of}
@@ -42,6 +45,20 @@ group_stands z a g e inside = subst (IsStoreSlot z) (sym e) (
 
 pub cell_stands : (z : Sizes) (a : ℕ) → IsCellAddress z a → IsStoreSlot z a
 cell_stands z a c = record { page_low = (let low = c.above in omega (arith, low)); page_high = c.below; slot = c.slot }
+
+-- a free cell's slot has these bytes
+pub empty_stands : (z : Sizes) (images : List (List ℕ)) (a : ℕ) (free : Option ℕ) (empty : List ℕ) → IsCellAddress z a → IsPool z images → SlotIsSpelling
+    → IfSome free (λ b. slots_in z images b ≡ Free) → free ≡ Some a → empty ≡ free_bytes → empty ≡ slot_at images a
+empty_stands z images a free empty cell pool spelling is here e =
+    let stands = cell_stands z a cell in
+    let is_free : slots_in z images a ≡ Free = subst (λ (o : Option ℕ). IfSome o (λ b. slots_in z images b ≡ Free)) here is in
+    let held : held_in z (a / 16) (slot_at images a) ≡ Free = sym (slot_is z images a stands) ∙ is_free in
+    e ∙ sym (ap slot_bytes held) ∙ (spelling z (a / 16) (a % 16) (slot_at images a) (pool.slots a stands)).1
+
+-- the level was told of it by these bytes
+pub empty_noted : (n a : ℕ) (k after : Kept) (empty bytes : List ℕ) → n ≡ 1 → after ≡ (meaning_of n).note k a empty → empty ≡ bytes → after ≡ noted k a bytes
+unfolding meaning_of
+empty_noted n a k after empty bytes one e same = e ∙ ap (λ (m : ℕ). (meaning_of m).note k a empty) one ∙ ap (noted k a) same
 
 module _ (z : Sizes) (images : List (List ℕ)) where
   -- the level was told the sizes

@@ -1,8 +1,9 @@
 //! Tells a level of slots as they are.
-ghost use Rattle.std.specs.Prelude.{◌≡◌, ◌/◌, ◌%◌, ◌≤◌, List, length};
-ghost use Rattle.rq_page.specs.Sizes.{cell_count};
-ghost use Rattle.rq_page.specs.Slots.{IsSlotOf};
-ghost use Rattle.rq_views.specs.Stored.{IsStoreSlot, slot_at};
+ghost use Rattle.std.specs.Prelude.{◌≡◌, ◌↔◌, ◌/◌, ◌%◌, ◌≤◌, IfSome, IsTrue, List, Some, length};
+ghost use Rattle.rq_page.specs.Cells.{free_bytes};
+ghost use Rattle.rq_page.specs.Sizes.{IsCellAddress, cell_count};
+ghost use Rattle.rq_page.specs.Slots.{Free, IsSlotOf};
+ghost use Rattle.rq_views.specs.Stored.{IsStoreSlot, slot_at, slots_in};
 ghost use Rattle.rq_level.specs.Kept.{noted};
 ghost use Rattle.rq_level.specs.Writes.{AreSlotWrites};
 ghost use Rattle.rq_txn.specs.Rows.{Row};
@@ -12,7 +13,10 @@ ghost use Rattle.rq_planner.specs.Asked.{seen};
 
 use rq_disk::PageDevice;
 use rq_level::{Level, SlotWrite};
+use rq_model::record::Slot;
 use rq_page::addr::Addr;
+use rq_page::cell::CellSlot;
+use rq_page::layout::Layout;
 use rq_pool::Pages;
 
 /// Gives back a plan that doesn't start: tells the level of each of its slots as it is. The cell that the plan chose may be
@@ -43,8 +47,70 @@ pub fn tell_store<P: PageDevice, B: Level>(pages: &Pages<P>, level: &mut B)
     for sender in 0..layout.senders() {
         tell(pages, level, layout.directory_of(sender));
     }
+    let empty = CellSlot::Free.encode();
+    let mut free = free_from(pages, 0);
     for place in 0..layout.cell_slots() {
-        tell(pages, level, layout.cell_addr(place));
+        let at = layout.cell_addr(place);
+        tell_cell(pages, level, at, &free, &empty);
+        let next = free_behind(pages, &free, at, place + 1);
+        free = next;
+    }
+}
+
+// The first free cell whose place is this one or a later one.
+fn free_from<P: PageDevice>(pages: &Pages<P>, place: u32) -> Option<Addr>
+    ensures { IfSome result (λ a. slots_in pages.now.sizes pages.now.images a ≡ Free) }
+{
+    pages.next_free(place)
+}
+
+// The same, where the cell at this address was passed, and the next place is this one.
+fn free_behind<P: PageDevice>(
+    pages: &Pages<P>,
+    free: &Option<Addr>,
+    at: Addr,
+    place: u32,
+) -> Option<Addr>
+    requires { IfSome free.now (λ a. slots_in pages.now.sizes pages.now.images a ≡ Free) }
+    ensures { IfSome result (λ a. slots_in pages.now.sizes pages.now.images a ≡ Free) }
+{
+    if is_at(free, at) {
+        return free_from(pages, place);
+    }
+    *free
+}
+
+// Tells a level of a cell's slot as it is. That of the next free cell is not read: its bytes are given.
+fn tell_cell<P: PageDevice, B: Level>(
+    pages: &Pages<P>,
+    level: &mut B,
+    at: Addr,
+    free: &Option<Addr>,
+    empty: &Slot,
+)
+    requires number { B.level level.old ≡ 1 }
+    requires cell { IsCellAddress pages.now.sizes at }
+    requires free { IfSome free.now (λ a. slots_in pages.now.sizes pages.now.images a ≡ Free) }
+    requires empty { empty.now ≡ free_bytes }
+    ensures same { B.level level.new ≡ 1 }
+    ensures told { B.kept level.new ≡ noted (B.kept level.old) at (slot_at pages.now.images at) }
+{
+    if is_at(free, at) {
+        pages.layout();
+        Layout::slots_are_spellings();
+        level.noted(at, empty);
+    } else {
+        tell(pages, level, at);
+    }
+}
+
+// Whether this is the next free cell's address.
+fn is_at(free: &Option<Addr>, at: Addr) -> bool
+    ensures { IsTrue result ↔ (free.now ≡ Some at) }
+{
+    match free {
+        Some(free) => free.number() == at.number(),
+        None => false,
     }
 }
 

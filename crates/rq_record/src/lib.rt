@@ -9,9 +9,9 @@ mod writing;
 
 pub use deed::{decode_deed, encode_deed, shows_deed_fits};
 pub use laws::{deeds_are_told, framed, lengths, one_deed, one_spelling};
-pub use reading::decode;
+pub use reading::{decode, decode_into};
 pub use rq_model::record::{Deed, Record};
-pub use step::Step;
+pub use step::{Front, Step};
 pub use writing::{encode, shows_fits, shows_size, spelled_len};
 
 /// The bytes of a PageOp record.

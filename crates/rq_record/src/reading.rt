@@ -2,11 +2,11 @@
 ghost use Rattle.std.specs.Prelude.{◌≡◌, ◌+◌, ◌-◌, ◌≤◌, ◌<◌, ◌^◌, length, IfOk, IfSome, List, ℕ, ◌++◌, ◌↔◌};
 ghost use Rattle.rq_model.specs.declared.record.Record.{Record};
 ghost use Rattle.rq_record.specs.Spelling.{IsRecord, spelling, BeginsRecord, HoldsRecord};
-ghost use Rattle.rq_record.specs.Decoding.{IfRecord, IsFront, step_of};
+ghost use Rattle.rq_record.specs.Decoding.{IfRecord, IsFront, step_of, step_with};
 ghost use Rattle.rq_record.specs.declared.reading.Kind.TheVariants as kinds;
 ghost use Rattle.rq_record.specs.Reading.{Gives, bytes_at, number_at, positive_at, byte_between, txn_at, page_op_at, page_undo_at, op_end_at, op_void_at, comp_end_at, commit_at, restart_at, abort_end_at, kind_of, is_size, begins_size, size_at, kind_at, IsDeedSize, fields_at, record_at};
 
-use crate::step::Step;
+use crate::step::{Front, Step};
 use byteorder::{BigEndian, ByteOrder};
 use rq_model::record::{DeedBytes, Record, SLOT_BYTES, Slot};
 use rq_model::txn::Txn;
@@ -114,20 +114,19 @@ fn take_txn(bytes: &[u8]) -> Result<(Txn, &[u8]), Stop>
 }
 
 // The image of a slot.
-fn take_image(bytes: &[u8]) -> Result<(Slot, &[u8]), Stop>
-    ensures { Gives (λ x. (x.0, x.1.now)) result (bytes_at 256 bytes.now) }
+fn take_image(bytes: &[u8]) -> Result<(&Slot, &[u8]), Stop>
+    ensures { Gives (λ x. (x.0.now, x.1.now)) result (bytes_at 256 bytes.now) }
 {
     let (image, rest) = take_bytes(SLOT_BYTES, bytes)?;
-    let mut slot = [0; SLOT_BYTES];
-    slot.copy_from_slice(image);
+    let slot: &Slot = image.try_into().unwrap();
     Ok((slot, rest))
 }
 
 // The fields of each kind.
 
 #[tactic(auto, unfolding(crate::specs::Reading::page_op_at))]
-fn page_op(bytes: &[u8]) -> Result<(Record, &[u8]), Stop>
-    ensures { Gives (λ x. (x.0, x.1.now)) result (page_op_at bytes.now) }
+fn page_op<'a>(bytes: &'a [u8], into: &mut Record) -> Result<&'a [u8], Stop>
+    ensures { Gives (λ rest. (into.new, rest.now)) result (page_op_at bytes.now) }
 {
     let (txn, rest) = take_txn(bytes)?;
     let (operation, rest) = take_positive(rest)?;
@@ -135,20 +134,20 @@ fn page_op(bytes: &[u8]) -> Result<(Record, &[u8]), Stop>
     let (slot, rest) = take_slot_number(rest)?;
     let (before, rest) = take_image(rest)?;
     let (after, rest) = take_image(rest)?;
-    let record = Record::PageOp {
+    *into = Record::PageOp {
         txn,
         operation,
         page,
         slot,
-        before,
-        after,
+        before: *before,
+        after: *after,
     };
-    Ok((record, rest))
+    Ok(rest)
 }
 
 #[tactic(auto, unfolding(crate::specs::Reading::page_undo_at))]
-fn page_undo(bytes: &[u8]) -> Result<(Record, &[u8]), Stop>
-    ensures { Gives (λ x. (x.0, x.1.now)) result (page_undo_at bytes.now) }
+fn page_undo<'a>(bytes: &'a [u8], into: &mut Record) -> Result<&'a [u8], Stop>
+    ensures { Gives (λ rest. (into.new, rest.now)) result (page_undo_at bytes.now) }
 {
     let (txn, rest) = take_txn(bytes)?;
     let (operation, rest) = take_positive(rest)?;
@@ -156,21 +155,21 @@ fn page_undo(bytes: &[u8]) -> Result<(Record, &[u8]), Stop>
     let (page, rest) = take_u32(rest)?;
     let (slot, rest) = take_slot_number(rest)?;
     let (after, rest) = take_image(rest)?;
-    let record = Record::PageUndo {
+    *into = Record::PageUndo {
         txn,
         operation,
         undone,
         page,
         slot,
-        after,
+        after: *after,
     };
-    Ok((record, rest))
+    Ok(rest)
 }
 
 #[tactic(auto, unfolding(crate::specs::Reading::op_end_at))]
-fn op_end(size: usize, bytes: &[u8]) -> Result<(Record, &[u8]), Stop>
+fn op_end<'a>(size: usize, bytes: &'a [u8], into: &mut Record) -> Result<&'a [u8], Stop>
     requires { size ≤ 256 }
-    ensures { Gives (λ x. (x.0, x.1.now)) result (op_end_at size bytes.now) }
+    ensures { Gives (λ rest. (into.new, rest.now)) result (op_end_at size bytes.now) }
 {
     let (txn, rest) = take_txn(bytes)?;
     let (operation, rest) = take_positive(rest)?;
@@ -179,61 +178,65 @@ fn op_end(size: usize, bytes: &[u8]) -> Result<(Record, &[u8]), Stop>
     let Some(deed) = DeedBytes::new(bytes) else {
         return Err(Stop::Bad);
     };
-    let record = Record::OpEnd {
+    *into = Record::OpEnd {
         txn,
         operation,
         level,
         deed,
     };
-    Ok((record, rest))
+    Ok(rest)
 }
 
 #[tactic(auto, unfolding(crate::specs::Reading::op_void_at))]
-fn op_void(bytes: &[u8]) -> Result<(Record, &[u8]), Stop>
-    ensures { Gives (λ x. (x.0, x.1.now)) result (op_void_at bytes.now) }
+fn op_void<'a>(bytes: &'a [u8], into: &mut Record) -> Result<&'a [u8], Stop>
+    ensures { Gives (λ rest. (into.new, rest.now)) result (op_void_at bytes.now) }
 {
     let (txn, rest) = take_txn(bytes)?;
     let (operation, rest) = take_positive(rest)?;
-    Ok((Record::OpVoid { txn, operation }, rest))
+    *into = Record::OpVoid { txn, operation };
+    Ok(rest)
 }
 
 #[tactic(auto, unfolding(crate::specs::Reading::comp_end_at))]
-fn comp_end(bytes: &[u8]) -> Result<(Record, &[u8]), Stop>
-    ensures { Gives (λ x. (x.0, x.1.now)) result (comp_end_at bytes.now) }
+fn comp_end<'a>(bytes: &'a [u8], into: &mut Record) -> Result<&'a [u8], Stop>
+    ensures { Gives (λ rest. (into.new, rest.now)) result (comp_end_at bytes.now) }
 {
     let (txn, rest) = take_txn(bytes)?;
     let (operation, rest) = take_positive(rest)?;
     let (undone, rest) = take_positive(rest)?;
-    let record = Record::CompEnd {
+    *into = Record::CompEnd {
         txn,
         operation,
         undone,
     };
-    Ok((record, rest))
+    Ok(rest)
 }
 
 #[tactic(auto, unfolding(crate::specs::Reading::commit_at))]
-fn commit(bytes: &[u8]) -> Result<(Record, &[u8]), Stop>
-    ensures { Gives (λ x. (x.0, x.1.now)) result (commit_at bytes.now) }
+fn commit<'a>(bytes: &'a [u8], into: &mut Record) -> Result<&'a [u8], Stop>
+    ensures { Gives (λ rest. (into.new, rest.now)) result (commit_at bytes.now) }
 {
     let (txn, rest) = take_txn(bytes)?;
-    Ok((Record::Commit { txn }, rest))
+    *into = Record::Commit { txn };
+    Ok(rest)
 }
 
 #[tactic(auto, unfolding(crate::specs::Reading::restart_at))]
-fn restart(bytes: &[u8]) -> Result<(Record, &[u8]), Stop>
-    ensures { Gives (λ x. (x.0, x.1.now)) result (restart_at bytes.now) }
+fn restart<'a>(bytes: &'a [u8], into: &mut Record) -> Result<&'a [u8], Stop>
+    ensures { Gives (λ rest. (into.new, rest.now)) result (restart_at bytes.now) }
 {
     let (incarnation, rest) = take_positive(bytes)?;
-    Ok((Record::Restart { incarnation }, rest))
+    *into = Record::Restart { incarnation };
+    Ok(rest)
 }
 
 #[tactic(auto, unfolding(crate::specs::Reading::abort_end_at))]
-fn abort_end(bytes: &[u8]) -> Result<(Record, &[u8]), Stop>
-    ensures { Gives (λ x. (x.0, x.1.now)) result (abort_end_at bytes.now) }
+fn abort_end<'a>(bytes: &'a [u8], into: &mut Record) -> Result<&'a [u8], Stop>
+    ensures { Gives (λ rest. (into.new, rest.now)) result (abort_end_at bytes.now) }
 {
     let (txn, rest) = take_txn(bytes)?;
-    Ok((Record::AbortEnd { txn }, rest))
+    *into = Record::AbortEnd { txn };
+    Ok(rest)
 }
 
 // The kind with this number, where a record of it may be so long.
@@ -312,42 +315,59 @@ fn take_kind(size: u32, bytes: &[u8]) -> Result<(Kind, &[u8]), Stop>
     }
 }
 
-// The fields of a record of this kind and length.
-fn take_fields(size: u32, kind: Kind, bytes: &[u8]) -> Result<(Record, &[u8]), Stop>
+// The fields of a record of this kind and length, and the bytes after them.
+fn take_fields<'a>(
+    size: u32,
+    kind: Kind,
+    bytes: &'a [u8],
+    into: &mut Record,
+) -> Result<&'a [u8], Stop>
     requires { IsDeedSize size kind }
-    ensures { Gives (λ x. (x.0, x.1.now)) result (fields_at size kind bytes.now) }
+    ensures { Gives (λ rest. (into.new, rest.now)) result (fields_at size kind bytes.now) }
 {
     match kind {
-        Kind::PageOp => page_op(bytes),
-        Kind::PageUndo => page_undo(bytes),
-        Kind::OpEnd => op_end(size as usize - 26, bytes),
-        Kind::OpVoid => op_void(bytes),
-        Kind::CompEnd => comp_end(bytes),
-        Kind::Commit => commit(bytes),
-        Kind::Restart => restart(bytes),
-        Kind::AbortEnd => abort_end(bytes),
+        Kind::PageOp => page_op(bytes, into),
+        Kind::PageUndo => page_undo(bytes, into),
+        Kind::OpEnd => op_end(size as usize - 26, bytes, into),
+        Kind::OpVoid => op_void(bytes, into),
+        Kind::CompEnd => comp_end(bytes, into),
+        Kind::Commit => commit(bytes, into),
+        Kind::Restart => restart(bytes, into),
+        Kind::AbortEnd => abort_end(bytes, into),
     }
 }
 
-// A record.
+// A record, and the bytes after it.
 #[tactic(auto, unfolding(crate::specs::Reading::record_at))]
-fn take_record(bytes: &[u8]) -> Result<(Record, &[u8]), Stop>
-    ensures { Gives (λ x. (x.0, x.1.now)) result (record_at bytes.now) }
+fn take_record<'a>(bytes: &'a [u8], into: &mut Record) -> Result<&'a [u8], Stop>
+    ensures { Gives (λ rest. (into.new, rest.now)) result (record_at bytes.now) }
 {
     let (size, rest) = take_length(bytes)?;
     let (kind, rest) = take_kind(size, rest)?;
-    take_fields(size, kind, rest)
+    take_fields(size, kind, rest, into)
 }
 
 // What stands at the front of the bytes.
-fn front_of(input: &[u8]) -> Step
-    ensures { result ≡ step_of input.now (record_at input.now) }
+fn front_of(input: &[u8], into: &mut Record) -> Front
+    ensures { step_with result into.new ≡ step_of input.now (record_at input.now) }
 {
-    match take_record(input) {
-        Ok((record, rest)) => Step::Record(record, input.len() - rest.len()),
-        Err(Stop::Short) => Step::Short,
-        Err(Stop::Bad) => Step::Bad,
+    match take_record(input, into) {
+        Ok(rest) => Front::Record(input.len() - rest.len()),
+        Err(Stop::Short) => Front::Short,
+        Err(Stop::Bad) => Front::Bad,
     }
+}
+
+/// Writes the record at the front of the bytes over a lent one, and answers what stands there: a record with bytes behind it
+/// or none, a proper beginning of a record, or neither.
+pub fn decode_into(input: &[u8], into: &mut Record) -> Front
+    ensures front { IfRecord (step_with result into.new) (λ r used. IsFront r used input.now) }
+    ensures found { (r : Record) (rest : List ℕ) → IsRecord r → input.now ≡ spelling r ++ rest
+        → step_with result into.new ≡ Step.Record r (length (spelling r)) }
+    ensures short { (step_with result into.new ≡ Step.Short) ↔ (BeginsRecord input.now) }
+    ensures bad { (step_with result into.new ≡ Step.Bad) ↔ ((¬ HoldsRecord input.now) × (¬ BeginsRecord input.now)) }
+{
+    front_of(input, into)
 }
 
 /// What stands at the front of the bytes: a record with bytes behind it or none, a proper beginning of
@@ -359,5 +379,10 @@ pub fn decode(input: &[u8]) -> Step
     ensures short { (result ≡ Step.Short) ↔ (BeginsRecord input.now) }
     ensures bad { (result ≡ Step.Bad) ↔ ((¬ HoldsRecord input.now) × (¬ BeginsRecord input.now)) }
 {
-    front_of(input)
+    let mut record = Record::Restart { incarnation: 0 };
+    match decode_into(input, &mut record) {
+        Front::Record(used) => Step::Record(record, used),
+        Front::Short => Step::Short,
+        Front::Bad => Step::Bad,
+    }
 }

@@ -11,3 +11,14 @@ pub enum Step {
     /// No record, nor the beginning of one.
     Bad,
 }
+
+/// The same, where the record was written over one that was lent.
+#[derive(Clone, Copy, Debug, PartialEq, Eq)]
+pub enum Front {
+    /// A record, which takes so many bytes. Bytes may follow it.
+    Record(usize),
+    /// A proper beginning of some record.
+    Short,
+    /// No record, nor the beginning of one.
+    Bad,
+}

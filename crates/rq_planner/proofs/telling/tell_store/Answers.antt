@@ -5,7 +5,8 @@ use Rattle.rq_planner.proofs.telling.tell_store.Goals as goal
 
 pub loop-place-preserved : goal.loop-place-preserved
 loop-place-preserved g c = (
-  c.tell-in-loop-place.ensures.same,
-  knows_cell c.args.pages.now.sizes c.args.pages.now.images (g.B.Level.kept c.loop-place.level) (g.B.Level.kept c.tell-in-loop-place.new.level) c.cell_addr.result c.loop-place.place
-      (c.cell_addr.ensures.value ∙ ap (λ (z : Sizes). cell_at z c.loop-place.place) c.layout-layout.ensures.sizes) (subst (λ n. c.loop-place.place < n) (c.cell_slots-place-end.ensures.number ∙ ap (λ (z : Sizes). cell_count z) c.layout-layout.ensures.sizes) c.loop-place-test.true) c.tell-in-loop-place.ensures.told c.loop-place.invariant.1,
+  c.tell_cell.ensures.same,
+  knows_cell c.args.pages.now.sizes c.args.pages.now.images (g.B.Level.kept c.loop-place.level) (g.B.Level.kept c.tell_cell.new.level) c.cell_addr-at.result c.loop-place.place
+      (c.cell_addr-at.ensures.value ∙ ap (λ (z : Sizes). cell_at z c.loop-place.place) c.layout-layout.ensures.sizes) (subst (λ n. c.loop-place.place < n) (c.cell_slots-place-end.ensures.number ∙ ap (λ (z : Sizes). cell_count z) c.layout-layout.ensures.sizes) c.loop-place-test.true) c.tell_cell.ensures.told c.loop-place.invariant.1,
+  c.free_behind-next.ensures,
 )

@@ -1,0 +1,11 @@
+use Rattle.std.proofs.Common.{refl}
+use Rattle.rq_planner.proofs.Told.{empty_noted, empty_stands}
+use Rattle.rq_planner.proofs.telling.tell_cell.Goals as goal
+
+pub returns-then-is_at-clause-told : goal.returns-then-is_at-clause-told
+returns-then-is_at-clause-told g c =
+    let z = c.args.pages.now.sizes in
+    let images = c.args.pages.now.images in
+    let a = c.args.at in
+    empty_noted (g.B.Level.level c.args.level.now) a (g.B.Level.kept c.args.level.now) (g.B.Level.kept c.noted.new.self) c.args.empty.now _ c.requires.number c.noted.ensures.kept
+    (empty_stands z images a c.args.free.now c.args.empty.now c.requires.cell c.layout.ensures.pool c.slots_are_spellings.ensures.spells c.requires.free (c.if-is_at.ensures.0 refl) c.requires.empty)
