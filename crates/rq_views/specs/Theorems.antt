@@ -1,5 +1,5 @@
 -- What holds of every legal log.
-use Rattle.std.specs.Prelude.{◌≡◌, ◌≢◌, Bool, ℕ, ◌<◌, List, []}
+use Rattle.std.specs.Prelude.{◌≡◌, ◌≢◌, Bool, ℕ, ◌<◌, List, [], Some}
 use Rattle.rq_model.specs.declared.txn.Sub.{Sub}
 use Rattle.rq_model.specs.declared.txn.Txn.{Txn}
 use Rattle.rq_model.specs.declared.record.Deed.{Deed}
@@ -9,10 +9,17 @@ use Rattle.rq_model.specs.Rules.{KeepsRules}
 use Rattle.rq_page.specs.Sizes.{Sizes}
 use Rattle.rq_views.specs.Committed.{IsViewOf}
 use Rattle.rq_views.specs.Items.{items, layout_of, ReadsItsDeeds}
-use Rattle.rq_views.specs.Log.{Item, Places, state_of}
-use Rattle.rq_views.specs.Plans.{ShowsAt, Spares}
-use Rattle.rq_views.specs.Legal.{IsLegalLog, IsLayout, open_deeds, view}
+use Rattle.rq_views.specs.Chain.{View}
+use Rattle.rq_views.specs.Log.{HasBefores, Item, Places, Slots, Write, applied, state_of}
+use Rattle.rq_views.specs.Plans.{IsPlan, ShowsAt, Spares, Turn}
+use Rattle.rq_views.specs.Legal.{IsLegalLog, IsLayout, open_deeds, view, view_after}
 use Rattle.rq_views.specs.Groups.{KeepsGroups, DeedsTellViews, committed, on_sending_end, on_receiving_end, side, with_all}
+
+-- The writes of one operation over slots that hold what they are to be written over: where these show a chain, they show it
+-- as the operation leaves it; and that of another sender as it was.
+abbrev pub PlansChangeOneChain : Type 0
+PlansChangeOneChain = (l : Places) (q : Slots) (ws : List Write) (turn : Turn) (s : ℕ) (v : View) → IsPlan l turn ws
+    → HasBefores ws q → ShowsAt l q s v → ShowsAt l (applied ws q) s (view_after s (Some turn) v)
 
 -- the slots that whole operations alone have written show, of each sender, the fold of what its operations did and
 -- undid, whatever is under way

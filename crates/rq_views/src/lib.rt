@@ -7,7 +7,12 @@
 ghost use Rattle.rq_views.specs.Inverses.{InversesLeaveTheOthers};
 ghost use Rattle.rq_views.specs.StoreTheorems.{SlotsStandWhereTheyMay, UsedCellsAreMessages, IdleSlotsAreWhole, ChainsAreBounded, SettledCellsAreCommitted, TakenMessagesHaveCells, NumbersHaveNoGaps};
 ghost use Rattle.rq_views.specs.Worked.{WorkedLogs, RefusedRecords};
-ghost use Rattle.rq_views.specs.Theorems.{QuietSlotsShowTheFold, IdleSlotsShowTheFold, SettledFoldIsCommitted, CommittedIsContent, RulesKeepGroups, ViewsAreHolders};
+ghost use Rattle.rq_views.specs.Theorems.{PlansChangeOneChain, QuietSlotsShowTheFold, IdleSlotsShowTheFold, SettledFoldIsCommitted, CommittedIsContent, RulesKeepGroups, ViewsAreHolders};
+
+/// The writes of one operation do to the chain of its sender what the operation does, and leave each other chain as it was.
+pub fn plans_change_one_chain()
+    ensures { PlansChangeOneChain }
+{}
 
 /// Over every legal log, with any operations interleaved at single slot writes: the slots that whole
 /// operations alone have written show each sender's chain as its operations say.
