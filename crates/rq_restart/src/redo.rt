@@ -124,7 +124,8 @@ pub(crate) fn repeat_history<P: PageDevice + Drop, L: LogDevice>(
         overwritten: Overwritten::new(alloc),
     };
     reader.shows_read();
-    while let Some(record) = reader.next()? {
+    let mut record = Record::Restart { incarnation: 0 };
+    while reader.next_into(&mut record)? {
         match repeat_next(pages, &mut gone, reader.last(), &record) {
             Ok(()) => {}
             Err(refusal) => return Err(refusal),
