@@ -1,5 +1,5 @@
 -- A level that is told of slots as they are.
-use Rattle.std.proofs.Common.{◌≡◌, ℕ, ◌+◌, ◌/◌, ◌%◌, ◌<◌, ◌≤◌, cond, suc, drop, slice_index_or, List, ◌∷◌, length, Option, Some, refl, sym, ◌∙◌, ap, subst, arith}
+use Rattle.std.proofs.Common.{◌≡◌, ℕ, ◌+◌, ◌/◌, ◌%◌, ◌<◌, ◌≤◌, cond, false, zero, suc, drop, slice_index_or, List, ◌∷◌, length, Option, Some, refl, sym, ◌∙◌, ap, subst, arith}
 use Rattle.std.specs.Prelude.{IfSome}
 use Rattle.std.proofs.lemmas.Bool.{lt-ltb}
 use Rattle.std.proofs.lemmas.List.{drop_all}
@@ -30,6 +30,15 @@ pub first_noted : (n a : ℕ) (k after : Kept) (z : Sizes) (image bytes : List �
 unfolding meaning_of
 first_noted n a k after z image bytes one first e range is at =
     e ∙ ap (λ (m : ℕ). (meaning_of m).note k a bytes) one ∙ ap (λ (m : ℕ). noted k m bytes) first ∙ ap (λ (o : Option Sizes). record k { sizes = o }) (sizes_told z image bytes range is at)
+
+-- ---- deeds
+
+-- no level of a greater number reads any
+pub none_reads : (n : ℕ) (deed : List ℕ) → 2 ≤ n → false ≡ (meaning_of n).reads deed
+unfolding meaning_of
+none_reads zero deed le = absurd (omega (arith, le))
+none_reads (suc zero) deed le = absurd (omega (arith, le))
+none_reads (suc (suc n)) deed le = refl
 
 -- ---- slots
 

@@ -1,6 +1,6 @@
 //! Levels that are handed in for a store.
 ghost use Rattle.std.specs.Prelude.{◌≡◌, ℕ};
-ghost use Rattle.rq_level.specs.Meaning.{kept_at};
+ghost use Rattle.rq_level.specs.Meaning.{kept_at, meaning_of};
 ghost use Rattle.rq_planner.specs.Handed.{AreForStores, HasRoom};
 
 use rq_level::{Level, Levels};
@@ -30,5 +30,17 @@ impl<B: Level> StoreLevels<B> {
         Ok(StoreLevels {
             levels: Levels::new(all),
         })
+    }
+
+    /// Whether there is a level of this number, and the bytes are a deed of it.
+    #[tactic(auto, using(crate::proofs::Told::none_reads))]
+    pub fn reads(&self, level: u8, deed: &[u8]) -> bool
+        ensures { result ≡ (meaning_of level).reads deed.now }
+    {
+        let level = level as usize;
+        if level >= self.levels.len() {
+            return false;
+        }
+        self.levels.reads(level, deed)
     }
 }

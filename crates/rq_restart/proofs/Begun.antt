@@ -125,7 +125,7 @@ module _ (log mended : List Record) (m : IsMended log mended) (h : Analysis) (no
       → BeginsNot e (length mended) last before now untouched → WhyNotBegun z log first e before now untouched
   not_begun z first now_paged why.NoMemory before now untouched repeated planned recovered b = b
   not_begun z first now_paged why.DiskWrite before now untouched repeated planned recovered b = b
-  not_begun z first now_paged why.LogFull before now untouched repeated planned recovered b = (record { undone = m.undone; undoing = m.undoes.undoing; now = mended; aborting = Between (record { behind = m.aborting; planned = planned }); none_lost = m.none_lost; full = full; recovering = λ left. recovered_on z log mended (recovered left) }, b.1) where
+  not_begun z first now_paged why.LogFull before now untouched repeated planned recovered b = (record { undone = m.undone; undoing = m.undoes.undoing; now = mended; aborting = Between (record { behind = m.aborting; planned = planned }); turn = inr m.undoes; none_lost = m.none_lost; full = full; recovering = λ left. recovered_on z log mended (recovered left) }, b.1) where
     full : 2 ^ 50 ≤ length mended
     full = elim b.0 [
       | inl is_full ↦ is_full

@@ -6,7 +6,7 @@ use Rattle.rq_model.specs.Incarnations.{InOrder, IsNext, incarnation_of}
 use Rattle.rq_undone.specs.Analysis.{Analysis}
 use Rattle.rq_undone.proofs.Noting.{noted_incarnation}
 use Rattle.rq_rules.specs.Kept.{IsKept}
-use Rattle.rq_rules.specs.Rules.{FollowAll, FollowsRules}
+use Rattle.rq_rules.specs.Rules.{CanBeRead, FollowAll, FollowsRules}
 use Rattle.rq_restart.specs.declared.findings.Findings.{Findings}
 use Rattle.rq_restart.specs.Found.{AreFindings, MayFollow}
 
@@ -18,11 +18,11 @@ module _ (f : Findings) (log : List Record) (r : Record) (are : AreFindings f lo
   kept = record { history = are.history; dues = are.dues; numbers = are.numbers; ended = are.ended }
 
   -- it is the next of its incarnation, so the rules tell
-  pub may_follow : (follows : Bool) → (IsTrue is_next ↔ IsNext f.history.incarnation r) → ((l : List Record) → IsKept l f.history f.dues f.numbers f.ended → FollowAll l → InOrder (r ∷ l) → IsTrue follows ↔ FollowsRules l r)
-      → is_next ≡ true → IsTrue follows ↔ MayFollow log r
-  may_follow follows next tell is =
+  pub may_follow : (follows reads : Bool) → (IsTrue is_next ↔ IsNext f.history.incarnation r) → ((l : List Record) → IsKept l f.history f.dues f.numbers f.ended → FollowAll l → InOrder (r ∷ l) → (IsTrue reads ↔ CanBeRead r) → IsTrue follows ↔ FollowsRules l r)
+      → (IsTrue reads ↔ CanBeRead r) → is_next ≡ true → IsTrue follows ↔ MayFollow log r
+  may_follow follows reads next tell can is =
       let first : IsNext (incarnation_of log) r = subst (λ n. IsNext n r) (sym same) (next.0 is) in
-      let tells : IsTrue follows ↔ FollowsRules log r = tell log kept are.follow (first, are.order) in
+      let tells : IsTrue follows ↔ FollowsRules log r = tell log kept are.follow (first, are.order) can in
       (λ y. record { next = first; follows = tells.0 y }, λ m. tells.1 m.follows)
 
   -- it is not

@@ -143,7 +143,7 @@ module _ {P : Type 0} (z : Sizes) (log undone : List Record) (mid : Pooled P) (u
 -- why operations were not undone, or then transactions, is why the log was not mended
 pub undo_mends_not : (z : Sizes) (log : List Record) (first : Paged) (e : Refusal) → UndoStops z log first e → MendStops z log first e
 undo_mends_not z log first why.NoMemory s = tt
-undo_mends_not z log first why.LogFull s = record { undone = s.undone; undoing = s.undoing; now = s.undone; aborting = aborting_none z (RepeatedFrom z first) s.undone; none_lost = λ e. refl; full = s.full; recovering = λ left. Undoing s.undoing }
+undo_mends_not z log first why.LogFull s = record { undone = s.undone; undoing = s.undoing; now = s.undone; aborting = aborting_none z (RepeatedFrom z first) s.undone; turn = inl refl; none_lost = λ e. refl; full = s.full; recovering = λ left. Undoing s.undoing }
 undo_mends_not z log first (why.Damaged (damage.Record lsn)) s = inl s
 undo_mends_not z log first _ s = absurd s
 
@@ -154,6 +154,7 @@ abort_mends_not z log undone mid u pool some first repeated why.LogFull s = reco
   undoing = u.undoing;
   now = s.last;
   aborting = aborting_weaker z (RepeatedSince z undone (paged mid)) (RepeatedFrom z first) (λ l p h. h first repeated) undone s.last s.aborting;
+  turn = inr u;
   none_lost = λ e. absurd (some (undone_working log undone u ∙ e));
   full = s.full;
   recovering = λ left. full_recovering z log undone mid u pool first left repeated some s;

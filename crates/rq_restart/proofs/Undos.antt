@@ -19,6 +19,7 @@ use Rattle.rq_undone.specs.Pages.{IsNextUndo, IsUndoing, IsUndone, work}
 use Rattle.rq_undone.specs.Pages.IsNextUndo.{Voids, Undoes}
 use Rattle.rq_undone.proofs.Lists.{in_newest, in_spots, in_with, in_without, sub_in}
 use Rattle.rq_undone.proofs.Undos.{undo_leaves_less, undoing_more, undoing_none}
+use Rattle.rq_rules.specs.Rules.{CanBeRead}
 use Rattle.rq_restart.specs.Found.{MayFollow}
 use Rattle.rq_restart.specs.Repeating.{AreCounted, Belongs, IsRepeated, Marks, Paged, Repeats}
 use Rattle.rq_restart.specs.Undoing.{StepStops, UndoStops}
@@ -58,6 +59,11 @@ spot_range (CompEnd t n undone ∷ log) a p h = spot_range log a.1 p (in_spots (
 spot_range (Commit t ∷ log) a p h = spot_range log a.1 p h
 spot_range (Restart i ∷ log) a p h = spot_range log a.1 p h
 spot_range (AbortEnd t ∷ log) a p h = spot_range log a.1 p h
+
+-- none of these records tells a deed
+pub undo_reads : (h : Analysis) (r : Record) → IsNextUndo h r → CanBeRead r
+undo_reads h r (Voids o spent least e) = subst CanBeRead (sym e) tt
+undo_reads h r (Undoes p ps none first e) = subst CanBeRead (sym e) tt
 
 pub undo_range : (log : List Record) (h : Analysis) (r : Record) → h ≡ analysis log → AreSpelled log → IsNextUndo h r → IsInRange r
 undo_range log h r e a next = by (subst (λ k. IsNextUndo k r) e next) where

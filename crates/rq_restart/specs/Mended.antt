@@ -60,12 +60,14 @@ pub record IsAtBound (z : Sizes) (log : List Record) : Type 0 where
   pub recovering : IsRecovering z log now
   pub full : 2 ^ 50 ≤ length now
 
--- the same of any log, from these pages: of a store that was left so, they recover some of it
+-- the same of any log, from these pages: nothing of a transaction is undone before all operations without an end are. Of a
+-- store that was left so, they recover some of it.
 pub record HasNoRoom (z : Sizes) (first : Paged) (log : List Record) : Type 0 where
   pub undone : List Record
   pub undoing : IsUndoing log undone
   pub now : List Record
   pub aborting : IsAborting z (RepeatedFrom z first) undone now
+  pub turn : (now ≡ undone) ⊎ IsUndone log undone
   pub none_lost : IsEnded log → now ≡ undone
   pub full : 2 ^ 50 ≤ length now
   pub recovering : IsLeft z first.image log → IsRecovering z log now

@@ -4,6 +4,7 @@ ghost use Rattle.rq_log.specs.Spelled.{AreSpelled};
 ghost use Rattle.rq_pool.specs.Pooled.{IsPool};
 ghost use Rattle.rq_record.specs.Spelling.{IsInRange};
 ghost use Rattle.rq_store.specs.Fitting.{told_by};
+ghost use Rattle.rq_rules.specs.Rules.{CanBeRead};
 ghost use Rattle.rq_restart.specs.Found.{AreFindings};
 ghost use Rattle.rq_restart.specs.Repeating.{Belongs, IsRepeated, paged};
 ghost use Rattle.rq_restart.specs.Undoing.{StepStops};
@@ -18,7 +19,8 @@ use rq_model::refusal::{Damage, Refusal};
 use rq_pool::Pages;
 use rq_record::{shows_fits, spelled_len};
 
-/// Appends a record that undoes something, and makes what it writes on the pages. The log hands nothing over.
+/// Appends a record that undoes something, which tells no deed or one that its level reads, and makes what it writes on the
+/// pages. The log hands nothing over.
 ///
 /// # Errors
 /// `NoMemory`; `LogFull` where the log is at its greatest length; `Damaged` with the number of the record where it doesn't
@@ -32,6 +34,7 @@ pub(crate) fn append<P: PageDevice + Drop, L: LogDevice + Drop>(
     requires found { AreFindings findings.old log.old.records }
     requires running { log.old.failed ≡ false }
     requires range { AreSpelled log.old.records → IsInRange undo.now }
+    requires readable { CanBeRead undo.now }
     ensures records { OnOk result (log.new.records ≡ undo.now ∷ log.old.records) }
     ensures found { OnOk result (AreFindings findings.new log.new.records) }
     ensures repeated { OnOk result (IsRepeated pages.old.sizes log.old.records undo.now (paged pages.old)
@@ -53,7 +56,7 @@ pub(crate) fn append<P: PageDevice + Drop, L: LogDevice + Drop>(
     let lsn = log.last() + 1;
     shows_fits(undo);
     log.reserve(spelled_len(undo))?;
-    let is_next = findings.note(lsn, undo)?;
+    let is_next = findings.note(lsn, true, undo)?;
     if !is_next || !repeat(pages, lsn, undo) {
         return Err(Refusal::Damaged(Damage::Record(lsn)));
     }

@@ -1,6 +1,7 @@
 //! What a restart keeps of a log as it goes through it.
 ghost use Rattle.std.specs.Prelude.{◌≡◌, ◌↔◌, ◌+◌, List, IsTrue, IfOk, IfErr, OnOk, [], length};
 ghost use Rattle.rq_model.specs.declared.record.Record.{Record as AnyRecord};
+ghost use Rattle.rq_rules.specs.Rules.{CanBeRead};
 ghost use Rattle.rq_restart.specs.Found.{AreFindings, MayFollow, findings_after};
 
 use rq_lost::{Dues, Numbers};
@@ -37,14 +38,14 @@ impl Findings {
         }
     }
 
-    /// Takes the next record, which has this LSN. False where it may not come there: it doesn't belong to the running
-    /// incarnation, isn't the next, or breaks the rules of a log.
+    /// Takes the next record, which has this LSN; the deed in it, if there is one, is read by its level or not. False where
+    /// it may not come there: it doesn't belong to the running incarnation, isn't the next, or breaks the rules of a log.
     ///
     /// # Errors
     /// `NoMemory`.
-    pub(crate) fn note(&mut self, lsn: Lsn, record: &Record) -> Result<bool, Refusal>
+    pub(crate) fn note(&mut self, lsn: Lsn, reads: bool, record: &Record) -> Result<bool, Refusal>
         ensures next { IfOk result (λ is_next. (log : List AnyRecord) → AreFindings self.old log
-            → (IsTrue is_next ↔ MayFollow log «record».now)) }
+            → (IsTrue reads ↔ CanBeRead «record».now) → (IsTrue is_next ↔ MayFollow log «record».now)) }
         ensures noted { OnOk result (self.new ≡ findings_after lsn «record».now self.old) }
         ensures err { IfErr result (λ e. e ≡ Refusal.NoMemory) }
     {
@@ -53,6 +54,7 @@ impl Findings {
             &self.dues,
             &self.numbers,
             &self.ended,
+            reads,
             record,
         );
         self.dues.note(lsn, record)?;

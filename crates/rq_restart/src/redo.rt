@@ -8,6 +8,7 @@ ghost use Rattle.rq_page.specs.Slots.{IsSlotOf};
 ghost use Rattle.rq_pool.specs.Pooled.{IsPool};
 ghost use Rattle.rq_store.specs.Opening.{IsRedone, Redoes, IsSoundTold, MayRedo, IsCounted};
 ghost use Rattle.rq_store.specs.Fitting.{ToldWrite, told_by, image_in};
+ghost use Rattle.rq_rules.specs.Rules.{CanBeRead};
 ghost use Rattle.rq_restart.specs.Found.{AreFindings};
 ghost use Rattle.rq_restart.specs.Overwritten.{AreKept, NamesFirst};
 ghost use Rattle.rq_restart.specs.Repeating.{AreCounted, IsMarked, IsRepeated, Marks, Paged, Repeats, paged};
@@ -17,6 +18,7 @@ use crate::findings::Findings;
 use crate::overwritten::{Overwritten, lesser_page};
 use rq_bytes::equal::are_equal;
 use rq_disk::{LogDevice, PageDevice};
+use rq_level::Level;
 use rq_log::LogReader;
 use rq_model::record::{Record, Slot};
 use rq_model::refusal::{Damage, Refusal};
@@ -24,6 +26,7 @@ use rq_model::txn::Lsn;
 use rq_page::addr::Addr;
 use rq_page::layout::{Layout, SLOTS};
 use rq_page::page::Page;
+use rq_planner::StoreLevels;
 use rq_pool::Pages;
 use std::alloc::Global;
 
@@ -99,10 +102,11 @@ pub(crate) struct Gone {
 ///
 /// # Errors
 /// `Damaged` with the number of the first record that doesn't fit, or where none stands; `DiskRead`; `NoMemory`.
-pub(crate) fn repeat_history<P: PageDevice + Drop, L: LogDevice>(
+pub(crate) fn repeat_history<P: PageDevice + Drop, L: LogDevice, B: Level>(
     alloc: Global,
     pages: &mut Pages<P>,
     reader: &mut LogReader<L>,
+    levels: &StoreLevels<B>,
 ) -> Result<Gone, Refusal>
     requires none_read { reader.old.records ≡ [] }
     requires untouched { reader.old.device ≡ reader.old.first }
@@ -124,8 +128,9 @@ pub(crate) fn repeat_history<P: PageDevice + Drop, L: LogDevice>(
         overwritten: Overwritten::new(alloc),
     };
     reader.shows_read();
-    while let Some(record) = reader.next()? {
-        match repeat_next(pages, &mut gone, reader.last(), &record) {
+    let mut record = Record::Restart { incarnation: 0 };
+    while reader.next_into(&mut record)? {
+        match repeat_next(pages, &mut gone, levels, reader.last(), &record) {
             Ok(()) => {}
             Err(refusal) => return Err(refusal),
         }
@@ -134,9 +139,10 @@ pub(crate) fn repeat_history<P: PageDevice + Drop, L: LogDevice>(
 }
 
 // Checks the next record, which has this LSN, and makes what it writes where its page is older.
-fn repeat_next<P: PageDevice + Drop>(
+fn repeat_next<P: PageDevice + Drop, B: Level>(
     pages: &mut Pages<P>,
     gone: &mut Gone,
+    levels: &StoreLevels<B>,
     lsn: Lsn,
     record: &Record,
 ) -> Result<(), Refusal>
@@ -153,13 +159,25 @@ fn repeat_next<P: PageDevice + Drop>(
     ensures sizes { pages.new.sizes ≡ pages.old.sizes }
     ensures device { pages.new.device ≡ pages.old.device }
 {
-    let is_next = gone.findings.note(lsn, record)?;
+    let is_next = gone
+        .findings
+        .note(lsn, can_be_read(levels, record), record)?;
     if !is_next || !may_repeat(pages, lsn, record) {
         return Err(Refusal::Damaged(Damage::Record(lsn)));
     }
     gone.overwritten.note(pages, lsn, record)?;
     make(pages, lsn, record);
     Ok(())
+}
+
+// Whether the deed in a record, if there is one, is read by its level.
+fn can_be_read<B: Level>(levels: &StoreLevels<B>, record: &Record) -> bool
+    ensures { IsTrue result ↔ CanBeRead «record».now }
+{
+    match record {
+        Record::OpEnd { level, deed, .. } => levels.reads(*level, deed.as_slice()),
+        _ => true,
+    }
 }
 
 /// Makes what a record writes, where its page is older. False where the record doesn't fit the store.

@@ -309,7 +309,7 @@ fn restart_log<P: PageDevice + Drop, L: LogDevice + Drop, B: Level>(
         → MayBeShut (IsLeft pages.sizes (image_in pages.images) older) pages.sizes older stopped.refusal (L.faults log)
         (L.faults stopped.log)) }
 {
-    match go_through(alloc, &mut pages, log) {
+    match go_through(alloc, &mut pages, log, &levels) {
         Ok((mut log, mut gone)) => match go_on(alloc, &mut pages, &mut log, &mut gone, levels) {
             Ok((told, report)) => {
                 let cells = pages.used_cells();
@@ -339,10 +339,11 @@ fn restart_log<P: PageDevice + Drop, L: LogDevice + Drop, B: Level>(
 }
 
 // Reads a log and repeats history on the pages, record by record.
-fn go_through<P: PageDevice + Drop, L: LogDevice + Drop>(
+fn go_through<P: PageDevice + Drop, L: LogDevice + Drop, B: Level>(
     alloc: Global,
     pages: &mut Pages<P>,
     log: L,
+    levels: &StoreLevels<B>,
 ) -> Result<(Log<L>, Gone), rq_log::Stopped<L>>
     ensures log { IfOk result (λ read. (read.0.forced ≡ 0) × (read.0.pending ≡ 0) × (read.0.reserved ≡ 0)
         × (read.0.failed ≡ false) × (read.0.settled ≡ log)) }
@@ -361,7 +362,7 @@ fn go_through<P: PageDevice + Drop, L: LogDevice + Drop>(
     ensures device { pages.new.device ≡ pages.old.device }
 {
     match LogReader::new(alloc, log) {
-        Ok(mut reader) => match repeat_history(alloc, pages, &mut reader) {
+        Ok(mut reader) => match repeat_history(alloc, pages, &mut reader, levels) {
             Ok(gone) => {
                 reader.shows_read();
                 Ok((reader.into_log(alloc), gone))

@@ -1,4 +1,4 @@
--- What is asked by what is kept is that the record follows the rules.
+-- What is asked by what is kept is that the record follows the rules, where its deed is read.
 use Rattle.std.proofs.Common.{◌≡◌, ◌↔◌, ℕ, ◌+◌, Bool, true, false, not, ◌&&◌, ◌||◌, List, [], ◌∷◌, inl, inr, refl, sym, ◌∙◌, ap, subst, arith}
 use Rattle.std.proofs.lemmas.Bool.{cases_Bool, false≢true, true≢false, false_from_ne_true, or_parts}
 use Rattle.rq_model.specs.declared.txn.Txn.{Txn}
@@ -15,7 +15,7 @@ use Rattle.rq_lost.specs.declared.dues.Due.{Due}
 use Rattle.rq_lost.specs.Dues.{dues}
 use Rattle.rq_lost.specs.Numbers.{numbers}
 use Rattle.rq_rules.specs.Kept.{Counts, IsKept, Passes, ended, has_count}
-use Rattle.rq_rules.specs.Rules.{FollowAll, FollowsRules, ends_op, greatest_number, has_op, has_op_end, op_of}
+use Rattle.rq_rules.specs.Rules.{CanBeRead, FollowAll, FollowsRules, ends_op, greatest_number, has_op, has_op_end, op_of}
 use Rattle.rq_rules.proofs.Ends.{ended_kept}
 use Rattle.rq_rules.proofs.Operations.{number_kept, unfinished_kept, within_greatest}
 use Rattle.rq_rules.proofs.Owed.{due_kept}
@@ -61,10 +61,10 @@ module _ (log : List Record) (f : FollowAll log) where
 
   -- by the log itself
   abbrev pub IsJudged : Record → Type 0
-  IsJudged r = InOrder (r ∷ log) → Passes (analysis log) (dues log) (numbers log) (ended log) r ↔ FollowsRules log r
+  IsJudged r = InOrder (r ∷ log) → CanBeRead r → Passes (analysis log) (dues log) (numbers log) (ended log) r ↔ FollowsRules log r
 
   judged : (r : Record) → IsJudged r
-  judged (records.PageOp t n page slot before after) w = (to, from) where
+  judged (records.PageOp t n page slot before after) w can = (to, from) where
     to : Passes (analysis log) (dues log) (numbers log) (ended log) (records.PageOp t n page slot before after) → FollowsRules log (records.PageOp t n page slot before after)
     to p =
         let run = runs t w.1 w.0.1 p.0 in
@@ -85,38 +85,38 @@ module _ (log : List Record) (f : FollowAll log) where
         | inr off ↦ inr (q.numbered off ∙ ap (λ (k : ℕ). k + 1) (sym (number_kept log t q.running)))
       ],
     )
-  judged (records.PageUndo t n undone page slot after) w = (
+  judged (records.PageUndo t n undone page slot after) w can = (
     λ p. let k = open_parts (operation t n) p.1 in record { running = runs t w.1 w.0.1 p.0; going = k.1; begun = k.0; numbered = tt; undoes = ap first (sym (spots_kept log f (operation t n) k.1)) ∙ p.2; takes_back = tt; reads = tt },
     λ q. (running t w.1 w.0.1 q.running, open_from (operation t n) q.begun q.going, ap first (spots_kept log f (operation t n) q.going) ∙ q.undoes),
   )
-  judged (records.OpEnd t n level deed) w = (
-    λ p. let k = open_parts (operation t n) p.1 in record { running = runs t w.1 w.0.1 p.0; going = k.1; begun = k.0; numbered = tt; undoes = tt; takes_back = tt; reads = (p.2, p.3) },
-    λ q. (running t w.1 w.0.1 q.running, open_from (operation t n) q.begun q.going, q.reads.0, q.reads.1),
+  judged (records.OpEnd t n level deed) w can = (
+    λ p. let k = open_parts (operation t n) p.1 in record { running = runs t w.1 w.0.1 p.0; going = k.1; begun = k.0; numbered = tt; undoes = tt; takes_back = tt; reads = can },
+    λ q. (running t w.1 w.0.1 q.running, open_from (operation t n) q.begun q.going),
   )
-  judged (records.OpVoid t n) w = (
+  judged (records.OpVoid t n) w can = (
     λ p. let k = open_parts (operation t n) p.1 in record { running = runs t w.1 w.0.1 p.0; going = k.1; begun = k.0; numbered = tt; undoes = tt; takes_back = tt; reads = tt },
     λ q. (running t w.1 w.0.1 q.running, open_from (operation t n) q.begun q.going),
   )
-  judged (records.CompEnd t n undone) w = (
+  judged (records.CompEnd t n undone) w can = (
     λ p. let k = open_parts (operation t n) p.1 in let run = runs t w.1 w.0.1 p.0 in record { running = run; going = k.1; begun = k.0; numbered = tt; undoes = tt; takes_back = sym (due_kept log f t run) ∙ p.2; reads = tt },
     λ q. (running t w.1 w.0.1 q.running, open_from (operation t n) q.begun q.going, due_kept log f t q.running ∙ q.takes_back),
   )
-  judged (records.Commit t) w = (
+  judged (records.Commit t) w can = (
     λ p. record { running = runs t w.1 w.0.1 p; going = tt; begun = tt; numbered = tt; undoes = tt; takes_back = tt; reads = tt },
     λ q. running t w.1 w.0.1 q.running,
   )
-  judged (records.AbortEnd t) w = (
+  judged (records.AbortEnd t) w can = (
     λ p. record { running = runs t w.1 w.0.1 p; going = tt; begun = tt; numbered = tt; undoes = tt; takes_back = tt; reads = tt },
     λ q. running t w.1 w.0.1 q.running,
   )
-  judged (records.Restart i) w = (
+  judged (records.Restart i) w can = (
     λ p. record { running = tt; going = tt; begun = tt; numbered = tt; undoes = tt; takes_back = tt; reads = tt },
     λ q. tt,
   )
 
-pub judged_by : (log : List Record) (r : Record) (h : Analysis) (ds : List Due) (os : List Sub) (ns : Counts) → IsKept log h ds os ns → FollowAll log → InOrder (r ∷ log) → Passes h ds os ns r ↔ FollowsRules log r
-judged_by log r h ds os ns k f w =
-    let a : Passes (analysis log) (dues log) (numbers log) ns r ↔ FollowsRules log r = subst (λ (x : Counts). Passes (analysis log) (dues log) (numbers log) x r ↔ FollowsRules log r) (sym k.ended) (judged log f r w) in
+pub judged_by : (log : List Record) (r : Record) (h : Analysis) (ds : List Due) (os : List Sub) (ns : Counts) → IsKept log h ds os ns → FollowAll log → InOrder (r ∷ log) → CanBeRead r → Passes h ds os ns r ↔ FollowsRules log r
+judged_by log r h ds os ns k f w can =
+    let a : Passes (analysis log) (dues log) (numbers log) ns r ↔ FollowsRules log r = subst (λ (x : Counts). Passes (analysis log) (dues log) (numbers log) x r ↔ FollowsRules log r) (sym k.ended) (judged log f r w can) in
     let b : Passes (analysis log) (dues log) os ns r ↔ FollowsRules log r = subst (λ (x : List Sub). Passes (analysis log) (dues log) x ns r ↔ FollowsRules log r) (sym k.numbers) a in
     let d : Passes (analysis log) ds os ns r ↔ FollowsRules log r = subst (λ (x : List Due). Passes (analysis log) x os ns r ↔ FollowsRules log r) (sym k.dues) b in
     subst (λ (x : Analysis). Passes x ds os ns r ↔ FollowsRules log r) (sym k.history) d

@@ -16,6 +16,7 @@ use Rattle.rq_page.specs.Slots.{Slot, IsSlotOf, held_in, slot_bytes}
 use Rattle.rq_page.proofs.Spellings.{slot_is_spelling}
 use Rattle.rq_views.specs.Log.{Item, IsNewest, Places, Write, same_op, state_of}
 use Rattle.rq_views.specs.Log.Item.{PageOp, PageUndo, OpEnd, OpVoid, CompEnd, Commit, AbortEnd, Restart}
+use Rattle.rq_level.specs.Meaning.{meaning_of}
 use Rattle.rq_views.specs.Plans.{IsPlan, Turn}
 use Rattle.rq_views.specs.Plans.Turn.{Did, Undid}
 use Rattle.rq_views.specs.Items.{items, layout_of, operation, told_deed}
@@ -39,6 +40,11 @@ use Rattle.rq_rules.proofs.Operations.{greatest_same, has_op_end_same, has_op_sa
 use Rattle.rq_rules.proofs.Owed.{dues_kept}
 use Rattle.rq_rules.proofs.Owed as owed
 use Rattle.rq_rules.proofs.Writes.{spots_kept}
+
+-- the chain level reads its deeds
+chain_reads : (level : ℕ) (deed : List ℕ) → level ≡ 1 → is_some (deed_in deed) ≡ true → (meaning_of level).reads deed ≡ true
+unfolding meaning_of
+chain_reads level deed one some = ap (λ (n : ℕ). (meaning_of n).reads deed) one ∙ some
 
 way : (l : Places) (log : List Item) (o : Sub) → began o log ≡ true → over o log ≡ false → under_way o log ≡ true
 way l log o b g = rw (b, g) refl
@@ -190,7 +196,7 @@ module _ (z : Sizes) (log : List Record) (w : IsWhole z log) (f : FollowAll log)
         numbered = tt;
         undoes = tt;
         takes_back = tt;
-        reads = (v.reads.0.0, ap is_some v.reads.0.1.1);
+        reads = chain_reads level deed v.reads.0.0 (ap is_some v.reads.0.1.1);
       }
   next_follows (records.OpVoid t n) v =
       let k = v.legal.0 in

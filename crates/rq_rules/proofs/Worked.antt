@@ -1,12 +1,25 @@
 -- The worked records.
-use Rattle.std.proofs.Common.{◌≡◌, ℕ, List, [], ◌∷◌, Some, refl, ap, arith}
+use Rattle.std.proofs.Common.{◌≡◌, ℕ, true, List, [], ◌∷◌, Some, refl, ap, arith}
 use Rattle.std.proofs.lemmas.Bool.{false≢true, true≢false}
 use Rattle.rq_model.specs.declared.record.Record.TheVariants.{PageOp, PageUndo, Restart}
+use Rattle.rq_level.specs.Meaning.{meaning_of}
 use Rattle.rq_views.specs.Items.{operation}
 use Rattle.rq_undone.specs.declared.history.Spot.{Spot}
 use Rattle.rq_undone.specs.Analysis.{spot_at}
 use Rattle.rq_rules.specs.Rules.{FollowAll}
-use Rattle.rq_rules.specs.Worked.{RulesAreJudged, aborted, begun, committed, done, half_undone, new, old, t1, taken_back, taking_back, voided}
+use Rattle.rq_rules.specs.Worked.{RulesAreJudged, aborted, begun, close, committed, done, half_undone, new, old, t1, taken_back, taking_back, voided}
+
+closing : (meaning_of 1).reads close ≡ true
+unfolding meaning_of
+closing = refl
+
+no_level : (meaning_of 2).reads close ≡ true → ⊥
+unfolding meaning_of
+no_level e = false≢true e
+
+no_close : (meaning_of 1).reads (7 ∷ []) ≡ true → ⊥
+unfolding meaning_of
+no_close e = false≢true e
 
 begins : FollowAll begun
 begins = (record { running = refl; going = refl; begun = tt; numbered = λ off. absurd (true≢false off); undoes = tt; takes_back = tt; reads = tt }, first_write) where
@@ -17,7 +30,7 @@ begins = (record { running = refl; going = refl; begun = tt; numbered = λ off. 
   first_write = (record { running = refl; going = refl; begun = tt; numbered = λ off. refl; undoes = tt; takes_back = tt; reads = tt }, restarts)
 
 ends : FollowAll done
-ends = (record { running = refl; going = refl; begun = refl; numbered = tt; undoes = tt; takes_back = tt; reads = (refl, refl) }, begins)
+ends = (record { running = refl; going = refl; begun = refl; numbered = tt; undoes = tt; takes_back = tt; reads = closing }, begins)
 
 ends_committed : FollowAll committed
 ends_committed = (record { running = refl; going = tt; begun = tt; numbered = tt; undoes = tt; takes_back = tt; reads = tt }, ends)
@@ -83,8 +96,8 @@ rules_judged = record {
   takes_a_write_back = λ h. (let e = h.takes_back in cc);
   takes_back_twice = λ h. (let e = h.takes_back in cc);
   takes_back_of_another = λ h. (let e = h.takes_back in cc);
-  another_level = λ h. (let e : 2 ≡ 1 = h.reads.0 in absurd (omega (arith, e)));
-  no_deed = λ h. false≢true h.reads.1;
+  another_level = λ h. no_level h.reads;
+  no_deed = λ h. no_close h.reads;
   keeps_one = refl;
   keeps_second = refl;
   keeps_both = refl;

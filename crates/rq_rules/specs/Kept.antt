@@ -6,8 +6,7 @@ use Rattle.std.specs.BTreeSet.{insert_key}
 use Rattle.rq_model.specs.declared.txn.Sub.{Sub}
 use Rattle.rq_model.specs.declared.record.Record.{Record}
 use Rattle.rq_model.specs.declared.record.Record.TheVariants.{PageOp, PageUndo, OpEnd, OpVoid, CompEnd, Commit, AbortEnd, Restart}
-use Rattle.rq_model.specs.Words.{first, has_number, is_some}
-use Rattle.rq_model.specs.Deeds.{deed_in}
+use Rattle.rq_model.specs.Words.{first, has_number}
 use Rattle.rq_views.specs.Items.{operation}
 use Rattle.rq_undone.specs.Analysis.{Analysis, analysis, has_sub, spot_at, spot_of}
 use Rattle.rq_lost.specs.declared.dues.Due.{Due}
@@ -63,7 +62,7 @@ abbrev pub lsn_due : Option Due → Option ℕ
 lsn_due None = None
 lsn_due (Some d) = Some d.lsn
 
--- what is asked of a record by what is kept
+-- what is asked of a record by what is kept, but that its deed is read
 abbrev pub Passes : Analysis → List Due → List Sub → Counts → Record → Type 0
 Passes h ds os c (PageOp t n page slot before after) =
     (has_count t.count c ≡ false)
@@ -72,9 +71,7 @@ Passes h ds os c (PageUndo t n undone page slot after) =
     (has_count t.count c ≡ false)
     × (has_sub (operation t n) h.unfinished ≡ true)
     × (first (filter (spot_of (operation t n)) h.spots) ≡ Some (spot_at undone (operation t n) page slot after))
-Passes h ds os c (OpEnd t n level deed) =
-    (has_count t.count c ≡ false)
-    × (has_sub (operation t n) h.unfinished ≡ true) × (level ≡ 1) × (is_some (deed_in deed) ≡ true)
+Passes h ds os c (OpEnd t n level deed) = (has_count t.count c ≡ false) × (has_sub (operation t n) h.unfinished ≡ true)
 Passes h ds os c (OpVoid t n) = (has_count t.count c ≡ false) × (has_sub (operation t n) h.unfinished ≡ true)
 Passes h ds os c (CompEnd t n undone) =
     (has_count t.count c ≡ false)

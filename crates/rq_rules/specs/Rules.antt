@@ -5,11 +5,11 @@ use Rattle.rq_model.specs.declared.txn.Txn.{Txn}
 use Rattle.rq_model.specs.declared.txn.Sub.{Sub}
 use Rattle.rq_model.specs.declared.record.Record.{Record}
 use Rattle.rq_model.specs.declared.record.Record.TheVariants.{PageOp, PageUndo, OpEnd, OpVoid, CompEnd}
-use Rattle.rq_model.specs.Words.{first, is_some, same_txn}
+use Rattle.rq_model.specs.Words.{first, same_txn}
 use Rattle.rq_model.specs.Content.{has_end}
-use Rattle.rq_model.specs.Deeds.{deed_in}
 use Rattle.rq_model.specs.Incarnations.{txn_of}
 use Rattle.rq_model.specs.Unended.{any_record}
+use Rattle.rq_level.specs.Meaning.{meaning_of}
 use Rattle.rq_views.specs.Log.{same_op}
 use Rattle.rq_views.specs.Items.{operation}
 use Rattle.rq_views.specs.Legal.{is_of}
@@ -113,7 +113,7 @@ TakesBackNewest log (CompEnd t n undone) = first (left_of t log) ≡ Some undone
 TakesBackNewest log _ = Unit {0}
 
 abbrev pub CanBeRead : Record → Type 0
-CanBeRead (OpEnd t n level deed) = (level ≡ 1) × (is_some (deed_in deed) ≡ true)
+CanBeRead (OpEnd t n level deed) = (meaning_of level).reads deed ≡ true
 CanBeRead _ = Unit {0}
 
 -- What a record has to be behind a log, besides that it is of the store and of the running incarnation.
@@ -131,7 +131,7 @@ pub record FollowsRules (log : List Record) (r : Record) : Type 0 where
   pub undoes : UndoesNewest log r
   -- a CompEnd names the newest OpEnd of its transaction that no CompEnd has named
   pub takes_back : TakesBackNewest log r
-  -- an OpEnd is of the chain level, and its deed can be read
+  -- the level that an OpEnd names reads its deed
   pub reads : CanBeRead r
 
 -- each record of the log is that

@@ -1,39 +1,42 @@
 //! Whether the next record follows the rules, by what is kept of those before it.
-ghost use Rattle.std.specs.Prelude.{◌≡◌, ◌↔◌, ◌+◌, ℕ, List, IsTrue, ◌∷◌, Some, true};
+ghost use Rattle.std.specs.Prelude.{◌≡◌, ◌↔◌, ◌+◌, ℕ, List, IsTrue, ◌∷◌, Some};
 ghost use Rattle.std.specs.List.{filter};
 ghost use Rattle.rq_model.specs.declared.record.Record.{Record as AnyRecord};
-ghost use Rattle.rq_model.specs.Deeds.{deed_in};
 ghost use Rattle.rq_model.specs.Incarnations.{InOrder};
-ghost use Rattle.rq_model.specs.Words.{first, is_some};
+ghost use Rattle.rq_model.specs.Words.{first};
 ghost use Rattle.rq_undone.specs.Analysis.{spot_at, spot_of};
 ghost use Rattle.rq_lost.specs.Dues.{due_of};
 ghost use Rattle.rq_lost.specs.Numbers.{number_of};
 ghost use Rattle.rq_rules.specs.Kept.{IsKept, Passes, lsn_due};
-ghost use Rattle.rq_rules.specs.Rules.{FollowAll, FollowsRules};
+ghost use Rattle.rq_rules.specs.Rules.{CanBeRead, FollowAll, FollowsRules};
 
 use crate::ended::Ended;
 use rq_lost::{Dues, Numbers};
-use rq_model::record::{DeedBytes, Record, Slot};
+use rq_model::record::{Record, Slot};
 use rq_model::txn::{Lsn, Sub, Txn};
-use rq_record::decode_deed;
 use rq_undone::History;
 
 /// Whether the record may stand behind the log of which these are kept, whose records followed the rules. It is the next
-/// of its incarnation.
+/// of its incarnation, and it is told whether the deed in it, if there is one, is read by its level.
 pub fn follows(
     history: &History,
     dues: &Dues,
     numbers: &Numbers,
     ended: &Ended,
+    reads: bool,
     record: &Record,
 ) -> bool
     ensures { (log : List AnyRecord) → IsKept log history.now dues.now numbers.now ended.now → FollowAll log
-        → InOrder («record».now ∷ log) → (IsTrue result ↔ FollowsRules log «record».now) }
+        → InOrder («record».now ∷ log) → (IsTrue reads ↔ CanBeRead «record».now)
+        → (IsTrue result ↔ FollowsRules log «record».now) }
 {
+    if !reads {
+        return false;
+    }
     passes(history, dues, numbers, ended, record)
 }
 
-// By what is kept alone.
+// By what is kept alone, but for its deed.
 fn passes(history: &History, dues: &Dues, numbers: &Numbers, ended: &Ended, record: &Record) -> bool
     ensures { IsTrue result ↔ Passes history.now dues.now numbers.now ended.now «record».now }
 {
@@ -54,15 +57,8 @@ fn passes(history: &History, dues: &Dues, numbers: &Numbers, ended: &Ended, reco
                 && history.is_unfinished(sub(txn, *operation))
                 && undoes_newest(history, sub(txn, *operation), *undone, *page, *slot, after)
         }
-        Record::OpEnd {
-            txn,
-            operation,
-            level,
-            deed,
-        } => !ended.has(*txn)
-            && history.is_unfinished(sub(txn, *operation))
-            && *level == 1
-            && can_be_read(deed),
+        Record::OpEnd { txn, operation, .. } => !ended.has(*txn)
+            && history.is_unfinished(sub(txn, *operation)),
         Record::OpVoid { txn, operation } => !ended.has(*txn)
             && history.is_unfinished(sub(txn, *operation)),
         Record::CompEnd {
@@ -129,11 +125,4 @@ fn takes_back_newest(dues: &Dues, txn: Txn, undone: Lsn) -> bool
         Some(due) => due.lsn == undone,
         None => false,
     }
-}
-
-// Whether these are the bytes of a deed.
-fn can_be_read(deed: &DeedBytes) -> bool
-    ensures { IsTrue result ↔ (is_some (deed_in deed.now) ≡ true) }
-{
-    decode_deed(deed.as_slice()).is_some()
 }

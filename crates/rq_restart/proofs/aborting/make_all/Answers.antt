@@ -9,6 +9,7 @@ use Rattle.rq_views.specs.Stored.{IsStoreSlot}
 use Rattle.rq_planner.specs.Answered.{KnowsCells}
 use Rattle.rq_level.specs.Writes.{IsSlotWrite}
 use Rattle.rq_level.specs.declared.writes.SlotWrite.{SlotWrite}
+use Rattle.rq_rules.specs.Rules.{CanBeRead}
 use Rattle.rq_restart.specs.Aborting.{AbortStops, HasGoneOn, IsMaking, IsShownWithin, with_writes}
 use Rattle.rq_restart.specs.Repeating.{Belongs, IsRepeated, paged}
 use Rattle.rq_restart.specs.Undoing.{StepStops}
@@ -95,3 +96,6 @@ returns-in_err-append-clause-stops g c =
     let h : AbortStops z (IsMaking d.txn n ws first) first c.args.pages.now before refusal =
     stops_join z (with_writes d.txn n (take i ws) first ≡ log) first log c.args.pages.now old before here kept.gone (IsMaking d.txn n ws first) (IsMaking d.txn n ws first) (λ m l k. k) refusal now in
     search (rules, h)
+
+pub append-requires-clause-readable : goal.append-requires-clause-readable
+append-requires-clause-readable g c = subst CanBeRead (sym c.written-undo.ensures) tt

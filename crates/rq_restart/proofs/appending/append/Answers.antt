@@ -18,7 +18,7 @@ returns-then-not-is_next-clause-stops g c =
       λ b.
           let k = belongs_then z z log c.args.undo.now refl (c.last-lsn.result + 1) (ap (λ n. n + 1) c.last-lsn.ensures) (paged c.args.pages.now) b in
           elim c.then-not-is_next.branch [
-            | then-not-is_next-via-then-not-is_next w ↦ absurd (false≢true (rw w.if-not-is_next.true at ((c.in_ok-is_next.ensures.next log c.requires.found).1 k.0)))
+            | then-not-is_next-via-then-not-is_next w ↦ absurd (false≢true (rw w.if-not-is_next.true at ((c.in_ok-is_next.ensures.next log c.requires.found (λ y. c.requires.readable, λ q. refl)).1 k.0)))
             | then-not-is_next-via-else-not-is_next+then-not-repeat w ↦ w.repeat.ensures.refused w.if-not-repeat.true k.1
           ],
     )
@@ -28,12 +28,12 @@ returns-clause-repeated g c =
     let z = c.args.pages.now.sizes in
     let log = c.args.log.now.records in
     one_repeated z z log c.args.undo.now refl (c.last-lsn.result + 1) (ap (λ n. n + 1) c.last-lsn.ensures) (paged c.args.pages.now) (paged c.repeat.new.pages)
-    ((c.in_ok-is_next.ensures.next log c.requires.found).0 c.if-not-is_next.false) (c.if-not-repeat.ensures.checked refl) (c.if-not-repeat.ensures.redone refl) (c.if-not-repeat.ensures.marked refl)
+    ((c.in_ok-is_next.ensures.next log c.requires.found (λ y. c.requires.readable, λ q. refl)).0 c.if-not-is_next.false) (c.if-not-repeat.ensures.checked refl) (c.if-not-repeat.ensures.redone refl) (c.if-not-repeat.ensures.marked refl)
 
 pub returns-clause-found : goal.returns-clause-found
 returns-clause-found g c =
     let log = c.args.log.now.records in
     let place = ap (λ n. n + 1) c.last-lsn.ensures in
-    let next = (c.in_ok-is_next.ensures.next log c.requires.found).0 c.if-not-is_next.false in
+    let next = (c.in_ok-is_next.ensures.next log c.requires.found (λ y. c.requires.readable, λ q. refl)).0 c.if-not-is_next.false in
     let grown : c.append.new.self.records ≡ c.args.undo.now ∷ log = search rules in
     subst (AreFindings c.note.new.self) (sym grown) (found_next c.args.findings.now c.note.new.self log c.args.undo.now (c.last-lsn.result + 1) place c.requires.found next c.in_ok-is_next.ensures.noted)

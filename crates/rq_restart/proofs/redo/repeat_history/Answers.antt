@@ -14,10 +14,10 @@ pub loop-gone-preserved : goal.loop-gone-preserved
 loop-gone-preserved g c =
     let z = c.args.pages.now.sizes in
     let front = c.loop-gone.reader.records in
-    let r = c.in-Some.record in
+    let r = c.next_into.new.into in
     let so_far = c.loop-gone.invariant in
-    let grown : c.next.new.self.records ≡ r ∷ front = rw c.in-Some.is at c.in_ok-record.ensures.some in
-    let size : length c.next.new.self.records ≡ length front + 1 = (let e = ap length grown in omega (arith, e)) in
+    let grown : c.next_into.new.self.records ≡ r ∷ front = rw c.if-branch.true at c.in_ok-next_into.ensures.some in
+    let size : length c.next_into.new.self.records ≡ length front + 1 = (let e = ap length grown in omega (arith, e)) in
     let place : c.last.result ≡ length front + 1 = c.last.ensures ∙ size in
     let made = c.in-Ok.ensures in
     let one : IsRepeated z front r (paged c.loop-gone.pages) (paged c.repeat_next.new.pages) = subst (λ (y : Sizes). IsRepeated y front r (paged c.loop-gone.pages) (paged c.repeat_next.new.pages)) so_far.sizes (made.repeated front place so_far.found) in
@@ -28,9 +28,9 @@ loop-gone-preserved g c =
       found = subst (AreFindings c.repeat_next.new.gone.findings) (sym grown) (made.found front place so_far.found);
       repeated = subst (λ (l : List Record). Repeats z l (paged c.args.pages.now) (paged c.repeat_next.new.pages)) (sym grown) (paged c.loop-gone.pages, so_far.repeated, one);
       kept = subst (λ n. AreKept z n (paged c.args.pages.now) (paged c.repeat_next.new.pages) c.repeat_next.new.gone.overwritten.numbers.items) c.last.ensures kept;
-      reading = c.next.ensures.reading;
-      first = c.next.ensures.first ∙ so_far.first;
-      counted = c.in_ok-record.ensures.cause ∙ so_far.counted;
+      reading = c.next_into.ensures.reading;
+      first = c.next_into.ensures.first ∙ so_far.first;
+      counted = c.in_ok-next_into.ensures.cause ∙ so_far.counted;
       sizes = c.repeat_next.ensures.sizes ∙ so_far.sizes;
       device = c.repeat_next.ensures.device ∙ so_far.device;
     }
@@ -40,14 +40,14 @@ returns-in-Err-clause-stopped g c =
     let l = g.L.LogDevice in
     let z = c.args.pages.now.sizes in
     let front = c.loop-gone.reader.records in
-    let r = c.in-Some.record in
+    let r = c.next_into.new.into in
     let so_far = c.loop-gone.invariant in
-    let grown : c.next.new.self.records ≡ r ∷ front = rw c.in-Some.is at c.in_ok-record.ensures.some in
-    let size : length c.next.new.self.records ≡ length front + 1 = (let e = ap length grown in omega (arith, e)) in
+    let grown : c.next_into.new.self.records ≡ r ∷ front = rw c.if-branch.true at c.in_ok-next_into.ensures.some in
+    let size : length c.next_into.new.self.records ≡ length front + 1 = (let e = ap length grown in omega (arith, e)) in
     let place : c.last.result ≡ length front + 1 = c.last.ensures ∙ size in
-    let now = c.next.ensures.reading in
-    let first = c.next.new.self.first in
-    let begins : l.honest c.next.new.self.device → BeginsWith (r ∷ front) (l.seen first) = λ h. subst (λ (rs : List Record). BeginsWith rs (l.seen first)) grown (now.begins h) in
-    let counted : l.faults c.next.new.self.device ≡ l.faults first = c.in_ok-record.ensures.cause ∙ so_far.counted ∙ ap l.faults (sym (c.next.ensures.first ∙ so_far.first)) in
+    let now = c.next_into.ensures.reading in
+    let first = c.next_into.new.self.first in
+    let begins : l.honest c.next_into.new.self.device → BeginsWith (r ∷ front) (l.seen first) = λ h. subst (λ (rs : List Record). BeginsWith rs (l.seen first)) grown (now.begins h) in
+    let counted : l.faults c.next_into.new.self.device ≡ l.faults first = c.in_ok-next_into.ensures.cause ∙ so_far.counted ∙ ap l.faults (sym (c.next_into.ensures.first ∙ so_far.first)) in
     let not : NotRepeated z front r (paged c.loop-gone.pages) c.in-Err.refusal = subst (λ (y : Sizes). NotRepeated y front r (paged c.loop-gone.pages) c.in-Err.refusal) so_far.sizes (c.in-Err.ensures.not front place so_far.found) in
-    stopped_next l z (paged c.args.pages.now) first c.next.new.self.device front r (paged c.loop-gone.pages) c.in-Err.refusal (subst AreSpelled grown now.are_spelled) begins so_far.repeated now.read counted not
+    stopped_next l z (paged c.args.pages.now) first c.next_into.new.self.device front r (paged c.loop-gone.pages) c.in-Err.refusal (subst AreSpelled grown now.are_spelled) begins so_far.repeated now.read counted not
