@@ -1,5 +1,6 @@
 //! A store that is shared and closed at once.
 ghost use Rattle.std.specs.Prelude.{◌≡◌};
+ghost use Rattle.rq_shared.specs.Begun.{begins_with};
 ghost use Rattle.rq_shared.specs.Entries.{WasSound};
 
 use crate::stores::{small_engine, told};
@@ -102,6 +103,7 @@ fn closed<G: Sharing>(
     requires name { (blank.name ≡ G.name) × (taking.name ≡ G.taking) }
     requires parts { (blank.parts ≡ G.parts) × (blank.parts ≡ 1024) × (taking.parts ≡ 1024) }
     requires sound { WasSound ⟦<MemPages as PageDevice>⟧ ⟦<MemLog as LogDevice>⟧ G.premise engine }
+    requires begins { begins_with engine ≡ G.begins }
 {
     let shared = Shared::<MemPages, MemLog, StoreLevel, G>::new(alloc, engine, blank, taking);
     shared.close(Vec::new(alloc), &[])
