@@ -2,6 +2,12 @@
 #![tactic(auto)]
 
 #[cfg(test)]
+mod connection;
+#[cfg(test)]
+mod gates;
+#[cfg(test)]
+mod shared;
+#[cfg(test)]
 mod stores;
 #[cfg(test)]
 mod stream;

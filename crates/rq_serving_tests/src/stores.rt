@@ -1,10 +1,12 @@
 //! A store for tests, and what it holds once a session is over.
 use rq_disk::{CallKind, LogDevice, MemLog, MemPages, Mishap, PageDevice, Switch};
 use rq_engine::engine::Engine;
+use rq_engine::event::Reply;
 use rq_levels::{StoreLevel, levels_of_store};
 use rq_page::layout::Layout;
 use rq_restart::format::format;
 use rq_restart::restart::restart;
+use rq_shared::kept::AuditEntry;
 use std::alloc::Global;
 
 /// A store of one directory and one cell page over devices in memory, formatted and opened.
@@ -58,4 +60,12 @@ pub fn told<P: PageDevice + Drop, L: LogDevice + Drop>(
     }
     let first = groups.first()?;
     Some((first.sent, first.received, others == first.sent))
+}
+
+/// Whether the last of these calls ended an abort.
+pub fn has_aborted(audit: &[AuditEntry]) -> bool {
+    match audit.last() {
+        Some(entry) => matches!(entry.reply(), Reply::Aborted),
+        None => false,
+    }
 }

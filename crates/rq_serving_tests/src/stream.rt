@@ -1,19 +1,12 @@
 //! A session over a store in memory: its bytes cut anywhere, faults, and connections that are lost.
-use crate::stores::{failing_engine, small_engine, told};
+use crate::connection::{Connection, Open, connected};
+use crate::stores::{failing_engine, has_aborted, small_engine, told};
 use bytes::BytesMut;
 use rq_disk::{MemLog, MemPages};
 use rq_levels::StoreLevel;
-use rq_model::refusal::NoMemory;
-use rq_model::txn::Lsn;
-use rq_serving::serving::{Came, Serving};
 use rq_shared::kept::Kept;
-use rq_wire::{Answer, Fed, Frames, Request, answer};
-use rq_workers::gate::Gate;
 use rq_workers::kept::KeptSteps;
-use rq_workers::steps::Steps;
-use rq_workers::trail::Trail;
 use std::alloc::{AllocError, Global};
-use std::snapshot::Snapshot;
 use std::sync::Wait;
 use std::test::Fail;
 
@@ -75,194 +68,43 @@ const FAILED_TWICE: [u8; 27] = [
     0, 0x11, 0x81, 0, 0, 0, 0, 0, 0, 0, 1, 0, 0, 0, 0, 0, 0, 0, 1, 0, 2, 0xff, 2, 0, 2, 0xff, 2,
 ];
 
-/// Lets its worker through.
-#[derive(Drop)]
-struct Open {
-    answers: Snapshot<Trail<(u32, bool)>>,
-}
-
-impl Gate for Open {
-    ghost answers = { λ gate. gate.answers.value };
-
-    fn pass(&mut self, point: u32) -> bool {
-        Trail::note(&mut self.answers, &(point, true));
-        true
-    }
-}
-
 type Store = KeptSteps<MemPages, MemLog, StoreLevel>;
 
-/// A connection: its bytes, its session over a store, and what was written to it.
-#[derive(Drop)]
-struct Connection<S: Steps> {
-    frames: Frames,
-    serving: Serving<Open, S>,
-    written: BytesMut,
-    is_over: bool,
-}
-
-// A connection to these calls of a store.
-fn connected<S: Steps>(alloc: Global, steps: S) -> Connection<S> {
-    let gate = Open {
-        answers: Trail::empty(),
-    };
-    Connection {
-        frames: Frames::new(alloc),
-        serving: Serving::new(gate, steps),
-        written: BytesMut::new(alloc),
-        is_over: false,
-    }
-}
-
-// The functions that follow promise nothing, and know of no store: so a test of many calls is checked fast.
-
-fn feed(frames: &mut Frames, piece: &[u8]) -> Result<Fed, NoMemory> {
-    frames.feed(piece)
-}
-
-fn write(one: &Answer, out: &mut BytesMut) -> Result<(), NoMemory> {
-    answer(one, out)
-}
-
-fn request<S: Steps, R: Wait>(rt: &R, serving: &mut Serving<Open, S>, request: Request) -> Came {
-    serving.request(rt, request)
-}
-
-fn ask_receipt<S: Steps, R: Wait>(rt: &R, serving: &mut Serving<Open, S>) -> Came {
-    serving.ask_receipt(rt)
-}
-
-// Whether the session has ended once its connection is lost.
-fn lose<S: Steps, R: Wait>(rt: &R, serving: &mut Serving<Open, S>) -> bool {
-    matches!(serving.lose(rt), Came::Ended)
-}
-
-// A force, as a log writer makes one while a commit waits.
-fn force<S: Steps>(serving: &mut Serving<Open, S>) {
-    serving.force();
-}
-
-// The commit that waits for its receipt.
-fn waiting(came: &Came) -> Option<Lsn> {
-    match came {
-        Came::Waits(lsn) => Some(*lsn),
-        _ => None,
-    }
-}
-
-// The answer, where there is one.
-fn answered(came: Came) -> Option<Answer> {
-    match came {
-        Came::Answered(one) => Some(one),
-        _ => None,
-    }
-}
-
-// Serves a request until it is answered. A commit that waits is answered once it was not durable, and then was forced.
-fn served<S: Steps, R: Wait>(
-    rt: &R,
-    serving: &mut Serving<Open, S>,
-    asked: Request,
-) -> Result<Option<Answer>, &'static str> {
-    let came = request(rt, serving, asked);
-    let lsn = waiting(&came);
-    if lsn.is_none() {
-        return Ok(answered(came));
-    }
-    if waiting(&ask_receipt(rt, serving)) != lsn {
-        return Err("answered before its force");
-    }
-    force(serving);
-    Ok(answered(ask_receipt(rt, serving)))
-}
-
-impl<S: Steps> Connection<S> {
-    // Serves what a piece completes.
-    fn take<R: Wait>(&mut self, rt: &R, piece: &[u8]) -> Result<(), Fail> {
-        let fed = feed(&mut self.frames, piece)?;
-        for asked in fed.requests {
-            self.serve(rt, asked)?;
-        }
-        if fed.fault && !self.is_over {
-            self.end(rt);
-        }
-        Ok(())
-    }
-
-    // Serves what these bytes complete, cut here.
-    fn take_cut<R: Wait>(&mut self, rt: &R, stream: &[u8], cut: usize) -> Result<(), Fail> {
-        let first = stream.get(..cut).ok_or("a cut")?;
-        let rest = stream.get(cut..).ok_or("a cut")?;
-        self.take(rt, first)?;
-        self.take(rt, rest)
-    }
-
-    // Serves what they complete, byte by byte.
-    fn take_bytes<R: Wait>(&mut self, rt: &R, stream: &[u8]) -> Result<(), Fail> {
-        for byte in stream {
-            self.take(rt, &[*byte])?;
-        }
-        Ok(())
-    }
-
-    // Serves what they complete, and then the connection has ended.
-    fn take_and_end<R: Wait>(&mut self, rt: &R, stream: &[u8]) -> Result<(), Fail> {
-        self.take(rt, stream)?;
-        self.end(rt);
-        Ok(())
-    }
-
-    // Serves a request, and writes its answer.
-    fn serve<R: Wait>(&mut self, rt: &R, asked: Request) -> Result<(), Fail> {
-        match served(rt, &mut self.serving, asked)? {
-            Some(one) => write(&one, &mut self.written)?,
-            None => self.is_over = true,
-        }
-        Ok(())
-    }
-
-    // The connection has ended, or was at fault.
-    fn end<R: Wait>(&mut self, rt: &R) {
-        self.is_over = lose(rt, &mut self.serving);
-    }
-}
-
-/// What was written to a connection, whether its session is over, and what the store holds: how many messages of the first
-/// sender are committed, how many were received, and whether no other sender has any.
+/// What was written to a connection, whether its session is over, whether the last call of the store ended an abort, and
+/// what it holds: how many messages of the first sender are committed, how many were received, and whether no other sender
+/// has any.
 #[derive(Drop)]
 struct Seen {
     written: BytesMut,
     is_over: bool,
+    has_aborted: bool,
     content: Option<(u64, u64, bool)>,
 }
 
 // What is seen of a connection.
-fn left_by(connection: Connection<Store>) -> Seen {
-    let Connection {
-        frames: _,
-        serving,
-        written,
-        is_over,
-    } = connection;
-    let (_, steps) = serving.into_parts();
-    let content = told(&steps.into_kept().give_back());
+fn left_by(connection: Connection<Open, Store>) -> Seen {
+    let (written, is_over, _, steps) = connection.into_parts();
+    let kept = steps.into_kept();
+    let has_aborted = has_aborted(kept.entries());
+    let content = told(&kept.give_back());
     Seen {
         written,
         is_over,
+        has_aborted,
         content,
     }
 }
 
 // A connection to a store of its own, which was just formatted.
-fn opened(alloc: Global) -> Result<Connection<Store>, &'static str> {
+fn opened(alloc: Global) -> Result<Connection<Open, Store>, &'static str> {
     let steps = KeptSteps::new(Kept::new(alloc, small_engine(alloc)?), 1);
-    Ok(connected(alloc, steps))
+    Ok(connected(alloc, Open::new(), steps))
 }
 
 // A connection to one whose next force fails.
-fn opened_failing(alloc: Global) -> Result<Connection<Store>, &'static str> {
+fn opened_failing(alloc: Global) -> Result<Connection<Open, Store>, &'static str> {
     let steps = KeptSteps::new(Kept::new(alloc, failing_engine(alloc)?), 1);
-    Ok(connected(alloc, steps))
+    Ok(connected(alloc, Open::new(), steps))
 }
 
 // What is seen of a connection that brings these bytes, cut here.
@@ -318,6 +160,7 @@ fn a_fault_aborts_and_is_not_answered(rt: HostRuntime) -> Result<(), Fail> {
             wrote(&seen, &BEGUN_AND_SENT) && seen.is_over,
             "cut at {cut}"
         );
+        assert!(rt; seen.has_aborted, "cut at {cut}");
         assert!(rt; seen.content == Some((0, 0, true)), "cut at {cut}");
     }
     Ok(())
@@ -328,6 +171,7 @@ fn a_fault_aborts_and_is_not_answered(rt: HostRuntime) -> Result<(), Fail> {
 fn a_lost_connection_aborts(rt: HostRuntime) -> Result<(), Fail> {
     let seen = seen_lost(&rt, rt.alloc(), &HALF)?;
     assert!(rt; wrote(&seen, &BEGUN_AND_SENT) && seen.is_over);
+    assert!(rt; seen.has_aborted);
     assert!(rt; seen.content == Some((0, 0, true)));
     Ok(())
 }

@@ -3,4 +3,5 @@ mod Moves
 mod Ties
 mod Worked
 mod Receiving
+mod Leading
 pub mod Crossing

@@ -1,5 +1,6 @@
 pub mod Entries
 pub mod Counts
+pub mod Begun
 pub mod Marks
 pub mod Passes
 pub mod Tied

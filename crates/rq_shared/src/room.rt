@@ -2,6 +2,7 @@
 ghost use Rattle.std.specs.Prelude.{◌≡◌, ◌≢◌, ◌+◌, ℕ, [], ◌∷◌, ◌++◌, length, sum_by};
 ghost use Rattle.rq_engine.specs.Applied.{Applied};
 ghost use Rattle.rq_shared.specs.Calls.{CountsTaken, IsCalled, IsForced, IsTakenOf};
+ghost use Rattle.rq_shared.specs.Begun.{BeginsFrom};
 ghost use Rattle.rq_shared.specs.Entries.{BeginsSound, OneMore, noted};
 
 use crate::kept::{Kept, Stamped, Taken, is_no_memory};
@@ -54,6 +55,7 @@ pub(crate) struct Room<P: PageDevice, L: LogDevice, B: Level, G: Sharing> {
 
 impl<P: PageDevice, L: LogDevice, B: Level, G: Sharing> Model for Room<P, L, B, G> {
     ghost use Rattle.std.specs.Prelude.{◌≡◌, ◌+◌, length};
+    ghost use Rattle.rq_shared.specs.Begun.{BeginsFrom};
     ghost use Rattle.rq_shared.specs.Entries.{Audited, BeginsSound};
 
     ghost Value = { Audited P L };
@@ -61,7 +63,8 @@ impl<P: PageDevice, L: LogDevice, B: Level, G: Sharing> Model for Room<P, L, B, 
     ghost view = { λ r. r.kept };
 
     ghost invariant = { λ r. (r.kept.taken + length r.kept.audit ≡ r.calls.total) × (r.kept.taken ≡ r.taken.total)
-        × BeginsSound P.PageDevice L.LogDevice G.premise r.kept };
+        × BeginsSound P.PageDevice L.LogDevice G.premise r.kept
+        × BeginsFrom P.PageDevice L.LogDevice G.premise G.begins r.kept };
 }
 
 impl<P: PageDevice + Drop, L: LogDevice + Drop, B: Level, G: Sharing> Room<P, L, B, G> {
@@ -69,6 +72,7 @@ impl<P: PageDevice + Drop, L: LogDevice + Drop, B: Level, G: Sharing> Room<P, L,
         requires counted { kept.taken + length kept.audit ≡ calls.total }
         requires taken { kept.taken ≡ taken.total }
         requires sound { BeginsSound P.PageDevice L.LogDevice G.premise kept }
+        requires begun { BeginsFrom P.PageDevice L.LogDevice G.premise G.begins kept }
         ensures { result ≡ kept }
     {
         Room { kept, calls, taken }
@@ -82,6 +86,7 @@ impl<P: PageDevice + Drop, L: LogDevice + Drop, B: Level, G: Sharing> Room<P, L,
         ensures count { result.taken + length result.audit ≡ all.old.amount }
         ensures taken { result.taken ≡ all_taken.old.amount }
         ensures sound { BeginsSound P.PageDevice L.LogDevice G.premise result }
+        ensures begun { BeginsFrom P.PageDevice L.LogDevice G.premise G.begins result }
     {
         let Room {
             kept,

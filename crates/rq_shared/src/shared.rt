@@ -1,6 +1,7 @@
 //! The kept engine under one lock.
 ghost use Rattle.std.specs.Prelude.{◌≡◌, ◌+◌, length, sum_by, IfSome, IfNone};
 ghost use Rattle.rq_shared.specs.Calls.{CountsTaken, IsCalled, IsForced, IsTaken};
+ghost use Rattle.rq_shared.specs.Begun.{BeginsFrom, begins_with};
 ghost use Rattle.rq_shared.specs.Entries.{BeginsSound, Follows, WasSound};
 ghost use Rattle.rq_shared.specs.Receipts.{IsReceiptOf, IsDurable};
 ghost use Rattle.rq_model.specs.Words.{In};
@@ -59,12 +60,13 @@ pub struct Closed<P: PageDevice, L: LogDevice, B: Level> {
 }
 
 impl<P: PageDevice + Drop, L: LogDevice + Drop, B: Level, G: Sharing> Shared<P, L, B, G> {
-    /// Shares an engine, which under the premise of the sharing is sound, where its devices were honest. No pass is given
-    /// out, and the audit is empty. The second ledger counts the entries that are taken.
+    /// Shares an engine, which under the premise of the sharing is sound, where its devices were honest, and with which the
+    /// sharing begins. No pass is given out, and the audit is empty. The second ledger counts the entries that are taken.
     pub fn new(alloc: Global, engine: Engine<P, L, B>, blank: Blank, taking: Blank) -> Self
         requires name { (blank.name ≡ G.name) × (taking.name ≡ G.taking) }
         requires parts { (blank.parts ≡ G.parts) × (blank.parts ≡ 1024) × (taking.parts ≡ 1024) }
         requires sound { WasSound P.PageDevice L.LogDevice G.premise engine }
+        requires begins { begins_with engine ≡ G.begins }
         ensures { result ≡ 0 }
     {
         let (calls, rest) = blank.open::<G>();
@@ -133,9 +135,10 @@ impl<P: PageDevice + Drop, L: LogDevice + Drop, B: Level, G: Sharing> Shared<P, 
     }
 
     /// Ends the sharing, once all passes are back: the audit, with the entries that were taken, has as many entries as
-    /// the passes counted calls, and so many were taken as the passes counted of those. Where the devices were honest, the engine with which the audit begins was sound under
-    /// the premise of the sharing; and where it was sound, those of the receipts that are handed in whose commit and
-    /// acknowledgement the audit has name commits that no crash takes any more.
+    /// the passes counted calls, and so many were taken as the passes counted of those. Where the devices were honest, the
+    /// engine with which the audit begins was sound under the premise of the sharing, and the calls whose entries were taken
+    /// led to it from the engine that was shared; and where it was sound, those of the receipts that are handed in whose
+    /// commit and acknowledgement the audit has name commits that no crash takes any more.
     pub fn close(self, passes: Vec<Pass<G>>, receipts: &[Receipt]) -> Closed<P, L, B>
         requires parts { G.parts ≡ 1024 }
         requires all { length passes.items ≡ self }
@@ -143,6 +146,7 @@ impl<P: PageDevice + Drop, L: LogDevice + Drop, B: Level, G: Sharing> Shared<P, 
         ensures taken { result.kept.taken ≡ sum_by (λ p. p.taken) passes.items }
         ensures replays { Follows P.PageDevice L.LogDevice result.kept.base result.kept.audit result.kept.engine }
         ensures sound { BeginsSound P.PageDevice L.LogDevice G.premise result.kept }
+        ensures begun { BeginsFrom P.PageDevice L.LogDevice G.premise G.begins result.kept }
         ensures receipts { AreHonest P.PageDevice L.LogDevice result.kept.engine → IsSound result.kept.base.state
             → (r : GivenReceipt) → In r receipts.now → IsReceiptOf result.kept.audit (commit_number r.number)
             → IsDurable L.LogDevice result.kept.engine (commit_number r.number) }

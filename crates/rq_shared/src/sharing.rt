@@ -1,24 +1,31 @@
 //! What a sharing of an engine is known by, in contracts alone.
 ghost use Rattle.std.specs.Prelude.{ℕ};
+ghost use Rattle.rq_model.specs.Ledger.{Ledger};
+ghost use Rattle.rq_shared.specs.Begun.{no_ledger};
 
 use std::marker::{Brand, PhantomData};
 use std::sync::ledger::Ledger;
 
-/// One sharing of an engine: the ledger of its calls, the name of the ledger of the entries that are taken, and the
-/// premise under which the engine was sound as it was shared. Whoever shares an engine picks them. The premise may always
-/// be that very fact, that it was sound.
+/// One sharing of an engine: the ledger of its calls, the name of the ledger of the entries that are taken, the premise
+/// under which the engine was sound as it was shared, and what the queue came to then. Whoever shares an engine picks them.
+/// The premise may always be that very fact, that it was sound.
 pub trait Sharing: Ledger {
     /// The premise.
     ghost premise: { Type 0 };
 
     /// The name of the ledger of the entries that are taken.
     ghost taking: { ℕ };
+
+    /// What the history came to of which the engine told as it was shared.
+    ghost begins: { Ledger };
 }
 
 impl Sharing for Brand {
     ghost premise = { ⊥ };
 
     ghost taking = { 0 };
+
+    ghost begins = { no_ledger };
 }
 
 /// The ledger of the entries that are taken of an audit. It has as many parts as that of the calls.

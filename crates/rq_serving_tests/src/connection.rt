@@ -1,0 +1,199 @@
+//! A connection: its bytes, its session over a store, and what was written to it.
+use bytes::BytesMut;
+use rq_model::refusal::NoMemory;
+use rq_model::txn::Lsn;
+use rq_serving::serving::{Came, Serving};
+use rq_wire::{Answer, Fed, Frames, Request, answer};
+use rq_workers::gate::Gate;
+use rq_workers::steps::Steps;
+use rq_workers::trail::Trail;
+use std::alloc::Global;
+use std::snapshot::Snapshot;
+use std::sync::Wait;
+use std::test::Fail;
+
+/// Lets its worker through.
+#[derive(Drop)]
+pub struct Open {
+    answers: Snapshot<Trail<(u32, bool)>>,
+}
+
+impl Open {
+    pub fn new() -> Self {
+        Open {
+            answers: Trail::empty(),
+        }
+    }
+}
+
+impl Gate for Open {
+    ghost answers = { λ gate. gate.answers.value };
+
+    fn pass(&mut self, point: u32) -> bool {
+        Trail::note(&mut self.answers, &(point, true));
+        true
+    }
+}
+
+/// A connection, served behind a gate through these calls of a store.
+#[derive(Drop)]
+pub struct Connection<G: Gate, S: Steps> {
+    frames: Frames,
+    serving: Serving<G, S>,
+    written: BytesMut,
+    is_over: bool,
+}
+
+/// A connection to these calls of a store.
+pub fn connected<G: Gate, S: Steps>(alloc: Global, gate: G, steps: S) -> Connection<G, S> {
+    Connection {
+        frames: Frames::new(alloc),
+        serving: Serving::new(gate, steps),
+        written: BytesMut::new(alloc),
+        is_over: false,
+    }
+}
+
+// The functions that follow promise nothing, and know of no store: so a test of many calls is checked fast.
+
+fn feed(frames: &mut Frames, piece: &[u8]) -> Result<Fed, NoMemory> {
+    frames.feed(piece)
+}
+
+fn write(one: &Answer, out: &mut BytesMut) -> Result<(), NoMemory> {
+    answer(one, out)
+}
+
+fn request<G: Gate, S: Steps, R: Wait>(
+    rt: &R,
+    serving: &mut Serving<G, S>,
+    request: Request,
+) -> Came {
+    serving.request(rt, request)
+}
+
+fn ask_receipt<G: Gate, S: Steps, R: Wait>(rt: &R, serving: &mut Serving<G, S>) -> Came {
+    serving.ask_receipt(rt)
+}
+
+// Whether the session has ended once its connection is lost.
+fn lose<G: Gate, S: Steps, R: Wait>(rt: &R, serving: &mut Serving<G, S>) -> bool {
+    matches!(serving.lose(rt), Came::Ended)
+}
+
+// A force, as a log writer makes one while a commit waits: whether it was made.
+fn force<G: Gate, S: Steps>(serving: &mut Serving<G, S>) -> bool {
+    serving.force()
+}
+
+fn goes_on<G: Gate, S: Steps>(serving: &Serving<G, S>) -> bool {
+    serving.goes_on()
+}
+
+fn into_parts<G: Gate, S: Steps>(serving: Serving<G, S>) -> (G, S) {
+    serving.into_parts()
+}
+
+// The commit that waits for its receipt.
+fn waiting(came: &Came) -> Option<Lsn> {
+    match came {
+        Came::Waits(lsn) => Some(*lsn),
+        _ => None,
+    }
+}
+
+// The answer, where there is one.
+fn answered(came: Came) -> Option<Answer> {
+    match came {
+        Came::Answered(one) => Some(one),
+        _ => None,
+    }
+}
+
+// Serves a request until it is answered. A commit that waits is answered once it was not durable, and then was forced.
+fn served<G: Gate, S: Steps, R: Wait>(
+    rt: &R,
+    serving: &mut Serving<G, S>,
+    asked: Request,
+) -> Result<Option<Answer>, &'static str> {
+    let came = request(rt, serving, asked);
+    let lsn = waiting(&came);
+    if lsn.is_none() {
+        return Ok(answered(came));
+    }
+    if waiting(&ask_receipt(rt, serving)) != lsn {
+        return Err("answered before its force");
+    }
+    if !force(serving) {
+        return Err("not forced");
+    }
+    Ok(answered(ask_receipt(rt, serving)))
+}
+
+impl<G: Gate, S: Steps> Connection<G, S> {
+    /// Serves what a piece completes.
+    pub fn take<R: Wait>(&mut self, rt: &R, piece: &[u8]) -> Result<(), Fail> {
+        let fed = feed(&mut self.frames, piece)?;
+        for asked in fed.requests {
+            self.serve(rt, asked)?;
+        }
+        if fed.fault && !self.is_over {
+            self.end(rt);
+        }
+        Ok(())
+    }
+
+    /// Serves what these bytes complete, cut here.
+    pub fn take_cut<R: Wait>(&mut self, rt: &R, stream: &[u8], cut: usize) -> Result<(), Fail> {
+        let first = stream.get(..cut).ok_or("a cut")?;
+        let rest = stream.get(cut..).ok_or("a cut")?;
+        self.take(rt, first)?;
+        self.take(rt, rest)
+    }
+
+    /// Serves what they complete, byte by byte.
+    pub fn take_bytes<R: Wait>(&mut self, rt: &R, stream: &[u8]) -> Result<(), Fail> {
+        for byte in stream {
+            self.take(rt, &[*byte])?;
+        }
+        Ok(())
+    }
+
+    /// Serves what they complete, and then the connection has ended.
+    pub fn take_and_end<R: Wait>(&mut self, rt: &R, stream: &[u8]) -> Result<(), Fail> {
+        self.take(rt, stream)?;
+        self.end(rt);
+        Ok(())
+    }
+
+    // Serves a request, and writes its answer.
+    fn serve<R: Wait>(&mut self, rt: &R, asked: Request) -> Result<(), Fail> {
+        match served(rt, &mut self.serving, asked)? {
+            Some(one) => write(&one, &mut self.written)?,
+            None => self.is_over = true,
+        }
+        Ok(())
+    }
+
+    // The connection has ended, or was at fault.
+    fn end<R: Wait>(&mut self, rt: &R) {
+        self.is_over = lose(rt, &mut self.serving);
+    }
+
+    /// Whether the gate has not said no so far.
+    pub fn goes_on(&self) -> bool {
+        goes_on(&self.serving)
+    }
+
+    /// What was written to it, whether its session is over, the gate, and the calls of the store.
+    pub fn into_parts(self) -> (BytesMut, bool, G, S) {
+        let Connection {
+            frames: _,
+            serving,
+            written,
+            is_over,
+        } = self;
+        let (gate, steps) = into_parts(serving);
+        (written, is_over, gate, steps)
+    }
+}
