@@ -428,9 +428,10 @@ module _ (n : ℕ) (pages : MemPages) (log : MemLog) (h : Hold pages formatted_p
               undoing = undoing_none (restarts n);
               now = restarts n;
               aborting = aborting_none sizes (RepeatedFrom sizes read_pages) (restarts n);
+              turn = inl refl;
               none_lost = λ e. refl;
               full = omega (arith, e, le);
-              recovering = λ left. Undoing (undoing_none (restarts n));
+        XX      recovering = λ left. Undoing (undoing_none (restarts n));
             },
             (read_pages, gone n),
             only_read log,

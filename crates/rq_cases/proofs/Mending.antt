@@ -6,6 +6,8 @@ use Rattle.rq_model.specs.declared.record.Record.TheVariants as records
 use Rattle.rq_model.specs.declared.record.Record.TheVariants.{AbortEnd, Commit, CompEnd}
 use Rattle.rq_model.specs.declared.txn.Txn.{Txn}
 use Rattle.rq_page.specs.Cells.{free_bytes}
+use Rattle.rq_level.specs.Meaning.{meaning_of}
+use Rattle.rq_rules.specs.Rules.{CanBeRead}
 use Rattle.rq_level.specs.declared.writes.SlotWrite.{SlotWrite}
 use Rattle.rq_views.specs.WorkedItems as items
 use Rattle.rq_views.specs.WorkedItems.{sends, t1, t2, takes}
@@ -167,11 +169,15 @@ told_15 = deeds_are_told (sends 15) sends_deed
 never_15 : (images : List (List ℕ)) → IsNotUndone sizes images strange_due
 never_15 images = not_of_store sizes images strange_due (sends 15) told_15 (omega arith)
 
+strange_read : CanBeRead (op_end t1 1 (sends 15))
+unfolding meaning_of
+strange_read = ap is_some told_15
+
 strange_repeated : IsRepeated sizes log_3 (op_end t1 1 (sends 15)) repeated_pages repeated_pages
 strange_repeated = record {
   belongs = record {
     next = (omega arith, refl);
-    follows = record { running = refl; going = refl; begun = refl; numbered = tt; undoes = tt; takes_back = tt; reads = (refl, ap is_some told_15) };
+    follows = record { running = refl; going = refl; begun = refl; numbered = tt; undoes = tt; takes_back = tt; reads = strange_read };
     may = record { write = tt; before = tt };
   };
   redone = λ p. refl;
