@@ -197,10 +197,17 @@ fn number(word: &[u8]) -> Option<u64> {
     }
     let mut value: u64 = 0;
     for byte in word {
-        if !byte.is_ascii_digit() {
-            return None;
-        }
-        value = value.checked_mul(10)?.checked_add(u64::from(*byte - b'0'))?;
+        value = with_digit(value, *byte)?;
     }
     Some(value)
+}
+
+// The number with this digit behind it.
+fn with_digit(value: u64, byte: u8) -> Option<u64> {
+    let digit = byte.checked_sub(b'0')?;
+    if digit > 9 {
+        return None;
+    }
+    let tens = value.checked_mul(10)?;
+    tens.checked_add(u64::from(digit))
 }

@@ -1,8 +1,11 @@
 //! Scripts: a store over memory devices, driven by one command a line.
 #![tactic(auto)]
 
+mod calls;
 mod command;
+mod machine;
 mod script;
+mod store;
 mod told;
 
 pub use script::{run_script, sets_wanted};

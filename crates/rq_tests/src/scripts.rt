@@ -2,7 +2,6 @@
 use rq_levels::sets_of_levels;
 use rq_page::layout::Layout;
 use rq_script::{run_script, sets_wanted};
-use std::io::Write;
 use std::process::Abort;
 use std::test::Fail;
 
@@ -41,25 +40,72 @@ fn check_each(
     cells: u32,
     commands: &[(&str, &str)],
 ) -> Result<(), Fail> {
-    check_to_its_end(rt, directory, cells, commands, 0)
+    check_case(rt, directory, cells, commands, &[], 0)
 }
 
-// The same, with the status of its end.
-fn check_to_its_end(
+// Runs commands over a store of one directory and one cell page, once for each case: the first text of the case stands in
+// the place of `$1`, its second in that of `$2`, and so on.
+fn check_cases(
+    rt: &(impl Abort + AllocGlobal),
+    commands: &[(&str, &str)],
+    cases: &[&[&str]],
+    status: u8,
+) -> Result<(), Fail> {
+    for case in cases {
+        check_case(rt, 1, 1, commands, case, status)?;
+    }
+    Ok(())
+}
+
+fn check_case(
     rt: &(impl Abort + AllocGlobal),
     directory: u32,
     cells: u32,
     commands: &[(&str, &str)],
+    case: &[&str],
     status: u8,
 ) -> Result<(), Fail> {
     let layout = Layout::new(directory, cells).ok_or("a store")?;
     let mut script = Vec::new(rt.alloc());
     let mut wanted = Vec::new(rt.alloc());
     for (command, printed) in commands {
-        writeln!(script, "{command}").map_err(|_| "memory")?;
-        writeln!(wanted, "{printed}").map_err(|_| "memory")?;
+        add_line(&mut script, case, command)?;
+        add_line(&mut wanted, case, printed)?;
     }
     compare(rt, layout, &script, &wanted, status)
+}
+
+// Adds the text, or that of the case in whose place it stands.
+fn add_line(lines: &mut Vec<u8>, case: &[&str], text: &str) -> Result<(), Fail> {
+    match place_of(text) {
+        Some(place) if place < case.len() => lines.extend_from_slice(case[place].as_bytes())?,
+        _ => lines.extend_from_slice(text.as_bytes())?,
+    }
+    lines.push(b'\n')?;
+    Ok(())
+}
+
+fn place_of(text: &str) -> Option<usize> {
+    match text {
+        "$1" => Some(0),
+        "$2" => Some(1),
+        "$3" => Some(2),
+        "$4" => Some(3),
+        _ => None,
+    }
+}
+
+// Runs a script for each of these lines, which is no command: it is a fault, and no line behind it is carried out.
+fn check_faults(rt: &(impl Abort + AllocGlobal), lines: &[&str]) -> Result<(), Fail> {
+    let layout = Layout::new(1, 1).ok_or("a store")?;
+    for line in lines {
+        let mut script = Vec::new(rt.alloc());
+        add_line(&mut script, &[], "begin")?;
+        add_line(&mut script, &[], line)?;
+        add_line(&mut script, &[], "begin")?;
+        compare(rt, layout, &script, b"begun 1.1\nfault line 2\n", 1)?;
+    }
+    Ok(())
 }
 
 fn compare(
@@ -133,29 +179,30 @@ fn a_receive_shows_committed_messages_alone(rt: HostRuntime) -> Result<(), Fail>
 // One message is sent and received; what a crash keeps of that decides what is left.
 #[test]
 fn a_crash_takes_back_a_receive_that_is_not_forced(rt: HostRuntime) -> Result<(), Fail> {
-    for (end, wanted) in [
-        (
-            "crash 0",
-            "crashed 1\nrestarted 2 unfinished 0 lost 0\nempty\n",
-        ),
-        (
-            "force\ncrash 0",
-            "forced 9\ncrashed 9\nrestarted 2 unfinished 0 lost 0\n0 open sent 1 received 1:\n",
-        ),
-        (
-            "crash 4",
-            "crashed 5\nrestarted 2 unfinished 0 lost 0\n0 open sent 1 received 0: a\n",
-        ),
-    ] {
-        let script = format!(in rt.alloc();
-            "begin\nsend 1.1 0 1 a\ncommit 1.1\nbegin\nrecv 1.2\ncommit 1.2\n{end}\nrestart\ndump\n"
-        )?;
-        let printed = format!(in rt.alloc();
-            "begun 1.1\nsent\ncommit 5\nbegun 1.2\nmsg 0 1 a\ncommit 9\n{wanted}"
-        )?;
-        check(&rt, 1, script.as_str(), printed.as_str(), 0)?;
-    }
-    Ok(())
+    check_cases(
+        &rt,
+        &[
+            ("begin", "begun 1.1"),
+            ("send 1.1 0 1 a", "sent"),
+            ("commit 1.1", "commit 5"),
+            ("begin", "begun 1.2"),
+            ("recv 1.2", "msg 0 1 a"),
+            ("commit 1.2", "commit 9"),
+            ("$1", "$2"),
+            ("restart", "restarted 2 unfinished 0 lost 0"),
+            ("dump", "$3"),
+        ],
+        &[
+            &["crash 0", "crashed 1", "empty"],
+            &[
+                "force\ncrash 0",
+                "forced 9\ncrashed 9",
+                "0 open sent 1 received 1:",
+            ],
+            &["crash 4", "crashed 5", "0 open sent 1 received 0: a"],
+        ],
+        0,
+    )
 }
 
 #[test]
@@ -205,7 +252,7 @@ fn written_pages_that_a_crash_took_back_are_made_again(rt: HostRuntime) -> Resul
 // Only what is committed counts, and a message that was taken counts still.
 #[test]
 fn the_last_tag_is_that_of_the_last_committed_send(rt: HostRuntime) -> Result<(), Fail> {
-    check_to_its_end(
+    check_case(
         &rt,
         1,
         1,
@@ -235,59 +282,59 @@ fn the_last_tag_is_that_of_the_last_committed_send(rt: HostRuntime) -> Result<()
             ("last 15", "refused 2 Failed"),
             ("last", "fault line 24"),
         ],
+        &[],
         1,
     )
 }
 
 #[test]
 fn a_line_that_is_no_command_is_a_fault(rt: HostRuntime) -> Result<(), Fail> {
-    for line in [
-        "",
-        "begin ",
-        "beg",
-        "send 1.1 0",
-        "send 1.1 0 +1 x",
-        "send 1 0 1 x",
-        "send 1.1 4294967296 1 x",
-        "send 1.1 0 18446744073709551616 x",
-        "open-send 1.1 0",
-        "open-send 1.1  0 1 x",
-        "step 1.1",
-        "step 1.1 1 ",
-        "finish 1.1 x",
-        "finish 1.1 1 1",
-        "commit",
-        "ack 1.1.1",
-        "crash",
-        "crash old",
-        "crash 0 new",
-        "crash all old ",
-        "recv",
-        "recv 1",
-        "recv 1.1 0",
-        "recv-from 1.1",
-        "recv-from 1.1 4294967296",
-        "close 1.1",
-        "abort",
-        "abort 1.1 ",
-        "start-abort 1",
-        "undo 1.1 1",
-        "end-abort 1.",
-        "write",
-        "write 1 ",
-        "fail",
-        "fail sync",
-        "fail read ",
-        "restart ",
-        "restart all",
-        "restart 1 old",
-        "restart 18446744073709551616",
-        "dump\r",
-    ] {
-        let script = format!(in rt.alloc(); "begin\n{line}\nbegin\n")?;
-        check(&rt, 1, script.as_str(), "begun 1.1\nfault line 2\n", 1)?;
-    }
-    Ok(())
+    check_faults(
+        &rt,
+        &[
+            "",
+            "begin ",
+            "beg",
+            "send 1.1 0",
+            "send 1.1 0 +1 x",
+            "send 1 0 1 x",
+            "send 1.1 4294967296 1 x",
+            "send 1.1 0 18446744073709551616 x",
+            "open-send 1.1 0",
+            "open-send 1.1  0 1 x",
+            "step 1.1",
+            "step 1.1 1 ",
+            "finish 1.1 x",
+            "finish 1.1 1 1",
+            "commit",
+            "ack 1.1.1",
+            "crash",
+            "crash old",
+            "crash 0 new",
+            "crash all old ",
+            "recv",
+            "recv 1",
+            "recv 1.1 0",
+            "recv-from 1.1",
+            "recv-from 1.1 4294967296",
+            "close 1.1",
+            "abort",
+            "abort 1.1 ",
+            "start-abort 1",
+            "undo 1.1 1",
+            "end-abort 1.",
+            "write",
+            "write 1 ",
+            "fail",
+            "fail sync",
+            "fail read ",
+            "restart ",
+            "restart all",
+            "restart 1 old",
+            "restart 18446744073709551616",
+            "dump\r",
+        ],
+    )
 }
 
 #[test]
@@ -304,25 +351,25 @@ fn a_crashed_store_waits_for_its_restart(rt: HostRuntime) -> Result<(), Fail> {
 // A commit whose force failed is acknowledged by nobody; what the crash keeps decides.
 #[test]
 fn a_failed_force_closes_the_store_until_a_restart(rt: HostRuntime) -> Result<(), Fail> {
-    for (end, wanted) in [
-        (
-            "crash all",
-            "crashed 5\nrestarted 2 unfinished 0 lost 0\n0 open sent 1 received 0: a\n",
-        ),
-        (
-            "crash 0",
-            "crashed 1\nrestarted 2 unfinished 0 lost 0\nempty\n",
-        ),
-    ] {
-        let script = format!(in rt.alloc();
-            "begin\nsend 1.1 0 1 a\ncommit 1.1\nfail force\nforce\nack 1.1\n{end}\nrestart\ndump\n"
-        )?;
-        let printed = format!(in rt.alloc();
-            "begun 1.1\nsent\ncommit 5\narmed\nrefused 15 DiskWrite\nrefused 2 Failed\n{wanted}"
-        )?;
-        check(&rt, 1, script.as_str(), printed.as_str(), 0)?;
-    }
-    Ok(())
+    check_cases(
+        &rt,
+        &[
+            ("begin", "begun 1.1"),
+            ("send 1.1 0 1 a", "sent"),
+            ("commit 1.1", "commit 5"),
+            ("fail force", "armed"),
+            ("force", "refused 15 DiskWrite"),
+            ("ack 1.1", "refused 2 Failed"),
+            ("$1", "$2"),
+            ("restart", "restarted 2 unfinished 0 lost 0"),
+            ("dump", "$3"),
+        ],
+        &[
+            &["crash all", "crashed 5", "0 open sent 1 received 0: a"],
+            &["crash 0", "crashed 1", "empty"],
+        ],
+        0,
+    )
 }
 
 #[test]
@@ -338,19 +385,20 @@ fn a_page_write_that_fails_loses_nothing(rt: HostRuntime) -> Result<(), Fail> {
 
 #[test]
 fn a_store_that_cannot_be_read_is_not_opened(rt: HostRuntime) -> Result<(), Fail> {
-    for (script, printed) in [
-        (
-            "fail read\ncrash 0\nrestart\ndump\n",
-            "armed\ncrashed 1\nfault 3 DiskRead\n",
-        ),
-        (
-            "begin\nsend 1.1 0 1 a\nfail write\nforce\nfail read\ncrash 0\nrestart\ndump\n",
-            "begun 1.1\nsent\narmed\nrefused 15 DiskWrite\narmed\ncrashed 1\nfault 3 DiskRead\n",
-        ),
-    ] {
-        check(&rt, 1, script, printed, 1)?;
-    }
-    Ok(())
+    check(
+        &rt,
+        1,
+        "fail read\ncrash 0\nrestart\ndump\n",
+        "armed\ncrashed 1\nfault 3 DiskRead\n",
+        1,
+    )?;
+    check(
+        &rt,
+        1,
+        "begin\nsend 1.1 0 1 a\nfail write\nforce\nfail read\ncrash 0\nrestart\ndump\n",
+        "begun 1.1\nsent\narmed\nrefused 15 DiskWrite\narmed\ncrashed 1\nfault 3 DiskRead\n",
+        1,
+    )
 }
 
 #[test]
@@ -450,31 +498,32 @@ fn a_close_outlives_a_crash(rt: HostRuntime) -> Result<(), Fail> {
 // Leading zeros are read over.
 #[test]
 fn a_crash_keeps_the_log_whichever_images_are_left(rt: HostRuntime) -> Result<(), Fail> {
-    for (crash, wanted) in [
-        (
-            "crash all",
-            "crashed 5\nrestarted 2 unfinished 0 lost 0\n0 open sent 1 received 0: hello\n",
-        ),
-        (
-            "crash all old",
-            "crashed 5\nrestarted 2 unfinished 0 lost 0\n0 open sent 1 received 0: hello\n",
-        ),
-        (
-            "crash 04 old",
-            "crashed 5\nrestarted 2 unfinished 0 lost 0\n0 open sent 1 received 0: hello\n",
-        ),
-        (
-            "crash 0 old",
-            "crashed 1\nrestarted 2 unfinished 0 lost 0\nempty\n",
-        ),
-    ] {
-        let script = format!(in rt.alloc();
-            "begin\nsend 01.1 000 7 hello\ncommit 1.1\n{crash}\nrestart\ndump\n"
-        )?;
-        let printed = format!(in rt.alloc(); "begun 1.1\nsent\ncommit 5\n{wanted}")?;
-        check(&rt, 1, script.as_str(), printed.as_str(), 0)?;
-    }
-    Ok(())
+    check_cases(
+        &rt,
+        &[
+            ("begin", "begun 1.1"),
+            ("send 01.1 000 7 hello", "sent"),
+            ("commit 1.1", "commit 5"),
+            ("$1", "$2"),
+            ("restart", "restarted 2 unfinished 0 lost 0"),
+            ("dump", "$3"),
+        ],
+        &[
+            &["crash all", "crashed 5", "0 open sent 1 received 0: hello"],
+            &[
+                "crash all old",
+                "crashed 5",
+                "0 open sent 1 received 0: hello",
+            ],
+            &[
+                "crash 04 old",
+                "crashed 5",
+                "0 open sent 1 received 0: hello",
+            ],
+            &["crash 0 old", "crashed 1", "empty"],
+        ],
+        0,
+    )
 }
 
 #[test]
@@ -502,32 +551,29 @@ fn a_store_that_failed_runs_again_after_a_restart(rt: HostRuntime) -> Result<(),
 // What is undone is as if it had never been, whichever of two is undone first. A message comes back to its place.
 #[test]
 fn an_abort_takes_back_what_was_sent_and_received(rt: HostRuntime) -> Result<(), Fail> {
-    for (first, second, forced) in [
-        ("abort 1.2", "abort 1.3", "forced 21"),
-        ("abort 1.3", "abort 1.2", "forced 23"),
-    ] {
-        check_each(
-            &rt,
-            1,
-            1,
-            &[
-                ("begin", "begun 1.1"),
-                ("send 1.1 0 1 a", "sent"),
-                ("commit 1.1", "commit 5"),
-                ("begin", "begun 1.2"),
-                ("send 1.2 0 2 b", "sent"),
-                ("begin", "begun 1.3"),
-                ("recv 1.3", "msg 0 1 a"),
-                (first, "aborted"),
-                (second, "aborted"),
-                ("dump", "0 open sent 1 received 0: a"),
-                ("force", forced),
-                ("commit 1.2", "refused 4 UnknownTransaction"),
-                ("recv 1.3", "refused 4 UnknownTransaction"),
-            ],
-        )?;
-    }
-    Ok(())
+    check_cases(
+        &rt,
+        &[
+            ("begin", "begun 1.1"),
+            ("send 1.1 0 1 a", "sent"),
+            ("commit 1.1", "commit 5"),
+            ("begin", "begun 1.2"),
+            ("send 1.2 0 2 b", "sent"),
+            ("begin", "begun 1.3"),
+            ("recv 1.3", "msg 0 1 a"),
+            ("$1", "aborted"),
+            ("$2", "aborted"),
+            ("dump", "0 open sent 1 received 0: a"),
+            ("force", "$3"),
+            ("commit 1.2", "refused 4 UnknownTransaction"),
+            ("recv 1.3", "refused 4 UnknownTransaction"),
+        ],
+        &[
+            &["abort 1.2", "abort 1.3", "forced 21"],
+            &["abort 1.3", "abort 1.2", "forced 23"],
+        ],
+        0,
+    )
 }
 
 #[test]
@@ -1037,86 +1083,80 @@ fn what_is_undone_before_a_refusal_stays_undone(rt: HostRuntime) -> Result<(), F
 // A transaction whose abort has ended is neither unfinished nor lost, whichever images a crash leaves.
 #[test]
 fn an_abort_outlives_a_crash(rt: HostRuntime) -> Result<(), Fail> {
-    for crash in ["crash 0", "crash all old", "crash 0 old"] {
-        check_each(
-            &rt,
-            1,
-            1,
-            &[
-                ("begin", "begun 1.1"),
-                ("send 1.1 0 1 a", "sent"),
-                ("commit 1.1", "commit 5"),
-                ("begin", "begun 1.2"),
-                ("send 1.2 0 2 b", "sent"),
-                ("close 1.2 0", "closed"),
-                ("begin", "begun 1.3"),
-                ("recv 1.3", "msg 0 1 a"),
-                ("abort 1.2", "aborted"),
-                ("abort 1.3", "aborted"),
-                ("force", "forced 25"),
-                ("write 1", "written"),
-                ("write 2", "written"),
-                (crash, "crashed 25"),
-                ("abort 1.1", "refused 2 Failed"),
-                ("restart", "restarted 2 unfinished 0 lost 0"),
-                ("dump", "0 open sent 1 received 0: a"),
-                ("abort 1.2", "refused 4 UnknownTransaction"),
-                ("begin", "begun 2.1"),
-                ("recv 2.1", "msg 0 1 a"),
-                ("recv 2.1", "none"),
-                ("send 2.1 0 2 c", "sent"),
-            ],
-        )?;
-    }
-    Ok(())
+    check_cases(
+        &rt,
+        &[
+            ("begin", "begun 1.1"),
+            ("send 1.1 0 1 a", "sent"),
+            ("commit 1.1", "commit 5"),
+            ("begin", "begun 1.2"),
+            ("send 1.2 0 2 b", "sent"),
+            ("close 1.2 0", "closed"),
+            ("begin", "begun 1.3"),
+            ("recv 1.3", "msg 0 1 a"),
+            ("abort 1.2", "aborted"),
+            ("abort 1.3", "aborted"),
+            ("force", "forced 25"),
+            ("write 1", "written"),
+            ("write 2", "written"),
+            ("$1", "crashed 25"),
+            ("abort 1.1", "refused 2 Failed"),
+            ("restart", "restarted 2 unfinished 0 lost 0"),
+            ("dump", "0 open sent 1 received 0: a"),
+            ("abort 1.2", "refused 4 UnknownTransaction"),
+            ("begin", "begun 2.1"),
+            ("recv 2.1", "msg 0 1 a"),
+            ("recv 2.1", "none"),
+            ("send 2.1 0 2 c", "sent"),
+        ],
+        &[&["crash 0"], &["crash all old"], &["crash 0 old"]],
+        0,
+    )
 }
 
 // Before the last record of an abort its transaction is lost. In the midst of an inverse that is undone first, slot by
 // slot, and begun anew.
 #[test]
 fn an_abort_in_its_midst_is_ended(rt: HostRuntime) -> Result<(), Fail> {
-    for (crash, crashed, restarted, forced) in [
-        (
-            "crash all",
-            "crashed 14",
-            "restarted 2 unfinished 1 lost 1",
-            "forced 26",
-        ),
-        (
-            "crash 12",
-            "crashed 13",
-            "restarted 2 unfinished 0 lost 1",
-            "forced 23",
-        ),
-        (
-            "crash 8",
-            "crashed 9",
-            "restarted 2 unfinished 0 lost 1",
-            "forced 15",
-        ),
-    ] {
-        check_each(
-            &rt,
-            1,
-            1,
+    check_cases(
+        &rt,
+        &[
+            ("begin", "begun 1.1"),
+            ("send 1.1 0 1 a", "sent"),
+            ("commit 1.1", "commit 5"),
+            ("begin", "begun 1.2"),
+            ("send 1.2 0 2 b", "sent"),
+            ("send 1.2 0 3 c", "sent"),
+            ("start-abort 1.2", "aborting"),
+            ("undo 1.2", "op 1.2 3"),
+            ("step 1.2 3", "lsn 14"),
+            ("$1", "$2"),
+            ("restart", "$3"),
+            ("dump", "0 open sent 1 received 0: a"),
+            ("force", "$4"),
+        ],
+        &[
             &[
-                ("begin", "begun 1.1"),
-                ("send 1.1 0 1 a", "sent"),
-                ("commit 1.1", "commit 5"),
-                ("begin", "begun 1.2"),
-                ("send 1.2 0 2 b", "sent"),
-                ("send 1.2 0 3 c", "sent"),
-                ("start-abort 1.2", "aborting"),
-                ("undo 1.2", "op 1.2 3"),
-                ("step 1.2 3", "lsn 14"),
-                (crash, crashed),
-                ("restart", restarted),
-                ("dump", "0 open sent 1 received 0: a"),
-                ("force", forced),
+                "crash all",
+                "crashed 14",
+                "restarted 2 unfinished 1 lost 1",
+                "forced 26",
             ],
-        )?;
-    }
-    Ok(())
+            &[
+                "crash 12",
+                "crashed 13",
+                "restarted 2 unfinished 0 lost 1",
+                "forced 23",
+            ],
+            &[
+                "crash 8",
+                "crashed 9",
+                "restarted 2 unfinished 0 lost 1",
+                "forced 15",
+            ],
+        ],
+        0,
+    )
 }
 
 // All is undone, and the record of the end alone is wanting.
@@ -1332,129 +1372,178 @@ fn restarts_that_are_stopped_go_on(rt: HostRuntime) -> Result<(), Fail> {
 // makes twelve records.
 #[test]
 fn a_restart_is_stopped_at_each_of_its_records(rt: HostRuntime) -> Result<(), Fail> {
-    for (stop, stopped, restarted, forced) in [
-        ("restart 0", "stopped 14", "2 unfinished 1 lost 1", "26"),
-        ("restart 1", "stopped 15", "2 unfinished 1 lost 1", "26"),
-        ("restart 2", "stopped 16", "2 unfinished 0 lost 1", "26"),
-        ("restart 3", "stopped 17", "2 unfinished 1 lost 1", "29"),
-        ("restart 4", "stopped 18", "2 unfinished 1 lost 1", "31"),
-        ("restart 5", "stopped 19", "2 unfinished 1 lost 1", "33"),
-        ("restart 6", "stopped 20", "2 unfinished 0 lost 1", "26"),
-        ("restart 7", "stopped 21", "2 unfinished 1 lost 1", "29"),
-        ("restart 8", "stopped 22", "2 unfinished 1 lost 1", "31"),
-        ("restart 9", "stopped 23", "2 unfinished 1 lost 1", "33"),
-        ("restart 10", "stopped 24", "2 unfinished 0 lost 1", "26"),
-        ("restart 11", "stopped 25", "2 unfinished 0 lost 0", "26"),
-    ] {
-        let restarted = format!(in rt.alloc(); "restarted {restarted}")?;
-        let forced = format!(in rt.alloc(); "forced {forced}")?;
-        check_each(
-            &rt,
-            1,
-            1,
+    check_cases(
+        &rt,
+        &[
+            ("begin", "begun 1.1"),
+            ("send 1.1 0 1 a", "sent"),
+            ("commit 1.1", "commit 5"),
+            ("begin", "begun 1.2"),
+            ("send 1.2 0 2 b", "sent"),
+            ("send 1.2 0 3 c", "sent"),
+            ("start-abort 1.2", "aborting"),
+            ("undo 1.2", "op 1.2 3"),
+            ("step 1.2 3", "lsn 14"),
+            ("crash all", "crashed 14"),
+            ("$1", "$2"),
+            ("dump", "refused 2 Failed"),
+            ("restart", "$3"),
+            ("dump", "0 open sent 1 received 0: a"),
+            ("force", "$4"),
+        ],
+        &[
             &[
-                ("begin", "begun 1.1"),
-                ("send 1.1 0 1 a", "sent"),
-                ("commit 1.1", "commit 5"),
-                ("begin", "begun 1.2"),
-                ("send 1.2 0 2 b", "sent"),
-                ("send 1.2 0 3 c", "sent"),
-                ("start-abort 1.2", "aborting"),
-                ("undo 1.2", "op 1.2 3"),
-                ("step 1.2 3", "lsn 14"),
-                ("crash all", "crashed 14"),
-                (stop, stopped),
-                ("dump", "refused 2 Failed"),
-                ("restart", restarted.as_str()),
-                ("dump", "0 open sent 1 received 0: a"),
-                ("force", forced.as_str()),
+                "restart 0",
+                "stopped 14",
+                "restarted 2 unfinished 1 lost 1",
+                "forced 26",
             ],
-        )?;
-    }
-    Ok(())
+            &[
+                "restart 1",
+                "stopped 15",
+                "restarted 2 unfinished 1 lost 1",
+                "forced 26",
+            ],
+            &[
+                "restart 2",
+                "stopped 16",
+                "restarted 2 unfinished 0 lost 1",
+                "forced 26",
+            ],
+            &[
+                "restart 3",
+                "stopped 17",
+                "restarted 2 unfinished 1 lost 1",
+                "forced 29",
+            ],
+            &[
+                "restart 4",
+                "stopped 18",
+                "restarted 2 unfinished 1 lost 1",
+                "forced 31",
+            ],
+            &[
+                "restart 5",
+                "stopped 19",
+                "restarted 2 unfinished 1 lost 1",
+                "forced 33",
+            ],
+            &[
+                "restart 6",
+                "stopped 20",
+                "restarted 2 unfinished 0 lost 1",
+                "forced 26",
+            ],
+            &[
+                "restart 7",
+                "stopped 21",
+                "restarted 2 unfinished 1 lost 1",
+                "forced 29",
+            ],
+            &[
+                "restart 8",
+                "stopped 22",
+                "restarted 2 unfinished 1 lost 1",
+                "forced 31",
+            ],
+            &[
+                "restart 9",
+                "stopped 23",
+                "restarted 2 unfinished 1 lost 1",
+                "forced 33",
+            ],
+            &[
+                "restart 10",
+                "stopped 24",
+                "restarted 2 unfinished 0 lost 1",
+                "forced 26",
+            ],
+            &[
+                "restart 11",
+                "stopped 25",
+                "restarted 2 unfinished 0 lost 0",
+                "forced 26",
+            ],
+        ],
+        0,
+    )
 }
 
 // A restart that makes no more records than it is to be stopped behind goes to its end: that makes twelve.
 #[test]
 fn a_restart_that_makes_no_more_records_is_not_stopped(rt: HostRuntime) -> Result<(), Fail> {
-    for stop in ["restart 12", "restart 13"] {
-        check_each(
-            &rt,
-            1,
-            1,
-            &[
-                ("begin", "begun 1.1"),
-                ("send 1.1 0 1 a", "sent"),
-                ("commit 1.1", "commit 5"),
-                ("begin", "begun 1.2"),
-                ("send 1.2 0 2 b", "sent"),
-                ("send 1.2 0 3 c", "sent"),
-                ("start-abort 1.2", "aborting"),
-                ("undo 1.2", "op 1.2 3"),
-                ("step 1.2 3", "lsn 14"),
-                ("crash all", "crashed 14"),
-                (stop, "restarted 2 unfinished 1 lost 1"),
-                ("dump", "0 open sent 1 received 0: a"),
-                ("force", "forced 26"),
-            ],
-        )?;
-    }
-    Ok(())
+    check_cases(
+        &rt,
+        &[
+            ("begin", "begun 1.1"),
+            ("send 1.1 0 1 a", "sent"),
+            ("commit 1.1", "commit 5"),
+            ("begin", "begun 1.2"),
+            ("send 1.2 0 2 b", "sent"),
+            ("send 1.2 0 3 c", "sent"),
+            ("start-abort 1.2", "aborting"),
+            ("undo 1.2", "op 1.2 3"),
+            ("step 1.2 3", "lsn 14"),
+            ("crash all", "crashed 14"),
+            ("$1", "restarted 2 unfinished 1 lost 1"),
+            ("dump", "0 open sent 1 received 0: a"),
+            ("force", "forced 26"),
+        ],
+        &[&["restart 12"], &["restart 13"]],
+        0,
+    )
 }
 
 // A restart of a store with nothing to undo makes one record.
 #[test]
 fn a_restart_of_a_settled_store_is_stopped_before_its_record(rt: HostRuntime) -> Result<(), Fail> {
-    for stop in ["restart 1", "restart 2", "restart 18446744073709551615"] {
-        check_each(
-            &rt,
-            1,
-            1,
-            &[
-                (stop, "running"),
-                ("begin", "begun 1.1"),
-                ("send 1.1 0 1 a", "sent"),
-                ("commit 1.1", "commit 5"),
-                ("crash all", "crashed 5"),
-                ("restart 0", "stopped 5"),
-                (stop, "restarted 2 unfinished 0 lost 0"),
-                ("dump", "0 open sent 1 received 0: a"),
-                ("restart 0", "running"),
-                (stop, "running"),
-                ("force", "forced 6"),
-            ],
-        )?;
-    }
-    Ok(())
+    check_cases(
+        &rt,
+        &[
+            ("$1", "running"),
+            ("begin", "begun 1.1"),
+            ("send 1.1 0 1 a", "sent"),
+            ("commit 1.1", "commit 5"),
+            ("crash all", "crashed 5"),
+            ("restart 0", "stopped 5"),
+            ("$1", "restarted 2 unfinished 0 lost 0"),
+            ("dump", "0 open sent 1 received 0: a"),
+            ("restart 0", "running"),
+            ("$1", "running"),
+            ("force", "forced 6"),
+        ],
+        &[
+            &["restart 1"],
+            &["restart 2"],
+            &["restart 18446744073709551615"],
+        ],
+        0,
+    )
 }
 
 // A write that was armed fails in a restart that is to stop, before it does, as in a whole one: here one that takes back a
 // lost transaction, with five records.
 #[test]
 fn a_restart_with_a_write_that_fails_does_not_stop(rt: HostRuntime) -> Result<(), Fail> {
-    for stop in [
-        "restart",
-        "restart 0",
-        "restart 1",
-        "restart 4",
-        "restart 5",
-        "restart 18446744073709551615",
-    ] {
-        check_to_its_end(
-            &rt,
-            1,
-            1,
-            &[
-                ("begin", "begun 1.1"),
-                ("send 1.1 0 1 x", "sent"),
-                ("fail write", "armed"),
-                ("crash all", "crashed 4"),
-                (stop, "fault 15 DiskWrite"),
-            ],
-            1,
-        )?;
-    }
-    Ok(())
+    check_cases(
+        &rt,
+        &[
+            ("begin", "begun 1.1"),
+            ("send 1.1 0 1 x", "sent"),
+            ("fail write", "armed"),
+            ("crash all", "crashed 4"),
+            ("$1", "fault 15 DiskWrite"),
+        ],
+        &[
+            &["restart"],
+            &["restart 0"],
+            &["restart 1"],
+            &["restart 4"],
+            &["restart 5"],
+            &["restart 18446744073709551615"],
+        ],
+        1,
+    )
 }
 
 // So does one that undoes a send in its midst.
@@ -1462,104 +1551,87 @@ fn a_restart_with_a_write_that_fails_does_not_stop(rt: HostRuntime) -> Result<()
 fn a_restart_that_undoes_with_a_write_that_fails_does_not_stop(
     rt: HostRuntime,
 ) -> Result<(), Fail> {
-    for stop in [
-        "restart",
-        "restart 0",
-        "restart 2",
-        "restart 3",
-        "restart 4",
-    ] {
-        check_to_its_end(
-            &rt,
-            1,
-            1,
-            &[
-                ("begin", "begun 1.1"),
-                ("open-send 1.1 0 1 x", "op 1.1 1"),
-                ("step 1.1 1", "lsn 2"),
-                ("fail write", "armed"),
-                ("crash all", "crashed 2"),
-                (stop, "fault 15 DiskWrite"),
-            ],
-            1,
-        )?;
-    }
-    Ok(())
+    check_cases(
+        &rt,
+        &[
+            ("begin", "begun 1.1"),
+            ("open-send 1.1 0 1 x", "op 1.1 1"),
+            ("step 1.1 1", "lsn 2"),
+            ("fail write", "armed"),
+            ("crash all", "crashed 2"),
+            ("$1", "fault 15 DiskWrite"),
+        ],
+        &[
+            &["restart"],
+            &["restart 0"],
+            &["restart 2"],
+            &["restart 3"],
+            &["restart 4"],
+        ],
+        1,
+    )
 }
 
 // The machine stops before the force that would fail, and what was armed meets the next restart's.
 #[test]
 fn a_restart_with_a_force_that_fails_stops_before(rt: HostRuntime) -> Result<(), Fail> {
-    for (stop, stopped) in [
-        ("restart 0", "stopped 4"),
-        ("restart 1", "stopped 5"),
-        ("restart 4", "stopped 8"),
-    ] {
-        check_to_its_end(
-            &rt,
-            1,
-            1,
-            &[
-                ("begin", "begun 1.1"),
-                ("send 1.1 0 1 x", "sent"),
-                ("fail force", "armed"),
-                ("crash all", "crashed 4"),
-                (stop, stopped),
-                ("dump", "refused 2 Failed"),
-                ("restart", "fault 15 DiskWrite"),
-            ],
-            1,
-        )?;
-    }
-    Ok(())
+    check_cases(
+        &rt,
+        &[
+            ("begin", "begun 1.1"),
+            ("send 1.1 0 1 x", "sent"),
+            ("fail force", "armed"),
+            ("crash all", "crashed 4"),
+            ("$1", "$2"),
+            ("dump", "refused 2 Failed"),
+            ("restart", "fault 15 DiskWrite"),
+        ],
+        &[
+            &["restart 0", "stopped 4"],
+            &["restart 1", "stopped 5"],
+            &["restart 4", "stopped 8"],
+        ],
+        1,
+    )
 }
 
 // A send in its midst is undone by one record, its end and that of the restart are the next two. Where no more are made
 // than it is to be stopped behind, the force fails.
 #[test]
 fn a_restart_that_undoes_with_a_force_that_fails_stops_before(rt: HostRuntime) -> Result<(), Fail> {
-    for (stop, stopped) in [
-        ("restart 0", "stopped 2"),
-        ("restart 2", "stopped 4"),
-        ("restart 3", "fault 15 DiskWrite"),
-    ] {
-        let commands = [
-            ("begin", "begun 1.1"),
-            ("open-send 1.1 0 1 x", "op 1.1 1"),
-            ("step 1.1 1", "lsn 2"),
-            ("fail force", "armed"),
-            ("crash all", "crashed 2"),
-            (stop, stopped),
-        ];
-        let status = u8::from(stop == "restart 3");
-        check_to_its_end(&rt, 1, 1, &commands, status)?;
-    }
-    Ok(())
+    let commands = [
+        ("begin", "begun 1.1"),
+        ("open-send 1.1 0 1 x", "op 1.1 1"),
+        ("step 1.1 1", "lsn 2"),
+        ("fail force", "armed"),
+        ("crash all", "crashed 2"),
+        ("$1", "$2"),
+    ];
+    let stopped: [&[&str]; 2] = [&["restart 0", "stopped 2"], &["restart 2", "stopped 4"]];
+    check_cases(&rt, &commands, &stopped, 0)?;
+    check_cases(&rt, &commands, &[&["restart 3", "fault 15 DiskWrite"]], 1)
 }
 
 // Where none of what it sent has its end, the restart undoes the send that was cut.
 #[test]
 fn an_abort_of_what_was_cut_is_not_needed(rt: HostRuntime) -> Result<(), Fail> {
-    for (crash, crashed) in [("crash 5", "crashed 6"), ("crash 7", "crashed 8")] {
-        check_each(
-            &rt,
-            1,
-            1,
-            &[
-                ("begin", "begun 1.1"),
-                ("send 1.1 0 1 a", "sent"),
-                ("commit 1.1", "commit 5"),
-                ("begin", "begun 1.2"),
-                ("send 1.2 0 2 b", "sent"),
-                ("start-abort 1.2", "aborting"),
-                (crash, crashed),
-                ("restart", "restarted 2 unfinished 1 lost 0"),
-                ("dump", "0 open sent 1 received 0: a"),
-                ("last 0", "last 1 1"),
-            ],
-        )?;
-    }
-    Ok(())
+    check_cases(
+        &rt,
+        &[
+            ("begin", "begun 1.1"),
+            ("send 1.1 0 1 a", "sent"),
+            ("commit 1.1", "commit 5"),
+            ("begin", "begun 1.2"),
+            ("send 1.2 0 2 b", "sent"),
+            ("start-abort 1.2", "aborting"),
+            ("$1", "$2"),
+            ("restart", "restarted 2 unfinished 1 lost 0"),
+            ("dump", "0 open sent 1 received 0: a"),
+            ("last 0", "last 1 1"),
+        ],
+        &[&["crash 5", "crashed 6"], &["crash 7", "crashed 8"]],
+        0,
+    )
 }
 
 #[test]
@@ -1592,32 +1664,29 @@ fn a_store_that_failed_aborts_nothing(rt: HostRuntime) -> Result<(), Fail> {
 // A send that a crash cut off between two of its slots is undone slot by slot, whichever images the crash left.
 #[test]
 fn an_operation_without_an_end_is_undone(rt: HostRuntime) -> Result<(), Fail> {
-    for crash in ["crash 0", "crash 0 old"] {
-        check_each(
-            &rt,
-            1,
-            1,
-            &[
-                ("begin", "begun 1.1"),
-                ("open-send 1.1 0 1 x", "op 1.1 1"),
-                ("step 1.1 1", "lsn 2"),
-                ("force", "forced 2"),
-                ("write 2", "written"),
-                (crash, "crashed 2"),
-                ("restart", "restarted 2 unfinished 1 lost 0"),
-                ("dump", "empty"),
-                ("force", "forced 5"),
-                ("begin", "begun 2.1"),
-                ("send 2.1 0 2 y", "sent"),
-                ("commit 2.1", "commit 9"),
-                ("dump", "0 open sent 1 received 0: y"),
-                ("crash 0", "crashed 5"),
-                ("restart", "restarted 3 unfinished 0 lost 0"),
-                ("dump", "empty"),
-            ],
-        )?;
-    }
-    Ok(())
+    check_cases(
+        &rt,
+        &[
+            ("begin", "begun 1.1"),
+            ("open-send 1.1 0 1 x", "op 1.1 1"),
+            ("step 1.1 1", "lsn 2"),
+            ("force", "forced 2"),
+            ("write 2", "written"),
+            ("$1", "crashed 2"),
+            ("restart", "restarted 2 unfinished 1 lost 0"),
+            ("dump", "empty"),
+            ("force", "forced 5"),
+            ("begin", "begun 2.1"),
+            ("send 2.1 0 2 y", "sent"),
+            ("commit 2.1", "commit 9"),
+            ("dump", "0 open sent 1 received 0: y"),
+            ("crash 0", "crashed 5"),
+            ("restart", "restarted 3 unfinished 0 lost 0"),
+            ("dump", "empty"),
+        ],
+        &[&["crash 0"], &["crash 0 old"]],
+        0,
+    )
 }
 
 #[test]
@@ -1645,31 +1714,27 @@ fn operations_of_several_transactions_are_undone(rt: HostRuntime) -> Result<(), 
 // A receive that is undone leaves the message where it was, and what was sent before is not undone.
 #[test]
 fn a_receive_without_an_end_is_undone(rt: HostRuntime) -> Result<(), Fail> {
-    for (kept, left, forced) in [
-        ("1", "crashed 6", "forced 9"),
-        ("2", "crashed 7", "forced 11"),
-    ] {
-        let crash = format!(in rt.alloc(); "crash {kept}")?;
-        check_each(
-            &rt,
-            1,
-            1,
-            &[
-                ("begin", "begun 1.1"),
-                ("send 1.1 0 7 a", "sent"),
-                ("commit 1.1", "commit 5"),
-                ("force", "forced 5"),
-                ("begin", "begun 1.2"),
-                ("recv 1.2", "msg 0 7 a"),
-                (crash.as_str(), left),
-                ("restart", "restarted 2 unfinished 1 lost 0"),
-                ("dump", "0 open sent 1 received 0: a"),
-                ("last 0", "last 1 7"),
-                ("force", forced),
-                ("begin", "begun 2.1"),
-                ("recv 2.1", "msg 0 7 a"),
-            ],
-        )?;
-    }
-    Ok(())
+    check_cases(
+        &rt,
+        &[
+            ("begin", "begun 1.1"),
+            ("send 1.1 0 7 a", "sent"),
+            ("commit 1.1", "commit 5"),
+            ("force", "forced 5"),
+            ("begin", "begun 1.2"),
+            ("recv 1.2", "msg 0 7 a"),
+            ("$1", "$2"),
+            ("restart", "restarted 2 unfinished 1 lost 0"),
+            ("dump", "0 open sent 1 received 0: a"),
+            ("last 0", "last 1 7"),
+            ("force", "$3"),
+            ("begin", "begun 2.1"),
+            ("recv 2.1", "msg 0 7 a"),
+        ],
+        &[
+            &["crash 1", "crashed 6", "forced 9"],
+            &["crash 2", "crashed 7", "forced 11"],
+        ],
+        0,
+    )
 }

@@ -1,0 +1,158 @@
+//! The calls that a command stands for, made of any store.
+use crate::command::{Command, Images, Keep, Post};
+use crate::told::Told;
+use rq_disk::CallKind;
+use rq_engine::event::{CommitNo, Event, Outcome, Progress, Reply};
+use rq_model::refusal::Refusal;
+use rq_model::txn::{Sub, Txn};
+use std::alloc::{AllocError, Global};
+
+/// How many calls are made to carry an operation through, those that memory was wanting for among them.
+const ATTEMPTS: u32 = 1000;
+
+/// A store that a script drives.
+pub trait Store {
+    fn is_open(&self) -> bool;
+
+    /// Makes a call, and keeps the number of a commit.
+    fn ask(&mut self, event: Event) -> Reply;
+
+    /// The number of a transaction's commit, where this incarnation answered one.
+    fn commit_of(&self, txn: Txn) -> Result<CommitNo, Refusal>;
+
+    /// Makes the next device call of a kind fail, once, whether the store has failed or not.
+    fn arm(&mut self, kind: CallKind);
+
+    /// A crash.
+    fn crash(&mut self, keep: Keep, images: Images) -> Told;
+
+    /// Opens the store after a crash, or stops in that once so many records are kept.
+    fn restart(&mut self, stop: Option<u64>) -> Told;
+}
+
+/// Carries out a command; none where the line of this number is none.
+pub fn carry_out<S: Store>(
+    store: &mut S,
+    alloc: Global,
+    number: u64,
+    command: Option<Command<'_>>,
+) -> Told {
+    match command {
+        Some(Command::Restart) => store.restart(None),
+        Some(Command::StopInRestart(records)) => store.restart(Some(records)),
+        Some(_) if !store.is_open() => Told::refused(Refusal::Failed),
+        Some(Command::Crash(keep, images)) => store.crash(keep, images),
+        Some(Command::Fail(kind)) => {
+            store.arm(kind);
+            Told::Armed
+        }
+        Some(command) => Told::Reply(call(store, alloc, command)),
+        None => Told::NoCommand(number),
+    }
+}
+
+// Makes the calls that a command stands for, and answers as the last one did.
+fn call<S: Store>(store: &mut S, alloc: Global, command: Command<'_>) -> Reply {
+    match command {
+        Command::Begin => store.ask(Event::Begin),
+        Command::Send(post) => send(store, alloc, post),
+        Command::OpenSend(post) => open_send(store, alloc, post),
+        Command::Recv(txn) => whole(store, Event::StartReceive(txn)),
+        Command::RecvFrom(txn, sender) => whole(store, Event::StartReceiveFrom { txn, sender }),
+        Command::Close(txn, sender) => whole(store, Event::StartClose { txn, sender }),
+        Command::Step(sub) => store.ask(Event::Step(sub)),
+        Command::Finish(sub) => store.ask(Event::Finish(sub)),
+        Command::Commit(txn) => store.ask(Event::Commit(txn)),
+        Command::Abort(txn) => abort(store, txn),
+        Command::StartAbort(txn) => store.ask(Event::StartAbort(txn)),
+        Command::Undo(txn) => store.ask(Event::UndoNext(txn)),
+        Command::EndAbort(txn) => store.ask(Event::EndAbort(txn)),
+        Command::Ack(txn) => ack(store, txn),
+        Command::Force => store.ask(Event::Force),
+        Command::Write(page) => store.ask(Event::WritePage(page)),
+        Command::Last(sender) => store.ask(Event::LastTag(sender)),
+        Command::Dump => store.ask(Event::Content),
+        Command::Fail(_) | Command::Crash(..) | Command::Restart | Command::StopInRestart(_) => {
+            Reply::Refused(Refusal::Failed)
+        }
+    }
+}
+
+fn open_send<S: Store>(store: &mut S, alloc: Global, post: Post<'_>) -> Reply {
+    match start_of(alloc, post) {
+        Ok(event) => store.ask(event),
+        Err(_) => Reply::Refused(Refusal::NoMemory),
+    }
+}
+
+fn send<S: Store>(store: &mut S, alloc: Global, post: Post<'_>) -> Reply {
+    match start_of(alloc, post) {
+        Ok(event) => whole(store, event),
+        Err(_) => Reply::Refused(Refusal::NoMemory),
+    }
+}
+
+// A start, all its steps, and its finish.
+fn whole<S: Store>(store: &mut S, start: Event) -> Reply {
+    match store.ask(start) {
+        Reply::Started(sub) => carry_through(store, sub),
+        reply => reply,
+    }
+}
+
+// Takes the steps that an operation has left, and ends it. What memory was wanting for is tried again.
+fn carry_through<S: Store>(store: &mut S, sub: Sub) -> Reply {
+    let mut is_ready = false;
+    for _ in 0..ATTEMPTS {
+        let event = if is_ready {
+            Event::Finish(sub)
+        } else {
+            Event::Step(sub)
+        };
+        match store.ask(event) {
+            Reply::Stepped(Progress::Done(_)) => {}
+            Reply::Stepped(Progress::Ready) => is_ready = true,
+            Reply::Refused(Refusal::NoMemory) => {}
+            reply => return reply,
+        }
+    }
+    Reply::Refused(Refusal::NoMemory)
+}
+
+// Undoes all that a transaction did, and ends it. One that is aborting already goes on with that.
+fn abort<S: Store>(store: &mut S, txn: Txn) -> Reply {
+    match store.ask(Event::StartAbort(txn)) {
+        Reply::Aborting | Reply::Refused(Refusal::NotOpen) => undo_all(store, txn),
+        reply => reply,
+    }
+}
+
+// Undoes what an aborting transaction did, the newest first, and ends it. What is undone before a refusal stays so.
+fn undo_all<S: Store>(store: &mut S, txn: Txn) -> Reply {
+    for _ in 0..u64::MAX {
+        match whole(store, Event::UndoNext(txn)) {
+            Reply::Finished(Outcome::Undone) => {}
+            Reply::NothingLeft => return store.ask(Event::EndAbort(txn)),
+            reply => return reply,
+        }
+    }
+    Reply::Refused(Refusal::Unfinished)
+}
+
+fn ack<S: Store>(store: &mut S, txn: Txn) -> Reply {
+    match store.commit_of(txn) {
+        Ok(number) => store.ask(Event::Acknowledged(number)),
+        Err(refusal) => Reply::Refused(refusal),
+    }
+}
+
+// The start of a send.
+fn start_of(alloc: Global, post: Post<'_>) -> Result<Event, AllocError> {
+    let body = post.body.to_vec(alloc)?;
+    Ok(Event::StartSend {
+        txn: post.txn,
+        sender: post.sender,
+        tag: post.tag,
+        body,
+    })
+}

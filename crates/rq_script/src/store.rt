@@ -1,0 +1,135 @@
+//! Stores over devices in memory. What is here promises nothing, so that the proofs above speak of no engine.
+use crate::machine::Medium;
+use rq_disk::{LogDevice, MemLog, MemPages, PageChoice, PageDevice, Switch};
+use rq_engine::event::{Event, Reply};
+use rq_level::Level;
+use rq_model::refusal::Refusal;
+use rq_page::layout::Layout;
+use rq_planner::StoreLevels;
+use rq_restart::format::format;
+use rq_restart::restart::{Report, Stopped, restart};
+use rq_shared::kept::Kept;
+use std::alloc::{AllocError, Global};
+
+/// The pass under which a script's calls are kept.
+const PASS: u64 = 1;
+
+/// What opens a store over devices in memory.
+#[derive(Drop)]
+pub struct Memory<B: Level> {
+    alloc: Global,
+    switch: Switch,
+    /// The sets of levels that are left; each opening takes the last of them.
+    sets: Vec<StoreLevels<B>>,
+}
+
+impl<B: Level> Memory<B> {
+    /// A formatted store that is opened with these sets, and its devices.
+    pub fn formatted(
+        alloc: Global,
+        layout: &Layout,
+        sets: Vec<StoreLevels<B>>,
+    ) -> Result<(Memory<B>, (MemPages, MemLog)), Refusal> {
+        let Ok((switch, mut pages, log)) = devices(alloc, layout) else {
+            return Err(Refusal::NoMemory);
+        };
+        format_all(&mut pages, layout)?;
+        let memory = Memory {
+            alloc,
+            switch,
+            sets,
+        };
+        Ok((memory, (pages, log)))
+    }
+}
+
+impl<B: Level> Medium<Kept<MemPages, MemLog, B>, (MemPages, MemLog)> for Memory<B> {
+    fn open(
+        &mut self,
+        devices: (MemPages, MemLog),
+    ) -> Result<(Kept<MemPages, MemLog, B>, Report), (Refusal, (MemPages, MemLog))> {
+        let (pages, log) = devices;
+        match self.sets.pop() {
+            Some(levels) => open(self.alloc, pages, log, levels),
+            None => Err((Refusal::NoMemory, (pages, log))),
+        }
+    }
+
+    fn ask(&mut self, kept: &mut Kept<MemPages, MemLog, B>, event: Event) -> Reply {
+        reply_of(kept, event)
+    }
+
+    fn shut(&mut self, kept: Kept<MemPages, MemLog, B>) -> (MemPages, MemLog) {
+        handed_over(kept, &self.switch)
+    }
+
+    fn crash(
+        &mut self,
+        devices: (MemPages, MemLog),
+        choice: PageChoice,
+        keep: u64,
+    ) -> ((MemPages, MemLog), u64) {
+        let (pages, log) = devices;
+        let log = log.crash(keep);
+        let records = log.records();
+        ((pages.crash(choice), log), records)
+    }
+
+    fn records(&self, devices: &(MemPages, MemLog)) -> u64 {
+        devices.1.records()
+    }
+
+    fn switch(&self) -> &Switch {
+        &self.switch
+    }
+}
+
+// Devices in memory for a store, both under one switch.
+fn devices(alloc: Global, layout: &Layout) -> Result<(Switch, MemPages, MemLog), AllocError> {
+    let switch = Switch::new(alloc)?;
+    let pages = MemPages::zeroed(alloc, layout.pages(), switch.share()?)?;
+    let log = MemLog::new(alloc, Vec::new(alloc), switch.share()?);
+    Ok((switch, pages, log))
+}
+
+fn format_all<P: PageDevice>(pages: &mut P, layout: &Layout) -> Result<(), Refusal> {
+    format(pages, layout)
+}
+
+// Opens the store that the devices hold.
+fn open<P: PageDevice + Drop, L: LogDevice + Drop, B: Level>(
+    alloc: Global,
+    pages: P,
+    log: L,
+    levels: StoreLevels<B>,
+) -> Result<(Kept<P, L, B>, Report), (Refusal, (P, L))> {
+    match restart(alloc, pages, log, levels) {
+        Ok((engine, report)) => Ok((Kept::new(alloc, engine), report)),
+        Err(
+            Stopped {
+                refusal,
+                pages,
+                log,
+            },
+        ) => Err((refusal, (pages, log))),
+    }
+}
+
+fn reply_of<P: PageDevice + Drop, L: LogDevice + Drop, B: Level>(
+    kept: &mut Kept<P, L, B>,
+    event: Event,
+) -> Reply {
+    kept.step(PASS, event).into_reply()
+}
+
+// The devices of a store whose buffered records are handed over, which no failure meets.
+fn handed_over<P: PageDevice + Drop, L: LogDevice + Drop, B: Level>(
+    kept: Kept<P, L, B>,
+    switch: &Switch,
+) -> (P, L) {
+    let mut engine = kept.give_back();
+    switch.suspend();
+    let _ = engine.hand_over();
+    switch.resume();
+    engine.give_back()
+}
