@@ -1,5 +1,6 @@
 //! Two passes of a shared engine: what its audit holds, and to whose stamps it is tied.
 ghost use Rattle.std.specs.Prelude.{◌≡◌};
+ghost use Rattle.rq_shared.specs.Begun.{begins_with};
 ghost use Rattle.rq_shared.specs.Entries.{WasSound};
 
 use crate::calls::{devices, formatted};
@@ -90,6 +91,7 @@ fn share<G: Sharing, R: Wait>(
     requires name { (blank.name ≡ G.name) × (taking.name ≡ G.taking) }
     requires parts { (blank.parts ≡ G.parts) × (blank.parts ≡ 1024) × (taking.parts ≡ 1024) }
     requires sound { WasSound ⟦<MemPages as PageDevice>⟧ ⟦<MemLog as LogDevice>⟧ G.premise engine }
+    requires begins { begins_with engine ≡ G.begins }
 {
     let mut shared = Shared::<MemPages, MemLog, StoreLevel, G>::new(alloc, engine, blank, taking);
     let Some(mut one) = shared.pass() else {
