@@ -431,7 +431,7 @@ module _ (n : ℕ) (pages : MemPages) (log : MemLog) (h : Hold pages formatted_p
               turn = inl refl;
               none_lost = λ e. refl;
               full = omega (arith, e, le);
-        XX      recovering = λ left. Undoing (undoing_none (restarts n));
+              recovering = λ left. Undoing (undoing_none (restarts n));
             },
             (read_pages, gone n),
             only_read log,
