@@ -2,18 +2,16 @@
 //! is wanting for is made once more, and then answers as if nothing had happened.
 ghost use Rattle.std.specs.Prelude.{◌≡◌, IfOk};
 
-use crate::calls::{answered, crashed, devices, formatted, given_back, opened};
 use crate::lists;
-use rq_disk::{MemLog, MemPages, PageChoice};
+use crate::stores::{Machine, Medium, Store, blank};
+use rq_disk::PageChoice;
 use rq_engine::event::{CommitNo, Event, Outcome, Progress, Reply};
-use rq_levels::StoreLevel;
 use rq_model::reference::Reference;
 use rq_model::reference::rows::{Act, GroupContent as ListedGroup};
 use rq_model::refusal::Refusal;
 use rq_model::txn::{Lsn, Sub, Txn};
 use rq_page::layout::Layout;
-use rq_restart::restart::{Report, Stopped};
-use rq_shared::kept::Kept;
+use rq_restart::restart::Report;
 use std::alloc::Global;
 use std::test::Fail;
 
@@ -21,8 +19,6 @@ use std::test::Fail;
 type Trouble = &'static str;
 
 const NO_MEMORY: &str = "memory was wanting twice";
-
-const NO_ENGINE: &str = "a restart was refused";
 
 const DEVICE_NO_MEMORY: &str = "the device had no memory";
 
@@ -69,26 +65,24 @@ type Answered = (Call, Answer);
 
 /// The engine and the lists, of one directory and one cell page.
 #[derive(Drop)]
-struct Pair {
+struct Pair<S> {
     alloc: Global,
-    /// None where a crash could not be followed by a restart.
-    engine: Option<Kept<MemPages, MemLog, StoreLevel>>,
+    store: S,
     lists: Reference,
     txn: Txn,
     number: Option<CommitNo>,
 }
 
-impl Pair {
+impl<S: Store + Drop> Pair<S> {
     // A formatted store, opened, and lists of its size.
-    fn open(alloc: Global) -> Result<Pair, Trouble> {
-        let layout = Layout::new(1, 1).ok_or("a small store")?;
-        let (mut pages, log) = devices_at_second_try(alloc, &layout)?;
-        format_twice(&mut pages, &layout)?;
-        let (engine, report) = reopen(alloc, pages, log)?;
-        let lists = listed(alloc, &layout, report)?;
+    fn open(alloc: Global, layout: &Layout, store: S) -> Result<Pair<S>, Trouble> {
+        let mut store = store;
+        format_twice(&mut store, layout)?;
+        let report = open_twice(&mut store)?;
+        let lists = listed(alloc, layout, report)?;
         Ok(Pair {
             alloc,
-            engine: Some(engine),
+            store,
             lists,
             txn: Txn {
                 incarnation: 0,
@@ -112,13 +106,8 @@ impl Pair {
     // A crash that keeps no record that is not forced, and the restart. All was forced: the lists lose what was not
     // committed.
     fn crash(&mut self) -> Result<(), Trouble> {
-        let Some(engine) = self.engine.take() else {
-            return Err(NO_ENGINE);
-        };
-        let (pages, log) = given_back(engine);
-        let (pages, log) = crashed(pages, log, PageChoice::Newest, 0);
-        let (engine, report) = reopen(self.alloc, pages, log)?;
-        self.engine = Some(engine);
+        self.store.crash(PageChoice::Newest, 0);
+        let report = open_twice(&mut self.store)?;
         crash_lists(&mut self.lists, report)
     }
 
@@ -217,12 +206,9 @@ impl Pair {
 
     // Makes a call of the engine, once more where memory was wanting for it.
     fn ask_engine(&mut self, event: Event) -> Result<Reply, Trouble> {
-        let Some(engine) = &mut self.engine else {
-            return Err(NO_ENGINE);
-        };
         let again = copy_of(&event)?;
-        match answered(engine, 1, event) {
-            Reply::Refused(Refusal::NoMemory) => Ok(answered(engine, 1, again)),
+        match self.store.ask(event) {
+            Reply::Refused(Refusal::NoMemory) => Ok(self.store.ask(again)),
             Reply::Refused(Refusal::DiskWrite) => Err(DEVICE_NO_MEMORY),
             reply => Ok(reply),
         }
@@ -378,17 +364,8 @@ fn crash_lists(lists: &mut Reference, report: Report) -> Result<(), Trouble> {
     Ok(())
 }
 
-fn devices_at_second_try(alloc: Global, layout: &Layout) -> Result<(MemPages, MemLog), Trouble> {
-    let made = match devices(alloc, layout) {
-        Ok(made) => Ok(made),
-        Err(_) => devices(alloc, layout),
-    };
-    let (_, pages, log) = made.map_err(|_| NO_MEMORY)?;
-    Ok((pages, log))
-}
-
-fn format_twice(pages: &mut MemPages, layout: &Layout) -> Result<(), Trouble> {
-    if formatted(pages, layout).is_ok() || formatted(pages, layout).is_ok() {
+fn format_twice<S: Store>(store: &mut S, layout: &Layout) -> Result<(), Trouble> {
+    if store.format(layout).is_ok() || store.format(layout).is_ok() {
         Ok(())
     } else {
         Err("format")
@@ -396,25 +373,11 @@ fn format_twice(pages: &mut MemPages, layout: &Layout) -> Result<(), Trouble> {
 }
 
 // Opens the store, at the second try where memory was wanting at the first.
-fn reopen(
-    alloc: Global,
-    pages: MemPages,
-    log: MemLog,
-) -> Result<(Kept<MemPages, MemLog, StoreLevel>, Report), Trouble> {
-    let Stopped {
-        refusal,
-        pages,
-        log,
-    } = match opened(alloc, pages, log) {
-        Ok(opened) => return Ok(opened),
-        Err(stopped) => stopped,
-    };
-    if refusal != Refusal::NoMemory {
-        return Err(DEVICE_NO_MEMORY);
-    }
-    match opened(alloc, pages, log) {
-        Ok(opened) => Ok(opened),
-        Err(_) => Err("restart"),
+fn open_twice<S: Store>(store: &mut S) -> Result<Report, Trouble> {
+    match store.restart() {
+        Ok(report) => Ok(report),
+        Err(Refusal::NoMemory) => store.restart().map_err(|_| "restart"),
+        Err(_) => Err(DEVICE_NO_MEMORY),
     }
 }
 
@@ -434,7 +397,33 @@ fn copy_of_bytes(alloc: Global, bytes: &[u8]) -> Result<Vec<u8>, Trouble> {
 
 // A test: calls up to a crash, and those behind the restart that follows, each with what is answered to it.
 fn check(alloc: Global, calls: &[Answered], behind: &[Answered]) -> Result<(), Trouble> {
-    let mut pair = Pair::open(alloc)?;
+    let layout = Layout::new(1, 1).ok_or("a small store")?;
+    let (memory, devices) = match blank(alloc, &layout) {
+        Ok(made) => made,
+        Err(_) => blank(alloc, &layout).map_err(|_| NO_MEMORY)?,
+    };
+    check_over(alloc, &layout, memory, devices, calls, behind)
+}
+
+fn check_over<K: Drop, D: Drop, M: Medium<K, D> + Drop>(
+    alloc: Global,
+    layout: &Layout,
+    medium: M,
+    devices: D,
+    calls: &[Answered],
+    behind: &[Answered],
+) -> Result<(), Trouble> {
+    check_on(alloc, layout, Machine::new(medium, devices), calls, behind)
+}
+
+fn check_on<S: Store + Drop>(
+    alloc: Global,
+    layout: &Layout,
+    store: S,
+    calls: &[Answered],
+    behind: &[Answered],
+) -> Result<(), Trouble> {
+    let mut pair = Pair::open(alloc, layout, store)?;
     pair.make_both(calls, behind)
 }
 

@@ -50,13 +50,6 @@ pub fn answered<P: PageDevice + Drop, L: LogDevice + Drop>(
     store.step(pass, event).into_reply()
 }
 
-/// The devices of a store.
-pub fn given_back<P: PageDevice + Drop, L: LogDevice + Drop>(
-    store: Kept<P, L, StoreLevel>,
-) -> (P, L) {
-    store.give_back().give_back()
-}
-
 /// The devices of a store whose buffered records are handed over, which no failure meets.
 pub fn handed_over<P: PageDevice + Drop, L: LogDevice + Drop>(
     store: Kept<P, L, StoreLevel>,

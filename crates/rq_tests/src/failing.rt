@@ -1,22 +1,17 @@
 //! Each device call of a run fails once, in turn: it is answered as a failure of the device, every call behind it as of
 //! a failed store, and a crash that follows leaves what was committed and forced, and nothing else.
-use crate::calls::{answered, crashed, devices, formatted, handed_over, opened};
+use crate::stores::{Machine, Medium, Store, blank};
 use rq_content::GroupContent;
-use rq_disk::{MemLog, MemPages, Mishap, PageChoice, Switch};
+use rq_disk::PageChoice;
 use rq_engine::event::{CommitNo, Event, Outcome, Progress, Reply};
-use rq_levels::StoreLevel;
 use rq_model::refusal::Refusal;
 use rq_model::txn::{Sub, Txn};
 use rq_page::layout::Layout;
-use rq_restart::restart::Stopped;
-use rq_shared::kept::Kept;
 use std::alloc::Global;
 use std::test::Fail;
 
 /// Why a run ends that should not.
 type Trouble = &'static str;
-
-type Store = Kept<MemPages, MemLog, StoreLevel>;
 
 /// A call of a run, of the transaction that was begun last or named since, for the first sender, or for the commit that
 /// was made last.
@@ -79,7 +74,6 @@ struct Plan {
 #[derive(Drop)]
 struct Run {
     alloc: Global,
-    switch: Switch,
     /// How often a call was answered as a failure of the device.
     failures: u32,
     /// Whether a call of the plan was.
@@ -91,10 +85,9 @@ struct Run {
 }
 
 impl Run {
-    fn new(alloc: Global, switch: Switch) -> Run {
+    fn new(alloc: Global) -> Run {
         Run {
             alloc,
-            switch,
             failures: 0,
             is_cut: false,
             forces: 0,
@@ -117,36 +110,33 @@ impl Run {
         }
     }
 
-    // A formatted store, at the second try where the first failed.
-    fn format(&mut self, pages: &mut MemPages, layout: &Layout) -> Result<(), Trouble> {
-        match formatted(pages, layout) {
+    // Writes the pages of an empty store, at the second try where the first failed.
+    fn format<S: Store>(&mut self, store: &mut S, layout: &Layout) -> Result<(), Trouble> {
+        match store.format(layout) {
             Ok(()) => Ok(()),
             Err(refusal) => {
                 self.count(refusal)?;
-                formatted(pages, layout).map_err(|_| "a second failure")
+                store.format(layout).map_err(|_| "a second failure")
             }
         }
     }
 
-    // The store that the devices hold, at the second try where the first failed.
-    fn open(&mut self, pages: MemPages, log: MemLog) -> Result<Store, Trouble> {
-        let Stopped {
-            refusal,
-            pages,
-            log,
-        } = match opened(self.alloc, pages, log) {
-            Ok((store, _)) => return Ok(store),
-            Err(stopped) => stopped,
-        };
-        self.count(refusal)?;
-        match opened(self.alloc, pages, log) {
-            Ok((store, _)) => Ok(store),
-            Err(_) => Err("a second failure"),
+    // Opens the store, at the second try where the first failed.
+    fn open<S: Store>(&mut self, store: &mut S) -> Result<(), Trouble> {
+        match store.restart() {
+            Ok(_) => Ok(()),
+            Err(refusal) => {
+                self.count(refusal)?;
+                match store.restart() {
+                    Ok(_) => Ok(()),
+                    Err(_) => Err("a second failure"),
+                }
+            }
         }
     }
 
     // Makes the calls. The device has to be the cause of the first refusal, and the store has failed then.
-    fn make_all(&mut self, store: &mut Store, calls: &[Call]) -> Result<(), Trouble> {
+    fn make_all<S: Store>(&mut self, store: &mut S, calls: &[Call]) -> Result<(), Trouble> {
         for call in calls {
             if self.is_cut {
                 self.make_of_failed(store, *call)?;
@@ -160,7 +150,7 @@ impl Run {
     }
 
     // A call of a store that failed.
-    fn make_of_failed(&mut self, store: &mut Store, call: Call) -> Result<(), Trouble> {
+    fn make_of_failed<S: Store>(&mut self, store: &mut S, call: Call) -> Result<(), Trouble> {
         let asks = match call {
             Call::As(_) => false,
             Call::Acknowledge(_) => self.number.is_some(),
@@ -173,7 +163,7 @@ impl Run {
         }
     }
 
-    fn make(&mut self, store: &mut Store, call: Call) -> Result<(), Refusal> {
+    fn make<S: Store>(&mut self, store: &mut S, call: Call) -> Result<(), Refusal> {
         match call {
             Call::Begin => self.ask(store, Event::Begin),
             Call::As(count) => {
@@ -190,7 +180,7 @@ impl Run {
     }
 
     // A call of the transaction that starts an operation, or belongs to its abort.
-    fn operate(&mut self, store: &mut Store, call: Call) -> Result<(), Refusal> {
+    fn operate<S: Store>(&mut self, store: &mut S, call: Call) -> Result<(), Refusal> {
         let txn = self.txn;
         match call {
             Call::Send(tag, body) => self.send(store, tag, body),
@@ -206,7 +196,7 @@ impl Run {
     }
 
     // Makes a call, and keeps the number that it answers.
-    fn ask(&mut self, store: &mut Store, event: Event) -> Result<(), Refusal> {
+    fn ask<S: Store>(&mut self, store: &mut S, event: Event) -> Result<(), Refusal> {
         match ask(store, event)? {
             Reply::Begun(txn) => self.txn = txn,
             Reply::Committed(number) => self.number = Some(number),
@@ -215,13 +205,13 @@ impl Run {
         Ok(())
     }
 
-    fn force(&mut self, store: &mut Store) -> Result<(), Refusal> {
+    fn force<S: Store>(&mut self, store: &mut S) -> Result<(), Refusal> {
         self.ask(store, Event::Force)?;
         self.forces = self.forces.saturating_add(1);
         Ok(())
     }
 
-    fn send(&mut self, store: &mut Store, tag: u64, body: &[u8]) -> Result<(), Refusal> {
+    fn send<S: Store>(&mut self, store: &mut S, tag: u64, body: &[u8]) -> Result<(), Refusal> {
         let Ok(body) = Vec::from_slice(self.alloc, body) else {
             return Err(Refusal::NoMemory);
         };
@@ -235,7 +225,7 @@ impl Run {
         holding(is_sent(&reply))
     }
 
-    fn send_to_closed(&mut self, store: &mut Store) -> Result<(), Refusal> {
+    fn send_to_closed<S: Store>(&mut self, store: &mut S) -> Result<(), Refusal> {
         match self.send(store, 2, b"b") {
             Err(Refusal::Closed) => Ok(()),
             Err(refusal) => Err(refusal),
@@ -243,7 +233,7 @@ impl Run {
         }
     }
 
-    fn acknowledge(&mut self, store: &mut Store, wanted: bool) -> Result<(), Refusal> {
+    fn acknowledge<S: Store>(&mut self, store: &mut S, wanted: bool) -> Result<(), Refusal> {
         let Some(number) = self.number else {
             return Err(Refusal::UnknownTransaction);
         };
@@ -253,33 +243,37 @@ impl Run {
 
     // What is left after a crash: buffered records are handed over, which no failure meets, and so many of the unforced
     // ones outlive it.
-    fn crash(&mut self, store: Store, plan: &Plan, choice: PageChoice) -> Result<(), Trouble> {
-        let (pages, log) = handed_over(store, &self.switch);
-        let (pages, log) = crashed(pages, log, choice, plan.keep);
-        let mut store = self.open(pages, log)?;
+    fn crash<S: Store>(
+        &mut self,
+        store: &mut S,
+        plan: &Plan,
+        choice: PageChoice,
+    ) -> Result<(), Trouble> {
+        store.crash(choice, plan.keep);
+        self.open(store)?;
         match plan.left.get(self.forces) {
-            Some(left) => is_left(&mut store, left),
+            Some(left) => is_left(store, left),
             None => Err("a force too many"),
         }
     }
 }
 
-fn ask(store: &mut Store, event: Event) -> Result<Reply, Refusal> {
-    match answered(store, 1, event) {
+fn ask<S: Store>(store: &mut S, event: Event) -> Result<Reply, Refusal> {
+    match store.ask(event) {
         Reply::Refused(refusal) => Err(refusal),
         reply => Ok(reply),
     }
 }
 
 // An operation from its start to its end: what the end is answered.
-fn carry_out(store: &mut Store, start: Event) -> Result<Reply, Refusal> {
+fn carry_out<S: Store>(store: &mut S, start: Event) -> Result<Reply, Refusal> {
     match ask(store, start)? {
         Reply::Started(sub) => carry_through(store, sub),
         _ => Err(Refusal::UnknownOperation),
     }
 }
 
-fn carry_through(store: &mut Store, sub: Sub) -> Result<Reply, Refusal> {
+fn carry_through<S: Store>(store: &mut S, sub: Sub) -> Result<Reply, Refusal> {
     for _ in 0..4 {
         if is_ready(store, sub)? {
             return ask(store, Event::Finish(sub));
@@ -289,7 +283,7 @@ fn carry_through(store: &mut Store, sub: Sub) -> Result<Reply, Refusal> {
 }
 
 // Makes the next step of an operation. Whether none is left.
-fn is_ready(store: &mut Store, sub: Sub) -> Result<bool, Refusal> {
+fn is_ready<S: Store>(store: &mut S, sub: Sub) -> Result<bool, Refusal> {
     match ask(store, Event::Step(sub))? {
         Reply::Stepped(Progress::Ready) => Ok(true),
         _ => Ok(false),
@@ -305,17 +299,17 @@ fn holding(holds: bool) -> Result<(), Refusal> {
     }
 }
 
-fn close(store: &mut Store, txn: Txn) -> Result<(), Refusal> {
+fn close<S: Store>(store: &mut S, txn: Txn) -> Result<(), Refusal> {
     let reply = carry_out(store, Event::StartClose { txn, sender: 0 })?;
     holding(is_closed(&reply))
 }
 
-fn undo(store: &mut Store, txn: Txn) -> Result<(), Refusal> {
+fn undo<S: Store>(store: &mut S, txn: Txn) -> Result<(), Refusal> {
     let reply = carry_out(store, Event::UndoNext(txn))?;
     holding(is_undone(&reply))
 }
 
-fn receive(store: &mut Store, txn: Txn, body: &[u8]) -> Result<(), Refusal> {
+fn receive<S: Store>(store: &mut S, txn: Txn, body: &[u8]) -> Result<(), Refusal> {
     let reply = carry_out(store, Event::StartReceive(txn))?;
     holding(is_message(&reply, body))
 }
@@ -348,7 +342,7 @@ fn is_message(reply: &Reply, body: &[u8]) -> bool {
     }
 }
 
-fn abort(store: &mut Store, txn: Txn) -> Result<(), Refusal> {
+fn abort<S: Store>(store: &mut S, txn: Txn) -> Result<(), Refusal> {
     ask(store, Event::StartAbort(txn))?;
     for _ in 0..4 {
         if is_all_undone(store, txn)? {
@@ -359,7 +353,7 @@ fn abort(store: &mut Store, txn: Txn) -> Result<(), Refusal> {
 }
 
 // Takes back what the transaction did last. Whether nothing was left.
-fn is_all_undone(store: &mut Store, txn: Txn) -> Result<bool, Refusal> {
+fn is_all_undone<S: Store>(store: &mut S, txn: Txn) -> Result<bool, Refusal> {
     match ask(store, Event::UndoNext(txn))? {
         Reply::NothingLeft => Ok(true),
         Reply::Started(sub) => carry_back(store, sub),
@@ -368,7 +362,7 @@ fn is_all_undone(store: &mut Store, txn: Txn) -> Result<bool, Refusal> {
 }
 
 // Carries an inverse through. Something may be left then.
-fn carry_back(store: &mut Store, sub: Sub) -> Result<bool, Refusal> {
+fn carry_back<S: Store>(store: &mut S, sub: Sub) -> Result<bool, Refusal> {
     let reply = carry_through(store, sub)?;
     if is_undone(&reply) {
         Ok(false)
@@ -377,7 +371,7 @@ fn carry_back(store: &mut Store, sub: Sub) -> Result<bool, Refusal> {
     }
 }
 
-fn end_abort(store: &mut Store, txn: Txn) -> Result<(), Refusal> {
+fn end_abort<S: Store>(store: &mut S, txn: Txn) -> Result<(), Refusal> {
     match ask(store, Event::EndAbort(txn))? {
         Reply::Aborted => Ok(()),
         _ => Err(Refusal::UnknownOperation),
@@ -391,14 +385,14 @@ fn is_given(reply: &Reply) -> bool {
     }
 }
 
-fn is_failed(store: &mut Store) -> Result<(), Trouble> {
+fn is_failed<S: Store>(store: &mut S) -> Result<(), Trouble> {
     match ask(store, Event::Begin) {
         Err(Refusal::Failed) => Ok(()),
         _ => Err("a call of a failed store"),
     }
 }
 
-fn is_left(store: &mut Store, left: &Left) -> Result<(), Trouble> {
+fn is_left<S: Store>(store: &mut S, left: &Left) -> Result<(), Trouble> {
     let Ok(Reply::Content(groups)) = ask(store, Event::Content) else {
         return Err("no content");
     };
@@ -424,14 +418,38 @@ fn holds(group: &GroupContent, left: &Left) -> bool {
 // A run whose nth device call fails, through a crash; whether it made so many.
 fn run_failing(alloc: Global, plan: &Plan, choice: PageChoice, n: u64) -> Result<bool, Trouble> {
     let layout = Layout::new(1, 1).ok_or("a small store")?;
-    let (switch, mut pages, log) = devices(alloc, &layout).map_err(|_| "memory")?;
-    switch.arm_call(n, Mishap::Fail);
-    let mut run = Run::new(alloc, switch);
-    run.format(&mut pages, &layout)?;
-    let mut store = run.open(pages, log)?;
-    run.make_all(&mut store, plan.calls)?;
+    let (memory, devices) = blank(alloc, &layout).map_err(|_| "memory")?;
+    run_over(alloc, memory, devices, &layout, plan, choice, n)
+}
+
+fn run_over<K: Drop, D: Drop, M: Medium<K, D> + Drop>(
+    alloc: Global,
+    medium: M,
+    devices: D,
+    layout: &Layout,
+    plan: &Plan,
+    choice: PageChoice,
+    n: u64,
+) -> Result<bool, Trouble> {
+    let mut store = Machine::new(medium, devices);
+    is_met(alloc, &mut store, layout, plan, choice, n)
+}
+
+fn is_met<S: Store>(
+    alloc: Global,
+    store: &mut S,
+    layout: &Layout,
+    plan: &Plan,
+    choice: PageChoice,
+    n: u64,
+) -> Result<bool, Trouble> {
+    store.fail(n);
+    let mut run = Run::new(alloc);
+    run.format(store, layout)?;
+    run.open(store)?;
+    run.make_all(store, plan.calls)?;
     run.crash(store, plan, choice)?;
-    let is_met = run.switch.calls() >= n;
+    let is_met = store.calls() >= n;
     if run.failures != u32::from(is_met) {
         return Err("a failure that nobody told, or one too many");
     }

@@ -29,6 +29,8 @@ mod several;
 #[cfg(test)]
 mod sharing;
 #[cfg(test)]
+mod stores;
+#[cfg(test)]
 mod taken;
 #[cfg(test)]
 mod told;

@@ -1,20 +1,18 @@
 //! Anything that a store is asked, with several operations under way at once, crashes and restarts: courses that a seed
 //! gives, of an engine beside the plain lists. Each answer is told by the lists, and so is which start is refused for a
 //! latched page.
-use crate::calls::{answered, crashed, devices, formatted, handed_over, opened, stopped};
 use crate::chains::{Chains, Kind, Pages, Tally};
 use crate::drawn::{LOWEST, drawn, pages_of};
 use crate::moves::{Cut, Move};
+use crate::stores::{Machine, Medium, Store, blank};
 use crate::told::{Told, told_by};
 use rq_content::GroupContent;
-use rq_disk::{MemLog, MemPages, PageChoice, Switch};
+use rq_disk::PageChoice;
 use rq_engine::event::{CommitNo, Event, Reply};
-use rq_levels::StoreLevel;
 use rq_model::refusal::Refusal;
 use rq_model::txn::{Lsn, Sub};
 use rq_page::layout::Layout;
 use rq_restart::restart::Report;
-use rq_shared::kept::Kept;
 use std::alloc::{AllocError, Global};
 use std::test::Fail;
 
@@ -113,8 +111,6 @@ const WANTED: [(Kind, u64); 88] = [
     (Kind::UnknownOperation, 1300),
 ];
 
-type Store = Kept<MemPages, MemLog, StoreLevel>;
-
 /// The first move that comes to something else than it should, counted from 1.
 #[derive(Clone, Copy, Debug, PartialEq, Eq)]
 struct Fault {
@@ -132,36 +128,25 @@ struct Answers {
 
 /// A store through a course.
 #[derive(Drop)]
-struct Course {
+struct Course<S> {
     alloc: Global,
-    switch: Switch,
-    /// None where a restart was refused.
-    store: Option<Store>,
+    store: S,
     /// The number that each move gave, of a commit.
     numbers: Vec<Option<CommitNo>>,
     answers: Answers,
 }
 
-impl Course {
-    // A formatted store of so many pages, opened.
-    fn open(alloc: Global, store: Pages) -> Result<Course, &'static str> {
-        let layout = Layout::new(store.directory, store.cells).ok_or("a store")?;
-        let (switch, mut pages, log) = devices(alloc, &layout).map_err(|_| "devices")?;
-        formatted(&mut pages, &layout).map_err(|_| "format")?;
-        let store = match opened(alloc, pages, log) {
-            Ok((store, _)) => store,
-            Err(_) => return Err("restart"),
-        };
-        Ok(Course {
+impl<S: Store> Course<S> {
+    fn new(alloc: Global, store: S) -> Course<S> {
+        Course {
             alloc,
-            switch,
-            store: Some(store),
+            store,
             numbers: Vec::new(alloc),
             answers: Answers {
                 told: Vec::new(alloc),
                 contents: Vec::new(alloc),
             },
-        })
+        }
     }
 
     fn make(&mut self, next: &Move) -> Result<(), AllocError> {
@@ -176,10 +161,7 @@ impl Course {
     }
 
     fn call(&mut self, event: Event) -> Result<(Told, Option<CommitNo>), AllocError> {
-        let Some(store) = &mut self.store else {
-            return Ok((Told::Other, None));
-        };
-        let reply = answered(store, 1, event);
+        let reply = self.store.ask(event);
         if wants_memory(&reply) {
             return Err(AllocError);
         }
@@ -202,46 +184,29 @@ impl Course {
     }
 
     fn crash(&mut self, cut: &Cut) -> Result<Told, AllocError> {
-        let Some(store) = self.store.take() else {
-            return Ok(Told::Other);
-        };
-        let (pages, log) = handed_over(store, &self.switch);
         let choice = if cut.newest {
             PageChoice::Newest
         } else {
             PageChoice::Synced
         };
-        let (pages, log) = crashed(pages, log, choice, cut.keep);
-        let (pages, log, records) = self.stop_all(pages, log, cut)?;
-        match opened(self.alloc, pages, log) {
-            Ok((store, report)) => {
-                self.store = Some(store);
-                Ok(told_of_opening(&report, records))
-            }
-            Err(stopped) if stopped.refusal == Refusal::NoMemory => Err(AllocError),
-            Err(stopped) => Ok(Told::Refused(stopped.refusal)),
+        self.store.crash(choice, cut.keep);
+        let records = self.stop_all(cut)?;
+        match self.store.restart() {
+            Ok(report) => Ok(told_of_opening(&report, records)),
+            Err(Refusal::NoMemory) => Err(AllocError),
+            Err(refusal) => Ok(Told::Refused(refusal)),
         }
     }
 
     // Restarts that are stopped, and how many records each leaves.
-    fn stop_all(
-        &self,
-        pages: MemPages,
-        log: MemLog,
-        cut: &Cut,
-    ) -> Result<(MemPages, MemLog, [Lsn; 3]), AllocError> {
-        let mut pages = pages;
-        let mut log = log;
+    fn stop_all(&mut self, cut: &Cut) -> Result<[Lsn; 3], AllocError> {
         let mut records = [0; 3];
         for (stop, left) in cut.stops.iter().zip(records.iter_mut()) {
             if let Some(keep) = stop {
-                let (pages_left, log_left) = stopped(self.alloc, &self.switch, pages, log, *keep)?;
-                pages = pages_left;
-                log = log_left;
-                *left = log.records();
+                *left = self.store.stop(*keep)?;
             }
         }
-        Ok((pages, log, records))
+        Ok(records)
     }
 }
 
@@ -263,14 +228,37 @@ fn wants_memory(reply: &Reply) -> bool {
     )
 }
 
+// Makes the moves of a formatted store of so many pages.
 fn played(alloc: Global, store: Pages, moves: &[Move]) -> Result<Answers, &'static str> {
-    let mut course = Course::open(alloc, store)?;
+    let layout = Layout::new(store.directory, store.cells).ok_or("a store")?;
+    let (memory, devices) = blank(alloc, &layout).map_err(|_| "memory")?;
+    played_over(alloc, memory, devices, &layout, moves)
+}
+
+fn played_over<K: Drop, D: Drop, M: Medium<K, D> + Drop>(
+    alloc: Global,
+    medium: M,
+    devices: D,
+    layout: &Layout,
+    moves: &[Move],
+) -> Result<Answers, &'static str> {
+    let mut store = Machine::new(medium, devices);
+    store.format(layout).map_err(|_| "format")?;
+    store.restart().map_err(|_| "restart")?;
+    played_on(alloc, store, moves)
+}
+
+fn played_on<S: Store + Drop>(
+    alloc: Global,
+    store: S,
+    moves: &[Move],
+) -> Result<Answers, &'static str> {
+    let mut course = Course::new(alloc, store);
     for next in moves {
         course.make(next).map_err(|_| "memory")?;
     }
     let Course {
         alloc: _,
-        switch: _,
         store: _,
         numbers: _,
         answers,

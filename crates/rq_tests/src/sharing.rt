@@ -7,6 +7,7 @@ use crate::calls::{devices, formatted};
 use rq_disk::{LogDevice, MemLog, MemPages, PageDevice};
 use rq_engine::engine::Engine;
 use rq_engine::event::Event;
+use rq_level::Level;
 use rq_levels::{StoreLevel, levels_of_store};
 use rq_model::txn::{Sub, Txn};
 use rq_page::layout::Layout;
@@ -66,10 +67,10 @@ fn events(alloc: Global, txn: Txn, sender: u32) -> Result<Vec<Event>, AllocError
 }
 
 // Makes the calls under a pass, one after the other: their stamps.
-fn stamped<G: Sharing, R: Wait>(
+fn stamped<P: PageDevice + Drop, L: LogDevice + Drop, B: Level, G: Sharing, R: Wait>(
     rt: &R,
     alloc: Global,
-    front: &Front<MemPages, MemLog, StoreLevel, G>,
+    front: &Front<P, L, B, G>,
     pass: &mut Pass<G>,
     events: &[Event],
 ) -> Result<Vec<Stamped>, AllocError> {
@@ -81,19 +82,19 @@ fn stamped<G: Sharing, R: Wait>(
 }
 
 // Two transactions under a pass each, and what the audit holds then.
-fn share<G: Sharing, R: Wait>(
+fn share<P: PageDevice + Drop, L: LogDevice + Drop, B: Level, G: Sharing, R: Wait>(
     rt: &R,
     alloc: Global,
-    engine: Engine<MemPages, MemLog, StoreLevel>,
+    engine: Engine<P, L, B>,
     blank: Blank,
     taking: Blank,
 ) -> Result<Seen, AllocError>
     requires name { (blank.name ≡ G.name) × (taking.name ≡ G.taking) }
     requires parts { (blank.parts ≡ G.parts) × (blank.parts ≡ 1024) × (taking.parts ≡ 1024) }
-    requires sound { WasSound ⟦<MemPages as PageDevice>⟧ ⟦<MemLog as LogDevice>⟧ G.premise engine }
+    requires sound { WasSound P.PageDevice L.LogDevice G.premise engine }
     requires begins { begins_with engine ≡ G.begins }
 {
-    let mut shared = Shared::<MemPages, MemLog, StoreLevel, G>::new(alloc, engine, blank, taking);
+    let mut shared = Shared::<P, L, B, G>::new(alloc, engine, blank, taking);
     let Some(mut one) = shared.pass() else {
         return Err(AllocError);
     };
@@ -150,7 +151,14 @@ fn seen_of(audit: &[AuditEntry], left: usize, stamps: Vec<Stamped>, others: Vec<
 
 fn look<R: Wait>(rt: &R, alloc: Global) -> Result<Seen, &'static str> {
     let engine = small_engine(alloc)?;
-    share::<Brand, R>(rt, alloc, engine, Blank::new(1024), Blank::new(1024)).map_err(|_| "memory")
+    let taking = Blank::new(1024);
+    share::<MemPages, MemLog, StoreLevel, Brand, R>(
+        rt,
+        alloc,
+        engine,
+        Blank::new(1024),
+        taking,
+    ).map_err(|_| "memory")
 }
 
 #[test]
