@@ -10,6 +10,7 @@ use crate::stores::{
 use rq_disk::{LogDevice, MemLog, MemPages, PageDevice};
 use rq_engine::engine::Engine;
 use rq_engine::event::{Event, Outcome, Reply};
+use rq_level::Level;
 use rq_levels::StoreLevel;
 use rq_model::refusal::Refusal;
 use rq_model::txn::Txn;
@@ -62,13 +63,67 @@ impl Gate for Often<'_> {
     }
 }
 
+/// What a test has a worker do.
+#[derive(Clone, Copy)]
+enum Task {
+    /// A send while another transaction's is under way.
+    SendBeside,
+    /// A send where the gate says no everywhere.
+    SendStopped,
+    /// To undo a send, and to undo again.
+    UndoTwice,
+    /// To undo a send while another transaction's is under way.
+    UndoBeside,
+    WritePages,
+    /// A force, which is no start.
+    Force,
+}
+
+/// What came of the last operation, and whether the worker goes on.
+type Came = (Ended, bool);
+
 // The functions that follow, and those of `stores`, promise nothing, and most know of no store: so a test of many calls is
 // checked fast.
 
-// What comes of the operation that this call starts, where the gate lets it be tried again so often.
-fn run_by<S: Steps, R: Wait>(rt: &R, left: &AtomicU64, steps: S, start: &Event) -> (Ended, S) {
-    let (ended, _, steps) = carried_out(rt, lets_through(BEFORE_AGAIN, left), steps, start);
-    (ended, steps)
+// What comes of a task over a small store where the gate lets through so often, and the calls that were made.
+fn seen<R: Wait>(
+    rt: &R,
+    alloc: Global,
+    task: Task,
+    left: &AtomicU64,
+) -> Option<(Option<Came>, Vec<Event>)> {
+    let (came, steps) = tried(rt, alloc, task, left, small_steps(alloc).ok()?);
+    let calls = calls_made(alloc, steps)?;
+    Some((came, calls))
+}
+
+fn tried<S: Steps, R: Wait>(
+    rt: &R,
+    alloc: Global,
+    task: Task,
+    left: &AtomicU64,
+    steps: S,
+) -> (Option<Came>, S) {
+    match task {
+        Task::SendBeside => send_beside(rt, alloc, left, steps),
+        Task::SendStopped => send_stopped(rt, alloc, left, steps),
+        Task::UndoTwice => undo_twice(rt, alloc, left, steps),
+        Task::UndoBeside => undo_beside(rt, alloc, left, steps),
+        Task::WritePages => write_pages(rt, left, steps),
+        Task::Force => run_by(rt, BEFORE_FORCE, left, steps, &Event::Force),
+    }
+}
+
+// What comes of the operation that this call starts, where the gate lets through so often at this point.
+fn run_by<S: Steps, R: Wait>(
+    rt: &R,
+    point: u32,
+    left: &AtomicU64,
+    steps: S,
+    start: &Event,
+) -> (Option<Came>, S) {
+    let (ended, goes_on, steps) = carried_out(rt, lets_through(point, left), steps, start);
+    (Some((ended, goes_on)), steps)
 }
 
 // Starts a send of another transaction, and leaves it under way.
@@ -85,65 +140,53 @@ fn start_beside<S: Steps>(alloc: Global, steps: &mut S) -> Option<Event> {
     Some(start)
 }
 
-// What comes of that, where the gate lets it be tried again so often.
-fn run_beside<S: Steps, R: Wait>(
+fn send_beside<S: Steps, R: Wait>(
     rt: &R,
     alloc: Global,
     left: &AtomicU64,
     steps: S,
-) -> (Option<Ended>, S) {
+) -> (Option<Came>, S) {
     let mut steps = steps;
-    let Some(start) = start_beside(alloc, &mut steps) else {
-        return (None, steps);
-    };
-    let (ended, steps) = run_by(rt, left, steps, &start);
-    (Some(ended), steps)
-}
-
-// The same over a store, and the calls made, with the two begins and the other's start.
-fn send_beside<R: Wait>(rt: &R, alloc: Global, left: &AtomicU64) -> Option<(Ended, usize)> {
-    let (ended, steps) = run_beside(rt, alloc, left, small_steps(alloc).ok()?);
-    let calls = calls_made(steps);
-    Some((ended?, calls))
+    match start_beside(alloc, &mut steps) {
+        Some(start) => run_by(rt, BEFORE_AGAIN, left, steps, &start),
+        None => (None, steps),
+    }
 }
 
 #[test]
 fn a_latched_start_is_tried_again(rt: HostRuntime) -> Result<(), Fail> {
     let left = AtomicU64::new(2);
-    let seen = send_beside(&rt, rt.alloc(), &left).ok_or("a store")?;
-    assert_eq!(rt;
-        seen,
-        (Ended::Refused(Refusal::Latched), 6),
-        "three times, and then the gate says no"
+    let (came, calls) = seen(&rt, rt.alloc(), Task::SendBeside, &left).ok_or("a store")?;
+    let (ended, _) = came.ok_or("a send")?;
+    assert!(rt; ended == Ended::Refused(Refusal::Latched));
+    assert!(rt; calls.len() == 6, "three times, and then the gate says no");
+    assert!(rt;
+        left.load(Ordering::SeqCst) == 0,
+        "it was asked before each"
     );
-    assert_eq!(rt; left.load(Ordering::SeqCst), 0, "it was asked before each");
     Ok(())
 }
 
-// What comes of a send where the gate says no everywhere, and whether the worker goes on.
-fn run_stopped<S: Steps, R: Wait>(rt: &R, alloc: Global, steps: S) -> (Option<(Ended, bool)>, S) {
+fn send_stopped<S: Steps, R: Wait>(
+    rt: &R,
+    alloc: Global,
+    left: &AtomicU64,
+    steps: S,
+) -> (Option<Came>, S) {
     let mut steps = steps;
-    let Some((_, start)) = start_of_send(alloc, &mut steps, 1, b'x') else {
-        return (None, steps);
-    };
-    let left = AtomicU64::new(0);
-    let gate = lets_through(BEFORE_AGAIN, &left);
-    let (ended, goes_on, steps) = carried_out(rt, gate, steps, &start);
-    (Some((ended, goes_on)), steps)
-}
-
-fn send_stopped<R: Wait>(rt: &R, alloc: Global) -> Option<(Ended, bool)> {
-    let (seen, steps) = run_stopped(rt, alloc, small_steps(alloc).ok()?);
-    drop(steps);
-    seen
+    match start_of_send(alloc, &mut steps, 1, b'x') {
+        Some((_, start)) => run_by(rt, BEFORE_AGAIN, left, steps, &start),
+        None => (None, steps),
+    }
 }
 
 #[test]
 fn a_started_operation_is_gone_through(rt: HostRuntime) -> Result<(), Fail> {
-    let seen = send_stopped(&rt, rt.alloc()).ok_or("a store")?;
-    assert_eq!(rt;
-        seen,
-        (Ended::Finished(Outcome::Sent), false),
+    let left = AtomicU64::new(0);
+    let (came, _) = seen(&rt, rt.alloc(), Task::SendStopped, &left).ok_or("a store")?;
+    let (ended, goes_on) = came.ok_or("a send")?;
+    assert!(rt;
+        ended == Ended::Finished(Outcome::Sent) && !goes_on,
         "though the gate said no between its steps"
     );
     Ok(())
@@ -156,7 +199,7 @@ fn turned<S: Steps>(
     txn: Txn,
     ended: &Ended,
     is_beside: bool,
-) -> Option<Txn> {
+) -> Option<Event> {
     if !is_sent(ended) {
         return None;
     }
@@ -164,88 +207,121 @@ fn turned<S: Steps>(
         send_under_way(alloc, steps, 2)?;
     }
     drop(called(steps, Event::StartAbort(txn)));
-    Some(txn)
+    Some(Event::UndoNext(txn))
 }
 
-// A transaction that sent a message and aborts: seven calls were made, and two more where another one's send is under way.
+// What undoes the send of a transaction that sent a message and aborts: seven calls were made, and two more where another
+// one's send is under way.
 fn aborting<S: Steps, R: Wait>(
     rt: &R,
     alloc: Global,
     steps: S,
     is_beside: bool,
-) -> (Option<Txn>, S) {
+) -> (Option<Event>, S) {
     let mut steps = steps;
     let Some((txn, start)) = start_of_send(alloc, &mut steps, 1, b'x') else {
         return (None, steps);
     };
-    let (ended, mut steps) = run_by(rt, &AtomicU64::new(0), steps, &start);
-    let turned = turned(alloc, &mut steps, txn, &ended, is_beside);
-    (turned, steps)
+    let left = AtomicU64::new(0);
+    let gate = lets_through(BEFORE_AGAIN, &left);
+    let (ended, _, mut steps) = carried_out(rt, gate, steps, &start);
+    let undo = turned(alloc, &mut steps, txn, &ended, is_beside);
+    (undo, steps)
 }
 
-// What comes of undoing its send, and of undoing again.
-fn run_twice<S: Steps, R: Wait>(rt: &R, alloc: Global, steps: S) -> (Option<(Ended, Ended)>, S) {
-    let (txn, steps) = aborting(rt, alloc, steps, false);
-    let Some(txn) = txn else {
+// What comes of undoing again, where the send was undone.
+fn undo_twice<S: Steps, R: Wait>(
+    rt: &R,
+    alloc: Global,
+    left: &AtomicU64,
+    steps: S,
+) -> (Option<Came>, S) {
+    let (undo, steps) = aborting(rt, alloc, steps, false);
+    let Some(undo) = undo else {
         return (None, steps);
     };
-    let left = AtomicU64::new(0);
-    let undo = Event::UndoNext(txn);
-    let (first, steps) = run_by(rt, &left, steps, &undo);
-    let (second, steps) = run_by(rt, &left, steps, &undo);
-    (Some((first, second)), steps)
-}
-
-// The same over a store, and the calls made.
-fn undone_twice<R: Wait>(rt: &R, alloc: Global) -> Option<((Ended, Ended), usize)> {
-    let (seen, steps) = run_twice(rt, alloc, small_steps(alloc).ok()?);
-    let calls = calls_made(steps);
-    Some((seen?, calls))
+    match run_by(rt, BEFORE_AGAIN, left, steps, &undo) {
+        (Some((Ended::Finished(Outcome::Undone), _)), steps) => {
+            run_by(rt, BEFORE_AGAIN, left, steps, &undo)
+        }
+        (_, steps) => (None, steps),
+    }
 }
 
 // An inverse is gone through as any operation is: its start, two steps, a third that says that all are made, its finish.
 #[test]
 fn an_inverse_is_gone_through(rt: HostRuntime) -> Result<(), Fail> {
-    let seen = undone_twice(&rt, rt.alloc()).ok_or("an abort")?;
-    assert_eq!(rt;
-        seen,
-        ((Ended::Finished(Outcome::Undone), Ended::NothingLeft), 13)
-    );
+    let left = AtomicU64::new(0);
+    let (came, calls) = seen(&rt, rt.alloc(), Task::UndoTwice, &left).ok_or("an abort")?;
+    let (ended, _) = came.ok_or("its send was undone")?;
+    assert!(rt; ended == Ended::NothingLeft);
+    assert!(rt; calls.len() == 13);
     Ok(())
 }
 
-// What comes of undoing its send while another's is under way, where the gate lets it be tried again so often.
 fn undo_beside<S: Steps, R: Wait>(
     rt: &R,
     alloc: Global,
     left: &AtomicU64,
     steps: S,
-) -> (Option<Ended>, S) {
-    let (txn, steps) = aborting(rt, alloc, steps, true);
-    let Some(txn) = txn else {
-        return (None, steps);
-    };
-    let (ended, steps) = run_by(rt, left, steps, &Event::UndoNext(txn));
-    (Some(ended), steps)
-}
-
-// The same over a store, and the calls made.
-fn undone_beside<R: Wait>(rt: &R, alloc: Global, left: &AtomicU64) -> Option<(Ended, usize)> {
-    let (ended, steps) = undo_beside(rt, alloc, left, small_steps(alloc).ok()?);
-    let calls = calls_made(steps);
-    Some((ended?, calls))
+) -> (Option<Came>, S) {
+    match aborting(rt, alloc, steps, true) {
+        (Some(undo), steps) => run_by(rt, BEFORE_AGAIN, left, steps, &undo),
+        (None, steps) => (None, steps),
+    }
 }
 
 #[test]
 fn a_latched_inverse_is_tried_again(rt: HostRuntime) -> Result<(), Fail> {
     let left = AtomicU64::new(2);
-    let seen = undone_beside(&rt, rt.alloc(), &left).ok_or("an abort")?;
-    assert_eq!(rt;
-        seen,
-        (Ended::Refused(Refusal::Latched), 12),
-        "three times, and then the gate says no"
+    let (came, calls) = seen(&rt, rt.alloc(), Task::UndoBeside, &left).ok_or("an abort")?;
+    let (ended, _) = came.ok_or("an inverse")?;
+    assert!(rt; ended == Ended::Refused(Refusal::Latched));
+    assert!(rt; calls.len() == 12, "three times, and then the gate says no");
+    assert!(rt;
+        left.load(Ordering::SeqCst) == 0,
+        "it was asked before each"
     );
-    assert_eq!(rt; left.load(Ordering::SeqCst), 0, "it was asked before each");
+    Ok(())
+}
+
+// A page writer at work. No operation is carried out.
+fn write_pages<S: Steps, R: Wait>(rt: &R, left: &AtomicU64, steps: S) -> (Option<Came>, S) {
+    let mut worker = Worker::new(lets_through(BEFORE_WRITE, left), steps);
+    worker.write_pages(rt, 3);
+    (None, worker.into_steps())
+}
+
+// The pages that these calls write, in order; none where one of them is no page write.
+fn pages_written(alloc: Global, calls: &[Event]) -> Option<Vec<u32>> {
+    let mut pages = Vec::new(alloc);
+    for call in calls {
+        let Event::WritePage(page) = call else {
+            return None;
+        };
+        pages.push(*page).ok()?;
+    }
+    Some(pages)
+}
+
+#[test]
+fn a_page_writer_goes_round(rt: HostRuntime) -> Result<(), Fail> {
+    let left = AtomicU64::new(5);
+    let (_, calls) = seen(&rt, rt.alloc(), Task::WritePages, &left).ok_or("a store")?;
+    let pages = pages_written(rt.alloc(), &calls).ok_or("page writes alone")?;
+    assert!(rt; pages.as_slice() == [0, 1, 2, 0, 1].as_slice());
+    Ok(())
+}
+
+#[test]
+fn what_is_no_start_is_not_called(rt: HostRuntime) -> Result<(), Fail> {
+    let left = AtomicU64::new(9);
+    let (came, calls) = seen(&rt, rt.alloc(), Task::Force, &left).ok_or("a store")?;
+    let (ended, _) = came.ok_or("a force")?;
+    assert!(rt;
+        ended == Ended::Other && calls.is_empty(),
+        "a force is the log writer's"
+    );
     Ok(())
 }
 
@@ -259,19 +335,19 @@ fn told(mark: &Mark, reader: &mut MarkPass) -> u64
 
 // The mark as another pass reads it, before and after a log writer whose gate lets it through once; and what its force
 // answered.
-fn marked<G: Sharing, R: Wait>(
+fn marked<P: PageDevice + Drop, L: LogDevice + Drop, B: Level, G: Sharing, R: Wait>(
     rt: &R,
     alloc: Global,
-    engine: Engine<MemPages, MemLog, StoreLevel>,
+    engine: Engine<P, L, B>,
     blank: Blank,
     taking: Blank,
 ) -> Option<(u64, u64, u64)>
     requires name { (blank.name ≡ G.name) × (taking.name ≡ G.taking) }
     requires parts { (blank.parts ≡ G.parts) × (blank.parts ≡ 1024) × (taking.parts ≡ 1024) }
-    requires sound { WasSound ⟦<MemPages as PageDevice>⟧ ⟦<MemLog as LogDevice>⟧ G.premise engine }
+    requires sound { WasSound P.PageDevice L.LogDevice G.premise engine }
     requires begins { begins_with engine ≡ G.begins }
 {
-    let mut shared = Shared::<MemPages, MemLog, StoreLevel, G>::new(alloc, engine, blank, taking);
+    let mut shared = Shared::<P, L, B, G>::new(alloc, engine, blank, taking);
     let writer = shared.pass()?;
     let (mark, mut seat) = Mark::new(alloc).ok()?;
     let mut reader = mark.split(&mut seat);
@@ -318,51 +394,13 @@ fn forced_last(stamps: &[Stamped]) -> u64 {
 
 fn mark_of<R: Wait>(rt: &R, alloc: Global) -> Option<(u64, u64, u64)> {
     let engine = small_engine(alloc).ok()?;
-    marked::<Brand, R>(rt, alloc, engine, Blank::new(1024), Blank::new(1024))
+    let taking = Blank::new(1024);
+    marked::<MemPages, MemLog, StoreLevel, Brand, R>(rt, alloc, engine, Blank::new(1024), taking)
 }
 
 #[test]
 fn a_log_writer_leaves_the_mark_at_its_lsn(rt: HostRuntime) -> Result<(), Fail> {
     let seen = mark_of(&rt, rt.alloc()).ok_or("a force")?;
-    assert_eq!(rt; seen, (0, 2, 2), "the records are Restart and Commit");
-    Ok(())
-}
-
-// The pages that a page writer asks for whose gate lets it through so often, in order.
-fn pages_written<R: Wait>(rt: &R, alloc: Global, left: &AtomicU64) -> Option<Vec<u32>> {
-    let gate = lets_through(BEFORE_WRITE, left);
-    let mut worker = Worker::new(gate, small_steps(alloc).ok()?);
-    worker.write_pages(rt, 3);
-    let kept = worker.into_steps().into_kept();
-    let mut pages = Vec::new(alloc);
-    for entry in kept.entries() {
-        let Event::WritePage(page) = entry.event() else {
-            return None;
-        };
-        pages.push(*page).ok()?;
-    }
-    Some(pages)
-}
-
-#[test]
-fn a_page_writer_goes_round(rt: HostRuntime) -> Result<(), Fail> {
-    let left = AtomicU64::new(5);
-    let pages = pages_written(&rt, rt.alloc(), &left).ok_or("a store")?;
-    assert!(rt; pages.as_slice() == [0, 1, 2, 0, 1].as_slice());
-    Ok(())
-}
-
-// What comes of a force that the runner is asked for, and how many calls were made.
-fn run_of_a_force<R: Wait>(rt: &R, alloc: Global) -> Option<(Ended, usize)> {
-    let left = AtomicU64::new(9);
-    let gate = lets_through(BEFORE_FORCE, &left);
-    let (ended, _, steps) = carried_out(rt, gate, small_steps(alloc).ok()?, &Event::Force);
-    Some((ended, calls_made(steps)))
-}
-
-#[test]
-fn what_is_no_start_is_not_called(rt: HostRuntime) -> Result<(), Fail> {
-    let seen = run_of_a_force(&rt, rt.alloc()).ok_or("a store")?;
-    assert_eq!(rt; seen, (Ended::Other, 0), "a force is the log writer's");
+    assert!(rt; seen == (0, 2, 2), "the records are Restart and Commit");
     Ok(())
 }

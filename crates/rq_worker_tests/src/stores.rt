@@ -1,7 +1,8 @@
 //! Stores and calls for tests. They promise nothing, so that what makes many of them is checked fast.
-use rq_disk::{LogDevice, MemLog, MemPages, PageDevice, Switch};
+use rq_disk::{LogDevice, MemLog, MemPages, PageChoice, PageDevice, Switch};
 use rq_engine::engine::Engine;
 use rq_engine::event::{CommitNo, Event, Outcome, Receipt, Reply};
+use rq_level::Level;
 use rq_levels::{StoreLevel, levels_of_store};
 use rq_model::txn::Txn;
 use rq_page::layout::Layout;
@@ -29,9 +30,18 @@ pub fn small_steps(alloc: Global) -> Result<KeptSteps<MemPages, MemLog, StoreLev
     Ok(KeptSteps::new(Kept::new(alloc, small_engine(alloc)?), 1))
 }
 
-/// How many calls were made.
-pub fn calls_made(steps: KeptSteps<MemPages, MemLog, StoreLevel>) -> usize {
-    steps.into_kept().entries().len()
+/// The calls that were made, in order; none where memory was wanting.
+pub fn calls_made<P: PageDevice + Drop, L: LogDevice + Drop, B: Level>(
+    alloc: Global,
+    steps: KeptSteps<P, L, B>,
+) -> Option<Vec<Event>> {
+    let kept = steps.into_kept();
+    let mut calls = Vec::new(alloc);
+    for entry in kept.entries() {
+        let call = entry.event().clone().ok()?;
+        calls.push(call).ok()?;
+    }
+    Some(calls)
 }
 
 /// One of two directory and two cell pages.
@@ -70,6 +80,16 @@ pub fn opened<P: PageDevice + Drop, L: LogDevice + Drop>(
         Ok((engine, _)) => Ok(engine),
         Err(_) => Err("restart"),
     }
+}
+
+/// The devices of a kept engine, as a crash leaves them that takes what was not synced or forced.
+pub fn crashed<B: Level>(kept: Kept<MemPages, MemLog, B>) -> (MemPages, MemLog) {
+    let (pages, log) = devices_of(kept);
+    (pages.crash(PageChoice::Synced), log.crash(0))
+}
+
+fn devices_of<P: PageDevice + Drop, L: LogDevice + Drop, B: Level>(kept: Kept<P, L, B>) -> (P, L) {
+    kept.give_back().give_back()
 }
 
 /// The start of a send of this byte.

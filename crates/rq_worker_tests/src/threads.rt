@@ -4,10 +4,10 @@ ghost use Rattle.rq_shared.specs.Begun.{begins_with};
 ghost use Rattle.rq_shared.specs.Entries.{WasSound};
 
 use crate::stores::{
-    KeepStamps, carried_out, committed, has_sent, is_sent, opened, receipt, start_of_send,
+    KeepStamps, carried_out, committed, crashed, has_sent, is_sent, opened, receipt, start_of_send,
     wide_engine,
 };
-use rq_disk::{LogDevice, MemLog, MemPages, PageChoice, PageDevice};
+use rq_disk::{LogDevice, MemLog, MemPages, PageDevice};
 use rq_engine::engine::Engine;
 use rq_engine::event::{CommitNo, Event, Receipt};
 use rq_level::Level;
@@ -218,12 +218,12 @@ struct Tie {
     is_tied_when_changed_about: bool,
 }
 
-/// What was seen once two threads had each sent a message and committed.
+/// What was seen once two threads had each sent a message and committed, and what is left at the end.
 #[derive(Drop)]
-struct Seen<P: PageDevice, L: LogDevice, B: Level> {
+struct Seen<C> {
     tie: Option<Tie>,
     receipts: usize,
-    closed: Closed<P, L, B>,
+    closed: C,
 }
 
 // The stamps of seven calls, the first two changed about.
@@ -347,7 +347,7 @@ fn share<
     blank: Blank,
     taking: Blank,
     take: bool,
-) -> Option<Seen<P, L, B>>
+) -> Option<Seen<Closed<P, L, B>>>
     requires name { (blank.name ≡ G.name) × (taking.name ≡ G.taking) }
     requires parts { (blank.parts ≡ G.parts) × (blank.parts ≡ 1024) × (taking.parts ≡ 1024) }
     requires sound { WasSound P.PageDevice L.LogDevice G.premise engine }
@@ -388,7 +388,7 @@ fn look<R: Threads + Wait + Sync>(
     rt: &R,
     alloc: Global,
     take: bool,
-) -> Option<Seen<MemPages, MemLog, StoreLevel>> {
+) -> Option<Seen<Closed<MemPages, MemLog, StoreLevel>>> {
     let engine = wide_engine(alloc).ok()?;
     let taking = Blank::new(1024);
     share::<MemPages, MemLog, StoreLevel, Brand, R>(
@@ -405,36 +405,52 @@ fn look<R: Threads + Wait + Sync>(
 fn an_audit_holds_the_calls_of_both_threads(rt: HostRuntime) -> Result<(), Fail> {
     let seen = look(&rt, rt.alloc(), true).ok_or("both threads send and commit")?;
     let tie = seen.tie.ok_or("the audit was taken")?;
-    assert_eq!(rt;
-        (tie.entries, tie.is_tied),
-        (14, true),
+    assert!(rt;
+        tie.entries == 14 && tie.is_tied,
         "all calls are there, and each thread's are its own"
     );
-    assert_eq!(rt;
-        (tie.is_tied_to_the_other, tie.is_tied_when_changed_about),
-        (false, false),
+    assert!(rt;
+        !tie.is_tied_to_the_other && !tie.is_tied_when_changed_about,
         "neither thread's are the other's, nor its own in another order"
     );
-    assert_eq!(rt;
-        seen.closed.kept.entries().len(),
-        3,
+    assert!(rt;
+        entries_of(&seen.closed) == 3,
         "a force and two acknowledgements came after it"
     );
     Ok(())
 }
 
+// How many entries are left at the end.
+fn entries_of<P: PageDevice + Drop, L: LogDevice + Drop, B: Level>(
+    closed: &Closed<P, L, B>,
+) -> usize {
+    closed.kept.entries().len()
+}
+
+// Whether both messages outlive a crash, each as it was sent.
+fn outlives(
+    alloc: Global,
+    closed: Closed<MemPages, MemLog, StoreLevel>,
+) -> Result<bool, &'static str> {
+    let (pages, log) = crashed(closed.kept);
+    let engine = opened(alloc, pages, log)?;
+    have_sent(&engine)
+}
+
+fn have_sent<P: PageDevice + Drop, L: LogDevice + Drop>(
+    engine: &Engine<P, L, StoreLevel>,
+) -> Result<bool, &'static str> {
+    Ok(has_sent(engine, 0, b'x')? && has_sent(engine, 15, b'y')?)
+}
+
 #[test]
 fn what_receipts_name_outlives_a_crash(rt: HostRuntime) -> Result<(), Fail> {
     let seen = look(&rt, rt.alloc(), false).ok_or("both threads send and commit")?;
-    assert_eq!(rt; seen.receipts, 2, "both commits are forced");
-    let kept = seen.closed.kept;
-    assert_eq!(rt; kept.entries().len(), 17, "no entry was taken");
-    let (pages, log) = kept.give_back().give_back();
-    let engine = opened(rt.alloc(), pages.crash(PageChoice::Synced), log.crash(0))?;
-    assert_eq!(rt;
-        (has_sent(&engine, 0, b'x')?, has_sent(&engine, 15, b'y')?),
-        (true, true),
-        "both messages are there, each as it was sent"
+    assert!(rt; seen.receipts == 2, "both commits are forced");
+    assert!(rt; entries_of(&seen.closed) == 17, "no entry was taken");
+    assert!(rt;
+        outlives(rt.alloc(), seen.closed)?,
+        "both messages are there"
     );
     Ok(())
 }
