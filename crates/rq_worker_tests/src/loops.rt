@@ -240,12 +240,15 @@ fn undo_twice<S: Steps, R: Wait>(
     let Some(undo) = undo else {
         return (None, steps);
     };
-    match run_by(rt, BEFORE_AGAIN, left, steps, &undo) {
-        (Some((Ended::Finished(Outcome::Undone), _)), steps) => {
-            run_by(rt, BEFORE_AGAIN, left, steps, &undo)
-        }
-        (_, steps) => (None, steps),
+    let (came, steps) = run_by(rt, BEFORE_AGAIN, left, steps, &undo);
+    if !is_undone(&came) {
+        return (None, steps);
     }
+    run_by(rt, BEFORE_AGAIN, left, steps, &undo)
+}
+
+fn is_undone(came: &Option<Came>) -> bool {
+    matches!(came, Some((Ended::Finished(Outcome::Undone), _)))
 }
 
 // An inverse is gone through as any operation is: its start, two steps, a third that says that all are made, its finish.
@@ -265,10 +268,11 @@ fn undo_beside<S: Steps, R: Wait>(
     left: &AtomicU64,
     steps: S,
 ) -> (Option<Came>, S) {
-    match aborting(rt, alloc, steps, true) {
-        (Some(undo), steps) => run_by(rt, BEFORE_AGAIN, left, steps, &undo),
-        (None, steps) => (None, steps),
-    }
+    let (undo, steps) = aborting(rt, alloc, steps, true);
+    let Some(undo) = undo else {
+        return (None, steps);
+    };
+    run_by(rt, BEFORE_AGAIN, left, steps, &undo)
 }
 
 #[test]
