@@ -222,20 +222,30 @@ impl Run {
         }
     }
 
+    // The store is opened, the calls are made, and the program ends.
+    fn go_through(&mut self, rt: &HostRuntime, plan: &Plan) -> Result<(), Trouble> {
+        let mut store = self.open(rt, plan)?;
+        self.make_all(rt, &mut store, plan)
+    }
+
     // What is left once the program has ended: of the log, the bytes that the plan keeps, or those that are forced.
-    fn end(&mut self, rt: &HostRuntime, store: Store, plan: &Plan) -> Result<(), Trouble> {
-        drop(store);
+    fn end(&mut self, rt: &HostRuntime, plan: &Plan) -> Result<(), Trouble> {
         leave(
             rt,
             plan.log,
             if self.is_cut { self.forced } else { plan.keep },
         )?;
         self.forced = length_of(rt, plan.log)?;
-        let mut store = self.open(rt, plan)?;
         if self.is_cut && !self.is_acknowledged {
-            return is_left(&mut store, &NOTHING);
+            return self.finds(rt, plan, &NOTHING);
         }
-        is_left(&mut store, &plan.left)
+        self.finds(rt, plan, &plan.left)
+    }
+
+    // The store is opened once more, and this is left.
+    fn finds(&mut self, rt: &HostRuntime, plan: &Plan, left: &Left) -> Result<(), Trouble> {
+        let mut store = self.open(rt, plan)?;
+        is_left(&mut store, left)
     }
 }
 
@@ -297,9 +307,8 @@ fn run_failing(rt: &HostRuntime, plan: &Plan, n: u64) -> Result<bool, Trouble> {
     make_files(rt, plan).map_err(|_| "files")?;
     let mut run = Run::new(rt.alloc(), n)?;
     run.format(rt, plan, &layout)?;
-    let mut store = run.open(rt, plan)?;
-    run.make_all(rt, &mut store, plan)?;
-    run.end(rt, store, plan)?;
+    run.go_through(rt, plan)?;
+    run.end(rt, plan)?;
     let is_met = run.countdown.is_over();
     if run.failures != u32::from(is_met) {
         return Err("a failure that nobody told, or one too many");
