@@ -1,11 +1,9 @@
 -- The index of free cells.
 use Rattle.std.proofs.Common.{◌≡◌, ℕ, zero, suc, ◌+◌, ◌*◌, ◌/◌, ◌<◌, ◌≤◌, ◌&&◌, not, Bool, true, false, List, [], ◌∷◌, length, replicate, get_or, refl, sym, ap, ◌∙◌, subst, arith, inl, inr}
-use Rattle.std.proofs.lemmas.Bool.{cases_Bool, true≢false}
+use Rattle.std.proofs.lemmas.Bool.{true≢false}
 use Rattle.std.proofs.lemmas.List.{length-replicate}
-use Rattle.rq_page.specs.Sizes.{Sizes, cell_at}
-use Rattle.rq_level.specs.Given.{has_page}
 use Rattle.rq_level.specs.Kept.{flag_at}
-use Rattle.rq_chain.specs.Cells.{Flags, IsIndexed, IsLowestIn, NoneInPage, NoneInRun, is_open, takes}
+use Rattle.rq_chain.specs.Cells.{Flags, IsIndexed, is_open}
 
 unset_at : (n i : ℕ) → get_or (replicate n false) i false ≡ false
 unset_at zero i = refl
@@ -16,15 +14,12 @@ not_open : (f : Flags) (i : ℕ) → flag_at f.free i ≡ false → is_open f i 
 not_open f i e o = true≢false (sym o ∙ ap (λ b. b && not (flag_at f.reserved i)) e)
 
 -- no flag is set: there is nothing that the index would have to hold
-pub indexed : (n p r : ℕ) (free reserved pages runs : List Bool) → n ≡ 983040 → p ≡ 65536 → r ≡ 256 → free ≡ replicate n false → reserved ≡ replicate n false → pages ≡ replicate p false → runs ≡ replicate r false
-    → IsIndexed (record { free = free; reserved = reserved }) pages runs
-indexed n p r free reserved pages runs cells page_count run_count a d b c =
+pub indexed : (n p : ℕ) (free reserved pages : List Bool) → n ≡ 983040 → p ≡ 65536 → free ≡ replicate n false → reserved ≡ replicate n false → pages ≡ replicate p false → IsIndexed (record { free = free; reserved = reserved }) pages
+indexed n p free reserved pages cells page_count a d b =
     let none : (i : ℕ) → flag_at free i ≡ false = λ i. ap (λ (l : List Bool). flag_at l i) a ∙ unset_at n i in
     record {
       cells = ap length a ∙ length-replicate n false ∙ cells;
       reserved = ap length d ∙ length-replicate n false ∙ cells;
       page_count = ap length b ∙ length-replicate p false ∙ page_count;
-      run_count = ap length c ∙ length-replicate r false ∙ run_count;
       paged = λ i o. absurd (not_open (record { free = free; reserved = reserved }) i (none i) o);
-      in_run = λ i o. absurd (not_open (record { free = free; reserved = reserved }) i (none i) o);
     }

@@ -22,21 +22,16 @@ noted_flags f i free = record { free = slice_set f.free i free; reserved = slice
 abbrev pub reserved_flags : Flags → ℕ → Flags
 reserved_flags f i = record { free = f.free; reserved = slice_set f.reserved i true }
 
--- no cell of this page, or of this run of 256 pages, may be taken
+-- no cell of this page may be taken
 abbrev pub NoneInPage : Flags → ℕ → Type 0
 NoneInPage f page = (i : ℕ) → i / 15 ≡ page → is_open f i ≡ false
 
-abbrev pub NoneInRun : Flags → ℕ → Type 0
-NoneInRun f run = (i : ℕ) → i / 15 / 256 ≡ run → is_open f i ≡ false
-
--- The index: a page or a run that is not set has no cell to take. One that is set may have none either.
-pub record IsIndexed (f : Flags) (pages runs : List Bool) : Type 0 where
+-- The index: a page that is not marked has no cell to take. One that is marked may have none either.
+pub record IsIndexed (f : Flags) (pages : List Bool) : Type 0 where
   pub cells : length f.free ≡ 983040
   pub reserved : length f.reserved ≡ 983040
   pub page_count : length pages ≡ 65536
-  pub run_count : length runs ≡ 256
   pub paged : (i : ℕ) → is_open f i ≡ true → flag_at pages (i / 15) ≡ true
-  pub in_run : (i : ℕ) → is_open f i ≡ true → flag_at runs (i / 15 / 256) ≡ true
 
 -- the page of a cell is not latched
 abbrev pub is_unlatched : Sizes → List ℕ → ℕ → Bool
@@ -55,10 +50,3 @@ pub record IsLowestIn (z : Sizes) (f : Flags) (latched : List ℕ) (from to i : 
 
 abbrev pub NoneToTakeIn : Sizes → Flags → List ℕ → (from to : ℕ) → Type 0
 NoneToTakeIn z f latched from to = (i : ℕ) → from ≤ i / 15 → i / 15 < to → takes z f latched i ≡ false
-
--- what a search through a run of pages has seen so far: the flags stay, and no cell before this page may be taken; where
--- no latched page was passed over, none of them is open at all
-pub record HasSeen (z : Sizes) (first now : Flags) (latched : List ℕ) (run page : ℕ) (passed : Bool) : Type 0 where
-  pub kept : now ≡ first
-  pub none : (i : ℕ) → i / 15 / 256 ≡ run → i / 15 < page → takes z first latched i ≡ false
-  pub closed : passed ≡ false → (i : ℕ) → i / 15 / 256 ≡ run → i / 15 < page → is_open first i ≡ false

@@ -6,7 +6,6 @@
 
 mod cells;
 mod doing;
-mod flags;
 mod given;
 mod level;
 mod plans;

@@ -1,8 +1,8 @@
 -- Marks, and the flags that they are read from.
-use Rattle.std.proofs.Common.{◌≡◌, ◌≢◌, ℕ, zero, suc, ◌+◌, ◌<◌, ◌≤◌, nat_eq, cond, Bool, true, false, List, ◌∷◌, Some, None, replicate, set, refl, ap, ◌∙◌, arith, inl, inr}
+use Rattle.std.proofs.Common.{◌≡◌, ◌≢◌, length, ℕ, zero, suc, ◌+◌, ◌<◌, ◌≤◌, nat_eq, cond, Bool, true, false, List, ◌∷◌, Some, None, replicate, set, refl, ap, ◌∙◌, arith, inl, inr}
 use Rattle.std.proofs.lemmas.Bool.{cases_lt}
 use Rattle.rq_flags.specs.Flags.{flag_at, IsNextFlag, OthersStay}
-use Rattle.rq_flags.specs.Marks.{marks_from, is_marked, IsLowestMark}
+use Rattle.rq_flags.specs.Marks.{marks_from, is_marked, IsNextMark}
 
 -- the same flags, the same marks
 pub marks_same : (old new : List ℕ) (from count : ℕ) → ((k : ℕ) → from ≤ k → flag_at new k ≡ flag_at old k) → marks_from new from count ≡ marks_from old from count
@@ -70,30 +70,34 @@ pub marks_put_past : (words : List ℕ) (count k : ℕ) (marked : Bool) → coun
 marks_put_past words count k marked past =
     put_from words words 0 count k marked (λ j other. refl) (λ below. absurd (omega (arith, below, past)))
 
--- the flag of no place below is set: none of them is marked
-none_before : (words : List ℕ) (count place k : ℕ) → ((j : ℕ) → j < place → flag_at words j ≡ 0) → k < place → is_marked (marks_from words 0 count) k ≡ false
-none_before words count place k none before =
+marks_count : (words : List ℕ) (from count : ℕ) → length (marks_from words from count) ≡ count
+unfolding marks_from
+marks_count words from zero = refl
+marks_count words from (suc count) = let rest = marks_count words (suc from) count in omega (arith, rest)
+
+-- no flag is set there: nothing is marked
+unmarked : (words : List ℕ) (count k : ℕ) → flag_at words k ≡ 0 → is_marked (marks_from words 0 count) k ≡ false
+unmarked words count k none =
     elim (cases_lt k count) [
-      | inl within ↦ mark_at words count k within ∙ ap (λ n. nat_eq n 1) (none k before)
+      | inl within ↦ mark_at words count k within ∙ ap (λ n. nat_eq n 1) none
       | inr past ↦ mark_past words 0 count k past
     ]
 
-pub lowest_mark : (words : List ℕ) (count place : ℕ) → IsNextFlag words 0 (Some place) → place < count → IsLowestMark (marks_from words 0 count) (Some place)
-lowest_mark words count place next within = (
-  mark_at words count place within ∙ ap (λ n. nat_eq n 1) next.1,
-  λ k before. none_before words count place k (λ j b. next.2 j (omega arith) b) before,
-)
+pub next_mark : (words : List ℕ) (count from place : ℕ) → IsNextFlag words from (Some place) → place < count → IsNextMark (marks_from words 0 count) from (Some place)
+next_mark words count from place next within =
+    let long = marks_count words 0 count in (
+      next.0,
+      omega (arith, long, within),
+      mark_at words count place within ∙ ap (λ n. nat_eq n 1) next.1,
+      λ k after before. unmarked words count k (next.2 k after before),
+    )
 
-pub no_mark_within : (words : List ℕ) (count place : ℕ) → IsNextFlag words 0 (Some place) → count ≤ place → IsLowestMark (marks_from words 0 count) None
-no_mark_within words count place next past k =
+pub no_mark_within : (words : List ℕ) (count from place : ℕ) → IsNextFlag words from (Some place) → count ≤ place → IsNextMark (marks_from words 0 count) from None
+no_mark_within words count from place next past k after =
     elim (cases_lt k count) [
-      | inl within ↦ none_before words count place k (λ j b. next.2 j (omega arith) b) (omega (arith, within, past))
+      | inl within ↦ unmarked words count k (next.2 k after (omega (arith, within, past)))
       | inr beyond ↦ mark_past words 0 count k beyond
     ]
 
-pub no_mark : (words : List ℕ) (count : ℕ) → IsNextFlag words 0 None → IsLowestMark (marks_from words 0 count) None
-no_mark words count none k =
-    elim (cases_lt k count) [
-      | inl within ↦ mark_at words count k within ∙ ap (λ n. nat_eq n 1) (none k (omega arith))
-      | inr past ↦ mark_past words 0 count k past
-    ]
+pub no_mark : (words : List ℕ) (count from : ℕ) → IsNextFlag words from None → IsNextMark (marks_from words 0 count) from None
+no_mark words count from none k after = unmarked words count k (none k after)

@@ -1,5 +1,5 @@
 -- Some of a number of places, marked by their flags.
-use Rattle.std.specs.Prelude.{◌≡◌, ℕ, suc, zero, ◌<◌, nat_eq, Bool, true, false, List, [], ◌∷◌, Option, None, Some, slice_index_or}
+use Rattle.std.specs.Prelude.{◌≡◌, ◌≤◌, ◌<◌, ℕ, suc, zero, nat_eq, length, Bool, true, false, List, [], ◌∷◌, Option, None, Some, slice_index_or}
 use Rattle.rq_flags.specs.Flags.{flag_at}
 
 -- of so many places from one on, whether each is marked
@@ -11,7 +11,8 @@ marks_from words from (suc count) = nat_eq (flag_at words from) 1 ∷ marks_from
 abbrev pub is_marked : List Bool → ℕ → Bool
 is_marked marks place = slice_index_or marks place false
 
--- the lowest place that is marked
-abbrev pub IsLowestMark : List Bool → Option ℕ → Type 0
-IsLowestMark marks None = (k : ℕ) → is_marked marks k ≡ false
-IsLowestMark marks (Some place) = (is_marked marks place ≡ true) × ((k : ℕ) → k < place → is_marked marks k ≡ false)
+-- the lowest place that is marked, from one on
+abbrev pub IsNextMark : List Bool → ℕ → Option ℕ → Type 0
+IsNextMark marks from None = (k : ℕ) → from ≤ k → is_marked marks k ≡ false
+IsNextMark marks from (Some place) = (from ≤ place) × (place < length marks) × (is_marked marks place ≡ true)
+    × ((k : ℕ) → from ≤ k → k < place → is_marked marks k ≡ false)

@@ -1,6 +1,6 @@
 //! Marks of places.
 ghost use Rattle.std.specs.Prelude.{◌≡◌, ◌<◌, ℕ, IfOk, replicate, slice_set, length, false};
-ghost use Rattle.rq_flags.specs.Marks.{is_marked, IsLowestMark};
+ghost use Rattle.rq_flags.specs.Marks.{is_marked, IsNextMark};
 
 use crate::Index;
 use rq_model::refusal::NoMemory;
@@ -60,11 +60,11 @@ impl Marks {
         }
     }
 
-    /// The lowest place that is marked.
-    pub fn lowest(&self) -> Option<u32>
-        ensures { IsLowestMark self.now result }
+    /// The lowest place at or after this one that is marked.
+    pub fn next(&self, from: u32) -> Option<u32>
+        ensures { IsNextMark self.now from result }
     {
-        match self.index.next(0) {
+        match self.index.next(from as usize) {
             Some(place) => {
                 if place < self.places as usize {
                     Some(place as u32)
