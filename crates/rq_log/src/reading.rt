@@ -140,7 +140,8 @@ impl<L: LogDevice> LogReader<L> {
         }
     }
 
-    /// Reads the next record, over a lent one. False: all are read, and no byte is left.
+    /// Reads the next record, over a lent one. False: all are read, and no byte is left. Where none is read the lent one may
+    /// hold anything.
     ///
     /// # Errors
     /// `Damaged` with the LSN of the next record, where bytes are left and no whole record stands at their front;

@@ -32,7 +32,7 @@ pub record IsLedFrom {P L : Type 0} (first : Ledger) (calls : ℕ) (s : OpenStor
   pub count : length before ≡ calls
   pub replays : Replays (size_of s.state.sizes) first (answers before) (begins_with s)
 
--- under this premise, and where the devices have been honest since, the calls whose entries were taken led from this ledger
+-- under this premise, and where the devices have been honest since, as many calls as entries were taken led from this ledger
 -- to that of the engine with which the audit begins
 abbrev pub BeginsFrom : {P L : Type 0} → page_device.Ghosts P → log_device.Ghosts L → Type 0 → Ledger → Audited P L → Type 0
 BeginsFrom p l premise first k = premise → AreHonest p l k.engine → IsLedFrom first k.taken k.base

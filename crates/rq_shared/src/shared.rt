@@ -136,8 +136,8 @@ impl<P: PageDevice + Drop, L: LogDevice + Drop, B: Level, G: Sharing> Shared<P, 
 
     /// Ends the sharing, once all passes are back: the audit, with the entries that were taken, has as many entries as
     /// the passes counted calls, and so many were taken as the passes counted of those. Where the devices were honest, the
-    /// engine with which the audit begins was sound under the premise of the sharing, and the calls whose entries were taken
-    /// led to it from the engine that was shared; and where it was sound, those of the receipts that are handed in whose
+    /// engine with which the audit begins was sound under the premise of the sharing, and as many calls as entries were taken
+    /// led to what it tells from what the engine told that was shared; and where it was sound, those of the receipts that are handed in whose
     /// commit and acknowledgement the audit has name commits that no crash takes any more.
     pub fn close(self, passes: Vec<Pass<G>>, receipts: &[Receipt]) -> Closed<P, L, B>
         requires parts { G.parts ≡ 1024 }

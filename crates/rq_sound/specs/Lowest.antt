@@ -14,7 +14,8 @@ AreLatchedBelow z slots rows a = (b : ℕ) → IsCellAddress z b → b < a → s
 abbrev pub AreAllLatched : Sizes → Slots → List Row → Type 0
 AreAllLatched z slots rows = (a : ℕ) → IsCellAddress z a → slots a ≡ Free → latched_in rows (a / 16) ≡ true
 
--- the first of the writes is of the lowest free cell on a page that nobody has latched
+-- each free cell below the first of the writes is on a latched page, and its own page is none: of a plan that takes a cell,
+-- that write is of the lowest free cell on a page that nobody has latched
 abbrev pub FirstIsLowest : Sizes → Slots → List Row → List SlotWrite → Type 0
 FirstIsLowest z slots rows [] = ⊥
 FirstIsLowest z slots rows (w ∷ ws) = AreLatchedBelow z slots rows w.at × (latched_in rows (w.at / 16) ≡ false)
