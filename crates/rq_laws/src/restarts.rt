@@ -1,0 +1,49 @@
+//! Restarts, by two over the same log, and what one leaves.
+ghost use Rattle.std.specs.Prelude.{◌≡◌, ℕ, IfOk, List};
+ghost use Rattle.rq_model.specs.declared.record.Record.{Record};
+ghost use Rattle.rq_restart.specs.Restarting.{IsReadAs};
+
+use rq_disk::{LogDevice, PageDevice};
+use rq_engine::engine::Engine;
+use rq_level::Level;
+use rq_planner::StoreLevels;
+use rq_restart::restart::{Report, Stopped, restart};
+use std::alloc::Global;
+
+/// Two restarts over one log begin the same incarnation. Excludes an incarnation that is begun again, and with it transaction
+/// numbers that are given again.
+pub fn restarts<P: PageDevice + Drop, L: LogDevice + Drop, B: Level>(
+    alloc: Global,
+    pages: P,
+    again: P,
+    log: L,
+    log_again: L,
+    levels: StoreLevels<B>,
+    levels_again: StoreLevels<B>,
+) -> (
+    Result<(Engine<P, L, B>, Report), Stopped<P, L>>,
+    Result<(Engine<P, L, B>, Report), Stopped<P, L>>,
+)
+    requires log { log ≡ log_again }
+    ensures incarnation { IfOk result.0 (λ a. IfOk result.1 (λ b. (older : List Record)
+        → IsReadAs L.LogDevice log a.0.log older → IsReadAs L.LogDevice log b.0.log older
+        → a.1.incarnation ≡ b.1.incarnation)) }
+{
+    (
+        restart(alloc, pages, log, levels),
+        restart(alloc, again, log_again, levels_again),
+    )
+}
+
+/// Behind a restart that answered, a crash leaves one log. Excludes a restart that answers before its records are forced.
+pub fn leaves_one<P: PageDevice + Drop, L: LogDevice + Drop, B: Level>(
+    alloc: Global,
+    pages: P,
+    log: L,
+    levels: StoreLevels<B>,
+) -> Result<(Engine<P, L, B>, Report), Stopped<P, L>>
+    ensures { IfOk result (λ o. L.honest o.0.log → (c d : List ℕ) → L.may_leave o.0.log c → L.may_leave o.0.log d
+        → c ≡ d) }
+{
+    restart(alloc, pages, log, levels)
+}
