@@ -75,7 +75,10 @@ pub fn puts_back(
     tag: u64,
     body: Body,
     body_again: Body,
-) -> (Result<Vec<SlotWrite>, NoMemory>, Result<Vec<SlotWrite>, NoMemory>)
+) -> (
+    Result<Vec<SlotWrite>, NoMemory>,
+    Result<Vec<SlotWrite>, NoMemory>,
+)
     requires some { 0 < group.now.directory.received }
     requires group { IsGroupOf layout.now group.now }
     requires head { IsNeighbour layout.now group.now.directory.head head }

@@ -7,7 +7,11 @@ use rq_wire::{Answer, Fed, Frames, answer};
 
 /// A piece gives the same requests and the same fault, and leaves the same. Excludes a byte that is lost where frames are
 /// cut, requests that are given again, and bytes that are read behind a fault.
-pub fn feed(first: &mut Frames, second: &mut Frames, piece: &[u8]) -> (Result<Fed, NoMemory>, Result<Fed, NoMemory>)
+pub fn feed(
+    first: &mut Frames,
+    second: &mut Frames,
+    piece: &[u8],
+) -> (Result<Fed, NoMemory>, Result<Fed, NoMemory>)
     requires same { first.old ≡ second.old }
     ensures left { IfOk result.0 (λ _. IfOk result.1 (λ _. first.new ≡ second.new)) }
 {

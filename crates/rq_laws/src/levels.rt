@@ -43,10 +43,7 @@ pub fn redoes<B: Level>(
     requires redo { IsRedo (redo_of told.now) }
     ensures { result.0 ≡ result.1 }
 {
-    (
-        first.redo(page, lsn, told),
-        second.redo(again, lsn, told),
-    )
+    (first.redo(page, lsn, told), second.redo(again, lsn, told))
 }
 
 /// The level of chains plans the same, keeps the same chosen cell, and where one plans, the other refuses for want of

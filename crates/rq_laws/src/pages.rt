@@ -21,7 +21,11 @@ pub fn set_slot(first: &mut Page, second: &mut Page, n: u8, image: &Slot, lsn: L
 }
 
 /// The lowest free cell from a place on is one. Excludes an index that keeps the free cells of the opening.
-pub fn next_free<P: PageDevice>(first: &Pages<P>, second: &Pages<P>, from: u32) -> (Option<Addr>, Option<Addr>)
+pub fn next_free<P: PageDevice>(
+    first: &Pages<P>,
+    second: &Pages<P>,
+    from: u32,
+) -> (Option<Addr>, Option<Addr>)
     requires sizes { first.now.sizes ≡ second.now.sizes }
     requires images { first.now.images ≡ second.now.images }
     ensures { result.0 ≡ result.1 }

@@ -21,7 +21,10 @@ pub fn decodes(input: &[u8], again: &[u8]) -> (Step, Step)
 
 /// Once two logs of the same records are handed over, their devices read as the same bytes. Excludes a hand-over that does
 /// nothing.
-pub fn hands_over<L: LogDevice>(first: &mut Log<L>, second: &mut Log<L>) -> (Result<(), Refusal>, Result<(), Refusal>)
+pub fn hands_over<L: LogDevice>(
+    first: &mut Log<L>,
+    second: &mut Log<L>,
+) -> (Result<(), Refusal>, Result<(), Refusal>)
     requires same { first.old.records ≡ second.old.records }
     ensures { IfOk result.0 (λ _. IfOk result.1 (λ _. L.honest first.new.device → L.honest second.new.device
         → L.seen first.new.device ≡ L.seen second.new.device)) }
@@ -31,7 +34,12 @@ pub fn hands_over<L: LogDevice>(first: &mut Log<L>, second: &mut Log<L>) -> (Res
 
 /// After a record, the same is to be taken back. Excludes a Commit that leaves what it committed to be taken back, and an
 /// end of an inverse that leaves due what the inverse took back.
-pub fn dues(first: &mut Dues, second: &mut Dues, lsn: Lsn, told: &Record) -> (Result<(), NoMemory>, Result<(), NoMemory>)
+pub fn dues(
+    first: &mut Dues,
+    second: &mut Dues,
+    lsn: Lsn,
+    told: &Record,
+) -> (Result<(), NoMemory>, Result<(), NoMemory>)
     requires same { first.old ≡ second.old }
     ensures { IfOk result.0 (λ _. IfOk result.1 (λ _. first.new ≡ second.new)) }
 {
@@ -40,7 +48,12 @@ pub fn dues(first: &mut Dues, second: &mut Dues, lsn: Lsn, told: &Record) -> (Re
 
 /// After a record, the same operations have no end, with the same writes. Excludes operations that are finished and undone
 /// by what stood in their slots before.
-pub fn notes(first: &mut History, second: &mut History, lsn: Lsn, told: &Record) -> (Result<bool, Refusal>, Result<bool, Refusal>)
+pub fn notes(
+    first: &mut History,
+    second: &mut History,
+    lsn: Lsn,
+    told: &Record,
+) -> (Result<bool, Refusal>, Result<bool, Refusal>)
     requires same { first.old ≡ second.old }
     ensures { IfOk result.0 (λ _. IfOk result.1 (λ _. first.new ≡ second.new)) }
 {
