@@ -17,8 +17,8 @@ abbrev pub IsMemory : Refusal → Type 0
 IsMemory why.NoMemory = Unit {0}
 IsMemory _ = ⊥
 
--- both are planned alike; where one is planned, the other is refused for want of memory alone. A level that was told of no
--- store plans nothing
+-- both are planned alike; where one is planned, the other is refused for want of memory alone. A level that was told of
+-- no store plans nothing
 abbrev pub PlannedAlike : Option Sizes → Result Plan Refusal → Result Plan Refusal → Type 0
 PlannedAlike (Some z) (Ok p) (Ok q) = PlansAlike z p q
 PlannedAlike (Some z) (Ok p) (Err r) = IsMemory r

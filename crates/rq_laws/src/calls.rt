@@ -12,8 +12,8 @@ use rq_level::Level;
 use rq_model::refusal::Refusal;
 use rq_model::txn::{Lsn, Txn};
 
-/// A transaction that is begun has the same number. Excludes a number that is given twice, and a begin that is refused as
-/// too many or as failed where it need not be.
+/// A transaction that is begun has the same number. Excludes a number that is given twice, and a begin that is refused
+/// as too many or as failed where it need not be.
 pub fn begin<P: PageDevice, L: LogDevice, B: Level>(
     first: &mut Engine<P, L, B>,
     second: &mut Engine<P, L, B>,
@@ -26,8 +26,8 @@ pub fn begin<P: PageDevice, L: LogDevice, B: Level>(
     (first.begin(), second.begin())
 }
 
-/// A commit leaves the same state, has the same record, and leaves the pages alone. Excludes one that keeps its ends held,
-/// that has what it sent wait before, or twice, or that leaves the cells of what it took in use.
+/// A commit leaves the same state, has the same record, and leaves the pages alone. Excludes one that keeps its ends
+/// held, that has what it sent wait before, or twice, or that leaves the cells of what it took in use.
 pub fn commit<P: PageDevice, L: LogDevice, B: Level>(
     first: &mut Engine<P, L, B>,
     second: &mut Engine<P, L, B>,
@@ -98,8 +98,8 @@ pub fn hand_over<P: PageDevice, L: LogDevice, B: Level>(
     (first.hand_over(), second.hand_over())
 }
 
-/// A force forces the same records, and both logs read as the same bytes. Excludes one that counts what it did not hand
-/// over.
+/// A force forces the same records, and both logs read as the same bytes. Excludes one that counts what it did not
+/// hand over.
 pub fn force<P: PageDevice, L: LogDevice, B: Level>(
     first: &mut Engine<P, L, B>,
     second: &mut Engine<P, L, B>,

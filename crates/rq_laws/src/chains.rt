@@ -12,8 +12,8 @@ use rq_page::addr::Addr;
 use rq_page::layout::Layout;
 use std::alloc::Global;
 
-/// A send writes the same slots and tells the same deed. Excludes a plan that links the new cell elsewhere than behind the
-/// tail.
+/// A send writes the same slots and tells the same deed. Excludes a plan that links the new cell elsewhere than behind
+/// the tail.
 pub fn sends(
     alloc: Global,
     layout: &Layout,
@@ -40,8 +40,8 @@ pub fn sends(
     )
 }
 
-/// A receive writes the same slots and tells the same deed. Excludes a plan that leaves the first cell at the head, so that
-/// it is received again.
+/// A receive writes the same slots and tells the same deed. Excludes a plan that leaves the first cell at the head, so
+/// that it is received again.
 pub fn takes(
     alloc: Global,
     layout: &Layout,

@@ -24,8 +24,8 @@ pub fn take(
     (first.take(txn, end), second.take(txn, end))
 }
 
-/// The least sender of which a message waits and whose receiving end nobody holds is one. Excludes a search that looks at
-/// the sending ends, and an index that misses a sender of which one message waits.
+/// The least sender of which a message waits and whose receiving end nobody holds is one. Excludes a search that looks
+/// at the sending ends, and an index that misses a sender of which one message waits.
 pub fn next_free(
     first: &Waiting,
     second: &Waiting,
@@ -40,7 +40,8 @@ pub fn next_free(
     (first.next_free(ends, from), second.next_free(again, from))
 }
 
-/// Some group gives the transaction a message, or none does: which one is free. Excludes a search that always finds none.
+/// Some group gives the transaction a message, or none does: which one is free. Excludes a search that always finds
+/// none.
 pub fn first_for(
     first: &Waiting,
     second: &Waiting,

@@ -5,8 +5,8 @@ use bytes::BytesMut;
 use rq_model::refusal::NoMemory;
 use rq_wire::{Answer, Fed, Frames, answer};
 
-/// A piece gives the same requests and the same fault, and leaves the same. Excludes a byte that is lost where frames are
-/// cut, requests that are given again, and bytes that are read behind a fault.
+/// A piece gives the same requests and the same fault, and leaves the same. Excludes a byte that is lost where frames
+/// are cut, requests that are given again, and bytes that are read behind a fault.
 pub fn feed(
     first: &mut Frames,
     second: &mut Frames,

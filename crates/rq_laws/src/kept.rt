@@ -7,8 +7,8 @@ use rq_level::Level;
 use rq_model::refusal::Refusal;
 use rq_shared::kept::{Kept, Stamped, Taken};
 
-/// A stamp says who asked and what; two of one reply come with the same entry, and where memory was wanting nothing changed.
-/// Excludes an entry that is left out, and a call that is told as another.
+/// A stamp says who asked and what; two of one reply come with the same entry, and where memory was wanting nothing
+/// changed. Excludes an entry that is left out, and a call that is told as another.
 pub fn step<P: PageDevice + Drop, L: LogDevice + Drop, B: Level>(
     first: &mut Kept<P, L, B>,
     second: &mut Kept<P, L, B>,

@@ -19,8 +19,8 @@ pub fn reads<B: Level>(first: &B, second: &B, deed: &[u8]) -> (bool, bool)
     (first.reads(deed), second.reads(deed))
 }
 
-/// They keep the same of a slot that was written. Excludes a level that keeps a cell as used that was freed, or as free that
-/// is used.
+/// They keep the same of a slot that was written. Excludes a level that keeps a cell as used that was freed, or as
+/// free that is used.
 pub fn noted<B: Level>(first: &mut B, second: &mut B, at: Addr, bytes: &Slot)
     requires level { B.level first.old ≡ B.level second.old }
     requires kept { B.kept first.old ≡ B.kept second.old }
@@ -47,8 +47,8 @@ pub fn redoes<B: Level>(
 }
 
 /// The level of chains plans the same, keeps the same chosen cell, and where one plans, the other refuses for want of
-/// memory alone. Excludes a plan that takes a cell on a latched page, or another than the lowest, and one whose cell is not
-/// reserved.
+/// memory alone. Excludes a plan that takes a cell on a latched page, or another than the lowest, and one whose cell
+/// is not reserved.
 pub fn plans<B: Level>(
     alloc: Global,
     first: &mut B,

@@ -13,8 +13,8 @@ use rq_level::Level;
 use rq_model::refusal::Refusal;
 use rq_model::txn::{Sub, Txn};
 
-/// The start of a send answers the same and leaves the same state, the cell that it takes with it. Excludes one that is
-/// refused as Full or Latched where it need not be, such as by one latch for the whole store.
+/// The start of a send answers the same and leaves the same state, the cell that it takes with it. Excludes one that
+/// is refused as Full or Latched where it need not be, such as by one latch for the whole store.
 pub fn start_send<P: PageDevice, L: LogDevice, B: Level>(
     first: &mut Engine<P, L, B>,
     second: &mut Engine<P, L, B>,
@@ -36,8 +36,8 @@ pub fn start_send<P: PageDevice, L: LogDevice, B: Level>(
     )
 }
 
-/// The start of a receive from some group answers the same: which group it takes from is free. Excludes None, or Latched,
-/// where some group gives a message.
+/// The start of a receive from some group answers the same: which group it takes from is free. Excludes None, or
+/// Latched, where some group gives a message.
 pub fn start_receive<P: PageDevice, L: LogDevice, B: Level>(
     first: &mut Engine<P, L, B>,
     second: &mut Engine<P, L, B>,
@@ -53,8 +53,8 @@ pub fn start_receive<P: PageDevice, L: LogDevice, B: Level>(
     (first.start_receive(txn), second.start_receive(txn))
 }
 
-/// The start of a receive from a group answers the same and leaves the same state. Excludes None where its message needs a
-/// latched page.
+/// The start of a receive from a group answers the same and leaves the same state. Excludes None where its message
+/// needs a latched page.
 pub fn start_receive_from<P: PageDevice, L: LogDevice, B: Level>(
     first: &mut Engine<P, L, B>,
     second: &mut Engine<P, L, B>,
@@ -94,8 +94,8 @@ pub fn start_close<P: PageDevice, L: LogDevice, B: Level>(
     )
 }
 
-/// The start of an inverse answers the same and leaves the same state. Excludes one that takes back another operation than
-/// the last, or nothing, and one that is refused as Damaged for Latched.
+/// The start of an inverse answers the same and leaves the same state. Excludes one that takes back another operation
+/// than the last, or nothing, and one that is refused as Damaged for Latched.
 pub fn undo_next<P: PageDevice, L: LogDevice, B: Level>(
     first: &mut Engine<P, L, B>,
     second: &mut Engine<P, L, B>,
@@ -111,8 +111,8 @@ pub fn undo_next<P: PageDevice, L: LogDevice, B: Level>(
     (first.undo_next(txn), second.undo_next(txn))
 }
 
-/// A step answers the same and leaves the same state, but for the bytes of pages, whose slots hold the same. Excludes one
-/// that writes another slot, or logs another record.
+/// A step answers the same and leaves the same state, but for the bytes of pages, whose slots hold the same. Excludes
+/// one that writes another slot, or logs another record.
 pub fn step<P: PageDevice, L: LogDevice, B: Level>(
     first: &mut Engine<P, L, B>,
     second: &mut Engine<P, L, B>,
@@ -127,8 +127,8 @@ pub fn step<P: PageDevice, L: LogDevice, B: Level>(
     (first.step(sub), second.step(sub))
 }
 
-/// The end of an operation answers the same and leaves the same state. Excludes one that counts the cell of a message as
-/// free that is taken and not committed, that has a message wait that is not committed, or that gives ends back.
+/// The end of an operation answers the same and leaves the same state. Excludes one that counts the cell of a message
+/// as free that is taken and not committed, that has a message wait that is not committed, or that gives ends back.
 pub fn finish<P: PageDevice, L: LogDevice, B: Level>(
     first: &mut Engine<P, L, B>,
     second: &mut Engine<P, L, B>,

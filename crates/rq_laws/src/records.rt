@@ -10,8 +10,8 @@ use rq_model::txn::Lsn;
 use rq_record::{Step, decode};
 use rq_undone::History;
 
-/// The same bytes are read as the same record, or as a beginning of one, or as none. Excludes a reader that takes a longer
-/// Commit, and one that calls a beginning bad.
+/// The same bytes are read as the same record, or as a beginning of one, or as none. Excludes a reader that takes a
+/// longer Commit, and one that calls a beginning bad.
 pub fn decodes(input: &[u8], again: &[u8]) -> (Step, Step)
     requires same { input.now ≡ again.now }
     ensures { result.0 ≡ result.1 }
@@ -19,8 +19,8 @@ pub fn decodes(input: &[u8], again: &[u8]) -> (Step, Step)
     (decode(input), decode(again))
 }
 
-/// Once two logs of the same records are handed over, their devices read as the same bytes. Excludes a hand-over that does
-/// nothing.
+/// Once two logs of the same records are handed over, their devices read as the same bytes. Excludes a hand-over that
+/// does nothing.
 pub fn hands_over<L: LogDevice>(
     first: &mut Log<L>,
     second: &mut Log<L>,
@@ -32,8 +32,8 @@ pub fn hands_over<L: LogDevice>(
     (first.hand_over(), second.hand_over())
 }
 
-/// After a record, the same is to be taken back. Excludes a Commit that leaves what it committed to be taken back, and an
-/// end of an inverse that leaves due what the inverse took back.
+/// After a record, the same is to be taken back. Excludes a Commit that leaves what it committed to be taken back, and
+/// an end of an inverse that leaves due what the inverse took back.
 pub fn dues(
     first: &mut Dues,
     second: &mut Dues,
@@ -46,8 +46,8 @@ pub fn dues(
     (first.note(lsn, told), second.note(lsn, told))
 }
 
-/// After a record, the same operations have no end, with the same writes. Excludes operations that are finished and undone
-/// by what stood in their slots before.
+/// After a record, the same operations have no end, with the same writes. Excludes operations that are finished and
+/// undone by what stood in their slots before.
 pub fn notes(
     first: &mut History,
     second: &mut History,
@@ -60,8 +60,8 @@ pub fn notes(
     (first.note(lsn, told), second.note(lsn, told))
 }
 
-/// The record by which operations without an end are undone next is one. Excludes an operation that is voided with a write
-/// left.
+/// The record by which operations without an end are undone next is one. Excludes an operation that is voided with a
+/// write left.
 pub fn next_undo(first: &History, second: &History) -> (Option<Record>, Option<Record>)
     requires same { first.now ≡ second.now }
     requires own { first.now.unfinished ≡ [] → first.now.spots ≡ [] }

@@ -11,9 +11,10 @@ use rq_planner::StoreLevels;
 use rq_restart::restart::{Report, Stopped, restart};
 use std::alloc::Global;
 
-/// Two restarts over one log begin the same incarnation, and report the same of a whole log. What else an opened store has
-/// follows from its sizes, pages and records. Excludes an incarnation, and with it transaction numbers, that are given again;
-/// last tags, or how many messages wait, that come from elsewhere than the directory; and cells that are counted otherwise.
+/// Two restarts over one log begin the same incarnation, and report the same of a whole log. What else an opened store
+/// has follows from its sizes, pages and records. Excludes an incarnation, and with it transaction numbers, that are
+/// given again; last tags, or how many messages wait, that come from elsewhere than the directory; and cells that are
+/// counted otherwise.
 pub fn restarts<P: PageDevice + Drop, L: LogDevice + Drop, B: Level>(
     alloc: Global,
     pages: P,
@@ -45,7 +46,8 @@ pub fn restarts<P: PageDevice + Drop, L: LogDevice + Drop, B: Level>(
     )
 }
 
-/// Behind a restart that answered, a crash leaves one log. Excludes a restart that answers before its records are forced.
+/// Behind a restart that answered, a crash leaves one log. Excludes a restart that answers before its records are
+/// forced.
 pub fn leaves_one<P: PageDevice + Drop, L: LogDevice + Drop, B: Level>(
     alloc: Global,
     pages: P,
