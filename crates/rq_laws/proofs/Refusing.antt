@@ -1,5 +1,5 @@
 -- Refusals, by two stores in the same state.
-use Rattle.std.proofs.Common.{◌≡◌, ℕ, zero, suc, ◌<◌, List, [], ◌∷◌, ◌++◌, refl, sym, ◌∙◌, ap, subst, Bool, true, false, not, cond, ◌&&◌, ◌||◌, IsTrue, ◌⊎◌, inl, inr, Option, Some, None, Result, Ok, Err, arith, true≢false}
+use Rattle.std.proofs.Common.{◌≡◌, ℕ, zero, suc, ◌+◌, ◌<◌, List, [], ◌∷◌, ◌++◌, refl, sym, ◌∙◌, ap, subst, Bool, true, false, not, cond, ◌&&◌, ◌||◌, IsTrue, ◌⊎◌, inl, inr, Option, Some, None, Result, Ok, Err, arith, true≢false}
 use Rattle.std.proofs.lemmas.Bool.{cases_Bool}
 use Rattle.rq_model.specs.declared.refusal.Refusal.{Refusal}
 use Rattle.rq_model.specs.declared.refusal.Refusal.TheVariants as why
@@ -217,10 +217,6 @@ finish_passed t n old new outcome.Undone s = (subst (λ (e : Entry). Legal (size
 abbrev entry_legal : (old : State) → Entry → Type 0
 entry_legal old e = Legal (size_of old.sizes) (ledger_of old) e
 
-true_of : (b : Bool) → IsTrue b → b ≡ true
-true_of true h = refl
-true_of false h = absurd h
-
 not_false : (b : Bool) → not b ≡ false → b ≡ true
 not_false true e = refl
 not_false false e = absurd (true≢false e)
@@ -263,7 +259,7 @@ module _ (l : Ledger) (t : Txn) where
 
   room_for : (s n : ℕ) (o : Option Open) → OnFound o (λ o. (n ≡ o.number + 1) × IsTrue (holds_for l o s)) → free_to_receive t s l.open_ones ≡ true → (gives l t o s && log_full l 4) ≡ false → log_full l 4 ≡ false
   room_for s n None k f e = absurd k
-  room_for s n (Some o) k f e = third (free_to_receive t s l.open_ones) (holds_for l o s) (log_full l 4) f (true_of _ k.1) e
+  room_for s n (Some o) k f e = third (free_to_receive t s l.open_ones) (holds_for l o s) (log_full l 4) f k.1 e
 
   none_newest : (o : Option Open) → OnFound o (λ o. last o.ops ≡ None) → is_some (newest o) ≡ false
   none_newest None k = absurd k
