@@ -1,5 +1,5 @@
 pub mod Slots
-pub mod Ends
+pub mod Ending
 pub mod Starts
 pub mod Undoing
 pub mod Refusing
@@ -8,4 +8,4 @@ pub mod Least
 pub mod Told
 pub mod Fed
 pub mod Audits
-pub mod Restarts
+pub mod Restarting

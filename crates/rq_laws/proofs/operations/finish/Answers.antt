@@ -1,5 +1,5 @@
 use Rattle.std.proofs.Common.{ap, refl}
-use Rattle.rq_laws.proofs.Ends.{finish_alike}
+use Rattle.rq_laws.proofs.Ending.{finish_alike}
 use Rattle.rq_engine.specs.Opened.{OpenStore}
 use Rattle.rq_laws.proofs.Refusing.{refuse_plain, finish_passed}
 use Rattle.rq_laws.proofs.operations.finish.Goals as goal

@@ -1,5 +1,5 @@
 use Rattle.std.proofs.Common.{ap, refl}
-use Rattle.rq_laws.proofs.Ends.{step_alike}
+use Rattle.rq_laws.proofs.Ending.{step_alike}
 use Rattle.rq_engine.specs.Opened.{OpenStore}
 use Rattle.rq_laws.proofs.Refusing.{refuse_plain, step_passed}
 use Rattle.rq_laws.proofs.operations.step.Goals as goal

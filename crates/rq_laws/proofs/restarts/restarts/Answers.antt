@@ -1,4 +1,4 @@
-use Rattle.rq_laws.proofs.Restarts.{begin_alike, report_alike, state_alike}
+use Rattle.rq_laws.proofs.Restarting.{begin_alike, report_alike, state_alike}
 use Rattle.rq_laws.proofs.restarts.restarts.Goals as goal
 
 pub returns : goal.returns
