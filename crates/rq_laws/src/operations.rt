@@ -36,8 +36,8 @@ pub fn start_send<P: PageDevice, L: LogDevice, B: Level>(
     )
 }
 
-/// The start of a receive from some group answers the same: which group it takes from is free. Excludes None, or
-/// Latched, where some group gives a message.
+/// The start of a receive from some group answers the same: which group it takes from is free. Excludes None where some
+/// group gives a message, and Latched where one can be had on pages that nobody has latched.
 pub fn start_receive<P: PageDevice, L: LogDevice, B: Level>(
     first: &mut Engine<P, L, B>,
     second: &mut Engine<P, L, B>,
