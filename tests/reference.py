@@ -266,8 +266,8 @@ class Mending:
     """What a restart does before the next incarnation begins, record by record."""
 
     def __init__(self, store):
-        self.devices, self.chains, self.met = store.devices, store.chains, store.met
-        self.first = len(self.devices.records)
+        self.devices, self.chains = store.devices, store.chains
+        self.met = []  # what is worth counting, with the LSN of the record by which it is so
         self.open_writes, self.numbers = {}, {}
         self.due, self.lost = [], set()
         self.look()
@@ -299,12 +299,14 @@ class Mending:
         self.due = [due for due in self.due if due[1][1][0] not in ended]
 
     def run(self):
-        self.count_before()
         self.undo_writes()
         self.undo_deeds()
 
-    def count_before(self):
-        met = self.met
+    def note(self, kind):
+        self.met.append((len(self.devices.records), kind))
+
+    def count_before(self, met):
+        """What a crash left to be undone."""
         met["OneLost"] += self.lost_count == 1
         met["MoreLost"] += self.lost_count > 1
         met["TwoCut"] += self.unfinished > 1
@@ -322,7 +324,7 @@ class Mending:
             self.open_writes[sub].pop()
             if not self.open_writes[sub]:
                 self.devices.add(("void", sub))
-                self.met[CUTS[record[3]]] += 1
+                self.note(CUTS[record[3]])
 
     def has_due(self, txn):
         return any(record[1][0] == txn for _, record in self.due)
@@ -347,7 +349,7 @@ class Mending:
             self.devices.add(("write", sub, page, kind, len(pages) - at))
         self.devices.add(("undone", sub, lsn, cell))
         self.chains.do(kind, deed.sender, cell)
-        self.met[LOSSES[deed.kind]] += 1
+        self.note(LOSSES[deed.kind])
 
 
 CUTS = {"append": "SendCut", "take": "TakeCut", "close": "CloseCut", "unsend": "UnsendCut", "put-back": "BackCut", "reopen": "ReopenCut"}
@@ -367,6 +369,7 @@ class Store:
         self.commits = []  # (transaction, LSN, its deeds), in order
         self.rows = {}
         self.open = self.failed = False
+        self.is_cut, self.mending = False, None  # whether no restart was begun since the last crash, and what the last one did
         self.incarnation = self.begins = 0
         self.recount()
 
@@ -410,6 +413,7 @@ class Store:
         self.commits = [commit for commit in self.commits if commit[1] <= left]
         self.recount()
         self.rows, self.open, self.failed = {}, False, False
+        self.is_cut = True
         return left
 
     def restart(self):
@@ -419,7 +423,10 @@ class Store:
         devices.load()
         self.chains = Chains(self.directory, self.cells)
         self.chains.play(devices.records)
-        mending = Mending(self)
+        mending = self.mending = Mending(self)
+        if self.is_cut:
+            mending.count_before(self.met)
+            self.is_cut = False
         mending.run()
         incarnation = 1 + max((record[1] for record in devices.records if record[0] == "restart"), default=0)
         devices.add(("restart", incarnation))
@@ -431,6 +438,7 @@ class Store:
         self.open, self.failed, self.rows = True, False, {}
         self.incarnation, self.begins = incarnation, 0
         self.met["Opened"] += 1
+        self.met.update(kind for _, kind in mending.met)
         assert all(len(self.chains.of[s]) == len(self.rest(s)) for s in range(self.senders)), "a chain is not the committed rest"
         return incarnation, mending.unfinished, mending.lost_count
 
@@ -441,8 +449,9 @@ class Store:
         try:
             report = self.restart()
         except Stopped:
-            made = self.devices.records[before:]
+            made, is_cut = self.devices.records[before:], self.is_cut
             left = self.lose(keep, places)
+            self.is_cut = is_cut
             self.count_stop(made, left - before)
             return left
         finally:
@@ -450,9 +459,10 @@ class Store:
         return report
 
     def count_stop(self, made, kept):
-        """What a restart was about when it was stopped behind so many of its records."""
+        """What a restart did, and was about, when it was stopped behind so many of its records."""
         if not 0 < kept < len(made):
             return
+        self.met.update(kind for lsn, kind in self.mending.met if lsn <= len(self.devices.records))
         last, following = made[kept - 1], made[kept]
         self.met["StoppedInInverse"] += last[0] == "write" and last[4] > 0
         self.met["StoppedBeforeVoid"] += following[0] == "void"
