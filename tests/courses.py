@@ -14,22 +14,22 @@ from script_reference import Script, printed_by
 
 # What has to be met, the usual courses taken together, and how often at least.
 WANTED = {
-    "Beside": 1300, "HigherCell": 1700, "OtherGroup": 430, "SendDirectory": 5100, "SendTail": 1900, "SendCells": 180,
-    "TakeDirectory": 680, "TakeHead": 360, "TakeNext": 31, "TakeNextOpen": 19, "TakeAny": 2400, "CloseDirectory": 140,
-    "Close": 38, "CloseEmpty": 160, "SendUndone": 1200, "TakeUndone": 430, "CloseUndone": 72, "HigherBack": 90,
-    "UnsendDirectory": 1900, "UnsendTail": 820, "UnsendBefore": 30, "BackDirectory": 810, "BackHead": 140, "BackCells": 12,
-    "ReopenDirectory": 120, "EarlyEnd": 620, "NotAborting": 940, "Shorter": 1100, "SendCut": 760, "TakeCut": 150,
-    "CloseCut": 9, "UnsendCut": 190, "BackCut": 48, "ReopenCut": 3, "TwoCut": 100, "BetweenSteps": 36, "OneLost": 600,
-    "MoreLost": 220, "CutBesideLost": 290, "SendLost": 1500, "TakeLost": 320, "CloseLost": 35, "EndWanting": 15,
-    "StoppedOnce": 290, "StoppedTwice": 270, "StoppedThrice": 220, "StoppedInInverse": 100, "StoppedBeforeVoid": 50,
-    "StoppedBeforeEnd": 46, "Begun": 12000, "SendStarted": 7300, "TakeStarted": 500, "AnyTakeStarted": 1600,
-    "CloseStarted": 200, "UndoStarted": 1700, "NoneFrom": 5700, "NoneOfAny": 4200, "Stepped": 25000, "Ready": 1100,
-    "Sent": 6600, "Received": 1900, "GroupClosed": 190, "Undone": 1700, "Committed": 7300, "Aborting": 2600,
-    "NothingLeft": 240, "Aborted": 2400, "Given": 1500, "NotGiven": 2500, "Forced": 2800, "Written": 2400, "NotWritten": 3000,
-    "LastTag": 1500, "Content": 630, "Opened": 1600, "UnknownTransaction": 1800, "NotOpen": 1900, "Unfinished": 5700,
-    "ContentUnfinished": 680, "UnknownSender": 39, "TooLong": 450, "SenderBusy": 9200, "Closed": 230, "ReceiverBusy": 1000,
-    "Full": 1300, "NotForced": 1400, "UnknownOperation": 1300, "Armed": 200, "DiskWrite": 130, "Failed": 1200,
-    "NotOpened": 70, "OldImages": 1000, "Running": 500,
+    "Beside": 4000, "HigherCell": 2000, "OtherGroup": 440, "SendDirectory": 5100, "SendTail": 2200, "SendCells": 190,
+    "TakeDirectory": 680, "TakeHead": 400, "TakeNext": 97, "TakeNextOpen": 21, "TakeAny": 2400, "CloseDirectory": 200,
+    "Close": 94, "CloseEmpty": 480, "SendUndone": 1700, "TakeUndone": 720, "CloseUndone": 180, "HigherBack": 100,
+    "UnsendDirectory": 1900, "UnsendTail": 920, "UnsendBefore": 43, "BackDirectory": 810, "BackHead": 190, "BackCells": 14,
+    "ReopenDirectory": 150, "EarlyEnd": 620, "NotAborting": 1000, "Shorter": 4100, "SendCut": 980, "TakeCut": 150,
+    "CloseCut": 17, "UnsendCut": 640, "BackCut": 200, "ReopenCut": 10, "TwoCut": 130, "BetweenSteps": 74, "OneLost": 1000,
+    "MoreLost": 410, "CutBesideLost": 470, "SendLost": 2600, "TakeLost": 700, "CloseLost": 110, "EndWanting": 35,
+    "StoppedOnce": 570, "StoppedTwice": 350, "StoppedThrice": 240, "StoppedInInverse": 420, "StoppedBeforeVoid": 210,
+    "StoppedBeforeEnd": 270, "Begun": 18000, "SendStarted": 12000, "TakeStarted": 940, "AnyTakeStarted": 2600,
+    "CloseStarted": 570, "UndoStarted": 2600, "NoneFrom": 7400, "NoneOfAny": 5400, "Stepped": 42000, "Ready": 7700,
+    "Sent": 10000, "Received": 3600, "GroupClosed": 570, "Undone": 2300, "Committed": 8800, "Aborting": 3800,
+    "NothingLeft": 270, "Aborted": 3200, "Given": 1800, "NotGiven": 3000, "Forced": 3200, "Written": 3300, "NotWritten": 3800,
+    "LastTag": 1800, "Content": 1200, "Opened": 3400, "UnknownTransaction": 4800, "NotOpen": 2100, "Unfinished": 7300,
+    "ContentUnfinished": 1200, "UnknownSender": 51, "TooLong": 550, "SenderBusy": 11000, "Closed": 500, "ReceiverBusy": 1000,
+    "Full": 1300, "NotForced": 1600, "UnknownOperation": 1300, "Armed": 260, "DiskWrite": 110, "Failed": 1200,
+    "NotOpened": 110, "OldImages": 1500, "Running": 490,
 }  # fmt: skip
 
 
@@ -75,14 +75,14 @@ class Drawing:
 
     MOST_OPEN = 4
 
-    def __init__(self, seed, met):
+    def __init__(self, seed, met, door=Script):
         self.random = random.Random(seed)
         self.shape, self.sizes = shape_of(seed), sizes_of(seed)
-        self.script = Script(*self.sizes, met)
-        self.store = self.script.store
+        self.door = door(*self.sizes, met)
+        self.store = self.door.store
         self.lines = []
-        self.commits = []
         self.may_fail = self.is_first_of(3)
+        self.stops_left = 0  # so many restarts are to be stopped before the one that is not
 
     def is_first_of(self, count):
         return self.random.randrange(count) == 0
@@ -90,11 +90,11 @@ class Drawing:
     def add(self, *words):
         line = b" ".join(word if isinstance(word, bytes) else str(word).encode() for word in words)
         self.lines.append(line)
-        self.script.run(line)
+        self.door.run(line)
 
     @property
     def ended(self):
-        return self.script.status is not None
+        return self.door.status is not None
 
     def draw(self):
         while len(self.lines) < self.shape.length and not self.ended:
@@ -146,7 +146,7 @@ class Drawing:
             return self.add("crash", self.random.randrange(4))
         if self.stops_left:
             self.stops_left -= 1
-            wanted = self.script.records_wanted()
+            wanted = self.store.records_wanted()
             return self.add("restart", self.random.randrange(wanted if wanted > 3 else 9))
         self.add("restart")
 
@@ -160,11 +160,9 @@ class Drawing:
         self.add("crash", keep, *(["old"] if self.is_first_of(2) else []))
         self.stops_left = self.random.choice([0, 0, 1, 2, 3, 3, 3])
 
-    stops_left = 0
-
     def committed(self):
         """One of the last transactions that were committed, most times."""
-        last = list(self.script.numbers)[-4:]
+        last = list(self.door.numbers)[-4:]
         return shown(self.random.choice(last)) if last else self.stray_txn()
 
     def stray_txn(self):
@@ -287,10 +285,13 @@ def shown(txn):
 class Courses(drawn.Door):
     name, program, subcommand, courses, wanted = "script", "crates/rqm/out/rqm", ["run"], 1000, WANTED
 
+    def words(self, sizes):
+        return ["--directory", str(sizes[0]), "--cells", str(sizes[1])]
+
     def draw(self, seed, met):
         drawing = Drawing(seed, met)
         drawing.draw()
-        return drawing.sizes, drawing.lines, b"\n".join(drawing.script.printed).split(b"\n"), drawing.script.status or 0
+        return drawing.sizes, drawing.lines, b"\n".join(drawing.door.printed).split(b"\n"), drawing.door.status or 0
 
     def replay(self, lines, sizes, told):
         return printed_by(lines, *sizes, told)

@@ -12,15 +12,20 @@ import sys
 import tempfile
 from collections import Counter
 
-TOP = pathlib.Path(__file__).resolve().parent.parent
+from cases import TOP
+
 MOST_SECONDS = 60
 
 
 class Door:
-    """What is drawn for a program. `name` is the kind of file; `program` the default one, and `subcommand` its first words;
+    """What is drawn for a program. `cases` come first, those that stand in files and have the same door. `name` is the kind of file; `program` the default one, and `subcommand` its first words;
     `wanted` says what has to be met how often in so many (`courses`) of the seeds from 0."""
 
-    name, program, subcommand, courses, wanted = "script", "", [], 1000, {}
+    cases, name, program, subcommand, courses, wanted = None, "script", "", [], 1000, {}
+
+    def words(self, sizes):
+        """The words behind those, for a store of so many directory pages and cell pages."""
+        raise NotImplementedError
 
     def draw(self, seed, met):
         """The sizes (directory pages, cell pages) of the store of a seed, its lines, and what they print by the reference."""
@@ -31,15 +36,11 @@ class Door:
         raise NotImplementedError
 
 
-def words_of(sizes):
-    return ["--directory", str(sizes[0]), "--cells", str(sizes[1])]
-
-
 def run(door, program, lines, sizes):
     """The lines that the program prints, and its exit status."""
     try:
         given = b"".join(line + b"\n" for line in lines)
-        ran = subprocess.run([program, *door.subcommand, *words_of(sizes)], input=given, capture_output=True, timeout=MOST_SECONDS)
+        ran = subprocess.run([program, *door.subcommand, *door.words(sizes)], input=given, capture_output=True, timeout=MOST_SECONDS)
     except subprocess.TimeoutExpired:
         return [b"(no end)"], None
     return ran.stdout.split(b"\n")[:-1], ran.returncode
@@ -77,7 +78,7 @@ def show(door, program, seed, lines, sizes, folder):
     file.write_bytes(b"".join(line + b"\n" for line in lines))
     told, status = run(door, program, lines, sizes)
     wanted, wanted_status = door.replay(lines, sizes, told)
-    print(f"  cut down to {len(lines)} lines: {' '.join([program, *door.subcommand, *words_of(sizes)])} < {file}")
+    print(f"  cut down to {len(lines)} lines: {' '.join([program, *door.subcommand, *door.words(sizes)])} < {file}")
     print("".join(f"    {text(line)}\n" for line in lines), end="")
     for at in range(max(len(told), len(wanted))):
         printed = text(told[at]) if at < len(told) else "(nothing)"
@@ -95,15 +96,15 @@ def course(job):
     if keep:
         (keep / f"{seed}.{door.name}").write_bytes(b"".join(line + b"\n" for line in lines))
         (keep / f"{seed}.expected").write_bytes(b"".join(line + b"\n" for line in expected))
-        (keep / f"{seed}.words").write_text(" ".join(words_of(sizes)) + "\n")
+        (keep / f"{seed}.words").write_text(" ".join(door.words(sizes)) + "\n")
     told = run(door, program, lines, sizes)
     met["lines"] = len(lines)
     return seed, met, told != (expected, status) and told != door.replay(lines, sizes, told[0])
 
 
-def few(door, met, count):
-    """What was met too seldom, where at least the usual number of courses was drawn."""
-    if count < door.courses:
+def few(door, met, first, count):
+    """What was met too seldom, where all the usual courses were drawn."""
+    if first > 0 or count < door.courses:
         return []
     return [(kind, met[kind], least) for kind, least in door.wanted.items() if met[kind] < least]
 
@@ -120,6 +121,7 @@ def chosen_words(door, description):
 
 def main(door, description):
     chosen = chosen_words(door, description)
+    is_right = door.cases is None or door.cases.run(chosen.program)
     if chosen.keep:
         chosen.keep.mkdir(parents=True, exist_ok=True)
     jobs = [(door, chosen.program, seed, chosen.keep) for seed in range(chosen.first, chosen.first + chosen.courses)]
@@ -133,7 +135,7 @@ def main(door, description):
         print(f"the {door.name} of seed {seed} prints what it should not; so do {len(wrong) - 1} others: {sorted(wrong)[1:20]}")
         short = shrunk(lines, lambda fewer: is_wrong(door, chosen.program, fewer, sizes))
         show(door, chosen.program, seed, short, sizes, chosen.keep or pathlib.Path(tempfile.mkdtemp()))
-    seldom = few(door, met, chosen.courses)
+    seldom = few(door, met, chosen.first, chosen.courses)
     for kind, count, least in seldom:
         print(f"{kind} was met {count} times, and not {least}")
     if chosen.counts:
@@ -141,4 +143,4 @@ def main(door, description):
     last = chosen.first + chosen.courses - 1
     right = chosen.courses - len(wrong)
     print(f"{right} of {chosen.courses} of kind {door.name}, seeds {chosen.first} to {last}, {met['lines']} lines, print what they should")
-    sys.exit(1 if wrong or seldom else 0)
+    sys.exit(0 if is_right and not wrong and not seldom else 1)

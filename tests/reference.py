@@ -442,6 +442,23 @@ class Store:
         assert all(len(self.chains.of[s]) == len(self.rest(s)) for s in range(self.senders)), "a chain is not the committed rest"
         return incarnation, mending.unfinished, mending.lost_count
 
+    def has_idle_beside(self):
+        """Whether of the transactions in the log without an end, which finished something, one has nothing left to undo beside one
+        that has."""
+        mending = Mending(self)
+        idle = [txn for txn in mending.lost if not mending.has_due(txn)]
+        return bool(idle) and bool(mending.due)
+
+    def records_wanted(self):
+        """How many records a restart makes of a store that is not open."""
+        twin = Store(self.directory, self.cells)
+        twin.commits = self.commits
+        twin.recount()
+        twin.devices.records = list(self.devices.records)
+        twin.devices.handed = twin.devices.forced = before = len(twin.devices.records)
+        twin.restart()
+        return len(twin.devices.records) - before
+
     def restart_stopped(self, n, keep, places=()):
         """A restart in whose nth device call the power fails: its report, or the number of records that are left."""
         before = len(self.devices.records)

@@ -263,7 +263,7 @@ class Script:
         """A restart; one that is to be stopped behind so many records is stopped in its append, where it makes more."""
         devices = self.store.devices
         before = len(devices.records)
-        if keep is not None and keep < self.records_wanted() and not {"read", "write"} & devices.armed:
+        if keep is not None and keep < self.store.records_wanted() and not {"read", "write"} & devices.armed:
             left = self.store.restart_stopped(devices.reads() + 1, keep)
             self.stops += left > before
             return f"stopped {left}".encode()
@@ -272,16 +272,6 @@ class Script:
             self.met[("StoppedOnce", "StoppedTwice", "StoppedThrice")[min(self.stops, 3) - 1]] += 1
         self.stops = 0
         return f"restarted {incarnation} unfinished {unfinished} lost {lost}".encode()
-
-    def records_wanted(self):
-        """How many records a restart makes here."""
-        twin = Store(self.store.directory, self.store.cells)
-        twin.commits = self.store.commits
-        twin.recount()
-        twin.devices.records = list(self.store.devices.records)
-        twin.devices.handed = twin.devices.forced = len(twin.devices.records)
-        twin.restart()
-        return len(twin.devices.records) - len(self.store.devices.records)
 
 
 def printed_by(lines, directory, cells, told=(), met=None):
