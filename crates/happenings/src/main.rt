@@ -68,7 +68,12 @@ fn happen(alloc: Global, layout: Layout, input: &[u8], output: &mut Vec<u8>) -> 
 }
 
 fn entries_of(alloc: Global, layout: Layout, list: &List) -> Result<Vec<Entry>, AllocError> {
-    run_world(World::new(alloc, layout)?, alloc, &list.happenings, list.restarts)
+    run_world(
+        World::new(alloc, layout)?,
+        alloc,
+        &list.happenings,
+        list.restarts,
+    )
 }
 
 fn run_world(

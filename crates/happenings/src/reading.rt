@@ -17,7 +17,7 @@ pub struct List {
     pub happenings: Vec<Happening>,
     /// How many of them restart.
     pub restarts: usize,
-    /// The number of the last line that is no happening, from 1; 0 where each is one.
+    /// The number of the first line that is no happening, from 1; 0 where each is one.
     pub fault: u64,
 }
 
@@ -102,7 +102,7 @@ fn read_line(alloc: Global, text: &[u8], number: u64, list: &mut List) -> Result
     if let Happening::Restart | Happening::RestartStop(..) = happening {
         list.restarts = list.restarts.saturating_add(1);
     }
-    if line.is_bad() {
+    if line.is_bad() && list.fault == 0 {
         list.fault = number;
     }
     list.happenings.push(happening)?;

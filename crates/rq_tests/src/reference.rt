@@ -77,7 +77,12 @@ fn of_lists(queue: &mut Reference, call: Call) -> Result<u64, Refusal> {
     let incarnation = queue.incarnation();
     match call {
         Call::Begin => begin(queue),
-        Call::Send(count, sender, tag) => queue.start_send(of(incarnation, count), sender, tag, BODY),
+        Call::Send(count, sender, tag) => queue.start_send(
+            of(incarnation, count),
+            sender,
+            tag,
+            BODY,
+        ),
         Call::Take(count) => take(queue, of(incarnation, count)),
         Call::TakeFrom(count, sender) => take_from(queue, of(incarnation, count), sender),
         Call::Close(count, sender) => queue.start_close(of(incarnation, count), sender),
