@@ -31,6 +31,10 @@ class Door:
         """The sizes (directory pages, cell pages) of the store of a seed, its lines, and what they print by the reference."""
         raise NotImplementedError
 
+    def without(self, lines, at, end):
+        """The lines without those from one place to another."""
+        return lines[:at] + lines[end:]
+
     def replay(self, lines, sizes, told):
         """What lines print by the reference, and the exit status, where the program told this: where it may choose, it chose."""
         raise NotImplementedError
@@ -52,13 +56,13 @@ def is_wrong(door, program, lines, sizes):
     return told != door.replay(lines, sizes, told[0])
 
 
-def shrunk(lines, fails):
+def shrunk(lines, without, fails):
     """The lines without all that can be left out, so that it still fails: none of those that are left can."""
     size = max(1, len(lines) // 2)
     while True:
         at, is_shorter = 0, False
         while at < len(lines):
-            fewer = lines[:at] + lines[at + size :]
+            fewer = without(lines, at, at + size)
             if fails(fewer):
                 lines, is_shorter = fewer, True
             else:
@@ -132,8 +136,8 @@ def main(door, description):
             wrong += [seed] if is_bad else []
     for seed in sorted(wrong)[:1]:
         sizes, lines, _, _ = door.draw(seed, Counter())
-        print(f"the {door.name} of seed {seed} prints what it should not; so do {len(wrong) - 1} others: {sorted(wrong)[1:20]}")
-        short = shrunk(lines, lambda fewer: is_wrong(door, chosen.program, fewer, sizes))
+        print(f"what seed {seed} draws goes wrong, and so do {len(wrong) - 1} others: {sorted(wrong)[1:20]}")
+        short = shrunk(lines, door.without, lambda fewer: is_wrong(door, chosen.program, fewer, sizes))
         show(door, chosen.program, seed, short, sizes, chosen.keep or pathlib.Path(tempfile.mkdtemp()))
     seldom = few(door, met, chosen.first, chosen.courses)
     for kind, count, least in seldom:
@@ -142,5 +146,5 @@ def main(door, description):
         print("".join(f"  {kind} {count}\n" for kind, count in sorted(met.items())), end="")
     last = chosen.first + chosen.courses - 1
     right = chosen.courses - len(wrong)
-    print(f"{right} of {chosen.courses} of kind {door.name}, seeds {chosen.first} to {last}, {met['lines']} lines, print what they should")
+    print(f"{right} of {chosen.courses} drawn ({door.name}), seeds {chosen.first} to {last}, {met['lines']} lines, print what they should")
     sys.exit(0 if is_right and not wrong and not seldom else 1)

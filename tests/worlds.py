@@ -239,6 +239,13 @@ class Calls(courses.Drawing):
         super().stray()
 
 
+def renumbered(line, at, end):
+    """An acknowledgement where the happenings from one place to another are left out, of one behind them."""
+    if not line.startswith(b"ack ") or int(line[4:]) <= end:
+        return line
+    return b"ack %d" % (int(line[4:]) - (end - at))
+
+
 class Worlds(drawn.Door):
     cases = Cases("worlds", "happenings", [], ["1", "1"])
     name, program, courses, wanted = "happenings", "crates/happenings/out/happenings", 1500, WANTED
@@ -250,6 +257,10 @@ class Worlds(drawn.Door):
         drawing = Drawing(seed // 3, met) if seed % 3 == 0 else Calls(seed - seed // 3, met)
         drawing.draw()
         return drawing.sizes, drawing.lines, drawing.door.printed, 0
+
+    def without(self, lines, at, end):
+        """Acknowledgements of later commits name them by the numbers that they have then."""
+        return lines[:at] + [renumbered(line, at, end) for line in lines[end:]]
 
     def replay(self, lines, sizes, told):
         return printed_by(lines, *sizes, told), 0

@@ -1,7 +1,7 @@
 //! The queue as plain lists beside an engine: each of some fifty calls is made of both, and both answer the same.
 use crate::stores::{Machine, Medium, Store, blank};
 use rq_disk::PageChoice;
-use rq_engine::event::{Event, Outcome, Progress, Reply};
+use rq_engine::event::{CommitNo, Event, Outcome, Progress, Reply};
 use rq_model::reference::Reference;
 use rq_model::reference::rows::Act;
 use rq_model::refusal::Refusal;
@@ -16,6 +16,8 @@ enum Call {
     Begin,
     /// A transaction, a sender and a tag.
     Send(u64, u32, u64),
+    /// A body that is too long by a byte, of this transaction.
+    SendLong(u64),
     Take(u64),
     TakeFrom(u64, u32),
     Close(u64, u32),
@@ -26,6 +28,8 @@ enum Call {
     Undo(u64),
     EndAbort(u64),
     Commit(u64),
+    /// Of the last commit: 1 where a receipt is given.
+    Acknowledge,
     HandOver,
     Force,
     /// A sender.
@@ -41,6 +45,8 @@ const REFUSED: u64 = 100;
 
 /// What every send sends.
 const BODY: &[u8] = b"m";
+
+const LONG: &[u8] = &[b'm'; 217];
 
 // The store, and the lists, of one directory and one cell page.
 fn queue(alloc: Global) -> Reference {
@@ -62,8 +68,8 @@ fn open_again(queue: &mut Reference, records: u64) -> bool {
     may && may_restart
 }
 
-fn told_by_lists(queue: &mut Reference, call: Call) -> u64 {
-    match of_lists(queue, call) {
+fn told_by_lists(queue: &mut Reference, call: Call, commit: Option<CommitNo>) -> u64 {
+    match of_lists(queue, call, commit) {
         Ok(number) => number,
         Err(refusal) => number_of(refusal),
     }
@@ -73,7 +79,7 @@ fn number_of(refusal: Refusal) -> u64 {
     REFUSED.saturating_add(u64::from(refusal.number()))
 }
 
-fn of_lists(queue: &mut Reference, call: Call) -> Result<u64, Refusal> {
+fn of_lists(queue: &mut Reference, call: Call, commit: Option<CommitNo>) -> Result<u64, Refusal> {
     let incarnation = queue.incarnation();
     match call {
         Call::Begin => begin(queue),
@@ -83,6 +89,7 @@ fn of_lists(queue: &mut Reference, call: Call) -> Result<u64, Refusal> {
             tag,
             BODY,
         ),
+        Call::SendLong(count) => queue.start_send(of(incarnation, count), 0, 1, LONG),
         Call::Take(count) => take(queue, of(incarnation, count)),
         Call::TakeFrom(count, sender) => take_from(queue, of(incarnation, count), sender),
         Call::Close(count, sender) => queue.start_close(of(incarnation, count), sender),
@@ -92,6 +99,7 @@ fn of_lists(queue: &mut Reference, call: Call) -> Result<u64, Refusal> {
         Call::Undo(count) => undo(queue, of(incarnation, count)),
         Call::EndAbort(count) => end_abort(queue, of(incarnation, count)),
         Call::Commit(count) => queue.commit(of(incarnation, count)),
+        Call::Acknowledge => acknowledge(queue, commit),
         Call::HandOver => hand_over(queue),
         Call::Force => queue.force(),
         Call::LastTag(sender) => last_tag(queue, sender),
@@ -143,6 +151,13 @@ fn end_abort(queue: &mut Reference, txn: Txn) -> Result<u64, Refusal> {
     Ok(0)
 }
 
+fn acknowledge(queue: &Reference, commit: Option<CommitNo>) -> Result<u64, Refusal> {
+    match commit {
+        Some(number) => Ok(u64::from(queue.acknowledged(number.txn(), number.lsn())?)),
+        None => Ok(0),
+    }
+}
+
 fn hand_over(queue: &Reference) -> Result<u64, Refusal> {
     queue.hand_over()?;
     Ok(0)
@@ -161,7 +176,12 @@ fn content(queue: &Reference) -> Result<u64, Refusal> {
 }
 
 // The event of a call.
-fn event_of(alloc: Global, incarnation: u64, call: Call) -> Result<Event, AllocError> {
+fn event_of(
+    alloc: Global,
+    incarnation: u64,
+    call: Call,
+    commit: Option<CommitNo>,
+) -> Result<Event, AllocError> {
     Ok(match call {
         Call::Begin => Event::Begin,
         Call::Send(count, sender, tag) => Event::StartSend {
@@ -169,6 +189,12 @@ fn event_of(alloc: Global, incarnation: u64, call: Call) -> Result<Event, AllocE
             sender,
             tag,
             body: Vec::from_slice(alloc, BODY)?,
+        },
+        Call::SendLong(count) => Event::StartSend {
+            txn: of(incarnation, count),
+            sender: 0,
+            tag: 1,
+            body: Vec::from_slice(alloc, LONG)?,
         },
         Call::Take(count) => Event::StartReceive(of(incarnation, count)),
         Call::TakeFrom(count, sender) => Event::StartReceiveFrom {
@@ -185,6 +211,10 @@ fn event_of(alloc: Global, incarnation: u64, call: Call) -> Result<Event, AllocE
         Call::Undo(count) => Event::UndoNext(of(incarnation, count)),
         Call::EndAbort(count) => Event::EndAbort(of(incarnation, count)),
         Call::Commit(count) => Event::Commit(of(incarnation, count)),
+        Call::Acknowledge => match commit {
+            Some(number) => Event::Acknowledged(number),
+            None => Event::Begin,
+        },
         Call::HandOver => Event::HandOver,
         Call::Force => Event::Force,
         Call::LastTag(sender) => Event::LastTag(sender),
@@ -206,6 +236,7 @@ fn told_by_engine(reply: &Reply) -> u64 {
         Reply::Stepped(Progress::Done(lsn)) => *lsn,
         Reply::Finished(Outcome::Message(message)) => message.tag,
         Reply::Committed(number) => number.lsn(),
+        Reply::Acknowledged(receipt) => u64::from(receipt.is_some()),
         Reply::Forced(lsn) => *lsn,
         Reply::LastTag(last) => last.tag,
         Reply::Content(groups) => {
@@ -229,14 +260,25 @@ fn first_fault<S: Store>(
     rows: &[Row],
 ) -> Result<u64, AllocError> {
     let mut number: u64 = 0;
+    let mut commit = None;
     for (call, wanted) in rows {
         number = number.saturating_add(1);
-        let event = event_of(alloc, incarnation, *call)?;
-        if told_by_engine(&store.ask(event)) != *wanted || told_by_lists(queue, *call) != *wanted {
+        let reply = store.ask(event_of(alloc, incarnation, *call, commit)?);
+        let listed = told_by_lists(queue, *call, commit);
+        if told_by_engine(&reply) != *wanted || listed != *wanted {
             return Ok(number);
         }
+        commit = commit_of(&reply, commit);
     }
     Ok(0)
+}
+
+// The number of the last commit, behind this reply.
+fn commit_of(reply: &Reply, before: Option<CommitNo>) -> Option<CommitNo> {
+    match reply {
+        Reply::Committed(number) => Some(*number),
+        _ => before,
+    }
 }
 
 // Opens a store, and goes through the rows of both; behind a crash that keeps all, through those of the next incarnation.
@@ -306,6 +348,7 @@ fn both_answer_the_same(rt: HostRuntime) -> Result<(), Fail> {
             (Call::Step(1, 2), 7),
             (Call::Finish(1, 2), 0),
             (Call::Send(1, 15, 1), 107),
+            (Call::SendLong(1), 108),
             (Call::Begin, 2),
             (Call::Send(2, 0, 9), 109),
             (Call::Take(2), 0),
@@ -343,7 +386,9 @@ fn both_answer_the_same(rt: HostRuntime) -> Result<(), Fail> {
             (Call::Finish(3, 1), 7),
             (Call::HandOver, 0),
             (Call::Commit(3), 27),
+            (Call::Acknowledge, 0),
             (Call::Force, 27),
+            (Call::Acknowledge, 1),
             (Call::Begin, 4),
             (Call::Close(4, 0), 1),
             (Call::Step(4, 1), 28),
@@ -360,5 +405,12 @@ fn both_answer_the_same(rt: HostRuntime) -> Result<(), Fail> {
         ],
     )?;
     assert!(rt; fault == 0);
+    Ok(())
+}
+
+#[test]
+fn lists_that_are_not_open_refuse(rt: HostRuntime) -> Result<(), Fail> {
+    let mut shut = Reference::new(rt.alloc(), 1, 1);
+    assert!(rt; told_by_lists(&mut shut, Call::Begin, None) == 102);
     Ok(())
 }
