@@ -29,10 +29,17 @@ class Cases:
         file = self.folder / f"{name}.words"
         return file.read_text().split() if file.exists() else self.words
 
+    def lines_of(self, name):
+        """The lines of a case, and those that it has to print."""
+        return (self.folder / f"{name}.{self.kind}").read_bytes().split(b"\n")[:-1], self.expected(name).split(b"\n")[:-1]
+
+    def expected(self, name):
+        return (self.folder / f"{name}.expected").read_bytes()
+
     def fault(self, program, name):
         """What is wrong with what a case prints; None where nothing is."""
         file, words = self.folder / f"{name}.{self.kind}", self.words_of(name)
-        expected = (self.folder / f"{name}.expected").read_bytes()
+        expected = self.expected(name)
         with open(file, "rb") as lines:
             ran = subprocess.run([program, *self.subcommand, *words], stdin=lines, capture_output=True)
         status = status_of(expected.splitlines())

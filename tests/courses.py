@@ -11,6 +11,7 @@ import random
 import drawn
 from reference import ALL
 from script_reference import Script, printed_by
+from scripts import SCRIPTS
 
 # What has to be met, the usual courses taken together, and how often at least.
 WANTED = {
@@ -283,6 +284,7 @@ def shown(txn):
 
 
 class Courses(drawn.Door):
+    cases = SCRIPTS
     name, program, subcommand, courses, wanted = "script", "crates/rqm/out/rqm", ["run"], 1000, WANTED
 
     def words(self, sizes):

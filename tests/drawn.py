@@ -18,10 +18,12 @@ MOST_SECONDS = 60
 
 
 class Door:
-    """What is drawn for a program. `cases` come first, those that stand in files and have the same door. `name` is the kind of file; `program` the default one, and `subcommand` its first words;
-    `wanted` says what has to be met how often in so many (`courses`) of the seeds from 0."""
+    """What is drawn for a program. The reference has to print what stands beside each of the `cases` in files, and where they are
+    run here (`runs_cases`), so has the program. `name` is the kind of file; `program` the default one, and `subcommand` its first
+    words; `wanted` says what has to be met how often in so many (`courses`) of the seeds from 0."""
 
-    cases, name, program, subcommand, courses, wanted = None, "script", "", [], 1000, {}
+    cases, runs_cases = None, False
+    name, program, subcommand, courses, wanted = "script", "", [], 1000, {}
 
     def words(self, sizes):
         """The words behind those, for a store of so many directory pages and cell pages."""
@@ -106,6 +108,18 @@ def course(job):
     return seed, met, told != (expected, status) and told != door.replay(lines, sizes, told[0])
 
 
+def agrees(door):
+    """Whether the reference prints what stands beside each case."""
+    is_right = True
+    for name in door.cases.names():
+        lines, expected = door.cases.lines_of(name)
+        sizes = [int(word) for word in door.cases.words_of(name) if word.isdigit()]
+        if door.replay(lines, sizes, ())[0] != expected:
+            print(f"the reference does not print what stands beside {name}")
+            is_right = False
+    return is_right
+
+
 def few(door, met, first, count):
     """What was met too seldom, where all the usual courses were drawn."""
     if first > 0 or count < door.courses:
@@ -125,7 +139,7 @@ def chosen_words(door, description):
 
 def main(door, description):
     chosen = chosen_words(door, description)
-    is_right = door.cases is None or door.cases.run(chosen.program)
+    is_right = agrees(door) and (not door.runs_cases or door.cases.run(chosen.program))
     if chosen.keep:
         chosen.keep.mkdir(parents=True, exist_ok=True)
     jobs = [(door, chosen.program, seed, chosen.keep) for seed in range(chosen.first, chosen.first + chosen.courses)]

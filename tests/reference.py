@@ -395,6 +395,10 @@ class Store:
         """The messages that committed transactions sent and did not receive: pairs of tag and body."""
         return self.sends[sender][self.takes[sender] :]
 
+    def left(self, sender):
+        """How many these are."""
+        return len(self.sends[sender]) - self.takes[sender]
+
     # ---- devices: power, failures, restarts
 
     def crash(self, keep, places=()):
@@ -439,7 +443,7 @@ class Store:
         self.incarnation, self.begins = incarnation, 0
         self.met["Opened"] += 1
         self.met.update(kind for _, kind in mending.met)
-        assert all(len(self.chains.of[s]) == len(self.rest(s)) for s in range(self.senders)), "a chain is not the committed rest"
+        assert all(len(self.chains.of[s]) == self.left(s) for s in range(self.senders)), "a chain is not the committed rest"
         return incarnation, mending.unfinished, mending.lost_count
 
     def has_idle_beside(self):
@@ -525,7 +529,7 @@ class Store:
         """Cells of messages held, taken by transactions that have not ended, and meant for sends under way."""
         own = sum(deed.kind == "append" for row in self.rows.values() for _, deed in row.done)
         appending = sum(work.undoes is None and work.deed.kind == "append" for work in self.works())
-        return sum(len(self.rest(sender)) for sender in range(self.senders)) + own + appending
+        return sum(self.left(sender) for sender in range(self.senders)) + own + appending
 
     def taken(self, sender):
         """Messages of this sender that transactions which have not ended took."""
@@ -533,7 +537,7 @@ class Store:
 
     def holds_for(self, row, sender):
         """Whether the group is free for the transaction, and holds a message for it."""
-        return not any(sender in other.receiving for other in self.others(row)) and self.taken(sender) < len(self.rest(sender))
+        return not any(sender in other.receiving for other in self.others(row)) and self.taken(sender) < self.left(sender)
 
     def sending_end(self, row, sender):
         """The refusals of a send or a close for the sending end of this sender."""
@@ -603,7 +607,7 @@ class Store:
         if self.chains.page(chain[0]) in latched:
             return "TakeHead"
         if len(chain) > 1 and self.chains.page(chain[1]) in latched:
-            return "TakeNext" if len(self.rest(sender)) - self.taken(sender) > 1 else "TakeNextOpen"
+            return "TakeNext" if self.left(sender) - self.taken(sender) > 1 else "TakeNextOpen"
         return None
 
     def start_receive(self, txn, picked=None):
@@ -634,7 +638,7 @@ class Store:
         return self.start_take(row, sender)
 
     def start_take(self, row, sender):
-        tag, body = self.rest(sender)[self.taken(sender)]
+        tag, body = self.sends[sender][self.takes[sender] + self.taken(sender)]
         if sender not in row.receiving:
             row.receiving.append(sender)
         pages = self.chains.reach("take", sender, None)

@@ -247,7 +247,7 @@ def renumbered(line, at, end):
 
 
 class Worlds(drawn.Door):
-    cases = Cases("worlds", "happenings", [], ["1", "1"])
+    cases, runs_cases = Cases("worlds", "happenings", [], ["1", "1"]), True
     name, program, courses, wanted = "happenings", "crates/happenings/out/happenings", 1500, WANTED
 
     def words(self, sizes):
