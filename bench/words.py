@@ -15,7 +15,7 @@ LOG = b"\0\0\0\x09\x07" + (1).to_bytes(8, "big") + b"\0\0\0\x11\x06" + (1).to_by
 STREAM = b"\0\1\1" + b"\0\x14\2" + (3).to_bytes(4, "big") + (7).to_bytes(8, "big") + b"hello!!" + b"\0\1\6"
 
 # The words, standard input, and what is printed, in this order and in one folder. Two batches of 64 rounds of four senders
-# make 14 calls a round; a message that is sent and received makes 10 records, and a restart one.
+# make 14 calls a round; a message that is sent makes two writes, an end and a commit, one that is received as many, and a restart one record.
 ROWS = [
     (["decode", "3"], LOG, "2 records\n"),
     (["feed", "3"], STREAM, "3 requests, tags 7, bytes 7\n"),
@@ -24,7 +24,7 @@ ROWS = [
     (["beside", "abort", "2", "4", "sent", "8", "0", "10"], b"", "10 transactions\n"),
     (["beside", "commit", "2", "4", "begun", "8", "0", "10"], b"", "10 transactions\n"),
     (["make", ".", "1", "1", "10"], b"", "10 messages\n"),
-    (["open", "."], b"", "restarted 2, 102 records\n"),
+    (["open", "."], b"", "restarted 2, 82 records\n"),
     (["allocations"], b"", (CRATE / "stdout").read_text()),
     (["calls", "1", "2"], b"", "7168 calls\n"),
     (["calls", "4", "2"], b"", "7168 calls\n"),

@@ -8,4 +8,6 @@ mod logs;
 #[cfg(test)]
 mod pages;
 #[cfg(test)]
+mod stores;
+#[cfg(test)]
 mod undoing;

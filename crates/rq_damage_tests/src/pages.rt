@@ -1,375 +1,405 @@
 //! Pages that are damaged, and which is named first.
-use crate::bytes::{
-    BEGUN, COMMIT, FIRST, FIRST_CELL, FREE, Images, cell, count, end, fill, first_cell, formatted,
-    formatted_wide, group, page, record, refused, sent, sent_once, set_slot, spelled, told_on,
-    write, written,
+use crate::bytes::{BEGUN, COUNT, FILL, Held, MESSAGE, Rec, SENT, Tells, spelled};
+use crate::stores::{
+    Says, change, formatted, formatted_wide, is_said, refused, set_slot, told_on, written,
 };
 use rq_disk::PAGE;
-use rq_model::record::{Record, Slot};
 use rq_model::refusal::Refusal;
 use std::alloc::Global;
+use std::process::Abort;
 use std::test::Fail;
 
-/// In a store of two directory and two cell pages the addresses of the first cells of both.
-const THIRD_PAGE: u64 = 49;
+/// The log of one committed message.
+const ONE_COMMITTED: [Rec; 5] = [BEGUN, FILL, COUNT, SENT, Rec::Commit];
 
-const FOURTH_PAGE: u64 = 65;
+// A log of six records, none of which writes.
+const SIX: [Rec; 6] = [
+    BEGUN,
+    Rec::Restart(2),
+    Rec::Restart(3),
+    Rec::Restart(4),
+    Rec::Restart(5),
+    Rec::Restart(6),
+];
 
-// What is refused of the log of one committed message, over pages that were written, where a byte of one is another.
-fn changed(alloc: Global, number: usize, at: usize, value: u8) -> Option<Refusal> {
+/// A byte of a page, by the page's number and its place there, and what it is.
+type Change = (usize, usize, u8);
+
+// What is refused of this log over pages that were written, where these bytes are others.
+fn told_changed(alloc: Global, changes: &[Change], records: &[Rec]) -> Option<Refusal> {
     let mut images = written();
-    change(&mut images, number, at, value);
-    told_on(
-        alloc,
-        &images,
-        &[BEGUN, fill(), count(), sent_once(), COMMIT],
-    )
+    for (number, at, value) in changes {
+        change(&mut images, *number, *at, *value);
+    }
+    told_on(alloc, &images, records)
 }
 
-fn change(images: &mut Images, number: usize, at: usize, value: u8) {
-    if let Some(image) = images.get_mut(number) {
-        if let Some(byte) = image.get_mut(at) {
-            *byte = value;
-        }
+// What is said of the log of one committed message where one byte of a page is another.
+fn each_changed(rt: &impl Abort, alloc: Global, rows: &[(Change, Says)]) {
+    for (row, (changed, wanted)) in rows.iter().enumerate() {
+        is_said(
+            rt,
+            row,
+            told_changed(alloc, &[*changed], &ONE_COMMITTED),
+            *wanted,
+        );
     }
 }
 
-// Pages with these slots of sender 0 and in the first two cells, each as the first record left it.
-fn linked(directory: Slot, first: Slot, second: Slot) -> Images {
+// What is refused over six records of pages with these slots of sender 0 and in the first two cells.
+fn broken(alloc: Global, directory: Held, first: Held, second: Held) -> Option<Refusal> {
     let mut images = formatted();
-    set_slot(&mut images[1], 1, 1, &directory);
-    set_slot(&mut images[2], 1, 1, &first);
-    set_slot(&mut images[2], 2, 1, &second);
-    images
+    set_slot(&mut images[1], 1, 1, directory);
+    set_slot(&mut images[2], 1, 1, first);
+    set_slot(&mut images[2], 2, 1, second);
+    told_on(alloc, &images, &SIX)
 }
 
-// What is refused of them over a log of six records, none of which writes.
-fn broken(alloc: Global, directory: Slot, first: Slot, second: Slot) -> Option<Refusal> {
-    told_on(alloc, &linked(directory, first, second), &six())
+fn each_broken(rt: &impl Abort, alloc: Global, rows: &[(Held, Held, Held, Says)]) {
+    for (row, (directory, first, second, wanted)) in rows.iter().enumerate() {
+        is_said(rt, row, broken(alloc, *directory, *first, *second), *wanted);
+    }
 }
 
 // What is refused over the same log of a store of two directory and two cell pages, with these slots of the last sender
 // on page 1 and of the first one on page 2, and these first cells of pages 3 and 4.
 fn broken_wide(
     alloc: Global,
-    lower: Slot,
-    upper: Slot,
-    third: Slot,
-    fourth: Slot,
+    lower: Held,
+    upper: Held,
+    third: Held,
+    fourth: Held,
 ) -> Option<Refusal> {
     let mut images = formatted_wide();
-    set_slot(&mut images[1], 15, 1, &lower);
-    set_slot(&mut images[2], 1, 1, &upper);
-    set_slot(&mut images[3], 1, 1, &third);
-    set_slot(&mut images[4], 1, 1, &fourth);
-    match spelled(alloc, &six()) {
-        Ok(log) => refused(alloc, &images, &log),
-        Err(_) => Some(Refusal::NoMemory),
+    set_slot(&mut images[1], 15, 1, lower);
+    set_slot(&mut images[2], 1, 1, upper);
+    set_slot(&mut images[3], 1, 1, third);
+    set_slot(&mut images[4], 1, 1, fourth);
+    told_on(alloc, &images, &SIX)
+}
+
+fn each_wide(rt: &impl Abort, alloc: Global, rows: &[(Held, Held, Held, Held, Says)]) {
+    for (row, (lower, upper, third, fourth, wanted)) in rows.iter().enumerate() {
+        is_said(
+            rt,
+            row,
+            broken_wide(alloc, *lower, *upper, *third, *fourth),
+            *wanted,
+        );
     }
 }
 
-// The slot of a group in which one message waits, the sixth, in the cell at this address.
-fn waiting(sender: u32, at: u64) -> Slot {
-    group(sender, 6, 5, at, at)
-}
-
-fn six() -> [Record; 6] {
-    [
-        BEGUN,
-        Record::Restart { incarnation: 2 },
-        Record::Restart { incarnation: 3 },
-        Record::Restart { incarnation: 4 },
-        Record::Restart { incarnation: 5 },
-        Record::Restart { incarnation: 6 },
-    ]
-}
-
 #[test]
-fn pages_that_were_written_are_opened(rt: HostRuntime) -> Result<(), Fail> {
-    let alloc = rt.alloc();
-    assert!(rt;
-        told_on(
-            alloc,
-            &written(),
-            &[BEGUN, fill(), count(), sent_once(), COMMIT]
-        ) == None
+fn pages_that_were_written_are_opened(rt: HostRuntime) {
+    is_said(
+        &rt,
+        0,
+        told_changed(rt.alloc(), &[], &ONE_COMMITTED),
+        Says::Opened,
     );
-    assert!(rt; told_on(alloc, &written(), &[BEGUN, fill(), count()]) == None);
-    Ok(())
+    is_said(
+        &rt,
+        1,
+        told_changed(rt.alloc(), &[], &[BEGUN, FILL, COUNT]),
+        Says::Opened,
+    );
+}
+
+// The mark; its LSN, number and kind, the zeros of its header and slots, the version and the sizes.
+#[test]
+fn superblocks(rt: HostRuntime) {
+    each_changed(
+        &rt,
+        rt.alloc(),
+        &[
+            ((0, 256, 0), Says::Page(0)),
+            ((0, 7, 1), Says::Page(0)),
+            ((0, 11, 1), Says::Page(0)),
+            ((0, 12, 1), Says::Page(0)),
+            ((0, 13, 1), Says::Page(0)),
+            ((0, 276, 1), Says::Page(0)),
+            ((0, 4095, 1), Says::Page(0)),
+            ((0, 267, 2), Says::Page(0)),
+            ((0, 271, 0), Says::Page(0)),
+            ((0, 275, 0), Says::Page(0)),
+            ((0, 273, 2), Says::Page(0)),
+        ],
+    );
 }
 
 #[test]
-fn superblocks(rt: HostRuntime) -> Result<(), Fail> {
-    let alloc = rt.alloc();
-    assert!(rt; changed(alloc, 0, 256, 0) == page(0));
-    // its LSN, number and kind, the zeros of its header and slots, the version and the sizes
-    assert!(rt; changed(alloc, 0, 7, 1) == page(0));
-    assert!(rt; changed(alloc, 0, 11, 1) == page(0));
-    assert!(rt; changed(alloc, 0, 12, 1) == page(0));
-    assert!(rt; changed(alloc, 0, 13, 1) == page(0));
-    assert!(rt; changed(alloc, 0, 276, 1) == page(0));
-    assert!(rt; changed(alloc, 0, 4095, 1) == page(0));
-    assert!(rt; changed(alloc, 0, 267, 2) == page(0));
-    assert!(rt; changed(alloc, 0, 271, 0) == page(0));
-    assert!(rt; changed(alloc, 0, 275, 0) == page(0));
-    assert!(rt; changed(alloc, 0, 273, 2) == page(0));
-    Ok(())
+fn headers(rt: HostRuntime) {
+    each_changed(
+        &rt,
+        rt.alloc(),
+        &[
+            ((1, 12, 2), Says::Page(1)),
+            ((1, 11, 2), Says::Page(1)),
+            ((1, 255, 1), Says::Page(1)),
+            ((2, 12, 1), Says::Page(2)),
+            ((2, 8, 1), Says::Page(2)),
+            ((2, 13, 1), Says::Page(2)),
+            // numbers beyond the log
+            ((1, 7, 9), Says::Page(1)),
+            ((2, 7, 6), Says::Page(2)),
+            ((2, 7, 5), Says::Opened),
+        ],
+    );
 }
 
-#[test]
-fn headers(rt: HostRuntime) -> Result<(), Fail> {
-    let alloc = rt.alloc();
-    assert!(rt; changed(alloc, 1, 12, 2) == page(1));
-    assert!(rt; changed(alloc, 1, 11, 2) == page(1));
-    assert!(rt; changed(alloc, 1, 255, 1) == page(1));
-    assert!(rt; changed(alloc, 2, 12, 1) == page(2));
-    assert!(rt; changed(alloc, 2, 8, 1) == page(2));
-    assert!(rt; changed(alloc, 2, 13, 1) == page(2));
-    Ok(())
-}
-
-#[test]
-fn numbers_beyond_the_log(rt: HostRuntime) -> Result<(), Fail> {
-    let alloc = rt.alloc();
-    assert!(rt; changed(alloc, 1, 7, 9) == page(1));
-    assert!(rt; changed(alloc, 2, 7, 6) == page(2));
-    assert!(rt; changed(alloc, 2, 7, 5) == None);
-    // more sent than there are records
+// What is said of a log of one record where the last sender has sent and received so many.
+fn counted(rt: &impl Abort, alloc: Global, messages: u64, wanted: Says) {
     let mut images = formatted();
-    set_slot(&mut images[1], 15, 1, &group(14, 2, 2, 0, 0));
-    assert!(rt; told_on(alloc, &images, &[BEGUN]) == page(1));
-    set_slot(&mut images[1], 15, 1, &group(14, 1, 1, 0, 0));
-    assert!(rt; told_on(alloc, &images, &[BEGUN]) == None);
-    Ok(())
+    set_slot(
+        &mut images[1],
+        15,
+        1,
+        Held::Group(14, messages, messages, 0, 0),
+    );
+    is_said(rt, 0, told_on(alloc, &images, &[BEGUN]), wanted);
 }
 
 #[test]
-fn slots(rt: HostRuntime) -> Result<(), Fail> {
-    let alloc = rt.alloc();
-    // of a cell its state, a zero, its length, its sender and number, its links, and the zeros behind its body
-    assert!(rt; changed(alloc, 2, 256, 2) == page(2));
-    assert!(rt; changed(alloc, 2, 256, 0) == page(2));
-    assert!(rt; changed(alloc, 2, 257, 1) == page(2));
-    assert!(rt; changed(alloc, 2, 259, 217) == page(2));
-    assert!(rt; changed(alloc, 2, 263, 15) == page(2));
-    assert!(rt; changed(alloc, 2, 271, 0) == page(2));
-    assert!(rt; changed(alloc, 2, 287, 31) == page(2));
-    assert!(rt; changed(alloc, 2, 295, 32) == page(2));
-    assert!(rt; changed(alloc, 2, 301, 1) == page(2));
-    // of a group its state, its zeros, its sender, what is received and its links
-    assert!(rt; changed(alloc, 1, 256, 0) == page(1));
-    assert!(rt; changed(alloc, 1, 256, 3) == page(1));
-    assert!(rt; changed(alloc, 1, 257, 1) == page(1));
-    assert!(rt; changed(alloc, 1, 263, 1) == page(1));
-    assert!(rt; changed(alloc, 1, 279, 2) == page(1));
-    assert!(rt; changed(alloc, 1, 295, 48) == page(1));
-    assert!(rt; changed(alloc, 1, 303, 17) == page(1));
-    assert!(rt; changed(alloc, 1, 304, 1) == page(1));
-    Ok(())
+fn more_is_sent_than_there_are_records(rt: HostRuntime) {
+    counted(&rt, rt.alloc(), 2, Says::Page(1));
+    counted(&rt, rt.alloc(), 1, Says::Opened);
 }
 
 #[test]
-fn chains(rt: HostRuntime) -> Result<(), Fail> {
-    let alloc = rt.alloc();
-    assert!(rt; changed(alloc, 2, 263, 1) == page(1));
-    let two = group(0, 5, 3, FIRST_CELL, FIRST_CELL + 1);
-    let fourth = cell(0, 4, 0, FIRST_CELL + 1);
-    let fifth = cell(0, 5, FIRST_CELL, 0);
-    assert!(rt; broken(alloc, two, fourth, fifth) == None);
-    // a cell that is free, of another sender, with another number, or that names another before it or behind
-    assert!(rt; broken(alloc, two, FREE, fifth) == page(1));
-    assert!(rt; broken(alloc, two, fourth, FREE) == page(1));
-    assert!(rt; broken(alloc, two, fourth, cell(1, 5, FIRST_CELL, 0)) == page(1));
-    assert!(rt; broken(alloc, two, cell(0, 3, 0, FIRST_CELL + 1), fifth) == page(1));
-    assert!(rt; broken(alloc, two, fourth, cell(0, 4, FIRST_CELL, 0)) == page(1));
-    assert!(rt;
-        broken(
-            alloc,
-            two,
-            cell(0, 4, FIRST_CELL + 1, FIRST_CELL + 1),
-            fifth
-        ) == page(1)
+fn slots(rt: HostRuntime) {
+    each_changed(
+        &rt,
+        rt.alloc(),
+        &[
+            // of a cell its state, a zero, its length, its sender and number, its links, and the zeros behind its body
+            ((2, 256, 2), Says::Page(2)),
+            ((2, 256, 0), Says::Page(2)),
+            ((2, 257, 1), Says::Page(2)),
+            ((2, 259, 217), Says::Page(2)),
+            ((2, 263, 15), Says::Page(2)),
+            ((2, 271, 0), Says::Page(2)),
+            ((2, 287, 31), Says::Page(2)),
+            ((2, 295, 32), Says::Page(2)),
+            ((2, 301, 1), Says::Page(2)),
+            // of a group its state, its zeros, its sender, what is received and its links
+            ((1, 256, 0), Says::Page(1)),
+            ((1, 256, 3), Says::Page(1)),
+            ((1, 257, 1), Says::Page(1)),
+            ((1, 263, 1), Says::Page(1)),
+            ((1, 279, 2), Says::Page(1)),
+            ((1, 295, 48), Says::Page(1)),
+            ((1, 303, 17), Says::Page(1)),
+            ((1, 304, 1), Says::Page(1)),
+            // a cell of another sender is a broken chain
+            ((2, 263, 1), Says::Page(1)),
+        ],
     );
-    assert!(rt; broken(alloc, two, fourth, cell(0, 5, 0, 0)) == page(1));
-    assert!(rt; broken(alloc, two, cell(0, 4, 0, 0), fifth) == page(1));
-    assert!(rt; broken(alloc, two, fourth, cell(0, 5, FIRST_CELL, FIRST_CELL)) == page(1));
-    // another head or tail, and others than two that wait
-    assert!(rt;
-        broken(
-            alloc,
-            group(0, 5, 3, FIRST_CELL + 1, FIRST_CELL + 1),
-            fourth,
-            fifth
-        ) == page(1)
+}
+
+// Sender 0 has sent five messages, of which three were received: the others stand in the first two cells.
+const TWO: Held = Held::Group(0, 5, 3, 33, 34);
+
+const FOURTH: Held = Held::Cell(0, 4, 0, 34);
+
+const FIFTH: Held = Held::Cell(0, 5, 33, 0);
+
+#[test]
+fn cells_of_a_chain(rt: HostRuntime) {
+    each_broken(
+        &rt,
+        rt.alloc(),
+        &[
+            (TWO, FOURTH, FIFTH, Says::Opened),
+            // a cell that is free, of another sender, with another number, or that names another before it or behind
+            (TWO, Held::Free, FIFTH, Says::Page(1)),
+            (TWO, FOURTH, Held::Free, Says::Page(1)),
+            (TWO, FOURTH, Held::Cell(1, 5, 33, 0), Says::Page(1)),
+            (TWO, Held::Cell(0, 3, 0, 34), FIFTH, Says::Page(1)),
+            (TWO, FOURTH, Held::Cell(0, 4, 33, 0), Says::Page(1)),
+            (TWO, Held::Cell(0, 4, 34, 34), FIFTH, Says::Page(1)),
+            (TWO, FOURTH, Held::Cell(0, 5, 0, 0), Says::Page(1)),
+            (TWO, Held::Cell(0, 4, 0, 0), FIFTH, Says::Page(1)),
+            (TWO, FOURTH, Held::Cell(0, 5, 33, 33), Says::Page(1)),
+        ],
     );
-    assert!(rt; broken(alloc, group(0, 5, 3, FIRST_CELL, FIRST_CELL), fourth, fifth) == page(1));
-    assert!(rt; broken(alloc, group(0, 5, 3, 0, 0), fourth, fifth) == page(1));
-    assert!(rt;
-        broken(
-            alloc,
-            group(0, 4, 3, FIRST_CELL, FIRST_CELL + 1),
-            fourth,
-            fifth
-        ) == page(1)
-    );
-    assert!(rt;
-        broken(
-            alloc,
-            group(0, 6, 3, FIRST_CELL, FIRST_CELL + 1),
-            fourth,
-            fifth
-        ) == page(1)
-    );
-    assert!(rt;
-        broken(
-            alloc,
-            group(0, 3, 3, FIRST_CELL, FIRST_CELL + 1),
-            fourth,
-            fifth
-        ) == page(1)
-    );
-    assert!(rt; broken(alloc, group(0, 3, 3, 0, 0), FREE, FREE) == None);
-    Ok(())
 }
 
 #[test]
-fn cells_in_no_chain(rt: HostRuntime) -> Result<(), Fail> {
-    let alloc = rt.alloc();
-    let none = group(0, 3, 3, 0, 0);
-    assert!(rt; broken(alloc, none, first_cell(), FREE) == page(2));
-    assert!(rt; broken(alloc, none, FREE, cell(14, 6, 0, 0)) == page(2));
-    // a chain that is broken is named before
-    let one = group(0, 5, 3, FIRST_CELL, FIRST_CELL + 1);
-    assert!(rt; broken(alloc, one, cell(7, 4, 0, 0), FREE) == page(1));
-    Ok(())
+fn groups_of_a_chain(rt: HostRuntime) {
+    each_broken(
+        &rt,
+        rt.alloc(),
+        &[
+            // another head or tail, and others than two that wait
+            (Held::Group(0, 5, 3, 34, 34), FOURTH, FIFTH, Says::Page(1)),
+            (Held::Group(0, 5, 3, 33, 33), FOURTH, FIFTH, Says::Page(1)),
+            (Held::Group(0, 5, 3, 0, 0), FOURTH, FIFTH, Says::Page(1)),
+            (Held::Group(0, 4, 3, 33, 34), FOURTH, FIFTH, Says::Page(1)),
+            (Held::Group(0, 6, 3, 33, 34), FOURTH, FIFTH, Says::Page(1)),
+            (Held::Group(0, 3, 3, 33, 34), FOURTH, FIFTH, Says::Page(1)),
+            (
+                Held::Group(0, 3, 3, 0, 0),
+                Held::Free,
+                Held::Free,
+                Says::Opened,
+            ),
+        ],
+    );
 }
 
-// Senders 14 and 15 stand on two pages. The one of the lower sender is named, wherever its cell would be.
 #[test]
-fn broken_chains_on_two_pages(rt: HostRuntime) -> Result<(), Fail> {
-    let alloc = rt.alloc();
-    let lower = waiting(14, FOURTH_PAGE);
-    let upper = waiting(15, THIRD_PAGE);
-    let of_lower = cell(14, 6, 0, 0);
-    let of_upper = cell(15, 6, 0, 0);
-    assert!(rt; broken_wide(alloc, lower, upper, of_upper, of_lower) == None);
-    assert!(rt; broken_wide(alloc, lower, upper, FREE, FREE) == page(1));
-    assert!(rt; broken_wide(alloc, lower, upper, of_lower, of_upper) == page(1));
-    assert!(rt; broken_wide(alloc, lower, upper, of_upper, FREE) == page(1));
-    assert!(rt; broken_wide(alloc, lower, upper, FREE, of_lower) == page(2));
-    Ok(())
+fn cells_in_no_chain(rt: HostRuntime) {
+    let none = Held::Group(0, 3, 3, 0, 0);
+    each_broken(
+        &rt,
+        rt.alloc(),
+        &[
+            (none, MESSAGE, Held::Free, Says::Page(2)),
+            (none, Held::Free, Held::Cell(14, 6, 0, 0), Says::Page(2)),
+            // a chain that is broken is named before
+            (TWO, Held::Cell(7, 4, 0, 0), Held::Free, Says::Page(1)),
+        ],
+    );
+}
+
+// In a store of two directory and two cell pages 49 and 65 are the addresses of the first cells of both. Senders 14 and 15
+// stand on two pages, and of each the sixth message waits.
+const LOWER: Held = Held::Group(14, 6, 5, 65, 65);
+
+const UPPER: Held = Held::Group(15, 6, 5, 49, 49);
+
+const OF_LOWER: Held = Held::Cell(14, 6, 0, 0);
+
+const OF_UPPER: Held = Held::Cell(15, 6, 0, 0);
+
+// The one of the lower sender is named, wherever its cell would be.
+#[test]
+fn broken_chains_on_two_pages(rt: HostRuntime) {
+    each_wide(
+        &rt,
+        rt.alloc(),
+        &[
+            (LOWER, UPPER, OF_UPPER, OF_LOWER, Says::Opened),
+            (LOWER, UPPER, Held::Free, Held::Free, Says::Page(1)),
+            (LOWER, UPPER, OF_LOWER, OF_UPPER, Says::Page(1)),
+            (LOWER, UPPER, OF_UPPER, Held::Free, Says::Page(1)),
+            (LOWER, UPPER, Held::Free, OF_LOWER, Says::Page(2)),
+        ],
+    );
 }
 
 // The lower page is named, behind a chain that is broken on any page.
 #[test]
-fn cells_in_no_chain_on_two_pages(rt: HostRuntime) -> Result<(), Fail> {
-    let alloc = rt.alloc();
-    let lower = group(14, 6, 6, 0, 0);
-    let upper = group(15, 6, 6, 0, 0);
-    let of_lower = cell(14, 6, 0, 0);
-    let of_upper = cell(15, 6, 0, 0);
-    assert!(rt; broken_wide(alloc, lower, upper, FREE, FREE) == None);
-    assert!(rt; broken_wide(alloc, lower, upper, of_lower, of_upper) == page(3));
-    assert!(rt; broken_wide(alloc, lower, upper, of_upper, of_lower) == page(3));
-    assert!(rt; broken_wide(alloc, lower, upper, FREE, of_lower) == page(4));
-    assert!(rt; broken_wide(alloc, waiting(14, THIRD_PAGE), upper, of_lower, of_upper) == page(4));
-    assert!(rt; broken_wide(alloc, lower, waiting(15, 0), of_lower, of_upper) == page(2));
-    Ok(())
+fn cells_in_no_chain_on_two_pages(rt: HostRuntime) {
+    let lower = Held::Group(14, 6, 6, 0, 0);
+    let upper = Held::Group(15, 6, 6, 0, 0);
+    each_wide(
+        &rt,
+        rt.alloc(),
+        &[
+            (lower, upper, Held::Free, Held::Free, Says::Opened),
+            (lower, upper, OF_LOWER, OF_UPPER, Says::Page(3)),
+            (lower, upper, OF_UPPER, OF_LOWER, Says::Page(3)),
+            (lower, upper, Held::Free, OF_LOWER, Says::Page(4)),
+            (
+                Held::Group(14, 6, 5, 49, 49),
+                upper,
+                OF_LOWER,
+                OF_UPPER,
+                Says::Page(4),
+            ),
+            (
+                lower,
+                Held::Group(15, 6, 5, 0, 0),
+                OF_LOWER,
+                OF_UPPER,
+                Says::Page(2),
+            ),
+        ],
+    );
 }
 
 // One chain goes over both cell pages: where it ends before its last cell, its sender's page is named.
 #[test]
-fn chains_over_two_pages(rt: HostRuntime) -> Result<(), Fail> {
-    let alloc = rt.alloc();
-    let none = group(14, 0, 0, 0, 0);
-    let two = group(15, 6, 4, FOURTH_PAGE, THIRD_PAGE);
-    let last = cell(15, 6, FOURTH_PAGE, 0);
-    assert!(rt; broken_wide(alloc, none, two, last, cell(15, 5, 0, THIRD_PAGE)) == None);
-    assert!(rt; broken_wide(alloc, none, two, last, cell(15, 5, 0, 0)) == page(2));
-    Ok(())
+fn chains_over_two_pages(rt: HostRuntime) {
+    let none = Held::Group(14, 0, 0, 0, 0);
+    let two = Held::Group(15, 6, 4, 65, 49);
+    let last = Held::Cell(15, 6, 65, 0);
+    each_wide(
+        &rt,
+        rt.alloc(),
+        &[
+            (none, two, last, Held::Cell(15, 5, 0, 49), Says::Opened),
+            (none, two, last, Held::Cell(15, 5, 0, 0), Says::Page(2)),
+        ],
+    );
 }
 
-#[test]
-fn several_faults(rt: HostRuntime) -> Result<(), Fail> {
-    let alloc = rt.alloc();
-    let bad_log = [BEGUN, BEGUN];
+/// Bytes of pages, a log over them, and what is said.
+type Fault = (&'static [Change], &'static [Rec], Says);
+
+// A send that cannot be taken back.
+const ODD_SEND: [Rec; 4] = [BEGUN, FILL, COUNT, Rec::End(1, 1, 1, Tells::Sent(0, 2))];
+
+const FAULTS: [Fault; 7] = [
     // the superblock, then pages by number, then the log
-    let mut images = written();
-    change(&mut images, 0, 256, 0);
-    change(&mut images, 1, 12, 2);
-    assert!(rt; told_on(alloc, &images, &bad_log) == page(0));
-    let mut images = written();
-    change(&mut images, 1, 256, 3);
-    change(&mut images, 2, 12, 1);
-    assert!(rt; told_on(alloc, &images, &bad_log) == page(1));
-    let mut images = written();
-    change(&mut images, 2, 12, 1);
-    assert!(rt; told_on(alloc, &images, &bad_log) == page(2));
+    (&[(0, 256, 0), (1, 12, 2)], &[BEGUN, BEGUN], Says::Page(0)),
+    (&[(1, 256, 3), (2, 12, 1)], &[BEGUN, BEGUN], Says::Page(1)),
+    (&[(2, 12, 1)], &[BEGUN, BEGUN], Says::Page(2)),
     // the log, then numbers beyond it, then what cannot be taken back, then chains
-    let mut images = written();
-    change(&mut images, 1, 7, 9);
-    assert!(rt; told_on(alloc, &images, &bad_log) == record(2));
-    assert!(rt;
-        told_on(
-            alloc,
-            &images,
-            &[BEGUN, fill(), count(), end(FIRST, 1, &sent(0, 2))]
-        ) == page(1)
-    );
-    let mut images = written();
-    change(&mut images, 2, 263, 1);
-    assert!(rt;
-        told_on(
-            alloc,
-            &images,
-            &[BEGUN, fill(), count(), end(FIRST, 1, &sent(0, 2))]
-        ) == record(4)
-    );
-    assert!(rt;
-        told_on(
-            alloc,
-            &images,
-            &[BEGUN, fill(), count(), sent_once(), COMMIT]
-        ) == page(1)
-    );
-    Ok(())
+    (&[(1, 7, 9)], &[BEGUN, BEGUN], Says::Record(2)),
+    (&[(1, 7, 9)], &ODD_SEND, Says::Page(1)),
+    (&[(2, 263, 1)], &ODD_SEND, Says::Record(4)),
+    (&[(2, 263, 1)], &ONE_COMMITTED, Says::Page(1)),
+];
+
+#[test]
+fn several_faults(rt: HostRuntime) {
+    for (row, (changes, records, wanted)) in FAULTS.iter().enumerate() {
+        is_said(
+            &rt,
+            row,
+            told_changed(rt.alloc(), changes, records),
+            *wanted,
+        );
+    }
+}
+
+// What is said of these records with a byte behind that is none, where the number of page 1 is this.
+fn short(alloc: Global, records: &[Rec], number: u8) -> Result<Option<Refusal>, Fail> {
+    let mut images = formatted();
+    change(&mut images, 1, 7, number);
+    let mut log = spelled(alloc, records)?;
+    log.push(0)?;
+    Ok(refused(alloc, &images, &log))
 }
 
 // A record whose before-image doesn't stand there comes before bytes that are no record, and these before a number of a
 // page that is beyond the log.
 #[test]
 fn records_in_their_order(rt: HostRuntime) -> Result<(), Fail> {
-    let alloc = rt.alloc();
-    let odd = write(FIRST, 1, (2, 1), first_cell(), FREE);
-    let Ok(mut log) = spelled(alloc, &[BEGUN, odd]) else {
-        return Err(Fail::from("memory"));
-    };
-    log.push(0)?;
-    assert!(rt; refused(alloc, &formatted(), &log) == record(2));
-    let Ok(mut log) = spelled(alloc, &[BEGUN]) else {
-        return Err(Fail::from("memory"));
-    };
-    log.push(0)?;
-    let mut images = formatted();
-    change(&mut images, 1, 7, 9);
-    assert!(rt; refused(alloc, &images, &log) == record(2));
+    let odd = Rec::Write(1, 1, 2, 1, MESSAGE, Held::Free);
+    is_said(
+        &rt,
+        0,
+        short(rt.alloc(), &[BEGUN, odd], 0)?,
+        Says::Record(2),
+    );
+    is_said(&rt, 1, short(rt.alloc(), &[BEGUN], 9)?, Says::Record(2));
     Ok(())
 }
 
 #[test]
-fn pages_of_another_number_than_the_store(rt: HostRuntime) -> Result<(), Fail> {
-    let alloc = rt.alloc();
-    let mut more = formatted().to_vec(alloc)?;
+fn pages_behind_those_of_the_store(rt: HostRuntime) -> Result<(), Fail> {
+    let mut more = formatted().to_vec(rt.alloc())?;
     more.push([7; PAGE])?;
-    assert!(rt;
-        refused(alloc, &more, &[]) == None,
-        "those behind are not the store's"
-    );
+    is_said(&rt, 0, refused(rt.alloc(), &more, &[]), Says::Opened);
+    Ok(())
+}
+
+#[test]
+fn a_page_of_the_store_is_missing(rt: HostRuntime) {
     let mut images = formatted();
     images[0][275] = 2;
-    assert!(rt;
-        refused(alloc, &images, &[]) == Some(Refusal::DiskRead),
-        "one is missing"
-    );
-    Ok(())
+    is_said(&rt, 0, refused(rt.alloc(), &images, &[]), Says::Unread);
 }

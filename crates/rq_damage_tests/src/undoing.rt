@@ -1,69 +1,74 @@
 //! Logs of which a restart cannot take back what a transaction without an end did.
-use crate::bytes::{
-    ABORT_END, BEGUN, COMMIT, FIRST, FIRST_CELL, FREE, Images, SECOND, cell, count, end, fill,
-    first_cell, formatted, group, new_group, one_sent, received, record, sent, sent_once, set_slot,
-    told, told_on, write,
-};
-use rq_model::record::{Record, Slot};
-use std::test::Fail;
+use crate::bytes::{BEGUN, COUNT, FILL, Held, MESSAGE, NEW_GROUP, ONE_SENT, Rec, SENT, Tells};
+use crate::stores::{Images, Says, each_says, formatted, is_said, set_slot, told_on};
 
-// The first transaction writes its sender's directory slot, and nothing else.
-fn made(after: Slot) -> Record {
-    write(FIRST, 1, (1, 1), new_group(), after)
-}
-
-// And tells so that one message was sent and received.
-fn one_taken() -> Record {
-    made(group(0, 1, 1, 0, 0))
-}
-
-// The second transaction tells of the next sender that one message was sent and received.
-fn other_taken() -> Record {
-    write(
-        SECOND,
-        1,
-        (1, 2),
-        group(1, 0, 0, 0, 0),
-        group(1, 1, 1, 0, 0),
-    )
-}
-
-// A send that cannot be taken back, and behind it this end of another transaction's receive.
-fn two_lost(newest: Record) -> [Record; 6] {
+// The first transaction writes its sender's directory slot, and nothing else, and its operation ends so.
+fn made(after: Held, tells: Tells) -> [Rec; 3] {
     [
         BEGUN,
-        fill(),
-        count(),
-        end(FIRST, 1, &sent(0, 2)),
-        other_taken(),
-        newest,
+        Rec::Write(1, 1, 1, 1, NEW_GROUP, after),
+        Rec::End(1, 1, 1, tells),
     ]
 }
 
+// And tells so that one message was sent and received.
+const ONE_TAKEN: Held = Held::Group(0, 1, 1, 0, 0);
+
+// The second transaction tells of the next sender that one message was sent and received.
+const OTHER_TAKEN: Rec = Rec::Write(
+    2,
+    1,
+    1,
+    2,
+    Held::Group(1, 0, 0, 0, 0),
+    Held::Group(1, 1, 1, 0, 0),
+);
+
+// It receives the message of the first, slot by slot.
+const TAKE: Rec = Rec::Write(2, 1, 1, 1, ONE_SENT, ONE_TAKEN);
+
+const FREED: Rec = Rec::Write(2, 1, 2, 1, MESSAGE, Held::Free);
+
+// A send whose end tells this.
+fn ended(tells: Tells) -> [Rec; 4] {
+    [BEGUN, FILL, COUNT, Rec::End(1, 1, 1, tells)]
+}
+
+// The end of the second transaction's receive of a message of a sender, by its number.
+fn received(sender: u32, sequence: u64) -> Rec {
+    Rec::End(2, 1, 1, Tells::Received(sender, sequence))
+}
+
+// A send that cannot be taken back, and behind it this end of another transaction's receive.
+fn two_lost(sequence: u64) -> [Rec; 6] {
+    let sent = Rec::End(1, 1, 1, Tells::Sent(0, 2));
+    [BEGUN, FILL, COUNT, sent, OTHER_TAKEN, received(1, sequence)]
+}
+
 // A transaction that has its AbortEnd although it sent, and behind it this end of another's receive of that.
-fn left_before(newest: Record) -> [Record; 8] {
+fn left_before(sequence: u64) -> [Rec; 8] {
     [
         BEGUN,
-        fill(),
-        count(),
-        sent_once(),
-        ABORT_END,
-        write(SECOND, 1, (1, 1), one_sent(), group(0, 1, 1, 0, 0)),
-        write(SECOND, 1, (2, 1), first_cell(), FREE),
-        newest,
+        FILL,
+        COUNT,
+        SENT,
+        Rec::AbortEnd,
+        TAKE,
+        FREED,
+        received(0, sequence),
     ]
 }
 
 // This end of a receive, and behind it another transaction that has its AbortEnd although it sent.
-fn left_behind(oldest: Record) -> [Record; 7] {
+fn left_behind(sequence: u64) -> [Rec; 7] {
     [
         BEGUN,
-        other_taken(),
-        oldest,
-        fill(),
-        count(),
-        sent_once(),
-        ABORT_END,
+        OTHER_TAKEN,
+        received(1, sequence),
+        FILL,
+        COUNT,
+        SENT,
+        Rec::AbortEnd,
     ]
 }
 
@@ -71,138 +76,138 @@ fn left_behind(oldest: Record) -> [Record; 7] {
 fn full() -> Images {
     let mut images = formatted();
     for slot in 1..16u8 {
-        set_slot(&mut images[2], slot, 0, &first_cell());
+        set_slot(&mut images[2], slot, 0, MESSAGE);
     }
     images
 }
 
-fn closed() -> Slot {
-    let mut slot = new_group();
-    slot[0] = 2;
-    slot
+#[test]
+fn what_can_be_taken_back(rt: HostRuntime) {
+    each_says(
+        &rt,
+        rt.alloc(),
+        &[
+            (&[BEGUN, FILL, COUNT, SENT], Says::Opened),
+            (
+                &made(Held::Closed(0, 0, 0, 0), Tells::Close(0)),
+                Says::Opened,
+            ),
+            // what was sent and committed is received by a transaction that is lost
+            (
+                &[
+                    BEGUN,
+                    FILL,
+                    COUNT,
+                    SENT,
+                    Rec::Commit,
+                    TAKE,
+                    FREED,
+                    received(0, 1),
+                ],
+                Says::Opened,
+            ),
+        ],
+    );
 }
 
 #[test]
-fn what_can_be_taken_back(rt: HostRuntime) -> Result<(), Fail> {
-    let alloc = rt.alloc();
-    assert!(rt; told(alloc, &[BEGUN, fill(), count(), sent_once()]) == None);
-    let close = end(FIRST, 1, &[3, 0, 0, 0, 0]);
-    assert!(rt; told(alloc, &[BEGUN, made(closed()), close]) == None);
-    // what was sent and committed is received by a transaction that is lost
-    let take = write(SECOND, 1, (1, 1), one_sent(), group(0, 1, 1, 0, 0));
-    let free = write(SECOND, 1, (2, 1), first_cell(), FREE);
-    let took = end(SECOND, 1, &received(0, 1));
-    assert!(rt;
-        told(
-            alloc,
-            &[
-                BEGUN,
-                fill(),
-                count(),
-                sent_once(),
-                COMMIT,
-                take,
-                free,
-                took
-            ]
-        ) == None
+fn deeds_of_senders_that_the_store_has_not(rt: HostRuntime) {
+    each_says(
+        &rt,
+        rt.alloc(),
+        &[
+            (&ended(Tells::Sent(15, 1)), Says::Record(4)),
+            (&ended(Tells::Received(15, 1)), Says::Record(4)),
+            (&ended(Tells::Close(15)), Says::Record(4)),
+        ],
     );
-    Ok(())
 }
 
 #[test]
-fn deeds_of_senders_that_the_store_has_not(rt: HostRuntime) -> Result<(), Fail> {
-    let alloc = rt.alloc();
-    assert!(rt;
-        told(
-            alloc,
-            &[BEGUN, fill(), count(), end(FIRST, 1, &sent(15, 1))]
-        ) == record(4)
+fn sends_that_do_not_stand_last(rt: HostRuntime) {
+    let second = Rec::Write(1, 1, 2, 1, Held::Free, Held::Cell(0, 2, 0, 0));
+    let behind = Rec::Write(1, 1, 2, 1, Held::Free, Held::Cell(0, 2, 34, 0));
+    let two = Rec::Write(1, 1, 1, 1, NEW_GROUP, Held::Group(0, 2, 0, 34, 33));
+    let second_sent = Rec::End(1, 1, 1, Tells::Sent(0, 2));
+    each_says(
+        &rt,
+        rt.alloc(),
+        &[
+            // another number than was sent
+            (&ended(Tells::Sent(0, 2)), Says::Record(4)),
+            // no tail, a tail that is free, and one with another number
+            (
+                &made(Held::Group(0, 1, 0, 0, 0), Tells::Sent(0, 1)),
+                Says::Record(3),
+            ),
+            (&made(ONE_SENT, Tells::Sent(0, 1)), Says::Record(3)),
+            (&[BEGUN, second, COUNT, SENT], Says::Record(4)),
+            // the cell before it is free
+            (&[BEGUN, behind, two, second_sent], Says::Record(4)),
+        ],
     );
-    assert!(rt;
-        told(
-            alloc,
-            &[BEGUN, fill(), count(), end(FIRST, 1, &received(15, 1))]
-        ) == record(4)
-    );
-    assert!(rt;
-        told(
-            alloc,
-            &[BEGUN, fill(), count(), end(FIRST, 1, &[3, 0, 0, 0, 15])]
-        ) == record(4)
-    );
-    Ok(())
 }
 
 #[test]
-fn sends_that_do_not_stand_last(rt: HostRuntime) -> Result<(), Fail> {
-    let alloc = rt.alloc();
-    // another number than was sent
-    assert!(rt; told(alloc, &[BEGUN, fill(), count(), end(FIRST, 1, &sent(0, 2))]) == record(4));
-    // no tail, a tail that is free, and one with another number
-    let no_tail = made(group(0, 1, 0, 0, 0));
-    assert!(rt; told(alloc, &[BEGUN, no_tail, sent_once()]) == record(3));
-    let no_cell = made(one_sent());
-    assert!(rt; told(alloc, &[BEGUN, no_cell, sent_once()]) == record(3));
-    let second = write(FIRST, 1, (2, 1), FREE, cell(0, 2, 0, 0));
-    assert!(rt; told(alloc, &[BEGUN, second, count(), sent_once()]) == record(4));
-    // the cell before it is free
-    let behind = write(FIRST, 1, (2, 1), FREE, cell(0, 2, FIRST_CELL + 1, 0));
-    let two = write(
-        FIRST,
-        1,
-        (1, 1),
-        new_group(),
-        group(0, 2, 0, FIRST_CELL + 1, FIRST_CELL),
+fn receives_that_cannot_be_put_back(rt: HostRuntime) {
+    each_says(
+        &rt,
+        rt.alloc(),
+        &[
+            (&made(ONE_TAKEN, Tells::Received(0, 1)), Says::Opened),
+            // another number than was received last, and a head that is free
+            (&made(ONE_TAKEN, Tells::Received(0, 2)), Says::Record(3)),
+            (
+                &made(Held::Group(0, 2, 1, 34, 34), Tells::Received(0, 1)),
+                Says::Record(3),
+            ),
+        ],
     );
-    assert!(rt; told(alloc, &[BEGUN, behind, two, end(FIRST, 1, &sent(0, 2))]) == record(4));
-    Ok(())
+    // no cell is free
+    let records = made(ONE_TAKEN, Tells::Received(0, 1));
+    is_said(
+        &rt,
+        0,
+        told_on(rt.alloc(), &full(), &records),
+        Says::Record(3),
+    );
 }
 
 #[test]
-fn receives_that_cannot_be_put_back(rt: HostRuntime) -> Result<(), Fail> {
-    let alloc = rt.alloc();
-    assert!(rt; told(alloc, &[BEGUN, one_taken(), end(FIRST, 1, &received(0, 1))]) == None);
-    // another number than was received last, no cell that is free, and a head that is free
-    assert!(rt; told(alloc, &[BEGUN, one_taken(), end(FIRST, 1, &received(0, 2))]) == record(3));
-    assert!(rt;
-        told_on(
-            alloc,
-            &full(),
-            &[BEGUN, one_taken(), end(FIRST, 1, &received(0, 1))]
-        ) == record(3)
+fn closes_that_are_open(rt: HostRuntime) {
+    each_says(
+        &rt,
+        rt.alloc(),
+        &[(&made(ONE_TAKEN, Tells::Close(0)), Says::Record(3))],
     );
-    let head = made(group(0, 2, 1, FIRST_CELL + 1, FIRST_CELL + 1));
-    assert!(rt; told(alloc, &[BEGUN, head, end(FIRST, 1, &received(0, 1))]) == record(3));
-    Ok(())
-}
-
-#[test]
-fn closes_that_are_open(rt: HostRuntime) -> Result<(), Fail> {
-    let alloc = rt.alloc();
-    let close = end(FIRST, 1, &[3, 0, 0, 0, 0]);
-    assert!(rt; told(alloc, &[BEGUN, made(group(0, 1, 1, 0, 0)), close]) == record(3));
-    Ok(())
 }
 
 // The newest that is to be taken back comes first, so it is the first to be named.
 #[test]
-fn the_newest_is_named(rt: HostRuntime) -> Result<(), Fail> {
-    let alloc = rt.alloc();
-    assert!(rt; told(alloc, &two_lost(end(SECOND, 1, &received(1, 2)))) == record(6));
-    assert!(rt; told(alloc, &two_lost(end(SECOND, 1, &received(1, 1)))) == record(4));
-    Ok(())
+fn the_newest_is_named(rt: HostRuntime) {
+    each_says(
+        &rt,
+        rt.alloc(),
+        &[
+            (&two_lost(2), Says::Record(6)),
+            (&two_lost(1), Says::Record(4)),
+        ],
+    );
 }
 
 // What a transaction with an AbortEnd left stays done: its end is the last record that it may have.
 #[test]
-fn what_an_abort_left(rt: HostRuntime) -> Result<(), Fail> {
-    let alloc = rt.alloc();
-    assert!(rt; told(alloc, &[BEGUN, fill(), count(), sent_once(), ABORT_END]) == None);
-    // what is lost beside it is taken back, or named where it cannot be
-    assert!(rt; told(alloc, &left_before(end(SECOND, 1, &received(0, 1)))) == None);
-    assert!(rt; told(alloc, &left_before(end(SECOND, 1, &received(0, 2)))) == record(8));
-    assert!(rt; told(alloc, &left_behind(end(SECOND, 1, &received(1, 1)))) == None);
-    assert!(rt; told(alloc, &left_behind(end(SECOND, 1, &received(1, 2)))) == record(3));
-    Ok(())
+fn what_an_abort_left(rt: HostRuntime) {
+    each_says(
+        &rt,
+        rt.alloc(),
+        &[
+            (&[BEGUN, FILL, COUNT, SENT, Rec::AbortEnd], Says::Opened),
+            // what is lost beside it is taken back, or named where it cannot be
+            (&left_before(1), Says::Opened),
+            (&left_before(2), Says::Record(8)),
+            (&left_behind(1), Says::Opened),
+            (&left_behind(2), Says::Record(3)),
+        ],
+    );
 }
