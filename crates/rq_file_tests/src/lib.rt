@@ -4,8 +4,6 @@
 #[cfg(test)]
 mod calls;
 #[cfg(test)]
-mod devices;
-#[cfg(test)]
 mod failing;
 #[cfg(test)]
 mod faulty;

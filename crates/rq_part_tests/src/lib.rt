@@ -10,6 +10,8 @@ mod devices;
 #[cfg(test)]
 mod fields;
 #[cfg(test)]
+mod file_devices;
+#[cfg(test)]
 mod frames;
 #[cfg(test)]
 mod groups;

@@ -173,7 +173,7 @@ fn bytes_from<L: LogDevice>(device: &mut L, at: u64) -> Result<(usize, [u8; 34])
 
 // The log of a device that holds these bytes.
 fn opened(alloc: Global, bytes: &[u8]) -> Result<Open, Fail>
-    ensures { IfOk result (λ open. open.log.failed ≡ false) }
+    ensures { IfOk result (λ o. o.log.failed ≡ false) }
 {
     let switch = Switch::new(alloc)?;
     let (_, log) = read(alloc, device_of(alloc, bytes, &switch)?)?;
