@@ -101,26 +101,6 @@ pub fn read_log<L: LogDevice>(
     log.read(at, into)
 }
 
-pub fn write<P: PageDevice>(pages: &mut P, page: u32, byte: u8) -> Result<(), DeviceFailed> {
-    pages.write(page, &[byte; PAGE])
-}
-
-pub fn sync<P: PageDevice>(pages: &mut P) -> Result<(), DeviceFailed> {
-    pages.sync()
-}
-
-pub fn force<L: LogDevice>(log: &mut L) -> Result<(), DeviceFailed> {
-    log.force()
-}
-
-pub fn page_failures<P: PageDevice>(pages: &P) -> u64 {
-    pages.failures()
-}
-
-pub fn log_failures<L: LogDevice>(log: &L) -> u64 {
-    log.failures()
-}
-
 /// So many bytes from a place on; none where there are fewer.
 pub fn part(bytes: &[u8], at: usize, len: usize) -> &[u8] {
     match bytes.get(at..) {

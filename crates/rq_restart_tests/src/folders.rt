@@ -34,6 +34,31 @@ fn is_there(rt: &HostRuntime, path: &str) -> bool {
     fs::metadata(rt, path).is_ok()
 }
 
+// What the pages of a store of one directory page and two cell pages hold, from a place on.
+const HELD: [(usize, &[u8]); 4] = [
+    // page 0, slot 1: the mark, version 1, one directory page, two cell pages
+    (256, b"RQMSTORE\0\0\0\x01\0\0\0\x01\0\0\0\x02"),
+    // page 1: number 1, kind 1
+    (4096, &[0, 0, 0, 0, 0, 0, 0, 0, 0, 0, 0, 1, 1]),
+    // pages 2 and 3: kind 2
+    (8192, &[0, 0, 0, 0, 0, 0, 0, 0, 0, 0, 0, 2, 2]),
+    (12288, &[0, 0, 0, 0, 0, 0, 0, 0, 0, 0, 0, 3, 2]),
+];
+
+// Where there are so many zeros: the LSN, number and kind of page 0, what is behind its sizes, and all cells.
+const ZEROS: [(usize, usize); 4] = [(0, 256), (276, 3820), (8205, 4083), (12301, 4083)];
+
+// Whether each slot of page 1 is open, with its sender, and empty.
+fn has_open_groups(pages: &[u8]) -> bool {
+    let mut all = true;
+    for sender in 0..15u8 {
+        let slot = 4352 + 256 * usize::from(sender);
+        all &= part(pages, slot, 8) == [1, 0, 0, 0, 0, 0, 0, sender].as_slice();
+        all &= are_all(pages, slot + 8, 248, 0);
+    }
+    all
+}
+
 #[test]
 fn a_store_is_made_in_a_folder(rt: HostRuntime) -> Result<(), Fail> {
     make_folder(&rt, FOLDER)?;
@@ -41,29 +66,13 @@ fn a_store_is_made_in_a_folder(rt: HostRuntime) -> Result<(), Fail> {
     assert!(rt; fs::metadata(&rt, LOG)?.len() == 0);
     let pages = fs::read(&rt, PAGES)?;
     assert!(rt; pages.len() == 4 * 4096);
-
-    // page 0: LSN 0, number 0, kind 0; slot 1: the mark, version 1, one directory page, two cell pages
-    let mark = b"RQMSTORE\0\0\0\x01\0\0\0\x01\0\0\0\x02".as_slice();
-    assert!(rt; are_all(&pages, 0, 256, 0));
-    assert!(rt; part(&pages, 256, 20) == mark);
-    assert!(rt; are_all(&pages, 276, 3820, 0));
-
-    // page 1: number 1, kind 1; each slot open, with its sender
-    let header = [0, 0, 0, 0, 0, 0, 0, 0, 0, 0, 0, 1, 1];
-    assert!(rt; part(&pages, 4096, 13) == header.as_slice());
-    for sender in 0..15u8 {
-        let slot = 4352 + 256 * usize::from(sender);
-        assert!(rt; part(&pages, slot, 8) == [1, 0, 0, 0, 0, 0, 0, sender].as_slice());
-        assert!(rt; are_all(&pages, slot + 8, 248, 0));
+    for (at, wanted) in HELD {
+        assert!(rt; part(&pages, at, wanted.len()) == wanted);
     }
-
-    // pages 2 and 3: kind 2, and no cell is used
-    let header = [0, 0, 0, 0, 0, 0, 0, 0, 0, 0, 0, 2, 2];
-    assert!(rt; part(&pages, 8192, 13) == header.as_slice());
-    let header = [0, 0, 0, 0, 0, 0, 0, 0, 0, 0, 0, 3, 2];
-    assert!(rt; part(&pages, 12288, 13) == header.as_slice());
-    assert!(rt; are_all(&pages, 8205, 4083, 0));
-    assert!(rt; are_all(&pages, 12301, 4083, 0));
+    for (at, len) in ZEROS {
+        assert!(rt; are_all(&pages, at, len, 0));
+    }
+    assert!(rt; has_open_groups(&pages));
     fs::remove_dir_all(&rt, FOLDER)?;
     Ok(())
 }

@@ -1,6 +1,6 @@
 //! Pages that are damaged, and which is named first.
 use crate::bytes::{BEGUN, COUNT, FILL, Held, MESSAGE, Rec, SENT, Tells, spelled};
-use crate::stores::{
+use crate::damaged::{
     Says, change, formatted, formatted_wide, is_said, refused, set_slot, told_on, written,
 };
 use rq_disk::PAGE;

@@ -1,6 +1,6 @@
 //! Logs of which a restart cannot take back what a transaction without an end did.
 use crate::bytes::{BEGUN, COUNT, FILL, Held, MESSAGE, NEW_GROUP, ONE_SENT, Rec, SENT, Tells};
-use crate::stores::{Images, Says, each_says, formatted, is_said, set_slot, told_on};
+use crate::damaged::{Images, Says, each_says, formatted, is_said, set_slot, told_on};
 
 // The first transaction writes its sender's directory slot, and nothing else, and its operation ends so.
 fn made(after: Held, tells: Tells) -> [Rec; 3] {

@@ -2,7 +2,7 @@
 use crate::bytes::{
     BEGUN, COUNT, FILL, Held, MESSAGE, NEW_GROUP, ONE_SENT, Rec, SENT, Tells, spelled,
 };
-use crate::stores::{Says, each_says, formatted, is_said, refused, set_slot, told_on};
+use crate::damaged::{Says, each_says, formatted, is_said, refused, set_slot, told_on};
 use rq_model::refusal::Refusal;
 use std::alloc::Global;
 use std::test::Fail;

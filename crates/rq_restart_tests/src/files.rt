@@ -139,43 +139,70 @@ fn found<S: Held>(rt: &HostRuntime, folder: &str, held: S) -> Result<(u64, Outco
     Ok(received(rt.alloc(), pages, log)?)
 }
 
+// The bytes of the pages and of the log of a store, as reads give them.
+fn bytes_of<P: PageDevice, L: LogDevice>(
+    alloc: Global,
+    pages: &mut P,
+    log: &mut L,
+) -> Result<(Vec<u8>, Vec<u8>), Fail> {
+    Ok((page_bytes(alloc, pages)?, log_bytes(alloc, log)?))
+}
+
+// The same after the calls of a store in memory.
+fn bytes_in_memory(alloc: Global, layout: &Layout) -> Result<(Vec<u8>, Vec<u8>), Fail> {
+    let (pages, log) = memory(alloc, layout)?;
+    let (mut pages, mut log) = after_hello(alloc, pages, log)?;
+    bytes_of(alloc, &mut pages, &mut log)
+}
+
+// The same after the calls of the store in a folder.
+fn bytes_in_files(rt: &HostRuntime, folder: &str) -> Result<(Vec<u8>, Vec<u8>), Fail> {
+    let (pages, log) = files(rt, folder)?;
+    let (mut pages, mut log) = after_hello(rt.alloc(), pages, log)?;
+    bytes_of(rt.alloc(), &mut pages, &mut log)
+}
+
+// Some bytes of a store, from a place on: those that are wanted there, and zeros up to the end of the slot.
+fn holds_slot(bytes: &[u8], at: usize, wanted: &[u8]) -> bool {
+    let len = wanted.len();
+    part(bytes, at, len) == wanted
+        && are_all(
+            bytes,
+            at.saturating_add(len),
+            256usize.saturating_sub(len),
+            0,
+        )
+}
+
+fn holds_records(log: &[u8]) -> bool {
+    log.len() == 1190
+        && part(log, 0, 13) == b"\0\0\0\x09\x07\0\0\0\0\0\0\0\x01".as_slice()
+        && part(log, 1105, 64) == OPERATION_END
+        && part(log, 1169, 21) == COMMIT
+}
+
 #[test]
 fn a_store_in_files_is_the_one_in_memory(rt: HostRuntime) -> Result<(), Fail> {
-    let alloc = rt.alloc();
     let layout = Layout::new(1, 1).ok_or("a small store")?;
     make_folder(&rt, "store_test")?;
     format_folder(&rt, "store_test", &layout)?;
-    let (pages, log) = files(&rt, "store_test")?;
-    let (mut pages, mut log) = after_hello(alloc, pages, log)?;
-    let (mem_pages, mem_log) = memory(alloc, &layout)?;
-    let (mut mem_pages, mut mem_log) = after_hello(alloc, mem_pages, mem_log)?;
+    let wanted = bytes_in_memory(rt.alloc(), &layout)?;
 
     // as reads give them, and as the files hold them
-    let wanted_pages = page_bytes(alloc, &mut mem_pages)?;
-    let wanted_log = log_bytes(alloc, &mut mem_log)?;
-    assert!(rt; page_bytes(alloc, &mut pages)? == wanted_pages);
-    assert!(rt; log_bytes(alloc, &mut log)? == wanted_log);
-    drop((pages, log));
-    let held_pages = fs::read(&rt, "store_test/pages")?;
-    let held_log = fs::read(&rt, "store_test/log")?;
-    assert!(rt; held_pages == wanted_pages);
-    assert!(rt; held_log == wanted_log);
+    assert!(rt; bytes_in_files(&rt, "store_test")? == wanted);
+    let held = (
+        fs::read(&rt, "store_test/pages")?,
+        fs::read(&rt, "store_test/log")?,
+    );
+    assert!(rt; held == wanted);
 
     // what they hold
-    let restart = b"\0\0\0\x09\x07\0\0\0\0\0\0\0\x01".as_slice();
-    assert!(rt; held_log.len() == 1190);
-    assert!(rt; part(&held_log, 0, 13) == restart);
-    assert!(rt; part(&held_log, 1105, 64) == OPERATION_END);
-    assert!(rt; part(&held_log, 1169, 21) == COMMIT);
-    assert!(rt; part(&held_pages, 8448, CELL.len()) == CELL);
-    assert!(rt; are_all(&held_pages, 8448 + 45, 211, 0));
-    assert!(rt; part(&held_pages, 4352, DIRECTORY.len()) == DIRECTORY);
-    assert!(rt; are_all(&held_pages, 4352 + 48, 208, 0));
+    assert!(rt; holds_records(&held.1));
+    assert!(rt; holds_slot(&held.0, 8448, CELL) && holds_slot(&held.0, 4352, DIRECTORY));
 
     // opened again
     let (incarnation, outcome) = found(&rt, "store_test", Unknown)?;
-    assert!(rt; incarnation == 2);
-    assert!(rt; is_hello(&outcome));
+    assert!(rt; incarnation == 2 && is_hello(&outcome));
     fs::remove_dir_all(&rt, "store_test")?;
     Ok(())
 }
