@@ -1,7 +1,7 @@
 //! Calls of the queue as plain lists for tests. They promise nothing, so that what makes many of them is checked fast.
 use rq_content::GroupContent as ShownGroup;
-use rq_model::reference::Reference;
-use rq_model::reference::rows::{Act, GroupContent, OpenTxn};
+use rq_reference::Reference;
+use rq_reference::rows::{Act, GroupContent, OpenTxn};
 use rq_model::refusal::Refusal;
 use rq_model::txn::{Lsn, Txn};
 use std::alloc::Global;

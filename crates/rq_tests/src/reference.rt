@@ -4,8 +4,8 @@ use crate::lists::{
     start_abort, start_send, step,
 };
 use rq_model::message::Message;
-use rq_model::reference::Reference;
-use rq_model::reference::rows::Act;
+use rq_reference::Reference;
+use rq_reference::rows::Act;
 use rq_model::refusal::Refusal;
 use rq_model::txn::Txn;
 use std::test::Fail;

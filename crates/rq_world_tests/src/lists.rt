@@ -5,7 +5,7 @@ use crate::told::Told;
 use rq_core::happening::{Choice, Happening};
 use rq_engine::event::{Event, GroupContent, LastTag};
 use rq_model::message::{Body, Message};
-use rq_model::reference::rows::{Act, CommittedTxn};
+use rq_reference::rows::{Act, CommittedTxn};
 use rq_model::refusal::Refusal;
 use rq_model::txn::{Sub, Txn};
 use rq_restart::restart::Report;

@@ -4,7 +4,7 @@ use super::{Aim, Chains, Kind, Moment, Page, Tally};
 use crate::lists;
 use crate::moves::Cut;
 use crate::told::Told;
-use rq_model::reference::rows::OpenTxn;
+use rq_reference::rows::OpenTxn;
 use rq_model::txn::{Lsn, Sub, Txn};
 use std::alloc::AllocError;
 

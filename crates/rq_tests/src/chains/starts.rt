@@ -3,7 +3,7 @@ use super::cells::{directory_of, mark_of};
 use super::{Aim, Chains, Kind, NONE, Reach, Work};
 use crate::lists;
 use crate::told::Told;
-use rq_model::reference::rows::Act;
+use rq_reference::rows::Act;
 use rq_model::refusal::Refusal;
 use rq_model::txn::{Sub, Txn};
 
