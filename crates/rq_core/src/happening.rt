@@ -4,7 +4,7 @@ use rq_model::refusal::Refusal;
 use rq_restart::restart::Report;
 
 /// What outlives a crash.
-#[derive(Debug, Drop)]
+#[derive(Drop)]
 pub struct Choice {
     /// So many of the records that are not forced, or all where there are fewer.
     pub keep: u64,
@@ -18,7 +18,7 @@ pub struct Choice {
 /// A call of a store that is not open is answered `Failed`, and a crash there leaves all that its devices hold,
 /// whatever was chosen. A restart of a store that was opened, and has not crashed since, is answered `Running`, also
 /// where it has failed.
-#[derive(Debug, Drop)]
+#[derive(Drop)]
 pub enum Happening {
     /// A call.
     Call(Event),
@@ -39,7 +39,7 @@ pub enum Happening {
 }
 
 /// What a happening came to.
-#[derive(Debug, Drop)]
+#[derive(Drop)]
 pub enum Entry {
     /// The answer to a call.
     Answered(Reply),

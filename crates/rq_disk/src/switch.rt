@@ -5,7 +5,7 @@ use std::sync::Arc;
 use std::sync::atomic::{AtomicU64, Ordering};
 
 /// What sort of device call.
-#[derive(Clone, Copy, Debug, PartialEq, Eq)]
+#[derive(Clone, Copy, PartialEq, Eq)]
 pub enum CallKind {
     /// A read of a page or of the log.
     Read,
@@ -16,7 +16,7 @@ pub enum CallKind {
 }
 
 /// What happens to the call that meets it.
-#[derive(Clone, Copy, Debug, PartialEq, Eq)]
+#[derive(Clone, Copy, PartialEq, Eq)]
 pub enum Mishap {
     /// The call fails, and has done nothing. Later calls are as before.
     Fail,

@@ -3,7 +3,7 @@ use Rattle.std.proofs.Common.{◌≡◌, ℕ, zero, suc, [], ◌∷◌, ◌<◌,
 use Rattle.std.proofs.lemmas.List.{length-drop, take-append-drop}
 use Rattle.rq_model.specs.Commits.{committed_of}
 use Rattle.rq_model.specs.Ledger.{group_in, kept_in}
-use Rattle.rq_model.proofs.Plainly.{kept_less}
+use Rattle.rq_model.proofs.Rises.{kept_less}
 use Rattle.rq_model.proofs.Told.{content_is}
 use Rattle.rq_model.proofs.Cuts.{cut_commits}
 use Rattle.rq_model.specs.declared.record.Record.{Record}

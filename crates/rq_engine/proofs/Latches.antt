@@ -13,7 +13,7 @@ use Rattle.rq_model.specs.Legal.{OnFound}
 use Rattle.rq_model.specs.Words.{last}
 use Rattle.rq_model.specs.History.Call.{Start_close, Start_send, Start_receive, Start_receive_from, Undo_next}
 use Rattle.rq_model.specs.History.Job.{Sending, Taking, Ending}
-use Rattle.rq_model.specs.Reference.{without_pages}
+use Rattle.rq_model.specs.Tests.{without_pages}
 use Rattle.rq_page.specs.Sizes.{cell_count, directory_at}
 use Rattle.rq_views.specs.Plans.{Turn}
 use Rattle.rq_views.specs.Plans.Turn.{Did, Undid}

@@ -11,7 +11,7 @@ use Rattle.rq_model.specs.History.Entry.{Refused}
 use Rattle.rq_model.specs.Ledger.{Ledger, runs, after, found}
 use Rattle.rq_model.specs.Legal.{LegalRefusal}
 use Rattle.rq_model.specs.Tests.{Size, tests, first_of, NoneHolds, is_aborting, is_busy, log_full, ready_tests}
-use Rattle.rq_model.specs.Reference.{without_pages, IsUnready}
+use Rattle.rq_model.specs.Tests.{without_pages, IsUnready}
 use Rattle.std.specs.Option.{is_some as option_is_some}
 use Rattle.rq_txn.specs.declared.Operation.{Operation}
 use Rattle.rq_txn.specs.Rows.{Row, Under, found_row, under_way_of, any_under}

@@ -8,7 +8,7 @@ use Rattle.rq_model.specs.History.{Call}
 use Rattle.rq_model.specs.History.Call.{Start_send}
 use Rattle.rq_model.specs.Ledger.{found, ended_in}
 use Rattle.rq_model.specs.Tests.{Passes, is_busy, NoneHolds, free_to_send, has_closed, log_full, cells_in_use, ready_tests}
-use Rattle.rq_model.specs.Reference.{message_of}
+use Rattle.rq_model.specs.Words.{message_of}
 use Rattle.rq_page.specs.declared.directory.Directory.{Directory}
 use Rattle.rq_page.specs.Sizes.{Sizes, sender_count, cell_count, directory_at}
 use Rattle.rq_page.specs.declared.cell.Cell.{Cell}

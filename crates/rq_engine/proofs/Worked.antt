@@ -4,7 +4,7 @@ use Rattle.std.proofs.lemmas.List.{length-drop}
 use Rattle.rq_model.specs.declared.record.Record.{Record}
 use Rattle.rq_model.specs.Commits.{committed_of}
 use Rattle.rq_model.specs.Ledger.{group_in}
-use Rattle.rq_model.proofs.Plainly.{kept_less}
+use Rattle.rq_model.proofs.Rises.{kept_less}
 use Rattle.rq_model.proofs.Told.{content_is}
 use Rattle.rq_disk.specs.Device.{Images, Leaves}
 use Rattle.rq_disk.specs.declared.device.LogDevice as log_device

@@ -196,7 +196,7 @@ impl<P: PageDevice + Drop, L: LogDevice + Drop, B: Level> Engine<P, L, B> {
 impl<P: PageDevice, L: LogDevice, B: Level> Engine<P, L, B> {
     ghost use Rattle.rq_store.specs.State.{ledger_of, open_ones_of};
     ghost use Rattle.rq_model.specs.Tests.{log_full};
-    ghost use Rattle.rq_model.specs.Reference.{IsUnready};
+    ghost use Rattle.rq_model.specs.Tests.{IsUnready};
     ghost use Rattle.rq_model.specs.Tests.{NoneHolds, ready_tests};
 
     /// What a crash at this moment leaves of the log, and of both devices, and that each record has a spelling, for

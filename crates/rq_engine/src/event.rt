@@ -9,7 +9,7 @@ use rq_model::txn::{Lsn, Sub, Txn};
 pub use rq_pool::Written;
 
 /// The number of a commit: its transaction, and the LSN of its Commit record. Only `commit` makes one.
-#[derive(Clone, Copy, Debug, PartialEq, Eq)]
+#[derive(Clone, Copy, PartialEq, Eq)]
 pub struct CommitNo {
     txn: Txn,
     lsn: Lsn,
@@ -39,7 +39,7 @@ impl CommitNo {
 }
 
 /// That a commit is durable. Only `acknowledged` makes one.
-#[derive(Clone, Copy, Debug, PartialEq, Eq)]
+#[derive(Clone, Copy, PartialEq, Eq)]
 pub struct Receipt {
     number: CommitNo,
 }
@@ -60,7 +60,7 @@ impl Receipt {
 }
 
 /// What a step of an operation did.
-#[derive(Clone, Copy, Debug, PartialEq, Eq)]
+#[derive(Clone, Copy, PartialEq, Eq)]
 pub enum Progress {
     /// One slot was written; its record has this LSN.
     Done(Lsn),
@@ -69,7 +69,7 @@ pub enum Progress {
 }
 
 /// What a finished operation did.
-#[derive(Clone, Copy, Debug, PartialEq, Eq)]
+#[derive(Clone, Copy, PartialEq, Eq)]
 pub enum Outcome {
     /// A message was sent.
     Sent,
@@ -82,7 +82,7 @@ pub enum Outcome {
 }
 
 /// One call of the engine.
-#[derive(Clone, Debug, Drop)]
+#[derive(Clone, Drop)]
 pub enum Event {
     Begin,
     StartSend {
@@ -115,7 +115,7 @@ pub enum Event {
 }
 
 /// The answer to an event.
-#[derive(Clone, Debug, Drop)]
+#[derive(Clone, Drop)]
 pub enum Reply {
     /// The transaction that was begun.
     Begun(Txn),

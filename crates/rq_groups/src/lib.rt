@@ -22,7 +22,7 @@ use std::marker::Model;
 pub use waiting::Waiting;
 
 /// An end that a transaction holds.
-#[derive(Clone, Copy, Debug, PartialEq, Eq)]
+#[derive(Clone, Copy, PartialEq, Eq)]
 pub struct Held {
     /// The transaction that holds it.
     pub txn: Txn,
@@ -31,7 +31,7 @@ pub struct Held {
 }
 
 /// One of the two ends of a sender's group.
-#[derive(Clone, Copy, Debug, PartialEq, Eq)]
+#[derive(Clone, Copy, PartialEq, Eq)]
 pub enum End {
     /// The end that messages are put in at, or the group is closed at.
     Sending(u32),

@@ -15,7 +15,7 @@ use rq_page::page::Page;
 use std::alloc::Global;
 
 /// What a level asks for before it plans an operation.
-#[derive(Clone, Copy, Debug, PartialEq, Eq)]
+#[derive(Clone, Copy, PartialEq, Eq)]
 pub enum Want {
     /// The slot at this address.
     Slot(Addr),

@@ -1,10 +1,10 @@
 -- A crash and a restart go on with a legal history, and the ledger still has what the log tells.
-use Rattle.std.proofs.Common.{◌≡◌, ℕ, ◌+◌, ◌≤◌, List, ◌∷◌, ◌++◌, length, take, map, refl, sym, ◌∙◌, ap, subst, false, arith}
+use Rattle.std.proofs.Common.{◌≡◌, ℕ, ◌+◌, ◌≤◌, List, ◌∷◌, ◌++◌, length, take, map, refl, sym, ◌∙◌, ap, subst, arith}
 use Rattle.std.proofs.lemmas.List.{length-append}
 use Rattle.rq_model.specs.declared.record.Record.{Record}
 use Rattle.rq_model.specs.declared.record.Record.TheVariants.{Restart as Restart_record}
 use Rattle.rq_model.specs.History.{Entry}
-use Rattle.rq_model.specs.History.Entry.{Crash, Restarted}
+use Rattle.rq_model.specs.History.Entry.{Restarted}
 use Rattle.rq_model.specs.Ledger.{Done, Ledger, Phase, ledger, after, group_in, kept_in}
 use Rattle.rq_model.specs.Ledger.Phase.{Running, Stopped, Shut}
 use Rattle.rq_model.specs.Legal.{IsLegal, IsUpTo}
@@ -17,7 +17,7 @@ use Rattle.rq_model.proofs.Same.{Tied-ledger}
 use Rattle.rq_model.proofs.Shown.{group_are}
 use Rattle.rq_model.proofs.Told.{content_is}
 use Rattle.std.proofs.Math.Seq.{take-length}
-use Rattle.rq_model.proofs.Plainly.{kept_less, all_kept}
+use Rattle.rq_model.proofs.Rises.{kept_less, all_kept}
 use Rattle.rq_model.proofs.Cuts.{cut_commits, extends_commits, extends_incarnation}
 use Rattle.rq_model.proofs.Placed.{placed}
 

@@ -1,13 +1,11 @@
 -- What kinds of entry there are, for what they make of the commits and of the counts of the log.
-use Rattle.std.proofs.Common.{ap, ◌≡◌, ℕ, ◌≤◌, List, [], ◌∷◌, refl, sym, ◌∙◌, Bool, true, false, arith}
+use Rattle.std.proofs.Common.{ap, ◌≡◌, ℕ, ◌≤◌, refl, sym, ◌∙◌, Bool, true, false, arith}
 use Rattle.rq_model.specs.declared.txn.Txn.{Txn}
 use Rattle.rq_model.specs.declared.refusal.Refusal.{Refusal}
 use Rattle.rq_model.specs.declared.refusal.Refusal.TheVariants.{DiskWrite}
 use Rattle.rq_model.specs.History.{Entry, Call}
 use Rattle.rq_model.specs.History.Entry.{Begun, Started, None_free, None_from, Stepped, Ready, Did, Undid, Committed, Acknowledged, Aborting, None_left, Aborted, Handed_over, Forced, Wrote, Told, Shown, Refused, Crash, Restarted}
-use Rattle.rq_model.specs.Ledger.{Ledger, Phase, runs, ledger, after}
-use Rattle.rq_model.specs.Ledger.Phase.{Running, Stopped, Shut}
-use Rattle.rq_model.specs.Tests.{Size}
+use Rattle.rq_model.specs.Ledger.{Ledger, runs, after}
 
 -- the commits, the incarnation and what is forced stay, and no record is lost
 pub record Same (l m : Ledger) : Type 0 where

@@ -1,23 +1,12 @@
 -- Worked histories: that they are legal, and what they come to; and that others are not.
-use Rattle.std.proofs.Common.{◌+◌, ◌-◌, ◌*◌, ◌^◌, rules, ◌≡◌, ℕ, zero, suc, refl, List, [], ◌∷◌, ◌++◌, Some, None, Bool, true, false, map, replicate, arith, ap}
+use Rattle.std.proofs.Common.{rules, refl, [], ◌∷◌, arith, ap}
 use Rattle.rq_model.specs.declared.txn.Txn.{Txn}
 use Rattle.rq_model.specs.declared.message.Message.{Message}
-use Rattle.rq_model.specs.declared.refusal.Refusal.TheVariants.{DiskWrite, Failed, NoMemory, Full, SenderBusy, ReceiverBusy, TooLong, UnknownSender, Closed, Unfinished, UnknownOperation, UnknownTransaction, NotOpen, Latched, NotForced, LogFull}
-use Rattle.rq_model.specs.Words.Op.{Send, Take, End}
-use Rattle.rq_model.specs.History.{Entry, Group, rest}
-use Rattle.rq_model.specs.History.Call.{Begin, Force, Start_send, Start_receive_from, Start_close, Commit, Finish, Step, Start_abort, End_abort, Start_receive, Write_page}
-use Rattle.rq_model.specs.History.Job.{Sending, Taking, Ending, Undoing}
-use Rattle.rq_model.specs.History.Entry.{Begun, Started, None_free, None_from, Stepped, Ready, Did, Undid, Committed, Acknowledged, Aborting, None_left, Aborted, Forced, Refused, Crash, Restarted, Shown, Told, Handed_over, Wrote}
-use Rattle.rq_model.specs.Ledger.{ledger, group_in}
-use Rattle.rq_model.specs.declared.record.Record.{Record}
-use Rattle.rq_model.specs.declared.record.Record.TheVariants.{Restart as Restart_record}
-use Rattle.rq_model.specs.Replay.{Reply, Replays}
-use Rattle.rq_model.specs.Replay.Reply.{Gave_txn, Gave_commit}
-use Rattle.rq_model.specs.Promises.{EndsInCrash, EndsInRestart, crash_to}
+use Rattle.rq_model.specs.History.Entry.{Begun, Committed}
+use Rattle.rq_model.specs.Ledger.{ledger}
+use Rattle.rq_model.specs.Promises.{crash_to}
 use Rattle.rq_model.proofs.Bridges.{crash_goes_on, restart_goes_on}
-use Rattle.rq_model.specs.Legal.{Legal, IsLegal}
-use Rattle.rq_model.specs.Tests.{Size, tests, first_of, below}
-use Rattle.rq_model.specs.Worked.{txn, small, opened, message, letter, sent, got, sent_behind, got_before, closed, hello, one_send, unseen, long, bounds, both_open, both_undone, a_waits, a_gone, sent_and_got, all_lost, fifteen, filled, closes, begun_five, held_ends, undoing, committed_once, failed_force, longest, first_log, begun_and_committed, AreWorked}
+use Rattle.rq_model.specs.Worked.{txn, small, opened, first_log, AreWorked}
 
 pub worked : AreWorked
 worked = record {

@@ -1,16 +1,15 @@
 -- What worked logs come to, and which keep the rules.
-use Rattle.std.proofs.Common.{◌≡◌, ◌<◌, ◌+◌, ◌&&◌, ◌||◌, rules, ℕ, refl, sym, ap, ◌∙◌, List, [], ◌∷◌, ◌++◌, length, Bool, true, false, not, nat_eq, subst, inl, inr, arith}
+use Rattle.std.proofs.Common.{◌≡◌, ◌<◌, ◌&&◌, ◌||◌, ℕ, refl, sym, ◌∙◌, [], ◌∷◌, ◌++◌, length, Bool, true, false, subst, inl, inr, arith}
 use Rattle.std.proofs.lemmas.Bool.{cases_Bool, false≢true, true≢false, eqb-true}
 use Rattle.rq_model.specs.declared.txn.Txn.{Txn}
 use Rattle.rq_model.specs.declared.record.Record.TheVariants.{Commit, Restart}
-use Rattle.rq_model.specs.declared.message.Message.{Message}
 use Rattle.rq_model.specs.Words.{same_txn}
 use Rattle.rq_model.specs.Content.{Said, removed, added, deeds, has_commit, has_end, ends_txn}
-use Rattle.rq_model.specs.Rules.{KeepsRules, MayEnd, any_use, holds, uses_receive}
+use Rattle.rq_model.specs.Rules.{KeepsRules, MayEnd, holds, uses_receive}
 use Rattle.rq_model.specs.Content.Said.{Added, Removed}
 use Rattle.rq_model.specs.Worked.{letter}
 use Rattle.rq_model.proofs.Lists.{same_is}
-use Rattle.rq_model.specs.WorkedLogs.{sender_one, taker, end_of_send, end_of_take, sent_log, taken_since, LogsAreWorked}
+use Rattle.rq_model.specs.WorkedLogs.{sender_one, taker, end_of_take, sent_log, taken_since, LogsAreWorked}
 
 may_send : (s : ℕ) → MayEnd (Restart 1 ∷ []) s sender_one (Added (letter 7 97))
 may_send s = record { not_ended = refl; alone_send = λ y u h. absurd (false≢true h); alone_receive = λ y. absurd (false≢true y); has_more = λ y. absurd (false≢true y) }

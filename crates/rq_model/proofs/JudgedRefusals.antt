@@ -1,7 +1,6 @@
 -- Where refusals may come, on worked histories.
-use Rattle.std.proofs.Common.{◌≡◌, ◌≢◌, ◌<◌, ◌≤◌, ◌+◌, ◌||◌, rules, ℕ, zero, suc, refl, sym, ap, ◌∙◌, List, ◌∷◌, length, Bool, true, false, not, nat_lt, nat_eq, Option, Some, None, arith}
+use Rattle.std.proofs.Common.{◌≡◌, ◌<◌, ◌≤◌, ◌||◌, rules, ℕ, zero, suc, refl, sym, ap, ◌∙◌, length, Bool, true, false, not, nat_lt, nat_eq, Some, None, arith}
 use Rattle.std.proofs.lemmas.Bool.{lt-ltb, le-ltb, eqb-true, false_from_ne_true}
-use Rattle.rq_model.specs.declared.refusal.Refusal.{Refusal}
 use Rattle.rq_model.specs.declared.refusal.Refusal.TheVariants.{TooManyTransactions}
 use Rattle.rq_model.specs.History.Call.{Begin}
 use Rattle.rq_model.specs.Ledger.{Ledger, Phase, runs, ledger}

@@ -11,8 +11,7 @@ pub mod Rules
 pub mod Histories
 pub mod LogRows
 pub mod Within
-pub mod Plainly
-pub mod Receives
+pub mod Rises
 pub mod Counts
 pub mod Cuts
 pub mod EntryKinds

@@ -11,8 +11,8 @@ use Rattle.rq_model.specs.History.Entry.{Acknowledged, Committed, Forced, Crash,
 use Rattle.rq_model.specs.Ledger.{Done, Ledger, runs, kept_in, ledger, after, found, ops_of}
 use Rattle.rq_model.specs.Legal.{Legal, IsLegal}
 use Rattle.rq_model.specs.Tests.{Size}
-use Rattle.rq_model.specs.Reference.{Rising}
-use Rattle.rq_model.proofs.Plainly.{kept_within, all_kept, rising_append, rising_further, rising_cut, kept_cut}
+use Rattle.rq_model.specs.Ledger.{Rising}
+use Rattle.rq_model.proofs.Rises.{kept_within, all_kept, rising_append, rising_further, rising_cut, kept_cut}
 use Rattle.rq_model.proofs.Same.{In-take, Tied-ledger}
 use Rattle.rq_model.proofs.Keeps.{found_in}
 use Rattle.rq_model.proofs.Each.{Good-ledger, some_is}

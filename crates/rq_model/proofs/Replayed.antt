@@ -1,5 +1,5 @@
 -- A replay from the ledger of a legal history goes on with it; so do a crash and a restart.
-use Rattle.std.proofs.Common.{◌≡◌, List, [], ◌∷◌, ◌++◌, refl, sym, ◌∙◌, ap, subst, true, false, Some, None}
+use Rattle.std.proofs.Common.{◌≡◌, List, [], ◌∷◌, ◌++◌, refl, sym, ◌∙◌, ap, subst, false}
 use Rattle.rq_model.specs.declared.refusal.Refusal.{Refusal}
 use Rattle.rq_model.specs.declared.refusal.Refusal.TheVariants.{Failed}
 use Rattle.rq_model.specs.History.{Entry, Call}
@@ -9,7 +9,7 @@ use Rattle.rq_model.specs.Ledger.{Ledger, runs, ledger, after}
 use Rattle.rq_model.specs.Legal.{Legal, IsLegal}
 use Rattle.rq_model.specs.Tests.{Size}
 use Rattle.rq_model.specs.Replay.{Reply, Says, Replays, AllSay}
-use Rattle.rq_model.specs.Replay.Reply.{Gave_txn, Gave_sub, Gave_none, Gave_lsn, Gave_ready, Gave_sent, Gave_message, Gave_closed, Gave_undone, Gave_handed_over, Gave_forced, Gave_commit, Gave_receipt, Gave_written, Gave_tag, Gave_content, Gave_refusal}
+use Rattle.rq_model.specs.Replay.Reply.{Gave_refusal}
 
 -- a refusal stands for itself
 pub says_refusal : (c : Call) (r : Refusal) (e : Entry) → Says c (Gave_refusal r) e → e ≡ Refused c r

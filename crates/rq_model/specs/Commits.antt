@@ -8,7 +8,6 @@ use Rattle.rq_model.specs.Words.Op.{Send, Take, End}
 use Rattle.rq_model.specs.Ledger.{Done}
 use Rattle.rq_model.specs.Content.{Said, deeds}
 use Rattle.rq_model.specs.Content.Said.{Added, Removed, Ended}
-use Rattle.rq_model.specs.Unended.{operations}
 
 -- the operations that deeds tell, oldest first
 abbrev pub op_of : Said → Op

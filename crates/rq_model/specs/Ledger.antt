@@ -1,5 +1,5 @@
 -- What a history comes to: its commit list with what each transaction did, and those that have not ended.
-use Rattle.std.specs.Prelude.{ℕ, ◌+◌, ◌-◌, nat_eq, nat_lt, Bool, true, false, cond, List, [], ◌∷◌, ◌++◌, Option, Some, None, ◌||◌, take, drop, length, map, not}
+use Rattle.std.specs.Prelude.{ℕ, ◌+◌, ◌-◌, ◌<◌, ◌≤◌, nat_eq, nat_lt, Bool, true, false, cond, List, [], ◌∷◌, ◌++◌, Option, Some, None, ◌||◌, take, drop, length, map, not}
 use Rattle.std.specs.List.{filter, filter_map, flat_map, sum_by}
 use Rattle.rq_model.specs.declared.txn.Txn.{Txn}
 use Rattle.rq_model.specs.declared.refusal.Refusal.TheVariants.{DiskWrite}
@@ -232,3 +232,8 @@ empty = record {
 abbrev pub ledger : List Entry → Ledger
 ledger [] = empty
 ledger (e ∷ h) = after e (ledger h)
+
+-- the LSNs of commits rise, over low and up to high
+abbrev pub Rising : ℕ → List Done → ℕ → Type 0
+Rising low [] high = low ≤ high
+Rising low (d ∷ c) high = (low < d.lsn) × Rising d.lsn c high

@@ -1,9 +1,9 @@
 -- Which entry may come next.
-use Rattle.std.specs.Prelude.{◌≡◌, ℕ, ◌+◌, ◌-◌, ◌<◌, ◌≤◌, true, false, List, [], ◌∷◌, Option, Some, None, nat_eq, nat_lt, ◌&&◌, length, map, not, IsTrue, slice_get}
+use Rattle.std.specs.Prelude.{◌≡◌, ℕ, ◌+◌, ◌<◌, ◌≤◌, true, false, List, [], ◌∷◌, Option, Some, None, nat_eq, nat_lt, ◌&&◌, length, map, not, IsTrue, slice_get}
 use Rattle.rq_model.specs.declared.txn.Txn.{Txn}
 use Rattle.rq_model.specs.declared.refusal.Refusal.{Refusal}
 use Rattle.rq_model.specs.declared.refusal.Refusal.TheVariants.{NoMemory, DiskRead, Latched, PoolFull, DiskWrite, Damaged, NotForced}
-use Rattle.rq_model.specs.Words.{Op, first, last, is_some}
+use Rattle.rq_model.specs.Words.{Op, last, is_some}
 use Rattle.rq_model.specs.Words.Op.{Send, Take, End}
 use Rattle.rq_model.specs.History.{Job, Entry, Call}
 use Rattle.rq_model.specs.History.Call.{Begin, Start_send, Start_receive, Start_receive_from, Start_close, Step, Finish, Commit, Acknowledge, Start_abort, Undo_next, End_abort, Hand_over, Force, Write_page, Last_tag, Show}
@@ -11,7 +11,7 @@ use Rattle.rq_model.specs.History.Job.{Sending, Taking, Ending, Undoing}
 use Rattle.rq_model.specs.History.Entry.{Begun, Started, None_free, None_from, Stepped, Ready, Did, Undid, Committed, Acknowledged, Aborting, None_left, Aborted, Handed_over, Forced, Wrote, Told, Shown, Refused, Crash, Restarted}
 use Rattle.rq_model.specs.Ledger.{Open, Ledger, Phase, runs, kept_in, ledger, group_in, sent_in, rest_in, found, tag_of, own_takes}
 use Rattle.rq_model.specs.Ledger.Phase.{Running, Stopped, Shut as Is_shut}
-use Rattle.rq_model.specs.Tests.{Size, below, free_to_receive, holds_for, newest, first_of, tests, Passes, starts, writes_page}
+use Rattle.rq_model.specs.Tests.{Size, below, free_to_receive, holds_for, first_of, tests, Passes, starts, writes_page}
 
 -- Where each refusal may come: memory's and the disk's own where the store runs, latches and frames where an operation
 -- would start, a page that is not forced where one is to be written, and each of the others exactly where its test is

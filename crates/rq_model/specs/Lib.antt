@@ -8,7 +8,6 @@ pub mod Content
 pub mod Groups
 pub mod Replay
 pub mod Causes
-pub mod Reference
 pub mod Counts
 pub mod Incarnations
 pub mod Promises

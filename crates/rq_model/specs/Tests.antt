@@ -1,9 +1,9 @@
 -- What each call is tested for, in order.
-use Rattle.std.specs.Prelude.{◌≡◌, ℕ, zero, suc, ◌+◌, ◌-◌, ◌^◌, Bool, true, false, cond, List, [], ◌∷◌, ◌++◌, Option, Some, None, nat_eq, nat_lt, ◌&&◌, ◌||◌, length, not}
+use Rattle.std.specs.Prelude.{◌≡◌, ℕ, zero, suc, ◌+◌, ◌-◌, ◌^◌, Bool, true, false, cond, List, [], ◌∷◌, ◌++◌, Option, Some, None, nat_eq, nat_lt, ◌&&◌, ◌||◌, length, not, IsTrue}
 use Rattle.std.specs.List.{filter, sum_by}
 use Rattle.rq_model.specs.declared.txn.Txn.{Txn}
 use Rattle.rq_model.specs.declared.refusal.Refusal.{Refusal}
-use Rattle.rq_model.specs.declared.refusal.Refusal.TheVariants.{Failed, UnknownTransaction, NotOpen, Unfinished, UnknownSender, TooLong, SenderBusy, Closed, ReceiverBusy, TooManyTransactions, LogFull, UnknownOperation, Full}
+use Rattle.rq_model.specs.declared.refusal.Refusal.TheVariants.{Failed, UnknownTransaction, NotOpen, Unfinished, UnknownSender, TooLong, SenderBusy, Closed, ReceiverBusy, TooManyTransactions, LogFull, UnknownOperation, Full, DiskRead, Latched, PoolFull, DiskWrite, Damaged, NotForced}
 use Rattle.rq_model.specs.Words.{Op, same_txn, has_number, first, last, is_some}
 use Rattle.rq_model.specs.Words.Op.{Send, Take, End}
 use Rattle.rq_model.specs.History.{Job, Call}
@@ -200,3 +200,18 @@ starts z l _ = false
 abbrev pub writes_page : Call → Bool
 writes_page (Write_page p) = true
 writes_page _ = false
+
+-- pages and devices refuse nothing here: there are none
+abbrev pub without_pages : Refusal → Bool
+without_pages DiskRead = false
+without_pages Latched = false
+without_pages PoolFull = false
+without_pages DiskWrite = false
+without_pages (Damaged d) = false
+without_pages NotForced = false
+without_pages _ = true
+
+-- why a transaction may do nothing now
+pub record IsUnready (l : Ledger) (t : Txn) (aborting : Bool) (r : Refusal) : Type 0 where
+  pub first : first_of (ready_tests l t aborting) ≡ Some r
+  pub plain : IsTrue (without_pages r)

@@ -68,3 +68,7 @@ IsPrefix {X} xs ys = (rest : List X) × (xs ++ rest ≡ ys)
 abbrev pub In : {X : Type 0} → X → List X → Type 0
 In x [] = ⊥
 In x (y ∷ ys) = (x ≡ y) ⊎ In x ys
+
+-- a message with this body
+abbrev pub message_of : ℕ → ℕ → List ℕ → Message
+message_of sender tag body = record { sender = sender; tag = tag; body = body }

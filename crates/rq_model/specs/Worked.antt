@@ -1,20 +1,20 @@
 -- Worked histories: which are legal, what they come to, and which are not.
-use Rattle.std.specs.Prelude.{◌≡◌, ◌+◌, ◌-◌, ◌*◌, ◌^◌, ℕ, zero, suc, List, [], ◌∷◌, ◌++◌, Some, None, Bool, true, false, map, replicate}
+use Rattle.std.specs.Prelude.{◌≡◌, ◌+◌, ◌*◌, ◌^◌, ℕ, zero, suc, List, [], ◌∷◌, ◌++◌, Some, true, false, map, replicate}
 use Rattle.rq_model.specs.declared.txn.Txn.{Txn}
 use Rattle.rq_model.specs.declared.message.Message.{Message}
 use Rattle.rq_model.specs.declared.refusal.Refusal.TheVariants.{DiskWrite, Failed, NoMemory, Full, SenderBusy, ReceiverBusy, TooLong, UnknownSender, Closed, Unfinished, UnknownOperation, UnknownTransaction, NotOpen, Latched, NotForced, LogFull}
 use Rattle.rq_model.specs.Words.Op.{Send, Take, End}
 use Rattle.rq_model.specs.History.{Entry, Call, Group, rest}
-use Rattle.rq_model.specs.History.Call.{Begin, Force, Start_send, Start_receive_from, Start_close, Commit, Finish, Step, Start_abort, End_abort, Start_receive, Write_page}
+use Rattle.rq_model.specs.History.Call.{Begin, Force, Start_send, Start_receive_from, Commit, Finish, Step, End_abort, Start_receive, Write_page}
 use Rattle.rq_model.specs.History.Job.{Sending, Taking, Ending, Undoing}
-use Rattle.rq_model.specs.History.Entry.{Begun, Started, None_free, None_from, Stepped, Ready, Did, Undid, Committed, Acknowledged, Aborting, None_left, Aborted, Forced, Refused, Crash, Restarted, Shown, Told, Handed_over, Wrote}
+use Rattle.rq_model.specs.History.Entry.{Begun, Started, None_from, Stepped, Ready, Did, Undid, Committed, Acknowledged, Aborting, None_left, Aborted, Forced, Refused, Crash, Restarted, Shown, Told, Handed_over, Wrote}
 use Rattle.rq_model.specs.Ledger.{ledger, group_in}
 use Rattle.rq_model.specs.declared.record.Record.{Record}
 use Rattle.rq_model.specs.declared.record.Record.TheVariants.{Restart as Restart_record}
 use Rattle.rq_model.specs.Replay.{Reply, Replays}
 use Rattle.rq_model.specs.Replay.Reply.{Gave_txn, Gave_commit}
 use Rattle.rq_model.specs.Promises.{EndsInCrash, EndsInRestart, crash_to}
-use Rattle.rq_model.specs.Legal.{Legal, IsLegal}
+use Rattle.rq_model.specs.Legal.{IsLegal}
 use Rattle.rq_model.specs.Tests.{Size, tests, first_of, below}
 
 abbrev pub txn : ℕ → ℕ → Txn

@@ -1,5 +1,5 @@
 -- Worked logs: which keep the rules, what they come to, and what would be so of those that don't.
-use Rattle.std.specs.Prelude.{◌≡◌, ℕ, List, [], ◌∷◌, ◌++◌, take, false, true}
+use Rattle.std.specs.Prelude.{◌≡◌, List, [], ◌∷◌, ◌++◌, take, false}
 use Rattle.rq_model.specs.declared.txn.Txn.{Txn}
 use Rattle.rq_model.specs.declared.record.Deed.TheVariants.{Append, UnlinkHead}
 use Rattle.rq_model.specs.declared.record.Record.{Record}
@@ -12,7 +12,7 @@ use Rattle.rq_model.specs.Content.{content, with_own, deeds, no_group}
 use Rattle.rq_model.specs.Commits.{committed_of}
 use Rattle.rq_model.specs.Rules.{KeepsRules}
 use Rattle.rq_model.specs.Groups.{commits_left}
-use Rattle.rq_model.specs.Worked.{txn, letter, a_gone, small}
+use Rattle.rq_model.specs.Worked.{txn, letter}
 
 abbrev pub sender_one : Txn
 sender_one = txn 1 1

@@ -1,5 +1,5 @@
 -- Worked refusals: where each may come, and where it may not.
-use Rattle.std.specs.Prelude.{◌≡◌, ◌<◌, ◌≤◌, ◌+◌, ℕ, zero, suc, List, ◌∷◌}
+use Rattle.std.specs.Prelude.{◌≡◌, ◌<◌, ◌≤◌, ℕ, zero, suc, List, ◌∷◌}
 use Rattle.rq_model.specs.declared.refusal.Refusal.TheVariants.{TooManyTransactions, PoolFull, DiskRead, Damaged}
 use Rattle.rq_model.specs.declared.refusal.Damage.TheVariants.{Page}
 use Rattle.rq_model.specs.History.{Entry, Call}

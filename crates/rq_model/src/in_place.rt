@@ -4,7 +4,7 @@ ghost use Rattle.std.specs.Prelude.{◌≡◌, ◌≤◌, ◌↔◌, IfSome, IsS
 use std::marker::Model;
 
 /// Up to `N` bytes, in place. Contracts see the list of the bytes.
-#[derive(Clone, Copy, Debug, PartialEq, Eq)]
+#[derive(Clone, Copy, PartialEq, Eq)]
 pub struct InPlace<const N: usize> {
     bytes: [u8; N],
     len: usize,

@@ -6,6 +6,5 @@ pub mod laws;
 pub mod limits;
 pub mod message;
 pub mod record;
-pub mod reference;
 pub mod refusal;
 pub mod txn;

@@ -8,7 +8,7 @@ pub const BODY_LIMIT: usize = 216;
 pub type Body = InPlace<BODY_LIMIT>;
 
 /// A message: its sender's number, the tag that the sender gave it, and its body.
-#[derive(Clone, Copy, Debug, PartialEq, Eq)]
+#[derive(Clone, Copy, PartialEq, Eq)]
 pub struct Message {
     pub sender: u32,
     pub tag: u64,

@@ -17,7 +17,7 @@ pub const DEED_LIMIT: usize = 256;
 pub type DeedBytes = InPlace<DEED_LIMIT>;
 
 /// A record of the log.
-#[derive(Clone, Copy, Debug, PartialEq, Eq)]
+#[derive(Clone, Copy, PartialEq, Eq)]
 pub enum Record {
     /// An operation wrote a slot.
     PageOp {
@@ -70,7 +70,7 @@ pub enum Record {
 }
 
 /// What an operation of the chain level did.
-#[derive(Clone, Copy, Debug, PartialEq, Eq)]
+#[derive(Clone, Copy, PartialEq, Eq)]
 pub enum Deed {
     /// A message was put at the end of its sender's group. `previous` is the last tag before it.
     Append {

@@ -1,6 +1,7 @@
 //! Refusals, by number and name.
 ghost use Rattle.std.specs.Prelude.{◌≡◌};
 
+use std::fmt;
 use thiserror::Error;
 
 /// Where a damaged byte was met, or a slot that does not hold what an operation needs.
@@ -19,69 +20,57 @@ pub struct NoMemory;
 
 /// Why a call was refused. A refusal leaves the state as it was, except `DiskWrite`, after which every
 /// call answers `Failed` until the store is opened again.
-#[derive(Clone, Copy, Debug, PartialEq, Eq, Error)]
+#[derive(Clone, Copy, Debug, PartialEq, Eq)]
 pub enum Refusal {
     /// 1: a growth of memory was refused in this call.
-    #[error("NoMemory")]
     NoMemory,
     /// 2: an earlier call answered `DiskWrite`, or the store is not open.
-    #[error("Failed")]
     Failed,
     /// 3: a device read failed in this call.
-    #[error("DiskRead")]
     DiskRead,
     /// 4: the number names no transaction that has not ended.
-    #[error("UnknownTransaction")]
     UnknownTransaction,
     /// 5: the transaction is aborting where the call needs it open, or open where the call needs it aborting.
-    #[error("NotOpen")]
     NotOpen,
     /// 6: an operation is under way; for `finish`, steps are left; for the end of an abort, an operation is not yet undone.
-    #[error("Unfinished")]
     Unfinished,
     /// 7: the store has no such sender.
-    #[error("UnknownSender")]
     UnknownSender,
     /// 8: the body is over 216 bytes.
-    #[error("TooLong")]
     TooLong,
     /// 9: another transaction holds the group's sending end.
-    #[error("SenderBusy")]
     SenderBusy,
     /// 10: the group is closed, by a commit or by this transaction.
-    #[error("Closed")]
     Closed,
     /// 11: another transaction holds the group's receiving end.
-    #[error("ReceiverBusy")]
     ReceiverBusy,
     /// 12: every cell is held, taken by a transaction that has not ended, or meant for a send under way.
-    #[error("Full")]
     Full,
     /// 13: a page that the operation needs is latched by another, or every page with a free cell is.
-    #[error("Latched")]
     Latched,
     /// 14: frames for the operation's pages cannot be had.
-    #[error("PoolFull")]
     PoolFull,
     /// 15: a device write, sync, append or force failed in this call.
-    #[error("DiskWrite")]
     DiskWrite,
     /// 16: a page or record breaks the format or its checks.
-    #[error("Damaged")]
     Damaged(Damage),
     /// 17: 4,096 transactions have not ended, or this incarnation has begun 2^64 - 1.
-    #[error("TooManyTransactions")]
     TooManyTransactions,
     /// 18: the page's LSN is over the forced LSN.
-    #[error("NotForced")]
     NotForced,
     /// 19: the records of the call, with those that operations under way still owe, would pass 2^50.
-    #[error("LogFull")]
     LogFull,
     /// 20: no such operation is under way.
-    #[error("UnknownOperation")]
     UnknownOperation,
 }
+
+impl fmt::Display for Refusal {
+    fn fmt<W: fmt::Write>(&self, f: &mut fmt::Formatter<W>) -> fmt::Result {
+        f.write_str(self.name())
+    }
+}
+
+impl std::error::Error for Refusal {}
 
 impl From<NoMemory> for Refusal {
     ghost use Rattle.std.specs.Prelude.{◌≡◌};

@@ -3,7 +3,7 @@ use std::fmt;
 
 /// The number of a transaction: the incarnation of the store that began it, and its place among the
 /// transactions begun in that incarnation. Both count from 1. Printed `2.1`.
-#[derive(Clone, Copy, Debug, PartialEq, Eq)]
+#[derive(Clone, Copy, PartialEq, Eq)]
 pub struct Txn {
     pub incarnation: u64,
     pub count: u64,
@@ -19,7 +19,7 @@ impl fmt::Display for Txn {
 
 /// The number of an operation: its transaction, and its place among that transaction's operations
 /// (compensations included), from 1.
-#[derive(Clone, Copy, Debug, PartialEq, Eq)]
+#[derive(Clone, Copy, PartialEq, Eq)]
 pub struct Sub {
     pub txn: Txn,
     pub number: u64,

@@ -7,7 +7,7 @@ use std::marker::Model;
 /// The address of a slot, `page * 16 + slot`, or of none. Contracts see the number.
 ///
 /// A slot's number is 1 to 15. The address 0 is none; any number may come out of bytes.
-#[derive(Clone, Copy, Debug, PartialEq, Eq, PartialOrd, Ord)]
+#[derive(Clone, Copy, PartialEq, Eq, PartialOrd, Ord)]
 pub struct Addr {
     number: u64,
 }

@@ -15,7 +15,7 @@ use rq_model::record::{SLOT_BYTES, Slot};
 const FRONT_BYTES: usize = 40;
 
 /// A used cell: a message, its place among those that its sender sent, and its neighbours in the chain.
-#[derive(Clone, Copy, Debug, PartialEq, Eq)]
+#[derive(Clone, Copy, PartialEq, Eq)]
 pub struct Cell {
     /// The number of the message's sender.
     pub sender: u32,
@@ -60,7 +60,7 @@ impl Cell {
 }
 
 /// What a cell's slot holds.
-#[derive(Clone, Copy, Debug, PartialEq, Eq)]
+#[derive(Clone, Copy, PartialEq, Eq)]
 pub enum CellSlot {
     /// No message.
     Free,

@@ -14,7 +14,7 @@ use rq_model::record::{SLOT_BYTES, Slot};
 const FRONT_BYTES: usize = 48;
 
 /// What the directory says of a sender's group.
-#[derive(Clone, Copy, Debug, PartialEq, Eq)]
+#[derive(Clone, Copy, PartialEq, Eq)]
 pub struct Directory {
     /// Whether the group takes no more messages.
     pub closed: bool,
@@ -47,7 +47,7 @@ impl Directory {
 }
 
 /// What a directory slot holds: a sender's number, and what the directory says of its group.
-#[derive(Clone, Copy, Debug, PartialEq, Eq)]
+#[derive(Clone, Copy, PartialEq, Eq)]
 pub struct DirectorySlot {
     /// The sender's number.
     pub sender: u32,

@@ -16,7 +16,7 @@ pub const DIRECTORY_LIMIT: u32 = 1024;
 pub const CELLS_LIMIT: u32 = 65536;
 
 /// What a page is for.
-#[derive(Clone, Copy, Debug, PartialEq, Eq)]
+#[derive(Clone, Copy, PartialEq, Eq)]
 pub enum PageKind {
     /// The page that says how large the store is.
     Superblock,
@@ -44,7 +44,7 @@ impl PageKind {
 /// How many directory and cell pages a store has, 1 to 1,024 and 1 to 65,536. Contracts see both numbers.
 ///
 /// Page 0 is the superblock, then come the directory pages, then the cell pages.
-#[derive(Clone, Copy, Debug, PartialEq, Eq)]
+#[derive(Clone, Copy, PartialEq, Eq)]
 pub struct Layout {
     directory: u32,
     cells: u32,

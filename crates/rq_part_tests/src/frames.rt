@@ -1,3 +1,4 @@
+//! The frames of the wire: requests that come in pieces, and answers.
 ghost use Rattle.std.specs.Prelude.{◌≤◌};
 
 use bytes::{BufMut, BytesMut};
@@ -138,20 +139,27 @@ fn one_by_one(alloc: Global, bytes: &[u8]) -> Option<(usize, Option<usize>)> {
     Some((requests, fault))
 }
 
+// Some bytes, and what comes of them one by one.
+type Faulty<'a> = (&'a [u8], usize, Option<usize>);
+
 #[test]
 fn a_fault_is_told_as_soon_as_it_is_there(rt: HostRuntime) {
     let mut long = [0; 27];
     long[..23].copy_from_slice(&ASKED[..23]);
     long[23] = 2;
     long[24] = 1;
-    assert!(rt; one_by_one(rt.alloc(), &long) == Some((2, Some(24))));
-    assert!(rt; one_by_one(rt.alloc(), &[0, 0, 1, 1]) == Some((0, Some(1))));
-    assert!(rt; one_by_one(rt.alloc(), &[0, 1, 12, 0, 1, 1]) == Some((0, Some(2))));
-    assert!(rt; one_by_one(rt.alloc(), &[0, 9, 0]) == Some((0, Some(2))));
-    assert!(rt; one_by_one(rt.alloc(), &[0, 2, 1, 0, 0, 1, 1]) == Some((0, Some(3))));
-    let eleven = [0, 12, 2, 0, 0, 0, 0, 0, 0, 0, 0, 0, 0, 0];
-    assert!(rt; one_by_one(rt.alloc(), &eleven) == Some((0, Some(13))));
-    assert!(rt; one_by_one(rt.alloc(), &[0, 5, 4, 0, 0]) == Some((0, None)));
+    let rows: [Faulty; 7] = [
+        (&long, 2, Some(24)),
+        (&[0, 0, 1, 1], 0, Some(1)),
+        (&[0, 1, 12, 0, 1, 1], 0, Some(2)),
+        (&[0, 9, 0], 0, Some(2)),
+        (&[0, 2, 1, 0, 0, 1, 1], 0, Some(3)),
+        (&[0, 12, 2, 0, 0, 0, 0, 0, 0, 0, 0, 0, 0, 0], 0, Some(13)),
+        (&[0, 5, 4, 0, 0], 0, None),
+    ];
+    for (bytes, requests, fault) in rows {
+        assert!(rt; one_by_one(rt.alloc(), bytes) == Some((requests, fault)));
+    }
 }
 
 #[test]

@@ -39,7 +39,7 @@ pub struct Frame {
 }
 
 /// What was done for a page that was to be written.
-#[derive(Clone, Copy, Debug, PartialEq, Eq)]
+#[derive(Clone, Copy, PartialEq, Eq)]
 pub enum Written {
     /// It was written.
     Done,

@@ -2,7 +2,7 @@
 use rq_model::record::Record;
 
 /// What stands at the front of some bytes.
-#[derive(Clone, Copy, Debug, PartialEq, Eq)]
+#[derive(Clone, Copy, PartialEq, Eq)]
 pub enum Step {
     /// A record, and how many bytes it takes. Bytes may follow it.
     Record(Record, usize),
@@ -13,7 +13,7 @@ pub enum Step {
 }
 
 /// The same, where the record was written over one that was lent.
-#[derive(Clone, Copy, Debug, PartialEq, Eq)]
+#[derive(Clone, Copy, PartialEq, Eq)]
 pub enum Front {
     /// A record, which takes so many bytes. Bytes may follow it.
     Record(usize),

@@ -52,7 +52,7 @@ use rq_record::{shows_fits, spelled_len};
 use std::alloc::Global;
 
 /// What a restart found and did.
-#[derive(Clone, Copy, Debug, PartialEq, Eq)]
+#[derive(Clone, Copy, PartialEq, Eq)]
 pub struct Report {
     /// The incarnation that begins.
     pub incarnation: u64,

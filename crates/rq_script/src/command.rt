@@ -78,34 +78,86 @@ fn plain(name: &[u8]) -> Option<Command<'static>> {
     }
 }
 
+/// The first word of a command with words behind it.
+#[derive(Clone, Copy)]
+enum Word {
+    Send,
+    OpenSend,
+    Step,
+    Finish,
+    Recv,
+    RecvFrom,
+    Close,
+    Commit,
+    Abort,
+    StartAbort,
+    Undo,
+    EndAbort,
+    Ack,
+    Write,
+    Last,
+    Fail,
+    Crash,
+    Restart,
+}
+
+const WORDS: [(&[u8], Word); 18] = [
+    (b"send", Word::Send),
+    (b"open-send", Word::OpenSend),
+    (b"step", Word::Step),
+    (b"finish", Word::Finish),
+    (b"recv", Word::Recv),
+    (b"recv-from", Word::RecvFrom),
+    (b"close", Word::Close),
+    (b"commit", Word::Commit),
+    (b"abort", Word::Abort),
+    (b"start-abort", Word::StartAbort),
+    (b"undo", Word::Undo),
+    (b"end-abort", Word::EndAbort),
+    (b"ack", Word::Ack),
+    (b"write", Word::Write),
+    (b"last", Word::Last),
+    (b"fail", Word::Fail),
+    (b"crash", Word::Crash),
+    (b"restart", Word::Restart),
+];
+
+fn word_of(name: &[u8]) -> Option<Word> {
+    for (text, word) in WORDS {
+        if text == name {
+            return Some(word);
+        }
+    }
+    None
+}
+
 // A command with words behind its name.
 fn with_words<'a>(name: &[u8], rest: &'a [u8]) -> Option<Command<'a>> {
-    match name {
-        b"send" => Some(Command::Send(post_of(rest)?)),
-        b"open-send" => Some(Command::OpenSend(post_of(rest)?)),
-        b"step" => Some(Command::Step(operation(rest)?)),
-        b"finish" => Some(Command::Finish(operation(rest)?)),
-        b"recv" => Some(Command::Recv(txn(rest)?)),
-        b"recv-from" => {
+    match word_of(name)? {
+        Word::Send => Some(Command::Send(post_of(rest)?)),
+        Word::OpenSend => Some(Command::OpenSend(post_of(rest)?)),
+        Word::Step => Some(Command::Step(operation(rest)?)),
+        Word::Finish => Some(Command::Finish(operation(rest)?)),
+        Word::Recv => Some(Command::Recv(txn(rest)?)),
+        Word::RecvFrom => {
             let (txn, sender) = group_of(rest)?;
             Some(Command::RecvFrom(txn, sender))
         }
-        b"close" => {
+        Word::Close => {
             let (txn, sender) = group_of(rest)?;
             Some(Command::Close(txn, sender))
         }
-        b"commit" => Some(Command::Commit(txn(rest)?)),
-        b"abort" => Some(Command::Abort(txn(rest)?)),
-        b"start-abort" => Some(Command::StartAbort(txn(rest)?)),
-        b"undo" => Some(Command::Undo(txn(rest)?)),
-        b"end-abort" => Some(Command::EndAbort(txn(rest)?)),
-        b"ack" => Some(Command::Ack(txn(rest)?)),
-        b"write" => Some(Command::Write(short_number(rest)?)),
-        b"last" => Some(Command::Last(short_number(rest)?)),
-        b"fail" => Some(Command::Fail(device_call(rest)?)),
-        b"crash" => crash(rest),
-        b"restart" => Some(Command::StopInRestart(number(rest)?)),
-        _ => None,
+        Word::Commit => Some(Command::Commit(txn(rest)?)),
+        Word::Abort => Some(Command::Abort(txn(rest)?)),
+        Word::StartAbort => Some(Command::StartAbort(txn(rest)?)),
+        Word::Undo => Some(Command::Undo(txn(rest)?)),
+        Word::EndAbort => Some(Command::EndAbort(txn(rest)?)),
+        Word::Ack => Some(Command::Ack(txn(rest)?)),
+        Word::Write => Some(Command::Write(short_number(rest)?)),
+        Word::Last => Some(Command::Last(short_number(rest)?)),
+        Word::Fail => Some(Command::Fail(device_call(rest)?)),
+        Word::Crash => crash(rest),
+        Word::Restart => Some(Command::StopInRestart(number(rest)?)),
     }
 }
 

@@ -20,7 +20,7 @@ use rq_workers::steps::Steps;
 use std::sync::Wait;
 
 /// What came of serving a session.
-#[derive(Clone, Copy, Debug, PartialEq, Eq)]
+#[derive(Clone, Copy, PartialEq, Eq)]
 pub enum Came {
     /// The answer to the request.
     Answered(Answer),

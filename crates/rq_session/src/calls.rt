@@ -5,7 +5,7 @@ use rq_model::txn::{Lsn, Sub, Txn};
 use rq_wire::{Answer, SendBody};
 
 /// One call of the engine.
-#[derive(Debug, Drop)]
+#[derive(Drop)]
 pub enum Ask {
     /// Begin a transaction.
     Begin,
@@ -45,14 +45,14 @@ pub enum Ask {
 }
 
 /// A commit: its transaction, and the LSN of its Commit record.
-#[derive(Clone, Copy, Debug, PartialEq, Eq)]
+#[derive(Clone, Copy, PartialEq, Eq)]
 pub struct Commit {
     pub txn: Txn,
     pub lsn: Lsn,
 }
 
 /// What the engine answered to a call, or what is known of a commit that is awaited.
-#[derive(Clone, Copy, Debug, PartialEq, Eq)]
+#[derive(Clone, Copy, PartialEq, Eq)]
 pub enum Told {
     /// The transaction that was begun.
     Begun(Txn),
@@ -89,7 +89,7 @@ pub enum Told {
 }
 
 /// What is to be done next for a session.
-#[derive(Debug, Drop)]
+#[derive(Drop)]
 pub enum Action {
     /// Make this call, and tell the session what came of it.
     Do(Ask),

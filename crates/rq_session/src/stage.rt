@@ -3,7 +3,7 @@ use crate::calls::{Action, Commit};
 use rq_model::txn::{Sub, Txn};
 
 /// The transaction of a session between two requests.
-#[derive(Clone, Copy, Debug, PartialEq, Eq)]
+#[derive(Clone, Copy, PartialEq, Eq)]
 pub(crate) enum Held {
     // none
     Free,
@@ -18,7 +18,7 @@ pub(crate) enum Held {
 }
 
 /// For what an operation is carried out.
-#[derive(Clone, Copy, Debug, PartialEq, Eq)]
+#[derive(Clone, Copy, PartialEq, Eq)]
 pub(crate) enum Purpose {
     // a request
     Request,
@@ -29,7 +29,7 @@ pub(crate) enum Purpose {
 }
 
 /// Which call a session asked for last.
-#[derive(Clone, Copy, Debug, PartialEq, Eq)]
+#[derive(Clone, Copy, PartialEq, Eq)]
 pub(crate) enum Stage {
     // none: it may be handed a request
     Rest(Held),
@@ -50,7 +50,7 @@ pub(crate) enum Stage {
 }
 
 /// What is to be done, and where the session stands then.
-#[derive(Debug, Drop)]
+#[derive(Drop)]
 pub(crate) struct Next {
     pub(crate) action: Action,
     pub(crate) stage: Stage,

@@ -20,7 +20,7 @@ use std::mem;
 use std::snapshot::Snapshot;
 
 /// Who asked what, and the answer, as the audit keeps it.
-#[derive(Debug, Drop)]
+#[derive(Drop)]
 pub struct AuditEntry {
     pass: u64,
     event: Event,
@@ -52,7 +52,7 @@ impl AuditEntry {
 
 /// Who asked what, and the answer, as the asker is given it. Only `Kept::step` makes one, and it is never
 /// copied: each call has one.
-#[derive(Debug, Drop)]
+#[derive(Drop)]
 pub struct Stamped {
     pass: u64,
     event: Event,

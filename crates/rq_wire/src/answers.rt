@@ -4,7 +4,7 @@ use rq_model::refusal::Refusal;
 use rq_model::txn::{Lsn, Txn};
 
 /// The answer to one request.
-#[derive(Clone, Copy, Debug, PartialEq, Eq)]
+#[derive(Clone, Copy, PartialEq, Eq)]
 pub enum Answer {
     /// The transaction that was begun.
     Begun(Txn),

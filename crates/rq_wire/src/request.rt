@@ -5,7 +5,7 @@ use std::alloc::{AllocError, Global};
 use std::marker::Model;
 
 /// The body of a send: 0 to 499 bytes, the most that a frame has room for. Contracts see its bytes.
-#[derive(Debug, Drop)]
+#[derive(Drop)]
 pub struct SendBody {
     bytes: Vec<u8>,
 }
@@ -48,7 +48,7 @@ impl SendBody {
 }
 
 /// What a connection asks. A session has at most one transaction, and asks are for that one.
-#[derive(Debug, Drop)]
+#[derive(Drop)]
 pub enum Request {
     /// Begin a transaction.
     Begin,

@@ -22,7 +22,7 @@ pub enum Act {
 }
 
 /// What a call of an operation was answered, without a stamp.
-#[derive(Clone, Copy, Debug, PartialEq, Eq)]
+#[derive(Clone, Copy, PartialEq, Eq)]
 pub enum Heard {
     /// The operation was started.
     Started(Sub),
@@ -43,7 +43,7 @@ pub enum Heard {
 }
 
 /// What came of an operation.
-#[derive(Clone, Copy, Debug, PartialEq, Eq)]
+#[derive(Clone, Copy, PartialEq, Eq)]
 pub enum Ended {
     /// It was finished, and did this.
     Finished(Outcome),
@@ -99,7 +99,7 @@ pub(crate) fn end_by(last: Heard) -> Ended
 }
 
 /// What is called of an operation that was started.
-#[derive(Clone, Copy, Debug, PartialEq, Eq)]
+#[derive(Clone, Copy, PartialEq, Eq)]
 pub(crate) enum Part {
     Step,
     Finish,
@@ -117,7 +117,7 @@ impl Part {
 }
 
 /// How the steps of an operation go on.
-#[derive(Clone, Copy, Debug, PartialEq, Eq)]
+#[derive(Clone, Copy, PartialEq, Eq)]
 pub(crate) enum Turn {
     /// There is another step.
     Again,

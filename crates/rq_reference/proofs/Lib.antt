@@ -1,0 +1,2 @@
+pub mod Plainly
+pub mod Receives

@@ -1,0 +1,89 @@
+//! What the reference keeps: its transactions as rows of plain lists.
+use rq_model::message::Message;
+use rq_model::txn::{Lsn, Txn};
+use std::marker::Model;
+
+/// What a finished operation of a transaction did.
+#[derive(Clone, Copy, PartialEq, Eq)]
+pub enum Act {
+    /// A message was sent.
+    Sent(Message),
+    /// A message was received.
+    Taken(Message),
+    /// The sender's group was closed.
+    Closed(u32),
+}
+
+/// What the operation under way is to do.
+#[derive(Clone, Copy, PartialEq, Eq)]
+pub enum Work {
+    /// To send a message.
+    Sending(Message),
+    /// To receive from the sender's group.
+    Taking(u32),
+    /// To close the sender's group.
+    Closing(u32),
+    /// To undo what its transaction did last and has not undone.
+    Undoing,
+}
+
+/// A transaction that has not ended.
+#[derive(Drop)]
+pub struct OpenTxn {
+    /// Its number.
+    pub txn: Txn,
+    /// Whether it is aborting.
+    pub aborting: bool,
+    /// What its finished operations did and no compensation undid, in order.
+    pub acts: Vec<Act>,
+    /// The senders whose sending end it holds.
+    pub sending: Vec<u32>,
+    /// The senders whose receiving end it holds.
+    pub receiving: Vec<u32>,
+    /// The number of its newest operation; 0 before the first.
+    pub number: u64,
+    /// The operation under way.
+    pub work: Option<Work>,
+    /// How many slot writes of the operation under way are not made.
+    pub left: u8,
+}
+
+/// A committed transaction.
+#[derive(Drop)]
+pub struct CommittedTxn {
+    /// Its number.
+    pub txn: Txn,
+    /// The LSN of its Commit record.
+    pub lsn: Lsn,
+    /// What it did, in order.
+    pub acts: Vec<Act>,
+}
+
+/// The committed content of a sender's group. Contracts see the group.
+#[derive(Drop)]
+pub struct GroupContent {
+    /// How many messages were sent.
+    pub sent: u64,
+    /// The tag of the last message sent; 0 before the first.
+    pub last_tag: u64,
+    /// How many messages were received.
+    pub received: u64,
+    /// Whether the group is closed.
+    pub closed: bool,
+    /// The messages sent and not received, in order.
+    pub rest: Vec<Message>,
+}
+
+impl Model for GroupContent {
+    ghost use Rattle.rq_model.specs.History.{Group};
+
+    ghost Value = { Group };
+
+    ghost view = { λ g. record {
+      sent = g.sent;
+      last_tag = g.last_tag;
+      received = g.received;
+      closed = g.closed;
+      rest = g.rest.items;
+    } };
+}
