@@ -7,6 +7,7 @@ import argparse
 import multiprocessing
 import os
 import pathlib
+import re
 import subprocess
 import sys
 import tempfile
@@ -65,6 +66,8 @@ def shrunk(lines, without, fails):
         at, is_shorter = 0, False
         while at < len(lines):
             fewer = without(lines, at, at + size)
+            if not fails(fewer) and size == 1 and lines[at] == b"begin":
+                fewer = counted_again(fewer, at)
             if fails(fewer):
                 lines, is_shorter = fewer, True
             else:
@@ -72,6 +75,20 @@ def shrunk(lines, without, fails):
         if size == 1 and not is_shorter:
             return lines
         size = max(1, size // 2)
+
+
+def counted_again(lines, at):
+    """The lines where a begin at this place was left out: later transactions of its incarnation have smaller numbers."""
+    crashes = [place for place, line in enumerate(lines) if line.startswith((b"crash", b"restart"))]
+    first = max((place for place in crashes if place < at), default=0)
+    end = min((place for place in crashes if place >= at), default=len(lines))
+    gone = 1 + sum(line == b"begin" for line in lines[first:at])
+
+    def smaller(found):
+        count = int(found[2])
+        return b"%s.%d" % (found[1], count - (count > gone))
+
+    return lines[:at] + [re.sub(rb"(?<= )(\d+)\.(\d+)", smaller, line, count=1) for line in lines[at:end]] + lines[end:]
 
 
 def text(line):
