@@ -27,8 +27,6 @@ mod scripts;
 #[cfg(test)]
 mod several;
 #[cfg(test)]
-mod sharing;
-#[cfg(test)]
 mod stores;
 #[cfg(test)]
 mod taken;
