@@ -2,11 +2,11 @@
 use crate::stores::{Machine, Medium, Store, blank};
 use rq_disk::PageChoice;
 use rq_engine::event::{Event, Outcome, Progress, Reply};
-use rq_reference::Reference;
-use rq_reference::rows::Act;
 use rq_model::refusal::Refusal;
 use rq_model::txn::{Sub, Txn};
 use rq_page::layout::Layout;
+use rq_reference::Reference;
+use rq_reference::rows::Act;
 use std::alloc::{AllocError, Global};
 use std::test::Fail;
 
