@@ -14,10 +14,10 @@ use Rattle.rq_level.specs.declared.level.Level as level
 use Rattle.rq_shared.specs.contracts.shared.Front as Front
 use Rattle.rq_shared.specs.declared.sharing.Sharing as sharing
 use Rattle.rq_shared.proofs.Crossing.{front_sync}
-use Rattle.rq_worker_tests.proofs.threads.Common.TheSendSync as common
-use Rattle.rq_worker_tests.proofs.threads.Own.TheSendSync as own
-use Rattle.rq_worker_tests.proofs.threads.both.Lts as lts
-use Rattle.rq_worker_tests.proofs.threads.both.Goals as goal
+use Rattle.rq_serving_tests.proofs.threads.Common.TheSendSync as common
+use Rattle.rq_serving_tests.proofs.threads.Own.TheSendSync as own
+use Rattle.rq_serving_tests.proofs.threads.both.Lts as lts
+use Rattle.rq_serving_tests.proofs.threads.both.Goals as goal
 
 -- what the first thread is given may cross to it
 captures : (P L B G R : RattleType) (LP : Laws P) (LL : Laws L) (LB : Laws B) (LG : Laws G) (LR : Laws R) (p : page_device.Ghosts P.Denot) (pd : Dict) (l : log_device.Ghosts L.Denot) (ld : Dict) (b : level.Ghosts B.Denot) (bd : Dict) (n : sharing.Ghosts G.Denot) (nd : Dict) (h : ledger.Ghosts G.Denot) (hd : Dict) (r : threads.Ghosts R.Denot) (rd : Dict) (w : wait.Ghosts R.Denot) (wd dp dl db : Dict) (κs : Lfts 12)

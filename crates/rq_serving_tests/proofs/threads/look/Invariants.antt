@@ -1,6 +1,6 @@
 use Rattle.rq_sound.specs.Sound.{IsSound}
 use Rattle.rq_shared.specs.Begun.{begins_with}
-use Rattle.rq_tests.proofs.sharing.look.Given as goal
+use Rattle.rq_serving_tests.proofs.threads.look.Given as goal
 
 -- the ledger is that of the blank
 abbrev pub ghosts-share-G-Ledger : goal.ghosts-share-G-Ledger

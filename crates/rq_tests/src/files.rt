@@ -1,5 +1,5 @@
 //! A store in files, beside one in memory, and what a later opening finds.
-use crate::calls::{
+use crate::file_calls::{
     are_all, ask, carry_out, formatted, given_back, make_folder, opened, part, read_log, read_page,
     send_of,
 };

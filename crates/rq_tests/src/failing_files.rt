@@ -1,7 +1,7 @@
 //! Each call of the files under a run fails once, in turn: it is answered as a failure of the device, every call behind
 //! it as of a failed store, and what was acknowledged is there when the files are opened again.
-use crate::calls::{ask, carry_out, formatted, make_folder, opened, send_of};
 use crate::faulty::{Countdown, Faulty};
+use crate::file_calls::{ask, carry_out, formatted, make_folder, opened, send_of};
 use rq_content::GroupContent;
 use rq_disk::{FileLog, FilePages, PAGE, Unknown};
 use rq_engine::engine::Engine;

@@ -1,5 +1,5 @@
 //! New stores in folders, and what is printed of them.
-use crate::calls::{are_all, make_folder, part};
+use crate::file_calls::{are_all, make_folder, part};
 use rq_disk::Unknown;
 use rq_files::{open_folder, run_format};
 use rq_page::layout::Layout;

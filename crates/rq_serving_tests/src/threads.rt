@@ -3,6 +3,7 @@ ghost use Rattle.std.specs.Prelude.{◌≡◌};
 ghost use Rattle.rq_shared.specs.Begun.{begins_with};
 ghost use Rattle.rq_shared.specs.Entries.{WasSound};
 
+use crate::connection::Open;
 use crate::stores::{
     KeepStamps, carried_out, committed, crashed, has_sent, is_sent, opened, receipt, start_of_send,
     wide_engine,
@@ -70,21 +71,6 @@ impl HeldBetween<'_> {
     fn is_let_go(&self) -> bool {
         self.common.first_is_held.store(1, Ordering::SeqCst);
         comes(&self.common.second_has_committed)
-    }
-}
-
-/// Lets its thread through.
-#[derive(Drop)]
-struct Open {
-    answers: Snapshot<Trail<(u32, bool)>>,
-}
-
-impl Gate for Open {
-    ghost answers = { λ gate. gate.answers.value };
-
-    fn pass(&mut self, point: u32) -> bool {
-        Trail::note(&mut self.answers, &(point, true));
-        true
     }
 }
 
@@ -156,10 +142,7 @@ fn send_meanwhile<S: Steps, R: Wait>(
     if !comes(&common.first_is_held) {
         return (None, steps);
     }
-    let gate = Open {
-        answers: Trail::empty(),
-    };
-    run_and_commit(rt, gate, steps, txn, &start)
+    run_and_commit(rt, Open::new(), steps, txn, &start)
 }
 
 // What the first thread does.
@@ -253,7 +236,7 @@ fn tie_of(audit: &[AuditEntry], stamps: Vec<Stamped>, others: Vec<Stamped>) -> T
 // Takes the audit, where that is wanted, and looks whether it is tied.
 fn tie_taken<P: PageDevice + Drop, L: LogDevice + Drop, B: Level, G: Sharing, R: Wait>(
     rt: &R,
-    front: &Front<P, L, B, G>,
+    shared: &Shared<P, L, B, G>,
     pass: &mut Pass<G>,
     take: bool,
     stamps: Vec<Stamped>,
@@ -262,7 +245,7 @@ fn tie_taken<P: PageDevice + Drop, L: LogDevice + Drop, B: Level, G: Sharing, R:
     if !take {
         return None;
     }
-    let taken = front.take_audit(rt, pass);
+    let taken = shared.take_audit(rt, pass);
     Some(tie_of(taken.entries(), stamps, others))
 }
 
@@ -372,7 +355,7 @@ fn share<
     let (first, second) = both(rt, alloc, shared.front(), one, two, &common);
     let (one, stamps, number) = first?;
     let (two, others, other_number) = second?;
-    let tie = tie_taken(rt, shared.front(), &mut three, take, stamps, others);
+    let tie = tie_taken(rt, &shared, &mut three, take, stamps, others);
     let numbers = [number, other_number];
     let given = receipts(rt, alloc, shared.front(), &mut three, &numbers).ok()?;
     let receipts = given.len();
