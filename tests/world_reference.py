@@ -202,10 +202,11 @@ class World:
         return f"last {last[0]} {last[1]}", "LastTag"
 
     def said_of_content(self, groups, _):
-        said = [b"content"]
+        said = [f"content {len(groups)}".encode()]
         for sender, (sent, tag, received, is_closed, rest) in enumerate(groups):
-            said.append(f" / {sent} {tag} {received} {'closed' if is_closed else 'open'}".encode())
-            said += [f" : {sender} {message[0]} ".encode() + message[1] for message in rest]
+            if sent or is_closed:
+                said.append(f" / {sender} {sent} {tag} {received} {'closed' if is_closed else 'open'}".encode())
+                said += [f" : {sender} {message[0]} ".encode() + message[1] for message in rest]
         return b"".join(said), "Content"
 
 

@@ -98,18 +98,29 @@ fn print_message(output: &mut Vec<u8>, word: &str, message: &Message) -> io::Res
     Ok(())
 }
 
-// Of each sender how many messages were sent, the last tag, how many were received, and whether it is closed; and each
-// message that is left.
+// How many senders there are, and of each that ever sent or closed its group.
 fn print_content(output: &mut Vec<u8>, groups: &[GroupContent]) -> io::Result<()> {
-    print_word(output, "content")?;
-    for group in groups {
-        print_group(output, group)?;
+    print_numbers(output, "content", &[groups.len() as u64])?;
+    for (sender, group) in groups.iter().enumerate() {
+        if !is_untouched(group) {
+            print_group(output, sender as u64, group)?;
+        }
     }
     Ok(())
 }
 
-fn print_group(output: &mut Vec<u8>, group: &GroupContent) -> io::Result<()> {
-    let numbers = [group.sent, group.last_tag, group.received];
+fn is_untouched(group: &GroupContent) -> bool {
+    group.sent == 0
+        && group.last_tag == 0
+        && group.received == 0
+        && !group.closed
+        && group.rest.is_empty()
+}
+
+// The sender, how many messages it sent, the last tag, how many were received, and whether it is closed; and each message
+// that is left.
+fn print_group(output: &mut Vec<u8>, sender: u64, group: &GroupContent) -> io::Result<()> {
+    let numbers = [sender, group.sent, group.last_tag, group.received];
     print_numbers(output, " /", &numbers)?;
     print_word(output, if group.closed { " closed" } else { " open" })?;
     for message in &group.rest {
