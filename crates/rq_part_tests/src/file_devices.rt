@@ -299,7 +299,12 @@ fn are_all(bytes: &[u8], at: usize, len: usize, byte: u8) -> bool {
         Some(rest) => rest.get(..len).unwrap_or(&[]),
         None => &[],
     };
-    part.len() == len && part.iter().all(|other| *other == byte)
+    for other in part {
+        if *other != byte {
+            return false;
+        }
+    }
+    part.len() == len
 }
 
 // A page of nines, a page of sixes, and the zero behind them.
