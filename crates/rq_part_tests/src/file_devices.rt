@@ -169,20 +169,29 @@ const IN_MEMORY: [(LogCall, u64); 13] = [
     (LogCall::Failures, 0),
 ];
 
+// What the log in the file holds then.
+const HELD: [u8; 21] = [
+    0, 0, 0, 1, 11, 0, 0, 0, 3, 21, 22, 23, 0, 0, 0, 0, 0, 0, 0, 1, 11,
+];
+
+// Opened again, it goes on where it was.
+const AGAIN: [(LogCall, u64); 3] = [(LogCall::Alike, 1), (LogCall::Two, 0), (LogCall::Alike, 1)];
+
+// A file holds so many bytes, these first.
+fn holds(rt: &HostRuntime, path: &str, len: usize, first: &[u8]) -> io::Result<bool> {
+    let held = fs::read(rt, path)?;
+    Ok(held.len() == len && held.starts_with(first))
+}
+
 #[test]
 fn a_log_in_a_file_reads_as_one_in_memory(rt: HostRuntime) -> Result<(), Fail> {
     make_folder(&rt, "file_log_test")?;
     let path = "file_log_test/log";
-    let other = logs_are_so(&rt, file_of(&rt, path)?, mem_log(rt.alloc())?, &IN_MEMORY)?;
-    let held = [
-        0, 0, 0, 1, 11, 0, 0, 0, 3, 21, 22, 23, 0, 0, 0, 0, 0, 0, 0, 1, 11,
-    ];
-    assert!(rt; fs::read(&rt, path)?.as_slice() == held.as_slice());
-
-    // opened again, it goes on where it was
-    let rows = [(LogCall::Alike, 1), (LogCall::Two, 0), (LogCall::Alike, 1)];
-    let _ = logs_are_so(&rt, file_of(&rt, path)?, other, &rows)?;
-    assert!(rt; fs::read(&rt, path)?.len() == 32);
+    let file = file_of(&rt, path)?;
+    let other = logs_are_so(&rt, file, mem_log(rt.alloc())?, &IN_MEMORY)?;
+    assert!(rt; holds(&rt, path, 21, &HELD)?);
+    let _ = logs_are_so(&rt, file_of(&rt, path)?, other, &AGAIN)?;
+    assert!(rt; holds(&rt, path, 32, &HELD)?);
     fs::remove_dir_all(&rt, "file_log_test")?;
     Ok(())
 }
@@ -290,7 +299,12 @@ fn are_all(bytes: &[u8], at: usize, len: usize, byte: u8) -> bool {
         Some(rest) => rest.get(..len).unwrap_or(&[]),
         None => &[],
     };
-    part.len() == len && part.iter().all(|other| *other == byte)
+    for other in part {
+        if *other != byte {
+            return false;
+        }
+    }
+    part.len() == len
 }
 
 // A page of nines, a page of sixes, and the zero behind them.

@@ -10,10 +10,11 @@ use std::snapshot::Snapshot;
 use std::sync::Arc;
 use std::sync::atomic::{AtomicU64, Ordering};
 
-/// Which call fails, of all files that share it.
+/// Which call fails, of all files that share it: how many are left up to it, and whether calls are not counted for now.
 #[derive(Drop)]
 pub struct Countdown {
     left: Arc<AtomicU64, Global>,
+    paused: Arc<AtomicU64, Global>,
 }
 
 impl Countdown {
@@ -21,13 +22,20 @@ impl Countdown {
     pub fn new(alloc: Global, n: u64) -> Result<Countdown, AllocError> {
         Ok(Countdown {
             left: Arc::new(alloc, AtomicU64::new(n))?,
+            paused: Arc::new(alloc, AtomicU64::new(0))?,
         })
     }
 
     pub fn share(&self) -> Result<Countdown, AllocError> {
         Ok(Countdown {
             left: Arc::try_clone(&self.left)?,
+            paused: Arc::try_clone(&self.paused)?,
         })
+    }
+
+    /// The nth call from here on fails.
+    pub fn set(&self, n: u64) {
+        self.left.store(n, Ordering::SeqCst);
     }
 
     /// Whether the call came that was to fail, or there was none.
@@ -35,14 +43,18 @@ impl Countdown {
         self.left.load(Ordering::SeqCst) == 0
     }
 
-    /// No further call fails.
-    pub fn end(&self) {
-        self.left.store(0, Ordering::SeqCst);
+    /// No call fails, and none is counted, until it is resumed.
+    pub fn suspend(&self) {
+        self.paused.store(1, Ordering::SeqCst);
+    }
+
+    pub fn resume(&self) {
+        self.paused.store(0, Ordering::SeqCst);
     }
 
     fn fails(&self) -> bool {
         let left = self.left.load(Ordering::SeqCst);
-        if left == 0 {
+        if left == 0 || self.paused.load(Ordering::SeqCst) == 1 {
             return false;
         }
         self.left.store(left - 1, Ordering::SeqCst);

@@ -112,5 +112,10 @@ pub fn part(bytes: &[u8], at: usize, len: usize) -> &[u8] {
 /// Whether so many bytes from a place on are all the same one.
 pub fn are_all(bytes: &[u8], at: usize, len: usize, byte: u8) -> bool {
     let part = part(bytes, at, len);
-    part.len() == len && part.iter().all(|other| *other == byte)
+    for other in part {
+        if *other != byte {
+            return false;
+        }
+    }
+    part.len() == len
 }

@@ -20,11 +20,11 @@ mod drops;
 #[cfg(test)]
 mod failing;
 #[cfg(test)]
-mod failing_files;
-#[cfg(test)]
 mod faulty;
 #[cfg(test)]
 mod file_calls;
+#[cfg(test)]
+mod file_store;
 #[cfg(test)]
 mod files;
 #[cfg(test)]

@@ -27,8 +27,8 @@ pub trait Store {
     /// Has the device call of this number fail, counted from 1.
     fn fail(&mut self, n: u64);
 
-    /// How many calls of its devices were made.
-    fn calls(&self) -> u64;
+    /// Whether that call was made.
+    fn has_failed(&self, n: u64) -> bool;
 }
 
 /// How a store is opened, asked and shut. Shut, it is its devices.
@@ -43,7 +43,11 @@ pub trait Medium<K, D> {
     /// The devices as a crash leaves them, once buffered records are handed over.
     fn crash(&mut self, kept: K, choice: PageChoice, keep: u64) -> D;
 
-    fn switch(&self) -> &Switch;
+    /// Has the device call of this number fail, counted from 1.
+    fn fail(&mut self, n: u64);
+
+    /// Whether that call was made.
+    fn has_failed(&self, n: u64) -> bool;
 }
 
 /// A store, and what opens it. It knows no engine.
@@ -103,11 +107,11 @@ impl<K: Drop, D: Drop, M: Medium<K, D>> Store for Machine<K, D, M> {
     }
 
     fn fail(&mut self, n: u64) {
-        self.medium.switch().arm_call(n, Mishap::Fail);
+        self.medium.fail(n);
     }
 
-    fn calls(&self) -> u64 {
-        self.medium.switch().calls()
+    fn has_failed(&self, n: u64) -> bool {
+        self.medium.has_failed(n)
     }
 }
 
@@ -163,7 +167,11 @@ impl Medium<Kept<MemPages, MemLog, StoreLevel>, (MemPages, MemLog)> for Memory {
         crashed(pages, log, choice, keep)
     }
 
-    fn switch(&self) -> &Switch {
-        &self.switch
+    fn fail(&mut self, n: u64) {
+        self.switch.arm_call(n, Mishap::Fail);
+    }
+
+    fn has_failed(&self, n: u64) -> bool {
+        self.switch.calls() >= n
     }
 }
