@@ -1,0 +1,11 @@
+pub mod Slots
+pub mod Ends
+pub mod Starts
+pub mod Undoing
+pub mod Refusing
+pub mod Planning
+pub mod Least
+pub mod Told
+pub mod Fed
+pub mod Audits
+pub mod Restarts

@@ -1,0 +1,14 @@
+-- What slots hold is one.
+use Rattle.std.proofs.Common.{◌≡◌, ℕ}
+use Rattle.rq_page.specs.declared.cell.Cell.{Cell}
+use Rattle.rq_page.specs.declared.directory.Directory.{Directory}
+use Rattle.rq_page.specs.Slots.Slot.{Free, Used, Sender}
+
+pub sender_same : (s r : ℕ) (d e : Directory) → Sender s d ≡ Sender r e → d ≡ e
+sender_same s r d e h = cc
+
+pub used_same : (c d : Cell) → Used c ≡ Used d → c ≡ d
+used_same c d h = cc
+
+pub used_free : (c : Cell) → Used c ≡ Free → ⊥
+used_free c h = cc

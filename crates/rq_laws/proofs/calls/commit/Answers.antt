@@ -1,0 +1,10 @@
+use Rattle.std.proofs.Common.{refl, rules}
+use Rattle.rq_laws.proofs.Refusing.{refuse_plain, commit_passed}
+use Rattle.rq_laws.proofs.calls.commit.Goals as goal
+
+pub returns : goal.returns
+returns g c = record {
+  state = search rules;
+  devices = search rules;
+  decided = refuse_plain g.P.PageDevice g.L.LogDevice _ _ _ _ _ _ _ _ (commit_passed _) refl (λ z l. refl) c.requires.same c.commit.ensures.answered c.commit-2.ensures.answered;
+}

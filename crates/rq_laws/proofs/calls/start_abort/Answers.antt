@@ -1,0 +1,9 @@
+use Rattle.std.proofs.Common.{refl, rules}
+use Rattle.rq_laws.proofs.Refusing.{refuse_plain, abort_passed}
+use Rattle.rq_laws.proofs.calls.start_abort.Goals as goal
+
+pub returns : goal.returns
+returns g c = record {
+  same = search rules;
+  decided = refuse_plain g.P.PageDevice g.L.LogDevice _ _ _ _ _ _ _ _ (abort_passed _) refl (λ z l. refl) c.requires.same c.start_abort.ensures.answered c.start_abort-2.ensures.answered;
+}

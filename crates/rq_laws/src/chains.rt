@@ -1,0 +1,95 @@
+//! Plans on the chain of a group. A plan is compared as writes over what the slots hold.
+ghost use Rattle.std.specs.Prelude.{◌≡◌, ◌+◌, ◌-◌, ◌<◌, ◌^◌, IfOk, reverse};
+ghost use Rattle.rq_page.specs.Sizes.{IsCellAddress};
+ghost use Rattle.rq_level.specs.Writes.{writes_of};
+ghost use Rattle.rq_chain.specs.Neighbours.{IsGroupOf, IsNeighbour, IsNeighbourAt};
+
+use rq_chain::{ChainPlan, Group, Neighbour, append, put_back, unlink_head};
+use rq_level::SlotWrite;
+use rq_model::message::Body;
+use rq_model::refusal::NoMemory;
+use rq_page::addr::Addr;
+use rq_page::layout::Layout;
+use std::alloc::Global;
+
+/// A send writes the same slots and tells the same deed. Excludes a plan that links the new cell elsewhere than behind
+/// the tail.
+pub fn sends(
+    alloc: Global,
+    layout: &Layout,
+    group: &Group,
+    tail: Option<Neighbour>,
+    tail_again: Option<Neighbour>,
+    free: Addr,
+    tag: u64,
+    body: Body,
+    body_again: Body,
+) -> (Result<ChainPlan, NoMemory>, Result<ChainPlan, NoMemory>)
+    requires room { group.now.directory.sent < 2 ^ 64 - 1 }
+    requires group { IsGroupOf layout.now group.now }
+    requires tail { IsNeighbour layout.now group.now.directory.tail tail }
+    requires again { tail_again ≡ tail }
+    requires body { body_again ≡ body }
+    requires free { IsCellAddress layout.now free }
+    ensures { IfOk result.0 (λ a. IfOk result.1 (λ b. (a.deed ≡ b.deed)
+        × (reverse (writes_of layout.now a.writes.items) ≡ reverse (writes_of layout.now b.writes.items)))) }
+{
+    (
+        append(alloc, layout, group, tail, free, tag, body),
+        append(alloc, layout, group, tail_again, free, tag, body_again),
+    )
+}
+
+/// A receive writes the same slots and tells the same deed. Excludes a plan that leaves the first cell at the head, so
+/// that it is received again.
+pub fn takes(
+    alloc: Global,
+    layout: &Layout,
+    group: &Group,
+    head: &Neighbour,
+    next: Option<Neighbour>,
+    next_again: Option<Neighbour>,
+) -> (Result<ChainPlan, NoMemory>, Result<ChainPlan, NoMemory>)
+    requires some { group.now.directory.received < group.now.directory.sent }
+    requires group { IsGroupOf layout.now group.now }
+    requires head { IsNeighbourAt layout.now group.now.directory.head head.now }
+    requires next { IsNeighbour layout.now head.now.cell.next next }
+    requires again { next_again ≡ next }
+    ensures { IfOk result.0 (λ a. IfOk result.1 (λ b. (a.deed ≡ b.deed)
+        × (reverse (writes_of layout.now a.writes.items) ≡ reverse (writes_of layout.now b.writes.items)))) }
+{
+    (
+        unlink_head(alloc, layout, group, head, next),
+        unlink_head(alloc, layout, group, head, next_again),
+    )
+}
+
+/// What takes a receive back writes the same slots. Excludes a plan that puts the message anywhere but in front.
+pub fn puts_back(
+    alloc: Global,
+    layout: &Layout,
+    group: &Group,
+    head: Option<Neighbour>,
+    head_again: Option<Neighbour>,
+    free: Addr,
+    tag: u64,
+    body: Body,
+    body_again: Body,
+) -> (
+    Result<Vec<SlotWrite>, NoMemory>,
+    Result<Vec<SlotWrite>, NoMemory>,
+)
+    requires some { 0 < group.now.directory.received }
+    requires group { IsGroupOf layout.now group.now }
+    requires head { IsNeighbour layout.now group.now.directory.head head }
+    requires again { head_again ≡ head }
+    requires body { body_again ≡ body }
+    requires free { IsCellAddress layout.now free }
+    ensures { IfOk result.0 (λ a. IfOk result.1
+        (λ b. reverse (writes_of layout.now a.items) ≡ reverse (writes_of layout.now b.items))) }
+{
+    (
+        put_back(alloc, layout, group, head, free, tag, body),
+        put_back(alloc, layout, group, head_again, free, tag, body_again),
+    )
+}

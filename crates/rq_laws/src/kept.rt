@@ -1,0 +1,41 @@
+//! The kept engine: two in the same state that are given the same call.
+ghost use Rattle.std.specs.Prelude.{◌≡◌, ◌≢◌};
+
+use rq_disk::{LogDevice, PageDevice};
+use rq_engine::event::{Event, Reply};
+use rq_level::Level;
+use rq_model::refusal::Refusal;
+use rq_shared::kept::{Kept, Stamped, Taken};
+
+/// A stamp says who asked and what; two of one reply come with the same entry, and where memory was wanting nothing
+/// changed. Excludes an entry that is left out, and a call that is told as another.
+pub fn step<P: PageDevice + Drop, L: LogDevice + Drop, B: Level>(
+    first: &mut Kept<P, L, B>,
+    second: &mut Kept<P, L, B>,
+    pass: u64,
+    event: Event,
+    again: Event,
+) -> (Stamped, Stamped)
+    requires same { first.old ≡ second.old }
+    requires event { event ≡ again }
+    ensures pass { result.0.pass ≡ result.1.pass }
+    ensures event { result.0.event ≡ result.1.event }
+    ensures audit { result.0.reply ≢ Reply.Refused Refusal.NoMemory → result.0.reply ≡ result.1.reply
+        → first.new.audit ≡ second.new.audit }
+    ensures refused { result.0.reply ≡ Reply.Refused Refusal.NoMemory → result.1.reply ≡ Reply.Refused Refusal.NoMemory
+        → first.new ≡ second.new }
+{
+    (first.step(pass, event), second.step(pass, again))
+}
+
+/// What is taken is the same, and what is left. Excludes an audit that is thrown away.
+pub fn take<P: PageDevice + Drop, L: LogDevice + Drop, B: Level>(
+    first: &mut Kept<P, L, B>,
+    second: &mut Kept<P, L, B>,
+) -> (Taken<P, L, B>, Taken<P, L, B>)
+    requires same { first.old ≡ second.old }
+    ensures taken { result.0 ≡ result.1 }
+    ensures left { first.new ≡ second.new }
+{
+    (first.take(), second.take())
+}

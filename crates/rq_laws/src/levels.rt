@@ -1,0 +1,93 @@
+//! Levels of recovery: two of one number that keep the same of a store.
+ghost use Rattle.std.specs.Prelude.{◌≡◌, IfOk};
+ghost use Rattle.rq_level.specs.Meaning.{AreOf, IsRedo, redo_of};
+ghost use Rattle.rq_laws.specs.Planned.{PlannedAlike};
+
+use rq_level::{Level, Op, PageSet, Plan, Slots};
+use rq_model::record::{Record, Slot};
+use rq_model::refusal::Refusal;
+use rq_model::txn::Lsn;
+use rq_page::addr::Addr;
+use rq_page::page::Page;
+use std::alloc::Global;
+
+/// They read the same deeds. Excludes a level that reads bytes that are no deed, such as one with a body too long.
+pub fn reads<B: Level>(first: &B, second: &B, deed: &[u8]) -> (bool, bool)
+    requires level { B.level first.now ≡ B.level second.now }
+    ensures { result.0 ≡ result.1 }
+{
+    (first.reads(deed), second.reads(deed))
+}
+
+/// They keep the same of a slot that was written. Excludes a level that keeps a cell as used that was freed, or as
+/// free that is used.
+pub fn noted<B: Level>(first: &mut B, second: &mut B, at: Addr, bytes: &Slot)
+    requires level { B.level first.old ≡ B.level second.old }
+    requires kept { B.kept first.old ≡ B.kept second.old }
+    ensures { B.kept first.new ≡ B.kept second.new }
+{
+    first.noted(at, bytes);
+    second.noted(at, bytes);
+}
+
+/// They apply a record to the same pages. Excludes a level that applies a record to a page that has it.
+pub fn redoes<B: Level>(
+    first: &mut B,
+    second: &mut B,
+    page: &mut Page,
+    again: &mut Page,
+    lsn: Lsn,
+    told: &Record,
+) -> (bool, bool)
+    requires same { page.old ≡ again.old }
+    requires redo { IsRedo (redo_of told.now) }
+    ensures { result.0 ≡ result.1 }
+{
+    (first.redo(page, lsn, told), second.redo(again, lsn, told))
+}
+
+/// The level of chains plans the same, keeps the same chosen cell, and where one plans, the other refuses for want of
+/// memory alone. Excludes a plan that takes a cell on a latched page, or another than the lowest, and one whose cell
+/// is not reserved.
+pub fn plans<B: Level>(
+    alloc: Global,
+    first: &mut B,
+    second: &mut B,
+    op: &Op,
+    given: &Slots,
+    latched: &PageSet,
+) -> (Result<Plan, Refusal>, Result<Plan, Refusal>)
+    requires chains { B.level first.old ≡ 1 }
+    requires again { B.level second.old ≡ 1 }
+    requires kept { B.kept first.old ≡ B.kept second.old }
+    requires given { AreOf (B.kept first.old).sizes given.now }
+    ensures planned { PlannedAlike (B.kept first.old).sizes result.0 result.1 }
+    ensures kept { IfOk result.0 (λ _. IfOk result.1 (λ _. B.kept first.new ≡ B.kept second.new)) }
+{
+    (
+        first.plan(alloc, op, given, latched),
+        second.plan(alloc, op, given, latched),
+    )
+}
+
+/// It plans the same to take a deed back. Excludes an empty plan, and one that puts a message back at the tail.
+pub fn undoes<B: Level>(
+    alloc: Global,
+    first: &mut B,
+    second: &mut B,
+    told: &Record,
+    given: &Slots,
+    latched: &PageSet,
+) -> (Result<Plan, Refusal>, Result<Plan, Refusal>)
+    requires chains { B.level first.old ≡ 1 }
+    requires again { B.level second.old ≡ 1 }
+    requires kept { B.kept first.old ≡ B.kept second.old }
+    requires given { AreOf (B.kept first.old).sizes given.now }
+    ensures planned { PlannedAlike (B.kept first.old).sizes result.0 result.1 }
+    ensures kept { IfOk result.0 (λ _. IfOk result.1 (λ _. B.kept first.new ≡ B.kept second.new)) }
+{
+    (
+        first.undo(alloc, told, given, latched),
+        second.undo(alloc, told, given, latched),
+    )
+}

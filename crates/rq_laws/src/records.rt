@@ -1,0 +1,71 @@
+//! Records of the log, and what they come to as a restart goes through them.
+ghost use Rattle.std.specs.Prelude.{◌≡◌, [], IfOk};
+
+use rq_disk::LogDevice;
+use rq_log::Log;
+use rq_lost::Dues;
+use rq_model::record::Record;
+use rq_model::refusal::{NoMemory, Refusal};
+use rq_model::txn::Lsn;
+use rq_record::{Step, decode};
+use rq_undone::History;
+
+/// The same bytes are read as the same record, or as a beginning of one, or as none. Excludes a reader that takes a
+/// longer Commit, and one that calls a beginning bad.
+pub fn decodes(input: &[u8], again: &[u8]) -> (Step, Step)
+    requires same { input.now ≡ again.now }
+    ensures { result.0 ≡ result.1 }
+{
+    (decode(input), decode(again))
+}
+
+/// Once two logs of the same records are handed over, their devices read as the same bytes. Excludes a hand-over that
+/// does nothing.
+pub fn hands_over<L: LogDevice>(
+    first: &mut Log<L>,
+    second: &mut Log<L>,
+) -> (Result<(), Refusal>, Result<(), Refusal>)
+    requires same { first.old.records ≡ second.old.records }
+    ensures { IfOk result.0 (λ _. IfOk result.1 (λ _. L.honest first.new.device → L.honest second.new.device
+        → L.seen first.new.device ≡ L.seen second.new.device)) }
+{
+    (first.hand_over(), second.hand_over())
+}
+
+/// After a record, the same is to be taken back. Excludes a Commit that leaves what it committed to be taken back, and
+/// an end of an inverse that leaves due what the inverse took back.
+pub fn dues(
+    first: &mut Dues,
+    second: &mut Dues,
+    lsn: Lsn,
+    told: &Record,
+) -> (Result<(), NoMemory>, Result<(), NoMemory>)
+    requires same { first.old ≡ second.old }
+    ensures { IfOk result.0 (λ _. IfOk result.1 (λ _. first.new ≡ second.new)) }
+{
+    (first.note(lsn, told), second.note(lsn, told))
+}
+
+/// After a record, the same operations have no end, with the same writes. Excludes operations that are finished and
+/// undone by what stood in their slots before.
+pub fn notes(
+    first: &mut History,
+    second: &mut History,
+    lsn: Lsn,
+    told: &Record,
+) -> (Result<bool, Refusal>, Result<bool, Refusal>)
+    requires same { first.old ≡ second.old }
+    ensures { IfOk result.0 (λ _. IfOk result.1 (λ _. first.new ≡ second.new)) }
+{
+    (first.note(lsn, told), second.note(lsn, told))
+}
+
+/// The record by which operations without an end are undone next is one. Excludes an operation that is voided with a
+/// write left.
+pub fn next_undo(first: &History, second: &History) -> (Option<Record>, Option<Record>)
+    requires same { first.now ≡ second.now }
+    requires own { first.now.unfinished ≡ [] → first.now.spots ≡ [] }
+    ensures { result.0 ≡ result.1 }
+{
+    (first.next_undo(), second.next_undo())
+}
