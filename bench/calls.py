@@ -8,17 +8,16 @@ Latched ones are not counted as calls. The audit is taken after every 64 rounds 
 ways run by turns, and what a way takes with no round is taken off. The aim is that the shared way takes at most 1.5
 times as long a call, in the middle of the runs: the best of them is one in which threads hardly met.
 
-Build the program before (`rt run -- 4 2` in crates/call_count).
-
-    python3 bench/calls.py [--program crates/call_count/out/call_count]
+    python3 bench/calls.py [--program PROGRAM]
 """
-import argparse
 import os
 import re
 import statistics
 import subprocess
 import sys
 import time
+
+from program import built, parser
 
 SENDERS = 4
 ROUNDS_A_BATCH = 64
@@ -32,7 +31,7 @@ AIM = 1.5
 def run(program, threads, batches):
     """Seconds of one run, in which every call has to be answered, and how many starts were Latched."""
     start = time.monotonic()
-    ended = subprocess.run([program, str(threads), str(batches)], capture_output=True, text=True)
+    ended = subprocess.run([program, "calls", str(threads), str(batches)], capture_output=True, text=True)
     seconds = time.monotonic() - start
     calls = CALLS * batches // BATCHES
     latched = re.fullmatch(r"(\d+) latched\n", ended.stderr)
@@ -55,10 +54,8 @@ def timed(program):
 
 
 def main():
-    parser = argparse.ArgumentParser(description=__doc__, formatter_class=argparse.RawDescriptionHelpFormatter)
-    parser.add_argument("--program", default="crates/call_count/out/call_count")
-    words = parser.parse_args()
-    each, latched = timed(words.program)
+    words = parser(__doc__).parse_args()
+    each, latched = timed(built(words.program))
     for threads, way in ((1, "kept, 1 thread"), (4, "shared, 4 threads")):
         times, starts = each[threads], latched[threads]
         print(

@@ -2,16 +2,17 @@
 """Times the decoding of a log of 64 MB of page records against `cat` of the same file into nothing.
 
 The program reads the log and decodes it a number of times over; what more rounds take is the decoding. Each time is the best of
-some runs. Build the program first (`rt run -- 1 < stdin` in crates/log_count).
+some runs.
 
-    python3 bench/decode.py [--program crates/log_count/out/log_count]
+    python3 bench/decode.py [--program PROGRAM]
 """
-import argparse
 import os
 import subprocess
 import sys
 import tempfile
 import time
+
+from program import built, parser
 
 LOG_BYTES = 64 << 20
 MORE_ROUNDS = 10
@@ -49,15 +50,13 @@ def best(command, path, wanted):
 
 
 def main():
-    parser = argparse.ArgumentParser(description=__doc__, formatter_class=argparse.RawDescriptionHelpFormatter)
-    parser.add_argument("--program", default="crates/log_count/out/log_count")
-    words = parser.parse_args()
+    program = built(parser(__doc__).parse_args().program)
     with tempfile.TemporaryDirectory() as folder:
         path = os.path.join(folder, "log")
         wanted = f"{write_log(path)} records\n"
         cat = best(["cat"], path, None)
-        one = best([words.program, "1"], path, wanted)
-        more = best([words.program, str(1 + MORE_ROUNDS)], path, wanted)
+        one = best([program, "decode", "1"], path, wanted)
+        more = best([program, "decode", str(1 + MORE_ROUNDS)], path, wanted)
     decode = (more - one) / MORE_ROUNDS
     print(f"cat {cat * 1e3:.1f} ms, decode {decode * 1e3:.1f} ms, {LOG_BYTES / decode / 1e9:.2f} GB/s")
     print(f"decoding runs at {cat / decode:.2f} of the speed of cat; the program with its reading takes {one * 1e3:.1f} ms")

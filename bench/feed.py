@@ -2,16 +2,17 @@
 """Times the reading of requests: 64 MB of sends, fed in pieces of 4 KB.
 
 The program reads the stream and feeds it a number of times over; what more rounds take is the feeding. Each time is the best of some
-runs. Build the program first (`rt run < stdin` in crates/frame_count).
+runs.
 
-    python3 bench/feed.py [--program crates/frame_count/out/frame_count] [--bodies 5 100 216 499]
+    python3 bench/feed.py [--program PROGRAM] [--bodies 5 100 216 499]
 """
-import argparse
 import os
 import subprocess
 import sys
 import tempfile
 import time
+
+from program import built, parser
 
 STREAM_BYTES = 64 << 20
 MORE_ROUNDS = 5
@@ -39,7 +40,7 @@ def best(program, rounds, path, wanted):
     for _ in range(RUNS):
         with open(path, "rb") as stdin:
             start = time.monotonic()
-            ended = subprocess.run([program, str(rounds)], stdin=stdin, stdout=subprocess.PIPE)
+            ended = subprocess.run([program, "feed", str(rounds)], stdin=stdin, stdout=subprocess.PIPE)
             seconds.append(time.monotonic() - start)
         if ended.returncode != 0 or ended.stdout.decode() != wanted:
             sys.exit(f"{program}: status {ended.returncode}, {ended.stdout}")
@@ -47,16 +48,16 @@ def best(program, rounds, path, wanted):
 
 
 def main():
-    parser = argparse.ArgumentParser(description=__doc__, formatter_class=argparse.RawDescriptionHelpFormatter)
-    parser.add_argument("--program", default="crates/frame_count/out/frame_count")
-    parser.add_argument("--bodies", type=int, nargs="+", default=[5, 100, 216, 499])
-    words = parser.parse_args()
+    chosen = parser(__doc__)
+    chosen.add_argument("--bodies", type=int, nargs="+", default=[5, 100, 216, 499])
+    words = chosen.parse_args()
+    program = built(words.program)
     with tempfile.TemporaryDirectory() as folder:
         path = os.path.join(folder, "stream")
         for body_bytes in words.bodies:
             wanted = write_stream(path, body_bytes)
-            one = best(words.program, 1, path, wanted)
-            more = best(words.program, 1 + MORE_ROUNDS, path, wanted)
+            one = best(program, 1, path, wanted)
+            more = best(program, 1 + MORE_ROUNDS, path, wanted)
             feed = (more - one) / MORE_ROUNDS
             print(f"bodies of {body_bytes} bytes: {feed * 1e3:.1f} ms, {STREAM_BYTES / feed / 1e6:.0f} MB/s")
 

@@ -2,18 +2,19 @@
 """Times 10,000 appends of 600 bytes to a log in a file, forced every 64, against a C program that makes the same calls.
 
 Both programs run by turns, each on a new file; each time is the best of some runs, and what a program takes with no appends is
-taken off. Build the first program before (`rt run -- FILE 100` in crates/file_count); the other is built here, by `cc -O2`.
+taken off. The C program is built here, by `cc -O2`.
 
-    python3 bench/files.py [--program crates/file_count/out/file_count] [--folder FOLDER]
+    python3 bench/files.py [--program PROGRAM] [--folder FOLDER]
 
 FOLDER is where the files are written: on another disk, or in memory, other figures come out.
 """
-import argparse
 import os
 import subprocess
 import sys
 import tempfile
 import time
+
+from program import built, parser
 
 APPENDS = 10_000
 RUNS = 24
@@ -53,27 +54,26 @@ def build(folder):
     return program
 
 
-def run(program, path, count):
+def run(command, path, count):
     """Seconds of one run, which has to make a file of as many bytes as were appended."""
     if os.path.exists(path):
         os.remove(path)
     start = time.monotonic()
-    ended = subprocess.run([program, path, str(count)], stdout=subprocess.PIPE)
+    ended = subprocess.run([*command, path, str(count)], stdout=subprocess.PIPE)
     seconds = time.monotonic() - start
     if ended.returncode != 0 or ended.stdout.decode() != f"{count} appends\n":
-        sys.exit(f"{program}: status {ended.returncode}, {ended.stdout}")
+        sys.exit(f"{command}: status {ended.returncode}, {ended.stdout}")
     if os.path.getsize(path) != 600 * count:
-        sys.exit(f"{program} left {os.path.getsize(path)} bytes")
+        sys.exit(f"{command} left {os.path.getsize(path)} bytes")
     return seconds
 
 
 def main():
-    parser = argparse.ArgumentParser(description=__doc__, formatter_class=argparse.RawDescriptionHelpFormatter)
-    parser.add_argument("--program", default="crates/file_count/out/file_count")
-    parser.add_argument("--folder")
-    words = parser.parse_args()
+    chosen = parser(__doc__)
+    chosen.add_argument("--folder")
+    words = chosen.parse_args()
     with tempfile.TemporaryDirectory(dir=words.folder) as folder:
-        programs = {"file_count": words.program, "plain C": build(folder)}
+        programs = {"a proved log": [built(words.program), "append"], "plain C": [build(folder)]}
         path = os.path.join(folder, "log")
         times = {name: {0: [], APPENDS: []} for name in programs}
         for turn in range(RUNS):
@@ -83,7 +83,7 @@ def main():
     best = {name: min(taken[APPENDS]) - min(taken[0]) for name, taken in times.items()}
     for name, seconds in best.items():
         print(f"{name}: {seconds * 1e3:.1f} ms, {seconds / APPENDS * 1e6:.2f} us an append")
-    print(f"{best['file_count'] / best['plain C']:.2f} times the time of plain C")
+    print(f"{best['a proved log'] / best['plain C']:.2f} times the time of plain C")
 
 
 if __name__ == "__main__":

@@ -9,16 +9,15 @@ turns. The aim is that the many take at most 1.3 times as long as the one, in th
 `--instructions` valgrind counts instructions instead, in one run of each: they are the same whatever else the machine
 does.
 
-Build the program before (`rt run` in crates/open_count).
-
-    python3 bench/open.py [--program crates/open_count/out/open_count] [--runs 9 | --instructions] [ROW..]
+    python3 bench/open.py [--program PROGRAM] [--runs 9 | --instructions] [ROW..]
 """
-import argparse
 import re
 import statistics
 import subprocess
 import sys
 import time
+
+from program import built, parser
 
 MOST_OPEN = 4095
 AIM = 1.3
@@ -65,7 +64,7 @@ def run(program, case, transactions):
     """Seconds of one run."""
     words = [str(word) for word in (*case, transactions)]
     start = time.monotonic()
-    ended = subprocess.run([program, *words], capture_output=True, text=True)
+    ended = subprocess.run([program, "beside", *words], capture_output=True, text=True)
     seconds = time.monotonic() - start
     if ended.returncode != 0 or ended.stdout != f"{transactions} transactions\n":
         sys.exit(f"{program} {words}: status {ended.returncode}, {ended.stdout!r}, {ended.stderr!r}")
@@ -87,7 +86,7 @@ def count(program, case, transactions):
     """Instructions of one run."""
     words = [str(word) for word in (*case, transactions)]
     tool = ["valgrind", "--tool=callgrind", "--callgrind-out-file=/dev/null"]
-    ended = subprocess.run([*tool, program, *words], capture_output=True, text=True)
+    ended = subprocess.run([*tool, program, "beside", *words], capture_output=True, text=True)
     told = re.search(r"Collected : (\d+)", ended.stderr)
     if ended.returncode != 0 or ended.stdout != f"{transactions} transactions\n" or not told:
         sys.exit(f"{program} {words}: status {ended.returncode}, {ended.stdout!r}, {ended.stderr!r}")
@@ -104,20 +103,20 @@ def timed(program, row, runs):
 
 
 def main():
-    parser = argparse.ArgumentParser(description=__doc__, formatter_class=argparse.RawDescriptionHelpFormatter)
-    parser.add_argument("--program", default="crates/open_count/out/open_count")
-    parser.add_argument("--runs", type=int, default=9)
-    parser.add_argument("--instructions", action="store_true")
-    parser.add_argument("row", nargs="*", help="words of the rows to be timed; all where there are none")
-    words = parser.parse_args()
+    chosen = parser(__doc__)
+    chosen.add_argument("--runs", type=int, default=9)
+    chosen.add_argument("--instructions", action="store_true")
+    chosen.add_argument("row", nargs="*", help="words of the rows to be timed; all where there are none")
+    words = chosen.parse_args()
+    program = built(words.program)
     for row in rows():
         if words.row and not all(word in row.name.split() for word in words.row):
             continue
         if words.instructions:
-            base, other = (counted(words.program, case) for case in row.cases)
+            base, other = (counted(program, case) for case in row.cases)
             print(f"{row.name}: {base:.0f} and {other:.0f} instructions, {other / base:.2f} times as many", flush=True)
             continue
-        base, other = timed(words.program, row, words.runs)
+        base, other = timed(program, row, words.runs)
         middle, best = (f(other) / f(base) for f in (statistics.median, min))
         print(
             f"{row.name}: {statistics.median(base):.2f} and {statistics.median(other):.2f} us in the middle of "

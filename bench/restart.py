@@ -7,11 +7,8 @@ the files in memory; each opening is of a copy, since it adds a record. What a p
 pages is taken off the first, and what `cat` takes of that store's files off the second. The aim is that an opening takes
 at most three times as long as `cat`, in the middle of the runs.
 
-Build the program before (`rt run -- make FOLDER 1 1 1` in crates/restart_count).
-
-    python3 bench/restart.py [--program crates/restart_count/out/restart_count] [--folder FOLDER] [--runs 11]
+    python3 bench/restart.py [--program PROGRAM] [--folder FOLDER] [--runs 11]
 """
-import argparse
 import os
 import shutil
 import statistics
@@ -19,6 +16,8 @@ import subprocess
 import sys
 import tempfile
 import time
+
+from program import built, parser
 
 AIM = 3.0
 # The words of each store: directory pages, cell pages, messages.
@@ -56,22 +55,22 @@ def opening(program, folder, copy):
 
 
 def main():
-    parser = argparse.ArgumentParser(description=__doc__, formatter_class=argparse.RawDescriptionHelpFormatter)
-    parser.add_argument("--program", default="crates/restart_count/out/restart_count")
-    parser.add_argument("--folder")
-    parser.add_argument("--runs", type=int, default=11)
-    words = parser.parse_args()
+    chosen = parser(__doc__)
+    chosen.add_argument("--folder")
+    chosen.add_argument("--runs", type=int, default=11)
+    words = chosen.parse_args()
+    program = built(words.program)
     with tempfile.TemporaryDirectory(dir=words.folder) as top:
         folders = {}
         for place, (name, store) in enumerate(STORES.items()):
             folders[name] = os.path.join(top, str(place))
             os.mkdir(folders[name])
-            seconds_of([words.program, "make", folders[name], *map(str, store)], f"{store[2]} messages")
+            seconds_of([program, "make", folders[name], *map(str, store)], f"{store[2]} messages")
         opened = {name: [] for name in STORES}
         read = {name: [] for name in STORES}
         for _ in range(words.runs):
             for name, folder in folders.items():
-                opened[name].append(opening(words.program, folder, folder + ".copy"))
+                opened[name].append(opening(program, folder, folder + ".copy"))
                 read[name].append(seconds_of(["cat", *files_in(folder)]))
         for name, folder in folders.items():
             if name == SMALL:

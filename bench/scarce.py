@@ -1,10 +1,10 @@
 #!/usr/bin/env python3
-"""Runs the scripts of crates/scarce with one allocation failing, each in turn: what they print has to be the same.
+"""Runs the two scripts of `bench allocations` with one allocation failing, each in turn: what they print has to be the same.
 
-Build the program before (`rt run` in crates/scarce). A library that the loader puts in front of the C library's has the
+A library that the loader puts in front of the C library's has the
 allocation fail; it is built with `cc`.
 
-    python3 bench/scarce.py [PROGRAM]
+    python3 bench/scarce.py [--program PROGRAM]
 """
 import os
 import pathlib
@@ -12,7 +12,7 @@ import subprocess
 import sys
 import tempfile
 
-CRATE = pathlib.Path("crates/scarce")
+from program import CRATE, built, parser
 
 SHIM = """#define _GNU_SOURCE
 #include <dlfcn.h>
@@ -53,13 +53,13 @@ __attribute__((destructor)) static void tell(void) {
 def run(program, library, number):
     """Whether it prints what it should where this allocation fails (none of 0), and how many it made."""
     words = dict(os.environ, LD_PRELOAD=library, FAIL_AT=str(number))
-    ended = subprocess.run([program], env=words, capture_output=True)
+    ended = subprocess.run([program, "allocations"], env=words, capture_output=True)
     same = ended.returncode == 0 and ended.stdout == (CRATE / "stdout").read_bytes()
     return same, int(ended.stderr.split()[-1])
 
 
 def main():
-    program = sys.argv[1] if len(sys.argv) > 1 else str(CRATE / "out" / "scarce")
+    program = built(parser(__doc__).parse_args().program)
     with tempfile.TemporaryDirectory() as folder:
         source = pathlib.Path(folder) / "shim.c"
         source.write_text(SHIM)

@@ -7,11 +7,6 @@ use Rattle.byteorder.specs.Numbers.{big_from-take}
 use Rattle.rq_bytes.specs.Number.{overlaid, number_at, bytes_at}
 use Rattle.rq_bytes.proofs.Placed.{drop-front}
 
-pub length-overlaid : (at : ℕ) (written bytes : List ℕ) → at + length written ≤ length bytes
-    → length (overlaid at written bytes) ≡ length bytes
-length-overlaid at written bytes le =
-    omega (arith, length-append (take at bytes) (written ++ drop (at + length written) bytes), length-append written (drop (at + length written) bytes), length-drop (at + length written) bytes, length-take at bytes)
-
 -- what was written stands there
 pub bytes_at-overlaid : (at : ℕ) (written bytes : List ℕ) → at + length written ≤ length bytes
     → bytes_at (length written) at (overlaid at written bytes) ≡ written
@@ -54,10 +49,3 @@ bytes_at-overlaid_before at written bytes place width le before =
     ∙ take-append-le width (drop place (take at bytes)) rest enough
     ∙ ap (take width) front
     ∙ take-take width (at - place) (drop place bytes) (omega arith)
-
--- a number is read from its own bytes alone
-pub number_at-bytes_at : (width at : ℕ) (bytes : List ℕ) → big_number width (bytes_at width at bytes) ≡ number_at width at bytes
-number_at-bytes_at width at bytes = big_from-take 0 width width (drop at bytes) (omega arith)
-
-pub number_at_same : (width at : ℕ) (xs ys : List ℕ) → bytes_at width at xs ≡ bytes_at width at ys → number_at width at xs ≡ number_at width at ys
-number_at_same width at xs ys same = sym (number_at-bytes_at width at xs) ∙ ap (big_number width) same ∙ number_at-bytes_at width at ys

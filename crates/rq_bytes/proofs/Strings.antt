@@ -21,13 +21,6 @@ AreBytes-drop n bytes h i = rw get_or-drop (h (n + i))
 pub AreBytes-right : (xs ys : List ℕ) → AreBytes (xs ++ ys) → AreBytes ys
 AreBytes-right xs ys h i = rw (get_or-append-add xs ys i 0) at (h (length xs + i))
 
-pub AreBytes-left : (xs ys : List ℕ) → AreBytes (xs ++ ys) → AreBytes xs
-AreBytes-left xs ys h i =
-    elim (cases_lt i (length xs)) [
-      | inl lt ↦ rw (get_or_append_left xs ys 0 i lt) at (h i)
-      | inr le ↦ rw (get_or_past xs i 0 le) (omega arith)
-    ]
-
 pub AreBytes-tail : (x : ℕ) (xs : List ℕ) → AreBytes (x ∷ xs) → AreBytes xs
 AreBytes-tail x xs h i = h (suc i)
 

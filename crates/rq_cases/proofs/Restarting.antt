@@ -222,9 +222,6 @@ repeats_5 = (repeated_pages, repeats_4, commit_repeated)
 pub gone : IsGoneThrough sizes log_5 read_pages repeated_pages
 gone = record { repeated = repeats_5; counted_read = counted_read 5; counted = counted_last 5 (omega arith) }
 
-pub gone_4 : IsGoneThrough sizes log_4 read_pages repeated_pages
-gone_4 = record { repeated = repeats_4; counted_read = counted_read 4; counted = counted_last 4 (omega arith) }
-
 -- the write of the cell was made, whatever the pages were between
 pub made_there : (first last : Paged) → lsn_of (first.image 2) ≡ 0 → lsn_of (last.image 2) ≡ 0 → Repeats sizes log_5 first last → ⊥
 made_there first last none still five =

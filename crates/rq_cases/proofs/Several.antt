@@ -69,9 +69,6 @@ taken_too = record { counts = counts; tags = tags } where
   tags zero m = refl
   tags (suc g) m = (let e : nat_eq 0 (suc g) ≡ false = grind (arith, nat_tests) in rw e (waits-replicate 14 g))
 
-pub first_sound : IsSound (opened sizes formatted_pages [])
-first_sound = instance_sound (opened sizes formatted_pages []) one.first_sound (formatted.sends sizes formatted_pages range are_formatted)
-
 pub fresh_sound : IsSound fresh
 fresh_sound = instance_sound fresh one.fresh_sound nothing_sent
 

@@ -66,32 +66,6 @@ directory_place z s below =
     let place = senders_have_slots z s below in
     record { page_low = place.0; page_high = omega (arith, place.1); slot = place.2 }
 
--- a group with one message more may stand in its slot
-link_after : (z : Sizes) (b : Bool) (x y : ℕ) → IsLink z x → IsLink z y → IsLink z (if b then x else y)
-link_after z true x y one other = one
-link_after z false x y one other = other
-
-high_after : (b : Bool) (x y n : ℕ) → x < n → y < n → (if b then x else y) < n
-high_after true x y n one other = one
-high_after false x y n one other = other
-
-pub appended_fits : (z : Sizes) (s : ℕ) (d : Directory) (cell tag : ℕ) → IsDirectoryOf z s (record { sender = s; directory = d })
-    → IsCellAddress z cell → cell < 2 ^ 64 → tag < 2 ^ 64 → d.sent < 2 ^ 64 - 1
-    → IsDirectoryOf z s (record { sender = s; directory = directory_appended d cell tag })
-appended_fits z s d cell tag is address high low_tag room = record {
-  numbers = record {
-    sender = is.numbers.sender;
-    sent = omega arith;
-    received = omega (arith, is.numbers.received);
-    last_tag = low_tag;
-    head = high_after (d.tail == 0) cell d.head (2 ^ 64) high is.numbers.head;
-    tail = high;
-  };
-  own = refl;
-  head = link_after z (d.tail == 0) cell d.head (inr address) is.head;
-  tail = inr address;
-}
-
 -- what is known of bytes that spell a group's directory
 pub record Told (z : Sizes) (a : ℕ) (s : ℕ) (d : Directory) (bytes : List ℕ) : Type 0 where
   pub place : IsStoreSlot z a

@@ -9,9 +9,6 @@ pub record Flags : Type 0 where
   pub free : List Bool
   pub reserved : List Bool
 
-abbrev pub flags_of : Kept → Flags
-flags_of k = record { free = k.free; reserved = k.reserved }
-
 -- the cell is free, and no plan has chosen it
 abbrev pub is_open : Flags → ℕ → Bool
 is_open f i = flag_at f.free i && not (flag_at f.reserved i)
@@ -32,10 +29,6 @@ pub record IsIndexed (f : Flags) (pages : List Bool) : Type 0 where
   pub reserved : length f.reserved ≡ 983040
   pub page_count : length pages ≡ 65536
   pub paged : (i : ℕ) → is_open f i ≡ true → flag_at pages (i / 15) ≡ true
-
--- the page of a cell is not latched
-abbrev pub is_unlatched : Sizes → List ℕ → ℕ → Bool
-is_unlatched z latched i = not (has_page (cell_at z i / 16) latched)
 
 -- the cell may be taken, and its page is not latched
 abbrev pub takes : Sizes → Flags → List ℕ → ℕ → Bool

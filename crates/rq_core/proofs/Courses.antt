@@ -19,9 +19,6 @@ use Rattle.rq_core.specs.Happenings.Answer.{Answered}
 use Rattle.rq_core.specs.Views.{answer_in, commit_in, commit_told, course, happens}
 use Rattle.rq_core.specs.Happenings.{Happening, Answer, Course, acknowledging, answers_of, course_of, nth, paired}
 
-snds : Course → List Answer
-snds course = map (λ (a : Happening × Answer). a.1) course
-
 paired_answers : (course : Course) (xs : List Happening) (bs : List Answer) → length xs ≡ length bs → answers_of (paired course xs bs) ≡ answers_of course ++ bs
 paired_answers course [] [] e = sym (append-nil (answers_of course))
 paired_answers course (x ∷ xs) (b ∷ bs) e =
@@ -64,11 +61,6 @@ in_entry _ = refl
 pub nth_told : (es : List Entry) (n i : ℕ) (d : Entry) → n ≡ suc i → i < length es → acknowledging (nth n (map answer_in es)) ≡ option_map ack (commit_told (get_or es i d))
 nth_told es n i d is within =
     ap (λ k. acknowledging (nth k (map answer_in es))) is ∙ ap acknowledging (slice_get-map answer_in es i ∙ ap (option_map answer_in) (slice_get-get_or es i d within)) ∙ in_entry (get_or es i d)
-
--- there is none beyond the last
-pub none_past : (es : List Entry) (n : ℕ) → length es < n → acknowledging (nth n (map answer_in es)) ≡ None
-none_past es zero past = absurd (omega (arith, past))
-none_past es (suc i) past = ap acknowledging (slice_get-map answer_in es i ∙ ap (option_map answer_in) (slice_get_past es i (omega (arith, past))))
 
 -- a loop over happenings: one more is taken, and its entry is pushed
 pub pushed : (xs : List Happens) (es new : List Entry) (i : ℕ) (d : Happens) (e : Entry) → i < length xs → length es ≡ i → new ≡ es ++ e ∷ [] → course (take (i + 1) xs) new ≡ (happens (get_or xs i d), answer_in e) ∷ course (take i xs) es

@@ -4,7 +4,7 @@ use Rattle.std.proofs.lemmas.List.{take_all, drop_all, drop-drop, drop-append-le
 use Rattle.std.proofs.Math.Seq.{take-add}
 use Rattle.byteorder.specs.Endian.{big_bytes}
 use Rattle.byteorder.specs.Numbers.{big_from-append, big_from-take, big_number-reads_back, length-bytes_high_first}
-use Rattle.rq_disk.specs.Records.{record_size, HasRecord, AreRecords, HasRecords, first_records}
+use Rattle.rq_disk.specs.Records.{record_size, HasRecord, AreRecords, first_records}
 
 -- a length field is the same whatever comes behind it
 pub size-append : (a b : List ℕ) → 4 ≤ length a → record_size (a ++ b) ≡ record_size a
@@ -12,10 +12,6 @@ size-append a b le = ap (λ n. 4 + n) (big_from-append 4 a b le)
 
 pub size-take : (m : ℕ) (a : List ℕ) → 4 ≤ m → record_size (take m a) ≡ record_size a
 size-take m a le = ap (λ n. 4 + n) (big_from-take 0 4 m a (omega (arith, le)))
-
--- no bytes are no record
-pub no_record : HasRecord [] → ⊥
-no_record has = omega (arith, has.0)
 
 -- one record in front
 pub one_more : (j : ℕ) (a more : List ℕ) → HasRecord a → AreRecords j more → AreRecords (suc j) (take (record_size a) a ++ more)
@@ -39,35 +35,11 @@ records-append (suc m) n a b is are =
     let joined : take s a ++ (drop s a ++ b) ≡ a ++ b = sym (append_assoc (take s a) (drop s a) b) ∙ ap (λ l. l ++ b) (take-append-drop s a) in
     subst (λ (k : ℕ). AreRecords k (a ++ b)) same (subst (AreRecords (suc (m + n))) joined (one_more (m + n) a (drop s a ++ b) is.0 tail))
 
--- a record that is spelled by its length and its payload
-pub one_record : (payload : List ℕ) → length payload < 256 ^ 4 → AreRecords 1 (big_bytes 4 (length payload) ++ payload)
-one_record payload fits =
-    let n = length payload in
-    let size : record_size (big_bytes 4 n ++ payload) ≡ 4 + n = ap (λ k. 4 + k) (big_number-reads_back 4 n payload fits) in
-    let total : length (big_bytes 4 n ++ payload) ≡ 4 + n = length-append (big_bytes 4 n) payload ∙ ap (λ k. k + n) (length-bytes_high_first 4 n) in (
-      (omega (arith, total), omega (arith, total, size)),
-      drop_all (record_size (big_bytes 4 n ++ payload)) (big_bytes 4 n ++ payload) (omega (arith, total, size)),
-    )
-
 pub front_nil : (k : ℕ) → first_records k [] ≡ []
 front_nil zero = refl
 front_nil (suc k) =
     let s = record_size [] in
     ap (λ (l : List ℕ). l ++ first_records k (drop s [])) (take_all s [] (omega arith)) ∙ ap (first_records k) (drop_all s [] (omega arith)) ∙ front_nil k
-
--- the front of whole records is whole records
-pub front_records : (n k : ℕ) (b : List ℕ) → AreRecords n b → (j : ℕ) × AreRecords j (first_records k b)
-front_records n zero b are = (0, refl)
-front_records zero (suc k) b are = (0, ap (first_records (suc k)) are ∙ front_nil (suc k))
-front_records (suc n) (suc k) b are =
-    let more = front_records n k (drop (record_size b) b) are.1 in
-    (suc more.0, one_more more.0 b (first_records k (drop (record_size b) b)) are.0 more.1)
-
--- records that are there stay there as others come behind them
-pub has-append : (m n k : ℕ) (a b : List ℕ) → AreRecords m a → AreRecords n b → HasRecords m (a ++ first_records k b)
-has-append m n k a b is are =
-    let f = front_records n k b are in
-    (m + f.0, omega arith, records-append m f.0 a (first_records k b) is f.1)
 
 -- the front of two runs of records is one of the first, or all of that and a front of the second
 pub front-append : (m k : ℕ) (a b : List ℕ) → AreRecords m a → (first_records k (a ++ b) ≡ first_records k a) ⊎ ((j : ℕ) × (first_records k (a ++ b) ≡ a ++ first_records j b))

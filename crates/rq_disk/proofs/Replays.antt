@@ -18,9 +18,6 @@ writes_push [] page kept all = tt
 writes_push (Write q image ∷ calls) page kept all = writes_push calls page kept all
 writes_push (Sync ∷ calls) page kept all = absurd all
 
-pub fresh_none : StartsFresh []
-fresh_none s none = none
-
 pub fresh_sync : (calls : List PageCall) → StartsFresh (calls ++ Sync ∷ [])
 fresh_sync calls s none = ap (λ (t : PageState). t.since) (page_push s calls Sync)
 
@@ -66,9 +63,6 @@ replayed_step images next calls i d page kept lt is put =
 pub replayed_sync : (images next : List (List ℕ)) (calls : List PageCall) (i : ℕ) (d : PageCall) → i < length calls → get_or calls i d ≡ Sync → next ≡ images → replayed next (drop (i + 1) calls) ≡ replayed images (drop i calls)
 replayed_sync images next calls i d lt is same =
     ap (λ (l : List (List ℕ)). replayed l (drop (i + 1) calls)) same ∙ sym (ap (replayed images) (drop_more calls i d lt ∙ ap (λ (c : PageCall). c ∷ drop (i + 1) calls) is))
-
-pub replayed_end : (images : List (List ℕ)) (calls : List PageCall) (i : ℕ) → length calls ≤ i → replayed images (drop i calls) ≡ images
-replayed_end images calls i le = ap (replayed images) (drop_all i calls le)
 
 -- calls in two parts
 pub calls-append : (s : PageState) (a b : List PageCall) → after_page_calls s (a ++ b) ≡ after_page_calls (after_page_calls s a) b
@@ -119,10 +113,6 @@ reaches-after (Some place) count = grind (arith, nat_tests)
 pub place_after-one : (place : Option ℕ) (count : ℕ) → place_after (place_after place count) 1 ≡ place_after place (count + 1)
 place_after-one None count = refl
 place_after-one (Some place) count = ap Some (omega arith)
-
-pub place_after-none : (place : Option ℕ) → place_after place 0 ≡ place
-place_after-none None = refl
-place_after-none (Some place) = ap Some (omega arith)
 
 -- one write more, which reaches its place or not
 pub image_step : (ws : List (ℕ × List ℕ)) (page : ℕ) (image : List ℕ) (p : ℕ) (was now base : List ℕ) (place : Option ℕ) (taken : Bool) → was ≡ image_after ws base p place → (p ≡ page → taken ≡ reaches place (times_written p ws))

@@ -24,10 +24,6 @@ abbrev pub first_records : ℕ → List ℕ → List ℕ
 first_records zero bytes = []
 first_records (suc n) bytes = take (record_size bytes) bytes ++ first_records n (drop (record_size bytes) bytes)
 
--- whole records, at least n of them
-abbrev pub HasRecords : ℕ → List ℕ → Type 0
-HasRecords n bytes = (m : ℕ) × (n ≤ m) × AreRecords m bytes
-
 -- bytes begin with n whole records, and no whole record comes behind them
 pub record HoldsRecords (bytes : List ℕ) (n : ℕ) : Type 0 where
   pub end : ℕ

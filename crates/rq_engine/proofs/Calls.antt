@@ -63,9 +63,6 @@ use Rattle.rq_engine.proofs.Refusals.{refuse, refuse_failed, found_of, found_som
 pub from_inside : {a b new : State} {c : Call} {gave : Gave} → a ≡ b → (IsSound a → Steps a c gave new) → IsSound b → Steps b c gave new
 from_inside {a} {b} {new} {c} {gave} e h k = subst (λ (s : State). Steps s c gave new) e (h (subst IsSound (sym e) k))
 
-pub refused_inside : {a b : State} {c : Call} {r : Refusal} → a ≡ b → Refuses a c r → Refuses b c r
-refused_inside {a} {b} {c} {r} e h = subst (λ (s : State). Refuses s c r) e h
-
 -- the row and the operation that are going
 pub record Going (s : State) (sub : Sub) (P : Row → Under → Type 0) : Type 0 where
   pub row : Row
@@ -84,12 +81,6 @@ going_of s sub P h =
     let f = found_of (λ r. OnUnder sub.number P r r.under) (found_row sub.txn s.rows) h in
     let u = on_under sub.number P f.0 f.0.under f.2 in
     record { row = f.0; under = u.0; found = f.1; is = u.1; number = u.2; so = u.3 }
-
-pub is_going : (s : State) (sub : Sub) (P : Row → Under → Type 0) → Going s sub P → IsUnderWay s sub P
-is_going s sub P g = subst (λ (x : Option Row). OnFound x (λ r. OnUnder sub.number P r r.under)) (sym g.found) (subst (OnUnder sub.number P g.row) (sym g.is) (g.number, g.so))
-
-pub going_more : (s : State) (sub : Sub) (P Q : Row → Under → Type 0) → ((r : Row) (u : Under) → P r u → Q r u) → IsUnderWay s sub P → IsUnderWay s sub Q
-going_more s sub P Q f h = let g = going_of s sub P h in is_going s sub Q (record { row = g.row; under = g.under; found = g.found; is = g.is; number = g.number; so = f g.row g.under g.so })
 
 -- one row's part of a sum
 sum_at : (f : Row → ℕ) (t : Txn) (rows : List Row) (r : Row) → found_row t rows ≡ Some r → f r ≤ sum_by f rows
@@ -331,20 +322,6 @@ commit_kept s f o res n t x ends cells k h room =
     let r = found_of (λ r. (r.under ≡ None) × (n ≡ r.number + 1)) (found_row t s.rows) h in
     subst (λ (q : Option Row). IsKept (record s { rows = without_row t s.rows; ends = ends; records = x ∷ s.records; cells_in_use = cells; waiting = with_sends (finished_of q) s.waiting; sent = with_tags (finished_of q) s.sent }) f o res) (sym r.1)
     (kept_committed s f o res k t r.0 r.1 x ends cells r.2.0 (not_full s 1 room))
-
--- there is room for what it sent
-pub commit_room : (s : State) (f : Bool) (o res : ℕ) (t : Txn) → IsKept s f o res → (g : ℕ) → waits s.waiting g + length (finished_of (found_row t s.rows)) < 2 ^ 64
-commit_room s f o res t k g = at (found_row t s.rows) refl where
-  at : (q : Option Row) → found_row t s.rows ≡ q → waits s.waiting g + length (finished_of q) < 2 ^ 64
-  at None e = let a = k.few g in let b = k.count in omega (arith, a, b)
-  at (Some r) e = let a = k.few g in let b = k.count in let c = sum_at done_one t s.rows r e in omega (arith, a, b, c)
-
--- and it can be counted
-pub commit_counts : (s : State) (f : Bool) (o res : ℕ) (t : Txn) → IsKept s f o res → (g : ℕ) → sent_count s.sent g + length (finished_of (found_row t s.rows)) < 2 ^ 64
-commit_counts s f o res t k g = at (found_row t s.rows) refl where
-  at : (q : Option Row) → found_row t s.rows ≡ q → sent_count s.sent g + length (finished_of q) < 2 ^ 64
-  at None e = let a = k.sent.few g in let b = k.count in omega (arith, a, b)
-  at (Some r) e = let a = k.sent.few g in let b = k.count in let c = sum_at done_one t s.rows r e in omega (arith, a, b, c)
 
 pub commit_done : (s : State) (f : Bool) (o res n lsn cells : ℕ) (t : Txn) → IsKept s f o res → s.failed ≡ false → NoneHolds (ready_tests (ledger_of s) t false) → HasNothingUnderWay s t n → log_full (ledger_of s) 1 ≡ false → lsn ≡ length s.records + 1 → cells ≡ s.cells_in_use - sum_by takes_one (finished_of (found_row t s.rows)) → IsSound s
     → Steps s (Commit t) (Gave_commit (record { txn = t; lsn = lsn })) (record s { rows = without_row t s.rows; ends = record { sending = released t s.ends.sending; receiving = released t s.ends.receiving }; records = records.Commit t ∷ s.records; cells_in_use = cells; waiting = with_sends (finished_of (found_row t s.rows)) s.waiting; sent = with_tags (finished_of (found_row t s.rows)) s.sent })

@@ -42,15 +42,6 @@ use Rattle.rq_engine.specs.Sends.{SendIsLatched, take_latched}
 
 -- ---- a link's page
 
-pub none_named : (rows : List Row) (a : ℕ) → a ≡ 0 → any_latched rows (named a) ≡ false
-none_named rows a e = ap (λ n. any_latched rows (named n)) e
-
-pub some_named : (rows : List Row) (a : ℕ) → nat_eq a 0 ≡ false → any_latched rows (named a) ≡ latched_in rows (a / 16)
-some_named rows a e = rw e (or_none (latched_in rows (a / 16))) where
-  or_none : (b : Bool) → (b || false) ≡ b
-  or_none true = refl
-  or_none false = refl
-
 -- some page is latched, so some operation is under way
 pub latched_busy : (rows : List Row) (p : ℕ) → latched_in rows p ≡ true → any_under rows ≡ true
 latched_busy rows p h = elim (cases_Bool (any_under rows)) [
@@ -66,15 +57,6 @@ any_busy rows (a ∷ xs) h = elim (cases_Bool (latched_in rows (a / 16))) [
 ]
 
 -- ---- calls
-
--- no other refusal speaks of latches
-pub other_latched : (P : Type 0) (r : Refusal) → OnLatched ⊥ r → OnLatched P r
-other_latched P why.Latched h = absurd h
-other_latched P r h = tt
-
-pub plain_latched : (P : Type 0) (r : Refusal) → IsTrue (without_pages r) → OnLatched P r
-plain_latched P why.Latched h = absurd (false≢true h)
-plain_latched P r h = tt
 
 pub memory_latched : (P : Type 0) (r : Refusal) → r ≡ why.NoMemory → OnLatched P r
 memory_latched P r e = subst (OnLatched P) (sym e) tt
@@ -238,14 +220,3 @@ one_write z us w is =
     let b = length-reverse (writes_of z us) in
     let c : length (writes_of z us) ≡ length us = length-map us (write_of z) in
     omega (arith, a, b, c)
-
--- what the starts say is what their replies say
-pub undo_reply_latched : (s : State) (c : Call) (x : Result (Option Sub) Refusal) → TakesUnlatched s c x → LatchedReply s c (undo_reply x)
-undo_reply_latched s c (Ok None) h = tt
-undo_reply_latched s c (Ok (Some sub)) h = h
-undo_reply_latched s c (Err r) h = h
-
-pub begun_latched : (s : State) (c : Call) (x : Result (Option Sub) Refusal) → TakesUnlatched s c x → LatchedReply s c (begun_reply x)
-begun_latched s c (Ok None) h = tt
-begun_latched s c (Ok (Some sub)) h = h
-begun_latched s c (Err r) h = h

@@ -17,11 +17,3 @@ some_told P o x e h = subst (λ (y : Option _). IfSome y P) e h
 
 pub none_told : {X : Type 0} (P : Type 0) (o : Option X) → o ≡ None → IfNone o P → P
 none_told P o e h = subst (λ (y : Option _). IfNone y P) e h
-
-pub unfound_told : {X : Type 0} (P : Type 0) (o : Option X) → is_some o ≡ false → IfNone o P → P
-unfound_told P None e h = h
-unfound_told P (Some x) e h = absurd (let bad : true ≡ false = e in true≢false bad)
-
-pub found_told : {X : Type 0} (P : X → Type 0) (o : Option X) → is_some o ≡ true → IfSome o P → (x : X) × P x
-found_told P None e h = absurd (let bad : false ≡ true = e in false≢true bad)
-found_told P (Some x) e h = (x, h)

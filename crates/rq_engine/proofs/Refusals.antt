@@ -91,29 +91,6 @@ same_after l c why.NotForced p = refl
 same_after l c why.LogFull p = refl
 same_after l c why.UnknownOperation p = refl
 
--- a refusal that some test decides has no other cause
-plain_cause : (b : Bool) (c : Call) (r : Refusal) → IsTrue (without_pages r) → takes_memory c ≡ true → HasCause b c r
-plain_cause b c why.NoMemory p takes = takes
-plain_cause b c why.Failed p takes = tt
-plain_cause b c why.DiskRead p takes = absurd (false≢true p)
-plain_cause b c why.UnknownTransaction p takes = tt
-plain_cause b c why.NotOpen p takes = tt
-plain_cause b c why.Unfinished p takes = tt
-plain_cause b c why.UnknownSender p takes = tt
-plain_cause b c why.TooLong p takes = tt
-plain_cause b c why.SenderBusy p takes = tt
-plain_cause b c why.Closed p takes = tt
-plain_cause b c why.ReceiverBusy p takes = tt
-plain_cause b c why.Full p takes = tt
-plain_cause b c why.Latched p takes = absurd (false≢true p)
-plain_cause b c why.PoolFull p takes = absurd (false≢true p)
-plain_cause b c why.DiskWrite p takes = absurd (false≢true p)
-plain_cause b c (why.Damaged x) p takes = absurd (false≢true p)
-plain_cause b c why.TooManyTransactions p takes = tt
-plain_cause b c why.NotForced p takes = absurd (false≢true p)
-plain_cause b c why.LogFull p takes = tt
-plain_cause b c why.UnknownOperation p takes = tt
-
 -- the first test that holds is the refusal
 pub refuse : (s : State) (c : Call) (r : Refusal) → IsTrue (without_pages r) → HasCause (any_under s.rows) c r → first_of (tests (size_of s.sizes) (ledger_of s) c) ≡ Some r → Refuses s c r
 refuse s c r p cause e k = (refused_steps s k c r (legal_first (size_of s.sizes) (ledger_of s) c r p e) (same_after (ledger_of s) c r p), cause)
@@ -122,17 +99,9 @@ refuse s c r p cause e k = (refused_steps s k c r (legal_first (size_of s.sizes)
 pub no_memory : (s : State) (c : Call) → takes_memory c ≡ true → s.failed ≡ false → Refuses s c why.NoMemory
 no_memory s c takes running k = (refused_steps s k c why.NoMemory (ap (λ b. runs (phase_of b)) running) refl, takes)
 
-first_front : (xs ys : List (Bool × Refusal)) (r : Refusal) → first_of xs ≡ Some r → first_of (xs ++ ys) ≡ Some r
-first_front [] ys r e = cc
-first_front (x ∷ xs) ys r e = elim (cases_Bool x.0) [ inl y ↦ rw y (rw y at e) | inr n ↦ rw n (first_front xs ys r (rw n at e)) ]
-
 -- a store that has failed refuses every call
 pub refuse_failed : (s : State) (c : Call) → s.failed ≡ true → Refuses s c why.Failed
 refuse_failed s c e = refuse s c why.Failed refl tt (failed_first (size_of s.sizes) (ledger_of s) c (ap (λ b. runs (phase_of b)) e))
-
--- a transaction that is not ready is refused so by a commit and by a send
-pub refuse_commit : (s : State) (t : Txn) (r : Refusal) → IsUnready (ledger_of s) t false r → Refuses s (Commit t) r
-refuse_commit s t r u = refuse s (Commit t) r u.plain (plain_cause (any_under s.rows) (Commit t) r u.plain refl) (first_front (ready_tests (ledger_of s) t false) ((log_full (ledger_of s) 1, why.LogFull) ∷ []) r u.first)
 
 -- what the tests of a transaction find
 pub found_none : (s : State) (t : Txn) → found_row t s.rows ≡ None → found t (ledger_of s).open_ones ≡ None
@@ -179,9 +148,6 @@ not_full s more e = ltb-false (2 ^ 50) (length s.records + owed_by s.rows + more
 
 pub refuse_full : (s : State) (t : Txn) → NoneHolds (ready_tests (ledger_of s) t false) → log_full (ledger_of s) 1 ≡ true → Refuses s (Commit t) why.LogFull
 refuse_full s t h e = refuse s (Commit t) why.LogFull refl tt (rw (h.0, h.1.0, h.1.1.0, h.1.1.1.0, e) refl)
-
-pub refuse_begins : (s : State) → s.failed ≡ false → (not (nat_lt (length (ledger_of s).open_ones) 4096) || nat_eq s.begins (2 ^ 64 - 1)) ≡ true → Refuses s Begin why.TooManyTransactions
-refuse_begins s e h = refuse s Begin why.TooManyTransactions refl tt (rw (e, h) refl)
 
 -- what is so of the row that is found
 pub found_of : (P : Row → Type 0) (o : Option Row) → OnFound o P → (r : Row) × (o ≡ Some r) × P r

@@ -107,15 +107,6 @@ module _ (s : State) (t : Txn) (e tag : ℕ) (body : List ℕ) (h : NoneHolds (r
         pub passes : log_full (ledger_of s) 4 ≡ false → IsSound s → Passes (size_of s.sizes) (ledger_of s) call
         passes c k = (h.0, (h.1.0, (h.1.1.0, (h.1.1.1.0, (known, (fits, (free_by k, (closed_by k d at ∙ not_closed, (some_room k, (c, tt))))))))))
 
-used_from : (x : Slot) (c : Cell) → cell_in x ≡ Some c → x ≡ Used c
-used_from Free c e = cc
-used_from (Used b) c e = let k : b ≡ c = cc in ap (λ y. Used y) k
-used_from (Sender q d) c e = cc
-
--- the cell that was read stands there
-pub stands_used : (q : Slots) (a : ℕ) (c : Cell) → cell_in (q a) ≡ Some c → Stands_at q a (Some c)
-stands_used q a c e = used_from (q a) c e
-
 -- where the log is not full for so many records, it has room for a plan of no more
 pub has_room : (s : State) (ws : List SlotWrite) (more : ℕ) → log_full (ledger_of s) more ≡ false → length ws + 1 ≤ more → HasRoom s ws
 has_room s ws more full few = let left = not_full s more full in omega (arith, left, few)
@@ -131,21 +122,6 @@ start_kept s f o res room t u k h left fits =
     let a = kept_started s f o res k t r.0 r.1 u s.ends s.cells_in_use r.2.0 under number made (omega (arith, left)) in
     let same : res + (546 * length u.writes + end_bytes u.aim) ≡ res + room = (let e = fits.room_is in omega (arith, e)) in
     subst (λ (m : ℕ). IsKept (record s { rows = change_row t (row_started u) s.rows }) f (o + (length u.writes + 1)) m) same a
-
--- what is planned fits as an operation
-pub plan_fits : (z : Sizes) (n room : ℕ) (plan : Plan) → FitsPlan z plan room → FitsUnder z (under_plan n plan) room
-plan_fits z n room plan fits = record { made = refl; slots = fits.slots; sender = fits.sender; fits = (fits.deed_low, fits.deed_high, fits.reads); room_is = (let e = fits.room_is in omega (arith, e)) }
-
-undone_held : (t : Txn) (e : ℕ) (hs : List Held) (newly : Bool) → newly ≡ not (has_held t e hs) → cond newly (drop 1 (with_held t e hs)) (with_held t e hs) ≡ hs
-undone_held t e hs newly h = elim (cases_Bool (has_held t e hs)) [
-  | inl y ↦ let n : newly ≡ false = h ∙ ap not y in rw (n, y) refl
-  | inr m ↦ let n : newly ≡ true = h ∙ ap not m in rw (n, m) refl
-]
-
--- what was newly taken is given back
-pub undone_take : (t : Txn) (end : End) (ends : HeldEnds) (newly : Bool) → newly ≡ not (holds_end t end ends) → without_newest end newly (with_end t end ends) ≡ ends
-undone_take t (Sending e) ends newly h = ap (λ (hs : List Held). let x : HeldEnds = record { sending = hs; receiving = ends.receiving } in x) (undone_held t e ends.sending newly h)
-undone_take t (Receiving e) ends newly h = ap (λ (hs : List Held). let x : HeldEnds = record { sending = ends.sending; receiving = hs } in x) (undone_held t e ends.receiving newly h)
 
 -- a send that meets a latched page
 pub send_refused : (s : State) (t : Txn) (g tag : ℕ) (body : List ℕ) → (IsSound s → Passes (size_of s.sizes) (ledger_of s) (Start_send t (message_of g tag body))) → s.cells_in_use < cell_count s.sizes → SendIsLatched s g

@@ -260,13 +260,6 @@ side_released ps qs hs new held t k turned out =
 
 -- ---- a chain is emptied, one place after the other
 
-pub emptied_none : (ps : Places) (chain : List ℕ) → AreEmptied ps ps chain chain
-emptied_none ps chain = record {
-  among = λ s h. h;
-  others = λ s h. refl;
-  empty = λ s h n. absurd (true≢false (sym h ∙ n));
-}
-
 -- what is left of a chain that begins with this end
 pub chain_rest : (ps : Places) (t : Txn) (s : ℕ) (ss : List ℕ) → IsChain ps t (Some s) ss → (rest : List ℕ) × (ss ≡ s ∷ rest) × IsChain ps t (Some s) (s ∷ rest)
 chain_rest ps t s [] c = cc

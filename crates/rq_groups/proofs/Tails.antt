@@ -25,11 +25,6 @@ begins : (s : ℕ) (rest : List ℕ) → Some s ≡ first_of rest → (older : L
 begins s [] e = cc
 begins s (x ∷ xs) e = (xs, ap (λ y. y ∷ xs) (sym (same_Some s x e)))
 
-pub walk_tail : (ss : List ℕ) (s : ℕ) (P : ℕ → Type 0) → IsWalk ss (Some s) P → (older : List ℕ) × IsTail ss (s ∷ older)
-walk_tail ss s P w =
-    let b = begins s w.rest w.here in
-    (b.0, (w.front, ap (λ l. w.front ++ l) (sym b.1) ∙ w.all))
-
 has_either : (s : ℕ) (front rest : List ℕ) → has_number s (front ++ rest) ≡ (has_number s front || has_number s rest)
 has_either s [] rest = refl
 has_either s (x ∷ front) rest = ap (λ b. nat_eq x s || b) (has_either s front rest) ∙ or_assoc (nat_eq x s) (has_number s front) (has_number s rest) where
@@ -104,10 +99,6 @@ left_first : (front rest : List ℕ) → AreApart (front ++ rest) → left_from 
 unfolding left_from
 left_first front [] a = refl
 left_first front (s ∷ older) a = left_behind front older s a
-
-pub walk_left : (ss : List ℕ) (next : Option ℕ) (P : ℕ → Type 0) (w : IsWalk ss next P) → AreApart ss → left_from next ss ≡ length w.rest
-walk_left ss next P w apart =
-    ap (λ o. left_from o ss) w.here ∙ ap (left_from (first_of w.rest)) (sym w.all) ∙ left_first w.front w.rest (subst AreApart (sym w.all) apart)
 
 pub walk_shorter : (ss : List ℕ) (s : ℕ) (next : Option ℕ) (P : ℕ → Type 0) → AreApart ss → IsWalk ss (Some s) P → ((older : List ℕ) → IsTail ss (s ∷ older) → next ≡ first_of older) → left_from next ss < left_from (Some s) ss
 walk_shorter ss s next P apart w follows =

@@ -25,24 +25,6 @@ waits-more_waiting_same s n ws below = get_or-set_same ws s (waits ws s + n) 0 b
 pub waits-more_waiting_other : (s n : ℕ) (ws : List ℕ) (t : ℕ) → t ≢ s → waits (more_waiting s n ws) t ≡ waits ws t
 waits-more_waiting_other s n ws t other = get_or-set_other ws s t (waits ws s + n) 0 other
 
--- n more wait of s, and as many as before of the others
-pub waits-more_waiting : (s n : ℕ) (ws : List ℕ) (t : ℕ) → s < length ws → waits (more_waiting s n ws) t ≡ waits ws t + (if t == s then n else 0)
-waits-more_waiting s n ws t below =
-    elim (cases_eq t s) [
-      | inl same ↦
-          let here : (if t == s then n else 0) ≡ n = grind (arith, nat_tests) in
-          ap (waits (more_waiting s n ws)) same ∙ waits-more_waiting_same s n ws below ∙ omega (arith, here, ap (waits ws) same)
-      | inr other ↦
-          let here : (if t == s then n else 0) ≡ 0 = grind (arith, nat_tests) in
-          waits-more_waiting_other s n ws t other ∙ omega (arith, here)
-    ]
-
--- none more changes nothing
-pub more_waiting-none : (s : ℕ) (ws : List ℕ) → more_waiting s 0 ws ≡ ws
-more_waiting-none s ws =
-    let same : waits ws s + 0 ≡ waits ws s = omega arith in
-    ap (set ws s) same ∙ set-get_or ws s 0
-
 pub length-fewer_waiting : (s : ℕ) (ws : List ℕ) → length (fewer_waiting s ws) ≡ length ws
 length-fewer_waiting s ws = length-set ws s (waits ws s - 1)
 

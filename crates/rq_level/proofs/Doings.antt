@@ -16,9 +16,3 @@ send_told s tag body a b c =
     let sender : big_number 4 fields ≡ s = big_number-reads_back 4 s (big_bytes 8 tag ++ body) a in
     let tag_is : big_number 8 (drop 4 fields) ≡ tag = big_number-reads_back 8 tag body b in
     rw low (rw high (ap (λ (n : ℕ). Some (Send n (big_number 8 (drop 4 fields)) body)) sender ∙ ap (λ (n : ℕ). Some (Send s n body)) tag_is))
-
-pub receive_told : (s : ℕ) → s < 2 ^ 32 → doing_in (spelled_doing (Receive s)) ≡ Some (Receive s)
-receive_told s a = ap (λ (n : ℕ). Some (Receive n)) (big_number-reads_back 4 s [] a)
-
-pub close_told : (s : ℕ) → s < 2 ^ 32 → doing_in (spelled_doing (Close s)) ≡ Some (Close s)
-close_told s a = ap (λ (n : ℕ). Some (Close n)) (big_number-reads_back 4 s [] a)

@@ -65,10 +65,6 @@ followed_more z q n old new a f =
       ];
     }
 
--- the next one has no whole chain
-pub followed_broken : (z : Sizes) (q : Slots) (n : ℕ) (met : List ℕ) (page : ℕ) → AreFollowed z q n met → n < sender_count z → page ≡ directory_at n / 16 → ((ns : List Node) → IsChain q n ns → ⊥) → IsFirstBroken z q page
-followed_broken z q n met page a lt e none = record { sender = n; below = lt; page_is = e; chains = a.chains; earlier = a.whole; broken = none }
-
 held_used : (k : Option PageKind) (bytes : List ℕ) → is_used (held_for k bytes) ≡ true → k ≡ Some kind.Cells
 held_used None bytes e = absurd (false≢true e)
 held_used (Some kind.Superblock) bytes e = absurd (false≢true e)

@@ -63,17 +63,6 @@ pub record IsWalk (z : Sizes) (q : Slots) (s : ℕ) (d : Directory) (old met : L
   pub link : IsLink z at
   pub noted : AreNoted z old met nodes
 
-pub walk_begins : (z : Sizes) (q : Slots) (s : ℕ) (d : Directory) (old : List ℕ) → IsLink z d.head → IsWalk z q s d old old d.received 0 d.head
-walk_begins z q s d old link = record {
-  nodes = [];
-  linked = tt;
-  head = refl;
-  behind = refl;
-  many = omega arith;
-  link = link;
-  noted = noted_none z old;
-}
-
 pub walk_goes : (z : Sizes) (q : Slots) (s : ℕ) (d : Directory) (old met new : List ℕ) (count before at next : ℕ) → IsWalk z q s d old met count before at → IsLinkedCell (cells_of q) s (count + 1) before at next
     → IsCellAddress z at → IsLink z next → flag_at new (place_of z at) ≡ 1 → OthersStay (place_of z at) met new → IsWalk z q s d old new (count + 1) at next
 walk_goes z q s d old met new count before at next w c cell link set others =

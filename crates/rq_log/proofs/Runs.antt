@@ -120,11 +120,6 @@ pub nothing_newer : (count : ℕ) (rs : List Record) (seen buffer : List ℕ) �
 nothing_newer count rs seen [] reads holds none = reads ∙ sym (append-nil (spelled (drop count rs))) ∙ ap (λ (l : List ℕ). spelled (drop count rs) ++ l) holds ∙ spelled_whole count rs
 nothing_newer count rs seen (b ∷ buffer) reads holds none = absurd (omega arith)
 
-pub all_handed : (count : ℕ) (rs : List Record) (seen buffer : List ℕ) → seen ≡ spelled (drop count rs) → buffer ≡ spelled (take count rs) → seen ≡ spelled rs → length buffer ≡ 0
-all_handed count rs seen buffer reads holds all =
-    let joined : seen ++ buffer ≡ spelled rs = ap (λ (l : List ℕ). l ++ buffer) reads ∙ ap (λ (l : List ℕ). spelled (drop count rs) ++ l) holds ∙ spelled_whole count rs in
-    omega (arith, length-append seen buffer, ap length joined, ap length all)
-
 -- what a test for no bytes tells
 pub is_none : (n : ℕ) (test : Bool) → test ≡ (n == 0) → test ≡ true → n ≡ 0
 is_none n test is holds = grind (arith, nat_tests)

@@ -25,12 +25,6 @@ use Rattle.rq_views.proofs.Strangers.{has_end_same, stranger_told}
 use Rattle.rq_lost.specs.Lost.{begins_in, count_of}
 use Rattle.rq_lost.proofs.Settled.{worker_deeds}
 
-or_turned : (a b : Bool) → (a || b) ≡ (b || a)
-or_turned true true = refl
-or_turned true false = refl
-or_turned false true = refl
-or_turned false false = refl
-
 or_again : (a b c : Bool) → (a || (b || c)) ≡ (b || (a || c))
 or_again true true c = refl
 or_again true false c = refl

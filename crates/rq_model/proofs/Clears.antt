@@ -264,11 +264,6 @@ ended_more : (c : List Done) (d : Done) (s : ℕ) → ended_in c s ≡ false →
 ended_more [] d s e k = or_from (any_ends s d.ops) false k refl
 ended_more (x ∷ c) d s e k = let p = or_parts (any_ends s x.ops) (ended_in c s) e in or_from (any_ends s x.ops) (ended_in (c ++ d ∷ []) s) p.0 (ended_more c d s p.1 k)
 
-ended_front : (n : ℕ) (c : List Done) (s : ℕ) → ended_in c s ≡ false → ended_in (take n c) s ≡ false
-ended_front zero c s e = refl
-ended_front (suc n) [] s e = refl
-ended_front (suc n) (x ∷ c) s e = let p = or_parts (any_ends s x.ops) (ended_in c s) e in or_from (any_ends s x.ops) (ended_in (take n c) s) p.0 (ended_front n c s p.1)
-
 Clear-commit : (h : List Entry) (l : Ledger) (t : Txn) (n : ℕ) (o : Open) → Clear h l.committed l.open_ones → GoodAt l → TiedAt h l → found t l.open_ones ≡ Some o → o.aborting ≡ false → Clear (Committed t n ∷ h) (l.committed ++ record { txn = t; lsn = n; ops = o.ops } ∷ []) (without t l.open_ones)
 Clear-commit h l t n o g good tied x ab =
     let os = l.open_ones in

@@ -56,33 +56,3 @@ kind (Committed t lsn) = Commits t lsn
 kind (Forced lsn) = Forces lsn
 kind (Crash kept records) = Crashes kept records
 kind (Restarted i records) = Restarts i records
-
--- an entry of a call
-abbrev pub is_call : Entry → Bool
-is_call (Crash kept records) = false
-is_call (Restarted i records) = false
-is_call _ = true
-
--- it does not change the incarnation
-pub call_incarnation : (l : Ledger) (e : Entry) → is_call e ≡ true → (after e l).incarnation ≡ l.incarnation
-call_incarnation l (Begun t) k = refl
-call_incarnation l (Started t n job) k = refl
-call_incarnation l (None_free t) k = refl
-call_incarnation l (None_from t s) k = refl
-call_incarnation l (Stepped t n lsn) k = refl
-call_incarnation l (Ready t n) k = refl
-call_incarnation l (Did t n op) k = refl
-call_incarnation l (Undid t n) k = refl
-call_incarnation l (Acknowledged t lsn given) k = refl
-call_incarnation l (Aborting t) k = refl
-call_incarnation l (None_left t) k = refl
-call_incarnation l (Aborted t) k = refl
-call_incarnation l Handed_over k = refl
-call_incarnation l (Wrote page done) k = refl
-call_incarnation l (Told s sent tag) k = refl
-call_incarnation l (Shown groups) k = refl
-call_incarnation l (Committed t lsn) k = refl
-call_incarnation l (Forced lsn) k = refl
-call_incarnation l (Refused c r) k = (refused_same l c r).incarnation
-call_incarnation l (Crash kept records) k = cc k
-call_incarnation l (Restarted i records) k = cc k

@@ -16,10 +16,6 @@ pub record IsOld (i b : ℕ) (t : Txn) : Type 0 where
   pub not_later : t.incarnation ≤ i
   pub not_more : t.incarnation ≡ i → t.count ≤ b
 
--- of every front of the commit list
-pub record Ordered (c : List Done) : Type 0 where
-  pub along : (k s : ℕ) → IsPrefix (taken_in (take k c) s) (sent_in (take k c) s)
-
 pub record Good (c : List Done) (os : List Open) (i b : ℕ) : Type 0 where
   pub along : (k s : ℕ) → IsPrefix (taken_in (take k c) s) (sent_in (take k c) s)
   pub now : (s : ℕ) → IsPrefix (taken_in c s) (sent_in c s)

@@ -11,10 +11,6 @@ use Rattle.rq_model.specs.Tests.{Size}
 use Rattle.rq_model.specs.Replay.{Reply, Says, Replays, AllSay}
 use Rattle.rq_model.specs.Replay.Reply.{Gave_refusal}
 
--- a refusal stands for itself
-pub says_refusal : (c : Call) (r : Refusal) (e : Entry) → Says c (Gave_refusal r) e → e ≡ Refused c r
-says_refusal c r e s = s
-
 -- A replay from the ledger of a legal history is a longer legal history.
 pub replays_on : (z : Size) (h : List Entry) (audit : List (Call × Reply)) (l : Ledger) → IsLegal z h → Replays z (ledger h) audit l → (newer : List Entry) × IsLegal z (newer ++ h) × (ledger (newer ++ h) ≡ l) × AllSay audit newer
 replays_on z h [] l a r = ([], a, sym r, tt)

@@ -54,9 +54,6 @@ abbrev pub kept_in : ℕ → List Done → ℕ
 kept_in n [] = 0
 kept_in n (d ∷ c) = cond (nat_lt n d.lsn) 0 1 + kept_in n c
 
-abbrev pub all_ops : List Done → List Op
-all_ops c = flat_map (λ d. d.ops) c
-
 abbrev pub sent_in : List Done → ℕ → List Message
 sent_in c s = flat_map (λ d. filter_map (sent_for s) d.ops) c
 

@@ -6,13 +6,6 @@ use Rattle.rq_page.specs.Kinds.{kind_of}
 use Rattle.rq_page.specs.Places.{CellsHavePlaces, PlacesAreCells, CellsRise, SendersHaveSlots, SlotsAreSenders}
 use Rattle.rq_page.specs.declared.layout.PageKind.TheVariants as kind
 
--- the parts of an address
-pub address-page : (page slot : ℕ) → slot < 16 → address page slot / 16 ≡ page
-address-page page slot lt = omega arith
-
-pub address-slot : (page slot : ℕ) → slot < 16 → address page slot % 16 ≡ slot
-address-slot page slot lt = omega arith
-
 pub cells_have_places : CellsHavePlaces
 cells_have_places l place lt =
     (record { above = omega arith; below = omega arith; slot = omega arith }, omega arith)

@@ -72,8 +72,3 @@ used_in_range (Used c) bytes is e used =
     let long : number_at 2 2 bytes ≡ length c.body = ap (number_at 2 2) (sym e) ∙ number_at-length c is.body in
     let numbered : number_at 8 8 bytes ≡ c.sequence = ap (number_at 8 8) (sym e) ∙ reads 8 c.sequence (drop 16 (cell_bytes c)) is.sequence in
     (omega (arith, long, is.body), omega (arith, numbered, is.numbered))
-
-pub length-cell_slot_bytes : (x : CellSlot) → IsCellSlot x → length (cell_slot_bytes x) ≡ 256
-unfolding free_bytes
-length-cell_slot_bytes Free is = refl
-length-cell_slot_bytes (Used c) is = length-cell_bytes c is.body

@@ -10,13 +10,8 @@ use Rattle.rq_page.specs.declared.cell.CellSlot.TheVariants as cells
 use Rattle.rq_page.specs.declared.directory.DirectorySlot.{DirectorySlot}
 use Rattle.rq_page.specs.declared.layout.PageKind.{PageKind}
 use Rattle.rq_page.specs.declared.layout.PageKind.TheVariants as kind
-use Rattle.rq_page.proofs.CellBytes.{cell_slot_in-cell_slot_bytes, length-cell_slot_bytes}
+use Rattle.rq_page.proofs.CellBytes.{cell_slot_in-cell_slot_bytes}
 use Rattle.rq_page.proofs.DirectoryBytes.{directory_in-directory_bytes, length-directory_bytes}
-
--- what may stand in a store has its numbers in range
-pub numbers_of : (l : Sizes) (x : CellSlot) → MayStand l x → IsCellSlot x
-numbers_of l cells.Free is = tt
-numbers_of l (cells.Used c) is = is.numbers
 
 -- bytes that spell what may stand in a cell's slot hold it
 pub holds_cell : (l : Sizes) (x : CellSlot) (bytes : List ℕ) → IsCellSlot x → cell_slot_bytes x ≡ bytes → MayStand l x → HoldsCell l bytes
@@ -80,20 +75,3 @@ is_spelling_for (Some kind.Cells) l page slot bytes is =
 
 pub slot_is_spelling : SlotIsSpelling
 slot_is_spelling l page slot bytes is = is_spelling_for (kind_of l page) l page slot bytes is.held
-
--- what a slot may hold has one spelling each
-pub spelled_same : (l : Sizes) (page slot : ℕ) (x y : Slot) → 1 ≤ slot → slot ≤ 15
-    → MayHold (kind_of l page) l page slot x → MayHold (kind_of l page) l page slot y → slot_bytes x ≡ slot_bytes y → x ≡ y
-spelled_same l page slot x y low high may also same =
-    sym ((spelling_tells l page slot x low high may).0) ∙ ap (held_in l page) same ∙ (spelling_tells l page slot y low high also).0
-
--- slots have 256 bytes
-length_for : (k : Option PageKind) (l : Sizes) (page slot : ℕ) (bytes : List ℕ) → IsSlotFor k l page slot bytes → length bytes ≡ 256
-length_for None l page slot bytes is = absurd is
-length_for (Some kind.Superblock) l page slot bytes is = absurd is
-length_for (Some kind.Directory) l page slot bytes is = ap length (sym is.spelled_so) ∙ length-directory_bytes (directory_in bytes)
-length_for (Some kind.Cells) l page slot bytes is =
-    ap length (sym is.spelled_so) ∙ length-cell_slot_bytes (cell_slot_in bytes) (numbers_of l (cell_slot_in bytes) is.held)
-
-pub length_of_slot : (l : Sizes) (page slot : ℕ) (bytes : List ℕ) → IsSlotOf l page slot bytes → length bytes ≡ 256
-length_of_slot l page slot bytes is = length_for (kind_of l page) l page slot bytes is.held

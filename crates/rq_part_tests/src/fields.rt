@@ -1,3 +1,4 @@
+//! Numbers in bytes.
 use rq_bytes::Fields;
 
 // The calls that follow promise nothing, so that a test of many is checked fast.
@@ -38,24 +39,38 @@ fn take_u64(input: &[u8; 16], at: usize) -> Option<u64> {
     Fields::take_u64(input, at)
 }
 
+fn put_all(bytes: &mut [u8; 16]) -> bool {
+    let all = put_u8(bytes, 0, 1)
+        && put_u16(bytes, 2, 0x0203)
+        && put_u32(bytes, 4, 0x0405_0607)
+        && put_u64(bytes, 8, 0x1112_1314_1516_1718);
+    place_second(bytes, 9);
+    all
+}
+
 #[test]
 fn fields_of_each_width(rt: HostRuntime) {
     let mut bytes = [0xff; 16];
-    assert!(rt; put_u8(&mut bytes, 0, 1));
-    assert!(rt; put_u16(&mut bytes, 2, 0x0203));
-    assert!(rt; put_u32(&mut bytes, 4, 0x0405_0607));
-    assert!(rt; put_u64(&mut bytes, 8, 0x1112_1314_1516_1718));
-    place_second(&mut bytes, 9);
+    assert!(rt; put_all(&mut bytes));
     Fields::written_is_read();
     let want = [
         1, 9, 2, 3, 4, 5, 6, 7, 0x11, 0x12, 0x13, 0x14, 0x15, 0x16, 0x17, 0x18,
     ];
     assert!(rt; bytes == want);
-    assert!(rt; take_u8(&bytes, 1) == Some(9));
-    assert!(rt; take_u16(&bytes, 2) == Some(0x0203));
-    assert!(rt; take_u32(&bytes, 4) == Some(0x0405_0607));
-    assert!(rt; take_u64(&bytes, 8) == Some(0x1112_1314_1516_1718));
-    assert!(rt; take_u64(&bytes, 9) == None);
-    assert!(rt; !put_u16(&mut bytes, usize::MAX, 7));
-    assert!(rt; bytes == want);
+    let taken = (
+        take_u8(&bytes, 1),
+        take_u16(&bytes, 2),
+        take_u32(&bytes, 4),
+        take_u64(&bytes, 8),
+        take_u64(&bytes, 9),
+    );
+    let wanted = (
+        Some(9),
+        Some(0x0203),
+        Some(0x0405_0607),
+        Some(0x1112_1314_1516_1718),
+        None,
+    );
+    assert!(rt; taken == wanted);
+    assert!(rt; !put_u16(&mut bytes, usize::MAX, 7) && bytes == want);
 }

@@ -1,3 +1,4 @@
+//! The frames of the wire: requests that come in pieces, and answers.
 ghost use Rattle.std.specs.Prelude.{◌≤◌};
 
 use bytes::{BufMut, BytesMut};
@@ -69,17 +70,27 @@ fn write(one: &Answer, out: &mut BytesMut) -> Result<(), NoMemory> {
     answer(one, out)
 }
 
+// Puts the requests of a piece, spelled again; whether there is a fault.
+fn put_piece(frames: &mut Frames, piece: &[u8], out: &mut BytesMut) -> Result<bool, Fail> {
+    let fed = feed(frames, piece)?;
+    put_fed(out, &fed)?;
+    Ok(fed.fault)
+}
+
+// The requests of two pieces, spelled again, and whether there was a fault.
+fn of_two(alloc: Global, first: &[u8], second: &[u8]) -> Result<(BytesMut, bool), Fail> {
+    let mut frames = Frames::new(alloc);
+    let mut out = BytesMut::new(alloc);
+    let early = put_piece(&mut frames, first, &mut out)?;
+    let late = put_piece(&mut frames, second, &mut out)?;
+    Ok((out, early || late))
+}
+
 #[test]
 fn any_cut_gives_the_same(rt: HostRuntime) -> Result<(), Fail> {
     for cut in 0..=ASKED.len() {
-        let mut frames = Frames::new(rt.alloc());
-        let mut asked = BytesMut::new(rt.alloc());
-        let first = feed(&mut frames, &ASKED[..cut])?;
-        let second = feed(&mut frames, &ASKED[cut..])?;
-        put_fed(&mut asked, &first)?;
-        put_fed(&mut asked, &second)?;
-        assert!(rt; !first.fault && !second.fault, "cut at {cut}");
-        assert!(rt; asked.as_slice() == &ASKED[..], "cut at {cut}");
+        let (asked, fault) = of_two(rt.alloc(), &ASKED[..cut], &ASKED[cut..])?;
+        assert!(rt; !fault && asked.as_slice() == &ASKED[..], "cut at {cut}");
     }
     Ok(())
 }
@@ -138,35 +149,44 @@ fn one_by_one(alloc: Global, bytes: &[u8]) -> Option<(usize, Option<usize>)> {
     Some((requests, fault))
 }
 
+// Some bytes, and what comes of them one by one.
+type Faulty<'a> = (&'a [u8], usize, Option<usize>);
+
 #[test]
 fn a_fault_is_told_as_soon_as_it_is_there(rt: HostRuntime) {
     let mut long = [0; 27];
     long[..23].copy_from_slice(&ASKED[..23]);
     long[23] = 2;
     long[24] = 1;
-    assert!(rt; one_by_one(rt.alloc(), &long) == Some((2, Some(24))));
-    assert!(rt; one_by_one(rt.alloc(), &[0, 0, 1, 1]) == Some((0, Some(1))));
-    assert!(rt; one_by_one(rt.alloc(), &[0, 1, 12, 0, 1, 1]) == Some((0, Some(2))));
-    assert!(rt; one_by_one(rt.alloc(), &[0, 9, 0]) == Some((0, Some(2))));
-    assert!(rt; one_by_one(rt.alloc(), &[0, 2, 1, 0, 0, 1, 1]) == Some((0, Some(3))));
-    let eleven = [0, 12, 2, 0, 0, 0, 0, 0, 0, 0, 0, 0, 0, 0];
-    assert!(rt; one_by_one(rt.alloc(), &eleven) == Some((0, Some(13))));
-    assert!(rt; one_by_one(rt.alloc(), &[0, 5, 4, 0, 0]) == Some((0, None)));
+    let rows: [Faulty; 7] = [
+        (&long, 2, Some(24)),
+        (&[0, 0, 1, 1], 0, Some(1)),
+        (&[0, 1, 12, 0, 1, 1], 0, Some(2)),
+        (&[0, 9, 0], 0, Some(2)),
+        (&[0, 2, 1, 0, 0, 1, 1], 0, Some(3)),
+        (&[0, 12, 2, 0, 0, 0, 0, 0, 0, 0, 0, 0, 0, 0], 0, Some(13)),
+        (&[0, 5, 4, 0, 0], 0, None),
+    ];
+    for (bytes, requests, fault) in rows {
+        assert!(rt; one_by_one(rt.alloc(), bytes) == Some((requests, fault)));
+    }
 }
 
-#[test]
-fn the_longest_send_is_read(rt: HostRuntime) -> Result<(), Fail> {
-    let mut frames = Frames::new(rt.alloc());
-    let mut bytes = BytesMut::new(rt.alloc());
+// A send of 499 bytes, the most that a frame has.
+fn longest_send(alloc: Global) -> Result<BytesMut, AllocError> {
+    let mut bytes = BytesMut::new(alloc);
     put_head(&mut bytes, 512, 2)?;
     for _ in 0..511 {
         bytes.put_u8(7)?;
     }
-    let fed = feed(&mut frames, bytes.as_slice())?;
-    assert!(rt; !fed.fault && fed.requests.len() == 1);
-    let mut again = BytesMut::new(rt.alloc());
-    put_fed(&mut again, &fed)?;
-    assert!(rt; again.as_slice() == bytes.as_slice());
+    Ok(bytes)
+}
+
+#[test]
+fn the_longest_send_is_read(rt: HostRuntime) -> Result<(), Fail> {
+    let bytes = longest_send(rt.alloc())?;
+    let (again, fault) = of_two(rt.alloc(), bytes.as_slice(), &[])?;
+    assert!(rt; !fault && again.as_slice() == bytes.as_slice());
     Ok(())
 }
 
@@ -217,8 +237,27 @@ fn put_any_frame(out: &mut BytesMut, dice: &mut Dice) -> Result<(), AllocError> 
     }
 }
 
-// The requests of a stream that comes in random pieces, each of a byte and at most so many more, spelled again, and
-// whether there was a fault.
+// Feeds a stream in random pieces, each of a byte and at most so many more, and puts its requests, spelled again. Whether
+// there was a fault.
+fn put_pieces(
+    frames: &mut Frames,
+    stream: &[u8],
+    most: u16,
+    dice: &mut Dice,
+    out: &mut BytesMut,
+) -> Result<bool, Fail> {
+    let mut fault = false;
+    let mut rest = stream;
+    for _ in 0..stream.len() {
+        let size = (1 + dice.up_to(most)).min(rest.len());
+        let (piece, more) = rest.split_at(size);
+        fault = put_piece(frames, piece, out)?;
+        rest = more;
+    }
+    Ok(put_piece(frames, rest, out)? || fault)
+}
+
+// The requests of such a stream, spelled again, and whether there was a fault.
 fn in_pieces(
     alloc: Global,
     stream: &[u8],
@@ -226,41 +265,41 @@ fn in_pieces(
     dice: &mut Dice,
 ) -> Result<(BytesMut, bool), Fail> {
     let mut frames = Frames::new(alloc);
-    let mut asked = BytesMut::new(alloc);
-    let mut fault = false;
-    let mut rest = stream;
-    for _ in 0..stream.len() {
-        let size = (1 + dice.up_to(most)).min(rest.len());
-        let (piece, more) = rest.split_at(size);
-        let fed = feed(&mut frames, piece)?;
-        put_fed(&mut asked, &fed)?;
-        fault = fed.fault;
-        rest = more;
+    let mut out = BytesMut::new(alloc);
+    let fault = put_pieces(&mut frames, stream, most, dice, &mut out)?;
+    Ok((out, fault))
+}
+
+// Forty good frames, and behind them a length that is none or the half of a frame; and the bytes of the good ones.
+fn forty_frames(
+    alloc: Global,
+    dice: &mut Dice,
+    faulty: bool,
+) -> Result<(BytesMut, usize), AllocError> {
+    let mut stream = BytesMut::new(alloc);
+    for _ in 0..40 {
+        put_any_frame(&mut stream, dice)?;
     }
-    let fed = feed(&mut frames, rest)?;
-    put_fed(&mut asked, &fed)?;
-    Ok((asked, fault || fed.fault))
+    let good = stream.len();
+    stream.put_u16(if faulty { 513 } else { 5 })?;
+    stream.put_slice(&[1, 1, 1, 1])?;
+    Ok((stream, good))
+}
+
+// Whether such frames come as they are in random pieces, and the fault behind them.
+fn comes_whole(alloc: Global, seed: u64) -> Result<bool, Fail> {
+    let mut dice = Dice { state: seed };
+    let faulty = seed % 2 == 0;
+    let (stream, good) = forty_frames(alloc, &mut dice, faulty)?;
+    let most = if seed % 3 == 0 { 3 } else { 700 };
+    let (asked, fault) = in_pieces(alloc, stream.as_slice(), most, &mut dice)?;
+    Ok(fault == faulty && Some(asked.as_slice()) == stream.as_slice().get(..good))
 }
 
 #[test]
 fn random_frames_in_random_pieces(rt: HostRuntime) -> Result<(), Fail> {
     for seed in 1..=12u64 {
-        let mut dice = Dice { state: seed };
-        let mut stream = BytesMut::new(rt.alloc());
-        for _ in 0..40 {
-            put_any_frame(&mut stream, &mut dice)?;
-        }
-        let good = stream.len();
-        let faulty = seed % 2 == 0;
-        stream.put_u16(if faulty { 513 } else { 5 })?;
-        stream.put_slice(&[1, 1, 1, 1])?;
-        let most = if seed % 3 == 0 { 3 } else { 700 };
-        let (asked, fault) = in_pieces(rt.alloc(), stream.as_slice(), most, &mut dice)?;
-        assert!(rt; fault == faulty, "seed {seed}");
-        assert!(rt;
-            Some(asked.as_slice()) == stream.as_slice().get(..good),
-            "seed {seed}"
-        );
+        assert!(rt; comes_whole(rt.alloc(), seed)?, "seed {seed}");
     }
     Ok(())
 }
@@ -291,27 +330,39 @@ fn at_once(alloc: Global, stream: &[u8]) -> Result<(BytesMut, usize, bool), Fail
     Ok((asked, fed.requests.len(), fed.fault))
 }
 
+// How many bytes more than one a piece has at most.
+fn most_of(seed: u64) -> u16 {
+    match seed % 4 {
+        0 => 0,
+        1 => 5,
+        2 => 60,
+        _ => 700,
+    }
+}
+
+// How many requests a damaged stream has, and whether there is a fault; none where it gives something else in pieces.
+fn same_in_pieces(alloc: Global, seed: u64) -> Result<Option<(usize, bool)>, Fail> {
+    let mut dice = Dice { state: seed };
+    let stream = damaged(alloc, 99, &mut dice)?;
+    let (asked, count, fault) = at_once(alloc, stream.as_slice())?;
+    let (again, again_fault) = in_pieces(alloc, stream.as_slice(), most_of(seed), &mut dice)?;
+    if again_fault == fault && again.as_slice() == asked.as_slice() {
+        Ok(Some((count, fault)))
+    } else {
+        Ok(None)
+    }
+}
+
 #[test]
 fn random_bytes_give_the_same_in_any_pieces(rt: HostRuntime) -> Result<(), Fail> {
     let mut faults = 0u32;
     let mut requests = 0usize;
     for seed in 1..=400u64 {
-        let mut dice = Dice { state: seed };
-        let stream = damaged(rt.alloc(), 99, &mut dice)?;
-        let (asked, count, fault) = at_once(rt.alloc(), stream.as_slice())?;
-        let most = match seed % 4 {
-            0 => 0,
-            1 => 5,
-            2 => 60,
-            _ => 700,
-        };
-        let (again, again_fault) = in_pieces(rt.alloc(), stream.as_slice(), most, &mut dice)?;
-        assert!(rt; again_fault == fault, "seed {seed}");
-        assert!(rt; again.as_slice() == asked.as_slice(), "seed {seed}");
+        let same = same_in_pieces(rt.alloc(), seed)?;
+        assert!(rt; same.is_some(), "seed {seed}");
+        let (count, fault) = same.unwrap_or((0, false));
         requests = requests.wrapping_add(count);
-        if fault {
-            faults = faults.wrapping_add(1);
-        }
+        faults = faults.wrapping_add(u32::from(fault));
     }
     // of 400 streams and the 8,000 frames in them, with much room on each side of what comes of these seeds
     assert!(rt;

@@ -4,13 +4,17 @@
 #[cfg(test)]
 mod chains;
 #[cfg(test)]
-mod devices;
+mod device_calls;
 #[cfg(test)]
-mod ends;
+mod devices;
 #[cfg(test)]
 mod fields;
 #[cfg(test)]
+mod file_devices;
+#[cfg(test)]
 mod frames;
+#[cfg(test)]
+mod groups;
 #[cfg(test)]
 mod links;
 #[cfg(test)]
@@ -21,5 +25,7 @@ mod pages;
 mod pool;
 #[cfg(test)]
 mod records;
+#[cfg(test)]
+mod rows;
 #[cfg(test)]
 mod sessions;

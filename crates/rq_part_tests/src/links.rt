@@ -52,136 +52,140 @@ fn small_store(alloc: Global) -> Result<Pages<MemPages>, Fail> {
     Ok(load(alloc, device)?)
 }
 
-// Of a sender five messages are sent and three received; the others stand at 49 and 50.
-fn group() -> Directory {
-    Directory {
-        closed: false,
-        sent: 5,
-        received: 3,
-        last_tag: 8,
-        head: Addr::from_number(49),
-        tail: Addr::from_number(50),
+// What stands in a store: of a sender five messages are sent and three received, and the others stand at 49 and 50.
+#[derive(Clone, Copy)]
+struct Chain {
+    directory: Directory,
+    fourth: Cell,
+    fifth: Cell,
+}
+
+fn chain_of(sender: u32, body: Body) -> Chain {
+    Chain {
+        directory: Directory {
+            closed: false,
+            sent: 5,
+            received: 3,
+            last_tag: 8,
+            head: Addr::from_number(49),
+            tail: Addr::from_number(50),
+        },
+        fourth: Cell {
+            sender,
+            sequence: 4,
+            tag: 7,
+            next: Addr::from_number(50),
+            prev: Addr::NONE,
+            body,
+        },
+        fifth: Cell {
+            sender,
+            sequence: 5,
+            tag: 8,
+            next: Addr::NONE,
+            prev: Addr::from_number(49),
+            body,
+        },
     }
 }
 
-fn fourth(sender: u32) -> Result<Cell, Fail> {
-    Ok(Cell {
-        sender,
-        sequence: 4,
-        tag: 7,
-        next: Addr::from_number(50),
-        prev: Addr::NONE,
-        body: Body::new(b"h").ok_or("short")?,
-    })
+/// What is otherwise in a store than a whole chain of sender 16.
+#[derive(Clone, Copy)]
+enum Change {
+    Nothing,
+    /// The second cell names another before it, comes from another sender, leads on, or has another number.
+    FifthPrev(u64),
+    FifthSender(u32),
+    FifthNext(u64),
+    FifthSequence(u64),
+    /// The directory names other ends, or another number of messages.
+    Tail(u64),
+    Head(u64),
+    Sent(u64),
+    /// Nothing was sent.
+    Unsent,
+    /// A cell of another sender stands at 51.
+    Alone,
+    /// So it does, and sender 0 has the same chain.
+    Shared,
 }
 
-fn fifth(sender: u32) -> Result<Cell, Fail> {
-    Ok(Cell {
-        sender,
-        sequence: 5,
-        tag: 8,
-        next: Addr::NONE,
-        prev: Addr::from_number(49),
-        body: Body::new(b"i").ok_or("short")?,
-    })
+fn changed(chain: Chain, change: Change) -> Chain {
+    let mut chain = chain;
+    match change {
+        Change::FifthPrev(at) => chain.fifth.prev = Addr::from_number(at),
+        Change::FifthSender(sender) => chain.fifth.sender = sender,
+        Change::FifthNext(at) => chain.fifth.next = Addr::from_number(at),
+        Change::FifthSequence(sequence) => chain.fifth.sequence = sequence,
+        Change::Tail(at) => chain.directory.tail = Addr::from_number(at),
+        Change::Head(at) => chain.directory.head = Addr::from_number(at),
+        Change::Sent(sent) => chain.directory.sent = sent,
+        Change::Unsent => chain.directory = Directory::new(),
+        Change::Nothing | Change::Alone | Change::Shared => {}
+    }
+    chain
 }
 
-// Puts these into a store's slots of a sender and at 49 and 50.
-fn put_chain(
-    pages: &mut Pages<MemPages>,
-    sender: u32,
-    directory: Directory,
-    first: Cell,
-    second: Cell,
-) -> Result<(), Fail> {
-    let at = Addr::new(1 + sender / 15, (1 + sender % 15) as u8);
+fn put_cell(pages: &mut Pages<MemPages>, at: u64, cell: Cell) -> bool {
+    put(pages, Addr::from_number(at), &CellSlot::Used(cell).encode())
+}
+
+fn put_directory(pages: &mut Pages<MemPages>, at: u64, sender: u32, directory: Directory) -> bool {
     let slot = DirectorySlot { sender, directory };
-    let done = put(pages, at, &slot.encode())
-        && put(
-            pages,
-            Addr::from_number(49),
-            &CellSlot::Used(first).encode(),
-        )
-        && put(
-            pages,
-            Addr::from_number(50),
-            &CellSlot::Used(second).encode(),
-        );
-    if done {
-        Ok(())
+    put(pages, Addr::from_number(at), &slot.encode())
+}
+
+// Puts what stands in the store. Sender 16 has the second slot of page 2, and sender 0 the first of page 1.
+fn put_all(pages: &mut Pages<MemPages>, change: Change, body: Body) -> bool {
+    let chain = changed(chain_of(16, body), change);
+    let chain_is_put = put_directory(pages, 34, 16, chain.directory)
+        && put_cell(pages, 49, chain.fourth)
+        && put_cell(pages, 50, chain.fifth);
+    let is_alone = matches!(change, Change::Alone | Change::Shared);
+    let is_shared = matches!(change, Change::Shared);
+    chain_is_put
+        && (!is_alone || put_cell(pages, 51, chain_of(7, body).fourth))
+        && (!is_shared || put_directory(pages, 17, 0, chain.directory))
+}
+
+// The page that is named of a store with this change.
+fn named(alloc: Global, change: Change) -> Result<Option<u32>, Fail> {
+    let body = Body::new(b"h").ok_or("short")?;
+    let mut pages = small_store(alloc)?;
+    if put_all(&mut pages, change, body) {
+        Ok(broken(alloc, &pages)?)
     } else {
-        Err(Fail::from("a slot of the store"))
+        Err("a slot of the store".into())
     }
 }
 
-// What is named of a store with these slots of sender 16.
-fn named(
-    alloc: Global,
-    directory: Directory,
-    first: Cell,
-    second: Cell,
-) -> Result<Option<u32>, Fail> {
-    let mut pages = small_store(alloc)?;
-    put_chain(&mut pages, 16, directory, first, second)?;
-    Ok(broken(alloc, &pages)?)
+// A directory's page comes before the cells that are in no chain; the chain of a sender with a lower number comes first.
+const NAMED: [(Change, Option<u32>); 12] = [
+    (Change::Nothing, None),
+    (Change::FifthPrev(0), Some(2)),
+    (Change::FifthSender(1), Some(2)),
+    (Change::FifthNext(49), Some(2)),
+    (Change::FifthSequence(6), Some(2)),
+    (Change::Tail(49), Some(2)),
+    (Change::Head(51), Some(2)),
+    (Change::Sent(4), Some(2)),
+    (Change::Sent(3), Some(2)),
+    (Change::Unsent, Some(3)),
+    (Change::Alone, Some(3)),
+    (Change::Shared, Some(1)),
+];
+
+#[test]
+fn the_first_page_with_a_broken_chain_is_named(rt: HostRuntime) -> Result<(), Fail> {
+    for (change, page) in NAMED {
+        assert_eq!(rt; named(rt.alloc(), change)?, page);
+    }
+    Ok(())
 }
 
 #[test]
-fn whole_chains_pass(rt: HostRuntime) -> Result<(), Fail> {
+fn an_empty_store_is_whole(rt: HostRuntime) -> Result<(), Fail> {
     let empty = small_store(rt.alloc())?;
     assert!(rt; broken(rt.alloc(), &empty) == Ok(None));
-    assert!(rt; named(rt.alloc(), group(), fourth(16)?, fifth(16)?)?.is_none());
-    Ok(())
-}
-
-#[test]
-fn a_cell_that_is_not_its_place_is_found(rt: HostRuntime) -> Result<(), Fail> {
-    // the second cell names another before it, comes from another sender, leads on, or has another number
-    let mut second = fifth(16)?;
-    second.prev = Addr::NONE;
-    assert!(rt; named(rt.alloc(), group(), fourth(16)?, second)? == Some(2));
-    assert!(rt; named(rt.alloc(), group(), fourth(16)?, fifth(1)?)? == Some(2));
-    let mut second = fifth(16)?;
-    second.next = Addr::from_number(49);
-    assert!(rt; named(rt.alloc(), group(), fourth(16)?, second)? == Some(2));
-    let mut second = fifth(16)?;
-    second.sequence = 6;
-    assert!(rt; named(rt.alloc(), group(), fourth(16)?, second)? == Some(2));
-    Ok(())
-}
-
-#[test]
-fn a_directory_that_tells_another_chain_is_found(rt: HostRuntime) -> Result<(), Fail> {
-    let mut other = group();
-    other.tail = Addr::from_number(49);
-    assert!(rt; named(rt.alloc(), other, fourth(16)?, fifth(16)?)? == Some(2));
-    let mut other = group();
-    other.head = Addr::from_number(51);
-    assert!(rt; named(rt.alloc(), other, fourth(16)?, fifth(16)?)? == Some(2));
-    let mut other = group();
-    other.sent = 4;
-    assert!(rt; named(rt.alloc(), other, fourth(16)?, fifth(16)?)? == Some(2));
-    let mut other = group();
-    other.sent = 3;
-    assert!(rt; named(rt.alloc(), other, fourth(16)?, fifth(16)?)? == Some(2));
-    Ok(())
-}
-
-#[test]
-fn cells_in_no_chain_come_last(rt: HostRuntime) -> Result<(), Fail> {
-    // nothing is sent, and both cells are used
-    assert!(rt; named(rt.alloc(), Directory::new(), fourth(16)?, fifth(16)?)? == Some(3));
-    // a chain of two senders, and a cell of neither
-    let mut pages = small_store(rt.alloc())?;
-    put_chain(&mut pages, 16, group(), fourth(16)?, fifth(16)?)?;
-    let alone = CellSlot::Used(fourth(7)?).encode();
-    assert!(rt; put(&mut pages, Addr::from_number(51), &alone));
-    assert!(rt; broken(rt.alloc(), &pages) == Ok(Some(3)));
-    let slot = DirectorySlot {
-        sender: 0,
-        directory: group(),
-    };
-    assert!(rt; put(&mut pages, Addr::from_number(17), &slot.encode()));
-    assert!(rt; broken(rt.alloc(), &pages) == Ok(Some(1)));
     Ok(())
 }

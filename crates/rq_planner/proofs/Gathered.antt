@@ -86,9 +86,6 @@ module _ (s : State) (given : List Given) (h : AreGivenFrom s given) where
 
 -- ---- gathering
 
-pub none_yet : (s : State) (given : List Given) → given ≡ [] → HasGathered s given
-none_yet s given e = subst (HasGathered s) (sym e) (record { from = slots_gathered.none_given s; gathered = slots_gathered.none_gathered s })
-
 pub one_more : (s : State) (given now : List Given) (a : ℕ) (bytes : List ℕ) → now ≡ with_slot given a bytes → HasGathered s given → IsStoreSlot s.sizes a → IsSlotOf s.sizes (a / 16) (a % 16) bytes
     → slots_now s a ≡ held_in s.sizes (a / 16) bytes → latched_in s.rows (a / 16) ≡ false → HasGathered s now
 one_more s given now a bytes e h stands slot is off = subst (HasGathered s) (sym e) (record {

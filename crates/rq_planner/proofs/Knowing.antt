@@ -19,20 +19,6 @@ use Rattle.rq_planner.specs.Asked.{Asked, known}
 use Rattle.rq_planner.specs.Answered.{IsAnswered, IsPlanned, KnowsCells}
 use Rattle.rq_planner.proofs.Told.{slot_is}
 
--- with anything under way
-pub knows_any : (z : Sizes) (images : List (List ℕ)) (k : Kept) (rows : List Row) → KnowsCells z images k → KeepsCells (known z images rows) k
-knows_any z images k rows h = record {
-  sizes = h.sizes;
-  free_count = h.free_count;
-  chosen_count = h.chosen_count;
-  free = h.free;
-  chosen = λ i lt e. absurd (false≢true (h.chosen i lt e));
-}
-
--- what is answered
-pub told : (s : State) (k after : Kept) (asked : Option Asked) (answer : Result (Option Plan) Refusal) → IsAnswered s k asked answer after → IsPlanned s asked answer
-told s k after asked answer h = record { read = h.read; plan = h.plan; free = h.free; latched = h.latched; causes = h.causes; plain = h.plain; memory = h.memory }
-
 -- ---- a slot is written
 
 module _ (z : Sizes) (images new : List (List ℕ)) (k : Kept) (a : ℕ) (bytes : List ℕ) (store : IsStoreSlot z a)

@@ -3,7 +3,6 @@ pub mod Counts
 pub mod Framed
 pub mod Slots
 pub mod Indexes
-pub mod Stands
 pub mod Writings
 pub mod Kept
 pub mod Over

@@ -26,28 +26,3 @@ module _ {P : Type 0} (g : Ghosts P) (page : ℕ) (image : List ℕ) where
   after_any old new (Ok Nothing) after = left_alone old new after
   after_any old new (Err why.DiskWrite) after = after.0
   after_any old new (Err _) after = left_alone old new after
-
--- of a page that the store has not, nothing is written
-pub nothing_past : {P : Type 0} (pages : Pooled P) (page forced : ℕ) (r : Result Written Refusal) → page_count pages.sizes ≤ page → AnswersWhen pages page forced r → r ≡ Ok Nothing
-nothing_past pages page forced (Ok Done) past when = absurd (omega (arith, when.0.of_store))
-nothing_past pages page forced (Ok Nothing) past when = refl
-nothing_past pages page forced (Err why.NotForced) past when = absurd (omega (arith, when.0.of_store))
-nothing_past pages page forced (Err why.DiskWrite) past when = absurd (omega (arith, when.0.of_store))
-nothing_past pages page forced (Err _) past when = absurd when
-
--- of a page with no change, nothing is written
-pub nothing_new : {P : Type 0} (pages : Pooled P) (page forced : ℕ) (r : Result Written Refusal) → is_changed pages.changed page ≡ false → AnswersWhen pages page forced r → r ≡ Ok Nothing
-nothing_new pages page forced (Ok Done) same when = let no : true ≡ false = sym when.0.changed ∙ same in cc
-nothing_new pages page forced (Ok Nothing) same when = refl
-nothing_new pages page forced (Err why.NotForced) same when = let no : true ≡ false = sym when.0.changed ∙ same in cc
-nothing_new pages page forced (Err why.DiskWrite) same when = let no : true ≡ false = sym when.0.changed ∙ same in cc
-nothing_new pages page forced (Err _) same when = absurd when
-
--- a change is not written before the log is forced so far
-pub not_forced : {P : Type 0} (pages : Pooled P) (page forced : ℕ) (r : Result Written Refusal) → is_changed pages.changed page ≡ true → forced < lsn_of (image_at pages.images page)
-    → AnswersWhen pages page forced r → r ≡ Err why.NotForced
-not_forced pages page forced (Ok Done) changed over when = absurd (omega (arith, when.1))
-not_forced pages page forced (Ok Nothing) changed over when = let no : true ≡ false = sym changed ∙ when in cc
-not_forced pages page forced (Err why.NotForced) changed over when = refl
-not_forced pages page forced (Err why.DiskWrite) changed over when = absurd (omega (arith, when.1))
-not_forced pages page forced (Err _) changed over when = absurd when

@@ -197,12 +197,6 @@ decoded_only bytes o e d is h = e ∙ ap (λ (b : List ℕ). deed_of (deed_at b)
 pub decoded_told : (bytes : List ℕ) (o : Option Deed) → o ≡ deed_of (deed_at bytes) → o ≡ deed_in bytes
 decoded_told bytes o e = e ∙ read_is bytes
 
--- bytes that are a deed are its spelling
-pub told_is_spelled : (bytes : List ℕ) (d : Deed) → AreBytes bytes → deed_in bytes ≡ Some d → IsDeed d × (bytes ≡ spelled_deed d)
-told_is_spelled bytes d fits e =
-    let P : Option Deed → Type 0 = λ o. IfSome o (λ d. IsDeed d × (bytes ≡ spelled_deed d)) in
-    subst P e (decoded_some bytes (deed_in bytes) fits (sym (read_is bytes)))
-
 -- the spelling of a deed tells that deed
 pub deeds_are_told : (d : Deed) → IsDeed d → deed_in (spelled_deed d) ≡ Some d
 deeds_are_told d is = sym (read_is (spelled_deed d)) ∙ ap deed_of (deed_again d is)

@@ -77,9 +77,6 @@ Field-txn = Reads-field txn_at make_txn (also (number 8) (number 8)) (both IsPos
     (λ a v. (((v.0.0, v.1.0), (v.0.1, v.1.1)), refl))
     (λ c is. ((c.incarnation, c.count), ((is.0.0, is.1.0), (is.0.1, is.1.1)), refl))
 
-some_txn : Some-of IsTxn
-some_txn = (record { incarnation = 1; count = 1 }, ((omega arith, omega arith), (omega arith, omega arith)))
-
 pub length-txn : (txn : Txn) → length (txn_bytes txn) ≡ 16
 unfolding txn_bytes
 length-txn txn = omega (arith, length-append (number 8 txn.incarnation) (number 8 txn.count), length-number 8 txn.incarnation, length-number 8 txn.count)

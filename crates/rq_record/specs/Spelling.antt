@@ -83,10 +83,6 @@ HasWidths (AbortEnd txn) = FitsTxn txn
 abbrev pub IsRecord : Record → Type 0
 IsRecord r = IsInRange r × HasWidths r
 
--- these bytes are the record's
-abbrev pub Spells : Record → List ℕ → Type 0
-Spells r bytes = IsRecord r × (bytes ≡ spelling r)
-
 -- some record stands at the front
 abbrev pub HoldsRecord : List ℕ → Type 0
 HoldsRecord bytes = (r : Record) × (rest : List ℕ) × IsRecord r × (bytes ≡ spelling r ++ rest)

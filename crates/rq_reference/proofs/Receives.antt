@@ -102,27 +102,6 @@ from_sent s (d ∷ c) = from_append s (filter_map (sent_for s) d.ops) (sent_in c
 pub waits_from : (c : List Done) (s i : ℕ) (m : Message) → Some m ≡ slice_get (rest_in c s) i → m.sender ≡ s
 waits_from c s i m e = from_got s i (rest_in c s) m (from_drop s (length (taken_in c s)) (sent_in c s) (from_sent s c)) (sym e)
 
--- there is an element at a place exactly where the list is longer
-pub got_within : {X : Type 0} (xs : List X) (i : ℕ) → is_some (slice_get xs i) ≡ nat_lt i (length xs)
-got_within [] i = grind (arith, nat_tests)
-got_within (x ∷ xs) zero = grind (arith, nat_tests)
-got_within (x ∷ xs) (suc i) =
-    let h = got_within xs i in
-    elim (cases_Bool (nat_lt i (length xs))) [
-      | inl y ↦ let g : nat_lt (suc i) (length (x ∷ xs)) ≡ true = grind (arith, nat_tests) in h ∙ y ∙ sym g
-      | inr y ↦ let g : nat_lt (suc i) (length (x ∷ xs)) ≡ false = grind (arith, nat_tests) in h ∙ y ∙ sym g
-    ]
-
--- a free group gives a message exactly where there is one behind those that were taken
-pub gives_next : (l : Ledger) (t : Txn) (s : ℕ) (x : Option Open) (r : Option Message) → free_to_receive t s l.open_ones ≡ true
-    → OnFound x (λ o. r ≡ slice_get (rest_in l.committed s) (length (own_takes s o))) → is_some r ≡ gives l t x s
-gives_next l t s None r f h = absurd h
-gives_next l t s (Some o) r f h = rw f (ap is_some h ∙ got_within (rest_in l.committed s) (length (own_takes s o)))
-
-pub gives_none : (l : Ledger) (t : Txn) (s : ℕ) (x : Option Open) → free_to_receive t s l.open_ones ≡ false → gives l t x s ≡ false
-gives_none l t s None f = refl
-gives_none l t s (Some o) f = rw f refl
-
 pub gives_holds : (l : Ledger) (t : Txn) (s : ℕ) (x : Option Open) → gives l t x s ≡ true → OnFound x (λ o. IsTrue (holds_for l o s))
 gives_holds l t s None g = absurd (true≢false (sym g))
 gives_holds l t s (Some o) g = (and_parts (free_to_receive t s l.open_ones) (holds_for l o s) g).1
@@ -135,16 +114,6 @@ gives_free l t s (Some o) g = (and_parts (free_to_receive t s l.open_ones) (hold
 pub gives_not : (l : Ledger) (t : Txn) (s : ℕ) (x : Option Open) → is_some x ≡ true → gives l t x s ≡ false → free_to_receive t s l.open_ones ≡ true → OnFound x (λ o. holds_for l o s ≡ false)
 gives_not l t s None k g f = absurd (true≢false (sym k))
 gives_not l t s (Some o) k g f = let h : (true && holds_for l o s) ≡ false = rw f at g in h
-
--- one sender more
-pub filter_below : (p : ℕ → Bool) (n : ℕ) → filter p (below (n + 1)) ≡ filter p (below n) ++ filter p (n ∷ [])
-filter_below p n = let e : n + 1 ≡ suc n = omega arith in rw e (filter-append p (below n) (n ∷ []))
-
-pub filter_yes : (p : ℕ → Bool) (n : ℕ) → p n ≡ true → filter p (n ∷ []) ≡ n ∷ []
-filter_yes p n e = rw e refl
-
-pub filter_no : (p : ℕ → Bool) (n : ℕ) → p n ≡ false → filter p (n ∷ []) ≡ []
-filter_no p n e = rw e refl
 
 -- any group gives one where there is a first that does
 pub any_first : (ss : List ℕ) (l : Ledger) (t : Txn) (x : Option Open) → any_gives ss l t x ≡ is_some (first (filter (gives l t x) ss))

@@ -133,23 +133,6 @@ module _ (log mended : List Record) (m : IsMended log mended) (h : Analysis) (no
     ]
   not_begun z first now_paged _ before now untouched repeated planned recovered b = absurd b
 
--- why the log was not mended is why nothing was begun
-pub mend_not_begun : (z : Sizes) (log : List Record) (first : Paged) (e : Refusal) (before now : ℕ) (untouched : Type 0) → now ≡ before → untouched → MendStops z log first e → WhyNotBegun z log first e before now untouched
-mend_not_begun z log first why.NoMemory before now untouched same here s = (same, here)
-mend_not_begun z log first why.LogFull before now untouched same here s = (s, here)
-mend_not_begun z log first (why.Damaged (damage.Record lsn)) before now untouched same here s = (s, here)
-mend_not_begun z log first (why.Damaged (damage.Page page)) before now untouched same here s = (s, here)
-mend_not_begun z log first _ before now untouched same here s = absurd s
-
--- and why the store stays shut
-pub not_begun_shut : (z : Sizes) (log : List Record) (first : Paged) (e : Refusal) (before now : ℕ) (untouched : Type 0) → WasGoneThrough z log first → WhyNotBegun z log first e before now untouched → WhyShut z log first e before now untouched
-not_begun_shut z log first why.NoMemory before now untouched gone s = s
-not_begun_shut z log first why.LogFull before now untouched gone s = (s.0, gone, s.1)
-not_begun_shut z log first why.DiskWrite before now untouched gone s = (s, gone)
-not_begun_shut z log first (why.Damaged (damage.Record lsn)) before now untouched gone s = (s.0, gone, s.1)
-not_begun_shut z log first (why.Damaged (damage.Page page)) before now untouched gone s = (inr (s.0, gone), s.1)
-not_begun_shut z log first _ before now untouched gone s = absurd s
-
 -- the records behind, as they were forced
 pub begun_behind : (z : Sizes) (left : Type 0) (log mended : List Record) (r : Record) (kept : ℕ) (seen bytes : List ℕ) → IsMended log mended → (left → IsRecovered z log mended) → r ≡ next_restart mended → AreSpelled log → seen ≡ spelled log → AreSpelled (r ∷ mended)
     → GoesOn (r ∷ mended) kept seen bytes → IsBegunBehind z left log bytes

@@ -37,19 +37,6 @@ found_next f k log r lsn place are may e = record {
   follow = (may.follows, are.follow);
 }
 
--- one record more is repeated
-pub repeated_one : (z : Sizes) (older : List Record) (r : Record) (lsn : ℕ) (old new : Paged) → lsn ≡ length older + 1 → MayFollow older r → MayRedo z old.image lsn r → Redoes (told_by r) lsn old.image new.image → Marks (told_by r) lsn old new.changed
-    → IsRepeated z older r old new
-repeated_one z older r lsn old new place next may redone marked = record {
-  belongs = record { next = next.next; follows = next.follows; may = subst (λ n. MayRedo z old.image n r) place may };
-  redone = subst (λ n. Redoes (told_by r) n old.image new.image) place redone;
-  marked = subst (λ n. Marks (told_by r) n old new.changed) place marked;
-}
-
--- memory is wanting
-pub not_for_memory : (z : Sizes) (older : List Record) (r : Record) (mid : Paged) (e : Refusal) → e ≡ why.NoMemory → NotRepeated z older r mid e
-not_for_memory z older r mid e is = subst (NotRepeated z older r mid) (sym is) tt
-
 -- bytes that begin with a record more begin without it
 begins_before : (r : Record) (front : List Record) (bytes : List ℕ) → BeginsWith (r ∷ front) bytes → BeginsWith front bytes
 begins_before r front bytes h = (spelling r ++ h.0, h.1 ∙ append_assoc (spelled front) (spelling r) h.0)

@@ -6,7 +6,6 @@ pub mod Loading
 pub mod Counting
 pub mod Moments
 pub mod Paths
-pub mod Worked
 pub mod Tallying
 pub mod Undos
 pub mod Begun

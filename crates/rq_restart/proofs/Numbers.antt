@@ -23,13 +23,6 @@ of_pages_add : (z : Sizes) (xs : List WrittenOver) (w : WrittenOver) → AreOfPa
 of_pages_add z [] w are low high = (low, high, tt)
 of_pages_add z (x ∷ xs) w are low high = (are.0, are.1, of_pages_add z xs w are.2 low high)
 
--- nothing is repeated yet
-pub kept_none : (z : Sizes) (first : Paged) (numbers : List WrittenOver) → numbers ≡ [] → AreKept z 0 first first numbers
-kept_none z first numbers none = subst (λ (l : List WrittenOver). AreKept z 0 first first l) (sym none) (record {
-  of_pages = tt;
-  same = λ p count low high le. ((λ c. (c, tt)), (λ c. c.0));
-})
-
 -- one record more is repeated
 module _ (z : Sizes) (n : ℕ) (first mid last : Paged) (old new : List WrittenOver) (k : AreKept z n first mid old) where
   -- a page that is the same as before
@@ -191,8 +184,3 @@ first_of z records first last numbers (Some p) (Some q) k m o = elim (cases_lt p
     first = λ r low lt. let high : r < page_count z = (let h = o.1 in omega (arith, lt, h)) in (k.same r records low high (omega arith)).1 (m.first r low (omega (arith, lt, more)), o.3 r lt);
   })
 ]
-
-pub none_lesser : (m o : Option ℕ) → lesser m o ≡ None → m ≡ None
-none_lesser None o e = refl
-none_lesser (Some p) None e = e
-none_lesser (Some p) (Some q) e = search e

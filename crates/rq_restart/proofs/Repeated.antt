@@ -83,8 +83,3 @@ counted_more z log r old new one all p low high = by (told_by r) one.redone one.
 pub repeated_order : (z : Sizes) (log : List Record) (first last : Paged) → Repeats z log first last → InOrder log
 repeated_order z [] first last r = tt
 repeated_order z (q ∷ log) first last r = (r.2.belongs.next, repeated_order z log first r.0 r.1)
-
--- and each record of it follows the rules
-pub repeated_follow : (z : Sizes) (log : List Record) (first last : Paged) → Repeats z log first last → FollowAll log
-repeated_follow z [] first last r = tt
-repeated_follow z (q ∷ log) first last r = (r.2.belongs.follows, repeated_follow z log first r.0 r.1)

@@ -6,14 +6,6 @@ pub on_ok : {T E A B : Type 0} (r : Result T E) → (A → B) → OnOk r A → O
 on_ok (Ok x) f h = f h
 on_ok (Err e) f h = h
 
-pub on_ok_both : {T E A B C : Type 0} (r : Result T E) → (A → B → C) → OnOk r A → OnOk r B → OnOk r C
-on_ok_both (Ok x) f h k = f h k
-on_ok_both (Err e) f h k = h
-
-pub if_ok : {T E : Type 0} {A B : T → Type 0} (r : Result T E) → ((x : T) → A x → B x) → IfOk r A → IfOk r B
-if_ok (Ok x) f h = f x h
-if_ok (Err e) f h = h
-
 pub if_ok_both : {T E : Type 0} {A B C : T → Type 0} (r : Result T E) → ((x : T) → A x → B x → C x) → IfOk r A → IfOk r B → IfOk r C
 if_ok_both (Ok x) f h k = f x h k
 if_ok_both (Err e) f h k = h
@@ -21,11 +13,3 @@ if_ok_both (Err e) f h k = h
 pub if_ok_all : {T E : Type 0} {A B C D : T → Type 0} (r : Result T E) → ((x : T) → A x → B x → C x → D x) → IfOk r A → IfOk r B → IfOk r C → IfOk r D
 if_ok_all (Ok x) f h k l = f x h k l
 if_ok_all (Err e) f h k l = h
-
-pub if_ok_with : {T E B : Type 0} {A C : T → Type 0} (r : Result T E) → ((x : T) → A x → B → C x) → IfOk r A → OnOk r B → IfOk r C
-if_ok_with (Ok x) f h k = f x h k
-if_ok_with (Err e) f h k = h
-
-pub if_err : {T E : Type 0} {A B : E → Type 0} (r : Result T E) → ((x : E) → A x → B x) → IfErr r A → IfErr r B
-if_err (Ok x) f h = h
-if_err (Err e) f h = f e h

@@ -126,6 +126,3 @@ module _ (z y : Sizes) (log last : List Record) (first now : Paged) (sizes : y �
     bad = λ b. s.1 (subst (λ x. Belongs x last r now) (sym sizes) b);
   }
   going_stops r h _ is next s start before = absurd s
-
-pub going_none : (z : Sizes) (log : List Record) (first : Paged) → IsGoingOn z log log first first
-going_none z log first = record { undoing = undoing_none log; repeated = λ start before. before; counted = λ before. before }

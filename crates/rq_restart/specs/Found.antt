@@ -31,7 +31,3 @@ findings_after lsn r f = record {
   numbers = numbers_after r f.numbers;
   ended = ended_after r f.ended;
 }
-
--- what is left to be undone of transactions: how many have no end, and how much of what they did is not taken back
-abbrev pub rounds_found : Findings → ℕ
-rounds_found f = length f.history.working + length f.dues

@@ -104,10 +104,6 @@ without_one o u (x ∷ os) = elim (cases_Bool (same_op u x)) [
   not_that true f = absurd (f refl)
   not_that false f = refl
 
--- where this one has begun, and has no end
-begun_own : (b c : Bool) → b ≡ true → c ≡ b → c ≡ true
-begun_own b c y e = e ∙ y
-
 same_begun : (u o : Sub) (log : List Record) → has_op u log ≡ true → (same_op u o || has_op o log) ≡ has_op o log
 same_begun u o log h = elim (cases_Bool (same_op u o)) [
   | inl own ↦ rw own (sym (ap (λ (v : Sub). has_op v log) (sym (op_is u o own)) ∙ h))

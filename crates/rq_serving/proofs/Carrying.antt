@@ -260,9 +260,3 @@ keeps_on a b c x y z first second k = second (first k)
 pub stays_kept : (a b c : Stage) (x y z : Option CommitNo) → KeepsNumber a x b y → c ≡ b → z ≡ y → KeepsNumber a x c z
 stays_kept a b c x y z first at is k =
     subst (λ (t : Stage). AwaitsNumber (awaited t) z) (sym at) (subst (AwaitsNumber (awaited b)) (sym is) (first k))
-
--- the session was told nothing
-pub stays_there : (s to : Stage) (o : Option Told) (old new : Option CommitNo) → o ≡ None → to ≡ s → NumberAfter old o new
-    → KeepsNumber s old to new
-stays_there s to o old new none at n =
-    stays_kept s s to old old new (λ k. k) at (subst (λ (x : Option Told). NumberAfter old x new) none n)

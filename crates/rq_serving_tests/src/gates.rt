@@ -4,14 +4,14 @@ ghost use Rattle.rq_shared.specs.Begun.{begins_with};
 ghost use Rattle.rq_shared.specs.Entries.{WasSound};
 
 use crate::connection::{Connection, connected};
-use crate::stores::{has_aborted, small_engine};
+use crate::stores::{begun, called, has_aborted, small_engine, started};
 use bytes::BytesMut;
 use rq_disk::{LogDevice, MemLog, MemPages, PageDevice};
 use rq_engine::engine::Engine;
 use rq_engine::event::{Event, Outcome, Reply};
 use rq_levels::StoreLevel;
 use rq_model::refusal::Refusal;
-use rq_model::txn::{Sub, Txn};
+use rq_model::txn::Sub;
 use rq_shared::kept::{AuditEntry, Kept, Stamped};
 use rq_shared::mark::Mark;
 use rq_shared::shared::Shared;
@@ -176,28 +176,9 @@ struct Other<S: Steps> {
     under_way: Option<Sub>,
 }
 
-// Makes a call: its stamp.
-fn called<S: Steps>(steps: &mut S, event: Event) -> Stamped {
-    steps.call(event)
-}
-
-fn begun(stamped: &Stamped) -> Option<Txn> {
-    match stamped.reply() {
-        Reply::Begun(txn) => Some(*txn),
-        _ => None,
-    }
-}
-
-fn started(stamped: &Stamped) -> Option<Sub> {
-    match stamped.reply() {
-        Reply::Started(sub) => Some(*sub),
-        _ => None,
-    }
-}
-
 // Begins a transaction, and starts its send for the last sender.
 fn start<S: Steps>(other: &mut Other<S>) -> Option<()> {
-    let txn = begun(&called(&mut other.steps, Event::Begin))?;
+    let txn = begun(&mut other.steps)?;
     let event = Event::StartSend {
         txn,
         sender: 14,

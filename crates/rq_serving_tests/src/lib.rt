@@ -1,4 +1,4 @@
-//! Tests of sessions over a store: bytes as a connection brings them, and the bytes that they are answered with.
+//! Tests of what calls a store: workers, threads that share one, and sessions, with the bytes that a connection brings.
 #![tactic(auto)]
 
 #[cfg(test)]
@@ -6,8 +6,12 @@ mod connection;
 #[cfg(test)]
 mod gates;
 #[cfg(test)]
+mod loops;
+#[cfg(test)]
 mod shared;
 #[cfg(test)]
 mod stores;
 #[cfg(test)]
 mod stream;
+#[cfg(test)]
+mod threads;

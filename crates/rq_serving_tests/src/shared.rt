@@ -3,7 +3,7 @@ ghost use Rattle.std.specs.Prelude.{◌≡◌};
 ghost use Rattle.rq_shared.specs.Begun.{begins_with};
 ghost use Rattle.rq_shared.specs.Entries.{WasSound};
 
-use crate::stores::{small_engine, told};
+use crate::stores::{begun, called, small_engine, started, told};
 use rq_disk::{LogDevice, MemLog, MemPages, PageDevice};
 use rq_engine::engine::Engine;
 use rq_engine::event::{Event, Outcome, Progress, Reply};
@@ -22,24 +22,6 @@ use std::test::Fail;
 type Store = Kept<MemPages, MemLog, StoreLevel>;
 
 // The functions that follow promise nothing, and know of no store: so a test of many calls is checked fast.
-
-fn called<S: Steps>(steps: &mut S, event: Event) -> Stamped {
-    steps.call(event)
-}
-
-fn begun(stamped: &Stamped) -> Option<Txn> {
-    match stamped.reply() {
-        Reply::Begun(txn) => Some(*txn),
-        _ => None,
-    }
-}
-
-fn started(stamped: &Stamped) -> Option<Sub> {
-    match stamped.reply() {
-        Reply::Started(sub) => Some(*sub),
-        _ => None,
-    }
-}
 
 // Whether a step wrote a slot, so that another is to come.
 fn has_written(stamped: &Stamped) -> bool {
@@ -61,7 +43,7 @@ fn gone_through<S: Steps>(steps: &mut S, sub: Sub) -> Option<Outcome> {
 
 // Sends a message of the first sender, whose tag is 7, and commits it.
 fn send<S: Steps>(alloc: Global, steps: &mut S) -> Option<()> {
-    let txn = begun(&called(steps, Event::Begin))?;
+    let txn = begun(steps)?;
     let start = Event::StartSend {
         txn,
         sender: 0,
@@ -76,7 +58,7 @@ fn send<S: Steps>(alloc: Global, steps: &mut S) -> Option<()> {
 
 // Receives a message, and commits: the transaction, and the message's tag.
 fn receive<S: Steps>(steps: &mut S) -> Option<(Txn, u64)> {
-    let txn = begun(&called(steps, Event::Begin))?;
+    let txn = begun(steps)?;
     let sub = started(&called(steps, Event::StartReceive(txn)))?;
     let outcome = gone_through(steps, sub)?;
     drop(called(steps, Event::Commit(txn)));

@@ -1,35 +1,52 @@
-//! A store for tests, and what it holds once a session is over.
-use rq_disk::{CallKind, LogDevice, MemLog, MemPages, Mishap, PageDevice, Switch};
+//! Stores and calls for tests. They promise nothing, so that what makes many of them is checked fast.
+use rq_disk::{CallKind, LogDevice, MemLog, MemPages, Mishap, PageChoice, PageDevice, Switch};
 use rq_engine::engine::Engine;
-use rq_engine::event::Reply;
+use rq_engine::event::{CommitNo, Event, Outcome, Receipt, Reply};
+use rq_level::Level;
 use rq_levels::{StoreLevel, levels_of_store};
+use rq_model::txn::{Sub, Txn};
 use rq_page::layout::Layout;
 use rq_restart::format::format;
 use rq_restart::restart::restart;
-use rq_shared::kept::AuditEntry;
-use std::alloc::Global;
+use rq_shared::kept::{AuditEntry, Kept, Stamped};
+use rq_workers::acts::Ended;
+use rq_workers::gate::Gate;
+use rq_workers::kept::KeptSteps;
+use rq_workers::shared::Keep;
+use rq_workers::steps::Steps;
+use rq_workers::trail::Trail;
+use rq_workers::worker::Worker;
+use std::alloc::{AllocError, Global};
+use std::snapshot::Snapshot;
+use std::sync::Wait;
+
+type Small = Engine<MemPages, MemLog, StoreLevel>;
 
 /// A store of one directory and one cell page over devices in memory, formatted and opened.
-pub fn small_engine(alloc: Global) -> Result<Engine<MemPages, MemLog, StoreLevel>, &'static str> {
-    engine_over(alloc, Switch::new(alloc).map_err(|_| "memory")?)
+pub fn small_engine(alloc: Global) -> Result<Small, &'static str> {
+    let layout = Layout::new(1, 1).ok_or("a small store")?;
+    engine_over(alloc, layout, Switch::new(alloc).map_err(|_| "memory")?)
 }
 
-/// Such a store whose next force fails.
-pub fn failing_engine(alloc: Global) -> Result<Engine<MemPages, MemLog, StoreLevel>, &'static str> {
+/// One of two directory and two cell pages.
+pub fn wide_engine(alloc: Global) -> Result<Small, &'static str> {
+    let layout = Layout::new(2, 2).ok_or("a wide store")?;
+    engine_over(alloc, layout, Switch::new(alloc).map_err(|_| "memory")?)
+}
+
+/// A small store whose next force fails.
+pub fn failing_engine(alloc: Global) -> Result<Small, &'static str> {
+    let layout = Layout::new(1, 1).ok_or("a small store")?;
     let switch = Switch::new(alloc).map_err(|_| "memory")?;
     let Ok(for_store) = switch.share() else {
         return Err("memory");
     };
-    let engine = engine_over(alloc, for_store)?;
+    let engine = engine_over(alloc, layout, for_store)?;
     switch.arm_kind(CallKind::Force, Mishap::Fail);
     Ok(engine)
 }
 
-fn engine_over(
-    alloc: Global,
-    switch: Switch,
-) -> Result<Engine<MemPages, MemLog, StoreLevel>, &'static str> {
-    let layout = Layout::new(1, 1).ok_or("a small store")?;
+fn engine_over(alloc: Global, layout: Layout, switch: Switch) -> Result<Small, &'static str> {
     let Ok(for_log) = switch.share() else {
         return Err("memory");
     };
@@ -39,14 +56,175 @@ fn engine_over(
     if format(&mut pages, &layout).is_err() {
         return Err("format");
     }
+    opened(alloc, pages, MemLog::new(alloc, Vec::new(alloc), for_log))
+}
+
+/// What the devices hold, opened.
+pub fn opened<P: PageDevice + Drop, L: LogDevice + Drop>(
+    alloc: Global,
+    pages: P,
+    log: L,
+) -> Result<Engine<P, L, StoreLevel>, &'static str> {
     let Ok(levels) = levels_of_store(alloc) else {
         return Err("memory");
     };
-    let log = MemLog::new(alloc, Vec::new(alloc), for_log);
     match restart(alloc, pages, log, levels) {
         Ok((engine, _)) => Ok(engine),
         Err(_) => Err("restart"),
     }
+}
+
+/// The calls of such a store, under its audit.
+pub fn small_steps(alloc: Global) -> Result<KeptSteps<MemPages, MemLog, StoreLevel>, &'static str> {
+    Ok(KeptSteps::new(Kept::new(alloc, small_engine(alloc)?), 1))
+}
+
+/// The calls that were made, in order; none where memory was wanting.
+pub fn calls_made<P: PageDevice + Drop, L: LogDevice + Drop, B: Level>(
+    alloc: Global,
+    steps: KeptSteps<P, L, B>,
+) -> Option<Vec<Event>> {
+    let kept = steps.into_kept();
+    let mut calls = Vec::new(alloc);
+    for entry in kept.entries() {
+        let call = entry.event().clone().ok()?;
+        calls.push(call).ok()?;
+    }
+    Some(calls)
+}
+
+/// The devices of a kept engine, as a crash leaves them that takes what was not synced or forced.
+pub fn crashed<B: Level>(kept: Kept<MemPages, MemLog, B>) -> (MemPages, MemLog) {
+    let (pages, log) = devices_of(kept);
+    (pages.crash(PageChoice::Synced), log.crash(0))
+}
+
+fn devices_of<P: PageDevice + Drop, L: LogDevice + Drop, B: Level>(kept: Kept<P, L, B>) -> (P, L) {
+    kept.give_back().give_back()
+}
+
+/// The start of a send of this byte.
+pub fn send_of(alloc: Global, txn: Txn, sender: u32, byte: u8) -> Result<Event, AllocError> {
+    let mut body = Vec::new(alloc);
+    body.push(byte)?;
+    Ok(Event::StartSend {
+        txn,
+        sender,
+        tag: 1,
+        body,
+    })
+}
+
+/// The stamp of a call.
+pub fn called<S: Steps>(steps: &mut S, event: Event) -> Stamped {
+    steps.call(event)
+}
+
+/// Begins a transaction.
+pub fn begun<S: Steps>(steps: &mut S) -> Option<Txn> {
+    let stamped = steps.call(Event::Begin);
+    let txn = match stamped.reply() {
+        Reply::Begun(txn) => Some(*txn),
+        _ => None,
+    };
+    steps.seen(stamped);
+    txn
+}
+
+/// The operation that the stamp says is started.
+pub fn started(stamped: &Stamped) -> Option<Sub> {
+    match stamped.reply() {
+        Reply::Started(sub) => Some(*sub),
+        _ => None,
+    }
+}
+
+/// Commits a transaction.
+pub fn committed<S: Steps>(steps: &mut S, txn: Txn) -> Option<CommitNo> {
+    let stamped = steps.call(Event::Commit(txn));
+    let number = match stamped.reply() {
+        Reply::Committed(number) => Some(*number),
+        _ => None,
+    };
+    steps.seen(stamped);
+    number
+}
+
+/// Begins a transaction: it, and the start of its send of this byte.
+pub fn start_of_send<S: Steps>(
+    alloc: Global,
+    steps: &mut S,
+    sender: u32,
+    byte: u8,
+) -> Option<(Txn, Event)> {
+    let txn = begun(steps)?;
+    let start = send_of(alloc, txn, sender, byte).ok()?;
+    Some((txn, start))
+}
+
+/// Whether a send came to its end.
+pub fn is_sent(ended: &Ended) -> bool {
+    matches!(ended, Ended::Finished(Outcome::Sent))
+}
+
+/// Carries out the operation that this call starts, behind a gate: what came of it, and whether the worker goes on.
+pub fn carried_out<G: Gate + Drop, S: Steps, R: Wait>(
+    rt: &R,
+    gate: G,
+    steps: S,
+    start: &Event,
+) -> (Ended, bool, S) {
+    let mut worker = Worker::new(gate, steps);
+    let ended = worker.run(rt, start);
+    let goes_on = worker.goes_on();
+    (ended, goes_on, worker.into_steps())
+}
+
+/// The receipt that the stamp gives.
+pub fn receipt(stamped: &Stamped) -> Option<Receipt> {
+    match stamped.reply() {
+        Reply::Acknowledged(given) => *given,
+        _ => None,
+    }
+}
+
+/// Stamps are kept, where there is memory for them.
+#[derive(Drop)]
+pub struct KeepStamps {
+    pub stamps: Vec<Stamped>,
+    handed: Snapshot<Trail<Stamped>>,
+}
+
+impl KeepStamps {
+    pub fn new(alloc: Global) -> Self {
+        KeepStamps {
+            stamps: Vec::new(alloc),
+            handed: Trail::empty(),
+        }
+    }
+}
+
+impl Keep for KeepStamps {
+    ghost handed = { λ k. k.handed.value };
+
+    fn keep(&mut self, stamped: Stamped) {
+        Trail::note(&mut self.handed, &stamped);
+        let _ = self.stamps.push(stamped);
+    }
+}
+
+/// Whether this sender has sent one message, and what waits of it is one of this byte.
+pub fn has_sent<P: PageDevice + Drop, L: LogDevice + Drop>(
+    engine: &Engine<P, L, StoreLevel>,
+    sender: usize,
+    byte: u8,
+) -> Result<bool, &'static str> {
+    let Ok(groups) = engine.content() else {
+        return Err("content");
+    };
+    let group = groups.get(sender).ok_or("a sender")?;
+    let waiting = group.rest.first().ok_or("a message")?;
+    Ok(group.sent == 1 && group.rest.len() == 1 && waiting.body.as_slice() == [byte].as_slice())
 }
 
 /// How many messages of the first sender are committed, how many were received, and whether no other sender has any.

@@ -17,19 +17,12 @@ use Rattle.rq_shared.specs.declared.kept.Stamped.{Stamped}
 told_cons : (s : Noted) (ss : List Noted) → lacked_memory s.gave ≡ false → left_entries (s ∷ ss) ≡ s ∷ left_entries ss
 told_cons s ss h = rw h refl
 
-told_skip : (s : Noted) (ss : List Noted) → lacked_memory s.gave ≡ true → left_entries (s ∷ ss) ≡ left_entries ss
-told_skip s ss h = rw h refl
-
 own_cons : (p : ℕ) (x : Noted) (xs : List Noted) → x.pass ≡ p → own p (x ∷ xs) ≡ x ∷ own p xs
 own_cons p x xs h = rw (eq-eqb x.pass p h) refl
 
 pub told_here : (ss : List Stamped) (i : ℕ) (s : Stamped) → i < length ss → s ≡ get_or ss i s → lacked_memory (gave s.reply) ≡ false → left_entries (stamps (drop i ss)) ≡ stamp_of s ∷ left_entries (stamps (drop (i + 1) ss))
 told_here ss i s lt is h =
     rw (add-one i, drop-cons ss i s lt, ← is, told_cons (stamp_of s) (stamps (drop (suc i) ss)) h) refl
-
-pub told_past : (ss : List Stamped) (i : ℕ) (s : Stamped) → i < length ss → s ≡ get_or ss i s → lacked_memory (gave s.reply) ≡ true → left_entries (stamps (drop i ss)) ≡ left_entries (stamps (drop (i + 1) ss))
-told_past ss i s lt is h =
-    rw (add-one i, drop-cons ss i s lt, ← is, told_skip (stamp_of s) (stamps (drop (suc i) ss)) h) refl
 
 pub get_is : (xs : List AuditEntry) (k : ℕ) (x e : AuditEntry) → slice_get xs k ≡ Some e → x ≡ get_or xs k x → x ≡ e
 get_is [] k x e h i = absurd (cc)

@@ -40,17 +40,6 @@ use Rattle.rq_sound.proofs.KeptCells.{cell_is, flag_other, flag_same, free_by_by
 
 -- ---- among the writes of a plan
 
-has_joined : (a : ℕ) (xs ys : List ℕ) → has_number a ys ≡ true → has_number a (xs ++ ys) ≡ true
-has_joined a [] ys h = h
-has_joined a (x ∷ xs) ys h = or_right (nat_eq x a) (has_number a (xs ++ ys)) (has_joined a xs ys h)
-
-has_front : (a : ℕ) (xs ys : List ℕ) → has_number a xs ≡ true → has_number a (xs ++ ys) ≡ true
-has_front a [] ys h = absurd (false≢true h)
-has_front a (x ∷ xs) ys h = elim (or_cases (nat_eq x a) (has_number a xs) h) [
-  | inl y ↦ or_left (nat_eq x a) (has_number a (xs ++ ys)) y
-  | inr m ↦ or_right (nat_eq x a) (has_number a (xs ++ ys)) (has_front a xs ys m)
-]
-
 abbrev ats : List Write → List ℕ
 ats [] = []
 ats (w ∷ ws) = w.at ∷ ats ws

@@ -80,14 +80,6 @@ count_sends (f ∷ fs) =
       | inr n ↦ let d : 0 ≡ appends_one f = sym (rw n refl) ∙ b in rw n (omega (arith, a, c, d))
     ]
 
-count_placed : (fs : List Finished) → sum_by takes_placed (placed fs) ≡ sum_by takes_one fs
-count_placed [] = refl
-count_placed (f ∷ fs) =
-    let a : sum_by takes_placed (placed (f ∷ fs)) ≡ sum_by takes_placed (placed fs) + takes_placed (placed_one f) = ap (sum_by takes_placed) (placed_first f fs) ∙ sum_by_push takes_placed (placed fs) (placed_one f) in
-    let b = sum_by-cons takes_one f fs in
-    let c = count_placed fs in
-    omega (arith, a, b, c)
-
 more_waits : (z : Sizes) (log : List Record) (ends : HeldEnds) (q : Row) (ws vs : List ℕ) (o : Option Under) → ((g : ℕ) → g < sender_count z → waits ws g ≤ waits vs g) → IsAsPlanned z log ends q o → IsCovered ws o → IsCovered vs o
 more_waits z log ends q ws vs None more g h = tt
 more_waits z log ends q ws vs (Some v) more g h = at v.aim g.0.sender h where

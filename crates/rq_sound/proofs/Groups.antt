@@ -103,27 +103,6 @@ none_latched (r ∷ rows) p e = let h = or_parts (is_some r.under) (any_under ro
   one None f = refl
   one (Some u) f = cc
 
--- so every group is told, and no operation has anything in the log that is not ended
-pub tells_idle : (s : State) (g : ℕ) (d : Directory) → IsSound s → any_under s.rows ≡ false → g < sender_count s.sizes → slots_now s (directory_at g) ≡ Sender g d → TellsGroup s g d
-tells_idle s g d k idle below at = tells_group s g d k below (none_latched s.rows (directory_at g / 16) idle) at
-
-none_under : (rows : List Row) (r : Row) → any_under rows ≡ false → In r rows → r.under ≡ None
-none_under [] r e i = absurd i
-none_under (q ∷ rows) r e i =
-    let p = or_parts (is_some q.under) (any_under rows) e in
-    elim i [ inl same ↦ ap (λ (x : Row). x.under) same ∙ no_some q.under p.0 | inr j ↦ none_under rows r p.1 j ] where
-      no_some : (o : Option Under) → is_some o ≡ false → o ≡ None
-      no_some None f = refl
-      no_some (Some u) f = cc
-
-pub all_idle : (s : State) (k : IsSound s) → any_under s.rows ≡ false → (o : Sub) → under_way o (items s.sizes s.records) ≡ false
-all_idle s k e o = at (found_row o.txn s.rows) refl where
-  at : (w : Option Row) → found_row o.txn s.rows ≡ w → under_way o (items s.sizes s.records) ≡ false
-  at None f = (k.standing.others o.txn f).idle o.number
-  at (Some r) f =
-      let i = found_in o.txn s.rows r f in
-      ap (λ (t : Txn). under_way (operation t o.number) (items s.sizes s.records)) (sym i.1) ∙ (k.standing.each r i.0).idle o.number (ap (is_under o.number) (none_under s.rows r e i.0))
-
 pub room_left : (s : State) → IsSound s → s.cells_in_use < cell_count s.sizes → count_used s.sizes (slots_now s) < cell_count s.sizes
 room_left s k less = subst (λ (q : Slots). count_used s.sizes q < cell_count s.sizes) (sym (slots_are s k)) (room_to_send s.sizes s.records s.ends s.rows s.incarnation s.begins s.cells_in_use s.waiting k.standing k.counted less)
 

@@ -121,11 +121,6 @@ row_is z log ends i b r whole h =
       going = as_planned z log ends r r.under h.forward h.going;
     }
 
--- its operation under way is a deed
-aim_of : (z : Sizes) (log : List Record) (ends : HeldEnds) (r : Row) (u : Under) (o : Option Under) → o ≡ Some u → one_row.IsAsPlanned z log ends r o → u.aim ≡ Doing (deed_of u.aim)
-aim_of z log ends r u None e h = cc
-aim_of z log ends r u (Some v) e h = let same : v ≡ u = cc in subst (λ (x : Under). x.aim ≡ Doing (deed_of x.aim)) same h.0.aim
-
 appending_is : (z : Sizes) (log : List Record) (ends : HeldEnds) (r : Row) (o : Option Under) → one_row.IsAsPlanned z log ends r o → appending o ≡ one_sound.appending o
 appending_is z log ends r None h = refl
 appending_is z log ends r (Some u) h = ap appends_aim h.0.aim

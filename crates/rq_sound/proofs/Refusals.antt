@@ -116,10 +116,3 @@ tests_read = record {
   done_is = λ s r e. ap has_done (open_is s r e) ∙ first_map op_done r.finished;
   closed_is = closed_here;
 }
-
--- what is so of the operation under way of a row
-pub going_at : (s : State) (k : IsSound s) (t : Txn) (r : Row) (u : Under) → found_row t s.rows ≡ Some r → r.under ≡ Some u → FollowsPlan s.sizes s.records s.ends t u × (r.number ≡ u.number) × IsAimOf r u.aim
-going_at s k t r u e under =
-    let i = found_in t s.rows r e in
-    let g : FollowsPlan s.sizes s.records s.ends r.txn u × (r.number ≡ u.number) × IsAimOf r u.aim = subst (IsAsPlanned s.sizes s.records s.ends r) under (k.standing.each r i.0).going in
-    (subst (λ x. FollowsPlan s.sizes s.records s.ends x u) i.1 g.0, g.1, g.2)

@@ -39,9 +39,6 @@ use Rattle.rq_sound.proofs.Standings.{stands_changed}
 aim_is : (r : Row) (a : Aim) (lsn : ℕ) (d : Deed) → a ≡ Undoing lsn d → IsAimOf r a → (r.aborting ≡ true) × ((fs : List Finished) × (r.finished ≡ fs ++ record { lsn = lsn; deed = d } ∷ []))
 aim_is r a lsn d e h = subst (IsAimOf r) e h
 
-cons_not : {X : Type 0} (x : X) (xs : List X) → x ∷ xs ≡ [] → ⊥
-cons_not x xs e = cc
-
 module _ (z : Sizes) (log : List Record) (ends : HeldEnds) (rows : List Row) (i b cells : ℕ) (waiting ws : List ℕ) (whole : IsWhole z log) (k : AreStanding z log ends rows i b) (c : AreCounted z log rows cells waiting)
     (incarnation : incarnation_of log ≡ i) (some : 1 ≤ i) (r : Row) (u : Under) (lsn : ℕ) (d : Deed) (at_row : found_row r.txn rows ≡ Some r) (under : r.under ≡ Some u) (aim : u.aim ≡ Undoing lsn d) (made : u.made ≡ length u.writes)
     (more : (g : ℕ) → waits ws g ≡ waits waiting g + took g d) where

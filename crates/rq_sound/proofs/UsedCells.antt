@@ -165,15 +165,6 @@ count_made z ws q h k f =
     let e = sum_reverse uses_after ws in
     omega (arith, a, b, c, d, e)
 
--- what a whole operation makes of the number of used cells
-pub turn_moved : (z : Sizes) (l : Places) (t : Turn) (ws : List Write) (q : Slots) → IsPlan l t ws → HasBefores ws q → AllStand z q → WritesStand z ws → count_used z (applied ws q) + lost t ≡ count_used z q + gained t
-turn_moved z l t ws q p f h k =
-    let a = count_writes z ws q h k f in
-    let b = before_is ws in
-    let c = after_is ws in
-    let d = plan_balance l t ws p in
-    omega (arith, a, b, c, d)
-
 find : (f : ℕ → Bool) (n : ℕ) → sum_by (λ i. cond (f i) 1 0) (below n) < n → (i : ℕ) × (i < n) × (f i ≡ false)
 find f zero h = absurd (omega (arith, h))
 find f (suc n) h = elim (cases_Bool (f n)) [

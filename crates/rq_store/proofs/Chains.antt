@@ -123,7 +123,3 @@ closed_is s k g =
     at t (Some r) e =
         let i = found_in t s.rows r e in
         ap (λ (q : Txn). closed g (say (open_deeds q (items s.sizes s.records)))) (sym i.1) ∙ sym (told_ends g (say (open_deeds r.txn (items s.sizes s.records)))) ∙ ap (any_ends g) (told_here s k r i.0) ∙ moves_close_nothing g r.finished (k.rows r i.0).moves
-
--- and has been closed by none of them
-pub closed_by_none : (s : State) (k : IsSound s) (g : ℕ) (r : Row) → In r s.rows → has_closed g (Some (open_of s.ends r)) ≡ false
-closed_by_none s k g r i = moves_close_nothing g r.finished (k.rows r i).moves

@@ -11,10 +11,6 @@ use Rattle.rq_page.specs.Formatted.{IsFormatted, IsHeaderOf}
 use Rattle.rq_views.specs.Stored.{slots_in, slot_at}
 use Rattle.rq_store.specs.Fitting.{left_by, image_in, oldest, ToldWrite, told_by, IsOfPage, IsStamp, HoldsPage, FitsPage, FitsLog}
 
--- the first none, and the first all
-pub oldest_none : (log : List Record) → oldest 0 log ≡ []
-oldest_none log = drop_all (length log - 0) log (omega arith)
-
 pub oldest_all : (log : List Record) → oldest (length log) log ≡ log
 oldest_all log = let e : length log - length log ≡ 0 = omega arith in ap (λ n. drop n log) e
 

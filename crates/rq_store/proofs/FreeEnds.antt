@@ -65,8 +65,5 @@ module _ (ends : HeldEnds) (hs : List Held) (side : Open → List ℕ) (is : (r 
         taken_row t e rows r.0 i.0 (λ w. h.1 (sym i.1 ∙ w)) (ap (λ (x : Txn). has_held x e hs) i.1 ∙ h.2) ∙ sym n
   ]
 
-pub free_is : (s : State) (k : IsSound s) (t : Txn) (e : ℕ) → free_to_send t e (ledger_of s).open_ones ≡ is_free_for t e s.ends.sending
-free_is s k t e = free_side s.ends s.ends.sending (λ (o : Open). o.sending) (λ r. refl) s.rows k.sending t e
-
 pub free_to_take : (s : State) (k : IsSound s) (t : Txn) (e : ℕ) → free_to_receive t e (ledger_of s).open_ones ≡ is_free_for t e s.ends.receiving
 free_to_take s k t e = free_side s.ends s.ends.receiving (λ (o : Open). o.receiving) (λ r. refl) s.rows k.receiving t e

@@ -83,10 +83,6 @@ none_taking s k g u off = at (found_row u s.rows) refl where
       let row = k.rows r i.0 in
       ap (side (on_receiving_end g)) (ap (λ t. open_deeds t (items s.sizes s.records)) (sym i.1) ∙ row.done) ∙ side_none (on_receiving_end g) r.finished (none_taken s.ends r.txn g r.finished (ap (λ t. has_held t g s.ends.receiving) i.1 ∙ off) row.held)
 
--- the holder of a sending end is alone with its sends
-pub alone_sending : (s : State) (k : IsSound s) (g : ℕ) (t : Txn) → has_held t g s.ends.sending ≡ true → Alone (on_sending_end g) t (items s.sizes s.records)
-alone_sending s k g t h u n = none_sending s k g u (false_from_ne_true (has_held u g s.ends.sending) (λ e. n (k.sending.one u t g e h)))
-
 pub alone_taking : (s : State) (k : IsSound s) (g : ℕ) (t : Txn) → has_held t g s.ends.receiving ≡ true → Alone (on_receiving_end g) t (items s.sizes s.records)
 alone_taking s k g t h u n = none_taking s k g u (false_from_ne_true (has_held u g s.ends.receiving) (λ e. n (k.receiving.one u t g e h)))
 

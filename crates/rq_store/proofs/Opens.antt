@@ -43,10 +43,6 @@ opens_without t old new (r ∷ rows) others =
       | inr n ↦ rw n (ap (λ x. x ∷ open_ones_of new (without_row t rows)) (others r (inl refl) (not_same r.txn t n)) ∙ ap (λ l. open_of old r ∷ l) rest)
     ]
 
-pub opens_same : (old new : HeldEnds) (rows : List Row) → ((r : Row) → In r rows → open_of new r ≡ open_of old r) → open_ones_of new rows ≡ open_ones_of old rows
-opens_same old new [] k = refl
-opens_same old new (r ∷ rows) k = ap (λ x. x ∷ open_ones_of new rows) (k r (inl refl)) ∙ ap (λ l. open_of old r ∷ l) (opens_same old new rows (λ q i. k q (inr i)))
-
 busy_under : (o : Option Under) → is_some (job_under o) ≡ is_some o
 busy_under None = refl
 busy_under (Some u) = refl
@@ -62,7 +58,3 @@ owed_is_one ends r (Some u) e = rw e refl
 pub owed_is : (ends : HeldEnds) (rows : List Row) → sum_by owed (open_ones_of ends rows) ≡ owed_by rows
 owed_is ends [] = refl
 owed_is ends (r ∷ rows) = sum_by-cons owed (open_of ends r) (open_ones_of ends rows) ∙ ap (λ n. n + sum_by owed (open_ones_of ends rows)) (owed_is_one ends r r.under refl) ∙ ap (λ n. owed_one r + n) (owed_is ends rows) ∙ sym (sum_by-cons owed_one r rows)
-
-pub count_is : (ends : HeldEnds) (rows : List Row) → length (open_ones_of ends rows) ≡ length rows
-count_is ends [] = refl
-count_is ends (r ∷ rows) = ap suc (count_is ends rows)

@@ -228,7 +228,3 @@ before_is z log k t m page slot before after image legal store befores grows f l
     sym (slot_is_spelling z page slot (slot_of slot image) was).1
     ∙ ap slot_bytes (before_held z log k t m page slot before after image legal store grows f lt)
     ∙ (slot_is_spelling z page slot before is).1
-
--- pages that went through the whole log fit it, and the log of the store that is opened over them
-pub redo_fits : (z : Sizes) (log : List Record) (image : ℕ → List ℕ) → FitsUpTo z image log (length log) → (p : ℕ) → 1 ≤ p → p < page_count z → FitsPage z (next_restart log ∷ log) p (image p)
-redo_fits z log image h p low high = page_fits_more z (next_restart log) log p (image p) (h p low high).fits

@@ -114,26 +114,11 @@ found_gone t u (r ∷ rows) n = elim (cases_Bool (same_txn r.txn t)) [
   | inr m ↦ rw m (elim (cases_Bool (same_txn r.txn u)) [ inl y ↦ rw y refl | inr k ↦ rw k (found_gone t u rows n) ])
 ]
 
-pub none_gone : (t : Txn) (rows : List Row) → found_row t (without_row t rows) ≡ None
-none_gone t [] = refl
-none_gone t (r ∷ rows) = elim (cases_Bool (same_txn r.txn t)) [
-  | inl y ↦ rw y (none_gone t rows)
-  | inr m ↦ rw (m, m) (none_gone t rows)
-]
-
 pub distinct_gone : (t : Txn) (rows : List Row) → AreDistinct rows → AreDistinct (without_row t rows)
 distinct_gone t [] d = tt
 distinct_gone t (r ∷ rows) d = elim (cases_Bool (same_txn r.txn t)) [
   | inl y ↦ rw y (distinct_gone t rows d.1)
   | inr m ↦ rw m (found_gone t r.txn rows (not_same r.txn t m) ∙ d.0, distinct_gone t rows d.1)
-]
-
--- where an operation is under way, some row has it
-pub some_under : (rows : List Row) → any_under rows ≡ true → (r : Row) × In r rows × (is_some r.under ≡ true)
-some_under [] e = absurd (false≢true e)
-some_under (r ∷ rows) e = elim (or_cases (is_some r.under) (any_under rows) e) [
-  | inl y ↦ (r, inl refl, y)
-  | inr k ↦ let g = some_under rows k in (g.0, inr g.1, g.2)
 ]
 
 pub none_under : (rows : List Row) (r : Row) → any_under rows ≡ false → In r rows → is_some r.under ≡ false

@@ -18,9 +18,6 @@ use Rattle.rq_store.specs.Plans.{Stands_at}
 abbrev NoneAtZero : Slots → Type 0
 NoneAtZero q = q 0 ≡ Free
 
-same_cell : (a b : Cell) → Used a ≡ Used b → a ≡ b
-same_cell a b e = cc
-
 same_some : (a b : Cell) → Some a ≡ Some b → a ≡ b
 same_some a b e = cc
 

@@ -86,10 +86,6 @@ and_false true true = refl
 and_false true false = refl
 and_false false b = refl
 
--- the item of a write's record
-pub item_is : (z : Sizes) (t : Txn) (n : ℕ) (w : SlotWrite) → item_of z (page_op t n w) ≡ PageOp (operation t n) (write_of z w)
-item_is z t n w = ap (λ (a : ℕ). PageOp (operation t n) (record { at = a; before = held_in z (w.at / 16) w.before; after = held_in z (w.at / 16) w.after })) (address_is w.at)
-
 stepped_job : (o : Option Under) → job_under (under_stepped o) ≡ job_under o
 stepped_job None = refl
 stepped_job (Some u) = refl

@@ -79,28 +79,3 @@ unlink_head_count l q s d c None v zero at shows pos here beside =
 unlink_head_count l q s d c (Some x) v zero at shows pos here beside =
     let f = first_cells q s d v c (Some x) zero pos here beside (shows_here l q s v d (sym at) shows) in
     sym (rw (lt-ltb 1 (length v.messages) (f.more x refl)) refl)
-
--- where a chain holds a message, its first cell stands where the directory says
-pub head_stands : (q : Slots) (s : ℕ) (d : Directory) (v : View) → Shows (cells_of q) s d v → 0 < length v.messages → (0 < d.head) × ((c : Cell) × (q d.head ≡ Used c))
-head_stands q s d v k more = at k.nodes k.linked k.head k.messages where
-  used_is : (x : Slot) (c : Cell) → cell_in x ≡ Some c → x ≡ Used c
-  used_is Free c e = cc
-  used_is (Used b) c e = ap (λ y. Used y) (same_some b c e)
-  used_is (Sender r f) c e = cc
-
-  at : (ns : List Node) → Linked (cells_of q) s 0 (d.received + 1) ns 0 → d.head ≡ first ns 0 → v.messages ≡ map message ns → (0 < d.head) × ((c : Cell) × (q d.head ≡ Used c))
-  at [] l h m = absurd (let n : length v.messages ≡ 0 = ap (λ (x : List (ℕ × List ℕ)). length x) m in omega (arith, more, n))
-  at (n ∷ ns) l h m = ((let p = l.0 in omega (arith, p, h)), (record { sender = s; sequence = d.received + 1; tag = n.tag; body = n.body; next = first ns 0; prev = 0 }, ap q h ∙ used_is (q n.at) _ l.1))
-
--- and the cell that it names stands too
-pub next_stands : (q : Slots) (s : ℕ) (d : Directory) (v : View) (c : Cell) → Shows (cells_of q) s d v → 0 < d.head → q d.head ≡ Used c → 0 < c.next → (x : Cell) × (cell_in (q c.next) ≡ Some x)
-next_stands q s d v c k pos here more = at k.nodes k.linked k.head where
-  at : (ns : List Node) → Linked (cells_of q) s 0 (d.received + 1) ns 0 → d.head ≡ first ns 0 → (x : Cell) × (cell_in (q c.next) ≡ Some x)
-  at [] l h = absurd (omega (arith, pos, h))
-  at (n ∷ ns) l h =
-      let is : c ≡ record { sender = s; sequence = d.received + 1; tag = n.tag; body = n.body; next = first ns 0; prev = 0 } = same_some c _ (ap cell_in (sym here) ∙ ap (cells_of q) h ∙ l.1) in
-      behind ns l.2 (ap (λ (x : Cell). x.next) is)
-    where
-      behind : (ns : List Node) → Linked (cells_of q) s n.at (d.received + 1 + 1) ns 0 → c.next ≡ first ns 0 → (x : Cell) × (cell_in (q c.next) ≡ Some x)
-      behind [] l e = absurd (omega (arith, more, e))
-      behind (m ∷ ms) l e = (record { sender = s; sequence = d.received + 1 + 1; tag = m.tag; body = m.body; next = first ms 0; prev = n.at }, ap (cells_of q) e ∙ l.1)

@@ -113,18 +113,6 @@ holds_is s k g r m i alone =
 pub removed_is : (s : State) (k : IsSound s) (g : ℕ) (r : Row) → In r s.rows → removed g (say (open_deeds r.txn (items s.sizes s.records))) ≡ takes_in g r
 removed_is s k g r i = sym (told_taken g (say (open_deeds r.txn (items s.sizes s.records)))) ∙ ap (λ l. length (filter_map (taken_from g) l)) (told_here s k r i)
 
--- what is left of the committed messages when its own takes are taken
-pub left_is : (s : State) (k : IsSound s) (g : ℕ) (r : Row) → In r s.rows
-    → length (with_all (side (on_receiving_end g) (open_deeds r.txn (items s.sizes s.records))) (committed (items s.sizes s.records) g)).messages + takes_in g r ≡ length (rest_in (committed_of s.records) g) - takes_in g r + takes_in g r
-left_is s k g r i =
-    let ps = open_deeds r.txn (items s.sizes s.records) in
-    let c = committed (items s.sizes s.records) g in
-    let a : length (with_all (side (on_receiving_end g) ps) c).messages ≡ length (drop (removed g (say ps)) c.messages) = ap (λ (v : View). length v.messages) (takes_form g ps c) in
-    let b = length-drop (removed g (say ps)) c.messages in
-    let d = rest_shown s.sizes g s.records k.log.rules k.log.reads in
-    let e = removed_is s k g r i in
-    omega (arith, a, b, d, e)
-
 get_dropped : {X : Type 0} (k : ℕ) (xs : List X) (x : X) (rest : List X) → drop k xs ≡ x ∷ rest → slice_get xs k ≡ Some x
 get_dropped zero [] x rest e = cc
 get_dropped zero (y ∷ xs) x rest e = let f : y ≡ x = cc in ap (λ z. Some z) f
@@ -170,12 +158,3 @@ more_left s k g r m i more =
     let w0 = w.0 in
     let w1 = w.1 in
     omega (arith, w0, w1, b, own, d, more)
-
--- where a message waits, the chain holds one
-pub waits_in_chain : (s : State) (k : IsSound s) (g : ℕ) → g < sender_count s.sizes → waits s.waiting g ≤ length (view (items s.sizes s.records) g).messages
-waits_in_chain s k g m =
-    let a = chain_is s k g in
-    let b = opens_as_rows (λ (o : Open). length (own_takes g o)) s.ends s.rows in
-    let c : sum_by (λ r. length (own_takes g (open_of s.ends r))) s.rows ≡ sum_by (takes_in g) s.rows = refl in
-    let d = k.waiting g m in
-    omega (arith, a, b, c, d)

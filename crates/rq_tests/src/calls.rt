@@ -1,5 +1,5 @@
 //! Calls of a store for tests. They promise nothing, so that what makes many of them is checked fast.
-use rq_disk::{CallKind, LogDevice, MemLog, MemPages, Mishap, PageChoice, PageDevice, Switch};
+use rq_disk::{LogDevice, MemLog, MemPages, PageChoice, PageDevice, Switch};
 use rq_engine::event::{Event, Reply};
 use rq_levels::{StoreLevel, levels_of_store};
 use rq_model::refusal::Refusal;
@@ -65,31 +65,4 @@ pub fn handed_over<P: PageDevice + Drop, L: LogDevice + Drop>(
 /// What a crash leaves of both devices.
 pub fn crashed(pages: MemPages, log: MemLog, choice: PageChoice, keep: u64) -> (MemPages, MemLog) {
     (pages.crash(choice), log.crash(keep))
-}
-
-/// What both devices are left as where the machine stops in the append of a restart, of which so many records are left.
-pub fn stopped(
-    alloc: Global,
-    switch: &Switch,
-    pages: MemPages,
-    log: MemLog,
-    keep: u64,
-) -> Result<(MemPages, MemLog), AllocError> {
-    let levels = levels_of_store(alloc)?;
-    switch.arm_kind(CallKind::Write, Mishap::Stop);
-    let restarted = restart(alloc, pages, log, levels);
-    let stops = has_stopped(switch);
-    match restarted {
-        Err(stopped) if stops => {
-            Ok(crashed(stopped.pages, stopped.log, PageChoice::Newest, keep))
-        }
-        _ => Err(AllocError),
-    }
-}
-
-// Whether the machine stopped; it runs again.
-fn has_stopped(switch: &Switch) -> bool {
-    let stopped = switch.is_stopped();
-    switch.reset();
-    stopped
 }

@@ -1,4 +1,5 @@
-use rq_content::content;
+//! What a store shows of transactions that have not ended: nothing.
+use rq_content::{GroupContent, content};
 use rq_disk::{MemPages, PAGE, PageDevice, Switch};
 use rq_model::message::Body;
 use rq_model::record::{Deed, Slot};
@@ -11,31 +12,44 @@ use rq_page::page::Page;
 use rq_pool::Pages;
 use rq_txn::{Aim, Finished, Operation, Transactions};
 use std::alloc::Global;
+use std::process::Abort;
 use std::test::Fail;
 
-// The pages of a formatted store with one directory page and one cell page.
-fn formatted(alloc: Global, layout: &Layout, switch: Switch) -> Result<MemPages, Fail> {
-    let mut device = MemPages::zeroed(alloc, layout.pages(), switch)?;
+// Writes the pages of an empty store; whether all were written.
+fn format<P: PageDevice>(device: &mut P, layout: &Layout) -> bool {
     let mut page = Page::from_image(&[0; PAGE]);
     for number in 0..layout.pages() {
         layout.format(number, &mut page);
         if device.write(number, page.image()).is_err() {
-            return Err(Fail::from("write"));
+            return false;
         }
     }
-    Ok(device)
+    true
 }
 
-// Writes a slot.
-fn put(pages: &mut Pages<MemPages>, at: Addr, image: &Slot) -> Result<(), Fail> {
+fn load<P: PageDevice + Drop>(alloc: Global, device: P) -> Option<Pages<P>> {
+    Pages::load(alloc, device).ok()
+}
+
+// The pages of a formatted store.
+fn empty(alloc: Global, layout: &Layout) -> Result<Pages<MemPages>, Fail> {
+    let mut device = MemPages::zeroed(alloc, layout.pages(), Switch::new(alloc)?)?;
+    if !format(&mut device, layout) {
+        return Err("write".into());
+    }
+    Ok(load(alloc, device).ok_or("load")?)
+}
+
+// Writes a slot; whether it is one of the store's.
+fn put<P: PageDevice>(pages: &mut Pages<P>, at: Addr, image: &Slot) -> bool {
     let Ok(page) = u32::try_from(at.page()) else {
-        return Err(Fail::from("an address of the store"));
+        return false;
     };
     if !pages.layout().check_slot(page, at.slot(), image) {
-        return Err(Fail::from("a slot of the store"));
+        return false;
     }
     pages.set_slot(at, image, 5);
-    Ok(())
+    true
 }
 
 // A transaction that has finished these deeds.
@@ -63,37 +77,27 @@ fn open_with(alloc: Global, deeds: &[Deed]) -> Result<Transactions, Fail> {
     Ok(transactions)
 }
 
-// Sender 3 was sent messages 7, 8 and 9. A transaction that has not ended took 7, sent 9 and closed the group.
-#[test]
-fn what_is_not_committed_is_left_out(rt: HostRuntime) -> Result<(), Fail> {
-    let layout = Layout::new(1, 1).ok_or("a small store")?;
-    let switch = Switch::new(rt.alloc())?;
-    let device = formatted(rt.alloc(), &layout, switch)?;
-    let Ok(mut pages) = Pages::load(rt.alloc(), device) else {
-        return Err(Fail::from("load"));
+// The first two cells of a store of one directory page, with messages 8 and 9 of sender 3, and its group, which is closed.
+fn slots(body: Body) -> [(Addr, Slot); 3] {
+    let first = Addr::from_number(33);
+    let second = Addr::from_number(34);
+    let eighth = Cell {
+        sender: 3,
+        sequence: 2,
+        tag: 8,
+        next: second,
+        prev: Addr::NONE,
+        body,
     };
-    let body = Body::new(b"hello").ok_or("short")?;
-    let first = layout.cell_addr(0);
-    let second = layout.cell_addr(1);
-    let cells = [
-        Cell {
-            sender: 3,
-            sequence: 2,
-            tag: 8,
-            next: second,
-            prev: Addr::NONE,
-            body,
-        },
-        Cell {
-            sender: 3,
-            sequence: 3,
-            tag: 9,
-            next: Addr::NONE,
-            prev: first,
-            body,
-        },
-    ];
-    let directory = DirectorySlot {
+    let ninth = Cell {
+        sender: 3,
+        sequence: 3,
+        tag: 9,
+        next: Addr::NONE,
+        prev: first,
+        body,
+    };
+    let group = DirectorySlot {
         sender: 3,
         directory: Directory {
             closed: true,
@@ -104,14 +108,25 @@ fn what_is_not_committed_is_left_out(rt: HostRuntime) -> Result<(), Fail> {
             tail: second,
         },
     };
-    for (at, image) in [
-        (first, CellSlot::Used(cells[0]).encode()),
-        (second, CellSlot::Used(cells[1]).encode()),
-        (layout.directory_of(3), directory.encode()),
-    ] {
-        put(&mut pages, at, &image)?;
+    [
+        (first, CellSlot::Used(eighth).encode()),
+        (second, CellSlot::Used(ninth).encode()),
+        (Addr::from_number(20), group.encode()),
+    ]
+}
+
+// Writes these slots; whether all are the store's.
+fn put_all<P: PageDevice>(pages: &mut Pages<P>, slots: &[(Addr, Slot)]) -> bool {
+    let mut all = true;
+    for (at, image) in slots {
+        all &= put(pages, *at, image);
     }
-    let deeds = [
+    all
+}
+
+// What a transaction did that has not ended: it took message 7, sent 9 and closed the group.
+fn deeds(body: Body) -> [Deed; 3] {
+    [
         Deed::UnlinkHead {
             sender: 3,
             sequence: 1,
@@ -126,16 +141,43 @@ fn what_is_not_committed_is_left_out(rt: HostRuntime) -> Result<(), Fail> {
             body,
         },
         Deed::Close { sender: 3 },
-    ];
-    let transactions = open_with(rt.alloc(), &deeds)?;
-    let Ok(groups) = content(rt.alloc(), &pages, &transactions) else {
-        return Err(Fail::from("content"));
-    };
-    assert!(rt; groups.len() == 15);
-    let group = groups.get(3).ok_or("sender 3")?;
-    assert!(rt; group.sent == 2 && group.last_tag == 8);
-    assert!(rt; group.received == 0 && !group.closed);
+    ]
+}
+
+// What the store shows beside that transaction.
+fn shown<P: PageDevice>(
+    alloc: Global,
+    pages: &Pages<P>,
+    deeds: &[Deed],
+) -> Result<Vec<GroupContent>, Fail> {
+    let transactions = open_with(alloc, deeds)?;
+    match content(alloc, pages, &transactions) {
+        Ok(groups) => Ok(groups),
+        Err(_) => Err("content".into()),
+    }
+}
+
+// Sender 3 was sent messages 7, 8 and 9; one transaction that has not ended took 7, sent 9 and closed the group.
+fn shown_of_three(alloc: Global) -> Result<Vec<GroupContent>, Fail> {
+    let layout = Layout::new(1, 1).ok_or("a small store")?;
+    let body = Body::new(b"hello").ok_or("short")?;
+    let mut pages = empty(alloc, &layout)?;
+    if !put_all(&mut pages, &slots(body)) {
+        return Err("a slot of the store".into());
+    }
+    shown(alloc, &pages, &deeds(body))
+}
+
+fn is_left_out(rt: &impl Abort, group: &GroupContent) {
+    assert!(rt; (group.sent, group.last_tag, group.received, group.closed) == (2, 8, 0, false));
     assert!(rt; group.rest.len() == 2);
     assert!(rt; group.rest[0].tag == 7 && group.rest[1].tag == 8);
+}
+
+#[test]
+fn what_is_not_committed_is_left_out(rt: HostRuntime) -> Result<(), Fail> {
+    let groups = shown_of_three(rt.alloc())?;
+    assert!(rt; groups.len() == 15);
+    is_left_out(&rt, groups.get(3).ok_or("sender 3")?);
     Ok(())
 }

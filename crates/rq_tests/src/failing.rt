@@ -1,5 +1,6 @@
 //! Each device call of a run fails once, in turn: it is answered as a failure of the device, every call behind it as of
 //! a failed store, and a crash that follows leaves what was committed and forced, and nothing else.
+use crate::file_store::blank_files;
 use crate::stores::{Machine, Medium, Store, blank};
 use rq_content::GroupContent;
 use rq_disk::PageChoice;
@@ -8,6 +9,7 @@ use rq_model::refusal::Refusal;
 use rq_model::txn::{Sub, Txn};
 use rq_page::layout::Layout;
 use std::alloc::Global;
+use std::fs;
 use std::test::Fail;
 
 /// Why a run ends that should not.
@@ -242,14 +244,14 @@ impl Run {
     }
 
     // What is left after a crash: buffered records are handed over, which no failure meets, and so many of the unforced
-    // ones outlive it.
+    // ones outlive it; none of them where a call of the plan was cut off.
     fn crash<S: Store>(
         &mut self,
         store: &mut S,
         plan: &Plan,
         choice: PageChoice,
     ) -> Result<(), Trouble> {
-        store.crash(choice, plan.keep);
+        store.crash(choice, if self.is_cut { 0 } else { plan.keep });
         self.open(store)?;
         match plan.left.get(self.forces) {
             Some(left) => is_left(store, left),
@@ -415,11 +417,31 @@ fn holds(group: &GroupContent, left: &Left) -> bool {
             .all(|(message, body)| message.body.as_slice() == *body)
 }
 
-// A run whose nth device call fails, through a crash; whether it made so many.
+// A run over devices in memory whose nth call fails, through a crash; whether it made so many.
 fn run_failing(alloc: Global, plan: &Plan, choice: PageChoice, n: u64) -> Result<bool, Trouble> {
     let layout = Layout::new(1, 1).ok_or("a small store")?;
     let (memory, devices) = blank(alloc, &layout).map_err(|_| "memory")?;
     run_over(alloc, memory, devices, &layout, plan, choice, n)
+}
+
+// The same over files in a folder.
+fn run_failing_files(
+    rt: &HostRuntime,
+    folder: &'static str,
+    plan: &Plan,
+    n: u64,
+) -> Result<bool, Trouble> {
+    let layout = Layout::new(1, 1).ok_or("a small store")?;
+    let (medium, shut) = blank_files(rt, folder)?;
+    run_over(
+        rt.alloc(),
+        medium,
+        shut,
+        &layout,
+        plan,
+        PageChoice::Newest,
+        n,
+    )
 }
 
 fn run_over<K: Drop, D: Drop, M: Medium<K, D> + Drop>(
@@ -432,10 +454,10 @@ fn run_over<K: Drop, D: Drop, M: Medium<K, D> + Drop>(
     n: u64,
 ) -> Result<bool, Trouble> {
     let mut store = Machine::new(medium, devices);
-    is_met(alloc, &mut store, layout, plan, choice, n)
+    has_failed(alloc, &mut store, layout, plan, choice, n)
 }
 
-fn is_met<S: Store>(
+fn has_failed<S: Store>(
     alloc: Global,
     store: &mut S,
     layout: &Layout,
@@ -449,11 +471,11 @@ fn is_met<S: Store>(
     run.open(store)?;
     run.make_all(store, plan.calls)?;
     run.crash(store, plan, choice)?;
-    let is_met = store.calls() >= n;
-    if run.failures != u32::from(is_met) {
+    let has_failed = store.has_failed(n);
+    if run.failures != u32::from(has_failed) {
         return Err("a failure that nobody told, or one too many");
     }
-    Ok(is_met)
+    Ok(has_failed)
 }
 
 // Each device call of the plan fails in turn, whichever image of a page the crash leaves; how many there are.
@@ -470,31 +492,43 @@ fn calls_failing(alloc: Global, plan: &Plan) -> Result<u64, Trouble> {
     Err("a run that does not end")
 }
 
+// Each call of the files fails in turn; how many there are.
+fn file_calls_failing(rt: &HostRuntime, folder: &'static str, plan: &Plan) -> Result<u64, Trouble> {
+    for n in 1..100 {
+        if !run_failing_files(rt, folder, plan, n)? {
+            fs::remove_dir_all(rt, folder).map_err(|_| "a folder")?;
+            return Ok(n - 1);
+        }
+    }
+    Err("a run that does not end")
+}
+
 // A format writes three pages and syncs; each of two restarts reads three pages and the log, appends and forces; a
 // force appends and forces.
+const A_MESSAGE_THAT_IS_FORCED: Plan = Plan {
+    calls: &[
+        Call::Begin,
+        Call::Send(7, b"hello"),
+        Call::Commit,
+        Call::Acknowledge(false),
+        Call::Force,
+        Call::Acknowledge(true),
+    ],
+    keep: 0,
+    left: &[
+        NOTHING,
+        Left {
+            sent: 1,
+            last_tag: 7,
+            rest: &[b"hello"],
+            ..NOTHING
+        },
+    ],
+};
+
 #[test]
 fn a_message_that_is_forced(rt: HostRuntime) -> Result<(), Fail> {
-    let plan = Plan {
-        calls: &[
-            Call::Begin,
-            Call::Send(7, b"hello"),
-            Call::Commit,
-            Call::Acknowledge(false),
-            Call::Force,
-            Call::Acknowledge(true),
-        ],
-        keep: 0,
-        left: &[
-            NOTHING,
-            Left {
-                sent: 1,
-                last_tag: 7,
-                rest: &[b"hello"],
-                ..NOTHING
-            },
-        ],
-    };
-    assert!(rt; calls_failing(rt.alloc(), &plan)? >= 18);
+    assert!(rt; calls_failing(rt.alloc(), &A_MESSAGE_THAT_IS_FORCED)? >= 18);
     Ok(())
 }
 
@@ -507,147 +541,203 @@ const ONE: Left = Left {
     rest: &[b"a"],
 };
 
+const A_RECEIVE_THAT_IS_NOT_FORCED: Plan = Plan {
+    calls: &[
+        Call::Begin,
+        Call::Send(1, b"a"),
+        Call::Commit,
+        Call::Begin,
+        Call::Receive(b"a"),
+        Call::Commit,
+    ],
+    keep: 4,
+    left: &[ONE],
+};
+
 #[test]
 fn a_receive_that_is_not_forced(rt: HostRuntime) -> Result<(), Fail> {
-    let plan = Plan {
-        calls: &[
-            Call::Begin,
-            Call::Send(1, b"a"),
-            Call::Commit,
-            Call::Begin,
-            Call::Receive(b"a"),
-            Call::Commit,
-        ],
-        keep: 4,
-        left: &[ONE],
-    };
-    assert!(rt; calls_failing(rt.alloc(), &plan)? >= 16);
+    assert!(rt; calls_failing(rt.alloc(), &A_RECEIVE_THAT_IS_NOT_FORCED)? >= 16);
     Ok(())
 }
 
 // Beside the calls above, a hand-over, a force and two writes of pages.
+const A_RECEIVE_THAT_IS_FORCED_AND_ITS_PAGES: Plan = Plan {
+    calls: &[
+        Call::Begin,
+        Call::Send(1, b"a"),
+        Call::Commit,
+        Call::Begin,
+        Call::Receive(b"a"),
+        Call::HandOver,
+        Call::Commit,
+        Call::Force,
+        Call::Acknowledge(true),
+        Call::Write(1),
+        Call::Write(2),
+    ],
+    keep: 0,
+    left: &[
+        NOTHING,
+        Left {
+            received: 1,
+            rest: &[],
+            ..ONE
+        },
+    ],
+};
+
 #[test]
 fn a_receive_that_is_forced_and_its_pages(rt: HostRuntime) -> Result<(), Fail> {
-    let plan = Plan {
-        calls: &[
-            Call::Begin,
-            Call::Send(1, b"a"),
-            Call::Commit,
-            Call::Begin,
-            Call::Receive(b"a"),
-            Call::HandOver,
-            Call::Commit,
-            Call::Force,
-            Call::Acknowledge(true),
-            Call::Write(1),
-            Call::Write(2),
-        ],
-        keep: 0,
-        left: &[
-            NOTHING,
-            Left {
-                received: 1,
-                rest: &[],
-                ..ONE
-            },
-        ],
-    };
-    assert!(rt; calls_failing(rt.alloc(), &plan)? >= 21);
+    assert!(rt; calls_failing(rt.alloc(), &A_RECEIVE_THAT_IS_FORCED_AND_ITS_PAGES)? >= 21);
     Ok(())
 }
 
 // A send and a receive are undone beside a message that stays: three forces, five hand-overs and two writes of pages.
+const ABORTS_THAT_ARE_FORCED: Plan = Plan {
+    calls: &[
+        Call::Begin,
+        Call::Begin,
+        Call::Begin,
+        Call::As(1),
+        Call::Send(1, b"a"),
+        Call::HandOver,
+        Call::Commit,
+        Call::Acknowledge(false),
+        Call::Force,
+        Call::Acknowledge(true),
+        Call::As(2),
+        Call::Send(2, b"b"),
+        Call::HandOver,
+        Call::As(3),
+        Call::Receive(b"a"),
+        Call::HandOver,
+        Call::As(2),
+        Call::Abort,
+        Call::HandOver,
+        Call::As(3),
+        Call::StartAbort,
+        Call::Undo,
+        Call::HandOver,
+        Call::EndAbort,
+        Call::Force,
+        Call::Write(1),
+        Call::Write(2),
+        Call::Force,
+    ],
+    keep: 0,
+    left: &[NOTHING, ONE, ONE, ONE],
+};
+
 #[test]
 fn aborts_that_are_forced(rt: HostRuntime) -> Result<(), Fail> {
-    let plan = Plan {
-        calls: &[
-            Call::Begin,
-            Call::Begin,
-            Call::Begin,
-            Call::As(1),
-            Call::Send(1, b"a"),
-            Call::HandOver,
-            Call::Commit,
-            Call::Acknowledge(false),
-            Call::Force,
-            Call::Acknowledge(true),
-            Call::As(2),
-            Call::Send(2, b"b"),
-            Call::HandOver,
-            Call::As(3),
-            Call::Receive(b"a"),
-            Call::HandOver,
-            Call::As(2),
-            Call::Abort,
-            Call::HandOver,
-            Call::As(3),
-            Call::StartAbort,
-            Call::Undo,
-            Call::HandOver,
-            Call::EndAbort,
-            Call::Force,
-            Call::Write(1),
-            Call::Write(2),
-            Call::Force,
-        ],
-        keep: 0,
-        left: &[NOTHING, ONE, ONE, ONE],
-    };
-    assert!(rt; calls_failing(rt.alloc(), &plan)? >= 28);
+    assert!(rt; calls_failing(rt.alloc(), &ABORTS_THAT_ARE_FORCED)? >= 28);
     Ok(())
 }
 
 // A close is undone and another is committed behind a message, which is received then: three forces, four hand-overs and
 // three writes of pages.
+const CLOSES_THAT_ARE_FORCED: Plan = Plan {
+    calls: &[
+        Call::Begin,
+        Call::Begin,
+        Call::Begin,
+        Call::As(1),
+        Call::Close,
+        Call::HandOver,
+        Call::Abort,
+        Call::Force,
+        Call::As(2),
+        Call::Send(1, b"a"),
+        Call::Close,
+        Call::HandOver,
+        Call::SendToClosed,
+        Call::Commit,
+        Call::Acknowledge(false),
+        Call::Force,
+        Call::Acknowledge(true),
+        Call::Write(2),
+        Call::As(3),
+        Call::SendToClosed,
+        Call::Receive(b"a"),
+        Call::HandOver,
+        Call::Commit,
+        Call::HandOver,
+        Call::Force,
+        Call::Acknowledge(true),
+        Call::Write(1),
+        Call::Write(2),
+    ],
+    keep: 0,
+    left: &[
+        NOTHING,
+        NOTHING,
+        Left {
+            closed: true,
+            ..ONE
+        },
+        Left {
+            received: 1,
+            closed: true,
+            rest: &[],
+            ..ONE
+        },
+    ],
+};
+
 #[test]
 fn closes_that_are_forced(rt: HostRuntime) -> Result<(), Fail> {
-    let plan = Plan {
-        calls: &[
-            Call::Begin,
-            Call::Begin,
-            Call::Begin,
-            Call::As(1),
-            Call::Close,
-            Call::HandOver,
-            Call::Abort,
-            Call::Force,
-            Call::As(2),
-            Call::Send(1, b"a"),
-            Call::Close,
-            Call::HandOver,
-            Call::SendToClosed,
-            Call::Commit,
-            Call::Acknowledge(false),
-            Call::Force,
-            Call::Acknowledge(true),
-            Call::Write(2),
-            Call::As(3),
-            Call::SendToClosed,
-            Call::Receive(b"a"),
-            Call::HandOver,
-            Call::Commit,
-            Call::HandOver,
-            Call::Force,
-            Call::Acknowledge(true),
-            Call::Write(1),
-            Call::Write(2),
-        ],
-        keep: 0,
-        left: &[
-            NOTHING,
-            NOTHING,
-            Left {
-                closed: true,
-                ..ONE
-            },
-            Left {
-                received: 1,
-                closed: true,
-                rest: &[],
-                ..ONE
-            },
-        ],
-    };
-    assert!(rt; calls_failing(rt.alloc(), &plan)? >= 28);
+    assert!(rt; calls_failing(rt.alloc(), &CLOSES_THAT_ARE_FORCED)? >= 28);
+    Ok(())
+}
+
+#[test]
+fn a_message_that_is_forced_in_files(rt: HostRuntime) -> Result<(), Fail> {
+    assert!(rt;
+        file_calls_failing(
+            &rt,
+            "a_message_that_is_forced_test",
+            &A_MESSAGE_THAT_IS_FORCED
+        )? >= 18
+    );
+    Ok(())
+}
+
+#[test]
+fn a_receive_that_is_not_forced_in_files(rt: HostRuntime) -> Result<(), Fail> {
+    assert!(rt;
+        file_calls_failing(
+            &rt,
+            "a_receive_that_is_not_forced_test",
+            &A_RECEIVE_THAT_IS_NOT_FORCED
+        )? >= 16
+    );
+    Ok(())
+}
+
+#[test]
+fn a_receive_that_is_forced_and_its_pages_in_files(rt: HostRuntime) -> Result<(), Fail> {
+    assert!(rt;
+        file_calls_failing(
+            &rt,
+            "a_receive_that_is_forced_and_its_pages_test",
+            &A_RECEIVE_THAT_IS_FORCED_AND_ITS_PAGES
+        )? >= 21
+    );
+    Ok(())
+}
+
+#[test]
+fn aborts_that_are_forced_in_files(rt: HostRuntime) -> Result<(), Fail> {
+    assert!(rt;
+        file_calls_failing(&rt, "aborts_that_are_forced_test", &ABORTS_THAT_ARE_FORCED)? >= 28
+    );
+    Ok(())
+}
+
+#[test]
+fn closes_that_are_forced_in_files(rt: HostRuntime) -> Result<(), Fail> {
+    assert!(rt;
+        file_calls_failing(&rt, "closes_that_are_forced_test", &CLOSES_THAT_ARE_FORCED)? >= 28
+    );
     Ok(())
 }

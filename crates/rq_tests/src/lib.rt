@@ -1,36 +1,45 @@
-//! Tests of scripts, of the engine under its audit and with several operations under way, of the content that it shows,
-//! and of the queue as plain lists.
+//! Tests over stores: the worked scripts, the queue as plain lists beside an engine, calls of devices and of files that fail, the
+//! audit, the content, what a restart says of damaged logs and pages, stores in files, and levels in boxes. What scripts and
+//! happenings can show stands in tests/, as data.
 #![tactic(auto)]
 
 #[cfg(test)]
-mod agreement;
+mod bytes;
 #[cfg(test)]
 mod calls;
 #[cfg(test)]
-mod chains;
-#[cfg(test)]
 mod content;
 #[cfg(test)]
-mod drawn;
+#[tactic(auto, unfolding(rq_level::specs::Meaning::meaning_of))]
+mod counted;
+#[cfg(test)]
+mod damaged;
+#[cfg(test)]
+#[tactic(auto, unfolding(rq_level::specs::Meaning::meaning_of))]
+mod drops;
 #[cfg(test)]
 mod failing;
 #[cfg(test)]
-mod lists;
+mod faulty;
 #[cfg(test)]
-mod moves;
+mod file_calls;
 #[cfg(test)]
-mod random;
+mod file_store;
+#[cfg(test)]
+mod files;
+#[cfg(test)]
+mod folders;
+#[cfg(test)]
+mod logs;
+#[cfg(test)]
+mod pages;
 #[cfg(test)]
 mod reference;
 #[cfg(test)]
 mod scripts;
 #[cfg(test)]
-mod several;
-#[cfg(test)]
-mod sharing;
-#[cfg(test)]
 mod stores;
 #[cfg(test)]
 mod taken;
 #[cfg(test)]
-mod told;
+mod undoing;

@@ -1,10 +1,9 @@
 //! Stores that tests drive. What makes many calls knows a store by a trait alone, so that it is checked fast.
-use crate::calls::{answered, crashed, devices, formatted, handed_over, opened, stopped};
+use crate::calls::{answered, crashed, devices, formatted, handed_over, opened};
 use rq_disk::{MemLog, MemPages, Mishap, PageChoice, Switch};
 use rq_engine::event::{Event, Reply};
 use rq_levels::StoreLevel;
 use rq_model::refusal::Refusal;
-use rq_model::txn::Lsn;
 use rq_page::layout::Layout;
 use rq_restart::restart::{Report, Stopped};
 use rq_shared::kept::Kept;
@@ -25,14 +24,11 @@ pub trait Store {
     /// Opens the store. Where that is refused, its devices are left for another try.
     fn restart(&mut self) -> Result<Report, Refusal>;
 
-    /// A restart that is stopped in its append, of which so many records are left: how many there are then.
-    fn stop(&mut self, keep: u64) -> Result<Lsn, AllocError>;
-
     /// Has the device call of this number fail, counted from 1.
     fn fail(&mut self, n: u64);
 
-    /// How many calls of its devices were made.
-    fn calls(&self) -> u64;
+    /// Whether that call was made.
+    fn has_failed(&self, n: u64) -> bool;
 }
 
 /// How a store is opened, asked and shut. Shut, it is its devices.
@@ -47,10 +43,11 @@ pub trait Medium<K, D> {
     /// The devices as a crash leaves them, once buffered records are handed over.
     fn crash(&mut self, kept: K, choice: PageChoice, keep: u64) -> D;
 
-    /// The devices as a restart leaves them that is stopped in its append, and how many records are left.
-    fn stop(&mut self, devices: D, keep: u64) -> Result<(D, Lsn), AllocError>;
+    /// Has the device call of this number fail, counted from 1.
+    fn fail(&mut self, n: u64);
 
-    fn switch(&self) -> &Switch;
+    /// Whether that call was made.
+    fn has_failed(&self, n: u64) -> bool;
 }
 
 /// A store, and what opens it. It knows no engine.
@@ -109,21 +106,12 @@ impl<K: Drop, D: Drop, M: Medium<K, D>> Store for Machine<K, D, M> {
         }
     }
 
-    fn stop(&mut self, keep: u64) -> Result<Lsn, AllocError> {
-        let Some(devices) = self.shut.take() else {
-            return Err(AllocError);
-        };
-        let (devices, records) = self.medium.stop(devices, keep)?;
-        self.shut = Some(devices);
-        Ok(records)
-    }
-
     fn fail(&mut self, n: u64) {
-        self.medium.switch().arm_call(n, Mishap::Fail);
+        self.medium.fail(n);
     }
 
-    fn calls(&self) -> u64 {
-        self.medium.switch().calls()
+    fn has_failed(&self, n: u64) -> bool {
+        self.medium.has_failed(n)
     }
 }
 
@@ -179,18 +167,11 @@ impl Medium<Kept<MemPages, MemLog, StoreLevel>, (MemPages, MemLog)> for Memory {
         crashed(pages, log, choice, keep)
     }
 
-    fn stop(
-        &mut self,
-        devices: (MemPages, MemLog),
-        keep: u64,
-    ) -> Result<((MemPages, MemLog), Lsn), AllocError> {
-        let (pages, log) = devices;
-        let (pages, log) = stopped(self.alloc, &self.switch, pages, log, keep)?;
-        let records = log.records();
-        Ok(((pages, log), records))
+    fn fail(&mut self, n: u64) {
+        self.switch.arm_call(n, Mishap::Fail);
     }
 
-    fn switch(&self) -> &Switch {
-        &self.switch
+    fn has_failed(&self, n: u64) -> bool {
+        self.switch.calls() >= n
     }
 }

@@ -7,6 +7,7 @@ use rq_model::txn::Txn;
 use rq_page::layout::Layout;
 use rq_shared::kept::{AuditEntry, Kept};
 use std::alloc::Global;
+use std::process::Abort;
 use std::test::Fail;
 
 // A formatted store of one directory and one cell page, opened.
@@ -96,9 +97,13 @@ fn takes_nothing<P: PageDevice + Drop, L: LogDevice + Drop>(
 #[test]
 fn the_audit_holds_what_was_answered(rt: HostRuntime) -> Result<(), Fail> {
     let mut kept = small_store(rt.alloc())?;
-    let (number, receipt) = make_four(&mut kept)?;
+    is_so(&rt, &mut kept)
+}
+
+fn is_so(rt: &impl Abort, kept: &mut Kept<MemPages, MemLog, StoreLevel>) -> Result<(), Fail> {
+    let (number, receipt) = make_four(kept)?;
     assert!(rt; receipt.number() == number);
-    assert!(rt; take_four(&mut kept) == Some([true; 4]));
-    assert!(rt; takes_nothing(&mut kept));
+    assert!(rt; take_four(kept) == Some([true; 4]));
+    assert!(rt; takes_nothing(kept));
     Ok(())
 }

@@ -49,15 +49,6 @@ none_parts t r rows h =
       | inr e ↦ (e, sym (found_later t r rows e) ∙ h)
     ]
 
--- what is found is the transaction's
-pub found_txn : (t : Txn) (rows : List Row) (r : Row) → found_row t rows ≡ Some r → r.txn ≡ t
-found_txn t [] r h = cc
-found_txn t (x ∷ rows) r h =
-    elim (cases_Bool (same_txn x.txn t)) [
-      | inl e ↦ let g : Some x ≡ Some r = sym (found_first t x rows e) ∙ h in let q : x ≡ r = cc in ap (λ (z : Row). z.txn) (sym q) ∙ same_is x.txn t e
-      | inr e ↦ found_txn t rows r (sym (found_later t x rows e) ∙ h)
-    ]
-
 -- ---- from either side
 
 none_last : (t : Txn) (rows : List Row) (r : Row) → found_row t rows ≡ None → same_txn r.txn t ≡ false → found_row t (rows ++ r ∷ []) ≡ None
@@ -125,10 +116,6 @@ or_after : (a b c : Bool) → (a || (b || c)) ≡ ((a || b) || c)
 or_after true b c = refl
 or_after false b c = refl
 
-or_parts : (a b : Bool) → (a || b) ≡ false → (a ≡ false) × (b ≡ false)
-or_parts true b h = cc
-or_parts false b h = (refl, h)
-
 or_last : (a b : Bool) → (a || (b || false)) ≡ (b || a)
 or_last true true = refl
 or_last true false = refl
@@ -155,9 +142,6 @@ latched_reverse p (x ∷ rows) =
 
 -- ---- after a change
 
-one_keeps : (t : Txn) (f : Row → Row) (r : Row) → KeepsTxn f → (change_row_one t f r).txn ≡ r.txn
-one_keeps t f r k = elim (cases_Bool (same_txn r.txn t)) [ inl e ↦ rw e (k r) | inr e ↦ rw e refl ]
-
 -- a change of a transaction that has no row
 pub change_none : (t : Txn) (f : Row → Row) (rows : List Row) → found_row t rows ≡ None → change_row t f rows ≡ rows
 change_none t f [] h = refl
@@ -179,96 +163,11 @@ found_change_same t f (x ∷ rows) k =
       | inr e ↦ ap (found_row t) (change_later t f x rows e) ∙ found_later t x (change_row t f rows) e ∙ found_change_same t f rows k ∙ ap (option_map f) (sym (found_later t x rows e))
     ]
 
-pub found_change_other : (t u : Txn) (f : Row → Row) (rows : List Row) → KeepsTxn f → same_txn t u ≡ false → found_row u (change_row t f rows) ≡ found_row u rows
-found_change_other t u f [] k h = refl
-found_change_other t u f (x ∷ rows) k h =
-    elim (cases_Bool (same_txn x.txn t)) [
-      | inl e ↦
-          let n : same_txn x.txn u ≡ false = ap (λ w. same_txn w u) (same_is x.txn t e) ∙ h in
-          ap (found_row u) (change_first t f x rows e) ∙ found_later u (f x) (change_row t f rows) (ap (λ w. same_txn w u) (k x) ∙ n) ∙ found_change_other t u f rows k h ∙ sym (found_later u x rows n)
-      | inr e ↦ ap (found_row u) (change_later t f x rows e) ∙ ap (cond (same_txn x.txn u) (Some x)) (found_change_other t u f rows k h)
-    ]
-
-none_change : (t u : Txn) (f : Row → Row) (rows : List Row) → KeepsTxn f → found_row u rows ≡ None → found_row u (change_row t f rows) ≡ None
-none_change t u f [] k h = refl
-none_change t u f (x ∷ rows) k h =
-    let p = none_parts u x rows h in
-    found_later u (change_row_one t f x) (change_row t f rows) (ap (λ w. same_txn w u) (one_keeps t f x k) ∙ p.0) ∙ none_change t u f rows k p.1
-
-pub distinct_change : (t : Txn) (f : Row → Row) (rows : List Row) → KeepsTxn f → AreDistinct rows → AreDistinct (change_row t f rows)
-distinct_change t f [] k d = tt
-distinct_change t f (x ∷ rows) k d =
-    (ap (λ w. found_row w (change_row t f rows)) (one_keeps t f x k) ∙ none_change t x.txn f rows k d.0, distinct_change t f rows k d.1)
-
 -- ---- without one
-
-pub found_without_same : (t : Txn) (rows : List Row) → found_row t (without_row t rows) ≡ None
-found_without_same t [] = refl
-found_without_same t (x ∷ rows) =
-    elim (cases_Bool (same_txn x.txn t)) [
-      | inl e ↦ ap (found_row t) (without_first t x rows e) ∙ found_without_same t rows
-      | inr e ↦ ap (found_row t) (without_later t x rows e) ∙ found_later t x (without_row t rows) e ∙ found_without_same t rows
-    ]
-
-pub found_without_other : (t u : Txn) (rows : List Row) → same_txn t u ≡ false → found_row u (without_row t rows) ≡ found_row u rows
-found_without_other t u [] h = refl
-found_without_other t u (x ∷ rows) h =
-    elim (cases_Bool (same_txn x.txn t)) [
-      | inl e ↦
-          let n : same_txn x.txn u ≡ false = ap (λ w. same_txn w u) (same_is x.txn t e) ∙ h in
-          ap (found_row u) (without_first t x rows e) ∙ found_without_other t u rows h ∙ sym (found_later u x rows n)
-      | inr e ↦ ap (found_row u) (without_later t x rows e) ∙ ap (cond (same_txn x.txn u) (Some x)) (found_without_other t u rows h)
-    ]
-
-none_without : (t u : Txn) (rows : List Row) → found_row u rows ≡ None → found_row u (without_row t rows) ≡ None
-none_without t u [] h = refl
-none_without t u (x ∷ rows) h =
-    let p = none_parts u x rows h in
-    elim (cases_Bool (same_txn x.txn t)) [
-      | inl e ↦ ap (found_row u) (without_first t x rows e) ∙ none_without t u rows p.1
-      | inr e ↦ ap (found_row u) (without_later t x rows e) ∙ found_later u x (without_row t rows) p.0 ∙ none_without t u rows p.1
-    ]
-
-pub distinct_without : (t : Txn) (rows : List Row) → AreDistinct rows → AreDistinct (without_row t rows)
-distinct_without t [] d = tt
-distinct_without t (x ∷ rows) d =
-    let P : List Row → Type 0 = AreDistinct in
-    elim (cases_Bool (same_txn x.txn t)) [
-      | inl e ↦ subst P (sym (without_first t x rows e)) (distinct_without t rows d.1)
-      | inr e ↦ subst P (sym (without_later t x rows e)) (none_without t x.txn rows d.0, distinct_without t rows d.1)
-    ]
 
 -- ---- by place
 
-none_at : (t : Txn) (rows : List Row) (i : ℕ) (r : Row) → found_row t rows ≡ None → i < length rows → r.txn ≡ t → get_or rows i r ≡ r → ⊥
-none_at t [] i r h l q e = omega arith
-none_at t (x ∷ rows) zero r h l q e = let p = none_parts t x rows h in not_same x.txn t p.0 (ap (λ (z : Row). z.txn) e ∙ q)
-none_at t (x ∷ rows) (suc i) r h l q e = let p = none_parts t x rows h in none_at t rows i r p.1 (omega arith) q e
-
--- the row at the transaction's place is the one that a change changes
-pub change_at : (t : Txn) (f : Row → Row) (rows : List Row) (i : ℕ) (r : Row) → AreDistinct rows → i < length rows → r.txn ≡ t → get_or rows i r ≡ r → change_row t f rows ≡ set rows i (f r)
-change_at t f [] i r d l q e = absurd (omega arith)
-change_at t f (x ∷ rows) zero r d l q e =
-    let w : x.txn ≡ t = ap (λ (z : Row). z.txn) e ∙ q in
-    let n : found_row t rows ≡ None = ap (λ u. found_row u rows) (sym w) ∙ d.0 in
-    change_first t f x rows (same_of x.txn t w) ∙ ap (λ l. f x ∷ l) (change_none t f rows n) ∙ ap (λ z. f z ∷ rows) e
-change_at t f (x ∷ rows) (suc i) r d l q e =
-    elim (cases_Bool (same_txn x.txn t)) [
-      | inl y ↦
-          let n : found_row t rows ≡ None = ap (λ u. found_row u rows) (sym (same_is x.txn t y)) ∙ d.0 in
-          absurd (none_at t rows i r n (omega arith) q e)
-      | inr y ↦ change_later t f x rows y ∙ ap (λ z. x ∷ z) (change_at t f rows i r d.1 (omega arith) q e)
-    ]
-
 -- ---- what stands among the rows
-
-pub found_in : (t : Txn) (rows : List Row) (r : Row) → found_row t rows ≡ Some r → In r rows
-found_in t [] r h = cc
-found_in t (x ∷ rows) r h =
-    elim (cases_Bool (same_txn x.txn t)) [
-      | inl e ↦ let g : Some x ≡ Some r = sym (found_first t x rows e) ∙ h in inl (sym (same_Some x r g))
-      | inr e ↦ inr (found_in t rows r (sym (found_later t x rows e) ∙ h))
-    ]
 
 none_in : (t : Txn) (rows : List Row) (r : Row) → found_row t rows ≡ None → In r rows → same_txn r.txn t ≡ false
 none_in t [] r h i = absurd i
@@ -285,34 +184,6 @@ in_found (x ∷ rows) r d i =
       | inr j ↦ found_later r.txn x rows (same_swap r.txn x.txn (none_in x.txn rows r d.0 j)) ∙ in_found rows r d.1 j
     ]
 
--- where no operation is under way, the row that is found has none
-pub found_idle : (t : Txn) (rows : List Row) (r : Row) → any_under rows ≡ false → found_row t rows ≡ Some r → is_some r.under ≡ false
-found_idle t [] r h g = cc
-found_idle t (x ∷ rows) r h g =
-    let p = or_parts (is_some x.under) (any_under rows) h in
-    elim (cases_Bool (same_txn x.txn t)) [
-      | inl e ↦ let q : Some x ≡ Some r = sym (found_first t x rows e) ∙ g in ap (λ (z : Row). is_some z.under) (sym (same_Some x r q)) ∙ p.0
-      | inr e ↦ found_idle t rows r p.1 (sym (found_later t x rows e) ∙ g)
-    ]
-
 -- ---- with one that begins
 
-pub found_begun_same : (t : Txn) (rows : List Row) → found_row t (fresh_row t ∷ rows) ≡ Some (fresh_row t)
-found_begun_same t rows = found_first t (fresh_row t) rows (same_self t)
-
-pub found_begun_other : (t u : Txn) (rows : List Row) → same_txn t u ≡ false → found_row u (fresh_row t ∷ rows) ≡ found_row u rows
-found_begun_other t u rows h = found_later u (fresh_row t) rows h
-
-pub distinct_begun : (t : Txn) (rows : List Row) → found_row t rows ≡ None → AreDistinct rows → AreDistinct (fresh_row t ∷ rows)
-distinct_begun t rows n d = (n, d)
-
 -- ---- the changes keep the numbers of transactions
-
-pub started_keeps : (u : Under) → KeepsTxn (row_started u)
-started_keeps u r = refl
-
-pub stepped_keeps : KeepsTxn row_stepped
-stepped_keeps r = refl
-
-pub finished_keeps : (f : Finished) → KeepsTxn (row_finished f)
-finished_keeps f r = refl

@@ -222,22 +222,6 @@ pub latched_sum : (p : ℕ) (rows : List Row) → ltb 0 (row_sum (latched_one p)
 latched_sum p [] = refl
 latched_sum p (x ∷ rows) = either_counts (latched_under x.under p) (row_sum (latched_one p) rows) ∙ ap (λ b. latched_under x.under p || b) (latched_sum p rows)
 
-length_left : (txn : Txn) (rows : List Row) → length (without_row txn rows) ≤ length rows
-length_left txn [] = omega arith
-length_left txn (x ∷ rows) =
-    elim (cases_Bool (same_txn x.txn txn)) [
-      | inl same ↦ let now = ap length (without_first txn x rows same) in omega (arith, now, length_left txn rows)
-      | inr other ↦ let now = ap length (without_later txn x rows other) in omega (arith, now, length_left txn rows)
-    ]
-
-pub length_without : (txn : Txn) (rows : List Row) (r : Row) → found_row txn rows ≡ Some r → length (without_row txn rows) + 1 ≤ length rows
-length_without txn [] r e = cc
-length_without txn (x ∷ rows) r e =
-    elim (cases_Bool (same_txn x.txn txn)) [
-      | inl same ↦ let now = ap length (without_first txn x rows same) in omega (arith, now, length_left txn rows)
-      | inr other ↦ let now = ap length (without_later txn x rows other) in omega (arith, now, length_without txn rows r (sym (found_later txn x rows other) ∙ e))
-    ]
-
 -- ---- one more
 
 in_push : (places : List Place) (q x : Place) → In x (places ++ q ∷ []) → In x places ⊎ (x ≡ q)

@@ -53,13 +53,6 @@ pub sub_in : (o : Sub) (os : List Sub) → has_sub o os ≡ true → In o os
 sub_in o [] h = absurd (false≢true h)
 sub_in o (u ∷ os) h = elim (or_cases (same_op u o) (has_sub o os) h) [ inl e ↦ inl (sym (same_is u o e)) | inr k ↦ inr (sub_in o os k) ]
 
-pub in_sub : (o : Sub) (os : List Sub) → In o os → has_sub o os ≡ true
-in_sub o [] h = absurd h
-in_sub o (u ∷ os) h = elim h [
-  | inl e ↦ or_left (same_op u o) (has_sub o os) (ap (λ x. same_op x o) (sym e) ∙ same_self o)
-  | inr i ↦ or_right (same_op u o) (has_sub o os) (in_sub o os i)
-]
-
 behind_in : {X : Type 0} (xs : List X) (y x : X) → In x (xs ++ y ∷ []) → (x ≡ y) ⊎ In x xs
 behind_in [] y x h = elim h [ inl e ↦ inl e | inr i ↦ absurd i ]
 behind_in (z ∷ xs) y x h = elim h [ inl e ↦ inr (inl e) | inr i ↦ elim (behind_in xs y x i) [ inl e ↦ inl e | inr j ↦ inr (inr j) ] ]

@@ -105,10 +105,6 @@ pairs_without t n (u ∷ os) = elim (cases_Bool (same_txn t u.txn && nat_eq n u.
   | inr off ↦ rw off (ap (λ l. (u.txn, u.number) ∷ l) (pairs_without t n os))
 ]
 
-pub no_pairs : (os : List Sub) → pairs_of os ≡ [] → os ≡ []
-no_pairs [] e = refl
-no_pairs (u ∷ os) e = cc
-
 -- where operations were noted, one more end
 ended_more : (t : Txn) (n : ℕ) (os : List Sub) (log : List Record) → pairs_of os ≡ unfinished log → pairs_of (without_sub (operation t n) os) ≡ filter (λ p. not ((same_txn t p.0 && nat_eq n p.1) || any_record (operation_ended p.0 p.1) log)) (operations log)
 ended_more t n os log h =

@@ -181,9 +181,6 @@ undoing_whole z log last w h = subst (IsWhole z) h.are (behind_whole z log h.fro
 pub undoing_extends : (log last : List Record) → IsUndoing log last → Extends log last
 undoing_extends log last h = (h.front, h.are, behind_plain log h.front h.undoes)
 
-pub undoing_working : (z : Sizes) (log last : List Record) → IsUndoing log last → (analysis last).working ≡ (analysis log).working
-undoing_working z log last h = ap (λ l. (analysis l).working) (sym h.are) ∙ behind_working z log h.front h.undoes
-
 -- no record yet, and one more
 pub undoing_none : (log : List Record) → IsUndoing log log
 undoing_none log = record { front = []; are = refl; undoes = tt }

@@ -175,13 +175,6 @@ take_law_from (TailUnlinked t ∷ ops) v1 u v w tag body pos e h k =
 take_law_from (Closed ∷ ops) v1 u v w tag body pos e h k = take_law_from ops _ u _ w tag body pos (ap (λ (x : View). let y : View = record x { closed = true } in y) e) h k
 take_law_from (Reopened ∷ ops) v1 u v w tag body pos e h k = take_law_from ops _ u _ w tag body pos (ap (λ (x : View). let y : View = record x { closed = false } in y) e) h k
 
--- a receive, then what the sending end could do without it, then the receive's inverse: what those alone give
-pub take_law : (ops : List Sending) (v w u : View) (tag : ℕ) (body : List ℕ) (rest : List (ℕ × List ℕ)) → v.messages ≡ (tag, body) ∷ rest → AreSent ops v w → AreSent ops (record v { received = v.received + 1; messages = rest }) u → view_put_back u tag body ≡ w
-take_law ops v w u tag body rest e alone done =
-    take_law_from ops _ u v w tag body (omega arith)
-    (ap (λ r. let y : View = record v { messages = r } in y) e ∙ ap (λ r. let y : View = record v { received = r; messages = (tag, body) ∷ rest } in y) (omega arith))
-    done alone
-
 pub written_same : (m : Cells) (at : ℕ) (slot : Option Cell) → written m at slot at ≡ slot
 written_same m at slot = cond-true (at == at) slot (m at) (eq-eqb at at refl)
 
@@ -191,10 +184,6 @@ written_other m at slot a ne = cond-false (a == at) slot (m a) (no_eq a at ne)
 pub last_pos : (m : Cells) (s p q : ℕ) (n : Node) (ns : List Node) (z : ℕ) → Linked m s p q (n ∷ ns) z → 0 < last n.at ns
 last_pos m s p q n [] z l = l.0
 last_pos m s p q n (x ∷ ns) z l = last_pos m s n.at (q + 1) x ns z l.2
-
-pub first_pos : (m : Cells) (s p q : ℕ) (ns : List Node) → Linked m s p q ns 0 → (first ns 0 ≡ 0) ⊎ (0 < first ns 0)
-first_pos m s p q [] l = inl refl
-first_pos m s p q (n ∷ ns) l = inr l.0
 
 -- of a chain that has cells, the last is used
 pub tail_used : (m : Cells) (s q : ℕ) (ns : List Node) → 0 < last 0 ns → Linked m s 0 q ns 0 → (c : Cell) × (m (last 0 ns) ≡ Some c) × (c.sender ≡ s)
@@ -233,22 +222,3 @@ append_shows m s d v new tag body pos free h =
       last_tag = refl;
       messages = ap (λ r. r ++ (tag, body) ∷ []) h.messages ∙ sym (map-append message h.nodes (n ∷ []));
     }
-
--- and every other sender's cells
-pub append_foreign : (m : Cells) (s s' : ℕ) (d : Directory) (v : View) (new tag : ℕ) (body : List ℕ) → s' ≢ s → m new ≡ None → Shows m s d v → (a : ℕ) → (cells_appended m s d new tag body a ≡ m a) ⊎ IsForeign s' (m a)
-append_foreign m s s' d v new tag body ns free h a =
-    let one = written m new (Some (record { sender = s; sequence = d.sent + 1; tag = tag; body = body; next = 0; prev = d.tail })) in
-    let F : Option Cell → Type 0 = IsForeign s' in
-    elim (cases_eq a new) [
-      | inl e ↦ inr (subst F (sym (ap m e ∙ free)) tt)
-      | inr na ↦ elim (cases_eq d.tail 0) [
-        | inl e ↦ inl (ap (λ f. f a) (cond-true (d.tail == 0) one _ (eq-eqb _ _ e)) ∙ written_other m new _ a na)
-        | inr ne ↦ elim (cases_eq a d.tail) [
-          | inl ea ↦ inr (let u = tail_used m s (d.received + 1) h.nodes (omega (arith, h.tail)) h.linked in subst F (sym (ap m (ea ∙ h.tail) ∙ u.1)) (λ g. ns (sym g ∙ u.2)))
-          | inr nt ↦ inl (ap (λ f. f a) (cond-false (d.tail == 0) one _ (no_eq _ _ ne)) ∙ written_other one d.tail _ a nt ∙ written_other m new _ a na)
-        ]
-      ]
-    ]
-
-pub append_others : (m : Cells) (s s' : ℕ) (d d' : Directory) (v v' : View) (new tag : ℕ) (body : List ℕ) → s' ≢ s → m new ≡ None → Shows m s d v → Shows m s' d' v' → Shows (cells_appended m s d new tag body) s' d' v'
-append_others m s s' d d' v v' new tag body ns free h k = record { nodes = k.nodes; linked = frame_foreign m _ s' 0 (d'.received + 1) k.nodes 0 (append_foreign m s s' d v new tag body ns free h) k.linked; head = k.head; tail = k.tail; sent = k.sent; closed = k.closed; received = k.received; last_tag = k.last_tag; messages = k.messages }

@@ -129,9 +129,6 @@ held_taken s os v c t lsn r n tag body yt alone told more h =
       ];
     }
 
-abbrev nil : List Deed
-nil = []
-
 not_nil : (d : Deed) (ds : List Deed) → d ∷ ds ≡ [] → ⊥
 not_nil d ds e = cc
 

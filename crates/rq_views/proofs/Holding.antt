@@ -37,13 +37,6 @@ pub record Holds (s : ℕ) (sent taken : List Said) (c v : View) : Type 0 where
   pub last_tag : v.last_tag ≡ tag_after c.last_tag (added s sent)
   pub messages : v.messages ≡ drop (removed s taken) c.messages ++ map tag_and_body (added s sent)
 
--- the same, where nothing was taken
-pub record HoldsSent (s : ℕ) (sent : List Said) (c v : View) : Type 0 where
-  pub closed : v.closed ≡ (closed s sent || c.closed)
-  pub received : v.received ≡ c.received
-  pub last_tag : v.last_tag ≡ tag_after c.last_tag (added s sent)
-  pub messages : v.messages ≡ c.messages ++ map tag_and_body (added s sent)
-
 -- the view as the holders' deeds make it
 pub view_folds : (s : ℕ) (log : List Item) (t u : Txn) → KeepsGroups log → Alone (on_sending_end s) t log → Alone (on_receiving_end s) u log
     → view log s ≡ with_all (side (on_sending_end s) (open_deeds t log)) (with_all (side (on_receiving_end s) (open_deeds u log)) (committed log s))
@@ -82,19 +75,6 @@ holders s log k =
     let h = held s log k in
     record { sender = h.sender; sends = h.sender_alone; taker = h.taker; takes = h.taker_alone; view = view_holds s log h.sender h.taker k h.sender_alone h.taker_alone }
 
--- where nobody has taken from s and t alone sends for it, the view is what is committed, with t's sends behind it
-pub view_holds_sent : (s : ℕ) (log : List Item) (t : Txn) → KeepsGroups log → ((u : Txn) → side (on_receiving_end s) (open_deeds u log) ≡ []) → Alone (on_sending_end s) t log
-    → HoldsSent s (say (open_deeds t log)) (committed log s) (view log s)
-view_holds_sent s log t k none sends =
-    let c = committed log s in
-    let e = view_folds s log t t k sends (λ u n. none u) ∙ ap (λ ds. with_all (side (on_sending_end s) (open_deeds t log)) (with_all ds c)) (none t) ∙ sends_form s (open_deeds t log) c in
-    record {
-      closed = ap (λ (v : View). v.closed) e;
-      received = ap (λ (v : View). v.received) e;
-      last_tag = ap (λ (v : View). v.last_tag) e;
-      messages = ap (λ (v : View). v.messages) e;
-    }
-
 -- nobody has taken more than is committed
 pub taken_there : (s : ℕ) (log : List Item) (u : Txn) → KeepsGroups log → removed s (say (open_deeds u log)) ≤ length (committed log s).messages
 taken_there s log u k =
@@ -106,11 +86,3 @@ taken_there s log u k =
     let m : length (with_all (side (on_receiving_end s) ps) c).messages ≡ length (drop (removed s (say ps)) c.messages) = ap (λ (v : View). length v.messages) form in
     let d : length (drop (removed s (say ps)) c.messages) ≡ length c.messages - removed s (say ps) = length-drop (removed s (say ps)) c.messages in
     omega arith
-
--- where t alone holds both ends of s, the view is that of the group as t's commit would leave it
-pub view_with_own : (z : Sizes) (s : ℕ) (t : Txn) (log : List Record) → KeepsRules log → ReadsItsDeeds log → KeepsGroups (items z log) → Alone (on_sending_end s) t (items z log) → Alone (on_receiving_end s) t (items z log)
-    → IsViewOf s (with_own s (say (open_deeds t (items z log))) (group_in (committed_of log) s)) (view (items z log) s)
-view_with_own z s t log rules reads groups sends takes =
-    let ps = open_deeds t (items z log) in
-    subst (IsViewOf s (with_own s (say ps) (group_in (committed_of log) s))) (sym (view_folds s (items z log) t t groups sends takes))
-    (committed_own s ps (group_in (committed_of log) s) (committed (items z log) s) (committed_is_group z s log rules reads) (taken_there s (items z log) t groups))

@@ -4,7 +4,6 @@ pub mod Laws
 pub mod Takes
 pub mod Views
 pub mod Owes
-pub mod Undo
 pub mod Rows
 pub mod Interleaved
 pub mod Deeds

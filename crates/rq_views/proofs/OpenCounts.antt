@@ -212,7 +212,3 @@ open_counts z log ts legal store groups rules reads apart all =
         let c = h t in
         let i = each_same f g ts h in
         omega arith
-
--- a transaction that has not ended and undid nothing did what the log tells of it
-pub open_ops_told : (z : Sizes) (t : Txn) (log : List Record) → ReadsItsDeeds log → has_end log t ≡ false → has_undone log t ≡ false → open_ops z log t ≡ told t log
-open_ops_told z t log g e n = ap ops_told (own_deeds z t log g e n)

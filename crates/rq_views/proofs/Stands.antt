@@ -75,10 +75,6 @@ held_stands z (Some kind.Cells) page slot bytes low high e h =
 pub slot_stands : (z : Sizes) (page slot : ℕ) (bytes : List ℕ) → IsSlotOf z page slot bytes → IsInPlace z (address page slot) (held_in z page bytes)
 slot_stands z page slot bytes h = held_stands z (kind_of z page) page slot bytes h.low h.high refl h.held
 
--- a write of the spelling of what a slot may hold is of the store
-pub spelled_in_store : (z : Sizes) (t : Txn) (n page slot : ℕ) (before : List ℕ) (x : Slot) → 1 ≤ slot → slot ≤ 15 → MayHold (kind_of z page) z page slot x → InStoreOne z (records.PageOp t n page slot before (slot_bytes x))
-spelled_in_store z t n page slot before x low high may = (spelling_tells z page slot x low high may).1
-
 -- so does each slot of a formatted store
 pub formatted_stands : (z : Sizes) → AllStand z (formatted_at z)
 formatted_stands z a = elim (cases_Bool (nat_lt 0 (a / 16) && nat_le (a / 16) z.directory && nat_lt 0 (a % 16))) [

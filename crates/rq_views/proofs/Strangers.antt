@@ -63,9 +63,6 @@ pub has_end_same : (z : Sizes) (t : Txn) (log : List Record) → legal.has_end t
 has_end_same z t [] = refl
 has_end_same z t (r ∷ log) = ap (λ b. b || legal.has_end t (items z log)) (ends_same z t r) ∙ ap (λ b. content.ends_txn t r || b) (has_end_same z t log)
 
-pub stranger_end_item : (z : Sizes) (t : Txn) (log : List Record) → IsStranger t log → legal.has_end t (items z log) ≡ false
-stranger_end_item z t log h = has_end_same z t log ∙ stranger_end t log h
-
 -- has undone nothing
 pub stranger_undone : (t : Txn) (log : List Record) → IsStranger t log → has_undone log t ≡ false
 stranger_undone t [] h = refl

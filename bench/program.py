@@ -1,0 +1,25 @@
+"""The program of crates/bench, which the other files here time: where it is, and what each of its words is to print."""
+import argparse
+import os
+import pathlib
+import subprocess
+
+TOP = pathlib.Path(__file__).resolve().parent.parent
+CRATE = TOP / "crates" / "bench"
+PROGRAM = CRATE / "out" / "bench"
+
+
+def built(path=None):
+    """The program at a path; without one that of the crate, which is proved and built first where it is not there."""
+    if path:
+        return os.path.abspath(path)
+    if not PROGRAM.exists():
+        subprocess.run(["rt", "run"], cwd=CRATE, check=True, stdout=subprocess.DEVNULL)
+    return str(PROGRAM)
+
+
+def parser(description):
+    """A reader of words that has `--program`."""
+    words = argparse.ArgumentParser(description=description, formatter_class=argparse.RawDescriptionHelpFormatter)
+    words.add_argument("--program", help="a program that was built elsewhere")
+    return words

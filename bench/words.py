@@ -1,0 +1,65 @@
+#!/usr/bin/env python3
+"""Has each word of the program of crates/bench do a little, and compares what it prints with what it has to.
+
+    python3 bench/words.py [--program PROGRAM]
+"""
+import subprocess
+import sys
+import tempfile
+
+from program import CRATE, built, parser
+
+# A restart of incarnation 1, and the commit of the transaction 1.1.
+LOG = b"\0\0\0\x09\x07" + (1).to_bytes(8, "big") + b"\0\0\0\x11\x06" + (1).to_bytes(8, "big") * 2
+# A begin, a send of sender 3 with the tag 7 and seven bytes, and a commit.
+STREAM = b"\0\1\1" + b"\0\x14\2" + (3).to_bytes(4, "big") + (7).to_bytes(8, "big") + b"hello!!" + b"\0\1\6"
+
+# The words, standard input, and what is printed, in this order and in one folder. Two batches of 64 rounds of four senders
+# make 14 calls a round; a message that is sent makes two writes, an end and a commit, one that is received as many, and a restart one record.
+ROWS = [
+    (["decode", "3"], LOG, "2 records\n"),
+    (["feed", "3"], STREAM, "3 requests, tags 7, bytes 7\n"),
+    (["append", "appended", "100"], b"", "100 appends\n"),
+    (["beside", "receive", "2", "4", "received", "8", "10", "10"], b"", "10 transactions\n"),
+    (["beside", "abort", "2", "4", "sent", "8", "0", "10"], b"", "10 transactions\n"),
+    (["beside", "commit", "2", "4", "begun", "8", "0", "10"], b"", "10 transactions\n"),
+    (["make", ".", "1", "1", "10"], b"", "10 messages\n"),
+    (["open", "."], b"", "restarted 2, 82 records\n"),
+    (["allocations"], b"", (CRATE / "stdout").read_text()),
+    (["calls", "1", "2"], b"", "7168 calls\n"),
+    (["calls", "4", "2"], b"", "7168 calls\n"),
+]
+
+# What is no word, or lacks one, or is at fault: nothing is printed, and the status is 1.
+REFUSED = [
+    (["decode"], LOG[:-1]),
+    (["feed"], b"\0\0"),
+    (["append", "appended"], b""),
+    (["beside", "sent", "1", "1", "begun", "0", "0", "1"], b""),
+    (["make", "none", "1", "1", "1"], b""),
+    (["open", "none"], b""),
+    (["calls", "2", "1"], b""),
+    (["other"], b""),
+    ([], b""),
+]
+
+
+def ended(program, words, stdin, folder):
+    """The status, and what was printed."""
+    run = subprocess.run([program, *words], input=stdin, capture_output=True, cwd=folder)
+    return run.returncode, run.stdout.decode()
+
+
+def main():
+    program = built(parser(__doc__).parse_args().program)
+    wanted = [(*row[:2], 0, row[2]) for row in ROWS] + [(*row, 1, "") for row in REFUSED]
+    with tempfile.TemporaryDirectory() as folder:
+        for words, stdin, status, output in wanted:
+            came = ended(program, words, stdin, folder)
+            if came != (status, output):
+                sys.exit(f"bench {' '.join(words)}: {came}, and not {(status, output)}")
+    print(f"{len(wanted)} runs of bench print what they have to")
+
+
+if __name__ == "__main__":
+    main()

@@ -1,0 +1,146 @@
+//! Transactions of one kind beside others that stay open, over a store in memory.
+use crate::others::open_others;
+use crate::store::new_engine;
+use crate::transactions::{abort, begin, commit, receive, send};
+use crate::words::{named, number, sizes};
+use rq_disk::{LogDevice, PageDevice};
+use rq_engine::engine::Engine;
+use rq_levels::StoreLevel;
+use rq_page::layout::Layout;
+use std::alloc::Global;
+use std::io;
+use std::io::Write;
+
+/// What a transaction that is gone through does.
+#[derive(Clone, Copy)]
+enum Kind {
+    /// It sends and commits.
+    Send,
+    /// It receives and commits.
+    Receive,
+    /// It commits.
+    Commit,
+    /// It sends and aborts.
+    Abort,
+}
+
+const KINDS: [(&str, Kind); 4] = [
+    ("send", Kind::Send),
+    ("receive", Kind::Receive),
+    ("commit", Kind::Commit),
+    ("abort", Kind::Abort),
+];
+
+/// What each of the others did.
+#[derive(Clone, Copy)]
+pub enum Other {
+    /// Nothing.
+    Begun,
+    /// It sent, each for a sender of its own.
+    Sent,
+    /// It received the first of two messages, each from a sender of its own.
+    Received,
+}
+
+const OTHERS: [(&str, Other); 3] = [
+    ("begun", Other::Begun),
+    ("sent", Other::Sent),
+    ("received", Other::Received),
+];
+
+/// What the words ask for.
+#[derive(Clone, Copy)]
+struct Case {
+    /// What each transaction does.
+    kind: Kind,
+    /// How large the store is.
+    layout: Layout,
+    /// What each of the others did.
+    other: Other,
+    /// How many others there are.
+    open: u32,
+    /// How many messages wait before.
+    messages: u32,
+    /// How many transactions are gone through.
+    transactions: u32,
+}
+
+fn case_of(words: &[String]) -> Option<Case> {
+    Some(Case {
+        kind: named(words.get(1)?.as_str(), &KINDS)?,
+        layout: sizes(words, 2)?,
+        other: named(words.get(4)?.as_str(), &OTHERS)?,
+        open: number(words, 5)?,
+        messages: number(words, 6)?,
+        transactions: number(words, 7)?,
+    })
+}
+
+/// Goes through the transactions, and prints how many there were.
+pub fn run<R: Print + AllocGlobal>(rt: &R, words: &[String]) -> io::Result<()> {
+    let Some(case) = case_of(words) else {
+        return Err(io::ErrorKind::InvalidInput.into());
+    };
+    if go(rt.alloc(), &case).is_none() {
+        return Err(io::ErrorKind::Other.into());
+    }
+    let mut writer = io::writer(rt);
+    writeln!(writer, "{} transactions", case.transactions)
+}
+
+// All of it, over a store of its own.
+fn go(alloc: Global, case: &Case) -> Option<()> {
+    let mut engine = new_engine(alloc, case.layout)?;
+    all_of(&mut engine, case)
+}
+
+// The messages that wait and the others come first. What is timed goes by the last sender.
+fn all_of<P: PageDevice, L: LogDevice>(
+    engine: &mut Engine<P, L, StoreLevel>,
+    case: &Case,
+) -> Option<()> {
+    let sender = case.layout.senders().checked_sub(1)?;
+    send_messages(engine, sender, case.messages)?;
+    open_others(engine, case.other, case.open)?;
+    go_through(engine, case.kind, sender, case.transactions)
+}
+
+/// Commits so many messages of a sender.
+pub fn send_messages<P: PageDevice, L: LogDevice>(
+    engine: &mut Engine<P, L, StoreLevel>,
+    sender: u32,
+    messages: u32,
+) -> Option<()> {
+    go_through(engine, Kind::Send, sender, messages)
+}
+
+// Goes through so many transactions. A send is one of this sender.
+fn go_through<P: PageDevice, L: LogDevice>(
+    engine: &mut Engine<P, L, StoreLevel>,
+    kind: Kind,
+    sender: u32,
+    transactions: u32,
+) -> Option<()> {
+    for _ in 0..transactions {
+        one(engine, kind, sender)?;
+    }
+    Some(())
+}
+
+fn one<P: PageDevice, L: LogDevice>(
+    engine: &mut Engine<P, L, StoreLevel>,
+    kind: Kind,
+    sender: u32,
+) -> Option<()> {
+    let txn = begin(engine)?;
+    match kind {
+        Kind::Send => send(engine, txn, sender, b"x")?,
+        Kind::Receive => receive(engine, txn)?,
+        Kind::Commit => {}
+        Kind::Abort => {
+            send(engine, txn, sender, b"x")?;
+            return abort(engine, txn);
+        }
+    }
+    commit(engine, txn)
+}

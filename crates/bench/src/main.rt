@@ -1,0 +1,63 @@
+//! What is timed and counted, by one program: its first word says what is done, and what it prints says what was.
+//!
+//! | Words | What is done |
+//! |---|---|
+//! | `decode ROUNDS` | decodes a log that comes by standard input |
+//! | `feed ROUNDS` | reads the requests of a stream that comes by standard input |
+//! | `append FILE RECORDS` | appends to a log in a file |
+//! | `beside KIND DIRECTORY CELLS OTHER OPEN MESSAGES TRANSACTIONS` | goes through transactions beside others that stay open |
+//! | `make FOLDER DIRECTORY CELLS MESSAGES` | makes a store in a folder |
+//! | `open FOLDER` | opens it |
+//! | `allocations` | carries out two scripts, also where memory is wanting |
+//! | `calls THREADS BATCHES` | makes calls by one thread or by four |
+#![tactic(auto)]
+
+mod allocations;
+mod beside;
+mod decode;
+mod feed;
+mod files;
+mod lines;
+mod others;
+mod reopen;
+mod retried;
+mod rounds;
+mod scripts;
+mod store;
+mod tally;
+mod threads;
+mod transactions;
+mod ways;
+mod words;
+
+use crate::words::Verb;
+use std::fs::File;
+use std::io;
+use std::process::ExitCode;
+use std::rt::{Env, Files};
+use std::sync::Wait;
+use std::thread::Threads;
+
+fn main(rt: HostRuntime) -> ExitCode {
+    match run(&rt) {
+        Ok(()) => ExitCode::from(0),
+        Err(_) => ExitCode::from(1),
+    }
+}
+
+fn run<R: Print + Eprint + Input + AllocGlobal + Env + Files<File = File> + Threads + Wait + Sync>(
+    rt: &R,
+) -> io::Result<()> {
+    let words = words::read(rt)?;
+    match words::verb_of(&words) {
+        Some(Verb::Decode) => decode::run(rt, &words),
+        Some(Verb::Feed) => feed::run(rt, &words),
+        Some(Verb::Append) => files::run(rt, &words),
+        Some(Verb::Beside) => beside::run(rt, &words),
+        Some(Verb::Make) => reopen::make(rt, &words),
+        Some(Verb::Open) => reopen::open(rt, &words),
+        Some(Verb::Allocations) => allocations::run(rt),
+        Some(Verb::Calls) => ways::run(rt, &words),
+        None => Err(io::ErrorKind::InvalidInput.into()),
+    }
+}

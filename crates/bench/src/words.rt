@@ -1,0 +1,73 @@
+//! The words of the process, behind its own name.
+use rq_page::layout::Layout;
+use std::io::Read;
+use std::rt::Env;
+use std::{env, io};
+
+/// What is done.
+#[derive(Clone, Copy)]
+pub enum Verb {
+    Decode,
+    Feed,
+    Append,
+    Beside,
+    Make,
+    Open,
+    Allocations,
+    Calls,
+}
+
+const VERBS: [(&str, Verb); 8] = [
+    ("decode", Verb::Decode),
+    ("feed", Verb::Feed),
+    ("append", Verb::Append),
+    ("beside", Verb::Beside),
+    ("make", Verb::Make),
+    ("open", Verb::Open),
+    ("allocations", Verb::Allocations),
+    ("calls", Verb::Calls),
+];
+
+/// Reads the words.
+pub fn read<R: AllocGlobal + Env>(rt: &R) -> io::Result<Vec<String>> {
+    let mut all = env::args(rt)?;
+    let _ = all.next();
+    let mut words = Vec::new(rt.alloc());
+    for word in all {
+        words.push(word)?;
+    }
+    Ok(words)
+}
+
+/// What the first word says is done.
+pub fn verb_of(words: &[String]) -> Option<Verb> {
+    named(words.first()?.as_str(), &VERBS)
+}
+
+/// What a word names.
+pub fn named<T: Copy>(word: &str, names: &[(&str, T)]) -> Option<T> {
+    for (name, value) in names {
+        if *name == word {
+            return Some(*value);
+        }
+    }
+    None
+}
+
+/// The number at a place; none where there is none.
+pub fn number(words: &[String], place: usize) -> Option<u32> {
+    words.get(place)?.parse().ok()
+}
+
+/// The sizes of a store: the directory pages at a place, and the cell pages behind them.
+pub fn sizes(words: &[String], place: usize) -> Option<Layout> {
+    Layout::new(number(words, place)?, number(words, place.checked_add(1)?)?)
+}
+
+/// All of standard input.
+pub fn input<R: Input + AllocGlobal>(rt: &R) -> io::Result<Vec<u8>> {
+    let mut bytes = Vec::new(rt.alloc());
+    let mut reader = rt.reader();
+    reader.read_to_end(&mut bytes)?;
+    Ok(bytes)
+}

@@ -1,0 +1,751 @@
+"""The queue as plain lists: what each call of a store answers, what a crash leaves, and what a restart then does.
+
+Written from what the queue promises, and from nothing of its code: a history of committed transactions, a log of records, and
+of each page the LSNs of its images. Doors to it are tests/courses.py (scripts) and tests/worlds.py (happenings).
+
+A transaction is a pair (incarnation, count), an operation a pair (transaction, number). Of a page only its LSN is kept: an image
+has all changes of its page up to its LSN.
+"""
+from collections import Counter
+
+SLOTS = 15  # of a page: senders of a directory page, cells of a cell page
+LONGEST_BODY = 216
+MOST_OPEN = 4096
+ALL = 2**64 - 1
+
+REFUSALS = {
+    "NoMemory": 1, "Failed": 2, "DiskRead": 3, "UnknownTransaction": 4, "NotOpen": 5, "Unfinished": 6, "UnknownSender": 7,
+    "TooLong": 8, "SenderBusy": 9, "Closed": 10, "ReceiverBusy": 11, "Full": 12, "Latched": 13, "PoolFull": 14, "DiskWrite": 15,
+    "Damaged": 16, "TooManyTransactions": 17, "NotForced": 18, "LogFull": 19, "UnknownOperation": 20,
+}  # fmt: skip
+
+INVERSES = {"append": "unsend", "take": "put-back", "close": "reopen"}
+
+
+class Refused(Exception):
+    """A call's refusal, by its name."""
+
+    def __init__(self, name):
+        super().__init__(name)
+        self.name = name
+
+    def __str__(self):
+        return f"{REFUSALS[self.name]} {self.name}"
+
+
+class Stopped(Exception):
+    """The power failed in a device call."""
+
+
+class Deed:
+    """What an operation does at a group's chain: append, take or close."""
+
+    __slots__ = ("kind", "sender", "tag", "body", "cell")
+
+    def __init__(self, kind, sender, tag=0, body=b"", cell=None):
+        self.kind, self.sender, self.tag, self.body, self.cell = kind, sender, tag, body, cell
+
+
+class Work:
+    """An operation under way: the deed that it does or, where `undoes` has the LSN of that one's end, takes back. `writes` has
+    the pages of the slot writes that are to come, `pages` all that it has latched."""
+
+    __slots__ = ("number", "deed", "undoes", "cell", "writes", "pages")
+
+    def __init__(self, number, deed, undoes, cell, writes):
+        self.number, self.deed, self.undoes, self.cell = number, deed, undoes, cell
+        self.writes, self.pages = list(writes), set(writes)
+
+
+class Row:
+    """A transaction that has not ended."""
+
+    def __init__(self, txn):
+        self.txn, self.aborting, self.number, self.work = txn, False, 0, None
+        self.done = []  # what it did and has not undone: (LSN of the end, deed)
+        self.sending, self.receiving = set(), []
+
+
+class Page:
+    """A page: the LSNs of the images that a crash may leave (the synced one first), and of the image of the open store."""
+
+    def __init__(self):
+        self.images, self.lsn, self.changed = [0], 0, False
+
+    def change(self, lsn):
+        if self.lsn < lsn:
+            self.lsn, self.changed = lsn, True
+
+    def crash(self, place):
+        self.images = [self.images[place] if place < len(self.images) else self.images[-1]]
+
+    def load(self):
+        self.lsn, self.changed = self.images[-1], False
+
+
+# The records of a log, as tuples that begin with their kind.
+#   ("restart", incarnation)
+#   ("write", operation, page, kind of what is done, writes to come behind it)
+#   ("back", operation, page, LSN of the write that it undoes)      ("void", operation)
+#   ("end", operation, deed)      ("undone", operation, LSN of the end of what it undid, cell)
+#   ("commit", transaction)       ("abort", transaction)
+
+
+def bytes_of(record):
+    """The bytes of a record: a length of four, a kind, and its fields."""
+    kind = record[0]
+    if kind == "end":
+        deed = record[2]
+        return 30 + {"append": 29, "take": 21, "close": 5}[deed.kind] + len(deed.body)
+    return {"restart": 13, "write": 546, "undone": 37, "back": 298, "void": 29, "commit": 21, "abort": 21}[kind]
+
+
+class Devices:
+    """Both devices: which of their calls fails or stops, and what reaches them."""
+
+    WINDOW = 65_536  # bytes of the log that are read and not taken, at most
+    LONGEST = 546  # bytes of the longest record: where fewer are left of what was read, it is read on
+
+    def __init__(self, pages):
+        self.records, self.handed, self.forced = [], 0, 0
+        self.pages = [Page() for _ in range(pages)]
+        self.calls = self.failing = self.stopping = 0
+        self.armed = set()  # kinds of calls of which the next fails: read, write, force
+
+    def fail(self, n):
+        """The nth call from now fails once."""
+        self.failing = self.calls + n if n else 0
+
+    def stop(self, n):
+        """The power fails in the nth call from now."""
+        self.stopping = self.calls + n if n else 0
+
+    def meet(self, kind):
+        """A device call. Whether it is made; a stop in an append or a page write comes behind it."""
+        self.calls += 1
+        if self.calls == self.stopping:
+            raise Stopped
+        fails = self.calls == self.failing or kind in self.armed
+        self.armed.discard(kind)
+        return not fails
+
+    def hand_over(self):
+        if self.handed == len(self.records):
+            return
+        try:
+            made = self.meet("write")
+        except Stopped:
+            self.handed = len(self.records)
+            raise
+        if not made:
+            raise Refused("DiskWrite")
+        self.handed = len(self.records)
+
+    def force(self):
+        self.hand_over()
+        if not self.meet("force"):
+            raise Refused("DiskWrite")
+        self.forced = self.handed
+
+    def write(self, number):
+        """Writes a page that was changed; whether it did."""
+        page = self.pages[number] if number < len(self.pages) else None
+        if page is None or not page.changed:
+            return False
+        if page.lsn > self.forced:
+            raise Refused("NotForced")
+        try:
+            made = self.meet("write")
+        except Stopped:
+            page.images.append(page.lsn)
+            raise
+        if not made:
+            raise Refused("DiskWrite")
+        page.images.append(page.lsn)
+        page.changed = False
+        return True
+
+    def reads(self):
+        """How many reads an opening makes: each page, and the log in windows until one comes short."""
+        total, read, taken, reads, short = sum(map(bytes_of, self.records)), 0, 0, len(self.pages), False
+        for size in [*map(bytes_of, self.records), 0]:
+            if not short and read - taken < self.LONGEST:
+                room = self.WINDOW - (read - taken)
+                short = total - read < room
+                read += min(total - read, room)
+                reads += 1
+            taken += size
+        return reads
+
+    def read_all(self):
+        for _ in range(self.reads()):
+            if not self.meet("read"):
+                raise Refused("DiskRead")
+
+    def add(self, record):
+        """Adds a record to the buffer, with its change of a page, and answers its LSN."""
+        self.records.append(record)
+        lsn = len(self.records)
+        if record[0] in ("write", "back"):
+            self.pages[record[2]].change(lsn)
+        return lsn
+
+    def crash(self, keep, places):
+        """So many of the records that were handed over and not forced outlive it, and of each page the image at its place (the
+        newest where none is said). What is left counts as forced and synced."""
+        del self.records[min(self.handed, self.forced + keep) :]
+        self.handed = self.forced = len(self.records)
+        for number, page in enumerate(self.pages):
+            page.crash(places[number] if number < len(places) else ALL)
+
+    def load(self):
+        """Every page is read, and each record's change is made that its page lacks."""
+        for page in self.pages:
+            page.load()
+        for lsn, record in enumerate(self.records, 1):
+            if record[0] in ("write", "back"):
+                self.pages[record[2]].change(lsn)
+
+
+class Chains:
+    """The cells that the chains of finished operations use, by number from 0."""
+
+    def __init__(self, directory, cells):
+        self.directory, self.count = directory, cells * SLOTS
+        self.of = [[] for _ in range(directory * SLOTS)]
+        self.used = set()
+
+    def page(self, cell):
+        return cell // SLOTS + self.directory + 1
+
+    def home(self, sender):
+        """The directory page of a sender."""
+        return sender // SLOTS + 1
+
+    def lowest_free(self, latched=frozenset()):
+        """The lowest free cell on a page outside the set; None where there is none."""
+        for cell in range(self.count):
+            if cell not in self.used and self.page(cell) not in latched:
+                return cell
+        return None
+
+    def reach(self, kind, sender, cell):
+        """The pages of the slot writes of an operation, in order."""
+        chain, home = self.of[sender], self.home(sender)
+        if kind in ("close", "reopen"):
+            return [home]
+        beside = {"append": chain[-1:], "take": chain[1:2], "unsend": chain[-2:-1], "put-back": chain[:1]}[kind]
+        own = {"append": cell, "put-back": cell, "take": chain[0] if chain else None, "unsend": chain[-1] if chain else None}[kind]
+        return [self.page(own), *map(self.page, beside), home]
+
+    def do(self, kind, sender, cell):
+        """The operation is finished."""
+        chain = self.of[sender]
+        if kind == "append":
+            chain.append(cell)
+        elif kind == "put-back":
+            chain.insert(0, cell)
+        elif kind == "take":
+            self.used.discard(chain.pop(0))
+        elif kind == "unsend":
+            self.used.discard(chain.pop())
+        if kind in ("append", "put-back"):
+            self.used.add(cell)
+
+    def play(self, records):
+        """All that the operations did that have their end."""
+        for record in records:
+            if record[0] == "end":
+                self.do(record[2].kind, record[2].sender, record[2].cell)
+            elif record[0] == "undone":
+                deed = records[record[2] - 1][2]
+                self.do(INVERSES[deed.kind], deed.sender, record[3])
+
+
+class Mending:
+    """What a restart does before the next incarnation begins, record by record."""
+
+    def __init__(self, store):
+        self.devices, self.chains = store.devices, store.chains
+        self.met = []  # what is worth counting, with the LSN of the record by which it is so
+        self.open_writes, self.numbers = {}, {}
+        self.due, self.lost = [], set()
+        self.look()
+        self.unfinished = len(self.open_writes)
+        self.lost_count = len(self.lost)
+
+    def look(self):
+        """Operations without an end, with their writes that are not undone, and transactions without one, with what they did."""
+        ended = set()
+        for lsn, record in enumerate(self.devices.records, 1):
+            kind = record[0]
+            if kind == "write":
+                self.open_writes.setdefault(record[1], []).append((lsn, record))
+            elif kind == "back":
+                self.open_writes[record[1]].pop()
+            elif kind in ("void", "end", "undone"):
+                self.open_writes.pop(record[1], None)
+            elif kind in ("commit", "abort"):
+                ended.add(record[1])
+            if kind == "end":
+                self.due.append((lsn, record))
+                self.lost.add(record[1][0])
+            if kind == "undone":
+                self.due = [due for due in self.due if due[0] != record[2]]
+            if kind in ("write", "end", "undone", "back", "void"):
+                txn, number = record[1]
+                self.numbers[txn] = max(number, self.numbers.get(txn, 0))
+        self.lost -= ended
+        self.due = [due for due in self.due if due[1][1][0] not in ended]
+
+    def run(self):
+        self.undo_writes()
+        self.undo_deeds()
+
+    def note(self, kind):
+        self.met.append((len(self.devices.records), kind))
+
+    def count_before(self, met):
+        """What a crash left to be undone."""
+        met["OneLost"] += self.lost_count == 1
+        met["MoreLost"] += self.lost_count > 1
+        met["TwoCut"] += self.unfinished > 1
+        met["CutBesideLost"] += any(sub[0] != txn for sub, writes in self.open_writes.items() for txn in self.lost)
+        met["EndWanting"] += sum(not self.has_due(txn) for txn in self.lost)
+        for writes in self.open_writes.values():
+            met["BetweenSteps"] += bool(writes) and writes[-1][1][3] in INVERSES.values() and writes[-1][1][4] > 0
+
+    def undo_writes(self):
+        for sub in sorted(sub for sub, writes in self.open_writes.items() if not writes):
+            self.devices.add(("void", sub))
+        for lsn, record in sorted((write for writes in self.open_writes.values() for write in writes), reverse=True, key=lambda it: it[0]):
+            sub = record[1]
+            self.devices.add(("back", sub, record[2], lsn))
+            self.open_writes[sub].pop()
+            if not self.open_writes[sub]:
+                self.devices.add(("void", sub))
+                self.note(CUTS[record[3]])
+
+    def has_due(self, txn):
+        return any(record[1][0] == txn for _, record in self.due)
+
+    def undo_deeds(self):
+        for txn in sorted(txn for txn in self.lost if not self.has_due(txn)):
+            self.devices.add(("abort", txn))
+        while self.due:
+            lsn, record = self.due.pop()
+            txn, deed = record[1][0], record[2]
+            self.undo(txn, lsn, deed)
+            if not self.has_due(txn):
+                self.devices.add(("abort", txn))
+
+    def undo(self, txn, lsn, deed):
+        """An inverse, from its first slot write to its end."""
+        self.numbers[txn] += 1
+        sub, kind = (txn, self.numbers[txn]), INVERSES[deed.kind]
+        cell = self.chains.lowest_free() if kind == "put-back" else None
+        pages = self.chains.reach(kind, deed.sender, cell)
+        for at, page in enumerate(pages, 1):
+            self.devices.add(("write", sub, page, kind, len(pages) - at))
+        self.devices.add(("undone", sub, lsn, cell))
+        self.chains.do(kind, deed.sender, cell)
+        self.note(LOSSES[deed.kind])
+
+
+CUTS = {"append": "SendCut", "take": "TakeCut", "close": "CloseCut", "unsend": "UnsendCut", "put-back": "BackCut", "reopen": "ReopenCut"}
+LOSSES = {"append": "SendLost", "take": "TakeLost", "close": "CloseLost"}
+UNDOINGS = {"append": "SendUndone", "take": "TakeUndone", "close": "CloseUndone"}
+
+
+class Store:
+    """A store of so many directory and cell pages, formatted and not open yet. What is worth counting is added to `met`."""
+
+    def __init__(self, directory, cells, met=None):
+        self.directory, self.cells = directory, cells
+        self.senders, self.room = directory * SLOTS, cells * SLOTS
+        self.devices = Devices(1 + directory + cells)
+        self.chains = Chains(directory, cells)
+        self.met = Counter() if met is None else met
+        self.commits = []  # (transaction, LSN, its deeds), in order
+        self.rows = {}
+        self.open = self.failed = False
+        self.is_cut, self.mending = False, None  # whether no restart was begun since the last crash, and what the last one did
+        self.incarnation = self.begins = 0
+        self.recount()
+
+    # ---- the committed content, by the list of commits
+
+    def recount(self):
+        self.sends = [[] for _ in range(self.senders)]
+        self.takes = [0] * self.senders
+        self.ended = set()
+        for _, _, deeds in self.commits:
+            self.count(deeds)
+
+    def count(self, deeds):
+        for deed in deeds:
+            if deed.kind == "append":
+                self.sends[deed.sender].append((deed.tag, deed.body))
+            elif deed.kind == "take":
+                self.takes[deed.sender] += 1
+            else:
+                self.ended.add(deed.sender)
+
+    def rest(self, sender):
+        """The messages that committed transactions sent and did not receive: pairs of tag and body."""
+        return self.sends[sender][self.takes[sender] :]
+
+    def left(self, sender):
+        """How many these are."""
+        return len(self.sends[sender]) - self.takes[sender]
+
+    # ---- devices: power, failures, restarts
+
+    def crash(self, keep, places=()):
+        """A crash. A store that is not open leaves all. Answers how many records are left."""
+        if not self.open:
+            keep, places = ALL, ()
+        elif not self.failed:
+            self.devices.handed = len(self.devices.records)
+        return self.lose(keep, places)
+
+    def lose(self, keep, places):
+        before = len(self.devices.records)
+        self.devices.crash(keep, places)
+        left = len(self.devices.records)
+        self.met["Shorter"] += left < before
+        self.commits = [commit for commit in self.commits if commit[1] <= left]
+        self.recount()
+        self.rows, self.open, self.failed = {}, False, False
+        self.is_cut = True
+        return left
+
+    def restart(self):
+        """A whole restart: (incarnation, unfinished, lost). Its records go out in one append, and are forced."""
+        devices = self.devices
+        devices.read_all()
+        devices.load()
+        self.chains = Chains(self.directory, self.cells)
+        self.chains.play(devices.records)
+        mending = self.mending = Mending(self)
+        if self.is_cut:
+            mending.count_before(self.met)
+            self.is_cut = False
+        mending.run()
+        incarnation = 1 + max((record[1] for record in devices.records if record[0] == "restart"), default=0)
+        devices.add(("restart", incarnation))
+        try:
+            devices.force()
+        except Refused:
+            del devices.records[devices.handed :]
+            raise
+        self.open, self.failed, self.rows = True, False, {}
+        self.incarnation, self.begins = incarnation, 0
+        self.met["Opened"] += 1
+        self.met.update(kind for _, kind in mending.met)
+        assert all(len(self.chains.of[s]) == self.left(s) for s in range(self.senders)), "a chain is not the committed rest"
+        return incarnation, mending.unfinished, mending.lost_count
+
+    def has_idle_beside(self):
+        """Whether of the transactions in the log without an end, which finished something, one has nothing left to undo beside one
+        that has."""
+        mending = Mending(self)
+        idle = [txn for txn in mending.lost if not mending.has_due(txn)]
+        return bool(idle) and bool(mending.due)
+
+    def records_wanted(self):
+        """How many records a restart makes of a store that is not open."""
+        twin = Store(self.directory, self.cells)
+        twin.commits = self.commits
+        twin.recount()
+        twin.devices.records = list(self.devices.records)
+        twin.devices.handed = twin.devices.forced = before = len(twin.devices.records)
+        twin.restart()
+        return len(twin.devices.records) - before
+
+    def restart_stopped(self, n, keep, places=()):
+        """A restart in whose nth device call the power fails: its report, or the number of records that are left."""
+        before = len(self.devices.records)
+        self.devices.stop(n)
+        try:
+            report = self.restart()
+        except Stopped:
+            made, is_cut = self.devices.records[before:], self.is_cut
+            left = self.lose(keep, places)
+            self.is_cut = is_cut
+            self.count_stop(made, left - before)
+            return left
+        finally:
+            self.devices.stopping = 0
+        return report
+
+    def count_stop(self, made, kept):
+        """What a restart did, and was about, when it was stopped behind so many of its records."""
+        if not 0 < kept < len(made):
+            return
+        self.met.update(kind for lsn, kind in self.mending.met if lsn <= len(self.devices.records))
+        last, following = made[kept - 1], made[kept]
+        self.met["StoppedInInverse"] += last[0] == "write" and last[4] > 0
+        self.met["StoppedBeforeVoid"] += following[0] == "void"
+        self.met["StoppedBeforeEnd"] += following[0] == "abort"
+
+    def call(self, name, *words):
+        """What a call of this name answers; a refusal is raised."""
+        if not self.open or self.failed:
+            raise Refused("Failed")
+        try:
+            return getattr(self, name)(*words)
+        except (Refused, Stopped) as met:
+            if isinstance(met, Stopped) or met.name == "DiskWrite":
+                self.failed = True
+                del self.devices.records[self.devices.handed :]
+            raise
+
+    # ---- what is so of transactions and groups
+
+    def ready(self, txn, aborting=False):
+        """The row of a transaction with no operation under way, that is aborting or is not, as asked."""
+        row = self.rows.get(txn)
+        if row is None:
+            raise Refused("UnknownTransaction")
+        if row.aborting != aborting:
+            self.met["NotAborting"] += aborting
+            raise Refused("NotOpen")
+        if row.work is not None:
+            raise Refused("Unfinished")
+        return row
+
+    def works(self):
+        return [row.work for row in self.rows.values() if row.work is not None]
+
+    def latched(self):
+        """The pages that operations under way have latched."""
+        return set().union(*(work.pages for work in self.works()))
+
+    def others(self, row):
+        return (other for other in self.rows.values() if other is not row)
+
+    def in_use(self):
+        """Cells of messages held, taken by transactions that have not ended, and meant for sends under way."""
+        own = sum(deed.kind == "append" for row in self.rows.values() for _, deed in row.done)
+        appending = sum(work.undoes is None and work.deed.kind == "append" for work in self.works())
+        return sum(self.left(sender) for sender in range(self.senders)) + own + appending
+
+    def taken(self, sender):
+        """Messages of this sender that transactions which have not ended took."""
+        return sum(deed.kind == "take" and deed.sender == sender for row in self.rows.values() for _, deed in row.done)
+
+    def holds_for(self, row, sender):
+        """Whether the group is free for the transaction, and holds a message for it."""
+        return not any(sender in other.receiving for other in self.others(row)) and self.taken(sender) < self.left(sender)
+
+    def sending_end(self, row, sender):
+        """The refusals of a send or a close for the sending end of this sender."""
+        if any(sender in other.sending for other in self.others(row)):
+            raise Refused("SenderBusy")
+        if sender in self.ended or any(deed.kind == "close" and deed.sender == sender for _, deed in row.done):
+            raise Refused("Closed")
+
+    def begin_work(self, row, deed, undoes, cell, pages):
+        self.met["Beside"] += bool(self.works())
+        row.number += 1
+        row.work = Work(row.number, deed, undoes, cell, pages)
+        return row.txn, row.number
+
+    # ---- the calls
+
+    def begin(self):
+        if len(self.rows) == MOST_OPEN:
+            raise Refused("TooManyTransactions")
+        self.begins += 1
+        txn = (self.incarnation, self.begins)
+        self.rows[txn] = Row(txn)
+        return txn
+
+    def start_send(self, txn, sender, tag, body):
+        row = self.ready(txn)
+        if sender >= self.senders:
+            raise Refused("UnknownSender")
+        if len(body) > LONGEST_BODY:
+            raise Refused("TooLong")
+        self.sending_end(row, sender)
+        if self.in_use() == self.room:
+            raise Refused("Full")
+        latched, chain = self.latched(), self.chains.of[sender]
+        if self.chains.home(sender) in latched:
+            self.refuse_latched("SendDirectory")
+        if chain and self.chains.page(chain[-1]) in latched:
+            self.refuse_latched("SendTail")
+        cell = self.chains.lowest_free(latched)
+        if cell is None:
+            self.refuse_latched("SendCells")
+        self.met["HigherCell"] += cell != self.chains.lowest_free()
+        row.sending.add(sender)
+        pages = self.chains.reach("append", sender, cell)
+        return self.begin_work(row, Deed("append", sender, tag, body, cell), None, cell, pages)
+
+    def refuse_latched(self, kind):
+        self.met[kind] += 1
+        raise Refused("Latched")
+
+    def start_close(self, txn, sender):
+        row = self.ready(txn)
+        if sender >= self.senders:
+            raise Refused("UnknownSender")
+        self.sending_end(row, sender)
+        if self.chains.home(sender) in self.latched():
+            self.refuse_latched("CloseDirectory")
+        self.met["Close" if self.chains.of[sender] else "CloseEmpty"] += 1
+        row.sending.add(sender)
+        return self.begin_work(row, Deed("close", sender), None, None, self.chains.reach("close", sender, None))
+
+    def take_latched(self, sender):
+        """The kind of the latched page that a receive from this sender needs; None where none is."""
+        latched, chain = self.latched(), self.chains.of[sender]
+        if self.chains.home(sender) in latched:
+            return "TakeDirectory"
+        if self.chains.page(chain[0]) in latched:
+            return "TakeHead"
+        if len(chain) > 1 and self.chains.page(chain[1]) in latched:
+            return "TakeNext" if self.left(sender) - self.taken(sender) > 1 else "TakeNextOpen"
+        return None
+
+    def start_receive(self, txn, picked=None):
+        """From the group picked, where it may give one now; else from the one that the program looks at first."""
+        row = self.ready(txn)
+        groups = [sender for sender in range(self.senders) if self.holds_for(row, sender)]
+        if not groups:
+            return None
+        free = [sender for sender in groups if self.take_latched(sender) is None]
+        if not free:
+            self.refuse_latched("TakeAny")
+        self.met["OtherGroup"] += len(free) < len(groups)
+        own = row.receiving[::-1]
+        order = [picked, *own[:1], *(sender for sender in free if sender not in own), *own]
+        return self.start_take(row, next(sender for sender in order if sender in free))
+
+    def start_receive_from(self, txn, sender):
+        row = self.ready(txn)
+        if sender >= self.senders:
+            raise Refused("UnknownSender")
+        if any(sender in other.receiving for other in self.others(row)):
+            raise Refused("ReceiverBusy")
+        if not self.holds_for(row, sender):
+            return None
+        kind = self.take_latched(sender)
+        if kind is not None:
+            self.refuse_latched(kind)
+        return self.start_take(row, sender)
+
+    def start_take(self, row, sender):
+        tag, body = self.sends[sender][self.takes[sender] + self.taken(sender)]
+        if sender not in row.receiving:
+            row.receiving.append(sender)
+        pages = self.chains.reach("take", sender, None)
+        return self.begin_work(row, Deed("take", sender, tag, body), None, None, pages)
+
+    def work_of(self, sub):
+        row = self.rows.get(sub[0])
+        if row is None or row.work is None or row.work.number != sub[1]:
+            raise Refused("UnknownOperation")
+        return row, row.work
+
+    def step(self, sub):
+        """The LSN of a slot write, None where all are made."""
+        _, work = self.work_of(sub)
+        if not work.writes:
+            return None
+        page = work.writes.pop(0)
+        kind = work.deed.kind if work.undoes is None else INVERSES[work.deed.kind]
+        return self.devices.add(("write", sub, page, kind, len(work.writes)))
+
+    def finish(self, sub):
+        """The deed done; None where one was undone."""
+        row, work = self.work_of(sub)
+        if work.writes:
+            raise Refused("Unfinished")
+        row.work, deed = None, work.deed
+        if work.undoes is None:
+            row.done.append((self.devices.add(("end", sub, deed)), deed))
+            self.chains.do(deed.kind, deed.sender, work.cell)
+            return deed
+        row.done.pop()
+        self.devices.add(("undone", sub, work.undoes, work.cell))
+        self.chains.do(INVERSES[deed.kind], deed.sender, work.cell)
+        return None
+
+    def commit(self, txn):
+        row = self.ready(txn)
+        lsn = self.devices.add(("commit", txn))
+        deeds = [deed for _, deed in row.done]
+        self.commits.append((txn, lsn, deeds))
+        self.count(deeds)
+        del self.rows[txn]
+        return lsn
+
+    def acknowledged(self, txn, lsn):
+        return txn[0] == self.incarnation and lsn <= self.devices.forced
+
+    def start_abort(self, txn):
+        self.ready(txn).aborting = True
+
+    def undo_next(self, txn):
+        """The inverse that is started; None where nothing is left to undo."""
+        row = self.ready(txn, True)
+        if not row.done:
+            return None
+        lsn, deed = row.done[-1]
+        kind, latched, chain = INVERSES[deed.kind], self.latched(), self.chains.of[deed.sender]
+        name = {"unsend": "Unsend", "put-back": "Back", "reopen": "Reopen"}[kind]
+        if self.chains.home(deed.sender) in latched:
+            self.refuse_latched(f"{name}Directory")
+        cell = None
+        if kind == "unsend":
+            self.unsend_latched(chain, latched)
+        if kind == "put-back":
+            if chain and self.chains.page(chain[0]) in latched:
+                self.refuse_latched("BackHead")
+            cell = self.chains.lowest_free(latched)
+            if cell is None:
+                self.refuse_latched("BackCells")
+            self.met["HigherBack"] += cell != self.chains.lowest_free()
+        self.met[UNDOINGS[deed.kind]] += 1
+        return self.begin_work(row, deed, lsn, cell, self.chains.reach(kind, deed.sender, cell))
+
+    def unsend_latched(self, chain, latched):
+        if self.chains.page(chain[-1]) in latched:
+            self.refuse_latched("UnsendTail")
+        if len(chain) > 1 and self.chains.page(chain[-2]) in latched:
+            self.refuse_latched("UnsendBefore")
+
+    def end_abort(self, txn):
+        row = self.ready(txn, True)
+        if row.done:
+            self.met["EarlyEnd"] += 1
+            raise Refused("Unfinished")
+        self.devices.add(("abort", txn))
+        del self.rows[txn]
+
+    def hand_over(self):
+        self.devices.hand_over()
+
+    def force(self):
+        self.devices.force()
+        return self.devices.forced
+
+    def write_page(self, page):
+        return self.devices.write(page)
+
+    def last_tag(self, sender):
+        if sender >= self.senders:
+            raise Refused("UnknownSender")
+        sends = self.sends[sender]
+        return len(sends), sends[-1][0] if sends else 0
+
+    def content(self):
+        """Of each sender: sends, last tag, receives, whether it is closed, the rest."""
+        if self.works():
+            raise Refused("Unfinished")
+        return [
+            (len(self.sends[s]), self.last_tag(s)[1], self.takes[s], s in self.ended, self.rest(s)) for s in range(self.senders)
+        ]

@@ -1,0 +1,28 @@
+#!/usr/bin/env python3
+"""Runs the scripts of tests/scripts by the proved program, and compares what each prints with the file beside it.
+
+NAME.script is the input and NAME.expected all of the output. NAME.words has the words that say how large the store is; where it
+is absent, they are `--directory 1 --cells 1`. The exit status has to be 1 where the last line is a fault, else 0. By hand:
+
+    ./rqm run --directory 1 --cells 1 < tests/scripts/NAME.script
+
+    python3 tests/scripts.py [--program PROGRAM] [NAME..]
+"""
+import argparse
+import sys
+
+from cases import TOP, Cases
+
+SCRIPTS = Cases("scripts", "script", ["run"], ["--directory", "1", "--cells", "1"])
+
+
+def main():
+    words = argparse.ArgumentParser(description="Runs the scripts of tests/scripts.")
+    words.add_argument("--program", default=str(TOP / "crates/rqm/out/rqm"), help="the program (default: the proved one)")
+    words.add_argument("names", nargs="*", metavar="NAME", help="these scripts alone")
+    chosen = words.parse_args()
+    sys.exit(0 if SCRIPTS.run(chosen.program, chosen.names) else 1)
+
+
+if __name__ == "__main__":
+    main()

@@ -1,0 +1,270 @@
+#!/usr/bin/env python3
+"""Lets anything happen to a store: draws happenings from seeds, runs them by the proved program, and compares each entry with the
+reference. The happenings of tests/worlds come first: each NAME.happenings comes to what stands in NAME.expected.
+
+    python3 tests/worlds.py [--program PROGRAM] [--first SEED] [--courses N] [--keep FOLDER] [--counts]
+
+Happenings that go wrong are cut down to the fewest that still do, and shown so that they can be run again by hand. Among the usual
+ones, those of the seeds from 0, each kind of thing that may happen has to be met as often as `WANTED` says.
+"""
+import random
+
+import courses
+import drawn
+from cases import Cases
+from reference import ALL
+from world_reference import World, printed_by, shown
+
+# What has to be met, the usual lists taken together, and how often at least.
+WANTED = {
+    "Beside": 4800, "HigherCell": 2400, "OtherGroup": 550, "SendDirectory": 7200, "SendTail": 2400, "SendCells": 180,
+    "TakeDirectory": 870, "TakeHead": 420, "TakeNext": 160, "TakeNextOpen": 19, "TakeAny": 2700, "CloseDirectory": 270,
+    "Close": 110, "CloseEmpty": 520, "SendUndone": 1600, "TakeUndone": 500, "CloseUndone": 140, "HigherBack": 97,
+    "UnsendDirectory": 2200, "UnsendTail": 880, "UnsendBefore": 44, "BackDirectory": 1000, "BackHead": 170, "BackCells": 18,
+    "ReopenDirectory": 230, "EarlyEnd": 740, "NotAborting": 1700, "Shorter": 4400, "SendCut": 1000, "TakeCut": 180,
+    "CloseCut": 28, "UnsendCut": 650, "BackCut": 110, "ReopenCut": 16, "TwoCut": 190, "BetweenSteps": 95, "OneLost": 1300,
+    "MoreLost": 450, "CutBesideLost": 560, "SendLost": 2700, "TakeLost": 490, "CloseLost": 120, "EndWanting": 73,
+    "StoppedOnce": 2500, "StoppedTwice": 1100, "StoppedThrice": 540, "StoppedInInverse": 360, "StoppedBeforeVoid": 200,
+    "StoppedBeforeEnd": 240, "Begun": 22000, "SendStarted": 13000, "TakeStarted": 700, "AnyTakeStarted": 2300,
+    "CloseStarted": 640, "UndoStarted": 2200, "NoneFrom": 8000, "NoneOfAny": 6800, "Stepped": 41000, "Ready": 2200,
+    "Sent": 11000, "Received": 2600, "GroupClosed": 550, "Undone": 2000, "Committed": 10000, "Aborting": 4300,
+    "NothingLeft": 390, "Aborted": 3500, "Given": 2100, "NotGiven": 6100, "HandedOver": 1900, "Forced": 4800, "Written": 4700,
+    "NotWritten": 8200, "LastTag": 2800, "Content": 1700, "Opened": 4600, "UnknownTransaction": 4000, "NotOpen": 3800,
+    "Unfinished": 12000, "ContentUnfinished": 1800, "UnknownSender": 100, "TooLong": 750, "SenderBusy": 11000, "Closed": 490,
+    "ReceiverBusy": 1000, "Full": 1300, "NotForced": 4100, "UnknownOperation": 2100, "CrashedInAbort": 580,
+    "StoppedCallInAbort": 21, "OpenedBehindAbort": 2800, "UnfinishedUndone": 1000, "BothUndone": 700, "LostUndone": 1500,
+    "StoppedIdle": 34, "StoppedCall": 220, "Armed": 1500, "DiskWrite": 300, "Failed": 6700, "NotOpened": 590, "Running": 1300,
+    "AckOfNothing": 2800,
+}  # fmt: skip
+
+LENGTH = 160
+
+
+def sizes_of(seed):
+    """Directory pages and cell pages of the store of a seed."""
+    return {0: (2, 2), 5: (1, 2), 7: (3, 2)}.get(seed % 9 if seed % 3 else 0, (1, 1))
+
+
+class Drawing:
+    """A list that is being drawn, beside the reference, so that most of its numbers are good."""
+
+    def __init__(self, seed, met):
+        self.random = random.Random(seed)
+        self.sizes = sizes_of(seed)
+        self.door = World(*self.sizes, met)
+        self.store = self.door.store
+        self.lines = []
+        self.fills = seed % 4 == 0  # it sends and does not receive, and little else happens
+        self.opened = False  # the last happening opened the store
+
+    def is_first_of(self, count):
+        return self.random.randrange(count) == 0
+
+    def draw(self):
+        for _ in range(LENGTH):
+            line = " ".join(map(str, self.next())).encode()
+            self.lines.append(line)
+            self.opened = self.door.happen(line).startswith(b"restarted")
+
+    def next(self):
+        if not self.store.open:
+            return self.of_shut()
+        if self.opened and not self.is_first_of(3):
+            return "write", self.page()  # it shows which image was left
+        if (self.store.has_idle_beside() and self.is_first_of(4)) or (len(self.store.works()) > 1 and self.is_first_of(16)):
+            return "crash", *self.choice(ALL)
+        kind = self.random.randrange(400 if self.fills else 50)
+        if kind == 0:
+            return "ack", self.random.randrange(LENGTH)
+        if kind == 1:
+            return self.failure()
+        if kind == 2:
+            return "crash", *self.choice()
+        if kind in (3, 4):
+            return self.stop_in()
+        if kind == 5:
+            return ("restart",) if self.is_first_of(2) else ("restart-stop", self.random.randrange(4), *self.choice())
+        if kind < 9:
+            return self.acknowledgement()
+        return ("write", self.page()) if kind < 15 else self.call()
+
+    def of_shut(self):
+        kind = self.random.randrange(12)
+        if kind < 4:
+            return "restart-stop", self.call_of_restart(), *self.choice()
+        if kind == 4:
+            return "crash", *self.choice()
+        if kind == 5:
+            return self.call() if self.is_first_of(2) else self.acknowledgement()
+        return self.failure() if kind == 6 else ("restart",)
+
+    def call_of_restart(self):
+        """A device call of a restart, or one behind its last: most times its append, which is cut between any two records."""
+        append = self.store.devices.reads() + 1
+        return self.random.randrange(append + 3) if self.is_first_of(4) else append
+
+    def acknowledgement(self):
+        """Of one of the last commits."""
+        last = list(self.door.numbers)[-4:]
+        return "ack", self.random.choice(last) if last else self.random.randrange(LENGTH)
+
+    def failure(self):
+        return "fail", self.random.randrange(9)
+
+    def choice(self, keep=None):
+        """What a crash keeps."""
+        if keep is None:
+            keep = self.random.choice([0, ALL, self.random.randrange(5), self.random.randrange(24)])
+        places = [self.random.choice([ALL, 0, 1, 2, 3]) for _ in range(self.random.randrange(sum(self.sizes) + 3))]
+        return keep, ",".join(map(str, places)) or "-"
+
+    def stop_in(self):
+        event = self.random.choice([("force",), ("force",), ("hand-over",), ("write", self.page()), ("write", self.page()), None])
+        return "stop-in", self.random.randrange(4), *self.choice(), *(event or self.call())
+
+    def work(self):
+        """A row with an operation under way that goes on; None where another call is to be drawn."""
+        rows = [row for row in self.store.rows.values() if row.work is not None]
+        if not rows or (self.sizes != (1, 1) and len(rows) < 3 and self.is_first_of(2)):
+            return None
+        return self.random.choice(rows)
+
+    def call(self):
+        row = self.work()
+        if row is not None and not self.is_first_of(8):
+            name = "step" if row.work.writes or self.is_first_of(4) else "finish"
+            return name, shown(row.txn), row.work.number
+        if row is None and not self.store.rows and not self.is_first_of(3):
+            return ("begin",)
+        aborting = next((row for row in self.store.rows.values() if row.aborting), None)
+        if row is None and aborting and not self.is_first_of(3) and not (not aborting.done and self.is_first_of(2)):
+            is_early = self.is_first_of(8)
+            return "undo-next" if bool(aborting.done) != is_early else "end-abort", shown(aborting.txn)
+        return self.other_call()
+
+    def other_call(self):
+        kind = self.random.randrange(27)
+        if kind < 3:
+            return ("begin",) if len(self.store.rows) < 3 else ("commit", self.txn())
+        if kind < 8 or (kind < 18 and self.fills):
+            return self.send()
+        if kind < 12:
+            return "start-receive", self.txn()
+        if kind < 14:
+            return "start-receive-from", self.txn(), self.sender()
+        if kind < 16:
+            return "step" if kind == 14 else "finish", self.txn(), self.random.randrange(4)
+        if kind < 20:
+            return {16: ("force",), 17: ("force",), 18: ("hand-over",)}.get(kind) or ("write", self.page())
+        if kind == 20:
+            return "write", self.page()
+        if kind == 22 and self.is_first_of(3):
+            return "start-close", self.txn(), self.sender()
+        if kind == 25:
+            return self.random.choice(["undo-next", "end-abort"]), self.txn()
+        return {21: ("content",), 24: ("start-abort", self.txn()), 26: ("last", self.sender())}.get(kind) or ("commit", self.txn())
+
+    def send(self):
+        length = {0: 216, 1: 217}.get(self.random.randrange(24), self.random.randrange(9))
+        body = "".join(chr(self.random.randrange(97, 123)) for _ in range(length))
+        return "start-send", self.txn(), self.sender(), self.random.choice([0, ALL, self.random.getrandbits(31)]), body
+
+    def txn(self):
+        rows = list(self.store.rows.values())
+        if rows and not self.is_first_of(16):
+            return shown(self.random.choice(rows).txn)
+        return f"{self.random.randrange(4)}.{self.random.randrange(6)}"
+
+    def sender(self):
+        """Most times one of the first few of a directory page."""
+        sender = self.random.randrange(17 if self.is_first_of(10) else 3)
+        return sender + 15 * self.random.randrange(self.sizes[0])
+
+    def page(self):
+        """Most times one that changes."""
+        count = 1 + sum(self.sizes)
+        return self.random.randrange(count + 2) if self.is_first_of(8) else self.random.randrange(1, count)
+
+
+class Calls(courses.Drawing):
+    """A course of tests/courses.py, call by call: receives and closes are under way beside others, too."""
+
+    NAMES = {"open-send": "start-send", "send": "start-send", "recv": "start-receive", "recv-from": "start-receive-from",
+             "close": "start-close", "abort": "start-abort", "undo": "undo-next", "dump": "content"}  # fmt: skip
+
+    def __init__(self, seed, met):
+        super().__init__(seed, met, World)
+        self.happen("restart")
+
+    @property
+    def ended(self):
+        return False
+
+    def happen(self, *words):
+        line = b" ".join(word if isinstance(word, bytes) else str(word).encode() for word in words)
+        self.lines.append(line)
+        self.door.happen(line)
+
+    def add(self, name, *words):
+        if isinstance(name, bytes):
+            return  # a line that is no command: the list ends
+        if name == "ack":
+            return self.happen("ack", self.committed())
+        if name == "fail":
+            return self.happen("fail", self.random.randrange(1, 9))
+        if name == "crash":
+            return self.happen("crash", ALL if words[0] == "all" else words[0], self.images(len(words) > 1))
+        if name == "restart" and words:
+            return self.happen("restart-stop", self.store.devices.reads() + 1 + self.random.randrange(2), words[0], "-")
+        if name == "force" and self.is_first_of(4):
+            self.happen("hand-over")
+        if name in ("send", "open-send") and len(words) < 4:
+            words = (*words, "")
+        self.happen(self.NAMES.get(name, name), *words)
+
+    def images(self, is_old):
+        """The synced image of each page, or the newest, or any."""
+        if self.is_first_of(3):
+            return ",".join(str(self.random.choice([ALL, 0, 1, 2])) for _ in self.store.devices.pages)
+        return ",".join("0" for _ in self.store.devices.pages) if is_old else "-"
+
+    def committed(self):
+        """The number of a happening that committed, most times."""
+        last = list(self.door.numbers)[-4:]
+        return self.random.choice(last) if last else self.random.randrange(1 + len(self.lines))
+
+    def stray(self):
+        if self.is_first_of(8):
+            return self.happen("ack", self.random.randrange(2 + len(self.lines)))
+        super().stray()
+
+
+def renumbered(line, at, end):
+    """An acknowledgement where the happenings from one place to another are left out, of one behind them."""
+    if not line.startswith(b"ack ") or int(line[4:]) <= end:
+        return line
+    return b"ack %d" % (int(line[4:]) - (end - at))
+
+
+class Worlds(drawn.Door):
+    cases, runs_cases = Cases("worlds", "happenings", [], ["1", "1"]), True
+    name, program, courses, wanted = "happenings", "crates/happenings/out/happenings", 1500, WANTED
+
+    def words(self, sizes):
+        return [str(sizes[0]), str(sizes[1])]
+
+    def draw(self, seed, met):
+        drawing = Drawing(seed // 3, met) if seed % 3 == 0 else Calls(seed - seed // 3, met)
+        drawing.draw()
+        return drawing.sizes, drawing.lines, drawing.door.printed, 0
+
+    def without(self, lines, at, end):
+        """Acknowledgements of later commits name them by the numbers that they have then."""
+        return lines[:at] + [renumbered(line, at, end) for line in lines[end:]]
+
+    def replay(self, lines, sizes, told):
+        return printed_by(lines, *sizes, told), 0
+
+
+if __name__ == "__main__":
+    drawn.main(Worlds(), __doc__.split("\n", 1)[0])
