@@ -74,7 +74,7 @@ fn call_of(ask: &Ask) -> u64 {
 fn done_by(action: &Action) -> u64 {
     match action {
         Action::Do(ask) => call_of(ask),
-        Action::Again(ask) => 100 + call_of(ask),
+        Action::Again(ask) => call_of(ask).saturating_add(100),
         Action::Answer(_) => ANSWERS,
         Action::End => ENDS,
         Action::Await(_) => OTHER,

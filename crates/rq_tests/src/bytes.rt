@@ -189,7 +189,8 @@ fn put_end(
     level: u8,
     told: &[u8],
 ) -> Result<(), AllocError> {
-    put_head(out, told.len().saturating_add(26) as u32, 3, txn)?;
+    let len = u32::try_from(told.len()).unwrap_or(0);
+    put_head(out, len.saturating_add(26), 3, txn)?;
     put_u64(out, operation)?;
     put_byte(out, level)?;
     out.extend_from_slice(told)

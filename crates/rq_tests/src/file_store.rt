@@ -91,12 +91,27 @@ fn handed_over<P: PageDevice + Drop, L: LogDevice + Drop>(engine: Engine<P, L, S
     let _ = engine.hand_over();
 }
 
-// The bytes of this record of a log, and of those behind it: its length, and the field that tells it.
-fn record_bytes(log: &[u8]) -> u64 {
+// The bytes of a log's first record: its length, and the field that tells it.
+fn record_bytes(log: &[u8]) -> u32 {
     match log {
-        [a, b, c, d, ..] => u64::from(u32::from_be_bytes([*a, *b, *c, *d])).saturating_add(4),
+        [a, b, c, d, ..] => u32::from_be_bytes([*a, *b, *c, *d]).saturating_add(4),
         _ => 0,
     }
+}
+
+// The bytes of so many records of a log.
+fn bytes_of(log: &[u8], records: u64) -> u64 {
+    let mut rest = log;
+    let mut bytes = 0u64;
+    for _ in 0..records {
+        let len = record_bytes(rest);
+        bytes = bytes.saturating_add(u64::from(len));
+        rest = match usize::try_from(len) {
+            Ok(len) => rest.get(len..).unwrap_or(&[]),
+            Err(_) => &[],
+        };
+    }
+    bytes
 }
 
 impl Files<'_> {
@@ -125,11 +140,9 @@ impl Files<'_> {
     // Leaves what is forced of the log, and so many records behind it.
     fn leave_records(&self, keep: u64) -> io::Result<()> {
         let log = fs::read(self.rt, self.log.as_str())?;
-        let mut len = self.forced;
-        for _ in 0..keep.min(100) {
-            len = len.saturating_add(record_bytes(log.get(len as usize..).unwrap_or(&[])));
-        }
-        self.leave(len)
+        let forced = usize::try_from(self.forced).unwrap_or(usize::MAX);
+        let behind = bytes_of(log.get(forced..).unwrap_or(&[]), keep.min(100));
+        self.leave(self.forced.saturating_add(behind))
     }
 
     fn restarted(&self) -> Result<(Store, Report), Refusal> {
