@@ -9,6 +9,16 @@ from concurrent.futures import ThreadPoolExecutor
 TOP = pathlib.Path(__file__).resolve().parent.parent
 
 
+def built(path, crate):
+    """The program at a path; without one that of a crate, which is proved and built first where it is not there."""
+    if path:
+        return os.path.abspath(path)
+    program = TOP / "crates" / crate / "out" / crate
+    if not program.exists():
+        subprocess.run(["rt", "run"], cwd=TOP / "crates" / crate, check=True, stdout=subprocess.DEVNULL)
+    return str(program)
+
+
 class Cases:
     """The cases of a folder, whose files end in .`kind`. `words` are those of a store where none stand beside a case, behind the
     `subcommand` of the program."""

@@ -56,7 +56,8 @@ USUAL, SMALL, LARGE = (2, 3), (1, 2), (3, 4)
 
 # Lines that are no command. One may end a course.
 FAULTS = [b"", b"begin ", b"send 1.1 0", b"send 1.1 0 +1 x", b"recv 1", b"step 1.1  1", b"crash", b"crash 1 new", b"restart -1",
-          b"dump\r", b"write 4294967296", b"last 0x1", b"fail sync", b"commit 1.18446744073709551616", b"undo", b"BEGIN"]  # fmt: skip
+          b"dump\r", b"write 4294967296", b"last 0x1", b"fail sync", b"commit 1.18446744073709551616", b"undo",
+          b"BEGIN"]  # fmt: skip
 
 
 def shape_of(seed):
@@ -285,7 +286,7 @@ def shown(txn):
 
 class Courses(drawn.Door):
     cases = SCRIPTS
-    name, program, subcommand, courses, wanted = "script", "crates/rqm/out/rqm", ["run"], 1000, WANTED
+    name, crate, subcommand, courses, wanted = "script", "rqm", ["run"], 1000, WANTED
 
     def words(self, sizes):
         return ["--directory", str(sizes[0]), "--cells", str(sizes[1])]

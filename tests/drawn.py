@@ -13,18 +13,18 @@ import sys
 import tempfile
 from collections import Counter
 
-from cases import TOP
+from cases import built
 
 MOST_SECONDS = 60
 
 
 class Door:
     """What is drawn for a program. The reference has to print what stands beside each of the `cases` in files, and where they are
-    run here (`runs_cases`), so has the program. `name` is the kind of file; `program` the default one, and `subcommand` its first
+    run here (`runs_cases`), so has the program. `name` is the kind of file; `crate` that of the program, and `subcommand` its first
     words; `wanted` says what has to be met how often in so many (`courses`) of the seeds from 0."""
 
     cases, runs_cases = None, False
-    name, program, subcommand, courses, wanted = "script", "", [], 1000, {}
+    name, crate, subcommand, courses, wanted = "script", "rqm", [], 1000, {}
 
     def words(self, sizes):
         """The words behind those, for a store of so many directory pages and cell pages."""
@@ -146,7 +146,7 @@ def few(door, met, first, count):
 
 def chosen_words(door, description):
     words = argparse.ArgumentParser(description=description)
-    words.add_argument("--program", default=str(TOP / door.program), help="the program (default: the proved one)")
+    words.add_argument("--program", help="a program that was built elsewhere")
     words.add_argument("--first", type=int, default=0, metavar="SEED", help="the first seed (default: 0)")
     words.add_argument("--courses", type=int, default=door.courses, metavar="N", help=f"how many (default: {door.courses})")
     words.add_argument("--keep", type=pathlib.Path, metavar="FOLDER", help="write each one down there")
@@ -156,10 +156,13 @@ def chosen_words(door, description):
 
 def main(door, description):
     chosen = chosen_words(door, description)
-    is_right = agrees(door) and (not door.runs_cases or door.cases.run(chosen.program))
+    program = built(chosen.program, door.crate)
+    is_right = agrees(door)
+    if door.runs_cases:
+        is_right = door.cases.run(program) and is_right
     if chosen.keep:
         chosen.keep.mkdir(parents=True, exist_ok=True)
-    jobs = [(door, chosen.program, seed, chosen.keep) for seed in range(chosen.first, chosen.first + chosen.courses)]
+    jobs = [(door, program, seed, chosen.keep) for seed in range(chosen.first, chosen.first + chosen.courses)]
     met, wrong = Counter(), []
     with multiprocessing.Pool(os.cpu_count()) as pool:
         for seed, found, is_bad in pool.imap_unordered(course, jobs, chunksize=8):
@@ -168,8 +171,8 @@ def main(door, description):
     for seed in sorted(wrong)[:1]:
         sizes, lines, _, _ = door.draw(seed, Counter())
         print(f"what seed {seed} draws goes wrong, and so do {len(wrong) - 1} others: {sorted(wrong)[1:20]}")
-        short = shrunk(lines, door.without, lambda fewer: is_wrong(door, chosen.program, fewer, sizes))
-        show(door, chosen.program, seed, short, sizes, chosen.keep or pathlib.Path(tempfile.mkdtemp()))
+        short = shrunk(lines, door.without, lambda fewer: is_wrong(door, program, fewer, sizes))
+        show(door, program, seed, short, sizes, chosen.keep or pathlib.Path(tempfile.mkdtemp()))
     seldom = few(door, met, chosen.first, chosen.courses)
     for kind, count, least in seldom:
         print(f"{kind} was met {count} times, and not {least}")
@@ -177,5 +180,6 @@ def main(door, description):
         print("".join(f"  {kind} {count}\n" for kind, count in sorted(met.items())), end="")
     last = chosen.first + chosen.courses - 1
     right = chosen.courses - len(wrong)
-    print(f"{right} of {chosen.courses} drawn ({door.name}), seeds {chosen.first} to {last}, {met['lines']} lines, print what they should")
+    of = f"drawn ({door.name}), seeds {chosen.first} to {last}, {met['lines']} lines"
+    print(f"{right} of {chosen.courses} {of}, print what they should")
     sys.exit(0 if is_right and not wrong and not seldom else 1)

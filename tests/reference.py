@@ -318,7 +318,8 @@ class Mending:
     def undo_writes(self):
         for sub in sorted(sub for sub, writes in self.open_writes.items() if not writes):
             self.devices.add(("void", sub))
-        for lsn, record in sorted((write for writes in self.open_writes.values() for write in writes), reverse=True, key=lambda it: it[0]):
+        writes = [write for writes in self.open_writes.values() for write in writes]
+        for lsn, record in sorted(writes, key=lambda write: -write[0]):
             sub = record[1]
             self.devices.add(("back", sub, record[2], lsn))
             self.open_writes[sub].pop()
@@ -352,7 +353,9 @@ class Mending:
         self.note(LOSSES[deed.kind])
 
 
-CUTS = {"append": "SendCut", "take": "TakeCut", "close": "CloseCut", "unsend": "UnsendCut", "put-back": "BackCut", "reopen": "ReopenCut"}
+CUTS = {
+    "append": "SendCut", "take": "TakeCut", "close": "CloseCut", "unsend": "UnsendCut", "put-back": "BackCut", "reopen": "ReopenCut",
+}  # fmt: skip
 LOSSES = {"append": "SendLost", "take": "TakeLost", "close": "CloseLost"}
 UNDOINGS = {"append": "SendUndone", "take": "TakeUndone", "close": "CloseUndone"}
 

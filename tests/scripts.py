@@ -11,17 +11,17 @@ is absent, they are `--directory 1 --cells 1`. The exit status has to be 1 where
 import argparse
 import sys
 
-from cases import TOP, Cases
+from cases import Cases, built
 
 SCRIPTS = Cases("scripts", "script", ["run"], ["--directory", "1", "--cells", "1"])
 
 
 def main():
     words = argparse.ArgumentParser(description="Runs the scripts of tests/scripts.")
-    words.add_argument("--program", default=str(TOP / "crates/rqm/out/rqm"), help="the program (default: the proved one)")
+    words.add_argument("--program", help="a program that was built elsewhere")
     words.add_argument("names", nargs="*", metavar="NAME", help="these scripts alone")
     chosen = words.parse_args()
-    sys.exit(0 if SCRIPTS.run(chosen.program, chosen.names) else 1)
+    sys.exit(0 if SCRIPTS.run(built(chosen.program, "rqm"), chosen.names) else 1)
 
 
 if __name__ == "__main__":

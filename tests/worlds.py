@@ -248,7 +248,7 @@ def renumbered(line, at, end):
 
 class Worlds(drawn.Door):
     cases, runs_cases = Cases("worlds", "happenings", [], ["1", "1"]), True
-    name, program, courses, wanted = "happenings", "crates/happenings/out/happenings", 1500, WANTED
+    name, crate, courses, wanted = "happenings", "happenings", 1500, WANTED
 
     def words(self, sizes):
         return [str(sizes[0]), str(sizes[1])]
