@@ -2,6 +2,7 @@
 use Rattle.std.proofs.Common.{◌≡◌, ℕ, List, ◌++◌, sym, ◌∙◌, ap, subst, Bool, true, false, Result, Ok, Err, inl, inr}
 use Rattle.std.specs.Prelude.{IfOk, IsOk, OnOk}
 use Rattle.std.proofs.lemmas.Bool.{cases_Bool}
+use Rattle.std.proofs.lemmas.List.{append_cancel_left}
 use Rattle.rq_model.specs.declared.refusal.NoMemory.{NoMemory}
 use Rattle.rq_wire.specs.declared.frames.Fed.{Fed}
 use Rattle.rq_wire.specs.declared.request.Request.{Request}
@@ -38,3 +39,16 @@ feed_alike old old2 x y piece p q is b r s c t u =
     fed_one old x y piece p q b r s
     (subst (λ (w : Wire). w.fault ≡ false → OnOk q (y.bytes ≡ w.bytes ++ piece)) (sym is) c) t
     (subst (λ (w : Wire). w.fault ≡ true → IsOk q × (y ≡ w)) (sym is) u)
+
+-- a piece gives the same
+pub given_alike : (old old2 x y : Wire) (p q : Result Fed NoMemory) → old ≡ old2 → IfOk p (λ _. IfOk q (λ _. x ≡ y))
+    → IfOk p (λ a. x.given ≡ old.given ++ a.requests.items) → IfOk p (λ a. a.fault ≡ x.fault)
+    → IfOk q (λ b. y.given ≡ old2.given ++ b.requests.items) → IfOk q (λ b. b.fault ≡ y.fault)
+    → IfOk p (λ a. IfOk q (λ b. (a.requests.items ≡ b.requests.items) × (a.fault ≡ b.fault)))
+given_alike old old2 x y (Ok a) (Ok b) is e f g h k = (
+  append_cancel_left old.given a.requests.items b.requests.items
+      (sym f ∙ ap (λ (w : Wire). w.given) e ∙ h ∙ ap (λ (w : Wire). w.given ++ b.requests.items) (sym is)),
+  g ∙ ap (λ (w : Wire). w.fault) e ∙ sym k,
+)
+given_alike old old2 x y (Ok a) (Err e) is s f g h k = tt
+given_alike old old2 x y (Err d) q is s f g h k = tt

@@ -9,3 +9,6 @@ pub mod Told
 pub mod Fed
 pub mod Audits
 pub mod Restarting
+pub mod Writing
+pub mod Latching
+pub mod Broken

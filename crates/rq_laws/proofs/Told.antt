@@ -1,5 +1,5 @@
 -- What bytes and records tell is one.
-use Rattle.std.proofs.Common.{◌≡◌, ◌≢◌, ℕ, ◌↔◌, nat_eq, List, [], ◌∷◌, ◌++◌, length, drop, refl, sym, ◌∙◌, ap, subst, true, false, Option, Some, None, inl, inr, arith, true≢false}
+use Rattle.std.proofs.Common.{◌≡◌, ◌≢◌, ℕ, ◌↔◌, nat_eq, List, [], ◌∷◌, ◌++◌, length, drop, refl, sym, ◌∙◌, ap, subst, Bool, true, false, Option, Some, None, inl, inr, arith, true≢false}
 use Rattle.std.specs.Prelude.{IfSome, IfNone}
 use Rattle.std.proofs.lemmas.Bool.{cases_Bool, eqb-true, eq-eqb}
 use Rattle.std.proofs.lemmas.Bool.Decides.{nat_tests}
@@ -8,7 +8,8 @@ use Rattle.rq_model.specs.declared.record.Record.{Record}
 use Rattle.rq_model.specs.declared.txn.Sub.{Sub}
 use Rattle.rq_views.specs.Log.{same_op}
 use Rattle.rq_views.proofs.Overlay.{same_is as op_is}
-use Rattle.rq_page.specs.Pages.{IsWritten, rest_of_header, slot_of}
+use Rattle.rq_level.specs.Meaning.{AppliesOnce, IsAppliedOnce, Redo}
+use Rattle.rq_page.specs.Pages.{IsWritten, lsn_of, rest_of_header, slot_of}
 use Rattle.rq_record.specs.declared.step.Step.{Step}
 use Rattle.rq_record.specs.declared.step.Step.TheVariants as steps
 use Rattle.rq_record.specs.Decoding.{IfRecord, IsFront}
@@ -21,6 +22,9 @@ use Rattle.rq_laws.specs.Alike.{PagesAlike}
 
 -- ---- pages
 
+the_same : (x y : List ℕ) → x ≡ y → PagesAlike x y
+the_same x y e = record { lsn = ap lsn_of e; header = ap rest_of_header e; slots = λ k low high. ap (slot_of k) e }
+
 pub written_alike : (old old2 x y : List ℕ) (n stamp : ℕ) (image : List ℕ) → old ≡ old2 → IsWritten old x n image stamp → IsWritten old2 y n image stamp → PagesAlike x y
 written_alike old old2 x y n stamp image is f h = record {
   lsn = f.lsn ∙ sym h.lsn;
@@ -30,6 +34,22 @@ written_alike old old2 x y n stamp image is f h = record {
     | inr there ↦ (let ne : k ≢ n = (λ e. true≢false (sym (eq-eqb k n e) ∙ there)) in f.others k low high ne ∙ ap (slot_of k) is ∙ sym (h.others k low high ne))
   ];
 }
+
+redone_here : (old x y : List ℕ) (lsn : ℕ) (w : Redo) (a b : Bool) → IsAppliedOnce old lsn w a x → IsAppliedOnce old lsn w b y → a ≡ b → PagesAlike x y
+redone_here old x y lsn w true true f g e = written_alike old old x y w.slot lsn w.after refl (f.done refl) (g.done refl)
+redone_here old x y lsn w true false f g e = absurd (true≢false e)
+redone_here old x y lsn w false true f g e = absurd (true≢false (sym e))
+redone_here old x y lsn w false false f g e = the_same x y (f.kept refl ∙ sym (g.kept refl))
+
+redone_one : (old x y : List ℕ) (lsn : ℕ) (w : Option Redo) (a b : Bool) → AppliesOnce w old lsn a x → AppliesOnce w old lsn b y → (a ≡ b) × PagesAlike x y
+redone_one old x y lsn None a b f g = (f.0 ∙ sym g.0, the_same x y (f.1 ∙ sym g.1))
+redone_one old x y lsn (Some w) a b f g =
+    let e = f.answer ∙ sym g.answer in
+    (e, redone_here old x y lsn w a b f g e)
+
+-- a record is applied to the same pages, and leaves the same there
+pub redone_alike : (old old2 x y : List ℕ) (lsn : ℕ) (w : Option Redo) (a b : Bool) → old ≡ old2 → AppliesOnce w old lsn a x → AppliesOnce w old2 lsn b y → (a ≡ b) × PagesAlike x y
+redone_alike old old2 x y lsn w a b is f g = redone_one old x y lsn w a b f (subst (λ (o : List ℕ). AppliesOnce w o lsn b y) (sym is) g)
 
 -- ---- bytes
 

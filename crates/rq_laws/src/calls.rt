@@ -1,16 +1,19 @@
 //! Calls of the engine that start and step no operation, by two stores in the same state.
-ghost use Rattle.std.specs.Prelude.{◌≡◌, IfOk};
+ghost use Rattle.std.specs.Prelude.{◌≡◌, ℕ, List, IfOk, map};
+ghost use Rattle.rq_content.specs.Read.{group_of};
 ghost use Rattle.rq_engine.specs.Opened.{AreHonest};
 ghost use Rattle.rq_engine.specs.Says.{receipt_of};
-ghost use Rattle.rq_laws.specs.Refusals.{RefuseAlike};
+ghost use Rattle.rq_laws.specs.Refusals.{RefuseAlike, RefuseTheSame};
 ghost use Rattle.rq_sound.specs.Sound.{IsSound};
 
+use rq_content::GroupContent;
 use rq_disk::{LogDevice, PageDevice};
 use rq_engine::engine::Engine;
 use rq_engine::event::{CommitNo, LastTag, Receipt};
 use rq_level::Level;
 use rq_model::refusal::Refusal;
 use rq_model::txn::{Lsn, Txn};
+use rq_pool::Written;
 
 /// A transaction that is begun has the same number. Excludes a number that is given twice, and a begin that is refused
 /// as too many or as failed where it need not be.
@@ -26,14 +29,16 @@ pub fn begin<P: PageDevice, L: LogDevice, B: Level>(
     (first.begin(), second.begin())
 }
 
-/// A commit leaves the same state, has the same record, and leaves the pages alone. Excludes one that keeps its ends
-/// held, that has what it sent wait before, or twice, or that leaves the cells of what it took in use.
+/// A commit answers the same number, leaves the same state, and leaves the pages alone. Excludes a number that
+/// `acknowledged` is then asked with in vain, a commit that keeps its ends held, one that has what it sent wait before,
+/// or twice, and one that leaves the cells of what it took in use.
 pub fn commit<P: PageDevice, L: LogDevice, B: Level>(
     first: &mut Engine<P, L, B>,
     second: &mut Engine<P, L, B>,
     txn: Txn,
 ) -> (Result<CommitNo, Refusal>, Result<CommitNo, Refusal>)
     requires same { first.old ≡ second.old }
+    ensures number { IfOk result.0 (λ a. IfOk result.1 (λ b. a ≡ b)) }
     ensures state { IfOk result.0 (λ a. IfOk result.1 (λ b. first.new.state ≡ second.new.state)) }
     ensures devices { IfOk result.0 (λ a. IfOk result.1 (λ b. first.new.pages ≡ second.new.pages)) }
     ensures decided { AreHonest P.PageDevice L.LogDevice first.new → AreHonest P.PageDevice L.LogDevice second.new
@@ -70,7 +75,8 @@ pub fn end_abort<P: PageDevice, L: LogDevice, B: Level>(
     (first.end_abort(txn), second.end_abort(txn))
 }
 
-/// Whether a commit is durable is told alike. Excludes a receipt before the force, and none behind it.
+/// Whether a commit is durable is told alike, or both are refused for the same. Excludes a receipt before the force,
+/// none behind it, and a refusal of a store that runs.
 pub fn acknowledged<P: PageDevice, L: LogDevice, B: Level>(
     first: &Engine<P, L, B>,
     second: &Engine<P, L, B>,
@@ -81,11 +87,13 @@ pub fn acknowledged<P: PageDevice, L: LogDevice, B: Level>(
 )
     requires same { first.now ≡ second.now }
     ensures same { IfOk result.0 (λ a. IfOk result.1 (λ b. receipt_of a ≡ receipt_of b)) }
+    ensures decided { RefuseTheSame result.0 result.1 }
 {
     (first.acknowledged(number), second.acknowledged(number))
 }
 
-/// A hand-over leaves the same state, and both logs read as the same bytes. Excludes one that does nothing.
+/// A hand-over leaves the same state, and both logs read as the same bytes; where one is refused, so is the other, but
+/// for a device that failed. Excludes one that does nothing, and a refusal of a store that runs.
 pub fn hand_over<P: PageDevice, L: LogDevice, B: Level>(
     first: &mut Engine<P, L, B>,
     second: &mut Engine<P, L, B>,
@@ -94,25 +102,33 @@ pub fn hand_over<P: PageDevice, L: LogDevice, B: Level>(
     ensures same { IfOk result.0 (λ a. IfOk result.1 (λ b. first.new.state ≡ second.new.state)) }
     ensures reads { IfOk result.0 (λ _. IfOk result.1 (λ _. L.honest first.new.log → L.honest second.new.log
         → L.seen first.new.log ≡ L.seen second.new.log)) }
+    ensures decided { RefuseAlike result.0 result.1 }
 {
     (first.hand_over(), second.hand_over())
 }
 
-/// A force forces the same records, and both logs read as the same bytes. Excludes one that counts what it did not
-/// hand over.
+/// A force forces the same records and leaves the same state, both logs read as the same bytes, and a crash leaves the
+/// same of both; where one is refused, so is the other, but for a device that failed. Excludes one that counts what it
+/// did not hand over, or did not force, and a refusal of a store that runs.
 pub fn force<P: PageDevice, L: LogDevice, B: Level>(
     first: &mut Engine<P, L, B>,
     second: &mut Engine<P, L, B>,
 ) -> (Result<Lsn, Refusal>, Result<Lsn, Refusal>)
     requires same { first.old ≡ second.old }
     ensures same { IfOk result.0 (λ a. IfOk result.1 (λ b. a ≡ b)) }
+    ensures state { IfOk result.0 (λ _. IfOk result.1 (λ _. first.new.state ≡ second.new.state)) }
     ensures reads { IfOk result.0 (λ _. IfOk result.1 (λ _. L.honest first.new.log → L.honest second.new.log
         → L.seen first.new.log ≡ L.seen second.new.log)) }
+    ensures durable { IfOk result.0 (λ _. IfOk result.1 (λ _. L.honest first.new.log → L.honest second.new.log
+        → (c d : List ℕ) → L.may_leave first.new.log c → L.may_leave second.new.log d → c ≡ d)) }
+    ensures decided { RefuseAlike result.0 result.1 }
 {
     (first.force(), second.force())
 }
 
-/// The last tag is told alike. Excludes a tag that is taken from the cells that are left.
+/// The last tag is told alike; and of a sound store both are refused for the same, or neither is. Of a store that is not
+/// sound the contract does not say when a sender is unknown. Excludes a tag that is taken from the cells that are left,
+/// and a refusal of a sender of the store.
 pub fn last_tag<P: PageDevice, L: LogDevice, B: Level>(
     first: &Engine<P, L, B>,
     second: &Engine<P, L, B>,
@@ -120,6 +136,46 @@ pub fn last_tag<P: PageDevice, L: LogDevice, B: Level>(
 ) -> (Result<LastTag, Refusal>, Result<LastTag, Refusal>)
     requires same { first.now ≡ second.now }
     ensures same { IfOk result.0 (λ a. IfOk result.1 (λ b. a ≡ b)) }
+    ensures decided { AreHonest P.PageDevice L.LogDevice first.now → AreHonest P.PageDevice L.LogDevice second.now
+        → IsSound first.now.state → RefuseTheSame result.0 result.1 }
 {
     (first.last_tag(sender), second.last_tag(sender))
+}
+
+/// A page that goes out leaves the same state, the same pages to be written, and what both devices read of each page;
+/// where one is refused, so is the other for the same, but for a device that failed. Excludes a page that goes out before
+/// its last record is forced, one that is answered as written and is not, and one that stays to be written.
+pub fn write_page<P: PageDevice, L: LogDevice, B: Level>(
+    first: &mut Engine<P, L, B>,
+    second: &mut Engine<P, L, B>,
+    page: u32,
+) -> (Result<Written, Refusal>, Result<Written, Refusal>)
+    requires same { first.old ≡ second.old }
+    ensures same { IfOk result.0 (λ a. IfOk result.1
+        (λ b. (a ≡ b) × (first.new.state ≡ second.new.state) × (first.new.changed ≡ second.new.changed))) }
+    ensures reads { IfOk result.0 (λ _. IfOk result.1
+        (λ _. (p : ℕ) → P.seen first.new.pages p ≡ P.seen second.new.pages p)) }
+    ensures log { first.new.log ≡ second.new.log }
+    ensures decided { RefuseAlike result.0 result.1 }
+{
+    (first.write_page(page), second.write_page(page))
+}
+
+/// Of a sound store the same content is shown. Of one that is not sound, or whose devices were not honest, the contract
+/// says nothing of what is shown. Excludes what is not committed, what was received, and a group that is left out.
+pub fn content<P: PageDevice, L: LogDevice, B: Level>(
+    first: &Engine<P, L, B>,
+    second: &Engine<P, L, B>,
+) -> (
+    Result<Vec<GroupContent>, Refusal>,
+    Result<Vec<GroupContent>, Refusal>,
+)
+    requires same { first.now ≡ second.now }
+    ensures same { AreHonest P.PageDevice L.LogDevice first.now → AreHonest P.PageDevice L.LogDevice second.now
+        → IsSound first.now.state
+        → IfOk result.0 (λ a. IfOk result.1 (λ b. map group_of a.items ≡ map group_of b.items)) }
+    ensures decided { AreHonest P.PageDevice L.LogDevice first.now → AreHonest P.PageDevice L.LogDevice second.now
+        → IsSound first.now.state → RefuseAlike result.0 result.1 }
+{
+    (first.content(), second.content())
 }

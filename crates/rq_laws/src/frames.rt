@@ -13,6 +13,8 @@ pub fn feed(
     piece: &[u8],
 ) -> (Result<Fed, NoMemory>, Result<Fed, NoMemory>)
     requires same { first.old ≡ second.old }
+    ensures given { IfOk result.0 (λ a. IfOk result.1
+        (λ b. (a.requests.items ≡ b.requests.items) × (a.fault ≡ b.fault))) }
     ensures left { IfOk result.0 (λ _. IfOk result.1 (λ _. first.new ≡ second.new)) }
 {
     (first.feed(piece), second.feed(piece))

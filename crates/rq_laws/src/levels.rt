@@ -1,6 +1,7 @@
 //! Levels of recovery: two of one number that keep the same of a store.
 ghost use Rattle.std.specs.Prelude.{◌≡◌, IfOk};
 ghost use Rattle.rq_level.specs.Meaning.{AreOf, IsRedo, redo_of};
+ghost use Rattle.rq_laws.specs.Alike.{PagesAlike};
 ghost use Rattle.rq_laws.specs.Planned.{PlannedAlike};
 
 use rq_level::{Level, Op, PageSet, Plan, Slots};
@@ -30,7 +31,8 @@ pub fn noted<B: Level>(first: &mut B, second: &mut B, at: Addr, bytes: &Slot)
     second.noted(at, bytes);
 }
 
-/// They apply a record to the same pages. Excludes a level that applies a record to a page that has it.
+/// They apply a record to the same pages, and leave the same slots there; what they keep stays the same. Excludes a
+/// level that applies a record to a page that has it, and one that answers that it did and writes something else.
 pub fn redoes<B: Level>(
     first: &mut B,
     second: &mut B,
@@ -41,7 +43,9 @@ pub fn redoes<B: Level>(
 ) -> (bool, bool)
     requires same { page.old ≡ again.old }
     requires redo { IsRedo (redo_of told.now) }
-    ensures { result.0 ≡ result.1 }
+    ensures applied { result.0 ≡ result.1 }
+    ensures pages { PagesAlike page.new again.new }
+    ensures kept { B.kept first.old ≡ B.kept second.old → B.kept first.new ≡ B.kept second.new }
 {
     (first.redo(page, lsn, told), second.redo(again, lsn, told))
 }

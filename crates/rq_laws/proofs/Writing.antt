@@ -1,0 +1,269 @@
+-- Calls that write out or only ask, by two stores in the same state.
+use Rattle.std.proofs.Common.{◌≡◌, ℕ, ◌+◌, ◌↔◌, ◌<◌, ◌≤◌, List, length, refl, sym, ◌∙◌, ap, subst, Bool, true, false, Result, Ok, Err, ◌⊎◌, inl, inr, arith, true≢false}
+use Rattle.std.specs.Prelude.{IfErr, IfOk, OnOk, Vec, map}
+use Rattle.rq_model.specs.declared.refusal.Refusal.{Refusal}
+use Rattle.rq_model.specs.declared.refusal.Refusal.TheVariants as why
+use Rattle.rq_model.specs.declared.txn.Txn.{Txn}
+use Rattle.rq_model.specs.History.{Entry, Group}
+use Rattle.rq_model.specs.History.Call.{Last_tag, Show}
+use Rattle.rq_model.specs.Legal.{Legal}
+use Rattle.rq_model.specs.Ledger.{group_in}
+use Rattle.rq_model.specs.Replay.Reply.{Gave_content, Gave_tag}
+use Rattle.rq_model.specs.Tests.{Passes, below}
+use Rattle.rq_disk.specs.Device.{Images, Only}
+use Rattle.rq_disk.specs.declared.device.LogDevice as log_device
+use Rattle.rq_disk.specs.declared.device.PageDevice as page_device
+use Rattle.rq_content.specs.Read.{group_of}
+use Rattle.rq_content.specs.declared.GroupContent.{GroupContent}
+use Rattle.rq_pool.specs.declared.Written.{Written}
+use Rattle.rq_pool.specs.declared.Written.TheVariants.{Done, Nothing}
+use Rattle.rq_pool.specs.Pooled.{image_at}
+use Rattle.rq_pool.specs.Writing.{DeviceAfter, IsUnwritten, changed_after}
+use Rattle.rq_page.specs.Pages.{lsn_of}
+use Rattle.rq_store.specs.State.{State, ledger_of, size_of}
+use Rattle.rq_sound.specs.Sound.{IsSound}
+use Rattle.rq_sound.specs.Steps.{Steps}
+use Rattle.rq_engine.specs.Answers.{AnswersLegally}
+use Rattle.rq_engine.specs.Lists.{IsCommitted}
+use Rattle.rq_engine.specs.Opened.{AreHonest, NotWritten, OpenStore, WritesWhen, pooled, state_after}
+use Rattle.rq_engine.specs.declared.event.CommitNo.{CommitNo}
+use Rattle.rq_engine.specs.declared.event.LastTag.{LastTag}
+use Rattle.rq_laws.specs.Refusals.{IsWant, RefuseAlike, RefuseTheSame}
+
+no_answer : {X : Type 0} (a : X) (r : Refusal) → Ok a ≡ Err r → ⊥
+no_answer a r e = cc
+
+-- ---- refused exactly where the store has failed
+
+-- a call is refused as Failed exactly where this is true
+abbrev pub FailsWhen : {X : Type 0} → Bool → Result X Refusal → Type 0
+FailsWhen failed p = (p ≡ Err why.Failed) ↔ (failed ≡ true)
+
+failed_one : {X Y : Type 0} (failed : Bool) (p : Result X Refusal) (q : Result Y Refusal) → FailsWhen failed p → IfErr p (λ r. r ≡ why.Failed) → FailsWhen failed q → IfErr q (λ r. r ≡ why.Failed) → RefuseTheSame p q
+failed_one failed (Ok a) (Ok b) f r g s = tt
+failed_one failed (Ok a) (Err e) f r g s = no_answer a why.Failed (f.1 (g.0 (ap (λ (x : Refusal). Err x) s)))
+failed_one failed (Err d) (Ok b) f r g s = no_answer b why.Failed (g.1 (f.0 (ap (λ (x : Refusal). Err x) r)))
+failed_one failed (Err d) (Err e) f r g s = r ∙ sym s
+
+pub failed_alike : {P L X Y : Type 0} (old old2 : OpenStore P L) (p : Result X Refusal) (q : Result Y Refusal) → old ≡ old2 → FailsWhen old.state.failed p → IfErr p (λ r. r ≡ why.Failed) → FailsWhen old2.state.failed q → IfErr q (λ r. r ≡ why.Failed) → RefuseTheSame p q
+failed_alike {P} {L} old old2 p q is f r g s = failed_one old.state.failed p q f r (subst (λ (o : OpenStore P L). FailsWhen o.state.failed q) (sym is) g) s
+
+-- ---- records that are handed over, or forced
+
+not_written : {P L : Type 0} (g : log_device.Ghosts L) (old x : OpenStore P L) (r : Refusal) → NotWritten g old x r → ((r ≡ why.Failed) × (old.state.failed ≡ true)) ⊎ IsWant r
+not_written g old x why.NoMemory h = absurd h
+not_written g old x why.DiskWrite h = inr tt
+not_written g old x why.DiskRead h = absurd h
+not_written g old x (why.Damaged d) h = absurd h
+not_written g old x why.PoolFull h = absurd h
+not_written g old x why.NotForced h = absurd h
+not_written g old x why.Latched h = absurd h
+not_written g old x why.Failed h = inl (refl, h.0)
+not_written g old x why.UnknownTransaction h = absurd h
+not_written g old x why.NotOpen h = absurd h
+not_written g old x why.Unfinished h = absurd h
+not_written g old x why.UnknownSender h = absurd h
+not_written g old x why.TooLong h = absurd h
+not_written g old x why.SenderBusy h = absurd h
+not_written g old x why.Closed h = absurd h
+not_written g old x why.ReceiverBusy h = absurd h
+not_written g old x why.Full h = absurd h
+not_written g old x why.TooManyTransactions h = absurd h
+not_written g old x why.LogFull h = absurd h
+not_written g old x why.UnknownOperation h = absurd h
+
+module _ {P L X Y : Type 0} (g : log_device.Ghosts L) where
+  handed_one : (old x y : OpenStore P L) (p : Result X Refusal) (q : Result Y Refusal) → FailsWhen old.state.failed p → IfErr p (λ r. NotWritten g old x r) → FailsWhen old.state.failed q → IfErr q (λ r. NotWritten g old y r) → RefuseAlike p q
+  handed_one old x y (Ok a) (Ok b) f r h s = tt
+  handed_one old x y (Ok a) (Err e) f r h s = elim (not_written g old y e s) [ inl n ↦ absurd (no_answer a why.Failed (f.1 n.1)) | inr w ↦ w ]
+  handed_one old x y (Err d) (Ok b) f r h s = elim (not_written g old x d r) [ inl n ↦ absurd (no_answer b why.Failed (h.1 n.1)) | inr w ↦ w ]
+  handed_one old x y (Err d) (Err e) f r h s = elim (not_written g old x d r) [
+    | inl n ↦ elim (not_written g old y e s) [ inl m ↦ inl (n.0 ∙ sym m.0) | inr w ↦ inr (inr w) ]
+    | inr w ↦ inr (inl w)
+  ]
+
+  -- both are refused alike
+  pub handed_alike : (old old2 x y : OpenStore P L) (p : Result X Refusal) (q : Result Y Refusal) → old ≡ old2 → FailsWhen old.state.failed p → IfErr p (λ r. NotWritten g old x r) → FailsWhen old2.state.failed q → IfErr q (λ r. NotWritten g old2 y r) → RefuseAlike p q
+  handed_alike old old2 x y p q is f r h s =
+      handed_one old x y p q f r (subst (λ (o : OpenStore P L). FailsWhen o.state.failed q) (sym is) h)
+      (subst (λ (o : OpenStore P L). IfErr q (λ r. NotWritten g o y r)) (sym is) s)
+
+-- what both logs may be left as is one
+pub left_one : {L X Y : Type 0} (g : log_device.Ghosts L) (bytes others : List ℕ) (x y : L) (p : Result X Refusal) (q : Result Y Refusal) → bytes ≡ others → OnOk p (g.honest x → Only bytes (g.may_leave x)) → OnOk q (g.honest y → Only others (g.may_leave y))
+    → IfOk p (λ _. IfOk q (λ _. g.honest x → g.honest y → (c d : List ℕ) → g.may_leave x c → g.may_leave y d → c ≡ d))
+left_one g bytes others x y (Ok a) (Ok b) is f h = λ hx hy c d m n. f hx c m ∙ is ∙ sym (h hy d n)
+left_one g bytes others x y (Ok a) (Err e) is f h = tt
+left_one g bytes others x y (Err d) q is f h = tt
+
+-- ---- pages that go out
+
+unwritten : {P L : Type 0} (s : OpenStore P L) (page : ℕ) (r : Refusal) → WritesWhen s page (Err r)
+    → ((r ≡ why.Failed) × (s.state.failed ≡ true)) ⊎ ((r ≡ why.NotForced) × (s.state.failed ≡ false) × IsUnwritten (pooled s) page × (s.state.forced < lsn_of (image_at s.state.images page))) ⊎ IsWant r
+unwritten s page why.NoMemory h = absurd h.1
+unwritten s page why.DiskWrite h = inr (inr tt)
+unwritten s page why.DiskRead h = absurd h.1
+unwritten s page (why.Damaged d) h = absurd h.1
+unwritten s page why.PoolFull h = absurd h.1
+unwritten s page why.NotForced h = inr (inl (refl, h))
+unwritten s page why.Latched h = absurd h.1
+unwritten s page why.Failed h = inl (refl, h)
+unwritten s page why.UnknownTransaction h = absurd h.1
+unwritten s page why.NotOpen h = absurd h.1
+unwritten s page why.Unfinished h = absurd h.1
+unwritten s page why.UnknownSender h = absurd h.1
+unwritten s page why.TooLong h = absurd h.1
+unwritten s page why.SenderBusy h = absurd h.1
+unwritten s page why.Closed h = absurd h.1
+unwritten s page why.ReceiverBusy h = absurd h.1
+unwritten s page why.Full h = absurd h.1
+unwritten s page why.TooManyTransactions h = absurd h.1
+unwritten s page why.LogFull h = absurd h.1
+unwritten s page why.UnknownOperation h = absurd h.1
+
+module _ {P L : Type 0} (g : page_device.Ghosts P) where
+  -- what a page that was to go out says
+  abbrev pub Writes : ℕ → OpenStore P L → OpenStore P L → Result Written Refusal → Type 0
+  Writes page old x p = WritesWhen old page p × (x.state ≡ state_after old.state p) × (x.changed ≡ changed_after old.changed page p)
+      × DeviceAfter g page (image_at old.state.images page) old.pages x.pages p
+
+  -- an answer comes with no refusal but for a device that failed
+  no_refusal : (s : OpenStore P L) (page : ℕ) (w : Written) (r : Refusal) → WritesWhen s page (Ok w) → WritesWhen s page (Err r) → IsWant r
+  no_refusal s page Done r f h = elim (unwritten s page r h) [
+    | inl n ↦ absurd (true≢false (sym n.1 ∙ f.0))
+    | inr v ↦ elim v [ inl n ↦ (let le = f.1.1 in let lt = n.1.1.1 in absurd (omega (arith, le, lt))) | inr w ↦ w ]
+  ]
+  no_refusal s page Nothing r f h = elim (unwritten s page r h) [
+    | inl n ↦ absurd (true≢false (sym n.1 ∙ f.0))
+    | inr v ↦ elim v [ inl n ↦ absurd (true≢false (sym n.1.1.0.changed ∙ f.1)) | inr w ↦ w ]
+  ]
+
+  refused_one : (s : OpenStore P L) (page : ℕ) (p q : Result Written Refusal) → WritesWhen s page p → WritesWhen s page q → RefuseAlike p q
+  refused_one s page (Ok a) (Ok b) f h = tt
+  refused_one s page (Ok a) (Err e) f h = no_refusal s page a e f h
+  refused_one s page (Err d) (Ok b) f h = no_refusal s page b d h f
+  refused_one s page (Err d) (Err e) f h = elim (unwritten s page d f) [
+    | inl n ↦ elim (unwritten s page e h) [
+      | inl m ↦ inl (n.0 ∙ sym m.0)
+      | inr v ↦ elim v [ inl m ↦ absurd (true≢false (sym n.1 ∙ m.1.0)) | inr w ↦ inr (inr w) ]
+    ]
+    | inr u ↦ elim u [
+      | inl n ↦ elim (unwritten s page e h) [
+        | inl m ↦ absurd (true≢false (sym m.1 ∙ n.1.0))
+        | inr v ↦ elim v [ inl m ↦ inl (n.0 ∙ sym m.0) | inr w ↦ inr (inr w) ]
+      ]
+      | inr w ↦ inr (inl w)
+    ]
+  ]
+
+  wrote_one : (page : ℕ) (old x y : OpenStore P L) (a b : Written) → Writes page old x (Ok a) → Writes page old y (Ok b) → (a ≡ b) × (x.state ≡ y.state) × (x.changed ≡ y.changed)
+  wrote_one page old x y Done Done f h = (refl, (f.1.0 ∙ sym h.1.0, f.1.1.0 ∙ sym h.1.1.0))
+  wrote_one page old x y Done Nothing f h = absurd (true≢false (sym f.0.1.0.changed ∙ h.0.1))
+  wrote_one page old x y Nothing Done f h = absurd (true≢false (sym h.0.1.0.changed ∙ f.0.1))
+  wrote_one page old x y Nothing Nothing f h = (refl, (f.1.0 ∙ sym h.1.0, f.1.1.0 ∙ sym h.1.1.0))
+
+  reads_one : (page : ℕ) (old x y : OpenStore P L) (a b : Written) → Writes page old x (Ok a) → Writes page old y (Ok b) → (p : ℕ) → g.seen x.pages p ≡ g.seen y.pages p
+  reads_one page old x y Done Done f h = λ p. f.1.1.1.0 p ∙ sym (h.1.1.1.0 p)
+  reads_one page old x y Done Nothing f h = absurd (true≢false (sym f.0.1.0.changed ∙ h.0.1))
+  reads_one page old x y Nothing Done f h = absurd (true≢false (sym h.0.1.0.changed ∙ f.0.1))
+  reads_one page old x y Nothing Nothing f h = λ p. ap (λ (d : P). g.seen d p) (f.1.1.1 ∙ sym h.1.1.1)
+
+  -- both answer and leave the same
+  pub wrote_alike : (page : ℕ) (old old2 x y : OpenStore P L) (p q : Result Written Refusal) → old ≡ old2 → Writes page old x p → Writes page old2 y q → IfOk p (λ a. IfOk q (λ b. (a ≡ b) × (x.state ≡ y.state) × (x.changed ≡ y.changed)))
+  wrote_alike page old old2 x y (Ok a) (Ok b) is f h = wrote_one page old x y a b f (subst (λ o. Writes page o y (Ok b)) (sym is) h)
+  wrote_alike page old old2 x y (Ok a) (Err e) is f h = tt
+  wrote_alike page old old2 x y (Err d) q is f h = tt
+
+  pub reads_alike : (page : ℕ) (old old2 x y : OpenStore P L) (p q : Result Written Refusal) → old ≡ old2 → Writes page old x p → Writes page old2 y q → IfOk p (λ _. IfOk q (λ _. (at : ℕ) → g.seen x.pages at ≡ g.seen y.pages at))
+  reads_alike page old old2 x y (Ok a) (Ok b) is f h = reads_one page old x y a b f (subst (λ o. Writes page o y (Ok b)) (sym is) h)
+  reads_alike page old old2 x y (Ok a) (Err e) is f h = tt
+  reads_alike page old old2 x y (Err d) q is f h = tt
+
+  pub refused_alike : (page : ℕ) (old old2 : OpenStore P L) (p q : Result Written Refusal) → old ≡ old2 → WritesWhen old page p → WritesWhen old2 page q → RefuseAlike p q
+  refused_alike page old old2 p q is f h = refused_one old page p q f (subst (λ o. WritesWhen o page q) (sym is) h)
+
+-- ---- numbers of commits
+
+pub number_alike : (old old2 x y : State) (t : Txn) (p q : Result CommitNo Refusal) → old ≡ old2 → IfOk p (λ a. IsCommitted old t a x) → IfOk q (λ b. IsCommitted old2 t b y) → IfOk p (λ a. IfOk q (λ b. a ≡ b))
+number_alike old old2 x y t (Ok a) (Ok b) is f h =
+    let e = f.txn ∙ sym h.txn in
+    let n = f.lsn ∙ ap (λ (s : State). length s.records + 1) is ∙ sym h.lsn in
+    ap (λ (txn : Txn). record { txn = txn; lsn = a.lsn }) e ∙ ap (λ (lsn : ℕ). record { txn = b.txn; lsn = lsn }) n
+number_alike old old2 x y t (Ok a) (Err e) is f h = tt
+number_alike old old2 x y t (Err d) q is f h = tt
+
+-- ---- last tags, and what is shown
+
+want_none : (r : Refusal) → IsWant r → (r ≡ why.NoMemory → ⊥) → (r ≡ why.DiskWrite → ⊥) → ⊥
+want_none why.NoMemory w m n = m refl
+want_none why.DiskWrite w m n = n refl
+want_none why.DiskRead w m n = w
+want_none (why.Damaged d) w m n = w
+want_none why.PoolFull w m n = w
+want_none why.NotForced w m n = w
+want_none why.Latched w m n = w
+want_none why.Failed w m n = w
+want_none why.UnknownTransaction w m n = w
+want_none why.NotOpen w m n = w
+want_none why.Unfinished w m n = w
+want_none why.UnknownSender w m n = w
+want_none why.TooLong w m n = w
+want_none why.SenderBusy w m n = w
+want_none why.Closed w m n = w
+want_none why.ReceiverBusy w m n = w
+want_none why.Full w m n = w
+want_none why.TooManyTransactions w m n = w
+want_none why.LogFull w m n = w
+want_none why.UnknownOperation w m n = w
+
+abbrev pub IsOfSender : Refusal → Type 0
+IsOfSender r = (r ≡ why.Failed) ⊎ (r ≡ why.UnknownSender)
+
+failed_memory : why.Failed ≡ why.NoMemory → ⊥
+failed_memory e = cc
+
+failed_write : why.Failed ≡ why.DiskWrite → ⊥
+failed_write e = cc
+
+sender_memory : why.UnknownSender ≡ why.NoMemory → ⊥
+sender_memory e = cc
+
+sender_write : why.UnknownSender ≡ why.DiskWrite → ⊥
+sender_write e = cc
+
+no_want : (r : Refusal) → IsOfSender r → IsWant r → ⊥
+no_want r (inl e) w = want_none r w (λ m. failed_memory (sym e ∙ m)) (λ m. failed_write (sym e ∙ m))
+no_want r (inr e) w = want_none r w (λ m. sender_memory (sym e ∙ m)) (λ m. sender_write (sym e ∙ m))
+
+-- where nothing can be wanting both are refused for the same
+pub the_same : {X Y : Type 0} (p : Result X Refusal) (q : Result Y Refusal) → IfErr p IsOfSender → IfErr q IsOfSender → RefuseAlike p q → RefuseTheSame p q
+the_same (Ok a) (Ok b) f h alike = tt
+the_same (Ok a) (Err e) f h alike = no_want e h alike
+the_same (Err d) (Ok b) f h alike = no_want d f alike
+the_same (Err d) (Err e) f h alike = elim alike [
+  | inl same ↦ same
+  | inr w ↦ elim w [ inl v ↦ absurd (no_want d f v) | inr v ↦ absurd (no_want e h v) ]
+]
+
+abbrev entry_legal : State → Entry → Type 0
+entry_legal old e = Legal (size_of old.sizes) (ledger_of old) e
+
+pub tag_passed : (sender : ℕ) (old new : State) (a : LastTag) → Steps old (Last_tag sender) (Gave_tag a.sent a.tag) new → Passes (size_of old.sizes) (ledger_of old) (Last_tag sender)
+tag_passed sender old new a s = (subst (entry_legal old) s.says s.legal).0
+
+pub show_passed : (old new : State) (a : Vec GroupContent) → Steps old Show (Gave_content (map group_of a.items)) new → Passes (size_of old.sizes) (ledger_of old) Show
+show_passed old new a s = (subst (entry_legal old) s.says s.legal).0
+
+shown : (old new : State) (gs : List Group) → Steps old Show (Gave_content gs) new → gs ≡ map (group_in (ledger_of old).committed) (below (size_of old.sizes).senders)
+shown old new gs s = (subst (entry_legal old) s.says s.legal).1
+
+module _ {P L : Type 0} (p : page_device.Ghosts P) (l : log_device.Ghosts L) where
+  -- what shows the content of a store
+  abbrev pub Shows : OpenStore P L → Result (Vec GroupContent) Refusal → Type 0
+  Shows s r = AnswersLegally p l s Show (λ groups. Gave_content (map group_of groups.items)) r s
+
+  pub shown_alike : (s t : OpenStore P L) (a b : Result (Vec GroupContent) Refusal) → s ≡ t → Shows s a → Shows t b → AreHonest p l s → AreHonest p l t → IsSound s.state → IfOk a (λ x. IfOk b (λ y. map group_of x.items ≡ map group_of y.items))
+  shown_alike s t (Ok x) (Ok y) is f g h k sound =
+      let there : Shows s (Ok y) = subst (λ o. Shows o (Ok y)) (sym is) g in
+      shown s.state s.state (map group_of x.items) (f h sound) ∙ sym (shown s.state s.state (map group_of y.items) (there h sound))
+  shown_alike s t (Ok x) (Err e) is f g h k sound = tt
+  shown_alike s t (Err d) b is f g h k sound = tt
