@@ -27,7 +27,7 @@ use Rattle.rq_engine.specs.Answers.{AnswersLegally}
 use Rattle.rq_engine.specs.Lists.{IsCommitted}
 use Rattle.rq_engine.specs.Opened.{AreHonest, NotWritten, OpenStore, WritesWhen, pooled, state_after}
 use Rattle.rq_engine.specs.declared.event.CommitNo.{CommitNo}
-use Rattle.rq_engine.specs.declared.event.LastTag.{LastTag}
+use Rattle.rq_groups.specs.declared.sent.LastTag.{LastTag}
 use Rattle.rq_laws.specs.Refusals.{IsWant, RefuseAlike, RefuseTheSame}
 
 no_answer : {X : Type 0} (a : X) (r : Refusal) → Ok a ≡ Err r → ⊥
@@ -130,7 +130,7 @@ module _ {P L : Type 0} (g : page_device.Ghosts P) where
   no_refusal : (s : OpenStore P L) (page : ℕ) (w : Written) (r : Refusal) → WritesWhen s page (Ok w) → WritesWhen s page (Err r) → IsWant r
   no_refusal s page Done r f h = elim (unwritten s page r h) [
     | inl n ↦ absurd (true≢false (sym n.1 ∙ f.0))
-    | inr v ↦ elim v [ inl n ↦ (let le = f.1.1 in let lt = n.1.1.1 in absurd (omega (arith, le, lt))) | inr w ↦ w ]
+    | inr v ↦ elim v [ inl n ↦ (let le : lsn_of (image_at s.state.images page) ≤ s.state.forced = f.1.1 in let lt : s.state.forced < lsn_of (image_at s.state.images page) = n.1.1.1 in absurd (omega (arith, le, lt))) | inr w ↦ w ]
   ]
   no_refusal s page Nothing r f h = elim (unwritten s page r h) [
     | inl n ↦ absurd (true≢false (sym n.1 ∙ f.0))
@@ -167,16 +167,29 @@ module _ {P L : Type 0} (g : page_device.Ghosts P) where
   reads_one page old x y Nothing Done f h = absurd (true≢false (sym h.0.1.0.changed ∙ f.0.1))
   reads_one page old x y Nothing Nothing f h = λ p. ap (λ (d : P). g.seen d p) (f.1.1.1 ∙ sym h.1.1.1)
 
-  -- both answer and leave the same
-  pub wrote_alike : (page : ℕ) (old old2 x y : OpenStore P L) (p q : Result Written Refusal) → old ≡ old2 → Writes page old x p → Writes page old2 y q → IfOk p (λ a. IfOk q (λ b. (a ≡ b) × (x.state ≡ y.state) × (x.changed ≡ y.changed)))
-  wrote_alike page old old2 x y (Ok a) (Ok b) is f h = wrote_one page old x y a b f (subst (λ o. Writes page o y (Ok b)) (sym is) h)
-  wrote_alike page old old2 x y (Ok a) (Err e) is f h = tt
-  wrote_alike page old old2 x y (Err d) q is f h = tt
+  wrote_both : (page : ℕ) (old old2 x y : OpenStore P L) (p q : Result Written Refusal) → old ≡ old2 → Writes page old x p → Writes page old2 y q → IfOk p (λ a. IfOk q (λ b. (a ≡ b) × (x.state ≡ y.state) × (x.changed ≡ y.changed)))
+  wrote_both page old old2 x y (Ok a) (Ok b) is f h = wrote_one page old x y a b f (subst (λ o. Writes page o y (Ok b)) (sym is) h)
+  wrote_both page old old2 x y (Ok a) (Err e) is f h = tt
+  wrote_both page old old2 x y (Err d) q is f h = tt
 
-  pub reads_alike : (page : ℕ) (old old2 x y : OpenStore P L) (p q : Result Written Refusal) → old ≡ old2 → Writes page old x p → Writes page old2 y q → IfOk p (λ _. IfOk q (λ _. (at : ℕ) → g.seen x.pages at ≡ g.seen y.pages at))
-  reads_alike page old old2 x y (Ok a) (Ok b) is f h = reads_one page old x y a b f (subst (λ o. Writes page o y (Ok b)) (sym is) h)
-  reads_alike page old old2 x y (Ok a) (Err e) is f h = tt
-  reads_alike page old old2 x y (Err d) q is f h = tt
+  reads_both : (page : ℕ) (old old2 x y : OpenStore P L) (p q : Result Written Refusal) → old ≡ old2 → Writes page old x p → Writes page old2 y q → IfOk p (λ _. IfOk q (λ _. (at : ℕ) → g.seen x.pages at ≡ g.seen y.pages at))
+  reads_both page old old2 x y (Ok a) (Ok b) is f h = reads_one page old x y a b f (subst (λ o. Writes page o y (Ok b)) (sym is) h)
+  reads_both page old old2 x y (Ok a) (Err e) is f h = tt
+  reads_both page old old2 x y (Err d) q is f h = tt
+
+  -- both answer and leave the same
+  pub wrote_alike : (page : ℕ) (old old2 x y : OpenStore P L) (p q : Result Written Refusal) → old ≡ old2
+      → WritesWhen old page p → x.state ≡ state_after old.state p → x.changed ≡ changed_after old.changed page p → DeviceAfter g page (image_at old.state.images page) old.pages x.pages p
+      → WritesWhen old2 page q → y.state ≡ state_after old2.state q → y.changed ≡ changed_after old2.changed page q → DeviceAfter g page (image_at old2.state.images page) old2.pages y.pages q
+      → IfOk p (λ a. IfOk q (λ b. (a ≡ b) × (x.state ≡ y.state) × (x.changed ≡ y.changed)))
+  wrote_alike page old old2 x y p q is f1 f2 f3 f4 h1 h2 h3 h4 = wrote_both page old old2 x y p q is (f1, (f2, (f3, f4))) (h1, (h2, (h3, h4)))
+
+  -- and both devices read the same
+  pub reads_alike : (page : ℕ) (old old2 x y : OpenStore P L) (p q : Result Written Refusal) → old ≡ old2
+      → WritesWhen old page p → x.state ≡ state_after old.state p → x.changed ≡ changed_after old.changed page p → DeviceAfter g page (image_at old.state.images page) old.pages x.pages p
+      → WritesWhen old2 page q → y.state ≡ state_after old2.state q → y.changed ≡ changed_after old2.changed page q → DeviceAfter g page (image_at old2.state.images page) old2.pages y.pages q
+      → IfOk p (λ _. IfOk q (λ _. (at : ℕ) → g.seen x.pages at ≡ g.seen y.pages at))
+  reads_alike page old old2 x y p q is f1 f2 f3 f4 h1 h2 h3 h4 = reads_both page old old2 x y p q is (f1, (f2, (f3, f4))) (h1, (h2, (h3, h4)))
 
   pub refused_alike : (page : ℕ) (old old2 : OpenStore P L) (p q : Result Written Refusal) → old ≡ old2 → WritesWhen old page p → WritesWhen old2 page q → RefuseAlike p q
   refused_alike page old old2 p q is f h = refused_one old page p q f (subst (λ o. WritesWhen o page q) (sym is) h)

@@ -45,10 +45,7 @@ pub fn names_broken<P: PageDevice>(
     alloc: Global,
     first: &Pages<P>,
     second: &Pages<P>,
-) -> (
-    Result<Option<u32>, NoMemory>,
-    Result<Option<u32>, NoMemory>,
-)
+) -> (Result<Option<u32>, NoMemory>, Result<Option<u32>, NoMemory>)
     requires sizes { first.now.sizes ≡ second.now.sizes }
     requires images { first.now.images ≡ second.now.images }
     ensures { IfOk result.0 (λ a. IfOk result.1 (λ b. a ≡ b)) }
