@@ -18,8 +18,6 @@ use Rattle.rq_store.specs.Fitting.{image_in}
 use Rattle.rq_store.specs.Opening.{opened}
 use Rattle.rq_sound.specs.Sound.{IsSound}
 use Rattle.rq_store.specs.Worked.{AreFormatted}
-use Rattle.rq_store.proofs.WorkedSound.{sound, sends}
-use Rattle.rq_sound.proofs.Instance.{instance_sound}
 use Rattle.rq_engine.specs.Crash.{IsCut}
 use Rattle.rq_engine.specs.Devices.{EachPair, Path}
 use Rattle.rq_engine.specs.Devices.Path.{Start, Pages, Log}

@@ -15,7 +15,7 @@ use Rattle.rq_log.specs.Logged.{Logged}
 use Rattle.rq_log.specs.Spelled.{spelled, AreSpelled, GoesOn}
 use Rattle.rq_views.specs.Stored.{count_used, slots_in}
 use Rattle.rq_sound.specs.Sound.{IsSound}
-use Rattle.rq_sound.proofs.Instance.{instance_sound}
+use Rattle.rq_sound.proofs.Opened.{opened_sound}
 use Rattle.rq_groups.specs.Sent.{SentBy}
 use Rattle.rq_store.specs.Opening.{FitsUpTo, IsLeft, MayRedo, opened, next_restart, waiting_in, sent_in_slots}
 use Rattle.rq_store.specs.State.{State}
@@ -24,7 +24,6 @@ use Rattle.rq_store.specs.Steps.{Continues}
 use Rattle.rq_store.specs.Whole.{IsWhole}
 use Rattle.rq_store.proofs.Bounds.{may_redo}
 use Rattle.rq_store.proofs.Cutting.{fits_log_longer}
-use Rattle.rq_store.proofs.Opening.{opened_sound, sends_here}
 use Rattle.rq_store.proofs.Redoing.{redone_slots}
 use Rattle.rq_undone.specs.Analysis.{Analysis, analysis}
 use Rattle.rq_undone.specs.Pages.{IsNextUndo, IsUndoing, UndoesBehind}
@@ -81,9 +80,8 @@ begun_sound z first last images log mended are pool m recovered repeated left =
     let there = left_longer z first.image log mended left from.whole (mended_continues log mended m) in
     let fits : FitsUpTo z (image_in images) mended (length mended) = subst (λ f. FitsUpTo z f mended (length mended)) are (all_up_to z mended first there last repeated) in
     let slots = redone_slots z mended images from.whole.in_store fits in
-    instance_sound (opened z images mended) (opened_sound z images mended pool.range from.whole from.none_unfinished from.none_lost slots
-    (record { superblock = pool.superblock; headers = pool.headers; pages = λ p low high. (fits p low high).fits }))
-    (sends_here z images mended pool.range from.whole from.none_unfinished from.none_lost slots)
+    opened_sound z images mended pool.range from.whole from.none_unfinished from.none_lost slots
+    (record { superblock = pool.superblock; headers = pool.headers; pages = λ p low high. (fits p low high).fits })
 
 -- ---- what is begun
 

@@ -23,7 +23,7 @@ pub mod Ledgers
 pub mod UndoStarts
 pub mod Written
 pub mod Claimed
-pub mod Instance
+pub mod Opened
 pub mod Lost
 pub mod Contracts
 pub mod Spelt

@@ -2,6 +2,7 @@
 use Rattle.std.proofs.Common.{◌≡◌, ℕ, ◌++◌, ◌||◌, List, [], ◌∷◌, reverse, refl, sym, ◌∙◌, ap, subst, true, false, Some, None, inl, inr, nat_eq, arith}
 use Rattle.std.proofs.lemmas.Bool.{true≢false, false≢true, or_cases, eqb-true}
 use Rattle.rq_model.specs.Words.{In}
+use Rattle.rq_model.proofs.Lists.{same_self}
 use Rattle.rq_page.specs.Directories.{new_directory}
 use Rattle.rq_page.specs.Sizes.{IsInRange}
 use Rattle.rq_views.specs.Log.{Write, HasBefores}
@@ -11,9 +12,8 @@ use Rattle.rq_views.specs.WorkedItems.{sizes, small, t1, t2, sends, new_a, end_a
 use Rattle.rq_level.specs.Writes.{writes_of}
 use Rattle.rq_txn.specs.declared.Finished.{Finished}
 use Rattle.rq_store.specs.Worked.{AreFormatted}
-use Rattle.rq_store.proofs.WorkedSound as formatted
 use Rattle.rq_txn.specs.declared.Aim.{Aim}
-use Rattle.rq_txn.specs.Rows.{Under, Row, fresh_row, latched_by}
+use Rattle.rq_txn.specs.Rows.{Under, Row, AreDistinct, found_row, fresh_row, latched_by}
 use Rattle.rq_store.specs.State.{State}
 use Rattle.rq_txn.specs.declared.Aim.TheVariants as aims
 use Rattle.rq_sound.specs.Standing.{IsAsPlanned, IsAimOf}
@@ -22,7 +22,7 @@ use Rattle.rq_sound.specs.Starts.{MayDo}
 use Rattle.rq_sound.specs.Course.{cell_a, group_a, cell_b, group_b, send_a, send_b, both_begun, one_under, two_under}
 use Rattle.rq_sound.specs.Worked.{TwoUnderWay, NotSound}
 use Rattle.rq_sound.proofs.Contracts.{calls_keep}
-use Rattle.rq_sound.proofs.Instance.{instance_sound}
+use Rattle.rq_sound.proofs.Opened.{formatted_sound}
 use Rattle.rq_sound.proofs.Spelt.{used_a, free_a, used_b, free_b, new_of_a, has_a, new_of_b, has_b, back}
 
 range : IsInRange sizes
@@ -46,7 +46,7 @@ plan_b = record { directory = new_directory; new = 65; old = None; used = omega 
 
 module _ (images : List (List ℕ)) (h : AreFormatted sizes images) where
   pub begun_sound : IsSound (both_begun images)
-  begun_sound = calls_keep.begins _ (calls_keep.begins _ (instance_sound _ (formatted.sound sizes images range h) (formatted.sends sizes images range h)))
+  begun_sound = calls_keep.begins _ (calls_keep.begins _ (formatted_sound sizes images range h))
 
   none_used : (both_begun images).cells_in_use ≡ 0
   none_used = sym begun_sound.counted.committed
@@ -130,6 +130,9 @@ last_is (a ∷ []) [] x y e = cc
 last_is (a ∷ c ∷ xs) [] x y e = cc
 last_is (a ∷ xs) (b ∷ ys) x y e = last_is xs ys x y (let t : xs ++ x ∷ [] ≡ ys ++ y ∷ [] = cc in t)
 
+twice : (r : Row) → AreDistinct (r ∷ r ∷ []) → ⊥
+twice r d = let none : found_row r.txn (r ∷ []) ≡ None = d.0 in let some : found_row r.txn (r ∷ []) ≡ Some r = rw (same_self r.txn) refl in let bad : None ≡ Some r = sym none ∙ some in cc
+
 pub not_sound : NotSound
 not_sound = record {
   one_page = λ s r q u v p i j ne e f on too k. true≢false (sym too ∙ k.standing.apart r q u v p i j ne e f on);
@@ -141,4 +144,6 @@ not_sound = record {
       ne (ap (λ (x : Finished). x.lsn) (last_is rest a.0 f (record { lsn = lsn; deed = d }) (sym newest ∙ a.1)));
   let_go = λ s r g i used none k. true≢false (sym ((k.standing.each r i).held.sends g used) ∙ none);
   counts_more = λ s k l. (let a = k.counted.committed in let b = l.counted.committed in omega (arith, a, b));
+  forced_beyond = λ s over k. (let f = k.forced in omega (arith, f, over));
+  two_rows = λ s r is k. twice r (subst AreDistinct is k.standing.distinct);
 }

@@ -1,5 +1,5 @@
 -- What is sound, and what is not.
-use Rattle.std.specs.Prelude.{◌≡◌, ◌≢◌, ℕ, ◌+◌, ◌<◌, true, false, List, [], ◌∷◌, ◌++◌, Some}
+use Rattle.std.specs.Prelude.{◌≡◌, ◌≢◌, ℕ, ◌+◌, ◌<◌, true, false, List, [], ◌∷◌, ◌++◌, Some, length}
 use Rattle.rq_model.specs.declared.txn.Txn.{Txn}
 use Rattle.rq_model.specs.declared.record.Deed.{Deed}
 use Rattle.rq_model.specs.Content.{deeds}
@@ -52,6 +52,8 @@ pub record NotSound : Type 0 where
       → any_use (uses_send g) (deeds (λ u. same_txn u r.txn) s.records) ≡ true
       → has_held r.txn g s.ends.sending ≡ false → IsSound s → ⊥
   pub counts_more : (s : State) → IsSound s → IsSound (record s { cells_in_use = s.cells_in_use + 1 }) → ⊥
+  pub forced_beyond : (s : State) → length s.records < s.forced → IsSound s → ⊥
+  pub two_rows : (s : State) (r : Row) → s.rows ≡ r ∷ r ∷ [] → IsSound s → ⊥
 
 -- An abort goes on beside a send that is under way, and the store stays sound: what each call of the course needs is
 -- there, and what is not there yet is refused.

@@ -1,6 +1,5 @@
 //! What is so of a store with any number of operations under way, of sends, receives and closes and of their inverses,
-//! apart from any code; and that each call keeps it. The store of `rq_store` has one operation under way at
-//! most, aborts nothing and closes no group: it is an instance.
+//! apart from any code; and that each call keeps it.
 //!
 //! The definitions stand in specs/, the theorems are the contracts of the functions here.
 #![tactic(auto)]
@@ -9,7 +8,7 @@ pub mod calls;
 
 ghost use Rattle.rq_sound.specs.Holders.{ViewsAreOfHolders};
 ghost use Rattle.rq_sound.specs.Sharing.{HoldersAreJudged};
-ghost use Rattle.rq_sound.specs.Theorems.{CallsKeepSoundness, InversesCanBePlanned, TestsAreAnswered, AbortsAreSteps, DeedsAreSteps, OneUnderWayIsSound, OpenedIsSound};
+ghost use Rattle.rq_sound.specs.Theorems.{CallsKeepSoundness, InversesCanBePlanned, TestsAreAnswered, AbortsAreSteps, DeedsAreSteps, OpenedIsSound};
 ghost use Rattle.rq_sound.specs.Worked.{AbortBesideASend, NotSound, TwoUnderWay};
 
 /// Each call keeps a store sound: a begin; the start of a send, a receive, a close or an inverse, each of its writes
@@ -45,11 +44,6 @@ pub fn deeds_are_steps()
 /// which the transaction that holds its receiving end took, and then those that the one that holds its sending end sent.
 pub fn views_are_of_holders()
     ensures { ViewsAreOfHolders }
-{}
-
-/// A store that is sound with one operation under way at most is sound.
-pub fn one_under_way_is_sound()
-    ensures { OneUnderWayIsSound }
 {}
 
 /// A store that opens over a whole log in which everything has ended is sound.

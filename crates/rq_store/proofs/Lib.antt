@@ -31,4 +31,4 @@ pub mod Rooms
 pub mod Spelling
 pub mod Worked
 pub mod Begun
-pub mod WorkedSound
+pub mod WorkedFits
