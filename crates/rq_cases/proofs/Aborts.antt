@@ -50,7 +50,7 @@ use Rattle.rq_cases.proofs.Closes.{closes_first, finish_close}
 use Rattle.rq_cases.proofs.Images.{first_written, length-free, written_long}
 use Rattle.rq_cases.proofs.Pages.{cell_told, cells_1_long, cells_2_long, closed_told, free_told, groups_1_long, headers_with, new_told, others_of_1, others_of_2, sent_told, slots_put, superblock_with, taken_told}
 use Rattle.rq_cases.proofs.Rows.{found_kept}
-use Rattle.rq_cases.proofs.Several as running
+use Rattle.rq_cases.proofs.Running as running
 
 -- the plans
 first_cell : IsCellAddress sizes 33

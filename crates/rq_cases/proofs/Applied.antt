@@ -36,7 +36,7 @@ use Rattle.rq_cases.proofs.Held.{failed_beginning, pages_now, pages_fit, leaves_
 use Rattle.rq_cases.proofs.Images.{lsn_is}
 use Rattle.rq_cases.proofs.Pages.{cells_1_long}
 use Rattle.rq_cases.proofs.Receives.{receives}
-use Rattle.rq_cases.proofs.Several as running
+use Rattle.rq_cases.proofs.Running as running
 
 cell_page_lsn : lsn_of (page_image 2 2 2 cells_1) ≡ 2
 cell_page_lsn = lsn_is 2 2 2 cells_1 cells_1_long (omega arith)

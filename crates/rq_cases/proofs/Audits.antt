@@ -23,7 +23,7 @@ use Rattle.rq_cases.specs.Audits.{AuditsAreJudged, LeadsNot, beyond, took}
 use Rattle.rq_cases.specs.Opened.{over}
 use Rattle.rq_cases.specs.Run.{begun_again, forced, take_started}
 use Rattle.rq_cases.specs.Store.{sizes}
-use Rattle.rq_cases.proofs.Several as running
+use Rattle.rq_cases.proofs.Running as running
 use Rattle.rq_model.specs.Words.{In}
 
 abbrev passes : List Noted → List ℕ

@@ -42,23 +42,21 @@ use Rattle.rq_sound.specs.Sound.{IsSound}
 use Rattle.rq_store.specs.State.{State, ledger_of, size_of}
 use Rattle.rq_sound.specs.Steps.{Steps}
 use Rattle.rq_store.specs.Whole.{IsWhole}
-use Rattle.rq_store.proofs.Beginning.{begin_sound}
 use Rattle.rq_store.proofs.Cutting.{fits_log_longer}
 use Rattle.rq_store.proofs.Formatting.{formatted_fits}
-use Rattle.rq_store.proofs.Opening.{opened_sound, restarted_whole, sends_here}
-use Rattle.rq_store.specs.Opening.{next_restart}
-use Rattle.rq_store.specs.Sends.{KeepsSends}
+use Rattle.rq_store.proofs.Opening.{restarted_whole}
 use Rattle.rq_groups.specs.Sent.{sent_count, sent_tag}
+use Rattle.rq_sound.proofs.Contracts.{calls_keep}
 use Rattle.rq_sound.proofs.DeedSteps.{deed_steps}
-use Rattle.rq_store.proofs.SendStarts.{start_steps}
-use Rattle.rq_store.proofs.WorkedSound.{whole_empty}
+use Rattle.rq_sound.proofs.Opened.{opened_sound}
+use Rattle.rq_store.proofs.WorkedFits.{whole_empty}
 use Rattle.rq_engine.specs.Kept.{IsKept, IsRowKept}
 use Rattle.rq_engine.specs.Says.{commit_number}
 use Rattle.rq_engine.specs.declared.event.Event.TheVariants as event
 use Rattle.rq_engine.specs.declared.event.Reply.TheVariants as reply
 use Rattle.rq_engine.proofs.Crashing.{fit_kept, runs_through_cuts}
 use Rattle.rq_engine.proofs.Refusals.{refuse, refuse_full}
-use Rattle.rq_engine.proofs.Standing.{close_steps}
+use Rattle.rq_engine.proofs.Standing.{close_steps, start_steps}
 use Rattle.rq_undone.specs.Analysis.{analysis}
 use Rattle.rq_undone.proofs.Undos.{nothing_undone, undoing_none}
 use Rattle.rq_restart.specs.Aborting.{RepeatedFrom}
@@ -90,10 +88,7 @@ use Rattle.rq_cases.proofs.Held.{leaves_beginning, log_seen, pages_fit, pages_no
 use Rattle.rq_cases.proofs.Openings.{formatted_are, only_read}
 use Rattle.rq_cases.proofs.Pages.{are_formatted, cell_told, free_told, new_told, range, sent_told}
 use Rattle.rq_cases.proofs.Restarting.{counted_read, pages_seen_are}
-use Rattle.rq_cases.proofs.Running as one
-use Rattle.rq_cases.proofs.Several.{steps_of, still}
-use Rattle.rq_sound.proofs.Instance.{instance_sound}
-use Rattle.rq_store.specs.Sound as one_sound
+use Rattle.rq_cases.proofs.Running.{first_sound, send_plan}
 
 -- what such a log is of
 incarnation_is : (n : ℕ) → incarnation_of (restarts n) ≡ n
@@ -142,22 +137,13 @@ fit : (n : ℕ) → FitsLog sizes (image_in formatted_pages) (restarts n)
 fit n = fits_log_longer sizes (image_in formatted_pages) [] (restarts n) (n, all_new n) (formatted_fits sizes (image_in formatted_pages) range are_formatted)
 
 -- the store over it is sound
-open_one : (n : ℕ) → one_sound.IsSound (just_opened n)
-open_one n =
+opened_one : (n : ℕ) → IsSound (just_opened n)
+opened_one n =
     opened_sound sizes formatted_pages (restarts n) range (whole n) (none_unfinished n) (none_lost n)
-    (λ a. one.first_sound.pages a ∙ sym (same_slots n a)) (fit n)
-
--- it keeps that nothing was sent
-keeps_sends : (n : ℕ) → KeepsSends sizes (next_restart (restarts n) ∷ restarts n) (just_opened n).sent
-keeps_sends n =
-    sends_here sizes formatted_pages (restarts n) range (whole n) (none_unfinished n) (none_lost n)
-    (λ a. one.first_sound.pages a ∙ sym (same_slots n a))
-
-begun_one : (n : ℕ) → one_sound.IsSound (one_begun n)
-begun_one n = begin_sound (just_opened n) (open_one n)
+    (λ a. first_sound.pages a ∙ sym (same_slots n a)) (fit n)
 
 begun_sound : (n : ℕ) → IsSound (one_begun n)
-begun_sound n = instance_sound (one_begun n) (begun_one n) (still refl (keeps_sends n))
+begun_sound n = calls_keep.begins (just_opened n) (opened_one n)
 
 -- tests that all pass tell no refusal
 pub none_first : (tests : List (Bool × Refusal)) → NoneHolds tests → first_of tests ≡ None
@@ -218,9 +204,7 @@ module _ (n : ℕ) where
   commits le = (_, deed_steps.commits s (fresh_row t) s.cells_in_use s.waiting s.sent (begun_sound n) refl (record { idle = record { at_row = at_row; idle = refl }; forward = refl; freed = omega arith; waits = λ g low. omega arith; counts = λ g low. omega arith; tags = λ g low. refl }) (commit_free le))
 
   sends : n + 5 ≤ 2 ^ 50 → (new : State) × Sends n 1 new
-  sends le =
-      let none = one.first_cells in
-      (_, steps_of (still refl (keeps_sends n)) (start_steps s (begun_one n) t (fresh_row t) (send_under 0) 0 7 (104 ∷ []) at_row refl refl one.send_plan refl (omega (arith, none)) (send_passes le)))
+  sends le = (_, start_steps s (begun_sound n) t (fresh_row t) (send_under 0) 0 7 (104 ∷ []) at_row refl (λ page of. refl) refl send_plan (send_passes le))
 
   send_refused : 2 ^ 50 < n + 5 → IsFullForSend n s
   send_refused le =
@@ -389,7 +373,7 @@ abbrev mends : (n : ℕ) → IsMended (restarts n) (restarts n)
 mends n = record { undone = restarts n; undoes = undoes n; aborting = behind_none (restarts n); ended = ended n; none_lost = λ e. refl }
 
 linked : (n : ℕ) → AreLinked sizes (slots_on sizes read_pages)
-linked n = sound_linked.left sizes (slots_on sizes read_pages) (restarts n) (whole n) (none_unfinished n) (λ a. one.first_sound.pages a ∙ sym (same_slots n a))
+linked n = sound_linked.left sizes (slots_on sizes read_pages) (restarts n) (whole n) (none_unfinished n) (λ a. first_sound.pages a ∙ sym (same_slots n a))
 
 lost_none : (n : ℕ) → IsWhole sizes (restarts n) → lost (restarts n) ≡ []
 lost_none n w = sym (working_lost sizes (restarts n) w) ∙ ended n

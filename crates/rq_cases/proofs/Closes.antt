@@ -55,7 +55,7 @@ use Rattle.rq_cases.proofs.Bytes.{first_spelled}
 use Rattle.rq_cases.proofs.Held.{leaves_beginning, pages_fit, pages_now, same_beginning}
 use Rattle.rq_cases.proofs.Pages.{cells_0_long, closed_told, closed_written, groups_closed_long, headers_with, new_told, others_of_1, slots_put, superblock_with}
 use Rattle.rq_cases.proofs.Rows.{found_kept}
-use Rattle.rq_cases.proofs.Several as running
+use Rattle.rq_cases.proofs.Running as running
 
 pub close_plan : IsClosePlan sizes (slots_in sizes formatted_pages) (close_under 0) 0
 close_plan = record {

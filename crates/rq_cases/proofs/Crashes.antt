@@ -41,7 +41,7 @@ use Rattle.rq_cases.proofs.Held.{log_left, log_now, log_seen, new_bytes, only_re
 use Rattle.rq_cases.proofs.Pages.{are_formatted, range}
 use Rattle.rq_cases.proofs.Reading.{no_header, sent_sound}
 use Rattle.rq_cases.proofs.Restarting.{cell_lsn, no_cell_lsn, pages_seen_are}
-use Rattle.rq_cases.proofs.Several as running
+use Rattle.rq_cases.proofs.Running as running
 use Rattle.rq_cases.proofs.Worlds.{cuts, forced_is_left, leaves_store, legal_crash, page_left, some_pages, told_9, whole}
 
 -- what a run goes through

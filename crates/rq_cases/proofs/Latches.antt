@@ -26,7 +26,6 @@ use Rattle.rq_sound.specs.Sound.{IsSound}
 use Rattle.rq_store.specs.State.{State, ledger_of, size_of}
 use Rattle.rq_log.specs.Crash.{LeavesOnly}
 use Rattle.rq_log.specs.Spelled.{IsBeginning}
-use Rattle.rq_store.proofs.Beginning.{begin_sound}
 use Rattle.rq_engine.proofs.Latches.{close_refused, close_unlatched, send_latched}
 use Rattle.rq_engine.specs.Sends.{SendIsLatched}
 use Rattle.rq_engine.proofs.Standing.{refused_steps}
@@ -46,16 +45,15 @@ use Rattle.rq_cases.specs.Worlds.{Hold}
 use Rattle.rq_cases.proofs.Bounds.{none_first}
 use Rattle.rq_cases.proofs.Bytes.{first_spelled}
 use Rattle.rq_cases.proofs.Held.{leaves_beginning, pages_now, same_beginning}
-use Rattle.rq_cases.proofs.Running as one
-use Rattle.rq_cases.proofs.Several as running
+use Rattle.rq_cases.proofs.Running as running
 use Rattle.rq_sound.specs.Course.{one_under}
 use Rattle.rq_sound.specs.Latching.{Begins, IsLatched, NeedsLatched}
-use Rattle.rq_sound.proofs.Instance.{instance_sound}
+use Rattle.rq_sound.proofs.Contracts.{calls_keep}
 use Rattle.rq_sound.proofs.WorkedCalls.{latches_judged, one_sound}
 use Rattle.rq_sound.proofs.Standings.{directory_latched}
 
 beside_sound : IsSound beside
-beside_sound = instance_sound beside (begin_sound send_started one.start_send.sound) (running.still refl running.nothing_sent)
+beside_sound = calls_keep.begins send_started running.start_send.sound
 
 -- no test tells a refusal
 abbrev first_test : List ℕ → Option Refusal

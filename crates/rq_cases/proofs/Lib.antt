@@ -27,4 +27,3 @@ mod Crashes
 mod Closes
 mod Latches
 mod Replies
-pub mod Several

@@ -12,7 +12,7 @@ use Rattle.rq_cases.specs.Logs.{LogsAreJudged}
 use Rattle.rq_cases.specs.Run.{log_1, log_3, log_5}
 use Rattle.rq_cases.proofs.Bytes.{first_spelled, records_spelled, short_log}
 use Rattle.rq_cases.proofs.Held.{log_seen}
-use Rattle.rq_cases.proofs.Several as running
+use Rattle.rq_cases.proofs.Running as running
 use Rattle.rq_views.specs.WorkedItems.{t1}
 
 -- how many of the newest records lack

@@ -65,7 +65,7 @@ use Rattle.rq_model.specs.Commits.{committed_of}
 use Rattle.rq_model.specs.Ledger.{Done}
 use Rattle.rq_model.proofs.Cuts.{extends_commits}
 use Rattle.rq_cases.proofs.Restarting.{begun_commit, follow_5, formatted_fit, gone, group_lsn, is_restart, made_there, no_cell_lsn, odd_bad, odd_record, open_4, pages_seen_are, repeats_1, repeats_5, same_log}
-use Rattle.rq_cases.proofs.Several as running
+use Rattle.rq_cases.proofs.Running as running
 use Rattle.rq_cases.proofs.Worlds.{leaves_store, ran_crashed, shuts_with_less, whole}
 
 abbrev rest_of : List Record → List Record

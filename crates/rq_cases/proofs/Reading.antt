@@ -27,7 +27,7 @@ use Rattle.rq_cases.specs.Reading.{CellsAreJudged, ReadingsAreJudged, no_cells, 
 use Rattle.rq_cases.proofs.Held.{only_formatted}
 use Rattle.rq_cases.proofs.Images.{lsn_is}
 use Rattle.rq_cases.proofs.Pages.{are_formatted, cells_0_long, cells_1_long, range}
-use Rattle.rq_cases.proofs.Several as running
+use Rattle.rq_cases.proofs.Running as running
 
 pub no_header : (lsn page kind : ℕ) → header_of [] ≡ header_bytes lsn page kind → ⊥
 unfolding header_of

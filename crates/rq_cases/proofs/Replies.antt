@@ -39,7 +39,7 @@ use Rattle.rq_cases.proofs.Held.{leaves_beginning, log_left, log_seen, only_reco
 use Rattle.rq_cases.proofs.Images.{slot_is}
 use Rattle.rq_cases.proofs.Pages.{cell_told, cells_0_long, free_told, groups_1_long, sent_told, taken_told}
 use Rattle.rq_cases.proofs.Restarting.{cell_lsn}
-use Rattle.rq_cases.proofs.Several as running
+use Rattle.rq_cases.proofs.Running as running
 
 -- a refusal of a force tells its cause, and an answer how many are forced
 pub replies : RepliesAreJudged

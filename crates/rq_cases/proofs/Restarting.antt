@@ -48,7 +48,7 @@ use Rattle.rq_cases.proofs.Bytes.{first_spelled, records_spelled}
 use Rattle.rq_cases.proofs.Held.{log_seen}
 use Rattle.rq_cases.proofs.Images.{lsn_is, slot_is, written_other}
 use Rattle.rq_cases.proofs.Pages.{are_formatted, cells_0_long, cells_1_long, cell_told, fill_written, free_told, groups_0_long, groups_1_long, others_of_1, others_of_2, range, sent_told, sent_written}
-use Rattle.rq_cases.proofs.Several as running
+use Rattle.rq_cases.proofs.Running as running
 
 -- what the devices read
 pub pages_seen_are : (d : MemPages) (images : List (List ℕ)) → AreNewPages d images → mem_pages.seen d ≡ reads (fresh_pages images)

@@ -7,8 +7,7 @@ use Rattle.rq_cases.specs.Run.{busy_row, did_send, done_row, send_under}
 use Rattle.rq_views.specs.WorkedItems.{t1}
 use Rattle.rq_cases.proofs.Bytes.{are_images}
 use Rattle.rq_cases.proofs.Pages.{are_formatted}
-use Rattle.rq_cases.proofs.Running as one
-use Rattle.rq_cases.proofs.Several as running
+use Rattle.rq_cases.proofs.Running as running
 
 pub run : RunIsSound
 run = record {
@@ -38,9 +37,9 @@ placed_count ps = length ps
 
 pub rows : RowsAreJudged
 rows = record {
-  going = one.step_cell.sound.rows (busy_row t1 (send_under 1)) (inl refl);
-  done = one.finish_send.sound.rows (done_row t1 did_send) (inl refl);
-  under_way = (one.step_cell.sound.rows (busy_row t1 (send_under 1)) (inl refl)).going.0;
+  going = running.step_cell.sound.standing.each (busy_row t1 (send_under 1)) (inl refl);
+  done = running.finish_send.sound.standing.each (done_row t1 did_send) (inl refl);
+  under_way = (running.step_cell.sound.standing.each (busy_row t1 (send_under 1)) (inl refl)).going.0;
   one_more_made = λ g. (let f : 1 ≡ 2 = ap writes_count g.written in omega (arith, f));
   none_made = λ g. (let f : 1 ≡ 0 = ap writes_count g.written in omega (arith, f));
   end_not_held = λ g. (let f = g.held in cc f);

@@ -7,7 +7,7 @@ use Rattle.rq_model.specs.Replay.Reply.{Gave_commit, Gave_forced, Gave_lsn, Gave
 use Rattle.rq_views.specs.WorkedItems.{t1, t2}
 use Rattle.rq_store.specs.Fitting.{image_in}
 use Rattle.rq_sound.specs.Sound.{IsSound}
-use Rattle.rq_store.specs.Rows.{FollowsPlan, IsRow}
+use Rattle.rq_sound.specs.Standing.{FollowsPlan, IsRow}
 use Rattle.rq_sound.specs.Steps.{Steps}
 use Rattle.rq_store.specs.Worked.{AreFormatted}
 use Rattle.rq_cases.specs.Store.{sizes, formatted_pages}
