@@ -35,7 +35,7 @@ use Rattle.rq_groups.specs.Waiting.{waits}
 use Rattle.rq_engine.specs.Lists.{done_by}
 use Rattle.rq_engine.specs.Moves.{with_sends, with_tags}
 use Rattle.rq_engine.specs.declared.event.CommitNo.{CommitNo}
-use Rattle.rq_store.specs.Sound.{takes_one}
+use Rattle.rq_store.specs.Settled.{takes_one}
 use Rattle.rq_txn.specs.Rows.{Row, found_row, fresh_row, finished_of}
 use Rattle.rq_store.specs.Fitting.{AllFit, FitsLog, image_in, left_by}
 use Rattle.rq_sound.specs.Sound.{IsSound}

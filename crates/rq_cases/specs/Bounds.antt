@@ -17,7 +17,7 @@ use Rattle.rq_disk.specs.declared.mem_pages.MemPages.{MemPages}
 use Rattle.rq_txn.specs.Rows.{fresh_row, without_row}
 use Rattle.rq_groups.specs.Ends.{released}
 use Rattle.rq_store.specs.Opening.{next_restart, opened}
-use Rattle.rq_store.specs.Sound.{takes_one}
+use Rattle.rq_store.specs.Settled.{takes_one}
 use Rattle.rq_sound.specs.Sound.{IsSound}
 use Rattle.rq_store.specs.State.{State, ledger_of, size_of}
 use Rattle.rq_sound.specs.Steps.{Steps}

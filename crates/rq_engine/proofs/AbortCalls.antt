@@ -39,7 +39,7 @@ use Rattle.rq_txn.proofs.Finding.{change_none}
 use Rattle.rq_groups.specs.Ends.{HeldEnds, released}
 use Rattle.rq_store.specs.State.{State, job_under, ledger_of, op_done, open_of, phase_of, size_of}
 use Rattle.rq_store.specs.Rows.{placed}
-use Rattle.rq_store.specs.Sound.{takes_one}
+use Rattle.rq_store.specs.Settled.{takes_one}
 use Rattle.rq_store.proofs.Grouping.{groups_of}
 use Rattle.rq_store.proofs.RowLists.{found_in}
 use Rattle.rq_planner.specs.Answered.{IsNewestDeed}

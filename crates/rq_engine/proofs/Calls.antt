@@ -38,10 +38,10 @@ use Rattle.rq_engine.proofs.Tags.{count-with_tags, tag-with_tags}
 use Rattle.rq_groups.specs.Ends.{HeldEnds, released}
 use Rattle.rq_store.specs.State.{State, ledger_of, size_of, owed_one, owed_under, job_under, left_under, phase_of}
 use Rattle.rq_groups.specs.Waiting.{waits}
-use Rattle.rq_store.specs.Sound.{takes_one}
+use Rattle.rq_store.specs.Settled.{takes_one}
 use Rattle.rq_sound.specs.Counted.{sends_in, takes_all}
 use Rattle.rq_sound.specs.Sound.{IsSound}
-use Rattle.rq_store.proofs.Waiting.{one_of_sum}
+use Rattle.rq_store.proofs.RowSums.{one_of_sum}
 use Rattle.rq_store.specs.Steps.{page_op, op_end, gave_done}
 use Rattle.rq_sound.specs.Steps.{Steps}
 use Rattle.rq_store.proofs.RowLists.{found_in}

@@ -14,7 +14,7 @@ use Rattle.rq_txn.specs.declared.Aim.TheVariants as aims
 use Rattle.rq_txn.specs.Rows.{Row, Under, any_under, found_row}
 use Rattle.rq_store.specs.Rows.{is_under, placed, unmade}
 use Rattle.rq_store.specs.State.{State}
-use Rattle.rq_store.proofs.Holders.{placed_more}
+use Rattle.rq_store.proofs.Placed.{placed_more}
 use Rattle.rq_store.proofs.Others.{none_of}
 use Rattle.rq_store.proofs.RowLists.{found_in, none_under}
 use Rattle.rq_store.specs.Whole.{IsWhole}

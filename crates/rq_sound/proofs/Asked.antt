@@ -35,8 +35,8 @@ use Rattle.rq_sound.proofs.RowSums.{alone_of_sum}
 use Rattle.rq_sound.specs.Sound.{IsSound}
 use Rattle.rq_sound.specs.Standing.{AreStanding}
 use Rattle.rq_sound.specs.Counted.{AreCounted, appends_aim, appending, appending_in, appends_all, takes_in}
-use Rattle.rq_store.proofs.Telling.{told_placed}
-use Rattle.rq_store.proofs.Starting.{free_alone}
+use Rattle.rq_store.proofs.Placed.{told_placed}
+use Rattle.rq_store.proofs.Ends.{free_alone}
 use Rattle.rq_sound.proofs.Alone.{unused, sends_same, takes_same, removed_is}
 use Rattle.rq_sound.proofs.Commits.{count_sends}
 

@@ -38,19 +38,18 @@ use Rattle.rq_sound.specs.Calls.{sends_for}
 use Rattle.rq_store.specs.State.{op_done}
 use Rattle.rq_model.specs.Incarnations.{incarnation_of}
 use Rattle.rq_store.specs.Rows.{placed, placed_one, HasWaiting, is_under}
-use Rattle.rq_store.specs.Sound.{takes_one, IsSettled}
+use Rattle.rq_store.specs.Settled.{takes_one, IsSettled}
 use Rattle.rq_views.specs.Claims.{appends_of, takes_placed}
 use Rattle.rq_store.specs.Whole.{IsWhole}
 use Rattle.rq_txn.specs.declared.Aim.{Aim}
 use Rattle.rq_txn.specs.Rows.{Under, Row, deed_of, found_row, without_row}
 use Rattle.rq_txn.specs.declared.Aim.TheVariants.{Doing, Undoing}
-use Rattle.rq_store.proofs.Committing.{rows_without}
+use Rattle.rq_store.proofs.RowSums.{rows_without}
 use Rattle.rq_store.proofs.RowLists.{gone}
 use Rattle.rq_sound.specs.Standing.{IsAsPlanned, IsRow, AreStanding}
 use Rattle.rq_sound.specs.Counted.{AreCounted, IsCovered, CoversAim, appending, appending_in, appends_one, appends_all, takes_all, takes_in, sends_in, uses_before, uses_after, made_of, before_in, after_in}
-use Rattle.rq_store.proofs.Releases.{without_ends}
-use Rattle.rq_store.proofs.Holders.{placed_first}
-use Rattle.rq_store.proofs.Telling.{told_placed, count_takes}
+use Rattle.rq_store.proofs.Ends.{without_ends}
+use Rattle.rq_store.proofs.Placed.{placed_first, told_placed, count_takes}
 use Rattle.rq_sound.proofs.Going.{other_gone}
 use Rattle.rq_sound.proofs.Beside.{says_commit}
 use Rattle.rq_sound.proofs.Alone.{takes_below}

@@ -24,7 +24,7 @@ use Rattle.rq_store.specs.Opening.{opened}
 use Rattle.rq_store.specs.Rows.{placed}
 use Rattle.rq_store.proofs.Begun.{begun_all}
 use Rattle.rq_store.proofs.Grouping.{groups_of}
-use Rattle.rq_store.proofs.Starting.{held_now}
+use Rattle.rq_store.proofs.Ends.{held_now}
 use Rattle.rq_txn.specs.Rows.{Under, Row, deed_of, found_row, change_row, row_undone, latched_in}
 use Rattle.rq_store.specs.State.{State, ledger_of}
 use Rattle.rq_store.proofs.RowLists.{found_in}

@@ -21,7 +21,6 @@ pub mod EachCall
 pub mod Asked
 pub mod Ledgers
 pub mod UndoStarts
-pub mod Written
 pub mod Claimed
 pub mod Opened
 pub mod Lost

@@ -41,18 +41,16 @@ use Rattle.rq_views.proofs.Settled.{settled_counts, rest_shown}
 use Rattle.rq_views.proofs.Holding.{committed_is_group}
 use Rattle.rq_groups.specs.Sent.{sent_count, sent_tag}
 use Rattle.rq_groups.specs.Waiting.{waits}
-use Rattle.rq_store.proofs.Begun.{begun_all}
 use Rattle.rq_store.specs.State.{ledger_of}
 use Rattle.rq_model.specs.Incarnations.{InOrder, IsNext, incarnation_of, incarnation_one}
-use Rattle.rq_store.specs.Sound.{IsSettled}
+use Rattle.rq_store.specs.Settled.{IsSettled}
 use Rattle.rq_store.specs.Whole.{IsWhole}
-use Rattle.rq_store.specs.Fitting.{left_by, image_in, FitsLog}
+use Rattle.rq_store.specs.Fitting.{left_by}
 use Rattle.rq_store.specs.Opening.{next_restart, opened, messages_told, waiting_in, sent_told, tag_told, sent_in_slots}
 use Rattle.rq_store.specs.Sends.{KeepsSends}
-use Rattle.rq_store.proofs.Fitting.{fits_more}
-use Rattle.rq_store.proofs.Forcing.{all_within}
+use Rattle.rq_store.proofs.Within.{all_within}
 use Rattle.rq_store.proofs.Grouping.{groups_of}
-use Rattle.rq_store.proofs.Holders.{map_join}
+use Rattle.rq_store.proofs.Placed.{map_join}
 
 -- the item of a record ends the operations that the record ends
 ends_operation : (z : Sizes) (t : Txn) (n : ℕ) (r : Record) → operation_ended t n r ≡ (is_end (item_of z r) && is_of (operation t n) (of_op (item_of z r)))
@@ -398,10 +396,6 @@ module _ (z : Sizes) (images : List (List ℕ)) (log : List Record) (range : IsI
         told_below (λ s. tag_told (slots_in z images (directory_at s))) (sender_count z) g m
         ∙ ap tag_told (pages (directory_at g) ∙ v.at) ∙ sym v.shows.last_tag ∙ ap (λ (x : View). x.last_tag) (group_view g)
         ∙ (committed_is_group z g log w.rules w.reads).last_tag
-
-  -- it shows the content of the log that was read
-  pub opened_content : (ledger_of (opened z images log)).committed ≡ committed_of log
-  opened_content = refl
 
   -- all of which is durable
   pub opened_durable : (ledger_of (opened z images log)).durable ≡ length (committed_of log)
