@@ -1,16 +1,9 @@
 mod Images
 mod Pages
-mod Rows
 mod Running
-mod Made
-mod Starts
-mod Steps
-mod Receives
-mod Asks
 mod Sound
 mod Bytes
 mod Held
-mod Aborts
 mod Applied
 mod Worlds
 mod Courses
@@ -21,9 +14,7 @@ mod Logs
 mod Audits
 mod Openings
 mod Mending
-mod Stamps
 mod Bounds
 mod Crashes
 mod Closes
-mod Latches
 mod Replies

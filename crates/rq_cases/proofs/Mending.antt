@@ -1,5 +1,5 @@
 -- What undoes what has no end in a log.
-use Rattle.std.proofs.Common.{◌≡◌, ℕ, zero, suc, ◌+◌, ◌<◌, ◌≤◌, ◌⊎◌, Bool, true, false, Option, Some, List, [], ◌∷◌, ◌++◌, length, take, inl, inr, refl, sym, ◌∙◌, ap, subst, arith, length-append}
+use Rattle.std.proofs.Common.{◌≡◌, ℕ, zero, suc, ◌+◌, ◌<◌, ◌≤◌, Bool, true, false, Option, Some, List, [], ◌∷◌, ◌++◌, length, take, inl, refl, sym, ◌∙◌, ap, subst, arith, length-append}
 use Rattle.std.proofs.lemmas.Bool.{false≢true, true≢false}
 use Rattle.rq_model.specs.declared.record.Record.{Record}
 use Rattle.rq_model.specs.declared.record.Record.TheVariants as records
@@ -32,7 +32,7 @@ use Rattle.rq_lost.specs.Dues.{deed_due}
 use Rattle.rq_lost.specs.Worked.{log_two, sent_due, took_due}
 use Rattle.rq_lost.proofs.Planning.{due_reads}
 use Rattle.rq_lost.proofs.WorkedWalk.{walks_judged}
-use Rattle.rq_lost.specs.WorkedMoves.{Pages, cell_is_back, ended, group_is_back, put_back, unlink, unlinked}
+use Rattle.rq_lost.specs.WorkedMoves.{Pages, cell_is_back, ended, group_is_back, put_back, unlink}
 use Rattle.rq_restart.specs.Aborting.{AbortsBehind, AreRounds, IsAborting, IsNotUndone, IsTakenNext, RepeatedFrom, Round, after_round, after_rounds, with_writes}
 use Rattle.rq_restart.specs.Aborting.IsAborting.{Between, Within}
 use Rattle.rq_restart.specs.Aborting.IsBadStep.{BadDue}

@@ -1,13 +1,8 @@
-pub mod Calls
 pub mod Devices
 pub mod Histories
-pub mod Lists
 pub mod Store
 pub mod Run
 pub mod Sound
-pub mod Sends
-pub mod Receives
-pub mod Asks
 pub mod Opened
 pub mod Aborts
 pub mod Applied
@@ -16,13 +11,10 @@ pub mod Courses
 pub mod Reading
 pub mod Formatting
 pub mod Restarting
-pub mod Logs
 pub mod Audits
 pub mod Openings
 pub mod Mending
-pub mod Stamps
 pub mod Bounds
 pub mod Crashes
-pub mod Latches
 pub mod Closes
 pub mod Replies

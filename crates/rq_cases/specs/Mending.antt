@@ -1,5 +1,5 @@
 -- What undoes what has no end in a log, over the worked run and over the worked log with a lost transaction.
-use Rattle.std.specs.Prelude.{ℕ, ◌^◌, ◌≤◌, List, [], ◌∷◌, length}
+use Rattle.std.specs.Prelude.{ℕ, List, ◌∷◌}
 use Rattle.rq_model.specs.declared.record.Record.{Record}
 use Rattle.rq_model.specs.declared.record.Record.TheVariants.{AbortEnd, Commit}
 use Rattle.rq_views.specs.WorkedItems as items
