@@ -1,5 +1,5 @@
 -- Runs of calls of both devices, crashes that a course may meet, and pages and logs over their devices.
-use Rattle.std.proofs.Common.{◌≡◌, ◌≢◌, ⊎_elim, ℕ, ◌≤◌, List, [], ◌∷◌, drop, refl, sym, ap, ◌∙◌, subst, arith}
+use Rattle.std.proofs.Common.{◌≡◌, ◌≢◌, ⊎_elim, ℕ, ◌≤◌, List, [], ◌∷◌, drop, refl, sym, ap, ◌∙◌, arith}
 use Rattle.rq_model.specs.Incarnations.{Ties}
 use Rattle.rq_model.specs.History.{Entry}
 use Rattle.rq_model.specs.History.Call.{Force}
@@ -23,11 +23,9 @@ use Rattle.rq_cases.specs.Crashes.{CrashesAreJudged, MayFail, RunsAreJudged}
 use Rattle.rq_cases.specs.Run.{committed, forced, log_1, log_5}
 use Rattle.rq_cases.specs.Store.{formatted_pages, sent_pages}
 use Rattle.rq_cases.specs.Worlds.{Hold, course_to}
-use Rattle.rq_cases.proofs.Applied.{applied}
 use Rattle.rq_cases.proofs.Bytes.{short_log}
-use Rattle.rq_cases.proofs.Held.{log_left, log_now, pages_fit}
+use Rattle.rq_cases.proofs.Held.{log_left, log_now}
 use Rattle.rq_cases.proofs.Pages.{range}
-use Rattle.rq_cases.proofs.Running as running
 use Rattle.rq_cases.proofs.Worlds.{cuts, forced_is_left, leaves_store, legal_crash, page_left, some_pages, told_9, whole}
 
 -- what a run goes through
@@ -77,9 +75,6 @@ runs = record {
       starts_there (λ left bytes. left ≢ images) path images (mem_log.seen log) may (some_log log) refl;
   pages_left_at_its_end = λ pages new log now images may path.
       ends_there (λ left bytes. left ≢ images) path images (mem_log.seen now) may (some_log now) refl;
-  no_call = λ pages log bytes none. Start (λ images left a b e. none (subst (mem_log.may_leave log) e b));
-  force = λ pages old new h f.
-      (applied.log_forced pages old new h.0 h.1 f).crash (tt, tt) running.commit_send.sound (pages_fit pages h.0 log_1 (1, refl));
   page_ahead = λ pages log new h path.
       cuts.page_ahead (starts_there (IsCut committed) path (image_in sent_pages) (spelled log_1) (page_left pages sent_pages h.0) (log_left log log_1 h.1));
   forced_lost_between = λ pages log new left path.

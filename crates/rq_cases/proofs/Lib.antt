@@ -10,7 +10,6 @@ mod Courses
 mod Reading
 mod Formatting
 mod Restarting
-mod Logs
 mod Audits
 mod Openings
 mod Mending

@@ -9,13 +9,12 @@ use Rattle.std.proofs.lemmas.Bool.{cases_eq}
 use Rattle.std.proofs.lemmas.List.{take-append-drop}
 use Rattle.rq_bytes.specs.Number.{number_at}
 use Rattle.rq_page.specs.declared.directory.DirectorySlot.{DirectorySlot}
-use Rattle.rq_page.specs.Cells.{cell_bytes, free_bytes}
+use Rattle.rq_page.specs.Cells.{free_bytes}
 use Rattle.rq_page.specs.Directories.{IsDirectorySlot, directory_bytes, directory_in, new_directory}
 use Rattle.rq_page.proofs.DirectoryBytes.{directory_in-directory_bytes}
 use Rattle.rq_page.specs.Pages.{lsn_of, slot_of}
-use Rattle.rq_page.specs.Slots.{held_in}
 use Rattle.rq_page.specs.Sizes.{sender_at}
-use Rattle.rq_views.specs.WorkedItems.{cell, sends, t1}
+use Rattle.rq_views.specs.WorkedItems.{sends, t1}
 use Rattle.rq_store.specs.Fitting.{FitsLog, image_in}
 use Rattle.rq_store.specs.Opening.{IsLeft, next_restart}
 use Rattle.rq_store.specs.Whole.{IsWhole}
@@ -25,29 +24,27 @@ use Rattle.rq_store.proofs.Cutting.{fits_log_longer}
 use Rattle.rq_store.proofs.Formatting.{formatted_fits}
 use Rattle.rq_rules.specs.Rules.{FollowAll}
 use Rattle.rq_rules.proofs.Whole.{whole_logs}
-use Rattle.rq_restart.specs.Repeating.{AreCounted, Belongs, IsRepeated, Paged, Repeats}
+use Rattle.rq_restart.specs.Repeating.{AreCounted, IsRepeated, Paged, Repeats}
 use Rattle.rq_restart.specs.Restarting.{IsBegunOn, IsLeftOn}
-use Rattle.rq_restart.proofs.Aborts.{behind_none}
 use Rattle.rq_restart.proofs.Begun.{mended_incarnation}
-use Rattle.rq_lost.specs.Recovered.IsRecovered.{NoneLost}
 use Rattle.rq_lost.proofs.Recovering.{recovered_from}
 use Rattle.rq_restart.proofs.Paths.{kept, kept_extends, kept_spelled, older_spelled}
 use Rattle.rq_model.specs.Commits.{committed_of}
 use Rattle.rq_model.specs.Incarnations.{InOrder, incarnation_of}
 use Rattle.rq_model.specs.declared.refusal.Refusal.TheVariants as why
 use Rattle.rq_model.proofs.Cuts.{extends_commits, incarnation_grows}
-use Rattle.rq_undone.proofs.Undos.{nothing_undone, undoing_none}
+use Rattle.rq_undone.proofs.Undos.{nothing_undone}
 use Rattle.rq_restart.specs.Checked.{IsEnded, IsGoneThrough}
 use Rattle.rq_restart.proofs.Parsing.{one_log}
 use Rattle.rq_core.specs.Devices.{mem_pages}
 use Rattle.rq_cases.specs.Opened.{AreNewPages}
 use Rattle.rq_cases.specs.Restarting.{RestartsAreJudged, Shuts, read_pages, repeated_pages}
 use Rattle.rq_cases.specs.Run.{log_1, log_2, log_3, log_4, log_5}
-use Rattle.rq_cases.specs.Store.{cells_0, cells_1, count_sent, fill_cell, filled_pages, formatted_pages, free_cell, groups_0, groups_1, group, one_sent, page_image, sent_pages, sizes}
+use Rattle.rq_cases.specs.Store.{cells_0, cells_1, count_sent, fill_cell, filled_pages, formatted_pages, groups_0, groups_1, group, one_sent, page_image, sent_pages, sizes}
 use Rattle.rq_cases.proofs.Bytes.{first_spelled, records_spelled}
 use Rattle.rq_cases.proofs.Held.{log_seen}
 use Rattle.rq_cases.proofs.Images.{lsn_is, slot_is, written_other}
-use Rattle.rq_cases.proofs.Pages.{are_formatted, cells_0_long, cells_1_long, cell_told, fill_written, free_told, groups_0_long, groups_1_long, others_of_1, others_of_2, range, sent_told, sent_written}
+use Rattle.rq_cases.proofs.Pages.{are_formatted, cells_0_long, cells_1_long, cell_told, fill_written, groups_0_long, groups_1_long, others_of_1, others_of_2, range, sent_told, sent_written}
 use Rattle.rq_cases.proofs.Running as running
 
 -- what the devices read
@@ -56,9 +53,6 @@ pages_seen_are d images n = ap reads n.pages
 
 pub formatted_fit : FitsLog sizes (image_in formatted_pages) log_5
 formatted_fit = fits_log_longer sizes (image_in formatted_pages) [] log_5 (5, refl) (formatted_fits sizes (image_in formatted_pages) range are_formatted)
-
-pub left_here : (d : MemPages) → AreNewPages d formatted_pages → IsLeft sizes (mem_pages.seen d) log_5
-left_here d n = subst (λ (seen : ℕ → List ℕ). IsLeft sizes seen log_5) (sym (pages_seen_are d formatted_pages n)) (record { whole = running.commit_send.sound.log; fits = formatted_fit })
 
 pub group_lsn : lsn_of (page_image 3 1 1 groups_1) ≡ 3
 group_lsn = lsn_is 3 1 1 groups_1 groups_1_long (omega arith)
@@ -236,16 +230,6 @@ made_there first last none still five =
     let now : lsn_of (last.image 2) ≡ lsn_of (five.0.image 2) = ap lsn_of (five.2.redone 2) in
     omega (arith, made, then, end, now, still)
 
-abbrev pub odd_record : Record
-odd_record = page_op t1 1 free_cell
-
-pub odd_bad : Belongs sizes log_1 odd_record read_pages → ⊥
-odd_bad b =
-    let low = no_cell_lsn in
-    let stands : slot_of 1 (page_image 0 2 2 cells_0) ≡ cell_bytes (cell 0) = b.may.before (omega (arith, low)) in
-    let e = sym free_told.0 ∙ ap (held_in sizes 2) (sym first_cell_stands ∙ stands) ∙ cell_told.0 in
-    cc e
-
 pub open_4 : IsEnded log_4 → ⊥
 open_4 e = cc e
 
@@ -298,54 +282,20 @@ left_5 = record { whole = whole_5; fits = formatted_fit }
 pub left_4 : IsLeft sizes (image_in formatted_pages) log_4
 left_4 = record { whole = whole_4; fits = formatted_fit_4 }
 
--- an operation counts from 1
-another_number : Belongs sizes log_1 (page_op t1 2 fill_cell) read_pages → ⊥
-another_number b = let e : 2 ≡ 1 = b.follows.numbered refl in omega (arith, e)
-
 pub restarts : RestartsAreJudged
 restarts = record {
-  reports = record { incarnation_is = refl; records_are = refl; unfinished_are = λ w. refl; lost_are = λ w. refl };
   reports_the_same_incarnation = λ n undone gone r. (let e : 1 ≡ 2 = r.incarnation_is in omega (arith, e));
   reports_no_record = λ i undone gone r. (let e : 5 ≡ 6 = r.records_are in omega (arith, e));
   reports_one_lost = λ i n undone r. (let e : 1 ≡ 0 = r.lost_are whole_5 in omega (arith, e));
   one_lost = λ records. record { incarnation_is = refl; records_are = refl; unfinished_are = λ w. refl; lost_are = λ w. refl };
   none_lost = λ records i n undone r. (let e : 0 ≡ 1 = r.lost_are whole_4 in omega (arith, e));
-  read_as = λ d n. record { honest = tt; are_spelled = records_spelled; reads = log_seen d log_5 n };
   read_as_less = λ d new n r.
       (let e : 5 ≡ 4 = ap (λ (l : List Record). length l) (one_log log_5 log_4 records_spelled r.are_spelled (sym (log_seen d log_5 n) ∙ r.reads)) in omega (arith, e));
-  left_on = λ d n. record { honest = tt; left = left_here d n };
   left_ahead = not_left;
-  ended = refl;
   transaction_open = open_4;
-  operation_open = refl;
-  begun_on = record {
-    older = log_5;
-    reads = refl;
-    begun = record {
-      mended = log_5;
-      mends = record { undone = log_5; undoes = record { undoing = undoing_none log_5; none = refl }; aborting = behind_none log_5; ended = refl; none_lost = λ e. refl };
-      recovered = λ left. NoneLost (record { undoing = undoing_none log_5; none = refl }) refl;
-      are_spelled = ((omega arith, omega arith), records_spelled);
-      lacks = 0;
-      some = omega arith;
-      is = refl;
-    };
-  };
   begun_where_one_is_open = begun_open;
   begun_by_a_commit = begun_commit;
-  gone_through = gone;
   not_repeated = λ g. made_there read_pages read_pages no_cell_lsn no_cell_lsn g.repeated;
-  bad_record = (refl, odd_bad);
-  bad_rule = (refl, another_number);
-  bad_record_elsewhere = λ n. (let e : 1 ≡ 2 = n.0 in omega (arith, e));
-  page_beyond = record {
-    low = omega arith;
-    high = omega arith;
-    bad = λ c. (let w : lsn_of (page_image 3 1 1 groups_1) ≤ 1 = c.lsn in let e = group_lsn in omega (arith, e, w));
-    first = λ p low less. absurd (omega (arith, low, less));
-  };
-  page_beyond_is_not_the_first = λ b.
-      (let w : lsn_of (page_image 3 1 1 groups_1) ≤ 1 = (b.first 1 (omega arith) (omega arith)).lsn in let e = group_lsn in omega (arith, e, w));
   unfinished = λ s. s;
   log_full_of_five = none_full (Unit {0});
   disk_without_a_failure = λ s. (let e = s.0 in omega (arith, e));

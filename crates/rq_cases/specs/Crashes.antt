@@ -1,6 +1,6 @@
 -- Runs of calls of both devices, crashes that a course may meet, and pages and logs over their devices: over the worked
 -- run, and what isn't so.
-use Rattle.std.specs.Prelude.{◌≢◌, ℕ, ◌<◌, List, [], ◌∷◌, length, take}
+use Rattle.std.specs.Prelude.{◌≢◌, ℕ, ◌<◌, List, [], ◌∷◌, length}
 use Rattle.rq_model.specs.declared.record.Record.{Record}
 use Rattle.rq_model.specs.History.Call.{Begin, Force}
 use Rattle.rq_model.specs.Replay.Reply.{Gave_forced}
@@ -20,7 +20,7 @@ use Rattle.rq_core.specs.Happenings.Happening.{Asks, Crashes, Stops_in, Stops_re
 use Rattle.rq_core.specs.Runs.{CanCrash}
 use Rattle.rq_core.specs.Worked.{first_entries}
 use Rattle.rq_cases.specs.Courses as courses
-use Rattle.rq_cases.specs.Opened.{IsForcedSince, over}
+use Rattle.rq_cases.specs.Opened.{over}
 use Rattle.rq_cases.specs.Run.{committed, forced, log_1, log_5}
 use Rattle.rq_cases.specs.Store.{formatted_pages, sent_pages, sizes}
 use Rattle.rq_cases.specs.Worlds.{Hold, course_to}
@@ -51,12 +51,7 @@ pub record RunsAreJudged : Type 0 where
       → Leaves (mem_pages.may_be pages) images → NeverLeavesPages images pages log new now → ⊥
   pub pages_left_at_its_end : (pages new : MemPages) (log now : MemLog) (images : Images)
       → Leaves (mem_pages.may_be new) images → NeverLeavesPages images pages log new now → ⊥
-  pub no_call : (pages : MemPages) (log : MemLog) (bytes : List ℕ) → (mem_log.may_leave log bytes → ⊥)
-      → NeverLeaves bytes pages log pages log
-  -- a force goes through cuts of the store's records
-  pub force : (pages : MemPages) (old new : MemLog) → Hold pages formatted_pages old log_1
-      → IsForcedSince old new (spelled (take 4 log_5))
-      → Through (over committed pages old) (over forced pages new)
+  -- a call goes through cuts of the store's records alone
   pub page_ahead : (pages : MemPages) (log : MemLog) (new : OpenStore MemPages MemLog) → Hold pages sent_pages log log_1
       → Through (over committed pages log) new → ⊥
   pub forced_lost_between : (pages : MemPages) (log : MemLog) (new : OpenStore MemPages MemLog)

@@ -89,24 +89,22 @@ pub fn none_is_judged()
     shown_is_committed();
 }
 
-/// A format, call by call: what a crash at each moment of it leaves; and formats in another order, or of other pages.
+/// Formats in another order, or of other pages, by what a crash at a moment of them leaves.
 pub fn formats_are_judged()
     ensures { FormatsAreJudged }
 {}
 
-/// What a restart finds, makes and refuses: history that is repeated, and that isn't; reports and refusals, with their
-/// causes and without.
+/// What a restart does not find, make or refuse: history that isn't repeated, reports and refusals without their causes.
 pub fn restarts_are_judged()
     ensures { RestartsAreJudged }
 {}
 
-/// Audits of a shared engine that replay, engines that were sound when they were shared, and marks that were published;
-/// and those that aren't.
+/// Audits of a shared engine that replay, and engines that were sound when they were shared; and those that aren't.
 pub fn audits_are_judged()
     ensures { AuditsAreJudged }
 {}
 
-/// What a restart has checked: pages, log and history; and what it hasn't.
+/// What a restart has not checked, of pages, log and history.
 pub fn checks_are_judged()
     ensures { ChecksAreJudged }
 {}
@@ -116,12 +114,12 @@ pub fn mends_are_judged()
     ensures { MendsAreJudged }
 {}
 
-/// Why a restart was refused, and where: for its pages or for its log; and refusals without their reason.
+/// Refusals of a restart without their reason.
 pub fn refusals_are_judged()
     ensures { RefusalsAreJudged }
 {}
 
-/// What a restart adds to a log, at each moment, and what stays of a store that it doesn't open.
+/// What a restart does not add to a log, at each moment, and what does not stay of a store that it doesn't open.
 pub fn beginnings_are_judged()
     ensures { BeginningsAreJudged }
 {}
@@ -131,7 +129,7 @@ pub fn bounds_are_judged()
     ensures { BoundsAreJudged }
 {}
 
-/// Runs of calls of two devices: what they go through, and what none does.
+/// Runs of calls of two devices: what none goes through.
 pub fn runs_are_judged()
     ensures { RunsAreJudged }
 {}
