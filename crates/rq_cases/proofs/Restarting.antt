@@ -1,30 +1,25 @@
 -- What a restart finds, makes and refuses.
-use Rattle.std.proofs.Common.{◌≡◌, ℕ, zero, suc, ◌≤◌, ◌<◌, List, [], ◌∷◌, ◌++◌, length, take, drop, false, true, refl, sym, ap, ◌∙◌, subst, inl, inr, arith}
+use Rattle.std.proofs.Common.{◌≡◌, ℕ, zero, suc, ◌≤◌, ◌<◌, List, [], ◌∷◌, ◌++◌, length, take, drop, refl, sym, ap, ◌∙◌, subst, arith}
 use Rattle.rq_model.specs.declared.record.Record.{Record}
 use Rattle.rq_model.specs.declared.record.Record.TheVariants.{Commit, Restart}
 use Rattle.rq_disk.specs.Memory.{fresh_pages, reads}
 use Rattle.rq_disk.specs.declared.mem_pages.MemPages.{MemPages}
 use Rattle.rq_log.specs.Spelled.{spelled}
-use Rattle.std.proofs.lemmas.Bool.{cases_eq}
 use Rattle.std.proofs.lemmas.List.{take-append-drop}
 use Rattle.rq_bytes.specs.Number.{number_at}
 use Rattle.rq_page.specs.declared.directory.DirectorySlot.{DirectorySlot}
-use Rattle.rq_page.specs.Cells.{free_bytes}
 use Rattle.rq_page.specs.Directories.{IsDirectorySlot, directory_bytes, directory_in, new_directory}
 use Rattle.rq_page.proofs.DirectoryBytes.{directory_in-directory_bytes}
-use Rattle.rq_page.specs.Pages.{lsn_of, slot_of}
+use Rattle.rq_page.specs.Pages.{lsn_of}
 use Rattle.rq_page.specs.Sizes.{sender_at}
-use Rattle.rq_views.specs.WorkedItems.{sends, t1}
+use Rattle.rq_views.specs.WorkedItems.{t1}
 use Rattle.rq_store.specs.Fitting.{FitsLog, image_in}
 use Rattle.rq_store.specs.Opening.{IsLeft, next_restart}
 use Rattle.rq_store.specs.Whole.{IsWhole}
 use Rattle.rq_store.proofs.Cutting.{whole_dropped}
-use Rattle.rq_store.specs.Steps.{op_end, page_op}
 use Rattle.rq_store.proofs.Cutting.{fits_log_longer}
 use Rattle.rq_store.proofs.Formatting.{formatted_fits}
-use Rattle.rq_rules.specs.Rules.{FollowAll}
-use Rattle.rq_rules.proofs.Whole.{whole_logs}
-use Rattle.rq_restart.specs.Repeating.{AreCounted, IsRepeated, Paged, Repeats}
+use Rattle.rq_restart.specs.Repeating.{AreCounted, Paged, Repeats}
 use Rattle.rq_restart.specs.Restarting.{IsBegunOn, IsLeftOn}
 use Rattle.rq_restart.proofs.Begun.{mended_incarnation}
 use Rattle.rq_lost.proofs.Recovering.{recovered_from}
@@ -34,17 +29,17 @@ use Rattle.rq_model.specs.Incarnations.{InOrder, incarnation_of}
 use Rattle.rq_model.specs.declared.refusal.Refusal.TheVariants as why
 use Rattle.rq_model.proofs.Cuts.{extends_commits, incarnation_grows}
 use Rattle.rq_undone.proofs.Undos.{nothing_undone}
-use Rattle.rq_restart.specs.Checked.{IsEnded, IsGoneThrough}
+use Rattle.rq_restart.specs.Checked.{IsEnded}
 use Rattle.rq_restart.proofs.Parsing.{one_log}
 use Rattle.rq_core.specs.Devices.{mem_pages}
 use Rattle.rq_cases.specs.Opened.{AreNewPages}
-use Rattle.rq_cases.specs.Restarting.{RestartsAreJudged, Shuts, read_pages, repeated_pages}
-use Rattle.rq_cases.specs.Run.{log_1, log_2, log_3, log_4, log_5}
-use Rattle.rq_cases.specs.Store.{cells_0, cells_1, count_sent, fill_cell, filled_pages, formatted_pages, groups_0, groups_1, group, one_sent, page_image, sent_pages, sizes}
+use Rattle.rq_cases.specs.Restarting.{RestartsAreJudged, Shuts, read_pages}
+use Rattle.rq_cases.specs.Run.{log_1, log_4, log_5}
+use Rattle.rq_cases.specs.Store.{cells_0, formatted_pages, groups_0, groups_1, page_image, sent_pages, sizes}
 use Rattle.rq_cases.proofs.Bytes.{first_spelled, records_spelled}
 use Rattle.rq_cases.proofs.Held.{log_seen}
-use Rattle.rq_cases.proofs.Images.{lsn_is, slot_is, written_other}
-use Rattle.rq_cases.proofs.Pages.{are_formatted, cells_0_long, cells_1_long, cell_told, fill_written, groups_0_long, groups_1_long, others_of_1, others_of_2, range, sent_told, sent_written}
+use Rattle.rq_cases.proofs.Images.{lsn_is, slot_is}
+use Rattle.rq_cases.proofs.Pages.{are_formatted, cells_0_long, groups_0_long, groups_1_long, range}
 use Rattle.rq_cases.proofs.Running as running
 
 -- what the devices read
@@ -59,9 +54,6 @@ group_lsn = lsn_is 3 1 1 groups_1 groups_1_long (omega arith)
 
 pub no_group_lsn : lsn_of (page_image 0 1 1 groups_0) ≡ 0
 no_group_lsn = lsn_is 0 1 1 groups_0 groups_0_long (omega arith)
-
-pub cell_lsn : lsn_of (page_image 2 2 2 cells_1) ≡ 2
-cell_lsn = lsn_is 2 2 2 cells_1 cells_1_long (omega arith)
 
 pub no_cell_lsn : lsn_of (page_image 0 2 2 cells_0) ≡ 0
 no_cell_lsn = lsn_is 0 2 2 cells_0 cells_0_long (omega arith)
@@ -85,13 +77,6 @@ abbrev pub is_restart : List Record → ℕ
 is_restart (Restart i ∷ log) = 1
 is_restart _ = 0
 
--- history, one record after the other
-abbrev pub filled : Paged
-filled = record { image = image_in filled_pages; changed = false ∷ false ∷ true ∷ [] }
-
-first_cell_stands : slot_of 1 (page_image 0 2 2 cells_0) ≡ free_bytes
-first_cell_stands = slot_is 0 2 2 cells_0 cells_0_long 1 (omega arith) (omega arith)
-
 -- what a directory slot counts
 sent_number : (x : DirectorySlot) → IsDirectorySlot x → number_at 8 8 (directory_bytes x) ≡ x.directory.sent
 unfolding directory_in
@@ -107,19 +92,6 @@ new_in_range s low = record {
   tail = omega arith;
 }
 
-sent_in_range : IsDirectorySlot (record { sender = 0; directory = one_sent })
-sent_in_range = record {
-  sender = omega arith;
-  sent = omega arith;
-  received = omega arith;
-  last_tag = omega arith;
-  head = omega arith;
-  tail = omega arith;
-}
-
-group_count : number_at 8 8 (group one_sent) ≡ 1
-group_count = sent_number (record { sender = 0; directory = one_sent }) sent_in_range
-
 new_count : (n : ℕ) → 1 ≤ n → n ≤ 15 → number_at 8 8 (groups_0 n) ≡ 0
 new_count n low high = sent_number (record { sender = sender_at 1 n; directory = new_directory }) (new_in_range (sender_at 1 n) (omega (arith, low, high)))
 
@@ -134,87 +106,8 @@ module _ (count : ℕ) where
   counted_read (suc (suc zero)) low high = record { lsn = (let e = no_cell_lsn in omega (arith, e)); slots = λ n from to. omega arith }
   counted_read (suc (suc (suc p))) low high = absurd (omega (arith, high))
 
-module _ (count : ℕ) (many : 3 ≤ count) where
-  counted_last : AreCounted sizes count repeated_pages
-  counted_last zero low high = absurd (omega (arith, low))
-  counted_last (suc zero) low high = record {
-    lsn = (let e = group_lsn in omega (arith, e, many));
-    slots = λ n from to. elim (cases_eq n 1) [
-      | inl one ↦
-          let e : number_at 8 8 (slot_of 1 (page_image 3 1 1 groups_1)) ≡ 1 = ap (number_at 8 8) (slot_is 3 1 1 groups_1 groups_1_long 1 (omega arith) (omega arith)) ∙ group_count in
-          let f = ap (λ m. number_at 8 8 (slot_of m (page_image 3 1 1 groups_1))) one ∙ e in
-          omega (arith, f, many)
-      | inr off ↦
-          let e = ap (number_at 8 8) (slot_is 3 1 1 groups_1 groups_1_long n from to ∙ written_other 1 (group one_sent) groups_0 n off) ∙ new_count n from to in
-          omega (arith, e)
-    ];
-  }
-  counted_last (suc (suc zero)) low high = record { lsn = (let e = cell_lsn in omega (arith, e, many)); slots = λ n from to. omega arith }
-  counted_last (suc (suc (suc p))) low high = absurd (omega (arith, high))
-
 pub whole_5 : IsWhole sizes log_5
 whole_5 = running.commit_send.sound.log
-
-pub follow_5 : FollowAll log_5
-follow_5 = whole_logs.all sizes log_5 whole_5
-
--- each record is repeated
-restart_repeated : IsRepeated sizes [] (Restart 1) read_pages read_pages
-restart_repeated = record { belongs = record { next = refl; follows = follow_5.1.1.1.1.0; may = record { write = tt; before = tt } }; redone = λ p. refl; marked = refl }
-
-pub fill_repeated : IsRepeated sizes log_1 (page_op t1 1 fill_cell) read_pages filled
-fill_repeated = record {
-  belongs = record {
-    next = (omega arith, refl);
-    follows = follow_5.1.1.1.0;
-    may = record { write = record { slot = cell_told.1; count = omega arith }; before = λ older. first_cell_stands };
-  };
-  redone = record {
-    made = λ older. fill_written;
-    kept = λ newer. (let e = no_cell_lsn in absurd (omega (arith, e, newer)));
-    others = others_of_2 0 0 2 groups_0 cells_0 cells_1;
-  };
-  marked = record { made = λ older. refl; kept = λ newer. (let e = no_cell_lsn in absurd (omega (arith, e, newer))) };
-}
-
-count_repeated : IsRepeated sizes log_2 (page_op t1 1 count_sent) filled repeated_pages
-count_repeated = record {
-  belongs = record {
-    next = (omega arith, refl);
-    follows = follow_5.1.1.0;
-    may = record {
-      write = record { slot = sent_told.1; count = (let e = group_count in omega (arith, e)) };
-      before = λ older. slot_is 0 1 1 groups_0 groups_0_long 1 (omega arith) (omega arith);
-    };
-  };
-  redone = record {
-    made = λ older. sent_written;
-    kept = λ newer. (let e = no_group_lsn in absurd (omega (arith, e, newer)));
-    others = others_of_1 0 3 2 groups_0 groups_1 cells_1;
-  };
-  marked = record { made = λ older. refl; kept = λ newer. (let e = no_group_lsn in absurd (omega (arith, e, newer))) };
-}
-
-end_repeated : IsRepeated sizes log_3 (op_end t1 1 (sends 0)) repeated_pages repeated_pages
-end_repeated = record { belongs = record { next = (omega arith, refl); follows = follow_5.1.0; may = record { write = tt; before = tt } }; redone = λ p. refl; marked = refl }
-
-commit_repeated : IsRepeated sizes log_4 (Commit t1) repeated_pages repeated_pages
-commit_repeated = record { belongs = record { next = (omega arith, refl); follows = follow_5.0; may = record { write = tt; before = tt } }; redone = λ p. refl; marked = refl }
-
-pub repeats_1 : Repeats sizes log_1 read_pages read_pages
-repeats_1 = (read_pages, refl, restart_repeated)
-
-pub repeats_3 : Repeats sizes log_3 read_pages repeated_pages
-repeats_3 = (filled, (read_pages, repeats_1, fill_repeated), count_repeated)
-
-repeats_4 : Repeats sizes log_4 read_pages repeated_pages
-repeats_4 = (repeated_pages, repeats_3, end_repeated)
-
-pub repeats_5 : Repeats sizes log_5 read_pages repeated_pages
-repeats_5 = (repeated_pages, repeats_4, commit_repeated)
-
-pub gone : IsGoneThrough sizes log_5 read_pages repeated_pages
-gone = record { repeated = repeats_5; counted_read = counted_read 5; counted = counted_last 5 (omega arith) }
 
 -- the write of the cell was made, whatever the pages were between
 pub made_there : (first last : Paged) → lsn_of (first.image 2) ≡ 0 → lsn_of (last.image 2) ≡ 0 → Repeats sizes log_5 first last → ⊥

@@ -1,5 +1,5 @@
 -- What a restart finds, makes and refuses, over the worked run.
-use Rattle.std.specs.Prelude.{ℕ, List, [], ◌∷◌, length, false, true}
+use Rattle.std.specs.Prelude.{ℕ, List, ◌∷◌, length}
 use Rattle.rq_model.specs.declared.record.Record.{Record}
 use Rattle.rq_model.specs.declared.refusal.Refusal.{Refusal}
 use Rattle.rq_model.specs.declared.record.Record.TheVariants.{Commit, Restart}
@@ -24,9 +24,6 @@ use Rattle.rq_cases.specs.Store.{formatted_pages, sent_pages, sizes}
 -- the pages as they were read, and once the log of the send is gone through
 abbrev pub read_pages : Paged
 read_pages = as_read sizes formatted_pages
-
-abbrev pub repeated_pages : Paged
-repeated_pages = record { image = image_in sent_pages; changed = false ∷ true ∷ true ∷ [] }
 
 -- a restart was refused for this over the log, and the log's device was left alone
 abbrev pub Shuts : List Record → Refusal → Type 0 → Type 0

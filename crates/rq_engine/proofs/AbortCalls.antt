@@ -67,43 +67,7 @@ use Rattle.rq_engine.proofs.Waits.{waits-with_taken}
 
 -- ---- which tests hold
 
--- the refusals of a transaction that is not ready have no cause but that
-ready_cause : (b : Bool) (c : Call) (w x y z : Bool) (r : Refusal) → first_of ((w, why.Failed) ∷ (x, why.UnknownTransaction) ∷ (y, why.NotOpen) ∷ (z, why.Unfinished) ∷ []) ≡ Some r → HasCause b c r
-ready_cause b c true x y z r e = let same : why.Failed ≡ r = cc e in subst (HasCause b c) same tt
-ready_cause b c false true y z r e = let same : why.UnknownTransaction ≡ r = cc e in subst (HasCause b c) same tt
-ready_cause b c false false true z r e = let same : why.NotOpen ≡ r = cc e in subst (HasCause b c) same tt
-ready_cause b c false false false true r e = let same : why.Unfinished ≡ r = cc e in subst (HasCause b c) same tt
-ready_cause b c false false false false r e = cc e
-
 module _ (s : State) (t : Txn) where
-  cause_of : (aborting : Bool) (c : Call) (r : Refusal) → IsUnready (ledger_of s) t aborting r → HasCause (any_under s.rows) c r
-  cause_of aborting c r u = ready_cause (any_under s.rows) c _ _ _ _ r u.first
-
-  pub refuse_turn : (r : Refusal) → IsUnready (ledger_of s) t false r → Refuses s (Start_abort t) r
-  refuse_turn r u = refuse s (Start_abort t) r u.plain (cause_of false (Start_abort t) r u) u.first
-
-  front_of : (w x y z : Bool) (more : List (Bool × Refusal)) (r : Refusal) → first_of ((w, why.Failed) ∷ (x, why.UnknownTransaction) ∷ (y, why.NotOpen) ∷ (z, why.Unfinished) ∷ []) ≡ Some r
-      → first_of ((w, why.Failed) ∷ (x, why.UnknownTransaction) ∷ (y, why.NotOpen) ∷ (z, why.Unfinished) ∷ more) ≡ Some r
-  front_of true x y z more r e = e
-  front_of false true y z more r e = e
-  front_of false false true z more r e = e
-  front_of false false false true more r e = e
-  front_of false false false false more r e = cc e
-
-  pub refuse_undo : (r : Refusal) → IsUnready (ledger_of s) t true r → Refuses s (Undo_next t) r
-  refuse_undo r u = refuse s (Undo_next t) r u.plain (cause_of true (Undo_next t) r u) (front_of _ _ _ _ ((is_some (newest (found t (ledger_of s).open_ones)) && log_full (ledger_of s) (undo_cost (newest (found t (ledger_of s).open_ones))), why.LogFull) ∷ []) r u.first)
-
-  end_of : (w x y z q : Bool) (more : List (Bool × Refusal)) (r : Refusal) → first_of ((w, why.Failed) ∷ (x, why.UnknownTransaction) ∷ (y, why.NotOpen) ∷ (z, why.Unfinished) ∷ []) ≡ Some r
-      → first_of ((w, why.Failed) ∷ (x, why.UnknownTransaction) ∷ (y, why.NotOpen) ∷ (z || q, why.Unfinished) ∷ more) ≡ Some r
-  end_of true x y z q more r e = e
-  end_of false true y z q more r e = e
-  end_of false false true z q more r e = e
-  end_of false false false true q more r e = e
-  end_of false false false false q more r e = cc e
-
-  pub refuse_end : (r : Refusal) → IsUnready (ledger_of s) t true r → Refuses s (End_abort t) r
-  refuse_end r u = refuse s (End_abort t) r u.plain (cause_of true (End_abort t) r u) (end_of _ _ _ _ _ ((log_full (ledger_of s) 1, why.LogFull) ∷ []) r u.first)
-
   -- a transaction that is not aborting, or has an operation under way
   pub back_unknown : s.failed ≡ false → found_row t s.rows ≡ None → IsUnready (ledger_of s) t true why.UnknownTransaction
   back_unknown e f = record { first = rw (e, found_none s t f) refl; plain = refl }

@@ -116,9 +116,6 @@ module _ (s : State) (f : Bool) (o res : ℕ) (k : IsKept s f o res) (sub : Sub)
       let c = k.owes in
       omega (arith, a, b, c)
 
-  pub going_count : length s.records < 2 ^ 64 - 1
-  going_count = let a = k.count in omega (arith, a)
-
   pub going_room : 546 * (length g.under.writes - g.under.made) + end_bytes g.under.aim ≤ res
   going_room =
       let a = sum_at room_one sub.txn s.rows g.row g.found in

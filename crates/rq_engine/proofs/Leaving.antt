@@ -27,9 +27,3 @@ module _ {P L : Type 0} (old new : OpenStore P L) (e : Event) where
   undo_leaves (Ok (Some sub)) y w same is = rw is tt
   undo_leaves (Ok None) y w same is = rw is tt
   undo_leaves (Err r) y w same is = rw is (plain_leaves r w same)
-
-  -- one that does stops the store where its device fails
-  pub handed_leaves : (g : log_device.Ghosts L) (r : Refusal) → writes_out (call_of e) ≡ true → NotWritten g old new r → new.state ≡ record old.state { failed = true } → new.changed ≡ old.changed → RefusalLeaves old e (reply.Refused r) new
-  handed_leaves g why.DiskWrite w not stops same = rw w (stops, same)
-  handed_leaves g why.Failed w not stops same = not.1
-  handed_leaves g r w not stops same = absurd not

@@ -42,13 +42,6 @@ begins_before : (r : Record) (front : List Record) (bytes : List ℕ) → Begins
 begins_before r front bytes h = (spelling r ++ h.0, h.1 ∙ append_assoc (spelled front) (spelling r) h.0)
 
 module _ {L : Type 0} (g : Ghosts L) (z : Sizes) (first : Paged) (old new : L) where
-  -- what stopped the reading, with the device as it was first
-  pub stops_from : (e : Refusal) (front : List Record) (mid : L) → g.seen mid ≡ g.seen old → g.faults mid ≡ g.faults old → StopsFor g e front mid new → StopsFor g e front old new
-  stops_from why.NoMemory front mid seen faults h = h ∙ faults
-  stops_from why.DiskRead front mid seen faults h = subst (λ n. g.faults new ≡ (n + 1) % 2 ^ 64) faults h
-  stops_from (why.Damaged (damage.Record lsn)) front mid seen faults h = (h.0, (λ honest. subst (IsDamagedBehind front) seen (h.1 honest)), h.2 ∙ faults)
-  stops_from _ front mid seen faults h = absurd h
-
   -- the record that was read was not repeated
   pub stopped_next : (front : List Record) (r : Record) (mid : Paged) (e : Refusal) → AreSpelled (r ∷ front) → (g.honest new → BeginsWith (r ∷ front) (g.seen old)) → Repeats z front first mid → IsRead g old new → g.faults new ≡ g.faults old
       → NotRepeated z front r mid e → IsStoppedBehind g z first e old new

@@ -125,16 +125,3 @@ pub why_not_planned : (z : Sizes) (images : List (List ℕ)) (due : Due) (r : Re
 why_not_planned z images due why.NoMemory f = tt
 why_not_planned z images due (why.Damaged x) f = (refl, λ deed told can. (let e = f deed (ap to_undo told) can in cc e))
 why_not_planned z images due _ f = (refl, λ deed told can. (let e = f deed (ap to_undo told) can in cc e))
-
--- a deed of a sender that the store has not is none to be taken back
-can_below : (z : Sizes) (q : Slots) (d : Deed) → CanBeTakenBack z q d → deed_sender d < sender_count z
-can_below z q (Append g n tag previous body) c = c.below
-can_below z q (UnlinkHead g n tag body) c = c.below
-can_below z q (Close g) c = c.below
-
-pub not_of_store : (z : Sizes) (images : List (List ℕ)) (due : Due) (x : Deed) → deed_in due.deed ≡ Some x → sender_count z ≤ deed_sender x → IsNotUndone z images due
-not_of_store z images due x told high deed read can =
-    let same : deed ≡ x = (let k : Some deed ≡ Some x = sym read ∙ told in cc k) in
-    let low : deed_sender deed < sender_count z = can_below z (slots_in z images) deed can in
-    let e : deed_sender deed ≡ deed_sender x = ap deed_sender same in
-    omega (arith, low, high, e)

@@ -109,9 +109,6 @@ module _ (z y : Sizes) (log last : List Record) (first now : Paged) (sizes : y �
       let b : work h ≡ work (analysis last) = ap work is in
       omega (arith, less, a, b)
 
-  pub going_done : (h : Analysis) → h ≡ analysis last → h.unfinished ≡ [] → IsUndone log last
-  going_done h is none = record { undoing = k.undoing; none = ap (λ (j : Analysis). j.unfinished) (sym is) ∙ none }
-
   pub going_stops : (r : Record) (h : Analysis) (e : Refusal) → h ≡ analysis last → IsNextUndo h r → StepStops (length last) (Belongs y last r now) e → (start : Paged) → Repeats z log start first → UndoStops z log start e
   going_stops r h why.NoMemory is next s start before = tt
   going_stops r h why.LogFull is next s start before = record { undone = last; undoing = k.undoing; full = s }

@@ -19,17 +19,3 @@ own_calls own (asks.StartAbort txn) i = i
 own_calls own (asks.UndoNext txn) i = i
 own_calls own (asks.EndAbort txn) i = i
 own_calls own (asks.LastTag sender) i = i
-
--- a commit of the own transaction, and of none; a begin beside one; a force, which no session asks for
-module _ (t : Txn) where
-  own_commit : IsOwnCall (Some t) (Commit t)
-  own_commit = refl
-
-  commit_of_none : IsOwnCall None (Commit t) → ⊥
-  commit_of_none i = absurd (cc)
-
-  begun_twice : IsOwnCall (Some t) Begin → ⊥
-  begun_twice i = absurd (cc)
-
-  forced : IsOwnCall (Some t) Force → ⊥
-  forced i = i
