@@ -7,7 +7,7 @@ use Rattle.rq_model.specs.declared.record.Record.TheVariants.{AbortEnd, Commit, 
 use Rattle.rq_model.specs.declared.txn.Txn.{Txn}
 use Rattle.rq_level.specs.declared.writes.SlotWrite.{SlotWrite}
 use Rattle.rq_views.specs.WorkedItems as items
-use Rattle.rq_views.specs.WorkedItems.{t1, t2, takes}
+use Rattle.rq_views.specs.WorkedItems.{t1, t2}
 use Rattle.rq_store.specs.Fitting.{image_in}
 use Rattle.rq_store.specs.Opening.{IsLeft}
 use Rattle.rq_store.specs.Steps.{page_op}
@@ -16,11 +16,9 @@ use Rattle.rq_store.proofs.Formatting.{formatted_fits}
 use Rattle.rq_undone.specs.Pages.{IsUndone}
 use Rattle.rq_undone.proofs.Undos.{nothing_undone, undoing_none}
 use Rattle.rq_lost.specs.Worked.{log_two, sent_due, took_due}
-use Rattle.rq_lost.proofs.WorkedWalk.{walks_judged}
 use Rattle.rq_lost.specs.WorkedMoves.{Pages, cell_is_back, ended, group_is_back, put_back, unlink}
 use Rattle.rq_restart.specs.Aborting.{AbortsBehind, AreRounds, IsAborting, IsTakenNext, RepeatedFrom, Round, after_round, after_rounds, with_writes}
 use Rattle.rq_restart.specs.Aborting.IsAborting.{Between, Within}
-use Rattle.rq_restart.specs.Aborting.IsOnItsWay.{Within as OnWay}
 use Rattle.rq_restart.specs.Aborting.Round.{Ends, TakesBack}
 use Rattle.rq_restart.specs.Mended.{IsMended}
 use Rattle.rq_restart.specs.Repeating.{Paged}
@@ -155,7 +153,6 @@ mends = record {
   ends_early = none_ends t2;
   another_ends = λ first. not_aborting (RepeatedFrom items.sizes first) (AbortEnd t1) refl (none_ends t1);
   commits = λ first. not_aborting (RepeatedFrom items.sizes first) (Commit t2) refl no_commit;
-  on_its_way = λ v m. OnWay v.first t2 3 11 (takes 0) put_back.writes 1 (walks_judged.one_made v m);
   no_bad_mend = λ lsn b. b.none left_4;
   no_bad_undo = λ lsn b. begun.no_bad_undo sizes log_2 read_pages lsn left_2 b;
   not_full = λ b.

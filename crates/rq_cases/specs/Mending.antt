@@ -3,9 +3,9 @@ use Rattle.std.specs.Prelude.{ℕ, ◌∷◌}
 use Rattle.rq_model.specs.declared.record.Record.TheVariants.{AbortEnd, Commit}
 use Rattle.rq_views.specs.WorkedItems as items
 use Rattle.rq_store.specs.Opening.{opened}
-use Rattle.rq_lost.specs.Worked.{log_two, store_two, took_due}
-use Rattle.rq_lost.specs.WorkedMoves.{AreMade, Pages, cell_is_back, ended, group_is_back, put_back, unlinked}
-use Rattle.rq_restart.specs.Aborting.{AbortsBehind, IsAborting, IsOnItsWay, IsPlannedOn, RepeatedFrom}
+use Rattle.rq_lost.specs.Worked.{log_two, took_due}
+use Rattle.rq_lost.specs.WorkedMoves.{Pages, cell_is_back, ended, group_is_back, put_back, unlinked}
+use Rattle.rq_restart.specs.Aborting.{AbortsBehind, IsAborting, IsPlannedOn, RepeatedFrom}
 use Rattle.rq_restart.specs.Mended.{HasRepeated, IsBadMend, IsMended}
 use Rattle.rq_restart.specs.Repeating.{Paged}
 use Rattle.rq_restart.specs.Restarting.{IsOpenedOver}
@@ -33,8 +33,6 @@ pub record MendsAreJudged : Type 0 where
       → IsAborting items.sizes (RepeatedFrom items.sizes first) log_two (AbortEnd t1 ∷ log_two) → ⊥
   pub commits : (first : Paged)
       → IsAborting items.sizes (RepeatedFrom items.sizes first) log_two (Commit t2 ∷ log_two) → ⊥
-  -- once a record of it is there, pages and log show the store on its way
-  pub on_its_way : (v : Pages) → AreMade v → IsOnItsWay (store_two v.start) (cell_is_back v).records
   -- of a store that was left so what it did can be taken back
   pub no_bad_mend : (lsn : ℕ) → IsBadMend sizes log_4 read_pages lsn → ⊥
   -- an operation that is open is undone

@@ -13,9 +13,6 @@ ghost use Rattle.rq_lost.specs.Numbers.{NumbersAreKept};
 ghost use Rattle.rq_lost.specs.Recovered.{RecoveredLogsAreWhole};
 ghost use Rattle.rq_lost.specs.Theorems.{AbortedLogsAreSettled, AbortsEnd, AbortsHaveTurns, AbortsKeepLogsWhole, AbortsMayStop, InversesAreFound, LostStoresAreSound, LostStoresOpen, SettledStoresHaveEnded, StopsAreRepeated};
 ghost use Rattle.rq_lost.specs.Walk.{AbortsComeToAnEnd, AbortsGoOn, DuesCanBeUndone, LogsOnTheWayAreWhole};
-ghost use Rattle.rq_lost.specs.Worked.{InversesAreJudged, LostAreJudged, StopsAreJudged, TurnsAreJudged, TwoAreJudged};
-ghost use Rattle.rq_lost.specs.WorkedMoves.{MovesAreJudged};
-ghost use Rattle.rq_lost.specs.WorkedWalk.{WalksAreJudged};
 
 pub use choices::next_end;
 pub use dues::{Due, Dues};
@@ -115,39 +112,4 @@ pub fn logs_on_the_way_are_whole()
 /// a crash stops that, a restart goes on.
 pub fn recovered_logs_are_whole()
     ensures { RecoveredLogsAreWhole }
-{}
-
-/// Worked: one transaction sent and took when a crash came, and is lost.
-pub fn lost_are_judged()
-    ensures { LostAreJudged }
-{}
-
-/// Worked: what it took goes back before what it sent.
-pub fn turns_are_judged()
-    ensures { TurnsAreJudged }
-{}
-
-/// Worked: a crash stops its undoing.
-pub fn stops_are_judged()
-    ensures { StopsAreJudged }
-{}
-
-/// Worked: what undoes it, move by move.
-pub fn moves_are_judged()
-    ensures { MovesAreJudged }
-{}
-
-/// Worked: the same moves, as a program's pages and log show them.
-pub fn walks_are_judged()
-    ensures { WalksAreJudged }
-{}
-
-/// Worked: two transactions are left to be undone.
-pub fn two_are_judged()
-    ensures { TwoAreJudged }
-{}
-
-/// Worked: what a lost transaction took can be put back.
-pub fn inverses_are_judged()
-    ensures { InversesAreJudged }
 {}

@@ -6,11 +6,11 @@ use Rattle.std.proofs.lemmas.List.{drop_all}
 use Rattle.std.proofs.Math.Seq.{drop-cons}
 use Rattle.rq_page.specs.Formatted.{IsFormatted}
 use Rattle.rq_page.specs.Pages.{slot_of}
-use Rattle.rq_page.specs.Sizes.{Sizes, IsCellAddress, IsInRange, cell_at, cell_count, directory_at, sender_count}
+use Rattle.rq_page.specs.Sizes.{Sizes, IsCellAddress, IsInRange, cell_at, cell_count}
 use Rattle.rq_page.specs.Cells.{free_bytes}
 use Rattle.rq_page.specs.Slots.{SlotIsSpelling, held_in, slot_bytes}
 use Rattle.rq_page.specs.Slots.Slot.{Free}
-use Rattle.rq_page.proofs.Addresses.{cells_have_places, senders_have_slots}
+use Rattle.rq_page.proofs.Addresses.{cells_have_places}
 use Rattle.rq_views.specs.Stored.{IsStoreSlot, slot_at, slots_in}
 use Rattle.rq_pool.specs.Pooled.{IsPool}
 use Rattle.rq_level.specs.declared.writes.SlotWrite.{SlotWrite}

@@ -1,5 +1,5 @@
 -- Who holds an end is alone with it in the log, and may take what waits.
-use Rattle.std.proofs.Common.{◌≡◌, ℕ, ◌+◌, ◌-◌, ◌<◌, ◌≤◌, ◌||◌, List, [], ◌∷◌, length, drop, refl, sym, ◌∙◌, ap, subst, Bool, true, false, not, cond, nat_eq, Option, Some, None, inl, inr, arith}
+use Rattle.std.proofs.Common.{◌≡◌, ℕ, ◌+◌, ◌-◌, ◌<◌, ◌≤◌, ◌||◌, List, [], ◌∷◌, length, refl, sym, ◌∙◌, ap, subst, Bool, true, false, not, cond, nat_eq, Option, Some, None, inl, inr, arith}
 use Rattle.std.specs.List.{filter_map}
 use Rattle.std.proofs.lemmas.Bool.{cases_Bool, false≢true, eq-eqb, or_parts, and_parts, not-true, false_from_ne_true}
 use Rattle.std.proofs.lemmas.List.{length-drop}
@@ -18,13 +18,11 @@ use Rattle.rq_model.specs.Rules.{holds, any_use, uses_send, uses_receive}
 use Rattle.rq_model.proofs.Told.{told_taken, not_yet, content_is}
 use Rattle.rq_model.proofs.Commits.{removed_both, shape_is, covered_log, around_itself}
 use Rattle.rq_page.specs.Sizes.{Sizes, sender_count}
-use Rattle.rq_views.specs.Chain.{View}
 use Rattle.rq_views.specs.Items.{items, told_deed, ReadsItsDeeds, has_undone}
 use Rattle.rq_views.specs.Legal.{Placed, open_deeds, rest_placed}
-use Rattle.rq_views.specs.Groups.{on_sending_end, on_receiving_end, side, with_all, committed, Alone}
-use Rattle.rq_views.proofs.Committed.{say, takes_form}
+use Rattle.rq_views.specs.Groups.{on_sending_end, on_receiving_end, side, Alone}
+use Rattle.rq_views.proofs.Committed.{say}
 use Rattle.rq_views.proofs.Content.{own_deeds}
-use Rattle.rq_views.proofs.Settled.{rest_shown}
 use Rattle.rq_groups.specs.Ends.{HeldEnds, has_held}
 use Rattle.rq_groups.specs.Waiting.{waits}
 use Rattle.rq_store.specs.Whole.{IsWhole}

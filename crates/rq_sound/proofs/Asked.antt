@@ -11,7 +11,7 @@ use Rattle.rq_model.specs.declared.record.Deed.TheVariants.{Append, UnlinkHead, 
 use Rattle.rq_model.specs.declared.record.Record.{Record}
 use Rattle.rq_model.specs.Words.{In, same_txn}
 use Rattle.rq_model.specs.Ledger.{rest_in, ended_in, any_ends}
-use Rattle.rq_model.specs.Tests.{below, count_rest, pending, is_sent, is_sending, holds_for, has_closed}
+use Rattle.rq_model.specs.Tests.{pending, is_sending, has_closed}
 use Rattle.rq_model.specs.Content.{said, removed, removed_one, closed, deeds}
 use Rattle.rq_model.specs.Commits.{ops_told, committed_of}
 use Rattle.rq_model.specs.Rules.{any_use, uses_send, uses_receive}

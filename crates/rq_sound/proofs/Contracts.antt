@@ -20,7 +20,6 @@ use Rattle.rq_txn.specs.declared.Finished.{Finished}
 use Rattle.rq_groups.specs.Waiting.{waits}
 use Rattle.rq_store.specs.Steps.{took}
 use Rattle.rq_store.specs.Fitting.{left_by}
-use Rattle.rq_store.specs.Opening.{opened}
 use Rattle.rq_store.specs.Rows.{placed}
 use Rattle.rq_store.proofs.Begun.{begun_all}
 use Rattle.rq_store.proofs.Grouping.{groups_of}

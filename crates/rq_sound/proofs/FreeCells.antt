@@ -1,6 +1,6 @@
 -- Whoever may put a message back finds a free cell, and so does whoever may send; and the inverse of the newest deed can
 -- be planned.
-use Rattle.std.proofs.Common.{◌≡◌, ℕ, ◌+◌, ◌/◌, ◌<◌, ◌≤◌, ◌++◌, List, [], ◌∷◌, refl, sym, ◌∙◌, ap, subst, true, false, nat_eq, Option, Some, None, inl, inr, arith}
+use Rattle.std.proofs.Common.{◌≡◌, ℕ, ◌+◌, ◌/◌, ◌<◌, ◌≤◌, ◌++◌, List, [], ◌∷◌, refl, sym, ◌∙◌, ap, subst, false, nat_eq, Option, Some, None, inl, inr, arith}
 use Rattle.std.specs.List.{sum_by}
 use Rattle.std.proofs.lemmas.Bool.{cases_Bool, eqb-true, or_parts}
 use Rattle.std.proofs.lemmas.List.Sums.{sum_by-cons, sum_by_push}
@@ -40,7 +40,7 @@ use Rattle.rq_sound.proofs.UsedCells.{made_within, some_free}
 use Rattle.rq_store.proofs.Placed.{placed_more}
 use Rattle.rq_sound.proofs.Going.{IsOne, shown_beside}
 use Rattle.rq_sound.proofs.Going.IsOne.{Idle, Going}
-use Rattle.rq_sound.proofs.UndoPlans.{NeedsCell, can_undo, closed_before}
+use Rattle.rq_sound.proofs.UndoPlans.{NeedsCell, can_undo}
 
 sum_three : (f g h : Row → ℕ) (rows : List Row) → sum_by (λ q. f q + g q + h q) rows ≡ sum_by f rows + sum_by g rows + sum_by h rows
 sum_three f g h [] = refl

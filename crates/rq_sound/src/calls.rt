@@ -4,13 +4,12 @@ ghost use Rattle.rq_sound.specs.Gathering.{SlotsAreGathered, WantsAreNeeded};
 ghost use Rattle.rq_sound.specs.Chosen.{NotedCellsAreKnown, PlannedCellsAreKept};
 ghost use Rattle.rq_sound.specs.Groups.{SlotsTellGroups};
 ghost use Rattle.rq_sound.specs.Latching.{LatchedIsExact};
-ghost use Rattle.rq_sound.specs.Levels.{CellsStayKept, LevelsPlanFromSlots, LevelsRefuseExactly};
+ghost use Rattle.rq_sound.specs.Levels.{LevelsPlanFromSlots, LevelsRefuseExactly};
 ghost use Rattle.rq_sound.specs.Plans.{PlansMayStart};
 ghost use Rattle.rq_sound.specs.Refusals.{RefusalsAreSteps, TestsReadRows};
 ghost use Rattle.rq_sound.specs.Unchanged.{UnchangedAreSteps};
 ghost use Rattle.rq_sound.specs.Waits.{WaitsAreGiven};
 ghost use Rattle.rq_sound.specs.Wants.{LevelsFindAll};
-ghost use Rattle.rq_sound.specs.WorkedCalls.{CellsAreJudged, GroupsAreJudged, LatchesAreJudged, LevelsAreJudged, PlansAreJudged, RefusalsAreJudged, WaitsAreJudged, WantsAreJudged};
 
 /// A refusal that the model's tests give is a step that changes nothing; a device's failure stops the store.
 pub fn refusals_are_steps()
@@ -46,11 +45,6 @@ pub fn levels_plan_from_slots()
 /// The level of chains refuses what can be done for want of memory alone, or where each free cell is on a latched page.
 pub fn levels_refuse_exactly()
     ensures { LevelsRefuseExactly }
-{}
-
-/// The level of chains goes on knowing which cells are free, and which an operation under way is to write.
-pub fn cells_stay_kept()
-    ensures { CellsStayKept }
 {}
 
 /// A plan leaves the level knowing the cells, but for the one that it chose: that is to be written where the plan
@@ -90,44 +84,4 @@ pub fn wants_are_needed()
 /// Slots of the store are given to a level one after the other, each as it is.
 pub fn slots_are_gathered()
     ensures { SlotsAreGathered }
-{}
-
-/// Worked: what is refused while two sends are under way, what is not, and receipts.
-pub fn refusals_are_judged()
-    ensures { RefusalsAreJudged }
-{}
-
-/// Worked: of whom a message waits, and of whom none does.
-pub fn waits_are_judged()
-    ensures { WaitsAreJudged }
-{}
-
-/// Worked: a directory slot that tells of its group, and one that tells of it too early, on a latched page.
-pub fn groups_are_judged()
-    ensures { GroupsAreJudged }
-{}
-
-/// Worked: a send that is planned beside another, and one that isn't any more.
-pub fn plans_are_judged()
-    ensures { PlansAreJudged }
-{}
-
-/// Worked: sends that are latched, and one that isn't.
-pub fn latches_are_judged()
-    ensures { LatchesAreJudged }
-{}
-
-/// Worked: what a level may be given while a send is under way, and what it finds there.
-pub fn levels_are_judged()
-    ensures { LevelsAreJudged }
-{}
-
-/// Worked: what the level of chains knows of the cells while a send is under way, and what is latched then.
-pub fn cells_are_judged()
-    ensures { CellsAreJudged }
-{}
-
-/// Worked: what the level of chains asks for before it plans a send.
-pub fn wants_are_judged()
-    ensures { WantsAreJudged }
 {}

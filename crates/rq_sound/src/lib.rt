@@ -7,9 +7,8 @@
 pub mod calls;
 
 ghost use Rattle.rq_sound.specs.Holders.{ViewsAreOfHolders};
-ghost use Rattle.rq_sound.specs.Sharing.{HoldersAreJudged};
 ghost use Rattle.rq_sound.specs.Theorems.{CallsKeepSoundness, InversesCanBePlanned, TestsAreAnswered, AbortsAreSteps, DeedsAreSteps, OpenedIsSound};
-ghost use Rattle.rq_sound.specs.Worked.{AbortBesideASend, NotSound, TwoUnderWay};
+ghost use Rattle.rq_sound.specs.Worked.{NotSound};
 
 /// Each call keeps a store sound: a begin; the start of a send, a receive, a close or an inverse, each of its writes
 /// and its end; a commit; the start and the end of an abort; a force; and the failure of a device.
@@ -51,24 +50,7 @@ pub fn opened_is_sound()
     ensures { OpenedIsSound }
 {}
 
-/// Worked: two sends are under way at once; one that would meet the first on a page or at an end may not start.
-pub fn two_sends_are_under_way()
-    ensures { TwoUnderWay }
-{}
-
 /// What no sound store has.
 pub fn unsound_stores()
     ensures { NotSound }
-{}
-
-/// Worked: a transaction aborts and undoes its send while another's is under way, and this one is committed then; and
-/// what may not come yet.
-pub fn an_abort_goes_on_beside_a_send()
-    ensures { AbortBesideASend }
-{}
-
-/// Worked: two transactions are open, one of which has taken the committed message of a sender, and the other sent one
-/// behind it; and what no sound store shows then.
-pub fn holders_are_judged()
-    ensures { HoldersAreJudged }
 {}
