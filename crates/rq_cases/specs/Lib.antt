@@ -18,3 +18,4 @@ pub mod Bounds
 pub mod Crashes
 pub mod Closes
 pub mod Replies
+pub mod Cases

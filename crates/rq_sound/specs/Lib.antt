@@ -21,3 +21,4 @@ pub mod Chosen
 pub mod Holders
 pub mod Lowest
 pub mod Inverses
+pub mod Laws

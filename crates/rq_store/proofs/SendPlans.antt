@@ -8,7 +8,7 @@ use Rattle.rq_views.specs.Chain.{Node, last, Linked, View, Shows}
 use Rattle.rq_views.specs.Log.{Slots, Write, HasBefores, Places, cells_of, cell_in, put}
 use Rattle.rq_views.specs.Plans.{ShowsAt, LinksTo, append_writes, with_next, IsAppend}
 use Rattle.rq_views.proofs.Chains.{last_is, last_pos}
-use Rattle.rq_views.proofs.Laws.{shows_here}
+use Rattle.rq_views.proofs.ChainLaws.{shows_here}
 use Rattle.rq_views.proofs.Overlay.{put_off}
 use Rattle.rq_store.specs.Plans.{Stands_at}
 
