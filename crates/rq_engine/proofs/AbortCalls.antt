@@ -11,16 +11,13 @@ use Rattle.rq_model.specs.declared.record.Deed.{Deed}
 use Rattle.rq_model.specs.declared.record.Deed.TheVariants.{Append, UnlinkHead, Close}
 use Rattle.rq_model.specs.declared.record.Record.{Record}
 use Rattle.rq_model.specs.declared.record.Record.TheVariants.{AbortEnd}
-use Rattle.rq_model.specs.declared.refusal.Refusal.{Refusal}
 use Rattle.rq_model.specs.declared.refusal.Refusal.TheVariants as why
-use Rattle.rq_model.specs.Causes.{HasCause}
-use Rattle.rq_model.specs.History.{Call}
 use Rattle.rq_model.specs.History.Call.{End_abort, Finish, Start_abort, Undo_next}
 use Rattle.rq_model.specs.Ledger.{found, runs}
 use Rattle.rq_model.specs.Legal.{OnFound}
 use Rattle.rq_model.specs.Tests.{IsUnready}
 use Rattle.rq_model.specs.Replay.Reply.{Gave_aborted, Gave_aborting, Gave_nothing_left, Gave_sub, Gave_undone}
-use Rattle.rq_model.specs.Tests.{NoneHolds, Passes, first_of, has_done, is_aborting, is_busy, log_full, newest, ready_tests, undo_cost}
+use Rattle.rq_model.specs.Tests.{NoneHolds, Passes, has_done, is_aborting, is_busy, log_full, newest, ready_tests, undo_cost}
 use Rattle.rq_model.specs.Words.{In, first, front, is_some, last, last_or, same_txn}
 use Rattle.rq_model.proofs.Lists.{same_is}
 use Rattle.rq_page.specs.Sizes.{cell_count}
@@ -34,7 +31,7 @@ use Rattle.rq_views.specs.Plans.{deed_sender}
 use Rattle.rq_views.specs.Stored.{slots_in, count_used}
 use Rattle.rq_txn.specs.declared.Aim.TheVariants.{Undoing}
 use Rattle.rq_txn.specs.declared.Finished.{Finished}
-use Rattle.rq_txn.specs.Rows.{AreDistinct, Row, Under, any_under, change_row, found_row, row_aborting, row_started, row_taken_back, row_undone, without_row}
+use Rattle.rq_txn.specs.Rows.{AreDistinct, Row, Under, change_row, found_row, row_aborting, row_started, row_taken_back, row_undone, without_row}
 use Rattle.rq_txn.proofs.Finding.{change_none}
 use Rattle.rq_groups.specs.Ends.{HeldEnds, released}
 use Rattle.rq_store.specs.State.{State, job_under, ledger_of, op_done, open_of, phase_of, size_of}

@@ -1,5 +1,5 @@
 -- What the calls answer, from what their bodies found and made.
-use Rattle.std.proofs.Common.{◌≡◌, ℕ, zero, suc, ◌+◌, ◌-◌, ◌*◌, ◌^◌, ◌<◌, ◌≤◌, ◌&&◌, List, [], ◌∷◌, length, map, refl, sym, ◌∙◌, ap, subst, Bool, true, false, not, nat_eq, nat_lt, Option, Some, None, IfSome, arith, inl, inr, ◌⊎◌}
+use Rattle.std.proofs.Common.{◌≡◌, ℕ, zero, suc, ◌+◌, ◌-◌, ◌*◌, ◌<◌, ◌≤◌, ◌&&◌, List, [], ◌∷◌, length, map, refl, sym, ◌∙◌, ap, subst, Bool, true, false, not, nat_eq, nat_lt, Option, Some, None, IfSome, arith, inl, inr, ◌⊎◌}
 use Rattle.std.specs.List.{sum_by, slice_get, slice_index_or}
 use Rattle.std.proofs.lemmas.Bool.{cases_Bool, false_from_ne_true, eqb-true, eq-eqb, and_from, lt-ltb}
 use Rattle.std.proofs.lemmas.List.Sums.{sum_by-cons}
@@ -52,7 +52,7 @@ use Rattle.rq_model.specs.Tests.{any_busy, below}
 use Rattle.rq_model.specs.Commits.{committed_of}
 use Rattle.rq_page.specs.Sizes.{sender_count}
 use Rattle.rq_engine.proofs.Standing.{going_at, step_steps, finish_steps, commit_steps}
-use Rattle.rq_engine.specs.Kept.{EndFits, IsKept, end_bytes, room_one, room_of, done_one}
+use Rattle.rq_engine.specs.Kept.{EndFits, IsKept, end_bytes, room_one, room_of}
 use Rattle.rq_engine.specs.Moves.{with_sends, with_taken, without_taken}
 use Rattle.rq_engine.proofs.Waits.{waits-with_sends, waits-without_taken}
 use Rattle.rq_engine.specs.Answers.{Refuses, OnUnder, IsUnderWay, IsNotUnderWay, NotFound, IsOther, Idle, CannotFinish, IsMade, HasNothingUnderWay}

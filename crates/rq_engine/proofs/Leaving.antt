@@ -1,13 +1,12 @@
 -- What a refusal leaves of the store.
-use Rattle.std.proofs.Common.{◌≡◌, false, true, OnErr, Option, Some, None, Result, Ok, Err}
+use Rattle.std.proofs.Common.{◌≡◌, false, OnErr, Option, Some, None, Result, Ok, Err}
 use Rattle.rq_model.specs.declared.txn.Sub.{Sub}
 use Rattle.rq_model.specs.declared.refusal.Refusal.{Refusal}
 use Rattle.rq_model.specs.declared.refusal.Refusal.TheVariants as why
-use Rattle.rq_disk.specs.declared.device.LogDevice as log_device
 use Rattle.rq_engine.specs.declared.event.Event.{Event}
 use Rattle.rq_engine.specs.declared.event.Reply.{Reply}
 use Rattle.rq_engine.specs.declared.event.Reply.TheVariants as reply
-use Rattle.rq_engine.specs.Opened.{OpenStore, NotWritten}
+use Rattle.rq_engine.specs.Opened.{OpenStore}
 use Rattle.rq_engine.specs.Applied.{RefusalLeaves}
 use Rattle.rq_engine.specs.Says.{begun_reply, call_of, undo_reply}
 use Rattle.rq_model.specs.Causes.{writes_out}

@@ -4,7 +4,6 @@ use Rattle.std.proofs.lemmas.List.{length-drop, length-map}
 use Rattle.rq_model.specs.declared.record.Record.{Record}
 use Rattle.rq_model.specs.declared.refusal.Refusal.{Refusal}
 use Rattle.rq_model.specs.declared.refusal.Refusal.TheVariants as why
-use Rattle.rq_model.specs.declared.refusal.Damage.TheVariants as damage
 use Rattle.rq_model.specs.declared.record.Record.TheVariants as records
 use Rattle.rq_model.specs.Incarnations.{Extends, incarnation_of}
 use Rattle.rq_model.specs.Commits.{committed_of}
@@ -34,9 +33,8 @@ use Rattle.rq_lost.specs.Recovered.{IsRecovered, IsRecoveredFrom}
 use Rattle.rq_lost.proofs.Recovering.{recovered_from}
 use Rattle.rq_rules.proofs.Whole.{whole_logs}
 use Rattle.rq_restart.specs.Aborting.IsAborting.{Between}
-use Rattle.rq_restart.specs.Checked.{WasGoneThrough}
-use Rattle.rq_restart.specs.Mended.{ArePlannedFrom, IsMended, MendStops}
-use Rattle.rq_restart.specs.Refused.{BeginsNot, WhyNotBegun, WhyShut}
+use Rattle.rq_restart.specs.Mended.{ArePlannedFrom, IsMended}
+use Rattle.rq_restart.specs.Refused.{BeginsNot, WhyNotBegun}
 use Rattle.rq_restart.specs.Restarting.{IsBegun, IsBegunBehind, IsOpenedOver, Reports}
 use Rattle.rq_restart.specs.Repeating.{Paged, Repeats}
 use Rattle.rq_restart.specs.Undoing.{IsBadUndo}

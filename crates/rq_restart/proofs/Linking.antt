@@ -1,19 +1,15 @@
 -- Chains that are not whole once the log is mended.
-use Rattle.std.proofs.Common.{◌≡◌, ◌/◌, ◌%◌, ◌≤◌, ℕ, zero, suc, List, true, cond, nat_lt, inl, inr, refl, sym, subst, arith}
-use Rattle.std.proofs.lemmas.Bool.{cases_Bool, false≢true}
+use Rattle.std.proofs.Common.{List, refl}
 use Rattle.rq_model.specs.declared.record.Record.{Record}
 use Rattle.rq_model.specs.declared.refusal.Refusal.{Refusal}
 use Rattle.rq_model.specs.declared.refusal.Refusal.TheVariants as why
 use Rattle.rq_model.specs.declared.refusal.Damage.TheVariants as damage
-use Rattle.rq_page.specs.Pages.{slot_of}
 use Rattle.rq_page.specs.Sizes.{Sizes}
-use Rattle.rq_page.specs.Slots.{held_in}
-use Rattle.rq_page.specs.Slots.Slot.{Free}
 use Rattle.rq_pool.specs.Pooled.{IsPool, Pooled}
-use Rattle.rq_views.specs.Stored.{is_used, slots_in}
+use Rattle.rq_views.specs.Stored.{slots_in}
 use Rattle.rq_store.specs.Opening.{IsLeft}
 use Rattle.rq_lost.specs.Recovered.{IsRecovered}
-use Rattle.rq_links.specs.Links.{AreLinked, IsFault}
+use Rattle.rq_links.specs.Links.{AreLinked}
 use Rattle.rq_links.proofs.Faults.{faults_exact}
 use Rattle.rq_links.proofs.Sound.{sound_linked}
 use Rattle.rq_restart.specs.Mended.{ArePlannedFrom, IsMended, LinkStops, MendStops}

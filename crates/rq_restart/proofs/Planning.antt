@@ -1,5 +1,5 @@
 -- What is due can be planned to be taken back.
-use Rattle.std.proofs.Common.{◌≡◌, ℕ, ◌/◌, ◌<◌, ◌≤◌, List, [], Option, Some, None, refl, sym, ◌∙◌, ap, subst, false, arith}
+use Rattle.std.proofs.Common.{◌≡◌, ℕ, ◌/◌, ◌<◌, List, [], Option, Some, None, refl, sym, ◌∙◌, ap, subst, false, arith}
 use Rattle.rq_model.specs.declared.record.Deed.{Deed}
 use Rattle.rq_model.specs.declared.record.Deed.TheVariants.{Append, UnlinkHead, Close}
 use Rattle.rq_model.specs.declared.record.Record.{Record}
@@ -34,7 +34,7 @@ use Rattle.rq_links.proofs.Chains.{sender_same}
 use Rattle.rq_lost.specs.declared.dues.Due.{Due}
 use Rattle.rq_lost.specs.Dues.{deed_due}
 use Rattle.rq_lost.specs.Walk.{ShowsUndone, StandsLast}
-use Rattle.rq_restart.specs.Aborting.{IsNotUndone, IsPlannedBack, PlanStops, blamed_on}
+use Rattle.rq_restart.specs.Aborting.{IsPlannedBack, PlanStops, blamed_on}
 
 -- ---- what a sound store shows to be done last, with nothing under way, can be taken back
 

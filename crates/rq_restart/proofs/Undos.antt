@@ -15,10 +15,10 @@ use Rattle.rq_store.specs.Opening.{MayRedo, Redoes}
 use Rattle.rq_store.specs.Fitting.{told_by}
 use Rattle.rq_undone.specs.declared.history.Spot.{Spot}
 use Rattle.rq_undone.specs.Analysis.{Analysis, analysis}
-use Rattle.rq_undone.specs.Pages.{IsNextUndo, IsUndoing, IsUndone, work}
+use Rattle.rq_undone.specs.Pages.{IsNextUndo, IsUndoing, work}
 use Rattle.rq_undone.specs.Pages.IsNextUndo.{Voids, Undoes}
 use Rattle.rq_undone.proofs.Lists.{in_newest, in_spots, in_with, in_without, sub_in}
-use Rattle.rq_undone.proofs.Undos.{undo_leaves_less, undoing_more, undoing_none}
+use Rattle.rq_undone.proofs.Undos.{undo_leaves_less, undoing_more}
 use Rattle.rq_rules.specs.Rules.{CanBeRead}
 use Rattle.rq_restart.specs.Found.{MayFollow}
 use Rattle.rq_restart.specs.Repeating.{AreCounted, Belongs, IsRepeated, Marks, Paged, Repeats}

@@ -1,10 +1,7 @@
 -- What is asked for a transaction is called for it.
-use Rattle.std.proofs.Common.{refl}
-use Rattle.std.specs.Prelude.{Some, None}
-use Rattle.rq_model.specs.declared.txn.Txn.{Txn}
-use Rattle.rq_model.specs.History.Call.{Begin, Commit, Force}
+use Rattle.rq_model.specs.History.Call.{Begin, Commit}
 use Rattle.rq_session.specs.declared.calls.Ask.TheVariants as asks
-use Rattle.rq_serving.specs.Words.{IsOwnCall, OwnCalls}
+use Rattle.rq_serving.specs.Words.{OwnCalls}
 
 pub own_calls : OwnCalls
 own_calls own asks.Begin i = i
