@@ -43,6 +43,18 @@ fn directory_of(plan: &ChainPlan, place: usize) -> Option<(u64, DirectorySlot)> 
     Some((at, DirectorySlot::decode(&slot)?))
 }
 
+// Whether a plan does this deed by two writes: of the first cell, and of the slot of sender 3.
+fn is_of_two(plan: &ChainPlan, cell: CellSlot, directory: Directory, deed: &Deed) -> bool {
+    let group = DirectorySlot {
+        sender: 3,
+        directory,
+    };
+    plan.writes.len() == 2
+        && cell_of(plan, 0) == Some((33, cell))
+        && directory_of(plan, 1) == Some((20, group))
+        && plan.deed == *deed
+}
+
 // The plan of the first message of a group.
 fn first_append(alloc: Global) -> Result<ChainPlan, Fail> {
     let layout = Layout::new(1, 1).ok_or("a small store")?;
@@ -171,16 +183,13 @@ fn the_first_message_takes_two_writes(rt: HostRuntime) -> Result<(), Fail> {
         prev: Addr::NONE,
         body: hello()?,
     };
-    let group = DirectorySlot {
-        sender: 3,
-        directory: Directory {
-            closed: false,
-            sent: 1,
-            received: 0,
-            last_tag: 7,
-            head: first,
-            tail: first,
-        },
+    let group = Directory {
+        closed: false,
+        sent: 1,
+        received: 0,
+        last_tag: 7,
+        head: first,
+        tail: first,
     };
     let deed = Deed::Append {
         sender: 3,
@@ -189,26 +198,20 @@ fn the_first_message_takes_two_writes(rt: HostRuntime) -> Result<(), Fail> {
         previous: 0,
         body: hello()?,
     };
-    assert!(rt; plan.writes.len() == 2);
-    assert!(rt; cell_of(&plan, 0) == Some((33, CellSlot::Used(cell))));
-    assert!(rt; directory_of(&plan, 1) == Some((20, group)));
-    assert!(rt; plan.deed == deed);
+    assert!(rt; is_of_two(&plan, CellSlot::Used(cell), group, &deed));
     Ok(())
 }
 
 #[test]
 fn the_only_message_leaves_an_empty_group(rt: HostRuntime) -> Result<(), Fail> {
     let plan = only_unlink(rt.alloc())?;
-    let group = DirectorySlot {
-        sender: 3,
-        directory: Directory {
-            closed: false,
-            sent: 5,
-            received: 5,
-            last_tag: 7,
-            head: Addr::NONE,
-            tail: Addr::NONE,
-        },
+    let group = Directory {
+        closed: false,
+        sent: 5,
+        received: 5,
+        last_tag: 7,
+        head: Addr::NONE,
+        tail: Addr::NONE,
     };
     let deed = Deed::UnlinkHead {
         sender: 3,
@@ -216,10 +219,7 @@ fn the_only_message_leaves_an_empty_group(rt: HostRuntime) -> Result<(), Fail> {
         tag: 7,
         body: hello()?,
     };
-    assert!(rt; plan.writes.len() == 2);
-    assert!(rt; cell_of(&plan, 0) == Some((33, CellSlot::Free)));
-    assert!(rt; directory_of(&plan, 1) == Some((20, group)));
-    assert!(rt; plan.deed == deed);
+    assert!(rt; is_of_two(&plan, CellSlot::Free, group, &deed));
     Ok(())
 }
 
