@@ -81,7 +81,8 @@ class Cases:
         with ThreadPoolExecutor(os.cpu_count()) as pool:
             faults = [fault for fault in pool.map(lambda name: self.fault(program, name), names) if fault]
         print("".join(f"{fault}\n" for fault in faults), end="")
-        print(f"{len(names) - len(faults)} of {len(names)} files of {self.folder.relative_to(TOP)} print what they should")
+        right = f"{len(names) - len(faults)} of {len(names)} files of {self.folder.relative_to(TOP)}"
+        print(f"{right} print what they should ({os.path.basename(program)})")
         return not faults
 
 
