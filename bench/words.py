@@ -32,8 +32,7 @@ ROWS = [
     (["calls", "4", "2"], b"", "7168 calls\n"),
 ]
 
-# Of one run of the program.
-MOST_SECONDS = 60
+MOST_SECONDS = 60  # of one run of the program
 
 # What is no word, or lacks one, or is at fault: nothing is printed, and the status is 1.
 REFUSED = [
@@ -50,11 +49,11 @@ REFUSED = [
 
 
 def ended(program, words, stdin, folder):
-    """The status, and what was printed; both None where it does not end."""
+    """The status, or that it did not end, and what was printed."""
     try:
         run = subprocess.run([program, *words], input=stdin, capture_output=True, cwd=folder, timeout=MOST_SECONDS)
     except subprocess.TimeoutExpired:
-        return None, None
+        return f"no end in {MOST_SECONDS} seconds", ""
     return run.returncode, run.stdout.decode(errors="backslashreplace")
 
 
