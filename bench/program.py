@@ -18,6 +18,14 @@ def built(path=None):
     return str(PROGRAM)
 
 
+def built_twice(path=None):
+    """The program at a path; without one that of the crate, and beside it the one that Rattle's own compiler builds, where it is
+    there: `rt ci` leaves both."""
+    program = built(path)
+    other = f"{program}.by-rattle"
+    return [program] if path or not os.path.exists(other) else [program, other]
+
+
 def parser(description):
     """A reader of words that has `--program`."""
     words = argparse.ArgumentParser(description=description, formatter_class=argparse.RawDescriptionHelpFormatter)

@@ -1,13 +1,15 @@
 #!/usr/bin/env python3
-"""Has each word of the program of crates/bench do a little, and compares what it prints with what it has to.
+"""Has each word of the program of crates/bench do a little, and compares what it prints with what it has to. Where `rt ci`
+left the program as Rattle's own compiler builds it too, that one runs them all as well.
 
     python3 bench/words.py [--program PROGRAM]
 """
+import os
 import subprocess
 import sys
 import tempfile
 
-from program import CRATE, built, parser
+from program import CRATE, built_twice, parser
 
 # A restart of incarnation 1, and the commit of the transaction 1.1.
 LOG = b"\0\0\0\x09\x07" + (1).to_bytes(8, "big") + b"\0\0\0\x11\x06" + (1).to_bytes(8, "big") * 2
@@ -30,6 +32,8 @@ ROWS = [
     (["calls", "4", "2"], b"", "7168 calls\n"),
 ]
 
+MOST_SECONDS = 60  # of one run of the program
+
 # What is no word, or lacks one, or is at fault: nothing is printed, and the status is 1.
 REFUSED = [
     (["decode"], LOG[:-1]),
@@ -45,20 +49,28 @@ REFUSED = [
 
 
 def ended(program, words, stdin, folder):
-    """The status, and what was printed."""
-    run = subprocess.run([program, *words], input=stdin, capture_output=True, cwd=folder)
-    return run.returncode, run.stdout.decode()
+    """The status, or that it did not end, and what was printed."""
+    try:
+        run = subprocess.run([program, *words], input=stdin, capture_output=True, cwd=folder, timeout=MOST_SECONDS)
+    except subprocess.TimeoutExpired:
+        return f"no end in {MOST_SECONDS} seconds", ""
+    return run.returncode, run.stdout.decode(errors="backslashreplace")
 
 
-def main():
-    program = built(parser(__doc__).parse_args().program)
+def check(program):
+    """Runs all rows by a program, in a folder of their own. Ends at the first that comes to something else."""
     wanted = [(*row[:2], 0, row[2]) for row in ROWS] + [(*row, 1, "") for row in REFUSED]
     with tempfile.TemporaryDirectory() as folder:
         for words, stdin, status, output in wanted:
             came = ended(program, words, stdin, folder)
             if came != (status, output):
-                sys.exit(f"bench {' '.join(words)}: {came}, and not {(status, output)}")
-    print(f"{len(wanted)} runs of bench print what they have to")
+                sys.exit(f"{program} {' '.join(words)}: {came}, and not {(status, output)}")
+    print(f"{len(wanted)} runs of {os.path.basename(program)} print what they have to")
+
+
+def main():
+    for program in built_twice(parser(__doc__).parse_args().program):
+        check(program)
 
 
 if __name__ == "__main__":

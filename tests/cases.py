@@ -8,6 +8,8 @@ from concurrent.futures import ThreadPoolExecutor
 
 TOP = pathlib.Path(__file__).resolve().parent.parent
 
+MOST_SECONDS = 60  # of one run of a program
+
 
 def built(path, crate):
     """The program at a path; without one that of a crate, which is proved and built first where it is not there."""
@@ -17,6 +19,14 @@ def built(path, crate):
     if not program.exists():
         subprocess.run(["rt", "run"], cwd=TOP / "crates" / crate, check=True, stdout=subprocess.DEVNULL)
     return str(program)
+
+
+def built_twice(path, crate):
+    """The program at a path; without one that of a crate, and beside it the one that Rattle's own compiler builds, where it is
+    there: `rt ci` leaves both."""
+    program = built(path, crate)
+    other = f"{program}.by-rattle"
+    return [program] if path or not os.path.exists(other) else [program, other]
 
 
 class Cases:
@@ -50,12 +60,15 @@ class Cases:
         """What is wrong with what a case prints; None where nothing is."""
         file, words = self.folder / f"{name}.{self.kind}", self.words_of(name)
         expected = self.expected(name)
-        with open(file, "rb") as lines:
-            ran = subprocess.run([program, *self.subcommand, *words], stdin=lines, capture_output=True)
+        replay = f"{name}: {' '.join([program, *self.subcommand, *words])} < {file}"
+        try:
+            with open(file, "rb") as lines:
+                ran = subprocess.run([program, *self.subcommand, *words], stdin=lines, capture_output=True, timeout=MOST_SECONDS)
+        except subprocess.TimeoutExpired:
+            return f"{replay}\n    did not end in {MOST_SECONDS} seconds"
         status = status_of(expected.splitlines())
         if ran.stdout == expected and ran.returncode == status:
             return None
-        replay = f"{name}: {' '.join([program, *self.subcommand, *words])} < {file}"
         differs = first_difference(ran.stdout.split(b"\n"), expected.split(b"\n"))
         if differs is None:
             return f"{replay}\n    wanted exit status {status}, ended with {ran.returncode}"
@@ -68,7 +81,8 @@ class Cases:
         with ThreadPoolExecutor(os.cpu_count()) as pool:
             faults = [fault for fault in pool.map(lambda name: self.fault(program, name), names) if fault]
         print("".join(f"{fault}\n" for fault in faults), end="")
-        print(f"{len(names) - len(faults)} of {len(names)} files of {self.folder.relative_to(TOP)} print what they should")
+        right = f"{len(names) - len(faults)} of {len(names)} files of {self.folder.relative_to(TOP)}"
+        print(f"{right} print what they should ({os.path.basename(program)})")
         return not faults
 
 

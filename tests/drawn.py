@@ -13,9 +13,7 @@ import sys
 import tempfile
 from collections import Counter
 
-from cases import built
-
-MOST_SECONDS = 60
+from cases import MOST_SECONDS, built
 
 
 class Door:
@@ -44,13 +42,15 @@ class Door:
 
 
 def run(door, program, lines, sizes):
-    """The lines that the program prints, and its exit status."""
+    """The lines that the program prints, and its exit status. What stands behind the last newline is a line too, which the
+    reference never has."""
     try:
         given = b"".join(line + b"\n" for line in lines)
         ran = subprocess.run([program, *door.subcommand, *door.words(sizes)], input=given, capture_output=True, timeout=MOST_SECONDS)
     except subprocess.TimeoutExpired:
         return [b"(no end)"], None
-    return ran.stdout.split(b"\n")[:-1], ran.returncode
+    *printed, rest = ran.stdout.split(b"\n")
+    return printed + ([b"(no newline) " + rest] if rest else []), ran.returncode
 
 
 def is_wrong(door, program, lines, sizes):

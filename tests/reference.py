@@ -1,7 +1,10 @@
 """The queue as plain lists: what each call of a store answers, what a crash leaves, and what a restart then does.
 
-Written from what the queue promises, and from nothing of its code: a history of committed transactions, a log of records, and
-of each page the LSNs of its images. Doors to it are tests/courses.py (scripts) and tests/worlds.py (happenings).
+Written from what the queue promises, and not from its code: a history of committed transactions, a log of records, and of each
+page the LSNs of its images. Two things are no promise, and are taken from the program. The reads of an opening are counted as
+it makes them (`Devices.reads`): that decides in which of its calls a stop or a failure comes. And a receive from any sender
+tries groups in the program's order, where no line that was told says which one it took (`Store.start_receive`).
+Doors to it are tests/courses.py (scripts) and tests/worlds.py (happenings).
 
 A transaction is a pair (incarnation, count), an operation a pair (transaction, number). Of a page only its LSN is kept: an image
 has all changes of its page up to its LSN.

@@ -1,5 +1,6 @@
 #!/usr/bin/env python3
-"""Runs the scripts of tests/scripts by the proved program, and compares what each prints with the file beside it.
+"""Runs the scripts of tests/scripts by the proved program, and compares what each prints with the file beside it. Where
+`rt ci` left the program as Rattle's own compiler builds it too, that one runs them all as well.
 
 NAME.script is the input and NAME.expected all of the output. NAME.words has the words that say how large the store is; where it
 is absent, they are `--directory 1 --cells 1`. The exit status has to be 1 where the last line is a fault, else 0. By hand:
@@ -11,7 +12,7 @@ is absent, they are `--directory 1 --cells 1`. The exit status has to be 1 where
 import argparse
 import sys
 
-from cases import Cases, built
+from cases import Cases, built_twice
 
 SCRIPTS = Cases("scripts", "script", ["run"], ["--directory", "1", "--cells", "1"])
 
@@ -21,7 +22,8 @@ def main():
     words.add_argument("--program", help="a program that was built elsewhere")
     words.add_argument("names", nargs="*", metavar="NAME", help="these scripts alone")
     chosen = words.parse_args()
-    sys.exit(0 if SCRIPTS.run(built(chosen.program, "rqm"), chosen.names) else 1)
+    ran = [SCRIPTS.run(program, chosen.names) for program in built_twice(chosen.program, "rqm")]
+    sys.exit(0 if all(ran) else 1)
 
 
 if __name__ == "__main__":

@@ -1,16 +1,11 @@
 -- A log at its bound.
-use Rattle.std.proofs.Common.{◌≡◌, ⊎_elim, ℕ, zero, suc, ◌+◌, ◌-◌, ◌*◌, ◌^◌, ◌≤◌, ◌<◌, Bool, false, true, not, nat_lt, cond, List, [], ◌∷◌, length, drop, replicate, Option, Some, None, refl, sym, ap, ◌∙◌, subst, inl, inr, arith}
-use Rattle.std.specs.List.{filter, slice_index, sum_by}
+use Rattle.std.proofs.Common.{◌≡◌, ⊎_elim, ℕ, zero, suc, ◌+◌, ◌-◌, ◌^◌, ◌≤◌, ◌<◌, Bool, false, true, not, nat_lt, cond, List, [], ◌∷◌, length, drop, Option, Some, None, refl, sym, ap, ◌∙◌, subst, inl, inr, arith}
+use Rattle.std.specs.List.{filter, sum_by}
 use Rattle.std.proofs.lemmas.Bool.{cases_Bool, lt-ltb, ltb-true}
-use Rattle.rq_bytes.specs.Number.{AreBytes}
-use Rattle.rq_record.specs.Deeds.{IsDeed}
-use Rattle.rq_record.proofs.DeedParts.{deeds_are_told}
-use Rattle.rq_views.specs.WorkedItems as worked
 use Rattle.rq_model.specs.declared.record.Record.{Record}
 use Rattle.rq_model.specs.declared.refusal.Refusal.{Refusal}
 use Rattle.rq_model.specs.declared.refusal.Refusal.TheVariants as why
 use Rattle.rq_model.specs.declared.txn.Txn.{Txn}
-use Rattle.rq_model.specs.Words.{In}
 use Rattle.rq_model.specs.Commits.{committed_of}
 use Rattle.rq_model.specs.Content.{has_end}
 use Rattle.rq_model.specs.History.{Call}
@@ -29,36 +24,32 @@ use Rattle.rq_disk.specs.declared.mem_log.MemLog.{MemLog}
 use Rattle.rq_disk.specs.declared.mem_pages.MemPages.{MemPages}
 use Rattle.rq_log.specs.Spelled.{AreSpelled}
 use Rattle.rq_page.specs.Sizes.{Sizes}
-use Rattle.rq_level.specs.Writes.{AreSlotWrites}
 use Rattle.rq_txn.specs.declared.Finished.{Finished}
 use Rattle.rq_groups.specs.Waiting.{waits}
 use Rattle.rq_engine.specs.Lists.{done_by}
 use Rattle.rq_engine.specs.Moves.{with_sends, with_tags}
 use Rattle.rq_engine.specs.declared.event.CommitNo.{CommitNo}
-use Rattle.rq_store.specs.Sound.{takes_one}
-use Rattle.rq_txn.specs.Rows.{Row, found_row, fresh_row, finished_of}
+use Rattle.rq_store.specs.Settled.{takes_one}
+use Rattle.rq_txn.specs.Rows.{found_row, fresh_row, finished_of}
 use Rattle.rq_store.specs.Fitting.{AllFit, FitsLog, image_in, left_by}
 use Rattle.rq_sound.specs.Sound.{IsSound}
 use Rattle.rq_store.specs.State.{State, ledger_of, size_of}
 use Rattle.rq_sound.specs.Steps.{Steps}
 use Rattle.rq_store.specs.Whole.{IsWhole}
-use Rattle.rq_store.proofs.Beginning.{begin_sound}
 use Rattle.rq_store.proofs.Cutting.{fits_log_longer}
 use Rattle.rq_store.proofs.Formatting.{formatted_fits}
-use Rattle.rq_store.proofs.Opening.{opened_sound, restarted_whole, sends_here}
-use Rattle.rq_store.specs.Opening.{next_restart}
-use Rattle.rq_store.specs.Sends.{KeepsSends}
+use Rattle.rq_store.proofs.Opening.{restarted_whole}
 use Rattle.rq_groups.specs.Sent.{sent_count, sent_tag}
+use Rattle.rq_sound.proofs.Contracts.{calls_keep}
 use Rattle.rq_sound.proofs.DeedSteps.{deed_steps}
-use Rattle.rq_store.proofs.SendStarts.{start_steps}
-use Rattle.rq_store.proofs.WorkedSound.{whole_empty}
-use Rattle.rq_engine.specs.Kept.{IsKept, IsRowKept}
+use Rattle.rq_sound.proofs.Opened.{opened_sound}
+use Rattle.rq_store.proofs.WorkedFits.{whole_empty}
 use Rattle.rq_engine.specs.Says.{commit_number}
 use Rattle.rq_engine.specs.declared.event.Event.TheVariants as event
 use Rattle.rq_engine.specs.declared.event.Reply.TheVariants as reply
 use Rattle.rq_engine.proofs.Crashing.{fit_kept, runs_through_cuts}
 use Rattle.rq_engine.proofs.Refusals.{refuse, refuse_full}
-use Rattle.rq_engine.proofs.Standing.{close_steps}
+use Rattle.rq_engine.proofs.Standing.{close_steps, start_steps}
 use Rattle.rq_undone.specs.Analysis.{analysis}
 use Rattle.rq_undone.proofs.Undos.{nothing_undone, undoing_none}
 use Rattle.rq_restart.specs.Aborting.{RepeatedFrom}
@@ -81,19 +72,16 @@ use Rattle.rq_cases.specs.Closes.{close_under}
 use Rattle.rq_cases.specs.Opened.{over}
 use Rattle.rq_cases.specs.Openings.{Checked, IsRefused}
 use Rattle.rq_cases.specs.Restarting.{read_pages}
-use Rattle.rq_cases.specs.Run.{send_started, send_under, waits_of_0}
+use Rattle.rq_cases.specs.Run.{send_under}
 use Rattle.rq_cases.specs.Sound.{hello}
-use Rattle.rq_cases.specs.Store.{count_sent, fill_cell, formatted_pages, sizes}
+use Rattle.rq_cases.specs.Store.{formatted_pages, sizes}
 use Rattle.rq_cases.specs.Worlds.{Hold}
 use Rattle.rq_cases.proofs.Closes.{close_plan}
 use Rattle.rq_cases.proofs.Held.{leaves_beginning, log_seen, pages_fit, pages_now, same_beginning}
 use Rattle.rq_cases.proofs.Openings.{formatted_are, only_read}
-use Rattle.rq_cases.proofs.Pages.{are_formatted, cell_told, free_told, new_told, range, sent_told}
+use Rattle.rq_cases.proofs.Pages.{are_formatted, range}
 use Rattle.rq_cases.proofs.Restarting.{counted_read, pages_seen_are}
-use Rattle.rq_cases.proofs.Running as one
-use Rattle.rq_cases.proofs.Several.{steps_of, still}
-use Rattle.rq_sound.proofs.Instance.{instance_sound}
-use Rattle.rq_store.specs.Sound as one_sound
+use Rattle.rq_cases.proofs.Running.{first_sound, send_plan}
 
 -- what such a log is of
 incarnation_is : (n : ℕ) → incarnation_of (restarts n) ≡ n
@@ -142,22 +130,13 @@ fit : (n : ℕ) → FitsLog sizes (image_in formatted_pages) (restarts n)
 fit n = fits_log_longer sizes (image_in formatted_pages) [] (restarts n) (n, all_new n) (formatted_fits sizes (image_in formatted_pages) range are_formatted)
 
 -- the store over it is sound
-open_one : (n : ℕ) → one_sound.IsSound (just_opened n)
-open_one n =
+opened_one : (n : ℕ) → IsSound (just_opened n)
+opened_one n =
     opened_sound sizes formatted_pages (restarts n) range (whole n) (none_unfinished n) (none_lost n)
-    (λ a. one.first_sound.pages a ∙ sym (same_slots n a)) (fit n)
-
--- it keeps that nothing was sent
-keeps_sends : (n : ℕ) → KeepsSends sizes (next_restart (restarts n) ∷ restarts n) (just_opened n).sent
-keeps_sends n =
-    sends_here sizes formatted_pages (restarts n) range (whole n) (none_unfinished n) (none_lost n)
-    (λ a. one.first_sound.pages a ∙ sym (same_slots n a))
-
-begun_one : (n : ℕ) → one_sound.IsSound (one_begun n)
-begun_one n = begin_sound (just_opened n) (open_one n)
+    (λ a. first_sound.pages a ∙ sym (same_slots n a)) (fit n)
 
 begun_sound : (n : ℕ) → IsSound (one_begun n)
-begun_sound n = instance_sound (one_begun n) (begun_one n) (still refl (keeps_sends n))
+begun_sound n = calls_keep.begins (just_opened n) (opened_one n)
 
 -- tests that all pass tell no refusal
 pub none_first : (tests : List (Bool × Refusal)) → NoneHolds tests → first_of tests ≡ None
@@ -218,9 +197,7 @@ module _ (n : ℕ) where
   commits le = (_, deed_steps.commits s (fresh_row t) s.cells_in_use s.waiting s.sent (begun_sound n) refl (record { idle = record { at_row = at_row; idle = refl }; forward = refl; freed = omega arith; waits = λ g low. omega arith; counts = λ g low. omega arith; tags = λ g low. refl }) (commit_free le))
 
   sends : n + 5 ≤ 2 ^ 50 → (new : State) × Sends n 1 new
-  sends le =
-      let none = one.first_cells in
-      (_, steps_of (still refl (keeps_sends n)) (start_steps s (begun_one n) t (fresh_row t) (send_under 0) 0 7 (104 ∷ []) at_row refl refl one.send_plan refl (omega (arith, none)) (send_passes le)))
+  sends le = (_, start_steps s (begun_sound n) t (fresh_row t) (send_under 0) 0 7 (104 ∷ []) at_row refl (λ page of. refl) refl send_plan (send_passes le))
 
   send_refused : 2 ^ 50 < n + 5 → IsFullForSend n s
   send_refused le =
@@ -389,7 +366,7 @@ abbrev mends : (n : ℕ) → IsMended (restarts n) (restarts n)
 mends n = record { undone = restarts n; undoes = undoes n; aborting = behind_none (restarts n); ended = ended n; none_lost = λ e. refl }
 
 linked : (n : ℕ) → AreLinked sizes (slots_on sizes read_pages)
-linked n = sound_linked.left sizes (slots_on sizes read_pages) (restarts n) (whole n) (none_unfinished n) (λ a. one.first_sound.pages a ∙ sym (same_slots n a))
+linked n = sound_linked.left sizes (slots_on sizes read_pages) (restarts n) (whole n) (none_unfinished n) (λ a. first_sound.pages a ∙ sym (same_slots n a))
 
 lost_none : (n : ℕ) → IsWhole sizes (restarts n) → lost (restarts n) ≡ []
 lost_none n w = sym (working_lost sizes (restarts n) w) ∙ ended n
@@ -451,57 +428,6 @@ module _ (n : ℕ) (pages : MemPages) (log : MemLog) (h : Hold pages formatted_p
       let long = b.full in
       omega (arith, low, e, d, f, long)
 
--- the room of an operation under way
-none_waits : (n g : ℕ) → slice_index (replicate n 0) g ≡ 0
-none_waits zero g = refl
-none_waits (suc n) zero = refl
-none_waits (suc n) (suc g) = none_waits n g
-
-slots_are : AreSlotWrites sizes (fill_cell ∷ count_sent ∷ [])
-slots_are zero d low = record {
-  place = record { page_low = omega arith; page_high = omega arith; slot = omega arith };
-  before = free_told.1;
-  after = cell_told.1;
-}
-slots_are (suc zero) d low = record {
-  place = record { page_low = omega arith; page_high = omega arith; slot = omega arith };
-  before = new_told.1;
-  after = sent_told.1;
-}
-slots_are (suc (suc k)) d low = absurd (omega (arith, low))
-
-one_byte : AreBytes (104 ∷ [])
-one_byte zero = omega arith
-one_byte (suc i) = omega arith
-
-sends_deed : IsDeed (worked.sends 0)
-sends_deed = (omega arith, (omega arith, omega arith, omega arith, omega arith, (omega arith, one_byte)))
-
-one_row : (r : Row) → In r send_started.rows → IsRowKept sizes 1 1 4 r
-one_row r (inl e) = subst (λ (x : Row). IsRowKept sizes 1 1 4 x) (sym e) (record {
-  mine = refl;
-  low = omega arith;
-  high = omega arith;
-  number = omega arith;
-  done = λ f none. absurd none;
-  under = record { number = omega arith; made = omega arith; slots = slots_are; sender = omega arith; fits = (omega arith, omega arith, deeds_are_told (worked.sends 0) sends_deed) };
-})
-one_row r (inr none) = absurd none
-
-kept : IsKept send_started false 3 (546 * 2 + 60)
-kept = record {
-  incarnation = omega arith;
-  fails = λ runs. refl;
-  owes = refl;
-  room = refl;
-  count = omega arith;
-  distinct = (refl, tt);
-  rows = one_row;
-  senders = refl;
-  few = λ g. (let e : slice_index (waits_of_0 0) g ≡ 0 = none_waits 15 g in omega (arith, e));
-  sent = record { counts = refl; tags = refl; few = λ g. (let e : slice_index (replicate 15 0) g ≡ 0 = none_waits 15 g in omega (arith, e)) };
-}
-
 -- with nothing under way, what a call counts as is all that is counted
 room_for : (n cost : ℕ) (s : State) → sum_by owed (ledger_of s).open_ones ≡ 0 → n + cost ≤ 2 ^ 50
     → log_full (record (ledger_of s) { records = n }) cost ≡ false
@@ -550,10 +476,6 @@ bounds = record {
   restart_is_full = λ n pages log le low h. full_restart n pages log h le low;
   restart_full_where_it_fits = λ n pages new_pages log new_log low h s.
       ⊎_elim (λ p. p.0) (λ l. fits_restart n pages log h l.0 _ new_log low l.5) s;
-  room_kept = kept;
-  less_room = λ k. (let e : 546 * 2 + 60 ≡ 546 * 2 + 59 = k.room in omega (arith, e));
-  another_count = λ k. (let e : 2 ≡ 3 = k.owes in omega (arith, e));
-  over_the_bound = λ s failed owed reserved over k. (let c = k.count in omega (arith, over, c));
 } where
   length_more : (n : ℕ) → length (one_begun n).records ≡ n + 1
   length_more n = (let e = length_is n in omega (arith, e))

@@ -22,7 +22,7 @@ use Rattle.rq_store.specs.Steps.{op_end, page_op}
 use Rattle.rq_cases.specs.Run.{log_1, log_5}
 use Rattle.rq_store.specs.Fitting.{image_in}
 use Rattle.rq_cases.specs.Sound.{IsImageOfPage}
-use Rattle.rq_cases.specs.Store.{cells_0, count_sent, fill_cell, formatted_pages, free_cell, groups_0, joined, page_image, part, sizes}
+use Rattle.rq_cases.specs.Store.{cells_0, count_sent, fill_cell, formatted_pages, groups_0, joined, page_image, part, sizes}
 use Rattle.rq_cases.proofs.Images.{either_long, length-free, length-superblock, part_long}
 use Rattle.rq_cases.proofs.Pages.{cells_0_long, groups_0_long}
 
@@ -143,12 +143,6 @@ first_spelled = ((omega arith, omega arith), tt)
 
 pub records_spelled : AreSpelled log_5
 records_spelled = ((in_range, fits), (end_is, (count_is, (fill_is, first_spelled))))
-
-pub free_is : IsRecord (page_op t1 1 free_cell)
-free_is = (
-  (in_range, omega arith, (omega arith, omega arith)),
-  (fits, omega arith, omega arith, omega arith, cell_image, free_image),
-)
 
 -- a record takes 13 bytes or more
 pub long_log : (log : List Record) → AreSpelled log → 13 * length log ≤ length (spelled log)

@@ -1,47 +1,31 @@
 -- Runs of calls of both devices, crashes that a course may meet, and pages and logs over their devices.
-use Rattle.std.proofs.Common.{◌≡◌, ◌≢◌, ⊎_elim, ℕ, zero, suc, ◌/◌, ◌%◌, ◌≤◌, ◌<◌, false, true, List, [], ◌∷◌, ◌++◌, length, take, drop, refl, sym, ap, ◌∙◌, subst, arith}
-use Rattle.std.proofs.lemmas.List.{append-nil, length-drop}
-use Rattle.std.proofs.Math.Seq.{take-length}
-use Rattle.rq_disk.specs.Records.{AreRecords}
+use Rattle.std.proofs.Common.{◌≡◌, ◌≢◌, ⊎_elim, ℕ, ◌≤◌, List, [], ◌∷◌, drop, refl, sym, ap, ◌∙◌, arith}
 use Rattle.rq_model.specs.Incarnations.{Ties}
-use Rattle.rq_model.specs.declared.record.Record.{Record}
 use Rattle.rq_model.specs.History.{Entry}
 use Rattle.rq_model.specs.History.Call.{Force}
 use Rattle.rq_model.specs.Ledger.{ledger}
 use Rattle.rq_model.specs.Promises.{CrashGoesOn}
 use Rattle.rq_disk.specs.Device.{Images}
-use Rattle.rq_disk.specs.Memory.{LogState, MayLeave, after_log_call, fresh_log, log_after, log_count, log_reads, log_seen as log_device_seen, pages_count}
+use Rattle.rq_disk.specs.Memory.{log_count, log_seen as log_device_seen, pages_count}
 use Rattle.rq_disk.specs.Shown.{log_of}
-use Rattle.rq_disk.specs.declared.mem_log.LogCall.TheVariants.{Append}
 use Rattle.rq_disk.specs.declared.mem_log.MemLog.{MemLog}
 use Rattle.rq_disk.specs.declared.mem_pages.MemPages.{MemPages}
 use Rattle.rq_log.specs.Spelled.{spelled}
-use Rattle.rq_log.proofs.Runs.{spelled_records, spelled_whole}
-use Rattle.rq_page.specs.Pages.{lsn_of}
-use Rattle.rq_page.specs.Sizes.{page_count}
-use Rattle.rq_pool.specs.Pooled.{AreOver, IsPool, image_at, is_changed}
-use Rattle.rq_pool.specs.Reading.{AreSeen}
 use Rattle.rq_store.specs.Fitting.{image_in}
 use Rattle.rq_engine.specs.Crash.{IsCut}
 use Rattle.rq_engine.specs.Devices.{EachPair, Path}
 use Rattle.rq_engine.specs.Devices.Path.{Log, Pages, Start}
-use Rattle.rq_restart.proofs.Parsing.{one_log}
 use Rattle.rq_core.specs.Devices.{mem_log, mem_pages}
 use Rattle.rq_core.specs.Happenings.{Happening, MayCrashIt}
 use Rattle.rq_core.specs.Happenings.Happening.{Crashes, Stops_in}
 use Rattle.rq_core.specs.Worked.{first_entries, small}
-use Rattle.rq_cases.specs.Crashes.{CrashesAreJudged, IsHandedSince, MayFail, PoolsAreJudged, RunsAreJudged}
-use Rattle.rq_cases.specs.Opened.{AreNewPages, IsNewLog}
+use Rattle.rq_cases.specs.Crashes.{CrashesAreJudged, MayFail, RunsAreJudged}
 use Rattle.rq_cases.specs.Run.{committed, forced, log_1, log_5}
-use Rattle.rq_cases.specs.Store.{formatted_pages, sent_pages, sizes}
+use Rattle.rq_cases.specs.Store.{formatted_pages, sent_pages}
 use Rattle.rq_cases.specs.Worlds.{Hold, course_to}
-use Rattle.rq_cases.proofs.Applied.{applied}
-use Rattle.rq_cases.proofs.Bytes.{first_spelled, records_spelled, short_log}
-use Rattle.rq_cases.proofs.Held.{log_left, log_now, log_seen, new_bytes, only_records, pages_fit}
-use Rattle.rq_cases.proofs.Pages.{are_formatted, range}
-use Rattle.rq_cases.proofs.Reading.{no_header, sent_sound}
-use Rattle.rq_cases.proofs.Restarting.{cell_lsn, no_cell_lsn, pages_seen_are}
-use Rattle.rq_cases.proofs.Several as running
+use Rattle.rq_cases.proofs.Bytes.{short_log}
+use Rattle.rq_cases.proofs.Held.{log_left, log_now}
+use Rattle.rq_cases.proofs.Pages.{range}
 use Rattle.rq_cases.proofs.Worlds.{cuts, forced_is_left, leaves_store, legal_crash, page_left, some_pages, told_9, whole}
 
 -- what a run goes through
@@ -91,9 +75,6 @@ runs = record {
       starts_there (λ left bytes. left ≢ images) path images (mem_log.seen log) may (some_log log) refl;
   pages_left_at_its_end = λ pages new log now images may path.
       ends_there (λ left bytes. left ≢ images) path images (mem_log.seen now) may (some_log now) refl;
-  no_call = λ pages log bytes none. Start (λ images left a b e. none (subst (mem_log.may_leave log) e b));
-  force = λ pages old new h f.
-      (applied.log_forced pages old new h.0 h.1 f).crash (tt, tt) running.commit_send.sound (pages_fit pages h.0 log_1 (1, refl));
   page_ahead = λ pages log new h path.
       cuts.page_ahead (starts_there (IsCut committed) path (image_in sent_pages) (spelled log_1) (page_left pages sent_pages h.0) (log_left log log_1 h.1));
   forced_lost_between = λ pages log new left path.
@@ -138,70 +119,3 @@ module _ (goes : CrashGoesOn small) where
     leaves_less_than_was_forced = λ course x pages log records n told few may k.
         forced_is_left course k.history pages log records n k.tells k.legal k.leaves told few may;
   }
-
--- pages of a store
-sent_pool : IsPool sizes sent_pages
-sent_pool = record {
-  range = range;
-  count = refl;
-  slots = λ a is. (sent_sound (a / 16) is.page_low is.page_high).slots (a % 16) is.slot (omega arith);
-  superblock = are_formatted 0 (omega arith);
-  headers = λ p low high. (sent_sound p low high).header;
-}
-
-module _ (d : MemPages) (n : AreNewPages d formatted_pages) where
-  clean : (p : ℕ) → p < page_count sizes → is_changed (false ∷ true ∷ true ∷ []) p ≡ false → image_at sent_pages p ≡ mem_pages.seen d p
-  clean zero low same = sym (ap (λ (seen : Images). seen 0) (pages_seen_are d formatted_pages n))
-  clean (suc zero) low same = absurd (cc same)
-  clean (suc (suc zero)) low same = absurd (cc same)
-  clean (suc (suc (suc p))) low same = absurd (omega (arith, low))
-
-  not_clean : AreOver mem_pages d sizes sent_pages (false ∷ true ∷ false ∷ []) → ⊥
-  not_clean o =
-      let e = ap lsn_of (o.clean tt 2 (omega arith) refl ∙ ap (λ (seen : Images). seen 2) (pages_seen_are d formatted_pages n)) in
-      let two = cell_lsn in
-      let none = no_cell_lsn in
-      omega (arith, e, two, none)
-
-  other_seen : AreSeen (mem_pages.seen d) sent_pages 3 → ⊥
-  other_seen s =
-      let e = ap lsn_of (s 2 (omega arith) ∙ ap (λ (seen : Images). seen 2) (pages_seen_are d formatted_pages n)) in
-      let two = cell_lsn in
-      let none = no_cell_lsn in
-      omega (arith, e, two, none)
-
--- a log that was handed over, and not forced
-module _ (old d : MemLog) (n : IsNewLog old log_1) (h : IsHandedSince old d (spelled (take 4 log_5))) where
-  handed : log_of d ≡ after_log_call (fresh_log (spelled log_1)) (Append h.run)
-  handed = λ i. log_after ((h.first ∙ new_bytes old log_1 n) i) (h.calls i)
-
-  may_be_lost : mem_log.may_leave d (spelled log_1)
-  may_be_lost = subst (λ (s : LogState). MayLeave s (spelled log_1)) (sym handed) (0, sym (append-nil (spelled log_1)))
-
-  reads_all : mem_log.seen d ≡ spelled log_5
-  reads_all = ap log_reads handed ∙ ap (λ (l : List ℕ). spelled log_1 ++ l) h.items ∙ spelled_whole 4 log_5
-
-pub pools : PoolsAreJudged
-pools = record {
-  pool = sent_pool;
-  no_cell_page = λ p. no_header _ 2 2 (p.headers 2 (omega arith) (omega arith));
-  too_few_pages = λ p. (let e : 1 ≡ 3 = p.count in omega (arith, e));
-  no_superblock = λ p. no_header 0 0 0 p.superblock.header;
-  are_seen = λ d n p low. sym (ap (λ (seen : Images). seen p) (pages_seen_are d formatted_pages n));
-  others_are_seen = other_seen;
-  records_are_held = record {
-    end = length (spelled log_5);
-    within = omega arith;
-    whole = subst (AreRecords 5) (sym (take-length (spelled log_5))) (spelled_records log_5 records_spelled);
-    last = λ h. (let n = length-drop (length (spelled log_5)) (spelled log_5) in let m = h.0 in omega (arith, n, m));
-  };
-  over_their_device = λ d n. record { pool = sent_pool; flags = refl; clean = λ honest. clean d n };
-  change_not_marked = not_clean;
-  too_few_marks = λ d images b o. (let e : 1 ≡ 3 = o.flags in omega (arith, e));
-  over_no_pages = λ d changed o. no_header _ 2 2 (o.pool.headers 2 (omega arith) (omega arith));
-  was_durable = λ d n c may. only_records d log_5 n c may ∙ sym (log_seen d log_5 n);
-  only_handed_over = λ old d n h w.
-      (let e : spelled log_1 ≡ spelled log_5 = w (spelled log_1) (may_be_lost old d n h) ∙ reads_all old d n h in
-      let f : 1 ≡ 5 = ap (λ (l : List Record). length l) (one_log log_1 log_5 first_spelled records_spelled e) in
-      omega (arith, f));
-}

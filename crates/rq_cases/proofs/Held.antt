@@ -4,17 +4,16 @@ use Rattle.std.proofs.lemmas.List.{append-nil}
 use Rattle.std.specs.Prelude.{Vec}
 use Rattle.std.specs.declared.alloc.Global.{Global}
 use Rattle.rq_model.specs.declared.record.Record.{Record}
-use Rattle.rq_disk.specs.Device.{Elapses, Holds, Images, Leaves, Only, Written as OrWritten}
-use Rattle.rq_disk.specs.Memory.{LogState, LogSince, MayBe, MayLeave, PageState, PagesSince, fresh_pages, log_after, log_only, log_reads, pages_after, pages_only, reads}
+use Rattle.rq_disk.specs.Device.{Images, Leaves, Only}
+use Rattle.rq_disk.specs.Memory.{LogState, LogSince, MayBe, MayLeave, PageState, fresh_pages, log_after, log_only, log_reads, pages_only}
 use Rattle.rq_disk.specs.Records.{first_records}
-use Rattle.rq_disk.specs.Shown.{log_of, pages_of}
+use Rattle.rq_disk.specs.Shown.{log_of}
 use Rattle.rq_disk.specs.declared.mem_log.LogCall.{LogCall}
 use Rattle.rq_disk.specs.declared.mem_log.LogCall.TheVariants.{Append, Force}
 use Rattle.rq_disk.specs.declared.mem_log.MemLog.{MemLog}
 use Rattle.rq_disk.specs.declared.mem_pages.MemPages.{MemPages}
 use Rattle.rq_disk.specs.declared.mem_pages.PageCall.{PageCall}
 use Rattle.rq_disk.proofs.KeptLog.{fresh_only}
-use Rattle.rq_disk.proofs.KeptPages.{written_to, write_reads, pages_elapses}
 use Rattle.rq_log.specs.Crash.{LeavesOnly}
 use Rattle.rq_log.specs.Spelled.{AreSpelled, spelled, IsBeginning}
 use Rattle.rq_log.proofs.Moments.{started}
@@ -23,10 +22,8 @@ use Rattle.rq_store.specs.Fitting.{AllFit, image_in}
 use Rattle.rq_store.specs.Steps.{Continues}
 use Rattle.rq_store.proofs.Cutting.{all_fit_longer, only_fit}
 use Rattle.rq_store.proofs.Formatting.{formatted_fits}
-use Rattle.rq_pool.specs.Writing.{MayHaveWritten}
 use Rattle.rq_core.specs.Devices.{mem_log, mem_pages}
-use Rattle.rq_cases.specs.Opened.{AreNewPages, HasFailedSince, IsForcedSince, IsNewLog, IsWrittenSince}
-use Rattle.rq_cases.specs.Run.{log_1, log_5}
+use Rattle.rq_cases.specs.Opened.{AreNewPages, IsForcedSince, IsNewLog, IsWrittenSince}
 use Rattle.rq_cases.specs.Store.{formatted_pages, sizes}
 use Rattle.rq_cases.proofs.Pages.{are_formatted, range}
 
@@ -80,23 +77,6 @@ module _ (d : MemLog) (records : List Record) (n : IsNewLog d records) where
 
     pub same_beginning : LeavesOnly mem_log d d (IsBeginning all kept)
     same_beginning = started mem_log d (IsBeginning all kept) (λ c left. leaves_beginning c (log_now d c left))
-
--- a log whose device has failed, and did nothing
-module _ (old new : MemLog) (n : IsNewLog old log_1) (f : HasFailedSince old new) where
-  since_failed : mem_log.left_since new ≡ mem_log.left_since old
-  since_failed = λ i. LogSince (f.first i) (f.calls i)
-
-  pub failed_beginning : LeavesOnly mem_log old new (IsBeginning log_5 1)
-  failed_beginning =
-      let same = same_beginning old log_1 n log_5 1 4 (omega arith) refl in
-      let back : (t : ℕ) (c : List ℕ) → mem_log.left_since new t c → mem_log.left_since old t c =
-      (λ t c left. subst (λ (Q : ℕ → List ℕ → Type 0). Q t c) since_failed left) in
-      record {
-        later = (let e = ap length f.calls in omega (arith, e));
-        each = λ c left. same.each c (back (mem_log.moment old) c left);
-        before = λ t c le left. inl (back t c left);
-        keeps = λ t c le left. subst (λ (Q : ℕ → List ℕ → Type 0). Q t c) (sym since_failed) left;
-      }
 
 -- a log behind whose older records the newest are appended and forced
 abbrev forced_after : Vec ℕ Global → List LogCall
@@ -177,27 +157,5 @@ module _ (all : List Record) (kept count : ℕ) (told : AreSpelled all) (le : co
 
 -- pages of which one was written
 module _ (old new : MemPages) (page : ℕ) (image : List ℕ) (w : IsWrittenSince old new page image) where
-  abbrev was : List (List ℕ)
-  was = old.first.items
-
-  abbrev calls : List PageCall
-  calls = old.calls.items
-
   abbrev since : List PageCall
   since = new.calls.items
-
-  now_is : pages_of new ≡ pages_after was since
-  now_is = ap (λ (l : List (List ℕ)). pages_after l since) w.first
-
-  pub page_holds : Holds (mem_pages.seen old) page image (mem_pages.seen new)
-  page_holds p = ap (λ (s : PageState). reads s p) now_is ∙ write_reads was calls since page w.kept image w.value w.calls p
-
-  pub page_may : MayHaveWritten mem_pages page image old new
-  page_may = record {
-    honest = λ h. h;
-    crash = subst (λ (s : PageState). OrWritten page image (MayBe (pages_of old)) (MayBe s)) (sym now_is)
-        (written_to was calls since page w.kept image w.value w.calls);
-    time = subst (λ (l : List (List ℕ)). Elapses (length calls) (length since) (PagesSince was calls) (PagesSince l since)
-        (Leaves (MayBe (pages_after l since)))) (sym w.first)
-        (pages_elapses was calls since _ w.calls);
-  }

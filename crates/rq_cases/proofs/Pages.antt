@@ -21,7 +21,7 @@ use Rattle.rq_pool.proofs.Slots.{slots_here}
 use Rattle.rq_store.specs.Fitting.{image_in}
 use Rattle.rq_store.specs.Worked.{AreFormatted}
 use Rattle.rq_store.proofs.Spelling.{MayStandAt}
-use Rattle.rq_cases.specs.Store.{sizes, page_image, pages_with, one_closed, one_sent, one_taken, group, groups_0, groups_1, groups_2, groups_closed, cells_0, cells_1, cells_2, formatted_pages}
+use Rattle.rq_cases.specs.Store.{sizes, page_image, pages_with, one_closed, one_sent, one_taken, group, groups_0, groups_1, groups_2, cells_0, cells_1, cells_2, formatted_pages}
 use Rattle.rq_cases.proofs.Images.{header_is, slot_is, lsn_is, either_long, written_long, first_written, length-free, length-superblock}
 
 pub range : IsInRange sizes
@@ -53,9 +53,6 @@ groups_1_long = written_long 1 (group one_sent) groups_0 (group_long one_sent) g
 
 pub groups_2_long : (n : ℕ) → length (groups_2 n) ≡ 256
 groups_2_long = written_long 1 (group one_taken) groups_1 (group_long one_taken) groups_1_long
-
-pub groups_closed_long : (n : ℕ) → length (groups_closed n) ≡ 256
-groups_closed_long = written_long 1 (group one_closed) groups_0 (group_long one_closed) groups_0_long
 
 pub cells_1_long : (n : ℕ) → length (cells_1 n) ≡ 256
 cells_1_long = written_long 1 (cell_bytes (cell 0)) cells_0 cell_long cells_0_long
@@ -240,6 +237,3 @@ free_written = first_written 2 6 2 2 free_bytes cells_1 length-free cells_1_long
 
 pub taken_written : IsWritten (page_image 3 1 1 groups_1) (page_image 7 1 1 groups_2) 1 (group one_taken) 7
 taken_written = first_written 3 7 1 1 (group one_taken) groups_1 (group_long one_taken) groups_1_long (omega arith)
-
-pub closed_written : IsWritten (page_image 0 1 1 groups_0) (page_image 2 1 1 groups_closed) 1 (group one_closed) 2
-closed_written = first_written 0 2 1 1 (group one_closed) groups_0 (group_long one_closed) groups_0_long (omega arith)

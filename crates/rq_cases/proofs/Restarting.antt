@@ -1,54 +1,46 @@
 -- What a restart finds, makes and refuses.
-use Rattle.std.proofs.Common.{◌≡◌, ℕ, zero, suc, ◌≤◌, ◌<◌, List, [], ◌∷◌, ◌++◌, length, take, drop, false, true, refl, sym, ap, ◌∙◌, subst, inl, inr, arith}
+use Rattle.std.proofs.Common.{◌≡◌, ℕ, zero, suc, ◌≤◌, ◌<◌, List, [], ◌∷◌, ◌++◌, length, take, drop, refl, sym, ap, ◌∙◌, subst, arith}
 use Rattle.rq_model.specs.declared.record.Record.{Record}
 use Rattle.rq_model.specs.declared.record.Record.TheVariants.{Commit, Restart}
 use Rattle.rq_disk.specs.Memory.{fresh_pages, reads}
 use Rattle.rq_disk.specs.declared.mem_pages.MemPages.{MemPages}
 use Rattle.rq_log.specs.Spelled.{spelled}
-use Rattle.std.proofs.lemmas.Bool.{cases_eq}
 use Rattle.std.proofs.lemmas.List.{take-append-drop}
 use Rattle.rq_bytes.specs.Number.{number_at}
 use Rattle.rq_page.specs.declared.directory.DirectorySlot.{DirectorySlot}
-use Rattle.rq_page.specs.Cells.{cell_bytes, free_bytes}
 use Rattle.rq_page.specs.Directories.{IsDirectorySlot, directory_bytes, directory_in, new_directory}
 use Rattle.rq_page.proofs.DirectoryBytes.{directory_in-directory_bytes}
-use Rattle.rq_page.specs.Pages.{lsn_of, slot_of}
-use Rattle.rq_page.specs.Slots.{held_in}
+use Rattle.rq_page.specs.Pages.{lsn_of}
 use Rattle.rq_page.specs.Sizes.{sender_at}
-use Rattle.rq_views.specs.WorkedItems.{cell, sends, t1}
+use Rattle.rq_views.specs.WorkedItems.{t1}
 use Rattle.rq_store.specs.Fitting.{FitsLog, image_in}
 use Rattle.rq_store.specs.Opening.{IsLeft, next_restart}
 use Rattle.rq_store.specs.Whole.{IsWhole}
 use Rattle.rq_store.proofs.Cutting.{whole_dropped}
-use Rattle.rq_store.specs.Steps.{op_end, page_op}
 use Rattle.rq_store.proofs.Cutting.{fits_log_longer}
 use Rattle.rq_store.proofs.Formatting.{formatted_fits}
-use Rattle.rq_rules.specs.Rules.{FollowAll}
-use Rattle.rq_rules.proofs.Whole.{whole_logs}
-use Rattle.rq_restart.specs.Repeating.{AreCounted, Belongs, IsRepeated, Paged, Repeats}
+use Rattle.rq_restart.specs.Repeating.{AreCounted, Paged, Repeats}
 use Rattle.rq_restart.specs.Restarting.{IsBegunOn, IsLeftOn}
-use Rattle.rq_restart.proofs.Aborts.{behind_none}
 use Rattle.rq_restart.proofs.Begun.{mended_incarnation}
-use Rattle.rq_lost.specs.Recovered.IsRecovered.{NoneLost}
 use Rattle.rq_lost.proofs.Recovering.{recovered_from}
 use Rattle.rq_restart.proofs.Paths.{kept, kept_extends, kept_spelled, older_spelled}
 use Rattle.rq_model.specs.Commits.{committed_of}
 use Rattle.rq_model.specs.Incarnations.{InOrder, incarnation_of}
 use Rattle.rq_model.specs.declared.refusal.Refusal.TheVariants as why
 use Rattle.rq_model.proofs.Cuts.{extends_commits, incarnation_grows}
-use Rattle.rq_undone.proofs.Undos.{nothing_undone, undoing_none}
-use Rattle.rq_restart.specs.Checked.{IsEnded, IsGoneThrough}
+use Rattle.rq_undone.proofs.Undos.{nothing_undone}
+use Rattle.rq_restart.specs.Checked.{IsEnded}
 use Rattle.rq_restart.proofs.Parsing.{one_log}
 use Rattle.rq_core.specs.Devices.{mem_pages}
 use Rattle.rq_cases.specs.Opened.{AreNewPages}
-use Rattle.rq_cases.specs.Restarting.{RestartsAreJudged, Shuts, read_pages, repeated_pages}
-use Rattle.rq_cases.specs.Run.{log_1, log_2, log_3, log_4, log_5}
-use Rattle.rq_cases.specs.Store.{cells_0, cells_1, count_sent, fill_cell, filled_pages, formatted_pages, free_cell, groups_0, groups_1, group, one_sent, page_image, sent_pages, sizes}
+use Rattle.rq_cases.specs.Restarting.{RestartsAreJudged, Shuts, read_pages}
+use Rattle.rq_cases.specs.Run.{log_1, log_4, log_5}
+use Rattle.rq_cases.specs.Store.{cells_0, formatted_pages, groups_0, groups_1, page_image, sent_pages, sizes}
 use Rattle.rq_cases.proofs.Bytes.{first_spelled, records_spelled}
 use Rattle.rq_cases.proofs.Held.{log_seen}
-use Rattle.rq_cases.proofs.Images.{lsn_is, slot_is, written_other}
-use Rattle.rq_cases.proofs.Pages.{are_formatted, cells_0_long, cells_1_long, cell_told, fill_written, free_told, groups_0_long, groups_1_long, others_of_1, others_of_2, range, sent_told, sent_written}
-use Rattle.rq_cases.proofs.Several as running
+use Rattle.rq_cases.proofs.Images.{lsn_is, slot_is}
+use Rattle.rq_cases.proofs.Pages.{are_formatted, cells_0_long, groups_0_long, groups_1_long, range}
+use Rattle.rq_cases.proofs.Running as running
 
 -- what the devices read
 pub pages_seen_are : (d : MemPages) (images : List (List ℕ)) → AreNewPages d images → mem_pages.seen d ≡ reads (fresh_pages images)
@@ -57,17 +49,11 @@ pages_seen_are d images n = ap reads n.pages
 pub formatted_fit : FitsLog sizes (image_in formatted_pages) log_5
 formatted_fit = fits_log_longer sizes (image_in formatted_pages) [] log_5 (5, refl) (formatted_fits sizes (image_in formatted_pages) range are_formatted)
 
-pub left_here : (d : MemPages) → AreNewPages d formatted_pages → IsLeft sizes (mem_pages.seen d) log_5
-left_here d n = subst (λ (seen : ℕ → List ℕ). IsLeft sizes seen log_5) (sym (pages_seen_are d formatted_pages n)) (record { whole = running.commit_send.sound.log; fits = formatted_fit })
-
 pub group_lsn : lsn_of (page_image 3 1 1 groups_1) ≡ 3
 group_lsn = lsn_is 3 1 1 groups_1 groups_1_long (omega arith)
 
 pub no_group_lsn : lsn_of (page_image 0 1 1 groups_0) ≡ 0
 no_group_lsn = lsn_is 0 1 1 groups_0 groups_0_long (omega arith)
-
-pub cell_lsn : lsn_of (page_image 2 2 2 cells_1) ≡ 2
-cell_lsn = lsn_is 2 2 2 cells_1 cells_1_long (omega arith)
 
 pub no_cell_lsn : lsn_of (page_image 0 2 2 cells_0) ≡ 0
 no_cell_lsn = lsn_is 0 2 2 cells_0 cells_0_long (omega arith)
@@ -91,13 +77,6 @@ abbrev pub is_restart : List Record → ℕ
 is_restart (Restart i ∷ log) = 1
 is_restart _ = 0
 
--- history, one record after the other
-abbrev pub filled : Paged
-filled = record { image = image_in filled_pages; changed = false ∷ false ∷ true ∷ [] }
-
-first_cell_stands : slot_of 1 (page_image 0 2 2 cells_0) ≡ free_bytes
-first_cell_stands = slot_is 0 2 2 cells_0 cells_0_long 1 (omega arith) (omega arith)
-
 -- what a directory slot counts
 sent_number : (x : DirectorySlot) → IsDirectorySlot x → number_at 8 8 (directory_bytes x) ≡ x.directory.sent
 unfolding directory_in
@@ -113,19 +92,6 @@ new_in_range s low = record {
   tail = omega arith;
 }
 
-sent_in_range : IsDirectorySlot (record { sender = 0; directory = one_sent })
-sent_in_range = record {
-  sender = omega arith;
-  sent = omega arith;
-  received = omega arith;
-  last_tag = omega arith;
-  head = omega arith;
-  tail = omega arith;
-}
-
-group_count : number_at 8 8 (group one_sent) ≡ 1
-group_count = sent_number (record { sender = 0; directory = one_sent }) sent_in_range
-
 new_count : (n : ℕ) → 1 ≤ n → n ≤ 15 → number_at 8 8 (groups_0 n) ≡ 0
 new_count n low high = sent_number (record { sender = sender_at 1 n; directory = new_directory }) (new_in_range (sender_at 1 n) (omega (arith, low, high)))
 
@@ -140,87 +106,8 @@ module _ (count : ℕ) where
   counted_read (suc (suc zero)) low high = record { lsn = (let e = no_cell_lsn in omega (arith, e)); slots = λ n from to. omega arith }
   counted_read (suc (suc (suc p))) low high = absurd (omega (arith, high))
 
-module _ (count : ℕ) (many : 3 ≤ count) where
-  counted_last : AreCounted sizes count repeated_pages
-  counted_last zero low high = absurd (omega (arith, low))
-  counted_last (suc zero) low high = record {
-    lsn = (let e = group_lsn in omega (arith, e, many));
-    slots = λ n from to. elim (cases_eq n 1) [
-      | inl one ↦
-          let e : number_at 8 8 (slot_of 1 (page_image 3 1 1 groups_1)) ≡ 1 = ap (number_at 8 8) (slot_is 3 1 1 groups_1 groups_1_long 1 (omega arith) (omega arith)) ∙ group_count in
-          let f = ap (λ m. number_at 8 8 (slot_of m (page_image 3 1 1 groups_1))) one ∙ e in
-          omega (arith, f, many)
-      | inr off ↦
-          let e = ap (number_at 8 8) (slot_is 3 1 1 groups_1 groups_1_long n from to ∙ written_other 1 (group one_sent) groups_0 n off) ∙ new_count n from to in
-          omega (arith, e)
-    ];
-  }
-  counted_last (suc (suc zero)) low high = record { lsn = (let e = cell_lsn in omega (arith, e, many)); slots = λ n from to. omega arith }
-  counted_last (suc (suc (suc p))) low high = absurd (omega (arith, high))
-
 pub whole_5 : IsWhole sizes log_5
 whole_5 = running.commit_send.sound.log
-
-pub follow_5 : FollowAll log_5
-follow_5 = whole_logs.all sizes log_5 whole_5
-
--- each record is repeated
-restart_repeated : IsRepeated sizes [] (Restart 1) read_pages read_pages
-restart_repeated = record { belongs = record { next = refl; follows = follow_5.1.1.1.1.0; may = record { write = tt; before = tt } }; redone = λ p. refl; marked = refl }
-
-pub fill_repeated : IsRepeated sizes log_1 (page_op t1 1 fill_cell) read_pages filled
-fill_repeated = record {
-  belongs = record {
-    next = (omega arith, refl);
-    follows = follow_5.1.1.1.0;
-    may = record { write = record { slot = cell_told.1; count = omega arith }; before = λ older. first_cell_stands };
-  };
-  redone = record {
-    made = λ older. fill_written;
-    kept = λ newer. (let e = no_cell_lsn in absurd (omega (arith, e, newer)));
-    others = others_of_2 0 0 2 groups_0 cells_0 cells_1;
-  };
-  marked = record { made = λ older. refl; kept = λ newer. (let e = no_cell_lsn in absurd (omega (arith, e, newer))) };
-}
-
-count_repeated : IsRepeated sizes log_2 (page_op t1 1 count_sent) filled repeated_pages
-count_repeated = record {
-  belongs = record {
-    next = (omega arith, refl);
-    follows = follow_5.1.1.0;
-    may = record {
-      write = record { slot = sent_told.1; count = (let e = group_count in omega (arith, e)) };
-      before = λ older. slot_is 0 1 1 groups_0 groups_0_long 1 (omega arith) (omega arith);
-    };
-  };
-  redone = record {
-    made = λ older. sent_written;
-    kept = λ newer. (let e = no_group_lsn in absurd (omega (arith, e, newer)));
-    others = others_of_1 0 3 2 groups_0 groups_1 cells_1;
-  };
-  marked = record { made = λ older. refl; kept = λ newer. (let e = no_group_lsn in absurd (omega (arith, e, newer))) };
-}
-
-end_repeated : IsRepeated sizes log_3 (op_end t1 1 (sends 0)) repeated_pages repeated_pages
-end_repeated = record { belongs = record { next = (omega arith, refl); follows = follow_5.1.0; may = record { write = tt; before = tt } }; redone = λ p. refl; marked = refl }
-
-commit_repeated : IsRepeated sizes log_4 (Commit t1) repeated_pages repeated_pages
-commit_repeated = record { belongs = record { next = (omega arith, refl); follows = follow_5.0; may = record { write = tt; before = tt } }; redone = λ p. refl; marked = refl }
-
-pub repeats_1 : Repeats sizes log_1 read_pages read_pages
-repeats_1 = (read_pages, refl, restart_repeated)
-
-pub repeats_3 : Repeats sizes log_3 read_pages repeated_pages
-repeats_3 = (filled, (read_pages, repeats_1, fill_repeated), count_repeated)
-
-repeats_4 : Repeats sizes log_4 read_pages repeated_pages
-repeats_4 = (repeated_pages, repeats_3, end_repeated)
-
-pub repeats_5 : Repeats sizes log_5 read_pages repeated_pages
-repeats_5 = (repeated_pages, repeats_4, commit_repeated)
-
-pub gone : IsGoneThrough sizes log_5 read_pages repeated_pages
-gone = record { repeated = repeats_5; counted_read = counted_read 5; counted = counted_last 5 (omega arith) }
 
 -- the write of the cell was made, whatever the pages were between
 pub made_there : (first last : Paged) → lsn_of (first.image 2) ≡ 0 → lsn_of (last.image 2) ≡ 0 → Repeats sizes log_5 first last → ⊥
@@ -235,16 +122,6 @@ made_there first last none still five =
     let end : lsn_of (five.0.image 2) ≡ lsn_of (four.0.image 2) = ap lsn_of (four.2.redone 2) in
     let now : lsn_of (last.image 2) ≡ lsn_of (five.0.image 2) = ap lsn_of (five.2.redone 2) in
     omega (arith, made, then, end, now, still)
-
-abbrev pub odd_record : Record
-odd_record = page_op t1 1 free_cell
-
-pub odd_bad : Belongs sizes log_1 odd_record read_pages → ⊥
-odd_bad b =
-    let low = no_cell_lsn in
-    let stands : slot_of 1 (page_image 0 2 2 cells_0) ≡ cell_bytes (cell 0) = b.may.before (omega (arith, low)) in
-    let e = sym free_told.0 ∙ ap (held_in sizes 2) (sym first_cell_stands ∙ stands) ∙ cell_told.0 in
-    cc e
 
 pub open_4 : IsEnded log_4 → ⊥
 open_4 e = cc e
@@ -298,54 +175,20 @@ left_5 = record { whole = whole_5; fits = formatted_fit }
 pub left_4 : IsLeft sizes (image_in formatted_pages) log_4
 left_4 = record { whole = whole_4; fits = formatted_fit_4 }
 
--- an operation counts from 1
-another_number : Belongs sizes log_1 (page_op t1 2 fill_cell) read_pages → ⊥
-another_number b = let e : 2 ≡ 1 = b.follows.numbered refl in omega (arith, e)
-
 pub restarts : RestartsAreJudged
 restarts = record {
-  reports = record { incarnation_is = refl; records_are = refl; unfinished_are = λ w. refl; lost_are = λ w. refl };
   reports_the_same_incarnation = λ n undone gone r. (let e : 1 ≡ 2 = r.incarnation_is in omega (arith, e));
   reports_no_record = λ i undone gone r. (let e : 5 ≡ 6 = r.records_are in omega (arith, e));
   reports_one_lost = λ i n undone r. (let e : 1 ≡ 0 = r.lost_are whole_5 in omega (arith, e));
   one_lost = λ records. record { incarnation_is = refl; records_are = refl; unfinished_are = λ w. refl; lost_are = λ w. refl };
   none_lost = λ records i n undone r. (let e : 0 ≡ 1 = r.lost_are whole_4 in omega (arith, e));
-  read_as = λ d n. record { honest = tt; are_spelled = records_spelled; reads = log_seen d log_5 n };
   read_as_less = λ d new n r.
       (let e : 5 ≡ 4 = ap (λ (l : List Record). length l) (one_log log_5 log_4 records_spelled r.are_spelled (sym (log_seen d log_5 n) ∙ r.reads)) in omega (arith, e));
-  left_on = λ d n. record { honest = tt; left = left_here d n };
   left_ahead = not_left;
-  ended = refl;
   transaction_open = open_4;
-  operation_open = refl;
-  begun_on = record {
-    older = log_5;
-    reads = refl;
-    begun = record {
-      mended = log_5;
-      mends = record { undone = log_5; undoes = record { undoing = undoing_none log_5; none = refl }; aborting = behind_none log_5; ended = refl; none_lost = λ e. refl };
-      recovered = λ left. NoneLost (record { undoing = undoing_none log_5; none = refl }) refl;
-      are_spelled = ((omega arith, omega arith), records_spelled);
-      lacks = 0;
-      some = omega arith;
-      is = refl;
-    };
-  };
   begun_where_one_is_open = begun_open;
   begun_by_a_commit = begun_commit;
-  gone_through = gone;
   not_repeated = λ g. made_there read_pages read_pages no_cell_lsn no_cell_lsn g.repeated;
-  bad_record = (refl, odd_bad);
-  bad_rule = (refl, another_number);
-  bad_record_elsewhere = λ n. (let e : 1 ≡ 2 = n.0 in omega (arith, e));
-  page_beyond = record {
-    low = omega arith;
-    high = omega arith;
-    bad = λ c. (let w : lsn_of (page_image 3 1 1 groups_1) ≤ 1 = c.lsn in let e = group_lsn in omega (arith, e, w));
-    first = λ p low less. absurd (omega (arith, low, less));
-  };
-  page_beyond_is_not_the_first = λ b.
-      (let w : lsn_of (page_image 3 1 1 groups_1) ≤ 1 = (b.first 1 (omega arith) (omega arith)).lsn in let e = group_lsn in omega (arith, e, w));
   unfinished = λ s. s;
   log_full_of_five = none_full (Unit {0});
   disk_without_a_failure = λ s. (let e = s.0 in omega (arith, e));

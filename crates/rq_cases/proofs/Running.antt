@@ -2,34 +2,30 @@
 use Rattle.std.proofs.Common.{◌≡◌, ℕ, ◌+◌, ◌-◌, ◌<◌, List, [], ◌∷◌, map, None, false, refl, ap, ◌∙◌, subst, arith, zero, suc, nat_eq}
 use Rattle.std.proofs.lemmas.Bool.Decides.{nat_tests}
 use Rattle.rq_groups.specs.Waiting.{waits}
-use Rattle.rq_store.specs.Sound.{sends_in}
 use Rattle.rq_store.specs.Steps.{took}
+use Rattle.rq_model.specs.Content.{tag_after}
 use Rattle.rq_model.specs.Tests.{below}
 use Rattle.rq_model.specs.History.Call.{Begin, Start_send, Start_receive, Step, Finish, Commit, Force}
-use Rattle.rq_model.specs.History.{Call}
-use Rattle.rq_model.specs.Replay.{Reply}
 use Rattle.rq_model.specs.Replay.Reply.{Gave_txn, Gave_sub, Gave_lsn, Gave_sent, Gave_message, Gave_commit, Gave_forced}
 use Rattle.rq_page.specs.Directories.{new_directory}
 use Rattle.rq_page.specs.Sizes.{directory_at}
 use Rattle.rq_views.specs.Items.{formatted_at}
 use Rattle.rq_views.specs.Log.{Slots, Write}
-use Rattle.rq_views.specs.WorkedItems.{cell, t1, t2, takes}
+use Rattle.rq_views.specs.WorkedItems.{cell, sends, t1, t2, takes}
 use Rattle.rq_views.specs.Stored.{slots_in, count_used}
 use Rattle.rq_txn.specs.Rows.{fresh_row}
 use Rattle.rq_store.specs.Opening.{messages_told, opened, sent_told as count_told, tag_told}
-use Rattle.rq_groups.specs.Sent.{SentBy}
+use Rattle.rq_groups.specs.Sent.{SentBy, sent_count, sent_tag}
 use Rattle.rq_store.specs.Plans.{IsSendPlan, IsTakePlan}
-use Rattle.rq_store.specs.Sound.{IsSound}
 use Rattle.rq_store.specs.State.{State}
-use Rattle.rq_store.specs.Steps.{IsPutIn, Steps}
-use Rattle.rq_store.proofs.WorkedSound.{sound}
-use Rattle.rq_store.proofs.Beginning.{begin_steps}
-use Rattle.rq_store.proofs.SendStarts.{start_steps}
-use Rattle.rq_store.proofs.TakeStarts.{take_steps}
-use Rattle.rq_store.proofs.Stepping.{step_steps}
-use Rattle.rq_store.proofs.Finishing.{finish_steps}
-use Rattle.rq_store.proofs.Committing.{commit_steps}
-use Rattle.rq_store.proofs.Forcing.{force_steps}
+use Rattle.rq_store.specs.Steps.{IsPutIn}
+use Rattle.rq_sound.specs.Calls.{sends_for}
+use Rattle.rq_sound.specs.Counted.{sends_in}
+use Rattle.rq_sound.specs.Sound.{IsSound}
+use Rattle.rq_sound.specs.Steps.{Steps}
+use Rattle.rq_sound.proofs.AbortSteps.{abort_steps}
+use Rattle.rq_sound.proofs.Opened.{formatted_sound}
+use Rattle.rq_engine.proofs.Standing.{commit_steps, finish_steps, start_steps, step_steps, take_steps}
 use Rattle.rq_cases.specs.Store.{sizes, one_sent, groups_0, groups_1, groups_2, cells_0, cells_1, cells_2, fill_cell, count_sent, free_cell, count_taken, formatted_pages, filled_pages, sent_pages, freed_pages, taken_pages}
 use Rattle.rq_cases.specs.Run.{send_under, take_under, busy_row, done_row, did_send, did_take, waits_of_0, fresh, begun, send_started, cell_filled, group_counted, sent, committed, forced, begun_again, take_started, cell_freed, take_counted, taken, all_committed}
 use Rattle.rq_cases.proofs.Pages.{range, are_formatted, groups_0_long, groups_1_long, groups_2_long, cells_1_long, cells_2_long, free_told, cell_told, new_told, sent_told, taken_told, slots_put, headers_with, superblock_with, others_of_1, others_of_2, fill_written, sent_written, free_written, taken_written}
@@ -39,7 +35,7 @@ abbrev first_state : State
 first_state = opened sizes formatted_pages []
 
 pub first_sound : IsSound first_state
-first_sound = sound sizes formatted_pages range are_formatted
+first_sound = formatted_sound sizes formatted_pages range are_formatted
 
 first_slots : slots_in sizes formatted_pages ≡ formatted_at sizes
 first_slots = λ i. λ a. first_sound.pages a i
@@ -73,7 +69,7 @@ fresh_sound = subst IsSound first_is first_sound
 
 -- 1.1 sends
 pub begin : Steps fresh Begin (Gave_txn t1) begun
-begin = begin_steps fresh fresh_sound refl refl
+begin = abort_steps.begins fresh fresh_sound refl refl
 
 abbrev two : Write → Write → List Write
 two x y = x ∷ y ∷ []
@@ -97,8 +93,8 @@ send_plan = record {
 
 pub start_send : Steps begun (Start_send t1 (record { sender = 0; tag = 7; body = 104 ∷ [] })) (Gave_sub t1 1) send_started
 start_send =
-    start_steps begun begin.sound t1 (fresh_row t1) (send_under 0) 0 7 (104 ∷ []) refl refl refl send_plan refl
-    (omega arith)
+    start_steps begun begin.sound t1 (fresh_row t1) (send_under 0) 0 7 (104 ∷ []) refl refl (λ page of. refl) refl
+    send_plan
     (refl, (refl, (refl, (refl, (refl, (refl, (refl, (refl, (refl, (refl, tt))))))))))
 
 pub fill_put : IsPutIn send_started fill_cell filled_pages
@@ -114,7 +110,7 @@ step_cell =
     step_steps send_started start_send.sound t1 (busy_row t1 (send_under 0)) (send_under 0) fill_cell filled_pages refl
     refl refl
     (slots_put sizes formatted_pages filled_pages 33 fill_cell.after 2 (omega arith) fill_written fill_put.others)
-    fill_put free_told.1 cell_told.1 (omega arith) refl
+    fill_put free_told.1 cell_told.1 refl
 
 pub sent_put : IsPutIn cell_filled count_sent sent_pages
 sent_put = record {
@@ -129,63 +125,39 @@ step_group =
     step_steps cell_filled step_cell.sound t1 (busy_row t1 (send_under 1)) (send_under 1) count_sent sent_pages refl refl
     refl
     (slots_put sizes filled_pages sent_pages 17 count_sent.after 3 (omega arith) sent_written sent_put.others)
-    sent_put new_told.1 sent_told.1 (omega arith) refl
+    sent_put new_told.1 sent_told.1 refl
 
 pub finish_send : Steps group_counted (Finish t1 1) Gave_sent sent
 finish_send =
-    finish_steps group_counted step_group.sound t1 (busy_row t1 (send_under 2)) (send_under 2) (waits_of_0 0) refl refl
-    refl (λ g. omega arith) refl
+    finish_steps group_counted step_group.sound t1 (busy_row t1 (send_under 2)) (send_under 2) (sends 0) (waits_of_0 0)
+    refl refl refl refl (λ g. omega arith) refl
 
 -- the message of sender 0 waits once it is committed, and no other does
 sent_waits : (g : ℕ) → g < 15 → waits (waits_of_0 1) g ≡ waits (waits_of_0 0) g + sends_in g (done_row t1 did_send)
 sent_waits zero low = refl
 sent_waits (suc g) low = (let e : nat_eq 0 (suc g) ≡ false = grind (arith, nat_tests) in rw e (omega arith))
 
--- what is kept of each sender's sends is of no account where one operation at most is under way
-keeping : {old new : State} {call : Call} {gave : Reply} (kept : SentBy) → Steps old call gave new → Steps old call gave (record new { sent = kept })
-keeping kept k =
-    let s = k.sound in
-    record {
-      entry = k.entry;
-      says = k.says;
-      legal = k.legal;
-      after = k.after;
-      sound = record {
-        range = s.range;
-        log = s.log;
-        incarnation = s.incarnation;
-        begun = s.begun;
-        some = s.some;
-        strangers = s.strangers;
-        pages = s.pages;
-        fits = s.fits;
-        rows = s.rows;
-        distinct = s.distinct;
-        others = s.others;
-        one_going = s.one_going;
-        sending = s.sending;
-        receiving = s.receiving;
-        cells = s.cells;
-        bound = s.bound;
-        used = s.used;
-        waiting = s.waiting;
-        covered = s.covered;
-        forced = s.forced;
-      };
-      goes_on = k.goes_on;
-      stays_forced = k.stays_forced;
-    }
+-- it is counted then, with its tag
+sent_counted : (g : ℕ) → g < 15 → sent_count committed.sent g ≡ sent_count sent.sent g + sends_in g (done_row t1 did_send)
+sent_counted zero low = refl
+sent_counted (suc g) low = (let e : nat_eq 0 (suc g) ≡ false = grind (arith, nat_tests) in rw e (omega arith))
+
+sent_tagged : (g : ℕ) → g < 15
+    → sent_tag committed.sent g ≡ tag_after (sent_tag sent.sent g) (sends_for g (done_row t1 did_send))
+sent_tagged zero low = refl
+sent_tagged (suc g) low = (let e : nat_eq 0 (suc g) ≡ false = grind (arith, nat_tests) in rw e refl)
 
 pub commit_send : Steps sent (Commit t1) (Gave_commit (record { txn = t1; lsn = 5 })) committed
 commit_send =
-    keeping committed.sent (commit_steps sent finish_send.sound t1 (done_row t1 did_send) 1 (waits_of_0 1) refl refl refl sent_waits refl refl)
+    commit_steps sent finish_send.sound t1 (done_row t1 did_send) 1 (waits_of_0 1) committed.sent refl refl refl refl
+    sent_waits sent_counted sent_tagged refl refl
 
 pub force : Steps committed Force (Gave_forced 5) forced
-force = force_steps committed commit_send.sound refl
+force = abort_steps.forces committed commit_send.sound refl
 
 -- 1.2 takes
 pub begin_again : Steps forced Begin (Gave_txn t2) begun_again
-begin_again = begin_steps forced force.sound refl refl
+begin_again = abort_steps.begins forced force.sound refl refl
 
 pub take_plan : IsTakePlan sizes (slots_in sizes sent_pages) (take_under 0) 0
 take_plan = record {
@@ -206,8 +178,8 @@ take_plan = record {
 
 pub start_take : Steps begun_again (Start_receive t2) (Gave_sub t2 1) take_started
 start_take =
-    take_steps begun_again begin_again.sound t2 (fresh_row t2) (take_under 0) 0 refl refl refl take_plan refl
-    (omega arith)
+    take_steps begun_again begin_again.sound t2 (fresh_row t2) (take_under 0) 0 refl refl (λ page of. refl) refl
+    take_plan (omega arith)
     (refl, (refl, (refl, (refl, (refl, (refl, (refl, tt)))))))
 
 pub free_put : IsPutIn take_started free_cell freed_pages
@@ -223,7 +195,7 @@ step_free =
     step_steps take_started start_take.sound t2 (busy_row t2 (take_under 0)) (take_under 0) free_cell freed_pages refl
     refl refl
     (slots_put sizes sent_pages freed_pages 33 free_cell.after 6 (omega arith) free_written free_put.others)
-    free_put cell_told.1 free_told.1 (omega arith) refl
+    free_put cell_told.1 free_told.1 refl
 
 pub taken_put : IsPutIn cell_freed count_taken taken_pages
 taken_put = record {
@@ -238,7 +210,7 @@ step_taken =
     step_steps cell_freed step_free.sound t2 (busy_row t2 (take_under 1)) (take_under 1) count_taken taken_pages refl
     refl refl
     (slots_put sizes freed_pages taken_pages 17 count_taken.after 7 (omega arith) taken_written taken_put.others)
-    taken_put sent_told.1 taken_told.1 (omega arith) refl
+    taken_put sent_told.1 taken_told.1 refl
 
 -- it waits no more
 taken_waits : (g : ℕ) → waits (waits_of_0 0) g ≡ waits (waits_of_0 1) g - took g (takes 0)
@@ -247,12 +219,13 @@ taken_waits (suc g) = (let e : nat_eq 0 (suc g) ≡ false = grind (arith, nat_te
 
 pub finish_take : Steps take_counted (Finish t2 1) (Gave_message (record { sender = 0; tag = 7; body = 104 ∷ [] })) taken
 finish_take =
-    finish_steps take_counted step_taken.sound t2 (busy_row t2 (take_under 2)) (take_under 2) (waits_of_0 0) refl refl
-    refl taken_waits refl
+    finish_steps take_counted step_taken.sound t2 (busy_row t2 (take_under 2)) (take_under 2) (takes 0) (waits_of_0 0)
+    refl refl refl refl taken_waits refl
 
 took_none : (g : ℕ) → g < 15 → waits (waits_of_0 0) g ≡ waits (waits_of_0 0) g + sends_in g (done_row t2 did_take)
 took_none g low = omega arith
 
 pub commit_take : Steps taken (Commit t2) (Gave_commit (record { txn = t2; lsn = 9 })) all_committed
 commit_take =
-    commit_steps taken finish_take.sound t2 (done_row t2 did_take) 0 (waits_of_0 0) refl refl refl took_none refl refl
+    commit_steps taken finish_take.sound t2 (done_row t2 did_take) 0 (waits_of_0 0) taken.sent refl refl refl refl
+    took_none (λ g low. omega arith) (λ g low. refl) refl refl

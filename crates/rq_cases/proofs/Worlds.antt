@@ -28,7 +28,7 @@ use Rattle.rq_store.specs.State.{State}
 use Rattle.rq_store.specs.Steps.{Continues}
 use Rattle.rq_store.proofs.Cutting.{fits_log, fits_log_longer, whole_dropped}
 use Rattle.rq_store.proofs.Formatting.{formatted_fits}
-use Rattle.rq_store.proofs.WorkedSound.{whole_empty}
+use Rattle.rq_store.proofs.WorkedFits.{whole_empty}
 use Rattle.rq_engine.specs.Crash.{IsCut, LeavesCut}
 use Rattle.rq_engine.specs.Devices.{EachPair}
 use Rattle.rq_engine.proofs.Crashing.{commits_of_cut, leaves_cut}
@@ -49,7 +49,7 @@ use Rattle.rq_cases.proofs.Bytes.{first_spelled, records_spelled, short_log}
 use Rattle.rq_cases.proofs.Held.{leaves_beginning, log_left, only_records, pages_fit, pages_now}
 use Rattle.rq_cases.proofs.Images.{lsn_is}
 use Rattle.rq_cases.proofs.Pages.{are_formatted, groups_1_long, range}
-use Rattle.rq_cases.proofs.Several as running
+use Rattle.rq_cases.proofs.Running as running
 
 -- the worked courses tell their histories
 told_7 : Tells small (course_to 7) (first_entries 7)

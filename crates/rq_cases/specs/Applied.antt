@@ -1,12 +1,11 @@
--- What one call makes of a whole open store, over the worked run: a receive that is started, a force, a page that is
--- written, each where a message is committed; and answers and stores that a call may not give.
-use Rattle.std.specs.Prelude.{◌≡◌, ◌≢◌, ◌<◌, ◌^◌, [], ◌∷◌, take, false, true}
+-- What one call makes of a whole open store: a force where a message is committed; and answers and stores that no call
+-- may give.
+use Rattle.std.specs.Prelude.{◌≡◌, ◌≢◌, ◌<◌, ◌^◌, [], take, false, true}
 use Rattle.rq_model.specs.declared.refusal.Refusal.TheVariants as why
 use Rattle.rq_model.specs.declared.txn.Txn.{Txn}
 use Rattle.rq_disk.specs.declared.mem_log.MemLog.{MemLog}
 use Rattle.rq_disk.specs.declared.mem_pages.MemPages.{MemPages}
-use Rattle.rq_log.specs.Spelled.{AreSpelled, spelled}
-use Rattle.rq_views.specs.WorkedItems.{t2}
+use Rattle.rq_log.specs.Spelled.{spelled}
 use Rattle.rq_pool.specs.declared.Written.TheVariants.{Done, Nothing}
 use Rattle.rq_sound.specs.Sound.{IsSound}
 use Rattle.rq_engine.specs.Applied.{Applied}
@@ -17,9 +16,9 @@ use Rattle.rq_engine.specs.declared.event.Event.TheVariants as event
 use Rattle.rq_engine.specs.declared.event.Reply.{Reply}
 use Rattle.rq_engine.specs.declared.event.Reply.TheVariants as reply
 use Rattle.rq_core.specs.Devices.{mem_log, mem_pages}
-use Rattle.rq_cases.specs.Opened.{AreNewPages, HasFailedSince, IsForcedSince, IsNewLog, IsWrittenSince, over}
-use Rattle.rq_cases.specs.Run.{log_1, log_5, begun_again, take_started, committed, forced, take_sub}
-use Rattle.rq_cases.specs.Store.{formatted_pages, page_image, cells_1}
+use Rattle.rq_cases.specs.Opened.{AreNewPages, IsForcedSince, IsNewLog, over}
+use Rattle.rq_cases.specs.Run.{log_1, log_5, committed, forced}
+use Rattle.rq_cases.specs.Store.{formatted_pages}
 
 -- the call was made of the one store, and made the other of it
 abbrev pub Makes : OpenStore MemPages MemLog → Event → Reply → OpenStore MemPages MemLog → Type 0
@@ -31,35 +30,13 @@ pub record MeetsAll (s : OpenStore MemPages MemLog) : Type 0 where
   pub sound : IsSound s.state
   pub fit : AreFit mem_pages s
 
+-- the commit of a message is forced; and what no call may answer or make, whatever else it does
 pub record CallsAreApplied : Type 0 where
-  pub spelled_records : AreSpelled log_5
-  -- the receive of the committed message is started
-  pub before_the_receive : (pages : MemPages) (log : MemLog) → AreNewPages pages formatted_pages → IsNewLog log log_5
-      → MeetsAll (over begun_again pages log)
-  pub receive_started : (pages : MemPages) (log : MemLog) → AreNewPages pages formatted_pages → IsNewLog log log_5
-      → Makes (over begun_again pages log) (event.StartReceive t2) (reply.Started take_sub)
-      (over take_started pages log)
-  -- the commit of the message is forced
-  pub before_the_force : (pages : MemPages) (log : MemLog) → AreNewPages pages formatted_pages → IsNewLog log log_1
+  pub before_the_force : (pages : MemPages) (log : MemLog) → AreNewPages pages formatted_pages
       → MeetsAll (over committed pages log)
   pub log_forced : (pages : MemPages) (old new : MemLog) → AreNewPages pages formatted_pages → IsNewLog old log_1
       → IsForcedSince old new (spelled (take 4 log_5))
       → Makes (over committed pages old) event.Force (reply.Forced 5) (over forced pages new)
-  -- or the device fails in it, and the store is stopped
-  pub force_failed : (pages : MemPages) (old new : MemLog) → AreNewPages pages formatted_pages → IsNewLog old log_1
-      → HasFailedSince old new
-      → Makes (over committed pages old) event.Force (reply.Refused why.DiskWrite)
-      (over (record committed { failed = true }) pages new)
-  -- then its cell's page is written
-  pub before_the_write : (pages : MemPages) (log : MemLog) → AreNewPages pages formatted_pages → IsNewLog log log_5
-      → MeetsAll (over forced pages log)
-  pub page_written : (old new : MemPages) (log : MemLog) → AreNewPages old formatted_pages → IsNewLog log log_5
-      → IsWrittenSince old new 2 (page_image 2 2 2 cells_1)
-      → Makes (over forced old log) (event.WritePage 2) (reply.Written Done)
-      (record (over forced new log) { changed = false ∷ true ∷ false ∷ [] })
-
--- what no call may answer or make, whatever else it does
-pub record CallsAreNotApplied : Type 0 where
   pub another_sizes : (old new : OpenStore MemPages MemLog) (e : Event) (r : Reply)
       → new.state.sizes ≢ old.state.sizes → Makes old e r new → ⊥
   pub failed_while_it_runs : (old new : OpenStore MemPages MemLog) (e : Event) → old.state.failed ≡ false
@@ -68,11 +45,6 @@ pub record CallsAreNotApplied : Type 0 where
       → Makes old event.HandOver reply.HandedOver new → ⊥
   pub refused_and_changed : (old new : OpenStore MemPages MemLog) (e : Event) → new ≢ old
       → Makes old e (reply.Refused why.NoMemory) new → ⊥
-  pub refused_without_its_cause : (pages : MemPages) (log : MemLog) (new : OpenStore MemPages MemLog)
-      → AreNewPages pages formatted_pages → IsNewLog log log_5
-      → Makes (over begun_again pages log) (event.StartReceive t2) (reply.Refused why.Latched) new → ⊥
-  pub none_where_one_waits : (pages : MemPages) (log : MemLog) (new : OpenStore MemPages MemLog)
-      → Makes (over begun_again pages log) (event.StartReceive t2) reply.NoMessage new → ⊥
   pub page_marked : (old new : OpenStore MemPages MemLog) (t : Txn) (r : Reply) → new.changed ≢ old.changed
       → Makes old (event.StartReceive t) r new → ⊥
   pub page_touched : (old new : OpenStore MemPages MemLog) (t : Txn) (r : Reply) → new.pages ≢ old.pages

@@ -7,8 +7,7 @@ use Rattle.rq_disk.specs.declared.mem_log.MemLog.{MemLog}
 use Rattle.rq_disk.specs.declared.mem_pages.MemPages.{MemPages}
 use Rattle.rq_views.specs.WorkedItems.{t1, t2}
 use Rattle.rq_store.specs.State.{State}
-use Rattle.rq_shared.specs.Entries.{BeginsSound, Follows, Noted, OneMore, WasSound}
-use Rattle.rq_shared.specs.Marks.{IsMark, newcomer, seat_view}
+use Rattle.rq_shared.specs.Entries.{BeginsSound, Follows, Noted, WasSound}
 use Rattle.rq_core.specs.Devices.{mem_log, mem_pages}
 use Rattle.rq_cases.specs.Opened.{over}
 use Rattle.rq_cases.specs.Run.{begun_again, forced, take_started}
@@ -47,15 +46,11 @@ Began premise s pages log = BeginsSound mem_pages mem_log premise (record {
 })
 
 pub record AuditsAreJudged : Type 0 where
-  pub of_no_call : Leads forced [] forced
   pub of_two_calls : Leads forced (began ∷ took ∷ []) take_started
   pub call_left_out : LeadsNot forced (took ∷ []) take_started
   pub all_left_out : LeadsNot forced [] begun_again
   pub another_number : LeadsNot forced (record { pass = 1; call = Begin; gave = Gave_txn t1 } ∷ []) begun_again
   pub another_call : LeadsNot forced (record { pass = 1; call = Begin; gave = Gave_none } ∷ []) begun_again
-  pub one_more : OneMore (began ∷ []) (began ∷ took ∷ []) took
-  pub one_more_in_front : OneMore (took ∷ []) (began ∷ took ∷ []) began → ⊥
-  pub no_more : OneMore (began ∷ []) (began ∷ []) took → ⊥
   -- what is shared is sound, or its premise fails
   pub shared_sound : MayBeShared (Unit {0}) forced
   pub shared_unsound : (pages : MemPages) (log : MemLog)
@@ -64,9 +59,3 @@ pub record AuditsAreJudged : Type 0 where
   pub began_sound : (pages : MemPages) (log : MemLog) → Began (Unit {0}) forced pages log
   pub began_unsound : (pages : MemPages) (log : MemLog) → Began (Unit {0}) beyond pages log → ⊥
   pub began_without_premise : (pages : MemPages) (log : MemLog) → Began ⊥ beyond pages log
-  -- the mark is 0, or was published, and nobody saw more
-  pub new_mark : IsMark (0 ∷ []) (newcomer ∷ [])
-  pub published : IsMark (5 ∷ []) (newcomer ∷ seat_view (5 ∷ []) 5 ∷ [])
-  pub never_published : IsMark (5 ∷ []) (newcomer ∷ []) → ⊥
-  pub saw_more : IsMark (0 ∷ []) (seat_view (5 ∷ []) 5 ∷ []) → ⊥
-  pub two_words : IsMark (0 ∷ 0 ∷ []) (newcomer ∷ []) → ⊥

@@ -1,5 +1,5 @@
 -- A log at its bound: calls that just fit, and calls that are refused.
-use Rattle.std.specs.Prelude.{◌≡◌, ℕ, zero, suc, ◌+◌, ◌-◌, ◌*◌, ◌^◌, ◌<◌, ◌≤◌, Bool, false, true, List, [], ◌∷◌, length, Option, Some, None}
+use Rattle.std.specs.Prelude.{◌≡◌, ℕ, zero, suc, ◌+◌, ◌-◌, ◌^◌, ◌<◌, ◌≤◌, Bool, false, true, List, [], ◌∷◌, length, Option, Some, None}
 use Rattle.std.specs.List.{sum_by}
 use Rattle.rq_model.specs.declared.record.Record.{Record}
 use Rattle.rq_model.specs.declared.record.Record.TheVariants.{Commit as Commit_record}
@@ -17,11 +17,10 @@ use Rattle.rq_disk.specs.declared.mem_pages.MemPages.{MemPages}
 use Rattle.rq_txn.specs.Rows.{fresh_row, without_row}
 use Rattle.rq_groups.specs.Ends.{released}
 use Rattle.rq_store.specs.Opening.{next_restart, opened}
-use Rattle.rq_store.specs.Sound.{takes_one}
+use Rattle.rq_store.specs.Settled.{takes_one}
 use Rattle.rq_sound.specs.Sound.{IsSound}
 use Rattle.rq_store.specs.State.{State, ledger_of, size_of}
 use Rattle.rq_sound.specs.Steps.{Steps}
-use Rattle.rq_engine.specs.Kept.{IsKept, total_of}
 use Rattle.rq_engine.specs.Lists.{done_by}
 use Rattle.rq_engine.specs.Moves.{with_sends, with_tags}
 use Rattle.rq_engine.specs.Opened.{OpenStore}
@@ -155,9 +154,3 @@ pub record BoundsAreJudged : Type 0 where
   pub restart_full_where_it_fits : (n : ℕ) (pages new_pages : MemPages) (log new_log : MemLog) → n < 2 ^ 50
       → Hold pages formatted_pages log (restarts n)
       → IsRefused pages log why.LogFull new_pages new_log → ⊥
-  -- the bytes for it are reserved, and no more: two slot writes, and an end with its deed
-  pub room_kept : IsKept send_started false 3 (546 * 2 + 60)
-  pub less_room : IsKept send_started false 3 (546 * 2 + 59) → ⊥
-  pub another_count : IsKept send_started false 2 (546 * 2 + 60) → ⊥
-  pub over_the_bound : (s : State) (failed : Bool) (owed reserved : ℕ) → 2 ^ 50 < total_of s
-      → IsKept s failed owed reserved → ⊥

@@ -1,21 +1,15 @@
 -- Runs of calls of both devices, crashes that a course may meet, and pages and logs over their devices: over the worked
 -- run, and what isn't so.
-use Rattle.std.specs.Prelude.{◌≡◌, ◌≢◌, ℕ, ◌<◌, Bool, false, true, List, [], ◌∷◌, length, take, Vec}
-use Rattle.std.specs.declared.alloc.Global.{Global}
+use Rattle.std.specs.Prelude.{◌≢◌, ℕ, ◌<◌, List, [], ◌∷◌, length}
 use Rattle.rq_model.specs.declared.record.Record.{Record}
 use Rattle.rq_model.specs.History.Call.{Begin, Force}
 use Rattle.rq_model.specs.Replay.Reply.{Gave_forced}
 use Rattle.rq_model.specs.Incarnations.{Ties}
 use Rattle.rq_model.specs.Ledger.{ledger}
 use Rattle.rq_disk.specs.Device.{Images, Leaves}
-use Rattle.rq_disk.specs.Records.{HoldsRecords}
-use Rattle.rq_disk.specs.declared.mem_log.LogCall.TheVariants.{Append}
 use Rattle.rq_disk.specs.declared.mem_log.MemLog.{MemLog}
 use Rattle.rq_disk.specs.declared.mem_pages.MemPages.{MemPages}
-use Rattle.rq_log.specs.Logged.{WasDurable}
 use Rattle.rq_log.specs.Spelled.{AreSpelled, spelled}
-use Rattle.rq_pool.specs.Pooled.{AreOver, IsPool}
-use Rattle.rq_pool.specs.Reading.{AreSeen}
 use Rattle.rq_engine.specs.Crash.{RunsThroughCuts}
 use Rattle.rq_engine.specs.Devices.{Path}
 use Rattle.rq_engine.specs.Opened.{OpenStore}
@@ -26,9 +20,7 @@ use Rattle.rq_core.specs.Happenings.Happening.{Asks, Crashes, Stops_in, Stops_re
 use Rattle.rq_core.specs.Runs.{CanCrash}
 use Rattle.rq_core.specs.Worked.{first_entries}
 use Rattle.rq_cases.specs.Courses as courses
-use Rattle.rq_cases.specs.Opened.{AreNewPages, IsForcedSince, IsNewLog, over}
-use Rattle.rq_cases.specs.Openings.{logged}
-use Rattle.rq_cases.specs.Reading.{no_cells, superblock}
+use Rattle.rq_cases.specs.Opened.{over}
 use Rattle.rq_cases.specs.Run.{committed, forced, log_1, log_5}
 use Rattle.rq_cases.specs.Store.{formatted_pages, sent_pages, sizes}
 use Rattle.rq_cases.specs.Worlds.{Hold, course_to}
@@ -59,12 +51,7 @@ pub record RunsAreJudged : Type 0 where
       → Leaves (mem_pages.may_be pages) images → NeverLeavesPages images pages log new now → ⊥
   pub pages_left_at_its_end : (pages new : MemPages) (log now : MemLog) (images : Images)
       → Leaves (mem_pages.may_be new) images → NeverLeavesPages images pages log new now → ⊥
-  pub no_call : (pages : MemPages) (log : MemLog) (bytes : List ℕ) → (mem_log.may_leave log bytes → ⊥)
-      → NeverLeaves bytes pages log pages log
-  -- a force goes through cuts of the store's records
-  pub force : (pages : MemPages) (old new : MemLog) → Hold pages formatted_pages old log_1
-      → IsForcedSince old new (spelled (take 4 log_5))
-      → Through (over committed pages old) (over forced pages new)
+  -- a call goes through cuts of the store's records alone
   pub page_ahead : (pages : MemPages) (log : MemLog) (new : OpenStore MemPages MemLog) → Hold pages sent_pages log log_1
       → Through (over committed pages log) new → ⊥
   pub forced_lost_between : (pages : MemPages) (log : MemLog) (new : OpenStore MemPages MemLog)
@@ -94,31 +81,3 @@ pub record CrashesAreJudged : Type 0 where
       (records : List Record) (n : ℕ) → AreSpelled records → length records < n
       → mem_log.may_leave log (spelled records)
       → MayFail ((Asks Force, Answered (Gave_forced n)) ∷ course) x pages log → ⊥
-
--- these bytes were handed to the log's device, which was not forced since
-pub record IsHandedSince (old new : MemLog) (bytes : List ℕ) : Type 0 where
-  pub run : Vec ℕ Global
-  pub items : run.items ≡ bytes
-  pub first : take new.first new.bytes.items ≡ take old.first old.bytes.items
-  pub calls : new.calls.items ≡ Append run ∷ []
-
-pub record PoolsAreJudged : Type 0 where
-  pub pool : IsPool sizes sent_pages
-  pub no_cell_page : IsPool sizes no_cells → ⊥
-  pub too_few_pages : IsPool sizes (superblock ∷ []) → ⊥
-  pub no_superblock : IsPool sizes ([] ∷ [] ∷ [] ∷ []) → ⊥
-  -- what is seen of a device
-  pub are_seen : (d : MemPages) → AreNewPages d formatted_pages → AreSeen (mem_pages.seen d) formatted_pages 3
-  pub others_are_seen : (d : MemPages) → AreNewPages d formatted_pages → AreSeen (mem_pages.seen d) sent_pages 3 → ⊥
-  pub records_are_held : HoldsRecords (spelled log_5) 5
-  -- pages that were not changed stand so on their device
-  pub over_their_device : (d : MemPages) → AreNewPages d formatted_pages
-      → AreOver mem_pages d sizes sent_pages (false ∷ true ∷ true ∷ [])
-  pub change_not_marked : (d : MemPages) → AreNewPages d formatted_pages
-      → AreOver mem_pages d sizes sent_pages (false ∷ true ∷ false ∷ []) → ⊥
-  pub too_few_marks : (d : MemPages) (images : List (List ℕ)) (b : Bool) → AreOver mem_pages d sizes images (b ∷ []) → ⊥
-  pub over_no_pages : (d : MemPages) (changed : List Bool) → AreOver mem_pages d sizes no_cells changed → ⊥
-  -- a crash would have left the log that was read, or forced, and nothing else
-  pub was_durable : (d : MemLog) → IsNewLog d log_5 → WasDurable mem_log (logged log_5 d)
-  pub only_handed_over : (old d : MemLog) → IsNewLog old log_1 → IsHandedSince old d (spelled (take 4 log_5))
-      → WasDurable mem_log (logged log_5 d) → ⊥

@@ -31,20 +31,12 @@ pub record Handed : Type 0 where
   pub groups_are : groups.value ≡ page_image 0 1 1 groups_0
   pub cells_are : cells.value ≡ page_image 0 2 2 cells_0
 
--- the others and a sync, and then the superblock and another
-abbrev pub in_order : Handed → List PageCall
-in_order h = Write 1 h.groups ∷ Write 2 h.cells ∷ Sync ∷ Write 0 h.first ∷ Sync ∷ []
-
 pub record FormatsAreJudged : Type 0 where
-  pub last : (old new : MemPages) (h : Handed) → AreNewPages old blank → HasCalled old new (in_order h)
-      → SuperblockIsLast mem_pages sizes old new
   pub first : (old new : MemPages) (h : Handed) → AreNewPages old blank → HasCalled old new (Write 0 h.first ∷ [])
       → SuperblockIsLast mem_pages sizes old new → ⊥
   pub not_synced : (old new : MemPages) (h : Handed) → AreNewPages old blank
       → HasCalled old new (Write 1 h.groups ∷ Write 2 h.cells ∷ Write 0 h.first ∷ Sync ∷ [])
       → SuperblockIsLast mem_pages sizes old new → ⊥
-  pub only_its_own : (old new : MemPages) (h : Handed) → AreNewPages old blank → HasCalled old new (in_order h)
-      → WritesItsPages mem_pages sizes old new
   pub another_page : (old new : MemPages) (h : Handed) → AreNewPages old blank
       → HasCalled old new (Write 3 h.cells ∷ [])
       → WritesItsPages mem_pages sizes old new → ⊥

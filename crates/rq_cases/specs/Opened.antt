@@ -1,5 +1,5 @@
 -- Devices in memory, as the worked run finds them and as its calls leave them.
-use Rattle.std.specs.Prelude.{◌≡◌, ℕ, ◌+◌, ◌%◌, ◌^◌, List, [], ◌∷◌, ◌++◌, false, true, take, Vec, Box}
+use Rattle.std.specs.Prelude.{◌≡◌, ℕ, ◌+◌, List, [], ◌∷◌, ◌++◌, false, true, take, Vec, Box}
 use Rattle.std.specs.declared.alloc.Global.{Global}
 use Rattle.rq_model.specs.declared.record.Record.{Record}
 use Rattle.rq_disk.specs.Memory.{fresh_log, fresh_pages}
@@ -28,12 +28,6 @@ pub record IsForcedSince (old new : MemLog) (bytes : List ℕ) : Type 0 where
   pub first : take new.first new.bytes.items ≡ take old.first old.bytes.items
   pub calls : new.calls.items ≡ Append run ∷ Force ∷ []
   pub failures : new.failures ≡ old.failures
-
--- a log's device that has failed once more, and did nothing
-pub record HasFailedSince (old new : MemLog) : Type 0 where
-  pub first : take new.first new.bytes.items ≡ take old.first old.bytes.items
-  pub calls : new.calls.items ≡ old.calls.items
-  pub failures : new.failures ≡ (old.failures + 1) % 2 ^ 64
 
 -- the pages once this image was written
 pub record IsWrittenSince (old new : MemPages) (page : ℕ) (image : List ℕ) : Type 0 where

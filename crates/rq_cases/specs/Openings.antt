@@ -1,57 +1,41 @@
 -- What a restart has checked, what it leaves of a log, and why and where it was refused: over the worked run.
-use Rattle.std.specs.Prelude.{◌≡◌, ◌≢◌, ℕ, ◌+◌, ◌%◌, ◌^◌, ◌<◌, List, [], ◌∷◌, ◌++◌, length, false, true}
+use Rattle.std.specs.Prelude.{◌≡◌, ◌≢◌, ℕ, ◌^◌, ◌<◌, List, ◌∷◌, length, false, true}
 use Rattle.rq_model.specs.declared.record.Record.{Record}
 use Rattle.rq_model.specs.declared.record.Record.TheVariants.{Commit, Restart}
 use Rattle.rq_model.specs.declared.refusal.Refusal.{Refusal}
 use Rattle.rq_model.specs.declared.refusal.Refusal.TheVariants as why
 use Rattle.rq_model.specs.declared.refusal.Damage.{Damage}
-use Rattle.rq_model.specs.declared.refusal.Damage.TheVariants as damage
 use Rattle.rq_model.specs.History.Call.{Begin, Commit as Commit_call}
 use Rattle.rq_disk.specs.Device.{Images}
-use Rattle.rq_disk.specs.Memory.{fresh_log}
-use Rattle.rq_disk.specs.Shown.{log_moment, log_of}
 use Rattle.rq_disk.specs.declared.mem_log.MemLog.{MemLog}
 use Rattle.rq_disk.specs.declared.mem_pages.MemPages.{MemPages}
 use Rattle.rq_log.specs.Logged.{Logged}
 use Rattle.rq_log.specs.Spelled.{spelled}
-use Rattle.rq_page.specs.Sizes.{Sizes}
 use Rattle.rq_views.specs.WorkedItems.{t1, t2}
 use Rattle.rq_store.specs.Fitting.{image_in}
-use Rattle.rq_store.specs.Steps.{page_op}
 use Rattle.rq_engine.specs.Answers.{Refuses}
 use Rattle.rq_restart.specs.Refused.{BeginsNot, MayBeShut}
-use Rattle.rq_restart.specs.Repeating.{Paged, Repeats}
+use Rattle.rq_restart.specs.Repeating.{Paged}
 use Rattle.rq_restart.specs.Restarting.{BeginsAtMost, IsBegun, IsReady, IsRefusedFor, LogStops, WasChecked}
 use Rattle.rq_restart.specs.Underway.{IsLeftOrGoesOn, OfStores}
 use Rattle.rq_core.specs.Devices.{mem_log, mem_pages}
 use Rattle.rq_core.specs.Runs.{GoesOnShut}
-use Rattle.rq_cases.specs.Opened.{AreNewPages, IsForcedSince, IsNewLog}
+use Rattle.rq_cases.specs.Opened.{AreNewPages, IsNewLog}
 use Rattle.rq_cases.specs.Reading.{no_cells}
-use Rattle.rq_cases.specs.Restarting.{read_pages, repeated_pages}
+use Rattle.rq_cases.specs.Restarting.{read_pages}
 use Rattle.rq_cases.specs.Run.{forced, log_1, log_4, log_5}
-use Rattle.rq_cases.specs.Store.{formatted_pages, free_cell, sent_pages, sizes}
+use Rattle.rq_cases.specs.Store.{formatted_pages, sizes}
 use Rattle.rq_cases.specs.Worlds.{Hold}
 
 -- the log with the record that begins the next incarnation
 abbrev pub log_next : List Record
 log_next = Restart 2 ∷ log_5
 
--- a log whose second record frees a cell that holds nothing
-abbrev pub odd_log : List Record
-odd_log = page_op t1 1 free_cell ∷ log_1
-
--- a log in memory of these bytes, with no call since
-pub record HoldsBytes (d : MemLog) (bytes : List ℕ) : Type 0 where
-  pub log : log_of d ≡ fresh_log bytes
-  pub moment : log_moment d ≡ 0
-
 -- both devices were read, and left so; this was checked of them
 abbrev pub Checked : MemPages → MemLog → MemLog → Paged → List Record → Type 0
 Checked pages log new last records = WasChecked mem_pages mem_log pages log sizes last records pages new
 
 pub record ChecksAreJudged : Type 0 where
-  pub checked : (pages : MemPages) (log new : MemLog) → Hold pages formatted_pages log log_5
-      → Checked pages log new repeated_pages log_next
   pub not_repeated : (pages : MemPages) (log new : MemLog) → IsNewLog log log_5 → AreNewPages pages formatted_pages
       → Checked pages log new read_pages log_next → ⊥
   pub no_record : (pages : MemPages) (log new : MemLog) (last : Paged) → Checked pages log new last log_5 → ⊥
@@ -75,15 +59,6 @@ abbrev pub Stops : Refusal → MemLog → MemLog → Type 0
 Stops r old new = LogStops mem_log sizes read_pages r old new
 
 pub record RefusalsAreJudged : Type 0 where
-  -- for its pages
-  pub page_damaged : (pages : MemPages) (log : MemLog) → AreNewPages pages no_cells
-      → IsRefused pages log (why.Damaged (damage.Page 2)) pages log
-  pub no_page_damaged : (pages new_pages : MemPages) (log new_log : MemLog) → AreNewPages pages formatted_pages
-      → IsRefused pages log (why.Damaged (damage.Page 0)) new_pages new_log → ⊥
-  pub page_ahead : (pages : MemPages) (log : MemLog) → Hold pages sent_pages log log_1
-      → IsRefused pages log (why.Damaged (damage.Page 1)) pages log
-  pub read_failed : (pages new : MemPages) (log : MemLog)
-      → mem_pages.faults new ≡ (mem_pages.faults pages + 1) % 2 ^ 64 → IsRefused pages log why.DiskRead new log
   -- for its log
   pub unfinished : (pages new_pages : MemPages) (log new_log : MemLog)
       → IsRefused pages log why.Unfinished new_pages new_log → ⊥
@@ -91,24 +66,10 @@ pub record RefusalsAreJudged : Type 0 where
       → mem_log.seen new_log ≢ mem_log.seen log → IsRefused pages log why.LogFull new_pages new_log → ⊥
   pub otherwise : (pages new_pages : MemPages) (log new_log : MemLog)
       → IsRefused pages log why.Full new_pages new_log → ⊥
-  -- and where, behind which records
   pub one_open : (old new : MemLog) → Stops why.Unfinished old new → ⊥
-  pub damaged_behind : (d : MemLog) → HoldsBytes d (spelled log_1 ++ 0 ∷ [])
-      → Stops (why.Damaged (damage.Record 2)) d d
-  pub damaged_elsewhere : (old new : MemLog) → HoldsBytes old (spelled log_1 ++ 0 ∷ [])
-      → Stops (why.Damaged (damage.Record 3)) old new → ⊥
-  pub first_of_two : (d : MemLog) → HoldsBytes d (spelled odd_log ++ 0 ∷ [])
-      → Stops (why.Damaged (damage.Record 2)) d d
-  pub second_of_two : (old new : MemLog) → HoldsBytes old (spelled odd_log ++ 0 ∷ [])
-      → Stops (why.Damaged (damage.Record 3)) old new → ⊥
   -- behind records that all belong and are repeated
-  pub memory_wanting : (d : MemLog) → Stops why.NoMemory d d
-  pub damage_behind : (d : MemLog) → HoldsBytes d (spelled log_5 ++ 0 ∷ []) → Stops (why.Damaged (damage.Record 6)) d d
-  pub none_behind_a_bad_one : (last : Paged) → Repeats sizes odd_log read_pages last → ⊥
   -- why no incarnation was begun
-  pub begins_not_for_room : (last before : ℕ) → BeginsNot why.LogFull (2 ^ 50) last before before (Unit {0})
   pub begins_not_of_five : BeginsNot why.LogFull 5 1 0 0 (Unit {0}) → ⊥
-  pub may_be_shut : MayBeShut (Unit {0}) sizes log_4 why.NoMemory 0 0
   pub may_not_be_shut : MayBeShut (Unit {0}) sizes log_4 why.Unfinished 0 0 → ⊥
   pub damaged_though_left : (d : Damage) → MayBeShut (Unit {0}) sizes log_5 (why.Damaged d) 0 0 → ⊥
 
@@ -126,13 +87,11 @@ logged records d = record {
 
 pub record BeginningsAreJudged : Type 0 where
   -- the record of the next incarnation is added, and forced
-  pub begun : (d : MemLog) → IsBegun log_5 (logged log_next d)
   pub begun_without_a_record : (d : MemLog) → IsBegun log_5 (logged log_5 d) → ⊥
   pub begun_the_same : (d : MemLog) → IsBegun log_5 (logged (Restart 1 ∷ log_5) d) → ⊥
   pub begun_and_not_forced : (d : MemLog) → IsBegun log_5 (record (logged log_next d) { forced = 5 }) → ⊥
   pub begun_and_failed : (d : MemLog) → IsBegun log_5 (record (logged log_next d) { failed = true }) → ⊥
   -- then an engine may be opened over it
-  pub ready : (d : MemLog) → IsNewLog d log_next → IsReady mem_log 2 (logged log_next d)
   pub ready_for_none : (log : Logged MemLog) → IsReady mem_log 0 log → ⊥
   pub ready_and_failed : (i : ℕ) (log : Logged MemLog) → log.failed ≡ true → IsReady mem_log i log → ⊥
   pub ready_and_too_long : (i : ℕ) (log : Logged MemLog) → 2 ^ 50 < length log.records → IsReady mem_log i log → ⊥
@@ -140,9 +99,6 @@ pub record BeginningsAreJudged : Type 0 where
   pub ready_and_not_forced : (d : MemLog) → mem_log.may_leave d (spelled log_5)
       → IsReady mem_log 2 (logged log_next d) → ⊥
   -- at each moment a crash leaves the log as it was, or with that record
-  pub nothing_done : (d : MemLog) → BeginsAtMost mem_log sizes (image_in formatted_pages) d d
-  pub record_forced : (old new : MemLog) → IsNewLog old log_5 → IsForcedSince old new (spelled (Restart 2 ∷ []))
-      → BeginsAtMost mem_log sizes (image_in formatted_pages) old new
   pub record_lost : (old new : MemLog) → IsNewLog old log_5
       → mem_log.left_since new (mem_log.moment old) (spelled log_4)
       → BeginsAtMost mem_log sizes (image_in formatted_pages) old new → ⊥
@@ -156,17 +112,14 @@ pub record BeginningsAreJudged : Type 0 where
       → OfStores mem_pages mem_log pages log pages new (λ z read. read ≡ log_4) → ⊥
   pub of_no_store : (pages : MemPages) (log new : MemLog) → Hold pages formatted_pages log log_5
       → OfStores mem_pages mem_log pages log pages new (λ z read. ⊥) → ⊥
-  pub goes_on : (log : MemLog) → IsLeftOrGoesOn mem_log log sizes log_5 (image_in formatted_pages) (spelled log_next)
   pub goes_on_with_a_commit : (log : MemLog) (images : Images) → IsNewLog log log_1
       → IsLeftOrGoesOn mem_log log sizes log_1 images (spelled (Commit t1 ∷ log_1)) → ⊥
   -- a store whose restart is refused stays as it was, for no damage
-  pub stays_shut : (pages : MemPages) (log : MemLog) → GoesOnShut pages log pages log why.DiskWrite
   pub shut_for_damage : (pages new_pages : MemPages) (log new_log : MemLog) (d : Damage)
       → Hold pages formatted_pages log log_5 → GoesOnShut pages log new_pages new_log (why.Damaged d) → ⊥
   pub shut_with_less : (pages new_pages : MemPages) (log new_log : MemLog) (r : Refusal)
       → Hold pages formatted_pages log log_5 → IsNewLog new_log log_1
       → GoesOnShut pages log new_pages new_log r → ⊥
   -- a call of a store may be refused so
-  pub refuses : Refuses forced (Commit_call t1) why.UnknownTransaction
   pub refuses_without_reason : Refuses forced Begin why.TooManyTransactions → ⊥
   pub refuses_without_cause : Refuses forced (Commit_call t2) why.DiskWrite → ⊥

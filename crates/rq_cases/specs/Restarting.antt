@@ -1,41 +1,35 @@
 -- What a restart finds, makes and refuses, over the worked run.
-use Rattle.std.specs.Prelude.{ℕ, List, [], ◌∷◌, length, false, true}
+use Rattle.std.specs.Prelude.{ℕ, List, ◌∷◌, length}
 use Rattle.rq_model.specs.declared.record.Record.{Record}
 use Rattle.rq_model.specs.declared.refusal.Refusal.{Refusal}
 use Rattle.rq_model.specs.declared.record.Record.TheVariants.{Commit, Restart}
 use Rattle.rq_model.specs.declared.refusal.Damage.{Damage}
 use Rattle.rq_model.specs.declared.refusal.Refusal.TheVariants as why
-use Rattle.rq_model.specs.declared.refusal.Damage.TheVariants as damage
 use Rattle.rq_disk.specs.declared.mem_log.MemLog.{MemLog}
 use Rattle.rq_disk.specs.declared.mem_pages.MemPages.{MemPages}
 use Rattle.rq_log.specs.Spelled.{spelled}
 use Rattle.rq_views.specs.WorkedItems.{t1}
 use Rattle.rq_store.specs.Fitting.{image_in}
 use Rattle.rq_store.specs.Opening.{IsLeft}
-use Rattle.rq_store.specs.Steps.{page_op}
-use Rattle.rq_restart.specs.Repeating.{IsFirstUncounted, Paged}
+use Rattle.rq_restart.specs.Repeating.{Paged}
 use Rattle.rq_restart.specs.Restarting.{IsBegunOn, IsLeftOn, IsReadAs, Reports, Stops}
 use Rattle.rq_restart.specs.Mended.{IsUnlinked}
-use Rattle.rq_restart.specs.Refused.{NotRepeated, WhyShut}
+use Rattle.rq_restart.specs.Refused.{WhyShut}
 use Rattle.rq_restart.specs.Checked.{IsEnded, IsGoneThrough, as_read}
 use Rattle.rq_core.specs.Devices.{mem_log, mem_pages}
 use Rattle.rq_cases.specs.Opened.{AreNewPages, IsNewLog}
-use Rattle.rq_cases.specs.Run.{log_1, log_2, log_4, log_5}
-use Rattle.rq_cases.specs.Store.{fill_cell, formatted_pages, free_cell, sent_pages, sizes}
+use Rattle.rq_cases.specs.Run.{log_1, log_4, log_5}
+use Rattle.rq_cases.specs.Store.{formatted_pages, sent_pages, sizes}
 
 -- the pages as they were read, and once the log of the send is gone through
 abbrev pub read_pages : Paged
 read_pages = as_read sizes formatted_pages
-
-abbrev pub repeated_pages : Paged
-repeated_pages = record { image = image_in sent_pages; changed = false ∷ true ∷ true ∷ [] }
 
 -- a restart was refused for this over the log, and the log's device was left alone
 abbrev pub Shuts : List Record → Refusal → Type 0 → Type 0
 Shuts log r untouched = WhyShut sizes log read_pages r 0 0 untouched
 
 pub record RestartsAreJudged : Type 0 where
-  pub reports : Reports sizes log_5 (Restart 2 ∷ log_5) 2 6 0 0
   pub reports_the_same_incarnation : (n undone gone : ℕ) → Reports sizes log_5 (Restart 2 ∷ log_5) 1 n undone gone
       → ⊥
   pub reports_no_record : (i undone gone : ℕ) → Reports sizes log_5 (Restart 2 ∷ log_5) i 5 undone gone → ⊥
@@ -43,30 +37,16 @@ pub record RestartsAreJudged : Type 0 where
   pub one_lost : (records : List Record) → Reports sizes log_4 records 2 (length records) 0 1
   pub none_lost : (records : List Record) (i n undone : ℕ) → Reports sizes log_4 records i n undone 0 → ⊥
   -- what was read, and what was left
-  pub read_as : (d : MemLog) → IsNewLog d log_5 → IsReadAs mem_log d d log_5
   pub read_as_less : (d new : MemLog) → IsNewLog d log_5 → IsReadAs mem_log d new log_4 → ⊥
-  pub left_on : (d : MemPages) → AreNewPages d formatted_pages → IsLeftOn mem_pages sizes d d log_5
   pub left_ahead : (d new : MemPages) → AreNewPages d sent_pages → IsLeftOn mem_pages sizes d new log_1 → ⊥
   -- every transaction in the log that did something has ended, whatever its operations
-  pub ended : IsEnded log_5
   pub transaction_open : IsEnded log_4 → ⊥
-  pub operation_open : IsEnded log_2
   -- the next incarnation is begun behind what was read, where they all have, and else once the others are undone
-  pub begun_on : IsBegunOn sizes (image_in formatted_pages) (spelled log_5) (spelled (Restart 2 ∷ log_5))
   pub begun_where_one_is_open : IsBegunOn sizes (image_in formatted_pages) (spelled log_4)
       (spelled (Restart 2 ∷ log_4)) → ⊥
   pub begun_by_a_commit : IsBegunOn sizes (image_in formatted_pages) (spelled log_1) (spelled (Commit t1 ∷ log_1)) → ⊥
   -- the log is gone through, and history repeated where a page is older
-  pub gone_through : IsGoneThrough sizes log_5 read_pages repeated_pages
   pub not_repeated : IsGoneThrough sizes log_5 read_pages read_pages → ⊥
-  -- a record whose before-image doesn't stand there, and a page that is beyond the log
-  pub bad_record : NotRepeated sizes log_1 (page_op t1 1 free_cell) read_pages (why.Damaged (damage.Record 2))
-  -- nor does one that breaks the rules of a log: an operation that has another number than 1
-  pub bad_rule : NotRepeated sizes log_1 (page_op t1 2 fill_cell) read_pages (why.Damaged (damage.Record 2))
-  pub bad_record_elsewhere : NotRepeated sizes log_1 (page_op t1 1 free_cell) read_pages
-      (why.Damaged (damage.Record 1)) → ⊥
-  pub page_beyond : IsFirstUncounted sizes 1 repeated_pages 1
-  pub page_beyond_is_not_the_first : IsFirstUncounted sizes 1 repeated_pages 2 → ⊥
   -- why it is refused
   pub unfinished : Shuts log_4 why.Unfinished (Unit {0}) → ⊥
   pub log_full_of_five : Shuts log_5 why.LogFull (Unit {0}) → ⊥

@@ -3,9 +3,8 @@
 use Rattle.std.specs.Prelude.{ℕ, false, List, [], ◌∷◌, replicate, Some, None}
 use Rattle.rq_model.specs.declared.record.Record.{Record}
 use Rattle.rq_model.specs.declared.record.Record.TheVariants.{Commit, Restart}
-use Rattle.rq_model.specs.declared.txn.Sub.{Sub}
 use Rattle.rq_model.specs.declared.txn.Txn.{Txn}
-use Rattle.rq_views.specs.WorkedItems.{of, sends, t1, t2, takes}
+use Rattle.rq_views.specs.WorkedItems.{sends, t1, t2, takes}
 use Rattle.rq_txn.specs.declared.Finished.{Finished}
 use Rattle.rq_txn.specs.declared.Aim.TheVariants.{Doing}
 use Rattle.rq_txn.specs.Rows.{Row, Under, fresh_row}
@@ -21,12 +20,6 @@ send_under made = record { number = 1; writes = fill_cell ∷ count_sent ∷ [];
 
 abbrev pub take_under : ℕ → Under
 take_under made = record { number = 1; writes = free_cell ∷ count_taken ∷ []; made = made; aim = Doing (takes 0) }
-
-abbrev pub send_sub : Sub
-send_sub = of t1 1
-
-abbrev pub take_sub : Sub
-take_sub = of t2 1
 
 -- a transaction with its first operation under way, and with that finished
 abbrev pub busy_row : Txn → Under → Row

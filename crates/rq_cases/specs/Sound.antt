@@ -7,7 +7,6 @@ use Rattle.rq_model.specs.Replay.Reply.{Gave_commit, Gave_forced, Gave_lsn, Gave
 use Rattle.rq_views.specs.WorkedItems.{t1, t2}
 use Rattle.rq_store.specs.Fitting.{image_in}
 use Rattle.rq_sound.specs.Sound.{IsSound}
-use Rattle.rq_store.specs.Rows.{FollowsPlan, IsRow}
 use Rattle.rq_sound.specs.Steps.{Steps}
 use Rattle.rq_store.specs.Worked.{AreFormatted}
 use Rattle.rq_cases.specs.Store.{sizes, formatted_pages}
@@ -37,23 +36,3 @@ pub record RunIsSound : Type 0 where
   pub take_counted : Steps run.cell_freed (Step t2 1) (Gave_lsn 7) run.take_counted
   pub taken : Steps run.take_counted (Finish t2 1) (Gave_message hello) run.taken
   pub all_committed : Steps run.taken (Commit t2) (Gave_commit (record { txn = t2; lsn = 9 })) run.all_committed
-
--- a transaction with an operation under way, over the log with the operation's first write
-pub record RowsAreJudged : Type 0 where
-  pub going : IsRow sizes run.log_2 run.sends_to_0 1 1 (run.busy_row t1 (run.send_under 1))
-  pub done : IsRow sizes run.log_4 run.sends_to_0 1 1 (run.done_row t1 run.did_send)
-  pub under_way : FollowsPlan sizes run.log_2 run.sends_to_0 t1 (run.send_under 1)
-  -- it has one write made more, or fewer, than there are records of
-  pub one_more_made : FollowsPlan sizes run.log_2 run.sends_to_0 t1 (run.send_under 2) → ⊥
-  pub none_made : FollowsPlan sizes run.log_2 run.sends_to_0 t1 (run.send_under 0) → ⊥
-  -- it doesn't hold the end, it has ended in the log, or is none of this incarnation
-  pub end_not_held : FollowsPlan sizes run.log_2 run.no_ends t1 (run.send_under 1) → ⊥
-  pub has_ended : FollowsPlan sizes run.log_4 run.sends_to_0 t1 (run.send_under 2) → ⊥
-  pub another_incarnation : IsRow sizes run.log_2 run.sends_to_0 2 1 (run.busy_row t1 (run.send_under 1)) → ⊥
-  pub never_begun : IsRow sizes run.log_2 run.sends_to_0 1 0 (run.busy_row t1 (run.send_under 1)) → ⊥
-  pub committed_already : IsRow sizes run.log_5 run.sends_to_0 1 1 (run.done_row t1 run.did_send) → ⊥
-  -- what it did is not what its records say
-  pub did_nothing : IsRow sizes run.log_4 run.sends_to_0 1 1 (record (run.done_row t1 run.did_send) { finished = [] })
-      → ⊥
-  pub another_number : IsRow sizes run.log_4 run.sends_to_0 1 1 (record (run.done_row t1 run.did_send) { number = 2 })
-      → ⊥

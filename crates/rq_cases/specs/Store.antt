@@ -110,16 +110,6 @@ set_closed = record {
   slot = group_slot;
 }
 
--- a write that leaves the group open
-abbrev pub leave_open : SlotWrite
-leave_open = record {
-  at = 17;
-  before = group new_directory;
-  after = group new_directory;
-  page = group_page;
-  slot = group_slot;
-}
-
 -- the slots of the directory page and of the cell page, formatted, and as each write leaves them
 abbrev pub groups_0 : ℕ → List ℕ
 groups_0 = formatted_slot sizes 1

@@ -20,7 +20,7 @@ use Rattle.rq_views.proofs.Deeds.{Sound}
 use Rattle.rq_txn.specs.declared.Finished.{Finished}
 use Rattle.rq_store.specs.State.{op_done}
 use Rattle.rq_store.specs.Rows.{placed, placed_one}
-use Rattle.rq_store.proofs.Holders.{placed_first}
+use Rattle.rq_store.proofs.Placed.{placed_first}
 use Rattle.rq_content.specs.Read.{Before, without_deed, without_send, without_take, without_all, or_else}
 
 -- a close is left out

@@ -39,7 +39,7 @@ use Rattle.rq_store.specs.Rows.{placed}
 use Rattle.rq_store.specs.Fitting.{left_by}
 use Rattle.rq_store.proofs.Grouping.{groups_of}
 use Rattle.rq_store.proofs.RowLists.{found_in}
-use Rattle.rq_store.proofs.Telling.{told_placed}
+use Rattle.rq_store.proofs.Placed.{told_placed}
 use Rattle.rq_sound.specs.Sound.{IsSound}
 use Rattle.rq_sound.proofs.Contracts.{shows}
 use Rattle.rq_sound.proofs.Groups.{none_latched}

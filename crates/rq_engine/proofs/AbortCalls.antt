@@ -11,16 +11,13 @@ use Rattle.rq_model.specs.declared.record.Deed.{Deed}
 use Rattle.rq_model.specs.declared.record.Deed.TheVariants.{Append, UnlinkHead, Close}
 use Rattle.rq_model.specs.declared.record.Record.{Record}
 use Rattle.rq_model.specs.declared.record.Record.TheVariants.{AbortEnd}
-use Rattle.rq_model.specs.declared.refusal.Refusal.{Refusal}
 use Rattle.rq_model.specs.declared.refusal.Refusal.TheVariants as why
-use Rattle.rq_model.specs.Causes.{HasCause}
-use Rattle.rq_model.specs.History.{Call}
 use Rattle.rq_model.specs.History.Call.{End_abort, Finish, Start_abort, Undo_next}
 use Rattle.rq_model.specs.Ledger.{found, runs}
 use Rattle.rq_model.specs.Legal.{OnFound}
 use Rattle.rq_model.specs.Tests.{IsUnready}
 use Rattle.rq_model.specs.Replay.Reply.{Gave_aborted, Gave_aborting, Gave_nothing_left, Gave_sub, Gave_undone}
-use Rattle.rq_model.specs.Tests.{NoneHolds, Passes, first_of, has_done, is_aborting, is_busy, log_full, newest, ready_tests, undo_cost}
+use Rattle.rq_model.specs.Tests.{NoneHolds, Passes, has_done, is_aborting, is_busy, log_full, newest, ready_tests, undo_cost}
 use Rattle.rq_model.specs.Words.{In, first, front, is_some, last, last_or, same_txn}
 use Rattle.rq_model.proofs.Lists.{same_is}
 use Rattle.rq_page.specs.Sizes.{cell_count}
@@ -34,12 +31,12 @@ use Rattle.rq_views.specs.Plans.{deed_sender}
 use Rattle.rq_views.specs.Stored.{slots_in, count_used}
 use Rattle.rq_txn.specs.declared.Aim.TheVariants.{Undoing}
 use Rattle.rq_txn.specs.declared.Finished.{Finished}
-use Rattle.rq_txn.specs.Rows.{AreDistinct, Row, Under, any_under, change_row, found_row, row_aborting, row_started, row_taken_back, row_undone, without_row}
+use Rattle.rq_txn.specs.Rows.{AreDistinct, Row, Under, change_row, found_row, row_aborting, row_started, row_taken_back, row_undone, without_row}
 use Rattle.rq_txn.proofs.Finding.{change_none}
 use Rattle.rq_groups.specs.Ends.{HeldEnds, released}
 use Rattle.rq_store.specs.State.{State, job_under, ledger_of, op_done, open_of, phase_of, size_of}
 use Rattle.rq_store.specs.Rows.{placed}
-use Rattle.rq_store.specs.Sound.{takes_one}
+use Rattle.rq_store.specs.Settled.{takes_one}
 use Rattle.rq_store.proofs.Grouping.{groups_of}
 use Rattle.rq_store.proofs.RowLists.{found_in}
 use Rattle.rq_planner.specs.Answered.{IsNewestDeed}
@@ -67,43 +64,7 @@ use Rattle.rq_engine.proofs.Waits.{waits-with_taken}
 
 -- ---- which tests hold
 
--- the refusals of a transaction that is not ready have no cause but that
-ready_cause : (b : Bool) (c : Call) (w x y z : Bool) (r : Refusal) → first_of ((w, why.Failed) ∷ (x, why.UnknownTransaction) ∷ (y, why.NotOpen) ∷ (z, why.Unfinished) ∷ []) ≡ Some r → HasCause b c r
-ready_cause b c true x y z r e = let same : why.Failed ≡ r = cc e in subst (HasCause b c) same tt
-ready_cause b c false true y z r e = let same : why.UnknownTransaction ≡ r = cc e in subst (HasCause b c) same tt
-ready_cause b c false false true z r e = let same : why.NotOpen ≡ r = cc e in subst (HasCause b c) same tt
-ready_cause b c false false false true r e = let same : why.Unfinished ≡ r = cc e in subst (HasCause b c) same tt
-ready_cause b c false false false false r e = cc e
-
 module _ (s : State) (t : Txn) where
-  cause_of : (aborting : Bool) (c : Call) (r : Refusal) → IsUnready (ledger_of s) t aborting r → HasCause (any_under s.rows) c r
-  cause_of aborting c r u = ready_cause (any_under s.rows) c _ _ _ _ r u.first
-
-  pub refuse_turn : (r : Refusal) → IsUnready (ledger_of s) t false r → Refuses s (Start_abort t) r
-  refuse_turn r u = refuse s (Start_abort t) r u.plain (cause_of false (Start_abort t) r u) u.first
-
-  front_of : (w x y z : Bool) (more : List (Bool × Refusal)) (r : Refusal) → first_of ((w, why.Failed) ∷ (x, why.UnknownTransaction) ∷ (y, why.NotOpen) ∷ (z, why.Unfinished) ∷ []) ≡ Some r
-      → first_of ((w, why.Failed) ∷ (x, why.UnknownTransaction) ∷ (y, why.NotOpen) ∷ (z, why.Unfinished) ∷ more) ≡ Some r
-  front_of true x y z more r e = e
-  front_of false true y z more r e = e
-  front_of false false true z more r e = e
-  front_of false false false true more r e = e
-  front_of false false false false more r e = cc e
-
-  pub refuse_undo : (r : Refusal) → IsUnready (ledger_of s) t true r → Refuses s (Undo_next t) r
-  refuse_undo r u = refuse s (Undo_next t) r u.plain (cause_of true (Undo_next t) r u) (front_of _ _ _ _ ((is_some (newest (found t (ledger_of s).open_ones)) && log_full (ledger_of s) (undo_cost (newest (found t (ledger_of s).open_ones))), why.LogFull) ∷ []) r u.first)
-
-  end_of : (w x y z q : Bool) (more : List (Bool × Refusal)) (r : Refusal) → first_of ((w, why.Failed) ∷ (x, why.UnknownTransaction) ∷ (y, why.NotOpen) ∷ (z, why.Unfinished) ∷ []) ≡ Some r
-      → first_of ((w, why.Failed) ∷ (x, why.UnknownTransaction) ∷ (y, why.NotOpen) ∷ (z || q, why.Unfinished) ∷ more) ≡ Some r
-  end_of true x y z q more r e = e
-  end_of false true y z q more r e = e
-  end_of false false true z q more r e = e
-  end_of false false false true q more r e = e
-  end_of false false false false q more r e = cc e
-
-  pub refuse_end : (r : Refusal) → IsUnready (ledger_of s) t true r → Refuses s (End_abort t) r
-  refuse_end r u = refuse s (End_abort t) r u.plain (cause_of true (End_abort t) r u) (end_of _ _ _ _ _ ((log_full (ledger_of s) 1, why.LogFull) ∷ []) r u.first)
-
   -- a transaction that is not aborting, or has an operation under way
   pub back_unknown : s.failed ≡ false → found_row t s.rows ≡ None → IsUnready (ledger_of s) t true why.UnknownTransaction
   back_unknown e f = record { first = rw (e, found_none s t f) refl; plain = refl }

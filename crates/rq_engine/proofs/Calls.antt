@@ -1,5 +1,5 @@
 -- What the calls answer, from what their bodies found and made.
-use Rattle.std.proofs.Common.{◌≡◌, ℕ, zero, suc, ◌+◌, ◌-◌, ◌*◌, ◌^◌, ◌<◌, ◌≤◌, ◌&&◌, List, [], ◌∷◌, length, map, refl, sym, ◌∙◌, ap, subst, Bool, true, false, not, nat_eq, nat_lt, Option, Some, None, IfSome, arith, inl, inr, ◌⊎◌}
+use Rattle.std.proofs.Common.{◌≡◌, ℕ, zero, suc, ◌+◌, ◌-◌, ◌*◌, ◌<◌, ◌≤◌, ◌&&◌, List, [], ◌∷◌, length, map, refl, sym, ◌∙◌, ap, subst, Bool, true, false, not, nat_eq, nat_lt, Option, Some, None, IfSome, arith, inl, inr, ◌⊎◌}
 use Rattle.std.specs.List.{sum_by, slice_get, slice_index_or}
 use Rattle.std.proofs.lemmas.Bool.{cases_Bool, false_from_ne_true, eqb-true, eq-eqb, and_from, lt-ltb}
 use Rattle.std.proofs.lemmas.List.Sums.{sum_by-cons}
@@ -38,10 +38,10 @@ use Rattle.rq_engine.proofs.Tags.{count-with_tags, tag-with_tags}
 use Rattle.rq_groups.specs.Ends.{HeldEnds, released}
 use Rattle.rq_store.specs.State.{State, ledger_of, size_of, owed_one, owed_under, job_under, left_under, phase_of}
 use Rattle.rq_groups.specs.Waiting.{waits}
-use Rattle.rq_store.specs.Sound.{takes_one}
+use Rattle.rq_store.specs.Settled.{takes_one}
 use Rattle.rq_sound.specs.Counted.{sends_in, takes_all}
 use Rattle.rq_sound.specs.Sound.{IsSound}
-use Rattle.rq_store.proofs.Waiting.{one_of_sum}
+use Rattle.rq_store.proofs.RowSums.{one_of_sum}
 use Rattle.rq_store.specs.Steps.{page_op, op_end, gave_done}
 use Rattle.rq_sound.specs.Steps.{Steps}
 use Rattle.rq_store.proofs.RowLists.{found_in}
@@ -52,7 +52,7 @@ use Rattle.rq_model.specs.Tests.{any_busy, below}
 use Rattle.rq_model.specs.Commits.{committed_of}
 use Rattle.rq_page.specs.Sizes.{sender_count}
 use Rattle.rq_engine.proofs.Standing.{going_at, step_steps, finish_steps, commit_steps}
-use Rattle.rq_engine.specs.Kept.{EndFits, IsKept, end_bytes, room_one, room_of, done_one}
+use Rattle.rq_engine.specs.Kept.{EndFits, IsKept, end_bytes, room_one, room_of}
 use Rattle.rq_engine.specs.Moves.{with_sends, with_taken, without_taken}
 use Rattle.rq_engine.proofs.Waits.{waits-with_sends, waits-without_taken}
 use Rattle.rq_engine.specs.Answers.{Refuses, OnUnder, IsUnderWay, IsNotUnderWay, NotFound, IsOther, Idle, CannotFinish, IsMade, HasNothingUnderWay}
@@ -115,9 +115,6 @@ module _ (s : State) (f : Bool) (o res : ℕ) (k : IsKept s f o res) (sub : Sub)
       let b : owed_one g.row ≡ length g.under.writes - g.under.made + 1 = ap owed_under g.is in
       let c = k.owes in
       omega (arith, a, b, c)
-
-  pub going_count : length s.records < 2 ^ 64 - 1
-  going_count = let a = k.count in omega (arith, a)
 
   pub going_room : 546 * (length g.under.writes - g.under.made) + end_bytes g.under.aim ≤ res
   going_room =

@@ -90,9 +90,6 @@ module _ {P L : Type 0} (p : page_device.Ghosts P) (l : log_device.Ghosts L) (on
 
     -- the page that is handed to the device
     module _ (page : ℕ) (within : page < page_count z) (forced : lsn_of (image_at old.state.images page) ≤ old.state.forced) (w : MayHaveWritten p page (image_at old.state.images page) old.pages new.pages) where
-      abbrev image : List ℕ
-      image = image_at old.state.images page
-
       fits_now : AllFit (p.may_be new.pages) z kept
       fits_now = record {
         superblock = λ c may. ⊎_elim (fit.superblock c) (λ e. subst (λ b. IsFormatted z 0 b) (sym e.1) (subst (λ p. IsFormatted z 0 (image_in old.state.images p)) e.0 k.fits.superblock)) (w.crash 0 c may);

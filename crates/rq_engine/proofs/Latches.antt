@@ -1,19 +1,16 @@
 -- What is latched, exactly: whether a planned send or receive meets others' pages, and what that makes of the call.
-use Rattle.std.proofs.Common.{◌≡◌, ℕ, ◌/◌, ◌<◌, ◌||◌, List, [], ◌∷◌, length, reverse, refl, sym, ◌∙◌, ap, subst, Bool, true, false, nat_eq, Option, Some, None, Result, Ok, Err, inl, inr, arith, IsTrue}
+use Rattle.std.proofs.Common.{◌≡◌, ℕ, ◌/◌, ◌<◌, ◌||◌, List, [], ◌∷◌, length, reverse, refl, sym, ◌∙◌, ap, subst, Bool, true, false, Option, Some, None, inl, inr, arith}
 use Rattle.std.proofs.lemmas.Bool.{cases_Bool, false≢true, or_left, true≢false}
 use Rattle.rq_model.specs.declared.message.Message.{Message}
 use Rattle.rq_model.specs.declared.record.Deed.{Deed}
 use Rattle.rq_model.specs.declared.record.Deed.TheVariants.{Append, UnlinkHead, Close}
 use Rattle.rq_model.specs.declared.refusal.Refusal.{Refusal}
 use Rattle.rq_model.specs.declared.refusal.Refusal.TheVariants as why
-use Rattle.rq_model.specs.declared.txn.Sub.{Sub}
 use Rattle.rq_model.specs.declared.txn.Txn.{Txn}
-use Rattle.rq_model.specs.History.{Call}
 use Rattle.rq_model.specs.Legal.{OnFound}
 use Rattle.rq_model.specs.Words.{last}
 use Rattle.rq_model.specs.History.Call.{Start_close, Start_send, Start_receive, Start_receive_from, Undo_next}
 use Rattle.rq_model.specs.History.Job.{Sending, Taking, Ending}
-use Rattle.rq_model.specs.Tests.{without_pages}
 use Rattle.rq_page.specs.Sizes.{cell_count, directory_at}
 use Rattle.rq_views.specs.Plans.{Turn}
 use Rattle.rq_views.specs.Plans.Turn.{Did, Undid}
@@ -27,17 +24,16 @@ use Rattle.rq_txn.specs.Rows.{Row, any_under, found_row, latched_in}
 use Rattle.rq_store.specs.Plans.{WaitsFor}
 use Rattle.rq_store.specs.State.{State, job_of}
 use Rattle.rq_sound.specs.Groups.{slots_now}
-use Rattle.rq_sound.specs.Latching.{Begins, IsLatched, NeedsLatched, any_latched, at_head, at_tail, before_tail, named}
+use Rattle.rq_sound.specs.Latching.{Begins, IsLatched, NeedsLatched, any_latched, at_head, at_tail, before_tail}
 use Rattle.rq_sound.specs.Sound.{IsSound}
 use Rattle.rq_sound.proofs.Contracts.{planned}
 use Rattle.rq_sound.proofs.Groups.{all_stand, none_latched}
 use Rattle.rq_sound.proofs.UsedCells.{some_free}
 use Rattle.rq_sound.proofs.Latching.{latched_exact}
 use Rattle.rq_sound.specs.Inverses.{MayBeUndone}
-use Rattle.rq_engine.specs.Applied.{LatchedReply, OnLatched, TakesUnlatched}
+use Rattle.rq_engine.specs.Applied.{OnLatched}
 use Rattle.rq_engine.specs.Aborts.{UndoIsLatched}
 use Rattle.rq_engine.specs.Closes.{close_latched}
-use Rattle.rq_engine.specs.Says.{begun_reply, undo_reply}
 use Rattle.rq_engine.specs.Sends.{SendIsLatched, take_latched}
 
 -- ---- a link's page

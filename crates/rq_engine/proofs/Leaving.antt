@@ -1,13 +1,12 @@
 -- What a refusal leaves of the store.
-use Rattle.std.proofs.Common.{◌≡◌, false, true, OnErr, Option, Some, None, Result, Ok, Err}
+use Rattle.std.proofs.Common.{◌≡◌, false, OnErr, Option, Some, None, Result, Ok, Err}
 use Rattle.rq_model.specs.declared.txn.Sub.{Sub}
 use Rattle.rq_model.specs.declared.refusal.Refusal.{Refusal}
 use Rattle.rq_model.specs.declared.refusal.Refusal.TheVariants as why
-use Rattle.rq_disk.specs.declared.device.LogDevice as log_device
 use Rattle.rq_engine.specs.declared.event.Event.{Event}
 use Rattle.rq_engine.specs.declared.event.Reply.{Reply}
 use Rattle.rq_engine.specs.declared.event.Reply.TheVariants as reply
-use Rattle.rq_engine.specs.Opened.{OpenStore, NotWritten}
+use Rattle.rq_engine.specs.Opened.{OpenStore}
 use Rattle.rq_engine.specs.Applied.{RefusalLeaves}
 use Rattle.rq_engine.specs.Says.{begun_reply, call_of, undo_reply}
 use Rattle.rq_model.specs.Causes.{writes_out}
@@ -27,9 +26,3 @@ module _ {P L : Type 0} (old new : OpenStore P L) (e : Event) where
   undo_leaves (Ok (Some sub)) y w same is = rw is tt
   undo_leaves (Ok None) y w same is = rw is tt
   undo_leaves (Err r) y w same is = rw is (plain_leaves r w same)
-
-  -- one that does stops the store where its device fails
-  pub handed_leaves : (g : log_device.Ghosts L) (r : Refusal) → writes_out (call_of e) ≡ true → NotWritten g old new r → new.state ≡ record old.state { failed = true } → new.changed ≡ old.changed → RefusalLeaves old e (reply.Refused r) new
-  handed_leaves g why.DiskWrite w not stops same = rw w (stops, same)
-  handed_leaves g why.Failed w not stops same = not.1
-  handed_leaves g r w not stops same = absurd not

@@ -16,4 +16,3 @@ pub mod AbortCalls
 pub mod Crashing
 pub mod Leaving
 pub mod Listing
-pub mod Worked

@@ -11,7 +11,7 @@ use Rattle.rq_engine.specs.Moves.{with_tags}
 use Rattle.rq_groups.specs.Ends.{released}
 use Rattle.rq_txn.specs.Rows.{fresh_row, without_row}
 use Rattle.rq_store.specs.State.{State}
-use Rattle.rq_store.specs.Sound.{takes_one}
+use Rattle.rq_store.specs.Settled.{takes_one}
 use Rattle.rq_disk.specs.declared.device.PageDevice as page_device
 use Rattle.rq_model.specs.History.{Call}
 use Rattle.rq_sound.specs.Sound.{IsSound}

@@ -1,7 +1,5 @@
 -- The parts of an open store.
-use Rattle.std.proofs.Common.{◌≡◌, ap, subst, true, false, Option, Some, None}
-use Rattle.std.proofs.lemmas.Bool.{false≢true, true≢false}
-use Rattle.std.specs.Option.{is_some}
+use Rattle.std.proofs.Common.{◌≡◌, ap, subst, Option, Some, None}
 use Rattle.std.specs.Prelude.{IfSome, IfNone}
 use Rattle.rq_engine.specs.Opened.{OpenStore}
 

@@ -1,6 +1,6 @@
 -- What a send answers, from what its tests found.
-use Rattle.std.proofs.Common.{◌≡◌, ℕ, ◌+◌, ◌*◌, ◌<◌, ◌≤◌, ◌||◌, List, length, drop, refl, sym, option_map, ◌∙◌, ap, subst, Bool, true, false, not, cond, nat_eq, nat_lt, Option, Some, None, arith, inl, inr}
-use Rattle.std.proofs.lemmas.Bool.{cases_Bool, false_from_ne_true, eqb-true, eq-eqb, lt-ltb, le-ltb}
+use Rattle.std.proofs.Common.{◌≡◌, ℕ, ◌+◌, ◌*◌, ◌<◌, ◌≤◌, ◌||◌, List, length, refl, sym, option_map, ◌∙◌, ap, subst, Bool, true, false, not, nat_eq, nat_lt, Option, Some, None, arith}
+use Rattle.std.proofs.lemmas.Bool.{false_from_ne_true, eqb-true, eq-eqb, lt-ltb, le-ltb}
 use Rattle.rq_model.specs.declared.txn.Txn.{Txn}
 use Rattle.rq_model.specs.declared.refusal.Refusal.TheVariants as why
 use Rattle.rq_model.specs.Words.{is_some}
@@ -10,22 +10,15 @@ use Rattle.rq_model.specs.Ledger.{found, ended_in}
 use Rattle.rq_model.specs.Tests.{Passes, is_busy, NoneHolds, free_to_send, has_closed, log_full, cells_in_use, ready_tests}
 use Rattle.rq_model.specs.Words.{message_of}
 use Rattle.rq_page.specs.declared.directory.Directory.{Directory}
-use Rattle.rq_page.specs.Sizes.{Sizes, sender_count, cell_count, directory_at}
-use Rattle.rq_page.specs.declared.cell.Cell.{Cell}
-use Rattle.rq_page.specs.Slots.{Slot}
-use Rattle.rq_page.specs.Slots.Slot.{Free, Used, Sender}
-use Rattle.rq_views.specs.Log.{Slots, cell_in}
+use Rattle.rq_page.specs.Sizes.{sender_count, cell_count, directory_at}
+use Rattle.rq_page.specs.Slots.Slot.{Sender}
 use Rattle.rq_views.specs.Stored.{slots_in}
 use Rattle.rq_txn.proofs.Finding.{found_change_same}
 use Rattle.rq_level.specs.declared.writes.SlotWrite.{SlotWrite}
 use Rattle.rq_txn.specs.Rows.{Row, Under, found_row, change_row, row_started}
-use Rattle.rq_groups.specs.declared.Held.{Held}
-use Rattle.rq_groups.specs.declared.End.{End}
-use Rattle.rq_groups.specs.declared.End.TheVariants.{Sending, Receiving}
-use Rattle.rq_groups.specs.Sides.{with_end, holds_end, without_newest}
-use Rattle.rq_groups.specs.Ends.{HeldEnds, has_held, with_held, is_free_for}
+use Rattle.rq_groups.specs.Ends.{with_held, is_free_for}
 use Rattle.rq_store.specs.State.{State, ledger_of, size_of, job_under}
-use Rattle.rq_store.specs.Plans.{Stands_at, IsSendPlan}
+use Rattle.rq_store.specs.Plans.{IsSendPlan}
 use Rattle.rq_sound.specs.Sound.{IsSound}
 use Rattle.rq_store.proofs.RowLists.{found_in}
 use Rattle.rq_sound.specs.Steps.{Steps}
@@ -41,7 +34,7 @@ use Rattle.rq_engine.specs.Answers.{Refuses, HasNothingUnderWay, OnUnder}
 use Rattle.rq_model.specs.Legal.{OnFound}
 use Rattle.rq_chain.specs.declared.ChainPlan.{ChainPlan as Plan}
 use Rattle.rq_engine.specs.Kept.{IsKept, IsUnderKept, end_bytes}
-use Rattle.rq_engine.specs.Sends.{under_plan, FitsPlan, FitsUnder, HasRoom, SendIsLatched}
+use Rattle.rq_engine.specs.Sends.{under_plan, FitsUnder, HasRoom, SendIsLatched}
 use Rattle.rq_engine.proofs.Keeping.{kept_started}
 use Rattle.rq_engine.proofs.Refusals.{not_full, refuse, found_of, on_found, found_some, found_none}
 

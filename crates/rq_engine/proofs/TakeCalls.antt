@@ -1,6 +1,6 @@
 -- What a receive answers, from what its tests found.
 use Rattle.std.proofs.Common.{◌≡◌, ℕ, ◌+◌, ◌<◌, ◌≤◌, ◌&&◌, refl, sym, ◌∙◌, ap, subst, Bool, true, false, not, nat_lt, Some, None, inl, inr}
-use Rattle.std.proofs.lemmas.Bool.{lt-ltb, le-ltb, true≢false}
+use Rattle.std.proofs.lemmas.Bool.{lt-ltb, true≢false}
 use Rattle.rq_model.specs.declared.txn.Txn.{Txn}
 use Rattle.rq_model.specs.declared.refusal.Refusal.TheVariants as why
 use Rattle.rq_model.specs.History.{Call}
@@ -57,9 +57,6 @@ module _ (s : State) (t : Txn) (h : NoneHolds (ready_tests (ledger_of s) t false
   ]
 
   module _ (e : ℕ) where
-    pub unknown_sender : sender_count s.sizes ≤ e → Refuses s (Start_receive_from t e) why.UnknownSender
-    unknown_sender m k = refuse s (Start_receive_from t e) why.UnknownSender refl tt (rw (h.0, h.1.0, h.1.1.0, h.1.1.1.0, ap not (le-ltb e (sender_count s.sizes) m)) refl) k
-
     pub receiver_busy : e < sender_count s.sizes → is_free_for t e s.ends.receiving ≡ false → Refuses s (Start_receive_from t e) why.ReceiverBusy
     receiver_busy m busy k = refuse s (Start_receive_from t e) why.ReceiverBusy refl tt (rw (h.0, h.1.0, h.1.1.0, h.1.1.1.0, ap not (lt-ltb e (sender_count s.sizes) m), ap not (free_to_take s k t e ∙ busy)) refl) k
 

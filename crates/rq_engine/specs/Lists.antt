@@ -21,7 +21,7 @@ use Rattle.rq_txn.specs.declared.Aim.TheVariants.{Doing}
 use Rattle.rq_txn.specs.Rows.{Under, found_row, finished_of, fresh_row, change_row, row_started, row_finished, without_row}
 use Rattle.rq_store.specs.State.{State}
 use Rattle.rq_store.specs.Plans.{IsSendPlan, IsTakePlan, WaitsFor, NoneWaits}
-use Rattle.rq_store.specs.Sound.{takes_one}
+use Rattle.rq_store.specs.Settled.{takes_one}
 use Rattle.rq_store.specs.Steps.{op_end, gave_done}
 use Rattle.rq_engine.specs.Aborts.{IsAborted, IsAborting, IsUndone, UndoSays}
 use Rattle.rq_engine.specs.Closes.{IsClosePlan}

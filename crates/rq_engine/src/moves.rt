@@ -3,7 +3,7 @@ ghost use Rattle.std.specs.Prelude.{◌≡◌, ◌+◌, ◌<◌, ◌^◌, ℕ, l
 ghost use Rattle.std.specs.List.{sum_by};
 ghost use Rattle.rq_groups.specs.Sent.{sent_count};
 ghost use Rattle.rq_groups.specs.Waiting.{waits};
-ghost use Rattle.rq_store.specs.Sound.{takes_one};
+ghost use Rattle.rq_store.specs.Settled.{takes_one};
 ghost use Rattle.rq_views.specs.Claims.{appends_of};
 ghost use Rattle.rq_engine.specs.Moves.{with_sends, with_taken, with_tags, without_taken};
 

@@ -9,13 +9,6 @@ use Rattle.rq_groups.specs.declared.Held.{Held}
 use Rattle.rq_groups.specs.Ends.{has_held, is_free_for}
 use Rattle.rq_groups.specs.Waiting.{waits, more_waiting, fewer_waiting}
 
-pub waits-replicate : (n s : ℕ) → waits (replicate n 0) s ≡ 0
-waits-replicate n s =
-    elim (cases_lt s n) [
-      | inl below ↦ get_or-replicate n s 0 0 below
-      | inr above ↦ let past : length (replicate n 0) ≤ s = omega (arith, length-replicate {A = ℕ}) in get_or_past (replicate n 0) s 0 past
-    ]
-
 pub length-more_waiting : (s n : ℕ) (ws : List ℕ) → length (more_waiting s n ws) ≡ length ws
 length-more_waiting s n ws = length-set ws s (waits ws s + n)
 

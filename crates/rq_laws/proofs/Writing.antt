@@ -1,6 +1,7 @@
 -- Calls that write out or only ask, by two stores in the same state.
 use Rattle.std.proofs.Common.{◌≡◌, ℕ, ◌+◌, ◌↔◌, ◌<◌, ◌≤◌, List, length, refl, sym, ◌∙◌, ap, subst, Bool, true, false, Result, Ok, Err, ◌⊎◌, inl, inr, arith, true≢false}
 use Rattle.std.specs.Prelude.{IfErr, IfOk, OnOk, Vec, map}
+use Rattle.std.specs.declared.alloc.Global.{Global}
 use Rattle.rq_model.specs.declared.refusal.Refusal.{Refusal}
 use Rattle.rq_model.specs.declared.refusal.Refusal.TheVariants as why
 use Rattle.rq_model.specs.declared.txn.Txn.{Txn}
@@ -104,7 +105,7 @@ unwritten s page why.DiskWrite h = inr (inr tt)
 unwritten s page why.DiskRead h = absurd h.1
 unwritten s page (why.Damaged d) h = absurd h.1
 unwritten s page why.PoolFull h = absurd h.1
-unwritten s page why.NotForced h = inr (inl (refl, h))
+unwritten s page why.NotForced h = inr (inl (refl, h.0, h.1.0, h.1.1))
 unwritten s page why.Latched h = absurd h.1
 unwritten s page why.Failed h = inl (refl, h)
 unwritten s page why.UnknownTransaction h = absurd h.1
@@ -130,11 +131,11 @@ module _ {P L : Type 0} (g : page_device.Ghosts P) where
   no_refusal : (s : OpenStore P L) (page : ℕ) (w : Written) (r : Refusal) → WritesWhen s page (Ok w) → WritesWhen s page (Err r) → IsWant r
   no_refusal s page Done r f h = elim (unwritten s page r h) [
     | inl n ↦ absurd (true≢false (sym n.1 ∙ f.0))
-    | inr v ↦ elim v [ inl n ↦ (let le : lsn_of (image_at s.state.images page) ≤ s.state.forced = f.1.1 in let lt : s.state.forced < lsn_of (image_at s.state.images page) = n.1.1.1 in absurd (omega (arith, le, lt))) | inr w ↦ w ]
+    | inr v ↦ elim v [ inl n ↦ (let le : lsn_of (image_at s.state.images page) ≤ s.state.forced = f.1.1 in let lt : s.state.forced < lsn_of (image_at s.state.images page) = n.3 in absurd (omega (arith, le, lt))) | inr w ↦ w ]
   ]
   no_refusal s page Nothing r f h = elim (unwritten s page r h) [
     | inl n ↦ absurd (true≢false (sym n.1 ∙ f.0))
-    | inr v ↦ elim v [ inl n ↦ absurd (true≢false (sym n.1.1.0.changed ∙ f.1)) | inr w ↦ w ]
+    | inr v ↦ elim v [ inl n ↦ absurd (true≢false (sym n.2.changed ∙ f.1)) | inr w ↦ w ]
   ]
 
   refused_one : (s : OpenStore P L) (page : ℕ) (p q : Result Written Refusal) → WritesWhen s page p → WritesWhen s page q → RefuseAlike p q
@@ -144,11 +145,11 @@ module _ {P L : Type 0} (g : page_device.Ghosts P) where
   refused_one s page (Err d) (Err e) f h = elim (unwritten s page d f) [
     | inl n ↦ elim (unwritten s page e h) [
       | inl m ↦ inl (n.0 ∙ sym m.0)
-      | inr v ↦ elim v [ inl m ↦ absurd (true≢false (sym n.1 ∙ m.1.0)) | inr w ↦ inr (inr w) ]
+      | inr v ↦ elim v [ inl m ↦ absurd (true≢false (sym n.1 ∙ m.1)) | inr w ↦ inr (inr w) ]
     ]
     | inr u ↦ elim u [
       | inl n ↦ elim (unwritten s page e h) [
-        | inl m ↦ absurd (true≢false (sym m.1 ∙ n.1.0))
+        | inl m ↦ absurd (true≢false (sym m.1 ∙ n.1))
         | inr v ↦ elim v [ inl m ↦ inl (n.0 ∙ sym m.0) | inr w ↦ inr (inr w) ]
       ]
       | inr w ↦ inr (inl w)
@@ -156,16 +157,16 @@ module _ {P L : Type 0} (g : page_device.Ghosts P) where
   ]
 
   wrote_one : (page : ℕ) (old x y : OpenStore P L) (a b : Written) → Writes page old x (Ok a) → Writes page old y (Ok b) → (a ≡ b) × (x.state ≡ y.state) × (x.changed ≡ y.changed)
-  wrote_one page old x y Done Done f h = (refl, (f.1.0 ∙ sym h.1.0, f.1.1.0 ∙ sym h.1.1.0))
+  wrote_one page old x y Done Done f h = (refl, f.1 ∙ sym h.1, f.2 ∙ sym h.2)
   wrote_one page old x y Done Nothing f h = absurd (true≢false (sym f.0.1.0.changed ∙ h.0.1))
   wrote_one page old x y Nothing Done f h = absurd (true≢false (sym h.0.1.0.changed ∙ f.0.1))
-  wrote_one page old x y Nothing Nothing f h = (refl, (f.1.0 ∙ sym h.1.0, f.1.1.0 ∙ sym h.1.1.0))
+  wrote_one page old x y Nothing Nothing f h = (refl, f.1 ∙ sym h.1, f.2 ∙ sym h.2)
 
   reads_one : (page : ℕ) (old x y : OpenStore P L) (a b : Written) → Writes page old x (Ok a) → Writes page old y (Ok b) → (p : ℕ) → g.seen x.pages p ≡ g.seen y.pages p
-  reads_one page old x y Done Done f h = λ p. f.1.1.1.0 p ∙ sym (h.1.1.1.0 p)
+  reads_one page old x y Done Done f h = λ p. f.3.0 p ∙ sym (h.3.0 p)
   reads_one page old x y Done Nothing f h = absurd (true≢false (sym f.0.1.0.changed ∙ h.0.1))
   reads_one page old x y Nothing Done f h = absurd (true≢false (sym h.0.1.0.changed ∙ f.0.1))
-  reads_one page old x y Nothing Nothing f h = λ p. ap (λ (d : P). g.seen d p) (f.1.1.1 ∙ sym h.1.1.1)
+  reads_one page old x y Nothing Nothing f h = λ p. ap (λ (d : P). g.seen d p) (f.3 ∙ sym h.3)
 
   wrote_both : (page : ℕ) (old old2 x y : OpenStore P L) (p q : Result Written Refusal) → old ≡ old2 → Writes page old x p → Writes page old2 y q → IfOk p (λ a. IfOk q (λ b. (a ≡ b) × (x.state ≡ y.state) × (x.changed ≡ y.changed)))
   wrote_both page old old2 x y (Ok a) (Ok b) is f h = wrote_one page old x y a b f (subst (λ o. Writes page o y (Ok b)) (sym is) h)
@@ -182,14 +183,14 @@ module _ {P L : Type 0} (g : page_device.Ghosts P) where
       → WritesWhen old page p → x.state ≡ state_after old.state p → x.changed ≡ changed_after old.changed page p → DeviceAfter g page (image_at old.state.images page) old.pages x.pages p
       → WritesWhen old2 page q → y.state ≡ state_after old2.state q → y.changed ≡ changed_after old2.changed page q → DeviceAfter g page (image_at old2.state.images page) old2.pages y.pages q
       → IfOk p (λ a. IfOk q (λ b. (a ≡ b) × (x.state ≡ y.state) × (x.changed ≡ y.changed)))
-  wrote_alike page old old2 x y p q is f1 f2 f3 f4 h1 h2 h3 h4 = wrote_both page old old2 x y p q is (f1, (f2, (f3, f4))) (h1, (h2, (h3, h4)))
+  wrote_alike page old old2 x y p q is f1 f2 f3 f4 h1 h2 h3 h4 = wrote_both page old old2 x y p q is (f1, f2, f3, f4) (h1, h2, h3, h4)
 
   -- and both devices read the same
   pub reads_alike : (page : ℕ) (old old2 x y : OpenStore P L) (p q : Result Written Refusal) → old ≡ old2
       → WritesWhen old page p → x.state ≡ state_after old.state p → x.changed ≡ changed_after old.changed page p → DeviceAfter g page (image_at old.state.images page) old.pages x.pages p
       → WritesWhen old2 page q → y.state ≡ state_after old2.state q → y.changed ≡ changed_after old2.changed page q → DeviceAfter g page (image_at old2.state.images page) old2.pages y.pages q
       → IfOk p (λ _. IfOk q (λ _. (at : ℕ) → g.seen x.pages at ≡ g.seen y.pages at))
-  reads_alike page old old2 x y p q is f1 f2 f3 f4 h1 h2 h3 h4 = reads_both page old old2 x y p q is (f1, (f2, (f3, f4))) (h1, (h2, (h3, h4)))
+  reads_alike page old old2 x y p q is f1 f2 f3 f4 h1 h2 h3 h4 = reads_both page old old2 x y p q is (f1, f2, f3, f4) (h1, h2, h3, h4)
 
   pub refused_alike : (page : ℕ) (old old2 : OpenStore P L) (p q : Result Written Refusal) → old ≡ old2 → WritesWhen old page p → WritesWhen old2 page q → RefuseAlike p q
   refused_alike page old old2 p q is f h = refused_one old page p q f (subst (λ o. WritesWhen o page q) (sym is) h)
@@ -263,7 +264,7 @@ entry_legal old e = Legal (size_of old.sizes) (ledger_of old) e
 pub tag_passed : (sender : ℕ) (old new : State) (a : LastTag) → Steps old (Last_tag sender) (Gave_tag a.sent a.tag) new → Passes (size_of old.sizes) (ledger_of old) (Last_tag sender)
 tag_passed sender old new a s = (subst (entry_legal old) s.says s.legal).0
 
-pub show_passed : (old new : State) (a : Vec GroupContent) → Steps old Show (Gave_content (map group_of a.items)) new → Passes (size_of old.sizes) (ledger_of old) Show
+pub show_passed : (old new : State) (a : Vec GroupContent Global) → Steps old Show (Gave_content (map group_of a.items)) new → Passes (size_of old.sizes) (ledger_of old) Show
 show_passed old new a s = (subst (entry_legal old) s.says s.legal).0
 
 shown : (old new : State) (gs : List Group) → Steps old Show (Gave_content gs) new → gs ≡ map (group_in (ledger_of old).committed) (below (size_of old.sizes).senders)
@@ -271,10 +272,10 @@ shown old new gs s = (subst (entry_legal old) s.says s.legal).1
 
 module _ {P L : Type 0} (p : page_device.Ghosts P) (l : log_device.Ghosts L) where
   -- what shows the content of a store
-  abbrev pub Shows : OpenStore P L → Result (Vec GroupContent) Refusal → Type 0
+  abbrev pub Shows : OpenStore P L → Result (Vec GroupContent Global) Refusal → Type 0
   Shows s r = AnswersLegally p l s Show (λ groups. Gave_content (map group_of groups.items)) r s
 
-  pub shown_alike : (s t : OpenStore P L) (a b : Result (Vec GroupContent) Refusal) → s ≡ t → Shows s a → Shows t b → AreHonest p l s → AreHonest p l t → IsSound s.state → IfOk a (λ x. IfOk b (λ y. map group_of x.items ≡ map group_of y.items))
+  pub shown_alike : (s t : OpenStore P L) (a b : Result (Vec GroupContent Global) Refusal) → s ≡ t → Shows s a → Shows t b → AreHonest p l s → AreHonest p l t → IsSound s.state → IfOk a (λ x. IfOk b (λ y. map group_of x.items ≡ map group_of y.items))
   shown_alike s t (Ok x) (Ok y) is f g h k sound =
       let there : Shows s (Ok y) = subst (λ o. Shows o (Ok y)) (sym is) g in
       shown s.state s.state (map group_of x.items) (f h sound) ∙ sym (shown s.state s.state (map group_of y.items) (there h sound))

@@ -4,5 +4,4 @@ pub mod Faults
 pub mod Followed
 pub mod Sound
 pub mod Walks
-pub mod Worked
 pub mod Nexts

@@ -26,12 +26,6 @@ module _ (z : Sizes) (q : Slots) (place : ℕ) (at : ℕ) (is : at ≡ cell_at z
     | inr other ↦ omega (arith, low, other)
   ]
 
-  -- from the place behind on it is the same then
-  pub next_stays : (from : ℕ) (free : Option ℕ) → from ≡ place + 1 → (free ≡ Some at → ⊥) → IsNextFree z q place free → IsNextFree z q from free
-  next_stays from None e ne next = λ b cell le. next b cell (omega (arith, le, e))
-  next_stays from (Some a) e ne next =
-      (next.0, next.1, let up = behind a ne next.0 next.2 in omega (arith, up, e), λ b cell le lt. next.3 b cell (omega (arith, le, e)) lt)
-
   -- and the cell with this place is used
   pub used_before : (free : Option ℕ) → place < cell_count z → (free ≡ Some at → ⊥) → IsNextFree z q place free → is_used (q (cell_at z place)) ≡ true
   used_before None below ne next = let here = cells_have_places z place below in next (cell_at z place) here.0 (let e = here.1 in omega (arith, e))

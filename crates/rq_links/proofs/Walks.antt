@@ -1,5 +1,5 @@
 -- How a sender's chain is followed, cell by cell.
-use Rattle.std.proofs.Common.{◌≡◌, ℕ, ◌+◌, ◌<◌, ◌≤◌, ◌↔◌, Bool, IsTrue, inl, inr, List, [], ◌∷◌, ◌++◌, length, refl, sym, ◌∙◌, ap, subst, arith}
+use Rattle.std.proofs.Common.{◌≡◌, ℕ, ◌+◌, ◌<◌, ◌≤◌, ◌↔◌, Bool, IsTrue, inl, inr, List, [], ◌∷◌, ◌++◌, length, sym, ◌∙◌, ap, subst, arith}
 use Rattle.std.specs.Bool.{OnTrue, OnFalse}
 use Rattle.std.proofs.lemmas.Bool.{cases_eq, false≢true, OnTrue_from, OnFalse_from}
 use Rattle.std.proofs.lemmas.List.{length-append, map-append}
@@ -16,10 +16,6 @@ use Rattle.rq_links.specs.Follows.{AreNoted, EndsSo, IsFollowed, IsLinkedCell}
 use Rattle.rq_links.specs.Links.{addresses, IsChain}
 use Rattle.rq_links.proofs.Chains.{IsRest, node_of, linked_more, rest_of_chain, next_of_rest, none_left, sender_same}
 use Rattle.rq_links.proofs.Cover.{in_append, in_left, in_right}
-
--- none is noted
-noted_none : (z : Sizes) (old : List ℕ) → AreNoted z old old []
-noted_none z old = record { kept = λ k e. e; added = λ k lt i. absurd i; only = λ k e. inl e }
 
 addresses_more : (ns : List Node) (n : Node) → addresses (ns ++ n ∷ []) ≡ addresses ns ++ n.at ∷ []
 addresses_more ns n = map-append (λ x. x.at) ns (n ∷ [])

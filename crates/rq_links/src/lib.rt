@@ -11,7 +11,6 @@ ghost use Rattle.rq_views.specs.Stored.{slots_in};
 ghost use Rattle.rq_links.specs.Follows.{AreFollowed, EndsSo, IsFollowed, IsLinkedCell, IsNextFree};
 ghost use Rattle.rq_links.specs.Links.{AreLinked, IsChain, IsFault, IsFirstBroken, IsFirstUnmet};
 ghost use Rattle.rq_links.specs.Theorems.{FaultsAreExact, SoundStoresAreLinked};
-ghost use Rattle.rq_links.specs.Worked.{WorkedChains};
 
 use rq_disk::PageDevice;
 use rq_flags::Index;
@@ -209,11 +208,6 @@ fn is_noted(met: &Index, place: usize) -> bool
 /// A page is named only where the chains are not whole, and then it is one page.
 pub fn faults_are_exact()
     ensures { FaultsAreExact }
-{}
-
-/// Worked: a chain of two cells is whole; and what is named where one thing is not as it should be.
-pub fn worked_chains()
-    ensures { WorkedChains }
 {}
 
 /// The chains of a sound store are whole.

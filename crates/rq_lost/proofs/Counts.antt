@@ -39,9 +39,8 @@ use Rattle.rq_store.specs.Sends.{KeepsSends}
 use Rattle.rq_store.specs.Fitting.{left_by}
 use Rattle.rq_store.specs.Whole.{IsWhole}
 use Rattle.rq_store.proofs.Grouping.{groups_of}
-use Rattle.rq_store.proofs.Holders.{map_join, placed_more}
+use Rattle.rq_store.proofs.Placed.{map_join, placed_more, count_takes, told_placed}
 use Rattle.rq_store.proofs.RowLists.{found_in, in_found, some_not_none}
-use Rattle.rq_store.proofs.Telling.{count_takes, told_placed}
 use Rattle.rq_sound.specs.Counted.{AreCounted, IsCovered, after_in, appending_in, appends_all, before_in, takes_all, takes_in}
 use Rattle.rq_sound.specs.Standing.{AreStanding}
 use Rattle.rq_sound.proofs.Claimed.{claimed_by_rows}

@@ -14,7 +14,7 @@ use Rattle.rq_groups.specs.declared.Held.{Held}
 use Rattle.rq_groups.specs.Ends.{has_held, with_held}
 use Rattle.rq_txn.specs.Rows.{AreDistinct, found_row}
 use Rattle.rq_views.proofs.OpenCounts.{AreApart}
-use Rattle.rq_store.specs.Sound.{AreEnds}
+use Rattle.rq_store.specs.Settled.{AreEnds}
 use Rattle.rq_sound.specs.Standing.{HoldsAll}
 use Rattle.rq_lost.specs.Lost.{lost_ends, lost_row, lost_rows, receiving_end, sending_end, used_by, with_all_used, with_used}
 use Rattle.rq_lost.proofs.Workers.{in_txn, lost_apart, lost_running, txn_in}

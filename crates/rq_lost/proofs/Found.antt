@@ -18,7 +18,7 @@ use Rattle.rq_txn.specs.declared.Finished.{Finished}
 use Rattle.rq_txn.specs.Rows.{Row, any_under}
 use Rattle.rq_store.specs.State.{State}
 use Rattle.rq_store.specs.Rows.{placed}
-use Rattle.rq_store.specs.Sound.{takes_one}
+use Rattle.rq_store.specs.Settled.{takes_one}
 use Rattle.rq_store.proofs.Grouping.{groups_of}
 use Rattle.rq_store.proofs.RowLists.{found_in}
 use Rattle.rq_sound.specs.Calls.{IsIdle}

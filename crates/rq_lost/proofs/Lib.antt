@@ -8,8 +8,6 @@ pub mod Store
 pub mod Working
 pub mod Stopping
 pub mod Turning
-pub mod Worked
-pub mod WorkedMoves
 pub mod Owing
 pub mod Stack
 pub mod Choosing
@@ -17,5 +15,4 @@ pub mod Numbering
 pub mod Recovering
 pub mod Walking
 pub mod Logging
-pub mod WorkedWalk
 pub mod Planning

@@ -18,7 +18,7 @@ use Rattle.rq_txn.specs.declared.Finished.{Finished}
 use Rattle.rq_txn.specs.Rows.{Row, found_row}
 use Rattle.rq_store.specs.Rows.{placed, placed_one}
 use Rattle.rq_store.specs.State.{State}
-use Rattle.rq_store.proofs.Holders.{placed_more}
+use Rattle.rq_store.proofs.Placed.{placed_more}
 use Rattle.rq_store.proofs.RowLists.{found_in}
 use Rattle.rq_sound.specs.Sound.{IsSound}
 use Rattle.rq_lost.specs.declared.dues.Due.{Due}

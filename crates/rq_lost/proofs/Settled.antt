@@ -14,7 +14,7 @@ use Rattle.rq_views.specs.Items.{items, operation}
 use Rattle.rq_views.specs.Legal.{began, over, under_way}
 use Rattle.rq_views.proofs.Overlay as ops
 use Rattle.rq_store.specs.State.{State}
-use Rattle.rq_store.specs.Sound.{IsSettled}
+use Rattle.rq_store.specs.Settled.{IsSettled}
 use Rattle.rq_store.proofs.Opening.{over_same}
 use Rattle.rq_sound.specs.Sound.{IsSound}
 use Rattle.rq_undone.proofs.Lists.{nothing_in, not_not}

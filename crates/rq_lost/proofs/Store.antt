@@ -15,7 +15,7 @@ use Rattle.rq_views.specs.Items.{items, operation}
 use Rattle.rq_views.specs.Legal.{under_way}
 use Rattle.rq_views.proofs.Rules.{ended}
 use Rattle.rq_txn.specs.Rows.{Row}
-use Rattle.rq_store.specs.Sound.{IsSettled}
+use Rattle.rq_store.specs.Settled.{IsSettled}
 use Rattle.rq_store.specs.Whole.{IsWhole}
 use Rattle.rq_store.proofs.Opening.{idle_log}
 use Rattle.rq_sound.specs.Standing.{AreStanding, IsRow}

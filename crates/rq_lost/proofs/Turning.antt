@@ -17,7 +17,7 @@ use Rattle.rq_txn.specs.Rows.{Row, Under, any_under, change_row, row_started, ro
 use Rattle.rq_store.specs.Fitting.{left_by}
 use Rattle.rq_store.specs.Rows.{placed, placed_one}
 use Rattle.rq_store.specs.State.{State}
-use Rattle.rq_store.proofs.Holders.{placed_first, placed_more}
+use Rattle.rq_store.proofs.Placed.{placed_first, placed_more}
 use Rattle.rq_store.proofs.Others.{none_of}
 use Rattle.rq_store.proofs.RowLists.{found_here, gone, none_under, unique}
 use Rattle.rq_sound.specs.Calls.{IsIdle, aborted, started}

@@ -14,8 +14,7 @@ use Rattle.rq_level.specs.Writes.{write_of, writes_of}
 use Rattle.rq_txn.specs.declared.Finished.{Finished}
 use Rattle.rq_txn.specs.Rows.{Under, row_started, row_stepped, row_undone}
 use Rattle.rq_store.specs.State.{State}
-use Rattle.rq_store.proofs.Committing.{rows_without}
-use Rattle.rq_store.proofs.Others.{rows_one}
+use Rattle.rq_store.proofs.RowSums.{rows_without, rows_one}
 use Rattle.rq_sound.specs.Sound.{IsSound}
 use Rattle.rq_lost.specs.Moves.{IsAbortMove}
 use Rattle.rq_lost.specs.Moves.IsAbortMove.{Starts, Writes, Undoes, Ends}

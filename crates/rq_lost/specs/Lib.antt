@@ -10,4 +10,4 @@ pub mod Worked
 pub mod WorkedMoves
 pub mod Recovered
 pub mod Walk
-pub mod WorkedWalk
+pub mod Laws

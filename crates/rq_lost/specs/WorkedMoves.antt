@@ -1,20 +1,14 @@
 -- Worked: what undoes the lost transaction of `Worked`, move by move.
 use Rattle.std.proofs.Common.{arith}
-use Rattle.std.specs.Prelude.{◌≡◌, ℕ, List, [], ◌∷◌, drop}
+use Rattle.std.specs.Prelude.{ℕ, List, [], ◌∷◌, drop}
 use Rattle.rq_views.specs.WorkedItems.{sends, takes, new_a, back_a, free_b, undid_b}
 use Rattle.rq_level.specs.declared.writes.SlotWrite.{SlotWrite}
 use Rattle.rq_txn.specs.declared.Aim.TheVariants as aims
 use Rattle.rq_txn.specs.Rows.{Row, Under, row_started, row_undone}
 use Rattle.rq_store.specs.State.{State}
-use Rattle.rq_sound.specs.Calls.{IsPutIn, aborted, started, stepped, undone}
+use Rattle.rq_sound.specs.Calls.{aborted, started, stepped, undone}
 use Rattle.rq_sound.specs.Course.{spelled, with_made}
-use Rattle.rq_lost.specs.Moves.{AreAborted, IsAbortMove}
-use Rattle.rq_lost.specs.Recovered.{IsRecovered}
-use Rattle.rq_lost.specs.Theorems.{IsRestored}
-use Rattle.rq_lost.specs.Turns.{MovesInTurn}
-use Rattle.rq_lost.specs.Work.{abort_work}
-use Rattle.rq_lost.specs.Worked.{AreRepeated, log_two, row_two, sent_two, store_two}
-use Rattle.rq_views.specs.WorkedItems as logs
+use Rattle.rq_lost.specs.Worked.{row_two, sent_two, store_two}
 
 -- the message of sender 0 goes back into its cell and to its group
 abbrev pub cell_back : SlotWrite
@@ -87,29 +81,3 @@ row_empty = row_undone [] (row_unlinking 2)
 -- and t2 has ended
 abbrev pub ended : Pages → State
 ended v = aborted (unlinked v) row_empty
-
-abbrev pub stores_of : Pages → List State
-stores_of v =
-    ended v ∷ unlinked v ∷ group_is_left v ∷ cell_is_free v ∷ started_unlink v ∷ back v ∷ group_is_back v ∷ cell_is_back v ∷ started_back v ∷ []
-
--- each write is made in the pages
-pub record AreMade (v : Pages) : Type 0 where
-  pub start : AreRepeated v.start
-  pub first : IsPutIn (started_back v) cell_back v.first
-  pub second : IsPutIn (cell_is_back v) group_back v.second
-  pub third : IsPutIn (started_unlink v) cell_freed v.third
-  pub fourth : IsPutIn (cell_is_free v) group_left v.fourth
-
-pub record MovesAreJudged : Type 0 where
-  pub in_turn : (v : Pages) → AreMade v → MovesInTurn (store_two v.start) (stores_of v)
-  pub goes : (v : Pages) → AreMade v → AreAborted (store_two v.start) (ended v)
-  pub restored : (v : Pages) → AreMade v → IsRestored logs.sizes log_two (ended v)
-  -- so the log is recovered, and was not before
-  pub recovered : (v : Pages) → AreMade v → IsRecovered logs.sizes log_two (ended v).records
-  pub not_before : IsRecovered logs.sizes log_two log_two → ⊥
-  -- the work that is left falls
-  pub first_work : (v : Pages) → abort_work (started_back v) ≡ 9
-  pub last_work : (v : Pages) → abort_work (unlinked v) ≡ 1
-  -- t2 is not gone before it ends, and doesn't end before all is taken back
-  pub not_ended : (v : Pages) → AreAborted (store_two v.start) (unlinked v) → ⊥
-  pub no_end : (v : Pages) → IsAbortMove (store_two v.start) (aborted (store_two v.start) row_two) → ⊥

@@ -1,4 +1,5 @@
-//! The plan of a send to a group that has a message, and of a receive of the first message of two.
+//! The plan of a send to a group that is empty and to one that has a message, and of a receive of the first message of two and
+//! of the only one.
 use rq_chain::{ChainPlan, Group, Neighbour, append, unlink_head};
 use rq_model::message::Body;
 use rq_model::record::{Deed, Slot};
@@ -42,6 +43,31 @@ fn directory_of(plan: &ChainPlan, place: usize) -> Option<(u64, DirectorySlot)> 
     Some((at, DirectorySlot::decode(&slot)?))
 }
 
+// Whether a plan does this deed by two writes: of the first cell, and of the slot of sender 3.
+fn is_of_two(plan: &ChainPlan, cell: CellSlot, directory: Directory, deed: &Deed) -> bool {
+    let group = DirectorySlot {
+        sender: 3,
+        directory,
+    };
+    plan.writes.len() == 2
+        && cell_of(plan, 0) == Some((33, cell))
+        && directory_of(plan, 1) == Some((20, group))
+        && plan.deed == *deed
+}
+
+// The plan of the first message of a group.
+fn first_append(alloc: Global) -> Result<ChainPlan, Fail> {
+    let layout = Layout::new(1, 1).ok_or("a small store")?;
+    let group = Group {
+        at: layout.directory_of(3),
+        sender: 3,
+        directory: Directory::new(),
+    };
+    let body = hello()?;
+    let free = layout.cell_addr(0);
+    Ok(append(alloc, &layout, &group, None, free, 7, body)?)
+}
+
 // The plan of the second message of a group.
 fn next_append(alloc: Global) -> Result<ChainPlan, Fail> {
     let layout = Layout::new(1, 1).ok_or("a small store")?;
@@ -72,6 +98,34 @@ fn next_append(alloc: Global) -> Result<ChainPlan, Fail> {
     };
     let free = layout.cell_addr(1);
     Ok(append(alloc, &layout, &group, Some(tail), free, 8, body)?)
+}
+
+// The plan of a receive of the only message of a group.
+fn only_unlink(alloc: Global) -> Result<ChainPlan, Fail> {
+    let layout = Layout::new(1, 1).ok_or("a small store")?;
+    let body = hello()?;
+    let at = layout.cell_addr(0);
+    let group = Group {
+        at: layout.directory_of(3),
+        sender: 3,
+        directory: Directory {
+            closed: false,
+            sent: 5,
+            received: 4,
+            last_tag: 7,
+            head: at,
+            tail: at,
+        },
+    };
+    let cell = Cell {
+        sender: 3,
+        sequence: 5,
+        tag: 7,
+        next: Addr::NONE,
+        prev: Addr::NONE,
+        body,
+    };
+    Ok(unlink_head(alloc, &layout, &group, &Neighbour { at, cell }, None)?)
 }
 
 // The plan of a receive of the first message of two.
@@ -115,6 +169,58 @@ fn first_unlink(alloc: Global) -> Result<ChainPlan, Fail> {
         },
     };
     Ok(unlink_head(alloc, &layout, &group, &head, Some(next))?)
+}
+
+#[test]
+fn the_first_message_takes_two_writes(rt: HostRuntime) -> Result<(), Fail> {
+    let plan = first_append(rt.alloc())?;
+    let first = Addr::from_number(33);
+    let cell = Cell {
+        sender: 3,
+        sequence: 1,
+        tag: 7,
+        next: Addr::NONE,
+        prev: Addr::NONE,
+        body: hello()?,
+    };
+    let group = Directory {
+        closed: false,
+        sent: 1,
+        received: 0,
+        last_tag: 7,
+        head: first,
+        tail: first,
+    };
+    let deed = Deed::Append {
+        sender: 3,
+        sequence: 1,
+        tag: 7,
+        previous: 0,
+        body: hello()?,
+    };
+    assert!(rt; is_of_two(&plan, CellSlot::Used(cell), group, &deed));
+    Ok(())
+}
+
+#[test]
+fn the_only_message_leaves_an_empty_group(rt: HostRuntime) -> Result<(), Fail> {
+    let plan = only_unlink(rt.alloc())?;
+    let group = Directory {
+        closed: false,
+        sent: 5,
+        received: 5,
+        last_tag: 7,
+        head: Addr::NONE,
+        tail: Addr::NONE,
+    };
+    let deed = Deed::UnlinkHead {
+        sender: 3,
+        sequence: 5,
+        tag: 7,
+        body: hello()?,
+    };
+    assert!(rt; is_of_two(&plan, CellSlot::Free, group, &deed));
+    Ok(())
 }
 
 #[test]

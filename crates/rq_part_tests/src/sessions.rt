@@ -19,9 +19,15 @@ const TXN: Txn = Txn {
     count: 1,
 };
 
-const SUB: Sub = Sub {
+const FIRST: Sub = Sub {
     txn: TXN,
     number: 1,
+};
+
+// What undoes it.
+const SECOND: Sub = Sub {
+    txn: TXN,
+    number: 2,
 };
 
 /// What comes to a session.
@@ -34,8 +40,9 @@ enum Came {
     Lost,
 }
 
-// What a session does next: 0 where it has ended or takes no request, 1 where it answers, or the call that it asks for. A call
-// that is asked for again counts 100 more.
+// What a session does next: 0 where it has ended or takes no request, 1 where it answers, or the call that it asks for. A step and
+// a finish count ten times their operation's number more, and a call that is asked for again 100 more. A call that names another
+// transaction than the session's counts as `OTHER`.
 const ENDS: u64 = 0;
 
 const ANSWERS: u64 = 1;
@@ -47,6 +54,14 @@ const START: u64 = 3;
 const STEP: u64 = 4;
 
 const FINISH: u64 = 5;
+
+const STEP_FIRST: u64 = 14;
+
+const FINISH_FIRST: u64 = 15;
+
+const STEP_SECOND: u64 = 24;
+
+const FINISH_SECOND: u64 = 25;
 
 const START_ABORT: u64 = 6;
 
@@ -61,14 +76,22 @@ const OTHER: u64 = 9;
 fn call_of(ask: &Ask) -> u64 {
     match ask {
         Ask::Begin => BEGIN,
-        Ask::StartSend { .. } => START,
-        Ask::Step(_) => STEP,
-        Ask::Finish(_) => FINISH,
-        Ask::StartAbort(_) => START_ABORT,
-        Ask::UndoNext(_) => UNDO_NEXT,
-        Ask::EndAbort(_) => END_ABORT,
+        Ask::StartSend { txn, .. } => of_txn(txn, START),
+        Ask::Step(sub) => of_sub(sub, STEP),
+        Ask::Finish(sub) => of_sub(sub, FINISH),
+        Ask::StartAbort(txn) => of_txn(txn, START_ABORT),
+        Ask::UndoNext(txn) => of_txn(txn, UNDO_NEXT),
+        Ask::EndAbort(txn) => of_txn(txn, END_ABORT),
         _ => OTHER,
     }
+}
+
+fn of_txn(txn: &Txn, call: u64) -> u64 {
+    if *txn == TXN { call } else { OTHER }
+}
+
+fn of_sub(sub: &Sub, call: u64) -> u64 {
+    of_txn(&sub.txn, call.saturating_add(sub.number.saturating_mul(10)))
 }
 
 fn done_by(action: &Action) -> u64 {
@@ -136,17 +159,17 @@ fn an_undo_that_is_latched_is_asked_for_again(rt: HostRuntime) -> Result<(), Fai
             (Came::Begin, BEGIN),
             (Came::Told(Told::Begun(TXN)), ANSWERS),
             (Came::Send, START),
-            (Came::Told(Told::Started(SUB)), STEP),
-            (Came::Told(Told::Written), STEP),
-            (Came::Told(Told::Written), STEP),
-            (Came::Told(Told::Ready), FINISH),
+            (Came::Told(Told::Started(FIRST)), STEP_FIRST),
+            (Came::Told(Told::Written), STEP_FIRST),
+            (Came::Told(Told::Written), STEP_FIRST),
+            (Came::Told(Told::Ready), FINISH_FIRST),
             (Came::Told(Told::Sent), ANSWERS),
             (Came::Lost, START_ABORT),
             (Came::Told(Told::Aborting), UNDO_NEXT),
             (Came::Told(Told::Refused(Refusal::Latched)), UNDO_AGAIN),
             (Came::Told(Told::Refused(Refusal::Latched)), UNDO_AGAIN),
-            (Came::Told(Told::Started(SUB)), STEP),
-            (Came::Told(Told::Ready), FINISH),
+            (Came::Told(Told::Started(SECOND)), STEP_SECOND),
+            (Came::Told(Told::Ready), FINISH_SECOND),
             (Came::Told(Told::Undone), UNDO_NEXT),
             (Came::Told(Told::Nothing), END_ABORT),
             (Came::Told(Told::Aborted), ENDS),
@@ -171,15 +194,15 @@ fn an_operation_under_way_is_finished_when_the_connection_is_lost(
             (Came::Begin, BEGIN),
             (Came::Told(Told::Begun(TXN)), ANSWERS),
             (Came::Send, START),
-            (Came::Told(Told::Started(SUB)), STEP),
-            (Came::Told(Told::Written), STEP),
-            (Came::Lost, STEP),
-            (Came::Told(Told::Written), STEP),
-            (Came::Told(Told::Ready), FINISH),
+            (Came::Told(Told::Started(FIRST)), STEP_FIRST),
+            (Came::Told(Told::Written), STEP_FIRST),
+            (Came::Lost, STEP_FIRST),
+            (Came::Told(Told::Written), STEP_FIRST),
+            (Came::Told(Told::Ready), FINISH_FIRST),
             (Came::Told(Told::Sent), START_ABORT),
             (Came::Told(Told::Aborting), UNDO_NEXT),
-            (Came::Told(Told::Started(SUB)), STEP),
-            (Came::Told(Told::Ready), FINISH),
+            (Came::Told(Told::Started(SECOND)), STEP_SECOND),
+            (Came::Told(Told::Ready), FINISH_SECOND),
             (Came::Told(Told::Undone), UNDO_NEXT),
             (Came::Told(Told::Nothing), END_ABORT),
             (Came::Told(Told::Aborted), ENDS),

@@ -198,19 +198,6 @@ tells_nothing told none d e = (let no : None ≡ Some (Undo d) = e in cc no)
 
 -- ---- the deed that a record tells
 
-module _ (told : Record) (t : Txn) (n level : ℕ) (bytes : List ℕ) (is : told ≡ records.OpEnd t n level bytes) where
-  told_as : undone_by told ≡ to_undo (deed_in bytes)
-  told_as = ap undone_by is
-
-  pub tells_deed : (d : Deed) → deed_in bytes ≡ Some d → undone_by told ≡ Some (Undo d)
-  tells_deed d e = told_as ∙ ap to_undo e
-
-  pub told_no_deed : (d : Deed) → deed_in bytes ≡ None → undone_by told ≡ Some (Undo d) → ⊥
-  told_no_deed d none e = (let no : None ≡ Some (Undo d) = sym (told_as ∙ ap to_undo none) ∙ e in cc no)
-
-  pub told_one_deed : (x d : Deed) → deed_in bytes ≡ Some x → undone_by told ≡ Some (Undo d) → d ≡ x
-  told_one_deed x d e f = (let same : Some (Undo x) ≡ Some (Undo d) = sym (tells_deed x e) ∙ f in sym (cc same))
-
 -- ---- where nothing is under way
 
 pub can_below : (z : Sizes) (q : Slots) (d : Deed) → CanBeTakenBack z q d → deed_sender d < sender_count z

@@ -6,11 +6,11 @@ use Rattle.std.proofs.lemmas.List.{drop_all}
 use Rattle.std.proofs.Math.Seq.{drop-cons}
 use Rattle.rq_page.specs.Formatted.{IsFormatted}
 use Rattle.rq_page.specs.Pages.{slot_of}
-use Rattle.rq_page.specs.Sizes.{Sizes, IsCellAddress, IsInRange, cell_at, cell_count, directory_at, sender_count}
+use Rattle.rq_page.specs.Sizes.{Sizes, IsCellAddress, IsInRange, cell_at, cell_count}
 use Rattle.rq_page.specs.Cells.{free_bytes}
 use Rattle.rq_page.specs.Slots.{SlotIsSpelling, held_in, slot_bytes}
 use Rattle.rq_page.specs.Slots.Slot.{Free}
-use Rattle.rq_page.proofs.Addresses.{cells_have_places, senders_have_slots}
+use Rattle.rq_page.proofs.Addresses.{cells_have_places}
 use Rattle.rq_views.specs.Stored.{IsStoreSlot, slot_at, slots_in}
 use Rattle.rq_pool.specs.Pooled.{IsPool}
 use Rattle.rq_level.specs.declared.writes.SlotWrite.{SlotWrite}
@@ -45,13 +45,6 @@ none_reads (suc (suc n)) deed le = refl
 pub slot_is : (z : Sizes) (images : List (List ℕ)) (a : ℕ) → IsStoreSlot z a → slots_in z images a ≡ held_in z (a / 16) (slot_at images a)
 slot_is z images a h = ap (λ b. cond b (held_in z (a / 16) (slot_at images a)) Free) (lt-ltb 0 (a % 16) (let low = h.slot in omega (arith, low)))
 
-pub group_stands : (z : Sizes) (a g : ℕ) → a ≡ directory_at g → g < sender_count z → IsStoreSlot z a
-group_stands z a g e inside = subst (IsStoreSlot z) (sym e) (
-    let place = senders_have_slots z g inside in
-    let high = place.1 in
-    record { page_low = place.0; page_high = omega (arith, high); slot = place.2 }
-    )
-
 pub cell_stands : (z : Sizes) (a : ℕ) → IsCellAddress z a → IsStoreSlot z a
 cell_stands z a c = record { page_low = (let low = c.above in omega (arith, low)); page_high = c.below; slot = c.slot }
 
@@ -70,15 +63,6 @@ unfolding meaning_of
 empty_noted n a k after empty bytes one e same = e ∙ ap (λ (m : ℕ). (meaning_of m).note k a empty) one ∙ ap (noted k a) same
 
 module _ (z : Sizes) (images : List (List ℕ)) where
-  -- the level was told the sizes
-  pub begins : (k after : Kept) → cell_count z ≤ length k.free → cell_count z ≤ length k.reserved → after ≡ record k { sizes = Some z } → KnowsFirst z (slots_in z images) after 0
-  begins k after free chosen e = subst (λ (x : Kept). KnowsFirst z (slots_in z images) x 0) (sym e) (noted_known.told z (slots_in z images) (record k { sizes = Some z }) refl free chosen)
-
-  pub knows_group : (k after : Kept) (a g : ℕ) → a ≡ directory_at g → g < sender_count z → after ≡ noted k a (slot_at images a) → KnowsFirst z (slots_in z images) k 0 → KnowsFirst z (slots_in z images) after 0
-  knows_group k after a g at inside e h =
-      let stands = group_stands z a g at inside in
-      subst (λ (x : Kept). KnowsFirst z (slots_in z images) x 0) (sym e) (noted_known.notes z (slots_in z images) k 0 a (slot_at images a) stands (slot_is z images a stands) h)
-
   pub knows_cell : (k after : Kept) (a count : ℕ) → a ≡ cell_at z count → count < cell_count z → after ≡ noted k a (slot_at images a) → KnowsFirst z (slots_in z images) k count → KnowsFirst z (slots_in z images) after (count + 1)
   knows_cell k after a count at inside e h =
       let stands = cell_stands z (cell_at z count) (cells_have_places z count inside).0 in

@@ -1,5 +1,4 @@
 pub mod Asked
 pub mod Answered
 pub mod Backs
-pub mod Worked
 pub mod Handed

@@ -11,10 +11,8 @@ mod operations;
 mod planner;
 mod planning;
 mod telling;
-mod worked;
 
 pub use handed::StoreLevels;
 pub use planner::Planner;
 pub use planning::{plan, plan_back};
 pub use telling::{give_back, tell_store};
-pub use worked::answers_are_judged;

@@ -4,7 +4,6 @@ use Rattle.std.proofs.lemmas.List.{length-drop, length-map}
 use Rattle.rq_model.specs.declared.record.Record.{Record}
 use Rattle.rq_model.specs.declared.refusal.Refusal.{Refusal}
 use Rattle.rq_model.specs.declared.refusal.Refusal.TheVariants as why
-use Rattle.rq_model.specs.declared.refusal.Damage.TheVariants as damage
 use Rattle.rq_model.specs.declared.record.Record.TheVariants as records
 use Rattle.rq_model.specs.Incarnations.{Extends, incarnation_of}
 use Rattle.rq_model.specs.Commits.{committed_of}
@@ -15,7 +14,7 @@ use Rattle.rq_log.specs.Logged.{Logged}
 use Rattle.rq_log.specs.Spelled.{spelled, AreSpelled, GoesOn}
 use Rattle.rq_views.specs.Stored.{count_used, slots_in}
 use Rattle.rq_sound.specs.Sound.{IsSound}
-use Rattle.rq_sound.proofs.Instance.{instance_sound}
+use Rattle.rq_sound.proofs.Opened.{opened_sound}
 use Rattle.rq_groups.specs.Sent.{SentBy}
 use Rattle.rq_store.specs.Opening.{FitsUpTo, IsLeft, MayRedo, opened, next_restart, waiting_in, sent_in_slots}
 use Rattle.rq_store.specs.State.{State}
@@ -24,7 +23,6 @@ use Rattle.rq_store.specs.Steps.{Continues}
 use Rattle.rq_store.specs.Whole.{IsWhole}
 use Rattle.rq_store.proofs.Bounds.{may_redo}
 use Rattle.rq_store.proofs.Cutting.{fits_log_longer}
-use Rattle.rq_store.proofs.Opening.{opened_sound, sends_here}
 use Rattle.rq_store.proofs.Redoing.{redone_slots}
 use Rattle.rq_undone.specs.Analysis.{Analysis, analysis}
 use Rattle.rq_undone.specs.Pages.{IsNextUndo, IsUndoing, UndoesBehind}
@@ -35,9 +33,8 @@ use Rattle.rq_lost.specs.Recovered.{IsRecovered, IsRecoveredFrom}
 use Rattle.rq_lost.proofs.Recovering.{recovered_from}
 use Rattle.rq_rules.proofs.Whole.{whole_logs}
 use Rattle.rq_restart.specs.Aborting.IsAborting.{Between}
-use Rattle.rq_restart.specs.Checked.{WasGoneThrough}
-use Rattle.rq_restart.specs.Mended.{ArePlannedFrom, IsMended, MendStops}
-use Rattle.rq_restart.specs.Refused.{BeginsNot, WhyNotBegun, WhyShut}
+use Rattle.rq_restart.specs.Mended.{ArePlannedFrom, IsMended}
+use Rattle.rq_restart.specs.Refused.{BeginsNot, WhyNotBegun}
 use Rattle.rq_restart.specs.Restarting.{IsBegun, IsBegunBehind, IsOpenedOver, Reports}
 use Rattle.rq_restart.specs.Repeating.{Paged, Repeats}
 use Rattle.rq_restart.specs.Undoing.{IsBadUndo}
@@ -81,9 +78,8 @@ begun_sound z first last images log mended are pool m recovered repeated left =
     let there = left_longer z first.image log mended left from.whole (mended_continues log mended m) in
     let fits : FitsUpTo z (image_in images) mended (length mended) = subst (λ f. FitsUpTo z f mended (length mended)) are (all_up_to z mended first there last repeated) in
     let slots = redone_slots z mended images from.whole.in_store fits in
-    instance_sound (opened z images mended) (opened_sound z images mended pool.range from.whole from.none_unfinished from.none_lost slots
-    (record { superblock = pool.superblock; headers = pool.headers; pages = λ p low high. (fits p low high).fits }))
-    (sends_here z images mended pool.range from.whole from.none_unfinished from.none_lost slots)
+    opened_sound z images mended pool.range from.whole from.none_unfinished from.none_lost slots
+    (record { superblock = pool.superblock; headers = pool.headers; pages = λ p low high. (fits p low high).fits })
 
 -- ---- what is begun
 

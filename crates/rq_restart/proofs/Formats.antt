@@ -32,9 +32,6 @@ module _ {P : Type 0} (p : Ghosts P) (z : Sizes) (old : P) where
     pub others : (q : ℕ) (c : List ℕ) → 1 ≤ q → q < page_count z → p.may_be now q c → IsFormatted z q c
     pub first : (c : List ℕ) → p.may_be now 0 c → p.may_be old 0 c ⊎ IsFormatted z 0 c
 
-  pub begins : ((d : P) (c : Images) → p.left_since d (p.moment d) c → Leaves (p.may_be d) c) → IsUntold old
-  begins only_now = record { run = record { later = omega arith; each = λ images since. inl (only_now old images since 0) }; first = λ c may. may }
-
   -- nothing more may be left of the superblock
   still_untold : (mid new : P) → IsUntold mid → ((c : List ℕ) → p.may_be new 0 c → p.may_be mid 0 c) → Elapses (p.moment mid) (p.moment new) (p.left_since mid) (p.left_since new) (Leaves (p.may_be new)) → IsUntold new
   still_untold mid new u less time = record {
@@ -79,9 +76,6 @@ module _ {P : Type 0} (p : Ghosts P) (z : Sizes) (old : P) where
   pub record IsWithin (now : P) : Type 0 where
     pub run : WritesItsPages p z old now
     pub each : (q : ℕ) (c : List ℕ) → p.may_be now q c → p.may_be old q c ⊎ ((q < page_count z) × IsFormatted z q c)
-
-  pub within_first : ((d : P) (c : Images) → p.left_since d (p.moment d) c → Leaves (p.may_be d) c) → IsWithin old
-  within_first only_now = record { run = record { later = omega arith; each = λ images since q. inl (only_now old images since q) }; each = λ q c may. inl may }
 
   within_on : (mid new : P) → IsWithin mid → ((q : ℕ) (c : List ℕ) → p.may_be new q c → p.may_be old q c ⊎ ((q < page_count z) × IsFormatted z q c)) → Elapses (p.moment mid) (p.moment new) (p.left_since mid) (p.left_since new) (Leaves (p.may_be new)) → IsWithin new
   within_on mid new w each time = record {

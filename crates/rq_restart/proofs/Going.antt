@@ -1,17 +1,17 @@
 -- Going through a log, one record after the other.
-use Rattle.std.proofs.Common.{◌≡◌, ◌⊎◌, inl, inr, ℕ, ◌+◌, ◌-◌, ◌%◌, ◌^◌, ◌≤◌, List, ◌∷◌, ◌++◌, length, drop, sym, ◌∙◌, ap, subst, arith, append_assoc}
+use Rattle.std.proofs.Common.{◌≡◌, ◌⊎◌, inl, inr, ℕ, ◌+◌, ◌-◌, ◌≤◌, List, ◌∷◌, ◌++◌, length, drop, sym, ◌∙◌, ap, subst, arith, append_assoc}
 use Rattle.std.proofs.lemmas.List.{drop-drop}
 use Rattle.rq_model.specs.declared.refusal.Refusal.{Refusal}
 use Rattle.rq_model.specs.declared.refusal.Refusal.TheVariants as why
 use Rattle.rq_model.specs.declared.refusal.Damage.TheVariants as damage
 use Rattle.rq_disk.specs.declared.device.LogDevice.{Ghosts}
 use Rattle.rq_record.specs.Spelling.{spelling}
-use Rattle.rq_log.specs.Reading.{BeginsWith, IsDamagedBehind, IsRead, StopsFor}
+use Rattle.rq_log.specs.Reading.{BeginsWith, IsRead, StopsFor}
 use Rattle.rq_log.specs.Spelled.{spelled, AreSpelled}
 use Rattle.rq_model.specs.declared.record.Record.{Record}
 use Rattle.rq_page.specs.Sizes.{Sizes}
-use Rattle.rq_store.specs.Opening.{FitsUpTo, Redoes, MayRedo, IsLeft}
-use Rattle.rq_store.specs.Fitting.{oldest, told_by}
+use Rattle.rq_store.specs.Opening.{FitsUpTo, IsLeft}
+use Rattle.rq_store.specs.Fitting.{oldest}
 use Rattle.rq_store.specs.Whole.{IsWhole}
 use Rattle.rq_store.proofs.Cutting.{whole_dropped}
 use Rattle.rq_store.proofs.Bounds.{may_redo}
@@ -23,7 +23,7 @@ use Rattle.rq_rules.proofs.Whole.{whole_logs}
 use Rattle.rq_restart.specs.declared.findings.Findings.{Findings}
 use Rattle.rq_restart.specs.Found.{AreFindings, MayFollow, findings_after}
 use Rattle.rq_restart.specs.Refused.{IsBadNext, IsStoppedBehind, NotRepeated}
-use Rattle.rq_restart.specs.Repeating.{Belongs, IsRepeated, Marks, Paged, Repeats}
+use Rattle.rq_restart.specs.Repeating.{Belongs, Paged, Repeats}
 use Rattle.rq_restart.proofs.Repeated.{up_to}
 
 -- what is found with one record more
@@ -42,13 +42,6 @@ begins_before : (r : Record) (front : List Record) (bytes : List ℕ) → Begins
 begins_before r front bytes h = (spelling r ++ h.0, h.1 ∙ append_assoc (spelled front) (spelling r) h.0)
 
 module _ {L : Type 0} (g : Ghosts L) (z : Sizes) (first : Paged) (old new : L) where
-  -- what stopped the reading, with the device as it was first
-  pub stops_from : (e : Refusal) (front : List Record) (mid : L) → g.seen mid ≡ g.seen old → g.faults mid ≡ g.faults old → StopsFor g e front mid new → StopsFor g e front old new
-  stops_from why.NoMemory front mid seen faults h = h ∙ faults
-  stops_from why.DiskRead front mid seen faults h = subst (λ n. g.faults new ≡ (n + 1) % 2 ^ 64) faults h
-  stops_from (why.Damaged (damage.Record lsn)) front mid seen faults h = (h.0, (λ honest. subst (IsDamagedBehind front) seen (h.1 honest)), h.2 ∙ faults)
-  stops_from _ front mid seen faults h = absurd h
-
   -- the record that was read was not repeated
   pub stopped_next : (front : List Record) (r : Record) (mid : Paged) (e : Refusal) → AreSpelled (r ∷ front) → (g.honest new → BeginsWith (r ∷ front) (g.seen old)) → Repeats z front first mid → IsRead g old new → g.faults new ≡ g.faults old
       → NotRepeated z front r mid e → IsStoppedBehind g z first e old new

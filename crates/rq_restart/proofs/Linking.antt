@@ -1,19 +1,15 @@
 -- Chains that are not whole once the log is mended.
-use Rattle.std.proofs.Common.{◌≡◌, ◌/◌, ◌%◌, ◌≤◌, ℕ, zero, suc, List, true, cond, nat_lt, inl, inr, refl, sym, subst, arith}
-use Rattle.std.proofs.lemmas.Bool.{cases_Bool, false≢true}
+use Rattle.std.proofs.Common.{List, refl}
 use Rattle.rq_model.specs.declared.record.Record.{Record}
 use Rattle.rq_model.specs.declared.refusal.Refusal.{Refusal}
 use Rattle.rq_model.specs.declared.refusal.Refusal.TheVariants as why
 use Rattle.rq_model.specs.declared.refusal.Damage.TheVariants as damage
-use Rattle.rq_page.specs.Pages.{slot_of}
 use Rattle.rq_page.specs.Sizes.{Sizes}
-use Rattle.rq_page.specs.Slots.{held_in}
-use Rattle.rq_page.specs.Slots.Slot.{Free}
 use Rattle.rq_pool.specs.Pooled.{IsPool, Pooled}
-use Rattle.rq_views.specs.Stored.{is_used, slots_in}
+use Rattle.rq_views.specs.Stored.{slots_in}
 use Rattle.rq_store.specs.Opening.{IsLeft}
 use Rattle.rq_lost.specs.Recovered.{IsRecovered}
-use Rattle.rq_links.specs.Links.{AreLinked, IsFault}
+use Rattle.rq_links.specs.Links.{AreLinked}
 use Rattle.rq_links.proofs.Faults.{faults_exact}
 use Rattle.rq_links.proofs.Sound.{sound_linked}
 use Rattle.rq_restart.specs.Mended.{ArePlannedFrom, IsMended, LinkStops, MendStops}
@@ -38,19 +34,3 @@ module _ {P : Type 0} (z : Sizes) (log mended : List Record) (new : Pooled P) (f
     none = λ left. faults_exact.none z (slots_in z new.images) page (left_linked left) s;
   }
   unlinked_stops _ s = absurd s
-
--- the superblock holds no cell
-used_on : (z : Sizes) (pages : Paged) (a p : ℕ) → a / 16 ≡ p → is_used (slots_on z pages a) ≡ true → 1 ≤ p
-used_on z pages a zero e used =
-    let h : is_used (cond (nat_lt 0 (a % 16)) (held_in z 0 (slot_of (a % 16) (pages.image 0))) Free) ≡ true =
-    subst (λ m. is_used (cond (nat_lt 0 (a % 16)) (held_in z m (slot_of (a % 16) (pages.image m))) Free) ≡ true) e used in
-    elim (cases_Bool (nat_lt 0 (a % 16))) [
-      | inl y ↦ absurd (false≢true (rw y at h))
-      | inr n ↦ absurd (false≢true (rw n at h))
-    ]
-used_on z pages a (suc p) e used = omega arith
-
--- so no fault of chains names it
-pub fault_within : (z : Sizes) (pages : Paged) (page : ℕ) → IsFault z (slots_on z pages) page → 1 ≤ page
-fault_within z pages page (inl f) = (let e = f.page_is in omega (arith, e))
-fault_within z pages page (inr u) = used_on z pages u.at page (sym u.page_is) u.used

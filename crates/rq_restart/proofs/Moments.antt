@@ -21,10 +21,6 @@ use Rattle.rq_restart.specs.Mended.{IsMended}
 use Rattle.rq_restart.proofs.Begun.{begun_behind}
 
 module _ {L : Type 0} (g : Ghosts L) (only_now : (d : L) (c : List ℕ) → g.left_since d (g.moment d) c → g.may_leave d c) where
-  -- nothing is done
-  pub untouched : (d : L) (Q : List ℕ → Type 0) → LeavesOnly g d d (λ c. g.may_leave d c ⊎ Q c)
-  untouched d Q = started g d (λ c. g.may_leave d c ⊎ Q c) (λ c left. inl (only_now d c left))
-
   pub still : (d : L) → IsRead g d d
   still d = record { same = refl; honest = λ h. h; leaves = λ c left. left; moments = started g d (g.may_leave d) (only_now d) }
 

@@ -1,5 +1,5 @@
 -- What is due can be planned to be taken back.
-use Rattle.std.proofs.Common.{◌≡◌, ℕ, ◌/◌, ◌<◌, ◌≤◌, List, [], Option, Some, None, refl, sym, ◌∙◌, ap, subst, false, arith}
+use Rattle.std.proofs.Common.{◌≡◌, ℕ, ◌/◌, ◌<◌, List, [], Option, Some, None, refl, sym, ◌∙◌, ap, subst, false, arith}
 use Rattle.rq_model.specs.declared.record.Deed.{Deed}
 use Rattle.rq_model.specs.declared.record.Deed.TheVariants.{Append, UnlinkHead, Close}
 use Rattle.rq_model.specs.declared.record.Record.{Record}
@@ -34,7 +34,7 @@ use Rattle.rq_links.proofs.Chains.{sender_same}
 use Rattle.rq_lost.specs.declared.dues.Due.{Due}
 use Rattle.rq_lost.specs.Dues.{deed_due}
 use Rattle.rq_lost.specs.Walk.{ShowsUndone, StandsLast}
-use Rattle.rq_restart.specs.Aborting.{IsNotUndone, IsPlannedBack, PlanStops, blamed_on}
+use Rattle.rq_restart.specs.Aborting.{IsPlannedBack, PlanStops, blamed_on}
 
 -- ---- what a sound store shows to be done last, with nothing under way, can be taken back
 
@@ -125,16 +125,3 @@ pub why_not_planned : (z : Sizes) (images : List (List ℕ)) (due : Due) (r : Re
 why_not_planned z images due why.NoMemory f = tt
 why_not_planned z images due (why.Damaged x) f = (refl, λ deed told can. (let e = f deed (ap to_undo told) can in cc e))
 why_not_planned z images due _ f = (refl, λ deed told can. (let e = f deed (ap to_undo told) can in cc e))
-
--- a deed of a sender that the store has not is none to be taken back
-can_below : (z : Sizes) (q : Slots) (d : Deed) → CanBeTakenBack z q d → deed_sender d < sender_count z
-can_below z q (Append g n tag previous body) c = c.below
-can_below z q (UnlinkHead g n tag body) c = c.below
-can_below z q (Close g) c = c.below
-
-pub not_of_store : (z : Sizes) (images : List (List ℕ)) (due : Due) (x : Deed) → deed_in due.deed ≡ Some x → sender_count z ≤ deed_sender x → IsNotUndone z images due
-not_of_store z images due x told high deed read can =
-    let same : deed ≡ x = (let k : Some deed ≡ Some x = sym read ∙ told in cc k) in
-    let low : deed_sender deed < sender_count z = can_below z (slots_in z images) deed can in
-    let e : deed_sender deed ≡ deed_sender x = ap deed_sender same in
-    omega (arith, low, high, e)

@@ -13,7 +13,7 @@ use Rattle.rq_pool.specs.Pooled.{Pooled}
 use Rattle.rq_store.specs.Fitting.{ToldWrite, image_in, told_by}
 use Rattle.rq_store.specs.Opening.{IsRedone, Redoes}
 use Rattle.rq_store.specs.Steps.{page_op}
-use Rattle.rq_store.proofs.Stepping.{address_is}
+use Rattle.rq_store.proofs.Owing.{address_is}
 use Rattle.rq_planner.specs.Answered.{KnowsCells}
 
 module _ (z : Sizes) (old new : List (List ℕ)) (w : ToldWrite) (lsn : ℕ) (r : IsRedone w lsn (image_in old) (image_in new)) where

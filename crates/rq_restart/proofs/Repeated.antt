@@ -12,7 +12,6 @@ use Rattle.rq_store.specs.Opening.{FitsUpTo, IsCounted, IsLeft, IsSoundWrite, Re
 use Rattle.rq_store.specs.Fitting.{ToldWrite, oldest, told_by}
 use Rattle.rq_store.proofs.Fitting.{oldest_all}
 use Rattle.rq_store.proofs.Redoing.{oldest_store, redo_none, redo_one}
-use Rattle.rq_rules.specs.Rules.{FollowAll}
 use Rattle.rq_restart.specs.Repeating.{AreCounted, IsRepeated, Paged, Repeats}
 
 -- the next of a log's first records

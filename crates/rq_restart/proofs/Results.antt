@@ -1,5 +1,5 @@
 -- Clauses about one answer, taken together.
-use Rattle.std.proofs.Common.{Result, Ok, Err, OnOk, IfOk, IfErr}
+use Rattle.std.proofs.Common.{Result, Ok, Err, OnOk, IfOk}
 
 -- what follows from what an Ok says
 pub on_ok : {T E A B : Type 0} (r : Result T E) → (A → B) → OnOk r A → OnOk r B

@@ -19,7 +19,7 @@ use Rattle.rq_store.specs.Whole.{IsWhole}
 use Rattle.rq_store.proofs.Bounds.{may_redo, page_of_slot}
 use Rattle.rq_store.proofs.Fitting.{page_fits_more, slot_holds}
 use Rattle.rq_store.proofs.Redoing.{redo_one, redone_slots}
-use Rattle.rq_store.proofs.Stepping.{address_is}
+use Rattle.rq_store.proofs.Owing.{address_is}
 use Rattle.rq_sound.specs.Calls.{IsPutIn}
 use Rattle.rq_sound.specs.Sound.{IsSound}
 use Rattle.rq_lost.specs.Moves.{newest_store}

@@ -15,10 +15,10 @@ use Rattle.rq_store.specs.Opening.{MayRedo, Redoes}
 use Rattle.rq_store.specs.Fitting.{told_by}
 use Rattle.rq_undone.specs.declared.history.Spot.{Spot}
 use Rattle.rq_undone.specs.Analysis.{Analysis, analysis}
-use Rattle.rq_undone.specs.Pages.{IsNextUndo, IsUndoing, IsUndone, work}
+use Rattle.rq_undone.specs.Pages.{IsNextUndo, IsUndoing, work}
 use Rattle.rq_undone.specs.Pages.IsNextUndo.{Voids, Undoes}
 use Rattle.rq_undone.proofs.Lists.{in_newest, in_spots, in_with, in_without, sub_in}
-use Rattle.rq_undone.proofs.Undos.{undo_leaves_less, undoing_more, undoing_none}
+use Rattle.rq_undone.proofs.Undos.{undo_leaves_less, undoing_more}
 use Rattle.rq_rules.specs.Rules.{CanBeRead}
 use Rattle.rq_restart.specs.Found.{MayFollow}
 use Rattle.rq_restart.specs.Repeating.{AreCounted, Belongs, IsRepeated, Marks, Paged, Repeats}
@@ -108,9 +108,6 @@ module _ (z y : Sizes) (log last : List Record) (first now : Paged) (sizes : y �
       let a : work after ≡ work (analysis (r ∷ last)) = ap work (noted ∙ ap analysis more) in
       let b : work h ≡ work (analysis last) = ap work is in
       omega (arith, less, a, b)
-
-  pub going_done : (h : Analysis) → h ≡ analysis last → h.unfinished ≡ [] → IsUndone log last
-  going_done h is none = record { undoing = k.undoing; none = ap (λ (j : Analysis). j.unfinished) (sym is) ∙ none }
 
   pub going_stops : (r : Record) (h : Analysis) (e : Refusal) → h ≡ analysis last → IsNextUndo h r → StepStops (length last) (Belongs y last r now) e → (start : Paged) → Repeats z log start first → UndoStops z log start e
   going_stops r h why.NoMemory is next s start before = tt

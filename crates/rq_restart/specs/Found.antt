@@ -1,5 +1,5 @@
 -- What is kept of a log as it is gone through.
-use Rattle.std.specs.Prelude.{◌≡◌, ℕ, ◌+◌, List, length}
+use Rattle.std.specs.Prelude.{◌≡◌, ℕ, List}
 use Rattle.rq_model.specs.declared.record.Record.{Record}
 use Rattle.rq_model.specs.Incarnations.{InOrder, IsNext, incarnation_of}
 use Rattle.rq_undone.specs.Analysis.{analysis, analysis_after}

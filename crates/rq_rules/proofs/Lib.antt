@@ -8,4 +8,3 @@ pub mod Owed
 pub mod Judging
 pub mod Whole
 pub mod Telling
-pub mod Worked

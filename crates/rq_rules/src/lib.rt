@@ -7,7 +7,6 @@ mod checking;
 mod ended;
 
 ghost use Rattle.rq_rules.specs.Theorems.{RulesTell, WholeLogsFollow};
-ghost use Rattle.rq_rules.specs.Worked.{RulesAreJudged};
 
 pub use checking::follows;
 pub use ended::Ended;
@@ -21,9 +20,4 @@ pub fn whole_logs_follow()
 /// numbers of a transaction's operations have no gaps.
 pub fn rules_tell()
     ensures { RulesTell }
-{}
-
-/// Worked: for each rule, records that follow it and records that break it.
-pub fn rules_are_judged()
-    ensures { RulesAreJudged }
 {}

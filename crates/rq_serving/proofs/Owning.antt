@@ -1,10 +1,7 @@
 -- What is asked for a transaction is called for it.
-use Rattle.std.proofs.Common.{refl}
-use Rattle.std.specs.Prelude.{Some, None}
-use Rattle.rq_model.specs.declared.txn.Txn.{Txn}
-use Rattle.rq_model.specs.History.Call.{Begin, Commit, Force}
+use Rattle.rq_model.specs.History.Call.{Begin, Commit}
 use Rattle.rq_session.specs.declared.calls.Ask.TheVariants as asks
-use Rattle.rq_serving.specs.Words.{IsOwnCall, OwnCalls}
+use Rattle.rq_serving.specs.Words.{OwnCalls}
 
 pub own_calls : OwnCalls
 own_calls own asks.Begin i = i
@@ -19,17 +16,3 @@ own_calls own (asks.StartAbort txn) i = i
 own_calls own (asks.UndoNext txn) i = i
 own_calls own (asks.EndAbort txn) i = i
 own_calls own (asks.LastTag sender) i = i
-
--- a commit of the own transaction, and of none; a begin beside one; a force, which no session asks for
-module _ (t : Txn) where
-  own_commit : IsOwnCall (Some t) (Commit t)
-  own_commit = refl
-
-  commit_of_none : IsOwnCall None (Commit t) → ⊥
-  commit_of_none i = absurd (cc)
-
-  begun_twice : IsOwnCall (Some t) Begin → ⊥
-  begun_twice i = absurd (cc)
-
-  forced : IsOwnCall (Some t) Force → ⊥
-  forced i = i

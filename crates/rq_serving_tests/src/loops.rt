@@ -26,6 +26,7 @@ use rq_workers::trail::Trail;
 use rq_workers::worker::Worker;
 use std::alloc::Global;
 use std::marker::Brand;
+use std::process::Abort;
 use std::snapshot::Snapshot;
 use std::sync::Wait;
 use std::sync::atomic::{AtomicU64, Ordering};
@@ -63,6 +64,26 @@ impl Gate for Often<'_> {
     }
 }
 
+/// Lets through as another does, and ends the test where it is asked again behind a no.
+#[derive(Drop)]
+struct Once<'a, R: Abort> {
+    rt: &'a R,
+    gate: Often<'a>,
+    refused: bool,
+}
+
+impl<R: Abort> Gate for Once<'_, R> {
+    ghost answers = { λ gate. gate.gate.answers.value };
+
+    fn pass(&mut self, point: u32) -> bool {
+        let rt = self.rt;
+        assert!(rt; !self.refused, "asked again behind a no");
+        let passed = self.gate.pass(point);
+        self.refused = !passed;
+        passed
+    }
+}
+
 /// What a test has a worker do.
 #[derive(Clone, Copy)]
 enum Task {
@@ -86,7 +107,7 @@ type Came = (Ended, bool);
 // checked fast.
 
 // What comes of a task over a small store where the gate lets through so often, and the calls that were made.
-fn seen<R: Wait>(
+fn seen<R: Abort + Wait>(
     rt: &R,
     alloc: Global,
     task: Task,
@@ -97,7 +118,7 @@ fn seen<R: Wait>(
     Some((came, calls))
 }
 
-fn tried<S: Steps, R: Wait>(
+fn tried<S: Steps, R: Abort + Wait>(
     rt: &R,
     alloc: Global,
     task: Task,
@@ -289,9 +310,14 @@ fn a_latched_inverse_is_tried_again(rt: HostRuntime) -> Result<(), Fail> {
     Ok(())
 }
 
-// A page writer at work. No operation is carried out.
-fn write_pages<S: Steps, R: Wait>(rt: &R, left: &AtomicU64, steps: S) -> (Option<Came>, S) {
-    let mut worker = Worker::new(lets_through(BEFORE_WRITE, left), steps);
+// A page writer at work, until its gate says no. No operation is carried out.
+fn write_pages<S: Steps, R: Abort + Wait>(rt: &R, left: &AtomicU64, steps: S) -> (Option<Came>, S) {
+    let gate = Once {
+        rt,
+        gate: lets_through(BEFORE_WRITE, left),
+        refused: false,
+    };
+    let mut worker = Worker::new(gate, steps);
     worker.write_pages(rt, 3);
     (None, worker.into_steps())
 }

@@ -1,6 +1,5 @@
 pub mod EachTurn
 pub mod Balances
-pub mod Worked
 pub mod Telling
 pub mod Due
 pub mod One

@@ -21,7 +21,7 @@ use Rattle.rq_session.specs.declared.stage.Next.{Next}
 use Rattle.rq_session.specs.Stages.{txn_held, held_in, is_undoing, IsStart, IsStageAt, IsStageOf}
 use Rattle.rq_session.specs.Rules.{after_loss, after_request, after_told, call_in}
 use Rattle.rq_session.specs.Laws.{AgainFitsIn, IsAbort, IsAborting, IsBegin, IsFirst, IsFor, Lost, abort_call, asked_last, given, loss_call, owed}
-use Rattle.rq_session.specs.Tells.{Follows, IsSame, KeepsLaws, OneFirst, OneLoss, OneReply}
+use Rattle.rq_session.specs.Tells.{EachKeeps, Follows, IsSame, KeepsLaws, OneFirst, OneLoss, OneReply}
 use Rattle.rq_session.proofs.EachTurn.{each_loss, each_reply, each_request, lost_answers_nothing}
 use Rattle.rq_session.proofs.Due.{each_answer, each_ask, each_end, each_stage, each_wait}
 
@@ -303,3 +303,24 @@ one_loss s n l =
       held = l.same ∙ sym m.same;
       undoing = λ x y. undoes n.stage l.aborts x ∙ sym (undoes (after_loss s).stage m.aborts y);
     })
+
+-- the session keeps the laws
+pub each_keeps : EachKeeps
+each_keeps false s what may = record {
+  answer = λ e. each_answer s what;
+  silent = λ e. absurd (false≢true e);
+  ask = each_ask false s what;
+  wait = each_wait false s what;
+  over = each_end false s what;
+  again = (each_reply false s what).again;
+  follows = each_stage false s what;
+}
+each_keeps true s what may = record {
+  answer = λ e. absurd (true≢false e);
+  silent = λ e. (lost_answers_nothing s what (may refl)).1;
+  ask = each_ask true s what;
+  wait = each_wait true s what;
+  over = each_end true s what;
+  again = (each_reply true s what).again;
+  follows = each_stage true s what;
+}

@@ -223,6 +223,11 @@ pub record KeepsLaws (lost : Bool) (s : Stage) (what : Told) (n : Next) : Type 0
   pub again : AgainFits s what n
   pub follows : Follows s what n
 
+-- the session keeps them
+abbrev pub EachKeeps : Type 0
+EachKeeps = (lost : Bool) (s : Stage) (what : Told) → (lost ≡ true → IsAborting s)
+    → KeepsLaws lost s what (after_told lost s what)
+
 abbrev pub IsSame : Next → Next → Type 0
 IsSame n m = (n.action ≡ m.action) × (n.stage ≡ m.stage)
 

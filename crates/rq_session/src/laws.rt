@@ -1,6 +1,6 @@
 //! Laws of sessions, for proofs.
 ghost use Rattle.rq_session.specs.Laws.{EachReply, EachMayAgain, EachRequest, EachLoss, LostAnswersNothing, NotTaken, OneAnswerEach};
-ghost use Rattle.rq_session.specs.Tells.{EachAnswer, EachAsk, EachWait, EachEnd, EachStage, OneReply, OneFirst, OneLoss};
+ghost use Rattle.rq_session.specs.Tells.{EachAnswer, EachAsk, EachKeeps, EachWait, EachEnd, EachStage, OneReply, OneFirst, OneLoss};
 
 /// At each reply: a call names the session's own transaction, and a begin is asked for only where there is none. A wait
 /// is for the commit of that transaction, as it was told just now, or for the one that was awaited before.
@@ -73,9 +73,10 @@ pub fn lost_answers_nothing()
     ensures { LostAnswersNothing }
 {}
 
-/// The laws of single turns leave one session: what keeps them at a reply, at a request or at the connection's loss is
-/// what the session does there, and where it stands then.
+/// The laws of single turns leave one session: it keeps them at each reply, and what keeps them at a reply, at a request or
+/// at the connection's loss is what the session does there, and where it stands then.
 pub fn one_session()
+    ensures keeps { EachKeeps }
     ensures reply { OneReply }
     ensures request { OneFirst }
     ensures loss { OneLoss }

@@ -50,13 +50,6 @@ module _ {S : Type 0} where
   abbrev pub Holds : State S View → Type 0
   Holds s = IsMark s.words s.views
 
-  pub begins : (xs : List S) → Holds (opening (0 ∷ []) xs newcomer)
-  begins xs = (0, refl, inl refl, one)
-    where
-      one : (j : ℕ) (u : View) → get_elem? (newcomer ∷ []) j ≡ some u → u.saw ≤ 0
-      one zero u e = subst (λ (z : View). z.saw ≤ 0) (some-injective _ _ e) (omega arith)
-      one (suc j) u e = absurd (some-ne-none u (sym e))
-
   pub publishes : (slots id : ℕ) (me : Me S View) (k : ℕ) → Allows Holds slots id me 0 (λ n. max n k) (Publishes (step slots 0 k 0 none) me)
   publishes slots id me k s h len at fits =
       let n = slice_index s.words 0 in

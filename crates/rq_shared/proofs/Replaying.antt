@@ -19,9 +19,6 @@ answers_more : (audit : List Noted) (n : Noted) → answers (audit ++ n ∷ []) 
 answers_more audit n = ap reverse (map-append answer_of audit (n ∷ [])) ∙ reverse-append (map answer_of audit) (answer_of n ∷ [])
 
 module _ {P L : Type 0} (p : page_device.Ghosts P) (l : log_device.Ghosts L) where
-  pub starts : (s : OpenStore P L) → Follows p l s [] s
-  starts s = record { sizes = refl; replays = λ h sound. (sound, refl) }
-
   pub goes_on : (base s t : OpenStore P L) (audit : List Noted) (n : Noted) → Follows p l base audit s → t.state.sizes ≡ s.state.sizes → (AreHonest p l t → AreHonest p l s) → (AreHonest p l t → IsSound s.state → Steps s.state n.call n.gave t.state) → Follows p l base (audit ++ n ∷ []) t
   goes_on base s t audit n f same falls step = record {
     sizes = same ∙ f.sizes;

@@ -17,13 +17,13 @@ use Rattle.rq_groups.specs.Waiting.{waits}
 use Rattle.rq_level.specs.declared.writes.SlotWrite.{SlotWrite}
 use Rattle.rq_store.specs.State.{op_done, phase_of, State, ledger_of, open_of, open_ones_of, job_under, job_of_aim, left_under}
 use Rattle.rq_store.specs.Steps.{took, page_op}
-use Rattle.rq_store.proofs.Beginning.{none_held}
-use Rattle.rq_store.proofs.Forcing.{all_within}
-use Rattle.rq_store.proofs.Holders.{map_join}
-use Rattle.rq_store.proofs.Stepping.{one_longer}
+use Rattle.rq_store.proofs.Ends.{none_held}
+use Rattle.rq_store.proofs.Within.{all_within}
+use Rattle.rq_store.proofs.Placed.{map_join}
+use Rattle.rq_store.proofs.Owing.{one_longer}
 use Rattle.rq_txn.specs.declared.Aim.{Aim}
 use Rattle.rq_txn.specs.Rows.{Under, Row, found_row, fresh_row, row_stepped, under_stepped}
-use Rattle.rq_store.specs.Sound.{AreEnds}
+use Rattle.rq_store.specs.Settled.{AreEnds}
 use Rattle.rq_store.proofs.RowLists.{found_in, some_not_none}
 use Rattle.rq_txn.specs.declared.Aim.TheVariants as aims
 use Rattle.rq_sound.specs.Standing.{IsAsPlanned}

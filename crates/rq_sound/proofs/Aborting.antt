@@ -14,12 +14,12 @@ use Rattle.rq_views.specs.Legal.{MayFollow, open_deeds, under_way}
 use Rattle.rq_groups.specs.Ends.{HeldEnds}
 use Rattle.rq_model.specs.Incarnations.{incarnation_of}
 use Rattle.rq_store.specs.Rows.{placed, is_under}
-use Rattle.rq_store.specs.Sound.{IsSettled}
+use Rattle.rq_store.specs.Settled.{IsSettled}
 use Rattle.rq_store.specs.Whole.{IsWhole}
 use Rattle.rq_txn.specs.Rows.{Under, Row, found_row, change_row, without_row, row_aborting}
 use Rattle.rq_sound.specs.Standing.{IsAsPlanned, IsRow, AreStanding}
 use Rattle.rq_sound.specs.Counted.{AreCounted}
-use Rattle.rq_store.proofs.Releases.{without_ends}
+use Rattle.rq_store.proofs.Ends.{without_ends}
 use Rattle.rq_sound.proofs.Going.{other_gone}
 use Rattle.rq_sound.proofs.Beside.{SaysSame, says_abort}
 use Rattle.rq_sound.proofs.Counted.{counted_abort, counted_aborting}

@@ -1,5 +1,5 @@
 -- Who holds an end is alone with it in the log, and may take what waits.
-use Rattle.std.proofs.Common.{◌≡◌, ℕ, ◌+◌, ◌-◌, ◌<◌, ◌≤◌, ◌||◌, List, [], ◌∷◌, length, drop, refl, sym, ◌∙◌, ap, subst, Bool, true, false, not, cond, nat_eq, Option, Some, None, inl, inr, arith}
+use Rattle.std.proofs.Common.{◌≡◌, ℕ, ◌+◌, ◌-◌, ◌<◌, ◌≤◌, ◌||◌, List, [], ◌∷◌, length, refl, sym, ◌∙◌, ap, subst, Bool, true, false, not, cond, nat_eq, Option, Some, None, inl, inr, arith}
 use Rattle.std.specs.List.{filter_map}
 use Rattle.std.proofs.lemmas.Bool.{cases_Bool, false≢true, eq-eqb, or_parts, and_parts, not-true, false_from_ne_true}
 use Rattle.std.proofs.lemmas.List.{length-drop}
@@ -18,22 +18,20 @@ use Rattle.rq_model.specs.Rules.{holds, any_use, uses_send, uses_receive}
 use Rattle.rq_model.proofs.Told.{told_taken, not_yet, content_is}
 use Rattle.rq_model.proofs.Commits.{removed_both, shape_is, covered_log, around_itself}
 use Rattle.rq_page.specs.Sizes.{Sizes, sender_count}
-use Rattle.rq_views.specs.Chain.{View}
 use Rattle.rq_views.specs.Items.{items, told_deed, ReadsItsDeeds, has_undone}
 use Rattle.rq_views.specs.Legal.{Placed, open_deeds, rest_placed}
-use Rattle.rq_views.specs.Groups.{on_sending_end, on_receiving_end, side, with_all, committed, Alone}
-use Rattle.rq_views.proofs.Committed.{say, takes_form}
+use Rattle.rq_views.specs.Groups.{on_sending_end, on_receiving_end, side, Alone}
+use Rattle.rq_views.proofs.Committed.{say}
 use Rattle.rq_views.proofs.Content.{own_deeds}
-use Rattle.rq_views.proofs.Settled.{rest_shown}
 use Rattle.rq_groups.specs.Ends.{HeldEnds, has_held}
 use Rattle.rq_groups.specs.Waiting.{waits}
 use Rattle.rq_store.specs.Whole.{IsWhole}
 use Rattle.rq_txn.specs.Rows.{Row, found_row}
 use Rattle.rq_store.proofs.RowLists.{found_in}
-use Rattle.rq_store.proofs.Waiting.{one_of_sum}
+use Rattle.rq_store.proofs.RowSums.{one_of_sum}
 use Rattle.rq_sound.specs.Standing.{AreStanding}
 use Rattle.rq_sound.specs.Counted.{AreCounted, takes_in}
-use Rattle.rq_store.proofs.Telling.{told_placed}
+use Rattle.rq_store.proofs.Placed.{told_placed}
 
 step : (f : Said → Bool) (p : Deed → Bool) → ((d : Deed) → f (said d) ≡ p d) → (t u : Txn) (n level : ℕ) (bytes : List ℕ) (d : Deed) (ps : List Placed) (ds : List Said) → level ≡ 1 → deed_in bytes ≡ Some d → (any_use f ds ≡ false → side p ps ≡ [])
     → any_use f (kept (λ v. same_txn v t) (ending_by u (cond (nat_eq level 1) (deed_in bytes) None)) ds) ≡ false → side p (cond (same_txn u t) (record { lsn = n; deed = told_deed (deed_in bytes) } ∷ ps) ps) ≡ []
@@ -77,16 +75,6 @@ takes_same g (UnlinkHead r n tag body) = refl
 takes_same g (Close r) = refl
 
 module _ (z : Sizes) (log : List Record) (ends : HeldEnds) (rows : List Row) (incarnation begins : ℕ) (whole : IsWhole z log) (k : AreStanding z log ends rows incarnation begins) where
-  -- the holder of a sending end is alone with its sends
-  pub alone_sending : (g : ℕ) (t : Txn) → has_held t g ends.sending ≡ true → Alone (on_sending_end g) t (items z log)
-  alone_sending g t h u n = at (found_row u rows) refl where
-    at : (o : Option Row) → found_row u rows ≡ o → side (on_sending_end g) (open_deeds u (items z log)) ≡ []
-    at None e = ap (side (on_sending_end g)) (k.others u e).settled
-    at (Some r) e =
-        let i = found_in u rows r e in
-        let held : any_use (uses_send g) (deeds (λ v. same_txn v u) log) ≡ true → has_held u g ends.sending ≡ true = subst (λ v. any_use (uses_send g) (deeds (λ w. same_txn w v) log) ≡ true → has_held v g ends.sending ≡ true) i.1 ((k.each r i.0).held.sends g) in
-        unused (uses_send g) (on_sending_end g) (sends_same g) z u log whole.reads (false_from_ne_true (any_use (uses_send g) (deeds (λ v. same_txn v u) log)) (λ y. n (k.sending.one u t g (held y) h)))
-
   pub alone_taking : (g : ℕ) (t : Txn) → has_held t g ends.receiving ≡ true → Alone (on_receiving_end g) t (items z log)
   alone_taking g t h u n = at (found_row u rows) refl where
     at : (o : Option Row) → found_row u rows ≡ o → side (on_receiving_end g) (open_deeds u (items z log)) ≡ []
@@ -122,17 +110,6 @@ module _ (z : Sizes) (log : List Record) (ends : HeldEnds) (rows : List Row) (in
   -- what the log tells that it took is what the row has
   pub removed_is : (g : ℕ) (r : Row) → In r rows → removed g (say (open_deeds r.txn (items z log))) ≡ takes_in g r
   removed_is g r i = sym (told_taken g (say (open_deeds r.txn (items z log)))) ∙ ap (λ ps. length (filter_map (taken_from g) (ops_told (say ps)))) (k.each r i).done ∙ ap (λ l. length (filter_map (taken_from g) l)) (told_placed r.finished)
-
-  -- what is left of the committed messages when its own takes are taken
-  pub left_is : (g : ℕ) (r : Row) → In r rows → length (with_all (side (on_receiving_end g) (open_deeds r.txn (items z log))) (committed (items z log) g)).messages ≡ length (rest_in (committed_of log) g) - takes_in g r
-  left_is g r i =
-      let ps = open_deeds r.txn (items z log) in
-      let v = committed (items z log) g in
-      let a : length (with_all (side (on_receiving_end g) ps) v).messages ≡ length (drop (removed g (say ps)) v.messages) = ap (λ (v : View). length v.messages) (takes_form g ps v) in
-      let b = length-drop (removed g (say ps)) v.messages in
-      let d = rest_shown z g log whole.rules whole.reads in
-      let e = removed_is g r i in
-      omega (arith, a, b, d, e)
 
   sizes : (g : ℕ) → (removed g (deeds (has_commit log) log) ≡ length (taken_in (committed_of log) g)) × (length (added g (deeds (has_commit log) log)) ≡ length (sent_in (committed_of log) g))
   sizes g =

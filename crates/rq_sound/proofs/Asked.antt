@@ -11,7 +11,7 @@ use Rattle.rq_model.specs.declared.record.Deed.TheVariants.{Append, UnlinkHead, 
 use Rattle.rq_model.specs.declared.record.Record.{Record}
 use Rattle.rq_model.specs.Words.{In, same_txn}
 use Rattle.rq_model.specs.Ledger.{rest_in, ended_in, any_ends}
-use Rattle.rq_model.specs.Tests.{below, count_rest, pending, is_sent, is_sending, holds_for, has_closed}
+use Rattle.rq_model.specs.Tests.{pending, is_sending, has_closed}
 use Rattle.rq_model.specs.Content.{said, removed, removed_one, closed, deeds}
 use Rattle.rq_model.specs.Commits.{ops_told, committed_of}
 use Rattle.rq_model.specs.Rules.{any_use, uses_send, uses_receive}
@@ -35,8 +35,8 @@ use Rattle.rq_sound.proofs.RowSums.{alone_of_sum}
 use Rattle.rq_sound.specs.Sound.{IsSound}
 use Rattle.rq_sound.specs.Standing.{AreStanding}
 use Rattle.rq_sound.specs.Counted.{AreCounted, appends_aim, appending, appending_in, appends_all, takes_in}
-use Rattle.rq_store.proofs.Telling.{told_placed}
-use Rattle.rq_store.proofs.Starting.{free_alone}
+use Rattle.rq_store.proofs.Placed.{told_placed}
+use Rattle.rq_store.proofs.Ends.{free_alone}
 use Rattle.rq_sound.proofs.Alone.{unused, sends_same, takes_same, removed_is}
 use Rattle.rq_sound.proofs.Commits.{count_sends}
 

@@ -22,7 +22,7 @@ use Rattle.rq_store.specs.Whole.{IsWhole}
 use Rattle.rq_views.proofs.Numbers.{all_begun}
 use Rattle.rq_views.specs.Numbers.{greatest}
 use Rattle.rq_txn.specs.Rows.{Under, Row, found_row, fresh_row}
-use Rattle.rq_store.specs.Sound.{AreEnds}
+use Rattle.rq_store.specs.Settled.{AreEnds}
 use Rattle.rq_store.proofs.RowLists.{found_in}
 use Rattle.rq_sound.specs.Standing.{IsRow, AreStanding}
 use Rattle.rq_sound.specs.Counted.{AreCounted, IsCovered, appends_all, appending_in, takes_all, before_in, after_in, takes_in}

@@ -14,7 +14,7 @@ use Rattle.rq_views.specs.Items.{items, operation, has_undone}
 use Rattle.rq_views.specs.Legal.{open_deeds, began, over, under_way}
 use Rattle.rq_level.specs.declared.writes.SlotWrite.{SlotWrite}
 use Rattle.rq_groups.specs.Ends.{HeldEnds}
-use Rattle.rq_store.specs.Sound.{IsSettled}
+use Rattle.rq_store.specs.Settled.{IsSettled}
 use Rattle.rq_store.specs.Steps.{page_op, op_end}
 use Rattle.rq_views.specs.Numbers.{greatest}
 use Rattle.rq_txn.specs.Rows.{Row}

@@ -19,7 +19,7 @@ use Rattle.rq_groups.specs.Ends.{HeldEnds}
 use Rattle.rq_store.specs.Fitting.{left_by}
 use Rattle.rq_store.specs.Rows.{placed_one}
 use Rattle.rq_store.specs.Whole.{IsWhole}
-use Rattle.rq_store.proofs.Rooms.{takes_finished}
+use Rattle.rq_store.proofs.Placed.{takes_finished}
 use Rattle.rq_txn.specs.Rows.{Row, found_row, AreDistinct}
 use Rattle.rq_store.proofs.RowLists.{in_found, some_not_none}
 use Rattle.rq_sound.specs.Standing.{AreStanding}

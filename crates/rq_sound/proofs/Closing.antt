@@ -20,7 +20,7 @@ use Rattle.rq_views.proofs.Committed.{say}
 use Rattle.rq_views.proofs.Holding.{Holders, committed_is_group, holders}
 use Rattle.rq_store.specs.State.{op_done, State}
 use Rattle.rq_store.proofs.Grouping.{groups_of}
-use Rattle.rq_store.proofs.Telling.{told_placed}
+use Rattle.rq_store.proofs.Placed.{told_placed}
 use Rattle.rq_txn.specs.Rows.{Row, found_row}
 use Rattle.rq_store.proofs.RowLists.{found_in}
 use Rattle.rq_sound.specs.Sound.{IsSound}

@@ -2,7 +2,7 @@
 use Rattle.std.proofs.Common.{◌≡◌, ℕ, ◌+◌, ◌<◌, ◌≤◌, ◌||◌, ◌++◌, List, [], ◌∷◌, length, map, refl, sym, ◌∙◌, ap, subst, false, cond, nat_eq, Option, Some, None, inl, inr, arith}
 use Rattle.std.specs.List.{sum_by, filter, filter_map}
 use Rattle.std.proofs.lemmas.Bool.{cases_Bool, cond-true, true≢false, false≢true, or_from, or_left, or_cases, cases_lt, eqb-true, false_from_ne_true}
-use Rattle.std.proofs.lemmas.List.Sums.{sum_by-cons, sum_by_push}
+use Rattle.std.proofs.lemmas.List.Sums.{sum_by-cons}
 use Rattle.rq_model.specs.declared.txn.Txn.{Txn}
 use Rattle.rq_model.specs.declared.record.Deed.{Deed}
 use Rattle.rq_model.specs.declared.record.Deed.TheVariants.{Append, UnlinkHead, Close}
@@ -37,20 +37,19 @@ use Rattle.rq_store.specs.Sends.{KeepsSends}
 use Rattle.rq_sound.specs.Calls.{sends_for}
 use Rattle.rq_store.specs.State.{op_done}
 use Rattle.rq_model.specs.Incarnations.{incarnation_of}
-use Rattle.rq_store.specs.Rows.{placed, placed_one, HasWaiting, is_under}
-use Rattle.rq_store.specs.Sound.{takes_one, IsSettled}
-use Rattle.rq_views.specs.Claims.{appends_of, takes_placed}
+use Rattle.rq_store.specs.Rows.{HasWaiting, is_under}
+use Rattle.rq_store.specs.Settled.{IsSettled}
+use Rattle.rq_views.specs.Claims.{appends_of}
 use Rattle.rq_store.specs.Whole.{IsWhole}
 use Rattle.rq_txn.specs.declared.Aim.{Aim}
 use Rattle.rq_txn.specs.Rows.{Under, Row, deed_of, found_row, without_row}
 use Rattle.rq_txn.specs.declared.Aim.TheVariants.{Doing, Undoing}
-use Rattle.rq_store.proofs.Committing.{rows_without}
+use Rattle.rq_store.proofs.RowSums.{rows_without}
 use Rattle.rq_store.proofs.RowLists.{gone}
 use Rattle.rq_sound.specs.Standing.{IsAsPlanned, IsRow, AreStanding}
 use Rattle.rq_sound.specs.Counted.{AreCounted, IsCovered, CoversAim, appending, appending_in, appends_one, appends_all, takes_all, takes_in, sends_in, uses_before, uses_after, made_of, before_in, after_in}
-use Rattle.rq_store.proofs.Releases.{without_ends}
-use Rattle.rq_store.proofs.Holders.{placed_first}
-use Rattle.rq_store.proofs.Telling.{told_placed, count_takes}
+use Rattle.rq_store.proofs.Ends.{without_ends}
+use Rattle.rq_store.proofs.Placed.{told_placed, count_takes}
 use Rattle.rq_sound.proofs.Going.{other_gone}
 use Rattle.rq_sound.proofs.Beside.{says_commit}
 use Rattle.rq_sound.proofs.Alone.{takes_below}

@@ -20,12 +20,10 @@ use Rattle.rq_txn.specs.declared.Finished.{Finished}
 use Rattle.rq_groups.specs.Waiting.{waits}
 use Rattle.rq_store.specs.Steps.{took}
 use Rattle.rq_store.specs.Fitting.{left_by}
-use Rattle.rq_store.specs.Opening.{opened}
 use Rattle.rq_store.specs.Rows.{placed}
 use Rattle.rq_store.proofs.Begun.{begun_all}
 use Rattle.rq_store.proofs.Grouping.{groups_of}
-use Rattle.rq_store.proofs.Opening as opening
-use Rattle.rq_store.proofs.Starting.{held_now}
+use Rattle.rq_store.proofs.Ends.{held_now}
 use Rattle.rq_txn.specs.Rows.{Under, Row, deed_of, found_row, change_row, row_undone, latched_in}
 use Rattle.rq_store.specs.State.{State, ledger_of}
 use Rattle.rq_store.proofs.RowLists.{found_in}
@@ -36,7 +34,7 @@ use Rattle.rq_sound.specs.Counted.{CoversAim, appends_aim}
 use Rattle.rq_sound.specs.Sound.{IsSound}
 use Rattle.rq_sound.specs.Starts.{MayDo, MayUndo, IsEndFree, with_end}
 use Rattle.rq_sound.specs.Calls.{IsReady, IsIdle, undone, started, forced}
-use Rattle.rq_sound.specs.Theorems.{CallsKeepSoundness, InversesCanBePlanned, TestsAreAnswered, OneUnderWayIsSound, OpenedIsSound}
+use Rattle.rq_sound.specs.Theorems.{CallsKeepSoundness, InversesCanBePlanned, TestsAreAnswered, OpenedIsSound}
 use Rattle.rq_sound.proofs.Starts.{MayStart, HasEnds, plan_latches, told_by_plan, takes_send, takes_receive, may_undo}
 use Rattle.rq_sound.proofs.EachCall.{begin_sound, start_sound, step_sound, finish_sound, undo_sound, commit_sound, start_abort_sound, end_abort_sound}
 use Rattle.rq_sound.proofs.Undoing.{aborts}
@@ -48,7 +46,7 @@ use Rattle.rq_sound.proofs.UndoStarts.{chain_is, undo_started_after}
 use Rattle.rq_sound.proofs.Asked.{closed_is, holds_is, cells_are}
 use Rattle.rq_sound.proofs.FreeEnds.{free_is, free_to_take}
 use Rattle.rq_sound.proofs.Lost.{lost_finds_cell}
-use Rattle.rq_sound.proofs.Instance.{instance_sound}
+use Rattle.rq_sound.proofs.Opened.{opened_sound}
 
 pub within : {X : Type 0} (xs : List X) (k : ℕ) (x : X) → slice_get xs k ≡ Some x → k < length xs
 within [] k x e = cc
@@ -223,8 +221,5 @@ answered = record {
   chain = λ s g k. chain_is s k g;
 }
 
-pub one_under : OneUnderWayIsSound
-one_under = instance_sound
-
 pub opened_is : OpenedIsSound
-opened_is z images log range whole none_unfinished none_lost pages fits = instance_sound (opened z images log) (opening.opened_sound z images log range whole none_unfinished none_lost pages fits) (opening.sends_here z images log range whole none_unfinished none_lost pages)
+opened_is z images log range whole none_unfinished none_lost pages fits = opened_sound z images log range whole none_unfinished none_lost pages fits

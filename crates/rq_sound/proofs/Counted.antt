@@ -35,7 +35,7 @@ use Rattle.rq_groups.specs.Waiting.{waits}
 use Rattle.rq_store.specs.State.{op_done}
 use Rattle.rq_store.specs.Rows.{HasWaiting}
 use Rattle.rq_views.specs.Claims.{takes_of, appends_of}
-use Rattle.rq_store.specs.Sound.{takes_one}
+use Rattle.rq_store.specs.Settled.{takes_one}
 use Rattle.rq_store.specs.Fitting.{left_by}
 use Rattle.rq_store.specs.Steps.{page_op, op_end, took}
 use Rattle.rq_store.specs.Whole.{IsWhole}
@@ -43,13 +43,12 @@ use Rattle.rq_txn.specs.declared.Aim.{Aim}
 use Rattle.rq_txn.specs.Rows.{Under, Row, deed_of, found_row, change_row, without_row, AreDistinct, row_started, under_stepped, row_stepped, row_finished, row_undone, row_aborting}
 use Rattle.rq_txn.specs.declared.Aim.TheVariants.{Doing, Undoing}
 use Rattle.rq_store.proofs.RowLists.{found_in, changed, gone}
-use Rattle.rq_store.proofs.Others.{rows_one, rows_sum}
-use Rattle.rq_store.proofs.Committing.{rows_without}
+use Rattle.rq_store.proofs.RowSums.{rows_one, rows_sum, rows_without}
 use Rattle.rq_sound.specs.Rows.{turn_of, comp_end}
 use Rattle.rq_sound.specs.Standing.{FollowsPlan}
 use Rattle.rq_sound.specs.Counted.{AreCounted, IsCovered, CoversAim, appends_aim, appending, appending_in, takes_all, appends_one, appends_all, uses_before, uses_after, made_of, before_in, after_in, takes_in}
 use Rattle.rq_sound.proofs.UsedCells.{plan_counts, count_made}
-use Rattle.rq_store.proofs.Holders.{map_join}
+use Rattle.rq_store.proofs.Placed.{map_join}
 use Rattle.rq_sound.proofs.Going.{take_next, get_written}
 
 took_more : (g : ℕ) (fs : List Finished) (f : Finished) → length (filter_map (taken_from g) (map op_done (fs ++ f ∷ []))) ≡ length (filter_map (taken_from g) (map op_done fs)) + took g f.deed

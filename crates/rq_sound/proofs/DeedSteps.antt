@@ -39,9 +39,8 @@ use Rattle.rq_store.specs.Rows.{HoldsFor, HasWaiting}
 use Rattle.rq_store.specs.State.{size_of, job_of, op_done, State, ledger_of, open_of, open_ones_of, job_of_aim, job_under, left_under}
 use Rattle.rq_store.specs.Steps.{gave_done, op_end, took}
 use Rattle.rq_store.proofs.Grouping.{groups_of}
-use Rattle.rq_store.proofs.Holders.{map_join}
-use Rattle.rq_store.proofs.Stepping.{one_longer}
-use Rattle.rq_store.proofs.Telling.{told_placed}
+use Rattle.rq_store.proofs.Placed.{map_join, told_placed}
+use Rattle.rq_store.proofs.Owing.{one_longer}
 use Rattle.rq_txn.specs.Rows.{Under, Row, deed_of, row_finished, row_started}
 use Rattle.rq_store.proofs.RowLists.{found_in, not_txn, unique}
 use Rattle.rq_txn.specs.declared.Aim.TheVariants as aims

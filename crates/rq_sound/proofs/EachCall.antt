@@ -29,8 +29,8 @@ use Rattle.rq_sound.specs.Sound.{IsSound}
 use Rattle.rq_sound.specs.Counted.{appends_aim, takes_all, sends_in}
 use Rattle.rq_store.proofs.Begun.{begun_more}
 use Rattle.rq_store.proofs.Fitting.{fits_more, fits_written}
-use Rattle.rq_store.proofs.Stepping.{address_is}
-use Rattle.rq_store.proofs.Releases.{without_ends}
+use Rattle.rq_store.proofs.Owing.{address_is}
+use Rattle.rq_store.proofs.Ends.{without_ends}
 use Rattle.rq_sound.proofs.Begins.{stands_begin, counts_begin}
 use Rattle.rq_sound.proofs.Starts.{MayStart, HasEnds, stands_start, counts_start}
 use Rattle.rq_sound.proofs.Writing.{whole_step, stands_step, counts_step}

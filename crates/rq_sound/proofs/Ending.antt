@@ -31,11 +31,11 @@ use Rattle.rq_store.specs.Whole.{IsWhole}
 use Rattle.rq_txn.specs.declared.Aim.{Aim}
 use Rattle.rq_txn.specs.Rows.{Under, Row, deed_of, found_row, change_row, row_finished}
 use Rattle.rq_txn.specs.declared.Aim.TheVariants.{Doing}
-use Rattle.rq_store.proofs.Waiting.{one_of_sum}
+use Rattle.rq_store.proofs.RowSums.{one_of_sum}
 use Rattle.rq_sound.specs.Rows.{turn_of}
 use Rattle.rq_sound.specs.Standing.{FollowsPlan, IsAimOf, IsRow, HoldsAll, TellsFor, ReadsFor, AreStanding}
 use Rattle.rq_sound.specs.Counted.{AreCounted, IsCovered, CoversAim, appending, appending_in, appends_aim}
-use Rattle.rq_store.proofs.Holders.{placed_more}
+use Rattle.rq_store.proofs.Placed.{placed_more}
 use Rattle.rq_sound.proofs.Claimed.{claimed_by_rows}
 use Rattle.rq_sound.proofs.Going.{other_ends}
 use Rattle.rq_sound.proofs.Beside.{says_end}

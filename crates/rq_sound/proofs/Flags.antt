@@ -26,7 +26,7 @@ use Rattle.rq_level.specs.Writes.{writes_of}
 use Rattle.rq_groups.specs.Ends.{is_free_for}
 use Rattle.rq_store.specs.Fitting.{left_by}
 use Rattle.rq_store.specs.Rows.{HoldsFor, is_under}
-use Rattle.rq_store.proofs.Starting.{free_alone}
+use Rattle.rq_store.proofs.Ends.{free_alone}
 use Rattle.rq_txn.specs.declared.Aim.{Aim}
 use Rattle.rq_txn.specs.Rows.{Under, Row, deed_of, found_row}
 use Rattle.rq_store.specs.State.{State}

@@ -1,6 +1,6 @@
 -- Whoever may put a message back finds a free cell, and so does whoever may send; and the inverse of the newest deed can
 -- be planned.
-use Rattle.std.proofs.Common.{◌≡◌, ℕ, ◌+◌, ◌/◌, ◌<◌, ◌≤◌, ◌++◌, List, [], ◌∷◌, refl, sym, ◌∙◌, ap, subst, true, false, nat_eq, Option, Some, None, inl, inr, arith}
+use Rattle.std.proofs.Common.{◌≡◌, ℕ, ◌+◌, ◌/◌, ◌<◌, ◌≤◌, ◌++◌, List, [], ◌∷◌, refl, sym, ◌∙◌, ap, subst, false, nat_eq, Option, Some, None, inl, inr, arith}
 use Rattle.std.specs.List.{sum_by}
 use Rattle.std.proofs.lemmas.Bool.{cases_Bool, eqb-true, or_parts}
 use Rattle.std.proofs.lemmas.List.Sums.{sum_by-cons, sum_by_push}
@@ -24,7 +24,7 @@ use Rattle.rq_views.proofs.Stands.{slots_stand}
 use Rattle.rq_txn.specs.declared.Finished.{Finished}
 use Rattle.rq_groups.specs.Ends.{HeldEnds}
 use Rattle.rq_views.specs.Claims.{takes_of, appends_of}
-use Rattle.rq_store.specs.Sound.{takes_one}
+use Rattle.rq_store.specs.Settled.{takes_one}
 use Rattle.rq_store.specs.Rows.{placed, placed_one, is_under}
 use Rattle.rq_store.specs.Fitting.{left_by}
 use Rattle.rq_store.specs.Whole.{IsWhole}
@@ -37,10 +37,10 @@ use Rattle.rq_sound.specs.Rows.{turn_of}
 use Rattle.rq_sound.specs.Standing.{IsAsPlanned, IsAimOf, AreStanding}
 use Rattle.rq_sound.specs.Counted.{AreCounted, appends_aim, appending, appending_in, takes_all, uses_before, uses_after, made_of, before_in, after_in}
 use Rattle.rq_sound.proofs.UsedCells.{made_within, some_free}
-use Rattle.rq_store.proofs.Holders.{placed_more}
+use Rattle.rq_store.proofs.Placed.{placed_more}
 use Rattle.rq_sound.proofs.Going.{IsOne, shown_beside}
 use Rattle.rq_sound.proofs.Going.IsOne.{Idle, Going}
-use Rattle.rq_sound.proofs.UndoPlans.{NeedsCell, can_undo, closed_before}
+use Rattle.rq_sound.proofs.UndoPlans.{NeedsCell, can_undo}
 
 sum_three : (f g h : Row → ℕ) (rows : List Row) → sum_by (λ q. f q + g q + h q) rows ≡ sum_by f rows + sum_by g rows + sum_by h rows
 sum_three f g h [] = refl
@@ -177,8 +177,3 @@ module _ (z : Sizes) (log : List Record) (ends : HeldEnds) (rows : List Row) (in
     put_back_finds takes =
         let a : takes_all r ≡ sum_by takes_one fs + takes_of f.deed = ap (sum_by takes_one) newest ∙ sum_by_push takes_one fs f in
         some_free z (left_by z log).slots (slots_stand z log whole.in_store) (room_to_put_back r i idle (omega (arith, a, takes)))
-
-    pub close_finds : (s : ℕ) → f.deed ≡ Close s → (off : latched_in rows (directory_at (deed_sender f.deed) / 16) ≡ false) → (shows_now off).directory.closed ≡ true
-    close_finds s is off =
-        sym (shows_now off).shows.closed
-        ∙ subst (λ (d : Deed). open_deeds r.txn (items z log) ≡ record { lsn = f.lsn; deed = d } ∷ placed fs → (view (items z log) (deed_sender d)).closed ≡ true) (sym is) (λ e. closed_before (items z log) r.txn f.lsn s (placed fs) (groups_of z log whole) e) open_is

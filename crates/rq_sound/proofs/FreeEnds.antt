@@ -9,13 +9,12 @@ use Rattle.rq_model.proofs.Lists.{same_is, not_same}
 use Rattle.rq_groups.specs.declared.Held.{Held}
 use Rattle.rq_groups.specs.Ends.{HeldEnds, has_held, held_by, is_free_for}
 use Rattle.rq_groups.proofs.Holders.{has_is_number}
-use Rattle.rq_store.proofs.FreeEnds.{holder}
+use Rattle.rq_store.proofs.Ends.{holder, free_alone}
 use Rattle.rq_txn.specs.Rows.{Row, found_row}
-use Rattle.rq_store.specs.Sound.{AreEnds}
+use Rattle.rq_store.specs.Settled.{AreEnds}
 use Rattle.rq_store.specs.State.{State, ledger_of, open_of, open_ones_of}
 use Rattle.rq_store.proofs.RowLists.{found_in}
 use Rattle.rq_sound.specs.Sound.{IsSound}
-use Rattle.rq_store.proofs.Starting.{free_alone}
 
 some_row : (o : Option Row) → is_some o ≡ true → (r : Row) × (o ≡ Some r)
 some_row None e = absurd (false≢true e)

@@ -36,7 +36,7 @@ use Rattle.rq_sound.specs.Rows.{comp_end, turn_of}
 use Rattle.rq_sound.specs.Standing.{TellsFor, ReadsFor, FollowsPlan}
 use Rattle.rq_store.specs.Steps.{page_op, op_end}
 use Rattle.rq_store.proofs.Others.{other_op}
-use Rattle.rq_store.proofs.Stepping.{onto_whole}
+use Rattle.rq_store.proofs.Owing.{onto_whole}
 
 never : (a c : Bool) → (a && (false && c)) ≡ false
 never true c = refl

@@ -18,7 +18,7 @@ use Rattle.rq_views.specs.Legal.{under_way, view}
 use Rattle.rq_views.specs.Log.{Slots, cells_of}
 use Rattle.rq_views.specs.Plans.{ShowsAt}
 use Rattle.rq_views.specs.Stored.{count_used}
-use Rattle.rq_views.proofs.Laws.{shows_here}
+use Rattle.rq_views.proofs.ChainLaws.{shows_here}
 use Rattle.rq_views.proofs.Stands.{slots_stand}
 use Rattle.rq_views.proofs.Totals.{log_total}
 use Rattle.rq_groups.specs.Ends.{HeldEnds}

@@ -46,9 +46,8 @@ use Rattle.rq_store.specs.Fitting.{left_by}
 use Rattle.rq_store.specs.Rows.{is_under}
 use Rattle.rq_store.specs.State.{State, op_done}
 use Rattle.rq_store.proofs.Grouping.{groups_of}
-use Rattle.rq_store.proofs.Holders.{map_join}
+use Rattle.rq_store.proofs.Placed.{map_join, told_placed}
 use Rattle.rq_store.proofs.RowLists.{found_in}
-use Rattle.rq_store.proofs.Telling.{told_placed}
 use Rattle.rq_sound.specs.Groups.{slots_now}
 use Rattle.rq_sound.specs.Holders.{NoneIsOn, ViewsAreOfHolders, chain_from, chain_in, chain_of, done_by, done_in, holder_of, holder_sends, holder_takes, link_of, of_holders, told_by}
 use Rattle.rq_sound.specs.Rows.{turn_of}

@@ -14,9 +14,9 @@ use Rattle.rq_store.specs.State.{op_done, State, open_of, open_ones_of, ledger_o
 use Rattle.rq_txn.specs.Rows.{Under, Row, AreDistinct, found_row, change_row, without_row, row_aborting, row_undone}
 use Rattle.rq_store.proofs.RowLists.{found_in, unique, not_txn}
 use Rattle.rq_sound.specs.Rows.{comp_end}
-use Rattle.rq_store.proofs.Holders.{map_join}
-use Rattle.rq_store.proofs.Releases.{without_ends}
-use Rattle.rq_store.proofs.Stepping.{one_longer}
+use Rattle.rq_store.proofs.Placed.{map_join}
+use Rattle.rq_store.proofs.Ends.{without_ends}
+use Rattle.rq_store.proofs.Owing.{one_longer}
 
 abbrev pub open_found : HeldEnds → Option Row → Option Open
 open_found ends None = None

@@ -12,7 +12,7 @@ use Rattle.rq_views.specs.Log.{Slots, put, cell_in, cells_of, Write, HasBefores,
 use Rattle.rq_views.specs.Plans.{ShowsAt, IsPlan, LinksTo, deed_sender, relinked, with_next, with_prev, directory_write, directory_tail_unlinked, directory_put_back, unlink_tail_writes, put_back_writes, append_writes, unlink_head_writes, directory_head_unlinked}
 use Rattle.rq_views.specs.Plans.Turn.{Did, Undid}
 use Rattle.rq_views.proofs.Chains.{end_linked, front_linked, last_append, last_pos}
-use Rattle.rq_views.proofs.Laws.{through, used_sender, free_sender, shows_here}
+use Rattle.rq_views.proofs.ChainLaws.{through, used_sender, free_sender, shows_here}
 use Rattle.rq_views.proofs.Takes.{snoc, some_is}
 
 -- what the model says that the inverse of a deed writes, where its sender's chain has n messages

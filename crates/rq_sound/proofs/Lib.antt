@@ -21,14 +21,11 @@ pub mod EachCall
 pub mod Asked
 pub mod Ledgers
 pub mod UndoStarts
-pub mod Written
 pub mod Claimed
-pub mod Instance
+pub mod Opened
 pub mod Lost
 pub mod Contracts
-pub mod Spelt
 pub mod Worked
-pub mod Courses
 pub mod AbortSteps
 pub mod DeedSteps
 pub mod FreeEnds
@@ -46,8 +43,6 @@ pub mod LatchLists
 pub mod Latching
 pub mod Wants
 pub mod Gathering
-pub mod WorkedCalls
 pub mod KeptCells
 pub mod Chosen
 pub mod Holders
-pub mod Sharing

@@ -22,7 +22,7 @@ use Rattle.rq_views.specs.Log.{HasBefores, Item, Places, Slots, Write, cells_of}
 use Rattle.rq_views.specs.Plans.{ShowsAt, IsAppend, IsPlan, IsPutBack, IsUnlinkHead, IsUnlinkTail, Turn, deed_sender, directory_write, with_turn}
 use Rattle.rq_views.specs.Plans.Turn.{Did, Undid}
 use Rattle.rq_views.proofs.CanUndo.{can_undo_sent, can_undo_taken}
-use Rattle.rq_views.proofs.Laws.{shows_here}
+use Rattle.rq_views.proofs.ChainLaws.{shows_here}
 use Rattle.rq_views.proofs.Stands.{used_is_cell}
 use Rattle.rq_level.specs.declared.writes.SlotWrite.{SlotWrite}
 use Rattle.rq_level.specs.Writes.{writes_of}

@@ -22,13 +22,12 @@ use Rattle.rq_sound.proofs.Latched.{not_of}
 use Rattle.rq_groups.specs.declared.Held.{Held}
 use Rattle.rq_groups.specs.Ends.{HeldEnds, has_held, with_held, is_free_for, released}
 use Rattle.rq_store.specs.Rows.{HoldsFor}
-use Rattle.rq_store.specs.Sound.{IsSettled, AreEnds}
+use Rattle.rq_store.specs.Settled.{IsSettled, AreEnds}
 use Rattle.rq_store.specs.Fitting.{left_by}
 use Rattle.rq_sound.specs.Rows.{turn_of}
 use Rattle.rq_sound.specs.Standing.{FollowsPlan, IsAsPlanned, HoldsAll, IsRow, AreApart, AreStanding}
-use Rattle.rq_store.proofs.Releases.{without_ends, held_other, held_still, for_other}
-use Rattle.rq_store.proofs.Starting.{free_alone}
-use Rattle.rq_store.proofs.Stepping.{onto_whole}
+use Rattle.rq_store.proofs.Ends.{without_ends, held_other, held_still, for_other, free_alone}
+use Rattle.rq_store.proofs.Owing.{onto_whole}
 use Rattle.rq_sound.proofs.Beside.{SaysSame, row_beside, settled_beside}
 
 aim_sender : (a : Aim) → turn_sender (turn_of a) ≡ deed_sender (deed_of a)

@@ -20,7 +20,7 @@ use Rattle.rq_views.specs.Plans.Turn.{Did, Undid}
 use Rattle.rq_level.specs.Writes.{writes_of}
 use Rattle.rq_txn.specs.declared.Aim.{Aim}
 use Rattle.rq_txn.specs.Rows.{Under, Row, deed_of, found_row, change_row, row_started, latched_by, latched_in}
-use Rattle.rq_store.specs.Sound.{AreEnds}
+use Rattle.rq_store.specs.Settled.{AreEnds}
 use Rattle.rq_txn.specs.declared.Aim.TheVariants.{Doing, Undoing}
 use Rattle.rq_store.proofs.RowLists.{found_in}
 use Rattle.rq_sound.proofs.Latched.{not_of}
@@ -41,7 +41,7 @@ use Rattle.rq_sound.proofs.Counted.{counted_start}
 use Rattle.rq_sound.proofs.FreeCells.{all_one, in_latched, open_is, of_store}
 use Rattle.rq_sound.proofs.OwnRecord.{row}
 use Rattle.rq_sound.proofs.Standings.{stands_started, ends_taken}
-use Rattle.rq_store.proofs.Starting.{held_more}
+use Rattle.rq_store.proofs.Ends.{held_more}
 
 aim_started : (u : Under) (r : Row) (a : Aim) → IsAimOf r a → IsAimOf (row_started u r) a
 aim_started u r (Doing d) h = h

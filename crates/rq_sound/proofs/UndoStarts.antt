@@ -31,8 +31,7 @@ use Rattle.rq_txn.specs.Rows.{Under, Row, AreDistinct, found_row, change_row, ro
 use Rattle.rq_txn.specs.declared.Aim.TheVariants.{Undoing}
 use Rattle.rq_store.proofs.RowLists.{found_in, unique}
 use Rattle.rq_sound.specs.Sound.{IsSound}
-use Rattle.rq_store.proofs.Telling.{told_placed}
-use Rattle.rq_store.proofs.Holders.{map_join}
+use Rattle.rq_store.proofs.Placed.{told_placed, map_join}
 use Rattle.rq_sound.proofs.Ledgers.{opens_change, found_open, open_found}
 use Rattle.rq_sound.proofs.Lengths.{inverse_writes, inverse_length}
 

@@ -29,7 +29,7 @@ use Rattle.rq_txn.specs.declared.Aim.TheVariants.{Undoing}
 use Rattle.rq_sound.specs.Rows.{turn_of, comp_end}
 use Rattle.rq_sound.specs.Standing.{FollowsPlan, IsAimOf, IsRow, AreStanding}
 use Rattle.rq_sound.specs.Counted.{AreCounted}
-use Rattle.rq_store.proofs.Holders.{placed_more}
+use Rattle.rq_store.proofs.Placed.{placed_more}
 use Rattle.rq_sound.proofs.Going.{other_undoes}
 use Rattle.rq_sound.proofs.Beside.{says_comp}
 use Rattle.rq_sound.proofs.Counted.{writes_are, counted_undo}

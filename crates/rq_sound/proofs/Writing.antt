@@ -32,7 +32,7 @@ use Rattle.rq_txn.specs.declared.Aim.TheVariants.{Doing, Undoing}
 use Rattle.rq_sound.specs.Rows.{turn_of}
 use Rattle.rq_sound.specs.Standing.{FollowsPlan, IsAsPlanned, IsAimOf, IsRow, AreStanding}
 use Rattle.rq_sound.specs.Counted.{AreCounted}
-use Rattle.rq_store.proofs.Stepping.{onto_whole, address_is}
+use Rattle.rq_store.proofs.Owing.{onto_whole, address_is}
 use Rattle.rq_sound.proofs.Going.{other_steps, own_steps, page_latched, page_is, get_written, take_next, drop_next}
 use Rattle.rq_sound.proofs.Beside.{says_page}
 use Rattle.rq_store.proofs.Others.{other_number}

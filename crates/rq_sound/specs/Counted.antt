@@ -16,7 +16,7 @@ use Rattle.rq_groups.specs.Waiting.{waits}
 use Rattle.rq_store.specs.State.{op_done}
 use Rattle.rq_store.specs.Fitting.{left_by}
 use Rattle.rq_store.specs.Rows.{HasWaiting}
-use Rattle.rq_store.specs.Sound.{takes_one}
+use Rattle.rq_store.specs.Settled.{takes_one}
 use Rattle.rq_txn.specs.declared.Aim.{Aim}
 use Rattle.rq_txn.specs.Rows.{Under, Row}
 use Rattle.rq_txn.specs.declared.Aim.TheVariants as aims

@@ -2,28 +2,23 @@
 use Rattle.std.specs.Prelude.{◌++◌, Bool, ◌||◌, [], ◌∷◌, length, map, drop, Option, None, Some, ◌≡◌, ℕ, ◌+◌, ◌/◌, ◌<◌, ◌≤◌, true, false, not, List}
 use Rattle.rq_model.specs.declared.refusal.Refusal.{Refusal}
 use Rattle.rq_model.specs.declared.refusal.Refusal.TheVariants as why
-use Rattle.rq_model.specs.declared.record.Deed.{Deed}
 use Rattle.rq_model.specs.declared.record.Deed.TheVariants.{Append, UnlinkHead, Close}
 use Rattle.rq_model.specs.Words.{has_number}
 use Rattle.rq_page.specs.Sizes.{Sizes, IsCellAddress, cell_at, cell_count}
-use Rattle.rq_page.specs.Slots.{Slot, held_in}
+use Rattle.rq_page.specs.Slots.{Slot}
 use Rattle.rq_page.specs.Slots.Slot.{Free}
 use Rattle.rq_views.specs.Plans.{Turn}
 use Rattle.rq_views.specs.Plans.Turn.{Did, Undid}
-use Rattle.rq_views.specs.Stored.{IsStoreSlot, is_used}
+use Rattle.rq_views.specs.Stored.{is_used}
 use Rattle.rq_level.specs.declared.slots.Given.{Given}
 use Rattle.rq_level.specs.declared.writes.Plan.{Plan}
 use Rattle.rq_level.specs.ChainPlans.{CanMark, CanPutBack, CanReceive, CanSend, CanUnlinkTail, RefusesOther, RefusesTaking, IsSent, IsReceived, IsClosed, IsTailUnlinked, IsReturned, IsReopened}
 use Rattle.rq_level.specs.Given.{GivenHolds, has_page}
-use Rattle.rq_level.specs.declared.writes.SlotWrite.{SlotWrite}
-use Rattle.rq_level.specs.Kept.{Kept, IsLowest, NoneToTake, SomeFree, flag_at, noted, reserved_at}
+use Rattle.rq_level.specs.Kept.{Kept, IsLowest, NoneToTake, SomeFree, flag_at}
 use Rattle.rq_txn.specs.declared.Finished.{Finished}
-use Rattle.rq_groups.specs.Ends.{HeldEnds}
-use Rattle.rq_txn.specs.Rows.{AreDistinct, Row, Under, any_under, latched_in}
-use Rattle.rq_groups.specs.Sent.{SentBy}
+use Rattle.rq_txn.specs.Rows.{Row, Under, latched_in}
 use Rattle.rq_store.specs.State.{State}
-use Rattle.rq_txn.specs.declared.Aim.TheVariants as aims
-use Rattle.rq_sound.specs.Calls.{IsIdle, IsNextWrite, IsReady, aborted, aborting, begun, committed, finished, started, stepped, undone}
+use Rattle.rq_sound.specs.Calls.{IsIdle, finished}
 use Rattle.rq_sound.specs.Sound.{IsSound}
 use Rattle.rq_sound.specs.Groups.{slots_now}
 use Rattle.rq_sound.specs.Plans.{AreUnlatched, IsPlannedFrom}
@@ -90,34 +85,6 @@ pub record LevelsPlanFromSlots : Type 0 where
       → IsReturned s.sizes k given latched g n tag body p after → MayFollow s p (Undid (UnlinkHead g n tag body))
   pub reopened : (s : State) (k : Kept) (given : List Given) (g : ℕ) (p : Plan) (after : Kept)
       → IsGathered s given → IsReopened s.sizes k given g p after → MayFollow s p (Undid (Close g))
-
--- The level goes on knowing the cells: an operation that takes none starts, or one for which a cell is chosen; one that
--- is refused when its cell was chosen gives it back, where that slot is noted as it is; a slot that is written is noted;
--- and nothing else of a store is noted. Where nothing is under way no cell is chosen.
-pub record CellsStayKept : Type 0 where
-  pub starts : (s : State) (r : Row) (u : Under) (ends : HeldEnds) (k : Kept) → AreDistinct s.rows → IsIdle s r
-      → KeepsCells s k → KeepsCells (started s r u ends) k
-  pub takes : (s : State) (r : Row) (u : Under) (ends : HeldEnds) (k : Kept) (a : ℕ) → AreDistinct s.rows → IsIdle s r
-      → IsCellAddress s.sizes a → to_write_under (Some u) a ≡ true → KeepsCells s k
-      → KeepsCells (started s r u ends) (reserved_at s.sizes k a)
-  pub gives_back : (s : State) (k : Kept) (a : ℕ) (present : List ℕ) → IsCellAddress s.sizes a
-      → slots_now s a ≡ held_in s.sizes (a / 16) present → KeepsCells s k
-      → KeepsCells s (noted (reserved_at s.sizes k a) a present)
-  pub steps : (s : State) (r : Row) (u : Under) (w : SlotWrite) (images : List (List ℕ)) (k : Kept) → AreDistinct s.rows
-      → IsNextWrite s r u w images → IsStoreSlot s.sizes w.at → KeepsCells s k
-      → KeepsCells (stepped s r u w images) (noted k w.at w.after)
-  pub finishes : (s : State) (r : Row) (u : Under) (d : Deed) (waiting : List ℕ) (k : Kept) → AreDistinct s.rows
-      → IsReady s r u (aims.Doing d) → KeepsCells s k → KeepsCells (finished s r u d waiting) k
-  pub undoes : (s : State) (r : Row) (u : Under) (lsn : ℕ) (d : Deed) (waiting : List ℕ) (k : Kept) → AreDistinct s.rows
-      → IsReady s r u (aims.Undoing lsn d) → KeepsCells s k → KeepsCells (undone s r u lsn d waiting) k
-  pub begins : (s : State) (k : Kept) → KeepsCells s k → KeepsCells (begun s) k
-  pub commits : (s : State) (r : Row) (cells : ℕ) (waiting : List ℕ) (sent : SentBy) (k : Kept) → AreDistinct s.rows
-      → IsIdle s r → KeepsCells s k → KeepsCells (committed s r cells waiting sent) k
-  pub starts_abort : (s : State) (r : Row) (k : Kept) → KeepsCells s k → KeepsCells (aborting s r) k
-  pub ends_abort : (s : State) (r : Row) (k : Kept) → AreDistinct s.rows → IsIdle s r → KeepsCells s k
-      → KeepsCells (aborted s r) k
-  pub none_chosen : (s : State) (k : Kept) (i : ℕ) → KeepsCells s k → any_under s.rows ≡ false → i < cell_count s.sizes
-      → flag_at k.reserved i ≡ false
 
 -- want of memory; or each free cell is on a latched page
 abbrev pub IsForLatches : State → Refusal → Type 0

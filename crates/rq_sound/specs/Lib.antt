@@ -17,9 +17,8 @@ pub mod Unchanged
 pub mod Latching
 pub mod Wants
 pub mod Gathering
-pub mod WorkedCalls
 pub mod Chosen
 pub mod Holders
-pub mod Sharing
 pub mod Lowest
 pub mod Inverses
+pub mod Laws

@@ -20,7 +20,7 @@ use Rattle.rq_txn.specs.declared.Finished.{Finished}
 use Rattle.rq_groups.specs.Ends.{HeldEnds, has_held}
 use Rattle.rq_store.specs.Fitting.{left_by}
 use Rattle.rq_store.specs.Rows.{placed, HoldsFor, is_under, unmade}
-use Rattle.rq_store.specs.Sound.{AreEnds, IsSettled}
+use Rattle.rq_store.specs.Settled.{AreEnds, IsSettled}
 use Rattle.rq_txn.specs.declared.Aim.{Aim}
 use Rattle.rq_txn.specs.Rows.{Under, Row, deed_of, found_row, AreDistinct, latched_by}
 use Rattle.rq_txn.specs.declared.Aim.TheVariants as aims

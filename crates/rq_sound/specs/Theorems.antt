@@ -32,7 +32,6 @@ use Rattle.rq_groups.specs.Sent.{SentBy}
 use Rattle.rq_store.specs.Fitting.{left_by, image_in, FitsLog}
 use Rattle.rq_store.specs.Opening.{opened}
 use Rattle.rq_store.specs.Sends.{KeepsSends}
-use Rattle.rq_store.specs.Sound as one_sound
 use Rattle.rq_store.specs.State.{size_of, op_done, job_of, State, ledger_of, open_of}
 use Rattle.rq_store.specs.Steps.{took, gave_done}
 use Rattle.rq_store.specs.Whole.{IsWhole}
@@ -161,11 +160,6 @@ pub record DeedsAreSteps : Type 0 where
       → MayCommit s r cells waiting sent → log_full (ledger_of s) 1 ≡ false
       → Steps s (Call.Commit r.txn) (Reply.Gave_commit (record { txn = r.txn; lsn = length s.records + 1 }))
       (committed s r cells waiting sent)
-
--- A store with one operation at most under way, a send or a receive, that is sound as one of these, is sound, where it
--- keeps what the commits of its log sent; and its ledger is the same.
-abbrev pub OneUnderWayIsSound : Type 0
-OneUnderWayIsSound = (s : State) → one_sound.IsSound s → KeepsSends s.sizes s.records s.sent → IsSound s
 
 -- so a store that opens over a log in which everything has ended is sound
 abbrev pub OpenedIsSound : Type 0

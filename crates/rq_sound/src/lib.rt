@@ -1,80 +1,12 @@
 //! What is so of a store with any number of operations under way, of sends, receives and closes and of their inverses,
-//! apart from any code; and that each call keeps it. The store of `rq_store` has one operation under way at
-//! most, aborts nothing and closes no group: it is an instance.
+//! apart from any code; and that each call keeps it.
 //!
 //! The definitions stand in specs/, the theorems are the contracts of the functions here.
 #![tactic(auto)]
 
-pub mod calls;
+ghost use Rattle.rq_sound.specs.Laws.{Laws};
 
-ghost use Rattle.rq_sound.specs.Holders.{ViewsAreOfHolders};
-ghost use Rattle.rq_sound.specs.Sharing.{HoldersAreJudged};
-ghost use Rattle.rq_sound.specs.Theorems.{CallsKeepSoundness, InversesCanBePlanned, TestsAreAnswered, AbortsAreSteps, DeedsAreSteps, OneUnderWayIsSound, OpenedIsSound};
-ghost use Rattle.rq_sound.specs.Worked.{AbortBesideASend, NotSound, TwoUnderWay};
-
-/// Each call keeps a store sound: a begin; the start of a send, a receive, a close or an inverse, each of its writes
-/// and its end; a commit; the start and the end of an abort; a force; and the failure of a device.
-pub fn calls_keep_soundness()
-    ensures { CallsKeepSoundness }
-{}
-
-/// The inverse of what a transaction did last can be planned, whatever others do meanwhile, once nobody has latched the
-/// page of its sender's directory slot, and finds a cell where it needs one.
-pub fn inverses_can_be_planned()
-    ensures { InversesCanBePlanned }
-{}
-
-/// What the model's tests ask of a store's ledger is what the store keeps.
-pub fn tests_are_answered()
-    ensures { TestsAreAnswered }
-{}
-
-/// Aborts are steps of the model, with their inverses: each answer is a legal entry, and the ledger is what it makes of
-/// the one before. So are slot writes, begins and forces.
-pub fn aborts_are_steps()
-    ensures { AbortsAreSteps }
-{}
-
-/// Deeds and commits are steps of the model: the start of a send, a receive or a close, that no message waits, the end,
-/// and a commit.
-pub fn deeds_are_steps()
-    ensures { DeedsAreSteps }
-{}
-
-/// While transactions are open a group's chain holds what is committed of it and not received, less the first messages,
-/// which the transaction that holds its receiving end took, and then those that the one that holds its sending end sent.
-pub fn views_are_of_holders()
-    ensures { ViewsAreOfHolders }
-{}
-
-/// A store that is sound with one operation under way at most is sound.
-pub fn one_under_way_is_sound()
-    ensures { OneUnderWayIsSound }
-{}
-
-/// A store that opens over a whole log in which everything has ended is sound.
-pub fn opened_is_sound()
-    ensures { OpenedIsSound }
-{}
-
-/// Worked: two sends are under way at once; one that would meet the first on a page or at an end may not start.
-pub fn two_sends_are_under_way()
-    ensures { TwoUnderWay }
-{}
-
-/// What no sound store has.
-pub fn unsound_stores()
-    ensures { NotSound }
-{}
-
-/// Worked: a transaction aborts and undoes its send while another's is under way, and this one is committed then; and
-/// what may not come yet.
-pub fn an_abort_goes_on_beside_a_send()
-    ensures { AbortBesideASend }
-{}
-
-/// Worked: two transactions are open, one of which has taken the committed message of a sender, and the other sent one
-/// behind it; and what no sound store shows then.
-pub fn holders_are_judged()
-    ensures { HoldersAreJudged }
+/// What holds of every sound store: each field is a theorem.
+pub fn laws()
+    ensures { Laws }
 {}

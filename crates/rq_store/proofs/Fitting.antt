@@ -1,7 +1,6 @@
 -- Pages that fit a log fit it still when it goes on, and when a record's write is made.
-use Rattle.std.proofs.Common.{◌≡◌, ◌≢◌, ℕ, suc, ◌+◌, ◌-◌, ◌/◌, ◌%◌, ◌<◌, ◌≤◌, List, [], ◌∷◌, length, drop, refl, sym, ◌∙◌, ap, subst, Some, inl, inr, nat_lt, arith}
+use Rattle.std.proofs.Common.{◌≡◌, ◌≢◌, ℕ, suc, ◌+◌, ◌-◌, ◌/◌, ◌%◌, ◌<◌, ◌≤◌, List, ◌∷◌, length, drop, refl, sym, ◌∙◌, ap, subst, Some, inl, inr, nat_lt, arith}
 use Rattle.std.proofs.lemmas.Bool.{cases_eq, cond-true, lt-ltb}
-use Rattle.std.proofs.lemmas.List.{drop_all}
 use Rattle.rq_model.specs.declared.record.Record.{Record}
 use Rattle.rq_page.specs.Sizes.{Sizes, page_count, address}
 use Rattle.rq_page.specs.Pages.{lsn_of, slot_of, IsWritten}

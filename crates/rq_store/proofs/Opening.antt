@@ -41,18 +41,16 @@ use Rattle.rq_views.proofs.Settled.{settled_counts, rest_shown}
 use Rattle.rq_views.proofs.Holding.{committed_is_group}
 use Rattle.rq_groups.specs.Sent.{sent_count, sent_tag}
 use Rattle.rq_groups.specs.Waiting.{waits}
-use Rattle.rq_store.proofs.Begun.{begun_all}
 use Rattle.rq_store.specs.State.{ledger_of}
 use Rattle.rq_model.specs.Incarnations.{InOrder, IsNext, incarnation_of, incarnation_one}
-use Rattle.rq_store.specs.Sound.{IsSound, IsSettled}
+use Rattle.rq_store.specs.Settled.{IsSettled}
 use Rattle.rq_store.specs.Whole.{IsWhole}
-use Rattle.rq_store.specs.Fitting.{left_by, image_in, FitsLog}
+use Rattle.rq_store.specs.Fitting.{left_by}
 use Rattle.rq_store.specs.Opening.{next_restart, opened, messages_told, waiting_in, sent_told, tag_told, sent_in_slots}
 use Rattle.rq_store.specs.Sends.{KeepsSends}
-use Rattle.rq_store.proofs.Fitting.{fits_more}
-use Rattle.rq_store.proofs.Forcing.{all_within}
+use Rattle.rq_store.proofs.Within.{all_within}
 use Rattle.rq_store.proofs.Grouping.{groups_of}
-use Rattle.rq_store.proofs.Holders.{map_join}
+use Rattle.rq_store.proofs.Placed.{map_join}
 
 -- the item of a record ends the operations that the record ends
 ends_operation : (z : Sizes) (t : Txn) (n : ℕ) (r : Record) → operation_ended t n r ≡ (is_end (item_of z r) && is_of (operation t n) (of_op (item_of z r)))
@@ -273,7 +271,7 @@ length_below zero = refl
 length_below (suc n) = let a = length-append (below n) (n ∷ []) in let b = length_below n in omega (arith, a, b)
 
 -- and is at most that of all cells
-count_bound : (z : Sizes) (q : Slots) → count_used z q ≤ cell_count z
+pub count_bound : (z : Sizes) (q : Slots) → count_used z q ≤ cell_count z
 count_bound z q =
     let f : ℕ → Bool = λ i. is_used (q (cell_at z i)) in
     let a = length-filter f (below (cell_count z)) in
@@ -342,27 +340,27 @@ module _ (z : Sizes) (images : List (List ℕ)) (log : List Record) (range : IsI
   abbrev new_log : List Record
   new_log = next_restart log ∷ log
 
-  idle : (o : Sub) → under_way o (items z log) ≡ false
+  pub idle : (o : Sub) → under_way o (items z log) ≡ false
   idle = idle_log z log w.legal none_unfinished
 
   settled : (t : Txn) → open_deeds t (items z log) ≡ []
   settled = settled_log z log w none_lost
 
-  settled_here : (t : Txn) → IsSettled z new_log t
+  pub settled_here : (t : Txn) → IsSettled z new_log t
   settled_here t = record {
     settled = settled t;
     unused = λ e. (idler z t log w.reads (no_worker log t none_lost e)).1;
     idle = λ n. idle (operation t n);
   }
 
-  used_is : count_used z (left_by z log).quiet ≡ count_used z (slots_in z images)
+  pub used_is : count_used z (left_by z log).quiet ≡ count_used z (slots_in z images)
   used_is = sym (count_same z (slots_in z images) (left_by z log).quiet (λ a. pages a ∙ idle_quiet (layout_of z) (items z log) w.legal idle a))
 
-  counted : count_used z (slots_in z images) ≡ count_rest (below (sender_count z)) (committed_of log)
+  pub counted : count_used z (slots_in z images) ≡ count_rest (below (sender_count z)) (committed_of log)
   counted = sym used_is ∙ settled_counts z log w.legal w.in_store (groups_of z log w) w.rules w.reads settled
 
   -- what waits is what the directory slots tell
-  waits_here : (g : ℕ) → g < sender_count z → waits (waiting_in z images) g ≡ length (rest_in (committed_of log) g)
+  pub waits_here : (g : ℕ) → g < sender_count z → waits (waiting_in z images) g ≡ length (rest_in (committed_of log) g)
   waits_here g m =
       let v = views (layout_of z) (items z log) g (store_is_layout z) w.legal m (λ o. subst (Spares g) (sym (idle_writes (layout_of z) (items z log) o w.legal (idle o))) tt) in
       let d = v.directory in
@@ -398,35 +396,6 @@ module _ (z : Sizes) (images : List (List ℕ)) (log : List Record) (range : IsI
         told_below (λ s. tag_told (slots_in z images (directory_at s))) (sender_count z) g m
         ∙ ap tag_told (pages (directory_at g) ∙ v.at) ∙ sym v.shows.last_tag ∙ ap (λ (x : View). x.last_tag) (group_view g)
         ∙ (committed_is_group z g log w.rules w.reads).last_tag
-
-  -- the open store goes back to it
-  pub opened_sound : FitsLog z (image_in images) log → IsSound (opened z images log)
-  opened_sound fits = record {
-    range = range;
-    log = restarted_whole z log w none_unfinished none_lost;
-    incarnation = refl;
-    begun = begun_all (incarnation_of new_log) new_log refl;
-    some = omega arith;
-    strangers = λ t e m. later_stranger t log w.order (omega (arith, e));
-    pages = pages;
-    fits = fits_more z (next_restart log) log (image_in images) fits;
-    rows = λ r i. absurd i;
-    distinct = tt;
-    others = λ t e. settled_here t;
-    one_going = λ r q i j a b. absurd i;
-    sending = record { one = λ t u s a b. absurd (false≢true a); living = λ t s a. absurd (false≢true a) };
-    receiving = record { one = λ t u s a b. absurd (false≢true a); living = λ t s a. absurd (false≢true a) };
-    cells = (let e = counted in omega (arith, e));
-    bound = count_bound z (slots_in z images);
-    used = (let e = used_is in omega (arith, e));
-    forced = omega arith;
-    waiting = λ g m. (let e = waits_here g m in omega (arith, e));
-    covered = λ r i. absurd i;
-  }
-
-  -- it shows the content of the log that was read
-  pub opened_content : (ledger_of (opened z images log)).committed ≡ committed_of log
-  opened_content = refl
 
   -- all of which is durable
   pub opened_durable : (ledger_of (opened z images log)).durable ≡ length (committed_of log)

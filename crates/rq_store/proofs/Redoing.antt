@@ -21,9 +21,9 @@ use Rattle.rq_views.proofs.Overlay.{put_at, put_off}
 use Rattle.rq_views.proofs.Stands.{slots_stand, page_of_cells, page_of_directory}
 use Rattle.rq_store.specs.Fitting.{left_by, oldest, ToldWrite, told_by, IsOfPage, IsStamp, HoldsPage, FitsPage, FitsLog, image_in}
 use Rattle.rq_store.specs.Whole.{BeforesAreSlots}
-use Rattle.rq_store.specs.Opening.{FitsPageUpTo, FitsUpTo, Redoes, next_restart}
-use Rattle.rq_store.proofs.Fitting.{oldest_all, page_fits_more}
-use Rattle.rq_store.proofs.Stepping.{address_is}
+use Rattle.rq_store.specs.Opening.{FitsPageUpTo, FitsUpTo, Redoes}
+use Rattle.rq_store.proofs.Fitting.{oldest_all}
+use Rattle.rq_store.proofs.Owing.{address_is}
 
 -- what is so of each end of a log is so of the first records
 pub oldest_legal : (z : Sizes) (log : List Record) (n : ℕ) → IsLegalLog (layout_of z) (items z log) → IsLegalLog (layout_of z) (items z (oldest n log))

@@ -1,16 +1,14 @@
 -- A planned send fits the slots that it is planned from.
-use Rattle.std.proofs.Common.{◌≡◌, ◌≢◌, ℕ, ◌+◌, ◌<◌, List, [], ◌∷◌, length, refl, sym, ◌∙◌, ap, subst, true, false, cond, nat_eq, Option, Some, None, arith}
-use Rattle.std.proofs.lemmas.List.{length-map}
-use Rattle.std.proofs.lemmas.Bool.{eq-eqb, eqb-true, false_from_ne_true}
+use Rattle.std.proofs.Common.{◌≡◌, ◌≢◌, ℕ, ◌+◌, ◌<◌, List, [], ◌∷◌, refl, sym, ◌∙◌, ap, subst, Option, Some, None}
 use Rattle.rq_page.specs.declared.cell.Cell.{Cell}
 use Rattle.rq_page.specs.declared.directory.Directory.{Directory}
 use Rattle.rq_page.specs.Slots.{Slot}
 use Rattle.rq_page.specs.Slots.Slot.{Free, Used, Sender}
-use Rattle.rq_views.specs.Chain.{Node, last, Linked, View, Shows, message}
+use Rattle.rq_views.specs.Chain.{Node, last, Linked, View, Shows}
 use Rattle.rq_views.specs.Log.{Slots, Write, HasBefores, Places, cells_of, cell_in, put}
 use Rattle.rq_views.specs.Plans.{ShowsAt, LinksTo, append_writes, with_next, IsAppend}
 use Rattle.rq_views.proofs.Chains.{last_is, last_pos}
-use Rattle.rq_views.proofs.Laws.{shows_here}
+use Rattle.rq_views.proofs.ChainLaws.{shows_here}
 use Rattle.rq_views.proofs.Overlay.{put_off}
 use Rattle.rq_store.specs.Plans.{Stands_at}
 
@@ -54,35 +52,3 @@ append_fits l q s tag body d new (Some c) at free beside =
     let apart : d.tail ≢ new = λ e. (let bad : Used c ≡ Free = sym beside ∙ ap q e ∙ free in cc) in
     let cell : Slot = Used (record { sender = s; sequence = d.sent + 1; tag = tag; next = 0; prev = d.tail; body = body }) in
     (sym (put_off (put q new cell) d.tail (Used (with_next new c)) (l.directory_at s) off_tail ∙ put_off q new cell (l.directory_at s) off ∙ at), (sym (put_off q new cell d.tail apart ∙ beside), (sym free, tt)))
-
--- how many slots a send writes where its chain has so many messages
-abbrev pub writes_for : ℕ → ℕ
-writes_for n = cond (nat_eq n 0) 2 3
-
--- three writes where the chain has a message, two where it has none
-pub append_count : (l : Places) (q : Slots) (s tag : ℕ) (body : List ℕ) (d : Directory) (new : ℕ) (old : Option Cell) (v : View) → NoneAtZero q → q (l.directory_at s) ≡ Sender s d → ShowsAt l q s v → Stands_at q d.tail old
-    → length (append_writes l s d new tag body old) ≡ writes_for (length v.messages)
-append_count l q s tag body d new old v zero at shows beside = go old beside where
-  k : Shows (cells_of q) s d v
-  k = shows_here l q s v d (sym at) shows
-
-  size : length v.messages ≡ length k.nodes
-  size = ap length k.messages ∙ length-map k.nodes message
-
-  few : length v.messages ≡ 0 → writes_for (length v.messages) ≡ 2
-  few n = let z : nat_eq (length v.messages) 0 ≡ true = eq-eqb (length v.messages) 0 n in rw z refl
-
-  more : 0 < length v.messages → writes_for (length v.messages) ≡ 3
-  more n = let z : nat_eq (length v.messages) 0 ≡ false = false_from_ne_true (nat_eq (length v.messages) 0) (λ y. let e = eqb-true (length v.messages) 0 y in omega (arith, n, e)) in rw z refl
-
-  empty_tail : (ns : List Node) → Linked (cells_of q) s 0 (d.received + 1) ns 0 → d.tail ≡ last 0 ns → d.tail ≡ 0 → length ns ≡ 0
-  empty_tail [] l t e = refl
-  empty_tail (x ∷ ns) l t e = let p = last_pos (cells_of q) s 0 (d.received + 1) x ns 0 l in absurd (omega (arith, p, t, e))
-
-  used_tail : (c : Cell) (ns : List Node) → q d.tail ≡ Used c → d.tail ≡ last 0 ns → 0 < length ns
-  used_tail c [] e t = let bad : Used c ≡ Free = sym e ∙ ap q t ∙ zero in cc
-  used_tail c (x ∷ ns) e t = omega arith
-
-  go : (o : Option Cell) → Stands_at q d.tail o → length (append_writes l s d new tag body o) ≡ writes_for (length v.messages)
-  go None e = sym (few (size ∙ empty_tail k.nodes k.linked k.tail e))
-  go (Some c) e = sym (more (let n = used_tail c k.nodes e k.tail in let m = size in omega (arith, n, m)))

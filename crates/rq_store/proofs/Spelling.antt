@@ -12,7 +12,7 @@ use Rattle.rq_views.specs.Log.Item.{PageOp, PageUndo, OpEnd, OpVoid, CompEnd, Co
 use Rattle.rq_views.specs.Plans.{deed_sender}
 use Rattle.rq_store.specs.Whole.{BeforesAreSlots, IsBefore}
 use Rattle.rq_store.specs.Worked.{record_of, spelled_log}
-use Rattle.rq_store.proofs.Stepping.{address_is}
+use Rattle.rq_store.proofs.Owing.{address_is}
 
 -- the slot may stand at the address
 pub record MayStandAt (z : Sizes) (a : ℕ) (x : Slot) : Type 0 where

@@ -1,16 +1,14 @@
 -- A planned receive fits the slots that it is planned from.
-use Rattle.std.proofs.Common.{◌≡◌, ◌≢◌, ℕ, ◌+◌, ◌<◌, List, [], ◌∷◌, length, map, refl, sym, ◌∙◌, ap, cond, nat_lt, Option, Some, None, arith}
+use Rattle.std.proofs.Common.{◌≡◌, ◌≢◌, ℕ, ◌+◌, ◌<◌, List, [], ◌∷◌, length, map, refl, sym, ◌∙◌, ap, Option, Some, None, arith}
 use Rattle.std.proofs.lemmas.List.{length-map}
-use Rattle.std.proofs.lemmas.Bool.{lt-ltb}
 use Rattle.rq_page.specs.declared.cell.Cell.{Cell}
 use Rattle.rq_page.specs.declared.directory.Directory.{Directory}
-use Rattle.rq_page.specs.Slots.{Slot}
 use Rattle.rq_page.specs.Slots.Slot.{Free, Used, Sender}
 use Rattle.rq_views.specs.Chain.{Node, first, Linked, View, Shows, message}
 use Rattle.rq_views.specs.Log.{Slots, Write, HasBefores, Places, cells_of, cell_in, put}
 use Rattle.rq_views.specs.Plans.{ShowsAt, LinksTo, unlink_head_writes, with_prev, IsUnlinkHead}
 use Rattle.rq_views.proofs.Chains.{other_place}
-use Rattle.rq_views.proofs.Laws.{shows_here}
+use Rattle.rq_views.proofs.ChainLaws.{shows_here}
 use Rattle.rq_views.proofs.Overlay.{put_off}
 use Rattle.rq_store.specs.Plans.{Stands_at}
 
@@ -66,16 +64,3 @@ unlink_head_fits l q s d c (Some x) v zero at shows pos here beside =
     let off_next : l.directory_at s ≢ c.next = λ e. (let bad : Sender s d ≡ Used x = sym at ∙ ap q e ∙ beside in cc) in
     let apart : c.next ≢ d.head = λ e. other_place (cells_of q) d.head c.next c x (ap cell_in here) (ap cell_in beside) (f.apart x refl) (sym e) in
     (sym (put_off (put q d.head Free) c.next (Used (with_prev 0 x)) (l.directory_at s) off_next ∙ put_off q d.head Free (l.directory_at s) off ∙ at), (sym (put_off q d.head Free c.next apart ∙ beside), (sym here, tt)))
-
--- how many slots a receive writes where its chain has so many messages
-abbrev pub takes_for : ℕ → ℕ
-takes_for n = cond (nat_lt 1 n) 3 2
-
-pub unlink_head_count : (l : Places) (q : Slots) (s : ℕ) (d : Directory) (c : Cell) (next : Option Cell) (v : View) → q 0 ≡ Free → q (l.directory_at s) ≡ Sender s d → ShowsAt l q s v → 0 < d.head → q d.head ≡ Used c → Stands_at q c.next next
-    → length (unlink_head_writes l s d c next) ≡ takes_for (length v.messages)
-unlink_head_count l q s d c None v zero at shows pos here beside =
-    let f = first_cells q s d v c None zero pos here beside (shows_here l q s v d (sym at) shows) in
-    ap takes_for (sym (f.one refl))
-unlink_head_count l q s d c (Some x) v zero at shows pos here beside =
-    let f = first_cells q s d v c (Some x) zero pos here beside (shows_here l q s v d (sym at) shows) in
-    sym (rw (lt-ltb 1 (length v.messages) (f.more x refl)) refl)

@@ -1,6 +1,6 @@
 pub mod State
 pub mod Fitting
-pub mod Sound
+pub mod Settled
 pub mod Steps
 pub mod Plans
 pub mod Opening

@@ -1,38 +1,24 @@
--- One call of a store: what it was, what it gave, and what that makes of the ledger.
+-- What a call puts in the log and in the pages, and what the end of an operation gives and takes.
 use Rattle.std.specs.Prelude.{◌≡◌, ◌≢◌, ℕ, ◌+◌, ◌<◌, ◌≤◌, ◌/◌, ◌%◌, List, length, drop, cond, nat_eq}
 use Rattle.rq_model.specs.declared.txn.Txn.{Txn}
 use Rattle.rq_model.specs.declared.record.Record.{Record}
 use Rattle.rq_model.specs.declared.record.Record.TheVariants.{PageOp, OpEnd}
 use Rattle.rq_model.specs.Deeds.{spelled_deed}
 use Rattle.rq_model.specs.declared.record.Deed.{Deed}
-use Rattle.rq_model.specs.History.{Entry, Call}
 use Rattle.rq_model.specs.Ledger.{after}
-use Rattle.rq_model.specs.Legal.{Legal}
 use Rattle.rq_model.specs.declared.record.Deed.TheVariants.{Append, UnlinkHead, Close}
-use Rattle.rq_model.specs.Replay.{Reply, Says}
+use Rattle.rq_model.specs.Replay.{Reply}
 use Rattle.rq_model.specs.Replay.Reply.{Gave_sent, Gave_message, Gave_closed}
 use Rattle.rq_page.specs.Sizes.{page_count}
 use Rattle.rq_page.specs.Pages.{IsWritten}
 use Rattle.rq_page.specs.Formatted.{IsFormatted, IsHeaderOf}
 use Rattle.rq_level.specs.declared.writes.SlotWrite.{SlotWrite}
-use Rattle.rq_store.specs.State.{State, ledger_of, size_of}
+use Rattle.rq_store.specs.State.{State}
 use Rattle.rq_store.specs.Fitting.{image_in}
-use Rattle.rq_store.specs.Sound.{IsSound}
 
 -- the newer log is the older one and what came since
 abbrev pub Continues : List Record → List Record → Type 0
 Continues older newer = (n : ℕ) × (drop n newer ≡ older)
-
--- The call with what it gave is an entry that may come next, and the store after it is what the entry makes of the
--- store before. Its log goes on, and what was forced stays forced.
-pub record Steps (old : State) (call : Call) (gave : Reply) (new : State) : Type 0 where
-  pub entry : Entry
-  pub says : Says call gave entry
-  pub legal : Legal (size_of old.sizes) (ledger_of old) entry
-  pub after : ledger_of new ≡ after entry (ledger_of old)
-  pub sound : IsSound new
-  pub goes_on : Continues old.records new.records
-  pub stays_forced : old.forced ≤ new.forced
 
 -- A slot write is made in the pages: its page has the LSN of the next record, the others stay, and each is of its
 -- place.

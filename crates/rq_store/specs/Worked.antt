@@ -1,6 +1,6 @@
--- A worked log in bytes: an abort that a crash stops within an inverse, and the restart after it; and a store that was
--- just formatted.
-use Rattle.std.specs.Prelude.{◌≡◌, ◌/◌, ◌%◌, ◌+◌, ◌<◌, ◌≤◌, ℕ, List, [], ◌∷◌, length, map, false}
+-- A worked log in bytes: an abort that a crash stops within an inverse, and the restart after it; and pages that
+-- were just formatted.
+use Rattle.std.specs.Prelude.{◌≡◌, ◌/◌, ◌%◌, ◌<◌, ◌≤◌, ℕ, List, [], ◌∷◌, length, map, false}
 use Rattle.rq_model.specs.declared.record.Record.{Record}
 use Rattle.rq_model.specs.declared.record.Record.TheVariants as records
 use Rattle.rq_model.specs.Content.{content}
@@ -14,11 +14,7 @@ use Rattle.rq_views.specs.WorkedItems.{sizes, t2, stopped, restarted}
 use Rattle.rq_page.specs.Formatted.{IsFormatted}
 use Rattle.rq_page.specs.Pages.{lsn_of}
 use Rattle.rq_page.specs.Sizes.{Sizes, IsInRange, page_count}
-use Rattle.rq_txn.specs.Rows.{Row}
-use Rattle.rq_store.specs.State.{State}
 use Rattle.rq_store.specs.Fitting.{FitsLog, image_in}
-use Rattle.rq_store.specs.Opening.{opened}
-use Rattle.rq_store.specs.Sound.{IsSound}
 use Rattle.rq_store.specs.Whole.{IsWhole}
 
 -- the record with the bytes of these slots and deeds
@@ -63,23 +59,12 @@ pub record WorkedStore : Type 0 where
 abbrev pub AreFormatted : Sizes → List (List ℕ) → Type 0
 AreFormatted z images = (p : ℕ) → p < page_count z → IsFormatted z p (image_in images p)
 
--- Pages that were formatted fit the empty log, and once a restart has opened them the store is sound; `Layout::format`
--- makes such pages. And what doesn't fit, and is not sound.
-pub record WorkedSound : Type 0 where
+-- Pages that were formatted fit the empty log; `Layout::format` makes such pages. And what doesn't fit.
+pub record FormattedFit : Type 0 where
   pub formatted_fits : (z : Sizes) (images : List (List ℕ)) → IsInRange z → AreFormatted z images
       → FitsLog z (image_in images) []
-  pub opened_sound : (z : Sizes) (images : List (List ℕ)) → IsInRange z → AreFormatted z images
-      → IsSound (opened z images [])
   -- a page with an LSN beyond the log, or with that of a record that wrote none of its slots
   pub beyond : (z : Sizes) (image : ℕ → List ℕ) (log : List Record) (p : ℕ) → 1 ≤ p → p < page_count z
       → length log < lsn_of (image p) → FitsLog z image log → ⊥
   pub not_stamped : (z : Sizes) (image : ℕ → List ℕ) (i p : ℕ) → 1 ≤ p → p < page_count z → lsn_of (image p) ≡ 1
       → FitsLog z image (records.Restart i ∷ []) → ⊥
-  -- a store that counts a cell more than it uses, whose incarnation is not that of its log, that forced more than it
-  -- logged, or in which one transaction has two rows
-  pub counts_more : (z : Sizes) (images : List (List ℕ)) → IsInRange z → AreFormatted z images
-      → IsSound (record (opened z images []) { cells_in_use = (opened z images []).cells_in_use + 1 }) → ⊥
-  pub another_incarnation : (z : Sizes) (images : List (List ℕ))
-      → IsSound (record (opened z images []) { incarnation = 2 }) → ⊥
-  pub forced_beyond : (s : State) → length s.records < s.forced → IsSound s → ⊥
-  pub two_rows : (s : State) (r : Row) → s.rows ≡ r ∷ r ∷ [] → IsSound s → ⊥

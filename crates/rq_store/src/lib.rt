@@ -2,7 +2,7 @@
 #![tactic(auto)]
 
 ghost use Rattle.rq_store.specs.Theorems.{BeginningsAreWhole};
-ghost use Rattle.rq_store.specs.Worked.{WorkedSound, WorkedStore};
+ghost use Rattle.rq_store.specs.Worked.{FormattedFit, WorkedStore};
 
 /// Each beginning of a whole log is whole, so that a crash leaves one.
 pub fn beginnings_are_whole()
@@ -14,8 +14,7 @@ pub fn worked_store()
     ensures { WorkedStore }
 {}
 
-/// Pages that were formatted fit the empty log, and the store that a restart opens over them is sound; and stores that
-/// are not.
-pub fn worked_sound()
-    ensures { WorkedSound }
+/// Pages that were formatted fit the empty log; and pages that fit no log.
+pub fn formatted_pages_fit()
+    ensures { FormattedFit }
 {}

@@ -1,12 +1,14 @@
 //! The queue as plain lists beside an engine: each of some fifty calls is made of both, and both answer the same.
 use crate::stores::{Machine, Medium, Store, blank};
+use rq_content::GroupContent as ShownGroup;
 use rq_disk::PageChoice;
 use rq_engine::event::{CommitNo, Event, Outcome, Progress, Reply};
+use rq_model::message::Message;
 use rq_model::refusal::Refusal;
 use rq_model::txn::{Sub, Txn};
 use rq_page::layout::Layout;
 use rq_reference::Reference;
-use rq_reference::rows::Act;
+use rq_reference::rows::{Act, GroupContent};
 use std::alloc::{AllocError, Global};
 use std::test::Fail;
 
@@ -38,15 +40,40 @@ enum Call {
 }
 
 /// A call, and what it answers as a number: a count, an operation's number, an LSN, a tag, messages that are left; `REFUSED`
-/// and the number of a refusal; 0 where nothing is told.
+/// and the number of a refusal; 0 where nothing is told. A message, a last tag and a content are compared whole besides.
 type Row = (Call, u64);
 
 const REFUSED: u64 = 100;
 
-/// What every send sends.
+/// What the message with the tag 7 says.
+const HELLO: &[u8] = b"hello";
+
+/// What the message with the tag 8 says.
+const BYE: &[u8] = b"good bye";
+
+/// What every other message says.
 const BODY: &[u8] = b"m";
 
 const LONG: &[u8] = &[b'm'; 217];
+
+/// What the lists answer.
+#[derive(Drop)]
+enum Listed {
+    /// As a row tells it.
+    Number(u64),
+    Message(Message),
+    /// How many messages a sender sent, and the tag of the last.
+    LastTag(u64, u64),
+    Content(Vec<GroupContent>),
+}
+
+fn body_of(tag: u64) -> &'static [u8] {
+    match tag {
+        7 => HELLO,
+        8 => BYE,
+        _ => BODY,
+    }
+}
 
 // The store, and the lists, of one directory and one cell page.
 fn queue(alloc: Global) -> Reference {
@@ -68,40 +95,62 @@ fn open_again(queue: &mut Reference, records: u64) -> bool {
     may && may_restart
 }
 
-fn told_by_lists(queue: &mut Reference, call: Call, commit: Option<CommitNo>) -> u64 {
-    match of_lists(queue, call, commit) {
-        Ok(number) => number,
-        Err(refusal) => number_of(refusal),
+// What the lists answer, as a row tells it.
+fn told_by_lists(listed: &Listed) -> u64 {
+    match listed {
+        Listed::Number(number) => *number,
+        Listed::Message(message) => message.tag,
+        Listed::LastTag(_, tag) => *tag,
+        Listed::Content(groups) => left_in_lists(groups),
     }
+}
+
+fn left_in_lists(groups: &[GroupContent]) -> u64 {
+    let mut left: usize = 0;
+    for group in groups {
+        left = left.saturating_add(group.rest.len());
+    }
+    left as u64
 }
 
 fn number_of(refusal: Refusal) -> u64 {
     REFUSED.saturating_add(u64::from(refusal.number()))
 }
 
-fn of_lists(queue: &mut Reference, call: Call, commit: Option<CommitNo>) -> Result<u64, Refusal> {
+fn refused(refusal: Refusal) -> Listed {
+    Listed::Number(number_of(refusal))
+}
+
+fn number(told: Result<u64, Refusal>) -> Listed {
+    match told {
+        Ok(number) => Listed::Number(number),
+        Err(refusal) => refused(refusal),
+    }
+}
+
+fn of_lists(queue: &mut Reference, call: Call, commit: Option<CommitNo>) -> Listed {
     let incarnation = queue.incarnation();
     match call {
-        Call::Begin => begin(queue),
-        Call::Send(count, sender, tag) => queue.start_send(
+        Call::Begin => number(begin(queue)),
+        Call::Send(count, sender, tag) => number(queue.start_send(
             of(incarnation, count),
             sender,
             tag,
-            BODY,
-        ),
-        Call::SendLong(count) => queue.start_send(of(incarnation, count), 0, 1, LONG),
-        Call::Take(count) => take(queue, of(incarnation, count)),
-        Call::TakeFrom(count, sender) => take_from(queue, of(incarnation, count), sender),
-        Call::Close(count, sender) => queue.start_close(of(incarnation, count), sender),
-        Call::Step(count, number) => step(queue, of(incarnation, count), number),
-        Call::Finish(count, number) => finish(queue, of(incarnation, count), number),
-        Call::StartAbort(count) => start_abort(queue, of(incarnation, count)),
-        Call::Undo(count) => undo(queue, of(incarnation, count)),
-        Call::EndAbort(count) => end_abort(queue, of(incarnation, count)),
-        Call::Commit(count) => queue.commit(of(incarnation, count)),
-        Call::Acknowledge => acknowledge(queue, commit),
-        Call::HandOver => hand_over(queue),
-        Call::Force => queue.force(),
+            body_of(tag),
+        )),
+        Call::SendLong(count) => number(queue.start_send(of(incarnation, count), 0, 1, LONG)),
+        Call::Take(count) => number(take(queue, of(incarnation, count))),
+        Call::TakeFrom(count, sender) => number(take_from(queue, of(incarnation, count), sender)),
+        Call::Close(count, sender) => number(queue.start_close(of(incarnation, count), sender)),
+        Call::Step(count, asked) => number(step(queue, of(incarnation, count), asked)),
+        Call::Finish(count, asked) => finish(queue, of(incarnation, count), asked),
+        Call::StartAbort(count) => number(start_abort(queue, of(incarnation, count))),
+        Call::Undo(count) => number(undo(queue, of(incarnation, count))),
+        Call::EndAbort(count) => number(end_abort(queue, of(incarnation, count))),
+        Call::Commit(count) => number(queue.commit(of(incarnation, count))),
+        Call::Acknowledge => number(acknowledge(queue, commit)),
+        Call::HandOver => number(hand_over(queue)),
+        Call::Force => number(queue.force()),
         Call::LastTag(sender) => last_tag(queue, sender),
         Call::Content => content(queue),
     }
@@ -130,10 +179,11 @@ fn step(queue: &mut Reference, txn: Txn, number: u64) -> Result<u64, Refusal> {
     Ok(queue.step(txn, number)?.unwrap_or(0))
 }
 
-fn finish(queue: &mut Reference, txn: Txn, number: u64) -> Result<u64, Refusal> {
-    match queue.finish(txn, number)? {
-        Some(Act::Taken(message)) => Ok(message.tag),
-        _ => Ok(0),
+fn finish(queue: &mut Reference, txn: Txn, number: u64) -> Listed {
+    match queue.finish(txn, number) {
+        Ok(Some(Act::Taken(message))) => Listed::Message(message),
+        Ok(_) => Listed::Number(0),
+        Err(refusal) => refused(refusal),
     }
 }
 
@@ -163,16 +213,18 @@ fn hand_over(queue: &Reference) -> Result<u64, Refusal> {
     Ok(0)
 }
 
-fn last_tag(queue: &Reference, sender: u32) -> Result<u64, Refusal> {
-    Ok(queue.last_tag(sender)?.1)
+fn last_tag(queue: &Reference, sender: u32) -> Listed {
+    match queue.last_tag(sender) {
+        Ok((sent, tag)) => Listed::LastTag(sent, tag),
+        Err(refusal) => refused(refusal),
+    }
 }
 
-fn content(queue: &Reference) -> Result<u64, Refusal> {
-    let mut left: usize = 0;
-    for group in &queue.content()? {
-        left = left.saturating_add(group.rest.len());
+fn content(queue: &Reference) -> Listed {
+    match queue.content() {
+        Ok(groups) => Listed::Content(groups),
+        Err(refusal) => refused(refusal),
     }
-    Ok(left as u64)
 }
 
 // The event of a call.
@@ -188,7 +240,7 @@ fn event_of(
             txn: of(incarnation, count),
             sender,
             tag,
-            body: Vec::from_slice(alloc, BODY)?,
+            body: Vec::from_slice(alloc, body_of(tag))?,
         },
         Call::SendLong(count) => Event::StartSend {
             txn: of(incarnation, count),
@@ -239,16 +291,70 @@ fn told_by_engine(reply: &Reply) -> u64 {
         Reply::Acknowledged(receipt) => u64::from(receipt.is_some()),
         Reply::Forced(lsn) => *lsn,
         Reply::LastTag(last) => last.tag,
-        Reply::Content(groups) => {
-            let mut left: usize = 0;
-            for group in groups {
-                left = left.saturating_add(group.rest.len());
-            }
-            left as u64
-        }
+        Reply::Content(groups) => left_in_store(groups),
         Reply::Refused(refusal) => number_of(*refusal),
         _ => 0,
     }
+}
+
+fn left_in_store(groups: &[ShownGroup]) -> u64 {
+    let mut left: usize = 0;
+    for group in groups {
+        left = left.saturating_add(group.rest.len());
+    }
+    left as u64
+}
+
+// Whether both answer what a row tells, and the same message, last tag or content.
+fn agree(reply: &Reply, listed: &Listed, wanted: u64) -> bool {
+    told_by_engine(reply) == wanted && told_by_lists(listed) == wanted && agree_whole(reply, listed)
+}
+
+fn agree_whole(reply: &Reply, listed: &Listed) -> bool {
+    match reply {
+        Reply::Finished(Outcome::Message(message)) => is_message(listed, message),
+        Reply::LastTag(last) => is_last_tag(listed, last.sent, last.tag),
+        Reply::Content(groups) => is_content(listed, groups),
+        _ => matches!(listed, Listed::Number(_)),
+    }
+}
+
+fn is_message(listed: &Listed, message: &Message) -> bool {
+    match listed {
+        Listed::Message(of_lists) => message == of_lists,
+        _ => false,
+    }
+}
+
+fn is_last_tag(listed: &Listed, sent: u64, tag: u64) -> bool {
+    match listed {
+        Listed::LastTag(of_lists, last) => *of_lists == sent && *last == tag,
+        _ => false,
+    }
+}
+
+fn is_content(listed: &Listed, shown: &[ShownGroup]) -> bool {
+    match listed {
+        Listed::Content(of_lists) => agree_on_content(shown, of_lists),
+        _ => false,
+    }
+}
+
+// Whether a store shows what the lists do.
+fn agree_on_content(shown: &[ShownGroup], listed: &[GroupContent]) -> bool {
+    let mut all = shown.len() == listed.len();
+    for (group, of_lists) in shown.iter().zip(listed.iter()) {
+        all &= agree_on_group(group, of_lists);
+    }
+    all
+}
+
+fn agree_on_group(shown: &ShownGroup, listed: &GroupContent) -> bool {
+    shown.sent == listed.sent
+        && shown.last_tag == listed.last_tag
+        && shown.received == listed.received
+        && shown.closed == listed.closed
+        && shown.rest.as_slice() == listed.rest.as_slice()
 }
 
 // The number of the first row, from 1, that one of both answers otherwise; 0 where there is none.
@@ -264,8 +370,8 @@ fn first_fault<S: Store>(
     for (call, wanted) in rows {
         number = number.saturating_add(1);
         let reply = store.ask(event_of(alloc, incarnation, *call, commit)?);
-        let listed = told_by_lists(queue, *call, commit);
-        if told_by_engine(&reply) != *wanted || listed != *wanted {
+        let listed = of_lists(queue, *call, commit);
+        if !agree(&reply, &listed, *wanted) {
             return Ok(number);
         }
         commit = commit_of(&reply, commit);
@@ -324,8 +430,8 @@ fn check(alloc: Global, records: u64, first: &[Row], then: &[Row]) -> Result<u64
     go_over(alloc, medium, devices, records, first, then)
 }
 
-// Two messages are committed; one is received and put back, and then received for good. What is begun is undone, a close
-// too; and one is closed.
+// Two messages, each with a body of its own, are committed; one is received and put back, and then received for good. What is
+// begun is undone, a close too; and one is closed.
 #[test]
 fn both_answer_the_same(rt: HostRuntime) -> Result<(), Fail> {
     let fault = check(
@@ -411,6 +517,7 @@ fn both_answer_the_same(rt: HostRuntime) -> Result<(), Fail> {
 #[test]
 fn lists_that_are_not_open_refuse(rt: HostRuntime) -> Result<(), Fail> {
     let mut shut = Reference::new(rt.alloc(), 1, 1);
-    assert!(rt; told_by_lists(&mut shut, Call::Begin, None) == 102);
+    let listed = of_lists(&mut shut, Call::Begin, None);
+    assert!(rt; told_by_lists(&listed) == 102);
     Ok(())
 }

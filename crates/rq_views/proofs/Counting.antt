@@ -29,7 +29,7 @@ use Rattle.rq_views.specs.Stored.{is_used, count_used}
 use Rattle.rq_views.specs.InStore.{InStore, IsInPlace, AllStand, WritesStand}
 use Rattle.rq_views.proofs.Chains.{no_eq}
 use Rattle.rq_views.proofs.Overlay.{put_at, put_off}
-use Rattle.rq_views.proofs.Laws.{used_sender, free_sender, through, shows_here}
+use Rattle.rq_views.proofs.ChainLaws.{used_sender, free_sender, through, shows_here}
 use Rattle.rq_views.proofs.Views.{good, quiet_views}
 use Rattle.rq_views.proofs.Stands.{applied_stands, writes_stand, quiet_stand, store_is_layout}
 

@@ -1,6 +1,6 @@
 pub mod Chains
 pub mod Overlay
-pub mod Laws
+pub mod ChainLaws
 pub mod Takes
 pub mod Views
 pub mod Owes

@@ -10,7 +10,7 @@ use Rattle.rq_page.specs.Slots.Slot.{Free, Used, Sender}
 use Rattle.rq_views.specs.Plans.{ShowsAt, LinksTo, with_next, with_prev, directory_write, directory_head_unlinked, unlink_head_writes, IsUnlinkHead, view_head_unlinked, directory_tail_unlinked, unlink_tail_writes, IsUnlinkTail, directory_put_back, put_back_writes, IsPutBack, IsMark}
 use Rattle.rq_views.proofs.Chains.{no_eq, none_some, unlink_head_linked, unlink_tail_linked, put_back_linked, end_linked, all_but_last_append, last_append, cell_at}
 use Rattle.rq_views.proofs.Overlay.{put_at, put_off}
-use Rattle.rq_views.proofs.Laws.{cells_directory, used_sender, free_sender, through, shows_here, shows_same}
+use Rattle.rq_views.proofs.ChainLaws.{cells_directory, used_sender, free_sender, through, shows_here, shows_same}
 
 pub mark_law : (l : Places) (q : Slots) (ws : List Write) (s : ℕ) (closed : Bool) (v : View) → IsMark l s closed ws → HasBefores ws q → ShowsAt l q s v → ShowsAt l (applied ws q) s (record v { closed = closed })
 mark_law l q ws s closed v p f h =

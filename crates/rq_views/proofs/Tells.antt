@@ -6,7 +6,7 @@ use Rattle.rq_views.specs.Chain.{Cells, Node, first, Linked, View, message}
 use Rattle.rq_views.specs.Log.{Slots, put, cell_in, cells_of, Write, HasBefores, Places}
 use Rattle.rq_page.specs.Slots.Slot.{Free, Used, Sender}
 use Rattle.rq_views.specs.Plans.{ShowsAt, with_next, with_prev, append_writes, unlink_head_writes, IsAppend, IsUnlinkHead}
-use Rattle.rq_views.proofs.Laws.{through, used_sender, free_sender, shows_here}
+use Rattle.rq_views.proofs.ChainLaws.{through, used_sender, free_sender, shows_here}
 
 append_directory : (l : Places) (q : Slots) (s : ℕ) (d : Directory) (new tag : ℕ) (body : List ℕ) (old : Option Cell) → HasBefores (append_writes l s d new tag body old) q → Sender s d ≡ q (l.directory_at s)
 append_directory l q s d new tag body None f = (through q new _ (Sender s d) (l.directory_at s) (used_sender _ s d) f.0).1

@@ -12,7 +12,7 @@ use Rattle.rq_views.specs.Plans.Turn.{Did, Undid}
 use Rattle.rq_views.specs.Legal.{Placed, open_deeds, undoing, view_after, view, Undoes, MayFollow, IsLegalLog, IsLayout, empty_directory}
 use Rattle.rq_views.proofs.Chains.{no_eq}
 use Rattle.rq_views.proofs.Overlay.{Good, good_after, good_start}
-use Rattle.rq_views.proofs.Laws.{others, spared, shows_frame, append_law}
+use Rattle.rq_views.proofs.ChainLaws.{others, spared, shows_frame, append_law}
 use Rattle.rq_views.proofs.Takes.{mark_law, head_law, tail_law, back_law}
 
 -- an operation's writes over its own sender's view

@@ -15,3 +15,4 @@ pub mod Claims
 pub mod Numbers
 pub mod Inverses
 pub mod Worked
+pub mod Laws

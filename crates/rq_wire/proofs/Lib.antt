@@ -2,4 +2,3 @@ pub mod Fronts
 pub mod Spells
 pub mod Faults
 pub mod Streams
-pub mod Worked

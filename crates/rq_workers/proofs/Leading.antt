@@ -66,9 +66,6 @@ lead_on c from mid to older [] l m = subst (λ s. Lead c from older s) (sym m) l
 lead_on c from mid to older (a ∷ newer) l m = (m.0, lead_on c from mid m.0 older newer l m.1, m.2)
 
 module _ {S : Type 0} (c : Call) where
-  pub nothing_done : (s : Stage) (w : Work S) → Carries c s w s w
-  nothing_done s w = ([], refl, refl, refl)
-
   pub carries_on : (r s t : Stage) (v w x : Work S) → Carries c r v s w → Carries c s w t x → Carries c r v t x
   carries_on r s t v w x h k =
       (k.0 ++ h.0, k.1 ∙ ap (λ l. k.0 ++ l) h.1 ∙ sym (append_assoc k.0 h.0 v.done), k.2 ∙ h.2, lead_on c r s t h.0 k.0 h.3 k.3)

@@ -1,3 +1,2 @@
 mod Leading
 mod Rounds
-mod Worked

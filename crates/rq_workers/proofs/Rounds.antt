@@ -20,18 +20,12 @@ module _ {S : Type 0} where
   pub may_write : (page : ℕ) (v w : Work S) (b : Bool) → DidOne (Asked 2 b) v w → b ≡ true → may_call w.done (call_of (WritePage page)) ≡ true
   may_write page v w b d e = rw (d.0, e) refl
 
-  pub no_forces : (w : Work S) → Did AreForces w w
-  no_forces w = ([], refl, refl, tt)
-
   pub force_more : (v w x y : Work S) (b : Bool) (h : Heard) → Did AreForces v w → DidOne (Asked 1 b) w x → b ≡ true → IsForced x h y → Did AreForces v y
   force_more v w x y b h d a e m =
       (Forced m.0 ∷ Asked 1 b ∷ d.0, m.1.0 ∙ ap (λ l. Forced m.0 ∷ l) (a.0 ∙ ap (λ l. Asked 1 b ∷ l) d.1), m.1.1 ∙ a.1 ∙ d.2, (m.2, refl, e, d.3))
 
   pub forces_end : (v w x : Work S) (b : Bool) → Did AreForces v w → DidOne (Asked 1 b) w x → b ≡ false → Did IsLogWriting v x
   forces_end v w x b d a e = (Asked 1 b ∷ d.0, a.0 ∙ ap (λ l. Asked 1 b ∷ l) d.1, a.1 ∙ d.2, (refl, e, d.3))
-
-  pub no_writes : (pages : ℕ) (w : Work S) → Did (Writes pages 0) w w
-  no_writes pages w = ([], refl, refl, (tt, refl))
 
   pub write_more : (pages page : ℕ) (v w x y : Work S) (b : Bool) (h : Heard) → Did (Writes pages page) v w → DidOne (Asked 2 b) w x → b ≡ true → IsCalled x (WritePage page) h y → Did (Writes pages (page_after pages page)) v y
   write_more pages page v w x y b h d a e m = (

@@ -1,6 +1,5 @@
-use Rattle.std.proofs.Common.{sym, ◌∙◌, ap}
-use Rattle.rq_pageops.specs.Latched.{others, pages_in}
+use Rattle.rq_laws.proofs.Latching.{given_back_alike}
 use Rattle.rq_laws.proofs.pages.give.Goals as goal
 
 pub returns : goal.returns
-returns c = c.give.ensures.pages ∙ ap (λ o. others _ (pages_in o)) c.requires.same ∙ sym c.give-2.ensures.pages
+returns c = given_back_alike _ _ _ _ _ c.requires.same c.give.ensures.pages c.give-2.ensures.pages

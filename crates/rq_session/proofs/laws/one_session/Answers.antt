@@ -1,5 +1,8 @@
-use Rattle.rq_session.proofs.One.{one_first, one_loss, one_reply}
+use Rattle.rq_session.proofs.One.{each_keeps, one_first, one_loss, one_reply}
 use Rattle.rq_session.proofs.laws.one_session.Goals as goal
+
+pub returns-clause-keeps : goal.returns-clause-keeps
+returns-clause-keeps c = each_keeps
 
 pub returns-clause-reply : goal.returns-clause-reply
 returns-clause-reply c = one_reply

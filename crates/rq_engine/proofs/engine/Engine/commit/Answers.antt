@@ -1,6 +1,6 @@
 use Rattle.std.proofs.Common.{◌≡◌, ℕ, ◌-◌, sym, ap, ◌∙◌, subst, arith, length, false}
 use Rattle.std.specs.List.{sum_by}
-use Rattle.rq_store.specs.Sound.{takes_one}
+use Rattle.rq_store.specs.Settled.{takes_one}
 use Rattle.rq_store.specs.State.{State, ledger_of}
 use Rattle.rq_engine.specs.Answers.{HasNothingUnderWay}
 use Rattle.rq_model.specs.Tests.{NoneHolds, ready_tests, log_full}

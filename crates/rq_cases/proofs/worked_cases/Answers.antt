@@ -1,0 +1,33 @@
+use Rattle.rq_cases.proofs.Applied.{applied}
+use Rattle.rq_cases.proofs.Audits.{audits}
+use Rattle.rq_cases.proofs.Bounds.{bounds}
+use Rattle.rq_cases.proofs.Courses.{causes, stops}
+use Rattle.rq_cases.proofs.Crashes.{runs}
+use Rattle.rq_cases.proofs.Formatting.{formats}
+use Rattle.rq_cases.proofs.Mending.{mends}
+use Rattle.rq_cases.proofs.Openings.{beginnings, checks, refusals}
+use Rattle.rq_cases.proofs.Replies.{receipts}
+use Rattle.rq_cases.proofs.Restarting.{restarts}
+use Rattle.rq_cases.proofs.Sound.{run}
+use Rattle.rq_cases.proofs.Worlds.{cuts, worlds}
+use Rattle.rq_cases.proofs.worked_cases.Goals as goal
+
+pub returns : goal.returns
+returns c = record {
+  run_is_sound = run;
+  calls_are_applied = applied;
+  worlds_are_judged = worlds;
+  cuts_are_judged = cuts;
+  stops_are_judged = stops;
+  causes_are_judged = causes;
+  formats_are_judged = formats;
+  restarts_are_judged = restarts;
+  audits_are_judged = audits;
+  checks_are_judged = checks;
+  mends_are_judged = mends;
+  refusals_are_judged = refusals;
+  beginnings_are_judged = beginnings;
+  bounds_are_judged = bounds;
+  runs_are_judged = runs;
+  receipts_are_judged = receipts;
+}
