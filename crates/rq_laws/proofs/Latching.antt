@@ -1,7 +1,7 @@
 -- Pages that are latched, by two in the same state.
-use Rattle.std.proofs.Common.{◌≡◌, ℕ, List, [], ◌∷◌, ◌++◌, refl, sym, ◌∙◌, ap, subst, Bool, true, false, true≢false}
+use Rattle.std.proofs.Common.{◌≡◌, ℕ, List, [], ◌∷◌, ◌++◌, refl, sym, ◌∙◌, subst, Bool, true, false, true≢false}
 use Rattle.rq_level.specs.Given.{meets}
-use Rattle.rq_pageops.specs.Latched.{others, pages_in}
+use Rattle.rq_pageops.specs.Latched.{pages_in}
 
 -- what trying to take a set says
 abbrev pub Tries : List ℕ → List (List ℕ) → Bool → List (List ℕ) → Type 0
@@ -20,7 +20,3 @@ pub tried_alike : (set : List ℕ) (old old2 x y : List (List ℕ)) (a b : Bool)
     → (b ≡ true → meets set (pages_in old2) ≡ false) → (b ≡ true → y ≡ old2 ++ set ∷ []) → (b ≡ false → meets set (pages_in old2) ≡ true) → (b ≡ false → y ≡ old2) → (a ≡ b) × (x ≡ y)
 tried_alike set old old2 x y a b is f1 f2 f3 f4 g1 g2 g3 g4 =
     tried_one set old x y a b (f1, f2, f3, f4) (subst (λ o. Tries set o b y) (sym is) (g1, g2, g3, g4))
-
--- once it is given back, the same pages are latched
-pub given_back_alike : (set : List ℕ) (old old2 x y : List (List ℕ)) → old ≡ old2 → pages_in x ≡ others set (pages_in old) → pages_in y ≡ others set (pages_in old2) → pages_in x ≡ pages_in y
-given_back_alike set old old2 x y is f g = f ∙ ap (λ o. others set (pages_in o)) is ∙ sym g

@@ -180,17 +180,17 @@ module _ {P L : Type 0} (g : page_device.Ghosts P) where
 
   -- both answer and leave the same
   pub wrote_alike : (page : ℕ) (old old2 x y : OpenStore P L) (p q : Result Written Refusal) → old ≡ old2
-      → WritesWhen old page p → x.state ≡ state_after old.state p → x.changed ≡ changed_after old.changed page p → DeviceAfter g page (image_at old.state.images page) old.pages x.pages p
-      → WritesWhen old2 page q → y.state ≡ state_after old2.state q → y.changed ≡ changed_after old2.changed page q → DeviceAfter g page (image_at old2.state.images page) old2.pages y.pages q
+      → WritesWhen old page p → x.state ≡ state_after old.state p → x.changed ≡ changed_after old.changed page p → x.log ≡ old.log → DeviceAfter g page (image_at old.state.images page) old.pages x.pages p
+      → WritesWhen old2 page q → y.state ≡ state_after old2.state q → y.changed ≡ changed_after old2.changed page q → y.log ≡ old2.log → DeviceAfter g page (image_at old2.state.images page) old2.pages y.pages q
       → IfOk p (λ a. IfOk q (λ b. (a ≡ b) × (x.state ≡ y.state) × (x.changed ≡ y.changed)))
-  wrote_alike page old old2 x y p q is f1 f2 f3 f4 h1 h2 h3 h4 = wrote_both page old old2 x y p q is (f1, f2, f3, f4) (h1, h2, h3, h4)
+  wrote_alike page old old2 x y p q is f1 f2 f3 log f4 h1 h2 h3 same h4 = wrote_both page old old2 x y p q is (f1, f2, f3, f4) (h1, h2, h3, h4)
 
   -- and both devices read the same
   pub reads_alike : (page : ℕ) (old old2 x y : OpenStore P L) (p q : Result Written Refusal) → old ≡ old2
-      → WritesWhen old page p → x.state ≡ state_after old.state p → x.changed ≡ changed_after old.changed page p → DeviceAfter g page (image_at old.state.images page) old.pages x.pages p
-      → WritesWhen old2 page q → y.state ≡ state_after old2.state q → y.changed ≡ changed_after old2.changed page q → DeviceAfter g page (image_at old2.state.images page) old2.pages y.pages q
+      → WritesWhen old page p → x.state ≡ state_after old.state p → x.changed ≡ changed_after old.changed page p → x.log ≡ old.log → DeviceAfter g page (image_at old.state.images page) old.pages x.pages p
+      → WritesWhen old2 page q → y.state ≡ state_after old2.state q → y.changed ≡ changed_after old2.changed page q → y.log ≡ old2.log → DeviceAfter g page (image_at old2.state.images page) old2.pages y.pages q
       → IfOk p (λ _. IfOk q (λ _. (at : ℕ) → g.seen x.pages at ≡ g.seen y.pages at))
-  reads_alike page old old2 x y p q is f1 f2 f3 f4 h1 h2 h3 h4 = reads_both page old old2 x y p q is (f1, f2, f3, f4) (h1, h2, h3, h4)
+  reads_alike page old old2 x y p q is f1 f2 f3 log f4 h1 h2 h3 same h4 = reads_both page old old2 x y p q is (f1, f2, f3, f4) (h1, h2, h3, h4)
 
   pub refused_alike : (page : ℕ) (old old2 : OpenStore P L) (p q : Result Written Refusal) → old ≡ old2 → WritesWhen old page p → WritesWhen old2 page q → RefuseAlike p q
   refused_alike page old old2 p q is f h = refused_one old page p q f (subst (λ o. WritesWhen o page q) (sym is) h)
