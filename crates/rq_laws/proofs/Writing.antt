@@ -11,7 +11,7 @@ use Rattle.rq_model.specs.Legal.{Legal}
 use Rattle.rq_model.specs.Ledger.{group_in}
 use Rattle.rq_model.specs.Replay.Reply.{Gave_content, Gave_tag}
 use Rattle.rq_model.specs.Tests.{Passes, below}
-use Rattle.rq_disk.specs.Device.{Images, Only}
+use Rattle.rq_disk.specs.Device.{Only}
 use Rattle.rq_disk.specs.declared.device.LogDevice as log_device
 use Rattle.rq_disk.specs.declared.device.PageDevice as page_device
 use Rattle.rq_content.specs.Read.{group_of}
