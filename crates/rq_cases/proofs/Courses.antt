@@ -12,11 +12,11 @@ use Rattle.rq_model.specs.Legal.{At, IsLegal, OnFound}
 use Rattle.rq_model.specs.Tests.{Size, free_to_receive, gives, holds_for}
 use Rattle.rq_core.specs.Always.{GivesTo}
 use Rattle.rq_core.specs.Happenings.{Tells}
-use Rattle.rq_core.specs.Worked.{first_entries, small, txn}
+use Rattle.rq_core.specs.Worked.{first_entries, txn}
 use Rattle.rq_cases.specs.Courses.{CausesAreJudged, FindsNothing, NoneIsJudged, StopsAreJudged, opened, opened_history, took}
 
-told_opened : Tells small opened opened_history
-told_opened = ([], refl, (refl, omega arith, refl))
+told_opened : Tells opened opened_history
+told_opened = ([], refl, (refl, refl))
 
 pub stops : StopsAreJudged
 stops = record {
@@ -29,8 +29,8 @@ stops = record {
   of_a_store_that_failed = λ h t.
       cc (sym (ap (λ (k : List Entry). (ledger k).phase) (t.1.2.3 ∙ ap (λ (e : Entry). e ∷ t.1.0) t.1.2.1)) ∙ t.2.0.0);
   of_a_store_that_is_shut = λ h t. cc (sym (ap (λ (k : List Entry). (ledger k).phase) t.1) ∙ t.2.0.0);
-  in_a_restart_of_an_open_store = λ h t. cc (sym (ap (λ (k : List Entry). (ledger k).phase) t.1.2.2) ∙ t.2.0);
-  not_met = (opened_history, told_opened, (Forced 1, refl, tt, refl, tt));
+  in_a_restart_of_an_open_store = λ h t. cc (sym (ap (λ (k : List Entry). (ledger k).phase) t.1.2.1) ∙ t.2.0);
+  not_met = (opened_history, told_opened, (Forced 1, refl, tt, refl));
   left_out = λ h t. t.2.0;
   answered_as_a_restart = λ h t. cc t.2.0;
   loses_the_forced = λ a. (let e : 5 ≤ 1 = a.0.forced in omega (arith, e));
@@ -39,15 +39,15 @@ stops = record {
 
 pub causes : CausesAreJudged
 causes = record {
-  memory_of_a_begin = (opened_history, told_opened, (Refused Begin NoMemory, refl, refl, refl, tt));
-  memory_of_a_commit = (opened_history, told_opened, (Refused (Commit (txn 1 1)) NoMemory, refl, refl, refl, tt));
-  memory_of_a_content = (opened_history, told_opened, (Refused Show NoMemory, refl, refl, refl, tt));
+  memory_of_a_begin = (opened_history, told_opened, (Refused Begin NoMemory, refl, refl, refl));
+  memory_of_a_commit = (opened_history, told_opened, (Refused (Commit (txn 1 1)) NoMemory, refl, refl, refl));
+  memory_of_a_content = (opened_history, told_opened, (Refused Show NoMemory, refl, refl, refl));
   memory_of_a_finish = λ h t. cc t.2.2;
   memory_of_a_receipt = λ h t. cc t.2.2;
   memory_of_a_force = λ h t. cc t.2.2;
   memory_of_a_page_write = λ h t. cc t.2.2;
-  disk_of_a_force = (opened_history, told_opened, (Refused Force DiskWrite, refl, refl, refl, tt));
-  disk_of_a_page_write = (opened_history, told_opened, (Refused (Write_page 1) DiskWrite, refl, refl, refl, tt));
+  disk_of_a_force = (opened_history, told_opened, (Refused Force DiskWrite, refl, refl, refl));
+  disk_of_a_page_write = (opened_history, told_opened, (Refused (Write_page 1) DiskWrite, refl, refl, refl));
   disk_of_a_commit = λ h t. cc t.2.2;
   read_at_all = λ call h t. t.2.2;
   frames_at_all = λ call h t. t.2.2;

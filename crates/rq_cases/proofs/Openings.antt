@@ -26,13 +26,15 @@ use Rattle.rq_restart.specs.Restarting.{IsBegunOn, LogStops}
 use Rattle.rq_restart.proofs.Parsing.{one_log}
 use Rattle.rq_restart.specs.Underway.{OfStores}
 use Rattle.rq_core.specs.Devices.{mem_log, mem_pages}
+use Rattle.rq_core.proofs.Arms.{refused_stays}
+use Rattle.rq_core.proofs.Judged.{refused_over}
 use Rattle.rq_cases.specs.Opened.{AreNewPages, IsNewLog}
 use Rattle.rq_cases.specs.Openings.{BeginningsAreJudged, Checked, ChecksAreJudged, RefusalsAreJudged, log_next}
 use Rattle.rq_cases.specs.Reading.{no_cells, superblock}
 use Rattle.rq_cases.specs.Restarting.{read_pages}
 use Rattle.rq_cases.specs.Run.{forced, log_1, log_4, log_5}
 use Rattle.rq_cases.specs.Store.{formatted_pages, sizes}
-use Rattle.rq_cases.specs.Worlds.{Hold, crashed_course}
+use Rattle.rq_cases.specs.Worlds.{Hold, crashed}
 use Rattle.rq_cases.proofs.Bytes.{first_spelled, records_spelled}
 use Rattle.rq_cases.proofs.Held.{log_now, log_seen, only_records}
 use Rattle.rq_cases.proofs.Reading.{first_block, no_header}
@@ -42,7 +44,7 @@ use Rattle.rq_model.specs.Ledger.{Done}
 use Rattle.rq_model.proofs.Cuts.{extends_commits}
 use Rattle.rq_cases.proofs.Restarting.{begun_commit, formatted_fit, is_restart, made_there, no_cell_lsn, open_4, pages_seen_are, same_log}
 use Rattle.rq_cases.proofs.Running as running
-use Rattle.rq_cases.proofs.Worlds.{leaves_store, ran_crashed, shuts_with_less}
+use Rattle.rq_cases.proofs.Worlds.{leaves_store, shuts, shuts_with_less}
 
 abbrev rest_of : List Record → List Record
 rest_of [] = []
@@ -212,9 +214,10 @@ beginnings = record {
   of_no_store = λ pages log new h q. told_of (λ z read. ⊥) pages log new h q;
   goes_on_with_a_commit = λ log images n k.
       commit_behind log n k.0 (sym (one_log (Commit t1 ∷ log_1) k.0 commit_spelled k.1.are_spelled k.1.is)) k.2;
-  shut_for_damage = λ pages new_pages log new_log d h g. (g sizes crashed_course (ran_crashed pages log h)).1;
-  shut_with_less = λ pages new_pages log new_log r h n g.
-      shuts_with_less new_pages new_log n (g sizes crashed_course (ran_crashed pages log h)).0;
+  shut_for_damage = λ pages new_pages log new_log d h s.
+      (refused_over one_log sizes crashed pages new_pages log new_log (why.Damaged d) (shuts pages log h) s).cause tt;
+  shut_with_less = λ pages new_pages log new_log r h n s.
+      shuts_with_less new_pages new_log n (refused_stays one_log sizes crashed pages log r new_pages new_log s (shuts pages log h));
   refuses_without_reason = λ r.
       (let s = (r running.force.sound).0 in
       let e = subst (Legal (size_of sizes) (ledger_of forced)) s.says s.legal in

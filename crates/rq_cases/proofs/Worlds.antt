@@ -52,13 +52,13 @@ use Rattle.rq_cases.proofs.Pages.{are_formatted, groups_1_long, range}
 use Rattle.rq_cases.proofs.Running as running
 
 -- the worked courses tell their histories
-told_7 : Tells small (course_to 7) (first_entries 7)
-told_7 = (first_entries 6, (first_entries 5, (first_entries 4, (first_entries 3, (first_entries 2, (first_entries 1, (first_entries 0, refl, (refl, omega arith, refl)), (Begun (txn 1 1), refl, tt, refl, tt)), (Started (txn 1 1) 1 (Sending hello), (refl, refl), tt, refl, tt)), (Stepped (txn 1 1) 1 2, refl, tt, refl, tt)), (Stepped (txn 1 1) 1 3, refl, tt, refl, tt)), (Did (txn 1 1) 1 (Send hello), (hello, refl), tt, refl, tt)), (Committed (txn 1 1) 5, (refl, refl), tt, refl, tt))
+told_7 : Tells (course_to 7) (first_entries 7)
+told_7 = (first_entries 6, (first_entries 5, (first_entries 4, (first_entries 3, (first_entries 2, (first_entries 1, (first_entries 0, refl, (refl, refl)), (Begun (txn 1 1), refl, tt, refl)), (Started (txn 1 1) 1 (Sending hello), (refl, refl), tt, refl)), (Stepped (txn 1 1) 1 2, refl, tt, refl)), (Stepped (txn 1 1) 1 3, refl, tt, refl)), (Did (txn 1 1) 1 (Send hello), (hello, refl), tt, refl)), (Committed (txn 1 1) 5, (refl, refl), tt, refl))
 
-pub told_9 : Tells small (course_to 9) (first_entries 9)
-told_9 = (first_entries 8, (first_entries 7, told_7, (Acknowledged (txn 1 1) 5 false, refl, tt, refl, tt)), (Forced 5, refl, tt, refl, tt))
+pub told_9 : Tells (course_to 9) (first_entries 9)
+told_9 = (first_entries 8, (first_entries 7, told_7, (Acknowledged (txn 1 1) 5 false, refl, tt, refl)), (Forced 5, refl, tt, refl))
 
-pub told_crash : Tells small crashed_course crashed
+pub told_crash : Tells crashed_course crashed
 told_crash = (first_entries 9, told_9, (tt, refl))
 
 pub legal_7 : IsLegal small (first_entries 7)
@@ -234,7 +234,7 @@ ran_crashed pages log h = record {
 }
 
 -- what was forced is left
-pub forced_is_left : (course : Course) (h : List Entry) (pages : MemPages) (log : MemLog) (records : List Record) (n : ℕ) → Tells small ((Asks Force, Answered (Gave_forced n)) ∷ course) h → IsLegal small h
+pub forced_is_left : (course : Course) (h : List Entry) (pages : MemPages) (log : MemLog) (records : List Record) (n : ℕ) → Tells ((Asks Force, Answered (Gave_forced n)) ∷ course) h → IsLegal small h
     → LeavesStores mem_pages mem_log sizes h pages log → AreSpelled records → length records < n → mem_log.may_leave log (spelled records) → ⊥
 forced_is_left course h pages log records n tells legal leaves told few may =
     let x = leaves (mem_pages.seen pages) (spelled records) (some_pages pages) may in

@@ -33,7 +33,7 @@ failed = (Asks Force, Answered (Gave_refusal DiskWrite)) ∷ opened
 
 -- a call that is stopped in, with so many records left, behind the opening
 abbrev pub StopsWith : Call → ℕ → Type 0
-StopsWith call records = Tells small ((Stops_in call, Crashed records) ∷ opened) (Crash_entry 0 records ∷ opened_history)
+StopsWith call records = Tells ((Stops_in call, Crashed records) ∷ opened) (Crash_entry 0 records ∷ opened_history)
 
 -- a crash at a device call inside a call: only a call that writes has one, and only where the store runs
 pub record StopsAreJudged : Type 0 where
@@ -47,7 +47,7 @@ pub record StopsAreJudged : Type 0 where
   pub of_a_store_that_is_shut : TellsNothing [] (Stops_in Force) (Crashed 0)
   pub in_a_restart_of_an_open_store : TellsNothing opened Stops_restart (Crashed 1)
   -- where the stop did not come, the call is answered; it is never left out, nor answered as a restart
-  pub not_met : Tells small ((Stops_in Force, Answered (Gave_forced 1)) ∷ opened) (Forced 1 ∷ opened_history)
+  pub not_met : Tells ((Stops_in Force, Answered (Gave_forced 1)) ∷ opened) (Forced 1 ∷ opened_history)
   pub left_out : TellsNothing opened (Stops_in Force) Nothing
   pub answered_as_a_restart : TellsNothing opened (Stops_in Force) (Restarted (report 2 0 0 2))
   -- what was forced outlives it
@@ -56,7 +56,7 @@ pub record StopsAreJudged : Type 0 where
 
 -- a refusal with its call behind the opening
 abbrev pub RefusedBy : Call → Refusal → Type 0
-RefusedBy call r = Tells small ((Asks call, Answered (Gave_refusal r)) ∷ opened) (Refused call r ∷ opened_history)
+RefusedBy call r = Tells ((Asks call, Answered (Gave_refusal r)) ∷ opened) (Refused call r ∷ opened_history)
 
 abbrev pub NotRefusedBy : Call → Refusal → Type 0
 NotRefusedBy call r = TellsNothing opened (Asks call) (Answered (Gave_refusal r))

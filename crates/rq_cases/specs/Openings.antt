@@ -19,7 +19,7 @@ use Rattle.rq_restart.specs.Repeating.{Paged}
 use Rattle.rq_restart.specs.Restarting.{BeginsAtMost, IsBegun, IsReady, IsRefusedFor, LogStops, WasChecked}
 use Rattle.rq_restart.specs.Underway.{IsLeftOrGoesOn, OfStores}
 use Rattle.rq_core.specs.Devices.{mem_log, mem_pages}
-use Rattle.rq_core.specs.Runs.{GoesOnShut}
+use Rattle.rq_core.specs.Runs.{IsRefused as StaysShut}
 use Rattle.rq_cases.specs.Opened.{AreNewPages, IsNewLog}
 use Rattle.rq_cases.specs.Reading.{no_cells}
 use Rattle.rq_cases.specs.Restarting.{read_pages}
@@ -116,10 +116,10 @@ pub record BeginningsAreJudged : Type 0 where
       → IsLeftOrGoesOn mem_log log sizes log_1 images (spelled (Commit t1 ∷ log_1)) → ⊥
   -- a store whose restart is refused stays as it was, for no damage
   pub shut_for_damage : (pages new_pages : MemPages) (log new_log : MemLog) (d : Damage)
-      → Hold pages formatted_pages log log_5 → GoesOnShut pages log new_pages new_log (why.Damaged d) → ⊥
+      → Hold pages formatted_pages log log_5 → StaysShut pages log (why.Damaged d) new_pages new_log → ⊥
   pub shut_with_less : (pages new_pages : MemPages) (log new_log : MemLog) (r : Refusal)
       → Hold pages formatted_pages log log_5 → IsNewLog new_log log_1
-      → GoesOnShut pages log new_pages new_log r → ⊥
+      → StaysShut pages log r new_pages new_log → ⊥
   -- a call of a store may be refused so
   pub refuses_without_reason : Refuses forced Begin why.TooManyTransactions → ⊥
   pub refuses_without_cause : Refuses forced (Commit_call t2) why.DiskWrite → ⊥

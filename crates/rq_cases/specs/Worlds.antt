@@ -20,7 +20,7 @@ use Rattle.rq_core.specs.Happenings.Answer.{Answered, Crashed, Nothing}
 use Rattle.rq_core.specs.Happenings.Happening.{Asks, Crashes}
 use Rattle.rq_core.specs.Headline.{LeftLast}
 use Rattle.rq_core.specs.Runs.{IsFresh, IsHeadline}
-use Rattle.rq_core.specs.Worked.{first_entries, happened, small, turned}
+use Rattle.rq_core.specs.Worked.{first_entries, happened, turned}
 use Rattle.rq_core.specs.World.{IsOpen, IsShut}
 use Rattle.rq_cases.specs.Opened.{AreNewPages, IsNewLog, over}
 use Rattle.rq_cases.specs.Run.{log_1, log_5, committed, forced}
@@ -48,8 +48,8 @@ abbrev pub Hold : MemPages → List (List ℕ) → MemLog → List Record → Ty
 Hold pages images log records = AreNewPages pages images × IsNewLog log records
 
 pub record WorldsAreJudged : Type 0 where
-  pub told : Tells small (course_to 9) (first_entries 9)
-  pub told_with_the_crash : Tells small crashed_course crashed
+  pub told : Tells (course_to 9) (first_entries 9)
+  pub told_with_the_crash : Tells crashed_course crashed
   -- an open store stands where the history ends, and its pages fit what is forced
   pub open_at_its_end : (pages : MemPages) (log : MemLog) → Hold pages formatted_pages log log_1
       → Opens sizes (first_entries 7) (over committed pages log)

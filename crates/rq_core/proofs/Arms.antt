@@ -32,24 +32,24 @@ use Rattle.rq_engine.specs.Crash.{AreFit}
 use Rattle.rq_engine.specs.Devices.{EachPair}
 use Rattle.rq_restart.specs.Once.{OneLogEach, OneSizeEach}
 use Rattle.rq_lost.specs.Recovered.{IsRecovered}
-use Rattle.rq_restart.specs.Restarting.{IsReadAs, IsLeftOn, IsOpenedOver, Reports, Stops}
+use Rattle.rq_restart.specs.Restarting.{IsReadAs, IsLeftOn, IsOpenedOver, IsRefusedFor, Reports, Stops}
 use Rattle.rq_restart.specs.Underway.{IsLeftOrGoesOn, OfStores, pages_left, log_left}
 use Rattle.rq_restart.specs.declared.restart.Report.{Report as Restart_report}
 use Rattle.rq_restart.specs.declared.restart.Stopped.{Stopped}
 use Rattle.rq_core.specs.Devices.{mem_pages, mem_log}
-use Rattle.rq_core.specs.Happenings.{Happening, Answer, AddsCall, Course, MayCrashIt, Tells, called, is_of_device}
+use Rattle.rq_core.specs.Happenings.{Happening, Answer, AddsCall, Course, MayCrashIt, Report, Tells, called, is_of_device}
 use Rattle.rq_core.specs.Happenings.Answer.{Answered, Crashed, Refused, Restarted}
 use Rattle.rq_core.specs.Headline.{LeavesStores, LeftBy, LeftLast}
-use Rattle.rq_core.specs.Runs.{CanCrash, GoesOn, IsFresh, IsHeadline, Ran, GoesOnShut}
+use Rattle.rq_core.specs.Runs.{CanCrash, IsFresh, IsHeadline, IsOpened, IsRefused, Ran}
 use Rattle.rq_core.specs.World.{IsOpen, IsShut}
 use Rattle.rq_core.specs.World.World.{Is_open, Is_shut}
 use Rattle.rq_core.specs.Happenings.Happening.{Stops_in}
 use Rattle.rq_core.specs.Happenings.{EndsWithoutCrash, MayRestart, is_no_crash}
 use Rattle.rq_core.specs.Views.{report_of}
 use Rattle.rq_core.proofs.Devices.{some_page, some_log}
-use Rattle.rq_core.proofs.Worlds.{caused, may_stay, read_of, reopened, stays_shut, IsGivenUp, calls, leaves_open, leaves_shut, still, headline}
+use Rattle.rq_core.proofs.Worlds.{caused, read_of, reopened, stays_shut, IsGivenUp, calls, leaves_open, leaves_shut, still, headline}
 
-abbrev Engine : Type 0
+abbrev pub Engine : Type 0
 Engine = OpenStore MemPages MemLog
 
 -- a call of an open store
@@ -70,7 +70,7 @@ open_crashes z course x old new pages log law ran g cut e f may = record {
 }
 
 -- a store that is shut, whatever a crash at its end leaves
-pub shut_crashes : (z : Sizes) (course : Course) (x : Happening) (h : List Entry) (pages : MemPages) (log : MemLog) → ShutCrashGoesOn (size_of z) → Tells (size_of z) course h → IsLegal (size_of z) h → (s : IsShut mem_pages mem_log z h pages log)
+pub shut_crashes : (z : Sizes) (course : Course) (x : Happening) (h : List Entry) (pages : MemPages) (log : MemLog) → ShutCrashGoesOn (size_of z) → Tells course h → IsLegal (size_of z) h → (s : IsShut mem_pages mem_log z h pages log)
     → ((p : Phase) → p ≡ Shut → MayCrashIt x p) → CanCrash z course x pages log
 shut_crashes z course x h pages log law tells legal s may = record {
   range = s.range;
@@ -88,7 +88,7 @@ not_open law z course x call pages log is ran =
     let s : IsShut mem_pages mem_log z ran.history pages log = ran.stands in
     record {
       history = Refused_entry call why.Failed ∷ ran.history;
-      tells = (ran.history, ran.tells, subst (λ c. AddsCall (size_of z) c (Gave_refusal why.Failed) ran.history (Refused_entry call why.Failed ∷ ran.history)) (sym is) (Refused_entry call why.Failed, says call, tt, refl, tt));
+      tells = (ran.history, ran.tells, subst (λ c. AddsCall c (Gave_refusal why.Failed) ran.history (Refused_entry call why.Failed ∷ ran.history)) (sym is) (Refused_entry call why.Failed, says call, tt, refl));
       legal = (law (size_of z) (ledger ran.history) call (ap runs s.phase), ran.legal);
       stands = record { range = s.range; phase = s.phase; older = s.older; ties = s.ties; left = s.left };
       counted = tt;
@@ -119,8 +119,8 @@ shut_ends z course pages log fifo stay law ran =
     (leaves_shut mem_pages mem_log (λ d. tt) (λ d. tt) z law ran.history pages log ran.legal ran.stands) ran.counted
 
 -- a restart, by its clauses
-module _ (pages : MemPages) (log : MemLog) (one : OneLogEach) where
-  pub opens : (r : Result (Engine × Restart_report) (Stopped MemPages MemLog)) → OneSizeEach → ((size : Size) → RestartGoesOn size)
+module _ (pages : MemPages) (log : MemLog) where
+  pub opens : (r : Result (Engine × Restart_report) (Stopped MemPages MemLog))
       → IfOk r (λ o. (older : List Record) → IsReadAs mem_log log o.0.log older → Reports o.0.state.sizes older o.0.state.records o.1.incarnation o.1.records o.1.unfinished o.1.lost)
       → IfOk r (λ o. (older : List Record) → IsReadAs mem_log log o.0.log older → IsOpenedOver older o.0.state)
       → IfOk r (λ o. mem_pages.honest o.0.pages → IsSuperblock o.0.state.sizes (mem_pages.seen pages 0))
@@ -128,41 +128,46 @@ module _ (pages : MemPages) (log : MemLog) (one : OneLogEach) where
       → IfOk r (λ o. (older : List Record) → IsReadAs mem_log log o.0.log older → IsLeftOn mem_pages o.0.state.sizes pages o.0.pages older → IsRecovered o.0.state.sizes older (drop 1 o.0.state.records))
       → IfOk r (λ o. (older : List Record) → IsReadAs mem_log log o.0.log older → IsLeftOn mem_pages o.0.state.sizes pages o.0.pages older → (ledger : Ledger) → ledger.committed ≡ committed_of older → ledger_of o.0.state ≡ after (Restarted_entry o.1.incarnation o.1.records) ledger)
       → IfOk r (λ o. (older : List Record) → IsReadAs mem_log log o.0.log older → AllFit (mem_pages.may_be pages) o.0.state.sizes older → AreFit mem_pages o.0)
-      → IfOk r (λ o. GoesOn MayRestart (Is_shut pages log) (Restarted (report_of o.1)) (Is_open o.0))
-  opens (Err e) size_once goes report value sizes sound recovered entry fit = tt
-  opens (Ok o) size_once goes report value sizes sound recovered entry fit = λ z course x may ran.
-      let w = reopened mem_pages mem_log (λ d. tt) (λ d. tt) z some_page some_log one size_once (goes (size_of z)) ran.history pages log o.1 o.0 ran.legal ran.stands report value sizes sound recovered entry fit in
-      record {
-        history = Restarted_entry o.1.incarnation o.1.records ∷ ran.history;
-        tells = (ran.history, ran.tells, (may, w.counts, refl));
-        legal = w.legal;
-        stands = w.stands;
-        counted = tt;
-      }
+      → IfOk r (λ o. IsOpened pages log (report_of o.1) o.0)
+  opens (Err e) report value sizes sound recovered entry fit = tt
+  opens (Ok o) report value sizes sound recovered entry fit = record { reports = report; value = value; sizes = sizes; sound = sound; recovered = recovered; entry = entry; fit = fit }
 
   pub stays : (r : Result (Engine × Restart_report) (Stopped MemPages MemLog))
       → OfStores mem_pages mem_log pages log (pages_left r) (log_left r) (λ z read. EachPair mem_pages mem_log (pages_left r) (log_left r) (IsLeftOrGoesOn mem_log log z read))
+      → IfErr r (λ s. IsRefusedFor mem_pages mem_log pages log s.refusal s.pages s.log)
       → IfErr r (λ s. (z : Sizes) → IsSuperblock z (mem_pages.seen pages 0) → (older : List Record) → IsReadAs mem_log log s.log older
       → Stops (IsLeftOn mem_pages z pages s.pages older) z older s.refusal (mem_pages.faults pages) (mem_pages.faults s.pages) (mem_log.faults log) (mem_log.faults s.log))
-      → IfErr r (λ s. GoesOnShut pages log s.pages s.log s.refusal)
-  stays (Ok o) crash err = tt
-  stays (Err s) crash err = λ z course ran.
-      let here : IsShut mem_pages mem_log z ran.history pages log = ran.stands in
-      let read = read_of mem_pages mem_log (λ d. tt) (λ d. tt) z some_page some_log one ran.history pages log here in
-      let leaves = crash tt tt z read.read read.told read.reads read.each in (
-        stays_shut mem_pages mem_log (λ d. tt) (λ d. tt) z some_page some_log one ran.history pages s.pages log s.log here read leaves,
-        may_stay s.refusal (IsLeftOn mem_pages z pages s.pages read.read) z read.read (mem_pages.faults pages) (mem_pages.faults s.pages) (mem_log.faults log) (mem_log.faults s.log)
-            (record { honest = tt; left = read.left })
-            (err z (record { range = here.range; formatted = read.left.fits.superblock }) read.read (record { honest = tt; are_spelled = read.told; reads = read.reads })),
-      )
+      → IfErr r (λ s. IsRefused pages log s.refusal s.pages s.log)
+  stays (Ok o) crash cause err = tt
+  stays (Err s) crash cause err = record { cause = cause; stops = err; leaves = crash }
+
+-- a restart that opened the store, as a happening
+pub opened : OneLogEach → OneSizeEach → (z : Sizes) → RestartGoesOn (size_of z) → (course : Course) (x : Happening) (pages : MemPages) (log : MemLog) (report : Report) (new : Engine) → MayRestart course x → IsOpened pages log report new
+    → Ran z course (Is_shut pages log) → Ran z ((x, Restarted report) ∷ course) (Is_open new)
+opened one size_once z goes course x pages log report new may o ran =
+    let w = reopened mem_pages mem_log (λ d. tt) (λ d. tt) z some_page some_log one size_once goes ran.history pages log report new ran.legal ran.stands o.reports o.value o.sizes o.sound o.recovered o.entry o.fit in
+    record {
+      history = Restarted_entry report.incarnation report.records ∷ ran.history;
+      tells = (ran.history, ran.tells, (may, refl));
+      legal = w.legal;
+      stands = w.stands;
+      counted = tt;
+    }
+
+-- what a restart that was refused leaves is shut as before
+pub refused_stays : OneLogEach → (z : Sizes) (h : List Entry) (pages : MemPages) (log : MemLog) (r : Refusal) (new_pages : MemPages) (new_log : MemLog) → IsRefused pages log r new_pages new_log → IsShut mem_pages mem_log z h pages log
+    → IsShut mem_pages mem_log z h new_pages new_log
+refused_stays one z h pages log r new_pages new_log stopped here =
+    let read = read_of mem_pages mem_log (λ d. tt) (λ d. tt) z some_page some_log one h pages log here in
+    stays_shut mem_pages mem_log (λ d. tt) (λ d. tt) z some_page some_log one h pages new_pages log new_log here read (stopped.leaves tt tt z read.read read.told read.reads read.each)
 
 -- a restart that was refused, as a happening
-pub refuses : (z : Sizes) (course : Course) (x : Happening) (pages new_pages : MemPages) (log new_log : MemLog) (r : Refusal) → MayRestart course x → GoesOnShut pages log new_pages new_log r → Ran z course (Is_shut pages log)
+pub refuses : OneLogEach → (z : Sizes) (course : Course) (x : Happening) (pages new_pages : MemPages) (log new_log : MemLog) (r : Refusal) → MayRestart course x → IsRefused pages log r new_pages new_log → Ran z course (Is_shut pages log)
     → Ran z ((x, Refused r) ∷ course) (Is_shut new_pages new_log)
-refuses z course x pages new_pages log new_log r may stays ran =
+refuses one z course x pages new_pages log new_log r may stopped ran =
     let s : IsShut mem_pages mem_log z ran.history pages log = ran.stands in
-    let now = stays z course ran in
-    record { history = ran.history; tells = (ran.history, ran.tells, (may, now.1, s.phase, refl)); legal = ran.legal; stands = now.0; counted = tt }
+    let now = refused_stays one z ran.history pages log r new_pages new_log stopped s in
+    record { history = ran.history; tells = (ran.history, ran.tells, (may, s.phase, refl)); legal = ran.legal; stands = now; counted = tt }
 
 -- a store that is formatted, and of which nothing has happened
 pub begins : (z : Sizes) (pages : MemPages) (log : MemLog) → IsFresh z pages log → Ran z [] (Is_shut pages log)

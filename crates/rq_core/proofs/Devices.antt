@@ -12,7 +12,7 @@ use Rattle.rq_store.specs.Fitting.{AllFit}
 use Rattle.rq_store.specs.Whole.{IsWhole}
 use Rattle.rq_core.specs.Devices.{mem_pages, mem_log}
 use Rattle.rq_core.specs.Runs.{IsFresh}
-use Rattle.rq_core.proofs.Worlds.{IsCrashed}
+use Rattle.rq_core.specs.Happened.{IsCrashed}
 
 pub some_page : (d : MemPages) (page : ℕ) → MayBe (pages_of d) page (reads (pages_of d) page)
 some_page d page = pages_seen (pages_of d) page
@@ -36,12 +36,13 @@ fresh_reads : (s : LogState) (bytes : List ℕ) → s ≡ fresh_log bytes → lo
 fresh_reads s bytes is = ap log_reads is ∙ append-nil bytes
 
 -- a crash of both
-pub crashes : (z : Sizes) (pages new_pages : MemPages) (log new_log : MemLog) (bytes : List ℕ) (n : ℕ) → Leaves (MayBe (pages_of pages)) (reads (pages_of new_pages)) → ((q : ℕ) → Only (reads (pages_of new_pages) q) (MayBe (pages_of new_pages) q))
-    → log_of new_log ≡ fresh_log bytes → MayLeave (log_of log) (log_reads (log_of new_log)) → HoldsRecords (log_reads (log_of new_log)) n → IsCrashed mem_pages mem_log (λ d. tt) (λ d. tt) z pages new_pages log new_log n
-crashes z pages new_pages log new_log bytes n may only is left holds =
+pub crashes : (pages new_pages : MemPages) (log new_log : MemLog) (bytes : List ℕ) (n : ℕ) → Leaves (MayBe (pages_of pages)) (reads (pages_of new_pages)) → ((q : ℕ) → Only (reads (pages_of new_pages) q) (MayBe (pages_of new_pages) q))
+    → log_of new_log ≡ fresh_log bytes → MayLeave (log_of log) (log_reads (log_of new_log)) → HoldsRecords (log_reads (log_of new_log)) n → IsCrashed mem_pages mem_log pages new_pages log new_log n
+crashes pages new_pages log new_log bytes n may only is left holds =
     let all : (c : List ℕ) → MayLeave (log_of new_log) c → c ≡ log_reads (log_of new_log) = λ c b. fresh_only (log_of new_log) bytes c is b ∙ sym (fresh_reads (log_of new_log) bytes is) in
     record {
       pages_left = λ images a q. subst (MayBe (pages_of pages) q) (sym (only q (images q) (a q))) (may q);
+      pages_only = only;
       log_left = λ c b. subst (MayLeave (log_of log)) (sym (all c b)) left;
       log_only = all;
       holds = holds;

@@ -4,4 +4,6 @@ pub mod Devices
 pub mod Worked
 pub mod Worlds
 pub mod Exact
-pub mod Unended
+pub mod Steps
+pub mod Told
+pub mod Judged

@@ -11,10 +11,10 @@ use Rattle.rq_model.specs.Ledger.{fresh_one, ledger}
 use Rattle.rq_model.specs.Tests.{free_to_receive, holds_for, any_busy}
 use Rattle.rq_model.specs.Replay.{Number}
 use Rattle.rq_core.specs.Happenings.{Tells}
-use Rattle.rq_core.specs.Worked.{AreJudged, course, first_entries, hello, history, small, taking, txn}
+use Rattle.rq_core.specs.Worked.{AreJudged, course, first_entries, hello, history, taking, txn}
 
-told : Tells small course history
-told = (first_entries 17, (first_entries 16, (first_entries 15, (first_entries 15, (first_entries 15, (first_entries 14, (first_entries 13, (first_entries 12, (first_entries 11, (first_entries 10, (first_entries 10, (first_entries 10, (first_entries 9, (first_entries 8, (first_entries 7, (first_entries 6, (first_entries 5, (first_entries 4, (first_entries 3, (first_entries 2, (first_entries 1, (first_entries 0, refl, (refl, omega arith, refl)), (Begun (txn 1 1), refl, tt, refl, tt)), (Started (txn 1 1) 1 (Sending hello), (refl, refl), tt, refl, tt)), (Stepped (txn 1 1) 1 2, refl, tt, refl, tt)), (Stepped (txn 1 1) 1 3, refl, tt, refl, tt)), (Did (txn 1 1) 1 (Send hello), (hello, refl), tt, refl, tt)), (Committed (txn 1 1) 5, (refl, refl), tt, refl, tt)), (Acknowledged (txn 1 1) 5 false, refl, tt, refl, tt)), (Forced 5, refl, tt, refl, tt)), (Acknowledged (txn 1 1) 5 true, (refl, refl), tt, refl, tt)), (tt, refl)), (refl, (λ e. cc e), refl)), (Begun (txn 1 2), refl, tt, refl, tt)), (Committed (txn 1 2) 6, (refl, refl), tt, refl, tt)), ((refl, refl), refl)), (Refused_entry (Acknowledge (txn 1 1) 5) Failed, refl, tt, refl, tt)), (refl, refl)), (tt, refl)), (refl, tt, refl, refl)), (tt, refl)), (refl, omega arith, refl)), (Acknowledged (txn 1 1) 5 false, refl, tt, refl, tt))
+told : Tells course history
+told = (first_entries 17, (first_entries 16, (first_entries 15, (first_entries 15, (first_entries 15, (first_entries 14, (first_entries 13, (first_entries 12, (first_entries 11, (first_entries 10, (first_entries 10, (first_entries 10, (first_entries 9, (first_entries 8, (first_entries 7, (first_entries 6, (first_entries 5, (first_entries 4, (first_entries 3, (first_entries 2, (first_entries 1, (first_entries 0, refl, (refl, refl)), (Begun (txn 1 1), refl, tt, refl)), (Started (txn 1 1) 1 (Sending hello), (refl, refl), tt, refl)), (Stepped (txn 1 1) 1 2, refl, tt, refl)), (Stepped (txn 1 1) 1 3, refl, tt, refl)), (Did (txn 1 1) 1 (Send hello), (hello, refl), tt, refl)), (Committed (txn 1 1) 5, (refl, refl), tt, refl)), (Acknowledged (txn 1 1) 5 false, refl, tt, refl)), (Forced 5, refl, tt, refl)), (Acknowledged (txn 1 1) 5 true, (refl, refl), tt, refl)), (tt, refl)), (refl, (λ e. cc e), refl)), (Begun (txn 1 2), refl, tt, refl)), (Committed (txn 1 2) 6, (refl, refl), tt, refl)), ((refl, refl), refl)), (Refused_entry (Acknowledge (txn 1 1) 5) Failed, refl, tt, refl)), (refl, refl)), (tt, refl)), (refl, refl, refl)), (tt, refl)), (refl, refl)), (Acknowledged (txn 1 1) 5 false, refl, tt, refl))
 
 -- where the only message is another's, no free group holds one
 abbrev taken : List Entry
@@ -33,15 +33,12 @@ judged = record {
   call_that_crashes = λ h t. t.2.0;
   crash_left_out = λ h t. t.2.0;
   restart_answered_as_a_call = λ h t. t.2;
-  undone_without_an_end = λ h t. (let none = ap (λ (k : List Entry). (ledger k).records) t.1 in let few = t.2.1 in omega (arith, none, few));
-  aborted_without_an_end = λ h t. (let none = ap (λ (k : List Entry). (ledger k).records) t.1 in let few = t.2.1 in omega (arith, none, few));
   running_while_shut = λ h t. t.2.1 (ap (λ (k : List Entry). (ledger k).phase) t.1);
-  refused_for_damage = λ h t. t.2.1;
   damaged_while_open = λ h t. t.2.2;
   failed_without_a_write = λ h t. cc t.2.2;
-  latched_with_nothing_under_way = λ h t. cc (sym (ap (λ (k : List Entry). any_busy (ledger k).open_ones) t.1.2.2) ∙ t.2.2);
+  latched_with_nothing_under_way = λ h t. cc (sym (ap (λ (k : List Entry). any_busy (ledger k).open_ones) t.1.2.1) ∙ t.2.2);
   memory_of_a_step = λ h t. cc t.2.2;
-  refused_while_open = λ h t. cc (sym (ap (λ (k : List Entry). (ledger k).phase) t.1.2.2) ∙ t.2.2);
+  refused_while_open = λ h t. cc (sym (ap (λ (k : List Entry). (ledger k).phase) t.1.2.1) ∙ t.2.1);
   acknowledged_of_no_commit = λ h t. t.2;
   answered_before_the_first = λ h t. t.2;
   loses_what_was_left = λ h a. (let e : 3 ≤ 1 = a.0.forced in omega (arith, e));

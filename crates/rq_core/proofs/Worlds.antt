@@ -1,22 +1,22 @@
 -- Each kind of happening keeps what is so of a store between two of them.
 use Rattle.std.specs.Prelude.{◌==◌, if◌then◌else◌}
-use Rattle.std.proofs.Common.{true≢false, Bool, Option, ◌||◌, ◌≢◌, ◌≡◌, ℕ, ◌+◌, List, [], ◌∷◌, ◌++◌, length, take, drop, refl, sym, ◌∙◌, ap, subst, true, false, Some, None, arith, append_assoc, inl, inr, ◌⊎◌}
+use Rattle.std.proofs.Common.{Bool, Option, ◌||◌, ◌≢◌, ◌≡◌, ℕ, ◌+◌, List, [], ◌∷◌, ◌++◌, length, take, drop, refl, sym, ◌∙◌, ap, subst, true, false, Some, None, arith, append_assoc, inl, inr, ◌⊎◌}
 use Rattle.std.proofs.lemmas.Bool.{cases_eq}
 use Rattle.std.proofs.lemmas.Bool.Decides.{nat_tests}
-use Rattle.std.proofs.lemmas.List.{take-append-drop, length-append, length-drop}
+use Rattle.std.proofs.lemmas.List.{take-append-drop, length-drop}
 use Rattle.rq_model.specs.declared.record.Record.{Record}
 use Rattle.rq_model.specs.declared.refusal.Refusal.{Refusal}
 use Rattle.rq_model.specs.declared.refusal.Refusal.TheVariants as why
 use Rattle.rq_model.specs.Words.{In, is_some}
-use Rattle.rq_model.specs.History.{Call, Entry, commits}
+use Rattle.rq_model.specs.History.{Entry, commits}
 use Rattle.rq_model.specs.History.Call.{Hand_over}
 use Rattle.rq_model.specs.History.Entry.{Crash as Crash_entry, Restarted as Restarted_entry}
 use Rattle.rq_model.specs.Incarnations.{Extends, Ties, ArePlain, incarnation_of}
 use Rattle.rq_model.specs.Commits.{committed_of}
 use Rattle.rq_model.specs.Ledger.{Ledger, ledger, after, kept_in}
 use Rattle.rq_model.specs.Ledger.Phase.{Shut}
-use Rattle.rq_model.specs.Legal.{Legal, IsLegal, LegalRefusal}
-use Rattle.rq_model.specs.Tests.{Size, any_busy, starts}
+use Rattle.rq_model.specs.Legal.{Legal, IsLegal}
+use Rattle.rq_model.specs.Tests.{any_busy}
 use Rattle.rq_model.specs.Promises.{CrashGoesOn, ShutCrashGoesOn, RestartGoesOn, EndsInCrash, crash_to}
 use Rattle.rq_model.specs.Replay.{Says}
 use Rattle.rq_model.specs.Promises.{AcknowledgedStay, FifoThroughout}
@@ -28,13 +28,11 @@ use Rattle.rq_log.specs.Spelled.{spelled, AreSpelled}
 use Rattle.rq_page.specs.Sizes.{Sizes, IsInRange}
 use Rattle.rq_pool.specs.Reading.{IsSuperblock}
 use Rattle.rq_store.specs.State.{State, ledger_of, size_of, phase_of}
-use Rattle.rq_sound.specs.Latching.{IsLatched}
 use Rattle.rq_sound.specs.Sound.{IsSound}
-use Rattle.rq_store.specs.Whole.{IsWhole}
 use Rattle.rq_store.specs.Opening.{IsLeft, next_restart}
 use Rattle.rq_store.specs.Fitting.{AllFit, FitsLog, FitsPage}
 use Rattle.rq_page.specs.Formatted.{IsFormatted, IsHeaderOf}
-use Rattle.rq_engine.specs.Applied.{Applied, LatchedSay, RefusalLeaves, WriteFails}
+use Rattle.rq_engine.specs.Applied.{Applied, RefusalLeaves, WriteFails}
 use Rattle.rq_engine.specs.Crash.{AreFit, IsCut, LeavesCut}
 use Rattle.rq_engine.specs.Devices.{EachPair}
 use Rattle.rq_engine.specs.Opened.{OpenStore}
@@ -49,18 +47,16 @@ use Rattle.rq_engine.specs.declared.event.Outcome.TheVariants as outcome
 use Rattle.rq_engine.specs.declared.event.Progress.TheVariants as progress
 use Rattle.rq_engine.specs.declared.event.Reply.{Reply}
 use Rattle.rq_engine.specs.declared.event.Reply.TheVariants as reply
-use Rattle.rq_restart.specs.Restarting.{IsReadAs, IsLeftOn, IsOpenedOver, Reports, Stops}
+use Rattle.rq_restart.specs.Restarting.{IsReadAs, IsLeftOn, IsOpenedOver, Reports}
 use Rattle.rq_lost.specs.Recovered.{IsRecovered, IsRecoveredFrom}
 use Rattle.rq_lost.proofs.Recovering.{recovered_from}
 use Rattle.rq_restart.proofs.Begun.{mended_incarnation}
-use Rattle.rq_restart.specs.declared.restart.Report.{Report as Restart_report}
 use Rattle.rq_restart.specs.Underway.{IsStore, IsSomeStore, IsLeftOrGoesOn}
 use Rattle.rq_restart.specs.Once.{OneLogEach, AsManyAsTheLog, OneSizeEach}
-use Rattle.rq_core.specs.Views.{report_of}
-use Rattle.rq_core.specs.Happenings.{CountsEnds, Happening, HasLatches, IsLatchedThere, Course, Tells, AddsCall, called, is_of_device, MayStayShut}
+use Rattle.rq_core.specs.Happenings.{Happening, Report, Course, Tells, AddsCall, called, is_of_device}
 use Rattle.rq_core.specs.Happenings.Answer.{Answered, Crashed}
 use Rattle.rq_core.specs.Headline.{LeavesStores, LeftLast, IsHeadline}
-use Rattle.rq_core.proofs.Unended.{ends_added}
+use Rattle.rq_core.specs.Happened.{IsCrashed}
 use Rattle.rq_core.specs.World.{World, IsShut, IsOpen, Ran, CanCrash}
 use Rattle.rq_core.specs.World.World.{Is_shut, Is_open}
 
@@ -82,7 +78,7 @@ pub record StandsAt (h : List Entry) (s : State) : Type 0 where
   pub incarnation : (ledger h).incarnation ≡ s.incarnation
   pub runs : (ledger h).phase ≡ Shut → ⊥
 
-stands_at : (h : List Entry) (s : State) → ledger_of s ≡ ledger h → StandsAt h s
+pub stands_at : (h : List Entry) (s : State) → ledger_of s ≡ ledger h → StandsAt h s
 stands_at h s e = record {
   committed = ap (λ (l : Ledger). l.committed) (sym e);
   records = ap (λ (l : Ledger). l.records) (sym e);
@@ -113,46 +109,6 @@ caused e (reply.Finished outcome.Closed) s h = tt
 caused e (reply.Finished outcome.Undone) s h = tt
 caused e _ s h = tt
 
--- a refusal as latched has its cause: the store that the call met
-module _ (z : Size) (l : Ledger) (s : State) (sizes : size_of s.sizes ≡ z) (is : ledger_of s ≡ l) (sound : IsSound s) where
-  starts_none : (c : Call) → starts (size_of s.sizes) (ledger_of s) c ≡ false → LegalRefusal (size_of s.sizes) (ledger_of s) c why.Latched → IsLatchedThere z l c
-  starts_none c none legal = absurd (true≢false (sym legal.1 ∙ none))
-
-  there : (c : Call) → IsLatched s c → IsLatchedThere z l c
-  there c latched = (s, sizes, is, sound, latched)
-
-  by_latches : (e : Event) → LegalRefusal (size_of s.sizes) (ledger_of s) (call_of e) why.Latched → LatchedSay s e (reply.Refused why.Latched) → IsLatchedThere z l (call_of e)
-  by_latches event.Begin legal say = starts_none (call_of event.Begin) refl legal
-  by_latches (event.StartSend txn sender tag body) legal say = there (call_of (event.StartSend txn sender tag body)) say
-  by_latches (event.StartReceive txn) legal say = there (call_of (event.StartReceive txn)) say
-  by_latches (event.StartReceiveFrom txn sender) legal say = there (call_of (event.StartReceiveFrom txn sender)) say
-  by_latches (event.StartClose txn sender) legal say = there (call_of (event.StartClose txn sender)) say
-  by_latches (event.Step sub) legal say = starts_none (call_of (event.Step sub)) refl legal
-  by_latches (event.Finish sub) legal say = starts_none (call_of (event.Finish sub)) refl legal
-  by_latches (event.Commit txn) legal say = starts_none (call_of (event.Commit txn)) refl legal
-  by_latches (event.Acknowledged number) legal say = starts_none (call_of (event.Acknowledged number)) refl legal
-  by_latches (event.StartAbort txn) legal say = starts_none (call_of (event.StartAbort txn)) refl legal
-  by_latches (event.UndoNext txn) legal say = there (call_of (event.UndoNext txn)) say
-  by_latches (event.EndAbort txn) legal say = starts_none (call_of (event.EndAbort txn)) refl legal
-  by_latches event.HandOver legal say = starts_none (call_of event.HandOver) refl legal
-  by_latches event.Force legal say = starts_none (call_of event.Force) refl legal
-  by_latches (event.WritePage page) legal say = starts_none (call_of (event.WritePage page)) refl legal
-  by_latches (event.LastTag sender) legal say = starts_none (call_of (event.LastTag sender)) refl legal
-  by_latches event.Content legal say = starts_none (call_of event.Content) refl legal
-
-has_latches : (z : Size) (l : Ledger) (e : Event) (r : Reply) (s : State) (entry : Entry) → size_of s.sizes ≡ z → ledger_of s ≡ l → IsSound s → Says (call_of e) (gave r) entry → Legal (size_of s.sizes) (ledger_of s) entry → LatchedSay s e r
-    → HasLatches z l (call_of e) (gave r)
-has_latches z l e (reply.Refused why.Latched) s entry sizes is sound says legal say =
-    by_latches z l s sizes is sound e (subst (Legal (size_of s.sizes) (ledger_of s)) says legal) say
-has_latches z l e (reply.Refused r) s entry sizes is sound says legal say = tt
-has_latches z l e (reply.Stepped progress.Ready) s entry sizes is sound says legal say = tt
-has_latches z l e (reply.Stepped (progress.Done lsn)) s entry sizes is sound says legal say = tt
-has_latches z l e (reply.Finished outcome.Sent) s entry sizes is sound says legal say = tt
-has_latches z l e (reply.Finished (outcome.Message m)) s entry sizes is sound says legal say = tt
-has_latches z l e (reply.Finished outcome.Closed) s entry sizes is sound says legal say = tt
-has_latches z l e (reply.Finished outcome.Undone) s entry sizes is sound says legal say = tt
-has_latches z l e _ s entry sizes is sound says legal say = tt
-
 module _ {P L : Type 0} (p : page_device.Ghosts P) (l : log_device.Ghosts L) (honest_p : (d : P) → p.honest d) (honest_l : (d : L) → l.honest d) (z : Sizes) where
   abbrev Ran_to : Course → World P L → Type 0
   Ran_to course w = Ran p l z course w
@@ -165,7 +121,7 @@ module _ {P L : Type 0} (p : page_device.Ghosts P) (l : log_device.Ghosts L) (ho
       let s = a.steps (honest_p new.pages, honest_l new.log) o.sound in
       record {
         history = s.entry ∷ ran.history;
-        tells = (ran.history, ran.tells, subst (λ c. AddsCall (size_of z) c (gave r) ran.history (s.entry ∷ ran.history)) (sym is) (s.entry, s.says, subst (λ l. IsCaused (any_busy l.open_ones) (call_of e) (gave r)) o.ledger (caused e r old.state (a.cause (honest_p new.pages, honest_l new.log) o.sound)), refl, has_latches (size_of z) (ledger ran.history) e r old.state s.entry (ap size_of o.sizes) o.ledger o.sound s.says s.legal (a.latched o.sound)));
+        tells = (ran.history, ran.tells, subst (λ c. AddsCall c (gave r) ran.history (s.entry ∷ ran.history)) (sym is) (s.entry, s.says, subst (λ l. IsCaused (any_busy l.open_ones) (call_of e) (gave r)) o.ledger (caused e r old.state (a.cause (honest_p new.pages, honest_l new.log) o.sound)), refl));
         legal = (subst (λ b. Legal (size_of z) b s.entry) o.ledger (subst (λ y. Legal (size_of y) (ledger_of old.state) s.entry) o.sizes s.legal), ran.legal);
         stands = record {
           sizes = a.sizes ∙ o.sizes;
@@ -260,15 +216,8 @@ module _ {P L : Type 0} (p : page_device.Ghosts P) (l : log_device.Ghosts L) (ho
       let store : IsStore z x.0 images bytes = x.2 in
       (x.0, store, law h s.older x.0 legal s.phase s.ties x.1 store.left.whole.order store.left.whole.rules)
 
-  -- what a crash makes of both devices
-  pub record IsCrashed (pages new_pages : P) (log new_log : L) (count : ℕ) : Type 0 where
-    pub pages_left : (images : Images) → Leaves (p.may_be new_pages) images → Leaves (p.may_be pages) images
-    pub log_left : (bytes : List ℕ) → l.may_leave new_log bytes → l.may_leave log bytes
-    pub log_only : (bytes : List ℕ) → l.may_leave new_log bytes → bytes ≡ l.seen new_log
-    pub holds : HoldsRecords (l.seen new_log) count
-
   module _ (some_p : (d : P) (page : ℕ) → p.may_be d page (p.seen d page)) (some_l : (d : L) → l.may_leave d (l.seen d)) (one : OneLogEach) where
-    pub crashed : (tally : AsManyAsTheLog) (course : Course) (x : Happening) (pages new_pages : P) (log new_log : L) (count : ℕ) → CanCrash p l z course x pages log → IsCrashed pages new_pages log new_log count
+    pub crashed : (tally : AsManyAsTheLog) (course : Course) (x : Happening) (pages new_pages : P) (log new_log : L) (count : ℕ) → CanCrash p l z course x pages log → IsCrashed p l pages new_pages log new_log count
         → Ran_to ((x, Crashed count) ∷ course) (Is_shut new_pages new_log)
     crashed tally course x pages new_pages log new_log count can c =
         let h = can.history in
@@ -336,12 +285,11 @@ module _ {P L : Type 0} (p : page_device.Ghosts P) (l : log_device.Ghosts L) (ho
     extends_join a b c g h = (h.0 ++ g.0, append_assoc h.0 g.0 a ∙ ap (λ k. h.0 ++ k) g.1 ∙ h.1, plain_join h.0 g.0 h.2 g.2)
 
     -- a restart that opened the store
-    pub record IsReopened (h : List Entry) (report : Restart_report) (new : OpenStore P L) : Type 0 where
+    pub record IsReopened (h : List Entry) (report : Report) (new : OpenStore P L) : Type 0 where
       pub legal : IsLegal (size_of z) (Restarted_entry report.incarnation report.records ∷ h)
       pub stands : IsOpen p l z (Restarted_entry report.incarnation report.records ∷ h) new
-      pub counts : CountsEnds (ledger h) (report_of report)
 
-    pub reopened : (size_once : OneSizeEach) (goes : RestartGoesOn (size_of z)) (h : List Entry) (pages : P) (log : L) (report : Restart_report) (new : OpenStore P L) → IsLegal (size_of z) h → IsShut p l z h pages log
+    pub reopened : (size_once : OneSizeEach) (goes : RestartGoesOn (size_of z)) (h : List Entry) (pages : P) (log : L) (report : Report) (new : OpenStore P L) → IsLegal (size_of z) h → IsShut p l z h pages log
         → ((older : List Record) → IsReadAs l log new.log older → Reports new.state.sizes older new.state.records report.incarnation report.records report.unfinished report.lost)
         → ((older : List Record) → IsReadAs l log new.log older → IsOpenedOver older new.state)
         → (p.honest new.pages → IsSuperblock new.state.sizes (p.seen pages 0))
@@ -375,15 +323,6 @@ module _ {P L : Type 0} (p : page_device.Ghosts P) (l : log_device.Ghosts L) (ho
             sound = sound now read on;
             fit = fit now read (subst (λ y. AllFit (p.may_be pages) y now) (sym is) (all_fit h pages log now s store.are_spelled store.is));
           };
-          counts =
-              let whole : IsWhole new.state.sizes now = subst (λ y. IsWhole y now) (sym is) store.left.whole in
-              let none_less = ends_added z now mended store.left.whole from in
-              let before = ap (λ n. length n) x.1.1 in
-              let joined = length-append x.1.0 s.older in
-              let start = s.ties.records in
-              let gone = told.unfinished_are whole in
-              let lost_too = told.lost_are whole in
-              omega (arith, none_less, before, joined, start, gone, lost_too, all);
         }
 
     -- the log of a store that is shut, as it is read
@@ -422,7 +361,7 @@ module _ {P L : Type 0} (p : page_device.Ghosts P) (l : log_device.Ghosts L) (ho
           over images bytes now store (inr more) = extends_join s.older r.read now r.more more
 
   -- the headline, where an open store is given up, and where one is shut
-  pub headline : (fifo : (h : List Entry) → IsLegal (size_of z) h → FifoThroughout h) (stay : AcknowledgedStay (size_of z)) (course : Course) (h : List Entry) (pages : P) (log : L) → Tells (size_of z) course h → IsLegal (size_of z) h
+  pub headline : (fifo : (h : List Entry) → IsLegal (size_of z) h → FifoThroughout h) (stay : AcknowledgedStay (size_of z)) (course : Course) (h : List Entry) (pages : P) (log : L) → Tells course h → IsLegal (size_of z) h
       → LeavesStores p l z h pages log → LeftLast p l z course pages log → IsHeadline p l z course pages log
   headline fifo stay course h pages log tells legal leaves last = record {
     history = h;
@@ -433,12 +372,3 @@ module _ {P L : Type 0} (p : page_device.Ghosts P) (l : log_device.Ghosts L) (ho
     leaves = leaves;
     left = last;
   }
-
--- why a store that was left so was not opened
-pub may_stay : (r : Refusal) (left : Type 0) (z : Sizes) (older : List Record) (a b c d : ℕ) → left → Stops left z older r a b c d → MayStayShut r
-may_stay why.NoMemory left z older a b c d there s = tt
-may_stay why.DiskRead left z older a b c d there s = tt
-may_stay why.DiskWrite left z older a b c d there s = tt
-may_stay why.LogFull left z older a b c d there s = tt
-may_stay (why.Damaged e) left z older a b c d there s = absurd (s there)
-may_stay _ left z older a b c d there s = absurd s

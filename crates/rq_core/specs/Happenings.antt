@@ -1,19 +1,16 @@
 -- What may happen to a store, what is answered, and the history that this tells.
-use Rattle.std.specs.Prelude.{◌≡◌, ℕ, ◌+◌, ◌≤◌, zero, suc, Bool, true, false, IsTrue, List, [], ◌∷◌, Option, Some, None, map, reverse, slice_get}
+use Rattle.std.specs.Prelude.{◌≡◌, ℕ, zero, suc, Bool, true, false, IsTrue, List, [], ◌∷◌, Option, Some, None, map, reverse, slice_get}
 use Rattle.rq_model.specs.declared.refusal.Refusal.{Refusal}
 use Rattle.rq_model.specs.declared.refusal.Refusal.TheVariants as why
 use Rattle.rq_model.specs.History.{Entry, Call}
 use Rattle.rq_model.specs.History.Call.{Acknowledge}
 use Rattle.rq_model.specs.History.Entry.{Crash as Crash_entry, Restarted as Restarted_entry}
-use Rattle.rq_model.specs.Ledger.{Ledger, Phase, ledger, kept_in}
+use Rattle.rq_model.specs.Ledger.{Phase, ledger, kept_in}
 use Rattle.rq_model.specs.Ledger.Phase.{Running as Runs, Shut}
 use Rattle.rq_model.specs.Replay.{Reply, Says}
 use Rattle.rq_model.specs.Causes.{IsCaused, writes_out}
-use Rattle.rq_model.specs.Replay.Reply.{Gave_commit, Gave_refusal}
-use Rattle.rq_model.specs.Tests.{Size, any_busy}
-use Rattle.rq_store.specs.State.{State, ledger_of, size_of}
-use Rattle.rq_sound.specs.Latching.{IsLatched}
-use Rattle.rq_sound.specs.Sound.{IsSound}
+use Rattle.rq_model.specs.Replay.Reply.{Gave_commit}
+use Rattle.rq_model.specs.Tests.{any_busy}
 
 pub data Happening : Type 0 where
   Asks : (call : Call) → Happening
@@ -112,53 +109,31 @@ MayCrashIt (Stops_in call) phase = (phase ≡ Runs) × (writes_out call ≡ true
 MayCrashIt Stops_restart phase = phase ≡ Shut
 MayCrashIt _ phase = ⊥
 
--- why a store that a crash left may stay shut: never for what stands on its devices
-abbrev pub MayStayShut : Refusal → Type 0
-MayStayShut why.NoMemory = Unit {0}
-MayStayShut why.DiskRead = Unit {0}
-MayStayShut why.DiskWrite = Unit {0}
-MayStayShut why.LogFull = Unit {0}
-MayStayShut _ = ⊥
-
 -- by it a device's failure is told
 abbrev pub is_of_device : Refusal → Bool
 is_of_device why.DiskRead = true
 is_of_device why.DiskWrite = true
 is_of_device _ = false
 
--- some sound store of this size comes to the ledger, in which whatever the call may start needs a latched page
-abbrev pub IsLatchedThere : Size → Ledger → Call → Type 0
-IsLatchedThere z l call = (s : State) × (size_of s.sizes ≡ z) × (ledger_of s ≡ l) × IsSound s × IsLatched s call
-
--- it is refused as latched only where that is so
-abbrev pub HasLatches : Size → Ledger → Call → Reply → Type 0
-HasLatches z l call (Gave_refusal why.Latched) = IsLatchedThere z l call
-HasLatches z l call reply = Unit {0}
-
 -- the call with its reply is one entry more, and a refusal comes with its cause
-abbrev pub AddsCall : Size → Option Call → Reply → List Entry → List Entry → Type 0
-AddsCall z None reply older h = ⊥
-AddsCall z (Some call) reply older h = (e : Entry) × Says call reply e × IsCaused (any_busy (ledger older).open_ones) call reply
-    × (h ≡ e ∷ older) × HasLatches z (ledger older) call reply
-
--- What a restart reports is in the log: behind the records that there were stands an end of each operation and of each
--- transaction that had none, and then its own record.
-abbrev pub CountsEnds : Ledger → Report → Type 0
-CountsEnds l report = l.records + report.unfinished + report.lost + 1 ≤ report.records
+abbrev pub AddsCall : Option Call → Reply → List Entry → List Entry → Type 0
+AddsCall None reply older h = ⊥
+AddsCall (Some call) reply older h = (e : Entry) × Says call reply e × IsCaused (any_busy (ledger older).open_ones) call reply
+    × (h ≡ e ∷ older)
 
 -- what a happening with its answer makes of the history
-abbrev pub Adds : Size → Course → Happening → Answer → List Entry → List Entry → Type 0
-Adds z course x (Answered reply) older h = AddsCall z (called course x) reply older h
-Adds z course x (Crashed records) older h = MayCrashIt x (ledger older).phase
+abbrev pub Adds : Course → Happening → Answer → List Entry → List Entry → Type 0
+Adds course x (Answered reply) older h = AddsCall (called course x) reply older h
+Adds course x (Crashed records) older h = MayCrashIt x (ledger older).phase
     × (h ≡ Crash_entry (kept_in records (ledger older).committed) records ∷ older)
-Adds z course x (Restarted report) older h = IsTrue (restarts x) × CountsEnds (ledger older) report
+Adds course x (Restarted report) older h = IsTrue (restarts x)
     × (h ≡ Restarted_entry report.incarnation report.records ∷ older)
-Adds z course x (Refused refusal) older h = IsTrue (restarts x) × MayStayShut refusal × ((ledger older).phase ≡ Shut)
+Adds course x (Refused refusal) older h = IsTrue (restarts x) × ((ledger older).phase ≡ Shut)
     × (h ≡ older)
-Adds z course x Running older h = IsTrue (restarts x) × ((ledger older).phase ≡ Shut → ⊥) × (h ≡ older)
-Adds z course x Nothing older h = DoesNothing course x × (h ≡ older)
+Adds course x Running older h = IsTrue (restarts x) × ((ledger older).phase ≡ Shut → ⊥) × (h ≡ older)
+Adds course x Nothing older h = DoesNothing course x × (h ≡ older)
 
--- The happenings with their answers at a store of this size tell this history, for some choice of the groups that were picked.
-abbrev pub Tells : Size → Course → List Entry → Type 0
-Tells z [] h = h ≡ []
-Tells z (a ∷ course) h = (older : List Entry) × Tells z course older × Adds z course a.0 a.1 older h
+-- The happenings with their answers tell this history, for some choice of the groups that were picked.
+abbrev pub Tells : Course → List Entry → Type 0
+Tells [] h = h ≡ []
+Tells (a ∷ course) h = (older : List Entry) × Tells course older × Adds course a.0 a.1 older h

@@ -44,7 +44,7 @@ module _ {P L : Type 0} (p : page_device.Ghosts P) (l : log_device.Ghosts L) (z 
   -- they sent for it; an acknowledged commit stays.
   pub record IsHeadline (course : Course) (pages : P) (log : L) : Type 0 where
     pub history : List Entry
-    pub tells : Tells (size_of z) course history
+    pub tells : Tells course history
     pub legal : IsLegal (size_of z) history
     pub order : FifoThroughout history
     pub acknowledged : AcknowledgedAreKept history

@@ -6,3 +6,5 @@ pub mod Runs
 pub mod Views
 pub mod Worked
 pub mod World
+pub mod Happened
+pub mod Judged

@@ -1,5 +1,5 @@
 -- What the functions of a world do, over devices in memory.
-use Rattle.std.specs.Prelude.{◌≡◌, [], ◌∷◌, Some}
+use Rattle.std.specs.Prelude.{◌≡◌, [], Some}
 use Rattle.rq_model.specs.History.{Call}
 use Rattle.rq_model.specs.declared.refusal.Refusal.{Refusal}
 use Rattle.rq_disk.specs.declared.mem_log.MemLog.{MemLog}
@@ -8,11 +8,14 @@ use Rattle.rq_page.specs.Sizes.{Sizes, IsInRange}
 use Rattle.rq_engine.specs.Devices.{EachPair}
 use Rattle.rq_restart.specs.Underway.{IsStore}
 use Rattle.rq_core.specs.Devices.{mem_pages, mem_log}
-use Rattle.rq_core.specs.Happenings.{Happening, Answer, Course, MayStayShut, called}
+use Rattle.rq_core.specs.Happenings.{Happening, Answer, Course, Report, called}
+use Rattle.rq_core.specs.Happenings.Answer.{Crashed}
+use Rattle.rq_engine.specs.Opened.{OpenStore}
 use Rattle.rq_core.specs.Headline as headline
 use Rattle.rq_core.specs.World.{World}
 use Rattle.rq_core.specs.World.World.{Is_shut}
 use Rattle.rq_core.specs.World as world
+use Rattle.rq_core.specs.Happened as happened
 
 abbrev pub MemWorld : Type 0
 MemWorld = World MemPages MemLog
@@ -28,11 +31,37 @@ CanCrash z course x pages log = world.CanCrash mem_pages mem_log z course x page
 abbrev pub IsHeadline : Sizes → Course → MemPages → MemLog → Type 0
 IsHeadline z course pages log = headline.IsHeadline mem_pages mem_log z course pages log
 
--- Where this may happen, with this answer, one world becomes the other: whatever course led to the one goes on to the
--- other.
-abbrev pub GoesOn : (Course → Happening → Type 0) → MemWorld → Answer → MemWorld → Type 0
-GoesOn May old a new = (z : Sizes) (course : Course) (x : Happening) → May course x → Ran z course old
-    → Ran z ((x, a) ∷ course) new
+-- the happening met the one world, was answered so, and left the other
+abbrev pub Happened : Course → Happening → MemWorld → Answer → MemWorld → Type 0
+Happened course x old a new = happened.Happened mem_pages mem_log course x old a new
+
+-- the course led to the world
+abbrev pub Led : Sizes → Course → MemWorld → Type 0
+Led z course w = happened.Led mem_pages mem_log z course w
+
+-- the course was run, and these are the devices at its end
+abbrev pub IsRun : Sizes → Course → MemPages → MemLog → Type 0
+IsRun z course pages log = happened.IsRun mem_pages mem_log z course pages log
+
+-- the world is given up with these devices
+abbrev pub GivesUp : MemWorld → MemPages → MemLog → Type 0
+GivesUp w pages log = happened.GivesUp mem_pages mem_log w pages log
+
+abbrev pub IsOpened : MemPages → MemLog → Report → OpenStore MemPages MemLog → Type 0
+IsOpened pages log report new = happened.IsOpened mem_pages mem_log pages log report new
+
+abbrev pub IsRefused : MemPages → MemLog → Refusal → MemPages → MemLog → Type 0
+IsRefused pages log r new_pages new_log = happened.IsRefused mem_pages mem_log pages log r new_pages new_log
+
+-- a crash leaves this of both devices, and is answered so
+abbrev pub IsLeftBy : MemPages → MemLog → Answer → MemWorld → Type 0
+IsLeftBy pages log (Crashed n) (Is_shut new_pages new_log) =
+    happened.IsCrashed mem_pages mem_log pages new_pages log new_log n
+IsLeftBy pages log _ _ = ⊥
+
+-- in any course where the happening may be this
+abbrev pub HappensIn : (Course → Happening → Type 0) → MemWorld → Answer → MemWorld → Type 0
+HappensIn May old a new = (course : Course) (x : Happening) → May course x → Happened course x old a new
 
 -- the happening makes this call
 abbrev pub Makes : Call → Course → Happening → Type 0
@@ -41,12 +70,6 @@ Makes call course x = called course x ≡ Some call
 -- it is this one
 abbrev pub Is : Happening → Course → Happening → Type 0
 Is y course x = x ≡ y
-
--- A restart was refused: whatever led to the store that was shut leads to it still, as the restart has left its
--- devices.
-abbrev pub GoesOnShut : MemPages → MemLog → MemPages → MemLog → Refusal → Type 0
-GoesOnShut pages log new_pages new_log refusal = (z : Sizes) (course : Course) (r : Ran z course (Is_shut pages log))
-    → world.IsShut mem_pages mem_log z r.history new_pages new_log × MayStayShut refusal
 
 -- a store that is formatted: whatever a crash leaves of it is a store with no record
 pub record IsFresh (z : Sizes) (pages : MemPages) (log : MemLog) : Type 0 where

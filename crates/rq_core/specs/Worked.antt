@@ -105,7 +105,7 @@ other = record { txn = txn 1 1; lsn = 4 }
 
 -- one happening with its answer tells no history, whatever came before it
 abbrev pub TellsNothing : Course → Happening → Answer → Type 0
-TellsNothing so_far x a = (h : List Entry) → Tells small ((x, a) ∷ so_far) h → ⊥
+TellsNothing so_far x a = (h : List Entry) → Tells ((x, a) ∷ so_far) h → ⊥
 
 -- the message of sender 0 is taken by a transaction that has not ended
 abbrev pub taking : List Entry
@@ -113,7 +113,7 @@ taking = Stepped (txn 1 2) 1 6 ∷ Started (txn 1 2) 1 (Taking 0) ∷ first_entr
 
 -- what is so of them
 pub record AreJudged : Type 0 where
-  pub told : Tells small course history
+  pub told : Tells course history
   pub legal : IsLegal small history
   -- what was not answered so tells nothing
   pub another_receipt : TellsNothing [] (Asks (Acknowledge (txn 1 1) 5)) (Answered (Gave_receipt (Some other)))
@@ -121,11 +121,7 @@ pub record AreJudged : Type 0 where
   pub call_that_crashes : TellsNothing [] (Asks Begin) (Crashed 0)
   pub crash_left_out : TellsNothing [] Crashes Nothing
   pub restart_answered_as_a_call : TellsNothing [] Restarts (Answered (Gave_txn (txn 1 1)))
-  -- an operation was undone, or a transaction, and has no end in the log
-  pub undone_without_an_end : TellsNothing [] Restarts (Restarted (report 1 1 0 1))
-  pub aborted_without_an_end : TellsNothing [] Restarts (Restarted (report 1 0 1 1))
   pub running_while_shut : TellsNothing [] Restarts Running
-  pub refused_for_damage : TellsNothing [] Restarts (Refused (Damaged (damage.Page 0)))
   pub damaged_while_open : TellsNothing ((Restarts, Restarted (report 1 0 0 1)) ∷ []) (Asks Begin)
       (Answered (Gave_refusal (Damaged (damage.Page 0))))
   pub failed_without_a_write : TellsNothing ((Restarts, Restarted (report 1 0 0 1)) ∷ []) (Asks Begin)

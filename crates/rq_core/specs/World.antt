@@ -57,7 +57,7 @@ module _ {P L : Type 0} (p : page_device.Ghosts P) (l : log_device.Ghosts L) (z 
   -- ends.
   pub record Ran (course : Course) (world : World P L) : Type 0 where
     pub history : List Entry
-    pub tells : Tells (size_of z) course history
+    pub tells : Tells course history
     pub legal : IsLegal (size_of z) history
     pub stands : Stands history world
     pub counted : IsCounted course world
@@ -66,7 +66,7 @@ module _ {P L : Type 0} (p : page_device.Ghosts P) (l : log_device.Ghosts L) (z 
   pub record CanCrash (course : Course) (x : Happening) (pages : P) (log : L) : Type 0 where
     pub range : IsInRange z
     pub history : List Entry
-    pub tells : Tells (size_of z) course history
+    pub tells : Tells course history
     pub legal : IsLegal (size_of z) history
     pub may : MayCrashIt x (ledger history).phase
     pub leaves : LeavesStores p l z history pages log

@@ -6,10 +6,18 @@ ghost use Rattle.rq_model.specs.Tests.{Size};
 ghost use Rattle.rq_model.specs.Promises.{AcknowledgedStay, FifoThroughout, NothingBehindClose};
 ghost use Rattle.rq_core.specs.Always.{ContentIsTheRest, NoneIsExact};
 ghost use Rattle.rq_core.specs.Worked.{AreJudged};
+ghost use Rattle.rq_page.specs.Sizes.{Sizes};
+ghost use Rattle.rq_disk.specs.declared.mem_log.MemLog.{MemLog};
+ghost use Rattle.rq_disk.specs.declared.mem_pages.MemPages.{MemPages};
+ghost use Rattle.rq_core.specs.Happenings.{Course};
+ghost use Rattle.rq_core.specs.Runs.{IsHeadline, IsRun, Led, MemWorld, Ran};
+ghost use Rattle.rq_core.specs.Judged.{AreRunsJudged};
 
 use rq_model::laws::{
-    acknowledged_stay, first_in_first_out, nothing_behind_close, shown_is_committed,
+    acknowledged_stay, crash_goes_on, first_in_first_out, nothing_behind_close, restart_goes_on,
+    shown_is_committed, shut_crash_goes_on, still_store_refuses,
 };
+use rq_restart::laws::{one_log, one_size, records_are_the_log};
 
 /// Of every history with legal replies, and with crashes and restarts as they may come: at every place of it, what
 /// committed transactions received from each sender is a beginning of its committed sends, in order, each once; the
@@ -33,3 +41,30 @@ pub fn always()
 pub fn courses_are_judged()
     ensures { AreJudged }
 {}
+
+/// Of every run: its answers tell a history with legal replies, and all that the headline says; and each store that it
+/// meets is sound, and stands where the history ends that led to it.
+pub fn a_run_is_told()
+    ensures met { (z : Sizes) (c : Course) (w : MemWorld) → Led z c w → Ran z c w }
+    ensures headline { (z : Sizes) (c : Course) (pages : MemPages) (log : MemLog) → IsRun z c pages log
+        → IsHeadline z c pages log }
+{
+    first_in_first_out();
+    acknowledged_stay();
+    crash_goes_on();
+    shut_crash_goes_on();
+    restart_goes_on();
+    still_store_refuses();
+    one_log();
+    one_size();
+    records_are_the_log();
+}
+
+/// What a run refuses: replies, refusals and reports that the store did not give.
+pub fn runs_are_judged()
+    ensures { AreRunsJudged }
+{
+    a_run_is_told();
+    one_log();
+    one_size();
+}

@@ -1,31 +1,26 @@
 //! A store over devices in memory, and what happens to it: calls, failures of devices, crashes at any device
 //! call, restarts.
-ghost use Rattle.std.specs.Prelude.{◌≡◌, ◌∷◌, ◌↔◌, IfOk, IfSome, IfNone, IfErr, IsTrue, Some, None, List, length, map, option_map, true};
+ghost use Rattle.std.specs.Prelude.{◌≡◌, IfOk, IfErr, IsTrue, Some, None, length, map, option_map, true};
 ghost use Rattle.rq_model.specs.History.{Call};
 ghost use Rattle.rq_model.specs.History.Call.{Acknowledge};
 ghost use Rattle.rq_page.specs.Sizes.{Sizes};
 ghost use Rattle.rq_engine.specs.Says.{call_of};
-ghost use Rattle.rq_core.specs.Happenings.{Course, DoesNothing, Happening as Happens, MayRestart, acknowledging, answers_of, is_of_device, nth};
-ghost use Rattle.rq_core.specs.Happenings.Answer.{Restarted};
+ghost use Rattle.rq_core.specs.Happenings.{Course, acknowledging, answers_of, is_of_device, nth};
 ghost use Rattle.rq_core.specs.Happenings.Happening.{Crashes, Restarts, Stops_in, Stops_restart};
-ghost use Rattle.rq_core.specs.Runs.{CanCrash, GoesOn, Is, IsFresh, IsHeadline, Makes, Ran, GoesOnShut};
+ghost use Rattle.rq_core.specs.Runs.{GivesUp, Happened, HappensIn, Is, IsFresh, IsHeadline, IsLeftBy, IsOpened, IsRefused, IsRun, Makes};
 ghost use Rattle.rq_core.specs.Views.{answer_in, commit_told, course, happens, report_of, world_of};
 ghost use Rattle.rq_core.specs.World.World.{Is_open, Is_shut};
 
 use crate::happening::{Choice, Entry, Happening};
+use crate::laws::a_run_is_told;
 use rq_disk::{MemLog, MemPages, Mishap, PageChoice, Switch};
 use rq_engine::engine::Engine;
 use rq_engine::event::{CommitNo, Event, Reply};
 use rq_level::Level;
-use rq_model::laws::{
-    acknowledged_stay, crash_goes_on, first_in_first_out, restart_goes_on, shut_crash_goes_on,
-    still_store_refuses,
-};
 use rq_model::refusal::Refusal;
 use rq_page::layout::Layout;
 use rq_planner::StoreLevels;
 use rq_restart::format::format;
-use rq_restart::laws::{one_log, one_size, records_are_the_log};
 use rq_restart::restart::{Report, Stopped, restart};
 use std::alloc::{AllocError, Global};
 use std::marker::Model;
@@ -88,10 +83,11 @@ impl World {
         }
     }
 
-    /// All of this happens to the store, one after the other. There is an entry for each, in order; what they
-    /// tell is a history in which each reply is legal, each crash keeps what it must, and each restart opens
-    /// what was left; and whatever a crash at its end leaves is a store with exactly what is committed. Each restart of a
-    /// store that is not open takes the last of the sets of levels; those that are left over are dropped.
+    /// All of this happens to the store, one after the other. There is an entry for each, in order: what the call, the
+    /// crash or the restart came to at the store that it met. What they tell is a history in which each reply is legal,
+    /// each crash keeps what it must, and each restart opens what was left; and whatever a crash at its end leaves is a
+    /// store with exactly what is committed. Each restart of a store that is not open takes the last of the sets of levels;
+    /// those that are left over are dropped.
     ///
     /// # Errors
     /// Where memory is wanting, or no set of levels is left for a restart.
@@ -101,6 +97,7 @@ impl World {
         mut sets: Vec<StoreLevels<B>>,
     ) -> Result<Outcome, AllocError>
         ensures each { IfOk result (λ o. length o.entries.items ≡ length happenings.now) }
+        ensures run { IfOk result (λ o. IsRun self (course happenings.now o.entries.items) o.pages o.log) }
         ensures headline { IfOk result (λ o. IsHeadline self (course happenings.now o.entries.items) o.pages o.log) }
     {
         let World {
@@ -117,6 +114,7 @@ impl World {
             store = next;
             entries.push(entry)?;
         }
+        a_run_is_told();
         let (pages, log) = given_up(store);
         Ok(Outcome {
             entries,
@@ -135,8 +133,8 @@ fn happen<B: Level>(
     entries: &[Entry],
     sets: &mut Vec<StoreLevels<B>>,
 ) -> Result<(Store<B>, Entry), AllocError>
-    ensures { IfOk result (λ r. (z : Sizes) (c : Course) → answers_of c ≡ map answer_in entries.now
-        → Ran z c (world_of store) → Ran z ((happens happening.now, answer_in r.1) ∷ c) (world_of r.0)) }
+    ensures { IfOk result (λ r. (c : Course) → answers_of c ≡ map answer_in entries.now
+        → Happened c (happens happening.now) (world_of store) (answer_in r.1) (world_of r.0)) }
 {
     match store {
         Store::Open(engine) => happen_to_open(switch, engine, happening, entries),
@@ -152,8 +150,8 @@ fn happen_to_open<B: Level>(
     happening: &Happening,
     entries: &[Entry],
 ) -> Result<(Store<B>, Entry), AllocError>
-    ensures { IfOk result (λ r. (z : Sizes) (c : Course) → answers_of c ≡ map answer_in entries.now
-        → Ran z c (Is_open engine) → Ran z ((happens happening.now, answer_in r.1) ∷ c) (world_of r.0)) }
+    ensures { IfOk result (λ r. (c : Course) → answers_of c ≡ map answer_in entries.now
+        → Happened c (happens happening.now) (Is_open engine) (answer_in r.1) (world_of r.0)) }
 {
     match happening {
         Happening::Call(event) => Ok(ask(engine, event)),
@@ -188,8 +186,8 @@ fn happen_to_shut<B: Level>(
     entries: &[Entry],
     sets: &mut Vec<StoreLevels<B>>,
 ) -> Result<(Store<B>, Entry), AllocError>
-    ensures { IfOk result (λ r. (z : Sizes) (c : Course) → answers_of c ≡ map answer_in entries.now
-        → Ran z c (Is_shut pages log) → Ran z ((happens happening.now, answer_in r.1) ∷ c) (world_of r.0)) }
+    ensures { IfOk result (λ r. (c : Course) → answers_of c ≡ map answer_in entries.now
+        → Happened c (happens happening.now) (Is_shut pages log) (answer_in r.1) (world_of r.0)) }
 {
     match happening {
         Happening::Call(_) | Happening::StopIn(..) => Ok(not_open(pages, log)),
@@ -224,9 +222,8 @@ fn next_set<B: Level>(sets: &mut Vec<StoreLevels<B>>) -> Result<StoreLevels<B>, 
 
 // The answer to a call of a store that is not open.
 fn not_open<B: Level>(pages: MemPages, log: MemLog) -> (Store<B>, Entry)
-    ensures { (call : Call) → GoesOn (Makes call) (Is_shut pages log) (answer_in result.1) (world_of result.0) }
+    ensures { (call : Call) → HappensIn (Makes call) (Is_shut pages log) (answer_in result.1) (world_of result.0) }
 {
-    still_store_refuses();
     (
         Store::Shut(pages, log),
         Entry::Answered(Reply::Refused(Refusal::Failed)),
@@ -235,15 +232,14 @@ fn not_open<B: Level>(pages: MemPages, log: MemLog) -> (Store<B>, Entry)
 
 // The power fails while the store is not open: all that its devices hold outlives it.
 fn crash_shut<B: Level>(pages: MemPages, log: MemLog) -> (Store<B>, Entry)
-    ensures { GoesOn (Is Crashes) (Is_shut pages log) (answer_in result.1) (world_of result.0) }
+    ensures { HappensIn (Is Crashes) (Is_shut pages log) (answer_in result.1) (world_of result.0) }
 {
-    shut_crash_goes_on();
     crash(pages, log, u64::MAX, PageChoice::Newest)
 }
 
 // Makes a call of an open store.
 fn ask<B: Level>(engine: Engine<MemPages, MemLog, B>, event: &Event) -> (Store<B>, Entry)
-    ensures { GoesOn (Makes (call_of event.now)) (Is_open engine) (answer_in result.1) (world_of result.0) }
+    ensures { HappensIn (Makes (call_of event.now)) (Is_open engine) (answer_in result.1) (world_of result.0) }
 {
     let mut engine = engine;
     let answer = engine.apply(event);
@@ -257,14 +253,13 @@ fn crash_open<B: Level>(
     keep: u64,
     images: PageChoice,
 ) -> (Store<B>, Entry)
-    ensures { GoesOn (Is Crashes) (Is_open engine) (answer_in result.1) (world_of result.0) }
+    ensures { HappensIn (Is Crashes) (Is_open engine) (answer_in result.1) (world_of result.0) }
 {
     let mut engine = engine;
     switch.suspend();
     let _ = engine.apply(&Event::HandOver);
     switch.resume();
     engine.shows_kept();
-    crash_goes_on();
     let (pages, log) = engine.give_back();
     crash(pages, log, keep, images)
 }
@@ -278,14 +273,13 @@ fn stop_in<B: Level>(
     keep: u64,
     images: PageChoice,
 ) -> (Store<B>, Entry)
-    ensures { GoesOn (Is (Stops_in (call_of event.now))) (Is_open engine) (answer_in result.1) (world_of result.0) }
+    ensures { HappensIn (Is (Stops_in (call_of event.now))) (Is_open engine) (answer_in result.1) (world_of result.0) }
 {
     let mut engine = engine;
     switch.arm_call(n, Mishap::Stop);
     let reply = engine.apply(event);
     if is_stopped(switch) && is_of_device(&reply) {
         engine.shows_kept();
-        crash_goes_on();
         let (pages, log) = engine.give_back();
         return crash(pages, log, keep, images);
     }
@@ -307,7 +301,7 @@ fn reopen<B: Level>(
     log: MemLog,
     levels: StoreLevels<B>,
 ) -> (Store<B>, Entry)
-    ensures { GoesOn (Is Restarts) (Is_shut pages log) (answer_in result.1) (world_of result.0) }
+    ensures { HappensIn (Is Restarts) (Is_shut pages log) (answer_in result.1) (world_of result.0) }
 {
     match try_restart(alloc, pages, log, levels) {
         Ok((engine, report)) => (Store::Open(engine), Entry::Restarted(report)),
@@ -329,17 +323,14 @@ fn reopen_stopped<B: Level>(
     keep: u64,
     images: PageChoice,
 ) -> (Store<B>, Entry)
-    ensures { GoesOn (Is Stops_restart) (Is_shut pages log) (answer_in result.1) (world_of result.0) }
+    ensures { HappensIn (Is Stops_restart) (Is_shut pages log) (answer_in result.1) (world_of result.0) }
 {
     switch.arm_call(n, Mishap::Stop);
     let restarted = try_restart(alloc, pages, log, levels);
     let power_failed = is_stopped(switch);
     match restarted {
         Ok((engine, report)) => (Store::Open(engine), Entry::Restarted(report)),
-        Err(stopped) if power_failed => {
-            shut_crash_goes_on();
-            crash(stopped.pages, stopped.log, keep, images)
-        }
+        Err(stopped) if power_failed => { crash(stopped.pages, stopped.log, keep, images) }
         Err(stopped) => (
             Store::Shut(stopped.pages, stopped.log),
             Entry::Refused(stopped.refusal),
@@ -347,30 +338,23 @@ fn reopen_stopped<B: Level>(
     }
 }
 
-// A restart, as it goes on with whatever led to the store.
+// A restart.
 fn try_restart<B: Level>(
     alloc: Global,
     pages: MemPages,
     log: MemLog,
     levels: StoreLevels<B>,
 ) -> Result<(Engine<MemPages, MemLog, B>, Report), Stopped<MemPages, MemLog>>
-    ensures opened { IfOk result (λ o. GoesOn MayRestart (Is_shut pages log) (Restarted (report_of o.1))
-        (Is_open o.0)) }
-    ensures refused { IfErr result (λ s. GoesOnShut pages log s.pages s.log s.refusal) }
+    ensures opened { IfOk result (λ o. IsOpened pages log (report_of o.1) o.0) }
+    ensures refused { IfErr result (λ s. IsRefused pages log s.refusal s.pages s.log) }
 {
-    one_log();
-    one_size();
-    restart_goes_on();
     restart(alloc, pages, log, levels)
 }
 
 // Both devices as the crash leaves them.
 fn crash<B: Level>(pages: MemPages, log: MemLog, keep: u64, images: PageChoice) -> (Store<B>, Entry)
-    ensures { (z : Sizes) (c : Course) (x : Happens) → CanCrash z c x pages log
-        → Ran z ((x, answer_in result.1) ∷ c) (world_of result.0) }
+    ensures { IsLeftBy pages log (answer_in result.1) (world_of result.0) }
 {
-    one_log();
-    records_are_the_log();
     let pages = pages.crash(images);
     let log = log.crash(keep);
     let records = log.records();
@@ -379,12 +363,8 @@ fn crash<B: Level>(pages: MemPages, log: MemLog, keep: u64, images: PageChoice) 
 
 // The devices of a store that is given up.
 fn given_up<B: Level>(store: Store<B>) -> (MemPages, MemLog)
-    ensures { (z : Sizes) (c : Course) → Ran z c (world_of store) → IsHeadline z c result.0 result.1 }
+    ensures { GivesUp (world_of store) result.0 result.1 }
 {
-    first_in_first_out();
-    acknowledged_stay();
-    crash_goes_on();
-    shut_crash_goes_on();
     match store {
         Store::Shut(pages, log) => (pages, log),
         Store::Open(engine) => {

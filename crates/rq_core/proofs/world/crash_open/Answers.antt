@@ -1,15 +1,11 @@
-use Rattle.std.proofs.Common.{subst, sym}
-use Rattle.rq_core.specs.Devices.{mem_pages, mem_log}
-use Rattle.rq_model.specs.Ledger.{ledger}
-use Rattle.rq_core.specs.Happenings.{MayCrashIt}
-use Rattle.rq_store.specs.State.{size_of}
-use Rattle.rq_core.proofs.Arms.{open_crashes}
-use Rattle.rq_core.proofs.Worlds.{handed_over}
+use Rattle.std.proofs.Common.{subst, sym, refl}
+use Rattle.rq_engine.specs.declared.event.Event.TheVariants as event
+use Rattle.rq_core.specs.Happened.{IsLast}
+use Rattle.rq_core.specs.Views.{answer_in, world_of}
+use Rattle.rq_core.proofs.Steps.{open_left}
 use Rattle.rq_core.proofs.world.crash_open.Goals as goal
 
 pub returns : goal.returns
-returns g c = λ z course x is ran.
-    let g = handed_over mem_pages mem_log (λ d. tt) (λ d. tt) z ran.history c.apply.result c.args.engine c.apply.new.self ran.stands c.apply.ensures.applied in
-    c.crash.ensures z course x
-    (open_crashes z course x c.args.engine c.apply.new.self c.give_back-pages.result.0 c.give_back-pages.result.1 (c.crash_goes_on.ensures (size_of z)) ran g (c.shows_kept.ensures.cut tt g.sound g.fit) c.give_back-pages.ensures.pages c.give_back-pages.ensures.log
-    (subst (λ y. MayCrashIt y (ledger ran.history).phase) (sym is) tt))
+returns g c = λ course x is.
+    open_left course x (answer_in c.crash.result.1) (world_of c.crash.result.0) event.HandOver c.apply.result c.args.engine c.apply.new.self c.give_back-pages.result.0 c.give_back-pages.result.1
+    (subst (λ y. IsLast y event.HandOver c.apply.result) (sym is) refl) c.apply.ensures.applied (λ honest. c.shows_kept.ensures.cut honest.1) c.give_back-pages.ensures.pages c.give_back-pages.ensures.log c.crash.ensures

@@ -1,5 +1,5 @@
-use Rattle.rq_core.proofs.Arms.{not_open}
+use Rattle.std.proofs.Common.{refl}
 use Rattle.rq_core.proofs.world.not_open.Goals as goal
 
 pub returns : goal.returns
-returns g c = λ call z course x is ran. not_open c.still_store_refuses.ensures z course x call c.args.pages c.args.log is ran
+returns g c = λ call course x is. (record { made = call; call_is = is; reply_is = refl }, refl)

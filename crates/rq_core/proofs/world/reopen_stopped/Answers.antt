@@ -1,16 +1,15 @@
 use Rattle.std.proofs.Common.{refl, subst, sym}
-use Rattle.rq_store.specs.State.{size_of}
-use Rattle.rq_core.specs.Happenings.{MayRestart, MayCrashIt}
-use Rattle.rq_core.proofs.Arms.{refuses, shut_crashes}
+use Rattle.rq_core.specs.Happenings.{MayRestart}
+use Rattle.rq_core.specs.Views.{answer_in, world_of}
+use Rattle.rq_core.proofs.Steps.{restart_left}
 use Rattle.rq_core.proofs.world.reopen_stopped.Goals as goal
 
 pub returns-in-Err : goal.returns-in-Err
-returns-in-Err g c = λ z course x is ran.
-    c.crash.ensures z course x
-    (shut_crashes z course x ran.history c.in-Err.stopped.pages c.in-Err.stopped.log (c.shut_crash_goes_on.ensures (size_of z)) ran.tells ran.legal (c.in-Err.ensures.refused z course ran).0 (λ p shut. subst (λ y. MayCrashIt y p) (sym is) shut))
+returns-in-Err g c = λ course x is.
+    restart_left course x (answer_in c.crash.result.1) (world_of c.crash.result.0) c.args.pages c.in-Err.stopped.pages c.args.log c.in-Err.stopped.log c.in-Err.stopped.refusal is c.in-Err.ensures.refused c.crash.ensures
 
 pub returns-in-Err-2 : goal.returns-in-Err-2
-returns-in-Err-2 g c = λ z course x is ran. refuses z course x c.args.pages c.in-Err.stopped.pages c.args.log c.in-Err.stopped.log c.in-Err.stopped.refusal (subst (MayRestart course) (sym is) refl) c.in-Err.ensures.refused ran
+returns-in-Err-2 g c = λ course x is. (subst (MayRestart course) (sym is) refl, c.in-Err.ensures.refused)
 
 pub returns-in-Ok : goal.returns-in-Ok
-returns-in-Ok g c = λ z course x is ran. c.in-Ok.ensures.opened z course x (subst (MayRestart course) (sym is) refl) ran
+returns-in-Ok g c = λ course x is. (subst (MayRestart course) (sym is) refl, c.in-Ok.ensures.opened)

@@ -1,0 +1,121 @@
+-- What a run tells.
+use Rattle.std.proofs.Common.{ℕ, IsTrue, List, [], ◌∷◌, refl, sym, subst}
+use Rattle.rq_model.specs.History.{Entry}
+use Rattle.rq_model.specs.Ledger.{ledger}
+use Rattle.rq_model.specs.Legal.{IsLegal}
+use Rattle.rq_model.specs.Tests.{Size}
+use Rattle.rq_model.specs.Promises.{AcknowledgedStay, CrashGoesOn, FifoThroughout, RestartGoesOn, ShutCrashGoesOn, StillStoreRefuses}
+use Rattle.rq_disk.specs.declared.mem_log.MemLog.{MemLog}
+use Rattle.rq_disk.specs.declared.mem_pages.MemPages.{MemPages}
+use Rattle.rq_page.specs.Sizes.{Sizes}
+use Rattle.rq_store.specs.State.{size_of}
+use Rattle.rq_engine.specs.Applied.{Applied}
+use Rattle.rq_engine.specs.declared.event.Event.{Event}
+use Rattle.rq_engine.specs.declared.event.Event.TheVariants as event
+use Rattle.rq_engine.specs.declared.event.Reply.{Reply}
+use Rattle.rq_restart.specs.Once.{AsManyAsTheLog, OneLogEach, OneSizeEach}
+use Rattle.rq_core.specs.Devices.{mem_pages, mem_log}
+use Rattle.rq_core.specs.Happenings.{Answer, Course, DoesNothing, Happening, MayCrashIt, called, restarts}
+use Rattle.rq_core.specs.Happenings.Answer.{Answered, Crashed, Nothing, Refused, Restarted, Running}
+use Rattle.rq_core.specs.Happenings.Happening.{Crashes, Stops_in, Stops_restart}
+use Rattle.rq_core.specs.Happened.{CrashesOpen, CrashesShut, IsAsked, IsLast, IsNotOpen, Keeps, StopsRestart}
+use Rattle.rq_core.specs.Runs.{CanCrash, Happened, IsHeadline, IsRun, Led, GivesUp, MemWorld, Ran}
+use Rattle.rq_core.specs.World.{IsOpen, IsShut}
+use Rattle.rq_core.specs.World.World.{Is_open, Is_shut}
+use Rattle.rq_core.proofs.Arms.{Engine, asks, begins, not_open, open_crashes, open_ends, opened, refused_stays, refuses, shut_crashes, shut_ends, stop_may}
+use Rattle.rq_core.proofs.Devices.{some_page, some_log}
+use Rattle.rq_core.proofs.Worlds.{crashed, handed_over, refused, stands_at, still}
+
+-- what holds of the words that a run is told in
+pub record Laws (z : Sizes) : Type 0 where
+  pub one : OneLogEach
+  pub size_once : OneSizeEach
+  pub tally : AsManyAsTheLog
+  pub fifo : (h : List Entry) → IsLegal (size_of z) h → FifoThroughout h
+  pub stay : AcknowledgedStay (size_of z)
+  pub crash : CrashGoesOn (size_of z)
+  pub shut : ShutCrashGoesOn (size_of z)
+  pub restart : RestartGoesOn (size_of z)
+  pub still : (size : Size) → StillStoreRefuses size
+
+module _ (z : Sizes) (k : Laws z) (course : Course) where
+  -- a crash of an open store
+  can_crash : (x : Happening) (e : Event) (r : Reply) (old mid : Engine) → IsLast x e r → Applied mem_pages mem_log old e r mid → Keeps mem_pages mem_log mid → Ran z course (Is_open old) → CanCrash z course x mid.pages mid.log
+  can_crash Crashes e r old mid last a keeps ran =
+      let g = handed_over mem_pages mem_log (λ d. tt) (λ d. tt) z ran.history r old mid ran.stands (subst (λ y. Applied mem_pages mem_log old y r mid) last a) in
+      open_crashes z course Crashes old mid mid.pages mid.log k.crash ran g (keeps (tt, tt) g.sound g.fit) refl refl tt
+  can_crash (Stops_in call) e r old mid last a keeps ran =
+      let b = subst (λ y. Applied mem_pages mem_log old e y mid) last.2 a in
+      let g = refused mem_pages mem_log (λ d. tt) (λ d. tt) z ran.history e last.1 old mid ran.stands b last.3 in
+      open_crashes z course (Stops_in call) old mid mid.pages mid.log k.crash ran g (keeps (tt, tt) g.sound g.fit) refl refl
+      (subst (λ c. MayCrashIt (Stops_in c) (ledger ran.history).phase) last.0 (stop_may z course e last.1 old mid ran b last.3))
+  can_crash _ e r old mid last a keeps ran = absurd last
+
+  crashes_open : (x : Happening) (old : Engine) (pages : MemPages) (log : MemLog) (n : ℕ) → CrashesOpen mem_pages mem_log x old pages log n → Ran z course (Is_open old) → Ran z ((x, Crashed n) ∷ course) (Is_shut pages log)
+  crashes_open x old pages log n c ran =
+      crashed mem_pages mem_log (λ d. tt) (λ d. tt) z some_page some_log k.one k.tally course x c.mid.pages pages c.mid.log log n (can_crash x c.event c.told old c.mid c.last c.applied c.keeps ran) c.crashed
+
+  crashes_shut : (x : Happening) (pages : MemPages) (log : MemLog) (new_pages : MemPages) (new_log : MemLog) (n : ℕ) → CrashesShut mem_pages mem_log x pages log new_pages new_log n → Ran z course (Is_shut pages log) → Ran z ((x, Crashed n) ∷ course) (Is_shut new_pages new_log)
+  crashes_shut Crashes pages log new_pages new_log n c ran =
+      crashed mem_pages mem_log (λ d. tt) (λ d. tt) z some_page some_log k.one k.tally course Crashes pages new_pages log new_log n (shut_crashes z course Crashes ran.history pages log k.shut ran.tells ran.legal ran.stands (λ p s. tt)) c
+  crashes_shut Stops_restart pages log new_pages new_log n c ran =
+      let there : StopsRestart mem_pages mem_log pages log new_pages new_log n = c in
+      let left = refused_stays k.one z ran.history pages log there.refusal there.mid_pages there.mid_log there.refused ran.stands in
+      crashed mem_pages mem_log (λ d. tt) (λ d. tt) z some_page some_log k.one k.tally course Stops_restart there.mid_pages new_pages there.mid_log new_log n (shut_crashes z course Stops_restart ran.history there.mid_pages there.mid_log k.shut ran.tells ran.legal left (λ p s. s)) there.crashed
+  crashes_shut _ pages log new_pages new_log n c ran = absurd c
+
+  nothing : (x : Happening) (w : MemWorld) → DoesNothing course x → Ran z course w → Ran z ((x, Nothing) ∷ course) w
+  nothing x (Is_open e) does ran =
+      let o : IsOpen mem_pages mem_log z ran.history e = ran.stands in
+      record { history = ran.history; tells = (ran.history, ran.tells, (does, refl)); legal = ran.legal; stands = record { sizes = o.sizes; ledger = o.ledger; sound = o.sound; fit = o.fit }; counted = tt }
+  nothing x (Is_shut pages log) does ran =
+      let s : IsShut mem_pages mem_log z ran.history pages log = ran.stands in
+      record { history = ran.history; tells = (ran.history, ran.tells, (does, refl)); legal = ran.legal; stands = record { range = s.range; phase = s.phase; older = s.older; ties = s.ties; left = s.left }; counted = tt }
+
+  running : (x : Happening) (e : Engine) → IsTrue (restarts x) → Ran z course (Is_open e) → Ran z ((x, Running) ∷ course) (Is_open e)
+  running x e may ran =
+      let o : IsOpen mem_pages mem_log z ran.history e = ran.stands in
+      record { history = ran.history; tells = (ran.history, ran.tells, (may, (stands_at ran.history e.state o.ledger).runs, refl)); legal = ran.legal; stands = record { sizes = o.sizes; ledger = o.ledger; sound = o.sound; fit = o.fit }; counted = tt }
+
+  -- whatever happens, the course goes on
+  goes_on : (x : Happening) (old : MemWorld) (a : Answer) (new : MemWorld) → Happened course x old a new → Ran z course old → Ran z ((x, a) ∷ course) new
+  goes_on x (Is_open old) (Answered r) (Is_open new) h ran =
+      let s : IsAsked mem_pages mem_log (called course x) r old new = h in
+      subst (λ g. Ran z ((x, Answered g) ∷ course) (Is_open new)) (sym s.reply_is) (asks z course x s.event s.told old new s.call_is s.applied ran)
+  goes_on x (Is_open old) (Answered r) (Is_shut pages log) h ran = absurd h
+  goes_on x (Is_shut pages log) (Answered r) new h ran =
+      let s : IsNotOpen (called course x) r = h.0 in
+      subst (λ w. Ran z ((x, Answered r) ∷ course) w) (sym h.1) (subst (λ g. Ran z ((x, Answered g) ∷ course) (Is_shut pages log)) (sym s.reply_is) (not_open k.still z course x s.made pages log s.call_is ran))
+  goes_on x (Is_open old) (Crashed n) (Is_shut pages log) h ran = crashes_open x old pages log n h ran
+  goes_on x (Is_shut pages log) (Crashed n) (Is_shut new_pages new_log) h ran = crashes_shut x pages log new_pages new_log n h ran
+  goes_on x (Is_open old) (Crashed n) (Is_open new) h ran = absurd h
+  goes_on x (Is_shut pages log) (Crashed n) (Is_open new) h ran = absurd h
+  goes_on x (Is_shut pages log) (Restarted report) (Is_open new) h ran = opened k.one k.size_once z k.restart course x pages log report new h.0 h.1 ran
+  goes_on x (Is_shut pages log) (Restarted report) (Is_shut new_pages new_log) h ran = absurd h.1
+  goes_on x (Is_open old) (Restarted report) new h ran = absurd h.1
+  goes_on x (Is_shut pages log) (Refused r) (Is_shut new_pages new_log) h ran = refuses k.one z course x pages new_pages log new_log r h.0 h.1 ran
+  goes_on x (Is_shut pages log) (Refused r) (Is_open new) h ran = absurd h.1
+  goes_on x (Is_open old) (Refused r) new h ran = absurd h.1
+  goes_on x (Is_open old) Running new h ran = subst (λ w. Ran z ((x, Running) ∷ course) w) (sym h.1) (running x old h.0 ran)
+  goes_on x (Is_shut pages log) Running new h ran = absurd h.1
+  goes_on x old Nothing new h ran = subst (λ w. Ran z ((x, Nothing) ∷ course) w) (sym h.1) (nothing x old h.0 ran)
+
+module _ (z : Sizes) (k : Laws z) where
+  begun : (w : MemWorld) → Led z [] w → Ran z [] w
+  begun (Is_shut pages log) h = begins z pages log (record { range = h.0; left = h.1 })
+  begun (Is_open e) h = absurd h
+
+  -- the course tells a history
+  pub led_tells : (course : Course) (w : MemWorld) → Led z course w → Ran z course w
+  led_tells [] w h = begun w h
+  led_tells (a ∷ course) w h = goes_on z k course a.0 h.0 a.1 w h.2 (led_tells course h.0 h.1)
+
+  ends : (course : Course) (pages : MemPages) (log : MemLog) (w : MemWorld) → Ran z course w → GivesUp w pages log → IsHeadline z course pages log
+  ends course pages log (Is_open e) ran g =
+      let s = still mem_pages mem_log (λ d. tt) (λ d. tt) z ran.history e ran.stands in
+      open_ends z course e pages log k.fifo k.stay k.crash ran (g.2 (tt, tt) s.sound s.fit) g.0 g.1
+  ends course pages log (Is_shut d e) ran g =
+      subst (λ y. IsHeadline z course y log) (sym g.0) (subst (λ y. IsHeadline z course d y) (sym g.1) (shut_ends z course d e k.fifo k.stay k.shut ran))
+
+  pub told : (course : Course) (pages : MemPages) (log : MemLog) → IsRun z course pages log → IsHeadline z course pages log
+  told course pages log run = ends course pages log run.end (led_tells course run.end run.led) run.given
