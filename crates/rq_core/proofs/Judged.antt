@@ -1,5 +1,6 @@
 -- What a run refuses.
 use Rattle.std.proofs.Common.{◌≡◌, ℕ, false, List, Option, Some, None, true≢false, refl, sym, ◌∙◌, ap, subst}
+use Rattle.rq_model.specs.declared.record.Record.{Record}
 use Rattle.rq_model.specs.declared.refusal.Refusal.{Refusal}
 use Rattle.rq_model.specs.declared.refusal.Refusal.TheVariants as why
 use Rattle.rq_model.specs.History.{Call, Entry}
