@@ -112,7 +112,7 @@ module _ (goes : CrashGoesOn small) where
     in_a_force = fails (Stops_in Force) (refl, refl);
     in_a_begin = λ course pages log k. (let e = k.may.1 in cc e);
     in_a_restart_of_an_open_store = λ pages log k.
-        (let e = sym (ap (λ (h : List Entry). (ledger h).phase) k.tells.2.2) ∙ k.may in cc e);
+        (let e = sym (ap (λ (h : List Entry). (ledger h).phase) k.tells.2.1) ∙ k.may in cc e);
     by_a_call = λ course pages log k. k.may;
     leaves_half_a_record = λ course x pages log may k.
         (let y = k.leaves (mem_pages.seen pages) (0 ∷ []) (some_pages pages) may in short_log y.0 y.1.are_spelled y.1.is);
