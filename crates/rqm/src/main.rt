@@ -1,16 +1,21 @@
 //! `rqm`, a recoverable queue manager.
 #![tactic(auto)]
 
+mod serving;
 mod words;
 
 use rq_files::run_format;
 use rq_levels::sets_of_levels;
 use rq_page::layout::Layout;
 use rq_script::{run_script, sets_wanted};
+use serving::run_serve;
 use std::fs::File;
 use std::io::{self, Read, Write};
+use std::net::{Net, TcpListener, TcpStream};
 use std::process::ExitCode;
 use std::rt::{Env, Files};
+use std::sync::Wait;
+use std::thread::Threads;
 use words::Words;
 
 fn main(rt: HostRuntime) -> ExitCode {
@@ -20,13 +25,25 @@ fn main(rt: HostRuntime) -> ExitCode {
     }
 }
 
-fn run<R: Print + Eprint + Input + AllocGlobal + Env + Files<File = File>>(
+fn run<
+    R: Print
+        + Eprint
+        + Input
+        + AllocGlobal
+        + Env
+        + Files<File = File>
+        + Net<Listener = TcpListener, Stream = TcpStream>
+        + Wait
+        + Threads
+        + Sync,
+>(
     rt: &R,
 ) -> io::Result<u8> {
     let mut writer = io::writer(rt);
     Ok(match words::read(rt)? {
         Words::Run(layout) => run_input(rt, &mut writer, layout)?,
         Words::Format(folder, layout) => run_format(rt, &mut writer, folder.as_str(), &layout),
+        Words::Serve(asked) => run_serve(rt, &mut writer, &asked)?,
         Words::Answered(status) => status,
     })
 }
