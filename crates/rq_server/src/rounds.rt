@@ -11,12 +11,10 @@ use rq_model::txn::Lsn;
 use rq_shared::mark::{Mark, MarkPass};
 use rq_workers::steps::Steps;
 use std::alloc::Global;
-use std::io;
-use std::net;
 use std::net::Net;
 use std::sync::{Mutex, Wait};
-use std::thread;
 use std::time::Duration;
+use std::{io, net, thread};
 
 /// How many connections are reported at once, at most.
 const REPORTS: usize = 256;

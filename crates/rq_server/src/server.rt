@@ -225,30 +225,34 @@ fn run<
         page_writer,
         workers,
     } = posts;
-    thread::scope(thread::scope_env(), rt, move |scope| -> u64
-        requires { IsSync R.row × IsSend P.row × IsSend L.row × IsSend B.row }
-    {
-        let log_writer = scope.spawn(move || write_log(rt, front, log_writer));
-        let page_writer = scope.spawn(move || write_pages(rt, front, page_writer));
-        let mut threads = Vec::new(alloc);
-        for post in workers {
-            if let Ok(thread) = scope.spawn(move || work(rt, alloc, front, common, post)) {
-                let _ = threads.push(thread);
+    thread::scope(
+        thread::scope_env(),
+        rt,
+        move |scope| -> u64
+            requires { IsSync R.row × IsSend P.row × IsSend L.row × IsSend B.row }
+        {
+            let log_writer = scope.spawn(move || write_log(rt, front, log_writer));
+            let page_writer = scope.spawn(move || write_pages(rt, front, page_writer));
+            let mut threads = Vec::new(alloc);
+            for post in workers {
+                if let Ok(thread) = scope.spawn(move || work(rt, alloc, front, common, post)) {
+                    let _ = threads.push(thread);
+                }
             }
-        }
-        let mut served = 0u64;
-        for thread in threads {
-            served = served.wrapping_add(thread.join(rt));
-        }
-        common.notices.end();
-        if let Ok(thread) = log_writer {
-            thread.join(rt);
-        }
-        if let Ok(thread) = page_writer {
-            thread.join(rt);
-        }
-        served
-    })
+            let mut served = 0u64;
+            for thread in threads {
+                served = served.wrapping_add(thread.join(rt));
+            }
+            common.notices.end();
+            if let Ok(thread) = log_writer {
+                thread.join(rt);
+            }
+            if let Ok(thread) = page_writer {
+                thread.join(rt);
+            }
+            served
+        },
+    )
 }
 
 // The steps of a caller.

@@ -23,8 +23,14 @@ pub(crate) struct ServerSteps<'a, P: PageDevice, L: LogDevice, B: Level, G: Shar
     calls: u32,
 }
 
-impl<'a, P: PageDevice + Drop, L: LogDevice + Drop, B: Level, G: Sharing, R: Wait>
-    ServerSteps<'a, P, L, B, G, R> {
+impl<'a, P: PageDevice + Drop, L: LogDevice + Drop, B: Level, G: Sharing, R: Wait> ServerSteps<
+    'a,
+    P,
+    L,
+    B,
+    G,
+    R,
+> {
     pub(crate) fn new(
         inner: SharedSteps<'a, P, L, B, G, R, DropStamps>,
         notices: &'a Notices,

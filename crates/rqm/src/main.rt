@@ -36,9 +36,7 @@ fn run<
         + Wait
         + Threads
         + Sync,
->(
-    rt: &R,
-) -> io::Result<u8> {
+>(rt: &R) -> io::Result<u8> {
     let mut writer = io::writer(rt);
     Ok(match words::read(rt)? {
         Words::Run(layout) => run_input(rt, &mut writer, layout)?,

@@ -14,9 +14,7 @@ use rq_server::{Plan, serve};
 use rq_shared::shared::Shared;
 use rq_shared::sharing::Sharing;
 use std::alloc::Global;
-use std::fs;
 use std::fs::{File, Files};
-use std::io;
 use std::io::Write;
 use std::marker::Brand;
 use std::net::{Ipv4Addr, Net, SocketAddr, TcpListener, TcpStream};
@@ -24,6 +22,7 @@ use std::path::Path;
 use std::sync::Wait;
 use std::sync::ledger::Blank;
 use std::thread::Threads;
+use std::{fs, io};
 
 type Store = Engine<FilePages<Unknown>, FileLog<Unknown>, StoreLevel>;
 
@@ -40,11 +39,7 @@ pub fn run_serve<
         + Threads
         + Sync,
     W: Write,
->(
-    rt: &R,
-    writer: &mut W,
-    asked: &Serve,
-) -> io::Result<u8> {
+>(rt: &R, writer: &mut W, asked: &Serve) -> io::Result<u8> {
     match opened_and_bound(rt, asked) {
         Ok((engine, listener, plan)) => served(rt, writer, engine, listener, plan),
         Err(fault) => {
@@ -57,10 +52,7 @@ pub fn run_serve<
 // The faults come in this order: those of the folder and its files, of the restart, of the port.
 fn opened_and_bound<
     R: AllocGlobal + Files<File = File> + Net<Listener = TcpListener, Stream = TcpStream>,
->(
-    rt: &R,
-    asked: &Serve,
-) -> Result<(Store, TcpListener, Plan), Fault> {
+>(rt: &R, asked: &Serve) -> Result<(Store, TcpListener, Plan), Fault> {
     let folder = asked.folder.as_str();
     let engine = opened(rt, folder)?;
     let plan = Plan {
@@ -108,19 +100,9 @@ fn pages_in<R: AllocGlobal + Files<File = File>>(rt: &R, folder: &str) -> Result
 
 // Serves an engine, and prints where and how many sessions there were.
 fn served<
-    R: AllocGlobal
-        + Net<Listener = TcpListener, Stream = TcpStream>
-        + Wait
-        + Threads
-        + Sync,
+    R: AllocGlobal + Net<Listener = TcpListener, Stream = TcpStream> + Wait + Threads + Sync,
     W: Write,
->(
-    rt: &R,
-    writer: &mut W,
-    engine: Store,
-    listener: TcpListener,
-    plan: Plan,
-) -> io::Result<u8> {
+>(rt: &R, writer: &mut W, engine: Store, listener: TcpListener, plan: Plan) -> io::Result<u8> {
     let address = listener.local_addr()?;
     writeln!(writer, "listening {address}")?;
     writer.flush()?;
