@@ -131,10 +131,10 @@ impl<'a, R: Wait> PagePace<'a, R> {
             self.rest();
             self.seen = Some(self.notices.forces());
             self.left = self.pages;
-            self.left_in_part = 1 + self.pages / PARTS;
+            self.left_in_part = (self.pages / PARTS).saturating_add(1);
         } else if self.left_in_part == 0 {
             self.notices.pause(self.rt, PART_MILLIS);
-            self.left_in_part = 1 + self.pages / PARTS;
+            self.left_in_part = (self.pages / PARTS).saturating_add(1);
         }
         self.left = self.left.saturating_sub(1);
         self.left_in_part = self.left_in_part.saturating_sub(1);

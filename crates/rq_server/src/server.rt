@@ -177,8 +177,9 @@ fn callers_of<'a, P: PageDevice + Drop, L: LogDevice + Drop, B: Level, G: Sharin
     requires { seat.old.table ≡ common.now.mark }
     ensures { seat.new.table ≡ seat.old.table }
 {
+    let count = SESSIONS_AT_ONCE.checked_div(common.plan.workers);
     let mut callers = Vec::new(alloc);
-    for _ in 0..SESSIONS_AT_ONCE / common.plan.workers.max(1) {
+    for _ in 0..count.unwrap_or(0) {
         let caller = caller_of(shared, common, seat)?;
         if callers.push(caller).is_err() {
             return Err(NoMemory);
@@ -273,7 +274,8 @@ fn write_log<'a, P: PageDevice + Drop, L: LogDevice + Drop, B: Level, G: Sharing
     front: &'a Front<P, L, B, G>,
     caller: Caller<'a, G>,
 ) {
-    let gate = LogPace::new(rt, &caller.common.notices);
+    let common = caller.common;
+    let gate = LogPace::new(rt, &common.notices);
     let mut worker = Worker::new(gate, steps_of(rt, front, caller));
     worker.write_log(rt);
 }
@@ -284,8 +286,9 @@ fn write_pages<'a, P: PageDevice + Drop, L: LogDevice + Drop, B: Level, G: Shari
     front: &'a Front<P, L, B, G>,
     caller: Caller<'a, G>,
 ) {
-    let pages = caller.common.plan.pages;
-    let gate = PagePace::new(rt, &caller.common.notices, pages);
+    let common = caller.common;
+    let pages = common.plan.pages;
+    let gate = PagePace::new(rt, &common.notices, pages);
     let mut worker = Worker::new(gate, steps_of(rt, front, caller));
     worker.write_pages(rt, pages);
 }
