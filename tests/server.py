@@ -278,20 +278,22 @@ def silent_reader(program, _):
     with store(program) as folder, serving(program, folder, "--workers", 1) as server:
         with server.raw() as greedy, server.connect() as other:
             greedy.setblocking(False)
-            asked = 0
-            until = time.monotonic() + 1.5
-            while time.monotonic() < until:
+            asked = waited = 0
+            until = time.monotonic() + LONGEST
+            while waited < 20:
+                assert time.monotonic() < until, "the server reads without an end"
                 try:
-                    asked += greedy.send(LAST_TAG * 2000)
+                    asked += greedy.send((LAST_TAG * 2000)[asked % len(LAST_TAG) :])
+                    waited = 0
                 except BlockingIOError:
-                    break_at = time.monotonic()
+                    waited += 1
+                    before = time.monotonic()
                     assert other.last_tag(0) == (0, 0)
-                    assert time.monotonic() - break_at < 1, "another connection waits for one that does not read"
+                    assert time.monotonic() - before < 1, "another connection waits for one that does not read"
                     time.sleep(0.01)
             greedy.setblocking(True)
             greedy.settimeout(LONGEST)
             frames = asked // len(LAST_TAG)
-            assert frames > 10000, frames
             assert read_bytes(greedy, frames * len(NO_TAG)) == NO_TAG * frames
 
 
