@@ -35,7 +35,7 @@ pub(crate) struct Connection<S: Steps> {
 }
 
 /// What came of reading in a round.
-#[derive(Clone, Copy, PartialEq, Eq)]
+#[derive(Clone, Copy)]
 pub(crate) enum Heard {
     /// All that was said so far: more is reported.
     All,
@@ -44,7 +44,7 @@ pub(crate) enum Heard {
 }
 
 /// What came of writing the answers.
-#[derive(Clone, Copy, PartialEq, Eq)]
+#[derive(Clone, Copy)]
 pub(crate) enum Written {
     /// All is written.
     All,
@@ -57,7 +57,7 @@ pub(crate) enum Written {
 }
 
 // What came of reading one piece.
-#[derive(Clone, Copy, PartialEq, Eq)]
+#[derive(Clone, Copy)]
 enum Piece {
     Some,
     Nothing,

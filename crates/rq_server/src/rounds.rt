@@ -161,7 +161,7 @@ impl<S: Steps + Drop> Connections<S> {
         for at in 0..self.active.len() {
             let place = self.active.get(at).copied().unwrap_or(DOOR);
             if let Some(Some(connection)) = self.places.get_mut(place) {
-                if connection.hear() == Heard::Part {
+                if matches!(connection.hear(), Heard::Part) {
                     report_again(poll, connection, place);
                 }
                 connection.carry_out(rt);
@@ -229,10 +229,10 @@ impl<S: Steps + Drop> Connections<S> {
             let place = self.active.get(at).copied().unwrap_or(DOOR);
             if let Some(Some(connection)) = self.places.get_mut(place) {
                 let written = connection.write_answers(rt);
-                if written == Written::AllAtLast {
+                if matches!(written, Written::AllAtLast) {
                     report_again(poll, connection, place);
                 }
-                if written == Written::Lost || connection.is_over() {
+                if matches!(written, Written::Lost) || connection.is_over() {
                     self.end(place);
                 }
             }
