@@ -65,6 +65,7 @@ struct Caller<'a, G: Sharing> {
 /// What a worker is given: where it waits, where it reads the mark, and a caller for each session that it may have at once.
 #[derive(Drop)]
 struct Post<'a, G: Sharing> {
+    common: &'a Common,
     entrance: Entrance,
     reader: MarkReader<'a>,
     callers: Vec<Caller<'a, G>>,
@@ -152,6 +153,7 @@ fn posts_of<'a, P: PageDevice + Drop, L: LogDevice + Drop, B: Level, G: Sharing>
         let reader = MarkReader::new(&common.mark, common.mark.split(seat));
         let callers = callers_of(alloc, shared, common, seat)?;
         let post = Post {
+            common,
             entrance,
             reader,
             callers,
@@ -236,7 +238,7 @@ fn run<
             let page_writer = scope.spawn(move || write_pages(rt, front, page_writer));
             let mut threads = Vec::new(alloc);
             for post in workers {
-                if let Ok(thread) = scope.spawn(move || work(rt, alloc, front, common, post)) {
+                if let Ok(thread) = scope.spawn(move || work(rt, alloc, front, post)) {
                     let _ = threads.push(thread);
                 }
             }
@@ -298,10 +300,10 @@ fn work<'a, P: PageDevice + Drop, L: LogDevice + Drop, B: Level, G: Sharing, R: 
     rt: &'a R,
     alloc: Global,
     front: &'a Front<P, L, B, G>,
-    common: &'a Common,
     post: Post<'a, G>,
 ) -> u64 {
     let Post {
+        common,
         entrance,
         reader,
         callers,
