@@ -1,4 +1,6 @@
 //! The gates of the server's threads.
+ghost use Rattle.std.specs.Prelude.{◌≡◌};
+
 use crate::notices::Notices;
 use rq_workers::gate::{BEFORE_AGAIN, Gate};
 use rq_workers::trail::Trail;
@@ -126,7 +128,9 @@ impl<'a, R: Wait> PagePace<'a, R> {
     }
 
     // Before the first page of a round, and of a part of it.
-    fn hold(&mut self) {
+    fn hold(&mut self)
+        ensures { self.new.answers ≡ self.old.answers }
+    {
         if self.left == 0 {
             self.rest();
             self.seen = Some(self.notices.forces());
