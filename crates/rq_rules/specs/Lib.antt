@@ -1,3 +1,4 @@
 pub mod Rules
 pub mod Kept
 pub mod Theorems
+pub mod Laws

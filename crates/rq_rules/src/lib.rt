@@ -6,18 +6,12 @@
 mod checking;
 mod ended;
 
-ghost use Rattle.rq_rules.specs.Theorems.{RulesTell, WholeLogsFollow};
+ghost use Rattle.rq_rules.specs.Laws.{Laws};
 
 pub use checking::follows;
 pub use ended::Ended;
 
-/// The records of a whole log follow the rules: no sound store is refused for them.
-pub fn whole_logs_follow()
-    ensures { WholeLogsFollow }
-{}
-
-/// Where each record follows the rules, PageUndos and CompEnds name records that are there, each at most once, and the
-/// numbers of a transaction's operations have no gaps.
-pub fn rules_tell()
-    ensures { RulesTell }
+/// What the rules of a log come to: each field is a theorem.
+pub fn laws()
+    ensures { Laws }
 {}

@@ -2,3 +2,4 @@ pub mod Analysis
 pub mod Pages
 pub mod Least
 pub mod Theorems
+pub mod Laws
