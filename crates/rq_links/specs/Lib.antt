@@ -1,4 +1,3 @@
 pub mod Links
 pub mod Follows
 pub mod Theorems
-pub mod Laws

@@ -1,7 +1,6 @@
 //! Whether each sender's chain of cells is whole, and each used cell in one of them.
 #![tactic(auto)]
 
-ghost use Rattle.rq_links.specs.Laws.{Laws};
 ghost use Rattle.std.specs.Prelude.{◌≡◌, ◌↔◌, ◌*◌, ◌+◌, ◌<◌, ◌≤◌, ◌⊎◌, ℕ, List, Some, length, true, IsTrue, IfOk, IfSome, IfNone};
 ghost use Rattle.std.specs.Bool.{OnTrue, OnFalse};
 ghost use Rattle.rq_flags.specs.Flags.{flag_at};
@@ -11,6 +10,7 @@ ghost use Rattle.rq_views.specs.Log.{cells_of};
 ghost use Rattle.rq_views.specs.Stored.{slots_in};
 ghost use Rattle.rq_links.specs.Follows.{AreFollowed, EndsSo, IsFollowed, IsLinkedCell, IsNextFree};
 ghost use Rattle.rq_links.specs.Links.{AreLinked, IsChain, IsFault, IsFirstBroken, IsFirstUnmet};
+ghost use Rattle.rq_links.specs.Theorems.{FaultsAreExact, SoundStoresAreLinked};
 
 use rq_disk::PageDevice;
 use rq_flags::Index;
@@ -205,7 +205,12 @@ fn is_noted(met: &Index, place: usize) -> bool
     }
 }
 
-/// When chains are whole: each field is a theorem.
-pub fn laws()
-    ensures { Laws }
+/// A page is named only where the chains are not whole, and then it is one page.
+pub fn faults_are_exact()
+    ensures { FaultsAreExact }
+{}
+
+/// The chains of a sound store are whole.
+pub fn sound_stores_are_linked()
+    ensures { SoundStoresAreLinked }
 {}

@@ -1,4 +1,3 @@
 pub mod Rules
 pub mod Kept
 pub mod Theorems
-pub mod Laws

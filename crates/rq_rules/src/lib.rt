@@ -6,12 +6,18 @@
 mod checking;
 mod ended;
 
-ghost use Rattle.rq_rules.specs.Laws.{Laws};
+ghost use Rattle.rq_rules.specs.Theorems.{RulesTell, WholeLogsFollow};
 
 pub use checking::follows;
 pub use ended::Ended;
 
-/// What the rules of a log come to: each field is a theorem.
-pub fn laws()
-    ensures { Laws }
+/// The records of a whole log follow the rules: no sound store is refused for them.
+pub fn whole_logs_follow()
+    ensures { WholeLogsFollow }
+{}
+
+/// Where each record follows the rules, PageUndos and CompEnds name records that are there, each at most once, and the
+/// numbers of a transaction's operations have no gaps.
+pub fn rules_tell()
+    ensures { RulesTell }
 {}

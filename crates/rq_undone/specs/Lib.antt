@@ -2,4 +2,3 @@ pub mod Analysis
 pub mod Pages
 pub mod Least
 pub mod Theorems
-pub mod Laws

@@ -5,11 +5,22 @@
 
 mod history;
 
-ghost use Rattle.rq_undone.specs.Laws.{Laws};
+ghost use Rattle.rq_undone.specs.Theorems.{UndosKeepLogsWhole, UndoneLogsAreWhole, UnendedAreCounted};
 
 pub use history::{History, Spot};
 
-/// What undoing operations without an end makes of a log: each field is a theorem.
-pub fn laws()
-    ensures { Laws }
+/// Each record by which an operation without an end is undone leaves a whole log, with less to do.
+pub fn undos_keep_logs_whole()
+    ensures { UndosKeepLogsWhole }
+{}
+
+/// Once all such operations are undone the log is whole, with the content that it had, and its slots are those that
+/// whole operations had written.
+pub fn undone_logs_are_whole()
+    ensures { UndoneLogsAreWhole }
+{}
+
+/// What is noted of a log as it is gone through is what has no end in it.
+pub fn unended_are_counted()
+    ensures { UnendedAreCounted }
 {}
