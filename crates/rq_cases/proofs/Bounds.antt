@@ -24,13 +24,8 @@ use Rattle.rq_disk.specs.declared.mem_log.MemLog.{MemLog}
 use Rattle.rq_disk.specs.declared.mem_pages.MemPages.{MemPages}
 use Rattle.rq_log.specs.Spelled.{AreSpelled}
 use Rattle.rq_page.specs.Sizes.{Sizes}
-use Rattle.rq_txn.specs.declared.Finished.{Finished}
 use Rattle.rq_groups.specs.Waiting.{waits}
-use Rattle.rq_engine.specs.Lists.{done_by}
-use Rattle.rq_engine.specs.Moves.{with_sends, with_tags}
-use Rattle.rq_engine.specs.declared.event.CommitNo.{CommitNo}
-use Rattle.rq_store.specs.Settled.{takes_one}
-use Rattle.rq_txn.specs.Rows.{found_row, fresh_row, finished_of}
+use Rattle.rq_txn.specs.Rows.{found_row, fresh_row}
 use Rattle.rq_store.specs.Fitting.{AllFit, FitsLog, image_in, left_by}
 use Rattle.rq_sound.specs.Sound.{IsSound}
 use Rattle.rq_store.specs.State.{State, ledger_of, size_of}
@@ -39,15 +34,11 @@ use Rattle.rq_store.specs.Whole.{IsWhole}
 use Rattle.rq_store.proofs.Cutting.{fits_log_longer}
 use Rattle.rq_store.proofs.Formatting.{formatted_fits}
 use Rattle.rq_store.proofs.Opening.{restarted_whole}
-use Rattle.rq_groups.specs.Sent.{sent_count, sent_tag}
 use Rattle.rq_sound.proofs.Contracts.{calls_keep}
 use Rattle.rq_sound.proofs.DeedSteps.{deed_steps}
 use Rattle.rq_sound.proofs.Opened.{opened_sound}
 use Rattle.rq_store.proofs.WorkedFits.{whole_empty}
 use Rattle.rq_engine.specs.Says.{commit_number}
-use Rattle.rq_engine.specs.declared.event.Event.TheVariants as event
-use Rattle.rq_engine.specs.declared.event.Reply.TheVariants as reply
-use Rattle.rq_engine.proofs.Crashing.{fit_kept, runs_through_cuts}
 use Rattle.rq_engine.proofs.Refusals.{refuse, refuse_full}
 use Rattle.rq_engine.proofs.Standing.{close_steps, start_steps}
 use Rattle.rq_undone.specs.Analysis.{analysis}
@@ -66,8 +57,8 @@ use Rattle.rq_lost.specs.Recovered.IsRecovering.{Undoing}
 use Rattle.rq_restart.proofs.Parsing.{one_log}
 use Rattle.rq_core.specs.Devices.{mem_log, mem_pages}
 use Rattle.rq_cases.specs.Aborts.{close_turned, turned, undone}
-use Rattle.rq_cases.specs.Applied.{Makes, MeetsAll}
-use Rattle.rq_cases.specs.Bounds.{BoundsAreJudged, Closes, Commits, IsFullForClose, IsFullForSend, Sends, just_opened, one_begun, one_committed, only_one, restarts}
+use Rattle.rq_cases.specs.Applied.{MeetsAll}
+use Rattle.rq_cases.specs.Bounds.{BoundsAreJudged, Closes, Commits, IsFullForClose, IsFullForSend, Sends, just_opened, one_begun, only_one, restarts}
 use Rattle.rq_cases.specs.Closes.{close_under}
 use Rattle.rq_cases.specs.Opened.{over}
 use Rattle.rq_cases.specs.Openings.{Checked, IsRefused}
@@ -77,7 +68,7 @@ use Rattle.rq_cases.specs.Sound.{hello}
 use Rattle.rq_cases.specs.Store.{formatted_pages, sizes}
 use Rattle.rq_cases.specs.Worlds.{Hold}
 use Rattle.rq_cases.proofs.Closes.{close_plan}
-use Rattle.rq_cases.proofs.Held.{leaves_beginning, log_seen, pages_fit, pages_now, same_beginning}
+use Rattle.rq_cases.proofs.Held.{log_seen, pages_fit}
 use Rattle.rq_cases.proofs.Openings.{formatted_are, only_read}
 use Rattle.rq_cases.proofs.Pages.{are_formatted, range}
 use Rattle.rq_cases.proofs.Restarting.{counted_read, pages_seen_are}
@@ -223,80 +214,6 @@ module _ (n : ℕ) where
           subst (λ (k : ℕ). AllFit (mem_pages.may_be pages) sizes (drop k s.records)) none
           (pages_fit pages h.0 s.records (suc n, all_new (suc n)));
     }
-
-    none_done : done_by s t ≡ []
-    none_done = ap finished_of at_row
-
-    commit_whole : (number : CommitNo) → n + 2 ≤ 2 ^ 50 → number.txn ≡ t → number.lsn ≡ n + 2
-        → Makes (over s pages log) (event.Commit t) (reply.Committed number) (over (one_committed n) pages log)
-    commit_whole number le of at =
-        let length_of = length_is n in
-        let told : AreSpelled s.records = are_spelled (suc n) (omega (arith, le)) in
-        let here = same_beginning log (restarts (suc n)) h.1 s.records s.forced 0 (omega arith) refl in
-        let next : number.lsn ≡ length s.records + 1 = omega (arith, at, length_of) in
-        let is : commit_number number ≡ record { txn = t; lsn = length s.records + 1 } = (λ i. record { txn = of i; lsn = next i }) in
-        let taken : sum_by takes_one (done_by s t) ≡ 0 = ap (sum_by takes_one) none_done in
-        let ws : (g : ℕ) → waits (with_sends (done_by s t) s.waiting) g ≡ waits s.waiting g =
-        (λ g. ap (λ (fs : List Finished). waits (with_sends fs s.waiting) g) none_done) in
-        let counted : (g : ℕ) → sent_count (with_tags (done_by s t) s.sent) g ≡ sent_count s.sent g =
-        (λ g. ap (λ (fs : List Finished). sent_count (with_tags fs s.sent) g) none_done) in
-        let tagged : (g : ℕ) → sent_tag (with_tags (done_by s t) s.sent) g ≡ sent_tag s.sent g =
-        (λ g. ap (λ (fs : List Finished). sent_tag (with_tags fs s.sent) g) none_done) in
-        let made : Commits n (record { txn = t; lsn = length s.records + 1 }) (one_committed n) =
-        deed_steps.commits s (fresh_row t) (one_committed n).cells_in_use (one_committed n).waiting (one_committed n).sent (begun_sound n) refl
-        (record { idle = record { at_row = at_row; idle = refl }; forward = refl; freed = omega (arith, taken); waits = λ g low. (let e = ws g in omega (arith, e)); counts = λ g low. (let e = counted g in omega (arith, e)); tags = λ g low. tagged g })
-        (commit_free le) in
-        let steps : Commits n (commit_number number) (one_committed n) =
-        subst (λ (x : Number). Commits n x (one_committed n)) (sym is) made in
-        record {
-          steps = λ honest k. steps;
-          cause = λ honest k. tt;
-          latched = λ k. tt;
-          sizes = refl;
-          failed = (λ e. cc e, λ e. cc e);
-          refused = tt;
-          lists = record { txn = of; lsn = next; ready = (1, rw (same_self t) (refl, refl)); lists = refl };
-          changes = refl;
-          starts = tt;
-          writes = tt;
-          pages = refl;
-          log = refl;
-          honest = λ honest. honest;
-          any_moment = λ honest. here;
-          fit = λ honest k fits.
-              fit_kept mem_pages mem_log pages_now (over s pages log) (over (one_committed n) pages log) k fits (event.Commit t)
-              (reply.Committed number) (Commit t) _ refl steps tt refl;
-          crash = λ honest k fits.
-              runs_through_cuts mem_pages mem_log pages_now (over s pages log) (over (one_committed n) pages log) k fits
-              (event.Commit t) (reply.Committed number) told tt refl
-              (leaves_beginning log (restarts (suc n)) h.1 s.records s.forced 0 (omega arith) refl) here;
-        }
-
-    refused_whole : 2 ^ 50 ≤ n + 1 → n + 1 < 2 ^ 64 → Makes (over s pages log) (event.Commit t) (reply.Refused why.LogFull) (over s pages log)
-    refused_whole le low =
-        let told : AreSpelled s.records = are_spelled (suc n) (omega (arith, low)) in
-        let here = same_beginning log (restarts (suc n)) h.1 s.records s.forced 0 (omega arith) refl in
-        record {
-          steps = λ honest k. (refuse_full s t ready (commit_full le) k).0;
-          cause = λ honest k. tt;
-          latched = λ k. tt;
-          sizes = refl;
-          failed = (λ e. cc e, λ e. cc e);
-          refused = refl;
-          lists = tt;
-          changes = refl;
-          starts = tt;
-          writes = tt;
-          pages = refl;
-          log = refl;
-          honest = λ honest. honest;
-          any_moment = λ honest. here;
-          fit = λ honest k fits. fits;
-          crash = λ honest k fits.
-              runs_through_cuts mem_pages mem_log pages_now (over s pages log) (over s pages log) k fits (event.Commit t)
-              (reply.Refused why.LogFull) told tt refl
-              (leaves_beginning log (restarts (suc n)) h.1 s.records s.forced 0 (omega arith) refl) here;
-        }
 
 -- what a refusal tells of the tests
 full_says : (n : ℕ) (c : Call) (new : State) → Steps (one_begun n) c (Gave_refusal why.LogFull) new
@@ -466,8 +383,6 @@ bounds = record {
   end_is_full = λ n low. ap when_full (no_room_for n 1 undone refl low);
   nothing_left_fits = λ n. refl;
   before_the_commit = meets;
-  commit_made = λ n pages log number le of at h. commit_whole n pages log h number le of at;
-  commit_refused = λ n pages log le low h. refused_whole n pages log h le low;
   refused_where_it_fits = λ n pages log new le a.
       not_full n (Commit (only_one n)) new.state (commit_passes n le) (a.steps (tt, tt) (begun_sound n));
   committed_where_it_is_full = λ n pages log number new le a.

@@ -16,7 +16,6 @@ use Rattle.rq_disk.specs.declared.mem_pages.PageCall.{PageCall}
 use Rattle.rq_disk.proofs.KeptLog.{fresh_only}
 use Rattle.rq_log.specs.Crash.{LeavesOnly}
 use Rattle.rq_log.specs.Spelled.{AreSpelled, spelled, IsBeginning}
-use Rattle.rq_log.proofs.Moments.{started}
 use Rattle.rq_log.proofs.Runs.{all_of, some_newer, spelled_whole}
 use Rattle.rq_store.specs.Fitting.{AllFit, image_in}
 use Rattle.rq_store.specs.Steps.{Continues}
@@ -74,9 +73,6 @@ module _ (d : MemLog) (records : List Record) (n : IsNewLog d records) where
   module _ (all : List Record) (kept lost : ℕ) (some : lost + kept ≤ length all) (drops : drop lost all ≡ records) where
     pub leaves_beginning : (c : List ℕ) → mem_log.may_leave d c → IsBeginning all kept c
     leaves_beginning c may = (lost, some, only_records c may ∙ ap spelled (sym drops))
-
-    pub same_beginning : LeavesOnly mem_log d d (IsBeginning all kept)
-    same_beginning = started mem_log d (IsBeginning all kept) (λ c left. leaves_beginning c (log_now d c left))
 
 -- a log behind whose older records the newest are appended and forced
 abbrev forced_after : Vec ℕ Global → List LogCall

@@ -1,8 +1,6 @@
 -- A log at its bound: calls that just fit, and calls that are refused.
-use Rattle.std.specs.Prelude.{◌≡◌, ℕ, zero, suc, ◌+◌, ◌-◌, ◌^◌, ◌<◌, ◌≤◌, Bool, false, true, List, [], ◌∷◌, length, Option, Some, None}
-use Rattle.std.specs.List.{sum_by}
+use Rattle.std.specs.Prelude.{◌≡◌, ℕ, zero, suc, ◌+◌, ◌^◌, ◌<◌, ◌≤◌, Bool, false, true, List, [], ◌∷◌, length, Option, Some, None}
 use Rattle.rq_model.specs.declared.record.Record.{Record}
-use Rattle.rq_model.specs.declared.record.Record.TheVariants.{Commit as Commit_record}
 use Rattle.rq_model.specs.declared.refusal.Refusal.{Refusal}
 use Rattle.rq_model.specs.declared.refusal.Refusal.TheVariants as why
 use Rattle.rq_model.specs.declared.txn.Txn.{Txn}
@@ -14,15 +12,11 @@ use Rattle.rq_model.specs.Replay.Reply.{Gave_commit, Gave_refusal, Gave_sub}
 use Rattle.rq_model.specs.Tests.{first_of, log_full, tests}
 use Rattle.rq_disk.specs.declared.mem_log.MemLog.{MemLog}
 use Rattle.rq_disk.specs.declared.mem_pages.MemPages.{MemPages}
-use Rattle.rq_txn.specs.Rows.{fresh_row, without_row}
-use Rattle.rq_groups.specs.Ends.{released}
+use Rattle.rq_txn.specs.Rows.{fresh_row}
 use Rattle.rq_store.specs.Opening.{next_restart, opened}
-use Rattle.rq_store.specs.Settled.{takes_one}
 use Rattle.rq_sound.specs.Sound.{IsSound}
 use Rattle.rq_store.specs.State.{State, ledger_of, size_of}
 use Rattle.rq_sound.specs.Steps.{Steps}
-use Rattle.rq_engine.specs.Lists.{done_by}
-use Rattle.rq_engine.specs.Moves.{with_sends, with_tags}
 use Rattle.rq_engine.specs.Opened.{OpenStore}
 use Rattle.rq_engine.specs.declared.event.CommitNo.{CommitNo}
 use Rattle.rq_engine.specs.declared.event.Event.TheVariants as event
@@ -52,20 +46,6 @@ only_one n = record { incarnation = incarnation_of (restarts n) + 1; count = 1 }
 
 abbrev pub one_begun : ℕ → State
 one_begun n = record (just_opened n) { rows = fresh_row (only_one n) ∷ []; begins = 1 }
-
--- and committed
-abbrev pub one_committed : ℕ → State
-one_committed n = record (one_begun n) {
-  rows = without_row (only_one n) (one_begun n).rows;
-  ends = record {
-    sending = released (only_one n) (one_begun n).ends.sending;
-    receiving = released (only_one n) (one_begun n).ends.receiving;
-  };
-  records = Commit_record (only_one n) ∷ (one_begun n).records;
-  cells_in_use = (one_begun n).cells_in_use - sum_by takes_one (done_by (one_begun n) (only_one n));
-  waiting = with_sends (done_by (one_begun n) (only_one n)) (one_begun n).waiting;
-  sent = with_tags (done_by (one_begun n) (only_one n)) (one_begun n).sent;
-}
 
 -- its commit is answered
 abbrev pub Commits : ℕ → Number → State → Type 0
@@ -132,14 +112,6 @@ pub record BoundsAreJudged : Type 0 where
   -- the whole call, over devices in memory
   pub before_the_commit : (n : ℕ) (pages : MemPages) (log : MemLog)
       → Hold pages formatted_pages log (restarts (suc n)) → MeetsAll (over (one_begun n) pages log)
-  pub commit_made : (n : ℕ) (pages : MemPages) (log : MemLog) (number : CommitNo) → n + 2 ≤ 2 ^ 50
-      → number.txn ≡ only_one n → number.lsn ≡ n + 2 → Hold pages formatted_pages log (restarts (suc n))
-      → Makes (over (one_begun n) pages log) (event.Commit (only_one n)) (reply.Committed number)
-      (over (one_committed n) pages log)
-  pub commit_refused : (n : ℕ) (pages : MemPages) (log : MemLog) → 2 ^ 50 ≤ n + 1 → n + 1 < 2 ^ 64
-      → Hold pages formatted_pages log (restarts (suc n))
-      → Makes (over (one_begun n) pages log) (event.Commit (only_one n)) (reply.Refused why.LogFull)
-      (over (one_begun n) pages log)
   pub refused_where_it_fits : (n : ℕ) (pages : MemPages) (log : MemLog) (new : OpenStore MemPages MemLog)
       → n + 2 ≤ 2 ^ 50
       → Makes (over (one_begun n) pages log) (event.Commit (only_one n)) (reply.Refused why.LogFull) new → ⊥
