@@ -19,7 +19,7 @@ use Rattle.rq_store.specs.Whole.{IsWhole}
 use Rattle.rq_lost.specs.Recovered.{IsRecoveredFrom}
 use Rattle.rq_undone.proofs.Lists.{op_other}
 use Rattle.rq_undone.proofs.Noting.{noted_unfinished, noted_working, pair_of}
-use Rattle.rq_undone.specs.Analysis.{Analysis, analysis, has_sub, with_sub, without_sub, with_txn, without_txn}
+use Rattle.rq_undone.specs.Analysis.{analysis, has_sub, with_sub, without_sub, with_txn, without_txn}
 
 -- either it passes the test or it doesn't
 split : {X : Type 0} (f : X → Bool) (xs : List X) → length xs ≡ length (filter f xs) + length (filter (λ x. not (f x)) xs)

@@ -1,5 +1,5 @@
 -- What a connection was fed, by two.
-use Rattle.std.proofs.Common.{◌≡◌, ℕ, List, ◌++◌, refl, sym, ◌∙◌, ap, subst, Bool, true, false, Result, Ok, Err, inl, inr}
+use Rattle.std.proofs.Common.{◌≡◌, ℕ, List, ◌++◌, sym, ◌∙◌, ap, subst, Bool, true, false, Result, Ok, Err, inl, inr}
 use Rattle.std.specs.Prelude.{IfOk, IsOk, OnOk}
 use Rattle.std.proofs.lemmas.Bool.{cases_Bool}
 use Rattle.rq_model.specs.declared.refusal.NoMemory.{NoMemory}

@@ -1,5 +1,5 @@
 -- Plans of the level of chains, by two that keep the same and are given the same.
-use Rattle.std.proofs.Common.{◌≡◌, ℕ, ◌+◌, ◌/◌, ◌≤◌, ◌<◌, ◌&&◌, nat_eq, List, [], ◌∷◌, refl, sym, ◌∙◌, ap, subst, Bool, true, false, Option, Some, None, Result, Ok, Err, inl, inr, arith, true≢false}
+use Rattle.std.proofs.Common.{◌≡◌, ℕ, ◌+◌, ◌/◌, ◌≤◌, ◌&&◌, nat_eq, List, [], ◌∷◌, refl, sym, ◌∙◌, ap, subst, Bool, true, false, Option, Some, None, Result, Ok, Err, inl, inr, arith, true≢false}
 use Rattle.std.specs.Result.{IfOk}
 use Rattle.std.proofs.lemmas.Bool.{cases_Bool, cases_lt, eqb-true}
 use Rattle.std.proofs.lemmas.List.Elements.{All-head, All-tail}
@@ -22,7 +22,7 @@ use Rattle.rq_level.specs.declared.writes.Outcome.TheVariants as gives
 use Rattle.rq_level.specs.declared.writes.Plan.{Plan}
 use Rattle.rq_level.specs.ChainPlans.{Beside, CanMark, CanReceive, CanSend, CanPutBack, CanUnlinkTail, IsClosed, IsMarked, IsReceived, IsReopened, IsReturned, IsSent, IsTailUnlinked, Plans, PlansFor, RefusesOther, RefusesTaking, RefusesUnread, Undoes, chain_undoes}
 use Rattle.rq_level.specs.Given.{AreGiven, GivenHolds, HoldsBytes, IsGiven, given_at}
-use Rattle.rq_level.specs.Kept.{Kept, IsLowest, flag_at, may_take, reserved_at}
+use Rattle.rq_level.specs.Kept.{Kept, IsLowest, reserved_at}
 use Rattle.rq_level.specs.Meaning.{AreOf, meaning_of}
 use Rattle.rq_level.specs.Ops.{Doing, Job, doing_in}
 use Rattle.rq_level.specs.Ops.Doing.{Send, Receive, Close}

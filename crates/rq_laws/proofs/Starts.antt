@@ -12,7 +12,7 @@ use Rattle.rq_model.specs.Legal.{OnFound}
 use Rattle.rq_page.specs.declared.cell.Cell.{Cell}
 use Rattle.rq_page.specs.declared.directory.Directory.{Directory}
 use Rattle.rq_page.specs.Sizes.{Sizes, IsCellAddress}
-use Rattle.rq_page.specs.Slots.Slot.{Free, Used, Sender}
+use Rattle.rq_page.specs.Slots.Slot.{Free, Used}
 use Rattle.rq_views.specs.Items.{layout_of}
 use Rattle.rq_views.specs.Log.{Slots, Write}
 use Rattle.rq_views.specs.Plans.{append_writes, unlink_head_writes, directory_write, relinked}

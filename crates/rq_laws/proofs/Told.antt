@@ -1,5 +1,5 @@
 -- What bytes and records tell is one.
-use Rattle.std.proofs.Common.{◌≡◌, ◌≢◌, ℕ, ◌+◌, ◌≤◌, ◌<◌, ◌&&◌, ◌||◌, ◌↔◌, nat_eq, nat_lt, List, [], ◌∷◌, ◌++◌, length, take, drop, refl, sym, ◌∙◌, ap, subst, Bool, true, false, Option, Some, None, inl, inr, arith, true≢false}
+use Rattle.std.proofs.Common.{◌≡◌, ◌≢◌, ℕ, ◌+◌, ◌↔◌, nat_eq, List, [], ◌∷◌, ◌++◌, length, drop, refl, sym, ◌∙◌, ap, subst, true, false, Option, Some, None, inl, inr, arith, true≢false}
 use Rattle.std.specs.Prelude.{IfSome, IfNone}
 use Rattle.std.proofs.lemmas.Bool.{cases_Bool, eqb-true, eq-eqb}
 use Rattle.std.proofs.lemmas.Bool.Decides.{nat_tests}
@@ -8,14 +8,14 @@ use Rattle.rq_model.specs.declared.record.Record.{Record}
 use Rattle.rq_model.specs.declared.txn.Sub.{Sub}
 use Rattle.rq_views.specs.Log.{same_op}
 use Rattle.rq_views.proofs.Overlay.{same_is as op_is}
-use Rattle.rq_page.specs.Pages.{IsWritten, lsn_of, rest_of_header, slot_of}
+use Rattle.rq_page.specs.Pages.{IsWritten, rest_of_header, slot_of}
 use Rattle.rq_record.specs.declared.step.Step.{Step}
 use Rattle.rq_record.specs.declared.step.Step.TheVariants as steps
 use Rattle.rq_record.specs.Decoding.{IfRecord, IsFront}
 use Rattle.rq_record.specs.Spelling.{BeginsRecord, HoldsRecord, IsRecord, spelling}
 use Rattle.rq_undone.specs.declared.history.Spot.{Spot}
 use Rattle.rq_undone.specs.Analysis.{Analysis, has_sub}
-use Rattle.rq_undone.specs.Pages.{NoneIsSpent, IsNextUndo, IsSpent, any_spot, op_less, txn_less, undo_of, void_of}
+use Rattle.rq_undone.specs.Pages.{IsNextUndo, op_less, undo_of, void_of}
 use Rattle.rq_undone.specs.Pages.IsNextUndo.{Voids, Undoes}
 use Rattle.rq_laws.specs.Alike.{PagesAlike}
 
