@@ -1,10 +1,8 @@
 -- Bytes that were written over others.
-use Rattle.std.proofs.Common.{◌≡◌, ℕ, ◌+◌, ◌-◌, ◌≤◌, List, ◌++◌, length, take, drop, sym, ap, ◌∙◌, arith, length-append, length-drop}
+use Rattle.std.proofs.Common.{◌≡◌, ℕ, ◌+◌, ◌-◌, ◌≤◌, List, ◌++◌, length, take, drop, sym, ap, ◌∙◌, arith, length-drop}
 use Rattle.std.proofs.lemmas.List.{drop-append-le, drop-take, drop-drop, length-take, take-append-le, take-take, drop_all}
 use Rattle.std.proofs.Math.Seq.{take-append_seam}
-use Rattle.byteorder.specs.Endian.{big_number}
-use Rattle.byteorder.specs.Numbers.{big_from-take}
-use Rattle.rq_bytes.specs.Number.{overlaid, number_at, bytes_at}
+use Rattle.rq_bytes.specs.Number.{overlaid, bytes_at}
 use Rattle.rq_bytes.proofs.Placed.{drop-front}
 
 -- what was written stands there

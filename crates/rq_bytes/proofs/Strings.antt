@@ -1,7 +1,7 @@
 -- Lists of bytes: their parts, and the numbers in them.
 use Rattle.std.proofs.Common.{◌≡◌, ℕ, zero, suc, ◌+◌, ◌*◌, ◌^◌, ◌<◌, ◌≤◌, List, [], ◌∷◌, ◌++◌, length, take, drop, refl, sym, ap, ◌∙◌, inl, inr, ◌⊎◌, arith}
 use Rattle.std.proofs.lemmas.Bool.{cases_lt}
-use Rattle.std.proofs.lemmas.List.{append-nil, length-take, get_or-take, get_or-drop, get_or_past, get_or-append-add, get_or_append_left}
+use Rattle.std.proofs.lemmas.List.{append-nil, length-take, get_or-take, get_or-drop, get_or_past, get_or-append-add}
 use Rattle.std.proofs.lemmas.Nat.{same_from_place, mod_below}
 use Rattle.std.specs.Int.{byte_at, bytes_high_first}
 use Rattle.byteorder.specs.Endian.{big_bytes, big_number, big_from}

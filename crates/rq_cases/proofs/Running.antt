@@ -10,7 +10,7 @@ use Rattle.rq_model.specs.Replay.Reply.{Gave_txn, Gave_sub, Gave_lsn, Gave_sent,
 use Rattle.rq_page.specs.Directories.{new_directory}
 use Rattle.rq_page.specs.Sizes.{directory_at}
 use Rattle.rq_views.specs.Items.{formatted_at}
-use Rattle.rq_views.specs.Log.{Slots, Write}
+use Rattle.rq_views.specs.Log.{Slots}
 use Rattle.rq_views.specs.WorkedItems.{cell, sends, t1, t2, takes}
 use Rattle.rq_views.specs.Stored.{slots_in, count_used}
 use Rattle.rq_txn.specs.Rows.{fresh_row}
@@ -70,9 +70,6 @@ fresh_sound = subst IsSound first_is first_sound
 -- 1.1 sends
 pub begin : Steps fresh Begin (Gave_txn t1) begun
 begin = abort_steps.begins fresh fresh_sound refl refl
-
-abbrev two : Write → Write → List Write
-two x y = x ∷ y ∷ []
 
 pub send_plan : IsSendPlan sizes (slots_in sizes formatted_pages) (send_under 0) 0 7 (104 ∷ [])
 send_plan = record {

@@ -90,9 +90,6 @@ cell_held z a bytes is slot =
 pub holds : (z : Sizes) (given : List Given) (a : ℕ) (x : Slot) (bytes : List ℕ) → given_at a given ≡ Some bytes → held_in z (a / 16) bytes ≡ x → GivenHolds z given a x
 holds z given a x bytes e h = subst (HoldsBytes z a x) (sym e) h
 
-pub held : (z : Sizes) (given : List Given) (a : ℕ) (x : Slot) (bytes : List ℕ) → given_at a given ≡ Some bytes → GivenHolds z given a x → held_in z (a / 16) bytes ≡ x
-held z given a x bytes e h = subst (HoldsBytes z a x) e h
-
 -- what decoding a sender's directory slot gives, where it was given
 pub record IsDecoded (z : Sizes) (given : List Given) (s : ℕ) (o : Option DirectorySlot) : Type 0 where
   pub directory : Directory

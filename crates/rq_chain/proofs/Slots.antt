@@ -1,6 +1,6 @@
 -- What slots hold whose bytes spell it.
-use Rattle.std.proofs.Common.{◌≡◌, ℕ, ◌-◌, ◌/◌, ◌%◌, ◌<◌, ◌^◌, ◌==◌, List, [], ◌∷◌, All, Bool, true, false, if◌then◌else◌, Option, Some, refl, sym, ap, ◌∙◌, arith, subst, inr}
-use Rattle.rq_page.specs.Sizes.{Sizes, IsCellAddress, IsLink, directory_at, sender_at, sender_count}
+use Rattle.std.proofs.Common.{◌≡◌, ℕ, ◌/◌, ◌%◌, ◌<◌, List, [], ◌∷◌, All, Option, Some, refl, sym, ap, ◌∙◌, arith, subst}
+use Rattle.rq_page.specs.Sizes.{Sizes, IsCellAddress, directory_at, sender_at, sender_count}
 use Rattle.rq_page.specs.Kinds.{kind_of}
 use Rattle.rq_page.specs.Cells.{cell_slot_bytes}
 use Rattle.rq_page.specs.Directories.{directory_bytes}
@@ -13,7 +13,6 @@ use Rattle.rq_page.specs.declared.layout.PageKind.{PageKind}
 use Rattle.rq_page.specs.declared.layout.PageKind.TheVariants as kind
 use Rattle.rq_page.proofs.Addresses.{kind_cells, kind_directory, senders_have_slots}
 use Rattle.rq_page.proofs.Spellings.{spelling_tells}
-use Rattle.rq_views.specs.Chain.{directory_appended}
 use Rattle.rq_views.specs.Stored.{IsStoreSlot}
 use Rattle.rq_views.specs.Log.{Write}
 use Rattle.rq_level.specs.declared.writes.SlotWrite.{SlotWrite}

@@ -1,13 +1,10 @@
 -- A sender's group and the cells beside those that an operation writes.
-use Rattle.std.specs.Prelude.{◌≡◌, ℕ, ◌/◌, ◌%◌, ◌<◌, List, [], ◌∷◌, Option, Some, None, map, All}
+use Rattle.std.specs.Prelude.{◌≡◌, ℕ, ◌<◌, Option, Some, None}
 use Rattle.rq_page.specs.declared.cell.Cell.{Cell}
 use Rattle.rq_page.specs.declared.cell.CellSlot.{CellSlot}
 use Rattle.rq_page.specs.declared.cell.CellSlot.TheVariants as cells
 use Rattle.rq_page.specs.Sizes.{Sizes, IsCellAddress, directory_at, sender_count}
-use Rattle.rq_page.specs.Slots.{held_in, IsSlotOf, IsCellOf, IsDirectoryOf}
-use Rattle.rq_views.specs.Log.{Write}
-use Rattle.rq_views.specs.Stored.{IsStoreSlot}
-use Rattle.rq_level.specs.declared.writes.SlotWrite.{SlotWrite}
+use Rattle.rq_page.specs.Slots.{IsCellOf, IsDirectoryOf}
 use Rattle.rq_chain.specs.declared.Neighbour.{Neighbour}
 use Rattle.rq_chain.specs.declared.Group.{Group}
 

@@ -35,17 +35,8 @@ module _ (bytes : List ℕ) (calls later : List LogCall) where
   abbrev was : LogState
   was = log_after bytes calls
 
-  pub appended_to : (n : ℕ) (run : Vec ℕ Global) → later ≡ calls ++ Append run ∷ [] → AreRecords n was.handed → Appended (log_reads was) run.items (MayLeave was) (MayLeave (log_after bytes later))
-  appended_to n run is are c now = cut_push n was run.items c are (subst (λ (u : LogState). MayLeave u c) (log_pushed bytes calls later (Append run) is) now)
-
-  pub added_to : (run : Vec ℕ Global) → later ≡ calls ++ Append run ∷ [] → log_reads (log_after bytes later) ≡ log_reads was ++ run.items
-  added_to run is = ap log_reads (log_pushed bytes calls later (Append run) is) ∙ sym (append_assoc was.forced was.handed run.items)
-
   pub forced_to : later ≡ calls ++ Force ∷ [] → (c : List ℕ) → MayLeave (log_after bytes later) c → c ≡ log_reads was
   forced_to is c now = fresh_only (log_reads was) c (subst (λ (u : LogState). MayLeave u c) (log_pushed bytes calls later Force is) now)
-
-  pub same_log_to : later ≡ calls ++ Force ∷ [] → log_reads (log_after bytes later) ≡ log_reads was
-  same_log_to is = ap log_reads (log_pushed bytes calls later Force is) ∙ append-nil (log_reads was)
 
   pub fewer_logs_to : later ≡ calls ++ Force ∷ [] → (c : List ℕ) → MayLeave (log_after bytes later) c → MayLeave was c
   fewer_logs_to is c now = subst (MayLeave was) (sym (forced_to is c now)) (log_seen was)

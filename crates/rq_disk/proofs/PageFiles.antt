@@ -1,10 +1,10 @@
 -- One call more of a file of pages.
-use Rattle.std.proofs.Common.{◌≡◌, ◌⊎◌, ◌↔◌, ℕ, Bool, true, false, List, [], ◌∷◌, length, refl, subst, sym, inl, inr, ⊎_elim}
+use Rattle.std.proofs.Common.{◌≡◌, ◌⊎◌, ◌↔◌, ℕ, Bool, true, false, List, [], ◌∷◌, length, subst, sym, inl, inr, ⊎_elim}
 use Rattle.std.specs.Prelude.{if◌then◌else◌}
 use Rattle.rq_disk.specs.Device.{Images, Leaves, NoMore, Elapses}
 use Rattle.rq_disk.specs.FileCalls.{FileCall, has_failed, after_sync}
 use Rattle.rq_disk.specs.FileCalls.FileCall.{Gave, Took, Tried, Synced, Missed}
-use Rattle.rq_disk.specs.PageFile.{images_now, page_may_be, PagesLeftSince, page_seen, page_at, before_sync, WasWrittenSince, PageFilesLeave}
+use Rattle.rq_disk.specs.PageFile.{images_now, page_may_be, PagesLeftSince, page_seen, before_sync, WasWrittenSince, PageFilesLeave}
 use Rattle.rq_disk.proofs.SinceCalls.{goes_on}
 
 module _ (held : Images) (calls later : List FileCall) where

@@ -1,5 +1,5 @@
 -- Refusals are the first test that holds, with their causes.
-use Rattle.std.proofs.Common.{◌≡◌, ◌≢◌, ℕ, ◌+◌, ◌-◌, ◌^◌, ◌≤◌, ◌||◌, List, length, refl, sym, ◌∙◌, ap, subst, true, false, not, nat_eq, nat_lt, Option, Some, None, IsTrue, inl, inr, Result, Err, ◌↔◌}
+use Rattle.std.proofs.Common.{◌≡◌, ◌≢◌, ℕ, ◌+◌, ◌^◌, ◌≤◌, ◌||◌, List, length, refl, sym, ◌∙◌, ap, subst, true, false, not, nat_eq, nat_lt, Option, Some, None, IsTrue, inl, inr, Result, Err, ◌↔◌}
 use Rattle.std.proofs.lemmas.Bool.{cases_Bool, false≢true, false_from_ne_true, eqb-true, or_from, ltb-false}
 use Rattle.rq_model.specs.declared.txn.Txn.{Txn}
 use Rattle.rq_model.specs.declared.refusal.Refusal.{Refusal}

@@ -1,5 +1,5 @@
 -- Each level keeps its laws.
-use Rattle.std.proofs.Common.{◌≡◌, ◌≢◌, ℕ, zero, suc, ◌+◌, ◌*◌, ◌/◌, ◌%◌, nat_lt, Result, Ok, Err, arith, List, [], ◌∷◌, Bool, true, false, cond, nat_eq, Option, None, Some, length, set, refl, sym, ap, ◌∙◌, subst, inl, inr}
+use Rattle.std.proofs.Common.{◌≡◌, ℕ, zero, suc, ◌+◌, ◌*◌, nat_lt, Err, arith, List, [], ◌∷◌, Bool, true, false, cond, nat_eq, Option, None, Some, length, set, refl, sym, ap, ◌∙◌, inl, inr}
 use Rattle.std.proofs.lemmas.Bool.{cases_Bool, le-ltb}
 use Rattle.rq_page.specs.Pages.{lsn_of}
 use Rattle.std.proofs.lemmas.List.{length-set}
@@ -8,7 +8,7 @@ use Rattle.rq_page.specs.declared.cell.CellSlot.TheVariants as cells
 use Rattle.rq_page.specs.Cells.{cell_slot_in}
 use Rattle.rq_page.specs.Directories.{directory_in}
 use Rattle.rq_page.specs.Sizes.{Sizes, directory_at, place_of}
-use Rattle.rq_level.specs.Kept.{Kept, noted, noted_in, noted_cell, told_sizes, is_cell_address, is_free_slot}
+use Rattle.rq_level.specs.Kept.{Kept, noted, noted_in, noted_cell, is_cell_address, is_free_slot}
 use Rattle.rq_level.specs.Ops.{Doing, Overwrite, doing_in, overwrite_in}
 use Rattle.rq_level.specs.PagePlans.{write_wants, PlansWrite, WritesFor, CannotOverwrite, TakesBack, is_slot_number, page_undoes}
 use Rattle.rq_model.specs.declared.record.Record.{Record}
@@ -21,8 +21,8 @@ use Rattle.rq_level.specs.ChainPlans.{unless_given, link_wanted, behind, behind_
 use Rattle.rq_model.specs.Deeds.{deed_in}
 use Rattle.rq_model.specs.declared.record.Deed.{Deed}
 use Rattle.rq_model.specs.declared.record.Deed.TheVariants.{Append, UnlinkHead, Close as Close_deed}
-use Rattle.rq_level.specs.Meaning.{Meaning, Redo, AppliesOnce, IsAppliedOnce, meaning_of}
-use Rattle.rq_level.specs.Lawful.{IsNotGiven, IsLawful, AllLawful, AppliedTwiceIsOnce, MayHaveNoPlan}
+use Rattle.rq_level.specs.Meaning.{Redo, IsAppliedOnce, meaning_of}
+use Rattle.rq_level.specs.Lawful.{IsNotGiven, AllLawful, AppliedTwiceIsOnce, MayHaveNoPlan}
 use Rattle.rq_level.specs.declared.slots.Given.{Given}
 use Rattle.rq_level.proofs.Counted.{few_planned, few_undone, few_written, few_taken_back, silent_undone, silent_taken_back}
 use Rattle.rq_level.proofs.Noting.{any_order}

@@ -1,5 +1,5 @@
 -- Slots that are noted one after the other.
-use Rattle.std.proofs.Common.{◌≡◌, ◌≢◌, ℕ, zero, suc, ◌<◌, ◌/◌, ◌%◌, nat_lt, nat_eq, ◌&&◌, List, [], ◌∷◌, Bool, true, false, Option, None, Some, set, refl, sym, ap, ◌∙◌, inl, inr, arith}
+use Rattle.std.proofs.Common.{◌≡◌, ◌≢◌, ℕ, zero, suc, ◌/◌, ◌%◌, nat_lt, ◌&&◌, List, [], ◌∷◌, Bool, true, false, Option, None, Some, set, refl, sym, ap, ◌∙◌, inl, inr}
 use Rattle.std.proofs.lemmas.Bool.{cases_Bool, ne_eqb, and_parts, ltb-true}
 use Rattle.rq_page.specs.Sizes.{Sizes, IsCellAddress, cell_at, place_of, page_count}
 use Rattle.rq_page.proofs.Addresses.{places_are_cells}

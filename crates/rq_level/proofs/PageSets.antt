@@ -1,5 +1,5 @@
 -- Sets of pages with some taken out.
-use Rattle.std.proofs.Common.{◌≡◌, ℕ, Bool, List, refl, ap, ◌∙◌}
+use Rattle.std.proofs.Common.{◌≡◌, ℕ, Bool, List, ap, ◌∙◌}
 use Rattle.std.specs.List.{filter}
 use Rattle.rq_level.specs.Given.{Pages}
 

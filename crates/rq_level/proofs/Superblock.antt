@@ -1,5 +1,5 @@
 -- The superblock's slot tells the sizes.
-use Rattle.std.proofs.Common.{◌≡◌, ℕ, ◌&&◌, nat_le, cond, List, Bool, true, Option, Some, None, ◌∙◌, ap}
+use Rattle.std.proofs.Common.{◌≡◌, ℕ, ◌&&◌, nat_le, cond, List, Bool, true, Some, None, ◌∙◌, ap}
 use Rattle.std.proofs.lemmas.Bool.{and_from, le-leb}
 use Rattle.rq_bytes.specs.Number.{number_at}
 use Rattle.rq_page.specs.Formatted.{IsFormatted}

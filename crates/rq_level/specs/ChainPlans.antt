@@ -1,5 +1,5 @@
 -- What the level of chains answers to an operation that is to be planned, from the slots that it was given.
-use Rattle.std.specs.Prelude.{◌≡◌, ℕ, ◌+◌, ◌<◌, ◌≤◌, ◌^◌, ◌/◌, ◌%◌, Bool, true, false, not, cond, nat_eq, List, [], ◌∷◌, reverse, Option, None, Some, Result, Ok, Err}
+use Rattle.std.specs.Prelude.{◌≡◌, ℕ, ◌+◌, ◌<◌, ◌≤◌, ◌^◌, Bool, true, false, not, cond, nat_eq, List, [], ◌∷◌, reverse, Option, None, Some, Result, Ok, Err}
 use Rattle.rq_model.specs.declared.message.Message.{Message}
 use Rattle.rq_model.specs.declared.record.Deed.{Deed}
 use Rattle.rq_model.specs.declared.record.Deed.TheVariants.{Append, UnlinkHead, Close as Close_deed}

@@ -1,5 +1,5 @@
 -- Slots that a level was given, and the pages that operations have latched.
-use Rattle.std.specs.Prelude.{◌≡◌, ℕ, ◌/◌, ◌%◌, ◌||◌, nat_eq, cond, Bool, true, false, List, [], ◌∷◌, Option, None, Some, All}
+use Rattle.std.specs.Prelude.{◌≡◌, ℕ, ◌/◌, ◌%◌, ◌||◌, nat_eq, cond, Bool, false, List, [], ◌∷◌, Option, None, Some, All}
 use Rattle.rq_page.specs.Sizes.{Sizes}
 use Rattle.rq_page.specs.Slots.{Slot, held_in, IsSlotOf}
 use Rattle.rq_views.specs.Stored.{IsStoreSlot}

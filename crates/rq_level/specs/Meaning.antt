@@ -1,5 +1,5 @@
 -- What the level of each number does.
-use Rattle.std.specs.Prelude.{◌≡◌, ℕ, zero, suc, ◌+◌, ◌≤◌, nat_lt, Bool, true, false, List, [], ◌∷◌, map, Option, None, Some, Result, Ok, Err, slice_index_or}
+use Rattle.std.specs.Prelude.{◌≡◌, ℕ, zero, suc, ◌+◌, ◌≤◌, nat_lt, Bool, true, false, List, [], ◌∷◌, Option, None, Some, Result, slice_index_or}
 use Rattle.rq_model.specs.declared.record.Record.{Record}
 use Rattle.rq_model.specs.declared.record.Record.TheVariants.{PageOp, PageUndo}
 use Rattle.rq_model.specs.declared.refusal.Refusal.{Refusal}
@@ -7,7 +7,7 @@ use Rattle.rq_model.specs.Deeds.{deed_in}
 use Rattle.rq_model.specs.Words.{is_some}
 use Rattle.rq_page.specs.Pages.{lsn_of, IsWritten}
 use Rattle.rq_level.specs.Kept.{Kept, nothing_kept, noted}
-use Rattle.rq_level.specs.Ops.{Job, doing_in}
+use Rattle.rq_level.specs.Ops.{Job}
 use Rattle.rq_level.specs.Given.{AreGiven}
 use Rattle.rq_level.specs.ChainPlans.{RefusesUnread, chain_plans, chain_undoes, job_wanted}
 use Rattle.rq_level.specs.PagePlans.{page_plans, page_undoes, page_wants}

@@ -1,5 +1,5 @@
 -- Operations to be planned, as bytes that their level alone reads.
-use Rattle.std.specs.Prelude.{◌≡◌, ℕ, ◌+◌, ◌/◌, ◌%◌, ◌^◌, ◌&&◌, not, cond, nat_eq, nat_lt, Bool, false, List, [], ◌∷◌, ◌++◌, Option, None, Some, length, drop}
+use Rattle.std.specs.Prelude.{ℕ, ◌+◌, ◌/◌, ◌%◌, ◌^◌, ◌&&◌, not, cond, nat_eq, nat_lt, Bool, false, List, [], ◌∷◌, ◌++◌, Option, None, Some, length, drop}
 use Rattle.byteorder.specs.Endian.{big_bytes, big_number}
 
 -- what is to be planned: of a level, something to do or a deed to take back

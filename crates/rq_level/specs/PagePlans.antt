@@ -1,5 +1,5 @@
 -- What the level of single slots answers.
-use Rattle.std.specs.Prelude.{◌≡◌, ℕ, ◌+◌, ◌*◌, ◌≤◌, Bool, true, false, cond, nat_le, ◌&&◌, List, [], ◌∷◌, Option, None, Some, Result, Ok, Err}
+use Rattle.std.specs.Prelude.{◌≡◌, ℕ, ◌+◌, ◌*◌, Bool, true, false, cond, nat_le, ◌&&◌, List, [], ◌∷◌, Option, None, Some, Result, Ok, Err}
 use Rattle.rq_model.specs.declared.record.Record.{Record}
 use Rattle.rq_model.specs.declared.record.Record.TheVariants.{PageOp}
 use Rattle.rq_model.specs.declared.refusal.Refusal.{Refusal}

@@ -5,7 +5,7 @@ use Rattle.rq_model.specs.Words.{In}
 use Rattle.rq_page.specs.Kinds.{kind_of}
 use Rattle.rq_page.specs.declared.layout.PageKind.{PageKind}
 use Rattle.rq_page.specs.declared.layout.PageKind.TheVariants as kind
-use Rattle.rq_page.specs.Sizes.{Sizes, IsCellAddress, cell_at, cell_count, directory_at, place_of, sender_count}
+use Rattle.rq_page.specs.Sizes.{Sizes, IsCellAddress, cell_at, cell_count, place_of, sender_count}
 use Rattle.rq_page.specs.Slots.{held_for, held_in}
 use Rattle.rq_page.proofs.Addresses.{places_are_cells, cells_rise}
 use Rattle.rq_flags.specs.Flags.{flag_at}
@@ -15,7 +15,7 @@ use Rattle.rq_views.specs.Stored.{is_used, slot_at, slots_in}
 use Rattle.rq_views.proofs.Chains.{no_eq}
 use Rattle.rq_views.proofs.Stands.{page_of_cells}
 use Rattle.rq_links.specs.Follows.{AreFollowed, IsFollowed}
-use Rattle.rq_links.specs.Links.{addresses, AreLinked, IsChain, IsFirstBroken, IsFirstUnmet, IsMet}
+use Rattle.rq_links.specs.Links.{addresses, AreLinked, IsChain, IsFirstUnmet, IsMet}
 use Rattle.rq_links.proofs.Chains.{chains_of}
 
 -- none is followed

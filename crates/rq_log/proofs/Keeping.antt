@@ -1,13 +1,13 @@
 -- What is so of a device whose records are read stays so.
-use Rattle.std.proofs.Common.{◌≡◌, ◌≢◌, ◌⊎◌, ⊎_elim, inl, inr, ℕ, suc, ◌+◌, ◌-◌, ◌*◌, ◌^◌, ◌<◌, ◌≤◌, List, [], ◌∷◌, ◌++◌, length, take, drop, refl, sym, ◌∙◌, ap, subst, arith, append_assoc, length-append}
-use Rattle.std.proofs.lemmas.List.{append-nil, length-drop, take-append-drop}
+use Rattle.std.proofs.Common.{◌≡◌, ◌≢◌, ◌⊎◌, ⊎_elim, inl, inr, ℕ, ◌+◌, ◌*◌, ◌^◌, ◌<◌, ◌≤◌, List, [], ◌∷◌, ◌++◌, length, take, drop, refl, sym, ◌∙◌, ap, subst, arith, append_assoc, length-append}
+use Rattle.std.proofs.lemmas.List.{append-nil, take-append-drop}
 use Rattle.rq_model.specs.declared.record.Record.{Record}
 use Rattle.rq_disk.specs.declared.device.LogDevice.{Ghosts}
 use Rattle.rq_record.specs.declared.step.Front.{Front}
 use Rattle.rq_record.specs.declared.step.Front.TheVariants as fronts
 use Rattle.rq_record.specs.declared.step.Step.TheVariants as steps
 use Rattle.rq_record.specs.Decoding.{IsFront, step_with}
-use Rattle.rq_record.specs.Spelling.{HoldsRecord, IsRecord, spelling}
+use Rattle.rq_record.specs.Spelling.{HoldsRecord, spelling}
 use Rattle.rq_record.proofs.Whole.{long_spelling, short_spelling}
 use Rattle.rq_log.specs.Reading.{HasMost, IsDamagedBehind, IsRead, IsReading, KeepsRead, Streamed, left_of}
 use Rattle.rq_log.specs.Spelled.{spelled, AreSpelled}
@@ -57,10 +57,6 @@ none_empty : (unread rest : List ℕ) → unread ≢ [] → unread ++ rest ≢ [
 none_empty [] rest some e = some refl
 none_empty (b ∷ unread) rest some e = let n = ap length e in omega (arith, n)
 
-no_bytes : (bytes : List ℕ) → length bytes ≡ 0 → bytes ≡ []
-no_bytes [] e = refl
-no_bytes (b ∷ bytes) e = absurd (omega (arith, e))
-
 module _ {L : Type 0} (g : Ghosts L) (records : List Record) (first : L) (last : ℕ) where
   -- the number of the next record
   pub next_fits : (s : Streamed L) → KeepsRead g records s first last → s.at < 2 ^ 64 → last + 1 < 2 ^ 64
@@ -103,11 +99,6 @@ module _ {L : Type 0} (g : Ghosts L) (records : List Record) (first : L) (last :
         ∙ sym (append_assoc (spelled records) (spelling r) (drop used s.unread ++ drop s.at (g.seen s.device)));
     read = k.read;
   })
-
-  -- nothing is left
-  pub all_read : (s : Streamed L) → KeepsRead g records s first last → HasMost g 546 s → length s.unread ≡ 0 → g.honest s.device → g.seen first ≡ spelled records
-  all_read s k (inl most) none h = absurd (omega (arith, most, none))
-  all_read s k (inr all) none h = k.front h ∙ ap (λ l. spelled records ++ (s.unread ++ l)) (all h) ∙ ap (λ l. spelled records ++ (l ++ [])) (no_bytes s.unread none) ∙ append-nil (spelled records)
 
   -- what is left is no record
   pub damaged : (s : Streamed L) → KeepsRead g records s first last → HasMost g 546 s → (HoldsRecord s.unread → ⊥) → s.unread ≢ [] → g.honest s.device → IsDamagedBehind records (g.seen first)

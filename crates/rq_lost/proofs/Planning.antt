@@ -1,5 +1,5 @@
 -- What is due first can be taken back.
-use Rattle.std.proofs.Common.{◌≡◌, ◌<◌, ◌/◌, ◌++◌, ℕ, not, List, [], ◌∷◌, Option, Some, None, inl, inr, refl, true, false, sym, ◌∙◌, ap, subst, arith}
+use Rattle.std.proofs.Common.{◌≡◌, ◌<◌, ◌/◌, ◌++◌, ℕ, not, List, [], ◌∷◌, Option, Some, None, inl, inr, refl, false, sym, ◌∙◌, ap, subst, arith}
 use Rattle.std.proofs.lemmas.Bool.{cases_Bool, eq-eqb}
 use Rattle.rq_model.specs.declared.record.Deed.{Deed}
 use Rattle.rq_model.specs.declared.record.Deed.TheVariants.{Append, UnlinkHead, Close}
@@ -14,7 +14,7 @@ use Rattle.rq_page.specs.Sizes.{Sizes, directory_at, sender_count}
 use Rattle.rq_views.specs.InStore.{InStore}
 use Rattle.rq_views.specs.Chain.{View}
 use Rattle.rq_views.specs.Items.{ReadsItsDeeds, items, told_deed}
-use Rattle.rq_views.specs.Legal.{open_deeds, view}
+use Rattle.rq_views.specs.Legal.{open_deeds}
 use Rattle.rq_views.specs.Log.{Slots}
 use Rattle.rq_views.specs.Stored.{slots_in}
 use Rattle.rq_views.specs.Plans.{deed_sender}

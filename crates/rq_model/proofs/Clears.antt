@@ -1,5 +1,5 @@
 -- What each legal entry keeps of sending ends and closes.
-use Rattle.std.proofs.Common.{◌≡◌, ℕ, zero, suc, ◌+◌, ◌≤◌, List, [], ◌∷◌, ◌++◌, take, map, refl, sym, ◌∙◌, ap, subst, true, false, Option, Some, None, ◌⊎◌, inl, inr, arith, ◌||◌, ◌≢◌}
+use Rattle.std.proofs.Common.{◌≡◌, ℕ, ◌+◌, ◌≤◌, List, [], ◌∷◌, ◌++◌, take, map, refl, sym, ◌∙◌, ap, subst, true, false, Option, Some, None, ◌⊎◌, inl, inr, arith, ◌||◌, ◌≢◌}
 use Rattle.std.proofs.lemmas.Bool.{cases_Bool, or_cases, or_parts, or_from, and_parts, false≢true, not-false, false_from_ne_true, eqb-true}
 use Rattle.rq_model.specs.declared.txn.Txn.{Txn}
 use Rattle.rq_model.specs.declared.refusal.Refusal.{Refusal}

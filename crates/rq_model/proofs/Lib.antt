@@ -7,9 +7,7 @@ pub mod Clears
 pub mod Commits
 pub mod Shown
 pub mod Told
-pub mod Rules
 pub mod Histories
-pub mod LogRows
 pub mod Within
 pub mod Rises
 pub mod Counts

@@ -1,6 +1,5 @@
 -- A replay from the ledger of a legal history goes on with it; so do a crash and a restart.
 use Rattle.std.proofs.Common.{◌≡◌, List, [], ◌∷◌, ◌++◌, refl, sym, ◌∙◌, ap, subst, false}
-use Rattle.rq_model.specs.declared.refusal.Refusal.{Refusal}
 use Rattle.rq_model.specs.declared.refusal.Refusal.TheVariants.{Failed}
 use Rattle.rq_model.specs.History.{Entry, Call}
 use Rattle.rq_model.specs.History.Call.{Begin, Start_send, Start_receive, Start_receive_from, Start_close, Step, Finish, Commit, Acknowledge, Start_abort, Undo_next, End_abort, Hand_over, Force, Write_page, Last_tag, Show}
@@ -8,8 +7,7 @@ use Rattle.rq_model.specs.History.Entry.{Refused}
 use Rattle.rq_model.specs.Ledger.{Ledger, runs, ledger, after}
 use Rattle.rq_model.specs.Legal.{Legal, IsLegal}
 use Rattle.rq_model.specs.Tests.{Size}
-use Rattle.rq_model.specs.Replay.{Reply, Says, Replays, AllSay}
-use Rattle.rq_model.specs.Replay.Reply.{Gave_refusal}
+use Rattle.rq_model.specs.Replay.{Reply, Replays, AllSay}
 
 -- A replay from the ledger of a legal history is a longer legal history.
 pub replays_on : (z : Size) (h : List Entry) (audit : List (Call × Reply)) (l : Ledger) → IsLegal z h → Replays z (ledger h) audit l → (newer : List Entry) × IsLegal z (newer ++ h) × (ledger (newer ++ h) ≡ l) × AllSay audit newer

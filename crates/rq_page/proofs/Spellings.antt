@@ -1,17 +1,17 @@
 -- A slot is the one spelling of what it holds.
-use Rattle.std.proofs.Common.{◌≡◌, ℕ, ◌≤◌, List, length, Option, Some, None, refl, sym, ap, ◌∙◌, subst}
+use Rattle.std.proofs.Common.{◌≡◌, ℕ, List, Option, Some, None, refl, sym, ap, ◌∙◌, subst}
 use Rattle.rq_page.specs.Sizes.{Sizes, sender_at}
 use Rattle.rq_page.specs.Kinds.{kind_of}
 use Rattle.rq_page.specs.Cells.{cell_slot_bytes, cell_slot_in, cell_bytes, free_bytes, IsCellSlot}
 use Rattle.rq_page.specs.Directories.{directory_bytes, directory_in, IsDirectorySlot}
-use Rattle.rq_page.specs.Slots.{Slot, Free, Used, Sender, of_cell_slot, of_directory_slot, slot_bytes, held_for, held_in, IsDirectoryOf, MayStand, HoldsCell, HoldsDirectory, IsSlotFor, IsSlotOf, MayHold, SpellingTells, SlotIsSpelling}
+use Rattle.rq_page.specs.Slots.{Slot, Free, Used, Sender, of_cell_slot, of_directory_slot, slot_bytes, held_for, IsDirectoryOf, MayStand, HoldsCell, HoldsDirectory, IsSlotFor, MayHold, SpellingTells, SlotIsSpelling}
 use Rattle.rq_page.specs.declared.cell.CellSlot.{CellSlot}
 use Rattle.rq_page.specs.declared.cell.CellSlot.TheVariants as cells
 use Rattle.rq_page.specs.declared.directory.DirectorySlot.{DirectorySlot}
 use Rattle.rq_page.specs.declared.layout.PageKind.{PageKind}
 use Rattle.rq_page.specs.declared.layout.PageKind.TheVariants as kind
 use Rattle.rq_page.proofs.CellBytes.{cell_slot_in-cell_slot_bytes}
-use Rattle.rq_page.proofs.DirectoryBytes.{directory_in-directory_bytes, length-directory_bytes}
+use Rattle.rq_page.proofs.DirectoryBytes.{directory_in-directory_bytes}
 
 -- bytes that spell what may stand in a cell's slot hold it
 pub holds_cell : (l : Sizes) (x : CellSlot) (bytes : List ℕ) → IsCellSlot x → cell_slot_bytes x ≡ bytes → MayStand l x → HoldsCell l bytes

@@ -1,3 +1,2 @@
 pub mod Overwrites
-pub mod Worked
 pub mod Latched

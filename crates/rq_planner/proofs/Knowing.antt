@@ -1,22 +1,16 @@
 -- A level that knows the cells of a store, whatever is under way there.
-use Rattle.std.proofs.Common.{set, ◌≡◌, ◌≢◌, ℕ, ◌/◌, ◌<◌, List, length, refl, sym, ◌∙◌, ap, subst, Bool, true, false, not, nat_eq, Option, Some, Result, inl, inr, arith}
+use Rattle.std.proofs.Common.{set, ◌≡◌, ◌≢◌, ℕ, ◌/◌, ◌<◌, List, length, refl, sym, ◌∙◌, ap, subst, Bool, true, false, not, nat_eq, Option, Some, inl, inr, arith}
 use Rattle.std.proofs.lemmas.Bool.{cases_Bool, cases_eq, eqb-true, false≢true, false_from_ne_true, true≢false}
 use Rattle.std.proofs.lemmas.List.{length-set}
-use Rattle.rq_model.specs.declared.refusal.Refusal.{Refusal}
 use Rattle.rq_page.specs.Sizes.{Sizes, IsCellAddress, cell_at, cell_count, place_of}
 use Rattle.rq_page.specs.Slots.{held_in}
 use Rattle.rq_page.proofs.Addresses.{cells_have_places, places_are_cells}
 use Rattle.rq_views.specs.Log.{put}
 use Rattle.rq_views.specs.Stored.{IsStoreSlot, is_used, slot_at, slots_in}
 use Rattle.rq_views.proofs.Overlay.{put_at, put_off}
-use Rattle.rq_level.specs.declared.writes.Plan.{Plan}
 use Rattle.rq_level.specs.Kept.{Kept, flag_at, is_cell_address, is_free_slot, noted, noted_cell, noted_in}
-use Rattle.rq_txn.specs.Rows.{Row}
-use Rattle.rq_store.specs.State.{State}
-use Rattle.rq_sound.specs.Levels.{KeepsCells}
 use Rattle.rq_sound.proofs.KeptCells.{cell_is, flag_other, flag_same, free_by_byte, is_cell, place_is}
-use Rattle.rq_planner.specs.Asked.{Asked, known}
-use Rattle.rq_planner.specs.Answered.{IsAnswered, IsPlanned, KnowsCells}
+use Rattle.rq_planner.specs.Answered.{KnowsCells}
 use Rattle.rq_planner.proofs.Told.{slot_is}
 
 -- ---- a slot is written

@@ -1,14 +1,12 @@
 -- How many cells are used.
-use Rattle.std.proofs.Common.{◌≡◌, ◌≢◌, ℕ, ◌+◌, ◌<◌, ◌≤◌, ◌==◌, Bool, true, false, cond, if◌then◌else◌, [], ◌∷◌, length, refl, sym, ap, ◌∙◌, arith, inl, inr, zero, suc, length-append, subst, add-one}
+use Rattle.std.proofs.Common.{◌≡◌, ℕ, ◌+◌, ◌<◌, ◌≤◌, Bool, true, false, cond, [], ◌∷◌, length, refl, sym, ap, ◌∙◌, arith, inl, inr, zero, suc, length-append, add-one}
 use Rattle.std.proofs.lemmas.Bool.{cases_lt}
-use Rattle.std.proofs.lemmas.Bool.Decides.{nat_tests}
 use Rattle.std.proofs.lemmas.List.Elements.{filter-append}
 use Rattle.std.specs.List.{filter}
 use Rattle.rq_model.specs.Tests.{below}
 use Rattle.rq_page.specs.Sizes.{Sizes, IsCellAddress, cell_count, cell_at, place_of}
 use Rattle.rq_page.proofs.Addresses.{cells_have_places, places_are_cells, cells_rise}
-use Rattle.rq_page.specs.Slots.{Slot}
-use Rattle.rq_views.specs.Log.{Slots, put}
+use Rattle.rq_views.specs.Log.{Slots}
 use Rattle.rq_views.specs.Stored.{is_used, count_used}
 
 -- 1 for a test that is passed

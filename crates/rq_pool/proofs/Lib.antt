@@ -3,6 +3,5 @@ pub mod Counts
 pub mod Framed
 pub mod Slots
 pub mod Indexes
-pub mod Writings
 pub mod Kept
 pub mod Over

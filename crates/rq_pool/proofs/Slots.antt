@@ -1,18 +1,13 @@
 -- The slots that pages hold.
-use Rattle.std.proofs.Common.{◌≡◌, ℕ, ◌/◌, ◌%◌, ◌<◌, ◌≤◌, ◌==◌, Bool, true, false, not, cond, if◌then◌else◌, nat_lt, List, Option, Some, refl, sym, ◌∙◌, ap, subst, arith}
-use Rattle.std.specs.Prelude.{slice_index}
-use Rattle.std.proofs.lemmas.Bool.{true≢false}
+use Rattle.std.proofs.Common.{◌≡◌, ℕ, ◌/◌, ◌%◌, ◌≤◌, Bool, true, cond, nat_lt, List, Option, Some, sym, ◌∙◌, ap, subst, arith}
 use Rattle.std.proofs.lemmas.Bool.Decides.{nat_tests}
-use Rattle.rq_page.specs.Sizes.{Sizes, IsCellAddress, directory_at, sender_count}
-use Rattle.rq_page.specs.Slots.{Free, held_in, held_for, of_cell_slot, IsSlotOf, MayHold, SpellingTells}
-use Rattle.rq_page.specs.Cells.{cell_in, cell_slot_in, free_bytes}
+use Rattle.rq_page.specs.Sizes.{Sizes}
+use Rattle.rq_page.specs.Slots.{Free, held_in, IsSlotOf, MayHold, SpellingTells}
+use Rattle.rq_page.specs.Cells.{free_bytes}
 use Rattle.rq_page.specs.Kinds.{kind_of}
 use Rattle.rq_page.specs.declared.layout.PageKind.{PageKind}
 use Rattle.rq_page.specs.declared.layout.PageKind.TheVariants as kind
-use Rattle.rq_page.specs.declared.cell.CellSlot.{CellSlot}
-use Rattle.rq_page.specs.declared.cell.CellSlot.TheVariants as cells
-use Rattle.rq_page.proofs.Addresses.{senders_have_slots, kind_cells}
-use Rattle.rq_views.specs.Stored.{IsStoreSlot, slot_at, slots_in, is_used}
+use Rattle.rq_views.specs.Stored.{slot_at, slots_in}
 
 -- what a slot that the pages have holds
 pub slots_here : (z : Sizes) (images : List (List ℕ)) (a : ℕ) → 1 ≤ a % 16 → slots_in z images a ≡ held_in z (a / 16) (slot_at images a)

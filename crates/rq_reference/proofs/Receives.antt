@@ -3,7 +3,6 @@ use Rattle.std.proofs.Common.{◌≡◌, ℕ, zero, suc, ◌+◌, ◌-◌, ◌<�
 use Rattle.std.specs.List.{filter, filter_map, slice_get}
 use Rattle.std.proofs.lemmas.Bool.{cases_Bool, or_cases, or_parts, and_parts, true≢false, eqb-true}
 use Rattle.std.proofs.lemmas.Bool.Decides.{nat_tests}
-use Rattle.std.proofs.lemmas.List.Elements.{filter-append}
 use Rattle.rq_model.specs.declared.txn.Txn.{Txn}
 use Rattle.rq_model.specs.declared.message.Message.{Message}
 use Rattle.rq_reference.specs.declared.rows.OpenTxn.{OpenTxn}
@@ -14,7 +13,7 @@ use Rattle.rq_model.specs.History.{Job}
 use Rattle.rq_model.specs.History.Job.{Sending, Taking, Ending, Undoing}
 use Rattle.rq_model.specs.History.Call.{Start_receive, Finish}
 use Rattle.rq_model.specs.History.Entry.{Started}
-use Rattle.rq_model.specs.Ledger.{Open, Done, Ledger, found, started, own_takes, rest_in, sent_in, taken_in, after, change}
+use Rattle.rq_model.specs.Ledger.{Open, Done, Ledger, found, started, rest_in, sent_in, taken_in, after, change}
 use Rattle.rq_model.specs.Legal.{OnFound, At, IsDoneBy, Legal}
 use Rattle.rq_model.specs.Tests.{Size, below, gives, any_gives, free_to_receive, holds_for, Passes, log_full}
 use Rattle.rq_reference.specs.Plain.{StandsAt, open_of, op_of, sending_with, receiving_with, pick, receivable, ops_with, ComesTo, finish_entry}

@@ -5,12 +5,12 @@ use mathlib.Core.Option.{some, some-injective, some-ne-none}
 use mathlib.Core.Logic.{dite}
 use native.Mathlib.Decide.{ℕ_discrete}
 use lib.ListN.{get_elem?}
-use Rattle.atomic_table.specs.Table.{State, Me, Allows, Splits, step, opening}
+use Rattle.atomic_table.specs.Table.{State, Me, Allows, Splits, step}
 use Rattle.atomic_table.specs.Table.Act.{keeps}
 use Rattle.atomic_table.proofs.Lists.{at_set, at_snoc, at_longer, set_here, set_else, set_again}
 use mathlib.Core.Option.{none}
 use Rattle.rq_shared.specs.declared.mark.View.{View}
-use Rattle.rq_shared.specs.Marks.{IsMark, IsPublished, Publishes, Reads, seat_view, newcomer}
+use Rattle.rq_shared.specs.Marks.{IsMark, IsPublished, Publishes, Reads, seat_view}
 use Rattle.rq_model.specs.Words.{In}
 
 in_front : (x : ℕ) (xs ys : List ℕ) → In x xs → In x (xs ++ ys)

@@ -1,5 +1,5 @@
 -- An audit that is one entry longer still replays.
-use Rattle.std.proofs.Common.{◌≡◌, List, [], ◌∷◌, ◌++◌, map, reverse, refl, sym, ◌∙◌, ap, subst}
+use Rattle.std.proofs.Common.{◌≡◌, List, [], ◌∷◌, ◌++◌, map, reverse, sym, ◌∙◌, ap, subst}
 use Rattle.std.proofs.lemmas.List.{map-append, reverse-append}
 use Rattle.rq_model.specs.Legal.{Legal}
 use Rattle.rq_model.specs.Replay.{Replays}

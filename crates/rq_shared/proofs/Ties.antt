@@ -1,5 +1,5 @@
 -- Steps along entries and stamps.
-use Rattle.std.proofs.Common.{◌≡◌, ◌≢◌, ◌↔◌, ℕ, zero, suc, ◌+◌, ◌<◌, ◌≤◌, true, false, IsTrue, length, drop, get_or, List, [], ◌∷◌, Some, refl, ◌∙◌, eq-eqb, add-one, arith, drop-cons}
+use Rattle.std.proofs.Common.{◌≡◌, ◌≢◌, ◌↔◌, ℕ, zero, suc, ◌+◌, ◌<◌, ◌≤◌, false, IsTrue, length, drop, get_or, List, [], ◌∷◌, Some, refl, ◌∙◌, eq-eqb, add-one, arith, drop-cons}
 use Rattle.std.specs.Prelude.{slice_get, nat_eq}
 use mathlib.Core.Logic.{dite}
 use native.Mathlib.Decide.{ℕ_discrete}

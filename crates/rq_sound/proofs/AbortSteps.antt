@@ -32,7 +32,8 @@ use Rattle.rq_sound.specs.Starts.{MayUndo}
 use Rattle.rq_sound.specs.Calls.{next_txn, begun, started, stepped, undone, aborting, aborted, forced, IsIdle, IsNextWrite, IsReady}
 use Rattle.rq_sound.specs.Steps.{Steps}
 use Rattle.rq_sound.specs.Theorems.{AbortsAreSteps}
-use Rattle.rq_sound.proofs.Ledgers.{found_open, open_found, opens_change, aborting_after, aborted_after}
+use Rattle.rq_store.proofs.Opens.{found_open, open_found}
+use Rattle.rq_sound.proofs.Ledgers.{opens_change, aborting_after, aborted_after}
 use Rattle.rq_sound.proofs.Contracts.{calls_keep, undo_entry, undo_start_entry, within}
 
 -- what a test reads of an operation under way

@@ -1,9 +1,8 @@
 -- Which cells a level knows as chosen while a plan has not started, and how it comes to know a store's cells.
-use Rattle.std.proofs.Common.{set, ◌≡◌, ◌≢◌, ◌⊎◌, ℕ, ◌+◌, ◌/◌, ◌%◌, ◌<◌, ◌≤◌, ◌++◌, List, [], ◌∷◌, length, map, drop, reverse, refl, sym, ◌∙◌, ap, subst, Bool, true, false, not, nat_eq, Option, Some, None, Result, Ok, Err, inl, inr, arith}
-use Rattle.std.proofs.lemmas.Bool.{cases_Bool, cases_eq, cases_lt, eq-eqb, eqb-true, false≢true, false_from_ne_true, or_cases, or_left, or_right, true≢false}
-use Rattle.std.proofs.lemmas.List.{get_or-set_other, get_or-set_same, length-set, reverse-append}
+use Rattle.std.proofs.Common.{set, ◌≡◌, ◌≢◌, ◌⊎◌, ℕ, ◌+◌, ◌/◌, ◌<◌, ◌++◌, List, [], ◌∷◌, length, map, drop, reverse, refl, sym, ◌∙◌, ap, subst, Bool, true, false, not, nat_eq, Option, Some, None, Ok, Err, inl, inr, arith}
+use Rattle.std.proofs.lemmas.Bool.{cases_Bool, cases_eq, eq-eqb, eqb-true, false≢true, false_from_ne_true, or_cases, or_left, or_right, true≢false}
+use Rattle.std.proofs.lemmas.List.{length-set, reverse-append}
 use Rattle.rq_model.specs.declared.refusal.Refusal.{Refusal}
-use Rattle.rq_model.specs.declared.refusal.Refusal.TheVariants as why
 use Rattle.rq_model.specs.declared.record.Deed.{Deed}
 use Rattle.rq_model.specs.declared.record.Deed.TheVariants.{Append, UnlinkHead, Close as Close_deed}
 use Rattle.rq_model.specs.declared.record.Record.{Record}
@@ -21,12 +20,12 @@ use Rattle.rq_views.specs.Items.{layout_of}
 use Rattle.rq_views.specs.Log.{Places, Slots, Write}
 use Rattle.rq_views.specs.Plans.{append_writes, directory_put_back, directory_write, put_back_writes, relinked, with_next, with_prev}
 use Rattle.rq_views.specs.Stored.{IsStoreSlot, is_used}
-use Rattle.rq_level.specs.ChainPlans.{IsReturned, IsSent, PlansFor, Plans, Undoes, chain_plans, chain_undoes}
+use Rattle.rq_level.specs.ChainPlans.{PlansFor, Plans, Undoes, chain_undoes}
 use Rattle.rq_level.specs.declared.slots.Given.{Given}
 use Rattle.rq_level.specs.declared.writes.Plan.{Plan}
 use Rattle.rq_level.specs.declared.writes.SlotWrite.{SlotWrite}
 use Rattle.rq_level.specs.Kept.{Kept, flag_at, is_cell_address, is_free_slot, noted, noted_cell, noted_in, reserved_at}
-use Rattle.rq_level.specs.Ops.{Doing, Job, doing_in}
+use Rattle.rq_level.specs.Ops.{Doing, doing_in}
 use Rattle.rq_level.specs.Ops.Doing.{Send, Receive, Close}
 use Rattle.rq_level.specs.Writes.{writes_of}
 use Rattle.rq_groups.specs.Ends.{HeldEnds}
@@ -34,7 +33,7 @@ use Rattle.rq_txn.specs.Rows.{AreDistinct, Row, Under}
 use Rattle.rq_store.specs.State.{State}
 use Rattle.rq_sound.specs.Calls.{IsIdle, started}
 use Rattle.rq_sound.specs.Groups.{slots_now}
-use Rattle.rq_sound.specs.Levels.{KeepsCells, to_write, to_write_under}
+use Rattle.rq_sound.specs.Levels.{KeepsCells, to_write}
 use Rattle.rq_sound.specs.Chosen.{KeepsBeside, KnowsFirst, NotedCellsAreKnown, PlannedCellsAreKept, places_of}
 use Rattle.rq_sound.proofs.KeptCells.{cell_is, flag_other, flag_same, free_by_byte, is_cell, more_started, own_write, place_is}
 

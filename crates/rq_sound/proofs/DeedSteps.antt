@@ -51,7 +51,8 @@ use Rattle.rq_sound.specs.Starts.{MayDo, with_end}
 use Rattle.rq_sound.specs.Calls.{committed, finished, started, IsReady, MayCommit, IsIdle}
 use Rattle.rq_sound.specs.Steps.{Steps}
 use Rattle.rq_sound.specs.Theorems.{DeedsAreSteps}
-use Rattle.rq_sound.proofs.Ledgers.{found_open, open_found, opens_change, opens_without, open_other}
+use Rattle.rq_store.proofs.Opens.{found_open, open_found}
+use Rattle.rq_sound.proofs.Ledgers.{opens_change, opens_without, open_other}
 use Rattle.rq_sound.proofs.AbortSteps.{at_open, is_ready, none_to_make, runs_now, under_here}
 use Rattle.rq_sound.proofs.Alone.{alone_taking, removed_is, takes_below}
 use Rattle.rq_sound.proofs.Contracts.{answered, calls_keep, shows}

@@ -1,20 +1,18 @@
 -- What the slots as they are say of a group.
-use Rattle.std.proofs.Common.{◌≡◌, ℕ, ◌+◌, ◌/◌, ◌<◌, ◌≤◌, List, [], ◌∷◌, length, inl, inr, refl, sym, ◌∙◌, ap, subst, false, Option, Some, None, arith}
+use Rattle.std.proofs.Common.{◌≡◌, ℕ, ◌+◌, ◌/◌, ◌<◌, ◌≤◌, List, [], ◌∷◌, length, refl, sym, ◌∙◌, ap, subst, false, Option, Some, None, arith}
 use Rattle.std.specs.List.{sum_by}
 use Rattle.std.proofs.lemmas.Bool.{or_parts, or_from}
 use Rattle.std.proofs.lemmas.List.{length-map}
 use Rattle.std.proofs.lemmas.List.Sums.{sum_by-cons}
 use Rattle.rq_model.specs.Ledger.{Open, own_takes}
-use Rattle.rq_model.specs.declared.txn.Sub.{Sub}
-use Rattle.rq_model.specs.declared.txn.Txn.{Txn}
-use Rattle.rq_model.specs.Words.{In, is_some}
+use Rattle.rq_model.specs.Words.{is_some}
 use Rattle.rq_page.specs.declared.directory.Directory.{Directory}
 use Rattle.rq_page.specs.Sizes.{cell_count, directory_at, sender_count}
 use Rattle.rq_page.specs.Slots.Slot.{Sender}
 use Rattle.rq_views.specs.Chain.{Shows, View, message}
 use Rattle.rq_views.specs.InStore.{AllStand}
-use Rattle.rq_views.specs.Items.{items, layout_of, operation}
-use Rattle.rq_views.specs.Legal.{under_way, view}
+use Rattle.rq_views.specs.Items.{items, layout_of}
+use Rattle.rq_views.specs.Legal.{view}
 use Rattle.rq_views.specs.Log.{Slots, cells_of}
 use Rattle.rq_views.specs.Plans.{ShowsAt}
 use Rattle.rq_views.specs.Stored.{count_used}
@@ -24,10 +22,8 @@ use Rattle.rq_views.proofs.Totals.{log_total}
 use Rattle.rq_groups.specs.Ends.{HeldEnds}
 use Rattle.rq_groups.specs.Waiting.{waits}
 use Rattle.rq_store.specs.Fitting.{left_by}
-use Rattle.rq_txn.specs.Rows.{Under, Row, found_row, any_under, latched_in, latched_under}
-use Rattle.rq_store.specs.Rows.{is_under}
+use Rattle.rq_txn.specs.Rows.{Under, Row, any_under, latched_in, latched_under}
 use Rattle.rq_store.specs.State.{State, open_of, open_ones_of}
-use Rattle.rq_store.proofs.RowLists.{found_in}
 use Rattle.rq_sound.specs.Counted.{takes_in}
 use Rattle.rq_sound.specs.Sound.{IsSound}
 use Rattle.rq_sound.specs.Groups.{slots_now, TellsGroup, SlotsTellGroups}

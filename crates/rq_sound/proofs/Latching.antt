@@ -48,7 +48,7 @@ use Rattle.rq_sound.proofs.FreeCells.{all_one, of_store, open_is}
 use Rattle.rq_sound.proofs.Going.{unlatched_is_quiet}
 use Rattle.rq_sound.proofs.Groups.{all_stand, shows_now, tells_group}
 use Rattle.rq_sound.proofs.LatchLists.{any_append, any_join, any_parts, end_before, end_stands, link_off, named_off, off_named, relinked_parts, relinked_stand, some_below}
-use Rattle.rq_sound.proofs.Ledgers.{found_open, open_found}
+use Rattle.rq_store.proofs.Opens.{found_open, open_found}
 use Rattle.rq_sound.proofs.Lengths.{back_there, tail_there}
 use Rattle.rq_sound.proofs.Levels.{relinked_off}
 use Rattle.rq_sound.proofs.PlanFits.{above, is_put_back, is_unlink_tail, put_back_fits, unlink_tail_fits}

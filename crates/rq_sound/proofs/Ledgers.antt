@@ -1,11 +1,11 @@
 -- What an abort makes of the ledger: it starts, each of its compensations ends, and it ends.
-use Rattle.std.proofs.Common.{◌≡◌, ◌≢◌, ℕ, List, [], ◌∷◌, ◌++◌, length, map, refl, sym, ◌∙◌, ap, cond, true, false, Option, Some, None, inl, inr, arith}
+use Rattle.std.proofs.Common.{◌≡◌, ◌≢◌, ℕ, List, [], ◌∷◌, ◌++◌, length, map, refl, sym, ◌∙◌, ap, cond, true, false, Some, inl, inr, arith}
 use Rattle.std.proofs.lemmas.Bool.{cases_Bool}
 use Rattle.rq_model.specs.declared.txn.Txn.{Txn}
 use Rattle.rq_model.specs.declared.record.Record.TheVariants.{AbortEnd}
 use Rattle.rq_model.proofs.Lists.{same_is, not_same}
 use Rattle.rq_model.specs.Words.{In, Op, same_txn, front}
-use Rattle.rq_model.specs.Ledger.{Open, found, change, without, after, undone}
+use Rattle.rq_model.specs.Ledger.{Open, change, without, after, undone}
 use Rattle.rq_model.specs.History.Entry.{Undid, Aborting, Aborted}
 use Rattle.rq_txn.specs.declared.Finished.{Finished}
 use Rattle.rq_groups.specs.declared.Held.{Held}
@@ -17,14 +17,6 @@ use Rattle.rq_sound.specs.Rows.{comp_end}
 use Rattle.rq_store.proofs.Placed.{map_join}
 use Rattle.rq_store.proofs.Ends.{without_ends}
 use Rattle.rq_store.proofs.Owing.{one_longer}
-
-abbrev pub open_found : HeldEnds → Option Row → Option Open
-open_found ends None = None
-open_found ends (Some r) = Some (open_of ends r)
-
-pub found_open : (ends : HeldEnds) (t : Txn) (rows : List Row) → found t (open_ones_of ends rows) ≡ open_found ends (found_row t rows)
-found_open ends t [] = refl
-found_open ends t (r ∷ rows) = elim (cases_Bool (same_txn r.txn t)) [ inl y ↦ rw y refl | inr n ↦ rw n (found_open ends t rows) ]
 
 -- a change of rows, and perhaps of ends, is a change of the ledger's
 pub opens_change : (t : Txn) (old new : HeldEnds) (f : Row → Row) (g : Open → Open) (rows : List Row)

@@ -48,7 +48,7 @@ use Rattle.rq_sound.proofs.Contracts.{answered}
 use Rattle.rq_sound.proofs.FreeCells.{of_store, open_is}
 use Rattle.rq_sound.proofs.FreeEnds.{free_is, free_to_take}
 use Rattle.rq_sound.proofs.Groups.{all_stand, shows_now, slots_are}
-use Rattle.rq_sound.proofs.Ledgers.{found_open, open_found}
+use Rattle.rq_store.proofs.Opens.{found_open, open_found}
 use Rattle.rq_sound.proofs.PlanFits.{above, is_put_back, is_unlink_tail, put_back_fits, unlink_tail_fits, writes_directory}
 
 -- the newest send of a transaction is its group's last message, by its number

@@ -1,5 +1,5 @@
 -- Refusals are steps, and what tests read of the rows.
-use Rattle.std.proofs.Common.{◌≡◌, ℕ, suc, ◌+◌, ◌||◌, List, [], ◌∷◌, length, refl, sym, ◌∙◌, ap, subst, ◌&&◌, nat_eq, Option, Some, None, arith, ◌<◌, map, true}
+use Rattle.std.proofs.Common.{◌≡◌, ℕ, suc, ◌+◌, ◌||◌, List, [], ◌∷◌, length, refl, sym, ◌∙◌, ap, ◌&&◌, nat_eq, Option, Some, None, arith, ◌<◌, map, true}
 use Rattle.std.specs.List.{sum_by}
 use Rattle.std.specs.Option.{option_map}
 use Rattle.std.proofs.lemmas.List.Sums.{sum_by-cons}
@@ -18,10 +18,10 @@ use Rattle.rq_store.specs.State.{op_done, phase_of, State, ledger_of, open_of, o
 use Rattle.rq_txn.specs.Rows.{Under, Row, found_row, any_under}
 use Rattle.rq_store.specs.Rows.{is_under}
 use Rattle.rq_store.proofs.RowLists.{found_in}
-use Rattle.rq_sound.specs.Standing.{FollowsPlan, IsAimOf, IsAsPlanned}
+use Rattle.rq_sound.specs.Standing.{IsAsPlanned}
 use Rattle.rq_sound.specs.Sound.{IsSound}
 use Rattle.rq_sound.specs.Refusals.{RefusalsAreSteps, TestsReadRows}
-use Rattle.rq_sound.proofs.Ledgers.{open_found, found_open}
+use Rattle.rq_store.proofs.Opens.{open_found, found_open}
 use Rattle.rq_sound.proofs.AbortSteps.{job_some}
 use Rattle.rq_sound.specs.Calls.{IsIdle}
 use Rattle.rq_sound.specs.Groups.{slots_now}

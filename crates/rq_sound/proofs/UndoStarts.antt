@@ -32,7 +32,8 @@ use Rattle.rq_txn.specs.declared.Aim.TheVariants.{Undoing}
 use Rattle.rq_store.proofs.RowLists.{found_in, unique}
 use Rattle.rq_sound.specs.Sound.{IsSound}
 use Rattle.rq_store.proofs.Placed.{told_placed, map_join}
-use Rattle.rq_sound.proofs.Ledgers.{opens_change, found_open, open_found}
+use Rattle.rq_store.proofs.Opens.{found_open, open_found}
+use Rattle.rq_sound.proofs.Ledgers.{opens_change}
 use Rattle.rq_sound.proofs.Lengths.{inverse_writes, inverse_length}
 
 abbrev txns : List Row → List Txn

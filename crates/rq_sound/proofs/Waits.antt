@@ -14,7 +14,7 @@ use Rattle.rq_store.specs.Plans.{WaitsFor, NoneWaits}
 use Rattle.rq_sound.specs.Counted.{takes_in}
 use Rattle.rq_sound.specs.Sound.{IsSound}
 use Rattle.rq_sound.specs.Waits.{WaitsAreGiven}
-use Rattle.rq_sound.proofs.Ledgers.{found_open, open_found}
+use Rattle.rq_store.proofs.Opens.{found_open, open_found}
 use Rattle.rq_sound.proofs.FreeEnds.{free_to_take}
 use Rattle.rq_sound.proofs.Contracts.{answered}
 

@@ -31,7 +31,6 @@ use Rattle.rq_sound.specs.Wants.{AreGivenOf, CanUndo, LevelsFindAll}
 use Rattle.rq_sound.proofs.FreeCells.{of_store, open_is}
 use Rattle.rq_sound.proofs.Groups.{tells_group}
 use Rattle.rq_sound.proofs.Latching as latching
-use Rattle.rq_sound.proofs.Latching.{LinkedCell}
 use Rattle.rq_sound.proofs.PlanFits.{above}
 use Rattle.rq_sound.proofs.Planned.{sent_last}
 use Rattle.rq_sound.proofs.UndoPlans.{closed_before}

@@ -1,9 +1,9 @@
 -- Which cells a level knows as chosen while a plan has not started, and how it comes to know a store's cells.
-use Rattle.std.specs.Prelude.{◌≡◌, ◌⊎◌, ℕ, ◌/◌, ◌+◌, ◌<◌, ◌≤◌, Bool, true, false, not, List, [], ◌∷◌, length, map, Option, Some, None, Ok, Err}
+use Rattle.std.specs.Prelude.{◌≡◌, ◌⊎◌, ℕ, ◌/◌, ◌+◌, ◌<◌, ◌≤◌, true, false, not, List, [], ◌∷◌, length, map, Some, Ok, Err}
 use Rattle.rq_model.specs.declared.refusal.Refusal.{Refusal}
 use Rattle.rq_model.specs.declared.record.Record.{Record}
 use Rattle.rq_model.specs.Words.{has_number}
-use Rattle.rq_page.specs.Sizes.{Sizes, IsCellAddress, cell_at, cell_count}
+use Rattle.rq_page.specs.Sizes.{Sizes, cell_at, cell_count}
 use Rattle.rq_page.specs.Slots.{held_in}
 use Rattle.rq_views.specs.Log.{Slots}
 use Rattle.rq_views.specs.Stored.{IsStoreSlot, is_used}

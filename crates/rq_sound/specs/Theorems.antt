@@ -31,7 +31,6 @@ use Rattle.rq_groups.specs.Waiting.{waits}
 use Rattle.rq_groups.specs.Sent.{SentBy}
 use Rattle.rq_store.specs.Fitting.{left_by, image_in, FitsLog}
 use Rattle.rq_store.specs.Opening.{opened}
-use Rattle.rq_store.specs.Sends.{KeepsSends}
 use Rattle.rq_store.specs.State.{size_of, op_done, job_of, State, ledger_of, open_of}
 use Rattle.rq_store.specs.Steps.{took, gave_done}
 use Rattle.rq_store.specs.Whole.{IsWhole}

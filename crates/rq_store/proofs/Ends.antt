@@ -1,5 +1,5 @@
 -- Who holds an end: once it is taken, while it is free, and when a transaction lets go of its own.
-use Rattle.std.proofs.Common.{◌≡◌, ◌≢◌, ℕ, ◌&&◌, ◌||◌, List, [], ◌∷◌, refl, sym, ◌∙◌, ap, true, false, not, inl, inr, nat_eq, Bool, ◌-◌}
+use Rattle.std.proofs.Common.{◌≡◌, ◌≢◌, ℕ, ◌&&◌, ◌||◌, List, [], ◌∷◌, refl, sym, ◌∙◌, ap, true, false, not, inl, inr, nat_eq, Bool}
 use Rattle.std.proofs.lemmas.Bool.{cases_Bool, false≢true, true≢false, or_left, or_right, or_cases, and_parts, eq-eqb, and_from, or_parts}
 use Rattle.rq_model.specs.declared.txn.Txn.{Txn}
 use Rattle.rq_model.specs.declared.record.Deed.{Deed}

@@ -1,16 +1,14 @@
 -- Rows: what is found of a transaction, after a change, without one, and from either side.
-use Rattle.std.proofs.Common.{◌≡◌, ℕ, zero, suc, ◌<◌, Bool, true, false, cond, not, List, [], ◌∷◌, ◌++◌, reverse, length, map, Some, None, get_or, set, refl, sym, ◌∙◌, ap, subst, inl, inr, arith, ◌||◌}
+use Rattle.std.proofs.Common.{◌≡◌, ℕ, Bool, true, false, cond, not, List, [], ◌∷◌, ◌++◌, reverse, map, Some, None, refl, sym, ◌∙◌, ap, subst, inl, inr, ◌||◌}
 use Rattle.std.specs.Option.{option_map}
 use Rattle.std.specs.List.{filter}
 use Rattle.std.proofs.lemmas.List.{reverse-append, map-append, append-nil}
 use Rattle.std.proofs.lemmas.List.Elements.{filter-append}
 use Rattle.std.proofs.lemmas.Bool.{cases_Bool}
-use Rattle.std.proofs.lemmas.Option.{same_Some}
 use Rattle.rq_model.specs.declared.txn.Txn.{Txn}
 use Rattle.rq_model.specs.Words.{same_txn, is_some, In}
 use Rattle.rq_model.proofs.Lists.{same_is, same_self, not_same}
-use Rattle.rq_txn.specs.declared.Finished.{Finished}
-use Rattle.rq_txn.specs.Rows.{Row, Under, fresh_row, row_started, row_stepped, row_finished, found_row, change_row, change_row_one, without_row, AreDistinct, any_under, latched_in, latched_under}
+use Rattle.rq_txn.specs.Rows.{Row, found_row, change_row, change_row_one, without_row, AreDistinct, any_under, latched_in, latched_under}
 
 -- a change that leaves the numbers of transactions as they are
 abbrev pub KeepsTxn : (Row → Row) → Type 0

@@ -1,11 +1,11 @@
 -- Each sender's view: what is committed of it, without what its receiving holder took, with what its sending holder sent.
-use Rattle.std.proofs.Common.{◌≡◌, ℕ, ◌+◌, ◌-◌, ◌≤◌, List, [], ◌++◌, length, map, drop, ◌||◌, sym, ◌∙◌, ap, subst, arith}
+use Rattle.std.proofs.Common.{◌≡◌, ℕ, ◌+◌, ◌-◌, ◌≤◌, List, ◌++◌, length, map, drop, ◌||◌, ◌∙◌, ap, subst, arith}
 use Rattle.std.proofs.lemmas.List.{length-drop}
 use Rattle.rq_model.specs.declared.message.Message.{Message}
 use Rattle.rq_model.specs.declared.record.Record.{Record}
 use Rattle.rq_model.specs.declared.txn.Txn.{Txn}
 use Rattle.rq_model.specs.Ledger.{group_in}
-use Rattle.rq_model.specs.Content.{Said, added, removed, closed, tag_after, with_own}
+use Rattle.rq_model.specs.Content.{Said, added, removed, closed, tag_after}
 use Rattle.rq_model.specs.Commits.{committed_of}
 use Rattle.rq_model.specs.Rules.{KeepsRules}
 use Rattle.rq_model.proofs.Told.{content_is}
@@ -16,7 +16,7 @@ use Rattle.rq_views.specs.Legal.{Placed, open_deeds, view}
 use Rattle.rq_views.specs.Groups.{on_sending_end, on_receiving_end, side, with_all, committed, Alone, KeepsGroups}
 use Rattle.rq_views.specs.Committed.{IsViewOf}
 use Rattle.rq_views.specs.Items.{items, ReadsItsDeeds}
-use Rattle.rq_views.proofs.Committed.{say, sends_form, takes_form, committed_own}
+use Rattle.rq_views.proofs.Committed.{say, sends_form, takes_form}
 use Rattle.rq_views.proofs.Content.{committed_is_content}
 use Rattle.rq_views.proofs.Deeds.{side_takes, takes_total, total}
 use Rattle.rq_views.proofs.GroupRule.{held}

@@ -13,8 +13,8 @@ use Rattle.rq_model.specs.declared.txn.Txn.{Txn}
 use Rattle.rq_model.specs.Words.{Op, same_txn, has_txn, sent_for, taken_from}
 use Rattle.rq_model.specs.Ledger.{rest_in}
 use Rattle.rq_model.specs.Tests.{below, count_rest, is_sent}
-use Rattle.rq_model.specs.Content.{Said, said, has_end, added, added_one, removed, removed_one}
-use Rattle.rq_model.specs.Commits.{op_of, ops_told, told, committed_of}
+use Rattle.rq_model.specs.Content.{Said, said, added, added_one, removed, removed_one}
+use Rattle.rq_model.specs.Commits.{op_of, ops_told, committed_of}
 use Rattle.rq_model.specs.Rules.{KeepsRules}
 use Rattle.rq_model.specs.Content.Said.{Added, Removed, Ended}
 use Rattle.rq_model.specs.Counts.{is_taken, op_sender, AllBelow}
@@ -25,11 +25,10 @@ use Rattle.rq_views.specs.Log.{Item, state_of}
 use Rattle.rq_views.specs.Plans.{deed_sender}
 use Rattle.rq_views.specs.Legal.{Placed, open_deeds, view, IsLegalLog}
 use Rattle.rq_views.specs.Groups.{on_sending_end, on_receiving_end, side, committed, KeepsGroups}
-use Rattle.rq_views.specs.Items.{items, layout_of, has_undone, ReadsItsDeeds}
+use Rattle.rq_views.specs.Items.{items, layout_of, ReadsItsDeeds}
 use Rattle.rq_views.specs.Stored.{count_used}
 use Rattle.rq_views.specs.InStore.{InStore}
 use Rattle.rq_views.proofs.Committed.{say}
-use Rattle.rq_views.proofs.Content.{own_deeds}
 use Rattle.rq_views.proofs.Counting.{AllInStore, deeds_in_store, quiet_counts}
 use Rattle.rq_views.proofs.Holders.{txn_is, txn_self}
 use Rattle.rq_views.proofs.Holding.{taken_there, tag_and_body, Holders, holders}

@@ -5,7 +5,6 @@ use Rattle.std.proofs.lemmas.Bool.Decides.{nat_tests}
 use Rattle.rq_model.specs.declared.record.Record.{Record}
 use Rattle.rq_model.specs.declared.record.Record.TheVariants as records
 use Rattle.rq_model.specs.declared.txn.Sub.{Sub}
-use Rattle.rq_model.specs.declared.txn.Txn.{Txn}
 use Rattle.rq_page.specs.declared.cell.CellSlot.{CellSlot}
 use Rattle.rq_page.specs.declared.cell.CellSlot.TheVariants as cells
 use Rattle.rq_page.specs.declared.layout.PageKind.{PageKind}
@@ -16,14 +15,13 @@ use Rattle.rq_page.specs.Cells.{cell_slot_in}
 use Rattle.rq_page.specs.Directories.{new_directory}
 use Rattle.rq_page.specs.Kinds.{kind_of}
 use Rattle.rq_page.specs.Sizes.{Sizes, IsCellAddress, page_count, address, sender_at, directory_at}
-use Rattle.rq_page.specs.Slots.{Slot, IsSlotOf, IsSlotFor, held_for, held_in, of_cell_slot, slot_bytes, MayHold}
+use Rattle.rq_page.specs.Slots.{Slot, IsSlotOf, IsSlotFor, held_for, held_in, of_cell_slot}
 use Rattle.rq_page.specs.Slots.Slot.{Used, Sender}
-use Rattle.rq_page.proofs.Spellings.{spelling_tells}
 use Rattle.rq_page.proofs.Addresses.{kind_directory, kind_cells, senders_have_slots}
 use Rattle.rq_views.specs.Log.{Slots, Write, put, applied, same_op, rest_of, state_of}
 use Rattle.rq_views.specs.Legal.{IsLayout}
 use Rattle.rq_views.specs.Items.{items, operation, layout_of, formatted_at}
-use Rattle.rq_views.specs.InStore.{InStoreOne, InStore, IsDirectoryAddress, IsInPlace, AllStand, WritesStand}
+use Rattle.rq_views.specs.InStore.{InStore, IsDirectoryAddress, IsInPlace, AllStand, WritesStand}
 use Rattle.rq_views.proofs.Overlay.{put_at, put_off}
 
 -- a page of a kind stands among the pages of that kind

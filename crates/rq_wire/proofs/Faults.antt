@@ -1,13 +1,13 @@
 -- Faults are told exactly, and more bytes are waited for where there is none and no request.
-use Rattle.std.proofs.Common.{◌≡◌, ◌≢◌, ◌⊎◌, ℕ, ◌+◌, ◌-◌, ◌<◌, ◌≤◌, Bool, true, false, List, [], ◌∷◌, ◌++◌, length, take, drop, refl, sym, ap, ◌∙◌, subst, arith, inl, inr, ⊎_elim}
+use Rattle.std.proofs.Common.{◌≡◌, ◌≢◌, ◌⊎◌, ℕ, ◌+◌, ◌-◌, ◌<◌, ◌≤◌, Bool, true, false, List, length, take, drop, refl, sym, ap, ◌∙◌, arith, inl, inr, ⊎_elim}
 use Rattle.std.specs.Prelude.{nat_lt, slice_index, Option, Some, None}
 use Rattle.std.proofs.lemmas.Bool.Decides.{nat_tests}
-use Rattle.rq_bytes.specs.Number.{AreBytes, number_at}
+use Rattle.rq_bytes.specs.Number.{AreBytes}
 use Rattle.rq_wire.specs.declared.request.Request.{Request}
 use Rattle.rq_wire.specs.declared.look.Front.{Front}
 use Rattle.rq_wire.specs.declared.look.Front.TheVariants.{Frame, Fault, More}
 use Rattle.rq_wire.specs.Looks.{pick, is_size, is_kind, whole_frame, request_in, looks}
-use Rattle.rq_wire.specs.Spelling.{IsRequest, spelled}
+use Rattle.rq_wire.specs.Spelling.{spelled}
 use Rattle.rq_wire.specs.Faults.{HasBadLength, HasBadKind, HasBadFields, IsNoRequest, IsFault, FaultsAreTold, MoreIsAwaited}
 use Rattle.rq_wire.proofs.Fronts.{lt_no, no_lt, size, behind}
 use Rattle.rq_wire.proofs.Spells.{spelled_is_read, read_is_spelled}

@@ -1,5 +1,5 @@
 -- One round more of a loop.
-use Rattle.std.proofs.Common.{◌≡◌, ℕ, Bool, true, false, List, [], ◌∷◌, refl, ap, ◌∙◌}
+use Rattle.std.proofs.Common.{◌≡◌, ℕ, Bool, true, false, List, ◌∷◌, refl, ap, ◌∙◌}
 use Rattle.rq_engine.specs.declared.event.Event.TheVariants.{WritePage}
 use Rattle.rq_engine.specs.Says.{call_of}
 use Rattle.rq_workers.specs.declared.acts.Act.{Act}

@@ -1,4 +1,4 @@
-use Rattle.std.proofs.Common.{◌-◌, ap, arith, drop, length, sym, take, ◌∙◌, List, ℕ}
+use Rattle.std.proofs.Common.{◌-◌, ap, arith, drop, length, take, List, ℕ}
 use Rattle.rq_bytes.proofs.Compared.{same_on, same_whole}
 use Rattle.rq_bytes.proofs.equal.are_equal.Goals as goal
 

@@ -1,5 +1,4 @@
-use Rattle.std.proofs.Common.{◌≡◌, ◌<◌, ℕ, sym, ap, ◌∙◌, subst, arith, true, false}
-use Rattle.rq_level.specs.declared.writes.Plan.{Plan}
+use Rattle.std.proofs.Common.{arith, false}
 use Rattle.rq_chain.proofs.Planned.{is_marked, differs}
 use Rattle.rq_chain.proofs.level.marked.Goals as goal
 

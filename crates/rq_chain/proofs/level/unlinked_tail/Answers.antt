@@ -1,4 +1,4 @@
-use Rattle.std.proofs.Common.{◌≡◌, ◌<◌, ℕ, true, false, sym, ap, ◌∙◌, subst, arith}
+use Rattle.std.proofs.Common.{◌≡◌, ◌<◌, true, false, sym, ◌∙◌, arith}
 use Rattle.rq_chain.proofs.Planned.{is_unlinked, no_tail, positive}
 use Rattle.rq_chain.proofs.level.unlinked_tail.Goals as goal
 

@@ -1,6 +1,5 @@
-use Rattle.std.proofs.Common.{◌≡◌, ◌∷◌, [], sym, ◌∙◌, ap, subst, List}
-use Rattle.rq_level.specs.declared.writes.SlotWrite.{SlotWrite}
-use Rattle.rq_level.specs.Writes.{write_of, IsFirstAt}
+use Rattle.std.proofs.Common.{◌≡◌, ◌∷◌, [], sym, ap, subst}
+use Rattle.rq_level.specs.Writes.{IsFirstAt}
 use Rattle.rq_views.specs.Log.{Write}
 use Rattle.rq_chain.proofs.Slots.{two_writes, three_writes}
 use Rattle.rq_chain.proofs.plans.append.Goals as goal

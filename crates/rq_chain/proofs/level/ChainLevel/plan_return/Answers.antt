@@ -1,4 +1,4 @@
-use Rattle.std.proofs.Common.{◌≡◌, ◌<◌, ℕ, sym, ap, ◌∙◌, subst, arith}
+use Rattle.std.proofs.Common.{ap, ◌∙◌, arith}
 use Rattle.rq_level.specs.Kept.{Kept, reserved_at}
 use Rattle.rq_chain.proofs.Planned.{is_returned}
 use Rattle.rq_chain.proofs.level.ChainLevel.plan_return.Goals as goal

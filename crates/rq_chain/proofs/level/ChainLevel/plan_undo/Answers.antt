@@ -1,4 +1,3 @@
-use Rattle.std.proofs.Common.{◌≡◌, refl}
 use Rattle.rq_chain.proofs.Planned.{close_undone}
 use Rattle.rq_chain.proofs.level.ChainLevel.plan_undo.Goals as goal
 

@@ -1,4 +1,3 @@
-use Rattle.std.proofs.Common.{◌≡◌}
 use Rattle.rq_level.proofs.OneLevel.{one_noted}
 use Rattle.rq_level.proofs.levels.Levels.noted.Goals as goal
 

@@ -1,4 +1,3 @@
-use Rattle.std.proofs.Common.{◌≡◌}
 use Rattle.rq_level.proofs.OneLevel.{one_answered, one_changed}
 use Rattle.rq_level.proofs.levels.Levels.plan.Goals as goal
 

@@ -1,4 +1,3 @@
-use Rattle.std.proofs.Common.{◌≡◌}
 use Rattle.rq_level.proofs.OneLevel.{one_kept}
 use Rattle.rq_level.proofs.levels.Levels.redo.Goals as goal
 

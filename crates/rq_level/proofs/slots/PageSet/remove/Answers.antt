@@ -1,4 +1,4 @@
-use Rattle.std.proofs.Common.{◌≡◌, ℕ, nat_eq, not, rules}
+use Rattle.std.proofs.Common.{ℕ, nat_eq, not, rules}
 use Rattle.std.proofs.lemmas.Fn.{filter_same}
 use Rattle.rq_level.proofs.PageSets.{left_in}
 use Rattle.rq_level.proofs.slots.PageSet.remove.Goals as goal

@@ -1,4 +1,4 @@
-use Rattle.std.proofs.Common.{◌≡◌, ℕ, not, rules}
+use Rattle.std.proofs.Common.{ℕ, not, rules}
 use Rattle.std.proofs.lemmas.Fn.{filter_same}
 use Rattle.rq_level.specs.Given.{has_page}
 use Rattle.rq_level.proofs.PageSets.{left_in}

@@ -1,8 +1,8 @@
-use Rattle.std.proofs.Common.{rules, ◌≡◌, ◌≢◌, ◌+◌, ◌∷◌, List, ℕ, [], false, length, ap, refl, sym, subst, ◌∙◌, arith}
+use Rattle.std.proofs.Common.{◌≡◌, ◌≢◌, ◌+◌, List, ℕ, [], false, length, ap, refl, sym, subst, ◌∙◌, arith}
 use Rattle.rq_model.specs.declared.record.Record.{Record}
 use Rattle.rq_record.specs.Spelling.{HoldsRecord, spelling}
 use Rattle.rq_record.specs.Decoding.{IsFront}
-use Rattle.rq_log.specs.Reading.{HasMost, IsDamagedBehind, KeepsRead}
+use Rattle.rq_log.specs.Reading.{IsDamagedBehind, KeepsRead}
 use Rattle.rq_log.proofs.Keeping.{damaged, filled, fronted, next_fits, taken}
 use Rattle.rq_log.proofs.Runs.{is_some}
 use Rattle.rq_log.proofs.reading.LogReader.read_next.Goals as goal

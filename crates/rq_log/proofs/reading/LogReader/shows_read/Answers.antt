@@ -1,4 +1,4 @@
-use Rattle.std.proofs.Common.{sym, subst}
+use Rattle.std.proofs.Common.{subst}
 use Rattle.rq_log.specs.Reading.{IsReading}
 use Rattle.rq_log.proofs.Keeping.{is_reading}
 use Rattle.rq_log.proofs.reading.LogReader.shows_read.Goals as goal

@@ -1,4 +1,4 @@
-use Rattle.std.proofs.Common.{◌≡◌, ℕ, ap}
+use Rattle.std.proofs.Common.{ap}
 use Rattle.rq_level.specs.Given.{Pages}
 use Rattle.rq_txn.proofs.Counting.{goes_out, within_some}
 use Rattle.rq_txn.proofs.counts.Counts.lower.Goals as goal
