@@ -16,8 +16,7 @@ use Rattle.rq_views.specs.WorkedItems.{t1}
 use Rattle.rq_store.specs.Fitting.{FitsLog, image_in}
 use Rattle.rq_store.specs.Opening.{IsLeft, next_restart}
 use Rattle.rq_store.specs.Whole.{IsWhole}
-use Rattle.rq_store.proofs.Cutting.{whole_dropped}
-use Rattle.rq_store.proofs.Cutting.{fits_log_longer}
+use Rattle.rq_store.proofs.Cutting.{whole_dropped, fits_log_longer}
 use Rattle.rq_store.proofs.Formatting.{formatted_fits}
 use Rattle.rq_restart.specs.Repeating.{AreCounted, Paged, Repeats}
 use Rattle.rq_restart.specs.Restarting.{IsBegunOn, IsLeftOn}

@@ -2,7 +2,7 @@
 use Rattle.std.proofs.Common.{◌≡◌, ℕ, ◌+◌, ◌-◌, ◌<◌, List, [], ◌∷◌, map, None, false, refl, ap, ◌∙◌, subst, arith, zero, suc, nat_eq}
 use Rattle.std.proofs.lemmas.Bool.Decides.{nat_tests}
 use Rattle.rq_groups.specs.Waiting.{waits}
-use Rattle.rq_store.specs.Steps.{took}
+use Rattle.rq_store.specs.Steps.{took, IsPutIn}
 use Rattle.rq_model.specs.Content.{tag_after}
 use Rattle.rq_model.specs.Tests.{below}
 use Rattle.rq_model.specs.History.Call.{Begin, Start_send, Start_receive, Step, Finish, Commit, Force}
@@ -18,7 +18,6 @@ use Rattle.rq_store.specs.Opening.{messages_told, opened, sent_told as count_tol
 use Rattle.rq_groups.specs.Sent.{SentBy, sent_count, sent_tag}
 use Rattle.rq_store.specs.Plans.{IsSendPlan, IsTakePlan}
 use Rattle.rq_store.specs.State.{State}
-use Rattle.rq_store.specs.Steps.{IsPutIn}
 use Rattle.rq_sound.specs.Calls.{sends_for}
 use Rattle.rq_sound.specs.Counted.{sends_in}
 use Rattle.rq_sound.specs.Sound.{IsSound}

@@ -5,11 +5,10 @@ use Rattle.rq_model.specs.declared.record.Record.{Record}
 use Rattle.rq_model.specs.History.{Entry}
 use Rattle.rq_model.specs.History.Entry.{Acknowledged, Begun, Committed, Did, Forced, Started, Stepped}
 use Rattle.rq_model.specs.History.Job.{Sending}
-use Rattle.rq_model.specs.Ledger.{Ledger, ledger}
+use Rattle.rq_model.specs.Ledger.{Ledger, ledger, group_in}
 use Rattle.rq_model.specs.Legal.{IsLegal}
 use Rattle.rq_model.specs.Promises.{AcknowledgedStay, CrashGoesOn, FifoThroughout, ShutCrashGoesOn}
 use Rattle.rq_model.specs.Words.Op.{Send}
-use Rattle.rq_model.specs.Ledger.{group_in}
 use Rattle.rq_model.proofs.Told.{content_is}
 use Rattle.rq_model.specs.History.Call.{Force}
 use Rattle.rq_model.specs.Replay.Reply.{Gave_forced}

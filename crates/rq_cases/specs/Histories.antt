@@ -1,10 +1,9 @@
 -- What goes on with a history whose store is not open.
-use Rattle.std.specs.Prelude.{[], ◌∷◌}
+use Rattle.std.specs.Prelude.{[], ◌∷◌, List}
 use Rattle.rq_model.specs.declared.record.Record.TheVariants.{Restart as Restart_record}
 use Rattle.rq_model.specs.History.{Entry}
 use Rattle.rq_model.specs.Promises.{EndsInCrash, EndsInRestart, crash_to}
 use Rattle.rq_model.specs.Worked.{first_log, opened, small}
-use Rattle.std.specs.Prelude.{List}
 
 -- a store that was opened once, and crashed
 abbrev pub crashed : List Entry

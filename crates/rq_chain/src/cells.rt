@@ -1,10 +1,8 @@
 //! Free cells, found without going through all of them.
-ghost use Rattle.std.specs.Prelude.{◌≡◌, ◌<◌, ◌≤◌, ◌+◌, ◌*◌, ◌/◌, ℕ, Bool, IfOk, IfSome, IfNone, None, Some, length, replicate, true, false};
-ghost use Rattle.std.specs.Bool.{OnFalse, OnTrue};
+ghost use Rattle.std.specs.Prelude.{◌≡◌, ◌<◌, ◌≤◌, ◌+◌, ◌*◌, ◌/◌, ℕ, IfSome, IfNone, None, Some, length, true, false};
 ghost use Rattle.rq_page.specs.Sizes.{cell_at, cell_count};
 ghost use Rattle.rq_level.specs.Given.{has_page};
 ghost use Rattle.rq_flags.specs.Marks.{IsNextMark};
-ghost use Rattle.rq_level.specs.Kept.{flag_at};
 ghost use Rattle.rq_chain.specs.Cells.{Flags, IsLowestIn, NoneInPage, NoneToTakeIn, is_open, noted_flags, reserved_flags, takes};
 
 use rq_flags::Marks;

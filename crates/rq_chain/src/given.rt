@@ -1,13 +1,12 @@
 //! What stands in slots that were given.
-ghost use Rattle.std.specs.Prelude.{◌≡◌, ◌<◌, ◌≤◌, ◌^◌, IfSome, IfNone, None, Some, Option};
+ghost use Rattle.std.specs.Prelude.{◌≡◌, ◌<◌, IfSome, IfNone, None, Some, Option};
 ghost use Rattle.rq_page.specs.Sizes.{IsCellAddress, IsLink, directory_at, sender_count};
 ghost use Rattle.rq_page.specs.Cells.{cell_bytes, free_bytes, IsCell};
 ghost use Rattle.rq_page.specs.Slots.{Used, Sender};
-ghost use Rattle.rq_chain.specs.Neighbours.{used_of};
+ghost use Rattle.rq_chain.specs.Neighbours.{used_of, cell_beside, IsNeighbour, IsNeighbourAt, IsGroupOf};
 ghost use Rattle.rq_page.specs.declared.cell.Cell.{Cell};
 ghost use Rattle.rq_level.specs.Given.{given_at, AreGiven, GivenHolds};
 ghost use Rattle.rq_level.specs.ChainPlans.{Beside};
-ghost use Rattle.rq_chain.specs.Neighbours.{cell_beside, IsNeighbour, IsNeighbourAt, IsGroupOf};
 
 use crate::{Group, Neighbour};
 use rq_level::Slots;

@@ -1,14 +1,13 @@
 //! The chains of all senders as a level of recovery.
-ghost use Rattle.std.specs.Prelude.{◌≡◌, ◌<◌, ◌≤◌, ◌^◌, ℕ, IfOk, IfErr, IfSome, IfNone, OnErr, OnOk, None, Some, length, true, false, cond};
+ghost use Rattle.std.specs.Prelude.{◌≡◌, ◌<◌, IfOk, IfErr, IfSome, IfNone, OnErr, None, Some, length, true, false};
 ghost use Rattle.std.specs.Bool.{OnTrue, OnFalse};
-ghost use Rattle.rq_page.specs.Sizes.{Sizes, IsCellAddress, cell_at, cell_count, place_of};
-ghost use Rattle.rq_level.specs.Kept.{Kept, flag_at, may_take, IsLowest, NoneToTake, NoneFree, SomeFree, reserved_at, in_range, told_sizes, is_cell_address, is_free_slot, noted_cell, noted_in, noted};
+ghost use Rattle.rq_page.specs.Sizes.{IsCellAddress, place_of};
+ghost use Rattle.rq_level.specs.Kept.{Kept, IsLowest, NoneToTake, NoneFree, SomeFree, reserved_at, told_sizes, is_cell_address, noted_cell, noted};
 ghost use Rattle.rq_level.specs.Given.{AreGiven};
 ghost use Rattle.rq_level.specs.ChainPlans.{CanSend, IsSent, RefusesTaking, CanReceive, IsReceived, RefusesOther, CanMark, IsMarked, IsClosed, CanUnlinkTail, IsTailUnlinked, CanPutBack, IsReturned, IsReopened, IsInverse, Plans, Undoes};
 ghost use Rattle.rq_level.specs.declared.writes.Plan.{Plan};
 ghost use Rattle.rq_chain.specs.Doings.{told_one};
 ghost use Rattle.rq_chain.specs.Refusing.{NoCell};
-ghost use Rattle.rq_level.specs.Meaning.{Meaning, meaning_of};
 
 use crate::cells::FreeCells;
 use crate::doing::{Doing, read_doing};

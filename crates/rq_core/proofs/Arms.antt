@@ -19,7 +19,7 @@ use Rattle.rq_disk.specs.declared.mem_pages.MemPages.{MemPages}
 use Rattle.rq_page.specs.Sizes.{Sizes, IsInRange}
 use Rattle.rq_store.specs.State.{ledger_of, phase_of, size_of}
 use Rattle.rq_engine.specs.Applied.{Applied}
-use Rattle.rq_engine.specs.Crash.{LeavesCut}
+use Rattle.rq_engine.specs.Crash.{LeavesCut, AreFit}
 use Rattle.rq_engine.specs.Opened.{OpenStore}
 use Rattle.rq_engine.specs.Says.{call_of, gave}
 use Rattle.rq_engine.specs.declared.event.Event.{Event}
@@ -28,7 +28,6 @@ use Rattle.rq_engine.specs.declared.event.Reply.TheVariants as reply
 use Rattle.rq_pool.specs.Reading.{IsSuperblock}
 use Rattle.rq_sound.specs.Sound.{IsSound}
 use Rattle.rq_store.specs.Fitting.{AllFit}
-use Rattle.rq_engine.specs.Crash.{AreFit}
 use Rattle.rq_engine.specs.Devices.{EachPair}
 use Rattle.rq_restart.specs.Once.{OneLogEach, OneSizeEach}
 use Rattle.rq_lost.specs.Recovered.{IsRecovered}
@@ -37,14 +36,13 @@ use Rattle.rq_restart.specs.Underway.{IsLeftOrGoesOn, OfStores, pages_left, log_
 use Rattle.rq_restart.specs.declared.restart.Report.{Report as Restart_report}
 use Rattle.rq_restart.specs.declared.restart.Stopped.{Stopped}
 use Rattle.rq_core.specs.Devices.{mem_pages, mem_log}
-use Rattle.rq_core.specs.Happenings.{Happening, Answer, AddsCall, Course, MayCrashIt, Report, Tells, called, is_of_device}
+use Rattle.rq_core.specs.Happenings.{Happening, Answer, AddsCall, Course, MayCrashIt, Report, Tells, called, is_of_device, EndsWithoutCrash, MayRestart, is_no_crash}
 use Rattle.rq_core.specs.Happenings.Answer.{Answered, Crashed, Refused, Restarted}
 use Rattle.rq_core.specs.Headline.{LeavesStores, LeftBy, LeftLast}
 use Rattle.rq_core.specs.Runs.{CanCrash, IsFresh, IsHeadline, IsOpened, IsRefused, Ran}
 use Rattle.rq_core.specs.World.{IsOpen, IsShut}
 use Rattle.rq_core.specs.World.World.{Is_open, Is_shut}
 use Rattle.rq_core.specs.Happenings.Happening.{Stops_in}
-use Rattle.rq_core.specs.Happenings.{EndsWithoutCrash, MayRestart, is_no_crash}
 use Rattle.rq_core.specs.Views.{report_of}
 use Rattle.rq_core.proofs.Devices.{some_page, some_log}
 use Rattle.rq_core.proofs.Worlds.{caused, read_of, reopened, stays_shut, IsGivenUp, calls, leaves_open, leaves_shut, still, headline}

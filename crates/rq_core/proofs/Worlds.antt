@@ -17,9 +17,8 @@ use Rattle.rq_model.specs.Ledger.{Ledger, ledger, after, kept_in}
 use Rattle.rq_model.specs.Ledger.Phase.{Shut}
 use Rattle.rq_model.specs.Legal.{Legal, IsLegal}
 use Rattle.rq_model.specs.Tests.{any_busy}
-use Rattle.rq_model.specs.Promises.{CrashGoesOn, ShutCrashGoesOn, RestartGoesOn, EndsInCrash, crash_to}
+use Rattle.rq_model.specs.Promises.{CrashGoesOn, ShutCrashGoesOn, RestartGoesOn, EndsInCrash, crash_to, AcknowledgedStay, FifoThroughout}
 use Rattle.rq_model.specs.Replay.{Says}
-use Rattle.rq_model.specs.Promises.{AcknowledgedStay, FifoThroughout}
 use Rattle.rq_disk.specs.Device.{Images, Leaves}
 use Rattle.rq_disk.specs.Records.{HoldsRecords}
 use Rattle.rq_disk.specs.declared.device.LogDevice as log_device
@@ -27,7 +26,7 @@ use Rattle.rq_disk.specs.declared.device.PageDevice as page_device
 use Rattle.rq_log.specs.Spelled.{spelled, AreSpelled}
 use Rattle.rq_page.specs.Sizes.{Sizes, IsInRange}
 use Rattle.rq_pool.specs.Reading.{IsSuperblock}
-use Rattle.rq_store.specs.State.{State, ledger_of, size_of, phase_of}
+use Rattle.rq_store.specs.State.{State, ledger_of, size_of, phase_of, job_under, open_ones_of}
 use Rattle.rq_sound.specs.Sound.{IsSound}
 use Rattle.rq_store.specs.Opening.{IsLeft, next_restart}
 use Rattle.rq_store.specs.Fitting.{AllFit, FitsLog, FitsPage}
@@ -40,7 +39,6 @@ use Rattle.rq_engine.specs.Says.{RefusedForCause, call_of, gave}
 use Rattle.rq_groups.specs.Ends.{HeldEnds}
 use Rattle.rq_model.specs.Causes.{HasCause, IsCaused, writes_out}
 use Rattle.rq_txn.specs.Rows.{Row, Under, any_under as rows_under}
-use Rattle.rq_store.specs.State.{job_under, open_ones_of}
 use Rattle.rq_engine.specs.declared.event.Event.{Event}
 use Rattle.rq_engine.specs.declared.event.Event.TheVariants as event
 use Rattle.rq_engine.specs.declared.event.Outcome.TheVariants as outcome

@@ -1,5 +1,5 @@
 -- What holds of every history with legal replies.
-use Rattle.std.specs.Prelude.{◌≡◌, ℕ, ◌<◌, List, ◌∷◌, length, true}
+use Rattle.std.specs.Prelude.{◌≡◌, ℕ, ◌<◌, List, ◌∷◌, length, true, map}
 use Rattle.rq_model.specs.declared.txn.Txn.{Txn}
 use Rattle.rq_model.specs.History.{Entry, rest}
 use Rattle.rq_model.specs.declared.refusal.Refusal.TheVariants.{Latched}
@@ -10,7 +10,6 @@ use Rattle.rq_model.specs.Groups.{group}
 use Rattle.rq_model.specs.Ledger.{Open, ledger, own_takes}
 use Rattle.rq_model.specs.Legal.{At, IsLegal}
 use Rattle.rq_model.specs.Tests.{Size, below, free_to_receive}
-use Rattle.std.specs.Prelude.{map}
 
 -- s is free for t, and holds a message that t has not taken itself
 abbrev pub GivesTo : List Entry → Txn → Open → ℕ → Type 0

@@ -4,7 +4,7 @@
 //! Callers are generic in both, and reach everything through the ghost members. A call that errs has done
 //! nothing, or the device has stopped in it, its work done or not: each clause on what a crash leaves stands
 //! on every answer.
-ghost use Rattle.std.specs.Prelude.{◌≡◌, ◌≢◌, ◌⊎◌, ◌≤◌, ◌+◌, ◌-◌, ◌++◌, List, ℕ, length, take, drop, min, IfOk, OnOk, OnErr, IsErr};
+ghost use Rattle.std.specs.Prelude.{◌≡◌, ◌≢◌, ◌⊎◌, ◌≤◌, ◌-◌, ◌++◌, List, ℕ, length, take, drop, min, IfOk, OnOk, OnErr, IsErr};
 ghost use Rattle.rq_disk.specs.Device.{Images, Leaves, Holds, Written, NoMore, Appended, Only, Elapses, FailureIsCounted, Stays};
 ghost use Rattle.rq_disk.specs.Records.{AreRecords};
 

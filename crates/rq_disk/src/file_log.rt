@@ -1,5 +1,5 @@
 //! A log in a file. What a read gives is believed, and noted: the device is honest where its notes agree.
-ghost use Rattle.std.specs.Prelude.{◌≡◌, ◌+◌, ◌-◌, ◌↔◌, ℕ, [], length, min, IfOk, true, false};
+ghost use Rattle.std.specs.Prelude.{◌≡◌, ◌+◌, ◌-◌, ◌↔◌, [], length, min, IfOk, true, false};
 ghost use Rattle.rq_disk.specs.FileCalls.{has_failed};
 ghost use Rattle.rq_disk.specs.LogFile.{grown, writes_at_end};
 ghost use Rattle.rq_disk.specs.Device.{Only};

@@ -1,5 +1,5 @@
 //! Whole records in bytes.
-ghost use Rattle.std.specs.Prelude.{◌≡◌, ◌≤◌, ◌<◌, ◌↔◌, ℕ, length, take, drop, IsTrue, IfSome, IfNone};
+ghost use Rattle.std.specs.Prelude.{◌≡◌, ◌≤◌, ◌<◌, length, take, drop, IfSome, IfNone};
 ghost use Rattle.rq_disk.specs.Records.{record_size, HasRecord, AreRecords};
 
 use byteorder::{BigEndian, ByteOrder};

@@ -1,5 +1,5 @@
 //! A log in memory. It keeps what it was at first and each call since, so that its past is real data.
-ghost use Rattle.std.specs.Prelude.{⊤, ◌≡◌, ◌≤◌, ◌-◌, ◌++◌, ◌∷◌, [], ℕ, length, take, drop, min, IfOk, OnOk, OnErr, true, false};
+ghost use Rattle.std.specs.Prelude.{⊤, ◌≡◌, ◌≤◌, ◌-◌, ◌++◌, ◌∷◌, [], ℕ, length, take, drop, min, OnOk, OnErr, true, false};
 ghost use Rattle.rq_disk.specs.Records.{AreRecords, some_records-prop};
 ghost use Rattle.rq_disk.specs.Memory.{log_after};
 

@@ -1,5 +1,5 @@
 //! Pages in memory. They keep what they were at first and each call since, so that their past is real data.
-ghost use Rattle.std.specs.Prelude.{⊤, ◌≡◌, ◌≤◌, ◌<◌, ◌==◌, ◌++◌, ◌∷◌, [], ℕ, List, length, take, drop, get_or, slice_set, replicate, if◌then◌else◌, IfOk, OnOk, OnErr, true, false};
+ghost use Rattle.std.specs.Prelude.{⊤, ◌≡◌, ◌≤◌, ◌<◌, ◌++◌, ◌∷◌, [], ℕ, length, get_or, replicate, if◌then◌else◌, IfOk, OnOk, OnErr, true, false};
 ghost use Rattle.rq_disk.specs.Memory.{pages_after, reads};
 
 use crate::choice::PageChoice;

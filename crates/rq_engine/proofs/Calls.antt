@@ -14,15 +14,15 @@ use Rattle.rq_model.specs.declared.refusal.Refusal.{Refusal}
 use Rattle.rq_model.specs.declared.refusal.Refusal.TheVariants as why
 use Rattle.rq_model.specs.Words.{is_some, same_txn}
 use Rattle.rq_views.specs.Plans.{deed_sender}
-use Rattle.rq_model.specs.History.{Call}
+use Rattle.rq_model.specs.History.{Call, Group}
 use Rattle.rq_model.specs.History.Call.{Commit, Step, Finish, Show, Last_tag}
 use Rattle.rq_model.specs.History.Entry.{Ready, Shown}
-use Rattle.rq_model.specs.Ledger.{Open, found, runs}
+use Rattle.rq_model.specs.Ledger.{Open, found, runs, group_in}
 use Rattle.rq_model.specs.Legal.{OnFound}
-use Rattle.rq_model.specs.Tests.{has_under, is_aborting, steps_left, log_full, tests, first_of, NoneHolds, ready_tests}
+use Rattle.rq_model.specs.Tests.{has_under, is_aborting, steps_left, log_full, tests, first_of, NoneHolds, ready_tests, any_busy, below}
 use Rattle.rq_model.specs.Replay.{Reply as Gave}
 use Rattle.rq_model.specs.Replay.Reply.{Gave_lsn, Gave_commit, Gave_ready, Gave_content, Gave_tag}
-use Rattle.rq_page.specs.Sizes.{Sizes}
+use Rattle.rq_page.specs.Sizes.{Sizes, sender_count}
 use Rattle.rq_level.specs.declared.writes.SlotWrite.{SlotWrite}
 use Rattle.rq_level.specs.Writes.{IsSlotWrite, AreSlotWrites}
 use Rattle.rq_txn.specs.declared.Finished.{Finished}
@@ -33,7 +33,7 @@ use Rattle.rq_groups.specs.Sent.{sent_count, sent_tag}
 use Rattle.rq_model.specs.Content.{tag_after}
 use Rattle.rq_sound.specs.Calls.{sends_for}
 use Rattle.rq_sound.proofs.Unchanged.{unchanged}
-use Rattle.rq_engine.specs.Moves.{with_tags}
+use Rattle.rq_engine.specs.Moves.{with_tags, with_sends, with_taken, without_taken}
 use Rattle.rq_engine.proofs.Tags.{count-with_tags, tag-with_tags}
 use Rattle.rq_groups.specs.Ends.{HeldEnds, released}
 use Rattle.rq_store.specs.State.{State, ledger_of, size_of, owed_one, owed_under, job_under, left_under, phase_of}
@@ -46,14 +46,9 @@ use Rattle.rq_store.specs.Steps.{page_op, op_end, gave_done}
 use Rattle.rq_sound.specs.Steps.{Steps}
 use Rattle.rq_store.proofs.RowLists.{found_in}
 use Rattle.rq_store.proofs.Opens.{busy_is}
-use Rattle.rq_model.specs.Ledger.{group_in}
-use Rattle.rq_model.specs.History.{Group}
-use Rattle.rq_model.specs.Tests.{any_busy, below}
 use Rattle.rq_model.specs.Commits.{committed_of}
-use Rattle.rq_page.specs.Sizes.{sender_count}
 use Rattle.rq_engine.proofs.Standing.{going_at, step_steps, finish_steps, commit_steps}
 use Rattle.rq_engine.specs.Kept.{EndFits, IsKept, end_bytes, room_one, room_of}
-use Rattle.rq_engine.specs.Moves.{with_sends, with_taken, without_taken}
 use Rattle.rq_engine.proofs.Waits.{waits-with_sends, waits-without_taken}
 use Rattle.rq_engine.specs.Answers.{Refuses, OnUnder, IsUnderWay, IsNotUnderWay, NotFound, IsOther, Idle, CannotFinish, IsMade, HasNothingUnderWay}
 use Rattle.rq_engine.proofs.Keeping.{kept_at, under_at, kept_stepped, kept_finished, kept_undone, kept_committed}

@@ -10,15 +10,13 @@ use Rattle.rq_model.specs.Words.{In, front}
 use Rattle.rq_page.specs.Sizes.{Sizes}
 use Rattle.rq_txn.specs.declared.Finished.{Finished}
 use Rattle.rq_txn.specs.Rows.{Row, Under, found_row, change_row, without_row, fresh_row, row_started, row_stepped, row_aborting, row_finished, row_taken_back, under_stepped}
-use Rattle.rq_engine.specs.Kept.{AreSendsKept}
-use Rattle.rq_engine.specs.Moves.{with_tags}
+use Rattle.rq_engine.specs.Kept.{AreSendsKept, IsDoneKept, IsKept, IsRowKept, IsUnderKept, UnderKept, end_bytes, room_one, room_of, total_of, done_one}
+use Rattle.rq_engine.specs.Moves.{with_tags, with_sends, with_taken, without_taken}
 use Rattle.rq_engine.proofs.Tags.{sends_on, sends_more}
 use Rattle.rq_groups.specs.Ends.{HeldEnds}
 use Rattle.rq_store.specs.State.{State, owed_by, owed_one, owed_under}
 use Rattle.rq_store.proofs.RowLists.{found_in, changed, distinct_change, distinct_gone, gone}
 use Rattle.rq_store.proofs.RowSums.{rows_one, rows_sum, rows_without}
-use Rattle.rq_engine.specs.Kept.{IsDoneKept, IsKept, IsRowKept, IsUnderKept, UnderKept, end_bytes, room_one, room_of, total_of, done_one}
-use Rattle.rq_engine.specs.Moves.{with_sends, with_taken, without_taken}
 use Rattle.rq_engine.proofs.Waits.{length-with_sends, length-with_taken, length-without_taken, few_sends, few_taken, more_taken}
 use Rattle.rq_groups.specs.Waiting.{waits}
 

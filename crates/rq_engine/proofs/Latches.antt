@@ -11,12 +11,11 @@ use Rattle.rq_model.specs.Legal.{OnFound}
 use Rattle.rq_model.specs.Words.{last}
 use Rattle.rq_model.specs.History.Call.{Start_close, Start_send, Start_receive, Start_receive_from, Undo_next}
 use Rattle.rq_model.specs.History.Job.{Sending, Taking, Ending}
-use Rattle.rq_page.specs.Sizes.{cell_count, directory_at}
+use Rattle.rq_page.specs.Sizes.{cell_count, directory_at, Sizes}
 use Rattle.rq_views.specs.Plans.{Turn}
 use Rattle.rq_views.specs.Plans.Turn.{Did, Undid}
 use Rattle.rq_level.specs.declared.writes.SlotWrite.{SlotWrite}
 use Rattle.std.proofs.lemmas.List.{length-map, length-reverse}
-use Rattle.rq_page.specs.Sizes.{Sizes}
 use Rattle.rq_views.specs.Log.{Write}
 use Rattle.rq_level.specs.Writes.{write_of, writes_of}
 use Rattle.rq_txn.specs.declared.Finished.{Finished}

@@ -7,7 +7,7 @@ use Rattle.rq_model.specs.declared.record.Record.TheVariants.{Commit}
 use Rattle.rq_model.specs.declared.refusal.Refusal.{Refusal}
 use Rattle.rq_model.specs.declared.txn.Sub.{Sub}
 use Rattle.rq_model.specs.declared.txn.Txn.{Txn}
-use Rattle.rq_engine.specs.Moves.{with_tags}
+use Rattle.rq_engine.specs.Moves.{with_tags, with_sends}
 use Rattle.rq_groups.specs.Ends.{released}
 use Rattle.rq_txn.specs.Rows.{fresh_row, without_row}
 use Rattle.rq_store.specs.State.{State}
@@ -20,7 +20,6 @@ use Rattle.rq_engine.specs.Answers.{AnswersLegally, HasNothingUnderWay}
 use Rattle.rq_engine.specs.Opened.{AreHonest, OpenStore}
 use Rattle.rq_engine.specs.Aborts.{UndoSays}
 use Rattle.rq_engine.specs.Receives.{started_of, undoing_of}
-use Rattle.rq_engine.specs.Moves.{with_sends}
 use Rattle.rq_engine.specs.Says.{begun_reply, call_of, gave, undo_reply}
 use Rattle.rq_engine.specs.Lists.{IsBegun, IsCommitted, TakeSays, TakeFromSays, ListsSay, done_by}
 use Rattle.rq_engine.specs.declared.event.CommitNo.{CommitNo}

@@ -9,9 +9,8 @@ use Rattle.rq_model.specs.History.{Call}
 use Rattle.rq_model.specs.History.Call.{Begin, Commit, Start_send, Step, Finish, Acknowledge, Force, Hand_over, Show, Start_receive, Start_receive_from, Start_close, Start_abort, Undo_next, End_abort, Write_page, Last_tag}
 use Rattle.rq_model.specs.History.Entry.{Refused}
 use Rattle.rq_model.specs.Ledger.{Ledger, runs, after, found}
-use Rattle.rq_model.specs.Legal.{LegalRefusal}
-use Rattle.rq_model.specs.Tests.{Size, tests, first_of, NoneHolds, is_aborting, is_busy, log_full, ready_tests}
-use Rattle.rq_model.specs.Tests.{without_pages, IsUnready}
+use Rattle.rq_model.specs.Legal.{LegalRefusal, OnFound}
+use Rattle.rq_model.specs.Tests.{Size, tests, first_of, NoneHolds, is_aborting, is_busy, log_full, ready_tests, without_pages, IsUnready}
 use Rattle.std.specs.Option.{is_some as option_is_some}
 use Rattle.rq_txn.specs.declared.Operation.{Operation}
 use Rattle.rq_txn.specs.Rows.{Row, Under, found_row, under_way_of, any_under}
@@ -21,7 +20,6 @@ use Rattle.rq_engine.proofs.Standing.{refused_steps}
 use Rattle.rq_page.specs.Sizes.{Sizes}
 use Rattle.rq_content.specs.Read.{StopsFor, IsBroken, damaged_for}
 use Rattle.rq_engine.specs.Answers.{Refuses}
-use Rattle.rq_model.specs.Legal.{OnFound}
 use Rattle.rq_model.specs.Causes.{HasCause, takes_memory}
 
 failed_first : (z : Size) (l : Ledger) (c : Call) → runs l.phase ≡ false → first_of (tests z l c) ≡ Some why.Failed

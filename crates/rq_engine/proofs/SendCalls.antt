@@ -3,12 +3,11 @@ use Rattle.std.proofs.Common.{◌≡◌, ℕ, ◌+◌, ◌*◌, ◌<◌, ◌≤�
 use Rattle.std.proofs.lemmas.Bool.{false_from_ne_true, eqb-true, eq-eqb, lt-ltb, le-ltb}
 use Rattle.rq_model.specs.declared.txn.Txn.{Txn}
 use Rattle.rq_model.specs.declared.refusal.Refusal.TheVariants as why
-use Rattle.rq_model.specs.Words.{is_some}
+use Rattle.rq_model.specs.Words.{is_some, message_of}
 use Rattle.rq_model.specs.History.{Call}
 use Rattle.rq_model.specs.History.Call.{Start_send}
 use Rattle.rq_model.specs.Ledger.{found, ended_in}
 use Rattle.rq_model.specs.Tests.{Passes, is_busy, NoneHolds, free_to_send, has_closed, log_full, cells_in_use, ready_tests}
-use Rattle.rq_model.specs.Words.{message_of}
 use Rattle.rq_page.specs.declared.directory.Directory.{Directory}
 use Rattle.rq_page.specs.Sizes.{sender_count, cell_count, directory_at}
 use Rattle.rq_page.specs.Slots.Slot.{Sender}

@@ -1,9 +1,8 @@
 //! Aborts: their start and their end.
 ghost use Rattle.std.specs.Prelude.{◌≡◌, ◌↔◌, Err, IfOk, IfErr, OnOk, OnErr, IfSome, None, false, true, ℕ};
 ghost use Rattle.rq_model.specs.History.Call.{End_abort, Start_abort};
-ghost use Rattle.rq_model.specs.Tests.{IsUnready};
+ghost use Rattle.rq_model.specs.Tests.{IsUnready, NoneHolds, ready_tests};
 ghost use Rattle.rq_model.specs.Replay.Reply.{Gave_aborted, Gave_aborting};
-ghost use Rattle.rq_model.specs.Tests.{NoneHolds, ready_tests};
 ghost use Rattle.rq_store.specs.State.{ledger_of};
 ghost use Rattle.rq_engine.specs.Opened.{LeavesDevices};
 ghost use Rattle.rq_engine.specs.Answers.{AnswersLegally, Refuses};

@@ -1,5 +1,5 @@
 //! Events and their replies.
-ghost use Rattle.std.specs.Prelude.{◌≡◌, ◌↔◌, ℕ, false, map, true, Err};
+ghost use Rattle.std.specs.Prelude.{◌≡◌, ◌↔◌, ℕ, map, true, Err};
 ghost use Rattle.rq_model.specs.History.Call.{Show};
 ghost use Rattle.rq_model.specs.Replay.Reply.{Gave_content};
 ghost use Rattle.rq_log.specs.Crash.{LeavesOnly};

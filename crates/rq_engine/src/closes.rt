@@ -12,11 +12,11 @@ ghost use Rattle.rq_store.specs.State.{ledger_of, size_of};
 ghost use Rattle.rq_sound.specs.Plans.{AreUnlatched};
 ghost use Rattle.rq_sound.specs.Sound.{IsSound};
 ghost use Rattle.rq_engine.specs.Opened.{LeavesDevices};
-ghost use Rattle.rq_engine.specs.Answers.{AnswersLegally, HasNothingUnderWay, Refuses};
+ghost use Rattle.rq_engine.specs.Answers.{AnswersLegally, Refuses};
 ghost use Rattle.rq_engine.specs.Applied.{OnLatched, StartsUnlatched};
 ghost use Rattle.rq_engine.specs.Lists.{IsCloseStarted};
 ghost use Rattle.rq_engine.specs.Closes.{IsClosePlan, close_latched};
-ghost use Rattle.rq_engine.specs.Sends.{under_plan, FitsPlan, HasRoom};
+ghost use Rattle.rq_engine.specs.Sends.{under_plan, FitsPlan};
 
 use crate::engine::Engine;
 use crate::starts::MARK_OPERATION;

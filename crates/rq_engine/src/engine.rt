@@ -1,5 +1,5 @@
 //! The engine's calls, but those of operations.
-ghost use Rattle.std.specs.Prelude.{◌≡◌, ◌&&◌, nat_eq, nat_lt, not, ◌+◌, ◌<◌, ◌≤◌, ◌^◌, ◌↔◌, ◌⊎◌, IfOk, IfErr, OnOk, OnErr, IfSome, Err, ℕ, List, true, false, length, ◌∷◌, []};
+ghost use Rattle.std.specs.Prelude.{◌≡◌, ◌&&◌, nat_eq, nat_lt, not, ◌+◌, ◌<◌, ◌≤◌, ◌^◌, ◌↔◌, IfOk, IfErr, OnOk, OnErr, IfSome, Err, ℕ, List, true, false, length, ◌∷◌, []};
 ghost use Rattle.rq_model.specs.History.Call.{Begin, Commit, Acknowledge, Hand_over, Force};
 ghost use Rattle.rq_model.specs.Replay.{receipt};
 ghost use Rattle.rq_model.specs.Replay.Reply.{Gave_txn, Gave_commit, Gave_forced, Gave_handed_over, Gave_receipt};
@@ -8,8 +8,6 @@ ghost use Rattle.rq_disk.specs.Device.{Only};
 ghost use Rattle.rq_log.specs.Crash.{LeavesOnly};
 ghost use Rattle.rq_log.specs.Logged.{WasDurable};
 ghost use Rattle.rq_log.specs.Spelled.{spelled, AreSpelled, IsBeginning};
-ghost use Rattle.rq_record.specs.Spelling.{IsInRange, spelling};
-ghost use Rattle.rq_txn.specs.Rows.{found_row, fresh_row, without_row};
 ghost use Rattle.rq_page.specs.Sizes.{sender_count};
 ghost use Rattle.rq_groups.specs.Sent.{sent_count};
 ghost use Rattle.rq_groups.specs.Waiting.{waits};
@@ -194,7 +192,7 @@ impl<P: PageDevice + Drop, L: LogDevice + Drop, B: Level> Engine<P, L, B> {
 }
 
 impl<P: PageDevice, L: LogDevice, B: Level> Engine<P, L, B> {
-    ghost use Rattle.rq_store.specs.State.{ledger_of, open_ones_of};
+    ghost use Rattle.rq_store.specs.State.{ledger_of};
     ghost use Rattle.rq_model.specs.Tests.{log_full};
     ghost use Rattle.rq_model.specs.Tests.{IsUnready};
     ghost use Rattle.rq_model.specs.Tests.{NoneHolds, ready_tests};

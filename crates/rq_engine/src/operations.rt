@@ -1,5 +1,5 @@
 //! The calls of an operation under way.
-ghost use Rattle.std.specs.Prelude.{◌≡◌, ◌↔◌, Err, ◌+◌, ◌-◌, ◌<◌, ◌≤◌, IfOk, IfErr, IfSome, OnOk, OnErr, MatchOption, Some, false, true, length, ◌∷◌};
+ghost use Rattle.std.specs.Prelude.{◌≡◌, ◌↔◌, Err, ◌+◌, ◌-◌, ◌<◌, ◌≤◌, IfOk, IfErr, OnOk, OnErr, MatchOption, Some, false, true, length, ◌∷◌};
 ghost use Rattle.std.specs.List.{slice_get};
 ghost use Rattle.rq_model.specs.History.Call.{Step, Finish};
 ghost use Rattle.rq_txn.specs.Rows.{change_row, row_finished, row_taken_back, under_of};

@@ -1,5 +1,5 @@
 //! Pages that go out.
-ghost use Rattle.std.specs.Prelude.{◌≡◌, ◌≢◌, ◌↔◌, IfErr, true, false};
+ghost use Rattle.std.specs.Prelude.{◌≡◌, ◌≢◌, ◌↔◌, IfErr, true};
 ghost use Rattle.rq_model.specs.History.Call.{Write_page};
 ghost use Rattle.rq_model.specs.Replay.Reply.{Gave_written};
 ghost use Rattle.rq_pool.specs.Pooled.{image_at};

@@ -1,5 +1,5 @@
 //! Sends.
-ghost use Rattle.std.specs.Prelude.{◌≡◌, ◌≢◌, ◌↔◌, Err, ◌+◌, ◌<◌, ◌≤◌, ◌^◌, IfOk, IfErr, IfSome, IfNone, None, OnOk, OnErr, ℕ, Some, true, false, length, ◌∷◌};
+ghost use Rattle.std.specs.Prelude.{◌≡◌, ◌≢◌, ◌↔◌, Err, ◌<◌, ◌^◌, IfOk, IfErr, IfSome, IfNone, None, OnOk, OnErr, ℕ, Some, true, false};
 ghost use Rattle.rq_model.specs.History.Call.{Start_send};
 ghost use Rattle.rq_model.specs.Replay.Reply.{Gave_sub};
 ghost use Rattle.rq_model.specs.Tests.{NoneHolds, Passes, log_full, ready_tests};
@@ -12,7 +12,7 @@ ghost use Rattle.rq_sound.specs.Plans.{AreUnlatched};
 ghost use Rattle.rq_sound.specs.Sound.{IsSound};
 ghost use Rattle.rq_store.specs.Plans.{IsSendPlan};
 ghost use Rattle.rq_engine.specs.Opened.{LeavesDevices};
-ghost use Rattle.rq_engine.specs.Answers.{AnswersLegally, IsUnderWay, HasNothingUnderWay, Refuses};
+ghost use Rattle.rq_engine.specs.Answers.{AnswersLegally, IsUnderWay, Refuses};
 ghost use Rattle.rq_engine.specs.Applied.{OnLatched, StartsUnlatched};
 ghost use Rattle.rq_engine.specs.Lists.{IsSendStarted};
 ghost use Rattle.rq_engine.specs.Sends.{under_plan, FitsPlan, SendIsLatched, TakesLowest};

@@ -1,11 +1,9 @@
 //! What starts of operations have in common.
-ghost use Rattle.std.specs.Prelude.{◌≡◌, ◌+◌, ◌*◌, ◌<◌, ◌≤◌, IfErr, Some, OnOk, OnErr, false, true, length};
+ghost use Rattle.std.specs.Prelude.{◌≡◌, ◌+◌, ◌*◌, ◌≤◌, IfErr, Some, OnOk, OnErr, true, length};
 ghost use Rattle.rq_model.specs.Deeds.{deed_in, spelled_deed};
 ghost use Rattle.rq_record.specs.Deeds.{IsDeedInRange};
-ghost use Rattle.rq_model.specs.Tests.{log_full};
 ghost use Rattle.rq_txn.specs.Rows.{change_row, row_started, under_of};
 ghost use Rattle.rq_groups.specs.Sides.{is_free_end, with_end};
-ghost use Rattle.rq_store.specs.State.{ledger_of};
 ghost use Rattle.rq_engine.specs.Opened.{LeavesDevices};
 ghost use Rattle.rq_engine.specs.Answers.{HasNothingUnderWay};
 ghost use Rattle.rq_engine.specs.Sends.{under_plan, FitsPlan, FitsUnder, HasRoom};

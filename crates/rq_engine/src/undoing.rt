@@ -1,5 +1,5 @@
 //! What an abort undoes: the inverses of finished operations.
-ghost use Rattle.std.specs.Prelude.{◌≡◌, ◌≢◌, ◌↔◌, ◌/◌, ◌+◌, ◌<◌, ◌≤◌, Err, IfOk, IfErr, IfSome, IfNone, None, OnOk, OnErr, ℕ, Some, true, false, length};
+ghost use Rattle.std.specs.Prelude.{◌≡◌, ◌≢◌, ◌↔◌, ◌+◌, ◌≤◌, Err, IfOk, IfErr, IfSome, IfNone, None, OnOk, OnErr, Some, true, length};
 ghost use Rattle.rq_model.specs.History.Call.{Undo_next};
 ghost use Rattle.rq_model.specs.Tests.{undo_cost};
 ghost use Rattle.rq_model.specs.Commits.{op_of};

@@ -1,5 +1,5 @@
 //! Marks of places.
-ghost use Rattle.std.specs.Prelude.{◌≡◌, ◌<◌, ℕ, IfOk, replicate, slice_set, length, false};
+ghost use Rattle.std.specs.Prelude.{◌≡◌, ◌<◌, IfOk, replicate, slice_set, length, false};
 ghost use Rattle.rq_flags.specs.Marks.{is_marked, IsNextMark};
 
 use crate::Index;

@@ -1,5 +1,5 @@
 //! Plans on the chain of a group. A plan is compared as writes over what the slots hold.
-ghost use Rattle.std.specs.Prelude.{◌≡◌, ◌+◌, ◌-◌, ◌<◌, ◌^◌, IfOk, reverse};
+ghost use Rattle.std.specs.Prelude.{◌≡◌, ◌-◌, ◌<◌, ◌^◌, IfOk, reverse};
 ghost use Rattle.rq_page.specs.Sizes.{IsCellAddress};
 ghost use Rattle.rq_level.specs.Writes.{writes_of};
 ghost use Rattle.rq_chain.specs.Neighbours.{IsGroupOf, IsNeighbour, IsNeighbourAt};

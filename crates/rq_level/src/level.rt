@@ -2,7 +2,7 @@
 ghost use Rattle.std.specs.Prelude.{◌≡◌, ◌≤◌, ℕ};
 ghost use Rattle.rq_level.specs.Kept.{Kept};
 ghost use Rattle.rq_level.specs.Lawful.{AllLawful, AppliedTwiceIsOnce};
-ghost use Rattle.rq_level.specs.Meaning.{Meaning, meaning_of, wish, AreOf, redo_of, AppliesOnce, IsRedo, IsAppliedOnce};
+ghost use Rattle.rq_level.specs.Meaning.{meaning_of, wish, AreOf, redo_of, AppliesOnce, IsRedo, IsAppliedOnce};
 
 use crate::op::Op;
 use crate::slots::{PageSet, Slots};

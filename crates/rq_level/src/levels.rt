@@ -1,7 +1,7 @@
 //! All levels of a store.
 ghost use Rattle.std.specs.Prelude.{◌≡◌, ℕ, ◌<◌, length, map, slice_set};
 ghost use Rattle.rq_level.specs.Kept.{Kept};
-ghost use Rattle.rq_level.specs.Meaning.{Meaning, meaning_of, wish, AreOf, redo_of, AppliesOnce, IsRedo, kept_at, CountOn};
+ghost use Rattle.rq_level.specs.Meaning.{meaning_of, wish, AreOf, redo_of, AppliesOnce, IsRedo, kept_at, CountOn};
 
 use crate::level::{Level, Want};
 use crate::op::Op;

@@ -1,7 +1,6 @@
 //! Operations to be planned.
-ghost use Rattle.std.specs.Prelude.{◌≡◌, ◌++◌, ◌∷◌, [], IfOk, Some, length, ◌≤◌, ◌<◌, ◌/◌, ◌%◌, ◌^◌, true, false};
-ghost use Rattle.byteorder.specs.Endian.{big_bytes};
-ghost use Rattle.rq_level.specs.Ops.{Job, Doing, doing_in, spelled_doing, chain_job, Send, Receive, Close, page_job, overwrite_in};
+ghost use Rattle.std.specs.Prelude.{◌≡◌, ◌++◌, IfOk, Some, length, ◌≤◌, ◌<◌, ◌/◌, ◌%◌, ◌^◌, true, false};
+ghost use Rattle.rq_level.specs.Ops.{Job, doing_in, chain_job, Send, Receive, Close, page_job, overwrite_in};
 
 use byteorder::{BigEndian, ByteOrder};
 use rq_model::record::Slot;

@@ -1,5 +1,5 @@
 //! The numbers of running transactions' operations, as the records of a log tell them one after the other.
-ghost use Rattle.std.specs.Prelude.{◌≡◌, OnOk, OnErr, List, [], ◌∷◌};
+ghost use Rattle.std.specs.Prelude.{◌≡◌, OnOk, OnErr, List, []};
 ghost use Rattle.rq_lost.specs.Numbers.{number_of, numbers, numbers_after, numbers_but, numbers_left, with_number};
 
 use rq_model::record::Record;

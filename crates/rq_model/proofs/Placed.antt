@@ -8,10 +8,9 @@ use Rattle.rq_model.specs.declared.txn.Txn.{Txn}
 use Rattle.rq_model.specs.Words.{In, is_some}
 use Rattle.rq_model.specs.History.{Entry, commits}
 use Rattle.rq_model.specs.History.Entry.{Acknowledged, Committed, Forced, Crash, Restarted}
-use Rattle.rq_model.specs.Ledger.{Done, Ledger, runs, kept_in, ledger, after, found, ops_of}
+use Rattle.rq_model.specs.Ledger.{Done, Ledger, runs, kept_in, ledger, after, found, ops_of, Rising}
 use Rattle.rq_model.specs.Legal.{Legal, IsLegal}
 use Rattle.rq_model.specs.Tests.{Size}
-use Rattle.rq_model.specs.Ledger.{Rising}
 use Rattle.rq_model.proofs.Rises.{kept_within, all_kept, rising_append, rising_further, rising_cut, kept_cut}
 use Rattle.rq_model.proofs.Same.{In-take, Tied-ledger}
 use Rattle.rq_model.proofs.Keeps.{found_in}

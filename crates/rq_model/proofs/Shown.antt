@@ -10,13 +10,12 @@ use Rattle.rq_model.specs.History.Entry.{Begun, Started, None_free, None_from, S
 use Rattle.rq_model.specs.Legal.{Legal, IsLegal}
 use Rattle.rq_model.specs.Tests.{Size}
 use Rattle.rq_model.proofs.Lists.{same_is}
-use Rattle.rq_model.proofs.Same.{Tied-ledger}
+use Rattle.rq_model.proofs.Same.{Tied-ledger, sends_are, takes_are}
 use Rattle.std.proofs.lemmas.List.{drop-drop, drop-append-le, length-append, take-append-le, take-take, length-take, length-map, length_push}
 use Rattle.rq_model.specs.History.{Entry, Call, Fin, finished, did_by, ops_by, commits, committed_by, ended, closes_by, durable, durable_by, sends}
 use Rattle.rq_model.specs.Ledger.{Done, Ledger, after, ledger, any_ends, ended_in, group_in, sent_in, taken_in, tag_of}
 use Rattle.rq_model.specs.Groups.{group, with_ops, Survives}
 use Rattle.rq_model.proofs.Keeps.{taken_more, sent_more}
-use Rattle.rq_model.proofs.Same.{sends_are, takes_are}
 use Rattle.rq_model.proofs.Ends.{in_has, any_ends_more, ended_none}
 use Rattle.rq_model.proofs.Commits.{group_is, tag_more}
 

@@ -1,5 +1,5 @@
 //! Whether the pages and slots of a store are well formed.
-ghost use Rattle.std.specs.Prelude.{◌≡◌, ◌≤◌, ◌<◌, ◌↔◌, IsTrue};
+ghost use Rattle.std.specs.Prelude.{◌≡◌, ◌<◌, ◌↔◌, IsTrue};
 ghost use Rattle.rq_page.specs.Sizes.{IsLink};
 ghost use Rattle.rq_page.specs.Cells.{IsCell, IsCellSlot};
 ghost use Rattle.rq_page.specs.Slots.{IsCellOf, IsDirectoryOf, IsSlotOf, SpellingTells, SlotIsSpelling, HoldsCell, HoldsDirectory, MayStand};

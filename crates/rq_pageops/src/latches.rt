@@ -1,5 +1,5 @@
 //! The pages that operations under way have latched.
-ghost use Rattle.std.specs.Prelude.{◌≡◌, ◌<◌, ◌≤◌, ◌∷◌, ◌++◌, [], true, false, not, IfOk, length};
+ghost use Rattle.std.specs.Prelude.{◌≡◌, ◌<◌, ◌≤◌, ◌∷◌, ◌++◌, [], true, false, IfOk, length};
 ghost use Rattle.rq_level.specs.Given.{meets};
 ghost use Rattle.rq_model.specs.Words.{In};
 ghost use Rattle.rq_pageops.specs.Latched.{AreApart, IsGivenBack, OthersStay, others, pages_in};

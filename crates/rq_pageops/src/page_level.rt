@@ -1,8 +1,8 @@
 //! The level of single slots.
-ghost use Rattle.std.specs.Prelude.{◌≡◌, ◌+◌, ◌*◌, ◌<◌, ◌≤◌, ◌^◌, ◌/◌, ◌%◌, [], IfSome, IfNone, IfOk, Some, None};
+ghost use Rattle.std.specs.Prelude.{◌≡◌, ◌+◌, ◌*◌, ◌<◌, ◌^◌, ◌/◌, ◌%◌, IfSome, IfNone, IfOk, Some, None};
 ghost use Rattle.rq_level.specs.Kept.{Kept};
-ghost use Rattle.rq_level.specs.Ops.{Overwrite, overwrite_in};
-ghost use Rattle.rq_level.specs.PagePlans.{IsOneWrite, IsWritePlan, PlansWrite, TakesBack, is_slot_number};
+ghost use Rattle.rq_level.specs.Ops.{overwrite_in};
+ghost use Rattle.rq_level.specs.PagePlans.{IsWritePlan, PlansWrite, TakesBack, is_slot_number};
 
 use byteorder::{BigEndian, ByteOrder};
 use rq_level::{Level, Op, PageSet, Plan, SlotWrite, Slots, Want, redo_page};

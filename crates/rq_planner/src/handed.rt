@@ -1,6 +1,6 @@
 //! Levels that are handed in for a store.
-ghost use Rattle.std.specs.Prelude.{◌≡◌, ℕ};
-ghost use Rattle.rq_level.specs.Meaning.{kept_at, meaning_of};
+ghost use Rattle.std.specs.Prelude.{◌≡◌};
+ghost use Rattle.rq_level.specs.Meaning.{meaning_of};
 ghost use Rattle.rq_planner.specs.Handed.{AreForStores, HasRoom};
 
 use rq_level::{Level, Levels};

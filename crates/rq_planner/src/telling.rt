@@ -1,8 +1,8 @@
 //! Tells a level of slots as they are.
-ghost use Rattle.std.specs.Prelude.{◌≡◌, ◌↔◌, ◌/◌, ◌%◌, ◌≤◌, IfSome, IsTrue, List, Some, length};
+ghost use Rattle.std.specs.Prelude.{◌≡◌, ◌↔◌, ◌≤◌, IfSome, IsTrue, List, Some, length};
 ghost use Rattle.rq_page.specs.Cells.{free_bytes};
 ghost use Rattle.rq_page.specs.Sizes.{IsCellAddress, cell_count};
-ghost use Rattle.rq_page.specs.Slots.{Free, IsSlotOf};
+ghost use Rattle.rq_page.specs.Slots.{Free};
 ghost use Rattle.rq_views.specs.Stored.{IsStoreSlot, slot_at, slots_in};
 ghost use Rattle.rq_level.specs.Kept.{noted};
 ghost use Rattle.rq_level.specs.Writes.{AreSlotWrites};

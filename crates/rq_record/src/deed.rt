@@ -1,7 +1,7 @@
 //! Deeds of the chain level as bytes.
-ghost use Rattle.std.specs.Prelude.{◌≡◌, ◌+◌, ◌≤◌, ◌<◌, ◌++◌, [], ◌∷◌, length, take, drop, IfSome, Some};
+ghost use Rattle.std.specs.Prelude.{◌≡◌, ◌+◌, ◌≤◌, ◌++◌, [], ◌∷◌, length, take, drop, IfSome, Some};
 ghost use Rattle.rq_model.specs.declared.record.Deed.{Deed};
-ghost use Rattle.rq_bytes.specs.Number.{number, AreBytes};
+ghost use Rattle.rq_bytes.specs.Number.{number};
 ghost use Rattle.rq_model.specs.Deeds.{spelled_deed, deed_in};
 ghost use Rattle.rq_record.specs.Deeds.{IsDeed, IsDeedInRange, IsBody, DeedFits};
 ghost use Rattle.rq_record.specs.Reading.{Gives};

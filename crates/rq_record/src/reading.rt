@@ -1,9 +1,8 @@
 //! From bytes to records.
-ghost use Rattle.std.specs.Prelude.{◌≡◌, ◌+◌, ◌-◌, ◌≤◌, ◌<◌, ◌^◌, length, IfOk, IfSome, List, ℕ, ◌++◌, ◌↔◌};
+ghost use Rattle.std.specs.Prelude.{◌≡◌, ◌-◌, ◌≤◌, ◌<◌, length, IfOk, IfSome, List, ℕ, ◌++◌, ◌↔◌};
 ghost use Rattle.rq_model.specs.declared.record.Record.{Record};
 ghost use Rattle.rq_record.specs.Spelling.{IsRecord, spelling, BeginsRecord, HoldsRecord};
 ghost use Rattle.rq_record.specs.Decoding.{IfRecord, IsFront, step_of, step_with};
-ghost use Rattle.rq_record.specs.declared.reading.Kind.TheVariants as kinds;
 ghost use Rattle.rq_record.specs.Reading.{Gives, bytes_at, number_at, positive_at, byte_between, txn_at, page_op_at, page_undo_at, op_end_at, op_void_at, comp_end_at, commit_at, restart_at, abort_end_at, kind_of, is_size, begins_size, size_at, kind_at, IsDeedSize, fields_at, record_at};
 
 use crate::step::{Front, Step};

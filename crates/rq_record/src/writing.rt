@@ -1,8 +1,8 @@
 //! From records to bytes.
-ghost use Rattle.std.specs.Prelude.{◌≡◌, ◌+◌, ◌≤◌, ◌<◌, ◌^◌, ◌++◌, [], ◌∷◌, length, vec_len, vec_capacity, OnOk, OnErr, IsOk};
+ghost use Rattle.std.specs.Prelude.{◌≡◌, ◌+◌, ◌≤◌, ◌++◌, ◌∷◌, length, vec_len, vec_capacity, OnOk, OnErr, IsOk};
 ghost use Rattle.rq_model.specs.declared.record.Record.{Record};
 ghost use Rattle.rq_record.specs.Sizes.{length_of};
-ghost use Rattle.rq_record.specs.Spelling.{IsInRange, HasWidths, FitsTxn, IsImage, txn_bytes, fields, spelling};
+ghost use Rattle.rq_record.specs.Spelling.{IsInRange, HasWidths, FitsTxn, IsImage, txn_bytes, spelling};
 ghost use Rattle.rq_bytes.specs.Number.{AreBytes, number};
 
 use crate::{COMMIT_BYTES, OP_END_BYTES, PAGE_OP_BYTES};

@@ -9,10 +9,9 @@ use Rattle.rq_reference.specs.declared.rows.Act.{Act}
 use Rattle.rq_model.specs.Words.{Op, same_txn, last_or}
 use Rattle.rq_model.specs.declared.message.Message.{Message}
 use Rattle.rq_model.specs.Tests.{below, count_rest}
-use Rattle.rq_model.specs.Ledger.{Open, Done, Ledger, change, without, found, tag_of, rest_in}
+use Rattle.rq_model.specs.Ledger.{Open, Done, Ledger, change, without, found, tag_of, rest_in, kept_in}
 use Rattle.rq_model.proofs.Lists.{same_is, same_self}
 use Rattle.rq_reference.specs.Plain.{StandsAt, op_of, open_of, Numbered}
-use Rattle.rq_model.specs.Ledger.{kept_in}
 
 pub kept_more : (n : ℕ) (c : List Done) (d : Done) → kept_in n c ≤ kept_in n (c ++ d ∷ [])
 kept_more n [] d = omega arith

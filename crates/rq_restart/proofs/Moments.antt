@@ -6,7 +6,7 @@ use Rattle.rq_log.specs.Crash.{LeavesOnly}
 use Rattle.rq_log.specs.Logged.{Logged, WasLeftOrGoesOn}
 use Rattle.rq_log.specs.Spelled.{spelled, AreSpelled, GoesOn}
 use Rattle.rq_log.proofs.Moments.{started, weaker, joined}
-use Rattle.rq_store.specs.Opening.{next_restart}
+use Rattle.rq_store.specs.Opening.{next_restart, IsLeft}
 use Rattle.rq_log.specs.Reading.{IsRead, StopsFor}
 use Rattle.rq_model.specs.declared.refusal.Refusal.{Refusal}
 use Rattle.rq_model.specs.declared.refusal.Refusal.TheVariants as why
@@ -15,7 +15,6 @@ use Rattle.rq_restart.specs.Repeating.{Paged}
 use Rattle.rq_restart.specs.Restarting.{IsBegunOn, WasLeftOrBegun, WasLeftOrForced, BeginsAtMost}
 use Rattle.rq_disk.specs.Device.{Images}
 use Rattle.rq_page.specs.Sizes.{Sizes}
-use Rattle.rq_store.specs.Opening.{IsLeft}
 use Rattle.rq_lost.specs.Recovered.{IsRecovered}
 use Rattle.rq_restart.specs.Mended.{IsMended}
 use Rattle.rq_restart.proofs.Begun.{begun_behind}

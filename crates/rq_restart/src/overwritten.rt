@@ -1,7 +1,6 @@
 //! Numbers of pages that going through a log writes over before it is known how many records there are.
 ghost use Rattle.std.specs.Prelude.{◌≡◌, ◌<◌, ◌≤◌, [], ℕ, List, Some, IfErr, OnOk};
 ghost use Rattle.rq_page.specs.Sizes.{page_count};
-ghost use Rattle.rq_page.specs.Pages.{lsn_of};
 ghost use Rattle.rq_store.specs.Opening.{MayRedo};
 ghost use Rattle.rq_store.specs.Fitting.{image_in, told_by};
 ghost use Rattle.rq_restart.specs.Overwritten.{WritesOver, least_beyond, lesser};

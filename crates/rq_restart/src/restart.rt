@@ -1,11 +1,10 @@
 //! Opening a store that a crash, or nothing at all, left behind.
-ghost use Rattle.std.specs.Prelude.{◌≡◌, ◌+◌, ◌^◌, ◌≤◌, ◌<◌, ◌∷◌, IfOk, IfErr, OnOk, false, length, drop, List, ℕ};
+ghost use Rattle.std.specs.Prelude.{◌≡◌, ◌+◌, ◌^◌, ◌<◌, ◌∷◌, IfOk, IfErr, OnOk, false, length, drop, List};
 ghost use Rattle.rq_model.specs.declared.record.Record.TheVariants as records;
 ghost use Rattle.rq_model.specs.declared.record.Record.{Record};
 ghost use Rattle.rq_views.specs.Stored.{slots_in, count_used};
 ghost use Rattle.rq_log.specs.Crash.{LeavesOnly};
 ghost use Rattle.rq_log.specs.Spelled.{spelled, AreSpelled};
-ghost use Rattle.rq_record.specs.Spelling.{IsRecord};
 ghost use Rattle.rq_page.specs.Sizes.{Sizes};
 ghost use Rattle.rq_disk.specs.Device.{Only};
 ghost use Rattle.rq_pool.specs.Pooled.{IsPool};

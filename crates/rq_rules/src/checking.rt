@@ -1,5 +1,5 @@
 //! Whether the next record follows the rules, by what is kept of those before it.
-ghost use Rattle.std.specs.Prelude.{◌≡◌, ◌↔◌, ◌+◌, ℕ, List, IsTrue, ◌∷◌, Some};
+ghost use Rattle.std.specs.Prelude.{◌≡◌, ◌↔◌, ◌+◌, List, IsTrue, ◌∷◌, Some};
 ghost use Rattle.std.specs.List.{filter};
 ghost use Rattle.rq_model.specs.declared.record.Record.{Record as AnyRecord};
 ghost use Rattle.rq_model.specs.Incarnations.{InOrder};

@@ -4,7 +4,7 @@ ghost use Rattle.rq_session.specs.declared.stage.Held.TheVariants.{Free};
 ghost use Rattle.rq_session.specs.declared.stage.Stage.TheVariants.{Rest};
 ghost use Rattle.rq_session.specs.Laws.{awaited};
 ghost use Rattle.rq_serving.specs.Asking.{Asks};
-ghost use Rattle.rq_serving.specs.Carried.{CarriesOn, IsAsked, IsAskedFor, IsCall, IsCarried, IsCome, IsForce, IsLost, IsServed, KeepsNumber, NumberAfter, is_again, may_call, was_written};
+ghost use Rattle.rq_serving.specs.Carried.{IsAsked, IsAskedFor, IsCall, IsCarried, IsCome, IsForce, IsLost, IsServed, KeepsNumber, NumberAfter, is_again, may_call, was_written};
 ghost use Rattle.rq_engine.specs.Says.{gave};
 ghost use Rattle.rq_serving.specs.Words.{told_by};
 

@@ -1,6 +1,6 @@
 //! The durable mark: one word, which threads publish to and read without waiting.
 
-ghost use Rattle.std.specs.Prelude.{◌≡◌, ◌≤◌, ℕ, max, [], ◌∷◌, ◌++◌, IfOk};
+ghost use Rattle.std.specs.Prelude.{◌≡◌, ◌≤◌, ℕ, [], ◌∷◌, ◌++◌, IfOk};
 ghost use Rattle.rq_model.specs.Words.{In};
 
 use crate::kept::Kept;

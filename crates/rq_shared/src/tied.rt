@@ -1,5 +1,5 @@
 //! Whether the answers that a pass was given are those of its entries.
-ghost use Rattle.std.specs.Prelude.{◌≡◌, ◌≢◌, ◌↔◌, ◌≤◌, ◌<◌, IsTrue, Some, length, drop, slice_get};
+ghost use Rattle.std.specs.Prelude.{◌≡◌, ◌↔◌, ◌≤◌, ◌<◌, IsTrue, Some, length, drop, slice_get};
 ghost use Rattle.rq_shared.specs.Entries.{entries, entry_of};
 ghost use Rattle.rq_shared.specs.Tied.{own, left_entries, stamps, stamp_of};
 ghost use Rattle.rq_shared.specs.declared.kept.AuditEntry.{AuditEntry};

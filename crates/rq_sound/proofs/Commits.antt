@@ -13,13 +13,12 @@ use Rattle.rq_model.specs.Words.Op.{Send, Take, End}
 use Rattle.rq_model.specs.Counts.{AllBelow}
 use Rattle.rq_model.specs.Ledger.{Done, rest_in, group_in}
 use Rattle.rq_model.specs.Tests.{count_rest, below, is_sent}
-use Rattle.rq_model.specs.Content.{said, has_end}
+use Rattle.rq_model.specs.Content.{said, has_end, tag_after}
 use Rattle.rq_model.specs.Commits.{op_of, told, ops_told, committed_of}
 use Rattle.rq_model.proofs.Lists.{same_self, same_is}
 use Rattle.rq_model.proofs.Counts.{commit_counts, taken_within, rest_more}
 use Rattle.rq_model.proofs.Shown.{group_more}
 use Rattle.rq_model.specs.History.{Group}
-use Rattle.rq_model.specs.Content.{tag_after}
 use Rattle.rq_page.specs.Sizes.{Sizes, sender_count}
 use Rattle.rq_views.specs.Log.Item.{Commit}
 use Rattle.rq_views.specs.Items.{items, layout_of, operation}

@@ -1,8 +1,7 @@
 -- What is noted of a legal log: the operations and transactions in it that have no end.
 use Rattle.std.proofs.Common.{◌≡◌, ℕ, ◌+◌, ◌≤◌, List, [], ◌∷◌, ◌++◌, length, refl, sym, ◌∙◌, ap, Bool, true, false, not, cond, ◌&&◌, ◌||◌, nat_eq, Option, Some, None, inl, inr, arith}
-use Rattle.std.specs.List.{filter}
+use Rattle.std.specs.List.{filter, list_any}
 use Rattle.std.proofs.lemmas.Bool.{cases_Bool, true≢false, and_parts, eqb-true}
-use Rattle.std.specs.List.{list_any}
 use Rattle.std.specs.Prelude.{map}
 use Rattle.std.proofs.lemmas.List.{map-append}
 use Rattle.rq_views.specs.Log.{same_op}

@@ -1,5 +1,5 @@
 //! What the records of a log say of incarnations, operations and transactions.
-ghost use Rattle.std.specs.Prelude.{◌≡◌, ◌↔◌, ◌≤◌, ◌<◌, ◌+◌, IsTrue, IfOk, IfErr, IfSome, IfNone, OnOk, OnErr, [], ◌∷◌, Some, true, false, drop, length, reverse, slice_index_or};
+ghost use Rattle.std.specs.Prelude.{◌≡◌, ◌↔◌, ◌<◌, ◌+◌, IsTrue, IfOk, IfErr, IfSome, IfNone, OnOk, [], ◌∷◌, Some, true, false, drop, length, reverse, slice_index_or};
 ghost use Rattle.std.specs.List.{filter};
 ghost use Rattle.rq_model.specs.Incarnations.{IsNext, IsOf};
 ghost use Rattle.rq_model.specs.Words.{first};

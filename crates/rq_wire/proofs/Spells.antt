@@ -4,13 +4,12 @@ use Rattle.std.specs.Prelude.{nat_lt, ◌==◌, slice_index, Option, Some, None}
 use Rattle.std.proofs.lemmas.Bool.Decides.{nat_tests}
 use Rattle.std.proofs.lemmas.List.{take-append-drop, length-take, length-drop, append-nil, drop-drop}
 use Rattle.byteorder.specs.Endian.{big_number}
-use Rattle.rq_bytes.specs.Number.{number_at}
+use Rattle.rq_bytes.specs.Number.{number_at, AreBytes, number}
 use Rattle.rq_wire.specs.declared.request.Request.{Request}
 use Rattle.rq_wire.specs.declared.request.Request.TheVariants.{Begin, Send, Receive, ReceiveFrom, Close, Commit, Abort, LastTag}
 use Rattle.rq_wire.specs.declared.look.Front.TheVariants.{Frame}
 use Rattle.rq_wire.specs.Looks.{is_size, is_kind, only, whole_frame, request_in, looks}
 use Rattle.rq_wire.specs.Spelling.{IsRequest, frame, request_kind, request_fields, spelled}
-use Rattle.rq_bytes.specs.Number.{AreBytes, number}
 use Rattle.rq_bytes.proofs.Strings.{AreBytes-take, AreBytes-drop, length-number, number_read, number_written, number_below}
 use Rattle.rq_wire.proofs.Fronts.{picked, told, lt_no, no_lt, take_front, drop_front, size}
 

@@ -1,12 +1,11 @@
 -- The requests of a connection's bytes.
 use Rattle.std.specs.Prelude.{◌≡◌, ◌≤◌, ◌+◌, ◌↔◌, ℕ, Bool, List, [], ◌∷◌, ◌++◌, length, drop, if◌then◌else◌}
-use Rattle.rq_bytes.specs.Number.{number_at}
+use Rattle.rq_bytes.specs.Number.{number_at, AreBytes}
 use Rattle.rq_wire.specs.declared.request.Request.{Request}
 use Rattle.rq_wire.specs.declared.look.Front.{Front}
 use Rattle.rq_wire.specs.declared.look.Front.TheVariants.{Frame, Fault, More}
 use Rattle.rq_wire.specs.Looks.{looks}
 use Rattle.rq_wire.specs.Spelling.{IsRequest, AreRequested, frame, spelled, spelled_all}
-use Rattle.rq_bytes.specs.Number.{AreBytes}
 
 -- the bytes begin with whole good frames of these requests, and this is behind them
 abbrev pub Begins : List Request → List ℕ → List ℕ → Type 0

@@ -1,5 +1,5 @@
 //! Frames from pieces.
-ghost use Rattle.std.specs.Prelude.{◌≡◌, ◌++◌, ◌∷◌, [], ◌≤◌, true, false, length, drop, IsOk, IfOk, OnOk, OnErr, List, ℕ};
+ghost use Rattle.std.specs.Prelude.{◌≡◌, ◌++◌, [], ◌≤◌, true, false, length, drop, IsOk, IfOk, OnOk, OnErr, List, ℕ};
 ghost use Rattle.rq_wire.specs.Stream.{Begins, AreRequests, stop};
 ghost use Rattle.rq_wire.specs.Notes.{fed_bytes, given};
 ghost use Rattle.rq_wire.specs.Looks.{looks};

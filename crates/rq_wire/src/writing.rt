@@ -1,5 +1,5 @@
 //! From answers to bytes.
-ghost use Rattle.std.specs.Prelude.{◌≡◌, ◌+◌, ◌≤◌, ◌<◌, ◌^◌, ◌++◌, [], ◌∷◌, length, OnOk, OnErr};
+ghost use Rattle.std.specs.Prelude.{◌≡◌, ◌+◌, ◌≤◌, ◌++◌, [], ◌∷◌, length, OnOk, OnErr};
 ghost use Rattle.rq_wire.specs.Spelling.{frame, answer_frame};
 ghost use Rattle.rq_bytes.specs.Number.{number};
 

@@ -4,8 +4,7 @@ use Rattle.rq_groups.specs.Ends.{is_held}
 use Rattle.rq_groups.specs.Waiting.{waits}
 use Rattle.rq_groups.proofs.Chained.{free_is_own, free_none}
 use Rattle.rq_groups.proofs.Tails.{first_has}
-use Rattle.rq_groups.proofs.Waits.{waits_within}
-use Rattle.rq_groups.proofs.Waits.{none_found, own_found}
+use Rattle.rq_groups.proofs.Waits.{waits_within, none_found, own_found}
 use Rattle.rq_groups.proofs.waiting.Waiting.first_for.Goals as goal
 
 pub returns-then-count-gt0-clause-some : goal.returns-then-count-gt0-clause-some
