@@ -2,7 +2,7 @@
 use Rattle.std.specs.Bool.{OnTrue}
 use Rattle.std.specs.Prelude.{◌&&◌, Bool, true, false, nat_eq}
 use Rattle.std.proofs.Common.{◌≡◌, ℕ, ◌+◌, ◌-◌, ◌≤◌, List, ◌++◌, length, take, drop, refl, sym, ap, ◌∙◌, arith}
-use Rattle.std.proofs.lemmas.Bool.{eqb-true, false≢true}
+use Rattle.std.proofs.lemmas.Bool.{eqb-true, false≢true, OnTrue_from}
 use Rattle.std.proofs.Math.Seq.{take-add, take-length}
 use Rattle.std.proofs.lemmas.List.{take-append-drop, length-drop}
 use Rattle.byteorder.specs.Endian.{big_number}
@@ -49,10 +49,6 @@ and_right : (p q : Bool) → (p && q) ≡ true → q ≡ true
 and_right true q e = e
 and_right false q e = absurd (false≢true e)
 
-on_true : (b : Bool) (P : Type 0) → (b ≡ true → P) → OnTrue b P
-on_true true P f = f refl
-on_true false P f = tt
-
 module _ (xs ys : List ℕ) (f : AreBytes xs) (g : AreBytes ys) (long : 32 ≤ length xs) (wide : 32 ≤ length ys) where
   front_same : big_number 8 xs ≡ big_number 8 ys → word 8 xs ≡ word 8 ys → word 16 xs ≡ word 16 ys → word 24 xs ≡ word 24 ys → take 32 xs ≡ take 32 ys
   front_same a b c d =
@@ -66,7 +62,7 @@ module _ (xs ys : List ℕ) (f : AreBytes xs) (g : AreBytes ys) (long : 32 ≤ l
   pub same_front : (a b c d k l m n : ℕ) → a ≡ big_number 8 xs → k ≡ big_number 8 ys → b ≡ word 8 xs → l ≡ word 8 ys → c ≡ word 16 xs → m ≡ word 16 ys → d ≡ word 24 xs → n ≡ word 24 ys
       → OnTrue (((nat_eq a k && nat_eq b l) && nat_eq c m) && nat_eq d n) (take 32 xs ≡ take 32 ys)
   same_front a b c d k l m n ea ek eb el ec em ed en =
-      on_true (((nat_eq a k && nat_eq b l) && nat_eq c m) && nat_eq d n) (take 32 xs ≡ take 32 ys) (λ all.
+      OnTrue_from (((nat_eq a k && nat_eq b l) && nat_eq c m) && nat_eq d n) (take 32 xs ≡ take 32 ys) (λ all.
       let three = and_left ((nat_eq a k && nat_eq b l) && nat_eq c m) (nat_eq d n) all in
       let two = and_left (nat_eq a k && nat_eq b l) (nat_eq c m) three in
       let first : a ≡ k = eqb-true a k (and_left (nat_eq a k) (nat_eq b l) two) in

@@ -1,7 +1,7 @@
 -- A log at its bound.
-use Rattle.std.proofs.Common.{◌≡◌, ⊎_elim, ℕ, zero, suc, ◌+◌, ◌-◌, ◌^◌, ◌≤◌, ◌<◌, Bool, false, true, not, nat_lt, cond, List, [], ◌∷◌, length, drop, Option, Some, None, refl, sym, ap, ◌∙◌, subst, inl, inr, arith}
+use Rattle.std.proofs.Common.{◌≡◌, ⊎_elim, ℕ, zero, suc, ◌+◌, ◌-◌, ◌^◌, ◌≤◌, ◌<◌, Bool, false, true, not, cond, List, [], ◌∷◌, length, drop, Option, Some, None, refl, sym, ap, ◌∙◌, subst, inl, inr, arith}
 use Rattle.std.specs.List.{filter, sum_by}
-use Rattle.std.proofs.lemmas.Bool.{cases_Bool, lt-ltb, ltb-true}
+use Rattle.std.proofs.lemmas.Bool.{lt-ltb, le-ltb}
 use Rattle.rq_model.specs.declared.record.Record.{Record}
 use Rattle.rq_model.specs.declared.refusal.Refusal.{Refusal}
 use Rattle.rq_model.specs.declared.refusal.Refusal.TheVariants as why
@@ -143,9 +143,6 @@ pub none_first : (tests : List (Bool × Refusal)) → NoneHolds tests → first_
 none_first [] h = refl
 none_first (t ∷ ts) h = rw h.0 (none_first ts h.1)
 
-not_less : (a b : ℕ) → b ≤ a → nat_lt a b ≡ false
-not_less a b h = elim (cases_Bool (nat_lt a b)) [ inl y ↦ let c : a < b = ltb-true a b y in absurd (omega (arith, c, h)) | inr n ↦ n ]
-
 clash : true ≡ false → ⊥
 clash e = cc e
 
@@ -163,19 +160,19 @@ module _ (n : ℕ) where
   commit_full le = (let e = length_is n in lt-ltb _ _ (omega (arith, e, le)))
 
   commit_free : n + 2 ≤ 2 ^ 50 → log_full (ledger_of s) 1 ≡ false
-  commit_free le = (let e = length_is n in not_less _ _ (omega (arith, e, le)))
+  commit_free le = (let e = length_is n in le-ltb _ _ (omega (arith, e, le)))
 
   send_full : 2 ^ 50 < n + 5 → log_full (ledger_of s) 4 ≡ true
   send_full le = (let e = length_is n in lt-ltb _ _ (omega (arith, e, le)))
 
   send_free : n + 5 ≤ 2 ^ 50 → log_full (ledger_of s) 4 ≡ false
-  send_free le = (let e = length_is n in not_less _ _ (omega (arith, e, le)))
+  send_free le = (let e = length_is n in le-ltb _ _ (omega (arith, e, le)))
 
   close_full : 2 ^ 50 < n + 3 → log_full (ledger_of s) 2 ≡ true
   close_full le = (let e = length_is n in lt-ltb _ _ (omega (arith, e, le)))
 
   close_free : n + 3 ≤ 2 ^ 50 → log_full (ledger_of s) 2 ≡ false
-  close_free le = (let e = length_is n in not_less _ _ (omega (arith, e, le)))
+  close_free le = (let e = length_is n in le-ltb _ _ (omega (arith, e, le)))
 
   commit_passes : n + 2 ≤ 2 ^ 50 → Passes (size_of sizes) (ledger_of s) (Commit t)
   commit_passes le = (ready.0, (ready.1.0, (ready.1.1.0, (ready.1.1.1.0, (commit_free le, tt)))))
@@ -431,7 +428,7 @@ module _ (n : ℕ) (pages : MemPages) (log : MemLog) (h : Hold pages formatted_p
 -- with nothing under way, what a call counts as is all that is counted
 room_for : (n cost : ℕ) (s : State) → sum_by owed (ledger_of s).open_ones ≡ 0 → n + cost ≤ 2 ^ 50
     → log_full (record (ledger_of s) { records = n }) cost ≡ false
-room_for n cost s none le = not_less _ _ (omega (arith, none, le))
+room_for n cost s none le = le-ltb _ _ (omega (arith, none, le))
 
 no_room_for : (n cost : ℕ) (s : State) → sum_by owed (ledger_of s).open_ones ≡ 0 → 2 ^ 50 < n + cost
     → log_full (record (ledger_of s) { records = n }) cost ≡ true
@@ -456,7 +453,7 @@ bounds = record {
   close_is_full = close_refused;
   full_where_a_close_fits = λ n new le. not_full n (Start_close (only_one n) 0) new (close_passes n le);
   close_where_it_is_full = not_closed;
-  fits_beside = λ n le. not_less _ _ (omega (arith, le));
+  fits_beside = λ n le. le-ltb _ _ (omega (arith, le));
   full_beside_it = λ n le. lt-ltb _ _ (omega (arith, le));
   undo_fits = λ n le. ap when_full (room_for n 4 turned refl le);
   undo_is_full = λ n low. ap when_full (no_room_for n 4 turned refl low);

@@ -1,6 +1,7 @@
 -- What courses may tell, and what they may not.
-use Rattle.std.proofs.Common.{rules, ◌≡◌, ℕ, zero, suc, ◌<◌, ◌≤◌, Bool, true, false, ◌&&◌, nat_eq, nat_lt, List, [], ◌∷◌, length, Option, Some, None, refl, sym, ◌∙◌, ap, subst, arith}
+use Rattle.std.proofs.Common.{rules, ◌≡◌, ℕ, zero, suc, ◌<◌, ◌≤◌, true, false, nat_eq, List, [], ◌∷◌, length, Option, Some, None, refl, sym, ◌∙◌, ap, subst, arith}
 use Rattle.std.proofs.lemmas.Bool.Decides.{nat_tests}
+use Rattle.std.proofs.lemmas.Bool.{ltb-true, and_parts}
 use Rattle.rq_model.specs.declared.txn.Txn.{Txn}
 use Rattle.rq_model.specs.declared.refusal.Refusal.TheVariants.{DiskWrite, NoMemory}
 use Rattle.rq_model.specs.History.{Entry, rest}
@@ -74,24 +75,17 @@ taken_once : (s : ℕ) → s < 15 → free_to_receive (txn 1 2) s (ledger took).
 taken_once zero low free = refl
 taken_once (suc s) low free = (let e : nat_eq 0 (suc s) ≡ false = grind (arith, nat_tests) in rw e refl)
 
-lt_from : (a b : ℕ) → nat_lt a b ≡ true → a < b
-lt_from a b h = grind (arith, nat_tests)
-
-both : (a b : Bool) → (a && b) ≡ true → (a ≡ true) × (b ≡ true)
-both true b e = (refl, e)
-both false b e = cc e
-
 -- a group that gives one, by the test
 module _ (shown : (z : Size) (h : List Entry) (s : ℕ) → IsLegal z h → group h s ≡ group_in (ledger h).committed s) where
   gives_one : (z : Size) (h : List Entry) (t : Txn) (s : ℕ) (o : Option Open) → IsLegal z h → gives (ledger h) t o s ≡ true
       → OnFound o (λ x. GivesTo h t x s)
   gives_one z h t s None legal e = absurd (cc e)
   gives_one z h t s (Some o) legal e =
-      let b = both (free_to_receive t s (ledger h).open_ones) (holds_for (ledger h) o s) e in
+      let b = and_parts (free_to_receive t s (ledger h).open_ones) (holds_for (ledger h) o s) e in
       let is : rest h s ≡ rest_in (ledger h).committed s = ap (λ g. g.rest) (shown z h s legal) in (
         b.0,
         subst (λ r. length (own_takes s o) < length r) (sym is)
-            (lt_from (length (own_takes s o)) (length (rest_in (ledger h).committed s)) b.1),
+            (ltb-true (length (own_takes s o)) (length (rest_in (ledger h).committed s)) b.1),
       )
 
   pub nones : NoneIsJudged

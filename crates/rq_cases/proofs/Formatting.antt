@@ -1,6 +1,7 @@
 -- A format, call by call.
 use Rattle.std.proofs.Common.{◌≡◌, ◌⊎◌, ℕ, zero, suc, ◌≤◌, ◌<◌, List, [], ◌∷◌, length, take, refl, sym, ap, ◌∙◌, subst, inl, inr, arith}
 use Rattle.std.specs.Prelude.{slice_index}
+use Rattle.std.proofs.lemmas.List.{nil_from_length}
 use Rattle.rq_disk.specs.Device.{Images, Leaves}
 use Rattle.rq_disk.specs.Memory.{MayBe, PageState, PagesSince, after_page_calls, fresh_pages, pages_after, pages_seen, reads}
 use Rattle.rq_disk.specs.declared.mem_pages.MemPages.{MemPages}
@@ -14,7 +15,6 @@ use Rattle.rq_core.specs.Devices.{mem_pages}
 use Rattle.rq_cases.specs.Formatting.{FormatsAreJudged, Handed, HasCalled, blank, zeros}
 use Rattle.rq_cases.specs.Opened.{AreNewPages}
 use Rattle.rq_cases.specs.Store.{cells_0, page_image, sizes}
-use Rattle.rq_cases.proofs.Held.{no_calls}
 use Rattle.rq_cases.proofs.Images.{header_is}
 use Rattle.rq_cases.proofs.Pages.{are_formatted, cells_0_long}
 
@@ -50,7 +50,7 @@ SinceFrom s calls t c = (k : ℕ) × (t ≤ k) × (k ≤ length calls) × Leaves
 
 module _ (old new : MemPages) (n : AreNewPages old blank) (calls : List PageCall) (f : HasCalled old new calls) where
   now_is : fresh_pages new.first.items ≡ at_first
-  now_is = ap fresh_pages f.first ∙ ap (pages_after old.first.items) (sym (no_calls old.calls.items n.moment)) ∙ n.pages
+  now_is = ap fresh_pages f.first ∙ ap (pages_after old.first.items) (sym (nil_from_length old.calls.items n.moment)) ∙ n.pages
 
   -- what may have been left since, and what may be left now
   since_is : (λ c. mem_pages.left_since new (mem_pages.moment old) c) ≡ PagesSince blank calls 0

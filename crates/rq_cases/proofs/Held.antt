@@ -1,6 +1,6 @@
 -- What devices in memory hold and may leave, as the worked run finds them.
-use Rattle.std.proofs.Common.{◌≡◌, ℕ, zero, suc, ◌+◌, ◌≤◌, List, [], ◌∷◌, ◌++◌, length, take, drop, refl, sym, ap, ◌∙◌, subst, inl, inr, arith}
-use Rattle.std.proofs.lemmas.List.{append-nil}
+use Rattle.std.proofs.Common.{◌≡◌, ℕ, zero, suc, ◌+◌, ◌≤◌, List, [], ◌∷◌, ◌++◌, length, take, drop, sym, ap, ◌∙◌, subst, inl, inr, arith}
+use Rattle.std.proofs.lemmas.List.{append-nil, nil_from_length}
 use Rattle.std.specs.Prelude.{Vec}
 use Rattle.std.specs.declared.alloc.Global.{Global}
 use Rattle.rq_model.specs.declared.record.Record.{Record}
@@ -48,15 +48,11 @@ module _ (d : MemPages) (n : AreNewPages d formatted_pages) where
       (only_fit (image_in formatted_pages) (mem_pages.may_be d) sizes [] only_formatted
       (formatted_fits sizes (image_in formatted_pages) range are_formatted))
 
-pub no_calls : {X : Type 0} (xs : List X) → length xs ≡ 0 → xs ≡ []
-no_calls [] e = refl
-no_calls (x ∷ xs) e = absurd (omega (arith, e))
-
 -- a log of these records, with no call since
 module _ (d : MemLog) (records : List Record) (n : IsNewLog d records) where
   -- what it was at first, and that no call was made since
   pub new_calls : d.calls.items ≡ []
-  new_calls = no_calls d.calls.items n.moment
+  new_calls = nil_from_length d.calls.items n.moment
 
   pub new_bytes : take d.first d.bytes.items ≡ spelled records
   new_bytes = ap (λ (s : LogState). s.forced) (sym (ap (log_after (take d.first d.bytes.items)) new_calls) ∙ n.log)

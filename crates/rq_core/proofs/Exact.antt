@@ -1,6 +1,6 @@
 -- None, both ways.
-use Rattle.std.proofs.Common.{◌≡◌, ◌⊎◌, ℕ, zero, suc, ◌<◌, Bool, true, false, not, nat_lt, ◌&&◌, ◌||◌, List, [], ◌∷◌, ◌++◌, length, Option, Some, None, refl, sym, ◌∙◌, ap, subst, inl, inr, arith}
-use Rattle.std.proofs.lemmas.Bool.Decides.{nat_tests}
+use Rattle.std.proofs.Common.{◌≡◌, ◌⊎◌, ℕ, zero, suc, ◌<◌, true, false, nat_lt, List, [], ◌∷◌, ◌++◌, length, Option, Some, None, refl, sym, ◌∙◌, ap, subst, inl, inr, arith}
+use Rattle.std.proofs.lemmas.Bool.{lt-ltb, ltb-true, not-false, or_cases, and_parts}
 use Rattle.rq_model.specs.declared.txn.Txn.{Txn}
 use Rattle.rq_model.specs.Words.{In}
 use Rattle.rq_model.specs.History.{Entry, rest}
@@ -9,24 +9,6 @@ use Rattle.rq_model.specs.Ledger.{Ledger, Open, found, group_in, ledger, own_tak
 use Rattle.rq_model.specs.Legal.{IsLegal, OnFound}
 use Rattle.rq_model.specs.Tests.{Size, any_gives, below, free_to_receive, gives, holds_for}
 use Rattle.rq_core.specs.Always.{GivesTo, NoneIsExact}
-
-lt_true : (a b : ℕ) → a < b → nat_lt a b ≡ true
-lt_true a b h = grind (arith, nat_tests)
-
-lt_from : (a b : ℕ) → nat_lt a b ≡ true → a < b
-lt_from a b h = grind (arith, nat_tests)
-
-not_false : (b : Bool) → not b ≡ false → b ≡ true
-not_false true e = refl
-not_false false e = cc e
-
-either : (a b : Bool) → a || b ≡ true → (a ≡ true) ⊎ (b ≡ true)
-either true b e = inl refl
-either false b e = inr e
-
-both : (a b : Bool) → a && b ≡ true → (a ≡ true) × (b ≡ true)
-both true b e = (refl, e)
-both false b e = cc e
 
 on_found : (P Q : Open → Type 0) (o : Option Open) → ((x : Open) → P x → Q x) → OnFound o P → OnFound o Q
 on_found P Q None f h = h
@@ -53,8 +35,8 @@ module _ (l : Ledger) (t : Txn) where
     none : (ss : List ℕ) → any_gives ss l t None ≡ true → ⊥
     none [] e = cc e
     none (s ∷ ss) e = none ss e
-  some_gives (s ∷ ss) (Some o) e = elim (either (gives l t (Some o) s) (any_gives ss l t (Some o)) e) [
-    | inl here ↦ (let b = both (free_to_receive t s l.open_ones) (holds_for l o s) here in (s, inl refl, b.0, b.1))
+  some_gives (s ∷ ss) (Some o) e = elim (or_cases (gives l t (Some o) s) (any_gives ss l t (Some o)) e) [
+    | inl here ↦ (let b = and_parts (free_to_receive t s l.open_ones) (holds_for l o s) here in (s, inl refl, b.0, b.1))
     | inr there ↦ (let more = some_gives ss (Some o) there in (more.0, inr more.1, more.2, more.3))
   ]
 
@@ -64,17 +46,17 @@ module _ (z : Size) (shown : (h : List Entry) (s : ℕ) → IsLegal z h → grou
 
   -- what the test for a message says
   holds : (h : List Entry) (o : Open) (s : ℕ) → IsLegal z h → holds_for (ledger h) o s ≡ true → length (own_takes s o) < length (rest h s)
-  holds h o s a e = subst (λ r. length (own_takes s o) < length r) (sym (rest_is h s a)) (lt_from (length (own_takes s o)) (length (rest_in (ledger h).committed s)) e)
+  holds h o s a e = subst (λ r. length (own_takes s o) < length r) (sym (rest_is h s a)) (ltb-true (length (own_takes s o)) (length (rest_in (ledger h).committed s)) e)
 
   holds_not : (h : List Entry) (o : Open) (s : ℕ) → IsLegal z h → holds_for (ledger h) o s ≡ false → length (own_takes s o) < length (rest h s) → ⊥
   holds_not h o s a e lt =
       let there = subst (λ r. length (own_takes s o) < length r) (rest_is h s a) lt in
-      cc (sym (lt_true (length (own_takes s o)) (length (rest_in (ledger h).committed s)) there) ∙ e)
+      cc (sym (lt-ltb (length (own_takes s o)) (length (rest_in (ledger h).committed s)) there) ∙ e)
 
   gives_one : (h : List Entry) (t : Txn) (s : ℕ) (o : Option Open) → IsLegal z h → gives (ledger h) t o s ≡ true → OnFound o (λ x. GivesTo h t x s)
   gives_one h t s None a e = absurd (cc e)
   gives_one h t s (Some o) a e =
-      let b = both (free_to_receive t s (ledger h).open_ones) (holds_for (ledger h) o s) e in
+      let b = and_parts (free_to_receive t s (ledger h).open_ones) (holds_for (ledger h) o s) e in
       (b.0, holds h o s a b.1)
 
   pub exact : NoneIsExact z
@@ -83,8 +65,8 @@ module _ (z : Size) (shown : (h : List Entry) (s : ℕ) → IsLegal z h → grou
     none_from = λ h t s a. on_found _ _ (found t (ledger h).open_ones) (λ o p g. holds_not h o s a.1 p g.1) a.0.1;
     started = λ h t n s a.
         let passes = a.0.0 in
-        let low : s < z.senders = lt_from s z.senders (not_false (nat_lt s z.senders) passes.1.1.1.1.0) in
-        let free : free_to_receive t s (ledger h).open_ones ≡ true = not_false (free_to_receive t s (ledger h).open_ones) passes.1.1.1.1.1.0 in
+        let low : s < z.senders = ltb-true s z.senders (not-false (nat_lt s z.senders) passes.1.1.1.1.0) in
+        let free : free_to_receive t s (ledger h).open_ones ≡ true = not-false (free_to_receive t s (ledger h).open_ones) passes.1.1.1.1.1.0 in
         on_found _ _ (found t (ledger h).open_ones) (λ o p. (low, (free, holds h o s a.1 p.1))) a.0.1;
     latched = λ h t a.
         on_found _ _ (found t (ledger h).open_ones) (λ o p. (p.0, in_below z.senders p.0 p.1, (p.2, holds h o p.0 a.1 p.3))) (some_gives (ledger h) t (below z.senders) (found t (ledger h).open_ones) a.0.1);

@@ -2,7 +2,7 @@
 use Rattle.std.proofs.Common.{◌≡◌, ◌≢◌, ◌++◌, ℕ, ◌<◌, Bool, true, false, cond, not, nat_eq, ◌&&◌, ◌||◌, List, [], ◌∷◌, length, drop, take, set, Option, Some, None, refl, sym, ◌∙◌, ap, subst, inl, inr, arith}
 use Rattle.std.specs.Option.{is_some}
 use Rattle.std.proofs.lemmas.List.{get_or-set_same, get_or-set_other, get_or_past, length-set}
-use Rattle.std.proofs.lemmas.Bool.{cases_Bool, cases_eq, cases_lt, and_parts, and_from, eq-eqb, eqb-true, true≢false}
+use Rattle.std.proofs.lemmas.Bool.{cases_Bool, cases_eq, cases_lt, and_parts, and_from, eq-eqb, eqb-true, true≢false, or_right, or_left}
 use Rattle.std.proofs.lemmas.Option.{same_Some}
 use Rattle.rq_model.specs.declared.txn.Txn.{Txn}
 use Rattle.rq_model.specs.Words.{same_txn, has_number}
@@ -44,18 +44,11 @@ chain_holds ps t o (x ∷ ss) s c h =
       | inr n ↦ chain_holds ps t c.2.0 ss s c.2.2 (rw n at h)
     ]
 
-or_later : (a b : Bool) → b ≡ true → (a || b) ≡ true
-or_later true b e = refl
-or_later false b e = e
-
-or_first : (a b : Bool) → a ≡ true → (a || b) ≡ true
-or_first a b e = ap (λ x. x || b) e
-
 number_first : (s : ℕ) (ss : List ℕ) → has_number s (s ∷ ss) ≡ true
-number_first s ss = or_first (nat_eq s s) (has_number s ss) (eq-eqb s s refl)
+number_first s ss = or_left (nat_eq s s) (has_number s ss) (eq-eqb s s refl)
 
 number_later : (x s : ℕ) (ss : List ℕ) → has_number s ss ≡ true → has_number s (x ∷ ss) ≡ true
-number_later x s ss h = or_later (nat_eq x s) (has_number s ss) h
+number_later x s ss h = or_right (nat_eq x s) (has_number s ss) h
 
 -- a chain whose places stay is one still
 pub chain_kept : (ps qs : Places) (t : Txn) (o : Option ℕ) (ss : List ℕ) → ((s : ℕ) → has_number s ss ≡ true → held_at qs s ≡ held_at ps s) → IsChain ps t o ss → IsChain qs t o ss
@@ -98,10 +91,10 @@ free_of t s [] f = refl
 free_of t s (h ∷ hs) f =
     and_from (same_txn h.txn t || not (nat_eq h.sender s)) (is_free_for t s hs)
     (elim (cases_Bool (nat_eq h.sender s)) [
-      | inl e ↦ or_first (same_txn h.txn t) (not (nat_eq h.sender s)) (f h.txn (or_first (same_txn h.txn h.txn && nat_eq h.sender s) (has_held h.txn s hs) (and_from (same_txn h.txn h.txn) (nat_eq h.sender s) (same_self h.txn) e)))
-      | inr n ↦ or_later (same_txn h.txn t) (not (nat_eq h.sender s)) (ap not n)
+      | inl e ↦ or_left (same_txn h.txn t) (not (nat_eq h.sender s)) (f h.txn (or_left (same_txn h.txn h.txn && nat_eq h.sender s) (has_held h.txn s hs) (and_from (same_txn h.txn h.txn) (nat_eq h.sender s) (same_self h.txn) e)))
+      | inr n ↦ or_right (same_txn h.txn t) (not (nat_eq h.sender s)) (ap not n)
     ])
-    (free_of t s hs (λ u i. f u (or_later (same_txn h.txn u && nat_eq h.sender s) (has_held u s hs) i)))
+    (free_of t s hs (λ u i. f u (or_right (same_txn h.txn u && nat_eq h.sender s) (has_held u s hs) i)))
 
 pub held_by_own : (t u : Txn) (s : ℕ) (held : List Held) → is_free_for t s held ≡ true → has_held u s held ≡ true → same_txn u t ≡ true
 held_by_own t u s [] f h = absurd (true≢false (sym h))
@@ -171,8 +164,8 @@ side_taken ps qs hs new held t s k none lt is turned =
       holds = λ x y e. elim (cases_eq x s) [
         | inl same ↦
             let own : y.txn ≡ t = holder_is y q (sym e ∙ ap (held_at qs) same ∙ here) in
-            or_first (same_txn t y.txn && nat_eq s x) (has_held y.txn x held) (and_from (same_txn t y.txn) (nat_eq s x) (ap (same_txn t) own ∙ same_self t) (eq-eqb s x (sym same)))
-        | inr other ↦ or_later (same_txn t y.txn && nat_eq s x) (has_held y.txn x held) (k.holds x y (sym (beside x other) ∙ e))
+            or_left (same_txn t y.txn && nat_eq s x) (has_held y.txn x held) (and_from (same_txn t y.txn) (nat_eq s x) (ap (same_txn t) own ∙ same_self t) (eq-eqb s x (sym same)))
+        | inr other ↦ or_right (same_txn t y.txn && nat_eq s x) (has_held y.txn x held) (k.holds x y (sym (beside x other) ∙ e))
       ];
     }
 
@@ -348,7 +341,7 @@ held_none : (s : ℕ) (held : List Held) → ((t : Txn) → has_held t s held �
 held_none s [] n = refl
 held_none s (h ∷ hs) n =
     elim (cases_Bool (nat_eq h.sender s)) [
-      | inl e ↦ absurd (true≢false (sym (or_first (same_txn h.txn h.txn && nat_eq h.sender s) (has_held h.txn s hs) (and_from (same_txn h.txn h.txn) (nat_eq h.sender s) (same_self h.txn) e)) ∙ n h.txn))
+      | inl e ↦ absurd (true≢false (sym (or_left (same_txn h.txn h.txn && nat_eq h.sender s) (has_held h.txn s hs) (and_from (same_txn h.txn h.txn) (nat_eq h.sender s) (same_self h.txn) e)) ∙ n h.txn))
       | inr f ↦ rw f (held_none s hs (λ t. later (same_txn h.txn t && nat_eq h.sender s) (has_held t s hs) (n t)))
     ] where
       later : (a b : Bool) → (a || b) ≡ false → b ≡ false
@@ -359,8 +352,8 @@ held_some : (t : Txn) (s : ℕ) (held : List Held) → has_held t s held ≡ tru
 held_some t s [] e = absurd (true≢false (sym e))
 held_some t s (h ∷ hs) e =
     elim (cases_Bool (same_txn h.txn t && nat_eq h.sender s)) [
-      | inl b ↦ or_first (nat_eq h.sender s) (is_held s hs) (and_parts (same_txn h.txn t) (nat_eq h.sender s) b).1
-      | inr n ↦ or_later (nat_eq h.sender s) (is_held s hs) (held_some t s hs (rw n at e))
+      | inl b ↦ or_left (nat_eq h.sender s) (is_held s hs) (and_parts (same_txn h.txn t) (nat_eq h.sender s) b).1
+      | inr n ↦ or_right (nat_eq h.sender s) (is_held s hs) (held_some t s hs (rw n at e))
     ]
 
 pub held_is_some : (ps : Places) (hs : List Head) (held : List Held) (s : ℕ) → IsSide ps hs held → is_some (held_at ps s) ≡ is_held s held
@@ -374,8 +367,8 @@ pub free_none : (t : Txn) (s : ℕ) (held : List Held) → is_held s held ≡ fa
 free_none t s [] e = refl
 free_none t s (h ∷ hs) e =
     elim (cases_Bool (nat_eq h.sender s)) [
-      | inl f ↦ absurd (true≢false (sym (or_first (nat_eq h.sender s) (is_held s hs) f) ∙ e))
-      | inr n ↦ and_from (same_txn h.txn t || not (nat_eq h.sender s)) (is_free_for t s hs) (or_later (same_txn h.txn t) (not (nat_eq h.sender s)) (ap not n)) (free_none t s hs (rw n at e))
+      | inl f ↦ absurd (true≢false (sym (or_left (nat_eq h.sender s) (is_held s hs) f) ∙ e))
+      | inr n ↦ and_from (same_txn h.txn t || not (nat_eq h.sender s)) (is_free_for t s hs) (or_right (same_txn h.txn t) (not (nat_eq h.sender s)) (ap not n)) (free_none t s hs (rw n at e))
     ]
 
 pub free_is_own : (t : Txn) (s : ℕ) (held : List Held) → is_held s held ≡ true → is_free_for t s held ≡ true → has_held t s held ≡ true
@@ -383,8 +376,8 @@ free_is_own t s [] e f = absurd (true≢false (sym e))
 free_is_own t s (h ∷ hs) e f =
     let p = and_parts (same_txn h.txn t || not (nat_eq h.sender s)) (is_free_for t s hs) f in
     elim (cases_Bool (nat_eq h.sender s)) [
-      | inl a ↦ or_first (same_txn h.txn t && nat_eq h.sender s) (has_held t s hs) (and_from (same_txn h.txn t) (nat_eq h.sender s) (first (same_txn h.txn t) (nat_eq h.sender s) a p.0) a)
-      | inr n ↦ or_later (same_txn h.txn t && nat_eq h.sender s) (has_held t s hs) (free_is_own t s hs (rw n at e) p.1)
+      | inl a ↦ or_left (same_txn h.txn t && nat_eq h.sender s) (has_held t s hs) (and_from (same_txn h.txn t) (nat_eq h.sender s) (first (same_txn h.txn t) (nat_eq h.sender s) a p.0) a)
+      | inr n ↦ or_right (same_txn h.txn t && nat_eq h.sender s) (has_held t s hs) (free_is_own t s hs (rw n at e) p.1)
     ] where
       first : (a b : Bool) → b ≡ true → (a || not b) ≡ true → a ≡ true
       first true b e g = refl

@@ -2,7 +2,7 @@
 use Rattle.std.proofs.Common.{◌≡◌, ◌⊎◌, ℕ, ◌-◌, zero, suc, ◌<◌, ◌≤◌, Bool, true, false, cond, nat_eq, ltb, ◌&&◌, ◌||◌, List, [], ◌∷◌, ◌++◌, length, take, drop, set, get_or, Option, Some, None, refl, sym, ◌∙◌, ap, subst, inl, inr, arith}
 use Rattle.std.proofs.lemmas.List.{take-append-drop, take-set-le, drop-set-lt, length-set, get_or-set_same}
 use Rattle.std.proofs.Math.Seq.{drop-cons}
-use Rattle.std.proofs.lemmas.Bool.{cases_Bool, cases_eq, cases_lt, lt-ltb, eq-eqb, and_from, true≢false}
+use Rattle.std.proofs.lemmas.Bool.{cases_Bool, cases_eq, cases_lt, lt-ltb, eq-eqb, and_from, true≢false, or_right}
 use Rattle.std.proofs.lemmas.Bool.Decides.{nat_tests}
 use Rattle.std.specs.List.Sorted.{IsPartitionedBy}
 use Rattle.rq_model.specs.declared.txn.Txn.{Txn}
@@ -29,13 +29,9 @@ before_cases a b h =
 before_earlier : (a b : Txn) → a.incarnation < b.incarnation → is_before a b ≡ true
 before_earlier a b lt = ap (λ x. x || (nat_eq a.incarnation b.incarnation && ltb a.count b.count)) (lt-ltb a.incarnation b.incarnation lt)
 
-or_true : (x y : Bool) → y ≡ true → (x || y) ≡ true
-or_true true y e = refl
-or_true false y e = e
-
 before_later : (a b : Txn) → a.incarnation ≡ b.incarnation → a.count < b.count → is_before a b ≡ true
 before_later a b same lt =
-    or_true (ltb a.incarnation b.incarnation) (nat_eq a.incarnation b.incarnation && ltb a.count b.count)
+    or_right (ltb a.incarnation b.incarnation) (nat_eq a.incarnation b.incarnation && ltb a.count b.count)
     (ap (λ x. x && ltb a.count b.count) (eq-eqb a.incarnation b.incarnation same) ∙ lt-ltb a.count b.count lt)
 
 pub before_trans : (a b c : Txn) → is_before a b ≡ true → is_before b c ≡ true → is_before a c ≡ true

@@ -1,6 +1,6 @@
 -- A list that is gone through, from its first number on.
-use Rattle.std.proofs.Common.{◌≡◌, ◌⊎◌, ◌++◌, ℕ, ◌<◌, suc, Bool, true, false, cond, nat_eq, ◌||◌, List, [], ◌∷◌, length, Option, Some, None, refl, sym, ◌∙◌, ap, subst, inl, inr, arith}
-use Rattle.std.proofs.lemmas.Bool.{cases_Bool, eqb-true, eq-eqb, true≢false}
+use Rattle.std.proofs.Common.{◌≡◌, ◌++◌, ℕ, ◌<◌, suc, Bool, true, false, cond, nat_eq, ◌||◌, List, [], ◌∷◌, length, Option, Some, None, refl, sym, ◌∙◌, ap, subst, inl, inr, arith}
+use Rattle.std.proofs.lemmas.Bool.{cases_Bool, eqb-true, eq-eqb, true≢false, or_cases, or_right}
 use Rattle.std.proofs.lemmas.Option.{same_Some}
 use Rattle.std.proofs.lemmas.List.{append_assoc}
 use Rattle.rq_model.specs.declared.txn.Txn.{Txn}
@@ -32,14 +32,6 @@ has_either s (x ∷ front) rest = ap (λ b. nat_eq x s || b) (has_either s front
   or_assoc true b c = refl
   or_assoc false b c = refl
 
-either : (a b : Bool) → (a || b) ≡ true → (a ≡ true) ⊎ (b ≡ true)
-either true b e = inl refl
-either false b e = inr e
-
-or_right : (a b : Bool) → b ≡ true → (a || b) ≡ true
-or_right true b e = refl
-or_right false b e = e
-
 pub walk_next : (ss : List ℕ) (s : ℕ) (next : Option ℕ) (P : ℕ → Type 0) → IsWalk ss (Some s) P → ((older : List ℕ) → IsTail ss (s ∷ older) → next ≡ first_of older) → P s → IsWalk ss next P
 walk_next ss s next P w follows own =
     let b = begins s w.rest w.here in
@@ -49,13 +41,13 @@ walk_next ss s next P w follows own =
       rest = b.0;
       all = append_assoc w.front (s ∷ []) b.0 ∙ tail.1;
       here = follows b.0 tail;
-      done = λ x h. elim (either (has_number x w.front) (has_number x (s ∷ [])) (sym (has_either x w.front (s ∷ [])) ∙ h)) [
+      done = λ x h. elim (or_cases (has_number x w.front) (has_number x (s ∷ [])) (sym (has_either x w.front (s ∷ [])) ∙ h)) [
         | inl f ↦ w.done x f
         | inr l ↦ subst P (eqb-true s x (only x l)) own
       ];
     } where
       only : (x : ℕ) → has_number x (s ∷ []) ≡ true → nat_eq s x ≡ true
-      only x h = elim (either (nat_eq s x) false h) [
+      only x h = elim (or_cases (nat_eq s x) false h) [
         | inl e ↦ e
         | inr f ↦ absurd (true≢false (sym f))
       ]
@@ -63,7 +55,7 @@ walk_next ss s next P w follows own =
 -- at the end it is so of all
 pub walk_over : (ss : List ℕ) (P : ℕ → Type 0) → IsWalk ss None P → (s : ℕ) → has_number s ss ≡ true → P s
 walk_over ss P w s h =
-    elim (either (has_number s w.front) (has_number s w.rest) (sym (has_either s w.front w.rest) ∙ ap (has_number s) w.all ∙ h)) [
+    elim (or_cases (has_number s w.front) (has_number s w.rest) (sym (has_either s w.front w.rest) ∙ ap (has_number s) w.all ∙ h)) [
       | inl f ↦ w.done s f
       | inr r ↦ absurd (none w.rest w.here r)
     ] where

@@ -1,6 +1,7 @@
 -- Refusals, by two stores in the same state.
-use Rattle.std.proofs.Common.{◌≡◌, ℕ, zero, suc, ◌+◌, ◌<◌, List, [], ◌∷◌, ◌++◌, refl, sym, ◌∙◌, ap, subst, Bool, true, false, not, cond, ◌&&◌, ◌||◌, IsTrue, ◌⊎◌, inl, inr, Option, Some, None, Result, Ok, Err, arith, true≢false}
-use Rattle.std.proofs.lemmas.Bool.{cases_Bool}
+use Rattle.std.proofs.Common.{◌≡◌, ℕ, zero, suc, ◌+◌, ◌<◌, List, [], ◌∷◌, ◌++◌, refl, sym, ◌∙◌, ap, subst, Bool, true, false, cond, ◌&&◌, ◌||◌, IsTrue, ◌⊎◌, inl, inr, Option, Some, None, Result, Ok, Err, arith, true≢false}
+use Rattle.std.proofs.lemmas.Bool.{cases_Bool, not-false, and_right, or_from}
+use Rattle.std.proofs.lemmas.Option.{same_Some}
 use Rattle.rq_model.specs.declared.refusal.Refusal.{Refusal}
 use Rattle.rq_model.specs.declared.refusal.Refusal.TheVariants as why
 use Rattle.rq_model.specs.declared.txn.Txn.{Txn}
@@ -68,9 +69,6 @@ none_first : (cs : List (Bool × Refusal)) → NoneHolds cs → first_of cs ≡ 
 none_first [] h = refl
 none_first (c ∷ cs) h = ap (λ b. cond b (Some c.1) (first_of cs)) h.0 ∙ none_first cs h.1
 
-some_same : {X : Type 0} (a b : X) → Some a ≡ Some b → a ≡ b
-some_same a b e = cc
-
 some_none : {X : Type 0} (a : X) → Some a ≡ None → ⊥
 some_none a e = cc
 
@@ -84,7 +82,7 @@ passed z l c r p n w = elim w [
 both_refused : (z : Size) (l : Ledger) (c : Call) (r s : Refusal) → Why z l c r → Why z l c s → (r ≡ s) ⊎ (IsWant r ⊎ IsWant s)
 both_refused z l c r s v w = elim v [
   | inl e ↦ elim w [
-    | inl f ↦ inl (some_same r s (sym e ∙ f))
+    | inl f ↦ inl (same_Some r s (sym e ∙ f))
     | inr x ↦ elim x [ inl h ↦ absurd (some_none r (sym e ∙ none_first (tests z l c) h.1)) | inr h ↦ inr (inr h) ]
   ]
   | inr y ↦ elim y [
@@ -217,22 +215,10 @@ finish_passed t n old new outcome.Undone s = (subst (λ (e : Entry). Legal (size
 abbrev entry_legal : (old : State) → Entry → Type 0
 entry_legal old e = Legal (size_of old.sizes) (ledger_of old) e
 
-not_false : (b : Bool) → not b ≡ false → b ≡ true
-not_false true e = refl
-not_false false e = absurd (true≢false e)
-
 third : (a b c : Bool) → a ≡ true → b ≡ true → ((a && b) && c) ≡ false → c ≡ false
 third true true c e f h = h
 third true false c e f h = absurd (true≢false (sym f))
 third false b c e f h = absurd (true≢false (sym e))
-
-and_none : (a b : Bool) → b ≡ false → (a && b) ≡ false
-and_none true b e = e
-and_none false b e = refl
-
-or_none : (a b : Bool) → a ≡ false → b ≡ false → (a || b) ≡ false
-or_none true b e f = absurd (true≢false e)
-or_none false b e f = f
 
 or_after : (a b c : Bool) → (a || (b || c)) ≡ ((a || b) || c)
 or_after true b c = refl
@@ -247,7 +233,7 @@ module _ (l : Ledger) (t : Txn) where
   none_below zero o h = refl
   none_below (suc n) o h =
       any_append (below n) (n ∷ []) o
-      ∙ or_none (any_gives (below n) l t o) (gives l t o n || false) (none_below n o (λ g k. h g (omega (arith, k)))) (or_none (gives l t o n) false (h n (omega arith)) refl)
+      ∙ or_from (any_gives (below n) l t o) (gives l t o n || false) (none_below n o (λ g k. h g (omega (arith, k)))) (or_from (gives l t o n) false (h n (omega arith)) refl)
 
   gives_not : (n : ℕ) (o : Option Open) → OnFound o (λ o. (s : ℕ) → s < n → free_to_receive t s l.open_ones ≡ true → holds_for l o s ≡ false) → (g : ℕ) → g < n → gives l t o g ≡ false
   gives_not n None k g h = absurd k
@@ -255,7 +241,7 @@ module _ (l : Ledger) (t : Txn) where
 
   gives_nothing : (s : ℕ) (o : Option Open) → OnFound o (λ o. holds_for l o s ≡ false) → gives l t o s ≡ false
   gives_nothing s None k = absurd k
-  gives_nothing s (Some o) k = and_none (free_to_receive t s l.open_ones) (holds_for l o s) k
+  gives_nothing s (Some o) k = and_right (free_to_receive t s l.open_ones) (holds_for l o s) k
 
   room_for : (s n : ℕ) (o : Option Open) → OnFound o (λ o. (n ≡ o.number + 1) × IsTrue (holds_for l o s)) → free_to_receive t s l.open_ones ≡ true → (gives l t o s && log_full l 4) ≡ false → log_full l 4 ≡ false
   room_for s n None k f e = absurd k
@@ -271,8 +257,8 @@ receive_passed t old new (Some a) s =
     let g = s.says.1 in
     let h : Legal (size_of old.sizes) (ledger_of old) (Started t a.number (Taking g)) = subst (entry_legal old) s.says.2 s.legal in
     let p = h.0 in
-    let full = room_for (ledger_of old) t g a.number (found t (ledger_of old).open_ones) h.1 (not_false _ p.1.1.1.1.1.0) p.1.1.1.1.1.1.0 in
-    (p.0, (p.1.0, (p.1.1.0, (p.1.1.1.0, (and_none _ _ full, tt)))))
+    let full = room_for (ledger_of old) t g a.number (found t (ledger_of old).open_ones) h.1 (not-false _ p.1.1.1.1.1.0) p.1.1.1.1.1.1.0 in
+    (p.0, (p.1.0, (p.1.1.0, (p.1.1.1.0, (and_right _ _ full, tt)))))
 
 pub receive_nothing : (t : Txn) (old new : State) → Steps old (Start_receive t) (started_of None) new → starts (size_of old.sizes) (ledger_of old) (Start_receive t) ≡ false
 receive_nothing t old new s =

@@ -1,6 +1,7 @@
 -- Starts of inverses, by two stores in the same state.
 use Rattle.std.proofs.Common.{◌≡◌, ℕ, ◌+◌, List, [], ◌∷◌, map, reverse, refl, sym, ◌∙◌, ap, ap₂, subst, true, false, Option, Some, None, Result, Ok, Err}
 use Rattle.std.specs.Result.{IfOk}
+use Rattle.std.proofs.lemmas.Option.{same_Some}
 use Rattle.rq_model.specs.declared.refusal.Refusal.{Refusal}
 use Rattle.rq_model.specs.declared.record.Deed.{Deed}
 use Rattle.rq_model.specs.declared.record.Deed.TheVariants.{Append, UnlinkHead, Close}
@@ -59,9 +60,6 @@ turned_same n m a b (Some r) p q = (p.1 ∙ sym q.1, sym p.3 ∙ q.3)
 turned : (s : State) (t u : Txn) (n m : ℕ) (a b : Option Finished) → t ≡ u → IsTurnedBack s t n a → IsTurnedBack s u m b → (n ≡ m) × (a ≡ b)
 turned s t u n m a b e p q = turned_same n m a b (found_row u s.rows) (subst (λ t. IsTurnedBack s t n a) e p) q
 
-some_same : {X : Type 0} (a b : X) → Some a ≡ Some b → a ≡ b
-some_same a b e = cc
-
 some_none : {X : Type 0} (a : X) → Some a ≡ None → ⊥
 some_none a e = cc
 
@@ -84,7 +82,7 @@ undo_says old t (Some a) (Some b) x y f h =
     let e : a ≡ b = ap₂ sub_of (f.0 ∙ sym h.0) w.0 in
     let k : IsUndoStarted old a y = subst (λ c. IsUndoStarted old c y) (sym e) h.1 in
     let again = turned old a.txn a.txn _ _ _ _ refl f.1.ready k.ready in
-    (ap Some e, both_started old a x y f.1 k (some_same _ _ again.1))
+    (ap Some e, both_started old a x y f.1 k (same_Some _ _ again.1))
 
 -- starts of the same inverse answer the same and leave the same
 pub undo_alike : (old old2 : State) (t : Txn) (p q : Result (Option Sub) Refusal) (x y : State) → old ≡ old2

@@ -1,5 +1,6 @@
 -- What is so of a log stays so.
-use Rattle.std.proofs.Common.{◌≡◌, ℕ, suc, ◌+◌, ◌-◌, ◌≤◌, true, false, List, [], ◌∷◌, ◌++◌, length, take, drop, refl, sym, ◌∙◌, ap, subst, inl, inr, ⊎_elim, arith, length-append}
+use Rattle.std.proofs.Common.{◌≡◌, ℕ, suc, ◌+◌, ◌-◌, ◌≤◌, true, false, List, [], ◌∷◌, ◌++◌, length, take, drop, sym, ◌∙◌, ap, subst, inl, inr, ⊎_elim, arith, length-append}
+use Rattle.std.proofs.lemmas.List.{nil_from_length}
 use Rattle.rq_model.specs.declared.record.Record.{Record}
 use Rattle.rq_disk.specs.Device.{Appended, Only}
 use Rattle.rq_disk.specs.declared.device.LogDevice.{Ghosts}
@@ -8,10 +9,6 @@ use Rattle.rq_record.specs.Spelling.{IsRecord, spelling}
 use Rattle.rq_log.specs.Spelled.{spelled, IsBeginning}
 use Rattle.rq_log.specs.Logged.{Logged, WasDurable, WasLeftOrGoesOn, Keeps}
 use Rattle.rq_log.proofs.Runs.{spelled_records, AreSpelled-take, appended, one_newer, all_of, nothing_newer, spelled_whole, goes_on}
-
-no_bytes : (bytes : List ℕ) → length bytes ≡ 0 → bytes ≡ []
-no_bytes [] none = refl
-no_bytes (b ∷ bytes) none = absurd (omega arith)
 
 module _ {L : Type 0} (g : Ghosts L) where
   -- what is buffered is whole records
@@ -106,5 +103,5 @@ module _ {L : Type 0} (g : Ghosts L) where
     };
     count = k.count;
     room = k.room;
-    buffered = λ _. (0, (let n = k.count in omega arith), λ h. same ∙ nothing_buffered log last buffer capacity k running none (falls h), no_bytes buffer none);
+    buffered = λ _. (0, (let n = k.count in omega arith), λ h. same ∙ nothing_buffered log last buffer capacity k running none (falls h), nil_from_length buffer none);
   }

@@ -1,7 +1,7 @@
 -- Which transaction is next is told by the stack and the transactions that are lost.
 use Rattle.std.proofs.Common.{◌≡◌, ◌≢◌, ℕ, ◌≤◌, Bool, true, false, not, nat_lt, ◌||◌, List, [], ◌∷◌, map, Option, Some, None, inl, inr, refl, sym, ◌∙◌, ap, subst, arith}
 use Rattle.std.specs.List.{filter}
-use Rattle.std.proofs.lemmas.Bool.{cases_Bool, true≢false, false≢true, false_from_ne_true, or_parts}
+use Rattle.std.proofs.lemmas.Bool.{cases_Bool, true≢false, false≢true, false_from_ne_true, or_parts, ltb-false}
 use Rattle.std.proofs.lemmas.Bool.Decides.{nat_tests}
 use Rattle.rq_model.specs.declared.txn.Txn.{Txn}
 use Rattle.rq_model.specs.declared.record.Record.{Record}
@@ -126,9 +126,6 @@ looked_past ds t ts (Some o) y h = record {
 lt_is : (a b : ℕ) → nat_lt a b ≡ true → a ≤ b
 lt_is a b y = grind (arith, nat_tests, y)
 
-not_lt : (a b : ℕ) → nat_lt a b ≡ false → b ≤ a
-not_lt a b n = grind (arith, nat_tests, n)
-
 looked_at : (ds : List Due) (t : Txn) (ts : List Txn) (o : Option Txn) → any_due t ds ≡ false → IsLooked ds ts o → IsLooked ds (t ∷ ts) (Some (lesser_in t o))
 looked_at ds t ts None n h = record {
   there = inl refl;
@@ -152,7 +149,7 @@ looked_at ds t ts (Some o) n h = elim (cases_Bool (nat_lt o.count t.count)) [
     free = n;
     least = λ u i m. elim i [
       | inl e ↦ (let a : u.count ≡ t.count = ap (λ (v : Txn). v.count) e in omega (arith, a))
-      | inr j ↦ (let a = h.least u j m in let b = not_lt o.count t.count z in omega (arith, a, b))
+      | inr j ↦ (let a = h.least u j m in let b = ltb-false o.count t.count z in omega (arith, a, b))
     ];
   })
 ]

@@ -3,7 +3,7 @@ use Rattle.std.proofs.Common.{◌≡◌, ◌≢◌, ℕ, zero, suc, ◌+◌, ◌
 use Rattle.std.specs.List.{filter, filter_map, sum_by}
 use Rattle.std.specs.Prelude.{slice_index_or}
 use Rattle.std.proofs.lemmas.Bool.{cases_Bool, cases_eq}
-use Rattle.std.proofs.lemmas.List.{length-append, length-map, reverse-append}
+use Rattle.std.proofs.lemmas.List.{length-append, length-map, reverse-append, map-append}
 use Rattle.std.proofs.lemmas.List.Sums.{sum_by-cons}
 use Rattle.rq_model.specs.declared.txn.Txn.{Txn}
 use Rattle.rq_model.specs.declared.txn.Sub.{Sub}
@@ -39,7 +39,7 @@ use Rattle.rq_store.specs.Sends.{KeepsSends}
 use Rattle.rq_store.specs.Fitting.{left_by}
 use Rattle.rq_store.specs.Whole.{IsWhole}
 use Rattle.rq_store.proofs.Grouping.{groups_of}
-use Rattle.rq_store.proofs.Placed.{map_join, placed_more, count_takes, told_placed}
+use Rattle.rq_store.proofs.Placed.{placed_more, count_takes, told_placed}
 use Rattle.rq_store.proofs.RowLists.{found_in, in_found, some_not_none}
 use Rattle.rq_sound.specs.Counted.{AreCounted, IsCovered, after_in, appending_in, appends_all, before_in, takes_all, takes_in}
 use Rattle.rq_sound.specs.Standing.{AreStanding}
@@ -78,7 +78,7 @@ read_front (y ∷ xs) x (suc g) m = read_front xs x g (omega (arith, m))
 by_sender : (f : ℕ → ℕ) (n g : ℕ) → g < n → slice_index_or (map f (below n)) g 0 ≡ f g
 by_sender f zero g m = absurd (omega (arith, m))
 by_sender f (suc n) g m =
-    let a = map_join f (below n) (n ∷ []) in
+    let a = map-append f (below n) (n ∷ []) in
     let b : length (map f (below n)) ≡ n = length-map (below n) f ∙ length_below n in
     elim (cases_eq g n) [
       | inl e ↦ ap (λ l. slice_index_or l g 0) a ∙ ap (λ i. slice_index_or (map f (below n) ++ f n ∷ []) i 0) (e ∙ sym b) ∙ read_end (map f (below n)) (f n) ∙ ap f (sym e)

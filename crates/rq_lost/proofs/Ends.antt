@@ -1,6 +1,7 @@
 -- The ends that lost transactions used: each has one user.
 use Rattle.std.proofs.Common.{◌≡◌, ℕ, Bool, true, false, not, ◌&&◌, ◌||◌, ◌⊎◌, nat_eq, List, [], ◌∷◌, map, Option, Some, None, inl, inr, refl, sym, ◌∙◌, ap, subst}
 use Rattle.std.proofs.lemmas.Bool.{cases_Bool, false≢true, or_parts, or_cases, and_parts, and_from, eqb-true}
+use Rattle.std.proofs.Math.Bool.{and-false}
 use Rattle.rq_model.specs.declared.txn.Txn.{Txn}
 use Rattle.rq_model.specs.declared.record.Record.{Record}
 use Rattle.rq_model.specs.Words.{In, is_some, same_txn, has_txn}
@@ -88,12 +89,8 @@ abbrev is_end_of : ℕ → Option ℕ → Bool
 is_end_of s None = false
 is_end_of s (Some e) = nat_eq e s
 
-and_off : (b : Bool) → (b && false) ≡ false
-and_off true = refl
-and_off false = refl
-
 has_used : (u t : Txn) (s : ℕ) (x : Option ℕ) (hs : List Held) → has_held u s (with_used t x hs) ≡ ((same_txn t u && is_end_of s x) || has_held u s hs)
-has_used u t s None hs = sym (ap (λ b. b || has_held u s hs) (and_off (same_txn t u)))
+has_used u t s None hs = sym (ap (λ b. b || has_held u s hs) (and-false (same_txn t u)))
 has_used u t s (Some e) hs = has_with u t s e hs
 
 either : (a b c d : Bool) → ((a && b) || ((a && c) || d)) ≡ ((a && (b || c)) || d)
@@ -102,7 +99,7 @@ either true false c d = refl
 either false b c d = refl
 
 has_all_used : (side : Said → Option ℕ) (f : Said → Bool) (s : ℕ) → ((d : Said) → is_end_of s (side d) ≡ f d) → (u t : Txn) (ds : List Said) (hs : List Held) → has_held u s (with_all_used side t ds hs) ≡ ((same_txn t u && any_use f ds) || has_held u s hs)
-has_all_used side f s same u t [] hs = sym (ap (λ b. b || has_held u s hs) (and_off (same_txn t u)))
+has_all_used side f s same u t [] hs = sym (ap (λ b. b || has_held u s hs) (and-false (same_txn t u)))
 has_all_used side f s same u t (d ∷ ds) hs =
     has_used u t s (side d) (with_all_used side t ds hs)
     ∙ ap (λ b. (same_txn t u && b) || has_held u s (with_all_used side t ds hs)) (same d)

@@ -1,6 +1,7 @@
 -- Each record that a program adds on its way keeps the log whole.
 use Rattle.std.proofs.Common.{◌≡◌, ℕ, ◌/◌, ◌%◌, List, ◌∷◌, length, Some, subst, sym}
 use Rattle.std.specs.List.{slice_get}
+use Rattle.std.proofs.lemmas.Option.{slice_get_within}
 use Rattle.rq_model.specs.declared.record.Deed.{Deed}
 use Rattle.rq_model.specs.declared.record.Record.{Record}
 use Rattle.rq_model.specs.declared.record.Record.TheVariants.{AbortEnd}
@@ -15,7 +16,6 @@ use Rattle.rq_store.specs.Steps.{page_op}
 use Rattle.rq_store.specs.Whole.{IsWhole}
 use Rattle.rq_sound.specs.Rows.{comp_end}
 use Rattle.rq_sound.specs.Sound.{IsSound}
-use Rattle.rq_sound.proofs.Contracts.{within}
 use Rattle.rq_sound.proofs.Writing.{whole_step}
 use Rattle.rq_lost.specs.Choices.{least_free}
 use Rattle.rq_lost.specs.Dues.{dues}
@@ -46,7 +46,7 @@ write_whole base images log t n lsn deed ws made w k h next before after =
     let sizes = come_sizes base h.stores images log k h.come in
     let u : Under = record { number = n; writes = ws; made = made; aim = aims.Undoing lsn deed } in
     let whole : IsWhole s.sizes (page_op h.row.txn n w ∷ s.records) =
-    whole_step s.sizes s.records s.ends s.rows s.incarnation s.begins s.cells_in_use s.waiting sound.log sound.standing sound.counted sound.incarnation sound.some h.row u w h.at_row h.under next (within ws made w next)
+    whole_step s.sizes s.records s.ends s.rows s.incarnation s.begins s.cells_in_use s.waiting sound.log sound.standing sound.counted sound.incarnation sound.some h.row u w h.at_row h.under next (slice_get_within ws made w next)
     (subst (λ z. IsSlotOf z (w.at / 16) (w.at % 16) w.before) (sym sizes) before) (subst (λ z. IsSlotOf z (w.at / 16) (w.at % 16) w.after) (sym sizes) after) in
     subst (λ z. IsWhole z (page_op t n w ∷ log)) sizes
     (subst (λ (l : List Record). IsWhole s.sizes (page_op t n w ∷ l)) h.come.records_are

@@ -1,7 +1,7 @@
 -- The greatest number is kept.
 use Rattle.std.proofs.Common.{◌≡◌, ℕ, ◌+◌, ◌≤◌, max, nat_eq, nat_lt, not, true, false, cond, ◌||◌, List, [], ◌∷◌, ◌++◌, length, None, inl, inr, refl, sym, ◌∙◌, ap, arith}
 use Rattle.std.specs.List.{filter}
-use Rattle.std.proofs.lemmas.Bool.{cases_Bool, eq-eqb, ne_eqb, or_parts}
+use Rattle.std.proofs.lemmas.Bool.{cases_Bool, eq-eqb, ne_eqb, or_parts, ltb-false}
 use Rattle.std.proofs.lemmas.Bool.Decides.{nat_tests}
 use Rattle.std.proofs.lemmas.List.{length-append}
 use Rattle.std.proofs.lemmas.List.Elements.{filter-append}
@@ -26,9 +26,6 @@ with_none n = omega arith
 
 lt_is : (a b : ℕ) → nat_lt a b ≡ true → a + 1 ≤ b
 lt_is a b y = grind (arith, nat_tests, y)
-
-not_lt : (a b : ℕ) → nat_lt a b ≡ false → b ≤ a
-not_lt a b n = grind (arith, nat_tests, n)
 
 number_behind : (t : Txn) (os : List Sub) (o : Sub) → number_of t (os ++ o ∷ []) ≡ max (cond (same_txn o.txn t) o.number 0) (number_of t os)
 number_behind t [] o = refl
@@ -70,7 +67,7 @@ number_with t o os = elim (cases_Bool (nat_lt (number_of o.txn os) o.number)) [
   | inr n ↦ rw n (elim (cases_Bool (same_txn o.txn t)) [
     | inl own ↦
         let a : number_of o.txn os ≡ number_of t os = ap (λ (u : Txn). number_of u os) (same_is o.txn t own) in
-        let b = not_lt (number_of o.txn os) o.number n in
+        let b = ltb-false (number_of o.txn os) o.number n in
         rw own (within o.number (number_of t os) (omega (arith, a, b)))
     | inr off ↦ rw off (with_none (number_of t os))
   ])

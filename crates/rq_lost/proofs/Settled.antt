@@ -1,6 +1,6 @@
 -- A sound store without rows has a log in which everything has ended.
 use Rattle.std.proofs.Common.{◌≡◌, ℕ, List, [], ◌∷◌, ◌++◌, refl, sym, ◌∙◌, ap, true, false, not, ◌&&◌, nat_eq, Option, Some, None, inl, inr, ◌⊎◌}
-use Rattle.std.proofs.lemmas.Bool.{cases_Bool, true≢false, or_left, or_right}
+use Rattle.std.proofs.lemmas.Bool.{cases_Bool, true≢false, or_left, or_right, not-true}
 use Rattle.rq_model.specs.declared.txn.Txn.{Txn}
 use Rattle.rq_model.specs.declared.record.Record.{Record}
 use Rattle.rq_model.specs.declared.record.Record.TheVariants as records
@@ -17,7 +17,7 @@ use Rattle.rq_store.specs.State.{State}
 use Rattle.rq_store.specs.Settled.{IsSettled}
 use Rattle.rq_store.proofs.Opening.{over_same}
 use Rattle.rq_sound.specs.Sound.{IsSound}
-use Rattle.rq_undone.proofs.Lists.{nothing_in, not_not}
+use Rattle.rq_undone.proofs.Lists.{nothing_in}
 
 -- the last of a list, or one before
 in_behind : {X : Type 0} (xs : List X) (y x : X) → In x (xs ++ y ∷ []) → In x xs ⊎ (x ≡ y)
@@ -72,11 +72,11 @@ module _ (s : State) (k : IsSound s) (e : s.rows ≡ []) where
   pub none_lost : lost s.records ≡ []
   none_lost = nothing_in (lost s.records) (λ t i.
       let g = In-filter (λ u. not (has_end s.records u)) (workers s.records) t i in
-      worker_deeds t s.records g.0 ((settled t).unused (not_not (has_end s.records t) g.1)))
+      worker_deeds t s.records g.0 ((settled t).unused (not-true (has_end s.records t) g.1)))
 
   pub none_unfinished : unfinished s.records ≡ []
   none_unfinished = nothing_in (unfinished s.records) (λ p i.
       let g = In-filter (λ q. not (any_record (operation_ended q.0 q.1) s.records)) (operations s.records) p i in
-      let open_one : over (operation p.0 p.1) (items s.sizes s.records) ≡ false = over_same s.sizes p.0 p.1 s.records ∙ not_not (any_record (operation_ended p.0 p.1) s.records) g.1 in
+      let open_one : over (operation p.0 p.1) (items s.sizes s.records) ≡ false = over_same s.sizes p.0 p.1 s.records ∙ not-true (any_record (operation_ended p.0 p.1) s.records) g.1 in
       let going : under_way (operation p.0 p.1) (items s.sizes s.records) ≡ true = rw (op_began s.sizes p s.records g.0, open_one) refl in
       true≢false (sym going ∙ (settled p.0).idle p.1))

@@ -1,7 +1,7 @@
 -- What the moves of aborts come to: what a crash leaves of them, and the store that opens behind them.
 use Rattle.std.proofs.Common.{◌≡◌, ℕ, zero, suc, ◌+◌, ◌≤◌, Bool, true, false, not, List, [], ◌∷◌, ◌++◌, length, drop, inl, inr, refl, sym, ◌∙◌, ap, subst, arith}
 use Rattle.std.specs.List.{filter}
-use Rattle.std.proofs.lemmas.Bool.{cases_Bool, true≢false, or_parts}
+use Rattle.std.proofs.lemmas.Bool.{cases_Bool, true≢false, or_parts, not-true}
 use Rattle.std.proofs.lemmas.List.{drop-append-le, length-append}
 use Rattle.rq_model.specs.declared.txn.Txn.{Txn}
 use Rattle.rq_model.specs.declared.record.Record.{Record}
@@ -31,7 +31,6 @@ use Rattle.rq_lost.specs.Theorems.{IsRestored, IsStopped}
 use Rattle.rq_lost.proofs.Moving.{aborted_sound, move_extends, moves_sound}
 use Rattle.rq_lost.proofs.Settled.{none_lost, none_unfinished}
 use Rattle.rq_lost.proofs.Store.{lost_sound}
-use Rattle.rq_lost.proofs.Workers.{not_not}
 
 move_sizes : (s now : State) → IsAbortMove s now → now.sizes ≡ s.sizes
 move_sizes s now (Starts r u rest f may lowest e) = ap (λ (x : State). x.sizes) e
@@ -85,7 +84,7 @@ none_new log now x t i = at (subst (λ l. In t (lost l)) (sym x.1) i) where
   at : In t (lost (x.0 ++ log)) → In t (lost log)
   at j =
       let g = In-filter (λ u. not (has_end (x.0 ++ log) u)) (workers (x.0 ++ log)) t j in
-      filter_in (λ u. not (has_end log u)) (workers log) t (subst (In t) (same_workers x.0 log x.2) g.0) (ap not (ended_before x.0 log t (not_not (has_end (x.0 ++ log) t) g.1)))
+      filter_in (λ u. not (has_end log u)) (workers log) t (subst (In t) (same_workers x.0 log x.2) g.0) (ap not (ended_before x.0 log t (not-true (has_end (x.0 ++ log) t) g.1)))
 
 plain_drop : (n : ℕ) (xs : List Record) → ArePlain xs → ArePlain (drop n xs)
 plain_drop zero xs h = h

@@ -1,7 +1,7 @@
 -- Who finished an operation in a log and has not ended: each once, and of the running incarnation.
 use Rattle.std.proofs.Common.{◌≡◌, ◌<◌, ◌≤◌, Bool, true, false, not, cond, ◌||◌, nat_eq, List, [], ◌∷◌, ◌++◌, Option, Some, None, inl, inr, refl, sym, ◌∙◌, ap, arith}
 use Rattle.std.specs.List.{filter}
-use Rattle.std.proofs.lemmas.Bool.{cases_Bool, true≢false, false≢true, or_parts, or_from, or_cases, or_left, or_right, cases_lt}
+use Rattle.std.proofs.lemmas.Bool.{cases_Bool, true≢false, false≢true, or_parts, or_from, or_cases, or_left, or_right, cases_lt, not-true}
 use Rattle.rq_model.specs.declared.txn.Txn.{Txn}
 use Rattle.rq_model.specs.declared.record.Deed.{Deed}
 use Rattle.rq_model.specs.declared.record.Record.{Record}
@@ -169,17 +169,13 @@ doer_now z t (records.Commit u ∷ log) k o h e = doer_now z t log k.1 o.1 h (or
 doer_now z t (records.AbortEnd u ∷ log) k o h e = doer_now z t log k.1 o.1 h (or_parts _ (has_end log t) e).1
 doer_now z t (records.Restart i ∷ log) k o h e = absurd (true≢false (sym (k.0.ended t h) ∙ has_end_same z t log ∙ e))
 
-pub not_not : (b : Bool) → not b ≡ true → b ≡ false
-not_not true e = absurd (false≢true e)
-not_not false e = refl
-
 pub lost_running : (log : List Record) (t : Txn) → In t (lost log) → has_end log t ≡ false
-lost_running log t i = not_not (has_end log t) (In-filter (λ u. not (has_end log u)) (workers log) t i).1
+lost_running log t i = not-true (has_end log t) (In-filter (λ u. not (has_end log u)) (workers log) t i).1
 
 pub lost_now : (z : Sizes) (log : List Record) (t : Txn) → IsLegalLog (layout_of z) (items z log) → InOrder log → In t (lost log) → t.incarnation ≡ incarnation_of log
 lost_now z log t k o i =
     let g = In-filter (λ u. not (has_end log u)) (workers log) t i in
-    doer_now z t log k o (worker_did z t log (in_txn t (workers log) g.0)) (not_not (has_end log t) g.1)
+    doer_now z t log k o (worker_did z t log (in_txn t (workers log) g.0)) (not-true (has_end log t) g.1)
 
 -- who counts beyond every transaction of the log has no record there
 other_count : (u t : Txn) → u.count < t.count → same_txn u t ≡ false

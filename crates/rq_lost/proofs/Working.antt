@@ -1,7 +1,7 @@
 -- Each move of an abort leaves less to do.
-use Rattle.std.proofs.Common.{◌≡◌, ℕ, zero, suc, ◌+◌, ◌-◌, ◌*◌, ◌<◌, ◌≤◌, List, [], ◌∷◌, length, reverse, Option, Some, None, refl, sym, ◌∙◌, ap, subst, arith}
-use Rattle.std.specs.List.{slice_get}
+use Rattle.std.proofs.Common.{◌≡◌, ℕ, ◌+◌, ◌-◌, ◌*◌, ◌<◌, ◌≤◌, List, [], ◌∷◌, length, reverse, Option, Some, None, refl, sym, ◌∙◌, ap, subst, arith}
 use Rattle.std.proofs.lemmas.List.{length-append, length-map, length-reverse}
+use Rattle.std.proofs.lemmas.Option.{slice_get_within}
 use Rattle.rq_model.specs.declared.record.Deed.{Deed}
 use Rattle.rq_model.specs.declared.record.Deed.TheVariants.{Append, UnlinkHead, Close}
 use Rattle.rq_model.specs.Words.{front}
@@ -42,11 +42,6 @@ front_length [] = refl
 front_length (f ∷ []) = refl
 front_length (f ∷ g ∷ fs) = let a = front_length (g ∷ fs) in omega (arith, a)
 
-some_left : {X : Type 0} (xs : List X) (i : ℕ) (x : X) → slice_get xs i ≡ Some x → i < length xs
-some_left [] i x e = cc
-some_left (y ∷ xs) zero x e = omega arith
-some_left (y ∷ xs) (suc i) x e = let a = some_left xs i x e in omega (arith, a)
-
 pub move_less : (s now : State) → IsSound s → IsAbortMove s now → abort_work now < abort_work s
 move_less s now k (Starts r u rest f may lowest e) =
     let p = may.planned in
@@ -60,7 +55,7 @@ move_less s now k (Writes r u w images lsn d aim next e) =
     let a = rows_one row_work r.txn row_stepped s.rows r k.standing.distinct next.at_row in
     let was : row_work r ≡ 5 * (length r.finished - 1) + (length u.writes - u.made) + 1 + 1 = ap (λ (o : Option Under). left_to_undo (length r.finished) o + 1) next.under in
     let is : row_work (row_stepped r) ≡ 5 * (length r.finished - 1) + (length u.writes - (u.made + 1)) + 1 + 1 = ap (λ (o : Option Under). row_work (row_stepped (record r { under = o }))) next.under in
-    let left = some_left u.writes u.made w next.next in
+    let left = slice_get_within u.writes u.made w next.next in
     subst (λ (n : State). abort_work n < abort_work s) (sym e) (omega (arith, a, was, is, left))
 move_less s now k (Undoes r u lsn d waiting ready more e) =
     let a = rows_one row_work r.txn (row_undone (front r.finished)) s.rows r k.standing.distinct ready.at_row in

@@ -2,6 +2,7 @@
 use Rattle.std.proofs.Common.{◌≡◌, ℕ, ◌+◌, ◌≤◌, List, [], ◌∷◌, ◌++◌, length, drop, refl, sym, ◌∙◌, ap, Bool, true, false, cond, not, Option, Some, None, append_assoc, ◌⊎◌, inl, inr, arith, ◌||◌, nat_eq}
 use Rattle.std.proofs.lemmas.List.{append-nil, drop-drop, drop-append-le, length_push, length-append}
 use Rattle.std.proofs.lemmas.Bool.{cases_Bool, or_cases, or_parts, or_left, or_right, and_from, false≢true, false_from_ne_true}
+use Rattle.std.proofs.Math.Bool.{or_comm}
 use Rattle.rq_model.specs.declared.txn.Txn.{Txn}
 use Rattle.rq_model.specs.declared.record.Record.{Record}
 use Rattle.rq_model.specs.declared.record.Record.TheVariants.{Commit}
@@ -179,14 +180,8 @@ same_comm t u = elim (cases_Bool (same_txn t u)) [
   | inr n ↦ n ∙ sym (other_same u t (λ e. false≢true (sym n ∙ ap (λ x. same_txn t x) e ∙ same_self t)))
 ]
 
-or_turn : (a b : Bool) → (a || b) ≡ (b || a)
-or_turn true true = refl
-or_turn true false = refl
-or_turn false true = refl
-or_turn false false = refl
-
 or_comm_same : (t u : Txn) (b : Bool) → (same_txn t u || b) ≡ (b || same_txn u t)
-or_comm_same t u b = or_turn (same_txn t u) b ∙ ap (λ x. b || x) (same_comm t u)
+or_comm_same t u b = or_comm (same_txn t u) b ∙ ap (λ x. b || x) (same_comm t u)
 
 pub deeds_agree : (p q : Txn → Bool) (log : List Record) → ((u : Txn) → p u ≡ q u) → deeds p log ≡ deeds q log
 deeds_agree p q [] f = refl

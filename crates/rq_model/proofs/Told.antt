@@ -1,9 +1,10 @@
 -- The content of a log is that of the commit list that it tells.
-use Rattle.std.proofs.Common.{◌≡◌, ℕ, ◌+◌, ◌≤◌, List, [], ◌∷◌, ◌++◌, length, take, drop, refl, sym, ◌∙◌, ap, Bool, true, false, Option, Some, None, append_assoc, inl, inr, arith, ◌||◌, nat_eq}
+use Rattle.std.proofs.Common.{◌≡◌, ℕ, ◌+◌, ◌≤◌, List, [], ◌∷◌, ◌++◌, length, take, drop, refl, sym, ◌∙◌, ap, Bool, false, Option, Some, None, append_assoc, inl, inr, arith, ◌||◌, nat_eq}
 use Rattle.std.specs.List.{filter_map}
 use Rattle.std.proofs.lemmas.List.{append-nil, length-append, take_at}
 use Rattle.std.proofs.lemmas.List.Elements.{filter_map-append}
 use Rattle.std.proofs.lemmas.Bool.{cases_Bool, false≢true, false_from_ne_true}
+use Rattle.std.proofs.Math.Bool.{or_comm}
 use Rattle.rq_model.specs.declared.txn.Txn.{Txn}
 use Rattle.rq_model.specs.declared.record.Record.{Record}
 use Rattle.rq_model.specs.declared.record.Record.TheVariants.{PageOp, PageUndo, OpEnd, OpVoid, CompEnd, Commit, Restart, AbortEnd}
@@ -45,15 +46,9 @@ ends_one s (Added m) = refl
 ends_one s (Removed m) = refl
 ends_one s (Ended r) = refl
 
-or_turn : (a b : Bool) → (a || b) ≡ (b || a)
-or_turn true true = refl
-or_turn true false = refl
-or_turn false true = refl
-or_turn false false = refl
-
 pub told_ends : (s : ℕ) (ds : List Said) → any_ends s (ops_told ds) ≡ closed s ds
 told_ends s [] = refl
-told_ends s (d ∷ ds) = any_ends_more s (ops_told ds) (op_of d) ∙ ap (λ b. b || ends s (op_of d)) (told_ends s ds) ∙ or_turn (closed s ds) (ends s (op_of d)) ∙ ap (λ b. b || closed s ds) (ends_one s d)
+told_ends s (d ∷ ds) = any_ends_more s (ops_told ds) (op_of d) ∙ ap (λ b. b || ends s (op_of d)) (told_ends s ds) ∙ or_comm (closed s ds) (ends s (op_of d)) ∙ ap (λ b. b || closed s ds) (ends_one s d)
 
 with_told : (s : ℕ) (ds : List Said) (g : Group) → with_ops s (ops_told ds) g ≡ with_own s ds g
 with_told s ds g = group_is _ _ _ _ _ _ _ _ _ _

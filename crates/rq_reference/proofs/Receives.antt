@@ -1,7 +1,7 @@
 -- What a transaction may receive, undo and start, as the plain reference finds it.
 use Rattle.std.proofs.Common.{◌≡◌, ℕ, zero, suc, ◌+◌, ◌-◌, ◌<◌, Bool, Option, List, [], ◌∷◌, ◌++◌, length, take, drop, map, refl, sym, ◌∙◌, ap, subst, true, false, None, Some, inl, inr, arith, get_or, nat_lt, nat_eq, not, ◌&&◌, IsTrue}
 use Rattle.std.specs.List.{filter, filter_map, slice_get}
-use Rattle.std.proofs.lemmas.Bool.{cases_Bool, or_cases, or_parts, and_parts, true≢false, eqb-true}
+use Rattle.std.proofs.lemmas.Bool.{cases_Bool, or_cases, or_parts, and_parts, true≢false, eqb-true, and_right}
 use Rattle.std.proofs.lemmas.Bool.Decides.{nat_tests}
 use Rattle.rq_model.specs.declared.txn.Txn.{Txn}
 use Rattle.rq_model.specs.declared.message.Message.{Message}
@@ -202,10 +202,6 @@ and_second : (a b : Bool) → a ≡ true → (a && b) ≡ false → b ≡ false
 and_second true b e h = h
 and_second false b e h = absurd (true≢false (sym e))
 
-and_false : (a b : Bool) → b ≡ false → (a && b) ≡ false
-and_false true b e = e
-and_false false b e = refl
-
 -- there is a group to receive from, and no room for it
 pub full_receive : (z : Size) (l : Ledger) (t : Txn) (gs : List ℕ) (b : Bool) → b ≡ (is_some (first gs) && log_full l 4) → gs ≡ receivable z l t
     → (any_gives (below z.senders) l t (found t l.open_ones) && log_full l 4) ≡ b
@@ -219,7 +215,7 @@ may_take z l t s n p g h =
     let full : log_full l 4 ≡ false = and_second (any_gives (below z.senders) l t x) (log_full l 4) (any_has z l t s x g.0 g.1) p.1.1.1.1.0 in
     let k : nat_lt s z.senders ≡ true = (let b = g.0 in grind (arith, nat_tests)) in
     let f = gives_free l t s x g.1 in (
-      (p.0, (p.1.0, (p.1.1.0, (p.1.1.1.0, (ap not k, (ap not f, (and_false (gives l t x s) (log_full l 4) full, tt))))))),
+      (p.0, (p.1.0, (p.1.1.0, (p.1.1.1.0, (ap not k, (ap not f, (and_right (gives l t x s) (log_full l 4) full, tt))))))),
       on_two x (λ o. n ≡ o.number + 1) (λ o. IsTrue (holds_for l o s)) (λ o. (n ≡ o.number + 1) × IsTrue (holds_for l o s)) h (gives_holds l t s x g.1) (λ o a b. (a, b)),
     )
 

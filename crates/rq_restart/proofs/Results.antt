@@ -1,10 +1,5 @@
 -- Clauses about one answer, taken together.
-use Rattle.std.proofs.Common.{Result, Ok, Err, OnOk, IfOk}
-
--- what follows from what an Ok says
-pub on_ok : {T E A B : Type 0} (r : Result T E) → (A → B) → OnOk r A → OnOk r B
-on_ok (Ok x) f h = f h
-on_ok (Err e) f h = h
+use Rattle.std.proofs.Common.{Result, Ok, Err, IfOk}
 
 pub if_ok_both : {T E : Type 0} {A B C : T → Type 0} (r : Result T E) → ((x : T) → A x → B x → C x) → IfOk r A → IfOk r B → IfOk r C
 if_ok_both (Ok x) f h k = f x h k

@@ -1,6 +1,7 @@
 -- The transactions that have ended are kept.
-use Rattle.std.proofs.Common.{◌≡◌, ℕ, ◌+◌, ◌≤◌, Bool, true, false, ◌||◌, nat_eq, List, [], ◌∷◌, inl, inr, refl, sym, ◌∙◌, ap, arith}
+use Rattle.std.proofs.Common.{◌≡◌, ℕ, ◌+◌, ◌≤◌, true, false, ◌||◌, nat_eq, List, [], ◌∷◌, inl, inr, refl, sym, ◌∙◌, ap, arith}
 use Rattle.std.proofs.lemmas.Bool.{eq-eqb, false≢true, false_from_ne_true, or_cases}
+use Rattle.std.proofs.Math.Bool.{or-false}
 use Rattle.rq_model.specs.declared.txn.Txn.{Txn}
 use Rattle.rq_model.specs.declared.record.Record.{Record}
 use Rattle.rq_model.specs.declared.record.Record.TheVariants as records
@@ -10,10 +11,6 @@ use Rattle.rq_model.specs.Words.{same_txn}
 use Rattle.rq_model.proofs.Lists.{same_is}
 use Rattle.rq_rules.specs.Kept.{ended, has_count}
 use Rattle.rq_rules.proofs.Counts.{counts_more, none_counted}
-
-or_none : (b : Bool) → (b || false) ≡ b
-or_none true = refl
-or_none false = refl
 
 one_before : (u t : Txn) (i : ℕ) → same_txn u t ≡ true → u.incarnation ≡ i → t.incarnation ≤ i
 one_before u t i y e = let a : u.incarnation ≡ t.incarnation = ap (λ (v : Txn). v.incarnation) (same_is u t y) in omega (arith, a, e)
@@ -31,7 +28,7 @@ ended_before (records.Restart i ∷ log) t o h =
     let e : i ≡ incarnation_of log + 1 = o.0 in
     omega (arith, a, e)
 ended_before (records.Commit u ∷ log) t o h = elim (or_cases (same_txn u t || false) (has_end log t) h) [
-  | inl y ↦ one_before u t (incarnation_of log) (sym (or_none (same_txn u t)) ∙ y) o.0.1
+  | inl y ↦ one_before u t (incarnation_of log) (sym (or-false (same_txn u t)) ∙ y) o.0.1
   | inr k ↦ ended_before log t o.1 k
 ]
 ended_before (records.AbortEnd u ∷ log) t o h = elim (or_cases (same_txn u t) (has_end log t) h) [
@@ -58,7 +55,7 @@ ended_kept (records.Restart i ∷ log) t o e =
     let b : t.incarnation ≡ i = e in
     absurd (omega (arith, a, k, b))))
 ended_kept (records.Commit u ∷ log) t o e =
-    counts_more t.count u.count (ended log) ∙ ap (λ b. b || has_count t.count (ended log)) (one_of u t (incarnation_of log) o.0.1 e ∙ sym (or_none (same_txn u t)))
+    counts_more t.count u.count (ended log) ∙ ap (λ b. b || has_count t.count (ended log)) (one_of u t (incarnation_of log) o.0.1 e ∙ sym (or-false (same_txn u t)))
     ∙ ap (λ b. (same_txn u t || false) || b) (ended_kept log t o.1 e)
 ended_kept (records.AbortEnd u ∷ log) t o e =
     counts_more t.count u.count (ended log) ∙ ap (λ b. b || has_count t.count (ended log)) (one_of u t (incarnation_of log) o.0.1 e)

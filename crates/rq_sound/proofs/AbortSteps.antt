@@ -2,6 +2,8 @@
 use Rattle.std.proofs.Common.{◌≡◌, ℕ, suc, ◌+◌, ◌-◌, ◌<◌, ◌≤◌, ◌^◌, ◌++◌, ◌&&◌, ◌||◌, List, [], ◌∷◌, length, map, refl, sym, ◌∙◌, ap, subst, Bool, true, false, not, nat_lt, nat_eq, Option, Some, None, arith}
 use Rattle.std.specs.Prelude.{IsTrue}
 use Rattle.std.proofs.lemmas.Bool.{and_from, eq-eqb, false_from_ne_true}
+use Rattle.std.proofs.lemmas.Option.{slice_get_within}
+use Rattle.std.proofs.lemmas.List.{map-append}
 use Rattle.rq_model.specs.declared.txn.Txn.{Txn}
 use Rattle.rq_model.specs.declared.record.Deed.{Deed}
 use Rattle.rq_model.specs.History.{Entry, Job, Call}
@@ -19,7 +21,6 @@ use Rattle.rq_store.specs.State.{op_done, phase_of, State, ledger_of, open_of, o
 use Rattle.rq_store.specs.Steps.{took, page_op}
 use Rattle.rq_store.proofs.Ends.{none_held}
 use Rattle.rq_store.proofs.Within.{all_within}
-use Rattle.rq_store.proofs.Placed.{map_join}
 use Rattle.rq_store.proofs.Owing.{one_longer}
 use Rattle.rq_txn.specs.declared.Aim.{Aim}
 use Rattle.rq_txn.specs.Rows.{Under, Row, found_row, fresh_row, row_stepped, under_stepped}
@@ -34,7 +35,7 @@ use Rattle.rq_sound.specs.Steps.{Steps}
 use Rattle.rq_sound.specs.Theorems.{AbortsAreSteps}
 use Rattle.rq_store.proofs.Opens.{found_open, open_found}
 use Rattle.rq_sound.proofs.Ledgers.{opens_change, aborting_after, aborted_after}
-use Rattle.rq_sound.proofs.Contracts.{calls_keep, undo_entry, undo_start_entry, within}
+use Rattle.rq_sound.proofs.Contracts.{calls_keep, undo_entry, undo_start_entry}
 
 -- what a test reads of an operation under way
 pub job_some : (o : Option Under) → is_some (job_under o) ≡ is_some o
@@ -42,7 +43,7 @@ job_some None = refl
 job_some (Some u) = refl
 
 last_done : (fs : List Finished) (f : Finished) → last (map op_done (fs ++ f ∷ [])) ≡ Some (op_done f)
-last_done fs f = ap last (map_join op_done fs (f ∷ [])) ∙ at_end (map op_done fs) (op_done f) where
+last_done fs f = ap last (map-append op_done fs (f ∷ [])) ∙ at_end (map op_done fs) (op_done f) where
   at_end : (xs : List Op) (x : Op) → last (xs ++ x ∷ []) ≡ Some x
   at_end [] x = refl
   at_end (y ∷ ys) x = from y ys x where
@@ -111,7 +112,7 @@ module _ (s : State) (k : IsSound s) (running : s.failed ≡ false) where
   step : (r : Row) (u : Under) (w : SlotWrite) (images : List (List ℕ)) → IsNextWrite s r u w images
       → Steps s (Call.Step r.txn u.number) (Reply.Gave_lsn (length s.records + 1)) (stepped s r u w images)
   step r u w images m =
-      let more = within u.writes u.made w m.next in
+      let more = slice_get_within u.writes u.made w m.next in
       let opens = opens_change r.txn s.ends s.ends row_stepped open_stepped s.rows (λ q i e. open_after q) (λ q i n. refl) in
       record {
         entry = Entry.Stepped r.txn u.number (length s.records + 1);

@@ -1,9 +1,10 @@
 -- What the model's tests ask of a sound store, from what the store has: whether a group is closed, whether it holds a
 -- message, how many cells are in use.
-use Rattle.std.proofs.Common.{◌≡◌, ◌≢◌, ℕ, ◌+◌, ◌<◌, ◌||◌, List, [], ◌∷◌, length, map, refl, sym, ◌∙◌, ap, subst, Bool, true, false, cond, Option, Some, None, inl, inr, arith}
+use Rattle.std.proofs.Common.{◌≡◌, ◌≢◌, ℕ, ◌+◌, ◌<◌, ◌||◌, List, [], ◌∷◌, length, map, refl, sym, ◌∙◌, ap, subst, true, false, cond, Option, Some, None, inl, inr, arith}
 use Rattle.std.specs.List.{sum_by}
 use Rattle.std.proofs.lemmas.Bool.{cases_Bool, false_from_ne_true}
 use Rattle.std.proofs.lemmas.List.Sums.{sum_by-cons}
+use Rattle.std.proofs.Math.Bool.{or_comm}
 use Rattle.rq_model.specs.Tests as legal
 use Rattle.rq_model.specs.declared.txn.Txn.{Txn}
 use Rattle.rq_model.specs.declared.record.Deed.{Deed}
@@ -40,12 +41,6 @@ use Rattle.rq_store.proofs.Ends.{free_alone}
 use Rattle.rq_sound.proofs.Alone.{unused, sends_same, takes_same, removed_is}
 use Rattle.rq_sound.proofs.Commits.{count_sends}
 
-or_turn : (a b : Bool) → (a || b) ≡ (b || a)
-or_turn true true = refl
-or_turn true false = refl
-or_turn false true = refl
-or_turn false false = refl
-
 one_none : (g : ℕ) (d : Deed) → on_receiving_end g d ≡ false → removed_one g (said d) ≡ 0
 one_none g (Append q n tag previous body) e = refl
 one_none g (UnlinkHead q n tag body) e = rw e refl
@@ -76,7 +71,7 @@ module _ (z : Sizes) (log : List Record) (ends : HeldEnds) (rows : List Row) (i 
       let v = view_holds s (items z log) r.txn h.taker (groups_of z log whole) (alone_free s r.txn free) h.takes in
       let c = committed_is_group z s log whole.rules whole.reads in
       let own : closed s (say (open_deeds r.txn (items z log))) ≡ any_ends s (map op_done r.finished) = sym (told_ends s (say (open_deeds r.txn (items z log)))) ∙ ap (λ ps. any_ends s (ops_told (say ps))) (k.each r j).done ∙ ap (any_ends s) (told_placed r.finished) in
-      v.closed ∙ ap (λ x. closed s (say (open_deeds r.txn (items z log))) || x) c.closed ∙ ap (λ x. x || ended_in (committed_of log) s) own ∙ or_turn (any_ends s (map op_done r.finished)) (ended_in (committed_of log) s)
+      v.closed ∙ ap (λ x. closed s (say (open_deeds r.txn (items z log))) || x) c.closed ∙ ap (λ x. x || ended_in (committed_of log) s) own ∙ or_comm (any_ends s (map op_done r.finished)) (ended_in (committed_of log) s)
 
   none_from : (g : ℕ) (t : Txn) (q : Row) → In q rows → is_free_for t g ends.receiving ≡ true → q.txn ≢ t → takes_in g q ≡ 0
   none_from g t q j free n =

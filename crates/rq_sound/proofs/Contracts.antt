@@ -1,6 +1,6 @@
 -- The theorems, from what the other files show.
-use Rattle.std.proofs.Common.{◌≡◌, ℕ, zero, suc, ◌+◌, ◌-◌, ◌/◌, ◌<◌, ◌≤◌, ◌++◌, List, [], ◌∷◌, length, reverse, refl, sym, ◌∙◌, ap, subst, true, false, Option, Some, arith}
-use Rattle.std.specs.List.{slice_get}
+use Rattle.std.proofs.Common.{◌≡◌, ℕ, ◌+◌, ◌-◌, ◌/◌, ◌<◌, ◌≤◌, ◌++◌, List, [], ◌∷◌, reverse, refl, sym, ◌∙◌, ap, subst, true, false, Option, Some, arith}
+use Rattle.std.proofs.lemmas.Option.{slice_get_within}
 use Rattle.rq_model.specs.declared.record.Deed.{Deed}
 use Rattle.rq_model.specs.declared.record.Deed.TheVariants.{Append, UnlinkHead, Close}
 use Rattle.rq_model.specs.Ledger.{after}
@@ -47,11 +47,6 @@ use Rattle.rq_sound.proofs.Asked.{closed_is, holds_is, cells_are}
 use Rattle.rq_sound.proofs.FreeEnds.{free_is, free_to_take}
 use Rattle.rq_sound.proofs.Lost.{lost_finds_cell}
 use Rattle.rq_sound.proofs.Opened.{opened_sound}
-
-pub within : {X : Type 0} (xs : List X) (k : ℕ) (x : X) → slice_get xs k ≡ Some x → k < length xs
-within [] k x e = cc
-within (y ∷ xs) zero x e = omega arith
-within (y ∷ xs) (suc k) x e = let h = within xs k x e in omega (arith, h)
 
 module _ (s : State) (k : IsSound s) where
   here : (r : Row) → found_row r.txn s.rows ≡ Some r → is_some (found_row r.txn s.rows) ≡ true
@@ -192,7 +187,7 @@ calls_keep = record {
   begins = begin_sound;
   starts = λ s r u d k m. start_deed s k r u d m;
   starts_inverse = λ s r u fs f k m. start_inverse s k r u fs f m;
-  steps = λ s r u w images k m. step_sound s k r u w images m.at_row m.under m.next (within u.writes u.made w m.next) m.before m.after m.made.image m.made.page m.made.others m.made.superblock m.made.headers;
+  steps = λ s r u w images k m. step_sound s k r u w images m.at_row m.under m.next (slice_get_within u.writes u.made w m.next) m.before m.after m.made.image m.made.page m.made.others m.made.superblock m.made.headers;
   finishes = λ s r u d ws k m fewer. finish_sound s k r u d ws m.at_row m.under m.aim_is m.made fewer;
   undoes = λ s r u lsn d ws k m more. undo s k r u lsn d ws m more;
   commits = λ s r cells ws ss k m. commit_sound s k r cells ws ss m.idle.at_row m.idle.idle m.forward m.freed m.waits m.counts m.tags;

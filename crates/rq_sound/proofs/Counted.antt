@@ -2,7 +2,7 @@
 use Rattle.std.proofs.Common.{◌≡◌, ◌≢◌, ℕ, ◌+◌, ◌-◌, ◌/◌, ◌%◌, ◌≤◌, ◌++◌, List, [], ◌∷◌, length, take, map, reverse, refl, sym, ◌∙◌, ap, subst, nat_eq, Option, Some, None, inl, inr, arith}
 use Rattle.std.specs.List.{sum_by, filter_map, slice_get}
 use Rattle.std.proofs.lemmas.Bool.{cases_Bool, eqb-true}
-use Rattle.std.proofs.lemmas.List.{length-map, take_all, length-append}
+use Rattle.std.proofs.lemmas.List.{length-map, take_all, length-append, map-append}
 use Rattle.std.proofs.lemmas.List.Elements.{filter_map-append}
 use Rattle.std.proofs.lemmas.List.Sums.{sum_by_push}
 use Rattle.rq_model.specs.declared.txn.Txn.{Txn}
@@ -48,12 +48,11 @@ use Rattle.rq_sound.specs.Rows.{turn_of, comp_end}
 use Rattle.rq_sound.specs.Standing.{FollowsPlan}
 use Rattle.rq_sound.specs.Counted.{AreCounted, IsCovered, CoversAim, appends_aim, appending, appending_in, takes_all, appends_one, appends_all, uses_before, uses_after, made_of, before_in, after_in, takes_in}
 use Rattle.rq_sound.proofs.UsedCells.{plan_counts, count_made}
-use Rattle.rq_store.proofs.Placed.{map_join}
 use Rattle.rq_sound.proofs.Going.{take_next, get_written}
 
 took_more : (g : ℕ) (fs : List Finished) (f : Finished) → length (filter_map (taken_from g) (map op_done (fs ++ f ∷ []))) ≡ length (filter_map (taken_from g) (map op_done fs)) + took g f.deed
 took_more g fs f =
-    let a : length (filter_map (taken_from g) (map op_done (fs ++ f ∷ []))) ≡ length (filter_map (taken_from g) (map op_done fs ++ op_done f ∷ [])) = ap (λ (l : List Op). length (filter_map (taken_from g) l)) (map_join op_done fs (f ∷ [])) in
+    let a : length (filter_map (taken_from g) (map op_done (fs ++ f ∷ []))) ≡ length (filter_map (taken_from g) (map op_done fs ++ op_done f ∷ [])) = ap (λ (l : List Op). length (filter_map (taken_from g) l)) (map-append op_done fs (f ∷ [])) in
     let b : length (filter_map (taken_from g) (map op_done fs ++ op_done f ∷ [])) ≡ length (filter_map (taken_from g) (map op_done fs) ++ filter_map (taken_from g) (op_done f ∷ [])) = ap length (filter_map-append (taken_from g) (map op_done fs) (op_done f ∷ [])) in
     let c = length-append (filter_map (taken_from g) (map op_done fs)) (filter_map (taken_from g) (op_done f ∷ [])) in
     let h = one g f.deed in

@@ -3,7 +3,7 @@ use Rattle.std.proofs.Common.{◌≡◌, ◌≢◌, ℕ, zero, suc, ◌+◌, ◌
 use Rattle.std.specs.List.{slice_get}
 use Rattle.std.specs.Option.{option_map}
 use Rattle.std.proofs.lemmas.Bool.{false_from_ne_true, lt-ltb, ltb-true}
-use Rattle.std.proofs.lemmas.List.{length-drop, length-map, length-reverse}
+use Rattle.std.proofs.lemmas.List.{length-drop, length-map, length-reverse, map-append}
 use Rattle.std.proofs.lemmas.Option.{slice_get-map}
 use Rattle.rq_model.specs.declared.txn.Txn.{Txn}
 use Rattle.rq_model.specs.declared.record.Deed.{Deed}
@@ -39,7 +39,7 @@ use Rattle.rq_store.specs.Rows.{HoldsFor, HasWaiting}
 use Rattle.rq_store.specs.State.{size_of, job_of, op_done, State, ledger_of, open_of, open_ones_of, job_of_aim, job_under, left_under}
 use Rattle.rq_store.specs.Steps.{gave_done, op_end, took}
 use Rattle.rq_store.proofs.Grouping.{groups_of}
-use Rattle.rq_store.proofs.Placed.{map_join, told_placed}
+use Rattle.rq_store.proofs.Placed.{told_placed}
 use Rattle.rq_store.proofs.Owing.{one_longer}
 use Rattle.rq_txn.specs.Rows.{Under, Row, deed_of, row_finished, row_started}
 use Rattle.rq_store.proofs.RowLists.{found_in, not_txn, unique}
@@ -158,7 +158,7 @@ kept_more n (x ∷ c) d e = ap (λ k. cond (nat_lt n x.lsn) 0 1 + k) (kept_more 
 
 done_open : (ends : HeldEnds) (q : Row) (f : Finished) → left_under q.under ≡ 0 → open_of ends (row_finished f q) ≡ done_more (op_done f) (open_of ends q)
 done_open ends q f e =
-    ap (λ (ops : List Op). record (open_of ends q) { ops = ops; under = None; left = 0 }) (map_join op_done q.finished (f ∷ []))
+    ap (λ (ops : List Op). record (open_of ends q) { ops = ops; under = None; left = 0 }) (map-append op_done q.finished (f ∷ []))
     ∙ ap (λ (n : ℕ). record (open_of ends q) { ops = map op_done q.finished ++ op_done f ∷ []; under = None; left = n }) (sym e)
 
 says_done : (t : Txn) (n : ℕ) (d : Deed) → Says (Call.Finish t n) (gave_done d) (Entry.Did t n (op_of (said d)))

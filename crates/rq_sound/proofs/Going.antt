@@ -4,6 +4,7 @@ use Rattle.std.proofs.Common.{◌≡◌, ◌≢◌, ℕ, ◌+◌, ◌/◌, ◌%�
 use Rattle.std.proofs.lemmas.Bool.{false≢true, true≢false, cases_Bool, or_from, or_parts, eqb-true, eq-eqb, cond-false}
 use Rattle.std.proofs.lemmas.List.{reverse-append}
 use Rattle.std.specs.List.{slice_get}
+use Rattle.std.proofs.Math.Bool.{and-false}
 use Rattle.rq_model.specs.declared.txn.Txn.{Txn}
 use Rattle.rq_model.specs.declared.txn.Sub.{Sub}
 use Rattle.rq_model.specs.declared.record.Deed.{Deed}
@@ -41,10 +42,6 @@ use Rattle.rq_store.proofs.Owing.{onto_whole}
 never : (a c : Bool) → (a && (false && c)) ≡ false
 never true c = refl
 never false c = refl
-
-never_more : (b : Bool) → (b && false) ≡ false
-never_more true = refl
-never_more false = refl
 
 unless_same : (a : ℕ) (p : ℕ) (latched : ℕ → Bool) → latched a ≡ false → latched p ≡ true → (a == p) ≡ false
 unless_same a p latched off on = elim (cases_Bool (a == p)) [
@@ -140,8 +137,8 @@ module _ (z : Sizes) (log : List Record) (ends : HeldEnds) (t : Txn) (u : Under)
 -- another transaction ends, and the ends may be others
 pub other_gone : (z : Sizes) (log : List Record) (ends after : HeldEnds) (t : Txn) (u : Under) (v : Txn) → HoldsFor after t (deed_of u.aim) → FollowsPlan z log ends t u → FollowsPlan z (Commit v ∷ log) after t u × FollowsPlan z (AbortEnd v ∷ log) after t u
 other_gone z log ends after t u v held g = (
-  record { made = g.made; going = g.going; forward = g.forward; uncrossed = λ p on. or_from _ _ (never_more (began (operation t u.number) (items z log))) (g.uncrossed p on); stands = g.stands; written = g.written; owes = g.owes; plan = g.plan; told = g.told; held = held; sender = g.sender; reads = g.reads },
-  record { made = g.made; going = g.going; forward = g.forward; uncrossed = λ p on. or_from _ _ (never_more (began (operation t u.number) (items z log))) (g.uncrossed p on); stands = g.stands; written = g.written; owes = g.owes; plan = g.plan; told = g.told; held = held; sender = g.sender; reads = g.reads },
+  record { made = g.made; going = g.going; forward = g.forward; uncrossed = λ p on. or_from _ _ (and-false (began (operation t u.number) (items z log))) (g.uncrossed p on); stands = g.stands; written = g.written; owes = g.owes; plan = g.plan; told = g.told; held = held; sender = g.sender; reads = g.reads },
+  record { made = g.made; going = g.going; forward = g.forward; uncrossed = λ p on. or_from _ _ (and-false (began (operation t u.number) (items z log))) (g.uncrossed p on); stands = g.stands; written = g.written; owes = g.owes; plan = g.plan; told = g.told; held = held; sender = g.sender; reads = g.reads },
 )
 
 -- other ends

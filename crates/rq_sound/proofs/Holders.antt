@@ -3,7 +3,7 @@
 use Rattle.std.proofs.Common.{◌≡◌, ℕ, zero, suc, ◌+◌, ◌-◌, ◌/◌, ◌<◌, ◌++◌, List, [], ◌∷◌, drop, take, length, map, reverse, refl, sym, ◌∙◌, ap, subst, Bool, true, false, nat_eq, ◌&&◌, Option, Some, None, inl, inr, arith}
 use Rattle.std.specs.List.{filter_map}
 use Rattle.std.proofs.lemmas.Bool.{cases_Bool, eqb-true, false≢true, false_from_ne_true, true≢false, and_from, or_from, or_left, or_parts, or_right}
-use Rattle.std.proofs.lemmas.List.{append-nil, reverse-append, take-append-drop}
+use Rattle.std.proofs.lemmas.List.{append-nil, reverse-append, take-append-drop, map-append}
 use Rattle.std.proofs.lemmas.List.Elements.{filter_map-append}
 use Rattle.std.proofs.lemmas.Option.{same_Some}
 use Rattle.rq_model.specs.declared.message.Message.{Message}
@@ -46,7 +46,7 @@ use Rattle.rq_store.specs.Fitting.{left_by}
 use Rattle.rq_store.specs.Rows.{is_under}
 use Rattle.rq_store.specs.State.{State, op_done}
 use Rattle.rq_store.proofs.Grouping.{groups_of}
-use Rattle.rq_store.proofs.Placed.{map_join, told_placed}
+use Rattle.rq_store.proofs.Placed.{told_placed}
 use Rattle.rq_store.proofs.RowLists.{found_in}
 use Rattle.rq_sound.specs.Groups.{slots_now}
 use Rattle.rq_sound.specs.Holders.{NoneIsOn, ViewsAreOfHolders, chain_from, chain_in, chain_of, done_by, done_in, holder_of, holder_sends, holder_takes, link_of, of_holders, told_by}
@@ -102,8 +102,8 @@ Back g ms = map (message_of g) (map tag_and_body ms) ≡ ms
 back_one : (g : ℕ) (d : Said) (ms : List Message) → Back g ms → Back g (added_one g d ms)
 back_one g (Said.Added m) ms h = elim (cases_Bool (nat_eq m.sender g)) [
   | inl y ↦ rw y (
-      ap (map (message_of g)) (map_join tag_and_body ms (m ∷ []))
-      ∙ map_join (message_of g) (map tag_and_body ms) (tag_and_body m ∷ [])
+      ap (map (message_of g)) (map-append tag_and_body ms (m ∷ []))
+      ∙ map-append (message_of g) (map tag_and_body ms) (tag_and_body m ∷ [])
       ∙ ap (λ l. l ++ message_of g (tag_and_body m) ∷ []) h
       ∙ ap (λ x. ms ++ x ∷ []) (own_one g m y))
   | inr n ↦ rw n h
@@ -161,7 +161,7 @@ take_one g (UnlinkHead r q tag body) more n ms front e h t =
           ∙ ap (λ l. filter_map (taken_from g) more ++ l) one
           ∙ ap (λ l. l ++ m ∷ []) h
           ∙ ap (λ x. map (message_of g) (take n ms) ++ x ∷ []) (sym (own_one g m y))
-          ∙ sym (map_join (message_of g) (take n ms) ((tag, body) ∷ []))
+          ∙ sym (map-append (message_of g) (take n ms) ((tag, body) ∷ []))
           ∙ ap (map (message_of g)) (sym next)
           ∙ ap (λ i. map (message_of g) (take i ms)) (let more : suc n ≡ n + removed_one g (said (UnlinkHead r q tag body)) = omega (arith, count) in more)
       | inr off ↦
@@ -327,7 +327,7 @@ module _ (s : State) (k : IsSound s) where
         let ms = added g (say (deeds_of sender)) in
         let shown = (view_holds g (items s.sizes s.records) sender taker groups sender_alone taker_alone).messages in
         ap (map (message_of g)) shown
-        ∙ map_join (message_of g) (drop n rest) (map tag_and_body ms)
+        ∙ map-append (message_of g) (drop n rest) (map tag_and_body ms)
         ∙ ap (λ l. map (message_of g) (drop n rest) ++ l) (back g (say (deeds_of sender)) ∙ sends_are)
         ∙ ap (λ l. l ++ holder_sends s g) (drop_map (message_of g) n rest ∙ ap (λ i. drop i (map (message_of g) rest)) count_is ∙ ap (drop (length (holder_takes s g))) (sym rest_is))
 

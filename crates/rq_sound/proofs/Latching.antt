@@ -1,6 +1,6 @@
 -- A call can be planned exactly where it is not latched.
 use Rattle.std.proofs.Common.{◌≡◌, ◌||◌, ℕ, ◌+◌, ◌-◌, ◌/◌, ◌<◌, ◌≤◌, ◌++◌, ◌&&◌, ◌⊎◌, List, [], ◌∷◌, map, refl, sym, ◌∙◌, ap, subst, Bool, true, false, not, nat_lt, Option, Some, None, inl, inr, arith}
-use Rattle.std.proofs.lemmas.Bool.{and_from, and_parts, cases_Bool, cases_eq, cases_lt, eq-eqb, false≢true, lt-ltb, ltb-true, not-true, or_from, or_parts, true≢false}
+use Rattle.std.proofs.lemmas.Bool.{and_from, and_parts, cases_Bool, cases_eq, cases_lt, eq-eqb, false≢true, lt-ltb, ltb-true, not-true, or_from, or_parts, true≢false, not-false}
 use Rattle.rq_model.specs.declared.message.Message.{Message}
 use Rattle.rq_model.specs.declared.record.Deed.{Deed}
 use Rattle.rq_model.specs.declared.record.Deed.TheVariants.{Append, UnlinkHead, Close}
@@ -52,7 +52,7 @@ use Rattle.rq_store.proofs.Opens.{found_open, open_found}
 use Rattle.rq_sound.proofs.Lengths.{back_there, tail_there}
 use Rattle.rq_sound.proofs.Levels.{relinked_off}
 use Rattle.rq_sound.proofs.PlanFits.{above, is_put_back, is_unlink_tail, put_back_fits, unlink_tail_fits}
-use Rattle.rq_sound.proofs.Planned.{not_false, sent_last}
+use Rattle.rq_sound.proofs.Planned.{sent_last}
 use Rattle.rq_sound.proofs.UsedCells.{free_from}
 use Rattle.rq_sound.proofs.Waits.{gives_is, none_gives}
 
@@ -511,7 +511,7 @@ module _ (s : State) (k : IsSound s) where
     at (Some r) e = (r, e)
 
   known : (g : ℕ) → not (nat_lt g (sender_count z)) ≡ false → g < sender_count z
-  known g h = ltb-true g (sender_count z) (not_false (nat_lt g (sender_count z)) h)
+  known g h = ltb-true g (sender_count z) (not-false (nat_lt g (sender_count z)) h)
 
   abbrev Some_turn : Call → Type 0
   Some_turn c = (turn : Turn) × Begins s c turn × MayBePlanned s turn

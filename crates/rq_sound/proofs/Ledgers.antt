@@ -1,6 +1,7 @@
 -- What an abort makes of the ledger: it starts, each of its compensations ends, and it ends.
 use Rattle.std.proofs.Common.{◌≡◌, ◌≢◌, ℕ, List, [], ◌∷◌, ◌++◌, length, map, refl, sym, ◌∙◌, ap, cond, true, false, Some, inl, inr, arith}
 use Rattle.std.proofs.lemmas.Bool.{cases_Bool}
+use Rattle.std.proofs.lemmas.List.{map-append}
 use Rattle.rq_model.specs.declared.txn.Txn.{Txn}
 use Rattle.rq_model.specs.declared.record.Record.TheVariants.{AbortEnd}
 use Rattle.rq_model.proofs.Lists.{same_is, not_same}
@@ -14,7 +15,6 @@ use Rattle.rq_store.specs.State.{op_done, State, open_of, open_ones_of, ledger_o
 use Rattle.rq_txn.specs.Rows.{Under, Row, AreDistinct, found_row, change_row, without_row, row_aborting, row_undone}
 use Rattle.rq_store.proofs.RowLists.{found_in, unique, not_txn}
 use Rattle.rq_sound.specs.Rows.{comp_end}
-use Rattle.rq_store.proofs.Placed.{map_join}
 use Rattle.rq_store.proofs.Ends.{without_ends}
 use Rattle.rq_store.proofs.Owing.{one_longer}
 
@@ -67,7 +67,7 @@ pub undid_after : (s : State) (r : Row) (u : Under) (lsn cells : ℕ) (ws : List
     → ledger_of (record s { rows = change_row r.txn (row_undone fs) s.rows; records = comp_end r.txn u.number lsn ∷ s.records; cells_in_use = cells; waiting = ws }) ≡ after (Undid r.txn u.number) (ledger_of s)
 undid_after s r u lsn cells ws fs f distinct at_row under made newest =
     let none : left_under r.under ≡ 0 = ap left_under under ∙ omega (arith, made) in
-    let ops : map op_done fs ≡ front (map op_done r.finished) = sym (ap (λ (l : List Finished). front (map op_done l)) newest ∙ ap front (map_join op_done fs (f ∷ [])) ∙ front_push (map op_done fs) (op_done f)) in
+    let ops : map op_done fs ≡ front (map op_done r.finished) = sym (ap (λ (l : List Finished). front (map op_done l)) newest ∙ ap front (map-append op_done fs (f ∷ [])) ∙ front_push (map op_done fs) (op_done f)) in
     let own : open_of s.ends (row_undone fs r) ≡ undone (open_of s.ends r) =
     ap (λ (l : List Op). record (open_of s.ends (row_undone fs r)) { ops = l }) ops
     ∙ ap (λ (n : ℕ). record (undone (open_of s.ends r)) { left = n }) (sym none) in

@@ -1,6 +1,6 @@
 -- What is planned from the slots as they are may start.
-use Rattle.std.proofs.Common.{◌≡◌, ◌≢◌, ℕ, ◌+◌, ◌/◌, ◌<◌, ◌++◌, ◌||◌, List, [], ◌∷◌, length, reverse, refl, sym, ◌∙◌, ap, subst, Bool, true, false, not, nat_eq, nat_lt, Option, Some, arith}
-use Rattle.std.proofs.lemmas.Bool.{true≢false, false≢true, eq-eqb, ltb-true}
+use Rattle.std.proofs.Common.{◌≡◌, ◌≢◌, ℕ, ◌+◌, ◌/◌, ◌<◌, ◌++◌, ◌||◌, List, [], ◌∷◌, length, reverse, refl, sym, ◌∙◌, ap, subst, true, false, not, nat_eq, nat_lt, Option, Some, arith}
+use Rattle.std.proofs.lemmas.Bool.{true≢false, false≢true, eq-eqb, ltb-true, not-false}
 use Rattle.std.proofs.lemmas.List.{length-append, length-map}
 use Rattle.rq_model.specs.declared.txn.Txn.{Txn}
 use Rattle.rq_model.specs.declared.record.Deed.{Deed}
@@ -63,10 +63,6 @@ sent_last log t lsn g n tag previous body ps k e =
     let j = length-append x.0.messages ((tag, body) ∷ []) in
     let number : n ≡ x.0.received + length x.0.messages + 1 = x.2.1 in
     (omega (arith, m, r, j, number), omega (arith, m, j))
-
-pub not_false : (b : Bool) → not b ≡ false → b ≡ true
-not_false true e = refl
-not_false false e = absurd (true≢false e)
 
 module _ (s : State) (k : IsSound s) where
   abbrev q : Slots
@@ -182,7 +178,7 @@ module _ (s : State) (k : IsSound s) where
     forward h = sym (ap is_aborting at_open) ∙ h
 
     known : (g : ℕ) → not (nat_lt g (sender_count s.sizes)) ≡ false → g < sender_count s.sizes
-    known g h = ltb-true g (sender_count s.sizes) (not_false (nat_lt g (sender_count s.sizes)) h)
+    known g h = ltb-true g (sender_count s.sizes) (not-false (nat_lt g (sender_count s.sizes)) h)
 
     not_closed : (g : ℕ) → is_free_for r.txn g s.ends.sending ≡ true → (ended_in (committed_of s.records) g || has_closed g (found r.txn (ledger_of s).open_ones)) ≡ false → (viewed g).closed ≡ false
     not_closed g free h = answered.closed s g r k row free ∙ sym (ap (λ (o : Option Open). ended_in (committed_of s.records) g || has_closed g o) at_open) ∙ h
@@ -199,7 +195,7 @@ module _ (s : State) (k : IsSound s) where
       → Passes (size_of s.sizes) (ledger_of s) (start_of r.txn (job_of d)) → MayDo s r u d
   may_do r u (Append g n tag previous body) new p reads wait h =
       let below = known r new.idle g h.1.1.1.1.0 in
-      let free : is_free_for r.txn g s.ends.sending ≡ true = sym (free_is s k r.txn g) ∙ not_false _ h.1.1.1.1.1.1.0 in
+      let free : is_free_for r.txn g s.ends.sending ≡ true = sym (free_is s k r.txn g) ∙ not-false _ h.1.1.1.1.1.1.0 in
       let room = not_full r new.idle h.1.1.1.1.1.1.1.1.0 in
       record {
         planned = planned r u (aims.Doing (Append g n tag previous body)) (Did (Append g n tag previous body)) new (fits_deed u.writes (Append g n tag previous body) new.free below p);
@@ -221,14 +217,14 @@ module _ (s : State) (k : IsSound s) where
         forward = forward r new.idle h.1.1.0;
         sender = below;
         reads = reads;
-        end = sym (free_to_take s k r.txn g) ∙ not_false _ h.1.1.1.1.1.0;
+        end = sym (free_to_take s k r.txn g) ∙ not-false _ h.1.1.1.1.1.0;
         not_closed = λ e. absurd (false≢true e);
         waits = wait;
         room = omega (arith, bound);
       }
   may_do r u (Close g) new p reads wait h =
       let below = known r new.idle g h.1.1.1.1.0 in
-      let free : is_free_for r.txn g s.ends.sending ≡ true = sym (free_is s k r.txn g) ∙ not_false _ h.1.1.1.1.1.0 in
+      let free : is_free_for r.txn g s.ends.sending ≡ true = sym (free_is s k r.txn g) ∙ not-false _ h.1.1.1.1.1.0 in
       let bound = k.counted.bound in
       record {
         planned = planned r u (aims.Doing (Close g)) (Did (Close g)) new (fits_deed u.writes (Close g) new.free below p);

@@ -2,7 +2,7 @@
 use Rattle.std.proofs.Common.{◌≡◌, ℕ, ◌+◌, ◌-◌, ◌++◌, List, [], ◌∷◌, length, map, reverse, refl, sym, ◌∙◌, ap, false, Some, None, inl, inr, arith}
 use Rattle.std.specs.List.{sum_by, filter_map}
 use Rattle.std.proofs.lemmas.Bool.{cases_Bool, or_parts}
-use Rattle.std.proofs.lemmas.List.{length-map, length-reverse}
+use Rattle.std.proofs.lemmas.List.{length-map, length-reverse, map-append}
 use Rattle.std.proofs.lemmas.List.Sums.{sum_by-cons}
 use Rattle.rq_model.specs.declared.txn.Txn.{Txn}
 use Rattle.rq_model.specs.declared.record.Deed.{Deed}
@@ -31,7 +31,7 @@ use Rattle.rq_txn.specs.Rows.{Under, Row, AreDistinct, found_row, change_row, ro
 use Rattle.rq_txn.specs.declared.Aim.TheVariants.{Undoing}
 use Rattle.rq_store.proofs.RowLists.{found_in, unique}
 use Rattle.rq_sound.specs.Sound.{IsSound}
-use Rattle.rq_store.proofs.Placed.{told_placed, map_join}
+use Rattle.rq_store.proofs.Placed.{told_placed}
 use Rattle.rq_store.proofs.Opens.{found_open, open_found}
 use Rattle.rq_sound.proofs.Ledgers.{opens_change}
 use Rattle.rq_sound.proofs.Lengths.{inverse_writes, inverse_length}
@@ -105,7 +105,7 @@ module _ (s : State) (k : IsSound s) (r : Row) (u : Under) (fs : List Finished) 
 
   left_is : length u.writes - u.made ≡ left
   left_is =
-      let a : last (ops_of (found r.txn (open_ones_of s.ends s.rows))) ≡ Some (op_done f) = ap (λ o. last (ops_of o)) (found_open s.ends r.txn s.rows ∙ ap (open_found s.ends) at_row) ∙ ap (λ (l : List Finished). last (map op_done l)) newest ∙ ap last (map_join op_done fs (f ∷ [])) ∙ last_push (map op_done fs) (op_done f) in
+      let a : last (ops_of (found r.txn (open_ones_of s.ends s.rows))) ≡ Some (op_done f) = ap (λ o. last (ops_of o)) (found_open s.ends r.txn s.rows ∙ ap (open_found s.ends) at_row) ∙ ap (λ (l : List Finished). last (map op_done l)) newest ∙ ap last (map-append op_done fs (f ∷ [])) ∙ last_push (map op_done fs) (op_done f) in
       let b : left ≡ inverse_writes f.deed (in_chain (ledger_of s) (deed_sender f.deed)) = ap (undo_writes (ledger_of s)) a ∙ writes_is (ledger_of s) f.deed in
       let c : inverse_writes f.deed (in_chain (ledger_of s) (deed_sender f.deed)) ≡ inverse_writes f.deed (length (view (items s.sizes s.records) (deed_sender f.deed)).messages) = ap (inverse_writes f.deed) (chain_is s k (deed_sender f.deed)) in
       let d = inverse_length (layout_of s.sizes) (left_by s.sizes s.records).slots (reverse (writes_of s.sizes u.writes)) f.deed (view (items s.sizes s.records) (deed_sender f.deed)) plan fits shows in

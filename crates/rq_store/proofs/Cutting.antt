@@ -1,7 +1,7 @@
 -- What is so of a log is so of its first records, and pages that fit these fit all of them.
 use Rattle.std.proofs.Common.{◌≡◌, ℕ, zero, suc, ◌+◌, ◌-◌, ◌≤◌, List, [], ◌∷◌, length, drop, sym, ◌∙◌, ap, subst, inl, inr, arith}
 use Rattle.std.proofs.lemmas.Bool.{cases_lt}
-use Rattle.std.proofs.lemmas.List.{drop_all}
+use Rattle.std.proofs.lemmas.List.{drop_all, drop-drop}
 use Rattle.rq_model.specs.declared.record.Record.{Record}
 use Rattle.rq_page.specs.Sizes.{Sizes}
 use Rattle.rq_page.specs.Pages.{lsn_of}
@@ -29,17 +29,11 @@ whole_dropped z zero log w = w
 whole_dropped z (suc n) [] w = w
 whole_dropped z (suc n) (r ∷ log) w = whole_dropped z n log (whole_older z r log w)
 
-drop_both : {X : Type 0} (m n : ℕ) (xs : List X) → drop m (drop n xs) ≡ drop (n + m) xs
-drop_both m zero xs = let e : m ≡ 0 + m = omega arith in ap (λ k. drop k xs) e
-drop_both zero (suc n) [] = let e : suc n ≡ suc n + 0 = omega arith in ap (λ k. drop k []) e
-drop_both (suc m) (suc n) [] = let e : suc (n + suc m) ≡ suc n + suc m = omega arith in ap (λ k. drop k []) e
-drop_both {X} m (suc n) (x ∷ xs) = let e : suc (n + m) ≡ suc n + m = omega arith in drop_both m n xs ∙ ap (λ k. drop {A = X} k (x ∷ xs)) e
-
 -- of two beginnings of a log, the longer one goes on from the shorter one
 pub longer_continues : (lost kept : ℕ) (log : List Record) → lost + kept ≤ length log → Continues (oldest kept log) (drop lost log)
 longer_continues lost kept log h = (
   length log - kept - lost,
-  drop_both (length log - kept - lost) lost log ∙ (let e : lost + (length log - kept - lost) ≡ length log - kept = omega (arith, h) in ap (λ n. drop n log) e),
+  drop-drop (length log - kept - lost) lost log ∙ (let e : lost + (length log - kept - lost) ≡ length log - kept = omega (arith, h) in ap (λ n. drop n log) e),
 )
 
 drop_length : {X : Type 0} (n : ℕ) (xs : List X) → length (drop n xs) ≡ length xs - n
@@ -57,9 +51,9 @@ oldest_continues few many older newer c short order long = elim (cases_lt (lengt
   | inr some ↦
       let was : length older ≡ length newer - c.0 = sym (ap length c.1) ∙ drop_length c.0 newer in (
         many - few,
-        drop_both (many - few) (length newer - many) newer
+        drop-drop (many - few) (length newer - many) newer
             ∙ (let e : length newer - many + (many - few) ≡ c.0 + (length older - few) = omega (arith, was, short, order, long, some) in ap (λ n. drop n newer) e)
-            ∙ sym (drop_both (length older - few) c.0 newer)
+            ∙ sym (drop-drop (length older - few) c.0 newer)
             ∙ ap (drop (length older - few)) c.1,
       )
 ]
@@ -84,7 +78,7 @@ pub page_fits_oldest : (z : Sizes) (p kept : ℕ) (image : List ℕ) (log : List
 page_fits_oldest z p kept image log low high f =
     let count : length (oldest kept log) ≡ kept = drop_length (length log - kept) log ∙ omega (arith, high) in
     let same : oldest (lsn_of image) (oldest kept log) ≡ oldest (lsn_of image) log =
-    drop_both (length (oldest kept log) - lsn_of image) (length log - kept) log
+    drop-drop (length (oldest kept log) - lsn_of image) (length log - kept) log
     ∙ (let e : length log - kept + (length (oldest kept log) - lsn_of image) ≡ length log - lsn_of image = omega (arith, count, low, high) in ap (λ n. drop n log) e)
     in
     record {

@@ -3,7 +3,7 @@ use Rattle.std.proofs.Common.{◌≡◌, ℕ, zero, suc, ◌+◌, ◌<◌, ◌�
 use Rattle.std.specs.List.{filter}
 use Rattle.std.specs.Prelude.{slice_index_or}
 use Rattle.std.proofs.lemmas.Bool.{cases_Bool, true≢false, false≢true, or_parts, or_from, and_parts, and_left, and_right, eqb-true, not-false, cases_eq}
-use Rattle.std.proofs.lemmas.List.{length-append, length-map}
+use Rattle.std.proofs.lemmas.List.{length-append, length-map, map-append}
 use Rattle.std.proofs.lemmas.List.Sums.{length-filter, count_by-le-length}
 use Rattle.rq_model.specs.declared.txn.Txn.{Txn}
 use Rattle.rq_model.specs.declared.txn.Sub.{Sub}
@@ -50,7 +50,6 @@ use Rattle.rq_store.specs.Opening.{next_restart, opened, messages_told, waiting_
 use Rattle.rq_store.specs.Sends.{KeepsSends}
 use Rattle.rq_store.proofs.Within.{all_within}
 use Rattle.rq_store.proofs.Grouping.{groups_of}
-use Rattle.rq_store.proofs.Placed.{map_join}
 
 -- the item of a record ends the operations that the record ends
 ends_operation : (z : Sizes) (t : Txn) (n : ℕ) (r : Record) → operation_ended t n r ≡ (is_end (item_of z r) && is_of (operation t n) (of_op (item_of z r)))
@@ -283,7 +282,7 @@ count_bound z q =
 told_below : (f : ℕ → ℕ) (n g : ℕ) → g < n → slice_index_or (map f (below n)) g 0 ≡ f g
 told_below f zero g m = absurd (omega (arith, m))
 told_below f (suc n) g m =
-    let a = map_join f (below n) (n ∷ []) in
+    let a = map-append f (below n) (n ∷ []) in
     let b : length (map f (below n)) ≡ n = length-map (below n) f ∙ length_below n in
     elim (cases_eq g n) [
       | inl e ↦ ap (λ l. slice_index_or l g 0) a ∙ ap (λ i. slice_index_or (map f (below n) ++ f n ∷ []) i 0) (e ∙ sym b) ∙ read_end (map f (below n)) (f n) ∙ ap f (sym e)

@@ -1,7 +1,7 @@
 -- What is finished, the newest first: one more, and what it tells.
 use Rattle.std.proofs.Common.{◌≡◌, List, [], ◌∷◌, ◌++◌, map, reverse, refl, sym, ◌∙◌, ap, inl, inr, arith, length, cond}
 use Rattle.std.proofs.lemmas.Bool.{cases_Bool}
-use Rattle.std.proofs.lemmas.List.{reverse-append}
+use Rattle.std.proofs.lemmas.List.{reverse-append, map-append}
 use Rattle.rq_model.specs.declared.record.Deed.{Deed}
 use Rattle.rq_model.specs.declared.record.Deed.TheVariants.{Append, UnlinkHead, Close}
 use Rattle.rq_model.specs.Content.{said, Said}
@@ -17,13 +17,9 @@ use Rattle.rq_views.specs.Claims.{takes_placed, takes_of}
 use Rattle.rq_model.specs.Counts.{is_taken}
 use Rattle.rq_model.specs.Commits.{op_of, ops_told}
 
-pub map_join : {X Y : Type 0} (g : X → Y) (xs ys : List X) → map g (xs ++ ys) ≡ map g xs ++ map g ys
-map_join g [] ys = refl
-map_join g (x ∷ xs) ys = ap (λ l. g x ∷ l) (map_join g xs ys)
-
 -- the last of what is finished is the newest
 pub placed_more : (fs : List Finished) (f : Finished) → placed (fs ++ f ∷ []) ≡ placed_one f ∷ placed fs
-placed_more fs f = ap reverse (map_join placed_one fs (f ∷ [])) ∙ reverse-append (map placed_one fs) (placed_one f ∷ [])
+placed_more fs f = ap reverse (map-append placed_one fs (f ∷ [])) ∙ reverse-append (map placed_one fs) (placed_one f ∷ [])
 
 pub placed_first : (f : Finished) (fs : List Finished) → placed (f ∷ fs) ≡ placed fs ++ placed_one f ∷ []
 placed_first f fs = reverse-append (placed_one f ∷ []) (map placed_one fs)

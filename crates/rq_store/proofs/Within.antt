@@ -1,6 +1,6 @@
 -- Every commit of a log stands in it.
-use Rattle.std.proofs.Common.{◌≡◌, ℕ, ◌+◌, ◌<◌, ◌≤◌, inl, inr, List, [], ◌∷◌, ◌++◌, length, refl, false, nat_lt, arith}
-use Rattle.std.proofs.lemmas.Bool.{cases_Bool, ltb-true}
+use Rattle.std.proofs.Common.{◌≡◌, ℕ, ◌+◌, ◌≤◌, List, [], ◌∷◌, ◌++◌, length, refl, false, nat_lt, arith}
+use Rattle.std.proofs.lemmas.Bool.{le-ltb}
 use Rattle.std.proofs.lemmas.List.{length-append}
 use Rattle.rq_model.specs.declared.record.Record.{Record}
 use Rattle.rq_model.specs.declared.record.Record.TheVariants as records
@@ -11,15 +11,12 @@ kept_last : (n : ℕ) (c : List Done) (d : Done) → nat_lt n d.lsn ≡ false �
 kept_last n [] d e = rw e refl
 kept_last n (x ∷ c) d e = let h = kept_last n c d e in omega (arith, h)
 
-not_less : (a b : ℕ) → b ≤ a → nat_lt a b ≡ false
-not_less a b h = elim (cases_Bool (nat_lt a b)) [ inl y ↦ let c : a < b = ltb-true a b y in absurd (omega (arith, c, h)) | inr n ↦ n ]
-
 -- every commit stands in the log
 pub all_within : (log : List Record) (n : ℕ) → length log ≤ n → kept_in n (committed_of log) ≡ length (committed_of log)
 all_within [] n h = refl
 all_within (records.Commit t ∷ log) n h =
     let d : Done = record { txn = t; lsn = length log + 1; ops = told t log } in
-    let a = kept_last n (committed_of log) d (not_less n (length log + 1) (omega arith)) in
+    let a = kept_last n (committed_of log) d (le-ltb n (length log + 1) (omega arith)) in
     let b = all_within log n (omega arith) in
     let c = length-append (committed_of log) (d ∷ []) in
     omega (arith, a, b, c)

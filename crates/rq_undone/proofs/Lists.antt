@@ -1,7 +1,7 @@
 -- Lists: what is left out, and what is put in.
 use Rattle.std.proofs.Common.{◌≡◌, ◌<◌, ◌≤◌, Bool, true, false, not, List, [], ◌∷◌, ◌++◌, length, ◌⊎◌, ◌||◌, inl, inr, refl, sym, ◌∙◌, ap, subst, arith}
 use Rattle.std.specs.List.{filter}
-use Rattle.std.proofs.lemmas.Bool.{cases_Bool, true≢false, false≢true, false_from_ne_true, or_cases, or_left}
+use Rattle.std.proofs.lemmas.Bool.{cases_Bool, true≢false, false≢true, false_from_ne_true, or_cases, or_left, not-true}
 use Rattle.rq_model.specs.declared.txn.Sub.{Sub}
 use Rattle.rq_model.specs.Words.{In}
 use Rattle.rq_model.proofs.Lists.{In-filter}
@@ -10,10 +10,6 @@ use Rattle.rq_views.proofs.Overlay.{same_is, same_self}
 use Rattle.rq_undone.specs.declared.history.Spot.{Spot}
 use Rattle.rq_undone.specs.Analysis.{spot_of, has_sub, with_sub, without_sub, without_newest, without_spots}
 use Rattle.rq_undone.specs.Pages.{any_spot}
-
-pub not_not : (b : Bool) → not b ≡ true → b ≡ false
-not_not true e = absurd (false≢true e)
-not_not false e = refl
 
 pub op_other : (a b : Sub) → same_op a b ≡ false → same_op b a ≡ false
 op_other a b n = false_from_ne_true (same_op b a) (λ e. false≢true (sym n ∙ ap (λ x. same_op a x) (same_is b a e) ∙ same_self a))
@@ -71,7 +67,7 @@ with_in o os x h = elim (cases_Bool (has_sub o os)) [
 ]
 
 pub in_without : (o : Sub) (os : List Sub) (x : Sub) → In x (without_sub o os) → In x os × (same_op o x ≡ false)
-in_without o os x h = let k = In-filter (λ u. not (same_op o u)) os x h in (k.0, not_not (same_op o x) k.1)
+in_without o os x h = let k = In-filter (λ u. not (same_op o u)) os x h in (k.0, not-true (same_op o x) k.1)
 
 pub without_in : (o : Sub) (os : List Sub) (x : Sub) → In x os → same_op o x ≡ false → In x (without_sub o os)
 without_in o os x h e = filter_in (λ u. not (same_op o u)) os x h (ap not e)
@@ -85,7 +81,7 @@ in_newest o (p ∷ ps) x h = elim (cases_Bool (spot_of o p)) [
 ]
 
 pub in_spots : (o : Sub) (ps : List Spot) (x : Spot) → In x (without_spots o ps) → In x ps × (spot_of o x ≡ false)
-in_spots o ps x h = let k = In-filter (λ p. not (spot_of o p)) ps x h in (k.0, not_not (spot_of o x) k.1)
+in_spots o ps x h = let k = In-filter (λ p. not (spot_of o p)) ps x h in (k.0, not-true (spot_of o x) k.1)
 
 pub own_newest : (o : Sub) (ps : List Spot) → filter (spot_of o) (without_newest o ps) ≡ rest (filter (spot_of o) ps)
 own_newest o [] = refl

@@ -4,6 +4,7 @@ use Rattle.std.specs.List.{filter, list_any}
 use Rattle.std.proofs.lemmas.Bool.{cases_Bool, true≢false, and_parts, eqb-true}
 use Rattle.std.specs.Prelude.{map}
 use Rattle.std.proofs.lemmas.List.{map-append}
+use Rattle.std.proofs.Math.Bool.{or-false}
 use Rattle.rq_views.specs.Log.{same_op}
 use Rattle.rq_model.specs.declared.txn.Sub.{Sub}
 use Rattle.rq_model.specs.declared.txn.Txn.{Txn}
@@ -126,10 +127,6 @@ noted_unfinished z (records.Commit t ∷ log) k = noted_unfinished z log k.1
 noted_unfinished z (records.AbortEnd t ∷ log) k = noted_unfinished z log k.1
 noted_unfinished z (records.Restart i ∷ log) k = noted_unfinished z log k.1
 
-or_none : (b : Bool) → (b || false) ≡ b
-or_none true = refl
-or_none false = refl
-
 filter_same : {X : Type 0} (f g : X → Bool) (xs : List X) → ((x : X) → f x ≡ g x) → filter f xs ≡ filter g xs
 filter_same f g xs h = let e : f ≡ g = λ i. λ x. h x i in ap (λ k. filter k xs) e
 
@@ -149,7 +146,7 @@ noted_working z (records.CompEnd t n undone ∷ log) k r = noted_working z log k
 noted_working z (records.Commit t ∷ log) k r =
     ap (without_txn t) (noted_working z log k.1 r.1)
     ∙ sym (filter_twice (λ u. same_txn t u) (λ u. has_end log u) (workers log))
-    ∙ filter_same (λ u. not (same_txn t u || has_end log u)) (λ u. not ((same_txn t u || false) || has_end log u)) (workers log) (λ u. ap (λ b. not (b || has_end log u)) (sym (or_none (same_txn t u))))
+    ∙ filter_same (λ u. not (same_txn t u || has_end log u)) (λ u. not ((same_txn t u || false) || has_end log u)) (workers log) (λ u. ap (λ b. not (b || has_end log u)) (sym (or-false (same_txn t u))))
 noted_working z (records.AbortEnd t ∷ log) k r = ap (without_txn t) (noted_working z log k.1 r.1) ∙ sym (filter_twice (λ u. same_txn t u) (λ u. has_end log u) (workers log))
 noted_working z (records.Restart i ∷ log) k r = noted_working z log k.1 r.1
 

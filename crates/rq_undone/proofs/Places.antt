@@ -4,16 +4,13 @@ use Rattle.std.specs.List.{filter}
 use Rattle.std.proofs.Math.Seq.{split_at}
 use Rattle.std.proofs.lemmas.Bool.{cases_Bool, or_parts}
 use Rattle.std.proofs.lemmas.List.{reverse-append}
+use Rattle.std.proofs.lemmas.List.Elements.{filter-append}
 use Rattle.rq_model.specs.declared.txn.Sub.{Sub}
 use Rattle.rq_model.specs.Words.{first}
 use Rattle.rq_undone.specs.declared.history.Spot.{Spot}
 use Rattle.rq_undone.specs.Analysis.{Analysis, spot_of, without_newest}
 use Rattle.rq_undone.specs.Pages.{any_spot}
 use Rattle.rq_undone.proofs.Lists.{none_own}
-
-filter_behind : {X : Type 0} (f : X → Bool) (xs ys : List X) → filter f (xs ++ ys) ≡ filter f xs ++ filter f ys
-filter_behind f [] ys = refl
-filter_behind f (x ∷ xs) ys = elim (cases_Bool (f x)) [ inl y ↦ rw y (ap (λ l. x ∷ l) (filter_behind f xs ys)) | inr n ↦ rw n (filter_behind f xs ys) ]
 
 with_nothing : {X : Type 0} (ys : List X) → ys ≡ ys ++ []
 with_nothing [] = refl
@@ -22,7 +19,7 @@ with_nothing (y ∷ ys) = ap (λ l. y ∷ l) (with_nothing ys)
 pub filter_reverse : {X : Type 0} (f : X → Bool) (xs : List X) → reverse (filter f xs) ≡ filter f (reverse xs)
 filter_reverse f [] = refl
 filter_reverse f (x ∷ xs) =
-    let e : filter f (reverse (x ∷ xs)) ≡ filter f (reverse xs) ++ filter f (x ∷ []) = ap (filter f) (reverse-append (x ∷ []) xs) ∙ filter_behind f (reverse xs) (x ∷ []) in
+    let e : filter f (reverse (x ∷ xs)) ≡ filter f (reverse xs) ++ filter f (x ∷ []) = ap (filter f) (reverse-append (x ∷ []) xs) ∙ filter-append f (reverse xs) (x ∷ []) in
     elim (cases_Bool (f x)) [
       | inl y ↦ let one : filter f (x ∷ []) ≡ x ∷ [] = rw y refl in rw y (reverse-append (x ∷ []) (filter f xs) ∙ ap (λ l. l ++ x ∷ []) (filter_reverse f xs) ∙ ap (λ l. filter f (reverse xs) ++ l) (sym one) ∙ sym e)
       | inr n ↦ let one : filter f (x ∷ []) ≡ [] = rw n refl in rw n (filter_reverse f xs ∙ with_nothing (filter f (reverse xs)) ∙ ap (λ l. filter f (reverse xs) ++ l) (sym one) ∙ sym e)

@@ -1,7 +1,7 @@
 -- The open deeds of all transactions in one list.
 use Rattle.std.proofs.Common.{◌≡◌, ℕ, ◌+◌, Bool, true, false, not, cond, List, [], ◌∷◌, length, map, refl, sym, ◌∙◌, ap, subst, inl, inr, arith, ◌≤◌}
 use Rattle.std.specs.List.{filter, sum_by}
-use Rattle.std.proofs.lemmas.Bool.{cases_Bool, false≢true}
+use Rattle.std.proofs.lemmas.Bool.{cases_Bool, false≢true, not-true}
 use Rattle.std.proofs.lemmas.List.Sums.{sum_by-cons}
 use Rattle.rq_model.specs.declared.txn.Txn.{Txn}
 use Rattle.rq_model.specs.Words.{In, same_txn}
@@ -77,12 +77,8 @@ other_but_all f g (y ∷ xs) h = elim (cases_Bool (g y)) [
   ]
 ]
 
-not_not : (b : Bool) → not b ≡ true → b ≡ false
-not_not true e = absurd (false≢true e)
-not_not false e = refl
-
 pub in_but_all : {X : Type 0} (f : X → Bool) (xs : List X) (x : X) → In x (but_all f xs) → In x xs × (f x ≡ false)
-in_but_all f xs x h = let k = In-filter (λ y. not (f y)) xs x h in (k.0, not_not (f x) k.1)
+in_but_all f xs x h = let k = In-filter (λ y. not (f y)) xs x h in (k.0, not-true (f x) k.1)
 
 filter_in : {X : Type 0} (p : X → Bool) (xs : List X) (x : X) → In x xs → p x ≡ true → In x (filter p xs)
 filter_in p [] x h k = absurd h

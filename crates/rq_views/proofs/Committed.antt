@@ -1,7 +1,8 @@
 -- What a transaction's own deeds make of a group, and of a view of it.
-use Rattle.std.proofs.Common.{◌≡◌, ℕ, zero, suc, ◌+◌, ◌-◌, ◌≤◌, List, [], ◌∷◌, ◌++◌, length, map, drop, refl, sym, ◌∙◌, ap, subst, Bool, true, false, cond, append_assoc, inl, inr, arith, ◌||◌, nat_eq}
-use Rattle.std.proofs.lemmas.List.{append-nil, length-append, drop-drop, drop-append-le, length-map, length-drop}
+use Rattle.std.proofs.Common.{◌≡◌, ℕ, zero, suc, ◌+◌, ◌-◌, ◌≤◌, List, [], ◌∷◌, ◌++◌, length, map, drop, refl, sym, ◌∙◌, ap, subst, Bool, true, cond, append_assoc, inl, inr, arith, ◌||◌, nat_eq}
+use Rattle.std.proofs.lemmas.List.{append-nil, length-append, drop-drop, drop-append-le, length-map, length-drop, map_push, map-append}
 use Rattle.std.proofs.lemmas.Bool.{cases_Bool, eqb-true}
+use Rattle.std.proofs.Math.Bool.{or_comm}
 use Rattle.rq_model.specs.declared.message.Message.{Message}
 use Rattle.rq_model.specs.declared.record.Deed.{Deed}
 use Rattle.rq_model.specs.declared.record.Deed.TheVariants.{Append, UnlinkHead, Close}
@@ -30,10 +31,6 @@ tag_more : (tag : ℕ) (ms : List Message) (m : Message) → tag_after tag (ms +
 tag_more tag [] m = refl
 tag_more tag (x ∷ xs) m = ap (λ (y : Message). y.tag) (last_is x xs m)
 
-map_more : {X Y : Type 0} (f : X → Y) (xs : List X) (x : X) → map f (xs ++ x ∷ []) ≡ map f xs ++ f x ∷ []
-map_more f [] x = refl
-map_more f (y ∷ xs) x = ap (λ l. f y ∷ l) (map_more f xs x)
-
 view_is : (a b : Bool) (c d : ℕ) (e f : ℕ) (x y : List (ℕ × List ℕ)) → a ≡ b → c ≡ d → e ≡ f → x ≡ y → ◌≡◌ {A = View} (record { closed = a; received = c; last_tag = e; messages = x }) (record { closed = b; received = d; last_tag = f; messages = y })
 view_is a b c d e f x y p q r t = cc
 
@@ -45,7 +42,7 @@ sends_one : (s : ℕ) (d : Deed) (x : Said) (ds : List Said) (more : List Deed) 
 sends_one s (Append r n tag previous body) x ds more v e h = rw e (elim (cases_Bool (nat_eq r s)) [
   | inl y ↦ rw y (ap (λ (w : View). record { closed = w.closed; received = w.received; last_tag = tag; messages = w.messages ++ (tag, body) ∷ [] }) h
       ∙ view_is _ _ _ _ _ _ _ _ refl refl (sym (tag_more v.last_tag (added s ds) (record { sender = r; tag = tag; body = body })))
-      (append_assoc v.messages (map pair (added s ds)) ((tag, body) ∷ []) ∙ ap (λ l. v.messages ++ l) (sym (map_more pair (added s ds) (record { sender = r; tag = tag; body = body })))))
+      (append_assoc v.messages (map pair (added s ds)) ((tag, body) ∷ []) ∙ ap (λ l. v.messages ++ l) (sym (map_push pair (added s ds) (record { sender = r; tag = tag; body = body })))))
   | inr y ↦ rw y h
 ])
 sends_one s (UnlinkHead r n tag body) x ds more v e h = rw e h
@@ -100,20 +97,10 @@ messages_are : (s : ℕ) (ms : List Message) → Ours s ms → map (message_of s
 messages_are s [] o = refl
 messages_are s (m ∷ ms) o = ap (λ x. x ∷ map (message_of s) (map pair ms)) (message_is s m o.0) ∙ ap (λ l. m ∷ l) (messages_are s ms o.1)
 
-map_join : {X Y : Type 0} (f : X → Y) (xs ys : List X) → map f (xs ++ ys) ≡ map f xs ++ map f ys
-map_join f [] ys = refl
-map_join f (x ∷ xs) ys = ap (λ l. f x ∷ l) (map_join f xs ys)
-
 map_drop : {X Y : Type 0} (f : X → Y) (k : ℕ) (xs : List X) → map f (drop k xs) ≡ drop k (map f xs)
 map_drop f zero xs = refl
 map_drop f (suc k) [] = refl
 map_drop f (suc k) (x ∷ xs) = map_drop f k xs
-
-or_turn : (a b : Bool) → (a || b) ≡ (b || a)
-or_turn true true = refl
-or_turn true false = refl
-or_turn false true = refl
-or_turn false false = refl
 
 -- a commit of these deeds keeps the view that of the group, where no more was taken than there was
 pub committed_own : (s : ℕ) (ps : List Placed) (g : Group) (v : View) → IsViewOf s g v → removed s (say ps) ≤ length v.messages
@@ -122,7 +109,7 @@ committed_own s ps g v h le =
     let ds = say ps in
     let form : with_all (side (on_sending_end s) ps) (with_all (side (on_receiving_end s) ps) v) ≡ sent_view s ds (taken_view s ds v) = sends_form s ps (with_all (side (on_receiving_end s) ps) v) ∙ ap (sent_view s ds) (takes_form s ps v) in
     subst (IsViewOf s (with_own s ds g)) (sym form) (record {
-      closed = ap (λ b. closed s ds || b) h.closed ∙ or_turn (closed s ds) g.closed;
+      closed = ap (λ b. closed s ds || b) h.closed ∙ or_comm (closed s ds) g.closed;
       received = ap (λ n. n + removed s ds) h.received;
       sent = let a = h.sent in
           let l : length (drop (removed s ds) v.messages ++ map pair (added s ds)) ≡ length (drop (removed s ds) v.messages) + length (map pair (added s ds)) = length-append (drop (removed s ds) v.messages) (map pair (added s ds)) in
@@ -136,5 +123,5 @@ committed_own s ps g v h le =
           ∙ ap (λ l. drop (removed s ds) l ++ added s ds) h.rest
           ∙ ap (λ l. l ++ added s ds) (sym (map_drop (message_of s) (removed s ds) v.messages))
           ∙ ap (λ l. map (message_of s) (drop (removed s ds) v.messages) ++ l) (sym (messages_are s (added s ds) (added_ours s ds)))
-          ∙ sym (map_join (message_of s) (drop (removed s ds) v.messages) (map pair (added s ds)));
+          ∙ sym (map-append (message_of s) (drop (removed s ds) v.messages) (map pair (added s ds)));
     })

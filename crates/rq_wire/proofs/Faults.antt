@@ -2,6 +2,7 @@
 use Rattle.std.proofs.Common.{◌≡◌, ◌≢◌, ◌⊎◌, ℕ, ◌+◌, ◌-◌, ◌<◌, ◌≤◌, Bool, true, false, List, length, take, drop, refl, sym, ap, ◌∙◌, arith, inl, inr, ⊎_elim}
 use Rattle.std.specs.Prelude.{nat_lt, slice_index, Option, Some, None}
 use Rattle.std.proofs.lemmas.Bool.Decides.{nat_tests}
+use Rattle.std.proofs.lemmas.Bool.{ltb-false, le-ltb}
 use Rattle.rq_bytes.specs.Number.{AreBytes}
 use Rattle.rq_wire.specs.declared.request.Request.{Request}
 use Rattle.rq_wire.specs.declared.look.Front.{Front}
@@ -9,7 +10,7 @@ use Rattle.rq_wire.specs.declared.look.Front.TheVariants.{Frame, Fault, More}
 use Rattle.rq_wire.specs.Looks.{pick, is_size, is_kind, whole_frame, request_in, looks}
 use Rattle.rq_wire.specs.Spelling.{spelled}
 use Rattle.rq_wire.specs.Faults.{HasBadLength, HasBadKind, HasBadFields, IsNoRequest, IsFault, FaultsAreTold, MoreIsAwaited}
-use Rattle.rq_wire.proofs.Fronts.{lt_no, no_lt, size, behind}
+use Rattle.rq_wire.proofs.Fronts.{size, behind}
 use Rattle.rq_wire.proofs.Spells.{spelled_is_read, read_is_spelled}
 
 abbrev Causes : (s v b k c : Bool) → Type 0
@@ -81,12 +82,12 @@ module _ (bytes : List ℕ) where
 
   told : looks bytes ≡ Fault → IsFault bytes
   told e = ⊎_elim
-      (λ (h : (short ≡ false) × (sized ≡ false)). inl (lt_no (length bytes) 2 h.0, no_size (size bytes) h.1))
+      (λ (h : (short ≡ false) × (sized ≡ false)). inl (ltb-false (length bytes) 2 h.0, no_size (size bytes) h.1))
       (λ (h : ((bare ≡ false) × (known ≡ false)) ⊎ ((short ≡ false) × (cut ≡ false))).
       ⊎_elim
-      (λ (i : (bare ≡ false) × (known ≡ false)). inr (inl (lt_no (length bytes) 3 i.0, no_kind (slice_index bytes 2) i.1)))
+      (λ (i : (bare ≡ false) × (known ≡ false)). inr (inl (ltb-false (length bytes) 3 i.0, no_kind (slice_index bytes 2) i.1)))
       (λ (i : (short ≡ false) × (cut ≡ false)).
-      inr (inr (lt_no (length bytes) (2 + size bytes) i.1, none_there Fault e (λ r n q. absurd (cc)))))
+      inr (inr (ltb-false (length bytes) (2 + size bytes) i.1, none_there Fault e (λ r n q. absurd (cc)))))
       h)
       (causes short sized bare known cut (behind bytes) e)
 
@@ -94,9 +95,9 @@ module _ (bytes : List ℕ) where
   not_more : 2 + size bytes ≤ length bytes → looks bytes ≢ More
   not_more all =
       no_more short sized bare known cut (behind bytes)
-      (no_lt (length bytes) 2 (omega (arith, all)))
-      (λ v. let some = a_size (size bytes) v in no_lt (length bytes) 3 (omega (arith, all, some)))
-      (no_lt (length bytes) (2 + size bytes) all)
+      (le-ltb (length bytes) 2 (omega (arith, all)))
+      (λ v. let some = a_size (size bytes) v in le-ltb (length bytes) 3 (omega (arith, all, some)))
+      (le-ltb (length bytes) (2 + size bytes) all)
       (whole_is_no_more (request_in (slice_index bytes 2) (take (size bytes - 1) (drop 3 bytes))) (2 + size bytes))
 
   module _ (are : AreBytes bytes) where
@@ -109,12 +110,12 @@ module _ (bytes : List ℕ) where
     faulty : IsFault bytes → looks bytes ≡ Fault
     faulty h = ⊎_elim
         (λ (i : HasBadLength bytes).
-        by_length short sized bare known cut (behind bytes) (no_lt (length bytes) 2 i.0) (is_no_size (size bytes) i.1))
+        by_length short sized bare known cut (behind bytes) (le-ltb (length bytes) 2 i.0) (is_no_size (size bytes) i.1))
         (λ (i : HasBadKind bytes ⊎ HasBadFields bytes).
         ⊎_elim
         (λ (j : HasBadKind bytes).
-        by_kind short sized bare known cut (behind bytes) (let l = j.0 in no_lt (length bytes) 2 (omega (arith, l)))
-        (no_lt (length bytes) 3 j.0) (is_no_kind (slice_index bytes 2) j.1))
+        by_kind short sized bare known cut (behind bytes) (let l = j.0 in le-ltb (length bytes) 2 (omega (arith, l)))
+        (le-ltb (length bytes) 3 j.0) (is_no_kind (slice_index bytes 2) j.1))
         (λ (j : HasBadFields bytes). neither (looks bytes) refl (not_more j.0) j.1)
         i)
         h

@@ -1,8 +1,8 @@
 -- A frame or a fault that stands at the front stays there when bytes come behind it.
 use Rattle.std.proofs.Common.{◌≡◌, ℕ, ◌+◌, ◌-◌, ◌<◌, ◌≤◌, Bool, true, false, List, [], ◌∷◌, ◌++◌, length, take, drop, refl, sym, ap, ◌∙◌, subst, arith, length-append}
 use Rattle.std.specs.Prelude.{nat_lt, slice_index, Option, Some, None}
-use Rattle.std.proofs.lemmas.Bool.Decides.{nat_tests}
 use Rattle.std.proofs.lemmas.List.{take-append-le, drop-append-le, length-drop}
+use Rattle.std.proofs.lemmas.Bool.{ltb-false, le-ltb}
 use Rattle.byteorder.specs.Numbers.{big_from-append}
 use Rattle.rq_bytes.specs.Number.{number_at}
 use Rattle.rq_wire.specs.declared.request.Request.{Request}
@@ -73,19 +73,13 @@ whole_size : (o : Option Request) (size : ℕ) (r : Request) (n : ℕ) → whole
 whole_size None size r n e = cc e
 whole_size (Some q) size r n e = cc e
 
-pub lt_no : (a b : ℕ) → nat_lt a b ≡ false → b ≤ a
-lt_no a b e = grind (arith, nat_tests)
-
-pub no_lt : (a b : ℕ) → b ≤ a → nat_lt a b ≡ false
-no_lt a b le = grind (arith, nat_tests)
-
 -- a frame is some bytes, and within what there is
 pub frame_fits : (bytes : List ℕ) (r : Request) (n : ℕ) → looks bytes ≡ Frame r n → (0 < n) × (n ≤ length bytes)
 frame_fits bytes r n e =
     let p = told bytes r n e in
     let is : 2 + size bytes ≡ n = whole_size (request_in (slice_index bytes 2) (take (size bytes - 1) (drop 3
     bytes))) (2 + size bytes) r n p.front in
-    let le : 2 + size bytes ≤ length bytes = lt_no (length bytes) (2 + size bytes) p.cut in
+    let le : 2 + size bytes ≤ length bytes = ltb-false (length bytes) (2 + size bytes) p.cut in
     (omega (arith, is), omega (arith, is, le))
 
 third_same : (a b : List ℕ) → 3 ≤ length a → slice_index (a ++ b) 2 ≡ slice_index a 2
@@ -119,9 +113,9 @@ pub frame_stays : (a b : List ℕ) (r : Request) (n : ℕ) → looks a ≡ Frame
 frame_stays a b r n e =
     let p = told a r n e in
     let long : length (a ++ b) ≡ length a + length b = length-append a b in
-    let two : 2 ≤ length a = lt_no (length a) 2 p.short in
-    let three : 3 ≤ length a = lt_no (length a) 3 p.bare in
-    let all : 2 + size a ≤ length a = lt_no (length a) (2 + size a) p.cut in
+    let two : 2 ≤ length a = ltb-false (length a) 2 p.short in
+    let three : 3 ≤ length a = ltb-false (length a) 3 p.bare in
+    let all : 2 + size a ≤ length a = ltb-false (length a) (2 + size a) p.cut in
     let m : size (a ++ b) ≡ size a = number_same a b two in
     let k : slice_index (a ++ b) 2 ≡ slice_index a 2 = kind_same a b three in
     let f : take (size a - 1) (drop 3 (a ++ b)) ≡ take (size a - 1) (drop 3 a) =
@@ -129,11 +123,11 @@ frame_stays a b r n e =
     let same : behind (a ++ b) ≡ behind a = rw (m, k, f) refl in
     picked (nat_lt (length (a ++ b)) 2) (is_size (size (a ++ b))) (nat_lt (length (a ++ b)) 3) (is_kind (slice_index
     (a ++ b) 2)) (nat_lt (length (a ++ b)) (2 + size (a ++ b))) (behind (a ++ b)) (Frame r n)
-    (no_lt (length (a ++ b)) 2 (omega (arith, long, two)))
+    (le-ltb (length (a ++ b)) 2 (omega (arith, long, two)))
     (ap is_size m ∙ p.sized)
-    (no_lt (length (a ++ b)) 3 (omega (arith, long, three)))
+    (le-ltb (length (a ++ b)) 3 (omega (arith, long, three)))
     (ap is_kind k ∙ p.known)
-    (no_lt (length (a ++ b)) (2 + size (a ++ b)) (omega (arith, long, all, m)))
+    (le-ltb (length (a ++ b)) (2 + size (a ++ b)) (omega (arith, long, all, m)))
     (same ∙ p.front)
 
 -- requests stay those at the front
@@ -173,17 +167,17 @@ stay false true false true false f s' v' b' k' c' f' hs hv hb hk hc hf e =
 pub fault_stays : (a b : List ℕ) → looks a ≡ Fault → looks (a ++ b) ≡ Fault
 fault_stays a b e =
     let long : length (a ++ b) ≡ length a + length b = length-append a b in
-    let at_least : (k : ℕ) → nat_lt (length a) k ≡ false → k ≤ length a = λ k. lt_no (length a) k in
+    let at_least : (k : ℕ) → nat_lt (length a) k ≡ false → k ≤ length a = λ k. ltb-false (length a) k in
     let m : nat_lt (length a) 2 ≡ false → size (a ++ b) ≡ size a = λ s. number_same a b (at_least 2 s) in
     stay (nat_lt (length a) 2) (is_size (size a)) (nat_lt (length a) 3) (is_kind (slice_index a 2)) (nat_lt (length
     a) (2 + size a)) (behind a)
     (nat_lt (length (a ++ b)) 2) (is_size (size (a ++ b))) (nat_lt (length (a ++ b)) 3) (is_kind (slice_index (a ++
     b) 2)) (nat_lt (length (a ++ b)) (2 + size (a ++ b))) (behind (a ++ b))
-    (λ s. let two = at_least 2 s in no_lt (length (a ++ b)) 2 (omega (arith, long, two)))
+    (λ s. let two = at_least 2 s in le-ltb (length (a ++ b)) 2 (omega (arith, long, two)))
     (λ s. ap is_size (m s))
-    (λ s. let three = at_least 3 s in no_lt (length (a ++ b)) 3 (omega (arith, long, three)))
+    (λ s. let three = at_least 3 s in le-ltb (length (a ++ b)) 3 (omega (arith, long, three)))
     (λ s. ap is_kind (kind_same a b (at_least 3 s)))
-    (λ s t. let all = at_least (2 + size a) t in let same = m s in no_lt (length (a ++ b)) (2 + size (a ++ b)) (omega
+    (λ s t. let all = at_least (2 + size a) t in let same = m s in le-ltb (length (a ++ b)) (2 + size (a ++ b)) (omega
     (arith, long, all, same)))
     (λ s t u. behind_same a b (at_least 2 s) (at_least 3 t) (at_least (2 + size a) u))
     e

@@ -3,6 +3,7 @@ use Rattle.std.proofs.Common.{◌≡◌, ℕ, suc, ◌+◌, ◌-◌, ◌^◌, �
 use Rattle.std.specs.Prelude.{nat_lt, ◌==◌, slice_index, Option, Some, None}
 use Rattle.std.proofs.lemmas.Bool.Decides.{nat_tests}
 use Rattle.std.proofs.lemmas.List.{take-append-drop, length-take, length-drop, append-nil, drop-drop}
+use Rattle.std.proofs.lemmas.Bool.{ltb-false, le-ltb}
 use Rattle.byteorder.specs.Endian.{big_number}
 use Rattle.rq_bytes.specs.Number.{number_at, AreBytes, number}
 use Rattle.rq_wire.specs.declared.request.Request.{Request}
@@ -11,7 +12,7 @@ use Rattle.rq_wire.specs.declared.look.Front.TheVariants.{Frame}
 use Rattle.rq_wire.specs.Looks.{is_size, is_kind, only, whole_frame, request_in, looks}
 use Rattle.rq_wire.specs.Spelling.{IsRequest, frame, request_kind, request_fields, spelled}
 use Rattle.rq_bytes.proofs.Strings.{AreBytes-take, AreBytes-drop, length-number, number_read, number_written, number_below}
-use Rattle.rq_wire.proofs.Fronts.{picked, told, lt_no, no_lt, take_front, drop_front, size}
+use Rattle.rq_wire.proofs.Fronts.{picked, told, take_front, drop_front, size}
 
 -- ---- from requests to bytes
 
@@ -61,11 +62,11 @@ module _ (kind : ℕ) (fields rest : List ℕ) where
       (whole_frame (request_in (slice_index whole 2) (take (number_at 2 0 whole - 1) (drop 3 whole))) (2 + number_at
       2 0 whole))
       (whole_frame (request_in kind fields) (2 + (1 + length fields)))
-      (no_lt (length whole) 2 (omega (arith, long)))
+      (le-ltb (length whole) 2 (omega (arith, long)))
       (rw size (grind (arith, nat_tests)))
-      (no_lt (length whole) 3 (omega (arith, long)))
+      (le-ltb (length whole) 3 (omega (arith, long)))
       (rw third (grind (arith, nat_tests)))
-      (rw size (no_lt (length whole) (2 + (1 + length fields)) (omega (arith, long))))
+      (rw size (le-ltb (length whole) (2 + (1 + length fields)) (omega (arith, long))))
       (rw (size, third, inner) refl)
 
 four : (sender : ℕ) → (length (number 4 sender) == 4) ≡ true
@@ -97,7 +98,7 @@ send_back s t b is =
     let first : number_at 4 0 all ≡ s = number_read 4 s (number 8 t ++ b) is.0 in
     let second : number_at 8 4 all ≡ t = ap (big_number 8) (behind_sender s t b) ∙ number_read 8 t b is.1 in
     let third : drop 12 all ≡ b = behind_both s t b in
-    rw (no_lt (length all) 12 long, first, second, third) refl
+    rw (le-ltb (length all) 12 long, first, second, third) refl
 
 -- the fields of a request are read as that request
 read_back : (r : Request) → IsRequest r → request_in (request_kind r) (request_fields r) ≡ Some r
@@ -270,7 +271,7 @@ send_told fields r bytes most e =
     elim (chosen (nat_lt (length fields) 12) None (Some (Send (number_at 4 0 fields) (number_at 8 4 fields) (drop 12
     fields))) (Some r) e) [
       | inl (not_so, is) ↦ absurd (let bad : None ≡ Some r = is in cc)
-      | inr (long, is) ↦ subst (Spells 2 fields) (some_is _ r is) (send_spells fields bytes (lt_no (length fields) 12
+      | inr (long, is) ↦ subst (Spells 2 fields) (some_is _ r is) (send_spells fields bytes (ltb-false (length fields) 12
           long) most)
     ]
 
@@ -344,7 +345,7 @@ unfolding spelled
 read_is_spelled bytes r n are e =
     let p = told bytes r n e in
     let sized : (0 < size bytes) × (size bytes < 513) = size_in (size bytes) p.sized in
-    let all : 2 + size bytes ≤ length bytes = lt_no (length bytes) (2 + size bytes) p.cut in
+    let all : 2 + size bytes ≤ length bytes = ltb-false (length bytes) (2 + size bytes) p.cut in
     let kind = slice_index bytes 2 in
     let fields = take (size bytes - 1) (drop 3 bytes) in
     let read = whole_is (request_in kind fields) (2 + size bytes) r n p.front in

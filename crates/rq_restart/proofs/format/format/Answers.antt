@@ -1,11 +1,11 @@
 use Rattle.std.proofs.Common.{ℕ, ◌≤◌, ◌<◌, [], sym, subst, arith}
+use Rattle.std.proofs.lemmas.Result.{on_ok_weaker}
 use Rattle.rq_page.specs.Sizes.{Sizes, page_count}
 use Rattle.rq_disk.specs.Device.{Holds}
 use Rattle.rq_store.specs.Fitting.{FitsLog}
 use Rattle.rq_store.proofs.Formatting.{formatted_fits}
 use Rattle.rq_store.proofs.Cutting.{only_fit}
 use Rattle.rq_restart.proofs.Formats.{formatted_all, other_written, others_synced, first_written, first_synced, within_written, within_synced}
-use Rattle.rq_restart.proofs.Results.{on_ok}
 use Rattle.rq_restart.proofs.format.format.Goals as goal
 
 pub returns-clause-fits : goal.returns-clause-fits
@@ -13,7 +13,7 @@ returns-clause-fits g c =
     let z : Sizes = c.args.layout.now in
     let seen = g.P.PageDevice.seen in
     let behind : (p : ℕ) → 1 ≤ p → p < page_count z → _ = λ p low high. let e = c.pages-number-end.ensures.number in let t = c.loop-number-test.false in c.loop-number.invariant.formatted p low (omega (arith, e, t, high)) in
-    on_ok c.sync-2.result
+    on_ok_weaker c.sync-2.result
     (λ _. subst (λ s. FitsLog z s []) (sym c.sync-2.ensures.seen)
     (formatted_fits z (seen c.write_formatted-2.new.pages) c.pages-number-end.ensures.in_range
     (formatted_all z (seen c.loop-number.pages) (seen c.write_formatted-2.new.pages) c.write_formatted-2.new.page behind
@@ -26,7 +26,7 @@ returns-clause-durable g c =
     let z : Sizes = c.args.layout.now in
     let seen = g.P.PageDevice.seen in
     let behind : (p : ℕ) → 1 ≤ p → p < page_count z → _ = λ p low high. let e = c.pages-number-end.ensures.number in let t = c.loop-number-test.false in c.loop-number.invariant.formatted p low (omega (arith, e, t, high)) in
-    on_ok c.sync-2.result
+    on_ok_weaker c.sync-2.result
     (λ only. only_fit (seen c.write_formatted-2.new.pages) (g.P.PageDevice.may_be c.sync-2.new.pages) z [] only
     (formatted_fits z (seen c.write_formatted-2.new.pages) c.pages-number-end.ensures.in_range
     (formatted_all z (seen c.loop-number.pages) (seen c.write_formatted-2.new.pages) c.write_formatted-2.new.page behind
