@@ -41,7 +41,7 @@ module _ (at : ℕ) (xs ys : List ℕ) where
 abbrev word : ℕ → List ℕ → ℕ
 word at xs = big_number 8 (take (length xs - at) (drop at xs))
 
-and_left : (p q : Bool) → (p && q) ≡ true → p ≡ true
+pub and_left : (p q : Bool) → (p && q) ≡ true → p ≡ true
 and_left true q e = refl
 and_left false q e = absurd (false≢true e)
 

@@ -7,11 +7,11 @@ use Rattle.rq_disk.specs.declared.mem_log.MemLog.{MemLog}
 use Rattle.rq_disk.specs.declared.mem_pages.MemPages.{MemPages}
 use Rattle.rq_log.specs.Spelled.{spelled}
 use Rattle.rq_page.specs.Pages.{lsn_of}
-use Rattle.rq_restart.proofs.Parsing.{one_log, AreSpelled-drop}
+use Rattle.rq_restart.proofs.Parsing.{one_log}
 use Rattle.rq_store.specs.State.{State}
 use Rattle.rq_engine.specs.declared.event.Event.TheVariants as event
 use Rattle.rq_engine.specs.declared.event.Reply.TheVariants as reply
-use Rattle.rq_engine.proofs.Crashing.{runs_through_cuts}
+use Rattle.rq_engine.proofs.Crashing.{runs_through_cuts, spelled_dropped}
 use Rattle.rq_core.specs.Devices.{mem_log, mem_pages}
 use Rattle.rq_cases.specs.Applied.{CallsAreApplied, Makes, MeetsAll}
 use Rattle.rq_cases.specs.Opened.{AreNewPages, IsForcedSince, IsNewLog, over}
@@ -60,7 +60,7 @@ module _ (pages : MemPages) (old new : MemLog) (p : AreNewPages pages formatted_
 -- a log of five records, of which a crash leaves one at least
 nothing_left : (lost : ℕ) → lost + 1 ≤ 5 → [] ≡ spelled (drop lost log_5) → ⊥
 nothing_left lost le e =
-    let none : drop lost log_5 ≡ [] = one_log (drop lost log_5) [] (AreSpelled-drop lost log_5 records_spelled) tt (sym e) in
+    let none : drop lost log_5 ≡ [] = one_log (drop lost log_5) [] (spelled_dropped lost log_5 records_spelled) tt (sym e) in
     let n : length (drop lost log_5) ≡ 0 = ap (λ (l : List Record). length l) none in
     let m = length-drop lost log_5 in
     omega (arith, n, m, le)

@@ -1,5 +1,5 @@
 -- The records of the worked run have spellings.
-use Rattle.std.proofs.Common.{◌≡◌, ℕ, zero, suc, ◌+◌, ◌*◌, ◌<◌, ◌==◌, length-append, Bool, true, false, if◌then◌else◌, List, [], ◌∷◌, ◌++◌, length, replicate, refl, ap, ◌≤◌, arith}
+use Rattle.std.proofs.Common.{◌≡◌, ℕ, zero, suc, ◌+◌, ◌*◌, ◌<◌, ◌==◌, length-append, Bool, true, false, if◌then◌else◌, List, [], ◌∷◌, ◌++◌, length, replicate, refl, ap, arith}
 use Rattle.std.specs.Prelude.{codes}
 use Rattle.byteorder.specs.Endian.{big_bytes}
 use Rattle.rq_bytes.specs.Number.{AreBytes, number}
@@ -15,30 +15,21 @@ use Rattle.rq_page.proofs.CellBytes.{length-cell_bytes}
 use Rattle.rq_page.proofs.DirectoryBytes.{length-directory_bytes}
 use Rattle.rq_views.specs.WorkedItems.{cell, sends, t1}
 use Rattle.rq_model.specs.declared.record.Record.{Record}
-use Rattle.rq_record.specs.Spelling.{FitsTxn, IsImage, IsRecord, IsTxnInRange, spelling}
-use Rattle.rq_record.proofs.Whole.{long_spelling}
+use Rattle.rq_record.specs.Spelling.{FitsTxn, IsImage, IsRecord, IsTxnInRange}
+use Rattle.rq_record.proofs.Readers.{AreBytes-append, AreBytes-zeros}
 use Rattle.rq_log.specs.Spelled.{AreSpelled, spelled}
+use Rattle.rq_log.proofs.Keeping.{few_records}
 use Rattle.rq_store.specs.Steps.{op_end, page_op}
 use Rattle.rq_cases.specs.Run.{log_1, log_5}
 use Rattle.rq_store.specs.Fitting.{image_in}
 use Rattle.rq_cases.specs.Sound.{IsImageOfPage}
 use Rattle.rq_cases.specs.Store.{cells_0, count_sent, fill_cell, formatted_pages, groups_0, joined, page_image, part, sizes}
-use Rattle.rq_cases.proofs.Images.{either_long, length-free, length-superblock, part_long}
-use Rattle.rq_cases.proofs.Pages.{cells_0_long, groups_0_long}
+use Rattle.rq_cases.proofs.Images.{length-free, part_long}
+use Rattle.rq_cases.proofs.Pages.{cells_0_long, groups_0_long, first_long}
 
 are_cons : (x : ℕ) (xs : List ℕ) → x < 256 → AreBytes xs → AreBytes (x ∷ xs)
 are_cons x xs low h zero = low
 are_cons x xs low h (suc i) = h i
-
-are_append : (xs ys : List ℕ) → AreBytes xs → AreBytes ys → AreBytes (xs ++ ys)
-are_append [] ys h g i = g i
-are_append (x ∷ xs) ys h g zero = h zero
-are_append (x ∷ xs) ys h g (suc i) = are_append xs ys (λ j. h (suc j)) g i
-
-are_zeros : (n : ℕ) → AreBytes (replicate n 0)
-are_zeros zero i = omega arith
-are_zeros (suc n) zero = omega arith
-are_zeros (suc n) (suc i) = are_zeros n i
 
 are_big : (size n : ℕ) → AreBytes (big_bytes size n)
 unfolding number
@@ -58,15 +49,15 @@ group_bytes x =
     let b : List ℕ = big_bytes 8 d.received ++ c in
     let a : List ℕ = big_bytes 8 d.sent ++ b in
     let s : List ℕ = big_bytes 4 x.sender ++ a in
-    are_append (directory_front x) (replicate 208 0)
+    AreBytes-append (directory_front x) (replicate 208 0)
     (are_cons (if d.closed then 2 else 1) (0 ∷ 0 ∷ 0 ∷ s) (state_byte d.closed)
     (are_cons 0 (0 ∷ 0 ∷ s) (omega arith) (are_cons 0 (0 ∷ s) (omega arith) (are_cons 0 s (omega arith)
-    (are_append (big_bytes 4 x.sender) a (are_big 4 x.sender)
-    (are_append (big_bytes 8 d.sent) b (are_big 8 d.sent)
-    (are_append (big_bytes 8 d.received) c (are_big 8 d.received)
-    (are_append (big_bytes 8 d.last_tag) e (are_big 8 d.last_tag)
-    (are_append (big_bytes 8 d.head) f (are_big 8 d.head) (are_big 8 d.tail))))))))))
-    (are_zeros 208)
+    (AreBytes-append (big_bytes 4 x.sender) a (are_big 4 x.sender)
+    (AreBytes-append (big_bytes 8 d.sent) b (are_big 8 d.sent)
+    (AreBytes-append (big_bytes 8 d.received) c (are_big 8 d.received)
+    (AreBytes-append (big_bytes 8 d.last_tag) e (are_big 8 d.last_tag)
+    (AreBytes-append (big_bytes 8 d.head) f (are_big 8 d.head) (are_big 8 d.tail))))))))))
+    (AreBytes-zeros 208)
 
 pub filled_bytes : AreBytes (cell_bytes (cell 0))
 unfolding cell_bytes cell_front
@@ -77,18 +68,18 @@ filled_bytes =
     let b : List ℕ = big_bytes 8 1 ++ c in
     let a : List ℕ = big_bytes 4 0 ++ b in
     let l : List ℕ = big_bytes 2 1 ++ a in
-    are_append (cell_front (cell 0)) (104 ∷ replicate 215 0)
+    AreBytes-append (cell_front (cell 0)) (104 ∷ replicate 215 0)
     (are_cons 1 (0 ∷ l) (omega arith) (are_cons 0 l (omega arith)
-    (are_append (big_bytes 2 1) a (are_big 2 1)
-    (are_append (big_bytes 4 0) b (are_big 4 0)
-    (are_append (big_bytes 8 1) c (are_big 8 1)
-    (are_append (big_bytes 8 7) e (are_big 8 7)
-    (are_append (big_bytes 8 0) f (are_big 8 0) (are_big 8 0))))))))
-    (are_cons 104 (replicate 215 0) (omega arith) (are_zeros 215))
+    (AreBytes-append (big_bytes 2 1) a (are_big 2 1)
+    (AreBytes-append (big_bytes 4 0) b (are_big 4 0)
+    (AreBytes-append (big_bytes 8 1) c (are_big 8 1)
+    (AreBytes-append (big_bytes 8 7) e (are_big 8 7)
+    (AreBytes-append (big_bytes 8 0) f (are_big 8 0) (are_big 8 0))))))))
+    (are_cons 104 (replicate 215 0) (omega arith) (AreBytes-zeros 215))
 
 pub empty_bytes : AreBytes free_bytes
 unfolding free_bytes
-empty_bytes = are_zeros 256
+empty_bytes = AreBytes-zeros 256
 
 deed_bytes : AreBytes (spelled_deed (sends 0))
 deed_bytes =
@@ -97,10 +88,10 @@ deed_bytes =
     let b : List ℕ = big_bytes 8 1 ++ c in
     let a : List ℕ = big_bytes 4 0 ++ b in
     are_cons 1 a (omega arith)
-    (are_append (big_bytes 4 0) b (are_big 4 0)
-    (are_append (big_bytes 8 1) c (are_big 8 1)
-    (are_append (big_bytes 8 7) d (are_big 8 7)
-    (are_append (big_bytes 8 0) (104 ∷ []) (are_big 8 0) (are_cons 104 [] (omega arith) (λ i. omega arith))))))
+    (AreBytes-append (big_bytes 4 0) b (are_big 4 0)
+    (AreBytes-append (big_bytes 8 1) c (are_big 8 1)
+    (AreBytes-append (big_bytes 8 7) d (are_big 8 7)
+    (AreBytes-append (big_bytes 8 0) (104 ∷ []) (are_big 8 0) (are_cons 104 [] (omega arith) (λ i. omega arith))))))
 
 deed_long : length (spelled_deed (sends 0)) ≡ 30
 deed_long = refl
@@ -144,31 +135,22 @@ first_spelled = ((omega arith, omega arith), tt)
 pub records_spelled : AreSpelled log_5
 records_spelled = ((in_range, fits), (end_is, (count_is, (fill_is, first_spelled))))
 
--- a record takes 13 bytes or more
-pub long_log : (log : List Record) → AreSpelled log → 13 * length log ≤ length (spelled log)
-long_log [] told = omega arith
-long_log (r ∷ older) told =
-    let m = length-append (spelled older) (spelling r) in
-    let long = long_spelling r told.0 in
-    let rest = long_log older told.1 in
-    omega (arith, m, long, rest)
-
 -- a byte is no log
 pub short_log : (log : List Record) → AreSpelled log → (0 ∷ []) ≡ spelled log → ⊥
 short_log [] told e = (let n : 1 ≡ 0 = ap length e in omega (arith, n))
 short_log (r ∷ older) told e =
     let n : 1 ≡ length (spelled (r ∷ older)) = ap length e in
-    let long = long_log (r ∷ older) told in
+    let long = few_records (r ∷ older) told in
     omega (arith, n, long)
 
 -- the formatted pages are pages of bytes
 header_bytes_are : (lsn page kind : ℕ) → kind < 256 → AreBytes (header_bytes lsn page kind)
 unfolding header_bytes header_front
 header_bytes_are lsn page kind low =
-    are_append (big_bytes 8 lsn ++ (big_bytes 4 page ++ kind ∷ [])) (replicate 243 0)
-    (are_append (big_bytes 8 lsn) (big_bytes 4 page ++ kind ∷ []) (are_big 8 lsn)
-    (are_append (big_bytes 4 page) (kind ∷ []) (are_big 4 page) (are_cons kind [] low (λ i. omega arith))))
-    (are_zeros 243)
+    AreBytes-append (big_bytes 8 lsn ++ (big_bytes 4 page ++ kind ∷ [])) (replicate 243 0)
+    (AreBytes-append (big_bytes 8 lsn) (big_bytes 4 page ++ kind ∷ []) (are_big 8 lsn)
+    (AreBytes-append (big_bytes 4 page) (kind ∷ []) (are_big 4 page) (are_cons kind [] low (λ i. omega arith))))
+    (AreBytes-zeros 243)
 
 name_bytes : AreBytes (codes "RQMSTORE")
 name_bytes =
@@ -184,10 +166,10 @@ superblock_bytes_are =
     let c : List ℕ = big_bytes 4 1 in
     let b : List ℕ = big_bytes 4 1 ++ c in
     let a : List ℕ = big_bytes 4 1 ++ b in
-    are_append (codes "RQMSTORE" ++ a) (replicate 236 0)
-    (are_append (codes "RQMSTORE") a name_bytes
-    (are_append (big_bytes 4 1) b (are_big 4 1) (are_append (big_bytes 4 1) c (are_big 4 1) (are_big 4 1))))
-    (are_zeros 236)
+    AreBytes-append (codes "RQMSTORE" ++ a) (replicate 236 0)
+    (AreBytes-append (codes "RQMSTORE") a name_bytes
+    (AreBytes-append (big_bytes 4 1) b (are_big 4 1) (AreBytes-append (big_bytes 4 1) c (are_big 4 1) (are_big 4 1))))
+    (AreBytes-zeros 236)
 
 either_bytes : (b : Bool) (x y : List ℕ) → AreBytes x → AreBytes y → AreBytes (if b then x else y)
 either_bytes true x y h g = h
@@ -204,7 +186,7 @@ module _ (parts : ℕ → List ℕ) (long : (j : ℕ) → length (parts j) ≡ 2
 
   joined_bytes : (n k : ℕ) → AreBytes (joined parts k n)
   joined_bytes zero k = λ i. omega arith
-  joined_bytes (suc n) k = are_append (parts k) (joined parts (k + 1) n) (bytes k) (joined_bytes n (k + 1))
+  joined_bytes (suc n) k = AreBytes-append (parts k) (joined parts (k + 1) n) (bytes k) (joined_bytes n (k + 1))
 
 part_bytes : (page kind : ℕ) (slots : ℕ → List ℕ) → kind < 256 → ((n : ℕ) → AreBytes (slots n)) → (j : ℕ) → AreBytes (part 0 page kind slots j)
 part_bytes page kind slots low each zero = header_bytes_are 0 page kind low
@@ -215,9 +197,6 @@ image_is page kind slots low long each = (
   joined_long (part 0 page kind slots) (part_long 0 page kind slots long) (part_bytes page kind slots low each) 16 0,
   joined_bytes (part 0 page kind slots) (part_long 0 page kind slots long) (part_bytes page kind slots low each) 16 0,
 )
-
-first_long : (n : ℕ) → length (formatted_slot sizes 0 n) ≡ 256
-first_long n = either_long (n == 1) (superblock_bytes sizes) free_bytes (length-superblock sizes) length-free
 
 pub are_images : (p : ℕ) → p < 3 → IsImageOfPage (image_in formatted_pages p)
 are_images zero low = image_is 0 0 (formatted_slot sizes 0) (omega arith) first_long (λ n. either_bytes (n == 1) (superblock_bytes sizes) free_bytes superblock_bytes_are empty_bytes)

@@ -1,5 +1,5 @@
 mod Images
-mod Pages
+pub mod Pages
 mod Running
 mod Sound
 mod Bytes
@@ -9,7 +9,7 @@ mod Worlds
 mod Courses
 mod Reading
 mod Formatting
-mod Restarting
+pub mod Restarting
 mod Audits
 mod Openings
 mod Mending

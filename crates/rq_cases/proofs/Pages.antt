@@ -39,7 +39,7 @@ group_long d = length-directory_bytes (record { sender = 0; directory = d })
 cell_long : length (cell_bytes (cell 0)) ≡ 256
 cell_long = length-cell_bytes (cell 0) (omega arith)
 
-first_long : (n : ℕ) → length (formatted_slot sizes 0 n) ≡ 256
+pub first_long : (n : ℕ) → length (formatted_slot sizes 0 n) ≡ 256
 first_long n = either_long (n == 1) (superblock_bytes sizes) free_bytes (length-superblock sizes) length-free
 
 pub groups_0_long : (n : ℕ) → length (groups_0 n) ≡ 256

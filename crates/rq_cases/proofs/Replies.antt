@@ -10,9 +10,10 @@ use Rattle.rq_disk.specs.declared.mem_log.MemLog.{MemLog}
 use Rattle.rq_disk.specs.declared.mem_pages.MemPages.{MemPages}
 use Rattle.rq_log.specs.Spelled.{spelled}
 use Rattle.rq_views.specs.WorkedItems.{t1}
-use Rattle.rq_restart.proofs.Parsing.{AreSpelled-drop, one_log}
+use Rattle.rq_restart.proofs.Parsing.{one_log}
 use Rattle.rq_sound.specs.Sound.{IsSound}
 use Rattle.rq_engine.specs.Opened.{OpenStore}
+use Rattle.rq_engine.proofs.Crashing.{spelled_dropped}
 use Rattle.rq_shared.specs.Entries.{Noted}
 use Rattle.rq_shared.specs.Receipts.{IsReceiptOf}
 use Rattle.rq_cases.specs.Audits.{beyond}
@@ -32,7 +33,7 @@ done = record { txn = t1; lsn = 5; ops = Send hello ∷ [] }
 
 taken_away : (log : MemLog) → IsNewLog log log_1 → (commit : Done) (lost : ℕ) → spelled log_1 ≡ spelled (drop lost log_5) → In commit (committed_of (drop lost log_5)) → ⊥
 taken_away log n commit lost e i =
-    let same : drop lost log_5 ≡ log_1 = one_log (drop lost log_5) log_1 (AreSpelled-drop lost log_5 records_spelled) first_spelled (sym e) in
+    let same : drop lost log_5 ≡ log_1 = one_log (drop lost log_5) log_1 (spelled_dropped lost log_5 records_spelled) first_spelled (sym e) in
     subst (λ (l : List Record). In commit (committed_of l)) same i
 
 -- what no entry of an audit gave

@@ -46,9 +46,9 @@ use Rattle.rq_cases.specs.Store.{formatted_pages, groups_1, page_image, sent_pag
 use Rattle.rq_cases.specs.Worlds.{CutsAreJudged, HeadlinesAreJudged, Hold, Opens, Shuts, WorldsAreJudged, course_to, crashed, crashed_course}
 use Rattle.rq_cases.proofs.Bytes.{first_spelled, records_spelled, short_log}
 use Rattle.rq_cases.proofs.Held.{leaves_beginning, log_left, only_records, pages_fit, pages_now}
-use Rattle.rq_cases.proofs.Images.{lsn_is}
-use Rattle.rq_cases.proofs.Pages.{are_formatted, groups_1_long, range}
+use Rattle.rq_cases.proofs.Pages.{are_formatted, range}
 use Rattle.rq_cases.proofs.Running as running
+use Rattle.rq_cases.proofs.Restarting.{group_lsn}
 
 -- the worked courses tell their histories
 told_7 : Tells (course_to 7) (first_entries 7)
@@ -74,9 +74,6 @@ page_left d images n p =
 pub some_pages : (d : MemPages) → Leaves (mem_pages.may_be d) (mem_pages.seen d)
 some_pages d p = pages_seen (pages_of d) p
 
-pub group_page_lsn : lsn_of (page_image 3 1 1 groups_1) ≡ 3
-group_page_lsn = lsn_is 3 1 1 groups_1 groups_1_long (omega arith)
-
 module _ (pages : MemPages) (log : MemLog) where
   opens : Hold pages formatted_pages log log_1 → Opens sizes (first_entries 7) (over committed pages log)
   opens h = record { sizes = refl; ledger = refl; sound = running.commit_send.sound; fit = pages_fit pages h.0 log_1 (1, refl) }
@@ -88,7 +85,7 @@ module _ (pages : MemPages) (log : MemLog) where
   a_page_ahead n o =
       let f : FitsPage sizes log_1 1 (page_image 3 1 1 groups_1) = o.fit.pages 1 (page_image 3 1 1 groups_1) (omega arith) (omega arith) (page_left pages sent_pages n 1) in
       let w : lsn_of (page_image 3 1 1 groups_1) ≤ 1 = f.within in
-      let e = group_page_lsn in
+      let e = group_lsn in
       omega (arith, e, w)
 
   -- whatever a crash leaves of both is the store
@@ -218,7 +215,7 @@ cuts = record {
       (let n : 5 - c.lost ≡ 1 = kept_count committed (image_in sent_pages) log_1 first_spelled c in
       let w : lsn_of (page_image 3 1 1 groups_1) ≤ length (drop c.lost log_5) = (c.store.fits.pages 1 (omega arith) (omega arith)).within in
       let m = length-drop c.lost log_5 in
-      let e = group_page_lsn in
+      let e = group_lsn in
       omega (arith, n, w, m, e));
 }
 

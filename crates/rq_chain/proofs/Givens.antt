@@ -144,7 +144,7 @@ given_holds z given a o c (GivenFree n h) e = absurd (let no : None ≡ Some c =
 given_holds z given a o c (GivenUsed d n fits h) e = let both : Some d ≡ Some c = sym n ∙ e in subst (λ (x : Cell). GivenHolds z given a (Used x)) (let it : d ≡ c = cc in it) h
 
 -- a slot that was given holds one thing
-same_held : (z : Sizes) (a : ℕ) (x y : Slot) (o : Option (List ℕ)) → HoldsBytes z a x o → HoldsBytes z a y o → x ≡ y
+pub same_held : (z : Sizes) (a : ℕ) (x y : Slot) (o : Option (List ℕ)) → HoldsBytes z a x o → HoldsBytes z a y o → x ≡ y
 same_held z a x y None h k = absurd h
 same_held z a x y (Some bytes) h k = sym h ∙ k
 

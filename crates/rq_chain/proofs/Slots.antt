@@ -1,18 +1,17 @@
 -- What slots hold whose bytes spell it.
-use Rattle.std.proofs.Common.{◌≡◌, ℕ, ◌/◌, ◌%◌, ◌<◌, List, [], ◌∷◌, All, Option, Some, refl, sym, ap, ◌∙◌, arith, subst}
+use Rattle.std.proofs.Common.{◌≡◌, ℕ, ◌/◌, ◌%◌, ◌<◌, List, [], ◌∷◌, All, Option, Some, sym, ap, ◌∙◌, arith, subst}
 use Rattle.rq_page.specs.Sizes.{Sizes, IsCellAddress, directory_at, sender_at, sender_count}
 use Rattle.rq_page.specs.Kinds.{kind_of}
 use Rattle.rq_page.specs.Cells.{cell_slot_bytes}
 use Rattle.rq_page.specs.Directories.{directory_bytes}
 use Rattle.rq_page.specs.Slots.{Slot, Sender, held_in, of_cell_slot, of_directory_slot, slot_bytes, MayStand, MayHold, IsDirectoryOf, IsSlotOf}
 use Rattle.rq_page.specs.declared.cell.CellSlot.{CellSlot}
-use Rattle.rq_page.specs.declared.cell.CellSlot.TheVariants as cells
 use Rattle.rq_page.specs.declared.directory.Directory.{Directory}
 use Rattle.rq_page.specs.declared.directory.DirectorySlot.{DirectorySlot}
 use Rattle.rq_page.specs.declared.layout.PageKind.{PageKind}
 use Rattle.rq_page.specs.declared.layout.PageKind.TheVariants as kind
 use Rattle.rq_page.proofs.Addresses.{kind_cells, kind_directory, senders_have_slots}
-use Rattle.rq_page.proofs.Spellings.{spelling_tells}
+use Rattle.rq_page.proofs.Spellings.{spelling_tells, may_hold_cell, spelled_cell}
 use Rattle.rq_views.specs.Stored.{IsStoreSlot}
 use Rattle.rq_views.specs.Log.{Write}
 use Rattle.rq_level.specs.declared.writes.SlotWrite.{SlotWrite}
@@ -23,22 +22,13 @@ use Rattle.std.proofs.lemmas.List.Elements.{All-cons, All-nil}
 abbrev pub record_write : ℕ → Slot → Slot → Write
 record_write a before after = record { at = a; before = before; after = after }
 
--- what may stand in a cell's slot may be held there
-may_hold : (z : Sizes) (page slot : ℕ) (x : CellSlot) → MayStand z x → MayHold (Some kind.Cells) z page slot (of_cell_slot x)
-may_hold z page slot cells.Free may = tt
-may_hold z page slot (cells.Used c) may = may
-
-spelled_cell : (x : CellSlot) → slot_bytes (of_cell_slot x) ≡ cell_slot_bytes x
-spelled_cell cells.Free = refl
-spelled_cell (cells.Used c) = refl
-
 -- the slot of a cell's address, with a spelling there
 pub cell_told : (z : Sizes) (a : ℕ) (x : CellSlot) → IsCellAddress z a → MayStand z x
     → (held_in z (a / 16) (cell_slot_bytes x) ≡ of_cell_slot x) × IsSlotOf z (a / 16) (a % 16) (cell_slot_bytes x)
 cell_told z a x is may =
     let known : kind_of z (a / 16) ≡ Some kind.Cells = kind_cells z (a / 16) is.above is.below in
     let there : MayHold (kind_of z (a / 16)) z (a / 16) (a % 16) (of_cell_slot x) =
-    subst (λ (k : Option PageKind). MayHold k z (a / 16) (a % 16) (of_cell_slot x)) (sym known) (may_hold z (a / 16) (a % 16) x may) in
+    subst (λ (k : Option PageKind). MayHold k z (a / 16) (a % 16) (of_cell_slot x)) (sym known) (may_hold_cell z (a / 16) (a % 16) x may) in
     let told = spelling_tells z (a / 16) (a % 16) (of_cell_slot x) is.slot (omega arith) there in
     let same : slot_bytes (of_cell_slot x) ≡ cell_slot_bytes x = spelled_cell x in
     (ap (held_in z (a / 16)) (sym same) ∙ told.0, subst (IsSlotOf z (a / 16) (a % 16)) same told.1)

@@ -9,6 +9,7 @@ use Rattle.rq_model.specs.declared.record.Deed.TheVariants.{Append, UnlinkHead, 
 use Rattle.rq_model.specs.Words.{sent_for, taken_from}
 use Rattle.rq_model.specs.Content.{said, tag_after, closed, closed_one}
 use Rattle.rq_model.specs.Commits.{op_of}
+use Rattle.rq_model.proofs.Ends.{no_last}
 use Rattle.rq_views.specs.Chain.{View}
 use Rattle.rq_views.specs.Committed.{message_of}
 use Rattle.rq_views.specs.Plans.{with_turn}
@@ -130,10 +131,6 @@ side_off p f fs e = side_first p f fs ∙ (rw e (append-nil (side p (placed fs))
 side_on : (p : Deed → Bool) (f : Finished) (fs : List Finished) → p f.deed ≡ true → side p (placed (f ∷ fs)) ≡ side p (placed fs) ++ f.deed ∷ []
 side_on p f fs e = side_first p f fs ∙ (rw e refl)
 
-not_nil : {X : Type 0} (xs : List X) (x : X) → xs ++ x ∷ [] ≡ [] → ⊥
-not_nil [] x e = cc
-not_nil (y ∷ ys) x e = cc
-
 -- what sends change is the same
 pub record SameSends (a b : Before) : Type 0 where
   pub sent : a.sent ≡ b.sent
@@ -169,13 +166,13 @@ quiet_sends g [] b e = sends_same b
 quiet_sends g (f ∷ fs) b e = elim (cases_deed g f.deed) [
   | inl k ↦ sends_are _ _ (without_all g fs b) b (ap (without_all g fs) (k.same b)) refl (quiet_sends g fs b (sym (side_off (on_sending_end g) f fs k.off) ∙ e))
   | inr l ↦ elim l [
-    | inl k ↦ absurd (not_nil (side (on_sending_end g) (placed fs)) f.deed (sym (side_on (on_sending_end g) f fs k.on) ∙ e))
+    | inl k ↦ absurd (no_last (side (on_sending_end g) (placed fs)) f.deed (sym (side_on (on_sending_end g) f fs k.on) ∙ e))
     | inr w ↦ elim w [
       | inl k ↦
           let m : Message = record { sender = g; tag = k.tag; body = k.body } in
           let i = quiet_sends g fs (without_take m b) (sym (side_off (on_sending_end g) f fs k.off) ∙ e) in
           sends_are _ _ (without_all g fs (without_take m b)) b (ap (without_all g fs) (k.less b)) refl (record { sent = i.sent; previous = i.previous; closed = i.closed })
-      | inr k ↦ absurd (not_nil (side (on_sending_end g) (placed fs)) f.deed (sym (side_on (on_sending_end g) f fs k.on) ∙ e))
+      | inr k ↦ absurd (no_last (side (on_sending_end g) (placed fs)) f.deed (sym (side_on (on_sending_end g) f fs k.on) ∙ e))
     ]
   ]
 ]
@@ -254,7 +251,7 @@ quiet_takes g fs b e = (own_left g fs b).taken ∙ ap (λ l. b.taken ++ l) (none
     | inr l ↦ elim l [
       | inl k ↦ taken_none g f fs k.untaken ∙ none fs (sym (side_off (on_receiving_end g) f fs k.free) ∙ e)
       | inr w ↦ elim w [
-        | inl k ↦ absurd (not_nil (side (on_receiving_end g) (placed fs)) f.deed (sym (side_on (on_receiving_end g) f fs k.on) ∙ e))
+        | inl k ↦ absurd (no_last (side (on_receiving_end g) (placed fs)) f.deed (sym (side_on (on_receiving_end g) f fs k.on) ∙ e))
         | inr k ↦ taken_none g f fs k.untaken ∙ none fs (sym (side_off (on_receiving_end g) f fs k.free) ∙ e)
       ]
     ]

@@ -1,15 +1,16 @@
 -- What is so of the devices of a world.
-use Rattle.std.proofs.Common.{rules, ◌≡◌, ℕ, zero, suc, List, [], ◌++◌, drop, refl, sym, ◌∙◌, ap, subst, arith}
-use Rattle.std.proofs.lemmas.List.{append-nil, take_all, drop_all}
+use Rattle.std.proofs.Common.{◌≡◌, ℕ, List, [], ◌++◌, sym, ◌∙◌, ap, subst}
+use Rattle.std.proofs.lemmas.List.{append-nil}
 use Rattle.rq_disk.specs.Device.{Leaves, Only}
 use Rattle.rq_disk.specs.Memory.{LogState, MayBe, MayLeave, fresh_log, log_reads, log_seen, pages_seen, reads}
-use Rattle.rq_disk.specs.Records.{HoldsRecords, first_records, record_size}
+use Rattle.rq_disk.specs.Records.{HoldsRecords}
 use Rattle.rq_disk.specs.Shown.{log_of, pages_of}
 use Rattle.rq_disk.specs.declared.mem_log.MemLog.{MemLog}
 use Rattle.rq_disk.specs.declared.mem_pages.MemPages.{MemPages}
+use Rattle.rq_disk.proofs.Records.{front_nil}
 use Rattle.rq_page.specs.Sizes.{Sizes, IsInRange}
 use Rattle.rq_store.specs.Fitting.{AllFit}
-use Rattle.rq_store.specs.Whole.{IsWhole}
+use Rattle.rq_store.proofs.WorkedFits.{whole_empty}
 use Rattle.rq_core.specs.Devices.{mem_pages, mem_log}
 use Rattle.rq_core.specs.Runs.{IsFresh}
 use Rattle.rq_core.specs.Happened.{IsCrashed}
@@ -19,12 +20,6 @@ some_page d page = pages_seen (pages_of d) page
 
 pub some_log : (d : MemLog) → MayLeave (log_of d) (log_reads (log_of d))
 some_log d = log_seen (log_of d)
-
-front_nil : (k : ℕ) → first_records k [] ≡ []
-front_nil zero = refl
-front_nil (suc k) =
-    let s = record_size [] in
-    ap (λ (l : List ℕ). l ++ first_records k (drop s [])) (take_all s [] (omega arith)) ∙ ap (first_records k) (drop_all s [] (omega arith)) ∙ front_nil k
 
 -- of a log that is all forced a crash leaves all
 fresh_only : (s : LogState) (bytes c : List ℕ) → s ≡ fresh_log bytes → MayLeave s c → c ≡ bytes
@@ -48,10 +43,6 @@ crashes pages new_pages log new_log bytes n may only is left holds =
       holds = holds;
     }
 
--- a log with no record
-empty_whole : (z : Sizes) → IsWhole z []
-empty_whole z = search rules
-
 -- a store that was formatted
 pub formatted : (z : Sizes) (pages : MemPages) (log : MemLog) (bytes : List ℕ) → IsInRange z → AllFit (MayBe (pages_of pages)) z [] → log_of log ≡ fresh_log bytes → bytes ≡ [] → IsFresh z pages log
 formatted z pages log bytes range fit is none = record {
@@ -61,7 +52,7 @@ formatted z pages log bytes range fit is none = record {
     are_spelled = tt;
     is = fresh_only (log_of log) bytes c is b ∙ none;
     left = record {
-      whole = empty_whole z;
+      whole = whole_empty z;
       fits = record {
         superblock = fit.superblock (images 0) (a 0);
         headers = λ p low high. fit.headers p (images p) low high (a p);

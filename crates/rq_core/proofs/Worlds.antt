@@ -1,13 +1,13 @@
 -- Each kind of happening keeps what is so of a store between two of them.
 use Rattle.std.specs.Prelude.{◌==◌, if◌then◌else◌}
-use Rattle.std.proofs.Common.{Bool, Option, ◌||◌, ◌≢◌, ◌≡◌, ℕ, ◌+◌, List, [], ◌∷◌, ◌++◌, length, take, drop, refl, sym, ◌∙◌, ap, subst, true, false, Some, None, arith, append_assoc, inl, inr, ◌⊎◌}
+use Rattle.std.proofs.Common.{Bool, ◌≢◌, ◌≡◌, ℕ, ◌+◌, List, [], ◌∷◌, ◌++◌, length, take, drop, refl, sym, ◌∙◌, ap, subst, true, false, Some, arith, append_assoc, inl, inr, ◌⊎◌}
 use Rattle.std.proofs.lemmas.Bool.{cases_eq}
 use Rattle.std.proofs.lemmas.Bool.Decides.{nat_tests}
 use Rattle.std.proofs.lemmas.List.{take-append-drop, length-drop}
 use Rattle.rq_model.specs.declared.record.Record.{Record}
 use Rattle.rq_model.specs.declared.refusal.Refusal.{Refusal}
 use Rattle.rq_model.specs.declared.refusal.Refusal.TheVariants as why
-use Rattle.rq_model.specs.Words.{In, is_some}
+use Rattle.rq_model.specs.Words.{In}
 use Rattle.rq_model.specs.History.{Entry, commits}
 use Rattle.rq_model.specs.History.Call.{Hand_over}
 use Rattle.rq_model.specs.History.Entry.{Crash as Crash_entry, Restarted as Restarted_entry}
@@ -26,19 +26,18 @@ use Rattle.rq_disk.specs.declared.device.PageDevice as page_device
 use Rattle.rq_log.specs.Spelled.{spelled, AreSpelled}
 use Rattle.rq_page.specs.Sizes.{Sizes, IsInRange}
 use Rattle.rq_pool.specs.Reading.{IsSuperblock}
-use Rattle.rq_store.specs.State.{State, ledger_of, size_of, phase_of, job_under, open_ones_of}
+use Rattle.rq_store.specs.State.{State, ledger_of, size_of, phase_of}
 use Rattle.rq_sound.specs.Sound.{IsSound}
 use Rattle.rq_store.specs.Opening.{IsLeft, next_restart}
 use Rattle.rq_store.specs.Fitting.{AllFit, FitsLog, FitsPage}
+use Rattle.rq_store.proofs.Opens.{busy_is}
 use Rattle.rq_page.specs.Formatted.{IsFormatted, IsHeaderOf}
 use Rattle.rq_engine.specs.Applied.{Applied, RefusalLeaves, WriteFails}
 use Rattle.rq_engine.specs.Crash.{AreFit, IsCut, LeavesCut}
 use Rattle.rq_engine.specs.Devices.{EachPair}
 use Rattle.rq_engine.specs.Opened.{OpenStore}
 use Rattle.rq_engine.specs.Says.{RefusedForCause, call_of, gave}
-use Rattle.rq_groups.specs.Ends.{HeldEnds}
 use Rattle.rq_model.specs.Causes.{HasCause, IsCaused, writes_out}
-use Rattle.rq_txn.specs.Rows.{Row, Under, any_under as rows_under}
 use Rattle.rq_engine.specs.declared.event.Event.{Event}
 use Rattle.rq_engine.specs.declared.event.Event.TheVariants as event
 use Rattle.rq_engine.specs.declared.event.Outcome.TheVariants as outcome
@@ -89,16 +88,8 @@ stands_at h s e = record {
 failed_at : (h : List Entry) (old new : State) → new ≡ record old { failed = true } → StandsAt h old → StandsAt h new
 failed_at h old new e s = subst (StandsAt h) (sym e) (record { committed = s.committed; records = s.records; forced = s.forced; incarnation = s.incarnation; runs = s.runs })
 
--- the causes of a store's refusals are those that its ledger shows
-under_is : (ends : HeldEnds) (rows : List Row) → any_busy (open_ones_of ends rows) ≡ rows_under rows
-under_is ends [] = refl
-under_is ends (r ∷ rows) = ap (λ b. b || any_busy (open_ones_of ends rows)) (one r.under) ∙ ap (λ b. is_some r.under || b) (under_is ends rows) where
-  one : (u : Option Under) → is_some (job_under u) ≡ is_some u
-  one None = refl
-  one (Some u) = refl
-
 pub caused : (e : Event) (r : Reply) (s : State) → RefusedForCause s e r → IsCaused (any_busy (ledger_of s).open_ones) (call_of e) (gave r)
-caused e (reply.Refused r) s h = subst (λ b. HasCause b (call_of e) r) (sym (under_is s.ends s.rows)) h
+caused e (reply.Refused r) s h = subst (λ b. HasCause b (call_of e) r) (sym (busy_is s.ends s.rows)) h
 caused e (reply.Stepped progress.Ready) s h = tt
 caused e (reply.Stepped (progress.Done lsn)) s h = tt
 caused e (reply.Finished outcome.Sent) s h = tt

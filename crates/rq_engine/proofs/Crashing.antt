@@ -38,7 +38,7 @@ use Rattle.rq_engine.specs.Crash.{AreFit, IsCut, LeavesCut, RunsThroughCuts, com
 use Rattle.rq_engine.specs.Devices.Path.{Start, Pages, Log}
 use Rattle.rq_log.proofs.Moments.{weaker}
 
-spelled_dropped : (n : ℕ) (log : List Record) → AreSpelled log → AreSpelled (drop n log)
+pub spelled_dropped : (n : ℕ) (log : List Record) → AreSpelled log → AreSpelled (drop n log)
 spelled_dropped zero log h = h
 spelled_dropped (suc n) [] h = h
 spelled_dropped (suc n) (r ∷ log) h = spelled_dropped n log h.1

@@ -35,7 +35,7 @@ use Rattle.rq_store.specs.State.{State}
 use Rattle.rq_sound.specs.Groups.{slots_now}
 use Rattle.rq_sound.specs.Plans.{AreUnlatched, IsMarking, IsPlannedFrom, IsReceive, IsSend}
 use Rattle.rq_planner.specs.Answered.{IsDeedFor, IsHeldUp, IsPlanOf, SendTakesLowest}
-use Rattle.rq_planner.specs.Asked.{Asked, asked_by, asked_in, doing_sender, to_do}
+use Rattle.rq_planner.specs.Asked.{asked_by, asked_in, doing_sender, to_do}
 use Rattle.rq_planner.specs.Asked.Asked.{Do}
 use Rattle.rq_engine.specs.Closes.{IsClosePlan, close_latched}
 use Rattle.rq_engine.specs.Plans.{IsDeedPlan, bare}
@@ -69,9 +69,6 @@ few_of z q us (Close_deed g) p = let a = of_writes z us _ p.writes in omega (ari
 
 pub some_doing : (a b : Doing) → Some (Do a) ≡ Some (Do b) → a ≡ b
 some_doing a b e = cc
-
-pub some_asked : (a b : Asked) → Some a ≡ Some b → a ≡ b
-some_asked a b e = cc
 
 some_deed : (a b : Deed) → Some a ≡ Some b → a ≡ b
 some_deed a b e = cc

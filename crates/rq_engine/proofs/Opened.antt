@@ -1,6 +1,6 @@
 -- The parts of an open store.
-use Rattle.std.proofs.Common.{◌≡◌, ap, subst, Option, Some, None}
-use Rattle.std.specs.Prelude.{IfSome, IfNone}
+use Rattle.std.proofs.Common.{◌≡◌, ap, subst, Option, None}
+use Rattle.std.specs.Prelude.{IfNone}
 use Rattle.rq_engine.specs.Opened.{OpenStore}
 
 pub state_is : {P L : Type 0} {a b : OpenStore P L} → a ≡ b → a.state ≡ b.state
@@ -8,10 +8,6 @@ state_is e = ap (λ (o : OpenStore _ _). o.state) e
 
 pub changed_is : {P L : Type 0} {a b : OpenStore P L} → a ≡ b → a.changed ≡ b.changed
 changed_is e = ap (λ (o : OpenStore _ _). o.changed) e
-
--- what is said of what is found, and where nothing is
-pub some_told : {X : Type 0} (P : X → Type 0) (o : Option X) (x : X) → o ≡ Some x → IfSome o P → P x
-some_told P o x e h = subst (λ (y : Option _). IfSome y P) e h
 
 pub none_told : {X : Type 0} (P : Type 0) (o : Option X) → o ≡ None → IfNone o P → P
 none_told P o e h = subst (λ (y : Option _). IfNone y P) e h

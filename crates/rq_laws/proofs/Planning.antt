@@ -1,5 +1,5 @@
 -- Plans of the level of chains, by two that keep the same and are given the same.
-use Rattle.std.proofs.Common.{◌≡◌, ℕ, ◌+◌, ◌/◌, ◌≤◌, ◌&&◌, nat_eq, List, [], ◌∷◌, refl, sym, ◌∙◌, ap, subst, Bool, true, false, Option, Some, None, Result, Ok, Err, inl, inr, arith, true≢false}
+use Rattle.std.proofs.Common.{◌≡◌, ℕ, ◌+◌, ◌/◌, ◌≤◌, nat_eq, List, [], ◌∷◌, refl, sym, ◌∙◌, ap, subst, Bool, true, false, Option, Some, None, Result, Ok, Err, inl, inr, arith, true≢false}
 use Rattle.std.specs.Result.{IfOk}
 use Rattle.std.proofs.lemmas.Bool.{cases_Bool, cases_lt, eqb-true}
 use Rattle.std.proofs.lemmas.List.Elements.{All-head, All-tail}
@@ -10,6 +10,7 @@ use Rattle.rq_model.specs.declared.record.Record.TheVariants as records
 use Rattle.rq_model.specs.declared.refusal.Refusal.{Refusal}
 use Rattle.rq_model.specs.declared.refusal.Refusal.TheVariants as why
 use Rattle.rq_model.specs.Deeds.{deed_in, spelled_deed}
+use Rattle.rq_bytes.proofs.Compared.{and_left}
 use Rattle.rq_page.specs.declared.cell.Cell.{Cell}
 use Rattle.rq_page.specs.declared.directory.Directory.{Directory}
 use Rattle.rq_page.specs.Sizes.{Sizes, cell_at, directory_at}
@@ -26,14 +27,12 @@ use Rattle.rq_level.specs.Kept.{Kept, IsLowest, reserved_at}
 use Rattle.rq_level.specs.Meaning.{AreOf, meaning_of}
 use Rattle.rq_level.specs.Ops.{Doing, Job, doing_in}
 use Rattle.rq_level.specs.Ops.Doing.{Send, Receive, Close}
+use Rattle.rq_chain.proofs.Givens.{same_held}
+use Rattle.rq_sound.proofs.PlanFits.{same_cell}
 use Rattle.rq_laws.specs.Planned.{IsMemory, PlannedAlike, PlansAlike}
-use Rattle.rq_laws.proofs.Slots.{sender_same, used_same}
+use Rattle.rq_laws.proofs.Slots.{sender_same}
 
 -- ---- what was given
-
-holds_same : (z : Sizes) (a : ℕ) (x y : Slot) (o : Option (List ℕ)) → HoldsBytes z a x o → HoldsBytes z a y o → x ≡ y
-holds_same z a x y None f h = absurd f
-holds_same z a x y (Some bytes) f h = sym f ∙ h
 
 -- no slot stands at 0
 none_at_0 : (z : Sizes) (given : List Given) → AreGiven z given → given_at 0 given ≡ None
@@ -50,13 +49,13 @@ beside_given : (z : Sizes) (given : List Given) (a b : ℕ) (o p : Option Cell) 
 beside_given z given a b None None all e f h = refl
 beside_given z given a b None (Some d) all e f h = absurd (none_beside z given b d all (sym e ∙ f) h)
 beside_given z given a b (Some c) None all e f h = absurd (none_beside z given a c all (e ∙ h) f)
-beside_given z given a b (Some c) (Some d) all e f h = ap Some (used_same c d (holds_same z b (Used c) (Used d) (given_at b given) (subst (λ (x : ℕ). GivenHolds z given x (Used c)) e f) h))
+beside_given z given a b (Some c) (Some d) all e f h = ap Some (same_cell c d (same_held z b (Used c) (Used d) (given_at b given) (subst (λ (x : ℕ). GivenHolds z given x (Used c)) e f) h))
 
 directory_given : (z : Sizes) (given : List Given) (s : ℕ) (d e : Directory) → GivenHolds z given (directory_at s) (Slot.Sender s d) → GivenHolds z given (directory_at s) (Slot.Sender s e) → d ≡ e
-directory_given z given s d e f h = sender_same s s d e (holds_same z (directory_at s) (Slot.Sender s d) (Slot.Sender s e) (given_at (directory_at s) given) f h)
+directory_given z given s d e f h = sender_same s s d e (same_held z (directory_at s) (Slot.Sender s d) (Slot.Sender s e) (given_at (directory_at s) given) f h)
 
 cell_given : (z : Sizes) (given : List Given) (a b : ℕ) (c d : Cell) → a ≡ b → GivenHolds z given a (Used c) → GivenHolds z given b (Used d) → c ≡ d
-cell_given z given a b c d e f h = used_same c d (holds_same z b (Used c) (Used d) (given_at b given) (subst (λ (x : ℕ). GivenHolds z given x (Used c)) e f) h)
+cell_given z given a b c d e f h = same_cell c d (same_held z b (Used c) (Used d) (given_at b given) (subst (λ (x : ℕ). GivenHolds z given x (Used c)) e f) h)
 
 lowest_given : (z : Sizes) (k : Kept) (latched : List ℕ) (a b : ℕ) → IsLowest z k latched a → IsLowest z k latched b → a ≡ b
 lowest_given z k latched a b f h = elim (cases_lt f.place h.place) [
@@ -137,14 +136,10 @@ module _ (z : Sizes) (k : Kept) (given : List Given) (all : AreGiven z given) wh
 
 -- ---- where one is planned, the other is refused for want of memory alone
 
-first_true : (a b : Bool) → (a && b) ≡ true → a ≡ true
-first_true true b e = refl
-first_true false b e = absurd (true≢false (sym e))
-
 taking_wants : (z : Sizes) (k : Kept) (latched : List ℕ) (Can : Type 0) (a : ℕ) (r : Refusal) → Can → IsLowest z k latched a → RefusesTaking z k latched Can r → IsMemory r
 taking_wants z k latched Can a why.NoMemory can f h = tt
 taking_wants z k latched Can a why.Latched can f h = true≢false (sym f.may ∙ h.0 f.place f.below)
-taking_wants z k latched Can a (why.Damaged d) can f h = true≢false (sym (first_true _ _ f.may) ∙ h can f.place f.below)
+taking_wants z k latched Can a (why.Damaged d) can f h = true≢false (sym (and_left _ _ f.may) ∙ h can f.place f.below)
 taking_wants z k latched Can a _ can f h = absurd h
 
 other_wants : (Can : Type 0) (r : Refusal) → Can → RefusesOther Can r → IsMemory r

@@ -36,6 +36,7 @@ use Rattle.rq_engine.specs.Opened.{OpenStore, AreHonest}
 use Rattle.rq_engine.specs.Receives.{started_of, undoing_of}
 use Rattle.rq_engine.specs.Says.{commit_number, outcome_of, progress_of}
 use Rattle.rq_laws.specs.Refusals.{IsWant, LatchedApart, RefuseAlike, TakenApart}
+use Rattle.rq_laws.proofs.Ending.{some_none}
 
 -- ---- why a call is refused
 
@@ -68,9 +69,6 @@ legal_why busy z l c why.UnknownOperation w g h = inl g
 none_first : (cs : List (Bool × Refusal)) → NoneHolds cs → first_of cs ≡ None
 none_first [] h = refl
 none_first (c ∷ cs) h = ap (λ b. cond b (Some c.1) (first_of cs)) h.0 ∙ none_first cs h.1
-
-some_none : {X : Type 0} (a : X) → Some a ≡ None → ⊥
-some_none a e = cc
 
 -- a call that passes its tests is refused for what is wanting alone, or as latched
 passed : (z : Size) (l : Ledger) (c : Call) (r : Refusal) → Passes z l c → (r ≡ why.Latched → ⊥) → Why z l c r → IsWant r

@@ -7,8 +7,5 @@ use Rattle.rq_page.specs.Slots.Slot.{Free, Used, Sender}
 pub sender_same : (s r : ℕ) (d e : Directory) → Sender s d ≡ Sender r e → d ≡ e
 sender_same s r d e h = cc
 
-pub used_same : (c d : Cell) → Used c ≡ Used d → c ≡ d
-used_same c d h = cc
-
 pub used_free : (c : Cell) → Used c ≡ Free → ⊥
 used_free c h = cc

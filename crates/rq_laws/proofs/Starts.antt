@@ -1,8 +1,7 @@
 -- Starts of operations, by two stores in the same state.
-use Rattle.std.proofs.Common.{◌≡◌, ℕ, ◌+◌, ◌/◌, List, [], ◌∷◌, ◌++◌, map, reverse, refl, sym, ◌∙◌, ap, ap₂, subst, true, false, Option, Some, None, Result, Ok, Err, inl, inr, arith, option_map, true≢false}
+use Rattle.std.proofs.Common.{◌≡◌, ℕ, ◌+◌, ◌/◌, List, [], ◌∷◌, map, reverse, refl, sym, ◌∙◌, ap, ap₂, subst, true, false, Option, Some, None, Result, Ok, Err, inl, inr, arith, option_map, true≢false}
 use Rattle.std.specs.Result.{IfOk}
 use Rattle.std.proofs.lemmas.Bool.{cases_Bool, cases_lt}
-use Rattle.std.proofs.lemmas.List.{reverse-append, reverse-reverse}
 use Rattle.rq_model.specs.Words.{same_txn}
 use Rattle.rq_model.specs.declared.refusal.Refusal.{Refusal}
 use Rattle.rq_model.specs.declared.record.Deed.TheVariants.{Append, UnlinkHead}
@@ -12,13 +11,13 @@ use Rattle.rq_model.specs.Legal.{OnFound}
 use Rattle.rq_page.specs.declared.cell.Cell.{Cell}
 use Rattle.rq_page.specs.declared.directory.Directory.{Directory}
 use Rattle.rq_page.specs.Sizes.{Sizes, IsCellAddress}
-use Rattle.rq_page.specs.Slots.Slot.{Free, Used}
+use Rattle.rq_page.specs.Slots.Slot.{Free}
 use Rattle.rq_views.specs.Items.{layout_of}
 use Rattle.rq_views.specs.Log.{Slots, Write}
-use Rattle.rq_views.specs.Plans.{append_writes, unlink_head_writes, directory_write, relinked}
+use Rattle.rq_views.specs.Plans.{append_writes, unlink_head_writes, directory_write}
 use Rattle.rq_views.specs.Stored.{slots_in}
 use Rattle.rq_level.specs.declared.writes.SlotWrite.{SlotWrite}
-use Rattle.rq_level.specs.Writes.{IsFirstAt, write_of, writes_of}
+use Rattle.rq_level.specs.Writes.{IsFirstAt, writes_of}
 use Rattle.rq_groups.specs.declared.End.{End}
 use Rattle.rq_txn.specs.declared.Aim.{Aim}
 use Rattle.rq_txn.specs.declared.Aim.TheVariants.{Doing}
@@ -27,12 +26,14 @@ use Rattle.rq_txn.proofs.Finding.{found_change_same}
 use Rattle.rq_store.specs.State.{State}
 use Rattle.rq_store.specs.Plans.{IsSendPlan, IsTakePlan, NoneWaits, Stands_at, WaitsFor}
 use Rattle.rq_sound.specs.Lowest.{AreLatchedBelow, FirstIsLowest}
+use Rattle.rq_sound.proofs.PlanFits.{same_cell}
+use Rattle.rq_planner.proofs.Replies.{first_new}
 use Rattle.rq_engine.specs.Answers.{HasNothingUnderWay, IsUnderWay, OnUnder}
 use Rattle.rq_engine.specs.Closes.{IsClosePlan}
 use Rattle.rq_engine.specs.Lists.{IsCloseStarted, IsSendStarted, IsStarted, IsTakeStarted, TakeFromSays, TakeSays}
 use Rattle.rq_engine.specs.Sends.{TakesLowest}
 use Rattle.rq_laws.specs.Alike.{AreAlike, StartedAlike, RowTold, UnderTold, row_told, under_told}
-use Rattle.rq_laws.proofs.Slots.{sender_same, used_same, used_free}
+use Rattle.rq_laws.proofs.Slots.{sender_same, used_free}
 
 -- ---- what is told of a row
 
@@ -87,7 +88,7 @@ pub beside_same : (q : Slots) (a b : ℕ) (o p : Option Cell) → q 0 ≡ Free �
 beside_same q a b None None z e f g = refl
 beside_same q a b None (Some c) z e f g = absurd (used_free c (sym g ∙ ap q (sym e ∙ f) ∙ z))
 beside_same q a b (Some c) None z e f g = absurd (used_free c (sym f ∙ ap q (e ∙ g) ∙ z))
-beside_same q a b (Some c) (Some d) z e f g = ap Some (used_same c d (sym f ∙ ap q e ∙ g))
+beside_same q a b (Some c) (Some d) z e f g = ap Some (same_cell c d (sym f ∙ ap q e ∙ g))
 
 -- ---- closes
 
@@ -115,7 +116,7 @@ close_alike old old2 t g (Ok a) (Ok b) x y is f h = close_says old t g a b x y f
 take_told : (z : Sizes) (q : Slots) (u v : Under) (g : ℕ) → q 0 ≡ Free → IsTakePlan z q u g → IsTakePlan z q v g → u.number ≡ v.number → under_told z u ≡ under_told z v
 take_told z q u v g zero f h n =
     let d = sender_same g g f.directory h.directory (sym f.directory_is ∙ h.directory_is) in
-    let c = used_same f.cell h.cell (sym f.head_is ∙ ap (λ (d : Directory). q d.head) d ∙ h.head_is) in
+    let c = same_cell f.cell h.cell (sym f.head_is ∙ ap (λ (d : Directory). q d.head) d ∙ h.head_is) in
     let o = beside_same q f.cell.next h.cell.next f.next h.next zero (ap (λ (c : Cell). c.next) c) f.beside h.beside in
     told_same z u v n
     (f.writes ∙ ap (λ x. unlink_head_writes (layout_of z) g x f.cell f.next) d ∙ ap (λ x. unlink_head_writes (layout_of z) g h.directory x f.next) c ∙ ap (unlink_head_writes (layout_of z) g h.directory h.cell) o ∙ sym h.writes)
@@ -168,16 +169,6 @@ any_alike old old2 t (Ok a) (Err e) x y is f h = tt
 any_alike old old2 t (Ok a) (Ok b) x y is f h = any_says old t a b x y f (subst (λ s. TakeSays s t b y) (sym is) h)
 
 -- ---- sends
-
-first_at : (z : Sizes) (us : List SlotWrite) (ws : List Write) (w : Write) → reverse (writes_of z us) ≡ ws ++ w ∷ [] → IsFirstAt w.at us
-first_at z us ws w is = at us (sym (reverse-reverse (writes_of z us)) ∙ ap reverse is ∙ reverse-append ws (w ∷ [])) where
-  at : (us : List SlotWrite) → writes_of z us ≡ w ∷ reverse ws → IsFirstAt w.at us
-  at [] e = cc
-  at (u ∷ us) e = let h : write_of z u ≡ w = cc e in ap (λ (x : Write). x.at) h
-
-pub first_new : (z : Sizes) (us : List SlotWrite) (beside : ℕ) (o : Option Cell) (f : Cell → Cell) (first new : Write) → reverse (writes_of z us) ≡ first ∷ relinked beside o f (new ∷ []) → IsFirstAt new.at us
-first_new z us beside None f first new e = first_at z us (first ∷ []) new e
-first_new z us beside (Some c) f first new e = first_at z us (first ∷ record { at = beside; before = Used c; after = Used (f c) } ∷ []) new e
 
 lowest_at : (z : Sizes) (q : Slots) (rows : List Row) (us : List SlotWrite) (a : ℕ) → FirstIsLowest z q rows us → IsFirstAt a us → AreLatchedBelow z q rows a × (latched_in rows (a / 16) ≡ false)
 lowest_at z q rows [] a l f = absurd f

@@ -1,8 +1,7 @@
 -- What bytes and records tell is one.
-use Rattle.std.proofs.Common.{◌≡◌, ◌≢◌, ℕ, ◌↔◌, nat_eq, List, [], ◌∷◌, ◌++◌, length, drop, refl, sym, ◌∙◌, ap, subst, Bool, true, false, Option, Some, None, inl, inr, arith, true≢false}
+use Rattle.std.proofs.Common.{◌≡◌, ◌≢◌, ℕ, ◌↔◌, nat_eq, List, [], ◌∷◌, ◌++◌, length, drop, refl, sym, ◌∙◌, ap, subst, Bool, true, false, Option, Some, None, inl, inr, true≢false}
 use Rattle.std.specs.Prelude.{IfSome, IfNone}
 use Rattle.std.proofs.lemmas.Bool.{cases_Bool, eqb-true, eq-eqb}
-use Rattle.std.proofs.lemmas.Bool.Decides.{nat_tests}
 use Rattle.std.proofs.lemmas.List.{take-append-drop}
 use Rattle.rq_model.specs.declared.record.Record.{Record}
 use Rattle.rq_model.specs.declared.txn.Sub.{Sub}
@@ -18,6 +17,7 @@ use Rattle.rq_undone.specs.declared.history.Spot.{Spot}
 use Rattle.rq_undone.specs.Analysis.{Analysis, has_sub}
 use Rattle.rq_undone.specs.Pages.{IsNextUndo, op_less, undo_of, void_of}
 use Rattle.rq_undone.specs.Pages.IsNextUndo.{Voids, Undoes}
+use Rattle.rq_undone.proofs.Next.{op_turn}
 use Rattle.rq_laws.specs.Alike.{PagesAlike}
 
 -- ---- pages
@@ -72,9 +72,6 @@ step_same input again a b is front found short bad =
     (step_one input a b front found short bad)
 
 -- ---- records that undo
-
-op_turn : (a b : Sub) → same_op b a ≡ false → op_less a b ≡ false → op_less b a ≡ true
-op_turn a b n m = grind (arith, nat_tests, n, m)
 
 least_one : (a b : Sub) → op_less a b ≡ false → op_less b a ≡ false → a ≡ b
 least_one a b n m = elim (cases_Bool (same_op b a)) [

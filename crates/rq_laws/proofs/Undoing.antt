@@ -25,17 +25,20 @@ use Rattle.rq_txn.specs.Rows.{Row, Under, found_row}
 use Rattle.rq_store.specs.State.{State}
 use Rattle.rq_sound.specs.Inverses.{InverseTakesLowest}
 use Rattle.rq_sound.specs.Plans.{IsPlannedFrom}
+use Rattle.rq_sound.proofs.PlanFits.{same_cell}
+use Rattle.rq_planner.proofs.Replies.{first_new}
 use Rattle.rq_engine.specs.Aborts.{IsTurnedBack, IsUndoPlan, IsUndoStarted, UndoSays}
 use Rattle.rq_laws.specs.Alike.{AreAlike, row_told, under_told}
-use Rattle.rq_laws.proofs.Slots.{sender_same, used_same}
-use Rattle.rq_laws.proofs.Starts.{beside_same, first_new, lowest_same, rowless, rows_alike, same_alike, sub_of, told_same}
+use Rattle.rq_laws.proofs.Slots.{sender_same}
+use Rattle.rq_laws.proofs.Starts.{beside_same, lowest_same, rowless, rows_alike, same_alike, sub_of, told_same}
+use Rattle.rq_laws.proofs.Ending.{some_none}
 
 -- the writes of an inverse
 planned_same : (z : Sizes) (q : Slots) (rows : List Row) (us vs : List SlotWrite) (d : Deed) → q 0 ≡ Free → IsPlannedFrom z q us (Undid d) → IsPlannedFrom z q vs (Undid d)
     → InverseTakesLowest z q rows d us → InverseTakesLowest z q rows d vs → reverse (writes_of z us) ≡ reverse (writes_of z vs)
 planned_same z q rows us vs (Append g n tag previous body) zero f h l m =
     let d = sender_same g g f.directory h.directory (sym f.directory_is ∙ h.directory_is) in
-    let c = used_same f.cell h.cell (sym f.tail_is ∙ ap (λ (d : Directory). q d.tail) d ∙ h.tail_is) in
+    let c = same_cell f.cell h.cell (sym f.tail_is ∙ ap (λ (d : Directory). q d.tail) d ∙ h.tail_is) in
     let o = beside_same q f.cell.prev h.cell.prev f.front h.front zero (ap (λ (c : Cell). c.prev) c) f.beside h.beside in
     f.writes ∙ ap (λ x. unlink_tail_writes (layout_of z) g x f.cell previous f.front) d ∙ ap (λ x. unlink_tail_writes (layout_of z) g h.directory x previous f.front) c ∙ ap (unlink_tail_writes (layout_of z) g h.directory h.cell previous) o ∙ sym h.writes
 planned_same z q rows us vs (UnlinkHead g n tag body) zero f h l m =
@@ -59,9 +62,6 @@ turned_same n m a b (Some r) p q = (p.1 ∙ sym q.1, sym p.3 ∙ q.3)
 
 turned : (s : State) (t u : Txn) (n m : ℕ) (a b : Option Finished) → t ≡ u → IsTurnedBack s t n a → IsTurnedBack s u m b → (n ≡ m) × (a ≡ b)
 turned s t u n m a b e p q = turned_same n m a b (found_row u s.rows) (subst (λ t. IsTurnedBack s t n a) e p) q
-
-some_none : {X : Type 0} (a : X) → Some a ≡ None → ⊥
-some_none a e = cc
 
 both_started : (old : State) (sub : Sub) (x y : State) (f : IsUndoStarted old sub x) (h : IsUndoStarted old sub y) → f.done ≡ h.done → AreAlike x y
 both_started old sub x y f h e =

@@ -20,7 +20,7 @@ cells_apart z k i j x y n =
     ap (λ (f : List Bool). record k { free = f; reserved = set (set k.reserved i false) j false }) (set_apart k.free i j x y n)
     ∙ ap (λ (r : List Bool). record k { free = set (set k.free j y) i x; reserved = r }) (set_both k.reserved i j false n)
 
-is_cell : (z : Sizes) (a : ℕ) → is_cell_address z a ≡ true → IsCellAddress z a
+pub is_cell : (z : Sizes) (a : ℕ) → is_cell_address z a ≡ true → IsCellAddress z a
 is_cell z a e =
     let first = and_parts (nat_lt z.directory (a / 16)) (nat_lt (a / 16) (page_count z) && nat_lt 0 (a % 16)) e in
     let rest = and_parts (nat_lt (a / 16) (page_count z)) (nat_lt 0 (a % 16)) first.1 in

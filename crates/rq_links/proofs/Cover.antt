@@ -1,7 +1,7 @@
 -- Cells in chains, counted: where as many are used as stand in chains, each used one stands in one.
 use Rattle.std.proofs.Common.{◌≡◌, ◌≢◌, ℕ, zero, suc, ◌+◌, ◌<◌, ◌≤◌, ◌⊎◌, inl, inr, List, [], ◌∷◌, ◌++◌, length, true, false, cond, nat_eq, refl, sym, ◌∙◌, ap, subst, arith, Option, Some, None}
 use Rattle.std.specs.List.{sum_by}
-use Rattle.std.proofs.lemmas.Bool.{cases_Bool, cases_eq, cases_order, eq-eqb}
+use Rattle.std.proofs.lemmas.Bool.{cases_Bool, cases_eq, eq-eqb}
 use Rattle.std.proofs.lemmas.List.{length-append, length-map}
 use Rattle.std.proofs.lemmas.List.Sums.{length-filter}
 use Rattle.rq_model.specs.Tests.{below}
@@ -11,11 +11,12 @@ use Rattle.rq_page.specs.Sizes.{Sizes, IsCellAddress, cell_at, cell_count, place
 use Rattle.rq_page.specs.Slots.{Slot}
 use Rattle.rq_page.specs.Slots.Slot.{Free, Used, Sender}
 use Rattle.rq_page.specs.declared.cell.Cell.{Cell}
-use Rattle.rq_page.proofs.Addresses.{places_are_cells, cells_rise}
+use Rattle.rq_page.proofs.Addresses.{places_are_cells}
 use Rattle.rq_views.specs.Chain.{Node}
 use Rattle.rq_views.specs.Log.{Slots, cell_in, cells_of}
 use Rattle.rq_views.specs.Stored.{is_used, count_used}
 use Rattle.rq_views.proofs.Chains.{no_eq}
+use Rattle.rq_views.proofs.Counting.{same_place}
 use Rattle.rq_links.specs.Links.{addresses, AreOnce, AreChains, IsMet}
 use Rattle.rq_links.proofs.Chains.{linked_in}
 
@@ -69,12 +70,6 @@ mark_in : (a : ℕ) (l : List ℕ) → mark a l ≡ 1 → In a l
 mark_in a l e = elim (cases_Bool (has_number a l)) [
   | inl y ↦ has_in a l y
   | inr n ↦ absurd (let k : 0 ≡ 1 = rw n at e in omega (arith, k))
-]
-
-same_place : (z : Sizes) (i j : ℕ) → cell_at z i ≡ cell_at z j → i ≡ j
-same_place z i j e = elim (cases_order i j) [
-  | inl y ↦ y
-  | inr n ↦ elim n [ inl lt ↦ absurd (let h = cells_rise z i j lt in omega (arith, h, e)) | inr gt ↦ absurd (let h = cells_rise z j i gt in omega (arith, h, e)) ]
 ]
 
 -- the cells of a list of cells are as many as it is long

@@ -14,7 +14,7 @@ use Rattle.rq_log.specs.Spelled.{spelled, AreSpelled}
 use Rattle.rq_log.proofs.Moments.{joined, weaker}
 
 -- each record has some bytes
-few_records : (rs : List Record) → AreSpelled rs → 13 * length rs ≤ length (spelled rs)
+pub few_records : (rs : List Record) → AreSpelled rs → 13 * length rs ≤ length (spelled rs)
 few_records [] are = omega arith
 few_records (r ∷ rs) are = let a = few_records rs are.1 in let b = long_spelling r are.0 in let c = length-append (spelled rs) (spelling r) in omega (arith, a, b, c)
 

@@ -1,5 +1,5 @@
 -- Which transaction is next is told by the stack and the transactions that are lost.
-use Rattle.std.proofs.Common.{◌≡◌, ◌≢◌, ℕ, ◌≤◌, Bool, true, false, not, nat_lt, ◌||◌, List, [], ◌∷◌, map, Option, Some, None, inl, inr, refl, sym, ◌∙◌, ap, subst, arith}
+use Rattle.std.proofs.Common.{◌≡◌, ◌≢◌, ℕ, ◌≤◌, true, false, not, nat_lt, List, [], ◌∷◌, map, Option, Some, None, inl, inr, refl, sym, ◌∙◌, ap, subst, arith}
 use Rattle.std.specs.List.{filter}
 use Rattle.std.proofs.lemmas.Bool.{cases_Bool, true≢false, false≢true, false_from_ne_true, or_parts, ltb-false}
 use Rattle.std.proofs.lemmas.Bool.Decides.{nat_tests}
@@ -13,6 +13,7 @@ use Rattle.rq_model.proofs.Lists.{In-map, same_is, same_self}
 use Rattle.rq_page.specs.Sizes.{Sizes}
 use Rattle.rq_txn.specs.declared.Finished.{Finished}
 use Rattle.rq_txn.specs.Rows.{Row, change_row, row_started, row_stepped, row_undone, without_row}
+use Rattle.rq_txn.proofs.Finding.{same_swap}
 use Rattle.rq_store.specs.Rows.{placed, placed_one}
 use Rattle.rq_store.specs.State.{State}
 use Rattle.rq_store.proofs.Placed.{placed_more}
@@ -27,6 +28,7 @@ use Rattle.rq_lost.specs.Moves.IsAbortMove.{Starts, Writes, Undoes, Ends}
 use Rattle.rq_lost.specs.Turns.{EndsNext, TakesBackNext}
 use Rattle.rq_lost.proofs.Owing.{first_due, own_dues, placed_due}
 use Rattle.rq_lost.proofs.Turning.{nil_or, split_last}
+use Rattle.rq_undone.proofs.Noting.{filter_twice}
 
 -- the rows of all, by their transactions
 abbrev txns : List Row → List Txn
@@ -39,9 +41,6 @@ txns_changed t f (r ∷ rows) same = elim (cases_Bool (same_txn r.txn t)) [
   | inr n ↦ rw n (ap (λ (l : List Txn). r.txn ∷ l) (txns_changed t f rows same))
 ]
 
-txn_turned : (a b : Txn) → same_txn a b ≡ false → same_txn b a ≡ false
-txn_turned a b n = false_from_ne_true (same_txn b a) (λ e. false≢true (sym n ∙ ap (λ (t : Txn). same_txn a t) (same_is b a e) ∙ same_self a))
-
 txn_turns : (a b : Txn) → same_txn a b ≡ true → same_txn b a ≡ true
 txn_turns a b y = ap (λ (t : Txn). same_txn b t) (same_is a b y) ∙ same_self b
 
@@ -49,14 +48,7 @@ txns_without : (t : Txn) (rows : List Row) → txns (without_row t rows) ≡ fil
 txns_without t [] = refl
 txns_without t (r ∷ rows) = elim (cases_Bool (same_txn r.txn t)) [
   | inl y ↦ rw (y, txn_turns r.txn t y) (txns_without t rows)
-  | inr n ↦ rw (n, txn_turned r.txn t n) (ap (λ (l : List Txn). r.txn ∷ l) (txns_without t rows))
-]
-
-filter_twice : {X : Type 0} (f g : X → Bool) (xs : List X) → filter (λ x. not (f x || g x)) xs ≡ filter (λ x. not (f x)) (filter (λ x. not (g x)) xs)
-filter_twice f g [] = refl
-filter_twice f g (x ∷ xs) = elim (cases_Bool (g x)) [
-  | inl y ↦ rw y (elim (cases_Bool (f x)) [ inl z ↦ rw z (filter_twice f g xs) | inr z ↦ rw z (filter_twice f g xs) ])
-  | inr n ↦ rw n (elim (cases_Bool (f x)) [ inl z ↦ rw z (filter_twice f g xs) | inr z ↦ rw z (ap (λ l. x ∷ l) (filter_twice f g xs)) ])
+  | inr n ↦ rw (n, same_swap r.txn t n) (ap (λ (l : List Txn). r.txn ∷ l) (txns_without t rows))
 ]
 
 pub lost_ended : (t : Txn) (log : List Record) → lost (records.AbortEnd t ∷ log) ≡ filter (λ u. not (same_txn t u)) (lost log)
@@ -74,7 +66,7 @@ lost_stay s now (Ends r idle aborting none e) k = subst AreLost (sym e)
     (txns_without r.txn s.rows ∙ ap (filter (λ (u : Txn). not (same_txn r.txn u))) k ∙ sym (lost_ended r.txn s.records))
 
 -- nothing is due of a transaction that has no finished deed left
-none_filtered : (t : Txn) (ds : List Due) → any_due t ds ≡ false → filter (due_of t) ds ≡ []
+pub none_filtered : (t : Txn) (ds : List Due) → any_due t ds ≡ false → filter (due_of t) ds ≡ []
 none_filtered t [] e = refl
 none_filtered t (d ∷ ds) e = let k = or_parts (due_of t d) (any_due t ds) e in rw k.0 (none_filtered t ds k.1)
 

@@ -1,26 +1,21 @@
 -- What is counted of the store with lost transactions, beside their rows.
-use Rattle.std.proofs.Common.{◌≡◌, ◌≢◌, ℕ, zero, suc, ◌+◌, ◌-◌, ◌<◌, ◌≤◌, false, cond, nat_eq, List, [], ◌∷◌, ◌++◌, length, map, reverse, Option, Some, None, inl, inr, refl, sym, ◌∙◌, ap, subst, arith}
+use Rattle.std.proofs.Common.{◌≡◌, ◌≢◌, ℕ, ◌+◌, ◌-◌, ◌<◌, ◌≤◌, false, List, [], ◌∷◌, length, map, reverse, Option, Some, None, refl, sym, ◌∙◌, ap, subst, arith}
 use Rattle.std.specs.List.{filter, filter_map, sum_by}
-use Rattle.std.specs.Prelude.{slice_index_or}
-use Rattle.std.proofs.lemmas.Bool.{cases_Bool, cases_eq}
-use Rattle.std.proofs.lemmas.List.{length-append, length-map, reverse-append, map-append}
+use Rattle.std.proofs.lemmas.List.{reverse-append}
 use Rattle.std.proofs.lemmas.List.Sums.{sum_by-cons}
 use Rattle.rq_model.specs.declared.txn.Txn.{Txn}
 use Rattle.rq_model.specs.declared.txn.Sub.{Sub}
-use Rattle.rq_model.specs.declared.record.Deed.{Deed}
-use Rattle.rq_model.specs.declared.record.Deed.TheVariants.{Append, UnlinkHead, Close}
 use Rattle.rq_model.specs.declared.record.Record.{Record}
 use Rattle.rq_model.specs.Words.{In, taken_from}
 use Rattle.rq_model.specs.Commits.{committed_of, ops_told}
-use Rattle.rq_model.specs.Content.{removed, removed_one, said}
+use Rattle.rq_model.specs.Content.{removed}
 use Rattle.rq_model.specs.Counts.{is_taken}
 use Rattle.rq_model.specs.Ledger.{rest_in, sent_in, tag_of}
-use Rattle.rq_model.specs.Tests.{below, is_sent}
+use Rattle.rq_model.specs.Tests.{is_sent}
 use Rattle.rq_model.specs.Unended.{lost}
 use Rattle.rq_model.proofs.Lists.{In-map}
 use Rattle.rq_model.proofs.Told.{told_taken}
 use Rattle.rq_page.specs.Sizes.{Sizes, cell_count, sender_count}
-use Rattle.rq_views.specs.Groups.{on_receiving_end, side}
 use Rattle.rq_views.specs.Items.{items, layout_of}
 use Rattle.rq_views.specs.Legal.{Placed, open_deeds, under_way}
 use Rattle.rq_views.specs.Stored.{count_used}
@@ -41,11 +36,13 @@ use Rattle.rq_store.specs.Whole.{IsWhole}
 use Rattle.rq_store.proofs.Grouping.{groups_of}
 use Rattle.rq_store.proofs.Placed.{placed_more, count_takes, told_placed}
 use Rattle.rq_store.proofs.RowLists.{found_in, in_found, some_not_none}
+use Rattle.rq_store.proofs.Opening.{told_below}
 use Rattle.rq_sound.specs.Counted.{AreCounted, IsCovered, after_in, appending_in, appends_all, before_in, takes_all, takes_in}
 use Rattle.rq_sound.specs.Standing.{AreStanding}
 use Rattle.rq_sound.proofs.Claimed.{claimed_by_rows}
 use Rattle.rq_sound.proofs.Commits.{count_sends}
 use Rattle.rq_sound.proofs.RowSums.{alone_of_sum, none_of_sum}
+use Rattle.rq_sound.proofs.Asked.{none_removed}
 use Rattle.rq_lost.specs.Lost.{finished_in, finished_one, lost_row, lost_rows, sent_by_log, waiting_beside}
 use Rattle.rq_lost.proofs.Ends.{none_row}
 use Rattle.rq_lost.proofs.Workers.{lost_apart}
@@ -61,48 +58,11 @@ back_placed (p ∷ ps) =
 pub lost_placed : (z : Sizes) (log : List Record) (t : Txn) → open_deeds t (items z log) ≡ placed (finished_in z log t)
 lost_placed z log t = sym (back_placed (open_deeds t (items z log)))
 
--- a list of what each sender has, read at one
-length_below : (n : ℕ) → length (below n) ≡ n
-length_below zero = refl
-length_below (suc n) = let a = length-append (below n) (n ∷ []) in let b = length_below n in omega (arith, a, b)
-
-read_end : (xs : List ℕ) (x : ℕ) → slice_index_or (xs ++ x ∷ []) (length xs) 0 ≡ x
-read_end [] x = refl
-read_end (y ∷ xs) x = read_end xs x
-
-read_front : (xs : List ℕ) (x g : ℕ) → g < length xs → slice_index_or (xs ++ x ∷ []) g 0 ≡ slice_index_or xs g 0
-read_front [] x g m = absurd (omega (arith, m))
-read_front (y ∷ xs) x zero m = refl
-read_front (y ∷ xs) x (suc g) m = read_front xs x g (omega (arith, m))
-
-by_sender : (f : ℕ → ℕ) (n g : ℕ) → g < n → slice_index_or (map f (below n)) g 0 ≡ f g
-by_sender f zero g m = absurd (omega (arith, m))
-by_sender f (suc n) g m =
-    let a = map-append f (below n) (n ∷ []) in
-    let b : length (map f (below n)) ≡ n = length-map (below n) f ∙ length_below n in
-    elim (cases_eq g n) [
-      | inl e ↦ ap (λ l. slice_index_or l g 0) a ∙ ap (λ i. slice_index_or (map f (below n) ++ f n ∷ []) i 0) (e ∙ sym b) ∙ read_end (map f (below n)) (f n) ∙ ap f (sym e)
-      | inr ne ↦ ap (λ l. slice_index_or l g 0) a ∙ read_front (map f (below n)) (f n) g (omega (arith, b, m, ne)) ∙ by_sender f n g (omega (arith, m, ne))
-    ]
-
 pub keeps_sends : (z : Sizes) (log : List Record) → KeepsSends z log (sent_by_log z log)
 keeps_sends z log = record {
-  counts = by_sender (λ g. length (sent_in (committed_of log) g)) (sender_count z);
-  tags = by_sender (λ g. tag_of (sent_in (committed_of log) g)) (sender_count z);
+  counts = told_below (λ g. length (sent_in (committed_of log) g)) (sender_count z);
+  tags = told_below (λ g. tag_of (sent_in (committed_of log) g)) (sender_count z);
 }
-
--- who took nothing from a sender
-one_removed : (s : ℕ) (d : Deed) (xs : List Deed) (k : ℕ) → cond (on_receiving_end s d) (d ∷ xs) xs ≡ [] → (xs ≡ [] → k ≡ 0) → k + removed_one s (said d) ≡ 0
-one_removed s (Append r n tag previous body) xs k e h = let i = h e in omega (arith, i)
-one_removed s (UnlinkHead r n tag body) xs k e h = elim (cases_Bool (nat_eq r s)) [
-  | inl y ↦ let bad : UnlinkHead r n tag body ∷ xs ≡ [] = rw y at e in absurd (cc)
-  | inr m ↦ rw m (let i = h (rw m at e) in omega (arith, i))
-]
-one_removed s (Close r) xs k e h = let i = h e in omega (arith, i)
-
-none_removed : (s : ℕ) (ps : List Placed) → side (on_receiving_end s) ps ≡ [] → removed s (say ps) ≡ 0
-none_removed s [] e = refl
-none_removed s (p ∷ ps) e = one_removed s p.deed (side (on_receiving_end s) ps) (removed s (say ps)) e (none_removed s ps)
 
 module _ (z : Sizes) (log : List Record) (ends : HeldEnds) (i b : ℕ) (whole : IsWhole z log) (idle : (o : Sub) → under_way o (items z log) ≡ false) (k : AreStanding z log ends (lost_rows z log) i b) where
   abbrev rows : List Row
@@ -163,7 +123,7 @@ module _ (z : Sizes) (log : List Record) (ends : HeldEnds) (i b : ℕ) (whole : 
 
   waited : (g : ℕ) → g < sender_count z → waits (waiting_beside z log rows) g + sum_by (takes_in g) rows ≡ length (rest_in (committed_of log) g)
   waited g m =
-      let a : waits (waiting_beside z log rows) g ≡ length (rest_in (committed_of log) g) - sum_by (takes_in g) rows = by_sender (λ s. length (rest_in (committed_of log) s) - sum_by (takes_in s) rows) (sender_count z) g m in
+      let a : waits (waiting_beside z log rows) g ≡ length (rest_in (committed_of log) g) - sum_by (takes_in g) rows = told_below (λ s. length (rest_in (committed_of log) s) - sum_by (takes_in s) rows) (sender_count z) g m in
       let c = taken_within g in
       omega (arith, a, c)
 

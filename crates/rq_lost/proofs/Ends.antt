@@ -10,6 +10,7 @@ use Rattle.rq_model.specs.Content.Said.{Added, Removed, Ended}
 use Rattle.rq_model.specs.Rules.{EndingMay, KeepsRules, any_use, holds, uses_receive, uses_send}
 use Rattle.rq_model.specs.Unended.{lost}
 use Rattle.rq_model.proofs.Lists.{same_is}
+use Rattle.rq_model.proofs.Ends.{in_has, has_in}
 use Rattle.rq_page.specs.Sizes.{Sizes}
 use Rattle.rq_groups.specs.declared.Held.{Held}
 use Rattle.rq_groups.specs.Ends.{has_held, with_held}
@@ -18,7 +19,7 @@ use Rattle.rq_views.proofs.OpenCounts.{AreApart}
 use Rattle.rq_store.specs.Settled.{AreEnds}
 use Rattle.rq_sound.specs.Standing.{HoldsAll}
 use Rattle.rq_lost.specs.Lost.{lost_ends, lost_row, lost_rows, receiving_end, sending_end, used_by, with_all_used, with_used}
-use Rattle.rq_lost.proofs.Workers.{in_txn, lost_apart, lost_running, txn_in}
+use Rattle.rq_lost.proofs.Workers.{lost_apart, lost_running}
 
 -- Two that use one end and have not ended are one: the later one found nobody there.
 abbrev OthersAreOut : (Said → Bool) → Type 0
@@ -141,7 +142,7 @@ takes_are log s u = has_used_by receiving_end (uses_receive s) s (receiving_is s
 
 pub lost_holds : (log : List Record) (t : Txn) → In t (lost log) → HoldsAll (lost_ends log) t log
 lost_holds log t i =
-    let here = in_txn t (lost log) i in
+    let here = in_has t (lost log) i in
     record {
       sends = λ s e. sends_are log s t ∙ and_from (has_txn t (lost log)) (any_use (uses_send s) (deeds (λ u. same_txn u t) log)) here e;
       takes = λ s e. takes_are log s t ∙ and_from (has_txn t (lost log)) (any_use (uses_receive s) (deeds (λ u. same_txn u t) log)) here e;
@@ -185,7 +186,7 @@ ends_stand z log f hs out k are = record {
   user : (t : Txn) (s : ℕ) → has_held t s hs ≡ true → holds (f s) log t ≡ true
   user t s a =
       let p = parts t s a in
-      and_from (any_use (f s) (deeds (λ v. same_txn v t) log)) (not (has_end log t)) p.1 (ap not (lost_running log t (txn_in t (lost log) p.0)))
+      and_from (any_use (f s) (deeds (λ v. same_txn v t) log)) (not (has_end log t)) p.1 (ap not (lost_running log t (has_in t (lost log) p.0)))
 
 pub sends_stand : (z : Sizes) (log : List Record) → KeepsRules log → AreEnds (lost_rows z log) (lost_ends log).sending
 sends_stand z log k = ends_stand z log uses_send (lost_ends log).sending sends_out k (sends_are log)

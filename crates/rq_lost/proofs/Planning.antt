@@ -21,12 +21,13 @@ use Rattle.rq_views.specs.Plans.{deed_sender}
 use Rattle.rq_views.proofs.CanUndo.{can_undo_sent, can_undo_taken}
 use Rattle.rq_txn.specs.declared.Finished.{Finished}
 use Rattle.rq_txn.specs.Rows.{Row, any_under}
+use Rattle.rq_txn.proofs.Finding.{in_found}
 use Rattle.rq_store.specs.Rows.{placed}
 use Rattle.rq_store.specs.State.{State}
 use Rattle.rq_store.proofs.Grouping.{groups_of}
 use Rattle.rq_store.specs.Whole.{IsWhole}
 use Rattle.rq_store.proofs.Others.{none_of}
-use Rattle.rq_store.proofs.RowLists.{found_here, found_in, none_under}
+use Rattle.rq_store.proofs.RowLists.{found_in, none_under}
 use Rattle.rq_sound.specs.Sound.{IsSound}
 use Rattle.rq_sound.specs.Calls.{IsIdle}
 use Rattle.rq_sound.specs.Groups.{TellsGroup, slots_now}
@@ -43,7 +44,7 @@ use Rattle.rq_lost.proofs.Choosing.{chosen_back}
 use Rattle.rq_lost.proofs.Found.{may_be_undone}
 use Rattle.rq_lost.proofs.Logging.{come_sizes, come_sound}
 
-in_newest : (t : Txn) (ds : List Due) (d : Due) → In d (but_newest t ds) → In d ds
+pub in_newest : (t : Txn) (ds : List Due) (d : Due) → In d (but_newest t ds) → In d ds
 in_newest t [] d i = i
 in_newest t (e ∷ ds) d i = elim (cases_Bool (due_of t e)) [
   | inl y ↦ inr (rw y at i)
@@ -113,7 +114,7 @@ due_may base images log d ds k b none first =
     let s = newest_store base b.stores in
     let sound = come_sound base b.stores images log k b.come in
     let h = chosen_back s sound b.come.lost d ds (subst (λ l. least_free (dues l) (lost l) ≡ None) (sym b.come.records_are) none) (ap dues b.come.records_are ∙ first) in
-    let m : IsIdle s h.0 = record { at_row = found_here s.rows h.0 sound.standing.distinct h.3.row; idle = none_of h.0.under (none_under s.rows h.0 b.idle h.3.row) } in
+    let m : IsIdle s h.0 = record { at_row = in_found s.rows h.0 sound.standing.distinct h.3.row; idle = none_of h.0.under (none_under s.rows h.0 b.idle h.3.row) } in
     let sizes : s.sizes ≡ base.sizes = come_sizes base b.stores images log k b.come in
     let below : deed_sender (deed_due d) < sender_count s.sizes = (due_reads s.sizes s.records d sound.log (subst (In d) (sym (ap dues b.come.records_are ∙ first)) (inl refl))).1 in
     record {

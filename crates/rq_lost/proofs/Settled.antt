@@ -1,5 +1,5 @@
 -- A sound store without rows has a log in which everything has ended.
-use Rattle.std.proofs.Common.{◌≡◌, ℕ, List, [], ◌∷◌, ◌++◌, refl, sym, ◌∙◌, ap, true, false, not, ◌&&◌, nat_eq, Option, Some, None, inl, inr, ◌⊎◌}
+use Rattle.std.proofs.Common.{◌≡◌, ℕ, List, [], ◌∷◌, refl, sym, ◌∙◌, ap, true, false, not, ◌&&◌, nat_eq, Option, Some, None, inl, inr}
 use Rattle.std.proofs.lemmas.Bool.{cases_Bool, true≢false, or_left, or_right, not-true}
 use Rattle.rq_model.specs.declared.txn.Txn.{Txn}
 use Rattle.rq_model.specs.declared.record.Record.{Record}
@@ -8,6 +8,7 @@ use Rattle.rq_model.specs.Words.{In, same_txn, has_txn}
 use Rattle.rq_model.specs.Content.{Ending, Said, ending, kept, deeds, has_end}
 use Rattle.rq_model.specs.Unended.{any_record, operation_ended, has_pair, operations, unfinished, add_txn, workers, lost}
 use Rattle.rq_model.proofs.Lists.{In-filter, same_self}
+use Rattle.rq_model.proofs.Same.{In-append}
 use Rattle.rq_page.specs.Sizes.{Sizes}
 use Rattle.rq_txn.specs.Rows.{found_row}
 use Rattle.rq_views.specs.Items.{items, operation}
@@ -19,14 +20,6 @@ use Rattle.rq_store.proofs.Opening.{over_same}
 use Rattle.rq_sound.specs.Sound.{IsSound}
 use Rattle.rq_undone.proofs.Lists.{nothing_in}
 
--- the last of a list, or one before
-in_behind : {X : Type 0} (xs : List X) (y x : X) → In x (xs ++ y ∷ []) → In x xs ⊎ (x ≡ y)
-in_behind [] y x h = elim h [ inl e ↦ inr e | inr i ↦ absurd i ]
-in_behind (z ∷ xs) y x h = elim h [
-  | inl e ↦ inl (inl e)
-  | inr i ↦ elim (in_behind xs y x i) [ inl j ↦ inl (inr j) | inr e ↦ inr e ]
-]
-
 worker_one : (t : Txn) (x : Option Ending) (ts : List Txn) (ds : List Said) → (In t ts → ds ≡ [] → ⊥) → In t (add_txn x ts) → kept (λ u. same_txn u t) x ds ≡ [] → ⊥
 worker_one t None ts ds ih i e = ih i e
 worker_one t (Some x) ts ds ih i e = elim (cases_Bool (same_txn x.txn t)) [
@@ -35,7 +28,7 @@ worker_one t (Some x) ts ds ih i e = elim (cases_Bool (same_txn x.txn t)) [
       let none : ds ≡ [] = rw n at e in
       elim (cases_Bool (has_txn x.txn ts)) [
         | inl there ↦ ih (rw there at i) none
-        | inr off ↦ elim (in_behind ts x.txn t (rw off at i)) [
+        | inr off ↦ elim (In-append ts x.txn t (rw off at i)) [
           | inl j ↦ ih j none
           | inr is ↦ true≢false (sym (same_self t) ∙ ap (λ (u : Txn). same_txn u t) is ∙ n)
         ]
@@ -52,7 +45,7 @@ op_began : (z : Sizes) (p : Txn × ℕ) (log : List Record) → In p (operations
 op_began z p [] i = absurd i
 op_began z p (records.PageOp t n page slot before after ∷ log) i = elim (cases_Bool (has_pair t n (operations log))) [
   | inl y ↦ or_right _ (began (operation p.0 p.1) (items z log)) (op_began z p log (rw y at i))
-  | inr f ↦ elim (in_behind (operations log) (t, n) p (rw f at i)) [
+  | inr f ↦ elim (In-append (operations log) (t, n) p (rw f at i)) [
     | inl j ↦ or_right _ (began (operation p.0 p.1) (items z log)) (op_began z p log j)
     | inr is ↦ or_left _ (began (operation p.0 p.1) (items z log)) (ap (λ (q : Txn × ℕ). same_txn t q.0 && nat_eq n q.1) is ∙ ops.same_self (operation t n))
   ]

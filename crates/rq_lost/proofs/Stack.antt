@@ -1,37 +1,19 @@
 -- Dues that stand in the order of their records, and as contracts see them, the newest first.
-use Rattle.std.proofs.Common.{◌≡◌, ℕ, suc, ◌+◌, ◌<◌, Bool, true, false, List, [], ◌∷◌, ◌++◌, ◌||◌, Some, None, length, take, drop, get_or, reverse, refl, sym, ◌∙◌, ap, inl, inr, arith}
+use Rattle.std.proofs.Common.{◌≡◌, ℕ, suc, ◌+◌, ◌<◌, true, false, List, [], ◌∷◌, ◌++◌, ◌||◌, Some, None, length, take, drop, get_or, reverse, refl, sym, ◌∙◌, ap, inl, inr, arith}
 use Rattle.std.specs.List.{filter}
 use Rattle.std.proofs.Math.Seq.{split_at}
 use Rattle.std.proofs.lemmas.Bool.{cases_Bool, or_parts}
 use Rattle.std.proofs.lemmas.List.{reverse-append}
-use Rattle.std.proofs.lemmas.List.Elements.{filter-append}
 use Rattle.rq_model.specs.declared.txn.Txn.{Txn}
 use Rattle.rq_model.specs.Words.{first}
 use Rattle.rq_lost.specs.declared.dues.Due.{Due}
 use Rattle.rq_lost.specs.Dues.{any_due, but_newest, due_of}
-
-with_nothing : {X : Type 0} (ys : List X) → ys ≡ ys ++ []
-with_nothing [] = refl
-with_nothing (y ∷ ys) = ap (λ l. y ∷ l) (with_nothing ys)
-
-pub filter_reverse : {X : Type 0} (f : X → Bool) (xs : List X) → reverse (filter f xs) ≡ filter f (reverse xs)
-filter_reverse f [] = refl
-filter_reverse f (x ∷ xs) =
-    let e : filter f (reverse (x ∷ xs)) ≡ filter f (reverse xs) ++ filter f (x ∷ []) = ap (filter f) (reverse-append (x ∷ []) xs) ∙ filter-append f (reverse xs) (x ∷ []) in
-    elim (cases_Bool (f x)) [
-      | inl y ↦ let one : filter f (x ∷ []) ≡ x ∷ [] = rw y refl in rw y (reverse-append (x ∷ []) (filter f xs) ∙ ap (λ l. l ++ x ∷ []) (filter_reverse f xs) ∙ ap (λ l. filter f (reverse xs) ++ l) (sym one) ∙ sym e)
-      | inr n ↦ let one : filter f (x ∷ []) ≡ [] = rw n refl in rw n (filter_reverse f xs ∙ with_nothing (filter f (reverse xs)) ∙ ap (λ l. filter f (reverse xs) ++ l) (sym one) ∙ sym e)
-    ]
+use Rattle.rq_lost.proofs.Choosing.{none_filtered}
+use Rattle.rq_undone.proofs.Places.{or_turned}
 
 any_behind : (t : Txn) (ps qs : List Due) → any_due t (ps ++ qs) ≡ (any_due t ps || any_due t qs)
 any_behind t [] qs = refl
 any_behind t (p ∷ ps) qs = elim (cases_Bool (due_of t p)) [ inl y ↦ rw y refl | inr n ↦ rw n (any_behind t ps qs) ]
-
-or_turned : (b c : Bool) → (b || (c || false)) ≡ (c || b)
-or_turned true true = refl
-or_turned true false = refl
-or_turned false true = refl
-or_turned false false = refl
 
 pub any_reverse : (t : Txn) (ps : List Due) → any_due t (reverse ps) ≡ any_due t ps
 any_reverse t [] = refl
@@ -72,11 +54,6 @@ pub taken_in : (t : Txn) (now ps : List Due) (i : ℕ) (d : Due) → now ≡ ps 
     → reverse (take i ps ++ drop (i + 1) ps) ≡ but_newest t (reverse ps)
 taken_in t now ps i d same lt own none = ap (λ l. reverse (take i l ++ drop (i + 1) l)) (sym same) ∙ taken_back t now i d lt own none ∙ ap (λ l. but_newest t (reverse l)) same
 
--- none of these is the transaction's
-none_own : (t : Txn) (ps : List Due) → any_due t ps ≡ false → filter (due_of t) ps ≡ []
-none_own t [] none = refl
-none_own t (p ∷ ps) none = let k = or_parts (due_of t p) (any_due t ps) none in rw k.0 (none_own t ps k.1)
-
 -- the first of the transaction's, where none before it is one
 first_front : (t : Txn) (ps : List Due) (p : Due) (qs : List Due) → any_due t ps ≡ false → due_of t p ≡ true → first (filter (due_of t) (ps ++ p ∷ qs)) ≡ Some p
 first_front t [] p qs none own = rw own refl
@@ -93,4 +70,4 @@ newest_there t now ps i d same lt own none =
     behind = drop (i + 1) now
 
 pub none_there : (t : Txn) (ps : List Due) → any_due t ps ≡ false → None ≡ first (filter (due_of t) (reverse ps))
-none_there t ps none = ap first (sym (none_own t (reverse ps) (any_reverse t ps ∙ none)))
+none_there t ps none = ap first (sym (none_filtered t (reverse ps) (any_reverse t ps ∙ none)))

@@ -86,7 +86,7 @@ none_new log now x t i = at (subst (λ l. In t (lost l)) (sym x.1) i) where
       let g = In-filter (λ u. not (has_end (x.0 ++ log) u)) (workers (x.0 ++ log)) t j in
       filter_in (λ u. not (has_end log u)) (workers log) t (subst (In t) (same_workers x.0 log x.2) g.0) (ap not (ended_before x.0 log t (not-true (has_end (x.0 ++ log) t) g.1)))
 
-plain_drop : (n : ℕ) (xs : List Record) → ArePlain xs → ArePlain (drop n xs)
+pub plain_drop : (n : ℕ) (xs : List Record) → ArePlain xs → ArePlain (drop n xs)
 plain_drop zero xs h = h
 plain_drop (suc n) [] h = h
 plain_drop (suc n) (x ∷ xs) h = plain_drop n xs h.1

@@ -14,18 +14,21 @@ use Rattle.rq_level.specs.Writes.{writes_of}
 use Rattle.rq_txn.specs.declared.Finished.{Finished}
 use Rattle.rq_txn.specs.declared.Aim.TheVariants as aims
 use Rattle.rq_txn.specs.Rows.{Row, Under, any_under, change_row, row_started, row_stepped, row_undone}
+use Rattle.rq_txn.proofs.Finding.{in_found}
 use Rattle.rq_store.specs.Fitting.{left_by}
 use Rattle.rq_store.specs.Rows.{placed, placed_one}
 use Rattle.rq_store.specs.State.{State}
 use Rattle.rq_store.proofs.Placed.{placed_first, placed_more}
 use Rattle.rq_store.proofs.Others.{none_of}
-use Rattle.rq_store.proofs.RowLists.{found_here, gone, none_under, unique}
+use Rattle.rq_store.proofs.RowLists.{gone, none_under, unique}
 use Rattle.rq_sound.specs.Calls.{IsIdle, aborted, started}
 use Rattle.rq_sound.specs.Sound.{IsSound}
 use Rattle.rq_sound.proofs.Contracts.{planned}
 use Rattle.rq_sound.proofs.Groups.{none_latched}
 use Rattle.rq_model.specs.declared.record.Record.{Record}
 use Rattle.rq_model.specs.Unended.{lost}
+use Rattle.rq_model.proofs.Same.{In-append}
+use Rattle.rq_model.proofs.Clears.{In-left}
 use Rattle.rq_page.specs.Sizes.{Sizes}
 use Rattle.rq_sound.specs.Inverses.{InverseTakesLowest}
 use Rattle.rq_sound.specs.Groups.{slots_now}
@@ -186,10 +189,6 @@ open_falls t (Commit u ∷ log) = elim (cases_Bool (same_txn u t)) [
   | inr n ↦ rw n (open_falls t log)
 ]
 
-in_front : {X : Type 0} (xs ys : List X) (x : X) → In x xs → In x (xs ++ ys)
-in_front [] ys x i = absurd i
-in_front (z ∷ xs) ys x i = elim i [ inl e ↦ inl e | inr j ↦ inr (in_front xs ys x j) ]
-
 in_last : {X : Type 0} (xs : List X) (x : X) → In x (xs ++ x ∷ [])
 in_last [] x = inl refl
 in_last (z ∷ xs) x = inr (in_last xs x)
@@ -198,15 +197,8 @@ pub in_placed : (fs : List Finished) (g : Finished) → In g fs → In (placed_o
 in_placed [] g i = absurd i
 in_placed (f ∷ fs) g i = subst (In (placed_one g)) (sym (placed_first f fs)) (elim i [
   | inl e ↦ subst (λ (x : Finished). In (placed_one g) (placed fs ++ placed_one x ∷ [])) e (in_last (placed fs) (placed_one g))
-  | inr j ↦ in_front (placed fs) (placed_one f ∷ []) (placed_one g) (in_placed fs g j)
+  | inr j ↦ In-left (placed fs) (placed_one f ∷ []) (placed_one g) (in_placed fs g j)
 ])
-
-in_parts : {X : Type 0} (xs : List X) (y x : X) → In x (xs ++ y ∷ []) → In x xs ⊎ (x ≡ y)
-in_parts [] y x i = elim i [ inl e ↦ inr e | inr j ↦ absurd j ]
-in_parts (z ∷ xs) y x i = elim i [
-  | inl e ↦ inl (inl e)
-  | inr j ↦ elim (in_parts xs y x j) [ inl k ↦ inl (inr k) | inr e ↦ inr e ]
-]
 
 -- no two transactions have a deed at one place
 in_shorter : (b : Bool) (ps qs : List Placed) (p : Placed) → (In p ps → In p qs) → In p (cond b ps qs) → In p qs
@@ -284,7 +276,7 @@ module _ (s : State) (k : IsSound s) where
         let h = split_last q.finished some in
         let falls : AreFalling (placed_one h.1 ∷ placed h.0) = subst AreFalling ((k.standing.each q j).done ∙ ap placed h.2 ∙ placed_more h.0 h.1) (open_falls q.txn (items s.sizes s.records)) in
         let last : newest_lsn q.finished ≡ h.1.lsn = ap newest_lsn h.2 ∙ newest_last h.0 h.1 in
-        elim (in_parts h.0 h.1 g (subst (In g) h.2 i)) [
+        elim (In-append h.0 h.1 g (subst (In g) h.2 i)) [
           | inl m ↦ (let a = falls.0 (placed_one g) (in_placed h.0 g m) in omega (arith, a, last))
           | inr e ↦ (let a : g.lsn ≡ h.1.lsn = ap (λ (x : Finished). x.lsn) e in omega (arith, a, last))
         ]
@@ -314,7 +306,7 @@ module _ (s : State) (k : IsSound s) where
 
   idle_row : (r : Row) → any_under s.rows ≡ false → In r s.rows → IsIdle s r
   idle_row r off j = record {
-    at_row = found_here s.rows r k.standing.distinct j;
+    at_row = in_found s.rows r k.standing.distinct j;
     idle = none_of r.under (none_under s.rows r off j);
   }
 

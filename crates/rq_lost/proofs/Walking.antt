@@ -1,5 +1,5 @@
 -- What a program does whose log and pages are those of a store on its way.
-use Rattle.std.proofs.Common.{◌≡◌, ◌≢◌, ◌<◌, ◌≤◌, ℕ, zero, suc, ◌+◌, ◌/◌, ◌%◌, Bool, true, false, not, ◌||◌, List, [], ◌∷◌, length, Option, Some, None, option_map, inl, inr, refl, sym, ◌∙◌, ap, subst, arith}
+use Rattle.std.proofs.Common.{◌≡◌, ◌≢◌, ◌<◌, ◌≤◌, ℕ, zero, suc, ◌+◌, ◌/◌, ◌%◌, true, false, not, ◌||◌, List, [], ◌∷◌, length, Option, Some, None, option_map, inl, inr, refl, sym, ◌∙◌, ap, subst, arith}
 use Rattle.std.specs.List.{filter, slice_get}
 use Rattle.std.proofs.lemmas.Bool.{cases_Bool, true≢false, or_parts, or_from, cases_eq, eq-eqb, ne_eqb}
 use Rattle.rq_model.specs.declared.record.Deed.{Deed}
@@ -16,11 +16,11 @@ use Rattle.rq_level.specs.declared.writes.SlotWrite.{SlotWrite}
 use Rattle.rq_groups.specs.Waiting.{waits}
 use Rattle.rq_txn.specs.declared.Aim.TheVariants as aims
 use Rattle.rq_txn.specs.Rows.{Row, Under, any_under, change_row, found_row, row_started, row_stepped, under_stepped, without_row, latched_in}
-use Rattle.rq_txn.proofs.Finding.{found_change_same}
+use Rattle.rq_txn.proofs.Finding.{found_change_same, in_found}
 use Rattle.rq_store.specs.State.{State}
 use Rattle.rq_store.specs.Steps.{page_op, took}
 use Rattle.rq_store.proofs.Others.{none_of}
-use Rattle.rq_store.proofs.RowLists.{found_here, none_under}
+use Rattle.rq_store.proofs.RowLists.{none_under}
 use Rattle.rq_sound.specs.Calls.{IsIdle, IsNextWrite, IsPutIn, IsReady, aborted, started, stepped, undone}
 use Rattle.rq_sound.specs.Plans.{IsPlannedFrom}
 use Rattle.rq_sound.specs.Rows.{comp_end}
@@ -52,6 +52,7 @@ use Rattle.rq_lost.proofs.Numbering.{row_number}
 use Rattle.rq_lost.proofs.Recovering.{behind}
 use Rattle.rq_lost.proofs.Stopping.{moves_sizes}
 use Rattle.rq_lost.proofs.Turning.{lost_aborting, lost_idle, still_aborting}
+use Rattle.rq_undone.proofs.Lists.{filter_le, filter_less}
 
 -- who else has something under way
 none_without : (t : Txn) (rows : List Row) → any_under rows ≡ false → any_under (without_row t rows) ≡ false
@@ -157,7 +158,7 @@ module _ (base : State) (k : IsSound base) (stores : List State) (images : List 
   }
 
   idle_row : (r : Row) → any_under s.rows ≡ false → In r s.rows → IsIdle s r
-  idle_row r off j = record { at_row = found_here s.rows r sound.standing.distinct j; idle = none_of r.under (none_under s.rows r off j) }
+  idle_row r off j = record { at_row = in_found s.rows r sound.standing.distinct j; idle = none_of r.under (none_under s.rows r off j) }
 
   pub begin : any_under s.rows ≡ false → (d : Due) (ds : List Due) (ws : List SlotWrite) → least_free (dues log) (lost log) ≡ None → dues log ≡ d ∷ ds
       → IsPlannedFrom base.sizes (slots_in base.sizes images) ws (Undid (deed_due d)) → InverseTakesLowest base.sizes (slots_in base.sizes images) [] (deed_due d) ws
@@ -247,21 +248,6 @@ aborts_go_on = record {
   ends = λ base images log t k b e. end base k b.stores images log b.come b.idle t e;
   done = λ base images log b k none nothing. finish base k b.stores images log b.come none nothing;
 }
-
--- less is left
-filter_le : {X : Type 0} (p : X → Bool) (xs : List X) → length (filter p xs) ≤ length xs
-filter_le p [] = omega arith
-filter_le p (y ∷ xs) = elim (cases_Bool (p y)) [
-  | inl t ↦ rw t (omega (arith, filter_le p xs))
-  | inr n ↦ rw n (omega (arith, filter_le p xs))
-]
-
-filter_less : {X : Type 0} (p : X → Bool) (xs : List X) (x : X) → In x xs → p x ≡ false → length (filter p xs) < length xs
-filter_less p [] x h k = absurd h
-filter_less p (y ∷ xs) x h k = elim (cases_Bool (p y)) [
-  | inl t ↦ rw t (elim h [ inl e ↦ absurd (true≢false (sym t ∙ ap p (sym e) ∙ k)) | inr i ↦ omega (arith, filter_less p xs x i k) ])
-  | inr n ↦ rw n (omega (arith, filter_le p xs))
-]
 
 back_less : (log : List Record) (d : Due) (ds : List Due) (n lsn : ℕ) → dues log ≡ d ∷ ds → rounds_left (comp_end d.txn n lsn ∷ log) < rounds_left log
 back_less log d ds n lsn e =

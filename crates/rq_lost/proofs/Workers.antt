@@ -14,6 +14,7 @@ use Rattle.rq_model.specs.Incarnations.{InOrder, incarnation_of, txn_of}
 use Rattle.rq_model.specs.Rules.{any_use}
 use Rattle.rq_model.specs.Unended.{add_txn, workers, lost, any_record}
 use Rattle.rq_model.proofs.Lists.{In-filter, same_is, same_self}
+use Rattle.rq_model.proofs.Ends.{in_has}
 use Rattle.rq_page.specs.Sizes.{Sizes}
 use Rattle.rq_views.specs.Groups.{side}
 use Rattle.rq_views.specs.InStore.{IsStranger, mentions}
@@ -29,20 +30,6 @@ or_again : (a b c : Bool) → (a || (b || c)) ≡ (b || (a || c))
 or_again true true c = refl
 or_again true false c = refl
 or_again false b c = refl
-
-pub in_txn : (t : Txn) (ts : List Txn) → In t ts → has_txn t ts ≡ true
-in_txn t [] i = absurd i
-in_txn t (u ∷ ts) i = elim i [
-  | inl e ↦ or_left (same_txn u t) (has_txn t ts) (ap (λ (v : Txn). same_txn v t) (sym e) ∙ same_self t)
-  | inr j ↦ or_right (same_txn u t) (has_txn t ts) (in_txn t ts j)
-]
-
-pub txn_in : (t : Txn) (ts : List Txn) → has_txn t ts ≡ true → In t ts
-txn_in t [] e = absurd (false≢true e)
-txn_in t (u ∷ ts) e = elim (or_cases (same_txn u t) (has_txn t ts) e) [
-  | inl y ↦ inl (sym (same_is u t y))
-  | inr n ↦ inr (txn_in t ts n)
-]
 
 has_behind : (t u : Txn) (ts : List Txn) → has_txn t (ts ++ u ∷ []) ≡ (same_txn u t || has_txn t ts)
 has_behind t u [] = refl
@@ -175,7 +162,7 @@ lost_running log t i = not-true (has_end log t) (In-filter (λ u. not (has_end l
 pub lost_now : (z : Sizes) (log : List Record) (t : Txn) → IsLegalLog (layout_of z) (items z log) → InOrder log → In t (lost log) → t.incarnation ≡ incarnation_of log
 lost_now z log t k o i =
     let g = In-filter (λ u. not (has_end log u)) (workers log) t i in
-    doer_now z t log k o (worker_did z t log (in_txn t (workers log) g.0)) (not-true (has_end log t) g.1)
+    doer_now z t log k o (worker_did z t log (in_has t (workers log) g.0)) (not-true (has_end log t) g.1)
 
 -- who counts beyond every transaction of the log has no record there
 other_count : (u t : Txn) → u.count < t.count → same_txn u t ≡ false

@@ -13,11 +13,12 @@ use Rattle.rq_model.specs.History.Entry.{Begun, Started, None_free, None_from, S
 use Rattle.rq_model.specs.Ledger.{Open, Done, Ledger, found, change, without, ops_of, after, ledger, started, stepped, writes, done_more, undone, fresh_one, any_ends, ended_in, add_number}
 use Rattle.rq_model.specs.Legal.{Legal, IsLegal, start_of, IsDoneBy}
 use Rattle.rq_model.specs.Tests.{Size, Passes, is_aborting, has_closed, free_to_send}
-use Rattle.rq_model.proofs.Lists.{same_self}
+use Rattle.rq_model.proofs.Lists.{same_self, In-map}
 use Rattle.rq_model.proofs.Keeps.{found_in, changed, gone}
 use Rattle.rq_model.proofs.Each.{start_at, did_at, undid_at, step_at, GoodAt, Good-ledger, known, add_same, add_from, add_not, free_is}
 use Rattle.rq_model.proofs.Same.{other_same, TiedAt, Tied-ledger, In-append, In-take}
 use Rattle.rq_model.proofs.Ends.{any_ends_more, ended_none, fewer}
+use Rattle.rq_model.proofs.Shown.{not_ended}
 
 abbrev pub alive : List Done → List Open → List Txn
 alive c os = map (λ (d : Done). d.txn) c ++ map (λ (o : Open). o.txn) os
@@ -31,15 +32,11 @@ pub record Clear (h : List Entry) (c : List Done) (os : List Open) : Type 0 wher
   pub send_open : (o : Open) (m : Message) → In o os → o.under ≡ Some (Sending m) → ended_in c m.sender ≡ false
   pub after : (s : ℕ) → NoneAfterEnd (alive c os) s h
 
-In-back : {X Y : Type 0} (f : X → Y) (xs : List X) (y : Y) → In y (map f xs) → (x : X) × In x xs × (y ≡ f x)
-In-back f [] y h = absurd h
-In-back f (x ∷ xs) y h = elim h [ inl e ↦ (x, inl refl, e) | inr i ↦ let g = In-back f xs y i in (g.0, inr g.1, g.2) ]
-
 In-to : {X Y : Type 0} (f : X → Y) (xs : List X) (x : X) → In x xs → In (f x) (map f xs)
 In-to f [] x h = absurd h
 In-to f (y ∷ xs) x h = elim h [ inl e ↦ inl (ap f e) | inr i ↦ inr (In-to f xs x i) ]
 
-In-left : {X : Type 0} (xs ys : List X) (x : X) → In x xs → In x (xs ++ ys)
+pub In-left : {X : Type 0} (xs ys : List X) (x : X) → In x xs → In x (xs ++ ys)
 In-left [] ys x h = absurd h
 In-left (y ∷ xs) ys x h = elim h [ inl e ↦ inl e | inr i ↦ inr (In-left xs ys x i) ]
 
@@ -54,8 +51,8 @@ In-parts (y ∷ xs) ys x h = elim h [ inl e ↦ inl (inl e) | inr i ↦ elim (In
 -- who is alive is committed or has not ended
 who : (c : List Done) (os : List Open) (u : Txn) → In u (alive c os) → ((d : Done) × In d c × (u ≡ d.txn)) ⊎ ((o : Open) × In o os × (u ≡ o.txn))
 who c os u h = elim (In-parts (map (λ (d : Done). d.txn) c) (map (λ (o : Open). o.txn) os) u h) [
-  | inl w ↦ inl (In-back (λ (d : Done). d.txn) c u w)
-  | inr w ↦ inr (In-back (λ (o : Open). o.txn) os u w)
+  | inl w ↦ inl (In-map (λ (d : Done). d.txn) c u w)
+  | inr w ↦ inr (In-map (λ (o : Open). o.txn) os u w)
 ]
 
 is_committed : (c : List Done) (os : List Open) (d : Done) → In d c → In d.txn (alive c os)
@@ -201,16 +198,10 @@ did_send l o (Some (Taking m)) (End n) s a e = absurd a
 did_send l o (Some (Ending m)) (Send n) s a e = absurd a
 did_send l o (Some (Ending m)) (Take n) s a e = absurd a
 
-ended_each : (c : List Done) (s : ℕ) (d : Done) → ended_in c s ≡ false → In d c → any_ends s d.ops ≡ false
-ended_each [] s d e j = absurd j
-ended_each (x ∷ c) s d e j =
-    let p = or_parts (any_ends s x.ops) (ended_in c s) e in
-    elim j [ inl w ↦ ap (λ (y : Done). any_ends s y.ops) w ∙ p.0 | inr w ↦ ended_each c s d p.1 w ]
-
 -- while o has a send for s under way nobody alive has closed s
 none_closed : (h : List Entry) (l : Ledger) (o : Open) (m : Message) → Clear h l.committed l.open_ones → TiedAt h l → In o l.open_ones → o.under ≡ Some (Sending m) → (u : Txn) → In u (alive l.committed l.open_ones) → any_ends m.sender (ops_by h u) ≡ false
 none_closed h l o m g tied j a u k = elim (who l.committed l.open_ones u k) [
-  | inl v ↦ ap (λ x. any_ends m.sender (ops_by h x)) v.2 ∙ ap (any_ends m.sender) (tied.done v.0 v.1) ∙ ended_each l.committed m.sender v.0 (g.send_open o m j a) v.1
+  | inl v ↦ ap (λ x. any_ends m.sender (ops_by h x)) v.2 ∙ ap (any_ends m.sender) (tied.done v.0 v.1) ∙ not_ended l.committed m.sender v.0 (g.send_open o m j a) v.1
   | inr v ↦ false_from_ne_true (any_ends m.sender (ops_by h u)) (λ e.
       let x : any_ends m.sender (ops_by h v.0.txn) ≡ true = ap (λ y. any_ends m.sender (ops_by h y)) (sym v.2) ∙ e in
       let y : v.0.txn ≡ o.txn = g.one v.0 o m.sender v.1 j (g.closed v.0 m.sender v.1 x) (g.send_held o m j a) in

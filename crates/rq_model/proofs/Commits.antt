@@ -21,7 +21,7 @@ abbrev pub Covered : ℕ → List Said → Type 0
 Covered s [] = Unit {0}
 Covered s (d ∷ ds) = (removed s (d ∷ ds) ≤ length (added s (d ∷ ds))) × Covered s ds
 
-last_is : (x : Message) (xs : List Message) (m : Message) → last_or x (xs ++ m ∷ []) ≡ m
+pub last_is : (x : Message) (xs : List Message) (m : Message) → last_or x (xs ++ m ∷ []) ≡ m
 last_is x [] m = refl
 last_is x (y ∷ xs) m = last_is y xs m
 

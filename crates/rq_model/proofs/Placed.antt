@@ -93,11 +93,11 @@ no_commit e t n none q = true≢false (ap is_commit q ∙ none)
 older : (e : Entry) (h : List Entry) (t : Txn) (n : ℕ) → is_commit e ≡ false → In (Committed t n) (e ∷ h) → In (Committed t n) h
 older e h t n none j = elim j [ inl q ↦ absurd (no_commit e t n none q) | inr i ↦ i ]
 
-In-more : {X : Type 0} (x : X) (xs ys : List X) → In x xs → In x (xs ++ ys)
+pub In-more : {X : Type 0} (x : X) (xs ys : List X) → In x xs → In x (xs ++ ys)
 In-more x [] ys j = absurd j
 In-more x (y ∷ xs) ys j = elim j [ inl e ↦ inl e | inr i ↦ inr (In-more x xs ys i) ]
 
-In-last : {X : Type 0} (x : X) (xs : List X) → In x (xs ++ x ∷ [])
+pub In-last : {X : Type 0} (x : X) (xs : List X) → In x (xs ++ x ∷ [])
 In-last x [] = inl refl
 In-last x (y ∷ xs) = inr (In-last x xs)
 

@@ -49,7 +49,7 @@ Name-in : (c : List Done) (u : Txn) → In u (map (λ (x : Done). x.txn) c) → 
 Name-in [] u j = absurd j
 Name-in (x ∷ c) u j = elim j [ inl e ↦ (x, inl refl, e) | inr i ↦ let g = Name-in c u i in (g.0, inr g.1, g.2) ]
 
-not_ended : (c : List Done) (s : ℕ) (d : Done) → ended_in c s ≡ false → In d c → any_ends s d.ops ≡ false
+pub not_ended : (c : List Done) (s : ℕ) (d : Done) → ended_in c s ≡ false → In d c → any_ends s d.ops ≡ false
 not_ended [] s d e j = absurd j
 not_ended (x ∷ c) s d e j = let p = or_parts (any_ends s x.ops) (ended_in c s) e in elim j [ inl w ↦ ap (λ (y : Done). any_ends s y.ops) w ∙ p.0 | inr w ↦ not_ended c s d p.1 w ]
 

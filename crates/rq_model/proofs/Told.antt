@@ -21,7 +21,7 @@ use Rattle.rq_model.proofs.Commits.{commit_adds, shape_is, covered_log, covered_
 use Rattle.rq_model.proofs.Ends.{any_ends_more}
 use Rattle.rq_model.proofs.Shown.{group_more}
 
-sent_one : (s : ℕ) (d : Said) (ms : List Message) → ms ++ filter_map (sent_for s) (op_of d ∷ []) ≡ added_one s d ms
+pub sent_one : (s : ℕ) (d : Said) (ms : List Message) → ms ++ filter_map (sent_for s) (op_of d ∷ []) ≡ added_one s d ms
 sent_one s (Added m) ms = elim (cases_Bool (nat_eq m.sender s)) [ inl y ↦ rw y refl | inr n ↦ rw n (append-nil ms) ]
 sent_one s (Removed m) ms = append-nil ms
 sent_one s (Ended r) ms = append-nil ms

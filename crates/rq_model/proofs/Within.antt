@@ -8,7 +8,8 @@ use Rattle.rq_model.specs.Words.{same_txn}
 use Rattle.rq_model.specs.Content.{Said, Ending, ending, ends_txn, has_commit, has_end, kept, deeds, added, removed, removed_one}
 use Rattle.rq_model.specs.Rules.{uses_receive, any_use, holds, EndingMay, KeepsRules}
 use Rattle.rq_model.proofs.Lists.{same_is, same_self}
-use Rattle.rq_model.proofs.Commits.{only, with_one, no_take, one_take, added_fewer, removed_fewer, commit_is_end}
+use Rattle.rq_model.proofs.Commits.{only, with_one, no_take, one_take, added_fewer, removed_fewer}
+use Rattle.rq_model.proofs.Told.{not_yet}
 
 open_still : (t : Txn) (r : Record) (log : List Record) (u : Bool) → (u && not (ends_txn t r || has_end log t)) ≡ true → (u ≡ true) × (has_end log t ≡ false)
 open_still t r log u e =
@@ -59,9 +60,6 @@ one_receiver s (r ∷ log) g t u a b =
     let y = open_still u r log (any_use f (deeds (only u) (r ∷ log))) b in
     both_users s log (ending r) g.0 (one_receiver s log g.2) t u (user f (ending r) t (deeds (only t) log) x.0) (user f (ending r) u (deeds (only u) log) y.0) x.1 y.1
 
-not_committed : (log : List Record) (t : Txn) → has_end log t ≡ false → has_commit log t ≡ false
-not_committed log t e = false_from_ne_true (has_commit log t) (λ k. false≢true (sym e ∙ commit_is_end log t k))
-
 abbrev Bound : ℕ → List Record → Txn → Type 0
 Bound s log t = removed s (deeds (with_one (has_commit log) t) log) ≤ length (added s (deeds (has_commit log) log))
 
@@ -70,7 +68,7 @@ within_end : (s : ℕ) (log : List Record) (w : Option Ending) (t : Txn) → End
     → removed s (kept (with_one (has_commit log) t) w (deeds (with_one (has_commit log) t) log)) ≤ length (added s (kept (has_commit log) w (deeds (has_commit log) log)))
 within_end s log None t may ih = ih
 within_end s log (Some e) t may ih =
-    let n : has_commit log e.txn ≡ false = not_committed log e.txn (may s).not_ended in
+    let n : has_commit log e.txn ≡ false = not_yet log e.txn (may s).not_ended in
     rw n (elim (cases_Bool (same_txn e.txn t)) [
       | inr k ↦ let z : with_one (has_commit log) t e.txn ≡ false = or_from (has_commit log e.txn) (same_txn e.txn t) n k in rw k ih
       | inl y ↦ rw y (elim (cases_Bool (uses_receive s e.said)) [

@@ -34,7 +34,7 @@ length-cell_bytes c le =
     omega (arith, length-append (cell_front c) (c.body ++ replicate (216 - length c.body) 0), length-cell_front c, length-append c.body (replicate (216 - length c.body) 0), length-replicate {A = ℕ} (216 - length c.body) 0)
 
 -- a number that fits its bytes is read back from them
-reads : (width n : ℕ) (rest : List ℕ) → n < 256 ^ width → big_number width (big_bytes width n ++ rest) ≡ n
+pub reads : (width n : ℕ) (rest : List ℕ) → n < 256 ^ width → big_number width (big_bytes width n ++ rest) ≡ n
 reads width n rest lt = big_number-reads_back width n rest lt
 
 -- how long the body is

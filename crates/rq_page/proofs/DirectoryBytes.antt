@@ -1,11 +1,10 @@
 -- A directory slot: how it is put together, and how its fields are read back.
 use Rattle.std.proofs.Common.{◌≡◌, ℕ, ◌+◌, ◌^◌, ◌<◌, List, ◌++◌, length, drop, replicate, slice_index, ◌==◌, Bool, true, false, if◌then◌else◌, refl, ap, arith}
-use Rattle.byteorder.specs.Endian.{big_bytes, big_number}
-use Rattle.byteorder.specs.Numbers.{big_number-reads_back}
 use Rattle.rq_bytes.specs.Number.{number_at, overlaid}
 use Rattle.rq_page.specs.declared.directory.Directory.{Directory}
 use Rattle.rq_page.specs.declared.directory.DirectorySlot.{DirectorySlot}
 use Rattle.rq_page.specs.Directories.{directory_front, directory_bytes, directory_in, IsDirectorySlot}
+use Rattle.rq_page.proofs.CellBytes.{reads}
 
 -- the front laid over zeros is followed by zeros
 pub overlaid_once : (front : List ℕ) → length front ≡ 48
@@ -19,10 +18,6 @@ length-directory_front x = refl
 pub length-directory_bytes : (x : DirectorySlot) → length (directory_bytes x) ≡ 256
 unfolding directory_bytes directory_front
 length-directory_bytes x = refl
-
--- a number that fits its bytes is read back from them
-reads : (width n : ℕ) (rest : List ℕ) → n < 256 ^ width → big_number width (big_bytes width n ++ rest) ≡ n
-reads width n rest lt = big_number-reads_back width n rest lt
 
 -- the state is read back
 closed_read : (closed : Bool) → ((if closed then 2 else 1) == 2) ≡ closed

@@ -57,11 +57,11 @@ spelling_tells l page slot x low high may =
     (told.0, record { low = low; high = high; held = told.1 })
 
 -- what stands in a cell's slot, as a slot of the store
-may_hold_cell : (l : Sizes) (page slot : ℕ) (x : CellSlot) → MayStand l x → MayHold (Some kind.Cells) l page slot (of_cell_slot x)
+pub may_hold_cell : (l : Sizes) (page slot : ℕ) (x : CellSlot) → MayStand l x → MayHold (Some kind.Cells) l page slot (of_cell_slot x)
 may_hold_cell l page slot cells.Free may = tt
 may_hold_cell l page slot (cells.Used c) may = may
 
-spelled_cell : (x : CellSlot) → slot_bytes (of_cell_slot x) ≡ cell_slot_bytes x
+pub spelled_cell : (x : CellSlot) → slot_bytes (of_cell_slot x) ≡ cell_slot_bytes x
 spelled_cell cells.Free = refl
 spelled_cell (cells.Used c) = refl
 

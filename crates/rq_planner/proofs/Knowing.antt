@@ -9,7 +9,8 @@ use Rattle.rq_views.specs.Log.{put}
 use Rattle.rq_views.specs.Stored.{IsStoreSlot, is_used, slot_at, slots_in}
 use Rattle.rq_views.proofs.Overlay.{put_at, put_off}
 use Rattle.rq_level.specs.Kept.{Kept, flag_at, is_cell_address, is_free_slot, noted, noted_cell, noted_in}
-use Rattle.rq_sound.proofs.KeptCells.{cell_is, flag_other, flag_same, free_by_byte, is_cell, place_is}
+use Rattle.rq_level.proofs.Noting.{is_cell}
+use Rattle.rq_sound.proofs.KeptCells.{cell_is, flag_other, flag_same, free_by_byte, place_is}
 use Rattle.rq_planner.specs.Answered.{KnowsCells}
 use Rattle.rq_planner.proofs.Told.{slot_is}
 

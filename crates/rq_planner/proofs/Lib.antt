@@ -1,6 +1,6 @@
 mod Told
 mod Gathered
-mod Replies
+pub mod Replies
 mod Backs
 pub mod Knowing
-mod Options
+pub mod Options

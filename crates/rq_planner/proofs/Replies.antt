@@ -53,7 +53,7 @@ takes_lowest z q rows a (w ∷ ws) at lowest off = (subst (AreLatchedBelow z q r
 
 -- ---- each answer
 
-some_is : (a b : Asked) → Some a ≡ Some b → a ≡ b
+pub some_is : (a b : Asked) → Some a ≡ Some b → a ≡ b
 some_is a b e = cc
 
 module _ (s : State) (k : Kept) (a : Asked) where
@@ -180,13 +180,13 @@ module _ (s : State) (k : Kept) (latched : List ℕ) (keeps : KeepsCells s k) (o
       ]
 
 -- the first write of what takes a cell is of that cell
-first_at : (z : Sizes) (us : List SlotWrite) (ws : List Write) (w : Write) → reverse (writes_of z us) ≡ ws ++ w ∷ [] → IsFirstAt w.at us
+pub first_at : (z : Sizes) (us : List SlotWrite) (ws : List Write) (w : Write) → reverse (writes_of z us) ≡ ws ++ w ∷ [] → IsFirstAt w.at us
 first_at z us ws w is = at us (sym (reverse-reverse (writes_of z us)) ∙ ap reverse is ∙ reverse-append ws (w ∷ [])) where
   at : (us : List SlotWrite) → writes_of z us ≡ w ∷ reverse ws → IsFirstAt w.at us
   at [] e = cc
   at (u ∷ us) e = let h : write_of z u ≡ w = cc e in ap (λ (x : Write). x.at) h
 
-first_new : (z : Sizes) (us : List SlotWrite) (beside : ℕ) (o : Option Cell) (f : Cell → Cell) (first new : Write) → reverse (writes_of z us) ≡ first ∷ relinked beside o f (new ∷ []) → IsFirstAt new.at us
+pub first_new : (z : Sizes) (us : List SlotWrite) (beside : ℕ) (o : Option Cell) (f : Cell → Cell) (first new : Write) → reverse (writes_of z us) ≡ first ∷ relinked beside o f (new ∷ []) → IsFirstAt new.at us
 first_new z us beside None f first new e = first_at z us (first ∷ []) new e
 first_new z us beside (Some c) f first new e = first_at z us (first ∷ record { at = beside; before = Used c; after = Used (f c) } ∷ []) new e
 

@@ -21,6 +21,7 @@ use Rattle.rq_level.proofs.Superblock.{sizes_told}
 use Rattle.rq_sound.specs.Chosen.{KeepsBeside, KnowsFirst, places_of}
 use Rattle.rq_sound.specs.Levels.{KeepsCells}
 use Rattle.rq_sound.proofs.Chosen.{noted_known, planned_kept}
+use Rattle.rq_sound.proofs.Gathering.{cell_of_store}
 use Rattle.rq_txn.specs.Rows.{Row}
 use Rattle.rq_planner.specs.Asked.{known}
 
@@ -45,14 +46,11 @@ none_reads (suc (suc n)) deed le = refl
 pub slot_is : (z : Sizes) (images : List (List ℕ)) (a : ℕ) → IsStoreSlot z a → slots_in z images a ≡ held_in z (a / 16) (slot_at images a)
 slot_is z images a h = ap (λ b. cond b (held_in z (a / 16) (slot_at images a)) Free) (lt-ltb 0 (a % 16) (let low = h.slot in omega (arith, low)))
 
-pub cell_stands : (z : Sizes) (a : ℕ) → IsCellAddress z a → IsStoreSlot z a
-cell_stands z a c = record { page_low = (let low = c.above in omega (arith, low)); page_high = c.below; slot = c.slot }
-
 -- a free cell's slot has these bytes
 pub empty_stands : (z : Sizes) (images : List (List ℕ)) (a : ℕ) (free : Option ℕ) (empty : List ℕ) → IsCellAddress z a → IsPool z images → SlotIsSpelling
     → IfSome free (λ b. slots_in z images b ≡ Free) → free ≡ Some a → empty ≡ free_bytes → empty ≡ slot_at images a
 empty_stands z images a free empty cell pool spelling is here e =
-    let stands = cell_stands z a cell in
+    let stands = cell_of_store z a cell in
     let is_free : slots_in z images a ≡ Free = subst (λ (o : Option ℕ). IfSome o (λ b. slots_in z images b ≡ Free)) here is in
     let held : held_in z (a / 16) (slot_at images a) ≡ Free = sym (slot_is z images a stands) ∙ is_free in
     e ∙ sym (ap slot_bytes held) ∙ (spelling z (a / 16) (a % 16) (slot_at images a) (pool.slots a stands)).1
@@ -65,7 +63,7 @@ empty_noted n a k after empty bytes one e same = e ∙ ap (λ (m : ℕ). (meanin
 module _ (z : Sizes) (images : List (List ℕ)) where
   pub knows_cell : (k after : Kept) (a count : ℕ) → a ≡ cell_at z count → count < cell_count z → after ≡ noted k a (slot_at images a) → KnowsFirst z (slots_in z images) k count → KnowsFirst z (slots_in z images) after (count + 1)
   knows_cell k after a count at inside e h =
-      let stands = cell_stands z (cell_at z count) (cells_have_places z count inside).0 in
+      let stands = cell_of_store z (cell_at z count) (cells_have_places z count inside).0 in
       let e : after ≡ noted k (cell_at z count) (slot_at images (cell_at z count)) = e ∙ ap (λ (n : ℕ). noted k n (slot_at images n)) at in
       subst (λ (x : Kept). KnowsFirst z (slots_in z images) x (count + 1)) (sym e) (noted_known.notes_next z (slots_in z images) k count (slot_at images (cell_at z count)) inside (slot_is z images (cell_at z count) stands) h)
 

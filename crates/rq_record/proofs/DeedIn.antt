@@ -11,7 +11,7 @@ use Rattle.rq_record.specs.declared.reading.Stop.{Stop}
 use Rattle.rq_record.specs.declared.reading.Stop.TheVariants.{Short, Bad}
 use Rattle.rq_record.specs.Reading.{◌>>=◌, number_at, positive_at}
 use Rattle.rq_record.specs.DeedReading.{append_at, unlink_head_at, close_at, deed_at, deed_of}
-use Rattle.rq_record.proofs.Readers.{done, done_is, then_done, chosen}
+use Rattle.rq_record.proofs.Readers.{done, done_is, then_done, chosen, not_nought, is_positive}
 
 -- ---- numbers, where there are bytes enough
 
@@ -29,12 +29,6 @@ number_only size bytes x e =
       | inl (t, h) ↦ absurd cc
       | inr (t, h) ↦ (ltb-false _ _ t, sym (done_is (number_and_rest size bytes) x h))
     ]
-
-not_nought : (n : ℕ) → 0 < n → eqb n 0 ≡ false
-not_nought n h = grind (arith, nat_tests)
-
-is_positive : (n : ℕ) → eqb n 0 ≡ false → 0 < n
-is_positive n h = grind (arith, nat_tests)
 
 positive_able : (size : ℕ) (bytes : List ℕ) → size ≤ length bytes → 0 < big_number size bytes → positive_at size bytes ≡ done (number_and_rest size bytes)
 unfolding positive_at

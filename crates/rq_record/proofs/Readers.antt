@@ -12,6 +12,12 @@ use Rattle.rq_bytes.specs.Number.{AreBytes, number}
 use Rattle.rq_record.specs.Reading.{◌>>=◌, bytes_at, number_at, positive_at, byte_between}
 use Rattle.rq_bytes.proofs.Strings.{AreBytes-take, AreBytes-right, two_cuts, length-number, number_read, number_written}
 
+pub is_positive : (n : ℕ) → eqb n 0 ≡ false → 0 < n
+is_positive n h = grind (arith, nat_tests)
+
+pub not_nought : (n : ℕ) → 0 < n → eqb n 0 ≡ false
+not_nought n h = grind (arith, nat_tests)
+
 -- a proper beginning of a spelling
 abbrev pub Begins : {A : Type 0} → (A → List ℕ) → (A → Type 0) → List ℕ → Type 0
 Begins {A} spell Is bytes = (a : A) × (rest : List ℕ) × Is a × (0 < length rest) × (spell a ≡ bytes ++ rest)
@@ -148,7 +154,7 @@ Field-reads f = record {
 pub cut_length : (size : ℕ) (xs bytes rest : List ℕ) → length xs ≡ size → 0 < length rest → xs ≡ bytes ++ rest → length bytes < size
 cut_length size xs bytes rest l more e = omega (arith, length-append bytes rest, ap length e)
 
-AreBytes-append : (xs ys : List ℕ) → AreBytes xs → AreBytes ys → AreBytes (xs ++ ys)
+pub AreBytes-append : (xs ys : List ℕ) → AreBytes xs → AreBytes ys → AreBytes (xs ++ ys)
 AreBytes-append [] ys f g i = g i
 AreBytes-append (x ∷ xs) ys f g zero = f zero
 AreBytes-append (x ∷ xs) ys f g (suc i) = AreBytes-append xs ys (λ j. f (suc j)) g i
@@ -248,12 +254,6 @@ Field-number size pos = record {
       rw few refl;
 }
 
-not_zero : (n : ℕ) → eqb n 0 ≡ false → 0 < n
-not_zero n e = grind (arith, nat_tests)
-
-zero_not : (n : ℕ) → 0 < n → eqb n 0 ≡ false
-zero_not n h = grind (arith, nat_tests)
-
 short_positive : (size : ℕ) (bytes : List ℕ) → AreBytes bytes → number_at size bytes ≡ Err Short → Begins (number size) (λ n. (0 < n) × (n < 256 ^ size)) bytes
 unfolding number_at
 short_positive size bytes fits e =
@@ -275,11 +275,11 @@ Field-positive size pos =
             | inr (t, h) ↦
                 let is = plain.found bytes x.0.0 x.0.1 fits x.1 in
                 let P : ℕ × List ℕ → Type 0 = λ y. ((0 < y.0) × (y.0 < 256 ^ size)) × (bytes ≡ number size y.0 ++ y.1) in
-                subst P (done_is x.0 (a, rest) h) ((not_zero x.0.0 t, is.0), is.1)
+                subst P (done_is x.0 (a, rest) h) ((is_positive x.0.0 t, is.0), is.1)
           ];
       again = λ a rest is.
           let one : number_at size (number size a ++ rest) ≡ Ok (a, rest) = plain.again a rest is.1 in
-          let test : eqb a 0 ≡ false = zero_not a is.0 in
+          let test : eqb a 0 ≡ false = not_nought a is.0 in
           ap (λ (r : Result (ℕ × List ℕ) Stop). r >>= step) one ∙ rw test refl;
       short = λ bytes fits e.
           elim (then_short (number_at size bytes) step e) [
@@ -289,10 +289,10 @@ Field-positive size pos =
       begins = λ a bytes rest is more e. ap (λ (r : Result (ℕ × List ℕ) Stop). r >>= step) (plain.begins a bytes rest is.1 more e);
     }
 
-within : (low high b : ℕ) → (low ≤ b) × (b ≤ high) → (leb low b && leb b high) ≡ true
+pub within : (low high b : ℕ) → (low ≤ b) × (b ≤ high) → (leb low b && leb b high) ≡ true
 within low high b is = grind (arith, nat_tests)
 
-within_is : (low high b : ℕ) → (leb low b && leb b high) ≡ true → (low ≤ b) × (b ≤ high)
+pub within_is : (low high b : ℕ) → (leb low b && leb b high) ≡ true → (low ≤ b) × (b ≤ high)
 within_is low high b e = grind (arith, nat_tests)
 
 byte_found : (low high : ℕ) (bytes : List ℕ) (a : ℕ) (rest : List ℕ) → AreBytes bytes → byte_between low high bytes ≡ Ok (a, rest) → ((low ≤ a) × (a ≤ high)) × (bytes ≡ (a ∷ []) ++ rest)

@@ -1,5 +1,5 @@
 -- The spelling of each kind of record is as long as its kind says.
-use Rattle.std.proofs.Common.{◌≡◌, ℕ, ◌+◌, List, length, arith}
+use Rattle.std.proofs.Common.{◌≡◌, ℕ, List, length, arith}
 use Rattle.rq_model.specs.declared.txn.Txn.{Txn}
 use Rattle.rq_model.specs.declared.record.Record.{Record}
 use Rattle.rq_model.specs.declared.record.Record.TheVariants.{PageOp, PageUndo, OpEnd, OpVoid, CompEnd, Commit, Restart, AbortEnd}
@@ -15,19 +15,12 @@ page_op_length txn operation page slot before after b a = omega (arith, length-s
 pub page_undo_length : (txn : Txn) (operation undone page slot : ℕ) (after : List ℕ) → length after ≡ 256 → length (spelling (PageUndo txn operation undone page slot after)) ≡ 298
 page_undo_length txn operation undone page slot after a = omega (arith, length-spelling_page_undo txn operation undone page slot after)
 
--- the end of an operation, with its deed
-pub op_end_length : (txn : Txn) (operation level : ℕ) (deed : List ℕ) → length (spelling (OpEnd txn operation level deed)) ≡ 30 + length deed
-op_end_length = length-spelling_op_end
-
-pub commit_length : (txn : Txn) → length (spelling (Commit txn)) ≡ 21
-commit_length = length-spelling_commit
-
 pub each_length : (r : Record) → HasWidths r → length (spelling r) ≡ length_of r
 each_length (PageOp txn operation page slot before after) f = page_op_length txn operation page slot before after f.4.0 f.5.0
 each_length (PageUndo txn operation undone page slot after) f = page_undo_length txn operation undone page slot after f.5.0
-each_length (OpEnd txn operation level deed) f = op_end_length txn operation level deed
+each_length (OpEnd txn operation level deed) f = length-spelling_op_end txn operation level deed
 each_length (OpVoid txn operation) f = length-spelling_op_void txn operation
 each_length (CompEnd txn operation undone) f = length-spelling_comp_end txn operation undone
-each_length (Commit txn) f = commit_length txn
+each_length (Commit txn) f = length-spelling_commit txn
 each_length (Restart incarnation) f = length-spelling_restart incarnation
 each_length (AbortEnd txn) f = length-spelling_abort_end txn

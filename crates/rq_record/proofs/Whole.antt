@@ -14,7 +14,7 @@ use Rattle.rq_record.specs.Spelling.{kind_number, fields, spelling, IsRecord}
 use Rattle.rq_bytes.specs.Number.{AreBytes, number}
 use Rattle.rq_record.specs.Reading.{◌>>=◌, op_end_at, kind_of, is_size, begins_size, size_at, known, kind_at, fields_at, record_at}
 use Rattle.rq_bytes.proofs.Strings.{length-number, number_read, number_written}
-use Rattle.rq_record.proofs.Readers.{Begins, Field, Reads, done, done_is, chosen, cut_length, AreBytes-zeros, Reads-then, Field-reads, Reads-field}
+use Rattle.rq_record.proofs.Readers.{Begins, Field, Reads, done, done_is, chosen, cut_length, AreBytes-zeros, Reads-then, Field-reads, Reads-field, within, within_is}
 use Rattle.rq_record.proofs.Records.{kind_from, IsOf, length-page_op, length-page_undo, length-op_end, length-op_void, length-comp_end, length-commit, length-restart, length-abort_end, Field-page_op, Field-page_undo, Field-op_end, Field-op_void, Field-comp_end, Field-commit, Field-restart, Field-abort_end}
 
 -- ---- the lengths
@@ -29,12 +29,6 @@ IsSizeOf kinds.CompEnd size = size ≡ 33
 IsSizeOf kinds.Commit size = size ≡ 17
 IsSizeOf kinds.Restart size = size ≡ 9
 IsSizeOf kinds.AbortEnd size = size ≡ 17
-
-within : (low high b : ℕ) → (low ≤ b) × (b ≤ high) → (leb low b && leb b high) ≡ true
-within low high b is = grind (arith, nat_tests)
-
-within_is : (low high b : ℕ) → (leb low b && leb b high) ≡ true → (low ≤ b) × (b ≤ high)
-within_is low high b e = grind (arith, nat_tests)
 
 -- a length is that of some kind
 kind_of_size : (size : ℕ) → is_size size ≡ true → (kind : Kind) × IsSizeOf kind size

@@ -31,6 +31,7 @@ use Rattle.rq_undone.proofs.Noting.{few_incarnations, noted_incarnation, noted_u
 use Rattle.rq_undone.proofs.Undos.{undo_keeps_whole, undoing_extends}
 use Rattle.rq_lost.specs.Recovered.{IsRecovered, IsRecoveredFrom}
 use Rattle.rq_lost.proofs.Recovering.{recovered_from}
+use Rattle.rq_engine.proofs.Crashing.{spelled_dropped}
 use Rattle.rq_rules.proofs.Whole.{whole_logs}
 use Rattle.rq_restart.specs.Aborting.IsAborting.{Between}
 use Rattle.rq_restart.specs.Mended.{ArePlannedFrom, IsMended}
@@ -41,7 +42,7 @@ use Rattle.rq_restart.specs.Undoing.{IsBadUndo}
 use Rattle.rq_restart.proofs.Aborts.{aborting_extends, aborting_incarnation}
 use Rattle.rq_restart.proofs.Lefts.{front_continues, left_longer, left_undoing}
 use Rattle.rq_restart.proofs.Mending.{recovered_on}
-use Rattle.rq_restart.proofs.Parsing.{AreSpelled-drop, one_log}
+use Rattle.rq_restart.proofs.Parsing.{one_log}
 use Rattle.rq_restart.proofs.Repeated.{all_up_to, repeated_order, up_to}
 
 -- it extends the log, and is of its incarnation
@@ -134,7 +135,7 @@ pub begun_behind : (z : Sizes) (left : Type 0) (log mended : List Record) (r : R
     → GoesOn (r ∷ mended) kept seen bytes → IsBegunBehind z left log bytes
 begun_behind z left log mended r kept seen bytes m recovered is are read now on =
     let n : ℕ = length (drop on.behind (r ∷ mended)) in
-    let same : drop on.behind (r ∷ mended) ≡ log = one_log (drop on.behind (r ∷ mended)) log (AreSpelled-drop on.behind (r ∷ mended) now) are (sym on.reads ∙ read) in
+    let same : drop on.behind (r ∷ mended) ≡ log = one_log (drop on.behind (r ∷ mended)) log (spelled_dropped on.behind (r ∷ mended) now) are (sym on.reads ∙ read) in
     let a : n ≡ length log = ap length same in
     let b : n ≡ length (r ∷ mended) - on.behind = length-drop on.behind (r ∷ mended) in
     let c = on.within in

@@ -1,5 +1,5 @@
 -- How many messages wait of each sender, where nothing is open: as the directory tells.
-use Rattle.std.proofs.Common.{◌≡◌, ℕ, zero, suc, ◌+◌, ◌-◌, ◌/◌, ◌%◌, ◌<◌, ◌≤◌, ◌==◌, List, [], ◌∷◌, length, map, get_or, refl, sym, ◌∙◌, ap, subst, true, false, Some, nat_le, inl, inr, arith, length-append}
+use Rattle.std.proofs.Common.{◌≡◌, ℕ, zero, suc, ◌+◌, ◌-◌, ◌/◌, ◌%◌, ◌<◌, ◌≤◌, ◌==◌, List, [], ◌∷◌, length, map, get_or, sym, ◌∙◌, ap, subst, true, false, Some, nat_le, inl, inr, arith}
 use Rattle.std.proofs.lemmas.Bool.{cases_lt, cases_eq}
 use Rattle.std.proofs.lemmas.Bool.Decides.{nat_tests}
 use Rattle.std.specs.Prelude.{slice_set}
@@ -19,11 +19,8 @@ use Rattle.rq_pool.proofs.Slots.{slots_here}
 use Rattle.rq_groups.specs.Sent.{SentBy, sent_count, with_last}
 use Rattle.rq_store.specs.Opening.{IsCounted, messages_told, sent_told, sent_in_slots, tag_told, waiting_in}
 use Rattle.rq_store.specs.Fitting.{image_in}
+use Rattle.rq_store.proofs.Opening.{length_below}
 use Rattle.rq_restart.specs.Restarting.{AreTold}
-
-length_below : (n : ℕ) → length (below n) ≡ n
-length_below zero = refl
-length_below (suc n) = let a = length-append (below n) (n ∷ []) in let b = length_below n in omega (arith, a, b)
 
 get_or-below : (n i : ℕ) → i < n → get_or (below n) i 0 ≡ i
 get_or-below zero i lt = absurd (omega (arith, lt))

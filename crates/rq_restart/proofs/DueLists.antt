@@ -12,15 +12,8 @@ use Rattle.rq_log.specs.Spelled.{AreSpelled}
 use Rattle.rq_undone.specs.Analysis.{analysis, with_txn, without_txn}
 use Rattle.rq_lost.specs.declared.dues.Due.{Due}
 use Rattle.rq_lost.specs.Choices.{least_free, lesser_in}
-use Rattle.rq_lost.specs.Dues.{any_due, but_newest, but_own, due_of, dues}
-
--- those that stay were there
-newest_in : (t : Txn) (ds : List Due) (d : Due) → In d (but_newest t ds) → In d ds
-newest_in t [] d i = i
-newest_in t (x ∷ ds) d i = elim (cases_Bool (same_txn x.txn t)) [
-  | inl y ↦ inr (rw y at i)
-  | inr n ↦ (let j : In d (x ∷ but_newest t ds) = rw n at i in elim j [ inl e ↦ inl e | inr k ↦ inr (newest_in t ds d k) ])
-]
+use Rattle.rq_lost.specs.Dues.{any_due, but_own, due_of, dues}
+use Rattle.rq_lost.proofs.Planning.{in_newest}
 
 own_in : (t : Txn) (ds : List Due) (d : Due) → In d (but_own t ds) → In d ds
 own_in t ds d i = (In-filter (λ (x : Due). not (due_of t x)) ds d i).0
@@ -39,7 +32,7 @@ due_told P Q older one (OpEnd t n level deed ∷ log) q d i = elim i [
   | inl e ↦ subst P (sym e) (one t n level deed log q)
   | inr j ↦ due_told P Q older one log (older (OpEnd t n level deed) log q) d j
 ]
-due_told P Q older one (CompEnd t n undone ∷ log) q d i = due_told P Q older one log (older (CompEnd t n undone) log q) d (newest_in t (dues log) d i)
+due_told P Q older one (CompEnd t n undone ∷ log) q d i = due_told P Q older one log (older (CompEnd t n undone) log q) d (in_newest t (dues log) d i)
 due_told P Q older one (Commit t ∷ log) q d i = due_told P Q older one log (older (Commit t) log q) d (own_in t (dues log) d i)
 due_told P Q older one (PageOp t n page slot before after ∷ log) q d i = due_told P Q older one log (older (PageOp t n page slot before after) log q) d i
 due_told P Q older one (PageUndo t n undone page slot after ∷ log) q d i = due_told P Q older one log (older (PageUndo t n undone page slot after) log q) d i
@@ -206,7 +199,7 @@ due_working (Commit u ∷ log) d i e =
 due_working (AbortEnd u ∷ log) d i e =
     let k = or_parts (ends_txn d.txn (AbortEnd u)) (has_end log d.txn) e in
     other_in u d.txn (analysis log).working k.0 (due_working log d (own_in u (dues log) d i) k.1)
-due_working (CompEnd u n undone ∷ log) d i e = due_working log d (newest_in u (dues log) d i) e
+due_working (CompEnd u n undone ∷ log) d i e = due_working log d (in_newest u (dues log) d i) e
 due_working (PageOp u n page slot before after ∷ log) d i e = due_working log d i e
 due_working (PageUndo u n undone page slot after ∷ log) d i e = due_working log d i e
 due_working (OpVoid u n ∷ log) d i e = due_working log d i e

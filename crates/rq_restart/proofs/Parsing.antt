@@ -1,5 +1,5 @@
 -- Bytes are the spelling of one log at most, and what spells a log has no damage behind its first records.
-use Rattle.std.proofs.Common.{◌≡◌, ◌+◌, ◌-◌, ◌≤◌, ℕ, zero, suc, drop, List, [], ◌∷◌, ◌++◌, length, reverse, refl, sym, ◌∙◌, ap, subst, inl, inr, arith, append_assoc, length-append}
+use Rattle.std.proofs.Common.{◌≡◌, ◌+◌, ◌-◌, ◌≤◌, ℕ, drop, List, [], ◌∷◌, ◌++◌, length, reverse, refl, sym, ◌∙◌, ap, subst, inl, inr, arith, append_assoc, length-append}
 use Rattle.std.proofs.lemmas.List.{append-nil, drop_at, reverse-append, reverse-reverse}
 use Rattle.rq_model.specs.declared.record.Record.{Record}
 use Rattle.rq_record.specs.Spelling.{IsRecord, spelling}
@@ -36,11 +36,6 @@ spelled_row (r ∷ log) =
 AreSpelled-append : (a b : List Record) → AreSpelled a → AreSpelled b → AreSpelled (a ++ b)
 AreSpelled-append [] b h k = k
 AreSpelled-append (r ∷ a) b h k = (h.0, AreSpelled-append a b h.1 k)
-
-pub AreSpelled-drop : (n : ℕ) (log : List Record) → AreSpelled log → AreSpelled (drop n log)
-AreSpelled-drop zero log h = h
-AreSpelled-drop (suc n) [] h = tt
-AreSpelled-drop (suc n) (r ∷ log) h = AreSpelled-drop n log h.1
 
 AreSpelled-reverse : (log : List Record) → AreSpelled log → AreSpelled (reverse log)
 AreSpelled-reverse [] h = tt

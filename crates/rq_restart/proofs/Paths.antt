@@ -2,7 +2,7 @@
 use Rattle.std.proofs.lemmas.List.{drop_at, length-append}
 use Rattle.std.proofs.Common.{◌≡◌, ◌⊎◌, ℕ, zero, suc, ◌+◌, ◌++◌, drop, List, [], ◌∷◌, length, inl, inr, ⊎_elim, refl, sym, ◌∙◌, ap, subst, arith, ◌≤◌, Result, Ok, Err, IfOk, IfErr}
 use Rattle.rq_model.specs.declared.record.Record.{Record}
-use Rattle.rq_model.specs.Incarnations.{ArePlain, Extends}
+use Rattle.rq_model.specs.Incarnations.{Extends}
 use Rattle.rq_model.specs.Commits.{committed_of}
 use Rattle.rq_model.specs.Ledger.{Ledger, after}
 use Rattle.rq_model.specs.History.Entry.{Restarted}
@@ -22,8 +22,10 @@ use Rattle.rq_store.proofs.Opening.{opened_after}
 use Rattle.rq_engine.specs.Opened.{OpenStore, pooled}
 use Rattle.rq_engine.specs.Devices.{EachPair, Path}
 use Rattle.rq_engine.specs.Devices.Path.{Start, Pages, Log}
+use Rattle.rq_engine.proofs.Crashing.{spelled_dropped}
 use Rattle.rq_lost.specs.Recovered.{IsRecovered}
 use Rattle.rq_lost.proofs.Recovering.{recovered_from}
+use Rattle.rq_lost.proofs.Stopping.{plain_drop}
 use Rattle.rq_restart.specs.declared.restart.Report.{Report}
 use Rattle.rq_restart.specs.declared.restart.Stopped.{Stopped}
 use Rattle.rq_restart.specs.Restarting.{BeginsFrom, IsBegunBehind, IsBegunFrom, IsBegunOn, IsLeftOn, IsOpenedOver, IsReadAs, Reports, WasChecked}
@@ -32,7 +34,7 @@ use Rattle.rq_restart.specs.Underway.{IsSomeStore, IsLeftOrGoesOn, pages_left, l
 use Rattle.rq_restart.proofs.Begun.{mended_extends, mended_incarnation}
 use Rattle.rq_restart.proofs.Lefts.{front_continues, left_longer}
 use Rattle.rq_restart.proofs.Loading.{one_size}
-use Rattle.rq_restart.proofs.Parsing.{AreSpelled-drop, one_log}
+use Rattle.rq_restart.proofs.Parsing.{one_log}
 use Rattle.rq_restart.proofs.Restarts.{left_read, told_on}
 
 -- the front of a log with another behind
@@ -40,11 +42,6 @@ drop_front : (n : ℕ) (xs ys : List Record) → n ≤ length xs → drop n (xs 
 drop_front zero xs ys le = refl
 drop_front (suc n) [] ys le = absurd (omega (arith, le))
 drop_front (suc n) (x ∷ xs) ys le = drop_front n xs ys (omega (arith, le))
-
-plain_drop : (n : ℕ) (xs : List Record) → ArePlain xs → ArePlain (drop n xs)
-plain_drop zero xs h = h
-plain_drop (suc n) [] h = h
-plain_drop (suc n) (x ∷ xs) h = plain_drop n xs h.1
 
 -- the first of the records behind a log, that begin an incarnation over it
 module _ (z : Sizes) (left : Type 0) (older : List Record) (bytes : List ℕ) (b : IsBegunBehind z left older bytes) where
@@ -70,10 +67,10 @@ module _ (z : Sizes) (left : Type 0) (older : List Record) (bytes : List ℕ) (b
   kept_extends = (drop b.lacks behind, is_kept, plain_drop b.lacks behind (refl, more.2))
 
   pub older_spelled : AreSpelled older
-  older_spelled = subst AreSpelled (drop_at behind older (length behind) refl) (AreSpelled-drop (length behind) (behind ++ older) (subst AreSpelled (sym all) b.are_spelled))
+  older_spelled = subst AreSpelled (drop_at behind older (length behind) refl) (spelled_dropped (length behind) (behind ++ older) (subst AreSpelled (sym all) b.are_spelled))
 
   pub kept_spelled : AreSpelled kept
-  kept_spelled = AreSpelled-drop b.lacks (next_restart b.mended ∷ b.mended) b.are_spelled
+  kept_spelled = spelled_dropped b.lacks (next_restart b.mended ∷ b.mended) b.are_spelled
 
   pub kept_left : (images : Images) → IsLeft z images older → left → IsLeft z images kept
   kept_left images there l =

@@ -1,6 +1,6 @@
 -- What is asked by what is kept is that the record follows the rules, where its deed is read.
-use Rattle.std.proofs.Common.{◌≡◌, ◌↔◌, ℕ, ◌+◌, Bool, true, false, not, ◌&&◌, ◌||◌, List, [], ◌∷◌, inl, inr, refl, sym, ◌∙◌, ap, subst, arith}
-use Rattle.std.proofs.lemmas.Bool.{cases_Bool, false≢true, true≢false, false_from_ne_true, or_parts}
+use Rattle.std.proofs.Common.{◌≡◌, ◌↔◌, ℕ, ◌+◌, Bool, true, false, ◌&&◌, ◌||◌, List, [], ◌∷◌, inl, inr, refl, sym, ◌∙◌, ap, subst, arith}
+use Rattle.std.proofs.lemmas.Bool.{cases_Bool, true≢false, false_from_ne_true, or_parts}
 use Rattle.rq_model.specs.declared.txn.Txn.{Txn}
 use Rattle.rq_model.specs.declared.txn.Sub.{Sub}
 use Rattle.rq_model.specs.declared.record.Record.{Record}
@@ -11,6 +11,7 @@ use Rattle.rq_model.specs.Words.{first}
 use Rattle.rq_views.specs.Items.{operation}
 use Rattle.rq_views.specs.Legal.{is_of}
 use Rattle.rq_undone.specs.Analysis.{Analysis, analysis, has_sub}
+use Rattle.rq_undone.proofs.Spots.{way_parts, way_from}
 use Rattle.rq_lost.specs.declared.dues.Due.{Due}
 use Rattle.rq_lost.specs.Dues.{dues}
 use Rattle.rq_lost.specs.Numbers.{numbers}
@@ -20,14 +21,6 @@ use Rattle.rq_rules.proofs.Ends.{ended_kept}
 use Rattle.rq_rules.proofs.Operations.{number_kept, unfinished_kept, within_greatest}
 use Rattle.rq_rules.proofs.Owed.{due_kept}
 use Rattle.rq_rules.proofs.Writes.{spots_kept}
-
-way_parts : (b c : Bool) → (b && not c) ≡ true → (b ≡ true) × (c ≡ false)
-way_parts true true e = absurd (false≢true e)
-way_parts true false e = (refl, refl)
-way_parts false c e = absurd (false≢true e)
-
-way_from : (b c : Bool) → b ≡ true → c ≡ false → (b && not c) ≡ true
-way_from b c e f = rw (e, f) refl
 
 unbegun_going : (o : Sub) (log : List Record) → has_op o log ≡ false → has_op_end o log ≡ false
 unbegun_going o [] h = refl

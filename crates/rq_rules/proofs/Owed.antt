@@ -11,9 +11,10 @@ use Rattle.rq_model.specs.Words.{In, first, same_txn}
 use Rattle.rq_model.proofs.Lists.{In-filter, same_is}
 use Rattle.rq_lost.specs.declared.dues.Due.{Due}
 use Rattle.rq_lost.specs.Dues.{but_newest, but_own, due_of, dues}
+use Rattle.rq_undone.proofs.Noting.{filter_twice, filter_same}
 use Rattle.rq_rules.specs.Kept.{lsn_due}
 use Rattle.rq_rules.specs.Rules.{FollowAll, ends_of, left_of, takes_back}
-use Rattle.rq_rules.proofs.Lists.{filter_same, filter_twice, first_in, first_split}
+use Rattle.rq_rules.proofs.Lists.{first_in, first_split}
 
 abbrev pub lsn_of : Due → ℕ
 lsn_of d = d.lsn

@@ -6,7 +6,6 @@ use Rattle.rq_model.specs.declared.txn.Txn.{Txn}
 use Rattle.rq_model.specs.declared.txn.Sub.{Sub}
 use Rattle.rq_model.specs.declared.record.Record.{Record}
 use Rattle.rq_model.specs.declared.record.Record.TheVariants as records
-use Rattle.rq_model.specs.declared.record.Deed.TheVariants.{Append, UnlinkHead, Close}
 use Rattle.rq_model.specs.Content.{has_end}
 use Rattle.rq_model.specs.Deeds.{deed_in}
 use Rattle.rq_model.specs.Words.{first, is_some, same_txn}
@@ -17,14 +16,14 @@ use Rattle.rq_page.proofs.Spellings.{slot_is_spelling}
 use Rattle.rq_views.specs.Log.{Item, IsNewest, Places, Write, same_op, state_of}
 use Rattle.rq_views.specs.Log.Item.{PageOp, PageUndo, OpEnd, OpVoid, CompEnd, Commit, AbortEnd, Restart}
 use Rattle.rq_level.specs.Meaning.{meaning_of}
-use Rattle.rq_views.specs.Plans.{IsPlan, Turn}
-use Rattle.rq_views.specs.Plans.Turn.{Did, Undid}
+use Rattle.rq_views.specs.Plans.{IsPlan}
+use Rattle.rq_views.specs.Plans.Turn.{Did}
 use Rattle.rq_views.specs.Items.{items, layout_of, operation, told_deed}
 use Rattle.rq_views.specs.Legal as legal
 use Rattle.rq_views.specs.Legal.{IsFirst, IsLegalLog, Placed, Undoes, began, lsns, open_deeds, over, under_way}
-use Rattle.rq_views.proofs.Idle.{unbegun_writes}
 use Rattle.rq_views.proofs.Overlay.{same_is as op_is}
 use Rattle.rq_views.proofs.Strangers.{has_end_same}
+use Rattle.rq_views.proofs.Numbers.{written_began, plan_some, undoes_some}
 use Rattle.rq_store.specs.Fitting.{left_by}
 use Rattle.rq_store.specs.Whole.{IsWhole}
 use Rattle.rq_undone.specs.declared.history.Spot.{Spot}
@@ -49,23 +48,8 @@ chain_reads level deed one some = ap (λ (n : ℕ). (meaning_of n).reads deed) o
 way : (l : Places) (log : List Item) (o : Sub) → began o log ≡ true → over o log ≡ false → under_way o log ≡ true
 way l log o b g = rw (b, g) refl
 
-written_began : (l : Places) (log : List Item) (o : Sub) → ((state_of l log).writes o ≡ [] → ⊥) → began o log ≡ true
-written_began l log o h = elim (cases_Bool (began o log)) [ inl y ↦ y | inr n ↦ absurd (h (unbegun_writes l log o n)) ]
-
 newest_began : (l : Places) (log : List Item) (o : Sub) (at : ℕ) (x : Slot) → IsNewest ((state_of l log).writes o) at x → began o log ≡ true
 newest_began l log o at x h = written_began l log o (λ e. subst (λ (ws : List Write). IsNewest ws at x) e h)
-
-plan_some : (l : Places) (t : Turn) → IsPlan l t [] → ⊥
-plan_some l (Did (Append s n tag previous body)) p = let e = p.writes in cc
-plan_some l (Did (UnlinkHead s n tag body)) p = let e = p.writes in cc
-plan_some l (Did (Close s)) p = let e = p.writes in cc
-plan_some l (Undid (Append s n tag previous body)) p = let e = p.writes in cc
-plan_some l (Undid (UnlinkHead s n tag body)) p = let e = p.writes in cc
-plan_some l (Undid (Close s)) p = let e = p.writes in cc
-
-undoes_some : (l : Places) (ps : List Placed) (u : ℕ) → Undoes l ps u [] → ⊥
-undoes_some l [] u h = h
-undoes_some l (p ∷ ps) u h = plan_some l (Undid p.deed) h.1
 
 -- an operation of a transaction that has ended is not under way
 ended_idle : (l : Places) (log : List Item) → IsLegalLog l log → (o : Sub) → legal.has_end o.txn log ≡ true → under_way o log ≡ false

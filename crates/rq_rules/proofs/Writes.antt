@@ -14,8 +14,10 @@ use Rattle.rq_views.proofs.Overlay.{same_is as op_is}
 use Rattle.rq_undone.specs.declared.history.Spot.{Spot}
 use Rattle.rq_undone.specs.Analysis.{analysis, spot_at, spot_of, without_newest, without_spots}
 use Rattle.rq_undone.proofs.Lists as undone
+use Rattle.rq_undone.proofs.Noting.{filter_twice, filter_same}
+use Rattle.rq_undone.proofs.Spots.{apart}
 use Rattle.rq_rules.specs.Rules.{FollowAll, has_op_end, standing, undoes, writes_of}
-use Rattle.rq_rules.proofs.Lists.{filter_same, filter_twice, first_in, first_split}
+use Rattle.rq_rules.proofs.Lists.{first_in, first_split}
 
 abbrev spots : List Record → List Spot
 spots log = (analysis log).spots
@@ -105,9 +107,6 @@ but_first n qs p h e =
     let b : AreBelow n (p ∷ k.0) = subst (AreBelow n) k.1 h in
     let own : nat_eq p.lsn p.lsn ≡ true = eq-eqb p.lsn p.lsn refl in
     ap (filter (λ q. not (nat_eq p.lsn q.lsn))) k.1 ∙ rw own (all_but p.lsn k.0 b.1) ∙ ap (undone.rest) (sym k.1)
-
-apart : (u o : Sub) → same_op u o ≡ false → (x : Spot) → spot_of u x ≡ true → spot_of o x ≡ false
-apart u o n x e = ap (λ y. same_op y o) (op_is x.by u e) ∙ n
 
 ended_other : (u o : Sub) (log : List Record) → same_op u o ≡ false → filter (spot_of o) (without_spots u (spots log)) ≡ filter (spot_of o) (spots log)
 ended_other u o log n = undone.other_none (spot_of o) u (spots log) (apart u o n)

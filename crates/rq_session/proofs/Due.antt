@@ -1,12 +1,12 @@
 -- What a session was told asks for what it does.
-use Rattle.std.proofs.Common.{◌≡◌, ℕ, Bool, true, false, refl, sym, ap, ◌∙◌, subst, inl, inr, arith}
-use Rattle.std.proofs.lemmas.Bool.{eq-eqb, false≢true, true≢false}
+use Rattle.std.proofs.Common.{◌≡◌, ℕ, Bool, true, false, refl, sym, ap, ◌∙◌, subst, inl, inr}
+use Rattle.std.proofs.lemmas.Bool.{false≢true, true≢false}
 use Rattle.std.specs.Prelude.{Option, Some, if◌then◌else◌}
-use Rattle.rq_model.specs.Words.{same_txn}
 use Rattle.rq_model.specs.declared.txn.Txn.{Txn}
 use Rattle.rq_model.specs.declared.txn.Sub.{Sub}
 use Rattle.rq_model.specs.declared.refusal.Refusal.{Refusal}
 use Rattle.rq_model.specs.declared.refusal.Refusal.TheVariants.{NoMemory, Failed, Latched, PoolFull}
+use Rattle.rq_model.proofs.Lists.{same_self}
 use Rattle.rq_wire.specs.declared.answers.Answer.{Answer}
 use Rattle.rq_wire.specs.declared.answers.Answer.TheVariants as answers
 use Rattle.rq_session.specs.declared.calls.Ask.{Ask}
@@ -27,9 +27,7 @@ use Rattle.rq_session.specs.Rules.{after_await, after_told, is_commit, is_commit
 use Rattle.rq_session.specs.Laws.{IsAborting, IsReceipt, MayAgain, fits}
 use Rattle.rq_session.specs.Tells.{AbortIsOver, AsksFor, EachAnswer, EachAsk, EachEnd, EachStage, EachWait, IsDone, IsEndAbort, IsNoReceipt, IsRefusal, IsStarted, IsUndoStarted, MayEnd, Tells, WaitsFor}
 use Rattle.rq_session.proofs.Telling.{TellsAnswer, TellsAsk, TellsEnd, TellsWait, says}
-
-none_under_way : {P : Type 0} → ◌≡◌ {A = ℕ} 0 1 → P
-none_under_way e = absurd (omega (arith, e))
+use Rattle.rq_session.proofs.EachTurn.{none_under_way}
 
 chosen : (b : Bool) (x y : Next) → b ≡ true → (if b then x else y) ≡ x
 chosen true x y e = refl
@@ -124,12 +122,8 @@ each_ask lost s what ask = (λ e. subst (TellsAsk s what) e (says lost s what).a
 
 -- ---- waits
 
-same_itself : (txn : Txn) → same_txn txn txn ≡ true
-same_itself txn =
-    rw (eq-eqb txn.incarnation txn.incarnation refl, eq-eqb txn.count txn.count refl) refl
-
 own_is : (o : Option Txn) (commit : Commit) → o ≡ Some commit.txn → is_commit_of o commit ≡ true
-own_is o commit e = rw e (same_itself commit.txn)
+own_is o commit e = rw e (same_self commit.txn)
 
 told_due : (lost : Bool) (h : Held) (commit : Commit) → txn_held h ≡ Some commit.txn
     → (after_told lost (stages.Commit h) (told.Committed commit)).action ≡ Await commit

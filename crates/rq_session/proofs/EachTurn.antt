@@ -29,6 +29,9 @@ use Rattle.rq_model.proofs.Lists.{same_is}
 use Rattle.rq_session.specs.Rules.{next, answered, ended, is_commit, is_commit_of}
 use Rattle.rq_session.specs.Laws.{Waits, takes, IsOwn, AwaitsOwn, abort_call, loss_call, awaited, Turn, Takes, Lost, CommitFits, MayAgain, MayAgainAfter, IsAgain, IsAborting, asked_last, owed, given}
 
+pub none_under_way : {P : Type 0} → ◌≡◌ {A = ℕ} 0 1 → P
+none_under_way e = absurd (omega (arith, e))
+
 -- ---- turns of each kind
 
 ends : (s : Stage) (what : Told) → Turn s what ended
@@ -190,7 +193,7 @@ finishes lost sub purpose (told.Refused refusal) =
     (λ e. tries (stages.Finish sub purpose) (told.Refused refusal) (asks.Finish sub) refl (rw e tt) refl tt)
 finishes lost sub purpose what = ends (stages.Finish sub purpose) what
 
-names_its : (o : Option Txn) (commit : Commit) → is_commit_of o commit ≡ true → o ≡ Some commit.txn
+pub names_its : (o : Option Txn) (commit : Commit) → is_commit_of o commit ≡ true → o ≡ Some commit.txn
 names_its None commit e = absurd (false≢true e)
 names_its (Some txn) commit e = ap Some (same_is txn commit.txn e)
 
@@ -306,9 +309,6 @@ each_may_again lost (stages.EndAbort txn) NoMemory may = tt
 each_may_again lost _ _ may = absurd may
 
 -- ---- requests
-
-none_under_way : {P : Type 0} → ◌≡◌ {A = ℕ} 0 1 → P
-none_under_way e = absurd (omega (arith, e))
 
 pub each_request : (h : Held) (request : Request) → Takes h request (rules.after_request h request)
 each_request Free requests.Begin = record {

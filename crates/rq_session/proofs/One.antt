@@ -1,5 +1,5 @@
 -- The laws of sessions leave one session.
-use Rattle.std.proofs.Common.{◌≡◌, ℕ, Bool, true, false, refl, sym, ap, ◌∙◌, subst, inl, inr, arith}
+use Rattle.std.proofs.Common.{◌≡◌, Bool, true, false, refl, sym, ap, ◌∙◌, subst, inl, inr}
 use Rattle.std.proofs.lemmas.Bool.{false≢true, true≢false}
 use Rattle.std.specs.Prelude.{Option, Some, None}
 use Rattle.rq_wire.specs.declared.request.Request.{Request}
@@ -22,11 +22,8 @@ use Rattle.rq_session.specs.Stages.{txn_held, held_in, is_undoing, IsStart, IsSt
 use Rattle.rq_session.specs.Rules.{after_loss, after_request, after_told, call_in}
 use Rattle.rq_session.specs.Laws.{AgainFitsIn, IsAbort, IsAborting, IsBegin, IsFirst, IsFor, Lost, abort_call, asked_last, given, loss_call, owed}
 use Rattle.rq_session.specs.Tells.{EachKeeps, Follows, IsSame, KeepsLaws, OneFirst, OneLoss, OneReply}
-use Rattle.rq_session.proofs.EachTurn.{each_loss, each_reply, each_request, lost_answers_nothing}
+use Rattle.rq_session.proofs.EachTurn.{each_loss, each_reply, each_request, lost_answers_nothing, none_under_way}
 use Rattle.rq_session.proofs.Due.{each_answer, each_ask, each_end, each_stage, each_wait}
-
-none_under_way : {P : Type 0} → ◌≡◌ {A = ℕ} 0 1 → P
-none_under_way e = absurd (omega (arith, e))
 
 -- ---- one stage
 

@@ -1,8 +1,6 @@
 -- What a session does at a reply tells what it was told.
-use Rattle.std.proofs.Common.{◌≡◌, ℕ, Bool, true, false, cond, refl, ap, inl, inr, arith}
-use Rattle.std.proofs.lemmas.Bool.{false≢true}
-use Rattle.std.specs.Prelude.{Option, Some, None}
-use Rattle.rq_model.proofs.Lists.{same_is}
+use Rattle.std.proofs.Common.{◌≡◌, Bool, true, false, cond, refl, inl, inr}
+use Rattle.std.specs.Prelude.{Some}
 use Rattle.rq_model.specs.declared.txn.Txn.{Txn}
 use Rattle.rq_model.specs.declared.txn.Sub.{Sub}
 use Rattle.rq_model.specs.declared.refusal.Refusal.{Refusal}
@@ -28,6 +26,7 @@ use Rattle.rq_session.specs.Rules as rules
 use Rattle.rq_session.specs.Rules.{next, answered, ended, is_commit, is_commit_of}
 use Rattle.rq_session.specs.Laws.{IsAborting, MayAgain}
 use Rattle.rq_session.specs.Tells.{Tells, AsksFor, WaitsFor, MayEnd, Follows, IsRefusal, held_after, numbered}
+use Rattle.rq_session.proofs.EachTurn.{names_its, none_under_way}
 
 -- ---- turns of each kind
 
@@ -53,9 +52,6 @@ pub record Says (lost : Bool) (s : Stage) (what : Told) (n : Next) : Type 0 wher
   pub wait : TellsWait s what n.action
   pub over : TellsEnd lost s what n.action
   pub follows : Follows s what n
-
-none_under_way : {P : Type 0} → ◌≡◌ {A = ℕ} 0 1 → P
-none_under_way e = absurd (omega (arith, e))
 
 ends : (lost : Bool) (s : Stage) (what : Told) → MayEnd lost s what → Says lost s what ended
 ends lost s what may = record {
@@ -226,10 +222,6 @@ finishes lost sub purposes.Undoing told.Undone = calls lost (stages.Finish sub p
 finishes lost sub purposes.Request what = ends lost (stages.Finish sub purposes.Request) what (inl refl)
 finishes lost sub purposes.Clearing what = ends lost (clearing sub) what (inl refl)
 finishes lost sub purposes.Undoing what = ends lost (stages.Finish sub purposes.Undoing) what (inl refl)
-
-names_its : (o : Option Txn) (commit : Commit) → is_commit_of o commit ≡ true → o ≡ Some commit.txn
-names_its None commit e = absurd (false≢true e)
-names_its (Some txn) commit e = ap Some (same_is txn commit.txn e)
 
 own_commits : (lost : Bool) (h : Held) (commit : Commit) (mine : Bool) → is_commit_of (txn_held h) commit ≡ mine
     → Says lost (stages.Commit h) (told.Committed commit) (cond mine (next (Await commit) (stages.Await commit)) ended)

@@ -1,8 +1,8 @@
 -- A commit that an audit acknowledges is in every log that a crash may leave.
-use Rattle.std.proofs.Common.{◌≡◌, ℕ, ◌+◌, ◌≤◌, List, [], ◌∷◌, ◌++◌, length, take, drop, map, reverse, Some, None, Bool, true, false, refl, sym, ◌∙◌, ap, subst, inl, inr, ⊎_elim, arith, nat_lt, nat_eq, not}
+use Rattle.std.proofs.Common.{◌≡◌, ℕ, ◌+◌, ◌≤◌, List, [], ◌∷◌, ◌++◌, length, take, drop, map, Some, None, Bool, true, false, refl, sym, ◌∙◌, ap, subst, inl, inr, ⊎_elim, arith, nat_lt, nat_eq, not}
 use Rattle.std.proofs.lemmas.Bool.{and_parts, true≢false, not-true}
 use Rattle.std.proofs.lemmas.Bool.Decides.{nat_tests}
-use Rattle.std.proofs.lemmas.List.{reverse-append, length-append, length-drop, take-append-drop}
+use Rattle.std.proofs.lemmas.List.{length-append, length-drop, take-append-drop}
 use Rattle.rq_model.specs.declared.record.Record.{Record}
 use Rattle.rq_model.specs.declared.record.Record.TheVariants.{Commit as Commit_record}
 use Rattle.rq_model.specs.Words.{In}
@@ -18,9 +18,11 @@ use Rattle.rq_model.specs.Replay.Reply.{Gave_txn, Gave_sub, Gave_none, Gave_noth
 use Rattle.rq_model.proofs.EntryKinds.{Kind, kind}
 use Rattle.rq_model.proofs.EntryKinds.Kind.{Plain, Commits, Forces, Crashes, Restarts}
 use Rattle.rq_model.proofs.Same.{In-append}
+use Rattle.rq_model.proofs.Placed.{In-more, In-last}
 use Rattle.rq_disk.specs.declared.device.LogDevice as log_device
 use Rattle.rq_disk.specs.declared.device.PageDevice as page_device
 use Rattle.rq_log.specs.Spelled.{IsBeginning}
+use Rattle.rq_txn.proofs.Placing.{in_reverse}
 use Rattle.rq_store.specs.State.{ledger_of, size_of}
 use Rattle.rq_sound.specs.Sound.{IsSound}
 use Rattle.rq_engine.specs.Opened.{OpenStore, AreHonest}
@@ -28,26 +30,9 @@ use Rattle.rq_shared.specs.Entries.{Noted, Follows, answers, answer_of}
 use Rattle.rq_shared.specs.Receipts.{IsReceiptOf, KeepsCommit, IsDurable}
 
 -- places in lists
-in_left : {X : Type 0} (x : X) (xs ys : List X) → In x xs → In x (xs ++ ys)
-in_left x [] ys h = absurd h
-in_left x (z ∷ xs) ys h = ⊎_elim (λ (e : x ≡ z). inl e) (λ (i : In x xs). inr (in_left x xs ys i)) h
-
-in_last : {X : Type 0} (x : X) (xs : List X) → In x (xs ++ x ∷ [])
-in_last x [] = inl refl
-in_last x (z ∷ xs) = inr (in_last x xs)
-
 in_map : {X Y : Type 0} (f : X → Y) (x : X) (xs : List X) → In x xs → In (f x) (map f xs)
 in_map f x [] h = absurd h
 in_map f x (z ∷ xs) h = ⊎_elim (λ (e : x ≡ z). inl (ap f e)) (λ (i : In x xs). inr (in_map f x xs i)) h
-
-in_reverse : {X : Type 0} (x : X) (xs : List X) → In x xs → In x (reverse xs)
-in_reverse x [] h = absurd h
-in_reverse x (z ∷ xs) h =
-    subst (In x) (sym (reverse-append (z ∷ []) xs))
-    (⊎_elim
-    (λ (e : x ≡ z). subst (λ y. In x (reverse xs ++ y ∷ [])) e (in_last x (reverse xs)))
-    (λ (i : In x xs). in_left x (reverse xs) (z ∷ []) (in_reverse x xs i))
-    h)
 
 -- no call stands for a crash, or for a restart
 abbrev is_break : Entry → Bool
@@ -105,7 +90,7 @@ grows c g l e (Plain f none) s low =
     let b = k.records in
     record { commits = λ d i. subst (In d) (sym k.committed) i; forced = omega (arith, a); within = omega (arith, a, b, low) }
 grows c g l e (Commits t lsn) s low =
-    record { commits = λ d i. in_left d l.committed (record { txn = t; lsn = lsn; ops = ops_of (found t l.open_ones) } ∷ []) i; forced = omega arith; within = omega (arith, low) }
+    record { commits = λ d i. In-more d l.committed (record { txn = t; lsn = lsn; ops = ops_of (found t l.open_ones) } ∷ []) i; forced = omega arith; within = omega (arith, low) }
 grows c g l e (Forces lsn) s low = record { commits = λ d i. i; forced = low; within = omega arith }
 grows c g l e (Crashes kept records) s low = absurd (true≢false (never_break c g (Crash kept records) s))
 grows c g l e (Restarts i records) s low = absurd (true≢false (never_break c g (Restarted i records) s))
@@ -130,7 +115,7 @@ module _ (z : Size) (base : Ledger) (low : base.forced ≤ base.records) where
       let is : r.1 ≡ Committed n.txn n.lsn = commit_says a.0 n r.1 (subst (λ g. Says a.0 g r.1) gives r.3) in
       let d : Done = record { txn = n.txn; lsn = n.lsn; ops = ops_of (found n.txn r.0.open_ones) } in
       let on : l ≡ after (Committed n.txn n.lsn) r.0 = r.5 ∙ ap (λ f. after f r.0) is in
-      (d, refl, refl, subst (λ (m : Ledger). In d m.committed) (sym on) (in_last d r.0.committed)))
+      (d, refl, refl, subst (λ (m : Ledger). In d m.committed) (sym on) (In-last d r.0.committed)))
       (λ (there : In x audit).
       let w = commit_stands n x audit r.0 r.2 there e in
       (w.0, w.1, w.2, (one_grows a audit l r).commits w.0 w.3))

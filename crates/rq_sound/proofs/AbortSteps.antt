@@ -33,14 +33,9 @@ use Rattle.rq_sound.specs.Starts.{MayUndo}
 use Rattle.rq_sound.specs.Calls.{next_txn, begun, started, stepped, undone, aborting, aborted, forced, IsIdle, IsNextWrite, IsReady}
 use Rattle.rq_sound.specs.Steps.{Steps}
 use Rattle.rq_sound.specs.Theorems.{AbortsAreSteps}
-use Rattle.rq_store.proofs.Opens.{found_open, open_found}
+use Rattle.rq_store.proofs.Opens.{found_open, open_found, busy_under}
 use Rattle.rq_sound.proofs.Ledgers.{opens_change, aborting_after, aborted_after}
 use Rattle.rq_sound.proofs.Contracts.{calls_keep, undo_entry, undo_start_entry}
-
--- what a test reads of an operation under way
-pub job_some : (o : Option Under) → is_some (job_under o) ≡ is_some o
-job_some None = refl
-job_some (Some u) = refl
 
 last_done : (fs : List Finished) (f : Finished) → last (map op_done (fs ++ f ∷ [])) ≡ Some (op_done f)
 last_done fs f = ap last (map-append op_done fs (f ∷ [])) ∙ at_end (map op_done fs) (op_done f) where
@@ -66,7 +61,7 @@ module _ (s : State) (k : IsSound s) (running : s.failed ≡ false) where
   is_ready r a m open_one =
       let e = at_open r m.at_row in (
         runs_now,
-        (ap (λ o. not (is_some o)) e, (ap (turned a) e ∙ open_one, (ap is_busy e ∙ job_some r.under ∙ ap (λ (o : Option Under). is_some o) m.idle, tt))),
+        (ap (λ o. not (is_some o)) e, (ap (turned a) e ∙ open_one, (ap is_busy e ∙ busy_under r.under ∙ ap (λ (o : Option Under). is_some o) m.idle, tt))),
       )
 
   start_abort : (r : Row) → IsIdle s r → r.aborting ≡ false → Steps s (Call.Start_abort r.txn) Reply.Gave_aborting (aborting s r)
@@ -87,7 +82,7 @@ module _ (s : State) (k : IsSound s) (running : s.failed ≡ false) where
   pub under_here : (r : Row) (u : Under) → found_row r.txn s.rows ≡ Some r → r.under ≡ Some u → not (has_under u.number (found r.txn l.open_ones)) ≡ false
   under_here r u e under =
       ap (λ o. not (has_under u.number o)) (at_open r e)
-      ∙ ap not (and_from (is_some (job_under r.under)) (nat_eq r.number u.number) (job_some r.under ∙ ap (λ (o : Option Under). is_some o) under) (eq-eqb r.number u.number (number_is r u e under)))
+      ∙ ap not (and_from (is_some (job_under r.under)) (nat_eq r.number u.number) (busy_under r.under ∙ ap (λ (o : Option Under). is_some o) under) (eq-eqb r.number u.number (number_is r u e under)))
 
   start_inverse : (r : Row) (u : Under) (rest : List Finished) (f : Finished) → MayUndo s r u rest f → log_full l (undo_cost (Some (op_done f))) ≡ false
       → Steps s (Call.Undo_next r.txn) (Reply.Gave_sub r.txn (r.number + 1)) (started s r u s.ends)

@@ -11,6 +11,7 @@ use Rattle.rq_page.specs.Sizes.{Sizes}
 use Rattle.rq_views.specs.Log.Item.{AbortEnd}
 use Rattle.rq_views.specs.Items.{items, layout_of, operation}
 use Rattle.rq_views.specs.Legal.{MayFollow, open_deeds, under_way}
+use Rattle.rq_views.proofs.Holders.{not_txn}
 use Rattle.rq_groups.specs.Ends.{HeldEnds}
 use Rattle.rq_model.specs.Incarnations.{incarnation_of}
 use Rattle.rq_store.specs.Rows.{placed, is_under}
@@ -23,7 +24,7 @@ use Rattle.rq_store.proofs.Ends.{without_ends}
 use Rattle.rq_sound.proofs.Going.{other_gone}
 use Rattle.rq_sound.proofs.Beside.{SaysSame, says_abort}
 use Rattle.rq_sound.proofs.Counted.{counted_abort, counted_aborting}
-use Rattle.rq_sound.proofs.OwnRecord.{row, of_order, running, strange_by}
+use Rattle.rq_sound.proofs.OwnRecord.{row, of_order, running}
 use Rattle.rq_sound.proofs.Standings.{stands_changed, stands_gone}
 
 module _ (z : Sizes) (log : List Record) (ends : HeldEnds) (rows : List Row) (i b cells : ℕ) (waiting : List ℕ) (whole : IsWhole z log) (k : AreStanding z log ends rows i b) (c : AreCounted z log rows cells waiting)
@@ -99,7 +100,7 @@ module _ (z : Sizes) (log : List Record) (ends : HeldEnds) (rows : List Row) (i 
     }
 
     pub stands_abort : AreStanding z (x ∷ log) (without_ends t ends) (without_row t rows) i b
-    stands_abort = stands_gone z log (x ∷ log) ends rows i b k t r at_row (λ q n. says_abort z log t q (strange_by t q n)) (λ q u h g. (other_gone z log ends (without_ends t ends) q u t h g).1) settled_own (λ q n h. or_from _ _ (strange_by t q n) h)
+    stands_abort = stands_gone z log (x ∷ log) ends rows i b k t r at_row (λ q n. says_abort z log t q (not_txn t q n)) (λ q u h g. (other_gone z log ends (without_ends t ends) q u t h g).1) settled_own (λ q n h. or_from _ _ (not_txn t q n) h)
 
     pub counts_abort : AreCounted z (x ∷ log) (without_row t rows) cells waiting
     counts_abort = counted_abort z log rows cells waiting t r c k.distinct at_row idle empty

@@ -1,28 +1,25 @@
 -- Who holds an end is alone with it in the log, and may take what waits.
-use Rattle.std.proofs.Common.{◌≡◌, ℕ, ◌+◌, ◌-◌, ◌<◌, ◌≤◌, ◌||◌, List, [], ◌∷◌, length, refl, sym, ◌∙◌, ap, subst, Bool, true, false, not, cond, nat_eq, Option, Some, None, inl, inr, arith}
+use Rattle.std.proofs.Common.{◌≡◌, ℕ, ◌+◌, ◌-◌, ◌<◌, ◌≤◌, ◌||◌, List, [], length, refl, sym, ◌∙◌, ap, subst, true, false, not, Option, Some, None, arith}
 use Rattle.std.specs.List.{filter_map}
-use Rattle.std.proofs.lemmas.Bool.{cases_Bool, false≢true, eq-eqb, or_parts, and_parts, not-true, false_from_ne_true}
+use Rattle.std.proofs.lemmas.Bool.{false≢true, and_parts, not-true, false_from_ne_true}
 use Rattle.std.proofs.lemmas.List.{length-drop}
-use Rattle.rq_model.specs.declared.record.Record.TheVariants as records
 use Rattle.rq_model.specs.declared.txn.Txn.{Txn}
-use Rattle.rq_model.specs.declared.record.Deed.{Deed}
-use Rattle.rq_model.specs.declared.record.Deed.TheVariants.{Append, UnlinkHead, Close}
 use Rattle.rq_model.specs.declared.record.Record.{Record}
 use Rattle.rq_model.specs.Words.{In, same_txn, taken_from}
-use Rattle.rq_model.specs.Deeds.{deed_in}
 use Rattle.rq_model.specs.History.{Group}
 use Rattle.rq_model.specs.Ledger.{rest_in, sent_in, taken_in, group_in}
-use Rattle.rq_model.specs.Content.{Said, said, deeds, kept, ending_by, has_end, has_commit, removed, added, shape}
+use Rattle.rq_model.specs.Content.{deeds, has_end, has_commit, removed, added, shape}
 use Rattle.rq_model.specs.Commits.{ops_told, committed_of}
 use Rattle.rq_model.specs.Rules.{holds, any_use, uses_send, uses_receive}
 use Rattle.rq_model.proofs.Told.{told_taken, not_yet, content_is}
 use Rattle.rq_model.proofs.Commits.{removed_both, shape_is, covered_log, around_itself}
 use Rattle.rq_page.specs.Sizes.{Sizes, sender_count}
-use Rattle.rq_views.specs.Items.{items, told_deed, ReadsItsDeeds, has_undone}
-use Rattle.rq_views.specs.Legal.{Placed, open_deeds, rest_placed}
-use Rattle.rq_views.specs.Groups.{on_sending_end, on_receiving_end, side, Alone}
+use Rattle.rq_views.specs.Items.{items, has_undone}
+use Rattle.rq_views.specs.Legal.{open_deeds}
+use Rattle.rq_views.specs.Groups.{on_receiving_end, side, Alone}
 use Rattle.rq_views.proofs.Committed.{say}
 use Rattle.rq_views.proofs.Content.{own_deeds}
+use Rattle.rq_views.proofs.Rules.{unused, takes_same}
 use Rattle.rq_groups.specs.Ends.{HeldEnds, has_held}
 use Rattle.rq_groups.specs.Waiting.{waits}
 use Rattle.rq_store.specs.Whole.{IsWhole}
@@ -32,47 +29,6 @@ use Rattle.rq_store.proofs.RowSums.{one_of_sum}
 use Rattle.rq_sound.specs.Standing.{AreStanding}
 use Rattle.rq_sound.specs.Counted.{AreCounted, takes_in}
 use Rattle.rq_store.proofs.Placed.{told_placed}
-
-step : (f : Said → Bool) (p : Deed → Bool) → ((d : Deed) → f (said d) ≡ p d) → (t u : Txn) (n level : ℕ) (bytes : List ℕ) (d : Deed) (ps : List Placed) (ds : List Said) → level ≡ 1 → deed_in bytes ≡ Some d → (any_use f ds ≡ false → side p ps ≡ [])
-    → any_use f (kept (λ v. same_txn v t) (ending_by u (cond (nat_eq level 1) (deed_in bytes) None)) ds) ≡ false → side p (cond (same_txn u t) (record { lsn = n; deed = told_deed (deed_in bytes) } ∷ ps) ps) ≡ []
-step f p same t u n level bytes d ps ds l e k h =
-    let one : nat_eq level 1 ≡ true = eq-eqb level 1 l in
-    elim (cases_Bool (same_txn u t)) [
-      | inl y ↦ let s = or_parts (f (said d)) (any_use f ds) (rw (one, e, y) at h) in rw (e, y, sym (same d) ∙ s.0) (k s.1)
-      | inr m ↦ rw m (k (rw (one, e, m) at h))
-    ]
-
-rest_none : (p : Deed → Bool) (ps : List Placed) → side p ps ≡ [] → side p (rest_placed ps) ≡ []
-rest_none p [] e = refl
-rest_none p (x ∷ ps) e = elim (cases_Bool (p x.deed)) [ inl y ↦ (let bad : x.deed ∷ side p ps ≡ [] = rw y at e in absurd (cc)) | inr n ↦ rw n at e ]
-
--- who never used an end has nothing open at it
-pub unused : (f : Said → Bool) (p : Deed → Bool) → ((d : Deed) → f (said d) ≡ p d) → (z : Sizes) (t : Txn) (log : List Record) → ReadsItsDeeds log → any_use f (deeds (λ v. same_txn v t) log) ≡ false → side p (open_deeds t (items z log)) ≡ []
-unused f p same z t [] g e = refl
-unused f p same z t (records.PageOp u k page slot before after ∷ log) g e = unused f p same z t log g.1 e
-unused f p same z t (records.PageUndo u k undone page slot after ∷ log) g e = unused f p same z t log g.1 e
-unused f p same z t (records.OpVoid u k ∷ log) g e = unused f p same z t log g.1 e
-unused f p same z t (records.Restart i ∷ log) g e = unused f p same z t log g.1 e
-unused f p same z t (records.OpEnd u k level bytes ∷ log) g e = step f p same t u (length (items z log) + 1) level bytes g.0.1.0 (open_deeds t (items z log)) (deeds (λ v. same_txn v t) log) g.0.0 g.0.1.1 (unused f p same z t log g.1) e
-unused f p same z t (records.CompEnd u k undone ∷ log) g e = elim (cases_Bool (same_txn u t)) [
-  | inl y ↦ rw y (rest_none p (open_deeds t (items z log)) (unused f p same z t log g.1 e))
-  | inr m ↦ rw m (unused f p same z t log g.1 e)
-]
-unused f p same z t (records.Commit u ∷ log) g e = elim (cases_Bool (same_txn u t)) [
-  | inl y ↦ rw y refl
-  | inr m ↦ rw m (unused f p same z t log g.1 e)
-]
-unused f p same z t (records.AbortEnd u ∷ log) g e = unused f p same z t log g.1 e
-
-pub sends_same : (g : ℕ) (d : Deed) → uses_send g (said d) ≡ on_sending_end g d
-sends_same g (Append r n tag previous body) = refl
-sends_same g (UnlinkHead r n tag body) = refl
-sends_same g (Close r) = refl
-
-pub takes_same : (g : ℕ) (d : Deed) → uses_receive g (said d) ≡ on_receiving_end g d
-takes_same g (Append r n tag previous body) = refl
-takes_same g (UnlinkHead r n tag body) = refl
-takes_same g (Close r) = refl
 
 module _ (z : Sizes) (log : List Record) (ends : HeldEnds) (rows : List Row) (incarnation begins : ℕ) (whole : IsWhole z log) (k : AreStanding z log ends rows incarnation begins) where
   pub alone_taking : (g : ℕ) (t : Txn) → has_held t g ends.receiving ≡ true → Alone (on_receiving_end g) t (items z log)

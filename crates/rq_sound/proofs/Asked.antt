@@ -23,6 +23,7 @@ use Rattle.rq_views.specs.Legal.{Placed, open_deeds, view}
 use Rattle.rq_views.specs.Groups.{on_sending_end as sends_for, on_receiving_end, side, Alone}
 use Rattle.rq_views.proofs.Committed.{say}
 use Rattle.rq_views.proofs.Holding.{holders, view_holds, committed_is_group}
+use Rattle.rq_views.proofs.Rules.{unused, sends_same, takes_same}
 use Rattle.rq_groups.specs.Ends.{HeldEnds, has_held, is_free_for}
 use Rattle.rq_groups.specs.Waiting.{waits}
 use Rattle.rq_store.specs.State.{op_done, size_of, State, open_of, open_ones_of, ledger_of, job_under, job_of_aim}
@@ -38,7 +39,7 @@ use Rattle.rq_sound.specs.Standing.{AreStanding}
 use Rattle.rq_sound.specs.Counted.{AreCounted, appends_aim, appending, appending_in, appends_all, takes_in}
 use Rattle.rq_store.proofs.Placed.{told_placed}
 use Rattle.rq_store.proofs.Ends.{free_alone}
-use Rattle.rq_sound.proofs.Alone.{unused, sends_same, takes_same, removed_is}
+use Rattle.rq_sound.proofs.Alone.{removed_is}
 use Rattle.rq_sound.proofs.Commits.{count_sends}
 
 one_none : (g : ℕ) (d : Deed) → on_receiving_end g d ≡ false → removed_one g (said d) ≡ 0
@@ -46,7 +47,7 @@ one_none g (Append q n tag previous body) e = refl
 one_none g (UnlinkHead q n tag body) e = rw e refl
 one_none g (Close q) e = refl
 
-none_removed : (g : ℕ) (ps : List Placed) → side (on_receiving_end g) ps ≡ [] → removed g (say ps) ≡ 0
+pub none_removed : (g : ℕ) (ps : List Placed) → side (on_receiving_end g) ps ≡ [] → removed g (say ps) ≡ 0
 none_removed g [] e = refl
 none_removed g (p ∷ ps) e = elim (cases_Bool (on_receiving_end g p.deed)) [
   | inl y ↦ (let bad : p.deed ∷ side (on_receiving_end g) ps ≡ [] = rw y at e in absurd (cc))

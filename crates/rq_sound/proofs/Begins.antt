@@ -1,21 +1,17 @@
 -- A transaction begins.
-use Rattle.std.proofs.Common.{◌≡◌, ℕ, ◌+◌, ◌≤◌, ◌&&◌, List, [], ◌∷◌, refl, sym, ◌∙◌, ap, subst, Bool, true, false, not, cond, nat_eq, Option, Some, None, inl, inr, arith}
-use Rattle.std.proofs.lemmas.Bool.{cases_Bool, cases_lt, true≢false, false≢true, or_parts}
+use Rattle.std.proofs.Common.{◌≡◌, ℕ, ◌+◌, ◌≤◌, ◌&&◌, List, ◌∷◌, refl, sym, ◌∙◌, ap, subst, Bool, true, not, Option, Some, None, inl, inr, arith}
+use Rattle.std.proofs.lemmas.Bool.{cases_Bool, cases_lt, true≢false, false≢true}
 use Rattle.std.proofs.lemmas.List.Sums.{sum_by-cons}
-use Rattle.rq_model.specs.declared.record.Record.TheVariants as records
 use Rattle.rq_model.specs.declared.txn.Txn.{Txn}
-use Rattle.rq_model.specs.declared.record.Deed.{Deed}
 use Rattle.rq_model.specs.declared.record.Record.{Record}
 use Rattle.rq_model.specs.Words.{In, same_txn}
-use Rattle.rq_model.specs.Deeds.{deed_in}
-use Rattle.rq_model.specs.Content.{Said, deeds, kept, ending, ending_by}
-use Rattle.rq_model.specs.Unended.{any_record}
+use Rattle.rq_model.specs.Content.{Said, deeds}
 use Rattle.rq_model.specs.Rules.{any_use, uses_send, uses_receive}
 use Rattle.rq_page.specs.Sizes.{Sizes}
 use Rattle.rq_views.specs.Legal.{over}
 use Rattle.rq_views.specs.Items.{items, operation, layout_of}
-use Rattle.rq_views.specs.InStore.{mentions, IsStranger}
-use Rattle.rq_views.proofs.Strangers.{stranger_deeds, stranger_end, stranger_undone, stranger_began}
+use Rattle.rq_views.specs.InStore.{IsStranger}
+use Rattle.rq_views.proofs.Strangers.{stranger_deeds, stranger_end, stranger_undone, stranger_began, stranger_said}
 use Rattle.rq_groups.specs.declared.Held.{Held}
 use Rattle.rq_groups.specs.Ends.{HeldEnds}
 use Rattle.rq_store.specs.Whole.{IsWhole}
@@ -27,25 +23,6 @@ use Rattle.rq_store.proofs.RowLists.{found_in}
 use Rattle.rq_sound.specs.Standing.{IsRow, AreStanding}
 use Rattle.rq_sound.specs.Counted.{AreCounted, IsCovered, appends_all, appending_in, takes_all, before_in, after_in, takes_in}
 use Rattle.rq_sound.proofs.Beside.{SaysSame, row_beside}
-
-kept_other : (t u : Txn) (x : Option Deed) (ds : List Said) → same_txn u t ≡ false → kept (λ v. same_txn v t) (ending_by u x) ds ≡ ds
-kept_other t u None ds h = refl
-kept_other t u (Some d) ds h = rw h refl
-
-told_other : (t : Txn) (r : Record) (ds : List Said) → mentions t r ≡ false → kept (λ v. same_txn v t) (ending r) ds ≡ ds
-told_other t (records.PageOp u k page slot before after) ds h = refl
-told_other t (records.PageUndo u k undone page slot after) ds h = refl
-told_other t (records.OpEnd u k level deed) ds h = kept_other t u (cond (nat_eq level 1) (deed_in deed) None) ds h
-told_other t (records.OpVoid u k) ds h = refl
-told_other t (records.CompEnd u k undone) ds h = refl
-told_other t (records.Commit u) ds h = refl
-told_other t (records.AbortEnd u) ds h = refl
-told_other t (records.Restart i) ds h = refl
-
--- of a stranger nothing is told
-pub stranger_said : (t : Txn) (log : List Record) → IsStranger t log → deeds (λ v. same_txn v t) log ≡ []
-stranger_said t [] h = refl
-stranger_said t (r ∷ log) h = let p = or_parts (mentions t r) (any_record (mentions t) log) h in told_other t r (deeds (λ v. same_txn v t) log) p.0 ∙ stranger_said t log p.1
 
 module _ (z : Sizes) (log : List Record) (ends : HeldEnds) (rows : List Row) (i b cells : ℕ) (waiting : List ℕ) (whole : IsWhole z log) (k : AreStanding z log ends rows i b) (c : AreCounted z log rows cells waiting) where
   abbrev t : Txn

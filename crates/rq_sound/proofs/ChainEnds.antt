@@ -4,20 +4,15 @@ use Rattle.std.proofs.lemmas.List.{length-append}
 use Rattle.rq_page.specs.declared.cell.Cell.{Cell}
 use Rattle.rq_page.specs.declared.directory.Directory.{Directory}
 use Rattle.rq_page.specs.Sizes.{Sizes}
-use Rattle.rq_page.specs.Slots.{Slot}
-use Rattle.rq_page.specs.Slots.Slot.{Free, Used, Sender}
+use Rattle.rq_page.specs.Slots.Slot.{Used}
 use Rattle.rq_views.specs.Chain.{Node, first, last, Linked, View, Shows}
 use Rattle.rq_views.specs.InStore.{AllStand}
 use Rattle.rq_views.specs.Log.{Slots, cell_in, cells_of}
 use Rattle.rq_views.proofs.Chains.{end_linked, front_linked, last_append, last_is}
 use Rattle.rq_views.proofs.Stands.{used_is_cell}
 use Rattle.rq_views.proofs.Takes.{snoc, some_is}
+use Rattle.rq_views.proofs.CanPlan.{used_from}
 use Rattle.rq_sound.specs.Groups.{StandsAt, LinksOn}
-
-pub used_from : (x : Slot) (c : Cell) → cell_in x ≡ Some c → x ≡ Used c
-used_from Free c e = cc
-used_from (Used b) c e = ap (λ y. Used y) (some_is b c e)
-used_from (Sender s d) c e = cc
 
 -- the chain with its last cell apart
 record WithLast (q : Slots) (s : ℕ) (d : Directory) : Type 0 where

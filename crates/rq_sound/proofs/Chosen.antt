@@ -28,6 +28,7 @@ use Rattle.rq_level.specs.Kept.{Kept, flag_at, is_cell_address, is_free_slot, no
 use Rattle.rq_level.specs.Ops.{Doing, doing_in}
 use Rattle.rq_level.specs.Ops.Doing.{Send, Receive, Close}
 use Rattle.rq_level.specs.Writes.{writes_of}
+use Rattle.rq_level.proofs.Noting.{is_cell}
 use Rattle.rq_groups.specs.Ends.{HeldEnds}
 use Rattle.rq_txn.specs.Rows.{AreDistinct, Row, Under}
 use Rattle.rq_store.specs.State.{State}
@@ -35,7 +36,7 @@ use Rattle.rq_sound.specs.Calls.{IsIdle, started}
 use Rattle.rq_sound.specs.Groups.{slots_now}
 use Rattle.rq_sound.specs.Levels.{KeepsCells, to_write}
 use Rattle.rq_sound.specs.Chosen.{KeepsBeside, KnowsFirst, NotedCellsAreKnown, PlannedCellsAreKept, places_of}
-use Rattle.rq_sound.proofs.KeptCells.{cell_is, flag_other, flag_same, free_by_byte, is_cell, more_started, own_write, place_is}
+use Rattle.rq_sound.proofs.KeptCells.{cell_is, flag_other, flag_same, free_by_byte, more_started, own_write, place_is}
 
 -- ---- among the writes of a plan
 

@@ -2,12 +2,11 @@
 -- took.
 use Rattle.std.proofs.Common.{◌≡◌, ℕ, ◌+◌, List, [], ◌∷◌, map, None, inl, inr, refl, sym, ◌∙◌, ap, false, arith}
 use Rattle.std.specs.List.{filter, sum_by}
-use Rattle.std.proofs.lemmas.Bool.{false≢true, false_from_ne_true}
+use Rattle.std.proofs.lemmas.Bool.{false_from_ne_true}
 use Rattle.std.proofs.lemmas.List.Sums.{sum_by-cons}
-use Rattle.rq_model.specs.declared.txn.Txn.{Txn}
 use Rattle.rq_model.specs.declared.record.Record.{Record}
 use Rattle.rq_model.specs.Words.{In, same_txn}
-use Rattle.rq_model.proofs.Lists.{same_is, same_self}
+use Rattle.rq_model.proofs.Lists.{same_is}
 use Rattle.rq_page.specs.Sizes.{Sizes}
 use Rattle.rq_views.specs.Claims.{takes_placed, claimed}
 use Rattle.rq_views.specs.Items.{items}
@@ -21,6 +20,7 @@ use Rattle.rq_store.specs.Rows.{placed_one}
 use Rattle.rq_store.specs.Whole.{IsWhole}
 use Rattle.rq_store.proofs.Placed.{takes_finished}
 use Rattle.rq_txn.specs.Rows.{Row, found_row, AreDistinct}
+use Rattle.rq_txn.proofs.Finding.{same_swap}
 use Rattle.rq_store.proofs.RowLists.{in_found, some_not_none}
 use Rattle.rq_sound.specs.Standing.{AreStanding}
 use Rattle.rq_sound.specs.Counted.{takes_all}
@@ -44,10 +44,6 @@ other_row rows r q u i =
     false_from_ne_true (same_txn r.txn q.txn)
     (λ y. some_not_none (found_row r.txn rows) (in_found r.txn rows q i (sym (same_is r.txn q.txn y))) u)
 
-other_txn : (a b : Txn) → same_txn a b ≡ false → same_txn b a ≡ false
-other_txn a b n =
-    false_from_ne_true (same_txn b a) (λ e. false≢true (sym n ∙ ap (λ x. same_txn a x) (same_is b a e) ∙ same_self a))
-
 -- what all took, row by row
 rows_take : (rows : List Row) (xs : List Owned) → AreDistinct rows
     → ((x : Owned) → In x xs → found_row x.txn rows ≡ None → ⊥)
@@ -58,7 +54,7 @@ rows_take (r ∷ rows) xs u h =
     let own : Row → ℕ = λ q. taken (filter (owned_by q.txn) xs) in
     let left : Row → ℕ = λ q. taken (filter (owned_by q.txn) rest) in
     let ih : taken rest ≡ sum_by left rows =
-    rows_take rows rest u.1 (λ x i n. let k = in_but_all (owned_by r.txn) xs x i in h x k.0 (rw (other_txn x.txn r.txn k.1) n)) in
+    rows_take rows rest u.1 (λ x i n. let k = in_but_all (owned_by r.txn) xs x i in h x k.0 (rw (same_swap x.txn r.txn k.1) n)) in
     let same : sum_by left rows ≡ sum_by own rows =
     same_sums left own rows (λ q i. ap taken (other_but_all (owned_by q.txn) (owned_by r.txn) xs (λ x e. ap (λ y. same_txn y q.txn) (same_is x.txn r.txn e) ∙ other_row rows r q u.0 i))) in
     let a = taken_parts (owned_by r.txn) xs in

@@ -39,6 +39,7 @@ use Rattle.rq_model.specs.Incarnations.{incarnation_of}
 use Rattle.rq_store.specs.Rows.{HasWaiting, is_under}
 use Rattle.rq_store.specs.Settled.{IsSettled}
 use Rattle.rq_views.specs.Claims.{appends_of}
+use Rattle.rq_views.proofs.Holders.{not_txn}
 use Rattle.rq_store.specs.Whole.{IsWhole}
 use Rattle.rq_txn.specs.declared.Aim.{Aim}
 use Rattle.rq_txn.specs.Rows.{Under, Row, deed_of, found_row, without_row}
@@ -52,7 +53,7 @@ use Rattle.rq_store.proofs.Placed.{told_placed, count_takes}
 use Rattle.rq_sound.proofs.Going.{other_gone}
 use Rattle.rq_sound.proofs.Beside.{says_commit}
 use Rattle.rq_sound.proofs.Alone.{takes_below}
-use Rattle.rq_sound.proofs.OwnRecord.{place, row, of_order, running, strange_by}
+use Rattle.rq_sound.proofs.OwnRecord.{place, row, of_order, running}
 use Rattle.rq_sound.proofs.Standings.{stands_gone}
 
 none_beyond : (n g : ℕ) (ops : List Op) → AllBelow n ops → n ≤ g → length (filter_map (taken_from g) ops) ≡ 0
@@ -135,7 +136,7 @@ module _ (z : Sizes) (log : List Record) (ends : HeldEnds) (rows : List Row) (i 
   }
 
   pub stands_commit : AreStanding z (x ∷ log) (without_ends t ends) (without_row t rows) i b
-  stands_commit = stands_gone z log (x ∷ log) ends rows i b k t r at_row (λ q n. says_commit z log t q (strange_by t q n)) (λ q u h g. (other_gone z log ends (without_ends t ends) q u t h g).0) settled_own (λ q n h. or_from _ _ (strange_by t q n) h)
+  stands_commit = stands_gone z log (x ∷ log) ends rows i b k t r at_row (λ q n. says_commit z log t q (not_txn t q n)) (λ q u h g. (other_gone z log ends (without_ends t ends) q u t h g).0) settled_own (λ q n h. or_from _ _ (not_txn t q n) h)
 
   abbrev ops : List Op
   ops = map op_done r.finished

@@ -28,6 +28,7 @@ use Rattle.rq_txn.specs.Rows.{Under, Row, deed_of, found_row, change_row, row_un
 use Rattle.rq_store.specs.State.{State, ledger_of}
 use Rattle.rq_store.proofs.RowLists.{found_in}
 use Rattle.rq_txn.specs.declared.Aim.TheVariants as aims
+use Rattle.rq_txn.proofs.Standing.{front_push}
 use Rattle.rq_sound.specs.Rows.{turn_of, comp_end}
 use Rattle.rq_sound.specs.Standing.{IsAimOf, IsAsPlanned, TellsFor, ReadsFor}
 use Rattle.rq_sound.specs.Counted.{CoversAim, appends_aim}
@@ -41,7 +42,7 @@ use Rattle.rq_sound.proofs.Undoing.{aborts}
 use Rattle.rq_sound.proofs.FreeCells.{of_store, shown_here, room_to_send, undo_planned, put_back_finds, open_is}
 use Rattle.rq_sound.proofs.UndoPlans.{NeedsCell, closed_before}
 use Rattle.rq_sound.proofs.UsedCells.{some_free}
-use Rattle.rq_sound.proofs.Ledgers.{front_push, undid_after}
+use Rattle.rq_sound.proofs.Ledgers.{undid_after}
 use Rattle.rq_sound.proofs.UndoStarts.{chain_is, undo_started_after}
 use Rattle.rq_sound.proofs.Asked.{closed_is, holds_is, cells_are}
 use Rattle.rq_sound.proofs.FreeEnds.{free_is, free_to_take}

@@ -21,7 +21,6 @@ use Rattle.rq_views.specs.Log.{Slots, Write, put, applied, HasBefores}
 use Rattle.rq_views.specs.Items.{items, layout_of, operation}
 use Rattle.rq_views.specs.Legal.{Placed, open_deeds}
 use Rattle.rq_views.specs.Plans.{deed_sender}
-use Rattle.rq_views.specs.Plans.Turn.{Did, Undid}
 use Rattle.rq_views.specs.Stored.{count_used}
 use Rattle.rq_views.specs.InStore.{WritesStand}
 use Rattle.rq_level.specs.Writes.{write_of, writes_of}
@@ -35,6 +34,7 @@ use Rattle.rq_groups.specs.Waiting.{waits}
 use Rattle.rq_store.specs.State.{op_done}
 use Rattle.rq_store.specs.Rows.{HasWaiting}
 use Rattle.rq_views.specs.Claims.{takes_of, appends_of}
+use Rattle.rq_views.proofs.Claims.{did_counts, undid_counts}
 use Rattle.rq_store.specs.Settled.{takes_one}
 use Rattle.rq_store.specs.Fitting.{left_by}
 use Rattle.rq_store.specs.Steps.{page_op, op_end, took}
@@ -76,16 +76,6 @@ took_none : (g : ℕ) (d : Deed) → deed_sender d ≢ g → took g d ≡ 0
 took_none g (Append q n tag previous body) ne = refl
 took_none g (UnlinkHead q n tag body) ne = elim (cases_Bool (nat_eq q g)) [ inl y ↦ absurd (ne (eqb-true q g y)) | inr n ↦ rw n refl ]
 took_none g (Close q) ne = refl
-
-pub did_counts : (d : Deed) → (lost (Did d) ≡ takes_of d) × (gained (Did d) ≡ appends_of d)
-did_counts (Append q n tag previous body) = (refl, refl)
-did_counts (UnlinkHead q n tag body) = (refl, refl)
-did_counts (Close q) = (refl, refl)
-
-pub undid_counts : (d : Deed) → (lost (Undid d) ≡ appends_of d) × (gained (Undid d) ≡ takes_of d)
-undid_counts (Append q n tag previous body) = (refl, refl)
-undid_counts (UnlinkHead q n tag body) = (refl, refl)
-undid_counts (Close q) = (refl, refl)
 
 -- of an operation whose writes are all made, the quiet slots take them in
 module _ (z : Sizes) (log : List Record) (ends : HeldEnds) (t : Txn) (u : Under) (whole : IsWhole z log) (made : u.made ≡ length u.writes) (g : FollowsPlan z log ends t u) where

@@ -17,6 +17,7 @@ use Rattle.rq_model.specs.Legal.{CanStart, IsDoneBy, OnFound, start_of}
 use Rattle.rq_model.specs.Replay.{Reply, Says}
 use Rattle.rq_model.specs.Tests.{Passes, holds_for, log_full, steps_left, free_to_receive}
 use Rattle.rq_model.specs.Words.{Op, In}
+use Rattle.rq_model.proofs.Same.{other_same}
 use Rattle.rq_page.specs.Sizes.{directory_at, sender_count}
 use Rattle.rq_views.specs.Committed.{message_of}
 use Rattle.rq_views.specs.Groups.{TellsView, committed as committed_view}
@@ -42,7 +43,7 @@ use Rattle.rq_store.proofs.Grouping.{groups_of}
 use Rattle.rq_store.proofs.Placed.{told_placed}
 use Rattle.rq_store.proofs.Owing.{one_longer}
 use Rattle.rq_txn.specs.Rows.{Under, Row, deed_of, row_finished, row_started}
-use Rattle.rq_store.proofs.RowLists.{found_in, not_txn, unique}
+use Rattle.rq_store.proofs.RowLists.{found_in, unique}
 use Rattle.rq_txn.specs.declared.Aim.TheVariants as aims
 use Rattle.rq_sound.specs.Standing.{FollowsPlan, IsAsPlanned, TellsFor}
 use Rattle.rq_sound.specs.Counted.{CoversAim, IsCovered, takes_in}
@@ -63,9 +64,9 @@ use Rattle.rq_sound.proofs.UndoStarts.{chain_is}
 
 -- the others hold what they held
 other_open : (t : Txn) (d : Deed) (ends : HeldEnds) (q : Row) → q.txn ≢ t → open_of (with_end t d ends) q ≡ open_of ends q
-other_open t (Append g n tag previous body) ends q ne = ap (λ (l : List ℕ). record (open_of ends q) { sending = l }) (held_with_other t q.txn g ends.sending (not_txn t q.txn (λ e. ne (sym e))))
-other_open t (UnlinkHead g n tag body) ends q ne = ap (λ (l : List ℕ). record (open_of ends q) { receiving = l }) (held_with_other t q.txn g ends.receiving (not_txn t q.txn (λ e. ne (sym e))))
-other_open t (Close g) ends q ne = ap (λ (l : List ℕ). record (open_of ends q) { sending = l }) (held_with_other t q.txn g ends.sending (not_txn t q.txn (λ e. ne (sym e))))
+other_open t (Append g n tag previous body) ends q ne = ap (λ (l : List ℕ). record (open_of ends q) { sending = l }) (held_with_other t q.txn g ends.sending (other_same t q.txn (λ e. ne (sym e))))
+other_open t (UnlinkHead g n tag body) ends q ne = ap (λ (l : List ℕ). record (open_of ends q) { receiving = l }) (held_with_other t q.txn g ends.receiving (other_same t q.txn (λ e. ne (sym e))))
+other_open t (Close g) ends q ne = ap (λ (l : List ℕ). record (open_of ends q) { sending = l }) (held_with_other t q.txn g ends.sending (other_same t q.txn (λ e. ne (sym e))))
 
 -- and who starts holds the end besides
 own_open : (ends : HeldEnds) (r : Row) (u : Under) (d : Deed) (left : ℕ) → u.number ≡ r.number + 1 → u.aim ≡ aims.Doing d → length u.writes - u.made ≡ left

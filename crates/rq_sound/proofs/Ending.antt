@@ -26,6 +26,7 @@ use Rattle.rq_groups.specs.Waiting.{waits}
 use Rattle.rq_model.specs.Incarnations.{incarnation_of}
 use Rattle.rq_store.specs.Rows.{placed, placed_one, HoldsFor, HasWaiting}
 use Rattle.rq_views.specs.Claims.{appends_of, claimed}
+use Rattle.rq_views.proofs.Holders.{not_txn}
 use Rattle.rq_store.specs.Steps.{op_end, took}
 use Rattle.rq_store.specs.Whole.{IsWhole}
 use Rattle.rq_txn.specs.declared.Aim.{Aim}
@@ -41,7 +42,7 @@ use Rattle.rq_sound.proofs.Going.{other_ends}
 use Rattle.rq_sound.proofs.Beside.{says_end}
 use Rattle.rq_sound.proofs.Alone.{used_by_holder, taken_by_holder, more_left, takes_below}
 use Rattle.rq_sound.proofs.Counted.{writes_are, counted_finish}
-use Rattle.rq_sound.proofs.OwnRecord.{place, row, of_order, running, going, greatest_now, idle_now, others_differ, strange_by}
+use Rattle.rq_sound.proofs.OwnRecord.{place, row, of_order, running, going, greatest_now, idle_now, others_differ}
 use Rattle.rq_sound.proofs.Standings.{stands_changed}
 
 aim_is : (r : Row) (a : Aim) (d : Deed) → a ≡ Doing d → IsAimOf r a → r.aborting ≡ false
@@ -197,9 +198,9 @@ module _ (z : Sizes) (log : List Record) (ends : HeldEnds) (rows : List Row) (i 
 
   pub stands_finish : AreStanding z (x ∷ log) ends (change_row t (row_finished f) rows) i b
   stands_finish = stands_changed z log (x ∷ log) ends rows i b k t r (row_finished f) at_row (λ q. refl)
-      (λ q n. says_end z log t q u.number d reads (strange_by t q n))
-      (λ q j n v e h. other_ends z log ends q.txn v t u.number (strange_by t q.txn n) (strange_by q.txn t (λ s. n (sym s))) (good (layout_of z) (items z log) whole.legal) h d reads (differ q j n v e))
-      own_now (λ v e. absurd (none_some v e)) (λ q n h. or_from _ _ (strange_by t q n) h)
+      (λ q n. says_end z log t q u.number d reads (not_txn t q n))
+      (λ q j n v e h. other_ends z log ends q.txn v t u.number (not_txn t q.txn n) (not_txn q.txn t (λ s. n (sym s))) (good (layout_of z) (items z log) whole.legal) h d reads (differ q j n v e))
+      own_now (λ v e. absurd (none_some v e)) (λ q n h. or_from _ _ (not_txn t q n) h)
     where
       none_some : (v : Under) → None ≡ Some v → ⊥
       none_some v e = cc

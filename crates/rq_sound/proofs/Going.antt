@@ -37,7 +37,7 @@ use Rattle.rq_sound.specs.Rows.{comp_end, turn_of}
 use Rattle.rq_sound.specs.Standing.{TellsFor, ReadsFor, FollowsPlan}
 use Rattle.rq_store.specs.Steps.{page_op, op_end}
 use Rattle.rq_store.proofs.Others.{other_op}
-use Rattle.rq_store.proofs.Owing.{onto_whole}
+use Rattle.rq_store.proofs.Owing.{onto_whole, onto_nil}
 
 never : (a c : Bool) → (a && (false && c)) ≡ false
 never true c = refl
@@ -224,14 +224,6 @@ module _ (z : Sizes) (log : List Record) (ends : HeldEnds) (t : Txn) (u : Under)
     and_last true b e = e
     and_last false b e = refl
 
-onto_all : (owed ws us : List Write) → onto owed (ws ++ us) ≡ onto owed ws ++ us
-onto_all [] ws us = refl
-onto_all (w ∷ owed) ws us = onto_all owed (w ∷ ws) us
-
-pub onto_none : (owed : List Write) → onto owed [] ≡ reverse owed
-onto_none [] = refl
-onto_none (w ∷ owed) = onto_all owed [] (w ∷ []) ∙ ap (λ l. l ++ w ∷ []) (onto_none owed) ∙ sym (reverse-append (w ∷ []) owed)
-
 -- An operation starts whose latched pages are nobody else's: its plan fits the slots as they are.
 pub starts : (z : Sizes) (log : List Record) (ends : HeldEnds) (t : Txn) (u : Under) → IsLegalLog (layout_of z) (items z log) → began (operation t u.number) (items z log) ≡ false → u.made ≡ 0
     → ((p : ℕ) → latched_by u p ≡ true → (v : Sub) → same_op (operation t u.number) v ≡ false → (left_by z log).stands v p ≡ false)
@@ -243,7 +235,7 @@ starts z log ends t u legal fresh made alone fits plan told held sender reads =
     let none = unbegun_writes (layout_of z) (items z log) o fresh in
     let all : Owes (layout_of z).page (left_by z log) o (latched_by u) whole =
     owes_start (layout_of z).page (left_by z log) (good (layout_of z) (items z log) legal) o (latched_by u) whole none (λ p. unbegun_stands (layout_of z) (items z log) o p fresh)
-    (subst (λ ws. HasBefores ws (left_by z log).slots) (sym (onto_none whole)) fits) (λ a off. off_latched z a u.writes [] off tt) alone in
+    (subst (λ ws. HasBefores ws (left_by z log).slots) (sym (onto_nil whole)) fits) (λ a off. off_latched z a u.writes [] off tt) alone in
     record {
       made = (let e = made in omega (arith, e));
       going = unbegun_over (items z log) o fresh;

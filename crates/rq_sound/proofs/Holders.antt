@@ -18,7 +18,7 @@ use Rattle.rq_model.specs.Rules.{any_use, uses_send, uses_receive}
 use Rattle.rq_model.specs.Words.{In, Op, same_txn, sent_for, taken_from}
 use Rattle.rq_model.specs.Words.Op.{Take}
 use Rattle.rq_model.proofs.Lists.{same_self}
-use Rattle.rq_model.proofs.Told.{told_taken}
+use Rattle.rq_model.proofs.Told.{told_taken, told_sent}
 use Rattle.rq_page.specs.declared.cell.Cell.{Cell}
 use Rattle.rq_page.specs.Sizes.{Sizes, directory_at, sender_count}
 use Rattle.rq_views.specs.Chain.{Cells, Linked, Node, View, first, message}
@@ -27,21 +27,19 @@ use Rattle.rq_views.specs.Groups.{Alone, KeepsGroups, TellsView, committed, on_r
 use Rattle.rq_views.specs.Items.{items, layout_of, operation}
 use Rattle.rq_views.specs.Legal.{Placed, no_view, open_deeds, under_way, view}
 use Rattle.rq_views.specs.Log.{Slots, Write, cells_of}
-use Rattle.rq_views.specs.Plans.{ShowsAt, Spares, deed_sender, turn_sender}
-use Rattle.rq_views.proofs.Committed.{say, takes_form}
+use Rattle.rq_views.specs.Plans.{ShowsAt, Spares}
+use Rattle.rq_views.proofs.Committed.{say, takes_form, map_drop}
 use Rattle.rq_views.proofs.Deeds.{Sound}
 use Rattle.rq_views.proofs.GroupRule.{held}
 use Rattle.rq_views.proofs.Holding.{committed_is_group, tag_and_body, view_holds}
 use Rattle.rq_views.proofs.Idle.{idle_writes}
-use Rattle.rq_views.proofs.OpenCounts.{told_sends}
 use Rattle.rq_views.proofs.Stands.{store_is_layout}
 use Rattle.rq_views.proofs.Views.{plan_spares, quiet_views, views}
+use Rattle.rq_views.proofs.Rules.{unused, sends_same, takes_same}
 use Rattle.rq_level.specs.Writes.{writes_of}
 use Rattle.rq_groups.specs.declared.Held.{Held}
 use Rattle.rq_groups.specs.Ends.{has_held}
-use Rattle.rq_txn.specs.declared.Aim.{Aim}
-use Rattle.rq_txn.specs.declared.Aim.TheVariants.{Doing, Undoing}
-use Rattle.rq_txn.specs.Rows.{Row, Under, deed_of, found_row, latched_by, latched_in, latched_under}
+use Rattle.rq_txn.specs.Rows.{Row, Under, found_row, latched_by, latched_in, latched_under}
 use Rattle.rq_store.specs.Fitting.{left_by}
 use Rattle.rq_store.specs.Rows.{is_under}
 use Rattle.rq_store.specs.State.{State, op_done}
@@ -53,9 +51,8 @@ use Rattle.rq_sound.specs.Holders.{NoneIsOn, ViewsAreOfHolders, chain_from, chai
 use Rattle.rq_sound.specs.Rows.{turn_of}
 use Rattle.rq_sound.specs.Sound.{IsSound}
 use Rattle.rq_sound.specs.Standing.{FollowsPlan, IsAsPlanned}
-use Rattle.rq_sound.proofs.Alone.{sends_same, takes_same, unused}
 use Rattle.rq_sound.proofs.Groups.{slots_are}
-use Rattle.rq_sound.proofs.Standings.{directory_latched}
+use Rattle.rq_sound.proofs.Standings.{directory_latched, aim_sender}
 
 -- what the slots show of a group is the chain that they hold
 cells_told : (m : Cells) (g p q : ℕ) (ns : List Node) → Linked m g p q ns 0 → chain_from m (length ns) (first ns 0) ≡ map (message_of g) (map message ns)
@@ -77,11 +74,6 @@ chain_shown z q g v h =
     ∙ ap (map (message_of g)) (sym k.messages)
 
 -- messages that were sent for a group, and lists of them
-drop_map : {X Y : Type 0} (f : X → Y) (k : ℕ) (xs : List X) → map f (drop k xs) ≡ drop k (map f xs)
-drop_map f zero xs = refl
-drop_map f (suc k) [] = refl
-drop_map f (suc k) (x ∷ xs) = drop_map f k xs
-
 take_map : {X Y : Type 0} (f : X → Y) (k : ℕ) (xs : List X) → map f (take k xs) ≡ take k (map f xs)
 take_map f zero xs = refl
 take_map f (suc k) [] = refl
@@ -217,10 +209,6 @@ found_holder g hs one t h = at (holder_of g hs) refl where
   at None e = absurd (false≢true (sym (none_held g hs t e) ∙ h))
   at (Some u) e = e ∙ ap (λ x. Some x) (one u t (held_of g hs u e) h)
 
-aim_sender : (a : Aim) → turn_sender (turn_of a) ≡ deed_sender (deed_of a)
-aim_sender (Doing d) = refl
-aim_sender (Undoing lsn d) = refl
-
 not_under : (rows : List Row) (p : ℕ) (r : Row) → In r rows → latched_in rows p ≡ false → latched_under r.under p ≡ false
 not_under [] p r i e = absurd i
 not_under (q ∷ rows) p r i e =
@@ -316,7 +304,7 @@ module _ (s : State) (k : IsSound s) where
     rest_is = (committed_is_group s.sizes g s.records k.log.rules k.log.reads).rest
 
     sends_are : added g (say (deeds_of sender)) ≡ holder_sends s g
-    sends_are = sym (told_sends g (say (deeds_of sender))) ∙ ap (filter_map (sent_for g)) sender_did
+    sends_are = sym (told_sent g (say (deeds_of sender))) ∙ ap (filter_map (sent_for g)) sender_did
 
     count_is : removed g (say (deeds_of taker)) ≡ length (holder_takes s g)
     count_is = sym (told_taken g (say (deeds_of taker))) ∙ ap (λ l. length (filter_map (taken_from g) l)) taker_did
@@ -329,7 +317,7 @@ module _ (s : State) (k : IsSound s) where
         ap (map (message_of g)) shown
         ∙ map-append (message_of g) (drop n rest) (map tag_and_body ms)
         ∙ ap (λ l. map (message_of g) (drop n rest) ++ l) (back g (say (deeds_of sender)) ∙ sends_are)
-        ∙ ap (λ l. l ++ holder_sends s g) (drop_map (message_of g) n rest ∙ ap (λ i. drop i (map (message_of g) rest)) count_is ∙ ap (drop (length (holder_takes s g))) (sym rest_is))
+        ∙ ap (λ l. l ++ holder_sends s g) (map_drop (message_of g) n rest ∙ ap (λ i. drop i (map (message_of g) rest)) count_is ∙ ap (drop (length (holder_takes s g))) (sym rest_is))
 
     pub taken_first : holder_takes s g ≡ take (length (holder_takes s g)) (rest_in (committed_of s.records) g)
     taken_first =
@@ -355,7 +343,7 @@ module _ (s : State) (k : IsSound s) where
     others_sent_none r i n =
         let e = row_unheld g (on_sending_end g) (uses_send g) (sends_same g) s.ends.sending (λ t u a b. k.standing.sending.one t u g a b) sends_held r i n in
         let told : ops_told (say (deeds_of r.txn)) ≡ map op_done r.finished = ap (λ ps. ops_told (say ps)) (k.standing.each r i).done ∙ told_placed r.finished in
-        ap (filter_map (sent_for g)) (sym told) ∙ told_sends g (say (deeds_of r.txn)) ∙ none_added g (deeds_of r.txn) e
+        ap (filter_map (sent_for g)) (sym told) ∙ told_sent g (say (deeds_of r.txn)) ∙ none_added g (deeds_of r.txn) e
 
     -- an operation under way that is not of the group has written over none of its slots
     module _ (off : NoneIsOn g s.rows) where

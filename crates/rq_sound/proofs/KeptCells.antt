@@ -1,6 +1,6 @@
 -- The level of chains goes on knowing a store's cells.
-use Rattle.std.proofs.Common.{set, ◌≡◌, ◌≢◌, ℕ, ◌/◌, ◌%◌, ◌<◌, ◌&&◌, List, [], ◌∷◌, length, refl, sym, ◌∙◌, ap, Bool, true, false, not, nat_lt, Option, Some, None, inl, inr}
-use Rattle.std.proofs.lemmas.Bool.{and_from, and_parts, cases_Bool, lt-ltb, ltb-true, or_cases, or_left, or_right, true≢false}
+use Rattle.std.proofs.Common.{set, ◌≡◌, ◌≢◌, ℕ, ◌/◌, ◌%◌, ◌<◌, List, [], ◌∷◌, length, refl, sym, ◌∙◌, ap, Bool, true, false, not, Option, Some, None, inl, inr}
+use Rattle.std.proofs.lemmas.Bool.{and_from, cases_Bool, lt-ltb, or_cases, or_left, or_right, true≢false}
 use Rattle.std.proofs.lemmas.List.{get_or-set_other, get_or-set_same}
 use Rattle.rq_model.specs.declared.txn.Txn.{Txn}
 use Rattle.rq_model.specs.Words.{In, same_txn}
@@ -45,12 +45,6 @@ flag_other flags p i b ne = get_or-set_other flags p i b false ne
 -- a cell stands at one place
 pub place_is : (z : Sizes) (a i : ℕ) → i < cell_count z → cell_at z i ≡ a → i ≡ place_of z a
 place_is z a i lt e = sym (cells_have_places z i lt).1 ∙ ap (place_of z) e
-
-pub is_cell : (z : Sizes) (a : ℕ) → is_cell_address z a ≡ true → IsCellAddress z a
-is_cell z a h =
-    let p = and_parts (nat_lt z.directory (a / 16)) (nat_lt (a / 16) (page_count z) && nat_lt 0 (a % 16)) h in
-    let q = and_parts (nat_lt (a / 16) (page_count z)) (nat_lt 0 (a % 16)) p.1 in
-    record { above = ltb-true z.directory (a / 16) p.0; below = ltb-true (a / 16) (page_count z) q.0; slot = ltb-true 0 (a % 16) q.1 }
 
 pub cell_is : (z : Sizes) (a : ℕ) → IsCellAddress z a → is_cell_address z a ≡ true
 cell_is z a c = and_from _ _ (lt-ltb z.directory (a / 16) c.above) (and_from _ _ (lt-ltb (a / 16) (page_count z) c.below) (lt-ltb 0 (a % 16) c.slot))

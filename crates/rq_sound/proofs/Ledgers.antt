@@ -8,12 +8,14 @@ use Rattle.rq_model.proofs.Lists.{same_is, not_same}
 use Rattle.rq_model.specs.Words.{In, Op, same_txn, front}
 use Rattle.rq_model.specs.Ledger.{Open, change, without, after, undone}
 use Rattle.rq_model.specs.History.Entry.{Undid, Aborting, Aborted}
+use Rattle.rq_model.proofs.Same.{other_same}
 use Rattle.rq_txn.specs.declared.Finished.{Finished}
 use Rattle.rq_groups.specs.declared.Held.{Held}
 use Rattle.rq_groups.specs.Ends.{HeldEnds, held_by, released}
 use Rattle.rq_store.specs.State.{op_done, State, open_of, open_ones_of, ledger_of, left_under}
 use Rattle.rq_txn.specs.Rows.{Under, Row, AreDistinct, found_row, change_row, without_row, row_aborting, row_undone}
-use Rattle.rq_store.proofs.RowLists.{found_in, unique, not_txn}
+use Rattle.rq_txn.proofs.Standing.{front_push}
+use Rattle.rq_store.proofs.RowLists.{found_in, unique}
 use Rattle.rq_sound.specs.Rows.{comp_end}
 use Rattle.rq_store.proofs.Ends.{without_ends}
 use Rattle.rq_store.proofs.Owing.{one_longer}
@@ -41,15 +43,10 @@ opens_without t old new (r ∷ rows) others =
       | inr n ↦ rw n (ap (λ x. x ∷ open_ones_of new (without_row t rows)) (others r (inl refl) (not_same r.txn t n)) ∙ ap (λ l. open_of old r ∷ l) rest)
     ]
 
-pub front_push : {X : Type 0} (xs : List X) (x : X) → front (xs ++ x ∷ []) ≡ xs
-front_push [] x = refl
-front_push (a ∷ []) x = refl
-front_push (a ∷ b ∷ xs) x = ap (λ l. a ∷ l) (front_push (b ∷ xs) x)
-
 held_by_other : (t q : Txn) (hs : List Held) → q ≢ t → held_by q (released t hs) ≡ held_by q hs
 held_by_other t q [] n = refl
 held_by_other t q (h ∷ hs) n = elim (cases_Bool (same_txn h.txn t)) [
-  | inl y ↦ let k : same_txn h.txn q ≡ false = not_txn h.txn q (λ e. n (sym e ∙ same_is h.txn t y)) in rw (y, k) (held_by_other t q hs n)
+  | inl y ↦ let k : same_txn h.txn q ≡ false = other_same h.txn q (λ e. n (sym e ∙ same_is h.txn t y)) in rw (y, k) (held_by_other t q hs n)
   | inr m ↦ rw m (ap (λ l. cond (same_txn h.txn q) (h.sender ∷ l) l) (held_by_other t q hs n))
 ]
 

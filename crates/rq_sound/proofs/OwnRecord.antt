@@ -2,7 +2,6 @@
 use Rattle.std.proofs.Common.{◌≡◌, ◌≢◌, ℕ, ◌+◌, ◌≤◌, ◌||◌, ◌&&◌, List, take, reverse, length, max, refl, sym, ◌∙◌, ap, subst, Bool, true, false, not, cond, nat_eq, Some, inl, inr, arith}
 use Rattle.std.proofs.lemmas.Bool.{cases_Bool, cases_eq, true≢false, eqb-true, eq-eqb}
 use Rattle.std.proofs.lemmas.List.{length-map, length-reverse, length-take}
-use Rattle.rq_model.specs.declared.txn.Txn.{Txn}
 use Rattle.rq_model.specs.declared.txn.Sub.{Sub}
 use Rattle.rq_model.specs.declared.record.Record.{Record}
 use Rattle.rq_model.specs.Words.{In, same_txn}
@@ -19,7 +18,7 @@ use Rattle.rq_views.proofs.Idle.{unbegun_writes}
 use Rattle.rq_level.specs.Writes.{write_of, writes_of}
 use Rattle.rq_txn.specs.Rows.{Under, Row, found_row, deed_of, latched_by}
 use Rattle.rq_store.specs.Rows.{is_under, unmade}
-use Rattle.rq_store.proofs.RowLists.{found_in, not_txn}
+use Rattle.rq_store.proofs.RowLists.{found_in}
 use Rattle.rq_sound.specs.Standing.{FollowsPlan, IsAsPlanned, IsAimOf, IsRow, AreStanding}
 use Rattle.rq_store.proofs.Others.{other_number, own_greatest}
 use Rattle.rq_sound.proofs.Standings.{senders_differ}
@@ -28,10 +27,6 @@ use Rattle.rq_views.specs.Plans.{deed_sender}
 over_ended : (a b : Bool) → (a && not (true || b)) ≡ false
 over_ended true b = refl
 over_ended false b = refl
-
--- who is not t is not mentioned by a record of t's
-pub strange_by : (t q : Txn) → q ≢ t → same_txn t q ≡ false
-strange_by t q n = not_txn t q (λ e. n (sym e))
 
 module _ (z : Sizes) (log : List Record) (ends : HeldEnds) (rows : List Row) (i b : ℕ) (k : AreStanding z log ends rows i b) (incarnation : incarnation_of log ≡ i) (some : 1 ≤ i) (r : Row) (at_row : found_row r.txn rows ≡ Some r) where
   pub place : In r rows

@@ -12,35 +12,34 @@ use Rattle.rq_views.specs.Items.{layout_of}
 use Rattle.rq_views.specs.Log.{Slots, put, cells_of, Write, HasBefores, Untouched, Places}
 use Rattle.rq_views.specs.Plans.{LinksTo, IsUnlinkTail, IsPutBack, unlink_tail_writes, put_back_writes, directory_write, with_next, with_prev}
 use Rattle.rq_views.proofs.Overlay.{put_off}
+use Rattle.rq_views.proofs.CanPlan.{apart_from}
 use Rattle.rq_level.specs.declared.writes.SlotWrite.{SlotWrite}
 use Rattle.rq_level.specs.Given.{has_page}
 use Rattle.rq_level.specs.Writes.{writes_of}
 use Rattle.rq_store.specs.Plans.{Stands_at}
+use Rattle.rq_store.proofs.Owing.{onto_nil}
 use Rattle.rq_sound.specs.Groups.{StandsAt}
 use Rattle.rq_sound.proofs.ChainEnds.{empty_links, head_stands, tail_stands, front_stands}
-use Rattle.rq_sound.proofs.Going.{off_latched, onto_none}
+use Rattle.rq_sound.proofs.Going.{off_latched}
 
 -- a plan latches the page of the directory slot that it writes
 pub writes_directory : (z : Sizes) (us : List SlotWrite) (g : ℕ) (d e : Directory) (rest : List Write) → reverse (writes_of z us) ≡ directory_write (layout_of z) g d e ∷ rest
     → has_page (directory_at g / 16) (map (λ w. w.at / 16) us) ≡ true
 writes_directory z us g d e rest is = elim (cases_Bool (has_page (directory_at g / 16) (map (λ w. w.at / 16) us))) [
   | inl y ↦ y
-  | inr off ↦ absurd ((subst (Untouched (directory_at g)) (onto_none (writes_of z us) ∙ is) (off_latched z (directory_at g) us [] off tt)).0 refl)
+  | inr off ↦ absurd ((subst (Untouched (directory_at g)) (onto_nil (writes_of z us) ∙ is) (off_latched z (directory_at g) us [] off tt)).0 refl)
 ]
 
-same_cell : (a b : Cell) → Used a ≡ Used b → a ≡ b
+pub same_cell : (a b : Cell) → Used a ≡ Used b → a ≡ b
 same_cell a b e = cc
 
-at_other : (q : Slots) (a b g : ℕ) (d : Directory) (c : Cell) → q a ≡ Sender g d → q b ≡ Used c → a ≢ b
-at_other q a b g d c e f h = let k : Used c ≡ Sender g d = sym f ∙ ap q (sym h) ∙ e in cc
-
-at_free : (q : Slots) (a b : ℕ) (x : Slot) → q a ≡ x → q b ≡ Free → x ≢ Free → a ≢ b
+pub at_free : (q : Slots) (a b : ℕ) (x : Slot) → q a ≡ x → q b ≡ Free → x ≢ Free → a ≢ b
 at_free q a b x e f n same = n (sym e ∙ ap q same ∙ f)
 
-not_sender : (g : ℕ) (d : Directory) → Sender g d ≢ Free
+pub not_sender : (g : ℕ) (d : Directory) → Sender g d ≢ Free
 not_sender g d e = cc
 
-not_used : (c : Cell) → Used c ≢ Free
+pub not_used : (c : Cell) → Used c ≢ Free
 not_used c e = cc
 
 pub above : (z : Sizes) (a : ℕ) → IsCellAddress z a → 0 < a
@@ -111,7 +110,7 @@ module _ (z : Sizes) (q : Slots) (stand : AllStand z q) (zero : q 0 ≡ Free) (g
 
     pub unlink_tail_fits : (previous : ℕ) (front : Option Cell) → Stands_at q c.prev front → HasBefores (unlink_tail_writes l g d c previous front) q
     unlink_tail_fits previous None beside =
-        (sym (put_off q d.tail Free (directory_at g) (at_other q (directory_at g) d.tail g d c at here) ∙ at), (sym here, tt))
+        (sym (put_off q d.tail Free (directory_at g) (apart_from q (directory_at g) d.tail g d c at here) ∙ at), (sym here, tt))
     unlink_tail_fits previous (Some x) beside =
         let b = before x beside in
         let apart : c.prev ≢ d.tail = (λ e.
@@ -121,7 +120,7 @@ module _ (z : Sizes) (q : Slots) (stand : AllStand z q) (zero : q 0 ≡ Free) (g
         let more = b.0 in
         omega (arith, same, n, m, more)) in
         let q1 = put q d.tail Free in (
-          sym (put_off q1 c.prev (Used (with_next 0 x)) (directory_at g) (at_other q (directory_at g) c.prev g d x at beside) ∙ put_off q d.tail Free (directory_at g) (at_other q (directory_at g) d.tail g d c at here) ∙ at),
+          sym (put_off q1 c.prev (Used (with_next 0 x)) (directory_at g) (apart_from q (directory_at g) c.prev g d x at beside) ∙ put_off q d.tail Free (directory_at g) (apart_from q (directory_at g) d.tail g d c at here) ∙ at),
           (sym (put_off q d.tail Free c.prev apart ∙ beside), (sym here, tt)),
         )
 
@@ -149,6 +148,6 @@ module _ (z : Sizes) (q : Slots) (stand : AllStand z q) (zero : q 0 ≡ Free) (g
   put_back_fits tag new body (Some x) free beside =
       let y : Slot = Used (record { sender = g; sequence = d.received; tag = tag; body = body; next = d.head; prev = 0 }) in
       let q1 = put q new y in (
-        sym (put_off q1 d.head (Used (with_prev new x)) (directory_at g) (at_other q (directory_at g) d.head g d x at beside) ∙ put_off q new y (directory_at g) (at_free q (directory_at g) new (Sender g d) at free (not_sender g d)) ∙ at),
+        sym (put_off q1 d.head (Used (with_prev new x)) (directory_at g) (apart_from q (directory_at g) d.head g d x at beside) ∙ put_off q new y (directory_at g) (at_free q (directory_at g) new (Sender g d) at free (not_sender g d)) ∙ at),
         (sym (put_off q new y d.head (at_free q d.head new (Used x) beside free (not_used x)) ∙ beside), (sym free, tt)),
       )

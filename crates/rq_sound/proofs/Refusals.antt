@@ -1,28 +1,25 @@
 -- Refusals are steps, and what tests read of the rows.
-use Rattle.std.proofs.Common.{◌≡◌, ℕ, suc, ◌+◌, ◌||◌, List, [], ◌∷◌, length, refl, sym, ◌∙◌, ap, ◌&&◌, nat_eq, Option, Some, None, arith, ◌<◌, map, true}
-use Rattle.std.specs.List.{sum_by}
+use Rattle.std.proofs.Common.{◌≡◌, ℕ, suc, ◌||◌, List, [], ◌∷◌, length, refl, sym, ◌∙◌, ap, ◌&&◌, nat_eq, Option, Some, None, arith, ◌<◌, map, true}
 use Rattle.std.specs.Option.{option_map}
-use Rattle.std.proofs.lemmas.List.Sums.{sum_by-cons}
 use Rattle.rq_model.specs.declared.txn.Txn.{Txn}
 use Rattle.rq_model.specs.declared.refusal.Refusal.TheVariants.{DiskWrite}
 use Rattle.rq_model.specs.History.{Entry}
 use Rattle.rq_model.specs.Ledger.{Open, ended_in, found, runs}
 use Rattle.rq_model.specs.Commits.{committed_of}
-use Rattle.rq_model.specs.Tests.{any_busy, has_closed, has_done, has_under, is_busy, newest, owed}
+use Rattle.rq_model.specs.Tests.{has_closed, has_done, has_under, is_busy, newest}
 use Rattle.rq_model.specs.Words.{first, is_some, last, last_or}
 use Rattle.rq_page.specs.declared.directory.Directory.{Directory}
 use Rattle.rq_page.specs.Sizes.{directory_at, sender_count}
 use Rattle.rq_page.specs.Slots.Slot.{Sender}
 use Rattle.rq_groups.specs.Ends.{HeldEnds, is_free_for}
-use Rattle.rq_store.specs.State.{op_done, phase_of, State, ledger_of, open_of, open_ones_of, job_under, owed_under, owed_one, owed_by}
-use Rattle.rq_txn.specs.Rows.{Under, Row, found_row, any_under}
+use Rattle.rq_store.specs.State.{op_done, phase_of, State, ledger_of, open_of, open_ones_of, job_under}
+use Rattle.rq_txn.specs.Rows.{Under, Row, found_row}
 use Rattle.rq_store.specs.Rows.{is_under}
 use Rattle.rq_store.proofs.RowLists.{found_in}
 use Rattle.rq_sound.specs.Standing.{IsAsPlanned}
 use Rattle.rq_sound.specs.Sound.{IsSound}
 use Rattle.rq_sound.specs.Refusals.{RefusalsAreSteps, TestsReadRows}
-use Rattle.rq_store.proofs.Opens.{open_found, found_open}
-use Rattle.rq_sound.proofs.AbortSteps.{job_some}
+use Rattle.rq_store.proofs.Opens.{open_found, found_open, busy_is, owed_is, busy_under}
 use Rattle.rq_sound.specs.Calls.{IsIdle}
 use Rattle.rq_sound.specs.Groups.{slots_now}
 use Rattle.rq_sound.proofs.Contracts.{answered, calls_keep}
@@ -49,21 +46,6 @@ refusal_steps = record {
     stays_forced = omega arith;
   };
 }
-
-pub busy_is : (ends : HeldEnds) (rows : List Row) → any_busy (open_ones_of ends rows) ≡ any_under rows
-busy_is ends [] = refl
-busy_is ends (r ∷ rows) = ap (λ b. b || any_busy (open_ones_of ends rows)) (job_some r.under) ∙ ap (λ b. is_some r.under || b) (busy_is ends rows)
-
-owed_is_one : (ends : HeldEnds) (r : Row) (o : Option Under) → r.under ≡ o → owed (open_of ends r) ≡ owed_under o
-owed_is_one ends r None e = rw e refl
-owed_is_one ends r (Some u) e = rw e refl
-
-pub owed_is : (ends : HeldEnds) (rows : List Row) → sum_by owed (open_ones_of ends rows) ≡ owed_by rows
-owed_is ends [] = refl
-owed_is ends (r ∷ rows) =
-    sum_by-cons owed (open_of ends r) (open_ones_of ends rows)
-    ∙ ap (λ n. n + sum_by owed (open_ones_of ends rows)) (owed_is_one ends r r.under refl)
-    ∙ ap (λ n. owed_one r + n) (owed_is ends rows) ∙ sym (sum_by-cons owed_one r rows)
 
 pub count_is : (ends : HeldEnds) (rows : List Row) → length (open_ones_of ends rows) ≡ length rows
 count_is ends [] = refl
@@ -111,7 +93,7 @@ tests_read = record {
   busy_is = λ s. busy_is s.ends s.rows;
   owed_is = λ s. owed_is s.ends s.rows;
   under_is = under_is;
-  one_busy_is = λ s r e. ap is_busy (open_is s r e) ∙ job_some r.under;
+  one_busy_is = λ s r e. ap is_busy (open_is s r e) ∙ busy_under r.under;
   newest_is = λ s r e. ap newest (open_is s r e) ∙ last_map op_done r.finished;
   done_is = λ s r e. ap has_done (open_is s r e) ∙ first_map op_done r.finished;
   closed_is = closed_here;

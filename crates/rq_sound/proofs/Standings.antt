@@ -30,7 +30,7 @@ use Rattle.rq_store.proofs.Ends.{without_ends, held_other, held_still, for_other
 use Rattle.rq_store.proofs.Owing.{onto_whole}
 use Rattle.rq_sound.proofs.Beside.{SaysSame, row_beside, settled_beside}
 
-aim_sender : (a : Aim) → turn_sender (turn_of a) ≡ deed_sender (deed_of a)
+pub aim_sender : (a : Aim) → turn_sender (turn_of a) ≡ deed_sender (deed_of a)
 aim_sender (Doing d) = refl
 aim_sender (Undoing lsn d) = refl
 

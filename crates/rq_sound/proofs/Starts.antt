@@ -34,14 +34,15 @@ use Rattle.rq_store.specs.Whole.{IsWhole}
 use Rattle.rq_sound.specs.Rows.{turn_of}
 use Rattle.rq_sound.specs.Standing.{FollowsPlan, IsAimOf, IsRow, HoldsAll, TellsFor, ReadsFor, AreStanding}
 use Rattle.rq_sound.specs.Counted.{AreCounted, CoversAim, appends_aim}
-use Rattle.rq_sound.proofs.Going.{starts, nobody_stands, off_latched, onto_none, with_ends}
+use Rattle.rq_sound.proofs.Going.{starts, nobody_stands, off_latched, with_ends}
 use Rattle.rq_views.proofs.Numbers.{beyond_unbegun}
-use Rattle.rq_sound.proofs.Alone.{unused, sends_same, takes_same}
+use Rattle.rq_views.proofs.Rules.{unused, sends_same, takes_same}
 use Rattle.rq_sound.proofs.Counted.{counted_start}
 use Rattle.rq_sound.proofs.FreeCells.{all_one, in_latched, open_is, of_store}
 use Rattle.rq_sound.proofs.OwnRecord.{row}
 use Rattle.rq_sound.proofs.Standings.{stands_started, ends_taken}
 use Rattle.rq_store.proofs.Ends.{held_more}
+use Rattle.rq_store.proofs.Owing.{onto_nil}
 
 aim_started : (u : Under) (r : Row) (a : Aim) → IsAimOf r a → IsAimOf (row_started u r) a
 aim_started u r (Doing d) h = h
@@ -51,7 +52,7 @@ aim_started u r (Undoing lsn d) h = h
 pub plan_latches : (z : Sizes) (t : Turn) (u : Under) → IsPlan (layout_of z) t (reverse (writes_of z u.writes)) → latched_by u (directory_at (turn_sender t) / 16) ≡ true
 plan_latches z t u plan = elim (cases_Bool (latched_by u (directory_at (turn_sender t) / 16))) [
   | inl y ↦ y
-  | inr off ↦ absurd (not_of (layout_of z) (turn_sender t) t (reverse (writes_of z u.writes)) plan (subst (Untouched (directory_at (turn_sender t))) (onto_none (writes_of z u.writes)) (off_latched z (directory_at (turn_sender t)) u.writes [] off tt)) refl)
+  | inr off ↦ absurd (not_of (layout_of z) (turn_sender t) t (reverse (writes_of z u.writes)) plan (subst (Untouched (directory_at (turn_sender t))) (onto_nil (writes_of z u.writes)) (off_latched z (directory_at (turn_sender t)) u.writes [] off tt)) refl)
 ]
 
 -- Its transaction has nothing under way, its plan is of the slots as they are, nobody has latched its pages, and there

@@ -9,10 +9,10 @@ use Rattle.rq_model.specs.Legal.{Legal}
 use Rattle.rq_model.specs.Replay.{Reply, Says, receipt}
 use Rattle.rq_page.specs.Sizes.{sender_count}
 use Rattle.rq_store.specs.State.{phase_of, size_of, State, ledger_of}
+use Rattle.rq_store.proofs.Opens.{busy_is}
 use Rattle.rq_sound.specs.Sound.{IsSound}
 use Rattle.rq_sound.specs.Steps.{Steps}
 use Rattle.rq_sound.specs.Unchanged.{UnchangedAreSteps}
-use Rattle.rq_sound.proofs.Refusals.{busy_is}
 
 -- a call whose entry leaves the ledger
 stays : (s : State) (c : Call) (gave : Reply) (e : Entry) → IsSound s → Says c gave e → Legal (size_of s.sizes) (ledger_of s) e → ledger_of s ≡ after e (ledger_of s) → Steps s c gave s

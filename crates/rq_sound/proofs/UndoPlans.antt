@@ -1,5 +1,5 @@
 -- The inverse of a transaction's newest deed can be planned over the slots as they are.
-use Rattle.std.proofs.Common.{◌≡◌, ◌≢◌, ℕ, ◌+◌, ◌<◌, ◌++◌, List, [], ◌∷◌, length, refl, sym, ◌∙◌, ap, subst, Bool, true, false, Some, None, arith}
+use Rattle.std.proofs.Common.{◌≡◌, ℕ, ◌+◌, ◌<◌, ◌++◌, List, [], ◌∷◌, length, refl, sym, ◌∙◌, ap, subst, Bool, true, false, Some, None, arith}
 use Rattle.std.proofs.lemmas.List.{length-append}
 use Rattle.std.proofs.lemmas.Bool.{eq-eqb}
 use Rattle.rq_model.specs.declared.txn.Txn.{Txn}
@@ -10,39 +10,22 @@ use Rattle.rq_page.specs.declared.directory.Directory.{Directory}
 use Rattle.rq_page.specs.Slots.{Slot}
 use Rattle.rq_page.specs.Slots.Slot.{Free, Used, Sender}
 use Rattle.rq_views.specs.Chain.{Node, Linked, View, first}
-use Rattle.rq_views.specs.Log.{Slots, put, cell_in, cells_of, Write, HasBefores, Places, Item}
+use Rattle.rq_views.specs.Log.{Slots, put, cells_of, Write, HasBefores, Places, Item}
 use Rattle.rq_views.specs.Legal.{Placed, open_deeds, view}
 use Rattle.rq_views.specs.Groups.{KeepsGroups}
 use Rattle.rq_views.specs.Plans.{ShowsAt, IsPlan, deed_sender, with_turn, with_prev, put_back_writes, directory_write, IsPutBack, IsMark}
 use Rattle.rq_views.specs.Plans.Turn.{Did, Undid}
-use Rattle.rq_views.proofs.CanPlan.{can_unlink_tail}
+use Rattle.rq_views.proofs.CanPlan.{can_unlink_tail, used_from, apart_from}
 use Rattle.rq_views.proofs.CanUndo.{can_undo_sent, can_undo_taken}
 use Rattle.rq_views.proofs.Overlay.{put_off}
-use Rattle.rq_views.proofs.Takes.{some_is}
-
-used_from : (x : Slot) (c : Cell) → cell_in x ≡ Some c → x ≡ Used c
-used_from Free c e = cc
-used_from (Used b) c e = ap (λ y. Used y) (some_is b c e)
-used_from (Sender s d) c e = cc
-
-free_apart : (q : Slots) (a b : ℕ) (x : Slot) → q a ≡ x → q b ≡ Free → x ≢ Free → a ≢ b
-free_apart q a b x e f n same = n (sym e ∙ ap q same ∙ f)
-
-used_apart : (q : Slots) (a b s : ℕ) (d : Directory) (c : Cell) → q a ≡ Sender s d → q b ≡ Used c → a ≢ b
-used_apart q a b s d c e f h = let k : Used c ≡ Sender s d = sym f ∙ ap q (sym h) ∙ e in cc
-
-not_sender : (s : ℕ) (d : Directory) → Sender s d ≢ Free
-not_sender s d e = cc
-
-not_used : (c : Cell) → Used c ≢ Free
-not_used c e = cc
+use Rattle.rq_sound.proofs.PlanFits.{at_free, not_sender, not_used}
 
 back_of : (l : Places) (q : Slots) (s tag new : ℕ) (body : List ℕ) (d : Directory) (ns : List Node) → 0 < new → q new ≡ Free → 0 < d.received → q (l.directory_at s) ≡ Sender s d → Linked (cells_of q) s 0 (d.received + 1) ns 0 → d.head ≡ first ns 0
     → (ws : List Write) × IsPutBack l s d.received tag body ws × HasBefores ws q
 back_of l q s tag new body d [] pos free some at k h = (
   put_back_writes l s d new tag body None,
   record { directory = d; new = new; old = None; used = pos; some_received = some; sequence = refl; old_is = h; writes = refl },
-  (sym (put_off q new (Used (record { sender = s; sequence = d.received; tag = tag; body = body; next = d.head; prev = 0 })) (l.directory_at s) (free_apart q (l.directory_at s) new (Sender s d) at free (not_sender s d)) ∙ at), (sym free, tt)),
+  (sym (put_off q new (Used (record { sender = s; sequence = d.received; tag = tag; body = body; next = d.head; prev = 0 })) (l.directory_at s) (at_free q (l.directory_at s) new (Sender s d) at free (not_sender s d)) ∙ at), (sym free, tt)),
 )
 back_of l q s tag new body d (n ∷ ns) pos free some at k h =
     let c : Cell = record { sender = s; sequence = d.received + 1; tag = n.tag; body = n.body; next = first ns 0; prev = 0 } in
@@ -53,8 +36,8 @@ back_of l q s tag new body d (n ∷ ns) pos free some at k h =
       put_back_writes l s d new tag body (Some c),
       record { directory = d; new = new; old = Some c; used = pos; some_received = some; sequence = refl; old_is = (subst (λ a. 0 < a) (sym h) at_pos, refl); writes = refl },
       (
-        sym (put_off q1 d.head (Used (with_prev new c)) (l.directory_at s) (used_apart q (l.directory_at s) d.head s d c at here) ∙ put_off q new x (l.directory_at s) (free_apart q (l.directory_at s) new (Sender s d) at free (not_sender s d)) ∙ at),
-        (sym (put_off q new x d.head (free_apart q d.head new (Used c) here free (not_used c)) ∙ here), (sym free, tt)),
+        sym (put_off q1 d.head (Used (with_prev new c)) (l.directory_at s) (apart_from q (l.directory_at s) d.head s d c at here) ∙ put_off q new x (l.directory_at s) (at_free q (l.directory_at s) new (Sender s d) at free (not_sender s d)) ∙ at),
+        (sym (put_off q new x d.head (at_free q d.head new (Used c) here free (not_used c)) ∙ here), (sym free, tt)),
       ),
     )
 

@@ -13,7 +13,7 @@ use Rattle.rq_model.specs.Content.{said, added, removed}
 use Rattle.rq_model.specs.Commits.{op_of, ops_told}
 use Rattle.rq_model.specs.History.{Job}
 use Rattle.rq_model.specs.History.Entry.{Started}
-use Rattle.rq_model.proofs.Told.{told_taken}
+use Rattle.rq_model.proofs.Told.{told_taken, told_sent}
 use Rattle.rq_views.specs.Items.{items, layout_of}
 use Rattle.rq_views.specs.Legal.{open_deeds, view}
 use Rattle.rq_views.specs.Log.{HasBefores}
@@ -21,7 +21,7 @@ use Rattle.rq_views.specs.Plans.{ShowsAt, IsPlan, deed_sender}
 use Rattle.rq_views.specs.Plans.Turn.{Undid}
 use Rattle.rq_level.specs.Writes.{write_of, writes_of}
 use Rattle.rq_views.proofs.Committed.{say}
-use Rattle.rq_views.proofs.OpenCounts.{chain_count, AreApart, told_sends}
+use Rattle.rq_views.proofs.OpenCounts.{chain_count, AreApart}
 use Rattle.rq_views.proofs.Settled.{rest_shown}
 use Rattle.rq_txn.specs.declared.Finished.{Finished}
 use Rattle.rq_store.specs.State.{op_done, State, open_of, open_ones_of, ledger_of, job_of_aim}
@@ -63,7 +63,7 @@ module _ (s : State) (k : IsSound s) where
   sums_sent g (r ∷ rows) h =
       let a = sum_by-cons (λ t. length (added g (say (open_deeds t (items s.sizes s.records))))) r.txn (txns rows) in
       let b = sum_by-cons (λ (o : Open). length (own_sends g o)) (open_of s.ends r) (open_ones_of s.ends rows) in
-      let c : length (added g (say (open_deeds r.txn (items s.sizes s.records)))) ≡ length (own_sends g (open_of s.ends r)) = ap length (sym (told_sends g (say (open_deeds r.txn (items s.sizes s.records)))) ∙ ap (filter_map (sent_for g)) (told_here r (h r (inl refl)))) in
+      let c : length (added g (say (open_deeds r.txn (items s.sizes s.records)))) ≡ length (own_sends g (open_of s.ends r)) = ap length (sym (told_sent g (say (open_deeds r.txn (items s.sizes s.records)))) ∙ ap (filter_map (sent_for g)) (told_here r (h r (inl refl)))) in
       let d = sums_sent g rows (λ q i. h q (inr i)) in
       omega (arith, a, b, c, d)
 

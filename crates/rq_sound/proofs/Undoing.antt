@@ -20,6 +20,7 @@ use Rattle.rq_groups.specs.Waiting.{waits}
 use Rattle.rq_model.specs.Incarnations.{incarnation_of}
 use Rattle.rq_store.specs.Rows.{placed, placed_one}
 use Rattle.rq_views.specs.Claims.{appends_of}
+use Rattle.rq_views.proofs.Holders.{not_txn}
 use Rattle.rq_store.specs.Fitting.{left_by}
 use Rattle.rq_store.specs.Steps.{took}
 use Rattle.rq_store.specs.Whole.{IsWhole}
@@ -33,7 +34,7 @@ use Rattle.rq_store.proofs.Placed.{placed_more}
 use Rattle.rq_sound.proofs.Going.{other_undoes}
 use Rattle.rq_sound.proofs.Beside.{says_comp}
 use Rattle.rq_sound.proofs.Counted.{writes_are, counted_undo}
-use Rattle.rq_sound.proofs.OwnRecord.{row, of_order, running, going, greatest_now, idle_now, others_differ, strange_by}
+use Rattle.rq_sound.proofs.OwnRecord.{row, of_order, running, going, greatest_now, idle_now, others_differ}
 use Rattle.rq_sound.proofs.Standings.{stands_changed}
 
 aim_is : (r : Row) (a : Aim) (lsn : ℕ) (d : Deed) → a ≡ Undoing lsn d → IsAimOf r a → (r.aborting ≡ true) × ((fs : List Finished) × (r.finished ≡ fs ++ record { lsn = lsn; deed = d } ∷ []))
@@ -108,9 +109,9 @@ module _ (z : Sizes) (log : List Record) (ends : HeldEnds) (rows : List Row) (i 
 
   pub stands_undo : AreStanding z (x ∷ log) ends (change_row t (row_undone fs) rows) i b
   stands_undo = stands_changed z log (x ∷ log) ends rows i b k t r (row_undone fs) at_row (λ q. refl)
-      (λ q n. says_comp z log t q u.number lsn (strange_by t q n))
-      (λ q j n v e h. other_undoes z log ends q.txn v t u.number (strange_by t q.txn n) (strange_by q.txn t (λ s. n (sym s))) (good (layout_of z) (items z log) whole.legal) h lsn (placed_one f) (placed fs) open_is (differ q j n v e))
-      own_now (λ v e. absurd (none_some v e)) (λ q n h. or_from _ _ (strange_by t q n) h)
+      (λ q n. says_comp z log t q u.number lsn (not_txn t q n))
+      (λ q j n v e h. other_undoes z log ends q.txn v t u.number (not_txn t q.txn n) (not_txn q.txn t (λ s. n (sym s))) (good (layout_of z) (items z log) whole.legal) h lsn (placed_one f) (placed fs) open_is (differ q j n v e))
+      own_now (λ v e. absurd (none_some v e)) (λ q n h. or_from _ _ (not_txn t q n) h)
     where
       none_some : (v : Under) → None ≡ Some v → ⊥
       none_some v e = cc

@@ -20,6 +20,7 @@ use Rattle.rq_level.specs.declared.writes.SlotWrite.{SlotWrite}
 use Rattle.rq_views.proofs.Overlay.{Good}
 use Rattle.rq_views.proofs.Owes.{owes_next}
 use Rattle.rq_views.proofs.Views.{good}
+use Rattle.rq_views.proofs.Holders.{not_txn}
 use Rattle.rq_groups.specs.Ends.{HeldEnds}
 use Rattle.rq_model.specs.Incarnations.{incarnation_of}
 use Rattle.rq_store.specs.Fitting.{left_by}
@@ -37,7 +38,7 @@ use Rattle.rq_sound.proofs.Going.{other_steps, own_steps, page_latched, page_is,
 use Rattle.rq_sound.proofs.Beside.{says_page}
 use Rattle.rq_store.proofs.Others.{other_number}
 use Rattle.rq_sound.proofs.Counted.{counted_step}
-use Rattle.rq_sound.proofs.OwnRecord.{row, of_order, running, going, next_number, greatest_now, others_apart, strange_by}
+use Rattle.rq_sound.proofs.OwnRecord.{row, of_order, running, going, next_number, greatest_now, others_apart}
 use Rattle.rq_sound.proofs.Standings.{stands_changed}
 
 pub aim_stepped : (r : Row) (a : Aim) → IsAimOf r a → IsAimOf (row_stepped r) a
@@ -152,9 +153,9 @@ module _ (z : Sizes) (log : List Record) (ends : HeldEnds) (rows : List Row) (i 
 
   pub stands_step : AreStanding z (x ∷ log) ends (change_row t row_stepped rows) i b
   stands_step = stands_changed z log (x ∷ log) ends rows i b k t r row_stepped at_row (λ q. refl)
-      (λ q n. says_page z log t q u.number w (strange_by t q n))
-      (λ q j n v e h. other_steps z log ends q.txn v t u.number (strange_by t q.txn n) (strange_by q.txn t (λ s. n (sym s))) slots_good h w (others_apart z log ends rows i b k incarnation some r at_row u under q j n v e (w.at / 16) on_latched))
-      own_now stepped_is (λ q n h. or_from _ _ (strange_by t q n) h)
+      (λ q n. says_page z log t q u.number w (not_txn t q n))
+      (λ q j n v e h. other_steps z log ends q.txn v t u.number (not_txn t q.txn n) (not_txn q.txn t (λ s. n (sym s))) slots_good h w (others_apart z log ends rows i b k incarnation some r at_row u under q j n v e (w.at / 16) on_latched))
+      own_now stepped_is (λ q n h. or_from _ _ (not_txn t q n) h)
 
   pub counts_step : AreCounted z (x ∷ log) (change_row t row_stepped rows) cells waiting
   counts_step = counted_step z log rows cells waiting t r u w whole c k.distinct at_row under next may.write.before slot

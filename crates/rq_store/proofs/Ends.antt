@@ -6,10 +6,10 @@ use Rattle.rq_model.specs.declared.record.Deed.{Deed}
 use Rattle.rq_model.specs.declared.record.Deed.TheVariants.{Append, UnlinkHead, Close}
 use Rattle.rq_model.specs.Words.{same_txn}
 use Rattle.rq_model.proofs.Lists.{same_is, same_self, not_same}
+use Rattle.rq_model.proofs.Same.{other_same}
 use Rattle.rq_groups.specs.declared.Held.{Held}
 use Rattle.rq_groups.specs.Ends.{HeldEnds, has_held, with_held, is_free_for, held_by, released}
 use Rattle.rq_store.specs.Rows.{HoldsFor}
-use Rattle.rq_store.proofs.RowLists.{not_txn}
 
 -- who held an end holds it still
 pub held_more : (t q : Txn) (e f : ℕ) (hs : List Held) → has_held q f hs ≡ true → has_held q f (with_held t e hs) ≡ true
@@ -61,7 +61,7 @@ without_ends t ends = record { sending = released t ends.sending; receiving = re
 pub held_other : (t q : Txn) (s : ℕ) (hs : List Held) → q ≢ t → has_held q s (released t hs) ≡ has_held q s hs
 held_other t q s [] n = refl
 held_other t q s (h ∷ hs) n = elim (cases_Bool (same_txn h.txn t)) [
-  | inl y ↦ let k : same_txn h.txn q ≡ false = not_txn h.txn q (λ e. n (sym e ∙ same_is h.txn t y)) in rw (y, k) (held_other t q s hs n)
+  | inl y ↦ let k : same_txn h.txn q ≡ false = other_same h.txn q (λ e. n (sym e ∙ same_is h.txn t y)) in rw (y, k) (held_other t q s hs n)
   | inr m ↦ rw m (ap (λ b. (same_txn h.txn q && nat_eq h.sender s) || b) (held_other t q s hs n))
 ]
 

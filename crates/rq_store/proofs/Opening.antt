@@ -265,7 +265,7 @@ later_stranger t (r ∷ log) o lt =
 count_same : (z : Sizes) (q r : Slots) → ((a : ℕ) → q a ≡ r a) → count_used z q ≡ count_used z r
 count_same z q r h = let e : q ≡ r = λ i. λ a. h a i in ap (count_used z) e
 
-length_below : (n : ℕ) → length (below n) ≡ n
+pub length_below : (n : ℕ) → length (below n) ≡ n
 length_below zero = refl
 length_below (suc n) = let a = length-append (below n) (n ∷ []) in let b = length_below n in omega (arith, a, b)
 
@@ -279,7 +279,7 @@ count_bound z q =
     omega (arith, a, b, c)
 
 -- a list of what each sender has, read at one
-told_below : (f : ℕ → ℕ) (n g : ℕ) → g < n → slice_index_or (map f (below n)) g 0 ≡ f g
+pub told_below : (f : ℕ → ℕ) (n g : ℕ) → g < n → slice_index_or (map f (below n)) g 0 ≡ f g
 told_below f zero g m = absurd (omega (arith, m))
 told_below f (suc n) g m =
     let a = map-append f (below n) (n ∷ []) in

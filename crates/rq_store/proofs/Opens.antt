@@ -19,7 +19,7 @@ pub found_open : (ends : HeldEnds) (t : Txn) (rows : List Row) → found t (open
 found_open ends t [] = refl
 found_open ends t (r ∷ rows) = elim (cases_Bool (same_txn r.txn t)) [ inl y ↦ rw y refl | inr n ↦ rw n (found_open ends t rows) ]
 
-busy_under : (o : Option Under) → is_some (job_under o) ≡ is_some o
+pub busy_under : (o : Option Under) → is_some (job_under o) ≡ is_some o
 busy_under None = refl
 busy_under (Some u) = refl
 
@@ -27,7 +27,7 @@ pub busy_is : (ends : HeldEnds) (rows : List Row) → any_busy (open_ones_of end
 busy_is ends [] = refl
 busy_is ends (r ∷ rows) = ap (λ b. b || any_busy (open_ones_of ends rows)) (busy_under r.under) ∙ ap (λ b. is_some r.under || b) (busy_is ends rows)
 
-owed_is_one : (ends : HeldEnds) (r : Row) (o : Option Under) → r.under ≡ o → owed (open_of ends r) ≡ owed_under o
+pub owed_is_one : (ends : HeldEnds) (r : Row) (o : Option Under) → r.under ≡ o → owed (open_of ends r) ≡ owed_under o
 owed_is_one ends r None e = rw e refl
 owed_is_one ends r (Some u) e = rw e refl
 

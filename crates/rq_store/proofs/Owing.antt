@@ -8,11 +8,11 @@ use Rattle.rq_views.specs.Legal.{onto}
 pub address_is : (a : ℕ) → address (a / 16) (a % 16) ≡ a
 address_is a = omega arith
 
-onto_more : (owed ws us : List Write) → onto owed (ws ++ us) ≡ onto owed ws ++ us
+pub onto_more : (owed ws us : List Write) → onto owed (ws ++ us) ≡ onto owed ws ++ us
 onto_more [] ws us = refl
 onto_more (w ∷ owed) ws us = onto_more owed (w ∷ ws) us
 
-onto_nil : (owed : List Write) → onto owed [] ≡ reverse owed
+pub onto_nil : (owed : List Write) → onto owed [] ≡ reverse owed
 onto_nil [] = refl
 onto_nil (w ∷ owed) = onto_more owed [] (w ∷ []) ∙ ap (λ l. l ++ w ∷ []) (onto_nil owed) ∙ sym (reverse-append (w ∷ []) owed)
 

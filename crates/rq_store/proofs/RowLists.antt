@@ -5,10 +5,8 @@ use Rattle.std.proofs.lemmas.Option.{same_Some}
 use Rattle.rq_model.specs.declared.txn.Txn.{Txn}
 use Rattle.rq_model.specs.Words.{In, same_txn, is_some}
 use Rattle.rq_model.proofs.Lists.{In-map, In-filter, same_is, same_self, not_same}
+use Rattle.rq_model.proofs.Same.{other_same}
 use Rattle.rq_txn.specs.Rows.{Row, found_row, change_row, change_row_one, without_row, AreDistinct, any_under}
-
-pub not_txn : (a b : Txn) → a ≢ b → same_txn a b ≡ false
-not_txn a b n = elim (cases_Bool (same_txn a b)) [ inl y ↦ absurd (n (same_is a b y)) | inr k ↦ k ]
 
 -- what is found stands there, under that number
 pub found_in : (t : Txn) (rows : List Row) (r : Row) → found_row t rows ≡ Some r → In r rows × (r.txn ≡ t)
@@ -44,16 +42,6 @@ unique (r ∷ rows) p q d i j e = elim i [
   | inr a ↦ elim j [
     | inl b ↦ absurd (some_not_none (found_row r.txn rows) (in_found r.txn rows p a (e ∙ ap (λ (x : Row). x.txn) b)) d.0)
     | inr b ↦ unique rows p q d.1 a b e
-  ]
-]
-
-pub found_here : (rows : List Row) (r : Row) → AreDistinct rows → In r rows → found_row r.txn rows ≡ Some r
-found_here [] r d i = absurd i
-found_here (p ∷ rows) r d i = elim i [
-  | inl e ↦ rw (ap (λ (x : Row). same_txn p.txn x.txn) e ∙ same_self p.txn) (ap (λ (x : Row). Some x) (sym e))
-  | inr j ↦ elim (cases_Bool (same_txn p.txn r.txn)) [
-    | inl y ↦ absurd (some_not_none (found_row p.txn rows) (in_found p.txn rows r j (sym (same_is p.txn r.txn y))) d.0)
-    | inr n ↦ rw n (found_here rows r d.1 j)
   ]
 ]
 
@@ -110,7 +98,7 @@ gone t rows q i =
 pub found_gone : (t u : Txn) (rows : List Row) → u ≢ t → found_row u (without_row t rows) ≡ found_row u rows
 found_gone t u [] n = refl
 found_gone t u (r ∷ rows) n = elim (cases_Bool (same_txn r.txn t)) [
-  | inl y ↦ let k : same_txn r.txn u ≡ false = not_txn r.txn u (λ e. n (sym e ∙ same_is r.txn t y)) in rw (y, k) (found_gone t u rows n)
+  | inl y ↦ let k : same_txn r.txn u ≡ false = other_same r.txn u (λ e. n (sym e ∙ same_is r.txn t y)) in rw (y, k) (found_gone t u rows n)
   | inr m ↦ rw m (elim (cases_Bool (same_txn r.txn u)) [ inl y ↦ rw y refl | inr k ↦ rw k (found_gone t u rows n) ])
 ]
 

@@ -7,6 +7,8 @@ use Rattle.rq_model.specs.declared.txn.Txn.{Txn}
 use Rattle.rq_model.proofs.Lists.{same_is}
 use Rattle.rq_model.specs.Words.{In, same_txn}
 use Rattle.rq_txn.specs.Rows.{Row, found_row, AreDistinct, change_row, change_row_one, without_row}
+use Rattle.rq_txn.proofs.Finding.{change_none}
+use Rattle.rq_txn.proofs.Placing.{without_none}
 use Rattle.std.proofs.lemmas.Option.{same_Some}
 
 -- a change of one row that keeps a number of each keeps their sum
@@ -17,13 +19,6 @@ rows_sum f t g (r ∷ rows) k =
     let one : f (change_row_one t g r) ≡ f r = elim (cases_Bool (same_txn r.txn t)) [ inl y ↦ rw y (k r (inl refl) (same_is r.txn t y)) | inr n ↦ rw n refl ] in
     sum_by-cons f (change_row_one t g r) (change_row t g rows) ∙ ap (λ n. n + sum_by f (change_row t g rows)) one ∙ ap (λ n. f r + n) rest ∙ sym (sum_by-cons f r rows)
 
-unchanged : (t : Txn) (g : Row → Row) (rows : List Row) → found_row t rows ≡ None → change_row t g rows ≡ rows
-unchanged t g [] e = refl
-unchanged t g (r ∷ rows) e = elim (cases_Bool (same_txn r.txn t)) [
-  | inl y ↦ let bad : Some r ≡ None = rw y at e in cc
-  | inr n ↦ rw n (ap (λ l. r ∷ l) (unchanged t g rows (rw n at e)))
-]
-
 -- one row that is changed changes the sum by itself
 pub rows_one : (f : Row → ℕ) (t : Txn) (g : Row → Row) (rows : List Row) (r : Row) → AreDistinct rows → found_row t rows ≡ Some r → sum_by f (change_row t g rows) + f r ≡ sum_by f rows + f (g r)
 rows_one f t g [] r d e = cc
@@ -31,16 +26,9 @@ rows_one f t g (q ∷ rows) r d e = elim (cases_Bool (same_txn q.txn t)) [
   | inl y ↦
       let same : q ≡ r = same_Some q r (rw y at e) in
       let none : found_row t rows ≡ None = ap (λ u. found_row u rows) (sym (same_is q.txn t y)) ∙ d.0 in
-      rw y (let a = sum_by-cons f (g q) (change_row t g rows) in let b = sum_by-cons f q rows in let c : sum_by f (change_row t g rows) ≡ sum_by f rows = ap (sum_by f) (unchanged t g rows none) in
+      rw y (let a = sum_by-cons f (g q) (change_row t g rows) in let b = sum_by-cons f q rows in let c : sum_by f (change_row t g rows) ≡ sum_by f rows = ap (sum_by f) (change_none t g rows none) in
       let u : f (g q) ≡ f (g r) = ap (λ (x : Row). f (g x)) same in let v : f q ≡ f r = ap f same in omega (arith, a, b, c, u, v))
   | inr n ↦ rw n (let a = sum_by-cons f q (change_row t g rows) in let b = sum_by-cons f q rows in let ih = rows_one f t g rows r d.1 (rw n at e) in omega (arith, a, b, ih))
-]
-
-pub kept_without : (t : Txn) (rows : List Row) → found_row t rows ≡ None → without_row t rows ≡ rows
-kept_without t [] e = refl
-kept_without t (r ∷ rows) e = elim (cases_Bool (same_txn r.txn t)) [
-  | inl y ↦ let bad : Some r ≡ None = rw y at e in cc
-  | inr n ↦ rw n (ap (λ l. r ∷ l) (kept_without t rows (rw n at e)))
 ]
 
 -- a sum without one row
@@ -50,7 +38,7 @@ rows_without f t (q ∷ rows) r d e = elim (cases_Bool (same_txn q.txn t)) [
   | inl y ↦
       let same : q ≡ r = same_Some q r (rw y at e) in
       let none : found_row t rows ≡ None = ap (λ u. found_row u rows) (sym (same_is q.txn t y)) ∙ d.0 in
-      rw y (let b = sum_by-cons f q rows in let c : sum_by f (without_row t rows) ≡ sum_by f rows = ap (sum_by f) (kept_without t rows none) in let v : f q ≡ f r = ap f same in omega (arith, b, c, v))
+      rw y (let b = sum_by-cons f q rows in let c : sum_by f (without_row t rows) ≡ sum_by f rows = ap (sum_by f) (without_none t rows none) in let v : f q ≡ f r = ap f same in omega (arith, b, c, v))
   | inr n ↦ rw n (let a = sum_by-cons f q (without_row t rows) in let b = sum_by-cons f q rows in let ih = rows_without f t rows r d.1 (rw n at e) in omega (arith, a, b, ih))
 ]
 

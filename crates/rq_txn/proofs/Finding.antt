@@ -14,7 +14,7 @@ use Rattle.rq_txn.specs.Rows.{Row, found_row, change_row, change_row_one, withou
 abbrev pub KeepsTxn : (Row → Row) → Type 0
 KeepsTxn f = (r : Row) → (f r).txn ≡ r.txn
 
-same_swap : (a b : Txn) → same_txn a b ≡ false → same_txn b a ≡ false
+pub same_swap : (a b : Txn) → same_txn a b ≡ false → same_txn b a ≡ false
 same_swap a b h = elim (cases_Bool (same_txn b a)) [ inl t ↦ absurd (not_same a b h (sym (same_is b a t))) | inr f ↦ f ]
 
 pub same_of : (a b : Txn) → a ≡ b → same_txn a b ≡ true

@@ -1,5 +1,5 @@
 pub mod Finding
 mod Counting
-mod Placing
-mod Standing
+pub mod Placing
+pub mod Standing
 mod Tallying

@@ -170,7 +170,7 @@ sum_change one txn f (x ∷ rows) r d e =
           omega (arith, now, rest)
     ]
 
-without_none : (txn : Txn) (rows : List Row) → found_row txn rows ≡ None → without_row txn rows ≡ rows
+pub without_none : (txn : Txn) (rows : List Row) → found_row txn rows ≡ None → without_row txn rows ≡ rows
 without_none txn [] e = refl
 without_none txn (x ∷ rows) e =
     elim (cases_Bool (same_txn x.txn txn)) [
@@ -528,7 +528,7 @@ in_end : {X : Type 0} (xs : List X) (x z : X) → x ≡ z → In x (xs ++ z ∷ 
 in_end [] x z e = inl e
 in_end (y ∷ xs) x z e = inr (in_end xs x z e)
 
-in_reverse : {X : Type 0} (x : X) (xs : List X) → In x xs → In x (reverse xs)
+pub in_reverse : {X : Type 0} (x : X) (xs : List X) → In x xs → In x (reverse xs)
 in_reverse x [] i = absurd i
 in_reverse {X} x (z ∷ xs) i =
     let P : List X → Type 0 = In x in

@@ -25,7 +25,7 @@ pub left_found : (t : Txn) (rows : List Row) (m : Transaction) → found_row t r
 left_found t rows m e h = is_left m.under_way (rw e at h)
 
 -- what is left once the last is out
-front_push : {X : Type 0} (xs : List X) (x : X) → front (xs ++ x ∷ []) ≡ xs
+pub front_push : {X : Type 0} (xs : List X) (x : X) → front (xs ++ x ∷ []) ≡ xs
 front_push [] x = refl
 front_push (a ∷ []) x = refl
 front_push (a ∷ b ∷ xs) x = ap (λ l. a ∷ l) (front_push (b ∷ xs) x)

@@ -2,5 +2,5 @@ pub mod Noting
 pub mod Lists
 pub mod Spots
 pub mod Undos
-mod Places
-mod Next
+pub mod Places
+pub mod Next

@@ -7,19 +7,13 @@ use Rattle.rq_model.specs.Words.{In}
 use Rattle.rq_model.proofs.Lists.{In-filter}
 use Rattle.rq_views.specs.Log.{same_op}
 use Rattle.rq_views.proofs.Overlay.{same_is, same_self}
+use Rattle.rq_views.proofs.AllOpen.{filter_in}
 use Rattle.rq_undone.specs.declared.history.Spot.{Spot}
 use Rattle.rq_undone.specs.Analysis.{spot_of, has_sub, with_sub, without_sub, without_newest, without_spots}
 use Rattle.rq_undone.specs.Pages.{any_spot}
 
 pub op_other : (a b : Sub) → same_op a b ≡ false → same_op b a ≡ false
 op_other a b n = false_from_ne_true (same_op b a) (λ e. false≢true (sym n ∙ ap (λ x. same_op a x) (same_is b a e) ∙ same_self a))
-
-filter_in : {X : Type 0} (p : X → Bool) (xs : List X) (x : X) → In x xs → p x ≡ true → In x (filter p xs)
-filter_in p [] x h k = absurd h
-filter_in p (y ∷ xs) x h k = elim (cases_Bool (p y)) [
-  | inl t ↦ rw t (elim h [ inl e ↦ inl e | inr i ↦ inr (filter_in p xs x i k) ])
-  | inr n ↦ rw n (elim h [ inl e ↦ absurd (false≢true (sym n ∙ ap p (sym e) ∙ k)) | inr i ↦ filter_in p xs x i k ])
-]
 
 pub filter_le : {X : Type 0} (p : X → Bool) (xs : List X) → length (filter p xs) ≤ length xs
 filter_le p [] = omega arith

@@ -25,7 +25,7 @@ txn_through a b c n m = grind (arith, nat_tests, n, m)
 lt_through : (a b c : ℕ) → nat_lt a b ≡ true → nat_lt b c ≡ true → nat_lt a c ≡ true
 lt_through a b c n m = grind (arith, nat_tests, n, m)
 
-op_turn : (a b : Sub) → same_op b a ≡ false → op_less a b ≡ false → op_less b a ≡ true
+pub op_turn : (a b : Sub) → same_op b a ≡ false → op_less a b ≡ false → op_less b a ≡ true
 op_turn a b n m = grind (arith, nat_tests, n, m)
 
 op_not_turn : (a b : Sub) → op_less a b ≡ true → op_less b a ≡ false

@@ -35,7 +35,7 @@ noted_incarnation (records.Commit t ∷ log) = noted_incarnation log
 noted_incarnation (records.AbortEnd t ∷ log) = noted_incarnation log
 
 -- one test after another
-filter_twice : {X : Type 0} (f g : X → Bool) (xs : List X) → filter (λ x. not (f x || g x)) xs ≡ filter (λ x. not (f x)) (filter (λ x. not (g x)) xs)
+pub filter_twice : {X : Type 0} (f g : X → Bool) (xs : List X) → filter (λ x. not (f x || g x)) xs ≡ filter (λ x. not (f x)) (filter (λ x. not (g x)) xs)
 filter_twice f g [] = refl
 filter_twice f g (x ∷ xs) = elim (cases_Bool (g x)) [
   | inl y ↦ rw y (elim (cases_Bool (f x)) [ inl z ↦ rw z (filter_twice f g xs) | inr z ↦ rw z (filter_twice f g xs) ])
@@ -127,7 +127,7 @@ noted_unfinished z (records.Commit t ∷ log) k = noted_unfinished z log k.1
 noted_unfinished z (records.AbortEnd t ∷ log) k = noted_unfinished z log k.1
 noted_unfinished z (records.Restart i ∷ log) k = noted_unfinished z log k.1
 
-filter_same : {X : Type 0} (f g : X → Bool) (xs : List X) → ((x : X) → f x ≡ g x) → filter f xs ≡ filter g xs
+pub filter_same : {X : Type 0} (f g : X → Bool) (xs : List X) → ((x : X) → f x ≡ g x) → filter f xs ≡ filter g xs
 filter_same f g xs h = let e : f ≡ g = λ i. λ x. h x i in ap (λ k. filter k xs) e
 
 -- and the transactions those that are lost

@@ -12,7 +12,7 @@ use Rattle.rq_undone.specs.Analysis.{Analysis, spot_of, without_newest}
 use Rattle.rq_undone.specs.Pages.{any_spot}
 use Rattle.rq_undone.proofs.Lists.{none_own}
 
-with_nothing : {X : Type 0} (ys : List X) → ys ≡ ys ++ []
+pub with_nothing : {X : Type 0} (ys : List X) → ys ≡ ys ++ []
 with_nothing [] = refl
 with_nothing (y ∷ ys) = ap (λ l. y ∷ l) (with_nothing ys)
 
@@ -29,7 +29,7 @@ any_behind : (o : Sub) (ps qs : List Spot) → any_spot o (ps ++ qs) ≡ (any_sp
 any_behind o [] qs = refl
 any_behind o (p ∷ ps) qs = elim (cases_Bool (spot_of o p)) [ inl y ↦ rw y refl | inr n ↦ rw n (any_behind o ps qs) ]
 
-or_turned : (b c : Bool) → (b || (c || false)) ≡ (c || b)
+pub or_turned : (b c : Bool) → (b || (c || false)) ≡ (c || b)
 or_turned true true = refl
 or_turned true false = refl
 or_turned false true = refl

@@ -64,7 +64,7 @@ lsn_rest : (ps : List Spot) → map lsn_of (rest ps) ≡ rest_numbers (map lsn_o
 lsn_rest [] = refl
 lsn_rest (p ∷ ps) = refl
 
-apart : (p o : Sub) → same_op p o ≡ false → (x : Spot) → spot_of p x ≡ true → spot_of o x ≡ false
+pub apart : (p o : Sub) → same_op p o ≡ false → (x : Spot) → spot_of p x ≡ true → spot_of o x ≡ false
 apart p o n x e = ap (λ y. same_op y o) (op_is x.by p e) ∙ n
 
 own_rest : (p o : Sub) (ps : List Spot) → same_op p o ≡ true → filter (spot_of o) (without_newest p ps) ≡ rest (filter (spot_of o) ps)
@@ -119,12 +119,12 @@ own_lsns z o (Commit t ∷ log) g = own_lsns z o log g
 own_lsns z o (Restart i ∷ log) g = own_lsns z o log g
 own_lsns z o (AbortEnd t ∷ log) g = own_lsns z o log g
 
-way_parts : (b c : Bool) → (b && not c) ≡ true → (b ≡ true) × (c ≡ false)
+pub way_parts : (b c : Bool) → (b && not c) ≡ true → (b ≡ true) × (c ≡ false)
 way_parts true true e = absurd (false≢true e)
 way_parts true false e = (refl, refl)
 way_parts false c e = absurd (false≢true e)
 
-way_from : (b c : Bool) → b ≡ true → c ≡ false → (b && not c) ≡ true
+pub way_from : (b c : Bool) → b ≡ true → c ≡ false → (b && not c) ≡ true
 way_from b c e f = rw (e, f) refl
 
 pub under_began : (z : Sizes) (o : Sub) (log : List Record) → under_way o (items z log) ≡ true → began o (items z log) ≡ true

@@ -80,7 +80,7 @@ other_but_all f g (y ∷ xs) h = elim (cases_Bool (g y)) [
 pub in_but_all : {X : Type 0} (f : X → Bool) (xs : List X) (x : X) → In x (but_all f xs) → In x xs × (f x ≡ false)
 in_but_all f xs x h = let k = In-filter (λ y. not (f y)) xs x h in (k.0, not-true (f x) k.1)
 
-filter_in : {X : Type 0} (p : X → Bool) (xs : List X) (x : X) → In x xs → p x ≡ true → In x (filter p xs)
+pub filter_in : {X : Type 0} (p : X → Bool) (xs : List X) (x : X) → In x xs → p x ≡ true → In x (filter p xs)
 filter_in p [] x h k = absurd h
 filter_in p (y ∷ xs) x h k = elim (cases_Bool (p y)) [
   | inl t ↦ rw t (elim h [ inl e ↦ inl e | inr i ↦ inr (filter_in p xs x i k) ])

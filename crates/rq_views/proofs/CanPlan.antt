@@ -12,12 +12,12 @@ use Rattle.rq_views.proofs.Chains.{end_linked, front_linked, last_is, last_appen
 use Rattle.rq_views.proofs.Overlay.{put_off}
 use Rattle.rq_views.proofs.Takes.{snoc, some_is}
 
-used_from : (x : Slot) (c : Cell) → cell_in x ≡ Some c → x ≡ Used c
+pub used_from : (x : Slot) (c : Cell) → cell_in x ≡ Some c → x ≡ Used c
 used_from Free c e = cc
 used_from (Used b) c e = ap (λ y. Used y) (some_is b c e)
 used_from (Sender s d) c e = cc
 
-apart_from : (q : Slots) (a b s : ℕ) (d : Directory) (c : Cell) → q a ≡ Sender s d → q b ≡ Used c → a ≢ b
+pub apart_from : (q : Slots) (a b s : ℕ) (d : Directory) (c : Cell) → q a ≡ Sender s d → q b ≡ Used c → a ≢ b
 apart_from q a b s d c e f h = let k : Used c ≡ Sender s d = sym f ∙ ap q (sym h) ∙ e in cc
 
 tail_at : (l : Places) (q : Slots) (s previous : ℕ) (d : Directory) (xs : List Node) (x : Node) → q (l.directory_at s) ≡ Sender s d → Linked (cells_of q) s 0 (d.received + 1) (xs ++ x ∷ []) 0 → d.tail ≡ x.at → 0 < x.at
@@ -59,7 +59,7 @@ tail_of l q s previous d (n ∷ ns) more at k t =
     let number : d.received + 1 + length r.0 ≡ d.received + length (n ∷ ns) = omega (arith, len, length-append r.0 (r.1 ∷ [])) in
     (a.0, subst (λ k. IsUnlinkTail l s k previous a.0) number a.1, a.2)
 
-length_shown : (ns : List Node) → length (map message ns) ≡ length ns
+pub length_shown : (ns : List Node) → length (map message ns) ≡ length ns
 length_shown [] = refl
 length_shown (n ∷ ns) = ap suc (length_shown ns)
 

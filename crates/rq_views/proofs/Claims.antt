@@ -26,12 +26,12 @@ use Rattle.rq_views.proofs.Counting.{gained, lost, plan_there, turn_sums, deeds_
 use Rattle.rq_views.proofs.Stands.{store_is_layout}
 use Rattle.rq_views.proofs.Views.{good, quiet_views}
 
-did_counts : (d : Deed) → (lost (Did d) ≡ takes_of d) × (gained (Did d) ≡ appends_of d)
+pub did_counts : (d : Deed) → (lost (Did d) ≡ takes_of d) × (gained (Did d) ≡ appends_of d)
 did_counts (Append s n tag previous body) = (refl, refl)
 did_counts (UnlinkHead s n tag body) = (refl, refl)
 did_counts (Close s) = (refl, refl)
 
-undid_counts : (d : Deed) → (lost (Undid d) ≡ appends_of d) × (gained (Undid d) ≡ takes_of d)
+pub undid_counts : (d : Deed) → (lost (Undid d) ≡ appends_of d) × (gained (Undid d) ≡ takes_of d)
 undid_counts (Append s n tag previous body) = (refl, refl)
 undid_counts (UnlinkHead s n tag body) = (refl, refl)
 undid_counts (Close s) = (refl, refl)

@@ -6,10 +6,10 @@ use Rattle.std.proofs.Math.Bool.{or_comm}
 use Rattle.rq_model.specs.declared.message.Message.{Message}
 use Rattle.rq_model.specs.declared.record.Deed.{Deed}
 use Rattle.rq_model.specs.declared.record.Deed.TheVariants.{Append, UnlinkHead, Close}
-use Rattle.rq_model.specs.Words.{last_or}
 use Rattle.rq_model.specs.History.{Group}
 use Rattle.rq_model.specs.Content.{Said, said, added, removed, closed, tag_after, with_own}
 use Rattle.rq_model.specs.Content.Said.{Added, Removed, Ended}
+use Rattle.rq_model.proofs.Commits.{last_is}
 use Rattle.rq_views.specs.Chain.{View}
 use Rattle.rq_views.specs.Legal.{Placed}
 use Rattle.rq_views.specs.Groups.{on_sending_end, on_receiving_end, side, with_all}
@@ -22,10 +22,6 @@ say (p ∷ ps) = said p.deed ∷ say ps
 
 abbrev pair : Message → ℕ × List ℕ
 pair m = (m.tag, m.body)
-
-last_is : (x : Message) (xs : List Message) (m : Message) → last_or x (xs ++ m ∷ []) ≡ m
-last_is x [] m = refl
-last_is x (y ∷ xs) m = last_is y xs m
 
 tag_more : (tag : ℕ) (ms : List Message) (m : Message) → tag_after tag (ms ++ m ∷ []) ≡ m.tag
 tag_more tag [] m = refl
@@ -97,7 +93,7 @@ messages_are : (s : ℕ) (ms : List Message) → Ours s ms → map (message_of s
 messages_are s [] o = refl
 messages_are s (m ∷ ms) o = ap (λ x. x ∷ map (message_of s) (map pair ms)) (message_is s m o.0) ∙ ap (λ l. m ∷ l) (messages_are s ms o.1)
 
-map_drop : {X Y : Type 0} (f : X → Y) (k : ℕ) (xs : List X) → map f (drop k xs) ≡ drop k (map f xs)
+pub map_drop : {X Y : Type 0} (f : X → Y) (k : ℕ) (xs : List X) → map f (drop k xs) ≡ drop k (map f xs)
 map_drop f zero xs = refl
 map_drop f (suc k) [] = refl
 map_drop f (suc k) (x ∷ xs) = map_drop f k xs

@@ -40,7 +40,7 @@ used_one x = cond (is_used x) 1 0
 count_is : (z : Sizes) (q : Slots) → count_used z q ≡ sum_by (λ i. used_one (q (cell_at z i))) (below (cell_count z))
 count_is z q = length-filter (λ i. is_used (q (cell_at z i))) (below (cell_count z))
 
-same_place : (z : Sizes) (i j : ℕ) → cell_at z i ≡ cell_at z j → i ≡ j
+pub same_place : (z : Sizes) (i j : ℕ) → cell_at z i ≡ cell_at z j → i ≡ j
 same_place z i j e = elim (cases_order i j) [
   | inl y ↦ y
   | inr n ↦ elim n [ inl lt ↦ absurd (let h = cells_rise z i j lt in omega (arith, h, e)) | inr gt ↦ absurd (let h = cells_rise z j i gt in omega (arith, h, e)) ]

@@ -2,31 +2,22 @@
 use Rattle.rq_model.specs.declared.record.Deed.{Deed}
 use Rattle.rq_model.specs.declared.txn.Txn.{Txn}
 use Rattle.rq_model.specs.Words.{same_txn}
-use Rattle.std.proofs.Common.{◌≡◌, ◌≢◌, ℕ, ◌+◌, ◌<◌, ◌==◌, ◌⊎◌, inl, inr, List, [], ◌∷◌, length, Bool, true, false, cond, refl, sym, ap, subst, ◌∙◌}
-use Rattle.std.proofs.lemmas.Bool.{cases_Bool, false≢true, true≢false, and_parts, and_from, eq-eqb, eqb-true}
+use Rattle.std.proofs.Common.{◌≡◌, ◌≢◌, ℕ, ◌+◌, ◌<◌, ◌⊎◌, inl, inr, List, [], ◌∷◌, length, Bool, true, false, cond, refl, sym, ap, subst, ◌∙◌}
+use Rattle.std.proofs.lemmas.Bool.{cases_Bool, false≢true, true≢false}
 use Rattle.rq_views.specs.Chain.{View, view_put_back}
 use Rattle.rq_model.specs.declared.record.Deed.TheVariants.{Append, UnlinkHead, Close}
+use Rattle.rq_model.proofs.Lists.{same_self, same_is}
 use Rattle.rq_views.specs.Plans.{with_turn, view_head_unlinked}
 use Rattle.rq_views.specs.Plans.Turn.{Did, Undid}
 use Rattle.rq_views.specs.Legal.{Placed, rest_placed}
 use Rattle.rq_views.specs.Groups.{on_sending_end, on_receiving_end, side, with_all, TellsView}
 use Rattle.rq_views.proofs.Deeds.{side_sends, side_takes, put_back_commutes, head_commutes, same_marks, takes_marks, Sound, sends_sound, takes_sound, takes_commute, taken_back, told_front, total, same_total, takes_total, sends_received}
 
-pub txn_is : (a b : Txn) → same_txn a b ≡ true → a ≡ b
-txn_is a b h =
-    let t = and_parts (a.incarnation == b.incarnation) (a.count == b.count) h in
-    let i : a.incarnation ≡ b.incarnation = eqb-true _ _ t.0 in
-    let c : a.count ≡ b.count = eqb-true _ _ t.1 in
-    ap (λ (x : ℕ). let t : Txn = record { incarnation = x; count = a.count } in t) i ∙ ap (λ (x : ℕ). let t : Txn = record { incarnation = b.incarnation; count = x } in t) c
-
-pub txn_self : (a : Txn) → same_txn a a ≡ true
-txn_self a = and_from (a.incarnation == a.incarnation) (a.count == a.count) (eq-eqb _ _ refl) (eq-eqb _ _ refl)
-
 txn_not : (a b : Txn) → same_txn a b ≡ false → b ≢ a
-txn_not a b n e = true≢false (sym (txn_self a) ∙ ap (λ x. same_txn a x) (sym e) ∙ n)
+txn_not a b n e = true≢false (sym (same_self a) ∙ ap (λ x. same_txn a x) (sym e) ∙ n)
 
-not_txn : (a b : Txn) → b ≢ a → same_txn a b ≡ false
-not_txn a b n = elim (cases_Bool (same_txn a b)) [ inl y ↦ absurd (n (sym (txn_is a b y))) | inr k ↦ k ]
+pub not_txn : (a b : Txn) → b ≢ a → same_txn a b ≡ false
+not_txn a b n = elim (cases_Bool (same_txn a b)) [ inl y ↦ absurd (n (sym (same_is a b y))) | inr k ↦ k ]
 
 -- over any lists of open deeds
 abbrev pub None_but : (Deed → Bool) → Txn → (Txn → List Placed) → Type 0
@@ -34,7 +25,7 @@ None_but f t os = (u : Txn) → u ≢ t → side f (os u) ≡ []
 
 pub same_side : (f : Deed → Bool) (os : Txn → List Placed) (t u : Txn) → None_but f t os → None_but f u os → side f (os t) ≡ side f (os u)
 same_side f os t u a b = elim (cases_Bool (same_txn t u)) [
-  | inl y ↦ ap (λ x. side f (os x)) (txn_is t u y)
+  | inl y ↦ ap (λ x. side f (os x)) (same_is t u y)
   | inr n ↦ b t (λ e. txn_not t u n (sym e)) ∙ sym (a u (txn_not t u n))
 ]
 
@@ -58,7 +49,7 @@ push_off : (f : Deed → Bool) (t : Txn) (p : Placed) (os : Txn → List Placed)
 push_off f t p os u n = elim (cases_Bool (same_txn t u)) [ inl y ↦ rw (y, n) refl | inr k ↦ rw k refl ]
 
 push_own : (f : Deed → Bool) (t : Txn) (p : Placed) (os : Txn → List Placed) → f p.deed ≡ true → side f (pushed t p os t) ≡ p.deed ∷ side f (os t)
-push_own f t p os y = rw (txn_self t, y) refl
+push_own f t p os y = rw (same_self t, y) refl
 
 push_other : (f : Deed → Bool) (t : Txn) (p : Placed) (os : Txn → List Placed) (u : Txn) → u ≢ t → side f (pushed t p os u) ≡ side f (os u)
 push_other f t p os u n = rw (not_txn t u n) refl
@@ -97,7 +88,7 @@ held_sent s os v c t p ys nt alone told h =
           ∙ ap (λ ds. with_all ds (with_all rs c)) (sym (push_own (on_sending_end s) t p os ys))
           ∙ ap (λ rs. with_all (side (on_sending_end s) (pushed t p os t)) (with_all rs c)) (sym (push_off (on_receiving_end s) t p os h.taker nt));
       sends = λ u. elim (cases_Bool (same_txn t u)) [
-        | inl y ↦ rw (y, ys) (subst (λ x. Sound (p.deed ∷ side (on_sending_end s) (os x)) c) (txn_is t u y) (told_marks s p.deed v (with_all ds c) ys (ap (λ (x : View). x.last_tag) is ∙ m.0) (ap (λ (x : View). x.closed) is ∙ m.1) (ap total is ∙ same_total ds (with_all rs c) c (side_sends s (os t)) (takes_total rs c (side_takes s (os h.taker)) (h.takes h.taker))) told, h.sends t))
+        | inl y ↦ rw (y, ys) (subst (λ x. Sound (p.deed ∷ side (on_sending_end s) (os x)) c) (same_is t u y) (told_marks s p.deed v (with_all ds c) ys (ap (λ (x : View). x.last_tag) is ∙ m.0) (ap (λ (x : View). x.closed) is ∙ m.1) (ap total is ∙ same_total ds (with_all rs c) c (side_sends s (os t)) (takes_total rs c (side_takes s (os h.taker)) (h.takes h.taker))) told, h.sends t))
         | inr n ↦ rw n (h.sends u)
       ];
       takes = λ u. subst (λ ds. Sound ds c) (sym (push_off (on_receiving_end s) t p os u nt)) (h.takes u);
@@ -124,7 +115,7 @@ held_taken s os v c t lsn r n tag body yt alone told more h =
           ∙ ap (λ rs. with_all (side (on_sending_end s) (pushed t p os h.sender)) (with_all rs c)) (sym (push_own (on_receiving_end s) t p os yt));
       sends = λ u. subst (λ ds. Sound ds c) (sym (push_off (on_sending_end s) t p os u refl)) (h.sends u);
       takes = λ u. elim (cases_Bool (same_txn t u)) [
-        | inl y ↦ rw (y, yt) (subst (λ x. Sound (UnlinkHead r n tag body ∷ side (on_receiving_end s) (os x)) c) (txn_is t u y) ((here.0, here.1, number), h.takes t))
+        | inl y ↦ rw (y, yt) (subst (λ x. Sound (UnlinkHead r n tag body ∷ side (on_receiving_end s) (os x)) c) (same_is t u y) ((here.0, here.1, number), h.takes t))
         | inr k ↦ rw k (h.takes u)
       ];
     }
@@ -132,7 +123,7 @@ held_taken s os v c t lsn r n tag body yt alone told more h =
 not_nil : (d : Deed) (ds : List Deed) → d ∷ ds ≡ [] → ⊥
 not_nil d ds e = cc
 
-rest_alone : (f : Deed → Bool) (ps : List Placed) → side f ps ≡ [] → side f (rest_placed ps) ≡ []
+pub rest_alone : (f : Deed → Bool) (ps : List Placed) → side f ps ≡ [] → side f (rest_placed ps) ≡ []
 rest_alone f [] e = refl
 rest_alone f (p ∷ ps) e = elim (cases_Bool (f p.deed)) [ inl y ↦ absurd (not_nil p.deed (side f ps) (rw y at e)) | inr n ↦ rw n at e ]
 
@@ -154,17 +145,17 @@ side_cons_own f p ps y = rw y refl
 
 pop_off : (f : Deed → Bool) (t : Txn) (p : Placed) (ps : List Placed) (os : Txn → List Placed) (u : Txn) → os t ≡ p ∷ ps → f p.deed ≡ false → side f (popped t os u) ≡ side f (os u)
 pop_off f t p ps os u e n = elim (cases_Bool (same_txn t u)) [
-  | inl y ↦ let k : os u ≡ p ∷ ps = ap os (sym (txn_is t u y)) ∙ e in rw y (ap (λ l. side f (rest_placed l)) k ∙ sym (side_cons_off f p ps n) ∙ sym (ap (side f) k))
+  | inl y ↦ let k : os u ≡ p ∷ ps = ap os (sym (same_is t u y)) ∙ e in rw y (ap (λ l. side f (rest_placed l)) k ∙ sym (side_cons_off f p ps n) ∙ sym (ap (side f) k))
   | inr k ↦ rw k refl
 ]
 
 pop_own : (f : Deed → Bool) (t : Txn) (p : Placed) (ps : List Placed) (os : Txn → List Placed) → os t ≡ p ∷ ps → side f (popped t os t) ≡ side f ps
-pop_own f t p ps os e = rw (txn_self t) (ap (λ l. side f (rest_placed l)) e)
+pop_own f t p ps os e = rw (same_self t) (ap (λ l. side f (rest_placed l)) e)
 
 -- who has a deed of an end open holds it
 pub holder_is : (f : Deed → Bool) (h t : Txn) (p : Placed) (ps : List Placed) (os : Txn → List Placed) → os t ≡ p ∷ ps → f p.deed ≡ true → None_but f h os → h ≡ t
 holder_is f h t p ps os e y a = elim (cases_Bool (same_txn h t)) [
-  | inl k ↦ txn_is h t k
+  | inl k ↦ same_is h t k
   | inr n ↦ absurd (not_nil p.deed (side f ps) (sym (side_cons_own f p ps y) ∙ sym (ap (side f) e) ∙ a t (txn_not h t n)))
 ]
 
@@ -232,7 +223,7 @@ empty_alone f h t os a u n = elim (cases_Bool (same_txn t u)) [ inl y ↦ rw y r
 -- the one that ends holds the end, or has nothing of it
 split : (f : Deed → Bool) (h t : Txn) (os : Txn → List Placed) → None_but f h os → ((t ≡ h) × (side f (emptied t os h) ≡ [])) ⊎ ((side f (os t) ≡ []) × (side f (emptied t os h) ≡ side f (os h)))
 split f h t os a = elim (cases_Bool (same_txn t h)) [
-  | inl y ↦ inl (txn_is t h y, rw y refl)
+  | inl y ↦ inl (same_is t h y, rw y refl)
   | inr n ↦ inr (a t (λ e. txn_not t h n (sym e)), rw n refl)
 ]
 

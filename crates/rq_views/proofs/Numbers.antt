@@ -40,7 +40,7 @@ pub beyond_unbegun : (t : Txn) (n : ℕ) (log : List Item) → greatest t log < 
 beyond_unbegun t n log h =
     false_from_ne_true (began (operation t n) log) (λ e. let k = began_within t n log e in absurd (omega (arith, h, k)))
 
-plan_some : (l : Places) (t : Turn) → IsPlan l t [] → ⊥
+pub plan_some : (l : Places) (t : Turn) → IsPlan l t [] → ⊥
 plan_some l (Did (Append s n tag previous body)) p = let e = p.writes in cc
 plan_some l (Did (UnlinkHead s n tag body)) p = let e = p.writes in cc
 plan_some l (Did (Close s)) p = let e = p.writes in cc
@@ -48,12 +48,12 @@ plan_some l (Undid (Append s n tag previous body)) p = let e = p.writes in cc
 plan_some l (Undid (UnlinkHead s n tag body)) p = let e = p.writes in cc
 plan_some l (Undid (Close s)) p = let e = p.writes in cc
 
-undoes_some : (l : Places) (ps : List Placed) (u : ℕ) → Undoes l ps u [] → ⊥
+pub undoes_some : (l : Places) (ps : List Placed) (u : ℕ) → Undoes l ps u [] → ⊥
 undoes_some l [] u h = h
 undoes_some l (p ∷ ps) u h = plan_some l (Undid p.deed) h.1
 
 -- an operation that has written has a record
-written_began : (l : Places) (log : List Item) (o : Sub) → ((state_of l log).writes o ≡ [] → ⊥) → began o log ≡ true
+pub written_began : (l : Places) (log : List Item) (o : Sub) → ((state_of l log).writes o ≡ [] → ⊥) → began o log ≡ true
 written_began l log o h = elim (cases_Bool (began o log)) [ inl y ↦ y | inr n ↦ absurd (h (unbegun_writes l log o n)) ]
 
 one_of : (t : Txn) (n : ℕ) (o : Sub) (log : List Item) → (began o log ≡ false → o.number ≡ greatest o.txn log + 1)

@@ -1,8 +1,7 @@
 -- With transactions open: the used cells are what is committed and not taken, without what they took, with what they sent.
 use Rattle.std.proofs.Common.{◌≡◌, ◌≢◌, ℕ, zero, suc, ◌+◌, ◌-◌, ◌<◌, ◌≤◌, List, [], ◌∷◌, ◌++◌, length, map, drop, true, false, cond, nat_eq, inl, inr, refl, sym, ◌∙◌, ap, subst, arith}
 use Rattle.std.specs.List.{sum_by, filter, filter_map}
-use Rattle.std.proofs.lemmas.List.{append-nil, length-append, length-drop, length-map}
-use Rattle.std.proofs.lemmas.List.Elements.{filter_map-append}
+use Rattle.std.proofs.lemmas.List.{length-append, length-drop, length-map}
 use Rattle.std.proofs.lemmas.List.Sums.{sum_by-cons}
 use Rattle.std.proofs.lemmas.Bool.{cases_Bool, or_parts}
 use Rattle.rq_model.specs.declared.message.Message.{Message}
@@ -13,13 +12,13 @@ use Rattle.rq_model.specs.declared.txn.Txn.{Txn}
 use Rattle.rq_model.specs.Words.{Op, same_txn, has_txn, sent_for, taken_from}
 use Rattle.rq_model.specs.Ledger.{rest_in}
 use Rattle.rq_model.specs.Tests.{below, count_rest, is_sent}
-use Rattle.rq_model.specs.Content.{Said, said, added, added_one, removed, removed_one}
+use Rattle.rq_model.specs.Content.{said, added, added_one, removed, removed_one}
 use Rattle.rq_model.specs.Commits.{op_of, ops_told, committed_of}
 use Rattle.rq_model.specs.Rules.{KeepsRules}
-use Rattle.rq_model.specs.Content.Said.{Added, Removed, Ended}
 use Rattle.rq_model.specs.Counts.{is_taken, op_sender, AllBelow}
 use Rattle.rq_model.proofs.Counts.{sum_more, sum_same, sum_both, sum_none, count_is_sum, sum_sent, sum_taken}
-use Rattle.rq_model.proofs.Told.{told_taken}
+use Rattle.rq_model.proofs.Told.{told_taken, told_sent}
+use Rattle.rq_model.proofs.Lists.{same_self, same_is}
 use Rattle.rq_page.specs.Sizes.{Sizes, sender_count}
 use Rattle.rq_views.specs.Log.{Item, state_of}
 use Rattle.rq_views.specs.Plans.{deed_sender}
@@ -30,7 +29,6 @@ use Rattle.rq_views.specs.Stored.{count_used}
 use Rattle.rq_views.specs.InStore.{InStore}
 use Rattle.rq_views.proofs.Committed.{say}
 use Rattle.rq_views.proofs.Counting.{AllInStore, deeds_in_store, quiet_counts}
-use Rattle.rq_views.proofs.Holders.{txn_is, txn_self}
 use Rattle.rq_views.proofs.Holding.{taken_there, tag_and_body, Holders, holders}
 use Rattle.rq_views.proofs.Settled.{rest_shown}
 
@@ -88,7 +86,7 @@ abbrev pub AllOpenIn : List Txn → List Item → Type 0
 AllOpenIn ts log = (t : Txn) → has_txn t ts ≡ false → open_deeds t log ≡ []
 
 other_of : (t u : Txn) → same_txn u t ≡ false → u ≢ t
-other_of t u n e = let y : same_txn u t ≡ true = ap (λ x. same_txn x t) e ∙ txn_self t in let bad : true ≡ false = sym y ∙ n in cc
+other_of t u n e = let y : same_txn u t ≡ true = ap (λ x. same_txn x t) e ∙ same_self t in let bad : true ≡ false = sym y ∙ n in cc
 
 -- a sum over transactions none of which counts
 sum_out : (f : Txn → ℕ) (ts : List Txn) (t : Txn) → ((u : Txn) → u ≢ t → f u ≡ 0) → has_txn t ts ≡ false → sum_by f ts ≡ 0
@@ -107,7 +105,7 @@ sum_here f (u ∷ ts) t apart h k =
     let a = sum_by-cons f u ts in
     elim (cases_Bool (same_txn u t)) [
       | inl y ↦
-          let e : u ≡ t = txn_is u t y in
+          let e : u ≡ t = same_is u t y in
           let same : f u ≡ f t = ap f e in
           let out : has_txn t ts ≡ false = subst (λ x. has_txn x ts ≡ false) e apart.0 in
           let c = sum_out f ts t h out in
@@ -149,16 +147,6 @@ sum_turn f n (t ∷ ts) =
     let d = sum_by-cons (λ u. sum_by (f u) (below n)) t ts in
     omega arith
 
-sent_one : (s : ℕ) (d : Said) (ms : List Message) → ms ++ filter_map (sent_for s) (op_of d ∷ []) ≡ added_one s d ms
-sent_one s (Added m) ms = elim (cases_Bool (nat_eq m.sender s)) [ inl y ↦ rw y refl | inr n ↦ rw n (append-nil ms) ]
-sent_one s (Removed m) ms = append-nil ms
-sent_one s (Ended r) ms = append-nil ms
-
--- the messages that told operations sent for s are those that the deeds added
-pub told_sends : (s : ℕ) (ds : List Said) → filter_map (sent_for s) (ops_told ds) ≡ added s ds
-told_sends s [] = refl
-told_sends s (d ∷ ds) = filter_map-append (sent_for s) (ops_told ds) (op_of d ∷ []) ∙ ap (λ l. l ++ filter_map (sent_for s) (op_of d ∷ [])) (told_sends s ds) ∙ sent_one s d (added s ds)
-
 below_one_more : (n : ℕ) (ops : List Op) (op : Op) → AllBelow n ops → op_sender op < n → AllBelow n (ops ++ op ∷ [])
 below_one_more n [] op h k = (k, tt)
 below_one_more n (x ∷ ops) op h k = (h.0, below_one_more n ops op h.1 k)
@@ -196,7 +184,7 @@ open_counts z log ts legal store groups rules reads apart all =
     let takes : (t : Txn) → sum_by (f t) (below n) ≡ length (filter is_taken (open_ops z log t)) =
     (λ t. sum_same (f t) (λ s. length (filter_map (taken_from s) (open_ops z log t))) n (λ s lt. sym (told_taken s (say (open_deeds t is)))) ∙ sum_taken n (open_ops z log t) (ops_in_store z (open_deeds t is) (deeds_in_store z t log store))) in
     let sends : (t : Txn) → sum_by (g t) (below n) ≡ length (filter is_sent (open_ops z log t)) =
-    (λ t. sum_same (g t) (λ s. length (filter_map (sent_for s) (open_ops z log t))) n (λ s lt. ap length (sym (told_sends s (say (open_deeds t is))))) ∙ sum_sent n (open_ops z log t) (ops_in_store z (open_deeds t is) (deeds_in_store z t log store))) in
+    (λ t. sum_same (g t) (λ s. length (filter_map (sent_for s) (open_ops z log t))) n (λ s lt. ap length (sym (told_sent s (say (open_deeds t is))))) ∙ sum_sent n (open_ops z log t) (ops_in_store z (open_deeds t is) (deeds_in_store z t log store))) in
     let a = sum_turn f n ts in
     let b = sum_turn g n ts in
     let d : sum_by (λ t. sum_by (f t) (below n)) ts ≡ sum_by (λ t. length (filter is_taken (open_ops z log t))) ts = each_same (λ t. sum_by (f t) (below n)) (λ t. length (filter is_taken (open_ops z log t))) ts takes in

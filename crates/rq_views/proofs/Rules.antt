@@ -20,12 +20,13 @@ use Rattle.rq_views.specs.Chain.{View}
 use Rattle.rq_views.specs.Committed.{message_of}
 use Rattle.rq_views.specs.Groups.{on_sending_end, on_receiving_end, side, with_all, committed, TellsView, MayTurn, KeepsGroups, DeedsTellViews}
 use Rattle.rq_views.specs.Items.{items, layout_of, told_deed, ReadsItsDeeds, has_undone}
-use Rattle.rq_views.specs.Legal.{IsLegalLog, Placed, Undoes, open_deeds, rest_placed, view}
+use Rattle.rq_views.specs.Legal.{IsLegalLog, Placed, Undoes, open_deeds, view}
 use Rattle.rq_views.specs.Log.{Write}
 use Rattle.rq_views.specs.Plans.{deed_sender}
 use Rattle.rq_views.proofs.Committed.{say, takes_form}
 use Rattle.rq_views.proofs.Content.{own_deeds, committed_is_content}
 use Rattle.rq_views.proofs.Strangers.{has_end_same}
+use Rattle.rq_views.proofs.Holders.{rest_alone}
 
 -- a transaction that has ended has nothing open
 pub ended : (z : Sizes) (t : Txn) (log : List Record) → IsLegalLog (layout_of z) (items z log) → has_end log t ≡ true
@@ -52,7 +53,7 @@ ended z t (records.AbortEnd u ∷ log) k h = elim (cases_Bool (same_txn u t)) [
 ]
 ended z t (records.Restart i ∷ log) k h = ended z t log k.1 h
 
-one_unused : (f : Said → Bool) (p : Deed → Bool) → ((d : Deed) → f (said d) ≡ p d)
+pub one_unused : (f : Said → Bool) (p : Deed → Bool) → ((d : Deed) → f (said d) ≡ p d)
     → (t u : Txn) (n level : ℕ) (bytes : List ℕ) (d : Deed) (ps : List Placed) (ds : List Said) → level ≡ 1
     → deed_in bytes ≡ Some d
     → (any_use f ds ≡ false → side p ps ≡ [])
@@ -64,11 +65,6 @@ one_unused f p same t u n level bytes d ps ds l e k h =
       | inl y ↦ let s = or_parts (f (said d)) (any_use f ds) (rw (one, e, y) at h) in rw (e, y, sym (same d) ∙ s.0) (k s.1)
       | inr m ↦ rw m (k (rw (one, e, m) at h))
     ]
-
-rest_none : (p : Deed → Bool) (ps : List Placed) → side p ps ≡ [] → side p (rest_placed ps) ≡ []
-rest_none p [] e = refl
-rest_none p (x ∷ ps) e =
-    elim (cases_Bool (p x.deed)) [ inl y ↦ (let bad : x.deed ∷ side p ps ≡ [] = rw y at e in absurd (cc)) | inr n ↦ rw n at e ]
 
 -- who never used an end has nothing open at it
 pub unused : (f : Said → Bool) (p : Deed → Bool) → ((d : Deed) → f (said d) ≡ p d)
@@ -84,18 +80,18 @@ unused f p same z t (records.OpEnd u k level bytes ∷ log) g e =
     one_unused f p same t u (length (items z log) + 1) level bytes g.0.1.0 (open_deeds t (items z log))
     (deeds (λ v. same_txn v t) log) g.0.0 g.0.1.1 (unused f p same z t log g.1) e
 unused f p same z t (records.CompEnd u k undone ∷ log) g e = elim (cases_Bool (same_txn u t)) [
-  | inl y ↦ rw y (rest_none p (open_deeds t (items z log)) (unused f p same z t log g.1 e))
+  | inl y ↦ rw y (rest_alone p (open_deeds t (items z log)) (unused f p same z t log g.1 e))
   | inr m ↦ rw m (unused f p same z t log g.1 e)
 ]
 unused f p same z t (records.Commit u ∷ log) g e =
     elim (cases_Bool (same_txn u t)) [ inl y ↦ rw y refl | inr m ↦ rw m (unused f p same z t log g.1 e) ]
 
-sends_same : (s : ℕ) (d : Deed) → uses_send s (said d) ≡ on_sending_end s d
+pub sends_same : (s : ℕ) (d : Deed) → uses_send s (said d) ≡ on_sending_end s d
 sends_same s (Append r n tag previous body) = refl
 sends_same s (UnlinkHead r n tag body) = refl
 sends_same s (Close r) = refl
 
-takes_same : (s : ℕ) (d : Deed) → uses_receive s (said d) ≡ on_receiving_end s d
+pub takes_same : (s : ℕ) (d : Deed) → uses_receive s (said d) ≡ on_receiving_end s d
 takes_same s (Append r n tag previous body) = refl
 takes_same s (UnlinkHead r n tag body) = refl
 takes_same s (Close r) = refl

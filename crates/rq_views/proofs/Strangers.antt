@@ -92,11 +92,11 @@ stranger_began z t n (r ∷ log) h =
     let p = or_parts (mentions t r) (any_record (mentions t) log) h in
     or_from (is_of (operation t n) (of_op (item_of z r))) (began (operation t n) (items z log)) (not_of z t n r p.0) (stranger_began z t n log p.1)
 
-kept_other : (t u : Txn) (x : Option Deed) (ds : List Said) → same_txn u t ≡ false → kept (λ v. same_txn v t) (ending_by u x) ds ≡ ds
+pub kept_other : (t u : Txn) (x : Option Deed) (ds : List Said) → same_txn u t ≡ false → kept (λ v. same_txn v t) (ending_by u x) ds ≡ ds
 kept_other t u None ds h = refl
 kept_other t u (Some d) ds h = rw h refl
 
-told_other : (t : Txn) (r : Record) (ds : List Said) → mentions t r ≡ false → kept (λ v. same_txn v t) (ending r) ds ≡ ds
+pub told_other : (t : Txn) (r : Record) (ds : List Said) → mentions t r ≡ false → kept (λ v. same_txn v t) (ending r) ds ≡ ds
 told_other t (records.PageOp u k page slot before after) ds h = refl
 told_other t (records.PageUndo u k undone page slot after) ds h = refl
 told_other t (records.OpEnd u k level deed) ds h = kept_other t u (cond (nat_eq level 1) (deed_in deed) None) ds h
@@ -106,7 +106,7 @@ told_other t (records.Commit u) ds h = refl
 told_other t (records.AbortEnd u) ds h = refl
 told_other t (records.Restart i) ds h = refl
 
-stranger_said : (t : Txn) (log : List Record) → IsStranger t log → deeds (λ v. same_txn v t) log ≡ []
+pub stranger_said : (t : Txn) (log : List Record) → IsStranger t log → deeds (λ v. same_txn v t) log ≡ []
 stranger_said t [] h = refl
 stranger_said t (r ∷ log) h = let p = or_parts (mentions t r) (any_record (mentions t) log) h in told_other t r (deeds (λ v. same_txn v t) log) p.0 ∙ stranger_said t log p.1
 

@@ -1,20 +1,17 @@
 -- What an operation's writes tell of the view that they were made over.
 use Rattle.rq_page.specs.declared.cell.Cell.{Cell}
 use Rattle.rq_page.specs.declared.directory.Directory.{Directory}
-use Rattle.std.proofs.Common.{◌≡◌, ℕ, suc, ◌+◌, ◌<◌, List, [], ◌∷◌, length, map, refl, sym, ap, subst, ◌∙◌, arith, Option, None, Some}
+use Rattle.std.proofs.Common.{◌≡◌, ℕ, ◌+◌, ◌<◌, List, [], ◌∷◌, length, map, sym, ap, subst, ◌∙◌, arith, Option, None, Some}
 use Rattle.rq_views.specs.Chain.{Cells, Node, first, Linked, View, message}
 use Rattle.rq_views.specs.Log.{Slots, put, cell_in, cells_of, Write, HasBefores, Places}
 use Rattle.rq_page.specs.Slots.Slot.{Free, Used, Sender}
 use Rattle.rq_views.specs.Plans.{ShowsAt, with_next, with_prev, append_writes, unlink_head_writes, IsAppend, IsUnlinkHead}
 use Rattle.rq_views.proofs.ChainLaws.{through, used_sender, free_sender, shows_here}
+use Rattle.rq_views.proofs.CanPlan.{length_shown}
 
 append_directory : (l : Places) (q : Slots) (s : ℕ) (d : Directory) (new tag : ℕ) (body : List ℕ) (old : Option Cell) → HasBefores (append_writes l s d new tag body old) q → Sender s d ≡ q (l.directory_at s)
 append_directory l q s d new tag body None f = (through q new _ (Sender s d) (l.directory_at s) (used_sender _ s d) f.0).1
 append_directory l q s d new tag body (Some o) f = (through q new _ (Sender s d) (l.directory_at s) (used_sender _ s d) (through (put q new _) d.tail _ (Sender s d) (l.directory_at s) (used_sender (with_next new o) s d) f.0).1).1
-
-length_shown : (ns : List Node) → length (map message ns) ≡ length ns
-length_shown [] = refl
-length_shown (n ∷ ns) = ap suc (length_shown ns)
 
 pub append_tells : (l : Places) (q : Slots) (ws : List Write) (s n tag previous : ℕ) (body : List ℕ) (v : View) → IsAppend l s n tag previous body ws → HasBefores ws q → ShowsAt l q s v → (previous ≡ v.last_tag) × (n ≡ v.received + length v.messages + 1)
 append_tells l q ws s n tag previous body v p f h =

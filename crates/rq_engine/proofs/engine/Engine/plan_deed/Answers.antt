@@ -7,14 +7,15 @@ use Rattle.rq_page.specs.Sizes.{sender_count}
 use Rattle.rq_planner.specs.Answered.{IsHeldUp, IsPlanFor, IsPlanOf}
 use Rattle.rq_planner.specs.Asked.{Asked, asked_by, asked_sender, doing_sender}
 use Rattle.rq_planner.specs.Asked.Asked.{Do}
+use Rattle.rq_planner.proofs.Replies.{some_is}
+use Rattle.rq_planner.proofs.Options.{some_told}
 use Rattle.rq_engine.specs.Plans.{bare}
-use Rattle.rq_engine.proofs.Leveled.{deed_plan, plan_few, plan_told, some_asked, some_doing}
-use Rattle.rq_engine.proofs.Opened.{some_told}
+use Rattle.rq_engine.proofs.Leveled.{deed_plan, plan_few, plan_told, some_doing}
 use Rattle.rq_engine.proofs.engine.Engine.plan_deed.Goals as goal
 
 pub plan_op-requires-clause-asked : goal.plan_op-requires-clause-asked
 plan_op-requires-clause-asked g c a e =
-    subst (λ (x : Asked). asked_sender x < sender_count c.args.self.now.state.sizes) (some_asked (Do c.requires.asked.doing) a (sym c.requires.asked.is ∙ e)) c.requires.asked.inside
+    subst (λ (x : Asked). asked_sender x < sender_count c.args.self.now.state.sizes) (some_is (Do c.requires.asked.doing) a (sym c.requires.asked.is ∙ e)) c.requires.asked.inside
 
 pub room_of-room-requires : goal.room_of-room-requires
 room_of-room-requires g c =

@@ -5,15 +5,16 @@ use Rattle.rq_page.specs.Sizes.{sender_count}
 use Rattle.rq_planner.specs.Answered.{IsHeldUp, IsPlanBack, IsPlanFor}
 use Rattle.rq_planner.specs.Asked.{Asked, asked_sender, to_undo}
 use Rattle.rq_planner.specs.Asked.Asked.{Undo}
+use Rattle.rq_planner.proofs.Replies.{some_is}
+use Rattle.rq_planner.proofs.Options.{some_told}
 use Rattle.rq_engine.specs.Plans.{bare}
-use Rattle.rq_engine.proofs.Leveled.{some_asked}
-use Rattle.rq_engine.proofs.Opened.{none_told, some_told}
+use Rattle.rq_engine.proofs.Opened.{none_told}
 use Rattle.rq_engine.proofs.engine.Engine.plan_undo.Goals as goal
 
 pub plan_back-requires : goal.plan_back-requires
 plan_back-requires g c a e =
     let asked : to_undo (deed_in c.encode_deed.result) ≡ Some (Undo c.args.done.now.deed) = ap to_undo (ap deed_in c.encode_deed.ensures.spelled ∙ c.requires.reads) in
-    subst (λ (x : Asked). asked_sender x < sender_count c.args.self.now.state.sizes) (some_asked (Undo c.args.done.now.deed) a (sym asked ∙ e)) c.requires.sender
+    subst (λ (x : Asked). asked_sender x < sender_count c.args.self.now.state.sizes) (some_is (Undo c.args.done.now.deed) a (sym asked ∙ e)) c.requires.sender
 
 pub returns-in-Ok-Some-clause-plan : goal.returns-in-Ok-Some-clause-plan
 returns-in-Ok-Some-clause-plan g c =

@@ -5,6 +5,7 @@ use Rattle.rq_groups.specs.Sides.{is_free_end, with_end}
 use Rattle.rq_store.specs.State.{State}
 use Rattle.rq_views.specs.Stored.{slots_in}
 use Rattle.rq_sound.specs.Plans.{AreUnlatched}
+use Rattle.rq_planner.proofs.Options.{some_told}
 use Rattle.rq_engine.specs.Closes.{IsClosePlan, close_latched}
 use Rattle.rq_engine.specs.Answers.{HasNothingUnderWay}
 use Rattle.rq_engine.specs.Sends.{FitsPlan, HasRoom, under_plan}
@@ -12,7 +13,7 @@ use Rattle.rq_engine.proofs.CloseCalls.{close_done, refused}
 use Rattle.rq_engine.proofs.Latches.{close_refused, close_unlatched}
 use Rattle.rq_engine.proofs.Refusals.{no_memory}
 use Rattle.rq_engine.proofs.SendCalls.{has_room}
-use Rattle.rq_engine.proofs.Opened.{none_told, some_told, state_is}
+use Rattle.rq_engine.proofs.Opened.{none_told, state_is}
 use Rattle.rq_engine.proofs.engine.Engine.start_close.Goals as goal
 
 pub start-requires-clause-log : goal.start-requires-clause-log

@@ -5,13 +5,14 @@ use Rattle.rq_engine.specs.Sends.{take_latched}
 use Rattle.rq_engine.proofs.Free.{left_none}
 use Rattle.rq_engine.proofs.Latches.{any_latches, any_unlatched}
 use Rattle.rq_engine.proofs.TakeCalls.{any_refused, log_is_full, none_done}
-use Rattle.rq_engine.proofs.Opened.{none_told, some_told, state_is}
+use Rattle.rq_engine.proofs.Opened.{none_told, state_is}
 use Rattle.rq_model.specs.Causes.{HasCause}
 use Rattle.rq_model.specs.Replay.Reply.{Gave_refusal}
 use Rattle.rq_txn.specs.Rows.{any_under}
 use Rattle.rq_store.specs.State.{State}
 use Rattle.rq_sound.specs.Sound.{IsSound}
 use Rattle.rq_sound.specs.Steps.{Steps}
+use Rattle.rq_planner.proofs.Options.{some_told}
 use Rattle.rq_engine.proofs.engine.Engine.start_receive.Goals as goal
 
 pub returns-in_default-clause-answered : goal.returns-in_default-clause-answered

@@ -7,12 +7,13 @@ use Rattle.rq_store.specs.State.{State}
 use Rattle.rq_engine.specs.Sends.{take_latched}
 use Rattle.rq_engine.proofs.Latches.{from_latched, from_unlatched}
 use Rattle.rq_engine.proofs.TakeCalls.{from_refused, log_is_full, receiver_busy, none_from_done}
-use Rattle.rq_engine.proofs.Opened.{none_told, some_told, state_is}
+use Rattle.rq_engine.proofs.Opened.{none_told, state_is}
 use Rattle.rq_model.specs.Causes.{HasCause}
 use Rattle.rq_model.specs.Replay.Reply.{Gave_sub, Gave_refusal}
 use Rattle.rq_txn.specs.Rows.{any_under}
 use Rattle.rq_sound.specs.Sound.{IsSound}
 use Rattle.rq_sound.specs.Steps.{Steps}
+use Rattle.rq_planner.proofs.Options.{some_told}
 use Rattle.rq_engine.proofs.engine.Engine.start_receive_from.Goals as goal
 
 pub returns-then-not-may_receive-clause-answered : goal.returns-then-not-may_receive-clause-answered

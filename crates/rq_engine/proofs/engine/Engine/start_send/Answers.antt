@@ -11,7 +11,8 @@ use Rattle.rq_views.specs.Stored.{slots_in}
 use Rattle.rq_sound.specs.Plans.{AreUnlatched}
 use Rattle.rq_engine.specs.Sends.{FitsPlan, HasRoom, SendIsLatched, TakesLowest, under_plan}
 use Rattle.rq_store.specs.Plans.{IsSendPlan}
-use Rattle.rq_engine.proofs.Opened.{none_told, some_told, state_is}
+use Rattle.rq_planner.proofs.Options.{some_told}
+use Rattle.rq_engine.proofs.Opened.{none_told, state_is}
 use Rattle.rq_engine.proofs.engine.Engine.start_send.Goals as goal
 
 pub returns-in-Ok-clause-answered : goal.returns-in-Ok-clause-answered

@@ -18,11 +18,12 @@ use Rattle.rq_sound.specs.Steps.{Steps}
 use Rattle.rq_engine.specs.Kept.{IsDoneKept}
 use Rattle.rq_engine.specs.Sends.{HasRoom}
 use Rattle.rq_level.specs.Writes.{AreSlotWrites}
+use Rattle.rq_planner.proofs.Options.{some_told}
 use Rattle.rq_engine.specs.Aborts.{IsTurnedBack, UndoIsLatched, UndoTakesLowest}
 use Rattle.rq_engine.proofs.AbortCalls.{is_newest, may_be_undone, none_done, turned_newest, undo_done, undo_full, undo_refused}
 use Rattle.rq_engine.proofs.Inverses.{cost_is, few_writes}
 use Rattle.rq_engine.proofs.Latches.{memory_latched, undo_latched, undo_unlatched}
-use Rattle.rq_engine.proofs.Opened.{none_told, some_told, state_is}
+use Rattle.rq_engine.proofs.Opened.{none_told, state_is}
 use Rattle.rq_engine.proofs.Refusals.{no_memory}
 use Rattle.rq_engine.proofs.SendCalls.{has_room}
 use Rattle.rq_engine.proofs.engine.Engine.undo_next.Goals as goal

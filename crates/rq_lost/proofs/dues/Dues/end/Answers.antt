@@ -2,8 +2,8 @@ use Rattle.std.proofs.Common.{rules, ap, ◌∙◌, reverse, not}
 use Rattle.std.proofs.lemmas.Fn.{filter_same}
 use Rattle.rq_lost.specs.declared.dues.Due.{Due}
 use Rattle.rq_lost.specs.Dues.{but_own, due_of}
-use Rattle.rq_lost.proofs.Stack.{filter_reverse}
 use Rattle.rq_lost.proofs.dues.Dues.end.Goals as goal
+use Rattle.rq_undone.proofs.Places.{filter_reverse}
 
 pub returns : goal.returns
 returns c =
