@@ -65,6 +65,7 @@ use Rattle.rq_lost.specs.Recovered.IsRecovered.{NoneLost}
 use Rattle.rq_lost.specs.Recovered.IsRecovering.{Undoing}
 use Rattle.rq_restart.proofs.Parsing.{one_log}
 use Rattle.rq_core.specs.Devices.{mem_log, mem_pages}
+use Rattle.rq_core.specs.Worked.{hello}
 use Rattle.rq_cases.specs.Aborts.{close_turned, turned, undone}
 use Rattle.rq_cases.specs.Applied.{Makes, MeetsAll}
 use Rattle.rq_cases.specs.Bounds.{BoundsAreJudged, Closes, Commits, IsFullForClose, IsFullForSend, Sends, just_opened, one_begun, one_committed, only_one, restarts}
@@ -73,7 +74,6 @@ use Rattle.rq_cases.specs.Opened.{over}
 use Rattle.rq_cases.specs.Openings.{Checked, IsRefused}
 use Rattle.rq_cases.specs.Restarting.{read_pages}
 use Rattle.rq_cases.specs.Run.{send_under}
-use Rattle.rq_cases.specs.Sound.{hello}
 use Rattle.rq_cases.specs.Store.{formatted_pages, sizes}
 use Rattle.rq_cases.specs.Worlds.{Hold}
 use Rattle.rq_cases.proofs.Closes.{close_plan}

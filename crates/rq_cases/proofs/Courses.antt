@@ -11,9 +11,10 @@ use Rattle.rq_model.specs.Groups.{group}
 use Rattle.rq_model.specs.Ledger.{Open, found, group_in, ledger, own_takes, rest_in}
 use Rattle.rq_model.specs.Legal.{At, IsLegal, OnFound}
 use Rattle.rq_model.specs.Tests.{Size, free_to_receive, gives, holds_for}
+use Rattle.rq_model.specs.Worked.{txn}
 use Rattle.rq_core.specs.Always.{GivesTo}
 use Rattle.rq_core.specs.Happenings.{Tells}
-use Rattle.rq_core.specs.Worked.{first_entries, txn}
+use Rattle.rq_core.specs.Worked.{first_entries}
 use Rattle.rq_cases.specs.Courses.{CausesAreJudged, FindsNothing, NoneIsJudged, StopsAreJudged, opened, opened_history, took}
 
 told_opened : Tells opened opened_history

@@ -5,6 +5,7 @@ use Rattle.rq_model.specs.History.{Entry}
 use Rattle.rq_model.specs.History.Call.{Force}
 use Rattle.rq_model.specs.Ledger.{ledger}
 use Rattle.rq_model.specs.Promises.{CrashGoesOn}
+use Rattle.rq_model.specs.Worked.{small}
 use Rattle.rq_disk.specs.Device.{Images}
 use Rattle.rq_disk.specs.Memory.{log_count, log_seen as log_device_seen, pages_count}
 use Rattle.rq_disk.specs.Shown.{log_of}
@@ -18,7 +19,7 @@ use Rattle.rq_engine.specs.Devices.Path.{Log, Pages, Start}
 use Rattle.rq_core.specs.Devices.{mem_log, mem_pages}
 use Rattle.rq_core.specs.Happenings.{Happening, MayCrashIt}
 use Rattle.rq_core.specs.Happenings.Happening.{Crashes, Stops_in}
-use Rattle.rq_core.specs.Worked.{first_entries, small}
+use Rattle.rq_core.specs.Worked.{first_entries}
 use Rattle.rq_cases.specs.Crashes.{CrashesAreJudged, MayFail, RunsAreJudged}
 use Rattle.rq_cases.specs.Run.{committed, forced, log_1, log_5}
 use Rattle.rq_cases.specs.Store.{formatted_pages, sent_pages}
@@ -26,7 +27,8 @@ use Rattle.rq_cases.specs.Worlds.{Hold, course_to}
 use Rattle.rq_cases.proofs.Bytes.{short_log}
 use Rattle.rq_cases.proofs.Held.{log_left, log_now}
 use Rattle.rq_cases.proofs.Pages.{range}
-use Rattle.rq_cases.proofs.Worlds.{cuts, forced_is_left, leaves_store, legal_crash, page_left, some_pages, told_9, whole}
+use Rattle.rq_cases.proofs.Worlds.{cuts, forced_is_left, leaves_store, legal_crash, page_left, some_pages, told_9}
+use Rattle.rq_cases.proofs.Restarting.{whole_5}
 
 -- what a run goes through
 module _ (Q : Images → List ℕ → Type 0) where
@@ -100,7 +102,7 @@ module _ (goes : CrashGoesOn small) where
     leaves = λ images bytes a b. (
       log_5,
       leaves_store pages log h images bytes a b,
-      goes (first_entries 9) [] log_5 legal_crash.1 ties whole.rules (omega arith) (omega arith),
+      goes (first_entries 9) [] log_5 legal_crash.1 ties whole_5.rules (omega arith) (omega arith),
     );
   }
 

@@ -42,13 +42,9 @@ use Rattle.rq_restart.proofs.Paths.{kept, kept_extends, kept_spelled, older_spel
 use Rattle.rq_model.specs.Commits.{committed_of}
 use Rattle.rq_model.specs.Ledger.{Done}
 use Rattle.rq_model.proofs.Cuts.{extends_commits}
-use Rattle.rq_cases.proofs.Restarting.{begun_commit, formatted_fit, is_restart, made_there, no_cell_lsn, open_4, pages_seen_are, same_log}
+use Rattle.rq_cases.proofs.Restarting.{begun_commit, formatted_fit, is_restart, made_there, no_cell_lsn, open_4, pages_seen_are, same_log, rest_of}
 use Rattle.rq_cases.proofs.Running as running
 use Rattle.rq_cases.proofs.Worlds.{leaves_store, shuts, shuts_with_less}
-
-abbrev rest_of : List Record → List Record
-rest_of [] = []
-rest_of (r ∷ rs) = rs
 
 abbrev begins : List Record → ℕ
 begins (Restart i ∷ log) = i

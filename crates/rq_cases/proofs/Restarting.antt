@@ -68,7 +68,7 @@ not_left d new n l =
 pub same_log : (a b : List Record) → IsEnded a → a ≡ b → IsEnded b
 same_log a b h e = subst IsEnded e h
 
-abbrev rest_of : List Record → List Record
+abbrev pub rest_of : List Record → List Record
 rest_of [] = []
 rest_of (r ∷ rs) = rs
 

@@ -12,6 +12,7 @@ use Rattle.rq_model.specs.Words.Op.{Send}
 use Rattle.rq_model.proofs.Told.{content_is}
 use Rattle.rq_model.specs.History.Call.{Force}
 use Rattle.rq_model.specs.Replay.Reply.{Gave_forced}
+use Rattle.rq_model.specs.Worked.{txn, small}
 use Rattle.rq_core.specs.Happenings.Answer.{Answered}
 use Rattle.rq_core.specs.Happenings.Happening.{Asks}
 use Rattle.rq_disk.specs.Device.{Images, Leaves}
@@ -22,7 +23,6 @@ use Rattle.rq_disk.specs.declared.mem_pages.MemPages.{MemPages}
 use Rattle.rq_log.specs.Spelled.{AreSpelled, spelled}
 use Rattle.rq_page.specs.Pages.{lsn_of}
 use Rattle.rq_store.specs.Fitting.{FitsLog, FitsPage, image_in}
-use Rattle.rq_store.specs.Whole.{IsWhole}
 use Rattle.rq_store.specs.State.{State}
 use Rattle.rq_store.specs.Steps.{Continues}
 use Rattle.rq_store.proofs.Cutting.{fits_log, fits_log_longer, whole_dropped}
@@ -37,7 +37,7 @@ use Rattle.rq_core.specs.Devices.{mem_log, mem_pages}
 use Rattle.rq_core.specs.Happenings.{Course, Tells}
 use Rattle.rq_core.specs.Headline.{LeavesStores}
 use Rattle.rq_core.specs.Runs.{IsHeadline, Ran}
-use Rattle.rq_core.specs.Worked.{first_entries, hello, small, txn}
+use Rattle.rq_core.specs.Worked.{first_entries, hello}
 use Rattle.rq_core.specs.World.World.{Is_open, Is_shut}
 use Rattle.rq_core.proofs.Arms.{open_ends, shut_ends}
 use Rattle.rq_cases.specs.Opened.{AreNewPages, IsNewLog, over}
@@ -48,7 +48,7 @@ use Rattle.rq_cases.proofs.Bytes.{first_spelled, records_spelled, short_log}
 use Rattle.rq_cases.proofs.Held.{leaves_beginning, log_left, only_records, pages_fit, pages_now}
 use Rattle.rq_cases.proofs.Pages.{are_formatted, range}
 use Rattle.rq_cases.proofs.Running as running
-use Rattle.rq_cases.proofs.Restarting.{group_lsn}
+use Rattle.rq_cases.proofs.Restarting.{group_lsn, whole_5}
 
 -- the worked courses tell their histories
 told_7 : Tells (course_to 7) (first_entries 7)
@@ -169,9 +169,6 @@ formatted_fit log c =
     fits_log_longer sizes (image_in formatted_pages) [] log c
     (formatted_fits sizes (image_in formatted_pages) range are_formatted)
 
-pub whole : IsWhole sizes log_5
-whole = running.commit_send.sound.log
-
 cut_first : IsCut committed (image_in formatted_pages) (spelled log_1)
 cut_first = record {
   lost = 4;
@@ -179,9 +176,9 @@ cut_first = record {
   incarnation = omega arith;
   told = first_spelled;
   spells = refl;
-  store = record { whole = whole_dropped sizes 4 log_5 whole; fits = formatted_fit log_1 (1, refl) };
+  store = record { whole = whole_dropped sizes 4 log_5 whole_5; fits = formatted_fit log_1 (1, refl) };
   durable = omega arith;
-  content = λ g. content_is g log_1 (whole_dropped sizes 4 log_5 whole).rules ∙ ap (λ c. group_in c g) (sym (commits_of_cut 4 log_5));
+  content = λ g. content_is g log_1 (whole_dropped sizes 4 log_5 whole_5).rules ∙ ap (λ c. group_in c g) (sym (commits_of_cut 4 log_5));
 }
 
 cut_all : IsCut committed (image_in formatted_pages) (spelled log_5)
@@ -191,9 +188,9 @@ cut_all = record {
   incarnation = omega arith;
   told = records_spelled;
   spells = refl;
-  store = record { whole = whole; fits = formatted_fit log_5 (5, refl) };
+  store = record { whole = whole_5; fits = formatted_fit log_5 (5, refl) };
   durable = omega arith;
-  content = λ g. content_is g log_5 whole.rules ∙ ap (λ c. group_in c g) (sym (commits_of_cut 0 log_5));
+  content = λ g. content_is g log_5 whole_5.rules ∙ ap (λ c. group_in c g) (sym (commits_of_cut 0 log_5));
 }
 
 -- how many records are left where these bytes are

@@ -28,13 +28,13 @@ use Rattle.rq_engine.specs.declared.event.CommitNo.{CommitNo}
 use Rattle.rq_engine.specs.declared.event.Event.TheVariants as event
 use Rattle.rq_engine.specs.declared.event.Reply.TheVariants as reply
 use Rattle.rq_views.specs.WorkedItems.{t1}
+use Rattle.rq_core.specs.Worked.{hello}
 use Rattle.rq_cases.specs.Aborts.{close_turned, turned, undone}
 use Rattle.rq_cases.specs.Applied.{Makes, MeetsAll}
 use Rattle.rq_cases.specs.Opened.{over}
 use Rattle.rq_cases.specs.Openings.{Checked, IsRefused}
 use Rattle.rq_cases.specs.Restarting.{read_pages}
 use Rattle.rq_cases.specs.Run.{send_started}
-use Rattle.rq_cases.specs.Sound.{hello}
 use Rattle.rq_cases.specs.Store.{formatted_pages, sizes}
 use Rattle.rq_cases.specs.Worlds.{Hold}
 

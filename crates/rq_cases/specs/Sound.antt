@@ -1,7 +1,6 @@
 -- The worked run: each of its states is sound, each call a step of the model; and what is not so of its transactions.
-use Rattle.std.specs.Prelude.{◌≡◌, ℕ, ◌<◌, List, [], ◌∷◌, length}
+use Rattle.std.specs.Prelude.{◌≡◌, ℕ, ◌<◌, List, length}
 use Rattle.rq_bytes.specs.Number.{AreBytes}
-use Rattle.rq_model.specs.declared.message.Message.{Message}
 use Rattle.rq_model.specs.History.Call.{Begin, Commit, Finish, Force, Start_receive, Start_send, Step}
 use Rattle.rq_model.specs.Replay.Reply.{Gave_commit, Gave_forced, Gave_lsn, Gave_message, Gave_sent, Gave_sub, Gave_txn}
 use Rattle.rq_views.specs.WorkedItems.{t1, t2}
@@ -9,11 +8,9 @@ use Rattle.rq_store.specs.Fitting.{image_in}
 use Rattle.rq_sound.specs.Sound.{IsSound}
 use Rattle.rq_sound.specs.Steps.{Steps}
 use Rattle.rq_store.specs.Worked.{AreFormatted}
+use Rattle.rq_core.specs.Worked.{hello}
 use Rattle.rq_cases.specs.Store.{sizes, formatted_pages}
 use Rattle.rq_cases.specs.Run as run
-
-abbrev pub hello : Message
-hello = record { sender = 0; tag = 7; body = 104 ∷ [] }
 
 -- 4,096 bytes
 abbrev pub IsImageOfPage : List ℕ → Type 0

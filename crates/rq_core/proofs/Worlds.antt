@@ -1,8 +1,7 @@
 -- Each kind of happening keeps what is so of a store between two of them.
 use Rattle.std.specs.Prelude.{◌==◌, if◌then◌else◌}
-use Rattle.std.proofs.Common.{Bool, ◌≢◌, ◌≡◌, ℕ, ◌+◌, List, [], ◌∷◌, ◌++◌, length, take, drop, refl, sym, ◌∙◌, ap, subst, true, false, Some, arith, append_assoc, inl, inr, ◌⊎◌}
+use Rattle.std.proofs.Common.{Bool, ◌≡◌, ℕ, ◌+◌, List, [], ◌∷◌, ◌++◌, length, take, drop, refl, sym, ◌∙◌, ap, subst, true, false, Some, arith, append_assoc, inl, inr, ◌⊎◌}
 use Rattle.std.proofs.lemmas.Bool.{cases_eq}
-use Rattle.std.proofs.lemmas.Bool.Decides.{nat_tests}
 use Rattle.std.proofs.lemmas.List.{take-append-drop, length-drop}
 use Rattle.rq_model.specs.declared.record.Record.{Record}
 use Rattle.rq_model.specs.declared.refusal.Refusal.{Refusal}
@@ -23,6 +22,7 @@ use Rattle.rq_disk.specs.Device.{Images, Leaves}
 use Rattle.rq_disk.specs.Records.{HoldsRecords}
 use Rattle.rq_disk.specs.declared.device.LogDevice as log_device
 use Rattle.rq_disk.specs.declared.device.PageDevice as page_device
+use Rattle.rq_disk.specs.Memory.{if_yes, if_no}
 use Rattle.rq_log.specs.Spelled.{spelled, AreSpelled}
 use Rattle.rq_page.specs.Sizes.{Sizes, IsInRange}
 use Rattle.rq_pool.specs.Reading.{IsSuperblock}
@@ -60,12 +60,6 @@ use Rattle.rq_core.specs.World.World.{Is_shut, Is_open}
 not_shut : (failed : _) → phase_of failed ≡ Shut → ⊥
 not_shut false e = cc e
 not_shut true e = cc e
-
-if_yes : (p q : ℕ) (a b : List ℕ) → p ≡ q → (if p == q then a else b) ≡ a
-if_yes p q a b is = grind (arith, nat_tests)
-
-if_no : (p q : ℕ) (a b : List ℕ) → p ≢ q → (if p == q then a else b) ≡ b
-if_no p q a b other = grind (arith, nat_tests)
 
 -- a store that is open and stands where a history ends, but that a device may have failed since
 pub record StandsAt (h : List Entry) (s : State) : Type 0 where

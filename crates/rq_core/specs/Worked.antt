@@ -1,6 +1,5 @@
 -- Worked courses: the history that one tells, and courses and histories that are refused.
 use Rattle.std.specs.Prelude.{ℕ, List, [], ◌∷◌, Some, None, true, false, take}
-use Rattle.rq_model.specs.declared.txn.Txn.{Txn}
 use Rattle.rq_model.specs.declared.message.Message.{Message}
 use Rattle.rq_model.specs.declared.refusal.Refusal.TheVariants.{DiskWrite, Failed, Damaged, Latched, NoMemory}
 use Rattle.rq_model.specs.declared.refusal.Damage.TheVariants as damage
@@ -10,18 +9,12 @@ use Rattle.rq_model.specs.History.Call.{Begin, Start_send, Step, Finish, Commit 
 use Rattle.rq_model.specs.History.Job.{Sending, Taking}
 use Rattle.rq_model.specs.History.Entry.{Begun, Started, Stepped, Did, Committed, Acknowledged, Forced, Shown, None_free, Refused as Refused_entry, Crash as Crash_entry, Restarted as Restarted_entry}
 use Rattle.rq_model.specs.Legal.{IsLegal}
-use Rattle.rq_model.specs.Tests.{Size}
 use Rattle.rq_model.specs.Replay.{Number}
 use Rattle.rq_model.specs.Replay.Reply.{Gave_txn, Gave_sub, Gave_commit, Gave_receipt, Gave_lsn, Gave_forced, Gave_sent, Gave_refusal}
+use Rattle.rq_model.specs.Worked.{txn, small}
 use Rattle.rq_core.specs.Happenings.{Happening, Answer, Report, Course, Tells}
 use Rattle.rq_core.specs.Happenings.Happening.{Asks, Acknowledges, Fails, Crashes, Stops_in, Restarts, Stops_restart}
 use Rattle.rq_core.specs.Happenings.Answer.{Answered, Crashed, Restarted, Refused, Running, Nothing}
-
-abbrev pub txn : ℕ → ℕ → Txn
-txn i c = record { incarnation = i; count = c }
-
-abbrev pub small : Size
-small = record { senders = 15; cells = 15 }
 
 abbrev pub hello : Message
 hello = record { sender = 0; tag = 7; body = 104 ∷ [] }

@@ -16,6 +16,7 @@ use Rattle.rq_disk.specs.declared.device.PageDevice as page_device
 use Rattle.rq_model.specs.History.{Call}
 use Rattle.rq_sound.specs.Sound.{IsSound}
 use Rattle.rq_sound.specs.Steps.{Steps}
+use Rattle.rq_sound.specs.Calls.{next_txn}
 use Rattle.rq_engine.specs.Answers.{AnswersLegally, HasNothingUnderWay}
 use Rattle.rq_engine.specs.Opened.{AreHonest, OpenStore}
 use Rattle.rq_engine.specs.Aborts.{UndoSays}
@@ -27,11 +28,7 @@ use Rattle.rq_engine.specs.declared.event.Event.{Event}
 use Rattle.rq_engine.specs.declared.event.Event.TheVariants as event
 use Rattle.rq_engine.specs.declared.event.Reply.{Reply}
 
--- a transaction that was begun
-abbrev pub next_of : State → Txn
-next_of s = record { incarnation = s.incarnation; count = s.begins + 1 }
-
-pub begun_lists : (s : State) → IsBegun s (next_of s) (record s { rows = fresh_row (next_of s) ∷ s.rows; begins = s.begins + 1 })
+pub begun_lists : (s : State) → IsBegun s (next_txn s) (record s { rows = fresh_row (next_txn s) ∷ s.rows; begins = s.begins + 1 })
 begun_lists s = record { number = refl; lists = refl }
 
 -- one that was committed

@@ -11,16 +11,14 @@ use Rattle.rq_views.specs.Stored.{is_used, slots_in}
 use Rattle.rq_groups.specs.declared.Held.{Held}
 use Rattle.rq_groups.specs.Ends.{HeldEnds, is_free_for, is_held}
 use Rattle.rq_groups.specs.Waiting.{waits}
+use Rattle.rq_engine.proofs.Free.{IsFree}
 
 -- ---- senders
-
-abbrev IsNext : List ℕ → List Held → ℕ → ℕ → Type 0
-IsNext ws hs from s = (from ≤ s) × (s < length ws) × (1 ≤ waits ws s) × (is_held s hs ≡ false) × ((t : ℕ) → from ≤ t → t < s → is_held t hs ≡ false → waits ws t ≡ 0)
 
 abbrev NoNext : List ℕ → List Held → ℕ → Type 0
 NoNext ws hs from = (t : ℕ) → from ≤ t → is_held t hs ≡ false → waits ws t ≡ 0
 
-next_one : (ws : List ℕ) (hs : List Held) (from : ℕ) (p q : Option ℕ) → IfSome p (IsNext ws hs from) → IfNone p (NoNext ws hs from) → IfSome q (IsNext ws hs from) → IfNone q (NoNext ws hs from) → p ≡ q
+next_one : (ws : List ℕ) (hs : List Held) (from : ℕ) (p q : Option ℕ) → IfSome p (IsFree ws hs from) → IfNone p (NoNext ws hs from) → IfSome q (IsFree ws hs from) → IfNone q (NoNext ws hs from) → p ≡ q
 next_one ws hs from None None f n g m = refl
 next_one ws hs from None (Some b) f n g m = absurd (let z = n b g.0 g.3 in let o = g.2 in omega (arith, z, o))
 next_one ws hs from (Some a) None f n g m = absurd (let z = m a f.0 f.3 in let o = f.2 in omega (arith, z, o))
@@ -35,10 +33,10 @@ next_one ws hs from (Some a) (Some b) f n g m = elim (cases_lt a b) [
 
 -- the next sender that is free is one
 pub next_same : (ws vs : List ℕ) (h g : HeldEnds) (from : ℕ) (p q : Option ℕ) → ws ≡ vs → h ≡ g
-    → IfSome p (IsNext ws h.receiving from) → IfNone p (NoNext ws h.receiving from) → IfSome q (IsNext vs g.receiving from) → IfNone q (NoNext vs g.receiving from) → p ≡ q
+    → IfSome p (IsFree ws h.receiving from) → IfNone p (NoNext ws h.receiving from) → IfSome q (IsFree vs g.receiving from) → IfNone q (NoNext vs g.receiving from) → p ≡ q
 next_same ws vs h g from p q is are f n k m =
     next_one ws h.receiving from p q f n
-    (subst (λ (v : List ℕ). IfSome q (IsNext v h.receiving from)) (sym is) (subst (λ (e : HeldEnds). IfSome q (IsNext vs e.receiving from)) (sym are) k))
+    (subst (λ (v : List ℕ). IfSome q (IsFree v h.receiving from)) (sym is) (subst (λ (e : HeldEnds). IfSome q (IsFree vs e.receiving from)) (sym are) k))
     (subst (λ (v : List ℕ). IfNone q (NoNext v h.receiving from)) (sym is) (subst (λ (e : HeldEnds). IfNone q (NoNext vs e.receiving from)) (sym are) m))
 
 abbrev Gives : List ℕ → List Held → Txn → ℕ → Type 0

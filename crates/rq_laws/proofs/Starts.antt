@@ -12,7 +12,7 @@ use Rattle.rq_page.specs.declared.cell.Cell.{Cell}
 use Rattle.rq_page.specs.declared.directory.Directory.{Directory}
 use Rattle.rq_page.specs.Sizes.{Sizes, IsCellAddress}
 use Rattle.rq_page.specs.Slots.Slot.{Free}
-use Rattle.rq_views.specs.Items.{layout_of}
+use Rattle.rq_views.specs.Items.{layout_of, operation}
 use Rattle.rq_views.specs.Log.{Slots, Write}
 use Rattle.rq_views.specs.Plans.{append_writes, unlink_head_writes, directory_write}
 use Rattle.rq_views.specs.Stored.{slots_in}
@@ -60,15 +60,12 @@ told_same z u v n w m a =
 
 -- ---- one operation is next
 
-abbrev pub sub_of : Txn → ℕ → Sub
-sub_of t n = record { txn = t; number = n }
-
 next_same : (n m : ℕ) (o : Option Row) → OnFound o (λ r. (r.under ≡ None) × (n ≡ r.number + 1)) → OnFound o (λ r. (r.under ≡ None) × (m ≡ r.number + 1)) → n ≡ m
 next_same n m None p q = absurd p
 next_same n m (Some r) p q = p.1 ∙ sym q.1
 
 sub_same : (s : State) (a b : Sub) → a.txn ≡ b.txn → HasNothingUnderWay s a.txn a.number → HasNothingUnderWay s b.txn b.number → a ≡ b
-sub_same s a b e p q = ap₂ sub_of e (next_same a.number b.number (found_row b.txn s.rows) (subst (λ t. HasNothingUnderWay s t a.number) e p) q)
+sub_same s a b e p q = ap₂ operation e (next_same a.number b.number (found_row b.txn s.rows) (subst (λ t. HasNothingUnderWay s t a.number) e p) q)
 
 abbrev pub rowless : State → State
 rowless s = record s { rows = [] }

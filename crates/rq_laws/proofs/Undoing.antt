@@ -13,7 +13,7 @@ use Rattle.rq_page.specs.declared.cell.Cell.{Cell}
 use Rattle.rq_page.specs.declared.directory.Directory.{Directory}
 use Rattle.rq_page.specs.Sizes.{Sizes}
 use Rattle.rq_page.specs.Slots.Slot.{Free}
-use Rattle.rq_views.specs.Items.{layout_of}
+use Rattle.rq_views.specs.Items.{layout_of, operation}
 use Rattle.rq_views.specs.Log.{Slots}
 use Rattle.rq_views.specs.Plans.{unlink_tail_writes, put_back_writes, directory_write}
 use Rattle.rq_views.specs.Plans.Turn.{Undid}
@@ -30,7 +30,7 @@ use Rattle.rq_planner.proofs.Replies.{first_new}
 use Rattle.rq_engine.specs.Aborts.{IsTurnedBack, IsUndoPlan, IsUndoStarted, UndoSays}
 use Rattle.rq_laws.specs.Alike.{AreAlike, row_told, under_told}
 use Rattle.rq_laws.proofs.Slots.{sender_same}
-use Rattle.rq_laws.proofs.Starts.{beside_same, lowest_same, rowless, rows_alike, same_alike, sub_of, told_same}
+use Rattle.rq_laws.proofs.Starts.{beside_same, lowest_same, rowless, rows_alike, same_alike, told_same}
 use Rattle.rq_laws.proofs.Ending.{some_none}
 
 -- the writes of an inverse
@@ -79,7 +79,7 @@ undo_says old t None (Some b) x y f h = absurd (some_none h.1.done (sym (turned 
 undo_says old t (Some a) None x y f h = absurd (some_none f.1.done (turned old a.txn t _ _ _ _ f.0 f.1.ready h.0.1).1)
 undo_says old t (Some a) (Some b) x y f h =
     let w = turned old a.txn b.txn _ _ _ _ (f.0 ∙ sym h.0) f.1.ready h.1.ready in
-    let e : a ≡ b = ap₂ sub_of (f.0 ∙ sym h.0) w.0 in
+    let e : a ≡ b = ap₂ operation (f.0 ∙ sym h.0) w.0 in
     let k : IsUndoStarted old a y = subst (λ c. IsUndoStarted old c y) (sym e) h.1 in
     let again = turned old a.txn a.txn _ _ _ _ refl f.1.ready k.ready in
     (ap Some e, both_started old a x y f.1 k (same_Some _ _ again.1))

@@ -19,6 +19,7 @@ use Rattle.rq_store.specs.State.{State}
 use Rattle.rq_store.proofs.Placed.{placed_more}
 use Rattle.rq_store.proofs.RowLists.{found_in}
 use Rattle.rq_sound.specs.Sound.{IsSound}
+use Rattle.rq_sound.proofs.UndoStarts.{txns}
 use Rattle.rq_lost.specs.declared.dues.Due.{Due}
 use Rattle.rq_lost.specs.Choices.{AreLost, least_free, lesser_in}
 use Rattle.rq_lost.specs.Dues.{any_due, due_of, dues, finished_due}
@@ -29,10 +30,6 @@ use Rattle.rq_lost.specs.Turns.{EndsNext, TakesBackNext}
 use Rattle.rq_lost.proofs.Owing.{first_due, own_dues, placed_due}
 use Rattle.rq_lost.proofs.Turning.{nil_or, split_last}
 use Rattle.rq_undone.proofs.Noting.{filter_twice}
-
--- the rows of all, by their transactions
-abbrev txns : List Row → List Txn
-txns rows = map (λ r. r.txn) rows
 
 txns_changed : (t : Txn) (f : Row → Row) (rows : List Row) → ((r : Row) → (f r).txn ≡ r.txn) → txns (change_row t f rows) ≡ txns rows
 txns_changed t f [] same = refl

@@ -35,7 +35,7 @@ Reader-and {A} {B} {C} {p = p} {S = S} {V = V} {make = make} k T W first second 
       ap (λ (r : Result (A × List ℕ) Stop). r >>= k) one ∙ (second ab.0).again ab.1 is.1;
 }
 
-abbrev plain : List ℕ → List ℕ
+abbrev pub plain : List ℕ → List ℕ
 plain xs = xs
 
 Reader-body : {C : Type 0} (make : List ℕ → C) → Reader (λ rest. cond (leb (length rest) 216) (Ok (make rest)) (Err Bad)) make plain IsBody

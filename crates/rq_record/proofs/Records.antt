@@ -11,6 +11,7 @@ use Rattle.rq_bytes.specs.Number.{AreBytes, number}
 use Rattle.rq_record.specs.Reading.{bytes_at, number_at, positive_at, byte_between, txn_at, page_op_at, page_undo_at, op_end_at, op_void_at, comp_end_at, commit_at, restart_at, abort_end_at}
 use Rattle.rq_bytes.proofs.Strings.{length-number}
 use Rattle.rq_record.proofs.Readers.{Field, Reads, also, both, Some-of, pair, Reads-and, Reads-last, Reads-field, Field-bytes, Field-number, Field-positive, Field-byte, AreBytes-zeros}
+use Rattle.rq_record.proofs.DeedParts.{plain}
 
 -- ---- fields that stand in many records
 
@@ -31,9 +32,6 @@ IsTxn txn = IsTxnInRange txn × FitsTxn txn
 
 abbrev byte : ℕ → List ℕ
 byte b = b ∷ []
-
-abbrev plain : List ℕ → List ℕ
-plain xs = xs
 
 some_positive : Some-of IsPositive
 some_positive = (1, (omega arith, omega arith))

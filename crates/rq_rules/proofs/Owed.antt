@@ -9,6 +9,7 @@ use Rattle.rq_model.specs.Content.{has_end}
 use Rattle.rq_model.specs.Unended.{any_record}
 use Rattle.rq_model.specs.Words.{In, first, same_txn}
 use Rattle.rq_model.proofs.Lists.{In-filter, same_is}
+use Rattle.rq_views.proofs.AllOpen.{tail}
 use Rattle.rq_lost.specs.declared.dues.Due.{Due}
 use Rattle.rq_lost.specs.Dues.{but_newest, but_own, due_of, dues}
 use Rattle.rq_undone.proofs.Noting.{filter_twice, filter_same}
@@ -18,10 +19,6 @@ use Rattle.rq_rules.proofs.Lists.{first_in, first_split}
 
 abbrev pub lsn_of : Due → ℕ
 lsn_of d = d.lsn
-
-abbrev rest : {X : Type 0} → List X → List X
-rest [] = []
-rest (x ∷ xs) = xs
 
 abbrev pub is_left : Txn → List Record → ℕ → Bool
 is_left t log n = not (any_record (takes_back t n) log)
@@ -97,18 +94,18 @@ but n m (k ∷ ns) le h =
     let other : nat_eq n k ≡ false = ne_eqb n k (λ e. absurd (omega (arith, e, lt, le))) in
     rw other (ap (λ l. k ∷ l) (but n k ns (omega (arith, lt, le)) h.1))
 
-but_first : (n : ℕ) (ms : List ℕ) (m : ℕ) → AreBelow n ms → first ms ≡ Some m → filter (λ k. not (nat_eq m k)) ms ≡ rest ms
+but_first : (n : ℕ) (ms : List ℕ) (m : ℕ) → AreBelow n ms → first ms ≡ Some m → filter (λ k. not (nat_eq m k)) ms ≡ tail ms
 but_first n ms m h e =
     let k = first_split ms m e in
     let b : AreBelow n (m ∷ k.0) = subst (AreBelow n) k.1 h in
     let own : nat_eq m m ≡ true = eq-eqb m m refl in
-    ap (filter (λ q. not (nat_eq m q))) k.1 ∙ rw own (but m m k.0 (omega arith) b.1) ∙ ap rest (sym k.1)
+    ap (filter (λ q. not (nat_eq m q))) k.1 ∙ rw own (but m m k.0 (omega arith) b.1) ∙ ap tail (sym k.1)
 
 -- what is due of a transaction
 apart : (u t : Txn) → same_txn u t ≡ false → (d : Due) → due_of u d ≡ true → due_of t d ≡ false
 apart u t n d e = ap (λ v. same_txn v t) (same_is d.txn u e) ∙ n
 
-own_newest : (t : Txn) (ds : List Due) → filter (due_of t) (but_newest t ds) ≡ rest (filter (due_of t) ds)
+own_newest : (t : Txn) (ds : List Due) → filter (due_of t) (but_newest t ds) ≡ tail (filter (due_of t) ds)
 own_newest t [] = refl
 own_newest t (d ∷ ds) = elim (cases_Bool (due_of t d)) [
   | inl y ↦ rw y refl
@@ -129,7 +126,7 @@ other_own t u (d ∷ ds) off = elim (cases_Bool (due_of u d)) [
   | inr n ↦ elim (cases_Bool (due_of t d)) [ inl a ↦ rw (n, a) (ap (λ l. d ∷ l) (other_own t u ds off)) | inr b ↦ rw (n, b) (other_own t u ds off) ]
 ]
 
-map_rest : (ds : List Due) → map lsn_of (rest ds) ≡ rest (map lsn_of ds)
+map_rest : (ds : List Due) → map lsn_of (tail ds) ≡ tail (map lsn_of ds)
 map_rest [] = refl
 map_rest (d ∷ ds) = refl
 
@@ -155,7 +152,7 @@ dues_kept (records.CompEnd u n lsn ∷ log) f t g = elim (cases_Bool (same_txn u
   | inl y ↦
       let is : u ≡ t = same_is u t y in
       let named : first (left_of t log) ≡ Some lsn = ap (λ (v : Txn). first (left_of v log)) (sym is) ∙ f.0.takes_back in
-      ap (λ (v : Txn). map lsn_of (filter (due_of t) (but_newest v (dues log)))) is ∙ ap (map lsn_of) (own_newest t (dues log)) ∙ map_rest (filter (due_of t) (dues log)) ∙ ap rest (dues_kept log f.1 t g)
+      ap (λ (v : Txn). map lsn_of (filter (due_of t) (but_newest v (dues log)))) is ∙ ap (map lsn_of) (own_newest t (dues log)) ∙ map_rest (filter (due_of t) (dues log)) ∙ ap tail (dues_kept log f.1 t g)
       ∙ sym (but_first (length log + 1) (left_of t log) lsn (below_filter (is_left t log) (length log + 1) (ends_of t log) (ends_below t log)) named)
       ∙ taken_own u t lsn log y
   | inr m ↦ ap (map lsn_of) (other_newest t u (dues log) m) ∙ dues_kept log f.1 t g ∙ taken_other u t lsn log m

@@ -11,16 +11,14 @@ use Rattle.rq_model.proofs.Lists.{In-filter}
 use Rattle.rq_views.specs.Log.{same_op}
 use Rattle.rq_views.specs.Items.{operation}
 use Rattle.rq_views.proofs.Overlay.{same_is as op_is}
+use Rattle.rq_views.proofs.AllOpen.{tail}
 use Rattle.rq_undone.specs.declared.history.Spot.{Spot}
 use Rattle.rq_undone.specs.Analysis.{analysis, spot_at, spot_of, without_newest, without_spots}
 use Rattle.rq_undone.proofs.Lists as undone
 use Rattle.rq_undone.proofs.Noting.{filter_twice, filter_same}
-use Rattle.rq_undone.proofs.Spots.{apart}
+use Rattle.rq_undone.proofs.Spots.{apart, spots}
 use Rattle.rq_rules.specs.Rules.{FollowAll, has_op_end, standing, undoes, writes_of}
 use Rattle.rq_rules.proofs.Lists.{first_in, first_split}
-
-abbrev spots : List Record → List Spot
-spots log = (analysis log).spots
 
 abbrev pub stands : Sub → List Record → Spot → Bool
 stands o log p = not (any_record (undoes o p.lsn) log)
@@ -101,12 +99,12 @@ all_but n ps h = but n n ps (omega arith) h where
       let other : nat_eq n p.lsn ≡ false = ne_eqb n p.lsn (λ e. absurd (omega (arith, e, lt, le))) in
       rw other (ap (λ l. p ∷ l) (but n p.lsn ps (omega (arith, lt, le)) h.1))
 
-but_first : (n : ℕ) (qs : List Spot) (p : Spot) → AreBelow n qs → first qs ≡ Some p → filter (λ q. not (nat_eq p.lsn q.lsn)) qs ≡ undone.rest qs
+but_first : (n : ℕ) (qs : List Spot) (p : Spot) → AreBelow n qs → first qs ≡ Some p → filter (λ q. not (nat_eq p.lsn q.lsn)) qs ≡ tail qs
 but_first n qs p h e =
     let k = first_split qs p e in
     let b : AreBelow n (p ∷ k.0) = subst (AreBelow n) k.1 h in
     let own : nat_eq p.lsn p.lsn ≡ true = eq-eqb p.lsn p.lsn refl in
-    ap (filter (λ q. not (nat_eq p.lsn q.lsn))) k.1 ∙ rw own (all_but p.lsn k.0 b.1) ∙ ap (undone.rest) (sym k.1)
+    ap (filter (λ q. not (nat_eq p.lsn q.lsn))) k.1 ∙ rw own (all_but p.lsn k.0 b.1) ∙ ap tail (sym k.1)
 
 ended_other : (u o : Sub) (log : List Record) → same_op u o ≡ false → filter (spot_of o) (without_spots u (spots log)) ≡ filter (spot_of o) (spots log)
 ended_other u o log n = undone.other_none (spot_of o) u (spots log) (apart u o n)
@@ -133,7 +131,7 @@ spots_kept (records.PageUndo t n lsn page slot after ∷ log) f o g = elim (case
   | inl y ↦
       let is : operation t n ≡ o = op_is (operation t n) o y in
       let named : first (standing o log) ≡ Some (spot_at lsn (operation t n) page slot after) = ap (λ (u : Sub). first (standing u log)) (sym is) ∙ f.0.undoes in
-      ap (λ (u : Sub). filter (spot_of o) (without_newest u (spots log))) is ∙ undone.own_newest o (spots log) ∙ ap (undone.rest) (spots_kept log f.1 o g)
+      ap (λ (u : Sub). filter (spot_of o) (without_newest u (spots log))) is ∙ undone.own_newest o (spots log) ∙ ap tail (spots_kept log f.1 o g)
       ∙ sym (but_first (length log + 1) (standing o log) (spot_at lsn (operation t n) page slot after) (below_filter (stands o log) (length log + 1) (writes_of o log) (writes_below o log)) named)
       ∙ undone_own (operation t n) o lsn log y
   | inr m ↦ undone.other_newest (spot_of o) (operation t n) (spots log) (apart (operation t n) o m) ∙ spots_kept log f.1 o g ∙ undone_one (operation t n) o lsn log m

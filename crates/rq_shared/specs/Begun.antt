@@ -1,26 +1,12 @@
 -- What a sharing began with, and how the calls whose entries were taken led on from there.
-use Rattle.std.specs.Prelude.{◌≡◌, ℕ, List, [], length}
+use Rattle.std.specs.Prelude.{◌≡◌, ℕ, List, length}
 use Rattle.rq_model.specs.Ledger.{Ledger}
-use Rattle.rq_model.specs.Ledger.Phase.{Shut}
 use Rattle.rq_model.specs.Replay.{Replays}
 use Rattle.rq_store.specs.State.{ledger_of, size_of}
 use Rattle.rq_disk.specs.declared.device.LogDevice as log_device
 use Rattle.rq_disk.specs.declared.device.PageDevice as page_device
 use Rattle.rq_engine.specs.Opened.{OpenStore, AreHonest}
 use Rattle.rq_shared.specs.Entries.{Audited, Noted, answers}
-
--- the ledger of no store, for who shares none
-abbrev pub no_ledger : Ledger
-no_ledger = record {
-  committed = [];
-  open_ones = [];
-  phase = Shut;
-  incarnation = 0;
-  begins = 0;
-  records = 0;
-  forced = 0;
-  durable = 0;
-}
 
 -- what the history came to of which an engine tells
 abbrev pub begins_with : {P L : Type 0} → OpenStore P L → Ledger

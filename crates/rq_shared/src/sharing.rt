@@ -1,7 +1,6 @@
 //! What a sharing of an engine is known by, in contracts alone.
 ghost use Rattle.std.specs.Prelude.{ℕ};
-ghost use Rattle.rq_model.specs.Ledger.{Ledger};
-ghost use Rattle.rq_shared.specs.Begun.{no_ledger};
+ghost use Rattle.rq_model.specs.Ledger.{Ledger, empty};
 
 use std::marker::{Brand, PhantomData};
 use std::sync::ledger::Ledger;
@@ -25,7 +24,7 @@ impl Sharing for Brand {
 
     ghost taking = { 0 };
 
-    ghost begins = { no_ledger };
+    ghost begins = { empty };
 }
 
 /// The ledger of the entries that are taken of an audit. It has as many parts as that of the calls.

@@ -36,7 +36,7 @@ use Rattle.rq_store.proofs.Opens.{found_open, open_found}
 use Rattle.rq_sound.proofs.Ledgers.{opens_change}
 use Rattle.rq_sound.proofs.Lengths.{inverse_writes, inverse_length}
 
-abbrev txns : List Row → List Txn
+abbrev pub txns : List Row → List Txn
 txns rows = map (λ r. r.txn) rows
 
 apart_none : (rows : List Row) (t : Txn) → found_row t rows ≡ None → has_txn t (txns rows) ≡ false

@@ -3,7 +3,7 @@
 use Rattle.std.specs.Prelude.{◌≡◌, ◌/◌, ◌%◌, ◌<◌, ◌≤◌, ℕ, List, [], ◌∷◌, length, map, false}
 use Rattle.rq_model.specs.declared.record.Record.{Record}
 use Rattle.rq_model.specs.declared.record.Record.TheVariants as records
-use Rattle.rq_model.specs.Content.{content}
+use Rattle.rq_model.specs.Content.{content, no_group}
 use Rattle.rq_model.specs.Unended.{unfinished, lost}
 use Rattle.rq_model.specs.Deeds.{spelled_deed}
 use Rattle.rq_model.specs.History.{Group}
@@ -41,9 +41,6 @@ one_message = record {
   rest = record { sender = 0; tag = 7; body = 104 ∷ [] } ∷ [];
 }
 
-abbrev pub no_message : Group
-no_message = record { sent = 0; last_tag = 0; received = 0; closed = false; rest = [] }
-
 pub record WorkedStore : Type 0 where
   pub stopped_whole : IsWhole sizes (spelled_log stopped)
   pub stopped_unfinished : unfinished (spelled_log stopped) ≡ (t2, 4) ∷ []
@@ -53,7 +50,7 @@ pub record WorkedStore : Type 0 where
   pub restarted_lost : lost (spelled_log restarted) ≡ []
   pub stopped_content : content (spelled_log stopped) 0 ≡ one_message
   pub restarted_content : content (spelled_log restarted) 0 ≡ one_message
-  pub restarted_other : content (spelled_log restarted) 15 ≡ no_message
+  pub restarted_other : content (spelled_log restarted) 15 ≡ no_group
 
 -- the pages of a store that was just formatted
 abbrev pub AreFormatted : Sizes → List (List ℕ) → Type 0

@@ -7,7 +7,7 @@ use Rattle.rq_model.specs.Words.{In}
 use Rattle.rq_model.proofs.Lists.{In-filter}
 use Rattle.rq_views.specs.Log.{same_op}
 use Rattle.rq_views.proofs.Overlay.{same_is, same_self}
-use Rattle.rq_views.proofs.AllOpen.{filter_in}
+use Rattle.rq_views.proofs.AllOpen.{filter_in, tail}
 use Rattle.rq_undone.specs.declared.history.Spot.{Spot}
 use Rattle.rq_undone.specs.Analysis.{spot_of, has_sub, with_sub, without_sub, without_newest, without_spots}
 use Rattle.rq_undone.specs.Pages.{any_spot}
@@ -32,11 +32,6 @@ filter_less p (y ∷ xs) x h k = elim (cases_Bool (p y)) [
 pub nothing_in : {X : Type 0} (xs : List X) → ((x : X) → In x xs → ⊥) → xs ≡ []
 nothing_in [] f = refl
 nothing_in (x ∷ xs) f = absurd (f x (inl refl))
-
--- the rest of a list
-abbrev pub rest : {X : Type 0} → List X → List X
-rest [] = []
-rest (x ∷ xs) = xs
 
 -- operations
 pub sub_in : (o : Sub) (os : List Sub) → has_sub o os ≡ true → In o os
@@ -77,7 +72,7 @@ in_newest o (p ∷ ps) x h = elim (cases_Bool (spot_of o p)) [
 pub in_spots : (o : Sub) (ps : List Spot) (x : Spot) → In x (without_spots o ps) → In x ps × (spot_of o x ≡ false)
 in_spots o ps x h = let k = In-filter (λ p. not (spot_of o p)) ps x h in (k.0, not-true (spot_of o x) k.1)
 
-pub own_newest : (o : Sub) (ps : List Spot) → filter (spot_of o) (without_newest o ps) ≡ rest (filter (spot_of o) ps)
+pub own_newest : (o : Sub) (ps : List Spot) → filter (spot_of o) (without_newest o ps) ≡ tail (filter (spot_of o) ps)
 own_newest o [] = refl
 own_newest o (p ∷ ps) = elim (cases_Bool (spot_of o p)) [
   | inl t ↦ rw t refl

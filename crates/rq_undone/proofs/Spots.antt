@@ -14,16 +14,17 @@ use Rattle.rq_views.specs.Log.{Write, same_op, rest_of}
 use Rattle.rq_views.specs.Legal.{IsLegalLog, lsns, rest_numbers, began, over, under_way}
 use Rattle.rq_views.specs.Items.{items, item_of, layout_of, operation}
 use Rattle.rq_views.proofs.Overlay.{same_is as op_is, same_self as op_self}
+use Rattle.rq_views.proofs.AllOpen.{tail}
 use Rattle.rq_store.specs.Fitting.{left_by}
 use Rattle.rq_store.specs.Whole.{BeforesAreSlots}
 use Rattle.rq_undone.specs.declared.history.Spot.{Spot}
 use Rattle.rq_undone.specs.Analysis.{spot_of, without_newest, without_spots, analysis}
-use Rattle.rq_undone.proofs.Lists.{rest, own_newest, own_none, other_newest, other_none, in_newest, in_spots, in_with, with_in, in_without, without_in, op_other}
+use Rattle.rq_undone.proofs.Lists.{own_newest, own_none, other_newest, other_none, in_newest, in_spots, in_with, with_in, in_without, without_in, op_other}
 
 abbrev pub IsLegal : Sizes → List Record → Type 0
 IsLegal z log = IsLegalLog (layout_of z) (items z log)
 
-abbrev spots : List Record → List Spot
+abbrev pub spots : List Record → List Spot
 spots log = (analysis log).spots
 
 abbrev unfinished : List Record → List Sub
@@ -52,7 +53,7 @@ abbrev rest_places : List Place → List Place
 rest_places [] = []
 rest_places (p ∷ ps) = ps
 
-map_rest : (z : Sizes) (ps : List Spot) → map (spot_place z) (rest ps) ≡ rest_places (map (spot_place z) ps)
+map_rest : (z : Sizes) (ps : List Spot) → map (spot_place z) (tail ps) ≡ rest_places (map (spot_place z) ps)
 map_rest z [] = refl
 map_rest z (p ∷ ps) = refl
 
@@ -60,15 +61,15 @@ write_rest : (ws : List Write) → map write_place (rest_of ws) ≡ rest_places 
 write_rest [] = refl
 write_rest (w ∷ ws) = refl
 
-lsn_rest : (ps : List Spot) → map lsn_of (rest ps) ≡ rest_numbers (map lsn_of ps)
+lsn_rest : (ps : List Spot) → map lsn_of (tail ps) ≡ rest_numbers (map lsn_of ps)
 lsn_rest [] = refl
 lsn_rest (p ∷ ps) = refl
 
 pub apart : (p o : Sub) → same_op p o ≡ false → (x : Spot) → spot_of p x ≡ true → spot_of o x ≡ false
 apart p o n x e = ap (λ y. same_op y o) (op_is x.by p e) ∙ n
 
-own_rest : (p o : Sub) (ps : List Spot) → same_op p o ≡ true → filter (spot_of o) (without_newest p ps) ≡ rest (filter (spot_of o) ps)
-own_rest p o ps e = subst (λ q. filter (spot_of o) (without_newest q ps) ≡ rest (filter (spot_of o) ps)) (sym (op_is p o e)) (own_newest o ps)
+own_rest : (p o : Sub) (ps : List Spot) → same_op p o ≡ true → filter (spot_of o) (without_newest p ps) ≡ tail (filter (spot_of o) ps)
+own_rest p o ps e = subst (λ q. filter (spot_of o) (without_newest q ps) ≡ tail (filter (spot_of o) ps)) (sym (op_is p o e)) (own_newest o ps)
 
 own_gone : (p o : Sub) (ps : List Spot) → same_op p o ≡ true → filter (spot_of o) (without_spots p ps) ≡ []
 own_gone p o ps e = subst (λ q. filter (spot_of o) (without_spots q ps) ≡ []) (sym (op_is p o e)) (own_none o ps)

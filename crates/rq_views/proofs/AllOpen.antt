@@ -42,7 +42,7 @@ all_open [] = []
 all_open (r ∷ log) = all_after (length log + 1) r (all_open log)
 
 -- those of one kind, where some are left out
-abbrev tail : {X : Type 0} → List X → List X
+abbrev pub tail : {X : Type 0} → List X → List X
 tail [] = []
 tail (x ∷ xs) = xs
 

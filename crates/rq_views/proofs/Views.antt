@@ -1,5 +1,6 @@
 -- For a legal log the slots show, of each sender over whose slots no operation under way has written, the fold of its deeds.
 use Rattle.rq_page.specs.declared.cell.Cell.{Cell}
+use Rattle.rq_page.specs.Directories.{new_directory}
 use Rattle.rq_model.specs.declared.txn.Sub.{Sub}
 use Rattle.std.proofs.Common.{◌≢◌, ℕ, ◌<◌, ◌==◌, inl, inr, List, [], ◌∷◌, true, false, refl, sym, subst, ◌∙◌, Option, None, Some}
 use Rattle.std.proofs.lemmas.Bool.{cases_eq, cond-true, cond-false, eq-eqb}
@@ -9,7 +10,7 @@ use Rattle.rq_model.specs.declared.record.Deed.TheVariants.{Append, UnlinkHead, 
 use Rattle.rq_views.specs.Log.Item.{PageOp, PageUndo, OpEnd, OpVoid, CompEnd, Commit, AbortEnd, Restart}
 use Rattle.rq_views.specs.Plans.{ShowsAt, Spares, LinksTo, relinked, Turn, IsPlan, turn_sender, with_turn}
 use Rattle.rq_views.specs.Plans.Turn.{Did, Undid}
-use Rattle.rq_views.specs.Legal.{Placed, open_deeds, undoing, view_after, view, Undoes, MayFollow, IsLegalLog, IsLayout, empty_directory}
+use Rattle.rq_views.specs.Legal.{Placed, open_deeds, undoing, view_after, view, Undoes, MayFollow, IsLegalLog, IsLayout}
 use Rattle.rq_views.proofs.Chains.{no_eq}
 use Rattle.rq_views.proofs.Overlay.{Good, good_after, good_start}
 use Rattle.rq_views.proofs.ChainLaws.{others, spared, shows_frame, append_law}
@@ -80,7 +81,7 @@ quiet_step l log (Restart i) s may g h = h
 -- the quiet slots show the fold of each sender's deeds, whatever is under way
 pub quiet_views : (l : Places) (log : List Item) (s : ℕ) → IsLayout l → IsLegalLog l log → s < l.senders → ShowsAt l (state_of l log).quiet s (view log s)
 quiet_views l [] s fine h in_range = record {
-  directory = empty_directory;
+  directory = new_directory;
   at = fine s in_range;
   shows = record { nodes = []; linked = tt; head = refl; tail = refl; sent = refl; closed = refl; received = refl; last_tag = refl; messages = refl };
 }

@@ -1,6 +1,5 @@
 -- Legal logs: what each record needs of the log before it; and what a log makes of each sender's view.
 use Rattle.rq_model.specs.declared.record.Deed.{Deed}
-use Rattle.rq_page.specs.declared.directory.Directory.{Directory}
 use Rattle.rq_model.specs.declared.txn.Sub.{Sub}
 use Rattle.rq_model.specs.declared.txn.Txn.{Txn}
 use Rattle.rq_model.specs.Words.{same_txn}
@@ -9,6 +8,7 @@ use Rattle.rq_views.specs.Chain.{View}
 use Rattle.rq_page.specs.Slots.{Slot}
 use Rattle.rq_views.specs.Log.{Write, Places, same_op, Item, state_of, MayWrite, IsNewest}
 use Rattle.rq_page.specs.Slots.Slot.{Sender}
+use Rattle.rq_page.specs.Directories.{new_directory}
 use Rattle.rq_views.specs.Log.Item.{PageOp, PageUndo, OpEnd, OpVoid, CompEnd, Commit, AbortEnd, Restart}
 use Rattle.rq_views.specs.Plans.{Turn, IsPlan, turn_sender, with_turn}
 use Rattle.rq_views.specs.Plans.Turn.{Did, Undid}
@@ -216,9 +216,6 @@ abbrev pub IsLegalLog : Places → List Item → Type 0
 IsLegalLog l [] = Unit {0}
 IsLegalLog l (r ∷ log) = MayFollow l log r × IsLegalLog l log
 
-abbrev pub empty_directory : Directory
-empty_directory = record { closed = false; sent = 0; received = 0; last_tag = 0; head = 0; tail = 0 }
-
 -- the formatted store has an empty directory slot for each sender
 abbrev pub IsLayout : Places → Type 0
-IsLayout l = (s : ℕ) → s < l.senders → l.formatted (l.directory_at s) ≡ Sender s empty_directory
+IsLayout l = (s : ℕ) → s < l.senders → l.formatted (l.directory_at s) ≡ Sender s new_directory

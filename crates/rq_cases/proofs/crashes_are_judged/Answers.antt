@@ -1,4 +1,4 @@
-use Rattle.rq_core.specs.Worked.{small}
+use Rattle.rq_model.specs.Worked.{small}
 use Rattle.rq_cases.proofs.Crashes.{crashes}
 use Rattle.rq_cases.proofs.crashes_are_judged.Goals as goal
 

@@ -1,4 +1,4 @@
-use Rattle.rq_core.specs.Worked.{small}
+use Rattle.rq_model.specs.Worked.{small}
 use Rattle.rq_cases.proofs.Worlds.{headlines}
 use Rattle.rq_cases.proofs.headlines_are_judged.Goals as goal
 

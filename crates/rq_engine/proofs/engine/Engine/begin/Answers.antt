@@ -5,11 +5,12 @@ use Rattle.rq_model.specs.History.Call.{Begin}
 use Rattle.rq_model.specs.Replay.Reply.{Gave_txn}
 use Rattle.rq_txn.specs.Rows.{fresh_row}
 use Rattle.rq_sound.specs.Steps.{Steps}
+use Rattle.rq_sound.specs.Calls.{next_txn}
 use Rattle.rq_sound.proofs.AbortSteps.{abort_steps}
 use Rattle.rq_engine.proofs.Keeping.{next_rises, kept_begun}
 use Rattle.rq_engine.proofs.Refusals.{few}
 use Rattle.rq_engine.proofs.Opened.{state_is}
-use Rattle.rq_engine.proofs.Listing.{next_of, begun_lists}
+use Rattle.rq_engine.proofs.Listing.{begun_lists}
 use Rattle.rq_engine.specs.Lists.{IsBegun}
 use Rattle.rq_engine.proofs.engine.Engine.begin.Goals as goal
 
@@ -33,5 +34,5 @@ invariant_of-self-2 g c = record { kept = rw (c.in_ok-begin.ensures.ok) (kept_be
 pub returns-clause-lists : goal.returns-clause-lists
 returns-clause-lists g c =
     rw (c.in_ok-begin.ensures.ok)
-    (subst (λ (s : State). IsBegun c.args.self.now.state (next_of s) (record s { rows = fresh_row (next_of s) ∷ s.rows; begins = s.begins + 1 })) (sym (state_is c.self.view_is))
+    (subst (λ (s : State). IsBegun c.args.self.now.state (next_txn s) (record s { rows = fresh_row (next_txn s) ∷ s.rows; begins = s.begins + 1 })) (sym (state_is c.self.view_is))
     (begun_lists c.args.self.now.state))
