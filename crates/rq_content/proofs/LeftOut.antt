@@ -10,6 +10,7 @@ use Rattle.rq_model.specs.Words.{sent_for, taken_from}
 use Rattle.rq_model.specs.Content.{said, tag_after, closed, closed_one}
 use Rattle.rq_model.specs.Commits.{op_of}
 use Rattle.rq_model.proofs.Ends.{no_last}
+use Rattle.rq_model.proofs.Lists.{or_swap}
 use Rattle.rq_views.specs.Chain.{View}
 use Rattle.rq_views.specs.Committed.{message_of}
 use Rattle.rq_views.specs.Plans.{with_turn}
@@ -351,11 +352,6 @@ closed_before g (f ∷ fs) v e k = elim (cases_deed g f.deed) [
     ]
   ]
 ]
-
-or_swap : (a b c : Bool) → (a || (b || c)) ≡ (b || (a || c))
-or_swap true true c = refl
-or_swap true false c = refl
-or_swap false b c = refl
 
 closed_join : (g : ℕ) (ps : List Placed) (p : Placed) → closed g (say (ps ++ p ∷ [])) ≡ (closed_one g (said p.deed) || closed g (say ps))
 closed_join g [] p = refl

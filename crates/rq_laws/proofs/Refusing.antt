@@ -2,6 +2,7 @@
 use Rattle.std.proofs.Common.{◌≡◌, ℕ, zero, suc, ◌+◌, ◌<◌, List, [], ◌∷◌, ◌++◌, refl, sym, ◌∙◌, ap, subst, Bool, true, false, cond, ◌&&◌, ◌||◌, IsTrue, ◌⊎◌, inl, inr, Option, Some, None, Result, Ok, Err, arith, true≢false}
 use Rattle.std.proofs.lemmas.Bool.{cases_Bool, not-false, and_right, or_from}
 use Rattle.std.proofs.lemmas.Option.{same_Some}
+use Rattle.std.proofs.Math.Bool.{or_assoc}
 use Rattle.rq_model.specs.declared.refusal.Refusal.{Refusal}
 use Rattle.rq_model.specs.declared.refusal.Refusal.TheVariants as why
 use Rattle.rq_model.specs.declared.txn.Txn.{Txn}
@@ -218,14 +219,10 @@ third true true c e f h = h
 third true false c e f h = absurd (true≢false (sym f))
 third false b c e f h = absurd (true≢false (sym e))
 
-or_after : (a b c : Bool) → (a || (b || c)) ≡ ((a || b) || c)
-or_after true b c = refl
-or_after false b c = refl
-
 module _ (l : Ledger) (t : Txn) where
   any_append : (xs ys : List ℕ) (o : Option Open) → any_gives (xs ++ ys) l t o ≡ (any_gives xs l t o || any_gives ys l t o)
   any_append [] ys o = refl
-  any_append (x ∷ xs) ys o = ap (λ b. gives l t o x || b) (any_append xs ys o) ∙ or_after (gives l t o x) (any_gives xs l t o) (any_gives ys l t o)
+  any_append (x ∷ xs) ys o = ap (λ b. gives l t o x || b) (any_append xs ys o) ∙ sym (or_assoc (gives l t o x) (any_gives xs l t o) (any_gives ys l t o))
 
   none_below : (n : ℕ) (o : Option Open) → ((g : ℕ) → g < n → gives l t o g ≡ false) → any_gives (below n) l t o ≡ false
   none_below zero o h = refl

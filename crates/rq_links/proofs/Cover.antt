@@ -1,5 +1,5 @@
 -- Cells in chains, counted: where as many are used as stand in chains, each used one stands in one.
-use Rattle.std.proofs.Common.{◌≡◌, ◌≢◌, ℕ, zero, suc, ◌+◌, ◌<◌, ◌≤◌, ◌⊎◌, inl, inr, List, [], ◌∷◌, ◌++◌, length, true, false, cond, nat_eq, refl, sym, ◌∙◌, ap, subst, arith, Option, Some, None}
+use Rattle.std.proofs.Common.{◌≡◌, ◌≢◌, ℕ, zero, suc, ◌+◌, ◌<◌, ◌≤◌, inl, inr, List, [], ◌∷◌, ◌++◌, length, true, false, cond, nat_eq, refl, sym, ◌∙◌, ap, subst, arith, Option, Some, None}
 use Rattle.std.specs.List.{sum_by}
 use Rattle.std.proofs.lemmas.Bool.{cases_Bool, cases_eq, eq-eqb}
 use Rattle.std.proofs.lemmas.List.{length-append, length-map}
@@ -7,6 +7,7 @@ use Rattle.std.proofs.lemmas.List.Sums.{length-filter}
 use Rattle.rq_model.specs.Tests.{below}
 use Rattle.rq_model.specs.Words.{In, has_number}
 use Rattle.rq_model.proofs.Counts.{sum_more, sum_change, sum_none}
+use Rattle.rq_model.proofs.Lists.{In-parts}
 use Rattle.rq_page.specs.Sizes.{Sizes, IsCellAddress, cell_at, cell_count, place_of, sender_count}
 use Rattle.rq_page.specs.Slots.{Slot}
 use Rattle.rq_page.specs.Slots.Slot.{Free, Used, Sender}
@@ -20,25 +21,10 @@ use Rattle.rq_views.proofs.Counting.{same_place}
 use Rattle.rq_links.specs.Links.{addresses, AreOnce, AreChains, IsMet}
 use Rattle.rq_links.proofs.Chains.{linked_in}
 
-pub in_append : (a : ℕ) (xs ys : List ℕ) → In a (xs ++ ys) → In a xs ⊎ In a ys
-in_append a [] ys h = inr h
-in_append a (x ∷ xs) ys h = elim h [
-  | inl e ↦ inl (inl e)
-  | inr i ↦ elim (in_append a xs ys i) [ inl j ↦ inl (inr j) | inr j ↦ inr j ]
-]
-
-pub in_left : (a : ℕ) (xs ys : List ℕ) → In a xs → In a (xs ++ ys)
-in_left a [] ys h = absurd h
-in_left a (x ∷ xs) ys h = elim h [ inl e ↦ inl e | inr i ↦ inr (in_left a xs ys i) ]
-
-pub in_right : (a : ℕ) (xs ys : List ℕ) → In a ys → In a (xs ++ ys)
-in_right a [] ys h = h
-in_right a (x ∷ xs) ys h = inr (in_right a xs ys h)
-
 once_append : (xs ys : List ℕ) → AreOnce xs → AreOnce ys → ((a : ℕ) → In a xs → In a ys → ⊥) → AreOnce (xs ++ ys)
 once_append [] ys h k none = k
 once_append (x ∷ xs) ys h k none = (
-  (λ i. elim (in_append x xs ys i) [ inl j ↦ h.0 j | inr j ↦ none x (inl refl) j ]),
+  (λ i. elim (In-parts xs ys x i) [ inl j ↦ h.0 j | inr j ↦ none x (inl refl) j ]),
   once_append xs ys h.1 k (λ a i j. none a (inr i) j),
 )
 
@@ -120,7 +106,7 @@ met_more n k cs a le m = record { sender = m.sender; below = (let b = m.below in
 -- each of these is met
 joined_met : (cs : ℕ → List Node) (n a : ℕ) → In a (joined cs n) → IsMet n cs a
 joined_met cs zero a h = absurd h
-joined_met cs (suc n) a h = elim (in_append a (joined cs n) (addresses (cs n)) h) [
+joined_met cs (suc n) a h = elim (In-parts (joined cs n) (addresses (cs n)) a h) [
   | inl i ↦ met_more n (suc n) cs a (omega arith) (joined_met cs n a i)
   | inr i ↦ record { sender = n; below = omega arith; met = i }
 ]

@@ -4,6 +4,7 @@ use Rattle.std.specs.Bool.{OnTrue, OnFalse}
 use Rattle.std.proofs.lemmas.Bool.{cases_eq, false≢true, OnTrue_from, OnFalse_from}
 use Rattle.std.proofs.lemmas.List.{length-append, map-append}
 use Rattle.rq_model.specs.Words.{In}
+use Rattle.rq_model.proofs.Lists.{In-parts, In-right, In-left}
 use Rattle.rq_page.specs.declared.directory.Directory.{Directory}
 use Rattle.rq_page.specs.Sizes.{Sizes, IsCellAddress, IsLink, cell_at, directory_at, place_of}
 use Rattle.rq_page.specs.Slots.Slot.{Sender}
@@ -15,7 +16,6 @@ use Rattle.rq_views.proofs.Chains.{first_append, last_append}
 use Rattle.rq_links.specs.Follows.{AreNoted, EndsSo, IsFollowed, IsLinkedCell}
 use Rattle.rq_links.specs.Links.{addresses, IsChain}
 use Rattle.rq_links.proofs.Chains.{IsRest, node_of, linked_more, rest_of_chain, next_of_rest, none_left, sender_same}
-use Rattle.rq_links.proofs.Cover.{in_append, in_left, in_right}
 
 addresses_more : (ns : List Node) (n : Node) → addresses (ns ++ n ∷ []) ≡ addresses ns ++ n.at ∷ []
 addresses_more ns n = map-append (λ x. x.at) ns (n ∷ [])
@@ -32,7 +32,7 @@ noted_more z old met new ns n h cell set others =
     ]) in
     record {
       kept = λ k e. stays k (h.kept k e);
-      added = λ k lt i. elim (in_append (cell_at z k) (addresses ns) (n.at ∷ []) (subst (In (cell_at z k)) more i)) [
+      added = λ k lt i. elim (In-parts (addresses ns) (n.at ∷ []) (cell_at z k) (subst (In (cell_at z k)) more i)) [
         | inl j ↦ stays k (h.added k lt j)
         | inr j ↦ elim j [
           | inl e ↦ let own : k ≡ p = sym (cells_have_places z k lt).1 ∙ ap (place_of z) e in ap (flag_at new) own ∙ set
@@ -40,10 +40,10 @@ noted_more z old met new ns n h cell set others =
         ]
       ];
       only = λ k e. elim (cases_eq k p) [
-        | inl same ↦ inr (subst (In (cell_at z k)) (sym more) (in_right (cell_at z k) (addresses ns) (n.at ∷ []) (inl (ap (cell_at z) same ∙ at_place))))
+        | inl same ↦ inr (subst (In (cell_at z k)) (sym more) (In-right (addresses ns) (n.at ∷ []) (cell_at z k) (inl (ap (cell_at z) same ∙ at_place))))
         | inr ne ↦ elim (h.only k (sym (others k ne) ∙ e)) [
           | inl o ↦ inl o
-          | inr i ↦ inr (subst (In (cell_at z k)) (sym more) (in_left (cell_at z k) (addresses ns) (n.at ∷ []) i))
+          | inr i ↦ inr (subst (In (cell_at z k)) (sym more) (In-left (addresses ns) (n.at ∷ []) (cell_at z k) i))
         ]
       ];
     }

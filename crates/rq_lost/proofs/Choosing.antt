@@ -9,7 +9,7 @@ use Rattle.rq_model.specs.declared.record.Record.TheVariants as records
 use Rattle.rq_model.specs.Content.{has_end}
 use Rattle.rq_model.specs.Unended.{lost, workers}
 use Rattle.rq_model.specs.Words.{In, same_txn}
-use Rattle.rq_model.proofs.Lists.{In-map, same_is, same_self}
+use Rattle.rq_model.proofs.Lists.{In-map, same_is, same_self, In-to}
 use Rattle.rq_page.specs.Sizes.{Sizes}
 use Rattle.rq_txn.specs.declared.Finished.{Finished}
 use Rattle.rq_txn.specs.Rows.{Row, change_row, row_started, row_stepped, row_undone, without_row}
@@ -153,17 +153,13 @@ looked ds (t ∷ ts) = elim (cases_Bool (any_due t ds)) [
 pub least_there : (ds : List Due) (ts : List Txn) (t : Txn) → least_free ds ts ≡ Some t → In t ts
 least_there ds ts t e = (let h : IsLeast ds ts t = subst (IsLooked ds ts) e (looked ds ts) in h.there)
 
-in_txns : (rows : List Row) (r : Row) → In r rows → In r.txn (txns rows)
-in_txns [] r i = absurd i
-in_txns (q ∷ rows) r i = elim i [ inl e ↦ inl (ap (λ (x : Row). x.txn) e) | inr j ↦ inr (in_txns rows r j) ]
-
 nothing_in : (rows : List Row) → ((r : Row) → In r rows → ⊥) → rows ≡ []
 nothing_in [] f = refl
 nothing_in (r ∷ rows) f = absurd (f r (inl refl))
 
 module _ (s : State) (k : IsSound s) (are : AreLost s) where
   row_lost : (r : Row) → In r s.rows → In r.txn (lost s.records)
-  row_lost r j = subst (In r.txn) are (in_txns s.rows r j)
+  row_lost r j = subst (In r.txn) are (In-to (λ (x : Row). x.txn) s.rows r j)
 
   all_due : least_free (dues s.records) (lost s.records) ≡ None → (r : Row) → In r s.rows → any_due r.txn (dues s.records) ≡ true
   all_due e r j = subst (IsLooked (dues s.records) (lost s.records)) e (looked (dues s.records) (lost s.records)) r.txn (row_lost r j)

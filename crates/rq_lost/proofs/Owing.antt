@@ -9,7 +9,7 @@ use Rattle.rq_model.specs.declared.record.Record.{Record}
 use Rattle.rq_model.specs.declared.record.Record.TheVariants as records
 use Rattle.rq_model.specs.Deeds.{deed_in}
 use Rattle.rq_model.specs.Words.{In, same_txn}
-use Rattle.rq_model.proofs.Lists.{In-filter, In-map, same_self}
+use Rattle.rq_model.proofs.Lists.{In-filter, In-map, same_self, In-last}
 use Rattle.rq_page.specs.Sizes.{Sizes}
 use Rattle.rq_views.specs.Items.{items, item_of, layout_of, told_deed}
 use Rattle.rq_views.specs.Legal.{IsLegalLog, Placed, open_deeds}
@@ -144,12 +144,9 @@ module _ (s : State) (k : IsSound s) where
     | inl none ↦ none
     | inr some ↦
         let h = split_last r.finished some in
-        let d = is_due r h.1 j (subst (In h.1) (sym h.2) (last_in h.0 h.1)) in
+        let d = is_due r h.1 j (subst (In h.1) (sym h.2) (In-last h.1 h.0)) in
         absurd (subst (In d.0) e d.1)
-  ] where
-    last_in : (xs : List Finished) (x : Finished) → In x (xs ++ x ∷ [])
-    last_in [] x = inl refl
-    last_in (y ∷ xs) x = inr (last_in xs x)
+  ]
 
   module _ (d : Due) (ds : List Due) (e : dues s.records ≡ d ∷ ds) where
     opens : open_deeds d.txn (items s.sizes s.records) ≡ placed_due d ∷ map placed_due (filter (due_of d.txn) ds)

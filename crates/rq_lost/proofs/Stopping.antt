@@ -1,7 +1,6 @@
 -- What the moves of aborts come to: what a crash leaves of them, and the store that opens behind them.
-use Rattle.std.proofs.Common.{◌≡◌, ℕ, zero, suc, ◌+◌, ◌≤◌, Bool, true, false, not, List, [], ◌∷◌, ◌++◌, length, drop, inl, inr, refl, sym, ◌∙◌, ap, subst, arith}
-use Rattle.std.specs.List.{filter}
-use Rattle.std.proofs.lemmas.Bool.{cases_Bool, true≢false, or_parts, not-true}
+use Rattle.std.proofs.Common.{◌≡◌, ℕ, zero, suc, ◌+◌, ◌≤◌, true, false, not, List, [], ◌∷◌, ◌++◌, length, drop, refl, sym, ◌∙◌, ap, subst, arith}
+use Rattle.std.proofs.lemmas.Bool.{true≢false, or_parts, not-true}
 use Rattle.std.proofs.lemmas.List.{drop-append-le, length-append}
 use Rattle.rq_model.specs.declared.txn.Txn.{Txn}
 use Rattle.rq_model.specs.declared.record.Record.{Record}
@@ -16,6 +15,7 @@ use Rattle.rq_model.proofs.Lists.{In-filter}
 use Rattle.rq_model.proofs.Told.{content_is}
 use Rattle.rq_page.specs.Sizes.{Sizes, IsInRange}
 use Rattle.rq_views.specs.Stored.{slots_in}
+use Rattle.rq_views.proofs.AllOpen.{filter_in}
 use Rattle.rq_store.specs.Fitting.{FitsLog, image_in, left_by, oldest}
 use Rattle.rq_store.specs.State.{State}
 use Rattle.rq_store.specs.Whole.{IsWhole}
@@ -71,13 +71,6 @@ same_workers (r ∷ more) log p = plain_ending r (workers (more ++ log)) p.0 ∙
 ended_before : (more log : List Record) (t : Txn) → has_end (more ++ log) t ≡ false → has_end log t ≡ false
 ended_before [] log t e = e
 ended_before (r ∷ more) log t e = ended_before more log t (or_parts (ends_txn t r) (has_end (more ++ log) t) e).1
-
-filter_in : (p : Txn → Bool) (ts : List Txn) (t : Txn) → In t ts → p t ≡ true → In t (filter p ts)
-filter_in p [] t i e = absurd i
-filter_in p (u ∷ ts) t i e = elim (cases_Bool (p u)) [
-  | inl y ↦ rw y (elim i [ inl is ↦ inl is | inr j ↦ inr (filter_in p ts t j e) ])
-  | inr n ↦ rw n (elim i [ inl is ↦ absurd (true≢false (sym e ∙ ap p is ∙ n)) | inr j ↦ filter_in p ts t j e ])
-]
 
 none_new : (log now : List Record) → Extends log now → (t : Txn) → In t (lost now) → In t (lost log)
 none_new log now x t i = at (subst (λ l. In t (lost l)) (sym x.1) i) where

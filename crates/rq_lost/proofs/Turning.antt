@@ -3,7 +3,7 @@ use Rattle.std.proofs.Common.{Bool, ◌≡◌, ◌≢◌, ◌⊎◌, ℕ, ◌+�
 use Rattle.std.proofs.lemmas.Bool.{cases_Bool, cases_lt}
 use Rattle.rq_model.specs.declared.txn.Txn.{Txn}
 use Rattle.rq_model.specs.Words.{In, same_txn}
-use Rattle.rq_model.proofs.Lists.{In-map, same_is}
+use Rattle.rq_model.proofs.Lists.{In-map, same_is, In-last, In-reverse, In-to}
 use Rattle.rq_views.specs.Items.{items, layout_of}
 use Rattle.rq_views.specs.Legal.{Placed, open_deeds, rest_placed}
 use Rattle.rq_views.specs.Log.{HasBefores, Item, Write}
@@ -18,7 +18,7 @@ use Rattle.rq_txn.proofs.Finding.{in_found}
 use Rattle.rq_store.specs.Fitting.{left_by}
 use Rattle.rq_store.specs.Rows.{placed, placed_one}
 use Rattle.rq_store.specs.State.{State}
-use Rattle.rq_store.proofs.Placed.{placed_first, placed_more}
+use Rattle.rq_store.proofs.Placed.{placed_more}
 use Rattle.rq_store.proofs.Others.{none_of}
 use Rattle.rq_store.proofs.RowLists.{gone, none_under, unique}
 use Rattle.rq_sound.specs.Calls.{IsIdle, aborted, started}
@@ -28,7 +28,6 @@ use Rattle.rq_sound.proofs.Groups.{none_latched}
 use Rattle.rq_model.specs.declared.record.Record.{Record}
 use Rattle.rq_model.specs.Unended.{lost}
 use Rattle.rq_model.proofs.Same.{In-append}
-use Rattle.rq_model.proofs.Clears.{In-left}
 use Rattle.rq_page.specs.Sizes.{Sizes}
 use Rattle.rq_sound.specs.Inverses.{InverseTakesLowest}
 use Rattle.rq_sound.specs.Groups.{slots_now}
@@ -189,16 +188,8 @@ open_falls t (Commit u ∷ log) = elim (cases_Bool (same_txn u t)) [
   | inr n ↦ rw n (open_falls t log)
 ]
 
-in_last : {X : Type 0} (xs : List X) (x : X) → In x (xs ++ x ∷ [])
-in_last [] x = inl refl
-in_last (z ∷ xs) x = inr (in_last xs x)
-
 pub in_placed : (fs : List Finished) (g : Finished) → In g fs → In (placed_one g) (placed fs)
-in_placed [] g i = absurd i
-in_placed (f ∷ fs) g i = subst (In (placed_one g)) (sym (placed_first f fs)) (elim i [
-  | inl e ↦ subst (λ (x : Finished). In (placed_one g) (placed fs ++ placed_one x ∷ [])) e (in_last (placed fs) (placed_one g))
-  | inr j ↦ In-left (placed fs) (placed_one f ∷ []) (placed_one g) (in_placed fs g j)
-])
+in_placed fs g i = In-reverse (placed_one g) (map placed_one fs) (In-to placed_one fs g i)
 
 -- no two transactions have a deed at one place
 in_shorter : (b : Bool) (ps qs : List Placed) (p : Placed) → (In p ps → In p qs) → In p (cond b ps qs) → In p qs
@@ -255,7 +246,7 @@ module _ (s : State) (k : IsSound s) where
       unique s.rows r q k.standing.distinct n.row m.row (same_numbers r.txn q.txn i (omega (arith, a, b)))
 
   last_in : (r : Row) (rest : List Finished) (f : Finished) → r.finished ≡ rest ++ f ∷ [] → In f r.finished
-  last_in r rest f e = subst (In f) (sym e) (in_last rest f)
+  last_in r rest f e = subst (In f) (sym e) (In-last f rest)
 
   deed_of_row : (r : Row) (f : Finished) → In r s.rows → In f r.finished → In (placed_one f) (open_deeds r.txn (items s.sizes s.records))
   deed_of_row r f j i = subst (In (placed_one f)) (sym (k.standing.each r j).done) (in_placed r.finished f i)

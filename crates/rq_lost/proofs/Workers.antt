@@ -13,7 +13,7 @@ use Rattle.rq_model.specs.Content.{Ending, Said, ending, ending_by, kept, deeds,
 use Rattle.rq_model.specs.Incarnations.{InOrder, incarnation_of, txn_of}
 use Rattle.rq_model.specs.Rules.{any_use}
 use Rattle.rq_model.specs.Unended.{add_txn, workers, lost, any_record}
-use Rattle.rq_model.proofs.Lists.{In-filter, same_is, same_self}
+use Rattle.rq_model.proofs.Lists.{In-filter, same_is, same_self, or_swap}
 use Rattle.rq_model.proofs.Ends.{in_has}
 use Rattle.rq_page.specs.Sizes.{Sizes}
 use Rattle.rq_views.specs.Groups.{side}
@@ -26,14 +26,9 @@ use Rattle.rq_views.proofs.Strangers.{has_end_same, stranger_told}
 use Rattle.rq_lost.specs.Lost.{begins_in, count_of}
 use Rattle.rq_lost.proofs.Settled.{worker_deeds}
 
-or_again : (a b c : Bool) → (a || (b || c)) ≡ (b || (a || c))
-or_again true true c = refl
-or_again true false c = refl
-or_again false b c = refl
-
 has_behind : (t u : Txn) (ts : List Txn) → has_txn t (ts ++ u ∷ []) ≡ (same_txn u t || has_txn t ts)
 has_behind t u [] = refl
-has_behind t u (v ∷ ts) = ap (λ b. same_txn v t || b) (has_behind t u ts) ∙ or_again (same_txn v t) (same_txn u t) (has_txn t ts)
+has_behind t u (v ∷ ts) = ap (λ b. same_txn v t || b) (has_behind t u ts) ∙ or_swap (same_txn v t) (same_txn u t) (has_txn t ts)
 
 -- who is among the workers once one more operation has ended
 has_added : (t u : Txn) (ts : List Txn) → has_txn t (cond (has_txn u ts) ts (ts ++ u ∷ [])) ≡ (same_txn u t || has_txn t ts)

@@ -13,7 +13,7 @@ use Rattle.rq_model.specs.History.Entry.{Begun, Started, None_free, None_from, S
 use Rattle.rq_model.specs.Ledger.{Open, Done, Ledger, found, change, without, ops_of, after, ledger, started, stepped, writes, done_more, undone, fresh_one, any_ends, ended_in, add_number}
 use Rattle.rq_model.specs.Legal.{Legal, IsLegal, start_of, IsDoneBy}
 use Rattle.rq_model.specs.Tests.{Size, Passes, is_aborting, has_closed, free_to_send}
-use Rattle.rq_model.proofs.Lists.{same_self, In-map}
+use Rattle.rq_model.proofs.Lists.{same_self, In-map, In-to, In-left, In-right, In-parts}
 use Rattle.rq_model.proofs.Keeps.{found_in, changed, gone}
 use Rattle.rq_model.proofs.Each.{start_at, did_at, undid_at, step_at, GoodAt, Good-ledger, known, add_same, add_from, add_not, free_is}
 use Rattle.rq_model.proofs.Same.{other_same, TiedAt, Tied-ledger, In-append, In-take}
@@ -31,22 +31,6 @@ pub record Clear (h : List Entry) (c : List Done) (os : List Open) : Type 0 wher
   pub send_clear : (o : Open) (m : Message) → In o os → o.under ≡ Some (Sending m) → any_ends m.sender (ops_by h o.txn) ≡ false
   pub send_open : (o : Open) (m : Message) → In o os → o.under ≡ Some (Sending m) → ended_in c m.sender ≡ false
   pub after : (s : ℕ) → NoneAfterEnd (alive c os) s h
-
-In-to : {X Y : Type 0} (f : X → Y) (xs : List X) (x : X) → In x xs → In (f x) (map f xs)
-In-to f [] x h = absurd h
-In-to f (y ∷ xs) x h = elim h [ inl e ↦ inl (ap f e) | inr i ↦ inr (In-to f xs x i) ]
-
-pub In-left : {X : Type 0} (xs ys : List X) (x : X) → In x xs → In x (xs ++ ys)
-In-left [] ys x h = absurd h
-In-left (y ∷ xs) ys x h = elim h [ inl e ↦ inl e | inr i ↦ inr (In-left xs ys x i) ]
-
-In-right : {X : Type 0} (xs ys : List X) (x : X) → In x ys → In x (xs ++ ys)
-In-right [] ys x h = h
-In-right (y ∷ xs) ys x h = inr (In-right xs ys x h)
-
-In-parts : {X : Type 0} (xs ys : List X) (x : X) → In x (xs ++ ys) → In x xs ⊎ In x ys
-In-parts [] ys x h = inr h
-In-parts (y ∷ xs) ys x h = elim h [ inl e ↦ inl (inl e) | inr i ↦ elim (In-parts xs ys x i) [ inl w ↦ inl (inr w) | inr w ↦ inr w ] ]
 
 -- who is alive is committed or has not ended
 who : (c : List Done) (os : List Open) (u : Txn) → In u (alive c os) → ((d : Done) × In d c × (u ≡ d.txn)) ⊎ ((o : Open) × In o os × (u ≡ o.txn))

@@ -1,6 +1,7 @@
 -- Laws of lists that the proofs share.
-use Rattle.std.proofs.Common.{◌≡◌, ℕ, zero, suc, List, [], ◌∷◌, ◌++◌, length, take, drop, map, refl, sym, ◌∙◌, ap, Bool, true, false, Some, append_assoc, ◌⊎◌, inl, inr, nat_eq, ◌≢◌}
+use Rattle.std.proofs.Common.{◌≡◌, ℕ, zero, suc, List, [], ◌∷◌, ◌++◌, ◌||◌, length, take, drop, map, reverse, refl, sym, ◌∙◌, ap, subst, Bool, true, false, Some, append_assoc, ◌⊎◌, inl, inr, nat_eq, ◌≢◌}
 use Rattle.std.specs.List.{filter, slice_get}
+use Rattle.std.proofs.lemmas.List.{reverse-append}
 use Rattle.std.proofs.lemmas.List.Prefix.{front_rest}
 use Rattle.std.proofs.lemmas.Bool.{cases_Bool, and_parts, eqb-true, eq-eqb, and_from, true≢false}
 use Rattle.std.proofs.lemmas.Option.{same_Some}
@@ -51,6 +52,35 @@ pub In-map : {X Y : Type 0} (f : X → Y) (xs : List X) (y : Y) → In y (map f 
 In-map f [] y h = absurd h
 In-map f (x ∷ xs) y h = elim h [ inl e ↦ (x, inl refl, e) | inr i ↦ let g = In-map f xs y i in (g.0, inr g.1, g.2) ]
 
+pub In-to : {X Y : Type 0} (f : X → Y) (xs : List X) (x : X) → In x xs → In (f x) (map f xs)
+In-to f [] x h = absurd h
+In-to f (y ∷ xs) x h = elim h [ inl e ↦ inl (ap f e) | inr i ↦ inr (In-to f xs x i) ]
+
+pub In-left : {X : Type 0} (xs ys : List X) (x : X) → In x xs → In x (xs ++ ys)
+In-left [] ys x h = absurd h
+In-left (y ∷ xs) ys x h = elim h [ inl e ↦ inl e | inr i ↦ inr (In-left xs ys x i) ]
+
+pub In-right : {X : Type 0} (xs ys : List X) (x : X) → In x ys → In x (xs ++ ys)
+In-right [] ys x h = h
+In-right (y ∷ xs) ys x h = inr (In-right xs ys x h)
+
+pub In-parts : {X : Type 0} (xs ys : List X) (x : X) → In x (xs ++ ys) → In x xs ⊎ In x ys
+In-parts [] ys x h = inr h
+In-parts (y ∷ xs) ys x h = elim h [ inl e ↦ inl (inl e) | inr i ↦ elim (In-parts xs ys x i) [ inl w ↦ inl (inr w) | inr w ↦ inr w ] ]
+
+pub In-last : {X : Type 0} (x : X) (xs : List X) → In x (xs ++ x ∷ [])
+In-last x [] = inl refl
+In-last x (y ∷ xs) = inr (In-last x xs)
+
+pub In-reverse : {X : Type 0} (x : X) (xs : List X) → In x xs → In x (reverse xs)
+In-reverse x [] i = absurd i
+In-reverse {X} x (z ∷ xs) i =
+    let P : List X → Type 0 = In x in
+    subst P (sym (reverse-append (z ∷ []) xs)) (elim i [
+      | inl e ↦ subst (λ (y : X). In x (reverse xs ++ y ∷ [])) e (In-last x (reverse xs))
+      | inr j ↦ In-left (reverse xs) (z ∷ []) x (In-reverse x xs j)
+    ])
+
 pub In-filter : {X : Type 0} (p : X → Bool) (xs : List X) (x : X) → In x (filter p xs) → In x xs × (p x ≡ true)
 In-filter p [] x h = absurd h
 In-filter p (y ∷ xs) x h =
@@ -91,3 +121,8 @@ take_twice zero n xs = (zero, refl)
 take_twice (suc m) zero xs = (zero, refl)
 take_twice (suc m) (suc n) [] = (zero, refl)
 take_twice (suc m) (suc n) (x ∷ xs) = let h = take_twice m n xs in (suc h.0, ap (λ l. x ∷ l) h.1)
+
+pub or_swap : (a b c : Bool) → (a || (b || c)) ≡ (b || (a || c))
+or_swap true true c = refl
+or_swap true false c = refl
+or_swap false b c = refl

@@ -1,5 +1,5 @@
 -- Where the commits of a history stand, and that those which were acknowledged stay.
-use Rattle.std.proofs.Common.{◌≡◌, ℕ, ◌+◌, ◌<◌, ◌≤◌, List, [], ◌∷◌, ◌++◌, length, take, map, refl, sym, ◌∙◌, ap, subst, true, false, not, inl, inr, arith, nat_lt, nat_eq}
+use Rattle.std.proofs.Common.{◌≡◌, ℕ, ◌+◌, ◌<◌, ◌≤◌, List, [], ◌∷◌, ◌++◌, length, take, refl, sym, ◌∙◌, ap, subst, true, false, not, inl, inr, arith, nat_lt, nat_eq}
 use Rattle.std.proofs.lemmas.List.{take-take, take-append-le}
 use Rattle.std.proofs.Math.Seq.{take-length}
 use Rattle.std.proofs.lemmas.Bool.{and_parts, true≢false, eqb-true, not-true, not-false}
@@ -18,6 +18,7 @@ use Rattle.rq_model.proofs.Each.{Good-ledger, some_is}
 use Rattle.rq_model.proofs.Cuts.{kept_beyond, among}
 use Rattle.rq_model.proofs.EntryKinds.{Kind, Same, kind, is_commit}
 use Rattle.rq_model.proofs.EntryKinds.Kind.{Plain, Commits, Forces, Crashes, Restarts}
+use Rattle.rq_model.proofs.Lists.{In-left, In-last, In-to}
 
 -- the beginnings of a legal history are legal
 pub tail_legal : (z : Size) (newer h : List Entry) → IsLegal z (newer ++ h) → IsLegal z h
@@ -93,14 +94,6 @@ no_commit e t n none q = true≢false (ap is_commit q ∙ none)
 older : (e : Entry) (h : List Entry) (t : Txn) (n : ℕ) → is_commit e ≡ false → In (Committed t n) (e ∷ h) → In (Committed t n) h
 older e h t n none j = elim j [ inl q ↦ absurd (no_commit e t n none q) | inr i ↦ i ]
 
-pub In-more : {X : Type 0} (x : X) (xs ys : List X) → In x xs → In x (xs ++ ys)
-In-more x [] ys j = absurd j
-In-more x (y ∷ xs) ys j = elim j [ inl e ↦ inl e | inr i ↦ inr (In-more x xs ys i) ]
-
-pub In-last : {X : Type 0} (x : X) (xs : List X) → In x (xs ++ x ∷ [])
-In-last x [] = inl refl
-In-last x (y ∷ xs) = inr (In-last x xs)
-
 -- who commits has begun, and not in a later incarnation
 committer : (z : Size) (h : List Entry) (t : Txn) (n : ℕ) → IsLegal z h → Legal z (ledger h) (Committed t n) → t.incarnation ≤ (ledger h).incarnation
 committer z h t n a c =
@@ -125,7 +118,7 @@ known_after z h e (Commits u m) a w =
       old = λ t n j. elim j [ inl q ↦ (let e : t ≡ u = cc q in subst (λ (x : Txn). x.incarnation ≤ l.incarnation) (sym e) (committer z h u m a.1 a.0)) | inr i ↦ w.old t n i ];
       stands = λ r t n j i. elim j [
         | inl q ↦ (let e : t ≡ u = cc q in let g : n ≡ m = cc q in record { done = d; there = In-last d l.committed; txn = sym e; at = sym g })
-        | inr k ↦ (let s = w.stands r t n k i in record { done = s.done; there = In-more s.done l.committed (d ∷ []) s.there; txn = s.txn; at = s.at })
+        | inr k ↦ (let s = w.stands r t n k i in record { done = s.done; there = In-left l.committed (d ∷ []) s.done s.there; txn = s.txn; at = s.at })
       ];
     }
 known_after z h e (Forces m) a w = record {
@@ -166,10 +159,6 @@ firm_on : (z : Size) (newer h : List Entry) (d : Done) → IsLegal z (newer ++ h
 firm_on z [] h d a g = g
 firm_on z (e ∷ newer) h d a g = firm_after z (ledger (newer ++ h)) e d (kind e) a.0 (placed z (newer ++ h) a.1) (firm_on z newer h d a.1 g)
 
-In-named : (d : Done) (c : List Done) → In d c → In d.txn (map (λ (x : Done). x.txn) c)
-In-named d [] j = absurd j
-In-named d (x ∷ c) j = elim j [ inl e ↦ inl (ap (λ (y : Done). y.txn) e) | inr i ↦ inr (In-named d c i) ]
-
 -- a commit that was acknowledged is firm
 firm_acknowledged : (z : Size) (h : List Entry) (t : Txn) (n : ℕ) → IsLegal z h → Legal z (ledger h) (Acknowledged t n true) → In (Committed t n) h → (d : Done) × (d.txn ≡ t) × Firm d (ledger h)
 firm_acknowledged z h t n a c j =
@@ -196,5 +185,5 @@ acknowledged_stay z newer h t n a j =
     let f = firm_acknowledged z h t n b.1 b.0 j in
     let g = firm_on z newer (Acknowledged t n true ∷ h) f.0 a f.2 in
     let c = (ledger all).committed in
-    let k = In-named f.0 c (In-take (ledger all).durable c f.0 g) in
+    let k = In-to (λ (x : Done). x.txn) c f.0 (In-take (ledger all).durable c f.0 g) in
     subst (λ (u : Txn). In u (commits all)) f.1 (subst (In f.0.txn) (Tied-ledger z all a).names k)

@@ -1,5 +1,5 @@
 -- The content of each group, three ways.
-use Rattle.std.proofs.Common.{◌≡◌, ℕ, ◌≤◌, List, [], ◌∷◌, ◌++◌, length, take, drop, map, refl, sym, ◌∙◌, ap, subst, true, false, Option, Some, None, ◌⊎◌, inl, inr, arith, ◌||◌}
+use Rattle.std.proofs.Common.{◌≡◌, ℕ, ◌≤◌, List, [], ◌∷◌, ◌++◌, length, take, drop, refl, sym, ◌∙◌, ap, subst, true, false, Option, Some, None, ◌⊎◌, inl, inr, arith, ◌||◌}
 use Rattle.std.specs.List.{filter_map}
 use Rattle.std.proofs.lemmas.Bool.{cases_Bool, or_cases, or_parts, or_left, or_right, and_from, false≢true}
 use Rattle.rq_model.specs.declared.txn.Txn.{Txn}
@@ -9,7 +9,7 @@ use Rattle.rq_model.specs.Words.{Op, In, same_txn, taken_from, sent_for, ends, h
 use Rattle.rq_model.specs.History.Entry.{Begun, Started, None_free, None_from, Stepped, Ready, Did, Undid, Committed, Acknowledged, Aborting, None_left, Aborted, Handed_over, Forced, Wrote, Told, Shown, Refused, Crash, Restarted}
 use Rattle.rq_model.specs.Legal.{Legal, IsLegal}
 use Rattle.rq_model.specs.Tests.{Size}
-use Rattle.rq_model.proofs.Lists.{same_is}
+use Rattle.rq_model.proofs.Lists.{same_is, In-to, In-map}
 use Rattle.rq_model.proofs.Same.{Tied-ledger, sends_are, takes_are}
 use Rattle.std.proofs.lemmas.List.{drop-drop, drop-append-le, length-append, take-append-le, take-take, length-take, length-map, length_push}
 use Rattle.rq_model.specs.History.{Entry, Call, Fin, finished, did_by, ops_by, commits, committed_by, ended, closes_by, durable, durable_by, sends}
@@ -41,14 +41,6 @@ closer : (c : List Done) (s : ℕ) → ended_in c s ≡ true → (d : Done) × I
 closer [] s e = absurd (false≢true e)
 closer (x ∷ c) s e = elim (or_cases (any_ends s x.ops) (ended_in c s) e) [ inl y ↦ (x, inl refl, y) | inr y ↦ let g = closer c s y in (g.0, inr g.1, g.2) ]
 
-In-name : (c : List Done) (d : Done) → In d c → In d.txn (map (λ (x : Done). x.txn) c)
-In-name [] d j = absurd j
-In-name (x ∷ c) d j = elim j [ inl e ↦ inl (ap (λ (y : Done). y.txn) e) | inr i ↦ inr (In-name c d i) ]
-
-Name-in : (c : List Done) (u : Txn) → In u (map (λ (x : Done). x.txn) c) → (d : Done) × In d c × (u ≡ d.txn)
-Name-in [] u j = absurd j
-Name-in (x ∷ c) u j = elim j [ inl e ↦ (x, inl refl, e) | inr i ↦ let g = Name-in c u i in (g.0, inr g.1, g.2) ]
-
 pub not_ended : (c : List Done) (s : ℕ) (d : Done) → ended_in c s ≡ false → In d c → any_ends s d.ops ≡ false
 not_ended [] s d e j = absurd j
 not_ended (x ∷ c) s d e j = let p = or_parts (any_ends s x.ops) (ended_in c s) e in elim j [ inl w ↦ ap (λ (y : Done). any_ends s y.ops) w ∙ p.0 | inr w ↦ not_ended c s d p.1 w ]
@@ -58,8 +50,8 @@ ended_are z h s a =
     let c = (ledger h).committed in
     let g = Tied-ledger z h a in
     elim (cases_Bool (ended_in c s)) [
-      | inl y ↦ (let w = closer c s y in ended_has (commits h) s w.0.txn h (subst (In w.0.txn) g.names (In-name c w.0 w.1)) (ap (any_ends s) (g.done w.0 w.1) ∙ w.2)) ∙ sym y
-      | inr n ↦ ended_none (commits h) s h (λ u j. let w = Name-in c u (subst (In u) (sym g.names) j) in ap (λ t. any_ends s (ops_by h t)) w.2 ∙ ap (any_ends s) (g.done w.0 w.1) ∙ not_ended c s w.0 n w.1) ∙ sym n
+      | inl y ↦ (let w = closer c s y in ended_has (commits h) s w.0.txn h (subst (In w.0.txn) g.names (In-to (λ (x : Done). x.txn) c w.0 w.1)) (ap (any_ends s) (g.done w.0 w.1) ∙ w.2)) ∙ sym y
+      | inr n ↦ ended_none (commits h) s h (λ u j. let w = In-map (λ (x : Done). x.txn) c u (subst (In u) (sym g.names) j) in ap (λ t. any_ends s (ops_by h t)) w.2 ∙ ap (any_ends s) (g.done w.0 w.1) ∙ not_ended c s w.0 n w.1) ∙ sym n
     ]
 
 -- the ledger shows what the filters say

@@ -2,7 +2,9 @@
 use Rattle.std.proofs.Common.{◌≡◌, ℕ, ◌+◌, Bool, true, false, not, ◌&&◌, ◌||◌, nat_eq, nat_lt, List, [], ◌∷◌, inl, inr, refl, sym, ◌∙◌, ap, arith}
 use Rattle.std.proofs.lemmas.Bool.{cases_Bool, eqb-true}
 use Rattle.std.proofs.lemmas.Bool.Decides.{nat_tests}
+use Rattle.std.proofs.Math.Bool.{or_assoc}
 use Rattle.rq_model.specs.Words.{has_number}
+use Rattle.rq_model.proofs.Lists.{or_swap}
 use Rattle.rq_rules.specs.Kept.{Counts, has_count, joined, no_counts, with_count}
 use Rattle.rq_rules.proofs.Keys.{has_more}
 
@@ -28,20 +30,6 @@ one_further n k = elim (cases_Bool (nat_eq (k + 1) n)) [
   | inr o ↦ rw o (ap (λ b. nat_lt 0 n && not b) (same_below n k o))
 ]
 
-around : (a b c : Bool) → ((a || b) || c) ≡ (b || (a || c))
-around true true c = refl
-around true false c = refl
-around false b c = refl
-
-grouped : (a b c : Bool) → ((a || b) || c) ≡ (a || (b || c))
-grouped true b c = refl
-grouped false b c = refl
-
-turned : (a b c : Bool) → (a || (b || c)) ≡ (b || (a || c))
-turned true true c = refl
-turned true false c = refl
-turned false b c = refl
-
 joined_same : (n k : ℕ) (xs : List ℕ) → has_count n (joined k xs) ≡ ((nat_lt 0 n && not (nat_lt k n)) || has_number n xs)
 joined_same n k [] = refl
 joined_same n k (x ∷ xs) = elim (cases_Bool (nat_eq x (k + 1))) [
@@ -50,7 +38,7 @@ joined_same n k (x ∷ xs) = elim (cases_Bool (nat_eq x (k + 1))) [
       rw e (
       joined_same n x xs ∙ ap (λ (y : ℕ). (nat_lt 0 n && not (nat_lt y n)) || has_number n xs) is
       ∙ ap (λ b. b || has_number n xs) (one_further n k)
-      ∙ around (nat_eq (k + 1) n) (nat_lt 0 n && not (nat_lt k n)) (has_number n xs)
+      ∙ or_assoc (nat_eq (k + 1) n) (nat_lt 0 n && not (nat_lt k n)) (has_number n xs) ∙ or_swap (nat_eq (k + 1) n) (nat_lt 0 n && not (nat_lt k n)) (has_number n xs)
       ∙ ap (λ (y : ℕ). (nat_lt 0 n && not (nat_lt k n)) || (nat_eq y n || has_number n xs)) (sym is)
       )
   | inr o ↦ rw o refl
@@ -63,12 +51,12 @@ counts_more n k c = elim (cases_Bool (nat_eq k (c.up_to + 1))) [
       rw e (
       joined_same n k c.others ∙ ap (λ (y : ℕ). (nat_lt 0 n && not (nat_lt y n)) || has_number n c.others) is
       ∙ ap (λ b. b || has_number n c.others) (one_further n c.up_to)
-      ∙ grouped (nat_eq (c.up_to + 1) n) (nat_lt 0 n && not (nat_lt c.up_to n)) (has_number n c.others)
+      ∙ or_assoc (nat_eq (c.up_to + 1) n) (nat_lt 0 n && not (nat_lt c.up_to n)) (has_number n c.others)
       ∙ ap (λ (y : ℕ). nat_eq y n || ((nat_lt 0 n && not (nat_lt c.up_to n)) || has_number n c.others)) (sym is)
       )
   | inr o ↦ rw o (
       ap (λ b. (nat_lt 0 n && not (nat_lt c.up_to n)) || b) (has_more n k c.others)
-      ∙ turned (nat_lt 0 n && not (nat_lt c.up_to n)) (nat_eq k n) (has_number n c.others)
+      ∙ or_swap (nat_lt 0 n && not (nat_lt c.up_to n)) (nat_eq k n) (has_number n c.others)
       )
 ]
 

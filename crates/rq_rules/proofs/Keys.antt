@@ -7,6 +7,7 @@ use Rattle.std.specs.BTreeSet.{insert_key}
 use Rattle.std.proofs.lemmas.Bool.{cases_Bool, eq-eqb, eqb-true, false≢true, ne_eqb}
 use Rattle.std.proofs.lemmas.Bool.Decides.{nat_tests}
 use Rattle.rq_model.specs.Words.{has_number}
+use Rattle.rq_model.proofs.Lists.{or_swap}
 
 eq_turned : (n k : ℕ) → is_eq (nat_cmp n k) ≡ nat_eq k n
 eq_turned n k = elim (cases_Bool (nat_lt n k)) [
@@ -25,17 +26,12 @@ twice : (b c : Bool) → (b || c) ≡ (b || (b || c))
 twice true c = refl
 twice false c = refl
 
-swapped : (a b c : Bool) → (a || (b || c)) ≡ (b || (a || c))
-swapped true true c = refl
-swapped true false c = refl
-swapped false b c = refl
-
 pub has_more : (n k : ℕ) (ks : List ℕ) → has_number n (insert_key nat_cmp ks k) ≡ (nat_eq k n || has_number n ks)
 has_more n k [] = refl
 has_more n k (x ∷ xs) = elim (cases_Bool (nat_lt k x)) [
   | inl y ↦ rw y refl
   | inr m ↦ elim (cases_Bool (nat_eq k x)) [
     | inl e ↦ rw (m, e) (twice (nat_eq x n) (has_number n xs) ∙ ap (λ (y : ℕ). nat_eq y n || (nat_eq x n || has_number n xs)) (sym (eqb-true k x e)))
-    | inr o ↦ rw (m, o) (ap (λ b. nat_eq x n || b) (has_more n k xs) ∙ swapped (nat_eq x n) (nat_eq k n) (has_number n xs))
+    | inr o ↦ rw (m, o) (ap (λ b. nat_eq x n || b) (has_more n k xs) ∙ or_swap (nat_eq x n) (nat_eq k n) (has_number n xs))
   ]
 ]

@@ -11,14 +11,7 @@ use Rattle.atomic_table.proofs.Lists.{at_set, at_snoc, at_longer, set_here, set_
 use Rattle.rq_shared.specs.declared.mark.View.{View}
 use Rattle.rq_shared.specs.Marks.{IsMark, IsPublished, Publishes, Reads, seat_view}
 use Rattle.rq_model.specs.Words.{In}
-
-in_front : (x : ℕ) (xs ys : List ℕ) → In x xs → In x (xs ++ ys)
-in_front x [] ys h = absurd h
-in_front x (z ∷ zs) ys h = ⊎_elim (λ (e : x ≡ z). inl e) (λ (t : In x zs). inr (in_front x zs ys t)) h
-
-in_last : (x : ℕ) (xs : List ℕ) → In x (xs ++ x ∷ [])
-in_last x [] = inl refl
-in_last x (z ∷ zs) = inr (in_last x zs)
+use Rattle.rq_model.proofs.Lists.{In-left, In-last}
 
 at_below : (l : List View) (i : ℕ) (v : View) → get_elem? l i ≡ some v → i < length l
 at_below [] i v e = absurd (some-ne-none v (sym e))
@@ -63,11 +56,11 @@ module _ {S : Type 0} where
           max n k,
           ap (λ l. slice_set l 0 (max n k)) h.1,
           ⊎_elim
-              (λ (e : max n k ≡ k). inr (id, w, set_here s.views id w (at_below s.views id v at), subst (λ m. In m w.published) (sym e) (in_last k v.published)))
+              (λ (e : max n k ≡ k). inr (id, w, set_here s.views id w (at_below s.views id v at), subst (λ m. In m w.published) (sym e) (In-last k v.published)))
               (λ (e : max n k ≡ n).
               ⊎_elim
               (λ (z : h.0 ≡ 0). inl (e ∙ is ∙ z))
-              (λ (p : IsPublished h.0 s.views). inr (subst (λ m. IsPublished m (set s.views id w)) (sym (e ∙ is)) (still s.views id v w h.0 (λ x i. in_front x v.published (k ∷ []) i) at p)))
+              (λ (p : IsPublished h.0 s.views). inr (subst (λ m. IsPublished m (set s.views id w)) (sym (e ∙ is)) (still s.views id v w h.0 (λ x i. In-left v.published (k ∷ []) x i) at p)))
               h.2)
               (max_is n k),
           under s.views id w h.0 (max n k) h.3 (omega arith) (omega arith),

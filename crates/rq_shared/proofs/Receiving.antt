@@ -1,5 +1,5 @@
 -- A commit that an audit acknowledges is in every log that a crash may leave.
-use Rattle.std.proofs.Common.{◌≡◌, ℕ, ◌+◌, ◌≤◌, List, [], ◌∷◌, ◌++◌, length, take, drop, map, Some, None, Bool, true, false, refl, sym, ◌∙◌, ap, subst, inl, inr, ⊎_elim, arith, nat_lt, nat_eq, not}
+use Rattle.std.proofs.Common.{◌≡◌, ℕ, ◌+◌, ◌≤◌, List, [], ◌∷◌, ◌++◌, length, take, drop, map, Some, None, Bool, true, false, refl, sym, ◌∙◌, ap, subst, ⊎_elim, arith, nat_lt, nat_eq, not}
 use Rattle.std.proofs.lemmas.Bool.{and_parts, true≢false, not-true}
 use Rattle.std.proofs.lemmas.Bool.Decides.{nat_tests}
 use Rattle.std.proofs.lemmas.List.{length-append, length-drop, take-append-drop}
@@ -18,21 +18,15 @@ use Rattle.rq_model.specs.Replay.Reply.{Gave_txn, Gave_sub, Gave_none, Gave_noth
 use Rattle.rq_model.proofs.EntryKinds.{Kind, kind}
 use Rattle.rq_model.proofs.EntryKinds.Kind.{Plain, Commits, Forces, Crashes, Restarts}
 use Rattle.rq_model.proofs.Same.{In-append}
-use Rattle.rq_model.proofs.Placed.{In-more, In-last}
+use Rattle.rq_model.proofs.Lists.{In-left, In-last, In-to, In-reverse}
 use Rattle.rq_disk.specs.declared.device.LogDevice as log_device
 use Rattle.rq_disk.specs.declared.device.PageDevice as page_device
 use Rattle.rq_log.specs.Spelled.{IsBeginning}
-use Rattle.rq_txn.proofs.Placing.{in_reverse}
 use Rattle.rq_store.specs.State.{ledger_of, size_of}
 use Rattle.rq_sound.specs.Sound.{IsSound}
 use Rattle.rq_engine.specs.Opened.{OpenStore, AreHonest}
 use Rattle.rq_shared.specs.Entries.{Noted, Follows, answers, answer_of}
 use Rattle.rq_shared.specs.Receipts.{IsReceiptOf, KeepsCommit, IsDurable}
-
--- places in lists
-in_map : {X Y : Type 0} (f : X → Y) (x : X) (xs : List X) → In x xs → In (f x) (map f xs)
-in_map f x [] h = absurd h
-in_map f x (z ∷ xs) h = ⊎_elim (λ (e : x ≡ z). inl (ap f e)) (λ (i : In x xs). inr (in_map f x xs i)) h
 
 -- no call stands for a crash, or for a restart
 abbrev is_break : Entry → Bool
@@ -90,7 +84,7 @@ grows c g l e (Plain f none) s low =
     let b = k.records in
     record { commits = λ d i. subst (In d) (sym k.committed) i; forced = omega (arith, a); within = omega (arith, a, b, low) }
 grows c g l e (Commits t lsn) s low =
-    record { commits = λ d i. In-more d l.committed (record { txn = t; lsn = lsn; ops = ops_of (found t l.open_ones) } ∷ []) i; forced = omega arith; within = omega (arith, low) }
+    record { commits = λ d i. In-left l.committed (record { txn = t; lsn = lsn; ops = ops_of (found t l.open_ones) } ∷ []) d i; forced = omega arith; within = omega (arith, low) }
 grows c g l e (Forces lsn) s low = record { commits = λ d i. i; forced = low; within = omega arith }
 grows c g l e (Crashes kept records) s low = absurd (true≢false (never_break c g (Crash kept records) s))
 grows c g l e (Restarts i records) s low = absurd (true≢false (never_break c g (Restarted i records) s))
@@ -166,7 +160,7 @@ module _ {P L : Type 0} (p : page_device.Ghosts P) (l : log_device.Ghosts L) whe
       let on = (f.replays honest sound).1 in
       let z = size_of base.state.sizes in
       let from = ledger_of base.state in
-      let there = λ (x : Noted) (i : In x audit). in_reverse (answer_of x) (map answer_of audit) (in_map answer_of x audit i) in
+      let there = λ (x : Noted) (i : In x audit). In-reverse (answer_of x) (map answer_of audit) (In-to answer_of audit x i) in
       let c = commit_stands z from sound.forced n (answer_of r.committed.0) (answers audit) (ledger_of engine.state) on (there r.committed.0 r.committed.1) r.committed.2 in
       let low = receipt_forced z from sound.forced n (answer_of r.acknowledged.0) (answers audit) (ledger_of engine.state) on (there r.acknowledged.0 r.acknowledged.1) r.acknowledged.2 in
       let at = c.2 in

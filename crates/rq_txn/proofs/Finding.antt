@@ -5,6 +5,7 @@ use Rattle.std.specs.List.{filter}
 use Rattle.std.proofs.lemmas.List.{reverse-append, map-append, append-nil}
 use Rattle.std.proofs.lemmas.List.Elements.{filter-append}
 use Rattle.std.proofs.lemmas.Bool.{cases_Bool}
+use Rattle.std.proofs.Math.Bool.{or_assoc, or-false, or_comm}
 use Rattle.rq_model.specs.declared.txn.Txn.{Txn}
 use Rattle.rq_model.specs.Words.{same_txn, is_some, In}
 use Rattle.rq_model.proofs.Lists.{same_is, same_self, not_same}
@@ -110,19 +111,12 @@ filter_reverse p (x ∷ xs) =
 pub without_reverse : (t : Txn) (rows : List Row) → without_row t (reverse rows) ≡ reverse (without_row t rows)
 without_reverse t rows = filter_reverse (λ (r : Row). not (same_txn r.txn t)) rows
 
-or_after : (a b c : Bool) → (a || (b || c)) ≡ ((a || b) || c)
-or_after true b c = refl
-or_after false b c = refl
-
 or_last : (a b : Bool) → (a || (b || false)) ≡ (b || a)
-or_last true true = refl
-or_last true false = refl
-or_last false true = refl
-or_last false false = refl
+or_last a b = ap (λ x. a || x) (or-false b) ∙ or_comm a b
 
 any_append : (rows more : List Row) → any_under (rows ++ more) ≡ (any_under rows || any_under more)
 any_append [] more = refl
-any_append (x ∷ rows) more = ap (λ b. is_some x.under || b) (any_append rows more) ∙ or_after (is_some x.under) (any_under rows) (any_under more)
+any_append (x ∷ rows) more = ap (λ b. is_some x.under || b) (any_append rows more) ∙ sym (or_assoc (is_some x.under) (any_under rows) (any_under more))
 
 pub any_reverse : (rows : List Row) → any_under (reverse rows) ≡ any_under rows
 any_reverse [] = refl
@@ -131,7 +125,7 @@ any_reverse (x ∷ rows) =
 
 latched_append : (p : ℕ) (rows more : List Row) → latched_in (rows ++ more) p ≡ (latched_in rows p || latched_in more p)
 latched_append p [] more = refl
-latched_append p (x ∷ rows) more = ap (λ b. latched_under x.under p || b) (latched_append p rows more) ∙ or_after (latched_under x.under p) (latched_in rows p) (latched_in more p)
+latched_append p (x ∷ rows) more = ap (λ b. latched_under x.under p || b) (latched_append p rows more) ∙ sym (or_assoc (latched_under x.under p) (latched_in rows p) (latched_in more p))
 
 pub latched_reverse : (p : ℕ) (rows : List Row) → latched_in (reverse rows) p ≡ latched_in rows p
 latched_reverse p [] = refl

@@ -13,7 +13,7 @@ use Rattle.slab.specs.Slab.{Slab, get, slab_len, Updates, with_value, ContainsKe
 use Rattle.slab.proofs.SlabLemmas.{ContainsKey-within, Updates-with_value}
 use Rattle.rq_model.specs.declared.txn.Txn.{Txn}
 use Rattle.rq_model.specs.Words.{In, same_txn, is_some}
-use Rattle.rq_model.proofs.Lists.{same_is}
+use Rattle.rq_model.proofs.Lists.{same_is, In-to, In-reverse}
 use Rattle.rq_txn.specs.declared.Transaction.{Transaction}
 use Rattle.rq_txn.specs.declared.table.Place.{Place}
 use Rattle.rq_txn.specs.Rows.{Row, Under, row_of, fresh_row, found_row, change_row, without_row, row_started, under_stepped, any_under, latched_in, latched_under, AreDistinct}
@@ -93,14 +93,10 @@ rows_distinct s (x ∷ places) stands rising =
     let row = row_count s x (stands x (inl refl)) in
     (none_of_count s places (row_at s x).txn (λ y i. stands y (inr i)) (λ y i e. let above = rising.0 y i in absurd (omega arith)), rows_distinct s places (λ y i. stands y (inr i)) rising.1)
 
-in_rows : (s : Slab Transaction) (places : List Place) (p : Place) → In p places → In (row_at s p) (rows_in s places)
-in_rows s [] p i = absurd i
-in_rows s (x ∷ places) p i = elim i [ inl e ↦ inl (ap (row_at s) e) | inr j ↦ inr (in_rows s places p j) ]
-
 pub found_at : (s : Slab Transaction) (places : List Place) (txn : Txn) (p : Place) (t : Transaction) → ((x : Place) → In x places → Stands s x) → IsRising places → In p places → get s p.key ≡ Some t → t.txn ≡ txn → found_row txn (rows_in s places) ≡ Some (row_of t)
 found_at s places txn p t stands rising i e same =
     let row = at_row s p t e in
-    let found = in_found (rows_in s places) (row_at s p) (rows_distinct s places stands rising) (in_rows s places p i) in
+    let found = in_found (rows_in s places) (row_at s p) (rows_distinct s places stands rising) (In-to (row_at s) places p i) in
     let number : (row_at s p).txn ≡ txn = ap (λ (r : Row). r.txn) row ∙ same in
     ap (λ u. found_row u (rows_in s places)) (sym number) ∙ found ∙ ap (λ (r : Row). Some r) row
 
@@ -520,25 +516,11 @@ kept_reserved s new places now n c k e same =
 pub seen_reserved : (s new : Slab Transaction) (places now : List Place) (c : ℕ) (rows : List Row) → reverse (rows_in s places) ≡ rows → new ≡ record s { capacity = c } → now ≡ places → reverse (rows_in new now) ≡ rows
 seen_reserved s new places now c rows v e same = ap (λ x. reverse (rows_in x now)) e ∙ ap (λ x. reverse (rows_in s x)) same ∙ v
 
-in_front : {X : Type 0} (xs : List X) (x z : X) → In x xs → In x (xs ++ z ∷ [])
-in_front [] x z i = absurd i
-in_front (y ∷ xs) x z i = elim i [ inl e ↦ inl e | inr j ↦ inr (in_front xs x z j) ]
-
-in_end : {X : Type 0} (xs : List X) (x z : X) → x ≡ z → In x (xs ++ z ∷ [])
-in_end [] x z e = inl e
-in_end (y ∷ xs) x z e = inr (in_end xs x z e)
-
-pub in_reverse : {X : Type 0} (x : X) (xs : List X) → In x xs → In x (reverse xs)
-in_reverse x [] i = absurd i
-in_reverse {X} x (z ∷ xs) i =
-    let P : List X → Type 0 = In x in
-    subst P (sym (reverse-append (z ∷ []) xs)) (elim i [ inl e ↦ in_end (reverse xs) x z e | inr j ↦ in_front (reverse xs) x z (in_reverse x xs j) ])
-
 -- every place is of a smaller count than that of a transaction behind all rows
 pub places_below : (s : Slab Transaction) (places : List Place) (n : Tally) (count : ℕ) (rows : List Row) → IsKeptBy s places n → reverse (rows_in s places) ≡ rows → ((r : Row) → In r rows → r.txn.count < count) → (x : Place) → In x places → x.count < count
 places_below s places n count rows k v below x i =
     let P : List Row → Type 0 = In (row_at s x) in
-    let here = below (row_at s x) (subst P v (in_reverse (row_at s x) (rows_in s places) (in_rows s places x i))) in
+    let here = below (row_at s x) (subst P v (In-reverse (row_at s x) (rows_in s places) (In-to (row_at s) places x i))) in
     let own = row_count s x (k.table.stands x i) in
     omega (arith, here, own)
 

@@ -5,6 +5,7 @@ use Rattle.std.proofs.Math.Seq.{split_at}
 use Rattle.std.proofs.lemmas.Bool.{cases_Bool, or_parts}
 use Rattle.std.proofs.lemmas.List.{reverse-append}
 use Rattle.std.proofs.lemmas.List.Elements.{filter-append}
+use Rattle.std.proofs.Math.Bool.{or-false, or_comm}
 use Rattle.rq_model.specs.declared.txn.Sub.{Sub}
 use Rattle.rq_model.specs.Words.{first}
 use Rattle.rq_undone.specs.declared.history.Spot.{Spot}
@@ -30,10 +31,7 @@ any_behind o [] qs = refl
 any_behind o (p ∷ ps) qs = elim (cases_Bool (spot_of o p)) [ inl y ↦ rw y refl | inr n ↦ rw n (any_behind o ps qs) ]
 
 pub or_turned : (b c : Bool) → (b || (c || false)) ≡ (c || b)
-or_turned true true = refl
-or_turned true false = refl
-or_turned false true = refl
-or_turned false false = refl
+or_turned b c = ap (λ x. b || x) (or-false c) ∙ or_comm b c
 
 pub any_reverse : (o : Sub) (ps : List Spot) → any_spot o (reverse ps) ≡ any_spot o ps
 any_reverse o [] = refl

@@ -3,8 +3,9 @@ use Rattle.rq_model.specs.declared.txn.Txn.{Txn}
 use Rattle.rq_model.specs.declared.record.Deed.{Deed}
 use Rattle.rq_model.specs.declared.record.Record.{Record}
 use Rattle.rq_model.specs.declared.record.Record.TheVariants as records
-use Rattle.std.proofs.Common.{◌≡◌, ℕ, ◌==◌, ◌||◌, List, [], ◌∷◌, Bool, true, false, cond, refl, ap, ◌∙◌, Option, None, Some, nat_eq}
+use Rattle.std.proofs.Common.{◌≡◌, ℕ, ◌==◌, ◌||◌, List, [], ◌∷◌, false, cond, refl, sym, ap, ◌∙◌, Option, None, Some, nat_eq}
 use Rattle.std.proofs.lemmas.Bool.{or_parts, or_from, and_left}
+use Rattle.std.proofs.Math.Bool.{or-false}
 use Rattle.rq_model.specs.Words.{same_txn}
 use Rattle.rq_model.specs.Deeds.{deed_in}
 use Rattle.rq_model.specs.Content.{Said, ending, ending_by, kept, deeds}
@@ -44,17 +45,13 @@ pub stranger_end : (t : Txn) (log : List Record) → IsStranger t log → conten
 stranger_end t [] h = refl
 stranger_end t (r ∷ log) h = let p = or_parts (mentions t r) (any_record (mentions t) log) h in or_from (content.ends_txn t r) (content.has_end log t) (not_ended t r p.0) (stranger_end t log p.1)
 
-or_none : (b : Bool) → b ≡ (b || false)
-or_none true = refl
-or_none false = refl
-
 ends_same : (z : Sizes) (t : Txn) (r : Record) → legal.ends_txn t (item_of z r) ≡ content.ends_txn t r
 ends_same z t (records.PageOp u n page slot before after) = refl
 ends_same z t (records.PageUndo u n undone page slot after) = refl
 ends_same z t (records.OpEnd u n level deed) = refl
 ends_same z t (records.OpVoid u n) = refl
 ends_same z t (records.CompEnd u n undone) = refl
-ends_same z t (records.Commit u) = or_none (same_txn u t)
+ends_same z t (records.Commit u) = sym (or-false (same_txn u t))
 ends_same z t (records.AbortEnd u) = refl
 ends_same z t (records.Restart i) = refl
 
