@@ -1,6 +1,6 @@
 -- The level plans what takes back a deed exactly where the slots hold what that needs.
-use Rattle.std.proofs.Common.{◌≡◌, ℕ, ◌<◌, ◌++◌, not, List, [], ◌∷◌, true, false, Option, Some, None, Result, Ok, Err, IfErr, nat_eq, refl, sym, ◌∙◌, ap, subst, inl, inr, arith}
-use Rattle.std.proofs.lemmas.Bool.{cases_eq, eqb-true, false≢true, false_from_ne_true, true≢false}
+use Rattle.std.proofs.Common.{◌≡◌, ℕ, ◌<◌, not, List, [], ◌∷◌, true, false, Option, Some, None, Result, Ok, Err, IfErr, refl, sym, ◌∙◌, ap, subst, inl, inr, arith}
+use Rattle.std.proofs.lemmas.Bool.{cases_eq, false≢true, true≢false}
 use Rattle.rq_model.specs.declared.record.Deed.{Deed}
 use Rattle.rq_model.specs.declared.record.Deed.TheVariants.{Append, UnlinkHead, Close}
 use Rattle.rq_model.specs.declared.record.Record.{Record}
@@ -32,6 +32,7 @@ use Rattle.rq_sound.specs.Levels.{AreLatched, IsGathered, KeepsCells}
 use Rattle.rq_sound.specs.Wants.{AreGivenOf}
 use Rattle.rq_sound.proofs.Levels.{levels_plan}
 use Rattle.rq_sound.specs.Inverses.{InverseIsLatched, InverseTakesLowest}
+use Rattle.rq_sound.proofs.Wants.{given_parts, given_named}
 use Rattle.rq_planner.specs.Asked.{Asked, IsOfStore, asked_sender, known, to_undo, undone_by}
 use Rattle.rq_planner.specs.Asked.Asked.{Undo}
 use Rattle.rq_planner.specs.Answered.{HasGatheredFor, IsHeldUp, IsPlanBack, unless_latched}
@@ -40,10 +41,6 @@ use Rattle.rq_planner.specs.Backs.{CanBeTakenBack, IsJudgedBack, IsRefusedBack, 
 -- ---- what was given of slots that hold it
 
 module _ (s : State) (given : List Given) where
-  parts : (xs ys : List ℕ) → AreGivenOf s given (xs ++ ys) → AreGivenOf s given xs × AreGivenOf s given ys
-  parts [] ys h = (tt, h)
-  parts (x ∷ xs) ys h = let p = parts xs ys h.1 in ((h.0, p.0), p.1)
-
   -- no cell stands at 0
   above : (a : ℕ) (c : Cell) → slots_now s a ≡ Used c → 0 < a
   above a c e = elim (cases_eq a 0) [
@@ -51,19 +48,13 @@ module _ (s : State) (given : List Given) where
     | inr ne ↦ omega (arith, ne)
   ]
 
-  named_given : (a : ℕ) → 0 < a → AreGivenOf s given (named a) → GivenHolds s.sizes given a (slots_now s a)
-  named_given a pos h =
-      let n : nat_eq a 0 ≡ false = false_from_ne_true (nat_eq a 0) (λ y. let e = eqb-true a 0 y in omega (arith, e, pos)) in
-      let is : named a ≡ a ∷ [] = rw n refl in
-      (subst (AreGivenOf s given) is h).0
-
   beside_given : (a : ℕ) (o : Option Cell) → Stands_at (slots_now s) a o → AreGivenOf s given (named a) → Beside s.sizes given a o
   beside_given a None e h = e
-  beside_given a (Some c) e h = subst (GivenHolds s.sizes given a) e (named_given a (above a c e) h)
+  beside_given a (Some c) e h = subst (GivenHolds s.sizes given a) e (given_named s given a (above a c e) h)
 
   can_unlink : (g n : ℕ) → SentLast s.sizes (slots_now s) g n → AreGivenOf s given (before_tail (slots_now s) g) → CanUnlinkTail s.sizes given g n
   can_unlink g n x h =
-      let p = parts (at_tail (slots_now s) g) (named (prev_in (slots_now s (tail_in (slots_now s (directory_at g)))))) h in
+      let p = given_parts s given (at_tail (slots_now s) g) (named (prev_in (slots_now s (tail_in (slots_now s (directory_at g)))))) h in
       let pos : 0 < x.directory.tail = above x.directory.tail x.cell x.tail_is in
       let tail : AreGivenOf s given (named x.directory.tail) = subst (λ y. AreGivenOf s given (named (tail_in y))) x.directory_is p.0.1 in
       let front : AreGivenOf s given (named x.cell.prev) = subst (λ y. AreGivenOf s given (named (prev_in y))) x.tail_is (subst (λ y. AreGivenOf s given (named (prev_in (slots_now s (tail_in y))))) x.directory_is p.1) in
@@ -75,7 +66,7 @@ module _ (s : State) (given : List Given) where
         sequence = x.sequence;
         used = pos;
         cell = x.cell;
-        tail_is = subst (GivenHolds s.sizes given x.directory.tail) x.tail_is (named_given x.directory.tail pos tail);
+        tail_is = subst (GivenHolds s.sizes given x.directory.tail) x.tail_is (given_named s given x.directory.tail pos tail);
         last = x.last;
         front = x.front;
         beside = beside_given x.cell.prev x.front x.beside front;

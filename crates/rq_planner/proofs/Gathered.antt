@@ -19,7 +19,7 @@ use Rattle.rq_store.specs.State.{State}
 use Rattle.rq_txn.specs.Rows.{latched_in}
 use Rattle.rq_sound.specs.Gathering.{AreGivenFrom, IsWantedOf, with_slot}
 use Rattle.rq_sound.specs.Groups.{slots_now}
-use Rattle.rq_sound.proofs.Gathering.{slots_gathered, wants_needed}
+use Rattle.rq_sound.proofs.Gathering.{slots_gathered, wants_needed, nothing}
 use Rattle.rq_planner.specs.Asked.{Asked, IsOfStore, asked_by, asked_in, needed_by, to_do, to_undo}
 use Rattle.rq_planner.specs.Asked.Asked.{Do, Undo}
 use Rattle.rq_planner.specs.Answered.{HasGathered}
@@ -45,15 +45,6 @@ pub asks_none : (n : ℕ) (job : Job) (given : List Given) (answer : Want) → n
 asks_none n job given answer one e not_one = wish_ready (job_wanted job given) (λ a slot. not_one a (e ∙ ap wish (want_is n job given one) ∙ slot))
 
 module _ (s : State) (given : List Given) (h : AreGivenFrom s given) where
-  nothing : IsWantedOf s given None []
-  nothing = record {
-    one = λ a e. absurd (let no : None ≡ Some a = e in cc);
-    of_store = λ a e. absurd (let no : None ≡ Some a = e in cc);
-    new = λ a e. absurd (let no : None ≡ Some a = e in cc);
-    latched = λ a e on. absurd (let no : None ≡ Some a = e in cc);
-    none = λ e. tt;
-  }
-
   module _ (job : Job) where
     abbrev as_asked : Option Asked → Type 0
     as_asked asked = IsOfStore s.sizes asked → IsWantedOf s given (job_wanted job given) (needed_by (slots_now s) asked)
@@ -67,14 +58,14 @@ module _ (s : State) (given : List Given) (h : AreGivenFrom s given) where
     by_doing None forward told inside =
         let none : job_wanted job given ≡ None =
         ap (λ (b : Bool). cond b (undo_wanted (deed_in job.bytes) given) (wanted (doing_in job.bytes) given)) forward ∙ ap (λ (o : Option Doing). wanted o given) told in
-        subst (λ (o : Option ℕ). IsWantedOf s given o []) (sym none) nothing
+        subst (λ (o : Option ℕ). IsWantedOf s given o []) (sym none) (nothing s given h)
     by_doing (Some d) forward told inside = wanted_do d forward told inside
 
     by_deed : (o : Option Deed) → job.undo ≡ true → deed_in job.bytes ≡ o → as_asked (to_undo o)
     by_deed None back told inside =
         let none : job_wanted job given ≡ None =
         ap (λ (b : Bool). cond b (undo_wanted (deed_in job.bytes) given) (wanted (doing_in job.bytes) given)) back ∙ ap (λ (o : Option Deed). undo_wanted o given) told in
-        subst (λ (o : Option ℕ). IsWantedOf s given o []) (sym none) nothing
+        subst (λ (o : Option ℕ). IsWantedOf s given o []) (sym none) (nothing s given h)
     by_deed (Some d) back told inside = wants_needed.undoes s given job d h (record { back = back; told = told }) (inside (Undo d) refl)
 
     by_undo : (b : Bool) → job.undo ≡ b → as_asked (asked_in b job.bytes)

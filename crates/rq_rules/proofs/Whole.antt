@@ -26,6 +26,7 @@ use Rattle.rq_views.proofs.Strangers.{has_end_same}
 use Rattle.rq_views.proofs.Numbers.{written_began, plan_some, undoes_some}
 use Rattle.rq_store.specs.Fitting.{left_by}
 use Rattle.rq_store.specs.Whole.{IsWhole}
+use Rattle.rq_store.proofs.Cutting.{whole_older}
 use Rattle.rq_undone.specs.declared.history.Spot.{Spot}
 use Rattle.rq_undone.specs.Analysis.{analysis, spot_at, spot_of}
 use Rattle.rq_undone.proofs.Spots.{Place, lsn_of, own_lsns, own_writes, spot_before, spot_place, write_place}
@@ -209,23 +210,10 @@ module _ (z : Sizes) (log : List Record) (w : IsWhole z log) (f : FollowAll log)
   next_follows (records.AbortEnd t) v = record { running = sym (has_end_same z t log) ∙ v.legal.0.running; going = tt; begun = tt; numbered = tt; undoes = tt; takes_back = tt; reads = tt }
   next_follows (records.Restart i) v = record { running = tt; going = tt; begun = tt; numbered = tt; undoes = tt; takes_back = tt; reads = tt }
 
-older_whole : (z : Sizes) (log : List Record) (r : Record) → IsWhole z (r ∷ log) → IsWhole z log
-older_whole z log r w = record {
-  legal = w.legal.1;
-  told = w.told.1;
-  rules = w.rules.2;
-  reads = w.reads.1;
-  in_store = w.in_store.1;
-  befores = w.befores.1;
-  order = w.order.1;
-  room = w.room.1;
-  numbers = w.numbers.1;
-}
-
 whole_follow : (z : Sizes) (log : List Record) → IsWhole z log → FollowAll log
 whole_follow z [] w = tt
 whole_follow z (r ∷ log) w =
-    let v = older_whole z log r w in
+    let v = whole_older z r log w in
     let f = whole_follow z log v in
     (next_follows z log v f r w, f)
 

@@ -66,7 +66,7 @@ module _ (s : State) (given : List Given) (h : AreGivenFrom s given) where
   given_now a bytes e = subst (HoldsBytes s.sizes a (slots_now s a)) (sym e) (sym (is_now a bytes e))
 
   -- nothing is needed; a slot that was not given, and others; one that was
-  nothing : IsWantedOf s given None []
+  pub nothing : IsWantedOf s given None []
   nothing = record {
     one = λ a e. not_some a e;
     of_store = λ a e. not_some a e;

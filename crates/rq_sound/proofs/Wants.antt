@@ -35,11 +35,11 @@ use Rattle.rq_sound.proofs.PlanFits.{above}
 use Rattle.rq_sound.proofs.Planned.{sent_last}
 use Rattle.rq_sound.proofs.UndoPlans.{closed_before}
 
-given_parts : (s : State) (given : List Given) (xs ys : List ℕ) → AreGivenOf s given (xs ++ ys) → AreGivenOf s given xs × AreGivenOf s given ys
+pub given_parts : (s : State) (given : List Given) (xs ys : List ℕ) → AreGivenOf s given (xs ++ ys) → AreGivenOf s given xs × AreGivenOf s given ys
 given_parts s given [] ys h = (tt, h)
 given_parts s given (x ∷ xs) ys h = let p = given_parts s given xs ys h.1 in ((h.0, p.0), p.1)
 
-given_named : (s : State) (given : List Given) (a : ℕ) → 0 < a → AreGivenOf s given (named a) → GivenHolds s.sizes given a (slots_now s a)
+pub given_named : (s : State) (given : List Given) (a : ℕ) → 0 < a → AreGivenOf s given (named a) → GivenHolds s.sizes given a (slots_now s a)
 given_named s given a pos h =
     let n : nat_eq a 0 ≡ false = false_from_ne_true (nat_eq a 0) (λ y. let e = eqb-true a 0 y in omega (arith, e, pos)) in
     let is : named a ≡ a ∷ [] = rw n refl in

@@ -11,7 +11,7 @@ use Rattle.rq_store.specs.Whole.{IsWhole}
 use Rattle.rq_store.specs.Steps.{Continues}
 use Rattle.rq_store.proofs.Fitting.{page_fits_more}
 
-whole_older : (z : Sizes) (r : Record) (log : List Record) → IsWhole z (r ∷ log) → IsWhole z log
+pub whole_older : (z : Sizes) (r : Record) (log : List Record) → IsWhole z (r ∷ log) → IsWhole z log
 whole_older z r log w = record {
   legal = w.legal.1;
   told = w.told.1;

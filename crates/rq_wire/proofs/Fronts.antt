@@ -82,19 +82,16 @@ frame_fits bytes r n e =
     let le : 2 + size bytes ≤ length bytes = ltb-false (length bytes) (2 + size bytes) p.cut in
     (omega (arith, is), omega (arith, is, le))
 
-third_same : (a b : List ℕ) → 3 ≤ length a → slice_index (a ++ b) 2 ≡ slice_index a 2
-third_same [] b le = absurd (omega (arith, le))
-third_same (x ∷ []) b le = absurd (omega (arith, le))
-third_same (x ∷ y ∷ []) b le = absurd (omega (arith, le))
-third_same (x ∷ y ∷ z ∷ a) b le = refl
+kind_same : (a b : List ℕ) → 3 ≤ length a → slice_index (a ++ b) 2 ≡ slice_index a 2
+kind_same [] b le = absurd (omega (arith, le))
+kind_same (x ∷ []) b le = absurd (omega (arith, le))
+kind_same (x ∷ y ∷ []) b le = absurd (omega (arith, le))
+kind_same (x ∷ y ∷ z ∷ a) b le = refl
 
 -- bytes behind
 module _ (a b : List ℕ) where
   number_same : 2 ≤ length a → number_at 2 0 (a ++ b) ≡ number_at 2 0 a
   number_same le = big_from-append 2 a b le
-
-  kind_same : 3 ≤ length a → slice_index (a ++ b) 2 ≡ slice_index a 2
-  kind_same le = third_same a b le
 
   fields_same : (n : ℕ) → 3 ≤ length a → n - 1 ≤ length (drop 3 a)
       → take (n - 1) (drop 3 (a ++ b)) ≡ take (n - 1) (drop 3 a)
